@@ -24,8 +24,8 @@ setCell st k v =
     (set (st .addresses) k v) (set (st .stamps) k v) (set (st .offsets) k v)
 
 -- the bytes of the state in bs, so changed, where the lengths and k fit; else the bytes in l
-unfoldable pub changed : List ℕ → List ℕ → ℕ → ℕ → List ℕ
-changed l bs k v = cond (eqb (length bs) stateLen) (cond (eqb (length l) stateLen) (cond (leb 64 k) l (stateBytes (setCell (stateOf bs) k v))) l) l
+unfoldable pub benchChanged : List ℕ → List ℕ → ℕ → ℕ → List ℕ
+benchChanged l bs k v = cond (eqb (length bs) stateLen) (cond (eqb (length l) stateLen) (cond (leb 64 k) l (stateBytes (setCell (stateOf bs) k v))) l) l
 
 -- 01, The array: n big-endian numbers of 8 bytes
 unfoldable pub longsIn : ℕ → List ℕ → List ℕ

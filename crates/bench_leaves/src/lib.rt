@@ -7,7 +7,7 @@ ghost use lib.ListN.{length, replicate};
 ghost use Rattle.spec.specs.Bytes.{toBe, part, splice, xors, xorAll};
 ghost use Rattle.spec.specs.Lists.{upFrom, flat};
 ghost use Rattle.mem_tables.specs.Tables.{countPlaces, findPlace};
-ghost use Rattle.bench_leaves.specs.Bench.{longsIn, changed};
+ghost use Rattle.bench_leaves.specs.Bench.{longsIn, benchChanged};
 use spec::Place;
 
 // ---- parity, copy, clear
@@ -185,7 +185,7 @@ pub extern "C" fn leaf_write_width(dst: &mut [u8], first: u32)
 // A state decoded, changed in cell k of its arrays, and encoded into another buffer.
 #[no_mangle]
 pub extern "C" fn leaf_state(dst: &mut [u8], src: &[u8], k: usize, v: u32)
-    ensures { λ _. ⌜ now (dst .exit) ≡ changed (now (dst .entry)) (now (src .entry)) k v ⌝ }
+    ensures { λ _. ⌜ now (dst .exit) ≡ benchChanged (now (dst .entry)) (now (src .entry)) k v ⌝ }
 {
     if src.len() != mem_codec::state_len() {
         return;

@@ -26,69 +26,69 @@ use Rattle.law_calls.specs.Refusals.{zone-fails, zones-pass, none-left, state-f
 
 module _ (p : Params) (k : Disk) (m : Memory) where
   -- 01, Refusals: the first check of a closing that holds, on what it is lent
-  abbrev pub refusal : Opt Answer
-  refusal = firstRefusal (closeChecks p (lentOk p k m) (seen p k) m)
+  abbrev pub closeRefusal : Opt Answer
+  closeRefusal = firstRefusal (closeChecks p (lentOk p k m) (seen p k) m)
 
   -- 01, Refusals, 5: the segment that reclaim would take has a live block not in flight
-  abbrev pub isLeft : Bool
-  isLeft = not (isNil (idle p (seen p k) (m .state) (victim p (seen p k) (m .addresses))))
+  abbrev pub idleLeft : Bool
+  idleLeft = not (isNil (idle p (seen p k) (m .state) (victim p (seen p k) (m .addresses))))
 
   -- the first refusal among the checks from the i-th on, counted from 0
-  abbrev pub from : ℕ → Opt Answer
-  from i = firstRefusal (drop i (closeChecks p (lentOk p k m) (seen p k) m))
+  abbrev pub closeFrom : ℕ → Opt Answer
+  closeFrom i = firstRefusal (drop i (closeChecks p (lentOk p k m) (seen p k) m))
 
   -- the checks after the i-th
   abbrev rest : ℕ → List Check
   rest i = drop (suc i) (closeChecks p (lentOk p k m) (seen p k) m)
 
-  pub range-fails : inRange p ≡ false → some (Refused 1) ≡ from 0
+  pub close-range-fails : inRange p ≡ false → some (Refused 1) ≡ closeFrom 0
   unfolding closeChecks
-  range-fails e = sym (rule-fails 1 (not (inRange p)) (rest 0) (ap not e))
+  close-range-fails e = sym (rule-fails 1 (not (inRange p)) (rest 0) (ap not e))
 
-  pub range-passes : inRange p ≡ true → from 1 ≡ from 0
+  pub close-range-passes : inRange p ≡ true → closeFrom 1 ≡ closeFrom 0
   unfolding closeChecks
-  range-passes e = sym (rule-passes 1 (not (inRange p)) (rest 0) (ap not e))
+  close-range-passes e = sym (rule-passes 1 (not (inRange p)) (rest 0) (ap not e))
 
-  pub lengths-fail : lentOk p k m ≡ false → some (Refused 2) ≡ from 1
+  pub close-lengths-fail : lentOk p k m ≡ false → some (Refused 2) ≡ closeFrom 1
   unfolding closeChecks
-  lengths-fail e = sym (rule-fails 2 (not (lentOk p k m)) (rest 1) (ap not e))
+  close-lengths-fail e = sym (rule-fails 2 (not (lentOk p k m)) (rest 1) (ap not e))
 
-  pub lengths-pass : lentOk p k m ≡ true → from 2 ≡ from 1
+  pub close-lengths-pass : lentOk p k m ≡ true → closeFrom 2 ≡ closeFrom 1
   unfolding closeChecks
-  lengths-pass e = sym (rule-passes 2 (not (lentOk p k m)) (rest 1) (ap not e))
+  close-lengths-pass e = sym (rule-passes 2 (not (lentOk p k m)) (rest 1) (ap not e))
 
-  pub missing-fails : (m .state .missing ≡ 0 → ⊥) → some (Refused 3) ≡ from 2
+  pub close-missing-fails : (m .state .missing ≡ 0 → ⊥) → some (Refused 3) ≡ closeFrom 2
   unfolding closeChecks
-  missing-fails f = sym (rule-fails 3 (not (eqb (m .state .missing) 0)) (rest 2) (ap not (ne-eqb (m .state .missing) 0 f)))
+  close-missing-fails f = sym (rule-fails 3 (not (eqb (m .state .missing) 0)) (rest 2) (ap not (ne-eqb (m .state .missing) 0 f)))
 
-  pub missing-passes : m .state .missing ≡ 0 → from 3 ≡ from 2
+  pub close-missing-passes : m .state .missing ≡ 0 → closeFrom 3 ≡ closeFrom 2
   unfolding closeChecks
-  missing-passes f = sym (rule-passes 3 (not (eqb (m .state .missing) 0)) (rest 2) (ap not (eq-eqb (m .state .missing) 0 f)))
+  close-missing-passes f = sym (rule-passes 3 (not (eqb (m .state .missing) 0)) (rest 2) (ap not (eq-eqb (m .state .missing) 0 f)))
 
-  pub filling-fails : hasFilling p (m .state) ≡ false → some (Refused 5) ≡ from 3
+  pub filling-fails : hasFilling p (m .state) ≡ false → some (Refused 5) ≡ closeFrom 3
   unfolding closeChecks
   filling-fails e =
-      sym (rule-fails 5 (not (hasFilling p (m .state)) || (scarce p (seen p k) 1 && isLeft)) (rest 3) (ap (λ (x : Bool). not x || (scarce p (seen p k) 1 && isLeft)) e))
+      sym (rule-fails 5 (not (hasFilling p (m .state)) || (scarce p (seen p k) 1 && idleLeft)) (rest 3) (ap (λ (x : Bool). not x || (scarce p (seen p k) 1 && idleLeft)) e))
 
   -- the last two checks where zones are scarce
   pub scarce-last : hasFilling p (m .state) ≡ true → scarce p (seen p k) 1 ≡ true
-      → firstRefusal (rule 5 isLeft ∷ zones (stateFaults p (m .state) ++ tableFaults p (m .addresses)) ∷ []) ≡ from 3
+      → firstRefusal (rule 5 idleLeft ∷ zones (stateFaults p (m .state) ++ tableFaults p (m .addresses)) ∷ []) ≡ closeFrom 3
   unfolding closeChecks
   scarce-last e f =
-      sym (λ j. firstRefusal (rule 5 (not (e j) || (f j && isLeft)) ∷ zones (stateFaults p (m .state) ++ cond (f j) (tableFaults p (m .addresses)) []) ∷ []))
+      sym (λ j. firstRefusal (rule 5 (not (e j) || (f j && idleLeft)) ∷ zones (stateFaults p (m .state) ++ cond (f j) (tableFaults p (m .addresses)) []) ∷ []))
 
   -- and where they are not
-  ample-last : hasFilling p (m .state) ≡ true → scarce p (seen p k) 1 ≡ false → firstRefusal (zones (stateFaults p (m .state) ++ []) ∷ []) ≡ from 3
+  ample-last : hasFilling p (m .state) ≡ true → scarce p (seen p k) 1 ≡ false → firstRefusal (zones (stateFaults p (m .state) ++ []) ∷ []) ≡ closeFrom 3
   unfolding closeChecks
   ample-last e f =
-      sym ((λ j. firstRefusal (rule 5 (not (e j) || (f j && isLeft)) ∷ zones (stateFaults p (m .state) ++ cond (f j) (tableFaults p (m .addresses)) []) ∷ []))
+      sym ((λ j. firstRefusal (rule 5 (not (e j) || (f j && idleLeft)) ∷ zones (stateFaults p (m .state) ++ cond (f j) (tableFaults p (m .addresses)) []) ∷ []))
       ∙ rule-passes 5 false (zones (stateFaults p (m .state) ++ []) ∷ []) refl)
 
-  pub state-fails : hasFilling p (m .state) ≡ true → scarce p (seen p k) 1 ≡ false → stateOk p (m .state) ≡ false → some (BadZone 0) ≡ from 3
-  state-fails e f g = sym (zone-fails 0 []) ∙ ap (λ (zs : List ℕ). firstRefusal (zones (zs ++ []) ∷ [])) (sym (state-fault p (m .state) g)) ∙ ample-last e f
+  pub close-state-fails : hasFilling p (m .state) ≡ true → scarce p (seen p k) 1 ≡ false → stateOk p (m .state) ≡ false → some (BadZone 0) ≡ closeFrom 3
+  close-state-fails e f g = sym (zone-fails 0 []) ∙ ap (λ (zs : List ℕ). firstRefusal (zones (zs ++ []) ∷ [])) (sym (state-fault p (m .state) g)) ∙ ample-last e f
 
-  pub state-passes : hasFilling p (m .state) ≡ true → scarce p (seen p k) 1 ≡ false → stateOk p (m .state) ≡ true → none ≡ from 3
-  state-passes e f g =
+  pub close-state-passes : hasFilling p (m .state) ≡ true → scarce p (seen p k) 1 ≡ false → stateOk p (m .state) ≡ true → none ≡ closeFrom 3
+  close-state-passes e f g =
       sym (zones-pass [] [] refl ∙ none-left) ∙ ap (λ (zs : List ℕ). firstRefusal (zones (zs ++ []) ∷ [])) (sym (state-fine p (m .state) g)) ∙ ample-last e f
 
 -- ---- the last two checks where zones are scarce
@@ -117,9 +117,9 @@ module _ (p : Params) (st : State) (tb : List ℕ) (left : Bool) where
   left-passes e ss ts f g =
       sym (rule-passes 5 left (zones (stateFaults p st ++ tableFaults p tb) ∷ []) e ∙ (λ j. firstRefusal (zones (f j ++ g j) ∷ [])))
 
-  pub numbers-fail : left ≡ false → stateOk p st ≡ false → some (BadZone 0) ≡ lasts
+  pub close-numbers-fail : left ≡ false → stateOk p st ≡ false → some (BadZone 0) ≡ lasts
   unfolding tableFaults
-  numbers-fail e f = go (any (λ q. leb (p .N) (placeDrive p q)) (placesIn p tb)) refl
+  close-numbers-fail e f = go (any (λ q. leb (p .N) (placeDrive p q)) (placesIn p tb)) refl
     where
       go : (b : Bool) → any (λ q. leb (p .N) (placeDrive p q)) (placesIn p tb) ≡ b → some (BadZone 0) ≡ lasts
       go true g = two-zeros ∙ left-passes e (0 ∷ []) (0 ∷ []) (state-fault p st f) (ap (λ (x : Bool). consIf x 0 []) g ∙ one-zero)

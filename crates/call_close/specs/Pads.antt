@@ -14,7 +14,7 @@ use Rattle.spec.specs.Params.{dataCount}
 use Rattle.spec.specs.Write.{Placed}
 use Rattle.call_filling.specs.Entries.{PlacedRow, addedRow, placedRow, row-filled, added-sized, placed-row}
 use Rattle.law_calls.specs.Sends.{mkPlaced}
-use Rattle.mem_rows.specs.Rows.{rowOf, putRow, Sized, RowSized, put-row, row-put, put-put, row-sized, put-sized}
+use Rattle.mem_rows.specs.Rows.{slotRow, putRow, RowsSized, RowSized, put-row, row-put, put-put, row-sized, put-sized}
 use Rattle.mem_rows.specs.declared.Row.{Row}
 
 -- 01, Closing: one position filled
@@ -55,26 +55,26 @@ unfolding paddedRow
 pads-sized p i zero r fl z = z
 pads-sized p i (suc k) r fl z = pads-sized p i k (padOne p i r fl .row) (padOne p i r fl .inflight) (pad-sized p i r fl z)
 
-filled-one : (p : Params) (i : ℕ) (st : State) (fl : List ℕ) → padOne p i (rowOf st i) fl .row .filled ≡ suc (filledIn st i)
-unfolding placedRow addedRow rowOf
+filled-one : (p : Params) (i : ℕ) (st : State) (fl : List ℕ) → padOne p i (slotRow st i) fl .row .filled ≡ suc (filledIn st i)
+unfolding placedRow addedRow slotRow
 filled-one p i st fl = refl
 
 -- what it leaves of the state
 abbrev put : State → ℕ → PlacedRow → Placed
 put st i q = mkPlaced (putRow st i (q .row)) (q .inflight) (q .drive)
 
-pub padded-row : (p : Params) (i k : ℕ) (st : State) (fl : List ℕ) → i < 8 → Sized st → filledIn st i + k ≤ 8
-    → put st i (paddedRow p i k (rowOf st i) fl) ≡ padded p i k st fl
+pub padded-row : (p : Params) (i k : ℕ) (st : State) (fl : List ℕ) → i < 8 → RowsSized st → filledIn st i + k ≤ 8
+    → put st i (paddedRow p i k (slotRow st i) fl) ≡ padded p i k st fl
 unfolding padded paddedRow
 padded-row p i zero st fl h z g = ap (λ (x : State). mkPlaced x fl 0) (put-row st i h z)
 padded-row p i (suc k) st fl h z g =
-    let r = rowOf st i in
+    let r = slotRow st i in
     let q = padOne p i r fl in
     let zq : RowSized (q .row) = pad-sized p i r fl (row-sized st i h z) in
     let st′ = putRow st i (q .row) in
-    let e : rowOf st′ i ≡ q .row = row-put st i h z (q .row) zq in
+    let e : slotRow st′ i ≡ q .row = row-put st i h z (q .row) zq in
     let n : filledIn st′ i ≡ suc (filledIn st i) = sym (row-filled st′ i) ∙ ap (λ (x : Row). x .filled) e ∙ filled-one p i st fl in
-    let ih : put st′ i (paddedRow p i k (rowOf st′ i) (q .inflight)) ≡ padded p i k st′ (q .inflight) =
+    let ih : put st′ i (paddedRow p i k (slotRow st′ i) (q .inflight)) ≡ padded p i k st′ (q .inflight) =
     padded-row p i k st′ (q .inflight) h (put-sized st i h z (q .row) zq) (omega (arith, n)) in
     let o : PlacedRow = paddedRow p i k (q .row) (q .inflight) in
     ap (λ (x : State). mkPlaced x (o .inflight) (o .drive)) (sym (put-put st i h z (q .row) zq (o .row) (pads-sized p i k (q .row) (q .inflight) zq)))

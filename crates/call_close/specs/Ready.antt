@@ -1,5 +1,5 @@
 -- What is so where no check of a closing holds (01, Closing; Refusals). Assumes nothing.
-use Rattle.call_close.specs.Order.{refusal}
+use Rattle.call_close.specs.Order.{closeRefusal}
 use Rattle.law_calls.specs.Slots.{filling-lt, filling-is, filling-room}
 use mathlib.Core.Path.{_≡_, sym, ap, _∙_, subst}
 use mathlib.Core.Bool.{true}
@@ -14,18 +14,18 @@ use Rattle.spec.specs.Engine.{lentOk}
 use Rattle.spec.specs.Lists.Opt.{none}
 use Rattle.spec.specs.Memory.{Memory, filledIn, fillingSlot, hasFilling}
 use Rattle.spec.specs.Params.{dataCount, inRange, inflightLen}
-use Rattle.call_filling.specs.Aims.{has-slot}
+use Rattle.call_filling.specs.Aims.{slot-is-filling}
 use Rattle.law_views.specs.Views.{seen}
 use Rattle.law_checks.specs.Passed.{close-passed}
 use Rattle.call_write.specs.Ready.{lent-long}
 
-pub record Ready (p : Params) (k : Disk) (m : Memory) : Type 0 where
+pub record CloseReady (p : Params) (k : Disk) (m : Memory) : Type 0 where
   pub ranged : inRange p ≡ true
   pub inflight-long : length (m .inflight) ≡ inflightLen p
   pub filling : hasFilling p (m .state) ≡ true
 
-pub ready : (p : Params) (k : Disk) (m : Memory) → refusal p k m ≡ none → Ready p k m
-ready p k m e =
+pub close-ready : (p : Params) (k : Disk) (m : Memory) → closeRefusal p k m ≡ none → CloseReady p k m
+close-ready p k m e =
     let c = close-passed p (lentOk p k m) (seen p k) m e in
     record { ranged = c .in-range; inflight-long = lent-long p k m (c .lent) .4; filling = c .filling }
 
@@ -41,4 +41,4 @@ module _ (p : Params) (st : State) (i : ℕ) (e : i ≡ fillingSlot p st) (h : h
 
 -- whether a stripe is filling
 pub slot-is : (p : Params) (st : State) (i : ℕ) → i ≡ fillingSlot p st → ltb i 8 ≡ hasFilling p st
-slot-is p st i e = ap (λ (x : ℕ). ltb x 8) e ∙ has-slot p st
+slot-is p st i e = ap (λ (x : ℕ). ltb x 8) e ∙ slot-is-filling p st

@@ -6,7 +6,7 @@ ghost use Prim.Native.Nat.{ℕ, _-_, _≤_, _<_};
 ghost use lib.Dec.{ltb};
 ghost use lib.ListN.{length};
 ghost use Rattle.mem_calls.specs.Left.{checked};
-ghost use Rattle.call_close.specs.Order.{refusal};
+ghost use Rattle.call_close.specs.Order.{closeRefusal};
 ghost use Rattle.call_close.specs.Pads.{padOne, paddedRow};
 ghost use Rattle.spec.specs.Calls.{firstRefusal};
 ghost use Rattle.spec.specs.Calls.Check.{rule, zones};
@@ -88,7 +88,7 @@ fn checks(
     requires { ⌜ (slot ≡ fillingSlot p (stateOf (now bytes))) × (missing ≡ stateOf (now bytes) .missing) × (length (now bytes) ≡ stateLen) ⌝ }
     ensures { λ r. ⌜
         checked r
-        ≡ refusal p (mkDisk (now (image .entry)) (now (pointers .entry)))
+        ≡ closeRefusal p (mkDisk (now (image .entry)) (now (pointers .entry)))
         (mkMemory (stateOf (now (bytes .entry))) (now (addresses .entry)) (now (compact .entry)) (now (inflight .entry))) ⌝ }
 {
     if !disk_shape::in_range(p) {

@@ -16,14 +16,14 @@ use Rattle.spec.specs.declared.Params.{Params}
 use Rattle.spec.specs.declared.State.{State}
 use Rattle.call_filling.specs.Aims.{aimOf}
 use Rattle.call_filling.specs.Entries.{SentRow, sentRow, frontAs, row-filled, slot-fills, start-room, sending-row}
-use Rattle.call_filling.specs.Left.{openStores, Opening}
+use Rattle.call_filling.specs.Left.{openStores, OpeningStores}
 use Rattle.call_filling.specs.declared.Aim.{Aim}
 use Rattle.call_filling.specs.declared.Opened.{Opened}
 use Rattle.law_basic.specs.Geometry.{Ranged, ranged, place-again, capacity-low, data-count-high, zone-low}
 use Rattle.law_basic.specs.Splice.{length-part, part-splice}
 use Rattle.law_basic.specs.Stores.{stores-all, done-all, cut-prefix}
 use Rattle.law_calls.specs.Slots.{slot-lt}
-use Rattle.mem_rows.specs.Rows.{Sized, rowOf, putRow, putFront, stateAfter, afterChange, frontOf, after-done, changed-row}
+use Rattle.mem_rows.specs.Rows.{RowsSized, slotRow, putRow, putFront, stateAfter, afterChange, frontOf, after-done, changed-row}
 use Rattle.mem_rows.specs.declared.Change.{Change}
 use Rattle.mem_rows.specs.declared.Front.{Front}
 use Rattle.mem_rows.specs.declared.Row.{Row}
@@ -37,9 +37,9 @@ use mathlib.Core.Path.{_≡_, refl, sym, ap, _∙_, subst}
 use native.Mathlib.Nat.{mod-lt}
 use native.Mathlib.Omega.{arith}
 
-block-low : (p : Params) → Ranged p → (q : ℕ) → placeBlock p q < capacity p
+place-block-low : (p : Params) → Ranged p → (q : ℕ) → placeBlock p q < capacity p
 unfolding placeBlock
-block-low p r q = mod-lt q (omega (arith, capacity-low p r))
+place-block-low p r q = mod-lt q (omega (arith, capacity-low p r))
 
 -- 01, Reclaim: address a with stamp t and block b go into the filling stripe, as no write
 unfoldable pub sentPlan : Params → View → Memory → ℕ → ℕ → List ℕ → Plan
@@ -59,7 +59,7 @@ pub block-at : (p : Params) → Ranged p → (k : Disk) → Whole p k → (q : �
     → chunkAt (seen p k) (placeDrive p q) (placeZone p q) (placeBlock p q) .block ≡ part (placeByte p q) (p .B) (k .image)
 block-at p r k w q h =
     let hz : placeZone p q < p .Z = zone-low p r q in
-    let hb : placeBlock p q < capacity p = block-low p r q in
+    let hb : placeBlock p q < capacity p = place-block-low p r q in
     block-view p k (placeDrive p q) (placeZone p q) (drive-low p r q h) hz w (placeBlock p q) hb ∙ ap (λ (x : ℕ). part (placeByte p x) (p .B) (k .image)) (place-again p q)
 
 -- a part copied to the front of a buffer
@@ -95,40 +95,40 @@ copiedAs f al o t q = record {
 
 -- ---- the two ends of a copy
 
-module _ (p : Params) (k : Disk) (m : Memory) (a t : ℕ) (b : List ℕ) (n : ℕ) (w : CopyReady p k m) (o : Opened) (k′ : Disk) (h : Opening p (m .state) n k o k′) where
+module _ (p : Params) (k : Disk) (m : Memory) (a t : ℕ) (b : List ℕ) (n : ℕ) (w : CopyReady p k m) (o : Opened) (k′ : Disk) (h : OpeningStores p (m .state) n k o k′) where
   abbrev st : State
   st = m .state
 
   abbrev at : ℕ
   at = slotFor p st
 
-  plan-stores : sentPlan p (seen p k) m a t b .stores ≡ openStores p k (m .state)
+  copy-plan-stores : sentPlan p (seen p k) m a t b .stores ≡ openStores p k (m .state)
   unfolding sentPlan sending
-  plan-stores = refl
+  copy-plan-stores = refl
 
   due-disk : k′ ≡ storeAll (storeDisk p) (take n (sentPlan p (seen p k) m a t b .stores)) k
-  due-disk = h .disk ∙ ap (λ (x : List Store). storeAll (storeDisk p) (take n x) k) (sym plan-stores)
+  due-disk = h .disk ∙ ap (λ (x : List Store). storeAll (storeDisk p) (take n x) k) (sym copy-plan-stores)
 
-  pub sent-cut : o .cut ≡ true → (c : Change) (ad co : List ℕ) → c .answer ≡ Cut → ad ≡ replicate (length (m .addresses)) 0 → co ≡ replicate (length (m .compact)) 0
+  pub copy-cut : o .cut ≡ true → (c : Change) (ad co : List ℕ) → c .answer ≡ Cut → ad ≡ replicate (length (m .addresses)) 0 → co ≡ replicate (length (m .compact)) 0
       → afterChange st c (k′ .image) (k′ .pointers) ad co (m .inflight) [] ≡ outcome p (storeDisk p) n k m [] (due (sentPlan p (seen p k) m a t b))
-  sent-cut c r ad co e f g =
+  copy-cut c r ad co e f g =
       let q : mkMemory (stateAfter st r) ad co (m .inflight) ≡ cutMemory p m = cut-memory p m (stateAfter st r) ad co (w .addresses-long) (w .compact-long) (state-cut st r e) f g in
       (λ j. mkAfter (e j) (due-disk j) (q j) [])
       ∙ sym (cut-prefix p (storeDisk p) n k m [] (sentPlan p (seen p k) m a t b)
-      (subst (λ (x : List Store). n < length x) (sym plan-stores) (ltb-true n (length (openStores p k (m .state))) (sym (h .cut) ∙ c))))
+      (subst (λ (x : List Store). n < length x) (sym copy-plan-stores) (ltb-true n (length (openStores p k (m .state))) (sym (h .cut) ∙ c))))
 
   -- the block sent, the next stripe number being x
   abbrev sentAt : ℕ → SentRow
-  sentAt x = sentRow p (rowOf st at) (m .inflight) at (not (hasFilling p st)) x a t 0 b
+  sentAt x = sentRow p (slotRow st at) (m .inflight) at (not (hasFilling p st)) x a t 0 b
 
   -- the state after a copy, with the numbers in front
-  state-done : stateAfter st (copiedAs (frontOf st) (aimOf p st) o t (sentAt (o .next))) ≡ putRow (frontAs st (o .serial .0) (o .opened) (sentAt (o .next) .next)) at (sentAt (o .next) .row)
+  copy-state : stateAfter st (copiedAs (frontOf st) (aimOf p st) o t (sentAt (o .next))) ≡ putRow (frontAs st (o .serial .0) (o .opened) (sentAt (o .next) .next)) at (sentAt (o .next) .row)
   unfolding isRefused isCut kind putFront
-  state-done =
+  copy-state =
       let c = copiedAs (frontOf st) (aimOf p st) o t (sentAt (o .next)) in
       after-done st c refl refl ∙ changed-row st c (slot-lt p st (w .waits))
 
-  copy-done : Sized st → o .cut ≡ false
+  copy-done : RowsSized st → o .cut ≡ false
       → afterChange st (copiedAs (frontOf st) (aimOf p st) o t (sentAt (o .next))) (k′ .image) (k′ .pointers) (m .addresses) (m .compact) (sentAt (o .next) .inflight) []
       ≡ outcome p (storeDisk p) n k m [] (due (sentPlan p (seen p k) m a t b))
   unfolding sentPlan
@@ -139,17 +139,17 @@ module _ (p : Params) (k : Disk) (m : Memory) (a t : ℕ) (b : List ℕ) (n : �
       let ss = openStores p k st in
       let l : length ss ≤ n = ltb-false n (length ss) (sym (h .cut) ∙ c) in
       let e : k′ ≡ storeAll (storeDisk p) ss k = h .disk ∙ stores-all (storeDisk p) n ss k l in
-      ap (λ (x : State). mkAfter (Copied (aStamp t) (sentAt (o .next) .row .number) (sentAt (o .next) .drive)) k′ (mkMemory x (m .addresses) (m .compact) (sentAt (o .next) .inflight)) []) state-done
+      ap (λ (x : State). mkAfter (Copied (aStamp t) (sentAt (o .next) .row .number) (sentAt (o .next) .drive)) k′ (mkMemory x (m .addresses) (m .compact) (sentAt (o .next) .inflight)) []) copy-state
       ∙ (λ j. let q = sentAt (h .next j) in
       mkAfter (Copied (aStamp t) (q .row .number) (q .drive)) (e j) (mkMemory (putRow (frontAs st (h .serial j) (h .opened j) (q .next)) at (q .row)) (m .addresses) (m .compact) (q .inflight)) [])
       ∙ ap (λ (q : Sending). mkAfter (Copied (aStamp t) (q .stripe) (q .drive)) (storeAll (storeDisk p) (q .stores) k) (mkMemory (q .state) (m .addresses) (m .compact) (q .inflight)) [])
       (sending-row p v st s sized (m .inflight) a t 0 b (start-room p v st s sized d))
-      ∙ sym (done-all p (storeDisk p) n k m [] (sentPlan p v m a t b) (subst (λ (x : List Store). length x ≤ n) (sym plan-stores) l))
+      ∙ sym (done-all p (storeDisk p) n k m [] (sentPlan p v m a t b) (subst (λ (x : List Store). length x ≤ n) (sym copy-plan-stores) l))
 
   -- the same of the front, the aim and the stripe that the code has
-  module _ (f : Front) (same : f ≡ frontOf (m .state)) (al : Aim) (aimed : al ≡ aimOf p (m .state)) (row : Row) (taken : row ≡ rowOf (m .state) (al .slot)) where
-    row-is : row ≡ rowOf st at
-    row-is = taken ∙ ap (λ (x : Aim). rowOf st (x .slot)) aimed
+  module _ (f : Front) (same : f ≡ frontOf (m .state)) (al : Aim) (aimed : al ≡ aimOf p (m .state)) (row : Row) (taken : row ≡ slotRow (m .state) (al .slot)) where
+    row-is : row ≡ slotRow st at
+    row-is = taken ∙ ap (λ (x : Aim). slotRow st (x .slot)) aimed
 
     -- what a block asks of the state with its segment open
     pub sent-asks : (al .slot < 8) × (al .begins ≡ false → row .filled < dataCount p) × (o .next < 4294967295)
@@ -164,7 +164,7 @@ module _ (p : Params) (k : Disk) (m : Memory) (a t : ℕ) (b : List ℕ) (n : �
           omega (arith, h .next, x),
         )
 
-    pub sent-done : Sized st → o .cut ≡ false → (c : Change) (fl : List ℕ) → c ≡ copiedAs f al o t (sentRow p row (m .inflight) (al .slot) (al .begins) (o .next) a t 0 b)
+    pub sent-done : RowsSized st → o .cut ≡ false → (c : Change) (fl : List ℕ) → c ≡ copiedAs f al o t (sentRow p row (m .inflight) (al .slot) (al .begins) (o .next) a t 0 b)
         → fl ≡ sentRow p row (m .inflight) (al .slot) (al .begins) (o .next) a t 0 b .inflight
         → afterChange st c (k′ .image) (k′ .pointers) (m .addresses) (m .compact) fl [] ≡ outcome p (storeDisk p) n k m [] (due (sentPlan p (seen p k) m a t b))
     sent-done z q c fl e g =

@@ -34,15 +34,15 @@ room-test p k = go (decLt (k + 1) (p .N))
 
 module _ (p : Params) (st : State) where
   -- the filling stripe has an eighth
-  pub has-slot : ltb (fillingSlot p st) 8 ≡ hasFilling p st
+  pub slot-is-filling : ltb (fillingSlot p st) 8 ≡ hasFilling p st
   unfolding fillingSlot hasFilling
-  has-slot = ap (ltb (indexOf (isFilling p st) slots)) (sym length-slots) ∙ indexOf-any (isFilling p st) slots
+  slot-is-filling = ap (ltb (indexOf (isFilling p st) slots)) (sym length-slots) ∙ indexOf-any (isFilling p st) slots
 
   -- a stripe is filling
   pub aim-filling : (i : ℕ) → i ≡ fillingSlot p st → i < 8 → record { begins = false; opens = false; slot = i } ≡ aimOf p st
   unfolding opens slotFor
   aim-filling i e h =
-      let t : hasFilling p st ≡ true = sym has-slot ∙ ap (λ (x : ℕ). ltb x 8) (sym e) ∙ lt-ltb i 8 h in
+      let t : hasFilling p st ≡ true = sym slot-is-filling ∙ ap (λ (x : ℕ). ltb x 8) (sym e) ∙ lt-ltb i 8 h in
       (λ j. record { begins = false; opens = false; slot = e j })
       ∙ ap (λ (x : Bool). record { begins = not x; opens = not x && mustOpen p st; slot = cond x (fillingSlot p st) (freeSlot st) }) (sym t)
 
@@ -51,7 +51,7 @@ module _ (p : Params) (st : State) where
       → record { begins = true; opens = o; slot = k } ≡ aimOf p st
   unfolding opens slotFor
   aim-begins i e h o k f g =
-      let t : hasFilling p st ≡ false = sym has-slot ∙ ap (λ (x : ℕ). ltb x 8) (sym e) ∙ le-ltb i 8 h in
+      let t : hasFilling p st ≡ false = sym slot-is-filling ∙ ap (λ (x : ℕ). ltb x 8) (sym e) ∙ le-ltb i 8 h in
       (λ j. record { begins = true; opens = f j; slot = g j })
       ∙ ap (λ (x : Bool). record { begins = not x; opens = not x && mustOpen p st; slot = cond x (fillingSlot p st) (freeSlot st) }) (sym t)
 

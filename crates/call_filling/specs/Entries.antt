@@ -15,7 +15,7 @@ use Rattle.law_basic.specs.Ranges.Test.{yes!, no! }
 use Rattle.law_basic.specs.Splice.{splice-part}
 use Rattle.law_calls.specs.Sends.{mkPlaced, mkSending}
 use Rattle.law_calls.specs.Slots.{filling-room, filling-is}
-use Rattle.mem_rows.specs.Rows.{rowOf, putRow, Sized, RowSized, eighth-fits, cell-put, put-row, row-put, put-put, row-sized, put-sized}
+use Rattle.mem_rows.specs.Rows.{slotRow, putRow, RowsSized, RowSized, eighth-fits, cell-put, put-row, row-put, put-put, row-sized, put-sized}
 use Rattle.mem_rows.specs.declared.Row.{Row}
 use lib.Bits.{bitOr}
 use lib.Dec.{leb}
@@ -96,7 +96,7 @@ abbrev pub frontAs : State → ℕ → ℕ → ℕ → State
 frontAs st s o n =
     mkState (st .live) (st .missing) (st .stamp .0) s o n (st .numbers) (st .filled) (st .writes) (st .landed) (st .addresses) (st .stamps) (st .offsets)
 
-pub as-sized : (st : State) (s o n : ℕ) → Sized st → Sized (frontAs st s o n)
+pub as-sized : (st : State) (s o n : ℕ) → RowsSized st → RowsSized (frontAs st s o n)
 as-sized st s o n z = record {
   numbers = z .numbers;
   filled = z .filled;
@@ -107,34 +107,34 @@ as-sized st s o n z = record {
   offsets = z .offsets;
 }
 
-pub row-filled : (st : State) (i : ℕ) → rowOf st i .filled ≡ filledIn st i
-unfolding rowOf
+pub row-filled : (st : State) (i : ℕ) → slotRow st i .filled ≡ filledIn st i
+unfolding slotRow
 row-filled st i = refl
 
-row-number : (st : State) (i : ℕ) → rowOf st i .number ≡ stripeIn st i
-unfolding rowOf
+row-number : (st : State) (i : ℕ) → slotRow st i .number ≡ stripeIn st i
+unfolding slotRow
 row-number st i = refl
 
-module _ (st : State) (i : ℕ) (h : i < 8) (sized : Sized st) where
-  whole-put : (l : List ℕ) → length l ≡ 64 → splice l (cell i 0) (part (cell i 0) 8 l) ≡ l
-  whole-put l e = splice-part l (cell i 0) 8 (eighth-fits i l h e)
+module _ (st : State) (i : ℕ) (h : i < 8) (sized : RowsSized st) where
+  splice-row-kept : (l : List ℕ) → length l ≡ 64 → splice l (cell i 0) (part (cell i 0) 8 l) ≡ l
+  splice-row-kept l e = splice-part l (cell i 0) 8 (eighth-fits i l h e)
 
-  pub added-put : (a t w : ℕ) → filledIn st i < 8 → putRow st i (addedRow (rowOf st i) a t w) ≡ addEntry st i a t w
-  unfolding putRow addedRow rowOf addEntry stripeIn filledIn landedIn
+  pub added-put : (a t w : ℕ) → filledIn st i < 8 → putRow st i (addedRow (slotRow st i) a t w) ≡ addEntry st i a t w
+  unfolding putRow addedRow slotRow addEntry stripeIn filledIn landedIn
   added-put a t w g =
       let k = getD (st .filled) i 0 in
       λ j.
       mkState (st .live) (st .missing) (st .stamp .0) (st .serial .0) (st .opened) (st .next) (set-getD (st .numbers) i 0 j) (set (st .filled) i (suc k))
       (set (st .writes) i (bitOr (getD (st .writes) i 0) (w * only k))) (set-getD (st .landed) i 0 j)
-      (cell-put (st .addresses) i k a h g (sized .addresses) j) (cell-put (st .stamps) i k t h g (sized .stamps) j) (whole-put (st .offsets) (sized .offsets) j)
+      (cell-put (st .addresses) i k a h g (sized .addresses) j) (cell-put (st .stamps) i k t h g (sized .stamps) j) (splice-row-kept (st .offsets) (sized .offsets) j)
 
-  begun-put : putRow (frontAs st (st .serial .0) (st .opened) (suc (st .next))) i (begunRow (rowOf st i) (st .next)) ≡ beginStripe st i
-  unfolding putRow begunRow rowOf beginStripe
+  begun-put : putRow (frontAs st (st .serial .0) (st .opened) (suc (st .next))) i (begunRow (slotRow st i) (st .next)) ≡ beginStripe st i
+  unfolding putRow begunRow slotRow beginStripe
   begun-put =
       λ j.
       mkState (st .live) (st .missing) (st .stamp .0) (st .serial .0) (st .opened) (suc (st .next)) (set (st .numbers) i (st .next)) (set (st .filled) i 0)
-      (set (st .writes) i 0) (set (st .landed) i 0) (whole-put (st .addresses) (sized .addresses) j) (whole-put (st .stamps) (sized .stamps) j)
-      (whole-put (st .offsets) (sized .offsets) j)
+      (set (st .writes) i 0) (set (st .landed) i 0) (splice-row-kept (st .addresses) (sized .addresses) j) (splice-row-kept (st .stamps) (sized .stamps) j)
+      (splice-row-kept (st .offsets) (sized .offsets) j)
 
   full-added : (p : Params) (a t w : ℕ) → leb (dataCount p) (suc (filledIn st i)) ≡ isFull p (addEntry st i a t w) i
   unfolding isFull addEntry filledIn
@@ -142,9 +142,9 @@ module _ (st : State) (i : ℕ) (h : i < 8) (sized : Sized st) where
 
   -- 01, Write: what a position filled leaves
   pub placed-row : (p : Params) (fl : List ℕ) (a t w : ℕ) (b : List ℕ) → filledIn st i < 8
-      → mkPlaced (putRow st i (placedRow p (rowOf st i) fl i a t w b .row)) (placedRow p (rowOf st i) fl i a t w b .inflight) (placedRow p (rowOf st i) fl i a t w b .drive)
+      → mkPlaced (putRow st i (placedRow p (slotRow st i) fl i a t w b .row)) (placedRow p (slotRow st i) fl i a t w b .inflight) (placedRow p (slotRow st i) fl i a t w b .drive)
       ≡ placed p st fl i a t w b
-  unfolding placed placedRow entered driveFor rowOf
+  unfolding placed placedRow entered driveFor slotRow
   placed-row p fl a t w b g =
       let d = dataDrive p (stripeIn st i) (filledIn st i) in
       let fl′ = setSlotBlock p fl i d b in
@@ -182,10 +182,10 @@ module _ (p : Params) (v : View) (st : State) where
           subst (λ (x : Bool). filledIn st (cond x (fillingSlot p st) (freeSlot st)) < dataCount p) (sym e) (filling-room p st (fillingSlot p st) (filling-is p st k))
       go (no! e) q h = absurd (not-both (not (hasFilling p st)) (ap not e) q)
 
-  module _ (h : slotFor p st < 8) (sized : Sized st) where
+  module _ (h : slotFor p st < 8) (sized : RowsSized st) where
     -- the stripe before the block is in, the next stripe number after it
     abbrev pub startRow : Row
-    startRow = cond (not (hasFilling p st)) (begunRow (rowOf st (slotFor p st)) (st₁ .next)) (rowOf st (slotFor p st))
+    startRow = cond (not (hasFilling p st)) (begunRow (slotRow st (slotFor p st)) (st₁ .next)) (slotRow st (slotFor p st))
 
     abbrev nextAfter : ℕ
     nextAfter = cond (not (hasFilling p st)) (suc (st₁ .next)) (st₁ .next)
@@ -196,27 +196,27 @@ module _ (p : Params) (v : View) (st : State) where
     start-sized : RowSized startRow
     start-sized = go (not (hasFilling p st))
       where
-        go : (b : Bool) → RowSized (cond b (begunRow (rowOf st (slotFor p st)) (st₁ .next)) (rowOf st (slotFor p st)))
-        go true = begun-sized (rowOf st (slotFor p st)) (st₁ .next) (row-sized st (slotFor p st) h sized)
+        go : (b : Bool) → RowSized (cond b (begunRow (slotRow st (slotFor p st)) (st₁ .next)) (slotRow st (slotFor p st)))
+        go true = begun-sized (slotRow st (slotFor p st)) (st₁ .next) (row-sized st (slotFor p st) h sized)
         go false = row-sized st (slotFor p st) h sized
 
     -- it has room for the block
     pub start-room : dataCount p < 8 → startRow .filled < 8
-    unfolding begunRow rowOf
+    unfolding begunRow slotRow
     start-room d = go (test (not (hasFilling p st)))
       where
         go : Test (not (hasFilling p st)) → startRow .filled < 8
-        go (yes! e) = subst (λ (x : Bool). cond x (begunRow (rowOf st (slotFor p st)) (st₁ .next)) (rowOf st (slotFor p st)) .filled < 8) (sym e) (omega arith)
+        go (yes! e) = subst (λ (x : Bool). cond x (begunRow (slotRow st (slotFor p st)) (st₁ .next)) (slotRow st (slotFor p st)) .filled < 8) (sym e) (omega arith)
         go (no! e) =
-            subst (λ (x : Bool). cond x (begunRow (rowOf st (slotFor p st)) (st₁ .next)) (rowOf st (slotFor p st)) .filled < 8) (sym e)
+            subst (λ (x : Bool). cond x (begunRow (slotRow st (slotFor p st)) (st₁ .next)) (slotRow st (slotFor p st)) .filled < 8) (sym e)
             (omega (arith, slot-fills e h))
 
-    slot-free : hasFilling p st ≡ false → freeSlot st ≡ slotFor p st
+    free-slot-for : hasFilling p st ≡ false → freeSlot st ≡ slotFor p st
     unfolding slotFor
-    slot-free e = ap (λ (x : Bool). cond x (fillingSlot p st) (freeSlot st)) (sym e)
+    free-slot-for e = ap (λ (x : Bool). cond x (fillingSlot p st) (freeSlot st)) (sym e)
 
-    begun-again : (s o n : ℕ) → beginStripe (frontAs st s o n) (slotFor p st) ≡ putRow (frontAs st s o (suc n)) (slotFor p st) (begunRow (rowOf st (slotFor p st)) n)
-    unfolding rowOf stripeIn filledIn landedIn
+    begun-again : (s o n : ℕ) → beginStripe (frontAs st s o n) (slotFor p st) ≡ putRow (frontAs st s o (suc n)) (slotFor p st) (begunRow (slotRow st (slotFor p st)) n)
+    unfolding slotRow stripeIn filledIn landedIn
     begun-again s o n = sym (begun-put (frontAs st s o n) (slotFor p st) h (as-sized st s o n sized))
 
     begun-as : begunBy p st st₁ ≡ putRow based (slotFor p st) startRow
@@ -227,20 +227,20 @@ module _ (p : Params) (v : View) (st : State) where
         i = slotFor p st
 
         of : Bool → State
-        of x = putRow (frontAs st (st₁ .serial .0) (st₁ .opened) (cond (not x) (suc (st₁ .next)) (st₁ .next))) i (cond (not x) (begunRow (rowOf st i) (st₁ .next)) (rowOf st i))
+        of x = putRow (frontAs st (st₁ .serial .0) (st₁ .opened) (cond (not x) (suc (st₁ .next)) (st₁ .next))) i (cond (not x) (begunRow (slotRow st i) (st₁ .next)) (slotRow st i))
 
         go : Test (hasFilling p st) → cond (hasFilling p st) st (beginStripe st₁ (freeSlot st)) ≡ of (hasFilling p st)
         go (yes! e) =
             let o : st ≡ st₁ = sym (opened-same e) in
             ap (λ (x : Bool). cond x st (beginStripe st₁ (freeSlot st))) e ∙ sym (put-row st i h sized)
-            ∙ (λ j. putRow (frontAs st (o j .serial .0) (o j .opened) (o j .next)) i (rowOf st i)) ∙ ap of (sym e)
+            ∙ (λ j. putRow (frontAs st (o j .serial .0) (o j .opened) (o j .next)) i (slotRow st i)) ∙ ap of (sym e)
         go (no! e) =
-            ap (λ (x : Bool). cond x st (beginStripe st₁ (freeSlot st))) e ∙ ap₂ beginStripe opened-as (slot-free e)
+            ap (λ (x : Bool). cond x st (beginStripe st₁ (freeSlot st))) e ∙ ap₂ beginStripe opened-as (free-slot-for e)
             ∙ begun-again (st₁ .serial .0) (st₁ .opened) (st₁ .next) ∙ ap of (sym e)
 
     module _ (fl : List ℕ) (a t w : ℕ) (b : List ℕ) (room : startRow .filled < 8) where
       abbrev pub sentOf : SentRow
-      sentOf = sentRow p (rowOf st (slotFor p st)) fl (slotFor p st) (not (hasFilling p st)) (st₁ .next) a t w b
+      sentOf = sentRow p (slotRow st (slotFor p st)) fl (slotFor p st) (not (hasFilling p st)) (st₁ .next) a t w b
 
       -- 01, Write: what a block sent leaves
       pub sending-row : mkSending (cond (opens p st) (headerStores p (firstOr 0 (emptyZones p v)) (suc (st .serial .0)) 0) [])
@@ -251,9 +251,9 @@ module _ (p : Params) (v : View) (st : State) where
           let i = slotFor p st in
           let hs = cond (opens p st) (headerStores p (firstOr 0 (emptyZones p v)) (suc (st .serial .0)) 0) [] in
           let x = putRow based i startRow in
-          let z : Sized based = as-sized st (st₁ .serial .0) (st₁ .opened) nextAfter sized in
-          let zx : Sized x = put-sized based i h z startRow start-sized in
-          let r : rowOf x i ≡ startRow = row-put based i h z startRow start-sized in
+          let z : RowsSized based = as-sized st (st₁ .serial .0) (st₁ .opened) nextAfter sized in
+          let zx : RowsSized x = put-sized based i h z startRow start-sized in
+          let r : slotRow x i ≡ startRow = row-put based i h z startRow start-sized in
           let g : filledIn x i < 8 = subst (λ (k : ℕ). k < 8) (ap (λ (y : Row). y .filled) (sym r) ∙ row-filled x i) room in
           let q : PlacedRow = placedRow p startRow fl i a t w b in
           let o : putRow x i (q .row) ≡ putRow based i (q .row) = put-put based i h z startRow start-sized (q .row) (added-sized startRow a t w start-sized) in

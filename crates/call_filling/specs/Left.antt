@@ -36,7 +36,7 @@ openStores p k st = cond (opens p st) (headerStores p (firstOr 0 (emptyZones p (
 
 -- 01, Write; Store count: the first n of the headers' stores are made on the bytes k, which are then k′; r says whether more were due, and
 -- has the numbers in front with the segment open if not
-pub record Opening (p : Params) (st : State) (n : ℕ) (k : Disk) (r : Opened) (k′ : Disk) : Type 0 where
+pub record OpeningStores (p : Params) (st : State) (n : ℕ) (k : Disk) (r : Opened) (k′ : Disk) : Type 0 where
   pub cut : r .cut ≡ ltb n (length (openStores p k st))
   pub disk : k′ ≡ storeAll (storeDisk p) (take n (openStores p k st)) k
   pub serial : r .serial .0 ≡ openedBy p (seen p k) st .serial .0
@@ -59,7 +59,7 @@ openedAs c s o n = record { cut = c; serial = aSerial s; opened = o; next = n }
 
 module _ (p : Params) (st : State) (n : ℕ) (k : Disk) where
   -- none is due
-  pub opening-none : opens p st ≡ false → Opening p st n k (openedAs false (st .serial .0) (st .opened) (st .next)) k
+  pub opening-none : opens p st ≡ false → OpeningStores p st n k (openedAs false (st .serial .0) (st .opened) (st .next)) k
   unfolding openedBy
   opening-none e =
       let g = firstOr 0 (emptyZones p (seen p k)) in
@@ -81,7 +81,7 @@ module _ (p : Params) (st : State) (n : ℕ) (k : Disk) where
         ∙ ap (λ (x : Bool). cond x (headerStores p (firstOr 0 (emptyZones p (seen p k))) (suc (st .serial .0)) 0) []) (sym e)
 
     -- made, or cut
-    pub opening-made : (r : Made) (k′ : Disk) → Storing p n (headerStores p g s 0) k r k′ → Opening p st n k (openedAs (r .cut) s (g + 1) 0) k′
+    pub opening-made : (r : Made) (k′ : Disk) → Storing p n (headerStores p g s 0) k r k′ → OpeningStores p st n k (openedAs (r .cut) s (g + 1) 0) k′
     unfolding madeOf openedBy setOpen
     opening-made r k′ h =
         let o : setOpen st g s ≡ openedBy p (seen p k) st =
@@ -95,7 +95,7 @@ module _ (p : Params) (st : State) (n : ℕ) (k : Disk) where
         }
 
 -- an opening asked of the front is one of the state
-pub opening-front : (p : Params) (st : State) (n : ℕ) (k : Disk) (r : Opened) (k′ : Disk) → Opening p (behind (frontOf st)) n k r k′ → Opening p st n k r k′
+pub opening-front : (p : Params) (st : State) (n : ℕ) (k : Disk) (r : Opened) (k′ : Disk) → OpeningStores p (behind (frontOf st)) n k r k′ → OpeningStores p st n k r k′
 unfolding openedBy setOpen opens mustOpen hasFilling isFilling isFree isFull filledIn
 opening-front p st n k r k′ h = record {
   cut = h .cut;

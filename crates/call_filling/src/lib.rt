@@ -16,7 +16,7 @@ ghost use Rattle.spec.specs.Memory.{isFree, isFilling, inFlight, freeSlot, fill
 ghost use Rattle.spec.specs.Write.{mustOpen, opens, noStamp, otherGroup, mustWait, scarce};
 ghost use Rattle.call_filling.specs.Aims.{aimOf};
 ghost use Rattle.call_filling.specs.Entries.{addedRow, begunRow, driveFor, entered, placedRow, sentRow};
-ghost use Rattle.call_filling.specs.Left.{Opening, placedBy, takenBy};
+ghost use Rattle.call_filling.specs.Left.{OpeningStores, placedBy, takenBy};
 ghost use Rattle.mem_rows.specs.Rows.{behind, keptAs};
 ghost use Rattle.law_views.specs.Views.{Whole};
 use mem_rows::Change;
@@ -256,7 +256,7 @@ pub fn open(
     requires { ⌜ a .opens ≡ opens p (behind f) ⌝ }
     requires { ⌜ (a .opens ≡ true → f .serial .0 < lastCount) ⌝ }
     requires { ⌜ (a .opens ≡ true → 0 < length (emptyZones p (viewOf p (now image) (now pointers)))) ⌝ }
-    ensures { λ r. ⌜ Opening p (behind f) count (mkDisk (now (image .entry)) (now (pointers .entry))) r (mkDisk (now (image .exit)) (now (pointers .exit))) ⌝ }
+    ensures { λ r. ⌜ OpeningStores p (behind f) count (mkDisk (now (image .entry)) (now (pointers .entry))) r (mkDisk (now (image .exit)) (now (pointers .exit))) ⌝ }
 {
     let old = f.serial;
     if !a.opens {

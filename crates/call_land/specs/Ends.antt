@@ -18,7 +18,7 @@ use Rattle.spec.specs.Drives.Store.{put}
 use Rattle.spec.specs.Engine.Call.{land}
 use Rattle.spec.specs.Engine.{lentOk, storeCount, lentBlock, verdict, callOn, callDisk}
 use Rattle.spec.specs.Landing.{slotOf, completes, seals, flightRec, pointed, sealStores, writesIn, landStore, landPlan, landChecks, landVerdict}
-use Rattle.call_land.specs.Ready.{ready, refusal, Ready, offsets-low, open-low, zone-low, slot-filled, pointer-data, table-sound, feet-room}
+use Rattle.call_land.specs.Ready.{land-ready, landRefusal, LandReady, offsets-low, open-low, open-zone-low, slot-filled, land-pointer-data, table-sound, land-feet-room}
 use Rattle.spec.specs.Answers.{kind, isRefused, isCut}
 use Rattle.spec.specs.Layout.{Rec, parityDrive, dataPosition, compactEntry, recordBytes}
 use Rattle.spec.specs.Lists.Opt.{none, some}
@@ -35,9 +35,9 @@ use Rattle.disk_zones.specs.Made.{put-pointers}
 use Rattle.mem_rows.specs.declared.Row.{Row}
 use Rattle.mem_rows.specs.declared.Front.{Front}
 use Rattle.mem_rows.specs.declared.Change.{Change}
-use Rattle.mem_rows.specs.Rows.{rowOf, frontOf, Sized, changed, stateAfter, afterChange, after-refused, after-done}
-use Rattle.call_land_chunk.specs.Alone.{alone, markRow, freeRow, row-filled, row-entry, row-offset, row-record, row-writes, row-cands}
-use Rattle.call_land_table.specs.Winners.{Sane, Sound}
+use Rattle.mem_rows.specs.Rows.{slotRow, frontOf, RowsSized, changed, stateAfter, afterChange, after-refused, after-done}
+use Rattle.call_land_chunk.specs.Alone.{alone, markRow, freeRow, filled-alone, entry-alone, row-offset, row-record, row-writes, row-cands}
+use Rattle.call_land_table.specs.Winners.{Sane, EntriesSane}
 use Rattle.call_land.specs.declared.Look.{Look}
 use Rattle.call_land.specs.Marked.{changeTo, row-marked, changed-marked, changed-freed}
 use Rattle.call_write.specs.Ends.{cut-memory, state-cut}
@@ -52,32 +52,33 @@ state-landed st n i r b = after-done st (changeTo (Landed n) (frontOf st) i r b)
 
 module _ (p : Params) (k : Disk) (m : Memory) (d s n : ℕ) where
   -- 01, Store count: a refusal changes nothing
-  pub land-refused : (c : Change) → refusal p k m d s ≡ some (c .answer) → afterChange (m .state) c (k .image) (k .pointers) (m .addresses) (m .compact) (m .inflight) [] ≡ callDisk p k m (land d s n)
+  pub land-refused : (c : Change) → landRefusal p k m d s ≡ some (c .answer)
+      → afterChange (m .state) c (k .image) (k .pointers) (m .addresses) (m .compact) (m .inflight) [] ≡ callDisk p k m (land d s n)
   unfolding callDisk callOn storeCount lentBlock verdict landVerdict
   land-refused c e =
       let x = after-refused (m .state) c (refusal-kind (landChecks p (lentOk p k m) (seen p k) m d s) (c .answer) e) in
       ap (λ (y : State). mkAfter (c .answer) k (mkMemory y (m .addresses) (m .compact) (m .inflight)) []) x
-      ∙ sym (call-refused p (storeDisk p) n k m [] (refusal p k m d s) (landPlan p (seen p k) m d s) (c .answer) e)
+      ∙ sym (call-refused p (storeDisk p) n k m [] (landRefusal p k m d s) (landPlan p (seen p k) m d s) (c .answer) e)
 
   -- just so many stores
-  land-cut : refusal p k m d s ≡ none → (q : Plan) → landPlan p (seen p k) m d s ≡ q → n < length (q .stores)
+  land-cut : landRefusal p k m d s ≡ none → (q : Plan) → landPlan p (seen p k) m d s ≡ q → n < length (q .stores)
       → mkAfter Cut (storeAll (storeDisk p) (take n (q .stores)) k) (cutMemory p m) [] ≡ callDisk p k m (land d s n)
   unfolding callDisk callOn storeCount lentBlock verdict landVerdict
   land-cut e q f =
       subst (λ (x : Plan). n < length (x .stores) → mkAfter Cut (storeAll (storeDisk p) (take n (x .stores)) k) (cutMemory p m) [] ≡ callDisk p k m (land d s n)) f
-      (λ h. sym (call-cut p (storeDisk p) n k m [] (refusal p k m d s) (landPlan p (seen p k) m d s) e h))
+      (λ h. sym (call-cut p (storeDisk p) n k m [] (landRefusal p k m d s) (landPlan p (seen p k) m d s) e h))
 
   -- all of them
-  land-done : refusal p k m d s ≡ none → (q : Plan) → landPlan p (seen p k) m d s ≡ q → length (q .stores) ≤ n
+  land-done : landRefusal p k m d s ≡ none → (q : Plan) → landPlan p (seen p k) m d s ≡ q → length (q .stores) ≤ n
       → mkAfter (q .answer) (storeAll (storeDisk p) (take n (q .stores)) k) (q .memory) (q .block) ≡ callDisk p k m (land d s n)
   unfolding callDisk callOn storeCount lentBlock verdict landVerdict
   land-done e q f =
       subst (λ (x : Plan). length (x .stores) ≤ n → mkAfter (x .answer) (storeAll (storeDisk p) (take n (x .stores)) k) (x .memory) (x .block) ≡ callDisk p k m (land d s n)) f
-      (λ h. sym (call-done p (storeDisk p) n k m [] (refusal p k m d s) (landPlan p (seen p k) m d s) e h))
+      (λ h. sym (call-done p (storeDisk p) n k m [] (landRefusal p k m d s) (landPlan p (seen p k) m d s) e h))
 
 -- ---- the chunk's store
 
-module _ (p : Params) (k : Disk) (m : Memory) (d s : ℕ) (r : Ready p k m d s) where
+module _ (p : Params) (k : Disk) (m : Memory) (d s : ℕ) (r : LandReady p k m d s) where
   abbrev i : ℕ
   i = slotOf (m .state) s
 
@@ -102,10 +103,10 @@ module _ (p : Params) (k : Disk) (m : Memory) (d s : ℕ) (r : Ready p k m d s) 
 
   -- the pointer by the bytes, and that it has room
   pub at-pointer : pointerOf p (k .pointers) d (zoneOn (openSegment (m .state)) d) ≡ pointerAt (seen p k) d (zoneOn (openSegment (m .state)) d)
-  at-pointer = sym (pointer-view p k d z (r .drive-low) (zone-low p k m d s r) (r .whole))
+  at-pointer = sym (pointer-view p k d z (r .drive-low) (open-zone-low p k m d s r) (r .whole))
 
   pub pointer-room : pointerOf p (k .pointers) d (zoneOn (openSegment (m .state)) d) < capacity p
-  pointer-room = data-below p (ranged p (r .ranged)) (pointerOf p (k .pointers) d z) (pointer-data p k m d s r .1)
+  pointer-room = data-below p (ranged p (r .ranged)) (pointerOf p (k .pointers) d z) (land-pointer-data p k m d s r .1)
 
   abbrev pub after! : Disk
   after! = storeDisk p (put d (zoneOn (openSegment (m .state)) d) (slotBlock p (m .inflight) (slotOf (m .state) s) d) (recordBytes (flightRec p (m .state) (slotOf (m .state) s) d))) k
@@ -113,12 +114,12 @@ module _ (p : Params) (k : Disk) (m : Memory) (d s : ℕ) (r : Ready p k m d s) 
   room! : pointerAt (seen p k) d z < capacity p
   room! = omega (arith, at-pointer, pointer-room)
 
-  pub whole-after : Whole p after!
-  whole-after = whole-put p k d z (r .drive-low) (zone-low p k m d s r) (r .whole) b t room! block-long spare-long
+  pub landed-whole : Whole p after!
+  landed-whole = whole-put p k d z (r .drive-low) (open-zone-low p k m d s r) (r .whole) b t room! block-long spare-long
 
-  view-after : seen p after! ≡ storeView (landStore p (seen p k) m d s) (seen p k)
+  landed-view : seen p after! ≡ storeView (landStore p (seen p k) m d s) (seen p k)
   unfolding landStore
-  view-after = view-put p k d z (r .drive-low) (zone-low p k m d s r) (r .whole) b t room! (omega (arith, capacity-high p (ranged p (r .ranged)))) block-long spare-long
+  landed-view = view-put p k d z (r .drive-low) (open-zone-low p k m d s r) (r .whole) b t room! (omega (arith, capacity-high p (ranged p (r .ranged)))) block-long spare-long
 
   pub store-is : storeDisk p (landStore p (seen p k) m d s) k ≡ after!
   unfolding landStore
@@ -127,7 +128,7 @@ module _ (p : Params) (k : Disk) (m : Memory) (d s : ℕ) (r : Ready p k m d s) 
   -- 01, Refusals, 9: room for the footers once it is made
   pub room-after : seals p (m .state) (slotOf (m .state) s) d ≡ true → (e : ℕ) → e < p .N → pointerOf p (after! .pointers) e (zoneOn (openSegment (m .state)) e) + footers p ≤ capacity p
   room-after u e he =
-      let f = feet-room p k m d s r u e he in
+      let f = land-feet-room p k m d s r u e he in
       subst (λ (x : List ℕ). pointerOf p x e (zoneOn g e) + footers p ≤ capacity p) (sym (put-pointers p d z b t k)) (go (ℕ-discrete e d) f)
     where
       n : ℕ
@@ -141,14 +142,14 @@ module _ (p : Params) (k : Disk) (m : Memory) (d s : ℕ) (r : Ready p k m d s) 
           let x : _≡_ {A = ℕ} (cond (eqb e d) 1 0) 1 = ap (λ (y : Bool). cond {A = ℕ} y 1 0) (eq-eqb e d q) in
           let y : pointerOf p (setPointer p (k .pointers) d z (suc n)) e (zoneOn g e) ≡ suc n =
           ap (λ (w : ℕ). pointerOf p (setPointer p (k .pointers) d z (suc n)) w (zoneOn g w)) q
-          ∙ pointer-set p (k .pointers) d z (suc n) (r .drive-low) (zone-low p k m d s r) (r .whole .pointers-long)
+          ∙ pointer-set p (k .pointers) d z (suc n) (r .drive-low) (open-zone-low p k m d s r) (r .whole .pointers-long)
           (omega (arith, pointer-room, capacity-high p (ranged p (r .ranged)))) in
           let w : pointerOf p (k .pointers) e (zoneOn g e) ≡ n = ap (λ (w : ℕ). pointerOf p (k .pointers) w (zoneOn g w)) q in
           omega (arith, x, y, w, h)
       go (no q) h =
           let x : _≡_ {A = ℕ} (cond (eqb e d) 1 0) 0 = ap (λ (y : Bool). cond {A = ℕ} y 1 0) (ne-eqb e d q) in
           let y : pointerOf p (setPointer p (k .pointers) d z (suc n)) e (zoneOn g e) ≡ pointerOf p (k .pointers) e (zoneOn g e) =
-          pointer-other-drive p (k .pointers) d z (suc n) (r .drive-low) (zone-low p k m d s r) (r .whole .pointers-long) e (zoneOn g e) he
+          pointer-other-drive p (k .pointers) d z (suc n) (r .drive-low) (open-zone-low p k m d s r) (r .whole .pointers-long) e (zoneOn g e) he
           (zone-on-lt p g e (open-low p k m d s r)) (λ j. q (sym j)) in
           omega (arith, x, y, h)
 
@@ -162,13 +163,13 @@ module _ (p : Params) (k : Disk) (m : Memory) (d s : ℕ) (r : Ready p k m d s) 
   st₁ = landedState p (seen p k) m d s
 
   o-low : o < p .S
-  o-low = let q = pointer-data p k m d s r in omega (arith, at-pointer, q .0, q .1)
+  o-low = let q = land-pointer-data p k m d s r in omega (arith, at-pointer, q .0, q .1)
 
   filled-eight : filledIn (m .state) i ≤ 8
   filled-eight = omega (arith, slot-filled p k m d s r, data-count-high p (ranged p (r .ranged)))
 
-  pub row-eight : filledIn (alone (rowOf (m .state) (slotOf (m .state) s))) 0 ≤ 8
-  row-eight = subst (λ (x : ℕ). x ≤ 8) (sym (row-filled (m .state) i)) filled-eight
+  pub row-eight : filledIn (alone (slotRow (m .state) (slotOf (m .state) s))) 0 ≤ 8
+  row-eight = subst (λ (x : ℕ). x ≤ 8) (sym (filled-alone (m .state) i)) filled-eight
 
   -- a data position is not above its drive
   position-low : (x d′ : ℕ) → dataPosition p x d′ ≤ d′
@@ -179,28 +180,28 @@ module _ (p : Params) (k : Disk) (m : Memory) (d s : ℕ) (r : Ready p k m d s) 
       go true = omega arith
       go false = omega arith
 
-  pub row-flight : flightRec p (alone (rowOf (m .state) (slotOf (m .state) s))) 0 d ≡ flightRec p (m .state) (slotOf (m .state) s) d
+  pub row-flight : flightRec p (alone (slotRow (m .state) (slotOf (m .state) s))) 0 d ≡ flightRec p (m .state) (slotOf (m .state) s) d
   row-flight = row-record (m .state) i p d filled-eight (omega (arith, position-low (stripeIn (m .state) i) d, r .drive-low, ranged p (r .ranged) .drives-high))
 
-  module _ (sized : Sized (m .state)) where
+  module _ (sized : RowsSized (m .state)) where
     -- what the store, the table's entry and the mark come to
     pub chunked : (l : Look) → Looks p (m .state) d s l → (w : Row) (k′ : Disk) (co : List ℕ)
         → k′ ≡ storeDisk p (put d (zoneOn (l .segment) d) (slotBlock p (m .inflight) (l .slot) d) (recordBytes (flightRec p (alone (l .row)) 0 d))) k
         → co ≡ set (m .compact) (compactAt p d (zoneOn (l .segment) d) (pointerOf p (k .pointers) d (zoneOn (l .segment) d) - 1)) (compactEntry p s)
         → w ≡ markRow (l .row) d (pointerOf p (k .pointers) d (zoneOn (l .segment) d) - 1)
-        → (w ≡ markRow (rowOf (m .state) (slotOf (m .state) s)) d (pointerAt (seen p k) d (zoneOn (openSegment (m .state)) d) - 1))
+        → (w ≡ markRow (slotRow (m .state) (slotOf (m .state) s)) d (pointerAt (seen p k) d (zoneOn (openSegment (m .state)) d) - 1))
         × (k′ ≡ storeDisk p (landStore p (seen p k) m d s) k) × (co ≡ shownTable p (seen p k) m d s)
     chunked l x w k′ co f h q =
         let e = x .row (r .slot-low) in
         let u = x .segment in (
-          q ∙ (λ j. markRow (e j) d (pointerOf p (k .pointers) d (zoneOn (u j) d) - 1)) ∙ ap (λ (y : ℕ). markRow (rowOf (m .state) i) d (y - 1)) at-pointer,
+          q ∙ (λ j. markRow (e j) d (pointerOf p (k .pointers) d (zoneOn (u j) d) - 1)) ∙ ap (λ (y : ℕ). markRow (slotRow (m .state) i) d (y - 1)) at-pointer,
           f ∙ (λ j. storeDisk p (put d (zoneOn (u j) d) (slotBlock p (m .inflight) (x .slot j) d) (recordBytes (flightRec p (alone (e j)) 0 d))) k)
               ∙ ap (λ (y : Rec). storeDisk p (put d z b (recordBytes y)) k) row-flight ∙ sym store-is,
           h ∙ (λ j. set (m .compact) (compactAt p d (zoneOn (u j) d) (pointerOf p (k .pointers) d (zoneOn (u j) d) - 1)) (compactEntry p s))
               ∙ ap (λ (y : ℕ). set (m .compact) (compactAt p d z (y - 1)) (compactEntry p s)) at-pointer,
         )
 
-    row₁-is : markRow (rowOf (m .state) i) d o ≡ rowOf st₁ i
+    row₁-is : markRow (slotRow (m .state) i) d o ≡ slotRow st₁ i
     row₁-is = row-marked (m .state) i d o (r .slot-low) (omega (arith, r .drive-low, ranged p (r .ranged) .drives-high)) sized
 
     filled₁ : filledIn st₁ i ≤ dataCount p
@@ -209,28 +210,28 @@ module _ (p : Params) (k : Disk) (m : Memory) (d s : ℕ) (r : Ready p k m d s) 
     filled₁-eight : filledIn st₁ i ≤ 8
     filled₁-eight = omega (arith, filled₁, data-count-high p (ranged p (r .ranged)))
 
-    sound-row : completes p (m .state) i d ≡ true → Sound p (alone (rowOf st₁ i)) 0 (m .addresses)
+    sound-row : completes p (m .state) i d ≡ true → EntriesSane p (alone (slotRow st₁ i)) 0 (m .addresses)
     sound-row c h l a =
-        let h< : h < filledIn st₁ i = omega (arith, l, row-filled st₁ i) in
-        let e : entryIn (alone (rowOf st₁ i)) 0 h .address ≡ entryIn st₁ i h .address = ap (λ (x : Rec). x .address) (row-entry st₁ i h (omega (arith, h<, filled₁-eight))) in
+        let h< : h < filledIn st₁ i = omega (arith, l, filled-alone st₁ i) in
+        let e : entryIn (alone (slotRow st₁ i)) 0 h .address ≡ entryIn st₁ i h .address = ap (λ (x : Rec). x .address) (entry-alone st₁ i h (omega (arith, h<, filled₁-eight))) in
         subst (λ (x : ℕ). Sane p (placeAt (m .addresses) x)) (sym e) (table-sound p k m d s r c o h h< (omega (arith, a, e)))
 
     -- what completing asks
     pub complete-ready : completes p (m .state) (slotOf (m .state) s) d ≡ true → (w : Row) (g′ : ℕ) (b′ : Bool) (k′ : Disk)
-        → w ≡ markRow (rowOf (m .state) (slotOf (m .state) s)) d (pointerAt (seen p k) d (zoneOn (openSegment (m .state)) d) - 1) → g′ ≡ openSegment (m .state)
+        → w ≡ markRow (slotRow (m .state) (slotOf (m .state) s)) d (pointerAt (seen p k) d (zoneOn (openSegment (m .state)) d) - 1) → g′ ≡ openSegment (m .state)
         → b′ ≡ seals p (m .state) (slotOf (m .state) s) d → k′ ≡ storeDisk p (landStore p (seen p k) m d s) k → Complete p (m .addresses) w g′ b′ k′
     complete-ready c w g′ b′ k′ ew eg eb ek =
         subst (λ (x : Disk). Complete p (m .addresses) w g′ b′ x) (sym (ek ∙ store-is))
         (subst (λ (x : Row). Complete p (m .addresses) x g′ b′ after!) (sym (ew ∙ row₁-is))
-        (subst (λ (x : ℕ). Complete p (m .addresses) (rowOf st₁ i) x b′ after!) (sym eg) (
+        (subst (λ (x : ℕ). Complete p (m .addresses) (slotRow st₁ i) x b′ after!) (sym eg) (
           r .ranged,
           (
-            whole-after,
+            landed-whole,
             (
               (r .addresses-long, sound-row c),
               (
                 (
-                  subst (λ (x : ℕ). x ≤ dataCount p) (sym (row-filled st₁ i)) filled₁,
+                  subst (λ (x : ℕ). x ≤ dataCount p) (sym (filled-alone st₁ i)) filled₁,
                   λ e he. subst (λ (x : ℕ). x < p .S) (sym (row-offset st₁ i e (omega (arith, he, ranged p (r .ranged) .drives-high)))) (offsets-low p (m .state) (r .fine) i d o e o-low),
                 ),
                 (open-low p k m d s r, λ l e he. room-after (sym eb ∙ l) e he),
@@ -240,7 +241,7 @@ module _ (p : Params) (k : Disk) (m : Memory) (d s : ℕ) (r : Ready p k m d s) 
         )))
 
     -- the table, by the row and by the state
-    pub table-is : (v : View) → tableOf p v (openSegment (m .state)) (alone (rowOf (landedState p (seen p k) m d s) (slotOf (m .state) s))) 0 (m .addresses)
+    pub table-is : (v : View) → tableOf p v (openSegment (m .state)) (alone (slotRow (landedState p (seen p k) m d s) (slotOf (m .state) s))) 0 (m .addresses)
         ≡ tableOf p v (openSegment (m .state)) (landedState p (seen p k) m d s) (slotOf (m .state) s) (m .addresses)
     table-is v =
         let q = row-cands st₁ i p v g filled₁-eight (λ x h. omega (arith, data-drive-lt p (stripeIn st₁ i) x (omega (arith, h, filled₁)), ranged p (r .ranged) .drives-high)) in
@@ -250,17 +251,17 @@ module _ (p : Params) (k : Disk) (m : Memory) (d s : ℕ) (r : Ready p k m d s) 
 
 -- 01, Landing: a state that a landing looked at, and which it doesn't refuse
 pub record Chosen (p : Params) (k : Disk) (tb co fl : List ℕ) (d s : ℕ) (l : Look) (f : Front) (st : State) : Type 0 where
-  pub sized : Sized st
+  pub sized : RowsSized st
   pub front : f ≡ frontOf st
   pub looks : Looks p st d s l
-  pub none! : refusal p k (mkMemory st tb co fl) d s ≡ none
+  pub none! : landRefusal p k (mkMemory st tb co fl) d s ≡ none
 
-module _ (p : Params) (k : Disk) (m : Memory) (d s n : ℕ) (none! : refusal p k m d s ≡ none) where
+module _ (p : Params) (k : Disk) (m : Memory) (d s n : ℕ) (none! : landRefusal p k m d s ≡ none) where
   -- the number is 0: cut before the chunk
   pub ends-none : n ≡ 0 → (c : Change) (ad co : List ℕ) → c .answer ≡ Cut → ad ≡ replicate (length (m .addresses)) 0 → co ≡ replicate (length (m .compact)) 0
       → afterChange (m .state) c (k .image) (k .pointers) ad co (m .inflight) [] ≡ callDisk p k m (land d s n)
   ends-none x r ad co e a c =
-      let w = ready p k m d s none! in
+      let w = land-ready p k m d s none! in
       let ss : List Store = landPlan p (seen p k) m d s .stores in
       let q : mkMemory (stateAfter (m .state) r) ad co (m .inflight) ≡ cutMemory p m =
       cut-memory p m (stateAfter (m .state) r) ad co (w .addresses-long) (w .compact-long) (state-cut (m .state) r e) a c in
@@ -271,7 +272,7 @@ module _ (p : Params) (k : Disk) (m : Memory) (d s n : ℕ) (none! : refusal p k
       some-store : 0 < length (landPlan p (seen p k) m d s .stores)
       some-store = unfold landPlan in omega arith
 
-  module _ (sized : Sized (m .state)) where
+  module _ (sized : RowsSized (m .state)) where
     abbrev i₀ : ℕ
     i₀ = slotOf (m .state) s
 
@@ -279,14 +280,15 @@ module _ (p : Params) (k : Disk) (m : Memory) (d s n : ℕ) (none! : refusal p k
     o₀ = pointerAt (seen p k) d (zoneOn (openSegment (m .state)) d) - 1
 
     abbrev w₀ : Row
-    w₀ = markRow (rowOf (m .state) i₀) d o₀
+    w₀ = markRow (slotRow (m .state) i₀) d o₀
 
     d-eight : d < 8
-    d-eight = let r = ready p k m d s none! in omega (arith, r .drive-low, ranged p (r .ranged) .drives-high)
+    d-eight = let r = land-ready p k m d s none! in omega (arith, r .drive-low, ranged p (r .ranged) .drives-high)
 
     -- the chunk is stored, the stripe is not complete
     pub ends-part : 0 < n → completes p (m .state) (slotOf (m .state) s) d ≡ false → (c : Change) (k′ : Disk) (co : List ℕ)
-        → c ≡ changeTo (Landed 0) (frontOf (m .state)) (slotOf (m .state) s) (markRow (rowOf (m .state) (slotOf (m .state) s)) d (pointerAt (seen p k) d (zoneOn (openSegment (m .state)) d) - 1)) false
+        → c ≡ changeTo (Landed 0) (frontOf (m .state)) (slotOf (m .state) s)
+        (markRow (slotRow (m .state) (slotOf (m .state) s)) d (pointerAt (seen p k) d (zoneOn (openSegment (m .state)) d) - 1)) false
         → k′ ≡ storeDisk p (landStore p (seen p k) m d s) k
         → co ≡ shownTable p (seen p k) m d s
         → afterChange (m .state) c (k′ .image) (k′ .pointers) (m .addresses) co (m .inflight) [] ≡ callDisk p k m (land d s n)
@@ -294,7 +296,7 @@ module _ (p : Params) (k : Disk) (m : Memory) (d s n : ℕ) (none! : refusal p k
     ends-part h c r k′ co e g q =
         let w = landStore p (seen p k) m d s in
         let u : k′ ≡ storeAll (storeDisk p) (take n (w ∷ [])) k = g ∙ sym (stores-cons (storeDisk p) n w [] k h ∙ stores-nil (storeDisk p) (n - 1) (storeDisk p w k)) in
-        let f = state-landed (m .state) 0 i₀ w₀ false ∙ changed-marked (m .state) i₀ d o₀ (ready p k m d s none! .slot-low) d-eight sized (Landed 0) in
+        let f = state-landed (m .state) 0 i₀ w₀ false ∙ changed-marked (m .state) i₀ d o₀ (land-ready p k m d s none! .slot-low) d-eight sized (Landed 0) in
         (λ j. afterChange (m .state) (e j) (u j .image) (u j .pointers) (m .addresses) (q j) (m .inflight) [])
         ∙ ap (λ (x : State). mkAfter (Landed 0) (storeAll (storeDisk p) (take n (w ∷ [])) k) (mkMemory x (m .addresses) (shownTable p (seen p k) m d s) (m .inflight)) []) f
         ∙ land-done p k m d s n none!
@@ -304,7 +306,7 @@ module _ (p : Params) (k : Disk) (m : Memory) (d s n : ℕ) (none! : refusal p k
     module _ (h : 0 < n) (c : completes p (m .state) (slotOf (m .state) s) d ≡ true) (a : Answer) (r : Change) (k′ : Disk) (tb co : List ℕ)
         (e : r
         ≡ changeTo a (frontOf (m .state)) (slotOf (m .state) s)
-        (freeRow (markRow (rowOf (m .state) (slotOf (m .state) s)) d (pointerAt (seen p k) d (zoneOn (openSegment (m .state)) d) - 1)))
+        (freeRow (markRow (slotRow (m .state) (slotOf (m .state) s)) d (pointerAt (seen p k) d (zoneOn (openSegment (m .state)) d) - 1)))
         (seals p (m .state) (slotOf (m .state) s) d)) where
       abbrev w : Store
       w = landStore p (seen p k) m d s
@@ -329,7 +331,7 @@ module _ (p : Params) (k : Disk) (m : Memory) (d s n : ℕ) (none! : refusal p k
           (mkMemory (cond b₀ (setClosed (freeStripe st₂ i₀)) (freeStripe st₂ i₀)) (tableOf p (storeView w (seen p k)) g₀ st₂ i₀ (m .addresses)) (shownTable p (seen p k) m d s) (m .inflight)) []
 
       view₁ : seen p k₁ ≡ storeView w (seen p k)
-      view₁ = let y = ready p k m d s none! in ap (seen p) (store-is p k m d s y) ∙ view-after p k m d s y
+      view₁ = let y = land-ready p k m d s none! in ap (seen p) (store-is p k m d s y) ∙ landed-view p k m d s y
 
       stores-are : sealsOf p k₁ g₀ b₀ ≡ ss
       stores-are = λ j. cond b₀ (sealStores p (view₁ j) g₀) []
@@ -342,7 +344,7 @@ module _ (p : Params) (k : Disk) (m : Memory) (d s n : ℕ) (none! : refusal p k
         whole-done : length ss ≤ n - 1 → afterChange (m .state) r (k′ .image) (k′ .pointers) tb co (m .inflight) [] ≡ callDisk p k m (land d s n)
         unfolding changeTo
         whole-done l =
-            let y = ready p k m d s none! in
+            let y = land-ready p k m d s none! in
             let u = f .done (subst (λ (x : List Store). length x ≤ n - 1) (sym stores-are) l) in
             let row₁ = row₁-is p k m d s y sized in
             let v : a ≡ Landed (writesIn (m .state) i₀) = u .0 ∙ ap (λ (x : Row). Landed (writesIn (alone x) 0)) row₁ ∙ ap Landed (row-writes st₂ i₀ ∙ same-writes p (m .state) i₀ d o₀) in
@@ -357,11 +359,11 @@ module _ (p : Params) (k : Disk) (m : Memory) (d s n : ℕ) (none! : refusal p k
             (mkMemory z (tableOf p (storeView w (seen p k)) g₀ st₂ i₀ (m .addresses)) (shownTable p (seen p k) m d s) (m .inflight)) []) x
             ∙ land-done p k m d s n none! q₀ (plan-whole p (seen p k) m d s c) (omega (arith, h))
 
-        whole-cut : n - 1 < length ss → afterChange (m .state) r (k′ .image) (k′ .pointers) tb co (m .inflight) [] ≡ callDisk p k m (land d s n)
+        land-cut-after : n - 1 < length ss → afterChange (m .state) r (k′ .image) (k′ .pointers) tb co (m .inflight) [] ≡ callDisk p k m (land d s n)
         unfolding changeTo
-        whole-cut l =
+        land-cut-after l =
             let u = f .cut (subst (λ (x : List Store). n - 1 < length x) (sym stores-are) l) in
-            let y = ready p k m d s none! in
+            let y = land-ready p k m d s none! in
             let ra : r .answer ≡ Cut = ap (λ (x : Change). x .answer) e ∙ u .0 in
             let lc : length (shownTable p (seen p k) m d s) ≡ length (m .compact) = length-set (m .compact) (compactAt p d (zoneOn (openSegment (m .state)) d) o₀) (compactEntry p s) in
             let q : mkMemory (stateAfter (m .state) r) tb co (m .inflight) ≡ cutMemory p m =
@@ -375,4 +377,4 @@ module _ (p : Params) (k : Disk) (m : Memory) (d s n : ℕ) (none! : refusal p k
           where
             go : Dec (length ss ≤ n - 1) → afterChange (m .state) r (k′ .image) (k′ .pointers) tb co (m .inflight) [] ≡ callDisk p k m (land d s n)
             go (yes l) = whole-done l
-            go (no l) = whole-cut (omega arith)
+            go (no l) = land-cut-after (omega arith)

@@ -15,7 +15,7 @@ use Rattle.law_basic.specs.Splice.{getD-part, length-part, splice-part, is-spli
 use Rattle.mem_rows.specs.declared.Row.{Row}
 use Rattle.mem_rows.specs.declared.Change.{Change}
 use Rattle.mem_rows.specs.declared.Front.{Front}
-use Rattle.mem_rows.specs.Rows.{rowOf, putRow, putFront, frontOf, changed, Sized, RowSized, row-sized, row-put, changed-row}
+use Rattle.mem_rows.specs.Rows.{slotRow, putRow, putFront, frontOf, changed, RowsSized, RowSized, row-sized, row-put, changed-row}
 use Rattle.call_land_chunk.specs.Alone.{markRow, freeRow}
 
 -- an element set within a part, and the part put back
@@ -46,13 +46,13 @@ splice-set l a n d v h f =
 unfoldable pub changeTo : Answer → Front → ℕ → Row → Bool → Change
 changeTo a f i r b = record { answer = a; stamp = f .stamp; serial = f .serial; opened = cond b 0 (f .opened); next = cond b 0 (f .next); slot = i; row = r }
 
-module _ (st : State) (i d o : ℕ) (h : i < 8) (l : d < 8) (sized : Sized st) where
+module _ (st : State) (i d o : ℕ) (h : i < 8) (l : d < 8) (sized : RowsSized st) where
   abbrev r₁ : Row
-  r₁ = markRow (rowOf st i) d o
+  r₁ = markRow (slotRow st i) d o
 
-  kept : (x : List ℕ) → length x ≡ 64 → splice x (cell i 0) (part (cell i 0) 8 x) ≡ x
+  splice-kept : (x : List ℕ) → length x ≡ 64 → splice x (cell i 0) (part (cell i 0) 8 x) ≡ x
   unfolding cell
-  kept x e = splice-part x (8 * i + 0) 8 (omega arith)
+  splice-kept x e = splice-part x (8 * i + 0) 8 (omega arith)
 
   offsets-set : splice (st .offsets) (cell i 0) (set (part (cell i 0) 8 (st .offsets)) d o) ≡ set (st .offsets) (cell i d) o
   unfolding cell
@@ -66,39 +66,39 @@ module _ (st : State) (i d o : ℕ) (h : i < 8) (l : d < 8) (sized : Sized st) w
       (splice (st .addresses) (cell i 0) (r₁ .addresses)) (splice (st .stamps) (cell i 0) (r₁ .stamps)) (splice (st .offsets) (cell i 0) (r₁ .offsets))
       ≡ mkState (st .live) (st .missing) (st .stamp .0) (st .serial .0) opened next (st .numbers) fs (st .writes) (set (st .landed) i (landedMask st i d)) (st .addresses) (st .stamps)
       (set (st .offsets) (cell i d) o)
-  unfolding markRow rowOf stripeIn landedMask
+  unfolding markRow slotRow stripeIn landedMask
   put-marked-at opened next fs =
       λ j.
       mkState (st .live) (st .missing) (st .stamp .0) (st .serial .0) opened next (set-getD (st .numbers) i 0 j) fs (set-getD (st .writes) i 0 j) (set (st .landed) i (landedMask st i d))
-      (kept (st .addresses) (sized .addresses) j) (kept (st .stamps) (sized .stamps) j) (offsets-set j)
+      (splice-kept (st .addresses) (sized .addresses) j) (splice-kept (st .stamps) (sized .stamps) j) (offsets-set j)
 
   -- the marked eighth put back
-  pub put-marked : putRow st i (markRow (rowOf st i) d o) ≡ markLanded st i d o
-  unfolding putRow markLanded markRow rowOf filledIn
+  pub put-marked : putRow st i (markRow (slotRow st i) d o) ≡ markLanded st i d o
+  unfolding putRow markLanded markRow slotRow filledIn
   put-marked =
       let f = set-getD (st .filled) i 0 in
       put-marked-at (st .opened) (st .next) (set (st .filled) i (getD (st .filled) i 0))
       ∙ (λ j. mkState (st .live) (st .missing) (st .stamp .0) (st .serial .0) (st .opened) (st .next) (st .numbers) (f j) (st .writes)
       (set (st .landed) i (landedMask st i d)) (st .addresses) (st .stamps) (set (st .offsets) (cell i d) o))
 
-  marked-sized : RowSized (markRow (rowOf st i) d o)
+  marked-sized : RowSized (markRow (slotRow st i) d o)
   unfolding markRow
   marked-sized =
       let z = row-sized st i h sized in
-      record { addresses = z .addresses; stamps = z .stamps; offsets = length-set (rowOf st i .offsets) d o ∙ z .offsets }
+      record { addresses = z .addresses; stamps = z .stamps; offsets = length-set (slotRow st i .offsets) d o ∙ z .offsets }
 
   -- the eighth of the state with the chunk landed
-  pub row-marked : markRow (rowOf st i) d o ≡ rowOf (markLanded st i d o) i
-  row-marked = sym (row-put st i h sized r₁ marked-sized) ∙ ap (λ (x : State). rowOf x i) put-marked
+  pub row-marked : markRow (slotRow st i) d o ≡ slotRow (markLanded st i d o) i
+  row-marked = sym (row-put st i h sized r₁ marked-sized) ∙ ap (λ (x : State). slotRow x i) put-marked
 
   -- 01, Landing: the chunk has landed
-  pub changed-marked : (a : Answer) → changed st (changeTo a (frontOf st) i (markRow (rowOf st i) d o) false) ≡ markLanded st i d o
+  pub changed-marked : (a : Answer) → changed st (changeTo a (frontOf st) i (markRow (slotRow st i) d o) false) ≡ markLanded st i d o
   unfolding changeTo putFront
   changed-marked a = changed-row st (changeTo a (frontOf st) i r₁ false) h ∙ put-marked
 
   -- 01, Landing: the stripe is complete, and the last one's landing closes the segment
   pub changed-freed : (a : Answer) (b : Bool)
-      → changed st (changeTo a (frontOf st) i (freeRow (markRow (rowOf st i) d o)) b) ≡ cond b (setClosed (freeStripe (markLanded st i d o) i)) (freeStripe (markLanded st i d o) i)
+      → changed st (changeTo a (frontOf st) i (freeRow (markRow (slotRow st i) d o)) b) ≡ cond b (setClosed (freeStripe (markLanded st i d o) i)) (freeStripe (markLanded st i d o) i)
   unfolding changeTo putFront putRow freeRow markLanded freeStripe setClosed
   changed-freed a true = changed-row st (changeTo a (frontOf st) i (freeRow r₁) true) h ∙ put-marked-at 0 0 (set (st .filled) i 0)
   changed-freed a false = changed-row st (changeTo a (frontOf st) i (freeRow r₁) false) h ∙ put-marked-at (st .opened) (st .next) (set (st .filled) i 0)

@@ -23,11 +23,11 @@ use Rattle.spec.specs.Params.{dataCount, inRange}
 use Rattle.law_basic.specs.Geometry.{ranged, data-count-high}
 use Rattle.law_views.specs.Views.{seen}
 use Rattle.law_calls.specs.Refusals.{rule-fails, rule-passes, state-fault, state-fine, least-zero}
-use Rattle.call_land_faults.specs.Lowest.{faultsOf, faults-are, lowest-refused, low-faults}
+use Rattle.call_land_faults.specs.Lowest.{faultsOf, land-faults-are, lowest-refused, low-faults}
 use Rattle.law_basic.specs.Ranges.{Test, test, not-both}
 use Rattle.law_basic.specs.Ranges.Test.{yes!, no! }
 use Rattle.mem_rows.specs.declared.Row.{Row}
-use Rattle.mem_rows.specs.Rows.{rowOf}
+use Rattle.mem_rows.specs.Rows.{slotRow}
 use Rattle.call_land_chunk.specs.Alone.{alone, row-ready, row-entries}
 use Rattle.call_land.specs.declared.Look.{Look}
 use Rattle.call_land.specs.Plan.{Looks, look-done, look-seals}
@@ -56,7 +56,7 @@ waits-row p st d s l w = go (test (ltb (slotOf st s) slotCount))
 
     go : Test b → (a && ltb (l .slot) slotCount && ready p (alone (l .row)) 0 d) ≡ (a && b && ready p st i d)
     go (yes! t) =
-        let e : l .row ≡ rowOf st i = w .row (unfold slotCount in ltb-true (slotOf st s) 8 t) in
+        let e : l .row ≡ slotRow st i = w .row (unfold slotCount in ltb-true (slotOf st s) 8 t) in
         (λ j. a && ltb (w .slot j) slotCount && ready p (alone (e j)) 0 d) ∙ ap (λ (x : Bool). a && b && x) (row-ready st i p d)
     go (no! t) = ap (λ (x : ℕ). a && ltb x slotCount && ready p (alone (l .row)) 0 d) (w .slot) ∙ same b t
 
@@ -69,58 +69,58 @@ faults-seen p v m d s l w h f ok =
     let e = w .row h in
     let es : entriesIn (alone (l .row)) 0 ≡ entriesIn st i = ap (λ (x : Row). entriesIn (alone x) 0) e ∙ row-entries st i (omega (arith, f, data-count-high p (ranged p ok))) in
     ap (λ (g : ℕ). least (p .Z) (faultsOf p v (m .addresses) (entriesIn (alone (l .row)) 0) d g s (l .done) (l .seals))) (w .segment)
-    ∙ ap (least (p .Z)) (faults-are p v m d s (entriesIn (alone (l .row)) 0) (l .done) (l .seals) es (look-done p st d s l w h) (look-seals p st d s l w h))
+    ∙ ap (least (p .Z)) (land-faults-are p v m d s (entriesIn (alone (l .row)) 0) (l .done) (l .seals) es (look-done p st d s l w h) (look-seals p st d s l w h))
 
 module _ (p : Params) (k : Disk) (m : Memory) (d s : ℕ) where
   -- the first refusal among the checks from the i-th on, counted from 0
-  abbrev pub from : ℕ → Opt Answer
-  from i = firstRefusal (drop i (landChecks p (lentOk p k m) (seen p k) m d s))
+  abbrev pub landFrom : ℕ → Opt Answer
+  landFrom i = firstRefusal (drop i (landChecks p (lentOk p k m) (seen p k) m d s))
 
   -- the checks after the i-th
   abbrev rest : ℕ → List Check
   rest i = drop (suc i) (landChecks p (lentOk p k m) (seen p k) m d s)
 
-  pub range-fails : inRange p ≡ false → some (Refused 1) ≡ from 0
+  pub land-range-fails : inRange p ≡ false → some (Refused 1) ≡ landFrom 0
   unfolding landChecks
-  range-fails e = sym (rule-fails 1 (not (inRange p)) (rest 0) (ap not e))
+  land-range-fails e = sym (rule-fails 1 (not (inRange p)) (rest 0) (ap not e))
 
-  pub range-passes : inRange p ≡ true → from 1 ≡ from 0
+  pub land-range-passes : inRange p ≡ true → landFrom 1 ≡ landFrom 0
   unfolding landChecks
-  range-passes e = sym (rule-passes 1 (not (inRange p)) (rest 0) (ap not e))
+  land-range-passes e = sym (rule-passes 1 (not (inRange p)) (rest 0) (ap not e))
 
-  pub lengths-fail : lentOk p k m ≡ false → some (Refused 2) ≡ from 1
+  pub land-lengths-fail : lentOk p k m ≡ false → some (Refused 2) ≡ landFrom 1
   unfolding landChecks
-  lengths-fail e = sym (rule-fails 2 (not (lentOk p k m)) (rest 1) (ap not e))
+  land-lengths-fail e = sym (rule-fails 2 (not (lentOk p k m)) (rest 1) (ap not e))
 
-  pub lengths-pass : lentOk p k m ≡ true → from 2 ≡ from 1
+  pub land-lengths-pass : lentOk p k m ≡ true → landFrom 2 ≡ landFrom 1
   unfolding landChecks
-  lengths-pass e = sym (rule-passes 2 (not (lentOk p k m)) (rest 1) (ap not e))
+  land-lengths-pass e = sym (rule-passes 2 (not (lentOk p k m)) (rest 1) (ap not e))
 
-  pub missing-fails : (m .state .missing ≡ 0 → ⊥) → some (Refused 3) ≡ from 2
+  pub land-missing-fails : (m .state .missing ≡ 0 → ⊥) → some (Refused 3) ≡ landFrom 2
   unfolding landChecks
-  missing-fails f = sym (rule-fails 3 (not (eqb (m .state .missing) 0)) (rest 2) (ap not (ne-eqb (m .state .missing) 0 f)))
+  land-missing-fails f = sym (rule-fails 3 (not (eqb (m .state .missing) 0)) (rest 2) (ap not (ne-eqb (m .state .missing) 0 f)))
 
-  pub missing-passes : m .state .missing ≡ 0 → from 3 ≡ from 2
+  pub land-missing-passes : m .state .missing ≡ 0 → landFrom 3 ≡ landFrom 2
   unfolding landChecks
-  missing-passes f = sym (rule-passes 3 (not (eqb (m .state .missing) 0)) (rest 2) (ap not (eq-eqb (m .state .missing) 0 f)))
+  land-missing-passes f = sym (rule-passes 3 (not (eqb (m .state .missing) 0)) (rest 2) (ap not (eq-eqb (m .state .missing) 0 f)))
 
-  pub waiting-fails : waiting p (m .state) d s ≡ false → some (Refused 5) ≡ from 3
+  pub waiting-fails : waiting p (m .state) d s ≡ false → some (Refused 5) ≡ landFrom 3
   unfolding landChecks
   waiting-fails e = sym (rule-fails 5 (not (waiting p (m .state) d s)) (rest 3) (ap not e))
 
-  pub waiting-passes : waiting p (m .state) d s ≡ true → from 4 ≡ from 3
+  pub waiting-passes : waiting p (m .state) d s ≡ true → landFrom 4 ≡ landFrom 3
   unfolding landChecks
   waiting-passes e = sym (rule-passes 5 (not (waiting p (m .state) d s)) (rest 3) (ap not e))
 
-  pub state-fails : stateOk p (m .state) ≡ false → some (BadZone 0) ≡ from 4
+  pub land-state-fails : stateOk p (m .state) ≡ false → some (BadZone 0) ≡ landFrom 4
   unfolding landChecks firstRefusal ninth
-  state-fails e =
+  land-state-fails e =
       let zs = landFaults p (seen p k) m d s in
       sym (ap (λ (x : List ℕ). firstRefusal (zones (x ++ zs) ∷ [])) (state-fault p (m .state) e) ∙ ap (λ (x : ℕ). some (BadZone x)) (least-zero zs))
 
   -- the last check, by the lowest bad zone
   pub faults-refused : stateOk p (m .state) ≡ true → inRange p ≡ true → openSegment (m .state) < p .Z → (z : ℕ) → z ≡ least (p .Z) (landFaults p (seen p k) m d s)
-      → firstRefusal (zones (consIf (ltb z (p .Z)) z []) ∷ []) ≡ from 4
+      → firstRefusal (zones (consIf (ltb z (p .Z)) z []) ∷ []) ≡ landFrom 4
   unfolding landChecks
   faults-refused e ok h z q =
       let zs = landFaults p (seen p k) m d s in

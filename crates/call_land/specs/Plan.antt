@@ -17,19 +17,19 @@ use Rattle.spec.specs.Layout.{compactEntry}
 use Rattle.spec.specs.Memory.{Memory, mkMemory, filledIn, isWrite, offsetIn, openSegment, inFlight, setClosed, markLanded, freeStripe, compactAt}
 use Rattle.spec.specs.Rank.{Cand}
 use Rattle.spec.specs.Params.{dataCount, inRange, footers, capacity, addressesLen}
-use Rattle.call_land_table.specs.Winners.{Sound}
+use Rattle.call_land_table.specs.Winners.{EntriesSane}
 use Rattle.law_views.specs.Views.{Whole, seen}
 use Rattle.disk_zones.specs.declared.Made.{Made}
 use Rattle.disk_zones.specs.Made.{Storing, storing-cut, storing-done, storing-none}
 use Rattle.mem_rows.specs.declared.Row.{Row}
-use Rattle.mem_rows.specs.Rows.{rowOf}
+use Rattle.mem_rows.specs.Rows.{slotRow}
 use Rattle.call_land_chunk.specs.Alone.{alone, row-completes}
 use Rattle.call_land.specs.declared.Look.{Look}
 
 -- what a landing asks of the state, asked once
 pub record Looks (p : Params) (st : State) (d s : ℕ) (l : Look) : Type 0 where
   pub slot : l .slot ≡ slotOf st s
-  pub row : slotOf st s < 8 → l .row ≡ rowOf st (slotOf st s)
+  pub row : slotOf st s < 8 → l .row ≡ slotRow st (slotOf st s)
   pub segment : l .segment ≡ openSegment st
   pub done : l .done ≡ completes p (alone (l .row)) 0 d
   pub seals : l .seals ≡ (l .done && eqb (st .next) (p .S) && eqb (length (inFlight st)) 1)
@@ -54,7 +54,7 @@ tableOf p v g st i tb = pointed p v tb (landedCands p v g st i) (landedCands p v
 -- what completing the stripe of row r in segment g asks: drives, table and stripe fit; b: it seals the segment
 abbrev pub Complete : Params → List ℕ → Row → ℕ → Bool → Disk → Type 0
 Complete p tb r g b k =
-    (inRange p ≡ true) × (Whole p k × (((length tb ≡ addressesLen p) × Sound p (alone r) 0 tb)
+    (inRange p ≡ true) × (Whole p k × (((length tb ≡ addressesLen p) × EntriesSane p (alone r) 0 tb)
     × (((filledIn (alone r) 0 ≤ dataCount p) × ((d : ℕ) → d < p .N → offsetIn (alone r) 0 d < p .S))
     × ((g < p .Z) × (b ≡ true → (d : ℕ) → d < p .N → pointerOf p (k .pointers) d (zoneOn g d) + footers p ≤ capacity p)))))
 

@@ -30,14 +30,14 @@ use Rattle.law_views.specs.Views.{Whole, pointer-view, seen}
 use Rattle.law_drives.specs.Members.{if-none}
 use Rattle.law_checks.specs.Passed.{nil-both, land-passed}
 use Rattle.call_land_faults.specs.Lowest.{entry-placed}
-use Rattle.call_land_table.specs.Winners.{IsData, Sane, Sound}
+use Rattle.call_land_table.specs.Winners.{IsData, Sane, EntriesSane}
 use Rattle.call_write.specs.Ready.{lent-long}
 
 -- 01, Refusals: the first check of a landing that holds, on what it is lent
-abbrev pub refusal : Params → Disk → Memory → ℕ → ℕ → Opt Answer
-refusal p k m d s = firstRefusal (landChecks p (lentOk p k m) (seen p k) m d s)
+abbrev pub landRefusal : Params → Disk → Memory → ℕ → ℕ → Opt Answer
+landRefusal p k m d s = firstRefusal (landChecks p (lentOk p k m) (seen p k) m d s)
 
-pub record Ready (p : Params) (k : Disk) (m : Memory) (d s : ℕ) : Type 0 where
+pub record LandReady (p : Params) (k : Disk) (m : Memory) (d s : ℕ) : Type 0 where
   pub ranged : inRange p ≡ true
   pub whole : Whole p k
   pub addresses-long : length (m .addresses) ≡ addressesLen p
@@ -56,8 +56,8 @@ waits-low p st d s e =
     let w = and-left (ltb d (p .N) && ltb i 8) (isReady p st i d) e in
     (ltb-true d (p .N) (and-left (ltb d (p .N)) (ltb i 8) w), ltb-true i 8 (and-right (ltb d (p .N)) (ltb i 8) w))
 
-pub ready : (p : Params) (k : Disk) (m : Memory) (d s : ℕ) → refusal p k m d s ≡ none → Ready p k m d s
-ready p k m d s e =
+pub land-ready : (p : Params) (k : Disk) (m : Memory) (d s : ℕ) → landRefusal p k m d s ≡ none → LandReady p k m d s
+land-ready p k m d s e =
     let c = land-passed p (lentOk p k m) (seen p k) m d s e in
     let l = lent-long p k m (c .lent) in
     let w = waits-low p (m .state) d s (c .waits) in
@@ -79,9 +79,9 @@ module _ (p : Params) (st : State) (fine : stateOk p st ≡ true) where
   abbrev lives : Bool
   lives = eqb (st .live) 1 && ltb (st .missing) (2 ^ p .N) && leb (ones (st .missing)) 1
 
-  parts : (leb (st .opened) (p .Z) ≡ true) × (all (slotOk p st) slots ≡ true) × (all (λ o. ltb o (p .S)) (st .offsets) ≡ true)
+  state-ok-parts : (leb (st .opened) (p .Z) ≡ true) × (all (slotOk p st) slots ≡ true) × (all (λ o. ltb o (p .S)) (st .offsets) ≡ true)
   unfolding stateOk
-  parts =
+  state-ok-parts =
       let a = leb (st .opened) (p .Z) in
       let b = leb (st .next) (p .S) in
       let c = all (slotOk p st) slots in
@@ -93,7 +93,7 @@ module _ (p : Params) (st : State) (fine : stateOk p st ≡ true) where
 
   pub segment-low : 0 < p .Z → openSegment st < p .Z
   unfolding openSegment
-  segment-low h = omega (arith, leb-true (st .opened) (p .Z) (parts .0))
+  segment-low h = omega (arith, leb-true (st .opened) (p .Z) (state-ok-parts .0))
 
   pub filled-low : (i : ℕ) → i < 8 → filledIn st i ≤ dataCount p
   unfolding slots slotCount slotOk
@@ -102,10 +102,10 @@ module _ (p : Params) (st : State) (fine : stateOk p st ≡ true) where
       let b = leb (filledIn st i) (dataCount p) in
       let c = ltb (getD (st .writes) i 0) (2 ^ dataCount p) in
       let d = ltb (landedIn st i) (2 ^ p .N) in
-      leb-true (filledIn st i) (dataCount p) (and-right a b (and-left (a && b) c (and-left (a && b && c) d (all-in-below (slotOk p st) 8 i (parts .1) h))))
+      leb-true (filledIn st i) (dataCount p) (and-right a b (and-left (a && b) c (and-left (a && b && c) d (all-in-below (slotOk p st) 8 i (state-ok-parts .1) h))))
 
-  low-in : (l : List ℕ) → all (λ o. ltb o (p .S)) l ≡ true → 0 < p .S → (j : ℕ) → getD l j 0 < p .S
-  low-in l e h j = go (decLt j (length l))
+  all-offsets-low : (l : List ℕ) → all (λ o. ltb o (p .S)) l ≡ true → 0 < p .S → (j : ℕ) → getD l j 0 < p .S
+  all-offsets-low l e h j = go (decLt j (length l))
     where
       go : Dec (j < length l) → getD l j 0 < p .S
       go (yes x) = ltb-true (getD l j 0) (p .S) (all-getD (λ o. ltb o (p .S)) l j 0 e x)
@@ -121,16 +121,16 @@ module _ (p : Params) (st : State) (fine : stateOk p st ≡ true) where
   -- 01, Landing: the offsets that are remembered, with one more
   pub offsets-low : (i d o e : ℕ) → o < p .S → offsetIn (markLanded st i d o) i e < p .S
   unfolding offsetIn markLanded
-  offsets-low i d o e h = set-low (st .offsets) (cell i d) o (low-in (st .offsets) (parts .2) (omega arith)) h (cell i e)
+  offsets-low i d o e h = set-low (st .offsets) (cell i d) o (all-offsets-low (st .offsets) (state-ok-parts .2) (omega arith)) h (cell i e)
 
 -- ---- what no bad zone says
 
-flat-nothing : {A : Type 0} (f : A → List ℕ) (g : ℕ → A) (i n k : ℕ) → flat f (map g (upFrom i n)) ≡ [] → i ≤ k → k < i + n → f (g k) ≡ []
+flat-nothing-at : {A : Type 0} (f : A → List ℕ) (g : ℕ → A) (i n k : ℕ) → flat f (map g (upFrom i n)) ≡ [] → i ≤ k → k < i + n → f (g k) ≡ []
 unfolding upFrom flat
-flat-nothing f g i zero k e h l = absurd (let w : ⊥ = omega arith in w)
-flat-nothing {A} f g i (suc n) k e h l =
+flat-nothing-at f g i zero k e h l = absurd (let w : ⊥ = omega arith in w)
+flat-nothing-at {A} f g i (suc n) k e h l =
     let w = nil-both (f (g i)) (flat f (map g (upFrom (suc i) n))) e in
-    go (ℕ-discrete i k) (w .0) (λ x. flat-nothing f g (suc i) n k (w .1) x (omega arith))
+    go (ℕ-discrete i k) (w .0) (λ x. flat-nothing-at f g (suc i) n k (w .1) x (omega arith))
   where
     go : Dec (i ≡ k) → f (g i) ≡ [] → (suc i ≤ k → f (g k) ≡ []) → f (g k) ≡ []
     go (yes q) a b = ap (λ (x : ℕ). f (g x)) (sym q) ∙ a
@@ -164,7 +164,7 @@ place-data p v q e = go (test (leb (p .N) (placeDrive p q)))
 entry-sane : (p : Params) (v : View) (tb : List ℕ) (e : Rec) → entryFaults p v tb e ≡ [] → e .address < p .L → Sane p (placeAt tb (e .address))
 entry-sane p v tb e f h n = place-data p v (placeAt tb (e .address)) (sym (entry-placed p v tb e h n) ∙ f)
 
-module _ (p : Params) (k : Disk) (m : Memory) (d s : ℕ) (r : Ready p k m d s) where
+module _ (p : Params) (k : Disk) (m : Memory) (d s : ℕ) (r : LandReady p k m d s) where
   abbrev slot : ℕ
   slot = slotOf (m .state) s
 
@@ -174,9 +174,10 @@ module _ (p : Params) (k : Disk) (m : Memory) (d s : ℕ) (r : Ready p k m d s) 
   abbrev entries : List ℕ
   entries = flat (entryFaults p (seen p k) (m .addresses)) (entriesIn (m .state) slot)
 
-  faults : (misplaced p (seen p k) d (zoneOn segment d) s ≡ false) × ((seals p (m .state) slot d && overfull p (seen p k) d segment) ≡ false) × (cond (completes p (m .state) slot d) entries [] ≡ [])
+  land-faults-none : (misplaced p (seen p k) d (zoneOn segment d) s ≡ false) × ((seals p (m .state) slot d && overfull p (seen p k) d segment) ≡ false)
+      × (cond (completes p (m .state) slot d) entries [] ≡ [])
   unfolding landFaults
-  faults =
+  land-faults-none =
       let b = seals p (m .state) slot d && overfull p (seen p k) d segment in
       let ws : List ℕ = cond (completes p (m .state) slot d) entries [] in
       let x = if-none (misplaced p (seen p k) d (zoneOn segment d) s) segment (consIf b segment ws) (r .faultless) in
@@ -186,35 +187,36 @@ module _ (p : Params) (k : Disk) (m : Memory) (d s : ℕ) (r : Ready p k m d s) 
   pub open-low : openSegment (m .state) < p .Z
   open-low = segment-low p (m .state) (r .fine) (omega (arith, rangedIn p (r .ranged) .zones-low))
 
-  pub zone-low : zoneOn (openSegment (m .state)) d < p .Z
-  zone-low = zone-on-lt p segment d open-low
+  pub open-zone-low : zoneOn (openSegment (m .state)) d < p .Z
+  open-zone-low = zone-on-lt p segment d open-low
 
   pub slot-filled : filledIn (m .state) (slotOf (m .state) s) ≤ dataCount p
   slot-filled = filled-low p (m .state) (r .fine) slot (r .slot-low)
 
   -- 01, Refusals, 9: the pointer is at a data block
-  pub pointer-data : (1 ≤ pointerOf p (k .pointers) d (zoneOn (openSegment (m .state)) d)) × (pointerOf p (k .pointers) d (zoneOn (openSegment (m .state)) d) ≤ p .S)
+  pub land-pointer-data : (1 ≤ pointerOf p (k .pointers) d (zoneOn (openSegment (m .state)) d)) × (pointerOf p (k .pointers) d (zoneOn (openSegment (m .state)) d) ≤ p .S)
   unfolding misplaced
-  pointer-data =
+  land-pointer-data =
       let n = pointerAt (seen p k) d (zoneOn segment d) in
-      let c = and-left (between 1 (p .S) n) (eqb (group p (n - 1)) (group p s)) (not-false (between 1 (p .S) n && eqb (group p (n - 1)) (group p s)) (faults .0)) in
-      let q = pointer-view p k d (zoneOn segment d) (r .drive-low) zone-low (r .whole) in
+      let c = and-left (between 1 (p .S) n) (eqb (group p (n - 1)) (group p s)) (not-false (between 1 (p .S) n && eqb (group p (n - 1)) (group p s)) (land-faults-none .0)) in
+      let q = pointer-view p k d (zoneOn segment d) (r .drive-low) open-zone-low (r .whole) in
       (omega (arith, q, between-low 1 (p .S) n c), omega (arith, q, between-high 1 (p .S) n c))
 
   -- the places that the table holds of the stripe's addresses are those of data blocks
-  pub table-sound : completes p (m .state) (slotOf (m .state) s) d ≡ true → (o : ℕ) → Sound p (markLanded (m .state) (slotOf (m .state) s) d o) (slotOf (m .state) s) (m .addresses)
+  pub table-sound : completes p (m .state) (slotOf (m .state) s) d ≡ true → (o : ℕ) → EntriesSane p (markLanded (m .state) (slotOf (m .state) s) d o) (slotOf (m .state) s) (m .addresses)
   unfolding entryIn entriesIn filledIn markLanded below stripeIn
   table-sound c o h l a =
-      let e : entries ≡ [] = subst (λ (x : Bool). cond {A = List ℕ} x entries [] ≡ []) c (faults .2) in
+      let e : entries ≡ [] = subst (λ (x : Bool). cond {A = List ℕ} x entries [] ≡ []) c (land-faults-none .2) in
       entry-sane p (seen p k) (m .addresses) (entryIn (m .state) slot h)
-      (flat-nothing (entryFaults p (seen p k) (m .addresses)) (entryIn (m .state) slot) 0 (filledIn (m .state) slot) h e (omega arith) (omega arith)) a
+      (flat-nothing-at (entryFaults p (seen p k) (m .addresses)) (entryIn (m .state) slot) 0 (filledIn (m .state) slot) h e (omega arith) (omega arith)) a
 
   -- 01, Refusals, 9: room for the footers on every drive, once the chunk is stored
-  pub feet-room : seals p (m .state) (slotOf (m .state) s) d ≡ true → (e : ℕ) → e < p .N → pointerOf p (k .pointers) e (zoneOn (openSegment (m .state)) e) + cond (eqb e d) 1 0 + footers p ≤ capacity p
+  pub land-feet-room : seals p (m .state) (slotOf (m .state) s) d ≡ true → (e : ℕ) → e < p .N
+      → pointerOf p (k .pointers) e (zoneOn (openSegment (m .state)) e) + cond (eqb e d) 1 0 + footers p ≤ capacity p
   unfolding overfull drivesOf below
-  feet-room c e he =
+  land-feet-room c e he =
       let f : ℕ → Bool = λ x. ltb (capacity p) (pointerAt (seen p k) x (zoneOn segment x) + cond (eqb x d) 1 0 + footers p) in
-      let o : any f (upFrom 0 (p .N)) ≡ false = subst (λ (x : Bool). (x && overfull p (seen p k) d segment) ≡ false) c (faults .1) in
+      let o : any f (upFrom 0 (p .N)) ≡ false = subst (λ (x : Bool). (x && overfull p (seen p k) d segment) ≡ false) c (land-faults-none .1) in
       let q = pointer-view p k e (zoneOn segment e) he (zone-on-lt p segment e open-low) (r .whole) in
       let u = ltb-false (capacity p) (pointerAt (seen p k) e (zoneOn segment e) + cond (eqb e d) 1 0 + footers p) (any-false f 0 (p .N) e o (omega arith) (omega arith)) in
       subst (λ (x : ℕ). x + cond (eqb e d) 1 0 + footers p ≤ capacity p) q u

@@ -18,8 +18,8 @@ ghost use Rattle.spec.specs.Params.{inRange, dataCount, footers, capacity, addr
 ghost use Rattle.call_land.specs.Ends.{Chosen};
 ghost use Rattle.call_land.specs.Marked.{changeTo};
 ghost use Rattle.call_land.specs.Plan.{Looks, sealsOf, Completing};
-ghost use Rattle.call_land.specs.Ready.{refusal};
-ghost use Rattle.call_land_table.specs.Winners.{Sound};
+ghost use Rattle.call_land.specs.Ready.{landRefusal};
+ghost use Rattle.call_land_table.specs.Winners.{EntriesSane};
 ghost use Rattle.mem_rows.specs.Rows.{afterChange};
 ghost use Rattle.law_views.specs.Views.{Whole};
 ghost use Rattle.call_land_chunk.specs.Alone.{alone, markRow};
@@ -91,7 +91,7 @@ fn checks(
     requires { ⌜ (missing ≡ stateOf (now bytes) .missing) × (length (now bytes) ≡ stateLen) ⌝ }
     ensures { λ r. ⌜
         checked r
-        ≡ refusal p (mkDisk (now (image .entry)) (now (pointers .entry)))
+        ≡ landRefusal p (mkDisk (now (image .entry)) (now (pointers .entry)))
         (mkMemory (stateOf (now (bytes .entry))) (now (addresses .entry)) (now (compact .entry)) (now (inflight .entry))) drive stripe ⌝ }
 {
     if !disk_shape::in_range(p) {
@@ -253,7 +253,7 @@ fn complete(
 ) -> Answer
     requires { ⌜ inRange p ≡ true ⌝ }
     requires { ⌜ Whole p (mkDisk (now image) (now pointers)) ⌝ }
-    requires { ⌜ (length (now addresses) ≡ addressesLen p) × Sound p (alone row) 0 (now addresses) ⌝ }
+    requires { ⌜ (length (now addresses) ≡ addressesLen p) × EntriesSane p (alone row) 0 (now addresses) ⌝ }
     requires { ⌜ (filledIn (alone row) 0 ≤ dataCount p) × ((d : ℕ) → d < p .N → offsetIn (alone row) 0 d < p .S) ⌝ }
     requires { ⌜ (segment < p .Z) × (seals ≡ true → (d : ℕ) → d < p .N → pointerOf p (now pointers) d (zoneOn segment d) + footers p ≤ capacity p) ⌝ }
     ensures { λ r. ⌜

@@ -7,7 +7,7 @@ ghost use Rattle.spec.specs.Landing.{ready, completes, flightRec, writesIn};
 ghost use Rattle.spec.specs.Memory.{slotCount, stripeIn, filledIn, entryIn, entriesIn, offsetIn};
 ghost use Rattle.spec.specs.Params.{inRange};
 ghost use Rattle.spec.specs.Parity.{parityRec};
-ghost use Rattle.disk_records.specs.Record.{recOf};
+ghost use Rattle.disk_records.specs.Record.{recVal};
 ghost use Rattle.call_land_chunk.specs.Alone.{alone, markRow, freeRow};
 use disk_records::Record;
 use mem_rows::Row;
@@ -87,7 +87,7 @@ pub fn is_last(p: Params, done: bool, next: u32, flying: usize) -> bool
 // 01, Write: the record of data position k.
 pub fn entry(row: Row, k: usize) -> Record
     requires { ⌜ k < 8 ⌝ }
-    ensures { λ r. ⌜ recOf r ≡ entryIn (alone row) 0 k ⌝ }
+    ensures { λ r. ⌜ recVal r ≡ entryIn (alone row) 0 k ⌝ }
 {
     let a = row.addresses[k];
     let t = row.stamps[k];
@@ -110,7 +110,7 @@ pub fn offset_in(row: Row, drive: usize) -> usize
 // 01, What a zone holds: the parity's record, from the filled positions.
 pub fn parity_entry(row: Row) -> Record
     requires { ⌜ filledIn (alone row) 0 ≤ 8 ⌝ }
-    ensures { λ r. ⌜ recOf r ≡ parityRec (stripeIn (alone row) 0) (entriesIn (alone row) 0) ⌝ }
+    ensures { λ r. ⌜ recVal r ≡ parityRec (stripeIn (alone row) 0) (entriesIn (alone row) 0) ⌝ }
 {
     let n = filled_in(row);
     let mut a = 0;
@@ -131,7 +131,7 @@ pub fn parity_entry(row: Row) -> Record
 // 01, What a zone holds: the record of the stripe's chunk on drive d.
 pub fn flight_record(p: Params, row: Row, d: usize) -> Record
     requires { ⌜ (inRange p ≡ true) × (d < p .N) × (filledIn (alone row) 0 ≤ 8) ⌝ }
-    ensures { λ r. ⌜ recOf r ≡ flightRec p (alone row) 0 d ⌝ }
+    ensures { λ r. ⌜ recVal r ≡ flightRec p (alone row) 0 d ⌝ }
 {
     let s = whole(row.number);
     if disk_shape::is_data(p, s, d) {

@@ -236,9 +236,9 @@ module _ (Z g : ℕ) (hg : g < Z) where
   unfolding least consIf
   segment-full = omega arith
 
-  pub segment-fine : Z ≡ least Z (consIf false g (consIf false g []))
+  pub land-segment-fine : Z ≡ least Z (consIf false g (consIf false g []))
   unfolding least consIf
-  segment-fine = refl
+  land-segment-fine = refl
 
 if-append : (a b : Bool) (g : ℕ) (zs : List ℕ) → consIf a g (consIf b g zs) ≡ consIf a g (consIf b g []) ++ zs
 unfolding consIf
@@ -254,11 +254,11 @@ faultsOf p v tb es d g s b c =
     consIf (misplaced p v d (zoneOn g d) s) g (consIf (c && overfull p v d g) g (cond b zs []))
 
 -- 01, Refusals, 9: they are those of the definition
-pub faults-are : (p : Params) (v : View) (m : Memory) (d s : ℕ) (es : List Rec) (b c : Bool) → es ≡ entriesIn (m .state) (slotOf (m .state) s)
+pub land-faults-are : (p : Params) (v : View) (m : Memory) (d s : ℕ) (es : List Rec) (b c : Bool) → es ≡ entriesIn (m .state) (slotOf (m .state) s)
     → b ≡ completes p (m .state) (slotOf (m .state) s) d → c ≡ seals p (m .state) (slotOf (m .state) s) d
     → faultsOf p v (m .addresses) es d (openSegment (m .state)) s b c ≡ landFaults p v m d s
 unfolding faultsOf landFaults
-faults-are p v m d s es b c e f h =
+land-faults-are p v m d s es b c e f h =
     let g = openSegment (m .state) in
     λ j. consIf (misplaced p v d (zoneOn g d) s) g (consIf (h j && overfull p v d g) g (cond (f j) (flat (entryFaults p v (m .addresses)) (e j)) []))
 

@@ -58,19 +58,19 @@ module _ (p : Params) (c : capacity p < 256 ^ 4) (d z : ℕ) (hd : d < p .N) (hz
 -- ---- footer blocks have their length
 
 module _ (p : Params) (r : Ranged p) (k : Disk) (w : Whole p k) (d z : ℕ) (hd : d < p .N) (hz : z < p .Z) where
-  spare-long : (b : ℕ) → b < capacity p → length (getD (zoneAt (seen p k) d z .blocks) b noChunk .spare) ≡ spareLen
+  view-spare-long : (b : ℕ) → b < capacity p → length (getD (zoneAt (seen p k) d z .blocks) b noChunk .spare) ≡ spareLen
   unfolding chunkAt unitLen
-  spare-long b hb =
+  view-spare-long b hb =
       let a = placeByte p (placeOf p d z b) in
       ap length (spare-view p k d z hd hz w b hb) ∙ length-part (a + p .B) spareLen (k .image) (omega (arith, block-within p d z b hd hz hb, w .image-long))
 
-  spares-long : Long spareLen (sparesOf (take (p .S) (drop 1 (zoneAt (seen p k) d z .blocks))))
+  view-spares-long : Long spareLen (sparesOf (take (p .S) (drop 1 (zoneAt (seen p k) d z .blocks))))
   unfolding sparesOf
-  spares-long s m =
+  view-spares-long s m =
       let bs = zoneAt (seen p k) d z .blocks in
       let (c, i, e) = map-in (λ (c : Chunk). c .spare) (take (p .S) (drop 1 bs)) s m in
       let (b, h, f) = getD-in bs noChunk c (in-drop 1 bs c (in-take (p .S) (drop 1 bs) c i)) in
-      ap length (e ∙ ap (λ (x : Chunk). x .spare) f) ∙ spare-long b (subst (λ (x : ℕ). b < x) (blocks-long p k d z hd hz w) h)
+      ap length (e ∙ ap (λ (x : Chunk). x .spare) f) ∙ view-spare-long b (subst (λ (x : ℕ). b < x) (blocks-long p k d z hd hz w) h)
 
   -- the footers' stores of a zone as it is leave the drives whole, and the other drives' zones
   pub footers-leave : (q : Zone) (n : ℕ) → q ≡ zoneAt (seen p k) d z → pointerOf p (k .pointers) d z + n ≤ capacity p
@@ -83,7 +83,7 @@ module _ (p : Params) (r : Ranged p) (k : Disk) (w : Whole p k) (d z : ℕ) (hd 
       let l : length (map (footerBlock p ss) (upFrom 0 n)) ≡ n = length-map (upFrom 0 n) (footerBlock p ss) ∙ length-upFrom 0 n in
       subst (λ (x : Zone). Whole p (storeAll (storeDisk p) (footerStores p d z x 0 n) k)
       × ((e y : ℕ) → (e ≡ d → ⊥) → zoneAt (seen p (storeAll (storeDisk p) (footerStores p d z x 0 n) k)) e y ≡ zoneAt (seen p k) e y)) (sym e)
-      (puts-leave p c d z hd hz (map (footerBlock p ss) (upFrom 0 n)) k w (long-upFrom (p .B) (footerBlock p ss) 0 n (λ j _ _. length-footer p r ss j spares-long)) (omega (arith, l)))
+      (puts-leave p c d z hd hz (map (footerBlock p ss) (upFrom 0 n)) k w (long-upFrom (p .B) (footerBlock p ss) 0 n (λ j _ _. length-footer p r ss j view-spares-long)) (omega (arith, l)))
 
 -- ---- drive by drive
 
@@ -129,8 +129,8 @@ module _ (p : Params) (k₀ : Disk) (g number d left : ℕ) (k : Disk) (s : Seal
     as-came : Storing p left (feet p k₀ g number d) k m k′
     as-came = subst (λ (q : Zone). Storing p left (footerStores p d (zoneOn g d) q 0 (footers p)) k m k′) (s .rest d (omega arith) hd) h
 
-    joined : Storing p number (flat (feet p k₀ g number) (below (d + 1))) k₀ m k′
-    joined =
+    feet-joined : Storing p number (flat (feet p k₀ g number) (below (d + 1))) k₀ m k′
+    feet-joined =
         subst (λ (x : List Store). Storing p number x k₀ m k′) (sym (flat-below-snoc (feet p k₀ g number) d))
         (storing-join p number (flat (feet p k₀ g number) (below d)) k₀ (record { left = left; cut = false }) k (s .made) (feet p k₀ g number d) m k′ refl as-came)
 
@@ -141,7 +141,7 @@ module _ (p : Params) (k₀ : Disk) (g number d left : ℕ) (k : Disk) (s : Seal
         let f = footers-leave p r k (s .whole) d (zoneOn g d) hd hz (zoneAt (seen p k₀) d (zoneOn g d)) (footers p) (sym (s .rest d (omega arith) hd)) room in
         record {
           within = omega arith;
-          made = subst (λ (x : Made). Storing p number (flat (feet p k₀ g number) (below (d + 1))) k₀ x k′) (λ j. record { left = m .left; cut = e j }) joined;
+          made = subst (λ (x : Made). Storing p number (flat (feet p k₀ g number) (below (d + 1))) k₀ x k′) (λ j. record { left = m .left; cut = e j }) feet-joined;
           whole = subst (λ (x : Disk). Whole p x) (sym a) (f .0);
           rest = λ x l l′. ap (λ (y : Disk). zoneAt (seen p y) x (zoneOn g x)) a ∙ f .1 x (zoneOn g x) (λ q. let y : ⊥ = omega arith in y) ∙ s .rest x (omega arith) l′;
         }
@@ -155,4 +155,4 @@ module _ (p : Params) (k₀ : Disk) (g number d left : ℕ) (k : Disk) (s : Seal
         let n : (d + 1) + (p .N - (d + 1)) ≡ p .N = omega arith in
         let q : upFrom 0 (p .N) ≡ upFrom 0 (d + 1) ++ upFrom (0 + (d + 1)) (p .N - (d + 1)) = ap (upFrom 0) (sym n) ∙ upFrom-add 0 (d + 1) (p .N - (d + 1)) in
         subst (λ (x : List Store). Storing p number x k₀ m k′) (sym (ap (flat ft) q ∙ flat-append ft (upFrom 0 (d + 1)) (upFrom (0 + (d + 1)) (p .N - (d + 1)))))
-        (storing-stop p number (flat ft (below (d + 1))) k₀ m k′ joined ts e)
+        (storing-stop p number (flat ft (below (d + 1))) k₀ m k′ feet-joined ts e)

@@ -30,41 +30,41 @@ abbrev pub Sane : Params → ℕ → Type 0
 Sane p q = (q ≡ neverPlace → ⊥) → IsData p q
 
 -- 01, Refusals, 9: the places that the table holds of the stripe's addresses can be read
-abbrev pub Sound : Params → State → ℕ → List ℕ → Type 0
-Sound p st i tb = (k : ℕ) → k < filledIn st i → entryIn st i k .address < p .L → Sane p (placeAt tb (entryIn st i k .address))
+abbrev pub EntriesSane : Params → State → ℕ → List ℕ → Type 0
+EntriesSane p st i tb = (k : ℕ) → k < filledIn st i → entryIn st i k .address < p .L → Sane p (placeAt tb (entryIn st i k .address))
 
 -- 01, The calls: of the table's record of an address and the records cs, the place of the one that holds
 abbrev pub winnerOf : Params → View → List ℕ → List Cand → ℕ → ℕ
 winnerOf p v tb cs a = placeOr (best (held p v tb a) (candsOf a cs))
 
 -- the places qs, by data position, put at the addresses of the positions
-unfoldable pub putAll : Params → State → ℕ → List ℕ → List ℕ → List ℕ → List ℕ
-putAll p st i qs [] t = t
-putAll p st i qs (k ∷ ks) t =
+unfoldable pub putWinners : Params → State → ℕ → List ℕ → List ℕ → List ℕ → List ℕ
+putWinners p st i qs [] t = t
+putWinners p st i qs (k ∷ ks) t =
     let a = entryIn st i k .address in
-    putAll p st i qs ks (cond (ltb a (p .L)) (setPlace t a (getD qs k 0)) t)
+    putWinners p st i qs ks (cond (ltb a (p .L)) (setPlace t a (getD qs k 0)) t)
 
 module _ (p : Params) (st : State) (i : ℕ) (qs : List ℕ) where
   -- a turn: the address is below L, or it isn't
   pub put-one : (k n : ℕ) (t : List ℕ) → k < n → entryIn st i k .address < p .L
-      → putAll p st i qs (upFrom (k + 1) (n - (k + 1))) (setPlace t (entryIn st i k .address) (getD qs k 0)) ≡ putAll p st i qs (upFrom k (n - k)) t
-  unfolding putAll
+      → putWinners p st i qs (upFrom (k + 1) (n - (k + 1))) (setPlace t (entryIn st i k .address) (getD qs k 0)) ≡ putWinners p st i qs (upFrom k (n - k)) t
+  unfolding putWinners
   put-one k n t h l =
       let a = entryIn st i k .address in
-      ap (λ (x : Bool). putAll p st i qs (upFrom (k + 1) (n - (k + 1))) (cond x (setPlace t a (getD qs k 0)) t)) (sym (lt-ltb a (p .L) l))
-      ∙ ap (λ (x : List ℕ). putAll p st i qs x t) (sym (upFrom-step k n h))
+      ap (λ (x : Bool). putWinners p st i qs (upFrom (k + 1) (n - (k + 1))) (cond x (setPlace t a (getD qs k 0)) t)) (sym (lt-ltb a (p .L) l))
+      ∙ ap (λ (x : List ℕ). putWinners p st i qs x t) (sym (upFrom-step k n h))
 
   pub put-none : (k n : ℕ) (t : List ℕ) → k < n → p .L ≤ entryIn st i k .address
-      → putAll p st i qs (upFrom (k + 1) (n - (k + 1))) t ≡ putAll p st i qs (upFrom k (n - k)) t
-  unfolding putAll
+      → putWinners p st i qs (upFrom (k + 1) (n - (k + 1))) t ≡ putWinners p st i qs (upFrom k (n - k)) t
+  unfolding putWinners
   put-none k n t h l =
       let a = entryIn st i k .address in
-      ap (λ (x : Bool). putAll p st i qs (upFrom (k + 1) (n - (k + 1))) (cond x (setPlace t a (getD qs k 0)) t)) (sym (le-ltb a (p .L) l))
-      ∙ ap (λ (x : List ℕ). putAll p st i qs x t) (sym (upFrom-step k n h))
+      ap (λ (x : Bool). putWinners p st i qs (upFrom (k + 1) (n - (k + 1))) (cond x (setPlace t a (getD qs k 0)) t)) (sym (le-ltb a (p .L) l))
+      ∙ ap (λ (x : List ℕ). putWinners p st i qs x t) (sym (upFrom-step k n h))
 
-  pub put-end : (k n : ℕ) (t : List ℕ) → n ≤ k → putAll p st i qs (upFrom k (n - k)) t ≡ t
-  unfolding putAll
-  put-end k n t h = ap (λ (x : List ℕ). putAll p st i qs x t) (upFrom-end k n h)
+  pub put-end : (k n : ℕ) (t : List ℕ) → n ≤ k → putWinners p st i qs (upFrom k (n - k)) t ≡ t
+  unfolding putWinners
+  put-end k n t h = ap (λ (x : List ℕ). putWinners p st i qs x t) (upFrom-end k n h)
 
   -- 01, Landing: with the places that hold, that is the table when the stripe completes
   module _ (v : View) (tb : List ℕ) (g : ℕ) where
@@ -75,20 +75,20 @@ module _ (p : Params) (st : State) (i : ℕ) (qs : List ℕ) where
 
     puts-from : (cs : List Cand) (k n : ℕ) (t : List ℕ)
         → ((h : ℕ) → k ≤ h → h < k + n → entryIn st i h .address < p .L → getD qs h 0 ≡ winnerOf p v tb cs (entryIn st i h .address))
-        → putAll p st i qs (upFrom k n) t ≡ pointed p v tb cs (map (landedCand p v g st i) (upFrom k n)) t
-    unfolding putAll pointed landedCand upFrom
+        → putWinners p st i qs (upFrom k n) t ≡ pointed p v tb cs (map (landedCand p v g st i) (upFrom k n)) t
+    unfolding putWinners pointed landedCand upFrom
     puts-from cs k zero t e = refl
     puts-from cs k (suc n) t e =
         let a = entryIn st i k .address in
         let w : List ℕ = cond (ltb a (p .L)) (setPlace t a (winnerOf p v tb cs a)) t in
-        ap (putAll p st i qs (upFrom (suc k) n))
+        ap (putWinners p st i qs (upFrom (suc k) n))
         (put-same (ltb a (p .L)) a (getD qs k 0) (winnerOf p v tb cs a) t (λ q. e k (omega arith) (omega arith) (ltb-true a (p .L) q)))
         ∙ puts-from cs (suc k) n w (λ h l m. e h (omega arith) (omega arith))
 
-    pub puts-are : ((h : ℕ) → h < filledIn st i → entryIn st i h .address < p .L → getD qs h 0 ≡ winnerOf p v tb (landedCands p v g st i) (entryIn st i h .address))
-        → putAll p st i qs (below (filledIn st i)) tb ≡ pointed p v tb (landedCands p v g st i) (landedCands p v g st i) tb
+    pub winners-are : ((h : ℕ) → h < filledIn st i → entryIn st i h .address < p .L → getD qs h 0 ≡ winnerOf p v tb (landedCands p v g st i) (entryIn st i h .address))
+        → putWinners p st i qs (below (filledIn st i)) tb ≡ pointed p v tb (landedCands p v g st i) (landedCands p v g st i) tb
     unfolding landedCands below
-    puts-are e = puts-from (landedCands p v g st i) 0 (filledIn st i) tb (λ h l m. e h (omega arith))
+    winners-are e = puts-from (landedCands p v g st i) 0 (filledIn st i) tb (λ h l m. e h (omega arith))
 
 -- ---- the records compete one after the other
 
@@ -99,9 +99,9 @@ module _ (a : ℕ) where
   other-address b c cs n = ap (best b) (sym (keep-miss (λ (x : Cand). eqb (x .address) a) c cs (ne-eqb (c .address) a n)))
 
   -- a record of the address
-  pub same-address : (b b′ : Opt Cand) (c : Cand) (cs : List Cand) → c .address ≡ a → b′ ≡ better b c → best b′ (candsOf a cs) ≡ best b (candsOf a (c ∷ cs))
+  pub best-same-address : (b b′ : Opt Cand) (c : Cand) (cs : List Cand) → c .address ≡ a → b′ ≡ better b c → best b′ (candsOf a cs) ≡ best b (candsOf a (c ∷ cs))
   unfolding candsOf best
-  same-address b b′ c cs e f =
+  best-same-address b b′ c cs e f =
       ap (λ (x : Opt Cand). best x (candsOf a cs)) f
       ∙ ap (best b) (sym (keep-hit (λ (x : Cand). eqb (x .address) a) c cs (eq-eqb (c .address) a e)))
 
@@ -113,10 +113,10 @@ module _ (p : Params) (v : View) (g : ℕ) (st : State) (i a : ℕ) where
       ap (λ (x : List ℕ). best b (candsOf a (map (landedCand p v g st i) x))) (sym (below-start n))
       ∙ ap (λ (x : ℕ). best b (candsOf a (map (landedCand p v g st i) (below x)))) e
 
-  pub rest-turn : (b b′ : Opt Cand) (k n : ℕ) → k < n
+  pub winner-turn : (b b′ : Opt Cand) (k n : ℕ) → k < n
       → ((cs : List Cand) → best b′ (candsOf a cs) ≡ best b (candsOf a (landedCand p v g st i k ∷ cs)))
       → best b′ (candsOf a (map (landedCand p v g st i) (upFrom (k + 1) (n - (k + 1))))) ≡ best b (candsOf a (map (landedCand p v g st i) (upFrom k (n - k))))
-  rest-turn b b′ k n h e =
+  winner-turn b b′ k n h e =
       e (map (landedCand p v g st i) (upFrom (k + 1) (n - (k + 1))))
       ∙ ap (λ (x : List ℕ). best b (candsOf a (map (landedCand p v g st i) x))) (sym (upFrom-step k n h))
 

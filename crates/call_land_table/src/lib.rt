@@ -10,7 +10,7 @@ ghost use Rattle.spec.specs.Lists.{below};
 ghost use Rattle.spec.specs.Memory.{filledIn, entryIn, offsetIn, placeAt};
 ghost use Rattle.spec.specs.Params.{inRange, dataCount, imageLen, pointersLen, addressesLen};
 ghost use Rattle.spec.specs.Rank.{Cand as CandOf, best, candsOf};
-ghost use Rattle.call_land_table.specs.Winners.{Sane, IsData, Sound, winnerOf, putAll};
+ghost use Rattle.call_land_table.specs.Winners.{Sane, IsData, EntriesSane, winnerOf, putWinners};
 ghost use Rattle.disk_rank.specs.Ranked.{ranked, rankedBest};
 ghost use Rattle.law_views.specs.Views.{Whole};
 ghost use Rattle.call_land_chunk.specs.Alone.{alone};
@@ -161,7 +161,7 @@ fn winners(
 ) -> [u32; 8]
     requires { ⌜ inRange p ≡ true ⌝ }
     requires { ⌜ Whole p (mkDisk (now image) (now pointers)) ⌝ }
-    requires { ⌜ (length (now addresses) ≡ addressesLen p) × Sound p (alone row) 0 (now addresses) ⌝ }
+    requires { ⌜ (length (now addresses) ≡ addressesLen p) × EntriesSane p (alone row) 0 (now addresses) ⌝ }
     requires { ⌜ (segment < p .Z) × (filledIn (alone row) 0 ≤ dataCount p) × ((d : ℕ) → d < p .N → offsetIn (alone row) 0 d < p .S) ⌝ }
     requires { ⌜ serial .0 ≡ serialAt (viewOf p (now image) (now pointers)) segment ⌝ }
     ensures { λ r. ⌜
@@ -190,7 +190,7 @@ fn winners(
 fn put_places(p: Params, addresses: &mut [u8], row: Row, places: [u32; 8])
     requires { ⌜ inRange p ≡ true ⌝ }
     requires { ⌜ (length (now addresses) ≡ addressesLen p) × (filledIn (alone row) 0 ≤ dataCount p) ⌝ }
-    ensures { λ _. ⌜ now (addresses .exit) ≡ putAll p (alone row) 0 places (below (filledIn (alone row) 0)) (now (addresses .entry)) ⌝ }
+    ensures { λ _. ⌜ now (addresses .exit) ≡ putWinners p (alone row) 0 places (below (filledIn (alone row) 0)) (now (addresses .entry)) ⌝ }
 {
     let n = call_land_chunk::filled_in(row);
     let mut k = 0;
@@ -215,7 +215,7 @@ pub fn point(
 )
     requires { ⌜ inRange p ≡ true ⌝ }
     requires { ⌜ Whole p (mkDisk (now image) (now pointers)) ⌝ }
-    requires { ⌜ (length (now addresses) ≡ addressesLen p) × Sound p (alone row) 0 (now addresses) ⌝ }
+    requires { ⌜ (length (now addresses) ≡ addressesLen p) × EntriesSane p (alone row) 0 (now addresses) ⌝ }
     requires { ⌜ (segment < p .Z) × (filledIn (alone row) 0 ≤ dataCount p) × ((d : ℕ) → d < p .N → offsetIn (alone row) 0 d < p .S) ⌝ }
     ensures { λ _. ⌜
         now (addresses .exit)

@@ -1,5 +1,5 @@
 -- What the reads leave: refused, or answered (01, Read). Assumes nothing.
-use Rattle.call_read.specs.Order.{refusal, bothChecks, found}
+use Rattle.call_read.specs.Order.{readRefusal, bothChecks, foundAt}
 use mathlib.Core.Path.{_≡_, refl, sym, ap, _∙_}
 use mathlib.Core.List.{List, [], _∷_, _++_}
 use mathlib.Core.Bool.{Bool, true, false, _&&_}
@@ -15,7 +15,7 @@ use Rattle.spec.specs.Calls.{Check, ninth, ruled, firstRefusal, Plan, mkPlan, d
 use Rattle.spec.specs.Drives.{Disk, storeDisk}
 use Rattle.spec.specs.Engine.Call.{read, fill}
 use Rattle.spec.specs.Engine.{storeCount, lentBlock, verdict, lentOk, callOn, callDisk}
-use Rattle.call_read.specs.Ready.{ready}
+use Rattle.call_read.specs.Ready.{read-ready}
 use Rattle.spec.specs.Lists.{Opt}
 use Rattle.spec.specs.Lists.Opt.{none, some}
 use Rattle.spec.specs.Memory.{Memory, stateFaults}
@@ -26,8 +26,8 @@ use Rattle.law_basic.specs.Geometry.{ranged}
 use Rattle.law_basic.specs.Stores.{stores-nil}
 use Rattle.law_calls.specs.Refusals.{call-refused, call-done}
 use Rattle.law_views.specs.Views.{seen}
-use Rattle.call_read.specs.Fill.{place-in, Fill, mkFill, filledBy, filling, placedAt, found-placed}
-use Rattle.call_read.specs.Part.{not-refused}
+use Rattle.call_read.specs.Fill.{place-in-image, Fill, mkFill, filledBy, filling, placedAt, found-placed}
+use Rattle.call_read.specs.Part.{part-not-refused}
 
 and-true : (b : Bool) → (b && true) ≡ b
 and-true true = refl
@@ -36,23 +36,23 @@ and-true false = refl
 module _ (p : Params) (k : Disk) (m : Memory) (a : ℕ) where
   -- 01, Read: the first call is lent no block; as one of B bytes it has its length
   read-plan : Plan
-  read-plan = mkPlan [] (readAnswer p (found p k m a (p .B))) m []
+  read-plan = mkPlan [] (readAnswer p (foundAt p k m a (p .B))) m []
 
-  read-is : outcome p (storeDisk p) 0 k m [] (decided (refusal p k m a (p .B)) read-plan) ≡ callDisk p k m (read a)
+  read-is : outcome p (storeDisk p) 0 k m [] (decided (readRefusal p k m a (p .B)) read-plan) ≡ callDisk p k m (read a)
   unfolding callDisk callOn storeCount lentBlock verdict readVerdict read-plan
   read-is =
       ap (λ (x : Bool). outcome p (storeDisk p) 0 k m []
-      (decided (firstRefusal (readChecks p x a ++ (zones (stateFaults p (m .state) ++ foundFaults p (seen p k) (m .state .missing) (found p k m a (p .B))) ∷ []))) read-plan))
+      (decided (firstRefusal (readChecks p x a ++ (zones (stateFaults p (m .state) ++ foundFaults p (seen p k) (m .state .missing) (foundAt p k m a (p .B))) ∷ []))) read-plan))
       (ap (λ (x : Bool). lentOk p k m && x) (eq-eqb (p .B) (p .B) refl) ∙ and-true (lentOk p k m))
 
-  pub read-refused : (r : Answer) → refusal p k m a (p .B) ≡ some r → mkAfter r k m [] ≡ callDisk p k m (read a)
-  read-refused r e = sym (call-refused p (storeDisk p) 0 k m [] (refusal p k m a (p .B)) read-plan r e) ∙ read-is
+  pub read-refused : (r : Answer) → readRefusal p k m a (p .B) ≡ some r → mkAfter r k m [] ≡ callDisk p k m (read a)
+  read-refused r e = sym (call-refused p (storeDisk p) 0 k m [] (readRefusal p k m a (p .B)) read-plan r e) ∙ read-is
 
-  pub read-done : (r : Answer) → refusal p k m a (p .B) ≡ none → r ≡ readAnswer p (found p k m a (p .B)) → mkAfter r k m [] ≡ callDisk p k m (read a)
+  pub read-done : (r : Answer) → readRefusal p k m a (p .B) ≡ none → r ≡ readAnswer p (foundAt p k m a (p .B)) → mkAfter r k m [] ≡ callDisk p k m (read a)
   unfolding read-plan
   read-done r e q =
-      ap (λ (x : Answer). mkAfter x k m []) q ∙ ap (λ (x : Disk). mkAfter (readAnswer p (found p k m a (p .B))) x m []) (sym (stores-nil (storeDisk p) 0 k))
-      ∙ sym (call-done p (storeDisk p) 0 k m [] (refusal p k m a (p .B)) read-plan e (omega arith)) ∙ read-is
+      ap (λ (x : Answer). mkAfter x k m []) q ∙ ap (λ (x : Disk). mkAfter (readAnswer p (foundAt p k m a (p .B))) x m []) (sym (stores-nil (storeDisk p) 0 k))
+      ∙ sym (call-done p (storeDisk p) 0 k m [] (readRefusal p k m a (p .B)) read-plan e (omega arith)) ∙ read-is
 
   -- 01, Read: a part lies within the image
   here-within : (at : ℕ) (f : Found) → placedAt p f → inRange p ≡ true → length (k .image) ≡ imageLen p → readAnswer p f ≡ Part at → at + p .B ≤ length (k .image)
@@ -60,19 +60,19 @@ module _ (p : Params) (k : Disk) (m : Memory) (a : ℕ) where
   here-within at nowhere h ok l e = absurd (let z : _≡_ {A = ℕ} 0 1 = cc in let w : ⊥ = omega arith in w)
   here-within at (here x) h ok l e =
       let t : placeByte p x ≡ at = cc in
-      omega (arith, t, l, place-in p x ok h)
+      omega (arith, t, l, place-in-image p x ok h)
   here-within at (away x) h ok l e = absurd (let z : _≡_ {A = ℕ} 0 1 = cc in let w : ⊥ = omega arith in w)
 
   pub part-within : (at : ℕ) → callDisk p k m (read a) .answer ≡ Part at → at + p .B ≤ length (k .image)
-  part-within at q = go (refusal p k m a (p .B)) refl
+  part-within at q = go (readRefusal p k m a (p .B)) refl
     where
-      go : (x : Opt Answer) → refusal p k m a (p .B) ≡ x → at + p .B ≤ length (k .image)
+      go : (x : Opt Answer) → readRefusal p k m a (p .B) ≡ x → at + p .B ≤ length (k .image)
       go none e =
-          let r = ready p k m a (p .B) e in
-          here-within at (found p k m a (p .B)) (found-placed p (seen p k) (m .state .missing) (found p k m a (p .B)) (r .faultless)) (r .ranged) (r .whole .image-long)
-          (ap (λ (y : After Disk). y .answer) (read-done (readAnswer p (found p k m a (p .B))) e refl) ∙ q)
+          let r = read-ready p k m a (p .B) e in
+          here-within at (foundAt p k m a (p .B)) (found-placed p (seen p k) (m .state .missing) (foundAt p k m a (p .B)) (r .faultless)) (r .ranged) (r .whole .image-long)
+          (ap (λ (y : After Disk). y .answer) (read-done (readAnswer p (foundAt p k m a (p .B))) e refl) ∙ q)
       go (some r) e =
-          absurd (not-refused (bothChecks p k m a (p .B)) at (e ∙ ap some (ap (λ (y : After Disk). y .answer) (read-refused r e) ∙ q)))
+          absurd (part-not-refused (bothChecks p k m a (p .B)) at (e ∙ ap some (ap (λ (y : After Disk). y .answer) (read-refused r e) ∙ q)))
 
 -- one list of checks after another
 refused-before : (cs ds : List Check) (r : Answer) → firstRefusal cs ≡ some r → firstRefusal (cs ++ ds) ≡ some r
@@ -93,22 +93,22 @@ passed-before (zones (z ∷ zs) ∷ cs) ds e = absurd (let z : _≡_ {A = ℕ} 0
 
 module _ (p : Params) (k : Disk) (m : Memory) (a : ℕ) (b : List ℕ) where
   abbrev last : List Check
-  last = zones (decodeFaults p (seen p k) (m .state .missing) (m .compact) (found p k m a (length b))) ∷ []
+  last = zones (decodeFaults p (seen p k) (m .state .missing) (m .compact) (foundAt p k m a (length b))) ∷ []
 
   fill-plan : Plan
-  fill-plan = mkPlan [] Filled m (readPiece p (seen p k) (m .state .missing) (m .compact) (found p k m a (length b)) .block)
+  fill-plan = mkPlan [] Filled m (readPiece p (seen p k) (m .state .missing) (m .compact) (foundAt p k m a (length b)) .block)
 
   fill-is : outcome p (storeDisk p) 0 k m b (decided (firstRefusal (bothChecks p k m a (length b) ++ last)) fill-plan) ≡ callDisk p k m (fill a b)
   unfolding callDisk callOn storeCount lentBlock verdict fillVerdict readChecks fill-plan
   fill-is = refl
 
-  pub fill-refused : (r : Answer) → refusal p k m a (length b) ≡ some r → mkAfter r k m b ≡ callDisk p k m (fill a b)
+  pub fill-refused : (r : Answer) → readRefusal p k m a (length b) ≡ some r → mkAfter r k m b ≡ callDisk p k m (fill a b)
   fill-refused r e =
       sym (call-refused p (storeDisk p) 0 k m b (firstRefusal (bothChecks p k m a (length b) ++ last)) fill-plan r (refused-before (bothChecks p k m a (length b)) last r e)) ∙ fill-is
 
   -- past the checks of both reads
-  pub fill-done : (r : Answer) (b′ : List ℕ) → refusal p k m a (length b) ≡ none
-      → mkFill r b′ ≡ filling p (seen p k) (m .state .missing) (m .compact) (found p k m a (length b)) b → mkAfter r k m b′ ≡ callDisk p k m (fill a b)
+  pub fill-done : (r : Answer) (b′ : List ℕ) → readRefusal p k m a (length b) ≡ none
+      → mkFill r b′ ≡ filling p (seen p k) (m .state .missing) (m .compact) (foundAt p k m a (length b)) b → mkAfter r k m b′ ≡ callDisk p k m (fill a b)
   unfolding fill-plan filledBy
   fill-done r b′ e q = ap (λ (x : Fill). mkAfter (x .answer) k m (x .block)) q ∙ go (firstRefusal last) refl
     where

@@ -42,15 +42,15 @@ abbrev pub filling : Params → View → ℕ → List ℕ → Found → List ℕ
 filling p v gone cs f b = filledBy (firstRefusal (zones (decodeFaults p v gone cs f) ∷ [])) b (readPiece p v gone cs f .block)
 
 -- 01, Refusals, 9: a place that is a data block of the image
-pub record Placed (p : Params) (q : ℕ) : Type 0 where
+pub record PlaceOk (p : Params) (q : ℕ) : Type 0 where
   pub drive-low : placeDrive p q < p .N
   pub block-low : 1 ≤ placeBlock p q
   pub block-high : placeBlock p q ≤ p .S
 
 abbrev pub placedAt : Params → Found → Type 0
 placedAt p nowhere = Unit {0}
-placedAt p (here q) = Placed p q
-placedAt p (away q) = Placed p q
+placedAt p (here q) = PlaceOk p q
+placedAt p (away q) = PlaceOk p q
 
 -- a place with no fault is one
 fault-free : (a b x : Bool) (z : ℕ) → cond a (0 ∷ []) (consIf (not b || x) z []) ≡ [] → (a ≡ false) × (b ≡ true)
@@ -59,7 +59,7 @@ fault-free true b x z e = absurd (let q : _≡_ {A = ℕ} 1 0 = ap length e in l
 fault-free false true x z e = (refl, refl)
 fault-free false false x z e = absurd (let q : _≡_ {A = ℕ} 1 0 = ap length e in let w : ⊥ = omega arith in w)
 
-pub place-free : (p : Params) (v : View) (gone q : ℕ) → placeFaults p v gone q ≡ [] → Placed p q
+pub place-free : (p : Params) (v : View) (gone q : ℕ) → placeFaults p v gone q ≡ [] → PlaceOk p q
 unfolding placeFaults
 place-free p v gone q e =
     let d = placeDrive p q in
@@ -78,7 +78,7 @@ found-placed p v gone (here q) e = place-free p v gone q e
 found-placed p v gone (away q) e = place-free p v gone q e
 
 -- the place's bytes
-module _ (p : Params) (q : ℕ) (ok : inRange p ≡ true) (h : Placed p q) where
+module _ (p : Params) (q : ℕ) (ok : inRange p ≡ true) (h : PlaceOk p q) where
   zone-low : placeZone p q < p .Z
   unfolding placeZone
   zone-low = mod-lt (q / capacity p) (omega (arith, ranged p ok .zones-low))
@@ -86,8 +86,8 @@ module _ (p : Params) (q : ℕ) (ok : inRange p ≡ true) (h : Placed p q) where
   block-in : placeBlock p q < capacity p
   block-in = data-below p (ranged p ok) (placeBlock p q) (h .block-high)
 
-  pub place-in : placeByte p q + unitLen p ≤ imageLen p
-  place-in =
+  pub place-in-image : placeByte p q + unitLen p ≤ imageLen p
+  place-in-image =
       subst (λ (x : ℕ). placeByte p x + unitLen p ≤ imageLen p) (place-again p q)
       (block-within p (placeDrive p q) (placeZone p q) (placeBlock p q) (h .drive-low) zone-low block-in)
 

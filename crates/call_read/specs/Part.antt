@@ -27,14 +27,14 @@ unfolding partAt partLen
 part-none p r e = (sym (ap (λ (x : Bool). cond x (getD (values r) 0 0) 0) e), sym (ap (λ (x : Bool). cond x (p .B) 0) e))
 
 -- refusals are no parts
-refusal-kind : (cs : List Check) (r : Answer) → firstRefusal cs ≡ some r → leb (kind r) 1 ≡ true
+refusal-kind-low : (cs : List Check) (r : Answer) → firstRefusal cs ≡ some r → leb (kind r) 1 ≡ true
 unfolding firstRefusal ruled ninth kind
-refusal-kind [] r e = absurd (let z : _≡_ {A = ℕ} 0 1 = cc in let w : ⊥ = omega arith in w)
-refusal-kind (rule n true ∷ cs) r e = let q : Refused n ≡ r = cc in ap (λ (x : Answer). leb (kind x) 1) (sym q)
-refusal-kind (rule n false ∷ cs) r e = refusal-kind cs r e
-refusal-kind (zones [] ∷ cs) r e = refusal-kind cs r e
-refusal-kind (zones (z ∷ zs) ∷ cs) r e = let q : BadZone (least z zs) ≡ r = cc in ap (λ (x : Answer). leb (kind x) 1) (sym q)
+refusal-kind-low [] r e = absurd (let z : _≡_ {A = ℕ} 0 1 = cc in let w : ⊥ = omega arith in w)
+refusal-kind-low (rule n true ∷ cs) r e = let q : Refused n ≡ r = cc in ap (λ (x : Answer). leb (kind x) 1) (sym q)
+refusal-kind-low (rule n false ∷ cs) r e = refusal-kind-low cs r e
+refusal-kind-low (zones [] ∷ cs) r e = refusal-kind-low cs r e
+refusal-kind-low (zones (z ∷ zs) ∷ cs) r e = let q : BadZone (least z zs) ≡ r = cc in ap (λ (x : Answer). leb (kind x) 1) (sym q)
 
-pub not-refused : (cs : List Check) (at : ℕ) → firstRefusal cs ≡ some (Part at) → ⊥
+pub part-not-refused : (cs : List Check) (at : ℕ) → firstRefusal cs ≡ some (Part at) → ⊥
 unfolding kind
-not-refused cs at e = not-both (leb (kind (Part at)) 1) (refusal-kind cs (Part at) e) refl
+part-not-refused cs at e = not-both (leb (kind (Part at)) 1) (refusal-kind-low cs (Part at) e) refl

@@ -1,5 +1,5 @@
 -- What is so where no check of both reads holds (01, Read; Refusals). Assumes nothing.
-use Rattle.call_read.specs.Order.{refusal, found}
+use Rattle.call_read.specs.Order.{readRefusal, foundAt}
 use mathlib.Core.Path.{_≡_}
 use Prim.Native.Nat.{ℕ, _<_}
 use mathlib.Core.List.{[]}
@@ -20,17 +20,17 @@ use Rattle.law_views.specs.Views.{Whole, seen}
 use Rattle.law_checks.specs.Passed.{read-passed}
 use Rattle.call_write.specs.Ready.{lent-long}
 
-pub record Ready (p : Params) (k : Disk) (m : Memory) (a n : ℕ) : Type 0 where
+pub record ReadReady (p : Params) (k : Disk) (m : Memory) (a n : ℕ) : Type 0 where
   pub ranged : inRange p ≡ true
   pub whole : Whole p k
   pub addresses-long : length (m .addresses) ≡ addressesLen p
   pub compact-long : length (m .compact) ≡ compactLen p
   pub block-long : n ≡ p .B
   pub address-low : a < p .L
-  pub faultless : foundFaults p (seen p k) (m .state .missing) (found p k m a n) ≡ []
+  pub faultless : foundFaults p (seen p k) (m .state .missing) (foundAt p k m a n) ≡ []
 
-pub ready : (p : Params) (k : Disk) (m : Memory) (a n : ℕ) → refusal p k m a n ≡ none → Ready p k m a n
-ready p k m a n e =
+pub read-ready : (p : Params) (k : Disk) (m : Memory) (a n : ℕ) → readRefusal p k m a n ≡ none → ReadReady p k m a n
+read-ready p k m a n e =
     let c = read-passed p (lentOk p k m && eqb n (p .B)) (seen p k) m a e in
     let l = lent-long p k m (and-left (lentOk p k m) (eqb n (p .B)) (c .lent)) in
     record {

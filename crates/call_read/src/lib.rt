@@ -18,10 +18,10 @@ ghost use Rattle.spec.specs.Read.Found.{away};
 ghost use Rattle.spec.specs.Read.{lookup, foundFaults, shown, decodedAt, readAnswer};
 ghost use Rattle.mem_lookup.specs.Lies.{foundOf};
 ghost use Rattle.call_read.specs.Decode.{shownBlock};
-ghost use Rattle.call_read.specs.Order.{refusal};
+ghost use Rattle.call_read.specs.Order.{readRefusal};
 ghost use Rattle.spec.specs.Host.{PartOf, partAt, partLen};
 ghost use Rattle.call_read.specs.Sought.{refusedBy, liesAt};
-ghost use Rattle.call_read.specs.Fill.{mkFill, filling, Placed, placedAt};
+ghost use Rattle.call_read.specs.Fill.{mkFill, filling, PlaceOk, placedAt};
 ghost use Rattle.law_views.specs.Views.{Whole};
 use mem_lookup::Found;
 use spec::Address;
@@ -74,7 +74,7 @@ fn seek(
     requires { ⌜ length (now state) ≡ stateLen ⌝ }
     ensures { λ r. ⌜
         refusedBy r
-        ≡ refusal p (mkDisk (now (image .entry)) (now (pointers .entry)))
+        ≡ readRefusal p (mkDisk (now (image .entry)) (now (pointers .entry)))
         (mkMemory (stateOf (now (state .entry))) (now (addresses .entry)) (now (compact .entry)) (now (inflight .entry))) (address .0) len ⌝ }
     ensures { λ r. ⌜ liesAt r (lookup p (stateOf (now (state .entry)) .missing) (now (addresses .entry)) (address .0)) ⌝ }
 {
@@ -294,7 +294,7 @@ fn fill_lost(
 ) -> Answer
     requires { ⌜ inRange p ≡ true ⌝ }
     requires { ⌜ Whole p (mkDisk (now image) (now pointers)) ⌝ }
-    requires { ⌜ (length (now compact) ≡ compactLen p) × (length (now block) ≡ p .B) × Placed p (q .0) ⌝ }
+    requires { ⌜ (length (now compact) ≡ compactLen p) × (length (now block) ≡ p .B) × PlaceOk p (q .0) ⌝ }
     ensures { λ r. ⌜ mkFill r (now (block .exit)) ≡ filling p (viewOf p (now (image .entry)) (now (pointers .entry))) gone (now (compact .entry)) (away (q .0)) (now (block .entry)) ⌝ }
 {
     let zone = disk_shape::place_zone(p, q);
@@ -309,7 +309,7 @@ fn fill_lost(
 // The second read of a place on a present drive: a copy.
 fn fill_here(p: Params, image: &[u8], q: Place, block: &mut [u8])
     requires { ⌜ inRange p ≡ true ⌝ }
-    requires { ⌜ (length (now image) ≡ imageLen p) × (length (now block) ≡ p .B) × Placed p (q .0) ⌝ }
+    requires { ⌜ (length (now image) ≡ imageLen p) × (length (now block) ≡ p .B) × PlaceOk p (q .0) ⌝ }
     ensures { λ _. ⌜ now (block .exit) ≡ part (placeByte p (q .0)) (p .B) (now (image .entry)) ⌝ }
 {
     let at = disk_shape::place_byte(p, q);

@@ -30,14 +30,14 @@ use Rattle.law_drives.specs.Masks.{named-in}
 use Rattle.law_drives.specs.Members.{In, in-keep, in-below}
 use Rattle.law_drives.specs.Rebuilding.{rebuild-roomy, rebuild-within}
 use Rattle.law_drives.specs.Zones.{all-fit}
-use Rattle.recover_segments.specs.Remains.{Keeps, remains}
+use Rattle.recover_segments.specs.Remains.{Keeps, remainsHere}
 use Rattle.disk_zones.specs.declared.Made.{Made}
 use Rattle.disk_zones.specs.Made.{Storing, storing-cut, storing-done}
 use Rattle.recover_groups.specs.Faulty.{no-recs-fault}
 use Rattle.recover_segments.specs.Kept.{remaining-keep}
 use Rattle.call_write.specs.Ends.{cut-memory}
-use Rattle.call_rebuild.specs.Order.{refusal, Ready, front, front-passed}
-use Rattle.recover_rebuild.specs.Drive.{driveStores, stores-are, GoodRecs}
+use Rattle.call_rebuild.specs.Order.{rebuildRefusal, RebuildReady, rebuildFront, rebuild-front-passed}
+use Rattle.recover_rebuild.specs.Drive.{driveStores, drive-stores-are, GoodRecs}
 
 module _ (p : Params) (k : Disk) (m : Memory) (d n : ℕ) where
   abbrev pub left! : List Segment
@@ -46,38 +46,38 @@ module _ (p : Params) (k : Disk) (m : Memory) (d n : ℕ) where
   abbrev due! : Plan
   due! = mkPlan (rebuildStores p d left!) Rebuilt m []
 
-  pub ends-refused : (a : Answer) → refusal p k m d ≡ some a → mkAfter a k m [] ≡ callDisk p k m (rebuild d n)
-  unfolding refusal callDisk callOn storeCount lentBlock verdict rebuildVerdict
-  ends-refused a e = sym (call-refused p (storeDisk p) n k m [] (firstRefusal (rebuildChecks p (lentOk p k m) (seen p k) m d left!)) due! a e)
+  pub ends-rebuild-refused : (a : Answer) → rebuildRefusal p k m d ≡ some a → mkAfter a k m [] ≡ callDisk p k m (rebuild d n)
+  unfolding rebuildRefusal callDisk callOn storeCount lentBlock verdict rebuildVerdict
+  ends-rebuild-refused a e = sym (call-refused p (storeDisk p) n k m [] (firstRefusal (rebuildChecks p (lentOk p k m) (seen p k) m d left!)) due! a e)
 
-  module _ (e : refusal p k m d ≡ none) where
+  module _ (e : rebuildRefusal p k m d ≡ none) where
     cut! : n < length (rebuildStores p d left!) → mkAfter Cut (storeAll (storeDisk p) (take n (rebuildStores p d left!)) k) (cutMemory p m) [] ≡ callDisk p k m (rebuild d n)
-    unfolding refusal callDisk callOn storeCount lentBlock verdict rebuildVerdict
+    unfolding rebuildRefusal callDisk callOn storeCount lentBlock verdict rebuildVerdict
     cut! h = sym (call-cut p (storeDisk p) n k m [] (firstRefusal (rebuildChecks p (lentOk p k m) (seen p k) m d left!)) due! e h)
 
     done! : length (rebuildStores p d left!) ≤ n → mkAfter Rebuilt (storeAll (storeDisk p) (take n (rebuildStores p d left!)) k) m [] ≡ callDisk p k m (rebuild d n)
-    unfolding refusal callDisk callOn storeCount lentBlock verdict rebuildVerdict
+    unfolding rebuildRefusal callDisk callOn storeCount lentBlock verdict rebuildVerdict
     done! h = sym (call-done p (storeDisk p) n k m [] (firstRefusal (rebuildChecks p (lentOk p k m) (seen p k) m d left!)) due! e h)
 
     module _ (r : Made) (k′ : Disk) (flags : List Bool) (kp : Keeps p (seen p k) (named d) flags) (s : Storing p n (driveStores p d (seen p k) flags) k r k′) where
-      made : Storing p n (rebuildStores p d left!) k r k′
-      made = subst (λ (l : List Store). Storing p n l k r k′) (stores-are p d (seen p k) flags kp) s
+      rebuild-made : Storing p n (rebuildStores p d left!) k r k′
+      rebuild-made = subst (λ (l : List Store). Storing p n l k r k′) (drive-stores-are p d (seen p k) flags kp) s
 
       -- more stores are due than the number
-      pub ends-cut : r .cut ≡ true → lentOk p k m ≡ true → (o : Done) (ad co : List ℕ) → o .answer ≡ Cut → o .state ≡ zeroState → ad ≡ replicate (length (m .addresses)) 0
+      pub ends-rebuild-cut : r .cut ≡ true → lentOk p k m ≡ true → (o : Done) (ad co : List ℕ) → o .answer ≡ Cut → o .state ≡ zeroState → ad ≡ replicate (length (m .addresses)) 0
           → co ≡ replicate (length (m .compact)) 0 → after o (k′ .image) (k′ .pointers) ad co (m .inflight) [] ≡ callDisk p k m (rebuild d n)
-      ends-cut c l o ad co ea es f g =
+      ends-rebuild-cut c l o ad co ea es f g =
           let w = lengths-of p k m l in
           let q : mkMemory (o .state) ad co (m .inflight) ≡ cutMemory p m = cut-memory p m (o .state) ad co (w .addresses-ok) (w .compact-ok) es f g in
-          (λ j. mkAfter (ea j) (made .disk j) (q j) []) ∙ cut! (storing-cut p n (rebuildStores p d left!) k r k′ made c)
+          (λ j. mkAfter (ea j) (rebuild-made .disk j) (q j) []) ∙ cut! (storing-cut p n (rebuildStores p d left!) k r k′ rebuild-made c)
 
       -- all are made: state and tables don't change
-      pub ends-done : r .cut ≡ false → mkAfter Rebuilt k′ m [] ≡ callDisk p k m (rebuild d n)
-      ends-done c = (λ j. mkAfter Rebuilt (made .disk j) m []) ∙ done! (storing-done p n (rebuildStores p d left!) k r k′ made c)
+      pub ends-rebuild-done : r .cut ≡ false → mkAfter Rebuilt k′ m [] ≡ callDisk p k m (rebuild d n)
+      ends-rebuild-done c = (λ j. mkAfter Rebuilt (rebuild-made .disk j) m []) ∙ done! (storing-done p n (rebuildStores p d left!) k r k′ rebuild-made c)
 
 -- ---- what the stores ask
 
-module _ (p : Params) (k : Disk) (m : Memory) (d : ℕ) (rd : Ready p k m d) (none! : segmentFaults p (named d) (segments p (seen p k) (named d)) ≡ []) (flags : List Bool)
+module _ (p : Params) (k : Disk) (m : Memory) (d : ℕ) (rd : RebuildReady p k m d) (none! : segmentFaults p (named d) (segments p (seen p k) (named d)) ≡ []) (flags : List Bool)
     (kp : Keeps p (seen p k) (named d) flags) where
   -- no record of a remaining segment is bad
   pub good-recs : GoodRecs p d (seen p k) flags
@@ -86,7 +86,7 @@ module _ (p : Params) (k : Disk) (m : Memory) (d : ℕ) (rd : Ready p k m d) (no
       let a : Accepted p v (named d) = record { pointers-ok = rd .pointers-ok; segments-ok = none! } in
       let i : In g (remaining p v (named d)) =
       subst (λ (l : List ℕ). In g l) (sym (remaining-keep p v (named d)))
-      (in-keep (remains p v (named d)) (below (p .Z)) g (in-below (p .Z) g hg) (sym (kp .1 g hg) ∙ f)) in
+      (in-keep (remainsHere p v (named d)) (below (p .Z)) g (in-below (p .Z) g hg) (sym (kp .1 g hg) ∙ f)) in
       let o = faults-apart p v (named d) a g i in
       no-recs-fault p (named d) (segmentOf p v (named d) g) (o .no-stripe-fault) (o .no-address-fault)
 
@@ -99,9 +99,9 @@ module _ (p : Params) (k : Disk) (m : Memory) (d : ℕ) (rd : Ready p k m d) (no
       let w = whole-of p k m (rd .lent) in
       let sh = shaped-of p k w b in
       let lost = named-in p r d hd in
-      subst (λ (l : List Store). AllFit p v l) (sym (stores-are p d v flags kp))
+      subst (λ (l : List Store). AllFit p v l) (sym (drive-stores-are p d v flags kp))
       (all-fit p v (rebuildStores p d (segments p v (named d))) (sized-of p k w) (rebuild-within p r v sh d hd lost) (rebuild-roomy p r v sh d hd lost))
 
 -- no segment of 9 is bad: nothing refuses
-pub all-passed : (p : Params) (k : Disk) (m : Memory) (d : ℕ) → front p k m d ≡ none → segmentFaults p (named d) (segments p (seen p k) (named d)) ≡ [] → refusal p k m d ≡ none
-all-passed p k m d e f = front-passed p k m d e ∙ zones-pass (segmentFaults p (named d) (segments p (seen p k) (named d))) [] f ∙ none-left
+pub rebuild-faultless : (p : Params) (k : Disk) (m : Memory) (d : ℕ) → rebuildFront p k m d ≡ none → segmentFaults p (named d) (segments p (seen p k) (named d)) ≡ [] → rebuildRefusal p k m d ≡ none
+rebuild-faultless p k m d e f = rebuild-front-passed p k m d e ∙ zones-pass (segmentFaults p (named d) (segments p (seen p k) (named d))) [] f ∙ none-left

@@ -23,7 +23,7 @@ use Rattle.spec.specs.Segments.{segments}
 use Rattle.law_basic.specs.Ranges.{and-left, and-right}
 use Rattle.law_views.specs.Views.{seen}
 use Rattle.law_calls.specs.Refusals.{rule-fails, rule-passes, zones-pass, none-left, rule-free, zones-free}
-use Rattle.law_drives.specs.Tests.{or-left, or-right}
+use Rattle.law_drives.specs.Tests.{or-first, or-right}
 use Rattle.recover_headers.specs.Lowest.{low-none, low-named}
 
 -- 01, Refusals, 1: the parameters, and the drive that the last restart named missing
@@ -41,7 +41,7 @@ numbers-named p missing d e = ap (λ (x : Bool). not x || not (ltb d (p .N) && e
 pub numbers-good : (p : Params) (missing d : ℕ) → badNumbers p missing d ≡ false → (inRange p ≡ true) × (d < p .N) × (missing ≡ named d)
 unfolding badNumbers
 numbers-good p missing d e =
-    let a = not-false (inRange p) (or-left (not (inRange p)) (not (ltb d (p .N) && eqb missing (named d))) e) in
+    let a = not-false (inRange p) (or-first (not (inRange p)) (not (ltb d (p .N) && eqb missing (named d))) e) in
     let b = not-false (ltb d (p .N) && eqb missing (named d)) (or-right (not (inRange p)) (not (ltb d (p .N) && eqb missing (named d))) e) in
     (a, ltb-true d (p .N) (and-left (ltb d (p .N)) (eqb missing (named d)) b), eqb-true missing (named d) (and-right (ltb d (p .N)) (eqb missing (named d)) b))
 
@@ -49,55 +49,55 @@ numbers-good p missing d e =
 
 module _ (p : Params) (k : Disk) (m : Memory) (d : ℕ) where
   -- the zones whose pointers are above capacity
-  abbrev pub high : List ℕ
-  high = pointerFaults p (seen p k) (named d)
+  abbrev pub highPointers : List ℕ
+  highPointers = pointerFaults p (seen p k) (named d)
 
   -- the first of them that holds
-  unfoldable pub front : Opt Answer
-  front = firstRefusal (rule 1 (badNumbers p (m .state .missing) d) ∷ rule 2 (not (lentOk p k m)) ∷ zones high ∷ [])
+  unfoldable pub rebuildFront : Opt Answer
+  rebuildFront = firstRefusal (rule 1 (badNumbers p (m .state .missing) d) ∷ rule 2 (not (lentOk p k m)) ∷ zones highPointers ∷ [])
 
   -- the first of all
-  unfoldable pub refusal : Opt Answer
-  refusal = firstRefusal (rebuildChecks p (lentOk p k m) (seen p k) m d (segments p (seen p k) (named d)))
+  unfoldable pub rebuildRefusal : Opt Answer
+  rebuildRefusal = firstRefusal (rebuildChecks p (lentOk p k m) (seen p k) m d (segments p (seen p k) (named d)))
 
-  pub numbers-fail : badNumbers p (m .state .missing) d ≡ true → some (Refused 1) ≡ front
-  unfolding front
-  numbers-fail e = sym (rule-fails 1 (badNumbers p (m .state .missing) d) (rule 2 (not (lentOk p k m)) ∷ zones high ∷ []) e)
+  pub rebuild-numbers-fail : badNumbers p (m .state .missing) d ≡ true → some (Refused 1) ≡ rebuildFront
+  unfolding rebuildFront
+  rebuild-numbers-fail e = sym (rule-fails 1 (badNumbers p (m .state .missing) d) (rule 2 (not (lentOk p k m)) ∷ zones highPointers ∷ []) e)
 
   module _ (e : badNumbers p (m .state .missing) d ≡ false) where
-    pub lengths-fail : lentOk p k m ≡ false → some (Refused 2) ≡ front
-    unfolding front
-    lengths-fail f =
-        sym (rule-passes 1 (badNumbers p (m .state .missing) d) (rule 2 (not (lentOk p k m)) ∷ zones high ∷ []) e ∙ rule-fails 2 (not (lentOk p k m)) (zones high ∷ []) (ap not f))
+    pub rebuild-lengths-fail : lentOk p k m ≡ false → some (Refused 2) ≡ rebuildFront
+    unfolding rebuildFront
+    rebuild-lengths-fail f =
+        sym (rule-passes 1 (badNumbers p (m .state .missing) d) (rule 2 (not (lentOk p k m)) ∷ zones highPointers ∷ []) e ∙ rule-fails 2 (not (lentOk p k m)) (zones highPointers ∷ []) (ap not f))
 
     module _ (f : lentOk p k m ≡ true) where
-      passed : front ≡ firstRefusal (zones high ∷ [])
-      passed = unfold front in
-          (rule-passes 1 (badNumbers p (m .state .missing) d) (rule 2 (not (lentOk p k m)) ∷ zones high ∷ []) e ∙ rule-passes 2 (not (lentOk p k m)) (zones high ∷ []) (ap not f))
+      passed : rebuildFront ≡ firstRefusal (zones highPointers ∷ [])
+      passed = unfold rebuildFront in
+          (rule-passes 1 (badNumbers p (m .state .missing) d) (rule 2 (not (lentOk p k m)) ∷ zones highPointers ∷ []) e ∙ rule-passes 2 (not (lentOk p k m)) (zones highPointers ∷ []) (ap not f))
 
-      range : high ≡ keep (λ z. any (λ y. ltb (capacity p) (pointerAt (seen p k) y z)) (present p (named d))) (below (p .Z))
+      range : highPointers ≡ keep (λ z. any (λ y. ltb (capacity p) (pointerAt (seen p k) y z)) (present p (named d))) (below (p .Z))
       range = unfold pointerFaults in refl
 
-      pub pointers-fail : (z : ℕ) → z ≡ firstOr (p .Z) high → z < p .Z → some (BadZone z) ≡ front
-      pointers-fail z q h =
+      pub rebuild-pointers-fail : (z : ℕ) → z ≡ firstOr (p .Z) highPointers → z < p .Z → some (BadZone z) ≡ rebuildFront
+      rebuild-pointers-fail z q h =
           ap (λ (x : ℕ). some (BadZone x)) q
-          ∙ sym (passed ∙ low-named (λ z. any (λ y. ltb (capacity p) (pointerAt (seen p k) y z)) (present p (named d))) (p .Z) high range [] (subst (λ (x : ℕ). x < p .Z) q h))
+          ∙ sym (passed ∙ low-named (λ z. any (λ y. ltb (capacity p) (pointerAt (seen p k) y z)) (present p (named d))) (p .Z) highPointers range [] (subst (λ (x : ℕ). x < p .Z) q h))
 
-      pub pointers-pass : firstOr (p .Z) high ≡ p .Z → none ≡ front
-      pointers-pass q =
-          sym (passed ∙ zones-pass high [] (low-none (λ z. any (λ y. ltb (capacity p) (pointerAt (seen p k) y z)) (present p (named d))) (p .Z) high range q) ∙ none-left)
+      pub rebuild-pointers-pass : firstOr (p .Z) highPointers ≡ p .Z → none ≡ rebuildFront
+      rebuild-pointers-pass q =
+          sym (passed ∙ zones-pass highPointers [] (low-none (λ z. any (λ y. ltb (capacity p) (pointerAt (seen p k) y z)) (present p (named d))) (p .Z) highPointers range q) ∙ none-left)
 
   -- ---- they are the first of all
 
-  checks-are : refusal
-      ≡ firstRefusal (rule 1 (badNumbers p (m .state .missing) d) ∷ rule 2 (not (lentOk p k m)) ∷ zones high ∷ zones
-      (cond (isNil high) (segmentFaults p (named d) (segments p (seen p k) (named d))) []) ∷ [])
-  unfolding refusal rebuildChecks imageChecks badNumbers namesMissing
+  checks-are : rebuildRefusal
+      ≡ firstRefusal (rule 1 (badNumbers p (m .state .missing) d) ∷ rule 2 (not (lentOk p k m)) ∷ zones highPointers ∷ zones
+      (cond (isNil highPointers) (segmentFaults p (named d) (segments p (seen p k) (named d))) []) ∷ [])
+  unfolding rebuildRefusal rebuildChecks imageChecks badNumbers namesMissing
   checks-are = refl
 
-  pub front-refused : (a : Answer) → front ≡ some a → refusal ≡ some a
-  unfolding front
-  front-refused a e = checks-are ∙ go (badNumbers p (m .state .missing) d) (not (lentOk p k m)) high (segmentFaults p (named d) (segments p (seen p k) (named d))) e
+  pub rebuild-front-refused : (a : Answer) → rebuildFront ≡ some a → rebuildRefusal ≡ some a
+  unfolding rebuildFront
+  rebuild-front-refused a e = checks-are ∙ go (badNumbers p (m .state .missing) d) (not (lentOk p k m)) highPointers (segmentFaults p (named d) (segments p (seen p k) (named d))) e
     where
       go : (b c : Bool) (ps ss : List ℕ) → firstRefusal (rule 1 b ∷ rule 2 c ∷ zones ps ∷ []) ≡ some a → firstRefusal (rule 1 b ∷ rule 2 c ∷ zones ps ∷ zones (cond (isNil ps) ss []) ∷ []) ≡ some a
       go true c ps ss h = unfold firstRefusal ruled in h
@@ -109,35 +109,35 @@ module _ (p : Params) (k : Disk) (m : Memory) (d : ℕ) where
           nothing a q = let z : _≡_ {A = ℕ} 0 1 = cc in let y : ⊥ = omega arith in y
 
   -- where none of them holds
-  pub record Ready : Type 0 where
+  pub record RebuildReady : Type 0 where
     pub in-range : inRange p ≡ true
     pub drive-low : d < p .N
     pub missing-is : m .state .missing ≡ named d
     pub lent : lentOk p k m ≡ true
-    pub pointers-ok : high ≡ []
+    pub pointers-ok : highPointers ≡ []
 
-  pub ready : front ≡ none → Ready
-  unfolding front
-  ready e =
-      let f₁ = rule-free 1 (badNumbers p (m .state .missing) d) (rule 2 (not (lentOk p k m)) ∷ zones high ∷ []) e in
-      let f₂ = rule-free 2 (not (lentOk p k m)) (zones high ∷ []) (f₁ .1) in
-      let f₃ = zones-free high [] (f₂ .1) in
+  pub rebuild-ready : rebuildFront ≡ none → RebuildReady
+  unfolding rebuildFront
+  rebuild-ready e =
+      let f₁ = rule-free 1 (badNumbers p (m .state .missing) d) (rule 2 (not (lentOk p k m)) ∷ zones highPointers ∷ []) e in
+      let f₂ = rule-free 2 (not (lentOk p k m)) (zones highPointers ∷ []) (f₁ .1) in
+      let f₃ = zones-free highPointers [] (f₂ .1) in
       let g = numbers-good p (m .state .missing) d (f₁ .0) in
       record { in-range = g .0; drive-low = g .1; missing-is = g .2; lent = not-false (lentOk p k m) (f₂ .0); pointers-ok = f₃ .0 }
 
   -- the segments of 9 are left
-  pub front-passed : front ≡ none → refusal ≡ firstRefusal (zones (segmentFaults p (named d) (segments p (seen p k) (named d))) ∷ [])
-  unfolding front
-  front-passed e =
+  pub rebuild-front-passed : rebuildFront ≡ none → rebuildRefusal ≡ firstRefusal (zones (segmentFaults p (named d) (segments p (seen p k) (named d))) ∷ [])
+  unfolding rebuildFront
+  rebuild-front-passed e =
       let ss = segmentFaults p (named d) (segments p (seen p k) (named d)) in
-      let rest = zones (cond (isNil high) ss []) ∷ [] in
-      let f₁ = rule-free 1 (badNumbers p (m .state .missing) d) (rule 2 (not (lentOk p k m)) ∷ zones high ∷ []) e in
-      let f₂ = rule-free 2 (not (lentOk p k m)) (zones high ∷ []) (f₁ .1) in
-      let f₃ = zones-free high [] (f₂ .1) in
+      let rest = zones (cond (isNil highPointers) ss []) ∷ [] in
+      let f₁ = rule-free 1 (badNumbers p (m .state .missing) d) (rule 2 (not (lentOk p k m)) ∷ zones highPointers ∷ []) e in
+      let f₂ = rule-free 2 (not (lentOk p k m)) (zones highPointers ∷ []) (f₁ .1) in
+      let f₃ = zones-free highPointers [] (f₂ .1) in
       checks-are
-      ∙ rule-passes 1 (badNumbers p (m .state .missing) d) (rule 2 (not (lentOk p k m)) ∷ zones high ∷ rest) (f₁ .0)
-      ∙ rule-passes 2 (not (lentOk p k m)) (zones high ∷ rest) (f₂ .0)
-      ∙ zones-pass high rest (f₃ .0)
+      ∙ rule-passes 1 (badNumbers p (m .state .missing) d) (rule 2 (not (lentOk p k m)) ∷ zones highPointers ∷ rest) (f₁ .0)
+      ∙ rule-passes 2 (not (lentOk p k m)) (zones highPointers ∷ rest) (f₂ .0)
+      ∙ zones-pass highPointers rest (f₃ .0)
       ∙ ap (λ (l : List ℕ). firstRefusal (zones l ∷ [])) (ap (λ (l : List ℕ). cond (isNil l) ss []) (f₃ .0) ∙ none!)
     where
       none! : cond (isNil {A = ℕ} []) (segmentFaults p (named d) (segments p (seen p k) (named d))) [] ≡ segmentFaults p (named d) (segments p (seen p k) (named d))

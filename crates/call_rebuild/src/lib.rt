@@ -13,7 +13,7 @@ ghost use Rattle.spec.specs.Lists.Opt.{none};
 ghost use Rattle.spec.specs.Memory.{mkMemory};
 ghost use Rattle.spec.specs.Params.{named};
 ghost use Rattle.spec.specs.Segments.{segments};
-ghost use Rattle.call_rebuild.specs.Order.{badNumbers, front};
+ghost use Rattle.call_rebuild.specs.Order.{badNumbers, rebuildFront};
 ghost use Rattle.recover_segments.specs.Remains.{Keeps};
 use mem_calls::Check;
 use spec::Answer;
@@ -52,7 +52,7 @@ fn checks(
     state: State,
     drive: usize,
 ) -> Check
-    ensures { λ r. ⌜ checked r ≡ front p (mkDisk (now (image .entry)) (now (pointers .entry))) (mkMemory state (now (addresses .entry)) (now (compact .entry)) (now (inflight .entry))) drive ⌝ }
+    ensures { λ r. ⌜ checked r ≡ rebuildFront p (mkDisk (now (image .entry)) (now (pointers .entry))) (mkMemory state (now (addresses .entry)) (now (compact .entry)) (now (inflight .entry))) drive ⌝ }
 {
     if bad_numbers(p, state.missing, drive) {
         return Check::Fail(Answer::Refused(1));
@@ -80,7 +80,7 @@ fn restore(
     drive: usize,
     count: u64,
 ) -> Done
-    requires { ⌜ front p (mkDisk (now image) (now pointers)) (mkMemory state (now addresses) (now compact) (now inflight)) drive ≡ none ⌝ }
+    requires { ⌜ rebuildFront p (mkDisk (now image) (now pointers)) (mkMemory state (now addresses) (now compact) (now inflight)) drive ≡ none ⌝ }
     requires { ⌜ segmentFaults p (named drive) (segments p (viewOf p (now image) (now pointers)) (named drive)) ≡ [] ⌝ }
     requires { ⌜ Keeps p (viewOf p (now image) (now pointers)) (named drive) (now kept) ⌝ }
     ensures { λ r. ⌜
@@ -111,7 +111,7 @@ fn examined(
     drive: usize,
     count: u64,
 ) -> Done
-    requires { ⌜ front p (mkDisk (now image) (now pointers)) (mkMemory state (now addresses) (now compact) (now inflight)) drive ≡ none ⌝ }
+    requires { ⌜ rebuildFront p (mkDisk (now image) (now pointers)) (mkMemory state (now addresses) (now compact) (now inflight)) drive ≡ none ⌝ }
     ensures { λ r. ⌜
         after r (now (image .exit)) (now (pointers .exit)) (now (addresses .exit)) (now (compact .exit)) (now (inflight .entry)) []
         ≡ callDisk p (mkDisk (now (image .entry)) (now (pointers .entry)))

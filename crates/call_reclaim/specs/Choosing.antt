@@ -29,8 +29,8 @@ use mathlib.Core.Path.{_≡_, refl, sym, ap, ap₂, _∙_}
 use native.Mathlib.Omega.{arith}
 
 -- 01, Refusals: the first check of a reclaim that holds, on what it is lent
-abbrev pub refusal : Params → Disk → Memory → Opt Answer
-refusal p k m = firstRefusal (reclaimChecks p (lentOk p k m) (seen p k) m (victim p (seen p k) (m .addresses)))
+abbrev pub reclaimRefusal : Params → Disk → Memory → Opt Answer
+reclaimRefusal p k m = firstRefusal (reclaimChecks p (lentOk p k m) (seen p k) m (victim p (seen p k) (m .addresses)))
 
 -- 01, Refusals, 6 to 8, of a copy
 unfoldable pub copyRules : Params → View → State → List Check
@@ -62,45 +62,45 @@ module _ (p : Params) (k : Disk) (m : Memory) where
   taken = victim p (seen p k) (m .addresses)
 
   -- the first refusal among the checks from the i-th on, counted from 0
-  abbrev pub from : ℕ → Opt Answer
-  from i = firstRefusal (drop i (reclaimChecks p (lentOk p k m) (seen p k) m taken))
+  abbrev pub reclaimFrom : ℕ → Opt Answer
+  reclaimFrom i = firstRefusal (drop i (reclaimChecks p (lentOk p k m) (seen p k) m taken))
 
   abbrev rest : ℕ → List Check
   rest i = drop (suc i) (reclaimChecks p (lentOk p k m) (seen p k) m taken)
 
-  pub range-fails : inRange p ≡ false → from 0 ≡ some (Refused 1)
+  pub reclaim-range-fails : inRange p ≡ false → reclaimFrom 0 ≡ some (Refused 1)
   unfolding reclaimChecks
-  range-fails e = rule-fails 1 (not (inRange p)) (rest 0) (ap not e)
+  reclaim-range-fails e = rule-fails 1 (not (inRange p)) (rest 0) (ap not e)
 
-  pub range-passes : inRange p ≡ true → from 0 ≡ from 1
+  pub reclaim-range-passes : inRange p ≡ true → reclaimFrom 0 ≡ reclaimFrom 1
   unfolding reclaimChecks
-  range-passes e = rule-passes 1 (not (inRange p)) (rest 0) (ap not e)
+  reclaim-range-passes e = rule-passes 1 (not (inRange p)) (rest 0) (ap not e)
 
-  pub lengths-fail : lentOk p k m ≡ false → from 1 ≡ some (Refused 2)
+  pub reclaim-lengths-fail : lentOk p k m ≡ false → reclaimFrom 1 ≡ some (Refused 2)
   unfolding reclaimChecks
-  lengths-fail e = rule-fails 2 (not (lentOk p k m)) (rest 1) (ap not e)
+  reclaim-lengths-fail e = rule-fails 2 (not (lentOk p k m)) (rest 1) (ap not e)
 
-  pub lengths-pass : lentOk p k m ≡ true → from 1 ≡ from 2
+  pub reclaim-lengths-pass : lentOk p k m ≡ true → reclaimFrom 1 ≡ reclaimFrom 2
   unfolding reclaimChecks
-  lengths-pass e = rule-passes 2 (not (lentOk p k m)) (rest 1) (ap not e)
+  reclaim-lengths-pass e = rule-passes 2 (not (lentOk p k m)) (rest 1) (ap not e)
 
-  pub missing-fails : (m .state .missing ≡ 0 → ⊥) → from 2 ≡ some (Refused 3)
+  pub reclaim-missing-fails : (m .state .missing ≡ 0 → ⊥) → reclaimFrom 2 ≡ some (Refused 3)
   unfolding reclaimChecks
-  missing-fails f = rule-fails 3 (not (eqb (m .state .missing) 0)) (rest 2) (ap not (ne-eqb (m .state .missing) 0 f))
+  reclaim-missing-fails f = rule-fails 3 (not (eqb (m .state .missing) 0)) (rest 2) (ap not (ne-eqb (m .state .missing) 0 f))
 
-  pub missing-passes : m .state .missing ≡ 0 → from 2 ≡ from 3
+  pub reclaim-missing-passes : m .state .missing ≡ 0 → reclaimFrom 2 ≡ reclaimFrom 3
   unfolding reclaimChecks
-  missing-passes f = rule-passes 3 (not (eqb (m .state .missing) 0)) (rest 2) (ap not (eq-eqb (m .state .missing) 0 f))
+  reclaim-missing-passes f = rule-passes 3 (not (eqb (m .state .missing) 0)) (rest 2) (ap not (eq-eqb (m .state .missing) 0 f))
 
   -- the rest
-  pub from-later : from 3 ≡ firstRefusal (laterChecks p (seen p k) (m .state) (m .addresses) taken)
+  pub from-later : reclaimFrom 3 ≡ firstRefusal (laterChecks p (seen p k) (m .state) (m .addresses) taken)
   unfolding reclaimChecks laterChecks badZones isOdd
   from-later = refl
 
 -- the first three pass
 pub front-passes : (p : Params) (k : Disk) (m : Memory) → inRange p ≡ true → lentOk p k m ≡ true → m .state .missing ≡ 0
-    → refusal p k m ≡ firstRefusal (laterChecks p (seen p k) (m .state) (m .addresses) (victim p (seen p k) (m .addresses)))
-front-passes p k m e f g = range-passes p k m e ∙ lengths-pass p k m f ∙ missing-passes p k m g ∙ from-later p k m
+    → reclaimRefusal p k m ≡ firstRefusal (laterChecks p (seen p k) (m .state) (m .addresses) (victim p (seen p k) (m .addresses)))
+front-passes p k m e f g = reclaim-range-passes p k m e ∙ reclaim-lengths-pass p k m f ∙ reclaim-missing-passes p k m g ∙ from-later p k m
 
 -- ---- 6 to 8
 
@@ -129,10 +129,10 @@ module _ (p : Params) (v : View) (st : State) where
 
 -- ---- bad zones
 
-least-same : (g : ℕ) (l : List ℕ) → least g (map (λ q. g) l) ≡ g
+least-one-zone : (g : ℕ) (l : List ℕ) → least g (map (λ q. g) l) ≡ g
 unfolding least
-least-same g [] = refl
-least-same g (n ∷ l) = ap (λ (x : ℕ). least x (map (λ q. g) l)) (let e : min g g ≡ g = omega arith in e) ∙ least-same g l
+least-one-zone g [] = refl
+least-one-zone g (n ∷ l) = ap (λ (x : ℕ). least x (map (λ q. g) l)) (let e : min g g ≡ g = omega arith in e) ∙ least-one-zone g l
 
 zero-first : (l : List ℕ) → firstRefusal (zones (0 ∷ l) ∷ []) ≡ some (BadZone 0)
 unfolding firstRefusal ninth
@@ -167,7 +167,7 @@ odd-zones f g l = go (keep f l) ∙ ap (λ (x : Bool). cond x (some (BadZone g))
   where
     go : (m : List ℕ) → firstRefusal (zones (map (λ q. g) m) ∷ []) ≡ cond (not (isNil m)) (some (BadZone g)) none
     go [] = refl
-    go (x ∷ m) = ap (λ (n : ℕ). some (BadZone n)) (least-same g m)
+    go (x ∷ m) = ap (λ (n : ℕ). some (BadZone n)) (least-one-zone g m)
 
 -- ---- from 5 on
 
@@ -255,10 +255,10 @@ length-some [] h = absurd (let q : ⊥ = omega arith in q)
 length-some (a ∷ l) h = refl
 
 -- the first of a list, whatever stands for none
-pub first-any : (l : List ℕ) (d x : ℕ) → firstOr d l ≡ x → (x ≡ d → ⊥) → firstOr 0 l ≡ x
+pub first-found : (l : List ℕ) (d x : ℕ) → firstOr d l ≡ x → (x ≡ d → ⊥) → firstOr 0 l ≡ x
 unfolding firstOr
-first-any [] d x e n = absurd (n (sym e))
-first-any (y ∷ l) d x e n = e
+first-found [] d x e n = absurd (n (sym e))
+first-found (y ∷ l) d x e n = e
 
 pub no-zones : firstRefusal (zones [] ∷ []) ≡ none
 no-zones = zones-pass [] [] refl ∙ none-left

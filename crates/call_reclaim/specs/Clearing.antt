@@ -24,18 +24,18 @@ use mathlib.Core.List.{List, []}
 use mathlib.Core.Path.{_≡_, refl, sym, ap, _∙_}
 
 module _ (p : Params) (g : ℕ) where
-  pub rows-start : (cs : List ℕ) → cleared p g (upFrom 0 (p .N - 0)) cs ≡ cleared p g (drivesOf p) cs
+  pub cleared-start : (cs : List ℕ) → cleared p g (upFrom 0 (p .N - 0)) cs ≡ cleared p g (drivesOf p) cs
   unfolding drivesOf
-  rows-start cs = ap (λ (l : List ℕ). cleared p g l cs) (sym (below-start (p .N)))
+  cleared-start cs = ap (λ (l : List ℕ). cleared p g l cs) (sym (below-start (p .N)))
 
-  pub rows-turn : (d : ℕ) (cs cs′ : List ℕ) → d < p .N → cs′ ≡ splice cs (compactAt p d (zoneOn g d) 0) (replicate (p .S) 0)
+  pub cleared-turn : (d : ℕ) (cs cs′ : List ℕ) → d < p .N → cs′ ≡ splice cs (compactAt p d (zoneOn g d) 0) (replicate (p .S) 0)
       → cleared p g (upFrom (d + 1) (p .N - (d + 1))) cs′ ≡ cleared p g (upFrom d (p .N - d)) cs
   unfolding cleared clearedRow
-  rows-turn d cs cs′ h e = ap (cleared p g (upFrom (d + 1) (p .N - (d + 1)))) e ∙ sym (ap (λ (l : List ℕ). cleared p g l cs) (upFrom-step d (p .N) h))
+  cleared-turn d cs cs′ h e = ap (cleared p g (upFrom (d + 1) (p .N - (d + 1)))) e ∙ sym (ap (λ (l : List ℕ). cleared p g l cs) (upFrom-step d (p .N) h))
 
-  pub rows-end : (d : ℕ) (cs : List ℕ) → p .N ≤ d → cs ≡ cleared p g (upFrom d (p .N - d)) cs
+  pub cleared-end : (d : ℕ) (cs : List ℕ) → p .N ≤ d → cs ≡ cleared p g (upFrom d (p .N - d)) cs
   unfolding cleared
-  rows-end d cs h = sym (ap (λ (l : List ℕ). cleared p g l cs) (upFrom-end d (p .N) h))
+  cleared-end d cs h = sym (ap (λ (l : List ℕ). cleared p g l cs) (upFrom-end d (p .N) h))
 
 -- ---- the two ends of a reset
 

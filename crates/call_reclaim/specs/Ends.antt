@@ -17,9 +17,9 @@ use Rattle.spec.specs.declared.State.{State}
 use Rattle.law_calls.specs.Refusals.{call-refused, next-low}
 use Rattle.law_basic.specs.Ranges.{and-both, not-both}
 use Rattle.law_checks.specs.Passed.{ReclaimPassed, reclaim-passed}
-use Rattle.call_reclaim.specs.Choosing.{refusal}
+use Rattle.call_reclaim.specs.Choosing.{reclaimRefusal}
 use Rattle.call_copy.specs.Copying.{CopyReady}
-use Rattle.mem_rows.specs.Refused.{refused-keeps}
+use Rattle.mem_rows.specs.Refused.{refused-state}
 use Rattle.mem_rows.specs.Rows.{afterChange}
 use Rattle.mem_rows.specs.declared.Change.{Change}
 use Rattle.law_views.specs.Views.{Whole, seen}
@@ -33,29 +33,29 @@ use mathlib.Core.Path.{_≡_, sym, ap, _∙_}
 use native.Mathlib.Omega.{arith}
 
 -- 01, Refusals, 8: not scarce
-enough : (p : Params) (v : View) → scarce p v 1 ≡ false → 0 < length (emptyZones p v)
+one-left : (p : Params) (v : View) → scarce p v 1 ≡ false → 0 < length (emptyZones p v)
 unfolding scarce
-enough p v h = omega (arith, leb-false (length (emptyZones p v)) 1 h)
+one-left p v h = omega (arith, leb-false (length (emptyZones p v)) 1 h)
 
-module _ (p : Params) (k : Disk) (m : Memory) (none! : refusal p k m ≡ none) where
+module _ (p : Params) (k : Disk) (m : Memory) (none! : reclaimRefusal p k m ≡ none) where
   abbrev w : Opt Victim
   w = victim p (seen p k) (m .addresses)
 
   -- parameters and lengths
-  pub record Lengths : Type 0 where
+  pub record ReclaimLengths : Type 0 where
     pub in-range : inRange p ≡ true
     pub whole : Whole p k
     pub addresses-long : length (m .addresses) ≡ addressesLen p
     pub compact-long : length (m .compact) ≡ compactLen p
     pub inflight-long : length (m .inflight) ≡ inflightLen p
 
-  passed : ReclaimPassed p (lentOk p k m) (seen p k) m w
-  passed = reclaim-passed p (lentOk p k m) (seen p k) m w none!
+  reclaim-checks-passed : ReclaimPassed p (lentOk p k m) (seen p k) m w
+  reclaim-checks-passed = reclaim-passed p (lentOk p k m) (seen p k) m w none!
 
-  pub lent : Lengths
+  pub lent : ReclaimLengths
   lent =
-      let l = lent-long p k m (passed .lent) in
-      record { in-range = passed .in-range; whole = record { image-long = l .0; pointers-long = l .1 }; addresses-long = l .2; compact-long = l .3; inflight-long = l .4 }
+      let l = lent-long p k m (reclaim-checks-passed .lent) in
+      record { in-range = reclaim-checks-passed .in-range; whole = record { image-long = l .0; pointers-long = l .1 }; addresses-long = l .2; compact-long = l .3; inflight-long = l .4 }
 
   -- 01, Refusals, 6 to 9: what is left to check of a copy
   pub copy-ready : isNil (victimLive w) ≡ false → CopyReady p k m
@@ -71,10 +71,10 @@ module _ (p : Params) (k : Disk) (m : Memory) (none! : refusal p k m ≡ none) w
         compact-long = l .compact-long;
         inflight-long = l .inflight-long;
         serial-left = λ q s. not-both (opens p st && eqb (st .serial .0) lastCount) (and-both (opens p st) (eqb (st .serial .0) lastCount) q (eq-eqb (st .serial .0) lastCount s))
-            (passed .serial-left d);
-        waits = passed .no-wait d;
-        empties = λ q. enough p v (passed .room d q);
-        next-high = next-low p st (passed .state-fine);
+            (reclaim-checks-passed .serial-left d);
+        waits = reclaim-checks-passed .no-wait d;
+        empties = λ q. one-left p v (reclaim-checks-passed .room d q);
+        next-high = next-low p st (reclaim-checks-passed .state-fine);
       }
 
 -- ---- the three ends
@@ -87,22 +87,22 @@ module _ (p : Params) (k : Disk) (m : Memory) (n : ℕ) where
   both = cond (isNil (victimLive w!)) (resetPlan p m (victimSegment w!)) (copyPlan p (seen p k) m (firstOr 0 (idle p (seen p k) (m .state) w!)))
 
   -- 01, Store count: a refusal changes nothing
-  pub reclaim-refused : (c : Change) → refusal p k m ≡ some (c .answer)
+  pub reclaim-refused : (c : Change) → reclaimRefusal p k m ≡ some (c .answer)
       → afterChange (m .state) c (k .image) (k .pointers) (m .addresses) (m .compact) (m .inflight) [] ≡ callDisk p k m (reclaim n)
   unfolding callDisk callOn storeCount lentBlock verdict reclaimVerdict
   reclaim-refused c e =
-      ap (λ (x : State). mkAfter (c .answer) k (mkMemory x (m .addresses) (m .compact) (m .inflight)) []) (refused-keeps (reclaimChecks p (lentOk p k m) (seen p k) m w!) (m .state) c e)
-      ∙ sym (call-refused p (storeDisk p) n k m [] (refusal p k m) both (c .answer) e)
+      ap (λ (x : State). mkAfter (c .answer) k (mkMemory x (m .addresses) (m .compact) (m .inflight)) []) (refused-state (reclaimChecks p (lentOk p k m) (seen p k) m w!) (m .state) c e)
+      ∙ sym (call-refused p (storeDisk p) n k m [] (reclaimRefusal p k m) both (c .answer) e)
 
   -- 01, Reclaim: with none live it resets its zones
-  pub reclaim-clear : (g : ℕ) → refusal p k m ≡ none → isNil (victimLive w!) ≡ true → victimSegment w! ≡ g
+  pub reclaim-clear : (g : ℕ) → reclaimRefusal p k m ≡ none → isNil (victimLive w!) ≡ true → victimSegment w! ≡ g
       → outcome p (storeDisk p) n k m [] (due (resetPlan p m g)) ≡ callDisk p k m (reclaim n)
   unfolding callDisk callOn storeCount lentBlock verdict reclaimVerdict decided
   reclaim-clear g e d s =
       sym ((λ j. outcome p (storeDisk p) n k m [] (decided (e j) (cond (d j) (resetPlan p m (s j)) (copyPlan p (seen p k) m (firstOr 0 (idle p (seen p k) (m .state) w!)))))))
 
   -- 01, Reclaim: otherwise it copies a block
-  pub reclaim-copy : (q : ℕ) → refusal p k m ≡ none → isNil (victimLive w!) ≡ false → firstOr 0 (idle p (seen p k) (m .state) w!) ≡ q
+  pub reclaim-copy : (q : ℕ) → reclaimRefusal p k m ≡ none → isNil (victimLive w!) ≡ false → firstOr 0 (idle p (seen p k) (m .state) w!) ≡ q
       → outcome p (storeDisk p) n k m [] (due (copyPlan p (seen p k) m q)) ≡ callDisk p k m (reclaim n)
   unfolding callDisk callOn storeCount lentBlock verdict reclaimVerdict decided
   reclaim-copy q e d s =

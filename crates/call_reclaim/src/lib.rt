@@ -17,7 +17,7 @@ ghost use Rattle.spec.specs.Lists.Opt.{some};
 ghost use Rattle.spec.specs.Memory.{mkMemory, stateFaults, stateLen, stateOf};
 ghost use Rattle.spec.specs.Params.{inRange, imageLen, pointersLen, addressesLen, compactLen, drivesOf};
 ghost use Rattle.spec.specs.Reclaim.{tableFaults, victim, cleared, resetPlan};
-ghost use Rattle.call_reclaim.specs.Choosing.{copyRules, laterChecks, Chose, refusal};
+ghost use Rattle.call_reclaim.specs.Choosing.{copyRules, laterChecks, Chose, reclaimRefusal};
 ghost use Rattle.call_filling.specs.Aims.{aimOf};
 ghost use Rattle.mem_rows.specs.Rows.{frontOf, behind, afterChange};
 ghost use Rattle.call_reclaim_victim.specs.Looked.{Looked};
@@ -138,7 +138,7 @@ fn choose(
     ensures { λ r. ⌜
         Chose p (viewOf p (now (image .entry)) (now (pointers .entry))) (stateOf (now (bytes .entry)))
         (victim p (viewOf p (now (image .entry)) (now (pointers .entry))) (now (addresses .entry)))
-        (refusal p (mkDisk (now (image .entry)) (now (pointers .entry)))
+        (reclaimRefusal p (mkDisk (now (image .entry)) (now (pointers .entry)))
         (mkMemory (stateOf (now (bytes .entry))) (now (addresses .entry)) (now (compact .entry)) (now (inflight .entry)))) r ⌝ }
 {
     if !disk_shape::in_range(p) {

@@ -9,7 +9,7 @@ use Rattle.spec.specs.declared.Params.{Params}
 use Rattle.law_basic.specs.Geometry.{Ranged, capacity-low, zone-low}
 use Rattle.law_basic.specs.Ranges.{Test, test, keep-upFrom-same, keep-below-same, and-both}
 use Rattle.law_basic.specs.Ranges.Test.{yes!, no! }
-use Rattle.mem_marks.specs.Marks.{isPointed, pointed-none, pointed-more}
+use Rattle.mem_marks.specs.Marks.{isPointed, no-pointed, pointed-more}
 use borrow.Author.Tests.{lt-ltb, le-ltb, eq-eqb, ne-eqb, eqb-true, eqb-false}
 use lib.Arith.{lt-of-le-ne}
 use lib.Dec.{ltb, eqb}
@@ -24,8 +24,8 @@ use native.Mathlib.Nat.{div-lt-iff-lt-mul}
 use native.Mathlib.Omega.{arith}
 
 -- 01, The array: the segment of each zone of all drives
-abbrev pub Zones : Params → List ℕ → ℕ → Type 0
-Zones p segments n = (t : ℕ) → t < n → getD segments t 0 ≡ t % p .Z
+abbrev pub ZonesInTurn : Params → List ℕ → ℕ → Type 0
+ZonesInTurn p segments n = (t : ℕ) → t < n → getD segments t 0 ≡ t % p .Z
 
 -- 01, Reclaim: the counts with one entry more, with place q; all: the places of the image
 abbrev pub withEntry : List ℕ → List ℕ → ℕ → ℕ → ℕ → List ℕ
@@ -42,7 +42,7 @@ unfoldable pub takenIn : Params → List ℕ → ℕ → ℕ → List ℕ
 takenIn p tb n g = keep (isTaken p tb n g) (below (p .N * p .Z * capacity p))
 
 -- 01, Reclaim: the entries of the first n addresses, counted by segment
-pub record Entered (p : Params) (tb : List ℕ) (n : ℕ) (used : List ℕ) : Type 0 where
+pub record TakenCounted (p : Params) (tb : List ℕ) (n : ℕ) (used : List ℕ) : Type 0 where
   pub most : (g : ℕ) → g < p .Z → length (takenIn p tb n g) ≤ getD used g 0
   pub least : (g : ℕ) → g < p .Z → 0 < getD used g 0 → 0 < length (takenIn p tb n g)
   pub low : (g : ℕ) → g < p .Z → getD used g 0 ≤ n
@@ -53,7 +53,7 @@ unfolding takenIn isTaken liveBelow isLiveIn
 taken-live p tb g = refl
 
 -- one zone more
-pub zones-more : (p : Params) (segments : List ℕ) (n z : ℕ) → n < length segments → z ≡ n % p .Z → Zones p segments n → Zones p (set segments n z) (n + 1)
+pub zones-more : (p : Params) (segments : List ℕ) (n z : ℕ) → n < length segments → z ≡ n % p .Z → ZonesInTurn p segments n → ZonesInTurn p (set segments n z) (n + 1)
 zones-more p segments n z fits e so t h = go (test (eqb t n))
   where
     go : Test (eqb t n) → getD (set segments n z) t 0 ≡ t % p .Z
@@ -62,7 +62,7 @@ zones-more p segments n z fits e so t h = go (test (eqb t n))
 
 module _ (p : Params) (r : Ranged p) where
   -- and the number of its zone says it
-  pub zone-told : (segments : List ℕ) → Zones p segments (p .N * p .Z) → (q : ℕ) → q < p .N * p .Z * capacity p → getD segments (q / capacity p) 0 ≡ placeZone p q
+  pub zone-told : (segments : List ℕ) → ZonesInTurn p segments (p .N * p .Z) → (q : ℕ) → q < p .N * p .Z * capacity p → getD segments (q / capacity p) 0 ≡ placeZone p q
   unfolding placeZone
   zone-told segments so q h = so (q / capacity p) (div-lt-iff-lt-mul {k = capacity p} {x = q} {y = p .N * p .Z} (omega (arith, capacity-low p r)) .1 h)
 
@@ -114,11 +114,11 @@ module _ (p : Params) (tb : List ℕ) where
   unfolding isTaken keep upFrom
   nobody g i zero = refl
   nobody g i (suc n) =
-      let e : boolByte (isTaken p tb 0 g i) ≡ 0 = ap boolByte (ap (λ (b : Bool). eqb (placeZone p i) g && b) (pointed-none tb i) ∙ and-false (eqb (placeZone p i) g)) in
+      let e : boolByte (isTaken p tb 0 g i) ≡ 0 = ap boolByte (ap (λ (b : Bool). eqb (placeZone p i) g && b) (no-pointed tb i) ∙ and-false (eqb (placeZone p i) g)) in
       omega (arith, e, nobody g (suc i) n, length-cons (isTaken p tb 0 g i) i (keep (isTaken p tb 0 g) (upFrom (suc i) n)))
 
   -- no address
-  pub entered-none : (used : List ℕ) → ((g : ℕ) → g < p .Z → getD used g 0 ≡ 0) → Entered p tb 0 used
+  pub entered-none : (used : List ℕ) → ((g : ℕ) → g < p .Z → getD used g 0 ≡ 0) → TakenCounted p tb 0 used
   unfolding takenIn below
   entered-none used z = record {
     most = λ g h. omega (arith, nobody g 0 all!);
@@ -131,9 +131,9 @@ module _ (p : Params) (tb : List ℕ) where
     x = placeAt tb n
 
     -- a place that is not this address's is taken as before
-    same-else : (g q : ℕ) → (q ≡ x → ⊥) → isTaken p tb (n + 1) g q ≡ isTaken p tb n g q
+    taken-else : (g q : ℕ) → (q ≡ x → ⊥) → isTaken p tb (n + 1) g q ≡ isTaken p tb n g q
     unfolding isTaken
-    same-else g q c =
+    taken-else g q c =
         ap (λ (b : Bool). eqb (placeZone p q) g && b) (pointed-more tb n q ∙ ap (λ (b : Bool). isPointed tb n q || b) (ne-eqb q x c) ∙ or-false (isPointed tb n q))
 
     -- and so are all of another segment
@@ -145,11 +145,11 @@ module _ (p : Params) (tb : List ℕ) where
         go (yes! e) =
             let z : eqb (placeZone p q) g ≡ false = ne-eqb (placeZone p q) g (λ d. c (sym (ap (placeZone p) (eqb-true q x e)) ∙ d)) in
             ap (λ (b : Bool). b && isPointed tb (n + 1) q) z ∙ sym (ap (λ (b : Bool). b && isPointed tb n q) z)
-        go (no! e) = same-else g q (eqb-false q x e)
+        go (no! e) = taken-else g q (eqb-false q x e)
 
-    this : isTaken p tb (n + 1) (placeZone p x) x ≡ true
+    taken-last : isTaken p tb (n + 1) (placeZone p x) x ≡ true
     unfolding isTaken
-    this = and-both (eqb (placeZone p x) (placeZone p x)) (isPointed tb (n + 1) x) (eq-eqb (placeZone p x) (placeZone p x) refl)
+    taken-last = and-both (eqb (placeZone p x) (placeZone p x)) (isPointed tb (n + 1) x) (eq-eqb (placeZone p x) (placeZone p x) refl)
         (pointed-more tb n x ∙ ap (λ (b : Bool). isPointed tb n x || b) (eq-eqb x x refl) ∙ or-true (isPointed tb n x))
       where
         or-true : (b : Bool) → (b || true) ≡ true
@@ -157,12 +157,12 @@ module _ (p : Params) (tb : List ℕ) where
         or-true false = refl
 
     -- where its place lies outside, nothing is taken that was not
-    module _ (used : List ℕ) (so : Entered p tb n used) where
-      same-list : (g : ℕ) → ((q : ℕ) → q < all! → isTaken p tb (n + 1) g q ≡ isTaken p tb n g q) → takenIn p tb (n + 1) g ≡ takenIn p tb n g
+    module _ (used : List ℕ) (so : TakenCounted p tb n used) where
+      taken-same : (g : ℕ) → ((q : ℕ) → q < all! → isTaken p tb (n + 1) g q ≡ isTaken p tb n g q) → takenIn p tb (n + 1) g ≡ takenIn p tb n g
       unfolding takenIn
-      same-list g h = keep-below-same (isTaken p tb (n + 1) g) (isTaken p tb n g) all! h
+      taken-same g h = keep-below-same (isTaken p tb (n + 1) g) (isTaken p tb n g) all! h
 
-      entered-out : all! ≤ x → Entered p tb (n + 1) used
+      entered-out : all! ≤ x → TakenCounted p tb (n + 1) used
       entered-out out = record {
         most = λ g h. omega (arith, so .most g h, ap length (s g));
         least = λ g h l. omega (arith, so .least g h l, ap length (s g));
@@ -170,9 +170,9 @@ module _ (p : Params) (tb : List ℕ) where
       }
         where
           s : (g : ℕ) → takenIn p tb (n + 1) g ≡ takenIn p tb n g
-          s g = same-list g (λ q l. same-else g q (λ c. omega (arith, l, c, out)))
+          s g = taken-same g (λ q l. taken-else g q (λ c. omega (arith, l, c, out)))
 
-      entered-in : x < all! → placeZone p x < length used → Entered p tb (n + 1) (set used (placeZone p x) (getD used (placeZone p x) 0 + 1))
+      entered-in : x < all! → placeZone p x < length used → TakenCounted p tb (n + 1) (set used (placeZone p x) (getD used (placeZone p x) 0 + 1))
       unfolding takenIn below
       entered-in within fits = record {
         most = λ g h. most′ g h (test (eqb g z));
@@ -193,15 +193,15 @@ module _ (p : Params) (tb : List ℕ) where
           there g c = getD-set-other used z g (getD used z 0 + 1) 0 c
 
           same : (g : ℕ) → (g ≡ z → ⊥) → length (takenIn p tb (n + 1) g) ≡ length (takenIn p tb n g)
-          same g c = ap length (same-list g (λ q l. same-other g q (λ d. c (sym d))))
+          same g c = ap length (taken-same g (λ q l. same-other g q (λ d. c (sym d))))
 
           most′ : (g : ℕ) → g < p .Z → Test (eqb g z) → length (takenIn p tb (n + 1) g) ≤ getD now′ g 0
-          most′ g h (yes! e) = omega (arith, here g (eqb-true g z e), so .most g h, keep-but-one (isTaken p tb n g) (isTaken p tb (n + 1) g) x 0 all! (λ q c. same-else g q c))
+          most′ g h (yes! e) = omega (arith, here g (eqb-true g z e), so .most g h, keep-but-one (isTaken p tb n g) (isTaken p tb (n + 1) g) x 0 all! (λ q c. taken-else g q c))
           most′ g h (no! e) = omega (arith, there g (eqb-false g z e), so .most g h, same g (eqb-false g z e))
 
           least′ : (g : ℕ) → g < p .Z → 0 < getD now′ g 0 → Test (eqb g z) → 0 < length (takenIn p tb (n + 1) g)
           least′ g h l (yes! e) =
-              keep-some (isTaken p tb (n + 1) g) x 0 all! (omega arith) (omega (arith, within)) (ap (λ (k : ℕ). isTaken p tb (n + 1) k x) (eqb-true g z e) ∙ this)
+              keep-some (isTaken p tb (n + 1) g) x 0 all! (omega arith) (omega (arith, within)) (ap (λ (k : ℕ). isTaken p tb (n + 1) k x) (eqb-true g z e) ∙ taken-last)
           least′ g h l (no! e) = omega (arith, so .least g h (omega (arith, l, there g (eqb-false g z e))), same g (eqb-false g z e))
 
           low′ : (g : ℕ) → g < p .Z → Test (eqb g z) → getD now′ g 0 ≤ n + 1
@@ -209,18 +209,18 @@ module _ (p : Params) (tb : List ℕ) where
           low′ g h (no! e) = omega (arith, there g (eqb-false g z e), so .low g h)
 
       -- either way, with the segment of its zone
-      module _ (rg : Ranged p) (segments : List ℕ) (zones : Zones p segments (p .N * p .Z)) (long : p .Z ≤ length used) where
+      module _ (rg : Ranged p) (segments : List ℕ) (zones : ZonesInTurn p segments (p .N * p .Z)) (long : p .Z ≤ length used) where
         abbrev s : ℕ
         s = getD segments (x / capacity p) 0
 
-        pub entered-more : (used′ : List ℕ) → used′ ≡ cond (ltb x all!) (set used s (getD used s 0 + 1)) used → Entered p tb (n + 1) used′
+        pub entered-more : (used′ : List ℕ) → used′ ≡ cond (ltb x all!) (set used s (getD used s 0 + 1)) used → TakenCounted p tb (n + 1) used′
         entered-more used′ e = go (decLt x all!)
           where
-            go : Dec (x < all!) → Entered p tb (n + 1) used′
+            go : Dec (x < all!) → TakenCounted p tb (n + 1) used′
             go (yes l) =
                 let z : s ≡ placeZone p x = zone-told p rg segments zones x l in
                 let f = e ∙ (λ i. cond (lt-ltb x all! l i) (set used (z i) (getD used (z i) 0 + 1)) used) in
-                subst (λ (u : List ℕ). Entered p tb (n + 1) u) (sym f) (entered-in l (omega (arith, zone-low p rg x, long)))
+                subst (λ (u : List ℕ). TakenCounted p tb (n + 1) u) (sym f) (entered-in l (omega (arith, zone-low p rg x, long)))
             go (no l) =
                 let f = e ∙ ap (λ (b : Bool). cond b (set used s (getD used s 0 + 1)) used) (le-ltb x all! (omega arith)) in
-                subst (λ (u : List ℕ). Entered p tb (n + 1) u) (sym f) (entered-out (omega arith))
+                subst (λ (u : List ℕ). TakenCounted p tb (n + 1) u) (sym f) (entered-out (omega arith))

@@ -1,7 +1,7 @@
 -- Division by a zone's length as a product: q / c is q * (2^47 / c + 1) / 2^47 (01, The array). With t = q / c and e = m * c - 2^47, which is
 -- at most c, the product is t * 2^47 and less than 2^47 more. Assumes nothing.
 use Prim.Native.Nat.{ℕ, _+_, _-_, _*_, _/_, _%_, _≤_, _<_}
-use Rattle.law_basic.specs.Geometry.{prod-le, item}
+use Rattle.law_basic.specs.Geometry.{prod-le, item-fits}
 use lib.Arith.{digits-div}
 use mathlib.Core.Path.{_≡_, sym, ap, _∙_}
 use native.Mathlib.Decide.{decLe}
@@ -60,8 +60,8 @@ module _ (q c : ℕ) (low : 3 ≤ c) (high : c ≤ 87381) (fits : q < 8192 * c) 
 
   more-low : t * e + r * m < scale
   more-low =
-      let a : r * m + m ≤ c * m = item r c m (mod-lt q pos) in
-      let b : t * e + e ≤ 8192 * e = item t 8192 e few in
+      let a : r * m + m ≤ c * m = item-fits r c m (mod-lt q pos) in
+      let b : t * e + e ≤ 8192 * e = item-fits t 8192 e few in
       omega (arith, a, b, mul-comm c m, m-times, m-large)
 
   pub inverse-fits : q * inverse c < 18446744073709551616

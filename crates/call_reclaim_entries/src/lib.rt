@@ -5,7 +5,7 @@ ghost use Prim.Native.Nat.{_+_, _*_, _/_, _≤_, _<_};
 ghost use lib.ListN.{length, getD};
 ghost use mir.Val.{boolByte};
 ghost use Rattle.spec.specs.Params.{inRange, capacity, addressesLen};
-ghost use Rattle.call_reclaim_entries.specs.Entries.{Zones, withEntry, Entered};
+ghost use Rattle.call_reclaim_entries.specs.Entries.{ZonesInTurn, withEntry, TakenCounted};
 ghost use Rattle.call_reclaim_entries.specs.Inverse.{inverse};
 ghost use Rattle.mem_tables.specs.Tables.{isWithin, countPlaces};
 use spec::Params;
@@ -20,7 +20,7 @@ fn wide(s: u16) -> usize
 fn number_zones(p: Params, segments: &mut [u16])
     requires { ⌜ inRange p ≡ true ⌝ }
     requires { ⌜ p .N * p .Z ≤ length (now segments) ⌝ }
-    ensures { λ _. ⌜ Zones p (now (segments .exit)) (p .N * p .Z) ⌝ }
+    ensures { λ _. ⌜ ZonesInTurn p (now (segments .exit)) (p .N * p .Z) ⌝ }
 {
     let n = p.N * p.Z;
     let mut z = 0;
@@ -68,8 +68,8 @@ fn add_entry(
 fn count_all(p: Params, addresses: &[u8], segments: &[u16], used: &mut [usize]) -> usize
     requires { ⌜ inRange p ≡ true ⌝ }
     requires { ⌜ (length (now addresses) ≡ addressesLen p) × (p .N * p .Z ≤ length (now segments)) × (p .Z ≤ length (now used)) ⌝ }
-    requires { ⌜ Zones p (now segments) (p .N * p .Z) × Entered p (now addresses) 0 (now used) ⌝ }
-    ensures { λ _. ⌜ Entered p (now (addresses .entry)) (p .L) (now (used .exit)) ⌝ }
+    requires { ⌜ ZonesInTurn p (now segments) (p .N * p .Z) × TakenCounted p (now addresses) 0 (now used) ⌝ }
+    ensures { λ _. ⌜ TakenCounted p (now (addresses .entry)) (p .L) (now (used .exit)) ⌝ }
     ensures { λ r. ⌜ r ≡ countPlaces (now (addresses .entry)) (p .L) (p .N * p .Z * capacity p) 4294967295 ⌝ }
 {
     let all = call_reclaim_live::places(p);
@@ -89,8 +89,8 @@ fn count_all(p: Params, addresses: &[u8], segments: &[u16], used: &mut [usize]) 
 pub fn count_entries(p: Params, addresses: &[u8], used: &mut [usize]) -> usize
     requires { ⌜ inRange p ≡ true ⌝ }
     requires { ⌜ (length (now addresses) ≡ addressesLen p) × (p .Z ≤ length (now used)) ⌝ }
-    requires { ⌜ Entered p (now addresses) 0 (now used) ⌝ }
-    ensures { λ _. ⌜ Entered p (now (addresses .entry)) (p .L) (now (used .exit)) ⌝ }
+    requires { ⌜ TakenCounted p (now addresses) 0 (now used) ⌝ }
+    ensures { λ _. ⌜ TakenCounted p (now (addresses .entry)) (p .L) (now (used .exit)) ⌝ }
     ensures { λ r. ⌜ r ≡ countPlaces (now (addresses .entry)) (p .L) (p .N * p .Z * capacity p) 4294967295 ⌝ }
 {
     let mut segments = [0u16; 8192];

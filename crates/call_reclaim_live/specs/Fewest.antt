@@ -1,6 +1,6 @@
 -- The sealed segment with fewest live blocks, by the counts (01, Reclaim). Assumes nothing.
 use Prim.Native.Nat.{ℕ, _+_, _-_, _*_, _≤_, _<_}
-use Rattle.call_reclaim_live.specs.Live.{Counted, live-all}
+use Rattle.call_reclaim_live.specs.Live.{LiveCounted, live-all}
 use Rattle.spec.specs.Drives.{View, segmentNumbers, sealedIn}
 use Rattle.spec.specs.Lists.{Opt, upFrom, keep}
 use Rattle.spec.specs.Lists.Opt.{none, some}
@@ -48,10 +48,10 @@ unfolding takenAs
 taken-some p tb g h = ap (λ (x : Bool). cond x none (some (victimOf p (placesIn p tb) g))) (lt-leb (p .Z) g h)
 
 -- a segment's count
-pub count-live : (p : Params) → Ranged p → (tb live : List ℕ) → Counted p tb live (p .N * p .Z * capacity p) → (g : ℕ) → g < p .Z → length (liveIn p (placesIn p tb) g) ≡ getD live g 0
+pub count-live : (p : Params) → Ranged p → (tb live : List ℕ) → LiveCounted p tb live (p .N * p .Z * capacity p) → (g : ℕ) → g < p .Z → length (liveIn p (placesIn p tb) g) ≡ getD live g 0
 count-live p r tb live so g h = ap length (live-all p r tb g h) ∙ sym (so g h)
 
-pub pick-fewer : (p : Params) → Ranged p → (tb live : List ℕ) → Counted p tb live (p .N * p .Z * capacity p) → (best g : ℕ) → g < p .Z
+pub pick-fewer : (p : Params) → Ranged p → (tb live : List ℕ) → LiveCounted p tb live (p .N * p .Z * capacity p) → (best g : ℕ) → g < p .Z
     → takenAs p tb (pickOf p live best g) ≡ fewer (takenAs p tb best) (victimOf p (placesIn p tb) g)
 unfolding pickOf fewer victimOf
 pick-fewer p r tb live so best g h = go (decLe (p .Z) best)
@@ -110,7 +110,7 @@ module _ (p : Params) (v : View) (tb : List ℕ) where
           ∙ ap (λ (x : Bool). onward (cond x (fewer a (victimOf p (placesIn p tb) g)) a) (g + 1)) (sym e)
 
 -- one turn of the loop
-pub turn-best : (p : Params) → Ranged p → (v : View) (tb live : List ℕ) → Counted p tb live (p .N * p .Z * capacity p) → (best best′ g : ℕ) → g < p .Z
+pub turn-best : (p : Params) → Ranged p → (v : View) (tb live : List ℕ) → LiveCounted p tb live (p .N * p .Z * capacity p) → (best best′ g : ℕ) → g < p .Z
     → best′ ≡ cond (sealedIn p v 0 g) (pickOf p live best g) best → onward p v tb (takenAs p tb best) g ≡ victim p v tb → onward p v tb (takenAs p tb best′) (g + 1) ≡ victim p v tb
 turn-best p r v tb live so best best′ g h e k =
     ap (λ (x : Opt Victim). onward p v tb x (g + 1)) (ap (takenAs p tb) e ∙ go (sealedIn p v 0 g)) ∙ sym (onward-turn p v tb (takenAs p tb best) g h) ∙ k

@@ -44,8 +44,8 @@ module _ (p : Params) (v : View) (live : List ℕ) where
 
   module _ (n best : ℕ) (so : Least p v live n best) (low : n < p .Z) where
     -- a number below n + 1 is below n, or n
-    split : {A : Type 0} (k : ℕ) → k < n + 1 → (k < n → A) → (k ≡ n → A) → A
-    split {A} k l f g = go (decLt k n)
+    last-or-below : {A : Type 0} (k : ℕ) → k < n + 1 → (k < n → A) → (k ≡ n → A) → A
+    last-or-below {A} k l f g = go (decLt k n)
       where
         go : Dec (k < n) → A
         go (yes h) = f h
@@ -56,17 +56,17 @@ module _ (p : Params) (v : View) (live : List ℕ) where
     pass e = record {
       early = λ l. omega (arith, so .early l);
       taken = so .taken;
-      least = λ l k h q. split k h (λ b. so .least l k b q) (λ b. absurd (not-both (s n) (ap s (sym b) ∙ q) e));
+      least = λ l k h q. last-or-below k h (λ b. so .least l k b q) (λ b. absurd (not-both (s n) (ap s (sym b) ∙ q) e));
       first = so .first;
-      nobody = λ l k h q. split k h (λ b. so .nobody l k b q) (λ b. not-both (s n) (ap s (sym b) ∙ q) e);
+      nobody = λ l k h q. last-or-below k h (λ b. so .nobody l k b q) (λ b. not-both (s n) (ap s (sym b) ∙ q) e);
     }
 
     -- it is, and is no better
-    stay : s n ≡ true → best < p .Z → at best ≤ at n → Least p v live (n + 1) best
-    stay e b m = record {
+    least-stays : s n ≡ true → best < p .Z → at best ≤ at n → Least p v live (n + 1) best
+    least-stays e b m = record {
       early = λ l. omega (arith, so .early l);
       taken = so .taken;
-      least = λ l k h q. split k h (λ x. so .least l k x q) (λ x. subst (λ (y : ℕ). at best ≤ at y) (sym x) m);
+      least = λ l k h q. last-or-below k h (λ x. so .least l k x q) (λ x. subst (λ (y : ℕ). at best ≤ at y) (sym x) m);
       first = so .first;
       nobody = λ l. absurd (let q : ⊥ = omega arith in q);
     }
@@ -76,7 +76,7 @@ module _ (p : Params) (v : View) (live : List ℕ) where
     move e m = record {
       early = λ l. omega arith;
       taken = λ l. e;
-      least = λ l k h q. split k h (λ x. let w : at n < at k = m k x q in omega (arith, w)) (λ x. subst (λ (y : ℕ). at n ≤ at y) (sym x) (omega arith));
+      least = λ l k h q. last-or-below k h (λ x. let w : at n < at k = m k x q in omega (arith, w)) (λ x. subst (λ (y : ℕ). at n ≤ at y) (sym x) (omega arith));
       first = λ l k h q. m k h q;
       nobody = λ l. absurd (let q : ⊥ = omega arith in q);
     }
@@ -95,7 +95,7 @@ module _ (p : Params) (v : View) (live : List ℕ) where
         picked t (no h) (no l) =
             let b : best < p .Z = omega arith in
             let m : at best ≤ at n = omega arith in
-            subst goal (sym (pick-old p live best n b m)) (stay t b m)
+            subst goal (sym (pick-old p live best n b m)) (least-stays t b m)
 
         go : Test (s n) → goal (cond (s n) (pickOf p live best n) best)
         go (yes! t) = subst goal (sym (ap (λ (b : Bool). cond b (pickOf p live best n) best) t)) (picked t (decLe (p .Z) best) (decLt (at n) (at best)))
@@ -141,26 +141,26 @@ module _ (W : ℕ → Victim) (t : ℕ → Bool) where
   unfolding upFrom
   miss o i n e = ap (λ (l : List ℕ). fewest o (map W l)) (keep-miss t i (upFrom (suc i) n) e)
 
-  stays : (a : Victim) (i n : ℕ) → ((k : ℕ) → i ≤ k → t k ≡ true → k < i + n → length (a .live) ≤ size k) → rest (some a) i n ≡ some a
+  victim-stays : (a : Victim) (i n : ℕ) → ((k : ℕ) → i ≤ k → t k ≡ true → k < i + n → length (a .live) ≤ size k) → rest (some a) i n ≡ some a
   unfolding fewest upFrom keep
-  stays a i zero h = refl
-  stays a i (suc n) h = go (test (t i)) (stays a (suc i) n (λ k x y z. h k (omega arith) y (omega arith)))
+  victim-stays a i zero h = refl
+  victim-stays a i (suc n) h = go (test (t i)) (victim-stays a (suc i) n (λ k x y z. h k (omega arith) y (omega arith)))
     where
       go : Test (t i) → rest (some a) (suc i) n ≡ some a → rest (some a) i (suc n) ≡ some a
       go (yes! e) r = hit (some a) i n e ∙ ap (λ (o : Opt Victim). rest o (suc i) n) (fewer-stay a (W i) (h i (omega arith) e (omega arith))) ∙ r
       go (no! e) r = miss (some a) i n e ∙ r
 
   module _ (g : ℕ) (is : t g ≡ true) (before : (k : ℕ) → k < g → t k ≡ true → size g < size k) where
-    finds : (o : Opt Victim) (i n : ℕ) → i ≤ g → g < i + n → Over (size g) o → ((k : ℕ) → g < k → k < i + n → t k ≡ true → size g ≤ size k) → rest o i n ≡ some (W g)
-    finds o i zero low high w h = absurd (let q : ⊥ = omega arith in q)
-    finds o i (suc n) low high w h = go (test (eqb i g)) (λ u x y. finds u (suc i) n x (omega arith) y (λ k a b. h k a (omega arith)))
+    least-finds : (o : Opt Victim) (i n : ℕ) → i ≤ g → g < i + n → Over (size g) o → ((k : ℕ) → g < k → k < i + n → t k ≡ true → size g ≤ size k) → rest o i n ≡ some (W g)
+    least-finds o i zero low high w h = absurd (let q : ⊥ = omega arith in q)
+    least-finds o i (suc n) low high w h = go (test (eqb i g)) (λ u x y. least-finds u (suc i) n x (omega arith) y (λ k a b. h k a (omega arith)))
       where
         go : Test (eqb i g) → ((u : Opt Victim) → suc i ≤ g → Over (size g) u → rest u (suc i) n ≡ some (W g)) → rest o i (suc n) ≡ some (W g)
         go (yes! e) r =
             let q : i ≡ g = eqb-true i g e in
             hit o i n (ap t q ∙ is)
             ∙ ap (λ (x : Opt Victim). rest x (suc i) n) (ap (λ (x : ℕ). fewer o (W x)) q ∙ fewer-take o (W g) w)
-            ∙ stays (W g) (suc i) n (λ k x y z. h k (omega (arith, q, x)) (omega (arith, z)) y)
+            ∙ victim-stays (W g) (suc i) n (λ k x y z. h k (omega (arith, q, x)) (omega (arith, z)) y)
         go (no! e) r = other (test (t i))
           where
             l : i < g
@@ -177,5 +177,5 @@ pub victim-least : (p : Params) (v : View) (tb : List ℕ) (g : ℕ) → g < p .
     → victim p v tb ≡ takenAs p tb g
 unfolding victim segmentNumbers below
 victim-least p v tb g h is before after =
-    finds (victimOf p (placesIn p tb)) (sealedIn p v 0) g is before none 0 (p .Z) (omega arith) (omega (arith, h)) over-none (λ k a b q. after k a (omega (arith, b)) q)
+    least-finds (victimOf p (placesIn p tb)) (sealedIn p v 0) g is before none 0 (p .Z) (omega arith) (omega (arith, h)) over-none (λ k a b q. after k a (omega (arith, b)) q)
     ∙ sym (taken-some p tb g h)

@@ -12,7 +12,7 @@ use Rattle.law_basic.specs.Geometry.{prod-le, Ranged, capacity-low, capacity-hi
 use Rattle.law_basic.specs.Ranges.{Test, test, upFrom-add, below-none, length-below, any-same, keep-append, keep-none, keep-below-same, length-keep, flat-none}
 use Rattle.law_basic.specs.Ranges.{flat-below-snoc, keep-below-snoc, any-map, below-split}
 use Rattle.law_basic.specs.Ranges.Test.{yes!, no! }
-use Rattle.mem_marks.specs.Marks.{marked, isPointed, Marks, shifted}
+use Rattle.mem_marks.specs.Marks.{isMarked, isPointed, Marks, shifted}
 use Rattle.law_scans.specs.Scans.{any-keep}
 use borrow.Author.Tests.{eq-eqb, ne-eqb, eqb-true, eqb-false}
 use lib.Arith.{digits-div, digits-mod, lt-of-le-ne}
@@ -36,36 +36,36 @@ unfoldable pub liveBelow : Params → List ℕ → ℕ → ℕ → List ℕ
 liveBelow p tb g n = keep (isLiveIn p tb g) (below n)
 
 -- each segment's live blocks below place n are counted
-abbrev pub Counted : Params → List ℕ → List ℕ → ℕ → Type 0
-Counted p tb live n = (g : ℕ) → g < p .Z → getD live g 0 ≡ length (liveBelow p tb g n)
+abbrev pub LiveCounted : Params → List ℕ → List ℕ → ℕ → Type 0
+LiveCounted p tb live n = (g : ℕ) → g < p .Z → getD live g 0 ≡ length (liveBelow p tb g n)
 
 -- ---- ranges of which all or none pass
 
-pub keep-all : (f : ℕ → Bool) (i n : ℕ) → ((k : ℕ) → i ≤ k → k < i + n → f k ≡ true) → keep f (upFrom i n) ≡ upFrom i n
+pub keep-range : (f : ℕ → Bool) (i n : ℕ) → ((k : ℕ) → i ≤ k → k < i + n → f k ≡ true) → keep f (upFrom i n) ≡ upFrom i n
 unfolding keep upFrom consIf
-keep-all f i zero h = refl
-keep-all f i (suc n) h = ap₂ (λ (x : Bool) (y : List ℕ). consIf x i y) (h i (omega arith) (omega arith)) (keep-all f (suc i) n (λ k a b. h k (omega arith) (omega arith)))
+keep-range f i zero h = refl
+keep-range f i (suc n) h = ap₂ (λ (x : Bool) (y : List ℕ). consIf x i y) (h i (omega arith) (omega arith)) (keep-range f (suc i) n (λ k a b. h k (omega arith) (omega arith)))
 
 pub keep-nobody : (f : ℕ → Bool) (i n : ℕ) → ((k : ℕ) → i ≤ k → k < i + n → f k ≡ false) → keep f (upFrom i n) ≡ []
 unfolding keep upFrom consIf
 keep-nobody f i zero h = refl
 keep-nobody f i (suc n) h = ap₂ (λ (x : Bool) (y : List ℕ). consIf x i y) (h i (omega arith) (omega arith)) (keep-nobody f (suc i) n (λ k a b. h k (omega arith) (omega arith)))
 
-pub keep-keep : {A : Type 0} (f g : A → Bool) (l : List A) → keep g (keep f l) ≡ keep (λ (a : A). f a && g a) l
+pub keep-twice : {A : Type 0} (f g : A → Bool) (l : List A) → keep g (keep f l) ≡ keep (λ (a : A). f a && g a) l
 unfolding keep consIf
-keep-keep f g [] = refl
-keep-keep {A} f g (a ∷ l) = go (f a) (keep-keep f g l)
+keep-twice f g [] = refl
+keep-twice {A} f g (a ∷ l) = go (f a) (keep-twice f g l)
   where
     go : (b : Bool) → keep g (keep f l) ≡ keep (λ (x : A). f x && g x) l → keep g (consIf b a (keep f l)) ≡ consIf (b && g a) a (keep (λ (x : A). f x && g x) l)
     go true e = ap (consIf (g a) a) e
     go false e = e
 
-map-shift : (f : ℕ → ℕ) (x i n : ℕ) → ((k : ℕ) → f k ≡ x + k) → map f (upFrom i n) ≡ upFrom (x + i) n
+map-upFrom : (f : ℕ → ℕ) (x i n : ℕ) → ((k : ℕ) → f k ≡ x + k) → map f (upFrom i n) ≡ upFrom (x + i) n
 unfolding upFrom
-map-shift f x i zero h = refl
-map-shift f x i (suc n) h =
+map-upFrom f x i zero h = refl
+map-upFrom f x i (suc n) h =
     let e : x + suc i ≡ suc (x + i) = omega arith in
-    ap₂ _∷_ (h i) (map-shift f x (suc i) n h ∙ ap (λ (k : ℕ). upFrom k n) e)
+    ap₂ _∷_ (h i) (map-upFrom f x (suc i) n h ∙ ap (λ (k : ℕ). upFrom k n) e)
 
 -- the number after t, counted from 0 to Z - 1 again and again
 pub mod-next : (Z t : ℕ) → 0 < Z → (t + 1) % Z ≡ cond (eqb (t % Z + 1) Z) 0 (t % Z + 1)
@@ -127,8 +127,8 @@ module _ (p : Params) (r : Ranged p) where
     unfolding placeBlock
     starts-at = let e : t * C + at % C ≡ at = div-add-mod' at C in omega (arith, e, starts)
 
-    pub zone-same : (q : ℕ) → at ≤ q → q < at + C → placeZone p q ≡ placeZone p at
-    zone-same q low high = zone-of t q (omega (arith, starts-at)) (omega (arith, starts-at)) ∙ sym (zone-of t at (omega (arith, starts-at)) (omega (arith, starts-at, capacity-low p r)))
+    pub place-zone-same : (q : ℕ) → at ≤ q → q < at + C → placeZone p q ≡ placeZone p at
+    place-zone-same q low high = zone-of t q (omega (arith, starts-at)) (omega (arith, starts-at)) ∙ sym (zone-of t at (omega (arith, starts-at)) (omega (arith, starts-at, capacity-low p r)))
 
     next-at : (t + 1) * C + 0 ≡ at + C
     next-at = let e : (t + 1) * C ≡ t * C + C = add-mul t 1 C ∙ ap (λ (x : ℕ). t * C + x) (one-mul C) in omega (arith, e, starts-at)
@@ -167,7 +167,7 @@ module _ (p : Params) (r : Ranged p) where
       let m : t - a < Z = omega arith in
       let w : t ≡ a + (t - a) = omega arith in
       ne-eqb (t % Z) g (λ c. let v : t % Z ≡ t - a = ap (λ (n : ℕ). n % Z) w ∙ digits-mod d m in omega (arith, v, c))) lo hi) in
-      let two : keep f (upFrom (a * C + g * C) C) ≡ upFrom (a * C + g * C) C = keep-all f (a * C + g * C) C (λ q lo hi.
+      let two : keep f (upFrom (a * C + g * C) C) ≡ upFrom (a * C + g * C) C = keep-range f (a * C + g * C) C (λ q lo hi.
       eq-eqb (placeZone p q) g (zone-of (a + g) q (omega arith) (omega arith) ∙ digits-mod d h)) in
       let three : keep f (upFrom (a * C + g * C + C) (k * C)) ≡ [] = keep-nobody f (a * C + g * C + C) (k * C) (λ q lo hi. no-zone g (a + g + 1) k q (λ t x y.
       let m : t - a < Z = omega arith in
@@ -178,7 +178,7 @@ module _ (p : Params) (r : Ranged p) where
       ∙ keep-append f (upFrom (a * C) (g * C)) (upFrom (a * C + g * C) C ++ upFrom (a * C + g * C + C) (k * C))
       ∙ ap₂ _++_ one (keep-append f (upFrom (a * C + g * C) C) (upFrom (a * C + g * C + C) (k * C)) ∙ ap₂ _++_ two three ∙ append-nil (upFrom (a * C + g * C) C))
       ∙ ap (λ (x : ℕ). upFrom x C) (let w : a * C + g * C ≡ (a + g) * C + 0 = omega arith in w)
-      ∙ sym (map-shift (λ b. (a + g) * C + b) ((a + g) * C) 0 C (λ b. refl))
+      ∙ sym (map-upFrom (λ b. (a + g) * C + b) ((a + g) * C) 0 C (λ b. refl))
 
   segment-drives : (g n : ℕ) → g < p .Z → flat (λ d. map (placeOf p d (zoneOn g d)) (below C)) (below n) ≡ keep (λ q. eqb (placeZone p q) g) (below (n * p .Z * C))
   segment-drives g zero h =
@@ -222,18 +222,18 @@ live-all p r tb g h =
     let all! = p .N * p .Z * capacity p in
     let f : ℕ → Bool = λ q. eqb (placeZone p q) g in
     ap (keep (λ q. isMember q (placesIn p tb))) (segment-places p r g h)
-    ∙ keep-keep f (λ q. isMember q (placesIn p tb)) (below all!)
+    ∙ keep-twice f (λ q. isMember q (placesIn p tb)) (below all!)
     ∙ keep-below-same (λ q. f q && isMember q (placesIn p tb)) (λ q. f q && isPointed tb (p .L) q) all!
     (λ q l. ap (λ (x : Bool). f q && x) (member-places p tb q (omega (arith, l, places-high p r))))
 
 -- ---- from place to place
 
 -- the first segment's counts are 0
-pub counted-none : (p : Params) (tb live : List ℕ) → ((g : ℕ) → g < p .Z → getD live g 0 ≡ 0) → Counted p tb live 0
+pub none-live : (p : Params) (tb live : List ℕ) → ((g : ℕ) → g < p .Z → getD live g 0 ≡ 0) → LiveCounted p tb live 0
 unfolding liveBelow
-counted-none p tb live h g l = h g l ∙ sym (ap (λ (x : List ℕ). length (keep (isLiveIn p tb g) x)) below-none ∙ ap length (keep-none (isLiveIn p tb g)))
+none-live p tb live h g l = h g l ∙ sym (ap (λ (x : List ℕ). length (keep (isLiveIn p tb g) x)) below-none ∙ ap length (keep-none (isLiveIn p tb g)))
 
-pub counted-le : (p : Params) (tb live : List ℕ) (n : ℕ) → Counted p tb live n → (g : ℕ) → g < p .Z → getD live g 0 ≤ n
+pub counted-le : (p : Params) (tb live : List ℕ) (n : ℕ) → LiveCounted p tb live n → (g : ℕ) → g < p .Z → getD live g 0 ≤ n
 unfolding liveBelow
 counted-le p tb live n h g l = omega (arith, h g l, length-keep (isLiveIn p tb g) (below n), length-below n)
 
@@ -242,9 +242,9 @@ pub live-more : (p : Params) (tb : List ℕ) (g q : ℕ) → isLiveIn p tb g q �
 unfolding liveBelow consIf
 live-more p tb g q e = keep-below-snoc (isLiveIn p tb g) q ∙ ap (λ (b : Bool). liveBelow p tb g q ++ consIf b q []) e
 
-pub keep-one : {A : Type 0} (f : A → Bool) (a : A) → keep f (a ∷ []) ≡ consIf (f a) a []
+pub keep-single : {A : Type 0} (f : A → Bool) (a : A) → keep f (a ∷ []) ≡ consIf (f a) a []
 unfolding keep
-keep-one f a = refl
+keep-single f a = refl
 
 -- a count raised stays within its bound
 pub bounded-more : (n : ℕ) (live : List ℕ) (z v from to : ℕ) → ((g : ℕ) → g < n → getD live g 0 ≤ from) → z < length live → v ≤ to → from ≤ to
@@ -268,16 +268,16 @@ live-split p tb g a b h =
 module _ (p : Params) (tb ms : List ℕ) (first end : ℕ) (told : Marks tb (p .L) ms first end) where
   -- in a zone of segment z, as many blocks are live as are marked
   live-run : (z from to : ℕ) → first ≤ from → from ≤ to → to ≤ end → ((q : ℕ) → from ≤ q → q < to → placeZone p q ≡ z)
-      → length (keep (isLiveIn p tb z) (upFrom from (to - from))) ≡ length (keep (marked ms) (upFrom (from - first) (to - first - (from - first))))
+      → length (keep (isLiveIn p tb z) (upFrom from (to - from))) ≡ length (keep (isMarked ms) (upFrom (from - first) (to - first - (from - first))))
   unfolding isLiveIn
   live-run z from to low mid high same =
       let e : to - from ≡ to - first - (from - first) = omega arith in
-      shifted (isLiveIn p tb z) (marked ms) from (from - first) (to - from) (λ k l.
+      shifted (isLiveIn p tb z) (isMarked ms) from (from - first) (to - from) (λ k l.
       let q : ℕ = from + k in
       let s : q - first ≡ from - first + k = omega arith in
       ap (λ (x : Bool). x && isPointed tb (p .L) q) (eq-eqb (placeZone p q) z (same q (omega arith) (omega arith)))
-      ∙ sym (told q (omega arith) (omega arith)) ∙ ap (marked ms) s)
-      ∙ ap (λ (x : ℕ). length (keep (marked ms) (upFrom (from - first) x))) e
+      ∙ sym (told q (omega arith) (omega arith)) ∙ ap (isMarked ms) s)
+      ∙ ap (λ (x : ℕ). length (keep (isMarked ms) (upFrom (from - first) x))) e
 
   other-run : (g z from to : ℕ) → from ≤ to → (z ≡ g → ⊥) → ((q : ℕ) → from ≤ q → q < to → placeZone p q ≡ z) → keep (isLiveIn p tb g) (upFrom from (to - from)) ≡ []
   unfolding isLiveIn
@@ -286,7 +286,7 @@ module _ (p : Params) (tb ms : List ℕ) (first end : ℕ) (told : Marks tb (p .
 
   -- a zone counted
   pub counted-more : (live : List ℕ) (z from to n : ℕ) → first ≤ from → from ≤ to → to ≤ end → z < length live → ((q : ℕ) → from ≤ q → q < to → placeZone p q ≡ z)
-      → n ≡ length (keep (marked ms) (upFrom (from - first) (to - first - (from - first)))) → Counted p tb live from → Counted p tb (set live z (getD live z 0 + n)) to
+      → n ≡ length (keep (isMarked ms) (upFrom (from - first) (to - first - (from - first)))) → LiveCounted p tb live from → LiveCounted p tb (set live z (getD live z 0 + n)) to
   counted-more live z from to n low mid high fits same e so g l = go (test (eqb z g))
     where
       whole : length (liveBelow p tb g to) ≡ length (liveBelow p tb g from) + length (keep (isLiveIn p tb g) (upFrom from (to - from)))
@@ -323,7 +323,7 @@ only-window tb ms n first end all! step told once h e k = go (decLt 0 first)
     go (no l) =
         let z : first ≡ 0 = omega arith in
         let f : end ≡ all! = omega arith in
-        (f, λ q x y. ap (λ (i : ℕ). marked ms (q - i)) (sym z) ∙ told q (omega arith) (omega arith))
+        (f, λ q x y. ap (λ (i : ℕ). isMarked ms (q - i)) (sym z) ∙ told q (omega arith) (omega arith))
 
 pub left-marks : (tb ms : List ℕ) (n first all! step : ℕ) → (0 < first → all! ≤ step → (first ≡ all!) × Marks tb n ms 0 all!) → first ≡ all! → all! ≤ step → Marks tb n ms 0 all!
 left-marks tb ms n first all! step once e k = go (decLt 0 first)

@@ -7,7 +7,7 @@ ghost use lib.Dec.{eqb};
 ghost use lib.ListN.{length, getD};
 ghost use Rattle.call_reclaim_live.specs.Fewest.{pickOf, takenAs};
 ghost use Rattle.call_reclaim_live.specs.Least.{Least};
-ghost use Rattle.call_reclaim_live.specs.Live.{Counted};
+ghost use Rattle.call_reclaim_live.specs.Live.{LiveCounted};
 ghost use Rattle.spec.specs.Drives.{viewOf, sealedIn};
 ghost use Rattle.spec.specs.Params.{inRange, capacity, imageLen, pointersLen, addressesLen};
 ghost use Rattle.spec.specs.Reclaim.{victim};
@@ -54,7 +54,7 @@ fn count_zones(p: Params, marks: &[u8], live: &mut [usize], first: usize, end: u
     requires { ⌜ inRange p ≡ true ⌝ }
     requires { ⌜ (first ≤ end) × (end ≤ 715825152) × (end ≤ first + 8 * length (now marks)) × (p .Z ≤ length (now live)) ⌝ }
     requires { ⌜ ((g : ℕ) → g < p .Z → getD (now live) g 0 ≤ first) ⌝ }
-    ensures { λ _. ⌜ ((tb : List ℕ) → Marks tb (p .L) (now (marks .entry)) first end → Counted p tb (now (live .entry)) first → Counted p tb (now (live .exit)) end) ⌝ }
+    ensures { λ _. ⌜ ((tb : List ℕ) → Marks tb (p .L) (now (marks .entry)) first end → LiveCounted p tb (now (live .entry)) first → LiveCounted p tb (now (live .exit)) end) ⌝ }
 {
     let cap = disk_shape::capacity(p);
     let mut at = 0;
@@ -75,8 +75,8 @@ fn count_zones(p: Params, marks: &[u8], live: &mut [usize], first: usize, end: u
 pub fn count_windows(p: Params, addresses: &[u8], marks: &mut [u8], live: &mut [usize]) -> usize
     requires { ⌜ inRange p ≡ true ⌝ }
     requires { ⌜ (length (now addresses) ≡ addressesLen p) × (0 < length (now marks)) × (length (now marks) < 268435456) × (p .Z ≤ length (now live)) ⌝ }
-    requires { ⌜ Counted p (now addresses) (now live) 0 ⌝ }
-    ensures { λ _. ⌜ Counted p (now (addresses .entry)) (now (live .exit)) (p .N * p .Z * capacity p) ⌝ }
+    requires { ⌜ LiveCounted p (now addresses) (now live) 0 ⌝ }
+    ensures { λ _. ⌜ LiveCounted p (now (addresses .entry)) (now (live .exit)) (p .N * p .Z * capacity p) ⌝ }
     ensures { λ _. ⌜ (p .N * p .Z * capacity p ≤ 8 * length (now (marks .entry)) → Marks (now (addresses .entry)) (p .L) (now (marks .exit)) 0 (p .N * p .Z * capacity p)) ⌝ }
     ensures { λ r. ⌜ r ≡ countPlaces (now (addresses .entry)) (p .L) (p .N * p .Z * capacity p) 4294967295 ⌝ }
 {
@@ -117,7 +117,8 @@ fn better(p: Params, pointers: &[u8], live: &[usize], best: usize, g: usize) -> 
 pub fn fewest(p: Params, pointers: &[u8], live: &[usize]) -> usize
     requires { ⌜ inRange p ≡ true ⌝ }
     requires { ⌜ (length (now pointers) ≡ pointersLen p) × (p .Z ≤ length (now live)) ⌝ }
-    ensures { λ r. ⌜ ((im tb : List ℕ) → length im ≡ imageLen p → Counted p tb (now (live .entry)) (p .N * p .Z * capacity p) → victim p (viewOf p im (now (pointers .entry))) tb ≡ takenAs p tb r) ⌝ }
+    ensures { λ r. ⌜ ((im tb : List ℕ) → length im ≡ imageLen p → LiveCounted p tb (now (live .entry)) (p .N * p .Z * capacity p)
+        → victim p (viewOf p im (now (pointers .entry))) tb ≡ takenAs p tb r) ⌝ }
     ensures { λ r. ⌜ ((im : List ℕ) → length im ≡ imageLen p → Least p (viewOf p im (now (pointers .entry))) (now (live .entry)) (p .Z) r) ⌝ }
 {
     let mut best = p.Z;

@@ -7,7 +7,7 @@ use Rattle.spec.specs.Lists.{upFrom, below, any, consIf, keep}
 use Rattle.spec.specs.Memory.{placeAt}
 use Rattle.spec.specs.Params.{capacity, unitLen, placeOf, placeZone, placeByte}
 use Rattle.spec.specs.declared.Params.{Params}
-use Rattle.law_basic.specs.Geometry.{Ranged, item, data-below, place-zone}
+use Rattle.law_basic.specs.Geometry.{Ranged, item-fits, data-below, place-zone}
 use Rattle.law_basic.specs.Ranges.{Test, test, upFrom-add, upFrom-snoc, keep-append, keep-upFrom-same, length-keep, length-upFrom}
 use Rattle.law_basic.specs.Ranges.Test.{yes!, no! }
 use Rattle.mem_marks.specs.Marks.{isPointed}
@@ -43,10 +43,10 @@ below-more P n f g k h = go (decLt k n)
 
 -- ---- one place
 
-any-in : (f : ℕ → Bool) (x i n : ℕ) → i ≤ x → x < i + n → f x ≡ true → any f (upFrom i n) ≡ true
+any-upFrom : (f : ℕ → Bool) (x i n : ℕ) → i ≤ x → x < i + n → f x ≡ true → any f (upFrom i n) ≡ true
 unfolding any upFrom
-any-in f x i zero low high e = absurd (let q : ⊥ = omega arith in q)
-any-in f x i (suc n) low high e = go (test (eqb i x)) (any-in f x (suc i) n)
+any-upFrom f x i zero low high e = absurd (let q : ⊥ = omega arith in q)
+any-upFrom f x i (suc n) low high e = go (test (eqb i x)) (any-upFrom f x (suc i) n)
   where
     right : (b : Bool) → (b || true) ≡ true
     right true = refl
@@ -59,7 +59,7 @@ any-in f x i (suc n) low high e = go (test (eqb i x)) (any-in f x (suc i) n)
 -- the place of one of the addresses
 pub pointed-by : (tb : List ℕ) (n a q : ℕ) → a < n → placeAt tb a ≡ q → isPointed tb n q ≡ true
 unfolding isPointed below
-pointed-by tb n a q h e = any-in (λ k. eqb q (placeAt tb k)) a 0 n (omega arith) (omega (arith, h)) (eq-eqb q (placeAt tb a) (sym e))
+pointed-by tb n a q h e = any-upFrom (λ k. eqb q (placeAt tb k)) a 0 n (omega arith) (omega (arith, h)) (eq-eqb q (placeAt tb a) (sym e))
 
 pub pointed-bit : (tb : List ℕ) (n a q : ℕ) → a < n → boolByte (eqb (placeAt tb a) q) ≤ boolByte (isPointed tb n q)
 pointed-bit tb n a q h = go (test (eqb (placeAt tb a) q))
@@ -70,10 +70,10 @@ pointed-bit tb n a q h = go (test (eqb (placeAt tb a) q))
 
 -- ---- a run of places
 
-one-kept : (b : Bool) (a : ℕ) → length (consIf b a []) ≡ boolByte b
+consIf-length : (b : Bool) (a : ℕ) → length (consIf b a []) ≡ boolByte b
 unfolding consIf
-one-kept true a = refl
-one-kept false a = refl
+consIf-length true a = refl
+consIf-length false a = refl
 
 module _ (f : ℕ → Bool) (i : ℕ) where
   pub run-snoc : (n : ℕ) → length (keep f (upFrom i (n + 1))) ≡ length (keep f (upFrom i n)) + boolByte (f (i + n))
@@ -81,7 +81,7 @@ module _ (f : ℕ → Bool) (i : ℕ) where
   run-snoc n =
       ap (λ (x : ℕ). length (keep f (upFrom i x))) (add-one n) ∙ ap (λ (l : List ℕ). length (keep f l)) (upFrom-snoc i n)
       ∙ ap length (keep-append f (upFrom i n) ((i + n) ∷ [])) ∙ length-append (keep f (upFrom i n)) (consIf (f (i + n)) (i + n) [])
-      ∙ ap (λ (x : ℕ). length (keep f (upFrom i n)) + x) (one-kept (f (i + n)) (i + n))
+      ∙ ap (λ (x : ℕ). length (keep f (upFrom i n)) + x) (consIf-length (f (i + n)) (i + n))
 
   pub run-add : (n m : ℕ) → length (keep f (upFrom i (n + m))) ≡ length (keep f (upFrom i n)) + length (keep f (upFrom (i + n) m))
   run-add n m =
@@ -119,9 +119,9 @@ module _ (p : Params) (tb : List ℕ) (g : ℕ) where
       omega (arith, e)
 
   -- those of the first drives are some of all
-  pub live-within : (d : ℕ) → d ≤ p .N → live (placeOf p d 0 0) ≤ live (p .N * p .Z * capacity p)
+  pub live-below-drive : (d : ℕ) → d ≤ p .N → live (placeOf p d 0 0) ≤ live (p .N * p .Z * capacity p)
   unfolding placeOf
-  live-within d h =
+  live-below-drive d h =
       let e : (d * p .Z + 0) * capacity p + 0 ≡ d * p .Z * capacity p = add-zero ((d * p .Z + 0) * capacity p) ∙ ap (λ (x : ℕ). x * capacity p) (add-zero (d * p .Z)) in
       live-longer ((d * p .Z + 0) * capacity p + 0) (p .N * p .Z * capacity p) (subst (λ (x : ℕ). x ≤ p .N * p .Z * capacity p) (sym e) (mul-le-mul-right (capacity p) (mul-le-mul-right (p .Z) h)))
 
@@ -130,9 +130,9 @@ module _ (p : Params) (tb : List ℕ) (g : ℕ) where
     C = capacity p
 
     -- the data blocks of its zone
-    in-zone : (k : ℕ) → placeOf p d g 1 ≤ k → k < placeOf p d g 1 + p .S → placeZone p k ≡ g
+    place-in-zone : (k : ℕ) → placeOf p d g 1 ≤ k → k < placeOf p d g 1 + p .S → placeZone p k ≡ g
     unfolding placeOf
-    in-zone k low high =
+    place-in-zone k low high =
         let b : ℕ = k - (d * p .Z + g) * C in
         let e : k ≡ (d * p .Z + g) * C + b = omega arith in
         ap (placeZone p) e ∙ place-zone p d g b h (omega (arith, data-below p r (p .S) (omega arith)))
@@ -140,18 +140,18 @@ module _ (p : Params) (tb : List ℕ) (g : ℕ) where
     zone-run : length (keep (isLiveIn p tb g) (upFrom (placeOf p d g 1) (p .S))) ≡ length (pointedFrom tb (p .L) (placeOf p d g 1) (p .S))
     unfolding isLiveIn
     zone-run = ap length (keep-upFrom-same (isLiveIn p tb g) (isPointed tb (p .L)) (placeOf p d g 1) (p .S) (λ k x y.
-        ap (λ (b : Bool). b && isPointed tb (p .L) k) (eq-eqb (placeZone p k) g (in-zone k x y))))
+        ap (λ (b : Bool). b && isPointed tb (p .L) k) (eq-eqb (placeZone p k) g (place-in-zone k x y))))
 
-    pub drive-low : placeOf p d 0 0 ≤ placeOf p d g 1
+    pub drive-place-low : placeOf p d 0 0 ≤ placeOf p d g 1
     unfolding placeOf
-    drive-low = omega (arith, add-mul (d * p .Z) g C, add-mul (d * p .Z) 0 C)
+    drive-place-low = omega (arith, add-mul (d * p .Z) g C, add-mul (d * p .Z) 0 C)
 
-    pub drive-high : placeOf p d g 1 + p .S ≤ placeOf p (d + 1) 0 0
+    pub next-drive-place : placeOf p d g 1 + p .S ≤ placeOf p (d + 1) 0 0
     unfolding placeOf
-    drive-high =
+    next-drive-place =
         let z : (d + 1) * p .Z ≡ d * p .Z + p .Z = add-mul d 1 (p .Z) ∙ ap (λ (x : ℕ). d * p .Z + x) (one-mul (p .Z)) in
         let w : ((d + 1) * p .Z + 0) * C ≡ d * p .Z * C + p .Z * C = ap (λ (x : ℕ). x * C) (add-zero ((d + 1) * p .Z) ∙ z) ∙ add-mul (d * p .Z) (p .Z) C in
-        omega (arith, w, add-mul (d * p .Z) g C, item g (p .Z) C h, data-below p r (p .S) (omega arith))
+        omega (arith, w, add-mul (d * p .Z) g C, item-fits g (p .Z) C h, data-below p r (p .S) (omega arith))
 
     pub drive-more : (c n : ℕ) → c ≤ live (placeOf p d 0 0) → n ≤ length (pointedFrom tb (p .L) (placeOf p d g 1) (p .S)) → c + n ≤ live (placeOf p (d + 1) 0 0)
     drive-more c n a b =
@@ -160,7 +160,7 @@ module _ (p : Params) (tb : List ℕ) (g : ℕ) where
         let e : live (y + p .S) ≡ live y + length (keep (isLiveIn p tb g) (upFrom y (p .S))) =
         ap length (live-split p tb g y (y + p .S) (omega arith)) ∙ length-append (liveBelow p tb g y) (keep (isLiveIn p tb g) (upFrom y (y + p .S - y)))
         ∙ ap (λ (x : ℕ). live y + length (keep (isLiveIn p tb g) (upFrom y x))) s in
-        omega (arith, a, b, e, zone-run, live-longer (placeOf p d 0 0) y drive-low, live-longer (y + p .S) (placeOf p (d + 1) 0 0) drive-high)
+        omega (arith, a, b, e, zone-run, live-longer (placeOf p d 0 0) y drive-place-low, live-longer (y + p .S) (placeOf p (d + 1) 0 0) next-drive-place)
 
 -- the next block's first byte
 pub next-byte : (p : Params) (d z b : ℕ) → placeByte p (placeOf p d z (b + 1)) ≡ placeByte p (placeOf p d z b) + unitLen p

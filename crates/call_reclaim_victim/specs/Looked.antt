@@ -12,7 +12,7 @@ use Rattle.spec.specs.declared.Params.{Params}
 use Rattle.spec.specs.declared.State.{State}
 use Rattle.law_basic.specs.Geometry.{Ranged}
 use Rattle.call_reclaim_victim.specs.Outside.{isOutside}
-use Rattle.call_reclaim_victim.specs.Waiting.{isOdd, Waiting, nil-first, waiting-nil, waiting-found}
+use Rattle.call_reclaim_victim.specs.Waiting.{isOdd, IdleBelow, nil-first, waiting-nil, waiting-found}
 use Rattle.call_reclaim_victim.specs.declared.Chosen.{Chosen}
 use Rattle.call_reclaim_victim.specs.declared.Idle.{Idle}
 use borrow.Author.Tests.{le-leb, lt-leb, eq-eqb}
@@ -79,7 +79,7 @@ module _ (p : Params) (v : View) (tb : List ℕ) (st : State) (g : ℕ) (taken :
     its-idle = ap (keep (λ q. not (flying p v st q))) its-live
 
     -- one is
-    pub looked-some : (n : ℕ) → length (liveBelow p tb g all!) ≡ n → (i : Idle) → Waiting p v st tb g all! i → (r : Chosen) → r .segment ≡ g → r .live ≡ n
+    pub looked-some : (n : ℕ) → length (liveBelow p tb g all!) ≡ n → (i : Idle) → IdleBelow p v st tb g all! i → (r : Chosen) → r .segment ≡ g → r .live ≡ n
         → r .first .0 ≡ i .first .0 → r .odd ≡ i .odd → r .outside ≡ isOutside p tb → Looked p v tb st r
     unfolding isNone victimSegment victimOf
     looked-some n so i wait r es el ef eo ex =
@@ -107,9 +107,9 @@ module _ (p : Params) (v : View) (tb : List ℕ) (st : State) (g : ℕ) (taken :
 -- ---- no segment is sealed
 
 -- then none is taken, whatever the table holds
-pub unsealed : (p : Params) (v : View) (tb : List ℕ) → any (sealedIn p v 0) (below (p .Z)) ≡ false → victim p v tb ≡ takenAs p tb (p .Z)
+pub victim-unsealed : (p : Params) (v : View) (tb : List ℕ) → any (sealedIn p v 0) (below (p .Z)) ≡ false → victim p v tb ≡ takenAs p tb (p .Z)
 unfolding victim fewest segmentNumbers
-unsealed p v tb h = ap (λ (l : List ℕ). fewest none (map (victimOf p (placesIn p tb)) l)) (pass-none (sealedIn p v 0) (below (p .Z)) h) ∙ sym (taken-none p tb (p .Z) (omega arith))
+victim-unsealed p v tb h = ap (λ (l : List ℕ). fewest none (map (victimOf p (placesIn p tb)) l)) (pass-none (sealedIn p v 0) (below (p .Z)) h) ∙ sym (taken-none p tb (p .Z) (omega arith))
 
 -- ---- clear marks, however many
 

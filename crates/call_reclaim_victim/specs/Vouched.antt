@@ -12,13 +12,13 @@ use Rattle.spec.specs.Params.{between, capacity, placeOf, placeBlock, placeZone
 use Rattle.spec.specs.Reclaim.{placesIn, flying, victimOf, victim}
 use Rattle.spec.specs.declared.Params.{Params}
 use Rattle.spec.specs.declared.State.{State}
-use Rattle.call_reclaim_entries.specs.Entries.{Entered, taken-live}
+use Rattle.call_reclaim_entries.specs.Entries.{TakenCounted, taken-live}
 use Rattle.law_basic.specs.Geometry.{Ranged, between-of, data-below, place-block, place-zone, place-lt}
 use Rattle.law_basic.specs.Ranges.{and-both}
 use Rattle.mem_marks.specs.Marks.{isPointed}
 use Rattle.call_reclaim_victim.specs.Looked.{Looked, looked-some}
 use Rattle.call_reclaim_victim.specs.Outside.{isOutside}
-use Rattle.call_reclaim_victim.specs.Waiting.{isOdd, Stepped, Waiting, waiting-none, waiting-step}
+use Rattle.call_reclaim_victim.specs.Waiting.{isOdd, IdleStepped, IdleBelow, waiting-none, waiting-step}
 use Rattle.call_reclaim_victim.specs.declared.Chosen.{Chosen}
 use Rattle.call_reclaim_victim.specs.declared.Idle.{Idle}
 use Rattle.call_reclaim_victim.specs.declared.Seen.{Seen}
@@ -43,7 +43,7 @@ chosenOf t = record { segment = t .segment; live = t .live; first = t .first; od
 -- what s says of the live blocks of segment g below place n
 pub record Vouched (p : Params) (v : View) (st : State) (tb : List ℕ) (g n : ℕ) (s : Seen) : Type 0 where
   pub counted : s .live ≤ length (liveBelow p tb g n)
-  pub whole : s .live ≡ length (liveBelow p tb g n) → Waiting p v st tb g n (seenIdle s)
+  pub whole : s .live ≡ length (liveBelow p tb g n) → IdleBelow p v st tb g n (seenIdle s)
 
 -- from place a to place b, s becomes r
 abbrev pub Sees : Params → View → State → List ℕ → ℕ → ℕ → ℕ → Seen → Seen → Type 0
@@ -80,7 +80,7 @@ module _ (p : Params) (v : View) (st : State) (tb : List ℕ) (g : ℕ) where
   }
 
   -- over a data block that is live
-  pub vouched-step : (q : ℕ) (s r : Seen) (i : Idle) → isLiveIn p tb g q ≡ true → isOdd p q ≡ false → q < neverPlace → Stepped p v st (seenIdle s) q i
+  pub vouched-step : (q : ℕ) (s r : Seen) (i : Idle) → isLiveIn p tb g q ≡ true → isOdd p q ≡ false → q < neverPlace → IdleStepped p v st (seenIdle s) q i
       → r .live ≡ s .live + 1 → r .first .0 ≡ i .first .0 → Vouched p v st tb g q s → Vouched p v st tb g (q + 1) r
   vouched-step q s r i e o low step el ef w = record {
     counted = omega (arith, w .counted, el, l);
@@ -101,8 +101,8 @@ module _ (p : Params) (r : Ranged p) (d g o q : ℕ) (hd : d < p .N) (hg : g < p
   fits : 1 + o < capacity p
   fits = data-below p r (1 + o) (omega (arith, ho))
 
-  pub data-low : q < p .N * p .Z * capacity p
-  data-low = subst (λ (x : ℕ). x < p .N * p .Z * capacity p) (sym q-is) (place-lt p d g (1 + o) hd hg fits)
+  pub vouched-low : q < p .N * p .Z * capacity p
+  vouched-low = subst (λ (x : ℕ). x < p .N * p .Z * capacity p) (sym q-is) (place-lt p d g (1 + o) hd hg fits)
 
   pub data-even : isOdd p q ≡ false
   unfolding isOdd
@@ -137,7 +137,7 @@ module _ (p : Params) (v : View) (tb : List ℕ) (st : State) (g : ℕ) (rg : Ra
     looked-sure r es el ef eo ex = looked-some p v tb st g taken rg h (s .live) as-many (seenIdle s) (w .whole (sym as-many)) r es el ef eo ex
 
   -- by the entries of the table: no more live blocks than entries, and where there are none the others have enough
-  module _ (used : List ℕ) (en : Entered p tb (p .L) used) (le : Least p v used (p .Z) g) where
+  module _ (used : List ℕ) (en : TakenCounted p tb (p .L) used) (le : Least p v used (p .Z) g) where
     long-used : length (liveBelow p tb g all!) ≤ getD used g 0
     long-used = omega (arith, en .most g h, ap length (taken-live p tb g))
 

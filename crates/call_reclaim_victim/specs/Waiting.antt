@@ -1,6 +1,6 @@
 -- The first live block that is not in flight, place after place (01, Reclaim). Assumes nothing.
 use Prim.Native.Nat.{ℕ, zero, suc, _+_, _-_, _≤_, _<_}
-use Rattle.call_reclaim_live.specs.Live.{isLiveIn, liveBelow, keep-nobody, keep-keep, live-more, keep-one, live-split}
+use Rattle.call_reclaim_live.specs.Live.{isLiveIn, liveBelow, keep-nobody, keep-twice, live-more, keep-single, live-split}
 use Rattle.spec.specs.Counts.{neverPlace}
 use Rattle.spec.specs.Drives.{View, placeSegment, recordAt}
 use Rattle.spec.specs.Layout.{Rec}
@@ -12,7 +12,7 @@ use Rattle.spec.specs.declared.Params.{Params}
 use Rattle.spec.specs.declared.State.{State}
 use Rattle.law_basic.specs.Ranges.{Test, test, and-left, and-both, not-both, any-append, keep-append}
 use Rattle.law_basic.specs.Ranges.Test.{yes!, no! }
-use Rattle.mem_marks.specs.Marks.{marked, isPointed, Marks}
+use Rattle.mem_marks.specs.Marks.{isMarked, isPointed, Marks}
 use Rattle.call_reclaim_victim.specs.declared.Idle.{Idle}
 use borrow.Author.Tests.{le-leb, lt-leb, lt-ltb, le-ltb, eq-eqb, ne-eqb, eqb-true, eqb-false, not-true, not-false}
 use lib.Arith.{lt-of-le-ne}
@@ -33,12 +33,12 @@ unfoldable pub orElse : ℕ → ℕ → ℕ
 orElse a b = cond (eqb a neverPlace) b a
 
 -- what a live block q makes of i
-pub record Stepped (p : Params) (v : View) (st : State) (i : Idle) (q : ℕ) (r : Idle) : Type 0 where
+pub record IdleStepped (p : Params) (v : View) (st : State) (i : Idle) (q : ℕ) (r : Idle) : Type 0 where
   pub first : r .first .0 ≡ orElse (i .first .0) (cond (flying p v st q) neverPlace q)
   pub odd : r .odd ≡ (i .odd || isOdd p q)
 
 -- what r says of the live blocks of segment g below place n: the first that is not in flight, and whether some is no data block
-pub record Waiting (p : Params) (v : View) (st : State) (tb : List ℕ) (g n : ℕ) (r : Idle) : Type 0 where
+pub record IdleBelow (p : Params) (v : View) (st : State) (tb : List ℕ) (g n : ℕ) (r : Idle) : Type 0 where
   pub first : r .first .0 ≡ firstOr neverPlace (keep (λ q. not (flying p v st q)) (liveBelow p tb g n))
   pub odd : r .odd ≡ any (isOdd p) (liveBelow p tb g n)
 
@@ -81,13 +81,13 @@ none-kept f d i (suc n) h e = go (f i) e (none-kept f d (suc i) n (omega arith))
     go false q r = r q
 
 -- and else it is one of them that passes
-first-kept :
+first-kept-some :
     (f : ℕ → Bool) (d i n : ℕ)
     → (firstOr d (keep f (upFrom i n)) ≡ d → ⊥)
     → (firstOr d (keep f (upFrom i n)) < i + n) × (f (firstOr d (keep f (upFrom i n))) ≡ true) × (i ≤ firstOr d (keep f (upFrom i n)))
 unfolding keep upFrom consIf firstOr
-first-kept f d i zero h = absurd (h refl)
-first-kept f d i (suc n) h = go (f i) refl h (first-kept f d (suc i) n)
+first-kept-some f d i zero h = absurd (h refl)
+first-kept-some f d i (suc n) h = go (f i) refl h (first-kept-some f d (suc i) n)
   where
     m : List ℕ
     m = keep f (upFrom (suc i) n)
@@ -132,7 +132,7 @@ module _ (p : Params) (v : View) (st : State) (tb : List ℕ) (g : ℕ) where
   pub waiting-nil : (n : ℕ) → n ≤ neverPlace → firstOr neverPlace (keep free (liveBelow p tb g n)) ≡ neverPlace → keep free (liveBelow p tb g n) ≡ []
   unfolding liveBelow below
   waiting-nil n h e =
-      let s = keep-keep (isLiveIn p tb g) free (upFrom 0 n) in
+      let s = keep-twice (isLiveIn p tb g) free (upFrom 0 n) in
       s ∙ none-kept (λ q. isLiveIn p tb g q && free q) neverPlace 0 n (omega arith) (ap (firstOr neverPlace) (sym s) ∙ e)
 
   -- where there is one: a live block of the segment
@@ -142,10 +142,10 @@ module _ (p : Params) (v : View) (st : State) (tb : List ℕ) (g : ℕ) where
   unfolding liveBelow below isLiveIn
   waiting-found n h =
       let f : ℕ → Bool = λ q. isLiveIn p tb g q && free q in
-      let s = keep-keep (isLiveIn p tb g) free (upFrom 0 n) in
+      let s = keep-twice (isLiveIn p tb g) free (upFrom 0 n) in
       let e : firstOr neverPlace (keep free (keep (isLiveIn p tb g) (upFrom 0 n))) ≡ firstOr neverPlace (keep f (upFrom 0 n)) = ap (firstOr neverPlace) s in
       let x : ℕ = firstOr neverPlace (keep f (upFrom 0 n)) in
-      let t = first-kept f neverPlace 0 n (λ c. h (e ∙ c)) in
+      let t = first-kept-some f neverPlace 0 n (λ c. h (e ∙ c)) in
       let l : isLiveIn p tb g x ≡ true = and-left (isLiveIn p tb g x) (free x) (t .1) in
       let z : placeZone p x ≡ g = eqb-true (placeZone p x) g (and-left (eqb (placeZone p x) g) (isPointed tb (p .L) x) l) in (
         omega (arith, e, t .0),
@@ -153,17 +153,17 @@ module _ (p : Params) (v : View) (st : State) (tb : List ℕ) (g : ℕ) where
         λ o. ap (isOdd p) e ∙ none-passes (isOdd p) (isLiveIn p tb g) 0 n x o (omega arith) (t .0) l,
       )
 
-  pub waiting-none : (r : Idle) → r .first .0 ≡ neverPlace → r .odd ≡ false → Waiting p v st tb g 0 r
+  pub waiting-none : (r : Idle) → r .first .0 ≡ neverPlace → r .odd ≡ false → IdleBelow p v st tb g 0 r
   unfolding liveBelow below upFrom keep firstOr any
   waiting-none r e f = record { first = e; odd = f }
 
-  pub waiting-skip : (a b : ℕ) (r : Idle) → a ≤ b → ((q : ℕ) → a ≤ q → q < b → isLiveIn p tb g q ≡ false) → Waiting p v st tb g a r → Waiting p v st tb g b r
+  pub waiting-skip : (a b : ℕ) (r : Idle) → a ≤ b → ((q : ℕ) → a ≤ q → q < b → isLiveIn p tb g q ≡ false) → IdleBelow p v st tb g a r → IdleBelow p v st tb g b r
   waiting-skip a b r h miss w =
       let e : liveBelow p tb g b ≡ liveBelow p tb g a =
       live-split p tb g a b h ∙ ap (λ (x : List ℕ). liveBelow p tb g a ++ x) (keep-nobody (isLiveIn p tb g) a (b - a) (λ q x y. miss q x (omega arith))) ∙ append-nil (liveBelow p tb g a) in
       record { first = w .first ∙ ap (λ (l : List ℕ). firstOr neverPlace (keep free l)) (sym e); odd = w .odd ∙ ap (any (isOdd p)) (sym e) }
 
-  pub waiting-step : (q : ℕ) (i r : Idle) → isLiveIn p tb g q ≡ true → q < neverPlace → Waiting p v st tb g q i → Stepped p v st i q r → Waiting p v st tb g (q + 1) r
+  pub waiting-step : (q : ℕ) (i r : Idle) → isLiveIn p tb g q ≡ true → q < neverPlace → IdleBelow p v st tb g q i → IdleStepped p v st i q r → IdleBelow p v st tb g (q + 1) r
   unfolding any
   waiting-step q i r e l w s =
       let a : List ℕ = liveBelow p tb g q in
@@ -180,7 +180,7 @@ module _ (p : Params) (v : View) (st : State) (tb : List ℕ) (g : ℕ) where
       more = live-more p tb g q e
 
       one : keep free (q ∷ []) ≡ consIf (not (flying p v st q)) q []
-      one = keep-one free q
+      one = keep-single free q
 
 -- ---- one block
 
@@ -228,7 +228,7 @@ module _ (p : Params) (v : View) (st : State) (i : Idle) (q : ℕ) where
   same-odd o = sym (ap (λ (x : Bool). i .odd || x) o ∙ or-false (i .odd))
 
   -- a header or footer block
-  pub step-odd : isOdd p q ≡ true → (r : Idle) → r .first .0 ≡ orElse (i .first .0) q → r .odd ≡ true → Stepped p v st i q r
+  pub step-odd : isOdd p q ≡ true → (r : Idle) → r .first .0 ≡ orElse (i .first .0) q → r .odd ≡ true → IdleStepped p v st i q r
   step-odd o r e f = record {
     first = e ∙ ap (λ (x : Bool). orElse (i .first .0) (cond x neverPlace q)) (sym (not-flying o));
     odd = f ∙ sym (ap (λ (x : Bool). i .odd || x) o ∙ go (i .odd));
@@ -240,18 +240,18 @@ module _ (p : Params) (v : View) (st : State) (i : Idle) (q : ℕ) where
 
   module _ (o : isOdd p q ≡ false) where
     -- there is one already
-    pub step-kept : (i .first .0 ≡ neverPlace → ⊥) → Stepped p v st i q i
+    pub step-kept : (i .first .0 ≡ neverPlace → ⊥) → IdleStepped p v st i q i
     step-kept n = record { first = sym (else-kept (i .first .0) (cond (flying p v st q) neverPlace q) n); odd = same-odd o }
 
     -- it is in flight
-    pub step-flying : i .first .0 ≡ neverPlace → flying p v st q ≡ true → Stepped p v st i q i
+    pub step-flying : i .first .0 ≡ neverPlace → flying p v st q ≡ true → IdleStepped p v st i q i
     step-flying e f = record {
       first = e ∙ sym (else-first (i .first .0) (cond (flying p v st q) neverPlace q) e ∙ ap (λ (x : Bool). cond x neverPlace q) f);
       odd = same-odd o;
     }
 
     -- it is the first
-    pub step-new : i .first .0 ≡ neverPlace → flying p v st q ≡ false → (r : Idle) → r .first .0 ≡ q → r .odd ≡ i .odd → Stepped p v st i q r
+    pub step-new : i .first .0 ≡ neverPlace → flying p v st q ≡ false → (r : Idle) → r .first .0 ≡ q → r .odd ≡ i .odd → IdleStepped p v st i q r
     step-new e f r a b = record {
       first = a ∙ sym (else-first (i .first .0) (cond (flying p v st q) neverPlace q) e ∙ ap (λ (x : Bool). cond x neverPlace q) f);
       odd = b ∙ same-odd o;
@@ -261,24 +261,24 @@ module _ (p : Params) (v : View) (st : State) (i : Idle) (q : ℕ) where
 
 module _ (p : Params) (v : View) (st : State) (tb : List ℕ) (g : ℕ) where
   -- another segment's zone
-  pub run-other : (a b : ℕ) (r : Idle) → a ≤ b → ((q : ℕ) → a ≤ q → q < b → eqb (placeZone p q) g ≡ false) → Waiting p v st tb g a r → Waiting p v st tb g b r
+  pub run-other : (a b : ℕ) (r : Idle) → a ≤ b → ((q : ℕ) → a ≤ q → q < b → eqb (placeZone p q) g ≡ false) → IdleBelow p v st tb g a r → IdleBelow p v st tb g b r
   unfolding isLiveIn
   run-other a b r h miss w = waiting-skip p v st tb g a b r h (λ q x y. ap (λ (z : Bool). z && isPointed tb (p .L) q) (miss q x y)) w
 
   module _ (ms : List ℕ) (first hi : ℕ) (told : Marks tb (p .L) ms first hi) where
     -- none marked
-    pub run-skip : (a b : ℕ) (r : Idle) → first ≤ a → a ≤ b → b ≤ hi → ((j : ℕ) → a - first ≤ j → j < b - first → marked ms j ≡ false) → Waiting p v st tb g a r → Waiting p v st tb g b r
+    pub run-skip : (a b : ℕ) (r : Idle) → first ≤ a → a ≤ b → b ≤ hi → ((j : ℕ) → a - first ≤ j → j < b - first → isMarked ms j ≡ false) → IdleBelow p v st tb g a r → IdleBelow p v st tb g b r
     unfolding isLiveIn
     run-skip a b r low mid high miss w = waiting-skip p v st tb g a b r mid (λ q x y.
         ap (λ (z : Bool). eqb (placeZone p q) g && z) (sym (told q (omega arith) (omega arith)) ∙ miss (q - first) (omega arith) (omega arith)) ∙ and-false (eqb (placeZone p q) g)) w
 
     -- one marked
-    pub run-step : (q : ℕ) (i r : Idle) → first ≤ q → q < hi → eqb (placeZone p q) g ≡ true → marked ms (q - first) ≡ true → q < neverPlace
-        → Waiting p v st tb g q i → Stepped p v st i q r → Waiting p v st tb g (q + 1) r
+    pub idle-step : (q : ℕ) (i r : Idle) → first ≤ q → q < hi → eqb (placeZone p q) g ≡ true → isMarked ms (q - first) ≡ true → q < neverPlace
+        → IdleBelow p v st tb g q i → IdleStepped p v st i q r → IdleBelow p v st tb g (q + 1) r
     unfolding isLiveIn
-    run-step q i r low high z m l w s =
+    idle-step q i r low high z m l w s =
         waiting-step p v st tb g q i r (and-both (eqb (placeZone p q) g) (isPointed tb (p .L) q) z (sym (told q low high) ∙ m)) l w s
 
 -- the same place
-pub waiting-at : (p : Params) (v : View) (st : State) (tb : List ℕ) (g a b : ℕ) (r : Idle) → a ≡ b → Waiting p v st tb g a r → Waiting p v st tb g b r
-waiting-at p v st tb g a b r e w = subst (λ (x : ℕ). Waiting p v st tb g x r) e w
+pub waiting-at : (p : Params) (v : View) (st : State) (tb : List ℕ) (g a b : ℕ) (r : Idle) → a ≡ b → IdleBelow p v st tb g a r → IdleBelow p v st tb g b r
+waiting-at p v st tb g a b r e w = subst (λ (x : ℕ). IdleBelow p v st tb g x r) e w

@@ -10,11 +10,11 @@ ghost use Rattle.spec.specs.Lists.{consIf, any, below};
 ghost use Rattle.spec.specs.Memory.{stateLen, stateOf};
 ghost use Rattle.spec.specs.Params.{inRange, capacity, imageLen, pointersLen, addressesLen, placeOf, placeBlock, placeZone, placeDrive};
 ghost use Rattle.spec.specs.Reclaim.{tableFaults, flying};
-ghost use Rattle.disk_records.specs.Record.{recOf};
+ghost use Rattle.disk_records.specs.Record.{recVal};
 ghost use Rattle.mem_marks.specs.Marks.{Marks};
 ghost use Rattle.call_reclaim_victim.specs.Looked.{Looked};
 ghost use Rattle.call_reclaim_victim.specs.Vouched.{Vouched, Sees, chosenOf};
-ghost use Rattle.call_reclaim_victim.specs.Waiting.{isOdd, orElse, Stepped, Waiting};
+ghost use Rattle.call_reclaim_victim.specs.Waiting.{isOdd, orElse, IdleStepped, IdleBelow};
 ghost use Rattle.law_views.specs.Views.{Whole};
 use disk_records::Record;
 use spec::Params;
@@ -45,7 +45,7 @@ pub fn record_of(p: Params, image: &[u8], pointers: &[u8], place: Place) -> Reco
     requires { ⌜ inRange p ≡ true ⌝ }
     requires { ⌜ Whole p (mkDisk (now image) (now pointers)) ⌝ }
     requires { ⌜ (place .0 < p .N * p .Z * capacity p) × (isOdd p (place .0) ≡ false) ⌝ }
-    ensures { λ r. ⌜ recOf r ≡ recordAt p (viewOf p (now (image .entry)) (now (pointers .entry))) 0 (placeDrive p (place .0)) (placeZone p (place .0)) (placeBlock p (place .0) - 1) ⌝ }
+    ensures { λ r. ⌜ recVal r ≡ recordAt p (viewOf p (now (image .entry)) (now (pointers .entry))) 0 (placeDrive p (place .0)) (placeZone p (place .0)) (placeBlock p (place .0) - 1) ⌝ }
 {
     let drive = disk_shape::place_drive(p, place);
     let zone = disk_shape::place_zone(p, place);
@@ -89,7 +89,7 @@ fn idle_step(
     requires { ⌜ inRange p ≡ true ⌝ }
     requires { ⌜ Whole p (mkDisk (now image) (now pointers)) ⌝ }
     requires { ⌜ (place .0 < p .N * p .Z * capacity p) × (length (now bytes) ≡ stateLen) ⌝ }
-    ensures { λ r. ⌜ Stepped p (viewOf p (now (image .entry)) (now (pointers .entry))) (stateOf (now (bytes .entry))) idle (place .0) r ⌝ }
+    ensures { λ r. ⌜ IdleStepped p (viewOf p (now (image .entry)) (now (pointers .entry))) (stateOf (now (bytes .entry))) idle (place .0) r ⌝ }
 {
     let none = Place::NEVER;
     let first = idle.first;
@@ -132,8 +132,8 @@ fn idle_run(
         ((tb : List ℕ) (g : ℕ)
         → Marks tb (p .L) (now (marks .entry)) first hi
         → ((q : ℕ) → lo ≤ q → q < hi → eqb (placeZone p q) g ≡ mine)
-        → Waiting p (viewOf p (now (image .entry)) (now (pointers .entry))) (stateOf (now (bytes .entry))) tb g lo idle
-        → Waiting p (viewOf p (now (image .entry)) (now (pointers .entry))) (stateOf (now (bytes .entry))) tb g hi r) ⌝ }
+        → IdleBelow p (viewOf p (now (image .entry)) (now (pointers .entry))) (stateOf (now (bytes .entry))) tb g lo idle
+        → IdleBelow p (viewOf p (now (image .entry)) (now (pointers .entry))) (stateOf (now (bytes .entry))) tb g hi r) ⌝ }
 {
     if !mine {
         return idle;
@@ -169,8 +169,8 @@ fn idle_zones(
     ensures { λ r. ⌜
         ((tb : List ℕ)
         → Marks tb (p .L) (now (marks .entry)) first end
-        → Waiting p (viewOf p (now (image .entry)) (now (pointers .entry))) (stateOf (now (bytes .entry))) tb g first idle
-        → Waiting p (viewOf p (now (image .entry)) (now (pointers .entry))) (stateOf (now (bytes .entry))) tb g end r) ⌝ }
+        → IdleBelow p (viewOf p (now (image .entry)) (now (pointers .entry))) (stateOf (now (bytes .entry))) tb g first idle
+        → IdleBelow p (viewOf p (now (image .entry)) (now (pointers .entry))) (stateOf (now (bytes .entry))) tb g end r) ⌝ }
 {
     let cap = disk_shape::capacity(p);
     let mut found = idle;
@@ -211,7 +211,7 @@ fn idle_windows(
     requires { ⌜ inRange p ≡ true ⌝ }
     requires { ⌜ Whole p (mkDisk (now image) (now pointers)) ⌝ }
     requires { ⌜ (length (now addresses) ≡ addressesLen p) × (0 < length (now marks)) × (length (now marks) < 268435456) × (length (now bytes) ≡ stateLen) ⌝ }
-    ensures { λ r. ⌜ Waiting p (viewOf p (now (image .entry)) (now (pointers .entry))) (stateOf (now (bytes .entry))) (now (addresses .entry)) g (p .N * p .Z * capacity p) r ⌝ }
+    ensures { λ r. ⌜ IdleBelow p (viewOf p (now (image .entry)) (now (pointers .entry))) (stateOf (now (bytes .entry))) (now (addresses .entry)) g (p .N * p .Z * capacity p) r ⌝ }
 {
     let all = call_reclaim_live::places(p);
     let step = 8 * marks.len();
@@ -243,7 +243,7 @@ fn idle_of(
     requires { ⌜ Whole p (mkDisk (now image) (now pointers)) ⌝ }
     requires { ⌜ (length (now addresses) ≡ addressesLen p) × (0 < length (now marks)) × (length (now marks) < 268435456) × (length (now bytes) ≡ stateLen) ⌝ }
     requires { ⌜ (p .N * p .Z * capacity p ≤ 8 * length (now marks) → Marks (now addresses) (p .L) (now marks) 0 (p .N * p .Z * capacity p)) ⌝ }
-    ensures { λ r. ⌜ Waiting p (viewOf p (now (image .entry)) (now (pointers .entry))) (stateOf (now (bytes .entry))) (now (addresses .entry)) g (p .N * p .Z * capacity p) r ⌝ }
+    ensures { λ r. ⌜ IdleBelow p (viewOf p (now (image .entry)) (now (pointers .entry))) (stateOf (now (bytes .entry))) (now (addresses .entry)) g (p .N * p .Z * capacity p) r ⌝ }
 {
     let all = call_reclaim_live::places(p);
     if 8 * marks.len() < all {

@@ -23,8 +23,8 @@ use Rattle.recover_groups.specs.Faulty.{recs-fault-is}
 use Rattle.recover_groups.specs.Groups.{recsFault}
 use Rattle.law_basic.specs.Geometry.{Ranged}
 use Rattle.law_calls.specs.Refusals.{call-refused, call-done, call-cut}
-use Rattle.recover_stores.specs.Refit.{Sane}
-use Rattle.call_restart.specs.Order.{frontChecks, restChecks, front-refused, Fronted, Rested, rested}
+use Rattle.recover_stores.specs.Refit.{RefitReady}
+use Rattle.call_restart.specs.Order.{frontChecks, restChecks, restart-front-refused, Fronted, Rested, rested}
 use Rattle.call_restart.specs.declared.Taken.{Taken}
 use Rattle.law_restart.specs.Frames.{seen-after, whole-after}
 use Rattle.law_restart.specs.Settled.{AllGood, accepted-fine, settled}
@@ -68,7 +68,7 @@ module _ (p : Params) (k : Disk) (m : Memory) (d n : ℕ) where
   -- 01, Store count: a refusal changes nothing
   pub restart-refused : (a : Answer) → firstRefusal (frontChecks p (lentOk p k m) (seen p k) d) ≡ some a → mkAfter a k m [] ≡ callDisk p k m (restart d n)
   unfolding callDisk callOn storeCount lentBlock verdict restartVerdict
-  restart-refused a e = sym (call-refused p (storeDisk p) n k m [] checks! (restartPlan p (seen p k) d segs (m .inflight)) a (front-refused p (lentOk p k m) (seen p k) d segs a e))
+  restart-refused a e = sym (call-refused p (storeDisk p) n k m [] checks! (restartPlan p (seen p k) d segs (m .inflight)) a (restart-front-refused p (lentOk p k m) (seen p k) d segs a e))
 
   -- past the first checks
   pub restart-recovers : Fronted p (lentOk p k m) (seen p k) d (segments p (seen p k) (named d)) → recovered p k m (named d) n ≡ callDisk p k m (restart d n)
@@ -159,13 +159,13 @@ module _ (p : Params) (r : Ranged p) (gone n : ℕ) (k : Disk) (w : Whole p k) (
   acc = record { pointers-ok = po; segments-ok = ok .segments-ok }
 
   -- nothing wrong, so the stores can be made
-  pub is-sane : gone ≡ 0 → Sane p (seen p k)
-  is-sane q = subst (λ (g : ℕ). Accepted p (seen p k) g → Rested p g (segments p (seen p k) g) → Sane p (seen p k)) (sym q)
+  pub is-sane : gone ≡ 0 → RefitReady p (seen p k)
+  is-sane q = subst (λ (g : ℕ). Accepted p (seen p k) g → Rested p g (segments p (seen p k) g) → RefitReady p (seen p k)) (sym q)
       (λ a o. record { shaped = sh; accepted = a; sixth = o .sixth; eighth = o .eighth }) acc ok
 
   -- they fit, and what they leave can be loaded
-  both : (AllFit p (seen p k) st) × AllGood p (storeAll storeView st (seen p k)) gone
-  both = go (ℕ-discrete gone 0)
+  fit-and-good : (AllFit p (seen p k) st) × AllGood p (storeAll storeView st (seen p k)) gone
+  fit-and-good = go (ℕ-discrete gone 0)
     where
       go : Dec (gone ≡ 0) → (AllFit p (seen p k) st) × AllGood p (storeAll storeView st (seen p k)) gone
       go (yes q) =
@@ -188,9 +188,9 @@ module _ (p : Params) (r : Ranged p) (gone n : ℕ) (k : Disk) (w : Whole p k) (
     cut-is = λ q. ap (λ (x : Made). x .cut) (s .made) ∙ cut!;
     disk-is = λ q. s .disk;
     loose-is = λ q. el;
-    whole-is = λ q c. whole-after p r k k′ st w (both .0) (storing-all p n st k made k′ s c);
-    view-is = λ q c. seen-after p r k k′ st w (both .0) (storing-all p n st k made k′ s c);
-    good = λ q c. good-segments p (seen p k′) gone (subst (λ (u : View). AllGood p u gone) (sym (seen-after p r k k′ st w (both .0) (storing-all p n st k made k′ s c))) (both .1));
+    whole-is = λ q c. whole-after p r k k′ st w (fit-and-good .0) (storing-all p n st k made k′ s c);
+    view-is = λ q c. seen-after p r k k′ st w (fit-and-good .0) (storing-all p n st k made k′ s c);
+    good = λ q c. good-segments p (seen p k′) gone (subst (λ (u : View). AllGood p u gone) (sym (seen-after p r k k′ st w (fit-and-good .0) (storing-all p n st k made k′ s c))) (fit-and-good .1));
   }
     where
       cut! : madeOf n (length st) .cut ≡ ltb n (length st)
@@ -199,8 +199,8 @@ module _ (p : Params) (r : Ranged p) (gone n : ℕ) (k : Disk) (w : Whole p k) (
 -- ---- the three ends
 
 module _ (p : Params) (k : Disk) (m : Memory) (gone n : ℕ) (t : Taken) (k′ : Disk) (s : Settles p gone n k t k′) where
-  pub ends-refused : (a : Answer) → t .check ≡ Fail a → mkAfter a k′ m [] ≡ recovered p k m gone n
-  ends-refused a e =
+  pub ends-restart-refused : (a : Answer) → t .check ≡ Fail a → mkAfter a k′ m [] ≡ recovered p k m gone n
+  ends-restart-refused a e =
       ap (λ (x : Disk). mkAfter a x m []) (s .same a (ap checked e))
       ∙ recovered-refused p k m gone n a (sym (s .first) ∙ ap checked e)
 
@@ -208,9 +208,9 @@ module _ (p : Params) (k : Disk) (m : Memory) (gone n : ℕ) (t : Taken) (k′ :
     none! : checked (t .check) ≡ none
     none! = ap checked e
 
-    pub ends-cut : t .cut ≡ true → (d : Done) (ad co : List ℕ) → length (m .addresses) ≡ addressesLen p → length (m .compact) ≡ compactLen p → d .answer ≡ Cut → d .state ≡ zeroState
+    pub ends-restart-cut : t .cut ≡ true → (d : Done) (ad co : List ℕ) → length (m .addresses) ≡ addressesLen p → length (m .compact) ≡ compactLen p → d .answer ≡ Cut → d .state ≡ zeroState
         → ad ≡ replicate (length (m .addresses)) 0 → co ≡ replicate (length (m .compact)) 0 → after d (k′ .image) (k′ .pointers) ad co (m .inflight) [] ≡ recovered p k m gone n
-    ends-cut c d ad co la lc ea es ead eco =
+    ends-restart-cut c d ad co la lc ea es ead eco =
         (λ j. mkAfter (ea j) (s .disk-is none! j) (mkMemory (es j) (ead j) (eco j) (m .inflight)) [])
         ∙ ap (λ (x : Memory). mkAfter Cut (storeAll (storeDisk p) (take n (restartStores p gone (segments p (seen p k) gone))) k) x []) cleared!
         ∙ recovered-cut p k m gone n (sym (s .first) ∙ none!) (ltb-true n (length (restartStores p gone (segments p (seen p k) gone))) (sym (s .cut-is none!) ∙ c))
@@ -218,9 +218,9 @@ module _ (p : Params) (k : Disk) (m : Memory) (gone n : ℕ) (t : Taken) (k′ :
         cleared! : mkMemory zeroState (replicate (length (m .addresses)) 0) (replicate (length (m .compact)) 0) (m .inflight) ≡ cutMemory p m
         cleared! = unfold cutMemory in λ j. mkMemory zeroState (replicate (la j) 0) (replicate (lc j) 0) (m .inflight)
 
-    pub ends-done : t .cut ≡ false → (st : State) (ad co : List ℕ) → ((fl : List ℕ) → mkMemory st ad co fl ≡ restartMemory p (seen p k′) gone fl)
+    pub ends-restart-done : t .cut ≡ false → (st : State) (ad co : List ℕ) → ((fl : List ℕ) → mkMemory st ad co fl ≡ restartMemory p (seen p k′) gone fl)
         → after (record { answer = Restarted (record { uncounted = t .loose }); state = st }) (k′ .image) (k′ .pointers) ad co (m .inflight) [] ≡ recovered p k m gone n
-    ends-done c st ad co f =
+    ends-restart-done c st ad co f =
         (λ j. mkAfter (Restarted (record { uncounted = s .loose-is none! j })) (s .disk-is none! j)
         ((f (m .inflight) ∙ ap (λ (u : View). restartMemory p u gone (m .inflight)) (s .view-is none! c)) j) [])
         ∙ answer!

@@ -20,7 +20,7 @@ use Rattle.recover_headers.specs.Lowest.{low-none, low-named, low-le}
 use Rattle.law_basic.specs.Ranges.{and-both}
 use Rattle.law_calls.specs.Refusals.{none-left, rule-fails, rule-passes, zones-pass, rule-free, zones-free}
 use Rattle.law_drives.specs.Members.{In, keep-in, below-in}
-use Rattle.law_drives.specs.Tests.{and-false-right, or-left, or-right}
+use Rattle.law_drives.specs.Tests.{and-false-right, or-first, or-right}
 use borrow.Author.Tests.{lt-ltb, le-ltb, eq-eqb, ne-eqb, not-false}
 use lib.Dec.{ltb, eqb}
 use mathlib.Core.Bool.{Bool, true, false, cond, not, _&&_, _||_}
@@ -59,8 +59,8 @@ module _ (p : Params) (long : Bool) (v : View) (d : ℕ) (gs : List Segment) whe
   front-are = refl
 
   -- a first check that holds is the first of all
-  pub front-refused : (a : Answer) → firstRefusal (frontChecks p long v d) ≡ some a → firstRefusal (restartChecks p long v d gs) ≡ some a
-  front-refused a e = ap firstRefusal all-are ∙ go bad1 (not long) ps (ap firstRefusal (sym front-are) ∙ e)
+  pub restart-front-refused : (a : Answer) → firstRefusal (frontChecks p long v d) ≡ some a → firstRefusal (restartChecks p long v d gs) ≡ some a
+  restart-front-refused a e = ap firstRefusal all-are ∙ go bad1 (not long) ps (ap firstRefusal (sym front-are) ∙ e)
     where
       not-none : none ≡ some a → ⊥
       not-none q = let z : _≡_ {A = ℕ} 0 1 = cc in omega arith
@@ -82,13 +82,13 @@ module _ (p : Params) (long : Bool) (v : View) (d : ℕ) (gs : List Segment) whe
     pub pointers-ok : pointerFaults p v (named d) ≡ []
     pub goes-on : firstRefusal (restartChecks p long v d gs) ≡ firstRefusal (restChecks p (named d) gs)
 
-  pub front-passed : firstRefusal (frontChecks p long v d) ≡ none → Fronted
-  front-passed e =
+  pub restart-front-passed : firstRefusal (frontChecks p long v d) ≡ none → Fronted
+  restart-front-passed e =
       let f₁ = rule-free 1 bad1 (rule 2 (not long) ∷ zones ps ∷ []) (ap firstRefusal (sym front-are) ∙ e) in
       let f₂ = rule-free 2 (not long) (zones ps ∷ []) (f₁ .1) in
       let f₃ = zones-free ps [] (f₂ .1) in
       record {
-        in-range = not-false (inRange p) (or-left (not (inRange p)) (not (namesDrive p d)) (f₁ .0));
+        in-range = not-false (inRange p) (or-first (not (inRange p)) (not (namesDrive p d)) (f₁ .0));
         names = not-false (namesDrive p d) (or-right (not (inRange p)) (not (namesDrive p d)) (f₁ .0));
         lent = not-false long (f₂ .0);
         pointers-ok = f₃ .0;
@@ -120,37 +120,37 @@ module _ (p : Params) (long : Bool) (v : View) (d : ℕ) where
   abbrev tail2 : List Check
   tail2 = zones (pointerFaults p v (named d)) ∷ []
 
-  pub numbers-fail : (not (inRange p) || not (namesDrive p d)) ≡ true → some (Refused 1) ≡ firstRefusal (frontChecks p long v d)
+  pub restart-numbers-fail : (not (inRange p) || not (namesDrive p d)) ≡ true → some (Refused 1) ≡ firstRefusal (frontChecks p long v d)
   unfolding frontChecks
-  numbers-fail e = sym (rule-fails 1 (not (inRange p) || not (namesDrive p d)) (rule 2 (not long) ∷ tail2) e)
+  restart-numbers-fail e = sym (rule-fails 1 (not (inRange p) || not (namesDrive p d)) (rule 2 (not long) ∷ tail2) e)
 
   module _ (ok : (not (inRange p) || not (namesDrive p d)) ≡ false) where
-    pub lengths-fail : long ≡ false → some (Refused 2) ≡ firstRefusal (frontChecks p long v d)
+    pub restart-lengths-fail : long ≡ false → some (Refused 2) ≡ firstRefusal (frontChecks p long v d)
     unfolding frontChecks
-    lengths-fail e = sym (rule-passes 1 (not (inRange p) || not (namesDrive p d)) (rule 2 (not long) ∷ tail2) ok ∙ rule-fails 2 (not long) tail2 (ap not e))
+    restart-lengths-fail e = sym (rule-passes 1 (not (inRange p) || not (namesDrive p d)) (rule 2 (not long) ∷ tail2) ok ∙ rule-fails 2 (not long) tail2 (ap not e))
 
     module _ (l : long ≡ true) where
-      past : firstRefusal (frontChecks p long v d) ≡ firstRefusal (zones (pointerFaults p v (named d)) ∷ [])
+      front-past : firstRefusal (frontChecks p long v d) ≡ firstRefusal (zones (pointerFaults p v (named d)) ∷ [])
       unfolding frontChecks
-      past = rule-passes 1 (not (inRange p) || not (namesDrive p d)) (rule 2 (not long) ∷ tail2) ok ∙ rule-passes 2 (not long) tail2 (ap not l)
+      front-past = rule-passes 1 (not (inRange p) || not (namesDrive p d)) (rule 2 (not long) ∷ tail2) ok ∙ rule-passes 2 (not long) tail2 (ap not l)
 
       pointers-are : pointerFaults p v (named d) ≡ keep (λ z. any (λ e. ltb (capacity p) (pointerAt v e z)) (present p (named d))) (below (p .Z))
       unfolding pointerFaults
       pointers-are = refl
 
-      pub pointers-fail : (z : ℕ) → z ≡ firstOr (p .Z) (pointerFaults p v (named d)) → z < p .Z → some (BadZone z) ≡ firstRefusal (frontChecks p long v d)
-      pointers-fail z e h =
-          sym (past
+      pub restart-pointers-fail : (z : ℕ) → z ≡ firstOr (p .Z) (pointerFaults p v (named d)) → z < p .Z → some (BadZone z) ≡ firstRefusal (frontChecks p long v d)
+      restart-pointers-fail z e h =
+          sym (front-past
           ∙ low-named (λ y. any (λ x. ltb (capacity p) (pointerAt v x y)) (present p (named d))) (p .Z) (pointerFaults p v (named d)) pointers-are
           [] (subst (λ (y : ℕ). y < p .Z) e h)
           ∙ ap (λ (y : ℕ). some (BadZone y)) (sym e))
 
-      pub pointers-pass : (z : ℕ) → z ≡ firstOr (p .Z) (pointerFaults p v (named d)) → p .Z ≤ z → none ≡ firstRefusal (frontChecks p long v d)
-      pointers-pass z e h =
+      pub restart-pointers-pass : (z : ℕ) → z ≡ firstOr (p .Z) (pointerFaults p v (named d)) → p .Z ≤ z → none ≡ firstRefusal (frontChecks p long v d)
+      restart-pointers-pass z e h =
           let f : ℕ → Bool = λ y. any (λ x. ltb (capacity p) (pointerAt v x y)) (present p (named d)) in
           let l = low-le f (p .Z) (pointerFaults p v (named d)) pointers-are in
           let q : firstOr (p .Z) (pointerFaults p v (named d)) ≡ p .Z = omega arith in
-          sym (past ∙ zones-pass (pointerFaults p v (named d)) [] (low-none f (p .Z) (pointerFaults p v (named d)) pointers-are q) ∙ none-left)
+          sym (front-past ∙ zones-pass (pointerFaults p v (named d)) [] (low-none f (p .Z) (pointerFaults p v (named d)) pointers-are q) ∙ none-left)
 
 -- ---- the checks behind them, in order
 
@@ -183,26 +183,27 @@ module _ (p : Params) (gone : ℕ) (gs : List Segment) where
   eight = rewrites p gone gs && isNil (freeZones p gs)
 
   module _ (ok : segmentFaults p gone gs ≡ []) where
-    passed : firstRefusal (restChecks p gone gs) ≡ firstRefusal (rule 6 six ∷ rule 8 eight ∷ [])
+    restart-rest-passed : firstRefusal (restChecks p gone gs) ≡ firstRefusal (rule 6 six ∷ rule 8 eight ∷ [])
     unfolding restChecks
-    passed = zones-pass (segmentFaults p gone gs) (rule 6 six ∷ rule 8 eight ∷ []) ok
+    restart-rest-passed = zones-pass (segmentFaults p gone gs) (rule 6 six ∷ rule 8 eight ∷ []) ok
 
     -- nothing is rewritten
     pub plain-pass : rewrites p gone gs ≡ false → none ≡ firstRefusal (restChecks p gone gs)
-    plain-pass q = sym (passed ∙ rule-passes 6 six (rule 8 eight ∷ []) (ap (λ (b : Bool). b && eqb (greatestSerial gs) lastCount) q)
+    plain-pass q = sym (restart-rest-passed ∙ rule-passes 6 six (rule 8 eight ∷ []) (ap (λ (b : Bool). b && eqb (greatestSerial gs) lastCount) q)
         ∙ rule-passes 8 eight [] (ap (λ (b : Bool). b && isNil (freeZones p gs)) q) ∙ none-left)
 
     module _ (q : rewrites p gone gs ≡ true) where
-      pub serial-fails : greatestSerial gs ≡ lastCount → some (Refused 6) ≡ firstRefusal (restChecks p gone gs)
-      serial-fails h = sym (passed ∙ rule-fails 6 six (rule 8 eight ∷ []) (and-both (rewrites p gone gs) (eqb (greatestSerial gs) lastCount) q (eq-eqb (greatestSerial gs) lastCount h)))
+      pub restart-serial-fails : greatestSerial gs ≡ lastCount → some (Refused 6) ≡ firstRefusal (restChecks p gone gs)
+      restart-serial-fails h =
+          sym (restart-rest-passed ∙ rule-fails 6 six (rule 8 eight ∷ []) (and-both (rewrites p gone gs) (eqb (greatestSerial gs) lastCount) q (eq-eqb (greatestSerial gs) lastCount h)))
 
       module _ (h : greatestSerial gs ≡ lastCount → ⊥) where
         fine6 : six ≡ false
         fine6 = and-false-right (rewrites p gone gs) (eqb (greatestSerial gs) lastCount) (ne-eqb (greatestSerial gs) lastCount h)
 
-        pub zones-fail : p .Z ≤ firstOr (p .Z) (freeZones p gs) → some (Refused 8) ≡ firstRefusal (restChecks p gone gs)
-        zones-fail l =
-            sym (passed
+        pub restart-zones-fail : p .Z ≤ firstOr (p .Z) (freeZones p gs) → some (Refused 8) ≡ firstRefusal (restChecks p gone gs)
+        restart-zones-fail l =
+            sym (restart-rest-passed
             ∙ rule-passes 6 six (rule 8 eight ∷ []) fine6
             ∙ rule-fails 8 eight []
             (and-both (rewrites p gone gs) (isNil (freeZones p gs)) q (empty (freeZones p gs) (λ z m. free-low p gs z m) l)))
@@ -220,9 +221,10 @@ module _ (p : Params) (gone : ℕ) (gs : List Segment) where
                 as! : In z (freeZones p gs) → z < p .Z
                 as! m = unfold freeZones segmentNumbers in below-in (p .Z) z (keep-in (λ z. not (any (λ (g : Segment). eqb (g .seg) z) gs)) (below (p .Z)) z m .0)
 
-        pub zones-suffice : firstOr (p .Z) (freeZones p gs) < p .Z → none ≡ firstRefusal (restChecks p gone gs)
-        zones-suffice l =
-            sym (passed ∙ rule-passes 6 six (rule 8 eight ∷ []) fine6 ∙ rule-passes 8 eight [] (and-false-right (rewrites p gone gs) (isNil (freeZones p gs)) (some! (freeZones p gs) l)) ∙ none-left)
+        pub restart-zones-suffice : firstOr (p .Z) (freeZones p gs) < p .Z → none ≡ firstRefusal (restChecks p gone gs)
+        restart-zones-suffice l =
+            sym (restart-rest-passed ∙ rule-passes 6 six (rule 8 eight ∷ []) fine6
+            ∙ rule-passes 8 eight [] (and-false-right (rewrites p gone gs) (isNil (freeZones p gs)) (some! (freeZones p gs) l)) ∙ none-left)
           where
             some! : (l : List ℕ) → firstOr (p .Z) l < p .Z → isNil l ≡ false
             some! [] h = absurd (as! h)

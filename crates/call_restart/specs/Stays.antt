@@ -13,8 +13,8 @@ use Rattle.law_basic.specs.Geometry.{Ranged}
 use Rattle.law_basic.specs.Ranges.{Test, test, flat-none, flat-cons}
 use Rattle.law_basic.specs.Ranges.Test.{yes!, no! }
 use Rattle.law_basic.specs.Stores.{storeAll-append}
-use Rattle.recover_segments.specs.Remains.{remains as Remain, isLeft, serialOf, Keeps, Serials}
-use Rattle.recover_stores.specs.Refit.{Sane}
+use Rattle.recover_segments.specs.Remains.{remainsHere, isLeft, serialOf, Keeps, Serials}
+use Rattle.recover_stores.specs.Refit.{RefitReady}
 use Rattle.law_restart.specs.Frames.{seen-after}
 use Rattle.law_restart.specs.Settled.{healthy-stores, settled}
 use Rattle.law_drives.specs.Accept.{Accepted}
@@ -55,9 +55,9 @@ use native.Mathlib.Omega.{arith}
 abbrev Resets : ℕ → ℕ → List Store → Type 0
 Resets d y l = (s : Store) → In s l → hitsAt d y s ≡ true → (e : ℕ) × (z : ℕ) × (s ≡ reset e z)
 
-quiet : (d y : ℕ) (l : List Store) (q : Zone) → Resets d y l → storeAll zoneStore (hits d y l) q .blocks ≡ q .blocks
-quiet d y [] q f = unfold storeAll keep in refl
-quiet d y (s ∷ l) q f = go (test (hitsAt d y s)) (λ z. quiet d y l z (λ t m. f t (inr m)))
+resets-keep-blocks : (d y : ℕ) (l : List Store) (q : Zone) → Resets d y l → storeAll zoneStore (hits d y l) q .blocks ≡ q .blocks
+resets-keep-blocks d y [] q f = unfold storeAll keep in refl
+resets-keep-blocks d y (s ∷ l) q f = go (test (hitsAt d y s)) (λ z. resets-keep-blocks d y l z (λ t m. f t (inr m)))
   where
     go : Test (hitsAt d y s) → ((z : Zone) → storeAll zoneStore (hits d y l) z .blocks ≡ z .blocks) → storeAll zoneStore (hits d y (s ∷ l)) q .blocks ≡ q .blocks
     go (no! e) ih = ap (λ (x : List Store). storeAll zoneStore x q .blocks) (hits-no d y s l e) ∙ ih q
@@ -75,7 +75,7 @@ quiet d y (s ∷ l) q f = go (test (hitsAt d y s)) (λ z. quiet d y l z (λ t m.
 head-stays : (p : Params) (r : Ranged p) (v : View) (l : List Store) (y : ℕ) → Sized p v → y < p .Z → Resets 0 y l → headerAt (storeAll storeView l v) 0 y ≡ headerAt v 0 y
 unfolding headerAt chunkAt zoneOn
 head-stays p r v l y w hy f =
-    ap (λ (x : List Chunk). getD x 0 noChunk .block) (ap (λ (q : Zone). q .blocks) (zone-after p v 0 y l w (omega (arith, r .drives-low)) hy) ∙ quiet 0 y l (zoneAt v 0 y) f)
+    ap (λ (x : List Chunk). getD x 0 noChunk .block) (ap (λ (q : Zone). q .blocks) (zone-after p v 0 y l w (omega (arith, r .drives-low)) hy) ∙ resets-keep-blocks 0 y l (zoneAt v 0 y) f)
 
 segment-resets : (p : Params) (g : ℕ) (s : Store) → In s (resetStores p g) → (e : ℕ) × (z : ℕ) × (s ≡ reset e z)
 unfolding resetStores
@@ -116,17 +116,17 @@ move-resets p x z n y a s m h =
 
 -- as found
 pub record Stays (p : Params) (v u : View) : Type 0 where
-  pub kept-stays : (y : ℕ) → y < p .Z → Remain p u 0 y ≡ Remain p v 0 y
+  pub kept-stays : (y : ℕ) → y < p .Z → remainsHere p u 0 y ≡ remainsHere p v 0 y
   pub serial-stays : (y : ℕ) → y < p .Z → serialOf p u 0 y ≡ serialOf p v 0 y
 
 -- segment g stands in zone z, under serial n
-pub record Moved (p : Params) (v u : View) (g z n : ℕ) : Type 0 where
+pub record MovedView (p : Params) (v u : View) (g z n : ℕ) : Type 0 where
   pub old-low : g < p .Z
   pub new-low : z < p .Z
-  pub old-drops : Remain p u 0 g ≡ false
-  pub new-remains : Remain p u 0 z ≡ true
+  pub old-drops : remainsHere p u 0 g ≡ false
+  pub new-remains : remainsHere p u 0 z ≡ true
   pub new-serial : serialOf p u 0 z ≡ n
-  pub others-stay : (y : ℕ) → y < p .Z → (y ≡ g → ⊥) → (y ≡ z → ⊥) → Remain p u 0 y ≡ Remain p v 0 y
+  pub others-stay : (y : ℕ) → y < p .Z → (y ≡ g → ⊥) → (y ≡ z → ⊥) → remainsHere p u 0 y ≡ remainsHere p v 0 y
   pub serials-stay : (y : ℕ) → y < p .Z → (y ≡ z → ⊥) → serialOf p u 0 y ≡ serialOf p v 0 y
 
 pub keeps-stays : (p : Params) (v u : View) (fl : List Bool) → Stays p v u → Keeps p v 0 fl → Keeps p u 0 fl
@@ -136,23 +136,23 @@ pub serials-stays : (p : Params) (v u : View) (ns : List ℕ) → Stays p v u �
 serials-stays p v u ns s k = (k .0, λ y hy. k .1 y hy ∙ sym (s .serial-stays y hy))
 
 -- the arrays, changed in place
-pub keeps-moved : (p : Params) (v u : View) (g z n : ℕ) (fl : List Bool) → Moved p v u g z n → Keeps p v 0 fl → Keeps p u 0 (set (set fl g false) z true)
+pub keeps-moved : (p : Params) (v u : View) (g z n : ℕ) (fl : List Bool) → MovedView p v u g z n → Keeps p v 0 fl → Keeps p u 0 (set (set fl g false) z true)
 keeps-moved p v u g z n fl m k = (omega (arith, k .0, long), λ y hy. go y hy (ℕ-discrete y z) (ℕ-discrete y g))
   where
     long : length (set (set fl g false) z true) ≡ length fl
     long = length-set (set fl g false) z true ∙ length-set fl g false
 
-    go : (y : ℕ) → y < p .Z → Dec (y ≡ z) → Dec (y ≡ g) → getD (set (set fl g false) z true) y false ≡ Remain p u 0 y
+    go : (y : ℕ) → y < p .Z → Dec (y ≡ z) → Dec (y ≡ g) → getD (set (set fl g false) z true) y false ≡ remainsHere p u 0 y
     go y hy (yes e) w =
         ap (λ (i : ℕ). getD (set (set fl g false) z true) i false) e
         ∙ getD-set-same (set fl g false) z true false (omega (arith, m .new-low, k .0, length-set fl g false))
-        ∙ sym (m .new-remains) ∙ ap (Remain p u 0) (sym e)
+        ∙ sym (m .new-remains) ∙ ap (remainsHere p u 0) (sym e)
     go y hy (no a) (yes e) =
         getD-set-other (set fl g false) z y true false a ∙ ap (λ (i : ℕ). getD (set fl g false) i false) e
-        ∙ getD-set-same fl g false false (omega (arith, m .old-low, k .0)) ∙ sym (m .old-drops) ∙ ap (Remain p u 0) (sym e)
+        ∙ getD-set-same fl g false false (omega (arith, m .old-low, k .0)) ∙ sym (m .old-drops) ∙ ap (remainsHere p u 0) (sym e)
     go y hy (no a) (no b) = getD-set-other (set fl g false) z y true false a ∙ getD-set-other fl g y false false b ∙ k .1 y hy ∙ sym (m .others-stay y hy b a)
 
-pub serials-moved : (p : Params) (v u : View) (g z n : ℕ) (ns : List ℕ) → Moved p v u g z n → Serials p v 0 ns → Serials p u 0 (set ns z n)
+pub serials-moved : (p : Params) (v u : View) (g z n : ℕ) (ns : List ℕ) → MovedView p v u g z n → Serials p v 0 ns → Serials p u 0 (set ns z n)
 serials-moved p v u g z n ns m k = (omega (arith, k .0, length-set ns z n), λ y hy. go y hy (ℕ-discrete y z))
   where
     go : (y : ℕ) → y < p .Z → Dec (y ≡ z) → getD (set ns z n) y 0 ≡ serialOf p u 0 y
@@ -162,8 +162,8 @@ serials-moved p v u g z n ns m k = (omega (arith, k .0, length-set ns z n), λ y
 
 -- ---- what the stores leave
 
-remain-is : (p : Params) (v : View) (g : ℕ) → Remain p v 0 g ≡ remains p v 0 g
-unfolding Remain remains isLeft
+remain-is : (p : Params) (v : View) (g : ℕ) → remainsHere p v 0 g ≡ remains p v 0 g
+unfolding remainsHere remains isLeft
 remain-is p v g = refl
 
 module _ (p : Params) (r : Ranged p) (v : View) (sh : Shaped p v) (acc : Accepted p v 0) where
@@ -244,7 +244,7 @@ module _ (p : Params) (r : Ranged p) (v : View) (sh : Shaped p v) (acc : Accepte
       unfolding headerAt chunkAt zoneOn
       head-new = ap (λ (c : Chunk). c .block) (new-header p r v sh acc g hg kg ng oth z0 hz0 fz fit 0 h0)
 
-      moved-by : (b : ℕ) → Tidy p vc b → Moved p v vc g z0 (suc (greatestSerial gs))
+      moved-by : (b : ℕ) → Tidy p vc b → MovedView p v vc g z0 (suc (greatestSerial gs))
       moved-by b t = record {
         old-low = hg;
         new-low = hz0;
@@ -257,12 +257,12 @@ module _ (p : Params) (r : Ranged p) (v : View) (sh : Shaped p v) (acc : Accepte
         serials-stay = λ y hy n. serial-same vc y (head-c y hy n);
       }
         where
-          by : (y : ℕ) → y < p .Z → Remain p vc 0 y ≡ usedAt vc y
+          by : (y : ℕ) → y < p .Z → remainsHere p vc 0 y ≡ usedAt vc y
           by y hy = remain-is p vc y ∙ remains-used p r vc b t y hy
 
 -- ---- by the unsealed segment
 
-module _ (p : Params) (r : Ranged p) (v : View) (sn : Sane p v) where
+module _ (p : Params) (r : Ranged p) (v : View) (sn : RefitReady p v) where
   abbrev found : List Segment
   found = segments p v 0
 
@@ -287,8 +287,8 @@ module _ (p : Params) (r : Ranged p) (v : View) (sn : Sane p v) where
   unfolding rewrites
   due-is = refl
 
-  ragged-is : (g : ℕ) → unsealed found ≡ segmentOf p v 0 g ∷ [] → rewrites p 0 found ≡ isRagged p (segmentOf p v 0 g)
-  ragged-is g us = due-is ∙ ap (any (isRagged p)) us ∙ bs! (isRagged p (segmentOf p v 0 g)) refl
+  rewrites-ragged : (g : ℕ) → unsealed found ≡ segmentOf p v 0 g ∷ [] → rewrites p 0 found ≡ isRagged p (segmentOf p v 0 g)
+  rewrites-ragged g us = due-is ∙ ap (any (isRagged p)) us ∙ bs! (isRagged p (segmentOf p v 0 g)) refl
     where
       bs! : (b : Bool) → isRagged p (segmentOf p v 0 g) ≡ b → any (isRagged p) (segmentOf p v 0 g ∷ []) ≡ b
       bs! true e = in-any (isRagged p) (segmentOf p v 0 g ∷ []) (segmentOf p v 0 g) (inl refl) e
@@ -309,7 +309,7 @@ module _ (p : Params) (r : Ranged p) (v : View) (sn : Sane p v) where
         where
           which : Test (isWhole p (segmentOf p v 0 g)) → Same p r v (sn .shaped) (sn .accepted) (storeAll storeView mends dropped)
           which (yes! w) = by (missingFooters p (segmentOf p v 0 g)) (one! g us ∙ (unfold mendStores in rw w)) (same-feet p r v (sn .shaped) (sn .accepted) g hg kg ng oth w)
-          which (no! w) = by [] (one! g us ∙ plain! (sym (ragged-is g us) ∙ q)) none!
+          which (no! w) = by [] (one! g us ∙ plain! (sym (rewrites-ragged g us) ∙ q)) none!
             where
               plain! : isRagged p (segmentOf p v 0 g) ≡ false → mendStores p found (segmentOf p v 0 g) ≡ []
               plain! z = unfold mendStores in rw (w, z)
@@ -323,8 +323,8 @@ module _ (p : Params) (r : Ranged p) (v : View) (sn : Sane p v) where
     some! : isNil (freeZones p found) ≡ false
     some! = sym (ap (λ (b : Bool). b && isNil (freeZones p found)) due) ∙ sn .eighth
 
-    pub serial-left : greatestSerial (segments p v 0) ≡ lastCount → ⊥
-    serial-left = eqb-false (greatestSerial found) lastCount (sym (ap (λ (b : Bool). b && eqb (greatestSerial found) lastCount) due) ∙ sn .sixth)
+    pub restart-serial-left : greatestSerial (segments p v 0) ≡ lastCount → ⊥
+    restart-serial-left = eqb-false (greatestSerial found) lastCount (sym (ap (λ (b : Bool). b && eqb (greatestSerial found) lastCount) due) ∙ sn .sixth)
 
     module _ (g z : ℕ) (eg : g ≡ firstOr (p .Z) (map (λ (s : Segment). s .seg) (unsealed (segments p v 0)))) (ez : z ≡ firstOr (p .Z) (freeZones p (segments p v 0))) where
       free! : In z (keep (λ y. not (remains p v 0 y)) (below (p .Z)))
@@ -333,10 +333,10 @@ module _ (p : Params) (r : Ranged p) (v : View) (sn : Sane p v) where
       pub new-place : z < p .Z
       new-place = below-in (p .Z) z (keep-in (λ y. not (remains p v 0 y)) (below (p .Z)) z free! .0)
 
-      pub moves : Moved p v (storeAll storeView (restartStores p 0 (segments p v 0)) v) g z (suc (greatestSerial (segments p v 0)))
-      moves = subst (λ (u : View). Moved p v u g z (suc (greatestSerial found))) (sym end-is) (go (loose p r v (sn .shaped) (sn .accepted)))
+      pub moves-view : MovedView p v (storeAll storeView (restartStores p 0 (segments p v 0)) v) g z (suc (greatestSerial (segments p v 0)))
+      moves-view = subst (λ (u : View). MovedView p v u g z (suc (greatestSerial found))) (sym end-is) (go (loose p r v (sn .shaped) (sn .accepted)))
         where
-          go : Loose p v → Moved p v (storeAll storeView mends dropped) g z (suc (greatestSerial found))
+          go : Loose p v → MovedView p v (storeAll storeView mends dropped) g z (suc (greatestSerial found))
           go (loose-none e f) = absurd (clash due (due-is ∙ ap (any (isRagged p)) e ∙ none!))
             where
               none! : any (isRagged p) [] ≡ false
@@ -350,18 +350,18 @@ module _ (p : Params) (r : Ranged p) (v : View) (sn : Sane p v) where
                   head = unfold firstOr in refl
 
               rg : isRagged p (segmentOf p v 0 y) ≡ true
-              rg = sym (ragged-is y us) ∙ due
+              rg = sym (rewrites-ragged y us) ∙ due
 
-              which : Test (isWhole p (segmentOf p v 0 y)) → Moved p v (storeAll storeView mends dropped) g z (suc (greatestSerial found))
+              which : Test (isWhole p (segmentOf p v 0 y)) → MovedView p v (storeAll storeView mends dropped) g z (suc (greatestSerial found))
               which (yes! w) = absurd (clash rg ((unfold isRagged in rw w)))
               which (no! w) =
                   let n = suc (greatestSerial found) in
                   let e : mends ≡ rewriteStores p (segmentOf p v 0 y) z n =
                   one! y us ∙ as! ∙ ap (λ (i : ℕ). rewriteStores p (segmentOf p v 0 y) i n) (sym (ez ∙ first-any (p .Z) 0 (freeZones p found) some!)) in
                   let fz : remains p v 0 z ≡ false = not-true (remains p v 0 z) (keep-in (λ y. not (remains p v 0 y)) (below (p .Z)) z free! .1) in
-                  let fit : suc (greatestSerial found) < 256 ^ 8 = (let b = serials-small p r v (sn .shaped) in let c = serial-left in omega arith) in
-                  subst (λ (i : ℕ). Moved p v (storeAll storeView mends dropped) i z n) (sym here)
-                  (subst (λ (l : List Store). Moved p v (storeAll storeView l dropped) y z n) (sym e)
+                  let fit : suc (greatestSerial found) < 256 ^ 8 = (let b = serials-small p r v (sn .shaped) in let c = restart-serial-left in omega arith) in
+                  subst (λ (i : ℕ). MovedView p v (storeAll storeView mends dropped) i z n) (sym here)
+                  (subst (λ (l : List Store). MovedView p v (storeAll storeView l dropped) y z n) (sym e)
                   (moved-by p r v (sn .shaped) (sn .accepted) y hy ky ny oth z new-place fz fit (tidy! .0) (subst (λ (l : List Store). Tidy p (storeAll storeView l dropped) (tidy! .0)) e (tidy! .1))))
                 where
                   as! : mendStores p found (segmentOf p v 0 y) ≡ rewriteStores p (segmentOf p v 0 y) (firstOr 0 (freeZones p found)) (suc (greatestSerial found))
@@ -370,7 +370,7 @@ module _ (p : Params) (r : Ranged p) (v : View) (sn : Sane p v) where
 -- ---- of drives in bytes
 
 -- the view behind all stores
-pub view-behind : (p : Params) (r : Ranged p) (n : ℕ) (k : Disk) (w : Whole p k) (sn : Sane p (seen p k)) (made : Made) (k′ : Disk)
+pub view-behind : (p : Params) (r : Ranged p) (n : ℕ) (k : Disk) (w : Whole p k) (sn : RefitReady p (seen p k)) (made : Made) (k′ : Disk)
     → Storing p n (restartStores p 0 (segments p (seen p k) 0)) k made k′ → made .cut ≡ false
     → seen p k′ ≡ storeAll storeView (restartStores p 0 (segments p (seen p k) 0)) (seen p k)
 view-behind p r n k w sn made k′ s c =
@@ -378,7 +378,7 @@ view-behind p r n k w sn made k′ s c =
     seen-after p r k k′ ss w (settled p r (seen p k) (sn .shaped) (sn .accepted) (sn .sixth) (sn .eighth) .fits) (storing-all p n ss k made k′ s c)
 
 -- with no rewrite the arrays still say what is so
-pub stays-behind : (p : Params) (r : Ranged p) (n : ℕ) (k : Disk) (w : Whole p k) (sn : Sane p (seen p k)) (made : Made) (k′ : Disk) (fl : List Bool) (ns : List ℕ)
+pub stays-behind : (p : Params) (r : Ranged p) (n : ℕ) (k : Disk) (w : Whole p k) (sn : RefitReady p (seen p k)) (made : Made) (k′ : Disk) (fl : List Bool) (ns : List ℕ)
     → Storing p n (restartStores p 0 (segments p (seen p k) 0)) k made k′ → rewrites p 0 (segments p (seen p k) 0) ≡ false
     → Keeps p (seen p k) 0 fl × Serials p (seen p k) 0 ns → made .cut ≡ false → Keeps p (seen p k′) 0 fl × Serials p (seen p k′) 0 ns
 stays-behind p r n k w sn made k′ fl ns s q f c =

@@ -17,7 +17,7 @@ ghost use Rattle.spec.specs.Params.{inRange, addressesLen, compactLen};
 ghost use Rattle.spec.specs.Restart.{namesDrive, restartStores, rewrites};
 ghost use Rattle.spec.specs.Segments.{segments};
 ghost use Rattle.spec.specs.declared.State.{State as StateOf};
-ghost use Rattle.recover_stores.specs.Refit.{Sane, Marks};
+ghost use Rattle.recover_stores.specs.Refit.{RefitReady, MendMarks};
 ghost use Rattle.recover_segments.specs.Remains.{Keeps, Serials};
 ghost use Rattle.call_restart.specs.Ends.{recovered, Settles};
 ghost use Rattle.recover_check.specs.Faults.{Examined, raggedBy};
@@ -141,8 +141,8 @@ fn move_stores(
     requires { ⌜ inRange p ≡ true ⌝ }
     requires { ⌜ Whole p (mkDisk (now image) (now pointers)) ⌝ }
     requires { ⌜ Keeps p (viewOf p (now image) (now pointers)) 0 (now kept) × Serials p (viewOf p (now image) (now pointers)) 0 (now serials) ⌝ }
-    requires { ⌜ Sane p (viewOf p (now image) (now pointers)) × (rewrites p 0 (segments p (viewOf p (now image) (now pointers)) 0) ≡ true) ⌝ }
-    requires { ⌜ Marks p (segments p (viewOf p (now image) (now pointers)) 0) whole true ⌝ }
+    requires { ⌜ RefitReady p (viewOf p (now image) (now pointers)) × (rewrites p 0 (segments p (viewOf p (now image) (now pointers)) 0) ≡ true) ⌝ }
+    requires { ⌜ MendMarks p (segments p (viewOf p (now image) (now pointers)) 0) whole true ⌝ }
     ensures { λ r. ⌜
         Storing p count (restartStores p 0 (segments p (viewOf p (now (image .entry)) (now (pointers .entry))) 0))
         (mkDisk (now (image .entry)) (now (pointers .entry))) r (mkDisk (now (image .exit)) (now (pointers .exit))) ⌝ }
@@ -184,7 +184,7 @@ fn stores(
     requires { ⌜ inRange p ≡ true ⌝ }
     requires { ⌜ Whole p (mkDisk (now image) (now pointers)) ⌝ }
     requires { ⌜ Keeps p (viewOf p (now image) (now pointers)) gone (now kept) × Serials p (viewOf p (now image) (now pointers)) gone (now serials) ⌝ }
-    requires { ⌜ Examined p gone (segments p (viewOf p (now image) (now pointers)) gone) e × (e .zone ≡ p .Z) × (gone ≡ 0 → Sane p (viewOf p (now image) (now pointers))) ⌝ }
+    requires { ⌜ Examined p gone (segments p (viewOf p (now image) (now pointers)) gone) e × (e .zone ≡ p .Z) × (gone ≡ 0 → RefitReady p (viewOf p (now image) (now pointers))) ⌝ }
     ensures { λ r. ⌜
         Storing p count (restartStores p gone (segments p (viewOf p (now (image .entry)) (now (pointers .entry))) gone))
         (mkDisk (now (image .entry)) (now (pointers .entry))) r (mkDisk (now (image .exit)) (now (pointers .exit))) ⌝ }

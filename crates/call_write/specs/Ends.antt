@@ -16,19 +16,19 @@ use Rattle.spec.specs.declared.Params.{Params}
 use Rattle.spec.specs.declared.State.{State}
 use Rattle.call_filling.specs.Aims.{aimOf}
 use Rattle.call_filling.specs.Entries.{SentRow, sentRow, frontAs, row-filled, slot-fills, start-room, sending-row}
-use Rattle.call_filling.specs.Left.{openStores, Opening}
+use Rattle.call_filling.specs.Left.{openStores, OpeningStores}
 use Rattle.call_filling.specs.declared.Aim.{Aim}
 use Rattle.call_filling.specs.declared.Opened.{Opened}
 use Rattle.law_basic.specs.Geometry.{ranged, data-count-high}
 use Rattle.law_calls.specs.Refusals.{call-refused, call-done, call-cut}
 use Rattle.law_calls.specs.Slots.{slot-lt}
-use Rattle.mem_rows.specs.Refused.{refused-keeps}
-use Rattle.mem_rows.specs.Rows.{Sized, rowOf, putRow, putFront, stateAfter, afterChange, frontOf, after-cut, after-done, changed-row}
+use Rattle.mem_rows.specs.Refused.{refused-state}
+use Rattle.mem_rows.specs.Rows.{RowsSized, slotRow, putRow, putFront, stateAfter, afterChange, frontOf, after-cut, after-done, changed-row}
 use Rattle.mem_rows.specs.declared.Change.{Change}
 use Rattle.mem_rows.specs.declared.Front.{Front}
 use Rattle.mem_rows.specs.declared.Row.{Row}
 use Rattle.law_views.specs.Views.{seen}
-use Rattle.call_write.specs.Ready.{ready, refusal, planned, plannedRow}
+use Rattle.call_write.specs.Ready.{write-ready, writeRefusal, planned, plannedRow}
 use borrow.Author.Tests.{ltb-true, ltb-false}
 use lib.Arith.{lt-of-le-ne}
 use lib.ListN.{length, take, replicate}
@@ -39,21 +39,22 @@ use native.Mathlib.Omega.{arith}
 
 module _ (p : Params) (k : Disk) (m : Memory) (a : ℕ) (b : List ℕ) (n : ℕ) where
   -- 01, Store count: a refusal changes nothing
-  pub write-refused : (c : Change) → refusal p k m a b ≡ some (c .answer) → afterChange (m .state) c (k .image) (k .pointers) (m .addresses) (m .compact) (m .inflight) b ≡ callDisk p k m (write a b n)
+  pub write-refused : (c : Change) → writeRefusal p k m a b ≡ some (c .answer)
+      → afterChange (m .state) c (k .image) (k .pointers) (m .addresses) (m .compact) (m .inflight) b ≡ callDisk p k m (write a b n)
   unfolding callDisk callOn storeCount lentBlock verdict writeVerdict
   write-refused c e =
-      ap (λ (x : State). mkAfter (c .answer) k (mkMemory x (m .addresses) (m .compact) (m .inflight)) b) (refused-keeps (writeChecks p (lentOk p k m) (seen p k) m a b) (m .state) c e)
-      ∙ sym (call-refused p (storeDisk p) n k m b (refusal p k m a b) (writePlan p (seen p k) m a b) (c .answer) e)
+      ap (λ (x : State). mkAfter (c .answer) k (mkMemory x (m .addresses) (m .compact) (m .inflight)) b) (refused-state (writeChecks p (lentOk p k m) (seen p k) m a b) (m .state) c e)
+      ∙ sym (call-refused p (storeDisk p) n k m b (writeRefusal p k m a b) (writePlan p (seen p k) m a b) (c .answer) e)
 
-  plan-stores : writePlan p (seen p k) m a b .stores ≡ openStores p k (m .state)
+  write-plan-stores : writePlan p (seen p k) m a b .stores ≡ openStores p k (m .state)
   unfolding writePlan sending
-  plan-stores = refl
+  write-plan-stores = refl
 
   -- just so many stores
-  write-cut : refusal p k m a b ≡ none → n < length (openStores p k (m .state))
+  write-cut : writeRefusal p k m a b ≡ none → n < length (openStores p k (m .state))
       → mkAfter Cut (storeAll (storeDisk p) (take n (openStores p k (m .state))) k) (cutMemory p m) b ≡ callDisk p k m (write a b n)
   unfolding callDisk callOn storeCount lentBlock verdict writeVerdict writePlan sending
-  write-cut e h = sym (call-cut p (storeDisk p) n k m b (refusal p k m a b) (writePlan p (seen p k) m a b) e h)
+  write-cut e h = sym (call-cut p (storeDisk p) n k m b (writeRefusal p k m a b) (writePlan p (seen p k) m a b) e h)
 
   -- what is sent
   abbrev sent : Sending
@@ -66,11 +67,11 @@ module _ (p : Params) (k : Disk) (m : Memory) (a : ℕ) (b : List ℕ) (n : ℕ)
       mkAfter (Sent (aStamp t) (q .stripe) (q .drive)) (storeAll (storeDisk p) (take n ss) k) (mkMemory (setStamp (q .state) t) (m .addresses) (m .compact) (q .inflight)) b
 
   -- all of them
-  write-done : refusal p k m a b ≡ none → length (openStores p k (m .state)) ≤ n → leaves sent (openStores p k (m .state)) ≡ callDisk p k m (write a b n)
+  write-done : writeRefusal p k m a b ≡ none → length (openStores p k (m .state)) ≤ n → leaves sent (openStores p k (m .state)) ≡ callDisk p k m (write a b n)
   unfolding callDisk callOn storeCount lentBlock verdict writeVerdict writePlan
   write-done e h =
-      ap (leaves sent) (sym plan-stores)
-      ∙ sym (call-done p (storeDisk p) n k m b (refusal p k m a b) (writePlan p (seen p k) m a b) e (subst (λ (x : List Store). length x ≤ n) (sym plan-stores) h))
+      ap (leaves sent) (sym write-plan-stores)
+      ∙ sym (call-done p (storeDisk p) n k m b (writeRefusal p k m a b) (writePlan p (seen p k) m a b) e (subst (λ (x : List Store). length x ≤ n) (sym write-plan-stores) h))
 
 -- opening a segment gives stripe 0 next, or leaves the next one
 pub opened-next : (p : Params) (v : View) (st : State) (n : ℕ) → st .next < n → openedBy p v st .next < n
@@ -95,12 +96,13 @@ state-cut st c e = after-cut st c (ap isRefused e) (ap isCut e)
 
 -- ---- what the code leaves at each end
 
-module _ (p : Params) (k : Disk) (m : Memory) (a : ℕ) (b : List ℕ) (n : ℕ) (none! : refusal p k m a b ≡ none) (o : Opened) (k′ : Disk) (h : Opening p (m .state) n k o k′) where
+module _ (p : Params) (k : Disk) (m : Memory) (a : ℕ) (b : List ℕ) (n : ℕ) (none! : writeRefusal p k m a b ≡ none) (o : Opened) (k′ : Disk) (h : OpeningStores p (m .state) n k o k′) where
   -- 01, Write: what a block asks of the state with its segment open
-  plan-ready : m .state .stamp .0 < 18446744073709551616
-      → (slotFor p (m .state) < 8) × (not (hasFilling p (m .state)) ≡ false → rowOf (m .state) (slotFor p (m .state)) .filled < dataCount p) × (o .next < 4294967295) × (m .state .stamp .0 < lastCount)
-  plan-ready fit =
-      let r = ready p k m a b none! in
+  write-plan-ready : m .state .stamp .0 < 18446744073709551616
+      → (slotFor p (m .state) < 8) × (not (hasFilling p (m .state)) ≡ false → slotRow (m .state) (slotFor p (m .state)) .filled < dataCount p) × (o .next < 4294967295)
+      × (m .state .stamp .0 < lastCount)
+  write-plan-ready fit =
+      let r = write-ready p k m a b none! in
       let v = seen p k in
       let st = m .state in
       let i = slotFor p st in
@@ -109,16 +111,16 @@ module _ (p : Params) (k : Disk) (m : Memory) (a : ℕ) (b : List ℕ) (n : ℕ)
       (s, λ e. subst (λ (y : ℕ). y < dataCount p) (sym (row-filled st i)) (slot-fills p v st e s), omega (arith, h .next, x), lt-of-le-ne (omega arith) (r .stamp-left))
 
   -- cut
-  pub ends-cut : o .cut ≡ true → (c : Change) (ad co : List ℕ) → c .answer ≡ Cut → ad ≡ replicate (length (m .addresses)) 0 → co ≡ replicate (length (m .compact)) 0
+  pub ends-write-cut : o .cut ≡ true → (c : Change) (ad co : List ℕ) → c .answer ≡ Cut → ad ≡ replicate (length (m .addresses)) 0 → co ≡ replicate (length (m .compact)) 0
       → afterChange (m .state) c (k′ .image) (k′ .pointers) ad co (m .inflight) b ≡ callDisk p k m (write a b n)
-  ends-cut t c ad co e f g =
-      let w = ready p k m a b none! in
+  ends-write-cut t c ad co e f g =
+      let w = write-ready p k m a b none! in
       let q : mkMemory (stateAfter (m .state) c) ad co (m .inflight) ≡ cutMemory p m =
       cut-memory p m (stateAfter (m .state) c) ad co (w .addresses-long) (w .compact-long) (state-cut (m .state) c e) f g in
       (λ j. mkAfter (e j) (h .disk j) (q j) b)
       ∙ write-cut p k m a b n none! (ltb-true n (length (openStores p k (m .state))) (sym (h .cut) ∙ t))
 
-  module _ (sized : Sized (m .state)) where
+  module _ (sized : RowsSized (m .state)) where
     abbrev st : State
     st = m .state
 
@@ -127,22 +129,22 @@ module _ (p : Params) (k : Disk) (m : Memory) (a : ℕ) (b : List ℕ) (n : ℕ)
 
     -- the block sent, the next stripe number being x
     abbrev sentAt : ℕ → SentRow
-    sentAt x = sentRow p (rowOf st at) (m .inflight) at (not (hasFilling p st)) x a (suc (st .stamp .0)) 1 b
+    sentAt x = sentRow p (slotRow st at) (m .inflight) at (not (hasFilling p st)) x a (suc (st .stamp .0)) 1 b
 
     -- the state after a write, with the numbers in front
-    state-done :
+    write-state :
         stateAfter st (planned (frontOf st) (aimOf p st) o (sentAt (o .next)))
         ≡ setStamp (putRow (frontAs st (o .serial .0) (o .opened) (sentAt (o .next) .next)) at (sentAt (o .next) .row)) (suc (st .stamp .0))
     unfolding isRefused isCut kind putRow putFront setStamp
-    state-done =
+    write-state =
         let c = planned (frontOf st) (aimOf p st) o (sentAt (o .next)) in
-        after-done st c refl refl ∙ changed-row st c (slot-lt p st (ready p k m a b none! .waits))
+        after-done st c refl refl ∙ changed-row st c (slot-lt p st (write-ready p k m a b none! .waits))
 
     -- done
-    ends-done : o .cut ≡ false → (c : Change) (fl : List ℕ) → c ≡ planned (frontOf st) (aimOf p st) o (sentAt (o .next)) → fl ≡ sentAt (o .next) .inflight
+    ends-write-done : o .cut ≡ false → (c : Change) (fl : List ℕ) → c ≡ planned (frontOf st) (aimOf p st) o (sentAt (o .next)) → fl ≡ sentAt (o .next) .inflight
         → afterChange st c (k′ .image) (k′ .pointers) (m .addresses) (m .compact) fl b ≡ callDisk p k m (write a b n)
-    ends-done t c fl e f =
-        let w = ready p k m a b none! in
+    ends-write-done t c fl e f =
+        let w = write-ready p k m a b none! in
         let v = seen p k in
         let s = slot-lt p st (w .waits) in
         let d : dataCount p < 8 = omega (arith, data-count-high p (ranged p (w .ranged))) in
@@ -151,29 +153,29 @@ module _ (p : Params) (k : Disk) (m : Memory) (a : ℕ) (b : List ℕ) (n : ℕ)
         (mkMemory (setStamp (putRow (frontAs st x y (q .next)) at (q .row)) tt′) (m .addresses) (m .compact) (q .inflight)) b in
         (λ j. afterChange st (e j) (k′ .image) (k′ .pointers) (m .addresses) (m .compact) (f j) b)
         ∙ ap (λ (x : State). mkAfter (Sent (aStamp tt′) (sentAt (o .next) .row .number) (sentAt (o .next) .drive)) k′
-        (mkMemory x (m .addresses) (m .compact) (sentAt (o .next) .inflight)) b) state-done
+        (mkMemory x (m .addresses) (m .compact) (sentAt (o .next) .inflight)) b) write-state
         ∙ (λ j. out (h .serial j) (h .opened j) (sentAt (h .next j)))
         ∙ (λ j. let q = sending-row p v st s sized (m .inflight) a tt′ 1 b (start-room p v st s sized d) j in
         mkAfter (Sent (aStamp tt′) (q .stripe) (q .drive)) (h .disk j) (mkMemory (setStamp (q .state) tt′) (m .addresses) (m .compact) (q .inflight)) b)
         ∙ write-done p k m a b n none! (ltb-false n (length (openStores p k st)) (sym (h .cut) ∙ t))
 
   -- the same of the front, the aim and the stripe that the code has
-  module _ (f : Front) (same : f ≡ frontOf (m .state)) (al : Aim) (aimed : al ≡ aimOf p (m .state)) (row : Row) (taken : row ≡ rowOf (m .state) (al .slot)) where
-    row-is : row ≡ rowOf (m .state) (slotFor p (m .state))
-    row-is = taken ∙ ap (λ (x : Aim). rowOf (m .state) (x .slot)) aimed
+  module _ (f : Front) (same : f ≡ frontOf (m .state)) (al : Aim) (aimed : al ≡ aimOf p (m .state)) (row : Row) (taken : row ≡ slotRow (m .state) (al .slot)) where
+    slot-row-is : row ≡ slotRow (m .state) (slotFor p (m .state))
+    slot-row-is = taken ∙ ap (λ (x : Aim). slotRow (m .state) (x .slot)) aimed
 
     pub plan-asks : m .state .stamp .0 < 18446744073709551616 → (al .slot < 8) × (al .begins ≡ false → row .filled < dataCount p) × (o .next < 4294967295) × (f .stamp .0 < lastCount)
     plan-asks fit =
-        let q = plan-ready fit in (
+        let q = write-plan-ready fit in (
           subst (λ (x : Aim). x .slot < 8) (sym aimed) (q .0),
-          λ e. subst (λ (x : Row). x .filled < dataCount p) (sym row-is) (q .1 (ap (λ (x : Aim). x .begins) (sym aimed) ∙ e)),
+          λ e. subst (λ (x : Row). x .filled < dataCount p) (sym slot-row-is) (q .1 (ap (λ (x : Aim). x .begins) (sym aimed) ∙ e)),
           q .2,
           subst (λ (x : Front). x .stamp .0 < lastCount) (sym same) (q .3),
         )
 
-    pub ends-plan : Sized (m .state) → o .cut ≡ false → (c : Change) (fl : List ℕ) → c ≡ planned f al o (plannedRow p row (m .inflight) f al o a b)
+    pub ends-plan : RowsSized (m .state) → o .cut ≡ false → (c : Change) (fl : List ℕ) → c ≡ planned f al o (plannedRow p row (m .inflight) f al o a b)
         → fl ≡ plannedRow p row (m .inflight) f al o a b .inflight
         → afterChange (m .state) c (k′ .image) (k′ .pointers) (m .addresses) (m .compact) fl b ≡ callDisk p k m (write a b n)
     ends-plan z t c fl e g =
-        ends-done z t c fl (e ∙ (λ j. planned (same j) (aimed j) o (plannedRow p (row-is j) (m .inflight) (same j) (aimed j) o a b)))
-        (g ∙ (λ j. plannedRow p (row-is j) (m .inflight) (same j) (aimed j) o a b .inflight))
+        ends-write-done z t c fl (e ∙ (λ j. planned (same j) (aimed j) o (plannedRow p (slot-row-is j) (m .inflight) (same j) (aimed j) o a b)))
+        (g ∙ (λ j. plannedRow p (slot-row-is j) (m .inflight) (same j) (aimed j) o a b .inflight))

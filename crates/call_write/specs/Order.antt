@@ -23,81 +23,81 @@ use mathlib.Core.Path.{_≡_, refl, sym, ap, _∙_}
 
 module _ (p : Params) (k : Disk) (m : Memory) (a : ℕ) (b : List ℕ) where
   -- the first refusal among the checks from the i-th on, counted from 0
-  abbrev pub from : ℕ → Opt Answer
-  from i = firstRefusal (drop i (writeChecks p (lentOk p k m) (seen p k) m a b))
+  abbrev pub writeFrom : ℕ → Opt Answer
+  writeFrom i = firstRefusal (drop i (writeChecks p (lentOk p k m) (seen p k) m a b))
 
   -- the checks after the i-th
   abbrev rest : ℕ → List Check
   rest i = drop (suc i) (writeChecks p (lentOk p k m) (seen p k) m a b)
 
-  pub range-fails : inRange p ≡ false → some (Refused 1) ≡ from 0
+  pub write-range-fails : inRange p ≡ false → some (Refused 1) ≡ writeFrom 0
   unfolding writeChecks
-  range-fails e = sym (rule-fails 1 (not (inRange p)) (rest 0) (ap not e))
+  write-range-fails e = sym (rule-fails 1 (not (inRange p)) (rest 0) (ap not e))
 
-  pub range-passes : inRange p ≡ true → from 1 ≡ from 0
+  pub write-range-passes : inRange p ≡ true → writeFrom 1 ≡ writeFrom 0
   unfolding writeChecks
-  range-passes e = sym (rule-passes 1 (not (inRange p)) (rest 0) (ap not e))
+  write-range-passes e = sym (rule-passes 1 (not (inRange p)) (rest 0) (ap not e))
 
-  pub lengths-fail : lentOk p k m ≡ false → some (Refused 2) ≡ from 1
+  pub write-lengths-fail : lentOk p k m ≡ false → some (Refused 2) ≡ writeFrom 1
   unfolding writeChecks
-  lengths-fail e = sym (rule-fails 2 (not (lentOk p k m) || not (eqb (length b) (p .B))) (rest 1) (ap (λ (x : Bool). not x || not (eqb (length b) (p .B))) e))
+  write-lengths-fail e = sym (rule-fails 2 (not (lentOk p k m) || not (eqb (length b) (p .B))) (rest 1) (ap (λ (x : Bool). not x || not (eqb (length b) (p .B))) e))
 
-  pub block-fails : lentOk p k m ≡ true → (length b ≡ p .B → ⊥) → some (Refused 2) ≡ from 1
+  pub write-block-fails : lentOk p k m ≡ true → (length b ≡ p .B → ⊥) → some (Refused 2) ≡ writeFrom 1
   unfolding writeChecks
-  block-fails e f = sym (rule-fails 2 (not (lentOk p k m) || not (eqb (length b) (p .B))) (rest 1) (λ j. not (e j) || not (ne-eqb (length b) (p .B) f j)))
+  write-block-fails e f = sym (rule-fails 2 (not (lentOk p k m) || not (eqb (length b) (p .B))) (rest 1) (λ j. not (e j) || not (ne-eqb (length b) (p .B) f j)))
 
-  pub lengths-pass : lentOk p k m ≡ true → length b ≡ p .B → from 2 ≡ from 1
+  pub write-lengths-pass : lentOk p k m ≡ true → length b ≡ p .B → writeFrom 2 ≡ writeFrom 1
   unfolding writeChecks
-  lengths-pass e f = sym (rule-passes 2 (not (lentOk p k m) || not (eqb (length b) (p .B))) (rest 1) (λ j. not (e j) || not (eq-eqb (length b) (p .B) f j)))
+  write-lengths-pass e f = sym (rule-passes 2 (not (lentOk p k m) || not (eqb (length b) (p .B))) (rest 1) (λ j. not (e j) || not (eq-eqb (length b) (p .B) f j)))
 
-  pub missing-fails : (m .state .missing ≡ 0 → ⊥) → some (Refused 3) ≡ from 2
+  pub write-missing-fails : (m .state .missing ≡ 0 → ⊥) → some (Refused 3) ≡ writeFrom 2
   unfolding writeChecks
-  missing-fails f = sym (rule-fails 3 (not (eqb (m .state .missing) 0)) (rest 2) (ap not (ne-eqb (m .state .missing) 0 f)))
+  write-missing-fails f = sym (rule-fails 3 (not (eqb (m .state .missing) 0)) (rest 2) (ap not (ne-eqb (m .state .missing) 0 f)))
 
-  pub missing-passes : m .state .missing ≡ 0 → from 3 ≡ from 2
+  pub write-missing-passes : m .state .missing ≡ 0 → writeFrom 3 ≡ writeFrom 2
   unfolding writeChecks
-  missing-passes f = sym (rule-passes 3 (not (eqb (m .state .missing) 0)) (rest 2) (ap not (eq-eqb (m .state .missing) 0 f)))
+  write-missing-passes f = sym (rule-passes 3 (not (eqb (m .state .missing) 0)) (rest 2) (ap not (eq-eqb (m .state .missing) 0 f)))
 
-  pub address-fails : p .L ≤ a → some (Refused 4) ≡ from 3
+  pub write-address-fails : p .L ≤ a → some (Refused 4) ≡ writeFrom 3
   unfolding writeChecks
-  address-fails h = sym (rule-fails 4 (leb (p .L) a) (rest 3) (le-leb (p .L) a h))
+  write-address-fails h = sym (rule-fails 4 (leb (p .L) a) (rest 3) (le-leb (p .L) a h))
 
-  pub address-passes : a < p .L → from 4 ≡ from 3
+  pub write-address-passes : a < p .L → writeFrom 4 ≡ writeFrom 3
   unfolding writeChecks
-  address-passes h = sym (rule-passes 4 (leb (p .L) a) (rest 3) (lt-leb (p .L) a h))
+  write-address-passes h = sym (rule-passes 4 (leb (p .L) a) (rest 3) (lt-leb (p .L) a h))
 
-  pub stamp-fails : noStamp (m .state) ≡ true → some (Refused 6) ≡ from 4
+  pub stamp-fails : noStamp (m .state) ≡ true → some (Refused 6) ≡ writeFrom 4
   unfolding writeChecks
   stamp-fails e = sym (rule-fails 6 (noStamp (m .state) || noSerial p (m .state)) (rest 4) (ap (λ (x : Bool). x || noSerial p (m .state)) e))
 
-  pub serial-fails : noStamp (m .state) ≡ false → noSerial p (m .state) ≡ true → some (Refused 6) ≡ from 4
+  pub write-serial-fails : noStamp (m .state) ≡ false → noSerial p (m .state) ≡ true → some (Refused 6) ≡ writeFrom 4
   unfolding writeChecks
-  serial-fails e f = sym (rule-fails 6 (noStamp (m .state) || noSerial p (m .state)) (rest 4) (λ j. e j || f j))
+  write-serial-fails e f = sym (rule-fails 6 (noStamp (m .state) || noSerial p (m .state)) (rest 4) (λ j. e j || f j))
 
-  pub counts-pass : noStamp (m .state) ≡ false → noSerial p (m .state) ≡ false → from 5 ≡ from 4
+  pub counts-pass : noStamp (m .state) ≡ false → noSerial p (m .state) ≡ false → writeFrom 5 ≡ writeFrom 4
   unfolding writeChecks
   counts-pass e f = sym (rule-passes 6 (noStamp (m .state) || noSerial p (m .state)) (rest 4) (λ j. e j || f j))
 
-  pub wait-fails : mustWait p (m .state) ≡ true → some (Refused 7) ≡ from 5
+  pub wait-fails : mustWait p (m .state) ≡ true → some (Refused 7) ≡ writeFrom 5
   unfolding writeChecks
   wait-fails e = sym (rule-fails 7 (mustWait p (m .state)) (rest 5) e)
 
-  pub wait-passes : mustWait p (m .state) ≡ false → from 6 ≡ from 5
+  pub wait-passes : mustWait p (m .state) ≡ false → writeFrom 6 ≡ writeFrom 5
   unfolding writeChecks
   wait-passes e = sym (rule-passes 7 (mustWait p (m .state)) (rest 5) e)
 
-  pub zones-fail : scarce p (seen p k) (cond (opens p (m .state)) 2 1) ≡ true → some (Refused 8) ≡ from 6
+  pub write-zones-fail : scarce p (seen p k) (cond (opens p (m .state)) 2 1) ≡ true → some (Refused 8) ≡ writeFrom 6
   unfolding writeChecks
-  zones-fail e = sym (rule-fails 8 (scarce p (seen p k) (cond (opens p (m .state)) 2 1)) (rest 6) e)
+  write-zones-fail e = sym (rule-fails 8 (scarce p (seen p k) (cond (opens p (m .state)) 2 1)) (rest 6) e)
 
-  pub zones-suffice : scarce p (seen p k) (cond (opens p (m .state)) 2 1) ≡ false → from 7 ≡ from 6
+  pub write-zones-suffice : scarce p (seen p k) (cond (opens p (m .state)) 2 1) ≡ false → writeFrom 7 ≡ writeFrom 6
   unfolding writeChecks
-  zones-suffice e = sym (rule-passes 8 (scarce p (seen p k) (cond (opens p (m .state)) 2 1)) (rest 6) e)
+  write-zones-suffice e = sym (rule-passes 8 (scarce p (seen p k) (cond (opens p (m .state)) 2 1)) (rest 6) e)
 
-  pub state-fails : stateOk p (m .state) ≡ false → some (BadZone 0) ≡ from 7
+  pub write-state-fails : stateOk p (m .state) ≡ false → some (BadZone 0) ≡ writeFrom 7
   unfolding writeChecks
-  state-fails e = sym (ap (λ (zs : List ℕ). firstRefusal (zones zs ∷ [])) (state-fault p (m .state) e) ∙ zone-fails 0 [])
+  write-state-fails e = sym (ap (λ (zs : List ℕ). firstRefusal (zones zs ∷ [])) (state-fault p (m .state) e) ∙ zone-fails 0 [])
 
-  pub state-passes : stateOk p (m .state) ≡ true → none ≡ from 7
+  pub write-state-passes : stateOk p (m .state) ≡ true → none ≡ writeFrom 7
   unfolding writeChecks
-  state-passes e = sym (ap (λ (zs : List ℕ). firstRefusal (zones zs ∷ [])) (state-fine p (m .state) e) ∙ zones-pass [] [] refl ∙ none-left)
+  write-state-passes e = sym (ap (λ (zs : List ℕ). firstRefusal (zones zs ∷ [])) (state-fine p (m .state) e) ∙ zones-pass [] [] refl ∙ none-left)

@@ -31,10 +31,10 @@ use mathlib.Core.Path.{_≡_}
 use native.Mathlib.Omega.{arith}
 
 -- 01, Refusals: the first check of a write that holds, on what it is lent
-abbrev pub refusal : Params → Disk → Memory → ℕ → List ℕ → Opt Answer
-refusal p k m a b = firstRefusal (writeChecks p (lentOk p k m) (seen p k) m a b)
+abbrev pub writeRefusal : Params → Disk → Memory → ℕ → List ℕ → Opt Answer
+writeRefusal p k m a b = firstRefusal (writeChecks p (lentOk p k m) (seen p k) m a b)
 
-pub record Ready (p : Params) (k : Disk) (m : Memory) (b : List ℕ) : Type 0 where
+pub record WriteReady (p : Params) (k : Disk) (m : Memory) (b : List ℕ) : Type 0 where
   pub ranged : inRange p ≡ true
   pub whole : Whole p k
   pub addresses-long : length (m .addresses) ≡ addressesLen p
@@ -69,17 +69,17 @@ lent-long p k m h =
     )
 
 -- 01, Refusals, 8: not scarce
-enough : (p : Params) (v : View) (n : ℕ) → 0 < n → scarce p v n ≡ false → 0 < length (emptyZones p v)
+zones-enough : (p : Params) (v : View) (n : ℕ) → 0 < n → scarce p v n ≡ false → 0 < length (emptyZones p v)
 unfolding scarce
-enough p v n g h = omega (arith, leb-false (length (emptyZones p v)) n h)
+zones-enough p v n g h = omega (arith, leb-false (length (emptyZones p v)) n h)
 
 reserve-low : (b : Bool) → 0 < cond {A = ℕ} b 2 1
 reserve-low true = omega arith
 reserve-low false = omega arith
 
-pub ready : (p : Params) (k : Disk) (m : Memory) (a : ℕ) (b : List ℕ) → refusal p k m a b ≡ none → Ready p k m b
+pub write-ready : (p : Params) (k : Disk) (m : Memory) (a : ℕ) (b : List ℕ) → writeRefusal p k m a b ≡ none → WriteReady p k m b
 unfolding noStamp noSerial
-ready p k m a b e =
+write-ready p k m a b e =
     let st = m .state in
     let v = seen p k in
     let c = write-passed p (lentOk p k m) v m a b e in
@@ -94,7 +94,7 @@ ready p k m a b e =
       stamp-left = eqb-false (st .stamp .0) lastCount (c .stamp-left);
       serial-left = λ q s. not-both (opens p st && eqb (st .serial .0) lastCount) (and-both (opens p st) (eqb (st .serial .0) lastCount) q (eq-eqb (st .serial .0) lastCount s)) (c .serial-left);
       waits = c .no-wait;
-      empties = enough p v (cond (opens p st) 2 1) (reserve-low (opens p st)) (c .room);
+      empties = zones-enough p v (cond (opens p st) 2 1) (reserve-low (opens p st)) (c .room);
       next-high = next-low p st (c .state-fine);
     }
 

@@ -12,7 +12,7 @@ ghost use Rattle.spec.specs.Memory.{mkMemory, stateLen, stateOf};
 ghost use Rattle.spec.specs.Params.{inRange, dataCount, inflightLen};
 ghost use Rattle.call_filling.specs.Aims.{aimOf};
 ghost use Rattle.mem_rows.specs.Rows.{frontOf, afterChange};
-ghost use Rattle.call_write.specs.Ready.{refusal, planned, plannedRow};
+ghost use Rattle.call_write.specs.Ready.{writeRefusal, planned, plannedRow};
 use call_filling::Aim;
 use call_filling::Opened;
 use mem_calls::Check;
@@ -53,7 +53,7 @@ fn checks(
     requires { ⌜ (f ≡ frontOf (stateOf (now bytes))) × (a ≡ aimOf p (stateOf (now bytes))) × (missing ≡ stateOf (now bytes) .missing) × (length (now bytes) ≡ stateLen) ⌝ }
     ensures { λ r. ⌜
         checked r
-        ≡ refusal p (mkDisk (now (image .entry)) (now (pointers .entry)))
+        ≡ writeRefusal p (mkDisk (now (image .entry)) (now (pointers .entry)))
         (mkMemory (stateOf (now (bytes .entry))) (now (addresses .entry)) (now (compact .entry)) (now (inflight .entry))) (address .0)
         (now (block .entry)) ⌝ }
 {

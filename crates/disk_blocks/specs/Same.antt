@@ -20,11 +20,11 @@ pub record Comparing (a b : List ℕ) (off i : ℕ) : Type 0 where
   pub equal : off ≡ 0 → sameList (drop i a) (drop i b) ≡ sameList a b
   pub differ : (off ≡ 0 → ⊥) → sameList a b ≡ false
 
-or-left : (x y : ℕ) → bitOr x y ≡ 0 → x ≡ 0
-or-left x y e = omega (arith, e, or-add-and x y, and-le-r x y)
+bitOr-left : (x y : ℕ) → bitOr x y ≡ 0 → x ≡ 0
+bitOr-left x y e = omega (arith, e, or-add-and x y, and-le-r x y)
 
-or-right : (x y : ℕ) → bitOr x y ≡ 0 → y ≡ 0
-or-right x y e = omega (arith, e, or-add-and x y, and-le-l x y)
+bitOr-right : (x y : ℕ) → bitOr x y ≡ 0 → y ≡ 0
+bitOr-right x y e = omega (arith, e, or-add-and x y, and-le-l x y)
 
 xor-none : (x y : ℕ) → bitXor x y ≡ 0 → x ≡ y
 xor-none x y e = sym (xor-back x y) ∙ ap (λ (n : ℕ). bitXor n y) e ∙ xor-zero-l y
@@ -36,7 +36,7 @@ pub comparing-next : (a b : List ℕ) (off i : ℕ) → Comparing a b off i → 
 comparing-next a b off i c h = record {
   upto = omega (arith, h);
   long = c .long;
-  equal = λ e. sym (same-step a b i h k (xor-none x y (or-right off (bitXor x y) e))) ∙ c .equal (or-left off (bitXor x y) e);
+  equal = λ e. sym (same-step a b i h k (xor-none x y (bitOr-right off (bitXor x y) e))) ∙ c .equal (bitOr-left off (bitXor x y) e);
   differ = λ n. go n (ℕ-discrete off 0);
 }
   where

@@ -13,7 +13,7 @@ use Rattle.spec.specs.Drives.{Chunk, noChunk, zoneAt, chunkAt, viewOf, mkDisk, 
 use Rattle.spec.specs.Layout.{recordOf, footerBlock, footerRecord}
 use Rattle.spec.specs.Lists.{below, flat, padTo}
 use Rattle.spec.specs.Params.{spareLen, perFooter, footers, capacity, unitLen, imageLen, pointersLen, placeOf, placeByte}
-use Rattle.law_basic.specs.Geometry.{item, Ranged, block-within, per-footer-low, per-footer-fits, data-below, footer-of}
+use Rattle.law_basic.specs.Geometry.{item-fits, Ranged, block-within, per-footer-low, per-footer-fits, data-below, footer-of}
 use Rattle.law_basic.specs.Ranges.{length-below, map-below-same, getD-map, getD-map-below, flat-snoc}
 use Rattle.law_basic.specs.Splice.{length-part, part-all, part-append-left, part-append-right, splice-zero, splice-next, length-splice, part-splice-in, part-splice-below, part-splice-above}
 use Rattle.law_views.specs.Views.{Whole, blocks-long, spare-view}
@@ -36,7 +36,7 @@ byte-next p d z b =
 
 pub byte-before : (p : Params) (d z b c : ℕ) → b < c → placeByte p (placeOf p d z b) + unitLen p ≤ placeByte p (placeOf p d z c)
 unfolding placeByte placeOf
-byte-before p d z b c h = item ((d * p .Z + z) * capacity p + b) ((d * p .Z + z) * capacity p + c) (unitLen p) (omega arith)
+byte-before p d z b c h = item-fits ((d * p .Z + z) * capacity p + b) ((d * p .Z + z) * capacity p + c) (unitLen p) (omega arith)
 
 pub byte-low : (p : Params) (d z b c : ℕ) → b ≤ c → placeByte p (placeOf p d z b) ≤ placeByte p (placeOf p d z c)
 unfolding placeByte placeOf
@@ -50,9 +50,9 @@ module _ (p : Params) (r : Ranged p) (d z : ℕ) (hd : d < p .N) (hz : z < p .Z)
   spare-room o h = omega (arith, block-within p d z (1 + o) hd hz (data-below p r (1 + o) (omega arith)))
 
   module _ (im : List ℕ) (hi : length im ≡ imageLen p) where
-    pub spares-count : length (sparesBy p im d z) ≡ p .S
+    pub sparesBy-count : length (sparesBy p im d z) ≡ p .S
     unfolding sparesBy
-    spares-count = length-map (below (p .S)) (λ o. part (placeByte p (placeOf p d z (1 + o)) + p .B) spareLen im) ∙ length-below (p .S)
+    sparesBy-count = length-map (below (p .S)) (λ o. part (placeByte p (placeOf p d z (1 + o)) + p .B) spareLen im) ∙ length-below (p .S)
 
     pub spare-of : (o : ℕ) → o < p .S → getD (sparesBy p im d z) o [] ≡ part (placeByte p (placeOf p d z (1 + o)) + p .B) spareLen im
     unfolding sparesBy
@@ -65,7 +65,7 @@ module _ (p : Params) (r : Ranged p) (d z : ℕ) (hd : d < p .N) (hz : z < p .Z)
     -- they are those of the view
     pub spares-view : (ps : List ℕ) → length ps ≡ pointersLen p → sparesOf (take (p .S) (drop 1 (zoneAt (viewOf p im ps) d z .blocks))) ≡ sparesBy p im d z
     unfolding sparesOf chunkAt
-    spares-view ps hp = ext-getD [] (map (λ (c : Chunk). c .spare) row) (sparesBy p im d z) (long ∙ sym spares-count) (λ o l. each o (omega (arith, long)))
+    spares-view ps hp = ext-getD [] (map (λ (c : Chunk). c .spare) row) (sparesBy p im d z) (long ∙ sym sparesBy-count) (λ o l. each o (omega (arith, long)))
       where
         w : Whole p (mkDisk im ps)
         w = record { image-long = hi; pointers-long = hp }
@@ -152,8 +152,8 @@ module _ (p : Params) (r : Ranged p) where
         ap length (records-more i j (omega arith)) ∙ length-append (recordsOf p ss i j) (getD ss (i * perFooter p + j) [])
         ∙ ap₂ _+_ (records-long i j (omega arith)) (long (i * perFooter p + j) (omega arith)) ∙ sym (suc-mul j spareLen)
 
-    room : (j : ℕ) → j ≤ perFooter p → j * spareLen ≤ p .B
-    room j h = le-trans (mul-le-mul-right spareLen h) (per-footer-fits p r)
+    spares-room : (j : ℕ) → j ≤ perFooter p → j * spareLen ≤ p .B
+    spares-room j h = le-trans (mul-le-mul-right spareLen h) (per-footer-fits p r)
 
     -- a footer block holds as many records as there are, and as it has room for
     records-stop : (i n : ℕ) → n ≡ min (perFooter p) (p .S - i * perFooter p) → recordsOf p ss i n ≡ recordsOf p ss i (perFooter p)
@@ -189,7 +189,7 @@ module _ (p : Params) (r : Ranged p) where
     held-long i h =
         let s = footer-start i h in
         let e : length (recordsOf p ss i (held i)) ≡ held i * spareLen = records-long i (held i) (omega arith) in
-        omega (arith, e, room (held i) (omega arith))
+        omega (arith, e, spares-room (held i) (omega arith))
 
     pub footer-long : (i : ℕ) → i < footers p → length (footerBlock p ss i) ≡ p .B
     footer-long i h =
@@ -207,7 +207,7 @@ module _ (p : Params) (r : Ranged p) where
         let n : length t ≡ j * spareLen = records-long i j (omega arith) in
         let a : b * j ≡ 0 + length t = ap (λ (x : ℕ). x * j) eb ∙ sym (zero-add (length t) ∙ n ∙ mul-comm j spareLen) in
         let ls : length s ≡ spareLen = ap length q ∙ long (i * perFooter p + j) h in
-        let w : suc j * spareLen ≤ p .B = room (suc j) (omega arith) in
+        let w : suc j * spareLen ≤ p .B = spares-room (suc j) (omega arith) in
         f ∙ ap₂ (λ (x : List ℕ) (y : ℕ). splice x y s) e a
         ∙ splice-next z 0 t s (omega (arith, n, ls, lz, w, suc-mul j spareLen))
         ∙ ap (splice z 0) (ap (λ (x : List ℕ). t ++ x) q ∙ sym (records-more i j h) ∙ ap (recordsOf p ss i) (sym (add-one j)))
@@ -231,7 +231,7 @@ module _ (p : Params) (r : Ranged p) where
         go : Dec (j < k) → (j < k → i * perFooter p + k ≤ p .S → part (j * spareLen) spareLen t ≡ getD ss (i * perFooter p + j) [])
             → part (j * spareLen) spareLen (recordsOf p ss i (suc k)) ≡ getD ss (i * perFooter p + j) []
         go (yes l) ih =
-            ap (part (j * spareLen) spareLen) more ∙ part-append-left (j * spareLen) spareLen t s (omega (arith, tl, item j k spareLen l)) ∙ ih l (omega arith)
+            ap (part (j * spareLen) spareLen) more ∙ part-append-left (j * spareLen) spareLen t s (omega (arith, tl, item-fits j k spareLen l)) ∙ ih l (omega arith)
         go (no l) ih =
             let e : j ≡ k = omega arith in
             let a : j * spareLen ≡ length t + 0 = ap (λ (x : ℕ). x * spareLen) e ∙ sym (add-zero (length t) ∙ tl) in
@@ -255,7 +255,7 @@ module _ (p : Params) (r : Ranged p) where
         let ln : length (recordsOf p ss i (held i)) ≡ held i * spareLen = records-long i (held i) n in
         let a : spareLen * j ≡ 0 + j * spareLen = mul-comm spareLen j ∙ sym (zero-add (j * spareLen)) in
         ap₂ (λ (x : ℕ) (y : List ℕ). part x spareLen y) a (sym (footer-is i (held i) refl))
-        ∙ part-splice-in z 0 (recordsOf p ss i (held i)) (omega (arith, held-long i f, lz)) (j * spareLen) spareLen (omega (arith, ln, item j (held i) spareLen l))
+        ∙ part-splice-in z 0 (recordsOf p ss i (held i)) (omega (arith, held-long i f, lz)) (j * spareLen) spareLen (omega (arith, ln, item-fits j (held i) spareLen l))
         ∙ records-part i j (held i) l n ∙ ap (λ (x : ℕ). getD ss x []) e
 
     pub footer-record : (o : ℕ) → o < p .S → footerRecord p (map (footerBlock p ss) (below (footers p))) o ≡ recordOf (getD ss o [])

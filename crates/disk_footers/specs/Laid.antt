@@ -18,7 +18,7 @@ use Rattle.law_basic.specs.Ranges.{length-upFrom, map-take}
 use Rattle.law_basic.specs.Splice.{splice-next, splice-again, splice-comm, length-splice}
 use Rattle.law_basic.specs.Xor.{AllLong, long-upFrom}
 use Rattle.law_views.specs.Views.{Whole, pointer-view, whole-put}
-use Rattle.disk_footers.specs.Feet.{sparesBy, byte-next, footer-long, spares-count, spare-long, spares-view, spares-stay}
+use Rattle.disk_footers.specs.Feet.{sparesBy, byte-next, footer-long, sparesBy-count, spare-long, spares-view, spares-stay}
 use Rattle.law_views.specs.Pointers.{pointer-set}
 use Rattle.law_basic.specs.Be.{length-toBe}
 
@@ -247,7 +247,7 @@ module _ (p : Params) (r : Ranged p) (d z first n : ℕ) (hd : d < p .N) (hz : z
 
   blocks-are-long : AllLong (p .B) blocks
   blocks-are-long = long-upFrom (p .B) (footerBlock p ss) first n
-      (λ j a b. footer-long p r ss (spares-count p r d z hd hz im (w .image-long)) (spare-long p r d z hd hz im (w .image-long)) j (omega arith))
+      (λ j a b. footer-long p r ss (sparesBy-count p r d z hd hz im (w .image-long)) (spare-long p r d z hd hz im (w .image-long)) j (omega arith))
 
   count : length blocks ≡ n
   count = length-map (upFrom first n) (footerBlock p ss) ∙ length-upFrom first n

@@ -44,11 +44,11 @@ module _ (a b : Cand) where
       (ltb (b .serial) (a .serial)
       || (eqb (a .serial) (b .serial) && (ltb (a .drive) (b .drive) || (eqb (a .drive) (b .drive) && ltb (a .offset) (b .offset))))) (ne-eqb (a .stamp) (b .stamp) h)
 
-  same-stamp : a .stamp ≡ b .stamp
+  rank-same-stamp : a .stamp ≡ b .stamp
       → (ltb (b .serial) (a .serial)
       || (eqb (a .serial) (b .serial) && (ltb (a .drive) (b .drive) || (eqb (a .drive) (b .drive) && ltb (a .offset) (b .offset))))) ≡ beats a b
   unfolding beats
-  same-stamp e = skip (ltb (b .stamp) (a .stamp)) (eqb (a .stamp) (b .stamp))
+  rank-same-stamp e = skip (ltb (b .stamp) (a .stamp)) (eqb (a .stamp) (b .stamp))
       (ltb (b .serial) (a .serial)
       || (eqb (a .serial) (b .serial) && (ltb (a .drive) (b .drive) || (eqb (a .drive) (b .drive) && ltb (a .offset) (b .offset)))))
       (le-ltb (b .stamp) (a .stamp) (le-of-eq e)) (eq-eqb (a .stamp) (b .stamp) e)
@@ -56,23 +56,23 @@ module _ (a b : Cand) where
   pub by-serial : a .stamp ≡ b .stamp → (a .serial ≡ b .serial → ⊥) → ltb (b .serial) (a .serial) ≡ beats a b
   by-serial e h = stop (ltb (b .serial) (a .serial)) (eqb (a .serial) (b .serial))
       (ltb (a .drive) (b .drive) || (eqb (a .drive) (b .drive) && ltb (a .offset) (b .offset))) (ne-eqb (a .serial) (b .serial) h)
-      ∙ same-stamp e
+      ∙ rank-same-stamp e
 
-  same-serial : a .stamp ≡ b .stamp → a .serial ≡ b .serial
+  rank-same-serial : a .stamp ≡ b .stamp → a .serial ≡ b .serial
       → (ltb (a .drive) (b .drive) || (eqb (a .drive) (b .drive) && ltb (a .offset) (b .offset))) ≡ beats a b
-  same-serial e f = skip (ltb (b .serial) (a .serial)) (eqb (a .serial) (b .serial))
+  rank-same-serial e f = skip (ltb (b .serial) (a .serial)) (eqb (a .serial) (b .serial))
       (ltb (a .drive) (b .drive) || (eqb (a .drive) (b .drive) && ltb (a .offset) (b .offset)))
       (le-ltb (b .serial) (a .serial) (le-of-eq f)) (eq-eqb (a .serial) (b .serial) f)
-      ∙ same-stamp e
+      ∙ rank-same-stamp e
 
   pub by-drive : a .stamp ≡ b .stamp → a .serial ≡ b .serial → (a .drive ≡ b .drive → ⊥) → ltb (a .drive) (b .drive) ≡ beats a b
   by-drive e f h = stop (ltb (a .drive) (b .drive)) (eqb (a .drive) (b .drive)) (ltb (a .offset) (b .offset)) (ne-eqb (a .drive) (b .drive) h)
-      ∙ same-serial e f
+      ∙ rank-same-serial e f
 
   pub by-offset : a .stamp ≡ b .stamp → a .serial ≡ b .serial → a .drive ≡ b .drive → ltb (a .offset) (b .offset) ≡ beats a b
   by-offset e f g = skip (ltb (a .drive) (b .drive)) (eqb (a .drive) (b .drive)) (ltb (a .offset) (b .offset))
       (le-ltb (a .drive) (b .drive) (le-of-eq (sym g))) (eq-eqb (a .drive) (b .drive) g)
-      ∙ same-serial e f
+      ∙ rank-same-serial e f
 
 -- 01, The calls: the better of what holds so far and one more
 pub better-first : (c : Cand) → some c ≡ better none c

@@ -56,24 +56,24 @@ widths-zipped (w ∷ ws) [] e = absurd (let q : ⊥ = omega arith in q)
 widths-zipped (w ∷ ws) (v ∷ vs) e = ap (λ (l : List ℕ). w ∷ l) (widths-zipped ws vs (omega arith))
 
 -- what remains to be written from l on, field i first, makes what all fields make of l₀
-pub Rest : List ℕ → List ℕ → List ℕ → List ℕ → ℕ → ℕ → Type 0
-Rest ws vs l₀ l at i = written l 0 at (drop i (zipped field ws vs)) ≡ written l₀ 0 0 (zipped field ws vs)
+pub FieldsLeft : List ℕ → List ℕ → List ℕ → List ℕ → ℕ → ℕ → Type 0
+FieldsLeft ws vs l₀ l at i = written l 0 at (drop i (zipped field ws vs)) ≡ written l₀ 0 0 (zipped field ws vs)
 
 module _ (ws vs l₀ : List ℕ) (e : length vs ≡ length ws) where
-  pub rest-none : Rest ws vs l₀ l₀ 0 0
-  unfolding Rest
+  pub rest-none : FieldsLeft ws vs l₀ l₀ 0 0
+  unfolding FieldsLeft
   rest-none = refl
 
-  pub rest-more : (l l′ : List ℕ) (at i : ℕ) → i < length ws → Rest ws vs l₀ l at i → l′ ≡ splice l at (toBe (getD ws i 0) (getD vs i 0))
-      → Rest ws vs l₀ l′ (at + getD ws i 0) (suc i)
-  unfolding Rest
+  pub rest-more : (l l′ : List ℕ) (at i : ℕ) → i < length ws → FieldsLeft ws vs l₀ l at i → l′ ≡ splice l at (toBe (getD ws i 0) (getD vs i 0))
+      → FieldsLeft ws vs l₀ l′ (at + getD ws i 0) (suc i)
+  unfolding FieldsLeft
   rest-more l l′ at i h r q =
       one-more l l′ 0 at (getD ws i 0) (getD vs i 0) (drop (suc i) (zipped field ws vs))
       (q ∙ ap (λ (n : ℕ). splice l n (toBe (getD ws i 0) (getD vs i 0))) (sym (zero-add at)))
       ∙ ap (written l 0 at) (sym (drop-field ws vs i h e)) ∙ r
 
-  pub rest-all : (l : List ℕ) (at i : ℕ) → i ≡ length ws → total ws ≤ length l₀ → Rest ws vs l₀ l at i → l ≡ splice l₀ 0 (bytesOf (zipped field ws vs))
-  unfolding Rest
+  pub rest-all : (l : List ℕ) (at i : ℕ) → i ≡ length ws → total ws ≤ length l₀ → FieldsLeft ws vs l₀ l at i → l ≡ splice l₀ 0 (bytesOf (zipped field ws vs))
+  unfolding FieldsLeft
   rest-all l at i d h r =
       let fs : List Field = zipped field ws vs in
       let n : total (widthsOf fs) ≡ total ws = ap total (widths-zipped ws vs e) in

@@ -13,8 +13,8 @@ use Rattle.law_basic.specs.Splice.{splice-all}
 use Rattle.disk_records.specs.declared.Record.{Record}
 
 -- the record that a value of the code stands for
-abbrev pub recOf : Record → Rec
-recOf r = mkRec (r .address .0) (r .stamp .0) (r .stripe)
+abbrev pub recVal : Record → Rec
+recVal r = mkRec (r .address .0) (r .stamp .0) (r .stripe)
 
 -- the three fields written one after the other
 pub record-written : (l l₁ l₂ l₃ : List ℕ) (q : Rec) → length l ≡ spareLen → l₁ ≡ splice l 0 (toBe 8 (q .address)) → l₂ ≡ splice l₁ 8 (toBe 8 (q .stamp))

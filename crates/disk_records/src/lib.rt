@@ -10,7 +10,7 @@ ghost use Rattle.spec.specs.Faults.{sameChunk};
 ghost use Rattle.spec.specs.Layout.{headerLen, headerBlock, headerSerial, headerCopied, recordBytes, recordOf};
 ghost use Rattle.spec.specs.Lists.{total, zipped};
 ghost use Rattle.spec.specs.Params.{inRange, spareLen, unitLen};
-ghost use Rattle.disk_records.specs.Record.{recOf};
+ghost use Rattle.disk_records.specs.Record.{recVal};
 use spec::Address;
 use spec::Params;
 use spec::Serial;
@@ -166,7 +166,7 @@ pub fn header_copied(src: &[u8]) -> Serial
 // The record in a spare.
 pub fn read_record(src: &[u8]) -> Record
     requires { ⌜ spareLen ≤ length (now src) ⌝ }
-    ensures { λ r. ⌜ recOf r ≡ recordOf (now (src .entry)) ⌝ }
+    ensures { λ r. ⌜ recVal r ≡ recordOf (now (src .entry)) ⌝ }
 {
     let address = Address(bits_be::read_be64(src, disk_shape::ADDRESS_AT));
     let stamp = Stamp(bits_be::read_be64(src, disk_shape::STAMP_AT));
@@ -181,7 +181,7 @@ pub fn read_record(src: &[u8]) -> Record
 // A spare with the record.
 pub fn write_record(dst: &mut [u8], r: Record)
     requires { ⌜ length (now dst) ≡ spareLen ⌝ }
-    ensures { λ _. ⌜ now (dst .exit) ≡ recordBytes (recOf r) ⌝ }
+    ensures { λ _. ⌜ now (dst .exit) ≡ recordBytes (recVal r) ⌝ }
 {
     bits_be::write_be64(dst, disk_shape::ADDRESS_AT, r.address.0);
     bits_be::write_be64(dst, disk_shape::STAMP_AT, r.stamp.0);

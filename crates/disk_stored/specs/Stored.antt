@@ -14,7 +14,7 @@ use Rattle.spec.specs.Layout.{recordOf, footerRecord}
 use Rattle.spec.specs.Params.{spareLen, perFooter, footers, capacity, unitLen, imageLen, pointersLen, placeOf, placeByte}
 use Rattle.spec.specs.declared.Params.{Params}
 use Rattle.law_basic.specs.Geometry.{Ranged, prod-le, per-footer-low, per-footer-high, per-footer-fits, footers-low, footers-high, capacity-high}
-use Rattle.law_basic.specs.Geometry.{image-high, zones-all, data-below, item, block-within, zone-index-lt, footer-of}
+use Rattle.law_basic.specs.Geometry.{image-high, zones-all, data-below, item-fits, block-within, zone-index-lt, footer-of}
 use Rattle.law_basic.specs.Ranges.{getD-map}
 use Rattle.law_basic.specs.Splice.{part-part}
 use Rattle.law_views.specs.Views.{Whole, pointer-view, blocks-long, block-view, spare-view}
@@ -47,9 +47,9 @@ pub record Begun (p : Params) (k n d z b : ℕ) : Type 0 where
   pub within : placeByte p (placeOf p d z b) + unitLen p ≤ imageLen p
   pub high : imageLen p ≤ 2946336325632
 
-pub begun : (p : Params) → Ranged p → (k n d z b : ℕ) → k ≡ perFooter p → n ≡ spareLen → d < p .N → z < p .Z → b < capacity p → Begun p k n d z b
+pub begun-at : (p : Params) → Ranged p → (k n d z b : ℕ) → k ≡ perFooter p → n ≡ spareLen → d < p .N → z < p .Z → b < capacity p → Begun p k n d z b
 unfolding footers capacity placeOf placeByte unitLen
-begun p r k n d z b e s hd hz hb =
+begun-at p r k n d z b e s hd hz hb =
     let y : d * p .Z + z ≤ 8191 = omega (arith, zone-index-lt p d z hd hz, zones-all p r) in
     let f : (p .S + k - 1) / k ≡ footers p = ap (λ (x : ℕ). (p .S + x - 1) / x) e in
     let c : 1 + p .S + (p .S + k - 1) / k ≤ 87381 = omega (arith, capacity-high p r) in
@@ -80,7 +80,7 @@ module _ (p : Params) (r : Ranged p) where
   record-fits o =
       let q : o % perFooter p < perFooter p = mod-lt o (omega (arith, per-footer-low p r)) in
       let e : spareLen * (o % perFooter p) ≡ o % perFooter p * spareLen = mul-comm spareLen (o % perFooter p) in
-      omega (arith, e, item (o % perFooter p) (perFooter p) spareLen q, per-footer-fits p r)
+      omega (arith, e, item-fits (o % perFooter p) (perFooter p) spareLen q, per-footer-fits p r)
 
   -- a record's bytes lie within the image
   pub record-within : (f : Bool) (d z o : ℕ) → d < p .N → z < p .Z → o < p .S → recordByte p f d z o + spareLen ≤ imageLen p

@@ -7,7 +7,7 @@ ghost use lib.ListN.{length};
 ghost use Rattle.spec.specs.Drives.{viewOf, mkDisk, zoneAt, dataStored, recordIn, recordAt};
 ghost use Rattle.spec.specs.Faults.{footersStored};
 ghost use Rattle.spec.specs.Params.{inRange, spareLen, perFooter, footers, capacity, unitLen, imageLen, pointersLen, placeOf, placeByte};
-ghost use Rattle.disk_records.specs.Record.{recOf};
+ghost use Rattle.disk_records.specs.Record.{recVal};
 ghost use Rattle.law_views.specs.Views.{Whole};
 ghost use Rattle.disk_stored.specs.Stored.{recordByte, firstByte, together};
 use disk_records::Record;
@@ -118,7 +118,7 @@ pub fn record_in(
 ) -> Record
     requires { ⌜ inRange p ≡ true ⌝ }
     requires { ⌜ (length (now image) ≡ imageLen p) × (drive < p .N) × (zone < p .Z) × (offset < p .S) ⌝ }
-    ensures { λ r. ⌜ ((ps : List ℕ) → length ps ≡ pointersLen p → recOf r ≡ recordIn p full (zoneAt (viewOf p (now (image .entry)) ps) drive zone) offset) ⌝ }
+    ensures { λ r. ⌜ ((ps : List ℕ) → length ps ≡ pointersLen p → recVal r ≡ recordIn p full (zoneAt (viewOf p (now (image .entry)) ps) drive zone) offset) ⌝ }
 {
     let at = record_byte(p, full, drive, zone, offset);
     let end = at + disk_shape::SPARE;
@@ -138,7 +138,7 @@ pub fn record_at(
     requires { ⌜ inRange p ≡ true ⌝ }
     requires { ⌜ Whole p (mkDisk (now image) (now pointers)) ⌝ }
     requires { ⌜ (drive < p .N) × (segment < p .Z) × (offset < p .S) ⌝ }
-    ensures { λ r. ⌜ recOf r ≡ recordAt p (viewOf p (now (image .entry)) (now (pointers .entry))) gone drive segment offset ⌝ }
+    ensures { λ r. ⌜ recVal r ≡ recordAt p (viewOf p (now (image .entry)) (now (pointers .entry))) gone drive segment offset ⌝ }
 {
     let full = disk_zones::is_sealed(p, pointers, gone, segment);
     let zone = disk_shape::zone_on(segment, drive);

@@ -111,19 +111,19 @@ storing-one p n s k k′ h e = record {
 
 module _ (p : Params) (f : ℕ → Store) (m number : ℕ) (k₀ : Disk) where
   -- what the rest comes to is what all comes to
-  pub record Rest (i left : ℕ) (k : Disk) : Type 0 where
+  pub record StoresLeft (i left : ℕ) (k : Disk) : Type 0 where
     pub within : i ≤ m
     pub sum : left + i ≡ number
     pub rest : storeAll (storeDisk p) (take left (map f (upFrom i (m - i)))) k ≡ storeAll (storeDisk p) (take number (map f (below m))) k₀
 
-  pub rest-start : Rest 0 number k₀
+  pub rest-start : StoresLeft 0 number k₀
   rest-start = record {
     within = omega arith;
     sum = add-zero number;
     rest = ap (λ (x : List ℕ). storeAll (storeDisk p) (take number (map f x)) k₀) (sym (below-start m));
   }
 
-  pub rest-turn : (i left : ℕ) (k k′ : Disk) → Rest i left k → i < m → 0 < left → k′ ≡ storeDisk p (f i) k → Rest (i + 1) (left - 1) k′
+  pub rest-turn : (i left : ℕ) (k k′ : Disk) → StoresLeft i left k → i < m → 0 < left → k′ ≡ storeDisk p (f i) k → StoresLeft (i + 1) (left - 1) k′
   rest-turn i left k k′ r h l e =
       let ss = map f (upFrom (i + 1) (m - (i + 1))) in
       record {
@@ -136,7 +136,7 @@ module _ (p : Params) (f : ℕ → Store) (m number : ℕ) (k₀ : Disk) where
   due-long : length (map f (below m)) ≡ m
   due-long = length-map (below m) f ∙ length-below m
 
-  pub rest-cut : (i left : ℕ) (k : Disk) → Rest i left k → i < m → left ≡ 0 → Storing p number (map f (below m)) k₀ (record { left = 0; cut = true }) k
+  pub rest-cut : (i left : ℕ) (k : Disk) → StoresLeft i left k → i < m → left ≡ 0 → Storing p number (map f (below m)) k₀ (record { left = 0; cut = true }) k
   unfolding madeOf
   rest-cut i left k r h e =
       let n : number < length (map f (below m)) = omega (arith, due-long, r .sum) in
@@ -146,7 +146,7 @@ module _ (p : Params) (f : ℕ → Store) (m number : ℕ) (k₀ : Disk) where
         disk = sym (stores-zero (storeDisk p) (map f (upFrom i (m - i))) k) ∙ ap (λ (x : ℕ). storeAll (storeDisk p) (take x (map f (upFrom i (m - i)))) k) (sym e) ∙ r .rest;
       }
 
-  pub rest-done : (i left : ℕ) (k : Disk) → Rest i left k → m ≤ i → Storing p number (map f (below m)) k₀ (record { left = left; cut = false }) k
+  pub rest-done : (i left : ℕ) (k : Disk) → StoresLeft i left k → m ≤ i → Storing p number (map f (below m)) k₀ (record { left = left; cut = false }) k
   unfolding madeOf
   rest-done i left k r h =
       let n : length (map f (below m)) ≤ number = omega (arith, due-long, r .within, r .sum) in
@@ -178,9 +178,9 @@ pub reset-disk : (p : Params) (d z : ℕ) (im ps ps′ : List ℕ) → ps′ ≡
 unfolding storeDisk
 reset-disk p d z im ps ps′ e = ap (mkDisk im) e
 
-pub reset-pointers : (p : Params) (d z : ℕ) (k : Disk) → storeDisk p (reset d z) k .pointers ≡ setPointer p (k .pointers) d z 0
+pub reset-store-pointers : (p : Params) (d z : ℕ) (k : Disk) → storeDisk p (reset d z) k .pointers ≡ setPointer p (k .pointers) d z 0
 unfolding storeDisk
-reset-pointers p d z k = refl
+reset-store-pointers p d z k = refl
 
 -- ---- the stores of a segment, drive by drive
 

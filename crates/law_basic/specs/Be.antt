@@ -34,8 +34,8 @@ beOf-toBe (suc w) n h =
     ∙ div-add-mod' n 256
 
 -- one digit more
-pub room : (n i b : ℕ) → n < 256 ^ i → b < 256 → n * 256 + b < 256 ^ (i + 1)
-room n i b h k = rw (add-one, pow-suc) (digits-lt h k)
+pub be-room : (n i b : ℕ) → n < 256 ^ i → b < 256 → n * 256 + b < 256 ^ (i + 1)
+be-room n i b h k = rw (add-one, pow-suc) (digits-lt h k)
 
 pub room64 : (n i b : ℕ) → n < 256 ^ i → b < 256 → i < 8 → n * 256 + b < 2 ^ 64
 room64 n i b h k l =
@@ -144,7 +144,7 @@ unfolding beFrom
 beFrom-lt n i [] h f = let e : i + 0 ≡ i = omega arith in rw e h
 beFrom-lt n i (b ∷ bs) h f =
     let e : i + suc (length bs) ≡ i + 1 + length bs = omega arith in
-    rw e (beFrom-lt (n * 256 + b) (i + 1) bs (room n i b h (f 0 (omega arith))) (λ k q. f (suc k) (omega arith)))
+    rw e (beFrom-lt (n * 256 + b) (i + 1) bs (be-room n i b h (f 0 (omega arith))) (λ k q. f (suc k) (omega arith)))
 
 pub beOf-lt : (bs : List ℕ) → ((k : ℕ) → k < length bs → getD bs k 0 < 256) → beOf bs < 256 ^ length bs
 unfolding beOf

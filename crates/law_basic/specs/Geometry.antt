@@ -24,8 +24,8 @@ pub prod-le : (a b x y m : ℕ) → a ≤ x → b ≤ y → x * y ≤ m → a * 
 prod-le a b x y m h k l = le-trans (mul-le-mul h k) l
 
 -- item i of n items of s bytes lies within them
-pub item : (i n s : ℕ) → i < n → i * s + s ≤ n * s
-item i n s h = le-trans (le-of-eq (sym (suc-mul i s))) (mul-le-mul-right s h)
+pub item-fits : (i n s : ℕ) → i < n → i * s + s ≤ n * s
+item-fits i n s h = le-trans (le-of-eq (sym (suc-mul i s))) (mul-le-mul-right s h)
 
 -- ---- the ranges
 
@@ -243,7 +243,7 @@ places-image p =
 
 pub place-within : (p : Params) (q : ℕ) → q < p .N * p .Z * capacity p → placeByte p q + unitLen p ≤ imageLen p
 unfolding placeByte
-place-within p q h = le-trans (item q (p .N * p .Z * capacity p) (unitLen p) h) (le-of-eq (places-image p))
+place-within p q h = le-trans (item-fits q (p .N * p .Z * capacity p) (unitLen p) h) (le-of-eq (places-image p))
 
 pub block-within : (p : Params) (d z b : ℕ) → d < p .N → z < p .Z → b < capacity p → placeByte p (placeOf p d z b) + unitLen p ≤ imageLen p
 block-within p d z b hd hz hb = place-within p (placeOf p d z b) (place-lt p d z b hd hz hb)
@@ -258,12 +258,12 @@ compact-within p d z o hd hz ho = digits-lt (digits-lt hd hz) ho
 
 pub slot-within : (p : Params) (i d : ℕ) → i < 8 → d < p .N → slotByte p i d + p .B ≤ inflightLen p
 unfolding slotByte inflightLen
-slot-within p i d hi hd = item (i * p .N + d) (8 * p .N) (p .B) (digits-lt hi hd)
+slot-within p i d hi hd = item-fits (i * p .N + d) (8 * p .N) (p .B) (digits-lt hi hd)
 
 -- blocks of one eighth on two drives do not meet
 pub slots-apart : (p : Params) (i d e : ℕ) → d < e → slotByte p i d + p .B ≤ slotByte p i e
 unfolding slotByte
-slots-apart p i d e h = item (i * p .N + d) (i * p .N + e) (p .B) (omega arith)
+slots-apart p i d e h = item-fits (i * p .N + d) (i * p .N + e) (p .B) (omega arith)
 
 -- ---- data positions
 
@@ -354,7 +354,7 @@ footer-of p r o l =
 
 pub row-fits : (p : Params) (d z : ℕ) → d < p .N → z < p .Z → compactAt p d z 0 + p .S ≤ compactLen p
 unfolding compactAt compactLen
-row-fits p d z hd hz = let e : (d * p .Z + z) * p .S + p .S ≤ p .N * p .Z * p .S = item (d * p .Z + z) (p .N * p .Z) (p .S) (digits-lt hd hz) in omega arith
+row-fits p d z hd hz = let e : (d * p .Z + z) * p .S + p .S ≤ p .N * p .Z * p .S = item-fits (d * p .Z + z) (p .N * p .Z) (p .S) (digits-lt hd hz) in omega arith
 
 -- the next group's first stripe
 pub base-next : (base n : ℕ) → base % n ≡ 0 → (base + n) % n ≡ 0

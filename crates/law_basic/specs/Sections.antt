@@ -20,10 +20,10 @@ unfolding numbersAt
 length-numbersAt w n at bs = simp length-map (length-below n)
 
 -- each section has as many numbers as its count
-abbrev pub Counted : List Section → List (List ℕ) → Type 0
-Counted [] nss = Unit {0}
-Counted (s ∷ ss) [] = ⊥
-Counted (s ∷ ss) (ns ∷ nss) = (length ns ≡ s .count) × Counted ss nss
+abbrev pub SectionCounts : List Section → List (List ℕ) → Type 0
+SectionCounts [] nss = Unit {0}
+SectionCounts (s ∷ ss) [] = ⊥
+SectionCounts (s ∷ ss) (ns ∷ nss) = (length ns ≡ s .count) × SectionCounts ss nss
 
 -- each number fits the width of its section
 abbrev pub Fitting : List Section → List (List ℕ) → Type 0
@@ -39,7 +39,7 @@ pub length-section : (s : Section) (ns : List ℕ) → length ns ≡ s .count �
 unfolding sectionBytes sectionLen
 length-section s ns e = length-flat (toLe (s .width)) (s .width) ns (length-toLe (s .width)) ∙ mul-comm (length ns) (s .width) ∙ ap (λ (x : ℕ). s .width * x) e
 
-pub length-sections : (ss : List Section) (nss : List (List ℕ)) → Counted ss nss → length (sectionsBytes ss nss) ≡ total (map sectionLen ss)
+pub length-sections : (ss : List Section) (nss : List (List ℕ)) → SectionCounts ss nss → length (sectionsBytes ss nss) ≡ total (map sectionLen ss)
 unfolding flat zipped total
 length-sections [] nss h = refl
 length-sections (s ∷ ss) [] h = absurd h
@@ -81,7 +81,7 @@ numbers-behind w n at s t =
     map-below-same (λ (i : ℕ). leOf (part (length s + at + w * i) w (s ++ t))) (λ (i : ℕ). leOf (part (at + w * i) w t)) n
     (λ k h. ap leOf (ap (λ (x : ℕ). part x w (s ++ t)) (add-assoc (length s) at (w * k)) ∙ part-append-right (at + w * k) w s t))
 
-pub sections-back : (ss : List Section) (nss : List (List ℕ)) (k : ℕ) → k < length ss → Counted ss nss → Fitting ss nss
+pub sections-back : (ss : List Section) (nss : List (List ℕ)) (k : ℕ) → k < length ss → SectionCounts ss nss → Fitting ss nss
     → numbersAt (getD ss k (section 0 0) .width) (getD ss k (section 0 0) .count) (total (map sectionLen (take k ss))) (sectionsBytes ss nss) ≡ getD nss k []
 unfolding flat zipped total sectionBytes
 sections-back [] nss k h f g = absurd (let q : ⊥ = omega arith in q)
@@ -94,7 +94,7 @@ sections-back (s ∷ ss) (ns ∷ nss) (suc k) h f g =
     ∙ numbers-behind (d .width) (d .count) t (flat (toLe (s .width)) ns) (sectionsBytes ss nss) ∙ sections-back ss nss k (omega arith) (f .1) (g .1)
 
 -- 01, The array: a state in bytes says that state
-pub stateOf-stateBytes : (st : State) → Counted stateSections (stateNumbers st) → Fitting stateSections (stateNumbers st) → stateOf (stateBytes st) ≡ st
+pub stateOf-stateBytes : (st : State) → SectionCounts stateSections (stateNumbers st) → Fitting stateSections (stateNumbers st) → stateOf (stateBytes st) ≡ st
 unfolding stateOf numberOf sectionOf sectionAt stateBytes stateSections stateNumbers
 stateOf-stateBytes st f g =
     let back : (k : ℕ) → k < 13 → sectionOf (stateBytes st) k ≡ getD (stateNumbers st) k [] = λ k h. sections-back stateSections (stateNumbers st) k h f g in

@@ -104,14 +104,14 @@ cancel x s t h k =
     ∙ ap (xors s) (xors-comm x (xors x t) l ∙ ap (λ (u : List ℕ). xors u x) (xors-comm x t (h ∙ k)) ∙ xors-back t x (sym (h ∙ k)))
 
 -- a block is the exclusive or of the parity and the parity of the others, wherever it stands
-pub decode : (n : ℕ) (xs : List (List ℕ)) (d : List ℕ) (ys : List (List ℕ)) → AllLong n (xs ++ d ∷ ys)
+pub parity-decodes : (n : ℕ) (xs : List (List ℕ)) (d : List ℕ) (ys : List (List ℕ)) → AllLong n (xs ++ d ∷ ys)
     → xors (parity n (xs ++ d ∷ ys)) (parity n (xs ++ ys)) ≡ d
 unfolding parity
-decode n [] d ys h = xors-back d (parity n ys) (h .0 ∙ sym (length-parity n ys (h .1)))
-decode n (x ∷ xs) d ys h =
+parity-decodes n [] d ys h = xors-back d (parity n ys) (h .0 ∙ sym (length-parity n ys (h .1)))
+parity-decodes n (x ∷ xs) d ys h =
     let p = length-parity n (xs ++ d ∷ ys) (h .1) in
     let q = length-parity n (xs ++ ys) (drop-one n xs d ys (h .1)) in
-    cancel x (parity n (xs ++ d ∷ ys)) (parity n (xs ++ ys)) (h .0 ∙ sym p) (p ∙ sym q) ∙ decode n xs d ys (h .1)
+    cancel x (parity n (xs ++ d ∷ ys)) (parity n (xs ++ ys)) (h .0 ∙ sym p) (p ∙ sym q) ∙ parity-decodes n xs d ys (h .1)
 
 -- what is exclusive-ored with zeros stays
 pub xors-zeros : (s : List ℕ) → xors s (replicate (length s) 0) ≡ s

@@ -58,13 +58,13 @@ passes (rule n false ∷ cs) q = (refl, passes cs q)
 passes (zones [] ∷ cs) q = (refl, passes cs q)
 passes (zones (z ∷ zs) ∷ cs) q = some-none q
 
-passed : (cs : List Check) → Passes cs → firstRefusal cs ≡ none
+none-refused : (cs : List Check) → Passes cs → firstRefusal cs ≡ none
 unfolding firstRefusal ruled ninth
-passed [] c = refl
-passed (rule n true ∷ cs) c = absurd (not-both true refl (c .0))
-passed (rule n false ∷ cs) c = passed cs (c .1)
-passed (zones [] ∷ cs) c = passed cs (c .1)
-passed (zones (z ∷ zs) ∷ cs) c = let e = c .0 in absurd (let x : _≡_ {A = ℕ} 0 1 = cc in let y : ⊥ = omega arith in y)
+none-refused [] c = refl
+none-refused (rule n true ∷ cs) c = absurd (not-both true refl (c .0))
+none-refused (rule n false ∷ cs) c = none-refused cs (c .1)
+none-refused (zones [] ∷ cs) c = none-refused cs (c .1)
+none-refused (zones (z ∷ zs) ∷ cs) c = let e = c .0 in absurd (let x : _≡_ {A = ℕ} 0 1 = cc in let y : ⊥ = omega arith in y)
 
 some-some : {a b : Answer} → some a ≡ some b → a ≡ b
 some-some e = cc
@@ -360,7 +360,7 @@ module _ (p : Params) (long : Bool) (v : View) (m : Memory) (a : ℕ) where
   unfolding readChecks
   read-goes c =
       let nine = nil-all (stateFaults p (m .state)) place-faults (state-clear p (m .state) (c .state-fine)) (c .place-fine) in
-      passed (readList p long v m a) (ap not (c .in-range), (ap not (c .lent), (lt-leb (p .L) a (c .address-low), (nine, tt))))
+      none-refused (readList p long v m a) (ap not (c .in-range), (ap not (c .lent), (lt-leb (p .L) a (c .address-low), (nine, tt))))
 
   pub read-mild : stateOk p (m .state) ≡ true → (a < p .L → place-faults ≡ []) → Mild (readList p long v m a)
   unfolding readChecks
@@ -410,7 +410,7 @@ module _ (p : Params) (long : Bool) (v : View) (m : Memory) (a : ℕ) (b : List 
   fill-goes c =
       let two = and-both long (eqb (length b) (p .B)) (c .lent) (eq-eqb (length b) (p .B) (c .block-long)) in
       let nine = nil-all (stateFaults p (m .state)) (foundFaults p v (m .state .missing) (foundIn p m a)) (state-clear p (m .state) (c .state-fine)) (c .place-fine) in
-      passed (fillList p long v m a b) (ap not (c .in-range), (ap not two, (lt-leb (p .L) a (c .address-low), (nine, (c .decodes, tt)))))
+      none-refused (fillList p long v m a b) (ap not (c .in-range), (ap not two, (lt-leb (p .L) a (c .address-low), (nine, (c .decodes, tt)))))
 
   pub fill-mild : stateOk p (m .state) ≡ true → (a < p .L → foundFaults p v (m .state .missing) (foundIn p m a) ≡ [])
       → (a < p .L → decodeFaults p v (m .state .missing) (m .compact) (foundIn p m a) ≡ []) → Mild (fillList p long v m a b)
@@ -476,7 +476,7 @@ module _ (p : Params) (long : Bool) (v : View) (d : ℕ) (gs : List Segment) whe
   restart-goes c =
       let one = ap₂ (λ (x y : Bool). not x || not y) (c .in-range) (c .names) in
       let ten = of-seg p v (named d) gs (c .pointers-fine) (c .segments-fine) in
-      passed (restartChecks p long v d gs) (one, (ap not (c .lent), (c .pointers-fine, (ten, (c .serial-left, (c .zone-left, tt))))))
+      none-refused (restartChecks p long v d gs) (one, (ap not (c .lent), (c .pointers-fine, (ten, (c .serial-left, (c .zone-left, tt))))))
 
   -- all but the serials
   pub restart-sixth : inRange p ≡ true → namesDrive p d ≡ true → long ≡ true → pointerFaults p v (named d) ≡ [] → segmentFaults p (named d) gs ≡ []

@@ -19,7 +19,7 @@ use Rattle.law_basic.specs.Ranges.{and-both, and-left, and-right, sameList-true
 use Rattle.law_drives.specs.Members.{In, in-map, none-in, keep-nil-in, in-below}
 use Rattle.law_drives.specs.Segs.{in-present, length-records, record-at, recs-here, seg-is}
 use Rattle.law_drives.specs.Spots.{InGroups}
-use Rattle.law_drives.specs.Tests.{clash, or-left, or-right, or-neither, false-true}
+use Rattle.law_drives.specs.Tests.{clash, or-first, or-right, or-neither, false-true}
 
 -- nothing is wrong on the drives
 pub record Accepted (p : Params) (v : View) (gone : ℕ) : Type 0 where
@@ -35,7 +35,7 @@ pub outside-in : (p : Params) (b : ℕ) (rs : List Rec) → outside p b rs ≡ f
 unfolding outside
 outside-in p b [] q i h = absurd (let z : ⊥ = omega arith in z)
 outside-in p b (r ∷ rs) q zero h =
-    ap (λ (x : ℕ). inGroupOf p x (r .stripe)) (add-zero b) ∙ not-false (inGroupOf p b (r .stripe)) (or-left (not (inGroupOf p b (r .stripe))) (outside p (suc b) rs) q)
+    ap (λ (x : ℕ). inGroupOf p x (r .stripe)) (add-zero b) ∙ not-false (inGroupOf p b (r .stripe)) (or-first (not (inGroupOf p b (r .stripe))) (outside p (suc b) rs) q)
 outside-in p b (r ∷ rs) q (suc i) h =
     ap (λ (x : ℕ). inGroupOf p x (getD rs i (mkRec 0 0 0) .stripe)) (let e : b + suc i ≡ suc b + i = omega arith in e)
     ∙ outside-in p (suc b) rs (or-right (not (inGroupOf p b (r .stripe))) (outside p (suc b) rs) q) i (omega arith)
@@ -74,12 +74,12 @@ module _ (p : Params) (v : View) (gone : ℕ) (acc : Accepted p v gone) where
       let f5 = footerFault p gone x in
       let f6 = clashes (segments p v gone) x in
       let q : f1 || f2 || f3 || f4 || f5 || f6 ≡ false = segment-ok g m in
-      let q5 = or-left (f1 || f2 || f3 || f4 || f5) f6 q in
-      let q4 = or-left (f1 || f2 || f3 || f4) f5 q5 in
-      let q3 = or-left (f1 || f2 || f3) f4 q4 in
-      let q2 = or-left (f1 || f2) f3 q3 in
+      let q5 = or-first (f1 || f2 || f3 || f4 || f5) f6 q in
+      let q4 = or-first (f1 || f2 || f3 || f4) f5 q5 in
+      let q3 = or-first (f1 || f2 || f3) f4 q4 in
+      let q2 = or-first (f1 || f2) f3 q3 in
       record {
-        no-header-fault = or-left f1 f2 q2;
+        no-header-fault = or-first f1 f2 q2;
         no-serial-fault = or-right f1 f2 q2;
         no-stripe-fault = or-right (f1 || f2) f3 q3;
         no-address-fault = or-right (f1 || f2 || f3) f4 q4;
@@ -95,7 +95,7 @@ module _ (p : Params) (v : View) (gone : ℕ) (acc : Accepted p v gone) where
       let f : outside p 0 (recsOn x d) || twice (recsOn x d) ≡ false =
       none-in (λ d. outside p 0 (recsOn x d) || twice (recsOn x d)) (present p gone) (faults-apart g m .no-stripe-fault) d (in-present p gone d hd q) in
       let e = recs-here p v gone g d hd q in
-      (ap (outside p 0) (sym e) ∙ or-left (outside p 0 (recsOn x d)) (twice (recsOn x d)) f, ap twice (sym e) ∙ or-right (outside p 0 (recsOn x d)) (twice (recsOn x d)) f)
+      (ap (outside p 0) (sym e) ∙ or-first (outside p 0 (recsOn x d)) (twice (recsOn x d)) f, ap twice (sym e) ∙ or-right (outside p 0 (recsOn x d)) (twice (recsOn x d)) f)
 
   pub in-groups : InGroups p v gone
   in-groups g d o m hd q h =
@@ -108,7 +108,7 @@ module _ (p : Params) (v : View) (gone : ℕ) (acc : Accepted p v gone) where
   unfolding serialFault
   copied-low g m =
       let x = segmentOf p v gone g in
-      leb-false (x .serial) (x .copied) (or-left (leb (x .serial) (x .copied))
+      leb-false (x .serial) (x .copied) (or-first (leb (x .serial) (x .copied))
       (any (λ (h : Segment). not (eqb (h .seg) (x .seg)) && eqb (h .serial) (x .serial)) (segments p v gone)) (faults-apart g m .no-serial-fault))
 
   pub serials-differ : (g h : ℕ) → In g (remaining p v gone) → In h (remaining p v gone) → (h ≡ g → ⊥) → segmentOf p v gone h .serial ≡ segmentOf p v gone g .serial → ⊥

@@ -30,13 +30,13 @@ ApartIn P = (c d : Cand) → P c → P d → Tied c d → c ≡ d
 -- ---- by address
 
 -- the records of an address in a list
-abbrev pub At : ℕ → List Cand → Cand → Type 0
-At a cs d = In d cs × (d .address ≡ a)
+abbrev pub OfAddress : ℕ → List Cand → Cand → Type 0
+OfAddress a cs d = In d cs × (d .address ≡ a)
 
-abbrev pub Apart : List Cand → Type 0
-Apart cs = ApartIn (λ (d : Cand). In d cs)
+abbrev pub CandsApart : List Cand → Type 0
+CandsApart cs = ApartIn (λ (d : Cand). In d cs)
 
-pub at-of : (a : ℕ) (cs : List Cand) (d : Cand) → In d (candsOf a cs) → At a cs d
+pub at-of : (a : ℕ) (cs : List Cand) (d : Cand) → In d (candsOf a cs) → OfAddress a cs d
 unfolding candsOf
 at-of a cs d m = let (i, q) = keep-in (λ (c : Cand). eqb (c .address) a) cs d m in (i, eqb-true (d .address) a q)
 

@@ -15,7 +15,7 @@ use Rattle.spec.specs.Lists.{any, consIf, keep, greatest}
 use Rattle.law_basic.specs.Ranges.{Test, test, length-keep}
 use Rattle.law_basic.specs.Ranges.Test.{yes!, no! }
 use Rattle.law_drives.specs.Members.{In, map-in, in-keep, keep-in, none-in, keep-all}
-use Rattle.law_drives.specs.Tests.{or-left, or-right, cond-true, cond-false}
+use Rattle.law_drives.specs.Tests.{or-first, or-right, cond-true, cond-false}
 
 abbrev pub Different : List ℕ → Type 0
 Different [] = Unit {0}
@@ -82,7 +82,7 @@ unfolding twice
 stripes-different [] q = tt
 stripes-different (r ∷ rs) q = (
   λ m. let (x, i, e) = map-in (λ (r : Rec). r .stripe) rs (r .stripe) m in
-      eqb-false (x .stripe) (r .stripe) (none-in (λ (y : Rec). eqb (y .stripe) (r .stripe)) rs (or-left (any (λ (y : Rec). eqb (y .stripe) (r .stripe)) rs) (twice rs) q) x i) (sym e),
+      eqb-false (x .stripe) (r .stripe) (none-in (λ (y : Rec). eqb (y .stripe) (r .stripe)) rs (or-first (any (λ (y : Rec). eqb (y .stripe) (r .stripe)) rs) (twice rs) q) x i) (sym e),
   stripes-different rs (or-right (any (λ (y : Rec). eqb (y .stripe) (r .stripe)) rs) (twice rs) q),
 )
 

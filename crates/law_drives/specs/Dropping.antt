@@ -202,22 +202,22 @@ module _ (p : Params) (r : Ranged p) (v : View) (sh : Shaped p v) (acc : Accepte
   hdr : (y : ℕ) → y < p .Z → keeps! y ≡ true → headerAt v 0 y ≡ headerAt va 0 y
   hdr y hy q = zones-header p r v va y (drop-same y hy q)
 
-  was! : (y : ℕ) → y < p .Z → usedAt va y ≡ true → keeps! y ≡ true
-  was! y hy q = sym (drop-used y hy) ∙ q
+  used-kept : (y : ℕ) → y < p .Z → usedAt va y ≡ true → keeps! y ≡ true
+  used-kept y hy q = sym (drop-used y hy) ∙ q
 
   pub drop-tidy : Tidy p va (greatestSerial gs)
   drop-tidy = record {
     pointer-low = λ d z hd hz. low d z hd hz (test (keeps! z));
     together = λ d z hd hz. tog d z hd hz (test (keeps! z));
-    copied-less = λ z hz q. let k = was! z hz q in subst (λ (x : List ℕ). headerCopied x < headerSerial x) (hdr z hz k) (kept-less z hz k);
-    serial-known = λ z hz q. let k = was! z hz q in subst (λ (x : List ℕ). headerSerial x ≤ greatestSerial gs) (hdr z hz k) (kept-known z hz k);
+    copied-less = λ z hz q. let k = used-kept z hz q in subst (λ (x : List ℕ). headerCopied x < headerSerial x) (hdr z hz k) (kept-less z hz k);
+    serial-known = λ z hz q. let k = used-kept z hz q in subst (λ (x : List ℕ). headerSerial x ≤ greatestSerial gs) (hdr z hz k) (kept-known z hz k);
     serial-once = λ y z hy hz a b e.
-        let k = was! y hy a in
-        let l = was! z hz b in
+        let k = used-kept y hy a in
+        let l = used-kept z hz b in
         kept-once y z hy hz k l (ap headerSerial (hdr y hy k) ∙ e ∙ ap headerSerial (sym (hdr z hz l)));
     no-copy = λ y z hy hz a b e.
-        let k = was! y hy a in
-        let l = was! z hz b in
+        let k = used-kept y hy a in
+        let l = used-kept z hz b in
         kept-no-copy y z hy hz k l (ap headerCopied (hdr y hy k) ∙ e ∙ ap headerSerial (sym (hdr z hz l)));
   }
     where

@@ -25,7 +25,7 @@ use Rattle.law_drives.specs.Puts.{hits-flat, putAt, hits-puts, flat-one,
 use Rattle.law_drives.specs.Range.{capacity-is, capacity-over}
 use Rattle.law_drives.specs.Records.{blocks-at, spares-at}
 use Rattle.law_drives.specs.Tests.{and-false-right, cond-true, cond-false}
-use Rattle.law_drives.specs.Zones.{Bytes, Sound, ZoneOk, hits, Room, Within}
+use Rattle.law_drives.specs.Zones.{Bytes, SoundChunk, ZoneOk, hits, Room, Within}
 
 -- a list of chunks for each drive, in the zone of one segment
 pub hits-each : (p : Params) (e y z : ℕ) (f : ℕ → List Chunk) → e < p .N → hits e y (flat (λ d. map (putAt d z) (f d)) (drivesOf p)) ≡ cond (eqb z y) (map (putAt e z) (f e)) []
@@ -95,8 +95,8 @@ footer-puts p d z q i n =
     bs! = unfold footerChunks in refl
 
 module _ (p : Params) (r : Ranged p) (q : Zone) (k : ZoneOk p q) where
-  spare-in : (s : List ℕ) → In s (sparesIn p q) → (b : ℕ) × (b < capacity p) × (s ≡ getD (q .blocks) b noChunk .spare)
-  spare-in s m =
+  spare-in-zone : (s : List ℕ) → In s (sparesIn p q) → (b : ℕ) × (b < capacity p) × (s ≡ getD (q .blocks) b noChunk .spare)
+  spare-in-zone s m =
       let (c, i, e) = map-in (λ (c : Chunk). c .spare) (take (p .S) (drop 1 (q .blocks))) s (as! m) in
       let (b, h, f) = getD-in (q .blocks) noChunk c (in-drop 1 (q .blocks) c (in-take (p .S) (drop 1 (q .blocks)) c i)) in
       (b, subst (λ (x : ℕ). b < x) (k .blocks-long) h, e ∙ ap (λ (x : Chunk). x .spare) f)
@@ -105,10 +105,10 @@ module _ (p : Params) (r : Ranged p) (q : Zone) (k : ZoneOk p q) where
       as! m = unfold sparesIn sparesOf in m
 
   pub spares-long : Long spareLen (sparesIn p q)
-  spares-long s m = let (b, h, e) = spare-in s m in ap length e ∙ k .sound b h .spare-long
+  spares-long s m = let (b, h, e) = spare-in-zone s m in ap length e ∙ k .sound b h .spare-long
 
   pub spares-bytes : (s : List ℕ) → In s (sparesIn p q) → Bytes s
-  spares-bytes s m = let (b, h, e) = spare-in s m in subst (λ (x : List ℕ). Bytes x) (sym e) (k .sound b h .spare-bytes)
+  spares-bytes s m = let (b, h, e) = spare-in-zone s m in subst (λ (x : List ℕ). Bytes x) (sym e) (k .sound b h .spare-bytes)
 
   pub spares-count : length (sparesIn p q) ≡ p .S
   spares-count = as! (length-map (take (p .S) (drop 1 (q .blocks))) (λ (c : Chunk). c .spare) ∙ length-take (p .S) (drop 1 (q .blocks))
@@ -143,7 +143,7 @@ module _ (p : Params) (r : Ranged p) (q : Zone) (k : ZoneOk p q) where
 
   pub footer-rooms : (d z i n : ℕ) → q .pointer + n ≤ capacity p → Room p (q .pointer) (map (putAt d z) (footerChunks p q i n))
   footer-rooms d z i n h = room-puts p d z (q .pointer) (footerChunks p q i n) (let e = footers-count i n in omega arith)
-      (λ j l. subst (λ (c : Chunk). Sound p (q .pointer + j) c) (sym (footer-chunk i n j (subst (λ (x : ℕ). j < x) (footers-count i n) l)))
+      (λ j l. subst (λ (c : Chunk). SoundChunk p (q .pointer + j) c) (sym (footer-chunk i n j (subst (λ (x : ℕ). j < x) (footers-count i n) l)))
       (footer-sound p r (q .pointer + j) (sparesIn p q) (i + j) spares-long spares-bytes))
 
   -- all footers behind the data: records by footer are those by spare

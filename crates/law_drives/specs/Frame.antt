@@ -22,10 +22,10 @@ use Rattle.law_drives.specs.Segs.{present-in, remaining-low, zone-by, se
 abbrev pub Agree : Params → ℕ → View → View → Type 0
 Agree p gone v u = (d z : ℕ) → d < p .N → z < p .Z → isIn gone d ≡ false → zoneAt v d z ≡ zoneAt u d z
 
-pub any-map : {A B : Type 0} (f : B → Bool) (g : A → B) (l : List A) → any f (map g l) ≡ any (λ a. f (g a)) l
+pub any-mapped : {A B : Type 0} (f : B → Bool) (g : A → B) (l : List A) → any f (map g l) ≡ any (λ a. f (g a)) l
 unfolding any
-any-map f g [] = refl
-any-map f g (a ∷ l) = ap (λ (x : Bool). f (g a) || x) (any-map f g l)
+any-mapped f g [] = refl
+any-mapped f g (a ∷ l) = ap (λ (x : Bool). f (g a) || x) (any-mapped f g l)
 
 -- a segment without its zones: what the tables see of it
 unfoldable pub core : Segment → Segment
@@ -50,7 +50,7 @@ core-compact p gs = flat-cong (λ d. flat (λ z. compactRow p (rowOf p gs d z)) 
 
 core-serial : (gs : List Segment) (g : Segment) → serialFault gs g ≡ serialFault (map core gs) (core g)
 unfolding serialFault core
-core-serial gs g = ap (λ (x : Bool). leb (g .serial) (g .copied) || x) (sym (any-map (λ (h : Segment). not (eqb (h .seg) (g .seg)) && eqb (h .serial) (g .serial)) core gs))
+core-serial gs g = ap (λ (x : Bool). leb (g .serial) (g .copied) || x) (sym (any-mapped (λ (h : Segment). not (eqb (h .seg) (g .seg)) && eqb (h .serial) (g .serial)) core gs))
 
 core-stripe : (p : Params) (gone : ℕ) (g : Segment) → stripeFault p gone g ≡ stripeFault p gone (core g)
 unfolding stripeFault core recsOn

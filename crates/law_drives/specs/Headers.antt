@@ -16,7 +16,6 @@ use Rattle.spec.specs.Layout.{headerBlock}
 use Rattle.spec.specs.Lists.{below}
 use Rattle.spec.specs.Params.{capacity, drivesOf}
 use Rattle.spec.specs.Segments.{headerAt}
-use Rattle.law_basic.specs.Be.{room}
 use Rattle.law_basic.specs.Geometry.{Ranged}
 use Rattle.law_views.specs.Views.{blocks-long}
 use Rattle.law_drives.specs.Members.{In, map-in, below-in, all-in, in-below}

@@ -18,7 +18,7 @@ use Rattle.law_basic.specs.Geometry.{block-within}
 use Rattle.law_basic.specs.Ranges.{and-left, and-right, length-pieces, getD-zipped, length-zipped}
 use Rattle.law_basic.specs.Splice.{length-part}
 use Rattle.law_views.specs.Views.{Whole, blocks-long, block-view, spare-view, seen}
-use Rattle.law_drives.specs.Zones.{Sized, Bytes, Sound, Shaped}
+use Rattle.law_drives.specs.Zones.{Sized, Bytes, SoundChunk, Shaped}
 
 pub bytes-take : (n : ℕ) (l : List ℕ) → Bytes l → Bytes (take n l)
 bytes-take zero l h i = omega arith
@@ -65,10 +65,10 @@ shaped-of p k w b = record {
   };
 }
   where
-    as-chunk : (d z n : ℕ) → Sound p n (chunkAt (seen p k) d z n) → Sound p n (getD (zoneAt (seen p k) d z .blocks) n noChunk)
+    as-chunk : (d z n : ℕ) → SoundChunk p n (chunkAt (seen p k) d z n) → SoundChunk p n (getD (zoneAt (seen p k) d z .blocks) n noChunk)
     as-chunk d z n h = unfold chunkAt in h
 
-    chunk-sound : (d z n : ℕ) → d < p .N → z < p .Z → n < capacity p → Sound p n (chunkAt (seen p k) d z n)
+    chunk-sound : (d z n : ℕ) → d < p .N → z < p .Z → n < capacity p → SoundChunk p n (chunkAt (seen p k) d z n)
     chunk-sound d z n hd hz l =
         let a = placeByte p (placeOf p d z n) in
         let f : a + unitLen p ≤ length (k .image) = subst (λ (x : ℕ). a + unitLen p ≤ x) (sym (w .image-long)) (block-within p d z n hd hz l) in

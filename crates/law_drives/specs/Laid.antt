@@ -158,9 +158,9 @@ pub serial-low : (l : List ℕ) → Bytes l → headerSerial l < 256 ^ 8
 unfolding headerSerial headerWidths headerTable widthsOf
 serial-low l h = field-low headerWidths serialField l h
 
-pub copied-low : (l : List ℕ) → Bytes l → headerCopied l < 256 ^ 8
+pub copied-word-low : (l : List ℕ) → Bytes l → headerCopied l < 256 ^ 8
 unfolding headerCopied headerWidths headerTable widthsOf
-copied-low l h = field-low headerWidths copiedField l h
+copied-word-low l h = field-low headerWidths copiedField l h
 
 pub address-low : (l : List ℕ) → Bytes l → recordOf l .address < 256 ^ 8
 unfolding recordOf recordWidths recordTable widthsOf

@@ -65,14 +65,14 @@ module _ (p : Params) (r : Ranged p) (d : ℕ) (hd : d < p .N) where
   unfolding named
   named-some = only-nonzero d eight
 
-  other : (e : ℕ) → e < p .N → (e ≡ d → ⊥) → In e (present p (named d))
+  other-present : (e : ℕ) → e < p .N → (e ≡ d → ⊥) → In e (present p (named d))
   unfolding named
-  other e he ne = in-present p (only d) e he (isIn-only d e eight (omega (arith, r .drives-high)) ∙ ne-eqb e d ne)
+  other-present e he ne = in-present p (only d) e he (isIn-only d e eight (omega (arith, r .drives-high)) ∙ ne-eqb e d ne)
 
   pub low-present : In (lowDrive p (named d)) (present p (named d))
   unfolding lowDrive
   low-present = first-in (present p (named d)) 0 (go (ℕ-discrete 0 d))
     where
       go : Dec (0 ≡ d) → isNil (present p (named d)) ≡ false
-      go (no n) = in-some (present p (named d)) 0 (other 0 (omega (arith, r .drives-low)) n)
-      go (yes n) = in-some (present p (named d)) 1 (other 1 (omega (arith, r .drives-low)) (λ e. let z : ⊥ = omega arith in z))
+      go (no n) = in-some (present p (named d)) 0 (other-present 0 (omega (arith, r .drives-low)) n)
+      go (yes n) = in-some (present p (named d)) 1 (other-present 1 (omega (arith, r .drives-low)) (λ e. let z : ⊥ = omega arith in z))

@@ -12,7 +12,7 @@ use lib.ListN.{length, getD}
 use Rattle.spec.specs.Lists.{upFrom, below, all, any, isMember, consIf, keep, isNil, sucUnless, indexOf, flat, firstOr}
 use Rattle.law_basic.specs.Ranges.{Test, test, and-left, and-right, and-both, keep-append}
 use Rattle.law_basic.specs.Ranges.Test.{yes!, no! }
-use Rattle.law_drives.specs.Tests.{clash, true-false, false-true, or-left, or-right, or-neither, or-true-left, or-true-right, not-so, eqb-self}
+use Rattle.law_drives.specs.Tests.{clash, true-false, false-true, or-first, or-right, or-neither, or-true-left, or-true-right, not-so, eqb-self}
 
 abbrev pub In : {A : Type 0} → A → List A → Type 0
 In a [] = ⊥
@@ -99,7 +99,7 @@ in-all f (b ∷ l) h = and-both (f b) (all f l) (h b (inl refl)) (in-all f l (λ
 pub none-in : {A : Type 0} (f : A → Bool) (l : List A) → any f l ≡ false → (a : A) → In a l → f a ≡ false
 unfolding any
 none-in f [] q a m = absurd m
-none-in f (b ∷ l) q a (inl e) = ap f e ∙ or-left (f b) (any f l) q
+none-in f (b ∷ l) q a (inl e) = ap f e ∙ or-first (f b) (any f l) q
 none-in f (b ∷ l) q a (inr m) = none-in f l (or-right (f b) (any f l) q) a m
 
 pub in-none : {A : Type 0} (f : A → Bool) (l : List A) → ((a : A) → In a l → f a ≡ false) → any f l ≡ false
@@ -283,7 +283,7 @@ index-is f (a ∷ l) d (suc k) h q g = rw (g 0 (omega arith)) (ap suc (index-is 
 pub index-none : {A : Type 0} (f : A → Bool) (l : List A) → any f l ≡ false → indexOf f l ≡ length l
 unfolding any indexOf sucUnless
 index-none f [] q = refl
-index-none f (a ∷ l) q = rw (or-left (f a) (any f l) q) (ap suc (index-none f l (or-right (f a) (any f l) q)))
+index-none f (a ∷ l) q = rw (or-first (f a) (any f l) q) (ap suc (index-none f l (or-right (f a) (any f l) q)))
 
 pub first-in : (l : List ℕ) (n : ℕ) → isNil l ≡ false → In (firstOr n l) l
 unfolding isNil firstOr

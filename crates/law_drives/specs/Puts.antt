@@ -17,7 +17,6 @@ use Rattle.spec.specs.Drives.Store.{put, reset}
 use Rattle.spec.specs.Layout.{headerBlock, Rec, recordBytes, footerBlock}
 use Rattle.spec.specs.Lists.{upFrom, below, consIf, keep, flat}
 use Rattle.spec.specs.Params.{spareLen, capacity, drivesOf}
-use Rattle.law_basic.specs.Be.{room}
 use Rattle.law_basic.specs.Fields.{length-record, length-zeroSpare, header-block-long}
 use Rattle.law_basic.specs.Geometry.{Ranged}
 use Rattle.law_basic.specs.Ranges.{Test, test, keep-append}
@@ -26,7 +25,7 @@ use Rattle.law_drives.specs.Laid.{bytes-header, bytes-zeroSpare, bytes-r
 use Rattle.law_drives.specs.Members.{In, map-in, keep-nothing, keep-all, keep-flat, keep-map, from-in}
 use Rattle.law_drives.specs.Tables.{the-row}
 use Rattle.law_drives.specs.Tests.{and-false-right}
-use Rattle.law_drives.specs.Zones.{Bytes, Sound, hitsAt, zoneStore, hits, Room}
+use Rattle.law_drives.specs.Zones.{Bytes, SoundChunk, hitsAt, zoneStore, hits, Room}
 
 -- ---- which fall on a zone
 
@@ -134,12 +133,12 @@ puts-new d z (c ∷ cs) q (suc i) h l =
 
 -- ---- room
 
-pub room-puts : (p : Params) (d z n : ℕ) (cs : List Chunk) → n + length cs ≤ capacity p → ((i : ℕ) → i < length cs → Sound p (n + i) (getD cs i noChunk)) → Room p n (map (putAt d z) cs)
+pub room-puts : (p : Params) (d z n : ℕ) (cs : List Chunk) → n + length cs ≤ capacity p → ((i : ℕ) → i < length cs → SoundChunk p (n + i) (getD cs i noChunk)) → Room p n (map (putAt d z) cs)
 unfolding putAt
 room-puts p d z n [] h f = tt
 room-puts p d z n (c ∷ cs) h f = (
-  record { room = omega arith; fine = subst (λ (x : ℕ). Sound p x c) (add-zero n) (f 0 (omega arith)) },
-  room-puts p d z (suc n) cs (omega arith) (λ i l. subst (λ (x : ℕ). Sound p x (getD cs i noChunk)) (let e : n + suc i ≡ suc n + i = omega arith in e) (f (suc i) (omega arith))),
+  record { room = omega arith; fine = subst (λ (x : ℕ). SoundChunk p x c) (add-zero n) (f 0 (omega arith)) },
+  room-puts p d z (suc n) cs (omega arith) (λ i l. subst (λ (x : ℕ). SoundChunk p x (getD cs i noChunk)) (let e : n + suc i ≡ suc n + i = omega arith in e) (f (suc i) (omega arith))),
 )
 
 pub room-append : (p : Params) (d z n : ℕ) (cs : List Chunk) (ss : List Store) → Room p n (map (putAt d z) cs) → Room p (n + length cs) ss → Room p n (map (putAt d z) cs ++ ss)
@@ -149,7 +148,7 @@ room-append p d z n (c ∷ cs) ss a b = (a .0, room-append p d z (suc n) cs ss (
 
 -- ---- chunks that are sound
 
-pub header-sound : (p : Params) → Ranged p → (d z r c : ℕ) → Sound p 0 (mkChunk (headerBlock p d z r c) zeroSpare)
+pub header-sound : (p : Params) → Ranged p → (d z r c : ℕ) → SoundChunk p 0 (mkChunk (headerBlock p d z r c) zeroSpare)
 header-sound p r d z s c = record {
   block-long = header-block-long p r d z s c;
   spare-long = length-zeroSpare;
@@ -158,7 +157,7 @@ header-sound p r d z s c = record {
 }
 
 -- a data chunk
-pub data-sound : (p : Params) (n : ℕ) (b : List ℕ) (r : Rec) → 1 ≤ n → n ≤ p .S → length b ≡ p .B → Sound p n (mkChunk b (recordBytes r))
+pub data-sound : (p : Params) (n : ℕ) (b : List ℕ) (r : Rec) → 1 ≤ n → n ≤ p .S → length b ≡ p .B → SoundChunk p n (mkChunk b (recordBytes r))
 data-sound p n b r l h e = record {
   block-long = e;
   spare-long = length-record r;
@@ -166,7 +165,7 @@ data-sound p n b r l h e = record {
   block-bytes = λ x. absurd (⊎-elim (λ y. let z : ⊥ = omega arith in z) (λ y. let z : ⊥ = omega arith in z) x);
 }
 
-pub footer-sound : (p : Params) → Ranged p → (n : ℕ) (ss : List (List ℕ)) (i : ℕ) → Long spareLen ss → ((s : List ℕ) → In s ss → Bytes s) → Sound p n (mkChunk (footerBlock p ss i) zeroSpare)
+pub footer-sound : (p : Params) → Ranged p → (n : ℕ) (ss : List (List ℕ)) (i : ℕ) → Long spareLen ss → ((s : List ℕ) → In s ss → Bytes s) → SoundChunk p n (mkChunk (footerBlock p ss i) zeroSpare)
 footer-sound p r n ss i l b = record {
   block-long = length-footer p r ss i l;
   spare-long = length-zeroSpare;

@@ -33,7 +33,7 @@ use Rattle.law_drives.specs.Segs.{present-in, remaining-low, data-low, z
 use Rattle.law_drives.specs.Spots.{counts-in}
 use Rattle.law_drives.specs.Tables.{remains, remaining-is}
 use Rattle.law_drives.specs.Tests.{clash, and-false-left, cond-false, eqb-self}
-use Rattle.law_drives.specs.Zones.{Bytes, Sound, Shaped, hitsAt, zoneStore, hits, zone-after, Room, Within, Roomy}
+use Rattle.law_drives.specs.Zones.{Bytes, SoundChunk, Shaped, hitsAt, zoneStore, hits, zone-after, Room, Within, Roomy}
 
 all-long : (n : ℕ) (bs : List (List ℕ)) → Long n bs → AllLong n bs
 all-long n [] h = tt
@@ -93,8 +93,8 @@ module _ (p : Params) (r : Ranged p) (v : View) (sh : Shaped p v) where
     abbrev lostFooters : List Chunk
     lostFooters = map (λ i. mkChunk (footerBlock p lostSpares i) zeroSpare) (below (footers p))
 
-    spare-of : (s : List ℕ) → In s lostSpares → (q : Rec) × (s ≡ recordBytes q)
-    spare-of s m = let (q, i, e) = map-in (λ (q : Piece). recordBytes (q .rec)) lostPieces s m in (q .rec, e)
+    lost-spare : (s : List ℕ) → In s lostSpares → (q : Rec) × (s ≡ recordBytes q)
+    lost-spare s m = let (q, i, e) = map-in (λ (q : Piece). recordBytes (q .rec)) lostPieces s m in (q .rec, e)
 
     length-lost : length (map pieceChunk lostPieces) ≡ length (counted p gone x)
     length-lost = length-map lostPieces pieceChunk ∙ length-map (counted p gone x) (λ s. pieceOf p gone x s d)
@@ -102,7 +102,7 @@ module _ (p : Params) (r : Ranged p) (v : View) (sh : Shaped p v) where
     header-room : Room p 0 (map (putAt d g) (mkChunk (headerBlock p d g (x .serial) (x .copied)) zeroSpare ∷ []))
     header-room = room-puts p d g 0 (mkChunk (headerBlock p d g (x .serial) (x .copied)) zeroSpare ∷ []) (omega (arith, capacity-over p r)) one
       where
-        one : (i : ℕ) → i < 1 → Sound p (0 + i) (getD (mkChunk (headerBlock p d g (x .serial) (x .copied)) zeroSpare ∷ []) i noChunk)
+        one : (i : ℕ) → i < 1 → SoundChunk p (0 + i) (getD (mkChunk (headerBlock p d g (x .serial) (x .copied)) zeroSpare ∷ []) i noChunk)
         one zero h = header-sound p r d g (x .serial) (x .copied)
         one (suc i) h = absurd (let z : ⊥ = omega arith in z)
 
@@ -114,7 +114,7 @@ module _ (p : Params) (r : Ranged p) (v : View) (sh : Shaped p v) where
         let e : getD (map pieceChunk lostPieces) i noChunk ≡ pieceChunk (getD lostPieces i (mkPiece [] (mkRec 0 0 0))) = getD-map pieceChunk lostPieces i noChunk (mkPiece [] (mkRec 0 0 0)) l in
         let q = getD lostPieces i (mkPiece [] (mkRec 0 0 0)) in
         let (s, m, f) = map-in (λ s. pieceOf p gone x s d) (counted p gone x) q (in-getD lostPieces i (mkPiece [] (mkRec 0 0 0)) l) in
-        subst (λ (c : Chunk). Sound p (1 + i) c) (sym e)
+        subst (λ (c : Chunk). SoundChunk p (1 + i) c) (sym e)
         (data-sound p (1 + i) (q .block) (q .rec) (omega arith) (omega (arith, length-lost, counted-low p gone x))
         (ap (λ (y : Piece). length (y .block)) f ∙ decoded-long s (counted-in p gone x s m .1))))
 
@@ -124,10 +124,10 @@ module _ (p : Params) (r : Ranged p) (v : View) (sh : Shaped p v) where
         let l : length lostFooters ≡ footers p = length-map (below (footers p)) (λ i. mkChunk (footerBlock p lostSpares i) zeroSpare) ∙ length-below (footers p) in
         room-puts p d g n lostFooters (omega (arith, length-lost, counted-low p gone x, capacity-is p r))
         (λ i h.
-        subst (λ (c : Chunk). Sound p (n + i) c)
+        subst (λ (c : Chunk). SoundChunk p (n + i) c)
         (sym (getD-map-below (λ i. mkChunk (footerBlock p lostSpares i) zeroSpare) (footers p) i noChunk (subst (λ (y : ℕ). i < y) l h)))
-        (footer-sound p r (n + i) lostSpares i (λ s m. ap length (spare-of s m .1) ∙ length-record (spare-of s m .0))
-        (λ s m. subst (λ (y : List ℕ). Bytes y) (sym (spare-of s m .1)) (bytes-record (spare-of s m .0)))))
+        (footer-sound p r (n + i) lostSpares i (λ s m. ap length (lost-spare s m .1) ∙ length-record (lost-spare s m .0))
+        (λ s m. subst (λ (y : List ℕ). Bytes y) (sym (lost-spare s m .1)) (bytes-record (lost-spare s m .0)))))
 
     abbrev lostEnd : List Chunk
     lostEnd = cond (x .full) lostFooters []

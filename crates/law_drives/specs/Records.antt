@@ -51,9 +51,9 @@ module _ (p : Params) (q : Zone) (k : ZoneOk p q) where
       go (yes h) = k .sound b h .block-bytes (inr l)
       go (no h) = subst (λ (c : Chunk). Bytes (c .block)) (sym (List·getD-eq-default (q .blocks) noChunk {n = b} (let e = k .blocks-long in omega arith))) nil!
 
-  record-bytes : (w : Bool) (o : ℕ) → (l : List ℕ) × Bytes l × (recordIn p w q o ≡ recordOf l)
+  record-from-bytes : (w : Bool) (o : ℕ) → (l : List ℕ) × Bytes l × (recordIn p w q o ≡ recordOf l)
   unfolding recordIn footerRecord
-  record-bytes true o =
+  record-from-bytes true o =
       let j = o / perFooter p in
       let e : getD (blocksOf (drop (1 + p .S) (q .blocks))) j [] ≡ getD (q .blocks) (1 + p .S + j) noChunk .block =
       blocks-at (drop (1 + p .S) (q .blocks)) j ∙ ap (λ (c : Chunk). c .block) (getD-drop (1 + p .S) (q .blocks) j noChunk) in (
@@ -62,9 +62,9 @@ module _ (p : Params) (q : Zone) (k : ZoneOk p q) where
             (subst (λ (x : List ℕ). Bytes x) (sym e) (footer-bytes-at (1 + p .S + j) (omega arith))),
         refl,
       )
-  record-bytes false o = (getD (q .blocks) (1 + o) noChunk .spare, spare-bytes-at (1 + o), refl)
+  record-from-bytes false o = (getD (q .blocks) (1 + o) noChunk .spare, spare-bytes-at (1 + o), refl)
 
   pub record-low : (w : Bool) (o : ℕ) → (recordIn p w q o .address < 256 ^ 8) × (recordIn p w q o .stamp < 256 ^ 8)
   record-low w o =
-      let (l, b, e) = record-bytes w o in
+      let (l, b, e) = record-from-bytes w o in
       (subst (λ (x : Rec). x .address < 256 ^ 8) (sym e) (address-low l b), subst (λ (x : Rec). x .stamp < 256 ^ 8) (sym e) (stamp-low l b))

@@ -44,7 +44,7 @@ use Rattle.law_drives.specs.Steady.Rest.{rest-open}
 use Rattle.law_drives.specs.Tables.{remains}
 use Rattle.law_drives.specs.Tests.{clash, not-so, cond-true, cond-false, cond-same, eqb-self}
 use Rattle.law_drives.specs.Tidy.{spareAt, usedAt, Tidy}
-use Rattle.law_drives.specs.Zones.{Sound, Shaped, hitsAt, zoneStore, hits, zone-after, Room, Within, reset-pointer, Roomy}
+use Rattle.law_drives.specs.Zones.{SoundChunk, Shaped, hitsAt, zoneStore, hits, zone-after, Room, Within, reset-pointer, Roomy}
 
 keep-firsts : (c i n : ℕ) → i ≤ c → c ≤ i + n → keep (λ s. ltb s c) (upFrom i n) ≡ upFrom i (c - i)
 unfolding keep consIf upFrom
@@ -274,17 +274,17 @@ module _ (p : Params) (r : Ranged p) (v : View) (sh : Shaped p v) (acc : Accepte
   lay-room : (e : ℕ) → e < p .N → Room p 0 (map (putAt e z0) (lay e))
   lay-room e he = room-puts p e z0 0 (lay e) (let a = lay-count e in let b = c-low in let k = capacity-over p r in omega arith) go
     where
-      go : (i : ℕ) → i < length (lay e) → Sound p (0 + i) (getD (lay e) i noChunk)
+      go : (i : ℕ) → i < length (lay e) → SoundChunk p (0 + i) (getD (lay e) i noChunk)
       go zero h = first!
         where
-          first! : Sound p 0 (getD (lay e) 0 noChunk)
+          first! : SoundChunk p 0 (getD (lay e) 0 noChunk)
           first! = unfold lay in header-sound p r e z0 sn (x .serial)
       go (suc i) h =
           let l : i < c = (let a = lay-count e in omega arith) in
           let (b, q, f, lb, st) = lay-at e i he l in
           let w : 0 + suc i ≡ suc i = zero-add (suc i) in
-          subst (λ (n : ℕ). Sound p n (getD (lay e) (suc i) noChunk)) (sym w)
-          (subst (λ (y : Chunk). Sound p (suc i) y) (sym f) (data-sound p (suc i) b q (omega arith) (let k = c-low in omega arith) lb))
+          subst (λ (n : ℕ). SoundChunk p n (getD (lay e) (suc i) noChunk)) (sym w)
+          (subst (λ (y : Chunk). SoundChunk p (suc i) y) (sym f) (data-sound p (suc i) b q (omega arith) (let k = c-low in omega arith) lb))
 
   rewrite-roomy : Roomy p va ts
   rewrite-roomy e y he hy = go (ℕ-discrete z0 y) (ℕ-discrete g y)
@@ -451,8 +451,8 @@ module _ (p : Params) (r : Ranged p) (v : View) (sh : Shaped p v) (acc : Accepte
         as! : pointerAt vc e z0 ≡ 1 + c → 1 + o < zoneAt vc e z0 .pointer → o < c
         as! q w = unfold pointerAt in omega arith
 
-    by-spare : (e o : ℕ) → recordIn p (sealedIn p vc 0 z0) (zoneAt vc e z0) o ≡ spareAt p vc e z0 o
-    by-spare e o = ap (λ (w : Bool). recordIn p w (zoneAt vc e z0) o) open-now
+    moved-by-spare : (e o : ℕ) → recordIn p (sealedIn p vc 0 z0) (zoneAt vc e z0) o ≡ spareAt p vc e z0 o
+    moved-by-spare e o = ap (λ (w : Bool). recordIn p w (zoneAt vc e z0) o) open-now
 
     counts-are : (s : ℕ) → s < p .S → counts p 0 y0 s ≡ ltb s c
     counts-are s h = go (decLt s c)
@@ -463,11 +463,11 @@ module _ (p : Params) (r : Ranged p) (v : View) (sh : Shaped p v) (acc : Accepte
         go : Dec (s < c) → counts p 0 y0 s ≡ ltb s c
         go (yes l) =
             in! (in-all (hasChunk y0 s) (present p 0) (λ e m. let he = present-in p 0 e m .0 in has-chunk p vc 0 z0 e s s he (isIn-empty e)
-            (stored! e s he l) (ap (λ (a : Rec). a .stripe) (by-spare e s) ∙ new-stripe e s he l)))
+            (stored! e s he l) (ap (λ (a : Rec). a .stripe) (moved-by-spare e s) ∙ new-stripe e s he l)))
             ∙ sym (lt-ltb s c l)
         go (no l) = not-so (counts p 0 y0 s) (λ q. clash (counts-in p 0 y0 s 0 q h0 (isIn-empty 0))
             (no-chunk p vc 0 z0 0 s h0 (isIn-empty 0) (λ o b w. let a = under! 0 o h0 b in let f = sym
-            (ap (λ (a : Rec). a .stripe) (by-spare 0 o) ∙ new-stripe 0 o h0 a)
+            (ap (λ (a : Rec). a .stripe) (moved-by-spare 0 o) ∙ new-stripe 0 o h0 a)
             ∙ w in let bad : ⊥ = omega arith in bad)))
             ∙ sym (le-ltb s c (omega arith))
 
@@ -492,8 +492,8 @@ module _ (p : Params) (r : Ranged p) (v : View) (sh : Shaped p v) (acc : Accepte
 
     -- ---- the view is tidy
 
-    pub was! : (y : ℕ) → y < p .Z → usedAt vc y ≡ true → (y ≡ z0) ⊎ ((keeps! y ≡ true) × ((z0 ≡ y → ⊥) × (g ≡ y → ⊥)))
-    was! y hy q = go (ℕ-discrete z0 y) (ℕ-discrete g y)
+    pub used-moved : (y : ℕ) → y < p .Z → usedAt vc y ≡ true → (y ≡ z0) ⊎ ((keeps! y ≡ true) × ((z0 ≡ y → ⊥) × (g ≡ y → ⊥)))
+    used-moved y hy q = go (ℕ-discrete z0 y) (ℕ-discrete g y)
       where
         go : Dec (z0 ≡ y) → Dec (g ≡ y) → (y ≡ z0) ⊎ ((keeps! y ≡ true) × ((z0 ≡ y → ⊥) × (g ≡ y → ⊥)))
         go (yes a) b = inl (sym a)
@@ -519,10 +519,10 @@ module _ (p : Params) (r : Ranged p) (v : View) (sh : Shaped p v) (acc : Accepte
     rewrite-tidy = record {
       pointer-low = λ d z hd hz. low d z hd hz (ℕ-discrete z0 z) (ℕ-discrete g z);
       together = λ d z hd hz. tog d z hd hz (ℕ-discrete z0 z) (ℕ-discrete g z);
-      copied-less = λ z hz q. less z hz (was! z hz q);
-      serial-known = λ z hz q. known z hz (was! z hz q);
-      serial-once = λ y z hy hz a b e. once y z hy hz e (was! y hy a) (was! z hz b);
-      no-copy = λ y z hy hz a b e. nc y z hy hz e (was! y hy a) (was! z hz b);
+      copied-less = λ z hz q. less z hz (used-moved z hz q);
+      serial-known = λ z hz q. known z hz (used-moved z hz q);
+      serial-once = λ y z hy hz a b e. once y z hy hz e (used-moved y hy a) (used-moved z hz b);
+      no-copy = λ y z hy hz a b e. nc y z hy hz e (used-moved y hy a) (used-moved z hz b);
     }
       where
         low : (d z : ℕ) → d < p .N → z < p .Z → Dec (z0 ≡ z) → Dec (g ≡ z) → pointerAt vc d z ≤ capacity p
@@ -590,7 +590,7 @@ module _ (p : Params) (r : Ranged p) (v : View) (sh : Shaped p v) (acc : Accepte
       mend-within = rewrite-within;
       mend-bound = sn;
       mend-tidy = rewrite-tidy;
-      mend-rest = rest-open z0 c new-steady (λ z hz q n. sealed! z hz n (was! z hz q));
+      mend-rest = rest-open z0 c new-steady (λ z hz q n. sealed! z hz n (used-moved z hz q));
     }
       where
         sealed! : (z : ℕ) → z < p .Z → (z ≡ z0 → ⊥) → (z ≡ z0) ⊎ ((keeps! z ≡ true) × ((z0 ≡ z → ⊥) × (g ≡ z → ⊥))) → SealedAll p vc z

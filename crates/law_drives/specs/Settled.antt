@@ -17,7 +17,7 @@ use Rattle.spec.specs.Segments.{lowDrive, headerAt, leftBy1, isCopy, remaining,
 use Rattle.law_basic.specs.Geometry.{Ranged, position-drive, data-drive-lt}
 use Rattle.law_basic.specs.Mask.{isIn-empty}
 use Rattle.law_basic.specs.Ranges.{and-left, and-both}
-use Rattle.law_drives.specs.Best.{Apart}
+use Rattle.law_drives.specs.Best.{CandsApart}
 use Rattle.law_drives.specs.Members.{In, keep-in, all-in, in-all, in-none, all-cong, map-cong, keep-all, below-in}
 use Rattle.law_drives.specs.Segs.{present-in, in-present, remaining-low, serial-is, ChunkAt, chunk-at, CandAt, cand-at}
 use Rattle.law_drives.specs.Spots.{counts-in}
@@ -44,9 +44,9 @@ module _ (p : Params) (r : Ranged p) (v : View) (serial : ℕ) (t : Tidy p v ser
   pub used-all : (d z : ℕ) → d < p .N → z < p .Z → usedAt v z ≡ true → not (eqb (pointerAt v d z) 0) ≡ true
   used-all d z hd hz q = ap not (t .together d z hd hz) ∙ q
 
-  in-left : (g : ℕ) → In g (leftBy1 p v 0) → (g < p .Z) × (usedAt v g ≡ true)
+  left-used : (g : ℕ) → In g (leftBy1 p v 0) → (g < p .Z) × (usedAt v g ≡ true)
   unfolding leftBy1 segmentNumbers zoneOn
-  in-left g m =
+  left-used g m =
       let (i, q) = keep-in (λ g. all (λ d. not (eqb (pointerAt v d g) 0)) (present p 0)) (below (p .Z)) g m in
       (below-in (p .Z) g i, all-in (λ d. not (eqb (pointerAt v d g) 0)) (present p 0) q 0 (present-all p 0 zero-low))
 
@@ -57,7 +57,7 @@ module _ (p : Params) (r : Ranged p) (v : View) (serial : ℕ) (t : Tidy p v ser
       and-false-right (not (eqb (headerCopied (headerAt v l g)) 0)) (any (λ h. not (eqb h g) && eqb (headerSerial (headerAt v l h)) (headerCopied (headerAt v l g))) (leftBy1 p v 0))
       (in-none (λ h. not (eqb h g) && eqb (headerSerial (headerAt v l h)) (headerCopied (headerAt v l g))) (leftBy1 p v 0)
       (λ h m.
-      let (hh, u) = in-left h m in
+      let (hh, u) = left-used h m in
       and-false-right (not (eqb h g)) (eqb (headerSerial (headerAt v l h)) (headerCopied (headerAt v l g)))
       (ne-eqb (headerSerial (headerAt v l h)) (headerCopied (headerAt v l g))
       (λ e. t .no-copy g h hg hh q u (sym (subst (λ (x : ℕ). headerSerial (headerAt v x h) ≡ headerCopied (headerAt v x g)) (low-first p r) e))))))
@@ -121,7 +121,7 @@ module _ (p : Params) (r : Ranged p) (v : View) (serial : ℕ) (t : Tidy p v ser
       ∙ position-drive p (j .stripe) (j .position) in
       k .it-is ∙ (λ i. candOf p 0 (segmentOf p v 0 (e i)) (es i) (dataDrive p (es i) (ep i))) ∙ sym (j .it-is)
 
-  pub cands-apart : Apart (candidates p 0 (segments p v 0))
+  pub cands-apart : CandsApart (candidates p 0 (segments p v 0))
   cands-apart c d m n w =
       let k = cand-at p v 0 c m in
       let j = cand-at p v 0 d n in

@@ -34,9 +34,9 @@ pub record StateOk (p : Params) (st : State) : Type 0 where
   pub slots-ok : (i : ℕ) → i < 8 → SlotOk p st i
   pub offsets-low : (j : ℕ) → getD (st .offsets) j 0 < p .S
 
-slot-of : (p : Params) (st : State) (i : ℕ) → slotOk p st i ≡ true → SlotOk p st i
+slot-ok-of : (p : Params) (st : State) (i : ℕ) → slotOk p st i ≡ true → SlotOk p st i
 unfolding slotOk
-slot-of p st i q =
+slot-ok-of p st i q =
     let t1 = ltb (stripeIn st i) (p .S) in
     let t2 = leb (filledIn st i) (dataCount p) in
     let t3 = ltb (getD (st .writes) i 0) (2 ^ dataCount p) in
@@ -91,7 +91,7 @@ state-of p r st q =
       missing-one = leb-true (ones (st .missing)) 1 (and-right (t1 && t2) t3 q3);
       opened-low = leb-true (st .opened) (p .Z) (and-right (t1 && t2 && t3) t4 q4);
       next-low = leb-true (st .next) (p .S) (and-right (t1 && t2 && t3 && t4) t5 q5);
-      slots-ok = λ i h. slot-of p st i (all-in (slotOk p st) slots (and-right (t1 && t2 && t3 && t4 && t5) t6 q6) i (in-slots i h));
+      slots-ok = λ i h. slot-ok-of p st i (all-in (slotOk p st) slots (and-right (t1 && t2 && t3 && t4 && t5) t6 q6) i (in-slots i h));
       offsets-low = λ j. go (and-right (t1 && t2 && t3 && t4 && t5 && t6) t7 q) j (decLt j (length (st .offsets)));
     }
   where

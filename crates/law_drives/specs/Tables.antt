@@ -161,14 +161,14 @@ module _ (p : Params) (f : ℕ → ℕ → List ℕ) (h : (d z : ℕ) → d < p 
       let g : d * p .Z * p .S ≡ d * (p .Z * p .S) = mul-assoc d (p .Z) (p .S) in
       omega arith
 
-  cell-low : (z o : ℕ) → z < p .Z → o < p .S → z * p .S + o < p .Z * p .S
-  cell-low z o x y = digits-lt x y
+  row-cell-low : (z o : ℕ) → z < p .Z → o < p .S → z * p .S + o < p .Z * p .S
+  row-cell-low z o x y = digits-lt x y
 
   pub grid-at : (d z o : ℕ) → d < p .N → z < p .Z → o < p .S → getD (gridOf p f) (compactAt p d z o) 0 ≡ getD (f d z) o 0
   unfolding gridOf
   grid-at d z o hd hz ho =
       ap (λ (x : ℕ). getD (flat (λ d. flat (λ z. f d z) (below (p .Z))) (below (p .N))) x 0) (cell-is d z o)
-      ∙ getD-flat (λ d. flat (λ z. f d z) (below (p .Z))) (p .Z * p .S) (p .N) drive-row d (z * p .S + o) hd (cell-low z o hz ho)
+      ∙ getD-flat (λ d. flat (λ z. f d z) (below (p .Z))) (p .Z * p .S) (p .N) drive-row d (z * p .S + o) hd (row-cell-low z o hz ho)
       ∙ getD-flat (λ z. f d z) (p .S) (p .Z) (λ z y. h d z hd y) z o hz ho
 
   pub grid-ext : (t : List ℕ) → length t ≡ compactLen p → 0 < p .S → 0 < p .Z

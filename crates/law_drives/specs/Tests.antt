@@ -27,9 +27,9 @@ pub and-false-right : (a b : Bool) → b ≡ false → a && b ≡ false
 and-false-right true b p = p
 and-false-right false b p = refl
 
-pub or-left : (a b : Bool) → a || b ≡ false → a ≡ false
-or-left true b q = q
-or-left false b q = refl
+pub or-first : (a b : Bool) → a || b ≡ false → a ≡ false
+or-first true b q = q
+or-first false b q = refl
 
 pub or-right : (a b : Bool) → a || b ≡ false → b ≡ false
 or-right true b q = true-false q

@@ -29,7 +29,7 @@ use Rattle.law_drives.specs.Settled.{present-all}
 use Rattle.law_drives.specs.Spots.{counts-in}
 use Rattle.law_drives.specs.Steady.{Steady}
 use Rattle.law_drives.specs.Tables.{remains, in-remaining, remaining-in}
-use Rattle.law_drives.specs.Tests.{clash, or-left, or-right}
+use Rattle.law_drives.specs.Tests.{clash, or-first, or-right}
 use Rattle.law_drives.specs.Tidy.{spareAt, usedAt}
 use Rattle.law_drives.specs.Zones.{Shaped}
 
@@ -93,8 +93,8 @@ module _ (p : Params) (r : Ranged p) (v : View) (sh : Shaped p v) (acc : Accepte
       as! : In x (unsealed gs) → In x (keep (λ (g : Segment). not (g .full)) (map (segmentOf p v 0) (remaining p v 0)))
       as! m = unfold unsealed segments in m
 
-  seg-same : (y g : ℕ) → segmentOf p v 0 y ≡ segmentOf p v 0 g → y ≡ g
-  seg-same y g e = sym (seg-is p v 0 y) ∙ ap (λ (x : Segment). x .seg) e ∙ seg-is p v 0 g
+  segment-injective : (y g : ℕ) → segmentOf p v 0 y ≡ segmentOf p v 0 g → y ≡ g
+  segment-injective y g e = sym (seg-is p v 0 y) ∙ ap (λ (x : Segment). x .seg) e ∙ seg-is p v 0 g
 
   pub loose : Loose p v
   loose = go (unsealed gs) refl
@@ -117,7 +117,7 @@ module _ (p : Params) (r : Ranged p) (v : View) (sh : Shaped p v) (acc : Accepte
           others g f y hy q n = not-false! (sealedIn p v 0 y) (λ ns. one (subst (λ (l : List Segment). In (segmentOf p v 0 y) l) e (in-unsealed y hy q ns)))
             where
               one : (segmentOf p v 0 y ≡ x) ⊎ ⊥ → ⊥
-              one (inl w) = n (seg-same y g (w ∙ f))
+              one (inl w) = n (segment-injective y g (w ∙ f))
               one (inr w) = w
       go (x ∷ (x2 ∷ us)) e =
           let (g, hg, k, ns, f) = unsealed-in x (subst (λ (l : List Segment). In x l) (sym e) (inl refl)) in
@@ -215,7 +215,7 @@ module _ (p : Params) (r : Ranged p) (v : View) (sh : Shaped p v) (acc : Accepte
           let a = not (sameList (counted p 0 x) (below c)) in
           let b = not (isNil (uncounted p 0 x)) in
           let q : a || b ≡ false = sym (ap (λ (w : Bool). not w && (a || b)) nw) ∙ ragged! in
-          (not-false (sameList (counted p 0 x) (below c)) (or-left a b q), not-false (isNil (uncounted p 0 x)) (or-right a b q))
+          (not-false (sameList (counted p 0 x) (below c)) (or-first a b q), not-false (isNil (uncounted p 0 x)) (or-right a b q))
         where
           ragged! : not (isWhole p x) && (not (sameList (counted p 0 x) (below c)) || not (isNil (uncounted p 0 x))) ≡ false
           ragged! = as! nr

@@ -35,7 +35,7 @@ abbrev pub Plain : Params → ℕ → Type 0
 Plain p b = (b ≡ 0) ⊎ (p .S < b)
 
 -- block and spare have their lengths; the spare is of bytes, and so are header and footer blocks
-pub record Sound (p : Params) (b : ℕ) (c : Chunk) : Type 0 where
+pub record SoundChunk (p : Params) (b : ℕ) (c : Chunk) : Type 0 where
   pub block-long : length (c .block) ≡ p .B
   pub spare-long : length (c .spare) ≡ spareLen
   pub spare-bytes : Bytes (c .spare)
@@ -43,7 +43,7 @@ pub record Sound (p : Params) (b : ℕ) (c : Chunk) : Type 0 where
 
 pub record ZoneOk (p : Params) (q : Zone) : Type 0 where
   pub blocks-long : length (q .blocks) ≡ capacity p
-  pub sound : (b : ℕ) → b < capacity p → Sound p b (getD (q .blocks) b noChunk)
+  pub sound : (b : ℕ) → b < capacity p → SoundChunk p b (getD (q .blocks) b noChunk)
 
 pub record Shaped (p : Params) (v : View) : Type 0 where
   pub sized : Sized p v
@@ -141,7 +141,7 @@ zone-after p v d z (s ∷ ss) w hd hz = go (test (hitsAt d z s)) (zone-after p (
 -- what a put must be, at pointer n
 pub record Fine (p : Params) (n : ℕ) (b s : List ℕ) : Type 0 where
   pub room : n < capacity p
-  pub fine : Sound p n (mkChunk b s)
+  pub fine : SoundChunk p n (mkChunk b s)
 
 -- the stores of one zone, from pointer n on
 abbrev pub Room : Params → ℕ → List Store → Type 0
@@ -160,10 +160,10 @@ put-ok p b s q f k = record {
   sound = λ i h. go i h (ℕ-discrete i (q .pointer));
 }
   where
-    go : (i : ℕ) → i < capacity p → Dec (i ≡ q .pointer) → Sound p i (getD (set (q .blocks) (q .pointer) (mkChunk b s)) i noChunk)
-    go i h (yes e) = subst (λ x. Sound p x (getD (set (q .blocks) (q .pointer) (mkChunk b s)) x noChunk)) (sym e)
-        (subst (λ c. Sound p (q .pointer) c) (sym (getD-set-same (q .blocks) (q .pointer) (mkChunk b s) noChunk (subst (λ x. q .pointer < x) (sym (k .blocks-long)) (f .room)))) (f .fine))
-    go i h (no e) = subst (λ c. Sound p i c) (sym (getD-set-other (q .blocks) (q .pointer) i (mkChunk b s) noChunk e)) (k .sound i h)
+    go : (i : ℕ) → i < capacity p → Dec (i ≡ q .pointer) → SoundChunk p i (getD (set (q .blocks) (q .pointer) (mkChunk b s)) i noChunk)
+    go i h (yes e) = subst (λ x. SoundChunk p x (getD (set (q .blocks) (q .pointer) (mkChunk b s)) x noChunk)) (sym e)
+        (subst (λ c. SoundChunk p (q .pointer) c) (sym (getD-set-same (q .blocks) (q .pointer) (mkChunk b s) noChunk (subst (λ x. q .pointer < x) (sym (k .blocks-long)) (f .room)))) (f .fine))
+    go i h (no e) = subst (λ c. SoundChunk p i c) (sym (getD-set-other (q .blocks) (q .pointer) i (mkChunk b s) noChunk e)) (k .sound i h)
 
 pub reset-ok : (p : Params) (q : Zone) → ZoneOk p q → ZoneOk p (resetZone q)
 unfolding resetZone

@@ -77,8 +77,8 @@ module _ (p : Params) (r : Ranged p) (q : Zone) (k : ZoneOk p q) (e : q .pointer
             ∙ ap (footerBlock p (sparesIn p q)) (let w : have + (j - have) ≡ j = omega arith in w)
 
     -- so the records by footer are those by spare
-    footer-record : (x : ℕ) → x < p .S → recordIn p true q2 x ≡ recordIn p false q x
-    footer-record x h =
+    record-footed : (x : ℕ) → x < p .S → recordIn p true q2 x ≡ recordIn p false q x
+    record-footed x h =
         let pf = perFooter p in
         let j = x / pf in
         let hj : j < footers p = div-lt-iff-lt-mul (let z = per-footer-low p r in let y : 0 < pf = omega arith in y) .1 (let f = footers-cover p r in omega arith) in
@@ -91,10 +91,10 @@ module _ (p : Params) (r : Ranged p) (q : Zone) (k : ZoneOk p q) (e : q .pointer
         as! a b = unfold recordIn footerRecord in ap recordOf (ap (part (spareLen * (x % perFooter p)) spareLen) a ∙ b)
 
     -- and there are as many
-    pub footer-records : recordsIn p true q2 ≡ recordsIn p false q
-    footer-records = unfold recordsIn in
+    pub records-footed : recordsIn p true q2 ≡ recordsIn p false q
+    records-footed = unfold recordsIn in
         let n1 : dataStored p q2 ≡ p .S = (unfold dataStored in (let a = puts-pointer d z lack q in let z : min (q2 .pointer - 1) (p .S) ≡ p .S = omega arith in z)) in
         let n2 : dataStored p q ≡ p .S = (unfold dataStored in (let z : min (q .pointer - 1) (p .S) ≡ p .S = omega arith in z)) in
         ap (λ (n : ℕ). map (recordIn p true q2) (below n)) n1
-        ∙ map-cong (recordIn p true q2) (recordIn p false q) (below (p .S)) (λ x m. footer-record x (below-in (p .S) x m))
+        ∙ map-cong (recordIn p true q2) (recordIn p false q) (below (p .S)) (λ x m. record-footed x (below-in (p .S) x m))
         ∙ ap (λ (n : ℕ). map (recordIn p false q) (below n)) (sym n2)

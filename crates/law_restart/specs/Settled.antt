@@ -15,7 +15,7 @@ use Rattle.law_basic.specs.Mask.{isIn-empty}
 use Rattle.law_basic.specs.Ranges.{Test, test, flat-none, flat-cons}
 use Rattle.law_basic.specs.Ranges.Test.{yes!, no! }
 use Rattle.law_basic.specs.Stores.{storeAll-append}
-use Rattle.law_restart.specs.Feet.{footer-records}
+use Rattle.law_restart.specs.Feet.{records-footed}
 use Rattle.law_restart.specs.Stripes.{fault-none, in-order, badData, data-none, bad-none, none-bad, zone-good, good-at, moved-good, parity-good}
 use Rattle.law_drives.specs.Accept.{Accepted, faults-apart, zone-stripes}
 use Rattle.law_drives.specs.Dropping.{free-are, drop-same, drop-roomy, drop-within, drop-used}
@@ -26,7 +26,7 @@ use Rattle.law_drives.specs.Mended.{mended, serials-small}
 use Rattle.law_drives.specs.Mending.{Mended, has-pointer, b-zone, b-other, b-pointer}
 use Rattle.law_drives.specs.Range.{capacity-over}
 use Rattle.law_drives.specs.Rebuilding.{counted-low, counted-in}
-use Rattle.law_drives.specs.Rewriting.{moved-data, same-else, new-stripe, new-record, open-now, under!, was! }
+use Rattle.law_drives.specs.Rewriting.{moved-data, same-else, new-stripe, new-record, open-now, under!, used-moved}
 use Rattle.law_drives.specs.Segs.{present-in, data-low, zone-by, full-is, chunk-at}
 use Rattle.law_drives.specs.Settled.{present-all, remains-is-used, SameZones, zones-used, zones-segment}
 use Rattle.law_drives.specs.Spots.{counts-in}
@@ -47,12 +47,12 @@ use native.Mathlib.Decide.{ℕ-discrete}
 use native.Mathlib.Omega.{arith}
 
 -- what loading the memory asks for: no bad stripe number, and no bad data address stored
-abbrev pub Good : Params → ℕ → Segment → Type 0
-Good p gone g = (stripeFault p gone g ≡ false) × (badData p gone g ≡ false)
+abbrev pub GoodSegment : Params → ℕ → Segment → Type 0
+GoodSegment p gone g = (stripeFault p gone g ≡ false) × (badData p gone g ≡ false)
 
 -- of every remaining segment
 abbrev pub AllGood : Params → View → ℕ → Type 0
-AllGood p v gone = (g : ℕ) → In g (remaining p v gone) → Good p gone (segmentOf p v gone g)
+AllGood p v gone = (g : ℕ) → In g (remaining p v gone) → GoodSegment p gone (segmentOf p v gone g)
 
 -- what is accepted passes it
 pub accepted-fine : (p : Params) (v : View) (gone : ℕ) → Accepted p v gone → AllGood p v gone
@@ -64,8 +64,8 @@ unfolding restartStores
 healthy-stores p gs = refl
 
 -- of every segment that is used
-abbrev pub Fine : Params → View → Type 0
-Fine p v = (y : ℕ) → y < p .Z → usedAt v y ≡ true → Good p 0 (segmentOf p v 0 y)
+abbrev pub UsedGood : Params → View → Type 0
+UsedGood p v = (y : ℕ) → y < p .Z → usedAt v y ≡ true → GoodSegment p 0 (segmentOf p v 0 y)
 
 module _ (p : Params) (r : Ranged p) (v : View) (sh : Shaped p v) (acc : Accepted p v 0) where
   abbrev gs : List Segment
@@ -78,11 +78,11 @@ module _ (p : Params) (r : Ranged p) (v : View) (sh : Shaped p v) (acc : Accepte
   va = storeAll storeView (dropStores p gs) v
 
   -- a segment whose zones are as they were found
-  as-found : (u : View) (y : ℕ) → y < p .Z → keeps! y ≡ true → SameZones p v u y → Good p 0 (segmentOf p u 0 y)
-  as-found u y hy q sm = subst (λ (x : Segment). Good p 0 x) (zones-segment p r v u y sm) (accepted-fine p v 0 acc y (in-remaining p v 0 y hy q))
+  as-found : (u : View) (y : ℕ) → y < p .Z → keeps! y ≡ true → SameZones p v u y → GoodSegment p 0 (segmentOf p u 0 y)
+  as-found u y hy q sm = subst (λ (x : Segment). GoodSegment p 0 x) (zones-segment p r v u y sm) (accepted-fine p v 0 acc y (in-remaining p v 0 y hy q))
 
   -- once the dropped segments are reset
-  fine-none : Fine p va
+  fine-none : UsedGood p va
   fine-none y hy q = let k = sym (drop-used p r v sh acc y hy) ∙ q in as-found va y hy k (drop-same p r v sh acc y hy k)
 
   module _ (g : ℕ) (hg : g < p .Z) (kg : keeps! g ≡ true) (ng : sealedIn p v 0 g ≡ false) (oth : (y : ℕ) → y < p .Z → keeps! y ≡ true → (y ≡ g → ⊥) → sealedIn p v 0 y ≡ true) where
@@ -94,8 +94,8 @@ module _ (p : Params) (r : Ranged p) (v : View) (sh : Shaped p v) (acc : Accepte
       abbrev vb : View
       vb = storeAll storeView (missingFooters p x) va
 
-      no-fault : (d : ℕ) → d < p .N → footerFaultIn p (zoneAt v d g) ≡ false
-      no-fault d hd =
+      footer-faultless : (d : ℕ) → d < p .N → footerFaultIn p (zoneAt v d g) ≡ false
+      footer-faultless d hd =
           ap (footerFaultIn p) (sym (zone-by p v 0 g d hd))
           ∙ none-in (λ e. footerFaultIn p (getD (x .zonesBy) e noZone)) (present p 0) (as! (faults-apart p v 0 acc g (in-remaining p v 0 g hg kg) .no-footer-fault)) d (present-all p d hd)
         where
@@ -112,14 +112,14 @@ module _ (p : Params) (r : Ranged p) (v : View) (sh : Shaped p v) (acc : Accepte
       same-records : (d : ℕ) → d < p .N → recordsIn p (sealedIn p vb 0 g) (zoneAt vb d g) ≡ recordsIn p (sealedIn p v 0 g) (zoneAt v d g)
       same-records d hd =
           ap₂ (recordsIn p) sealed-b (b-zone p r v sh acc g hg kg ng oth wh d hd)
-          ∙ footer-records p r (zoneAt v d g) (sh .zone-ok d g hd hg) (has-pointer p r v sh acc g hg kg ng oth wh d hd) (no-fault d hd) d g
+          ∙ records-footed p r (zoneAt v d g) (sh .zone-ok d g hd hg) (has-pointer p r v sh acc g hg kg ng oth wh d hd) (footer-faultless d hd) d g
           ∙ ap (λ (w : Bool). recordsIn p w (zoneAt v d g)) (sym ng)
 
-      fine-footers : Fine p vb
+      fine-footers : UsedGood p vb
       fine-footers y hy q = go (ℕ-discrete y g)
         where
-          go : Dec (y ≡ g) → Good p 0 (segmentOf p vb 0 y)
-          go (yes e) = subst (λ (n : ℕ). Good p 0 (segmentOf p vb 0 n)) (sym e) (
+          go : Dec (y ≡ g) → GoodSegment p 0 (segmentOf p vb 0 y)
+          go (yes e) = subst (λ (n : ℕ). GoodSegment p 0 (segmentOf p vb 0 n)) (sym e) (
             fault-none p vb 0 g (λ d hd i.
                 let (a, b) = zone-stripes p v 0 acc g d (in-remaining p v 0 g hg kg) hd i in
                 (ap (outside p 0) (same-records d hd) ∙ a, ap twice (same-records d hd) ∙ b)),
@@ -189,14 +189,14 @@ module _ (p : Params) (r : Ranged p) (v : View) (sh : Shaped p v) (acc : Accepte
               (good-at p (sealedIn p v 0 g) (zoneAt v D g) D off (c .stored-there) (none-bad p v 0 g D hD (isIn-empty D) (accepted-fine p v 0 acc g (in-remaining p v 0 g hg kg) .1)))
               (ap (λ (a : Rec). a .address) f) (ap (λ (a : Rec). a .stamp) f)
 
-      fine-rewrite : Fine p vc
-      fine-rewrite y hy q = go (was! p r v sh acc g hg kg ng oth z0 hz0 fz fit nw y hy q)
+      fine-rewrite : UsedGood p vc
+      fine-rewrite y hy q = go (used-moved p r v sh acc g hg kg ng oth z0 hz0 fz fit nw y hy q)
         where
           low! : (d o : ℕ) → d < p .N → o < dataStored p (zoneAt vc d z0) → o < length (counted p 0 x)
           low! d o hd h = under! p r v sh acc g hg kg ng oth z0 hz0 fz fit nw d o hd h
 
-          go : (y ≡ z0) ⊎ ((keeps! y ≡ true) × ((z0 ≡ y → ⊥) × (g ≡ y → ⊥))) → Good p 0 (segmentOf p vc 0 y)
-          go (inl e) = subst (λ (n : ℕ). Good p 0 (segmentOf p vc 0 n)) (sym e) (
+          go : (y ≡ z0) ⊎ ((keeps! y ≡ true) × ((z0 ≡ y → ⊥) × (g ≡ y → ⊥))) → GoodSegment p 0 (segmentOf p vc 0 y)
+          go (inl e) = subst (λ (n : ℕ). GoodSegment p 0 (segmentOf p vc 0 n)) (sym e) (
             fault-none p vc 0 z0 (λ d hd i.
                 in-order p (sealedIn p vc 0 z0) (zoneAt vc d z0) (λ o h.
                 ap (λ (w : Bool). recordIn p w (zoneAt vc d z0) o .stripe) open!
@@ -213,7 +213,7 @@ module _ (p : Params) (r : Ranged p) (v : View) (sh : Shaped p v) (acc : Accepte
       → rewrites p 0 gs && eqb (greatestSerial gs) lastCount ≡ false
       → rewrites p 0 gs && isNil (freeZones p gs) ≡ false
       → greatestSerial gs < 256 ^ 8
-      → Fine p (storeAll storeView (mendStores p gs (segmentOf p v 0 g)) va)
+      → UsedGood p (storeAll storeView (mendStores p gs (segmentOf p v 0 g)) va)
   fine-one g hg kg ng oth us c6 c8 bd = go (test (isWhole p (segmentOf p v 0 g))) (test (isRagged p (segmentOf p v 0 g)))
     where
       whole! : isWhole p (segmentOf p v 0 g) ≡ true → mendStores p gs (segmentOf p v 0 g) ≡ missingFooters p (segmentOf p v 0 g)
@@ -231,9 +231,9 @@ module _ (p : Params) (r : Ranged p) (v : View) (sh : Shaped p v) (acc : Accepte
       rewrites! : isRagged p (segmentOf p v 0 g) ≡ true → rewrites p 0 gs ≡ true
       rewrites! q = unfold rewrites in (ap (any (isRagged p)) us ∙ in-any (isRagged p) (segmentOf p v 0 g ∷ []) (segmentOf p v 0 g) (inl refl) q)
 
-      go : Test (isWhole p (segmentOf p v 0 g)) → Test (isRagged p (segmentOf p v 0 g)) → Fine p (storeAll storeView (mendStores p gs (segmentOf p v 0 g)) va)
-      go (yes! q) w = subst (λ (l : List Store). Fine p (storeAll storeView l va)) (sym (whole! q)) (fine-footers g hg kg ng oth q)
-      go (no! q) (no! w) = subst (λ (l : List Store). Fine p (storeAll storeView l va)) (sym (plain! q w)) (subst (λ (u : View). Fine p u) (sym (stores-none va)) fine-none)
+      go : Test (isWhole p (segmentOf p v 0 g)) → Test (isRagged p (segmentOf p v 0 g)) → UsedGood p (storeAll storeView (mendStores p gs (segmentOf p v 0 g)) va)
+      go (yes! q) w = subst (λ (l : List Store). UsedGood p (storeAll storeView l va)) (sym (whole! q)) (fine-footers g hg kg ng oth q)
+      go (no! q) (no! w) = subst (λ (l : List Store). UsedGood p (storeAll storeView l va)) (sym (plain! q w)) (subst (λ (u : View). UsedGood p u) (sym (stores-none va)) fine-none)
       go (no! q) (yes! w) =
           let rw! = rewrites! w in
           let n6 : eqb (greatestSerial gs) lastCount ≡ false = sym (ap (λ (b : Bool). b && eqb (greatestSerial gs) lastCount) rw!) ∙ c6 in
@@ -242,18 +242,18 @@ module _ (p : Params) (r : Ranged p) (v : View) (sh : Shaped p v) (acc : Accepte
           let m : In z0 (keep (λ z. not (remains p v 0 z)) (below (p .Z))) = subst (λ (l : List ℕ). In z0 l) (free-are p r v sh acc) (first-in (freeZones p gs) 0 n8) in
           let (i, f) = keep-in (λ z. not (remains p v 0 z)) (below (p .Z)) z0 m in
           let ne : ¬ (greatestSerial gs ≡ lastCount) = eqb-false (greatestSerial gs) lastCount n6 in
-          subst (λ (l : List Store). Fine p (storeAll storeView l va)) (sym (ragged! q w))
+          subst (λ (l : List Store). UsedGood p (storeAll storeView l va)) (sym (ragged! q w))
           (fine-rewrite g hg kg ng oth z0 (below-in (p .Z) z0 i) (not-true (remains p v 0 z0) f) (let b = bd in omega arith) q)
 
   fine-mend : rewrites p 0 gs && eqb (greatestSerial gs) lastCount ≡ false → rewrites p 0 gs && isNil (freeZones p gs) ≡ false → greatestSerial gs < 256 ^ 8
-      → Fine p (storeAll storeView (flat (mendStores p gs) (unsealed gs)) va)
+      → UsedGood p (storeAll storeView (flat (mendStores p gs) (unsealed gs)) va)
   fine-mend c6 c8 bd = go (loose p r v sh acc)
     where
-      go : Loose p v → Fine p (storeAll storeView (flat (mendStores p gs) (unsealed gs)) va)
-      go (loose-none e f) = subst (λ (l : List Store). Fine p (storeAll storeView l va)) (sym (ap (flat (mendStores p gs)) e ∙ flat-none (mendStores p gs)))
-          (subst (λ (u : View). Fine p u) (sym (stores-none va)) fine-none)
+      go : Loose p v → UsedGood p (storeAll storeView (flat (mendStores p gs) (unsealed gs)) va)
+      go (loose-none e f) = subst (λ (l : List Store). UsedGood p (storeAll storeView l va)) (sym (ap (flat (mendStores p gs)) e ∙ flat-none (mendStores p gs)))
+          (subst (λ (u : View). UsedGood p u) (sym (stores-none va)) fine-none)
       go (loose-one g hg kg ng us oth) =
-          subst (λ (l : List Store). Fine p (storeAll storeView l va))
+          subst (λ (l : List Store). UsedGood p (storeAll storeView l va))
           (sym (ap (flat (mendStores p gs)) us
           ∙ flat-cons (mendStores p gs) (segmentOf p v 0 g) []
           ∙ ap (λ (l : List Store). mendStores p gs (segmentOf p v 0 g) ++ l) (flat-none (mendStores p gs))
@@ -275,7 +275,7 @@ settled p r v sh acc c6 c8 =
     let va = storeAll storeView ds v in
     let md : Mended p va ts = mended p r v sh acc c6 c8 bd in
     let v2 = storeAll storeView ts va in
-    let fm : Fine p v2 = fine-mend p r v sh acc c6 c8 bd in
+    let fm : UsedGood p v2 = fine-mend p r v sh acc c6 c8 bd in
     let ev : storeAll storeView (ds ++ ts) v ≡ v2 = storeAll-append storeView ds ts v in
     let es : restartStores p 0 gs ≡ ds ++ ts = healthy-stores p gs in
     record {

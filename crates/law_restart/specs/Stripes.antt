@@ -11,7 +11,7 @@ use Rattle.spec.specs.declared.Params.{Params}
 use Rattle.law_basic.specs.Ranges.{and-both}
 use Rattle.law_drives.specs.Members.{none-in, in-none, in-getD, getD-in}
 use Rattle.law_drives.specs.Segs.{present-in, in-present, length-records, record-at, data-low, recs-here}
-use Rattle.law_drives.specs.Tests.{and-false-left, and-false-right, or-left, or-neither, eqb-self}
+use Rattle.law_drives.specs.Tests.{and-false-left, and-false-right, or-first, or-neither, eqb-self}
 use borrow.Author.Tests.{lt-ltb, ne-eqb}
 use lib.Dec.{leb, ltb, eqb}
 use lib.ListN.{length, getD}
@@ -48,8 +48,8 @@ fault-none p v gone g f =
 
 -- a zone that holds stripe o at offset o
 module _ (p : Params) (w : Bool) (q : Zone) (is : (o : ℕ) → o < dataStored p q → recordIn p w q o .stripe ≡ o) where
-  at! : (o : ℕ) → o < length (recordsIn p w q) → getD (recordsIn p w q) o (mkRec 0 0 0) .stripe ≡ o
-  at! o h =
+  record-own-stripe : (o : ℕ) → o < length (recordsIn p w q) → getD (recordsIn p w q) o (mkRec 0 0 0) .stripe ≡ o
+  record-own-stripe o h =
       let l : o < dataStored p q = subst (λ (n : ℕ). o < n) (length-records p w q) h in
       ap (λ (r : Rec). r .stripe) (record-at p w q o (mkRec 0 0 0) l) ∙ is o l
 
@@ -57,10 +57,10 @@ module _ (p : Params) (w : Bool) (q : Zone) (is : (o : ℕ) → o < dataStored p
   in-order = (
     outside-none p 0 (recordsIn p w q) (λ i h.
         let l : i < dataStored p q = subst (λ (n : ℕ). i < n) (length-records p w q) h in
-        ap₂ (inGroupOf p) (zero-add i) (at! i h) ∙ own i (data-low p q i l .0)),
+        ap₂ (inGroupOf p) (zero-add i) (record-own-stripe i h) ∙ own i (data-low p q i l .0)),
     twice-none (recordsIn p w q) (λ i j h l e.
-        let x = at! j l in
-        let y = at! i (omega arith) in
+        let x = record-own-stripe j l in
+        let y = record-own-stripe i (omega arith) in
         let bad : ⊥ = omega arith in bad),
   )
     where
@@ -76,7 +76,7 @@ badData p gone g = any (λ d. any (storedBad p d) (recsOn g d)) (present p gone)
 -- no fault of the addresses, so none of the stored ones
 pub data-none : (p : Params) (gone : ℕ) (g : Segment) → addressFault p gone g ≡ false → badData p gone g ≡ false
 unfolding addressFault badData
-data-none p gone g q = or-left (any (λ d. any (storedBad p d) (recsOn g d)) (present p gone)) (any (λ d. any (decodedBad p gone g d) (counted p gone g)) (absent p gone)) q
+data-none p gone g q = or-first (any (λ d. any (storedBad p d) (recsOn g d)) (present p gone)) (any (λ d. any (decodedBad p gone g d) (counted p gone g)) (absent p gone)) q
 
 -- what it takes, zone by zone
 pub bad-none :

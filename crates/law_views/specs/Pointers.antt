@@ -22,19 +22,19 @@ pub index-zone : (Z d z e y : ℕ) → z < Z → y < Z → d * Z + z ≡ e * Z +
 index-zone Z d z e y hz hy q = sym (digits-mod d hz) ∙ ap (λ (x : ℕ). x % Z) q ∙ digits-mod e hy
 
 module _ (p : Params) (ptrs : List ℕ) (d z n : ℕ) (hd : d < p .N) (hz : z < p .Z) (long : length ptrs ≡ pointersLen p) where
-  room : pointerByte p d z + length (toBe 4 n) ≤ length ptrs
-  room = omega (arith, pointer-within p d z hd hz, length-toBe 4 n, long)
+  pointer-bytes-fit : pointerByte p d z + length (toBe 4 n) ≤ length ptrs
+  pointer-bytes-fit = omega (arith, pointer-within p d z hd hz, length-toBe 4 n, long)
 
   pub length-setPointer : length (setPointer p ptrs d z n) ≡ length ptrs
   unfolding setPointer
-  length-setPointer = length-splice ptrs (pointerByte p d z) (toBe 4 n) room
+  length-setPointer = length-splice ptrs (pointerByte p d z) (toBe 4 n) pointer-bytes-fit
 
   -- the pointer that was set
   pub pointer-set : n < 256 ^ 4 → pointerOf p (setPointer p ptrs d z n) d z ≡ n
   unfolding pointerOf setPointer
   pointer-set h =
       ap (λ (x : ℕ). beOf (part (pointerByte p d z) x (splice ptrs (pointerByte p d z) (toBe 4 n)))) (sym (length-toBe 4 n))
-      ∙ ap beOf (part-splice ptrs (pointerByte p d z) (toBe 4 n) room) ∙ beOf-toBe 4 n h
+      ∙ ap beOf (part-splice ptrs (pointerByte p d z) (toBe 4 n) pointer-bytes-fit) ∙ beOf-toBe 4 n h
 
   -- and any other
   pub pointer-other : (e y : ℕ) → e < p .N → y < p .Z → (d * p .Z + z ≡ e * p .Z + y → ⊥) → pointerOf p (setPointer p ptrs d z n) e y ≡ pointerOf p ptrs e y
@@ -45,10 +45,10 @@ module _ (p : Params) (ptrs : List ℕ) (d z n : ℕ) (hd : d < p .N) (hz : z < 
       l = length-toBe 4 n
 
       go : Dec (e * p .Z + y < d * p .Z + z) → pointerOf p (setPointer p ptrs d z n) e y ≡ pointerOf p ptrs e y
-      go (yes h) = ap beOf (part-splice-below ptrs (pointerByte p d z) (toBe 4 n) room (pointerByte p e y) 4 (omega arith))
+      go (yes h) = ap beOf (part-splice-below ptrs (pointerByte p d z) (toBe 4 n) pointer-bytes-fit (pointerByte p e y) 4 (omega arith))
       go (no h) =
           let k : d * p .Z + z < e * p .Z + y = lt-of-le-ne (omega arith) q in
-          ap beOf (part-splice-above ptrs (pointerByte p d z) (toBe 4 n) room (pointerByte p e y) 4 (omega (arith, l))
+          ap beOf (part-splice-above ptrs (pointerByte p d z) (toBe 4 n) pointer-bytes-fit (pointerByte p e y) 4 (omega (arith, l))
           (omega (arith, pointer-within p e y he hy, long)))
 
   pub pointer-other-drive : (e y : ℕ) → e < p .N → y < p .Z → (d ≡ e → ⊥) → pointerOf p (setPointer p ptrs d z n) e y ≡ pointerOf p ptrs e y

@@ -17,7 +17,7 @@ use Rattle.spec.specs.Lists.{below, all, keep, pieces, zipped, isIn}
 use Rattle.spec.specs.Params.{spareLen, capacity, unitLen, zoneLen, driveLen, imageLen, pointersLen, placeOf, placeByte, drivesOf, present}
 use Rattle.spec.specs.declared.Params.{Params}
 use Rattle.law_basic.specs.Be.{length-toBe, beOf-toBe}
-use Rattle.law_basic.specs.Geometry.{item, block-within}
+use Rattle.law_basic.specs.Geometry.{item-fits, block-within}
 use Rattle.law_basic.specs.Ranges.{getD-map, map-set, all-below-same, keep-below-same, all-keep-same, length-pieces, getD-pieces, zipped-set, getD-zipped}
 use Rattle.law_basic.specs.Splice.{length-part, length-splice, part-add, part-part, splice-nil, splice-zero, splice-all, splice-cons-suc}
 
@@ -85,7 +85,7 @@ pieces-splice k (suc n) l (suc i) j s h g f =
     ∙ ap (λ (x : List (List ℕ)). take k l ∷ x) (pieces-splice k n (drop k l) i j s (omega arith) g r)
 
 pub length-piece : (k n : ℕ) (l : List ℕ) (i : ℕ) → i < n → n * k ≤ length l → length (getD (pieces k n l) i []) ≡ k
-length-piece k n l i h g = ap length (getD-pieces k n l i h) ∙ length-part (i * k) k l (le-trans (item i n k h) g)
+length-piece k n l i h g = ap length (getD-pieces k n l i h) ∙ length-part (i * k) k l (le-trans (item-fits i n k h) g)
 
 -- ---- a zone, a drive, the view
 
@@ -213,7 +213,7 @@ module _ (p : Params) (k : Disk) (d z : ℕ) (hd : d < p .N) (hz : z < p .Z) (w 
   pointer-of =
       let e : pointerByte p d z ≡ d * (4 * p .Z) + z * 4 = omega (arith, pointer-byte) in
       let b₁ : z * 4 + 4 ≤ 4 * p .Z = omega arith in
-      let b₂ : d * (4 * p .Z) + 4 * p .Z ≤ length (k .pointers) = le-trans (item d (p .N) (4 * p .Z) hd) long-ps in
+      let b₂ : d * (4 * p .Z) + 4 * p .Z ≤ length (k .pointers) = le-trans (item-fits d (p .N) (4 * p .Z) hd) long-ps in
       ap beOf (ap (λ (x : ℕ). part x 4 (k .pointers)) e ∙ sym (part-part (k .pointers) (d * (4 * p .Z)) (4 * p .Z) (z * 4) 4 b₁ b₂)
       ∙ ap (part (z * 4) 4) (sym (getD-pieces (4 * p .Z) (p .N) (k .pointers) d hd)) ∙ sym (getD-pieces 4 (p .Z) drivePs z hz))
 
@@ -227,11 +227,11 @@ module _ (p : Params) (k : Disk) (d z : ℕ) (hd : d < p .N) (hz : z < p .Z) (w 
 
   zone-fits : z * zoneLen p + zoneLen p ≤ driveLen p
   unfolding driveLen
-  zone-fits = item z (p .Z) (zoneLen p) hz
+  zone-fits = item-fits z (p .Z) (zoneLen p) hz
 
   unit-fits : (n : ℕ) → n < capacity p → n * unitLen p + unitLen p ≤ zoneLen p
   unfolding zoneLen
-  unit-fits n h = item n (capacity p) (unitLen p) h
+  unit-fits n h = item-fits n (capacity p) (unitLen p) h
 
   unit-long : (b s : List ℕ) → length b ≡ p .B → length s ≡ spareLen → length (b ++ s) ≡ unitLen p
   unfolding unitLen
@@ -264,17 +264,17 @@ module _ (p : Params) (k : Disk) (d z : ℕ) (hd : d < p .N) (hz : z < p .Z) (w 
       omega (arith, e₁, e₂, e₃, e₄)
 
   -- the zone's bytes as a part of the image
-  zone-bytes : zoneIm ≡ part (d * driveLen p + z * zoneLen p) (zoneLen p) (k .image)
-  zone-bytes =
-      let b : d * driveLen p + driveLen p ≤ length (k .image) = le-trans (item d (p .N) (driveLen p) hd) long-im in
+  zone-part : zoneIm ≡ part (d * driveLen p + z * zoneLen p) (zoneLen p) (k .image)
+  zone-part =
+      let b : d * driveLen p + driveLen p ≤ length (k .image) = le-trans (item-fits d (p .N) (driveLen p) hd) long-im in
       getD-pieces (zoneLen p) (p .Z) driveIm z hz ∙ ap (part (z * zoneLen p) (zoneLen p)) (getD-pieces (driveLen p) (p .N) (k .image) d hd)
       ∙ part-part (k .image) (d * driveLen p) (driveLen p) (z * zoneLen p) (zoneLen p) zone-fits b
 
   unit-bytes : (b : ℕ) → b < capacity p → part (b * unitLen p) (unitLen p) zoneIm ≡ part (placeByte p (placeOf p d z b)) (unitLen p) (k .image)
   unit-bytes b hb =
-      let g : d * driveLen p + z * zoneLen p + zoneLen p ≤ length (k .image) = omega (arith, zone-fits, item d (p .N) (driveLen p) hd, long-im) in
+      let g : d * driveLen p + z * zoneLen p + zoneLen p ≤ length (k .image) = omega (arith, zone-fits, item-fits d (p .N) (driveLen p) hd, long-im) in
       let e : d * driveLen p + z * zoneLen p + b * unitLen p ≡ placeByte p (placeOf p d z b) = omega (arith, block-byte b) in
-      ap (part (b * unitLen p) (unitLen p)) zone-bytes
+      ap (part (b * unitLen p) (unitLen p)) zone-part
       ∙ part-part (k .image) (d * driveLen p + z * zoneLen p) (zoneLen p) (b * unitLen p) (unitLen p) (unit-fits b hb) g
       ∙ ap (λ (x : ℕ). part x (unitLen p) (k .image)) e
 
@@ -340,7 +340,7 @@ module _ (p : Params) (k : Disk) (d z : ℕ) (hd : d < p .N) (hz : z < p .Z) (w 
   four-fits : (n : ℕ) → pointerByte p d z + length (toBe 4 n) ≤ length (k .pointers)
   four-fits n =
       let b : z * 4 + 4 ≤ 4 * p .Z = omega arith in
-      omega (arith, pointer-byte, length-toBe 4 n, item d (p .N) (4 * p .Z) hd, long-ps)
+      omega (arith, pointer-byte, length-toBe 4 n, item-fits d (p .N) (4 * p .Z) hd, long-ps)
 
   -- lengths stay
   pub whole-put : (b s : List ℕ) → pointerAt (viewOf p (k .image) (k .pointers)) d z < capacity p → length b ≡ p .B → length s ≡ spareLen → Whole p (storeDisk p (put d z b s) k)
@@ -349,7 +349,7 @@ module _ (p : Params) (k : Disk) (d z : ℕ) (hd : d < p .N) (hz : z < p .Z) (w 
       let n = pointerOf p (k .pointers) d z in
       let hn : n < capacity p = subst (λ (x : ℕ). x < capacity p) (pointer-at ∙ sym pointer-of) hp in
       let fit : placeByte p (placeOf p d z n) + length (b ++ s) ≤ length (k .image) =
-      omega (arith, block-byte n, unit-long b s hb hs, unit-fits n hn, zone-fits, item d (p .N) (driveLen p) hd, long-im) in
+      omega (arith, block-byte n, unit-long b s hb hs, unit-fits n hn, zone-fits, item-fits d (p .N) (driveLen p) hd, long-im) in
       record {
         image-long = length-splice (k .image) (placeByte p (placeOf p d z n)) (b ++ s) fit ∙ w .image-long;
         pointers-long = length-splice (k .pointers) (pointerByte p d z) (toBe 4 (suc n)) (four-fits (suc n)) ∙ w .pointers-long;

@@ -191,16 +191,16 @@ module _ (p : Params) (bs : List ℕ) (ok : inRange p ≡ true) where
   abbrev landed-in : ℕ → Bool
   landed-in i = ltb (getD (numbersAt 1 8 74 bs) i 0) (2 ^ p .N)
 
-  slots-apart : all (slotOk p said) slots ≡ (all stripe-in (below 8) && all filled-in (below 8) && all writes-in (below 8) && all landed-in (below 8))
+  slots-by-parts : all (slotOk p said) slots ≡ (all stripe-in (below 8) && all filled-in (below 8) && all writes-in (below 8) && all landed-in (below 8))
   unfolding slotOk stripeIn filledIn landedIn slots slotCount
-  slots-apart =
+  slots-by-parts =
       all-and (λ (i : ℕ). stripe-in i && filled-in i && writes-in i) landed-in (below 8)
       ∙ ap (λ (x : Bool). x && all landed-in (below 8)) (all-and (λ (i : ℕ). stripe-in i && filled-in i) writes-in (below 8)
       ∙ ap (λ (x : Bool). x && all writes-in (below 8)) (all-and stripe-in filled-in (below 8)))
 
-  slots-in : eqb (slotsPast p bs) 0 ≡ all (slotOk p said) slots
+  slots-past-none : eqb (slotsPast p bs) 0 ≡ all (slotOk p said) slots
   unfolding slotsPast
-  slots-in =
+  slots-past-none =
       let a = pastIn 4 8 26 (p .S) bs in
       let b = pastIn 1 8 58 (p .N) bs in
       let c = pastIn 1 8 66 (2 ^ dataCount p) bs in
@@ -210,7 +210,7 @@ module _ (p : Params) (bs : List ℕ) (ok : inRange p ≡ true) where
       ∙ all-below-same (λ (k : ℕ). ltb (getD (numbersAt 1 8 58 bs) k 0) (p .N)) filled-in 8 (λ k h. leb-ltb (getD (numbersAt 1 8 58 bs) k 0) (dataCount p) (p .N) most) in
       zero-sum (a + b + c) d
       ∙ ap₂ _&&_ (zero-sum (a + b) c ∙ ap₂ _&&_ (zero-sum a b ∙ ap₂ _&&_ (zero-numbers 4 8 26 (p .S) bs) eb) (zero-numbers 1 8 66 (2 ^ dataCount p) bs))
-      (zero-numbers 1 8 74 (2 ^ p .N) bs) ∙ sym slots-apart
+      (zero-numbers 1 8 74 (2 ^ p .N) bs) ∙ sym slots-by-parts
 
   front-in : eqb (frontPast p bs) 0
       ≡ (eqb (said .live) 1 && ltb (said .missing) (2 ^ p .N) && leb (ones (said .missing)) 1 && leb (said .opened) (p .Z) && leb (said .next) (p .S))
@@ -236,5 +236,5 @@ module _ (p : Params) (bs : List ℕ) (ok : inRange p ≡ true) where
   state-in =
       let f = frontPast p bs in
       let s = slotsPast p bs in
-      zero-sum (f + s) (pastIn 4 64 1106 (p .S) bs) ∙ ap₂ _&&_ (zero-sum f s ∙ ap₂ _&&_ front-in slots-in) (zero-elements 4 64 1106 (p .S) bs)
+      zero-sum (f + s) (pastIn 4 64 1106 (p .S) bs) ∙ ap₂ _&&_ (zero-sum f s ∙ ap₂ _&&_ front-in slots-past-none) (zero-elements 4 64 1106 (p .S) bs)
       ∙ sym (ap (stateOk p) (state-read bs))

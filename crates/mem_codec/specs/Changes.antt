@@ -12,10 +12,10 @@ use Rattle.spec.specs.Bytes.{toLe, splice}
 use Rattle.spec.specs.Lists.{flat, total, zipped}
 use Rattle.spec.specs.Memory.{mkState, slotCount, cell, idleState, zeroState, sectionLen, stateSections, stateLen, stateNumbers, sectionBytes, stateBytes, stateOf}
 use Rattle.spec.specs.declared.State.{State}
-use Rattle.law_basic.specs.Sections.{Counted, sectionsBytes}
+use Rattle.law_basic.specs.Sections.{SectionCounts, sectionsBytes}
 use Rattle.mem_codec.specs.Codec.{stateOf-counted, stateBytes-stateOf, AllBytes, byte-written}
-use Rattle.mem_codec.specs.Edits.{Edit, edit, AllFit, made, madeAll, writtenAll, edits-bytes, edits-counted}
-use Rattle.mem_rows.specs.Rows.{Sized, RowSized, one-set, putRow, putFront, changed, changed-row}
+use Rattle.mem_codec.specs.Edits.{Edit, edit, EditsFit, made, madeAll, writtenAll, edits-bytes, edits-counted}
+use Rattle.mem_rows.specs.Rows.{RowsSized, RowSized, one-set, putRow, putFront, changed, changed-row}
 use Rattle.mem_rows.specs.declared.Change.{Change}
 use Rattle.mem_rows.specs.declared.Row.{Row}
 
@@ -64,16 +64,16 @@ module _ (st : State) (c : Change) where
   unfolding madeAll made stateNumbers putFront splice
   counts-made = refl
 
-  counts-fit : AllFit stateSections (countEdits (c .stamp .0) (c .serial .0) (c .opened) (c .next))
+  counts-fit : EditsFit stateSections (countEdits (c .stamp .0) (c .serial .0) (c .opened) (c .next))
   unfolding stateSections
   counts-fit = ((lit< tt, lit≤ tt), ((lit< tt, lit≤ tt), ((lit< tt, lit≤ tt), ((lit< tt, lit≤ tt), tt))))
 
-module _ (st : State) (i : ℕ) (h : i < 8) (sized : Sized st) (r : Row) (z : RowSized r) where
-  marks-fit : AllFit stateSections (markEdits i (r .number) (r .filled) (r .writes) (r .landed))
+module _ (st : State) (i : ℕ) (h : i < 8) (sized : RowsSized st) (r : Row) (z : RowSized r) where
+  marks-fit : EditsFit stateSections (markEdits i (r .number) (r .filled) (r .writes) (r .landed))
   unfolding stateSections
   marks-fit = ((lit< tt, omega arith), ((lit< tt, omega arith), ((lit< tt, omega arith), ((lit< tt, omega arith), tt))))
 
-  cells-fit : AllFit stateSections (cellEdits i (r .addresses) (r .stamps) (r .offsets))
+  cells-fit : EditsFit stateSections (cellEdits i (r .addresses) (r .stamps) (r .offsets))
   unfolding stateSections
   cells-fit = ((lit< tt, omega (arith, z .addresses)), ((lit< tt, omega (arith, z .stamps)), ((lit< tt, omega (arith, z .offsets)), tt)))
 
@@ -89,10 +89,10 @@ module _ (st : State) (i : ℕ) (h : i < 8) (sized : Sized st) (r : Row) (z : Ro
       (at (st .addresses) (r .addresses) j) (at (st .stamps) (r .stamps) j) (at (st .offsets) (r .offsets) j))
 
 -- the state that bytes say has arrays of their lengths
-pub read-sized : (bs : List ℕ) → Sized (stateOf bs)
+pub read-sized : (bs : List ℕ) → RowsSized (stateOf bs)
 unfolding stateSections stateNumbers
 read-sized bs =
-    let q : Counted stateSections (stateNumbers (stateOf bs)) = stateOf-counted bs in
+    let q : SectionCounts stateSections (stateNumbers (stateOf bs)) = stateOf-counted bs in
     let q₆ = q .1 .1 .1 .1 .1 .1 in
     record {
       numbers = q₆ .0;
@@ -104,12 +104,12 @@ read-sized bs =
       offsets = q₆ .1 .1 .1 .1 .1 .1 .0;
     }
 
-state-counted : (st : State) → Sized st → Counted stateSections (stateNumbers st)
+state-counted : (st : State) → RowsSized st → SectionCounts stateSections (stateNumbers st)
 unfolding stateSections stateNumbers
 state-counted st z =
     (refl, (refl, (refl, (refl, (refl, (refl, (z .numbers, (z .filled, (z .writes, (z .landed, (z .addresses, (z .stamps, (z .offsets, tt)))))))))))))
 
-front-sized : (st : State) (c : Change) → Sized st → Sized (putFront st c)
+front-sized : (st : State) (c : Change) → RowsSized st → RowsSized (putFront st c)
 unfolding putFront
 front-sized st c z = record {
   numbers = z .numbers;
@@ -123,9 +123,9 @@ front-sized st c z = record {
 
 module _ (bs : List ℕ) (long : length bs ≡ stateLen) (bytes : AllBytes bs) (c : Change) (l : List ℕ)
     (counts : l ≡ writtenAll stateSections bs (countEdits (c .stamp .0) (c .serial .0) (c .opened) (c .next))) where
-  front-written : l ≡ sectionsBytes stateSections (stateNumbers (putFront (stateOf bs) c))
+  change-front-written : l ≡ sectionsBytes stateSections (stateNumbers (putFront (stateOf bs) c))
   unfolding stateBytes
-  front-written =
+  change-front-written =
       let es = countEdits (c .stamp .0) (c .serial .0) (c .opened) (c .next) in
       counts ∙ ap (λ (x : List ℕ). writtenAll stateSections x es) (sym (stateBytes-stateOf bs long bytes))
       ∙ edits-bytes stateSections (stateNumbers (stateOf bs)) es (counts-fit (stateOf bs) c) (stateOf-counted bs) ∙ ap (sectionsBytes stateSections) (counts-made (stateOf bs) c)
@@ -135,7 +135,7 @@ module _ (bs : List ℕ) (long : length bs ≡ stateLen) (bytes : AllBytes bs) (
   unfolding stateBytes changed slotCount
   change-front h =
       let st = putFront (stateOf bs) c in
-      front-written
+      change-front-written
       ∙ ap (λ (x : Bool). sectionsBytes stateSections (stateNumbers (cond x (putRow st (c .slot) (c .row)) st))) (sym (le-ltb (c .slot) 8 h))
 
   -- one changes
@@ -150,11 +150,11 @@ module _ (bs : List ℕ) (long : length bs ≡ stateLen) (bytes : AllBytes bs) (
       let r = c .row in
       let ms = markEdits i (r .number) (r .filled) (r .writes) (r .landed) in
       let cs = cellEdits i (r .addresses) (r .stamps) (r .offsets) in
-      let w : Sized st = front-sized (stateOf bs) c (read-sized bs) in
-      let n : Counted stateSections (stateNumbers st) = state-counted st w in
+      let w : RowsSized st = front-sized (stateOf bs) c (read-sized bs) in
+      let n : SectionCounts stateSections (stateNumbers st) = state-counted st w in
       let mf = marks-fit st i h w r z in
       f ∙ ap (λ (x : List ℕ). writtenAll stateSections x cs)
-      (e ∙ ap (λ (x : List ℕ). writtenAll stateSections x ms) front-written ∙ edits-bytes stateSections (stateNumbers st) ms mf n)
+      (e ∙ ap (λ (x : List ℕ). writtenAll stateSections x ms) change-front-written ∙ edits-bytes stateSections (stateNumbers st) ms mf n)
       ∙ edits-bytes stateSections (madeAll (stateNumbers st) ms) cs (cells-fit st i h w r z) (edits-counted stateSections (stateNumbers st) ms mf n)
       ∙ ap (sectionsBytes stateSections) (row-made st i h w r z)
       ∙ ap (λ (x : State). sectionsBytes stateSections (stateNumbers x)) (sym (changed-row (stateOf bs) c h))

@@ -14,7 +14,7 @@ use Rattle.spec.specs.Memory.{Section, section, stateSections, sectionLen, sect
 use Rattle.spec.specs.declared.State.{State}
 use Rattle.law_basic.specs.Le.{leOf-lt, toLe-leOf}
 use Rattle.law_basic.specs.Ranges.{map-below-snoc, getD-map-below, flat-snoc, length-flat}
-use Rattle.law_basic.specs.Sections.{length-numbersAt, Counted, Fitting, sectionsBytes, length-section, length-sections}
+use Rattle.law_basic.specs.Sections.{length-numbersAt, SectionCounts, Fitting, sectionsBytes, length-section, length-sections}
 use Rattle.law_basic.specs.Splice.{length-part, getD-part, part-zero, part-add, length-splice, part-all, splice-nil, splice-next, splice-all, wrote-one}
 use Rattle.law_basic.specs.Turns.{take-more}
 
@@ -108,7 +108,7 @@ putSections l at (s ∷ ss) [] = l
 putSections l at (s ∷ ss) (ns ∷ nss) = putSections (splice l at (sectionBytes s ns)) (at + sectionLen s) ss nss
 
 -- all of them at once
-pub sections-written : (l : List ℕ) (at : ℕ) (ss : List Section) (nss : List (List ℕ)) → Counted ss nss → at + total (map sectionLen ss) ≤ length l
+pub sections-written : (l : List ℕ) (at : ℕ) (ss : List Section) (nss : List (List ℕ)) → SectionCounts ss nss → at + total (map sectionLen ss) ≤ length l
     → putSections l at ss nss ≡ splice l at (sectionsBytes ss nss)
 unfolding putSections flat zipped total
 sections-written l at [] nss h g = sym (splice-nil l at)
@@ -133,17 +133,17 @@ section-one : (w n : ℕ) → sectionBytes (section w 1) (n ∷ []) ≡ toLe w n
 unfolding sectionBytes flat
 section-one w n = append-nil (toLe w n)
 
-pub front-written : (l : List ℕ) (live gone stamp serial opened next : ℕ) → live < 256 → gone < 256 → 26 ≤ length l
+pub state-front-written : (l : List ℕ) (live gone stamp serial opened next : ℕ) → live < 256 → gone < 256 → 26 ≤ length l
     → splice (splice (splice (splice (set (set l 0 live) 1 gone) 2 (toLe 8 stamp)) 10 (toLe 8 serial)) 18 (toLe 4 opened)) 22 (toLe 4 next)
     ≡ putSections l 0 (take 6 stateSections) (frontNumbers live gone stamp serial opened next)
 unfolding putSections stateSections sectionLen
-front-written l live gone stamp serial opened next h g f =
+state-front-written l live gone stamp serial opened next h g f =
     let k : 1 < length (set l 0 live) = simp length-set (omega arith) in
     simp section-one
     (ap (λ (x : List ℕ). splice (splice (splice (splice x 2 (toLe 8 stamp)) 10 (toLe 8 serial)) 18 (toLe 4 opened)) 22 (toLe 4 next))
     (byte-written (set l 0 live) 1 gone g k ∙ ap (λ (x : List ℕ). splice x 1 (toLe 1 gone)) (byte-written l 0 live h (omega arith))))
 
-pub state-written : (l : List ℕ) (st : State) → length l ≡ stateLen → Counted stateSections (stateNumbers st)
+pub state-written : (l : List ℕ) (st : State) → length l ≡ stateLen → SectionCounts stateSections (stateNumbers st)
     → putSections l 0 stateSections (stateNumbers st) ≡ stateBytes st
 unfolding stateBytes stateLen
 state-written l st h g =
@@ -191,7 +191,7 @@ sections-again (s ∷ ss) at bs f h =
     ∙ sym (part-add at (s .width * s .count) (total (map sectionLen ss)) bs)
 
 -- what is read has its counts and fits its widths
-sections-counted : (ss : List Section) (at : ℕ) (bs : List ℕ) → Counted ss (readSections ss at bs)
+sections-counted : (ss : List Section) (at : ℕ) (bs : List ℕ) → SectionCounts ss (readSections ss at bs)
 unfolding readSections
 sections-counted [] at bs = tt
 sections-counted (s ∷ ss) at bs = (length-numbersAt (s .width) (s .count) at bs, sections-counted ss (at + sectionLen s) bs)
@@ -215,8 +215,8 @@ numbers-read : (bs : List ℕ) → readSections stateSections 0 bs ≡ stateNumb
 unfolding readSections stateSections sectionLen stateNumbers stateOf numberOf sectionOf sectionAt total numbersAt below upFrom
 numbers-read bs = refl
 
-pub stateOf-counted : (bs : List ℕ) → Counted stateSections (stateNumbers (stateOf bs))
-stateOf-counted bs = subst (Counted stateSections) (numbers-read bs) (sections-counted stateSections 0 bs)
+pub stateOf-counted : (bs : List ℕ) → SectionCounts stateSections (stateNumbers (stateOf bs))
+stateOf-counted bs = subst (SectionCounts stateSections) (numbers-read bs) (sections-counted stateSections 0 bs)
 
 module _ (bs : List ℕ) (long : length bs ≡ stateLen) (bytes : AllBytes bs) where
   all-read : 0 + total (map sectionLen stateSections) ≤ length bs

@@ -13,7 +13,7 @@ use Rattle.spec.specs.Memory.{Section, section, sectionLen, sectionBytes}
 use Rattle.mem_codec.specs.Codec.{length-numbers}
 use Rattle.law_basic.specs.Le.{length-toLe}
 use Rattle.law_basic.specs.Ranges.{flat-append}
-use Rattle.law_basic.specs.Sections.{Counted, sectionsBytes, length-section}
+use Rattle.law_basic.specs.Sections.{SectionCounts, sectionsBytes, length-section}
 use Rattle.law_basic.specs.Splice.{length-splice, splice-cons-suc}
 
 -- ---- splices in lists put together
@@ -62,31 +62,31 @@ abbrev pub edit : ℕ → ℕ → List ℕ → Edit
 edit k j ms = record { part = k; from = j; numbers = ms }
 
 -- the section that an edit names
-abbrev pub named : List Section → Edit → Section
-named ss e = getD ss (e .part) (section 0 0)
+abbrev pub editSection : List Section → Edit → Section
+editSection ss e = getD ss (e .part) (section 0 0)
 
 -- it has so many numbers
-abbrev pub Fits : List Section → Edit → Type 0
-Fits ss e = (e .part < length ss) × (e .from + length (e .numbers) ≤ named ss e .count)
+abbrev pub EditFits : List Section → Edit → Type 0
+EditFits ss e = (e .part < length ss) × (e .from + length (e .numbers) ≤ editSection ss e .count)
 
 -- the edit made in the numbers
 unfoldable pub made : List (List ℕ) → Edit → List (List ℕ)
 made nss e = set nss (e .part) (splice (getD nss (e .part) []) (e .from) (e .numbers))
 
 -- and in the bytes
-unfoldable pub written : List Section → List ℕ → Edit → List ℕ
-written ss l e = splice l (total (map sectionLen (take (e .part) ss)) + named ss e .width * e .from) (flat (toLe (named ss e .width)) (e .numbers))
+unfoldable pub editWritten : List Section → List ℕ → Edit → List ℕ
+editWritten ss l e = splice l (total (map sectionLen (take (e .part) ss)) + editSection ss e .width * e .from) (flat (toLe (editSection ss e .width)) (e .numbers))
 
-made-counted : (ss : List Section) (nss : List (List ℕ)) (k j : ℕ) (ms : List ℕ) → Fits ss (edit k j ms) → Counted ss nss → Counted ss (made nss (edit k j ms))
+made-counted : (ss : List Section) (nss : List (List ℕ)) (k j : ℕ) (ms : List ℕ) → EditFits ss (edit k j ms) → SectionCounts ss nss → SectionCounts ss (made nss (edit k j ms))
 unfolding made
 made-counted [] nss k j ms f g = absurd (let q : ⊥ = omega (arith, f .0) in q)
 made-counted (s ∷ ss) [] k j ms f g = absurd g
 made-counted (s ∷ ss) (ns ∷ nss) zero j ms f g = (length-splice ns j ms (omega (arith, f .1, g .0)) ∙ g .0, g .1)
 made-counted (s ∷ ss) (ns ∷ nss) (suc k) j ms f g = (g .0, made-counted ss nss k j ms (omega (arith, f .0), f .1) (g .1))
 
-edit-bytes : (ss : List Section) (nss : List (List ℕ)) (k j : ℕ) (ms : List ℕ) → Fits ss (edit k j ms) → Counted ss nss
-    → written ss (sectionsBytes ss nss) (edit k j ms) ≡ sectionsBytes ss (made nss (edit k j ms))
-unfolding made written flat zipped total sectionBytes
+edit-bytes : (ss : List Section) (nss : List (List ℕ)) (k j : ℕ) (ms : List ℕ) → EditFits ss (edit k j ms) → SectionCounts ss nss
+    → editWritten ss (sectionsBytes ss nss) (edit k j ms) ≡ sectionsBytes ss (made nss (edit k j ms))
+unfolding made editWritten flat zipped total sectionBytes
 edit-bytes [] nss k j ms f g = absurd (let q : ⊥ = omega (arith, f .0) in q)
 edit-bytes (s ∷ ss) [] k j ms f g = absurd g
 edit-bytes (s ∷ ss) (ns ∷ nss) zero j ms f g =
@@ -108,9 +108,9 @@ edit-bytes (s ∷ ss) (ns ∷ nss) (suc k) j ms f g =
 
 -- ---- edits one after the other
 
-abbrev pub AllFit : List Section → List Edit → Type 0
-AllFit ss [] = Unit {0}
-AllFit ss (e ∷ es) = Fits ss e × AllFit ss es
+abbrev pub EditsFit : List Section → List Edit → Type 0
+EditsFit ss [] = Unit {0}
+EditsFit ss (e ∷ es) = EditFits ss e × EditsFit ss es
 
 unfoldable pub madeAll : List (List ℕ) → List Edit → List (List ℕ)
 madeAll nss [] = nss
@@ -118,9 +118,9 @@ madeAll nss (e ∷ es) = madeAll (made nss e) es
 
 unfoldable pub writtenAll : List Section → List ℕ → List Edit → List ℕ
 writtenAll ss l [] = l
-writtenAll ss l (e ∷ es) = writtenAll ss (written ss l e) es
+writtenAll ss l (e ∷ es) = writtenAll ss (editWritten ss l e) es
 
-pub edits-bytes : (ss : List Section) (nss : List (List ℕ)) (es : List Edit) → AllFit ss es → Counted ss nss
+pub edits-bytes : (ss : List Section) (nss : List (List ℕ)) (es : List Edit) → EditsFit ss es → SectionCounts ss nss
     → writtenAll ss (sectionsBytes ss nss) es ≡ sectionsBytes ss (madeAll nss es)
 unfolding writtenAll madeAll
 edits-bytes ss nss [] f g = refl
@@ -128,7 +128,7 @@ edits-bytes ss nss (e ∷ es) f g =
     ap (λ (x : List ℕ). writtenAll ss x es) (edit-bytes ss nss (e .part) (e .from) (e .numbers) (f .0) g)
     ∙ edits-bytes ss (made nss e) es (f .1) (made-counted ss nss (e .part) (e .from) (e .numbers) (f .0) g)
 
-pub edits-counted : (ss : List Section) (nss : List (List ℕ)) (es : List Edit) → AllFit ss es → Counted ss nss → Counted ss (madeAll nss es)
+pub edits-counted : (ss : List Section) (nss : List (List ℕ)) (es : List Edit) → EditsFit ss es → SectionCounts ss nss → SectionCounts ss (madeAll nss es)
 unfolding madeAll
 edits-counted ss nss [] f g = g
 edits-counted ss nss (e ∷ es) f g = edits-counted ss (made nss e) es (f .1) (made-counted ss nss (e .part) (e .from) (e .numbers) (f .0) g)

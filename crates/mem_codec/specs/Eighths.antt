@@ -14,7 +14,7 @@ use Rattle.spec.specs.Memory.{cell, numbersAt, stateOf, stripeIn, filledIn, lan
 use Rattle.spec.specs.declared.State.{State}
 use Rattle.law_basic.specs.Ranges.{getD-map-below}
 use Rattle.law_basic.specs.Splice.{getD-part, length-part}
-use Rattle.mem_rows.specs.Rows.{rowOf}
+use Rattle.mem_rows.specs.Rows.{slotRow}
 use Rattle.mem_rows.specs.declared.Row.{Row}
 
 -- number i of a section
@@ -42,8 +42,8 @@ eighth-at w at start i bs h e =
 pub row-read : (bs : List ℕ) (i : ℕ) (r : Row) → i < 8
     → r .number ≡ leOf (part (26 + 4 * i) 4 bs) → r .filled ≡ leOf (part (58 + i) 1 bs) → r .writes ≡ leOf (part (66 + i) 1 bs) → r .landed ≡ leOf (part (74 + i) 1 bs)
     → r .addresses ≡ numbersAt 8 8 (82 + 64 * i) bs → r .stamps ≡ numbersAt 8 8 (594 + 64 * i) bs → r .offsets ≡ numbersAt 4 8 (1106 + 32 * i) bs
-    → r ≡ rowOf (stateOf bs) i
-unfolding rowOf stripeIn filledIn landedIn cell
+    → r ≡ slotRow (stateOf bs) i
+unfolding slotRow stripeIn filledIn landedIn cell
 row-read bs i r h n f w l a t o =
     let e : (at : ℕ) → at + i ≡ at + 1 * i = λ at. omega arith in
     let one : (at : ℕ) → leOf (part (at + i) 1 bs) ≡ getD (numbersAt 1 8 at bs) i 0 = λ at. ap (λ (x : ℕ). leOf (part x 1 bs)) (e at) ∙ sym (number-at 1 8 at i bs h) in
@@ -55,4 +55,4 @@ row-read bs i r h n f w l a t o =
     let t′ = t ∙ eighth-at 8 594 (594 + 64 * i) i bs h (omega arith) in
     let o′ = o ∙ eighth-at 4 1106 (1106 + 32 * i) i bs h (omega arith) in
     (λ j. record { number = n′ j; filled = f′ j; writes = w′ j; landed = l′ j; addresses = a′ j; stamps = t′ j; offsets = o′ j })
-    ∙ ap (λ (x : State). rowOf x i) (sym (state-read bs))
+    ∙ ap (λ (x : State). slotRow x i) (sym (state-read bs))

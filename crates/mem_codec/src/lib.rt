@@ -8,7 +8,7 @@ ghost use Rattle.spec.specs.Memory.{stateSections, numbersAt, stateLen, stateOf
 ghost use Rattle.mem_codec.specs.Changes.{countEdits, markEdits, cellEdits};
 ghost use Rattle.mem_codec.specs.Codec.{putSections, frontNumbers};
 ghost use Rattle.mem_codec.specs.Edits.{writtenAll};
-ghost use Rattle.mem_rows.specs.Rows.{rowOf, changed};
+ghost use Rattle.mem_rows.specs.Rows.{slotRow, changed};
 use mem_rows::Change;
 use mem_rows::Row;
 use spec::Serial;
@@ -175,7 +175,7 @@ pub fn decode(bytes: &[u8]) -> State
 // Eighth i of the state that the bytes say.
 pub fn row_at(bytes: &[u8], i: usize) -> Row
     requires { ⌜ (length (now bytes) ≡ stateLen) × (i < 8) ⌝ }
-    ensures { λ r. ⌜ r ≡ rowOf (stateOf (now (bytes .entry))) i ⌝ }
+    ensures { λ r. ⌜ r ≡ slotRow (stateOf (now (bytes .entry))) i ⌝ }
 {
     let addresses = longs_at(bytes, 82 + 64 * i);
     let stamps = longs_at(bytes, 594 + 64 * i);

@@ -39,6 +39,6 @@ module _ (p : Params) (gone : ℕ) (tb : List ℕ) (a q : ℕ) (e : q ≡ placeA
   found-here h g = sym (looked ∙ λ j. cond (ne-eqb q neverPlace h j) nowhere (cond (g j) (away q) (here q)))
 
 -- the entry of an address lies within the table
-pub entry-within : (p : Params) (tb : List ℕ) (a : ℕ) → length tb ≡ addressesLen p → a < p .L → 4 * a + 4 ≤ length tb
+pub place-entry-within : (p : Params) (tb : List ℕ) (a : ℕ) → length tb ≡ addressesLen p → a < p .L → 4 * a + 4 ≤ length tb
 unfolding addressesLen
-entry-within p tb a e h = omega (arith, e)
+place-entry-within p tb a e h = omega (arith, e)

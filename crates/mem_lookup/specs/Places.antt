@@ -40,9 +40,9 @@ module _ (p : Params) (im ps : List ℕ) (gone q : ℕ) (h : length im ≡ image
     pub fault-bad : isBad p (pointerOf p ps d z) gone d b ≡ true → placeFaults p (viewOf p im ps) gone q ≡ consIf (ltb z (p .Z)) z []
     fault-bad e = fault-within ∙ ap (λ (x : Bool). consIf x z []) (e ∙ sym (lt-ltb z (p .Z) hz))
 
-    pub fault-none : isBad p (pointerOf p ps d z) gone d b ≡ false → placeFaults p (viewOf p im ps) gone q ≡ consIf (ltb (p .Z) (p .Z)) (p .Z) []
+    pub place-fault-none : isBad p (pointerOf p ps d z) gone d b ≡ false → placeFaults p (viewOf p im ps) gone q ≡ consIf (ltb (p .Z) (p .Z)) (p .Z) []
     unfolding consIf
-    fault-none e =
+    place-fault-none e =
         fault-within ∙ ap (λ (x : Bool). consIf x z []) e ∙ sym (ap (λ (x : Bool). consIf x (p .Z) []) (le-ltb (p .Z) (p .Z) (omega arith)))
 
 -- the test by its parts

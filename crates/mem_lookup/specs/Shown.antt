@@ -73,11 +73,11 @@ module _ (p : Params) (n : ℕ) (cs : List ℕ) (d z s end m : ℕ) (below! : (o
   and-three true false c x e = absurd (let q : _≡_ {A = ℕ} 0 1 = cc in let w : ⊥ = omega arith in w)
   and-three false b c x e = absurd (let q : _≡_ {A = ℕ} 0 1 = cc in let w : ⊥ = omega arith in w)
 
-  and-none : (a b c x : Bool) → a ≡ true → (a && b && c) ≡ false → (b && (c && x)) ≡ false
-  and-none true true true x t e = absurd (let q : _≡_ {A = ℕ} 0 1 = cc in let w : ⊥ = omega arith in w)
-  and-none true true false x t e = refl
-  and-none true false c x t e = refl
-  and-none false b c x t e = absurd (let q : _≡_ {A = ℕ} 0 1 = cc in let w : ⊥ = omega arith in w)
+  and-skip : (a b c x : Bool) → a ≡ true → (a && b && c) ≡ false → (b && (c && x)) ≡ false
+  and-skip true true true x t e = absurd (let q : _≡_ {A = ℕ} 0 1 = cc in let w : ⊥ = omega arith in w)
+  and-skip true true false x t e = refl
+  and-skip true false c x t e = refl
+  and-skip false b c x t e = absurd (let q : _≡_ {A = ℕ} 0 1 = cc in let w : ⊥ = omega arith in w)
 
   pub shows-entry : o < end → shows p n cs d z s o ≡ eqb (getD cs (compactAt p d z o) 0) (compactEntry p s)
   unfolding shows
@@ -87,7 +87,7 @@ module _ (p : Params) (n : ℕ) (cs : List ℕ) (d z s end m : ℕ) (below! : (o
   pub shows-past : end ≤ o → o < m → shows p n cs d z s o ≡ false
   unfolding shows
   shows-past h g =
-      and-none (ltb o m) (ltb o (p .S)) (ltb (1 + o) n) (eqb (getD cs (compactAt p d z o) 0) (compactEntry p s)) (lt-ltb o m g) (sym (below! o) ∙ le-ltb o end h)
+      and-skip (ltb o m) (ltb o (p .S)) (ltb (1 + o) n) (eqb (getD cs (compactAt p d z o) 0) (compactEntry p s)) (lt-ltb o m g) (sym (below! o) ∙ le-ltb o end h)
 
 -- nothing lies below pointer 0
 pub none-below : (a b n o : ℕ) → n ≡ 0 → ltb o 0 ≡ (ltb o a && ltb o b && ltb (1 + o) n)
@@ -122,6 +122,6 @@ unfolding compactAt
 row-entry p d z o row e = omega (arith, e)
 
 -- the group's first offset
-pub first-low : (p : Params) (s : ℕ) → group p s * p .G ≤ s
+pub group-first-low : (p : Params) (s : ℕ) → group p s * p .G ≤ s
 unfolding group
-first-low p s = omega (arith, div-add-mod' s (p .G))
+group-first-low p s = omega (arith, div-add-mod' s (p .G))

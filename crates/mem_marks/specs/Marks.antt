@@ -21,8 +21,8 @@ use Rattle.law_basic.specs.Ranges.Test.{yes!, no! }
 use Rattle.mem_tables.specs.Tables.{isWithin}
 
 -- number k is marked
-unfoldable pub marked : List ℕ → ℕ → Bool
-marked ms k = isIn (getD ms (k / 8) 0) (k % 8)
+unfoldable pub isMarked : List ℕ → ℕ → Bool
+isMarked ms k = isIn (getD ms (k / 8) 0) (k % 8)
 
 -- one more number marked
 unfoldable pub withMark : List ℕ → ℕ → List ℕ
@@ -34,13 +34,13 @@ isPointed tb n q = any (λ a. eqb q (placeAt tb a)) (below n)
 
 -- of the places from first up to end, counted from first, just those are marked that one of the first n addresses has
 abbrev pub Marks : List ℕ → ℕ → List ℕ → ℕ → ℕ → Type 0
-Marks tb n ms first end = (q : ℕ) → first ≤ q → q < end → marked ms (q - first) ≡ isPointed tb n q
+Marks tb n ms first end = (q : ℕ) → first ≤ q → q < end → isMarked ms (q - first) ≡ isPointed tb n q
 
 -- ---- one more marked
 
 -- two numbers are equal just if their bytes and their bits are
-pub marked-with : (ms : List ℕ) (k j : ℕ) → k / 8 < length ms → marked (withMark ms k) j ≡ (eqb j k || marked ms j)
-unfolding marked withMark
+pub marked-with : (ms : List ℕ) (k j : ℕ) → k / 8 < length ms → isMarked (withMark ms k) j ≡ (eqb j k || isMarked ms j)
+unfolding isMarked withMark
 marked-with ms k j h = go (test (eqb (j / 8) (k / 8)))
   where
     new : ℕ
@@ -66,8 +66,8 @@ marked-with ms k j h = go (test (eqb (j / 8) (k / 8)))
         ∙ ap (λ (x : Bool). x || isIn (getD ms (j / 8) 0) (j % 8)) (sym (ne-eqb j k (λ e. n (ap (λ (x : ℕ). x / 8) e))))
 
 -- nothing is marked in zeros
-pub marked-none : (n k : ℕ) → marked (replicate n 0) k ≡ false
-unfolding marked
+pub marked-none : (n k : ℕ) → isMarked (replicate n 0) k ≡ false
+unfolding isMarked
 marked-none n k = go (decLt (k / 8) n)
   where
     go : Dec (k / 8 < n) → isIn (getD (replicate n 0) (k / 8) 0) (k % 8) ≡ false
@@ -76,9 +76,9 @@ marked-none n k = go (decLt (k / 8) n)
 
 -- ---- the places of the table, one address after the other
 
-pub pointed-none : (tb : List ℕ) (q : ℕ) → isPointed tb 0 q ≡ false
+pub no-pointed : (tb : List ℕ) (q : ℕ) → isPointed tb 0 q ≡ false
 unfolding isPointed below upFrom any
-pointed-none tb q = refl
+no-pointed tb q = refl
 
 pub pointed-more : (tb : List ℕ) (n q : ℕ) → isPointed tb (n + 1) q ≡ (isPointed tb n q || eqb q (placeAt tb n))
 unfolding isPointed
@@ -102,16 +102,16 @@ within-above first end t h = ap (λ (x : Bool). leb first t && x) (le-ltb t end 
 
 -- one address more: what was so before, or this place
 pub turned : (tb : List ℕ) (n : ℕ) (ms₀ ms ms′ : List ℕ) (first end : ℕ) → end - first ≤ 8 * length ms
-    → ((q : ℕ) → first ≤ q → q < end → marked ms (q - first) ≡ (isPointed tb n q || marked ms₀ (q - first)))
+    → ((q : ℕ) → first ≤ q → q < end → isMarked ms (q - first) ≡ (isPointed tb n q || isMarked ms₀ (q - first)))
     → ms′ ≡ cond (isWithin first end (placeAt tb n)) (withMark ms (placeAt tb n - first)) ms
-    → (q : ℕ) → first ≤ q → q < end → marked ms′ (q - first) ≡ (isPointed tb (n + 1) q || marked ms₀ (q - first))
+    → (q : ℕ) → first ≤ q → q < end → isMarked ms′ (q - first) ≡ (isPointed tb (n + 1) q || isMarked ms₀ (q - first))
 turned tb n ms₀ ms ms′ first end fits so e q low high = go (decLe first t) (decLt t end)
   where
     t : ℕ
     t = placeAt tb n
 
-    more : (b : Bool) → eqb q t ≡ b → (b || (isPointed tb n q || marked ms₀ (q - first))) ≡ (isPointed tb (n + 1) q || marked ms₀ (q - first))
-    more b f = swap b (isPointed tb n q) (marked ms₀ (q - first)) ∙ ap (λ (x : Bool). x || marked ms₀ (q - first)) (ap (λ (x : Bool). isPointed tb n q || x) (sym f) ∙ sym (pointed-more tb n q))
+    more : (b : Bool) → eqb q t ≡ b → (b || (isPointed tb n q || isMarked ms₀ (q - first))) ≡ (isPointed tb (n + 1) q || isMarked ms₀ (q - first))
+    more b f = swap b (isPointed tb n q) (isMarked ms₀ (q - first)) ∙ ap (λ (x : Bool). x || isMarked ms₀ (q - first)) (ap (λ (x : Bool). isPointed tb n q || x) (sym f) ∙ sym (pointed-more tb n q))
       where
         swap : (x y z : Bool) → (x || (y || z)) ≡ ((y || x) || z)
         swap true true z = refl
@@ -119,20 +119,20 @@ turned tb n ms₀ ms ms′ first end fits so e q low high = go (decLe first t) (
         swap false true z = refl
         swap false false z = refl
 
-    out : (t < first) ⊎ (end ≤ t) → marked ms′ (q - first) ≡ (isPointed tb (n + 1) q || marked ms₀ (q - first))
+    out : (t < first) ⊎ (end ≤ t) → isMarked ms′ (q - first) ≡ (isPointed tb (n + 1) q || isMarked ms₀ (q - first))
     out (inl h) =
         let f : isWithin first end t ≡ false = simp (lt-leb first t h) in
-        ap (λ (x : List ℕ). marked x (q - first)) (e ∙ ap (λ (x : Bool). cond x (withMark ms (t - first)) ms) f) ∙ so q low high ∙ more false (ne-eqb q t (λ g. omega (arith, g)))
+        ap (λ (x : List ℕ). isMarked x (q - first)) (e ∙ ap (λ (x : Bool). cond x (withMark ms (t - first)) ms) f) ∙ so q low high ∙ more false (ne-eqb q t (λ g. omega (arith, g)))
     out (inr h) =
         let f : isWithin first end t ≡ false = within-above first end t h in
-        ap (λ (x : List ℕ). marked x (q - first)) (e ∙ ap (λ (x : Bool). cond x (withMark ms (t - first)) ms) f) ∙ so q low high ∙ more false (ne-eqb q t (λ g. omega (arith, g)))
+        ap (λ (x : List ℕ). isMarked x (q - first)) (e ∙ ap (λ (x : Bool). cond x (withMark ms (t - first)) ms) f) ∙ so q low high ∙ more false (ne-eqb q t (λ g. omega (arith, g)))
 
-    go : Dec (first ≤ t) → Dec (t < end) → marked ms′ (q - first) ≡ (isPointed tb (n + 1) q || marked ms₀ (q - first))
+    go : Dec (first ≤ t) → Dec (t < end) → isMarked ms′ (q - first) ≡ (isPointed tb (n + 1) q || isMarked ms₀ (q - first))
     go (no h) d = out (inl (omega arith))
     go (yes h) (no g) = out (inr (omega arith))
     go (yes h) (yes g) =
         let f : isWithin first end t ≡ true = simp (le-leb first t h, lt-ltb t end g) in
-        ap (λ (x : List ℕ). marked x (q - first)) (e ∙ ap (λ (x : Bool). cond x (withMark ms (t - first)) ms) f)
+        ap (λ (x : List ℕ). isMarked x (q - first)) (e ∙ ap (λ (x : Bool). cond x (withMark ms (t - first)) ms) f)
         ∙ marked-with ms (t - first) (q - first) (omega arith)
         ∙ (λ i. shift i || so q low high i)
         ∙ more (eqb q t) refl
@@ -170,10 +170,10 @@ byte-ones : (m : ℕ) → m < 256 → length (keep (isIn m) (below 8)) ≡ ones 
 unfolding isIn powers all below upFrom keep consIf ones
 byte-ones m h = eqb-true (length (keep (isIn m) (below 8))) (ones m) (all-in-below (λ k. eqb (length (keep (isIn k) (below 8))) (ones k)) 256 m refl h)
 
-pub marked-byte : (ms : List ℕ) (i : ℕ) → getD ms i 0 < 256 → length (keep (marked ms) (upFrom (8 * i) 8)) ≡ ones (getD ms i 0)
-unfolding marked below
+pub marked-byte : (ms : List ℕ) (i : ℕ) → getD ms i 0 < 256 → length (keep (isMarked ms) (upFrom (8 * i) 8)) ≡ ones (getD ms i 0)
+unfolding isMarked below
 marked-byte ms i h =
-    shifted (marked ms) (isIn (getD ms i 0)) (8 * i) 0 8 (λ k l.
+    shifted (isMarked ms) (isIn (getD ms i 0)) (8 * i) 0 8 (λ k l.
     let a : (8 * i + k) / 8 ≡ i = omega arith in
     let b : (8 * i + k) % 8 ≡ k = omega arith in
     let c : 0 + k ≡ k = omega arith in
@@ -195,20 +195,20 @@ unfolding keep upFrom
 kept-nothing f a = let e : a - a ≡ 0 = omega arith in ap (λ (x : ℕ). length (keep f (upFrom a x))) e
 
 -- one byte more
-pub byte-more : (ms : List ℕ) (a i n : ℕ) → a ≤ i → getD ms i 0 < 256 → n ≡ length (keep (marked ms) (upFrom (8 * a) (8 * i - 8 * a)))
-    → n + ones (getD ms i 0) ≡ length (keep (marked ms) (upFrom (8 * a) (8 * (i + 1) - 8 * a)))
+pub byte-more : (ms : List ℕ) (a i n : ℕ) → a ≤ i → getD ms i 0 < 256 → n ≡ length (keep (isMarked ms) (upFrom (8 * a) (8 * i - 8 * a)))
+    → n + ones (getD ms i 0) ≡ length (keep (isMarked ms) (upFrom (8 * a) (8 * (i + 1) - 8 * a)))
 byte-more ms a i n h low e =
     let f : 8 * (i + 1) - 8 * i ≡ 8 = omega arith in
-    let g : length (keep (marked ms) (upFrom (8 * i) (8 * (i + 1) - 8 * i))) ≡ ones (getD ms i 0) = ap (λ (x : ℕ). length (keep (marked ms) (upFrom (8 * i) x))) f ∙ marked-byte ms i low in
-    omega (arith, e, g, kept-split (marked ms) (8 * a) (8 * i) (8 * (i + 1)) (omega arith) (omega arith))
+    let g : length (keep (isMarked ms) (upFrom (8 * i) (8 * (i + 1) - 8 * i))) ≡ ones (getD ms i 0) = ap (λ (x : ℕ). length (keep (isMarked ms) (upFrom (8 * i) x))) f ∙ marked-byte ms i low in
+    omega (arith, e, g, kept-split (isMarked ms) (8 * a) (8 * i) (8 * (i + 1)) (omega arith) (omega arith))
 
 -- a byte without marks
-pub byte-empty : (ms : List ℕ) (k j : ℕ) → k % 8 ≡ 0 → k ≤ j → j < k + 8 → getD ms (k / 8) 0 ≡ 0 → marked ms j ≡ false
-unfolding marked
+pub byte-empty : (ms : List ℕ) (k j : ℕ) → k % 8 ≡ 0 → k ≤ j → j < k + 8 → getD ms (k / 8) 0 ≡ 0 → isMarked ms j ≡ false
+unfolding isMarked
 byte-empty ms k j e low high z =
     let a : j / 8 ≡ k / 8 = omega arith in
     ap (λ (x : ℕ). isIn (getD ms x 0) (j % 8)) a ∙ ap (λ (x : ℕ). isIn x (j % 8)) z ∙ isIn-empty (j % 8)
 
 -- one number
-pub alone : (ms : List ℕ) (k j : ℕ) → marked ms k ≡ false → k ≤ j → j < k + 1 → marked ms j ≡ false
-alone ms k j e low high = let q : j ≡ k = omega arith in ap (marked ms) q ∙ e
+pub unmarked-one : (ms : List ℕ) (k j : ℕ) → isMarked ms k ≡ false → k ≤ j → j < k + 1 → isMarked ms j ≡ false
+unmarked-one ms k j e low high = let q : j ≡ k = omega arith in ap (isMarked ms) q ∙ e

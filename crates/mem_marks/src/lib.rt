@@ -5,7 +5,7 @@ ghost use Prim.Native.Nat.{ℕ, _+_, _-_, _*_, _/_, _≤_, _<_};
 ghost use lib.ListN.{length};
 ghost use mir.Val.{boolByte};
 ghost use Rattle.spec.specs.Lists.{upFrom, keep};
-ghost use Rattle.mem_marks.specs.Marks.{marked, withMark, isPointed, Marks};
+ghost use Rattle.mem_marks.specs.Marks.{isMarked, withMark, isPointed, Marks};
 ghost use Rattle.mem_tables.specs.Tables.{isWithin, countPlaces};
 use spec::Place;
 
@@ -22,7 +22,7 @@ fn add_mark(marks: &mut [u8], k: usize)
 // Whether number k is marked.
 pub fn is_marked(marks: &[u8], k: usize) -> bool
     requires { ⌜ k / 8 < length (now marks) ⌝ }
-    ensures { λ r. ⌜ r ≡ marked (now (marks .entry)) k ⌝ }
+    ensures { λ r. ⌜ r ≡ isMarked (now (marks .entry)) k ⌝ }
 {
     let m = marks[k / 8];
     bits_masks::has_drive(m, k % 8)
@@ -53,7 +53,7 @@ fn mark_place(marks: &mut [u8], first: usize, end: usize, q: usize) -> usize
 // Marks the places of the first n addresses; how many of these have one at end or above.
 fn mark_places(addresses: &[u8], n: usize, marks: &mut [u8], first: usize, end: usize) -> usize
     requires { ⌜ (4 * n ≤ length (now addresses)) × (first ≤ end) × (end - first ≤ 8 * length (now marks)) ⌝ }
-    ensures { λ _. ⌜ ((q : ℕ) → first ≤ q → q < end → marked (now (marks .exit)) (q - first) ≡ (isPointed (now (addresses .entry)) n q || marked (now (marks .entry)) (q - first))) ⌝ }
+    ensures { λ _. ⌜ ((q : ℕ) → first ≤ q → q < end → isMarked (now (marks .exit)) (q - first) ≡ (isPointed (now (addresses .entry)) n q || isMarked (now (marks .entry)) (q - first))) ⌝ }
     ensures { λ r. ⌜ r ≡ countPlaces (now (addresses .entry)) n end 4294967295 ⌝ }
 {
     let mut k = 0;
@@ -81,7 +81,7 @@ pub fn mark_window(addresses: &[u8], n: usize, marks: &mut [u8], first: usize, e
 // Number by number, from lo up to hi.
 fn count_few(marks: &[u8], lo: usize, hi: usize) -> usize
     requires { ⌜ (lo ≤ hi) × (hi ≤ 8 * length (now marks)) ⌝ }
-    ensures { λ r. ⌜ (r ≡ length (keep (marked (now (marks .entry))) (upFrom lo (hi - lo)))) × (r ≤ hi - lo) ⌝ }
+    ensures { λ r. ⌜ (r ≡ length (keep (isMarked (now (marks .entry))) (upFrom lo (hi - lo)))) × (r ≤ hi - lo) ⌝ }
 {
     let mut n = 0;
     let mut k = lo;
@@ -97,7 +97,7 @@ fn count_few(marks: &[u8], lo: usize, hi: usize) -> usize
 // Byte by byte, from byte a up to byte b.
 fn count_bytes(marks: &[u8], a: usize, b: usize) -> usize
     requires { ⌜ (a ≤ b) × (b ≤ length (now marks)) × (8 * b < 18446744073709551616) ⌝ }
-    ensures { λ r. ⌜ (r ≡ length (keep (marked (now (marks .entry))) (upFrom (8 * a) (8 * b - 8 * a)))) × (r ≤ 8 * b - 8 * a) ⌝ }
+    ensures { λ r. ⌜ (r ≡ length (keep (isMarked (now (marks .entry))) (upFrom (8 * a) (8 * b - 8 * a)))) × (r ≤ 8 * b - 8 * a) ⌝ }
 {
     let mut n = 0;
     let mut i = a;
@@ -112,7 +112,7 @@ fn count_bytes(marks: &[u8], a: usize, b: usize) -> usize
 // How many numbers from lo up to hi are marked.
 pub fn count_marks(marks: &[u8], lo: usize, hi: usize) -> usize
     requires { ⌜ (lo ≤ hi) × (hi ≤ 8 * length (now marks)) × (hi < 4294967296) ⌝ }
-    ensures { λ r. ⌜ (r ≡ length (keep (marked (now (marks .entry))) (upFrom lo (hi - lo)))) × (r ≤ hi - lo) ⌝ }
+    ensures { λ r. ⌜ (r ≡ length (keep (isMarked (now (marks .entry))) (upFrom lo (hi - lo)))) × (r ≤ hi - lo) ⌝ }
 {
     let a = (lo + 7) / 8;
     let b = hi / 8;
@@ -129,8 +129,8 @@ pub fn count_marks(marks: &[u8], lo: usize, hi: usize) -> usize
 
 // How far to go on from k, which is not marked: over a byte without marks at once.
 fn step_over(marks: &[u8], k: usize, end: usize) -> usize
-    requires { ⌜ (k < end) × (end ≤ 8 * length (now marks)) × (end < 4294967296) × (marked (now marks) k ≡ false) ⌝ }
-    ensures { λ r. ⌜ (0 < r) × (k + r ≤ end) × ((j : ℕ) → k ≤ j → j < k + r → marked (now (marks .entry)) j ≡ false) ⌝ }
+    requires { ⌜ (k < end) × (end ≤ 8 * length (now marks)) × (end < 4294967296) × (isMarked (now marks) k ≡ false) ⌝ }
+    ensures { λ r. ⌜ (0 < r) × (k + r ≤ end) × ((j : ℕ) → k ≤ j → j < k + r → isMarked (now (marks .entry)) j ≡ false) ⌝ }
 {
     if k % 8 != 0 {
         return 1;
@@ -147,7 +147,7 @@ fn step_over(marks: &[u8], k: usize, end: usize) -> usize
 // The lowest marked number from k up to end; end if there is none.
 pub fn next_marked(marks: &[u8], k: usize, end: usize) -> usize
     requires { ⌜ (k ≤ end) × (end ≤ 8 * length (now marks)) × (end < 4294967296) ⌝ }
-    ensures { λ r. ⌜ (k ≤ r) × (r ≤ end) × ((j : ℕ) → k ≤ j → j < r → marked (now (marks .entry)) j ≡ false) × (r < end → marked (now (marks .entry)) r ≡ true) ⌝ }
+    ensures { λ r. ⌜ (k ≤ r) × (r ≤ end) × ((j : ℕ) → k ≤ j → j < r → isMarked (now (marks .entry)) j ≡ false) × (r < end → isMarked (now (marks .entry)) r ≡ true) ⌝ }
 {
     let mut i = k;
     while i < end {

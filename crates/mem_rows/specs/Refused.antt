@@ -9,5 +9,5 @@ use Rattle.spec.specs.declared.State.{State}
 use Rattle.law_calls.specs.Refusals.{refusal-kind}
 
 -- a call that is refused leaves the state
-pub refused-keeps : (cs : List Check) (st : State) (c : Change) → firstRefusal cs ≡ some (c .answer) → stateAfter st c ≡ st
-refused-keeps cs st c e = after-refused st c (refusal-kind cs (c .answer) e)
+pub refused-state : (cs : List Check) (st : State) (c : Change) → firstRefusal cs ≡ some (c .answer) → stateAfter st c ≡ st
+refused-state cs st c e = after-refused st c (refusal-kind cs (c .answer) e)

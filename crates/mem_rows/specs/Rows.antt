@@ -21,8 +21,8 @@ use Rattle.spec.specs.Memory.{mkMemory, mkState, slotCount, cell, zeroState, st
 use Rattle.law_basic.specs.Splice.{length-part, length-splice, part-splice, splice-part, splice-inner, splice-again}
 
 -- 01, Write: eighth i of the state
-unfoldable pub rowOf : State → ℕ → Row
-rowOf st i = record {
+unfoldable pub slotRow : State → ℕ → Row
+slotRow st i = record {
   number = stripeIn st i;
   filled = filledIn st i;
   writes = getD (st .writes) i 0;
@@ -83,7 +83,7 @@ keptAs a f = record { answer = a; stamp = f .stamp; serial = f .serial; opened =
 -- ---- lengths
 
 -- the arrays of a state have their lengths
-pub record Sized (st : State) : Type 0 where
+pub record RowsSized (st : State) : Type 0 where
   pub numbers : length (st .numbers) ≡ 8
   pub filled : length (st .filled) ≡ 8
   pub writes : length (st .writes) ≡ 8
@@ -139,10 +139,10 @@ module _ (i : ℕ) (h : i < 8) (l : List ℕ) (s : List ℕ) (long : length l �
   put-over : (t : List ℕ) → length t ≡ 8 → splice (splice l (cell i 0) s) (cell i 0) t ≡ splice l (cell i 0) t
   put-over t q = splice-again l (cell i 0) s t fits (q ∙ sym eight)
 
-module _ (st : State) (i : ℕ) (h : i < 8) (sized : Sized st) where
+module _ (st : State) (i : ℕ) (h : i < 8) (sized : RowsSized st) where
   -- an eighth put back
-  pub put-row : putRow st i (rowOf st i) ≡ st
-  unfolding putRow rowOf stripeIn filledIn landedIn
+  pub put-row : putRow st i (slotRow st i) ≡ st
+  unfolding putRow slotRow stripeIn filledIn landedIn
   put-row =
       let same : (l : List ℕ) → length l ≡ 64 → splice l (cell i 0) (part (cell i 0) 8 l) ≡ l = λ l e. splice-part l (cell i 0) 8 (eighth-fits i l h e) in
       λ j.
@@ -150,8 +150,8 @@ module _ (st : State) (i : ℕ) (h : i < 8) (sized : Sized st) where
       (set-getD (st .writes) i 0 j) (set-getD (st .landed) i 0 j) (same (st .addresses) (sized .addresses) j) (same (st .stamps) (sized .stamps) j)
       (same (st .offsets) (sized .offsets) j)
 
-  pub row-sized : RowSized (rowOf st i)
-  unfolding rowOf
+  pub row-sized : RowSized (slotRow st i)
+  unfolding slotRow
   row-sized = record {
     addresses = length-part (cell i 0) 8 (st .addresses) (eighth-fits i (st .addresses) h (sized .addresses));
     stamps = length-part (cell i 0) 8 (st .stamps) (eighth-fits i (st .stamps) h (sized .stamps));
@@ -159,7 +159,7 @@ module _ (st : State) (i : ℕ) (h : i < 8) (sized : Sized st) where
   }
 
   module _ (r : Row) (z : RowSized r) where
-    pub put-sized : Sized (putRow st i r)
+    pub put-sized : RowsSized (putRow st i r)
     unfolding putRow
     put-sized = record {
       numbers = length-set (st .numbers) i (r .number) ∙ sized .numbers;
@@ -172,8 +172,8 @@ module _ (st : State) (i : ℕ) (h : i < 8) (sized : Sized st) where
     }
 
     -- what is put is read
-    pub row-put : rowOf (putRow st i r) i ≡ r
-    unfolding putRow rowOf stripeIn filledIn landedIn
+    pub row-put : slotRow (putRow st i r) i ≡ r
+    unfolding putRow slotRow stripeIn filledIn landedIn
     row-put =
         let same : (l : List ℕ) (v : ℕ) → length l ≡ 8 → getD (set l i v) i 0 ≡ v = λ l v e. getD-set-same l i v 0 (omega arith) in
         λ j. record {

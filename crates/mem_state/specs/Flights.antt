@@ -35,15 +35,15 @@ stamp-read bs j h = sym (ap (λ (st : State). getD (st .stamps) j 0) (state-read
 
 module _ (bs : List ℕ) (j a t x : ℕ) (h : j < 64) (e : x ≡ leOf (part (82 + 8 * j) 8 bs)) where
   -- another address
-  pub other-address : (x ≡ a → ⊥) → false ≡ hasAt (stateOf bs) a t j
+  pub flight-other-address : (x ≡ a → ⊥) → false ≡ hasAt (stateOf bs) a t j
   unfolding hasAt
-  other-address n =
+  flight-other-address n =
       sym (ap (λ (b : Bool). b && eqb (getD (stateOf bs .stamps) j 0) t) (ap (λ (y : ℕ). eqb y a) (sym (e ∙ address-read bs j h)) ∙ ne-eqb x a n))
 
   -- the same one: the stamp decides
-  pub same-address : x ≡ a → (y : ℕ) → y ≡ leOf (part (594 + 8 * j) 8 bs) → eqb y t ≡ hasAt (stateOf bs) a t j
+  pub flight-same-address : x ≡ a → (y : ℕ) → y ≡ leOf (part (594 + 8 * j) 8 bs) → eqb y t ≡ hasAt (stateOf bs) a t j
   unfolding hasAt
-  same-address q y f =
+  flight-same-address q y f =
       ap (λ (z : ℕ). eqb z t) (f ∙ stamp-read bs j h)
       ∙ sym (ap (λ (b : Bool). b && eqb (getD (stateOf bs .stamps) j 0) t) (ap (λ (y : ℕ). eqb y a) (sym (e ∙ address-read bs j h)) ∙ eq-eqb x a q))
 
@@ -56,10 +56,10 @@ filled-read bs i h =
 
 -- ---- one eighth
 
-nobody : (j n : ℕ) → any (λ (k : ℕ). false) (upFrom j n) ≡ false
+any-nowhere : (j n : ℕ) → any (λ (k : ℕ). false) (upFrom j n) ≡ false
 unfolding any upFrom
-nobody j zero = refl
-nobody j (suc n) = nobody (suc j) n
+any-nowhere j zero = refl
+any-nowhere j (suc n) = any-nowhere (suc j) n
 
 module _ (st : State) (a t i : ℕ) where
   -- a position filled
@@ -86,7 +86,7 @@ module _ (st : State) (a t i : ℕ) where
       any-upFrom-same (holdsAt st a t) (λ (x : ℕ). false) (8 * i + k) (8 * i + 8 - (8 * i + k)) (λ j u v.
       let e : 8 * i + (j - 8 * i) ≡ j = omega arith in
       ap (holdsAt st a t) (sym e) ∙ empty-cell (j - 8 * i) (omega arith) (omega arith))
-      ∙ nobody (8 * i + k) (8 * i + 8 - (8 * i + k))
+      ∙ any-nowhere (8 * i + k) (8 * i + 8 - (8 * i + k))
 
 -- ---- all of them
 

@@ -41,9 +41,9 @@ unfolding tally keep
 tally-snoc f l a =
     ap length (keep-append f l (a ∷ [])) ∙ length-append (keep f l) (consIf (f a) a []) ∙ ap (λ (n : ℕ). length (keep f l) + n) (tally-one (f a) a)
 
-pub count-none : (tb : List ℕ) (lo hi : ℕ) → 0 ≡ countPlaces tb 0 lo hi
+pub count-no-places : (tb : List ℕ) (lo hi : ℕ) → 0 ≡ countPlaces tb 0 lo hi
 unfolding countPlaces tally keep below upFrom
-count-none tb lo hi = refl
+count-no-places tb lo hi = refl
 
 pub count-one : (tb : List ℕ) (n lo hi : ℕ) → countPlaces tb n lo hi + boolByte (isWithin lo hi (placeAt tb n)) ≡ countPlaces tb (n + 1) lo hi
 unfolding countPlaces

@@ -26,8 +26,8 @@ use Rattle.spec_demands.specs.Answering.{resultsOf, canStore, refusalsOf, refus
 use Rattle.spec_demands.specs.Answering.Answers.{result, cut, refusal}
 use Rattle.law_drives.specs.Tests.{clash}
 use Rattle.law_views.specs.Views.{seen}
-use Rattle.proof_answers.specs.Verdicts.{Says, says, counted-on, own-count, result-high}
-use Rattle.proof_answers.specs.Verdicts.Says.{says-no, says-yes}
+use Rattle.proof_answers.specs.Verdicts.{VerdictSays, verdict-says, counted-on, own-count, result-high}
+use Rattle.proof_answers.specs.Verdicts.VerdictSays.{says-no, says-yes}
 
 -- 01, Store count: the state's bytes are all zeros
 pub zero-state : stateBytes zeroState ≡ replicate stateLen 0
@@ -123,13 +123,13 @@ module _ (p : Params) (l : Lent) (c : Call) where
         alike = λ n h. left-done q e f n h ∙ sym (left-done q e f (length ss) (le-refl (length ss)));
       }
 
-  pub due-stores : Due p l c (dueOf decidedBy)
-  due-stores = go (says p long (seen p disk) memory c)
+  pub decided-due : Due p l c (dueOf decidedBy)
+  decided-due = go (verdict-says p long (seen p disk) memory c)
     where
       of : (w : Verdict) → decidedBy ≡ w → Due p l c (dueOf w) → Due p l c (dueOf decidedBy)
       of w e d = subst (λ (x : Verdict). Due p l c (dueOf x)) (sym e) d
 
-      go : Says c decidedBy → Due p l c (dueOf decidedBy)
+      go : VerdictSays c decidedBy → Due p l c (dueOf decidedBy)
       go (says-no a e h i) = of (refused a) e (unfold dueOf in refused-due a e h)
       go (says-yes q e i s) = of (due q) e (unfold dueOf in planned-due q e (result-high c (q .answer) i))
 
@@ -139,14 +139,14 @@ module _ (p : Params) (l : Lent) (c : Call) where
   left n = callBytes p l (withCount n c)
 
   -- demand 1, of one call told n
-  pub record Good (n : ℕ) : Type 0 where
+  pub record AnsweredWell (n : ℕ) : Type 0 where
     pub answered : Answers c (left n .answer)
     pub kept : isRefused (left n .answer) ≡ true → (left n .lent ≡ l) × (left n .block ≡ lentBlock c)
 
-  not-refused : {X : Type 0} (n : ℕ) (x : Left) → left n ≡ x → isRefused (x .answer) ≡ false → isRefused (left n .answer) ≡ true → X
-  not-refused n x e f h = clash h (ap (λ (y : Left). isRefused (y .answer)) e ∙ f)
+  kept-absurd : {X : Type 0} (n : ℕ) (x : Left) → left n ≡ x → isRefused (x .answer) ≡ false → isRefused (left n .answer) ≡ true → X
+  kept-absurd n x e f h = clash h (ap (λ (y : Left). isRefused (y .answer)) e ∙ f)
 
-  good-refused : (a : Answer) → decidedBy ≡ refused a → isRefused a ≡ true → isMember (refusalNumber a) (refusalsOf c) ≡ true → (n : ℕ) → Good n
+  good-refused : (a : Answer) → decidedBy ≡ refused a → isRefused a ≡ true → isMember (refusalNumber a) (refusalsOf c) ≡ true → (n : ℕ) → AnsweredWell n
   good-refused a e h i n =
       let q = left-refused a e h n in
       record {
@@ -154,7 +154,7 @@ module _ (p : Params) (l : Lent) (c : Call) where
         kept = λ _. (ap (λ (x : Left). x .lent) q, ap (λ (x : Left). x .block) q);
       }
 
-  good-planned : (q : Plan) → decidedBy ≡ due q → isMember (kind (q .answer)) (resultsOf c) ≡ true → (canStore c ≡ true) ⊎ (q .stores ≡ []) → (n : ℕ) → Good n
+  good-planned : (q : Plan) → decidedBy ≡ due q → isMember (kind (q .answer)) (resultsOf c) ≡ true → (canStore c ≡ true) ⊎ (q .stores ≡ []) → (n : ℕ) → AnsweredWell n
   good-planned q e i s n = go (decLe (length (q .stores)) n)
     where
       f : isRefused (q .answer) ≡ false
@@ -173,10 +173,10 @@ module _ (p : Params) (l : Lent) (c : Call) where
       cut-answer : (ss : List Store) → cutLeft p l c ss .answer ≡ Cut
       cut-answer ss = unfold cutLeft in refl
 
-      go : Dec (length (q .stores) ≤ n) → Good n
+      go : Dec (length (q .stores) ≤ n) → AnsweredWell n
       go (yes h) =
           let d = left-done q e f n h in
-          record { answered = subst (λ (x : Left). Answers c (x .answer)) (sym d) (result i); kept = not-refused n (doneLeft q e) d f }
+          record { answered = subst (λ (x : Left). Answers c (x .answer)) (sym d) (result i); kept = kept-absurd n (doneLeft q e) d f }
       go (no h) =
           let g : n < length (q .stores) = omega arith in
           let x = cutLeft p l c (take n (q .stores)) in
@@ -184,13 +184,13 @@ module _ (p : Params) (l : Lent) (c : Call) where
           let t = cut-answer (take n (q .stores)) in
           record {
             answered = subst (λ (y : Answer). Answers c y) (sym (ap (λ (y : Left). y .answer) d ∙ t)) (cut is-cut (can g s));
-            kept = not-refused n x d (ap isRefused t ∙ mild);
+            kept = kept-absurd n x d (ap isRefused t ∙ mild);
           }
 
-  good : (n : ℕ) → Good n
-  good n = go (says p long (seen p disk) memory c)
+  good : (n : ℕ) → AnsweredWell n
+  good n = go (verdict-says p long (seen p disk) memory c)
     where
-      go : Says c decidedBy → Good n
+      go : VerdictSays c decidedBy → AnsweredWell n
       go (says-no a e h i) = good-refused a e h i n
       go (says-yes q e i s) = good-planned q e i s n
 
@@ -200,7 +200,7 @@ module _ (p : Params) (l : Lent) (c : Call) where
       record {
         answers = subst (λ (x : Call). Answers c (callBytes p l x .answer)) (own-count c) (g .answered);
         keeps = subst (λ (x : Call). isRefused (callBytes p l x .answer) ≡ true → (callBytes p l x .lent ≡ l) × (callBytes p l x .block ≡ lentBlock c)) (own-count c) (g .kept);
-        stores = (dueOf decidedBy, due-stores);
+        stores = (dueOf decidedBy, decided-due);
       }
 
 -- demand 1

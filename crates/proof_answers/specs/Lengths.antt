@@ -91,9 +91,9 @@ put-fair p q b s f hb hs = record {
 -- ---- headers, resets, footers
 
 module _ (p : Params) (r : Ranged p) where
-  drive-low : (d : ℕ) → In d (drivesOf p) → d < p .N
+  listed-drive-low : (d : ℕ) → In d (drivesOf p) → d < p .N
   unfolding drivesOf
-  drive-low d m = below-in (p .N) d m
+  listed-drive-low d m = below-in (p .N) d m
 
   pub header-proper : (d z s c : ℕ) → d < p .N → z < p .Z → Proper p (put d z (headerBlock p d z s c) zeroSpare)
   header-proper d z s c hd hz = (hd, hz, header-block-long p r d z s c, length-zeroSpare)
@@ -102,18 +102,18 @@ module _ (p : Params) (r : Ranged p) where
   unfolding headerStores zoneOn
   headers-proper z sn c hz s m =
       let (d, i, e) = map-in (λ d. put d z (headerBlock p d z sn c) zeroSpare) (drivesOf p) s m in
-      subst (λ (x : Store). Proper p x) (sym e) (header-proper d z sn c (drive-low d i) hz)
+      subst (λ (x : Store). Proper p x) (sym e) (header-proper d z sn c (listed-drive-low d i) hz)
 
   pub resets-proper : (z : ℕ) → z < p .Z → (s : Store) → In s (resetStores p z) → Proper p s
   unfolding resetStores zoneOn
-  resets-proper z hz s m = let (d, i, e) = map-in (λ d. reset d z) (drivesOf p) s m in subst (λ (x : Store). Proper p x) (sym e) (drive-low d i, hz)
+  resets-proper z hz s m = let (d, i, e) = map-in (λ d. reset d z) (drivesOf p) s m in subst (λ (x : Store). Proper p x) (sym e) (listed-drive-low d i, hz)
 
   pub footer-proper : (d z : ℕ) (ss : List (List ℕ)) (i : ℕ) → d < p .N → z < p .Z → Long spareLen ss → Proper p (put d z (footerBlock p ss i) zeroSpare)
   footer-proper d z ss i hd hz l = (hd, hz, length-footer p r ss i l, length-zeroSpare)
 
-  spares-long : (q : Zone) → Fair p q → Long spareLen (sparesIn p q)
+  fair-spares-long : (q : Zone) → Fair p q → Long spareLen (sparesIn p q)
   unfolding sparesIn sparesOf
-  spares-long q f s m =
+  fair-spares-long q f s m =
       let (c, i, e) = map-in (λ (c : Chunk). c .spare) (take (p .S) (drop 1 (q .blocks))) s m in
       let (b, h, g) = getD-in (q .blocks) noChunk c (in-drop 1 (q .blocks) c (in-take (p .S) (drop 1 (q .blocks)) c i)) in
       ap length (e ∙ ap (λ (x : Chunk). x .spare) g) ∙ f .spare-long b (subst (λ (x : ℕ). b < x) (f .count) h)
@@ -128,12 +128,12 @@ module _ (p : Params) (r : Ranged p) where
       chunk-in c j = unfold footerChunks in j
 
       plain : (j : ℕ) → Proper p (putAt d z (mkChunk (footerBlock p (sparesIn p q) j) zeroSpare))
-      plain j = unfold putAt in footer-proper d z (sparesIn p q) j hd hz (spares-long q f)
+      plain j = unfold putAt in footer-proper d z (sparesIn p q) j hd hz (fair-spares-long q f)
 
 -- how many footer blocks there are
-pub footers-count : (p : Params) (q : Zone) (i n : ℕ) → length (footerChunks p q i n) ≡ n
+pub footer-chunks-count : (p : Params) (q : Zone) (i n : ℕ) → length (footerChunks p q i n) ≡ n
 unfolding footerChunks
-footers-count p q i n = length-map (upFrom i n) (λ j. mkChunk (footerBlock p (sparesIn p q) j) zeroSpare) ∙ length-upFrom i n
+footer-chunks-count p q i n = length-map (upFrom i n) (λ j. mkChunk (footerBlock p (sparesIn p q) j) zeroSpare) ∙ length-upFrom i n
 
 -- ---- chunks of a segment
 
@@ -142,9 +142,9 @@ module _ (p : Params) (r : Ranged p) (v : View) (fair : (d z : ℕ) → d < p .N
   x = segmentOf p v gone g
 
   -- stored
-  stored-long : (s d : ℕ) → d < p .N → isIn gone d ≡ false → hasChunk x s d ≡ true → length (storedPiece x s d .block) ≡ p .B
+  fair-piece-long : (s d : ℕ) → d < p .N → isIn gone d ≡ false → hasChunk x s d ≡ true → length (storedPiece x s d .block) ≡ p .B
   unfolding storedPiece
-  stored-long s d hd q c =
+  fair-piece-long s d hd q c =
       let o = offsetOn x d s in
       let l = data-low p (zoneAt v d g) o (chunk-at p v gone g d s hd q c .stored-there) in
       ap (λ (y : Zone). length (getD (y .blocks) (1 + o) noChunk .block)) (zone-by p v gone g d hd)
@@ -152,12 +152,12 @@ module _ (p : Params) (r : Ranged p) (v : View) (fair : (d z : ℕ) → d < p .N
 
   module _ (s : ℕ) (c : counts p gone x s ≡ true) where
     present-long : (d : ℕ) → d < p .N → isIn gone d ≡ false → length (storedPiece x s d .block) ≡ p .B
-    present-long d hd q = stored-long s d hd q (counts-in p gone x s d c hd q)
+    present-long d hd q = fair-piece-long s d hd q (counts-in p gone x s d c hd q)
 
     -- decoded
-    pub decoded-long : (d : ℕ) → isIn gone d ≡ true → length (pieceOf p gone x s d .block) ≡ p .B
+    pub lost-piece-long : (d : ℕ) → isIn gone d ≡ true → length (pieceOf p gone x s d .block) ≡ p .B
     unfolding pieceOf parityPiece
-    decoded-long d lost = rw lost (parity-length (p .B) (map (λ (q : Piece). q .block) (map (storedPiece x s) (present p gone)))
+    lost-piece-long d lost = rw lost (parity-length (p .B) (map (λ (q : Piece). q .block) (map (storedPiece x s) (present p gone)))
         (λ b m.
         let (q, i, e) = map-in (λ (q : Piece). q .block) (map (storedPiece x s) (present p gone)) b m in
         let (y, j, f) = map-in (storedPiece x s) (present p gone) q i in
@@ -173,9 +173,9 @@ module _ (p : Params) (r : Ranged p) (v : View) (fair : (d z : ℕ) → d < p .N
   abbrev qs : List Piece
   qs = movedPieces p seg s k
 
-  piece-long : (q : Piece) → In q qs → length (q .block) ≡ p .B
+  data-pieces-long : (q : Piece) → In q qs → length (q .block) ≡ p .B
   unfolding movedPieces dataDrives renumbered
-  piece-long q m =
+  data-pieces-long q m =
       let (d, i, e) = map-in (λ d. renumbered k (storedPiece seg s d)) (map (dataDrive p s) (below (dataCount p))) q m in
       let (n, j, f) = map-in (dataDrive p s) (below (dataCount p)) d i in
       let hd : d < p .N = subst (λ (u : ℕ). u < p .N) (sym f) (data-drive-lt p s n (below-in (dataCount p) n j)) in
@@ -187,16 +187,16 @@ module _ (p : Params) (r : Ranged p) (v : View) (fair : (d z : ℕ) → d < p .N
       length-map (map (dataDrive p s) (below (dataCount p))) (λ d. renumbered k (storedPiece seg s d))
       ∙ length-map (below (dataCount p)) (dataDrive p s) ∙ length-below (dataCount p)
 
-  pub moved-long : (d : ℕ) → d < p .N → length (movedOn p qs k d .block) ≡ p .B
+  pub moved-piece-long : (d : ℕ) → d < p .N → length (movedOn p qs k d .block) ≡ p .B
   unfolding movedOn
-  moved-long d hd = go (test (isData p k d))
+  moved-piece-long d hd = go (test (isData p k d))
     where
       parity-block : length (parityPiece p k qs .block) ≡ p .B
       parity-block = unfold parityPiece in parity-length (p .B) (map (λ (y : Piece). y .block) qs)
-          (λ b m. let (y, i, f) = map-in (λ (y : Piece). y .block) qs b m in ap length f ∙ piece-long y i)
+          (λ b m. let (y, i, f) = map-in (λ (y : Piece). y .block) qs b m in ap length f ∙ data-pieces-long y i)
 
       go : Test (isData p k d) → length (cond (isData p k d) (getD qs (dataPosition p k d) (mkPiece [] (mkRec 0 0 0))) (parityPiece p k qs) .block) ≡ p .B
-      go (yes! q) = rw q (piece-long (getD qs (dataPosition p k d) (mkPiece [] (mkRec 0 0 0)))
+      go (yes! q) = rw q (data-pieces-long (getD qs (dataPosition p k d) (mkPiece [] (mkRec 0 0 0)))
           (in-getD qs (dataPosition p k d) (mkPiece [] (mkRec 0 0 0)) (subst (λ (n : ℕ). dataPosition p k d < n) (sym count-pieces) (position-lt p k d q hd))))
       go (no! q) = rw q parity-block
 

@@ -32,7 +32,7 @@ use Rattle.law_drives.specs.Segs.{remaining-low, seg-is}
 use Rattle.law_drives.specs.Tables.{remains, remaining-is}
 use Rattle.law_drives.specs.Tests.{and-false-left, cond-false, eqb-self}
 use Rattle.law_drives.specs.Zones.{hitsAt, hits}
-use Rattle.proof_answers.specs.Lengths.{Fair, header-proper, footer-proper, decoded-long, piece-proper}
+use Rattle.proof_answers.specs.Lengths.{Fair, header-proper, footer-proper, lost-piece-long, piece-proper}
 use Rattle.proof_answers.specs.Rising.{Rises, rises-few, Proper, Able}
 
 -- a store in zone z of drive d
@@ -48,9 +48,9 @@ hits-at d z e y ss f = go (test (eqb d e && eqb z y))
     go (yes! q) = rw q (keep-all (hitsAt e y) ss (λ s m. f s m e y ∙ q))
     go (no! q) = rw q (keep-nothing (hitsAt e y) ss (λ s m. f s m e y ∙ q))
 
-put-at : (d z : ℕ) (b s : List ℕ) → isAt d z (put d z b s)
+put-is-at : (d z : ℕ) (b s : List ℕ) → isAt d z (put d z b s)
 unfolding isAt hitsAt
-put-at d z b s e y = refl
+put-is-at d z b s e y = refl
 
 module _ (p : Params) (r : Ranged p) (v : View) (fair : (d z : ℕ) → d < p .N → z < p .Z → Fair p (zoneAt v d z)) (d : ℕ) (hd : d < p .N) where
   abbrev gone : ℕ
@@ -115,20 +115,20 @@ module _ (p : Params) (r : Ranged p) (v : View) (fair : (d z : ℕ) → d < p .N
         foot : In s feet → Proper p s × isAt d g s
         foot n =
             let (i, j, e) = map-in (λ i. put d g (footerBlock p spares i) zeroSpare) (below (footers p)) s n in
-            as! (put d g (footerBlock p spares i) zeroSpare) e (footer-proper p r d g spares i hd hg spares-long, put-at d g (footerBlock p spares i) zeroSpare)
+            as! (put d g (footerBlock p spares i) zeroSpare) e (footer-proper p r d g spares i hd hg spares-long, put-is-at d g (footerBlock p spares i) zeroSpare)
 
         end : (b : Bool) → In s (cond b feet []) → Proper p s × isAt d g s
         end true n = foot n
         end false n = absurd n
 
         piece-at : (q : Piece) → isAt d g (putPiece d g q)
-        piece-at q = unfold putPiece in put-at d g (q .block) (recordBytes (q .rec))
+        piece-at q = unfold putPiece in put-is-at d g (q .block) (recordBytes (q .rec))
 
         piece : In s (map (putPiece d g) pieces) → Proper p s × isAt d g s
         piece n =
             let (q, i, e) = map-in (putPiece d g) pieces s n in
             let (t, j, f) = map-in (λ s. pieceOf p gone x s d) (counted p gone x) q i in
-            let h : length (q .block) ≡ p .B = ap (λ (u : Piece). length (u .block)) f ∙ decoded-long p r v fair gone g hg t (counted-in p gone x t j .1) d lost in
+            let h : length (q .block) ≡ p .B = ap (λ (u : Piece). length (u .block)) f ∙ lost-piece-long p r v fair gone g hg t (counted-in p gone x t j .1) d lost in
             as! (putPiece d g q) e (piece-proper p d g q hd hg h, piece-at q)
 
         rest : In s (map (putPiece d g) pieces) ⊎ In s (cond (x .full) feet []) → Proper p s × isAt d g s
@@ -138,11 +138,11 @@ module _ (p : Params) (r : Ranged p) (v : View) (fair : (d z : ℕ) → d < p .N
         go : In s ours → Proper p s × isAt d g s
         go (inl e) =
             let b = headerBlock p d g (x .serial) (x .copied) in
-            as! (put d g b zeroSpare) e (header-proper p r d g (x .serial) (x .copied) hd hg, put-at d g b zeroSpare)
+            as! (put d g b zeroSpare) e (header-proper p r d g (x .serial) (x .copied) hd hg, put-is-at d g b zeroSpare)
         go (inr n) = rest (in-append s (map (putPiece d g) pieces) (cond (x .full) feet []) n)
 
-    zone-hits : (e y : ℕ) → hits e y (rebuiltZone p d x) ≡ cond (eqb d e && eqb g y) (rebuiltZone p d x) []
-    zone-hits e y = hits-at d g e y (rebuiltZone p d x) (λ s m. rebuilt-each s m .1)
+    rebuilt-hits : (e y : ℕ) → hits e y (rebuiltZone p d x) ≡ cond (eqb d e && eqb g y) (rebuiltZone p d x) []
+    rebuilt-hits e y = hits-at d g e y (rebuiltZone p d x) (λ s m. rebuilt-each s m .1)
 
   -- ---- all zones
 
@@ -161,7 +161,7 @@ module _ (p : Params) (r : Ranged p) (v : View) (fair : (d z : ℕ) → d < p .N
       hits-flat e y (rebuiltZone p d) (map (segmentOf p v gone) (remaining p v gone))
       ∙ flat-map (λ (x : Segment). hits e y (rebuiltZone p d x)) (segmentOf p v gone) (remaining p v gone)
       ∙ flat-cong (λ g. hits e y (zone g)) (λ g. cond (eqb d e && eqb g y) (zone g) []) (remaining p v gone)
-      (λ g m. zone-hits g (remaining-low p v gone g m) e y)
+      (λ g m. rebuilt-hits g (remaining-low p v gone g m) e y)
 
   -- on the named drive: the reset, then at most the capacity
   here-hits : (y : ℕ) → y < p .Z → hits d y (rebuildStores p d (segments p v gone)) ≡ reset d y ∷ cond (remains p v gone y) (zone y) []

@@ -31,7 +31,7 @@ use Rattle.law_drives.specs.Rebuilding.{counted-low, counted-in}
 use Rattle.law_drives.specs.Segs.{remaining-low, zone-by, seg-is}
 use Rattle.law_drives.specs.Tests.{clash, cond-true, cond-false, cond-same}
 use Rattle.law_drives.specs.Zones.{hitsAt, hits}
-use Rattle.proof_answers.specs.Lengths.{Fair, headers-proper, resets-proper, footers-proper, footers-count, moved-long, piece-proper}
+use Rattle.proof_answers.specs.Lengths.{Fair, headers-proper, resets-proper, footers-proper, footer-chunks-count, moved-piece-long, piece-proper}
 use Rattle.proof_answers.specs.Rising.{Rises, rises-few, Proper, Able}
 
 module _ (p : Params) (r : Ranged p) (v : View) (fair : (d z : ℕ) → d < p .N → z < p .Z → Fair p (zoneAt v d z)) where
@@ -48,9 +48,9 @@ module _ (p : Params) (r : Ranged p) (v : View) (fair : (d z : ℕ) → d < p .N
   unfolding freeZones segmentNumbers
   free-in z m = let (i, q) = keep-in free (below (p .Z)) z m in (below-in (p .Z) z i, q)
 
-  drop-hits : (e y : ℕ) → e < p .N → y < p .Z → hits e y (dropStores p gs) ≡ cond (free y) (reset e y ∷ []) []
+  dropped-hits : (e y : ℕ) → e < p .N → y < p .Z → hits e y (dropStores p gs) ≡ cond (free y) (reset e y ∷ []) []
   unfolding dropStores freeZones segmentNumbers
-  drop-hits e y he hy =
+  dropped-hits e y he hy =
       hits-flat e y (resetStores p) (keep free (below (p .Z)))
       ∙ flat-cong (λ g. hits e y (resetStores p g)) (λ g. cond (eqb g y) (reset e g ∷ []) []) (keep free (below (p .Z))) (λ g m. hits-resets p e y g he)
       ∙ flat-one free (λ g. reset e g ∷ []) y (p .Z) hy
@@ -73,9 +73,9 @@ module _ (p : Params) (r : Ranged p) (v : View) (fair : (d z : ℕ) → d < p .N
         where
           go : Test (free y) → Rises p (pointerAt v e y) (hits e y (dropStores p gs) ++ hits e y ts)
           go (yes! q) =
-              subst (λ (l : List Store). Rises p (pointerAt v e y) (l ++ hits e y ts)) (sym (drop-hits e y he hy ∙ cond-true (free y) (reset e y ∷ []) [] q)) (a e y he hy q)
+              subst (λ (l : List Store). Rises p (pointerAt v e y) (l ++ hits e y ts)) (sym (dropped-hits e y he hy ∙ cond-true (free y) (reset e y ∷ []) [] q)) (a e y he hy q)
           go (no! q) =
-              subst (λ (l : List Store). Rises p (pointerAt v e y) (l ++ hits e y ts)) (sym (drop-hits e y he hy ∙ cond-false (free y) (reset e y ∷ []) [] q)) (b e y he hy q)
+              subst (λ (l : List Store). Rises p (pointerAt v e y) (l ++ hits e y ts)) (sym (dropped-hits e y he hy ∙ cond-false (free y) (reset e y ∷ []) [] q)) (b e y he hy q)
 
   -- ---- an unsealed segment
 
@@ -93,27 +93,27 @@ module _ (p : Params) (r : Ranged p) (v : View) (fair : (d z : ℕ) → d < p .N
     abbrev missingOn : ℕ → Zone → List Store
     missingOn d q = footerStores p d g q (footersStored p q) (footers p - footersStored p q)
 
-    missing-are : missingFooters p x ≡ flat (λ d. missingOn d (zoneAt v d g)) (drivesOf p)
+    missing-feet-are : missingFooters p x ≡ flat (λ d. missingOn d (zoneAt v d g)) (drivesOf p)
     unfolding missingFooters zoneOn drivesOf
-    missing-are =
+    missing-feet-are =
         ap (λ (z : ℕ). flat (λ d. footerStores p d z (getD (x .zonesBy) d noZone) (footersStored p (getD (x .zonesBy) d noZone))
         (footers p - footersStored p (getD (x .zonesBy) d noZone))) (below (p .N))) (seg-is p v 0 g)
         ∙ flat-cong (λ d. missingOn d (getD (x .zonesBy) d noZone)) (λ d. missingOn d (zoneAt v d g)) (below (p .N))
         (λ d m. ap (missingOn d) (zone-by p v 0 g d (below-in (p .N) d m)))
 
     lack-are : missingFooters p x ≡ flat (λ d. map (putAt d g) (lack d)) (drivesOf p)
-    lack-are = missing-are ∙ flat-cong (λ d. missingOn d (zoneAt v d g)) (λ d. map (putAt d g) (lack d)) (drivesOf p)
+    lack-are = missing-feet-are ∙ flat-cong (λ d. missingOn d (zoneAt v d g)) (λ d. map (putAt d g) (lack d)) (drivesOf p)
         (λ d m. footer-puts p d g (zoneAt v d g) (have d) (footers p - have d))
 
     lack-hits : (e y : ℕ) → e < p .N → hits e y (missingFooters p x) ≡ cond (eqb g y) (map (putAt e g) (lack e)) []
     lack-hits e y he = ap (hits e y) lack-are ∙ hits-each p e y g lack he
 
-    lack-count : (e : ℕ) → length (map (putAt e g) (lack e)) ≡ footers p - have e
-    lack-count e = length-map (lack e) (putAt e g) ∙ footers-count p (zoneAt v e g) (have e) (footers p - have e)
+    lacking-count : (e : ℕ) → length (map (putAt e g) (lack e)) ≡ footers p - have e
+    lacking-count e = length-map (lack e) (putAt e g) ∙ footer-chunks-count p (zoneAt v e g) (have e) (footers p - have e)
 
     lack-proper : (s : Store) → In s (missingFooters p x) → Proper p s
     lack-proper s m =
-        let (d, i, j) = flat-in (λ d. missingOn d (zoneAt v d g)) (drivesOf p) s (subst (λ (l : List Store). In s l) missing-are m) in
+        let (d, i, j) = flat-in (λ d. missingOn d (zoneAt v d g)) (drivesOf p) s (subst (λ (l : List Store). In s l) missing-feet-are m) in
         let hd = low d i in
         footers-proper p r (zoneAt v d g) (fair d g hd hg) d g (have d) (footers p - have d) hd hg s j
       where
@@ -121,13 +121,13 @@ module _ (p : Params) (r : Ranged p) (v : View) (fair : (d z : ℕ) → d < p .N
         low d i = unfold drivesOf in below-in (p .N) d i
 
     -- 01, Refusals, 9: a pointer is at most the capacity, so that the footers which it lacks have room
-    lack-room : (e : ℕ) → pointerAt v e g ≤ capacity p → pointerAt v e g + (footers p - have e) ≤ capacity p
+    lacking-room : (e : ℕ) → pointerAt v e g ≤ capacity p → pointerAt v e g + (footers p - have e) ≤ capacity p
     unfolding footersStored pointerAt
-    lack-room e h = let c = capacity-is p r in omega arith
+    lacking-room e h = let c = capacity-is p r in omega arith
 
     footers-able : Accepted p v 0 → Able p v (dropStores p gs ++ missingFooters p x)
     footers-able acc = drop-able (missingFooters p x) lack-proper (λ e y he hy q. up 0 e y he (λ h. let c = capacity-is p r in omega arith))
-        (λ e y he hy q. up (pointerAt v e y) e y he (λ h. ap-room e y h (lack-room e (pointer-ok p v 0 acc e g he hg (isIn-empty e)))))
+        (λ e y he hy q. up (pointerAt v e y) e y he (λ h. ap-room e y h (lacking-room e (pointer-ok p v 0 acc e g he hg (isIn-empty e)))))
       where
         ap-room : (e y : ℕ) → g ≡ y → pointerAt v e g + (footers p - have e) ≤ capacity p → pointerAt v e y + (footers p - have e) ≤ capacity p
         ap-room e y h w = subst (λ (n : ℕ). pointerAt v e n + (footers p - have e) ≤ capacity p) h w
@@ -138,7 +138,7 @@ module _ (p : Params) (r : Ranged p) (v : View) (fair : (d z : ℕ) → d < p .N
             go : Dec (g ≡ y) → Rises p n (cond (eqb g y) (map (putAt e g) (lack e)) [])
             go (yes q) =
                 subst (λ (l : List Store). Rises p n l) (sym (cond-true (eqb g y) (map (putAt e g) (lack e)) [] (eq-eqb g y q)))
-                (rises-few p n (map (putAt e g) (lack e)) (let a = lack-count e in let b = h q in omega arith))
+                (rises-few p n (map (putAt e g) (lack e)) (let a = lacking-count e in let b = h q in omega arith))
             go (no q) = subst (λ (l : List Store). Rises p n l) (sym (cond-false (eqb g y) (map (putAt e g) (lack e)) [] (ne-eqb g y q))) tt
 
     -- ---- the rewrite
@@ -149,14 +149,14 @@ module _ (p : Params) (r : Ranged p) (v : View) (fair : (d z : ℕ) → d < p .N
       movedTo e [] k = []
       movedTo e (s ∷ ss) k = putPiece e z (movedOn p (movedPieces p x s k) k e) ∷ movedTo e ss (suc k)
 
-      moved-count : (e : ℕ) (ss : List ℕ) (k : ℕ) → length (movedTo e ss k) ≡ length ss
+      movedTo-count : (e : ℕ) (ss : List ℕ) (k : ℕ) → length (movedTo e ss k) ≡ length ss
       unfolding movedTo
-      moved-count e [] k = refl
-      moved-count e (s ∷ ss) k = ap suc (moved-count e ss (suc k))
+      movedTo-count e [] k = refl
+      movedTo-count e (s ∷ ss) k = ap suc (movedTo-count e ss (suc k))
 
-      stripe-is : (s k : ℕ) → movedStripe p x z s k ≡ map (λ d. putPiece d z (movedOn p (movedPieces p x s k) k d)) (drivesOf p)
+      moved-stripe-is : (s k : ℕ) → movedStripe p x z s k ≡ map (λ d. putPiece d z (movedOn p (movedPieces p x s k) k d)) (drivesOf p)
       unfolding movedStripe zoneOn
-      stripe-is s k = refl
+      moved-stripe-is s k = refl
 
       moved-hits : (e y : ℕ) (ss : List ℕ) (k : ℕ) → e < p .N → hits e y (movedStripes p x z ss k) ≡ cond (eqb z y) (movedTo e ss k) []
       unfolding movedStripes movedTo
@@ -167,7 +167,7 @@ module _ (p : Params) (r : Ranged p) (v : View) (fair : (d z : ℕ) → d < p .N
       moved-hits e y (s ∷ ss) k he =
           let f : ℕ → Store = λ d. putPiece d z (movedOn p (movedPieces p x s k) k d) in
           hits-append e y (movedStripe p x z s k) (movedStripes p x z ss (suc k))
-          ∙ ap₂ _++_ (ap (hits e y) (stripe-is s k) ∙ hits-drives p e y z f (λ d. unfold putPiece hitsAt in refl) he) (moved-hits e y ss (suc k) he)
+          ∙ ap₂ _++_ (ap (hits e y) (moved-stripe-is s k) ∙ hits-drives p e y z f (λ d. unfold putPiece hitsAt in refl) he) (moved-hits e y ss (suc k) he)
           ∙ join (eqb z y) (f e)
         where
           join : (b : Bool) (t : Store) → cond b (t ∷ []) [] ++ cond b (movedTo e ss (suc k)) [] ≡ cond b (t ∷ movedTo e ss (suc k)) []
@@ -184,10 +184,10 @@ module _ (p : Params) (r : Ranged p) (v : View) (fair : (d z : ℕ) → d < p .N
 
           go : In t (movedStripe p x z s k) ⊎ In t (movedStripes p x z ss (suc k)) → (In t (movedStripes p x z ss (suc k)) → Proper p t) → Proper p t
           go (inl i) ih =
-              let (d, j, e) = map-in (λ d. putPiece d z (movedOn p (movedPieces p x s k) k d)) (drivesOf p) t (subst (λ (l : List Store). In t l) (stripe-is s k) i) in
+              let (d, j, e) = map-in (λ d. putPiece d z (movedOn p (movedPieces p x s k) k d)) (drivesOf p) t (subst (λ (l : List Store). In t l) (moved-stripe-is s k) i) in
               let hd = low d j in
               subst (λ (u : Store). Proper p u) (sym e)
-              (piece-proper p d z (movedOn p (movedPieces p x s k) k d) hd hz (moved-long p r v fair g hg s (f s (inl refl)) k d hd))
+              (piece-proper p d z (movedOn p (movedPieces p x s k) k d) hd hz (moved-piece-long p r v fair g hg s (f s (inl refl)) k d hd))
           go (inr i) ih = ih i
 
       abbrev cs : List ℕ
@@ -239,7 +239,7 @@ module _ (p : Params) (r : Ranged p) (v : View) (fair : (d z : ℕ) → d < p .N
         where
           few : (l : List Store) → length l ≤ 1 → Rises p 0 ((head e ∷ movedTo e cs 0) ++ l)
           few l h = rises-few p 0 ((head e ∷ movedTo e cs 0) ++ l)
-              (let a = moved-count e cs 0 in let b = counted-low p 0 x in let c = capacity-over p r in let w = length-append (movedTo e cs 0) l in omega arith)
+              (let a = movedTo-count e cs 0 in let b = counted-low p 0 x in let c = capacity-over p r in let w = length-append (movedTo e cs 0) l in omega arith)
 
           one : (b : Bool) → length (cond b (reset e g ∷ []) []) ≤ 1
           one true = omega arith
@@ -286,9 +286,9 @@ module _ (p : Params) (r : Ranged p) (v : View) (fair : (d z : ℕ) → d < p .N
   -- ---- all of them
 
   -- 01, Refusals, 9: at most one is unsealed
-  unsealed-in : (x : Segment) → In x (unsealed gs) → (g : ℕ) × (In g (remaining p v 0)) × (x ≡ segmentOf p v 0 g) × (not (x .full) ≡ true)
+  unsealed-remaining : (x : Segment) → In x (unsealed gs) → (g : ℕ) × (In g (remaining p v 0)) × (x ≡ segmentOf p v 0 g) × (not (x .full) ≡ true)
   unfolding unsealed segments
-  unsealed-in x m =
+  unsealed-remaining x m =
       let (i, q) = keep-in (λ (g : Segment). not (g .full)) (map (segmentOf p v 0) (remaining p v 0)) x m in
       let (g, j, e) = map-in (segmentOf p v 0) (remaining p v 0) x i in
       (g, j, e, q)
@@ -310,14 +310,14 @@ module _ (p : Params) (r : Ranged p) (v : View) (fair : (d z : ℕ) → d < p .N
       go [] e = unfold flat in drop-able [] (λ s m. absurd m) (λ e y he hy q. unfold keep in tt) (λ e y he hy q. unfold keep in tt)
       go (x ∷ []) e =
           let m : In x (unsealed gs) = subst (λ (l : List Segment). In x l) (sym e) (inl refl) in
-          let (g, i, f, q) = unsealed-in x m in
+          let (g, i, f, q) = unsealed-remaining x m in
           let hg = remaining-low p v 0 g i in
           subst (λ (l : List Store). Able p v (dropStores p gs ++ l))
           (sym (flat-cons (mendStores p gs) x [] ∙ ap (λ (l : List Store). mendStores p gs x ++ l) (flat-none (mendStores p gs)) ∙ append-nil (mendStores p gs x)))
           (subst (λ (y : Segment). Able p v (dropStores p gs ++ mendStores p gs y)) (sym f)
           (mend-able g hg acc (λ h. zone x m (ap (isRagged p) f ∙ h))))
       go (x ∷ (y ∷ us)) e =
-          let (g, i, f, q) = unsealed-in x (subst (λ (l : List Segment). In x l) (sym e) (inl refl)) in
+          let (g, i, f, q) = unsealed-remaining x (subst (λ (l : List Segment). In x l) (sym e) (inl refl)) in
           let n : 2 ≤ length (unsealed gs) = subst (λ (l : List Segment). 2 ≤ length l) (sym e) (let w : 2 ≤ suc (suc (length us)) = omega arith in w) in
           clash (both (segmentOf p v 0 g) (ap (λ (t : Segment). not (t .full)) (sym f) ∙ q) n) (faults-apart p v 0 acc g i .no-clash)
         where

@@ -40,17 +40,17 @@ use Rattle.law_drives.specs.Lengths.{lengths-of, whole-of}
 use Rattle.law_drives.specs.Range.{capacity-word}
 use Rattle.law_drives.specs.Tests.{clash}
 use Rattle.law_drives.specs.Zones.{Sized}
-use Rattle.proof_tables.specs.Reclaiming.{taken}
+use Rattle.proof_tables.specs.Reclaiming.{victim-taken}
 use Rattle.law_views.specs.Views.{Whole, seen}
-use Rattle.proof_answers.specs.Answered.{dueOf, long, decidedBy, due-stores}
+use Rattle.proof_answers.specs.Answered.{dueOf, long, decidedBy, decided-due}
 use Rattle.proof_answers.specs.Lengths.{Fair, fair-of}
 use Rattle.proof_answers.specs.Rebuilt.{rebuild-able}
 use Rattle.proof_answers.specs.Restarted.{restart-able}
 use Rattle.proof_answers.specs.Rising.{Able, able-none, able-fits, obey-all, obey-take}
 use Rattle.proof_answers.specs.Sent.{resets-able, sending-able, land-able}
 use Rattle.proof_tables.specs.Sending.{plenty}
-use Rattle.proof_answers.specs.Verdicts.{Says, says, own-count}
-use Rattle.proof_answers.specs.Verdicts.Says.{says-no, says-yes}
+use Rattle.proof_answers.specs.Verdicts.{VerdictSays, verdict-says, own-count}
+use Rattle.proof_answers.specs.Verdicts.VerdictSays.{says-no, says-yes}
 
 -- 01, Restart: a restart that misses a drive stores nothing
 restarting : (p : Params) (r : Ranged p) (v : View) → ((d z : ℕ) → d < p .N → z < p .Z → Fair p (zoneAt v d z)) → (gone : ℕ) → Accepted p v gone
@@ -80,20 +80,20 @@ module _ (p : Params) (l : Lent) (c : Call) where
   v = seen p k
 
   -- what the first two checks give
-  pub record Ready : Type 0 where
+  pub record RuledReady : Type 0 where
     pub in-range : Ranged p
     pub lent-ok : lentOk p k m ≡ true
     pub whole : Whole p k
     pub fair : (d z : ℕ) → d < p .N → z < p .Z → Fair p (zoneAt v d z)
     pub sized : Sized p v
 
-  ready : inRange p ≡ true → lo ≡ true → Ready
+  ready : inRange p ≡ true → lo ≡ true → RuledReady
   ready a b =
       let e = and-left (lentOk p k m) (eqb (length (l .state)) stateLen) b in
       let w = whole-of p k m e in
       record { in-range = ranged p a; lent-ok = e; whole = w; fair = fair-of p k w; sized = sized-of p k w }
 
-  obeyed : Ready → (ss : List Store) → Able p v ss → ObeyAll p k ss
+  obeyed : RuledReady → (ss : List Store) → Able p v ss → ObeyAll p k ss
   obeyed h ss a = obey-all p k ss (capacity-word p (h .in-range)) (h .whole) (able-fits p v ss (h .sized) a)
 
   -- the stores of what is decided
@@ -142,10 +142,10 @@ module _ (p : Params) (l : Lent) (c : Call) where
   unfolding reclaimVerdict
   reclaim-obeys = obeys-of (reclaimChecks p lo v m taking) (cond (isNil (victimLive taking)) resetting copying) go
     where
-      reset-able : Ready → isNone taking ≡ false → Able p v (resetting .stores)
-      reset-able h q = unfold resetPlan in resets-able p (h .in-range) v (victimSegment taking) (taken p v (m .addresses) q .taken-low)
+      reset-able : RuledReady → isNone taking ≡ false → Able p v (resetting .stores)
+      reset-able h q = unfold resetPlan in resets-able p (h .in-range) v (victimSegment taking) (victim-taken p v (m .addresses) q .taken-low)
 
-      copy-able : Ready → (opens p (m .state) ≡ true → scarce p v 1 ≡ false) → Able p v (copying .stores)
+      copy-able : RuledReady → (opens p (m .state) ≡ true → scarce p v 1 ≡ false) → Able p v (copying .stores)
       copy-able h c8 = unfold copyPlan in
           (let q = firstOr 0 (idle p v (m .state) taking) in
           let n = recordAt p v 0 (placeDrive p q) (placeSegment p q) (placeBlock p q - 1) in
@@ -158,7 +158,7 @@ module _ (p : Params) (l : Lent) (c : Call) where
           let h = ready (c .in-range) (c .lent) in
           obeyed h (cond (isNil (victimLive taking)) resetting copying .stores) (either h (c .taken) (test (isNil (victimLive taking))) (c .room))
         where
-          either : Ready → isNone taking ≡ false → Test (isNil (victimLive taking)) → (isNil (victimLive taking) ≡ false → opens p (m .state) ≡ true → scarce p v 1 ≡ false)
+          either : RuledReady → isNone taking ≡ false → Test (isNil (victimLive taking)) → (isNil (victimLive taking) ≡ false → opens p (m .state) ≡ true → scarce p v 1 ≡ false)
               → Able p v (cond (isNil (victimLive taking)) resetting copying .stores)
           either h q5 (yes! e) c8 = rw e (reset-able h q5)
           either h q5 (no! e) c8 = rw e (copy-able h (c8 e))
@@ -187,7 +187,7 @@ module _ (p : Params) (l : Lent) (c : Call) where
 
   -- 01, Store count: a call that cannot store
   still-obeys : canStore c ≡ false → ObeyAll p k (dueOf (decidedBy p l c))
-  still-obeys f = go (says p lo v m c)
+  still-obeys f = go (verdict-says p lo v m c)
     where
       of : (w : Verdict) → decidedBy p l c ≡ w → ObeyAll p k (dueOf w) → ObeyAll p k (dueOf (decidedBy p l c))
       of w e o = subst (λ (x : Verdict). ObeyAll p k (dueOf x)) (sym e) o
@@ -196,7 +196,7 @@ module _ (p : Params) (l : Lent) (c : Call) where
       none ss (inl t) = clash t f
       none ss (inr e) = subst (λ (x : List Store). ObeyAll p k x) (sym e) tt
 
-      go : Says c (decidedBy p l c) → ObeyAll p k (dueOf (decidedBy p l c))
+      go : VerdictSays c (decidedBy p l c) → ObeyAll p k (dueOf (decidedBy p l c))
       go (says-no a e h i) = of (refused a) e (unfold dueOf in tt)
       go (says-yes q e i s) = of (due q) e (unfold dueOf in none (q .stores) s)
 
@@ -217,17 +217,17 @@ due-obeys p l (rebuild d n) = rebuild-obeys p l (rebuild d n) d
 abbrev Ruled : Params → Lent → Call → Type 0
 Ruled p l c = (ss : List Store) × (lentDisk (callBytes p l c .lent) ≡ storeAll (storeDisk p) ss (lentDisk l)) × ObeyAll p (lentDisk l) ss
 
-ruled : (p : Params) (l : Lent) (c : Call) (n : ℕ) → Ruled p l (withCount n c)
-ruled p l c n = go (decLe (length ss) n)
+all-ruled : (p : Params) (l : Lent) (c : Call) (n : ℕ) → Ruled p l (withCount n c)
+all-ruled p l c n = go (decLe (length ss) n)
   where
     ss : List Store
     ss = dueOf (decidedBy p l c)
 
     go : Dec (length ss ≤ n) → Ruled p l (withCount n c)
-    go (yes h) = (ss, due-stores p l c .makes n h, due-obeys p l c)
+    go (yes h) = (ss, decided-due p l c .makes n h, due-obeys p l c)
     go (no h) = (
       take n ss,
-      ap (λ (x : Left). lentDisk (x .lent)) (due-stores p l c .cuts n (omega arith)) ∙ first-made,
+      ap (λ (x : Left). lentDisk (x .lent)) (decided-due p l c .cuts n (omega arith)) ∙ first-made,
       obey-take p (lentDisk l) n ss (due-obeys p l c),
     )
       where
@@ -236,4 +236,4 @@ ruled p l c n = go (decLe (length ss) n)
 
 -- demand 2, the NVMe zone rules
 pub zone-rules : ZoneRules
-zone-rules p l c = subst (λ (x : Call). Ruled p l x) (own-count c) (ruled p l c (storeCount c))
+zone-rules p l c = subst (λ (x : Call). Ruled p l x) (own-count c) (all-ruled p l c (storeCount c))

@@ -30,7 +30,7 @@ use Rattle.law_drives.specs.Puts.{putAt, hits-resets, hits-headers}
 use Rattle.law_drives.specs.Range.{capacity-over}
 use Rattle.law_drives.specs.Tests.{false-true, and-false-left, and-false-right, cond-true, cond-false, eqb-self}
 use Rattle.law_drives.specs.Zones.{Sized, hitsAt, zoneStore, hits, zone-stored}
-use Rattle.proof_answers.specs.Lengths.{Fair, put-fair, headers-proper, resets-proper, footers-proper, footers-count}
+use Rattle.proof_answers.specs.Lengths.{Fair, put-fair, headers-proper, resets-proper, footers-proper, footer-chunks-count}
 use Rattle.proof_answers.specs.Rising.{Rises, rises-few, Proper, Able, able-none}
 
 -- ---- resets of a segment
@@ -106,18 +106,18 @@ module _ (p : Params) (r : Ranged p) (v : View) (sized : Sized p v) (fair : (d z
   chunk = put d g (slotBlock p (m .inflight) i d) (recordBytes (flightRec p st i d))
 
   -- 01, Refusals, 5: a drive of the array, an eighth of the buffer
-  waits-low : (d < p .N) × (i < 8)
+  land-waits-low : (d < p .N) × (i < 8)
   unfolding waiting slotCount
-  waits-low =
+  land-waits-low =
       let a = ltb d (p .N) in
       let b = ltb i 8 in
       let h : a && b ≡ true = and-left (a && b) (ready p st i d) waits in
       (ltb-true d (p .N) (and-left a b h), ltb-true i 8 (and-right a b h))
 
   -- 01, Refusals, 9: the pointer is at a data block, and footers have room
-  faults : (misplaced p v d g s ≡ false) × (seals p st i d && overfull p v d g ≡ false)
+  misplaced-none : (misplaced p v d g s ≡ false) × (seals p st i d && overfull p v d g ≡ false)
   unfolding landFaults zoneOn
-  faults =
+  misplaced-none =
       let zs = cond (completes p st i d) (flat (entryFaults p v (m .addresses)) (entriesIn st i)) [] in
       let (a, e) = not-put (misplaced p v d g s) g (consIf (seals p st i d && overfull p v d g) g zs) none in
       (a, not-put (seals p st i d && overfull p v d g) g zs e .0)
@@ -127,7 +127,7 @@ module _ (p : Params) (r : Ranged p) (v : View) (sized : Sized p v) (fair : (d z
   at-data =
       let n = pointerAt v d g in
       let h : between 1 (p .S) n ≡ true =
-      and-left (between 1 (p .S) n) (eqb (group p (n - 1)) (group p s)) (not-false (between 1 (p .S) n && eqb (group p (n - 1)) (group p s)) (faults .0)) in
+      and-left (between 1 (p .S) n) (eqb (group p (n - 1)) (group p s)) (not-false (between 1 (p .S) n && eqb (group p (n - 1)) (group p s)) (misplaced-none .0)) in
       (between-low 1 (p .S) n h, between-high 1 (p .S) n h)
 
   -- 01, Write: the open segment is one of the array
@@ -136,18 +136,18 @@ module _ (p : Params) (r : Ranged p) (v : View) (sized : Sized p v) (fair : (d z
     where
       outside : p .Z ≤ g → pointerAt v d g ≡ 0
       outside h = unfold pointerAt zoneAt noZone in
-          ap (λ (q : Zone). q .pointer) (List·getD-eq-default (getD v d []) noZone (subst (λ (x : ℕ). x ≤ g) (sym (sized .zones-long d (waits-low .0))) h))
+          ap (λ (q : Zone). q .pointer) (List·getD-eq-default (getD v d []) noZone (subst (λ (x : ℕ). x ≤ g) (sym (sized .zones-long d (land-waits-low .0))) h))
 
       go : Dec (g < p .Z) → g < p .Z
       go (yes h) = h
       go (no h) = let e = outside (omega arith) in let a = at-data .0 in absurd (let x : ⊥ = omega arith in x)
 
   chunk-proper : Proper p chunk
-  chunk-proper = (waits-low .0, open-low, block, length-record (flightRec p st i d))
+  chunk-proper = (land-waits-low .0, open-low, block, length-record (flightRec p st i d))
     where
       block : length (slotBlock p (m .inflight) i d) ≡ p .B
       block = unfold slotBlock in length-part (slotByte p i d) (p .B) (m .inflight)
-          (subst (λ (x : ℕ). slotByte p i d + p .B ≤ x) (sym lent) (slot-within p i d (waits-low .1) (waits-low .0)))
+          (subst (λ (x : ℕ). slotByte p i d + p .B ≤ x) (sym lent) (slot-within p i d (land-waits-low .1) (land-waits-low .0)))
 
   chunk-hit : (e y : ℕ) → hitsAt e y chunk ≡ (eqb d e && eqb g y)
   unfolding hitsAt
@@ -203,18 +203,18 @@ module _ (p : Params) (r : Ranged p) (v : View) (sized : Sized p v) (fair : (d z
   abbrev feet : ℕ → List Chunk
   feet e = footerChunks p (zoneAt after e g) 0 (footers p)
 
-  feet-are : sealStores p after g ≡ flat (λ e. map (putAt e g) (feet e)) (drivesOf p)
+  seal-feet-are : sealStores p after g ≡ flat (λ e. map (putAt e g) (feet e)) (drivesOf p)
   unfolding sealStores zoneOn
-  feet-are = flat-cong (λ e. footerStores p e g (zoneAt after e g) 0 (footers p)) (λ e. map (putAt e g) (feet e)) (drivesOf p)
+  seal-feet-are = flat-cong (λ e. footerStores p e g (zoneAt after e g) 0 (footers p)) (λ e. map (putAt e g) (feet e)) (drivesOf p)
       (λ e i. footer-puts p e g (zoneAt after e g) 0 (footers p))
 
   feet-hits : (e y : ℕ) → e < p .N → hits e y (sealStores p after g) ≡ cond (eqb g y) (map (putAt e g) (feet e)) []
-  feet-hits e y he = ap (hits e y) feet-are ∙ hits-each p e y g feet he
+  feet-hits e y he = ap (hits e y) seal-feet-are ∙ hits-each p e y g feet he
 
-  feet-here : (e : ℕ) → e < p .N → length (hits e g (sealStores p after g)) ≡ footers p
-  feet-here e he =
+  seal-feet-count : (e : ℕ) → e < p .N → length (hits e g (sealStores p after g)) ≡ footers p
+  seal-feet-count e he =
       ap length (feet-hits e g he ∙ cond-true (eqb g g) (map (putAt e g) (feet e)) [] (eqb-self g))
-      ∙ length-map (feet e) (putAt e g) ∙ footers-count p (zoneAt after e g) 0 (footers p)
+      ∙ length-map (feet e) (putAt e g) ∙ footer-chunks-count p (zoneAt after e g) 0 (footers p)
 
   feet-proper : (t : Store) → In t (sealStores p after g) → Proper p t
   unfolding sealStores zoneOn drivesOf
@@ -224,11 +224,11 @@ module _ (p : Params) (r : Ranged p) (v : View) (sized : Sized p v) (fair : (d z
       footers-proper p r (zoneAt after e g) (after-fair e he) e g 0 (footers p) he open-low t k
 
   -- 01, Refusals, 9: no zone is filled above its capacity
-  feet-room : seals p st i d ≡ true → (e : ℕ) → e < p .N → pointerAt v e g + cond (eqb e d) 1 0 + footers p ≤ capacity p
+  seal-feet-room : seals p st i d ≡ true → (e : ℕ) → e < p .N → pointerAt v e g + cond (eqb e d) 1 0 + footers p ≤ capacity p
   unfolding overfull zoneOn drivesOf
-  feet-room q e he =
+  seal-feet-room q e he =
       let f : ℕ → Bool = λ e. ltb (capacity p) (pointerAt v e g + cond (eqb e d) 1 0 + footers p) in
-      let o : any f (below (p .N)) ≡ false = sym (ap (λ (b : Bool). b && any f (below (p .N))) q) ∙ faults .1 in
+      let o : any f (below (p .N)) ≡ false = sym (ap (λ (b : Bool). b && any f (below (p .N))) q) ∙ misplaced-none .1 in
       ltb-false (capacity p) (pointerAt v e g + cond (eqb e d) 1 0 + footers p) (none-in f (below (p .N)) o e (in-below (p .N) e he))
 
   pub land-able : Able p v (landPlan p v m d s .stores)
@@ -250,13 +250,13 @@ module _ (p : Params) (r : Ranged p) (v : View) (sized : Sized p v) (fair : (d z
       sealed : seals p st i d ≡ true → Able p v (chunk ∷ sealStores p after g)
       sealed q =
           let ss = sealStores p after g in
-          let hd = waits-low .0 in
+          let hd = land-waits-low .0 in
           record {
             proper = both ss feet-proper;
             rises = land-rises ss
                 (λ e y he hy n. feet-hits e y he ∙ cond-false (eqb g y) (map (putAt e g) (feet e)) [] (ne-eqb g y n))
-                (let a = feet-room q d hd in let b = feet-here d hd in let c = plus (pointerAt v d g) (eqb d d) (eqb-self d) in omega arith)
-                (λ e he n. rises-few p (pointerAt v e g) (hits e g ss) (let a = feet-room q e he in let b = feet-here e he in let c = over (pointerAt v e g) (eqb e d) in omega arith));
+                (let a = seal-feet-room q d hd in let b = seal-feet-count d hd in let c = plus (pointerAt v d g) (eqb d d) (eqb-self d) in omega arith)
+                (λ e he n. rises-few p (pointerAt v e g) (hits e g ss) (let a = seal-feet-room q e he in let b = seal-feet-count e he in let c = over (pointerAt v e g) (eqb e d) in omega arith));
           }
 
       unsealed : Able p v (chunk ∷ [])

@@ -64,32 +64,32 @@ refusal-number f (zones (z ∷ zs) ∷ cs) a h e =
 -- ---- verdicts
 
 -- a refusal of the call's numbers, or stores of a call that can store and the call's own result
-pub data Says (c : Call) (w : Verdict) : Type 0 where
-  says-no : (a : Answer) → w ≡ refused a → isRefused a ≡ true → isMember (refusalNumber a) (refusalsOf c) ≡ true → Says c w
-  says-yes : (q : Plan) → w ≡ due q → isMember (kind (q .answer)) (resultsOf c) ≡ true → (canStore c ≡ true) ⊎ (q .stores ≡ []) → Says c w
+pub data VerdictSays (c : Call) (w : Verdict) : Type 0 where
+  says-no : (a : Answer) → w ≡ refused a → isRefused a ≡ true → isMember (refusalNumber a) (refusalsOf c) ≡ true → VerdictSays c w
+  says-yes : (q : Plan) → w ≡ due q → isMember (kind (q .answer)) (resultsOf c) ≡ true → (canStore c ≡ true) ⊎ (q .stores ≡ []) → VerdictSays c w
 
 says-decided : (c : Call) (cs : List Check) (q : Plan) → all (λ n. isMember n (refusalsOf c)) (numbersOf cs) ≡ true
-    → isMember (kind (q .answer)) (resultsOf c) ≡ true → (canStore c ≡ true) ⊎ (q .stores ≡ []) → Says c (decided (firstRefusal cs) q)
+    → isMember (kind (q .answer)) (resultsOf c) ≡ true → (canStore c ≡ true) ⊎ (q .stores ≡ []) → VerdictSays c (decided (firstRefusal cs) q)
 says-decided c cs q h k s = go (decide cs q)
   where
-    go : Decided cs q (decided (firstRefusal cs) q) → Says c (decided (firstRefusal cs) q)
+    go : Decided cs q (decided (firstRefusal cs) q) → VerdictSays c (decided (firstRefusal cs) q)
     go (stops a e w) = says-no a w (refusal-kind cs a e) (refusal-number (λ n. isMember n (refusalsOf c)) cs a h e)
     go (goes i w) = says-yes q w k s
 
 module _ (p : Params) (long : Bool) (v : View) (m : Memory) where
-  write-says : (a : ℕ) (b : List ℕ) (n : ℕ) → Says (write a b n) (writeVerdict p long v m a b)
+  write-says : (a : ℕ) (b : List ℕ) (n : ℕ) → VerdictSays (write a b n) (writeVerdict p long v m a b)
   unfolding writeVerdict writeChecks writePlan numbersOf all any isMember refusalsOf resultsOf canStore kind
   write-says a b n = says-decided (write a b n) (writeChecks p long v m a b) (writePlan p v m a b) refl refl (inl refl)
 
-  land-says : (d s n : ℕ) → Says (land d s n) (landVerdict p long v m d s)
+  land-says : (d s n : ℕ) → VerdictSays (land d s n) (landVerdict p long v m d s)
   unfolding landVerdict landChecks landPlan numbersOf all any isMember refusalsOf resultsOf canStore kind
   land-says d s n = says-decided (land d s n) (landChecks p long v m d s) (landPlan p v m d s) refl refl (inl refl)
 
-  close-says : (n : ℕ) → Says (close n) (closeVerdict p long v m)
+  close-says : (n : ℕ) → VerdictSays (close n) (closeVerdict p long v m)
   unfolding closeVerdict closeChecks closePlan numbersOf all any isMember refusalsOf resultsOf canStore kind
   close-says n = says-decided (close n) (closeChecks p long v m) (closePlan p m) refl refl (inr refl)
 
-  reclaim-says : (n : ℕ) → Says (reclaim n) (reclaimVerdict p long v m)
+  reclaim-says : (n : ℕ) → VerdictSays (reclaim n) (reclaimVerdict p long v m)
   unfolding reclaimVerdict reclaimChecks numbersOf all any isMember refusalsOf resultsOf canStore
   reclaim-says n =
       let w = victim p v (m .addresses) in
@@ -102,7 +102,7 @@ module _ (p : Params) (long : Bool) (v : View) (m : Memory) where
       either true g q = unfold resetPlan kind resultsOf isMember any in refl
       either false g q = unfold copyPlan kind resultsOf isMember any in refl
 
-  read-says : (a : ℕ) → Says (read a) (readVerdict p long v m a)
+  read-says : (a : ℕ) → VerdictSays (read a) (readVerdict p long v m a)
   unfolding readVerdict readChecks numbersOf all any isMember refusalsOf resultsOf canStore
   read-says a =
       let gone = m .state .missing in
@@ -115,7 +115,7 @@ module _ (p : Params) (long : Bool) (v : View) (m : Memory) where
       found (here q) = unfold readAnswer kind resultsOf isMember any in refl
       found (away q) = unfold readAnswer kind resultsOf isMember any in refl
 
-  fill-says : (a : ℕ) (b : List ℕ) → Says (fill a b) (fillVerdict p long v m a b)
+  fill-says : (a : ℕ) (b : List ℕ) → VerdictSays (fill a b) (fillVerdict p long v m a b)
   unfolding fillVerdict readChecks numbersOf all any isMember refusalsOf resultsOf canStore kind
   fill-says a b =
       let gone = m .state .missing in
@@ -124,28 +124,28 @@ module _ (p : Params) (long : Bool) (v : View) (m : Memory) where
       (readChecks p (long && eqb (length b) (p .B)) a ++ (zones (stateFaults p (m .state) ++ foundFaults p v gone f) ∷ zones (decodeFaults p v gone (m .compact) f) ∷ []))
       (mkPlan [] Filled m (readPiece p v gone (m .compact) f .block)) refl refl (inr refl)
 
-  restart-says : (d n : ℕ) → Says (restart d n) (restartVerdict p long v m d)
+  restart-says : (d n : ℕ) → VerdictSays (restart d n) (restartVerdict p long v m d)
   unfolding restartVerdict restartChecks imageChecks restartPlan numbersOf all any isMember refusalsOf resultsOf canStore kind
   restart-says d n =
       let gs = segments p v (named d) in
       says-decided (restart d n) (restartChecks p long v d gs) (restartPlan p v d gs (m .inflight)) refl refl (inl refl)
 
-  rebuild-says : (d n : ℕ) → Says (rebuild d n) (rebuildVerdict p long v m d)
+  rebuild-says : (d n : ℕ) → VerdictSays (rebuild d n) (rebuildVerdict p long v m d)
   unfolding rebuildVerdict rebuildChecks imageChecks numbersOf all any isMember refusalsOf resultsOf canStore kind
   rebuild-says d n =
       let gs = segments p v (named d) in
       says-decided (rebuild d n) (rebuildChecks p long v m d gs) (mkPlan (rebuildStores p d gs) Rebuilt m []) refl refl (inl refl)
 
-  pub says : (c : Call) → Says c (verdict p long v m c)
+  pub verdict-says : (c : Call) → VerdictSays c (verdict p long v m c)
   unfolding verdict
-  says (write a b n) = write-says a b n
-  says (land d s n) = land-says d s n
-  says (close n) = close-says n
-  says (reclaim n) = reclaim-says n
-  says (read a) = read-says a
-  says (fill a b) = fill-says a b
-  says (restart d n) = restart-says d n
-  says (rebuild d n) = rebuild-says d n
+  verdict-says (write a b n) = write-says a b n
+  verdict-says (land d s n) = land-says d s n
+  verdict-says (close n) = close-says n
+  verdict-says (reclaim n) = reclaim-says n
+  verdict-says (read a) = read-says a
+  verdict-says (fill a b) = fill-says a b
+  verdict-says (restart d n) = restart-says d n
+  verdict-says (rebuild d n) = rebuild-says d n
 
 -- ---- the store count chooses only how many stores are made
 

@@ -12,7 +12,7 @@ use Rattle.spec.specs.Lists.{only}
 use Rattle.spec.specs.Memory.{stateSections, cell, idleState, zeroState, filledIn, landedIn, setStamp, setOpen, setClosed, beginStripe, addEntry, landedMask, markLanded, freeStripe}
 use Rattle.law_basic.specs.Mask.{only-lt}
 use Rattle.law_drives.specs.Tables.{zero-at}
-use Rattle.proof_bytes.specs.Sections.{limit, limit-pos, Fill, Fits}
+use Rattle.proof_bytes.specs.Sections.{limit, limit-pos, LowList, StateFits}
 
 -- ---- lists of numbers
 
@@ -28,16 +28,16 @@ set-le [] i x = omega arith
 set-le (a ∷ l) zero x = omega arith
 set-le (a ∷ l) (suc i) x = set-le l i x
 
-fill-set : {n m : ℕ} (l : List ℕ) (i x : ℕ) → Fill n m l → x < m → Fill n m (set l i x)
+fill-set : {n m : ℕ} (l : List ℕ) (i x : ℕ) → LowList n m l → x < m → LowList n m (set l i x)
 fill-set {n} {m} l i x f g = (length-set l i x ∙ f .0, low-set m l i x (f .1) g)
 
-fill-zeros : (n m : ℕ) → 0 < m → Fill n m (replicate n 0)
-fill-zeros n m h = (length-replicate n 0, λ k. subst (λ (x : ℕ). x < m) (sym (zero-at n k)) h)
+zeros-low : (n m : ℕ) → 0 < m → LowList n m (replicate n 0)
+zeros-low n m h = (length-replicate n 0, λ k. subst (λ (x : ℕ). x < m) (sym (zero-at n k)) h)
 
 -- ---- the state with a part changed
 
-module _ (st : State) (f : Fits st) where
-  pub fits-stamp : (t : ℕ) → t < limit 2 → Fits (setStamp st t)
+module _ (st : State) (f : StateFits st) where
+  pub fits-stamp : (t : ℕ) → t < limit 2 → StateFits (setStamp st t)
   unfolding setStamp
   fits-stamp t h = record {
     live-fits = f .live-fits;
@@ -55,7 +55,7 @@ module _ (st : State) (f : Fits st) where
     offsets-fit = f .offsets-fit;
   }
 
-  pub fits-open : (g r : ℕ) → suc g < limit 4 → r < limit 3 → Fits (setOpen st g r)
+  pub fits-open : (g r : ℕ) → suc g < limit 4 → r < limit 3 → StateFits (setOpen st g r)
   unfolding setOpen
   fits-open g r h k = record {
     live-fits = f .live-fits;
@@ -73,7 +73,7 @@ module _ (st : State) (f : Fits st) where
     offsets-fit = f .offsets-fit;
   }
 
-  pub fits-closed : Fits (setClosed st)
+  pub fits-closed : StateFits (setClosed st)
   unfolding setClosed
   fits-closed = record {
     live-fits = f .live-fits;
@@ -91,7 +91,7 @@ module _ (st : State) (f : Fits st) where
     offsets-fit = f .offsets-fit;
   }
 
-  pub fits-begin : (i : ℕ) → st .next < limit 6 → suc (st .next) < limit 5 → Fits (beginStripe st i)
+  pub fits-begin : (i : ℕ) → st .next < limit 6 → suc (st .next) < limit 5 → StateFits (beginStripe st i)
   unfolding beginStripe
   fits-begin i g h = record {
     live-fits = f .live-fits;
@@ -114,7 +114,7 @@ module _ (st : State) (f : Fits st) where
   write-bit (suc zero) k h = subst (λ (x : ℕ). x < 256) (sym (one-mul (only k))) (only-lt k)
   write-bit (suc (suc w)) k h = absurd (let z : ⊥ = omega arith in z)
 
-  pub fits-add : (i a t w : ℕ) → suc (filledIn st i) < limit 7 → a < limit 10 → t < limit 11 → w ≤ 1 → Fits (addEntry st i a t w)
+  pub fits-add : (i a t w : ℕ) → suc (filledIn st i) < limit 7 → a < limit 10 → t < limit 11 → w ≤ 1 → StateFits (addEntry st i a t w)
   unfolding addEntry stateSections
   fits-add i a t w h ha ht hw =
       let k = filledIn st i in
@@ -134,7 +134,7 @@ module _ (st : State) (f : Fits st) where
         offsets-fit = f .offsets-fit;
       }
 
-  pub fits-mark : (i d o : ℕ) → o < limit 12 → Fits (markLanded st i d o)
+  pub fits-mark : (i d o : ℕ) → o < limit 12 → StateFits (markLanded st i d o)
   unfolding markLanded landedMask landedIn stateSections
   fits-mark i d o h = record {
     live-fits = f .live-fits;
@@ -152,7 +152,7 @@ module _ (st : State) (f : Fits st) where
     offsets-fit = fill-set (st .offsets) (cell i d) o (f .offsets-fit) h;
   }
 
-  pub fits-free : (i : ℕ) → Fits (freeStripe st i)
+  pub fits-free : (i : ℕ) → StateFits (freeStripe st i)
   unfolding freeStripe
   fits-free i = record {
     live-fits = f .live-fits;
@@ -173,7 +173,7 @@ module _ (st : State) (f : Fits st) where
 -- ---- nothing in flight
 
 pub fits-idle : (live gone stamp serial opened next : ℕ) → live < limit 0 → gone < limit 1 → stamp < limit 2 → serial < limit 3 → opened < limit 4 → next < limit 5
-    → Fits (idleState live gone stamp serial opened next)
+    → StateFits (idleState live gone stamp serial opened next)
 unfolding idleState stateSections
 fits-idle live gone stamp serial opened next a b c d e g = record {
   live-fits = a;
@@ -182,15 +182,15 @@ fits-idle live gone stamp serial opened next a b c d e g = record {
   serial-fits = d;
   opened-fits = e;
   next-fits = g;
-  numbers-fit = fill-zeros 8 (limit 6) (limit-pos 6);
-  filled-fit = fill-zeros 8 (limit 7) (limit-pos 7);
-  writes-fit = fill-zeros 8 (limit 8) (limit-pos 8);
-  landed-fit = fill-zeros 8 (limit 9) (limit-pos 9);
-  addresses-fit = fill-zeros 64 (limit 10) (limit-pos 10);
-  stamps-fit = fill-zeros 64 (limit 11) (limit-pos 11);
-  offsets-fit = fill-zeros 64 (limit 12) (limit-pos 12);
+  numbers-fit = zeros-low 8 (limit 6) (limit-pos 6);
+  filled-fit = zeros-low 8 (limit 7) (limit-pos 7);
+  writes-fit = zeros-low 8 (limit 8) (limit-pos 8);
+  landed-fit = zeros-low 8 (limit 9) (limit-pos 9);
+  addresses-fit = zeros-low 64 (limit 10) (limit-pos 10);
+  stamps-fit = zeros-low 64 (limit 11) (limit-pos 11);
+  offsets-fit = zeros-low 64 (limit 12) (limit-pos 12);
 }
 
-pub fits-zero : Fits zeroState
+pub fits-zero : StateFits zeroState
 unfolding zeroState
 fits-zero = fits-idle 0 0 0 0 0 0 (limit-pos 0) (limit-pos 1) (limit-pos 2) (limit-pos 3) (limit-pos 4) (limit-pos 5)

@@ -35,9 +35,9 @@ use Rattle.law_drives.specs.Members.{In, map-in, keep-in, below-in, first-in}
 use Rattle.law_drives.specs.Segs.{remaining-low, seg-is}
 use Rattle.law_drives.specs.Tests.{clash}
 use Rattle.law_drives.specs.States.{StateOk, state-of}
-use Rattle.proof_bytes.specs.Sections.{limit, limit-pos, Fits}
+use Rattle.proof_bytes.specs.Sections.{limit, limit-pos, StateFits}
 use Rattle.proof_bytes.specs.Changes.{low-set, set-le, fits-stamp, fits-open, fits-closed, fits-begin, fits-add, fits-mark, fits-free, fits-idle}
-use Rattle.proof_bytes.specs.Reads.{Reads, stamps-low, serials-low}
+use Rattle.proof_bytes.specs.Reads.{LowReads, stamps-low, serials-low}
 
 -- ---- what a state in range bounds
 
@@ -46,11 +46,11 @@ pub record Small (st : State) : Type 0 where
   pub filled-small : (i : ℕ) → getD (st .filled) i 0 < 8
   pub next-small : st .next ≤ 65535
 
-nil-left : (s t : List ℕ) → s ++ t ≡ [] → s ≡ []
-nil-left [] t q = refl
-nil-left (a ∷ s) t q = absurd (let z : _≡_ {A = ℕ} (suc (length (s ++ t))) 0 = ap length q in let y : ⊥ = omega arith in y)
+append-nil-left : (s t : List ℕ) → s ++ t ≡ [] → s ≡ []
+append-nil-left [] t q = refl
+append-nil-left (a ∷ s) t q = absurd (let z : _≡_ {A = ℕ} (suc (length (s ++ t))) 0 = ap length q in let y : ⊥ = omega arith in y)
 
-module _ (p : Params) (st : State) (f : Fits st) (r : Ranged p) (so : StateOk p st) where
+module _ (p : Params) (st : State) (f : StateFits st) (r : Ranged p) (so : StateOk p st) where
   small : Small st
   unfolding stateSections
   small = record { filled-small = λ i. go i (decLt i 8); next-small = let a = so .next-low in let b = r .stripes-high in omega arith }
@@ -64,9 +64,9 @@ module _ (p : Params) (st : State) (f : Fits st) (r : Ranged p) (so : StateOk p 
 
 -- ---- a block sent
 
-first-low : (p : Params) (v : View) → 4 ≤ p .Z → firstOr 0 (emptyZones p v) < p .Z
+first-empty-low : (p : Params) (v : View) → 4 ≤ p .Z → firstOr 0 (emptyZones p v) < p .Z
 unfolding isNil
-first-low p v h = go (test (isNil (emptyZones p v)))
+first-empty-low p v h = go (test (isNil (emptyZones p v)))
   where
     inside : In (firstOr 0 (emptyZones p v)) (emptyZones p v) → firstOr 0 (emptyZones p v) < p .Z
     inside m = below-in (p .Z) (firstOr 0 (emptyZones p v)) (of! (firstOr 0 (emptyZones p v)) m)
@@ -82,45 +82,45 @@ first-low p v h = go (test (isNil (emptyZones p v)))
     go (yes! q) = nothing (emptyZones p v) q
     go (no! q) = inside (first-in (emptyZones p v) 0 q)
 
-module _ (p : Params) (r : Ranged p) (v : View) (st : State) (f : Fits st) (m : Small st) (serial : opens p st ≡ true → suc (st .serial .0) < limit 3) where
-  opened : Fits (openedBy p v st) × Small (openedBy p v st)
+module _ (p : Params) (r : Ranged p) (v : View) (st : State) (f : StateFits st) (m : Small st) (serial : opens p st ≡ true → suc (st .serial .0) < limit 3) where
+  opened-fits : StateFits (openedBy p v st) × Small (openedBy p v st)
   unfolding openedBy setOpen stateSections
-  opened = go (test (opens p st))
+  opened-fits = go (test (opens p st))
     where
       st′ : State
       st′ = setOpen st (firstOr 0 (emptyZones p v)) (suc (st .serial .0))
 
-      go : Test (opens p st) → Fits (cond (opens p st) st′ st) × Small (cond (opens p st) st′ st)
-      go (yes! q) = subst (λ (b : Bool). Fits (cond b st′ st) × Small (cond b st′ st)) (sym q) (
-        fits-open st f (firstOr 0 (emptyZones p v)) (suc (st .serial .0)) (let a = first-low p v (r .zones-low) in let b = r .zones-high in omega arith) (serial q),
+      go : Test (opens p st) → StateFits (cond (opens p st) st′ st) × Small (cond (opens p st) st′ st)
+      go (yes! q) = subst (λ (b : Bool). StateFits (cond b st′ st) × Small (cond b st′ st)) (sym q) (
+        fits-open st f (firstOr 0 (emptyZones p v)) (suc (st .serial .0)) (let a = first-empty-low p v (r .zones-low) in let b = r .zones-high in omega arith) (serial q),
         record { filled-small = m .filled-small; next-small = omega arith },
       )
-      go (no! q) = subst (λ (b : Bool). Fits (cond b st′ st) × Small (cond b st′ st)) (sym q) (f, m)
+      go (no! q) = subst (λ (b : Bool). StateFits (cond b st′ st) × Small (cond b st′ st)) (sym q) (f, m)
 
-  begins : (st₁ : State) (i : ℕ) → Fits st₁ → Small st₁ → Fits (beginStripe st₁ i) × ((k : ℕ) → getD (beginStripe st₁ i .filled) k 0 < 8)
+  begun-fits : (st₁ : State) (i : ℕ) → StateFits st₁ → Small st₁ → StateFits (beginStripe st₁ i) × ((k : ℕ) → getD (beginStripe st₁ i .filled) k 0 < 8)
   unfolding beginStripe stateSections
-  begins st₁ i g s = (fits-begin st₁ g i (let a = s .next-small in omega arith) (let a = s .next-small in omega arith), low-set 8 (st₁ .filled) i 0 (s .filled-small) (lit< tt))
+  begun-fits st₁ i g s = (fits-begin st₁ g i (let a = s .next-small in omega arith) (let a = s .next-small in omega arith), low-set 8 (st₁ .filled) i 0 (s .filled-small) (lit< tt))
 
-  begun : Fits (begunBy p st (openedBy p v st)) × ((k : ℕ) → getD (begunBy p st (openedBy p v st) .filled) k 0 < 8)
+  begunBy-fits : StateFits (begunBy p st (openedBy p v st)) × ((k : ℕ) → getD (begunBy p st (openedBy p v st) .filled) k 0 < 8)
   unfolding begunBy
-  begun = go (hasFilling p st) (begins (openedBy p v st) (freeSlot st) (opened .0) (opened .1))
+  begunBy-fits = go (hasFilling p st) (begun-fits (openedBy p v st) (freeSlot st) (opened-fits .0) (opened-fits .1))
     where
-      go : (b : Bool) → Fits (beginStripe (openedBy p v st) (freeSlot st)) × ((k : ℕ) → getD (beginStripe (openedBy p v st) (freeSlot st) .filled) k 0 < 8)
-          → Fits (cond b st (beginStripe (openedBy p v st) (freeSlot st))) × ((k : ℕ) → getD (cond b st (beginStripe (openedBy p v st) (freeSlot st)) .filled) k 0 < 8)
+      go : (b : Bool) → StateFits (beginStripe (openedBy p v st) (freeSlot st)) × ((k : ℕ) → getD (beginStripe (openedBy p v st) (freeSlot st) .filled) k 0 < 8)
+          → StateFits (cond b st (beginStripe (openedBy p v st) (freeSlot st))) × ((k : ℕ) → getD (cond b st (beginStripe (openedBy p v st) (freeSlot st)) .filled) k 0 < 8)
       go true h = (f, m .filled-small)
       go false h = h
 
-  pub sending-fits : (fl : List ℕ) (a t w : ℕ) (b : List ℕ) → a < limit 10 → t < limit 11 → w ≤ 1 → Fits (sending p v st fl a t w b .state)
+  pub sending-fits : (fl : List ℕ) (a t w : ℕ) (b : List ℕ) → a < limit 10 → t < limit 11 → w ≤ 1 → StateFits (sending p v st fl a t w b .state)
   unfolding sending placed stateSections
   sending-fits fl a t w b ha ht hw =
-      fits-add (begunBy p st (openedBy p v st)) (begun .0) (slotFor p st) a t w (few (slotFor p st)) ha ht hw
+      fits-add (begunBy p st (openedBy p v st)) (begunBy-fits .0) (slotFor p st) a t w (few (slotFor p st)) ha ht hw
     where
       few : (i : ℕ) → suc (filledIn (begunBy p st (openedBy p v st)) i) < limit 7
-      few i = unfold filledIn in (let x = begun .1 i in omega arith)
+      few i = unfold filledIn in (let x = begunBy-fits .1 i in omega arith)
 
 -- ---- the calls
 
-module _ (p : Params) (long : Bool) (v : View) (m : Memory) (f : Fits (m .state)) where
+module _ (p : Params) (long : Bool) (v : View) (m : Memory) (f : StateFits (m .state)) where
   abbrev st : State
   st = m .state
 
@@ -143,7 +143,7 @@ module _ (p : Params) (long : Bool) (v : View) (m : Memory) (f : Fits (m .state)
       below-last : (x : ℕ) → (x ≡ lastCount → ⊥) → x < limit 3 → suc x < limit 3
       below-last x n b = omega arith
 
-  pub write-fits : (a : ℕ) (b : List ℕ) → firstRefusal (writeChecks p long v m a b) ≡ none → Fits (writePlan p v m a b .memory .state)
+  pub write-fits : (a : ℕ) (b : List ℕ) → firstRefusal (writeChecks p long v m a b) ≡ none → StateFits (writePlan p v m a b .memory .state)
   unfolding writePlan stateSections
   write-fits a b e =
       let c = write-passed p long v m a b e in
@@ -171,7 +171,7 @@ module _ (p : Params) (long : Bool) (v : View) (m : Memory) (f : Fits (m .state)
       let b = r .stripes-high in
       omega arith
 
-  pub land-fits : (d s : ℕ) → firstRefusal (landChecks p long v m d s) ≡ none → Fits (landPlan p v m d s .memory .state)
+  pub land-fits : (d s : ℕ) → firstRefusal (landChecks p long v m d s) ≡ none → StateFits (landPlan p v m d s .memory .state)
   unfolding landPlan
   land-fits d s e =
       let c = land-passed p long v m d s e in
@@ -191,7 +191,7 @@ module _ (p : Params) (long : Bool) (v : View) (m : Memory) (f : Fits (m .state)
               (cond (completes p st (slotOf st s) d) (flat (entryFaults p v (m .addresses)) (entriesIn st (slotOf st s))) [])) ≡ []
           of! q = unfold landFaults in q
 
-      go : (a b : Bool) (x : State) (i : ℕ) → Fits x → Fits (cond b (setClosed (cond a (freeStripe x i) x)) (cond a (freeStripe x i) x))
+      go : (a b : Bool) (x : State) (i : ℕ) → StateFits x → StateFits (cond b (setClosed (cond a (freeStripe x i) x)) (cond a (freeStripe x i) x))
       go true true x i h = fits-closed (freeStripe x i) (fits-free x h i)
       go true false x i h = fits-free x h i
       go false true x i h = fits-closed x h
@@ -199,7 +199,7 @@ module _ (p : Params) (long : Bool) (v : View) (m : Memory) (f : Fits (m .state)
 
   -- ---- closing
 
-  padded-fits : (i k : ℕ) (x : State) (fl : List ℕ) → Fits x → filledIn x i + k < limit 7 → Fits (padded p i k x fl .state)
+  padded-fits : (i k : ℕ) (x : State) (fl : List ℕ) → StateFits x → filledIn x i + k < limit 7 → StateFits (padded p i k x fl .state)
   unfolding padded placed stateSections
   padded-fits i zero x fl h l = h
   padded-fits i (suc k) x fl h l =
@@ -210,7 +210,7 @@ module _ (p : Params) (long : Bool) (v : View) (m : Memory) (f : Fits (m .state)
       one-more : filledIn (addEntry x i paddingAddress 0 0) i ≤ suc (filledIn x i)
       one-more = unfold filledIn addEntry in set-le (x .filled) i (suc (getD (x .filled) i 0))
 
-  pub close-fits : firstRefusal (closeChecks p long v m) ≡ none → Fits (closePlan p m .memory .state)
+  pub close-fits : firstRefusal (closeChecks p long v m) ≡ none → StateFits (closePlan p m .memory .state)
   unfolding closePlan stateSections
   close-fits e =
       let c = close-passed p long v m e in
@@ -224,20 +224,20 @@ module _ (p : Params) (long : Bool) (v : View) (m : Memory) (f : Fits (m .state)
 
   -- ---- reclaim
 
-  pub reclaim-fits : Reads p v → (w : Opt Victim) (q : ℕ) → firstRefusal (reclaimChecks p long v m w) ≡ none
-      → Fits (cond (isNil (victimLive w)) (resetPlan p m (victimSegment w)) (copyPlan p v m q) .memory .state)
+  pub reclaim-fits : LowReads p v → (w : Opt Victim) (q : ℕ) → firstRefusal (reclaimChecks p long v m w) ≡ none
+      → StateFits (cond (isNil (victimLive w)) (resetPlan p m (victimSegment w)) (copyPlan p v m q) .memory .state)
   unfolding resetPlan copyPlan recordAt stateSections
   reclaim-fits h w q o = go (test (isNil (victimLive w)))
     where
       c : ReclaimPassed p long v m w
       c = reclaim-passed p long v m w o
 
-      go : Test (isNil (victimLive w)) → Fits (cond (isNil (victimLive w)) (resetPlan p m (victimSegment w)) (copyPlan p v m q) .memory .state)
-      go (yes! e) = subst (λ (b : Bool). Fits (cond b (resetPlan p m (victimSegment w)) (copyPlan p v m q) .memory .state)) (sym e) f
+      go : Test (isNil (victimLive w)) → StateFits (cond (isNil (victimLive w)) (resetPlan p m (victimSegment w)) (copyPlan p v m q) .memory .state)
+      go (yes! e) = subst (λ (b : Bool). StateFits (cond b (resetPlan p m (victimSegment w)) (copyPlan p v m q) .memory .state)) (sym e) f
       go (no! e) =
           let r = ranged p (c .in-range) in
           let so = state-of p r st (c .state-fine) in
-          subst (λ (b : Bool). Fits (cond b (resetPlan p m (victimSegment w)) (copyPlan p v m q) .memory .state)) (sym e)
+          subst (λ (b : Bool). StateFits (cond b (resetPlan p m (victimSegment w)) (copyPlan p v m q) .memory .state)) (sym e)
           (sending-fits p r v st f (small p st f r so) (next-serial (c .serial-left e)) (m .inflight) _ _ 0 _ (h .records-low _ _ _ _ .0) (h .records-low _ _ _ _ .1) (omega arith))
 
 -- ---- restart
@@ -247,7 +247,7 @@ unfolding counted
 counted-few p g = let a = length-keep (counts p 0 g) (below (p .S)) in let b = length-below (p .S) in omega arith
 
 pub idle-fits : (p : Params) → Ranged p → (v : View) (d : ℕ) (fl : List ℕ) → greatestStamp (candidates p (named d) (segments p v (named d))) < limit 2
-    → greatestSerial (segments p v (named d)) < limit 3 → Fits (restartMemory p v (named d) fl .state)
+    → greatestSerial (segments p v (named d)) < limit 3 → StateFits (restartMemory p v (named d) fl .state)
 unfolding restartMemory openOf nextOf stateSections
 idle-fits p r v d fl ht hs =
     fits-idle 1 (named d) (greatestStamp (candidates p (named d) (segments p v (named d)))) (greatestSerial (segments p v (named d))) (openOf us) (nextOf p us)
@@ -282,8 +282,8 @@ idle-fits p r v d fl ht hs =
     low-next [] = lit< tt
     low-next (g ∷ gs) = let a = counted-few p g in let b = r .stripes-high in omega arith
 
-pub restart-fits : (p : Params) (long : Bool) (v : View) (d : ℕ) (fl : List ℕ) → Reads p (storeAll storeView (restartStores p (named d) (segments p v (named d))) v)
-    → firstRefusal (restartChecks p long v d (segments p v (named d))) ≡ none → Fits (restartPlan p v d (segments p v (named d)) fl .memory .state)
+pub restart-fits : (p : Params) (long : Bool) (v : View) (d : ℕ) (fl : List ℕ) → LowReads p (storeAll storeView (restartStores p (named d) (segments p v (named d))) v)
+    → firstRefusal (restartChecks p long v d (segments p v (named d))) ≡ none → StateFits (restartPlan p v d (segments p v (named d)) fl .memory .state)
 unfolding restartPlan stateSections
 restart-fits p long v d fl h e =
     let u = storeAll storeView (restartStores p (named d) (segments p v (named d))) v in

@@ -57,17 +57,17 @@ get-set P (a ∷ l) (suc i) x d h g (suc k) = get-set P l i x d (λ j. h (suc j)
 abbrev pub ChunkBytes : Chunk → Type 0
 ChunkBytes c = Bytes (c .block) × Bytes (c .spare)
 
-abbrev pub ZoneBytes : Zone → Type 0
-ZoneBytes q = (b : ℕ) → ChunkBytes (getD (q .blocks) b noChunk)
+abbrev pub BytesOfZone : Zone → Type 0
+BytesOfZone q = (b : ℕ) → ChunkBytes (getD (q .blocks) b noChunk)
 
 abbrev pub ViewBytes : View → Type 0
-ViewBytes v = (d z : ℕ) → ZoneBytes (zoneAt v d z)
+ViewBytes v = (d z : ℕ) → BytesOfZone (zoneAt v d z)
 
 none-bytes : ChunkBytes noChunk
 unfolding noChunk
 none-bytes = (bytes-nil, bytes-nil)
 
-pub no-zone-bytes : ZoneBytes noZone
+pub no-zone-bytes : BytesOfZone noZone
 unfolding noZone
 no-zone-bytes b = none-bytes
 
@@ -78,21 +78,21 @@ module _ (p : Params) where
   chunks-of u (suc n) zero im h = (bytes-take (p .B) (take u im) (bytes-take u im h), bytes-drop (p .B) (take u im) (bytes-take u im h))
   chunks-of u (suc n) (suc b) im h = chunks-of u n b (drop u im) (bytes-drop u im h)
 
-  zone-of : (im w : List ℕ) → Bytes im → ZoneBytes (zoneOf p im w)
+  zoneOf-bytes : (im w : List ℕ) → Bytes im → BytesOfZone (zoneOf p im w)
   unfolding zoneOf
-  zone-of im w h b = chunks-of (unitLen p) (capacity p) b im h
+  zoneOf-bytes im w h b = chunks-of (unitLen p) (capacity p) b im h
 
-  zones-of : (u n z : ℕ) (im ps : List ℕ) → Bytes im → ZoneBytes (getD (zipped (zoneOf p) (pieces u n im) (pieces 4 n ps)) z noZone)
+  zones-of : (u n z : ℕ) (im ps : List ℕ) → Bytes im → BytesOfZone (getD (zipped (zoneOf p) (pieces u n im) (pieces 4 n ps)) z noZone)
   unfolding pieces zipped
   zones-of u zero z im ps h = no-zone-bytes
-  zones-of u (suc n) zero im ps h = zone-of (take u im) (take 4 ps) (bytes-take u im h)
+  zones-of u (suc n) zero im ps h = zoneOf-bytes (take u im) (take 4 ps) (bytes-take u im h)
   zones-of u (suc n) (suc z) im ps h = zones-of u n z (drop u im) (drop 4 ps) (bytes-drop u im h)
 
-  drive-of : (im ps : List ℕ) (z : ℕ) → Bytes im → ZoneBytes (getD (driveOf p im ps) z noZone)
+  drive-of : (im ps : List ℕ) (z : ℕ) → Bytes im → BytesOfZone (getD (driveOf p im ps) z noZone)
   unfolding driveOf
   drive-of im ps z h = zones-of (zoneLen p) (p .Z) z im ps h
 
-  drives-of : (u w n d z : ℕ) (im ps : List ℕ) → Bytes im → ZoneBytes (getD (getD (zipped (driveOf p) (pieces u n im) (pieces w n ps)) d []) z noZone)
+  drives-of : (u w n d z : ℕ) (im ps : List ℕ) → Bytes im → BytesOfZone (getD (getD (zipped (driveOf p) (pieces u n im) (pieces w n ps)) d []) z noZone)
   unfolding pieces zipped
   drives-of u w zero d z im ps h = no-zone-bytes
   drives-of u w (suc n) zero z im ps h = drive-of (take u im) (take w ps) z (bytes-take u im h)
@@ -116,19 +116,19 @@ StoreBytes (reset d z) = Unit {0}
 abbrev pub StoresBytes : List Store → Type 0
 StoresBytes ss = (s : Store) → In s ss → StoreBytes s
 
-zone-set : (v : View) (d z : ℕ) (q : Zone) → ViewBytes v → ZoneBytes q → ViewBytes (setZone v d z q)
+setZone-bytes : (v : View) (d z : ℕ) (q : Zone) → ViewBytes v → BytesOfZone q → ViewBytes (setZone v d z q)
 unfolding zoneAt setZone
-zone-set v d z q h g e y =
-    get-set (λ (l : List Zone). (i : ℕ) → ZoneBytes (getD l i noZone)) v d (set (getD v d []) z q) [] h (get-set ZoneBytes (getD v d []) z q noZone (h d) g) e y
+setZone-bytes v d z q h g e y =
+    get-set (λ (l : List Zone). (i : ℕ) → BytesOfZone (getD l i noZone)) v d (set (getD v d []) z q) [] h (get-set BytesOfZone (getD v d []) z q noZone (h d) g) e y
 
-zone-put : (q : Zone) (b s : List ℕ) → ZoneBytes q → Bytes b → Bytes s → ZoneBytes (putZone b s q)
+putZone-bytes : (q : Zone) (b s : List ℕ) → BytesOfZone q → Bytes b → Bytes s → BytesOfZone (putZone b s q)
 unfolding putZone
-zone-put q b s h x y = get-set ChunkBytes (q .blocks) (q .pointer) (mkChunk b s) noChunk h (x, y)
+putZone-bytes q b s h x y = get-set ChunkBytes (q .blocks) (q .pointer) (mkChunk b s) noChunk h (x, y)
 
 pub store-view : (v : View) (s : Store) → ViewBytes v → StoreBytes s → ViewBytes (storeView s v)
 unfolding storeView resetZone
-store-view v (put d z b s) h g = zone-set v d z (putZone b s (zoneAt v d z)) h (zone-put (zoneAt v d z) b s (h d z) (g .0) (g .1))
-store-view v (reset d z) h g = zone-set v d z (mkZone 0 (zoneAt v d z .blocks)) h (h d z)
+store-view v (put d z b s) h g = setZone-bytes v d z (putZone b s (zoneAt v d z)) h (putZone-bytes (zoneAt v d z) b s (h d z) (g .0) (g .1))
+store-view v (reset d z) h g = setZone-bytes v d z (mkZone 0 (zoneAt v d z .blocks)) h (h d z)
 
 pub stores-view : (v : View) (ss : List Store) → ViewBytes v → StoresBytes ss → ViewBytes (storeAll storeView ss v)
 unfolding storeAll
@@ -147,15 +147,15 @@ stores-disk p k (s ∷ ss) h g = stores-disk p (storeDisk p s k) ss (store-disk 
 
 -- ---- lists of stores
 
-pub stores-none : StoresBytes []
-stores-none s m = absurd m
+pub stores-bytes-none : StoresBytes []
+stores-bytes-none s m = absurd m
 
-pub stores-cons : (s : Store) (ss : List Store) → StoreBytes s → StoresBytes ss → StoresBytes (s ∷ ss)
-stores-cons s ss h g t (inl e) = subst StoreBytes (sym e) h
-stores-cons s ss h g t (inr m) = g t m
+pub stores-bytes-cons : (s : Store) (ss : List Store) → StoreBytes s → StoresBytes ss → StoresBytes (s ∷ ss)
+stores-bytes-cons s ss h g t (inl e) = subst StoreBytes (sym e) h
+stores-bytes-cons s ss h g t (inr m) = g t m
 
-pub stores-append : (ss ts : List Store) → StoresBytes ss → StoresBytes ts → StoresBytes (ss ++ ts)
-stores-append ss ts h g s m = ⊎-elim (λ x. h s x) (λ x. g s x) (in-append s ss ts m)
+pub stores-bytes-append : (ss ts : List Store) → StoresBytes ss → StoresBytes ts → StoresBytes (ss ++ ts)
+stores-bytes-append ss ts h g s m = ⊎-elim (λ x. h s x) (λ x. g s x) (in-append s ss ts m)
 
 pub stores-cond : (b : Bool) (ss ts : List Store) → StoresBytes ss → StoresBytes ts → StoresBytes (cond b ss ts)
 stores-cond true ss ts h g = h

@@ -40,9 +40,9 @@ use Rattle.law_drives.specs.Laid.{in-take}
 use Rattle.law_drives.specs.Tests.{clash}
 use Rattle.law_drives.specs.Zones.{Bytes}
 use Rattle.proof_tables.specs.Outcomes.{cut-unfinished}
-use Rattle.proof_bytes.specs.Sections.{Fits, fits-stateOf, bytes-stateBytes, length-stateBytes, counted, fitting}
+use Rattle.proof_bytes.specs.Sections.{StateFits, fits-stateOf, bytes-stateBytes, length-stateBytes, state-sections-counted, fitting}
 use Rattle.proof_bytes.specs.Changes.{fits-zero}
-use Rattle.proof_bytes.specs.Reads.{Reads, grounded-reads}
+use Rattle.proof_bytes.specs.Reads.{LowReads, grounded-reads}
 use Rattle.proof_bytes.specs.Fitted.{write-fits, land-fits, close-fits, reclaim-fits, restart-fits}
 use Rattle.proof_bytes.specs.Images.{ViewBytes, StoresBytes, view-bytes, view-grounded, stores-view, stores-disk}
 use Rattle.proof_bytes.specs.Stored.{PlanBytes, write-bytes, land-bytes, close-bytes, reclaim-bytes, read-bytes, found-bytes, restarts-bytes, rebuilds-bytes}
@@ -94,11 +94,11 @@ RestartFits p long v m (reclaim n) = Unit {0}
 RestartFits p long v m (read a) = Unit {0}
 RestartFits p long v m (fill a b) = Unit {0}
 RestartFits p long v m (restart d n) =
-    firstRefusal (restartChecks p long v d (segments p v (named d))) ≡ none → Fits (restartPlan p v d (segments p v (named d)) (m .inflight) .memory .state)
+    firstRefusal (restartChecks p long v d (segments p v (named d))) ≡ none → StateFits (restartPlan p v d (segments p v (named d)) (m .inflight) .memory .state)
 RestartFits p long v m (rebuild d n) = Unit {0}
 
-plan-fits : (p : Params) (long : Bool) (v : View) (m : Memory) (c : Call) → Fits (m .state) → Reads p v → RestartFits p long v m c
-    → firstRefusal (decides p long v m c .checks) ≡ none → Fits (decides p long v m c .plan .memory .state)
+plan-fits : (p : Params) (long : Bool) (v : View) (m : Memory) (c : Call) → StateFits (m .state) → LowReads p v → RestartFits p long v m c
+    → firstRefusal (decides p long v m c .checks) ≡ none → StateFits (decides p long v m c .plan .memory .state)
 unfolding decides
 plan-fits p long v m (write a b n) f r h q = write-fits p long v m f a b q
 plan-fits p long v m (land d s n) f r h q = land-fits p long v m f d s q
@@ -109,28 +109,28 @@ plan-fits p long v m (fill a b) f r h q = f
 plan-fits p long v m (restart d n) f r h q = h q
 plan-fits p long v m (rebuild d n) f r h q = f
 
-cut-fits : (p : Params) (m : Memory) → Fits (cutMemory p m .state)
+cut-fits : (p : Params) (m : Memory) → StateFits (cutMemory p m .state)
 unfolding cutMemory
 cut-fits p m = fits-zero
 
-pub on-fits : (p : Params) (long : Bool) (k : Disk) (m : Memory) (c : Call) → Fits (m .state) → Reads p (seen p k) → RestartFits p long (seen p k) m c
-    → Fits (callOn p long k m c .memory .state)
+pub on-fits : (p : Params) (long : Bool) (k : Disk) (m : Memory) (c : Call) → StateFits (m .state) → LowReads p (seen p k) → RestartFits p long (seen p k) m c
+    → StateFits (callOn p long k m c .memory .state)
 on-fits p long k m c f r h = go (ends p long k m c)
   where
-    go : Ends p long k m c → Fits (callOn p long k m c .memory .state)
-    go (ends-refused a x e) = subst (λ (x : After Disk). Fits (x .memory .state)) (sym e) f
-    go (ends-done q e) = subst (λ (x : After Disk). Fits (x .memory .state)) (sym e) (plan-fits p long (seen p k) m c f r h q)
-    go (ends-cut q e) = subst (λ (x : After Disk). Fits (x .memory .state)) (sym e) (cut-fits p m)
+    go : Ends p long k m c → StateFits (callOn p long k m c .memory .state)
+    go (ends-refused a x e) = subst (λ (x : After Disk). StateFits (x .memory .state)) (sym e) f
+    go (ends-done q e) = subst (λ (x : After Disk). StateFits (x .memory .state)) (sym e) (plan-fits p long (seen p k) m c f r h q)
+    go (ends-cut q e) = subst (λ (x : After Disk). StateFits (x .memory .state)) (sym e) (cut-fits p m)
 
 -- a finished restart needs nothing of the state that it found
 pub finished-fits : (p : Params) (long : Bool) (k : Disk) (m : Memory) (d n : ℕ) → RestartFits p long (seen p k) m (restart d n)
-    → finished (callOn p long k m (restart d n) .answer) ≡ true → Fits (callOn p long k m (restart d n) .memory .state)
+    → finished (callOn p long k m (restart d n) .answer) ≡ true → StateFits (callOn p long k m (restart d n) .memory .state)
 unfolding decides
 finished-fits p long k m d n h t = go (ends p long k m (restart d n))
   where
-    go : Ends p long k m (restart d n) → Fits (callOn p long k m (restart d n) .memory .state)
+    go : Ends p long k m (restart d n) → StateFits (callOn p long k m (restart d n) .memory .state)
     go (ends-refused a x e) = clash t (ap (λ (r : After Disk). finished (r .answer)) e ∙ refused-unfinished a x)
-    go (ends-done q e) = subst (λ (x : After Disk). Fits (x .memory .state)) (sym e) (h q)
+    go (ends-done q e) = subst (λ (x : After Disk). StateFits (x .memory .state)) (sym e) (h q)
     go (ends-cut q e) = clash t (ap (λ (r : After Disk). finished (r .answer)) e ∙ cut-unfinished)
 
 -- ---- all that a call leaves is bytes
@@ -226,13 +226,13 @@ bytes-held l h =
     and-both (a && b) (areBytes (l .state)) (and-both a b (are-bytes (l .image) (h .image-bytes)) (are-bytes (l .inflight) (h .inflight-bytes))) (are-bytes (l .state) (h .state-bytes))
 
 module _ (p : Params) (l : Lent) (c : Call) (h : LentBytes l) (b : Bytes (lentBlock c)) where
-  fits-on : (long : Bool) → Fits (callOn p long (lentDisk l) (lentMemory l) c .memory .state)
+  fits-on : (long : Bool) → StateFits (callOn p long (lentDisk l) (lentMemory l) c .memory .state)
   unfolding lentDisk lentMemory
   fits-on long = on-fits p long (lentDisk l) (lentMemory l) c (fits-stateOf (l .state) (h .state-bytes))
       (grounded-reads p _ (view-grounded p _ (view-bytes p (l .image) (l .pointers) (h .image-bytes)))) (bytes-restart p long (lentDisk l) (lentMemory l) c (h .image-bytes) (h .inflight-bytes))
 
   -- the state that every call leaves fits its bytes
-  pub call-fits : Fits (callDisk p (lentDisk l) (lentMemory l) c .memory .state)
+  pub call-fits : StateFits (callDisk p (lentDisk l) (lentMemory l) c .memory .state)
   unfolding callDisk
   call-fits = fits-on (lentOk p (lentDisk l) (lentMemory l))
 
@@ -253,7 +253,7 @@ module _ (p : Params) (l : Lent) (c : Call) (h : LentBytes l) (b : Bytes (lentBl
 
 -- any parameters, any lent bytes, hostile states too: what a call leaves fits, and is bytes again
 pub call-keeps : (p : Params) (l : Lent) (c : Call) → holdBytes l ≡ true → areBytes (lentBlock c) ≡ true
-    → Fits (callDisk p (lentDisk l) (lentMemory l) c .memory .state) × (holdBytes (callBytes p l c .lent) ≡ true) × (areBytes (callBytes p l c .block) ≡ true)
+    → StateFits (callDisk p (lentDisk l) (lentMemory l) c .memory .state) × (holdBytes (callBytes p l c .lent) ≡ true) × (areBytes (callBytes p l c .block) ≡ true)
 call-keeps p l c q t =
     let h = lent-bytes l q in
     let b = bytes-of (lentBlock c) t in
@@ -262,16 +262,16 @@ call-keeps p l c q t =
 
 -- ---- simulation
 
-pub keeps : (p : Params) (k : Disk) (m : Memory) (c : Call) → isRefused (callDisk p k m c .answer) ≡ true → callDisk p k m c ≡ mkAfter (callDisk p k m c .answer) k m (lentBlock c)
+pub refusal-keeps : (p : Params) (k : Disk) (m : Memory) (c : Call) → isRefused (callDisk p k m c .answer) ≡ true → callDisk p k m c ≡ mkAfter (callDisk p k m c .answer) k m (lentBlock c)
 unfolding lentBlock
-keeps p k m (write a b n) = write-keeps p k m a b n
-keeps p k m (land d s n) = land-keeps p k m d s n
-keeps p k m (close n) = close-keeps p k m n
-keeps p k m (reclaim n) = reclaim-keeps p k m n
-keeps p k m (read a) = read-keeps p k m a
-keeps p k m (fill a b) = fill-keeps p k m a b
-keeps p k m (restart d n) = restart-keeps p k m d n
-keeps p k m (rebuild d n) = rebuild-keeps p k m d n
+refusal-keeps p k m (write a b n) = write-keeps p k m a b n
+refusal-keeps p k m (land d s n) = land-keeps p k m d s n
+refusal-keeps p k m (close n) = close-keeps p k m n
+refusal-keeps p k m (reclaim n) = reclaim-keeps p k m n
+refusal-keeps p k m (read a) = read-keeps p k m a
+refusal-keeps p k m (fill a b) = fill-keeps p k m a b
+refusal-keeps p k m (restart d n) = restart-keeps p k m d n
+refusal-keeps p k m (rebuild d n) = rebuild-keeps p k m d n
 
 -- what a call of the host leaves, decoded
 abbrev pub decoded : Left → After Disk
@@ -286,7 +286,7 @@ answer-same p l c e = ap (λ (x : Left). x .answer) (bytes-long p l c e) ∙ go 
     go false = unfold leftBy in refl
 
 -- where the state has its length and what is left fits, a call on bytes is the call on the decoded state
-module _ (p : Params) (l : Lent) (c : Call) (e : length (l .state) ≡ stateLen) (f : Fits (callDisk p (lentDisk l) (lentMemory l) c .memory .state)) where
+module _ (p : Params) (l : Lent) (c : Call) (e : length (l .state) ≡ stateLen) (f : StateFits (callDisk p (lentDisk l) (lentMemory l) c .memory .state)) where
   abbrev done : After Disk
   done = callDisk p (lentDisk l) (lentMemory l) c
 
@@ -294,13 +294,13 @@ module _ (p : Params) (l : Lent) (c : Call) (e : length (l .state) ≡ stateLen)
   simulates = ap decoded (bytes-long p l c e) ∙ go (isRefused (done .answer)) refl
     where
       go : (t : Bool) → isRefused (done .answer) ≡ t → decoded (leftBy l done t) ≡ done
-      go true q = same ∙ sym (keeps p (lentDisk l) (lentMemory l) c q)
+      go true q = same ∙ sym (refusal-keeps p (lentDisk l) (lentMemory l) c q)
         where
           same : decoded (leftBy l done true) ≡ mkAfter (done .answer) (lentDisk l) (lentMemory l) (lentBlock c)
-          same = unfold leftBy in ap (λ (x : After Disk). mkAfter (done .answer) (lentDisk l) (lentMemory l) (x .block)) (keeps p (lentDisk l) (lentMemory l) c q)
+          same = unfold leftBy in ap (λ (x : After Disk). mkAfter (done .answer) (lentDisk l) (lentMemory l) (x .block)) (refusal-keeps p (lentDisk l) (lentMemory l) c q)
       go false q = unfold leftBy lentAll lentDisk lentMemory in
           ap (λ (s : State). mkAfter (done .answer) (done .drives) (mkMemory s (done .memory .addresses) (done .memory .compact) (done .memory .inflight)) (done .block))
-          (stateOf-stateBytes (done .memory .state) (counted (done .memory .state) f) (fitting (done .memory .state) f))
+          (stateOf-stateBytes (done .memory .state) (state-sections-counted (done .memory .state) f) (fitting (done .memory .state) f))
 
   -- and leaves the state its length
   pub state-long : length (callBytes p l c .lent .state) ≡ stateLen

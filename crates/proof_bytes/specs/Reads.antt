@@ -33,7 +33,7 @@ abbrev pub LowRec : Rec → Type 0
 LowRec r = (r .address < 256 ^ 8) × (r .stamp < 256 ^ 8)
 
 -- every record and every serial is
-pub record Reads (p : Params) (v : View) : Type 0 where
+pub record LowReads (p : Params) (v : View) : Type 0 where
   pub records-low : (w : Bool) (d z o : ℕ) → LowRec (recordIn p w (zoneAt v d z) o)
   pub headers-low : (d g : ℕ) → headerSerial (headerAt v d g) < 256 ^ 8
 
@@ -47,9 +47,9 @@ low-record : (l : List ℕ) → Bytes l → LowRec (recordOf l)
 low-record l h = (address-low l h, stamp-low l h)
 
 module _ (p : Params) (v : View) (h : Grounded p v) where
-  record-at : (w : Bool) (d z o : ℕ) → LowRec (recordIn p w (zoneAt v d z) o)
+  record-low-at : (w : Bool) (d z o : ℕ) → LowRec (recordIn p w (zoneAt v d z) o)
   unfolding recordIn footerRecord
-  record-at true d z o =
+  record-low-at true d z o =
       let q = zoneAt v d z .blocks in
       let j = o / perFooter p in
       let e : getD (blocksOf (drop (1 + p .S) q)) j [] ≡ getD q (1 + p .S + j) noChunk .block =
@@ -57,14 +57,14 @@ module _ (p : Params) (v : View) (h : Grounded p v) where
       let b : Bytes (getD (blocksOf (drop (1 + p .S) q)) j []) = subst Bytes (sym e) (h d z (1 + p .S + j) .1 (inr (omega arith))) in
       low-record (part (spareLen * (o % perFooter p)) spareLen (getD (blocksOf (drop (1 + p .S) q)) j []))
       (bytes-part (spareLen * (o % perFooter p)) spareLen (getD (blocksOf (drop (1 + p .S) q)) j []) b)
-  record-at false d z o = low-record (getD (zoneAt v d z .blocks) (1 + o) noChunk .spare) (h d z (1 + o) .0)
+  record-low-at false d z o = low-record (getD (zoneAt v d z .blocks) (1 + o) noChunk .spare) (h d z (1 + o) .0)
 
   header-at : (d g : ℕ) → headerSerial (headerAt v d g) < 256 ^ 8
   unfolding headerAt chunkAt
   header-at d g = serial-low (getD (zoneAt v d (zoneOn g d) .blocks) 0 noChunk .block) (h d (zoneOn g d) 0 .1 (inl refl))
 
-  pub grounded-reads : Reads p v
-  grounded-reads = record { records-low = record-at; headers-low = header-at }
+  pub grounded-reads : LowReads p v
+  grounded-reads = record { records-low = record-low-at; headers-low = header-at }
 
 -- the view of a run
 pub shaped-grounded : (p : Params) (v : View) → Shaped p v → Grounded p v
@@ -100,7 +100,7 @@ shaped-grounded p v sh d z b = go (decLt d (p .N)) (decLt z (p .Z))
 
 -- ---- what a restart takes from them
 
-module _ (p : Params) (v : View) (h : Reads p v) (gone : ℕ) where
+module _ (p : Params) (v : View) (h : LowReads p v) (gone : ℕ) where
   abbrev seg : ℕ → Segment
   seg g = segmentOf p v gone g
 
@@ -115,31 +115,31 @@ module _ (p : Params) (v : View) (h : Reads p v) (gone : ℕ) where
       go (yes h) = let (i, m, e) = map-in (recordIn p w q) (below (dataStored p q)) (getD l o (mkRec 0 0 0)) (in-getD l o (mkRec 0 0 0) h) in subst LowRec (sym e) (k i)
       go (no h) = subst LowRec (sym (List·getD-eq-default l (mkRec 0 0 0) {n = o} (omega arith))) (lit< tt, lit< tt)
 
-  stored-low : (g s d : ℕ) → d < p .N → LowRec (storedRec (seg g) s d)
+  stored-rec-low : (g s d : ℕ) → d < p .N → LowRec (storedRec (seg g) s d)
   unfolding storedRec
-  stored-low g s d hd = subst (λ (l : List Rec). LowRec (getD l (offsetOn (seg g) d s) (mkRec 0 0 0))) (sym (recs-on p v gone g d hd)) (go (isIn gone d))
+  stored-rec-low g s d hd = subst (λ (l : List Rec). LowRec (getD l (offsetOn (seg g) d s) (mkRec 0 0 0))) (sym (recs-on p v gone g d hd)) (go (isIn gone d))
     where
       go : (b : Bool) → LowRec (getD (cond b [] (recordsIn p (sealedIn p v gone g) (zoneAt v d g))) (offsetOn (seg g) d s) (mkRec 0 0 0))
       go true = (lit< tt, lit< tt)
       go false = rows-low (sealedIn p v gone g) (zoneAt v d g) (offsetOn (seg g) d s) (h .records-low (sealedIn p v gone g) d g)
 
   -- the exclusive or of stamps
-  parity-low : (g s : ℕ) → parityRec s (map (storedRec (seg g) s) (present p gone)) .stamp < 256 ^ 8
+  stored-parity-low : (g s : ℕ) → parityRec s (map (storedRec (seg g) s) (present p gone)) .stamp < 256 ^ 8
   unfolding parityRec
-  parity-low g s = xorAll-lt 64 (map (λ (r : Rec). r .stamp) (map (storedRec (seg g) s) (present p gone)))
+  stored-parity-low g s = xorAll-lt 64 (map (λ (r : Rec). r .stamp) (map (storedRec (seg g) s) (present p gone)))
       (λ i l.
       let x = getD (map (λ (r : Rec). r .stamp) (map (storedRec (seg g) s) (present p gone))) i 0 in
       let (r, m, e) = map-in (λ (r : Rec). r .stamp) (map (storedRec (seg g) s) (present p gone)) x (in-getD (map (λ (r : Rec). r .stamp) (map (storedRec (seg g) s) (present p gone))) i 0 l) in
       let (d, n, f) = map-in (storedRec (seg g) s) (present p gone) r m in
-      subst (λ (y : ℕ). y < 256 ^ 8) (sym (e ∙ ap (λ (r : Rec). r .stamp) f)) (stored-low g s d (present-in p gone d n .0) .1))
+      subst (λ (y : ℕ). y < 256 ^ 8) (sym (e ∙ ap (λ (r : Rec). r .stamp) f)) (stored-rec-low g s d (present-in p gone d n .0) .1))
 
   rec-low : (g s d : ℕ) → d < p .N → recOf p gone (seg g) s d .stamp < 256 ^ 8
   unfolding recOf
   rec-low g s d hd = go (isIn gone d)
     where
       go : (b : Bool) → cond b (parityRec s (map (storedRec (seg g) s) (present p gone))) (storedRec (seg g) s d) .stamp < 256 ^ 8
-      go true = parity-low g s
-      go false = stored-low g s d hd .1
+      go true = stored-parity-low g s
+      go false = stored-rec-low g s d hd .1
 
   pub stamps-low : greatestStamp (candidates p gone (segments p v gone)) < 256 ^ 8
   unfolding greatestStamp

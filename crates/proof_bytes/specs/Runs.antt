@@ -22,10 +22,10 @@ use Rattle.law_drives.specs.Lengths.{whole-of}
 use Rattle.law_drives.specs.Masks.{named-some}
 use Rattle.law_drives.specs.Tests.{cond-false}
 use Rattle.law_drives.specs.Zones.{Shaped}
-use Rattle.proof_tables.specs.Restarting.{started}
-use Rattle.proof_tables.specs.Run.{Lost, Well, Run}
-use Rattle.proof_tables.specs.Starting.{memory-missing, startChecks, startPlan, begins}
-use Rattle.proof_bytes.specs.Sections.{Fits}
+use Rattle.proof_tables.specs.Restarting.{run-started}
+use Rattle.proof_tables.specs.Run.{LostDrive, Well, Run}
+use Rattle.proof_tables.specs.Starting.{memory-missing, startChecks, startPlan, start-begins}
+use Rattle.proof_bytes.specs.Sections.{StateFits}
 use Rattle.proof_bytes.specs.Reads.{grounded-reads, shaped-grounded, stamps-low, serials-low}
 use Rattle.proof_bytes.specs.Fitted.{idle-fits}
 use Rattle.proof_bytes.specs.Kept.{RestartFits}
@@ -38,11 +38,11 @@ module _ (p : Params) (k : Disk) (m : Memory) (d : ℕ) where
   ss = restartStores p (named d) (segments p v (named d))
 
   -- a drive is missing: nothing is stored
-  lost-fits : Ranged p → Shaped p v → eqb (named d) 0 ≡ false → Fits (restartMemory p (storeAll storeView ss v) (named d) (m .inflight) .state)
+  lost-fits : Ranged p → Shaped p v → eqb (named d) 0 ≡ false → StateFits (restartMemory p (storeAll storeView ss v) (named d) (m .inflight) .state)
   unfolding stateSections
   lost-fits r sh q =
       let h = grounded-reads p v (shaped-grounded p v sh) in
-      subst (λ (u : View). Fits (restartMemory p u (named d) (m .inflight) .state)) (sym (ap (λ (l : List Store). storeAll storeView l v) none! ∙ same))
+      subst (λ (u : View). StateFits (restartMemory p u (named d) (m .inflight) .state)) (sym (ap (λ (l : List Store). storeAll storeView l v) none! ∙ same))
       (idle-fits p r v d (m .inflight) (stamps-low p v h (named d)) (serials-low p v h (named d)))
     where
       none! : restartStores p (named d) (segments p v (named d)) ≡ []
@@ -53,7 +53,8 @@ module _ (p : Params) (k : Disk) (m : Memory) (d : ℕ) where
       same = unfold storeAll in refl
 
   -- none is missing: what holds after the restart bounds stamp and serial
-  well-fits : Ranged p → (k′ : Disk) → Well p k′ (restartMemory p (storeAll storeView ss v) (named d) (m .inflight)) → Fits (restartMemory p (storeAll storeView ss v) (named d) (m .inflight) .state)
+  well-fits : Ranged p → (k′ : Disk) → Well p k′ (restartMemory p (storeAll storeView ss v) (named d) (m .inflight))
+      → StateFits (restartMemory p (storeAll storeView ss v) (named d) (m .inflight) .state)
   unfolding stateSections
   well-fits r k′ w = idle-fits p r (storeAll storeView ss v) d (m .inflight) (stamp! (w .healthy .stamp-fits)) (serial! (w .healthy .serial-fits))
     where
@@ -67,16 +68,16 @@ module _ (p : Params) (k : Disk) (m : Memory) (d : ℕ) where
       serial! x = unfold restartMemory idleState in x
 
   -- on drives whose headers, records and footers hold bytes
-  pub restart-shaped : (Whole p k → Shaped p v) → firstRefusal (startChecks p k m d) ≡ none → Fits (startPlan p k m d .memory .state)
+  pub restart-shaped : (Whole p k → Shaped p v) → firstRefusal (startChecks p k m d) ≡ none → StateFits (startPlan p k m d .memory .state)
   unfolding restartPlan
   restart-shaped sh c =
-      let b = begins p k m d c in
+      let b = start-begins p k m d c in
       let r = ranged p (b .in-range!) in
-      go r (sh (whole-of p k m (b .lent!))) (started p k m d sh b)
+      go r (sh (whole-of p k m (b .lent!))) (run-started p k m d sh b)
     where
-      go : Ranged p → Shaped p v → Run p (storeAll (storeDisk p) (startPlan p k m d .stores) k) (startPlan p k m d .memory) → Fits (startPlan p k m d .memory .state)
+      go : Ranged p → Shaped p v → Run p (storeAll (storeDisk p) (startPlan p k m d .stores) k) (startPlan p k m d .memory) → StateFits (startPlan p k m d .memory .state)
       go r s u = ⊎-elim
-          (λ (x : Lost p (storeAll (storeDisk p) (startPlan p k m d .stores) k) (startPlan p k m d .memory)).
+          (λ (x : LostDrive p (storeAll (storeDisk p) (startPlan p k m d .stores) k) (startPlan p k m d .memory)).
           let e : named (x .which) ≡ named d = sym (x .names-it) ∙ memory-missing p (storeAll storeView ss v) (named d) (m .inflight) in
           lost-fits r s (ap (λ (n : ℕ). eqb n 0) (sym e) ∙ named-some p r (x .which) (x .which-low)))
           (λ (x : Well p (storeAll (storeDisk p) (startPlan p k m d .stores) k) (startPlan p k m d .memory)). well-fits r (storeAll (storeDisk p) (startPlan p k m d .stores) k) x)

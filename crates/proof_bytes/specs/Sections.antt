@@ -13,7 +13,7 @@ use Rattle.spec.specs.Lists.{upFrom, below, flat, total, zipped}
 use Rattle.spec.specs.Memory.{idleState, zeroState, Section, section, stateSections, sectionLen, sectionAt, stateLen, numbersAt, sectionOf, numberOf, stateNumbers, sectionBytes, stateBytes, stateOf}
 use Rattle.law_basic.specs.Le.{leOf-lt}
 use Rattle.law_basic.specs.Ranges.{length-below, getD-map-below}
-use Rattle.law_basic.specs.Sections.{length-numbersAt, Counted, Fitting, sectionsBytes, length-sections}
+use Rattle.law_basic.specs.Sections.{length-numbersAt, SectionCounts, Fitting, sectionsBytes, length-sections}
 use Rattle.law_drives.specs.Image.{bytes-part}
 use Rattle.law_drives.specs.Laid.{bytes-nil, bytes-append}
 use Rattle.law_drives.specs.Zones.{Bytes}
@@ -51,8 +51,8 @@ numbers-low w n at bs h k = go (decLt k n)
 -- ---- sections one after the other
 
 -- n numbers below m
-abbrev pub Fill : ℕ → ℕ → List ℕ → Type 0
-Fill n m l = (length l ≡ n) × ((k : ℕ) → getD l k 0 < m)
+abbrev pub LowList : ℕ → ℕ → List ℕ → Type 0
+LowList n m l = (length l ≡ n) × ((k : ℕ) → getD l k 0 < m)
 
 bytes-section : (s : Section) (ns : List ℕ) → Bytes (sectionBytes s ns)
 unfolding sectionBytes flat
@@ -81,23 +81,23 @@ pub limit-pos : (i : ℕ) → 0 < limit i
 limit-pos i = one-le-pow (wide i) 256 (lit< {m = 0} {n = 256} tt)
 
 -- each number of the state fits the width of its section, each list has its length
-pub record Fits (st : State) : Type 0 where
+pub record StateFits (st : State) : Type 0 where
   pub live-fits : st .live < limit 0
   pub missing-fits : st .missing < limit 1
   pub stamp-fits : st .stamp .0 < limit 2
   pub serial-fits : st .serial .0 < limit 3
   pub opened-fits : st .opened < limit 4
   pub next-fits : st .next < limit 5
-  pub numbers-fit : Fill (many 6) (limit 6) (st .numbers)
-  pub filled-fit : Fill (many 7) (limit 7) (st .filled)
-  pub writes-fit : Fill (many 8) (limit 8) (st .writes)
-  pub landed-fit : Fill (many 9) (limit 9) (st .landed)
-  pub addresses-fit : Fill (many 10) (limit 10) (st .addresses)
-  pub stamps-fit : Fill (many 11) (limit 11) (st .stamps)
-  pub offsets-fit : Fill (many 12) (limit 12) (st .offsets)
+  pub numbers-fit : LowList (many 6) (limit 6) (st .numbers)
+  pub filled-fit : LowList (many 7) (limit 7) (st .filled)
+  pub writes-fit : LowList (many 8) (limit 8) (st .writes)
+  pub landed-fit : LowList (many 9) (limit 9) (st .landed)
+  pub addresses-fit : LowList (many 10) (limit 10) (st .addresses)
+  pub stamps-fit : LowList (many 11) (limit 11) (st .stamps)
+  pub offsets-fit : LowList (many 12) (limit 12) (st .offsets)
 
 -- what is decoded from bytes fits
-pub fits-stateOf : (bs : List ℕ) → Bytes bs → Fits (stateOf bs)
+pub fits-stateOf : (bs : List ℕ) → Bytes bs → StateFits (stateOf bs)
 unfolding stateOf numberOf sectionOf
 fits-stateOf bs h = record {
   live-fits = numbers-low (wide 0) (many 0) (sectionAt 0) bs h 0;
@@ -120,11 +120,11 @@ pub bytes-stateBytes : (st : State) → Bytes (stateBytes st)
 unfolding stateBytes
 bytes-stateBytes st = bytes-sections stateSections (stateNumbers st)
 
-module _ (st : State) (f : Fits st) where
+module _ (st : State) (f : StateFits st) where
   -- such a state has its counts, and its numbers fit their widths
-  pub counted : Counted stateSections (stateNumbers st)
+  pub state-sections-counted : SectionCounts stateSections (stateNumbers st)
   unfolding stateSections stateNumbers
-  counted = (
+  state-sections-counted = (
     refl,
     (
       refl,
@@ -194,7 +194,7 @@ module _ (st : State) (f : Fits st) where
   -- a state that fits has its bytes
   pub length-stateBytes : length (stateBytes st) ≡ stateLen
   unfolding stateBytes stateLen
-  length-stateBytes = length-sections stateSections (stateNumbers st) counted
+  length-stateBytes = length-sections stateSections (stateNumbers st) state-sections-counted
 
 -- 01, Store count: zeros are the state that a cut leaves
 pub stateOf-zeros : stateOf (replicate stateLen 0) ≡ zeroState

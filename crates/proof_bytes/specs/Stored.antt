@@ -34,7 +34,8 @@ use Rattle.law_drives.specs.Image.{bytes-part}
 use Rattle.law_drives.specs.Laid.{bytes-nil, bytes-zeros, bytes-header, bytes-zeroSpare, bytes-record, bytes-footer, in-take, in-drop}
 use Rattle.law_drives.specs.Members.{In, map-in, getD-in, keep-in}
 use Rattle.law_drives.specs.Zones.{Bytes}
-use Rattle.proof_bytes.specs.Images.{bytes-splice, bytes-parity, get-map, ZoneBytes, ViewBytes, no-zone-bytes, StoreBytes, StoresBytes, store-view, stores-none, stores-cons, stores-append}
+use Rattle.proof_bytes.specs.Images.{bytes-splice, bytes-parity, get-map, BytesOfZone, ViewBytes, no-zone-bytes, StoreBytes, StoresBytes, store-view, stores-bytes-none, stores-bytes-cons}
+use Rattle.proof_bytes.specs.Images.{stores-bytes-append}
 use Rattle.proof_bytes.specs.Images.{stores-cond, stores-map, stores-flat}
 
 -- ---- headers, footers, resets
@@ -48,28 +49,28 @@ resets-bytes : (p : Params) (g : ℕ) → StoresBytes (resetStores p g)
 unfolding resetStores
 resets-bytes p g = stores-map (λ d. reset d (zoneOn g d)) (drivesOf p) (λ d m. tt)
 
-spares-bytes : (p : Params) (q : Zone) → ZoneBytes q → (s : List ℕ) → In s (sparesOf (take (p .S) (drop 1 (q .blocks)))) → Bytes s
+zone-spares-bytes : (p : Params) (q : Zone) → BytesOfZone q → (s : List ℕ) → In s (sparesOf (take (p .S) (drop 1 (q .blocks)))) → Bytes s
 unfolding sparesOf
-spares-bytes p q h s m =
+zone-spares-bytes p q h s m =
     let (c, i, e) = map-in (λ (c : Chunk). c .spare) (take (p .S) (drop 1 (q .blocks))) s m in
     let (k, l, f) = getD-in (q .blocks) noChunk c (in-drop 1 (q .blocks) c (in-take (p .S) (drop 1 (q .blocks)) c i)) in
     subst Bytes (sym (e ∙ ap (λ (c : Chunk). c .spare) f)) (h k .1)
 
-footers-bytes : (p : Params) (d z : ℕ) (q : Zone) (i n : ℕ) → ZoneBytes q → StoresBytes (footerStores p d z q i n)
+footers-bytes : (p : Params) (d z : ℕ) (q : Zone) (i n : ℕ) → BytesOfZone q → StoresBytes (footerStores p d z q i n)
 unfolding footerStores footersOf
 footers-bytes p d z q i n h =
     let ss = sparesOf (take (p .S) (drop 1 (q .blocks))) in
     stores-map (λ (b : List ℕ). put d z b zeroSpare) (map (footerBlock p ss) (upFrom i n))
-    (λ b m. let (j, x, e) = map-in (footerBlock p ss) (upFrom i n) b m in (subst Bytes (sym e) (bytes-footer p ss j (spares-bytes p q h)), bytes-zeroSpare))
+    (λ b m. let (j, x, e) = map-in (footerBlock p ss) (upFrom i n) b m in (subst Bytes (sym e) (bytes-footer p ss j (zone-spares-bytes p q h)), bytes-zeroSpare))
 
 -- ---- pieces of a segment
 
 abbrev SegBytes : Segment → Type 0
-SegBytes g = (d : ℕ) → ZoneBytes (getD (g .zonesBy) d noZone)
+SegBytes g = (d : ℕ) → BytesOfZone (getD (g .zonesBy) d noZone)
 
 segment-bytes : (p : Params) (v : View) (gone g : ℕ) → ViewBytes v → SegBytes (segmentOf p v gone g)
 unfolding segmentOf
-segment-bytes p v gone g h d = get-map ZoneBytes (λ e. zoneAt v e (zoneOn g e)) (drivesOf p) d noZone no-zone-bytes (λ e. h e (zoneOn g e))
+segment-bytes p v gone g h d = get-map BytesOfZone (λ e. zoneAt v e (zoneOn g e)) (drivesOf p) d noZone no-zone-bytes (λ e. h e (zoneOn g e))
 
 segments-bytes : (p : Params) (v : View) (gone : ℕ) → ViewBytes v → (g : Segment) → In g (segments p v gone) → SegBytes g
 unfolding segments
@@ -119,8 +120,8 @@ module _ (p : Params) (g : Segment) (h : SegBytes g) where
 
   stripes-bytes : (z : ℕ) (ss : List ℕ) (k : ℕ) → StoresBytes (movedStripes p g z ss k)
   unfolding movedStripes movedStripe
-  stripes-bytes z [] k = stores-none
-  stripes-bytes z (s ∷ ss) k = stores-append (map (λ d. putPiece d (zoneOn z d) (movedOn p (movedPieces p g s k) k d)) (drivesOf p)) (movedStripes p g z ss (suc k))
+  stripes-bytes z [] k = stores-bytes-none
+  stripes-bytes z (s ∷ ss) k = stores-bytes-append (map (λ d. putPiece d (zoneOn z d) (movedOn p (movedPieces p g s k) k d)) (drivesOf p)) (movedStripes p g z ss (suc k))
       (stores-map (λ d. putPiece d (zoneOn z d) (movedOn p (movedPieces p g s k) k d)) (drivesOf p)
       (λ d m. put-piece d (zoneOn z d) (movedOn p (movedPieces p g s k) k d) (moved-bytes s k d)))
       (stripes-bytes z ss (suc k))
@@ -130,7 +131,7 @@ module _ (p : Params) (g : Segment) (h : SegBytes g) where
   rewrite-bytes z serial =
       let a = headerStores p z serial (g .serial) in
       let b = movedStripes p g z (counted p 0 g) 0 in
-      stores-append (a ++ b) (resetStores p (g .seg)) (stores-append a b (headers-bytes p z serial (g .serial)) (stripes-bytes z (counted p 0 g) 0)) (resets-bytes p (g .seg))
+      stores-bytes-append (a ++ b) (resetStores p (g .seg)) (stores-bytes-append a b (headers-bytes p z serial (g .serial)) (stripes-bytes z (counted p 0 g) 0)) (resets-bytes p (g .seg))
 
   missing-bytes : StoresBytes (missingFooters p g)
   unfolding missingFooters
@@ -140,7 +141,8 @@ module _ (p : Params) (g : Segment) (h : SegBytes g) where
   unfolding mendStores
   mend-bytes gs =
       stores-cond (isWhole p g) (missingFooters p g) (cond (isRagged p g) (rewriteStores p g (firstOr 0 (freeZones p gs)) (suc (greatestSerial gs))) []) missing-bytes
-      (stores-cond (isRagged p g) (rewriteStores p g (firstOr 0 (freeZones p gs)) (suc (greatestSerial gs))) [] (rewrite-bytes (firstOr 0 (freeZones p gs)) (suc (greatestSerial gs))) stores-none)
+      (stores-cond (isRagged p g) (rewriteStores p g (firstOr 0 (freeZones p gs)) (suc (greatestSerial gs))) []
+      (rewrite-bytes (firstOr 0 (freeZones p gs)) (suc (greatestSerial gs))) stores-bytes-none)
 
 pub restart-bytes : (p : Params) (gone : ℕ) (gs : List Segment) → ((g : Segment) → In g gs → SegBytes g) → StoresBytes (restartStores p gone gs)
 unfolding restartStores dropStores unsealed
@@ -149,9 +151,9 @@ restart-bytes p gone gs h =
     let us = keep (λ (g : Segment). not (g .full)) gs in
     let b = flat (mendStores p gs) us in
     stores-cond (eqb gone 0) (a ++ b) []
-    (stores-append a b (stores-flat (resetStores p) (freeZones p gs) (λ z m. resets-bytes p z))
+    (stores-bytes-append a b (stores-flat (resetStores p) (freeZones p gs) (λ z m. resets-bytes p z))
     (stores-flat (mendStores p gs) us (λ g m. mend-bytes p g (h g (keep-in (λ (g : Segment). not (g .full)) gs g m .0)) gs)))
-    stores-none
+    stores-bytes-none
 
 -- ---- rebuild
 
@@ -161,8 +163,8 @@ rebuilt-bytes p d g h =
     let z = zoneOn (g .seg) d in
     let qs = map (λ s. pieceOf p (named d) g s d) (counted p (named d) g) in
     let fs = map (λ i. put d z (footerBlock p (map (λ (q : Piece). recordBytes (q .rec)) qs) i) zeroSpare) (below (footers p)) in
-    stores-append (put d z (headerBlock p d z (g .serial) (g .copied)) zeroSpare ∷ map (putPiece d z) qs) (cond (g .full) fs [])
-    (stores-cons (put d z (headerBlock p d z (g .serial) (g .copied)) zeroSpare) (map (putPiece d z) qs) (bytes-header p d z (g .serial) (g .copied), bytes-zeroSpare)
+    stores-bytes-append (put d z (headerBlock p d z (g .serial) (g .copied)) zeroSpare ∷ map (putPiece d z) qs) (cond (g .full) fs [])
+    (stores-bytes-cons (put d z (headerBlock p d z (g .serial) (g .copied)) zeroSpare) (map (putPiece d z) qs) (bytes-header p d z (g .serial) (g .copied), bytes-zeroSpare)
     (stores-map (putPiece d z) qs
     (λ q m. let (s, i, e) = map-in (λ s. pieceOf p (named d) g s d) (counted p (named d) g) q m in
     put-piece d z q (subst (λ (y : Piece). Bytes (y .block)) (sym e) (pieces-bytes p (named d) g s d h)))))
@@ -173,11 +175,11 @@ rebuilt-bytes p d g h =
           (λ s x. let (q, j, e) = map-in (λ (q : Piece). recordBytes (q .rec)) qs s x in subst Bytes (sym e) (bytes-record (q .rec))),
       bytes-zeroSpare,
     )))
-    stores-none)
+    stores-bytes-none)
 
 rebuild-bytes : (p : Params) (d : ℕ) (gs : List Segment) → ((g : Segment) → In g gs → SegBytes g) → StoresBytes (rebuildStores p d gs)
 unfolding rebuildStores
-rebuild-bytes p d gs h = stores-append (map (λ z. reset d z) (below (p .Z))) (flat (rebuiltZone p d) gs)
+rebuild-bytes p d gs h = stores-bytes-append (map (λ z. reset d z) (below (p .Z))) (flat (rebuiltZone p d) gs)
     (stores-map (λ z. reset d z) (below (p .Z)) (λ z m. tt)) (stores-flat (rebuiltZone p d) gs (λ g m. rebuilt-bytes p d g (h g m)))
 
 -- ---- landing
@@ -187,8 +189,8 @@ unfolding landPlan
 landing-bytes p v m d s h g =
     let st = m .state in
     let w = landStore p v m d s in
-    stores-cons w (cond (seals p st (slotOf st s) d) (sealStores p (storeView w v) (openSegment st)) []) one
-    (stores-cond (seals p st (slotOf st s) d) (sealStores p (storeView w v) (openSegment st)) [] (seal (storeView w v) (openSegment st) (store-view v w h one)) stores-none)
+    stores-bytes-cons w (cond (seals p st (slotOf st s) d) (sealStores p (storeView w v) (openSegment st)) []) one
+    (stores-cond (seals p st (slotOf st s) d) (sealStores p (storeView w v) (openSegment st)) [] (seal (storeView w v) (openSegment st) (store-view v w h one)) stores-bytes-none)
   where
     one : StoreBytes (landStore p v m d s)
     one = unfold landStore slotBlock in (bytes-part (slotByte p (slotOf (m .state) s) d) (p .B) (m .inflight) g, bytes-record (flightRec p (m .state) (slotOf (m .state) s) d))
@@ -215,9 +217,10 @@ module _ (p : Params) (v : View) (st : State) (fl : List ℕ) (a t w : ℕ) (b :
   unfolding sending
   sending-inflight h g = placed-bytes p (begunBy p st (openedBy p v st)) fl (slotFor p st) a t w b h g
 
-  sending-stores : StoresBytes (sending p v st fl a t w b .stores)
+  sending-bytes : StoresBytes (sending p v st fl a t w b .stores)
   unfolding sending
-  sending-stores = stores-cond (opens p st) (headerStores p (firstOr 0 (emptyZones p v)) (suc (st .serial .0)) 0) [] (headers-bytes p (firstOr 0 (emptyZones p v)) (suc (st .serial .0)) 0) stores-none
+  sending-bytes =
+      stores-cond (opens p st) (headerStores p (firstOr 0 (emptyZones p v)) (suc (st .serial .0)) 0) [] (headers-bytes p (firstOr 0 (emptyZones p v)) (suc (st .serial .0)) 0) stores-bytes-none
 
 padded-bytes : (p : Params) (i k : ℕ) (st : State) (fl : List ℕ) → Bytes fl → Bytes (padded p i k st fl .inflight)
 unfolding padded
@@ -242,7 +245,7 @@ module _ (p : Params) (v : View) (m : Memory) (h : ViewBytes v) (g : Bytes (m .i
   unfolding writePlan
   write-bytes a b k =
       let t = suc (st .stamp .0) in
-      record { stores-bytes = sending-stores p v st (m .inflight) a t 1 b; inflight-bytes = sending-inflight p v st (m .inflight) a t 1 b g k; block-bytes = k }
+      record { stores-bytes = sending-bytes p v st (m .inflight) a t 1 b; inflight-bytes = sending-inflight p v st (m .inflight) a t 1 b g k; block-bytes = k }
 
   pub land-bytes : (d s : ℕ) → PlanBytes (landPlan p v m d s)
   unfolding landPlan
@@ -251,7 +254,7 @@ module _ (p : Params) (v : View) (m : Memory) (h : ViewBytes v) (g : Bytes (m .i
   pub close-bytes : PlanBytes (closePlan p m)
   unfolding closePlan
   close-bytes = record {
-    stores-bytes = stores-none;
+    stores-bytes = stores-bytes-none;
     inflight-bytes = padded-bytes p (fillingSlot p st) (dataCount p - filledIn st (fillingSlot p st)) st (m .inflight) g;
     block-bytes = bytes-nil;
   }
@@ -263,7 +266,7 @@ module _ (p : Params) (v : View) (m : Memory) (h : ViewBytes v) (g : Bytes (m .i
   copy-bytes : (q : ℕ) → PlanBytes (copyPlan p v m q)
   unfolding copyPlan chunkAt
   copy-bytes q = record {
-    stores-bytes = sending-stores p v st (m .inflight) _ _ 0 _;
+    stores-bytes = sending-bytes p v st (m .inflight) _ _ 0 _;
     inflight-bytes = sending-inflight p v st (m .inflight) _ _ 0 _ g (h (placeDrive p q) (placeZone p q) (placeBlock p q) .0);
     block-bytes = bytes-nil;
   }
@@ -273,7 +276,7 @@ module _ (p : Params) (v : View) (m : Memory) (h : ViewBytes v) (g : Bytes (m .i
 
   -- a read stores nothing
   pub read-bytes : (x : Answer) (b : List ℕ) → Bytes b → PlanBytes (mkPlan [] x m b)
-  read-bytes x b k = record { stores-bytes = stores-none; inflight-bytes = g; block-bytes = k }
+  read-bytes x b k = record { stores-bytes = stores-bytes-none; inflight-bytes = g; block-bytes = k }
 
   pub found-bytes : (gone : ℕ) (cs : List ℕ) (f : Found) → Bytes (readPiece p v gone cs f .block)
   unfolding readPiece decodedAt storedAt chunkAt

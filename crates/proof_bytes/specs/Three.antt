@@ -39,30 +39,30 @@ use Rattle.law_drives.specs.Image.{bytes-of}
 use Rattle.law_drives.specs.Laid.{bytes-nil, bytes-zeros}
 use Rattle.law_drives.specs.Tests.{cond-true, cond-false}
 use Rattle.law_drives.specs.Zones.{Bytes}
-use Rattle.proof_bytes.specs.Sections.{Fits, stateOf-zeros}
+use Rattle.proof_bytes.specs.Sections.{StateFits, stateOf-zeros}
 use Rattle.proof_bytes.specs.Images.{bytes-splice}
 use Rattle.proof_bytes.specs.Kept.{LentBytes, call-fits, call-bytes, decoded, state-long, simulates-bytes}
 use Rattle.proof_bytes.specs.Two.{worldOf, short-answer}
 
 -- ---- lent bytes of their length
 
-pub record Good (l : Lent) : Type 0 where
+pub record GoodBytes (l : Lent) : Type 0 where
   pub bytes : LentBytes l
   pub long : length (l .state) ≡ stateLen
 
-module _ (p : Params) (l : Lent) (g : Good l) (c : Call) (b : Bytes (lentBlock c)) where
-  good-fits : Fits (callDisk p (lentDisk l) (lentMemory l) c .memory .state)
-  good-fits = call-fits p l c (g .bytes) b
+module _ (p : Params) (l : Lent) (g : GoodBytes l) (c : Call) (b : Bytes (lentBlock c)) where
+  lent-call-fits : StateFits (callDisk p (lentDisk l) (lentMemory l) c .memory .state)
+  lent-call-fits = call-fits p l c (g .bytes) b
 
   good-same : decoded (callBytes p l c) ≡ callDisk p (lentDisk l) (lentMemory l) c
   good-same = simulates-bytes p l c (g .bytes) b (g .long)
 
-  good-on : Good (callBytes p l c .lent)
-  good-on = record { bytes = call-bytes p l c (g .bytes) b .0; long = state-long p l c (g .long) good-fits }
+  good-on : GoodBytes (callBytes p l c .lent)
+  good-on = record { bytes = call-bytes p l c (g .bytes) b .0; long = state-long p l c (g .long) lent-call-fits }
 
-reads-same : (p : Params) (l : Lent) → Good l → (a : ℕ) → readsAs onBytes p l a ≡ seenAt p (worldOf l) a
+seen-same : (p : Params) (l : Lent) → GoodBytes l → (a : ℕ) → readsAs onBytes p l a ≡ seenAt p (worldOf l) a
 unfolding readsAs callLent seenAt seenFilled
-reads-same p l g a =
+seen-same p l g a =
     ap₂ (λ (r s : After Disk). cond (eqb (kind (s .answer)) 9) unwritten (cond (eqb (kind (r .answer)) 11) (got (r .block)) failed))
     (good-same p l g (fill a (replicate (p .B) 0)) fill!) (good-same p l g (read a) read!)
   where
@@ -81,9 +81,9 @@ eventsOf (calls c ∷ es) = calls′ c ∷ eventsOf es
 eventsOf (boots d n u im ps ∷ es) = consIf (eqb (length (u .state)) stateLen) (boots′ d n (lentMemory u) im ps) (eventsOf es)
 
 -- an event on bytes, and the same on values
-pub data Same : LentEvent → Event → Type 0 where
-  same-calls : (c : Call) → Same (calls c) (calls′ c)
-  same-boots : (d n : ℕ) (u : Lent) (im ps : List ℕ) → length (u .state) ≡ stateLen → Same (boots d n u im ps) (boots′ d n (lentMemory u) im ps)
+pub data SameEvent : LentEvent → Event → Type 0 where
+  same-calls : (c : Call) → SameEvent (calls c) (calls′ c)
+  same-boots : (d n : ℕ) (u : Lent) (im ps : List ℕ) → length (u .state) ≡ stateLen → SameEvent (boots d n u im ps) (boots′ d n (lentMemory u) im ps)
 
 with-disk : (u : Lent) (k : Disk) → worldOf (withDisk u k) ≡ mkWorld k (lentMemory u)
 unfolding withDisk lentDisk lentMemory
@@ -151,14 +151,14 @@ boot-bytes d n u im ps q =
     let g = and-left (a && b) c f in
     (bytes-of (u .inflight) (and-right a b g), bytes-of (u .state) (and-right (a && b) c f), bytes-of im (and-right (a && b && c) (areBytes im) e))
 
-good-with : (u : Lent) (k : Disk) → length (u .state) ≡ stateLen → Bytes (k .image) → Bytes (u .inflight) → Bytes (u .state) → Good (withDisk u k)
+good-with : (u : Lent) (k : Disk) → length (u .state) ≡ stateLen → Bytes (k .image) → Bytes (u .inflight) → Bytes (u .state) → GoodBytes (withDisk u k)
 unfolding withDisk
 good-with u k e h f s = record { bytes = record { image-bytes = h; inflight-bytes = f; state-bytes = s }; long = e }
 
 -- ---- one event
 
-module _ (p : Params) (l : Lent) (g : Good l) where
-  good-before : (e : LentEvent) (e′ : Event) → Same e e′ → eventBytes e ≡ true → Good (lentBefore p l e)
+module _ (p : Params) (l : Lent) (g : GoodBytes l) where
+  good-before : (e : LentEvent) (e′ : Event) → SameEvent e e′ → eventBytes e ≡ true → GoodBytes (lentBefore p l e)
   unfolding lentBefore
   good-before (calls c) _ (same-calls _) q = g
   good-before (boots d n u im ps) _ (same-boots _ _ _ _ _ x) q = go (lentInOrder p (withDisk u (lentDisk l)) d) (boot-bytes d n u im ps q)
@@ -166,20 +166,20 @@ module _ (p : Params) (l : Lent) (g : Good l) where
       im! : Bytes (lentDisk l .image)
       im! = unfold lentDisk in g .bytes .image-bytes
 
-      go : (b : Bool) → Bytes (u .inflight) × Bytes (u .state) × Bytes im → Good (cond b (withDisk u (swapped p (lentDisk l) d im ps)) (withDisk u (lentDisk l)))
+      go : (b : Bool) → Bytes (u .inflight) × Bytes (u .state) × Bytes im → GoodBytes (cond b (withDisk u (swapped p (lentDisk l) d im ps)) (withDisk u (lentDisk l)))
       go true (f, s, i) = good-with u (swapped p (lentDisk l) d im ps) x (swapped-bytes p (lentDisk l) d im ps im! i) f s
       go false (f, s, i) = good-with u (lentDisk l) x im! f s
 
-  before-same : (e : LentEvent) (e′ : Event) → Same e e′ → worldOf (lentBefore p l e) ≡ before p (worldOf l) e′
+  before-same : (e : LentEvent) (e′ : Event) → SameEvent e e′ → worldOf (lentBefore p l e) ≡ before p (worldOf l) e′
   before-same (calls c) _ (same-calls _) = unfold lentBefore before in refl
   before-same (boots d n u im ps) _ (same-boots _ _ _ _ _ x) = boot-before p l d n u im ps x
 
-  call-same : (e : LentEvent) (e′ : Event) → Same e e′ → lentCall e ≡ callOf e′
+  call-same : (e : LentEvent) (e′ : Event) → SameEvent e e′ → lentCall e ≡ callOf e′
   unfolding lentCall callOf
   call-same (calls c) _ (same-calls _) = refl
   call-same (boots d n u im ps) _ (same-boots _ _ _ _ _ x) = refl
 
-  after-same : (e : LentEvent) (e′ : Event) → Same e e′ → (r : Left) → worldOf (lentAfter p l e r) ≡ worldAfter p (worldOf l) e′ (decoded r)
+  after-same : (e : LentEvent) (e′ : Event) → SameEvent e e′ → (r : Left) → worldOf (lentAfter p l e r) ≡ worldAfter p (worldOf l) e′ (decoded r)
   after-same (calls c) _ (same-calls _) r = unfold lentAfter worldAfter in refl
   after-same (boots d n u im ps) _ (same-boots _ _ _ _ _ x) r = boot-after p l d n u im ps x r
 
@@ -188,7 +188,7 @@ module _ (p : Params) (l : Lent) (g : Good l) where
   block-bytes (calls c) q = bytes-of (lentBlock c) q
   block-bytes (boots d n u im ps) q = unfold lentBlock in bytes-nil
 
-  module _ (e : LentEvent) (e′ : Event) (s : Same e e′) (q : eventBytes e ≡ true) where
+  module _ (e : LentEvent) (e′ : Event) (s : SameEvent e e′) (q : eventBytes e ≡ true) where
     happens-same : decoded (lentHappens p l e) ≡ happens p (worldOf l) e′
     unfolding lentHappens happens
     happens-same = good-same p (lentBefore p l e) (good-before e e′ s q) (lentCall e) (block-bytes e q)
@@ -202,17 +202,17 @@ module _ (p : Params) (l : Lent) (g : Good l) where
         go none = unfold lentOrderly orderly in refl
         go (some d) = unfold lentOrderly orderly in ap (λ (b : Bool). onlyIf b (some d)) (order-same p (lentBefore p l e) d (good-before e e′ s q .long))
 
-    good-after : Good (lentAfter p l e (lentHappens p l e))
+    good-after : GoodBytes (lentAfter p l e (lentHappens p l e))
     good-after = go e (good-on p (lentBefore p l e) (good-before e e′ s q) (lentCall e) (block-bytes e q))
       where
-        as! : (e : LentEvent) → Good (callBytes p (lentBefore p l e) (lentCall e) .lent) → Good (lentHappens p l e .lent)
+        as! : (e : LentEvent) → GoodBytes (callBytes p (lentBefore p l e) (lentCall e) .lent) → GoodBytes (lentHappens p l e .lent)
         as! e x = unfold lentHappens in x
 
-        either : (b : Bool) (x y : Lent) → Good x → Good y → Good (cond b x y)
+        either : (b : Bool) (x y : Lent) → GoodBytes x → GoodBytes y → GoodBytes (cond b x y)
         either true x y h k = h
         either false x y h k = k
 
-        go : (e : LentEvent) → Good (callBytes p (lentBefore p l e) (lentCall e) .lent) → Good (lentAfter p l e (lentHappens p l e))
+        go : (e : LentEvent) → GoodBytes (callBytes p (lentBefore p l e) (lentCall e) .lent) → GoodBytes (lentAfter p l e (lentHappens p l e))
         go (calls c) x = unfold lentAfter in as! (calls c) x
         go (boots d n u im ps) x = unfold lentAfter in
             either (lentInOrder p (withDisk u (lentDisk l)) d) (lentHappens p l (boots d n u im ps) .lent) l (as! (boots d n u im ps) x) g
@@ -229,19 +229,19 @@ histOf h = record { world = worldOf (h .lent); sends = h .sends; untrusted = h .
 
 abbrev MarkGood : Opt LentMark → Type 0
 MarkGood none = Unit {0}
-MarkGood (some k) = Good (k .lent)
+MarkGood (some k) = GoodBytes (k .lent)
 
 -- what a history remembers are lent bytes of their length
 pub record HistGood (h : LentHist) : Type 0 where
-  pub now-good : Good (h .lent)
+  pub now-good : GoodBytes (h .lent)
   pub mark-good : MarkGood (h .mark)
 
-module _ (p : Params) (h : LentHist) (g : HistGood h) (e : LentEvent) (e′ : Event) (s : Same e e′) (q : eventBytes e ≡ true) where
+module _ (p : Params) (h : LentHist) (g : HistGood h) (e : LentEvent) (e′ : Event) (s : SameEvent e e′) (q : eventBytes e ≡ true) where
   abbrev l : Lent
   l = h .lent
 
-  answer-same : lentHappens p l e .answer ≡ happens p (worldOf l) e′ .answer
-  answer-same = ap (λ (r : After Disk). r .answer) (happens-same p l (g .now-good) e e′ s q)
+  event-answer : lentHappens p l e .answer ≡ happens p (worldOf l) e′ .answer
+  event-answer = ap (λ (r : After Disk). r .answer) (happens-same p l (g .now-good) e e′ s q)
 
   mark-same : (b : Bool) (x : Lent) (n : ℕ) (o : Opt LentMark) → markOf (lentMarked b x n o) ≡ marked b (worldOf x) n (markOf o)
   unfolding markOf lentMarked marked
@@ -261,14 +261,14 @@ module _ (p : Params) (h : LentHist) (g : HistGood h) (e : LentEvent) (e′ : Ev
       let ss = sentAfter (lentCall e) (r .answer) (h .sends) in
       let us = untrustedAfter (lentCall e) (r .answer) (h .untrusted) in
       ap (λ (o : Opt Mark). record { world = worldOf x; sends = ss; untrusted = us; mark = o }) (mark-same (finished (r .answer)) x (length ss) (h .mark))
-      ∙ ap₂ (left (lentCall e)) (after-same p l (g .now-good) e e′ s r ∙ ap (worldAfter p (worldOf l) e′) (happens-same p l (g .now-good) e e′ s q)) answer-same
+      ∙ ap₂ (left (lentCall e)) (after-same p l (g .now-good) e e′ s r ∙ ap (worldAfter p (worldOf l) e′) (happens-same p l (g .now-good) e e′ s q)) event-answer
       ∙ ap (λ (c : Call). left c (worldAfter p (worldOf l) e′ (happens p (worldOf l) e′)) (happens p (worldOf l) e′ .answer)) (call-same p l (g .now-good) e e′ s)
 
   step-good : HistGood (lentStep p h e)
   unfolding lentStep
   step-good = record { now-good = x; mark-good = go (finished (lentHappens p l e .answer)) (length (sentAfter (lentCall e) (lentHappens p l e .answer) (h .sends))) }
     where
-      x : Good (lentAfter p l e (lentHappens p l e))
+      x : GoodBytes (lentAfter p l e (lentHappens p l e))
       x = good-after p l (g .now-good) e e′ s q
 
       go : (b : Bool) (n : ℕ) → MarkGood (lentMarked b (lentAfter p l e (lentHappens p l e)) n (h .mark))
@@ -282,7 +282,7 @@ module _ (p : Params) (h : LentHist) (g : HistGood h) (e : LentEvent) (e′ : Ev
       let b = namesAll (h .untrusted) (lentRestart p l e) in
       let u = and-left (eventBytes e && a) b t in
       and-both (not (isRefusedAs 6 (happens p (worldOf l) e′ .answer))) (namesAll (h .untrusted) (restartIn p (worldOf l) e′))
-      (ap (λ (x : Answer). not (isRefusedAs 6 x)) (sym answer-same) ∙ and-right (eventBytes e) a u)
+      (ap (λ (x : Answer). not (isRefusedAs 6 x)) (sym event-answer) ∙ and-right (eventBytes e) a u)
       (ap (namesAll (h .untrusted)) (sym (restart-same p l (g .now-good) e e′ s q)) ∙ and-right (eventBytes e && a) b t)
 
   same-lift : (h′ : LentHist) → HistGood h′ → SameAs p (markOf (h .mark)) (histOf h′) → LentSame p (h .mark) h′
@@ -290,7 +290,7 @@ module _ (p : Params) (h : LentHist) (g : HistGood h) (e : LentEvent) (e′ : Ev
     where
       go : (o : Opt LentMark) → MarkGood o → SameAs p (markOf o) (histOf h′) → LentSame p o h′
       go none m x = tt
-      go (some o) m x = λ n a b. reads-same p (h′ .lent) (k .now-good) a ∙ as! x n a b ∙ sym (reads-same p (o .lent) m a)
+      go (some o) m x = λ n a b. seen-same p (h′ .lent) (k .now-good) a ∙ as! x n a b ∙ sym (seen-same p (o .lent) m a)
         where
           as! : SameAs p (markOf (some o)) (histOf h′) → length (h′ .sends) ≡ o .sentThen → (a : ℕ) → a < p .L → seenAt p (worldOf (h′ .lent)) a ≡ seenAt p (worldOf (o .lent)) a
           as! x = unfold markOf in x
@@ -305,10 +305,10 @@ module _ (p : Params) (h : LentHist) (g : HistGood h) (e : LentEvent) (e′ : Ev
       go none x = tt
       go (some d) x =
           let y : RestartOk p (histOf h) (lentHappens p l e .answer) (histOf h′) =
-          subst (λ (a : Answer). RestartOk p (histOf h) a (histOf h′)) (sym answer-same) (subst (RestartOk p (histOf h) (happens p (worldOf l) e′ .answer)) (sym step-same) x) in
+          subst (λ (a : Answer). RestartOk p (histOf h) a (histOf h′)) (sym event-answer) (subst (RestartOk p (histOf h) (happens p (worldOf l) e′ .answer)) (sym step-same) x) in
           record {
             not-refused = y .not-refused;
-            reads = λ f a b. subst (ReadOk (h′ .sends) a) (sym (reads-same p (h′ .lent) (step-good .now-good) a)) (y .reads f a b);
+            reads = λ f a b. subst (ReadOk (h′ .sends) a) (sym (seen-same p (h′ .lent) (step-good .now-good) a)) (y .reads f a b);
             same = λ f. same-lift h′ step-good (y .same f);
           }
 
@@ -321,21 +321,21 @@ module _ (p : Params) (h : LentHist) (d n : ℕ) (u : Lent) (im ps : List ℕ) (
   short! : (k : Disk) → length (withDisk u k .state) ≡ stateLen → ⊥
   short! k y = x (sym (ap length (with-state u k)) ∙ y)
 
-  out : lentInOrder p (withDisk u (lentDisk (h .lent))) d ≡ false
-  out = order-short p (withDisk u (lentDisk (h .lent))) d (short! (lentDisk (h .lent)))
+  swap-out-of-order : lentInOrder p (withDisk u (lentDisk (h .lent))) d ≡ false
+  swap-out-of-order = order-short p (withDisk u (lentDisk (h .lent))) d (short! (lentDisk (h .lent)))
 
-  short-before : lentBefore p (h .lent) (boots d n u im ps) ≡ withDisk u (lentDisk (h .lent))
+  before-short : lentBefore p (h .lent) (boots d n u im ps) ≡ withDisk u (lentDisk (h .lent))
   unfolding lentBefore
-  short-before =
-      cond-false (lentInOrder p (withDisk u (lentDisk (h .lent))) d) (withDisk u (swapped p (lentDisk (h .lent)) d im ps)) (withDisk u (lentDisk (h .lent))) out
+  before-short =
+      cond-false (lentInOrder p (withDisk u (lentDisk (h .lent))) d) (withDisk u (swapped p (lentDisk (h .lent)) d im ps)) (withDisk u (lentDisk (h .lent))) swap-out-of-order
 
   short-restart : lentRestart p (h .lent) (boots d n u im ps) ≡ none
   unfolding lentRestart lentCall restartOf
-  short-restart = ap (λ (l : Lent). lentOrderly p l (some d)) short-before ∙ (unfold lentOrderly in (ap (λ (b : Bool). onlyIf b (some d)) out ∙ (unfold onlyIf in refl)))
+  short-restart = ap (λ (l : Lent). lentOrderly p l (some d)) before-short ∙ (unfold lentOrderly in (ap (λ (b : Bool). onlyIf b (some d)) swap-out-of-order ∙ (unfold onlyIf in refl)))
 
   refuses : isRefused (lentHappens p (h .lent) (boots d n u im ps) .answer) ≡ true
   unfolding lentHappens lentCall
-  refuses = ap (λ (l : Lent). isRefused (callBytes p l (restart d n) .answer)) short-before
+  refuses = ap (λ (l : Lent). isRefused (callBytes p l (restart d n) .answer)) before-short
       ∙ ap isRefused (short-answer p (withDisk u (lentDisk (h .lent))) d n (short! (lentDisk (h .lent)))) ∙ short-refused (inRange p && namesDrive p d)
 
   -- nothing changes
@@ -352,7 +352,7 @@ module _ (p : Params) (h : LentHist) (d n : ℕ) (u : Lent) (im ps : List ℕ) (
       a = lentHappens p (h .lent) (boots d n u im ps) .answer
 
       lent-is : cond (lentInOrder p (withDisk u (lentDisk (h .lent))) d) (lentHappens p (h .lent) (boots d n u im ps) .lent) (h .lent) ≡ h .lent
-      lent-is = cond-false (lentInOrder p (withDisk u (lentDisk (h .lent))) d) (lentHappens p (h .lent) (boots d n u im ps) .lent) (h .lent) out
+      lent-is = cond-false (lentInOrder p (withDisk u (lentDisk (h .lent))) d) (lentHappens p (h .lent) (boots d n u im ps) .lent) (h .lent) swap-out-of-order
 
       sends-is : sentAfter (restart d n) a (h .sends) ≡ h .sends
       sends-is = sent-refused (restart d n) a (h .sends) refuses
@@ -385,7 +385,7 @@ unfolding eventsOf
 events-call c es = refl
 
 -- one event, and the rest
-module _ (p : Params) (h : LentHist) (g : HistGood h) (e : LentEvent) (e′ : Event) (s : Same e e′) (t : lentAllowed p h e ≡ true) where
+module _ (p : Params) (h : LentHist) (g : HistGood h) (e : LentEvent) (e′ : Event) (s : SameEvent e e′) (t : lentAllowed p h e ≡ true) where
   abbrev by : eventBytes e ≡ true
   by = bytes-first p h e t
 
@@ -423,13 +423,13 @@ module _ (p : Params) where
           subst (Allowed p (histOf h)) (sym (events-short d n u im ps es x)) (subst (λ (y : LentHist). Allowed p (histOf y) (eventsOf es)) f (ih (subst HistGood (sym f) g)))
 
   -- and the claims come back
-  all-claims : (es : List LentEvent) (h : LentHist) → HistGood h → LentAllowed p h es → Claims p (histOf h) (eventsOf es) → LentClaims p h es
-  all-claims [] h g t c = tt
-  all-claims (calls c ∷ es) h g (t, ts) y =
+  lent-claims : (es : List LentEvent) (h : LentHist) → HistGood h → LentAllowed p h es → Claims p (histOf h) (eventsOf es) → LentClaims p h es
+  lent-claims [] h g t c = tt
+  lent-claims (calls c ∷ es) h g (t, ts) y =
       let s = same-calls c in
-      claims-cons p h g (calls c) (calls′ c) s t es (eventsOf es) (all-claims es (lentStep p h (calls c)) (next-good p h g (calls c) (calls′ c) s t) ts)
+      claims-cons p h g (calls c) (calls′ c) s t es (eventsOf es) (lent-claims es (lentStep p h (calls c)) (next-good p h g (calls c) (calls′ c) s t) ts)
       (subst (Claims p (histOf h)) (events-call c es) y)
-  all-claims (boots d n u im ps ∷ es) h g (t, ts) y = go (ℕ-discrete (length (u .state)) stateLen) (λ k. all-claims es (lentStep p h (boots d n u im ps)) k ts)
+  lent-claims (boots d n u im ps ∷ es) h g (t, ts) y = go (ℕ-discrete (length (u .state)) stateLen) (λ k. lent-claims es (lentStep p h (boots d n u im ps)) k ts)
     where
       e : LentEvent
       e = boots d n u im ps
@@ -474,6 +474,6 @@ began-good p k h = record {
 pub demand-3-bytes : Demand3
 demand-3-bytes p r k em by es al =
     let g = began-good p k (bytes-of (k .image) by) in
-    all-claims p es (lentBegan p k) g al
+    lent-claims p es (lentBegan p k) g al
     (subst (λ (h : Hist). Claims p h (eventsOf es)) (sym (began-same p k))
     (demand-3 p r k em (eventsOf es) (subst (λ (h : Hist). Allowed p h (eventsOf es)) (began-same p k) (all-allowed p es (lentBegan p k) g al))))

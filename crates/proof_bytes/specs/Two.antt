@@ -30,7 +30,7 @@ use Rattle.law_drives.specs.Tests.{clash}
 use Rattle.law_drives.specs.Zones.{Shaped}
 use Rattle.proof_tables.specs.Run.{Run}
 use Rattle.proof_tables.specs.Theorem.{restart-finished, stepped}
-use Rattle.proof_bytes.specs.Sections.{Fits}
+use Rattle.proof_bytes.specs.Sections.{StateFits}
 use Rattle.proof_bytes.specs.Reads.{grounded-reads, shaped-grounded}
 use Rattle.proof_bytes.specs.Kept.{on-fits, finished-fits, answer-same, simulates, state-long}
 use Rattle.proof_bytes.specs.Runs.{run-restart}
@@ -43,7 +43,7 @@ worldOf l = mkWorld (lentDisk l) (lentMemory l)
 abbrev pub replyOf : Reply Lent → Reply World
 replyOf r = record { answer = r .answer; world = worldOf (r .world); block = r .block }
 
-pub reply-same : (p : Params) (l : Lent) (c : Call) → length (l .state) ≡ stateLen → Fits (callDisk p (lentDisk l) (lentMemory l) c .memory .state)
+pub reply-same : (p : Params) (l : Lent) (c : Call) → length (l .state) ≡ stateLen → StateFits (callDisk p (lentDisk l) (lentMemory l) c .memory .state)
     → replyOf (callLent p l c) ≡ callWorld p (worldOf l) c
 unfolding callLent callWorld
 reply-same p l c e f = ap (λ (r : After Disk). record { answer = r .answer; world = mkWorld (r .drives) (r .memory); block = r .block }) (simulates p l c e f)
@@ -63,13 +63,13 @@ short-ninth false = refl
 -- ---- between calls
 
 -- what holds of the lent bytes in a run
-pub record Going (p : Params) (l : Lent) : Type 0 where
+pub record BytesRun (p : Params) (l : Lent) : Type 0 where
   pub long : length (l .state) ≡ stateLen
-  pub fits : Fits (lentMemory l .state)
+  pub fits : StateFits (lentMemory l .state)
   pub run : Run p (lentDisk l) (lentMemory l)
 
-module _ (p : Params) (l : Lent) (g : Going p l) where
-  pub going-fits : (c : Call) → Fits (callDisk p (lentDisk l) (lentMemory l) c .memory .state)
+module _ (p : Params) (l : Lent) (g : BytesRun p l) where
+  pub going-fits : (c : Call) → StateFits (callDisk p (lentDisk l) (lentMemory l) c .memory .state)
   unfolding callDisk
   going-fits c = on-fits p (lentOk p (lentDisk l) (lentMemory l)) (lentDisk l) (lentMemory l) c (g .fits)
       (grounded-reads p (seen p (lentDisk l)) (shaped-grounded p (seen p (lentDisk l)) (g .run .base .shaped))) (run-restart p (lentDisk l) (lentMemory l) c (λ w. g .run .base .shaped))
@@ -77,25 +77,25 @@ module _ (p : Params) (l : Lent) (g : Going p l) where
   pub going-same : (c : Call) → replyOf (callLent p l c) ≡ callWorld p (worldOf l) c
   going-same c = reply-same p l c (g .long) (going-fits c)
 
-  pub going-on : (c : Call) → isCut (callLent p l c .answer) ≡ false → Going p (callLent p l c .world)
+  pub going-on : (c : Call) → isCut (callLent p l c .answer) ≡ false → BytesRun p (callLent p l c .world)
   unfolding callLent
   going-on c q =
       let e = simulates p l c (g .long) (going-fits c) in
       record {
         long = state-long p l c (g .long) (going-fits c);
-        fits = subst (λ (r : After Disk). Fits (r .memory .state)) (sym e) (going-fits c);
+        fits = subst (λ (r : After Disk). StateFits (r .memory .state)) (sym e) (going-fits c);
         run = subst (λ (r : After Disk). Run p (r .drives) (r .memory)) (sym e)
             (stepped p (lentDisk l) (lentMemory l) (g .run) c .1 (ap (λ (r : After Disk). isCut (r .answer)) (sym e) ∙ q));
       }
 
-  reads-same : (a : ℕ) → readsAs onBytes p l a ≡ readsAs onValues p (worldOf l) a
+  world-reads-same : (a : ℕ) → readsAs onBytes p l a ≡ readsAs onValues p (worldOf l) a
   unfolding readsAs
-  reads-same a = ap₂ (λ (r s : Reply World). cond (eqb (kind (s .answer)) 9) unwritten (cond (eqb (kind (r .answer)) 11) (got (r .block)) failed))
+  world-reads-same a = ap₂ (λ (r s : Reply World). cond (eqb (kind (s .answer)) 9) unwritten (cond (eqb (kind (r .answer)) 11) (got (r .block)) failed))
       (going-same (fill a (replicate (p .B) 0))) (going-same (read a))
 
   says-same : Says onValues p (worldOf l) → Says onBytes p l
   unfolding viewIn
-  says-same s = record { addresses-say = s .addresses-say; compact-says = s .compact-says; reads-say = λ a h. reads-same a ∙ s .reads-say a h }
+  says-same s = record { addresses-say = s .addresses-say; compact-says = s .compact-says; reads-say = λ a h. world-reads-same a ∙ s .reads-say a h }
 
 -- ---- one call
 
@@ -116,27 +116,27 @@ module _ (p : Params) (l : Lent) (ws : List Pending) (r : Reply Lent) where
       go u n e (yes h) = ap (isRefusedAs 9) (answer-same p u (restart noDrive n) h) ∙ x .accepted (worldOf u) n e
       go u n e (no h) = ap (isRefusedAs 9) (short-answer p u noDrive n h) ∙ short-ninth (inRange p && namesDrive p noDrive)
 
-  call-says : (c : Call) → CallSays onValues p (worldOf l) ws c (replyOf r) → CallSays onBytes p l ws c r
-  call-says (write a b n) x = tt
-  call-says (land d s n) x = λ y e. lands-same d s y (x y e)
-  call-says (close n) x = tt
-  call-says (reclaim n) x = tt
-  call-says (read a) x = tt
-  call-says (fill a b) x = tt
-  call-says (restart d n) x = λ e. restarts-same d (x e)
-  call-says (rebuild d n) x = λ e. rebuilds-same (x e)
+  bytes-call-says : (c : Call) → CallSays onValues p (worldOf l) ws c (replyOf r) → CallSays onBytes p l ws c r
+  bytes-call-says (write a b n) x = tt
+  bytes-call-says (land d s n) x = λ y e. lands-same d s y (x y e)
+  bytes-call-says (close n) x = tt
+  bytes-call-says (reclaim n) x = tt
+  bytes-call-says (read a) x = tt
+  bytes-call-says (fill a b) x = tt
+  bytes-call-says (restart d n) x = λ e. restarts-same d (x e)
+  bytes-call-says (rebuild d n) x = λ e. rebuilds-same (x e)
 
 -- ---- lists of calls
 
-says-on : (p : Params) (l : Lent) → Going p l → (ws : List Pending) (old : List Segment) (cs : List Call) → SaysOn onValues p (worldOf l) ws old cs → SaysOn onBytes p l ws old cs
+bytes-says-on : (p : Params) (l : Lent) → BytesRun p l → (ws : List Pending) (old : List Segment) (cs : List Call) → SaysOn onValues p (worldOf l) ws old cs → SaysOn onBytes p l ws old cs
 unfolding viewIn
-says-on p l g ws old [] (s, y) = (says-same p l g s, y)
-says-on p l g ws old (c ∷ cs) (s, y, n, x, t) = (
+bytes-says-on p l g ws old [] (s, y) = (says-same p l g s, y)
+bytes-says-on p l g ws old (c ∷ cs) (s, y, n, x, t) = (
   says-same p l g s,
   y,
   subst (λ (r : Reply World). NotNinth (restartOf c) (r .answer)) (sym e) n,
-  call-says p l ws (callLent p l c) c (subst (λ (r : Reply World). CallSays onValues p (worldOf l) ws c r) (sym e) x),
-  λ q. says-on p (callLent p l c .world) (going-on p l g c q) (pendingAfter c (callLent p l c .answer) ws) (foundAfter p (viewIn onBytes p l) c (callLent p l c .answer) old) cs
+  bytes-call-says p l ws (callLent p l c) c (subst (λ (r : Reply World). CallSays onValues p (worldOf l) ws c r) (sym e) x),
+  λ q. bytes-says-on p (callLent p l c .world) (going-on p l g c q) (pendingAfter c (callLent p l c .answer) ws) (foundAfter p (viewIn onBytes p l) c (callLent p l c .answer) old) cs
       (subst Next (sym e) t q),
 )
   where
@@ -164,7 +164,7 @@ lift-2 two p l d n cs by q = go (ℕ-discrete (length (l .state)) stateLen)
     go (no h) = clash q (ap finished (answer! ∙ short-answer p l d n h) ∙ refused-unfinished (shortAnswer (inRange p && namesDrive p d)) (short-refused (inRange p && namesDrive p d)))
     go (yes h) = (
       restarts-same p l [] (callLent p l c) d (subst (λ (r : Reply World). Restarts onValues p (worldOf l) d r) (sym e) (t .0)),
-      says-on p (callLent p l c .world) going [] (segments p (viewIn onBytes p l) (named d)) cs
+      bytes-says-on p (callLent p l c .world) going [] (segments p (viewIn onBytes p l) (named d)) cs
           (subst (λ (r : Reply World). SaysOn onValues p (r .world) [] (segments p (viewIn onValues p (worldOf l)) (named d)) cs) (sym e) (t .1)),
     )
       where
@@ -174,7 +174,7 @@ lift-2 two p l d n cs by q = go (ℕ-discrete (length (l .state)) stateLen)
         fin : finished (callDisk p (lentDisk l) (lentMemory l) c .answer) ≡ true
         fin = ap finished (sym (answer! ∙ answer-same p l c h)) ∙ q
 
-        f : Fits (callDisk p (lentDisk l) (lentMemory l) c .memory .state)
+        f : StateFits (callDisk p (lentDisk l) (lentMemory l) c .memory .state)
         f = unfold callDisk in finished-fits p (lentOk p (lentDisk l) (lentMemory l)) (lentDisk l) (lentMemory l) d n (run-restart p (lentDisk l) (lentMemory l) c shaped!) (on! fin)
           where
             on! : finished (callDisk p (lentDisk l) (lentMemory l) (restart d n) .answer) ≡ true
@@ -188,9 +188,9 @@ lift-2 two p l d n cs by q = go (ℕ-discrete (length (l .state)) stateLen)
             × SaysOn onValues p (callWorld p (worldOf l) (restart d n) .world) [] (segments p (viewIn onValues p (worldOf l)) (named d)) cs
         t = two p (worldOf l) d n cs by (ap (λ (r : Reply World). finished (r .answer)) (sym e) ∙ q)
 
-        going : Going p (callLent p l (restart d n) .world)
+        going : BytesRun p (callLent p l (restart d n) .world)
         going = unfold callLent in record {
           long = state-long p l c h f;
-          fits = subst (λ (r : After Disk). Fits (r .memory .state)) (sym (simulates p l c h f)) f;
+          fits = subst (λ (r : After Disk). StateFits (r .memory .state)) (sym (simulates p l c h f)) f;
           run = subst (λ (r : After Disk). Run p (r .drives) (r .memory)) (sym (simulates p l c h f)) (restart-finished p (lentDisk l) (lentMemory l) d n shaped! fin);
         }

@@ -57,8 +57,8 @@ module _ (p : Params) (h : Ranged p) (k : Disk) (m : Memory) (d n : ℕ) (g : Gh
   abbrev gs : List Segment
   gs = segments p v₁ (named d)
 
-  pub parts : (inRange p ≡ true) × (namesDrive p d ≡ true) × (lentOk p k m ≡ true)
-  parts = unfold inOrder in go ord
+  pub asked-parts : (inRange p ≡ true) × (namesDrive p d ≡ true) × (lentOk p k m ≡ true)
+  asked-parts = unfold inOrder in go ord
     where
       go : (inRange p && namesDrive p d && lentOk p k m) ≡ true → (inRange p ≡ true) × (namesDrive p d ≡ true) × (lentOk p k m ≡ true)
       go q = (
@@ -77,7 +77,7 @@ module _ (p : Params) (h : Ranged p) (k : Disk) (m : Memory) (d n : ℕ) (g : Gh
       was q =
           ap (λ (r : After Disk). isRefusedAs 6 (r .answer))
           (refused-after p k m (restart d n) (Refused 6)
-          (unfold decides in sixth p h g v₁ on known d ch (parts .0) (parts .1) (lentOk p k m) (parts .2) q))
+          (unfold decides in sixth p h g v₁ on known d ch (asked-parts .0) (asked-parts .1) (lentOk p k m) (asked-parts .2) q))
           ∙ six
 
   pub boot-is :
@@ -86,7 +86,7 @@ module _ (p : Params) (h : Ranged p) (k : Disk) (m : Memory) (d n : ℕ) (g : Gh
       (restartPlan p (seen p k) d (segments p (seen p k) (named d)) (m .inflight))
   boot-is = unfold callDisk callOn verdict restartVerdict storeCount lentBlock in (
       ap (λ (o : Opt Answer). outcome p (storeDisk p) n k m [] (decided o (restartPlan p v₁ d gs (m .inflight))))
-      (not-refused p h g v₁ on known d ch (parts .0) (parts .1) (lentOk p k m) (parts .2) boot-six)
+      (not-refused p h g v₁ on known d ch (asked-parts .0) (asked-parts .1) (lentOk p k m) (asked-parts .2) boot-six)
       ∙ done)
     where
       done :
@@ -99,7 +99,7 @@ module _ (p : Params) (h : Ranged p) (k : Disk) (m : Memory) (d n : ℕ) (g : Gh
       (and-right (eqb (length (k .image)) (imageLen p)
       && eqb (length (k .pointers)) (pointersLen p)
       && eqb (length (m .addresses)) (addressesLen p)
-      && eqb (length (m .compact)) (compactLen p)) (eqb (length (m .inflight)) (inflightLen p)) (reveal (parts .2)))
+      && eqb (length (m .compact)) (compactLen p)) (eqb (length (m .inflight)) (inflightLen p)) (reveal (asked-parts .2)))
     where
       reveal :
           lentOk p k m ≡ true

@@ -38,8 +38,8 @@ use Rattle.proof_crash_calls.specs.Rested.{rest-rel}
 use Rattle.proof_crash_calls.specs.Resumed.{reached-to, reached-forget}
 use Rattle.proof_crash_calls.specs.Sends.{length-forget, forget-waits}
 
-finds : (p : Params) (h : Ranged p) (g : Ghost) (u : View) (b : Bool) (z n : ℕ) → Opened p h g u b z n → Finds p u b z n
-finds p h g u b z n o =
+opened-finds : (p : Params) (h : Ranged p) (g : Ghost) (u : View) (b : Bool) (z n : ℕ) → Opened p h g u b z n → Finds p u b z n
+opened-finds p h g u b z n o =
     record {
       is = o .is;
       less = o .less;
@@ -79,7 +79,7 @@ module _ (p : Params) (h : Ranged p) (v : View) (ss : List Send) (n : ℕ) (g : 
       (D .linked .inv) (D .linked .shape) (D .linked .bytes) fewer? (omega (arith, length-forget ss)) (λ e. refl)))
 
   f : Finds p u (D .b) (D .z) (D .n)
-  f = finds p h (D .g′) u (D .b) (D .z) (D .n) (D .opened)
+  f = opened-finds p h (D .g′) u (D .b) (D .z) (D .n) (D .opened)
 
   none? : None (parOf p h) (doneGhost .un)
   none? = D .set .none
@@ -87,18 +87,18 @@ module _ (p : Params) (h : Ranged p) (v : View) (ss : List Send) (n : ℕ) (g : 
   on : OnDrives p h doneGhost u
   on = record { shape = reached₁ .shape; bytes = reached₁ .bytes; facts = reached₁ .inv .facts }
 
-  open-is : D .b ≡ not (eqb (openOf us) 0)
-  open-is = ⊎-elim
+  begun-open-is : D .b ≡ not (eqb (openOf us) 0)
+  begun-open-is = ⊎-elim
       (λ (q : (D .b ≡ true) × (openOf us ≡ suc (D .z)) × (nextOf p us ≡ D .n)). q .0 ∙ sym (ap not (ne-eqb (openOf us) 0 (omega (arith, q .1)))))
       (λ (q : (D .b ≡ false) × (openOf us ≡ 0)). q .0 ∙ sym (ap not (eq-eqb (openOf us) 0 (q .1)))) (f .is)
 
-  open-as : D .b ≡ true → (openOf us ≡ suc (D .z)) × (D .n ≡ nextOf p us)
-  open-as e = ⊎-elim (λ (q : (D .b ≡ true) × (openOf us ≡ suc (D .z)) × (nextOf p us ≡ D .n)). (q .1, sym (q .2)))
+  begun-open-as : D .b ≡ true → (openOf us ≡ suc (D .z)) × (D .n ≡ nextOf p us)
+  begun-open-as e = ⊎-elim (λ (q : (D .b ≡ true) × (openOf us ≡ suc (D .z)) × (nextOf p us ≡ D .n)). (q .1, sym (q .2)))
       (λ (q : (D .b ≡ false) × (openOf us ≡ 0)). clash e (q .0)) (f .is)
 
   rel? : Rel p (itemsIn p u) (idleState 1 0 t sr (openOf us) (nextOf p us)) fl M
   rel? = rest-rel p (itemsIn p u) fl 1 t sr (openOf us) (nextOf p us) (D .b) (D .z) (D .n) (stamps-fit p h doneGhost u on none?) (serials-fit p h doneGhost u on none?)
-      open-is (λ e. open-as e .0) (λ e. open-as e .1) (λ e q. let w : ⊥ = omega (arith, f .less e, q) in w) (f .full)
+      begun-open-is (λ e. begun-open-as e .0) (λ e. begun-open-as e .1) (λ e q. let w : ⊥ = omega (arith, f .less e, q) in w) (f .full)
 
   table? : TableOk p h doneGhost (itemsIn p u) (addressTable p (candidates p 0 (segments p u 0)))
   table? = table-said p h doneGhost u on none? (addressTable p (candidates p 0 (segments p u 0))) refl a false (run M) (reached₁ .inv)

@@ -34,7 +34,7 @@ use Rattle.proof_crash_machine.specs.Mask.{Mask}
 use Rattle.proof_crash_items.specs.Items.{itemsIn}
 use Rattle.proof_crash_items.specs.Named.{none-named, zero-few}
 use Rattle.proof_crash_items.specs.Ranges.{parOf}
-use Rattle.proof_crash_items.specs.RestMem.{restart-tabled, restart-lent, named-lt, named-ones}
+use Rattle.proof_crash_items.specs.RestMem.{restart-tabled, restart-lent, named-mask-low, ones-named}
 use Rattle.proof_crash_items.specs.Seen.{seen-stores, seen-cut, whole-all, whole-cut}
 use Rattle.proof_crash_items.specs.Segs.{OnDrives, trusted}
 use Rattle.proof_crash_items.specs.Sound.{AllSound}
@@ -48,7 +48,7 @@ use Rattle.proof_crash_calls.specs.Readings.{ShowsBlock, Shows, MarkShows, show
 use Rattle.proof_crash_calls.specs.Resumed.{reached-to, reached-forget, shows-read}
 use Rattle.proof_crash_calls.specs.Sends.{length-forget}
 use Rattle.proof_crash.specs.Stand.Holds.{goes, rests}
-use Rattle.proof_crash.specs.Asked.{parts, boot-six, boot-is, boot-lent}
+use Rattle.proof_crash.specs.Asked.{asked-parts, boot-six, boot-is, boot-lent}
 use Rattle.proof_crash.specs.Begins.{doneGhost, begins}
 use Rattle.proof_crash.specs.Boot.{Booted, stands-linked, stands-known, boot-done, boot-cut}
 use Rattle.proof_crash.specs.Stand.{Stands, Holds, mark-moves, hist, none-trust, named-choice, none-choice-none}
@@ -82,23 +82,23 @@ module _ (p : Params) (h : Ranged p) (s : Hist) (n : ℕ) (x : Stands p h s n) w
     six = subst (λ (i : ℕ). (rewrites p i (segments p v₀ i) && eqb (greatestSerial (segments p v₀ i)) lastCount) ≡ false) none-named
         (boot-six p h k₀ mem noDrive c (x .g) on₀ (stands-known p h s n x) ch ord al)
 
-    both : Always (CutTo p h (x .g) (x .a) (x .c)) v₀ ss × RestartDone p h (x .g) (x .a) (x .c) (storeAll storeView ss v₀)
-    both = healthy p h v₀ (x .g) (x .a) (x .c) (x .m) (stands-linked p h s n x) none? six
+    cuts-and-done : Always (CutTo p h (x .g) (x .a) (x .c)) v₀ ss × RestartDone p h (x .g) (x .a) (x .c) (storeAll storeView ss v₀)
+    cuts-and-done = healthy p h v₀ (x .g) (x .a) (x .c) (x .m) (stands-linked p h s n x) none? six
 
     right? : AllSound p v₀ ss
     right? = healthy-sound p h v₀ (x .g) (x .a) (x .c) (x .m) (stands-linked p h s n x) none? six
 
     in-range : inRange p ≡ true
-    in-range = parts p h k₀ mem noDrive c (x .g) on₀ (stands-known p h s n x) ch ord al .0
+    in-range = asked-parts p h k₀ mem noDrive c (x .g) on₀ (stands-known p h s n x) ch ord al .0
 
     nm : namesDrive p noDrive ≡ true
-    nm = parts p h k₀ mem noDrive c (x .g) on₀ (stands-known p h s n x) ch ord al .1
+    nm = asked-parts p h k₀ mem noDrive c (x .g) on₀ (stands-known p h s n x) ch ord al .1
 
     mask-lt : 0 < 2 ^ p .N
-    mask-lt = subst (λ (i : ℕ). i < 2 ^ p .N) none-named (named-lt p h noDrive nm)
+    mask-lt = subst (λ (i : ℕ). i < 2 ^ p .N) none-named (named-mask-low p h noDrive nm)
 
     one-bit : ones 0 ≤ 1
-    one-bit = subst (λ (i : ℕ). ones i ≤ 1) none-named (named-ones noDrive)
+    one-bit = subst (λ (i : ℕ). ones i ≤ 1) none-named (ones-named noDrive)
 
     -- cut
     cuts : (k : Disk) → Whole p k → (b : List ℕ) → CutTo p h (x .g) (x .a) (x .c) (seen p k) → Booted p h s (restart noDrive c) (mkAfter Cut k (cutMemory p mem) b)
@@ -139,8 +139,8 @@ module _ (p : Params) (h : Ranged p) (s : Hist) (n : ℕ) (x : Stands p h s n) w
           (restart-lent p h (D .g′) u (D .set .on) 0 (none-choice p h (D .g′) u (D .set)) mask-lt one-bit (mem .inflight) k wk
           (boot-lent p h k₀ mem noDrive c (x .g) on₀ (stands-known p h s n x) ch ord al)) i l
 
-      shows : (i : ℕ) → i < p .L → Shows p (x .g .sent) K i (seenAt p (mkWorld k m′) i)
-      shows i l = shows-more p (D .g′ .sent) (x .g .sent) K K i (seenAt p (mkWorld k m′) i) (λ y j. subst (λ (l : List Val). InV y l) (D .same .sent) j) refl (shows₀ i l)
+      fresh-shows : (i : ℕ) → i < p .L → Shows p (x .g .sent) K i (seenAt p (mkWorld k m′) i)
+      fresh-shows i l = shows-more p (D .g′ .sent) (x .g .sent) K K i (seenAt p (mkWorld k m′) i) (λ y j. subst (λ (l : List Val). InV y l) (D .same .sent) j) refl (shows₀ i l)
 
       -- what is read is no later than the greatest stamp
       K-low : (i : ℕ) → K i ≤ stampTop p u
@@ -178,7 +178,7 @@ module _ (p : Params) (h : Ranged p) (s : Hist) (n : ℕ) (x : Stands p h s n) w
           (length-forget (s .sends), subst (λ (g : Ghost). MarkShows p g (mkWorld k m′)) (sym (live .1)) shows₁)
 
       pub finishes : (b : List ℕ) → Booted p h s (restart noDrive c) (mkAfter (Restarted (reportOf p 0 gs)) k m′ b)
-      finishes b = boot-done p h s n x (mkWorld k m′) (isIn 0) (zero-few p h) K (record { acked = D .acked; sent = D .sent; floor = D .floor; same = λ q w. D .still q }) shows
+      finishes b = boot-done p h s n x (mkWorld k m′) (isIn 0) (zero-few p h) K (record { acked = D .acked; sent = D .sent; floor = D .floor; same = λ q w. D .still q }) fresh-shows
           noDrive c (reportOf p 0 gs) k m′ b refl runs-on
 
     -- all of it, by any number that stands for the mask without a drive
@@ -187,20 +187,20 @@ module _ (p : Params) (h : Ranged p) (s : Hist) (n : ℕ) (x : Stands p h s n) w
         (mkPlan (restartStores p i (segments p v₀ i)) (Restarted (reportOf p i (segments p v₀ i)))
         (restartMemory p (storeAll storeView (restartStores p i (segments p v₀ i)) v₀) i (mem .inflight)) [])
 
-    booted : (b : Bool) → Booted p h s (restart noDrive c) (after 0 b)
-    booted true =
+    fresh-booted : (b : Bool) → Booted p h s (restart noDrive c) (after 0 b)
+    fresh-booted true =
         unfold limited in subst (λ (w : View). Booted p h s (restart noDrive c)
         (mkAfter (Restarted (reportOf p 0 gs)) (storeAll (storeDisk p) ss k₀) (restartMemory p w 0 (mem .inflight)) []))
         (seen-stores p h k₀ (x .whole) ss right?)
         (finishes (storeAll (storeDisk p) ss k₀) (whole-all p h k₀ (x .whole) ss right?)
-        (subst (RestartDone p h (x .g) (x .a) (x .c)) (sym (seen-stores p h k₀ (x .whole) ss right?)) (both .1)) [])
-    booted false =
+        (subst (RestartDone p h (x .g) (x .a) (x .c)) (sym (seen-stores p h k₀ (x .whole) ss right?)) (cuts-and-done .1)) [])
+    fresh-booted false =
         unfold limited in cuts (storeAll (storeDisk p) (take c ss) k₀) (whole-cut p h k₀ (x .whole) ss right? c) []
-        (subst (CutTo p h (x .g) (x .a) (x .c)) (sym (seen-cut p h k₀ (x .whole) ss right? c)) (both .0 c))
+        (subst (CutTo p h (x .g) (x .a) (x .c)) (sym (seen-cut p h k₀ (x .whole) ss right? c)) (cuts-and-done .0 c))
 
     pub boot-healthy : Booted p h s (restart noDrive c) (callDisk p (s .world .disk) mem (restart noDrive c))
     boot-healthy = subst (Booted p h s (restart noDrive c)) (sym (boot-is p h k₀ mem noDrive c (x .g) on₀ (stands-known p h s n x) ch ord al ∙ is))
-        (subst (λ (i : ℕ). Booted p h s (restart noDrive c) (after i (leb (length (restartStores p i (segments p v₀ i))) c))) (sym none-named) (booted (leb (length ss) c)))
+        (subst (λ (i : ℕ). Booted p h s (restart noDrive c) (after i (leb (length (restartStores p i (segments p v₀ i))) c))) (sym none-named) (fresh-booted (leb (length ss) c)))
       where
         is : limited (leb (length (restartStores p (named noDrive) (segments p v₀ (named noDrive)))) c) p (storeDisk p) c k₀ mem []
             (restartPlan p v₀ noDrive (segments p v₀ (named noDrive)) (mem .inflight))

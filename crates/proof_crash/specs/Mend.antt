@@ -41,7 +41,7 @@ use Rattle.proof_crash_calls.specs.Refusals.{decides, refused-step}
 use Rattle.proof_crash_calls.specs.Resumed.{reached-to, reached-forget}
 use Rattle.proof_crash_calls.specs.Steps.{Stepped, run-step}
 use Rattle.proof_crash_calls.specs.Steps.Stepped.{goes-on, is-over}
-use Rattle.proof_crash.specs.Stand.{Quiet, MarkOk, Stands, Holds, mark-moves, named-same, named-not, leaves, hist, rebuild-leaves-cut, rebuild-leaves, none-trust}
+use Rattle.proof_crash.specs.Stand.{StateQuiet, MarkOk, Stands, Holds, mark-moves, named-same, named-not, leaves, hist, rebuild-leaves-cut, rebuild-leaves, none-trust}
 use Rattle.proof_crash.specs.Stand.Holds.{goes, rests}
 use Rattle.proof_crash.specs.Boot.{stands-linked}
 
@@ -149,7 +149,7 @@ module _ (p : Params) (h : Ranged p) (s : Hist) (n : ℕ) (x : Stands p h s n) w
   abbrev long : Bool
   long = lentOk p (s .world .disk) (s .world .memory)
 
-  as-it-was : Quiet p h (x .g .un) (s .world .memory .state) → (c : Call) → step p s (calls c) ≡ s → Holds p h (step p s (calls c))
+  as-it-was : StateQuiet p h (x .g .un) (s .world .memory .state) → (c : Call) → step p s (calls c) ≡ s → Holds p h (step p s (calls c))
   as-it-was q c e = subst (Holds p h) (sym e) (rests n x q)
 
   rebuild-any : (d : ℕ) → d < p .N → s .world .memory .state .missing ≡ named d → Choice (parOf p h) (x .g .un) (isIn (named d)) → (e c : ℕ) → Holds p h (step p s (calls (rebuild e c)))
@@ -180,7 +180,7 @@ module _ (p : Params) (h : Ranged p) (s : Hist) (n : ℕ) (x : Stands p h s n) w
                   → s .world .memory .state .missing ≡ named e
               same f = rebuild-passed p long (seen p (s .world .disk)) (s .world .memory) e (segments p (seen p (s .world .disk)) (named e)) f .names
 
-  pub rest-step : Quiet p h (x .g .un) (s .world .memory .state) → (c : Call) → restartOf c ≡ none → Holds p h (step p s (calls c))
+  pub rest-step : StateQuiet p h (x .g .un) (s .world .memory .state) → (c : Call) → restartOf c ≡ none → Holds p h (step p s (calls c))
   rest-step (inl z) c r = as-it-was (inl z) c (off-step p s c r z)
   rest-step (inr (d, dl, is, ch)) c r = go c r
     where

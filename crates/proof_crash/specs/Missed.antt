@@ -29,10 +29,10 @@ use Rattle.proof_crash_machine.specs.Facts.{Ghost, Choice, self}
 use Rattle.proof_crash_machine.specs.Finish.{finishing}
 use Rattle.proof_crash_machine.specs.History.Mode.{ro}
 use Rattle.proof_crash_machine.specs.Rebuild.{withUn}
-use Rattle.proof_crash_items.specs.Named.{named-some, named-self}
+use Rattle.proof_crash_items.specs.Named.{named-not-zero, named-self}
 use Rattle.proof_crash_items.specs.Ranges.{parOf}
 use Rattle.proof_crash_items.specs.Reading.{Tabled}
-use Rattle.proof_crash_items.specs.RestMem.{restart-tabled, restart-lent, named-lt, named-ones}
+use Rattle.proof_crash_items.specs.RestMem.{restart-tabled, restart-lent, named-mask-low, ones-named}
 use Rattle.proof_crash_items.specs.Seen.{shape-seen}
 use Rattle.proof_crash_items.specs.Segs.{OnDrives}
 use Rattle.proof_crash_items.specs.Shape.{Shape}
@@ -40,7 +40,7 @@ use Rattle.proof_crash_restarts.specs.Link.{Linked}
 use Rattle.proof_crash_restarts.specs.Missing.{stampsTop, missing-on, missingRead, missing-linked, missing-claim}
 use Rattle.proof_crash_calls.specs.Readings.{Shows}
 use Rattle.proof_crash_calls.specs.Resumed.{reached-to, reached-forget, shows-read}
-use Rattle.proof_crash.specs.Asked.{parts, boot-is, boot-lent}
+use Rattle.proof_crash.specs.Asked.{asked-parts, boot-is, boot-lent}
 use Rattle.proof_crash.specs.Boot.{Booted, stands-linked, stands-known, boot-done}
 use Rattle.proof_crash.specs.Stand.{Stands, Holds, hist, named-choice}
 use Rattle.proof_crash.specs.Stand.Holds.{rests}
@@ -52,8 +52,8 @@ module _ (p : Params) (h : Ranged p) (s : Hist) (n : ℕ) (x : Stands p h s n) w
   -- ---- a drive is named missing
   module _ (k : Disk) (wk : Whole p k) (mem : Memory) (d c : ℕ) (dl : d < p .N) (same : (e y : ℕ) → e < p .N → isIn (named d) e ≡ false → zoneAt (seen p k) e y ≡ zoneAt (seen p (s .world .disk)) e y)
       (us : namesAll (s .untrusted) (some d) ≡ true) (ord : inOrder p (mkWorld k mem) d ≡ true) (al : isRefusedAs 6 (callDisk p k mem (restart d c) .answer) ≡ false) where
-    ch : Choice (parOf p h) (x .g .un) (isIn (named d))
-    ch = named-choice p h (s .untrusted) d (x .g .un) (x .trust) us
+    choice-missed : Choice (parOf p h) (x .g .un) (isIn (named d))
+    choice-missed = named-choice p h (s .untrusted) d (x .g .un) (x .trust) us
 
     abbrev lost : (e : ℕ) × (e < p .N) × (isIn (named d) e ≡ true)
     lost = (d, dl, named-self p h d dl)
@@ -62,7 +62,7 @@ module _ (p : Params) (h : Ranged p) (s : Hist) (n : ℕ) (x : Stands p h s n) w
     gM = withUn (x .g) (isIn (named d))
 
     abbrev me : Choice (parOf p h) (isIn (named d)) (isIn (named d))
-    me = self (parOf p h) (isIn (named d)) (ch .0)
+    me = self (parOf p h) (isIn (named d)) (choice-missed .0)
 
     abbrev u : View
     u = seen p k
@@ -71,34 +71,34 @@ module _ (p : Params) (h : Ranged p) (s : Hist) (n : ℕ) (x : Stands p h s n) w
     sh = shape-seen p k wk
 
     abbrev on : OnDrives p h gM (seen p k)
-    on = missing-on p h (seen p (s .world .disk)) (seen p k) (x .g) (x .a) (x .c) (x .m) (stands-linked p h s n x) (named d) lost ch (shape-seen p k wk) same
+    on = missing-on p h (seen p (s .world .disk)) (seen p k) (x .g) (x .a) (x .c) (x .m) (stands-linked p h s n x) (named d) lost choice-missed (shape-seen p k wk) same
 
     abbrev K : ℕ → ℕ
-    K = missingRead p h (seen p (s .world .disk)) (seen p k) (x .g) (x .a) (x .c) (x .m) (stands-linked p h s n x) (named d) lost ch (shape-seen p k wk) same
+    K = missingRead p h (seen p (s .world .disk)) (seen p k) (x .g) (x .a) (x .c) (x .m) (stands-linked p h s n x) (named d) lost choice-missed (shape-seen p k wk) same
 
     abbrev m′ : Memory
     m′ = restartMemory p (seen p k) (named d) (mem .inflight)
 
     nm : namesDrive p d ≡ true
-    nm = parts p h k mem d c gM on (stands-known p h s n x) me ord al .1
+    nm = asked-parts p h k mem d c gM on (stands-known p h s n x) me ord al .1
 
     tab : Tabled p u (named d) m′
-    tab = restart-tabled p h gM u on (named d) me (named-lt p h d nm) (named-ones d) (mem .inflight)
+    tab = restart-tabled p h gM u on (named d) me (named-mask-low p h d nm) (ones-named d) (mem .inflight)
 
-    shows : (i : ℕ) → i < p .L → Shows p (x .g .sent) K i (seenAt p (mkWorld k m′) i)
-    shows i l =
+    missed-shows : (i : ℕ) → i < p .L → Shows p (x .g .sent) K i (seenAt p (mkWorld k m′) i)
+    missed-shows i l =
         unfold missingRead in shows-read p h gM k wk on (stands-known p h s n x) (named d) me m′ tab
-        (parts p h k mem d c gM on (stands-known p h s n x) me ord al .0)
-        (restart-lent p h gM u on (named d) me (named-lt p h d nm) (named-ones d) (mem .inflight) k wk (boot-lent p h k mem d c gM on (stands-known p h s n x) me ord al)) i l
+        (asked-parts p h k mem d c gM on (stands-known p h s n x) me ord al .0)
+        (restart-lent p h gM u on (named d) me (named-mask-low p h d nm) (ones-named d) (mem .inflight) k wk (boot-lent p h k mem d c gM on (stands-known p h s n x) me ord al)) i l
 
     abbrev g′ : Ghost
     g′ = finishing (x .g) (isIn (named d)) K (stampsTop (x .g .sent)) (x .g .sent)
 
     lk′ : Linked p h u g′ (x .a) false ro
-    lk′ = missing-linked p h (seen p (s .world .disk)) u (x .g) (x .a) (x .c) (x .m) (stands-linked p h s n x) (named d) lost ch sh same
+    lk′ = missing-linked p h (seen p (s .world .disk)) u (x .g) (x .a) (x .c) (x .m) (stands-linked p h s n x) (named d) lost choice-missed sh same
 
-    stays : Holds p h (hist (mkWorld k m′) (map forget (s .sends)) (named d) (some (record { world = mkWorld k m′; sentThen = length (map forget (s .sends)) })))
-    stays = rests (length (map forget (s .sends))) (record {
+    missed-holds : Holds p h (hist (mkWorld k m′) (map forget (s .sends)) (named d) (some (record { world = mkWorld k m′; sentThen = length (map forget (s .sends)) })))
+    missed-holds = rests (length (map forget (s .sends))) (record {
       g = g′;
       a = x .a;
       c = false;
@@ -110,20 +110,20 @@ module _ (p : Params) (h : Ranged p) (s : Hist) (n : ℕ) (x : Stands p h s n) w
           (reached-forget p h v₀ (s .sends) n (x .g) (x .a) (x .c) (x .m) (x .T) (x .reached)) u g′ false ro (length (map forget (s .sends)))
           (lk′ .inv) (lk′ .shape) (lk′ .bytes) (λ y i. i) (omega arith) (λ e. refl);
       trust = λ e l. refl;
-      mark = (refl, shows);
+      mark = (refl, missed-shows);
     }) (inr (d, dl, tab .missing, me))
 
-    no-stores : restartStores p (named d) (segments p (seen p k) (named d)) ≡ []
-    no-stores =
+    missed-no-stores : restartStores p (named d) (segments p (seen p k) (named d)) ≡ []
+    missed-no-stores =
         unfold restartStores in cond-false (eqb (named d) 0)
         (dropStores p (segments p u (named d)) ++ flat (mendStores p (segments p u (named d))) (unsealed (segments p u (named d)))) []
-        (named-some d (omega (arith, dl, h .drives-high)))
+        (named-not-zero d (omega (arith, dl, h .drives-high)))
 
     pub boot-missing : Booted p h s (restart d c) (callDisk p k mem (restart d c))
     boot-missing = subst (Booted p h s (restart d c)) (sym (boot-is p h k mem d c gM on (stands-known p h s n x) me ord al ∙ is))
-        (boot-done p h s n x (mkWorld k m′) (isIn (named d)) (ch .0) K
-        (missing-claim p h (seen p (s .world .disk)) u (x .g) (x .a) (x .c) (x .m) (stands-linked p h s n x) (named d) lost ch sh same) shows d c
-        (reportOf p (named d) (segments p u (named d))) k m′ [] refl stays)
+        (boot-done p h s n x (mkWorld k m′) (isIn (named d)) (choice-missed .0) K
+        (missing-claim p h (seen p (s .world .disk)) u (x .g) (x .a) (x .c) (x .m) (stands-linked p h s n x) (named d) lost choice-missed sh same) missed-shows d c
+        (reportOf p (named d) (segments p u (named d))) k m′ [] refl missed-holds)
       where
         is :
             limited (leb (length (restartStores p (named d) (segments p u (named d)))) c) p (storeDisk p) c k mem []
@@ -132,7 +132,7 @@ module _ (p : Params) (h : Ranged p) (s : Hist) (n : ℕ) (x : Stands p h s n) w
         is = unfold restartPlan in (
             ap (λ (l : List Store). limited (leb (length l) c) p (storeDisk p) c k mem []
             (mkPlan l (Restarted (reportOf p (named d) (segments p u (named d))))
-            (restartMemory p (storeAll storeView l u) (named d) (mem .inflight)) [])) no-stores
+            (restartMemory p (storeAll storeView l u) (named d) (mem .inflight)) [])) missed-no-stores
             ∙ ap (λ (b : Bool). limited b p (storeDisk p) c k mem []
             (mkPlan [] (Restarted (reportOf p (named d) (segments p u (named d))))
             (restartMemory p (storeAll storeView [] u) (named d) (mem .inflight)) [])) (le-leb 0 c (omega arith))

@@ -34,7 +34,7 @@ use Rattle.proof_crash_machine.specs.History.Mode.{run}
 use Rattle.proof_crash_machine.specs.Order.{Track}
 use Rattle.proof_crash_machine.specs.Val.{Val}
 use Rattle.proof_crash_machine.specs.Mask.{Mask}
-use Rattle.proof_crash_items.specs.Named.{isIn-named, named-some, none-named, named-few}
+use Rattle.proof_crash_items.specs.Named.{isIn-named, named-not-zero, none-named, named-few}
 use Rattle.proof_crash_items.specs.Ranges.{parOf}
 use Rattle.proof_crash_calls.specs.Live.{Reached}
 use Rattle.proof_crash_calls.specs.Readings.{MarkShows, shows-more}
@@ -61,12 +61,12 @@ pub record Stands (p : Params) (h : Ranged p) (s : Hist) (n : ℕ) : Type 0 wher
   pub mark : MarkOk p g n (s .mark)
 
 -- no call but restart, and rebuild of the drive that is missing, changes anything
-abbrev pub Quiet : (p : Params) → Ranged p → Mask → State → Type 0
-Quiet p h un st = (st ≡ zeroState) ⊎ ((d : ℕ) × (d < p .N) × (st .missing ≡ named d) × Choice (parOf p h) un (isIn (named d)))
+abbrev pub StateQuiet : (p : Params) → Ranged p → Mask → State → Type 0
+StateQuiet p h un st = (st ≡ zeroState) ⊎ ((d : ℕ) × (d < p .N) × (st .missing ≡ named d) × Choice (parOf p h) un (isIn (named d)))
 
 pub data Holds (p : Params) (h : Ranged p) (s : Hist) : Type 0 where
   goes : (n : ℕ) (x : Running p h s n) → MarkOk p (x .healthy .live .g) n (s .mark) → Holds p h s
-  rests : (n : ℕ) (x : Stands p h s n) → Quiet p h (x .g .un) (s .world .memory .state) → Holds p h s
+  rests : (n : ℕ) (x : Stands p h s n) → StateQuiet p h (x .g .un) (s .world .memory .state) → Holds p h s
 
 pub none-trust : (p : Params) (h : Ranged p) (us : ℕ) (un : Mask) → us ≡ 0 → None (parOf p h) un → Trust p us un
 none-trust p h us un e n d l = n d l ∙ sym (ap (λ (x : ℕ). isIn x d) e ∙ isIn-empty d)
@@ -111,7 +111,7 @@ pub named-same : (d e : ℕ) → d < 8 → named d ≡ named e → d ≡ e
 named-same d e l q = eqb-true d e (sym (isIn-named e d l) ∙ ap (λ (x : ℕ). isIn x d) (sym q) ∙ isIn-named d d l ∙ eq-eqb d d refl)
 
 pub named-not : (p : Params) → Ranged p → (d : ℕ) → d < p .N → named d ≡ 0 → ⊥
-named-not p h d l e = clash (eq-eqb (named d) 0 e) (named-some d (omega (arith, l, h .drives-high)))
+named-not p h d l e = clash (eq-eqb (named d) 0 e) (named-not-zero d (omega (arith, l, h .drives-high)))
 
 -- ---- what a call leaves of a history
 unfoldable pub leaves : Hist → Call → After Disk → Hist

@@ -50,28 +50,28 @@ module _ (p : Params) (k : Disk) (w : Whole p k) (d : ℕ) (im ps : List ℕ) wh
     long-im : length (k .image) ≡ p .N * driveLen p
     long-im = w .image-long ∙ (unfold imageLen in refl)
 
-    long-ps : length (k .pointers) ≡ p .N * (4 * p .Z)
-    long-ps = w .pointers-long ∙ (unfold pointersLen in sym (sym (mul-assoc (p .N) 4 (p .Z)) ∙ ap (λ (x : ℕ). x * p .Z) (mul-comm (p .N) 4) ∙ mul-assoc 4 (p .N) (p .Z)))
+    pointers-length : length (k .pointers) ≡ p .N * (4 * p .Z)
+    pointers-length = w .pointers-long ∙ (unfold pointersLen in sym (sym (mul-assoc (p .N) 4 (p .Z)) ∙ ap (λ (x : ℕ). x * p .Z) (mul-comm (p .N) 4) ∙ mul-assoc 4 (p .N) (p .Z)))
 
     at-ps : pointerByte p d 0 ≡ d * (4 * p .Z)
     at-ps = unfold pointerByte in (ap (λ (x : ℕ). 4 * x) (add-zero (d * p .Z)) ∙ sym (sym (mul-assoc d 4 (p .Z)) ∙ ap (λ (x : ℕ). x * p .Z) (mul-comm d 4) ∙ mul-assoc 4 d (p .Z)))
 
-    room : (x : ℕ) → d * x + x ≤ p .N * x
-    room x = let e : suc d * x ≡ d * x + x = suc-mul d x in let b : suc d * x ≤ p .N * x = mul-le-mul-right x (omega (arith, dl)) in omega (arith, e, b)
+    drive-room : (x : ℕ) → d * x + x ≤ p .N * x
+    drive-room x = let e : suc d * x ≡ d * x + x = suc-mul d x in let b : suc d * x ≤ p .N * x = mul-le-mul-right x (omega (arith, dl)) in omega (arith, e, b)
 
     image-same : length (splice (k .image) (d * driveLen p) im) ≡ length (k .image)
-    image-same = length-splice (k .image) (d * driveLen p) im (omega (arith, room (driveLen p), im-long, long-im))
+    image-same = length-splice (k .image) (d * driveLen p) im (omega (arith, drive-room (driveLen p), im-long, long-im))
 
     pointers-same : length (splice (k .pointers) (pointerByte p d 0) ps) ≡ length (k .pointers)
-    pointers-same = length-splice (k .pointers) (pointerByte p d 0) ps (omega (arith, room (4 * p .Z), ps-long, long-ps, at-ps))
+    pointers-same = length-splice (k .pointers) (pointerByte p d 0) ps (omega (arith, drive-room (4 * p .Z), ps-long, pointers-length, at-ps))
 
     view-is : viewOf p (splice (k .image) (d * driveLen p) im) (splice (k .pointers) (pointerByte p d 0) ps)
         ≡ set (viewOf p (k .image) (k .pointers)) d (driveOf p (splice (getD (pieces (driveLen p) (p .N) (k .image)) d []) 0 im) (splice (getD (pieces (4 * p .Z) (p .N) (k .pointers)) d []) 0 ps))
     view-is = ap₂ (λ (x y : ℕ). viewOf p (splice (k .image) x im) (splice (k .pointers) y ps)) (sym (add-zero (d * driveLen p))) (at-ps ∙ sym (add-zero (d * (4 * p .Z))))
-        ∙ view-splice p (k .image) (k .pointers) d 0 0 im ps dl (omega (arith, im-long)) (omega (arith, ps-long)) (omega (arith, long-im)) (omega (arith, long-ps))
+        ∙ view-splice p (k .image) (k .pointers) d 0 0 im ps dl (omega (arith, im-long)) (omega (arith, ps-long)) (omega (arith, long-im)) (omega (arith, pointers-length))
 
-    same : (e y : ℕ) → e ≢ d → zoneAt (seen p other) e y ≡ zoneAt (seen p k) e y
-    same e y n = unfold zoneAt in ap (λ (x : List Zone). getD x y noZone) (ap (λ (v : View). getD v e []) view-is
+    swap-same : (e y : ℕ) → e ≢ d → zoneAt (seen p other) e y ≡ zoneAt (seen p k) e y
+    swap-same e y n = unfold zoneAt in ap (λ (x : List Zone). getD x y noZone) (ap (λ (v : View). getD v e []) view-is
         ∙ getD-set-other (viewOf p (k .image) (k .pointers)) d e
         (driveOf p (splice (getD (pieces (driveLen p) (p .N) (k .image)) d []) 0 im)
         (splice (getD (pieces (4 * p .Z) (p .N) (k .pointers)) d []) 0 ps)) [] n)
@@ -86,7 +86,7 @@ module _ (p : Params) (k : Disk) (w : Whole p k) (d : ℕ) (im ps : List ℕ) wh
   swapped-ok = go (test fits?)
     where
       go : Test fits? → Swapped (cond fits? other k)
-      go (yes! q) = subst Swapped (sym (cond-true fits? other k q)) (record { image = image-same q; pointers = pointers-same q; others = same q })
+      go (yes! q) = subst Swapped (sym (cond-true fits? other k q)) (record { image = image-same q; pointers = pointers-same q; others = swap-same q })
       go (no! q) = subst Swapped (sym (cond-false fits? other k q)) (record { image = refl; pointers = refl; others = λ e y n. refl })
 
   pub swapped-whole : Whole p (swapped p k d im ps)

@@ -27,7 +27,7 @@ use Rattle.proof_crash_machine.specs.Memory.{Mem, ended}
 use Rattle.proof_crash_machine.specs.Order.{Track}
 use Rattle.proof_crash_machine.specs.Val.{Val}
 use Rattle.proof_crash_machine.specs.View.Item.{chunk}
-use Rattle.proof_crash_machine.specs.View.{View as m-View, In}
+use Rattle.proof_crash_machine.specs.View.{ItemView, InI}
 use Rattle.proof_crash_items.specs.Ranges.{parOf, apart-code}
 use Rattle.proof_crash_calls.specs.Go.{mst, Go, go-step}
 use Rattle.proof_crash_calls.specs.Rel.{inUse, Waiting}
@@ -47,27 +47,27 @@ module _ (q : ℕ) (G : ℕ → Val) (base : ℕ → ℕ) (x : ℕ) where
   abbrev hit : ℕ → Bool
   hit n = not (eqb n q) && eqb (G n .addr) x
 
-  step : (n : ℕ) → f (suc n) ≡ cond (hit n) (max (G n .stamp) (f n)) (f n)
+  ack-step : (n : ℕ) → f (suc n) ≡ cond (hit n) (max (G n .stamp) (f n)) (f n)
   unfolding raiseTo
-  step n = refl
+  ack-step n = refl
 
   pub raise-low : (n : ℕ) → base x ≤ raiseTo q G base x n
   raise-low zero = unfold raiseTo in omega arith
   raise-low (suc n) = go (hit n) refl (raise-low n)
     where
       go : (b : Bool) → hit n ≡ b → base x ≤ f n → base x ≤ f (suc n)
-      go true e l = rw (step n, e) (omega arith)
-      go false e l = rw (step n, e) l
+      go true e l = rw (ack-step n, e) (omega arith)
+      go false e l = rw (ack-step n, e) l
 
   pub raise-most : (n d : ℕ) → d < n → d ≢ q → G d .addr ≡ x → G d .stamp ≤ raiseTo q G base x n
   raise-most zero d l k e = absurd (let z : ⊥ = omega arith in z)
   raise-most (suc n) d l k e = go (ℕ-discrete d n) (hit n) refl (raise-most n d)
     where
       go : Dec (d ≡ n) → (b : Bool) → hit n ≡ b → (d < n → d ≢ q → G d .addr ≡ x → G d .stamp ≤ f n) → G d .stamp ≤ f (suc n)
-      go (yes w) true t ih = rw (step n, t, w) (omega arith)
+      go (yes w) true t ih = rw (ack-step n, t, w) (omega arith)
       go (yes w) false t ih = clash (subst (λ (j : ℕ). hit j ≡ true) w (and-both (not (eqb d q)) (eqb (G d .addr) x) (ap not (ne-eqb d q k)) (eq-eqb (G d .addr) x e))) t
-      go (no w) true t ih = let r : G d .stamp ≤ f n = ih (omega arith) k e in rw (step n, t) (omega arith)
-      go (no w) false t ih = rw (step n, t) (ih (omega arith) k e)
+      go (no w) true t ih = let r : G d .stamp ≤ f n = ih (omega arith) k e in rw (ack-step n, t) (omega arith)
+      go (no w) false t ih = rw (ack-step n, t) (ih (omega arith) k e)
 
   pub raise-is : (n : ℕ) → (raiseTo q G base x n ≡ base x) ⊎ ((d : ℕ) × (d < n) × (d ≢ q) × (G d .addr ≡ x) × (raiseTo q G base x n ≡ G d .stamp))
   raise-is zero = inl (unfold raiseTo in refl)
@@ -86,15 +86,15 @@ module _ (q : ℕ) (G : ℕ → Val) (base : ℕ → ℕ) (x : ℕ) where
             omega arith,
             eqb-false n q (not-true (eqb n q) (and-left (not (eqb n q)) (eqb (G n .addr) x) e)),
             eqb-true (G n .addr) x (and-right (not (eqb n q)) (eqb (G n .addr) x) e),
-            step n ∙ cond-true (hit n) (max (G n .stamp) (f n)) (f n) e ∙ m,
+            ack-step n ∙ cond-true (hit n) (max (G n .stamp) (f n)) (f n) e ∙ m,
           )
-      go true e (no l) w = let m : max (G n .stamp) (f n) ≡ f n = omega arith in more w (step n ∙ cond-true (hit n) (max (G n .stamp) (f n)) (f n) e ∙ m)
-      go false e l w = more w (step n ∙ cond-false (hit n) (max (G n .stamp) (f n)) (f n) e)
+      go true e (no l) w = let m : max (G n .stamp) (f n) ≡ f n = omega arith in more w (ack-step n ∙ cond-true (hit n) (max (G n .stamp) (f n)) (f n) e ∙ m)
+      go false e l w = more w (ack-step n ∙ cond-false (hit n) (max (G n .stamp) (f n)) (f n) e)
 
 -- ---- the step
 
-module _ (p : Params) (h : Ranged p) (g : Ghost) (v : m-View) (a : List Val) (c : Bool) (M : Mem) (T : Track) (ss : List Send) (st : State) (s : ℕ)
-    (fly : M .fly s ≡ true) (on : (e : ℕ) → e < p .N → (x : Val) × In (chunk s x) (v e (M .zone)))
+module _ (p : Params) (h : Ranged p) (g : Ghost) (v : ItemView) (a : List Val) (c : Bool) (M : Mem) (T : Track) (ss : List Send) (st : State) (s : ℕ)
+    (fly : M .fly s ≡ true) (on : (e : ℕ) → e < p .N → (x : Val) × InI (chunk s x) (v e (M .zone)))
     (w : (j : ℕ) → j < length ss → sendAt ss j .waits ≡ true → Waiting p st M (T .log j) (sendAt ss j .stripe) × InV (T .log j) (g .sent) × (T .pos (T .log j .stamp) ≡ j))
     (most : (i : ℕ) → i < 8 → inUse st i ≡ true → filledIn st i ≤ dataCount p) where
   abbrev pub ackBase : ℕ → ℕ
@@ -103,8 +103,8 @@ module _ (p : Params) (h : Ranged p) (g : Ghost) (v : m-View) (a : List Val) (c 
   abbrev pub ackList : List Val
   ackList = ackedTo T ss s a (length ss)
 
-  up : (x : ℕ) → (ackBase x ≡ g .base x) ⊎ ((y : Val) × Datum (parOf p h) s (M .F s) y × (y .addr ≡ x) × (ackBase x ≡ y .stamp) × (g .base x ≤ ackBase x))
-  up x = ⊎-elim (λ e. inl e)
+  base-up : (x : ℕ) → (ackBase x ≡ g .base x) ⊎ ((y : Val) × Datum (parOf p h) s (M .F s) y × (y .addr ≡ x) × (ackBase x ≡ y .stamp) × (g .base x ≤ ackBase x))
+  base-up x = ⊎-elim (λ e. inl e)
       (λ (k : (d : ℕ) × (d < p .N) × (d ≢ parityDrive p s) × (M .F s d .addr ≡ x) × (ackBase x ≡ M .F s d .stamp)).
       inr (M .F s (k .0), record { d = k .0; lt = k .1; data? = apart-code p h s (k .0) (k .2); val = refl }, k .3, k .4, raise-low (parityDrive p s) (M .F s) (g .base) x (p .N)))
       (raise-is (parityDrive p s) (M .F s) (g .base) x (p .N))
@@ -125,4 +125,4 @@ module _ (p : Params) (h : Ranged p) (g : Ghost) (v : m-View) (a : List Val) (c 
           (subst (λ (t : Val). InV t (g .sent)) (sym n) (k .1), subst (λ (t : ℕ). t ≤ ackBase (x .addr)) (ap (λ (t : Val). t .stamp) z) r)
 
   pub ack-go : Go (parOf p h) (mst g v a c (run M)) (mst (withBase g ackBase) v ackList c (run (ended M s))) T T
-  ack-go = go-step (parOf p h) (mst g v a c (run M)) (mst (withBase g ackBase) v ackList c (run (ended M s))) T (ack (mst g v a c (run M)) M s ackBase ackList refl fly on up al)
+  ack-go = go-step (parOf p h) (mst g v a c (run M)) (mst (withBase g ackBase) v ackList c (run (ended M s))) T (ack (mst g v a c (run M)) M s ackBase ackList refl fly on base-up al)

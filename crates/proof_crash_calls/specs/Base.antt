@@ -16,7 +16,7 @@ use Rattle.law_basic.specs.Ranges.Test.{yes!, no! }
 use Rattle.law_drives.specs.Tests.{clash}
 use Rattle.proof_crash_machine.specs.Exec.{true≢false, and-1, and-2}
 use Rattle.proof_crash_machine.specs.Memory.{setAt, setAt-elim}
-use Rattle.proof_crash_items.specs.Member.{Has, has-keep, keep-nil, upFrom-has, below-has, has-below, any-has, any-false}
+use Rattle.proof_crash_items.specs.Member.{Has, has-keep, keep-nil, upFrom-has, below-has, has-below, any-has, any-false-in}
 
 -- ---- tests
 
@@ -49,10 +49,10 @@ keep-rest f (a ∷ l) e = go (f a) (or-left (f a) (any f l) e) (keep-rest f l (o
     go true q ih = true≢false (sym q)
     go false q ih = unfold consIf in ap suc ih
 
-keep-one : (f : ℕ → Bool) (i k n : ℕ) → ((j : ℕ) → k ≤ j → j < k + n → j ≢ i → f j ≡ false) → length (keep f (upFrom k n)) ≤ 1
+keep-at-most-one : (f : ℕ → Bool) (i k n : ℕ) → ((j : ℕ) → k ≤ j → j < k + n → j ≢ i → f j ≡ false) → length (keep f (upFrom k n)) ≤ 1
 unfolding upFrom keep
-keep-one f i k zero h = omega arith
-keep-one f i k (suc n) h = go (ℕ-discrete k i) (f k) refl (keep-one f i (suc k) n (λ j a b. h j (omega arith) (omega arith)))
+keep-at-most-one f i k zero h = omega arith
+keep-at-most-one f i k (suc n) h = go (ℕ-discrete k i) (f k) refl (keep-at-most-one f i (suc k) n (λ j a b. h j (omega arith) (omega arith)))
   where
     rest : k ≡ i → keep f (upFrom (suc k) n) ≡ []
     rest e = keep-nil f (upFrom (suc k) n) (λ j m. let r : (suc k ≤ j) × (j < suc k + n) = upFrom-has j (suc k) n m in h j (omega (arith, r .0)) (omega (arith, r .1)) (omega (arith, r .0)))
@@ -64,9 +64,9 @@ keep-one f i k (suc n) h = go (ℕ-discrete k i) (f k) refl (keep-one f i (suc k
     go (no e) false q ih = unfold consIf in ih
 
 -- two that pass: another than i
-pub another : (f : ℕ → Bool) (n i : ℕ) → 2 ≤ length (keep f (below n)) → (j : ℕ) × (j < n) × (f j ≡ true) × (j ≢ i)
+pub another-kept : (f : ℕ → Bool) (n i : ℕ) → 2 ≤ length (keep f (below n)) → (j : ℕ) × (j < n) × (f j ≡ true) × (j ≢ i)
 unfolding below
-another f n i b = go (test (any (λ j. not (eqb j i) && f j) (below n)))
+another-kept f n i b = go (test (any (λ j. not (eqb j i) && f j) (below n)))
   where
     go : Test (any (λ j. not (eqb j i) && f j) (below n)) → (j : ℕ) × (j < n) × (f j ≡ true) × (j ≢ i)
     go (yes! e) =
@@ -79,8 +79,8 @@ another f n i b = go (test (any (λ j. not (eqb j i) && f j) (below n)))
     go (no! e) = absurd (let q : ⊥ = omega (
       arith,
       b,
-      keep-one f i 0 n (λ j a c k.
-          and-fails (not (eqb j i)) (f j) (any-false (λ j. not (eqb j i) && f j) (below n) e j (has-below j n (omega arith))) (ap not (ne-eqb j i k))),
+      keep-at-most-one f i 0 n (λ j a c k.
+          and-fails (not (eqb j i)) (f j) (any-false-in (λ j. not (eqb j i) && f j) (below n) e j (has-below j n (omega arith))) (ap not (ne-eqb j i k))),
     ) in q)
 
 -- one that passes: no other

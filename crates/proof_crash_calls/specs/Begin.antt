@@ -17,13 +17,13 @@ use Rattle.spec.specs.Params.{dataCount}
 use Rattle.law_basic.specs.Geometry.{Ranged, data-count-low, data-drive-lt, drive-is-data}
 use Rattle.law_basic.specs.Mask.{isIn-empty}
 use Rattle.law_drives.specs.Tests.{clash}
-use Rattle.proof_crash_machine.specs.Exec.{or-cases, or-1}
+use Rattle.proof_crash_machine.specs.Exec.{or-either, or-1}
 use Rattle.proof_crash_machine.specs.Facts.{Par, Ghost}
 use Rattle.proof_crash_machine.specs.Filling.{unfilled, unfilled-data}
 use Rattle.proof_crash_machine.specs.Memory.{setAt, setAt-elim, Mem, MemOk, flown}
 use Rattle.proof_crash_machine.specs.Val.{Val}
 use Rattle.proof_crash_machine.specs.View.Item.{chunk}
-use Rattle.proof_crash_machine.specs.View.{View as m-View, In}
+use Rattle.proof_crash_machine.specs.View.{ItemView, InI}
 use Rattle.proof_crash_items.specs.Ranges.{parOf, data-code}
 use Rattle.proof_crash_calls.specs.Base.{eqb-self, setAt-here, setAt-else}
 use Rattle.proof_crash_calls.specs.Cells.{SameSlot, same-used, begin-long, begin-number, begin-filled, begin-landed, begin-same}
@@ -59,7 +59,7 @@ no-ones = refl
 pub none-landed : (p : Params) → Ranged p → eqb (ones 0) (p .N) ≡ false
 none-landed p h = ne-eqb (ones 0) (p .N) (λ e. let z : ⊥ = omega (arith, eqb-true (ones 0) 0 no-ones, h .drives-low) in z)
 
-module _ (p : Params) (h : Ranged p) (g : Ghost) (v : m-View) (st : State) (fl : List ℕ) (M : Mem) (R : Rel p v st fl M) (m : MemOk (parOf p h) g v M)
+module _ (p : Params) (h : Ranged p) (g : Ghost) (v : ItemView) (st : State) (fl : List ℕ) (M : Mem) (R : Rel p v st fl M) (m : MemOk (parOf p h) g v M)
     (o : M .is-open ≡ true) (i : ℕ) (il : i < 8) (free : inUse st i ≡ false) where
   abbrev s : ℕ
   s = M .next
@@ -80,8 +80,8 @@ module _ (p : Params) (h : Ranged p) (g : Ghost) (v : m-View) (st : State) (fl :
     out = λ d l e x k. let z : ⊥ = omega (arith, m .below o d s x l k) in z;
   }
 
-  here : SlotOf p v (beginStripe st i) fl (M .zone) i (begunMem (parOf p h) M .F (stripeIn (beginStripe st i) i)) (begunMem (parOf p h) M .ready (stripeIn (beginStripe st i) i))
-  here = rw (number, setAt-here (M .F) s (unfilled (parOf p h) s), setAt-here (M .ready) s (λ e. false), begin-filled st (R .long) i il, begin-landed st (R .long) i il) bare
+  slot-begun : SlotOf p v (beginStripe st i) fl (M .zone) i (begunMem (parOf p h) M .F (stripeIn (beginStripe st i) i)) (begunMem (parOf p h) M .ready (stripeIn (beginStripe st i) i))
+  slot-begun = rw (number, setAt-here (M .F) s (unfilled (parOf p h) s), setAt-here (M .ready) s (λ e. false), begin-filled st (R .long) i il, begin-landed st (R .long) i il) bare
 
   -- the others are older
   older : (j : ℕ) → j < 8 → inUse st j ≡ true → stripeIn st j < M .next
@@ -90,9 +90,9 @@ module _ (p : Params) (h : Ranged p) (g : Ghost) (v : m-View) (st : State) (fl :
   not-i : (j : ℕ) → inUse st j ≡ true → j ≢ i
   not-i j q e = clash q (ap (inUse st) e ∙ free)
 
-  there : (j : ℕ) → j < 8 → inUse st j ≡ true
+  others-begun : (j : ℕ) → j < 8 → inUse st j ≡ true
       → SlotOf p v (beginStripe st i) fl (M .zone) j (begunMem (parOf p h) M .F (stripeIn (beginStripe st i) j)) (begunMem (parOf p h) M .ready (stripeIn (beginStripe st i) j))
-  there j jl q =
+  others-begun j jl q =
       slot-keep p h (λ e. v e (M .zone)) (λ e. v e (M .zone)) (slotBlock p fl j) (slotBlock p fl j) (entryIn st j) (entryIn (beginStripe st i) j) (offsetIn st j) (offsetIn (beginStripe st i) j)
       (stripeIn st j) (stripeIn (beginStripe st i) j) (filledIn st j) (filledIn (beginStripe st i) j) (landedIn st j) (landedIn (beginStripe st i) j)
       (begunMem (parOf p h) M .F (stripeIn (beginStripe st i) j)) (begunMem (parOf p h) M .ready (stripeIn (beginStripe st i) j))
@@ -107,7 +107,7 @@ module _ (p : Params) (h : Ranged p) (g : Ghost) (v : m-View) (st : State) (fl :
 
   with-cases : (j : ℕ) → withSlot st i j ≡ true → (j ≡ i) ⊎ (inUse st j ≡ true)
   unfolding withSlot
-  with-cases j q = ⊎-elim (λ (e : eqb j i ≡ true). inl (eqb-true j i e)) (λ e. inr e) (or-cases (eqb j i) (inUse st j) q)
+  with-cases j q = ⊎-elim (λ (e : eqb j i ≡ true). inl (eqb-true j i e)) (λ e. inr e) (or-either (eqb j i) (inUse st j) q)
 
   numbers : (j : ℕ) → inUse st j ≡ true → stripeIn (beginStripe st i) j ≡ stripeIn st j
   numbers j q = begin-same st (R .long) i il j (not-i j q) .number
@@ -128,8 +128,8 @@ module _ (p : Params) (h : Ranged p) (g : Ghost) (v : m-View) (st : State) (fl :
     slot =
         λ j jl q. ⊎-elim (λ (e : j ≡ i). subst (λ (x : ℕ). SlotOf p v (beginStripe st i) fl (M .zone) x
         (begunMem (parOf p h) M .F (stripeIn (beginStripe st i) x)) (begunMem (parOf p h) M .ready (stripeIn (beginStripe st i) x))) (sym e)
-        here)
-        (λ (e : inUse st j ≡ true). there j jl e) (with-cases j q);
+        slot-begun)
+        (λ (e : inUse st j ≡ true). others-begun j jl e) (with-cases j q);
     once = λ j l jl ll q w e. once j l jl ll (with-cases j q) (with-cases l w) e;
     flies = λ x q. flies x q (ℕ-discrete x s);
     whole = λ q x l w. whole x l (ℕ-discrete x s) w;
@@ -148,7 +148,7 @@ module _ (p : Params) (h : Ranged p) (g : Ghost) (v : m-View) (st : State) (fl :
           let f : (j : ℕ) × (j < 8) × (inUse st j ≡ true) × (stripeIn st j ≡ x) = R .flies x (sym (setAt-else (M .fly) s true x e) ∙ q) in
           (f .0, f .1, with-other st i (f .0) (not-i (f .0) (f .2)) ∙ f .2, numbers (f .0) (f .2) ∙ f .3)
 
-      whole : (x : ℕ) → x < suc s → Dec (x ≡ s) → setAt (M .fly) s true x ≡ false → (d : ℕ) → d < p .N → (y : Val) × In (chunk x y) (v d (M .zone))
+      whole : (x : ℕ) → x < suc s → Dec (x ≡ s) → setAt (M .fly) s true x ≡ false → (d : ℕ) → d < p .N → (y : Val) × InI (chunk x y) (v d (M .zone))
       whole x l (yes e) w = clash (ap (setAt (M .fly) s true) e ∙ setAt-here (M .fly) s true) w
       whole x l (no e) w = R .whole o x (omega arith) (sym (setAt-else (M .fly) s true x e) ∙ w)
 

@@ -40,7 +40,7 @@ use Rattle.proof_crash_items.specs.Items.{itemsIn}
 use Rattle.proof_crash_items.specs.Member.{Has, has-keep, keep-nil, below-has, has-below, all-has}
 use Rattle.proof_crash_items.specs.Ranges.{parOf}
 use Rattle.proof_crash_items.specs.Sound.{BytesOk}
-use Rattle.proof_crash_items.specs.Start.{empty-whole, empty-pointer, empty-items, start-on}
+use Rattle.proof_crash_items.specs.Start.{empty-whole, start-pointer, empty-items, start-on}
 use Rattle.proof_crash_calls.specs.Go.{mst, Go, go-step, go-view, go-start}
 use Rattle.proof_crash_calls.specs.Held.{TableOk}
 use Rattle.proof_crash_calls.specs.Join.{Healthy}
@@ -51,11 +51,11 @@ use Rattle.proof_crash_calls.specs.Rested.{rest-rel, rest-live}
 use Rattle.proof_crash_calls.specs.Steps.{Running, Halted, Stepped, run-step}
 use Rattle.proof_crash_calls.specs.Steps.Stepped.{goes-on, is-over}
 
-bare-unused : (P : Par) (n : Mask) (z : ℕ) → Used P n (λ d z. []) z → ⊥
-bare-unused P n z (d, t, b) = let q : ⊥ = omega (arith, b) in q
+empty-unused : (P : Par) (n : Mask) (z : ℕ) → Used P n (λ d z. []) z → ⊥
+empty-unused P n z (d, t, b) = let q : ⊥ = omega (arith, b) in q
 
-bare-stripe : (P : Par) (f : ℕ → Val) (s z : ℕ) → Stripe P (λ d z. []) (λ d. false) z s f → ⊥
-bare-stripe P f s z st = st .on 0 (omega (arith, P .some)) refl
+empty-stripe : (P : Par) (f : ℕ → Val) (s z : ℕ) → Stripe P (λ d z. []) (λ d. false) z s f → ⊥
+empty-stripe P f s z st = st .on 0 (omega (arith, P .some)) refl
 
 abbrev bornGhost : Par → Ghost
 bornGhost P = finishing (withPr (start P .g) alone) (start P .g .un) (λ a. 0) 0 (upTo 0 (start P .g .sent))
@@ -65,9 +65,9 @@ born-go : (P : Par) (T : Track) → Go P (start P) (mst (bornGhost P) (λ d z. [
 unfolding start applyAll upTo
 born-go P T = go-step P (start P) (mst (bornGhost P) (λ d z. []) [] false (run (restMem false 0 0 0 0))) T
     (restart-plain (start P) (λ d l. refl) [] (record { are = tt; every = λ z k d l b. absurd (let q : ⊥ = omega (arith, b) in q) }) (λ d z s x l k m. absurd m)
-    (λ a. 0) 0 (record { most = λ x c. absurd (bare-stripe P (c .f) (c .s) (c .z) (c .st)); some = λ a. inl refl })
-    (λ x c. absurd (bare-stripe P (c .f) (c .s) (c .z) (c .st))) false 0 0 (omega arith)
-    (λ y (d, t, a, b). absurd (bare-unused P (λ d. false) y (d, t, a))) (λ q. true≢false q) (λ q. true≢false q) 0 (λ y i. absurd (bare-unused P (λ d. false) y i)))
+    (λ a. 0) 0 (record { most = λ x c. absurd (empty-stripe P (c .f) (c .s) (c .z) (c .st)); some = λ a. inl refl })
+    (λ x c. absurd (empty-stripe P (c .f) (c .s) (c .z) (c .st))) false 0 0 (omega arith)
+    (λ y (d, t, a, b). absurd (empty-unused P (λ d. false) y (d, t, a))) (λ q. true≢false q) (λ q. true≢false q) 0 (λ y i. absurd (empty-unused P (λ d. false) y i)))
 
 module _ (p : Params) (h : Ranged p) (k : Disk) (e : emptyDisk p k ≡ true) (fl : List ℕ) where
   abbrev v : View
@@ -77,7 +77,7 @@ module _ (p : Params) (h : Ranged p) (k : Disk) (e : emptyDisk p k ≡ true) (fl
   unfolding leftBy1 segmentNumbers zoneOn
   none-left = keep-nil (λ g. all (λ d. not (eqb (pointerAt v d g) 0)) (present p 0)) (below (p .Z)) (λ z i. not-so (all (λ d. not (eqb (pointerAt v d z) 0)) (present p 0)) (λ q.
       clash (all-has (λ d. not (eqb (pointerAt v d z) 0)) (present p 0) q 0 first)
-      (ap not (eq-eqb (pointerAt v 0 z) 0 (empty-pointer p h k e 0 z (omega (arith, h .drives-low)) (below-has z (p .Z) i))))))
+      (ap not (eq-eqb (pointerAt v 0 z) 0 (start-pointer p h k e 0 z (omega (arith, h .drives-low)) (below-has z (p .Z) i))))))
     where
       first : Has 0 (present p 0)
       first = unfold present drivesOf in has-keep (λ d. not (isIn 0 d)) 0 (below (p .N)) (has-below 0 (p .N) (omega (arith, h .drives-low))) (ap not (isIn-empty 0))

@@ -17,7 +17,7 @@ use Rattle.law_basic.specs.Mask.{isIn-with}
 use Rattle.law_drives.specs.Slots.{cell-low}
 use Rattle.proof_crash_machine.specs.Exec.{or-1, or-2}
 use Rattle.proof_crash_calls.specs.Base.{eqb-self}
-use Rattle.proof_crash_calls.specs.Rel.{Long, inUse}
+use Rattle.proof_crash_calls.specs.Rel.{RowsLong, inUse}
 
 pub record SameSlot (st st′ : State) (j : ℕ) : Type 0 where
   pub number : stripeIn st′ j ≡ stripeIn st j
@@ -47,8 +47,8 @@ same-then st st′ st″ j a b = record {
 
 -- ---- one position filled
 
-module _ (st : State) (L : Long st) (i : ℕ) (il : i < 8) (a t w : ℕ) (kl : filledIn st i < 8) where
-  pub add-long : Long (addEntry st i a t w)
+module _ (st : State) (L : RowsLong st) (i : ℕ) (il : i < 8) (a t w : ℕ) (kl : filledIn st i < 8) where
+  pub add-long : RowsLong (addEntry st i a t w)
   unfolding addEntry
   add-long = record {
     numbers = L .numbers;
@@ -121,8 +121,8 @@ module _ (st : State) (L : Long st) (i : ℕ) (il : i < 8) (a t w : ℕ) (kl : f
 
 -- ---- a stripe begun
 
-module _ (st : State) (L : Long st) (i : ℕ) (il : i < 8) where
-  pub begin-long : Long (beginStripe st i)
+module _ (st : State) (L : RowsLong st) (i : ℕ) (il : i < 8) where
+  pub begin-long : RowsLong (beginStripe st i)
   unfolding beginStripe
   begin-long = record {
     numbers = length-set (st .numbers) i (st .next) ∙ L .numbers;
@@ -159,8 +159,8 @@ module _ (st : State) (L : Long st) (i : ℕ) (il : i < 8) where
 
 -- ---- a chunk landed
 
-module _ (st : State) (L : Long st) (i d o : ℕ) (il : i < 8) (dl : d < 8) where
-  pub land-long : Long (markLanded st i d o)
+module _ (st : State) (L : RowsLong st) (i d o : ℕ) (il : i < 8) (dl : d < 8) where
+  pub land-long : RowsLong (markLanded st i d o)
   unfolding markLanded
   land-long = record {
     numbers = L .numbers;
@@ -212,8 +212,8 @@ module _ (st : State) (L : Long st) (i d o : ℕ) (il : i < 8) (dl : d < 8) wher
 
 -- ---- an eighth freed
 
-module _ (st : State) (L : Long st) (i : ℕ) (il : i < 8) where
-  pub free-long : Long (freeStripe st i)
+module _ (st : State) (L : RowsLong st) (i : ℕ) (il : i < 8) where
+  pub free-long : RowsLong (freeStripe st i)
   unfolding freeStripe
   free-long = record {
     numbers = L .numbers;

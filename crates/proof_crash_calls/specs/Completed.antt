@@ -27,10 +27,10 @@ use Rattle.proof_crash_machine.specs.Facts.{Ghost, Counted, Off, None}
 use Rattle.proof_crash_machine.specs.Ghosts.{withBase}
 use Rattle.proof_crash_machine.specs.Val.{Val}
 use Rattle.proof_crash_machine.specs.View.Item.{chunk}
-use Rattle.proof_crash_machine.specs.View.{View as m-View}
+use Rattle.proof_crash_machine.specs.View.{ItemView}
 use Rattle.proof_crash_items.specs.Cands.{best-none}
 use Rattle.proof_crash_items.specs.Items.{itemsIn}
-use Rattle.proof_crash_items.specs.Member.{Has, keep-has, has-keep, below-has, has-below, any-has, any-false, map-has, has-map}
+use Rattle.proof_crash_items.specs.Member.{Has, keep-has, has-keep, below-has, has-below, any-has, any-false-in, map-has, has-map}
 use Rattle.proof_crash_items.specs.Ranges.{parOf}
 use Rattle.proof_crash_items.specs.Segs.{OnDrives, zone-bytes, zone-len}
 use Rattle.proof_crash_items.specs.Stripes.{pointer-is}
@@ -40,7 +40,7 @@ use Rattle.proof_crash_calls.specs.Held.{Grown, Entry, TableOk, entry-to
 use Rattle.proof_crash_calls.specs.Placed.{drive-cases}
 use Rattle.proof_crash_calls.specs.Pointed.{pointTo, pointed-none, pointed-some, best-some}
 
-module _ (p : Params) (h : Ranged p) (g : Ghost) (u : View) (k : OnDrives p h g u) (none? : None (parOf p h) (g .un)) (v : m-View)
+module _ (p : Params) (h : Ranged p) (g : Ghost) (u : View) (k : OnDrives p h g u) (none? : None (parOf p h) (g .un)) (v : ItemView)
     (gr : Grown (parOf p h) v (itemsIn p u)) (tb : List ℕ) (long : length tb ≡ addressesLen p)
     (T : TableOk p h g v tb) (st : State) (i z s : ℕ) (F : ℕ → Val) (zl : z < p .Z) (full : filledIn st i ≡ dataCount p) (number : stripeIn st i ≡ s)
     (ent : (j : ℕ) → j < dataCount p → (F (dataDrive p s j) .addr ≡ entryIn st i j .address) × (F (dataDrive p s j) .stamp ≡ entryIn st i j .stamp))
@@ -77,9 +77,9 @@ module _ (p : Params) (h : Ranged p) (g : Ghost) (u : View) (k : OnDrives p h g 
   cand-stamp : (j : ℕ) → j < dataCount p → landedCand p u z st i j .stamp ≡ F (dataDrive p s j) .stamp
   cand-stamp j l = (let e : landedCand p u z st i j .stamp ≡ entryIn st i j .stamp = unfold landedCand in refl in e) ∙ sym (ent j l .1)
 
-  cand-place : (j : ℕ) → landedCand p u z st i j .place ≡ placeOf p (dataDrive p s j) z (1 + offsetIn st i (dataDrive p s j))
+  landed-place : (j : ℕ) → landedCand p u z st i j .place ≡ placeOf p (dataDrive p s j) z (1 + offsetIn st i (dataDrive p s j))
   unfolding landedCand zoneOn
-  cand-place j = ap (λ (x : ℕ). placeOf p (dataDrive p x j) z (1 + offsetIn st i (dataDrive p x j))) number
+  landed-place j = ap (λ (x : ℕ). placeOf p (dataDrive p x j) z (1 + offsetIn st i (dataDrive p x j))) number
 
   -- ---- the floor
 
@@ -99,15 +99,15 @@ module _ (p : Params) (h : Ranged p) (g : Ghost) (u : View) (k : OnDrives p h g 
       at : (j : ℕ) → j < dataCount p → F (dataDrive p s j) .addr ≡ a → Has (landedCand p u z st i j) (candsOf a cs)
       at j l e = unfold candsOf in has-keep (λ (c : Cand). eqb (c .address) a) (landedCand p u z st i j) cs (of-position j l) (eq-eqb (landedCand p u z st i j .address) a (cand-address j l ∙ e))
 
-  of-address : (c : Cand) (a : ℕ) → Has c (candsOf a cs) → Has c cs × (c .address ≡ a)
+  landed-of-address : (c : Cand) (a : ℕ) → Has c (candsOf a cs) → Has c cs × (c .address ≡ a)
   unfolding candsOf
-  of-address c a m = let q : Has c cs × (eqb (c .address) a ≡ true) = keep-has (λ (c : Cand). eqb (c .address) a) c cs m in (q .0, eqb-true (c .address) a (q .1))
+  landed-of-address c a m = let q : Has c cs × (eqb (c .address) a ≡ true) = keep-has (λ (c : Cand). eqb (c .address) a) c cs m in (q .0, eqb-true (c .address) a (q .1))
 
   -- ---- the entries
 
   -- the place of a position
   new-entry : (j : ℕ) → j < dataCount p → (a : ℕ) → F (dataDrive p s j) .addr ≡ a → base′ a ≤ F (dataDrive p s j) .stamp → Entry p h g′ (itemsIn p u) (landedCand p u z st i j .place) a
-  new-entry j l a e b = subst (λ (q : ℕ). Entry p h g′ (itemsIn p u) q a) (sym (cand-place j)) (record {
+  new-entry j l a e b = subst (λ (q : ℕ). Entry p h g′ (itemsIn p u) q a) (sym (landed-place j)) (record {
     s = s;
     x = F d;
     drive = subst (λ (y : ℕ). y < p .N) (sym place-d) dl;
@@ -147,15 +147,15 @@ module _ (p : Params) (h : Ranged p) (g : Ghost) (u : View) (k : OnDrives p h g 
   old-entry q a e b = entry-to p h g g′ (itemsIn p u) (itemsIn p u) q a e (e .at) (e .counts) (e .same) b
 
   -- what the table held, on the drives as they are
-  was : (a : ℕ) → a < p .L → ((placeAt tb a ≡ neverPlace) × (g .base a ≡ 0)) ⊎ Entry p h g (itemsIn p u) (placeAt tb a) a
-  was a al = table-grown p h g v (itemsIn p u) tb gr T a al
+  entry-before : (a : ℕ) → a < p .L → ((placeAt tb a ≡ neverPlace) × (g .base a ≡ 0)) ⊎ Entry p h g (itemsIn p u) (placeAt tb a) a
+  entry-before a al = table-grown p h g v (itemsIn p u) tb gr T a al
 
   -- no position has the address
   untouched : (a : ℕ) → a < p .L → ((c : Cand) → Has c cs → c .address ≢ a) → ((placeAt tb′ a ≡ neverPlace) × (base′ a ≡ 0)) ⊎ Entry p h g′ (itemsIn p u) (placeAt tb′ a) a
   untouched a al n = ⊎-elim (λ (w : (placeAt tb a ≡ neverPlace) × (g .base a ≡ 0)). inl (same ∙ w .0, base-same ∙ w .1))
       (λ (w : Entry p h g (itemsIn p u) (placeAt tb a) a). inr
       (subst (λ (q : ℕ). Entry p h g′ (itemsIn p u) q a) (sym same)
-      (old-entry (placeAt tb a) a w (subst (λ (y : ℕ). y ≤ w .x .stamp) (sym base-same) (w .floor))))) (was a al)
+      (old-entry (placeAt tb a) a w (subst (λ (y : ℕ). y ≤ w .x .stamp) (sym base-same) (w .floor))))) (entry-before a al)
     where
       same : placeAt tb′ a ≡ placeAt tb a
       same = pointed-none p u tb cs cs tb long a al n
@@ -206,14 +206,14 @@ module _ (p : Params) (h : Ranged p) (g : Ghost) (u : View) (k : OnDrives p h g 
         → base′ a ≤ w .stamp
         → ((placeAt tb′ a ≡ neverPlace) × (base′ a ≡ 0)) ⊎ Entry p h g′ (itemsIn p u) (placeAt tb′ a) a
     by-position w e m b =
-        let o : Has w cs × (w .address ≡ a) = of-address w a m in
+        let o : Has w cs × (w .address ≡ a) = landed-of-address w a m in
         let j : (j : ℕ) × (j < dataCount p) × (w ≡ landedCand p u z st i j) = position-of w (o .0) in
         won w e (subst (λ (y : Cand). Entry p h g′ (itemsIn p u) (y .place) a) (sym (j .2)) (new-entry (j .0) (j .1) a
         (sym (cand-address (j .0) (j .1)) ∙ ap (λ (y : Cand). y .address) (sym (j .2)) ∙ o .1)
         (omega (arith, b, ap (λ (y : Cand). y .stamp) (j .2), cand-stamp (j .0) (j .1)))))
 
     touched : ((placeAt tb′ a ≡ neverPlace) × (base′ a ≡ 0)) ⊎ Entry p h g′ (itemsIn p u) (placeAt tb′ a) a
-    touched = ⊎-elim (λ w. fresh w) (λ w. over w) (was a al)
+    touched = ⊎-elim (λ w. fresh w) (λ w. over w) (entry-before a al)
       where
         -- never written before
         fresh : (placeAt tb a ≡ neverPlace) × (g .base a ≡ 0) → ((placeAt tb′ a ≡ neverPlace) × (base′ a ≡ 0)) ⊎ Entry p h g′ (itemsIn p u) (placeAt tb′ a) a
@@ -264,4 +264,4 @@ module _ (p : Params) (h : Ranged p) (g : Ghost) (u : View) (k : OnDrives p h g 
     where
       go : Test (any (λ (c : Cand). eqb (c .address) a) cs) → ((placeAt tb′ a ≡ neverPlace) × (base′ a ≡ 0)) ⊎ Entry p h g′ (itemsIn p u) (placeAt tb′ a) a
       go (yes! e) = let w : (c : Cand) × Has c cs × (eqb (c .address) a ≡ true) = any-has (λ (c : Cand). eqb (c .address) a) cs e in touched a al (w .0, w .1, eqb-true (w .0 .address) a (w .2))
-      go (no! e) = untouched a al (λ c m. eqb-false (c .address) a (any-false (λ (c : Cand). eqb (c .address) a) cs e c m))
+      go (no! e) = untouched a al (λ c m. eqb-false (c .address) a (any-false-in (λ (c : Cand). eqb (c .address) a) cs e c m))

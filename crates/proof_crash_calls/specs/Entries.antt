@@ -18,9 +18,9 @@ use Rattle.proof_crash_machine.specs.View.Item.{chunk}
 use Rattle.proof_crash_items.specs.Items.{valueOf, itemsIn, items-in, of-chunk}
 use Rattle.proof_crash_items.specs.Ranges.{capacity-few, parOf}
 use Rattle.proof_crash_items.specs.Reading.{places-many}
-use Rattle.proof_crash_items.specs.Segs.{OnDrives, zone-low}
+use Rattle.proof_crash_items.specs.Segs.{OnDrives, zone-pointer-low}
 use Rattle.proof_crash_calls.specs.Held.{Entry}
-use Rattle.proof_crash_calls.specs.Places.{record-at}
+use Rattle.proof_crash_calls.specs.Places.{record-of-spare}
 use Rattle.proof_crash_calls.specs.Sends.{value-stamp}
 
 module _ (p : Params) (h : Ranged p) (g : Ghost) (v : View) (k : OnDrives p h g v) (none? : None (parOf p h) (g .un)) (q a : ℕ) (e : Entry p h g (itemsIn p v) q a) where
@@ -36,14 +36,14 @@ module _ (p : Params) (h : Ranged p) (g : Ghost) (v : View) (k : OnDrives p h g 
   abbrev zone : Zone
   zone = zoneAt v (placeDrive p q) (placeZone p q)
 
-  found : (o : ℕ) × (placeBlock p q ≡ suc o) × (o < p .S) × (suc o < zone .pointer) × (recordOf (getD (zone .blocks) (suc o) noChunk .spare) .stripe ≡ e .s)
+  entry-found : (o : ℕ) × (placeBlock p q ≡ suc o) × (o < p .S) × (suc o < zone .pointer) × (recordOf (getD (zone .blocks) (suc o) noChunk .spare) .stripe ≡ e .s)
       × (valueOf (getD (zone .blocks) (suc o) noChunk .block) (recordOf (getD (zone .blocks) (suc o) noChunk .spare)) ≡ e .x)
-  found =
-      of-chunk p zone (zone-low p h g v k dd zz (e .drive) trust (e .zone)) (placeBlock p q) (e .s) (e .x)
+  entry-found =
+      of-chunk p zone (zone-pointer-low p h g v k dd zz (e .drive) trust (e .zone)) (placeBlock p q) (e .s) (e .x)
       (subst (λ (l : List Item). Off l (placeBlock p q) (chunk (e .s) (e .x))) (items-in p v dd zz) (e .at))
 
   pub entry-block : (1 ≤ placeBlock p q) × (placeBlock p q ≤ p .S)
-  entry-block = (omega (arith, found .1), omega (arith, found .1, found .2))
+  entry-block = (omega (arith, entry-found .1), omega (arith, entry-found .1, entry-found .2))
 
   pub entry-within : placeBlock p q < capacity p
   entry-within = omega (arith, entry-block .1, capacity-few p h)
@@ -55,8 +55,9 @@ module _ (p : Params) (h : Ranged p) (g : Ghost) (v : View) (k : OnDrives p h g 
   pub entry-value : valueOf (chunkAt v (placeDrive p q) (placeZone p q) (placeBlock p q) .block) (recordAt p v 0 (placeDrive p q) (placeZone p q) (placeBlock p q - 1)) ≡ e .x
   unfolding chunkAt
   entry-value =
-      ap₂ valueOf (ap (λ (n : ℕ). getD (zone .blocks) n noChunk .block) (found .1))
-      (ap (recordAt p v 0 dd zz) (let i : placeBlock p q - 1 ≡ found .0 = omega (arith, found .1) in i) ∙ record-at p h g v k none? dd zz (found .0) (e .drive) (e .zone) (found .2)) ∙ found .5
+      ap₂ valueOf (ap (λ (n : ℕ). getD (zone .blocks) n noChunk .block) (entry-found .1))
+      (ap (recordAt p v 0 dd zz) (let i : placeBlock p q - 1 ≡ entry-found .0 = omega (arith, entry-found .1) in i)
+      ∙ record-of-spare p h g v k none? dd zz (entry-found .0) (e .drive) (e .zone) (entry-found .2)) ∙ entry-found .5
 
   pub entry-stamp : recordAt p v 0 (placeDrive p q) (placeZone p q) (placeBlock p q - 1) .stamp ≡ e .x .stamp
   entry-stamp = sym (value-stamp (chunkAt v dd zz (placeBlock p q) .block) (recordAt p v 0 dd zz (placeBlock p q - 1))) ∙ ap (λ (y : Val). y .stamp) entry-value

@@ -27,7 +27,7 @@ use Rattle.proof_crash_machine.specs.Order.{Track, noTrack}
 use Rattle.proof_crash_machine.specs.Put.{off-in}
 use Rattle.proof_crash_machine.specs.Val.{Val, pads}
 use Rattle.proof_crash_machine.specs.View.Item.{chunk}
-use Rattle.proof_crash_machine.specs.View.{View as m-View}
+use Rattle.proof_crash_machine.specs.View.{ItemView}
 use Rattle.proof_crash_items.specs.Items.{valueOf}
 use Rattle.proof_crash_items.specs.Ranges.{parOf}
 use Rattle.proof_crash_calls.specs.Cells.{add-filled}
@@ -60,7 +60,7 @@ risen-is p s k f d l e = ap (λ (x : Bool). x || readyAt p s (suc k) d) e ∙ go
 
 -- ---- what has landed may
 
-pub landed-may : (p : Params) (h : Ranged p) (g : Ghost) (v : m-View) (st : State) (fl : List ℕ) (M : Mem) (U : ℕ → Bool) → MemOk (parOf p h) g v M → RelOn p v st fl M U
+pub landed-may : (p : Params) (h : Ranged p) (g : Ghost) (v : ItemView) (st : State) (fl : List ℕ) (M : Mem) (U : ℕ → Bool) → MemOk (parOf p h) g v M → RelOn p v st fl M U
     → (i : ℕ) → i < 8 → U i ≡ true → (e : ℕ) → e < p .N → isIn (landedIn st i) e ≡ true → M .ready (stripeIn st i) e ≡ true
 landed-may p h g v st fl M U m R i il u e el q =
     let f : (M .is-open ≡ true) × (stripeIn st i < M .next) × Flight (parOf p h) g v (M .zone) (stripeIn st i) (M .F (stripeIn st i)) (M .ready (stripeIn st i)) =
@@ -71,19 +71,19 @@ landed-may p h g v st fl M U m R i il u e el q =
 -- ---- closing
 
 -- memory alone changes: from st, fl and M to st′, fl′ and M′
-pub record Within (p : Params) (h : Ranged p) (g : Ghost) (v : m-View) (a : List Val) (c : Bool) (st st′ : State) (fl′ : List ℕ) (M : Mem) : Type 0 where
+pub record FillWithin (p : Params) (h : Ranged p) (g : Ghost) (v : ItemView) (a : List Val) (c : Bool) (st st′ : State) (fl′ : List ℕ) (M : Mem) : Type 0 where
   pub M′ : Mem
   pub go : (T : Track) → Go (parOf p h) (mst g v a c (run M)) (mst g v a c (run M′)) T T
   pub rel : Rel p v st′ fl′ M′
   pub waits : (x : Val) (s : ℕ) → Waiting p st M x s → Waiting p st′ M′ x s
 
-module _ (p : Params) (h : Ranged p) (g : Ghost) (v : m-View) (a : List Val) (c : Bool) where
+module _ (p : Params) (h : Ranged p) (g : Ghost) (v : ItemView) (a : List Val) (c : Bool) where
   abbrev σ : Mem → m-State
   σ M = mst g v a c (run M)
 
   -- one position padded
   pad-one : (st : State) (fl : List ℕ) (M : Mem) → Rel p v st fl M → Inv (parOf p h) (σ M) → length fl ≡ inflightLen p → (i : ℕ) → i < 8 → inUse st i ≡ true → filledIn st i < dataCount p
-      → Within p h g v a c st (placed p st fl i paddingAddress 0 0 (replicate (p .B) 0) .state) (placed p st fl i paddingAddress 0 0 (replicate (p .B) 0) .inflight) M
+      → FillWithin p h g v a c st (placed p st fl i paddingAddress 0 0 (replicate (p .B) 0) .state) (placed p st fl i paddingAddress 0 0 (replicate (p .B) 0) .inflight) M
   pad-one st fl M R I long i il u kl = record {
     M′ = flown M s (M .F s) r (M .next) (M .stamp);
     go = λ T. go-step (parOf p h) (σ M) (σ (flown M s (M .F s) r (M .next) (M .stamp))) T (m-close (σ M) M s r refl (R .flying i il u) (risen-more p s (suc k) (M .ready s)));
@@ -126,7 +126,7 @@ module _ (p : Params) (h : Ranged p) (g : Ghost) (v : m-View) (a : List Val) (c 
       may : (e : ℕ) → e < p .N → r e ≡ readyAt p s (suc k) e
       may e el = risen-is p s k (M .ready s) e el (R .slot i il u .may e el)
 
-  pub within-none : (st : State) (fl : List ℕ) (M : Mem) → Rel p v st fl M → Within p h g v a c st st fl M
+  pub within-none : (st : State) (fl : List ℕ) (M : Mem) → Rel p v st fl M → FillWithin p h g v a c st st fl M
   within-none st fl M R = record { M′ = M; go = λ T. go-none (parOf p h) (σ M) T; rel = R; waits = λ x s q. q }
 
   pub pad-all :
@@ -138,19 +138,19 @@ module _ (p : Params) (h : Ranged p) (g : Ghost) (v : m-View) (a : List Val) (c 
       → i < 8
       → inUse st i ≡ true
       → filledIn st i + n ≤ dataCount p
-      → Within p h g v a c st (padded p i n st fl .state) (padded p i n st fl .inflight) M
+      → FillWithin p h g v a c st (padded p i n st fl .state) (padded p i n st fl .inflight) M
   unfolding padded
   pad-all zero st fl M R I long i il u b = within-none st fl M R
   pad-all (suc n) st fl M R I long i il u b =
       let kl : filledIn st i < dataCount p = omega arith in
       let st₁ : State = placed p st fl i paddingAddress 0 0 (replicate (p .B) 0) .state in
       let fl₁ : List ℕ = placed p st fl i paddingAddress 0 0 (replicate (p .B) 0) .inflight in
-      let w : Within p h g v a c st st₁ fl₁ M = pad-one st fl M R I long i il u kl in
+      let w : FillWithin p h g v a c st st₁ fl₁ M = pad-one st fl M R I long i il u kl in
       let e : filledIn st₁ i
       ≡ suc (filledIn st i) = ap (λ (x : State). filledIn x i)
       (placed-state p h st (R .long) fl long i il paddingAddress 0 0 (replicate (p .B) 0) (length-replicate (p .B) 0) kl)
       ∙ add-filled st (R .long) i il paddingAddress 0 0 (let z : filledIn st i < 8 = omega (arith, data-count-high p h) in z) in
-      let y : Within p h g v a c st₁ (padded p i n st₁ fl₁ .state) (padded p i n st₁ fl₁ .inflight) (w .M′) =
+      let y : FillWithin p h g v a c st₁ (padded p i n st₁ fl₁ .state) (padded p i n st₁ fl₁ .inflight) (w .M′) =
       pad-all n st₁ fl₁ (w .M′) (w .rel) (go-inv (parOf p h) (σ M) (σ (w .M′)) noTrack noTrack (w .go noTrack) I)
       (placed-long p h st (R .long) fl long i il paddingAddress 0 0 (replicate (p .B) 0) (length-replicate (p .B) 0) kl) i il
       (filled-used st₁ i (omega (arith, e))) (omega (arith, e)) in

@@ -8,18 +8,18 @@ use Rattle.spec.specs.declared.Params.{Params}
 use Rattle.spec.specs.Drives.{View, Store, storeView, storeAll}
 use Rattle.law_basic.specs.Geometry.{Ranged}
 use Rattle.proof_crash_machine.specs.Facts.{Par, Ghost, InV}
-use Rattle.proof_crash_machine.specs.History.{Mode, State as m-State, Inv, Step, Run, kept-all, start, began as m-began, kept}
+use Rattle.proof_crash_machine.specs.History.{Mode, State as m-State, Inv, Step, StepsTo, kept-all, start, inv-start, step-inv}
 use Rattle.proof_crash_machine.specs.History.Mode.{off}
 use Rattle.proof_crash_machine.specs.History.Step.{lose}
-use Rattle.proof_crash_machine.specs.History.Run.{stop, then}
+use Rattle.proof_crash_machine.specs.History.StepsTo.{stop, then}
 use Rattle.proof_crash_machine.specs.Order.{Track, Tracked, track, runTrack, noTrack, tracked}
 use Rattle.proof_crash_machine.specs.Val.{Val}
-use Rattle.proof_crash_machine.specs.View.{View as m-View}
+use Rattle.proof_crash_machine.specs.View.{ItemView}
 use Rattle.proof_crash_items.specs.Items.{itemsIn}
 use Rattle.proof_crash_items.specs.Ranges.{parOf}
 use Rattle.proof_crash_items.specs.Sound.{Sound, AllSound}
 
-abbrev pub mst : Ghost → m-View → List Val → Bool → Mode → m-State
+abbrev pub mst : Ghost → ItemView → List Val → Bool → Mode → m-State
 mst g v a c m = record { g = g; v = v; acked = a; since = c; mode = m }
 
 -- the ghost g′ is one of the same run, later: what the last restart read is as it was, and nothing sent is forgotten
@@ -33,7 +33,7 @@ later-same g = record { un = refl; last = refl; sent = λ x m. m }
 
 -- steps from one state to another, and the log that they lead to
 pub record Go (p : Par) (σ τ : m-State) (T U : Track) : Type 0 where
-  pub steps : Run p σ τ
+  pub steps : StepsTo p σ τ
   pub tracks : runTrack p σ τ steps T ≡ U
 
 pub go-none : (p : Par) (σ : m-State) (T : Track) → Go p σ σ T T
@@ -42,11 +42,11 @@ go-none p σ T = record { steps = stop σ; tracks = refl }
 pub go-step : (p : Par) (σ τ : m-State) (T : Track) (s : Step p σ τ) → Go p σ τ T (track p σ τ s T)
 go-step p σ τ T s = record { steps = then σ τ τ s (stop τ); tracks = refl }
 
-run-append : (p : Par) (σ τ υ : m-State) → Run p σ τ → Run p τ υ → Run p σ υ
+run-append : (p : Par) (σ τ υ : m-State) → StepsTo p σ τ → StepsTo p τ υ → StepsTo p σ υ
 run-append p _ _ υ (stop σ) q = q
 run-append p _ _ υ (then σ τ ρ s r) q = then σ τ υ s (run-append p τ ρ υ r q)
 
-track-append : (p : Par) (σ τ υ : m-State) (r : Run p σ τ) (q : Run p τ υ) (T : Track) → runTrack p σ υ (run-append p σ τ υ r q) T ≡ runTrack p τ υ q (runTrack p σ τ r T)
+track-append : (p : Par) (σ τ υ : m-State) (r : StepsTo p σ τ) (q : StepsTo p τ υ) (T : Track) → runTrack p σ υ (run-append p σ τ υ r q) T ≡ runTrack p τ υ q (runTrack p σ τ r T)
 unfolding run-append
 track-append p _ _ υ (stop σ) q T = refl
 track-append p _ _ υ (then σ τ ρ s r) q T = track-append p τ ρ υ r q (track p σ τ s T)
@@ -62,16 +62,16 @@ pub go-more : (p : Par) (σ τ υ : m-State) (T U : Track) → Go p σ τ T U �
 go-more p σ τ υ T U a s = go-then p σ τ υ T U (track p τ υ s U) a (go-step p τ υ U s)
 
 -- the drives by another name
-pub go-view : (p : Par) (σ : m-State) (g : Ghost) (v u : m-View) (a : List Val) (c : Bool) (m : Mode) (T U : Track) → v ≡ u → Go p σ (mst g v a c m) T U → Go p σ (mst g u a c m) T U
-go-view p σ g v u a c m T U e = subst (λ (w : m-View). Go p σ (mst g w a c m) T U) e
+pub go-view : (p : Par) (σ : m-State) (g : Ghost) (v u : ItemView) (a : List Val) (c : Bool) (m : Mode) (T U : Track) → v ≡ u → Go p σ (mst g v a c m) T U → Go p σ (mst g u a c m) T U
+go-view p σ g v u a c m T U e = subst (λ (w : ItemView). Go p σ (mst g w a c m) T U) e
 
 -- ---- the invariant along them
 pub go-inv : (p : Par) (σ τ : m-State) (T U : Track) → Go p σ τ T U → Inv p σ → Inv p τ
 go-inv p σ τ T U a i = kept-all p σ τ (a .steps) i
 
-run-tracked : (p : Par) (σ τ : m-State) (r : Run p σ τ) (T : Track) → Inv p σ → Tracked σ T → Tracked τ (runTrack p σ τ r T)
+run-tracked : (p : Par) (σ τ : m-State) (r : StepsTo p σ τ) (T : Track) → Inv p σ → Tracked σ T → Tracked τ (runTrack p σ τ r T)
 run-tracked p _ _ (stop σ) T i k = k
-run-tracked p _ _ (then σ τ υ s r) T i k = run-tracked p τ υ r (track p σ τ s T) (kept p σ τ i s) (tracked p σ τ i s T k)
+run-tracked p _ _ (then σ τ υ s r) T i k = run-tracked p τ υ r (track p σ τ s T) (step-inv p σ τ i s) (tracked p σ τ i s T k)
 
 pub go-tracked : (p : Par) (σ τ : m-State) (T U : Track) → Go p σ τ T U → Inv p σ → Tracked σ T → Tracked τ U
 go-tracked p σ τ T U a i k = subst (Tracked τ) (a .tracks) (run-tracked p σ τ (a .steps) T i k)
@@ -79,7 +79,7 @@ go-tracked p σ τ T U a i k = subst (Tracked τ) (a .tracks) (run-tracked p σ 
 -- from empty drives
 pub go-start : (p : Par) (τ : m-State) (U : Track) → Go p (start p) τ noTrack U → Inv p τ × Tracked τ U
 unfolding start
-go-start p τ U a = (go-inv p (start p) τ noTrack U a (m-began p), go-tracked p (start p) τ noTrack U a (m-began p) (record { here = λ x m. absurd m; order = λ x y m n b. absurd m }))
+go-start p τ U a = (go-inv p (start p) τ noTrack U a (inv-start p), go-tracked p (start p) τ noTrack U a (inv-start p) (record { here = λ x m. absurd m; order = λ x y m n b. absurd m }))
 
 -- ---- a list of stores, one step for each, memory and ghost as they were
 

@@ -39,8 +39,8 @@ use Rattle.law_calls.specs.Refusals.{refusal-kind, refused-unfinished}
 use Rattle.law_drives.specs.Tests.{cond-false}
 use Rattle.law_checks.specs.Passed.{write-passed, land-passed, close-passed, reclaim-passed, rebuild-passed}
 use Rattle.proof_crash_machine.specs.Facts.{Ghost}
-use Rattle.proof_crash_items.specs.Member.{or-false}
-use Rattle.proof_crash_items.specs.Named.{named-some}
+use Rattle.proof_crash_items.specs.Member.{or-both-false}
+use Rattle.proof_crash_items.specs.Named.{named-not-zero}
 use Rattle.proof_crash_items.specs.Seen.{seen-stores, seen-cut, whole-all, whole-cut}
 use Rattle.proof_crash_calls.specs.Go.{Later, later-same}
 use Rattle.proof_crash_calls.specs.Land.{landCount, landSends, land-ok}
@@ -76,7 +76,7 @@ refused-uncut a e = ne-eqb (kind a) 2 (let b : kind a ≢ 2 = omega (arith, refu
 
 refused-runs : (a : Answer) → isRefused a ≡ true → endsRun a ≡ false
 unfolding endsRun
-refused-runs a e = or-false (isCut a) (finished a) (refused-uncut a e) (refused-unfinished a e)
+refused-runs a e = or-both-false (isCut a) (finished a) (refused-uncut a e) (refused-unfinished a e)
 
 -- a refused call sends and acknowledges nothing
 pub sent-refused : (c : Call) (a : Answer) (ss : List Send) → isRefused a ≡ true → sentAfter c a ss ≡ ss
@@ -125,8 +125,9 @@ module _ (p : Params) (h : Ranged p) (k : Disk) (m : Memory) (ss : List Send) (n
       && eqb (length (m .compact)) (compactLen p)) (eqb (length (m .inflight)) (inflightLen p)) e)))
 
   -- a refusal changes nothing
-  pub stays : (c : Call) (a : Answer) (b : List ℕ) → isRefused a ≡ true → Next p h (x .live .g) n (mkAfter a k m b) (sentAfter c a ss)
-  stays c a b e = subst (λ (y : List Send). Next p h (x .live .g) n (mkAfter a k m b) y) (sym (sent-refused c a ss e)) (goes (refused-uncut a e) (refused-unfinished a e) x (later-same (x .live .g)))
+  pub refused-next : (c : Call) (a : Answer) (b : List ℕ) → isRefused a ≡ true → Next p h (x .live .g) n (mkAfter a k m b) (sentAfter c a ss)
+  refused-next c a b e =
+      subst (λ (y : List Send). Next p h (x .live .g) n (mkAfter a k m b) y) (sym (sent-refused c a ss e)) (goes (refused-uncut a e) (refused-unfinished a e) x (later-same (x .live .g)))
 
   due-next :
       (c : Call) (count : ℕ) (b : List ℕ) (q : Plan) (ss′ : List Send)
@@ -183,7 +184,7 @@ module _ (p : Params) (h : Ranged p) (k : Disk) (m : Memory) (ss : List Send) (n
           → Next p h (x .live .g) n (outcome p (storeDisk p) count k m b (decided o q))
           (sentAfter c (outcome p (storeDisk p) count k m b (decided o q) .answer) ss)
       go none e = unfold decided in due-next c count b q ss′ (ok e) uncut open? sent
-      go (some a) e = unfold decided outcome in stays c a b (refusal-kind cs a e)
+      go (some a) e = unfold decided outcome in refused-next c a b (refusal-kind cs a e)
 
   -- ---- the calls
 
@@ -331,7 +332,7 @@ module _ (p : Params) (h : Ranged p) (k : Disk) (m : Memory) (ss : List Send) (n
   no-rebuild d e =
       let c = rebuild-passed p long v m d (segments p v (named d)) e in
       let f : named d ≡ 0 = sym (c .names) ∙ x .live .rel .healthy in
-      clash {b = eqb (named d) 0} (eq-eqb (named d) 0 f) (named-some d (omega (arith, c .drive-low, h .drives-high)))
+      clash {b = eqb (named d) 0} (eq-eqb (named d) 0 f) (named-not-zero d (omega (arith, c .drive-low, h .drives-high)))
 
   pub rebuild-refused : (d count : ℕ) → isRefused (callDisk p k m (rebuild d count) .answer) ≡ true
   unfolding callDisk callOn verdict rebuildVerdict

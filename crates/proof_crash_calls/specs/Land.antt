@@ -26,7 +26,7 @@ use Rattle.law_basic.specs.Geometry.{Ranged}
 use Rattle.law_basic.specs.Ranges.{Test, test, and-left, and-right, and-both, and-fails}
 use Rattle.law_basic.specs.Ranges.Test.{yes!, no! }
 use Rattle.law_drives.specs.Tests.{cond-true, cond-false}
-use Rattle.proof_crash_machine.specs.Exec.{or-cases}
+use Rattle.proof_crash_machine.specs.Exec.{or-either}
 use Rattle.proof_crash_machine.specs.Facts.{Ghost, InV, L, Counted, Off, Ragged, used, self-none, None}
 use Rattle.proof_crash_machine.specs.Ghosts.{withBase}
 use Rattle.proof_crash_machine.specs.History.{Inv}
@@ -38,16 +38,16 @@ use Rattle.proof_crash_machine.specs.Order.{Track}
 use Rattle.proof_crash_machine.specs.Put.{off-in, in-fwd}
 use Rattle.proof_crash_machine.specs.Val.{Val}
 use Rattle.proof_crash_machine.specs.View.Item.{chunk}
-use Rattle.proof_crash_machine.specs.View.{View as m-View, after, In}
+use Rattle.proof_crash_machine.specs.View.{ItemView, withItem, InI}
 use Rattle.proof_crash_machine.specs.Filling.{shut}
 use Rattle.proof_crash_items.specs.Items.{valueOf, itemsIn, items-in, length-of}
 use Rattle.proof_crash_items.specs.Member.{Has, has-keep, has-upFrom, has-below}
 use Rattle.proof_crash_items.specs.Ranges.{capacity-few, parity-on, parOf, apart-code}
 use Rattle.proof_crash_items.specs.Segs.{OnDrives}
-use Rattle.proof_crash_items.specs.Shape.{Shape, zone-set, zone-set-other, shape-store}
+use Rattle.proof_crash_items.specs.Shape.{Shape, zone-set-at, zone-set-else, shape-store}
 use Rattle.proof_crash_items.specs.Sound.{AllSound, sound-fits, bytes-store}
 use Rattle.proof_crash_calls.specs.Ack.{ackBase, ack-go}
-use Rattle.proof_crash_calls.specs.Base.{has-slot, another, lone-pass, setAt-else}
+use Rattle.proof_crash_calls.specs.Base.{has-slot, another-kept, lone-pass, setAt-else}
 use Rattle.proof_crash_calls.specs.Cells.{land-number, land-filled, land-entry}
 use Rattle.proof_crash_calls.specs.Completed.{table-done}
 use Rattle.proof_crash_calls.specs.Fill.{landed-may}
@@ -134,7 +134,7 @@ module _ (p : Params) (h : Ranged p) (v : View) (m : Memory) (ss : List Send) (n
   abbrev z : ℕ
   z = l .M .zone
 
-  abbrev v₀ : m-View
+  abbrev v₀ : ItemView
   v₀ = itemsIn p v
 
   abbrev u : View
@@ -146,14 +146,14 @@ module _ (p : Params) (h : Ranged p) (v : View) (m : Memory) (ss : List Send) (n
   abbrev o : ℕ
   o = pointerAt v d (l .M .zone) - 1
 
-  I : Inv (parOf p h) (mst (l .g) (itemsIn p v) (l .a) (l .c) (run (l .M)))
-  I = live-inv p h v (m .state) (m .inflight) (m .addresses) ss n l
+  inv-land : Inv (parOf p h) (mst (l .g) (itemsIn p v) (l .a) (l .c) (run (l .M)))
+  inv-land = live-inv p h v (m .state) (m .inflight) (m .addresses) ss n l
 
   zin : z < p .Z
   zin = zone-in p h v m ss n l fits d s A
 
-  items : itemsIn p u ≡ after v₀ d z (chunk s (M .F s d))
-  items = land-items p h v m ss n l fits d s A
+  landed-items : itemsIn p u ≡ withItem v₀ d z (chunk s (M .F s d))
+  landed-items = land-items p h v m ss n l fits d s A
 
   from : 1 ≤ pointerAt v d z
   from = subst (λ (x : ℕ). 1 ≤ pointerAt v d x) (land-zone p h v m ss n l fits d s A) (A .from)
@@ -164,8 +164,8 @@ module _ (p : Params) (h : Ranged p) (v : View) (m : Memory) (ss : List Send) (n
   wide : landedIn st i < 2 ^ p .N
   wide = slots-ok p st (A .ok) i (A .low) .1
 
-  most : (j : ℕ) → j < 8 → inUse st j ≡ true → filledIn st j ≤ dataCount p
-  most j jl q = l .rel .slot j jl q .most
+  filled-most : (j : ℕ) → j < 8 → inUse st j ≡ true → filledIn st j ≤ dataCount p
+  filled-most j jl q = l .rel .slot j jl q .most
 
   -- the state with the bit set
   abbrev st₁ : State
@@ -180,12 +180,12 @@ module _ (p : Params) (h : Ranged p) (v : View) (m : Memory) (ss : List Send) (n
   sound₁ : AllSound p v (w ∷ [])
   sound₁ = (land-sound p h v m ss n l fits d s A, tt)
 
-  step : (T : Track) → Go (parOf p h) (mst (l .g) v₀ (l .a) (l .c) (run M)) (mst (l .g) (itemsIn p u) (l .a) (l .c) (run M)) T T
-  step = land-step p h v m ss n l fits d s A
+  landing-step : (T : Track) → Go (parOf p h) (mst (l .g) v₀ (l .a) (l .c) (run M)) (mst (l .g) (itemsIn p u) (l .a) (l .c) (run M)) T T
+  landing-step = land-step p h v m ss n l fits d s A
 
   cut₁ : (k : ℕ) → (x : Stopped p h (storeAll storeView (take k (w ∷ [])) v) (map forget ss) n) × Later (l .g) (x .g)
   cut₁ k = live-cut p h v (m .state) (m .inflight) (m .addresses) ss n l (w ∷ []) sound₁ k (l .g) (later-same (l .g))
-      (chain-cut p h (l .g) (l .a) (l .c) (run M) v (w ∷ []) k (l .T) (land-sound p h v m ss n l fits d s A, step, tt))
+      (chain-cut p h (l .g) (l .a) (l .c) (run M) v (w ∷ []) k (l .T) (land-sound p h v m ss n l fits d s A, landing-step, tt))
 
   -- ---- the drives with the chunk
 
@@ -193,7 +193,7 @@ module _ (p : Params) (h : Ranged p) (v : View) (m : Memory) (ss : List Send) (n
   shape-u = shape-store p v w (l .reached .shape) (sound-fits p h v w (l .reached .shape) (land-sound p h v m ss n l fits d s A))
 
   I₁ : Inv (parOf p h) (mst (l .g) (itemsIn p u) (l .a) (l .c) (run M))
-  I₁ = go-inv (parOf p h) (mst (l .g) v₀ (l .a) (l .c) (run M)) (mst (l .g) (itemsIn p u) (l .a) (l .c) (run M)) (l .T) (l .T) (step (l .T)) I
+  I₁ = go-inv (parOf p h) (mst (l .g) v₀ (l .a) (l .c) (run M)) (mst (l .g) (itemsIn p u) (l .a) (l .c) (run M)) (l .T) (l .T) (landing-step (l .T)) inv-land
 
   none? : None (parOf p h) (l .g .un)
   none? = live-none p h v (m .state) (m .inflight) (m .addresses) ss n l
@@ -202,14 +202,14 @@ module _ (p : Params) (h : Ranged p) (v : View) (m : Memory) (ss : List Send) (n
   drives-u = record { shape = shape-u; bytes = λ x b e. bytes-store p h v w (l .reached .shape) (land-sound p h v m ss n l fits d s A) x (l .reached .bytes x b e); facts = I₁ .facts }
 
   grew-u : Grown (parOf p h) v₀ (itemsIn p u)
-  grew-u = subst (λ (x : m-View). Grown (parOf p h) v₀ x) (sym items) (grown-put (parOf p h) v₀ d z (chunk s (M .F s d)) (omega (arith, oe)))
+  grew-u = subst (λ (x : ItemView). Grown (parOf p h) v₀ x) (sym landed-items) (grown-put (parOf p h) v₀ d z (chunk s (M .F s d)) (omega (arith, oe)))
 
   -- ---- not complete
 
   live-part : completes p st i d ≡ false → (x : Live p h (storeAll storeView (w ∷ []) v) st₁ fl (m .addresses) ss n) × Later (l .g) (x .g)
   unfolding storeAll completes
-  live-part e = live-after p h v (m .state) (m .inflight) (m .addresses) ss n l (w ∷ []) sound₁ (l .g) (l .a) (l .c) M (l .T) st₁ fl (m .addresses) ss (later-same (l .g)) (step (l .T))
-      (subst (λ (x : m-View). Rel p x st₁ fl M) (sym items) (landed-rel p h v₀ st fl M (l .rel) d s i o (A .drive) (A .low) (A .used?) (A .number) oe wide e))
+  live-part e = live-after p h v (m .state) (m .inflight) (m .addresses) ss n l (w ∷ []) sound₁ (l .g) (l .a) (l .c) M (l .T) st₁ fl (m .addresses) ss (later-same (l .g)) (landing-step (l .T))
+      (subst (λ (x : ItemView). Rel p x st₁ fl M) (sym landed-items) (landed-rel p h v₀ st fl M (l .rel) d s i o (A .drive) (A .low) (A .used?) (A .number) oe wide e))
       (l .reached .logged)
       (λ j b q. let k : Waiting p st M (l .T .log j) (sendAt ss j .stripe) × InV (l .T .log j) (l .g .sent) × (l .T .pos (l .T .log j .stamp) ≡ j) = l .waits j b q in
       (landed-waits p h v₀ st fl M (l .rel) d s i o (A .drive) (A .low) (A .used?) (A .number) oe wide (l .T .log j) (sendAt ss j .stripe) (k .0), k .1, k .2))
@@ -224,12 +224,13 @@ module _ (p : Params) (h : Ranged p) (v : View) (m : Memory) (ss : List Send) (n
     abbrev st₂ : State
     st₂ = freeStripe st₁ i
 
-    all-on-u : (e : ℕ) → e < p .N → (x : Val) × In (chunk s x) (itemsIn p u e z)
-    all-on-u e el = let k : (x : Val) × In (chunk s x) (after v₀ d z (chunk s (M .F s d)) e z) = all-on p h v₀ st fl M (l .rel) d s i o (A .drive) (A .low) (A .used?) (A .number) oe wide done′ e el in
-        (k .0, subst (λ (x : m-View). In (chunk s (k .0)) (x e z)) (sym items) (k .1))
+    all-on-u : (e : ℕ) → e < p .N → (x : Val) × InI (chunk s x) (itemsIn p u e z)
+    all-on-u e el =
+        let k : (x : Val) × InI (chunk s x) (withItem v₀ d z (chunk s (M .F s d)) e z) = all-on p h v₀ st fl M (l .rel) d s i o (A .drive) (A .low) (A .used?) (A .number) oe wide done′ e el in
+        (k .0, subst (λ (x : ItemView). InI (chunk s (k .0)) (x e z)) (sym landed-items) (k .1))
 
     abbrev g₂ : Ghost
-    g₂ = withBase (l .g) (ackBase p h (l .g) (itemsIn p u) (l .a) (l .c) M (l .T) ss st s (land-flies p h v m ss n l fits d s A) all-on-u (l .waits) most)
+    g₂ = withBase (l .g) (ackBase p h (l .g) (itemsIn p u) (l .a) (l .c) M (l .T) ss st s (land-flies p h v m ss n l fits d s A) all-on-u (l .waits) filled-most)
 
     abbrev a₂ : List Val
     a₂ = ackedTo (l .T) ss s (l .a) (length ss)
@@ -239,15 +240,16 @@ module _ (p : Params) (h : Ranged p) (v : View) (m : Memory) (ss : List Send) (n
 
     go₂ : Go (parOf p h) (mst (l .g) v₀ (l .a) (l .c) (run M)) (mst g₂ (itemsIn p u) a₂ (l .c) (run (ended M s))) (l .T) (l .T)
     go₂ =
-        go-then (parOf p h) (mst (l .g) v₀ (l .a) (l .c) (run M)) (mst (l .g) (itemsIn p u) (l .a) (l .c) (run M)) (mst g₂ (itemsIn p u) a₂ (l .c) (run (ended M s))) (l .T) (l .T) (l .T) (step (l .T))
-        (ack-go p h (l .g) (itemsIn p u) (l .a) (l .c) M (l .T) ss st s (land-flies p h v m ss n l fits d s A) all-on-u (l .waits) most)
+        go-then (parOf p h) (mst (l .g) v₀ (l .a) (l .c) (run M)) (mst (l .g) (itemsIn p u) (l .a) (l .c) (run M)) (mst g₂ (itemsIn p u) a₂ (l .c) (run (ended M s))) (l .T) (l .T) (l .T)
+        (landing-step (l .T))
+        (ack-go p h (l .g) (itemsIn p u) (l .a) (l .c) M (l .T) ss st s (land-flies p h v m ss n l fits d s A) all-on-u (l .waits) filled-most)
 
     -- ---- the table
     abbrev tb₂ : List ℕ
     tb₂ = pointed p u (m .addresses) (landedCands p u z st₁ i) (landedCands p u z st₁ i) (m .addresses)
 
     bits : (e : ℕ) → e < p .N → Off (itemsIn p u e z) (suc (offsetIn st₁ i e)) (chunk s (M .F s e))
-    bits e el = subst (λ (x : m-View). Off (x e z) (suc (offsetIn st₁ i e)) (chunk s (M .F s e))) (sym items)
+    bits e el = subst (λ (x : ItemView). Off (x e z) (suc (offsetIn st₁ i e)) (chunk s (M .F s e))) (sym landed-items)
         (bit-on p h v₀ st fl M (l .rel) d s i o (A .drive) (A .low) (A .used?) (A .number) oe wide e el
         (mask-full p h v₀ st fl M (l .rel) d s i o (A .drive) (A .low) (A .used?) (A .number) oe wide done′ e el))
 
@@ -259,13 +261,13 @@ module _ (p : Params) (h : Ranged p) (v : View) (m : Memory) (ss : List Send) (n
         sym (mask-bit p h v₀ st fl M (l .rel) d s i o (A .drive) (A .low) (A .used?) (A .number) oe wide (parityDrive p s) q)
         ∙ mask-full p h v₀ st fl M (l .rel) d s i o (A .drive) (A .low) (A .used?) (A .number) oe wide done′ (parityDrive p s) q in
         let r : readyAt p s (filledIn st i) (parityDrive p s) ≡ true = ⊎-elim (λ (e : eqb (parityDrive p s) d ≡ true). ap (readyAt p s (filledIn st i)) (eqb-true (parityDrive p s) d e) ∙ A .may)
-        (λ (e : isIn (landedIn st i) (parityDrive p s) ≡ true). old q e) (or-cases (eqb (parityDrive p s) d) (isIn (landedIn st i) (parityDrive p s)) b) in
+        (λ (e : isIn (landedIn st i) (parityDrive p s) ≡ true). old q e) (or-either (eqb (parityDrive p s) d) (isIn (landedIn st i) (parityDrive p s)) b) in
         let f : dataCount p ≤ filledIn st i = leb-true (dataCount p) (filledIn st i) (sym (ready-parity p s (filledIn st i)) ∙ r) in
-        omega (arith, f, most i (A .low) (A .used?))
+        omega (arith, f, filled-most i (A .low) (A .used?))
       where
         old : parityDrive p s < p .N → isIn (landedIn st i) (parityDrive p s) ≡ true → readyAt p s (filledIn st i) (parityDrive p s) ≡ true
         old q e = subst (λ (x : ℕ). readyAt p x (filledIn st i) (parityDrive p s) ≡ true) (A .number)
-            (sym (l .rel .slot i (A .low) (A .used?) .may (parityDrive p s) q) ∙ landed-may p h (l .g) v₀ st fl M (inUse st) (I .mode) (l .rel) i (A .low) (A .used?) (parityDrive p s) q e)
+            (sym (l .rel .slot i (A .low) (A .used?) .may (parityDrive p s) q) ∙ landed-may p h (l .g) v₀ st fl M (inUse st) (inv-land .mode) (l .rel) i (A .low) (A .used?) (parityDrive p s) q e)
 
     entries : (j : ℕ) → j < dataCount p → (M .F s (dataDrive p s j) .addr ≡ entryIn st₁ i j .address) × (M .F s (dataDrive p s j) .stamp ≡ entryIn st₁ i j .stamp)
     entries j b =
@@ -275,8 +277,8 @@ module _ (p : Params) (h : Ranged p) (v : View) (m : Memory) (ss : List Send) (n
           ap (λ (x : Val). x .stamp) e ∙ value-stamp (slotBlock p fl i (dataDrive p s j)) (entryIn st i j) ∙ ap (λ (x : Rec). x .stamp) (sym f),
         )
 
-    counts : (e : ℕ) → e < p .N → e ≢ parityDrive p s → (c : Counted (parOf p h) (l .g .hd) (itemsIn p u) (l .g .un) (M .F s e)) × (c .z ≡ z)
-    counts e el np = (
+    landed-counts : (e : ℕ) → e < p .N → e ≢ parityDrive p s → (c : Counted (parOf p h) (l .g .hd) (itemsIn p u) (l .g .un) (M .F s e)) × (c .z ≡ z)
+    landed-counts e el np = (
       record {
         z = z;
         s = s;
@@ -300,7 +302,7 @@ module _ (p : Params) (h : Ranged p) (v : View) (m : Memory) (ss : List Send) (n
     table₂ : TableOk p h g₂ (itemsIn p u) tb₂
     table₂ = table-done p h (l .g) u drives-u none? v₀ grew-u (m .addresses) whole-table (l .table) st₁ i z s (M .F s) zin
         (land-filled st (l .rel .long) i d o (A .low) (omega (arith, A .drive, h .drives-high)) i ∙ filled-all)
-        (land-number st (l .rel .long) i d o (A .low) (omega (arith, A .drive, h .drives-high)) i ∙ A .number) entries bits counts
+        (land-number st (l .rel .long) i d o (A .low) (omega (arith, A .drive, h .drives-high)) i ∙ A .number) entries bits landed-counts
 
     -- ---- the sends
     -- where nothing is counted, none of this stripe waits
@@ -358,7 +360,7 @@ module _ (p : Params) (h : Ranged p) (v : View) (m : Memory) (ss : List Send) (n
     live-done : (M .next ≡ p .S → (j : ℕ) × (j < 8) × (inUse st j ≡ true) × (j ≢ i)) → (x : Live p h (storeAll storeView (w ∷ []) v) st₂ fl tb₂ (landSends p st d s ss) n) × Later (l .g) (x .g)
     unfolding storeAll
     live-done more = live-after p h v (m .state) (m .inflight) (m .addresses) ss n l (w ∷ []) sound₁ g₂ a₂ (l .c) (ended M s) (l .T) st₂ fl tb₂ (landSends p st d s ss) later₂ go₂
-        (subst (λ (x : m-View). Rel p x st₂ fl (ended M s)) (sym items) (ended-rel p h v₀ st fl M (l .rel) d s i o (A .drive) (A .low) (A .used?) (A .number) oe wide done′ more))
+        (subst (λ (x : ItemView). Rel p x st₂ fl (ended M s)) (sym landed-items) (ended-rel p h v₀ st fl M (l .rel) d s i o (A .drive) (A .low) (A .used?) (A .number) oe wide done′ more))
         logged₂
         (λ j b q. let k : (j < length ss) × (sendAt ss j .waits ≡ true) × (sendAt ss j .stripe ≢ s) × (sendAt (landSends p st d s ss) j .stripe ≡ sendAt ss j .stripe) = still-waits j b q in
         let y : Waiting p st M (l .T .log j) (sendAt ss j .stripe) × InV (l .T .log j) (l .g .sent) × (l .T .pos (l .T .log j .stamp) ≡ j) = l .waits j (k .0) (k .1) in (
@@ -379,20 +381,20 @@ module _ (p : Params) (h : Ranged p) (v : View) (m : Memory) (ss : List Send) (n
           (A .room last x b) in
           omega (arith, k)
 
-      ptr : (x : ℕ) → x < p .N → pointerAt u x z ≡ pointerAt v x z + cond (eqb x d) 1 0
-      ptr x b = go (ℕ-discrete x d)
+      landed-pointer : (x : ℕ) → x < p .N → pointerAt u x z ≡ pointerAt v x z + cond (eqb x d) 1 0
+      landed-pointer x b = go (ℕ-discrete x d)
         where
           go : Dec (x ≡ d) → pointerAt u x z ≡ pointerAt v x z + cond (eqb x d) 1 0
           go (yes e) =
               let k : pointerAt u d z ≡ suc (pointerAt v d z) = unfold pointerAt storeView putZone in
-              ap (λ (q : Zone). q .pointer) (zone-set p v (l .reached .shape) d z (putZone (slotBlock p fl i d) (recordBytes (flightRec p st i d)) (zoneAt v d z)) (A .drive) zin) in
+              ap (λ (q : Zone). q .pointer) (zone-set-at p v (l .reached .shape) d z (putZone (slotBlock p fl i d) (recordBytes (flightRec p st i d)) (zoneAt v d z)) (A .drive) zin) in
               let f : _≡_ {A = ℕ} (cond (eqb x d) 1 0) 1 = cond-true (eqb x d) 1 0 (eq-eqb x d e) in
               let a : pointerAt u x z ≡ pointerAt u d z = ap (λ (y : ℕ). pointerAt u y z) e in
               let c : pointerAt v x z ≡ pointerAt v d z = ap (λ (y : ℕ). pointerAt v y z) e in
               omega (arith, k, f, a, c)
           go (no e) =
               let k : pointerAt u x z ≡ pointerAt v x z = unfold pointerAt storeView in
-              ap (λ (q : Zone). q .pointer) (zone-set-other p v (l .reached .shape) d z (putZone (slotBlock p fl i d) (recordBytes (flightRec p st i d)) (zoneAt v d z)) (A .drive) x z (inl e)) in
+              ap (λ (q : Zone). q .pointer) (zone-set-else p v (l .reached .shape) d z (putZone (slotBlock p fl i d) (recordBytes (flightRec p st i d)) (zoneAt v d z)) (A .drive) x z (inl e)) in
               let f : _≡_ {A = ℕ} (cond (eqb x d) 1 0) 0 = cond-false (eqb x d) 1 0 (ne-eqb x d e) in
               omega (arith, k, f)
 
@@ -400,24 +402,25 @@ module _ (p : Params) (h : Ranged p) (v : View) (m : Memory) (ss : List Send) (n
       len-u x b = ap length (items-in p u x z) ∙ length-of p (zoneAt u x z) low-u ∙ (unfold pointerAt in refl)
         where
           low-u : zoneAt u x z .pointer ≤ length (zoneAt u x z .blocks)
-          low-u = let k : zoneAt u x z .pointer ≡ pointerAt v x z + cond (eqb x d) 1 0 = unfold pointerAt in ptr x b in omega (arith, k, room-u x b, capacity-few p h, shape-u .blocks x z b zin)
+          low-u =
+              let k : zoneAt u x z .pointer ≡ pointerAt v x z + cond (eqb x d) 1 0 = unfold pointerAt in landed-pointer x b in omega (arith, k, room-u x b, capacity-few p h, shape-u .blocks x z b zin)
 
       -- every stripe is on every drive
-      every : (x : ℕ) → x < p .N → (t : ℕ) → t < p .S → (y : Val) × In (chunk t y) (itemsIn p u x z)
+      every : (x : ℕ) → x < p .N → (t : ℕ) → t < p .S → (y : Val) × InI (chunk t y) (itemsIn p u x z)
       every x b t tl = go (ℕ-discrete t s)
         where
-          go : Dec (t ≡ s) → (y : Val) × In (chunk t y) (itemsIn p u x z)
-          go (yes e) = let k : (y : Val) × In (chunk s y) (itemsIn p u x z) = all-on-u x b in (k .0, subst (λ (r : ℕ). In (chunk r (k .0)) (itemsIn p u x z)) (sym e) (k .1))
+          go : Dec (t ≡ s) → (y : Val) × InI (chunk t y) (itemsIn p u x z)
+          go (yes e) = let k : (y : Val) × InI (chunk s y) (itemsIn p u x z) = all-on-u x b in (k .0, subst (λ (r : ℕ). InI (chunk r (k .0)) (itemsIn p u x z)) (sym e) (k .1))
           go (no e) =
               let f : M .fly t ≡ false = sym (setAt-else (M .fly) s false t e) ∙ sealed-idle p h v₀ st fl M (l .rel) d s i o (A .drive) (A .low) (A .used?) (A .number) oe wide done′ lone t in
-              let k : (y : Val) × In (chunk t y) (v₀ x z) = l .rel .whole (land-open p h v m ss n l fits d s A) t (omega (arith, tl, ends)) f x b in
-              (k .0, subst (λ (r : m-View). In (chunk t (k .0)) (r x z)) (sym items) (in-fwd v₀ d z (chunk s (M .F s d)) (chunk t (k .0)) x z (k .1)))
+              let k : (y : Val) × InI (chunk t y) (v₀ x z) = l .rel .whole (land-open p h v m ss n l fits d s A) t (omega (arith, tl, ends)) f x b in
+              (k .0, subst (λ (r : ItemView). InI (chunk t (k .0)) (r x z)) (sym landed-items) (in-fwd v₀ d z (chunk s (M .F s d)) (chunk t (k .0)) x z (k .1)))
 
       at-end : (x : ℕ) → x < p .N → pointerAt u x z ≡ suc (p .S)
       at-end x b =
           let k : p .S < length (itemsIn p u x z) = all-stripes (parOf p h) (l .g) x z (itemsIn p u x z) (I₁ .facts .zones x z (b, live-trust p h v (m .state) (m .inflight) (m .addresses) ss n l x b))
           (I₁ .mode .begun (land-open p h v m ss n l fits d s A) x b (live-trust p h v (m .state) (m .inflight) (m .addresses) ss n l x b)) (every x b) in
-          omega (arith, k, len-u x b, ptr x b, room-u x b)
+          omega (arith, k, len-u x b, landed-pointer x b, room-u x b)
 
       abbrev fs : List Store
       fs = sealStores p u z
@@ -430,7 +433,7 @@ module _ (p : Params) (h : Ranged p) (v : View) (m : Memory) (ss : List Send) (n
 
       cut₃ : (k : ℕ) → (x : Stopped p h (storeAll storeView (take k (w ∷ fs)) v) (map forget ss) n) × Later (l .g) (x .g)
       cut₃ k = live-cut p h v (m .state) (m .inflight) (m .addresses) ss n l (w ∷ fs) sound₃ k (l .g) (later-same (l .g))
-          (chain-cut p h (l .g) (l .a) (l .c) (run M) v (w ∷ fs) k (l .T) (land-sound p h v m ss n l fits d s A, step, chain (l .g) (l .a) M .0))
+          (chain-cut p h (l .g) (l .a) (l .c) (run M) v (w ∷ fs) k (l .T) (land-sound p h v m ss n l fits d s A, landing-step, chain (l .g) (l .a) M .0))
 
       abbrev u₃ : View
       u₃ = storeAll storeView fs u
@@ -440,7 +443,7 @@ module _ (p : Params) (h : Ranged p) (v : View) (m : Memory) (ss : List Send) (n
           (chain-go p h g₂ a₂ (l .c) (run (ended M s)) u fs (l .T) (chain g₂ a₂ (ended M s) .0))
 
       I₃ : Inv (parOf p h) (mst g₂ (itemsIn p u₃) a₂ (l .c) (run (ended M s)))
-      I₃ = go-inv (parOf p h) (mst (l .g) v₀ (l .a) (l .c) (run M)) (mst g₂ (itemsIn p u₃) a₂ (l .c) (run (ended M s))) (l .T) (l .T) go₃ I
+      I₃ = go-inv (parOf p h) (mst (l .g) v₀ (l .a) (l .c) (run M)) (mst g₂ (itemsIn p u₃) a₂ (l .c) (run (ended M s))) (l .T) (l .T) go₃ inv-land
 
       none-ragged : (y : ℕ) → Ragged (parOf p h) (g₂ .un) (itemsIn p u₃) y → ⊥
       none-ragged y (x, t, a, b) =
@@ -470,9 +473,9 @@ module _ (p : Params) (h : Ranged p) (v : View) (m : Memory) (ss : List Send) (n
   same-seg : openSegment st ≡ z
   same-seg = land-zone p h v m ss n l fits d s A
 
-  plan-stores : q .stores ≡ landStore p v m d s ∷ cond (seals p st i d) (sealStores p (storeView (landStore p v m d s) v) (openSegment st)) []
+  land-plan-stores : q .stores ≡ landStore p v m d s ∷ cond (seals p st i d) (sealStores p (storeView (landStore p v m d s) v) (openSegment st)) []
   unfolding landPlan
-  plan-stores = refl
+  land-plan-stores = refl
 
   plan-state :
       q .memory .state
@@ -506,11 +509,11 @@ module _ (p : Params) (h : Ranged p) (v : View) (m : Memory) (ss : List Send) (n
       (landedCands p (storeView (land-store-is p h v m ss n l fits d s A j) v) (same-seg j) (markLanded st i d (plan-o j)) i) (m .addresses))
 
   stores-one : seals p st i d ≡ false → q .stores ≡ w ∷ []
-  stores-one e = plan-stores ∙ ap₂ (λ (x : Store) (y : List Store). x ∷ y) (land-store-is p h v m ss n l fits d s A)
+  stores-one e = land-plan-stores ∙ ap₂ (λ (x : Store) (y : List Store). x ∷ y) (land-store-is p h v m ss n l fits d s A)
       (cond-false (seals p st i d) (sealStores p (storeView (landStore p v m d s) v) (openSegment st)) [] e)
 
   stores-all-of : seals p st i d ≡ true → q .stores ≡ w ∷ sealStores p u z
-  stores-all-of e = plan-stores ∙ ap₂ (λ (x : Store) (y : List Store). x ∷ y) (land-store-is p h v m ss n l fits d s A)
+  stores-all-of e = land-plan-stores ∙ ap₂ (λ (x : Store) (y : List Store). x ∷ y) (land-store-is p h v m ss n l fits d s A)
       (cond-true (seals p st i d) (sealStores p (storeView (landStore p v m d s) v) (openSegment st)) [] e
       ∙ ap₂ (λ (x : Store) (y : ℕ). sealStores p (storeView x v) y) (land-store-is p h v m ss n l fits d s A) same-seg)
 
@@ -523,8 +526,8 @@ module _ (p : Params) (h : Ranged p) (v : View) (m : Memory) (ss : List Send) (n
       ∙ cond-false (completes p st i d) (freeStripe (markLanded st i d (pointerAt v d (zoneOn (openSegment st) d) - 1)) i) (markLanded st i d (pointerAt v d (zoneOn (openSegment st) d) - 1)) e
       ∙ ap (markLanded st i d) plan-o
 
-  state-done : completes p st i d ≡ true → seals p st i d ≡ false → q .memory .state ≡ freeStripe st₁ i
-  state-done e f = plan-state
+  land-state : completes p st i d ≡ true → seals p st i d ≡ false → q .memory .state ≡ freeStripe st₁ i
+  land-state e f = plan-state
       ∙ cond-false (seals p st i d) (setClosed (cond (completes p st i d)
       (freeStripe (markLanded st i d (pointerAt v d (zoneOn (openSegment st) d) - 1)) i)
       (markLanded st i d (pointerAt v d (zoneOn (openSegment st) d) - 1))))
@@ -561,7 +564,7 @@ module _ (p : Params) (h : Ranged p) (v : View) (m : Memory) (ss : List Send) (n
       (eq-eqb (st .next) (p .S) (sym (l .rel .next (land-open p h v m ss n l fits d s A)) ∙ k)) in
       let b : length (inFlight st) ≢ 1 = eqb-false (length (inFlight st)) 1 (and-fails (completes p st i d && eqb (st .next) (p .S)) (eqb (length (inFlight st)) 1) (sym seals-is ∙ f) a) in
       let c : 2 ≤ length (inFlight st) = omega (arith, b, counted) in
-      another (λ j. not (isFree st j)) 8 i c
+      another-kept (λ j. not (isFree st j)) 8 i c
 
   only-one : seals p st i d ≡ true → (j : ℕ) → j < 8 → inUse st j ≡ true → j ≡ i
   unfolding inUse inFlight slots slotCount below
@@ -587,7 +590,7 @@ module _ (p : Params) (h : Ranged p) (v : View) (m : Memory) (ss : List Send) (n
           (sound₃ (c .0) e (c .1) (only-one e)) (live-seal (c .0) e (c .1) (only-one e)) (cut₃ (c .0) e (c .1) (only-one e))
       go (no! e) (yes! c) =
           call-as p h (l .g) v q (w ∷ []) (freeStripe st₁ i) fl (tb₂ c) ss (landSends p st d s ss) (landSends p st d s ss) n (stores-one e)
-          (state-done c e) plan-inflight (addresses-done c) refl sound₁ (live-done c (another-flies c e)) cut₁
+          (land-state c e) plan-inflight (addresses-done c) refl sound₁ (live-done c (another-flies c e)) cut₁
       go (no! e) (no! c) =
           call-as p h (l .g) v q (w ∷ []) st₁ fl (m .addresses) ss (landSends p st d s ss) ss n (stores-one e) (state-part c e) plan-inflight
           (addresses-same c) (sends-none p st d s ss c) sound₁ (live-part c) cut₁

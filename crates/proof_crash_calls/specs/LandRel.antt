@@ -25,21 +25,21 @@ use Rattle.law_drives.specs.Tests.{clash, not-so}
 use Rattle.proof_crash_machine.specs.Exec.{true≢false}
 use Rattle.proof_crash_machine.specs.Facts.{Off}
 use Rattle.proof_crash_machine.specs.Memory.{setAt, Mem, ended}
-use Rattle.proof_crash_machine.specs.Put.{length-snoc, off-in, off-left, in-fwd, in-back as Put·in-back, drive-other, each as Put·each}
+use Rattle.proof_crash_machine.specs.Put.{length-snoc, off-in, off-left, in-fwd, in-back as Put·in-back, drive-other, each-put}
 use Rattle.proof_crash_machine.specs.Val.{Val}
-use Rattle.proof_crash_machine.specs.View.{Item, View as m-View, upd-same, after, In, chunk-num}
+use Rattle.proof_crash_machine.specs.View.{Item, ItemView, upd-same, withItem, InI, chunk-num}
 use Rattle.proof_crash_machine.specs.View.Item.{chunk, foot}
 use Rattle.proof_crash_machine.specs.Filling.{shut}
 use Rattle.proof_crash_items.specs.Items.{valueOf}
 use Rattle.proof_crash_calls.specs.Base.{or-r, setAt-here, setAt-else}
 use Rattle.proof_crash_calls.specs.Cells.{SameSlot, same-used, same-then, land-long, land-number, land-filled, land-entry, land-write, land-landed, land-offset}
 use Rattle.proof_crash_calls.specs.Cells.{land-offset-old, land-same, free-long, free-filled, free-same, closed-same}
-use Rattle.proof_crash_calls.specs.Rel.{SlotRel, SlotOf, slot-keep, Long, inUse, used-filled, filled-used, Rel, Waiting}
+use Rattle.proof_crash_calls.specs.Rel.{SlotRel, SlotOf, slot-keep, RowsLong, inUse, used-filled, filled-used, Rel, Waiting}
 
 pub off-here : (l : List Item) (i : Item) → Off (l ++ (i ∷ [])) (length l) i
 off-here l i = (omega (arith, length-snoc l i), getD-append-seam l i [] (foot 0))
 
-module _ (p : Params) (h : Ranged p) (v : m-View) (st : State) (fl : List ℕ) (M : Mem) (R : Rel p v st fl M) (d s i o : ℕ) (dl : d < p .N)
+module _ (p : Params) (h : Ranged p) (v : ItemView) (st : State) (fl : List ℕ) (M : Mem) (R : Rel p v st fl M) (d s i o : ℕ) (dl : d < p .N)
     (il : i < 8) (u : inUse st i ≡ true) (number : stripeIn st i ≡ s)
     (oe : suc o ≡ length (v d (M .zone))) (wide : landedIn st i < 2 ^ p .N) where
   abbrev z : ℕ
@@ -48,8 +48,8 @@ module _ (p : Params) (h : Ranged p) (v : m-View) (st : State) (fl : List ℕ) (
   abbrev c : Item
   c = chunk s (M .F s d)
 
-  abbrev v′ : m-View
-  v′ = after v d (M .zone) (chunk s (M .F s d))
+  abbrev v′ : ItemView
+  v′ = withItem v d (M .zone) (chunk s (M .F s d))
 
   abbrev st₁ : State
   st₁ = markLanded st i d o
@@ -62,11 +62,11 @@ module _ (p : Params) (h : Ranged p) (v : m-View) (st : State) (fl : List ℕ) (
 
   -- ---- the drives
   fwd : (e j : ℕ) (t : Item) → Off (v e z) j t → Off (v′ e z) j t
-  fwd e j t = Put·each v d z c (λ (e y : ℕ) (l : List Item). Off (v e y) j t → Off l j t)
+  fwd e j t = each-put v d z c (λ (e y : ℕ) (l : List Item). Off (v e y) j t → Off l j t)
       (λ q. (omega (arith, q .0, length-snoc (v d z) c), off-left (v d z) c j (q .0) ∙ q .1)) e z (λ q. q)
 
-  back : (x : ℕ) → x ≢ s → (e : ℕ) (y : Val) → In (chunk x y) (v′ e z) → In (chunk x y) (v e z)
-  back x n e y q = ⊎-elim (λ w. w) (λ (w : (e ≡ d) × (z ≡ z) × (chunk x y ≡ c)). absurd (n (chunk-num (w .2)))) (Put·in-back v d z c (chunk x y) e z q)
+  chunk-before : (x : ℕ) → x ≢ s → (e : ℕ) (y : Val) → InI (chunk x y) (v′ e z) → InI (chunk x y) (v e z)
+  chunk-before x n e y q = ⊎-elim (λ w. w) (λ (w : (e ≡ d) × (z ≡ z) × (chunk x y ≡ c)). absurd (n (chunk-num (w .2)))) (Put·in-back v d z c (chunk x y) e z q)
 
   -- ---- the eighth that landed
   a : SlotRel p (λ e. v e z) (slotBlock p fl i) (entryIn st i) (offsetIn st i) s (filledIn st i) k (M .F s) (M .ready s)
@@ -80,19 +80,19 @@ module _ (p : Params) (h : Ranged p) (v : m-View) (st : State) (fl : List ℕ) (
   bit-on e el q = go (ℕ-discrete e d)
     where
       go : Dec (e ≡ d) → Off (v′ e z) (suc (offsetIn st₁ i e)) (chunk s (M .F s e))
-      go (yes w) = rw (w, land-offset st (R .long) i d o il d8, oe) (unfold after in rw upd-same (off-here (v d z) c))
+      go (yes w) = rw (w, land-offset st (R .long) i d o il d8, oe) (unfold withItem in rw upd-same (off-here (v d z) c))
       go (no w) =
           let b : isIn k e ≡ true = sym (ap (λ (x : Bool). x || isIn k e) (ne-eqb e d w)) ∙ sym (mask-bit e el) ∙ q in
           rw (land-offset-old st (R .long) i d o il d8 i e (omega (arith, el, h .drives-high)) (inr w)) (fwd e (suc (offsetIn st i e)) (chunk s (M .F s e)) (a .on e el b))
 
-  bit-out : (e : ℕ) → e < p .N → isIn (landedMask st i d) e ≡ false → (x : Val) → In (chunk s x) (v′ e z) → ⊥
+  bit-out : (e : ℕ) → e < p .N → isIn (landedMask st i d) e ≡ false → (x : Val) → InI (chunk s x) (v′ e z) → ⊥
   bit-out e el q x w =
       let b : (eqb e d || isIn k e) ≡ false = sym (mask-bit e el) ∙ q in
       let n : e ≢ d = eqb-false e d (or-left (eqb e d) (isIn k e) b) in
-      a .out e el (or-r (eqb e d) (isIn k e) b) x (subst (λ (l : List Item). In (chunk s x) l) (drive-other v d z c e z n) w)
+      a .out e el (or-r (eqb e d) (isIn k e) b) x (subst (λ (l : List Item). InI (chunk s x) l) (drive-other v d z c e z n) w)
 
-  here : eqb (ones (landedMask st i d)) (p .N) ≡ false → SlotOf p v′ st₁ fl z i (M .F (stripeIn st₁ i)) (M .ready (stripeIn st₁ i))
-  here e = rw (land-number st (R .long) i d o il d8 i, number, land-filled st (R .long) i d o il d8 i, land-landed st (R .long) i d o il d8) (record {
+  slot-landed : eqb (ones (landedMask st i d)) (p .N) ≡ false → SlotOf p v′ st₁ fl z i (M .F (stripeIn st₁ i)) (M .ready (stripeIn st₁ i))
+  slot-landed e = rw (land-number st (R .long) i d o il d8 i, number, land-filled st (R .long) i d o il d8 i, land-landed st (R .long) i d o il d8) (record {
     most = a .most;
     mask = e;
     held = λ j b. a .held j b ∙ ap (valueOf (slotBlock p fl i (dataDrive p s j))) (sym (land-entry st (R .long) i d o il d8 i j));
@@ -104,10 +104,10 @@ module _ (p : Params) (h : Ranged p) (v : m-View) (st : State) (fl : List ℕ) (
   })
 
   -- ---- the others
-  apart : (j : ℕ) → j < 8 → inUse st j ≡ true → j ≢ i → stripeIn st j ≢ s
-  apart j jl q n e = n (R .once j i jl il q u (e ∙ sym number))
+  landed-apart : (j : ℕ) → j < 8 → inUse st j ≡ true → j ≢ i → stripeIn st j ≢ s
+  landed-apart j jl q n e = n (R .once j i jl il q u (e ∙ sym number))
 
-  there :
+  others-landed :
       (st′ : State) (j : ℕ)
       → j < 8
       → inUse st j ≡ true
@@ -117,13 +117,13 @@ module _ (p : Params) (h : Ranged p) (v : m-View) (st : State) (fl : List ℕ) (
       → G ≡ M .F (stripeIn st j)
       → r ≡ M .ready (stripeIn st j)
       → SlotOf p v′ st′ fl z j G r
-  there st′ j jl q n S G r eg er = slot-keep p h (λ e. v e z) (λ e. v′ e z) (slotBlock p fl j) (slotBlock p fl j) (entryIn st j) (entryIn st′ j) (offsetIn st j) (offsetIn st′ j)
+  others-landed st′ j jl q n S G r eg er = slot-keep p h (λ e. v e z) (λ e. v′ e z) (slotBlock p fl j) (slotBlock p fl j) (entryIn st j) (entryIn st′ j) (offsetIn st j) (offsetIn st′ j)
       (stripeIn st j) (stripeIn st′ j) (filledIn st j) (filledIn st′ j) (landedIn st j) (landedIn st′ j) G r
-      (S .number) (S .filled) (S .landed) (λ e el. refl) (S .entry) (S .offset) (λ e x y el w. fwd e x y w) (λ e x el w. back (stripeIn st j) (apart j jl q n) e x w)
+      (S .number) (S .filled) (S .landed) (λ e el. refl) (S .entry) (S .offset) (λ e x y el w. fwd e x y w) (λ e x el w. chunk-before (stripeIn st j) (landed-apart j jl q n) e x w)
       (rw (eg, er) (R .slot j jl q))
 
-  whole : M .is-open ≡ true → (x : ℕ) → x < M .next → M .fly x ≡ false → (e : ℕ) → e < p .N → (y : Val) × In (chunk x y) (v′ e z)
-  whole q x l f e el = let w : (y : Val) × In (chunk x y) (v e z) = R .whole q x l f e el in (w .0, in-fwd v d z c (chunk x (w .0)) e z (w .1))
+  whole : M .is-open ≡ true → (x : ℕ) → x < M .next → M .fly x ≡ false → (e : ℕ) → e < p .N → (y : Val) × InI (chunk x y) (v′ e z)
+  whole q x l f e el = let w : (y : Val) × InI (chunk x y) (v e z) = R .whole q x l f e el in (w .0, in-fwd v d z c (chunk x (w .0)) e z (w .1))
 
   -- ---- not complete
 
@@ -154,8 +154,8 @@ module _ (p : Params) (h : Ranged p) (v : m-View) (st : State) (fl : List ℕ) (
       was j q = sym (now j) ∙ q
 
       slot : (j : ℕ) → j < 8 → inUse st j ≡ true → Dec (j ≡ i) → SlotOf p v′ st₁ fl z j (M .F (stripeIn st₁ j)) (M .ready (stripeIn st₁ j))
-      slot j jl q (yes w) = subst (λ (x : ℕ). SlotOf p v′ st₁ fl z x (M .F (stripeIn st₁ x)) (M .ready (stripeIn st₁ x))) (sym w) (here e)
-      slot j jl q (no w) = there st₁ j jl q w (land-same st (R .long) i d o il d8 j w) (M .F (stripeIn st₁ j)) (M .ready (stripeIn st₁ j))
+      slot j jl q (yes w) = subst (λ (x : ℕ). SlotOf p v′ st₁ fl z x (M .F (stripeIn st₁ x)) (M .ready (stripeIn st₁ x))) (sym w) (slot-landed e)
+      slot j jl q (no w) = others-landed st₁ j jl q w (land-same st (R .long) i d o il d8 j w) (M .F (stripeIn st₁ j)) (M .ready (stripeIn st₁ j))
           (ap (M .F) (land-number st (R .long) i d o il d8 j)) (ap (M .ready) (land-number st (R .long) i d o il d8 j))
 
   pub landed-waits : (x : Val) (y : ℕ) → Waiting p st M x y → Waiting p st₁ M x y
@@ -178,29 +178,29 @@ module _ (p : Params) (h : Ranged p) (v : m-View) (st : State) (fl : List ℕ) (
     mask-full e el = all-in-below (isIn (bitOr k (only d))) (p .N) e (sym (ones-all (p .N) (bitOr k (only d)) (h .drives-high) (with-lt (p .N) k d dl (h .drives-high) wide)) ∙ done) el
 
     -- on all drives
-    pub all-on : (e : ℕ) → e < p .N → (x : Val) × In (chunk s x) (v′ e z)
+    pub all-on : (e : ℕ) → e < p .N → (x : Val) × InI (chunk s x) (v′ e z)
     all-on e el = (M .F s e, off-in (v′ e z) (suc (offsetIn st₁ i e)) (chunk s (M .F s e)) (bit-on e el (mask-full e el)))
 
     abbrev st₂ : State
     st₂ = freeStripe (markLanded st i d o) i
 
-    long₁ : Long st₁
+    long₁ : RowsLong st₁
     long₁ = land-long st (R .long) i d o il d8
 
-    same : (j : ℕ) → j ≢ i → SameSlot st st₂ j
-    same j n = same-then st st₁ st₂ j (land-same st (R .long) i d o il d8 j n) (free-same st₁ long₁ i il j n)
+    slots-same : (j : ℕ) → j ≢ i → SameSlot st st₂ j
+    slots-same j n = same-then st st₁ st₂ j (land-same st (R .long) i d o il d8 j n) (free-same st₁ long₁ i il j n)
 
     freed : inUse st₂ i ≡ false
     freed = not-so (inUse st₂ i) (λ q. let x : ⊥ = omega (arith, used-filled st₂ i q, free-filled st₁ long₁ i il) in x)
 
     -- an eighth in use afterwards
-    was : (j : ℕ) → inUse st₂ j ≡ true → (j ≢ i) × (inUse st j ≡ true)
-    was j q = let n : j ≢ i = λ e. clash q (ap (inUse st₂) e ∙ freed) in (n, sym (same-used st st₂ j (same j n)) ∙ q)
+    in-use-before : (j : ℕ) → inUse st₂ j ≡ true → (j ≢ i) × (inUse st j ≡ true)
+    in-use-before j q = let n : j ≢ i = λ e. clash q (ap (inUse st₂) e ∙ freed) in (n, sym (same-used st st₂ j (slots-same j n)) ∙ q)
 
     -- all stripes begun: another in flight
-    other : (M .next ≡ p .S → (j : ℕ) × (j < 8) × (inUse st j ≡ true) × (j ≢ i)) → M .is-open ≡ true → M .next ≡ p .S → (x : ℕ) × (setAt (M .fly) s false x ≡ true)
-    other f q e = let w : (j : ℕ) × (j < 8) × (inUse st j ≡ true) × (j ≢ i) = f e in
-        (stripeIn st (w .0), setAt-else (M .fly) s false (stripeIn st (w .0)) (apart (w .0) (w .1) (w .2) (w .3)) ∙ R .flying (w .0) (w .1) (w .2))
+    other-flies : (M .next ≡ p .S → (j : ℕ) × (j < 8) × (inUse st j ≡ true) × (j ≢ i)) → M .is-open ≡ true → M .next ≡ p .S → (x : ℕ) × (setAt (M .fly) s false x ≡ true)
+    other-flies f q e = let w : (j : ℕ) × (j < 8) × (inUse st j ≡ true) × (j ≢ i) = f e in
+        (stripeIn st (w .0), setAt-else (M .fly) s false (stripeIn st (w .0)) (landed-apart (w .0) (w .1) (w .2) (w .3)) ∙ R .flying (w .0) (w .1) (w .2))
 
     pub ended-rel : (M .next ≡ p .S → (j : ℕ) × (j < 8) × (inUse st j ≡ true) × (j ≢ i)) → Rel p v′ st₂ fl (ended M s)
     ended-rel more = record {
@@ -213,36 +213,36 @@ module _ (p : Params) (h : Ranged p) (v : m-View) (st : State) (fl : List ℕ) (
       serial = unfold freeStripe markLanded in R .serial;
       stamp-fits = unfold freeStripe markLanded in R .stamp-fits;
       serial-fits = unfold freeStripe markLanded in R .serial-fits;
-      flying = λ j jl q. flying j jl (was j q);
-      slot = λ j jl q. slot j jl (was j q);
-      once = λ j l jl ll q w x. R .once j l jl ll (was j q .1) (was l w .1) (sym (same j (was j q .0) .number) ∙ x ∙ same l (was l w .0) .number);
+      flying = λ j jl q. flying j jl (in-use-before j q);
+      slot = λ j jl q. slot j jl (in-use-before j q);
+      once = λ j l jl ll q w x. R .once j l jl ll (in-use-before j q .1) (in-use-before l w .1) (sym (slots-same j (in-use-before j q .0) .number) ∙ x ∙ slots-same l (in-use-before l w .0) .number);
       flies = λ x q. flies x q (ℕ-discrete x s);
       whole = λ q x l w. ends q x l w (ℕ-discrete x s);
-      busy = other more;
+      busy = other-flies more;
     }
       where
         flying : (j : ℕ) → j < 8 → (j ≢ i) × (inUse st j ≡ true) → setAt (M .fly) s false (stripeIn st₂ j) ≡ true
-        flying j jl (n, q) = ap (setAt (M .fly) s false) (same j n .number) ∙ setAt-else (M .fly) s false (stripeIn st j) (apart j jl q n) ∙ R .flying j jl q
+        flying j jl (n, q) = ap (setAt (M .fly) s false) (slots-same j n .number) ∙ setAt-else (M .fly) s false (stripeIn st j) (landed-apart j jl q n) ∙ R .flying j jl q
 
         slot : (j : ℕ) → j < 8 → (j ≢ i) × (inUse st j ≡ true) → SlotOf p v′ st₂ fl z j (M .F (stripeIn st₂ j)) (M .ready (stripeIn st₂ j))
-        slot j jl (n, q) = there st₂ j jl q n (same j n) (M .F (stripeIn st₂ j)) (M .ready (stripeIn st₂ j)) (ap (M .F) (same j n .number)) (ap (M .ready) (same j n .number))
+        slot j jl (n, q) = others-landed st₂ j jl q n (slots-same j n) (M .F (stripeIn st₂ j)) (M .ready (stripeIn st₂ j)) (ap (M .F) (slots-same j n .number)) (ap (M .ready) (slots-same j n .number))
 
         flies : (x : ℕ) → setAt (M .fly) s false x ≡ true → Dec (x ≡ s) → (j : ℕ) × (j < 8) × (inUse st₂ j ≡ true) × (stripeIn st₂ j ≡ x)
         flies x q (yes e) = clash q (ap (setAt (M .fly) s false) e ∙ setAt-here (M .fly) s false)
         flies x q (no e) =
             let f : (j : ℕ) × (j < 8) × (inUse st j ≡ true) × (stripeIn st j ≡ x) = R .flies x (sym (setAt-else (M .fly) s false x e) ∙ q) in
             let n : f .0 ≢ i = λ w. e (sym (f .3) ∙ ap (stripeIn st) w ∙ number) in
-            (f .0, f .1, same-used st st₂ (f .0) (same (f .0) n) ∙ f .2, same (f .0) n .number ∙ f .3)
+            (f .0, f .1, same-used st st₂ (f .0) (slots-same (f .0) n) ∙ f .2, slots-same (f .0) n .number ∙ f .3)
 
-        ends : M .is-open ≡ true → (x : ℕ) → x < M .next → setAt (M .fly) s false x ≡ false → Dec (x ≡ s) → (e : ℕ) → e < p .N → (y : Val) × In (chunk x y) (v′ e z)
-        ends q x l w (yes n) e el = let f : (y : Val) × In (chunk s y) (v′ e z) = all-on e el in (f .0, subst (λ (t : ℕ). In (chunk t (f .0)) (v′ e z)) (sym n) (f .1))
+        ends : M .is-open ≡ true → (x : ℕ) → x < M .next → setAt (M .fly) s false x ≡ false → Dec (x ≡ s) → (e : ℕ) → e < p .N → (y : Val) × InI (chunk x y) (v′ e z)
+        ends q x l w (yes n) e el = let f : (y : Val) × InI (chunk s y) (v′ e z) = all-on e el in (f .0, subst (λ (t : ℕ). InI (chunk t (f .0)) (v′ e z)) (sym n) (f .1))
         ends q x l w (no n) e el = whole q x l (sym (setAt-else (M .fly) s false x n) ∙ w) e el
 
     -- a write of another stripe stays in flight
     pub ended-waits : (x : Val) (y : ℕ) → y ≢ s → Waiting p st M x y → Waiting p st₂ (ended M s) x y
     ended-waits x y n q =
         let j : q .i ≢ i = λ e. n (sym (q .number) ∙ ap (stripeIn st) e ∙ number) in
-        let S : SameSlot st st₂ (q .i) = same (q .i) j in
+        let S : SameSlot st st₂ (q .i) = slots-same (q .i) j in
         record {
           i = q .i;
           lt = q .lt;
@@ -255,7 +255,7 @@ module _ (p : Params) (h : Ranged p) (v : m-View) (st : State) (fl : List ℕ) (
         }
 
     -- ---- the last one: the segment is sealed
-    pub sealed-rel : (u′ : m-View) → ((j : ℕ) → j < 8 → inUse st j ≡ true → j ≡ i) → Rel p u′ (setClosed st₂) fl (shut (ended M s))
+    pub sealed-rel : (u′ : ItemView) → ((j : ℕ) → j < 8 → inUse st j ≡ true → j ≡ i) → Rel p u′ (setClosed st₂) fl (shut (ended M s))
     sealed-rel u′ lone = record {
       long = unfold setClosed in record {
         numbers = free-long st₁ long₁ i il .numbers;
@@ -283,7 +283,7 @@ module _ (p : Params) (h : Ranged p) (v : m-View) (st : State) (fl : List ℕ) (
     }
       where
         none : {A : Type 0} (j : ℕ) → j < 8 → inUse (setClosed st₂) j ≡ true → A
-        none j jl q = let w : (j ≢ i) × (inUse st j ≡ true) = was j (sym (same-used st₂ (setClosed st₂) j (closed-same st₂ j)) ∙ q) in absurd (w .0 (lone j jl (w .1)))
+        none j jl q = let w : (j ≢ i) × (inUse st j ≡ true) = in-use-before j (sym (same-used st₂ (setClosed st₂) j (closed-same st₂ j)) ∙ q) in absurd (w .0 (lone j jl (w .1)))
 
         idle : (x : ℕ) → setAt (M .fly) s false x ≡ true → Dec (x ≡ s) → (j : ℕ) × (j < 8) × (inUse (setClosed st₂) j ≡ true) × (stripeIn (setClosed st₂) j ≡ x)
         idle x q (yes e) = clash q (ap (setAt (M .fly) s false) e ∙ setAt-here (M .fly) s false)

@@ -35,11 +35,11 @@ use Rattle.proof_crash_machine.specs.Memory.{Mem, Flight}
 use Rattle.proof_crash_machine.specs.Order.{Track}
 use Rattle.proof_crash_machine.specs.Val.{Val}
 use Rattle.proof_crash_machine.specs.View.Item.{chunk}
-use Rattle.proof_crash_machine.specs.View.Store.{put as m-put}
-use Rattle.proof_crash_machine.specs.View.{after, apply, In}
+use Rattle.proof_crash_machine.specs.View.ItemStore.{put as m-put}
+use Rattle.proof_crash_machine.specs.View.{withItem, apply, InI}
 use Rattle.proof_crash_items.specs.Codec.{Wide}
 use Rattle.proof_crash_items.specs.Items.{valueOf, itemsIn, storeItem, items-store}
-use Rattle.proof_crash_items.specs.Member.{has-below, any-false}
+use Rattle.proof_crash_items.specs.Member.{has-below, any-false-in}
 use Rattle.proof_crash_items.specs.Ranges.{parOf, data-code, code-word}
 use Rattle.proof_crash_items.specs.Sound.{Sound, sound-fits, store-put}
 use Rattle.proof_crash_items.specs.ZoneBytes.{Kind, kindItem}
@@ -51,7 +51,7 @@ use Rattle.proof_crash_calls.specs.Placed.{ready-data, ready-parity, dri
 use Rattle.proof_crash_calls.specs.Rel.{readyAt, SlotOf, inUse}
 use Rattle.proof_crash_calls.specs.Sending.{opened-low, slots-ok}
 use Rattle.proof_crash_calls.specs.Sends.{value-addr, value-stamp}
-use Rattle.proof_crash_calls.specs.Slots.{slot-long}
+use Rattle.proof_crash_calls.specs.Slots.{inflight-block-long}
 use Rattle.proof_crash_calls.specs.Xored.{parity-is, Fits8, good-fits, parity-wide}
 
 -- what a landing's checks say
@@ -98,7 +98,7 @@ room-of : (p : Params) (v : View) (d z : ℕ) → overfull p v d z ≡ false →
 unfolding overfull zoneOn drivesOf
 room-of p v d z q e l =
     ltb-false (capacity p) (pointerAt v e z + cond (eqb e d) 1 0 + footers p)
-    (any-false (λ e. ltb (capacity p) (pointerAt v e z + cond (eqb e d) 1 0 + footers p)) (below (p .N)) q e (has-below e (p .N) l))
+    (any-false-in (λ e. ltb (capacity p) (pointerAt v e z + cond (eqb e d) 1 0 + footers p)) (below (p .N)) q e (has-below e (p .N) l))
 
 pub land-asked : (p : Params) (long : Bool) (v : View) (m : Memory) (d s : ℕ) → firstRefusal (landChecks p long v m d s) ≡ none → LandAsked p v (m .state) d s
 land-asked p long v m d s e =
@@ -157,8 +157,8 @@ module _ (p : Params) (h : Ranged p) (v : View) (m : Memory) (ss : List Send) (n
   abbrev z : ℕ
   z = l .M .zone
 
-  I : Inv (parOf p h) (mst (l .g) (itemsIn p v) (l .a) (l .c) (run (l .M)))
-  I = live-inv p h v (m .state) (m .inflight) (m .addresses) ss n l
+  inv-landed : Inv (parOf p h) (mst (l .g) (itemsIn p v) (l .a) (l .c) (run (l .M)))
+  inv-landed = live-inv p h v (m .state) (m .inflight) (m .addresses) ss n l
 
   -- the stripe of the eighth is s
   pub land-slot : SlotOf p (itemsIn p v) (m .state) (m .inflight) (l .M .zone) (slotOf (m .state) s) (l .M .F s) (l .M .ready s)
@@ -168,7 +168,7 @@ module _ (p : Params) (h : Ranged p) (v : View) (m : Memory) (ss : List Send) (n
   land-flies = subst (λ (x : ℕ). M .fly x ≡ true) (A .number) (l .rel .flying i (A .low) (A .used?))
 
   pub land-flight : (l .M .is-open ≡ true) × (s < l .M .next) × Flight (parOf p h) (l .g) (itemsIn p v) (l .M .zone) s (l .M .F s) (l .M .ready s)
-  land-flight = I .mode .flies s land-flies
+  land-flight = inv-landed .mode .flies s land-flies
 
   pub land-open : l .M .is-open ≡ true
   land-open = land-flight .0
@@ -195,7 +195,9 @@ module _ (p : Params) (h : Ranged p) (v : View) (m : Memory) (ss : List Send) (n
   -- ---- its record
 
   good : (x : Val) → Datum (parOf p h) s (M .F s) x → Fits8 x
-  good x t = good-fits p h (mst (l .g) (itemsIn p v) (l .a) (l .c) (run (l .M))) M I (I .mode) (subst (λ (k : ℕ). k < 256 ^ 8) (sym (l .rel .stamp)) (l .rel .stamp-fits)) x (land-flight .2 .good x t)
+  good x t =
+      good-fits p h (mst (l .g) (itemsIn p v) (l .a) (l .c) (run (l .M))) M inv-landed (inv-landed .mode) (subst (λ (k : ℕ). k < 256 ^ 8) (sym (l .rel .stamp)) (l .rel .stamp-fits)) x
+      (land-flight .2 .good x t)
 
   -- a filled position
   pub land-held : (k : ℕ) → k < filledIn (m .state) (slotOf (m .state) s)
@@ -250,7 +252,7 @@ module _ (p : Params) (h : Ranged p) (v : View) (m : Memory) (ss : List Send) (n
     val = ap (λ (x : ℕ). valueOf (slotBlock p fl i x) (parityRec s (map (entryIn st i) (below (filledIn st i))))) e
         ∙ subst (λ (x : ℕ). valueOf (slotBlock p fl i (parityDrive p x)) (parityRec x (map (entryIn st i) (below (filledIn st i)))) ≡ M .F s (parityDrive p x)) (A .number)
         (parity-is p h (λ e. itemsIn p v e z) (slotBlock p fl i) (entryIn st i) (offsetIn st i) (stripeIn st i) (filledIn st i) (landedIn st i) (M .F s) (M .ready s) land-slot
-        (λ x b. slot-long p fl fits i x (A .low) b) full (code-word p h s (M .F s) (land-flight .2 .word)))
+        (λ x b. inflight-block-long p fl fits i x (A .low) b) full (code-word p h s (M .F s) (land-flight .2 .word)))
         ∙ ap (M .F s) (sym e);
     stripe = unfold parityRec in refl;
     wide = parity-wide s (filledIn st i) (entryIn st i) (omega (arith, number-low, h .stripes-high)) (λ j b. land-held j b .1);
@@ -285,39 +287,39 @@ module _ (p : Params) (h : Ranged p) (v : View) (m : Memory) (ss : List Send) (n
   abbrev at-o : ℕ
   at-o = pointerAt v d (l .M .zone) - 1
 
-  kind : Kind p d z (zoneAt v d z) (slotBlock p fl i d) (recordBytes (flightRec p st i d))
-  kind = datum at-o (slotBlock p fl i d) (flightRec p st i d) at (let b : at-o < p .S = omega (arith, from, to) in b) (slot-long p fl fits i d (A .low) (A .drive)) (chunk-is .wide)
+  landed-kind : Kind p d z (zoneAt v d z) (slotBlock p fl i d) (recordBytes (flightRec p st i d))
+  landed-kind = datum at-o (slotBlock p fl i d) (flightRec p st i d) at (let b : at-o < p .S = omega (arith, from, to) in b) (inflight-block-long p fl fits i d (A .low) (A .drive)) (chunk-is .wide)
     where
       at : zoneAt v d z .pointer ≡ suc at-o
       at = unfold pointerAt in (let e : pointerAt v d z ≡ suc (pointerAt v d z - 1) = omega (arith, from) in e)
 
   pub land-sound : Sound p v landPut
-  land-sound = (A .drive, zone-in, kind)
+  land-sound = (A .drive, zone-in, landed-kind)
 
-  item-is : storeItem p v landPut ≡ m-put d z (chunk s (M .F s d))
-  unfolding kind
-  item-is = store-put p v d z (slotBlock p fl i d) (recordBytes (flightRec p st i d)) kind ∙ same
+  landed-item : storeItem p v landPut ≡ m-put d z (chunk s (M .F s d))
+  unfolding landed-kind
+  landed-item = store-put p v d z (slotBlock p fl i d) (recordBytes (flightRec p st i d)) landed-kind ∙ same
     where
-      same : m-put d z (kindItem p d z (zoneAt v d z) (slotBlock p fl i d) (recordBytes (flightRec p st i d)) kind) ≡ m-put d z (chunk s (M .F s d))
+      same : m-put d z (kindItem p d z (zoneAt v d z) (slotBlock p fl i d) (recordBytes (flightRec p st i d)) landed-kind) ≡ m-put d z (chunk s (M .F s d))
       same = unfold kindItem in ap₂ (λ (x : ℕ) (y : Val). m-put d z (chunk x y)) (chunk-is .stripe) (chunk-is .val)
 
   -- the drives afterwards
   abbrev pub landView : View
   landView = storeView landPut v
 
-  pub land-items : itemsIn p landView ≡ after (itemsIn p v) d (l .M .zone) (chunk s (l .M .F s d))
-  land-items = items-store p v landPut (l .reached .shape) (sound-fits p h v landPut (l .reached .shape) land-sound) ∙ ap (apply (itemsIn p v)) item-is ∙ (unfold apply in refl)
+  pub land-items : itemsIn p landView ≡ withItem (itemsIn p v) d (l .M .zone) (chunk s (l .M .F s d))
+  land-items = items-store p v landPut (l .reached .shape) (sound-fits p h v landPut (l .reached .shape) land-sound) ∙ ap (apply (itemsIn p v)) landed-item ∙ (unfold apply in refl)
 
-  len : length (itemsIn p v d z) ≡ pointerAt v d z
-  len = live-len p h v (m .state) (m .inflight) (m .addresses) ss n l d z (A .drive) zone-in
+  landed-length : length (itemsIn p v d z) ≡ pointerAt v d z
+  landed-length = live-len p h v (m .state) (m .inflight) (m .addresses) ss n l d z (A .drive) zone-in
 
   pub land-step : (T : Track) → Go (parOf p h) (mst (l .g) (itemsIn p v) (l .a) (l .c) (run (l .M))) (mst (l .g) (itemsIn p landView) (l .a) (l .c) (run (l .M))) T T
   land-step T =
-      go-view (parOf p h) (mst (l .g) (itemsIn p v) (l .a) (l .c) (run (l .M))) (l .g) (after (itemsIn p v) d z (chunk s (M .F s d)))
+      go-view (parOf p h) (mst (l .g) (itemsIn p v) (l .a) (l .c) (run (l .M))) (l .g) (withItem (itemsIn p v) d z (chunk s (M .F s d)))
       (itemsIn p landView) (l .a) (l .c) (run (l .M)) T T (sym land-items)
-      (go-step (parOf p h) (mst (l .g) (itemsIn p v) (l .a) (l .c) (run (l .M))) (mst (l .g) (after (itemsIn p v) d z (chunk s (M .F s d))) (l .a) (l .c) (run (l .M))) T
+      (go-step (parOf p h) (mst (l .g) (itemsIn p v) (l .a) (l .c) (run (l .M))) (mst (l .g) (withItem (itemsIn p v) d z (chunk s (M .F s d))) (l .a) (l .c) (run (l .M))) T
       (m-land (mst (l .g) (itemsIn p v) (l .a) (l .c) (run (l .M))) M d s refl (A .drive) land-flies
-      (λ x k. land-slot .out d (A .drive) (A .fresh) x (subst (λ (y : ℕ). In (chunk y x) (itemsIn p v d z)) (sym (A .number)) k)) may
-      (λ k e. let f : pointerAt v d z ≡ suc k = sym len ∙ e in
+      (λ x k. land-slot .out d (A .drive) (A .fresh) x (subst (λ (y : ℕ). InI (chunk y x) (itemsIn p v d z)) (sym (A .number)) k)) may
+      (λ k e. let f : pointerAt v d z ≡ suc k = sym landed-length ∙ e in
       let o : pointerAt v d z - 1 ≡ k = omega (arith, f) in
       (omega (arith, f, to), sym (ap (λ (x : ℕ). group p (pointerAt v d x - 1)) (sym land-zone) ∙ A .group?) ∙ ap (group p) o))))

@@ -23,8 +23,8 @@ use Rattle.proof_crash_items.specs.Items.{itemsIn}
 use Rattle.proof_crash_items.specs.Ranges.{parOf}
 use Rattle.proof_crash_items.specs.Segs.{OnDrives, zone-len}
 use Rattle.proof_crash_items.specs.Shape.{Shape, shape-stores}
-use Rattle.proof_crash_items.specs.Sound.{AllSound, BytesOk, all-fit, bytes-stores, sound-take}
-use Rattle.proof_crash_calls.specs.Fill.{Within}
+use Rattle.proof_crash_items.specs.Sound.{AllSound, BytesOk, sounds-fit, bytes-stores, sound-take}
+use Rattle.proof_crash_calls.specs.Fill.{FillWithin}
 use Rattle.proof_crash_calls.specs.Go.{mst, Later, later-same, Go, go-inv, go-tracked}
 use Rattle.proof_crash_calls.specs.Held.{TableOk}
 use Rattle.proof_crash_calls.specs.Rel.{Rel, Waiting}
@@ -104,7 +104,7 @@ module _ (p : Params) (h : Ranged p) (v : View) (st : State) (fl tb : List ℕ) 
       reached = record {
         inv = go-inv (parOf p h) σ (mst g′ (itemsIn p (storeAll storeView ws v)) a′ c′ (run M′)) (l .T) T′ go live-inv;
         tracked = go-tracked (parOf p h) σ (mst g′ (itemsIn p (storeAll storeView ws v)) a′ c′ (run M′)) (l .T) T′ go live-inv (l .reached .tracked);
-        shape = shape-stores p v ws (l .reached .shape) (all-fit p h v ws (l .reached .shape) sound);
+        shape = shape-stores p v ws (l .reached .shape) (sounds-fit p h v ws (l .reached .shape) sound);
         bytes = λ d b k. bytes-stores p h v ws (l .reached .shape) sound d (l .reached .bytes d b (ap (λ (y : Mask). y d) (sym (lt .un)) ∙ k));
         logged = logged;
         marked = marked;
@@ -130,7 +130,7 @@ module _ (p : Params) (h : Ranged p) (v : View) (st : State) (fl tb : List ℕ) 
       reached = record {
         inv = go-inv (parOf p h) σ (mst g′ (itemsIn p (storeAll storeView (take k ws) v)) (l .a) (l .c) off) (l .T) (l .T) go live-inv;
         tracked = go-tracked (parOf p h) σ (mst g′ (itemsIn p (storeAll storeView (take k ws) v)) (l .a) (l .c) off) (l .T) (l .T) go live-inv (l .reached .tracked);
-        shape = shape-stores p v (take k ws) (l .reached .shape) (all-fit p h v (take k ws) (l .reached .shape) (sound-take p v ws k sound));
+        shape = shape-stores p v (take k ws) (l .reached .shape) (sounds-fit p h v (take k ws) (l .reached .shape) (sound-take p v ws k sound));
         bytes = λ d b e. bytes-stores p h v (take k ws) (l .reached .shape) (sound-take p v ws k sound) d (l .reached .bytes d b (ap (λ (y : Mask). y d) (sym (lt .un)) ∙ e));
         logged = forget-logged p (l .a) (l .T) ss (l .reached .logged);
         marked = omega (arith, l .reached .marked, length-forget ss);
@@ -150,7 +150,7 @@ module _ (p : Params) (h : Ranged p) (v : View) (st : State) (fl tb : List ℕ) 
   live-acks x m = live-stamps x (live-inv .acks x m .0)
 
   -- a change of memory alone
-  pub live-within : (st′ : State) (fl′ : List ℕ) → Within p h (l .g) (itemsIn p v) (l .a) (l .c) st st′ fl′ (l .M) → (x : Live p h v st′ fl′ tb ss n) × Later (l .g) (x .g)
+  pub live-within : (st′ : State) (fl′ : List ℕ) → FillWithin p h (l .g) (itemsIn p v) (l .a) (l .c) st st′ fl′ (l .M) → (x : Live p h v st′ fl′ tb ss n) × Later (l .g) (x .g)
   live-within st′ fl′ w = (
     record {
       g = l .g;

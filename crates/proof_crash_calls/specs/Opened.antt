@@ -30,22 +30,22 @@ use Rattle.proof_crash_machine.specs.History.Step.{open-cut, open-done}
 use Rattle.proof_crash_machine.specs.Memory.{Mem}
 use Rattle.proof_crash_machine.specs.Memory2.{openMem}
 use Rattle.proof_crash_machine.specs.Name.{setN-same, naming}
-use Rattle.proof_crash_machine.specs.OpenSeg.{headers, Fresh, opened}
+use Rattle.proof_crash_machine.specs.OpenSeg.{headers, Fresh, open-facts}
 use Rattle.proof_crash_machine.specs.Order.{Track}
 use Rattle.proof_crash_machine.specs.Val.{Val}
 use Rattle.proof_crash_machine.specs.View.Item.{hdr}
-use Rattle.proof_crash_machine.specs.View.{View as m-View, Store as m-Store, applyAll}
-use Rattle.proof_crash_machine.specs.View.Store.{put as m-put}
+use Rattle.proof_crash_machine.specs.View.{ItemView, ItemStore, applyAll}
+use Rattle.proof_crash_machine.specs.View.ItemStore.{put as m-put}
 use Rattle.proof_crash_items.specs.Items.{itemsFrom, itemsOf, itemsIn, storeItem}
 use Rattle.proof_crash_items.specs.Member.{Has, keep-has, below-has, firstOr-has}
 use Rattle.proof_crash_items.specs.Ranges.{parOf}
-use Rattle.proof_crash_items.specs.Shape.{Shape, zone-set-other, shape-store}
+use Rattle.proof_crash_items.specs.Shape.{Shape, zone-set-else, shape-store}
 use Rattle.proof_crash_items.specs.Sound.{Sound, AllSound, sound-fits, Follows, follows-all, follows-cut, store-put, follows-list}
 use Rattle.proof_crash_items.specs.ZoneBytes.{Kind, kindItem}
 use Rattle.proof_crash_items.specs.ZoneBytes.Kind.{header}
 use Rattle.proof_crash_items.specs.Segs.{OnDrives, used-zones}
 use Rattle.proof_crash_items.specs.Zoning.{zone-apart}
-use Rattle.proof_crash_calls.specs.Base.{another}
+use Rattle.proof_crash_calls.specs.Base.{another-kept}
 use Rattle.proof_crash_calls.specs.Cells.{same-used, open-same}
 use Rattle.proof_crash_calls.specs.Go.{mst, Go, go-step, go-view}
 use Rattle.proof_crash_calls.specs.Rel.{inUse, Rel, Waiting}
@@ -78,7 +78,7 @@ module _ (p : Params) (v : View) (two : 2 ≤ length (emptyZones p v)) where
   lowest-empty = empty-has p v lowest (firstOr-has 0 (emptyZones p v) some-empty)
 
   pub other-empty : (j : ℕ) × (j < p .Z) × (emptyOnAll p v j ≡ true) × (j ≢ lowest)
-  other-empty = another (emptyOnAll p v) (p .Z) lowest (unfold emptyZones segmentNumbers in two)
+  other-empty = another-kept (emptyOnAll p v) (p .Z) lowest (unfold emptyZones segmentNumbers in two)
 
   pub lowest-none : (d : ℕ) → d < p .N → itemsIn p v d lowest ≡ []
   lowest-none d l = no-items p v d lowest (empty-all p v lowest (lowest-empty .1) d l)
@@ -117,7 +117,7 @@ module _ (p : Params) (h : Ranged p) (g : Ghost) (w r : ℕ) (wl : w < p .Z) (rl
   abbrev headerPut : ℕ → Store
   headerPut d = put d w (headerBlock p d w r 0) zeroSpare
 
-  abbrev headerItem : ℕ → m-Store
+  abbrev headerItem : ℕ → ItemStore
   headerItem d = m-put d w (hdr (naming g w r 0 (zoneOn w) alone .hd .ser w) (naming g w r 0 (zoneOn w) alone .hd .cop w) (naming g w r 0 (zoneOn w) alone .hd .zn w))
 
   -- drives from j on are still empty
@@ -143,7 +143,7 @@ module _ (p : Params) (h : Ranged p) (g : Ghost) (w r : ℕ) (wl : w < p .Z) (rl
 
       other : (e : ℕ) → suc j ≤ e → e < p .N → pointerAt (storeView (headerPut j) u) e w ≡ pointerAt u e w
       other e b c = unfold pointerAt storeView in
-          ap (λ (q : Zone). q .pointer) (zone-set-other p u (i .shape) j w (putZone (headerBlock p j w r 0) zeroSpare (zoneAt u j w)) l e w (inl (let n : e ≢ j = omega arith in n)))
+          ap (λ (q : Zone). q .pointer) (zone-set-else p u (i .shape) j w (putZone (headerBlock p j w r 0) zeroSpare (zoneAt u j w)) l e w (inl (let n : e ≢ j = omega arith in n)))
 
   pub headers-follow : (v : View) → Shape p v → ((e : ℕ) → e < p .N → pointerAt v e w ≡ 0) → Follows p v (headerStores p w r 0) (headers (parOf p h) g w r (zoneOn w))
   unfolding headerStores zoneOn drivesOf below headers
@@ -162,17 +162,17 @@ module _ (p : Params) (h : Ranged p) (g : Ghost) (v : View) (a : List Val) (c : 
   abbrev g′ : Ghost
   g′ = naming g (firstOr 0 (emptyZones p v)) (suc (M .serial)) 0 (zoneOn (firstOr 0 (emptyZones p v))) alone
 
-  follow : Follows p v ss (headers (parOf p h) g w (suc (M .serial)) (zoneOn w))
-  follow = headers-follow p h g w (suc (M .serial)) (lowest-empty p v two .0) fits v (on .shape) (empty-all p v w (lowest-empty p v two .1))
+  open-follows : Follows p v ss (headers (parOf p h) g w (suc (M .serial)) (zoneOn w))
+  open-follows = headers-follow p h g w (suc (M .serial)) (lowest-empty p v two .0) fits v (on .shape) (empty-all p v w (lowest-empty p v two .1))
 
   pub open-sound : AllSound p v ss
-  open-sound = follow .sound
+  open-sound = open-follows .sound
 
   pub open-go : (T : Track) → Go (parOf p h) (mst g (itemsIn p v) a c (run M)) (mst g′ (itemsIn p (storeAll storeView ss v)) a c (run (openMem M w (suc (M .serial))))) T T
   open-go T =
       go-view (parOf p h) (mst g (itemsIn p v) a c (run M)) g′ (applyAll (itemsIn p v) (headers (parOf p h) g w (suc (M .serial)) (zoneOn w)))
       (itemsIn p (storeAll storeView ss v)) a c (run (openMem M w (suc (M .serial)))) T T
-      (sym (follows-all p h v ss (headers (parOf p h) g w (suc (M .serial)) (zoneOn w)) (on .shape) follow))
+      (sym (follows-all p h v ss (headers (parOf p h) g w (suc (M .serial)) (zoneOn w)) (on .shape) open-follows))
       (go-step (parOf p h) (mst g (itemsIn p v) a c (run M)) (mst g′ (applyAll (itemsIn p v) (headers (parOf p h) g w (suc (M .serial)) (zoneOn w))) a c (run (openMem M w (suc (M .serial))))) T
       (open-done (mst g (itemsIn p v) a c (run M)) M w refl (may-open p v two h g on M shut?)))
 
@@ -180,7 +180,7 @@ module _ (p : Params) (h : Ranged p) (g : Ghost) (v : View) (a : List Val) (c : 
   open-cut-go n T =
       go-view (parOf p h) (mst g (itemsIn p v) a c (run M)) g′ (applyAll (itemsIn p v) (take n (headers (parOf p h) g w (suc (M .serial)) (zoneOn w))))
       (itemsIn p (storeAll storeView (take n ss) v)) a c off T T
-      (sym (follows-cut p h v ss (headers (parOf p h) g w (suc (M .serial)) (zoneOn w)) n (on .shape) follow))
+      (sym (follows-cut p h v ss (headers (parOf p h) g w (suc (M .serial)) (zoneOn w)) n (on .shape) open-follows))
       (go-step (parOf p h) (mst g (itemsIn p v) a c (run M)) (mst g′ (applyAll (itemsIn p v) (take n (headers (parOf p h) g w (suc (M .serial)) (zoneOn w)))) a c off) T
       (open-cut (mst g (itemsIn p v) a c (run M)) M w n refl (may-open p v two h g on M shut?)))
 
@@ -201,8 +201,8 @@ module _ (p : Params) (h : Ranged p) (g : Ghost) (v : View) (a : List Val) (c : 
   -- no other segment changes
   pub open-other : Inv (parOf p h) (mst g (itemsIn p v) a c (run M)) → (e y : ℕ) → y ≢ w → itemsIn p (storeAll storeView ss v) e y ≡ itemsIn p v e y
   open-other I e y n =
-      ap (λ (u : m-View). u e y) (follows-all p h v ss (headers (parOf p h) g w (suc (M .serial)) (zoneOn w)) (on .shape) follow)
-      ∙ opened (parOf p h) g (itemsIn p v) w (suc (M .serial)) (fresh I) (I .facts) .2 e y n
+      ap (λ (u : ItemView). u e y) (follows-all p h v ss (headers (parOf p h) g w (suc (M .serial)) (zoneOn w)) (on .shape) open-follows)
+      ∙ open-facts (parOf p h) g (itemsIn p v) w (suc (M .serial)) (fresh I) (I .facts) .2 e y n
 
   -- ---- memory: nothing is in flight
   module _ (st : State) (fl : List ℕ) (R : Rel p (itemsIn p v) st fl M) (idle : (i : ℕ) → i < 8 → inUse st i ≡ false) where

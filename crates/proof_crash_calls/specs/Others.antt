@@ -38,7 +38,7 @@ use Rattle.law_views.specs.Views.{seen}
 use Rattle.law_drives.specs.Tests.{not-so}
 use Rattle.law_checks.specs.Passed.{write-passed, land-passed, close-passed, reclaim-passed, read-passed, fill-passed, rebuild-passed}
 use Rattle.proof_crash_machine.specs.Exec.{true≢false}
-use Rattle.proof_crash_items.specs.Named.{named-some}
+use Rattle.proof_crash_items.specs.Named.{named-not-zero}
 use Rattle.proof_crash_calls.specs.Refusals.{Decides, decides, refused-step}
 
 -- ---- refused calls, whatever their answer
@@ -56,10 +56,10 @@ refused-any p s c out = go (firstRefusal (decides p (lentOk p (s .world .disk) (
 -- ---- reads
 
 -- a call whose plan stores nothing and keeps memory
-same-step : (p : Params) (s : Hist) (c : Call) (a : Answer) (b : List ℕ) → callDisk p (s .world .disk) (s .world .memory) c ≡ mkAfter a (s .world .disk) (s .world .memory) b
+hist-unchanged : (p : Params) (s : Hist) (c : Call) (a : Answer) (b : List ℕ) → callDisk p (s .world .disk) (s .world .memory) c ≡ mkAfter a (s .world .disk) (s .world .memory) b
     → sentAfter c a (s .sends) ≡ s .sends → untrustedAfter c a (s .untrusted) ≡ s .untrusted → finished a ≡ false → step p s (calls c) ≡ s
 unfolding step happens before callOf worldAfter
-same-step p s c a b r e f g = λ j. record {
+hist-unchanged p s c a b r e f g = λ j. record {
   world = mkWorld (r j .drives) (r j .memory);
   sends = (ap (λ (x : After Disk). sentAfter c (x .answer) (s .sends)) r ∙ e) j;
   untrusted = (ap (λ (x : After Disk). untrustedAfter c (x .answer) (s .untrusted)) r ∙ f) j;
@@ -97,7 +97,7 @@ read-step p s a = go (firstRefusal (D .checks)) refl
 
     go : (o : Opt Answer) → firstRefusal (D .checks) ≡ o → step p s (calls (read a)) ≡ s
     go (some x) e = refused-step p s (read a) x e
-    go none e = same-step p s (read a) (readAnswer p f) [] is (sent f) (unfold untrustedAfter in refl) (open? f)
+    go none e = hist-unchanged p s (read a) (readAnswer p f) [] is (sent f) (unfold untrustedAfter in refl) (open? f)
       where
         plan-is : D .plan ≡ mkPlan [] (readAnswer p f) (s .world .memory) []
         plan-is = unfold decides in refl
@@ -125,7 +125,7 @@ fill-step p s a b = go (firstRefusal (D .checks)) refl
 
     go : (o : Opt Answer) → firstRefusal (D .checks) ≡ o → step p s (calls (fill a b)) ≡ s
     go (some x) e = refused-step p s (fill a b) x e
-    go none e = same-step p s (fill a b) Filled (D .plan .block) is sent (unfold untrustedAfter in refl) open?
+    go none e = hist-unchanged p s (fill a b) Filled (D .plan .block) is sent (unfold untrustedAfter in refl) open?
       where
         plan-is : D .plan ≡ mkPlan [] Filled (s .world .memory) (D .plan .block)
         plan-is = unfold decides in refl
@@ -176,7 +176,7 @@ off-refused p long v m (rebuild d n) r z e =
     none-missing = ap (λ (x : State). x .missing) z ∙ (unfold zeroState idleState in refl)
 
     named-nothing : inRange p ≡ true → d < p .N → named d ≡ 0 → ⊥
-    named-nothing i l f = clash (eq-eqb (named d) 0 f) (named-some d (omega (arith, l, ranged p i .drives-high)))
+    named-nothing i l f = clash (eq-eqb (named d) 0 f) (named-not-zero d (omega (arith, l, ranged p i .drives-high)))
 
 -- after a cut, and before the first restart
 pub off-step : (p : Params) (s : Hist) (c : Call) → restartOf c ≡ none → s .world .memory .state ≡ zeroState → step p s (calls c) ≡ s

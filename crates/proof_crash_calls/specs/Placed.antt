@@ -24,12 +24,12 @@ use Rattle.proof_crash_machine.specs.Exec.{true≢false}
 use Rattle.proof_crash_machine.specs.Facts.{Off}
 use Rattle.proof_crash_machine.specs.Memory.{setAt, setAt-elim, Mem, flown}
 use Rattle.proof_crash_machine.specs.Val.{Val}
-use Rattle.proof_crash_machine.specs.View.{Item, View as m-View}
+use Rattle.proof_crash_machine.specs.View.{Item, ItemView}
 use Rattle.proof_crash_machine.specs.View.Item.{chunk}
 use Rattle.proof_crash_items.specs.Items.{valueOf}
 use Rattle.proof_crash_calls.specs.Base.{eqb-self, setAt-here, setAt-else}
 use Rattle.proof_crash_calls.specs.Cells.{SameSlot, same-used, add-long, add-filled, add-number, add-entry, add-entry-old, add-same, add-write}
-use Rattle.proof_crash_calls.specs.Rel.{readyAt, SlotRel, SlotOf, slot-keep, Long, inUse, filled-used, RelOn, Waiting}
+use Rattle.proof_crash_calls.specs.Rel.{readyAt, SlotRel, SlotOf, slot-keep, RowsLong, inUse, filled-used, RelOn, Waiting}
 use Rattle.proof_crash_calls.specs.Slots.{length-slot, slot-same, slot-other, slot-parity-other, slot-parity}
 
 -- ---- which chunks may land
@@ -106,7 +106,7 @@ slot-add p h W B B′ E E′ O s k m G G′ r r′ a kl mine eb ee xo new old ma
 
 -- ---- the buffer and the state
 
-module _ (p : Params) (h : Ranged p) (st : State) (L : Long st) (fl : List ℕ) (long : length fl ≡ inflightLen p) (i : ℕ) (il : i < 8) (a t w : ℕ) (b : List ℕ) (bl : length b ≡ p .B)
+module _ (p : Params) (h : Ranged p) (st : State) (L : RowsLong st) (fl : List ℕ) (long : length fl ≡ inflightLen p) (i : ℕ) (il : i < 8) (a t w : ℕ) (b : List ℕ) (bl : length b ≡ p .B)
     (kl : filledIn st i < dataCount p) where
   abbrev k : ℕ
   k = filledIn st i
@@ -133,18 +133,18 @@ module _ (p : Params) (h : Ranged p) (st : State) (L : Long st) (fl : List ℕ) 
   first-long : length first ≡ inflightLen p
   first-long = length-slot p fl long i d b il dl bl
 
-  full-is : isFull p (addEntry st i a t w) i ≡ leb (dataCount p) (suc k)
+  entry-fills : isFull p (addEntry st i a t w) i ≡ leb (dataCount p) (suc k)
   unfolding isFull
-  full-is = ap (leb (dataCount p)) (add-filled st L i il a t w k8)
+  entry-fills = ap (leb (dataCount p)) (add-filled st L i il a t w k8)
 
   -- the two forms of the buffer
-  full : suc k ≡ dataCount p → placed p st fl i a t w b .inflight ≡ setSlotParity p first i s
+  parity-placed : suc k ≡ dataCount p → placed p st fl i a t w b .inflight ≡ setSlotParity p first i s
   unfolding placed
-  full e = cond-true (isFull p (addEntry st i a t w) i) (setSlotParity p first i s) first (full-is ∙ le-leb (dataCount p) (suc k) (omega arith))
+  parity-placed e = cond-true (isFull p (addEntry st i a t w) i) (setSlotParity p first i s) first (entry-fills ∙ le-leb (dataCount p) (suc k) (omega arith))
 
   part-full : suc k ≢ dataCount p → placed p st fl i a t w b .inflight ≡ first
   unfolding placed
-  part-full e = cond-false (isFull p (addEntry st i a t w) i) (setSlotParity p first i s) first (full-is ∙ lt-leb (dataCount p) (suc k) (omega arith))
+  part-full e = cond-false (isFull p (addEntry st i a t w) i) (setSlotParity p first i s) first (entry-fills ∙ lt-leb (dataCount p) (suc k) (omega arith))
 
   abbrev now : List ℕ
   now = placed p st fl i a t w b .inflight
@@ -153,7 +153,7 @@ module _ (p : Params) (h : Ranged p) (st : State) (L : Long st) (fl : List ℕ) 
   placed-long = go (ℕ-discrete (suc k) (dataCount p))
     where
       go : Dec (suc k ≡ dataCount p) → length now ≡ inflightLen p
-      go (yes e) = ap length (full e) ∙ parity-long p h first first-long i il s
+      go (yes e) = ap length (parity-placed e) ∙ parity-long p h first first-long i il s
       go (no e) = ap length (part-full e) ∙ first-long
 
   pub placed-here : slotBlock p now i d ≡ b
@@ -161,7 +161,7 @@ module _ (p : Params) (h : Ranged p) (st : State) (L : Long st) (fl : List ℕ) 
     where
       go : Dec (suc k ≡ dataCount p) → slotBlock p now i d ≡ b
       go (yes e) =
-          ap (λ (x : List ℕ). slotBlock p x i d) (full e) ∙ slot-parity-other p first first-long h i s il i d il dl (inr (λ q. data-not-parity p s k q))
+          ap (λ (x : List ℕ). slotBlock p x i d) (parity-placed e) ∙ slot-parity-other p first first-long h i s il i d il dl (inr (λ q. data-not-parity p s k q))
           ∙ slot-same p fl long i d b il dl bl
       go (no e) = ap (λ (x : List ℕ). slotBlock p x i d) (part-full e) ∙ slot-same p fl long i d b il dl bl
 
@@ -175,23 +175,23 @@ module _ (p : Params) (h : Ranged p) (st : State) (L : Long st) (fl : List ℕ) 
       two = ⊎-elim (λ (q : j ≢ i). inl q) (λ (q : (e ≢ d) × (e ≢ parityDrive p s)). inr (q .1)) n
 
       go : Dec (suc k ≡ dataCount p) → slotBlock p now j e ≡ slotBlock p fl j e
-      go (yes q) = ap (λ (x : List ℕ). slotBlock p x j e) (full q) ∙ slot-parity-other p first first-long h i s il j e jl el two ∙ slot-other p fl long i d b il dl bl j e jl el one
+      go (yes q) = ap (λ (x : List ℕ). slotBlock p x j e) (parity-placed q) ∙ slot-parity-other p first first-long h i s il j e jl el two ∙ slot-other p fl long i d b il dl bl j e jl el one
       go (no q) = ap (λ (x : List ℕ). slotBlock p x j e) (part-full q) ∙ slot-other p fl long i d b il dl bl j e jl el one
 
   pub placed-parity : suc k ≡ dataCount p → slotBlock p now i (parityDrive p s) ≡ parity (p .B) (map (slotBlock p now i) (dataDrives p s))
-  placed-parity e = subst (λ (x : List ℕ). slotBlock p x i (parityDrive p s) ≡ parity (p .B) (map (slotBlock p x i) (dataDrives p s))) (sym (full e)) (slot-parity p first first-long h i s il)
+  placed-parity e = subst (λ (x : List ℕ). slotBlock p x i (parityDrive p s) ≡ parity (p .B) (map (slotBlock p x i) (dataDrives p s))) (sym (parity-placed e)) (slot-parity p first first-long h i s il)
 
   -- ---- the relation
-  module _ (v : m-View) (M : Mem) (U : ℕ → Bool) (R : RelOn p v st fl M U) (u : U i ≡ true) (G : ℕ → Val) (r : ℕ → Bool)
+  module _ (v : ItemView) (M : Mem) (U : ℕ → Bool) (R : RelOn p v st fl M U) (u : U i ≡ true) (G : ℕ → Val) (r : ℕ → Bool)
       (mine : (e : ℕ) → e < p .N → isIn (landedIn st i) e ≡ true → M .ready s e ≡ true)
       (new : G d ≡ valueOf b (mkRec a t s)) (old : (j : ℕ) → j < dataCount p → j ≢ k → G (dataDrive p s j) ≡ M .F s (dataDrive p s j))
       (may : (e : ℕ) → e < p .N → r e ≡ readyAt p s (suc k) e) where
     abbrev M′ : Mem
     M′ = flown M s G r (M .next) (M .stamp)
 
-    here : SlotOf p v (addEntry st i a t w) now (M .zone) i G r
+    slot-placed : SlotOf p v (addEntry st i a t w) now (M .zone) i G r
     unfolding addEntry offsetIn stripeIn landedIn
-    here =
+    slot-placed =
         rw (add-filled st L i il a t w k8) (slot-add p h (λ e. v e (M .zone)) (slotBlock p fl i) (slotBlock p now i) (entryIn st i)
         (entryIn (addEntry st i a t w) i) (offsetIn st i) s k (landedIn st i)
         (M .F s) G (M .ready s) r (R .slot i il u) kl mine
@@ -201,8 +201,8 @@ module _ (p : Params) (h : Ranged p) (st : State) (L : Long st) (fl : List ℕ) 
         (new ∙ ap₂ valueOf (sym placed-here) (sym (add-entry st L i il a t w k8)))
         old may)
 
-    there : (j : ℕ) → j < 8 → U j ≡ true → j ≢ i → SlotOf p v (addEntry st i a t w) now (M .zone) j (M .F (stripeIn st j)) (M .ready (stripeIn st j))
-    there j jl q n =
+    others-placed : (j : ℕ) → j < 8 → U j ≡ true → j ≢ i → SlotOf p v (addEntry st i a t w) now (M .zone) j (M .F (stripeIn st j)) (M .ready (stripeIn st j))
+    others-placed j jl q n =
         slot-keep p h (λ e. v e (M .zone)) (λ e. v e (M .zone)) (slotBlock p fl j) (slotBlock p now j) (entryIn st j)
         (entryIn (addEntry st i a t w) j) (offsetIn st j) (offsetIn (addEntry st i a t w) j)
         (stripeIn st j) (stripeIn (addEntry st i a t w) j) (filledIn st j) (filledIn (addEntry st i a t w) j) (landedIn st j)
@@ -213,8 +213,8 @@ module _ (p : Params) (h : Ranged p) (st : State) (L : Long st) (fl : List ℕ) 
         S = add-same st L i il a t w k8 j n
 
     -- another eighth has another stripe
-    apart : (j : ℕ) → j < 8 → U j ≡ true → j ≢ i → stripeIn st j ≢ s
-    apart j jl q n e = n (R .once j i jl il q u e)
+    filling-apart : (j : ℕ) → j < 8 → U j ≡ true → j ≢ i → stripeIn st j ≢ s
+    filling-apart j jl q n e = n (R .once j i jl il q u e)
 
     pub placed-rel : RelOn p v (placed p st fl i a t w b .state) now M′ U
     unfolding addEntry stripeIn
@@ -237,9 +237,10 @@ module _ (p : Params) (h : Ranged p) (st : State) (L : Long st) (fl : List ℕ) 
     })
       where
         slot : (j : ℕ) → j < 8 → U j ≡ true → Dec (j ≡ i) → SlotOf p v (addEntry st i a t w) now (M .zone) j (M′ .F (stripeIn (addEntry st i a t w) j)) (M′ .ready (stripeIn (addEntry st i a t w) j))
-        slot j jl q (yes e) = rw (e, add-number st L i il a t w k8 i, setAt-here (M .F) s G, setAt-here (M .ready) s r) here
+        slot j jl q (yes e) = rw (e, add-number st L i il a t w k8 i, setAt-here (M .F) s G, setAt-here (M .ready) s r) slot-placed
         slot j jl q (no e) =
-            rw (add-number st L i il a t w k8 j, setAt-else (M .F) s G (stripeIn st j) (apart j jl q e), setAt-else (M .ready) s r (stripeIn st j) (apart j jl q e)) (there j jl q e)
+            rw (add-number st L i il a t w k8 j, setAt-else (M .F) s G (stripeIn st j) (filling-apart j jl q e), setAt-else (M .ready) s r (stripeIn st j) (filling-apart j jl q e))
+            (others-placed j jl q e)
 
         flies : (x : ℕ) → setAt (M .fly) s true x ≡ true → Dec (x ≡ s) → (j : ℕ) × (j < 8) × (U j ≡ true) × (stripeIn (addEntry st i a t w) j ≡ x)
         flies x q (yes e) = (i, il, u, add-number st L i il a t w k8 i ∙ sym e)
@@ -279,7 +280,7 @@ module _ (p : Params) (h : Ranged p) (st : State) (L : Long st) (fl : List ℕ) 
               k = q .k;
               filled = omega (arith, S .filled, q .filled);
               write = S .write (q .k) ∙ q .write;
-              val = ap (λ (F : ℕ → Val). F (dataDrive p y (q .k))) (setAt-else (M .F) s G y (λ n. apart (q .i) (q .lt) (cover (q .i) (q .lt) (q .inUse?)) e (q .number ∙ n))) ∙ q .val;
+              val = ap (λ (F : ℕ → Val). F (dataDrive p y (q .k))) (setAt-else (M .F) s G y (λ n. filling-apart (q .i) (q .lt) (cover (q .i) (q .lt) (q .inUse?)) e (q .number ∙ n))) ∙ q .val;
             }
 
     -- the eighths in use afterwards

@@ -26,7 +26,7 @@ use Rattle.law_basic.specs.Mask.{isIn-empty}
 use Rattle.proof_crash_machine.specs.Facts.{Par, Heads, Ghost, Choice, Counted, Off, None}
 use Rattle.proof_crash_machine.specs.History.{Mode, Inv}
 use Rattle.proof_crash_machine.specs.Val.{Val}
-use Rattle.proof_crash_machine.specs.View.{Item, View as m-View}
+use Rattle.proof_crash_machine.specs.View.{Item, ItemView}
 use Rattle.proof_crash_machine.specs.View.Item.{chunk}
 use Rattle.proof_crash_machine.specs.Mask.{Mask}
 use Rattle.proof_crash_items.specs.Cands.{best-none, candsSeen, From, cands-from, cand-value, of-counted}
@@ -35,9 +35,9 @@ use Rattle.proof_crash_items.specs.Member.{Has, keep-has, has-keep}
 use Rattle.proof_crash_items.specs.Named.{zero-choice, none-out}
 use Rattle.proof_crash_items.specs.Ranges.{capacity-few, parOf, data-code}
 use Rattle.proof_crash_items.specs.Reading.{places-many}
-use Rattle.proof_crash_items.specs.Segs.{OnDrives, zone-bytes, zone-low, remaining-has}
+use Rattle.proof_crash_items.specs.Segs.{OnDrives, zone-bytes, zone-pointer-low, remaining-has}
 use Rattle.proof_crash_items.specs.Shape.{ZoneShape, shape-zone}
-use Rattle.proof_crash_items.specs.Stripes.{stored-below, pointer-is, sealed-full, offset-on, stored-piece, counted-has, pieceAt, piece-here, counted-stripe}
+use Rattle.proof_crash_items.specs.Stripes.{stored-below, pointer-is, sealed-at-capacity, offset-on, stored-piece, counted-has, pieceAt, piece-here, counted-stripe}
 use Rattle.proof_crash_items.specs.Values.{pieceValue, value-same}
 use Rattle.proof_crash_items.specs.ZoneBytes.{blockIn, by-footer}
 use Rattle.proof_crash_calls.specs.Go.{mst}
@@ -46,7 +46,7 @@ use Rattle.proof_crash_calls.specs.LandRel.{off-here}
 use Rattle.proof_crash_calls.specs.Sends.{value-stamp}
 
 -- counted with none missing, by any two masks without a drive
-abbrev pub counted-none : (P : Par) (hd : Heads) (v : m-View) (m n : Mask) → None P m → None P n → (x : Val) → Counted P hd v m x → Counted P hd v n x
+abbrev pub counted-none : (P : Par) (hd : Heads) (v : ItemView) (m n : Mask) → None P m → None P n → (x : Val) → Counted P hd v m x → Counted P hd v n x
 counted-none P hd v m n a b x q = record {
   z = q .z;
   s = q .s;
@@ -57,26 +57,26 @@ counted-none P hd v m n a b x q = record {
 }
 
 module _ (p : Params) (h : Ranged p) (g : Ghost) (v : View) (k : OnDrives p h g v) (none? : None (parOf p h) (g .un)) where
-  c : Choice (parOf p h) (g .un) (isIn 0)
-  c = zero-choice p h (g .un) none?
+  choice-none : Choice (parOf p h) (g .un) (isIn 0)
+  choice-none = zero-choice p h (g .un) none?
 
   abbrev pub said : List Cand
   said = candidates p 0 (segments p v 0)
 
-  said-is : candsSeen p h g v k 0 c ≡ said
+  said-is : candsSeen p h g v k 0 choice-none ≡ said
   unfolding candsSeen
   said-is = refl
 
-  trust : (d : ℕ) → d < p .N → g .un d ≡ false
-  trust d l = none? d l
+  not-untrusted : (d : ℕ) → d < p .N → g .un d ≡ false
+  not-untrusted d l = none? d l
 
   not-m : (d : ℕ) → d < p .N → isIn 0 d ≡ false
   not-m d l = isIn-empty d
 
   -- the record at an offset, sealed or not
-  pub record-at : (d z o : ℕ) → d < p .N → z < p .Z → o < p .S → recordAt p v 0 d z o ≡ recordOf (blockIn (zoneAt v d z) (suc o) .spare)
+  pub record-of-spare : (d z o : ℕ) → d < p .N → z < p .Z → o < p .S → recordAt p v 0 d z o ≡ recordOf (blockIn (zoneAt v d z) (suc o) .spare)
   unfolding recordAt zoneOn
-  record-at d z o l b ol = go (sealedIn p v 0 z) refl
+  record-of-spare d z o l b ol = go (sealedIn p v 0 z) refl
     where
       zone-shape : ZoneShape p (zoneAt v d z)
       zone-shape = shape-zone p v (k .shape) d z l b
@@ -85,23 +85,23 @@ module _ (p : Params) (h : Ranged p) (g : Ghost) (v : View) (k : OnDrives p h g 
       spare = unfold recordIn in ap (λ (i : ℕ). recordOf (getD (zoneAt v d z .blocks) i noChunk .spare)) (let i : 1 + o ≡ suc o = omega arith in i)
 
       full : sealedIn p v 0 z ≡ true → zoneAt v d z .pointer ≡ capacity p
-      full e = pointer-is v d z ∙ sealed-full p h g v k 0 c z d e l (not-m d l)
+      full e = pointer-is v d z ∙ sealed-at-capacity p h g v k 0 choice-none z d e l (not-m d l)
 
       go : (t : Bool) → sealedIn p v 0 z ≡ t → recordIn p t (zoneAt v d z) o ≡ recordOf (blockIn (zoneAt v d z) (suc o) .spare)
       go false e = spare
-      go true e = by-footer p h d z (zoneAt v d z) zone-shape (zone-bytes p h g v k d z l (trust d l) b) (full e) o ol ∙ spare
+      go true e = by-footer p h d z (zoneAt v d z) zone-shape (zone-bytes p h g v k d z l (not-untrusted d l) b) (full e) o ol ∙ spare
 
   -- ---- a record that counts
 
   module _ (x : Cand) (i : Has x said) where
-    from : From p h g v k 0 c x
-    from = cands-from p h g v k 0 c x (subst (λ (l : List Cand). Has x l) (sym said-is) i)
+    from : From p h g v k 0 choice-none x
+    from = cands-from p h g v k 0 choice-none x (subst (λ (l : List Cand). Has x l) (sym said-is) i)
 
     zb : from .z < p .Z
-    zb = remaining-has p h g v k 0 c (from .z) (from .rem) .0
+    zb = remaining-has p h g v k 0 choice-none (from .z) (from .rem) .0
 
     has : hasChunk (segmentOf p v 0 (from .z)) (from .s) (from .d) ≡ true
-    has = counted-has p h g v k 0 c (from .z) (from .s) (from .cnt) .1 (from .d) (from .drv) (not-m (from .d) (from .drv))
+    has = counted-has p h g v k 0 choice-none (from .z) (from .s) (from .cnt) .1 (from .d) (from .drv) (not-m (from .d) (from .drv))
 
     o : ℕ
     o = offsetOn (segmentOf p v 0 (from .z)) (from .d) (from .s)
@@ -109,7 +109,7 @@ module _ (p : Params) (h : Ranged p) (g : Ghost) (v : View) (k : OnDrives p h g 
     o-low : (o < p .S) × (suc o < zoneAt v (from .d) (from .z) .pointer)
     unfolding o
     o-low = stored-below p (zoneAt v (from .d) (from .z)) (offsetOn (segmentOf p v 0 (from .z)) (from .d) (from .s))
-        (offset-on p h g v k 0 c (from .z) (from .s) (from .d) zb (from .drv) (not-m (from .d) (from .drv)) has .0)
+        (offset-on p h g v k 0 choice-none (from .z) (from .s) (from .d) zb (from .drv) (not-m (from .d) (from .drv)) has .0)
 
     b-low : 1 + o < capacity p
     b-low = omega (arith, o-low .0, capacity-few p h)
@@ -163,29 +163,29 @@ module _ (p : Params) (h : Ranged p) (g : Ghost) (v : View) (k : OnDrives p h g 
     value-here : valueAt ≡ valueOf (blockIn (zoneAt v (from .d) (from .z)) (suc o) .block) (recordOf (blockIn (zoneAt v (from .d) (from .z)) (suc o) .spare))
     value-here =
         (λ j. valueOf (chunkAt v (place-d j) (place-z j) (place-b j) .block) (recordAt p v 0 (place-d j) (place-z j) (place-b j - 1)))
-        ∙ ap₂ valueOf block-is (ap (recordAt p v 0 (from .d) (from .z)) (let e : suc o - 1 ≡ o = omega arith in e) ∙ record-at (from .d) (from .z) o (from .drv) zb (o-low .0))
+        ∙ ap₂ valueOf block-is (ap (recordAt p v 0 (from .d) (from .z)) (let e : suc o - 1 ≡ o = omega arith in e) ∙ record-of-spare (from .d) (from .z) o (from .drv) zb (o-low .0))
       where
         block-is : chunkAt v (from .d) (from .z) (suc o) .block ≡ blockIn (zoneAt v (from .d) (from .z)) (suc o) .block
         block-is = unfold chunkAt in refl
 
-    value-is : valueAt ≡ pieceAt p h g v k 0 c (from .z) (from .s) (from .d)
+    value-is : valueAt ≡ pieceAt p h g v k 0 choice-none (from .z) (from .s) (from .d)
     value-is = value-here
         ∙ sym (piece-value ∙ value-same (blockIn (zoneAt v (from .d) (from .z)) (suc o) .block) (recordOf (blockIn (zoneAt v (from .d) (from .z)) (suc o) .spare)))
       where
         piece-value :
-            pieceAt p h g v k 0 c (from .z) (from .s) (from .d)
+            pieceAt p h g v k 0 choice-none (from .z) (from .s) (from .d)
             ≡ pieceValue
             (mkPiece (blockIn (zoneAt v (from .d) (from .z)) (suc o) .block) (recordOf (blockIn (zoneAt v (from .d) (from .z)) (suc o) .spare)))
-        piece-value = unfold pieceAt o in ap pieceValue (piece-here p h g v k 0 c (from .z) (from .s) (from .d) (from .drv) (not-m (from .d) (from .drv))
-            ∙ stored-piece p h g v k 0 c (from .z) (from .s) (from .d) zb (from .drv) (not-m (from .d) (from .drv)) has)
+        piece-value = unfold pieceAt o in ap pieceValue (piece-here p h g v k 0 choice-none (from .z) (from .s) (from .d) (from .drv) (not-m (from .d) (from .drv))
+            ∙ stored-piece p h g v k 0 choice-none (from .z) (from .s) (from .d) zb (from .drv) (not-m (from .d) (from .drv)) has)
 
-    counts-here : Counted (parOf p h) (g .hd) (itemsIn p v) (isIn 0) (pieceAt p h g v k 0 c (from .z) (from .s) (from .d))
+    counts-here : Counted (parOf p h) (g .hd) (itemsIn p v) (isIn 0) (pieceAt p h g v k 0 choice-none (from .z) (from .s) (from .d))
     counts-here = record {
       z = from .z;
       s = from .s;
-      f = pieceAt p h g v k 0 c (from .z) (from .s);
-      rem = remaining-has p h g v k 0 c (from .z) (from .rem) .1;
-      st = counted-stripe p h g v k 0 c (from .z) (from .s) zb (from .cnt);
+      f = pieceAt p h g v k 0 choice-none (from .z) (from .s);
+      rem = remaining-has p h g v k 0 choice-none (from .z) (from .rem) .1;
+      st = counted-stripe p h g v k 0 choice-none (from .z) (from .s) zb (from .cnt);
       dt = record { d = from .d; lt = from .drv; data? = data-code p h (from .s) (from .d) (from .dat); val = refl };
     }
 
@@ -193,22 +193,22 @@ module _ (p : Params) (h : Ranged p) (g : Ghost) (v : View) (k : OnDrives p h g 
     pub counted-at : (q : Counted (parOf p h) (g .hd) (itemsIn p v) (g .un) valueAt) × (q .z ≡ placeZone p (x .place))
     unfolding counts-here
     counted-at = subst (λ (y : Val). (q : Counted (parOf p h) (g .hd) (itemsIn p v) (g .un) y) × (q .z ≡ placeZone p (x .place))) (sym value-is)
-        (counted-none (parOf p h) (g .hd) (itemsIn p v) (isIn 0) (g .un) (none-out p h) none? (pieceAt p h g v k 0 c (from .z) (from .s) (from .d)) counts-here, sym place-z)
+        (counted-none (parOf p h) (g .hd) (itemsIn p v) (isIn 0) (g .un) (none-out p h) none? (pieceAt p h g v k 0 choice-none (from .z) (from .s) (from .d)) counts-here, sym place-z)
 
     pub value-address : valueAt .addr ≡ x .address
-    value-address = ap (λ (y : Val). y .addr) value-is ∙ sym (cand-value p h g v k 0 c (from .z) (from .s) (from .d) .0) ∙ ap (λ (y : Cand). y .address) (sym (from .is))
+    value-address = ap (λ (y : Val). y .addr) value-is ∙ sym (cand-value p h g v k 0 choice-none (from .z) (from .s) (from .d) .0) ∙ ap (λ (y : Cand). y .address) (sym (from .is))
 
     pub value-stamped : valueAt .stamp ≡ x .stamp
-    value-stamped = ap (λ (y : Val). y .stamp) value-is ∙ sym (cand-value p h g v k 0 c (from .z) (from .s) (from .d) .1) ∙ ap (λ (y : Cand). y .stamp) (sym (from .is))
+    value-stamped = ap (λ (y : Val). y .stamp) value-is ∙ sym (cand-value p h g v k 0 choice-none (from .z) (from .s) (from .d) .1) ∙ ap (λ (y : Cand). y .stamp) (sym (from .is))
 
     -- its stamp takes 8 bytes
-    pub stamp-low : x .stamp < 256 ^ 8
-    stamp-low =
+    pub cand-stamp-low : x .stamp < 256 ^ 8
+    cand-stamp-low =
         subst (λ (n : ℕ). n < 256 ^ 8) (sym
         (value-stamp (blockIn (zoneAt v (from .d) (from .z)) (suc o) .block) (recordOf (blockIn (zoneAt v (from .d) (from .z)) (suc o) .spare)))
         ∙ sym (ap (λ (y : Val). y .stamp) value-here)
         ∙ value-stamped)
-        (zone-bytes p h g v k (from .d) (from .z) (from .drv) (trust (from .d) (from .drv)) zb .wide o (o-low .0) (o-low .1) .stamp)
+        (zone-bytes p h g v k (from .d) (from .z) (from .drv) (not-untrusted (from .d) (from .drv)) zb .wide o (o-low .0) (o-low .1) .stamp)
 
     -- the item there
     pub item-at : (t : ℕ) × Off (itemsIn p v (placeDrive p (x .place)) (placeZone p (x .place))) (placeBlock p (x .place)) (chunk t valueAt)
@@ -234,18 +234,19 @@ module _ (p : Params) (h : Ranged p) (g : Ghost) (v : View) (k : OnDrives p h g 
             subst (λ (l : List Item). Off l (suc o) (chunk n
             (valueOf (blockIn (zoneAt v (from .d) (from .z)) (suc o) .block) (recordOf (blockIn (zoneAt v (from .d) (from .z)) (suc o) .spare)))))
             (sym (items-in p v (from .d) (from .z)))
-            (unfold chunkItem in chunk-of p (zoneAt v (from .d) (from .z)) (zone-low p h g v k (from .d) (from .z) (from .drv) (trust (from .d) (from .drv)) zb) o (o-low .0) (o-low .1))
+            (unfold chunkItem in chunk-of p (zoneAt v (from .d) (from .z)) (zone-pointer-low p h g v k (from .d) (from .z) (from .drv) (not-untrusted (from .d) (from .drv)) zb) o (o-low .0)
+            (o-low .1))
 
   -- ---- the best of an address
 
-  of-address : (x : Cand) (a : ℕ) → Has x (candsOf a said) → Has x said × (x .address ≡ a)
+  said-of-address : (x : Cand) (a : ℕ) → Has x (candsOf a said) → Has x said × (x .address ≡ a)
   unfolding candsOf
-  of-address x a i = let q : Has x said × (eqb (x .address) a ≡ true) = keep-has (λ (c : Cand). eqb (c .address) a) x said i in (q .0, eqb-true (x .address) a (q .1))
+  said-of-address x a i = let q : Has x said × (eqb (x .address) a ≡ true) = keep-has (λ (c : Cand). eqb (c .address) a) x said i in (q .0, eqb-true (x .address) a (q .1))
 
   pub best-said : (a : ℕ) → (best none (candsOf a said) ≡ none) ⊎ ((w : Cand) × (best none (candsOf a said) ≡ some w) × Has w said × (w .address ≡ a))
   best-said a = ⊎-elim (λ (e : candsOf a said ≡ []). inl (ap (best none) e ∙ nothing))
       (λ (q : (w : Cand) × (best none (candsOf a said) ≡ some w) × Has w (candsOf a said) × ((c : Cand) → Has c (candsOf a said) → c .stamp ≤ w .stamp)).
-      inr (q .0, q .1, of-address (q .0) a (q .2) .0, of-address (q .0) a (q .2) .1)) (best-none (candsOf a said))
+      inr (q .0, q .1, said-of-address (q .0) a (q .2) .0, said-of-address (q .0) a (q .2) .1)) (best-none (candsOf a said))
     where
       nothing : best none [] ≡ none
       nothing = unfold best in refl
@@ -256,12 +257,12 @@ module _ (p : Params) (h : Ranged p) (g : Ghost) (v : View) (k : OnDrives p h g 
       → Counted (parOf p h) (g .hd) (itemsIn p v) (g .un) x
       → (w : Cand) × (best none (candsOf (x .addr) said) ≡ some w) × Has w said × (w .address ≡ x .addr) × (x .stamp ≤ w .stamp)
   counted-beaten x q =
-      let y : (y : Cand) × Has y (candsSeen p h g v k 0 c) × (y .address ≡ x .addr) × (y .stamp ≡ x .stamp) =
-      of-counted p h g v k 0 c x (counted-none (parOf p h) (g .hd) (itemsIn p v) (g .un) (isIn 0) none? (none-out p h) x q) in
+      let y : (y : Cand) × Has y (candsSeen p h g v k 0 choice-none) × (y .address ≡ x .addr) × (y .stamp ≡ x .stamp) =
+      of-counted p h g v k 0 choice-none x (counted-none (parOf p h) (g .hd) (itemsIn p v) (g .un) (isIn 0) none? (none-out p h) x q) in
       let i : Has (y .0) (candsOf (x .addr) said) = at (y .0) (subst (λ (l : List Cand). Has (y .0) l) said-is (y .1)) (y .2) in
       ⊎-elim (λ (e : candsOf (x .addr) said ≡ []). absurd (subst (λ (l : List Cand). Has (y .0) l) e i))
       (λ (r : (w : Cand) × (best none (candsOf (x .addr) said) ≡ some w) × Has w (candsOf (x .addr) said) × ((c : Cand) → Has c (candsOf (x .addr) said) → c .stamp ≤ w .stamp)).
-      (r .0, r .1, of-address (r .0) (x .addr) (r .2) .0, of-address (r .0) (x .addr) (r .2) .1, omega (arith, r .3 (y .0) i, y .3))) (best-none (candsOf (x .addr) said))
+      (r .0, r .1, said-of-address (r .0) (x .addr) (r .2) .0, said-of-address (r .0) (x .addr) (r .2) .1, omega (arith, r .3 (y .0) i, y .3))) (best-none (candsOf (x .addr) said))
     where
       at : (y : Cand) → Has y said → y .address ≡ x .addr → Has y (candsOf (x .addr) said)
       at y i e = unfold candsOf in has-keep (λ (c : Cand). eqb (c .address) (x .addr)) y said i (eq-eqb (y .address) (x .addr) e)

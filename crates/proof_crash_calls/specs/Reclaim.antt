@@ -37,9 +37,9 @@ use Rattle.proof_crash_machine.specs.Memory2.{resets-other}
 use Rattle.proof_crash_machine.specs.Order.{noTrack}
 use Rattle.proof_crash_machine.specs.Reclaim.{Quiet, reclaimed-end}
 use Rattle.proof_crash_machine.specs.Val.{Val}
-use Rattle.proof_crash_machine.specs.View.{Item, View as m-View, Store as m-Store, applyAll, In, resets}
+use Rattle.proof_crash_machine.specs.View.{Item, ItemView, ItemStore, applyAll, InI, resets}
 use Rattle.proof_crash_machine.specs.View.Item.{chunk}
-use Rattle.proof_crash_machine.specs.View.Store.{reset as m-reset}
+use Rattle.proof_crash_machine.specs.View.ItemStore.{reset as m-reset}
 use Rattle.proof_crash_items.specs.Items.{valueOf, itemsIn, storeItem, storeItems}
 use Rattle.proof_crash_items.specs.Member.{Has, keep-has, firstOr-has}
 use Rattle.proof_crash_items.specs.Ranges.{parOf}
@@ -56,20 +56,20 @@ use Rattle.proof_crash_calls.specs.Victim.{VictimIs, victim-is, place-ha
 
 -- ---- the resets are the machine's
 
-resets-follow : (p : Params) (z : ℕ) → z < p .Z → (n d : ℕ) (v : View) → d + n ≤ p .N → Follows p v (map (λ e. reset e z) (upFrom d n)) (resets z d n)
+zone-resets-follow : (p : Params) (z : ℕ) → z < p .Z → (n d : ℕ) (v : View) → d + n ≤ p .N → Follows p v (map (λ e. reset e z) (upFrom d n)) (resets z d n)
 unfolding upFrom resets storeItems storeItem
-resets-follow p z zl zero d v b = record { sound = tt; items = refl }
-resets-follow p z zl (suc n) d v b =
-    let r : Follows p (storeView (reset d z) v) (map (λ e. reset e z) (upFrom (suc d) n)) (resets z (suc d) n) = resets-follow p z zl n (suc d) (storeView (reset d z) v) (omega arith) in
-    record { sound = ((omega arith, zl), r .sound); items = ap (λ (y : List m-Store). m-reset d z ∷ y) (r .items) }
+zone-resets-follow p z zl zero d v b = record { sound = tt; items = refl }
+zone-resets-follow p z zl (suc n) d v b =
+    let r : Follows p (storeView (reset d z) v) (map (λ e. reset e z) (upFrom (suc d) n)) (resets z (suc d) n) = zone-resets-follow p z zl n (suc d) (storeView (reset d z) v) (omega arith) in
+    record { sound = ((omega arith, zl), r .sound); items = ap (λ (y : List ItemStore). m-reset d z ∷ y) (r .items) }
 
 pub reset-follow : (p : Params) (v : View) (z : ℕ) → z < p .Z → Follows p v (resetStores p z) (resets z 0 (p .N))
 unfolding resetStores zoneOn drivesOf below
-reset-follow p v z zl = resets-follow p z zl (p .N) 0 v (omega arith)
+reset-follow p v z zl = zone-resets-follow p z zl (p .N) 0 v (omega arith)
 
 -- ---- memory, when a segment is emptied that isn't the open one
 
-pub emptied-rel : (p : Params) (h : Ranged p) (g : Ghost) (v u : m-View) (st : State) (fl : List ℕ) (M : Mem) → MemOk (parOf p h) g v M → Rel p v st fl M
+pub emptied-rel : (p : Params) (h : Ranged p) (g : Ghost) (v u : ItemView) (st : State) (fl : List ℕ) (M : Mem) → MemOk (parOf p h) g v M → Rel p v st fl M
     → (M .is-open ≡ true → (e : ℕ) → u e (M .zone) ≡ v e (M .zone)) → Rel p u st fl M
 emptied-rel p h g v u st fl M m R same = record {
   long = R .long;
@@ -86,10 +86,10 @@ emptied-rel p h g v u st fl M m R same = record {
       slot-keep p h (λ e. v e (M .zone)) (λ e. u e (M .zone)) (slotBlock p fl i) (slotBlock p fl i) (entryIn st i) (entryIn st i) (offsetIn st i) (offsetIn st i)
       (stripeIn st i) (stripeIn st i) (filledIn st i) (filledIn st i) (landedIn st i) (landedIn st i) (M .F (stripeIn st i))
       (M .ready (stripeIn st i)) refl refl refl (λ e el. refl) (λ e el. refl) (λ e el. refl)
-      (λ e j t el w. subst (λ (y : List Item). Off y j t) (sym (same o e)) w) (λ e x el w. subst (λ (y : List Item). In (chunk (stripeIn st i) x) y) (same o e) w) (R .slot i il q);
+      (λ e j t el w. subst (λ (y : List Item). Off y j t) (sym (same o e)) w) (λ e x el w. subst (λ (y : List Item). InI (chunk (stripeIn st i) x) y) (same o e) w) (R .slot i il q);
   once = R .once;
   flies = R .flies;
-  whole = λ o x l f e el. let w : (y : Val) × In (chunk x y) (v e (M .zone)) = R .whole o x l f e el in (w .0, subst (λ (y : List Item). In (chunk x (w .0)) y) (sym (same o e)) (w .1));
+  whole = λ o x l f e el. let w : (y : Val) × InI (chunk x y) (v e (M .zone)) = R .whole o x l f e el in (w .0, subst (λ (y : List Item). InI (chunk x (w .0)) y) (sym (same o e)) (w .1));
   busy = R .busy;
 }
 
@@ -105,15 +105,15 @@ module _ (p : Params) (h : Ranged p) (v : View) (m : Memory) (ss : List Send) (n
   abbrev fl : List ℕ
   fl = m .inflight
 
-  I : Inv (parOf p h) (mst (l .g) (itemsIn p v) (l .a) (l .c) (run (l .M)))
-  I = live-inv p h v (m .state) (m .inflight) (m .addresses) ss n l
+  inv-reclaim : Inv (parOf p h) (mst (l .g) (itemsIn p v) (l .a) (l .c) (run (l .M)))
+  inv-reclaim = live-inv p h v (m .state) (m .inflight) (m .addresses) ss n l
 
   abbrev σ : m-State
   σ = mst (l .g) (itemsIn p v) (l .a) (l .c) (run (l .M))
 
   -- ---- reset
 
-  pub reset-ok :
+  pub reset-call-ok :
       (z : ℕ)
       → z < p .Z
       → ((d : ℕ) → d < p .N → pointerAt v d z ≡ capacity p)
@@ -121,16 +121,16 @@ module _ (p : Params) (h : Ranged p) (v : View) (m : Memory) (ss : List Send) (n
       → stateOk p (m .state) ≡ true
       → CallOk p h (l .g) v (resetPlan p m z) ss ss n
   unfolding resetPlan
-  reset-ok z zl full dead ok = record {
+  reset-call-ok z zl full dead ok = record {
     sound = follow .sound;
     done = live-after p h v st fl (m .addresses) ss n l (resetStores p z) (follow .sound) (l .g) (l .a) (l .c) (l .M) (l .T) st fl (m .addresses) ss (later-same (l .g))
         (go-view (parOf p h) σ (l .g) (applyAll (itemsIn p v) (resets z 0 (p .N))) u (l .a) (l .c) (run (l .M)) (l .T) (l .T) (sym items)
         (go-step (parOf p h) σ (mst (l .g) (applyAll (itemsIn p v) (resets z 0 (p .N))) (l .a) (l .c) (run (l .M))) (l .T) (reset-done σ (l .M) z refl silent apart)))
-        (emptied-rel p h (l .g) (itemsIn p v) u st fl (l .M) (I .mode) (l .rel)
-        (λ o e. ap (λ (x : m-View). x e (l .M .zone)) items ∙ resets-other (itemsIn p v) z 0 (p .N) e (l .M .zone) (apart o)))
+        (emptied-rel p h (l .g) (itemsIn p v) u st fl (l .M) (inv-reclaim .mode) (l .rel)
+        (λ o e. ap (λ (x : ItemView). x e (l .M .zone)) items ∙ resets-other (itemsIn p v) z 0 (p .N) e (l .M .zone) (apart o)))
         (l .reached .logged) (l .waits) (l .reached .marked) (l .reached .still)
         (table-left p h v st fl (m .addresses) ss n l ok z dead u facts-u
-        (λ e y b. ap (λ (x : m-View). x e y) items ∙ resets-other (itemsIn p v) z 0 (p .N) e y b));
+        (λ e y b. ap (λ (x : ItemView). x e y) items ∙ resets-other (itemsIn p v) z 0 (p .N) e y b));
     cut = λ k. live-cut p h v st fl (m .addresses) ss n l (resetStores p z) (follow .sound) k (l .g) (later-same (l .g))
         (go-view (parOf p h) σ (l .g) (applyAll (itemsIn p v) (take k (resets z 0 (p .N)))) (itemsIn p (storeAll storeView (take k (resetStores p z)) v)) (l .a) (l .c) off (l .T) (l .T)
         (sym (follows-cut p h v (resetStores p z) (resets z 0 (p .N)) k (l .reached .shape) follow))
@@ -140,7 +140,7 @@ module _ (p : Params) (h : Ranged p) (v : View) (m : Memory) (ss : List Send) (n
       follow : Follows p v (resetStores p z) (resets z 0 (p .N))
       follow = reset-follow p v z zl
 
-      u : m-View
+      u : ItemView
       u = itemsIn p (storeAll storeView (resetStores p z) v)
 
       items : u ≡ applyAll (itemsIn p v) (resets z 0 (p .N))
@@ -150,7 +150,7 @@ module _ (p : Params) (h : Ranged p) (v : View) (m : Memory) (ss : List Send) (n
       silent = quiet p h v st fl (m .addresses) ss n l ok z dead
 
       facts-u : Facts (parOf p h) (l .g) u
-      facts-u = subst (Facts (parOf p h) (l .g)) (sym items) (reclaimed-end (parOf p h) (l .g) z (I .mode .none) (I .mode .no-pair) (itemsIn p v) (I .facts) silent)
+      facts-u = subst (Facts (parOf p h) (l .g)) (sym items) (reclaimed-end (parOf p h) (l .g) z (inv-reclaim .mode .none) (inv-reclaim .mode .no-pair) (itemsIn p v) (inv-reclaim .facts) silent)
 
       apart : l .M .is-open ≡ true → l .M .zone ≢ z
       apart = open-unsealed p h v st fl (m .addresses) ss n l ok z zl full
@@ -164,8 +164,8 @@ module _ (p : Params) (h : Ranged p) (v : View) (m : Memory) (ss : List Send) (n
     none? : None (parOf p h) (l .g .un)
     none? = live-none p h v st fl (m .addresses) ss n l
 
-    found : (a : ℕ) × Entry p h (l .g) (itemsIn p v) q a
-    found =
+    copied-entry : (a : ℕ) × Entry p h (l .g) (itemsIn p v) q a
+    copied-entry =
         let a : (a : ℕ) × (a < p .L) × (placeAt (m .addresses) a ≡ q) × (q ≢ neverPlace) = place-has p (m .addresses) q held? in
         ⊎-elim (λ (w : (placeAt (m .addresses) (a .0) ≡ neverPlace) × (l .g .base (a .0) ≡ 0)). absurd (a .3 (sym (a .2) ∙ w .0)))
         (λ (w : Entry p h (l .g) (itemsIn p v) (placeAt (m .addresses) (a .0)) (a .0)). (a .0, subst (λ (x : ℕ). Entry p h (l .g) (itemsIn p v) x (a .0)) (a .2) w)) (l .table (a .0) (a .1))
@@ -178,11 +178,12 @@ module _ (p : Params) (h : Ranged p) (v : View) (m : Memory) (ss : List Send) (n
     r = recordAt p v 0 (placeDrive p q) (placeSegment p q) (placeBlock p q - 1)
 
     bl : length b ≡ p .B
-    bl = entry-long p h (l .g) v k none? q (found .0) (found .1)
+    bl = entry-long p h (l .g) v k none? q (copied-entry .0) (copied-entry .1)
 
-    counts : Counted (parOf p h) (l .g .hd) (itemsIn p v) (l .g .un) (valueOf b r)
+    copied-counts : Counted (parOf p h) (l .g .hd) (itemsIn p v) (l .g .un) (valueOf b r)
     unfolding placeSegment
-    counts = subst (λ (x : Val). Counted (parOf p h) (l .g .hd) (itemsIn p v) (l .g .un) x) (sym (entry-value p h (l .g) v k none? q (found .0) (found .1))) (found .1 .counts)
+    copied-counts =
+        subst (λ (x : Val). Counted (parOf p h) (l .g .hd) (itemsIn p v) (l .g .un) x) (sym (entry-value p h (l .g) v k none? q (copied-entry .0) (copied-entry .1))) (copied-entry .1 .counts)
 
     abbrev i : ℕ
     i = slotFor p (m .state)
@@ -197,11 +198,11 @@ module _ (p : Params) (h : Ranged p) (v : View) (m : Memory) (ss : List Send) (n
     aim = target p h (l .g) v (l .a) (l .c) (m .state) (m .inflight) (l .M) (l .rel) (live-inv p h v (m .state) (m .inflight) (m .addresses) ss n l)
         (live-drives p h v (m .state) (m .inflight) (m .addresses) ss n l) A
 
-    I₂ : Inv (parOf p h) (mst (aim .g′) (itemsIn p v₂) (l .a) (l .c) (run (aim .M₂)))
-    I₂ = go-inv (parOf p h) σ (mst (aim .g′) (itemsIn p v₂) (l .a) (l .c) (run (aim .M₂))) noTrack noTrack (aim .go noTrack) I
+    inv-aimed-copy : Inv (parOf p h) (mst (aim .g′) (itemsIn p v₂) (l .a) (l .c) (run (aim .M₂)))
+    inv-aimed-copy = go-inv (parOf p h) σ (mst (aim .g′) (itemsIn p v₂) (l .a) (l .c) (run (aim .M₂))) noTrack noTrack (aim .go noTrack) inv-reclaim
 
     abbrev Mt : Mem
-    Mt = takenMem p h (aim .g′) (itemsIn p v₂) (l .a) (l .c) st₂ fl (aim .M₂) (aim .U) (aim .rel) I₂ fits i (aim .low) (aim .used?) (aim .room) (r .address) (r .stamp) 0 b bl
+    Mt = takenMem p h (aim .g′) (itemsIn p v₂) (l .a) (l .c) st₂ fl (aim .M₂) (aim .U) (aim .rel) inv-aimed-copy fits i (aim .low) (aim .used?) (aim .room) (r .address) (r .stamp) 0 b bl
 
     same-value : valueOf b r ≡ valueOf b (mkRec (r .address) (r .stamp) (stripeIn st₂ i))
     unfolding valueOf
@@ -216,12 +217,13 @@ module _ (p : Params) (h : Ranged p) (v : View) (m : Memory) (ss : List Send) (n
           (placed p st₂ fl i (r .address) (r .stamp) 0 b .state) (placed p st₂ fl i (r .address) (r .stamp) 0 b .inflight) (m .addresses) ss
           (aim .later)
           (go-then (parOf p h) σ (mst (aim .g′) (itemsIn p v₂) (l .a) (l .c) (run (aim .M₂))) (mst (aim .g′) (itemsIn p v₂) (l .a) (l .c) (run Mt)) (l .T) (l .T) (l .T) (aim .go (l .T))
-          (copied-go p h (aim .g′) (itemsIn p v₂) (l .a) (l .c) st₂ fl (aim .M₂) (aim .U) (aim .rel) I₂ fits i (aim .low) (aim .used?) (aim .room) (r .address) (r .stamp) 0 b bl (l .T)
-          (subst (λ (y : Val). Counted (parOf p h) (aim .g′ .hd) (itemsIn p v₂) (aim .g′ .un) y) same-value (aim .counts (valueOf b r) counts .0))))
-          (taken-rel p h (aim .g′) (itemsIn p v₂) (l .a) (l .c) st₂ fl (aim .M₂) (aim .U) (aim .rel) I₂ fits i (aim .low) (aim .used?) (aim .room) (r .address) (r .stamp) 0 b bl (aim .cover))
+          (copied-go p h (aim .g′) (itemsIn p v₂) (l .a) (l .c) st₂ fl (aim .M₂) (aim .U) (aim .rel) inv-aimed-copy fits i (aim .low) (aim .used?) (aim .room) (r .address) (r .stamp) 0 b bl (l .T)
+          (subst (λ (y : Val). Counted (parOf p h) (aim .g′ .hd) (itemsIn p v₂) (aim .g′ .un) y) same-value (aim .counts (valueOf b r) copied-counts .0))))
+          (taken-rel p h (aim .g′) (itemsIn p v₂) (l .a) (l .c) st₂ fl (aim .M₂) (aim .U) (aim .rel) inv-aimed-copy fits i (aim .low) (aim .used?) (aim .room) (r .address) (r .stamp) 0 b bl
+          (aim .cover))
           (l .reached .logged)
           (λ j x y. let w : Waiting p st (l .M) (l .T .log j) (sendAt ss j .stripe) × InV (l .T .log j) (l .g .sent) × (l .T .pos (l .T .log j .stamp) ≡ j) = l .waits j x y in (
-            taken-waits p h (aim .g′) (itemsIn p v₂) (l .a) (l .c) st₂ fl (aim .M₂) (aim .U) (aim .rel) I₂ fits i (aim .low) (aim .used?) (aim .room)
+            taken-waits p h (aim .g′) (itemsIn p v₂) (l .a) (l .c) st₂ fl (aim .M₂) (aim .U) (aim .rel) inv-aimed-copy fits i (aim .low) (aim .used?) (aim .room)
                 (r .address) (r .stamp) 0 b bl (aim .cover) (inl refl)
                 (l .T .log j) (sendAt ss j .stripe) (aim .waits (l .T .log j) (sendAt ss j .stripe) (w .0)),
             subst (λ (z : List Val). InV (l .T .log j) z) (sym (aim .sent)) (w .1),
@@ -268,7 +270,7 @@ module _ (p : Params) (h : Ranged p) (v : View) (m : Memory) (ss : List Send) (n
               (sym (cond-true (isNil (victimLive (some w))) (resetPlan p m (victimSegment (some w)))
               (copyPlan p v m (firstOr 0 (idle p v st (some w)))) t))
               (subst (λ (z : ℕ). CallOk p h (l .g) v (resetPlan p m z) ss ss n) (sym seg)
-              (reset-ok (w .segment) (vi .low) (vi .sealed) (sym (vi .live) ∙ sym alive ∙ nil-is (victimLive (some w)) t) (q .state-fine)))
+              (reset-call-ok (w .segment) (vi .low) (vi .sealed) (sym (vi .live) ∙ sym alive ∙ nil-is (victimLive (some w)) t) (q .state-fine)))
           pick? (no! t) =
               subst (λ (y : Plan). CallOk p h (l .g) v y ss ss n)
               (sym (cond-false (isNil (victimLive (some w))) (resetPlan p m (victimSegment (some w)))

@@ -21,7 +21,7 @@ use Rattle.law_basic.specs.Ranges.{map-below-same, map-map}
 use Rattle.proof_crash_machine.specs.Facts.{Off}
 use Rattle.proof_crash_machine.specs.Memory.{Mem}
 use Rattle.proof_crash_machine.specs.Val.{Val, pads}
-use Rattle.proof_crash_machine.specs.View.{Item, View as m-View, In}
+use Rattle.proof_crash_machine.specs.View.{Item, ItemView, InI}
 use Rattle.proof_crash_machine.specs.View.Item.{chunk}
 use Rattle.proof_crash_items.specs.Items.{valueOf}
 use Rattle.proof_crash_items.specs.Ranges.{parity-on}
@@ -43,16 +43,16 @@ pub record SlotRel (p : Params) (W : ℕ → List Item) (B : ℕ → List ℕ) (
   pub may : (d : ℕ) → d < p .N → r d ≡ readyAt p s k d
   -- a landed bit is set just where the chunk is
   pub on : (d : ℕ) → d < p .N → isIn m d ≡ true → Off (W d) (suc (O d)) (chunk s (G d))
-  pub out : (d : ℕ) → d < p .N → isIn m d ≡ false → (x : Val) → In (chunk s x) (W d) → ⊥
+  pub out : (d : ℕ) → d < p .N → isIn m d ≡ false → (x : Val) → InI (chunk s x) (W d) → ⊥
 
 -- the eighth i of a state
-abbrev pub SlotOf : Params → m-View → State → List ℕ → ℕ → ℕ → (ℕ → Val) → (ℕ → Bool) → Type 0
+abbrev pub SlotOf : Params → ItemView → State → List ℕ → ℕ → ℕ → (ℕ → Val) → (ℕ → Bool) → Type 0
 SlotOf p v st fl z i G r = SlotRel p (λ d. v d z) (slotBlock p fl i) (entryIn st i) (offsetIn st i) (stripeIn st i) (filledIn st i) (landedIn st i) G r
 
 -- what changes nothing in an eighth
 pub slot-keep : (p : Params) → Ranged p → (W W′ : ℕ → List Item) (B B′ : ℕ → List ℕ) (E E′ : ℕ → Rec) (O O′ : ℕ → ℕ) (s s′ k k′ m m′ : ℕ) (G : ℕ → Val) (r : ℕ → Bool)
     → s′ ≡ s → k′ ≡ k → m′ ≡ m → ((d : ℕ) → d < p .N → B′ d ≡ B d) → ((j : ℕ) → j < 8 → E′ j ≡ E j) → ((d : ℕ) → d < 8 → O′ d ≡ O d)
-    → ((d j : ℕ) (i : Item) → d < p .N → Off (W d) j i → Off (W′ d) j i) → ((d : ℕ) (x : Val) → d < p .N → In (chunk s x) (W′ d) → In (chunk s x) (W d))
+    → ((d j : ℕ) (i : Item) → d < p .N → Off (W d) j i → Off (W′ d) j i) → ((d : ℕ) (x : Val) → d < p .N → InI (chunk s x) (W′ d) → InI (chunk s x) (W d))
     → SlotRel p W B E O s k m G r → SlotRel p W′ B′ E′ O′ s′ k′ m′ G r
 slot-keep p h W W′ B B′ E E′ O O′ s s′ k k′ m m′ G r es ek em eb ee eo fwd back a = rw (es, ek, em) (record {
   most = a .most;
@@ -73,7 +73,7 @@ slot-keep p h W W′ B B′ E E′ O O′ s s′ k k′ m m′ G r es ek em eb e
 -- ---- the state
 
 -- lengths of the state's lists
-pub record Long (st : State) : Type 0 where
+pub record RowsLong (st : State) : Type 0 where
   pub numbers : length (st .numbers) ≡ 8
   pub filled : length (st .filled) ≡ 8
   pub writes : length (st .writes) ≡ 8
@@ -99,8 +99,8 @@ unfolding inUse
 free-unused st i e = ap not e
 
 -- the stripes in flight are those of the eighths in U
-pub record RelOn (p : Params) (v : m-View) (st : State) (fl : List ℕ) (M : Mem) (U : ℕ → Bool) : Type 0 where
-  pub long : Long st
+pub record RelOn (p : Params) (v : ItemView) (st : State) (fl : List ℕ) (M : Mem) (U : ℕ → Bool) : Type 0 where
+  pub long : RowsLong st
   pub healthy : st .missing ≡ 0
   pub is-open : M .is-open ≡ not (eqb (st .opened) 0)
   pub zone : M .is-open ≡ true → st .opened ≡ suc (M .zone)
@@ -115,16 +115,16 @@ pub record RelOn (p : Params) (v : m-View) (st : State) (fl : List ℕ) (M : Mem
   pub once : (i j : ℕ) → i < 8 → j < 8 → U i ≡ true → U j ≡ true → stripeIn st i ≡ stripeIn st j → i ≡ j
   pub flies : (s : ℕ) → M .fly s ≡ true → (i : ℕ) × (i < 8) × (U i ≡ true) × (stripeIn st i ≡ s)
   -- begun and not in flight: on all drives
-  pub whole : M .is-open ≡ true → (s : ℕ) → s < M .next → M .fly s ≡ false → (d : ℕ) → d < p .N → (x : Val) × In (chunk s x) (v d (M .zone))
+  pub whole : M .is-open ≡ true → (s : ℕ) → s < M .next → M .fly s ≡ false → (d : ℕ) → d < p .N → (x : Val) × InI (chunk s x) (v d (M .zone))
   -- all stripes begun: some in flight
   pub busy : M .is-open ≡ true → M .next ≡ p .S → (s : ℕ) × (M .fly s ≡ true)
 
 -- between calls
-abbrev pub Rel : Params → m-View → State → List ℕ → Mem → Type 0
+abbrev pub Rel : Params → ItemView → State → List ℕ → Mem → Type 0
 Rel p v st fl M = RelOn p v st fl M (inUse st)
 
 -- the same eighths
-pub rel-on : (p : Params) (v : m-View) (st : State) (fl : List ℕ) (M : Mem) (U U′ : ℕ → Bool) → ((i : ℕ) → i < 8 → U i ≡ U′ i) → RelOn p v st fl M U → RelOn p v st fl M U′
+pub rel-on : (p : Params) (v : ItemView) (st : State) (fl : List ℕ) (M : Mem) (U U′ : ℕ → Bool) → ((i : ℕ) → i < 8 → U i ≡ U′ i) → RelOn p v st fl M U → RelOn p v st fl M U′
 rel-on p v st fl M U U′ e a = record {
   long = a .long;
   healthy = a .healthy;

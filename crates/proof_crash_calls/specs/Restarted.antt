@@ -17,16 +17,16 @@ use Rattle.law_basic.specs.Mask.{isIn-empty}
 use Rattle.proof_crash_machine.specs.Facts.{Ghost, None}
 use Rattle.proof_crash_machine.specs.Val.{Val}
 use Rattle.proof_crash_machine.specs.View.Item.{chunk}
-use Rattle.proof_crash_machine.specs.View.{In}
+use Rattle.proof_crash_machine.specs.View.{InI}
 use Rattle.proof_crash_items.specs.Items.{itemsIn}
 use Rattle.proof_crash_items.specs.Member.{Has, map-has, greatest-some}
 use Rattle.proof_crash_items.specs.Named.{zero-choice}
-use Rattle.proof_crash_items.specs.SegFacts.{begun-on, serial-is}
+use Rattle.proof_crash_items.specs.SegFacts.{begun-on, serial-ghost}
 use Rattle.proof_crash_items.specs.Segs.{OnDrives, zone-bytes, head-serials, remaining-has}
 use Rattle.proof_crash_items.specs.Stripes.{pointer-is}
 use Rattle.proof_crash_items.specs.ZoneBytes.{blockIn}
 use Rattle.proof_crash_items.specs.Ranges.{parOf}
-use Rattle.proof_crash_calls.specs.Places.{stamp-low}
+use Rattle.proof_crash_calls.specs.Places.{cand-stamp-low}
 
 module _ (p : Params) (h : Ranged p) (g : Ghost) (v : View) (k : OnDrives p h g v) (none? : None (parOf p h) (g .un)) where
   -- ---- stamps and serials take 8 bytes
@@ -37,7 +37,7 @@ module _ (p : Params) (h : Ranged p) (g : Ghost) (v : View) (k : OnDrives p h g 
       (λ (i : Has (greatest (map (λ (x : Cand). x .stamp) (candidates p 0 (segments p v 0)))) (map (λ (x : Cand). x .stamp) (candidates p 0 (segments p v 0)))).
       let x : (x : Cand) × Has x (candidates p 0 (segments p v 0)) × (greatest (map (λ (x : Cand). x .stamp) (candidates p 0 (segments p v 0))) ≡ x .stamp) =
       map-has (λ (x : Cand). x .stamp) (greatest (map (λ (x : Cand). x .stamp) (candidates p 0 (segments p v 0)))) (candidates p 0 (segments p v 0)) i in
-      subst (λ (n : ℕ). n < 256 ^ 8) (sym (x .2)) (stamp-low p h g v k none? (x .0) (x .1)))
+      subst (λ (n : ℕ). n < 256 ^ 8) (sym (x .2)) (cand-stamp-low p h g v k none? (x .0) (x .1)))
       (greatest-some (map (λ (x : Cand). x .stamp) (candidates p 0 (segments p v 0))))
 
   one-fits : (z : ℕ) → Has z (remaining p v 0) → segmentOf p v 0 z .serial < 256 ^ 8
@@ -48,7 +48,7 @@ module _ (p : Params) (h : Ranged p) (g : Ghost) (v : View) (k : OnDrives p h g 
       let b : 0 < pointerAt v 0 z = begun-on p h g v k 0 (zero-choice p h (g .un) none?) z i 0 d0 (isIn-empty 0) in
       let e : headerSerial (headerAt v 0 z) ≡ g .hd .ser z = head-serials p h g v k 0 z d0 t zb b .0 in
       let q : headerSerial (headerAt v 0 z) < 256 ^ 8 = low? z (zone-bytes p h g v k 0 z d0 t zb .serials (subst (λ (x : ℕ). 0 < x) (sym (pointer-is v 0 z)) b) .0) in
-      subst (λ (x : ℕ). x < 256 ^ 8) (e ∙ sym (serial-is p h g v k 0 (zero-choice p h (g .un) none?) z i)) q
+      subst (λ (x : ℕ). x < 256 ^ 8) (e ∙ sym (serial-ghost p h g v k 0 (zero-choice p h (g .un) none?) z i)) q
     where
       low? : (z : ℕ) → headerSerial (blockIn (zoneAt v 0 z) 0 .block) < 256 ^ 8 → headerSerial (headerAt v 0 z) < 256 ^ 8
       low? z l = unfold headerAt chunkAt zoneOn in l
@@ -71,4 +71,4 @@ module _ (p : Params) (h : Ranged p) (g : Ghost) (v : View) (k : OnDrives p h g 
 pub record Finds (p : Params) (v : View) (b : Bool) (z n : ℕ) : Type 0 where
   pub is : ((b ≡ true) × (openOf (unsealed (segments p v 0)) ≡ suc z) × (nextOf p (unsealed (segments p v 0)) ≡ n)) ⊎ ((b ≡ false) × (openOf (unsealed (segments p v 0)) ≡ 0))
   pub less : b ≡ true → n < p .S
-  pub full : b ≡ true → (s : ℕ) → s < n → (d : ℕ) → d < p .N → (x : Val) × In (chunk s x) (itemsIn p v d z)
+  pub full : b ≡ true → (s : ℕ) → s < n → (d : ℕ) → d < p .N → (x : Val) × InI (chunk s x) (itemsIn p v d z)

@@ -20,15 +20,15 @@ use Rattle.proof_crash_machine.specs.Memory2.{restMem}
 use Rattle.proof_crash_machine.specs.Order.{Track}
 use Rattle.proof_crash_machine.specs.Val.{Val}
 use Rattle.proof_crash_machine.specs.View.Item.{chunk}
-use Rattle.proof_crash_machine.specs.View.{View as m-View, In}
+use Rattle.proof_crash_machine.specs.View.{ItemView, InI}
 use Rattle.proof_crash_machine.specs.History.Mode.{run}
 use Rattle.proof_crash_items.specs.Items.{itemsIn}
 use Rattle.proof_crash_items.specs.RestMem.{idle-filled}
 use Rattle.proof_crash_calls.specs.Held.{TableOk}
 use Rattle.proof_crash_calls.specs.Live.{Reached, Live}
-use Rattle.proof_crash_calls.specs.Rel.{Long, inUse, used-filled, Rel}
+use Rattle.proof_crash_calls.specs.Rel.{RowsLong, inUse, used-filled, Rel}
 
-idle-long : (live gone t sr opened next : ℕ) → Long (idleState live gone t sr opened next)
+idle-long : (live gone t sr opened next : ℕ) → RowsLong (idleState live gone t sr opened next)
 unfolding idleState
 idle-long live gone t sr opened next = record {
   numbers = length-replicate {A = ℕ} 8 0;
@@ -45,9 +45,9 @@ idle-unused live gone t sr opened next i = not-so (inUse (idleState live gone t 
     (λ q. let z : ⊥ = omega (arith, used-filled (idleState live gone t sr opened next) i q, idle-filled live gone t sr opened next i) in z)
 
 -- the state of a healthy restart, and the machine's memory: the open segment, if there is one, has the stripes below next on all drives, and not all S
-pub rest-rel : (p : Params) (v : m-View) (fl : List ℕ) (live t sr opened next : ℕ) (b : Bool) (z k : ℕ) → t < 256 ^ 8 → sr < 256 ^ 8
+pub rest-rel : (p : Params) (v : ItemView) (fl : List ℕ) (live t sr opened next : ℕ) (b : Bool) (z k : ℕ) → t < 256 ^ 8 → sr < 256 ^ 8
     → b ≡ not (eqb opened 0) → (b ≡ true → opened ≡ suc z) → (b ≡ true → k ≡ next) → (b ≡ true → k ≢ p .S)
-    → (b ≡ true → (s : ℕ) → s < k → (d : ℕ) → d < p .N → (x : Val) × In (chunk s x) (v d z)) → Rel p v (idleState live 0 t sr opened next) fl (restMem b z k t sr)
+    → (b ≡ true → (s : ℕ) → s < k → (d : ℕ) → d < p .N → (x : Val) × InI (chunk s x) (v d z)) → Rel p v (idleState live 0 t sr opened next) fl (restMem b z k t sr)
 rest-rel p v fl live t sr opened next b z k tl sl eb ez ek few whole = record {
   long = idle-long live 0 t sr opened next;
   healthy = unfold idleState in refl;

@@ -19,7 +19,7 @@ use Rattle.law_basic.specs.Geometry.{Ranged}
 use Rattle.law_basic.specs.Stores.{storeAll-append}
 use Rattle.law_views.specs.Views.{Fits}
 use Rattle.law_drives.specs.Counting.{pigeon}
-use Rattle.proof_crash_machine.specs.Facts.{Par, Ghost, Off, Zone as m-Zone}
+use Rattle.proof_crash_machine.specs.Facts.{Par, Ghost, Off, ZoneItems}
 use Rattle.proof_crash_machine.specs.History.{State as m-State}
 use Rattle.proof_crash_machine.specs.History.Mode.{run}
 use Rattle.proof_crash_machine.specs.History.Step.{footer as m-footer}
@@ -28,12 +28,12 @@ use Rattle.proof_crash_machine.specs.Order.{Track}
 use Rattle.proof_crash_machine.specs.Put.{in-fwd}
 use Rattle.proof_crash_machine.specs.Rebuild.{in-off}
 use Rattle.proof_crash_machine.specs.Val.{Val}
-use Rattle.proof_crash_machine.specs.View.{Item, View as m-View, after, apply, In, chunk-num, chunk-hdr}
+use Rattle.proof_crash_machine.specs.View.{Item, ItemView, withItem, apply, InI, chunk-num, chunk-hdr}
 use Rattle.proof_crash_machine.specs.View.Item.{chunk, foot}
-use Rattle.proof_crash_machine.specs.View.Store.{put as m-put}
+use Rattle.proof_crash_machine.specs.View.ItemStore.{put as m-put}
 use Rattle.proof_crash_items.specs.Items.{itemAt, itemsOf, itemsIn, items-in, item-foot, length-of, storeItem, items-store}
 use Rattle.proof_crash_items.specs.Ranges.{parOf}
-use Rattle.proof_crash_items.specs.Shape.{Shape, zone-set, zone-set-other, shape-store}
+use Rattle.proof_crash_items.specs.Shape.{Shape, zone-set-at, zone-set-else, shape-store}
 use Rattle.proof_crash_items.specs.Sound.{Sound, sound-fits}
 use Rattle.proof_crash_items.specs.ZoneBytes.{sparesIn, Kind}
 use Rattle.proof_crash_items.specs.ZoneBytes.Kind.{footer}
@@ -52,43 +52,43 @@ abbrev pub chosen : (n : ℕ) → ((s : ℕ) → s < n → ℕ) → (s : ℕ) �
 chosen n f s (yes b) = f s b
 chosen n f s (no b) = 0
 
-module _ (P : Par) (g : Ghost) (d z : ℕ) (l : List Item) (f : m-Zone P g d z l) (begun : 0 < length l) (on : (s : ℕ) → s < P .S → (x : Val) × In (chunk s x) l) where
-  past : (s : ℕ) (x : Val) (k : ℕ) → Off l k (chunk s x) → (k : ℕ) × Off l (suc k) (chunk s x)
-  past s x zero o = absurd (chunk-hdr (sym (o .1) ∙ f .head begun))
-  past s x (suc k) o = (k, o)
+module _ (P : Par) (g : Ghost) (d z : ℕ) (l : List Item) (f : ZoneItems P g d z l) (begun : 0 < length l) (on : (s : ℕ) → s < P .S → (x : Val) × InI (chunk s x) l) where
+  past-header : (s : ℕ) (x : Val) (k : ℕ) → Off l k (chunk s x) → (k : ℕ) × Off l (suc k) (chunk s x)
+  past-header s x zero o = absurd (chunk-hdr (sym (o .1) ∙ f .head begun))
+  past-header s x (suc k) o = (k, o)
 
-  find : (s : ℕ) (b : s < P .S) → (k : ℕ) × Off l (suc k) (chunk s (on s b .0))
-  find s b = let o : (k : ℕ) × Off l k (chunk s (on s b .0)) = in-off (chunk s (on s b .0)) l (on s b .1) in past s (on s b .0) (o .0) (o .1)
+  find-chunk : (s : ℕ) (b : s < P .S) → (k : ℕ) × Off l (suc k) (chunk s (on s b .0))
+  find-chunk s b = let o : (k : ℕ) × Off l k (chunk s (on s b .0)) = in-off (chunk s (on s b .0)) l (on s b .1) in past-header s (on s b .0) (o .0) (o .1)
 
   abbrev at : ℕ → ℕ
-  at s = chosen (P .S) (λ s b. find s b .0) s (decLt s (P .S))
+  at s = chosen (P .S) (λ s b. find-chunk s b .0) s (decLt s (P .S))
 
-  is : (s : ℕ) → s < P .S → (x : Val) × Off l (suc (at s)) (chunk s x)
-  is s b = go (decLt s (P .S))
+  stripe-offset : (s : ℕ) → s < P .S → (x : Val) × Off l (suc (at s)) (chunk s x)
+  stripe-offset s b = go (decLt s (P .S))
     where
-      go : (q : Dec (s < P .S)) → (x : Val) × Off l (suc (chosen (P .S) (λ s b. find s b .0) s q)) (chunk s x)
-      go (yes k) = (on s k .0, find s k .1)
+      go : (q : Dec (s < P .S)) → (x : Val) × Off l (suc (chosen (P .S) (λ s b. find-chunk s b .0) s q)) (chunk s x)
+      go (yes k) = (on s k .0, find-chunk s k .1)
       go (no k) = absurd (k b)
 
   pub all-stripes : P .S < length l
   all-stripes = omega (
     arith,
     begun,
-    pigeon (P .S) (length l - 1) at (λ s b. omega (arith, is s b .1 .0))
-        (λ s t a b e. chunk-num (sym (is s a .1 .1) ∙ ap (λ (k : ℕ). getD l (suc k) (foot 0)) e ∙ is t b .1 .1)),
+    pigeon (P .S) (length l - 1) at (λ s b. omega (arith, stripe-offset s b .1 .0))
+        (λ s t a b e. chunk-num (sym (stripe-offset s a .1 .1) ∙ ap (λ (k : ℕ). getD l (suc k) (foot 0)) e ∙ stripe-offset t b .1 .1)),
   )
 
 -- ---- the footers
 
 module _ (p : Params) (h : Ranged p) (z : ℕ) (zl : z < p .Z) (u₀ : View) (at₀ : (x : ℕ) → x < p .N → pointerAt u₀ x z ≡ suc (p .S))
-    (on₀ : (x : ℕ) → x < p .N → (s : ℕ) → s < p .S → (y : Val) × In (chunk s y) (itemsIn p u₀ x z)) where
+    (on₀ : (x : ℕ) → x < p .N → (s : ℕ) → s < p .S → (y : Val) × InI (chunk s y) (itemsIn p u₀ x z)) where
   -- drives below e have their footers, e has j of them, the others are as in u₀
   pub record Footed (e j : ℕ) (u : View) : Type 0 where
     pub shape : Shape p u
     pub done : (x : ℕ) → x < e → pointerAt u x z ≡ capacity p
     pub to : e < p .N → pointerAt u e z ≡ suc (p .S + j)
     pub spares : e < p .N → sparesIn p (zoneAt u e z) ≡ sparesIn p (zoneAt u₀ e z)
-    pub has : e < p .N → (s : ℕ) → s < p .S → (y : Val) × In (chunk s y) (itemsIn p u e z)
+    pub has : e < p .N → (s : ℕ) → s < p .S → (y : Val) × InI (chunk s y) (itemsIn p u e z)
     pub later : (x : ℕ) → e < x → x < p .N → zoneAt u x z ≡ zoneAt u₀ x z
     pub grew : Grown (parOf p h) (itemsIn p u₀) (itemsIn p u)
 
@@ -114,7 +114,7 @@ module _ (p : Params) (h : Ranged p) (z : ℕ) (zl : z < p .Z) (u₀ : View) (at
     to = λ l. next-ptr l ∙ (let k : suc (p .S) ≡ suc (p .S + 0) = omega arith in k);
     spares = λ l. ap (sparesIn p) (f .later (suc e) (omega arith) l);
     has =
-        λ l s b. subst (λ (x : List Item). (y : Val) × In (chunk s y) x)
+        λ l s b. subst (λ (x : List Item). (y : Val) × InI (chunk s y) x)
         (sym (items-in p u (suc e) z ∙ ap (itemsOf p) (f .later (suc e) (omega arith) l) ∙ sym (items-in p u₀ (suc e) z))) (on₀ (suc e) l s b);
     later = λ x a l. f .later x (omega arith) l;
     grew = f .grew;
@@ -141,11 +141,11 @@ module _ (p : Params) (h : Ranged p) (z : ℕ) (zl : z < p .Z) (u₀ : View) (at
       ptr : q .pointer ≡ suc (p .S + j)
       ptr = unfold pointerAt in f .to el
 
-      foot-kind : Kind p e z (zoneAt u e z) (footerBlock p (sparesIn p (zoneAt u₀ e z)) j) zeroSpare
-      foot-kind = subst (λ (ss : List (List ℕ)). Kind p e z (zoneAt u e z) (footerBlock p ss j) zeroSpare) (f .spares el) (footer j ptr jl)
+      seal-foot-kind : Kind p e z (zoneAt u e z) (footerBlock p (sparesIn p (zoneAt u₀ e z)) j) zeroSpare
+      seal-foot-kind = subst (λ (ss : List (List ℕ)). Kind p e z (zoneAt u e z) (footerBlock p ss j) zeroSpare) (f .spares el) (footer j ptr jl)
 
       pub foot-sound : Sound p u (footPut e j)
-      foot-sound = (el, zl, foot-kind)
+      foot-sound = (el, zl, seal-foot-kind)
 
       fits : Fits p u (footPut e j)
       fits = sound-fits p h u (footPut e j) (f .shape) foot-sound
@@ -153,41 +153,41 @@ module _ (p : Params) (h : Ranged p) (z : ℕ) (zl : z < p .Z) (u₀ : View) (at
       foot-low : q .pointer ≤ length (q .blocks)
       foot-low = unfold capacity in omega (arith, ptr, jl, f .shape .blocks e z el zl)
 
-      len : length (itemsIn p u e z) ≡ suc (p .S + j)
-      len = ap length (items-in p u e z) ∙ length-of p (zoneAt u e z) foot-low ∙ ptr
+      seal-length : length (itemsIn p u e z) ≡ suc (p .S + j)
+      seal-length = ap length (items-in p u e z) ∙ length-of p (zoneAt u e z) foot-low ∙ ptr
 
-      item-is : storeItem p u (footPut e j) ≡ m-put e z (foot j)
-      item-is = (unfold storeItem pointerAt in ap (m-put e z) at)
+      foot-item : storeItem p u (footPut e j) ≡ m-put e z (foot j)
+      foot-item = (unfold storeItem pointerAt in ap (m-put e z) at)
         where
           at : itemAt p (zoneAt u e z .pointer) (mkChunk (footerBlock p (sparesIn p (zoneAt u₀ e z)) j) zeroSpare) ≡ foot j
           at = ap (λ (n : ℕ). itemAt p n (mkChunk (footerBlock p (sparesIn p (zoneAt u₀ e z)) j) zeroSpare)) ptr
               ∙ item-foot p (p .S + j) (mkChunk (footerBlock p (sparesIn p (zoneAt u₀ e z)) j) zeroSpare) (omega arith) ∙ ap foot (let k : p .S + j - p .S ≡ j = omega arith in k)
 
-      foot-items : itemsIn p (storeView (footPut e j) u) ≡ after (itemsIn p u) e z (foot j)
-      foot-items = items-store p u (footPut e j) (f .shape) fits ∙ ap (apply (itemsIn p u)) item-is ∙ (unfold apply in refl)
+      foot-items : itemsIn p (storeView (footPut e j) u) ≡ withItem (itemsIn p u) e z (foot j)
+      foot-items = items-store p u (footPut e j) (f .shape) fits ∙ ap (apply (itemsIn p u)) foot-item ∙ (unfold apply in refl)
 
       pub foot-go : (T : Track) → Go (parOf p h) (mst g (itemsIn p u) a c (run M)) (mst g (itemsIn p (storeView (footPut e j) u)) a c (run M)) T T
-      foot-go T = go-view (parOf p h) (σ u) g (after (itemsIn p u) e z (foot j)) (itemsIn p (storeView (footPut e j) u)) a c (run M) T T (sym foot-items)
-          (go-step (parOf p h) (σ u) (mst g (after (itemsIn p u) e z (foot j)) a c (run M)) T
-          (m-footer (σ u) M e z j refl el (omega (arith, len)) (unfold capacity in omega (arith, len, jl)) (f .has el)))
+      foot-go T = go-view (parOf p h) (σ u) g (withItem (itemsIn p u) e z (foot j)) (itemsIn p (storeView (footPut e j) u)) a c (run M) T T (sym foot-items)
+          (go-step (parOf p h) (σ u) (mst g (withItem (itemsIn p u) e z (foot j)) a c (run M)) T
+          (m-footer (σ u) M e z j refl el (omega (arith, seal-length)) (unfold capacity in omega (arith, seal-length, jl)) (f .has el)))
 
       now : zoneAt (storeView (footPut e j) u) e z ≡ putZone b zeroSpare q
-      now = unfold storeView in zone-set p u (f .shape) e z (putZone b zeroSpare (zoneAt u e z)) el zl
+      now = unfold storeView in zone-set-at p u (f .shape) e z (putZone b zeroSpare (zoneAt u e z)) el zl
 
-      other : (x : ℕ) → x ≢ e → zoneAt (storeView (footPut e j) u) x z ≡ zoneAt u x z
-      other x n = unfold storeView in zone-set-other p u (f .shape) e z (putZone b zeroSpare (zoneAt u e z)) el x z (inl n)
+      foot-zone-other : (x : ℕ) → x ≢ e → zoneAt (storeView (footPut e j) u) x z ≡ zoneAt u x z
+      foot-zone-other x n = unfold storeView in zone-set-else p u (f .shape) e z (putZone b zeroSpare (zoneAt u e z)) el x z (inl n)
 
       pub foot-next : Footed e (suc j) (storeView (footPut e j) u)
       foot-next = record {
         shape = shape-store p u (footPut e j) (f .shape) fits;
-        done = λ x l. unfold pointerAt in (ap (λ (y : Zone). y .pointer) (other x (let n : x ≢ e = omega arith in n)) ∙ (unfold pointerAt in f .done x l));
+        done = λ x l. unfold pointerAt in (ap (λ (y : Zone). y .pointer) (foot-zone-other x (let n : x ≢ e = omega arith in n)) ∙ (unfold pointerAt in f .done x l));
         to = λ l. unfold pointerAt in (ap (λ (y : Zone). y .pointer) now ∙ (unfold putZone in (ap suc ptr ∙ (let k : suc (suc (p .S + j)) ≡ suc (p .S + suc j) = omega arith in k))));
         spares = λ l. ap (sparesIn p) now ∙ spares-kept p q b zeroSpare j ptr ∙ f .spares l;
-        has = λ l s k. let w : (y : Val) × In (chunk s y) (itemsIn p u e z) = f .has l s k in
-            (w .0, subst (λ (x : m-View). In (chunk s (w .0)) (x e z)) (sym foot-items) (in-fwd (itemsIn p u) e z (foot j) (chunk s (w .0)) e z (w .1)));
-        later = λ x l k. other x (let n : x ≢ e = omega arith in n) ∙ f .later x l k;
+        has = λ l s k. let w : (y : Val) × InI (chunk s y) (itemsIn p u e z) = f .has l s k in
+            (w .0, subst (λ (x : ItemView). InI (chunk s (w .0)) (x e z)) (sym foot-items) (in-fwd (itemsIn p u) e z (foot j) (chunk s (w .0)) e z (w .1)));
+        later = λ x l k. foot-zone-other x (let n : x ≢ e = omega arith in n) ∙ f .later x l k;
         grew = grown-then (parOf p h) (itemsIn p u₀) (itemsIn p u) (itemsIn p (storeView (footPut e j) u)) (f .grew)
-            (subst (λ (x : m-View). Grown (parOf p h) (itemsIn p u) x) (sym foot-items) (grown-put (parOf p h) (itemsIn p u) e z (foot j) (omega (arith, len))));
+            (subst (λ (x : ItemView). Grown (parOf p h) (itemsIn p u) x) (sym foot-items) (grown-put (parOf p h) (itemsIn p u) e z (foot j) (omega (arith, seal-length))));
       }
 
     -- the footers of one drive

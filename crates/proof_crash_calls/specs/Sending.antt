@@ -23,7 +23,7 @@ use Rattle.law_basic.specs.Ranges.Test.{yes!, no! }
 use Rattle.law_calls.specs.Refusals.{next-low}
 use Rattle.law_drives.specs.Slots.{slot-found}
 use Rattle.law_drives.specs.Tests.{cond-true, cond-false, clash, not-so}
-use Rattle.proof_crash_machine.specs.Exec.{or-cases}
+use Rattle.proof_crash_machine.specs.Exec.{or-either}
 use Rattle.proof_crash_machine.specs.Facts.Pair.{alone}
 use Rattle.proof_crash_machine.specs.Facts.{Ghost, Counted, Off}
 use Rattle.proof_crash_machine.specs.History.Step.{begin as History·begin, lose}
@@ -236,15 +236,15 @@ module _ (p : Params) (h : Ranged p) (g : Ghost) (v : View) (a : List Val) (c : 
   free₁ : inUse st₁ i ≡ false
   free₁ = same-used st st₁ i (open-same st w (suc (M .serial)) i) ∙ idle i il
 
-  other : (e y : ℕ) → y ≢ w → itemsIn p v₁ e y ≡ itemsIn p v e y
-  other = open-other p h g v a c M on two shut? fits I
+  open-items-other : (e y : ℕ) → y ≢ w → itemsIn p v₁ e y ≡ itemsIn p v e y
+  open-items-other = open-other p h g v a c M on two shut? fits I
 
   -- w was empty
   used-apart : (e y j : ℕ) (t : Item) → e < p .N → Off (itemsIn p v e y) j t → y ≢ w
   used-apart e y j t l o q = let z : ⊥ = omega (arith, o .0, ap (λ (x : ℕ). length (itemsIn p v e x)) q, ap length (lowest-none p v two e l)) in z
 
-  counts : (x : Val) (q : Counted (parOf p h) (g .hd) (itemsIn p v) (g .un) x) → (c : Counted (parOf p h) (g₁ .hd) (itemsIn p v₁) (g₁ .un) x) × (c .z ≡ q .z)
-  counts x q = (counted-kept (parOf p h) g g₁ (itemsIn p v) (itemsIn p v₁) (inv₁ .facts) (inv₁ .mode .no-pair) refl x q (λ d l. other d (q .z) apart), refl)
+  opened-counts : (x : Val) (q : Counted (parOf p h) (g .hd) (itemsIn p v) (g .un) x) → (c : Counted (parOf p h) (g₁ .hd) (itemsIn p v₁) (g₁ .un) x) × (c .z ≡ q .z)
+  opened-counts x q = (counted-kept (parOf p h) g g₁ (itemsIn p v) (itemsIn p v₁) (inv₁ .facts) (inv₁ .mode .no-pair) refl x q (λ d l. open-items-other d (q .z) apart), refl)
     where
       apart : q .z ≢ w
       apart = let b : 0 < length (itemsIn p v 0 (q .z)) = q .rem .left 0 (omega (arith, h .drives-low)) (I .mode .none 0 (omega (arith, h .drives-low))) in
@@ -268,8 +268,8 @@ module _ (p : Params) (h : Ranged p) (g : Ghost) (v : View) (a : List Val) (c : 
     sent = refl;
     later = record { un = refl; last = refl; sent = λ x m. m };
     base = refl;
-    counts = counts;
-    kept = λ e y j t l o. subst (λ (x : List Item). Off x j t) (sym (other e y (used-apart e y j t l o))) o;
+    counts = opened-counts;
+    kept = λ e y j t l o. subst (λ (x : List Item). Off x j t) (sym (open-items-other e y (used-apart e y j t l o))) o;
     cut = λ n. (g₁, record { un = refl; last = refl; sent = λ x m. m }, open-cut-go p h g v a c M on two shut? fits n);
   }
 
@@ -279,9 +279,9 @@ module _ (p : Params) (h : Ranged p) (g : Ghost) (v : View) (a : List Val) (c : 
 unfoldable pub sendStores : Params → View → State → List Store
 sendStores p v st = cond (opens p st) (headerStores p (firstOr 0 (emptyZones p v)) (suc (st .serial .0)) 0) []
 
-stores-none : (p : Params) (v : View) (st : State) → opens p st ≡ false → sendStores p v st ≡ []
+no-opening-stores : (p : Params) (v : View) (st : State) → opens p st ≡ false → sendStores p v st ≡ []
 unfolding sendStores
-stores-none p v st e = cond-false (opens p st) (headerStores p (firstOr 0 (emptyZones p v)) (suc (st .serial .0)) 0) [] e
+no-opening-stores p v st e = cond-false (opens p st) (headerStores p (firstOr 0 (emptyZones p v)) (suc (st .serial .0)) 0) [] e
 
 stores-some : (p : Params) (v : View) (st : State) → opens p st ≡ true → sendStores p v st ≡ headerStores p (firstOr 0 (emptyZones p v)) (suc (st .serial .0)) 0
 unfolding sendStores
@@ -324,14 +324,14 @@ module _ (p : Params) (h : Ranged p) (g : Ghost) (v : View) (a : List Val) (c : 
     waits? = and-fails (not (hasFilling p st)) ((leb slotCount (length (inFlight st)) || (mustOpen p st && not (isNil (inFlight st)))) || (not (mustOpen p st) && any (otherGroup p st) (inFlight st)))
         (unfold mustWait in A .waits) (ap not not-filling)
 
-    few : (leb slotCount (length (inFlight st)) || (mustOpen p st && not (isNil (inFlight st)))) ≡ false
-    few = or-left (leb slotCount (length (inFlight st)) || (mustOpen p st && not (isNil (inFlight st)))) (not (mustOpen p st) && any (otherGroup p st) (inFlight st)) waits?
+    few-in-flight : (leb slotCount (length (inFlight st)) || (mustOpen p st && not (isNil (inFlight st)))) ≡ false
+    few-in-flight = or-left (leb slotCount (length (inFlight st)) || (mustOpen p st && not (isNil (inFlight st)))) (not (mustOpen p st) && any (otherGroup p st) (inFlight st)) waits?
 
     free : (freeSlot st < 8) × (inUse st (freeSlot st) ≡ false)
-    free = free-slot st (leb-false 8 (length (inFlight st)) (unfold slotCount in or-left (leb slotCount (length (inFlight st))) (mustOpen p st && not (isNil (inFlight st))) few))
+    free = free-slot st (leb-false 8 (length (inFlight st)) (unfold slotCount in or-left (leb slotCount (length (inFlight st))) (mustOpen p st && not (isNil (inFlight st))) few-in-flight))
 
-    begins : mustOpen p st ≡ false → Target p h g v a c st fl M [] (beginStripe st (freeSlot st)) (freeSlot st)
-    begins e = target-begin p h g v a c st fl M R I on o
+    target-begun : mustOpen p st ≡ false → Target p h g v a c st fl M [] (beginStripe st (freeSlot st)) (freeSlot st)
+    target-begun e = target-begin p h g v a c st fl M R I on o
         (omega (arith, R .next o, next-low p st (A .ok), eqb-false (st .next) (p .S) (or-r (eqb (st .opened) 0) (eqb (st .next) (p .S)) (unfold mustOpen in e)))) (freeSlot st) (free .0) (free .1)
       where
         o : M .is-open ≡ true
@@ -357,14 +357,14 @@ module _ (p : Params) (h : Ranged p) (g : Ghost) (v : View) (a : List Val) (c : 
         idle =
             none-flying st (not-false (isNil (inFlight st))
             (and-fails (mustOpen p st) (not (isNil (inFlight st)))
-            (or-r (leb slotCount (length (inFlight st))) (mustOpen p st && not (isNil (inFlight st))) few) e))
+            (or-r (leb slotCount (length (inFlight st))) (mustOpen p st && not (isNil (inFlight st))) few-in-flight) e))
 
         shut? : M .is-open ≡ false
         shut? = go (M .is-open) refl
           where
             go : (b : Bool) → M .is-open ≡ b → M .is-open ≡ false
             go false q = q
-            go true q = full (or-cases (eqb (st .opened) 0) (eqb (st .next) (p .S)) (unfold mustOpen in e))
+            go true q = full (or-either (eqb (st .opened) 0) (eqb (st .next) (p .S)) (unfold mustOpen in e))
               where
                 full : (eqb (st .opened) 0 ≡ true) ⊎ (eqb (st .next) (p .S) ≡ true) → M .is-open ≡ false
                 full (inl x) = R .is-open ∙ ap not x
@@ -379,7 +379,7 @@ module _ (p : Params) (h : Ranged p) (g : Ghost) (v : View) (a : List Val) (c : 
       go : Test (hasFilling p st) → Test (mustOpen p st) → Target p h g v a c st fl M (sendStores p v st) (begunBy p st (openedBy p v st)) (slotFor p st)
       go (yes! e) m =
           target-as p h g v a c st fl M (sendStores p v st) [] (begunBy p st (openedBy p v st)) st (slotFor p st) (fillingSlot p st)
-          (stores-none p v st (unfold opens in and-false-1 (not (hasFilling p st)) (mustOpen p st) (ap not e))) (begun-old p st (openedBy p v st) e) (slot-filling p st e)
+          (no-opening-stores p v st (unfold opens in and-false-1 (not (hasFilling p st)) (mustOpen p st) (ap not e))) (begun-old p st (openedBy p v st) e) (slot-filling p st e)
           (target-filling p h g v a c st fl M R I on e)
       go (no! e) (yes! m) =
           let o : opens p st ≡ true = unfold opens in and-both (not (hasFilling p st)) (mustOpen p st) (ap not e) m in
@@ -389,7 +389,7 @@ module _ (p : Params) (h : Ranged p) (g : Ghost) (v : View) (a : List Val) (c : 
       go (no! e) (no! m) =
           let o : opens p st ≡ false = unfold opens in and-false (not (hasFilling p st)) (mustOpen p st) m in
           target-as p h g v a c st fl M (sendStores p v st) [] (begunBy p st (openedBy p v st)) (beginStripe st (freeSlot st)) (slotFor p st) (freeSlot st)
-          (stores-none p v st o) (begun-new p st (openedBy p v st) e ∙ ap (λ (x : State). beginStripe x (freeSlot st)) (opened-old p v st o)) (slot-free p st e) (begins e m)
+          (no-opening-stores p v st o) (begun-new p st (openedBy p v st) e ∙ ap (λ (x : State). beginStripe x (freeSlot st)) (opened-old p v st o)) (slot-free p st e) (target-begun e m)
 
 -- the table's entries, once the stores are made
 pub target-entries :

@@ -12,7 +12,7 @@ use Rattle.spec.specs.Layout.{parityDrive, dataDrive, dataDrives}
 use Rattle.spec.specs.Lists.{below}
 use Rattle.spec.specs.Memory.{slotByte, slotBlock, setSlotBlock, setSlotParity}
 use Rattle.spec.specs.Params.{dataCount, inflightLen}
-use Rattle.law_basic.specs.Geometry.{item, Ranged, slot-within, data-drive-lt, data-not-parity}
+use Rattle.law_basic.specs.Geometry.{item-fits, Ranged, slot-within, data-drive-lt, data-not-parity}
 use Rattle.law_basic.specs.Ranges.{map-below-same, map-map}
 use Rattle.law_basic.specs.Splice.{length-part, length-splice, part-splice, part-splice-below, part-splice-above}
 use Rattle.law_basic.specs.Xor.{AllLong, length-parity, long-below}
@@ -43,21 +43,21 @@ module _ (p : Params) (fl : List ℕ) (long : length fl ≡ inflightLen p) (i d 
 
       go : Dec (j * p .N + e < i * p .N + d)
           → part ((j * p .N + e) * p .B) (p .B) (splice fl ((i * p .N + d) * p .B) b) ≡ part ((j * p .N + e) * p .B) (p .B) fl
-      go (yes l) = part-splice-below fl ((i * p .N + d) * p .B) b (unfold slotByte in fits) ((j * p .N + e) * p .B) (p .B) (item (j * p .N + e) (i * p .N + d) (p .B) l)
+      go (yes l) = part-splice-below fl ((i * p .N + d) * p .B) b (unfold slotByte in fits) ((j * p .N + e) * p .B) (p .B) (item-fits (j * p .N + e) (i * p .N + d) (p .B) l)
       go (no l) =
           let k : i * p .N + d < j * p .N + e = omega (arith, apart) in
           part-splice-above fl ((i * p .N + d) * p .B) b (unfold slotByte in fits) ((j * p .N + e) * p .B) (p .B)
-          (omega (arith, item (i * p .N + d) (j * p .N + e) (p .B) k)) (omega (arith, within))
+          (omega (arith, item-fits (i * p .N + d) (j * p .N + e) (p .B) k)) (omega (arith, within))
 
-pub slot-long : (p : Params) (fl : List ℕ) → length fl ≡ inflightLen p → (i d : ℕ) → i < 8 → d < p .N → length (slotBlock p fl i d) ≡ p .B
+pub inflight-block-long : (p : Params) (fl : List ℕ) → length fl ≡ inflightLen p → (i d : ℕ) → i < 8 → d < p .N → length (slotBlock p fl i d) ≡ p .B
 unfolding slotBlock
-slot-long p fl long i d il dl = length-part (slotByte p i d) (p .B) fl (omega (arith, slot-within p i d il dl))
+inflight-block-long p fl long i d il dl = length-part (slotByte p i d) (p .B) fl (omega (arith, slot-within p i d il dl))
 
 -- the blocks of a stripe's data positions
 pub data-blocks-long : (p : Params) (fl : List ℕ) → length fl ≡ inflightLen p → (i s : ℕ) → i < 8 → AllLong (p .B) (map (slotBlock p fl i) (dataDrives p s))
 unfolding dataDrives
 data-blocks-long p fl long i s il =
-    rw map-map (long-below (p .B) (λ (k : ℕ). slotBlock p fl i (dataDrive p s k)) (dataCount p) (λ k l. slot-long p fl long i (dataDrive p s k) il (data-drive-lt p s k l)))
+    rw map-map (long-below (p .B) (λ (k : ℕ). slotBlock p fl i (dataDrive p s k)) (dataCount p) (λ k l. inflight-block-long p fl long i (dataDrive p s k) il (data-drive-lt p s k l)))
 
 pub data-blocks-same : (p : Params) (fl fl′ : List ℕ) (i s : ℕ) → ((k : ℕ) → k < dataCount p → slotBlock p fl i (dataDrive p s k) ≡ slotBlock p fl′ i (dataDrive p s k))
     → map (slotBlock p fl i) (dataDrives p s) ≡ map (slotBlock p fl′ i) (dataDrives p s)

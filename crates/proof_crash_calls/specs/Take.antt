@@ -17,7 +17,7 @@ use Rattle.spec.specs.Params.{dataCount, inflightLen}
 use Rattle.spec.specs.Write.{placed}
 use Rattle.law_basic.specs.Geometry.{Ranged, data-count-high, data-drive-lt, drive-is-data}
 use Rattle.proof_crash_machine.specs.Facts.{Ghost, Counted}
-use Rattle.proof_crash_machine.specs.Filling.{filled, at-d, at-else}
+use Rattle.proof_crash_machine.specs.Filling.{filledWord, at-d, at-else}
 use Rattle.proof_crash_machine.specs.Ghosts.{withSent}
 use Rattle.proof_crash_machine.specs.History.{Inv, Into}
 use Rattle.proof_crash_machine.specs.History.Mode.{run}
@@ -25,7 +25,7 @@ use Rattle.proof_crash_machine.specs.History.Step.{send, copy}
 use Rattle.proof_crash_machine.specs.Memory.{Mem, Flight, flown}
 use Rattle.proof_crash_machine.specs.Order.{Track, sentTo}
 use Rattle.proof_crash_machine.specs.Val.{Val, pads}
-use Rattle.proof_crash_machine.specs.View.{View as m-View}
+use Rattle.proof_crash_machine.specs.View.{ItemView}
 use Rattle.proof_crash_items.specs.Items.{valueOf}
 use Rattle.proof_crash_items.specs.Ranges.{parity-on, parOf, data-code, codeOf, code-lone}
 use Rattle.proof_crash_calls.specs.Base.{setAt-here}
@@ -33,14 +33,14 @@ use Rattle.proof_crash_calls.specs.Cells.{same-used, add-filled, add-num
 use Rattle.proof_crash_calls.specs.Fill.{risen, risen-more, risen-is, landed-may}
 use Rattle.proof_crash_calls.specs.Go.{mst, Go, go-step}
 use Rattle.proof_crash_calls.specs.Placed.{ready-data, ready-parity, data-drive-once, placed-state, placed-rel, placed-waits, placed-used}
-use Rattle.proof_crash_calls.specs.Rel.{readyAt, Long, inUse, filled-used, RelOn, Rel, rel-on, Waiting}
+use Rattle.proof_crash_calls.specs.Rel.{readyAt, RowsLong, inUse, filled-used, RelOn, Rel, rel-on, Waiting}
 
 -- ---- the stamp set
 
 abbrev pub stampedMem : Mem → ℕ → Mem
 stampedMem M t = record { is-open = M .is-open; zone = M .zone; next = M .next; fly = M .fly; ready = M .ready; F = M .F; stamp = t; serial = M .serial }
 
-pub stamp-long : (st : State) (t : ℕ) → Long st → Long (setStamp st t)
+pub stamp-long : (st : State) (t : ℕ) → RowsLong st → RowsLong (setStamp st t)
 unfolding setStamp
 stamp-long st t L = record {
   numbers = L .numbers;
@@ -52,7 +52,7 @@ stamp-long st t L = record {
   offsets = L .offsets;
 }
 
-pub stamp-rel : (p : Params) → Ranged p → (v : m-View) (st : State) (fl : List ℕ) (M : Mem) (t : ℕ) → t < 256 ^ 8 → Rel p v st fl M → Rel p v (setStamp st t) fl (stampedMem M t)
+pub stamp-rel : (p : Params) → Ranged p → (v : ItemView) (st : State) (fl : List ℕ) (M : Mem) (t : ℕ) → t < 256 ^ 8 → Rel p v st fl M → Rel p v (setStamp st t) fl (stampedMem M t)
 unfolding setStamp stripeIn
 stamp-rel p h v st fl M t tl R = record {
   long = stamp-long st t (R .long);
@@ -87,7 +87,7 @@ stamp-waits p st M t x s q = record {
 
 -- ---- a block taken
 
-module _ (p : Params) (h : Ranged p) (g : Ghost) (v : m-View) (a : List Val) (c : Bool) (st : State) (fl : List ℕ) (M : Mem) (U : ℕ → Bool) (R : RelOn p v st fl M U)
+module _ (p : Params) (h : Ranged p) (g : Ghost) (v : ItemView) (a : List Val) (c : Bool) (st : State) (fl : List ℕ) (M : Mem) (U : ℕ → Bool) (R : RelOn p v st fl M U)
     (I : Inv (parOf p h) (mst g v a c (run M))) (long : length fl ≡ inflightLen p) (i : ℕ) (il : i < 8) (u : U i ≡ true) (kl : filledIn st i < dataCount p)
     (ad t w : ℕ) (b : List ℕ) (bl : length b ≡ p .B) where
   abbrev s : ℕ
@@ -103,7 +103,7 @@ module _ (p : Params) (h : Ranged p) (g : Ghost) (v : m-View) (a : List Val) (c 
   x = valueOf b (mkRec ad t (stripeIn st i))
 
   abbrev G : ℕ → Val
-  G = filled (parOf p h) (stripeIn st i) (M .F (stripeIn st i)) (dataDrive p (stripeIn st i) (filledIn st i)) (valueOf b (mkRec ad t (stripeIn st i)))
+  G = filledWord (parOf p h) (stripeIn st i) (M .F (stripeIn st i)) (dataDrive p (stripeIn st i) (filledIn st i)) (valueOf b (mkRec ad t (stripeIn st i)))
 
   abbrev r : ℕ → Bool
   r = risen p (stripeIn st i) (suc (filledIn st i)) (M .ready (stripeIn st i))
@@ -132,15 +132,15 @@ module _ (p : Params) (h : Ranged p) (g : Ghost) (v : m-View) (a : List Val) (c 
   new : G d ≡ x
   new = at-d (parOf p h) g v (M .zone) s (M .F s) (M .ready s) (flight .2) d x dn dp free early
 
-  old : (j : ℕ) → j < dataCount p → j ≢ k → G (dataDrive p s j) ≡ M .F s (dataDrive p s j)
-  old j l n = at-else (parOf p h) g v (M .zone) s (M .F s) (M .ready s) (flight .2) d x dn dp free early (dataDrive p s j)
+  others-as-before : (j : ℕ) → j < dataCount p → j ≢ k → G (dataDrive p s j) ≡ M .F s (dataDrive p s j)
+  others-as-before j l n = at-else (parOf p h) g v (M .zone) s (M .F s) (M .ready s) (flight .2) d x dn dp free early (dataDrive p s j)
       (data-drive-lt p s j l) (λ e. n (data-drive-once p s j k e)) (data-code p h s (dataDrive p s j) (drive-is-data p s j))
 
-  mine : (e : ℕ) → e < p .N → isIn (landedIn st i) e ≡ true → M .ready s e ≡ true
-  mine = landed-may p h g v st fl M U (I .mode) R i il u
+  landed-ready : (e : ℕ) → e < p .N → isIn (landedIn st i) e ≡ true → M .ready s e ≡ true
+  landed-ready = landed-may p h g v st fl M U (I .mode) R i il u
 
-  may : (e : ℕ) → e < p .N → r e ≡ readyAt p s (suc k) e
-  may e el = risen-is p s k (M .ready s) e el (R .slot i il u .may e el)
+  taken-ready : (e : ℕ) → e < p .N → r e ≡ readyAt p s (suc k) e
+  taken-ready e el = risen-is p s k (M .ready s) e el (R .slot i il u .may e el)
 
   abbrev pub takenMem : Mem
   takenMem = flown M (stripeIn st i) G r (M .next) (M .stamp)
@@ -148,11 +148,11 @@ module _ (p : Params) (h : Ranged p) (g : Ghost) (v : m-View) (a : List Val) (c 
   module _ (cover : (j : ℕ) → j < 8 → j ≢ i → U j ≡ inUse st j) where
     pub taken-rel : Rel p v (placed p st fl i ad t w b .state) (placed p st fl i ad t w b .inflight) takenMem
     taken-rel = rel-on p v (placed p st fl i ad t w b .state) (placed p st fl i ad t w b .inflight) takenMem U (inUse (placed p st fl i ad t w b .state))
-        (placed-used p h st (R .long) fl long i il ad t w b bl kl v M U R u G r mine new old may cover)
-        (placed-rel p h st (R .long) fl long i il ad t w b bl kl v M U R u G r mine new old may)
+        (placed-used p h st (R .long) fl long i il ad t w b bl kl v M U R u G r landed-ready new others-as-before taken-ready cover)
+        (placed-rel p h st (R .long) fl long i il ad t w b bl kl v M U R u G r landed-ready new others-as-before taken-ready)
 
     pub taken-waits : (w ≡ 0) ⊎ (w ≡ 1) → (y : Val) (z : ℕ) → Waiting p st M y z → Waiting p (placed p st fl i ad t w b .state) takenMem y z
-    taken-waits ww = placed-waits p h st (R .long) fl long i il ad t w b bl kl v M U R u G r mine new old may ww (λ j jl q. within j jl q (ℕ-discrete j i))
+    taken-waits ww = placed-waits p h st (R .long) fl long i il ad t w b bl kl v M U R u G r landed-ready new others-as-before taken-ready ww (λ j jl q. within j jl q (ℕ-discrete j i))
       where
         within : (j : ℕ) → j < 8 → inUse st j ≡ true → Dec (j ≡ i) → U j ≡ true
         within j jl q (yes e) = ap U e ∙ u

@@ -31,10 +31,10 @@ use Rattle.proof_crash_machine.specs.History.Mode.{run}
 use Rattle.proof_crash_machine.specs.Memory.{Mem}
 use Rattle.proof_crash_machine.specs.Reclaim.{Quiet}
 use Rattle.proof_crash_machine.specs.Val.{Val, pads, pads-stamp}
-use Rattle.proof_crash_machine.specs.View.{Item, View as m-View, In}
+use Rattle.proof_crash_machine.specs.View.{Item, ItemView, InI}
 use Rattle.proof_crash_machine.specs.View.Item.{chunk}
 use Rattle.proof_crash_items.specs.Items.{itemsIn}
-use Rattle.proof_crash_items.specs.Member.{Has, keep-has, has-keep, below-has, has-below, all-has, has-all, any-has, has-any, any-false, has-flat, map-has, has-map}
+use Rattle.proof_crash_items.specs.Member.{Has, keep-has, has-keep, below-has, has-below, all-has, has-all, any-has, has-any, any-false-in, has-flat, map-has, has-map}
 use Rattle.proof_crash_items.specs.Ranges.{capacity-few, parOf}
 use Rattle.proof_crash_items.specs.Segs.{OnDrives}
 use Rattle.proof_crash_calls.specs.Base.{eqb-self}
@@ -129,32 +129,32 @@ some-clear f n e = go (test (any (λ d. not (f d)) (below n)))
   where
     go : Test (any (λ d. not (f d)) (below n)) → (d : ℕ) × (d < n) × (f d ≡ false)
     go (yes! q) = let a : (d : ℕ) × Has d (below n) × (not (f d) ≡ true) = any-has (λ d. not (f d)) (below n) q in (a .0, below-has (a .0) n (a .1), not-true (f (a .0)) (a .2))
-    go (no! q) = clash (has-all f (below n) (λ d i. not-false (f d) (any-false (λ d. not (f d)) (below n) q d i))) e
+    go (no! q) = clash (has-all f (below n) (λ d i. not-false (f d) (any-false-in (λ d. not (f d)) (below n) q d i))) e
 
 module _ (p : Params) (h : Ranged p) (v : View) (st : State) (fl tb : List ℕ) (ss : List Send) (n : ℕ) (l : Live p h v st fl tb ss n) (ok : stateOk p st ≡ true) where
   abbrev M : Mem
   M = l .M
 
-  I : Inv (parOf p h) (mst (l .g) (itemsIn p v) (l .a) (l .c) (run (l .M)))
-  I = live-inv p h v st fl tb ss n l
+  inv-victim : Inv (parOf p h) (mst (l .g) (itemsIn p v) (l .a) (l .c) (run (l .M)))
+  inv-victim = live-inv p h v st fl tb ss n l
 
   pub open-unsealed : (z : ℕ) → z < p .Z → ((d : ℕ) → d < p .N → pointerAt v d z ≡ capacity p) → l .M .is-open ≡ true → l .M .zone ≢ z
   open-unsealed z zl full o e =
       absurd (slot .out (lost .0) (lost .1) (lost .2) (there (lost .0) (lost .1) s₀ (omega (arith, low)) .0) (subst
-      (λ (x : ℕ). In (chunk x (there (lost .0) (lost .1) s₀ (omega (arith, low)) .0)) (itemsIn p v (lost .0) (M .zone))) (sym (w .3))
+      (λ (x : ℕ). InI (chunk x (there (lost .0) (lost .1) s₀ (omega (arith, low)) .0)) (itemsIn p v (lost .0) (M .zone))) (sym (w .3))
       (there (lost .0) (lost .1) s₀ (omega (arith, low)) .1)))
     where
       -- every stripe is on every drive
-      there : (d : ℕ) → d < p .N → (s : ℕ) → s < p .S → (x : Val) × In (chunk s x) (itemsIn p v d (M .zone))
-      there d dl s sl = I .facts .zones d (M .zone) (dl, live-trust p h v st fl tb ss n l d dl) .sealed
+      there : (d : ℕ) → d < p .N → (s : ℕ) → s < p .S → (x : Val) × InI (chunk s x) (itemsIn p v d (M .zone))
+      there d dl s sl = inv-victim .facts .zones d (M .zone) (dl, live-trust p h v st fl tb ss n l d dl) .sealed
           (let f : length (itemsIn p v d (M .zone)) ≡ capacity p = ap (λ (y : ℕ). length (itemsIn p v d y)) e
           ∙ live-len p h v st fl tb ss n l d z dl zl
           ∙ full d dl in omega (arith, f, capacity-few p h)) s sl
 
       ends : M .next ≡ p .S
       ends =
-          let t : (x : Val) × In (chunk (p .S - 1) x) (itemsIn p v 0 (M .zone)) = there 0 (omega (arith, h .drives-low)) (p .S - 1) (omega (arith, h .stripes-low)) in
-          omega (arith, I .mode .below o 0 (p .S - 1) (t .0) (omega (arith, h .drives-low)) (t .1), I .mode .few, h .stripes-low)
+          let t : (x : Val) × InI (chunk (p .S - 1) x) (itemsIn p v 0 (M .zone)) = there 0 (omega (arith, h .drives-low)) (p .S - 1) (omega (arith, h .stripes-low)) in
+          omega (arith, inv-victim .mode .below o 0 (p .S - 1) (t .0) (omega (arith, h .drives-low)) (t .1), inv-victim .mode .few, h .stripes-low)
 
       flies : (s : ℕ) × (M .fly s ≡ true)
       flies = l .rel .busy o ends
@@ -163,7 +163,7 @@ module _ (p : Params) (h : Ranged p) (v : View) (st : State) (fl tb : List ℕ) 
       s₀ = flies .0
 
       low : s₀ < p .S
-      low = omega (arith, I .mode .flies s₀ (flies .1) .1, ends)
+      low = omega (arith, inv-victim .mode .flies s₀ (flies .1) .1, ends)
 
       w : (i : ℕ) × (i < 8) × (inUse st i ≡ true) × (stripeIn st i ≡ s₀)
       w = l .rel .flies s₀ (flies .1)
@@ -183,8 +183,8 @@ module _ (p : Params) (h : Ranged p) (v : View) (st : State) (fl tb : List ℕ) 
   none? = live-none p h v st fl tb ss n l
 
   -- an entry of the table lies elsewhere
-  elsewhere : (z : ℕ) → liveIn p (placesIn p tb) z ≡ [] → (a : ℕ) → a < p .L → Entry p h (l .g) (itemsIn p v) (placeAt tb a) a → placeZone p (placeAt tb a) ≢ z
-  elsewhere z dead a al e y =
+  entry-elsewhere : (z : ℕ) → liveIn p (placesIn p tb) z ≡ [] → (a : ℕ) → a < p .L → Entry p h (l .g) (itemsIn p v) (placeAt tb a) a → placeZone p (placeAt tb a) ≢ z
+  entry-elsewhere z dead a al e y =
       let m : Has (placeAt tb a) (placesIn p tb) = has-place p tb a al (let f : placeAt tb a ≢ neverPlace = omega (arith, entry-low p h (l .g) v k none? (placeAt tb a) a e) in f) in
       let f : placeAt tb a ≡ placeOf p (placeDrive p (placeAt tb a)) z (placeBlock p (placeAt tb a)) =
       sym (place-again p (placeAt tb a)) ∙ ap (λ (x : ℕ). placeOf p (placeDrive p (placeAt tb a)) x (placeBlock p (placeAt tb a))) y in
@@ -194,26 +194,26 @@ module _ (p : Params) (h : Ranged p) (v : View) (st : State) (fl tb : List ℕ) 
       subst (λ (x : List ℕ). Has (placeOf p (placeDrive p (placeAt tb a)) z (placeBlock p (placeAt tb a))) x) dead u
 
   pub quiet : (z : ℕ) → liveIn p (placesIn p tb) z ≡ [] → Quiet (parOf p h) (l .g) (itemsIn p v) z
-  quiet z dead a = go (ℕ-discrete (l .g .base a) 0) (I .facts .content .floor a)
+  quiet z dead a = go (ℕ-discrete (l .g .base a) 0) (inv-victim .facts .content .floor a)
     where
       go : Dec (l .g .base a ≡ 0) → (l .g .base a ≡ 0) ⊎ ((x : Val) × Counted (parOf p h) (l .g .hd) (itemsIn p v) (l .g .un) x × (x .addr ≡ a) × (l .g .base a ≤ x .stamp))
           → (l .g .base a ≡ 0) ⊎ ((x : Val) × (c : Counted (parOf p h) (l .g .hd) (itemsIn p v) (l .g .un) x) × (c .z ≢ z) × (x .addr ≡ a) × (l .g .base a ≤ x .stamp))
       go (yes e) f = inl e
       go (no e) (inl f) = inl f
       go (no e) (inr (x, c, xa, xs)) = ⊎-elim (λ (w : (placeAt tb a ≡ neverPlace) × (l .g .base a ≡ 0)). inl (w .1))
-          (λ (w : Entry p h (l .g) (itemsIn p v) (placeAt tb a) a). inr (w .x, w .counts, (λ b. elsewhere z dead a sent w (sym (w .same) ∙ b)), w .addr, w .floor)) (l .table a sent)
+          (λ (w : Entry p h (l .g) (itemsIn p v) (placeAt tb a) a). inr (w .x, w .counts, (λ b. entry-elsewhere z dead a sent w (sym (w .same) ∙ b)), w .addr, w .floor)) (l .table a sent)
         where
           -- the address is in range
           sent : a < p .L
-          sent = subst (λ (y : ℕ). y < p .L) xa (⊎-elim (λ (b : x ≡ pads). absurd (let r : ⊥ = omega (arith, pads-stamp x b, xs, e) in r)) (λ (b : InV x (l .g .sent)). I .ones x b .1)
-              (I .facts .parity .sound (l .g .un) (self-none (parOf p h) (l .g .un) none?) (c .z) (c .s) (c .f) (c .st) x (c .dt)))
+          sent = subst (λ (y : ℕ). y < p .L) xa (⊎-elim (λ (b : x ≡ pads). absurd (let r : ⊥ = omega (arith, pads-stamp x b, xs, e) in r)) (λ (b : InV x (l .g .sent)). inv-victim .ones x b .1)
+              (inv-victim .facts .parity .sound (l .g .un) (self-none (parOf p h) (l .g .un) none?) (c .z) (c .s) (c .f) (c .st) x (c .dt)))
 
   -- what is left when such a segment is emptied
-  pub table-left : (z : ℕ) → liveIn p (placesIn p tb) z ≡ [] → (u : m-View) → Facts (parOf p h) (l .g) u → ((e y : ℕ) → y ≢ z → u e y ≡ itemsIn p v e y) → TableOk p h (l .g) u tb
+  pub table-left : (z : ℕ) → liveIn p (placesIn p tb) z ≡ [] → (u : ItemView) → Facts (parOf p h) (l .g) u → ((e y : ℕ) → y ≢ z → u e y ≡ itemsIn p v e y) → TableOk p h (l .g) u tb
   table-left z dead u f same a al = ⊎-elim (λ w. inl w)
       (λ (w : Entry p h (l .g) (itemsIn p v) (placeAt tb a) a).
-      let n : placeZone p (placeAt tb a) ≢ z = elsewhere z dead a al w in
+      let n : placeZone p (placeAt tb a) ≢ z = entry-elsewhere z dead a al w in
       inr (entry-to p h (l .g) (l .g) (itemsIn p v) u (placeAt tb a) a w
       (subst (λ (x : List Item). Off x (placeBlock p (placeAt tb a)) (chunk (w .s) (w .x))) (sym (same (placeDrive p (placeAt tb a)) (placeZone p (placeAt tb a)) n)) (w .at))
-      (counted-kept (parOf p h) (l .g) (l .g) (itemsIn p v) u f (I .mode .no-pair) refl (w .x) (w .counts)
+      (counted-kept (parOf p h) (l .g) (l .g) (itemsIn p v) u f (inv-victim .mode .no-pair) refl (w .x) (w .counts)
       (λ d b. same d (w .counts .z) (λ q. n (sym (w .same) ∙ q)))) (w .same) (w .floor))) (l .table a al)

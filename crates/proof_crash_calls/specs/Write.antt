@@ -132,15 +132,15 @@ module _ (p : Params) (h : Ranged p) (v : View) (m : Memory) (ss : List Send) (n
   abbrev v₂ : View
   v₂ = storeAll storeView (sendStores p v (m .state)) v
 
-  I : Inv (parOf p h) (mst (l .g) (itemsIn p v) (l .a) (l .c) (run (l .M)))
-  I = live-inv p h v (m .state) (m .inflight) (m .addresses) ss n l
+  inv-write : Inv (parOf p h) (mst (l .g) (itemsIn p v) (l .a) (l .c) (run (l .M)))
+  inv-write = live-inv p h v (m .state) (m .inflight) (m .addresses) ss n l
 
   abbrev pub aim : Target p h (l .g) v (l .a) (l .c) (m .state) (m .inflight) (l .M) (sendStores p v (m .state)) (begunBy p (m .state) (openedBy p v (m .state))) (slotFor p (m .state))
   aim = target p h (l .g) v (l .a) (l .c) (m .state) (m .inflight) (l .M) (l .rel) (live-inv p h v (m .state) (m .inflight) (m .addresses) ss n l)
       (live-drives p h v (m .state) (m .inflight) (m .addresses) ss n l) (A .asked)
 
-  I₂ : Inv (parOf p h) (mst (aim .g′) (itemsIn p v₂) (l .a) (l .c) (run (aim .M₂)))
-  I₂ = go-inv (parOf p h) (mst (l .g) (itemsIn p v) (l .a) (l .c) (run (l .M))) (mst (aim .g′) (itemsIn p v₂) (l .a) (l .c) (run (aim .M₂))) noTrack noTrack (aim .go noTrack) I
+  inv-aimed : Inv (parOf p h) (mst (aim .g′) (itemsIn p v₂) (l .a) (l .c) (run (aim .M₂)))
+  inv-aimed = go-inv (parOf p h) (mst (l .g) (itemsIn p v) (l .a) (l .c) (run (l .M))) (mst (aim .g′) (itemsIn p v₂) (l .a) (l .c) (run (aim .M₂))) noTrack noTrack (aim .go noTrack) inv-write
 
   abbrev s : ℕ
   s = stripeIn (begunBy p (m .state) (openedBy p v (m .state))) (slotFor p (m .state))
@@ -155,7 +155,7 @@ module _ (p : Params) (h : Ranged p) (v : View) (m : Memory) (ss : List Send) (n
   stamp-now = l .rel .stamp
 
   abbrev Mt : Mem
-  Mt = takenMem p h (aim .g′) (itemsIn p v₂) (l .a) (l .c) st₂ fl (aim .M₂) (aim .U) (aim .rel) I₂ fits i (aim .low) (aim .used?) (aim .room) ad t 1 b (A .block)
+  Mt = takenMem p h (aim .g′) (itemsIn p v₂) (l .a) (l .c) st₂ fl (aim .M₂) (aim .U) (aim .rel) inv-aimed fits i (aim .low) (aim .used?) (aim .room) ad t 1 b (A .block)
 
   abbrev st₃ : State
   st₃ = placed p (begunBy p (m .state) (openedBy p v (m .state))) (m .inflight) (slotFor p (m .state)) ad (suc (m .state .stamp .0)) 1 b .state
@@ -168,12 +168,12 @@ module _ (p : Params) (h : Ranged p) (v : View) (m : Memory) (ss : List Send) (n
       (subst (λ (k : ℕ). Go (parOf p h) (mst (aim .g′) (itemsIn p v₂) (l .a) (l .c) (run (aim .M₂)))
       (mst (withSent (aim .g′) (x ∷ aim .g′ .sent)) (itemsIn p v₂) (l .a) true (run (stampedMem Mt k))) (l .T) (sentTo (l .T) x))
       (value-stamp b (mkRec ad t s))
-      (sent-go p h (aim .g′) (itemsIn p v₂) (l .a) (l .c) st₂ fl (aim .M₂) (aim .U) (aim .rel) I₂ fits i (aim .low) (aim .used?) (aim .room) ad t 1 b (A .block) (l .T)
+      (sent-go p h (aim .g′) (itemsIn p v₂) (l .a) (l .c) st₂ fl (aim .M₂) (aim .U) (aim .rel) inv-aimed fits i (aim .low) (aim .used?) (aim .room) ad t 1 b (A .block) (l .T)
       (value-stamp b (mkRec ad t s) ∙ ap suc (sym (aim .stamp ∙ stamp-now))) (subst (λ (k : ℕ). k < p .L) (sym (value-addr b (mkRec ad t s))) (A .address))))
 
   rel-all : Rel p (itemsIn p v₂) (setStamp st₃ t) (placed p st₂ fl i ad t 1 b .inflight) (stampedMem Mt t)
   rel-all = stamp-rel p h (itemsIn p v₂) st₃ (placed p st₂ fl i ad t 1 b .inflight) Mt t (omega (arith, l .rel .stamp-fits, A .stamp))
-      (taken-rel p h (aim .g′) (itemsIn p v₂) (l .a) (l .c) st₂ fl (aim .M₂) (aim .U) (aim .rel) I₂ fits i (aim .low) (aim .used?) (aim .room) ad t 1 b (A .block) (aim .cover))
+      (taken-rel p h (aim .g′) (itemsIn p v₂) (l .a) (l .c) st₂ fl (aim .M₂) (aim .U) (aim .rel) inv-aimed fits i (aim .low) (aim .used?) (aim .room) ad t 1 b (A .block) (aim .cover))
 
   -- ---- the log
   same : SameSend p x y
@@ -182,55 +182,56 @@ module _ (p : Params) (h : Ranged p) (v : View) (m : Memory) (ss : List Send) (n
   up : l .M .stamp < x .stamp
   up = let e : x .stamp ≡ t = value-stamp b (mkRec ad t s) in omega (arith, e, stamp-now)
 
-  low : (z : Val) → InV z (l .a) → z .stamp ≤ l .M .stamp
-  low = live-acks p h v (m .state) (m .inflight) (m .addresses) ss n l
+  acked-stamp-low : (z : Val) → InV z (l .a) → z .stamp ≤ l .M .stamp
+  acked-stamp-low = live-acks p h v (m .state) (m .inflight) (m .addresses) ss n l
 
   logged : Logged p (l .a) (sentTo (l .T) x) (ss ++ (y ∷ []))
-  logged = sent-logged p (l .a) (l .T) ss (l .reached .logged) x y same refl (l .M .stamp) up low
+  logged = sent-logged p (l .a) (l .T) ss (l .reached .logged) x y same refl (l .M .stamp) up acked-stamp-low
 
-  waits : Waits p (withSent (aim .g′) (x ∷ aim .g′ .sent)) (setStamp st₃ t) (stampedMem Mt t) (sentTo (l .T) x) (ss ++ (y ∷ []))
-  waits j b′ q = go (decLt j (length ss))
+  sent-waits : Waits p (withSent (aim .g′) (x ∷ aim .g′ .sent)) (setStamp st₃ t) (stampedMem Mt t) (sentTo (l .T) x) (ss ++ (y ∷ []))
+  sent-waits j b′ q = go (decLt j (length ss))
     where
       G : Ghost
       G = withSent (aim .g′) (x ∷ aim .g′ .sent)
 
       old-log′ : (j : ℕ) → j < length ss → sentTo (l .T) x .log j ≡ l .T .log j
-      old-log′ = old-log p (l .a) (l .T) ss (l .reached .logged) x y same refl (l .M .stamp) up low
+      old-log′ = old-log p (l .a) (l .T) ss (l .reached .logged) x y same refl (l .M .stamp) up acked-stamp-low
 
       go : Dec (j < length ss) → Waiting p (setStamp st₃ t) (stampedMem Mt t) (sentTo (l .T) x .log j) (sendAt (ss ++ (y ∷ [])) j .stripe) × InV (sentTo (l .T) x .log j) (x ∷ aim .g′ .sent)
           × (sentTo (l .T) x .pos (sentTo (l .T) x .log j .stamp) ≡ j)
       go (yes k) =
-          let e : sendAt (ss ++ (y ∷ [])) j ≡ sendAt ss j = old-send p (l .a) (l .T) ss (l .reached .logged) x y same refl (l .M .stamp) up low j k in
+          let e : sendAt (ss ++ (y ∷ [])) j ≡ sendAt ss j = old-send p (l .a) (l .T) ss (l .reached .logged) x y same refl (l .M .stamp) up acked-stamp-low j k in
           let w : Waiting p (m .state) (l .M) (l .T .log j) (sendAt ss j .stripe) × InV (l .T .log j) (l .g .sent) × (l .T .pos (l .T .log j .stamp) ≡ j) =
           l .waits j k (ap (λ (z : Send). z .waits) (sym e) ∙ q) in
           let f : Waiting p (setStamp st₃ t) (stampedMem Mt t) (l .T .log j) (sendAt ss j .stripe) =
           stamp-waits p st₃ Mt t (l .T .log j) (sendAt ss j .stripe)
-          (taken-waits p h (aim .g′) (itemsIn p v₂) (l .a) (l .c) st₂ fl (aim .M₂) (aim .U) (aim .rel) I₂ fits i (aim .low) (aim .used?) (aim .room) ad t 1 b (A .block) (aim .cover) (inr refl)
+          (taken-waits p h (aim .g′) (itemsIn p v₂) (l .a) (l .c) st₂ fl (aim .M₂) (aim .U) (aim .rel) inv-aimed fits i (aim .low) (aim .used?) (aim .room) ad t 1 b (A .block) (aim .cover) (inr refl)
           (l .T .log j) (sendAt ss j .stripe) (aim .waits (l .T .log j) (sendAt ss j .stripe) (w .0))) in (
             subst (λ (z : Val). Waiting p (setStamp st₃ t) (stampedMem Mt t) z (sendAt (ss ++ (y ∷ [])) j .stripe)) (sym (old-log′ j k))
                 (subst (λ (z : Send). Waiting p (setStamp st₃ t) (stampedMem Mt t) (l .T .log j) (z .stripe)) (sym e) f),
             subst (λ (z : Val). InV z (x ∷ aim .g′ .sent)) (sym (old-log′ j k)) (inr (subst (λ (z : List Val). InV (l .T .log j) z) (sym (aim .sent)) (w .1))),
             ap (λ (z : Val). sentTo (l .T) x .pos (z .stamp)) (old-log′ j k)
-                ∙ old-pos p (l .a) (l .T) ss (l .reached .logged) x y same refl (l .M .stamp) up low (l .T .log j .stamp)
+                ∙ old-pos p (l .a) (l .T) ss (l .reached .logged) x y same refl (l .M .stamp) up acked-stamp-low (l .T .log j .stamp)
                 (live-stamps p h v (m .state) (m .inflight) (m .addresses) ss n l (l .T .log j) (w .1))
                 ∙ w .2,
           )
       go (no k) =
-          let e : j ≡ length ss = omega (arith, b′, k, length-sent p (l .a) (l .T) ss (l .reached .logged) x y same refl (l .M .stamp) up low) in
-          let f : sentTo (l .T) x .log j ≡ x = ap (sentTo (l .T) x .log) e ∙ new-log p (l .a) (l .T) ss (l .reached .logged) x y same refl (l .M .stamp) up low in
-          let o : sendAt (ss ++ (y ∷ [])) j ≡ y = ap (sendAt (ss ++ (y ∷ []))) e ∙ new-send p (l .a) (l .T) ss (l .reached .logged) x y same refl (l .M .stamp) up low in (
+          let e : j ≡ length ss = omega (arith, b′, k, length-sent p (l .a) (l .T) ss (l .reached .logged) x y same refl (l .M .stamp) up acked-stamp-low) in
+          let f : sentTo (l .T) x .log j ≡ x = ap (sentTo (l .T) x .log) e ∙ new-log p (l .a) (l .T) ss (l .reached .logged) x y same refl (l .M .stamp) up acked-stamp-low in
+          let o : sendAt (ss ++ (y ∷ [])) j ≡ y = ap (sendAt (ss ++ (y ∷ []))) e ∙ new-send p (l .a) (l .T) ss (l .reached .logged) x y same refl (l .M .stamp) up acked-stamp-low in (
             subst (λ (z : Val). Waiting p (setStamp st₃ t) (stampedMem Mt t) z (sendAt (ss ++ (y ∷ [])) j .stripe)) (sym f)
                 (subst (λ (z : Send). Waiting p (setStamp st₃ t) (stampedMem Mt t) x (z .stripe)) (sym o) (stamp-waits p st₃ Mt t x s
-                (taken-new p h (aim .g′) (itemsIn p v₂) (l .a) (l .c) st₂ fl (aim .M₂) (aim .U) (aim .rel) I₂ fits i (aim .low) (aim .used?) (aim .room) ad t 1 b (A .block) (aim .cover) refl))),
+                (taken-new p h (aim .g′) (itemsIn p v₂) (l .a) (l .c) st₂ fl (aim .M₂) (aim .U) (aim .rel) inv-aimed fits i (aim .low) (aim .used?) (aim .room) ad t 1 b (A .block)
+                (aim .cover) refl))),
             inl f,
-            ap (λ (z : Val). sentTo (l .T) x .pos (z .stamp)) f ∙ new-pos p (l .a) (l .T) ss (l .reached .logged) x y same refl (l .M .stamp) up low ∙ sym e,
+            ap (λ (z : Val). sentTo (l .T) x .pos (z .stamp)) f ∙ new-pos p (l .a) (l .T) ss (l .reached .logged) x y same refl (l .M .stamp) up acked-stamp-low ∙ sym e,
           )
 
-  later : Later (l .g) (withSent (aim .g′) (x ∷ aim .g′ .sent))
-  later = record { un = aim .later .un; last = aim .later .last; sent = λ z k. inr (aim .later .sent z k) }
+  sent-later : Later (l .g) (withSent (aim .g′) (x ∷ aim .g′ .sent))
+  sent-later = record { un = aim .later .un; last = aim .later .last; sent = λ z k. inr (aim .later .sent z k) }
 
-  table : TableOk p h (withSent (aim .g′) (x ∷ aim .g′ .sent)) (itemsIn p v₂) (m .addresses)
-  table = table-to p h (l .g) (withSent (aim .g′) (x ∷ aim .g′ .sent)) (itemsIn p v) (itemsIn p v₂) (m .addresses) (aim .base)
+  table-sent : TableOk p h (withSent (aim .g′) (x ∷ aim .g′ .sent)) (itemsIn p v₂) (m .addresses)
+  table-sent = table-to p h (l .g) (withSent (aim .g′) (x ∷ aim .g′ .sent)) (itemsIn p v) (itemsIn p v₂) (m .addresses) (aim .base)
       (λ q a e. entry-sent p h (aim .g′) (x ∷ aim .g′ .sent) (itemsIn p v₂) q a (target-entries p h (l .g) v (l .a) (l .c) (m .state) (m .inflight) (l .M) ws st₂ i aim q a e)) (l .table)
 
   pub write-ok : CallOk p h (l .g) v (writePlan p v m ad b) ss (ss ++ (mkSend ad b (sentStripe p v (m .state)) true false ∷ [])) n
@@ -240,8 +241,8 @@ module _ (p : Params) (h : Ranged p) (v : View) (m : Memory) (ss : List Send) (n
     done =
         live-after p h v (m .state) (m .inflight) (m .addresses) ss n l (sendStores p v (m .state)) (aim .sound)
         (withSent (aim .g′) (x ∷ aim .g′ .sent)) (l .a) true (stampedMem Mt t) (sentTo (l .T) x)
-        (setStamp st₃ t) (placed p st₂ fl i ad t 1 b .inflight) (m .addresses) (ss ++ (y ∷ [])) later go-all rel-all logged waits
-        (omega (arith, l .reached .marked, length-sent p (l .a) (l .T) ss (l .reached .logged) x y same refl (l .M .stamp) up low))
-        (λ e. absurd (let z : ⊥ = omega (arith, e, l .reached .marked, length-sent p (l .a) (l .T) ss (l .reached .logged) x y same refl (l .M .stamp) up low) in z)) table;
+        (setStamp st₃ t) (placed p st₂ fl i ad t 1 b .inflight) (m .addresses) (ss ++ (y ∷ [])) sent-later go-all rel-all logged sent-waits
+        (omega (arith, l .reached .marked, length-sent p (l .a) (l .T) ss (l .reached .logged) x y same refl (l .M .stamp) up acked-stamp-low))
+        (λ e. absurd (let z : ⊥ = omega (arith, e, l .reached .marked, length-sent p (l .a) (l .T) ss (l .reached .logged) x y same refl (l .M .stamp) up acked-stamp-low) in z)) table-sent;
     cut = λ k. live-cut p h v (m .state) (m .inflight) (m .addresses) ss n l (sendStores p v (m .state)) (aim .sound) k (aim .cut k .0) (aim .cut k .1) (aim .cut k .2 (l .T));
   }

@@ -38,18 +38,19 @@ module _ (p : Params) (s : ℕ) where
   abbrev q : ℕ
   q = parityDrive p s
 
-  data-low : (i : ℕ) → i < q → (dataDrive p s i ≡ i) × (isData p s i ≡ true)
+  data-below-parity : (i : ℕ) → i < q → (dataDrive p s i ≡ i) × (isData p s i ≡ true)
   unfolding dataDrive isData
-  data-low i l = (cond-true (ltb i q) i (suc i) (lt-ltb i q l), ap not (ne-eqb i q (omega arith)))
+  data-below-parity i l = (cond-true (ltb i q) i (suc i) (lt-ltb i q l), ap not (ne-eqb i q (omega arith)))
 
   data-high : (i : ℕ) → q ≤ i → (dataDrive p s i ≡ suc i) × (isData p s (suc i) ≡ true)
   unfolding dataDrive isData
   data-high i l = (cond-false (ltb i q) i (suc i) (le-ltb i q l), ap not (ne-eqb (suc i) q (omega arith)))
 
-  high : (i n : ℕ) → q ≤ i → map (dataDrive p s) (upFrom i n) ≡ keep (isData p s) (upFrom (suc i) n)
+  data-above-parity : (i n : ℕ) → q ≤ i → map (dataDrive p s) (upFrom i n) ≡ keep (isData p s) (upFrom (suc i) n)
   unfolding upFrom
-  high i zero l = unfold keep in refl
-  high i (suc n) l = ap₂ (λ (x : ℕ) (y : List ℕ). x ∷ y) (data-high i l .0) (high (suc i) n (omega arith)) ∙ sym (keep-hit (isData p s) (suc i) (upFrom (suc (suc i)) n) (data-high i l .1))
+  data-above-parity i zero l = unfold keep in refl
+  data-above-parity i (suc n) l =
+      ap₂ (λ (x : ℕ) (y : List ℕ). x ∷ y) (data-high i l .0) (data-above-parity (suc i) n (omega arith)) ∙ sym (keep-hit (isData p s) (suc i) (upFrom (suc (suc i)) n) (data-high i l .1))
 
   not-data : isData p s q ≡ false
   unfolding isData
@@ -64,10 +65,10 @@ module _ (p : Params) (s : ℕ) where
     where
       go : Dec (i ≡ q) → (suc i ≤ q → q ≤ suc i + n → map (dataDrive p s) (upFrom (suc i) n) ≡ keep (isData p s) (upFrom (suc i) (suc n)))
           → dataDrive p s i ∷ map (dataDrive p s) (upFrom (suc i) n) ≡ keep (isData p s) (i ∷ upFrom (suc i) (suc n))
-      go (yes e) ih = high i (suc n) (omega arith) ∙ sym (keep-miss (isData p s) i (upFrom (suc i) (suc n)) (ap (isData p s) e ∙ not-data))
+      go (yes e) ih = data-above-parity i (suc n) (omega arith) ∙ sym (keep-miss (isData p s) i (upFrom (suc i) (suc n)) (ap (isData p s) e ∙ not-data))
       go (no e) ih =
-          ap₂ (λ (x : ℕ) (y : List ℕ). x ∷ y) (data-low i (omega arith) .0) (ih (omega arith) (omega arith))
-          ∙ sym (keep-hit (isData p s) i (upFrom (suc i) (suc n)) (data-low i (omega arith) .1))
+          ap₂ (λ (x : ℕ) (y : List ℕ). x ∷ y) (data-below-parity i (omega arith) .0) (ih (omega arith) (omega arith))
+          ∙ sym (keep-hit (isData p s) i (upFrom (suc i) (suc n)) (data-below-parity i (omega arith) .1))
 
   pub data-drives-are : Ranged p → dataDrives p s ≡ keep (isData p s) (below (p .N))
   unfolding dataDrives dataCount below

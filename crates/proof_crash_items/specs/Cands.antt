@@ -18,7 +18,7 @@ use Rattle.spec.specs.Segments.{remaining, Segment, segmentOf, segments, counte
 use Rattle.law_basic.specs.Geometry.{Ranged, data-drive-lt, drive-position, position-lt, drive-is-data}
 use Rattle.law_drives.specs.Segs.{piece-rec}
 use Rattle.law_drives.specs.Tests.{cond-true, cond-false}
-use Rattle.proof_crash_machine.specs.Exec.{and-1, or-cases}
+use Rattle.proof_crash_machine.specs.Exec.{and-1, or-either}
 use Rattle.proof_crash_machine.specs.Facts.{Ghost, Choice, R, Counted}
 use Rattle.proof_crash_machine.specs.Finish.{Reads}
 use Rattle.proof_crash_machine.specs.Val.{Val}
@@ -47,7 +47,7 @@ pub beats-true : (a b : Cand) → beats a b ≡ true → b .stamp ≤ a .stamp
 unfolding beats
 beats-true a b e = ⊎-elim (λ (q : ltb (b .stamp) (a .stamp) ≡ true). let l : b .stamp < a .stamp = ltb-true (b .stamp) (a .stamp) q in omega arith)
     (λ (q : (eqb (a .stamp) (b .stamp) && rest) ≡ true). let i : a .stamp ≡ b .stamp = eqb-true (a .stamp) (b .stamp) (and-1 (eqb (a .stamp) (b .stamp)) rest q) in omega arith)
-    (or-cases (ltb (b .stamp) (a .stamp)) (eqb (a .stamp) (b .stamp) && rest) e)
+    (or-either (ltb (b .stamp) (a .stamp)) (eqb (a .stamp) (b .stamp) && rest) e)
   where
     rest : Bool
     rest = ltb (b .serial) (a .serial) || (eqb (a .serial) (b .serial) && (ltb (a .drive) (b .drive) || (eqb (a .drive) (b .drive) && ltb (a .offset) (b .offset))))

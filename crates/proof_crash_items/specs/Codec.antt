@@ -79,31 +79,31 @@ module _ (p : Params) (h : Ranged p) (ss : List (List ℕ)) (long : AllLong spar
   abbrev row : ℕ → List (List ℕ)
   row i = take (perFooter p) (drop (i * perFooter p) ss)
 
-  row-long : (i : ℕ) → AllLong spareLen (row i)
-  row-long i = long-take spareLen (perFooter p) (drop (i * perFooter p) ss) (long-drop spareLen (i * perFooter p) ss long)
+  footer-row-long : (i : ℕ) → AllLong spareLen (row i)
+  footer-row-long i = long-take spareLen (perFooter p) (drop (i * perFooter p) ss) (long-drop spareLen (i * perFooter p) ss long)
 
-  length-row : (i : ℕ) → length (row i) ≡ min (perFooter p) (length ss - i * perFooter p)
-  length-row i = length-take (perFooter p) (drop (i * perFooter p) ss) ∙ ap (min (perFooter p)) (length-drop (i * perFooter p) ss)
+  footer-row-length : (i : ℕ) → length (row i) ≡ min (perFooter p) (length ss - i * perFooter p)
+  footer-row-length i = length-take (perFooter p) (drop (i * perFooter p) ss) ∙ ap (min (perFooter p)) (length-drop (i * perFooter p) ss)
 
-  pub length-footer : (i : ℕ) → length (footerBlock p ss i) ≡ p .B
+  pub footer-length : (i : ℕ) → length (footerBlock p ss i) ≡ p .B
   unfolding footerBlock
-  length-footer i = length-padTo (p .B) (joined (row i)) fits
+  footer-length i = length-padTo (p .B) (joined (row i)) fits
     where
       fits : length (joined (row i)) ≤ p .B
       fits =
-          let a : length (row i) ≤ perFooter p = omega (arith, length-row i) in
+          let a : length (row i) ≤ perFooter p = omega (arith, footer-row-length i) in
           let b : length (row i) * spareLen ≤ perFooter p * spareLen = mul-le-mul-right spareLen a in
-          omega (arith, b, per-footer-fits p h, length-joined spareLen (row i) (row-long i))
+          omega (arith, b, per-footer-fits p h, length-joined spareLen (row i) (footer-row-long i))
 
   -- record o of the zone is in block o / (records a block)
-  pub footer-record : (o : ℕ) → o < length ss → part (spareLen * (o % perFooter p)) spareLen (footerBlock p ss (o / perFooter p)) ≡ getD ss o []
+  pub footer-spare : (o : ℕ) → o < length ss → part (spareLen * (o % perFooter p)) spareLen (footerBlock p ss (o / perFooter p)) ≡ getD ss o []
   unfolding footerBlock padTo
-  footer-record o l =
+  footer-spare o l =
       let m : 0 < perFooter p = omega (arith, per-footer-low p h) in
       let e : o / perFooter p * perFooter p + o % perFooter p ≡ o = div-add-mod' o (perFooter p) in
       let r : o % perFooter p < perFooter p = mod-lt o m in
-      let k : o % perFooter p < length (row (o / perFooter p)) = omega (arith, length-row (o / perFooter p), e, r, l) in
-      part-joined spareLen (row (o / perFooter p)) (o % perFooter p) (replicate (p .B - length (joined (row (o / perFooter p)))) 0) (row-long (o / perFooter p)) k
+      let k : o % perFooter p < length (row (o / perFooter p)) = omega (arith, footer-row-length (o / perFooter p), e, r, l) in
+      part-joined spareLen (row (o / perFooter p)) (o % perFooter p) (replicate (p .B - length (joined (row (o / perFooter p)))) 0) (footer-row-long (o / perFooter p)) k
       ∙ getD-take (perFooter p) (drop (o / perFooter p * perFooter p) ss) (o % perFooter p) [] r
       ∙ getD-drop (o / perFooter p * perFooter p) ss (o % perFooter p) []
       ∙ ap (λ (i : ℕ). getD ss i []) e

@@ -19,10 +19,10 @@ use Rattle.law_views.specs.Views.{Fits, AllFit}
 use Rattle.law_drives.specs.Tests.{cond-true, cond-false}
 use Rattle.proof_crash_machine.specs.Facts.{Off}
 use Rattle.proof_crash_machine.specs.Val.{Val}
-use Rattle.proof_crash_machine.specs.View.{Item, View as m-View, Store as m-Store, upd, upd-elim, after, cleared as m-cleared, apply, applyAll, chunk-val, chunk-num, chunk-hdr, chunk-foot}
+use Rattle.proof_crash_machine.specs.View.{Item, ItemView, ItemStore, upd, upd-elim, withItem, emptiedAt, apply, applyAll, chunk-val, chunk-num, chunk-hdr, chunk-foot}
 use Rattle.proof_crash_machine.specs.View.Item.{hdr, chunk, foot}
-use Rattle.proof_crash_machine.specs.View.Store.{put as m-put, reset as m-reset}
-use Rattle.proof_crash_items.specs.Shape.{Shape, zone-set, zone-set-other, shape-store, fit-take}
+use Rattle.proof_crash_machine.specs.View.ItemStore.{put as m-put, reset as m-reset}
+use Rattle.proof_crash_items.specs.Shape.{Shape, zone-set-at, zone-set-else, shape-store, fit-take}
 
 -- ---- what a block is, by its offset
 
@@ -50,7 +50,7 @@ unfoldable pub itemsOf : Params → Zone → List Item
 itemsOf p q = itemsFrom p 0 (stored q)
 
 -- the drives, by drive and zone
-unfoldable pub itemsIn : Params → View → m-View
+unfoldable pub itemsIn : Params → View → ItemView
 itemsIn p v d z = itemsOf p (zoneAt v d z)
 
 pub items-in : (p : Params) (v : View) (d z : ℕ) → itemsIn p v d z ≡ itemsOf p (zoneAt v d z)
@@ -172,8 +172,8 @@ items-reset-zone p q = refl
 -- ---- a store on the view
 
 pub items-put : (p : Params) (v : View) → Shape p v → (d z : ℕ) (b s : List ℕ) → d < p .N → z < p .Z → pointerAt v d z < capacity p
-    → itemsIn p (storeView (put d z b s) v) ≡ after (itemsIn p v) d z (itemAt p (pointerAt v d z) (mkChunk b s))
-unfolding storeView after itemsIn pointerAt
+    → itemsIn p (storeView (put d z b s) v) ≡ withItem (itemsIn p v) d z (itemAt p (pointerAt v d z) (mkChunk b s))
+unfolding storeView withItem itemsIn pointerAt
 items-put p v h d z b s l k r = λ j e y. go e y j
   where
     q : Zone
@@ -183,27 +183,27 @@ items-put p v h d z b s l k r = λ j e y. go e y j
         ≡ upd (itemsIn p v) d z (itemsIn p v d z ++ (itemAt p (zoneAt v d z .pointer) (mkChunk b s) ∷ [])) e y
     go e y = upd-elim (λ (i : List Item). itemsOf p (zoneAt (setZone v d z (putZone b s (zoneAt v d z))) e y) ≡ i) (itemsIn p v) d z
         (itemsIn p v d z ++ (itemAt p (zoneAt v d z .pointer) (mkChunk b s) ∷ [])) e y
-        (λ a c. ap (itemsOf p) (ap₂ (zoneAt (setZone v d z (putZone b s (zoneAt v d z)))) a c ∙ zone-set p v h d z (putZone b s (zoneAt v d z)) l k)
+        (λ a c. ap (itemsOf p) (ap₂ (zoneAt (setZone v d z (putZone b s (zoneAt v d z)))) a c ∙ zone-set-at p v h d z (putZone b s (zoneAt v d z)) l k)
         ∙ items-put-zone p (zoneAt v d z) b s (omega (arith, r, h .blocks d z l k)))
-        (λ w. ap (itemsOf p) (zone-set-other p v h d z (putZone b s (zoneAt v d z)) l e y w))
+        (λ w. ap (itemsOf p) (zone-set-else p v h d z (putZone b s (zoneAt v d z)) l e y w))
 
-pub items-reset : (p : Params) (v : View) → Shape p v → (d z : ℕ) → d < p .N → z < p .Z → itemsIn p (storeView (reset d z) v) ≡ m-cleared (itemsIn p v) d z
-unfolding storeView m-cleared itemsIn
+pub items-reset : (p : Params) (v : View) → Shape p v → (d z : ℕ) → d < p .N → z < p .Z → itemsIn p (storeView (reset d z) v) ≡ emptiedAt (itemsIn p v) d z
+unfolding storeView emptiedAt itemsIn
 items-reset p v h d z l k = λ j e y. go e y j
   where
     go : (e y : ℕ) → itemsOf p (zoneAt (setZone v d z (resetZone (zoneAt v d z))) e y) ≡ upd (itemsIn p v) d z [] e y
     go e y = upd-elim (λ (i : List Item). itemsOf p (zoneAt (setZone v d z (resetZone (zoneAt v d z))) e y) ≡ i) (itemsIn p v) d z [] e y
-        (λ a c. ap (itemsOf p) (ap₂ (zoneAt (setZone v d z (resetZone (zoneAt v d z)))) a c ∙ zone-set p v h d z (resetZone (zoneAt v d z)) l k)
+        (λ a c. ap (itemsOf p) (ap₂ (zoneAt (setZone v d z (resetZone (zoneAt v d z)))) a c ∙ zone-set-at p v h d z (resetZone (zoneAt v d z)) l k)
         ∙ items-reset-zone p (zoneAt v d z))
-        (λ w. ap (itemsOf p) (zone-set-other p v h d z (resetZone (zoneAt v d z)) l e y w))
+        (λ w. ap (itemsOf p) (zone-set-else p v h d z (resetZone (zoneAt v d z)) l e y w))
 
 -- ---- the machine's stores
 
-unfoldable pub storeItem : Params → View → Store → m-Store
+unfoldable pub storeItem : Params → View → Store → ItemStore
 storeItem p v (put d z b s) = m-put d z (itemAt p (pointerAt v d z) (mkChunk b s))
 storeItem p v (reset d z) = m-reset d z
 
-unfoldable pub storeItems : Params → View → List Store → List m-Store
+unfoldable pub storeItems : Params → View → List Store → List ItemStore
 storeItems p v [] = []
 storeItems p v (s ∷ ss) = storeItem p v s ∷ storeItems p (storeView s v) ss
 
@@ -217,19 +217,19 @@ pub items-stores : (p : Params) (v : View) (ss : List Store) → Shape p v → A
 unfolding storeAll storeItems applyAll
 items-stores p v [] h f = refl
 items-stores p v (s ∷ ss) h f =
-    items-stores p (storeView s v) ss (shape-store p v s h (f .0)) (f .1) ∙ ap (λ (u : m-View). applyAll u (storeItems p (storeView s v) ss)) (items-store p v s h (f .0))
+    items-stores p (storeView s v) ss (shape-store p v s h (f .0)) (f .1) ∙ ap (λ (u : ItemView). applyAll u (storeItems p (storeView s v) ss)) (items-store p v s h (f .0))
 
 pub take-stores : (p : Params) (v : View) (ss : List Store) (n : ℕ) → storeItems p v (take n ss) ≡ take n (storeItems p v ss)
 unfolding storeItems
 take-stores p v [] zero = refl
 take-stores p v [] (suc n) = refl
 take-stores p v (s ∷ ss) zero = refl
-take-stores p v (s ∷ ss) (suc n) = ap (λ (l : List m-Store). storeItem p v s ∷ l) (take-stores p (storeView s v) ss n)
+take-stores p v (s ∷ ss) (suc n) = ap (λ (l : List ItemStore). storeItem p v s ∷ l) (take-stores p (storeView s v) ss n)
 
 pub append-stores : (p : Params) (v : View) (ss ts : List Store) → storeItems p v (ss ++ ts) ≡ storeItems p v ss ++ storeItems p (storeAll storeView ss v) ts
 unfolding storeItems storeAll
 append-stores p v [] ts = refl
-append-stores p v (s ∷ ss) ts = ap (λ (l : List m-Store). storeItem p v s ∷ l) (append-stores p (storeView s v) ss ts)
+append-stores p v (s ∷ ss) ts = ap (λ (l : List ItemStore). storeItem p v s ∷ l) (append-stores p (storeView s v) ss ts)
 
 -- a cut call makes the first n stores
 pub items-cut : (p : Params) (v : View) (ss : List Store) (n : ℕ) → Shape p v → AllFit p v ss

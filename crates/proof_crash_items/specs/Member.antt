@@ -9,7 +9,7 @@ use native.Mathlib.Omega.{arith}
 use lib.ListN.{length, getD}
 use Rattle.spec.specs.Lists.{upFrom, below, all, any, consIf, keep, isNil, flat, greatest, firstOr}
 use Rattle.law_drives.specs.Tests.{clash, not-so}
-use Rattle.proof_crash_machine.specs.Exec.{true≢false, and-1, and-2, both, or-cases, or-1, or-2}
+use Rattle.proof_crash_machine.specs.Exec.{true≢false, and-1, and-2, both-true, or-either, or-1, or-2}
 
 abbrev pub Has : {A : Type 0} → A → List A → Type 0
 Has a [] = ⊥
@@ -17,8 +17,8 @@ Has a (b ∷ l) = (a ≡ b) ⊎ Has a l
 
 -- ---- tests
 
-pub or-false : (a b : Bool) → a ≡ false → b ≡ false → (a || b) ≡ false
-or-false a b p q = ap₂ _||_ p q
+pub or-both-false : (a b : Bool) → a ≡ false → b ≡ false → (a || b) ≡ false
+or-both-false a b p q = ap₂ _||_ p q
 
 pub and-false-1 : (a b : Bool) → a ≡ false → (a && b) ≡ false
 and-false-1 a b p = ap (λ (x : Bool). x && b) p
@@ -96,13 +96,13 @@ all-has f (b ∷ l) e a (inr m) = all-has f l (and-2 (f b) (all f l) e) a m
 pub has-all : {A : Type 0} (f : A → Bool) (l : List A) → ((a : A) → Has a l → f a ≡ true) → all f l ≡ true
 unfolding all
 has-all f [] h = refl
-has-all f (b ∷ l) h = both (f b) (all f l) (h b (inl refl)) (has-all f l (λ a m. h a (inr m)))
+has-all f (b ∷ l) h = both-true (f b) (all f l) (h b (inl refl)) (has-all f l (λ a m. h a (inr m)))
 
 pub any-has : {A : Type 0} (f : A → Bool) (l : List A) → any f l ≡ true → (a : A) × Has a l × (f a ≡ true)
 unfolding any
 any-has f [] e = true≢false e
 any-has {A} f (b ∷ l) e = ⊎-elim (λ (q : f b ≡ true). (b, inl refl, q))
-    (λ (q : any f l ≡ true). let r : (a : A) × Has a l × (f a ≡ true) = any-has f l q in (r .0, inr (r .1), r .2)) (or-cases (f b) (any f l) e)
+    (λ (q : any f l ≡ true). let r : (a : A) × Has a l × (f a ≡ true) = any-has f l q in (r .0, inr (r .1), r .2)) (or-either (f b) (any f l) e)
 
 pub has-any : {A : Type 0} (f : A → Bool) (l : List A) (a : A) → Has a l → f a ≡ true → any f l ≡ true
 unfolding any
@@ -113,10 +113,10 @@ has-any f (b ∷ l) a (inr m) t = or-2 (f b) (any f l) (has-any f l a m t)
 pub none-any : {A : Type 0} (f : A → Bool) (l : List A) → ((a : A) → Has a l → f a ≡ false) → any f l ≡ false
 unfolding any
 none-any f [] h = refl
-none-any f (b ∷ l) h = or-false (f b) (any f l) (h b (inl refl)) (none-any f l (λ a m. h a (inr m)))
+none-any f (b ∷ l) h = or-both-false (f b) (any f l) (h b (inl refl)) (none-any f l (λ a m. h a (inr m)))
 
-pub any-false : {A : Type 0} (f : A → Bool) (l : List A) → any f l ≡ false → (a : A) → Has a l → f a ≡ false
-any-false f l e a m = not-so (f a) (λ t. clash (has-any f l a m t) e)
+pub any-false-in : {A : Type 0} (f : A → Bool) (l : List A) → any f l ≡ false → (a : A) → Has a l → f a ≡ false
+any-false-in f l e a m = not-so (f a) (λ t. clash (has-any f l a m t) e)
 
 pub flat-has : {A B : Type 0} (f : A → List B) (b : B) (l : List A) → Has b (flat f l) → (a : A) × Has a l × Has b (f a)
 unfolding flat

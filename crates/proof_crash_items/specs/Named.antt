@@ -14,7 +14,7 @@ use Rattle.spec.specs.Segments.{lowDrive}
 use Rattle.law_basic.specs.Geometry.{Ranged}
 use Rattle.law_basic.specs.Mask.{only-none, isIn-empty, isIn-only}
 use Rattle.law_drives.specs.Tests.{clash}
-use Rattle.proof_crash_machine.specs.Mask.{count, count-only, outside, Mask, tf}
+use Rattle.proof_crash_machine.specs.Mask.{count, count-only, mask-outside, Mask, tf}
 use Rattle.proof_crash_machine.specs.Facts.{None, Choice, none-few, Beyond}
 use Rattle.proof_crash_machine.specs.Theorem.{never}
 use Rattle.proof_crash_items.specs.Member.{Has, keep-has, has-keep, below-has, has-below, all-has, has-all, none-any, isNil-has, firstOr-has}
@@ -38,8 +38,8 @@ pub none-named : named noDrive ≡ 0
 unfolding noDrive
 none-named = named-none noDrive (omega arith)
 
-pub named-some : (m : ℕ) → m < 8 → eqb (named m) 0 ≡ false
-named-some m l = ne-eqb (named m) 0 (λ e. clash (isIn-named m m l ∙ eq-eqb m m refl) (ap (λ (x : ℕ). isIn x m) e ∙ isIn-empty m))
+pub named-not-zero : (m : ℕ) → m < 8 → eqb (named m) 0 ≡ false
+named-not-zero m l = ne-eqb (named m) 0 (λ e. clash (isIn-named m m l ∙ eq-eqb m m refl) (ap (λ (x : ℕ). isIn x m) e ∙ isIn-empty m))
 
 -- ---- a mask of missing drives, as the machine's set
 
@@ -65,8 +65,8 @@ module _ (p : Params) (m : ℕ) where
   pub all-present : (f : ℕ → Bool) → all f (present p m) ≡ true → (d : ℕ) → d < p .N → isIn m d ≡ false → f d ≡ true
   all-present f e d l n = all-has f (present p m) e d (has-present d l n)
 
-  pub present-all : (f : ℕ → Bool) → ((d : ℕ) → d < p .N → isIn m d ≡ false → f d ≡ true) → all f (present p m) ≡ true
-  present-all f k = has-all f (present p m) (λ d i. k d (present-has d i .0) (present-has d i .1))
+  pub all-on-present : (f : ℕ → Bool) → ((d : ℕ) → d < p .N → isIn m d ≡ false → f d ≡ true) → all f (present p m) ≡ true
+  all-on-present f k = has-all f (present p m) (λ d i. k d (present-has d i .0) (present-has d i .1))
 
   pub none-present : (f : ℕ → Bool) → ((d : ℕ) → d < p .N → isIn m d ≡ false → f d ≡ false) → any f (present p m) ≡ false
   none-present f k = none-any f (present p m) (λ d i. k d (present-has d i .0) (present-has d i .1))
@@ -74,7 +74,7 @@ module _ (p : Params) (m : ℕ) where
   -- the lowest one
   pub low-drive : Ranged p → count (p .N) (isIn m) ≤ parities p → (lowDrive p m < p .N) × (isIn m (lowDrive p m) ≡ false)
   unfolding lowDrive
-  low-drive h few = present-has (firstOr 0 (present p m)) (firstOr-has 0 (present p m) (go (outside (p .N) (isIn m) (omega (arith, few, parities-few p h)))))
+  low-drive h few = present-has (firstOr 0 (present p m)) (firstOr-has 0 (present p m) (go (mask-outside (p .N) (isIn m) (omega (arith, few, parities-few p h)))))
     where
       go : (d : ℕ) × (d < p .N) × (isIn m d ≡ false) → isNil (present p m) ≡ false
       go (d, l, n) = isNil-has (present p m) d (has-present d l n)
@@ -90,15 +90,15 @@ module _ (p : Params) (h : Ranged p) where
   pub named-other : (m d : ℕ) → d < p .N → d ≢ m → isIn (named m) d ≡ false
   named-other m d l n = is-named m d l ∙ ne-eqb d m n
 
-  pub named-in : (m d : ℕ) → d < p .N → isIn (named m) d ≡ true → d ≡ m
-  named-in m d l e = eqb-true d m (sym (is-named m d l) ∙ e)
+  pub named-only : (m d : ℕ) → d < p .N → isIn (named m) d ≡ true → d ≡ m
+  named-only m d l e = eqb-true d m (sym (is-named m d l) ∙ e)
 
   pub named-out : (m d : ℕ) → d < p .N → isIn (named m) d ≡ false → d ≢ m
   named-out m d l e = eqb-false d m (sym (is-named m d l) ∙ e)
 
   pub named-few : (m : ℕ) → count (p .N) (isIn (named m)) ≤ parities p
   unfolding parities
-  named-few m = count-only (p .N) (isIn (named m)) m (λ d l e. named-in m d l e)
+  named-few m = count-only (p .N) (isIn (named m)) m (λ d l e. named-only m d l e)
 
   -- with none untrusted, none may be named
   pub none-out : None (parOf p h) (isIn 0)

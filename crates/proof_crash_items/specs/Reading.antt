@@ -43,12 +43,12 @@ use Rattle.proof_crash_machine.specs.Facts.{Ghost, InV, Choice, Counted}
 use Rattle.proof_crash_machine.specs.Val.{Val, pads}
 use Rattle.proof_crash_items.specs.Cands.{stampOf, stamp-some, stamp-none, candsSeen, From, cand-counted, stampRead, winner}
 use Rattle.proof_crash_items.specs.Items.{valueOf, itemsIn}
-use Rattle.proof_crash_items.specs.Member.{Has, or-false, and-false-1, none-any, map-has}
+use Rattle.proof_crash_items.specs.Member.{Has, or-both-false, and-false-1, none-any, map-has}
 use Rattle.proof_crash_items.specs.Named.{present-has}
 use Rattle.proof_crash_items.specs.Ranges.{capacity-few, parOf}
 use Rattle.proof_crash_items.specs.Segs.{OnDrives, remaining-has}
-use Rattle.proof_crash_items.specs.Stripes.{stored-below, pointer-is, offset-on, stored-piece, stored-long, counted-has, pieceAt, piece-here, piece-lost}
-use Rattle.proof_crash_items.specs.Table.{shown-first, shown-some}
+use Rattle.proof_crash_items.specs.Stripes.{stored-below, pointer-is, offset-on, stored-piece, stored-block-long, counted-has, pieceAt, piece-here, piece-lost}
+use Rattle.proof_crash_items.specs.Table.{shown-offset, shown-some}
 use Rattle.proof_crash_items.specs.Values.{pieceValue, blocks-of-long, pieces-long}
 
 -- memory whose tables are what the drives say, m missing
@@ -152,9 +152,9 @@ module _ (p : Params) (r : Ranged p) (g : Ghost) (dk : Disk) (w : Whole p dk) (k
     off : ℕ
     off = offsetOf m (G (f .z)) (f .s) (f .d)
 
-    off-here : isIn m (f .d) ≡ false → off ≡ offsetOn (G (f .z)) (f .d) (f .s)
+    offset-read : isIn m (f .d) ≡ false → off ≡ offsetOn (G (f .z)) (f .d) (f .s)
     unfolding off offsetOf
-    off-here n = cond-false (isIn m (f .d)) (f .s) (offsetOn (G (f .z)) (f .d) (f .s)) n
+    offset-read n = cond-false (isIn m (f .d)) (f .s) (offsetOn (G (f .z)) (f .d) (f .s)) n
 
     off-lost : isIn m (f .d) ≡ true → off ≡ f .s
     unfolding off offsetOf
@@ -166,7 +166,7 @@ module _ (p : Params) (r : Ranged p) (g : Ghost) (dk : Disk) (w : Whole p dk) (k
         go : (y : Bool) → isIn m (f .d) ≡ y → off < p .S
         go true e = subst (λ (x : ℕ). x < p .S) (sym (off-lost e)) (counted-has p r g v k m c (f .z) (f .s) (f .cnt) .0)
         go false n =
-            subst (λ (x : ℕ). x < p .S) (sym (off-here n))
+            subst (λ (x : ℕ). x < p .S) (sym (offset-read n))
             (stored-below p (zoneAt v (f .d) (f .z)) (offsetOn (G (f .z)) (f .d) (f .s))
             (offset-on p r g v k m c (f .z) (f .s) (f .d) zb (f .drv) n (chunk-on (f .d) (f .drv) n) .0) .0)
 
@@ -202,7 +202,7 @@ module _ (p : Params) (r : Ranged p) (g : Ghost) (dk : Disk) (w : Whole p dk) (k
         ∙ nothing (not (between 1 (p .S) (placeBlock p (x .place)))
         || (not (isIn m (placeDrive p (x .place)))
         && leb (pointerAt v (placeDrive p (x .place)) (placeZone p (x .place))) (placeBlock p (x .place)))) (placeZone p (x .place))
-        (or-false (not (between 1 (p .S) (placeBlock p (x .place))))
+        (or-both-false (not (between 1 (p .S) (placeBlock p (x .place))))
         (not (isIn m (placeDrive p (x .place)))
         && leb (pointerAt v (placeDrive p (x .place)) (placeZone p (x .place))) (placeBlock p (x .place)))
         (ap not (between-of 1 (p .S) (placeBlock p (x .place)) (omega (arith, place-b)) (omega (arith, place-b, off-few))))
@@ -217,7 +217,7 @@ module _ (p : Params) (r : Ranged p) (g : Ghost) (dk : Disk) (w : Whole p dk) (k
         go false n = and-false (not (isIn m (f .d))) (leb (pointerAt v (f .d) (f .z)) (1 + off)) (lt-leb (pointerAt v (f .d) (f .z)) (1 + off)
             (omega (
               arith,
-              off-here n,
+              offset-read n,
               pointer-is v (f .d) (f .z),
               stored-below p (zoneAt v (f .d) (f .z)) (offsetOn (G (f .z)) (f .d) (f .s))
                   (offset-on p r g v k m c (f .z) (f .s) (f .d) zb (f .drv) n (chunk-on (f .d) (f .drv) n) .0) .1,
@@ -228,16 +228,16 @@ module _ (p : Params) (r : Ranged p) (g : Ghost) (dk : Disk) (w : Whole p dk) (k
     unfolding readPiece storedAt chunkAt
     read-stored n =
         rw (place-d, place-z, place-b) (
-        ap (λ (i : ℕ). getD (zoneAt v (f .d) (f .z) .blocks) i noChunk .block) (let e : 1 + (1 + off - 1) ≡ suc (offsetOn (G (f .z)) (f .d) (f .s)) = omega (arith, off-here n) in e)
+        ap (λ (i : ℕ). getD (zoneAt v (f .d) (f .z) .blocks) i noChunk .block) (let e : 1 + (1 + off - 1) ≡ suc (offsetOn (G (f .z)) (f .d) (f .s)) = omega (arith, offset-read n) in e)
         ∙ sym (ap (λ (y : Piece). y .block) (stored-piece p r g v k m c (f .z) (f .s) (f .d) zb (f .drv) n (chunk-on (f .d) (f .drv) n)))
         ∙ sym (ap (λ (y : Piece). y .block) (piece-here p r g v k m c (f .z) (f .s) (f .d) (f .drv) n)))
 
-    block-at : (d : ℕ) → d < p .N → isIn m d ≡ false
+    shown-block : (d : ℕ) → d < p .N → isIn m d ≡ false
         → storedAt p v m d (f .z) (firstOr 0 (shownAt p v (compactTable p (segments p v m)) d (f .z) (f .s))) .block ≡ storedPiece (G (f .z)) (f .s) d .block
     unfolding storedAt chunkAt
-    block-at d l n =
+    shown-block d l n =
         ap (λ (i : ℕ). getD (zoneAt v d (f .z) .blocks) i noChunk .block)
-        (ap (λ (i : ℕ). 1 + i) (shown-first p r g v k m c (f .z) (f .s) d (f .rem) l n (chunk-on d l n))
+        (ap (λ (i : ℕ). 1 + i) (shown-offset p r g v k m c (f .z) (f .s) d (f .rem) l n (chunk-on d l n))
         ∙ (let e : 1 + offsetOn (G (f .z)) d (f .s) ≡ suc (offsetOn (G (f .z)) d (f .s)) = omega arith in e))
         ∙ sym (ap (λ (y : Piece). y .block) (stored-piece p r g v k m c (f .z) (f .s) d zb l n (chunk-on d l n)))
 
@@ -256,7 +256,7 @@ module _ (p : Params) (r : Ranged p) (g : Ghost) (dk : Disk) (w : Whole p dk) (k
             → map (λ (q : Piece). q .block) (map (λ d. storedAt p v m d (f .z) (firstOr 0 (shownAt p v (compactTable p (segments p v m)) d (f .z) (f .s)))) l)
             ≡ map (λ (q : Piece). q .block) (map (storedPiece (G (f .z)) (f .s)) l)
         same [] h = refl
-        same (d ∷ l) h = ap₂ (λ (b : List ℕ) (bs : List (List ℕ)). b ∷ bs) (block-at d (h d (inl refl) .0) (h d (inl refl) .1)) (same l (λ e i. h e (inr i)))
+        same (d ∷ l) h = ap₂ (λ (b : List ℕ) (bs : List (List ℕ)). b ∷ bs) (shown-block d (h d (inl refl) .0) (h d (inl refl) .1)) (same l (λ e i. h e (inr i)))
 
     no-decode-fault : isIn m (f .d) ≡ true → decodeFaults p v m (compactTable p (segments p v m)) (away (x .place)) ≡ []
     unfolding decodeFaults shown
@@ -285,14 +285,15 @@ module _ (p : Params) (r : Ranged p) (g : Ghost) (dk : Disk) (w : Whole p dk) (k
       where
         go : (y : Bool) → isIn m (f .d) ≡ y → length (pieceOf p m (G (f .z)) (f .s) (f .d) .block) ≡ p .B
         go false n =
-            ap (λ (y : Piece). length (y .block)) (piece-here p r g v k m c (f .z) (f .s) (f .d) (f .drv) n) ∙ stored-long p r g v k m c (f .z) (f .s) (f .d) zb (f .drv) n (chunk-on (f .d) (f .drv) n)
+            ap (λ (y : Piece). length (y .block)) (piece-here p r g v k m c (f .z) (f .s) (f .d) (f .drv) n)
+            ∙ stored-block-long p r g v k m c (f .z) (f .s) (f .d) zb (f .drv) n (chunk-on (f .d) (f .drv) n)
         go true e = ap (λ (y : Piece). length (y .block)) (piece-lost p r g v k m c (f .z) (f .s) (f .d) e)
             ∙ parity-long
           where
             parity-long : length (parityPiece p (f .s) (map (storedPiece (G (f .z)) (f .s)) (present p m)) .block) ≡ p .B
             parity-long = unfold parityPiece in length-parity (p .B) (map (λ (q : Piece). q .block) (map (storedPiece (G (f .z)) (f .s)) (present p m)))
                 (blocks-of-long (p .B) (map (storedPiece (G (f .z)) (f .s)) (present p m)) (pieces-long (p .B) (storedPiece (G (f .z)) (f .s)) (present p m)
-                (λ d i. stored-long p r g v k m c (f .z) (f .s) d zb (present-has p m d i .0) (present-has p m d i .1) (chunk-on d (present-has p m d i .0) (present-has p m d i .1)))))
+                (λ d i. stored-block-long p r g v k m c (f .z) (f .s) d zb (present-has p m d i .0) (present-has p m d i .1) (chunk-on d (present-has p m d i .0) (present-has p m d i .1)))))
 
     -- ---- what the calls give
     pub seen-record : (a : ℕ) → a < p .L → best none (candsOf a cands) ≡ some x → seenAt p (mkWorld dk mem) a ≡ got (pieceOf p m (G (f .z)) (f .s) (f .d) .block)

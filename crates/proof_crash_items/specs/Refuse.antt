@@ -36,13 +36,13 @@ use Rattle.proof_crash_machine.specs.Val.{Val, pads}
 use Rattle.proof_crash_machine.specs.View.{Item}
 use Rattle.proof_crash_machine.specs.View.Item.{chunk}
 use Rattle.proof_crash_items.specs.Items.{valueOf, chunkItem, itemsIn, items-in, chunk-of}
-use Rattle.proof_crash_items.specs.Member.{Has, or-false, and-false-1, keep-has, has-keep, keep-nil, upFrom-has, below-has, has-below, none-any, map-has, has-getD, isNil-has}
+use Rattle.proof_crash_items.specs.Member.{Has, or-both-false, and-false-1, keep-has, has-keep, keep-nil, upFrom-has, below-has, has-below, none-any, map-has, has-getD, isNil-has}
 use Rattle.proof_crash_items.specs.Named.{has-absent, none-present}
 use Rattle.proof_crash_items.specs.Ranges.{parOf, data-code}
-use Rattle.proof_crash_items.specs.SegFacts.{segment-fields, seg-low, seg-R, begun-on, serial-is, copied-is, seg-used, ragged-of}
-use Rattle.proof_crash_items.specs.Segs.{OnDrives, zone-bytes, zone-low, zone-facts, head-serials, trusted, low-serials, used-zones}
+use Rattle.proof_crash_items.specs.SegFacts.{segment-fields, seg-low, seg-R, begun-on, serial-ghost, copied-ghost, seg-used, ragged-of}
+use Rattle.proof_crash_items.specs.Segs.{OnDrives, zone-bytes, zone-pointer-low, zone-facts, head-serials, trusted, low-serials, used-zones}
 use Rattle.proof_crash_items.specs.Shape.{ZoneShape, shape-zone}
-use Rattle.proof_crash_items.specs.Stripes.{spareRecs, length-spareRecs, getD-spareRecs, stored-below, pointer-is, zones-by, recs-on, pieceAt, counted-stripe}
+use Rattle.proof_crash_items.specs.Stripes.{spareRecs, length-spareRecs, getD-spareRecs, stored-below, pointer-is, zones-by, recs-by-spare, pieceAt, counted-stripe}
 use Rattle.proof_crash_items.specs.Values.{pieceValue}
 use Rattle.proof_crash_items.specs.ZoneBytes.{sparesIn, blockIn, ZoneBytes}
 use Rattle.proof_crash_items.specs.Zoning.{zone-found}
@@ -78,20 +78,20 @@ remaining-rising p v gone =
     (rising-keep (λ g. all (λ d. not (eqb (pointerAt v d (zoneOn g d)) 0)) (present p gone)) (below (p .Z)) (rising-below (p .Z)))
 
 -- at most one passes
-few : (f : ℕ → Bool) (l : List ℕ) → Rising l → ((a b : ℕ) → Has a l → Has b l → f a ≡ true → f b ≡ true → a ≡ b) → length (keep f l) ≤ 1
+one-kept-at-most : (f : ℕ → Bool) (l : List ℕ) → Rising l → ((a b : ℕ) → Has a l → Has b l → f a ≡ true → f b ≡ true → a ≡ b) → length (keep f l) ≤ 1
 unfolding keep
-few f [] h e = omega arith
-few f (a ∷ l) h e = go (f a) refl (few f l (h .1) (λ x y i j. e x y (inr i) (inr j)))
+one-kept-at-most f [] h e = omega arith
+one-kept-at-most f (a ∷ l) h e = go (f a) refl (one-kept-at-most f l (h .1) (λ x y i j. e x y (inr i) (inr j)))
   where
     go : (b : Bool) → f a ≡ b → length (keep f l) ≤ 1 → length (consIf b a (keep f l)) ≤ 1
     go true q ih = unfold consIf in (let n : keep f l ≡ [] = keep-nil f l (λ x i. not-so (f x) (λ t. let w : a ≡ x = e a x (inl refl) (inr i) q t in let j : ⊥ = omega (arith, w, h .0 x i) in j)) in
         let z : length (keep f l) ≡ 0 = ap length n in omega arith)
     go false q ih = unfold consIf in ih
 
-keep-map : {A B : Type 0} (f : B → Bool) (h : A → B) (l : List A) → keep f (map h l) ≡ map h (keep (λ (a : A). f (h a)) l)
+keep-mapped : {A B : Type 0} (f : B → Bool) (h : A → B) (l : List A) → keep f (map h l) ≡ map h (keep (λ (a : A). f (h a)) l)
 unfolding keep
-keep-map f h [] = refl
-keep-map {A} {B} f h (a ∷ l) = go (f (h a)) (keep-map f h l)
+keep-mapped f h [] = refl
+keep-mapped {A} {B} f h (a ∷ l) = go (f (h a)) (keep-mapped f h l)
   where
     go : (t : Bool) → keep f (map h l) ≡ map h (keep (λ (a : A). f (h a)) l) → consIf t (h a) (keep f (map h l)) ≡ map h (consIf t a (keep (λ (a : A). f (h a)) l))
     go true e = unfold consIf in ap (λ (x : List B). h a ∷ x) e
@@ -99,28 +99,28 @@ keep-map {A} {B} f h (a ∷ l) = go (f (h a)) (keep-map f h l)
 
 -- ---- records by offset
 
-twice-none : (rs : List Rec) → ((j k : ℕ) → j < length rs → k < length rs → getD rs j (mkRec 0 0 0) .stripe ≡ getD rs k (mkRec 0 0 0) .stripe → j ≡ k) → twice rs ≡ false
+not-twice : (rs : List Rec) → ((j k : ℕ) → j < length rs → k < length rs → getD rs j (mkRec 0 0 0) .stripe ≡ getD rs k (mkRec 0 0 0) .stripe → j ≡ k) → twice rs ≡ false
 unfolding twice
-twice-none [] h = refl
-twice-none (x ∷ rs) h =
-    or-false (any (λ (q : Rec). eqb (q .stripe) (x .stripe)) rs) (twice rs)
+not-twice [] h = refl
+not-twice (x ∷ rs) h =
+    or-both-false (any (λ (q : Rec). eqb (q .stripe) (x .stripe)) rs) (twice rs)
     (none-any (λ (q : Rec). eqb (q .stripe) (x .stripe)) rs (λ q i.
     let w : (j : ℕ) × (j < length rs) × (getD rs j (mkRec 0 0 0) ≡ q) = has-getD rs q (mkRec 0 0 0) i in
     ne-eqb (q .stripe) (x .stripe) (λ e. let z : suc (w .0) ≡ 0 = h (suc (w .0)) 0 (omega (arith, w .1)) (omega arith) (ap (λ (y : Rec). y .stripe) (w .2) ∙ e) in let n : ⊥ = omega (arith, z) in n)))
-    (twice-none rs (λ j k a b e. let z : suc j ≡ suc k = h (suc j) (suc k) (omega arith) (omega arith) e in omega (arith, z)))
+    (not-twice rs (λ j k a b e. let z : suc j ≡ suc k = h (suc j) (suc k) (omega arith) (omega arith) e in omega (arith, z)))
 
 same-self : (l : List (List ℕ)) → sameBlocks l l ≡ true
 unfolding sameBlocks
 same-self [] = refl
 same-self (x ∷ l) = and-both (sameList x x) (sameBlocks l l) (sameList-refl x) (same-self l)
 
-same-blocks : (a b : List (List ℕ)) → a ≡ b → sameBlocks a b ≡ true
-same-blocks a b e = subst (λ (x : List (List ℕ)). sameBlocks a x ≡ true) e (same-self a)
+blocks-same : (a b : List (List ℕ)) → a ≡ b → sameBlocks a b ≡ true
+blocks-same a b e = subst (λ (x : List (List ℕ)). sameBlocks a x ≡ true) e (same-self a)
 
 -- the footers stored in a zone are made from its spares
 footers-made : (p : Params) → Ranged p → (d z : ℕ) (q : Zone) → ZoneShape p q → ZoneBytes p d z q → footerFaultIn p q ≡ false
 unfolding footerFaultIn
-footers-made p r d z q s f = ap not (same-blocks (blocksOf (take (footersStored p q) (drop (1 + p .S) (q .blocks)))) (footersOf p q 0 (footersStored p q)) same)
+footers-made p r d z q s f = ap not (blocks-same (blocksOf (take (footersStored p q) (drop (1 + p .S) (q .blocks)))) (footersOf p q 0 (footersStored p q)) same)
   where
     n : ℕ
     n = footersStored p q
@@ -168,8 +168,8 @@ module _ (p : Params) (r : Ranged p) (g : Ghost) (v : View) (k : OnDrives p r g 
     R? : R (parOf p r) (g .hd) (itemsIn p v) (isIn m) z
     R? = seg-R p r g v k m c z i
 
-    begun : (d : ℕ) → d < p .N → isIn m d ≡ false → 0 < pointerAt v d z
-    begun = begun-on p r g v k m c z i
+    zone-begun : (d : ℕ) → d < p .N → isIn m d ≡ false → 0 < pointerAt v d z
+    zone-begun = begun-on p r g v k m c z i
 
     -- ---- headers
     header-fine : headerFault p m (G z) ≡ false
@@ -183,7 +183,7 @@ module _ (p : Params) (r : Ranged p) (g : Ghost) (v : View) (k : OnDrives p r g 
         one : (d : ℕ) → d < p .N → isIn m d ≡ false → sameChunk (getD (zoneAt v d z .blocks) 0 noChunk) (headerBlock p d (zoneOn (G z .seg) d) (G z .serial) (G z .copied)) zeroSpare ≡ true
         one d l n =
             let t : g .un d ≡ false = trusted p r g v k m c d l n in
-            let a : (headerSerial (headerAt v d z) ≡ g .hd .ser z) × (headerCopied (headerAt v d z) ≡ g .hd .cop z) = head-serials p r g v k d z l t b (begun d l n) in
+            let a : (headerSerial (headerAt v d z) ≡ g .hd .ser z) × (headerCopied (headerAt v d z) ≡ g .hd .cop z) = head-serials p r g v k d z l t b (zone-begun d l n) in
             let w : (headerSerial (headerAt v (lowDrive p m) z) ≡ g .hd .ser z) × (headerCopied (headerAt v (lowDrive p m) z) ≡ g .hd .cop z) =
             low-serials p r g v k m c z (R? .left) in
             let h : blockIn (zoneAt v d z) 0 ≡ mkChunk (headerBlock p d z (headerSerial (headerAt v d z)) (headerCopied (headerAt v d z))) zeroSpare = whole d l n in
@@ -198,7 +198,7 @@ module _ (p : Params) (r : Ranged p) (g : Ghost) (v : View) (k : OnDrives p r g 
             on d = unfold zoneOn in segment-fields p r g v k m c z .0
 
             whole : (d : ℕ) → d < p .N → isIn m d ≡ false → blockIn (zoneAt v d z) 0 ≡ mkChunk (headerBlock p d z (headerSerial (headerAt v d z)) (headerCopied (headerAt v d z))) zeroSpare
-            whole d l n = unfold headerAt chunkAt zoneOn in zone-bytes p r g v k d z l (trusted p r g v k m c d l n) b .head (subst (λ (x : ℕ). 0 < x) (sym (pointer-is v d z)) (begun d l n))
+            whole d l n = unfold headerAt chunkAt zoneOn in zone-bytes p r g v k d z l (trusted p r g v k m c d l n) b .head (subst (λ (x : ℕ). 0 < x) (sym (pointer-is v d z)) (zone-begun d l n))
 
             chunk-self : (x y : List ℕ) → sameChunk (mkChunk x y) x y ≡ true
             chunk-self x y = unfold sameChunk in and-both (sameList x x) (sameList y y) (sameList-refl x) (sameList-refl y)
@@ -211,13 +211,13 @@ module _ (p : Params) (r : Ranged p) (g : Ghost) (v : View) (k : OnDrives p r g 
         let s : (o < p .S) × (suc o < zoneAt v d z .pointer) = stored-below p (zoneAt v d z) o w in
         subst (λ (y : List Item). Off y (suc o) (chunk (recordOf (blockIn (zoneAt v d z) (suc o) .spare) .stripe)
         (valueOf (blockIn (zoneAt v d z) (suc o) .block) (recordOf (blockIn (zoneAt v d z) (suc o) .spare)))))
-        (sym (items-in p v d z)) (unfold chunkItem in chunk-of p (zoneAt v d z) (zone-low p r g v k d z l (trusted p r g v k m c d l n) b) o (s .0) (s .1))
+        (sym (items-in p v d z)) (unfold chunkItem in chunk-of p (zoneAt v d z) (zone-pointer-low p r g v k d z l (trusted p r g v k m c d l n) b) o (s .0) (s .1))
 
     stripes-fine : stripeFault p m (G z) ≡ false
     unfolding stripeFault
     stripes-fine = none-present p m (λ d. outside p 0 (recsOn (G z) d) || twice (recsOn (G z) d)) (λ d l n.
-        subst (λ (x : List Rec). (outside p 0 x || twice x) ≡ false) (sym (recs-on p r g v k m c z d b l n))
-        (or-false (outside p 0 (spareRecs p (zoneAt v d z))) (twice (spareRecs p (zoneAt v d z))) (out d l n) (once d l n)))
+        subst (λ (x : List Rec). (outside p 0 x || twice x) ≡ false) (sym (recs-by-spare p r g v k m c z d b l n))
+        (or-both-false (outside p 0 (spareRecs p (zoneAt v d z))) (twice (spareRecs p (zoneAt v d z))) (out d l n) (once d l n)))
       where
         at : (d o : ℕ) → o < length (spareRecs p (zoneAt v d z)) → getD (spareRecs p (zoneAt v d z)) o (mkRec 0 0 0) ≡ recordOf (blockIn (zoneAt v d z) (suc o) .spare)
         at d o w = getD-spareRecs p (zoneAt v d z) o (mkRec 0 0 0) (omega (arith, w, length-spareRecs p (zoneAt v d z)))
@@ -234,7 +234,7 @@ module _ (p : Params) (r : Ranged p) (g : Ghost) (v : View) (k : OnDrives p r g 
             inside o s a e = unfold inGroupOf in and-both (ltb s (p .S)) (eqb (group p s) (group p o)) (lt-ltb s (p .S) a) (eq-eqb (group p s) (group p o) e)
 
         once : (d : ℕ) → d < p .N → isIn m d ≡ false → twice (spareRecs p (zoneAt v d z)) ≡ false
-        once d l n = twice-none (spareRecs p (zoneAt v d z)) (λ i j a a′ e.
+        once d l n = not-twice (spareRecs p (zoneAt v d z)) (λ i j a a′ e.
             let ia : i < dataStored p (zoneAt v d z) = omega (arith, a, length-spareRecs p (zoneAt v d z)) in
             let ja : j < dataStored p (zoneAt v d z) = omega (arith, a′, length-spareRecs p (zoneAt v d z)) in
             let q : recordOf (blockIn (zoneAt v d z) (suc i) .spare) .stripe ≡ recordOf (blockIn (zoneAt v d z) (suc j) .spare) .stripe =
@@ -252,7 +252,7 @@ module _ (p : Params) (r : Ranged p) (g : Ghost) (v : View) (k : OnDrives p r g 
     unfolding badRec
     good-rec b x (inl e) =
         let a : x .address ≡ paddingAddress = pads-address b x e in
-        or-false (leb (p .L) (x .address) && not (eqb (x .address) paddingAddress)) (ltb (x .address) (p .L) && eqb (x .stamp) 0)
+        or-both-false (leb (p .L) (x .address) && not (eqb (x .address) paddingAddress)) (ltb (x .address) (p .L) && eqb (x .stamp) 0)
         (and-false (leb (p .L) (x .address)) (not (eqb (x .address) paddingAddress)) (ap not (eq-eqb (x .address) paddingAddress a)))
         (and-false-1 (ltb (x .address) (p .L)) (eqb (x .stamp) 0) (le-ltb (x .address) (p .L) (omega (arith, a, addresses-all p r))))
       where
@@ -260,7 +260,7 @@ module _ (p : Params) (r : Ranged p) (g : Ghost) (v : View) (k : OnDrives p r g 
         pads-address b x e = unfold pads valueOf in ap (λ (y : Val). y .addr) e
     good-rec b x (inr i) =
         let w : (0 < valueOf b x .stamp) × (valueOf b x .addr < p .L) = known (valueOf b x) i in
-        or-false (leb (p .L) (x .address) && not (eqb (x .address) paddingAddress)) (ltb (x .address) (p .L) && eqb (x .stamp) 0)
+        or-both-false (leb (p .L) (x .address) && not (eqb (x .address) paddingAddress)) (ltb (x .address) (p .L) && eqb (x .stamp) 0)
         (and-false-1 (leb (p .L) (x .address)) (not (eqb (x .address) paddingAddress)) (lt-leb (p .L) (x .address) (addr-is b x (w .1))))
         (and-false (ltb (x .address) (p .L)) (eqb (x .stamp) 0) (ne-eqb (x .stamp) 0 (λ e. let j : ⊥ = omega (arith, e, stamp-is b x (w .0)) in j)))
       where
@@ -272,7 +272,7 @@ module _ (p : Params) (r : Ranged p) (g : Ghost) (v : View) (k : OnDrives p r g 
 
     stored-fine : any (λ d. any (storedBad p d) (recsOn (G z) d)) (present p m) ≡ false
     stored-fine = none-present p m (λ d. any (storedBad p d) (recsOn (G z) d)) (λ d l n.
-        subst (λ (y : List Rec). any (storedBad p d) y ≡ false) (sym (recs-on p r g v k m c z d b l n))
+        subst (λ (y : List Rec). any (storedBad p d) y ≡ false) (sym (recs-by-spare p r g v k m c z d b l n))
         (none-any (storedBad p d) (spareRecs p (zoneAt v d z)) (λ x i. one d l n x (has-getD (spareRecs p (zoneAt v d z)) x (mkRec 0 0 0) i))))
       where
         one : (d : ℕ) → d < p .N → isIn m d ≡ false → (x : Rec) → (j : ℕ) × (j < length (spareRecs p (zoneAt v d z))) × (getD (spareRecs p (zoneAt v d z)) j (mkRec 0 0 0) ≡ x)
@@ -306,7 +306,7 @@ module _ (p : Params) (r : Ranged p) (g : Ghost) (v : View) (k : OnDrives p r g 
     addresses-fine : addressFault p m (G z) ≡ false
     unfolding addressFault
     addresses-fine =
-        or-false (any (λ d. any (storedBad p d) (recsOn (G z) d)) (present p m))
+        or-both-false (any (λ d. any (storedBad p d) (recsOn (G z) d)) (present p m))
         (any (λ d. any (decodedBad p m (G z) d) (counted p m (G z))) (absent p m)) stored-fine decoded-fine
 
     -- ---- footers
@@ -320,8 +320,8 @@ module _ (p : Params) (r : Ranged p) (g : Ghost) (v : View) (k : OnDrives p r g 
   -- ---- serials
   serials-fine : (z : ℕ) → Has z (remaining p v m) → serialFault (segments p v m) (G z) ≡ false
   unfolding serialFault segments
-  serials-fine z i = or-false (leb (G z .serial) (G z .copied)) (any test? (map (segmentOf p v m) (remaining p v m)))
-      (lt-leb (G z .serial) (G z .copied) (omega (arith, serial-is p r g v k m c z i, copied-is p r g v k m c z i, k .facts .swap .below z (seg-used p r g v k m c z i))))
+  serials-fine z i = or-both-false (leb (G z .serial) (G z .copied)) (any test? (map (segmentOf p v m) (remaining p v m)))
+      (lt-leb (G z .serial) (G z .copied) (omega (arith, serial-ghost p r g v k m c z i, copied-ghost p r g v k m c z i, k .facts .swap .below z (seg-used p r g v k m c z i))))
       (none-any test? (map (segmentOf p v m) (remaining p v m)) (λ h j. one h (map-has (segmentOf p v m) h (remaining p v m) j)))
     where
       test? : Segment → Bool
@@ -335,15 +335,15 @@ module _ (p : Params) (r : Ranged p) (g : Ghost) (v : View) (k : OnDrives p r g 
               and-false-1 (not (eqb (G y .seg) (G z .seg))) (eqb (G y .serial) (G z .serial))
               (ap not (eq-eqb (G y .seg) (G z .seg) (segment-fields p r g v k m c y .0 ∙ q ∙ sym (segment-fields p r g v k m c z .0))))
           go (no q) = and-false (not (eqb (G y .seg) (G z .seg))) (eqb (G y .serial) (G z .serial)) (ne-eqb (G y .serial) (G z .serial) (λ w.
-              q (k .facts .swap .serials y z (seg-used p r g v k m c y j) (seg-used p r g v k m c z i) (sym (serial-is p r g v k m c y j) ∙ w ∙ serial-is p r g v k m c z i))))
+              q (k .facts .swap .serials y z (seg-used p r g v k m c y j) (seg-used p r g v k m c z i) (sym (serial-ghost p r g v k m c y j) ∙ w ∙ serial-ghost p r g v k m c z i))))
 
   -- ---- one unsealed segment
   pub one-unsealed : length (unsealed (segments p v m)) ≤ 1
   unfolding unsealed segments
   one-unsealed =
       let e : keep (λ (g : Segment). not (g .full)) (map (segmentOf p v m) (remaining p v m)) ≡ map (segmentOf p v m) (keep (λ z. not (G z .full)) (remaining p v m)) =
-      keep-map (λ (g : Segment). not (g .full)) (segmentOf p v m) (remaining p v m) in
-      let n : length (keep (λ z. not (G z .full)) (remaining p v m)) ≤ 1 = few (λ z. not (G z .full)) (remaining p v m) (remaining-rising p v m) (λ y z i j a b.
+      keep-mapped (λ (g : Segment). not (g .full)) (segmentOf p v m) (remaining p v m) in
+      let n : length (keep (λ z. not (G z .full)) (remaining p v m)) ≤ 1 = one-kept-at-most (λ z. not (G z .full)) (remaining p v m) (remaining-rising p v m) (λ y z i j a b.
       accepted (parOf p r) g (itemsIn p v) (k .facts) (isIn m) c .one y z (R? y i) (R? z j) (ragged-of p r g v k m c y i (not-true (G y .full) a))
       (ragged-of p r g v k m c z j (not-true (G z .full) b))) in
       omega (arith, n, ap length e ∙ length-map (keep (λ z. not (G z .full)) (remaining p v m)) (segmentOf p v m))
@@ -352,14 +352,14 @@ module _ (p : Params) (r : Ranged p) (g : Ghost) (v : View) (k : OnDrives p r g 
   unfolding segmentFault clashes
   segment-fine z i =
       let gs : List Segment = segments p v m in
-      let h₁ : (headerFault p m (G z) || serialFault gs (G z)) ≡ false = or-false (headerFault p m (G z)) (serialFault gs (G z)) (header-fine z i) (serials-fine z i) in
+      let h₁ : (headerFault p m (G z) || serialFault gs (G z)) ≡ false = or-both-false (headerFault p m (G z)) (serialFault gs (G z)) (header-fine z i) (serials-fine z i) in
       let h₂ : (headerFault p m (G z) || serialFault gs (G z) || stripeFault p m (G z)) ≡ false =
-      or-false (headerFault p m (G z) || serialFault gs (G z)) (stripeFault p m (G z)) h₁ (stripes-fine z i) in
+      or-both-false (headerFault p m (G z) || serialFault gs (G z)) (stripeFault p m (G z)) h₁ (stripes-fine z i) in
       let h₃ : (headerFault p m (G z) || serialFault gs (G z) || stripeFault p m (G z) || addressFault p m (G z)) ≡ false =
-      or-false (headerFault p m (G z) || serialFault gs (G z) || stripeFault p m (G z)) (addressFault p m (G z)) h₂ (addresses-fine z i) in
+      or-both-false (headerFault p m (G z) || serialFault gs (G z) || stripeFault p m (G z)) (addressFault p m (G z)) h₂ (addresses-fine z i) in
       let h₄ : (headerFault p m (G z) || serialFault gs (G z) || stripeFault p m (G z) || addressFault p m (G z) || footerFault p m (G z)) ≡ false =
-      or-false (headerFault p m (G z) || serialFault gs (G z) || stripeFault p m (G z) || addressFault p m (G z)) (footerFault p m (G z)) h₃ (footers-fine z i) in
-      or-false (headerFault p m (G z)
+      or-both-false (headerFault p m (G z) || serialFault gs (G z) || stripeFault p m (G z) || addressFault p m (G z)) (footerFault p m (G z)) h₃ (footers-fine z i) in
+      or-both-false (headerFault p m (G z)
       || serialFault gs (G z)
       || stripeFault p m (G z)
       || addressFault p m (G z)

@@ -25,14 +25,14 @@ use Rattle.law_basic.specs.Ranges.{and-both, length-below, length-keep}
 use Rattle.law_views.specs.Views.{Whole}
 use Rattle.law_drives.specs.States.{idle-ok}
 use Rattle.law_drives.specs.Tables.{zero-at, length-addresses}
-use Rattle.proof_crash_machine.specs.Exec.{or-cases, allB, all-true}
+use Rattle.proof_crash_machine.specs.Exec.{or-either, allB, all-true}
 use Rattle.proof_crash_machine.specs.Facts.{Ghost, Choice}
 use Rattle.proof_crash_items.specs.Member.{Has, keep-has, map-has}
 use Rattle.proof_crash_items.specs.Named.{named-none}
 use Rattle.proof_crash_items.specs.Ranges.{parOf}
 use Rattle.proof_crash_items.specs.Reading.{Tabled}
 use Rattle.proof_crash_items.specs.Segs.{OnDrives, remaining-has}
-use Rattle.proof_crash_items.specs.Table.{length-compact}
+use Rattle.proof_crash_items.specs.Table.{compact-length}
 
 -- ---- an idle state
 
@@ -55,10 +55,10 @@ ones-zero = refl
 
 pub names-cases : (p : Params) (m : ℕ) → namesDrive p m ≡ true → (m < p .N) ⊎ (m ≡ noDrive)
 unfolding namesDrive
-names-cases p m e = ⊎-elim (λ (q : ltb m (p .N) ≡ true). inl (ltb-true m (p .N) q)) (λ (q : eqb m noDrive ≡ true). inr (eqb-true m noDrive q)) (or-cases (ltb m (p .N)) (eqb m noDrive) e)
+names-cases p m e = ⊎-elim (λ (q : ltb m (p .N) ≡ true). inl (ltb-true m (p .N) q)) (λ (q : eqb m noDrive ≡ true). inr (eqb-true m noDrive q)) (or-either (ltb m (p .N)) (eqb m noDrive) e)
 
-pub named-ones : (m : ℕ) → ones (named m) ≤ 1
-named-ones m = go (decLt m 8)
+pub ones-named : (m : ℕ) → ones (named m) ≤ 1
+ones-named m = go (decLt m 8)
   where
     go : Dec (m < 8) → ones (named m) ≤ 1
     go (yes l) = leb-true (ones (named m)) 1 (all-true 8 (λ (m : ℕ). leb (ones (named m)) 1) one-each m l)
@@ -68,8 +68,8 @@ named-pow : (m : ℕ) → m < 8 → named m ≡ 2 ^ m
 unfolding named
 named-pow m l = only-pow m l
 
-pub named-lt : (p : Params) → Ranged p → (m : ℕ) → namesDrive p m ≡ true → named m < 2 ^ p .N
-named-lt p r m e = go (names-cases p m e)
+pub named-mask-low : (p : Params) → Ranged p → (m : ℕ) → namesDrive p m ≡ true → named m < 2 ^ p .N
+named-mask-low p r m e = go (names-cases p m e)
   where
     go : (m < p .N) ⊎ (m ≡ noDrive) → named m < 2 ^ p .N
     go (inl l) = subst (λ (x : ℕ). x < 2 ^ p .N) (sym (named-pow m (omega (arith, l, r .drives-high)))) (pow-lt l)
@@ -137,5 +137,5 @@ module _ (p : Params) (r : Ranged p) (g : Ghost) (v : View) (k : OnDrives p r g 
       (and-both (eqb (length (dk .image)) (imageLen p)) (eqb (length (dk .pointers)) (pointersLen p))
       (eq-eqb (length (dk .image)) (imageLen p) (w .image-long)) (eq-eqb (length (dk .pointers)) (pointersLen p) (w .pointers-long)))
       (eq-eqb (length (addressTable p (candidates p m (segments p v m)))) (addressesLen p) (length-addresses p (candidates p m (segments p v m)))))
-      (eq-eqb (length (compactTable p (segments p v m))) (compactLen p) (length-compact p r g v k m c)))
+      (eq-eqb (length (compactTable p (segments p v m))) (compactLen p) (compact-length p r g v k m c)))
       (eq-eqb (length fl) (inflightLen p) l)

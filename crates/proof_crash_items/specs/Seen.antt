@@ -15,7 +15,7 @@ use Rattle.law_basic.specs.Splice.{length-part}
 use Rattle.law_views.specs.Views.{Whole, blocks-long, block-view, spare-view, AllFit, seen, view-stores, whole-stores}
 use Rattle.proof_crash_items.specs.Ranges.{capacity-many}
 use Rattle.proof_crash_items.specs.Shape.{Shape, fit-take}
-use Rattle.proof_crash_items.specs.Sound.{AllSound, all-fit}
+use Rattle.proof_crash_items.specs.Sound.{AllSound, sounds-fit}
 
 module _ (p : Params) (k : Disk) (w : Whole p k) where
   pub shape-seen : Shape p (seen p k)
@@ -55,7 +55,7 @@ module _ (p : Params) (k : Disk) (w : Whole p k) where
 -- sound stores on the bytes, all or the first n
 module _ (p : Params) (r : Ranged p) (k : Disk) (w : Whole p k) (ss : List Store) (f : AllSound p (seen p k) ss) where
   fits : AllFit p (seen p k) ss
-  fits = all-fit p r (seen p k) ss (shape-seen p k w) f
+  fits = sounds-fit p r (seen p k) ss (shape-seen p k w) f
 
   pub seen-stores : seen p (storeAll (storeDisk p) ss k) ≡ storeAll storeView ss (seen p k)
   seen-stores = view-stores p k ss (capacity-many p r) w fits

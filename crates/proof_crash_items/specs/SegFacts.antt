@@ -54,11 +54,11 @@ module _ (p : Params) (r : Ranged p) (g : Ghost) (v : View) (k : OnDrives p r g 
     pub begun-on : (d : ℕ) → d < p .N → isIn m d ≡ false → 0 < pointerAt v d z
     begun-on d l n = omega (arith, seg-R .left d l n, zone-len p r g v k d z l (trusted p r g v k m c d l n) seg-low)
 
-    pub serial-is : G z .serial ≡ g .hd .ser z
-    serial-is = segment-fields z .1 ∙ low-serials p r g v k m c z (seg-R .left) .0
+    pub serial-ghost : G z .serial ≡ g .hd .ser z
+    serial-ghost = segment-fields z .1 ∙ low-serials p r g v k m c z (seg-R .left) .0
 
-    pub copied-is : G z .copied ≡ g .hd .cop z
-    copied-is = segment-fields z .2 ∙ low-serials p r g v k m c z (seg-R .left) .1
+    pub copied-ghost : G z .copied ≡ g .hd .cop z
+    copied-ghost = segment-fields z .2 ∙ low-serials p r g v k m c z (seg-R .left) .1
 
     pub seg-used : Used (parOf p r) (g .un) (itemsIn p v) z
     seg-used = used (parOf p r) g (itemsIn p v) (isIn m) z c (seg-R .left)

@@ -16,13 +16,13 @@ use Rattle.spec.specs.Lists.{below, all, any, isIn}
 use Rattle.spec.specs.Params.{present}
 use Rattle.spec.specs.Segments.{lowDrive, headerAt, leftBy1, isCopy, remaining}
 use Rattle.law_basic.specs.Geometry.{Ranged}
-use Rattle.proof_crash_machine.specs.Exec.{and-2, both, not-1, not-2}
-use Rattle.proof_crash_machine.specs.Facts.{Ghost, Choice, L, R, Zone as m-Zone, Facts, used, Used, trust}
+use Rattle.proof_crash_machine.specs.Exec.{and-2, both-true, not-1, not-2}
+use Rattle.proof_crash_machine.specs.Facts.{Ghost, Choice, L, R, ZoneItems, Facts, used, Used, trust}
 use Rattle.proof_crash_machine.specs.View.{Item}
 use Rattle.proof_crash_machine.specs.View.Item.{hdr, foot}
 use Rattle.proof_crash_items.specs.Items.{itemAt, itemsOf, itemsIn, items-in, length-of, getD-of, headerZones, outside-nothing}
 use Rattle.proof_crash_items.specs.Member.{Has, keep-has, has-keep, below-has, has-below, any-has, has-any}
-use Rattle.proof_crash_items.specs.Named.{all-present, present-all, low-drive}
+use Rattle.proof_crash_items.specs.Named.{all-present, all-on-present, low-drive}
 use Rattle.proof_crash_items.specs.Ranges.{parOf}
 use Rattle.proof_crash_items.specs.Shape.{Shape}
 use Rattle.proof_crash_items.specs.Sound.{BytesOk}
@@ -40,14 +40,14 @@ module _ (p : Params) (r : Ranged p) (g : Ghost) (v : View) (k : OnDrives p r g 
   pub zone-bytes : (d z : ℕ) → d < p .N → g .un d ≡ false → z < p .Z → ZoneBytes p d z (zoneAt v d z)
   zone-bytes d z l n b = k .bytes d l n z b
 
-  pub zone-low : (d z : ℕ) → d < p .N → g .un d ≡ false → z < p .Z → zoneAt v d z .pointer ≤ length (zoneAt v d z .blocks)
-  zone-low d z l n b = omega (arith, zone-bytes d z l n b .low, k .shape .blocks d z l b)
+  pub zone-pointer-low : (d z : ℕ) → d < p .N → g .un d ≡ false → z < p .Z → zoneAt v d z .pointer ≤ length (zoneAt v d z .blocks)
+  zone-pointer-low d z l n b = omega (arith, zone-bytes d z l n b .low, k .shape .blocks d z l b)
 
   pub zone-len : (d z : ℕ) → d < p .N → g .un d ≡ false → z < p .Z → length (itemsIn p v d z) ≡ pointerAt v d z
   unfolding itemsIn pointerAt
-  zone-len d z l n b = length-of p (zoneAt v d z) (zone-low d z l n b)
+  zone-len d z l n b = length-of p (zoneAt v d z) (zone-pointer-low d z l n b)
 
-  pub zone-facts : (d z : ℕ) → d < p .N → g .un d ≡ false → m-Zone (parOf p r) g d z (itemsIn p v d z)
+  pub zone-facts : (d z : ℕ) → d < p .N → g .un d ≡ false → ZoneItems (parOf p r) g d z (itemsIn p v d z)
   zone-facts d z l n = k .facts .zones d z (l, n)
 
   -- headers of a trusted zone that isn't empty
@@ -57,7 +57,7 @@ module _ (p : Params) (r : Ranged p) (g : Ghost) (v : View) (k : OnDrives p r g 
   head-names d z l n b e =
       let f : 0 < length (itemsIn p v d z) = omega (arith, zone-len d z l n b, e) in
       let h : getD (itemsIn p v d z) 0 (foot 0) ≡ hdr (g .hd .ser z) (g .hd .cop z) (g .hd .zn z) = zone-facts d z l n .head f in
-      let i : getD (itemsOf p (zoneAt v d z)) 0 (foot 0) ≡ itemAt p 0 (getD (zoneAt v d z .blocks) 0 noChunk) = getD-of p (zoneAt v d z) (zone-low d z l n b) 0 e in
+      let i : getD (itemsOf p (zoneAt v d z)) 0 (foot 0) ≡ itemAt p 0 (getD (zoneAt v d z .blocks) 0 noChunk) = getD-of p (zoneAt v d z) (zone-pointer-low d z l n b) 0 e in
       go (sym i ∙ ap (λ (x : List Item). getD x 0 (foot 0)) (sym (items-in p v d z)) ∙ h)
     where
       go : itemAt p 0 (getD (zoneAt v d z .blocks) 0 noChunk) ≡ hdr (g .hd .ser z) (g .hd .cop z) (g .hd .zn z)
@@ -102,7 +102,7 @@ module _ (p : Params) (r : Ranged p) (g : Ghost) (v : View) (k : OnDrives p r g 
     has-left1 z h =
         let b : z < p .Z = left-below z h in
         has-keep (λ g. all (λ d. not (eqb (pointerAt v d g) 0)) (present p m)) z (below (p .Z)) (has-below z (p .Z) b)
-        (present-all p m (λ d. not (eqb (pointerAt v d z) 0)) (λ d l n.
+        (all-on-present p m (λ d. not (eqb (pointerAt v d z) 0)) (λ d l n.
         not-1 (eqb (pointerAt v d z) 0) (λ e. let q : ⊥ = omega (arith, eqb-true (pointerAt v d z) 0 e, zone-len d z l (trusted d l n) b, h d l n) in q)))
 
     pub left1-has : (z : ℕ) → Has z (leftBy1 p v m) → (z < p .Z) × L (parOf p r) (itemsIn p v) (isIn m) z
@@ -163,9 +163,9 @@ module _ (p : Params) (r : Ranged p) (g : Ghost) (v : View) (k : OnDrives p r g 
                 (λ w. let j : ⊥ = omega (arith, w, cz, e, positive o lo) in j) in
                 let oz : eqb o z ≡ false = ne-eqb o z (λ w. let t : g .hd .ser o ≡ g .hd .ser z = ap (g .hd .ser) w in let j : ⊥ = omega (arith, t, e, positive z (l .1)) in j) in
                 not-2 (isCopy v (lowDrive p m) (leftBy1 p v m) z) (q .1)
-                (both (not (eqb (headerCopied (headerAt v (lowDrive p m) z)) 0)) (any (copyTest z) (leftBy1 p v m)) (ap not c₀)
+                (both-true (not (eqb (headerCopied (headerAt v (lowDrive p m) z)) 0)) (any (copyTest z) (leftBy1 p v m)) (ap not c₀)
                 (has-any (copyTest z) (leftBy1 p v m) o (has-left1 o lo)
-                (both (not (eqb o z)) (eqb (headerSerial (headerAt v (lowDrive p m) o)) (headerCopied (headerAt v (lowDrive p m) z))) (ap not oz)
+                (both-true (not (eqb o z)) (eqb (headerSerial (headerAt v (lowDrive p m) o)) (headerCopied (headerAt v (lowDrive p m) z))) (ap not oz)
                 (eq-eqb (headerSerial (headerAt v (lowDrive p m) o)) (headerCopied (headerAt v (lowDrive p m) z)) (so ∙ sym e ∙ sym cz)))));
           },
         )

@@ -22,15 +22,15 @@ pub record Shape (p : Params) (v : View) : Type 0 where
 
 -- ---- one zone set
 
-pub zone-set : (p : Params) (v : View) → Shape p v → (d z : ℕ) (q : Zone) → d < p .N → z < p .Z → zoneAt (setZone v d z q) d z ≡ q
+pub zone-set-at : (p : Params) (v : View) → Shape p v → (d z : ℕ) (q : Zone) → d < p .N → z < p .Z → zoneAt (setZone v d z q) d z ≡ q
 unfolding zoneAt setZone
-zone-set p v h d z q l k =
+zone-set-at p v h d z q l k =
     ap (λ (x : List Zone). getD x z noZone) (getD-set-same v d (set (getD v d []) z q) [] (omega (arith, h .drives)))
     ∙ getD-set-same (getD v d []) z q noZone (omega (arith, h .zones d l))
 
-pub zone-set-other : (p : Params) (v : View) → Shape p v → (d z : ℕ) (q : Zone) → d < p .N → (e y : ℕ) → (e ≢ d) ⊎ (y ≢ z) → zoneAt (setZone v d z q) e y ≡ zoneAt v e y
+pub zone-set-else : (p : Params) (v : View) → Shape p v → (d z : ℕ) (q : Zone) → d < p .N → (e y : ℕ) → (e ≢ d) ⊎ (y ≢ z) → zoneAt (setZone v d z q) e y ≡ zoneAt v e y
 unfolding zoneAt setZone
-zone-set-other p v h d z q l e y n = go (ℕ-discrete e d)
+zone-set-else p v h d z q l e y n = go (ℕ-discrete e d)
   where
     go : Dec (e ≡ d) → getD (getD (set v d (set (getD v d []) z q)) e []) y noZone ≡ getD (getD v e []) y noZone
     go (no k) = ap (λ (x : List Zone). getD x y noZone) (getD-set-other v d e (set (getD v d []) z q) [] k)
@@ -46,10 +46,10 @@ pub set-elim : (p : Params) (v : View) → Shape p v → (Q : ℕ → ℕ → Zo
 set-elim p v h Q d z q l k new e y old = go (ℕ-discrete e d) (ℕ-discrete y z)
   where
     go : Dec (e ≡ d) → Dec (y ≡ z) → Q e y (zoneAt (setZone v d z q) e y)
-    go (yes a) (yes b) = rw (a, b) (rw (zone-set p v h d z q l k) new)
-    go (yes a) (no b) = rw (zone-set-other p v h d z q l e y (inr b)) old
-    go (no a) (yes b) = rw (zone-set-other p v h d z q l e y (inl a)) old
-    go (no a) (no b) = rw (zone-set-other p v h d z q l e y (inl a)) old
+    go (yes a) (yes b) = rw (a, b) (rw (zone-set-at p v h d z q l k) new)
+    go (yes a) (no b) = rw (zone-set-else p v h d z q l e y (inr b)) old
+    go (no a) (yes b) = rw (zone-set-else p v h d z q l e y (inl a)) old
+    go (no a) (no b) = rw (zone-set-else p v h d z q l e y (inl a)) old
 
 -- ---- the shape is kept
 
@@ -127,11 +127,11 @@ fit-take p v (s ∷ ss) (suc n) f = (f .0, fit-take p (storeView s v) ss n (f .1
 module _ (p : Params) (v : View) (h : Shape p v) (d z : ℕ) (b t : List ℕ) (l : d < p .N) (m : z < p .Z) where
   pub put-at : zoneAt (storeView (put d z b t) v) d z ≡ putZone b t (zoneAt v d z)
   unfolding storeView
-  put-at = zone-set p v h d z (putZone b t (zoneAt v d z)) l m
+  put-at = zone-set-at p v h d z (putZone b t (zoneAt v d z)) l m
 
-  pub put-pointer : pointerAt (storeView (put d z b t) v) d z ≡ suc (pointerAt v d z)
+  pub put-pointer-at : pointerAt (storeView (put d z b t) v) d z ≡ suc (pointerAt v d z)
   unfolding pointerAt
-  put-pointer = ap (λ (q : Zone). q .pointer) put-at ∙ raised
+  put-pointer-at = ap (λ (q : Zone). q .pointer) put-at ∙ raised
     where
       raised : putZone b t (zoneAt v d z) .pointer ≡ suc (zoneAt v d z .pointer)
       raised = unfold putZone in refl

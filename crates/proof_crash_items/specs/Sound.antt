@@ -16,10 +16,10 @@ use Rattle.law_basic.specs.Geometry.{Ranged}
 use Rattle.law_views.specs.Views.{Fits, AllFit}
 use Rattle.proof_crash_machine.specs.Mask.{Mask}
 use Rattle.proof_crash_machine.specs.Steps.{list}
-use Rattle.proof_crash_machine.specs.View.{Store as m-Store, after, applyAll}
-use Rattle.proof_crash_machine.specs.View.Store.{put as m-put}
+use Rattle.proof_crash_machine.specs.View.{ItemStore, withItem, applyAll}
+use Rattle.proof_crash_machine.specs.View.ItemStore.{put as m-put}
 use Rattle.proof_crash_items.specs.Items.{itemAt, itemsIn, items-put, storeItem, storeItems, items-stores, append-stores, items-cut}
-use Rattle.proof_crash_items.specs.Shape.{Shape, zone-set-other, set-elim, shape-zone, shape-store}
+use Rattle.proof_crash_items.specs.Shape.{Shape, zone-set-else, set-elim, shape-zone, shape-store}
 use Rattle.proof_crash_items.specs.ZoneBytes.{ZoneBytes, Kind, kind-fits, kindItem, kind-item, bytes-reset, bytes-put}
 
 -- a store of the right kind for the drives as they are
@@ -45,11 +45,11 @@ sound-fits p r v (put d z b t) h (l, k, q) =
     (l, k, f .0, f .1, f .2)
 sound-fits p r v (reset d z) h f = f
 
-pub all-fit : (p : Params) → Ranged p → (v : View) (ss : List Store) → Shape p v → AllSound p v ss → AllFit p v ss
-all-fit p r v [] h f = tt
-all-fit p r v (s ∷ ss) h f =
+pub sounds-fit : (p : Params) → Ranged p → (v : View) (ss : List Store) → Shape p v → AllSound p v ss → AllFit p v ss
+sounds-fit p r v [] h f = tt
+sounds-fit p r v (s ∷ ss) h f =
     let a : Fits p v s = sound-fits p r v s h (f .0) in
-    (a, all-fit p r (storeView s v) ss (shape-store p v s h a) (f .1))
+    (a, sounds-fit p r (storeView s v) ss (shape-store p v s h a) (f .1))
 
 -- a store keeps the byte facts of each drive
 pub bytes-store : (p : Params) → Ranged p → (v : View) (s : Store) → Shape p v → Sound p v s → (e : ℕ) → BytesOn p v e → BytesOn p (storeView s v) e
@@ -57,7 +57,7 @@ unfolding storeView
 bytes-store p r v (put d z b t) h (l, k, q) e f y m = go (ℕ-discrete e d)
   where
     go : Dec (e ≡ d) → ZoneBytes p e y (zoneAt (setZone v d z (putZone b t (zoneAt v d z))) e y)
-    go (no n) = rw (zone-set-other p v h d z (putZone b t (zoneAt v d z)) l e y (inl n)) (f y m)
+    go (no n) = rw (zone-set-else p v h d z (putZone b t (zoneAt v d z)) l e y (inl n)) (f y m)
     go (yes n) = set-elim p v h (λ (i j : ℕ) (x : Zone). ZoneBytes p i j x) d z (putZone b t (zoneAt v d z)) l k
         (bytes-put p r d z (zoneAt v d z) (shape-zone p v h d z l k) b t q (subst (λ (i : ℕ). BytesOn p v i) n f z k)) e y (f y m)
 bytes-store p r v (reset d z) h (l, k) e f y m =
@@ -87,7 +87,7 @@ sound-drop p v (s ∷ ss) ts f = sound-drop p (storeView s v) ss ts (f .1)
 
 -- ---- the stores of a call, and the machine's
 
-pub record Follows (p : Params) (v : View) (ss : List Store) (ms : List m-Store) : Type 0 where
+pub record Follows (p : Params) (v : View) (ss : List Store) (ms : List ItemStore) : Type 0 where
   pub sound : AllSound p v ss
   pub items : storeItems p v ss ≡ ms
 
@@ -96,27 +96,27 @@ unfolding storeItems
 follows-nil p v = record { sound = tt; items = refl }
 
 pub follows-cons :
-    (p : Params) (v : View) (s : Store) (ss : List Store) (m : m-Store) (ms : List m-Store)
+    (p : Params) (v : View) (s : Store) (ss : List Store) (m : ItemStore) (ms : List ItemStore)
     → Sound p v s
     → storeItem p v s ≡ m
     → Follows p (storeView s v) ss ms
     → Follows p v (s ∷ ss) (m ∷ ms)
 unfolding storeItems
-follows-cons p v s ss m ms a e f = record { sound = (a, f .sound); items = ap₂ (λ (x : m-Store) (y : List m-Store). x ∷ y) e (f .items) }
+follows-cons p v s ss m ms a e f = record { sound = (a, f .sound); items = ap₂ (λ (x : ItemStore) (y : List ItemStore). x ∷ y) e (f .items) }
 
-pub follows-append : (p : Params) (v : View) (ss ts : List Store) (ms ns : List m-Store) → Follows p v ss ms → Follows p (storeAll storeView ss v) ts ns → Follows p v (ss ++ ts) (ms ++ ns)
+pub follows-append : (p : Params) (v : View) (ss ts : List Store) (ms ns : List ItemStore) → Follows p v ss ms → Follows p (storeAll storeView ss v) ts ns → Follows p v (ss ++ ts) (ms ++ ns)
 follows-append p v ss ts ms ns a b = record {
   sound = sound-append p v ss ts (a .sound) (b .sound);
-  items = append-stores p v ss ts ∙ ap₂ (λ (x y : List m-Store). x ++ y) (a .items) (b .items);
+  items = append-stores p v ss ts ∙ ap₂ (λ (x y : List ItemStore). x ++ y) (a .items) (b .items);
 }
 
 -- the items after all stores, and after the first n of them
-pub follows-all : (p : Params) → Ranged p → (v : View) (ss : List Store) (ms : List m-Store) → Shape p v → Follows p v ss ms → itemsIn p (storeAll storeView ss v) ≡ applyAll (itemsIn p v) ms
-follows-all p r v ss ms h f = items-stores p v ss h (all-fit p r v ss h (f .sound)) ∙ ap (applyAll (itemsIn p v)) (f .items)
+pub follows-all : (p : Params) → Ranged p → (v : View) (ss : List Store) (ms : List ItemStore) → Shape p v → Follows p v ss ms → itemsIn p (storeAll storeView ss v) ≡ applyAll (itemsIn p v) ms
+follows-all p r v ss ms h f = items-stores p v ss h (sounds-fit p r v ss h (f .sound)) ∙ ap (applyAll (itemsIn p v)) (f .items)
 
-pub follows-cut : (p : Params) → Ranged p → (v : View) (ss : List Store) (ms : List m-Store) (n : ℕ) → Shape p v → Follows p v ss ms
+pub follows-cut : (p : Params) → Ranged p → (v : View) (ss : List Store) (ms : List ItemStore) (n : ℕ) → Shape p v → Follows p v ss ms
     → itemsIn p (storeAll storeView (take n ss) v) ≡ applyAll (itemsIn p v) (take n ms)
-follows-cut p r v ss ms n h f = items-cut p v ss n h (all-fit p r v ss h (f .sound)) ∙ ap (λ (l : List m-Store). applyAll (itemsIn p v) (take n l)) (f .items)
+follows-cut p r v ss ms n h f = items-cut p v ss n h (sounds-fit p r v ss h (f .sound)) ∙ ap (λ (l : List ItemStore). applyAll (itemsIn p v) (take n l)) (f .items)
 
 -- one store
 pub store-put : (p : Params) (v : View) (d z : ℕ) (b t : List ℕ) (k : Kind p d z (zoneAt v d z) b t) → storeItem p v (put d z b t) ≡ m-put d z (kindItem p d z (zoneAt v d z) b t k)
@@ -124,16 +124,16 @@ unfolding storeItem pointerAt
 store-put p v d z b t k = ap (m-put d z) (kind-item p d z (zoneAt v d z) b t k)
 
 pub items-put-kind : (p : Params) → Ranged p → (v : View) (d z : ℕ) (b t : List ℕ) → Shape p v → d < p .N → z < p .Z → (k : Kind p d z (zoneAt v d z) b t)
-    → itemsIn p (storeView (put d z b t) v) ≡ after (itemsIn p v) d z (kindItem p d z (zoneAt v d z) b t k)
+    → itemsIn p (storeView (put d z b t) v) ≡ withItem (itemsIn p v) d z (kindItem p d z (zoneAt v d z) b t k)
 items-put-kind p r v d z b t h l m k =
     items-put p v h d z b t l m (sound-fits p r v (put d z b t) h (l, m, k) .2)
-    ∙ ap (after (itemsIn p v) d z) (ap (λ (n : ℕ). itemAt p n (mkChunk b t)) (pointer-at-is v d z) ∙ kind-item p d z (zoneAt v d z) b t k)
+    ∙ ap (withItem (itemsIn p v) d z) (ap (λ (n : ℕ). itemAt p n (mkChunk b t)) (pointer-at-is v d z) ∙ kind-item p d z (zoneAt v d z) b t k)
   where
     pointer-at-is : (v : View) (d z : ℕ) → pointerAt v d z ≡ zoneAt v d z .pointer
     pointer-at-is v d z = unfold pointerAt in refl
 
 -- stores st j, st (j + 1), .. under an invariant
-module _ (p : Params) (I : ℕ → View → Type 0) (st : ℕ → Store) (ms : ℕ → m-Store) (hi : ℕ)
+module _ (p : Params) (I : ℕ → View → Type 0) (st : ℕ → Store) (ms : ℕ → ItemStore) (hi : ℕ)
     (step : (j : ℕ) (v : View) → j < hi → I j v → Sound p v (st j) × (storeItem p v (st j) ≡ ms j) × I (suc j) (storeView (st j) v)) where
   pub follows-list : (j n : ℕ) → j + n ≤ hi → (v : View) → I j v → Follows p v (map st (upFrom j n)) (list ms j n)
   unfolding upFrom list storeItems
@@ -141,7 +141,7 @@ module _ (p : Params) (I : ℕ → View → Type 0) (st : ℕ → Store) (ms : �
   follows-list j (suc n) b v i =
       let a : Sound p v (st j) × (storeItem p v (st j) ≡ ms j) × I (suc j) (storeView (st j) v) = step j v (omega arith) i in
       let c : Follows p (storeView (st j) v) (map st (upFrom (suc j) n)) (list ms (suc j) n) = follows-list (suc j) n (omega arith) (storeView (st j) v) (a .2) in
-      record { sound = (a .0, c .sound); items = ap₂ (λ (x : m-Store) (y : List m-Store). x ∷ y) (a .1) (c .items) }
+      record { sound = (a .0, c .sound); items = ap₂ (λ (x : ItemStore) (y : List ItemStore). x ∷ y) (a .1) (c .items) }
 
   pub follows-end : (j n t : ℕ) → j + n ≤ hi → t ≡ j + n → (v : View) → I j v → I t (storeAll storeView (map st (upFrom j n)) v)
   unfolding upFrom storeAll

@@ -17,8 +17,8 @@ use Rattle.law_basic.specs.Geometry.{Ranged, pointer-within}
 use Rattle.law_basic.specs.Ranges.{and-left, and-right, sameList-true, part-replicate}
 use Rattle.law_views.specs.Views.{Whole, pointer-view, seen}
 use Rattle.proof_crash_machine.specs.Facts.{Facts}
-use Rattle.proof_crash_machine.specs.History.{start, began as m-began}
-use Rattle.proof_crash_machine.specs.View.{View as m-View}
+use Rattle.proof_crash_machine.specs.History.{start, inv-start}
+use Rattle.proof_crash_machine.specs.View.{ItemView}
 use Rattle.proof_crash_items.specs.Items.{itemsFrom, itemsOf, itemsIn, items-in, outside-nothing}
 use Rattle.proof_crash_items.specs.Ranges.{parOf}
 use Rattle.proof_crash_items.specs.Seen.{shape-seen}
@@ -41,9 +41,9 @@ module _ (p : Params) (r : Ranged p) (dk : Disk) (e : emptyDisk p dk ≡ true) w
   unfolding beOf beFrom
   four-zeros = refl
 
-  pub empty-pointer : (d z : ℕ) → d < p .N → z < p .Z → pointerAt (seen p dk) d z ≡ 0
+  pub start-pointer : (d z : ℕ) → d < p .N → z < p .Z → pointerAt (seen p dk) d z ≡ 0
   unfolding pointerOf
-  empty-pointer d z l b =
+  start-pointer d z l b =
       pointer-view p dk d z l b empty-whole
       ∙ ap beOf (ap (part (pointerByte p d z) 4) (empty-pointers p dk e .1) ∙ part-replicate (pointersLen p) (pointerByte p d z) 4 (pointer-within p d z l b)) ∙ four-zeros
 
@@ -51,7 +51,7 @@ module _ (p : Params) (r : Ranged p) (dk : Disk) (e : emptyDisk p dk ≡ true) w
   empty-items = λ j d z. go d z (decLt d (p .N)) (decLt z (p .Z)) j
     where
       go : (d z : ℕ) → Dec (d < p .N) → Dec (z < p .Z) → itemsIn p (seen p dk) d z ≡ []
-      go d z (yes l) (yes b) = items-in p (seen p dk) d z ∙ none-stored (zoneAt (seen p dk) d z) (pointer-is (seen p dk) d z ∙ empty-pointer d z l b)
+      go d z (yes l) (yes b) = items-in p (seen p dk) d z ∙ none-stored (zoneAt (seen p dk) d z) (pointer-is (seen p dk) d z ∙ start-pointer d z l b)
         where
           none-stored : (q : Zone) → q .pointer ≡ 0 → itemsOf p q ≡ []
           none-stored q i = unfold itemsOf stored in (ap (λ (n : ℕ). itemsFrom p 0 (take n (q .blocks))) i ∙ (unfold itemsFrom in refl))
@@ -63,6 +63,6 @@ module _ (p : Params) (r : Ranged p) (dk : Disk) (e : emptyDisk p dk ≡ true) w
   unfolding start
   start-on = record {
     shape = shape-seen p dk empty-whole;
-    bytes = λ d l n z b. bytes-empty p d z (zoneAt (seen p dk) d z) (pointer-is (seen p dk) d z ∙ empty-pointer d z l b);
-    facts = subst (λ (u : m-View). Facts (parOf p r) (start (parOf p r) .g) u) (sym empty-items) (m-began (parOf p r) .facts);
+    bytes = λ d l n z b. bytes-empty p d z (zoneAt (seen p dk) d z) (pointer-is (seen p dk) d z ∙ start-pointer d z l b);
+    facts = subst (λ (u : ItemView). Facts (parOf p r) (start (parOf p r) .g) u) (sym empty-items) (inv-start (parOf p r) .facts);
   }

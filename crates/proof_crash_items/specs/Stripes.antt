@@ -18,18 +18,18 @@ use Rattle.law_basic.specs.Geometry.{Ranged}
 use Rattle.law_basic.specs.Ranges.{length-below, map-below-same, map-map, getD-map-below}
 use Rattle.law_drives.specs.Tests.{cond-true, cond-false}
 use Rattle.proof_crash_machine.specs.Exec.{true≢false}
-use Rattle.proof_crash_machine.specs.Facts.{Ghost, Choice, Stripe, Off, Word, unique, respell}
+use Rattle.proof_crash_machine.specs.Facts.{Ghost, Choice, Stripe, Off, Word, word-unique, respell}
 use Rattle.proof_crash_machine.specs.Put.{off-in}
 use Rattle.proof_crash_machine.specs.Rebuild.{in-off, once-in}
-use Rattle.proof_crash_machine.specs.Facts.{present as m-present}
+use Rattle.proof_crash_machine.specs.Facts.{some-present}
 use Rattle.proof_crash_machine.specs.Val.{Val, 𝟘}
-use Rattle.proof_crash_machine.specs.View.{Item, In, in-some, chunk-hdr}
+use Rattle.proof_crash_machine.specs.View.{Item, InI, item-some, chunk-hdr}
 use Rattle.proof_crash_machine.specs.View.Item.{chunk}
 use Rattle.proof_crash_items.specs.Items.{valueOf, chunkItem, itemsOf, itemsIn, items-in, of-chunk, chunk-of}
 use Rattle.proof_crash_items.specs.Member.{Has, keep-has, has-keep, below-has, has-below, has-any, has-map}
-use Rattle.proof_crash_items.specs.Named.{present-has, all-present, present-all}
+use Rattle.proof_crash_items.specs.Named.{present-has, all-present, all-on-present}
 use Rattle.proof_crash_items.specs.Ranges.{capacity-few, parOf, codeOf, code-lost}
-use Rattle.proof_crash_items.specs.Segs.{OnDrives, zone-bytes, zone-low, trusted, used-below}
+use Rattle.proof_crash_items.specs.Segs.{OnDrives, zone-bytes, zone-pointer-low, trusted, used-below}
 use Rattle.proof_crash_items.specs.Shape.{shape-zone}
 use Rattle.proof_crash_items.specs.Values.{pieceValue, xorL, pieces-long, parity-value, onlyWhere, only-there, only-else, xor-below}
 use Rattle.proof_crash_items.specs.ZoneBytes.{blockIn, by-footer}
@@ -80,32 +80,32 @@ module _ (p : Params) (r : Ranged p) (g : Ghost) (v : View) (k : OnDrives p r g 
   unfolding segmentOf drivesOf zoneOn
   zones-by z d l = getD-map-below (λ d. zoneAt v d z) (p .N) d noZone l
 
-  pub sealed-full : (z d : ℕ) → sealedIn p v m z ≡ true → d < p .N → isIn m d ≡ false → pointerAt v d z ≡ capacity p
+  pub sealed-at-capacity : (z d : ℕ) → sealedIn p v m z ≡ true → d < p .N → isIn m d ≡ false → pointerAt v d z ≡ capacity p
   unfolding sealedIn zoneOn
-  sealed-full z d e l n = eqb-true (pointerAt v d z) (capacity p) (all-present p m (λ d. eqb (pointerAt v d z) (capacity p)) e d l n)
+  sealed-at-capacity z d e l n = eqb-true (pointerAt v d z) (capacity p) (all-present p m (λ d. eqb (pointerAt v d z) (capacity p)) e d l n)
 
   -- by footer or by spare
-  by-spare : (z d o : ℕ) (w : Bool) → sealedIn p v m z ≡ w → z < p .Z → d < p .N → isIn m d ≡ false → o < p .S
+  record-by-spare : (z d o : ℕ) (w : Bool) → sealedIn p v m z ≡ w → z < p .Z → d < p .N → isIn m d ≡ false → o < p .S
       → recordIn p w (zoneAt v d z) o ≡ recordOf (blockIn (zoneAt v d z) (suc o) .spare)
-  by-spare z d o true e b l n s =
+  record-by-spare z d o true e b l n s =
       by-footer p r d z (zoneAt v d z) (shape-zone p v (k .shape) d z l b) (zone-bytes p r g v k d z l (trusted p r g v k m c d l n) b)
-      (pointer-is v d z ∙ sealed-full z d e l n) o s
+      (pointer-is v d z ∙ sealed-at-capacity z d e l n) o s
       ∙ by-spare-false
     where
       by-spare-false : recordIn p false (zoneAt v d z) o ≡ recordOf (blockIn (zoneAt v d z) (suc o) .spare)
       by-spare-false = unfold recordIn in ap (λ (i : ℕ). recordOf (getD (zoneAt v d z .blocks) i noChunk .spare)) (let e : 1 + o ≡ suc o = omega arith in e)
-  by-spare z d o false e b l n s = unfold recordIn in ap (λ (i : ℕ). recordOf (getD (zoneAt v d z .blocks) i noChunk .spare)) (let e : 1 + o ≡ suc o = omega arith in e)
+  record-by-spare z d o false e b l n s = unfold recordIn in ap (λ (i : ℕ). recordOf (getD (zoneAt v d z .blocks) i noChunk .spare)) (let e : 1 + o ≡ suc o = omega arith in e)
 
-  pub recs-on : (z d : ℕ) → z < p .Z → d < p .N → isIn m d ≡ false → recsOn (G z) d ≡ spareRecs p (zoneAt v d z)
+  pub recs-by-spare : (z d : ℕ) → z < p .Z → d < p .N → isIn m d ≡ false → recsOn (G z) d ≡ spareRecs p (zoneAt v d z)
   unfolding recsOn segmentOf drivesOf recordsIn spareRecs
-  recs-on z d b l n =
+  recs-by-spare z d b l n =
       getD-map-below (λ d. cond (isIn m d) [] (map (recordIn p (sealedIn p v m z) (getD (map (λ d. zoneAt v d (zoneOn z d)) (below (p .N))) d noZone))
       (below (dataStored p (getD (map (λ d. zoneAt v d (zoneOn z d)) (below (p .N))) d noZone))))) (p .N) d [] l
       ∙ cond-false (isIn m d) [] (map (recordIn p (sealedIn p v m z) (getD (map (λ d. zoneAt v d (zoneOn z d)) (below (p .N))) d noZone))
       (below (dataStored p (getD (map (λ d. zoneAt v d (zoneOn z d)) (below (p .N))) d noZone)))) n
       ∙ ap (λ (q : Zone). map (recordIn p (sealedIn p v m z) q) (below (dataStored p q))) (zones-by z d l)
       ∙ map-below-same (recordIn p (sealedIn p v m z) (zoneAt v d z)) (λ o. recordOf (blockIn (zoneAt v d z) (suc o) .spare)) (dataStored p (zoneAt v d z))
-      (λ o i. by-spare z d o (sealedIn p v m z) refl b l n (stored-below p (zoneAt v d z) o i .0))
+      (λ o i. record-by-spare z d o (sealedIn p v m z) refl b l n (stored-below p (zoneAt v d z) o i .0))
 
   pub recs-missing : (z d : ℕ) → d < p .N → isIn m d ≡ true → recsOn (G z) d ≡ []
   unfolding recsOn segmentOf drivesOf
@@ -125,16 +125,16 @@ module _ (p : Params) (r : Ranged p) (g : Ghost) (v : View) (k : OnDrives p r g 
   offset-on z s d b l n e =
       let h : (indexOf (is s) (recsOn (G z) d) < length (recsOn (G z) d)) × (is s (getD (recsOn (G z) d) (indexOf (is s) (recsOn (G z) d)) (mkRec 0 0 0)) ≡ true) =
       index-hit (is s) (recsOn (G z) d) (mkRec 0 0 0) e in
-      let q : length (recsOn (G z) d) ≡ dataStored p (zoneAt v d z) = ap length (recs-on z d b l n) ∙ length-spareRecs p (zoneAt v d z) in
+      let q : length (recsOn (G z) d) ≡ dataStored p (zoneAt v d z) = ap length (recs-by-spare z d b l n) ∙ length-spareRecs p (zoneAt v d z) in
       let j : indexOf (is s) (recsOn (G z) d) < dataStored p (zoneAt v d z) = omega (arith, h .0, q) in
       let x : getD (recsOn (G z) d) (indexOf (is s) (recsOn (G z) d)) (mkRec 0 0 0) ≡ recordOf (blockIn (zoneAt v d z) (suc (indexOf (is s) (recsOn (G z) d))) .spare) =
-      ap (λ (y : List Rec). getD y (indexOf (is s) (recsOn (G z) d)) (mkRec 0 0 0)) (recs-on z d b l n) ∙ getD-spareRecs p (zoneAt v d z) (indexOf (is s) (recsOn (G z) d)) (mkRec 0 0 0) j in
+      ap (λ (y : List Rec). getD y (indexOf (is s) (recsOn (G z) d)) (mkRec 0 0 0)) (recs-by-spare z d b l n) ∙ getD-spareRecs p (zoneAt v d z) (indexOf (is s) (recsOn (G z) d)) (mkRec 0 0 0) j in
       (j, ap (λ (y : Rec). y .stripe) (sym x) ∙ eqb-true (getD (recsOn (G z) d) (indexOf (is s) (recsOn (G z) d)) (mkRec 0 0 0) .stripe) s (h .1))
 
   pub stored-rec : (z s d : ℕ) → z < p .Z → d < p .N → isIn m d ≡ false → hasChunk (G z) s d ≡ true → storedRec (G z) s d ≡ recordOf (blockIn (zoneAt v d z) (suc (offsetOn (G z) d s)) .spare)
   unfolding storedRec
   stored-rec z s d b l n e =
-      ap (λ (y : List Rec). getD y (offsetOn (G z) d s) (mkRec 0 0 0)) (recs-on z d b l n)
+      ap (λ (y : List Rec). getD y (offsetOn (G z) d s) (mkRec 0 0 0)) (recs-by-spare z d b l n)
       ∙ getD-spareRecs p (zoneAt v d z) (offsetOn (G z) d s) (mkRec 0 0 0) (offset-on z s d b l n e .0)
 
   pub stored-piece : (z s d : ℕ) → z < p .Z → d < p .N → isIn m d ≡ false → hasChunk (G z) s d ≡ true
@@ -144,22 +144,22 @@ module _ (p : Params) (r : Ranged p) (g : Ghost) (v : View) (k : OnDrives p r g 
       (ap₂ (λ (q : Zone) (i : ℕ). getD (q .blocks) i noChunk .block) (zones-by z d l) (let i : 1 + offsetOn (G z) d s ≡ suc (offsetOn (G z) d s) = omega arith in i))
       (stored-rec z s d b l n e)
 
-  pub stored-long : (z s d : ℕ) → z < p .Z → d < p .N → isIn m d ≡ false → hasChunk (G z) s d ≡ true → length (storedPiece (G z) s d .block) ≡ p .B
-  stored-long z s d b l n e =
+  pub stored-block-long : (z s d : ℕ) → z < p .Z → d < p .N → isIn m d ≡ false → hasChunk (G z) s d ≡ true → length (storedPiece (G z) s d .block) ≡ p .B
+  stored-block-long z s d b l n e =
       ap (λ (q : Piece). length (q .block)) (stored-piece z s d b l n e)
       ∙ shape-zone p v (k .shape) d z l b .long (suc (offsetOn (G z) d s)) (omega (arith, stored-below p (zoneAt v d z) (offsetOn (G z) d s) (offset-on z s d b l n e .0) .0, capacity-few p r)) .0
 
   -- the stored chunk is an item of the zone
-  pub stored-in : (z s d : ℕ) → z < p .Z → d < p .N → isIn m d ≡ false → hasChunk (G z) s d ≡ true → In (chunk s (pieceValue (storedPiece (G z) s d))) (itemsIn p v d z)
+  pub stored-in : (z s d : ℕ) → z < p .Z → d < p .N → isIn m d ≡ false → hasChunk (G z) s d ≡ true → InI (chunk s (pieceValue (storedPiece (G z) s d))) (itemsIn p v d z)
   stored-in z s d b l n e =
       let o : ℕ = offsetOn (G z) d s in
       let q : Zone = zoneAt v d z in
       let h : (offsetOn (G z) d s < dataStored p (zoneAt v d z)) × (recordOf (blockIn (zoneAt v d z) (suc (offsetOn (G z) d s)) .spare) .stripe ≡ s) = offset-on z s d b l n e in
       let i : (o < p .S) × (suc o < q .pointer) = stored-below p q o (h .0) in
-      let f : Off (itemsOf p q) (suc o) (chunkItem (blockIn q (suc o))) = chunk-of p q (zone-low p r g v k d z l (trusted p r g v k m c d l n) b) o (i .0) (i .1) in
+      let f : Off (itemsOf p q) (suc o) (chunkItem (blockIn q (suc o))) = chunk-of p q (zone-pointer-low p r g v k d z l (trusted p r g v k m c d l n) b) o (i .0) (i .1) in
       let x : chunkItem (blockIn q (suc o)) ≡ chunk s (pieceValue (storedPiece (G z) s d)) = named-chunk z s d b l n e in
-      subst (λ (y : List Item). In (chunk s (pieceValue (storedPiece (G z) s d))) y) (sym (items-in p v d z))
-      (subst (λ (y : Item). In y (itemsOf p q)) x (off-in (itemsOf p q) (suc o) (chunkItem (blockIn q (suc o))) f))
+      subst (λ (y : List Item). InI (chunk s (pieceValue (storedPiece (G z) s d))) y) (sym (items-in p v d z))
+      (subst (λ (y : Item). InI y (itemsOf p q)) x (off-in (itemsOf p q) (suc o) (chunkItem (blockIn q (suc o))) f))
     where
       named-chunk : (z s d : ℕ) → z < p .Z → d < p .N → isIn m d ≡ false → hasChunk (G z) s d ≡ true
           → chunkItem (blockIn (zoneAt v d z) (suc (offsetOn (G z) d s))) ≡ chunk s (pieceValue (storedPiece (G z) s d))
@@ -167,17 +167,17 @@ module _ (p : Params) (r : Ranged p) (g : Ghost) (v : View) (k : OnDrives p r g 
           ap₂ chunk (offset-on z s d b l n e .1) (ap (λ (q : Piece). valueOf (q .block) (q .rec)) (sym (stored-piece z s d b l n e)))
 
   -- and an item is a stored chunk
-  pub in-has-chunk : (z s d : ℕ) (x : Val) → z < p .Z → d < p .N → isIn m d ≡ false → In (chunk s x) (itemsIn p v d z) → hasChunk (G z) s d ≡ true
+  pub in-has-chunk : (z s d : ℕ) (x : Val) → z < p .Z → d < p .N → isIn m d ≡ false → InI (chunk s x) (itemsIn p v d z) → hasChunk (G z) s d ≡ true
   unfolding hasChunk
   in-has-chunk z s d x b l n i =
       let q : Zone = zoneAt v d z in
-      let j : (j : ℕ) × Off (itemsOf p q) j (chunk s x) = in-off (chunk s x) (itemsOf p q) (subst (λ (y : List Item). In (chunk s x) y) (items-in p v d z) i) in
+      let j : (j : ℕ) × Off (itemsOf p q) j (chunk s x) = in-off (chunk s x) (itemsOf p q) (subst (λ (y : List Item). InI (chunk s x) y) (items-in p v d z) i) in
       let f : (o : ℕ) × (j .0 ≡ suc o) × (o < p .S) × (suc o < q .pointer) × (recordOf (getD (q .blocks) (suc o) noChunk .spare) .stripe ≡ s)
       × (valueOf (getD (q .blocks) (suc o) noChunk .block) (recordOf (getD (q .blocks) (suc o) noChunk .spare)) ≡ x) =
-      of-chunk p q (zone-low p r g v k d z l (trusted p r g v k m c d l n) b) (j .0) s x (j .1) in
+      of-chunk p q (zone-pointer-low p r g v k d z l (trusted p r g v k m c d l n) b) (j .0) s x (j .1) in
       let w : f .0 < dataStored p q = below-stored p q (f .0) (f .2) (f .3) in
       has-any (is s) (recsOn (G z) d) (recordOf (blockIn q (suc (f .0)) .spare))
-      (subst (λ (y : List Rec). Has (recordOf (blockIn q (suc (f .0)) .spare)) y) (sym (recs-on z d b l n)) (at q (f .0) w))
+      (subst (λ (y : List Rec). Has (recordOf (blockIn q (suc (f .0)) .spare)) y) (sym (recs-by-spare z d b l n)) (at q (f .0) w))
       (eq-eqb (recordOf (blockIn q (suc (f .0)) .spare) .stripe) s (f .4))
     where
       at : (q : Zone) (o : ℕ) → o < dataStored p q → Has (recordOf (blockIn q (suc o) .spare)) (spareRecs p q)
@@ -193,7 +193,7 @@ module _ (p : Params) (r : Ranged p) (g : Ghost) (v : View) (k : OnDrives p r g 
 
   pub has-counted : (z s : ℕ) → s < p .S → ((d : ℕ) → d < p .N → isIn m d ≡ false → hasChunk (G z) s d ≡ true) → Has s (counted p m (G z))
   unfolding counted counts
-  has-counted z s l h = has-keep (λ s. all (hasChunk (G z) s) (present p m)) s (below (p .S)) (has-below s (p .S) l) (present-all p m (hasChunk (G z) s) h)
+  has-counted z s l h = has-keep (λ s. all (hasChunk (G z) s) (present p m)) s (below (p .S)) (has-below s (p .S) l) (all-on-present p m (hasChunk (G z) s) h)
 
   -- the chunk of a counted stripe, as a value
   unfoldable pub pieceAt : ℕ → ℕ → ℕ → Val
@@ -207,9 +207,9 @@ module _ (p : Params) (r : Ranged p) (g : Ghost) (v : View) (k : OnDrives p r g 
   unfolding pieceOf
   piece-lost z s d n = cond-true (isIn m d) (parityPiece p s (map (storedPiece (G z) s) (present p m))) (storedPiece (G z) s d) n
 
-  here-in : (z s : ℕ) → z < p .Z → ((d : ℕ) → d < p .N → isIn m d ≡ false → hasChunk (G z) s d ≡ true) → (d : ℕ) → d < p .N → isIn m d ≡ false → In (chunk s (pieceAt z s d)) (itemsIn p v d z)
+  here-in : (z s : ℕ) → z < p .Z → ((d : ℕ) → d < p .N → isIn m d ≡ false → hasChunk (G z) s d ≡ true) → (d : ℕ) → d < p .N → isIn m d ≡ false → InI (chunk s (pieceAt z s d)) (itemsIn p v d z)
   unfolding pieceAt
-  here-in z s b h d l n = subst (λ (x : Piece). In (chunk s (pieceValue x)) (itemsIn p v d z)) (sym (piece-here z s d l n)) (stored-in z s d b l n (h d l n))
+  here-in z s b h d l n = subst (λ (x : Piece). InI (chunk s (pieceValue x)) (itemsIn p v d z)) (sym (piece-here z s d l n)) (stored-in z s d b l n (h d l n))
 
   abbrev P : ℕ → Bool
   P d = not (isIn m d)
@@ -218,13 +218,13 @@ module _ (p : Params) (r : Ranged p) (g : Ghost) (v : View) (k : OnDrives p r g 
   F z s d = pieceValue (storedPiece (G z) s d)
 
   -- what is lost is decoded from the others
-  decoded : (z s d : ℕ) → z < p .Z → isIn m d ≡ true → ((d : ℕ) → d < p .N → isIn m d ≡ false → hasChunk (G z) s d ≡ true)
+  piece-decoded : (z s d : ℕ) → z < p .Z → isIn m d ≡ true → ((d : ℕ) → d < p .N → isIn m d ≡ false → hasChunk (G z) s d ≡ true)
       → pieceAt z s d ≡ codeOf p r .dec s (isIn m) (F z s) d
   unfolding pieceAt present drivesOf
-  decoded z s d b n h =
+  piece-decoded z s d b n h =
       ap pieceValue (piece-lost z s d n)
       ∙ parity-value p s (map (storedPiece (G z) s) (keep P (below (p .N)))) (pieces-long (p .B) (storedPiece (G z) s) (keep P (below (p .N)))
-      (λ d i. stored-long z s d b (present-has p m d i .0) (present-has p m d i .1) (h d (present-has p m d i .0) (present-has p m d i .1))))
+      (λ d i. stored-block-long z s d b (present-has p m d i .0) (present-has p m d i .1) (h d (present-has p m d i .0) (present-has p m d i .1))))
       ∙ ap xorL (map-map pieceValue (storedPiece (G z) s) (keep P (below (p .N)))) ∙ xor-below P (F z s) (p .N)
       ∙ sym (code-lost p r s (isIn m) (F z s) (onlyWhere P (F z s)) d (λ e l. at e (isIn m e) refl))
     where
@@ -236,7 +236,7 @@ module _ (p : Params) (r : Ranged p) (g : Ghost) (v : View) (k : OnDrives p r g 
   pub counted-stripe : (z s : ℕ) → z < p .Z → Has s (counted p m (G z)) → Stripe (parOf p r) (itemsIn p v) (isIn m) z s (pieceAt z s)
   counted-stripe z s b i = record { on = here; word = respell (parOf p r) s (w .0) (pieceAt z s) (λ d l. sym (all d l (isIn m d) refl)) (w .1) }
     where
-      here : (d : ℕ) → d < p .N → isIn m d ≡ false → In (chunk s (pieceAt z s d)) (itemsIn p v d z)
+      here : (d : ℕ) → d < p .N → isIn m d ≡ false → InI (chunk s (pieceAt z s d)) (itemsIn p v d z)
       here = here-in z s b (counted-has z s i .1)
 
       w : (h : ℕ → Val) × Word (parOf p r) s h × ((d : ℕ) → d < p .N → isIn m d ≡ false → pieceAt z s d ≡ h d)
@@ -251,22 +251,22 @@ module _ (p : Params) (r : Ranged p) (g : Ghost) (v : View) (k : OnDrives p r g 
       all : (d : ℕ) → d < p .N → (t : Bool) → isIn m d ≡ t → pieceAt z s d ≡ w .0 d
       all d l false n = w .2 d l n
       all d l true n =
-          decoded z s d b n (counted-has z s i .1)
+          piece-decoded z s d b n (counted-has z s i .1)
           ∙ codeOf p r .law s (isIn m) (F z s) (w .0) (c .0) (λ e q a. stored-is e q a ∙ w .1 e q) d l n ∙ sym (w .1 d l)
 
   pub stripe-below : (z s : ℕ) (f : ℕ → Val) → Stripe (parOf p r) (itemsIn p v) (isIn m) z s f → (z < p .Z) × (s < p .S)
-  stripe-below z s f st = go (m-present (parOf p r) (isIn m) (c .0))
+  stripe-below z s f st = go (some-present (parOf p r) (isIn m) (c .0))
     where
       go : (d : ℕ) × (d < p .N) × (isIn m d ≡ false) → (z < p .Z) × (s < p .S)
       go (d, l, n) =
           let t : g .un d ≡ false = trusted p r g v k m c d l n in
-          let i : In (chunk s (f d)) (itemsIn p v d z) = st .on d l n in
-          let b : z < p .Z = used-below p r g v k z (d, (l, t), in-some (chunk s (f d)) (itemsIn p v d z) i) in
+          let i : InI (chunk s (f d)) (itemsIn p v d z) = st .on d l n in
+          let b : z < p .Z = used-below p r g v k z (d, (l, t), item-some (chunk s (f d)) (itemsIn p v d z) i) in
           let j : (j : ℕ) × Off (itemsIn p v d z) j (chunk s (f d)) = in-off (chunk s (f d)) (itemsIn p v d z) i in
           (b, num d l t i (j .0) (j .1))
         where
-          num : (d : ℕ) → d < p .N → g .un d ≡ false → In (chunk s (f d)) (itemsIn p v d z) → (j : ℕ) → Off (itemsIn p v d z) j (chunk s (f d)) → s < p .S
-          num d l t i zero o = absurd (chunk-hdr (sym (o .1) ∙ k .facts .zones d z (l, t) .head (in-some (chunk s (f d)) (itemsIn p v d z) i)))
+          num : (d : ℕ) → d < p .N → g .un d ≡ false → InI (chunk s (f d)) (itemsIn p v d z) → (j : ℕ) → Off (itemsIn p v d z) j (chunk s (f d)) → s < p .S
+          num d l t i zero o = absurd (chunk-hdr (sym (o .1) ∙ k .facts .zones d z (l, t) .head (item-some (chunk s (f d)) (itemsIn p v d z) i)))
           num d l t i (suc j) o = k .facts .zones d z (l, t) .num j s (f d) o .0
 
   pub stripe-counted : (z s : ℕ) (f : ℕ → Val) → Stripe (parOf p r) (itemsIn p v) (isIn m) z s f → Has s (counted p m (G z)) × ((d : ℕ) → d < p .N → pieceAt z s d ≡ f d)
@@ -275,6 +275,6 @@ module _ (p : Params) (r : Ranged p) (g : Ghost) (v : View) (k : OnDrives p r g 
       let i : Has s (counted p m (G z)) = has-counted z s (b .1) (λ d l n. in-has-chunk z s d (f d) (b .0) l n (st .on d l n)) in
       let st′ : Stripe (parOf p r) (itemsIn p v) (isIn m) z s (pieceAt z s) = counted-stripe z s (b .0) i in (
         i,
-        unique (parOf p r) s (isIn m) (c .0) (pieceAt z s) f (st′ .word) (st .word) (λ d l n.
+        word-unique (parOf p r) s (isIn m) (c .0) (pieceAt z s) f (st′ .word) (st .word) (λ d l n.
             once-in (parOf p r) g d z (itemsIn p v d z) (k .facts .zones d z (l, trusted p r g v k m c d l n)) s (pieceAt z s d) (f d) (st′ .on d l n) (st .on d l n)),
       )

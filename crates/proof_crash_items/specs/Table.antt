@@ -30,8 +30,8 @@ use Rattle.proof_crash_items.specs.Items.{valueOf, chunkItem, itemsIn, i
 use Rattle.proof_crash_items.specs.Member.{Has, keep-has, has-keep, upFrom-has, has-upFrom, isNil-has, firstOr-has}
 use Rattle.proof_crash_items.specs.Ranges.{parOf}
 use Rattle.proof_crash_items.specs.Refuse.{Rising, remaining-rising}
-use Rattle.proof_crash_items.specs.Segs.{OnDrives, zone-low, zone-facts, trusted, remaining-has}
-use Rattle.proof_crash_items.specs.Stripes.{spareRecs, length-spareRecs, getD-spareRecs, stored-below, below-stored, pointer-is, recs-on, recs-missing, offset-on}
+use Rattle.proof_crash_items.specs.Segs.{OnDrives, zone-pointer-low, zone-facts, trusted, remaining-has}
+use Rattle.proof_crash_items.specs.Stripes.{spareRecs, length-spareRecs, getD-spareRecs, stored-below, below-stored, pointer-is, recs-by-spare, recs-missing, offset-on}
 use Rattle.proof_crash_items.specs.ZoneBytes.{blockIn}
 
 -- ---- lists of lists of one length
@@ -52,9 +52,9 @@ getD-flat-from f w i (suc n) (suc k) j h l b =
     ∙ getD-flat-from f w (suc i) n k j (λ a p q. h a (omega arith) (omega arith)) (omega arith) b
     ∙ ap (λ (x : ℕ). getD (f x) j 0) (let e : suc i + k ≡ i + suc k = omega arith in e)
 
-pub getD-flat : (f : ℕ → List ℕ) (w n k j : ℕ) → ((a : ℕ) → a < n → length (f a) ≡ w) → k < n → j < w → getD (flat f (below n)) (k * w + j) 0 ≡ getD (f k) j 0
+pub getD-flat-rows : (f : ℕ → List ℕ) (w n k j : ℕ) → ((a : ℕ) → a < n → length (f a) ≡ w) → k < n → j < w → getD (flat f (below n)) (k * w + j) 0 ≡ getD (f k) j 0
 unfolding below
-getD-flat f w n k j h l b = getD-flat-from f w 0 n k j (λ a p q. h a (omega arith)) l b ∙ ap (λ (x : ℕ). getD (f x) j 0) (let e : 0 + k ≡ k = omega arith in e)
+getD-flat-rows f w n k j h l b = getD-flat-from f w 0 n k j (λ a p q. h a (omega arith)) l b ∙ ap (λ (x : ℕ). getD (f x) j 0) (let e : 0 + k ≡ k = omega arith in e)
 
 -- ---- one element of a rising list
 
@@ -72,10 +72,10 @@ flat-one-of h z (y ∷ l) r (inl e) =
 flat-one-of h z (y ∷ l) r (inr i) =
     ap₂ _++_ (cond-false (eqb y z) (h y) [] (ne-eqb y z (λ e. let q : ⊥ = omega (arith, e, r .0 z i) in q))) (flat-one-of h z l (r .1) i)
 
-pub flat-map : {A B C : Type 0} (f : B → List C) (h : A → B) (l : List A) → flat f (map h l) ≡ flat (λ (a : A). f (h a)) l
+pub flat-mapped : {A B C : Type 0} (f : B → List C) (h : A → B) (l : List A) → flat f (map h l) ≡ flat (λ (a : A). f (h a)) l
 unfolding flat
-flat-map f h [] = refl
-flat-map {C = C} f h (a ∷ l) = ap (λ (x : List C). f (h a) ++ x) (flat-map f h l)
+flat-mapped f h [] = refl
+flat-mapped {C = C} f h (a ∷ l) = ap (λ (x : List C). f (h a) ++ x) (flat-mapped f h l)
 
 -- ---- the compact table
 
@@ -85,7 +85,7 @@ module _ (p : Params) (r : Ranged p) (g : Ghost) (v : View) (k : OnDrives p r g 
 
   row-flat : (d z : ℕ) → rowOf p (segments p v m) d z ≡ flat (λ y. cond (eqb y z) (recsOn (segmentOf p v m y) d) []) (remaining p v m)
   unfolding rowOf segments zoneOn segmentOf
-  row-flat d z = flat-map (λ (g : Segment). cond (eqb (zoneOn (g .seg) d) z) (recsOn g d) []) (segmentOf p v m) (remaining p v m)
+  row-flat d z = flat-mapped (λ (g : Segment). cond (eqb (zoneOn (g .seg) d) z) (recsOn g d) []) (segmentOf p v m) (remaining p v m)
 
   pub row-remaining : (d z : ℕ) → Has z (remaining p v m) → rowOf p (segments p v m) d z ≡ recsOn (G z) d
   row-remaining d z i = row-flat d z ∙ flat-one-of (λ y. recsOn (segmentOf p v m y) d) z (remaining p v m) (remaining-rising p v m) i
@@ -95,7 +95,7 @@ module _ (p : Params) (r : Ranged p) (g : Ghost) (v : View) (k : OnDrives p r g 
     where
       go : (t : Bool) → isIn m d ≡ t → length (recsOn (G z) d) ≤ p .S
       go true e = let q : length (recsOn (G z) d) ≡ 0 = ap length (recs-missing p r g v k m c z d l e) in omega arith
-      go false n = let q : length (recsOn (G z) d) ≡ dataStored p (zoneAt v d z) = ap length (recs-on p r g v k m c z d b l n) ∙ length-spareRecs p (zoneAt v d z) in
+      go false n = let q : length (recsOn (G z) d) ≡ dataStored p (zoneAt v d z) = ap length (recs-by-spare p r g v k m c z d b l n) ∙ length-spareRecs p (zoneAt v d z) in
           omega (arith, q, few-stored (zoneAt v d z))
         where
           few-stored : (q : Zone) → dataStored p q ≤ p .S
@@ -117,16 +117,16 @@ module _ (p : Params) (r : Ranged p) (g : Ghost) (v : View) (k : OnDrives p r g 
       go (yes i) = subst (λ (x : List Rec). length x ≤ p .S) (sym (row-remaining d z i)) (recs-few z d b l)
       go (no n) = subst (λ (x : List Rec). length x ≤ p .S) (sym (row-flat d z ∙ flat-none-of (λ y. recsOn (segmentOf p v m y) d) z (remaining p v m) n)) (omega arith)
 
-  row-long : (d z : ℕ) → d < p .N → z < p .Z → length (compactRow p (rowOf p (segments p v m) d z)) ≡ p .S
+  table-row-long : (d z : ℕ) → d < p .N → z < p .Z → length (compactRow p (rowOf p (segments p v m) d z)) ≡ p .S
   unfolding compactRow
-  row-long d z l b = length-padTo (p .S) (map (λ (r : Rec). compactEntry p (r .stripe)) (rowOf p (segments p v m) d z))
+  table-row-long d z l b = length-padTo (p .S) (map (λ (r : Rec). compactEntry p (r .stripe)) (rowOf p (segments p v m) d z))
       (omega (arith, length-map (rowOf p (segments p v m) d z) (λ (r : Rec). compactEntry p (r .stripe)), row-few d z l b))
 
-  pub length-compact : length (compactTable p (segments p v m)) ≡ compactLen p
+  pub compact-length : length (compactTable p (segments p v m)) ≡ compactLen p
   unfolding compactTable drivesOf compactLen
-  length-compact =
+  compact-length =
       long-flat (λ d. flat (λ z. compactRow p (rowOf p (segments p v m) d z)) (below (p .Z))) (p .Z * p .S) (p .N)
-      (λ d l. long-flat (λ z. compactRow p (rowOf p (segments p v m) d z)) (p .S) (p .Z) (λ z b. row-long d z l b))
+      (λ d l. long-flat (λ z. compactRow p (rowOf p (segments p v m) d z)) (p .S) (p .Z) (λ z b. table-row-long d z l b))
       ∙ sym (mul-assoc (p .N) (p .Z) (p .S))
 
   pub compact-entry :
@@ -139,9 +139,9 @@ module _ (p : Params) (r : Ranged p) (g : Ghost) (v : View) (k : OnDrives p r g 
   compact-entry d z o l b s =
       let e : (d * p .Z + z) * p .S + o ≡ d * (p .Z * p .S) + (z * p .S + o) = omega (arith, add-mul (d * p .Z) z (p .S), mul-assoc d (p .Z) (p .S)) in
       ap (λ (x : ℕ). getD (flat (λ d. flat (λ z. compactRow p (rowOf p (segments p v m) d z)) (below (p .Z))) (below (p .N))) x 0) e
-      ∙ getD-flat (λ d. flat (λ z. compactRow p (rowOf p (segments p v m) d z)) (below (p .Z))) (p .Z * p .S) (p .N) d (z * p .S + o)
-      (λ d l. long-flat (λ z. compactRow p (rowOf p (segments p v m) d z)) (p .S) (p .Z) (λ z b. row-long d z l b)) l (digits-lt b s)
-      ∙ getD-flat (λ z. compactRow p (rowOf p (segments p v m) d z)) (p .S) (p .Z) z o (λ z b. row-long d z l b) b s
+      ∙ getD-flat-rows (λ d. flat (λ z. compactRow p (rowOf p (segments p v m) d z)) (below (p .Z))) (p .Z * p .S) (p .N) d (z * p .S + o)
+      (λ d l. long-flat (λ z. compactRow p (rowOf p (segments p v m) d z)) (p .S) (p .Z) (λ z b. table-row-long d z l b)) l (digits-lt b s)
+      ∙ getD-flat-rows (λ z. compactRow p (rowOf p (segments p v m) d z)) (p .S) (p .Z) z o (λ z b. table-row-long d z l b) b s
 
   -- the entry of a chunk of a remaining segment
   pub compact-chunk : (d z o : ℕ) → Has z (remaining p v m) → d < p .N → isIn m d ≡ false → o < dataStored p (zoneAt v d z)
@@ -150,7 +150,7 @@ module _ (p : Params) (r : Ranged p) (g : Ghost) (v : View) (k : OnDrives p r g 
       let b : z < p .Z = remaining-has p r g v k m c z i .0 in
       let rs : List Rec = recsOn (G z) d in
       compact-entry d z o l b (stored-below p (zoneAt v d z) o w .0)
-      ∙ ap (λ (x : List Rec). getD (compactRow p x) o 0) (row-remaining d z i ∙ recs-on p r g v k m c z d b l n)
+      ∙ ap (λ (x : List Rec). getD (compactRow p x) o 0) (row-remaining d z i ∙ recs-by-spare p r g v k m c z d b l n)
       ∙ row-entry (spareRecs p (zoneAt v d z)) o (omega (arith, w, length-spareRecs p (zoneAt v d z)))
       ∙ ap (λ (x : Rec). compactEntry p (x .stripe)) (getD-spareRecs p (zoneAt v d z) o (mkRec 0 0 0) w)
     where
@@ -162,9 +162,9 @@ module _ (p : Params) (r : Ranged p) (g : Ghost) (v : View) (k : OnDrives p r g 
 
   -- ---- the table shows a stripe where it is
 
-  in-group : (o s : ℕ) → Has o (groupOffsets p s) → (o < p .S) × (group p o ≡ group p s)
+  offsets-in-group : (o s : ℕ) → Has o (groupOffsets p s) → (o < p .S) × (group p o ≡ group p s)
   unfolding groupOffsets group
-  in-group o s i =
+  offsets-in-group o s i =
       let a : Has o (upFrom (s / p .G * p .G) (p .G)) × (ltb o (p .S) ≡ true) = keep-has (λ o. ltb o (p .S)) o (upFrom (s / p .G * p .G) (p .G)) i in
       let b : (s / p .G * p .G ≤ o) × (o < s / p .G * p .G + p .G) = upFrom-has o (s / p .G * p .G) (p .G) (a .0) in
       let e : s / p .G * p .G + (o - s / p .G * p .G) ≡ o = omega (arith, b .0) in
@@ -198,7 +198,7 @@ module _ (p : Params) (r : Ranged p) (g : Ghost) (v : View) (k : OnDrives p r g 
         let j : (o < p .S) × (suc o < zoneAt v d z .pointer) = stored-below p (zoneAt v d z) o w in
         subst (λ (y : List Item). Off y (suc o) (chunk (recordOf (blockIn (zoneAt v d z) (suc o) .spare) .stripe)
         (valueOf (blockIn (zoneAt v d z) (suc o) .block) (recordOf (blockIn (zoneAt v d z) (suc o) .spare)))))
-        (sym (items-in p v d z)) (unfold chunkItem in chunk-of p (zoneAt v d z) (zone-low p r g v k d z l (trusted p r g v k m c d l n) b) o (j .0) (j .1))
+        (sym (items-in p v d z)) (unfold chunkItem in chunk-of p (zoneAt v d z) (zone-pointer-low p r g v k d z l (trusted p r g v k m c d l n) b) o (j .0) (j .1))
 
     grp-at : (o : ℕ) → o < dataStored p (zoneAt v d z) → group p (recordOf (blockIn (zoneAt v d z) (suc o) .spare) .stripe) ≡ group p o
     grp-at o w = zone-facts p r g v k d z l (trusted p r g v k m c d l n) .num o (recordOf (blockIn (zoneAt v d z) (suc o) .spare) .stripe)
@@ -232,7 +232,7 @@ module _ (p : Params) (r : Ranged p) (g : Ghost) (v : View) (k : OnDrives p r g 
     shown-has o x =
         let a : Has o (groupOffsets p s) × ((ltb (1 + o) (pointerAt v d z) && eqb (getD (compactTable p (segments p v m)) (compactAt p d z o) 0) (compactEntry p s)) ≡ true) =
         keep-has (λ o. ltb (1 + o) (pointerAt v d z) && eqb (getD (compactTable p (segments p v m)) (compactAt p d z o) 0) (compactEntry p s)) o (groupOffsets p s) x in
-        let e : (o < p .S) × (group p o ≡ group p s) = in-group o s (a .0) in
+        let e : (o < p .S) × (group p o ≡ group p s) = offsets-in-group o s (a .0) in
         let f : 1 + o < pointerAt v d z =
         ltb-true (1 + o) (pointerAt v d z) (and-left (ltb (1 + o) (pointerAt v d z))
         (eqb (getD (compactTable p (segments p v m)) (compactAt p d z o) 0) (compactEntry p s)) (a .1)) in
@@ -245,8 +245,8 @@ module _ (p : Params) (r : Ranged p) (g : Ghost) (v : View) (k : OnDrives p r g 
         let y : (offsetOn (G z) d s < dataStored p (zoneAt v d z)) × (recordOf (blockIn (zoneAt v d z) (suc (offsetOn (G z) d s)) .spare) .stripe ≡ s) = offset-on p r g v k m c z s d b l n h in
         same-off o (offsetOn (G z) d s) w (y .0) (u ∙ sym (y .1))
 
-    pub shown-first : firstOr 0 (shownAt p v (compactTable p (segments p v m)) d z s) ≡ offsetOn (G z) d s
-    shown-first = shown-has (firstOr 0 (shownAt p v (compactTable p (segments p v m)) d z s))
+    pub shown-offset : firstOr 0 (shownAt p v (compactTable p (segments p v m)) d z s) ≡ offsetOn (G z) d s
+    shown-offset = shown-has (firstOr 0 (shownAt p v (compactTable p (segments p v m)) d z s))
         (firstOr-has 0 (shownAt p v (compactTable p (segments p v m)) d z s) (isNil-has (shownAt p v (compactTable p (segments p v m)) d z s) (offsetOn (G z) d s) has-shown))
 
     pub shown-some : isNil (shownAt p v (compactTable p (segments p v m)) d z s) ≡ false

@@ -19,7 +19,7 @@ use Rattle.law_drives.specs.Laid.{header-serial, header-copied}
 use Rattle.law_drives.specs.Records.{spares-at, blocks-at}
 use Rattle.proof_crash_machine.specs.View.{Item}
 use Rattle.proof_crash_machine.specs.View.Item.{hdr, chunk, foot}
-use Rattle.proof_crash_items.specs.Codec.{Wide, record-bytes, length-footer, footer-record, header-zones}
+use Rattle.proof_crash_items.specs.Codec.{Wide, record-bytes, footer-length, footer-spare, header-zones}
 use Rattle.proof_crash_items.specs.Items.{valueOf, chunkItem, itemAt, item-data, item-foot}
 use Rattle.proof_crash_items.specs.Ranges.{capacity-few}
 use Rattle.proof_crash_items.specs.Shape.{ZoneShape}
@@ -70,8 +70,8 @@ module _ (p : Params) (h : Ranged p) (q : Zone) (s : ZoneShape p q) where
       ∙ getD-drop 1 (q .blocks) o noChunk
       ∙ ap (λ (k : ℕ). getD (q .blocks) k noChunk) (let e : 1 + o ≡ suc o = omega arith in e))
 
-  pub spares-long : AllLong spareLen (sparesIn p q)
-  spares-long = long-spares (take (p .S) (drop 1 (q .blocks))) (λ k l.
+  pub all-spares-long : AllLong spareLen (sparesIn p q)
+  all-spares-long = long-spares (take (p .S) (drop 1 (q .blocks))) (λ k l.
       let b : k < p .S = omega (arith, l, length-data) in
       ap length (sym (spares-at (take (p .S) (drop 1 (q .blocks))) k) ∙ spare-in k b) ∙ s .long (suc k) (omega (arith, b, capacity-few p h)) .1)
 
@@ -79,7 +79,7 @@ module _ (p : Params) (h : Ranged p) (q : Zone) (s : ZoneShape p q) where
   pub kind-fits : (d z : ℕ) (b t : List ℕ) → Kind p d z q b t → (q .pointer < capacity p) × (length b ≡ p .B) × (length t ≡ spareLen)
   kind-fits d z _ _ (header ser cop e y a c) = (omega (arith, e, capacity-few p h), header-block-long p h d z ser cop, length-zeroSpare)
   kind-fits d z _ _ (datum o b r e l lb w) = (omega (arith, e, l, capacity-few p h), lb, length-record r)
-  kind-fits d z _ _ (footer j e l) = unfold capacity in (omega (arith, e, l), length-footer p h (sparesIn p q) spares-long j, length-zeroSpare)
+  kind-fits d z _ _ (footer j e l) = unfold capacity in (omega (arith, e, l), footer-length p h (sparesIn p q) all-spares-long j, length-zeroSpare)
 
 -- ---- what is put, as an item
 
@@ -127,9 +127,9 @@ module _ (p : Params) (h : Ranged p) (d z : ℕ) (q : Zone) (s : ZoneShape p q) 
   unfolding putZone
   old-block b t k l = getD-set-other (q .blocks) (q .pointer) k (mkChunk b t) noChunk (omega arith)
 
-  pub new-block : (b t : List ℕ) → q .pointer < capacity p → blockIn (putZone b t q) (q .pointer) ≡ mkChunk b t
+  pub put-new-block : (b t : List ℕ) → q .pointer < capacity p → blockIn (putZone b t q) (q .pointer) ≡ mkChunk b t
   unfolding putZone
-  new-block b t l = getD-set-same (q .blocks) (q .pointer) (mkChunk b t) noChunk (omega (arith, s .count))
+  put-new-block b t l = getD-set-same (q .blocks) (q .pointer) (mkChunk b t) noChunk (omega (arith, s .count))
 
   pub old-spares : (b t : List ℕ) (j : ℕ) → q .pointer ≡ suc (p .S + j) → sparesIn p (putZone b t q) ≡ sparesIn p q
   unfolding putZone
@@ -162,7 +162,7 @@ module _ (p : Params) (h : Ranged p) (d z : ℕ) (q : Zone) (s : ZoneShape p q) 
     where
       new : blockIn (putZone (headerBlock p d z ser cop) zeroSpare q) 0 ≡ mkChunk (headerBlock p d z ser cop) zeroSpare
       new = subst (λ (n : ℕ). blockIn (putZone (headerBlock p d z ser cop) zeroSpare q) n ≡ mkChunk (headerBlock p d z ser cop) zeroSpare) e
-          (new-block (headerBlock p d z ser cop) zeroSpare (omega (arith, e, capacity-few p h)))
+          (put-new-block (headerBlock p d z ser cop) zeroSpare (omega (arith, e, capacity-few p h)))
   bytes-put _ _ (datum o b r e l lb w) f = record {
     low = omega (arith, e, l, pointer-put b (recordBytes r), capacity-few p h);
     head = λ k. head-kept b (recordBytes r) (omega arith) f .0;
@@ -172,7 +172,7 @@ module _ (p : Params) (h : Ranged p) (d z : ℕ) (q : Zone) (s : ZoneShape p q) 
   }
     where
       go : (i : ℕ) → i < p .S → suc i < putZone b (recordBytes r) q .pointer → Dec (suc i ≡ q .pointer) → Wide (recordOf (blockIn (putZone b (recordBytes r) q) (suc i) .spare))
-      go i k m (yes n) = rw (n, new-block b (recordBytes r) (omega (arith, e, l, capacity-few p h)), record-bytes r w) w
+      go i k m (yes n) = rw (n, put-new-block b (recordBytes r) (omega (arith, e, l, capacity-few p h)), record-bytes r w) w
       go i k m (no n) = let a : suc i < q .pointer = omega (arith, m, n, pointer-put b (recordBytes r)) in rw (old-block b (recordBytes r) (suc i) a) (f .wide i k a)
   bytes-put _ _ (footer j e l) f = record {
     low = unfold capacity in omega (arith, e, l, pointer-put b zeroSpare);
@@ -195,7 +195,7 @@ module _ (p : Params) (h : Ranged p) (d z : ℕ) (q : Zone) (s : ZoneShape p q) 
           → blockIn (putZone b zeroSpare q) (suc (p .S + i)) ≡ mkChunk (footerBlock p (sparesIn p (putZone b zeroSpare q)) i) zeroSpare
       go i k (yes n) =
           ap (blockIn (putZone b zeroSpare q)) (let m : suc (p .S + i) ≡ q .pointer = omega (arith, n, e) in m)
-          ∙ new-block b zeroSpare (unfold capacity in omega (arith, e, l))
+          ∙ put-new-block b zeroSpare (unfold capacity in omega (arith, e, l))
           ∙ ap₂ (λ (ss : List (List ℕ)) (x : ℕ). mkChunk (footerBlock p ss x) zeroSpare) (sym same) (sym n)
       go i k (no n) =
           let a : suc (p .S + i) < q .pointer = omega (arith, k, n, e, pointer-put b zeroSpare) in
@@ -212,5 +212,5 @@ module _ (p : Params) (h : Ranged p) (d z : ℕ) (q : Zone) (s : ZoneShape p q) 
       blocks-at (drop (1 + p .S) (q .blocks)) (o / perFooter p) ∙ ap (λ (c : Chunk). c .block) (getD-drop (1 + p .S) (q .blocks) (o / perFooter p) noChunk
       ∙ ap (λ (n : ℕ). getD (q .blocks) n noChunk) i ∙ f .feet (o / perFooter p) a) in
       ap recordOf (ap (part (spareLen * (o % perFooter p)) spareLen) r
-      ∙ footer-record p h (sparesIn p q) (spares-long p h q s) o (omega (arith, l, length-sparesIn p h q s))
+      ∙ footer-spare p h (sparesIn p q) (all-spares-long p h q s) o (omega (arith, l, length-sparesIn p h q s))
       ∙ spare-in p h q s o l ∙ ap (λ (n : ℕ). getD (q .blocks) n noChunk .spare) (let m : suc o ≡ 1 + o = omega arith in m))

@@ -5,13 +5,13 @@ use mathlib.Core.Bool.{true, false}
 use Prim.Native.Nat.{ℕ, _<_}
 use Rattle.proof_crash_machine.specs.Val.{Val}
 use Rattle.proof_crash_machine.specs.Facts.Pair.{pair}
-use Rattle.proof_crash_machine.specs.View.{View}
+use Rattle.proof_crash_machine.specs.View.{ItemView}
 use Rattle.proof_crash_machine.specs.Mask.{Mask}
-use Rattle.proof_crash_machine.specs.Facts.{Par, trust, Placing, InPair, Ghost, Good, Tr, Choice, L, R, Stripe, Datum, Zone, Used, Ragged, Facts, used, decL}
+use Rattle.proof_crash_machine.specs.Facts.{Par, trust, Placing, InPair, Ghost, Good, Tr, Choice, L, R, Stripe, Datum, ZoneItems, Used, Ragged, Facts, used, decL}
 
-pub record Accepts (p : Par) (g : Ghost) (v : View) (m : Mask) : Type 0 where
+pub record Accepts (p : Par) (g : Ghost) (v : ItemView) (m : Mask) : Type 0 where
   -- pointers, headers, numbers, stored addresses, zone by zone, of the present drives
-  pub zones : (d z : ℕ) → d < p .N → m d ≡ false → Zone p g d z (v d z)
+  pub zones : (d z : ℕ) → d < p .N → m d ≡ false → ZoneItems p g d z (v d z)
   -- serials
   pub below : (z : ℕ) → L p v m z → g .hd .cop z < g .hd .ser z
   pub serials : (y z : ℕ) → L p v m y → L p v m z → g .hd .ser y ≡ g .hd .ser z → y ≡ z
@@ -25,7 +25,7 @@ pub record Accepts (p : Par) (g : Ghost) (v : View) (m : Mask) : Type 0 where
   -- on each drive a zone for the rewrite: empty, or of a dropped segment
   pub room : (d : ℕ) → d < p .N → (y : ℕ) × (y < p .Z) × (p .fine d y ≡ true) × ((z : ℕ) → R p (g .hd) v m z → g .hd .zn z d ≢ y)
 
-pub accepted : (p : Par) (g : Ghost) (v : View) → Facts p g v → (m : Mask) → Choice p (g .un) m → Accepts p g v m
+pub accepted : (p : Par) (g : Ghost) (v : ItemView) → Facts p g v → (m : Mask) → Choice p (g .un) m → Accepts p g v m
 accepted p g v h m c = record {
   zones = λ d z l n. h .zones d z (tr d l n);
   below = λ z l. h .swap .below z (used p g v m z c l);

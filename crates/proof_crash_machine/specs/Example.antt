@@ -8,30 +8,30 @@ use native.Mathlib.Omega.{arith}
 use lib.ListN.{length}
 use Rattle.proof_crash_machine.specs.Val.{Val, 𝟘, pads}
 use Rattle.proof_crash_machine.specs.Facts.Pair.{alone}
-use Rattle.proof_crash_machine.specs.View.{View, Item, In, applyAll, chunk-hdr}
+use Rattle.proof_crash_machine.specs.View.{ItemView, Item, InI, applyAll, chunk-hdr}
 use Rattle.proof_crash_machine.specs.View.Item.{chunk, hdr}
 use Rattle.proof_crash_machine.specs.Mask.{Mask, count, tf}
-use Rattle.proof_crash_machine.specs.Facts.{Par, present, none-few, Ghost, Stripe, Used}
+use Rattle.proof_crash_machine.specs.Facts.{Par, some-present, none-few, Ghost, Stripe, Used}
 use Rattle.proof_crash_machine.specs.Finish.{finishing, upTo}
 use Rattle.proof_crash_machine.specs.Ghosts.{withPr, withSent}
 use Rattle.proof_crash_machine.specs.Name.{naming}
-use Rattle.proof_crash_machine.specs.OpenSeg.{headers, Fresh, opened}
+use Rattle.proof_crash_machine.specs.OpenSeg.{headers, Fresh, open-facts}
 use Rattle.proof_crash_machine.specs.Memory.{Mem, setAt-elim, flown}
 use Rattle.proof_crash_machine.specs.Memory2.{restMem, openMem}
-use Rattle.proof_crash_machine.specs.Filling.{filled, unfilled, unfilled-data}
-use Rattle.proof_crash_machine.specs.History.{State, Step, Inv, at, start, began, kept-all}
+use Rattle.proof_crash_machine.specs.Filling.{filledWord, unfilled, unfilled-data}
+use Rattle.proof_crash_machine.specs.History.{State, Step, Inv, at, start, inv-start, kept-all}
 use Rattle.proof_crash_machine.specs.History.Mode.{run}
 use Rattle.proof_crash_machine.specs.History.Step.{restart-plain, open-done, begin, send, land, missing}
-use Rattle.proof_crash_machine.specs.History.Run.{stop, then}
+use Rattle.proof_crash_machine.specs.History.StepsTo.{stop, then}
 
-abbrev bare : View
+abbrev bare : ItemView
 bare = λ d z. []
 
 bare-unused : (p : Par) (n : Mask) (z : ℕ) → Used p n bare z → ⊥
 bare-unused p n z (d, t, b) = let q : ⊥ = omega (arith, b) in q
 
 bare-stripe : (p : Par) (m : Mask) (f : ℕ → Val) (s z : ℕ) → count (p .N) m ≤ p .P → Stripe p bare m z s f → ⊥
-bare-stripe p m f s z few st = let d : (d : ℕ) × (d < p .N) × (m d ≡ false) = present p m few in st .on (d .0) (d .1) (d .2)
+bare-stripe p m f s z few st = let d : (d : ℕ) × (d < p .N) × (m d ≡ false) = some-present p m few in st .on (d .0) (d .1) (d .2)
 
 module _ (p : Par) (z₁ : ℕ → ℕ) (big : (d : ℕ) → d < p .N → (p .fine d 0 ≡ true) × (0 < p .Z) × (z₁ d < p .Z) × (p .fine d (z₁ d) ≡ true) × (0 ≢ z₁ d)) (some : 0 < p .S) (many : 7 < p .addrs) where
   abbrev g₁ : Ghost
@@ -81,13 +81,13 @@ module _ (p : Par) (z₁ : ℕ → ℕ) (big : (d : ℕ) → d < p .N → (p .fi
   x = record { addr = 7; stamp = 1; blk = λ i. 255 }
 
   abbrev M₄ : ℕ → Mem
-  M₄ d = flown M₃ 0 (filled p 0 (M₃ .F 0) d x) (λ e. true) (M₃ .next) (x .stamp)
+  M₄ d = flown M₃ 0 (filledWord p 0 (M₃ .F 0) d x) (λ e. true) (M₃ .next) (x .stamp)
 
   abbrev σ₄ : ℕ → State
   σ₄ d = record { g = withSent (σ₃ .g) (x ∷ σ₃ .g .sent); v = σ₃ .v; acked = []; since = true; mode = run (M₄ d) }
 
-  sends : (d : ℕ) → d < p .N → p .code .par 0 d ≡ false → Step p σ₃ (σ₄ d)
-  sends d l n =
+  example-sends : (d : ℕ) → d < p .N → p .code .par 0 d ≡ false → Step p σ₃ (σ₄ d)
+  example-sends d l n =
       send σ₃ M₃ x 0 d (λ e. true) refl (record {
         fly = setAt-elim (λ (b : Bool). b ≡ true) (λ s. false) 0 true 0 (λ e. refl) (λ k. absurd (k refl));
         drive = l;
@@ -100,7 +100,7 @@ module _ (p : Par) (z₁ : ℕ → ℕ) (big : (d : ℕ) → d < p .N → (p .fi
 
   -- so the invariant holds there, by the theorem
   pub reached : Inv p σ₃
-  reached = kept-all p (start p) σ₃ (then (start p) σ₁ σ₃ first (then σ₁ σ₂ σ₃ opens (then σ₂ σ₃ σ₃ begins (stop σ₃)))) (began p)
+  reached = kept-all p (start p) σ₃ (then (start p) σ₁ σ₃ first (then σ₁ σ₂ σ₃ opens (then σ₂ σ₃ σ₃ begins (stop σ₃)))) (inv-start p)
 
   -- the first restart may as well miss a drive, whatever it holds
   misses : (m : Mask) → (d : ℕ) × (d < p .N) × (m d ≡ true) → count (p .N) m ≤ p .P → (τ : State) × Step p (start p) τ
@@ -113,7 +113,7 @@ module _ (p : Par) (z₁ : ℕ → ℕ) (big : (d : ℕ) → d < p .N → (p .fi
 
   -- what the opening left: a header in each zone of segment 0
   inv₁ : Inv p σ₁
-  inv₁ = kept-all p (start p) σ₁ (then (start p) σ₁ σ₁ first (stop σ₁)) (began p)
+  inv₁ = kept-all p (start p) σ₁ (then (start p) σ₁ σ₁ first (stop σ₁)) (inv-start p)
 
   fresh : Fresh p g₁ (σ₁ .v) 0 1
   unfolding start applyAll
@@ -133,16 +133,16 @@ module _ (p : Par) (z₁ : ℕ → ℕ) (big : (d : ℕ) → d < p .N → (p .fi
   abbrev i : Item
   i = hdr (naming g₁ 0 1 0 (λ d. 0) alone .hd .ser 0) (naming g₁ 0 1 0 (λ d. 0) alone .hd .cop 0) (naming g₁ 0 1 0 (λ d. 0) alone .hd .zn 0)
 
-  headed : (e : ℕ) → e < p .N → σ₃ .v e 0 ≡ i ∷ []
+  example-headed : (e : ℕ) → e < p .N → σ₃ .v e 0 ≡ i ∷ []
   unfolding fresh
-  headed e l = opened p g₁ (σ₁ .v) 0 1 fresh (inv₁ .facts) .1 e l .0 l
+  example-headed e l = open-facts p g₁ (σ₁ .v) 0 1 fresh (inv₁ .facts) .1 e l .0 l
 
   -- the block lands
   lands : (d : ℕ) → d < p .N → (τ : State) × Step p (σ₄ d) τ
   lands d l = (
     _,
     land (σ₄ d) (M₄ d) d 0 refl l (setAt-elim (λ (b : Bool). b ≡ true) (M₃ .fly) 0 true 0 (λ e. refl) (λ k. absurd (k refl)))
-        (λ y m. ⊎-elim (λ (q : chunk 0 y ≡ i). chunk-hdr q) (λ q. q) (subst (λ (t : List Item). In (chunk 0 y) t) (headed d l) m))
+        (λ y m. ⊎-elim (λ (q : chunk 0 y ≡ i). chunk-hdr q) (λ q. q) (subst (λ (t : List Item). InI (chunk 0 y) t) (example-headed d l) m))
         (setAt-elim (λ (f : ℕ → Bool). f d ≡ true) (M₃ .ready) 0 (λ e. true) 0 (λ e. refl) (λ k. absurd (k refl)))
-        (λ k e. let n : 1 ≡ suc k = sym (ap length (headed d l)) ∙ e in let z : 0 ≡ k = omega (arith, n) in (omega (arith, z, some), ap (p .grp) z)),
+        (λ k e. let n : 1 ≡ suc k = sym (ap length (example-headed d l)) ∙ e in let z : 0 ≡ k = omega (arith, n) in (omega (arith, z, some), ap (p .grp) z)),
   )

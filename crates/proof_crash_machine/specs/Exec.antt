@@ -10,10 +10,10 @@ use lib.Dec.{eqb, ltb}
 use borrow.Author.Tests.{eqb-true, eq-eqb, ltb-true, lt-ltb}
 use lib.ListN.{length, getD}
 use Rattle.proof_crash_machine.specs.Val.{Val, 𝟘}
-use Rattle.proof_crash_machine.specs.View.{Item, View, In, chunk-num, chunk-hdr, chunk-foot, in-some}
+use Rattle.proof_crash_machine.specs.View.{Item, ItemView, InI, chunk-num, chunk-hdr, chunk-foot, item-some}
 use Rattle.proof_crash_machine.specs.View.Item.{hdr, chunk, foot}
 use Rattle.proof_crash_machine.specs.Mask.{Mask, count, two, tf, low, lowFrom, low-from-is}
-use Rattle.proof_crash_machine.specs.Facts.{Par, Word, trust, present, unique, respell, Ghost, Tr, Choice, L, R, Stripe, Counted, Off, Used, Facts, used}
+use Rattle.proof_crash_machine.specs.Facts.{Par, Word, trust, some-present, word-unique, respell, Ghost, Tr, Choice, L, R, Stripe, Counted, Off, Used, Facts, used}
 use Rattle.proof_crash_machine.specs.Rebuild.{in-off, once-in}
 use Rattle.proof_crash_machine.specs.Finish.{Reads}
 
@@ -29,12 +29,12 @@ pub and-2 : (a b : Bool) → (a && b) ≡ true → b ≡ true
 and-2 true b e = e
 and-2 false b e = true≢false e
 
-pub both : (a b : Bool) → a ≡ true → b ≡ true → (a && b) ≡ true
-both a b p q = ap₂ _&&_ p q
+pub both-true : (a b : Bool) → a ≡ true → b ≡ true → (a && b) ≡ true
+both-true a b p q = ap₂ _&&_ p q
 
-pub or-cases : (a b : Bool) → (a || b) ≡ true → (a ≡ true) ⊎ (b ≡ true)
-or-cases true b e = inl refl
-or-cases false b e = inr e
+pub or-either : (a b : Bool) → (a || b) ≡ true → (a ≡ true) ⊎ (b ≡ true)
+or-either true b e = inl refl
+or-either false b e = inr e
 
 pub or-1 : (a b : Bool) → a ≡ true → (a || b) ≡ true
 or-1 a b p = ap (λ (x : Bool). x || b) p
@@ -67,7 +67,7 @@ all-true (suc n) q e d l = go (ℕ-discrete d n) (all-true n q (and-2 (q n) (all
 pub true-all : (n : ℕ) (q : ℕ → Bool) → ((d : ℕ) → d < n → q d ≡ true) → allB n q ≡ true
 unfolding allB
 true-all zero q h = refl
-true-all (suc n) q h = both (q n) (allB n q) (h n (omega arith)) (true-all n q (λ d l. h d (omega arith)))
+true-all (suc n) q h = both-true (q n) (allB n q) (h n (omega arith)) (true-all n q (λ d l. h d (omega arith)))
 
 -- ---- maxima
 unfoldable pub maxN : ℕ → (ℕ → ℕ) → ℕ
@@ -110,37 +110,37 @@ when-pos true n h = (refl, refl)
 when-pos false n h = absurd (let z : ⊥ = omega arith in z)
 
 -- ---- look-ups in a zone
-unfoldable pub found : ℕ → List Item → Bool
-found s [] = false
-found s (hdr r c n ∷ l) = found s l
-found s (chunk t x ∷ l) = eqb s t || found s l
-found s (foot j ∷ l) = found s l
+unfoldable pub hasStripe : ℕ → List Item → Bool
+hasStripe s [] = false
+hasStripe s (hdr r c n ∷ l) = hasStripe s l
+hasStripe s (chunk t x ∷ l) = eqb s t || hasStripe s l
+hasStripe s (foot j ∷ l) = hasStripe s l
 
-unfoldable pub lookup : ℕ → List Item → Val
-lookup s [] = 𝟘
-lookup s (hdr r c n ∷ l) = lookup s l
-lookup s (chunk t x ∷ l) = elim (eqb s t) [ true ↦ x | false ↦ lookup s l ]
-lookup s (foot j ∷ l) = lookup s l
+unfoldable pub stripeValue : ℕ → List Item → Val
+stripeValue s [] = 𝟘
+stripeValue s (hdr r c n ∷ l) = stripeValue s l
+stripeValue s (chunk t x ∷ l) = elim (eqb s t) [ true ↦ x | false ↦ stripeValue s l ]
+stripeValue s (foot j ∷ l) = stripeValue s l
 
-pub found-in : (s : ℕ) (l : List Item) → found s l ≡ true → In (chunk s (lookup s l)) l
-unfolding found lookup
+pub found-in : (s : ℕ) (l : List Item) → hasStripe s l ≡ true → InI (chunk s (stripeValue s l)) l
+unfolding hasStripe stripeValue
 found-in s [] e = true≢false e
 found-in s (hdr r c n ∷ l) e = inr (found-in s l e)
 found-in s (chunk t x ∷ l) e = go (eqb s t) refl e (found-in s l)
   where
-    go : (b : Bool) → eqb s t ≡ b → (b || found s l) ≡ true → (found s l ≡ true → In (chunk s (lookup s l)) l)
-        → (chunk s (elim b [ true ↦ x | false ↦ lookup s l ]) ≡ chunk t x) ⊎ In (chunk s (elim b [ true ↦ x | false ↦ lookup s l ])) l
+    go : (b : Bool) → eqb s t ≡ b → (b || hasStripe s l) ≡ true → (hasStripe s l ≡ true → InI (chunk s (stripeValue s l)) l)
+        → (chunk s (elim b [ true ↦ x | false ↦ stripeValue s l ]) ≡ chunk t x) ⊎ InI (chunk s (elim b [ true ↦ x | false ↦ stripeValue s l ])) l
     go true q e ih = inl (ap (λ (n : ℕ). chunk n x) (eqb-true s t q))
     go false q e ih = inr (ih e)
 found-in s (foot j ∷ l) e = inr (found-in s l e)
 
-pub in-found : (s : ℕ) (x : Val) (l : List Item) → In (chunk s x) l → found s l ≡ true
-unfolding found
+pub in-found : (s : ℕ) (x : Val) (l : List Item) → InI (chunk s x) l → hasStripe s l ≡ true
+unfolding hasStripe
 in-found s x [] m = absurd m
 in-found s x (hdr r c n ∷ l) (inl e) = absurd (chunk-hdr e)
 in-found s x (hdr r c n ∷ l) (inr m) = in-found s x l m
-in-found s x (chunk t y ∷ l) (inl e) = or-1 (eqb s t) (found s l) (eq-eqb s t (chunk-num e))
-in-found s x (chunk t y ∷ l) (inr m) = or-2 (eqb s t) (found s l) (in-found s x l m)
+in-found s x (chunk t y ∷ l) (inl e) = or-1 (eqb s t) (hasStripe s l) (eq-eqb s t (chunk-num e))
+in-found s x (chunk t y ∷ l) (inr m) = or-2 (eqb s t) (hasStripe s l) (in-found s x l m)
 in-found s x (foot j ∷ l) (inl e) = absurd (chunk-foot e)
 in-found s x (foot j ∷ l) (inr m) = in-found s x l m
 
@@ -158,7 +158,7 @@ copOf (foot j ∷ l) = 0
 
 -- ---- steps 1 to 3
 -- E k is the segment that zone k of some drive bears: each that step 1 leaves is among E 0 .. E (Z - 1)
-module _ (p : Par) (v : View) (m : Mask) (E : ℕ → ℕ) where
+module _ (p : Par) (v : ItemView) (m : Mask) (E : ℕ → ℕ) where
   unfoldable pub leftB : ℕ → Bool
   leftB z = allB (p .N) (λ (d : ℕ). m d || ltb 0 (length (v d z)))
 
@@ -166,14 +166,14 @@ module _ (p : Par) (v : View) (m : Mask) (E : ℕ → ℕ) where
   remB z = leftB z && allB (p .Z) (λ (k : ℕ). not (leftB (E k) && (eqb (copOf (v (low m (p .N)) z)) (serOf (v (low m (p .N)) (E k))) && not (eqb (E k) z))))
 
   unfoldable pub countB : ℕ → ℕ → Bool
-  countB z s = allB (p .N) (λ (d : ℕ). m d || found s (v d z))
+  countB z s = allB (p .N) (λ (d : ℕ). m d || hasStripe s (v d z))
 
   -- the stripe: stored, or decoded
-  unfoldable pub here : ℕ → ℕ → ℕ → Val
-  here z s d = lookup s (v d z)
+  unfoldable pub valueHere : ℕ → ℕ → ℕ → Val
+  valueHere z s d = stripeValue s (v d z)
 
   unfoldable pub valOf : ℕ → ℕ → ℕ → Val
-  valOf z s d = elim (m d) [ true ↦ p .code .dec s m (here z s) d | false ↦ here z s d ]
+  valOf z s d = elim (m d) [ true ↦ p .code .dec s m (valueHere z s) d | false ↦ valueHere z s d ]
 
   -- the greatest stamp of address a
   unfoldable pub inData : ℕ → ℕ → ℕ → ℕ → ℕ
@@ -185,13 +185,13 @@ module _ (p : Par) (v : View) (m : Mask) (E : ℕ → ℕ) where
   unfoldable pub inSegment : ℕ → ℕ → ℕ
   inSegment a z = when (remB z) (maxN (p .S) (inStripe a z))
 
-  unfoldable pub best : ℕ → ℕ
-  best a = maxN (p .Z) (λ (k : ℕ). inSegment a (E k))
+  unfoldable pub bestStamp : ℕ → ℕ
+  bestStamp a = maxN (p .Z) (λ (k : ℕ). inSegment a (E k))
 
   pub left-L : (z : ℕ) → leftB z ≡ true → L p v m z
   unfolding leftB
   left-L z e d l n = ⊎-elim (λ (q : m d ≡ true). tf q n) (λ (q : ltb 0 (length (v d z)) ≡ true). ltb-true 0 (length (v d z)) q)
-      (or-cases (m d) (ltb 0 (length (v d z))) (all-true (p .N) (λ (d : ℕ). m d || ltb 0 (length (v d z))) e d l))
+      (or-either (m d) (ltb 0 (length (v d z))) (all-true (p .N) (λ (d : ℕ). m d || ltb 0 (length (v d z))) e d l))
 
   pub L-left : (z : ℕ) → L p v m z → leftB z ≡ true
   unfolding leftB
@@ -203,38 +203,38 @@ module _ (p : Par) (v : View) (m : Mask) (E : ℕ → ℕ) where
 
   pub low-is : count (p .N) m ≤ p .P → (low m (p .N) < p .N) × (m (low m (p .N)) ≡ false)
   unfolding low
-  low-is few = let d : (d : ℕ) × (d < p .N) × (m d ≡ false) = present p m few in
+  low-is few = let d : (d : ℕ) × (d < p .N) × (m d ≡ false) = some-present p m few in
       let r : (lowFrom m 0 (p .N) < 0 + p .N) × (m (lowFrom m 0 (p .N)) ≡ false) = low-from-is m 0 (p .N) (d .0) (omega arith) (omega (arith, d .1)) (d .2) in
       (omega (arith, r .0), r .1)
 
-  val-here : (z s d : ℕ) → m d ≡ false → valOf z s d ≡ here z s d
+  val-here : (z s d : ℕ) → m d ≡ false → valOf z s d ≡ valueHere z s d
   unfolding valOf
-  val-here z s d n = ap (λ (b : Bool). elim b as (λ _. Val) [ true ↦ p .code .dec s m (here z s) d | false ↦ here z s d ]) n
+  val-here z s d n = ap (λ (b : Bool). elim b as (λ _. Val) [ true ↦ p .code .dec s m (valueHere z s) d | false ↦ valueHere z s d ]) n
 
-  val-lost : (z s d : ℕ) → m d ≡ true → valOf z s d ≡ p .code .dec s m (here z s) d
+  val-lost : (z s d : ℕ) → m d ≡ true → valOf z s d ≡ p .code .dec s m (valueHere z s) d
   unfolding valOf
-  val-lost z s d n = ap (λ (b : Bool). elim b as (λ _. Val) [ true ↦ p .code .dec s m (here z s) d | false ↦ here z s d ]) n
+  val-lost z s d n = ap (λ (b : Bool). elim b as (λ _. Val) [ true ↦ p .code .dec s m (valueHere z s) d | false ↦ valueHere z s d ]) n
 
   -- decoding gives the code word that the present chunks are part of
-  val-is : (z s : ℕ) (h : ℕ → Val) → count (p .N) m ≤ p .P → Word p s h → ((d : ℕ) → d < p .N → m d ≡ false → here z s d ≡ h d) → (d : ℕ) → d < p .N → valOf z s d ≡ h d
-  val-is z s h few w e d l = ⊎-elim (λ (q : m d ≡ true). val-lost z s d q ∙ p .code .law s m (here z s) h few (λ i b n. e i b n ∙ w i b) d l q ∙ sym (w d l))
+  val-is : (z s : ℕ) (h : ℕ → Val) → count (p .N) m ≤ p .P → Word p s h → ((d : ℕ) → d < p .N → m d ≡ false → valueHere z s d ≡ h d) → (d : ℕ) → d < p .N → valOf z s d ≡ h d
+  val-is z s h few w e d l = ⊎-elim (λ (q : m d ≡ true). val-lost z s d q ∙ p .code .law s m (valueHere z s) h few (λ i b n. e i b n ∙ w i b) d l q ∙ sym (w d l))
       (λ (q : m d ≡ false). val-here z s d q ∙ e d l q) (two (m d))
 
-  here-in : (z s : ℕ) → countB z s ≡ true → (d : ℕ) → d < p .N → m d ≡ false → In (chunk s (here z s d)) (v d z)
-  unfolding countB here
-  here-in z s e d l n = ⊎-elim (λ (q : m d ≡ true). tf q n) (λ (q : found s (v d z) ≡ true). found-in s (v d z) q)
-      (or-cases (m d) (found s (v d z)) (all-true (p .N) (λ (d : ℕ). m d || found s (v d z)) e d l))
+  value-here-in : (z s : ℕ) → countB z s ≡ true → (d : ℕ) → d < p .N → m d ≡ false → InI (chunk s (valueHere z s d)) (v d z)
+  unfolding countB valueHere
+  value-here-in z s e d l n = ⊎-elim (λ (q : m d ≡ true). tf q n) (λ (q : hasStripe s (v d z) ≡ true). found-in s (v d z) q)
+      (or-either (m d) (hasStripe s (v d z)) (all-true (p .N) (λ (d : ℕ). m d || hasStripe s (v d z)) e d l))
 
-  val-in : (z s : ℕ) → countB z s ≡ true → (d : ℕ) → d < p .N → m d ≡ false → In (chunk s (valOf z s d)) (v d z)
-  val-in z s e d l n = subst (λ (x : Val). In (chunk s x) (v d z)) (sym (val-here z s d n)) (here-in z s e d l n)
+  val-in : (z s : ℕ) → countB z s ≡ true → (d : ℕ) → d < p .N → m d ≡ false → InI (chunk s (valOf z s d)) (v d z)
+  val-in z s e d l n = subst (λ (x : Val). InI (chunk s x) (v d z)) (sym (val-here z s d n)) (value-here-in z s e d l n)
 
-  in-count : (z s : ℕ) (f : ℕ → Val) → ((d : ℕ) → d < p .N → m d ≡ false → In (chunk s (f d)) (v d z)) → countB z s ≡ true
+  in-count : (z s : ℕ) (f : ℕ → Val) → ((d : ℕ) → d < p .N → m d ≡ false → InI (chunk s (f d)) (v d z)) → countB z s ≡ true
   unfolding countB
-  in-count z s f h = true-all (p .N) (λ (d : ℕ). m d || found s (v d z)) (λ d l. go d l (two (m d)))
+  in-count z s f h = true-all (p .N) (λ (d : ℕ). m d || hasStripe s (v d z)) (λ d l. go d l (two (m d)))
     where
-      go : (d : ℕ) → d < p .N → (m d ≡ true) ⊎ (m d ≡ false) → (m d || found s (v d z)) ≡ true
-      go d l (inl e) = or-1 (m d) (found s (v d z)) e
-      go d l (inr n) = or-2 (m d) (found s (v d z)) (in-found s (f d) (v d z) (h d l n))
+      go : (d : ℕ) → d < p .N → (m d ≡ true) ⊎ (m d ≡ false) → (m d || hasStripe s (v d z)) ≡ true
+      go d l (inl e) = or-1 (m d) (hasStripe s (v d z)) e
+      go d l (inr n) = or-2 (m d) (hasStripe s (v d z)) (in-found s (f d) (v d z) (h d l n))
 
 -- the header's serials
 pub head-is : (l : List Item) (r c : ℕ) (n : ℕ → ℕ) → 0 < length l → getD l 0 (foot 0) ≡ hdr r c n → (serOf l ≡ r) × (copOf l ≡ c)
@@ -245,16 +245,16 @@ head-is (chunk t x ∷ l) r c n b e = absurd (chunk-hdr e)
 head-is (foot j ∷ l) r c n b e = absurd (let z : _≡_ {A = ℕ} 0 1 = cc in let q : ⊥ = omega arith in q)
 
 -- ---- on drives with the facts, what is computed is what the facts speak of
-module _ (p : Par) (g : Ghost) (v : View) (h : Facts p g v) (m : Mask) (c : Choice p (g .un) m)
+module _ (p : Par) (g : Ghost) (v : ItemView) (h : Facts p g v) (m : Mask) (c : Choice p (g .un) m)
     (E : ℕ → ℕ) (cover : (z : ℕ) → L p v m z → (k : ℕ) × (k < p .Z) × (E k ≡ z)) where
-  trusted : (d : ℕ) → d < p .N → m d ≡ false → Tr p (g .un) d
-  trusted d l n = (l, trust p (g .un) m c d l n)
+  present-trusted : (d : ℕ) → d < p .N → m d ≡ false → Tr p (g .un) d
+  present-trusted d l n = (l, trust p (g .un) m c d l n)
 
   heads : (z : ℕ) → L p v m z → (serOf (v (low m (p .N)) z) ≡ g .hd .ser z) × (copOf (v (low m (p .N)) z) ≡ g .hd .cop z)
   heads z l =
       let q : (low m (p .N) < p .N) × (m (low m (p .N)) ≡ false) = low-is p v m E (c .0) in
       let b : 0 < length (v (low m (p .N)) z) = l (low m (p .N)) (q .0) (q .1) in
-      head-is (v (low m (p .N)) z) (g .hd .ser z) (g .hd .cop z) (g .hd .zn z) b (h .zones (low m (p .N)) z (trusted (low m (p .N)) (q .0) (q .1)) .head b)
+      head-is (v (low m (p .N)) z) (g .hd .ser z) (g .hd .cop z) (g .hd .zn z) b (h .zones (low m (p .N)) z (present-trusted (low m (p .N)) (q .0) (q .1)) .head b)
 
   abbrev test : ℕ → ℕ → Bool
   test z o = leftB p v m E o && (eqb (copOf (v (low m (p .N)) z)) (serOf (v (low m (p .N)) o)) && not (eqb o z))
@@ -273,8 +273,8 @@ module _ (p : Par) (g : Ghost) (v : View) (h : Facts p g v) (m : Mask) (c : Choi
       own o lo q = let k : (k : ℕ) × (k < p .Z) × (E k ≡ o) = cover o lo in
           not-2 (test z o) (subst (λ (i : ℕ). not (test z i) ≡ true) (k .2)
           (all-true (p .Z) (λ (k : ℕ). not (test z (E k))) (and-2 (leftB p v m E z) (allB (p .Z) (λ (k : ℕ). not (test z (E k)))) e) (k .0) (k .1)))
-          (both (leftB p v m E o) (eqb (copOf (v (low m (p .N)) z)) (serOf (v (low m (p .N)) o)) && not (eqb o z)) (L-left p v m E o lo)
-          (both (eqb (copOf (v (low m (p .N)) z)) (serOf (v (low m (p .N)) o))) (not (eqb o z)) (eq-eqb (copOf (v (low m (p .N)) z)) (serOf (v (low m (p .N)) o))
+          (both-true (leftB p v m E o) (eqb (copOf (v (low m (p .N)) z)) (serOf (v (low m (p .N)) o)) && not (eqb o z)) (L-left p v m E o lo)
+          (both-true (eqb (copOf (v (low m (p .N)) z)) (serOf (v (low m (p .N)) o))) (not (eqb o z)) (eq-eqb (copOf (v (low m (p .N)) z)) (serOf (v (low m (p .N)) o))
           (heads z lz .1 ∙ q ∙ sym (heads o lo .0)))
           (not-1 (eqb o z) (λ k. same (eqb-true o z k)))))
         where
@@ -283,7 +283,7 @@ module _ (p : Par) (g : Ghost) (v : View) (h : Facts p g v) (m : Mask) (c : Choi
 
   pub R-rem : (z : ℕ) → R p (g .hd) v m z → remB p v m E z ≡ true
   unfolding remB
-  R-rem z r = both (leftB p v m E z) (allB (p .Z) (λ (k : ℕ). not (test z (E k)))) (L-left p v m E z (r .left))
+  R-rem z r = both-true (leftB p v m E z) (allB (p .Z) (λ (k : ℕ). not (test z (E k)))) (L-left p v m E z (r .left))
       (true-all (p .Z) (λ (k : ℕ). not (test z (E k))) (λ k l. not-1 (test z (E k)) (λ q. clash (E k) q)))
     where
       clash : (o : ℕ) → test z o ≡ true → ⊥
@@ -297,39 +297,39 @@ module _ (p : Par) (g : Ghost) (v : View) (h : Facts p g v) (m : Mask) (c : Choi
   pub count-stripe : (z s : ℕ) → countB p v m E z s ≡ true → Stripe p v m z s (valOf p v m E z s)
   count-stripe z s e = record { on = val-in p v m E z s e; word = respell p s (w .0) (valOf p v m E z s) (λ d l. sym (val-is p v m E z s (w .0) (c .0) (w .1) (w .2) d l)) (w .1) }
     where
-      w : (f : ℕ → Val) × Word p s f × ((d : ℕ) → d < p .N → m d ≡ false → here p v m E z s d ≡ f d)
-      w = h .parity .whole m c z s (here p v m E z s) (here-in p v m E z s e)
+      w : (f : ℕ → Val) × Word p s f × ((d : ℕ) → d < p .N → m d ≡ false → valueHere p v m E z s d ≡ f d)
+      w = h .parity .whole m c z s (valueHere p v m E z s) (value-here-in p v m E z s e)
 
   -- and it is the only one
   pub stripe-is : (z s : ℕ) (f : ℕ → Val) → Stripe p v m z s f → (countB p v m E z s ≡ true) × ((d : ℕ) → d < p .N → valOf p v m E z s d ≡ f d)
   stripe-is z s f st = (
     e,
-    unique p s m (c .0) (valOf p v m E z s) f (count-stripe z s e .word) (st .word)
-        (λ d l n. once-in p g d z (v d z) (h .zones d z (trusted d l n)) s (valOf p v m E z s d) (f d) (val-in p v m E z s e d l n) (st .on d l n)),
+    word-unique p s m (c .0) (valOf p v m E z s) f (count-stripe z s e .word) (st .word)
+        (λ d l n. once-in p g d z (v d z) (h .zones d z (present-trusted d l n)) s (valOf p v m E z s d) (f d) (val-in p v m E z s e d l n) (st .on d l n)),
   )
     where
       e : countB p v m E z s ≡ true
       e = in-count p v m E z s f (st .on)
 
-  number : (z s : ℕ) (f : ℕ → Val) → Stripe p v m z s f → s < p .S
-  number z s f st =
-      let d : (d : ℕ) × (d < p .N) × (m d ≡ false) = present p m (c .0) in
-      let i : In (chunk s (f (d .0))) (v (d .0) z) = st .on (d .0) (d .1) (d .2) in
+  stripe-number : (z s : ℕ) (f : ℕ → Val) → Stripe p v m z s f → s < p .S
+  stripe-number z s f st =
+      let d : (d : ℕ) × (d < p .N) × (m d ≡ false) = some-present p m (c .0) in
+      let i : InI (chunk s (f (d .0))) (v (d .0) z) = st .on (d .0) (d .1) (d .2) in
       let r : (k : ℕ) × Off (v (d .0) z) k (chunk s (f (d .0))) = in-off (chunk s (f (d .0))) (v (d .0) z) i in
-      go (d .0) (trusted (d .0) (d .1) (d .2)) i (r .0) (r .1)
+      go (d .0) (present-trusted (d .0) (d .1) (d .2)) i (r .0) (r .1)
     where
-      go : (d : ℕ) → Tr p (g .un) d → In (chunk s (f d)) (v d z) → (k : ℕ) → Off (v d z) k (chunk s (f d)) → s < p .S
-      go d t i zero o = absurd (chunk-hdr (sym (o .1) ∙ h .zones d z t .head (in-some (chunk s (f d)) (v d z) i)))
+      go : (d : ℕ) → Tr p (g .un) d → InI (chunk s (f d)) (v d z) → (k : ℕ) → Off (v d z) k (chunk s (f d)) → s < p .S
+      go d t i zero o = absurd (chunk-hdr (sym (o .1) ∙ h .zones d z t .head (item-some (chunk s (f d)) (v d z) i)))
       go d t i (suc k) o = h .zones d z t .num k s (f d) o .0
 
-  most : (x : Val) → Counted p (g .hd) v m x → x .stamp ≤ best p v m E (x .addr)
-  unfolding best inSegment inStripe inData
-  most x k =
+  best-most : (x : Val) → Counted p (g .hd) v m x → x .stamp ≤ bestStamp p v m E (x .addr)
+  unfolding bestStamp inSegment inStripe inData
+  best-most x k =
       let e : (countB p v m E (k .z) (k .s) ≡ true) × ((d : ℕ) → d < p .N → valOf p v m E (k .z) (k .s) d ≡ k .f d) = stripe-is (k .z) (k .s) (k .f) (k .st) in
       let y : valOf p v m E (k .z) (k .s) (k .dt .d) ≡ x = e .1 (k .dt .d) (k .dt .lt) ∙ k .dt .val in
       let a₁ : inData p v m E (x .addr) (k .z) (k .s) (k .dt .d) ≡ valOf p v m E (k .z) (k .s) (k .dt .d) .stamp =
       when-true (not (p .code .par (k .s) (k .dt .d)) && eqb (valOf p v m E (k .z) (k .s) (k .dt .d) .addr) (x .addr)) (valOf p v m E (k .z) (k .s) (k .dt .d) .stamp)
-      (both (not (p .code .par (k .s) (k .dt .d))) (eqb (valOf p v m E (k .z) (k .s) (k .dt .d) .addr) (x .addr))
+      (both-true (not (p .code .par (k .s) (k .dt .d))) (eqb (valOf p v m E (k .z) (k .s) (k .dt .d) .addr) (x .addr))
       (not-1 (p .code .par (k .s) (k .dt .d)) (λ q. tf q (k .dt .data?)))
       (eq-eqb (valOf p v m E (k .z) (k .s) (k .dt .d) .addr) (x .addr) (ap (λ (i : Val). i .addr) y))) in
       let b₁ : inData p v m E (x .addr) (k .z) (k .s) (k .dt .d) ≤ maxN (p .N) (inData p v m E (x .addr) (k .z) (k .s)) = max-le (p .N) (inData p v m E (x .addr) (k .z) (k .s)) (k .dt .d)
@@ -337,7 +337,7 @@ module _ (p : Par) (g : Ghost) (v : View) (h : Facts p g v) (m : Mask) (c : Choi
       let a₂ : inStripe p v m E (x .addr) (k .z) (k .s) ≡ maxN (p .N) (inData p v m E (x .addr) (k .z) (k .s)) =
       when-true (countB p v m E (k .z) (k .s)) (maxN (p .N) (inData p v m E (x .addr) (k .z) (k .s))) (e .0) in
       let b₂ : inStripe p v m E (x .addr) (k .z) (k .s) ≤ maxN (p .S) (inStripe p v m E (x .addr) (k .z)) =
-      max-le (p .S) (inStripe p v m E (x .addr) (k .z)) (k .s) (number (k .z) (k .s) (k .f) (k .st)) in
+      max-le (p .S) (inStripe p v m E (x .addr) (k .z)) (k .s) (stripe-number (k .z) (k .s) (k .f) (k .st)) in
       let a₃ : inSegment p v m E (x .addr) (k .z) ≡ maxN (p .S) (inStripe p v m E (x .addr) (k .z)) =
       when-true (remB p v m E (k .z)) (maxN (p .S) (inStripe p v m E (x .addr) (k .z))) (R-rem (k .z) (k .rem)) in
       let b₃ : inSegment p v m E (x .addr) (k .z) ≤ maxN (p .Z) (λ (k : ℕ). inSegment p v m E (x .addr) (E k)) =
@@ -347,17 +347,17 @@ module _ (p : Par) (g : Ghost) (v : View) (h : Facts p g v) (m : Mask) (c : Choi
       let s : valOf p v m E (k .z) (k .s) (k .dt .d) .stamp ≡ x .stamp = ap (λ (i : Val). i .stamp) y in
       omega (arith, a₁, b₁, a₂, b₂, a₃, b₃, s)
 
-  some : (a : ℕ) → (best p v m E a ≡ 0) ⊎ ((x : Val) × Counted p (g .hd) v m x × (x .addr ≡ a) × (x .stamp ≡ best p v m E a))
-  unfolding best inSegment inStripe inData
-  some a = go (best p v m E a) refl
+  some : (a : ℕ) → (bestStamp p v m E a ≡ 0) ⊎ ((x : Val) × Counted p (g .hd) v m x × (x .addr ≡ a) × (x .stamp ≡ bestStamp p v m E a))
+  unfolding bestStamp inSegment inStripe inData
+  some a = go (bestStamp p v m E a) refl
     where
-      go : (n : ℕ) → best p v m E a ≡ n → (best p v m E a ≡ 0) ⊎ ((x : Val) × Counted p (g .hd) v m x × (x .addr ≡ a) × (x .stamp ≡ best p v m E a))
+      go : (n : ℕ) → bestStamp p v m E a ≡ n → (bestStamp p v m E a ≡ 0) ⊎ ((x : Val) × Counted p (g .hd) v m x × (x .addr ≡ a) × (x .stamp ≡ bestStamp p v m E a))
       go zero e = inl e
       go (suc n) e = inr (seg (max-some (p .Z) (λ (k : ℕ). inSegment p v m E a (E k))))
         where
-          dat : (z s : ℕ) → remB p v m E z ≡ true → countB p v m E z s ≡ true → maxN (p .N) (inData p v m E a z s) ≡ best p v m E a
+          dat : (z s : ℕ) → remB p v m E z ≡ true → countB p v m E z s ≡ true → maxN (p .N) (inData p v m E a z s) ≡ bestStamp p v m E a
               → (maxN (p .N) (inData p v m E a z s) ≡ 0) ⊎ ((d : ℕ) × (d < p .N) × (inData p v m E a z s d ≡ maxN (p .N) (inData p v m E a z s)))
-              → (x : Val) × Counted p (g .hd) v m x × (x .addr ≡ a) × (x .stamp ≡ best p v m E a)
+              → (x : Val) × Counted p (g .hd) v m x × (x .addr ≡ a) × (x .stamp ≡ bestStamp p v m E a)
           dat z s r k q (inl w) = absurd (let j : ⊥ = omega (arith, w, q, e) in j)
           dat z s r k q (inr (d, l, w)) =
               let t : ((not (p .code .par s d) && eqb (valOf p v m E z s d .addr) a) ≡ true) × (inData p v m E a z s d ≡ valOf p v m E z s d .stamp) =
@@ -381,9 +381,9 @@ module _ (p : Par) (g : Ghost) (v : View) (h : Facts p g v) (m : Mask) (c : Choi
                 sym (t .1) ∙ w ∙ q,
               )
 
-          str : (z : ℕ) → remB p v m E z ≡ true → maxN (p .S) (inStripe p v m E a z) ≡ best p v m E a
+          str : (z : ℕ) → remB p v m E z ≡ true → maxN (p .S) (inStripe p v m E a z) ≡ bestStamp p v m E a
               → (maxN (p .S) (inStripe p v m E a z) ≡ 0) ⊎ ((s : ℕ) × (s < p .S) × (inStripe p v m E a z s ≡ maxN (p .S) (inStripe p v m E a z)))
-              → (x : Val) × Counted p (g .hd) v m x × (x .addr ≡ a) × (x .stamp ≡ best p v m E a)
+              → (x : Val) × Counted p (g .hd) v m x × (x .addr ≡ a) × (x .stamp ≡ bestStamp p v m E a)
           str z r q (inl w) = absurd (let j : ⊥ = omega (arith, w, q, e) in j)
           str z r q (inr (s, l, w)) =
               let t : (countB p v m E z s ≡ true) × (inStripe p v m E a z s ≡ maxN (p .N) (inData p v m E a z s)) =
@@ -391,7 +391,7 @@ module _ (p : Par) (g : Ghost) (v : View) (h : Facts p g v) (m : Mask) (c : Choi
               dat z s r (t .0) (sym (t .1) ∙ w ∙ q) (max-some (p .N) (inData p v m E a z s))
 
           seg : (maxN (p .Z) (λ (k : ℕ). inSegment p v m E a (E k)) ≡ 0) ⊎ ((z : ℕ) × (z < p .Z) × (inSegment p v m E a (E z) ≡ maxN (p .Z) (λ (k : ℕ). inSegment p v m E a (E k))))
-              → (x : Val) × Counted p (g .hd) v m x × (x .addr ≡ a) × (x .stamp ≡ best p v m E a)
+              → (x : Val) × Counted p (g .hd) v m x × (x .addr ≡ a) × (x .stamp ≡ bestStamp p v m E a)
           seg (inl w) = absurd (let j : ⊥ = omega (arith, w, e) in j)
           seg (inr (k, l, w)) =
               let t : (remB p v m E (E k) ≡ true) × (inSegment p v m E a (E k) ≡ maxN (p .S) (inStripe p v m E a (E k))) =
@@ -399,5 +399,5 @@ module _ (p : Par) (g : Ghost) (v : View) (h : Facts p g v) (m : Mask) (c : Choi
               str (E k) (t .0) (sym (t .1) ∙ w) (max-some (p .S) (inStripe p v m E a (E k)))
 
   -- the restart's table reads what the facts speak of
-  pub computed : Reads p (g .hd) v m (best p v m E)
-  computed = record { most = most; some = some }
+  pub computed : Reads p (g .hd) v m (bestStamp p v m E)
+  computed = record { most = best-most; some = some }

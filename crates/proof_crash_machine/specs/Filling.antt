@@ -9,7 +9,7 @@ use native.Mathlib.Decide.{ℕ-discrete}
 use lib.ListN.{length}
 use Rattle.proof_crash_machine.specs.Val.{Val, pads, pads-stamp}
 use Rattle.proof_crash_machine.specs.Code.{enc-word}
-use Rattle.proof_crash_machine.specs.View.{Item, View, In, after, chunk-foot}
+use Rattle.proof_crash_machine.specs.View.{Item, ItemView, InI, withItem, chunk-foot}
 use Rattle.proof_crash_machine.specs.View.Item.{chunk, foot}
 use Rattle.proof_crash_machine.specs.Mask.{two, tf}
 use Rattle.proof_crash_machine.specs.Facts.{Par, Word, Ghost, Good, Datum, Ragged}
@@ -29,7 +29,7 @@ unfolding unfilled
 unfilled-word p s = enc-word (p .code) s (λ e. pads)
 
 -- an empty stripe, under a number that no drive has
-pub begin : (p : Par) (g : Ghost) (v : View) (z s : ℕ) → ((e : ℕ) (x : Val) → e < p .N → In (chunk s x) (v e z) → ⊥) → Flight p g v z s (unfilled p s) (λ e. false)
+pub begin : (p : Par) (g : Ghost) (v : ItemView) (z s : ℕ) → ((e : ℕ) (x : Val) → e < p .N → InI (chunk s x) (v e z) → ⊥) → Flight p g v z s (unfilled p s) (λ e. false)
 begin p g v z s none = record {
   mine = λ e x l m. absurd (none e x l m);
   word = unfilled-word p s;
@@ -38,21 +38,21 @@ begin p g v z s none = record {
 }
 
 -- x goes to drive d; parity follows
-unfoldable pub filled : Par → ℕ → (ℕ → Val) → ℕ → Val → ℕ → Val
-filled p s G d x = p .code .enc s (setAt G d x)
+unfoldable pub filledWord : Par → ℕ → (ℕ → Val) → ℕ → Val → ℕ → Val
+filledWord p s G d x = p .code .enc s (setAt G d x)
 
-module _ (p : Par) (g : Ghost) (v : View) (z s : ℕ) (G : ℕ → Val) (r : ℕ → Bool) (f : Flight p g v z s G r)
+module _ (p : Par) (g : Ghost) (v : ItemView) (z s : ℕ) (G : ℕ → Val) (r : ℕ → Bool) (f : Flight p g v z s G r)
     (d : ℕ) (x : Val) (dN : d < p .N) (dp : p .code .par s d ≡ false) (rd : r d ≡ false) (rp : (e : ℕ) → p .code .par s e ≡ true → r e ≡ false) where
-  pub at-d : filled p s G d x d ≡ x
-  unfolding filled
+  pub at-d : filledWord p s G d x d ≡ x
+  unfolding filledWord
   at-d = p .code .keeps s (setAt G d x) d dN dp ∙ setAt-elim (λ (y : Val). y ≡ x) G d x d (λ e. refl) (λ k. absurd (k refl))
 
-  pub at-else : (e : ℕ) → e < p .N → e ≢ d → p .code .par s e ≡ false → filled p s G d x e ≡ G e
-  unfolding filled
+  pub at-else : (e : ℕ) → e < p .N → e ≢ d → p .code .par s e ≡ false → filledWord p s G d x e ≡ G e
+  unfolding filledWord
   at-else e l n k = p .code .keeps s (setAt G d x) e l k ∙ setAt-elim (λ (y : Val). y ≡ G e) G d x e (λ j. absurd (n j)) (λ j. refl)
 
-  word-filled : Word p s (filled p s G d x)
-  unfolding filled
+  word-filled : Word p s (filledWord p s G d x)
+  unfolding filledWord
   word-filled = enc-word (p .code) s (setAt G d x)
 
   -- what has landed is data
@@ -63,7 +63,7 @@ module _ (p : Par) (g : Ghost) (v : View) (z s : ℕ) (G : ℕ → Val) (r : ℕ
   not-ready e k a b i = let c : true ≡ false = sym a ∙ ap r i ∙ b in absurd (let z : _≡_ {A = ℕ} 0 1 = cc in let j : ⊥ = omega arith in j)
 
   -- the stripe with x in it, and at least as much that may land
-  pub fill : Good g x → Ok g x → (r′ : ℕ → Bool) → ((e : ℕ) → r e ≡ true → r′ e ≡ true) → Flight p g v z s (filled p s G d x) r′
+  pub fill : Good g x → Ok g x → (r′ : ℕ → Bool) → ((e : ℕ) → r e ≡ true → r′ e ≡ true) → Flight p g v z s (filledWord p s G d x) r′
   fill gx okx r′ more = record {
     mine = λ e y l m. let k : (y ≡ G e) × (r e ≡ true) = f .mine e y l m in
         (k .0 ∙ sym (at-else e l (not-ready e d (k .1) rd) (data-ready e (k .1))), more e (k .1));
@@ -72,12 +72,12 @@ module _ (p : Par) (g : Ghost) (v : View) (z s : ℕ) (G : ℕ → Val) (r : ℕ
     ok = λ y t. case (Ok g) y t (ℕ-discrete (t .d) d) okx (f .ok y);
   }
     where
-      case : (Q : Val → Type 0) (y : Val) (t : Datum p s (filled p s G d x) y) → Dec (t .d ≡ d) → Q x → (Datum p s G y → Q y) → Q y
-      case Q y t (yes e) a b = subst Q (sym at-d ∙ ap (filled p s G d x) (sym e) ∙ t .val) a
+      case : (Q : Val → Type 0) (y : Val) (t : Datum p s (filledWord p s G d x) y) → Dec (t .d ≡ d) → Q x → (Datum p s G y → Q y) → Q y
+      case Q y t (yes e) a b = subst Q (sym at-d ∙ ap (filledWord p s G d x) (sym e) ∙ t .val) a
       case Q y t (no e) a b = b (record { d = t .d; lt = t .lt; data? = t .data?; val = sym (at-else (t .d) (t .lt) e (t .data?)) ∙ t .val })
 
 -- ---- a footer block changes nothing in memory
-pub foot-mem : (p : Par) (g : Ghost) (v : View) (M : Mem) → MemOk p g v M → (d z j : ℕ) → 0 < length (v d z) → length (v d z) < p .cap → MemOk p g (after v d z (foot j)) M
+pub foot-mem : (p : Par) (g : Ghost) (v : ItemView) (M : Mem) → MemOk p g v M → (d z j : ℕ) → 0 < length (v d z) → length (v d z) < p .cap → MemOk p g (withItem v d z (foot j)) M
 foot-mem p g v M a d z j b room = record {
   none = a .none;
   no-pair = a .no-pair;
@@ -90,7 +90,7 @@ foot-mem p g v M a d z j b room = record {
     e,
     t,
     Put.len-back v d z (foot j) b e y i,
-    Put.each v d z (foot j) (λ (e y : ℕ) (l : List Item). length l < p .cap → length (v e y) < p .cap) (λ q. room) e y (λ q. q) k,
+    Put.each-put v d z (foot j) (λ (e y : ℕ) (l : List Item). length l < p .cap → length (v e y) < p .cap) (λ q. room) e y (λ q. q) k,
   );
   begun = λ q. Put.Whole-fwd v d z (foot j) b p g (M .zone) (a .begun q);
   below = λ q e s x l m. a .below q e s x l (old e s x m);
@@ -98,14 +98,14 @@ foot-mem p g v M a d z j b room = record {
       (r .0, r .1, record { mine = λ e x l m. r .2 .mine e x l (old e s x m); word = r .2 .word; good = r .2 .good; ok = r .2 .ok });
 }
   where
-    old : (e s : ℕ) (x : Val) → In (chunk s x) (after v d z (foot j) e (M .zone)) → In (chunk s x) (v e (M .zone))
+    old : (e s : ℕ) (x : Val) → InI (chunk s x) (withItem v d z (foot j) e (M .zone)) → InI (chunk s x) (v e (M .zone))
     old e s x m = ⊎-elim (λ k. k) (λ (k : (e ≡ d) × (M .zone ≡ z) × (chunk s x ≡ foot j)). absurd (chunk-foot (k .2))) (Put.in-back v d z (foot j) (chunk s x) e (M .zone) m)
 
 -- ---- nothing is ragged any more: no segment is open
 abbrev pub shut : Mem → Mem
 shut M = record { is-open = false; zone = M .zone; next = M .next; fly = M .fly; ready = M .ready; F = M .F; stamp = M .stamp; serial = M .serial }
 
-pub seal-mem : (p : Par) (g : Ghost) (v : View) (M : Mem) → MemOk p g v M → ((y : ℕ) → Ragged p (g .un) v y → ⊥) → ((s : ℕ) → M .fly s ≡ false) → MemOk p g v (shut M)
+pub seal-mem : (p : Par) (g : Ghost) (v : ItemView) (M : Mem) → MemOk p g v M → ((y : ℕ) → Ragged p (g .un) v y → ⊥) → ((s : ℕ) → M .fly s ≡ false) → MemOk p g v (shut M)
 seal-mem p g v M a full idle = record {
   none = a .none;
   no-pair = a .no-pair;

@@ -5,10 +5,10 @@ use mathlib.Core.Bool.{true}
 use mathlib.Core.Logic.{_⊎_, inl, inr, ⊎-elim, _≢_}
 use Prim.Native.Nat.{ℕ, _≤_, _<_}
 use Rattle.proof_crash_machine.specs.Val.{Val}
-use Rattle.proof_crash_machine.specs.View.{View}
+use Rattle.proof_crash_machine.specs.View.{ItemView}
 use Rattle.proof_crash_machine.specs.Facts.Pair.{alone, pair}
 use Rattle.proof_crash_machine.specs.Lemma.{pair-alone}
-use Rattle.proof_crash_machine.specs.Facts.{Par, Placing, InPair, Pair, Ghost, Good, Counted, Zone, Used, Facts}
+use Rattle.proof_crash_machine.specs.Facts.{Par, Placing, InPair, Pair, Ghost, Good, Counted, ZoneItems, Used, Facts}
 
 abbrev pub withPr : Ghost → Pair → Ghost
 withPr g b = record { un = g .un; said = g .said; hd = g .hd; pr = b; sent = g .sent; last = g .last; base = g .base; top = g .top }
@@ -20,7 +20,7 @@ abbrev pub withSent : Ghost → List Val → Ghost
 withSent g l = record { un = g .un; said = g .said; hd = g .hd; pr = g .pr; sent = l; last = g .last; base = g .base; top = g .top }
 
 -- zones once the pair is over: that of the empty one is free
-solo : (p : Par) (g : Ghost) (v : View) → Facts p g v → ((w o : ℕ) → g .pr ≡ pair w o → (Used p (g .un) v w → ⊥) ⊎ (Used p (g .un) v o → ⊥))
+solo : (p : Par) (g : Ghost) (v : ItemView) → Facts p g v → ((w o : ℕ) → g .pr ≡ pair w o → (Used p (g .un) v w → ⊥) ⊎ (Used p (g .un) v o → ⊥))
     → Placing p (g .hd) alone (Used p (g .un) v)
 solo p g v h k = record {
   put = λ z i. pl .put z (up z i);
@@ -48,11 +48,11 @@ solo p g v h k = record {
         clash z (inr (inr (w, q))) e = pair-alone (sym q)
 
 -- the pair is over once one of the two is empty
-pub unpaired : (p : Par) (g : Ghost) (v : View) → Facts p g v
+pub unpaired : (p : Par) (g : Ghost) (v : ItemView) → Facts p g v
     → ((w o : ℕ) → g .pr ≡ pair w o → (Used p (g .un) v w → ⊥) ⊎ (Used p (g .un) v o → ⊥)) → Facts p (withPr g alone) v
 unpaired p g v h k = record {
   lost = h .lost;
-  zones = λ d z t. let q : Zone p g d z (v d z) = h .zones d z t in record { len = q .len; head = q .head; num = q .num; once = q .once; origin = q .origin; sealed = q .sealed };
+  zones = λ d z t. let q : ZoneItems p g d z (v d z) = h .zones d z t in record { len = q .len; head = q .head; num = q .num; once = q .once; origin = q .origin; sealed = q .sealed };
   parity = record { whole = h .parity .whole; sound = h .parity .sound };
   swap = record {
     serials = h .swap .serials;
@@ -74,11 +74,11 @@ unpaired p g v h k = record {
     no w o a b e = ⊎-elim (λ (n : Used p (g .un) v w → ⊥). n a) (λ (n : Used p (g .un) v o → ⊥). n b) (k w o e)
 
 -- acknowledged: what is counted may become the floor
-pub raised : (p : Par) (g : Ghost) (v : View) (f : ℕ → ℕ) → Facts p g v
+pub raised : (p : Par) (g : Ghost) (v : ItemView) (f : ℕ → ℕ) → Facts p g v
     → ((a : ℕ) → (f a ≡ g .base a) ⊎ ((x : Val) × Counted p (g .hd) v (g .un) x × (x .addr ≡ a) × (f a ≤ x .stamp))) → Facts p (withBase g f) v
 raised p g v f h k = record {
   lost = h .lost;
-  zones = λ d z t. let q : Zone p g d z (v d z) = h .zones d z t in record { len = q .len; head = q .head; num = q .num; once = q .once; origin = q .origin; sealed = q .sealed };
+  zones = λ d z t. let q : ZoneItems p g d z (v d z) = h .zones d z t in record { len = q .len; head = q .head; num = q .num; once = q .once; origin = q .origin; sealed = q .sealed };
   parity = record { whole = h .parity .whole; sound = h .parity .sound };
   swap = record { serials = h .swap .serials; below = h .swap .below; one = h .swap .one; named = h .swap .named; safe = h .swap .safe };
   «open» = record { place = h .«open» .place; ragged = h .«open» .ragged };
@@ -95,10 +95,10 @@ good-more g x y (inl e) = inl e
 good-more g x y (inr m) = inr (inr m)
 
 -- a block is sent
-pub sending : (p : Par) (g : Ghost) (v : View) (x : Val) → Facts p g v → Facts p (withSent g (x ∷ g .sent)) v
-sending p g v x h = record {
+pub send-facts : (p : Par) (g : Ghost) (v : ItemView) (x : Val) → Facts p g v → Facts p (withSent g (x ∷ g .sent)) v
+send-facts p g v x h = record {
   lost = h .lost;
-  zones = λ d z t. let q : Zone p g d z (v d z) = h .zones d z t in
+  zones = λ d z t. let q : ZoneItems p g d z (v d z) = h .zones d z t in
       record { len = q .len; head = q .head; num = q .num; once = q .once; origin = λ s y m n. good-more g x y (q .origin s y m n); sealed = q .sealed };
   parity = record { whole = h .parity .whole; sound = λ m c z s f st y dt. good-more g x y (h .parity .sound m c z s f st y dt) };
   swap = record { serials = h .swap .serials; below = h .swap .below; one = h .swap .one; named = h .swap .named; safe = h .swap .safe };

@@ -35,11 +35,11 @@ one-false true e = tf refl e
 one-false false e = refl
 
 -- if fewer than all are in, one is out
-pub outside : (n : ℕ) (m : Mask) → count n m < n → (d : ℕ) × (d < n) × (m d ≡ false)
+pub mask-outside : (n : ℕ) (m : Mask) → count n m < n → (d : ℕ) × (d < n) × (m d ≡ false)
 unfolding count
-outside zero m h = absurd (let q : ⊥ = omega arith in q)
-outside (suc n) m h = ⊎-elim
-    (λ (e : m n ≡ true). let r : (d : ℕ) × (d < n) × (m d ≡ false) = outside n m (omega (arith, h, one-true (m n) e)) in (r .0, omega (arith, r .1), r .2))
+mask-outside zero m h = absurd (let q : ⊥ = omega arith in q)
+mask-outside (suc n) m h = ⊎-elim
+    (λ (e : m n ≡ true). let r : (d : ℕ) × (d < n) × (m d ≡ false) = mask-outside n m (omega (arith, h, one-true (m n) e)) in (r .0, omega (arith, r .1), r .2))
     (λ (e : m n ≡ false). (n, omega arith, e)) (two (m n))
 
 pub count-none : (n : ℕ) (m : Mask) → ((d : ℕ) → d < n → m d ≡ false) → count n m ≡ 0

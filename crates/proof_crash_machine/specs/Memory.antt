@@ -10,11 +10,11 @@ use lib.ListN.{length}
 use Rattle.proof_crash_machine.specs.Val.{Val}
 use Rattle.proof_crash_machine.specs.Facts.Pair.{alone, pair}
 use Rattle.proof_crash_machine.specs.Lemma.{pair-alone}
-use Rattle.proof_crash_machine.specs.View.{Item, View, In, after, chunk-num, chunk-val}
+use Rattle.proof_crash_machine.specs.View.{Item, ItemView, InI, withItem, chunk-num, chunk-val}
 use Rattle.proof_crash_machine.specs.View.Item.{chunk}
-use Rattle.proof_crash_machine.specs.Facts.{Par, None, Word, self-none, Ghost, InV, Good, R, Datum, Counted, Used, Whole, Ragged, Facts, used}
+use Rattle.proof_crash_machine.specs.Facts.{Par, None, Word, self-none, Ghost, InV, Good, R, Datum, Counted, Used, WholeZone, Ragged, Facts, used}
 use Rattle.proof_crash_machine.specs.Put
-use Rattle.proof_crash_machine.specs.Land.{Landing, landed}
+use Rattle.proof_crash_machine.specs.Land.{Landing, landing-facts}
 use Rattle.proof_crash_machine.specs.Ghosts.{withBase, withSent}
 use Rattle.proof_crash_machine.specs.Reset as Reset
 
@@ -49,21 +49,21 @@ abbrev pub Ok : Ghost → Val → Type 0
 Ok g x = (x .stamp ≤ g .last (x .addr)) ⊎ (g .top < x .stamp)
 
 -- a flight's stripe
-pub record Flight (p : Par) (g : Ghost) (v : View) (z s : ℕ) (G : ℕ → Val) (r : ℕ → Bool) : Type 0 where
+pub record Flight (p : Par) (g : Ghost) (v : ItemView) (z s : ℕ) (G : ℕ → Val) (r : ℕ → Bool) : Type 0 where
   -- what has landed is the flight's, and only what may land has
-  pub mine : (e : ℕ) (x : Val) → e < p .N → In (chunk s x) (v e z) → (x ≡ G e) × (r e ≡ true)
+  pub mine : (e : ℕ) (x : Val) → e < p .N → InI (chunk s x) (v e z) → (x ≡ G e) × (r e ≡ true)
   pub word : Word p s G
   pub good : (x : Val) → Datum p s G x → Good g x
   pub ok : (x : Val) → Datum p s G x → Ok g x
 
-pub record MemOk (p : Par) (g : Ghost) (v : View) (M : Mem) : Type 0 where
+pub record MemOk (p : Par) (g : Ghost) (v : ItemView) (M : Mem) : Type 0 where
   pub none : None p (g .un)
   pub no-pair : g .pr ≡ alone
-  pub whole : (z : ℕ) → Used p (g .un) v z → Whole p (g .un) v z
+  pub whole : (z : ℕ) → Used p (g .un) v z → WholeZone p (g .un) v z
   pub lone : (y : ℕ) → Ragged p (g .un) v y → (M .is-open ≡ true) × (y ≡ M .zone)
-  pub begun : M .is-open ≡ true → Whole p (g .un) v (M .zone)
+  pub begun : M .is-open ≡ true → WholeZone p (g .un) v (M .zone)
   pub few : M .next ≤ p .S
-  pub below : M .is-open ≡ true → (e s : ℕ) (x : Val) → e < p .N → In (chunk s x) (v e (M .zone)) → s < M .next
+  pub below : M .is-open ≡ true → (e s : ℕ) (x : Val) → e < p .N → InI (chunk s x) (v e (M .zone)) → s < M .next
   pub flies : (s : ℕ) → M .fly s ≡ true → (M .is-open ≡ true) × (s < M .next) × Flight p g v (M .zone) s (M .F s) (M .ready s)
   pub stamps : (x : Val) → InV x (g .sent) → x .stamp ≤ M .stamp
   pub top : g .top ≤ M .stamp
@@ -86,33 +86,33 @@ flown M s G r n t = record {
 abbrev pub ended : Mem → ℕ → Mem
 ended M s = record { is-open = M .is-open; zone = M .zone; next = M .next; fly = setAt (M .fly) s false; ready = M .ready; F = M .F; stamp = M .stamp; serial = M .serial }
 
-module _ (p : Par) (g : Ghost) (v : View) (M : Mem) (a : MemOk p g v M) where
-  old : (w o : ℕ) → g .pr ≡ pair w o → Whole p (g .un) v o
-  old w o e = absurd (pair-alone (sym e ∙ a .no-pair))
+module _ (p : Par) (g : Ghost) (v : ItemView) (M : Mem) (a : MemOk p g v M) where
+  old-whole : (w o : ℕ) → g .pr ≡ pair w o → WholeZone p (g .un) v o
+  old-whole w o e = absurd (pair-alone (sym e ∙ a .no-pair))
 
   -- ---- a chunk lands
-  module _ (d s : ℕ) (lt : d < p .N) (f : M .fly s ≡ true) (new : (x : Val) → In (chunk s x) (v d (M .zone)) → ⊥) (may : M .ready s d ≡ true)
+  module _ (d s : ℕ) (lt : d < p .N) (f : M .fly s ≡ true) (new : (x : Val) → InI (chunk s x) (v d (M .zone)) → ⊥) (may : M .ready s d ≡ true)
       (off : (k : ℕ) → length (v d (M .zone)) ≡ suc k → (k < p .S) × (p .grp s ≡ p .grp k)) where
-    is : (M .is-open ≡ true) × (s < M .next) × Flight p g v (M .zone) s (M .F s) (M .ready s)
-    is = a .flies s f
+    flight-is : (M .is-open ≡ true) × (s < M .next) × Flight p g v (M .zone) s (M .F s) (M .ready s)
+    flight-is = a .flies s f
 
     b : 0 < length (v d (M .zone))
-    b = a .begun (is .0) d lt (a .none d lt)
+    b = a .begun (flight-is .0) d lt (a .none d lt)
 
-    landing : Landing p g v d (M .zone) s (M .F s)
-    landing = record {
+    flight-landing : Landing p g v d (M .zone) s (M .F s)
+    flight-landing = record {
       none = a .none;
-      old = old;
+      old = old-whole;
       drive = lt;
       begun = b;
       room = room (length (v d (M .zone))) refl;
-      number = omega (arith, is .1, a .few);
+      number = omega (arith, flight-is .1, a .few);
       off = off;
       new = new;
-      mine = λ e x l m. is .2 .mine e x l m .0;
-      word = is .2 .word;
-      good = is .2 .good;
-      ok = is .2 .ok;
+      mine = λ e x l m. flight-is .2 .mine e x l m .0;
+      word = flight-is .2 .word;
+      good = flight-is .2 .good;
+      ok = flight-is .2 .ok;
     }
       where
         room : (n : ℕ) → length (v d (M .zone)) ≡ n → length (v d (M .zone)) < p .cap
@@ -122,11 +122,11 @@ module _ (p : Par) (g : Ghost) (v : View) (M : Mem) (a : MemOk p g v M) where
     abbrev i : Item
     i = chunk s (M .F s d)
 
-    abbrev u : View
-    u = after v d (M .zone) i
+    abbrev u : ItemView
+    u = withItem v d (M .zone) i
 
     pub land-facts : Facts p g v → Facts p g u
-    land-facts h = landed p g v d (M .zone) s (M .F s) landing h
+    land-facts h = landing-facts p g v d (M .zone) s (M .F s) flight-landing h
 
     pub land-mem : MemOk p g u M
     land-mem = record {
@@ -141,17 +141,17 @@ module _ (p : Par) (g : Ghost) (v : View) (M : Mem) (a : MemOk p g v M) where
         e,
         t,
         Put.len-back v d (M .zone) i b e y j,
-        Put.each v d (M .zone) i (λ (e y : ℕ) (l : List Item). length l < p .cap → length (v e y) < p .cap) (λ q. landing .room) e y (λ q. q) k,
+        Put.each-put v d (M .zone) i (λ (e y : ℕ) (l : List Item). length l < p .cap → length (v e y) < p .cap) (λ q. flight-landing .room) e y (λ q. q) k,
       );
       begun = λ q. Put.Whole-fwd v d (M .zone) i b p g (M .zone) (a .begun q);
-      below = λ q e t x l m. ⊎-elim (λ (k : In (chunk t x) (v e (M .zone))). a .below q e t x l k)
-          (λ (k : (e ≡ d) × (M .zone ≡ M .zone) × (chunk t x ≡ i)). subst (λ (n : ℕ). n < M .next) (sym (chunk-num (k .2))) (is .1))
+      below = λ q e t x l m. ⊎-elim (λ (k : InI (chunk t x) (v e (M .zone))). a .below q e t x l k)
+          (λ (k : (e ≡ d) × (M .zone ≡ M .zone) × (chunk t x ≡ i)). subst (λ (n : ℕ). n < M .next) (sym (chunk-num (k .2))) (flight-is .1))
           (Put.in-back v d (M .zone) i (chunk t x) e (M .zone) m);
       flies = λ t q. let r : (M .is-open ≡ true) × (t < M .next) × Flight p g v (M .zone) t (M .F t) (M .ready t) = a .flies t q in (
         r .0,
         r .1,
         record {
-          mine = λ e x l m. ⊎-elim (λ (k : In (chunk t x) (v e (M .zone))). r .2 .mine e x l k)
+          mine = λ e x l m. ⊎-elim (λ (k : InI (chunk t x) (v e (M .zone))). r .2 .mine e x l k)
               (λ (k : (e ≡ d) × (M .zone ≡ M .zone) × (chunk t x ≡ i)).
               (chunk-val (k .2) ∙ ap₂ (λ (n j : ℕ). M .F n j) (sym (chunk-num (k .2))) (sym (k .0)), ap₂ (λ (n j : ℕ). M .ready n j) (chunk-num (k .2)) (k .0) ∙ may))
               (Put.in-back v d (M .zone) i (chunk t x) e (M .zone) m);
@@ -222,7 +222,7 @@ module _ (p : Par) (g : Ghost) (v : View) (M : Mem) (a : MemOk p g v M) where
       was t = setAt-elim (λ (B : Bool). B ≡ true → M .fly t ≡ true) (M .fly) s false t (λ q e. absurd (let z : _≡_ {A = ℕ} 0 1 = cc in let j : ⊥ = omega arith in j)) (λ q e. e)
 
   -- its data count with none missing
-  pub done-counts : Facts p g v → (s : ℕ) → M .fly s ≡ true → ((e : ℕ) → e < p .N → (x : Val) × In (chunk s x) (v e (M .zone)))
+  pub done-counts : Facts p g v → (s : ℕ) → M .fly s ≡ true → ((e : ℕ) → e < p .N → (x : Val) × InI (chunk s x) (v e (M .zone)))
       → (x : Val) → Datum p s (M .F s) x → Counted p (g .hd) v (g .un) x
   done-counts h s f on x dt =
       let r : (M .is-open ≡ true) × (s < M .next) × Flight p g v (M .zone) s (M .F s) (M .ready s) = a .flies s f in
@@ -237,8 +237,8 @@ module _ (p : Par) (g : Ghost) (v : View) (M : Mem) (a : MemOk p g v M) where
               (sym (h .swap .one (M .zone) o (used p g v (g .un) (M .zone) (self-none p (g .un) (a .none)) (a .begun (r .0))) (used p g v (g .un) o (self-none p (g .un) (a .none)) l) q) ∙ a .no-pair);
         };
         st = record {
-          on = λ e l n. let w : (y : Val) × In (chunk s y) (v e (M .zone)) = on e l in
-              subst (λ (y : Val). In (chunk s y) (v e (M .zone))) (r .2 .mine e (w .0) l (w .1) .0) (w .1);
+          on = λ e l n. let w : (y : Val) × InI (chunk s y) (v e (M .zone)) = on e l in
+              subst (λ (y : Val). InI (chunk s y) (v e (M .zone))) (r .2 .mine e (w .0) l (w .1) .0) (w .1);
           word = r .2 .word;
         };
       }

@@ -9,38 +9,38 @@ use native.Mathlib.Decide.{ℕ-discrete}
 use lib.ListN.{length}
 use Rattle.proof_crash_machine.specs.Val.{Val, 𝟘}
 use Rattle.proof_crash_machine.specs.Facts.Pair.{alone}
-use Rattle.proof_crash_machine.specs.View.{Item, View, In, cleared, apply, applyAll, resets, chunk-hdr}
+use Rattle.proof_crash_machine.specs.View.{Item, ItemView, InI, emptiedAt, apply, applyAll, resets, chunk-hdr}
 use Rattle.proof_crash_machine.specs.View.Item.{hdr, chunk}
-use Rattle.proof_crash_machine.specs.Facts.{Par, Ghost, Tr, Used, Whole, Ragged}
-use Rattle.proof_crash_machine.specs.Reset.{gone, zone-kept, drive-kept}
+use Rattle.proof_crash_machine.specs.Facts.{Par, Ghost, Tr, Used, WholeZone, Ragged}
+use Rattle.proof_crash_machine.specs.Reset.{gone, reset-zone-kept, drive-kept}
 use Rattle.proof_crash_machine.specs.Name.{naming, setN, setN-same, setN-other}
 use Rattle.proof_crash_machine.specs.Finish.{Clean, finishing, upTo, upTo-le}
 use Rattle.proof_crash_machine.specs.Memory.{Mem, MemOk, Flight}
 
 -- ---- what the resets of a segment leave
-pub resets-other : (v : View) (z d n e y : ℕ) → y ≢ z → applyAll v (resets z d n) e y ≡ v e y
+pub resets-other : (v : ItemView) (z d n e y : ℕ) → y ≢ z → applyAll v (resets z d n) e y ≡ v e y
 unfolding resets applyAll apply
 resets-other v z d zero e y k = refl
-resets-other v z d (suc n) e y k = resets-other (cleared v d z) z (suc d) n e y k ∙ sym (zone-kept v d z e y k)
+resets-other v z d (suc n) e y k = resets-other (emptiedAt v d z) z (suc d) n e y k ∙ sym (reset-zone-kept v d z e y k)
 
-pub resets-empty : (v : View) (z d n e : ℕ) → (e < d → v e z ≡ []) → e < d + n → applyAll v (resets z d n) e z ≡ []
+pub resets-empty : (v : ItemView) (z d n e : ℕ) → (e < d → v e z ≡ []) → e < d + n → applyAll v (resets z d n) e z ≡ []
 unfolding resets applyAll apply
 resets-empty v z d zero e h b = h (omega arith)
-resets-empty v z d (suc n) e h b = resets-empty (cleared v d z) z (suc d) n e (λ l. go l (ℕ-discrete e d)) (omega arith)
+resets-empty v z d (suc n) e h b = resets-empty (emptiedAt v d z) z (suc d) n e (λ l. go l (ℕ-discrete e d)) (omega arith)
   where
-    go : e < suc d → Dec (e ≡ d) → cleared v d z e z ≡ []
+    go : e < suc d → Dec (e ≡ d) → emptiedAt v d z e z ≡ []
     go l (yes q) = rw q (gone v d z)
     go l (no q) = sym (drive-kept v d z e z q) ∙ h (omega arith)
 
 -- u is v without segment z
-module _ (p : Par) (g : Ghost) (v u : View) (z : ℕ) (M : Mem) (a : MemOk p g v M) (apart : M .is-open ≡ true → M .zone ≢ z)
+module _ (p : Par) (g : Ghost) (v u : ItemView) (z : ℕ) (M : Mem) (a : MemOk p g v M) (apart : M .is-open ≡ true → M .zone ≢ z)
     (other : (e y : ℕ) → y ≢ z → u e y ≡ v e y) (empty : (e : ℕ) → e < p .N → u e z ≡ []) where
   not-z : (y e : ℕ) → e < p .N → 0 < length (u e y) → y ≢ z
   not-z y e l b q =
       let k : 0 < length {A = Item} [] = subst (λ (x : List Item). 0 < length x) (empty e l) (subst (λ (j : ℕ). 0 < length (u e j)) q b) in let j : ⊥ = omega arith in j
 
-  old : (y : ℕ) → y ≢ z → (e : ℕ) → 0 < length (u e y) → 0 < length (v e y)
-  old y n e b = subst (λ (x : List Item). 0 < length x) (other e y n) b
+  old-used : (y : ℕ) → y ≢ z → (e : ℕ) → 0 < length (u e y) → 0 < length (v e y)
+  old-used y n e b = subst (λ (x : List Item). 0 < length x) (other e y n) b
 
   new : (y : ℕ) → y ≢ z → (e : ℕ) → 0 < length (v e y) → 0 < length (u e y)
   new y n e b = subst (λ (x : List Item). 0 < length x) (sym (other e y n)) b
@@ -52,16 +52,16 @@ module _ (p : Par) (g : Ghost) (v u : View) (z : ℕ) (M : Mem) (a : MemOk p g v
     few = a .few;
     stamps = a .stamps;
     top = a .top;
-    serials = λ y (e, t, b). a .serials y (e, t, old y (not-z y e (t .0) b) e b);
-    whole = λ y (e, t, b) d l n. let k : y ≢ z = not-z y e (t .0) b in new y k d (a .whole y (e, t, old y k e b) d l n);
-    lone = λ y (e, t, b, c). let k : y ≢ z = not-z y e (t .0) b in a .lone y (e, t, old y k e b, subst (λ (x : List Item). length x < p .cap) (other e y k) c);
+    serials = λ y (e, t, b). a .serials y (e, t, old-used y (not-z y e (t .0) b) e b);
+    whole = λ y (e, t, b) d l n. let k : y ≢ z = not-z y e (t .0) b in new y k d (a .whole y (e, t, old-used y k e b) d l n);
+    lone = λ y (e, t, b, c). let k : y ≢ z = not-z y e (t .0) b in a .lone y (e, t, old-used y k e b, subst (λ (x : List Item). length x < p .cap) (other e y k) c);
     begun = λ q d l n. new (M .zone) (apart q) d (a .begun q d l n);
-    below = λ q e s x l m. a .below q e s x l (subst (λ (y : List Item). In (chunk s x) y) (other e (M .zone) (apart q)) m);
+    below = λ q e s x l m. a .below q e s x l (subst (λ (y : List Item). InI (chunk s x) y) (other e (M .zone) (apart q)) m);
     flies = λ s q. let r : (M .is-open ≡ true) × (s < M .next) × Flight p g v (M .zone) s (M .F s) (M .ready s) = a .flies s q in (
       r .0,
       r .1,
       record {
-        mine = λ e x l m. r .2 .mine e x l (subst (λ (y : List Item). In (chunk s x) y) (other e (M .zone) (apart (r .0))) m);
+        mine = λ e x l m. r .2 .mine e x l (subst (λ (y : List Item). InI (chunk s x) y) (other e (M .zone) (apart (r .0))) m);
         word = r .2 .word;
         good = r .2 .good;
         ok = r .2 .ok;
@@ -73,7 +73,7 @@ module _ (p : Par) (g : Ghost) (v u : View) (z : ℕ) (M : Mem) (a : MemOk p g v
 abbrev pub openMem : Mem → ℕ → ℕ → Mem
 openMem M w r = record { serial = r; is-open = true; zone = w; next = 0; fly = λ s. false; ready = M .ready; F = M .F; stamp = M .stamp }
 
-pub open-mem : (p : Par) (g : Ghost) (v u : View) (w r : ℕ) (M : Mem) → MemOk p g v M → M .serial ≤ r → ((y : ℕ) → Ragged p (g .un) v y → ⊥)
+pub open-mem : (p : Par) (g : Ghost) (v u : ItemView) (w r : ℕ) (M : Mem) → MemOk p g v M → M .serial ≤ r → ((y : ℕ) → Ragged p (g .un) v y → ⊥)
     → ((e y : ℕ) → y ≢ w → u e y ≡ v e y) → (i k : ℕ) (ζ n : ℕ → ℕ) → ((e : ℕ) → e < p .N → u e w ≡ hdr i k n ∷ []) → MemOk p (naming g w r 0 ζ alone) u (openMem M w r)
 open-mem p g v u w r M a up full other i k ζ nn head = record {
   none = a .none;
@@ -85,7 +85,7 @@ open-mem p g v u w r M a up full other i k ζ nn head = record {
   whole = λ y (e, t, b) d l n. whole y e t b d l n (ℕ-discrete y w);
   lone = λ y (e, t, b, c). (refl, lone y e t b c (ℕ-discrete y w));
   begun = λ q d l n. has d l;
-  below = λ q e s x l m. absurd (⊎-elim (λ (j : chunk s x ≡ hdr i k nn). chunk-hdr j) (λ j. j) (subst (λ (y : List Item). In (chunk s x) y) (head e l) m));
+  below = λ q e s x l m. absurd (⊎-elim (λ (j : chunk s x ≡ hdr i k nn). chunk-hdr j) (λ j. j) (subst (λ (y : List Item). InI (chunk s x) y) (head e l) m));
   flies = λ s q. absurd (let z : _≡_ {A = ℕ} 0 1 = cc in let j : ⊥ = omega arith in j);
 }
   where
@@ -108,9 +108,9 @@ open-mem p g v u w r M a up full other i k ζ nn head = record {
 abbrev pub restMem : Bool → ℕ → ℕ → ℕ → ℕ → Mem
 restMem b z n t sr = record { serial = sr; is-open = b; zone = z; next = n; fly = λ s. false; ready = λ s d. false; F = λ s d. 𝟘; stamp = t }
 
-pub rest-mem : (p : Par) (g : Ghost) (v : View) → Clean p g v → (b : Bool) (z n : ℕ) → n ≤ p .S
-    → ((y : ℕ) → Ragged p (g .un) v y → (b ≡ true) × (y ≡ z)) → (b ≡ true → Whole p (g .un) v z)
-    → (b ≡ true → (e s : ℕ) (x : Val) → e < p .N → In (chunk s x) (v e z) → s < n)
+pub rest-mem : (p : Par) (g : Ghost) (v : ItemView) → Clean p g v → (b : Bool) (z n : ℕ) → n ≤ p .S
+    → ((y : ℕ) → Ragged p (g .un) v y → (b ≡ true) × (y ≡ z)) → (b ≡ true → WholeZone p (g .un) v z)
+    → (b ≡ true → (e s : ℕ) (x : Val) → e < p .N → InI (chunk s x) (v e z) → s < n)
     → (K : ℕ → ℕ) (t sr : ℕ) → ((y : ℕ) → Used p (g .un) v y → g .hd .ser y ≤ sr) → MemOk p (finishing g (g .un) K t (upTo t (g .sent))) v (restMem b z n t sr)
 rest-mem p g v a b z n few lone begun below K t sr up = record {
   serials = up;

@@ -5,10 +5,10 @@ use mathlib.Core.Logic.{_⊎_, inl, inr, ⊎-elim, _≢_}
 use Prim.Native.Nat.{ℕ, _≤_, _<_}
 use native.Mathlib.Decide.{ℕ-discrete}
 use Rattle.proof_crash_machine.specs.Val.{Val}
-use Rattle.proof_crash_machine.specs.View.{View}
+use Rattle.proof_crash_machine.specs.View.{ItemView}
 use Rattle.proof_crash_machine.specs.View.Item.{hdr}
 use Rattle.proof_crash_machine.specs.Mask.{Mask}
-use Rattle.proof_crash_machine.specs.Facts.{Par, self, Placing, InPair, Pair, Ghost, Choice, R, Counted, Zone, Used, Whole, Facts, used}
+use Rattle.proof_crash_machine.specs.Facts.{Par, self, Placing, InPair, Pair, Ghost, Choice, R, Counted, ZoneItems, Used, WholeZone, Facts, used}
 use Rattle.proof_crash_machine.specs.Facts.Pair.{alone, pair}
 use Rattle.proof_crash_machine.specs.Lemma.{pair-alone}
 
@@ -48,14 +48,14 @@ naming g w r c ζ b = record {
   top = g .top;
 }
 
-module _ (p : Par) (g : Ghost) (v : View) (w r c : ℕ) (ζ : ℕ → ℕ) (b : Pair) (no-pair : g .pr ≡ alone) (idle : Used p (g .un) v w → ⊥)
-    (ok : (w′ o : ℕ) → b ≡ pair w′ o → (w′ ≡ w) × (o ≢ w) × (c ≡ g .hd .ser o) × Whole p (g .un) v o)
+module _ (p : Par) (g : Ghost) (v : ItemView) (w r c : ℕ) (ζ : ℕ → ℕ) (b : Pair) (no-pair : g .pr ≡ alone) (idle : Used p (g .un) v w → ⊥)
+    (ok : (w′ o : ℕ) → b ≡ pair w′ o → (w′ ≡ w) × (o ≢ w) × (c ≡ g .hd .ser o) × WholeZone p (g .un) v o)
     (fits : (d : ℕ) → d < p .N → (ζ d < p .Z) × (p .fine d (ζ d) ≡ true)) (clear : (y : ℕ) → Used p (g .un) v y → (d : ℕ) → d < p .N → g .hd .zn y d ≢ ζ d) where
   abbrev g′ : Ghost
   g′ = naming g w r c ζ b
 
-  not-w : (y : ℕ) → Used p (g .un) v y → y ≢ w
-  not-w y k e = idle (subst (λ (n : ℕ). Used p (g .un) v n) e k)
+  used-not-named : (y : ℕ) → Used p (g .un) v y → y ≢ w
+  used-not-named y k e = idle (subst (λ (n : ℕ). Used p (g .un) v n) e k)
 
   ser′ : (y : ℕ) → y ≢ w → g′ .hd .ser y ≡ g .hd .ser y
   ser′ y n = setN-other (g .hd .ser) w r y n
@@ -72,11 +72,11 @@ module _ (p : Par) (g : Ghost) (v : View) (w r c : ℕ) (ζ : ℕ → ℕ) (b : 
   -- w is in the pair, or was in use
   two-of : Facts p g v → (y : ℕ) → (Used p (g .un) v y) ⊎ (InPair b y) → (Used p (g .un) v y) ⊎ ((y ≡ w) × InPair b w)
   two-of h y (inl i) = inl i
-  two-of h y (inr (inl (o, e))) = let k : (y ≡ w) × (o ≢ w) × (c ≡ g .hd .ser o) × Whole p (g .un) v o = ok y o e in inr (k .0, inl (o, subst (λ (t : ℕ). b ≡ pair t o) (k .0) e))
-  two-of h y (inr (inr (x, e))) = let k : (x ≡ w) × (y ≢ w) × (c ≡ g .hd .ser y) × Whole p (g .un) v y = ok x y e in inl (used p g v (g .un) y (self p (g .un) (h .lost .few)) (k .3))
+  two-of h y (inr (inl (o, e))) = let k : (y ≡ w) × (o ≢ w) × (c ≡ g .hd .ser o) × WholeZone p (g .un) v o = ok y o e in inr (k .0, inl (o, subst (λ (t : ℕ). b ≡ pair t o) (k .0) e))
+  two-of h y (inr (inr (x, e))) = let k : (x ≡ w) × (y ≢ w) × (c ≡ g .hd .ser y) × WholeZone p (g .un) v y = ok x y e in inl (used p g v (g .un) y (self p (g .un) (h .lost .few)) (k .3))
 
-  placed : Facts p g v → Placing p (g′ .hd) b (Used p (g .un) v)
-  placed h = record {
+  name-placing : Facts p g v → Placing p (g′ .hd) b (Used p (g .un) v)
+  name-placing h = record {
     put = λ y i. put₁ y (two-of h y i);
     apart = λ y z i j d l e. apart₁ y z (two-of h y i) (two-of h z j) d l e;
     room = λ d l. room₁ d l b refl;
@@ -86,13 +86,14 @@ module _ (p : Par) (g : Ghost) (v : View) (w r c : ℕ) (ζ : ℕ → ℕ) (b : 
       pl = h .«open» .place
 
       put₁ : (y : ℕ) → (Used p (g .un) v y) ⊎ ((y ≡ w) × InPair b w) → (d : ℕ) → d < p .N → (g′ .hd .zn y d < p .Z) × (p .fine d (g′ .hd .zn y d) ≡ true)
-      put₁ y (inl i) d l = rw (zn′ y (not-w y i)) (pl .put y (inl i) d l)
+      put₁ y (inl i) d l = rw (zn′ y (used-not-named y i)) (pl .put y (inl i) d l)
       put₁ y (inr (e, i)) d l = rw (e, zn-w) (fits d l)
 
       apart₁ : (y z : ℕ) → (Used p (g .un) v y) ⊎ ((y ≡ w) × InPair b w) → (Used p (g .un) v z) ⊎ ((z ≡ w) × InPair b w) → (d : ℕ) → d < p .N → g′ .hd .zn y d ≡ g′ .hd .zn z d → y ≡ z
-      apart₁ y z (inl i) (inl j) d l e = pl .apart y z (inl i) (inl j) d l (ap (λ (f : ℕ → ℕ). f d) (sym (zn′ y (not-w y i))) ∙ e ∙ ap (λ (f : ℕ → ℕ). f d) (zn′ z (not-w z j)))
-      apart₁ y z (inl i) (inr (q, j)) d l e = absurd (clear y i d l (ap (λ (f : ℕ → ℕ). f d) (sym (zn′ y (not-w y i))) ∙ e ∙ ap (λ (t : ℕ). g′ .hd .zn t d) q ∙ ap (λ (f : ℕ → ℕ). f d) zn-w))
-      apart₁ y z (inr (q, i)) (inl j) d l e = absurd (clear z j d l (ap (λ (f : ℕ → ℕ). f d) (sym (zn′ z (not-w z j))) ∙ sym e ∙ ap (λ (t : ℕ). g′ .hd .zn t d) q ∙ ap (λ (f : ℕ → ℕ). f d) zn-w))
+      apart₁ y z (inl i) (inl j) d l e = pl .apart y z (inl i) (inl j) d l (ap (λ (f : ℕ → ℕ). f d) (sym (zn′ y (used-not-named y i))) ∙ e ∙ ap (λ (f : ℕ → ℕ). f d) (zn′ z (used-not-named z j)))
+      apart₁ y z (inl i) (inr (q, j)) d l e = absurd (clear y i d l (ap (λ (f : ℕ → ℕ). f d) (sym (zn′ y (used-not-named y i))) ∙ e ∙ ap (λ (t : ℕ). g′ .hd .zn t d) q ∙ ap (λ (f : ℕ → ℕ). f d) zn-w))
+      apart₁ y z (inr (q, i)) (inl j) d l e =
+          absurd (clear z j d l (ap (λ (f : ℕ → ℕ). f d) (sym (zn′ z (used-not-named z j))) ∙ sym e ∙ ap (λ (t : ℕ). g′ .hd .zn t d) q ∙ ap (λ (f : ℕ → ℕ). f d) zn-w))
       apart₁ y z (inr (q, i)) (inr (q′, j)) d l e = q ∙ sym q′
 
       room₁ : (d : ℕ) → d < p .N → (b′ : Pair) → b ≡ b′
@@ -103,30 +104,30 @@ module _ (p : Par) (g : Ghost) (v : View) (w r c : ℕ) (ζ : ℕ → ℕ) (b : 
           (λ (q : (x : ℕ) × (o : ℕ) × (g .pr ≡ pair x o)). absurd (pair-alone (sym (q .2) ∙ no-pair))) (pl .room d l)
         where
           no : (z : ℕ) → (Used p (g .un) v z) ⊎ (InPair b z) → (y : ℕ) → ((z : ℕ) → (Used p (g .un) v z) ⊎ (InPair (g .pr) z) → g .hd .zn z d ≢ y) → g′ .hd .zn z d ≡ y → ⊥
-          no z (inl i) y f k = f z (inl i) (ap (λ (f : ℕ → ℕ). f d) (sym (zn′ z (not-w z i))) ∙ k)
+          no z (inl i) y f k = f z (inl i) (ap (λ (f : ℕ → ℕ). f d) (sym (zn′ z (used-not-named z i))) ∙ k)
           no z (inr (inl (o, q))) y f k = pair-alone (sym q ∙ e)
           no z (inr (inr (x, q))) y f k = pair-alone (sym q ∙ e)
 
   R-to : (m : Mask) → Choice p (g .un) m → (y : ℕ) → R p (g .hd) v m y → R p (g′ .hd) v m y
   R-to m k y h = record {
     left = h .left;
-    own = λ o l q. h .own o l (sym (cop′ y (not-w y (used p g v m y k (h .left)))) ∙ q ∙ ser′ o (not-w o (used p g v m o k l)));
+    own = λ o l q. h .own o l (sym (cop′ y (used-not-named y (used p g v m y k (h .left)))) ∙ q ∙ ser′ o (used-not-named o (used p g v m o k l)));
   }
 
   R-from : (m : Mask) → Choice p (g .un) m → (y : ℕ) → R p (g′ .hd) v m y → R p (g .hd) v m y
   R-from m k y h = record {
     left = h .left;
-    own = λ o l q. h .own o l (cop′ y (not-w y (used p g v m y k (h .left))) ∙ q ∙ sym (ser′ o (not-w o (used p g v m o k l))));
+    own = λ o l q. h .own o l (cop′ y (used-not-named y (used p g v m y k (h .left))) ∙ q ∙ sym (ser′ o (used-not-named o (used p g v m o k l))));
   }
 
-  pub named : Facts p g v → Facts p g′ v
-  named h = record {
+  pub name-facts : Facts p g v → Facts p g′ v
+  name-facts h = record {
     lost = h .lost;
     zones = λ d z t.
-        let q : Zone p g d z (v d z) = h .zones d z t in
+        let q : ZoneItems p g d z (v d z) = h .zones d z t in
         record {
           len = q .len;
-          head = λ k. q .head k ∙ sym (λ j. hdr (ser′ z (not-w z (d, t, k)) j) (cop′ z (not-w z (d, t, k)) j) (zn′ z (not-w z (d, t, k)) j));
+          head = λ k. q .head k ∙ sym (λ j. hdr (ser′ z (used-not-named z (d, t, k)) j) (cop′ z (used-not-named z (d, t, k)) j) (zn′ z (used-not-named z (d, t, k)) j));
           num = q .num;
           once = q .once;
           origin = q .origin;
@@ -134,16 +135,16 @@ module _ (p : Par) (g : Ghost) (v : View) (w r c : ℕ) (ζ : ℕ → ℕ) (b : 
         };
     parity = record { whole = h .parity .whole; sound = h .parity .sound };
     swap = record {
-      serials = λ y z k j q. h .swap .serials y z k j (sym (ser′ y (not-w y k)) ∙ q ∙ ser′ z (not-w z j));
-      below = λ y k. rw (cop′ y (not-w y k), ser′ y (not-w y k)) (h .swap .below y k);
-      one = λ x o k j q. absurd (pair-alone (sym (h .swap .one x o k j (sym (cop′ x (not-w x k)) ∙ q ∙ ser′ o (not-w o j))) ∙ no-pair));
+      serials = λ y z k j q. h .swap .serials y z k j (sym (ser′ y (used-not-named y k)) ∙ q ∙ ser′ z (used-not-named z j));
+      below = λ y k. rw (cop′ y (used-not-named y k), ser′ y (used-not-named y k)) (h .swap .below y k);
+      one = λ x o k j q. absurd (pair-alone (sym (h .swap .one x o k j (sym (cop′ x (used-not-named x k)) ∙ q ∙ ser′ o (used-not-named o j))) ∙ no-pair));
       named = λ x o e.
-          let k : (x ≡ w) × (o ≢ w) × (c ≡ g .hd .ser o) × Whole p (g .un) v o = ok x o e in
+          let k : (x ≡ w) × (o ≢ w) × (c ≡ g .hd .ser o) × WholeZone p (g .un) v o = ok x o e in
           ((λ q. k .1 (sym q ∙ k .0)), ap (g′ .hd .cop) (k .0) ∙ setN-same (g .hd .cop) w c ∙ k .2 ∙ sym (ser′ o (k .1)));
       safe = λ x o e. inl (ok x o e .3);
     };
     «open» = record {
-      place = placed h;
+      place = name-placing h;
       ragged = λ y z k j. inl (⊎-elim (λ q. q) (λ q. absurd (⊎-elim (λ (e : g .pr ≡ pair y z). pair-alone (sym e ∙ no-pair))
           (λ (e : g .pr ≡ pair z y). pair-alone (sym e ∙ no-pair)) q)) (h .«open» .ragged y z k j));
     };

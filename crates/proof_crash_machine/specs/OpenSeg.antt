@@ -10,21 +10,21 @@ use lib.ListN.{length}
 use Rattle.proof_crash_machine.specs.Val.{Val}
 use Rattle.proof_crash_machine.specs.Facts.Pair.{alone}
 use Rattle.proof_crash_machine.specs.Lemma.{pair-alone}
-use Rattle.proof_crash_machine.specs.View.{Item, View, Store, In, after, apply, applyAll, chunk-hdr, upd-same}
+use Rattle.proof_crash_machine.specs.View.{Item, ItemView, ItemStore, InI, withItem, apply, applyAll, chunk-hdr, upd-same}
 use Rattle.proof_crash_machine.specs.View.Item.{hdr, chunk}
-use Rattle.proof_crash_machine.specs.View.Store.{put}
+use Rattle.proof_crash_machine.specs.View.ItemStore.{put}
 use Rattle.proof_crash_machine.specs.Facts.{Par, None, InPair, Ghost, Used, Ragged, Facts}
 use Rattle.proof_crash_machine.specs.Put
-use Rattle.proof_crash_machine.specs.Header.{Opening, headed}
-use Rattle.proof_crash_machine.specs.Name.{setN-same, setN-other, naming, named}
+use Rattle.proof_crash_machine.specs.Header.{Opening, header-facts}
+use Rattle.proof_crash_machine.specs.Name.{setN-same, setN-other, naming, name-facts}
 use Rattle.proof_crash_machine.specs.Steps.{list, Prefix, list-prefix, list-end}
 
 -- the stores
-unfoldable pub headers : Par → Ghost → ℕ → ℕ → (ℕ → ℕ) → List Store
+unfoldable pub headers : Par → Ghost → ℕ → ℕ → (ℕ → ℕ) → List ItemStore
 headers p g w r ζ = list (λ (d : ℕ). put d w (hdr (naming g w r 0 ζ alone .hd .ser w) (naming g w r 0 ζ alone .hd .cop w) (naming g w r 0 ζ alone .hd .zn w))) 0 (p .N)
 
 -- what a write knows before it opens w under serial r
-pub record Fresh (p : Par) (g : Ghost) (v : View) (w r : ℕ) : Type 0 where
+pub record Fresh (p : Par) (g : Ghost) (v : ItemView) (w r : ℕ) : Type 0 where
   pub none : None p (g .un)
   pub no-pair : g .pr ≡ alone
   pub empty : (e : ℕ) → e < p .N → v e w ≡ []
@@ -38,7 +38,7 @@ pub record Fresh (p : Par) (g : Ghost) (v : View) (w r : ℕ) : Type 0 where
   -- another zone of each drive stays empty (refusal 8)
   pub space : (d : ℕ) → d < p .N → (y : ℕ) × (y < p .Z) × (p .fine d y ≡ true) × (zs d ≢ y) × ((z : ℕ) → Used p (g .un) v z → g .hd .zn z d ≢ y)
 
-module _ (p : Par) (g : Ghost) (v : View) (w r : ℕ) (a : Fresh p g v w r) where
+module _ (p : Par) (g : Ghost) (v : ItemView) (w r : ℕ) (a : Fresh p g v w r) where
   abbrev g′ : Ghost
   g′ = naming g w r 0 (a .zs) alone
 
@@ -49,11 +49,11 @@ module _ (p : Par) (g : Ghost) (v : View) (w r : ℕ) (a : Fresh p g v w r) wher
   i = hdr (g′ .hd .ser w) (g′ .hd .cop w) (g′ .hd .zn w)
 
   -- drives below d have the header
-  abbrev I : ℕ → View → Type 0
+  abbrev I : ℕ → ItemView → Type 0
   I d u = Facts p g′ u × ((e : ℕ) → e < p .N → (e < d → u e w ≡ i ∷ []) × (d ≤ e → u e w ≡ [])) × ((e y : ℕ) → y ≢ w → u e y ≡ v e y)
 
-  opening : (d : ℕ) (u : View) → d < p .N → I d u → Opening p g′ u d w
-  opening d u l (h, c, q) = record {
+  header-opening : (d : ℕ) (u : ItemView) → d < p .N → I d u → Opening p g′ u d w
+  header-opening d u l (h, c, q) = record {
     none = a .none;
     drive = l;
     empty = c d l .1 (omega arith);
@@ -90,27 +90,27 @@ module _ (p : Par) (g : Ghost) (v : View) (w r : ℕ) (a : Fresh p g v w r) wher
       old : (y : ℕ) → y ≢ w → Used p (g .un) u y → Used p (g .un) v y
       old y n (e, t, k) = (e, t, subst (λ (x : List Item). 0 < length x) (q e y n) k)
 
-      bare : (e s : ℕ) (x : Val) → e < p .N → In (chunk s x) (u e w) → Dec (e < d) → ⊥
-      bare e s x k m (yes b) = ⊎-elim (λ (j : chunk s x ≡ i). chunk-hdr j) (λ j. j) (subst (λ (y : List Item). In (chunk s x) y) (c e k .0 b) m)
-      bare e s x k m (no b) = subst (λ (y : List Item). In (chunk s x) y) (c e k .1 (omega arith)) m
+      bare : (e s : ℕ) (x : Val) → e < p .N → InI (chunk s x) (u e w) → Dec (e < d) → ⊥
+      bare e s x k m (yes b) = ⊎-elim (λ (j : chunk s x ≡ i). chunk-hdr j) (λ j. j) (subst (λ (y : List Item). InI (chunk s x) y) (c e k .0 b) m)
+      bare e s x k m (no b) = subst (λ (y : List Item). InI (chunk s x) y) (c e k .1 (omega arith)) m
 
       zero-ser : (o : ℕ) → Used p (g .un) u o → g′ .hd .cop w ≡ g′ .hd .ser o → ⊥
       zero-ser o k e = let b : g′ .hd .cop o < g′ .hd .ser o = h .swap .below o k in let z : g′ .hd .cop w ≡ 0 = setN-same (g .hd .cop) w 0 in let j : ⊥ = omega (arith, b, z, e) in j
 
-  step : (d : ℕ) (u : View) → d < p .N → I d u → I (suc d) (apply u (put d w i))
-  unfolding apply after
-  step d u l (h, c, q) = (headed p g′ u d w (opening d u l (h, c, q)) h, (λ e k. (low e k (ℕ-discrete e d), high e k)), λ e y n. Put.zone-other u d w i e y n ∙ q e y n)
+  opening-step : (d : ℕ) (u : ItemView) → d < p .N → I d u → I (suc d) (apply u (put d w i))
+  unfolding apply withItem
+  opening-step d u l (h, c, q) = (header-facts p g′ u d w (header-opening d u l (h, c, q)) h, (λ e k. (low e k (ℕ-discrete e d), high e k)), λ e y n. Put.zone-other u d w i e y n ∙ q e y n)
     where
-      low : (e : ℕ) → e < p .N → Dec (e ≡ d) → e < suc d → after u d w i e w ≡ i ∷ []
+      low : (e : ℕ) → e < p .N → Dec (e ≡ d) → e < suc d → withItem u d w i e w ≡ i ∷ []
       low e k (yes j) b = rw j (upd-same u d w (u d w ++ (i ∷ [])) ∙ ap (λ (x : List Item). x ++ (i ∷ [])) (c d l .1 (omega arith)))
       low e k (no j) b = Put.drive-other u d w i e w j ∙ c e k .0 (omega arith)
 
-      high : (e : ℕ) → e < p .N → suc d ≤ e → after u d w i e w ≡ []
+      high : (e : ℕ) → e < p .N → suc d ≤ e → withItem u d w i e w ≡ []
       high e k b = Put.drive-other u d w i e w (omega arith) ∙ c e k .1 (omega arith)
 
   start : Facts p g v → I 0 v
   start h = (
-    named p g v w r 0 (a .zs) alone (a .no-pair) idle (λ w′ o e. absurd (pair-alone (sym e))) (a .fits) (a .clear) h,
+    name-facts p g v w r 0 (a .zs) alone (a .no-pair) idle (λ w′ o e. absurd (pair-alone (sym e))) (a .fits) (a .clear) h,
     (λ e k. ((λ b. absurd (let z : ⊥ = omega arith in z)), λ b. a .empty e k)),
     λ e y n. refl,
   )
@@ -118,8 +118,8 @@ module _ (p : Par) (g : Ghost) (v : View) (w r : ℕ) (a : Fresh p g v w r) wher
   -- wherever the power is cut
   pub opened-prefix : Facts p g v → Prefix (Facts p g′) v (headers p g w r (a .zs))
   unfolding headers
-  opened-prefix h = list-prefix (Facts p g′) I (λ (d : ℕ). put d w i) (p .N) (λ j u k. k .0) step 0 (p .N) (omega arith) v (start h)
+  opened-prefix h = list-prefix (Facts p g′) I (λ (d : ℕ). put d w i) (p .N) (λ j u k. k .0) opening-step 0 (p .N) (omega arith) v (start h)
 
-  pub opened : Facts p g v → I (p .N) (applyAll v (headers p g w r (a .zs)))
+  pub open-facts : Facts p g v → I (p .N) (applyAll v (headers p g w r (a .zs)))
   unfolding headers
-  opened h = list-end (Facts p g′) I (λ (d : ℕ). put d w i) (p .N) (λ j u k. k .0) step 0 (p .N) (p .N) (omega arith) (omega arith) v (start h)
+  open-facts h = list-end (Facts p g′) I (λ (d : ℕ). put d w i) (p .N) (λ j u k. k .0) opening-step 0 (p .N) (p .N) (omega arith) (omega arith) v (start h)

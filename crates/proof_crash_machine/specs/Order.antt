@@ -10,10 +10,10 @@ use Rattle.proof_crash_machine.specs.Mask.{Mask}
 use Rattle.proof_crash_machine.specs.Facts.{Par, InV}
 use Rattle.proof_crash_machine.specs.Finish.{upTo-le}
 use Rattle.proof_crash_machine.specs.Memory.{setAt, setAt-elim}
-use Rattle.proof_crash_machine.specs.History.{State, Step, Run, Inv, Claim, kept, start, began, mem-of}
+use Rattle.proof_crash_machine.specs.History.{State, Step, StepsTo, Inv, Claim, step-inv, start, inv-start, mem-of}
 use Rattle.proof_crash_machine.specs.History.Step.{ack, begin, close, copy, footer, land, lose, missing, open-cut, open-done, rebuild, rebuild-done, rebuild-store, reset-cut, reset-done}
 use Rattle.proof_crash_machine.specs.History.Step.{restart, restart-cut₁, restart-cut₂, restart-footer, restart-plain, seal, send}
-use Rattle.proof_crash_machine.specs.History.Run.{stop, then}
+use Rattle.proof_crash_machine.specs.History.StepsTo.{stop, then}
 
 -- all sends in their order: log q is the q-th block sent; pos t is where the block of cur with stamp t stands
 pub record Track : Type 0 where
@@ -58,12 +58,12 @@ pub less : (σ τ : State) (T : Track) → ((x : Val) → InV x (τ .g .sent) �
 less σ τ T h k = record { here = λ x m. k .here x (h x m); order = λ x y m n b. k .order x y (h x m) (h y n) b }
 
 -- one more, with a greater stamp
-more : (l : List Val) (n : ℕ) (x : Val) (T : Track) → ((y : Val) → InV y l → y .stamp ≤ n) → x .stamp ≡ suc n
+sent-order : (l : List Val) (n : ℕ) (x : Val) (T : Track) → ((y : Val) → InV y l → y .stamp ≤ n) → x .stamp ≡ suc n
     → ((y : Val) → InV y l → (T .pos (y .stamp) < T .clock) × (T .log (T .pos (y .stamp)) ≡ y))
     → ((y z : Val) → InV y l → InV z l → y .stamp < z .stamp → T .pos (y .stamp) < T .pos (z .stamp))
     → ((y : Val) → InV y (x ∷ l) → (sentTo T x .pos (y .stamp) < suc (T .clock)) × (sentTo T x .log (sentTo T x .pos (y .stamp)) ≡ y))
     × ((y z : Val) → InV y (x ∷ l) → InV z (x ∷ l) → y .stamp < z .stamp → sentTo T x .pos (y .stamp) < sentTo T x .pos (z .stamp))
-more l n x T b e here order = (here′, order′)
+sent-order l n x T b e here order = (here′, order′)
   where
     new : (y : Val) → y ≡ x → sentTo T x .pos (y .stamp) ≡ T .clock
     new y q = setAt-elim (λ (k : ℕ). k ≡ T .clock) (T .pos) (x .stamp) (T .clock) (y .stamp) (λ r. refl) (λ r. absurd (r (ap (λ (w : Val). w .stamp) q)))
@@ -93,7 +93,7 @@ tracked p _ _ i0 (begin σ M e a b) T tq = record { here = tq .here; order = tq 
 tracked p _ _ i (send σ M x s d r e a b w) T k =
     let w′ : ((y : Val) → InV y (x ∷ σ .g .sent) → (sentTo T x .pos (y .stamp) < suc (T .clock)) × (sentTo T x .log (sentTo T x .pos (y .stamp)) ≡ y))
     × ((y z : Val) → InV y (x ∷ σ .g .sent) → InV z (x ∷ σ .g .sent) → y .stamp < z .stamp → sentTo T x .pos (y .stamp) < sentTo T x .pos (z .stamp)) =
-    more (σ .g .sent) (M .stamp) x T (mem-of p σ M i e .stamps) b (k .here) (k .order) in
+    sent-order (σ .g .sent) (M .stamp) x T (mem-of p σ M i e .stamps) b (k .here) (k .order) in
     record { here = w′ .0; order = w′ .1 }
 tracked p _ _ i0 (copy σ M x s d r e a b) T tq = record { here = tq .here; order = tq .order }
 tracked p _ _ i0 (close σ M s r e a b) T tq = record { here = tq .here; order = tq .order }
@@ -150,22 +150,22 @@ reading p σ T m K i k c a = go (decLt 0 (K a))
             let z : T .pos (x .stamp) ≡ T .pos (y .stamp) = ap (T .pos) j in omega arith
 
 -- ---- over a history
-abbrev pub runTrack : (p : Par) (σ τ : State) → Run p σ τ → Track → Track
+abbrev pub runTrack : (p : Par) (σ τ : State) → StepsTo p σ τ → Track → Track
 runTrack p _ _ (stop σ) T = T
 runTrack p _ _ (then σ τ υ s r) T = runTrack p τ υ r (track p σ τ s T)
 
 abbrev pub noTrack : Track
 noTrack = record { log = λ q. 𝟘; clock = 0; pos = λ t. 0 }
 
-both : (p : Par) (σ τ : State) (r : Run p σ τ) (T : Track) → Inv p σ → Tracked σ T → Inv p τ × Tracked τ (runTrack p σ τ r T)
-both p _ _ (stop σ) T i k = (i, k)
-both p _ _ (then σ τ υ s r) T i k = both p τ υ r (track p σ τ s T) (kept p σ τ i s) (tracked p σ τ i s T k)
+inv-tracked : (p : Par) (σ τ : State) (r : StepsTo p σ τ) (T : Track) → Inv p σ → Tracked σ T → Inv p τ × Tracked τ (runTrack p σ τ r T)
+inv-tracked p _ _ (stop σ) T i k = (i, k)
+inv-tracked p _ _ (then σ τ υ s r) T i k = inv-tracked p τ υ r (track p σ τ s T) (step-inv p σ τ i s) (tracked p σ τ i s T k)
 
 -- whatever a finished restart after the history r reads (`demand3` gives its claim), it is in order
-pub ordered : (p : Par) (σ : State) (r : Run p (start p) σ) (m : Mask) (K : ℕ → ℕ) → Claim p σ m K → (a : ℕ)
+pub ordered : (p : Par) (σ : State) (r : StepsTo p (start p) σ) (m : Mask) (K : ℕ → ℕ) → Claim p σ m K → (a : ℕ)
     → (Reading σ (runTrack p (start p) σ r noTrack) K a) ⊎ ((K a ≡ 0) × ((x : Val) → InV x (σ .acked) → x .addr ≡ a → ⊥))
 unfolding start
 ordered p σ r m K c a =
     let k : Inv p σ × Tracked σ (runTrack p (start p) σ r noTrack) =
-    both p (start p) σ r noTrack (began p) (record { here = λ x m. absurd m; order = λ x y m n b. absurd m }) in
+    inv-tracked p (start p) σ r noTrack (inv-start p) (record { here = λ x m. absurd m; order = λ x y m n b. absurd m }) in
     reading p σ (runTrack p (start p) σ r noTrack) m K (k .0) (k .1) c a

@@ -14,7 +14,6 @@ use Rattle.spec.specs.Layout.{group}
 use Rattle.spec.specs.Lists.{upFrom, below, any, isMember, isIn}
 use Rattle.spec.specs.Params.{footers, capacity}
 use Rattle.spec.specs.Segments.{remaining, Segment, segmentOf, counts, counted}
-use Rattle.law_basic.specs.Be.{room}
 use Rattle.law_basic.specs.Geometry.{Ranged}
 use Rattle.law_basic.specs.Ranges.{upFrom-snoc, length-below, map-append, length-keep}
 use Rattle.law_drives.specs.Tests.{cond-true, cond-false}
@@ -37,15 +36,15 @@ use Rattle.proof_crash_rebuilds.specs.Groups.{counted-rising, counted-gr
 use Rattle.proof_crash_rebuilds.specs.Sorted.{rising-one}
 use Rattle.proof_crash_rebuilds.specs.Zones.{zoneItems}
 
-map-shift : {B : Type 0} (f : ℕ → B) (a : ℕ) (l : List ℕ) (i n : ℕ) → map (λ j. f (getD (a ∷ l) j 0)) (upFrom (suc i) n) ≡ map (λ j. f (getD l j 0)) (upFrom i n)
+map-tail : {B : Type 0} (f : ℕ → B) (a : ℕ) (l : List ℕ) (i n : ℕ) → map (λ j. f (getD (a ∷ l) j 0)) (upFrom (suc i) n) ≡ map (λ j. f (getD l j 0)) (upFrom i n)
 unfolding upFrom
-map-shift f a l i zero = refl
-map-shift {B} f a l i (suc n) = ap (λ (x : List B). f (getD l i 0) ∷ x) (map-shift f a l (suc i) n)
+map-tail f a l i zero = refl
+map-tail {B} f a l i (suc n) = ap (λ (x : List B). f (getD l i 0) ∷ x) (map-tail f a l (suc i) n)
 
 pub map-index : {B : Type 0} (f : ℕ → B) (l : List ℕ) → map (λ j. f (getD l j 0)) (below (length l)) ≡ map f l
 unfolding below upFrom
 map-index f [] = refl
-map-index {B} f (a ∷ l) = ap (λ (x : List B). f a ∷ x) (map-shift f a l 0 (length l) ∙ map-index f l)
+map-index {B} f (a ∷ l) = ap (λ (x : List B). f a ∷ x) (map-tail f a l 0 (length l) ∙ map-index f l)
 
 module _ (p : Params) (r : Ranged p) (g₀ : Ghost) (m : ℕ) (few-lost : count (p .N) (isIn m) ≤ parities p) (v : View) (k : OnDrives p r (withUn g₀ (isIn m)) v) where
   abbrev g : Ghost
@@ -84,17 +83,17 @@ module _ (p : Params) (r : Ranged p) (g₀ : Ghost) (m : ℕ) (few-lost : count 
   pub feet-here : (z : ℕ) → Has z (remaining p v m) → planFeet z ≡ cond (G z .full) (footers p) 0
   feet-here z i = unfold planFeet in ap (λ (b : Bool). cond (b && G z .full) (footers p) 0) (member z i)
 
-  few : (z : ℕ) → length (counted p m (G z)) ≤ p .S
-  few z = unfold counted in omega (arith, length-keep (counts p m (G z)) (below (p .S)), length-below (p .S))
+  counted-within : (z : ℕ) → length (counted p m (G z)) ≤ p .S
+  counted-within z = unfold counted in omega (arith, length-keep (counts p m (G z)) (below (p .S)), length-below (p .S))
 
-  all-S : (z : ℕ) → z < p .Z → G z .full ≡ true → length (counted p m (G z)) ≡ p .S
-  all-S z zb e =
+  full-counts : (z : ℕ) → z < p .Z → G z .full ≡ true → length (counted p m (G z)) ≡ p .S
+  full-counts z zb e =
       ap length (rising-same (counted p m (G z)) (below (p .S)) (counted-rising p r g v k m c z) (rising-below (p .S))
       (λ s h. has-below s (p .S) (counted-has p r g v k m c z s h .0))
       (λ s h. sealed-counts p r g v k m c z s zb (sym (segment-fields p r g v k m c z .3) ∙ e) (below-has s (p .S) h))) ∙ length-below (p .S)
 
-  low : (z : ℕ) → Has z (remaining p v m) → z < p .Z
-  low z i = seg-low p r g v k m c z i
+  remaining-zone-low : (z : ℕ) → Has z (remaining p v m) → z < p .Z
+  remaining-zone-low z i = seg-low p r g v k m c z i
 
   -- count and footers by cases: not remaining, remaining and unsealed, remaining and sealed
   cases :
@@ -143,7 +142,7 @@ module _ (p : Params) (r : Ranged p) (g₀ : Ghost) (m : ℕ) (few-lost : count 
   }
     where
       st? : (z : ℕ) → Has z rem → (j : ℕ) → j < planCount z → Stripe (parOf p r) (itemsIn p v) (isIn m) z (src z j) (λ e. pieceAt p r g v k m c z (src z j) e)
-      st? z i j l = counted-stripe p r g v k m c z (src z j) (low z i) (getD-has (counted p m (G z)) j 0 (omega (arith, l, count-here z i)))
+      st? z i j l = counted-stripe p r g v k m c z (src z j) (remaining-zone-low z i) (getD-has (counted p m (G z)) j 0 (omega (arith, l, count-here z i)))
 
       every? : (z s : ℕ) (f : ℕ → Val) → Has z rem → Stripe (parOf p r) (itemsIn p v) (isIn m) z s f → (j : ℕ) × (j < planCount z) × (src z j ≡ s)
       every? z s f i q =
@@ -156,30 +155,31 @@ module _ (p : Params) (r : Ranged p) (g₀ : Ghost) (m : ℕ) (few-lost : count 
 
       grp? : (z j : ℕ) → j < planCount z → Cases z → (src z j < p .S) × (j < p .S) × (group p (src z j) ≡ group p j)
       grp? z j l (inl (q, w)) = absurd (let x : ⊥ = omega (arith, l, q) in x)
-      grp? z j l (inr (h, q, w)) = counted-group p r g v k m c z j (low z h) (omega (arith, l, q))
+      grp? z j l (inr (h, q, w)) = counted-group p r g v k m c z j (remaining-zone-low z h) (omega (arith, l, q))
 
       sealed? : (z : ℕ) → suc (p .S) < suc (planCount z + planFeet z) → (s : ℕ) → s < p .S → Cases z → (j : ℕ) × (j < planCount z) × (src z j ≡ s)
       sealed? z b s l (inl (q, w)) = absurd (let x : ⊥ = omega (arith, b, q, w) in x)
-      sealed? z b s l (inr (h, q, inl (f, w))) = absurd (let x : ⊥ = omega (arith, b, q, w, few z) in x)
+      sealed? z b s l (inr (h, q, inl (f, w))) = absurd (let x : ⊥ = omega (arith, b, q, w, counted-within z) in x)
       sealed? z b s l (inr (h, q, inr (f, w))) =
           let a : (j : ℕ) × (j < length (counted p m (G z))) × (src z j ≡ s) =
           has-getD (counted p m (G z)) s 0
-          (sealed-counts p r g v k m c z s (low z h) (sym (segment-fields p r g v k m c z .3) ∙ f) l) in
+          (sealed-counts p r g v k m c z s (remaining-zone-low z h) (sym (segment-fields p r g v k m c z .3) ∙ f) l) in
           (a .0, omega (arith, a .1, q), a .2)
 
       room? : (z : ℕ) → Cases z → suc (planCount z + planFeet z) ≤ capacity p
       room? z (inl (q, w)) = omega (arith, q, w, capacity-few p r)
-      room? z (inr (h, q, inl (f, w))) = omega (arith, q, w, few z, capacity-few p r)
-      room? z (inr (h, q, inr (f, w))) = unfold capacity in omega (arith, q, w, few z)
+      room? z (inr (h, q, inl (f, w))) = omega (arith, q, w, counted-within z, capacity-few p r)
+      room? z (inr (h, q, inr (f, w))) = unfold capacity in omega (arith, q, w, counted-within z)
 
       ragged? : (z : ℕ) → Has z rem → suc (planCount z + planFeet z) < capacity p → Cases z → Ragged (parOf p r) (isIn m) (itemsIn p v) z
       ragged? z i b (inl (q, w)) = go (G z .full) refl
         where
           go : (t : Bool) → G z .full ≡ t → Ragged (parOf p r) (isIn m) (itemsIn p v) z
           go false f = ragged-of p r g v k m c z i f
-          go true f = absurd (let x : length (counted p m (G z)) ≡ p .S = all-S z (low z i) f in let y : ⊥ = omega (arith, x, q, count-here z i, r .stripes-low) in y)
+          go true f = absurd (let x : length (counted p m (G z)) ≡ p .S = full-counts z (remaining-zone-low z i) f in let y : ⊥ = omega (arith, x, q, count-here z i, r .stripes-low) in y)
       ragged? z i b (inr (h, q, inl (f, w))) = ragged-of p r g v k m c z i f
-      ragged? z i b (inr (h, q, inr (f, w))) = absurd (unfold capacity in (let x : length (counted p m (G z)) ≡ p .S = all-S z (low z i) f in let y : ⊥ = omega (arith, x, q, w, b) in y))
+      ragged? z i b (inr (h, q, inr (f, w))) =
+          absurd (unfold capacity in (let x : length (counted p m (G z)) ≡ p .S = full-counts z (remaining-zone-low z i) f in let y : ⊥ = omega (arith, x, q, w, b) in y))
 
   plan-foots : (z : ℕ) → plan .foots z ≡ planFeet z
   unfolding plan
@@ -201,10 +201,10 @@ module _ (p : Params) (r : Ranged p) (g₀ : Ghost) (m : ℕ) (few-lost : count 
         snoc : (n : ℕ) → map it (upFrom 0 n) ++ (it n ∷ []) ≡ map it (upFrom 0 (suc n))
         snoc n = sym (ap (map it) (upFrom-snoc 0 n) ∙ map-append it (upFrom 0 n) ((0 + n) ∷ []) ∙ ap (λ (x : ℕ). map it (upFrom 0 n) ++ (it x ∷ [])) (let e : 0 + n ≡ n = omega arith in e))
 
-    feet-are : (j : ℕ) → column (parOf p r) g (itemsIn p v) plan d z j ≡ chunks (parOf p r) g (itemsIn p v) plan d z (planCount z) ++ map foot (below j)
+    column-feet : (j : ℕ) → column (parOf p r) g (itemsIn p v) plan d z j ≡ chunks (parOf p r) g (itemsIn p v) plan d z (planCount z) ++ map foot (below j)
     unfolding column plan below upFrom
-    feet-are zero = sym (append-nil (chunks (parOf p r) g (itemsIn p v) plan d z (planCount z)))
-    feet-are (suc j) = ap (λ (x : List Item). x ++ (foot j ∷ [])) (feet-are j) ∙ append-assoc (chunks (parOf p r) g (itemsIn p v) plan d z (planCount z)) (map foot (upFrom 0 j)) (foot j ∷ [])
+    column-feet zero = sym (append-nil (chunks (parOf p r) g (itemsIn p v) plan d z (planCount z)))
+    column-feet (suc j) = ap (λ (x : List Item). x ++ (foot j ∷ [])) (column-feet j) ∙ append-assoc (chunks (parOf p r) g (itemsIn p v) plan d z (planCount z)) (map foot (upFrom 0 j)) (foot j ∷ [])
         ∙ ap (λ (x : List Item). chunks (parOf p r) g (itemsIn p v) plan d z (planCount z) ++ x) (snoc j)
       where
         snoc : (n : ℕ) → map foot (upFrom 0 n) ++ (foot n ∷ []) ≡ map foot (upFrom 0 (suc n))
@@ -212,7 +212,7 @@ module _ (p : Params) (r : Ranged p) (g₀ : Ghost) (m : ℕ) (few-lost : count 
 
     pub column-is : column (parOf p r) g (itemsIn p v) plan d z (planFeet z) ≡ zoneItems p r g v k m c d z
     column-is =
-        feet-are (planFeet z)
+        column-feet (planFeet z)
         ∙ ap₂ (λ (x y : List Item). x ++ y) (ap (chunks (parOf p r) g (itemsIn p v) plan d z) (count-here z i)
         ∙ chunks-are (length cs)
         ∙ ap (λ (x : List Item). hdr (g .hd .ser z) (g .hd .cop z) (g .hd .zn z) ∷ x)

@@ -21,23 +21,23 @@ use Rattle.proof_crash_machine.specs.History.{Mode}
 use Rattle.proof_crash_machine.specs.History.Mode.{off, ro}
 use Rattle.proof_crash_machine.specs.History.Step.{rebuild as m-rebuild, rebuild-store, rebuild-done}
 use Rattle.proof_crash_machine.specs.Rebuild.{withUn, Rebuilt as m-Rebuilt}
-use Rattle.proof_crash_machine.specs.Rebuild2.{puts, puts-here, puts-other, column, stored as m-stored, RPlan}
+use Rattle.proof_crash_machine.specs.Rebuild2.{puts, puts-here, puts-other, column, column-stored, RPlan}
 use Rattle.proof_crash_machine.specs.Steps.{applyAll-append}
 use Rattle.proof_crash_machine.specs.Val.{Val}
-use Rattle.proof_crash_machine.specs.View.{Item, View as m-View, Store as m-Store, applyAll}
-use Rattle.proof_crash_machine.specs.View.Store.{reset as m-reset}
+use Rattle.proof_crash_machine.specs.View.{Item, ItemView, ItemStore, applyAll}
+use Rattle.proof_crash_machine.specs.View.ItemStore.{reset as m-reset}
 use Rattle.proof_crash_items.specs.Items.{itemsFrom, itemsOf, itemsIn, items-in, storeItem, storeItems, outside-nothing}
 use Rattle.proof_crash_items.specs.Member.{Has, append-has, below-has, has-below, flat-has, map-has}
 use Rattle.proof_crash_items.specs.Ranges.{parOf}
 use Rattle.proof_crash_items.specs.Refuse.{Rising, remaining-rising}
 use Rattle.proof_crash_items.specs.SegFacts.{seg-low, seg-R}
 use Rattle.proof_crash_items.specs.Segs.{OnDrives, has-remaining}
-use Rattle.proof_crash_items.specs.Shape.{Shape, zone-set, zone-set-other, shape-store}
+use Rattle.proof_crash_items.specs.Shape.{Shape, zone-set-at, zone-set-else, shape-store}
 use Rattle.proof_crash_items.specs.Sound.{AllSound, BytesOn, BytesOk, sound-fits, bytes-stores, sound-take, sound-drop, Follows, follows-nil, follows-append, follows-all}
 use Rattle.proof_crash_items.specs.Stripes.{pointer-is}
-use Rattle.proof_crash_items.specs.Table.{flat-map}
+use Rattle.proof_crash_items.specs.Table.{flat-mapped}
 use Rattle.proof_crash_items.specs.ZoneBytes.{bytes-empty}
-use Rattle.proof_crash_items.specs.Named.{never-beyond, none-out, named-other, named-out, named-self, named-in}
+use Rattle.proof_crash_items.specs.Named.{never-beyond, none-out, named-other, named-out, named-self, named-only}
 use Rattle.proof_crash_restarts.specs.Link.{stateOn, Linked, linked-step, shape-after, shape-cut, bytes-after, bytes-cut}
 use Rattle.proof_crash_restarts.specs.Missing.{missing-on}
 use Rattle.proof_crash_restarts.specs.Order.{pointer-zone}
@@ -46,37 +46,37 @@ use Rattle.proof_crash_rebuilds.specs.Zones.{on-other, zoneItems, zone-f
 
 -- ---- the machine's runs of puts
 
-flat-none : (f : ℕ → List Item) (d : ℕ) (l : List ℕ) (x : m-View) (y : ℕ) → (Has y l → ⊥) → applyAll x (flat (λ z. puts d z (f z)) l) d y ≡ x d y
+puts-elsewhere : (f : ℕ → List Item) (d : ℕ) (l : List ℕ) (x : ItemView) (y : ℕ) → (Has y l → ⊥) → applyAll x (flat (λ z. puts d z (f z)) l) d y ≡ x d y
 unfolding flat applyAll
-flat-none f d [] x y n = refl
-flat-none f d (z ∷ l) x y n = ap (λ (u : m-View). u d y) (applyAll-append x (puts d z (f z)) (flat (λ z. puts d z (f z)) l))
-    ∙ flat-none f d l (applyAll x (puts d z (f z))) y (λ i. n (inr i)) ∙ puts-other x d z (f z) d y (λ e. n (inl e))
+puts-elsewhere f d [] x y n = refl
+puts-elsewhere f d (z ∷ l) x y n = ap (λ (u : ItemView). u d y) (applyAll-append x (puts d z (f z)) (flat (λ z. puts d z (f z)) l))
+    ∙ puts-elsewhere f d l (applyAll x (puts d z (f z))) y (λ i. n (inr i)) ∙ puts-other x d z (f z) d y (λ e. n (inl e))
 
-flat-one : (f : ℕ → List Item) (d : ℕ) (l : List ℕ) → Rising l → (x : m-View) (y : ℕ) → Has y l → applyAll x (flat (λ z. puts d z (f z)) l) d y ≡ x d y ++ f y
+puts-at : (f : ℕ → List Item) (d : ℕ) (l : List ℕ) → Rising l → (x : ItemView) (y : ℕ) → Has y l → applyAll x (flat (λ z. puts d z (f z)) l) d y ≡ x d y ++ f y
 unfolding flat applyAll
-flat-one f d [] r x y i = absurd i
-flat-one f d (z ∷ l) r x y (inl e) = ap (λ (u : m-View). u d y) (applyAll-append x (puts d z (f z)) (flat (λ z. puts d z (f z)) l))
-    ∙ flat-none f d l (applyAll x (puts d z (f z))) y (λ i. let q : ⊥ = omega (arith, e, r .0 y i) in q) ∙ rw e (puts-here x d z (f z))
-flat-one f d (z ∷ l) r x y (inr i) = ap (λ (u : m-View). u d y) (applyAll-append x (puts d z (f z)) (flat (λ z. puts d z (f z)) l))
-    ∙ flat-one f d l (r .1) (applyAll x (puts d z (f z))) y i ∙ ap (λ (q : List Item). q ++ f y) (puts-other x d z (f z) d y (λ e. let q : ⊥ = omega (arith, e, r .0 y i) in q))
+puts-at f d [] r x y i = absurd i
+puts-at f d (z ∷ l) r x y (inl e) = ap (λ (u : ItemView). u d y) (applyAll-append x (puts d z (f z)) (flat (λ z. puts d z (f z)) l))
+    ∙ puts-elsewhere f d l (applyAll x (puts d z (f z))) y (λ i. let q : ⊥ = omega (arith, e, r .0 y i) in q) ∙ rw e (puts-here x d z (f z))
+puts-at f d (z ∷ l) r x y (inr i) = ap (λ (u : ItemView). u d y) (applyAll-append x (puts d z (f z)) (flat (λ z. puts d z (f z)) l))
+    ∙ puts-at f d l (r .1) (applyAll x (puts d z (f z))) y i ∙ ap (λ (q : List Item). q ++ f y) (puts-other x d z (f z) d y (λ e. let q : ⊥ = omega (arith, e, r .0 y i) in q))
 
 -- ---- resets of the drive
 
-resets-follow : (p : Params) (d : ℕ) → d < p .N → (l : List ℕ) → ((z : ℕ) → Has z l → z < p .Z) → (v : View) → Follows p v (map (λ z. reset d z) l) (map (λ z. m-reset d z) l)
+drive-resets-follow : (p : Params) (d : ℕ) → d < p .N → (l : List ℕ) → ((z : ℕ) → Has z l → z < p .Z) → (v : View) → Follows p v (map (λ z. reset d z) l) (map (λ z. m-reset d z) l)
 unfolding storeItems storeItem
-resets-follow p d b [] h v = record { sound = tt; items = refl }
-resets-follow p d b (z ∷ l) h v =
-    let a : Follows p (storeView (reset d z) v) (map (λ z. reset d z) l) (map (λ z. m-reset d z) l) = resets-follow p d b l (λ e i. h e (inr i)) (storeView (reset d z) v) in
-    record { sound = ((b, h z (inl refl)), a .sound); items = ap (λ (x : List m-Store). m-reset d z ∷ x) (a .items) }
+drive-resets-follow p d b [] h v = record { sound = tt; items = refl }
+drive-resets-follow p d b (z ∷ l) h v =
+    let a : Follows p (storeView (reset d z) v) (map (λ z. reset d z) l) (map (λ z. m-reset d z) l) = drive-resets-follow p d b l (λ e i. h e (inr i)) (storeView (reset d z) v) in
+    record { sound = ((b, h z (inl refl)), a .sound); items = ap (λ (x : List ItemStore). m-reset d z ∷ x) (a .items) }
 
 reset-step-zero : (p : Params) (d z : ℕ) → d < p .N → z < p .Z → (v : View) → Shape p v → (y : ℕ) → (pointerAt v d y ≡ 0) ⊎ (y ≡ z) → pointerAt (storeView (reset d z) v) d y ≡ 0
 reset-step-zero p d z l b v s y q = go (ℕ-discrete y z) q
   where
     at : pointerAt (storeView (reset d z) v) d z ≡ 0
-    at = unfold storeView pointerAt in (ap (λ (x : Zone). x .pointer) (zone-set p v s d z (resetZone (zoneAt v d z)) l b) ∙ (unfold resetZone in refl))
+    at = unfold storeView pointerAt in (ap (λ (x : Zone). x .pointer) (zone-set-at p v s d z (resetZone (zoneAt v d z)) l b) ∙ (unfold resetZone in refl))
 
     other : y ≢ z → pointerAt (storeView (reset d z) v) d y ≡ pointerAt v d y
-    other n = pointer-zone (storeView (reset d z) v) v d y (unfold storeView in zone-set-other p v s d z (resetZone (zoneAt v d z)) l d y (inr n))
+    other n = pointer-zone (storeView (reset d z) v) v d y (unfold storeView in zone-set-else p v s d z (resetZone (zoneAt v d z)) l d y (inr n))
 
     go : Dec (y ≡ z) → (pointerAt v d y ≡ 0) ⊎ (y ≡ z) → pointerAt (storeView (reset d z) v) d y ≡ 0
     go (yes e) w = ap (pointerAt (storeView (reset d z) v) d) e ∙ at
@@ -120,17 +120,17 @@ module _ (p : Params) (r : Ranged p) (v : View) (g : Ghost) (a : List Val) (s : 
   abbrev v₁ : View
   v₁ = storeAll storeView (map (λ z. reset d z) (below (p .Z))) v
 
-  low : (z : ℕ) → Has z (below (p .Z)) → z < p .Z
-  low z i = below-has z (p .Z) i
+  zones-low : (z : ℕ) → Has z (below (p .Z)) → z < p .Z
+  zones-low z i = below-has z (p .Z) i
 
   first : Follows p v (map (λ z. reset d z) (below (p .Z))) (map (λ z. m-reset d z) (below (p .Z)))
-  first = resets-follow p d dl (below (p .Z)) low v
+  first = drive-resets-follow p d dl (below (p .Z)) zones-low v
 
   shape₁ : Shape p v₁
   shape₁ = shape-after p r v (map (λ z. reset d z) (below (p .Z))) (map (λ z. m-reset d z) (below (p .Z))) (lk .shape) first
 
   zero₁ : (z : ℕ) → z < p .Z → pointerAt v₁ d z ≡ 0
-  zero₁ z b = drive-resets-zero p r d dl (below (p .Z)) low v (lk .shape) z (inr (has-below z (p .Z) b))
+  zero₁ z b = drive-resets-zero p r d dl (below (p .Z)) zones-low v (lk .shape) z (inr (has-below z (p .Z) b))
 
   -- zone after zone
   zones-follow : (l : List ℕ) → Rising l → ((z : ℕ) → Has z l → Has z (remaining p v (named d))) → (w : View) → Shape p w → ((z : ℕ) → Has z l → pointerAt w d z ≡ 0)
@@ -150,7 +150,7 @@ module _ (p : Params) (r : Ranged p) (v : View) (g : Ghost) (a : List Val) (s : 
       (zone-on p r (withUn g (isIn (named d))) v kD d cD dl z (h z (inl refl))) dl d y (inr (λ x. let j : ⊥ = omega (arith, x, q .0 y i) in j)))
       ∙ e y (inr i)))
 
-  abbrev ms : List m-Store
+  abbrev ms : List ItemStore
   ms = map (λ z. m-reset d z) (below (p .Z)) ++ flat (λ z. puts d z (zoneItems p r (withUn g (isIn (named d))) v kD (named d) cD d z)) (remaining p v (named d))
 
   abbrev ss : List Store
@@ -158,7 +158,7 @@ module _ (p : Params) (r : Ranged p) (v : View) (g : Ghost) (a : List Val) (s : 
 
   pub rebuild-follows : Follows p v ss ms
   unfolding rebuildStores segments
-  rebuild-follows = subst (λ (x : List Store). Follows p v (map (λ z. reset d z) (below (p .Z)) ++ x) ms) (sym (flat-map (rebuiltZone p d) (segmentOf p v (named d)) (remaining p v (named d))))
+  rebuild-follows = subst (λ (x : List Store). Follows p v (map (λ z. reset d z) (below (p .Z)) ++ x) ms) (sym (flat-mapped (rebuiltZone p d) (segmentOf p v (named d)) (remaining p v (named d))))
       (follows-append p v (map (λ z. reset d z) (below (p .Z))) (flat (λ z. rebuiltZone p d (segmentOf p v (named d) z)) (remaining p v (named d)))
       (map (λ z. m-reset d z) (below (p .Z))) (flat (λ z. puts d z (zoneItems p r (withUn g (isIn (named d))) v kD (named d) cD d z)) (remaining p v (named d)))
       first
@@ -168,9 +168,9 @@ module _ (p : Params) (r : Ranged p) (v : View) (g : Ghost) (a : List Val) (s : 
   abbrev OnDrive : Store → Type 0
   OnDrive x = ((z : ℕ) × (x ≡ reset d z)) ⊎ ((z : ℕ) × (b : List ℕ) × (t : List ℕ) × (x ≡ put d z b t))
 
-  on-drive : (x : Store) → Has x ss → OnDrive x
+  stores-on-drive : (x : Store) → Has x ss → OnDrive x
   unfolding rebuildStores segments
-  on-drive x i = ⊎-elim
+  stores-on-drive x i = ⊎-elim
       (λ (q : Has x (map (λ z. reset d z) (below (p .Z)))). let z : (z : ℕ) × Has z (below (p .Z)) × (x ≡ reset d z) = map-has (λ z. reset d z) x (below (p .Z)) q in inl (z .0, z .2))
       (λ (q : Has x (flat (rebuiltZone p d) (map (segmentOf p v (named d)) (remaining p v (named d))))).
       let y : (y : Segment) × Has y (map (segmentOf p v (named d)) (remaining p v (named d))) × Has x (rebuiltZone p d y) =
@@ -187,8 +187,8 @@ module _ (p : Params) (r : Ranged p) (v : View) (g : Ghost) (a : List Val) (s : 
       stores-other l (storeView x w) (shape-store p w x sh (sound-fits p r w x sh (f .0))) (f .1) (λ t i. h t (inr i)) e y n ∙ one (h x (inl refl))
     where
       one : OnDrive x → zoneAt (storeView x w) e y ≡ zoneAt w e y
-      one (inl (z, q)) = ap (λ (t : Store). zoneAt (storeView t w) e y) q ∙ (unfold storeView in zone-set-other p w sh d z (resetZone (zoneAt w d z)) dl e y (inl n))
-      one (inr (z, b, t, q)) = ap (λ (t : Store). zoneAt (storeView t w) e y) q ∙ (unfold storeView in zone-set-other p w sh d z (putZone b t (zoneAt w d z)) dl e y (inl n))
+      one (inl (z, q)) = ap (λ (t : Store). zoneAt (storeView t w) e y) q ∙ (unfold storeView in zone-set-else p w sh d z (resetZone (zoneAt w d z)) dl e y (inl n))
+      one (inr (z, b, t, q)) = ap (λ (t : Store). zoneAt (storeView t w) e y) q ∙ (unfold storeView in zone-set-else p w sh d z (putZone b t (zoneAt w d z)) dl e y (inl n))
 
   has-take : (n : ℕ) (l : List Store) (x : Store) → Has x (take n l) → Has x l
   has-take zero l x i = absurd i
@@ -203,7 +203,8 @@ module _ (p : Params) (r : Ranged p) (v : View) (g : Ghost) (a : List Val) (s : 
       (shape-cut p r v ss ms (lk .shape) rebuild-follows n) (bytes-cut p r v ss ms (lk .shape) rebuild-follows (isIn (named d)) n (kD .bytes))
     where
       items-same : (e y : ℕ) → e ≢ d → itemsIn p v e y ≡ itemsIn p (storeAll storeView (take n ss) v) e y
-      items-same e y q = items-in p v e y ∙ ap (itemsOf p) (sym (stores-other (take n ss) v (lk .shape) (sound-take p v ss n (rebuild-follows .sound)) (λ x i. on-drive x (has-take n ss x i)) e y q))
+      items-same e y q =
+          items-in p v e y ∙ ap (itemsOf p) (sym (stores-other (take n ss) v (lk .shape) (sound-take p v ss n (rebuild-follows .sound)) (λ x i. stores-on-drive x (has-take n ss x i)) e y q))
           ∙ sym (items-in p (storeAll storeView (take n ss) v) e y)
 
   -- ---- the end
@@ -220,8 +221,8 @@ module _ (p : Params) (r : Ranged p) (v : View) (g : Ghost) (a : List Val) (s : 
       ∙ applyAll-append (itemsIn p v) (map (λ z. m-reset d z) (below (p .Z)))
       (flat (λ z. puts d z (zoneItems p r (withUn g (isIn (named d))) v kD (named d) cD d z)) (remaining p v (named d)))
 
-  emptied : (z : ℕ) → z < p .Z → applyAll (itemsIn p v) (map (λ z. m-reset d z) (below (p .Z))) d z ≡ []
-  emptied z b = ap (λ (x : m-View). x d z) (sym (follows-all p r v (map (λ z. reset d z) (below (p .Z))) (map (λ z. m-reset d z) (below (p .Z))) (lk .shape) first))
+  drive-emptied : (z : ℕ) → z < p .Z → applyAll (itemsIn p v) (map (λ z. m-reset d z) (below (p .Z))) d z ≡ []
+  drive-emptied z b = ap (λ (x : ItemView). x d z) (sym (follows-all p r v (map (λ z. reset d z) (below (p .Z))) (map (λ z. m-reset d z) (below (p .Z))) (lk .shape) first))
       ∙ items-in p v₁ d z ∙ none-stored (zoneAt v₁ d z) (pointer-is v₁ d z ∙ zero₁ z b)
     where
       none-stored : (q : Zone) → q .pointer ≡ 0 → itemsOf p q ≡ []
@@ -233,10 +234,10 @@ module _ (p : Params) (r : Ranged p) (v : View) (g : Ghost) (a : List Val) (s : 
       → itemsIn p u d z ≡ column (parOf p r) (withUn g (isIn (named d))) (itemsIn p v) (plan p r g (named d) (ch .0) v kD) d z (plan p r g (named d) (ch .0) v kD .foots z)
   full-u z rr =
       let i : Has z (remaining p v (named d)) = has-remaining p r (withUn g (isIn (named d))) v kD (named d) cD z rr in
-      ap (λ (x : m-View). x d z) items-u
-      ∙ flat-one (zoneItems p r (withUn g (isIn (named d))) v kD (named d) cD d) d (remaining p v (named d)) (remaining-rising p v (named d))
+      ap (λ (x : ItemView). x d z) items-u
+      ∙ puts-at (zoneItems p r (withUn g (isIn (named d))) v kD (named d) cD d) d (remaining p v (named d)) (remaining-rising p v (named d))
       (applyAll (itemsIn p v) (map (λ z. m-reset d z) (below (p .Z)))) z i
-      ∙ ap (λ (x : List Item). x ++ zoneItems p r (withUn g (isIn (named d))) v kD (named d) cD d z) (emptied z (seg-low p r (withUn g (isIn (named d))) v kD (named d) cD z i))
+      ∙ ap (λ (x : List Item). x ++ zoneItems p r (withUn g (isIn (named d))) v kD (named d) cD d z) (drive-emptied z (seg-low p r (withUn g (isIn (named d))) v kD (named d) cD z i))
       ∙ sym (column-foots p r g (named d) (ch .0) v kD d z i)
 
   none-u : (z : ℕ) → (R (parOf p r) (g .hd) (itemsIn p v) (isIn (named d)) z → ⊥) → itemsIn p u d z ≡ []
@@ -244,20 +245,20 @@ module _ (p : Params) (r : Ranged p) (v : View) (g : Ghost) (a : List Val) (s : 
     where
       go : Dec (z < p .Z) → itemsIn p u d z ≡ []
       go (no b) = outside-nothing p u shape-u d z (λ x y. b y)
-      go (yes b) = ap (λ (x : m-View). x d z) items-u
-          ∙ flat-none (zoneItems p r (withUn g (isIn (named d))) v kD (named d) cD d) d (remaining p v (named d))
+      go (yes b) = ap (λ (x : ItemView). x d z) items-u
+          ∙ puts-elsewhere (zoneItems p r (withUn g (isIn (named d))) v kD (named d) cD d) d (remaining p v (named d))
           (applyAll (itemsIn p v) (map (λ z. m-reset d z) (below (p .Z)))) z (λ i. n (seg-R p r (withUn g (isIn (named d))) v kD (named d) cD z i))
-          ∙ emptied z b
+          ∙ drive-emptied z b
 
   same-u : (e y : ℕ) → e < p .N → isIn (named d) e ≡ false → itemsIn p v e y ≡ itemsIn p u e y
   same-u e y l n =
       items-in p v e y
-      ∙ ap (itemsOf p) (sym (stores-other ss v (lk .shape) (rebuild-follows .sound) on-drive e y (named-out p r d e l n))) ∙ sym (items-in p u e y)
+      ∙ ap (itemsOf p) (sym (stores-other ss v (lk .shape) (rebuild-follows .sound) stores-on-drive e y (named-out p r d e l n))) ∙ sym (items-in p u e y)
 
   rebuilt? : m-Rebuilt (parOf p r) (withUn g (isIn (named d))) (itemsIn p v) (itemsIn p u)
-  rebuilt? = m-stored (parOf p r) (withUn g (isIn (named d))) (itemsIn p v) π (itemsIn p u) (kD .facts) same-u
-      (λ e z i rr. subst (λ (x : ℕ). itemsIn p u x z ≡ column (parOf p r) gD (itemsIn p v) π x z (π .foots z)) (sym (named-in p r d e (i .0) (i .1))) (full-u z rr))
-      (λ e z i n. subst (λ (x : ℕ). itemsIn p u x z ≡ []) (sym (named-in p r d e (i .0) (i .1))) (none-u z n))
+  rebuilt? = column-stored (parOf p r) (withUn g (isIn (named d))) (itemsIn p v) π (itemsIn p u) (kD .facts) same-u
+      (λ e z i rr. subst (λ (x : ℕ). itemsIn p u x z ≡ column (parOf p r) gD (itemsIn p v) π x z (π .foots z)) (sym (named-only p r d e (i .0) (i .1))) (full-u z rr))
+      (λ e z i n. subst (λ (x : ℕ). itemsIn p u x z ≡ []) (sym (named-only p r d e (i .0) (i .1))) (none-u z n))
     where
       π : RPlan (parOf p r) gD (itemsIn p v)
       π = plan p r g (named d) (ch .0) v kD

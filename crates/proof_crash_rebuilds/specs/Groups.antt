@@ -20,14 +20,14 @@ use Rattle.law_drives.specs.Counting.{pigeon}
 use Rattle.proof_crash_machine.specs.Facts.{Ghost, Choice, Off}
 use Rattle.proof_crash_machine.specs.Put.{off-in}
 use Rattle.proof_crash_machine.specs.Val.{Val}
-use Rattle.proof_crash_machine.specs.View.{Item, In}
+use Rattle.proof_crash_machine.specs.View.{Item, InI}
 use Rattle.proof_crash_machine.specs.View.Item.{chunk}
 use Rattle.proof_crash_items.specs.Items.{valueOf, chunkItem, itemsIn, items-in, chunk-of}
 use Rattle.proof_crash_items.specs.Member.{Has, getD-has, has-getD}
 use Rattle.proof_crash_items.specs.Ranges.{capacity-few, parOf}
 use Rattle.proof_crash_items.specs.Refuse.{Rising, rising-keep, rising-below}
-use Rattle.proof_crash_items.specs.Segs.{OnDrives, zone-low, zone-len, zone-facts, trusted}
-use Rattle.proof_crash_items.specs.Stripes.{stored-below, sealed-full, offset-on, in-has-chunk, counted-has, has-counted}
+use Rattle.proof_crash_items.specs.Segs.{OnDrives, zone-pointer-low, zone-len, zone-facts, trusted}
+use Rattle.proof_crash_items.specs.Stripes.{stored-below, sealed-at-capacity, offset-on, in-has-chunk, counted-has, has-counted}
 use Rattle.proof_crash_items.specs.ZoneBytes.{blockIn}
 use Rattle.proof_crash_rebuilds.specs.Sorted.{rising-index, rising-least, onto}
 
@@ -43,14 +43,14 @@ module _ (p : Params) (r : Ranged p) (g : Ghost) (v : View) (k : OnDrives p r g 
   unfolding group
   group-at q i l = digits-div q l
 
-  split : (s : ℕ) → (group p s * p .G + s % p .G ≡ s) × (s % p .G < p .G)
+  group-split : (s : ℕ) → (group p s * p .G + s % p .G ≡ s) × (s % p .G < p .G)
   unfolding group
-  split s = (div-add-mod' s (p .G), mod-lt s gp)
+  group-split s = (div-add-mod' s (p .G), mod-lt s gp)
 
   -- earlier groups are below
   below-group : (q s : ℕ) → q < group p s → q * p .G + p .G ≤ s
   below-group q s l =
-      let a : (group p s * p .G + s % p .G ≡ s) × (s % p .G < p .G) = split s in
+      let a : (group p s * p .G + s % p .G ≡ s) × (s % p .G < p .G) = group-split s in
       let b : suc q * p .G ≤ group p s * p .G = mul-le-mul-right (p .G) l in
       omega (arith, a .0, b, suc-mul q (p .G))
 
@@ -67,7 +67,7 @@ module _ (p : Params) (r : Ranged p) (g : Ghost) (v : View) (k : OnDrives p r g 
         let j : (o < p .S) × (suc o < zoneAt v d z .pointer) = stored-below p (zoneAt v d z) o w in
         subst (λ (y : List Item). Off y (suc o) (chunk (recordOf (blockIn (zoneAt v d z) (suc o) .spare) .stripe)
         (valueOf (blockIn (zoneAt v d z) (suc o) .block) (recordOf (blockIn (zoneAt v d z) (suc o) .spare)))))
-        (sym (items-in p v d z)) (unfold chunkItem in chunk-of p (zoneAt v d z) (zone-low p r g v k d z l (trusted p r g v k m c d l n) zb) o (j .0) (j .1))
+        (sym (items-in p v d z)) (unfold chunkItem in chunk-of p (zoneAt v d z) (zone-pointer-low p r g v k d z l (trusted p r g v k m c d l n) zb) o (j .0) (j .1))
 
     fact :
         (o : ℕ)
@@ -77,9 +77,9 @@ module _ (p : Params) (r : Ranged p) (g : Ghost) (v : View) (k : OnDrives p r g 
     fact o w = zone-facts p r g v k d z l (trusted p r g v k m c d l n) .num o (recordOf (blockIn (zoneAt v d z) (suc o) .spare) .stripe)
         (valueOf (blockIn (zoneAt v d z) (suc o) .block) (recordOf (blockIn (zoneAt v d z) (suc o) .spare))) (off o w)
 
-    one : (i j : ℕ) → i < dataStored p (zoneAt v d z) → j < dataStored p (zoneAt v d z)
+    stripe-once : (i j : ℕ) → i < dataStored p (zoneAt v d z) → j < dataStored p (zoneAt v d z)
         → recordOf (blockIn (zoneAt v d z) (suc i) .spare) .stripe ≡ recordOf (blockIn (zoneAt v d z) (suc j) .spare) .stripe → i ≡ j
-    one i j a b e =
+    stripe-once i j a b e =
         let w : suc i ≡ suc j = zone-facts p r g v k d z l (trusted p r g v k m c d l n) .once (suc i) (suc j) (recordOf (blockIn (zoneAt v d z) (suc j) .spare) .stripe)
         (valueOf (blockIn (zoneAt v d z) (suc i) .block) (recordOf (blockIn (zoneAt v d z) (suc i) .spare)))
         (valueOf (blockIn (zoneAt v d z) (suc j) .block) (recordOf (blockIn (zoneAt v d z) (suc j) .spare)))
@@ -103,11 +103,11 @@ module _ (p : Params) (r : Ranged p) (g : Ghost) (v : View) (k : OnDrives p r g 
         λ i b. in-group? q (q * p .G + i) i b refl (inside i b) in
         let a : (i : ℕ) × (i < p .G) × (f i ≡ t % p .G) = onto (p .G) f (λ i b. omega (arith, here i b .0, here i b .1))
         (λ i j x y e. let z : q * p .G + i
-        ≡ q * p .G + j = one (q * p .G + i) (q * p .G + j) (inside i x) (inside j y) (omega (arith, e, here i x .0, here j y .0)) in omega
-        (arith, z)) (t % p .G) (split t .1) in
-        let u : recordOf (blockIn (zoneAt v d z) (suc (q * p .G + a .0)) .spare) .stripe ≡ t = omega (arith, a .2, here (a .0) (a .1) .0, split t .0) in
+        ≡ q * p .G + j = stripe-once (q * p .G + i) (q * p .G + j) (inside i x) (inside j y) (omega (arith, e, here i x .0, here j y .0)) in omega
+        (arith, z)) (t % p .G) (group-split t .1) in
+        let u : recordOf (blockIn (zoneAt v d z) (suc (q * p .G + a .0)) .spare) .stripe ≡ t = omega (arith, a .2, here (a .0) (a .1) .0, group-split t .0) in
         in-has-chunk p r g v k m c z t d (valueOf (blockIn (zoneAt v d z) (suc (q * p .G + a .0)) .block) (recordOf (blockIn (zoneAt v d z) (suc (q * p .G + a .0)) .spare))) zb l n
-        (subst (λ (s : ℕ). In (chunk s (valueOf (blockIn (zoneAt v d z) (suc (q * p .G + a .0)) .block) (recordOf (blockIn (zoneAt v d z) (suc (q * p .G + a .0)) .spare)))) (itemsIn p v d z)) u
+        (subst (λ (s : ℕ). InI (chunk s (valueOf (blockIn (zoneAt v d z) (suc (q * p .G + a .0)) .block) (recordOf (blockIn (zoneAt v d z) (suc (q * p .G + a .0)) .spare)))) (itemsIn p v d z)) u
         (off-in (itemsIn p v d z) (suc (q * p .G + a .0))
         (chunk (recordOf (blockIn (zoneAt v d z) (suc (q * p .G + a .0)) .spare) .stripe)
         (valueOf (blockIn (zoneAt v d z) (suc (q * p .G + a .0)) .block) (recordOf (blockIn (zoneAt v d z) (suc (q * p .G + a .0)) .spare))))
@@ -120,7 +120,7 @@ module _ (p : Params) (r : Ranged p) (g : Ghost) (v : View) (k : OnDrives p r g 
             let y : (group p (recordOf (blockIn (zoneAt v d z) (suc o) .spare) .stripe) * p .G + recordOf
             (blockIn (zoneAt v d z) (suc o) .spare) .stripe % p .G
             ≡ recordOf (blockIn (zoneAt v d z) (suc o) .spare) .stripe)
-            × (recordOf (blockIn (zoneAt v d z) (suc o) .spare) .stripe % p .G < p .G) = split (recordOf (blockIn (zoneAt v d z) (suc o) .spare) .stripe) in
+            × (recordOf (blockIn (zoneAt v d z) (suc o) .spare) .stripe % p .G < p .G) = group-split (recordOf (blockIn (zoneAt v d z) (suc o) .spare) .stripe) in
             let u : group p (recordOf (blockIn (zoneAt v d z) (suc o) .spare) .stripe) * p .G ≡ q * p .G = ap (λ (n : ℕ). n * p .G) x in
             (omega (arith, y .0, u), omega (arith, y .0, y .1, u))
 
@@ -145,7 +145,7 @@ module _ (p : Params) (r : Ranged p) (g : Ghost) (v : View) (k : OnDrives p r g 
       let sl : s < p .S = counted-has p r g v k m c z s h .0 in
       let le : j ≤ s = rising-least (cs z) (counted-rising z) j jl in
       let q : ℕ = group p s in
-      let qs : (group p s * p .G + s % p .G ≡ s) × (s % p .G < p .G) = split s in
+      let qs : (group p s * p .G + s % p .G ≡ s) × (s % p .G < p .G) = group-split s in
       let low : q * p .G ≤ s = omega (arith, qs .0) in
       let in? : (t : ℕ) → t < q * p .G → Has t (cs z) = λ t b. earlier-counts z s t zb h (omega (arith, b, low, sl)) (smaller t s b) in
       let at : (t : ℕ) → (i : ℕ) × (t < q * p .G → (i < length (cs z)) × (getD (cs z) i 0 ≡ t)) = λ t. index t (decLt t (q * p .G)) in? in
@@ -169,6 +169,6 @@ module _ (p : Params) (r : Ranged p) (g : Ghost) (v : View) (k : OnDrives p r g 
   pub sealed-counts : (z s : ℕ) → z < p .Z → sealedIn p v m z ≡ true → s < p .S → Has s (counted p m (G z))
   sealed-counts z s zb e sl = has-counted p r g v k m c z s sl (λ d l n.
       let t : g .un d ≡ false = trusted p r g v k m c d l n in
-      let b : length (itemsIn p v d z) ≡ capacity p = zone-len p r g v k d z l t zb ∙ sealed-full p r g v k m c z d e l n in
-      let x : (x : Val) × In (chunk s x) (itemsIn p v d z) = zone-facts p r g v k d z l t .sealed (omega (arith, b, capacity-few p r)) s sl in
+      let b : length (itemsIn p v d z) ≡ capacity p = zone-len p r g v k d z l t zb ∙ sealed-at-capacity p r g v k m c z d e l n in
+      let x : (x : Val) × InI (chunk s x) (itemsIn p v d z) = zone-facts p r g v k d z l t .sealed (omega (arith, b, capacity-few p r)) s sl in
       in-has-chunk p r g v k m c z s d (x .0) zb l n (x .1))

@@ -47,9 +47,9 @@ rising-least l r (suc k) b = let x : k ≤ getD l k 0 = rising-least l r k (omeg
 
 -- ---- onto
 
-find : (n : ℕ) (f : ℕ → ℕ) (t : ℕ) → ((i : ℕ) × (i < n) × (f i ≡ t)) ⊎ ((i : ℕ) → i < n → f i ≢ t)
-find zero f t = inr (λ i l. absurd (let q : ⊥ = omega arith in q))
-find (suc n) f t = go (ℕ-discrete (f n) t) (find n f t)
+find-index : (n : ℕ) (f : ℕ → ℕ) (t : ℕ) → ((i : ℕ) × (i < n) × (f i ≡ t)) ⊎ ((i : ℕ) → i < n → f i ≢ t)
+find-index zero f t = inr (λ i l. absurd (let q : ⊥ = omega arith in q))
+find-index (suc n) f t = go (ℕ-discrete (f n) t) (find-index n f t)
   where
     go : Dec (f n ≡ t) → ((i : ℕ) × (i < n) × (f i ≡ t)) ⊎ ((i : ℕ) → i < n → f i ≢ t) → ((i : ℕ) × (i < suc n) × (f i ≡ t)) ⊎ ((i : ℕ) → i < suc n → f i ≢ t)
     go (yes e) q = inl (n, omega arith, e)
@@ -61,7 +61,7 @@ find (suc n) f t = go (ℕ-discrete (f n) t) (find n f t)
         two i l (no w) = q i (omega arith)
 
 pub onto : (n : ℕ) (f : ℕ → ℕ) → ((i : ℕ) → i < n → f i < n) → ((i j : ℕ) → i < n → j < n → f i ≡ f j → i ≡ j) → (t : ℕ) → t < n → (i : ℕ) × (i < n) × (f i ≡ t)
-onto n f b inj t l = go (find n f t)
+onto n f b inj t l = go (find-index n f t)
   where
     -- with t one more
     h : ℕ → ℕ

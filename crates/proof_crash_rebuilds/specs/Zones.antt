@@ -23,9 +23,9 @@ use Rattle.law_basic.specs.Xor.{length-parity}
 use Rattle.proof_crash_machine.specs.Facts.{Ghost, Choice}
 use Rattle.proof_crash_machine.specs.Rebuild2.{puts}
 use Rattle.proof_crash_machine.specs.Steps.{list}
-use Rattle.proof_crash_machine.specs.View.{Item, Store as m-Store}
+use Rattle.proof_crash_machine.specs.View.{Item, ItemStore}
 use Rattle.proof_crash_machine.specs.View.Item.{hdr, chunk, foot}
-use Rattle.proof_crash_machine.specs.View.Store.{put as m-put}
+use Rattle.proof_crash_machine.specs.View.ItemStore.{put as m-put}
 use Rattle.proof_crash_items.specs.ZoneBytes.Kind.{footer, header, datum}
 use Rattle.proof_crash_items.specs.Codec.{Wide}
 use Rattle.proof_crash_items.specs.Items.{valueOf, itemAt, item-foot, storeItem, storeItems}
@@ -33,26 +33,26 @@ use Rattle.proof_crash_items.specs.Member.{Has, append-has, below-has, has-belo
 use Rattle.proof_crash_items.specs.Named.{present-has, low-drive, named-self}
 use Rattle.proof_crash_items.specs.Ranges.{capacity-few, parOf}
 use Rattle.proof_crash_items.specs.Refuse.{rising-below}
-use Rattle.proof_crash_items.specs.SegFacts.{segment-fields, seg-low, begun-on, serial-is, copied-is, seg-used}
+use Rattle.proof_crash_items.specs.SegFacts.{segment-fields, seg-low, begun-on, serial-ghost, copied-ghost, seg-used}
 use Rattle.proof_crash_items.specs.Segs.{OnDrives, zone-bytes, trusted, used-zones}
-use Rattle.proof_crash_items.specs.Shape.{Shape, zone-set-other, ZoneShape, shape-zone, shape-store, put-at, put-pointer}
+use Rattle.proof_crash_items.specs.Shape.{Shape, zone-set-else, ZoneShape, shape-zone, shape-store, put-at, put-pointer-at}
 use Rattle.proof_crash_items.specs.Sound.{Sound, AllSound, sound-fits, Follows, follows-nil, follows-cons, follows-append, store-put, follows-list}
-use Rattle.proof_crash_items.specs.Stripes.{stored-below, pointer-is, offset-on, stored-piece, stored-long, counted-has, pieceAt, piece-lost}
+use Rattle.proof_crash_items.specs.Stripes.{stored-below, pointer-is, offset-on, stored-piece, stored-block-long, counted-has, pieceAt, piece-lost}
 use Rattle.proof_crash_items.specs.Values.{pieceValue, blocks-of-long, pieces-long}
-use Rattle.proof_crash_items.specs.ZoneBytes.{sparesIn, blockIn, Kind, length-sparesIn, spare-in, kindItem, kind-item, old-block, new-block, old-spares}
-use Rattle.proof_crash_restarts.specs.MovedPlan.{parity-wide}
+use Rattle.proof_crash_items.specs.ZoneBytes.{sparesIn, blockIn, Kind, length-sparesIn, spare-in, kindItem, kind-item, old-block, put-new-block, old-spares}
+use Rattle.proof_crash_restarts.specs.MovedPlan.{moved-parity-wide}
 use Rattle.proof_crash_restarts.specs.Order.{rising-same}
 use Rattle.proof_crash_rebuilds.specs.Groups.{counted-rising, sealed-counts}
 
 pub puts-append : (d z : ℕ) (a b : List Item) → puts d z (a ++ b) ≡ puts d z a ++ puts d z b
 unfolding puts
 puts-append d z [] b = refl
-puts-append d z (x ∷ a) b = ap (λ (l : List m-Store). m-put d z x ∷ l) (puts-append d z a b)
+puts-append d z (x ∷ a) b = ap (λ (l : List ItemStore). m-put d z x ∷ l) (puts-append d z a b)
 
 pub puts-list : (d z : ℕ) (f : ℕ → Item) (j n : ℕ) → puts d z (map f (upFrom j n)) ≡ list (λ i. m-put d z (f i)) j n
 unfolding puts upFrom list
 puts-list d z f j zero = refl
-puts-list d z f j (suc n) = ap (λ (l : List m-Store). m-put d z (f j) ∷ l) (puts-list d z f (suc j) n)
+puts-list d z f j (suc n) = ap (λ (l : List ItemStore). m-put d z (f j) ∷ l) (puts-list d z f (suc j) n)
 
 -- stores on one zone leave the others
 abbrev pub AllOn : ℕ → ℕ → List Store → Type 0
@@ -76,7 +76,7 @@ on-other p r d z (s ∷ ss) v h f a l e y n =
     ∙ one (a s (inl refl))
   where
     one : (b : List ℕ) × (t : List ℕ) × (s ≡ put d z b t) → zoneAt (storeView s v) e y ≡ zoneAt v e y
-    one (b, t, q) = ap (λ (x : Store). zoneAt (storeView x v) e y) q ∙ (unfold storeView in zone-set-other p v h d z (putZone b t (zoneAt v d z)) l e y n)
+    one (b, t, q) = ap (λ (x : Store). zoneAt (storeView x v) e y) q ∙ (unfold storeView in zone-set-else p v h d z (putZone b t (zoneAt v d z)) l e y n)
 
 -- what zone z of drive d gets, where the drives m are missing
 unfoldable pub zoneItems : (p : Params) (r : Ranged p) (g : Ghost) (v : View) (k : OnDrives p r g v) (m : ℕ) (c : Choice (parOf p r) (g .un) (isIn m)) → ℕ → ℕ → List Item
@@ -98,24 +98,24 @@ module _ (p : Params) (r : Ranged p) (g : Ghost) (v : View) (k : OnDrives p r g 
   abbrev piece : ℕ → Piece
   piece s = pieceOf p (named d) (segmentOf p v (named d) z) s d
 
-  here? : (s e : ℕ) → Has s (counted p (named d) G) → e < p .N → isIn (named d) e ≡ false → hasChunk G s e ≡ true
-  here? s e h l n = counted-has p r g v k (named d) c z s h .1 e l n
+  counted-chunk : (s e : ℕ) → Has s (counted p (named d) G) → e < p .N → isIn (named d) e ≡ false → hasChunk G s e ≡ true
+  counted-chunk s e h l n = counted-has p r g v k (named d) c z s h .1 e l n
 
-  lost : (s : ℕ) → piece s ≡ parityPiece p s (map (storedPiece G s) (present p (named d)))
-  lost s = piece-lost p r g v k (named d) c z s d (named-self p r d dl)
+  piece-is-parity : (s : ℕ) → piece s ≡ parityPiece p s (map (storedPiece G s) (present p (named d)))
+  piece-is-parity s = piece-lost p r g v k (named d) c z s d (named-self p r d dl)
 
   pub piece-length : (s : ℕ) → Has s (counted p (named d) G) → length (piece s .block) ≡ p .B
-  piece-length s h = ap (λ (q : Piece). length (q .block)) (lost s) ∙ long
+  piece-length s h = ap (λ (q : Piece). length (q .block)) (piece-is-parity s) ∙ long
     where
       long : length (parityPiece p s (map (storedPiece G s) (present p (named d))) .block) ≡ p .B
       long = unfold parityPiece in length-parity (p .B) (map (λ (q : Piece). q .block) (map (storedPiece G s) (present p (named d))))
           (blocks-of-long (p .B) (map (storedPiece G s) (present p (named d))) (pieces-long (p .B) (storedPiece G s) (present p (named d))
-          (λ e m. stored-long p r g v k (named d) c z s e zb (present-has p (named d) e m .0) (present-has p (named d) e m .1)
-          (here? s e h (present-has p (named d) e m .0) (present-has p (named d) e m .1)))))
+          (λ e m. stored-block-long p r g v k (named d) c z s e zb (present-has p (named d) e m .0) (present-has p (named d) e m .1)
+          (counted-chunk s e h (present-has p (named d) e m .0) (present-has p (named d) e m .1)))))
 
   pub piece-fits : (s : ℕ) → Has s (counted p (named d) G) → Wide (piece s .rec)
   piece-fits s h =
-      subst (λ (q : Piece). Wide (q .rec)) (sym (lost s)) (parity-wide p s (map (storedPiece G s) (present p (named d)))
+      subst (λ (q : Piece). Wide (q .rec)) (sym (piece-is-parity s)) (moved-parity-wide p s (map (storedPiece G s) (present p (named d)))
       (omega (arith, counted-has p r g v k (named d) c z s h .0, r .stripes-high)) (λ q m.
       let e : (e : ℕ) × Has e (present p (named d)) × (q ≡ storedPiece G s e) = map-has (storedPiece G s) q (present p (named d)) m in
       let l : (e .0 < p .N) × (isIn (named d) (e .0) ≡ false) = present-has p (named d) (e .0) (e .1) in
@@ -124,13 +124,13 @@ module _ (p : Params) (r : Ranged p) (g : Ghost) (v : View) (k : OnDrives p r g 
       wide-at : (e : ℕ) → e < p .N → isIn (named d) e ≡ false → Wide (storedPiece G s e .rec)
       wide-at e l n =
           let a : (offsetOn G e s < dataStored p (zoneAt v e z)) × (recordOf (blockIn (zoneAt v e z) (suc (offsetOn G e s)) .spare) .stripe ≡ s) =
-          offset-on p r g v k (named d) c z s e zb l n (here? s e h l n) in
+          offset-on p r g v k (named d) c z s e zb l n (counted-chunk s e h l n) in
           let b : (offsetOn G e s < p .S) × (suc (offsetOn G e s) < zoneAt v e z .pointer) = stored-below p (zoneAt v e z) (offsetOn G e s) (a .0) in
-          subst (λ (q : Piece). Wide (q .rec)) (sym (stored-piece p r g v k (named d) c z s e zb l n (here? s e h l n)))
+          subst (λ (q : Piece). Wide (q .rec)) (sym (stored-piece p r g v k (named d) c z s e zb l n (counted-chunk s e h l n)))
           (zone-bytes p r g v k e z l (trusted p r g v k (named d) c e l n) zb .wide (offsetOn G e s) (b .0) (b .1))
 
   pub piece-number : (s : ℕ) → piece s .rec .stripe ≡ s
-  piece-number s = ap (λ (q : Piece). q .rec .stripe) (lost s) ∙ is
+  piece-number s = ap (λ (q : Piece). q .rec .stripe) (piece-is-parity s) ∙ is
     where
       is : parityPiece p s (map (storedPiece G s) (present p (named d))) .rec .stripe ≡ s
       is = unfold parityPiece parityRec in refl
@@ -138,8 +138,8 @@ module _ (p : Params) (r : Ranged p) (g : Ghost) (v : View) (k : OnDrives p r g 
   abbrev chunkIt : ℕ → Item
   chunkIt s = chunk s (pieceAt p r g v k (named d) c z s d)
 
-  chunk-is : (s : ℕ) → chunk (piece s .rec .stripe) (valueOf (piece s .block) (piece s .rec)) ≡ chunk s (pieceAt p r g v k (named d) c z s d)
-  chunk-is s = ap₂ chunk (piece-number s) (unfold pieceAt pieceValue in refl)
+  piece-chunk : (s : ℕ) → chunk (piece s .rec .stripe) (valueOf (piece s .block) (piece s .rec)) ≡ chunk s (pieceAt p r g v k (named d) c z s d)
+  piece-chunk s = ap₂ chunk (piece-number s) (unfold pieceAt pieceValue in refl)
 
   -- ---- chunks
   pub record Rows (j : ℕ) (w : View) : Type 0 where
@@ -147,16 +147,16 @@ module _ (p : Params) (r : Ranged p) (g : Ghost) (v : View) (k : OnDrives p r g 
     pub at : pointerAt w d z ≡ suc j
     pub spares : (o : ℕ) → o < j → blockIn (zoneAt w d z) (suc o) .spare ≡ recordBytes (piece (getD cs o 0) .rec)
 
-  row-step : (s j : ℕ) (w : View) → Has s cs → j < p .S → s ≡ getD cs j 0 → Rows j w
+  rebuilt-row-step : (s j : ℕ) (w : View) → Has s cs → j < p .S → s ≡ getD cs j 0 → Rows j w
       → Sound p w (putPiece d z (piece s)) × (storeItem p w (putPiece d z (piece s)) ≡ m-put d z (chunkIt s)) × Rows (suc j) (storeView (putPiece d z (piece s)) w)
   unfolding putPiece
-  row-step s j w h jl e a =
+  rebuilt-row-step s j w h jl e a =
       let so : Sound p w (put d z (piece s .block) (recordBytes (piece s .rec))) = (dl, zb, kd) in (
         so,
         store-put p w d z (piece s .block) (recordBytes (piece s .rec)) kd ∙ ap (m-put d z) item-is,
         record {
           shape = shape-store p w (put d z (piece s .block) (recordBytes (piece s .rec))) (a .shape) (sound-fits p r w (put d z (piece s .block) (recordBytes (piece s .rec))) (a .shape) so);
-          at = put-pointer p w (a .shape) d z (piece s .block) (recordBytes (piece s .rec)) dl zb ∙ ap suc (a .at);
+          at = put-pointer-at p w (a .shape) d z (piece s .block) (recordBytes (piece s .rec)) dl zb ∙ ap suc (a .at);
           spares = λ o ol. ap (λ (q : Zone). blockIn q (suc o) .spare) (put-at p w (a .shape) d z (piece s .block) (recordBytes (piece s .rec)) dl zb) ∙ go o ol (ℕ-discrete o j);
         },
       )
@@ -165,12 +165,12 @@ module _ (p : Params) (r : Ranged p) (g : Ghost) (v : View) (k : OnDrives p r g 
       kd = datum j (piece s .block) (piece s .rec) (pointer-is w d z ∙ a .at) jl (piece-length s h) (piece-fits s h)
 
       item-is : kindItem p d z (zoneAt w d z) (piece s .block) (recordBytes (piece s .rec)) kd ≡ chunkIt s
-      item-is = unfold kindItem in chunk-is s
+      item-is = unfold kindItem in piece-chunk s
 
       go : (o : ℕ) → o < suc j → Dec (o ≡ j) → blockIn (putZone (piece s .block) (recordBytes (piece s .rec)) (zoneAt w d z)) (suc o) .spare ≡ recordBytes (piece (getD cs o 0) .rec)
       go o ol (yes q) =
           ap (λ (x : ℕ). blockIn (putZone (piece s .block) (recordBytes (piece s .rec)) (zoneAt w d z)) x .spare) (ap suc q ∙ sym (pointer-is w d z ∙ a .at))
-          ∙ ap (λ (x : Chunk). x .spare) (new-block p r d z (zoneAt w d z) (shape-zone p w (a .shape) d z dl zb) (piece s .block)
+          ∙ ap (λ (x : Chunk). x .spare) (put-new-block p r d z (zoneAt w d z) (shape-zone p w (a .shape) d z dl zb) (piece s .block)
           (recordBytes (piece s .rec)) (omega (arith, pointer-is w d z ∙ a .at, jl, capacity-few p r)))
           ∙ ap (λ (x : ℕ). recordBytes (piece x .rec)) (e ∙ ap (λ (x : ℕ). getD cs x 0) (sym q))
       go o ol (no q) =
@@ -189,12 +189,12 @@ module _ (p : Params) (r : Ranged p) (g : Ghost) (v : View) (k : OnDrives p r g 
       let q : s ≡ getD cs j 0 = h 0 (omega arith) ∙ ap (λ (x : ℕ). getD cs x 0) (let q : j + 0 ≡ j = omega arith in q) in
       let jl : j < length cs = omega (arith, e) in
       let one : Sound p w (putPiece d z (piece s)) × (storeItem p w (putPiece d z (piece s)) ≡ m-put d z (chunkIt s)) × Rows (suc j) (storeView (putPiece d z (piece s)) w) =
-      row-step s j w (subst (λ (x : ℕ). Has x cs) (sym q) (getD-has cs j 0 jl)) (omega (arith, jl, few-cs)) q a in
+      rebuilt-row-step s j w (subst (λ (x : ℕ). Has x cs) (sym q) (getD-has cs j 0 jl)) (omega (arith, jl, few-cs)) q a in
       let more : Follows p (storeView (putPiece d z (piece s)) w) (map (putPiece d z) (map piece ss)) (puts d z (map chunkIt ss))
       × Rows (length cs) (storeAll storeView (map (putPiece d z) (map piece ss)) (storeView (putPiece d z (piece s)) w)) =
       chunks-follow ss (suc j) (λ t l. h (suc t) (omega arith) ∙ ap (λ (x : ℕ). getD cs x 0) (let q : j + suc t ≡ suc j + t = omega arith in q))
       (omega (arith, e)) (storeView (putPiece d z (piece s)) w) (one .2) in
-      (record { sound = (one .0, more .0 .sound); items = ap₂ (λ (x : m-Store) (y : List m-Store). x ∷ y) (one .1) (more .0 .items) }, more .1)
+      (record { sound = (one .0, more .0 .sound); items = ap₂ (λ (x : ItemStore) (y : List ItemStore). x ∷ y) (one .1) (more .0 .items) }, more .1)
 
   -- ---- header
   abbrev hItem : Item
@@ -224,7 +224,7 @@ module _ (p : Params) (r : Ranged p) (g : Ghost) (v : View) (k : OnDrives p r g 
         store-put p w d z (headerBlock p d z (G .serial) (G .copied)) zeroSpare kd ∙ ap (m-put d z) item-is,
         record {
           shape = shape-store p w (put d z (headerBlock p d z (G .serial) (G .copied)) zeroSpare) h (sound-fits p r w (put d z (headerBlock p d z (G .serial) (G .copied)) zeroSpare) h so);
-          at = put-pointer p w h d z (headerBlock p d z (G .serial) (G .copied)) zeroSpare dl zb ∙ ap suc e;
+          at = put-pointer-at p w h d z (headerBlock p d z (G .serial) (G .copied)) zeroSpare dl zb ∙ ap suc e;
           spares = λ o l. absurd (let q : ⊥ = omega arith in q);
         },
       )
@@ -233,7 +233,7 @@ module _ (p : Params) (r : Ranged p) (g : Ghost) (v : View) (k : OnDrives p r g 
       kd = header (G .serial) (G .copied) (pointer-is w d z ∙ e) (omega (arith, zb, r .zones-high)) (wide-heads .0) (wide-heads .1)
 
       item-is : kindItem p d z (zoneAt w d z) (headerBlock p d z (G .serial) (G .copied)) zeroSpare kd ≡ hItem
-      item-is = unfold kindItem in λ j. hdr (serial-is p r g v k (named d) c z i j) (copied-is p r g v k (named d) c z i j) (sym (used-zones p r g v k z (seg-used p r g v k (named d) c z i)) j)
+      item-is = unfold kindItem in λ j. hdr (serial-ghost p r g v k (named d) c z i j) (copied-ghost p r g v k (named d) c z i j) (sym (used-zones p r g v k z (seg-used p r g v k (named d) c z i)) j)
 
   -- ---- footers
   abbrev made : List (List ℕ)
@@ -276,7 +276,7 @@ module _ (p : Params) (r : Ranged p) (g : Ghost) (v : View) (k : OnDrives p r g 
         store-put p w d z (footerBlock p made j) zeroSpare kd ∙ ap (m-put d z) item-is,
         record {
           shape = shape-store p w (put d z (footerBlock p made j) zeroSpare) (a .shape) (sound-fits p r w (put d z (footerBlock p made j) zeroSpare) (a .shape) so);
-          at = put-pointer p w (a .shape) d z (footerBlock p made j) zeroSpare dl zb ∙ ap suc (a .at) ∙ (let q : suc (suc (p .S + j)) ≡ suc (p .S + suc j) = omega arith in q);
+          at = put-pointer-at p w (a .shape) d z (footerBlock p made j) zeroSpare dl zb ∙ ap suc (a .at) ∙ (let q : suc (suc (p .S + j)) ≡ suc (p .S + suc j) = omega arith in q);
           spares = ap (sparesIn p) (put-at p w (a .shape) d z (footerBlock p made j) zeroSpare dl zb)
               ∙ old-spares p r d z (zoneAt w d z) (shape-zone p w (a .shape) d z dl zb) (footerBlock p made j) zeroSpare j (pointer-is w d z ∙ a .at) ∙ a .spares;
         },
@@ -290,8 +290,8 @@ module _ (p : Params) (r : Ranged p) (g : Ghost) (v : View) (k : OnDrives p r g 
           ∙ ap (λ (x : ℕ). itemAt p x (mkChunk (footerBlock p made j) zeroSpare)) (pointer-is w d z ∙ a .at)
           ∙ item-foot p (p .S + j) (mkChunk (footerBlock p made j) zeroSpare) (omega arith) ∙ ap foot (let e : p .S + j - p .S ≡ j = omega arith in e)
 
-  all-S : G .full ≡ true → length (counted p (named d) G) ≡ p .S
-  all-S e = ap length (rising-same cs (below (p .S)) (counted-rising p r g v k (named d) c z) (rising-below (p .S)) (λ s h. has-below s (p .S) (counted-has p r g v k (named d) c z s h .0))
+  full-counts-named : G .full ≡ true → length (counted p (named d) G) ≡ p .S
+  full-counts-named e = ap length (rising-same cs (below (p .S)) (counted-rising p r g v k (named d) c z) (rising-below (p .S)) (λ s h. has-below s (p .S) (counted-has p r g v k (named d) c z s h .0))
       (λ s h. sealed-counts p r g v k (named d) c z s zb (sym (segment-fields p r g v k (named d) c z .3) ∙ e) (below-has s (p .S) h))) ∙ length-below (p .S)
 
   abbrev fs : List Store
@@ -303,12 +303,12 @@ module _ (p : Params) (r : Ranged p) (g : Ghost) (v : View) (k : OnDrives p r g 
   feet-follow : (b : Bool) → G .full ≡ b → (w : View) → Rows (length (counted p (named d) G)) w → Follows p w (cond b fs []) (puts d z (cond b (map foot (below (footers p))) []))
   unfolding below
   feet-follow true e w a = subst (Follows p w (map (λ j. put d z (footerBlock p made j) zeroSpare) (upFrom 0 (footers p)))) (sym (puts-list d z foot 0 (footers p)))
-      (follows-list p Feet (λ j. put d z (footerBlock p made j) zeroSpare) (λ j. m-put d z (foot j)) (footers p) feet-step 0 (footers p) (omega arith) w (feet-begin (all-S e) w a))
+      (follows-list p Feet (λ j. put d z (footerBlock p made j) zeroSpare) (λ j. m-put d z (foot j)) (footers p) feet-step 0 (footers p) (omega arith) w (feet-begin (full-counts-named e) w a))
   feet-follow false e w a = unfold puts in follows-nil p w
 
-  rebuilt-is : rebuiltZone p d G ≡ hs ∷ (map (putPiece d z) (map piece cs) ++ cond (G .full) fs [])
+  rebuilt-zone-is : rebuiltZone p d G ≡ hs ∷ (map (putPiece d z) (map piece cs) ++ cond (G .full) fs [])
   unfolding rebuiltZone
-  rebuilt-is =
+  rebuilt-zone-is =
       ap (λ (x : ℕ). put d x (headerBlock p d x (G .serial) (G .copied)) zeroSpare ∷
       (map (putPiece d x) (map piece cs) ++ cond (G .full) (map (λ j. put d x (footerBlock p made j) zeroSpare) (below (footers p))) [])) seg-z
     where
@@ -317,7 +317,7 @@ module _ (p : Params) (r : Ranged p) (g : Ghost) (v : View) (k : OnDrives p r g 
 
   pub zone-follows : (w : View) → Shape p w → pointerAt w d z ≡ 0 → Follows p w (rebuiltZone p d G) (puts d z (zoneItems p r g v k (named d) c d z))
   zone-follows w h e =
-      subst (λ (x : List Store). Follows p w x (puts d z (zoneItems p r g v k (named d) c d z))) (sym rebuilt-is) (subst
+      subst (λ (x : List Store). Follows p w x (puts d z (zoneItems p r g v k (named d) c d z))) (sym rebuilt-zone-is) (subst
       (Follows p w (hs ∷ (map (putPiece d z) (map piece cs) ++ cond (G .full) fs []))) (sym items-are)
       (follows-cons p w hs (map (putPiece d z) (map piece cs) ++ cond (G .full) fs []) (m-put d z hItem)
       (puts d z (map chunkIt cs) ++ puts d z (cond (G .full) (map foot (below (footers p))) [])) (a .0) (a .1)
@@ -331,11 +331,11 @@ module _ (p : Params) (r : Ranged p) (g : Ghost) (v : View) (k : OnDrives p r g 
       b = chunks-follow cs 0 (λ t l. ap (λ (x : ℕ). getD cs x 0) (let q : t ≡ 0 + t = omega arith in q)) (omega arith) (storeView hs w) (a .2)
 
       items-are : puts d z (zoneItems p r g v k (named d) c d z) ≡ m-put d z hItem ∷ (puts d z (map chunkIt cs) ++ puts d z (cond (G .full) (map foot (below (footers p))) []))
-      items-are = unfold zoneItems puts in ap (λ (l : List m-Store). m-put d z hItem ∷ l) (puts-append d z (map chunkIt cs) (cond (G .full) (map foot (below (footers p))) []))
+      items-are = unfold zoneItems puts in ap (λ (l : List ItemStore). m-put d z hItem ∷ l) (puts-append d z (map chunkIt cs) (cond (G .full) (map foot (below (footers p))) []))
 
   -- all of it on zone z of drive d
   pub zone-on : AllOn d z (rebuiltZone p d G)
-  zone-on s m = go (subst (λ (x : List Store). Has s x) rebuilt-is m)
+  zone-on s m = go (subst (λ (x : List Store). Has s x) rebuilt-zone-is m)
     where
       feet-on : (b : Bool) → Has s (cond b fs []) → (x : List ℕ) × (t : List ℕ) × (s ≡ put d z x t)
       feet-on true q =

@@ -22,19 +22,19 @@ use Rattle.proof_crash_machine.specs.Exec.{not-2}
 use Rattle.proof_crash_machine.specs.Facts.{Ghost, None}
 use Rattle.proof_crash_machine.specs.History.{Dropping}
 use Rattle.proof_crash_machine.specs.Rest.{InS, Dropped}
-use Rattle.proof_crash_machine.specs.View.{Store as m-Store, AllS}
-use Rattle.proof_crash_machine.specs.View.Store.{reset as m-reset}
+use Rattle.proof_crash_machine.specs.View.{ItemStore, AllS}
+use Rattle.proof_crash_machine.specs.View.ItemStore.{reset as m-reset}
 use Rattle.proof_crash_items.specs.Items.{itemsIn, storeItem, storeItems}
 use Rattle.proof_crash_items.specs.Member.{Has, keep-has, has-keep, below-has, has-below, has-any, none-any, flat-has, has-flat, map-has, has-map}
 use Rattle.proof_crash_items.specs.Ranges.{parOf}
 use Rattle.proof_crash_items.specs.Segs.{OnDrives, has-remaining, remaining-has, used-below}
-use Rattle.proof_crash_items.specs.Shape.{Shape, zone-set, zone-set-other, set-elim, shape-store, shape-stores}
-use Rattle.proof_crash_items.specs.Sound.{all-fit, Follows}
+use Rattle.proof_crash_items.specs.Shape.{Shape, zone-set-at, zone-set-else, set-elim, shape-store, shape-stores}
+use Rattle.proof_crash_items.specs.Sound.{sounds-fit, Follows}
 use Rattle.proof_crash_items.specs.Named.{zero-choice, none-out}
 use Rattle.proof_crash_restarts.specs.Order.{all-S, in-S, follows-flat}
 use Rattle.proof_crash_restarts.specs.Same.{R-none-any}
 
-unfoldable pub dropItems : Params → List Segment → List m-Store
+unfoldable pub dropItems : Params → List Segment → List ItemStore
 dropItems p gs = flat (λ z. map (λ d. m-reset d z) (drivesOf p)) (freeZones p gs)
 
 -- resets on one segment follow, whatever the drives hold
@@ -43,7 +43,7 @@ unfolding storeItems storeItem
 resets-follow p z b [] h v = record { sound = tt; items = refl }
 resets-follow p z b (d ∷ l) h v =
     let a : Follows p (storeView (reset d z) v) (map (λ d. reset d z) l) (map (λ d. m-reset d z) l) = resets-follow p z b l (λ e i. h e (inr i)) (storeView (reset d z) v) in
-    record { sound = ((h d (inl refl), b), a .sound); items = ap (λ (x : List m-Store). m-reset d z ∷ x) (a .items) }
+    record { sound = ((h d (inl refl), b), a .sound); items = ap (λ (x : List ItemStore). m-reset d z ∷ x) (a .items) }
 
 pub reset-follows : (p : Params) (z : ℕ) → z < p .Z → (v : View) → Follows p v (resetStores p z) (map (λ d. m-reset d z) (drivesOf p))
 unfolding resetStores zoneOn
@@ -52,16 +52,16 @@ reset-follows p z b v = resets-follow p z b (drivesOf p) (λ d i. (unfold drives
 -- ---- what resets leave
 
 -- zones of other segments
-pub resets-other : (p : Params) (z : ℕ) → z < p .Z → (l : List ℕ) → ((d : ℕ) → Has d l → d < p .N) → (v : View) → Shape p v → (e y : ℕ) → y ≢ z
+pub drops-other : (p : Params) (z : ℕ) → z < p .Z → (l : List ℕ) → ((d : ℕ) → Has d l → d < p .N) → (v : View) → Shape p v → (e y : ℕ) → y ≢ z
     → zoneAt (storeAll storeView (map (λ d. reset d z) l) v) e y ≡ zoneAt v e y
 unfolding storeAll
-resets-other p z b [] h v s e y n = refl
-resets-other p z b (d ∷ l) h v s e y n =
-    resets-other p z b l (λ e i. h e (inr i)) (storeView (reset d z) v) (shape-store p v (reset d z) s (h d (inl refl), b)) e y n
+drops-other p z b [] h v s e y n = refl
+drops-other p z b (d ∷ l) h v s e y n =
+    drops-other p z b l (λ e i. h e (inr i)) (storeView (reset d z) v) (shape-store p v (reset d z) s (h d (inl refl), b)) e y n
     ∙ one
   where
     one : zoneAt (storeView (reset d z) v) e y ≡ zoneAt v e y
-    one = unfold storeView in zone-set-other p v s d z (resetZone (zoneAt v d z)) (h d (inl refl)) e y (inr n)
+    one = unfold storeView in zone-set-else p v s d z (resetZone (zoneAt v d z)) (h d (inl refl)) e y (inr n)
 
 -- pointers that are 0 stay 0
 zero-kept : (p : Params) (z d : ℕ) → z < p .Z → d < p .N → (v : View) → Shape p v → (e y : ℕ) → pointerAt v e y ≡ 0 → pointerAt (storeView (reset d z) v) e y ≡ 0
@@ -77,7 +77,7 @@ zeros-kept p z b (d ∷ l) h v s e y q =
 
 zero-made : (p : Params) (z d : ℕ) → z < p .Z → d < p .N → (v : View) → Shape p v → pointerAt (storeView (reset d z) v) d z ≡ 0
 unfolding storeView pointerAt
-zero-made p z d b l v s = ap (λ (x : Zone). x .pointer) (zone-set p v s d z (resetZone (zoneAt v d z)) l b) ∙ (unfold resetZone in refl)
+zero-made p z d b l v s = ap (λ (x : Zone). x .pointer) (zone-set-at p v s d z (resetZone (zoneAt v d z)) l b) ∙ (unfold resetZone in refl)
 
 pub resets-zero : (p : Params) (z : ℕ) → z < p .Z → (l : List ℕ) → ((d : ℕ) → Has d l → d < p .N) → (v : View) → Shape p v → (e : ℕ) → Has e l
     → pointerAt (storeAll storeView (map (λ d. reset d z) l) v) e z ≡ 0
@@ -96,7 +96,7 @@ module _ (p : Params) (r : Ranged p) where
   drives-low d i = below-has d (p .N) i
 
   shape-resets : (z : ℕ) → z < p .Z → (v : View) → Shape p v → Shape p (storeAll storeView (resetStores p z) v)
-  shape-resets z b v s = shape-stores p v (resetStores p z) s (all-fit p r v (resetStores p z) s (reset-follows p z b v .sound))
+  shape-resets z b v s = shape-stores p v (resetStores p z) s (sounds-fit p r v (resetStores p z) s (reset-follows p z b v .sound))
 
   pub all-other : (l : List ℕ) → ((z : ℕ) → Has z l → z < p .Z) → (v : View) → Shape p v → (e y : ℕ) → (Has y l → ⊥) → zoneAt (storeAll storeView (flat (resetStores p) l) v) e y ≡ zoneAt v e y
   unfolding flat storeAll
@@ -107,7 +107,7 @@ module _ (p : Params) (r : Ranged p) where
       ∙ one
     where
       one : zoneAt (storeAll storeView (resetStores p z) v) e y ≡ zoneAt v e y
-      one = unfold resetStores zoneOn in resets-other p z (h z (inl refl)) (drivesOf p) drives-low v s e y (λ q. n (inl q))
+      one = unfold resetStores zoneOn in drops-other p z (h z (inl refl)) (drivesOf p) drives-low v s e y (λ q. n (inl q))
 
   zeros-all : (l : List ℕ) → ((z : ℕ) → Has z l → z < p .Z) → (v : View) → Shape p v → (e y : ℕ) → pointerAt v e y ≡ 0 → pointerAt (storeAll storeView (flat (resetStores p) l) v) e y ≡ 0
   unfolding flat storeAll
@@ -174,7 +174,7 @@ module _ (p : Params) (r : Ranged p) (g : Ghost) (v : View) (k : OnDrives p r g 
   unfolding dropItems
   dropping = record { are = are; every = every }
     where
-      ms : List m-Store
+      ms : List ItemStore
       ms = flat (λ z. map (λ d. m-reset d z) (drivesOf p)) (freeZones p (segments p v 0))
 
       are : AllS (DropOf (parOf p r) g none (Dropped (parOf p r) g (itemsIn p v))) (flat (λ z. map (λ d. m-reset d z) (drivesOf p)) (freeZones p (segments p v 0)))

@@ -20,22 +20,22 @@ use Rattle.law_drives.specs.Counting.{pigeon}
 use Rattle.law_drives.specs.Tests.{not-so}
 use Rattle.proof_crash_machine.specs.Accept.{accepted}
 use Rattle.proof_crash_machine.specs.Exec.{true≢false}
-use Rattle.proof_crash_machine.specs.Facts.{Ghost, Choice, Stripe, Counted, Off, Used, Whole as m-Whole, Ragged}
+use Rattle.proof_crash_machine.specs.Facts.{Ghost, Choice, Stripe, Counted, Off, Used, WholeZone, Ragged}
 use Rattle.proof_crash_machine.specs.Finish.{Reads}
 use Rattle.proof_crash_machine.specs.Rebuild.{in-off, once-in}
 use Rattle.proof_crash_machine.specs.Rest.{Unsealed}
 use Rattle.proof_crash_machine.specs.Val.{Val}
 use Rattle.proof_crash_machine.specs.View.Item.{chunk}
-use Rattle.proof_crash_machine.specs.View.{In, in-some, chunk-hdr}
+use Rattle.proof_crash_machine.specs.View.{InI, item-some, chunk-hdr}
 use Rattle.proof_crash_items.specs.Cands.{candsSeen, greatest-counted, stampRead, reads}
 use Rattle.proof_crash_items.specs.Items.{itemsIn}
 use Rattle.proof_crash_items.specs.Member.{Has, keep-has, has-keep, below-has, has-below, has-any, map-has, has-map, has-getD, greatest-most}
 use Rattle.proof_crash_items.specs.Named.{has-present, zero-choice}
 use Rattle.proof_crash_items.specs.Ranges.{parOf}
-use Rattle.proof_crash_items.specs.SegFacts.{serial-is, ragged-of}
+use Rattle.proof_crash_items.specs.SegFacts.{serial-ghost, ragged-of}
 use Rattle.proof_crash_items.specs.Segs.{zone-len, remaining-has}
-use Rattle.proof_crash_items.specs.Stripes.{sealed-full, in-has-chunk, pieceAt, counted-stripe}
-use Rattle.proof_crash_restarts.specs.Rest.{Settled, far-off, settled-remains, settled-used}
+use Rattle.proof_crash_items.specs.Stripes.{sealed-at-capacity, in-has-chunk, pieceAt, counted-stripe}
+use Rattle.proof_crash_restarts.specs.Rest.{SettledOn, far-off, settled-remains, settled-used}
 use Rattle.proof_crash_restarts.specs.Same.{Stripe-none-any, Counted-none-any, Reads-none-any}
 
 -- the unsealed segment has the stripes 0 to c - 1, not all S, and no other chunks
@@ -50,33 +50,33 @@ pub record Opened (p : Params) (r : Ranged p) (g : Ghost) (v : View) (b : Bool) 
   -- it isn't whole
   pub less : b ≡ true → n < p .S
   pub lone : (y : ℕ) → Ragged (parOf p r) (g .un) (itemsIn p v) y → (b ≡ true) × (y ≡ z)
-  pub whole : b ≡ true → m-Whole (parOf p r) (g .un) (itemsIn p v) z
-  pub low : b ≡ true → (e s : ℕ) (x : Val) → e < p .N → In (chunk s x) (itemsIn p v e z) → s < n
+  pub whole : b ≡ true → WholeZone (parOf p r) (g .un) (itemsIn p v) z
+  pub low : b ≡ true → (e s : ℕ) (x : Val) → e < p .N → InI (chunk s x) (itemsIn p v e z) → s < n
   -- it has no footer
   pub short : b ≡ true → (e : ℕ) → e < p .N → length (itemsIn p v e z) ≤ suc (p .S)
   -- stripes below n are on all drives
-  pub full : b ≡ true → (s : ℕ) → s < n → (e : ℕ) → e < p .N → (x : Val) × In (chunk s x) (itemsIn p v e z)
+  pub full : b ≡ true → (s : ℕ) → s < n → (e : ℕ) → e < p .N → (x : Val) × InI (chunk s x) (itemsIn p v e z)
   pub is : ((b ≡ true) × (openOf (unsealed (segments p v 0)) ≡ suc z) × (nextOf p (unsealed (segments p v 0)) ≡ n))
       ⊎ ((b ≡ false) × (openOf (unsealed (segments p v 0)) ≡ 0))
 
-module _ (p : Params) (r : Ranged p) (g : Ghost) (v : View) (k : Settled p r g v) where
+module _ (p : Params) (r : Ranged p) (g : Ghost) (v : View) (k : SettledOn p r g v) where
   abbrev G : ℕ → Segment
   G z = segmentOf p v 0 z
 
   pub none-choice : Choice (parOf p r) (g .un) (isIn 0)
   none-choice = zero-choice p r (g .un) (k .none)
 
-  trust : (d : ℕ) → d < p .N → (g .un d ≡ false) × (isIn 0 d ≡ false)
-  trust d l = (k .none d l, far-off p r g v k d l)
+  none-untrusted : (d : ℕ) → d < p .N → (g .un d ≡ false) × (isIn 0 d ≡ false)
+  none-untrusted d l = (k .none d l, far-off p r g v k d l)
 
-  pub full-is : (z : ℕ) → G z .full ≡ sealedIn p v 0 z
+  pub full-sealed : (z : ℕ) → G z .full ≡ sealedIn p v 0 z
   unfolding segmentOf
-  full-is z = refl
+  full-sealed z = refl
 
   -- a full segment is full on every drive
   pub full-length : (z d : ℕ) → z < p .Z → d < p .N → G z .full ≡ true → length (itemsIn p v d z) ≡ capacity p
   full-length z d b l e =
-      zone-len p r g v (k .on) d z l (trust d l .0) b ∙ sealed-full p r g v (k .on) 0 none-choice z d (sym (full-is z) ∙ e) l (trust d l .1)
+      zone-len p r g v (k .on) d z l (none-untrusted d l .0) b ∙ sealed-at-capacity p r g v (k .on) 0 none-choice z d (sym (full-sealed z) ∙ e) l (none-untrusted d l .1)
 
   ragged-unsealed : (y : ℕ) → Ragged (parOf p r) (g .un) (itemsIn p v) y → Has y (remaining p v 0) × (G y .full ≡ false)
   ragged-unsealed y (d, t, a, b) =
@@ -108,17 +108,17 @@ module _ (p : Params) (r : Ranged p) (g : Ghost) (v : View) (k : Settled p r g v
 
   module _ (ord : InOrder p v) where
     -- each chunk of an unsealed segment is of a counted stripe
-    chunk-counted : (z d s : ℕ) (x : Val) → Has z (remaining p v 0) → G z .full ≡ false → d < p .N → In (chunk s x) (itemsIn p v d z) → Has s (counted p 0 (G z))
+    chunk-counted : (z d s : ℕ) (x : Val) → Has z (remaining p v 0) → G z .full ≡ false → d < p .N → InI (chunk s x) (itemsIn p v d z) → Has s (counted p 0 (G z))
     chunk-counted z d s x i e l m =
         let b : z < p .Z = settled-used p r g v k z i .0 in
-        go (counts p 0 (G z) s) refl (chunk-number z d s x l m) (in-has-chunk p r g v (k .on) 0 none-choice z s d x b l (trust d l .1) m)
+        go (counts p 0 (G z) s) refl (chunk-number z d s x l m) (in-has-chunk p r g v (k .on) 0 none-choice z s d x b l (none-untrusted d l .1) m)
       where
-        chunk-number : (z d s : ℕ) (x : Val) → d < p .N → In (chunk s x) (itemsIn p v d z) → s < p .S
+        chunk-number : (z d s : ℕ) (x : Val) → d < p .N → InI (chunk s x) (itemsIn p v d z) → s < p .S
         chunk-number z d s x l m = let j : (j : ℕ) × Off (itemsIn p v d z) j (chunk s x) = in-off (chunk s x) (itemsIn p v d z) m in num (j .0) (j .1)
           where
             num : (j : ℕ) → Off (itemsIn p v d z) j (chunk s x) → s < p .S
-            num zero o = absurd (chunk-hdr (sym (o .1) ∙ k .on .facts .zones d z (l, trust d l .0) .head (in-some (chunk s x) (itemsIn p v d z) m)))
-            num (suc j) o = k .on .facts .zones d z (l, trust d l .0) .num j s x o .0
+            num zero o = absurd (chunk-hdr (sym (o .1) ∙ k .on .facts .zones d z (l, none-untrusted d l .0) .head (item-some (chunk s x) (itemsIn p v d z) m)))
+            num (suc j) o = k .on .facts .zones d z (l, none-untrusted d l .0) .num j s x o .0
 
         go : (t : Bool) → counts p 0 (G z) s ≡ t → s < p .S → hasChunk (G z) s d ≡ true → Has s (counted p 0 (G z))
         go true q a h = unfold counted in has-keep (counts p 0 (G z)) s (below (p .S)) (has-below s (p .S) a) q
@@ -127,19 +127,19 @@ module _ (p : Params) (r : Ranged p) (g : Ghost) (v : View) (k : Settled p r g v
             listed : Has s (uncounted p 0 (G z))
             listed = unfold uncounted in has-keep (λ s. any (hasChunk (G z) s) (present p 0) && not (counts p 0 (G z) s)) s (below (p .S)) (has-below s (p .S) a)
                 (and-both (any (hasChunk (G z) s) (present p 0)) (not (counts p 0 (G z) s))
-                (has-any (hasChunk (G z) s) (present p 0) d (has-present p 0 d l (trust d l .1)) h) (ap not q))
+                (has-any (hasChunk (G z) s) (present p 0) d (has-present p 0 d l (none-untrusted d l .1)) h) (ap not q))
 
-    pub tidy : (d z s : ℕ) (x : Val) → d < p .N → Unsealed (parOf p r) (itemsIn p v) z → In (chunk s x) (itemsIn p v d z)
+    pub tidy : (d z s : ℕ) (x : Val) → d < p .N → Unsealed (parOf p r) (itemsIn p v) z → InI (chunk s x) (itemsIn p v d z)
         → (f : ℕ → Val) × Stripe (parOf p r) (itemsIn p v) (g .un) z s f × (f d ≡ x)
     tidy d z s x l u m =
-        let i : Has z (remaining p v 0) = settled-remains p r g v k z (d, (l, trust d l .0), in-some (chunk s x) (itemsIn p v d z) m) in
+        let i : Has z (remaining p v 0) = settled-remains p r g v k z (d, (l, none-untrusted d l .0), item-some (chunk s x) (itemsIn p v d z) m) in
         let b : z < p .Z = settled-used p r g v k z i .0 in
         let e : G z .full ≡ false = not-so (G z .full) (λ q. u (λ n a. omega (arith, full-length z n b a q))) in
         let h : Has s (counted p 0 (G z)) = chunk-counted z d s x i e l m in
         let st : Stripe (parOf p r) (itemsIn p v) (isIn 0) z s (pieceAt p r g v (k .on) 0 none-choice z s) = counted-stripe p r g v (k .on) 0 none-choice z s b h in (
           pieceAt p r g v (k .on) 0 none-choice z s,
           Stripe-none-any (parOf p r) (g .hd) (itemsIn p v) (isIn 0) (g .un) (far-off p r g v k) (k .none) z s (pieceAt p r g v (k .on) 0 none-choice z s) st,
-          once-in (parOf p r) g d z (itemsIn p v d z) (k .on .facts .zones d z (l, trust d l .0)) s (pieceAt p r g v (k .on) 0 none-choice z s d) x (st .on d l (trust d l .1)) m,
+          once-in (parOf p r) g d z (itemsIn p v d z) (k .on .facts .zones d z (l, none-untrusted d l .0)) s (pieceAt p r g v (k .on) 0 none-choice z s d) x (st .on d l (none-untrusted d l .1)) m,
         )
 
     -- ---- what is open
@@ -184,7 +184,7 @@ module _ (p : Params) (r : Ranged p) (g : Ghost) (v : View) (k : Settled p r g v
                 low = λ w d s x l m. below-has s (length (counted p 0 (G (a .0)))) (subst (λ (y : List ℕ). Has s y) (o .0) (chunk-counted (a .0) d s x (a .1) (a .3) l m));
                 full = λ w s l d h. let st : Stripe (parOf p r) (itemsIn p v) (isIn 0) (a .0) s (pieceAt p r g v (k .on) 0 none-choice (a .0) s) =
                     counted-stripe p r g v (k .on) 0 none-choice (a .0) s b (subst (λ (y : List ℕ). Has s y) (sym (o .0)) (has-below s (length (counted p 0 (G (a .0)))) l)) in
-                    (pieceAt p r g v (k .on) 0 none-choice (a .0) s d, st .on d h (trust d h .1));
+                    (pieceAt p r g v (k .on) 0 none-choice (a .0) s d, st .on d h (none-untrusted d h .1));
                 short = λ w d l. no-footer (a .0) (a .1) (a .3) (o .2) d l (decLt (suc (p .S)) (length (itemsIn p v d (a .0))));
                 is = inl (refl, open-at q l e (a .0) (a .2), next-at q l e (a .0) (a .2));
               },
@@ -205,7 +205,7 @@ module _ (p : Params) (r : Ranged p) (g : Ghost) (v : View) (k : Settled p r g v
             no-footer z i f c d l (no q) = omega arith
             no-footer z i f c d l (yes q) =
                 let every : (s : ℕ) → s < p .S → Has s (counted p 0 (G z)) = λ s b.
-                let x : (x : Val) × In (chunk s x) (itemsIn p v d z) = k .on .facts .zones d z (l, trust d l .0) .sealed q s b in chunk-counted z d s (x .0) i f l (x .1) in
+                let x : (x : Val) × InI (chunk s x) (itemsIn p v d z) = k .on .facts .zones d z (l, none-untrusted d l .0) .sealed q s b in chunk-counted z d s (x .0) i f l (x .1) in
                 absurd (let w : p .S ≤ length (counted p 0 (G z)) = many (counted p 0 (G z)) every in let j : ⊥ = omega arith in j)
               where
                 many : (l : List ℕ) → ((s : ℕ) → s < p .S → Has s l) → p .S ≤ length l
@@ -241,7 +241,7 @@ module _ (p : Params) (r : Ranged p) (g : Ghost) (v : View) (k : Settled p r g v
   unfolding greatestSerial segments
   ends-serials y u =
       let i : Has y (remaining p v 0) = settled-remains p r g v k y u in
-      let e : G y .serial ≡ g .hd .ser y = serial-is p r g v (k .on) 0 none-choice y i in
+      let e : G y .serial ≡ g .hd .ser y = serial-ghost p r g v (k .on) 0 none-choice y i in
       let b : G y .serial ≤ greatest (map (λ (g : Segment). g .serial) (map (segmentOf p v 0) (remaining p v 0))) =
       greatest-most (G y .serial) (map (λ (g : Segment). g .serial) (map (segmentOf p v 0) (remaining p v 0)))
       (has-map (λ (g : Segment). g .serial) (map (segmentOf p v 0) (remaining p v 0)) (G y)

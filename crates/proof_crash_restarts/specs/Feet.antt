@@ -30,30 +30,30 @@ use Rattle.proof_crash_machine.specs.History.Mode.{off}
 use Rattle.proof_crash_machine.specs.History.Step.{restart-footer}
 use Rattle.proof_crash_machine.specs.Put.{in-fwd, R-fwd as Put·R-fwd, Used-back as Put·Used-back}
 use Rattle.proof_crash_machine.specs.Val.{Val}
-use Rattle.proof_crash_machine.specs.View.{Item, View as m-View, after, In}
+use Rattle.proof_crash_machine.specs.View.{Item, ItemView, withItem, InI}
 use Rattle.proof_crash_machine.specs.View.Item.{chunk, foot}
 use Rattle.proof_crash_items.specs.ZoneBytes.Kind.{footer}
 use Rattle.proof_crash_items.specs.Items.{itemsOf, itemsIn, items-in}
 use Rattle.proof_crash_items.specs.Member.{Has, has-keep, below-has, has-below}
-use Rattle.proof_crash_items.specs.Named.{present-all, zero-few}
+use Rattle.proof_crash_items.specs.Named.{all-on-present, zero-few}
 use Rattle.proof_crash_items.specs.Ranges.{parOf}
 use Rattle.proof_crash_items.specs.Segs.{zone-bytes, zone-len}
-use Rattle.proof_crash_items.specs.Shape.{Shape, zone-set, zone-set-other, shape-zone, shape-store}
+use Rattle.proof_crash_items.specs.Shape.{Shape, zone-set-at, zone-set-else, shape-zone, shape-store}
 use Rattle.proof_crash_items.specs.Sound.{Sound, AllSound, sound-fits, bytes-store, items-put-kind}
 use Rattle.proof_crash_items.specs.Stripes.{pointer-is, offset-on, counted-has, pieceAt, counted-stripe}
 use Rattle.proof_crash_items.specs.ZoneBytes.{sparesIn, blockIn, Kind, kindItem, old-spares}
-use Rattle.proof_crash_restarts.specs.Ends.{InOrder, none-choice, full-is, one-of}
+use Rattle.proof_crash_restarts.specs.Ends.{InOrder, none-choice, full-sealed, one-of}
 use Rattle.proof_crash_restarts.specs.Link.{stateOn, Linked, linked-on, linked-step}
 use Rattle.proof_crash_restarts.specs.Order.{flat-same, pointer-zone}
-use Rattle.proof_crash_restarts.specs.Rest.{Settled, far-off, settled-remains, settled-used}
+use Rattle.proof_crash_restarts.specs.Rest.{SettledOn, far-off, settled-remains, settled-used}
 use Rattle.proof_crash_restarts.specs.Runs.{Always, run-always, run-end, runs-always, runs-end, run-sound, runs-sound}
 use Rattle.proof_crash_restarts.specs.Same.{segment-same}
 
 -- all pass where none is left out
-keep-full : {A : Type 0} (f : A → Bool) (l : List A) → length (keep f l) ≡ length l → (a : A) → Has a l → f a ≡ true
+keep-whole : {A : Type 0} (f : A → Bool) (l : List A) → length (keep f l) ≡ length l → (a : A) → Has a l → f a ≡ true
 unfolding keep
-keep-full f [] e a i = absurd i
-keep-full {A} f (b ∷ l) e a i = go (f b) refl e i (keep-full f l)
+keep-whole f [] e a i = absurd i
+keep-whole {A} f (b ∷ l) e a i = go (f b) refl e i (keep-whole f l)
   where
     go : (t : Bool) → f b ≡ t → length (consIf t b (keep f l)) ≡ suc (length l) → Has a (b ∷ l) → (length (keep f l) ≡ length l → (a : A) → Has a l → f a ≡ true) → f a ≡ true
     go true q e (inl w) ih = ap f w ∙ q
@@ -70,8 +70,8 @@ module _ (p : Params) (r : Ranged p) (g₀ : Ghost) (a : List Val) (s : Bool) wh
   -- what holds after each store: the facts, and all stripes of o on every drive
   pub record Footing (o : ℕ) (w : View) : Type 0 where
     pub linked : Linked p r w (withPr g₀ alone) a s off
-    pub set : Settled p r (withPr g₀ alone) w
-    pub stripes : (d t : ℕ) → d < p .N → t < p .S → (x : Val) × In (chunk t x) (itemsIn p w d o)
+    pub set : SettledOn p r (withPr g₀ alone) w
+    pub stripes : (d t : ℕ) → d < p .N → t < p .S → (x : Val) × InI (chunk t x) (itemsIn p w d o)
 
   module _ (o : ℕ) (ob : o < p .Z) where
     foot-kind : (w : View) (d j : ℕ) → pointerAt w d o ≡ suc (p .S + j) → j < footers p → Kind p d o (zoneAt w d o) (footerBlock p (sparesIn p (zoneAt w d o)) j) zeroSpare
@@ -81,14 +81,14 @@ module _ (p : Params) (r : Ranged p) (g₀ : Ghost) (a : List Val) (s : Bool) wh
       sound : Sound p w (put d o (footerBlock p (sparesIn p (zoneAt w d o)) j) zeroSpare)
       sound = (dl, ob, foot-kind w d j e jl)
 
-      items′ : itemsIn p (storeView (put d o (footerBlock p (sparesIn p (zoneAt w d o)) j) zeroSpare) w) ≡ after (itemsIn p w) d o (foot j)
-      items′ = items-put-kind p r w d o (footerBlock p (sparesIn p (zoneAt w d o)) j) zeroSpare (k .linked .shape) dl ob (foot-kind w d j e jl) ∙ ap (after (itemsIn p w) d o) is-foot
+      items′ : itemsIn p (storeView (put d o (footerBlock p (sparesIn p (zoneAt w d o)) j) zeroSpare) w) ≡ withItem (itemsIn p w) d o (foot j)
+      items′ = items-put-kind p r w d o (footerBlock p (sparesIn p (zoneAt w d o)) j) zeroSpare (k .linked .shape) dl ob (foot-kind w d j e jl) ∙ ap (withItem (itemsIn p w) d o) is-foot
         where
           is-foot : kindItem p d o (zoneAt w d o) (footerBlock p (sparesIn p (zoneAt w d o)) j) zeroSpare (foot-kind w d j e jl) ≡ foot j
           is-foot = unfold kindItem foot-kind in refl
 
-      len : length (itemsIn p w d o) ≡ suc (p .S + j)
-      len = zone-len p r (withPr g₀ alone) w (k .set .on) d o dl (k .set .none d dl) ob ∙ e
+      foot-length : length (itemsIn p w d o) ≡ suc (p .S + j)
+      foot-length = zone-len p r (withPr g₀ alone) w (k .set .on) d o dl (k .set .none d dl) ob ∙ e
 
       shape′ : Shape p (storeView (put d o (footerBlock p (sparesIn p (zoneAt w d o)) j) zeroSpare) w)
       shape′ =
@@ -98,8 +98,9 @@ module _ (p : Params) (r : Ranged p) (g₀ : Ghost) (a : List Val) (s : Bool) wh
       linked′ : Linked p r (storeView (put d o (footerBlock p (sparesIn p (zoneAt w d o)) j) zeroSpare) w) (withPr g₀ alone) a s off
       linked′ =
           linked-step p r w (storeView (put d o (footerBlock p (sparesIn p (zoneAt w d o)) j) zeroSpare) w) (withPr g₀ alone) (withPr g₀ alone) a a s
-          s off off (after (itemsIn p w) d o (foot j)) (k .linked)
-          (restart-footer (stateOn p w (withPr g₀ alone) a s off) d o j (k .set .none) (k .set .rest) dl (omega (arith, len)) (unfold capacity in omega (arith, len, jl)) (λ t l. k .stripes d t dl l))
+          s off off (withItem (itemsIn p w) d o (foot j)) (k .linked)
+          (restart-footer (stateOn p w (withPr g₀ alone) a s off) d o j (k .set .none) (k .set .rest) dl (omega (arith, foot-length)) (unfold capacity in omega (arith, foot-length, jl))
+          (λ t l. k .stripes d t dl l))
           (sym items′) shape′ (λ e l n. bytes-store p r w (put d o (footerBlock p (sparesIn p (zoneAt w d o)) j) zeroSpare) (k .linked .shape) sound e (k .linked .bytes e l n))
 
       pub foot-step : Footing o (storeView (put d o (footerBlock p (sparesIn p (zoneAt w d o)) j) zeroSpare) w)
@@ -109,28 +110,28 @@ module _ (p : Params) (r : Ranged p) (g₀ : Ghost) (a : List Val) (s : Bool) wh
           on = linked-on p r (storeView (put d o (footerBlock p (sparesIn p (zoneAt w d o)) j) zeroSpare) w) (withPr g₀ alone) a s off linked′;
           none = k .set .none;
           no-pair = refl;
-          rest = subst (λ (u : m-View). (z : ℕ) → Used (parOf p r) (g₀ .un) u z → R (parOf p r) (g₀ .hd) u (g₀ .un) z) (sym items′)
-              (λ z u. Put·R-fwd (itemsIn p w) d o (foot j) (omega (arith, len)) (parOf p r) (withPr g₀ alone) (g₀ .un) z
-              (k .set .rest z (Put·Used-back (itemsIn p w) d o (foot j) (omega (arith, len)) (parOf p r) (withPr g₀ alone) z u)));
+          rest = subst (λ (u : ItemView). (z : ℕ) → Used (parOf p r) (g₀ .un) u z → R (parOf p r) (g₀ .hd) u (g₀ .un) z) (sym items′)
+              (λ z u. Put·R-fwd (itemsIn p w) d o (foot j) (omega (arith, foot-length)) (parOf p r) (withPr g₀ alone) (g₀ .un) z
+              (k .set .rest z (Put·Used-back (itemsIn p w) d o (foot j) (omega (arith, foot-length)) (parOf p r) (withPr g₀ alone) z u)));
         };
-        stripes = subst (λ (u : m-View). (d t : ℕ) → d < p .N → t < p .S → (x : Val) × In (chunk t x) (u d o)) (sym items′)
+        stripes = subst (λ (u : ItemView). (d t : ℕ) → d < p .N → t < p .S → (x : Val) × InI (chunk t x) (u d o)) (sym items′)
             (λ e t l b. (k .stripes e t l b .0, in-fwd (itemsIn p w) d o (foot j) (chunk t (k .stripes e t l b .0)) e o (k .stripes e t l b .1)));
       }
 
       -- what the store changes
       pub foot-pointer : pointerAt (storeView (put d o (footerBlock p (sparesIn p (zoneAt w d o)) j) zeroSpare) w) d o ≡ suc (p .S + suc j)
       unfolding storeView pointerAt
-      foot-pointer = ap (λ (q : Zone). q .pointer) (zone-set p w (k .linked .shape) d o (putZone (footerBlock p (sparesIn p (zoneAt w d o)) j) zeroSpare (zoneAt w d o)) dl ob)
+      foot-pointer = ap (λ (q : Zone). q .pointer) (zone-set-at p w (k .linked .shape) d o (putZone (footerBlock p (sparesIn p (zoneAt w d o)) j) zeroSpare (zoneAt w d o)) dl ob)
           ∙ (unfold putZone in (ap suc (pointer-is w d o ∙ e) ∙ (let x : suc (suc (p .S + j)) ≡ suc (p .S + suc j) = omega arith in x)))
 
       pub foot-spares : sparesIn p (zoneAt (storeView (put d o (footerBlock p (sparesIn p (zoneAt w d o)) j) zeroSpare) w) d o) ≡ sparesIn p (zoneAt w d o)
       unfolding storeView
-      foot-spares = ap (sparesIn p) (zone-set p w (k .linked .shape) d o (putZone (footerBlock p (sparesIn p (zoneAt w d o)) j) zeroSpare (zoneAt w d o)) dl ob)
+      foot-spares = ap (sparesIn p) (zone-set-at p w (k .linked .shape) d o (putZone (footerBlock p (sparesIn p (zoneAt w d o)) j) zeroSpare (zoneAt w d o)) dl ob)
           ∙ old-spares p r d o (zoneAt w d o) (shape-zone p w (k .linked .shape) d o dl ob) (footerBlock p (sparesIn p (zoneAt w d o)) j) zeroSpare j (pointer-is w d o ∙ e)
 
       pub foot-other : (e y : ℕ) → (e ≢ d) ⊎ (y ≢ o) → zoneAt (storeView (put d o (footerBlock p (sparesIn p (zoneAt w d o)) j) zeroSpare) w) e y ≡ zoneAt w e y
       unfolding storeView
-      foot-other e y n = zone-set-other p w (k .linked .shape) d o (putZone (footerBlock p (sparesIn p (zoneAt w d o)) j) zeroSpare (zoneAt w d o)) dl e y n
+      foot-other e y n = zone-set-else p w (k .linked .shape) d o (putZone (footerBlock p (sparesIn p (zoneAt w d o)) j) zeroSpare (zoneAt w d o)) dl e y n
 
     -- ---- one drive, then all
     module _ (v : View) where
@@ -145,7 +146,7 @@ module _ (p : Params) (r : Ranged p) (g₀ : Ghost) (a : List Val) (s : Bool) wh
         pub other : (e y : ℕ) → y ≢ o → zoneAt w e y ≡ zoneAt v e y
 
       -- within drive d
-      pub record Within (d j : ℕ) (w : View) : Type 0 where
+      pub record FootWithin (d j : ℕ) (w : View) : Type 0 where
         pub foot : Footing o w
         pub at : pointerAt w d o ≡ suc (p .S + j)
         pub spares : sparesIn p (zoneAt w d o) ≡ sparesIn p (zoneAt v d o)
@@ -153,9 +154,9 @@ module _ (p : Params) (r : Ranged p) (g₀ : Ghost) (a : List Val) (s : Bool) wh
         pub left : (e : ℕ) → d < e → zoneAt w e o ≡ zoneAt v e o
         pub other : (e y : ℕ) → y ≢ o → zoneAt w e y ≡ zoneAt v e y
 
-      within-step : (d j : ℕ) (w : View) → d < p .N → j < footers p → Within d j w → Within d (suc j) (storeView (put d o (footerBlock p (sparesIn p (zoneAt v d o)) j) zeroSpare) w)
+      within-step : (d j : ℕ) (w : View) → d < p .N → j < footers p → FootWithin d j w → FootWithin d (suc j) (storeView (put d o (footerBlock p (sparesIn p (zoneAt v d o)) j) zeroSpare) w)
       unfolding pointerAt
-      within-step d j w dl jl k = subst (λ (ss : List (List ℕ)). Within d (suc j) (storeView (put d o (footerBlock p ss j) zeroSpare) w)) (k .spares) (record {
+      within-step d j w dl jl k = subst (λ (ss : List (List ℕ)). FootWithin d (suc j) (storeView (put d o (footerBlock p ss j) zeroSpare) w)) (k .spares) (record {
         foot = foot-step w d j (k .foot) dl (k .at) jl;
         at = foot-pointer w d j (k .foot) dl (k .at) jl;
         spares = foot-spares w d j (k .foot) dl (k .at) jl ∙ k .spares;
@@ -170,9 +171,9 @@ module _ (p : Params) (r : Ranged p) (g₀ : Ghost) (a : List Val) (s : Bool) wh
       drive-step : ((d : ℕ) → d < p .N → pointerAt v d o ≡ suc (p .S + footersStored p (zoneAt v d o)))
           → (d : ℕ) (w : View) → d < p .N → Upto d w → Always (Footing o) w (feetOn d) × Upto (suc d) (storeAll storeView (feetOn d) w)
       drive-step starts d w dl k = (
-        run-always (Footing o) (Within d) st (footers p) (λ j u i. i .foot) (λ j u l i. within-step d j u dl l i) (footersStored p (zoneAt v d o))
+        run-always (Footing o) (FootWithin d) st (footers p) (λ j u i. i .foot) (λ j u l i. within-step d j u dl l i) (footersStored p (zoneAt v d o))
             (footers p - footersStored p (zoneAt v d o)) fits w begin?,
-        ended? (storeAll storeView (feetOn d) w) (run-end (Footing o) (Within d) st (footers p) (λ j u i. i .foot)
+        ended? (storeAll storeView (feetOn d) w) (run-end (Footing o) (FootWithin d) st (footers p) (λ j u i. i .foot)
             (λ j u l i. within-step d j u dl l i) (footersStored p (zoneAt v d o)) (footers p - footersStored p (zoneAt v d o)) (footers p) fits
             (omega (arith, stored-few (zoneAt v d o))) w begin?),
       )
@@ -183,7 +184,7 @@ module _ (p : Params) (r : Ranged p) (g₀ : Ghost) (a : List Val) (s : Bool) wh
           fits : footersStored p (zoneAt v d o) + (footers p - footersStored p (zoneAt v d o)) ≤ footers p
           fits = omega (arith, stored-few (zoneAt v d o))
 
-          begin? : Within d (footersStored p (zoneAt v d o)) w
+          begin? : FootWithin d (footersStored p (zoneAt v d o)) w
           begin? = record {
             foot = k .foot;
             at = pointer-zone w v d o (k .left d (omega arith)) ∙ starts d dl;
@@ -193,20 +194,20 @@ module _ (p : Params) (r : Ranged p) (g₀ : Ghost) (a : List Val) (s : Bool) wh
             other = k .other;
           }
 
-          ended? : (u : View) → Within d (footers p) u → Upto (suc d) u
+          ended? : (u : View) → FootWithin d (footers p) u → Upto (suc d) u
           ended? u i = record { foot = i .foot; done = λ e b l. done e b l (ℕ-discrete e d); left = λ e b. i .left e b; other = i .other }
             where
               done : (e : ℕ) → e < suc d → e < p .N → Dec (e ≡ d) → pointerAt u e o ≡ capacity p
               done e b l (yes q) = unfold capacity in (ap (λ (x : ℕ). pointerAt u x o) q ∙ i .at ∙ (let x : suc (p .S + footers p) ≡ 1 + p .S + footers p = omega arith in x))
               done e b l (no q) = i .done e (omega arith) l
 
-      within-sound : (d j : ℕ) (w : View) → d < p .N → j < footers p → Within d j w → Sound p w (put d o (footerBlock p (sparesIn p (zoneAt v d o)) j) zeroSpare)
+      within-sound : (d j : ℕ) (w : View) → d < p .N → j < footers p → FootWithin d j w → Sound p w (put d o (footerBlock p (sparesIn p (zoneAt v d o)) j) zeroSpare)
       within-sound d j w dl jl k = subst (λ (ss : List (List ℕ)). Sound p w (put d o (footerBlock p ss j) zeroSpare)) (k .spares) (sound w d j (k .foot) dl (k .at) jl)
 
       drive-sound : ((d : ℕ) → d < p .N → pointerAt v d o ≡ suc (p .S + footersStored p (zoneAt v d o)))
           → (d : ℕ) (w : View) → d < p .N → Upto d w → AllSound p w (feetOn d) × Upto (suc d) (storeAll storeView (feetOn d) w)
       drive-sound starts d w dl k = (
-        run-sound p (Within d) (λ j. put d o (footerBlock p (sparesIn p (zoneAt v d o)) j) zeroSpare) (footers p) (λ j u l i. within-step d j u dl l i) (λ j u l i. within-sound d j u dl l i)
+        run-sound p (FootWithin d) (λ j. put d o (footerBlock p (sparesIn p (zoneAt v d o)) j) zeroSpare) (footers p) (λ j u l i. within-step d j u dl l i) (λ j u l i. within-sound d j u dl l i)
             (footersStored p (zoneAt v d o)) (footers p - footersStored p (zoneAt v d o)) (omega (arith, stored-few (zoneAt v d o))) w (record {
               foot = k .foot;
               at = pointer-zone w v d o (k .left d (omega arith)) ∙ starts d dl;
@@ -237,7 +238,7 @@ module _ (p : Params) (r : Ranged p) (g₀ : Ghost) (a : List Val) (s : Bool) wh
 
 -- ---- a whole segment
 
-module _ (p : Params) (r : Ranged p) (g : Ghost) (v : View) (k : Settled p r g v) (o : ℕ) (i : Has o (remaining p v 0)) (w : isWhole p (segmentOf p v 0 o) ≡ true) where
+module _ (p : Params) (r : Ranged p) (g : Ghost) (v : View) (k : SettledOn p r g v) (o : ℕ) (i : Has o (remaining p v 0)) (w : isWhole p (segmentOf p v 0 o) ≡ true) where
   abbrev G : Segment
   G = segmentOf p v 0 o
 
@@ -245,7 +246,7 @@ module _ (p : Params) (r : Ranged p) (g : Ghost) (v : View) (k : Settled p r g v
   ob = settled-used p r g v k o i .0
 
   all-count : (s : ℕ) → s < p .S → Has s (counted p 0 G)
-  all-count s l = unfold counted in has-keep (counts p 0 G) s (below (p .S)) (has-below s (p .S) l) (keep-full (counts p 0 G) (below (p .S)) full s (has-below s (p .S) l))
+  all-count s l = unfold counted in has-keep (counts p 0 G) s (below (p .S)) (has-below s (p .S) l) (keep-whole (counts p 0 G) (below (p .S)) full s (has-below s (p .S) l))
     where
       full : length (keep (counts p 0 G) (below (p .S))) ≡ length (below (p .S))
       full = long ∙ sym (length-below (p .S))
@@ -253,7 +254,7 @@ module _ (p : Params) (r : Ranged p) (g : Ghost) (v : View) (k : Settled p r g v
           long : length (keep (counts p 0 G) (below (p .S))) ≡ p .S
           long = unfold isWhole counted in eqb-true (length (keep (counts p 0 G) (below (p .S)))) (p .S) w
 
-  pub whole-stripes : (d t : ℕ) → d < p .N → t < p .S → (x : Val) × In (chunk t x) (itemsIn p v d o)
+  pub whole-stripes : (d t : ℕ) → d < p .N → t < p .S → (x : Val) × InI (chunk t x) (itemsIn p v d o)
   whole-stripes d t l b =
       let st : Stripe (parOf p r) (itemsIn p v) (isIn 0) o t (pieceAt p r g v (k .on) 0 (none-choice p r g v k) o t) =
       counted-stripe p r g v (k .on) 0 (none-choice p r g v k) o t ob (all-count t b) in
@@ -297,19 +298,19 @@ module _ (p : Params) (r : Ranged p) (g : Ghost) (v : View) (k : Settled p r g v
 
 -- ---- once all footers stand, every segment is full
 
-module _ (p : Params) (r : Ranged p) (g₀ : Ghost) (a : List Val) (s : Bool) (v u : View) (k : Settled p r (withPr g₀ alone) v) (o : ℕ) (i : Has o (remaining p v 0))
+module _ (p : Params) (r : Ranged p) (g₀ : Ghost) (a : List Val) (s : Bool) (v u : View) (k : SettledOn p r (withPr g₀ alone) v) (o : ℕ) (i : Has o (remaining p v 0))
     (un : segmentOf p v 0 o .full ≡ false) (q : Upto p r g₀ a s o (settled-used p r (withPr g₀ alone) v k o i .0) v (p .N) u) where
   all-full : (z : ℕ) → Has z (remaining p u 0) → segmentOf p u 0 z .full ≡ false → ⊥
   all-full z j e = go (ℕ-discrete z o)
     where
-      set : Settled p r (withPr g₀ alone) u
+      set : SettledOn p r (withPr g₀ alone) u
       set = q .foot .set
 
       go : Dec (z ≡ o) → ⊥
-      go (yes w) = clash sealed (sym (full-is p r (withPr g₀ alone) u set o) ∙ ap (λ (x : ℕ). segmentOf p u 0 x .full) (sym w) ∙ e)
+      go (yes w) = clash sealed (sym (full-sealed p r (withPr g₀ alone) u set o) ∙ ap (λ (x : ℕ). segmentOf p u 0 x .full) (sym w) ∙ e)
         where
           sealed : sealedIn p u 0 o ≡ true
-          sealed = unfold sealedIn zoneOn in present-all p 0 (λ d. eqb (pointerAt u d o) (capacity p)) (λ d l n. eq-eqb (pointerAt u d o) (capacity p) (q .done d l l))
+          sealed = unfold sealedIn zoneOn in all-on-present p 0 (λ d. eqb (pointerAt u d o) (capacity p)) (λ d l n. eq-eqb (pointerAt u d o) (capacity p) (q .done d l l))
       go (no w) =
           let same : (d : ℕ) → d < p .N → zoneAt u d z ≡ zoneAt v d z = λ d l. q .other d z w in
           let used? : (z < p .Z) × Used (parOf p r) (g₀ .un) (itemsIn p u) z = settled-used p r (withPr g₀ alone) u set z j in

@@ -37,7 +37,7 @@ use Rattle.proof_crash_machine.specs.View.{applyAll}
 use Rattle.proof_crash_items.specs.Member.{Has, keep-has, has-keep, has-any, map-has, has-map, firstOr-has, greatest-some}
 use Rattle.proof_crash_items.specs.Named.{zero-choice, zero-few}
 use Rattle.proof_crash_items.specs.Refuse.{one-unsealed, free-zone}
-use Rattle.proof_crash_items.specs.SegFacts.{seg-low, begun-on, serial-is}
+use Rattle.proof_crash_items.specs.SegFacts.{seg-low, begun-on, serial-ghost}
 use Rattle.proof_crash_items.specs.Segs.{OnDrives, zone-bytes, head-serials}
 use Rattle.proof_crash_items.specs.Sound.{AllSound, sound-append}
 use Rattle.proof_crash_items.specs.Stripes.{pointer-is}
@@ -50,7 +50,7 @@ use Rattle.proof_crash_restarts.specs.Feet.{Footing, Upto, feet-sound, f
 use Rattle.proof_crash_restarts.specs.Link.{Linked, linked-on, CutTo}
 use Rattle.proof_crash_restarts.specs.Moved.{rewrite-follows}
 use Rattle.proof_crash_restarts.specs.MovedEnd.{drops-cut, moved-cut, moved-done}
-use Rattle.proof_crash_restarts.specs.Rest.{Settled, settled-used, dropped-items, after-settled, zone-after, free-after, remaining-same, segments-same}
+use Rattle.proof_crash_restarts.specs.Rest.{SettledOn, settled-used, dropped-items, after-settled, kept-zone-after, free-after, remaining-same, segments-same}
 use Rattle.proof_crash_restarts.specs.Runs.{Always, always-append}
 use Rattle.proof_crash_restarts.specs.Same.{segment-same}
 
@@ -78,7 +78,7 @@ module _ (p : Params) (r : Ranged p) (v₀ : View) (g₀ : Ghost) (a : List Val)
   abbrev v : View
   v = storeAll storeView (dropStores p (segments p v₀ 0)) v₀
 
-  abbrev k : Settled p r (withPr g₀ alone) v
+  abbrev k : SettledOn p r (withPr g₀ alone) v
   k = after-settled p r g₀ v₀ (linked-on p r v₀ g₀ a s m lk) none
 
   same-gs : segments p v 0 ≡ gs
@@ -102,7 +102,7 @@ module _ (p : Params) (r : Ranged p) (v₀ : View) (g₀ : Ghost) (a : List Val)
     i = subst (λ (l : List ℕ). Has o l) (sym (remaining-same p r g₀ v₀ on₀ none)) i₀
 
     same-G : segmentOf p v 0 o ≡ segmentOf p v₀ 0 o
-    same-G = segment-same p r v₀ v 0 o (zero-few p r) (λ d b. zone-after p r g₀ v₀ on₀ none d o i₀)
+    same-G = segment-same p r v₀ v 0 o (zero-few p r) (λ d b. kept-zone-after p r g₀ v₀ on₀ none d o i₀)
 
     un : segmentOf p v 0 o .full ≡ false
     un = ap (λ (x : Segment). x .full) same-G ∙ un₀
@@ -173,7 +173,7 @@ module _ (p : Params) (r : Ranged p) (v₀ : View) (g₀ : Ghost) (a : List Val)
             let b : 0 < pointerAt v₀ 0 z = begun-on p r g₀ v₀ on₀ 0 (zero-choice p r (g₀ .un) none) z j 0 d0 (isIn-empty 0) in
             let h : headerSerial (headerAt v₀ 0 z) ≡ g₀ .hd .ser z = head-serials p r g₀ v₀ on₀ 0 z d0 t zb b .0 in
             let q : headerSerial (headerAt v₀ 0 z) < 256 ^ 8 = wide z (zone-bytes p r g₀ v₀ on₀ 0 z d0 t zb .serials (subst (λ (x : ℕ). 0 < x) (sym (pointer-is v₀ 0 z)) b) .0) in
-            subst (λ (x : ℕ). x < 256 ^ 8) (h ∙ sym (serial-is p r g₀ v₀ on₀ 0 (zero-choice p r (g₀ .un) none) z j)) q
+            subst (λ (x : ℕ). x < 256 ^ 8) (h ∙ sym (serial-ghost p r g₀ v₀ on₀ 0 (zero-choice p r (g₀ .un) none) z j)) q
           where
             wide : (z : ℕ) → headerSerial (blockIn (zoneAt v₀ 0 z) 0 .block) < 256 ^ 8 → headerSerial (headerAt v₀ 0 z) < 256 ^ 8
             wide z l = unfold headerAt chunkAt zoneOn in l
@@ -272,8 +272,8 @@ module _ (p : Params) (r : Ranged p) (v₀ : View) (g₀ : Ghost) (a : List Val)
         cut zero = unfold storeAll in record { g′ = withPr g₀ alone; same = record { un = refl; said = refl; sent = refl; last = refl; base = refl; top = refl }; linked = linked₁ }
         cut (suc n) = unfold storeAll in record { g′ = withPr g₀ alone; same = record { un = refl; said = refl; sent = refl; last = refl; base = refl; top = refl }; linked = linked₁ }
 
-    in-order : isWhole p (segmentOf p v 0 o) ≡ false → isRagged p (segmentOf p v 0 o) ≡ false → InOrder p v
-    in-order nw nr z j e = rw (others-full z j e) (counted-in, uncounted-in, few-left p (segmentOf p v 0 o) nw)
+    even-in-order : isWhole p (segmentOf p v 0 o) ≡ false → isRagged p (segmentOf p v 0 o) ≡ false → InOrder p v
+    even-in-order nw nr z j e = rw (others-full z j e) (counted-in, uncounted-in, few-left p (segmentOf p v 0 o) nw)
       where
         G : Segment
         G = segmentOf p v 0 o
@@ -321,8 +321,8 @@ module _ (p : Params) (r : Ranged p) (v₀ : View) (g₀ : Ghost) (a : List Val)
         go false e true f = subst (AllSound p v) (sym (is false true e f)) (moved-right (ap (isRagged p) (sym same-G) ∙ f))
         go false e false f = subst (AllSound p v) (sym (is false false e f)) tt
 
-    mended : Both (mendStores p gs (segmentOf p v₀ 0 o))
-    mended = subst (λ (x : Segment). Both (mendStores p gs x)) same-G (go (isWhole p (segmentOf p v 0 o)) refl (isRagged p (segmentOf p v 0 o)) refl)
+    mend-both : Both (mendStores p gs (segmentOf p v₀ 0 o))
+    mend-both = subst (λ (x : Segment). Both (mendStores p gs x)) same-G (go (isWhole p (segmentOf p v 0 o)) refl (isRagged p (segmentOf p v 0 o)) refl)
       where
         is : (b c : Bool) → isWhole p (segmentOf p v 0 o) ≡ b → isRagged p (segmentOf p v 0 o) ≡ c
             → mendStores p gs (segmentOf p v 0 o)
@@ -335,7 +335,7 @@ module _ (p : Params) (r : Ranged p) (v₀ : View) (g₀ : Ghost) (a : List Val)
         go : (b : Bool) → isWhole p (segmentOf p v 0 o) ≡ b → (c : Bool) → isRagged p (segmentOf p v 0 o) ≡ c → Both (mendStores p gs (segmentOf p v 0 o))
         go true e c f = subst Both (sym (is true c e f)) (feet-both e)
         go false e true f = subst Both (sym (is false true e f)) (moved-both (ap (isRagged p) (sym same-G) ∙ f))
-        go false e false f = subst Both (sym (is false false e f)) (nothing (in-order e f))
+        go false e false f = subst Both (sym (is false false e f)) (nothing (even-in-order e f))
 
   -- ---- all together
   abbrev Whole? : List Store → Type 0
@@ -380,7 +380,7 @@ module _ (p : Params) (r : Ranged p) (v₀ : View) (g₀ : Ghost) (a : List Val)
       go (q ∷ []) e =
           let z : (z : ℕ) × Has z (remaining p v₀ 0) × (q ≡ segmentOf p v₀ 0 z) × (segmentOf p v₀ 0 z .full ≡ false) =
           from q (subst (λ (x : List Segment). Has q x) (sym e) (inl refl)) in
-          subst (λ (x : List Store). Whole? (dropStores p gs ++ x)) (single q (z .0) (z .2)) (join (mendStores p gs (segmentOf p v₀ 0 (z .0))) (mended (z .0) (z .1) (z .3)))
+          subst (λ (x : List Store). Whole? (dropStores p gs ++ x)) (single q (z .0) (z .2)) (join (mendStores p gs (segmentOf p v₀ 0 (z .0))) (mend-both (z .0) (z .1) (z .3)))
         where
           single : (q : Segment) (z : ℕ) → q ≡ segmentOf p v₀ 0 z → mendStores p gs (segmentOf p v₀ 0 z) ≡ flat (mendStores p gs) (q ∷ [])
           single q z h = unfold flat in (ap (mendStores p gs) (sym h) ∙ sym (append-nil (mendStores p gs q)))

@@ -8,16 +8,16 @@ use Rattle.spec.specs.declared.Params.{Params}
 use Rattle.spec.specs.Drives.{View, Store, storeView, storeAll}
 use Rattle.law_basic.specs.Geometry.{Ranged}
 use Rattle.proof_crash_machine.specs.Facts.{Ghost}
-use Rattle.proof_crash_machine.specs.History.{Mode, State as m-State, Inv, Step, kept}
+use Rattle.proof_crash_machine.specs.History.{Mode, State as m-State, Inv, Step, step-inv}
 use Rattle.proof_crash_machine.specs.History.Mode.{off}
 use Rattle.proof_crash_machine.specs.Val.{Val}
-use Rattle.proof_crash_machine.specs.View.{View as m-View, Store as m-Store}
+use Rattle.proof_crash_machine.specs.View.{ItemView, ItemStore}
 use Rattle.proof_crash_machine.specs.Mask.{Mask}
 use Rattle.proof_crash_items.specs.Items.{itemsIn}
 use Rattle.proof_crash_items.specs.Ranges.{parOf}
 use Rattle.proof_crash_items.specs.Segs.{OnDrives}
 use Rattle.proof_crash_items.specs.Shape.{Shape, shape-stores, fit-take}
-use Rattle.proof_crash_items.specs.Sound.{BytesOk, all-fit, bytes-stores, sound-take, Follows}
+use Rattle.proof_crash_items.specs.Sound.{BytesOk, sounds-fit, bytes-stores, sound-take, Follows}
 
 abbrev pub stateOn : Params → View → Ghost → List Val → Bool → Mode → m-State
 stateOn p v g a s m = record { g = g; v = itemsIn p v; acked = a; since = s; mode = m }
@@ -31,22 +31,22 @@ pub linked-on : (p : Params) (r : Ranged p) (v : View) (g : Ghost) (a : List Val
 linked-on p r v g a s m k = record { shape = k .shape; bytes = k .bytes; facts = k .inv .facts }
 
 -- a step of the machine whose drives are those of u
-pub linked-step : (p : Params) (r : Ranged p) (v u : View) (g g′ : Ghost) (a a′ : List Val) (s s′ : Bool) (m m′ : Mode) (w : m-View) → Linked p r v g a s m
+pub linked-step : (p : Params) (r : Ranged p) (v u : View) (g g′ : Ghost) (a a′ : List Val) (s s′ : Bool) (m m′ : Mode) (w : ItemView) → Linked p r v g a s m
     → Step (parOf p r) (stateOn p v g a s m) (record { g = g′; v = w; acked = a′; since = s′; mode = m′ }) → w ≡ itemsIn p u → Shape p u → BytesOk p (g′ .un) u → Linked p r u g′ a′ s′ m′
 linked-step p r v u g g′ a a′ s s′ m m′ w k st e h b = record {
   shape = h;
   bytes = b;
-  inv = subst (λ (x : m-View). Inv (parOf p r) (record { g = g′; v = x; acked = a′; since = s′; mode = m′ })) e
-      (kept (parOf p r) (stateOn p v g a s m) (record { g = g′; v = w; acked = a′; since = s′; mode = m′ }) (k .inv) st);
+  inv = subst (λ (x : ItemView). Inv (parOf p r) (record { g = g′; v = x; acked = a′; since = s′; mode = m′ })) e
+      (step-inv (parOf p r) (stateOn p v g a s m) (record { g = g′; v = w; acked = a′; since = s′; mode = m′ }) (k .inv) st);
 }
 
 -- sound stores keep shape and byte facts
-module _ (p : Params) (r : Ranged p) (v : View) (ss : List Store) (ms : List m-Store) (h : Shape p v) (f : Follows p v ss ms) where
+module _ (p : Params) (r : Ranged p) (v : View) (ss : List Store) (ms : List ItemStore) (h : Shape p v) (f : Follows p v ss ms) where
   pub shape-after : Shape p (storeAll storeView ss v)
-  shape-after = shape-stores p v ss h (all-fit p r v ss h (f .sound))
+  shape-after = shape-stores p v ss h (sounds-fit p r v ss h (f .sound))
 
   pub shape-cut : (n : ℕ) → Shape p (storeAll storeView (take n ss) v)
-  shape-cut n = shape-stores p v (take n ss) h (fit-take p v ss n (all-fit p r v ss h (f .sound)))
+  shape-cut n = shape-stores p v (take n ss) h (fit-take p v ss n (sounds-fit p r v ss h (f .sound)))
 
   pub bytes-after : (un : Mask) → BytesOk p un v → BytesOk p un (storeAll storeView ss v)
   bytes-after un b d l n = bytes-stores p r v ss h (f .sound) d (b d l n)

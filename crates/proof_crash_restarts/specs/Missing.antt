@@ -60,11 +60,11 @@ module _ (p : Params) (r : Ranged p) (v u : View) (g : Ghost) (a : List Val) (s 
   reads? : Reads (parOf p r) (g .hd) (itemsIn p u) (isIn m) missingRead
   reads? = unfold missingRead in reads p r (withUn g (isIn m)) u missing-on m missing-self
 
-  the-step : Step (parOf p r) (stateOn p v g a s mo) (record { g = finishing g (isIn m) missingRead (stampsTop (g .sent)) (g .sent); v = itemsIn p u; acked = a; since = false; mode = ro })
-  the-step = missing (stateOn p v g a s mo) (isIn m) (stampsTop (g .sent)) (itemsIn p u) missingRead lost ch items-same reads? (stamps-top (g .sent))
+  missing-finish-step : Step (parOf p r) (stateOn p v g a s mo) (record { g = finishing g (isIn m) missingRead (stampsTop (g .sent)) (g .sent); v = itemsIn p u; acked = a; since = false; mode = ro })
+  missing-finish-step = missing (stateOn p v g a s mo) (isIn m) (stampsTop (g .sent)) (itemsIn p u) missingRead lost ch items-same reads? (stamps-top (g .sent))
 
   pub missing-linked : Linked p r u (finishing g (isIn m) missingRead (stampsTop (g .sent)) (g .sent)) a false ro
-  missing-linked = linked-step p r v u g (finishing g (isIn m) missingRead (stampsTop (g .sent)) (g .sent)) a a s false mo ro (itemsIn p u) lk the-step refl sh (missing-on .bytes)
+  missing-linked = linked-step p r v u g (finishing g (isIn m) missingRead (stampsTop (g .sent)) (g .sent)) a a s false mo ro (itemsIn p u) lk missing-finish-step refl sh (missing-on .bytes)
 
   pub missing-claim : Claim (parOf p r) (stateOn p v g a s mo) (isIn m) missingRead
   missing-claim = claim (parOf p r) (stateOn p v g a s mo) (lk .inv) (withUn g (isIn m)) (itemsIn p u) (missing-on .facts) refl refl refl refl refl (isIn m) missing-self missingRead reads?

@@ -23,17 +23,17 @@ use Rattle.law_basic.specs.Stores.{storeAll-append}
 use Rattle.proof_crash_machine.specs.Facts.Pair.{pair}
 use Rattle.proof_crash_machine.specs.Facts.{Ghost}
 use Rattle.proof_crash_machine.specs.Name.{setN-same, naming}
-use Rattle.proof_crash_machine.specs.Rewrite.{Plan as m-Plan, item as m-item, copies, drops, st}
+use Rattle.proof_crash_machine.specs.Rewrite.{MovePlan, item as m-item, copies, drops, st}
 use Rattle.proof_crash_machine.specs.Steps.{list, rows}
-use Rattle.proof_crash_machine.specs.View.{Item, Store as m-Store}
+use Rattle.proof_crash_machine.specs.View.{Item, ItemStore}
 use Rattle.proof_crash_machine.specs.View.Item.{hdr, chunk}
-use Rattle.proof_crash_machine.specs.View.Store.{put as m-put, reset as m-reset}
+use Rattle.proof_crash_machine.specs.View.ItemStore.{put as m-put, reset as m-reset}
 use Rattle.proof_crash_items.specs.Items.{valueOf, storeItem}
 use Rattle.proof_crash_items.specs.Member.{Has, getD-has}
 use Rattle.proof_crash_items.specs.Ranges.{parOf}
-use Rattle.proof_crash_items.specs.SegFacts.{begun-on, serial-is}
+use Rattle.proof_crash_items.specs.SegFacts.{begun-on, serial-ghost}
 use Rattle.proof_crash_items.specs.Segs.{zone-bytes, head-serials}
-use Rattle.proof_crash_items.specs.Shape.{Shape, zone-set, zone-set-other, shape-store}
+use Rattle.proof_crash_items.specs.Shape.{Shape, zone-set-at, zone-set-else, shape-store}
 use Rattle.proof_crash_items.specs.Sound.{Sound, sound-fits, Follows, follows-nil, follows-append, store-put, follows-list, follows-end}
 use Rattle.proof_crash_items.specs.Stripes.{pointer-is}
 use Rattle.proof_crash_items.specs.Values.{pieceValue, value-same}
@@ -41,14 +41,14 @@ use Rattle.proof_crash_items.specs.ZoneBytes.{blockIn, Kind, kindItem}
 use Rattle.proof_crash_items.specs.ZoneBytes.Kind.{header, datum}
 use Rattle.proof_crash_restarts.specs.Drops.{reset-follows}
 use Rattle.proof_crash_restarts.specs.Ends.{none-choice}
-use Rattle.proof_crash_restarts.specs.MovedPlan.{moved-wide, moved-long, moved-stripe, plan-few, plan-F, plan-F-is, planOf}
+use Rattle.proof_crash_restarts.specs.MovedPlan.{moved-wide, moved-value-long, moved-rec-stripe, plan-few, plan-F, plan-F-is, planOf}
 use Rattle.proof_crash_restarts.specs.Order.{pointer-zone}
-use Rattle.proof_crash_restarts.specs.Rest.{Settled, far-off, settled-used}
+use Rattle.proof_crash_restarts.specs.Rest.{SettledOn, far-off, settled-used}
 
-pub list-map : (f : ℕ → m-Store) (j n : ℕ) → list f j n ≡ map f (upFrom j n)
+pub list-map : (f : ℕ → ItemStore) (j n : ℕ) → list f j n ≡ map f (upFrom j n)
 unfolding list upFrom
 list-map f j zero = refl
-list-map f j (suc n) = ap (λ (l : List m-Store). f j ∷ l) (list-map f (suc j) n)
+list-map f j (suc n) = ap (λ (l : List ItemStore). f j ∷ l) (list-map f (suc j) n)
 
 module _ (p : Params) (r : Ranged p) (v : View) (w : ℕ) (wb : w < p .Z) where
   -- drives below d have block t of zone w, the others have just the blocks before it; other zones are as they were
@@ -67,28 +67,28 @@ module _ (p : Params) (r : Ranged p) (v : View) (w : ℕ) (wb : w < p .Z) where
   }
     where
       other : (e y : ℕ) → (e ≢ d) ⊎ (y ≢ w) → zoneAt (storeView (put d w b sp) u) e y ≡ zoneAt u e y
-      other e y n = unfold storeView in zone-set-other p u (a .shape) d w (putZone b sp (zoneAt u d w)) l e y n
+      other e y n = unfold storeView in zone-set-else p u (a .shape) d w (putZone b sp (zoneAt u d w)) l e y n
 
       here : pointerAt (storeView (put d w b sp) u) d w ≡ suc (pointerAt u d w)
-      here = unfold storeView pointerAt in (ap (λ (q : Zone). q .pointer) (zone-set p u (a .shape) d w (putZone b sp (zoneAt u d w)) l wb) ∙ (unfold putZone in refl))
+      here = unfold storeView pointerAt in (ap (λ (q : Zone). q .pointer) (zone-set-at p u (a .shape) d w (putZone b sp (zoneAt u d w)) l wb) ∙ (unfold putZone in refl))
 
       go : (e : ℕ) → e < p .N → e < suc d → Dec (e ≡ d) → pointerAt (storeView (put d w b sp) u) e w ≡ suc t
       go e el eb (yes q) = ap (λ (x : ℕ). pointerAt (storeView (put d w b sp) u) x w) q ∙ here ∙ ap suc (a .left d l (omega arith))
       go e el eb (no q) = pointer-zone (storeView (put d w b sp) u) u e w (other e w (inl q)) ∙ a .done e el (omega arith)
 
-  pub at-turn : (t : ℕ) (u : View) → At t (p .N) u → At (suc t) 0 u
-  at-turn t u a = record { shape = a .shape; done = λ e l b. absurd (let q : ⊥ = omega arith in q); left = λ e l b. a .done e l l; other = a .other }
+  pub moved-turn : (t : ℕ) (u : View) → At t (p .N) u → At (suc t) 0 u
+  moved-turn t u a = record { shape = a .shape; done = λ e l b. absurd (let q : ⊥ = omega arith in q); left = λ e l b. a .done e l l; other = a .other }
 
   -- a row: one store on each drive
   module _ (t : ℕ) (b sp : ℕ → List ℕ) (it : ℕ → Item)
       (kind : (d : ℕ) (u : View) → d < p .N → At t d u → (k : Kind p d w (zoneAt u d w) (b d) (sp d)) × (kindItem p d w (zoneAt u d w) (b d) (sp d) k ≡ it d)) where
-    row-step :
+    moved-row-step :
         (d : ℕ) (u : View)
         → d < p .N
         → At t d u
         → Sound p u (put d w (b d) (sp d)) × (storeItem p u (put d w (b d) (sp d)) ≡ m-put d w (it d)) × At t (suc d)
         (storeView (put d w (b d) (sp d)) u)
-    row-step d u l a =
+    moved-row-step d u l a =
         let k : (k : Kind p d w (zoneAt u d w) (b d) (sp d)) × (kindItem p d w (zoneAt u d w) (b d) (sp d) k ≡ it d) = kind d u l a in
         ((l, wb, k .0), store-put p u d w (b d) (sp d) (k .0) ∙ ap (m-put d w) (k .1), at-next t d u (b d) (sp d) l a (k .0))
 
@@ -96,12 +96,12 @@ module _ (p : Params) (r : Ranged p) (v : View) (w : ℕ) (wb : w < p .Z) where
         → Follows p u (map (λ d. put d w (b d) (sp d)) (upFrom 0 (p .N))) (list (λ d. m-put d w (it d)) 0 (p .N))
         × At (suc t) 0 (storeAll storeView (map (λ d. put d w (b d) (sp d)) (upFrom 0 (p .N))) u)
     row-follows u a = (
-      follows-list p (At t) (λ d. put d w (b d) (sp d)) (λ d. m-put d w (it d)) (p .N) row-step 0 (p .N) (omega arith) u a,
-      at-turn t (storeAll storeView (map (λ d. put d w (b d) (sp d)) (upFrom 0 (p .N))) u)
-          (follows-end p (At t) (λ d. put d w (b d) (sp d)) (λ d. m-put d w (it d)) (p .N) row-step 0 (p .N) (p .N) (omega arith) (omega arith) u a),
+      follows-list p (At t) (λ d. put d w (b d) (sp d)) (λ d. m-put d w (it d)) (p .N) moved-row-step 0 (p .N) (omega arith) u a,
+      moved-turn t (storeAll storeView (map (λ d. put d w (b d) (sp d)) (upFrom 0 (p .N))) u)
+          (follows-end p (At t) (λ d. put d w (b d) (sp d)) (λ d. m-put d w (it d)) (p .N) moved-row-step 0 (p .N) (p .N) (omega arith) (omega arith) u a),
     )
 
-module _ (p : Params) (r : Ranged p) (g : Ghost) (v : View) (k : Settled p r g v) (o : ℕ) (i : Has o (remaining p v 0)) (w : ℕ) (wb : w < p .Z)
+module _ (p : Params) (r : Ranged p) (g : Ghost) (v : View) (k : SettledOn p r g v) (o : ℕ) (i : Has o (remaining p v 0)) (w : ℕ) (wb : w < p .Z)
     (empty : (e : ℕ) → e < p .N → pointerAt v e w ≡ 0) (n : ℕ) (nl : n < 256 ^ 8) where
   abbrev G : Segment
   G = segmentOf p v 0 o
@@ -109,14 +109,14 @@ module _ (p : Params) (r : Ranged p) (g : Ghost) (v : View) (k : Settled p r g v
   abbrev gM : Ghost
   gM = naming g w n (g .hd .ser o) (zoneOn w) (pair w o)
 
-  abbrev π : m-Plan (parOf p r)
+  abbrev π : MovePlan (parOf p r)
   π = planOf p r g v k o i
 
   ob : o < p .Z
   ob = settled-used p r g v k o i .0
 
   old-serial : G .serial ≡ g .hd .ser o
-  old-serial = serial-is p r g v (k .on) 0 (none-choice p r g v k) o i
+  old-serial = serial-ghost p r g v (k .on) 0 (none-choice p r g v k) o i
 
   -- it is a serial that the header's bytes hold
   old-wide : G .serial < 256 ^ 8
@@ -138,20 +138,20 @@ module _ (p : Params) (r : Ranged p) (g : Ghost) (v : View) (k : Settled p r g v
   header-is : (d : ℕ) → hdr n (G .serial) (zoneOn w) ≡ m-item (parOf p r) gM w o π 0 d
   header-is d = unfold m-item in λ j. hdr (sym (setN-same (g .hd .ser) w n) j) (sym (setN-same (g .hd .cop) w (g .hd .ser o) ∙ sym old-serial) j) (sym (setN-same (g .hd .zn) w (zoneOn w)) j)
 
-  abbrev row : ℕ → ℕ → m-Store
+  abbrev row : ℕ → ℕ → ItemStore
   row j d = st (parOf p r) gM w o π j d
 
-  headers-follow : Follows p v (headerStores p w n (G .serial)) (list (row 0) 0 (p .N)) × At p r v w wb 1 0 (storeAll storeView (headerStores p w n (G .serial)) v)
+  moved-headers-follow : Follows p v (headerStores p w n (G .serial)) (list (row 0) 0 (p .N)) × At p r v w wb 1 0 (storeAll storeView (headerStores p w n (G .serial)) v)
   unfolding headerStores drivesOf below zoneOn st
-  headers-follow = row-follows p r v w wb 0 (λ d. headerBlock p d w n (G .serial)) (λ d. zeroSpare) (λ d. m-item (parOf p r) gM w o π 0 d)
+  moved-headers-follow = row-follows p r v w wb 0 (λ d. headerBlock p d w n (G .serial)) (λ d. zeroSpare) (λ d. m-item (parOf p r) gM w o π 0 d)
       (λ d u l a. (header n (G .serial) (pointer-is u d w ∙ a .left d l (omega arith)) (omega (arith, wb, r .zones-high)) nl old-wide, (unfold kindItem in header-is d))) v first
 
   -- ---- a stripe
   abbrev cs : List ℕ
   cs = counted p 0 G
 
-  stripe-is : (j d : ℕ) (q : Piece) → q .rec .stripe ≡ j → pieceValue q ≡ plan-F p r g v k o i j d → chunk (q .rec .stripe) (valueOf (q .block) (q .rec)) ≡ m-item (parOf p r) gM w o π (suc j) d
-  stripe-is j d q e f = unfold m-item in ap₂ chunk e (sym (value-same (q .block) (q .rec)) ∙ f)
+  moved-item-is : (j d : ℕ) (q : Piece) → q .rec .stripe ≡ j → pieceValue q ≡ plan-F p r g v k o i j d → chunk (q .rec .stripe) (valueOf (q .block) (q .rec)) ≡ m-item (parOf p r) gM w o π (suc j) d
+  moved-item-is j d q e f = unfold m-item in ap₂ chunk e (sym (value-same (q .block) (q .rec)) ∙ f)
 
   stripe-follow : (s j : ℕ) → Has s (counted p 0 G) → j < p .S → s ≡ getD (counted p 0 G) j 0 → (u : View) → At p r v w wb (suc j) 0 u
       → Follows p u (movedStripe p G w s j) (list (row (suc j)) 0 (p .N)) × At p r v w wb (suc (suc j)) 0 (storeAll storeView (movedStripe p G w s j) u)
@@ -160,8 +160,8 @@ module _ (p : Params) (r : Ranged p) (g : Ghost) (v : View) (k : Settled p r g v
       (λ d. m-item (parOf p r) gM w o π (suc j) d)
       (λ d x l b. (
         datum j (movedOn p (movedPieces p G s j) j d .block) (movedOn p (movedPieces p G s j) j d .rec) (pointer-is x d w ∙ b .left d l (omega arith)) jl
-            (moved-long p r g v k o i s j h jl d l) (moved-wide p r g v k o i s j h jl d l),
-        (unfold kindItem in stripe-is j d (movedOn p (movedPieces p G s j) j d) (moved-stripe p r g v k o i s j h jl d l) (plan-is d)),
+            (moved-value-long p r g v k o i s j h jl d l) (moved-wide p r g v k o i s j h jl d l),
+        (unfold kindItem in moved-item-is j d (movedOn p (movedPieces p G s j) j d) (moved-rec-stripe p r g v k o i s j h jl d l) (plan-is d)),
       )) u a
     where
       plan-is : (d : ℕ) → pieceValue (movedOn p (movedPieces p G s j) j d) ≡ plan-F p r g v k o i j d
@@ -200,7 +200,7 @@ module _ (p : Params) (r : Ranged p) (g : Ghost) (v : View) (k : Settled p r g v
   pub rewrite-follows : Follows p v (rewriteStores p G w n) (copies (parOf p r) gM w o π ++ drops (parOf p r) gM w o π)
   unfolding rewriteStores copies rows
   rewrite-follows =
-      let a : Follows p v (headerStores p w n (G .serial)) (list (row 0) 0 (p .N)) × At p r v w wb 1 0 (storeAll storeView (headerStores p w n (G .serial)) v) = headers-follow in
+      let a : Follows p v (headerStores p w n (G .serial)) (list (row 0) 0 (p .N)) × At p r v w wb 1 0 (storeAll storeView (headerStores p w n (G .serial)) v) = moved-headers-follow in
       let v₁ : View = storeAll storeView (headerStores p w n (G .serial)) v in
       let b : Follows p v₁ (movedStripes p G w (counted p 0 G) 0) (rows row (p .N) 1 (length cs)) = moved? v₁ (a .1) in
       follows-append p v (headerStores p w n (G .serial) ++ movedStripes p G w (counted p 0 G) 0) (resetStores p (G .seg))

@@ -18,7 +18,7 @@ use Rattle.spec.specs.Segments.{remaining, Segment, segmentOf, segments, hasChu
 use Rattle.law_basic.specs.Geometry.{Ranged}
 use Rattle.law_basic.specs.Ranges.{length-below, and-false}
 use Rattle.proof_crash_machine.specs.Facts.Pair.{alone, pair}
-use Rattle.proof_crash_machine.specs.Facts.{Ghost, Choice, R, Counted, Used, Whole as m-Whole, Ragged, Facts, used, None, none-fair, self-none}
+use Rattle.proof_crash_machine.specs.Facts.{Ghost, Choice, R, Counted, Used, WholeZone, Ragged, Facts, used, None, none-fair, self-none}
 use Rattle.proof_crash_machine.specs.Finish.{Reads, upTo, finishing, Clean}
 use Rattle.proof_crash_machine.specs.Ghosts.{withPr}
 use Rattle.proof_crash_machine.specs.History.{Mode, Step, Claim, claim}
@@ -28,10 +28,10 @@ use Rattle.proof_crash_machine.specs.Lemma.{pair-alone}
 use Rattle.proof_crash_machine.specs.Memory2.{restMem}
 use Rattle.proof_crash_machine.specs.Name.{naming}
 use Rattle.proof_crash_machine.specs.Restart.{Ready, rewrite-low, rewrite-has, rewrite-others, rewrite-empty, rewrite-end, rewrite-clean}
-use Rattle.proof_crash_machine.specs.Rewrite.{Plan as m-Plan, copies, drops}
+use Rattle.proof_crash_machine.specs.Rewrite.{MovePlan, copies, drops}
 use Rattle.proof_crash_machine.specs.Steps.{applyAll-append}
 use Rattle.proof_crash_machine.specs.Val.{Val}
-use Rattle.proof_crash_machine.specs.View.{Item, View as m-View, Store as m-Store, applyAll, In}
+use Rattle.proof_crash_machine.specs.View.{Item, ItemView, ItemStore, applyAll, InI}
 use Rattle.proof_crash_machine.specs.View.Item.{chunk}
 use Rattle.proof_crash_items.specs.Items.{itemsIn}
 use Rattle.proof_crash_items.specs.Member.{Has, and-false-1, keep-has, keep-nil, below-has, has-below, any-has}
@@ -50,7 +50,7 @@ use Rattle.proof_crash_restarts.specs.Link.{stateOn, Linked, linked-on, 
 use Rattle.proof_crash_restarts.specs.Moved.{rewrite-follows}
 use Rattle.proof_crash_restarts.specs.MovedPlan.{plan-few, planOf, plan-ready}
 use Rattle.proof_crash_restarts.specs.Order.{rising-same}
-use Rattle.proof_crash_restarts.specs.Rest.{Settled, far-off, dropped-items, after-settled}
+use Rattle.proof_crash_restarts.specs.Rest.{SettledOn, far-off, dropped-items, after-settled}
 use Rattle.proof_crash_restarts.specs.Runs.{Always}
 
 module _ (p : Params) (r : Ranged p) (v₀ : View) (g₀ : Ghost) (a : List Val) (s : Bool) (m : Mode) (lk : Linked p r v₀ g₀ a s m) (none : None (parOf p r) (g₀ .un)) where
@@ -63,10 +63,10 @@ module _ (p : Params) (r : Ranged p) (v₀ : View) (g₀ : Ghost) (a : List Val)
   abbrev v : View
   v = storeAll storeView (dropStores p (segments p v₀ 0)) v₀
 
-  abbrev k : Settled p r (withPr g₀ alone) v
+  abbrev k : SettledOn p r (withPr g₀ alone) v
   k = after-settled p r g₀ v₀ (linked-on p r v₀ g₀ a s m lk) none
 
-  abbrev ms : List m-Store
+  abbrev ms : List ItemStore
   ms = dropItems p (segments p v₀ 0)
 
   -- cut while it resets
@@ -87,7 +87,7 @@ module _ (p : Params) (r : Ranged p) (v₀ : View) (g₀ : Ghost) (a : List Val)
   module _ (o : ℕ) (i : Has o (remaining p v 0)) (un : segmentOf p v 0 o .full ≡ false)
       (w : ℕ) (wb : w < p .Z) (empty : (e : ℕ) → e < p .N → pointerAt v e w ≡ 0) (n : ℕ) (nl : n < 256 ^ 8) (top : serialTop p v < n)
       (part : length (counted p 0 (segmentOf p v 0 o)) < p .S) where
-    abbrev π : m-Plan (parOf p r)
+    abbrev π : MovePlan (parOf p r)
     π = planOf p r (withPr g₀ alone) v k o i
 
     abbrev gM : Ghost
@@ -96,14 +96,14 @@ module _ (p : Params) (r : Ranged p) (v₀ : View) (g₀ : Ghost) (a : List Val)
     abbrev ss : List Store
     ss = rewriteStores p (segmentOf p v 0 o) w n
 
-    abbrev tail : List m-Store
+    abbrev tail : List ItemStore
     tail = copies (parOf p r) gM w o π ++ drops (parOf p r) gM w o π
 
     follow : Follows p v ss tail
     follow = rewrite-follows p r (withPr g₀ alone) v k o i w wb empty n nl
 
-    abbrev ready : Ready (parOf p r) (withPr g₀ alone) (itemsIn p v) w o n π
-    ready = plan-ready p r (withPr g₀ alone) v k o i w un wb empty n top (itemsIn p v) refl refl
+    abbrev moved-ready : Ready (parOf p r) (withPr g₀ alone) (itemsIn p v) w o n π
+    moved-ready = plan-ready p r (withPr g₀ alone) v k o i w un wb empty n top (itemsIn p v) refl refl
 
     abbrev ready₀ : Ready (parOf p r) (withPr g₀ alone) (applyAll (itemsIn p v₀) ms) w o n π
     ready₀ = plan-ready p r (withPr g₀ alone) v k o i w un wb empty n top (applyAll (itemsIn p v₀) ms) (dropped-items p r g₀ v₀ on₀ none) refl
@@ -115,7 +115,7 @@ module _ (p : Params) (r : Ranged p) (v₀ : View) (g₀ : Ghost) (a : List Val)
       same = record { un = refl; said = refl; sent = refl; last = refl; base = refl; top = refl };
       linked = linked-step p r v₀ (storeAll storeView (take j ss) v) g₀ gM a a s s m off (applyAll (applyAll (itemsIn p v₀) ms) (take j tail)) lk
           (restart-cut₂ (stateOn p v₀ g₀ a s m) j none ms (dropping p r g₀ v₀ on₀ none) w o n π ready₀)
-          (ap (λ (u : m-View). applyAll u (take j tail)) (sym (dropped-items p r g₀ v₀ on₀ none)) ∙ sym (follows-cut p r v ss tail j (k .on .shape) follow))
+          (ap (λ (u : ItemView). applyAll u (take j tail)) (sym (dropped-items p r g₀ v₀ on₀ none)) ∙ sym (follows-cut p r v ss tail j (k .on .shape) follow))
           (shape-cut p r v ss tail (k .on .shape) follow j) (bytes-cut p r v ss tail (k .on .shape) follow (g₀ .un) j (k .on .bytes));
     }
 
@@ -130,10 +130,10 @@ module _ (p : Params) (r : Ranged p) (v₀ : View) (g₀ : Ghost) (a : List Val)
     gE = withPr gM alone
 
     facts-end : Facts (parOf p r) gE (applyAll (itemsIn p v) tail)
-    facts-end = rewrite-end (parOf p r) (withPr g₀ alone) (itemsIn p v) w o n π ready (k .rest) (k .on .facts)
+    facts-end = rewrite-end (parOf p r) (withPr g₀ alone) (itemsIn p v) w o n π moved-ready (k .rest) (k .on .facts)
 
     clean-end : Clean (parOf p r) gE (applyAll (itemsIn p v) tail)
-    clean-end = rewrite-clean (parOf p r) (withPr g₀ alone) (itemsIn p v) w o n π ready (k .rest) (k .on .facts)
+    clean-end = rewrite-clean (parOf p r) (withPr g₀ alone) (itemsIn p v) w o n π moved-ready (k .rest) (k .on .facts)
 
     rest-end : (z : ℕ) → Used (parOf p r) (g₀ .un) (applyAll (itemsIn p v) tail) z → R (parOf p r) (gE .hd) (applyAll (itemsIn p v) tail) (g₀ .un) z
     rest-end z q = record {
@@ -141,42 +141,45 @@ module _ (p : Params) (r : Ranged p) (v₀ : View) (g₀ : Ghost) (a : List Val)
       own = λ y l e. pair-alone (sym (facts-end .swap .one z y q (used (parOf p r) gE (applyAll (itemsIn p v) tail) (g₀ .un) y (self-none (parOf p r) (g₀ .un) none) l) e));
     }
 
-    set-end : Settled p r gE u
+    set-end : SettledOn p r gE u
     set-end = record {
       on = record {
         shape = shape-after p r v ss tail (k .on .shape) follow;
         bytes = bytes-after p r v ss tail (k .on .shape) follow (g₀ .un) (k .on .bytes);
-        facts = subst (λ (x : m-View). Facts (parOf p r) gE x) (sym items-end) facts-end;
+        facts = subst (λ (x : ItemView). Facts (parOf p r) gE x) (sym items-end) facts-end;
       };
       none = none;
       no-pair = refl;
-      rest = subst (λ (x : m-View). (z : ℕ) → Used (parOf p r) (g₀ .un) x z → R (parOf p r) (gE .hd) x (g₀ .un) z) (sym items-end) rest-end;
+      rest = subst (λ (x : ItemView). (z : ℕ) → Used (parOf p r) (g₀ .un) x z → R (parOf p r) (gE .hd) x (g₀ .un) z) (sym items-end) rest-end;
     }
 
     abbrev c : ℕ
     c = length (counted p 0 (segmentOf p v 0 o))
 
-    low-end : (d t : ℕ) (x : Val) → d < p .N → In (chunk t x) (itemsIn p u d w) → t < c
-    low-end d t x l q = rewrite-low (parOf p r) (withPr g₀ alone) (itemsIn p v) w o n π ready (k .rest) (k .on .facts) d t x l (subst (λ (y : m-View). In (chunk t x) (y d w)) items-end q)
+    low-end : (d t : ℕ) (x : Val) → d < p .N → InI (chunk t x) (itemsIn p u d w) → t < c
+    low-end d t x l q = rewrite-low (parOf p r) (withPr g₀ alone) (itemsIn p v) w o n π moved-ready (k .rest) (k .on .facts) d t x l (subst (λ (y : ItemView). InI (chunk t x) (y d w)) items-end q)
 
-    has-end : (d t : ℕ) → d < p .N → t < c → (x : Val) × In (chunk t x) (itemsIn p u d w)
-    has-end d t l b =
-        (π .F t d, subst (λ (y : m-View). In (chunk t (π .F t d)) (y d w)) (sym items-end) (rewrite-has (parOf p r) (withPr g₀ alone) (itemsIn p v) w o n π ready (k .rest) (k .on .facts) d t l b))
+    has-end : (d t : ℕ) → d < p .N → t < c → (x : Val) × InI (chunk t x) (itemsIn p u d w)
+    has-end d t l b = (
+      π .F t d,
+      subst (λ (y : ItemView). InI (chunk t (π .F t d)) (y d w)) (sym items-end)
+          (rewrite-has (parOf p r) (withPr g₀ alone) (itemsIn p v) w o n π moved-ready (k .rest) (k .on .facts) d t l b),
+    )
 
-    ch : Choice (parOf p r) (gE .un) (isIn 0)
-    ch = none-choice p r gE u set-end
+    choice-end : Choice (parOf p r) (gE .un) (isIn 0)
+    choice-end = none-choice p r gE u set-end
 
-    away : (d : ℕ) → d < p .N → isIn 0 d ≡ false
-    away d l = far-off p r gE u set-end d l
+    drives-there-end : (d : ℕ) → d < p .N → isIn 0 d ≡ false
+    drives-there-end d l = far-off p r gE u set-end d l
 
     counts-end : (t : ℕ) → t < c → Has t (counted p 0 (segmentOf p u 0 w))
-    counts-end t b = has-counted p r gE u (set-end .on) 0 ch w t (omega (arith, b, plan-few p r (withPr g₀ alone) v k o i))
-        (λ d l q. in-has-chunk p r gE u (set-end .on) 0 ch w t d (has-end d t l b .0) wb l q (has-end d t l b .1))
+    counts-end t b = has-counted p r gE u (set-end .on) 0 choice-end w t (omega (arith, b, plan-few p r (withPr g₀ alone) v k o i))
+        (λ d l q. in-has-chunk p r gE u (set-end .on) 0 choice-end w t d (has-end d t l b .0) wb l q (has-end d t l b .1))
 
     counted-end : (t : ℕ) → Has t (counted p 0 (segmentOf p u 0 w)) → t < c
     counted-end t q =
         let d0 : 0 < p .N = omega (arith, r .drives-low) in
-        low-end 0 t (pieceAt p r gE u (set-end .on) 0 ch w t 0) d0 (counted-stripe p r gE u (set-end .on) 0 ch w t wb q .on 0 d0 (away 0 d0))
+        low-end 0 t (pieceAt p r gE u (set-end .on) 0 choice-end w t 0) d0 (counted-stripe p r gE u (set-end .on) 0 choice-end w t wb q .on 0 d0 (drives-there-end 0 d0))
 
     counted-is : counted p 0 (segmentOf p u 0 w) ≡ below c
     counted-is = rising-same (counted p 0 (segmentOf p u 0 w)) (below c) rises (rising-below c)
@@ -200,7 +203,7 @@ module _ (p : Params) (r : Ranged p) (v₀ : View) (g₀ : Ghost) (a : List Val)
             let l : (d .0 < p .N) × (isIn 0 (d .0) ≡ false) = present-has p 0 (d .0) (d .1) in
             let b : t < c =
             low-end (d .0) t (pieceValue (storedPiece (segmentOf p u 0 w) t (d .0))) (l .0)
-            (stored-in p r gE u (set-end .on) 0 ch w t (d .0) wb (l .0) (l .1) (d .2)) in
+            (stored-in p r gE u (set-end .on) 0 choice-end w t (d .0) wb (l .0) (l .1) (d .2)) in
             and-false (any (hasChunk (segmentOf p u 0 w) t) (present p 0)) (not (counts p 0 (segmentOf p u 0 w) t)) (ap not (passes t b))
           where
             passes : (t : ℕ) → t < c → counts p 0 (segmentOf p u 0 w) t ≡ true
@@ -216,7 +219,7 @@ module _ (p : Params) (r : Ranged p) (v₀ : View) (g₀ : Ghost) (a : List Val)
         G = segmentOf p u 0 z
 
         rag : Ragged (parOf p r) (isIn 0) (itemsIn p u) z
-        rag = ragged-of p r gE u (set-end .on) 0 ch z j e
+        rag = ragged-of p r gE u (set-end .on) 0 choice-end z j e
 
         go : Dec (z ≡ o) → Dec (z ≡ w) → (counted p 0 (segmentOf p u 0 z) ≡ below (length (counted p 0 (segmentOf p u 0 z))))
             × (uncounted p 0 (segmentOf p u 0 z) ≡ []) × (length (counted p 0 (segmentOf p u 0 z)) < p .S)
@@ -226,8 +229,8 @@ module _ (p : Params) (r : Ranged p) (v₀ : View) (g₀ : Ghost) (a : List Val)
             gone (d, t, b, f) =
                 let y : itemsIn p u d z ≡ [] =
                 ap (itemsIn p u d) q
-                ∙ ap (λ (x : m-View). x d o) items-end
-                ∙ rewrite-empty (parOf p r) (withPr g₀ alone) (itemsIn p v) w o n π ready (k .rest) (k .on .facts) d (t .0) in
+                ∙ ap (λ (x : ItemView). x d o) items-end
+                ∙ rewrite-empty (parOf p r) (withPr g₀ alone) (itemsIn p v) w o n π moved-ready (k .rest) (k .on .facts) d (t .0) in
                 let x : 0 < length {A = Item} [] = subst (λ (l : List Item). 0 < length l) y b in let j : ⊥ = omega arith in j
         go (no q) (yes x) = rw x (counted-is ∙ ap below (sym (ap length counted-is ∙ length-below c)), uncounted-is, subst (λ (y : ℕ). y < p .S) (sym (ap length counted-is ∙ length-below c)) part)
         go (no q) (no x) = absurd (q (same rag))
@@ -235,42 +238,42 @@ module _ (p : Params) (r : Ranged p) (v₀ : View) (g₀ : Ghost) (a : List Val)
             same : Ragged (parOf p r) (isIn 0) (itemsIn p u) z → z ≡ o
             same (d, t, b, f) =
                 let y : itemsIn p u d z ≡ itemsIn p v d z =
-                ap (λ (x : m-View). x d z) items-end
-                ∙ rewrite-others (parOf p r) (withPr g₀ alone) (itemsIn p v) w o n π ready (k .rest) (k .on .facts) d z q x in
-                one (d, (t .0, none d (t .0)), subst (λ (l : List Item). 0 < length l) y b, subst (λ (l : List Item). length l < capacity p) y f) (ready .ragged)
+                ap (λ (x : ItemView). x d z) items-end
+                ∙ rewrite-others (parOf p r) (withPr g₀ alone) (itemsIn p v) w o n π moved-ready (k .rest) (k .on .facts) d z q x in
+                one (d, (t .0, none d (t .0)), subst (λ (l : List Item). 0 < length l) y b, subst (λ (l : List Item). length l < capacity p) y f) (moved-ready .ragged)
               where
                 one : Ragged (parOf p r) (g₀ .un) (itemsIn p v) z → Ragged (parOf p r) (g₀ .un) (itemsIn p v) o → z ≡ o
                 one b f = ⊎-elim (λ y. y) (λ y. absurd (⊎-elim (λ (h : alone ≡ pair z o). pair-alone (sym h)) (λ (h : alone ≡ pair o z). pair-alone (sym h)) y)) (k .on .facts .«open» .ragged z o b f)
 
     -- ---- the machine's step
     whole-items : applyAll (itemsIn p v₀) (ms ++ tail) ≡ itemsIn p u
-    whole-items = applyAll-append (itemsIn p v₀) ms tail ∙ ap (λ (x : m-View). applyAll x tail) (sym (dropped-items p r g₀ v₀ on₀ none)) ∙ sym items-end
+    whole-items = applyAll-append (itemsIn p v₀) ms tail ∙ ap (λ (x : ItemView). applyAll x tail) (sym (dropped-items p r g₀ v₀ on₀ none)) ∙ sym items-end
 
     op : (b : Bool) × (z : ℕ) × (t : ℕ) × Opened p r gE u b z t
     op = opened-is p r gE u set-end moved-order
 
-    rd : Reads (parOf p r) (gE .hd) (itemsIn p u) (g₀ .un) (readOn p r gE u set-end)
-    rd = unfold readOn in ends-reads p r gE u set-end
+    moved-end-reads : Reads (parOf p r) (gE .hd) (itemsIn p u) (g₀ .un) (readOn p r gE u set-end)
+    moved-end-reads = unfold readOn in ends-reads p r gE u set-end
 
-    up : (x : Val) → Counted (parOf p r) (gE .hd) (itemsIn p u) (g₀ .un) x → x .stamp ≤ stampTop p u
-    up = unfold stampTop in ends-stamps p r gE u set-end
+    moved-end-stamps : (x : Val) → Counted (parOf p r) (gE .hd) (itemsIn p u) (g₀ .un) x → x .stamp ≤ stampTop p u
+    moved-end-stamps = unfold stampTop in ends-stamps p r gE u set-end
 
-    sr : (y : ℕ) → Used (parOf p r) (g₀ .un) (itemsIn p u) y → gE .hd .ser y ≤ serialTop p u
-    sr = unfold serialTop in ends-serials p r gE u set-end
+    moved-end-serials : (y : ℕ) → Used (parOf p r) (g₀ .un) (itemsIn p u) y → gE .hd .ser y ≤ serialTop p u
+    moved-end-serials = unfold serialTop in ends-serials p r gE u set-end
 
-    the-step : Step (parOf p r) (stateOn p v₀ g₀ a s m) (record {
+    moved-end-step : Step (parOf p r) (stateOn p v₀ g₀ a s m) (record {
       g = finishing gE (g₀ .un) (readOn p r gE u set-end) (stampTop p u) (upTo (stampTop p u) (g₀ .sent));
       v = itemsIn p u;
       acked = a;
       since = false;
       mode = run (restMem (op .0) (op .1) (op .2) (stampTop p u) (serialTop p u));
     })
-    the-step = subst (λ (x : m-View).
+    moved-end-step = subst (λ (x : ItemView).
         Reads (parOf p r) (gE .hd) x (g₀ .un) (readOn p r gE u set-end)
         → ((y : Val) → Counted (parOf p r) (gE .hd) x (g₀ .un) y → y .stamp ≤ stampTop p u)
         → ((y : ℕ) → Ragged (parOf p r) (g₀ .un) x y → (op .0 ≡ true) × (y ≡ op .1))
-        → (op .0 ≡ true → m-Whole (parOf p r) (g₀ .un) x (op .1))
-        → (op .0 ≡ true → (e t : ℕ) (y : Val) → e < p .N → In (chunk t y) (x e (op .1)) → t < op .2)
+        → (op .0 ≡ true → WholeZone (parOf p r) (g₀ .un) x (op .1))
+        → (op .0 ≡ true → (e t : ℕ) (y : Val) → e < p .N → InI (chunk t y) (x e (op .1)) → t < op .2)
         → ((y : ℕ) → Used (parOf p r) (g₀ .un) x y → gE .hd .ser y ≤ serialTop p u)
         → Step (parOf p r) (stateOn p v₀ g₀ a s m) (record {
           g = finishing gE (g₀ .un) (readOn p r gE u set-end) (stampTop p u) (upTo (stampTop p u) (g₀ .sent));
@@ -281,10 +284,12 @@ module _ (p : Params) (r : Ranged p) (v₀ : View) (g₀ : Ghost) (a : List Val)
         })) whole-items
         (λ rd up rg wh bl sr. m-restart (stateOn p v₀ g₀ a s m) none ms (dropping p r g₀ v₀ on₀ none) w o n π ready₀ (readOn p r gE u set-end)
         (stampTop p u) rd up (op .0) (op .1) (op .2) (op .3 .few) rg wh bl (serialTop p u) sr)
-        rd up (op .3 .lone) (op .3 .whole) (op .3 .low) sr
+        moved-end-reads moved-end-stamps (op .3 .lone) (op .3 .whole) (op .3 .low) moved-end-serials
 
     cl : Claim (parOf p r) (stateOn p v₀ g₀ a s m) (g₀ .un) (readOn p r gE u set-end)
-    cl = claim (parOf p r) (stateOn p v₀ g₀ a s m) (lk .inv) gE (itemsIn p u) (set-end .on .facts) refl refl refl refl refl (g₀ .un) (self-none (parOf p r) (g₀ .un) none) (readOn p r gE u set-end) rd
+    cl =
+        claim (parOf p r) (stateOn p v₀ g₀ a s m) (lk .inv) gE (itemsIn p u) (set-end .on .facts) refl refl refl refl refl (g₀ .un) (self-none (parOf p r) (g₀ .un) none)
+        (readOn p r gE u set-end) moved-end-reads
 
     pub moved-done : RestartDone p r g₀ a s u
     moved-done = record {
@@ -296,7 +301,7 @@ module _ (p : Params) (r : Ranged p) (v₀ : View) (g₀ : Ghost) (a : List Val)
       n = op .2;
       opened = op .3;
       linked = linked-step p r v₀ u g₀ (finishing gE (g₀ .un) (readOn p r gE u set-end) (stampTop p u) (upTo (stampTop p u) (g₀ .sent))) a a s false m
-          (run (restMem (op .0) (op .1) (op .2) (stampTop p u) (serialTop p u))) (itemsIn p u) lk the-step refl (set-end .on .shape) (set-end .on .bytes);
+          (run (restMem (op .0) (op .1) (op .2) (stampTop p u) (serialTop p u))) (itemsIn p u) lk moved-end-step refl (set-end .on .shape) (set-end .on .bytes);
       acked = cl .acked;
       sent = cl .sent;
       floor = cl .floor;

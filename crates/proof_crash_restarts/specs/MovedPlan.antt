@@ -28,9 +28,9 @@ use Rattle.law_drives.specs.Tests.{cond-true, cond-false}
 use Rattle.proof_crash_machine.specs.Facts.Pair.{alone}
 use Rattle.proof_crash_machine.specs.Facts.{Ghost, Choice, Stripe, Datum, Used, Ragged, Word}
 use Rattle.proof_crash_machine.specs.Restart.{Ready}
-use Rattle.proof_crash_machine.specs.Rewrite.{Plan as m-Plan}
+use Rattle.proof_crash_machine.specs.Rewrite.{MovePlan}
 use Rattle.proof_crash_machine.specs.Val.{Val, 𝟘, _⊕_, ⊕-self, xorN, xorN-put}
-use Rattle.proof_crash_machine.specs.View.{View as m-View}
+use Rattle.proof_crash_machine.specs.View.{ItemView}
 use Rattle.proof_crash_items.specs.Cands.{data-drives, has-data-drive}
 use Rattle.proof_crash_items.specs.Codec.{Wide}
 use Rattle.proof_crash_items.specs.Items.{valueOf, itemsFrom, itemsOf, itemsIn, items-in}
@@ -39,14 +39,14 @@ use Rattle.proof_crash_items.specs.Ranges.{parity-on, parOf, code-data, data-co
 use Rattle.proof_crash_items.specs.Refuse.{Rising, rising-keep, rising-below}
 use Rattle.proof_crash_items.specs.SegFacts.{ragged-of}
 use Rattle.proof_crash_items.specs.Segs.{zone-bytes, used-zones}
-use Rattle.proof_crash_items.specs.Stripes.{stored-below, pointer-is, offset-on, stored-piece, stored-long, counted-has, pieceAt, piece-here, counted-stripe, stripe-counted}
+use Rattle.proof_crash_items.specs.Stripes.{stored-below, pointer-is, offset-on, stored-piece, stored-block-long, counted-has, pieceAt, piece-here, counted-stripe, stripe-counted}
 use Rattle.proof_crash_items.specs.Values.{pieceValue, xorL, PiecesLong, blocks-of-long, pieces-long, parity-value, onlyWhere, only-there, only-else, xor-below}
 use Rattle.proof_crash_items.specs.ZoneBytes.{blockIn}
 use Rattle.proof_crash_items.specs.Zoning.{zone-apart}
 use Rattle.proof_crash_restarts.specs.Done.{serialTop}
 use Rattle.proof_crash_restarts.specs.Ends.{none-choice, ends-serials}
 use Rattle.proof_crash_restarts.specs.Order.{rising-same}
-use Rattle.proof_crash_restarts.specs.Rest.{Settled, far-off, settled-used}
+use Rattle.proof_crash_restarts.specs.Rest.{SettledOn, far-off, settled-used}
 use Rattle.proof_crash_restarts.specs.Same.{Stripe-none-any}
 
 rising-map : (f : ℕ → ℕ) → ((i j : ℕ) → i < j → f i < f j) → (l : List ℕ) → Rising l → Rising (map f l)
@@ -88,16 +88,16 @@ xorAll-map-lt k f [] h = pow-pos k
 xorAll-map-lt k f (q ∷ l) h = xor-lt k (f q) (xorAll (map f l)) (h q (inl refl)) (xorAll-map-lt k f l (λ x i. h x (inr i)))
 
 -- the parity of wide records is wide
-pub parity-wide : (p : Params) (t : ℕ) (qs : List Piece) → t < 256 ^ 4 → ((q : Piece) → Has q qs → Wide (q .rec)) → Wide (parityPiece p t qs .rec)
+pub moved-parity-wide : (p : Params) (t : ℕ) (qs : List Piece) → t < 256 ^ 4 → ((q : Piece) → Has q qs → Wide (q .rec)) → Wide (parityPiece p t qs .rec)
 unfolding parityPiece parityRec
-parity-wide p t qs l h = record {
+moved-parity-wide p t qs l h = record {
   address =
       subst (λ (x : List ℕ). xorAll x < 2 ^ 64) (sym (map-map (λ (x : Rec). x .address) (λ (q : Piece). q .rec) qs)) (xorAll-map-lt 64 (λ (q : Piece). q .rec .address) qs (λ q i. h q i .address));
   stamp = subst (λ (x : List ℕ). xorAll x < 2 ^ 64) (sym (map-map (λ (x : Rec). x .stamp) (λ (q : Piece). q .rec) qs)) (xorAll-map-lt 64 (λ (q : Piece). q .rec .stamp) qs (λ q i. h q i .stamp));
   stripe = l;
 }
 
-module _ (p : Params) (r : Ranged p) (g : Ghost) (v : View) (k : Settled p r g v) (o : ℕ) (i : Has o (remaining p v 0)) where
+module _ (p : Params) (r : Ranged p) (g : Ghost) (v : View) (k : SettledOn p r g v) (o : ℕ) (i : Has o (remaining p v 0)) where
   abbrev G : Segment
   G = segmentOf p v 0 o
 
@@ -107,22 +107,22 @@ module _ (p : Params) (r : Ranged p) (g : Ghost) (v : View) (k : Settled p r g v
   ob : o < p .Z
   ob = settled-used p r g v k o i .0
 
-  away : (d : ℕ) → d < p .N → isIn 0 d ≡ false
-  away d l = far-off p r g v k d l
+  drives-there : (d : ℕ) → d < p .N → isIn 0 d ≡ false
+  drives-there d l = far-off p r g v k d l
 
-  here? : (s d : ℕ) → Has s (counted p 0 G) → d < p .N → hasChunk G s d ≡ true
-  here? s d h l = counted-has p r g v (k .on) 0 ch o s h .1 d l (away d l)
+  counted-on-drive : (s d : ℕ) → Has s (counted p 0 G) → d < p .N → hasChunk G s d ≡ true
+  counted-on-drive s d h l = counted-has p r g v (k .on) 0 ch o s h .1 d l (drives-there d l)
 
   -- a stored piece of a counted stripe
   piece-block : (s d : ℕ) → Has s (counted p 0 G) → d < p .N → length (storedPiece G s d .block) ≡ p .B
-  piece-block s d h l = stored-long p r g v (k .on) 0 ch o s d ob l (away d l) (here? s d h l)
+  piece-block s d h l = stored-block-long p r g v (k .on) 0 ch o s d ob l (drives-there d l) (counted-on-drive s d h l)
 
   piece-wide : (s d : ℕ) → Has s (counted p 0 G) → d < p .N → Wide (storedPiece G s d .rec)
   piece-wide s d h l =
       let a : (offsetOn G d s < dataStored p (zoneAt v d o)) × (recordOf (blockIn (zoneAt v d o) (suc (offsetOn G d s)) .spare) .stripe ≡ s) =
-      offset-on p r g v (k .on) 0 ch o s d ob l (away d l) (here? s d h l) in
+      offset-on p r g v (k .on) 0 ch o s d ob l (drives-there d l) (counted-on-drive s d h l) in
       let b : (offsetOn G d s < p .S) × (suc (offsetOn G d s) < zoneAt v d o .pointer) = stored-below p (zoneAt v d o) (offsetOn G d s) (a .0) in
-      subst (λ (q : Piece). Wide (q .rec)) (sym (stored-piece p r g v (k .on) 0 ch o s d ob l (away d l) (here? s d h l)))
+      subst (λ (q : Piece). Wide (q .rec)) (sym (stored-piece p r g v (k .on) 0 ch o s d ob l (drives-there d l) (counted-on-drive s d h l)))
       (zone-bytes p r g v (k .on) d o l (k .none d l) ob .wide (offsetOn G d s) (b .0) (b .1))
 
   -- ---- stripe s as stripe t
@@ -130,15 +130,17 @@ module _ (p : Params) (r : Ranged p) (g : Ghost) (v : View) (k : Settled p r g v
     abbrev qs : List Piece
     qs = movedPieces p G s t
 
-    qs-is : movedPieces p G s t ≡ map (λ j. renumbered t (storedPiece G s (dataDrive p s j))) (below (dataCount p))
+    moved-pieces-are : movedPieces p G s t ≡ map (λ j. renumbered t (storedPiece G s (dataDrive p s j))) (below (dataCount p))
     unfolding movedPieces dataDrives
-    qs-is = map-map (λ d. renumbered t (storedPiece G s d)) (dataDrive p s) (below (dataCount p))
+    moved-pieces-are = map-map (λ d. renumbered t (storedPiece G s d)) (dataDrive p s) (below (dataCount p))
 
-    qs-at : (j : ℕ) → j < dataCount p → getD (movedPieces p G s t) j (mkPiece [] (mkRec 0 0 0)) ≡ renumbered t (storedPiece G s (dataDrive p s j))
-    qs-at j b = ap (λ (l : List Piece). getD l j (mkPiece [] (mkRec 0 0 0))) qs-is ∙ getD-map-below (λ j. renumbered t (storedPiece G s (dataDrive p s j))) (dataCount p) j (mkPiece [] (mkRec 0 0 0)) b
+    moved-pieces-at : (j : ℕ) → j < dataCount p → getD (movedPieces p G s t) j (mkPiece [] (mkRec 0 0 0)) ≡ renumbered t (storedPiece G s (dataDrive p s j))
+    moved-pieces-at j b =
+        ap (λ (l : List Piece). getD l j (mkPiece [] (mkRec 0 0 0))) moved-pieces-are
+        ∙ getD-map-below (λ j. renumbered t (storedPiece G s (dataDrive p s j))) (dataCount p) j (mkPiece [] (mkRec 0 0 0)) b
 
     qs-long : PiecesLong (p .B) (movedPieces p G s t)
-    qs-long = subst (PiecesLong (p .B)) (sym qs-is) (pieces-long (p .B) (λ j. renumbered t (storedPiece G s (dataDrive p s j))) (below (dataCount p))
+    qs-long = subst (PiecesLong (p .B)) (sym moved-pieces-are) (pieces-long (p .B) (λ j. renumbered t (storedPiece G s (dataDrive p s j))) (below (dataCount p))
         (λ j b. same (storedPiece G s (dataDrive p s j)) ∙ piece-block s (dataDrive p s j) h (data-drive-lt p s j (below-has j (dataCount p) b))))
       where
         same : (q : Piece) → length (renumbered t q .block) ≡ length (q .block)
@@ -149,7 +151,7 @@ module _ (p : Params) (r : Ranged p) (g : Ghost) (v : View) (k : Settled p r g v
     on-data d e l =
         cond-true (isData p t d) (getD (movedPieces p G s t) (dataPosition p t d) (mkPiece [] (mkRec 0 0 0))) (parityPiece p t (movedPieces p G s t))
         e
-        ∙ qs-at (dataPosition p t d) (position-lt p t d e l)
+        ∙ moved-pieces-at (dataPosition p t d) (position-lt p t d e l)
 
     on-parity : (d : ℕ) → isData p t d ≡ false → movedOn p (movedPieces p G s t) t d ≡ parityPiece p t (movedPieces p G s t)
     unfolding movedOn
@@ -166,15 +168,15 @@ module _ (p : Params) (r : Ranged p) (g : Ghost) (v : View) (k : Settled p r g v
         go true e = subst (λ (q : Piece). Wide (q .rec)) (sym (on-data d e l))
             (moved-wide-at (storedPiece G s (dataDrive p s (dataPosition p t d)))
             (piece-wide s (dataDrive p s (dataPosition p t d)) h (data-drive-lt p s (dataPosition p t d) (position-lt p t d e l))))
-        go false e = subst (λ (q : Piece). Wide (q .rec)) (sym (on-parity d e)) (parity-wide p t (movedPieces p G s t) (omega (arith, tl, r .stripes-high)) (λ q m.
+        go false e = subst (λ (q : Piece). Wide (q .rec)) (sym (on-parity d e)) (moved-parity-wide p t (movedPieces p G s t) (omega (arith, tl, r .stripes-high)) (λ q m.
             let a : (j : ℕ) × Has j (below (dataCount p)) × (q ≡ renumbered t (storedPiece G s (dataDrive p s j))) =
-            map-has (λ j. renumbered t (storedPiece G s (dataDrive p s j))) q (below (dataCount p)) (subst (λ (x : List Piece). Has q x) qs-is m) in
+            map-has (λ j. renumbered t (storedPiece G s (dataDrive p s j))) q (below (dataCount p)) (subst (λ (x : List Piece). Has q x) moved-pieces-are m) in
             subst (λ (x : Piece). Wide (x .rec)) (sym (a .2))
             (moved-wide-at (storedPiece G s (dataDrive p s (a .0)))
             (piece-wide s (dataDrive p s (a .0)) h (data-drive-lt p s (a .0) (below-has (a .0) (dataCount p) (a .1)))))))
 
-    pub moved-long : (d : ℕ) → d < p .N → length (movedOn p (movedPieces p G s t) t d .block) ≡ p .B
-    moved-long d l = go (isData p t d) refl
+    pub moved-value-long : (d : ℕ) → d < p .N → length (movedOn p (movedPieces p G s t) t d .block) ≡ p .B
+    moved-value-long d l = go (isData p t d) refl
       where
         go : (b : Bool) → isData p t d ≡ b → length (movedOn p (movedPieces p G s t) t d .block) ≡ p .B
         go true e =
@@ -189,8 +191,8 @@ module _ (p : Params) (r : Ranged p) (g : Ghost) (v : View) (k : Settled p r g v
             long : length (parityPiece p t (movedPieces p G s t) .block) ≡ p .B
             long = unfold parityPiece in length-parity (p .B) (map (λ (q : Piece). q .block) (movedPieces p G s t)) (blocks-of-long (p .B) (movedPieces p G s t) qs-long)
 
-    pub moved-stripe : (d : ℕ) → d < p .N → movedOn p (movedPieces p G s t) t d .rec .stripe ≡ t
-    moved-stripe d l = go (isData p t d) refl
+    pub moved-rec-stripe : (d : ℕ) → d < p .N → movedOn p (movedPieces p G s t) t d .rec .stripe ≡ t
+    moved-rec-stripe d l = go (isData p t d) refl
       where
         go : (b : Bool) → isData p t d ≡ b → movedOn p (movedPieces p G s t) t d .rec .stripe ≡ t
         go true e = ap (λ (q : Piece). q .rec .stripe) (on-data d e l) ∙ is (storedPiece G s (dataDrive p s (dataPosition p t d)))
@@ -203,8 +205,8 @@ module _ (p : Params) (r : Ranged p) (g : Ghost) (v : View) (k : Settled p r g v
             is = unfold parityPiece parityRec in refl
 
     -- ---- values
-    pub moved-data : (d : ℕ) → isData p t d ≡ true → d < p .N → pieceValue (movedOn p (movedPieces p G s t) t d) ≡ pieceValue (storedPiece G s (dataDrive p s (dataPosition p t d)))
-    moved-data d e l = ap pieceValue (on-data d e l) ∙ value-renumbered t (storedPiece G s (dataDrive p s (dataPosition p t d)))
+    pub moved-data-value : (d : ℕ) → isData p t d ≡ true → d < p .N → pieceValue (movedOn p (movedPieces p G s t) t d) ≡ pieceValue (storedPiece G s (dataDrive p s (dataPosition p t d)))
+    moved-data-value d e l = ap pieceValue (on-data d e l) ∙ value-renumbered t (storedPiece G s (dataDrive p s (dataPosition p t d)))
 
     abbrev F : ℕ → Val
     F d = pieceValue (movedOn p (movedPieces p G s t) t d)
@@ -214,9 +216,9 @@ module _ (p : Params) (r : Ranged p) (g : Ghost) (v : View) (k : Settled p r g v
     values-same =
         map-map F (dataDrive p t) (below (dataCount p))
         ∙ map-below-same (λ j. F (dataDrive p t j)) (λ j. pieceValue (renumbered t (storedPiece G s (dataDrive p s j)))) (dataCount p) (λ j b.
-        moved-data (dataDrive p t j) (drive-is-data p t j) (data-drive-lt p t j b)
+        moved-data-value (dataDrive p t j) (drive-is-data p t j) (data-drive-lt p t j b)
         ∙ ap (λ (x : ℕ). pieceValue (storedPiece G s (dataDrive p s x))) (position-drive p t j) ∙ sym (value-renumbered t (storedPiece G s (dataDrive p s j))))
-        ∙ sym (map-map pieceValue (λ j. renumbered t (storedPiece G s (dataDrive p s j))) (below (dataCount p))) ∙ ap (map pieceValue) (sym qs-is)
+        ∙ sym (map-map pieceValue (λ j. renumbered t (storedPiece G s (dataDrive p s j))) (below (dataCount p))) ∙ ap (map pieceValue) (sym moved-pieces-are)
 
     pub moved-xor : xorN (p .N) (λ d. pieceValue (movedOn p (movedPieces p G s t) t d)) ≡ 𝟘
     moved-xor =
@@ -243,7 +245,7 @@ module _ (p : Params) (r : Ranged p) (g : Ghost) (v : View) (k : Settled p r g v
   cs = counted p 0 G
 
   piece-is : (s d : ℕ) → d < p .N → pieceAt p r g v (k .on) 0 ch o s d ≡ pieceValue (storedPiece G s d)
-  piece-is s d l = unfold pieceAt in ap pieceValue (piece-here p r g v (k .on) 0 ch o s d l (away d l))
+  piece-is s d l = unfold pieceAt in ap pieceValue (piece-here p r g v (k .on) 0 ch o s d l (drives-there d l))
 
   pub plan-few : length (counted p 0 G) ≤ p .S
   plan-few = unfold counted in omega (arith, length-keep (counts p 0 G) (below (p .S)), length-below (p .S))
@@ -276,7 +278,7 @@ module _ (p : Params) (r : Ranged p) (g : Ghost) (v : View) (k : Settled p r g v
         d = dataDrive p j n;
         lt = data-drive-lt p j n b;
         data? = data-code p r j (dataDrive p j n) (drive-is-data p j n);
-        val = moved-data s j (plan-src j l) (omega (arith, l, plan-few)) (dataDrive p j n) (drive-is-data p j n) (data-drive-lt p j n b)
+        val = moved-data-value s j (plan-src j l) (omega (arith, l, plan-few)) (dataDrive p j n) (drive-is-data p j n) (data-drive-lt p j n b)
             ∙ ap (λ (y : ℕ). pieceValue (storedPiece G s (dataDrive p s y))) (position-drive p j n) ∙ ap (λ (y : ℕ). pieceValue (storedPiece G s y)) (drive-position p s (dt .d) e)
             ∙ sym (piece-is s (dt .d) (dt .lt)) ∙ dt .val;
       }
@@ -292,10 +294,10 @@ module _ (p : Params) (r : Ranged p) (g : Ghost) (v : View) (k : Settled p r g v
         d = dataDrive p s n;
         lt = data-drive-lt p s n b;
         data? = data-code p r s (dataDrive p s n) (drive-is-data p s n);
-        val = piece-is s (dataDrive p s n) (data-drive-lt p s n b) ∙ sym (moved-data s j (plan-src j l) (omega (arith, l, plan-few)) (dt .d) e (dt .lt)) ∙ dt .val;
+        val = piece-is s (dataDrive p s n) (data-drive-lt p s n b) ∙ sym (moved-data-value s j (plan-src j l) (omega (arith, l, plan-few)) (dt .d) e (dt .lt)) ∙ dt .val;
       }
 
-  abbrev pub planOf : m-Plan (parOf p r)
+  abbrev pub planOf : MovePlan (parOf p r)
   planOf = record {
     c = length (counted p 0 (segmentOf p v 0 o));
     src = λ j. getD (counted p 0 (segmentOf p v 0 o)) j 0;
@@ -354,17 +356,17 @@ module _ (p : Params) (r : Ranged p) (g : Ghost) (v : View) (k : Settled p r g v
         let j : ⊥ = omega (arith, z, b) in j
 
     -- on drives u that hold what v does
-    abbrev pub plan-ready : (u : m-View) → itemsIn p v ≡ u → g .pr ≡ alone → Ready (parOf p r) g u w o n planOf
+    abbrev pub plan-ready : (u : ItemView) → itemsIn p v ≡ u → g .pr ≡ alone → Ready (parOf p r) g u w o n planOf
     plan-ready u same alone? = record {
       none = k .none;
       no-pair = alone?;
-      ragged = subst (λ (x : m-View). Ragged (parOf p r) (g .un) x o) same ready-ragged;
+      ragged = subst (λ (x : ItemView). Ragged (parOf p r) (g .un) x o) same ready-ragged;
       zs = zoneOn w;
       fits = λ d l. (zone-on-lt p w d wb, refl);
-      clear = subst (λ (x : m-View). (y : ℕ) → Used (parOf p r) (g .un) x y → (d : ℕ) → d < p .N → g .hd .zn y d ≢ zoneOn w d) same ready-clear;
-      empty = subst (λ (x : m-View). (e : ℕ) → e < p .N → x e w ≡ []) same ready-empty;
-      newest = subst (λ (x : m-View). (y : ℕ) → Used (parOf p r) (g .un) x y → g .hd .ser y < n) same ready-newest;
-      src = subst (λ (x : m-View). (j : ℕ) → j < length (counted p 0 G) → Stripe (parOf p r) x (g .un) o (getD (counted p 0 G) j 0) (plan-E j)) same plan-stripe;
-      all = subst (λ (x : m-View). (s : ℕ) (f : ℕ → Val) (y : Val) → Stripe (parOf p r) x (g .un) o s f → Datum (parOf p r) s f y
+      clear = subst (λ (x : ItemView). (y : ℕ) → Used (parOf p r) (g .un) x y → (d : ℕ) → d < p .N → g .hd .zn y d ≢ zoneOn w d) same ready-clear;
+      empty = subst (λ (x : ItemView). (e : ℕ) → e < p .N → x e w ≡ []) same ready-empty;
+      newest = subst (λ (x : ItemView). (y : ℕ) → Used (parOf p r) (g .un) x y → g .hd .ser y < n) same ready-newest;
+      src = subst (λ (x : ItemView). (j : ℕ) → j < length (counted p 0 G) → Stripe (parOf p r) x (g .un) o (getD (counted p 0 G) j 0) (plan-E j)) same plan-stripe;
+      all = subst (λ (x : ItemView). (s : ℕ) (f : ℕ → Val) (y : Val) → Stripe (parOf p r) x (g .un) o s f → Datum (parOf p r) s f y
           → (j : ℕ) × (j < length (counted p 0 G)) × Datum (parOf p r) (getD (counted p 0 G) j 0) (plan-E j) y) same plan-all;
     }

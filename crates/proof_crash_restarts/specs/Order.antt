@@ -9,7 +9,7 @@ use Rattle.spec.specs.Drives.{Zone, View, zoneAt, pointerAt, Store, storeView, 
 use Rattle.spec.specs.Lists.{flat}
 use Rattle.proof_crash_machine.specs.Memory.{Ok}
 use Rattle.proof_crash_machine.specs.Rest.{InS}
-use Rattle.proof_crash_machine.specs.View.{Store as m-Store, AllS}
+use Rattle.proof_crash_machine.specs.View.{ItemStore, AllS}
 use Rattle.proof_crash_items.specs.Member.{Has}
 use Rattle.proof_crash_items.specs.Refuse.{Rising}
 use Rattle.proof_crash_items.specs.Sound.{Follows, follows-nil, follows-append}
@@ -32,17 +32,17 @@ rising-same (a ∷ l) (b ∷ k) r q f h = ap₂ (λ (x : ℕ) (y : List ℕ). x 
 
 -- ---- lists of stores
 
-pub all-S : (Ok : m-Store → Type 0) (ss : List m-Store) → ((s : m-Store) → Has s ss → Ok s) → AllS Ok ss
+pub all-S : (Ok : ItemStore → Type 0) (ss : List ItemStore) → ((s : ItemStore) → Has s ss → Ok s) → AllS Ok ss
 all-S Ok [] h = tt
 all-S Ok (s ∷ ss) h = (h s (inl refl), all-S Ok ss (λ t i. h t (inr i)))
 
-pub in-S : (s : m-Store) (ss : List m-Store) → Has s ss → InS s ss
+pub in-S : (s : ItemStore) (ss : List ItemStore) → Has s ss → InS s ss
 in-S s [] i = absurd i
 in-S s (t ∷ ss) (inl e) = inl e
 in-S s (t ∷ ss) (inr i) = inr (in-S s ss i)
 
 -- runs of runs
-pub follows-flat : (p : Params) (f : ℕ → List Store) (h : ℕ → List m-Store) (l : List ℕ) → ((v : View) (z : ℕ) → Has z l → Follows p v (f z) (h z)) → (v : View) → Follows p v (flat f l) (flat h l)
+pub follows-flat : (p : Params) (f : ℕ → List Store) (h : ℕ → List ItemStore) (l : List ℕ) → ((v : View) (z : ℕ) → Has z l → Follows p v (f z) (h z)) → (v : View) → Follows p v (flat f l) (flat h l)
 unfolding flat
 follows-flat p f h [] k v = follows-nil p v
 follows-flat p f h (z ∷ l) k v =

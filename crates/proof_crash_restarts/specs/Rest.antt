@@ -14,12 +14,12 @@ use Rattle.spec.specs.Segments.{remaining, Segment, segmentOf, segments}
 use Rattle.spec.specs.Lists.{isIn}
 use Rattle.law_basic.specs.Geometry.{Ranged}
 use Rattle.law_basic.specs.Mask.{isIn-empty}
-use Rattle.proof_crash_machine.specs.Drop.{dropped-end, settled}
+use Rattle.proof_crash_machine.specs.Drop.{dropped-end, settle-facts}
 use Rattle.proof_crash_machine.specs.Facts.Pair.{alone}
 use Rattle.proof_crash_machine.specs.Facts.{Ghost, R, Used, Facts, used, None}
 use Rattle.proof_crash_machine.specs.Ghosts.{withPr}
 use Rattle.proof_crash_machine.specs.Rest.{Dropped, rest-of}
-use Rattle.proof_crash_machine.specs.View.{Item, View as m-View, applyAll}
+use Rattle.proof_crash_machine.specs.View.{Item, ItemView, applyAll}
 use Rattle.proof_crash_items.specs.Items.{itemsOf, itemsIn, items-in}
 use Rattle.proof_crash_items.specs.Member.{Has}
 use Rattle.proof_crash_items.specs.Ranges.{parOf}
@@ -33,13 +33,13 @@ use Rattle.proof_crash_restarts.specs.Order.{rising-same}
 use Rattle.proof_crash_restarts.specs.Same.{segment-same, R-none-any}
 
 -- drives with the facts, none missing, no pair, where all that is used remains
-pub record Settled (p : Params) (r : Ranged p) (g : Ghost) (v : View) : Type 0 where
+pub record SettledOn (p : Params) (r : Ranged p) (g : Ghost) (v : View) : Type 0 where
   pub on : OnDrives p r g v
   pub none : None (parOf p r) (g .un)
   pub no-pair : g .pr ≡ alone
   pub rest : (z : ℕ) → Used (parOf p r) (g .un) (itemsIn p v) z → R (parOf p r) (g .hd) (itemsIn p v) (g .un) z
 
-module _ (p : Params) (r : Ranged p) (g : Ghost) (v : View) (k : Settled p r g v) where
+module _ (p : Params) (r : Ranged p) (g : Ghost) (v : View) (k : SettledOn p r g v) where
   pub far-off : None (parOf p r) (isIn 0)
   far-off = none-out p r
 
@@ -55,27 +55,27 @@ module _ (p : Params) (r : Ranged p) (g : Ghost) (v : View) (k : OnDrives p r g 
   abbrev v₁ : View
   v₁ = storeAll storeView (dropStores p (segments p v 0)) v
 
-  follow : Follows p v (dropStores p (segments p v 0)) (dropItems p (segments p v 0))
-  follow = drops-follow p r v v 0
+  drop-stores-follow : Follows p v (dropStores p (segments p v 0)) (dropItems p (segments p v 0))
+  drop-stores-follow = drops-follow p r v v 0
 
   pub dropped-items : itemsIn p v₁ ≡ applyAll (itemsIn p v) (dropItems p (segments p v 0))
-  dropped-items = follows-all p r v (dropStores p (segments p v 0)) (dropItems p (segments p v 0)) (k .shape) follow
+  dropped-items = follows-all p r v (dropStores p (segments p v 0)) (dropItems p (segments p v 0)) (k .shape) drop-stores-follow
 
   pub after-facts : Facts (parOf p r) (withPr g alone) (applyAll (itemsIn p v) (dropItems p (segments p v 0)))
-  after-facts = settled (parOf p r) g none (applyAll (itemsIn p v) (dropItems p (segments p v 0)))
+  after-facts = settle-facts (parOf p r) g none (applyAll (itemsIn p v) (dropItems p (segments p v 0)))
       (dropped-end (parOf p r) g none (Dropped (parOf p r) g (itemsIn p v)) (itemsIn p v) (dropItems p (segments p v 0)) (dropping p r g v k none .are) (k .facts) (λ z n. n))
       (rest-of (parOf p r) g (itemsIn p v) (k .facts) none (dropItems p (segments p v 0)) (dropping p r g v k none .are) (dropping p r g v k none .every))
 
-  pub after-settled : Settled p r (withPr g alone) v₁
+  pub after-settled : SettledOn p r (withPr g alone) v₁
   after-settled = record {
     on = record {
-      shape = shape-after p r v (dropStores p (segments p v 0)) (dropItems p (segments p v 0)) (k .shape) follow;
-      bytes = bytes-after p r v (dropStores p (segments p v 0)) (dropItems p (segments p v 0)) (k .shape) follow (g .un) (k .bytes);
-      facts = subst (λ (u : m-View). Facts (parOf p r) (withPr g alone) u) (sym dropped-items) after-facts;
+      shape = shape-after p r v (dropStores p (segments p v 0)) (dropItems p (segments p v 0)) (k .shape) drop-stores-follow;
+      bytes = bytes-after p r v (dropStores p (segments p v 0)) (dropItems p (segments p v 0)) (k .shape) drop-stores-follow (g .un) (k .bytes);
+      facts = subst (λ (u : ItemView). Facts (parOf p r) (withPr g alone) u) (sym dropped-items) after-facts;
     };
     none = none;
     no-pair = refl;
-    rest = subst (λ (u : m-View). (z : ℕ) → Used (parOf p r) (g .un) u z → R (parOf p r) (g .hd) u (g .un) z) (sym dropped-items)
+    rest = subst (λ (u : ItemView). (z : ℕ) → Used (parOf p r) (g .un) u z → R (parOf p r) (g .hd) u (g .un) z) (sym dropped-items)
         (rest-of (parOf p r) g (itemsIn p v) (k .facts) none (dropItems p (segments p v 0)) (dropping p r g v k none .are) (dropping p r g v k none .every));
   }
 
@@ -83,9 +83,9 @@ module _ (p : Params) (r : Ranged p) (g : Ghost) (v : View) (k : OnDrives p r g 
   low-free z i = free-has p r v 0 z i .0
 
   -- zones that remain are untouched, the others are empty
-  pub zone-after : (d z : ℕ) → Has z (remaining p v 0) → zoneAt v₁ d z ≡ zoneAt v d z
+  pub kept-zone-after : (d z : ℕ) → Has z (remaining p v 0) → zoneAt v₁ d z ≡ zoneAt v d z
   unfolding dropStores
-  zone-after d z i = all-other p r (freeZones p (segments p v 0)) low-free v (k .shape) d z (λ j. free-has p r v 0 z j .1 i)
+  kept-zone-after d z i = all-other p r (freeZones p (segments p v 0)) low-free v (k .shape) d z (λ j. free-has p r v 0 z j .1 i)
 
   pub free-after : (d z : ℕ) → d < p .N → Has z (freeZones p (segments p v 0)) → pointerAt v₁ d z ≡ 0
   unfolding dropStores
@@ -99,7 +99,7 @@ module _ (p : Params) (r : Ranged p) (g : Ghost) (v : View) (k : OnDrives p r g 
       a = remaining-has p r g v k 0 (zero-choice p r (g .un) none) z i
 
       begun : 0 < length (itemsIn p v₁ 0 z)
-      begun = subst (λ (x : List Item). 0 < length x) (items-in p v 0 z ∙ ap (itemsOf p) (sym (zone-after 0 z i)) ∙ sym (items-in p v₁ 0 z))
+      begun = subst (λ (x : List Item). 0 < length x) (items-in p v 0 z ∙ ap (itemsOf p) (sym (kept-zone-after 0 z i)) ∙ sym (items-in p v₁ 0 z))
           (a .1 .left 0 (omega (arith, r .drives-low)) (isIn-empty 0))
 
   same-bwd : (z : ℕ) → Has z (remaining p v₁ 0) → Has z (remaining p v 0)
@@ -130,7 +130,8 @@ module _ (p : Params) (r : Ranged p) (g : Ghost) (v : View) (k : OnDrives p r g 
 
   map-has-same : (l : List ℕ) → ((z : ℕ) → Has z l → Has z (remaining p v 0)) → map (segmentOf p v₁ 0) l ≡ map (segmentOf p v 0) l
   map-has-same [] h = refl
-  map-has-same (z ∷ l) h = ap₂ (λ (x : Segment) (y : List Segment). x ∷ y) (segment-same p r v v₁ 0 z (zero-few p r) (λ d b. zone-after d z (h z (inl refl)))) (map-has-same l (λ y i. h y (inr i)))
+  map-has-same (z ∷ l) h =
+      ap₂ (λ (x : Segment) (y : List Segment). x ∷ y) (segment-same p r v v₁ 0 z (zero-few p r) (λ d b. kept-zone-after d z (h z (inl refl)))) (map-has-same l (λ y i. h y (inr i)))
 
   pub segments-same : segments p v₁ 0 ≡ segments p v 0
   unfolding segments

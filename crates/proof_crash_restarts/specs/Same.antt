@@ -19,7 +19,7 @@ use Rattle.law_basic.specs.Ranges.{map-below-same, all-keep-same}
 use Rattle.proof_crash_machine.specs.Facts.{Par, Heads, R, Stripe, Counted, None, Choice, Stripe-more, Counted-mask, R-mask, none-few}
 use Rattle.proof_crash_machine.specs.Finish.{Reads}
 use Rattle.proof_crash_machine.specs.Val.{Val}
-use Rattle.proof_crash_machine.specs.View.{View as m-View}
+use Rattle.proof_crash_machine.specs.View.{ItemView}
 use Rattle.proof_crash_machine.specs.Mask.{Mask, tf, count}
 use Rattle.proof_crash_items.specs.Named.{low-drive}
 use Rattle.proof_crash_items.specs.Ranges.{parities}
@@ -54,20 +54,20 @@ module _ (p : Params) (r : Ranged p) (v u : View) (m z : ℕ) (few : count (p .N
 
 -- ---- none missing, whatever the mask
 
-module _ (P : Par) (h : Heads) (v : m-View) (a b : Mask) (na : None P a) (nb : None P b) where
+module _ (P : Par) (h : Heads) (v : ItemView) (a b : Mask) (na : None P a) (nb : None P b) where
   choice-any : Choice P a b
   choice-any = (none-few P b nb, λ d l e. tf e (na d l))
 
   pub Stripe-none-any : (z s : ℕ) (f : ℕ → Val) → Stripe P v a z s f → Stripe P v b z s f
   Stripe-none-any z s f st = Stripe-more P v a b z s f choice-any st
 
-pub R-none-any : (P : Par) (h : Heads) (v : m-View) (a b : Mask) → None P a → None P b → (z : ℕ) → R P h v a z → R P h v b z
+pub R-none-any : (P : Par) (h : Heads) (v : ItemView) (a b : Mask) → None P a → None P b → (z : ℕ) → R P h v a z → R P h v b z
 R-none-any P h v a b na nb z r = R-mask P h v a b z (choice-any P h v a b na nb) (choice-any P h v b a nb na) r
 
-pub Counted-none-any : (P : Par) (h : Heads) (v : m-View) (a b : Mask) → None P a → None P b → (x : Val) → Counted P h v a x → Counted P h v b x
+pub Counted-none-any : (P : Par) (h : Heads) (v : ItemView) (a b : Mask) → None P a → None P b → (x : Val) → Counted P h v a x → Counted P h v b x
 Counted-none-any P h v a b na nb x c = Counted-mask P h v a b x (choice-any P h v a b na nb) (choice-any P h v b a nb na) c
 
-pub Reads-none-any : (P : Par) (h : Heads) (v : m-View) (a b : Mask) → None P a → None P b → (K : ℕ → ℕ) → Reads P h v a K → Reads P h v b K
+pub Reads-none-any : (P : Par) (h : Heads) (v : ItemView) (a b : Mask) → None P a → None P b → (K : ℕ → ℕ) → Reads P h v a K → Reads P h v b K
 Reads-none-any P h v a b na nb K r = record {
   most = λ x c. r .most x (Counted-none-any P h v b a nb na x c);
   some = λ i. ⊎-elim (λ e. inl e) (λ (q : (x : Val) × Counted P h v a x × (x .addr ≡ i) × (x .stamp ≡ K i)). inr (q .0, Counted-none-any P h v a b na nb (q .0) (q .1), q .2, q .3)) (r .some i);

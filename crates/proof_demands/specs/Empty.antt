@@ -30,12 +30,12 @@ use Rattle.law_views.specs.Views.{seen}
 use Rattle.law_lent.specs.Hosts.{bytes-long}
 use Rattle.spec_demands.specs.Histories.{lentInOrder}
 use Rattle.proof_crash_items.specs.Named.{is-named}
-use Rattle.proof_crash_items.specs.Start.{empty-pointer}
+use Rattle.proof_crash_items.specs.Start.{start-pointer}
 use Rattle.law_checks.specs.Passed.{restart-goes}
 use Rattle.law_drives.specs.Members.{keep-nothing, in-none, below-in, all-in}
 use Rattle.law_drives.specs.Segs.{in-present, present-in}
-use Rattle.proof_tables.specs.Outcomes.{Ended}
-use Rattle.proof_tables.specs.Outcomes.Ended.{ended-refused, ended-done, ended-cut}
+use Rattle.proof_tables.specs.Outcomes.{EndedAs}
+use Rattle.proof_tables.specs.Outcomes.EndedAs.{ended-refused, ended-done, ended-cut}
 use Rattle.proof_tables.specs.Starting.{startChecks, startPlan}
 use Rattle.proof_tables.specs.Theorem.{restart-ends}
 
@@ -47,8 +47,8 @@ module _ (p : Params) (rg : inRange p ≡ true) (k : Disk) (e : emptyDisk p k �
   v = seen p k
 
   -- a drive is there: 0, or 1 where 0 is missing
-  here : (x : ℕ) × (x < p .N) × (isIn (named d) x ≡ false)
-  here = go (ℕ-discrete 0 d)
+  present-drive : (x : ℕ) × (x < p .N) × (isIn (named d) x ≡ false)
+  present-drive = go (ℕ-discrete 0 d)
     where
       go : Dec (0 ≡ d) → (x : ℕ) × (x < p .N) × (isIn (named d) x ≡ false)
       go (no n) = (0, omega (arith, r .drives-low), is-named p r d 0 (omega (arith, r .drives-low)) ∙ ne-eqb 0 d n)
@@ -64,9 +64,9 @@ module _ (p : Params) (rg : inRange p ≡ true) (k : Disk) (e : emptyDisk p k �
           go : (b : Bool) → all (λ x. not (eqb (pointerAt v x g) 0)) (present p (named d)) ≡ b → b ≡ false
           go false q = refl
           go true q =
-              let (x, hx, hn) = here in
+              let (x, hx, hn) = present-drive in
               sym (all-in (λ x. not (eqb (pointerAt v x g) 0)) (present p (named d)) q x (in-present p (named d) x hx hn))
-              ∙ ap not (eq-eqb (pointerAt v x g) 0 (empty-pointer p r k e x g hx hg))
+              ∙ ap not (eq-eqb (pointerAt v x g) 0 (start-pointer p r k e x g hx hg))
 
   none-remains : segments p v (named d) ≡ []
   unfolding segments remaining
@@ -77,7 +77,7 @@ module _ (p : Params) (rg : inRange p ≡ true) (k : Disk) (e : emptyDisk p k �
   no-pointer = keep-nothing (λ z. any (λ x. ltb (capacity p) (pointerAt v x z)) (present p (named d))) (below (p .Z)) (λ z m.
       in-none (λ x. ltb (capacity p) (pointerAt v x z)) (present p (named d)) (λ x n.
       let (hx, hn) = present-in p (named d) x n in
-      ap (ltb (capacity p)) (empty-pointer p r k e x z hx (below-in (p .Z) z m)) ∙ le-ltb (capacity p) 0 (omega arith)))
+      ap (ltb (capacity p)) (start-pointer p r k e x z hx (below-in (p .Z) z m)) ∙ le-ltb (capacity p) 0 (omega arith)))
 
   no-segment : (gs : List Segment) → gs ≡ [] → segmentFaults p (named d) gs ≡ []
   unfolding segmentFaults keep
@@ -106,7 +106,7 @@ module _ (p : Params) (rg : inRange p ≡ true) (k : Disk) (e : emptyDisk p k �
   pub empty-accepted : (m : Memory) (n : ℕ) → namesDrive p d ≡ true → lentOk p k m ≡ true → isRefused (callDisk p k m (restart d n) .answer) ≡ false
   empty-accepted m n nm lo = go (restart-ends p k m d n)
     where
-      go : Ended p k m (startChecks p k m d) (startPlan p k m d) (callDisk p k m (restart d n)) → isRefused (callDisk p k m (restart d n) .answer) ≡ false
+      go : EndedAs p k m (startChecks p k m d) (startPlan p k m d) (callDisk p k m (restart d n)) → isRefused (callDisk p k m (restart d n) .answer) ≡ false
       go (ended-refused a q f g h) = some-not-none (sym q ∙ checks-pass m nm lo)
       go (ended-done c f g h) = ap isRefused f ∙ (unfold isRefused kind restartPlan in refl)
       go (ended-cut c f) = ap isRefused f ∙ (unfold isRefused kind in refl)

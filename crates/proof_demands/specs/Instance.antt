@@ -39,9 +39,9 @@ is-finished d n r (refusal q s) nr nc = clash q nr
 
 module _ (p : Params) (l : Lent) (d : ℕ) (o : lentInOrder p l d ≡ true) (e : emptyDisk p (lentDisk l) ≡ true) where
   -- a store count that is enough
-  enough : (n : ℕ) × (finished (callBytes p l (restart d n) .answer) ≡ true)
+  restart-finishes : (n : ℕ) × (finished (callBytes p l (restart d n) .answer) ≡ true)
   unfolding withCount
-  enough =
+  restart-finishes =
       let (ss, due) = demand-1 p l (restart d 0) .stores in
       let n = length ss in
       (n, is-finished d n (callBytes p l (restart d n) .answer) (demand-1 p l (restart d n) .answers) (accepts-empty p l d n o e) (due .whole n (omega arith)))
@@ -50,4 +50,4 @@ module _ (p : Params) (l : Lent) (d : ℕ) (o : lentInOrder p l d ≡ true) (e :
   pub empty-says : areBytes (l .image) ≡ true → (cs : List Call)
       → (n : ℕ) × SaysOn onBytes p (callLent p l (restart d n) .world) [] (segments p (viewIn onBytes p l) (named d)) cs
   unfolding callLent lentDisk
-  empty-says by cs = let (n, q) = enough in (n, demand-2 .after-restart p l d n cs by q .1)
+  empty-says by cs = let (n, q) = restart-finishes in (n, demand-2 .after-restart p l d n cs by q .1)

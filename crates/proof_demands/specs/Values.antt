@@ -24,16 +24,16 @@ use Rattle.spec_demands.specs.Layouts.{Layout}
 use Rattle.spec_demands.specs.Tables.{Pending, pendingAfter, foundAfter, Says, CallSays, SaysOn, AfterRestart}
 use Rattle.law_drives.specs.Image.{bytes-of, shaped-of}
 use Rattle.law_drives.specs.Zones.{Shaped}
-use Rattle.proof_tables.specs.Reading.{says}
+use Rattle.proof_tables.specs.Reading.{run-says}
 use Rattle.proof_tables.specs.Run.{Run}
 use Rattle.proof_tables.specs.Theorem.{restart-finished, stepped}
 use Rattle.law_views.specs.Views.{Whole, seen}
-use Rattle.proof_layout.specs.Calls.{Keeps, laid-write, laid-close, laid-read, laid-fill, laid-reclaim, laid-land, laid-rebuild}
+use Rattle.proof_layout.specs.Calls.{KeepsLaid, laid-write, laid-close, laid-read, laid-fill, laid-reclaim, laid-land, laid-rebuild}
 use Rattle.proof_layout.specs.Laid.{Laid, layout-of}
 use Rattle.proof_layout.specs.Restarts.{restarts-say, laid-first, laid-again}
 
 -- what holds between calls, of the tables, the layout and the stripes in flight
-pub record Holds (p : Params) (k : Disk) (m : Memory) (ws : List Pending) (old : List Segment) : Type 0 where
+pub record Invariant (p : Params) (k : Disk) (m : Memory) (ws : List Pending) (old : List Segment) : Type 0 where
   pub runs : Run p k m
   pub laid : Laid p (seen p k) (m .state .missing) old
   pub flown : Flown p k m ws old
@@ -41,15 +41,15 @@ pub record Holds (p : Params) (k : Disk) (m : Memory) (ws : List Pending) (old :
 -- tables and reads, as the engine over values gives them
 pub says-here : (p : Params) (k : Disk) (m : Memory) → Run p k m → Says onValues p (mkWorld k m)
 unfolding viewIn readsAs callWorld seenAt seenFilled
-says-here p k m u = let s = says p k m (u .base) in record { addresses-say = s .addresses-say; compact-says = s .compact-says; reads-say = s .reads-say }
+says-here p k m u = let s = run-says p k m (u .base) in record { addresses-say = s .addresses-say; compact-says = s .compact-says; reads-say = s .reads-say }
 
-layout-here : (p : Params) (k : Disk) (m : Memory) (ws : List Pending) (old : List Segment) → Holds p k m ws old → Layout p (viewIn onValues p (mkWorld k m)) (m .state .missing) old
+layout-here : (p : Params) (k : Disk) (m : Memory) (ws : List Pending) (old : List Segment) → Invariant p k m ws old → Layout p (viewIn onValues p (mkWorld k m)) (m .state .missing) old
 unfolding viewIn
 layout-here p k m ws old h = layout-of p (seen p k) (m .state .missing) old (h .laid) (h .flown .parities)
 
 -- the layout, by any call
 pub laid-step : (p : Params) (k : Disk) (m : Memory) → Run p k m → (old : List Segment) → Laid p (seen p k) (m .state .missing) old → (c : Call) → isCut (callDisk p k m c .answer) ≡ false
-    → Keeps p (foundAfter p (seen p k) c (callDisk p k m c .answer) old) (callDisk p k m c)
+    → KeepsLaid p (foundAfter p (seen p k) c (callDisk p k m c .answer) old) (callDisk p k m c)
 unfolding foundAfter
 laid-step p k m u old l (write a b n) nc = laid-write p k m u old l a b n nc
 laid-step p k m u old l (land d s n) nc = laid-land p k m u old l d s n nc
@@ -73,7 +73,7 @@ flown-step p k m u ws old f (fill a b) nc = flown-fill p k m u ws old f a b nc
 flown-step p k m u ws old f (restart d n) nc = flown-restart-step p k m ws old d n (λ w. u .base .shaped) f nc
 flown-step p k m u ws old f (rebuild d n) nc = flown-rebuild p k m ws old d n u f nc
 
-call-says : (p : Params) (k : Disk) (m : Memory) (ws : List Pending) (old : List Segment) → Holds p k m ws old → (c : Call) → CallSays onValues p (mkWorld k m) ws c (callWorld p (mkWorld k m) c)
+call-says : (p : Params) (k : Disk) (m : Memory) (ws : List Pending) (old : List Segment) → Invariant p k m ws old → (c : Call) → CallSays onValues p (mkWorld k m) ws c (callWorld p (mkWorld k m) c)
 unfolding callWorld
 call-says p k m ws old h (write a b n) = tt
 call-says p k m ws old h (land d s n) = λ x e. lands-say p k m ws old d s n (h .runs) (h .flown) x e
@@ -84,15 +84,15 @@ call-says p k m ws old h (fill a b) = tt
 call-says p k m ws old h (restart d n) = λ q. restarts-say p k m d n q
 call-says p k m ws old h (rebuild d n) = λ q. rebuilds-say p k m (h .runs) d n q
 
-holds-step : (p : Params) (k : Disk) (m : Memory) (ws : List Pending) (old : List Segment) → Holds p k m ws old → (c : Call) → isCut (callDisk p k m c .answer) ≡ false
-    → Holds p (callDisk p k m c .drives) (callDisk p k m c .memory) (pendingAfter c (callDisk p k m c .answer) ws) (foundAfter p (seen p k) c (callDisk p k m c .answer) old)
+holds-step : (p : Params) (k : Disk) (m : Memory) (ws : List Pending) (old : List Segment) → Invariant p k m ws old → (c : Call) → isCut (callDisk p k m c .answer) ≡ false
+    → Invariant p (callDisk p k m c .drives) (callDisk p k m c .memory) (pendingAfter c (callDisk p k m c .answer) ws) (foundAfter p (seen p k) c (callDisk p k m c .answer) old)
 holds-step p k m ws old h c nc = record {
   runs = stepped p k m (h .runs) c .1 nc;
   laid = laid-step p k m (h .runs) old (h .laid) c nc;
   flown = flown-step p k m (h .runs) ws old (h .flown) c nc;
 }
 
-says-on : (p : Params) (k : Disk) (m : Memory) (ws : List Pending) (old : List Segment) → Holds p k m ws old → (cs : List Call) → SaysOn onValues p (mkWorld k m) ws old cs
+says-on : (p : Params) (k : Disk) (m : Memory) (ws : List Pending) (old : List Segment) → Invariant p k m ws old → (cs : List Call) → SaysOn onValues p (mkWorld k m) ws old cs
 unfolding callWorld viewIn
 says-on p k m ws old h [] = (says-here p k m (h .runs), layout-here p k m ws old h)
 says-on p k m ws old h (c ∷ cs) = (

@@ -28,14 +28,14 @@ use Rattle.law_basic.specs.Ranges.{Test, test, map-append, keep-append, keep-be
 use Rattle.law_basic.specs.Ranges.Test.{yes!, no! }
 use Rattle.proof_crash_calls.specs.Cells.{SameSlot, add-entry, add-entry-old}
 use Rattle.proof_crash_calls.specs.Placed.{data-drive-once, placed-here, placed-other, placed-parity}
-use Rattle.proof_crash_calls.specs.Rel.{Long}
+use Rattle.proof_crash_calls.specs.Rel.{RowsLong}
 use Rattle.proof_crash_calls.specs.Slots.{data-blocks-same}
 use Rattle.spec_demands.specs.Tables.{Pending}
 use Rattle.law_drives.specs.Members.{keep-in, map-cong, below-in}
 use Rattle.law_drives.specs.Tests.{clash, cond-true, cond-false, not-so, eqb-self}
 use Rattle.proof_tables.specs.Run.{Lists}
-use Rattle.proof_tables.specs.Slots.{add-filled, add-writes}
-use Rattle.proof_flights.specs.Flown.{sentOf}
+use Rattle.proof_tables.specs.Slots.{filled-added, add-writes}
+use Rattle.proof_flights.specs.Flown.{pendingOf}
 
 -- a block that fills the next position of eighth i, as one that waits
 abbrev pub freshly : Params → State → ℕ → ℕ → ℕ → List ℕ → Pending
@@ -56,11 +56,11 @@ pub record Eighth (p : Params) (v : View) (st : State) (fl : List ℕ) (ws : Lis
       → chunkAt v d (zoneOn (openSegment st) d) (1 + offsetIn st i d) ≡ mkChunk (slotBlock p fl i d) (recordBytes (flightRec p st i d))
   pub full-landed : isIn (landedIn st i) (parityDrive p (stripeIn st i)) ≡ true → isFull p st i ≡ true
   pub full-ready : isFull p st i ≡ true → slotBlock p fl i (parityDrive p (stripeIn st i)) ≡ parity (p .B) (map (slotBlock p fl i) (dataDrives p (stripeIn st i)))
-  pub waits-are : waitsOf ws (stripeIn st i) ≡ map (sentOf p st fl i) (keep (isWrite st i) (below (filledIn st i)))
+  pub waits-are : waitsOf ws (stripeIn st i) ≡ map (pendingOf p st fl i) (keep (isWrite st i) (below (filledIn st i)))
   pub unmarked : (k : ℕ) → filledIn st i ≤ k → k < 8 → isWrite st i k ≡ false
 
-pub long-of : (st : State) → Lists st → Long st
-long-of st l = record {
+pub lists-long : (st : State) → Lists st → RowsLong st
+lists-long st l = record {
   numbers = l .numbers-long;
   filled = l .filled-long;
   writes = l .writes-long;
@@ -115,8 +115,8 @@ module _ (p : Params) (r : Ranged p) (v u : View) (st su : State) (fl fl′ : Li
   unfolding isFull
   full-same = ap (leb (dataCount p)) (s .filled)
 
-  sent-same : (k : ℕ) → k < dataCount p → sentOf p su fl′ j k ≡ sentOf p st fl j k
-  unfolding sentOf
+  sent-same : (k : ℕ) → k < dataCount p → pendingOf p su fl′ j k ≡ pendingOf p st fl j k
+  unfolding pendingOf
   sent-same k h =
       let e = s .entry k (omega (arith, seven)) in
       let eb : slotBlock p fl′ j (dataDrive p (stripeIn su j) k) ≡ slotBlock p fl j (dataDrive p (stripeIn st j) k) =
@@ -140,9 +140,9 @@ module _ (p : Params) (r : Ranged p) (v u : View) (st su : State) (fl fl′ : Li
         ∙ ap (λ (n : ℕ). parity (p .B) (map (slotBlock p fl′ j) (dataDrives p n))) (sym (s .number));
     waits-are =
         ap (waitsOf ws′) (s .number) ∙ kp ∙ o .waits-are
-        ∙ map-cong (sentOf p st fl j) (sentOf p su fl′ j) (keep (isWrite st j) (below (filledIn st j)))
+        ∙ map-cong (pendingOf p st fl j) (pendingOf p su fl′ j) (keep (isWrite st j) (below (filledIn st j)))
         (λ k m. let x = below-in (filledIn st j) k (keep-in (isWrite st j) (below (filledIn st j)) k m .0) in sym (sent-same k (omega (arith, o .few))))
-        ∙ ap (map (sentOf p su fl′ j)) (keep-below-same (isWrite st j) (isWrite su j) (filledIn st j) (λ k h. sym (s .write k)) ∙ ap (λ (n : ℕ). keep (isWrite su j) (below n)) (sym (s .filled)));
+        ∙ ap (map (pendingOf p su fl′ j)) (keep-below-same (isWrite st j) (isWrite su j) (filledIn st j) (λ k h. sym (s .write k)) ∙ ap (λ (n : ℕ). keep (isWrite su j) (below n)) (sym (s .filled)));
     unmarked = λ k l h. s .write k ∙ o .unmarked k (subst (λ (n : ℕ). n ≤ k) (s .filled) l) h;
   }
     where
@@ -168,8 +168,8 @@ module _ (p : Params) (r : Ranged p) (v : View) (st : State) (ls : Lists st) (fl
   abbrev now : List ℕ
   now = placed p st fl i a t w b .inflight
 
-  L : Long st
-  L = long-of st ls
+  L : RowsLong st
+  L = lists-long st ls
 
   abbrev fresh : Pending
   fresh = freshly p st i a t b
@@ -178,7 +178,7 @@ module _ (p : Params) (r : Ranged p) (v : View) (st : State) (ls : Lists st) (fl
   k8 = omega (arith, data-count-high p r)
 
   filled-is : filledIn st′ i ≡ suc k
-  filled-is = add-filled st ls i il a t w
+  filled-is = filled-added st ls i il a t w
 
   number-is : stripeIn st′ i ≡ s
   unfolding addEntry stripeIn
@@ -244,8 +244,8 @@ module _ (p : Params) (r : Ranged p) (v : View) (st : State) (ls : Lists st) (fl
       go (inl q) = mark-none q k ∙ o .unmarked k (omega arith) k8 ∙ ap (λ (n : ℕ). eqb n 1) (sym q)
       go (inr q) = mark-one q k k8 ∙ ap (λ (x : Bool). x || isWrite st i k) (eqb-self k) ∙ ap (λ (n : ℕ). eqb n 1) (sym q)
 
-  sent-old : (e : ℕ) → e < k → sentOf p st fl i e ≡ sentOf p st′ now i e
-  unfolding sentOf
+  sent-old : (e : ℕ) → e < k → pendingOf p st fl i e ≡ pendingOf p st′ now i e
+  unfolding pendingOf
   sent-old e he =
       let en = add-entry-old st L i il a t w k8 i e (omega (arith, k8)) (inr (λ q. let bad : ⊥ = omega arith in bad)) in
       let eb : slotBlock p now i (dataDrive p s e) ≡ slotBlock p fl i (dataDrive p s e) =
@@ -254,26 +254,26 @@ module _ (p : Params) (r : Ranged p) (v : View) (st : State) (ls : Lists st) (fl
       let ec : slotBlock p now i (dataDrive p (stripeIn st′ i) e) ≡ slotBlock p fl i (dataDrive p s e) = ap (λ (n : ℕ). slotBlock p now i (dataDrive p n e)) number-is ∙ eb in
       sym (λ x. record { stripe = number-is x; drive = dataDrive p (number-is x) e; address = en x .address; stamp = en x .stamp; block = ec x })
 
-  sent-new : sentOf p st′ now i k ≡ fresh
-  unfolding sentOf
+  sent-new : pendingOf p st′ now i k ≡ fresh
+  unfolding pendingOf
   sent-new =
       let en = add-entry st L i il a t w k8 in
       let eb : slotBlock p now i (dataDrive p (stripeIn st′ i) k) ≡ b = ap (λ (n : ℕ). slotBlock p now i (dataDrive p n k)) number-is ∙ placed-here p r st L fl long i il a t w b bl kl in
       λ x. record { stripe = number-is x; drive = dataDrive p (number-is x) k; address = en x .address; stamp = en x .stamp; block = eb x }
 
-  waits-now : waitsOf (plus ws w fresh) s ≡ map (sentOf p st′ now i) (keep (isWrite st′ i) (below (suc k)))
+  waits-now : waitsOf (plus ws w fresh) s ≡ map (pendingOf p st′ now i) (keep (isWrite st′ i) (below (suc k)))
   waits-now =
       keep-append (λ (x : Pending). eqb (x .stripe) s) ws (consIf (eqb w 1) fresh [])
       ∙ ap₂ _++_ (o .waits-are
-      ∙ map-cong (sentOf p st fl i) (sentOf p st′ now i) (keep (isWrite st i) (below k)) (λ e m. sent-old e (below-in k e (keep-in (isWrite st i) (below k) e m .0)))
-      ∙ ap (map (sentOf p st′ now i)) (keep-below-same (isWrite st i) (isWrite st′ i) k (λ e h. sym (mark-old e (omega (arith, k8)) (λ q. let bad : ⊥ = omega arith in bad))))) last
-      ∙ sym (map-append (sentOf p st′ now i) (keep (isWrite st′ i) (below k)) (consIf (isWrite st′ i k) k []))
-      ∙ ap (map (sentOf p st′ now i)) (sym (keep-below-snoc (isWrite st′ i) k) ∙ ap (λ (n : ℕ). keep (isWrite st′ i) (below n)) (add-one k))
+      ∙ map-cong (pendingOf p st fl i) (pendingOf p st′ now i) (keep (isWrite st i) (below k)) (λ e m. sent-old e (below-in k e (keep-in (isWrite st i) (below k) e m .0)))
+      ∙ ap (map (pendingOf p st′ now i)) (keep-below-same (isWrite st i) (isWrite st′ i) k (λ e h. sym (mark-old e (omega (arith, k8)) (λ q. let bad : ⊥ = omega arith in bad))))) last
+      ∙ sym (map-append (pendingOf p st′ now i) (keep (isWrite st′ i) (below k)) (consIf (isWrite st′ i k) k []))
+      ∙ ap (map (pendingOf p st′ now i)) (sym (keep-below-snoc (isWrite st′ i) k) ∙ ap (λ (n : ℕ). keep (isWrite st′ i) (below n)) (add-one k))
     where
-      last : keep (λ (x : Pending). eqb (x .stripe) s) (consIf (eqb w 1) fresh []) ≡ map (sentOf p st′ now i) (consIf (isWrite st′ i k) k [])
+      last : keep (λ (x : Pending). eqb (x .stripe) s) (consIf (eqb w 1) fresh []) ≡ map (pendingOf p st′ now i) (consIf (isWrite st′ i k) k [])
       last = go (eqb w 1) mark-new
         where
-          go : (c : Bool) → isWrite st′ i k ≡ c → keep (λ (x : Pending). eqb (x .stripe) s) (consIf c fresh []) ≡ map (sentOf p st′ now i) (consIf (isWrite st′ i k) k [])
+          go : (c : Bool) → isWrite st′ i k ≡ c → keep (λ (x : Pending). eqb (x .stripe) s) (consIf c fresh []) ≡ map (pendingOf p st′ now i) (consIf (isWrite st′ i k) k [])
           go true e = unfold keep consIf in rw (e, eqb-self s) (ap (λ (x : Pending). x ∷ []) (sym sent-new))
           go false e = unfold keep consIf in rw e
 
@@ -290,7 +290,7 @@ module _ (p : Params) (r : Ranged p) (v : View) (st : State) (ls : Lists st) (fl
     full-ready = λ q. subst (λ (n : ℕ). slotBlock p now i (parityDrive p n) ≡ parity (p .B) (map (slotBlock p now i) (dataDrives p n))) (sym number-is)
         (placed-parity p r st L fl long i il a t w b bl kl (full-count q));
     waits-are =
-        ap (waitsOf (plus ws w fresh)) number-is ∙ waits-now ∙ ap (λ (n : ℕ). map (sentOf p st′ now i) (keep (isWrite st′ i) (below n))) (sym filled-is);
+        ap (waitsOf (plus ws w fresh)) number-is ∙ waits-now ∙ ap (λ (n : ℕ). map (pendingOf p st′ now i) (keep (isWrite st′ i) (below n))) (sym filled-is);
     unmarked = λ e l h. let x = filled-is in mark-old e h (λ q. let bad : ⊥ = omega arith in bad) ∙ o .unmarked e (omega arith) h;
   }
     where

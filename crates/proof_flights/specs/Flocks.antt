@@ -26,10 +26,10 @@ use Rattle.spec_demands.specs.Tables.{Pending, noPending}
 use Rattle.law_drives.specs.Members.{keep-nothing, getD-in}
 use Rattle.law_drives.specs.States.{StateOk}
 use Rattle.law_drives.specs.Tests.{clash, or-cases, or-true-right}
-use Rattle.proof_tables.specs.Run.{flies, Lists, Healthy}
-use Rattle.proof_tables.specs.Slots.{begin-number, begin-filled, begin-landed, begin-writes, add-filled, add-filled-other, add-number, free-is, some-flies}
-use Rattle.proof_flights.specs.Eighths.{freshly, plus, waitsOf, Eighth, long-of, eighth-same, eighth-add}
-use Rattle.proof_flights.specs.Flown.{sentOf, Flights}
+use Rattle.proof_tables.specs.Run.{flies, Lists, HealthyState}
+use Rattle.proof_tables.specs.Slots.{number-begun, filled-begun, landed-begun, begin-writes, filled-added, add-filled-other, number-added, free-is, some-flies}
+use Rattle.proof_flights.specs.Eighths.{freshly, plus, waitsOf, Eighth, lists-long, eighth-same, eighth-add}
+use Rattle.proof_flights.specs.Flown.{pendingOf, Flights}
 
 -- the eighths in use, and that each write that waits is in one of them
 pub record Flock (p : Params) (v : View) (st : State) (fl : List ℕ) (ws : List Pending) (busy : ℕ → Bool) : Type 0 where
@@ -37,7 +37,7 @@ pub record Flock (p : Params) (v : View) (st : State) (fl : List ℕ) (ws : List
   pub waiting : (n : ℕ) → n < length ws → (i : ℕ) × (i < 8) × (busy i ≡ true) × (stripeIn st i ≡ getD ws n noPending .stripe)
 
 -- with a stripe in flight a segment is open
-pub open-of : (p : Params) (v : View) (st : State) → Healthy p v st → (j : ℕ) → j < 8 → flies st j ≡ true → (z : ℕ) × (st .opened ≡ suc z)
+pub open-of : (p : Params) (v : View) (st : State) → HealthyState p v st → (j : ℕ) → j < 8 → flies st j ≡ true → (z : ℕ) × (st .opened ≡ suc z)
 open-of p v st h j hj fj = go (st .opened) refl
   where
     go : (n : ℕ) → st .opened ≡ n → (z : ℕ) × (st .opened ≡ suc z)
@@ -49,7 +49,7 @@ pub none-more : (ws : List Pending) (x : Pending) → plus ws 0 x ≡ ws
 unfolding consIf
 none-more ws x = append-nil ws
 
-pub flock-of : (p : Params) (v : View) (st : State) (fl : List ℕ) (ws : List Pending) → Healthy p v st → StateOk p st → Flights p v st fl ws → Flock p v st fl ws (flies st)
+pub flock-of : (p : Params) (v : View) (st : State) (fl : List ℕ) (ws : List Pending) → HealthyState p v st → StateOk p st → Flights p v st fl ws → Flock p v st fl ws (flies st)
 flock-of p v st fl ws h so f = record {
   each = λ j hj fj. record {
     few = so .slots-ok j hj .filled-ok;
@@ -125,29 +125,29 @@ module _ (p : Params) (r : Ranged p) (v : View) (st : State) (ls : Lists st) (fl
 
   new-eighth : Eighth p v su fl ws i
   new-eighth = record {
-    few = let e = begin-filled st ls i hi in omega arith;
+    few = let e = filled-begun st ls i hi in omega arith;
     data-low = λ d hd q x. none-landed d q;
     landed-here = λ d hd q. none-landed d q;
     full-landed = λ q. none-landed _ q;
     full-ready = λ q. clash q not-full;
-    waits-are = ap (waitsOf ws) (begin-number st ls i hi) ∙ none-waits ∙ sym (ap (λ (n : ℕ). map (sentOf p su fl i) (keep (isWrite su i) (below n))) (begin-filled st ls i hi) ∙ nothing);
+    waits-are = ap (waitsOf ws) (number-begun st ls i hi) ∙ none-waits ∙ sym (ap (λ (n : ℕ). map (pendingOf p su fl i) (keep (isWrite su i) (below n))) (filled-begun st ls i hi) ∙ nothing);
     unmarked = λ k l h. no-write k;
   }
     where
       none-landed : {X : Type 0} (d : ℕ) → isIn (landedIn su i) d ≡ true → X
-      none-landed d q = clash q (ap (λ (m : ℕ). isIn m d) (begin-landed st ls i hi) ∙ isIn-empty d)
+      none-landed d q = clash q (ap (λ (m : ℕ). isIn m d) (landed-begun st ls i hi) ∙ isIn-empty d)
 
       no-write : (k : ℕ) → isWrite su i k ≡ false
       no-write k = unfold isWrite in (ap (λ (m : ℕ). isIn m k) (begin-writes st ls i hi) ∙ isIn-empty k)
 
       not-full : isFull p su i ≡ false
-      not-full = unfold isFull in lt-leb (dataCount p) (filledIn su i) (let e = begin-filled st ls i hi in let c = data-count-low p r in omega arith)
+      not-full = unfold isFull in lt-leb (dataCount p) (filledIn su i) (let e = filled-begun st ls i hi in let c = data-count-low p r in omega arith)
 
-      nothing : map (sentOf p su fl i) (keep (isWrite su i) (below 0)) ≡ []
+      nothing : map (pendingOf p su fl i) (keep (isWrite su i) (below 0)) ≡ []
       nothing = unfold below upFrom keep in refl
 
   old-eighth : (j : ℕ) → (j ≡ i → ⊥) → Eighth p v st fl ws j → Eighth p v su fl ws j
-  old-eighth j n = eighth-same p r v v st su fl fl ws ws j (begin-same st (long-of st ls) i hi j n) (λ d hd. refl) (λ d b hd. same-open d b) refl
+  old-eighth j n = eighth-same p r v v st su fl fl ws ws j (begin-same st (lists-long st ls) i hi j n) (λ d hd. refl) (λ d b hd. same-open d b) refl
     where
       same-open : (d b : ℕ) → chunkAt v d (zoneOn (openSegment su) d) b ≡ chunkAt v d (zoneOn (openSegment st) d) b
       same-open d b = unfold beginStripe openSegment in refl
@@ -157,7 +157,7 @@ module _ (p : Params) (r : Ranged p) (v : View) (st : State) (ls : Lists st) (fl
     each = λ j hj q. go j hj (or-cases (flies st j) (eqb j i) q);
     waiting = λ n h.
         let (j, hj, fj, s) = o .waiting n h in
-        (j, hj, or-yes (flies st j) (eqb j i) fj, begin-same st (long-of st ls) i hi j (λ e. clash fj (ap (flies st) e ∙ nf)) .number ∙ s);
+        (j, hj, or-yes (flies st j) (eqb j i) fj, begin-same st (lists-long st ls) i hi j (λ e. clash fj (ap (flies st) e ∙ nf)) .number ∙ s);
   }
     where
       or-yes : (a b : Bool) → a ≡ true → a || b ≡ true
@@ -204,13 +204,14 @@ module _ (p : Params) (r : Ranged p) (v : View) (st : State) (ls : Lists st) (fl
       go : (j : ℕ) → j < 8 → busy j ≡ true → Dec (j ≡ i) → Eighth p v (addEntry st i a t w) (placed p st fl i a t w b .inflight) ws′ j
       go j hj q (yes e) = subst (λ (x : ℕ). Eighth p v (addEntry st i a t w) (placed p st fl i a t w b .inflight) ws′ x) (sym e)
           (eighth-add p r v st ls fl long ws i hi a t w b bl kl hw (o .each i hi bi))
-      go j hj q (no n) = eighth-same p r v v st (addEntry st i a t w) fl (placed p st fl i a t w b .inflight) ws ws′ j (add-same st (long-of st ls) i hi a t w k8 j n)
-          (λ d hd. placed-other p r st (long-of st ls) fl long i hi a t w b bl kl j d hj hd (inl n)) (λ d b hd. same-open d b) (others-wait (stripeIn st j) (λ e. n (once j hj q e))) (o .each j hj q)
+      go j hj q (no n) = eighth-same p r v v st (addEntry st i a t w) fl (placed p st fl i a t w b .inflight) ws ws′ j (add-same st (lists-long st ls) i hi a t w k8 j n)
+          (λ d hd. placed-other p r st (lists-long st ls) fl long i hi a t w b bl kl j d hj hd (inl n)) (λ d b hd. same-open d b) (others-wait (stripeIn st j) (λ e. n (once j hj q e)))
+          (o .each j hj q)
 
       stays : (n : ℕ) (m : List Pending) → n < length ws → Among (ws ++ m) n
       stays n m h =
           let (j, hj, bj, s) = o .waiting n h in
-          (j, hj, bj, add-number st ls i hi a t w j ∙ s ∙ ap (λ (x : Pending). x .stripe) (sym (List·getD-append ws m noPending n h)))
+          (j, hj, bj, number-added st ls i hi a t w j ∙ s ∙ ap (λ (x : Pending). x .stripe) (sym (List·getD-append ws m noPending n h)))
 
       at : (n : ℕ) → n < length ws′ → (c : Bool) → eqb w 1 ≡ c → Among ws′ n
       at n h c e = subst (λ (x : Bool). Among (ws ++ consIf x new []) n) (sym e) (two c (subst (λ (x : Bool). n < length (ws ++ consIf x new [])) e h) (decLt n (length ws)))
@@ -220,7 +221,7 @@ module _ (p : Params) (r : Ranged p) (v : View) (st : State) (ls : Lists st) (fl
           two true h (no l) =
               let x : length (ws ++ (new ∷ [])) ≡ length ws + 1 = length-append ws (new ∷ []) in
               let e : n ≡ length ws = (let y : n < length (ws ++ (new ∷ [])) = (unfold consIf in h) in omega arith) in
-              (i, hi, bi, add-number st ls i hi a t w i ∙ sym (ap (λ (x : ℕ). getD (ws ++ consIf true new []) x noPending .stripe) e ∙ ap (λ (x : Pending). x .stripe) seam))
+              (i, hi, bi, number-added st ls i hi a t w i ∙ sym (ap (λ (x : ℕ). getD (ws ++ consIf true new []) x noPending .stripe) e ∙ ap (λ (x : Pending). x .stripe) seam))
             where
               seam : getD (ws ++ consIf true new []) (length ws) noPending ≡ new
               seam = unfold consIf in getD-append-seam ws new [] noPending
@@ -239,7 +240,7 @@ flies-add st ls i hi a t w j = go (ℕ-discrete j i)
 
     go : Dec (j ≡ i) → (flies st j || eqb j i) ≡ flies (addEntry st i a t w) j
     go (yes e) = or-true-right (flies st j) (eqb j i) (eq-eqb j i e)
-        ∙ sym (some-flies (addEntry st i a t w) j (λ q. let x = ap (filledIn (addEntry st i a t w)) e ∙ add-filled st ls i hi a t w in let y : ⊥ = omega arith in y))
+        ∙ sym (some-flies (addEntry st i a t w) j (λ q. let x = ap (filledIn (addEntry st i a t w)) e ∙ filled-added st ls i hi a t w in let y : ⊥ = omega arith in y))
     go (no n) = ap (λ (b : Bool). flies st j || b) (ne-eqb j i n) ∙ orf (flies st j)
         ∙ ap not (free-is st j ∙ ap (λ (x : ℕ). eqb x 0) (sym (add-filled-other st ls i hi a t w j n)) ∙ sym (free-is (addEntry st i a t w) j))
 

@@ -20,8 +20,8 @@ use Rattle.proof_tables.specs.Run.{flies}
 use Rattle.law_views.specs.Views.{seen}
 
 -- data position k of eighth i, as the write that filled it sent it
-unfoldable pub sentOf : Params → State → List ℕ → ℕ → ℕ → Pending
-sentOf p st fl i k =
+unfoldable pub pendingOf : Params → State → List ℕ → ℕ → ℕ → Pending
+pendingOf p st fl i k =
     let s = stripeIn st i in
     let d = dataDrive p s k in
     record { stripe = s; drive = d; address = entryIn st i k .address; stamp = entryIn st i k .stamp; block = slotBlock p fl i d }
@@ -37,17 +37,17 @@ pub record Flights (p : Params) (v : View) (st : State) (fl : List ℕ) (ws : Li
       → slotBlock p fl i (parityDrive p (stripeIn st i)) ≡ parity (p .B) (map (slotBlock p fl i) (dataDrives p (stripeIn st i)))
   -- the writes that wait are those of the stripes in flight, by data position
   pub pending-is : (i : ℕ) → i < 8 → flies st i ≡ true
-      → keep (λ (w : Pending). eqb (w .stripe) (stripeIn st i)) ws ≡ map (sentOf p st fl i) (keep (isWrite st i) (below (filledIn st i)))
+      → keep (λ (w : Pending). eqb (w .stripe) (stripeIn st i)) ws ≡ map (pendingOf p st fl i) (keep (isWrite st i) (below (filledIn st i)))
   -- no position that is yet to fill is marked as a write
   pub writes-low : (i k : ℕ) → i < 8 → flies st i ≡ true → filledIn st i ≤ k → k < 8 → isWrite st i k ≡ false
   pub pending-flies : (j : ℕ) → j < length ws → (i : ℕ) × (i < 8) × (flies st i ≡ true) × (stripeIn st i ≡ getD ws j noPending .stripe)
 
 -- the restart of this run found every counted stripe
-abbrev pub Found : Params → View → ℕ → List Segment → Type 0
-Found p v gone old = (g s : ℕ) → Remains p v gone g → s < p .S → counts p gone (segmentOf p v gone g) s ≡ true → foundCounted p gone old (segmentOf p v gone g .serial) s ≡ true
+abbrev pub FoundBefore : Params → View → ℕ → List Segment → Type 0
+FoundBefore p v gone old = (g s : ℕ) → Remains p v gone g → s < p .S → counts p gone (segmentOf p v gone g) s ≡ true → foundCounted p gone old (segmentOf p v gone g .serial) s ≡ true
 
 pub record Flown (p : Params) (k : Disk) (m : Memory) (ws : List Pending) (old : List Segment) : Type 0 where
   pub flights : m .state .missing ≡ 0 → Flights p (seen p k) (m .state) (m .inflight) ws
   pub parities : ParityMade p (seen p k) (m .state .missing) old
   -- with a drive missing nothing was written in this run
-  pub all-found : (m .state .missing ≡ 0 → ⊥) → Found p (seen p k) (m .state .missing) old
+  pub all-found : (m .state .missing ≡ 0 → ⊥) → FoundBefore p (seen p k) (m .state .missing) old

@@ -26,8 +26,8 @@ use Rattle.law_lent.specs.Shorts.{write-keeps, land-keeps, close-keeps, reclaim
 use Rattle.spec_demands.specs.Tables.{Pending, pendingBy, stillPending, pendingAfter}
 use Rattle.law_checks.specs.Passed.{readList, fillList}
 use Rattle.law_drives.specs.Tests.{clash, cond-false, and-false-left, or-neither}
-use Rattle.proof_tables.specs.Outcomes.{Ended, ended, cut-cut}
-use Rattle.proof_tables.specs.Outcomes.Ended.{ended-refused, ended-done, ended-cut}
+use Rattle.proof_tables.specs.Outcomes.{EndedAs, outcome-ends, cut-cut}
+use Rattle.proof_tables.specs.Outcomes.EndedAs.{ended-refused, ended-done, ended-cut}
 use Rattle.proof_tables.specs.Run.{Run}
 use Rattle.law_views.specs.Views.{seen}
 use Rattle.law_calls.specs.Refusals.{refusal-kind}
@@ -36,7 +36,7 @@ use Rattle.proof_flights.specs.Flown.{Flown}
 -- ---- the writes that wait, after an answer that sends none and lands none
 
 -- neither cut nor a finished restart, no block sent, none landed
-pub record Quiet (a : Answer) : Type 0 where
+pub record QuietAnswer (a : Answer) : Type 0 where
   pub goes-on : endsRun a ≡ false
   pub sends-none : eqb (kind a) 3 ≡ false
   pub lands-none : eqb (kind a) 4 ≡ false
@@ -65,13 +65,13 @@ none-sent (fill x b) a q = refl
 none-sent (restart d n) a q = refl
 none-sent (rebuild d n) a q = refl
 
-pub pending-quiet : (c : Call) (a : Answer) (ws : List Pending) → Quiet a → pendingAfter c a ws ≡ ws
+pub pending-quiet : (c : Call) (a : Answer) (ws : List Pending) → QuietAnswer a → pendingAfter c a ws ≡ ws
 unfolding pendingAfter
 pending-quiet c a ws q =
     cond-false (endsRun a) [] (stillPending c a ws ++ pendingBy c a) (q .goes-on) ∙ ap₂ _++_ (still c a ws (q .lands-none)) (none-sent c a (q .sends-none)) ∙ append-nil ws
 
 -- a kind that is none of those
-pub quiet-kind : (a : Answer) (n : ℕ) → kind a ≡ n → eqb n 2 ≡ false → eqb n 3 ≡ false → eqb n 4 ≡ false → eqb n 12 ≡ false → Quiet a
+pub quiet-kind : (a : Answer) (n : ℕ) → kind a ≡ n → eqb n 2 ≡ false → eqb n 3 ≡ false → eqb n 4 ≡ false → eqb n 12 ≡ false → QuietAnswer a
 quiet-kind a n e x y z w = record {
   goes-on = ends;
   sends-none = ap (λ (m : ℕ). eqb m 3) e ∙ y;
@@ -81,7 +81,7 @@ quiet-kind a n e x y z w = record {
     ends : endsRun a ≡ false
     ends = unfold endsRun isCut finished in or-neither (eqb (kind a) 2) (eqb (kind a) 12) (ap (λ (m : ℕ). eqb m 2) e ∙ x) (ap (λ (m : ℕ). eqb m 12) e ∙ w)
 
-pub quiet-refused : (a : Answer) → isRefused a ≡ true → Quiet a
+pub quiet-refused : (a : Answer) → isRefused a ≡ true → QuietAnswer a
 quiet-refused a q = quiet-kind a (kind a) refl (not-it 2 (omega arith)) (not-it 3 (omega arith)) (not-it 4 (omega arith)) (not-it 12 (omega arith))
   where
     low : leb (kind a) 1 ≡ true
@@ -98,15 +98,15 @@ flown-as p k m ws ws′ old x y ex ey ew f =
     subst (λ (a : Disk). Flown p a y ws old) (sym ex) (subst (λ (a : Memory). Flown p k a ws old) (sym ey) (subst (λ (a : List Pending). Flown p k m a old) (sym ew) f))
 
 pub flown-still : (p : Params) (k : Disk) (m : Memory) (ws : List Pending) (old : List Segment) → Flown p k m ws old → (c : Call) (r : After Disk)
-    → r .drives ≡ k → r .memory ≡ m → Quiet (r .answer) → Flown p (r .drives) (r .memory) (pendingAfter c (r .answer) ws) old
+    → r .drives ≡ k → r .memory ≡ m → QuietAnswer (r .answer) → Flown p (r .drives) (r .memory) (pendingAfter c (r .answer) ws) old
 flown-still p k m ws old f c r e g q = flown-as p k m (pendingAfter c (r .answer) ws) ws old (r .drives) (r .memory) e g (pending-quiet c (r .answer) ws q) f
 
 -- a call as it ends: what is left once all is done, else nothing changed
 pub flown-ended : (p : Params) (k : Disk) (m : Memory) (ws : List Pending) (old : List Segment) → Flown p k m ws old → (c : Call) (cs : List Check) (q : Plan) (r : After Disk)
     → (firstRefusal cs ≡ none → Flown p (storeAll (storeDisk p) (q .stores) k) (q .memory) (pendingAfter c (q .answer) ws) old)
-    → isCut (r .answer) ≡ false → Ended p k m cs q r → Flown p (r .drives) (r .memory) (pendingAfter c (r .answer) ws) old
+    → isCut (r .answer) ≡ false → EndedAs p k m cs q r → Flown p (r .drives) (r .memory) (pendingAfter c (r .answer) ws) old
 flown-ended p k m ws old f c cs q r done nc (ended-refused a e x y z) =
-    flown-still p k m ws old f c r y z (subst (λ (b : Answer). Quiet b) (sym x) (quiet-refused a (refusal-kind cs a e)))
+    flown-still p k m ws old f c r y z (subst (λ (b : Answer). QuietAnswer b) (sym x) (quiet-refused a (refusal-kind cs a e)))
 flown-ended p k m ws old f c cs q r done nc (ended-done h x y z) =
     flown-as p _ _ _ _ old (r .drives) (r .memory) y z (ap (λ (b : Answer). pendingAfter c b ws) x) (done h)
 flown-ended p k m ws old f c cs q r done nc (ended-cut h x) = clash (ap isCut x ∙ cut-cut) nc
@@ -134,24 +134,24 @@ module _ (p : Params) (k : Disk) (m : Memory) (u : Run p k m) (ws : List Pending
   found a = lookup p (m .state .missing) (m .addresses) a
 
   -- no store, and memory as it was
-  same : (c : Call) (a : Answer) → Quiet a → Flown p (storeAll (storeDisk p) [] k) m (pendingAfter c a ws) old
+  idle-flown : (c : Call) (a : Answer) → QuietAnswer a → Flown p (storeAll (storeDisk p) [] k) m (pendingAfter c a ws) old
   unfolding storeAll
-  same c a q = flown-as p k m (pendingAfter c a ws) ws old k m refl refl (pending-quiet c a ws q) f
+  idle-flown c a q = flown-as p k m (pendingAfter c a ws) ws old k m refl refl (pending-quiet c a ws q) f
 
-  quiet-read : (x : Found) → Quiet (readAnswer p x)
+  quiet-read : (x : Found) → QuietAnswer (readAnswer p x)
   unfolding readAnswer kind
   quiet-read nowhere = quiet-kind (readAnswer p nowhere) 9 refl refl refl refl refl
   quiet-read (here q) = quiet-kind (readAnswer p (here q)) 8 refl refl refl refl refl
   quiet-read (away q) = quiet-kind (readAnswer p (away q)) 10 refl refl refl refl refl
 
-  quiet-filled : Quiet Filled
+  quiet-filled : QuietAnswer Filled
   unfolding kind
   quiet-filled = quiet-kind Filled 11 refl refl refl refl refl
 
   pub flown-read : (a : ℕ) → isCut (callDisk p k m (read a) .answer) ≡ false
       → Flown p (callDisk p k m (read a) .drives) (callDisk p k m (read a) .memory) (pendingAfter (read a) (callDisk p k m (read a) .answer) ws) old
   unfolding callDisk callOn verdict storeCount lentBlock readVerdict
-  flown-read a nc = flown-ended p k m ws old f (read a) cs q _ (λ h. same (read a) (readAnswer p (found a)) (quiet-read (found a))) nc (ended p k m cs q 0 [])
+  flown-read a nc = flown-ended p k m ws old f (read a) cs q _ (λ h. idle-flown (read a) (readAnswer p (found a)) (quiet-read (found a))) nc (outcome-ends p k m cs q 0 [])
     where
       cs : List Check
       cs = readList p (lentOk p k m) (seen p k) m a
@@ -162,7 +162,7 @@ module _ (p : Params) (k : Disk) (m : Memory) (u : Run p k m) (ws : List Pending
   pub flown-fill : (a : ℕ) (b : List ℕ) → isCut (callDisk p k m (fill a b) .answer) ≡ false
       → Flown p (callDisk p k m (fill a b) .drives) (callDisk p k m (fill a b) .memory) (pendingAfter (fill a b) (callDisk p k m (fill a b) .answer) ws) old
   unfolding callDisk callOn verdict storeCount lentBlock fillVerdict
-  flown-fill a b nc = flown-ended p k m ws old f (fill a b) cs q _ (λ h. same (fill a b) Filled quiet-filled) nc (ended p k m cs q 0 b)
+  flown-fill a b nc = flown-ended p k m ws old f (fill a b) cs q _ (λ h. idle-flown (fill a b) Filled quiet-filled) nc (outcome-ends p k m cs q 0 b)
     where
       cs : List Check
       cs = fillList p (lentOk p k m) (seen p k) m a b

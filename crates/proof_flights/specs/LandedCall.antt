@@ -41,17 +41,17 @@ use Rattle.law_drives.specs.Slots.{block-long! }
 use Rattle.law_drives.specs.States.{StateOk, state-of}
 use Rattle.law_drives.specs.Tests.{clash, not-so, cond-true, cond-false}
 use Rattle.law_drives.specs.Zones.{Shaped, Within, Roomy, shaped-after}
-use Rattle.proof_tables.specs.Chunks.{chunk-roomy, chunk-tidy, chunk-open, chunk-healthy, all-behind, none-left, open-after, uncounted-yet, counts-now}
+use Rattle.proof_tables.specs.Chunks.{chunk-roomy, chunk-tidy, chunk-open, chunk-healthy, all-behind, last-flight, open-after, uncounted-yet, counts-now}
 use Rattle.proof_tables.specs.Going.{buffer-long}
-use Rattle.proof_tables.specs.Landings.{Waits, waits}
-use Rattle.proof_tables.specs.Outcomes.{Ended, ended}
-use Rattle.proof_tables.specs.Outcomes.Ended.{ended-refused, ended-done, ended-cut}
-use Rattle.proof_tables.specs.Run.{flies, Healthy, Well, Run}
+use Rattle.proof_tables.specs.Landings.{LandWaits, land-waits}
+use Rattle.proof_tables.specs.Outcomes.{EndedAs, outcome-ends}
+use Rattle.proof_tables.specs.Outcomes.EndedAs.{ended-refused, ended-done, ended-cut}
+use Rattle.proof_tables.specs.Run.{flies, HealthyState, Well, Run}
 use Rattle.proof_tables.specs.Sealing.{seal-roomy, seal-within, seal-sealed}
 use Rattle.proof_flights.specs.Eighths.{flight-data}
-use Rattle.proof_flights.specs.Flown.{sentOf, Flights, Flown}
+use Rattle.proof_flights.specs.Flown.{pendingOf, Flights, Flown}
 use Rattle.proof_flights.specs.Idled.{flown-ended}
-use Rattle.proof_flights.specs.Written.{well-of, seen-after, parity-none, flown-of}
+use Rattle.proof_flights.specs.Written.{well-of, run-seen-after, flown-parity-made, flown-of}
 use Rattle.proof_flights.specs.LandedChunk.{flies1, stripe1, chunk-flights, chunk-parities, flight-stripe}
 use Rattle.proof_flights.specs.LandedFree.{elsewhere, elsewhere-all, free-flights, seal-parities, seal-counts}
 
@@ -81,9 +81,9 @@ module _ (p : Params) (k : Disk) (m : Memory) (u : Run p k m) (d s : ℕ) where
   plan = landPlan p v m d s
 
   -- how the call ends
-  land-ends : (n : ℕ) → Ended p k m (landChecks p (lentOk p k m) v m d s) plan (callDisk p k m (land d s n))
+  land-ends : (n : ℕ) → EndedAs p k m (landChecks p (lentOk p k m) v m d s) plan (callDisk p k m (land d s n))
   unfolding callDisk callOn verdict storeCount lentBlock landVerdict
-  land-ends n = ended p k m (landChecks p (lentOk p k m) v m d s) plan n []
+  land-ends n = outcome-ends p k m (landChecks p (lentOk p k m) v m d s) plan n []
 
   passed-none : firstRefusal (landChecks p (lentOk p k m) v m d s) ≡ none → st .missing ≡ 0
   passed-none c = land-passed p (lentOk p k m) v m d s c .healthy
@@ -104,11 +104,11 @@ module _ (p : Params) (k : Disk) (m : Memory) (u : Run p k m) (d s : ℕ) where
     sh : Shaped p v
     sh = u .base .shaped
 
-    he : Healthy p v st
+    he : HealthyState p v st
     he = we .healthy
 
-    w : Waits p v st d s
-    w = waits p v st d s he wt
+    w : LandWaits p v st d s
+    w = land-waits p v st d s he wt
 
     abbrev b : List ℕ
     b = slotBlock p fl i d
@@ -165,7 +165,7 @@ module _ (p : Params) (k : Disk) (m : Memory) (u : Run p k m) (d s : ℕ) where
     stores-sealed q = unfold landPlan landStore zoneOn in rw q
 
     pub view-open : seals p st i d ≡ false → seen p (storeAll (storeDisk p) (plan .stores) k) ≡ v1
-    view-open q = ap (λ (ss : List Store). seen p (storeAll (storeDisk p) ss k)) (stores-open q) ∙ seen-after p k m u (store ∷ []) roomy1 within1 ∙ one-store
+    view-open q = ap (λ (ss : List Store). seen p (storeAll (storeDisk p) ss k)) (stores-open q) ∙ run-seen-after p k m u (store ∷ []) roomy1 within1 ∙ one-store
 
     sh1 : Shaped p v1
     sh1 = subst (λ (x : View). Shaped p x) one-store (shaped-after p v (store ∷ []) sh roomy1)
@@ -178,15 +178,15 @@ module _ (p : Params) (k : Disk) (m : Memory) (u : Run p k m) (d s : ℕ) where
         let q1 : x && y ≡ true = and-left (x && y) t sl in
         (and-left x y q1, (eqb-true (st .next) (p .S) (and-right x y q1), eqb-true (length (inFlight st)) 1 (and-right (x && y) t sl)))
 
-    behind : seals p st i d ≡ true → (e : ℕ) → e < p .N → pointerAt v1 e z ≡ 1 + p .S
-    behind sl = let (q, (nx, one)) = seal-parts sl in all-behind p rg v sh st he so z oz d i hd hi fi (w .slot-ready) b lb q nx one
+    pointers-full : seals p st i d ≡ true → (e : ℕ) → e < p .N → pointerAt v1 e z ≡ 1 + p .S
+    pointers-full sl = let (q, (nx, one)) = seal-parts sl in all-behind p rg v sh st he so z oz d i hd hi fi (w .slot-ready) b lb q nx one
 
     pub view-sealed : seals p st i d ≡ true → seen p (storeAll (storeDisk p) (plan .stores) k) ≡ v2
     view-sealed q =
         ap (λ (ss : List Store). seen p (storeAll (storeDisk p) ss k)) (stores-sealed q)
-        ∙ seen-after p k m u ((store ∷ []) ++ sealStores p v1 z)
-        (roomy-append p v (store ∷ []) (sealStores p v1 z) (sh .sized) roomy1 (subst (λ (x : View). Roomy p x (sealStores p v1 z)) (sym one-store) (seal-roomy p rg v1 sh1 z hz (behind q))))
-        (within-append p (store ∷ []) (sealStores p v1 z) within1 (seal-within p rg v1 sh1 z hz (behind q)))
+        ∙ run-seen-after p k m u ((store ∷ []) ++ sealStores p v1 z)
+        (roomy-append p v (store ∷ []) (sealStores p v1 z) (sh .sized) roomy1 (subst (λ (x : View). Roomy p x (sealStores p v1 z)) (sym one-store) (seal-roomy p rg v1 sh1 z hz (pointers-full q))))
+        (within-append p (store ∷ []) (sealStores p v1 z) within1 (seal-within p rg v1 sh1 z hz (pointers-full q)))
         ∙ storeAll-append storeView (store ∷ []) (sealStores p v1 z) v ∙ ap (storeAll storeView (sealStores p v1 z)) one-store
 
     -- ---- what is left
@@ -211,7 +211,7 @@ module _ (p : Params) (k : Disk) (m : Memory) (u : Run p k m) (d s : ℕ) where
       F = f .flights none
 
       pm : ParityMade p v 0 old
-      pm = parity-none p k m ws old f none
+      pm = flown-parity-made p k m ws old f none
 
       pm1 : ParityMade p v1 0 old
       pm1 = λ g t. chunk-parities p rg v sh st he so oz d i hd hi fi (w .slot-ready) fl lb ws F old pm g t
@@ -239,7 +239,7 @@ module _ (p : Params) (k : Disk) (m : Memory) (u : Run p k m) (d s : ℕ) where
       }
         where
           left : (j : ℕ) → j < 8 → flies st2 j ≡ false
-          left j hj = none-left p rg v sh st he so z oz d i hd hi fi (w .slot-ready) b lb (seal-parts sl .1 .1) j hj
+          left j hj = last-flight p rg v sh st he so z oz d i hd hi fi (w .slot-ready) b lb (seal-parts sl .1 .1) j hj
 
           none! : (j : ℕ) → j < 8 → flies (setClosed st2) j ≡ false
           none! j hj = unfold setClosed isFree filledIn in left j hj
@@ -277,15 +277,15 @@ module _ (p : Params) (k : Disk) (m : Memory) (u : Run p k m) (d s : ℕ) where
           go (no! q) t = make v1 st1 ws (view-open (not-sealed q)) (state-open q) kept1 F1 pm1 (cond-false (completes p st i d) (elsewhere s ws) ws q)
           go (yes! q) (no! ns) = make v1 st2 (elsewhere s ws) (view-open ns) (state-freed q ns) kept2 F2 pm1 (cond-true (completes p st i d) (elsewhere s ws) ws q)
           go (yes! q) (yes! sl) = make v2 (setClosed st2) (elsewhere s ws) (view-sealed sl) (state-closed q sl) kept3 (F3 sl)
-              (seal-parities p rg v1 sh1 z hz (behind sl) (st .serial .0) (chunk-tidy p rg v sh st he so z oz d i hd hi fi (w .slot-ready) b lb) old pm1)
+              (seal-parities p rg v1 sh1 z hz (pointers-full sl) (st .serial .0) (chunk-tidy p rg v sh st he so z oz d i hd hi fi (w .slot-ready) b lb) old pm1)
               (cond-true (completes p st i d) (elsewhere s ws) ws q)
 
       -- the writes of the stripe
-      mine : keep (λ (x : Pending). eqb (x .stripe) s) ws ≡ map (sentOf p st fl i) (keep (isWrite st i) (below (filledIn st i)))
-      mine = ap (λ (n : ℕ). keep (λ (x : Pending). eqb (x .stripe) n) ws) (sym (w .slot-stripe)) ∙ F .pending-is i hi fi
+      stripe-sends : keep (λ (x : Pending). eqb (x .stripe) s) ws ≡ map (pendingOf p st fl i) (keep (isWrite st i) (below (filledIn st i)))
+      stripe-sends = ap (λ (n : ℕ). keep (λ (x : Pending). eqb (x .stripe) n) ws) (sym (w .slot-stripe)) ∙ F .pending-is i hi fi
 
       mine-count : length (keep (λ (x : Pending). eqb (x .stripe) s) ws) ≡ writesIn st i
-      mine-count = as! (ap length mine ∙ length-map (keep (isWrite st i) (below (filledIn st i))) (sentOf p st fl i))
+      mine-count = as! (ap length stripe-sends ∙ length-map (keep (isWrite st i) (below (filledIn st i))) (pendingOf p st fl i))
         where
           as! : length (keep (λ (x : Pending). eqb (x .stripe) s) ws) ≡ length (keep (isWrite st i) (below (filledIn st i)))
               → length (keep (λ (x : Pending). eqb (x .stripe) s) ws) ≡ writesIn st i
@@ -320,7 +320,7 @@ module _ (p : Params) (k : Disk) (m : Memory) (u : Run p k m) (d s : ℕ) where
         where
           go : Test (seals p st i d) → sealedIn p after 0 z ≡ seals p st i d
           go (no! q) = ap (λ (x : View). sealedIn p x 0 z) (view-open q) ∙ open-after p rg v sh st he so z oz d i hd hi fi (w .slot-ready) b lb ∙ sym q
-          go (yes! q) = ap (λ (x : View). sealedIn p x 0 z) (view-sealed q) ∙ seal-sealed p rg v1 sh1 z hz (behind q) ∙ sym q
+          go (yes! q) = ap (λ (x : View). sealedIn p x 0 z) (view-sealed q) ∙ seal-sealed p rg v1 sh1 z hz (pointers-full q) ∙ sym q
 
       view-after : after ≡ storeAll storeView (store ∷ cond (sealedIn p after 0 z) (sealStores p v1 z) []) v
       view-after = go (test (seals p st i d))
@@ -349,7 +349,7 @@ module _ (p : Params) (k : Disk) (m : Memory) (u : Run p k m) (d s : ℕ) where
           go (no! q) t = at-view v1 (view-open (not-so (seals p st i d) (λ sl. clash (seal-parts sl .0) q)))
               ∙ not-so (counts p 0 (segmentOf p v1 0 z) (stripeIn st i)) (uncounted-yet p rg v sh st he so z oz d i hd hi fi (w .slot-ready) b lb q) ∙ sym q
           go (yes! q) (no! ns) = at-view v1 (view-open ns) ∙ now q ∙ sym q
-          go (yes! q) (yes! sl) = at-view v2 (view-sealed sl) ∙ seal-counts p rg v1 sh1 z hz (behind sl) (stripeIn st i) (now q) ∙ sym q
+          go (yes! q) (yes! sl) = at-view v2 (view-sealed sl) ∙ seal-counts p rg v1 sh1 z hz (pointers-full sl) (stripeIn st i) (now q) ∙ sym q
 
       -- the number acknowledged
       acknowledged : (x : ℕ) → plan .answer ≡ Landed x → x ≡ cond (counts p 0 (segmentOf p after 0 z) s) (pendingIn ws s) 0
@@ -370,14 +370,14 @@ module _ (p : Params) (k : Disk) (m : Memory) (u : Run p k m) (d s : ℕ) where
       was-sent : (y : Pending) → In y ws → y .stripe ≡ s → y .drive ≡ d
           → (b ≡ y .block) × (flightRec p st i d .address ≡ y .address) × (flightRec p st i d .stamp ≡ y .stamp)
       was-sent y n es ed =
-          let (j, jn, e) = map-in (sentOf p st fl i) (keep (isWrite st i) (below (filledIn st i))) y
-          (subst (λ (l : List Pending). In y l) mine (in-keep (λ (x : Pending). eqb (x .stripe) s) ws y n (eq-eqb (y .stripe) s es))) in
+          let (j, jn, e) = map-in (pendingOf p st fl i) (keep (isWrite st i) (below (filledIn st i))) y
+          (subst (λ (l : List Pending). In y l) stripe-sends (in-keep (λ (x : Pending). eqb (x .stripe) s) ws y n (eq-eqb (y .stripe) s es))) in
           sent! j e (sym (ap (λ (x : Pending). x .drive) e ∙ drive! j) ∙ ed)
         where
-          drive! : (j : ℕ) → sentOf p st fl i j .drive ≡ dataDrive p (stripeIn st i) j
-          drive! j = unfold sentOf in refl
+          drive! : (j : ℕ) → pendingOf p st fl i j .drive ≡ dataDrive p (stripeIn st i) j
+          drive! j = unfold pendingOf in refl
 
-          sent! : (j : ℕ) → y ≡ sentOf p st fl i j → dataDrive p (stripeIn st i) j ≡ d
+          sent! : (j : ℕ) → y ≡ pendingOf p st fl i j → dataDrive p (stripeIn st i) j ≡ d
               → (b ≡ y .block) × (flightRec p st i d .address ≡ y .address) × (flightRec p st i d .stamp ≡ y .stamp)
           sent! j e q =
               let c : flightRec p st i d ≡ entryIn st i j =
@@ -387,14 +387,14 @@ module _ (p : Params) (k : Disk) (m : Memory) (u : Run p k m) (d s : ℕ) where
                 ap (λ (x : Rec). x .stamp) c ∙ stamp! ∙ ap (λ (x : Pending). x .stamp) (sym e),
               )
             where
-              block! : slotBlock p fl i (dataDrive p (stripeIn st i) j) ≡ sentOf p st fl i j .block
-              block! = unfold sentOf in refl
+              block! : slotBlock p fl i (dataDrive p (stripeIn st i) j) ≡ pendingOf p st fl i j .block
+              block! = unfold pendingOf in refl
 
-              address! : entryIn st i j .address ≡ sentOf p st fl i j .address
-              address! = unfold sentOf in refl
+              address! : entryIn st i j .address ≡ pendingOf p st fl i j .address
+              address! = unfold pendingOf in refl
 
-              stamp! : entryIn st i j .stamp ≡ sentOf p st fl i j .stamp
-              stamp! = unfold sentOf in refl
+              stamp! : entryIn st i j .stamp ≡ pendingOf p st fl i j .stamp
+              stamp! = unfold pendingOf in refl
 
 -- ---- the flights after the call
 
@@ -421,7 +421,7 @@ lands-say p k m ws old d s n u f x q = go (land-ends p k m u d s n)
     kind-four : kind (Landed x) ≡ 4
     kind-four = unfold kind in refl
 
-    go : Ended p k m (landChecks p (lentOk p k m) (seen p k) m d s) (landPlan p (seen p k) m d s) (callDisk p k m (land d s n))
+    go : EndedAs p k m (landChecks p (lentOk p k m) (seen p k) m d s) (landPlan p (seen p k) m d s) (callDisk p k m (land d s n))
         → Lands onValues p (mkWorld k m) ws d s (callWorld p (mkWorld k m) (land d s n)) x
     go (ended-refused a e ea ex ey) = absurd (refused-not (refusal-kind (landChecks p (lentOk p k m) (seen p k) m d s) a e) (ap kind (sym ea ∙ q) ∙ kind-four))
       where

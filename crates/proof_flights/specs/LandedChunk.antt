@@ -40,10 +40,10 @@ use Rattle.law_drives.specs.Tests.{or-true-left, cond-false, eqb-self}
 use Rattle.law_drives.specs.Zones.{Shaped}
 use Rattle.proof_tables.specs.Chunks.{cells-differ, pointer-some, pointer-data, chunk-zone, chunk-other, chunk-pointer, pointer-else, chunk-grows, mask-now}
 use Rattle.proof_tables.specs.Chunks.{chunk-open, open-before, open-after, all-landed, uncounted-yet, landed-chunk, all-filled}
-use Rattle.proof_tables.specs.Run.{flies, Flight, Open, Healthy}
+use Rattle.proof_tables.specs.Run.{flies, SlotFlies, OpenZone, HealthyState}
 use Rattle.proof_tables.specs.Slots.{mark-landed-other, mark-offset, mark-offset-other}
 use Rattle.proof_flights.specs.Eighths.{flight-data}
-use Rattle.proof_flights.specs.Flown.{sentOf, Flights}
+use Rattle.proof_flights.specs.Flown.{pendingOf, Flights}
 use Rattle.proof_flights.specs.LandedPieces.{piece-parts, Extends, extends-piece, extends-back, data-drives-in, parity-grows}
 use Rattle.proof_flights.specs.Pieces.{ParityAt}
 
@@ -84,7 +84,7 @@ module _ (p : Params) (st : State) (i : ℕ) where
       go (yes! q) = ap (λ (x : Rec). x .stripe) (flight-data p st i e q) ∙ entry! (dataPosition p (stripeIn st i) e)
       go (no! q) = ap (λ (x : Rec). x .stripe) (flight-parity e q) ∙ par!
 
-module _ (p : Params) (r : Ranged p) (v : View) (st : State) (z i : ℕ) (f : Flight p v st z i) (full : filledIn st i ≡ dataCount p) (so : stripeIn st i < p .S) where
+module _ (p : Params) (r : Ranged p) (v : View) (st : State) (z i : ℕ) (f : SlotFlies p v st z i) (full : filledIn st i ≡ dataCount p) (so : stripeIn st i < p .S) where
   abbrev Low : Rec → Type 0
   Low x = (x .address < 256 ^ 8) × (x .stamp < 256 ^ 8)
 
@@ -103,9 +103,9 @@ module _ (p : Params) (r : Ranged p) (v : View) (st : State) (z i : ℕ) (f : Fl
       let l2 : k < filledIn st i = subst (λ (x : ℕ). k < x) n l in
       subst (λ (x : ℕ). x < 2 ^ 64) (sym (ap (λ (m : List ℕ). getD m k 0) (entries-map g) ∙ getD-map-below (λ k. g (entryIn st i k)) (filledIn st i) k 0 l2)) (h k l2)
 
-  parity-low : Low (parityRec (stripeIn st i) (entriesIn st i))
+  flight-parity-low : Low (parityRec (stripeIn st i) (entriesIn st i))
   unfolding parityRec
-  parity-low = (
+  flight-parity-low = (
     xorAll-lt 64 (map (λ (x : Rec). x .address) (entriesIn st i)) (each-low (λ (x : Rec). x .address) (λ k l. f .entries-low k l .0)),
     xorAll-lt 64 (map (λ (x : Rec). x .stamp) (entriesIn st i)) (each-low (λ (x : Rec). x .stamp) (λ k l. f .entries-low k l .1)),
   )
@@ -116,7 +116,7 @@ module _ (p : Params) (r : Ranged p) (v : View) (st : State) (z i : ℕ) (f : Fl
       go : Test (isData p (stripeIn st i) e) → Low (flightRec p st i e)
       go (yes! q) = subst (λ (x : Rec). Low x) (sym (flight-data p st i e q))
           (f .entries-low (dataPosition p (stripeIn st i) e) (subst (λ (x : ℕ). dataPosition p (stripeIn st i) e < x) (sym full) (position-lt p (stripeIn st i) e q he)))
-      go (no! q) = subst (λ (x : Rec). Low x) (sym (flight-parity p st i e q)) parity-low
+      go (no! q) = subst (λ (x : Rec). Low x) (sym (flight-parity p st i e q)) flight-parity-low
 
   -- stored and read back it is the same
   pub flight-back : (e : ℕ) → e < p .N → recordOf (recordBytes (flightRec p st i e)) ≡ flightRec p st i e
@@ -137,7 +137,7 @@ module _ (p : Params) (r : Ranged p) (v : View) (st : State) (z i : ℕ) (f : Fl
 
 -- ---- the chunk
 
-module _ (p : Params) (r : Ranged p) (v : View) (sh : Shaped p v) (st : State) (h : Healthy p v st) (so : StateOk p st) (oz : st .opened ≡ suc (openSegment st))
+module _ (p : Params) (r : Ranged p) (v : View) (sh : Shaped p v) (st : State) (h : HealthyState p v st) (so : StateOk p st) (oz : st .opened ≡ suc (openSegment st))
     (d i : ℕ) (hd : d < p .N) (hi : i < 8) (fi : flies st i ≡ true) (rd : ready p st i d ≡ true) (fl : List ℕ) (lb : length (slotBlock p fl i d) ≡ p .B) where
   abbrev z : ℕ
   z = openSegment st
@@ -273,9 +273,9 @@ module _ (p : Params) (r : Ranged p) (v : View) (sh : Shaped p v) (st : State) (
             → slotBlock p fl j (parityDrive p (stripeIn st1 j)) ≡ parity (p .B) (map (slotBlock p fl j) (dataDrives p (stripeIn st1 j)))
         ready! j x = unfold stripeIn markLanded in x
 
-        pending! : (j : ℕ) → keep (λ (w : Pending). eqb (w .stripe) (stripeIn st j)) ws ≡ map (sentOf p st fl j) (keep (isWrite st j) (below (filledIn st j)))
-            → keep (λ (w : Pending). eqb (w .stripe) (stripeIn st1 j)) ws ≡ map (sentOf p st1 fl j) (keep (isWrite st1 j) (below (filledIn st1 j)))
-        pending! j x = unfold sentOf stripeIn isWrite filledIn entryIn markLanded in x
+        pending! : (j : ℕ) → keep (λ (w : Pending). eqb (w .stripe) (stripeIn st j)) ws ≡ map (pendingOf p st fl j) (keep (isWrite st j) (below (filledIn st j)))
+            → keep (λ (w : Pending). eqb (w .stripe) (stripeIn st1 j)) ws ≡ map (pendingOf p st1 fl j) (keep (isWrite st1 j) (below (filledIn st1 j)))
+        pending! j x = unfold pendingOf stripeIn isWrite filledIn entryIn markLanded in x
 
         low! : (j k : ℕ) → filledIn st1 j ≤ k → filledIn st j ≤ k
         low! j k l = unfold filledIn markLanded in l
@@ -310,7 +310,7 @@ module _ (p : Params) (r : Ranged p) (v : View) (sh : Shaped p v) (st : State) (
         ∙ map-cong (λ e. storedPiece seg1 s e .rec) (flightRec p st i) (dataDrives p s) (λ e m. ap (λ (y : Piece). y .rec) (piece e (data-drives-in p s e m)))
         ∙ flight-entries p r v st z i f0 filled s-low)))
       where
-        f0 : Flight p v st z i
+        f0 : SlotFlies p v st z i
         f0 = h .opens-at z oz .flight i hi fi
 
         filled : filledIn st i ≡ dataCount p
@@ -380,7 +380,7 @@ module _ (p : Params) (r : Ranged p) (v : View) (sh : Shaped p v) (st : State) (
         → recordIn p (sealedIn p v1 0 z) (zoneAt v1 e z) x .stripe ≡ t → x < dataStored p (zoneAt v e z)
     was-there t n e he x l q = go (ℕ-discrete d e)
       where
-        op : Open p v1 st1 (flies st) z
+        op : OpenZone p v1 st1 (flies st) z
         op = chunk-open p r v sh st h so z oz d i hd hi fi rd b lb
 
         on : isIn (landedIn st1 i) d ≡ true

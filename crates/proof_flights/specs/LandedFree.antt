@@ -37,8 +37,8 @@ use Rattle.law_drives.specs.Tidy.{Tidy}
 use Rattle.law_drives.specs.Zones.{Shaped}
 use Rattle.proof_tables.specs.Run.{flies, Lists}
 use Rattle.proof_tables.specs.Sealing.{seal-zone, seal-pointer, seal-grows, seal-records}
-use Rattle.proof_tables.specs.Slots.{free-filled, free-filled-other, none-flies}
-use Rattle.proof_flights.specs.Flown.{sentOf, Flights}
+use Rattle.proof_tables.specs.Slots.{filled-freed, free-filled-other, none-flies}
+use Rattle.proof_flights.specs.Flown.{pendingOf, Flights}
 use Rattle.proof_flights.specs.LandedPieces.{Extends, extends-counts, extends-piece, extends-sym, parity-grows}
 
 -- ---- an eighth is freed
@@ -76,13 +76,13 @@ module _ (p : Params) (v : View) (st : State) (ls : Lists st) (i : ℕ) (hi : i 
   st2 = freeStripe st i
 
   not-here : (j : ℕ) → flies st2 j ≡ true → j ≡ i → ⊥
-  not-here j f e = clash (subst (λ (x : ℕ). flies st2 x ≡ true) e f) (none-flies st2 i (free-filled st ls i hi))
+  not-here j f e = clash (subst (λ (x : ℕ). flies st2 x ≡ true) e f) (none-flies st2 i (filled-freed st ls i hi))
 
   filled2 : (j : ℕ) → (j ≡ i → ⊥) → filledIn st2 j ≡ filledIn st j
   filled2 j n = free-filled-other st ls i hi j n
 
-  flies2 : (j : ℕ) → (j ≡ i → ⊥) → flies st2 j ≡ flies st j
-  flies2 j n = as! (ap (λ (x : ℕ). not (eqb x 0)) (filled2 j n))
+  freed-flies : (j : ℕ) → (j ≡ i → ⊥) → flies st2 j ≡ flies st j
+  freed-flies j n = as! (ap (λ (x : ℕ). not (eqb x 0)) (filled2 j n))
     where
       as! : not (eqb (filledIn st2 j) 0) ≡ not (eqb (filledIn st j) 0) → flies st2 j ≡ flies st j
       as! e = unfold isFree in e
@@ -114,12 +114,12 @@ module _ (p : Params) (v : View) (st : State) (ls : Lists st) (i : ℕ) (hi : i 
 
   pub free-flights : Flights p v st2 fl (elsewhere (stripeIn st i) ws)
   free-flights = record {
-    landed-is = λ j e hj fj he q. let n = not-here j fj in at! j e n (F .landed-is j e hj (sym (flies2 j n) ∙ fj) he (landed! j e q));
-    parity-full = λ j hj fj q. let n = not-here j fj in full2 j n ∙ F .parity-full j hj (sym (flies2 j n) ∙ fj) (bit! j q);
-    parity-ready = λ j hj fj q. let n = not-here j fj in ready! j (F .parity-ready j hj (sym (flies2 j n) ∙ fj) (sym (full2 j n) ∙ q));
+    landed-is = λ j e hj fj he q. let n = not-here j fj in at! j e n (F .landed-is j e hj (sym (freed-flies j n) ∙ fj) he (landed! j e q));
+    parity-full = λ j hj fj q. let n = not-here j fj in full2 j n ∙ F .parity-full j hj (sym (freed-flies j n) ∙ fj) (bit! j q);
+    parity-ready = λ j hj fj q. let n = not-here j fj in ready! j (F .parity-ready j hj (sym (freed-flies j n) ∙ fj) (sym (full2 j n) ∙ q));
     pending-is = λ j hj fj. let n = not-here j fj in pending! j n
-        (elsewhere-of (stripeIn st i) (stripeIn st j) ws (λ e. n (once j hj (sym (flies2 j n) ∙ fj) e)) ∙ F .pending-is j hj (sym (flies2 j n) ∙ fj));
-    writes-low = λ j k hj fj l hk. let n = not-here j fj in writes! j k (F .writes-low j k hj (sym (flies2 j n) ∙ fj) (subst (λ (x : ℕ). x ≤ k) (filled2 j n) l) hk);
+        (elsewhere-of (stripeIn st i) (stripeIn st j) ws (λ e. n (once j hj (sym (freed-flies j n) ∙ fj) e)) ∙ F .pending-is j hj (sym (freed-flies j n) ∙ fj));
+    writes-low = λ j k hj fj l hk. let n = not-here j fj in writes! j k (F .writes-low j k hj (sym (freed-flies j n) ∙ fj) (subst (λ (x : ℕ). x ≤ k) (filled2 j n) l) hk);
     pending-flies = λ k hk. waits k hk;
   }
     where
@@ -138,15 +138,15 @@ module _ (p : Params) (v : View) (st : State) (ls : Lists st) (i : ℕ) (hi : i 
       ready! j x = unfold stripeIn freeStripe in x
 
       pending! : (j : ℕ) → (j ≡ i → ⊥)
-          → keep (λ (w : Pending). eqb (w .stripe) (stripeIn st j)) (elsewhere (stripeIn st i) ws) ≡ map (sentOf p st fl j) (keep (isWrite st j) (below (filledIn st j)))
-          → keep (λ (w : Pending). eqb (w .stripe) (stripeIn st2 j)) (elsewhere (stripeIn st i) ws) ≡ map (sentOf p st2 fl j) (keep (isWrite st2 j) (below (filledIn st2 j)))
-      pending! j n x = left ∙ x ∙ ap (λ (m : ℕ). map (sentOf p st fl j) (keep (isWrite st j) (below m))) (sym (filled2 j n)) ∙ right
+          → keep (λ (w : Pending). eqb (w .stripe) (stripeIn st j)) (elsewhere (stripeIn st i) ws) ≡ map (pendingOf p st fl j) (keep (isWrite st j) (below (filledIn st j)))
+          → keep (λ (w : Pending). eqb (w .stripe) (stripeIn st2 j)) (elsewhere (stripeIn st i) ws) ≡ map (pendingOf p st2 fl j) (keep (isWrite st2 j) (below (filledIn st2 j)))
+      pending! j n x = left ∙ x ∙ ap (λ (m : ℕ). map (pendingOf p st fl j) (keep (isWrite st j) (below m))) (sym (filled2 j n)) ∙ right
         where
           left : keep (λ (w : Pending). eqb (w .stripe) (stripeIn st2 j)) (elsewhere (stripeIn st i) ws) ≡ keep (λ (w : Pending). eqb (w .stripe) (stripeIn st j)) (elsewhere (stripeIn st i) ws)
           left = unfold stripeIn freeStripe in refl
 
-          right : map (sentOf p st fl j) (keep (isWrite st j) (below (filledIn st2 j))) ≡ map (sentOf p st2 fl j) (keep (isWrite st2 j) (below (filledIn st2 j)))
-          right = unfold sentOf isWrite entryIn stripeIn freeStripe in refl
+          right : map (pendingOf p st fl j) (keep (isWrite st j) (below (filledIn st2 j))) ≡ map (pendingOf p st2 fl j) (keep (isWrite st2 j) (below (filledIn st2 j)))
+          right = unfold pendingOf isWrite entryIn stripeIn freeStripe in refl
 
       writes! : (j k : ℕ) → isWrite st j k ≡ false → isWrite st2 j k ≡ false
       writes! j k x = unfold isWrite freeStripe in x
@@ -160,7 +160,7 @@ module _ (p : Params) (v : View) (st : State) (ls : Lists st) (i : ℕ) (hi : i 
           let (j, hj, fj, e) = F .pending-flies x hx in
           let es : stripeIn st j ≡ w .stripe = e ∙ ap (λ (y : Pending). y .stripe) (sym ex) in
           let n : j ≡ i → ⊥ = λ a. away (sym es ∙ ap (stripeIn st) a) in
-          (j, hj, flies2 j n ∙ fj, stripe2 j ∙ es)
+          (j, hj, freed-flies j n ∙ fj, stripe2 j ∙ es)
 
 -- ---- a segment is sealed
 
@@ -171,17 +171,17 @@ module _ (p : Params) (r : Ranged p) (v : View) (sh : Shaped p v) (z : ℕ) (hz 
   all-data : (w : View) (e : ℕ) → 1 + p .S ≤ pointerAt w e z → dataStored p (zoneAt w e z) ≡ p .S
   all-data w e l = unfold pointerAt dataStored in (let x : min (zoneAt w e z .pointer - 1) (p .S) ≡ p .S = omega arith in x)
 
-  before : (e : ℕ) → e < p .N → dataStored p (zoneAt v e z) ≡ p .S
-  before e he = all-data v e (let a = behind e he in omega arith)
+  stored-before : (e : ℕ) → e < p .N → dataStored p (zoneAt v e z) ≡ p .S
+  stored-before e he = all-data v e (let a = behind e he in omega arith)
 
-  after : (e : ℕ) → e < p .N → dataStored p (zoneAt u e z) ≡ p .S
-  after e he = all-data u e (let a = seal-pointer p r v sh z hz behind e he in let c = capacity-over p r in omega arith)
+  stored-after : (e : ℕ) → e < p .N → dataStored p (zoneAt u e z) ≡ p .S
+  stored-after e he = all-data u e (let a = seal-pointer p r v sh z hz behind e he in let c = capacity-over p r in omega arith)
 
   seal-extends : (e : ℕ) → e < p .N → Extends p 0 v u z e
   seal-extends e he = record {
-    more = le-of-eq (before e he ∙ sym (after e he));
+    more = le-of-eq (stored-before e he ∙ sym (stored-after e he));
     same-record = λ o l.
-        sym (record-at p (sealedIn p u 0 z) (zoneAt u e z) o (mkRec 0 0 0) (subst (λ (n : ℕ). o < n) (before e he ∙ sym (after e he)) l))
+        sym (record-at p (sealedIn p u 0 z) (zoneAt u e z) o (mkRec 0 0 0) (subst (λ (n : ℕ). o < n) (stored-before e he ∙ sym (stored-after e he)) l))
         ∙ ap (λ (rs : List Rec). getD rs o (mkRec 0 0 0)) (sym (seal-records p r v sh z hz behind e he))
         ∙ record-at p (sealedIn p v 0 z) (zoneAt v e z) o (mkRec 0 0 0) l;
     same-block = λ o l.
@@ -190,7 +190,7 @@ module _ (p : Params) (r : Ranged p) (v : View) (sh : Shaped p v) (z : ℕ) (hz 
   }
     where
       low : (o : ℕ) → o < dataStored p (zoneAt v e z) → 1 + o < zoneAt v e z .pointer
-      low o l = let a = before e he in let c = at! (behind e he) in omega arith
+      low o l = let a = stored-before e he in let c = at! (behind e he) in omega arith
         where
           at! : pointerAt v e z ≡ 1 + p .S → zoneAt v e z .pointer ≡ 1 + p .S
           at! q = unfold pointerAt in q
@@ -201,5 +201,5 @@ module _ (p : Params) (r : Ranged p) (v : View) (sh : Shaped p v) (z : ℕ) (hz 
 
   pub seal-parities : (n : ℕ) → Tidy p v n → (old : List Segment) → ParityMade p v 0 old → ParityMade p u 0 old
   seal-parities n ti old pm = parity-grows p r v u z (seal-grows p r v sh z hz behind) n ti old pm
-      (λ t ht c. let c0 = extends-counts p 0 u v z (λ e he q. extends-sym p 0 v u z e (le-of-eq (after e he ∙ sym (before e he))) (seal-extends e he)) t c in
+      (λ t ht c. let c0 = extends-counts p 0 u v z (λ e he q. extends-sym p 0 v u z e (le-of-eq (stored-after e he ∙ sym (stored-before e he))) (seal-extends e he)) t c in
       inl (c0, λ e he. extends-piece p 0 v u z e he (isIn-empty e) (seal-extends e he) t (counts-in p 0 (segmentOf p v 0 z) t e c0 he (isIn-empty e))))

@@ -29,26 +29,26 @@ use Rattle.law_drives.specs.Tidy.{usedAt, Tidy}
 abbrev pub ZonesAs : Params → View → View → ℕ → Type 0
 ZonesAs p v u g = (d : ℕ) → d < p .N → zoneAt u d (zoneOn g d) ≡ zoneAt v d (zoneOn g d)
 
-pub zones-same : (p : Params) (v u : View) (g : ℕ) → ZonesAs p v u g → SameZones p v u g
+pub zones-as-same : (p : Params) (v u : View) (g : ℕ) → ZonesAs p v u g → SameZones p v u g
 unfolding zoneOn
-zones-same p v u g sm d h = sym (sm d h)
+zones-as-same p v u g sm d h = sym (sm d h)
 
 -- the segment as read
 pub same-segment : (p : Params) → Ranged p → (v u : View) (g : ℕ) → ZonesAs p v u g → segmentOf p u 0 g ≡ segmentOf p v 0 g
-same-segment p r v u g sm = sym (zones-segment p r v u g (zones-same p v u g sm))
+same-segment p r v u g sm = sym (zones-segment p r v u g (zones-as-same p v u g sm))
 
-pub same-counts : (p : Params) → Ranged p → (v u : View) (g s : ℕ) → ZonesAs p v u g → counts p 0 (segmentOf p u 0 g) s ≡ counts p 0 (segmentOf p v 0 g) s
-same-counts p r v u g s sm = ap (λ (x : Segment). counts p 0 x s) (same-segment p r v u g sm)
+pub counts-as : (p : Params) → Ranged p → (v u : View) (g s : ℕ) → ZonesAs p v u g → counts p 0 (segmentOf p u 0 g) s ≡ counts p 0 (segmentOf p v 0 g) s
+counts-as p r v u g s sm = ap (λ (x : Segment). counts p 0 x s) (same-segment p r v u g sm)
 
-pub same-piece : (p : Params) → Ranged p → (v u : View) (g s d : ℕ) → ZonesAs p v u g → storedPiece (segmentOf p u 0 g) s d ≡ storedPiece (segmentOf p v 0 g) s d
-same-piece p r v u g s d sm = ap (λ (x : Segment). storedPiece x s d) (same-segment p r v u g sm)
+pub stored-piece-as : (p : Params) → Ranged p → (v u : View) (g s d : ℕ) → ZonesAs p v u g → storedPiece (segmentOf p u 0 g) s d ≡ storedPiece (segmentOf p v 0 g) s d
+stored-piece-as p r v u g s d sm = ap (λ (x : Segment). storedPiece x s d) (same-segment p r v u g sm)
 
 -- ---- what counts
 
 -- a stripe counts where every drive has its chunk
-pub all-count : (p : Params) (x : Segment) (s : ℕ) → ((d : ℕ) → d < p .N → hasChunk x s d ≡ true) → counts p 0 x s ≡ true
+pub counts-by-all : (p : Params) (x : Segment) (s : ℕ) → ((d : ℕ) → d < p .N → hasChunk x s d ≡ true) → counts p 0 x s ≡ true
 unfolding counts
-all-count p x s f = in-all (hasChunk x s) (present p 0) (λ d m. f d (present-in p 0 d m .0))
+counts-by-all p x s f = in-all (hasChunk x s) (present p 0) (λ d m. f d (present-in p 0 d m .0))
 
 pub count-all : (p : Params) (x : Segment) (s : ℕ) → counts p 0 x s ≡ true → (d : ℕ) → d < p .N → hasChunk x s d ≡ true
 count-all p x s q d h = counts-in p 0 x s d q h (isIn-empty d)
@@ -65,27 +65,27 @@ module _ (p : Params) (v : View) (g d s : ℕ) (hd : d < p .N) where
   abbrev seg : Segment
   seg = segmentOf p v 0 g
 
-  piece-parts : storedPiece seg s d ≡ mkPiece (getD (getD (seg .zonesBy) d noZone .blocks) (1 + offsetOn seg d s) noChunk .block) (storedRec seg s d)
+  piece-made : storedPiece seg s d ≡ mkPiece (getD (getD (seg .zonesBy) d noZone .blocks) (1 + offsetOn seg d s) noChunk .block) (storedRec seg s d)
   unfolding storedPiece storedRec
-  piece-parts = refl
+  piece-made = refl
 
   block-there : (o : ℕ) → getD (getD (seg .zonesBy) d noZone .blocks) (1 + o) noChunk .block ≡ chunkAt v d (zoneOn g d) (1 + o) .block
   unfolding chunkAt zoneOn
   block-there o = ap (λ (x : Zone). getD (x .blocks) (1 + o) noChunk .block) (zone-by p v 0 g d hd)
 
-  record-there : (o : ℕ) → recordIn p (sealedIn p v 0 g) (zoneAt v d g) o ≡ recordAt p v 0 d g o
+  recordIn-at : (o : ℕ) → recordIn p (sealedIn p v 0 g) (zoneAt v d g) o ≡ recordAt p v 0 d g o
   unfolding recordAt zoneOn
-  record-there o = refl
+  recordIn-at o = refl
 
   -- where the drive has the chunk
   pub piece-at : hasChunk seg s d ≡ true → storedPiece seg s d ≡ mkPiece (chunkAt v d (zoneOn g d) (1 + offsetOn seg d s) .block) (recordAt p v 0 d g (offsetOn seg d s))
-  piece-at q = piece-parts ∙ ap₂ mkPiece (block-there (offsetOn seg d s)) (chunk-at p v 0 g d s hd (isIn-empty d) q .its-record ∙ record-there (offsetOn seg d s))
+  piece-at q = piece-made ∙ ap₂ mkPiece (block-there (offsetOn seg d s)) (chunk-at p v 0 g d s hd (isIn-empty d) q .its-record ∙ recordIn-at (offsetOn seg d s))
 
   -- and the offset is known: the first of the stripe
-  pub piece-is : (o : ℕ) → o < dataStored p (zoneAt v d (zoneOn g d)) → recordAt p v 0 d g o .stripe ≡ s → ((i : ℕ) → i < o → recordAt p v 0 d g i .stripe ≡ s → ⊥)
+  pub stored-piece-is : (o : ℕ) → o < dataStored p (zoneAt v d (zoneOn g d)) → recordAt p v 0 d g o .stripe ≡ s → ((i : ℕ) → i < o → recordAt p v 0 d g i .stripe ≡ s → ⊥)
       → (hasChunk seg s d ≡ true) × (offsetOn seg d s ≡ o) × (storedPiece seg s d ≡ mkPiece (chunkAt v d (zoneOn g d) (1 + o) .block) (recordAt p v 0 d g o))
   unfolding recordAt zoneOn
-  piece-is o l e f =
+  stored-piece-is o l e f =
       let h = has-chunk p v 0 g d s o hd (isIn-empty d) l e in
       let eo = offset-is p v 0 g d s o hd (isIn-empty d) l e f in
       (h, eo, piece-at h ∙ ap (λ (x : ℕ). mkPiece (chunkAt v d (zoneOn g d) (1 + x) .block) (recordAt p v 0 d g x)) eo)

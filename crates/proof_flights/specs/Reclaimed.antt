@@ -45,22 +45,22 @@ use Rattle.law_drives.specs.Zones.{Shaped}
 use Rattle.proof_tables.specs.Bounds.{open-short}
 use Rattle.proof_tables.specs.Going.{address-table, buffer-long}
 use Rattle.proof_tables.specs.Live.{Pointed, places-pointed}
-use Rattle.proof_tables.specs.Outcomes.{ended}
-use Rattle.proof_tables.specs.Reclaiming.{taken, live-in}
-use Rattle.proof_tables.specs.Run.{flies, Healthy, Well, Run}
-use Rattle.proof_tables.specs.Sending.{sends, plenty}
+use Rattle.proof_tables.specs.Outcomes.{outcome-ends}
+use Rattle.proof_tables.specs.Reclaiming.{victim-taken, live-in}
+use Rattle.proof_tables.specs.Run.{flies, HealthyState, Well, Run}
+use Rattle.proof_tables.specs.Sending.{sent-ok, plenty}
 use Rattle.law_views.specs.Views.{seen}
 use Rattle.law_drives.specs.States.{StateOk, state-of}
 use Rattle.proof_flights.specs.Flocks.{none-more, flock-of, of-flock, flock-same}
 use Rattle.proof_flights.specs.Flown.{Flights, Flown}
-use Rattle.proof_flights.specs.Idled.{Quiet, pending-quiet, quiet-kind, flown-as, flown-ended}
+use Rattle.proof_flights.specs.Idled.{QuietAnswer, pending-quiet, quiet-kind, flown-as, flown-ended}
 use Rattle.proof_flights.specs.Pieces.{parity-zones, remains-of-used, used-of-remains}
 use Rattle.proof_flights.specs.Sent.{leaves-sent}
-use Rattle.proof_flights.specs.Written.{well-of, seen-after, parity-none, flown-of}
+use Rattle.proof_flights.specs.Written.{well-of, run-seen-after, flown-parity-made, flown-of}
 
 -- ---- a sealed segment is reset
 
-module _ (p : Params) (r : Ranged p) (v : View) (sh : Shaped p v) (g : ℕ) (hg : g < p .Z) (st : State) (h : Healthy p v st) (so : StateOk p st)
+module _ (p : Params) (r : Ranged p) (v : View) (sh : Shaped p v) (g : ℕ) (hg : g < p .Z) (st : State) (h : HealthyState p v st) (so : StateOk p st)
     (full : (d : ℕ) → d < p .N → pointerAt v d g ≡ capacity p) where
   abbrev after : View
   after = storeAll storeView (resetStores p g) v
@@ -136,7 +136,7 @@ module _ (p : Params) (k : Disk) (m : Memory) (u : Run p k m) (ws : List Pending
   reset-left : Well p k m → isNone w ≡ false → Left (resetPlan p m (victimSegment w))
   reset-left we nn =
       let g = victimSegment w in
-      let t = taken p v (m .addresses) nn in
+      let t = victim-taken p v (m .addresses) nn in
       let hg = t .taken-low in
       let sh = u .base .shaped in
       let full = sealed-full p v g (t .taken-sealed) in
@@ -146,9 +146,9 @@ module _ (p : Params) (k : Disk) (m : Memory) (u : Run p k m) (ws : List Pending
       flown-as p k′ m′ _ ws old _ _ (ap (λ (l : List Store). storeAll (storeDisk p) l k) (stores-is g)) (memory-is g)
       (ap (λ (y : Answer). pendingAfter (reclaim n) y ws) (answer-is g) ∙ pending-quiet (reclaim n) (Reset g) ws (quiet-reset g))
       (flown-of p k′ m′ ws old (storeAll storeView (resetStores p g) v)
-      (seen-after p k m u (resetStores p g) (reset-roomy p rg v sh g hg) (reset-within p rg v sh g hg)) (we .none-missing)
+      (run-seen-after p k m u (resetStores p g) (reset-roomy p rg v sh g hg) (reset-within p rg v sh g hg)) (we .none-missing)
       (flights-reset p rg v sh g hg st (we .healthy) so full (m .inflight) ws (f .flights (we .none-missing)))
-      (parity-reset p rg v sh g hg st (we .healthy) so full old (parity-none p k m ws old f (we .none-missing))))
+      (parity-reset p rg v sh g hg st (we .healthy) so full old (flown-parity-made p k m ws old f (we .none-missing))))
     where
       stores-is : (g : ℕ) → resetPlan p m g .stores ≡ resetStores p g
       stores-is g = unfold resetPlan in refl
@@ -159,7 +159,7 @@ module _ (p : Params) (k : Disk) (m : Memory) (u : Run p k m) (ws : List Pending
       answer-is : (g : ℕ) → resetPlan p m g .answer ≡ Reset g
       answer-is g = unfold resetPlan in refl
 
-      quiet-reset : (g : ℕ) → Quiet (Reset g)
+      quiet-reset : (g : ℕ) → QuietAnswer (Reset g)
       quiet-reset g = quiet-kind (Reset g) 7 (unfold kind in refl) refl refl refl refl
 
   -- the block that is copied, as it is sent
@@ -175,7 +175,7 @@ module _ (p : Params) (k : Disk) (m : Memory) (u : Run p k m) (ws : List Pending
       let q = firstOr 0 (idle p v st w) in
       let at! = address-table p k m u we in
       let i : In q (victimLive w) = idle-live q (first-in (idle p v st w) 0 ni) in
-      let i′ : In q (liveIn p (placesIn p (m .addresses)) (victimSegment w)) = subst (λ (x : List ℕ). In q x) (taken p v (m .addresses) nn .taken-live) i in
+      let i′ : In q (liveIn p (placesIn p (m .addresses)) (victimSegment w)) = subst (λ (x : List ℕ). In q x) (victim-taken p v (m .addresses) nn .taken-live) i in
       let t : Pointed p v q = places-pointed p rg v (m .addresses) at! q (live-in p (placesIn p (m .addresses)) (victimSegment w) q i′) in
       let c = t .cand in
       let kc = t .at-cand! in
@@ -195,9 +195,10 @@ module _ (p : Params) (k : Disk) (m : Memory) (u : Run p k m) (ws : List Pending
       let sh = u .base .shaped in
       let bu = buffer-long p k m u we in
       let b = chunkAt v d (placeZone p q) (placeBlock p q) .block in
-      let s = sends p rg v sh st (we .healthy) so (m .inflight) bu (rec q .address) (rec q .stamp) 0 b (subst (λ (y : Rec). y .address < 256 ^ 8) (sym er) (low .0))
+      let s = sent-ok p rg v sh st (we .healthy) so (m .inflight) bu (rec q .address) (rec q .stamp) 0 b (subst (λ (y : Rec). y .address < 256 ^ 8) (sym er) (low .0))
       (subst (λ (y : Rec). y .stamp < 256 ^ 8) (sym er) (low .1)) (omega arith) lb nw ns (λ z. plenty p v 1 (sc z)) in
-      let le = leaves-sent p rg v sh st (we .healthy) so (m .inflight) bu ws old (f .flights (we .none-missing)) (parity-none p k m ws old f (we .none-missing)) (rec q .address) (rec q .stamp) 0 b
+      let le = leaves-sent p rg v sh st (we .healthy) so (m .inflight) bu ws old (f .flights (we .none-missing)) (flown-parity-made p k m ws old f (we .none-missing)) (rec q .address)
+      (rec q .stamp) 0 b
       (inl refl) lb nw ns (λ z. plenty p v 1 (sc z)) in
       let e = copied q in
       let k′ = storeAll (storeDisk p) (e .stores) k in
@@ -205,7 +206,7 @@ module _ (p : Params) (k : Disk) (m : Memory) (u : Run p k m) (ws : List Pending
       let v′ = storeAll storeView (e .stores) v in
       flown-as p k′ m′ _ ws old _ _ (ap (λ (l : List Store). storeAll (storeDisk p) l k) (stores-is q)) (memory-is q)
       (ap (λ (y : Answer). pendingAfter (reclaim n) y ws) (answer-is q) ∙ pending-quiet (reclaim n) _ ws (quiet-copied (rec q .stamp) (e .stripe) (e .drive)))
-      (flown-of p k′ m′ ws old v′ (seen-after p k m u (e .stores) (s .has-room) (s .all-within)) (s .missing-after ∙ we .none-missing)
+      (flown-of p k′ m′ ws old v′ (run-seen-after p k m u (e .stores) (s .has-room) (s .all-within)) (s .missing-after ∙ we .none-missing)
       (subst (λ (x : List Pending). Flights p v′ (e .state) (e .inflight) x) (none-more ws _) (le .0)) (le .1))
     where
       idle-live : (q : ℕ) → In q (idle p v st w) → In q (victimLive w)
@@ -232,7 +233,7 @@ module _ (p : Params) (k : Disk) (m : Memory) (u : Run p k m) (ws : List Pending
       answer-is : (q : ℕ) → copyPlan p v m q .answer ≡ Copied (aStamp (rec q .stamp)) (copied q .stripe) (copied q .drive)
       answer-is q = unfold copyPlan in refl
 
-      quiet-copied : (t s d : ℕ) → Quiet (Copied (aStamp t) s d)
+      quiet-copied : (t s d : ℕ) → QuietAnswer (Copied (aStamp t) s d)
       quiet-copied t s d = quiet-kind (Copied (aStamp t) s d) 6 (unfold kind in refl) refl refl refl refl
 
   done : firstRefusal checks ≡ none → Left plan
@@ -253,4 +254,4 @@ module _ (p : Params) (k : Disk) (m : Memory) (u : Run p k m) (ws : List Pending
   pub flown-reclaim : isCut (callDisk p k m (reclaim n) .answer) ≡ false
       → Flown p (callDisk p k m (reclaim n) .drives) (callDisk p k m (reclaim n) .memory) (pendingAfter (reclaim n) (callDisk p k m (reclaim n) .answer) ws) old
   unfolding callDisk callOn verdict storeCount lentBlock reclaimVerdict
-  flown-reclaim nc = flown-ended p k m ws old f (reclaim n) checks plan _ done nc (ended p k m checks plan n [])
+  flown-reclaim nc = flown-ended p k m ws old f (reclaim n) checks plan _ done nc (outcome-ends p k m checks plan n [])

@@ -45,22 +45,22 @@ use Rattle.law_drives.specs.Segs.{remaining-low}
 use Rattle.law_drives.specs.Tables.{zero-at}
 use Rattle.law_drives.specs.Tests.{clash, or-true-right, cond-true, cond-false}
 use Rattle.law_drives.specs.Zones.{Shaped, all-fit}
-use Rattle.proof_tables.specs.Outcomes.{Ended, ended, cut-unfinished, cut-cut}
-use Rattle.proof_tables.specs.Outcomes.Ended.{ended-refused, ended-done, ended-cut}
+use Rattle.proof_tables.specs.Outcomes.{EndedAs, outcome-ends, cut-unfinished, cut-cut}
+use Rattle.proof_tables.specs.Outcomes.EndedAs.{ended-refused, ended-done, ended-cut}
 use Rattle.proof_tables.specs.Run.{flies, Run}
 use Rattle.proof_tables.specs.Slots.{none-flies}
-use Rattle.proof_tables.specs.Starting.{memory-missing, startChecks, startPlan, Begins, begins}
+use Rattle.proof_tables.specs.Starting.{memory-missing, startChecks, startPlan, Begins, start-begins}
 use Rattle.proof_tables.specs.Theorem.{restart-ends}
-use Rattle.proof_flights.specs.Flown.{Flights, Found, Flown}
+use Rattle.proof_flights.specs.Flown.{Flights, FoundBefore, Flown}
 use Rattle.proof_flights.specs.Idled.{quiet-refused, flown-still, flown-ended}
-use Rattle.proof_flights.specs.Written.{seen-after, flown-of}
-use Rattle.proof_flights.specs.RestartedViews.{found-in, settles-parities, settles-mended}
+use Rattle.proof_flights.specs.Written.{run-seen-after, flown-of}
+use Rattle.proof_flights.specs.RestartedViews.{counted-found, settles-parities, settles-mended}
 
 -- ---- a drive is missing
 
 -- all is known where every counted stripe was found
 pub flown-found : (p : Params) (k : Disk) (m : Memory) (ws : List Pending) (old : List Segment) → (m .state .missing ≡ 0 → ⊥)
-    → Found p (seen p k) (m .state .missing) old → Flown p k m ws old
+    → FoundBefore p (seen p k) (m .state .missing) old → Flown p k m ws old
 flown-found p k m ws old n f = record {
   flights = λ e. absurd (n e);
   parities = λ g s rm hs c q. clash (f g s rm hs c) q;
@@ -102,9 +102,9 @@ module _ (p : Params) (k : Disk) (m : Memory) (d : ℕ) (shk : Whole p k → Sha
   sh : Shaped p v
   sh = shk w
 
-  plan-stores : plan .stores ≡ restartStores p (named d) (segments p v (named d))
+  start-plan-stores : plan .stores ≡ restartStores p (named d) (segments p v (named d))
   unfolding restartPlan
-  plan-stores = refl
+  start-plan-stores = refl
 
   plan-memory : plan .memory ≡ restartMemory p (storeAll storeView (plan .stores) v) (named d) (m .inflight)
   unfolding restartPlan
@@ -127,12 +127,12 @@ module _ (p : Params) (k : Disk) (m : Memory) (d : ℕ) (shk : Whole p k → Sha
       nothing = unfold storeAll in refl
 
       drives-same : storeAll (storeDisk p) (plan .stores) k ≡ k
-      drives-same = ap (λ (l : List Store). storeAll (storeDisk p) l k) (plan-stores ∙ none!) ∙ nothing
+      drives-same = ap (λ (l : List Store). storeAll (storeDisk p) l k) (start-plan-stores ∙ none!) ∙ nothing
 
       found : (g s : ℕ) → Remains p v (plan .memory .state .missing) g → counts p (plan .memory .state .missing) (segmentOf p v (plan .memory .state .missing) g) s ≡ true
           → foundCounted p (plan .memory .state .missing) (segments p v (named d)) (segmentOf p v (plan .memory .state .missing) g .serial) s ≡ true
       found g s = subst (λ (n : ℕ). Remains p v n g → counts p n (segmentOf p v n g) s ≡ true → foundCounted p n (segments p v (named d)) (segmentOf p v n g .serial) s ≡ true)
-          (sym plan-missing) (found-in p v (named d) g s)
+          (sym plan-missing) (counted-found p v (named d) g s)
 
   -- it names none
   well-flown : named d ≡ 0 → Flown p (storeAll (storeDisk p) (plan .stores) k) (plan .memory) [] (segments p v (named d))
@@ -147,7 +147,7 @@ module _ (p : Params) (k : Disk) (m : Memory) (d : ℕ) (shk : Whole p k → Sha
       let va = storeAll storeView ds v in
       let u = storeAll storeView ts va in
       let md = mended p rg v sh acc c6 c8 bd in
-      let es : plan .stores ≡ ds ++ ts = plan-stores ∙ ap (λ (g : ℕ). restartStores p g (segments p v g)) nd ∙ zero! in
+      let es : plan .stores ≡ ds ++ ts = start-plan-stores ∙ ap (λ (g : ℕ). restartStores p g (segments p v g)) nd ∙ zero! in
       let ev : seen p (storeAll (storeDisk p) (plan .stores) k) ≡ u =
       ap (λ (l : List Store). seen p (storeAll (storeDisk p) l k)) es
       ∙ view-stores p k (ds ++ ts) (capacity-word p rg) w (all-fit p v (ds ++ ts) (sh .sized) (within-append p ds ts (drop-within p rg v sh acc) (md .mend-within))
@@ -174,11 +174,11 @@ pub flown-restart : (p : Params) (k : Disk) (m : Memory) (d n : ℕ) → (Whole 
     → Flown p (callDisk p k m (restart d n) .drives) (callDisk p k m (restart d n) .memory) [] (segments p (seen p k) (named d))
 flown-restart p k m d n sh q = go (restart-ends p k m d n)
   where
-    go : Ended p k m (startChecks p k m d) (startPlan p k m d) (callDisk p k m (restart d n))
+    go : EndedAs p k m (startChecks p k m d) (startPlan p k m d) (callDisk p k m (restart d n))
         → Flown p (callDisk p k m (restart d n) .drives) (callDisk p k m (restart d n) .memory) [] (segments p (seen p k) (named d))
     go (ended-refused a e f g h) = clash q (ap finished f ∙ refused-unfinished a (refusal-kind (startChecks p k m d) a e))
     go (ended-done c f g h) = subst (λ (x : Disk). Flown p x (callDisk p k m (restart d n) .memory) [] (segments p (seen p k) (named d))) (sym g)
-        (subst (λ (x : Memory). Flown p (storeAll (storeDisk p) (startPlan p k m d .stores) k) x [] (segments p (seen p k) (named d))) (sym h) (start-flown p k m d sh (begins p k m d c)))
+        (subst (λ (x : Memory). Flown p (storeAll (storeDisk p) (startPlan p k m d .stores) k) x [] (segments p (seen p k) (named d))) (sym h) (start-flown p k m d sh (start-begins p k m d c)))
     go (ended-cut c f) = clash q (ap finished f ∙ cut-unfinished)
 
 -- a restart in a run, finished or refused
@@ -201,7 +201,7 @@ flown-restart-step p k m ws old d n sh f nc = go (restart-ends p k m d n) (test 
     old! : finished (r .answer) ≡ false → foundAfter p (seen p k) (restart d n) (r .answer) old ≡ old
     old! q = unfold foundAfter in cond-false (finished (r .answer)) (segments p (seen p k) (named d)) old q
 
-    go : Ended p k m (startChecks p k m d) (startPlan p k m d) (callDisk p k m (restart d n)) → Test (finished (callDisk p k m (restart d n) .answer))
+    go : EndedAs p k m (startChecks p k m d) (startPlan p k m d) (callDisk p k m (restart d n)) → Test (finished (callDisk p k m (restart d n) .answer))
         → Flown p (callDisk p k m (restart d n) .drives) (callDisk p k m (restart d n) .memory) (pendingAfter (restart d n) (callDisk p k m (restart d n) .answer) ws)
         (foundAfter p (seen p k) (restart d n) (callDisk p k m (restart d n) .answer) old)
     go x (yes! q) =
@@ -223,19 +223,19 @@ core-counts : (p : Params) (gone : ℕ) (g : Segment) (s : ℕ) → counts p gon
 unfolding core counts hasChunk recsOn
 core-counts p gone g s = refl
 
-core-serial : (g : Segment) → g .serial ≡ core g .serial
+serial-core : (g : Segment) → g .serial ≡ core g .serial
 unfolding core
-core-serial g = refl
+serial-core g = refl
 
 found-agrees : (p : Params) (gone : ℕ) (v u : View) (old : List Segment) → In (lowDrive p gone) (present p gone) → Agree p gone v u
-    → Found p v gone old → Found p u gone old
+    → FoundBefore p v gone old → FoundBefore p u gone old
 found-agrees p gone v u old low ag f g s rm hs c =
     let er = same-remaining p gone v u low ag in
     let rv : Remains p v gone g = ap (isMember g) er ∙ rm in
     let ec = same-core p gone v u low ag g (remaining-low p v gone g (is-member g (remaining p v gone) rv)) in
     let sx = segmentOf p v gone g in
     let sy = segmentOf p u gone g in
-    let es : sx .serial ≡ sy .serial = core-serial sx ∙ ap (λ (x : Segment). x .serial) ec ∙ sym (core-serial sy) in
+    let es : sx .serial ≡ sy .serial = serial-core sx ∙ ap (λ (x : Segment). x .serial) ec ∙ sym (serial-core sy) in
     let cx : counts p gone sx s ≡ true = core-counts p gone sx s ∙ ap (λ (x : Segment). counts p gone x s) ec ∙ sym (core-counts p gone sy s) ∙ c in
     ap (λ (n : ℕ). foundCounted p gone old n s) (sym es) ∙ f g s rv hs cx
 
@@ -243,13 +243,13 @@ module _ (p : Params) (k : Disk) (m : Memory) (u : Run p k m) (d : ℕ) where
   abbrev plan′ : Plan
   plan′ = mkPlan (rebuildStores p d (segments p (seen p k) (named d))) Rebuilt m []
 
-  rebuild-ends : (n : ℕ) → Ended p k m (rebuildChecks p (lentOk p k m) (seen p k) m d (segments p (seen p k) (named d))) plan′ (callDisk p k m (rebuild d n))
+  rebuild-ends : (n : ℕ) → EndedAs p k m (rebuildChecks p (lentOk p k m) (seen p k) m d (segments p (seen p k) (named d))) plan′ (callDisk p k m (rebuild d n))
   unfolding callDisk callOn verdict storeCount lentBlock rebuildVerdict
-  rebuild-ends n = ended p k m (rebuildChecks p (lentOk p k m) (seen p k) m d (segments p (seen p k) (named d))) plan′ n []
+  rebuild-ends n = outcome-ends p k m (rebuildChecks p (lentOk p k m) (seen p k) m d (segments p (seen p k) (named d))) plan′ n []
 
   -- it is of the missing drive
-  names-it : firstRefusal (rebuildChecks p (lentOk p k m) (seen p k) m d (segments p (seen p k) (named d))) ≡ none → (d < p .N) × (m .state .missing ≡ named d)
-  names-it e = let c = rebuild-passed p (lentOk p k m) (seen p k) m d (segments p (seen p k) (named d)) e in (c .drive-low, c .names)
+  rebuild-names : firstRefusal (rebuildChecks p (lentOk p k m) (seen p k) m d (segments p (seen p k) (named d))) ≡ none → (d < p .N) × (m .state .missing ≡ named d)
+  rebuild-names e = let c = rebuild-passed p (lentOk p k m) (seen p k) m d (segments p (seen p k) (named d)) e in (c .drive-low, c .names)
 
   rebuilt-flown : d < p .N → m .state .missing ≡ named d → (ws qs : List Pending) (old : List Segment) → Flown p k m ws old → Flown p (storeAll (storeDisk p) (plan′ .stores) k) m qs old
   rebuilt-flown hd q ws qs old f =
@@ -260,12 +260,12 @@ module _ (p : Params) (k : Disk) (m : Memory) (u : Run p k m) (d : ℕ) where
       let sh = u .base .shaped in
       let lost = named-in p rg d hd in
       let ev : seen p (storeAll (storeDisk p) (plan′ .stores) k) ≡ v′ =
-      seen-after p k m u (plan′ .stores) (rebuild-roomy p rg v sh d hd lost) (rebuild-within p rg v sh d hd lost) in
+      run-seen-after p k m u (plan′ .stores) (rebuild-roomy p rg v sh d hd lost) (rebuild-within p rg v sh d hd lost) in
       let ag : Agree p gone v v′ = subst (λ (y : ℕ). Agree p y v v′) (sym q) (rebuild-agrees p rg v sh d hd lost) in
       let low : In (lowDrive p gone) (present p gone) = subst (λ (y : ℕ). In (lowDrive p y) (present p y)) (sym q) (low-present p rg d hd) in
       let n : gone ≡ 0 → ⊥ = λ e. eqb-false (named d) 0 (named-some p rg d hd) (sym q ∙ e) in
       flown-found p (storeAll (storeDisk p) (plan′ .stores) k) m qs old n
-      (subst (λ (y : View). Found p y gone old) (sym ev) (found-agrees p gone v v′ old low ag (f .all-found n)))
+      (subst (λ (y : View). FoundBefore p y gone old) (sym ev) (found-agrees p gone v v′ old low ag (f .all-found n)))
 
 -- what holds of the flights holds after an uncut rebuild
 pub flown-rebuild : (p : Params) (k : Disk) (m : Memory) (ws : List Pending) (old : List Segment) (d n : ℕ) → Run p k m → Flown p k m ws old
@@ -274,4 +274,4 @@ pub flown-rebuild : (p : Params) (k : Disk) (m : Memory) (ws : List Pending) (ol
 flown-rebuild p k m ws old d n u f nc =
     let gs = segments p (seen p k) (named d) in
     flown-ended p k m ws old f (rebuild d n) (rebuildChecks p (lentOk p k m) (seen p k) m d gs) (mkPlan (rebuildStores p d gs) Rebuilt m []) (callDisk p k m (rebuild d n))
-    (λ c. let (hd, q) = names-it p k m u d c in rebuilt-flown p k m u d hd q ws (pendingAfter (rebuild d n) Rebuilt ws) old f) nc (rebuild-ends p k m u d n)
+    (λ c. let (hd, q) = rebuild-names p k m u d c in rebuilt-flown p k m u d hd q ws (pendingAfter (rebuild d n) Rebuilt ws) old f) nc (rebuild-ends p k m u d n)

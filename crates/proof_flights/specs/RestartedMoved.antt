@@ -57,21 +57,21 @@ module _ (p : Params) (x : Segment) (s k : ℕ) where
   unfolding movedPieces dataDrives
   qs-are = map-map (λ d. renumbered k (storedPiece x s d)) (dataDrive p s) (below (dataCount p))
 
-  on-data : (e : ℕ) → e < p .N → isData p k e ≡ true → on e ≡ from (dataPosition p k e)
-  on-data e he q = as! q ∙ ap (λ (l : List Piece). getD l (dataPosition p k e) (mkPiece [] (mkRec 0 0 0))) qs-are
+  moved-on-data : (e : ℕ) → e < p .N → isData p k e ≡ true → on e ≡ from (dataPosition p k e)
+  moved-on-data e he q = as! q ∙ ap (λ (l : List Piece). getD l (dataPosition p k e) (mkPiece [] (mkRec 0 0 0))) qs-are
       ∙ getD-map-below from (dataCount p) (dataPosition p k e) (mkPiece [] (mkRec 0 0 0)) (position-lt p k e q he)
     where
       as! : isData p k e ≡ true → on e ≡ getD qs (dataPosition p k e) (mkPiece [] (mkRec 0 0 0))
       as! w = unfold movedOn in cond-true (isData p k e) (getD qs (dataPosition p k e) (mkPiece [] (mkRec 0 0 0))) (parityPiece p k qs) w
 
-  on-parity : (e : ℕ) → isData p k e ≡ false → on e ≡ parityPiece p k qs
+  moved-on-parity : (e : ℕ) → isData p k e ≡ false → on e ≡ parityPiece p k qs
   unfolding movedOn
-  on-parity e q = cond-false (isData p k e) (getD qs (dataPosition p k e) (mkPiece [] (mkRec 0 0 0))) (parityPiece p k qs) q
+  moved-on-parity e q = cond-false (isData p k e) (getD qs (dataPosition p k e) (mkPiece [] (mkRec 0 0 0))) (parityPiece p k qs) q
 
   -- a segment that has these pieces
   pub moved-made : Ranged p → (y : Segment) → ((e : ℕ) → e < p .N → storedPiece y k e ≡ on e) → ParityAt p y k
   moved-made r y f =
-      f (parityDrive p k) (parity-drive-lt p k (omega (arith, r .drives-low))) ∙ on-parity (parityDrive p k) no-data ∙ ap (parityPiece p k) (sym back)
+      f (parityDrive p k) (parity-drive-lt p k (omega (arith, r .drives-low))) ∙ moved-on-parity (parityDrive p k) no-data ∙ ap (parityPiece p k) (sym back)
     where
       no-data : isData p k (parityDrive p k) ≡ false
       no-data = unfold isData in ap not (eq-eqb (parityDrive p k) (parityDrive p k) refl)
@@ -84,7 +84,7 @@ module _ (p : Params) (x : Segment) (s k : ℕ) where
           ∙ map-cong (λ n. storedPiece y k (dataDrive p k n)) from (below (dataCount p)) (λ n m.
           let hn = below-in (dataCount p) n m in
           let he = data-drive-lt p k n hn in
-          f (dataDrive p k n) he ∙ on-data (dataDrive p k n) he (drive-is-data p k n) ∙ ap from (position-drive p k n))
+          f (dataDrive p k n) he ∙ moved-on-data (dataDrive p k n) he (drive-is-data p k n) ∙ ap from (position-drive p k n))
           ∙ sym qs-are)
 
   -- its records fit their fields where those of the data do
@@ -96,9 +96,9 @@ module _ (p : Params) (x : Segment) (s k : ℕ) where
     unfolding renumbered
     from-low n h = low (dataDrive p s n) (data-drive-lt p s n h)
 
-    field-low : (f : Rec → ℕ) → ((n : ℕ) → n < dataCount p → f (from n .rec) < 2 ^ 64) → (i : ℕ)
+    moved-fields-low : (f : Rec → ℕ) → ((n : ℕ) → n < dataCount p → f (from n .rec) < 2 ^ 64) → (i : ℕ)
         → i < length (map f (map (λ (q : Piece). q .rec) qs)) → getD (map f (map (λ (q : Piece). q .rec) qs)) i 0 < 2 ^ 64
-    field-low f h i l =
+    moved-fields-low f h i l =
         let e : map f (map (λ (q : Piece). q .rec) qs) ≡ map (λ n. f (from n .rec)) (below (dataCount p)) =
         ap (λ (w : List Piece). map f (map (λ (q : Piece). q .rec) w)) qs-are ∙ map-map f (λ (q : Piece). q .rec) (map from (below (dataCount p)))
         ∙ map-map (λ (q : Piece). f (q .rec)) from (below (dataCount p)) in
@@ -110,8 +110,8 @@ module _ (p : Params) (x : Segment) (s k : ℕ) where
     parity-low : Low (parityPiece p k qs .rec)
     unfolding parityPiece parityRec
     parity-low = (
-      xorAll-lt 64 (map (λ (q : Rec). q .address) (map (λ (q : Piece). q .rec) qs)) (field-low (λ (q : Rec). q .address) (λ n h. from-low n h .0)),
-      xorAll-lt 64 (map (λ (q : Rec). q .stamp) (map (λ (q : Piece). q .rec) qs)) (field-low (λ (q : Rec). q .stamp) (λ n h. from-low n h .1)),
+      xorAll-lt 64 (map (λ (q : Rec). q .address) (map (λ (q : Piece). q .rec) qs)) (moved-fields-low (λ (q : Rec). q .address) (λ n h. from-low n h .0)),
+      xorAll-lt 64 (map (λ (q : Rec). q .stamp) (map (λ (q : Piece). q .rec) qs)) (moved-fields-low (λ (q : Rec). q .stamp) (λ n h. from-low n h .1)),
     )
 
     on-low : (e : ℕ) → e < p .N → Low (on e .rec) × (on e .rec .stripe ≡ k)
@@ -125,10 +125,10 @@ module _ (p : Params) (x : Segment) (s k : ℕ) where
 
         go : Test (isData p k e) → Low (on e .rec) × (on e .rec .stripe ≡ k)
         go (yes! q) = (
-          subst (λ (y : Piece). Low (y .rec)) (sym (on-data e he q)) (from-low (dataPosition p k e) (position-lt p k e q he)),
-          ap (λ (y : Piece). y .rec .stripe) (on-data e he q) ∙ stripe-data (dataPosition p k e),
+          subst (λ (y : Piece). Low (y .rec)) (sym (moved-on-data e he q)) (from-low (dataPosition p k e) (position-lt p k e q he)),
+          ap (λ (y : Piece). y .rec .stripe) (moved-on-data e he q) ∙ stripe-data (dataPosition p k e),
         )
-        go (no! q) = (subst (λ (y : Piece). Low (y .rec)) (sym (on-parity e q)) parity-low, ap (λ (y : Piece). y .rec .stripe) (on-parity e q) ∙ stripe-parity)
+        go (no! q) = (subst (λ (y : Piece). Low (y .rec)) (sym (moved-on-parity e q)) parity-low, ap (λ (y : Piece). y .rec .stripe) (moved-on-parity e q) ∙ stripe-parity)
 
     pub moved-back : (e : ℕ) → e < p .N → recordOf (recordBytes (on e .rec)) ≡ on e .rec
     moved-back e he =
@@ -155,15 +155,15 @@ module _ (p : Params) (x : Segment) where
   chunks-at e (s ∷ ss) k (suc i) h = chunks-at e ss (suc k) i (omega arith)
       ∙ ap (λ (n : ℕ). pieceChunk (movedOn p (movedPieces p x (getD ss i 0) n) n e)) (let w : suc k + i ≡ k + suc i = omega arith in w)
 
-  hits-moved : (z e y : ℕ) (ss : List ℕ) (k : ℕ) → e < p .N → hits e y (movedStripes p x z ss k) ≡ cond (eqb z y) (map (putAt e z) (chunksOn e ss k)) []
+  stripes-moved-hits : (z e y : ℕ) (ss : List ℕ) (k : ℕ) → e < p .N → hits e y (movedStripes p x z ss k) ≡ cond (eqb z y) (map (putAt e z) (chunksOn e ss k)) []
   unfolding movedStripes chunksOn
-  hits-moved z e y [] k he = none! ∙ sym (cond-same (eqb z y) [])
+  stripes-moved-hits z e y [] k he = none! ∙ sym (cond-same (eqb z y) [])
     where
       none! : hits e y [] ≡ []
       none! = unfold keep in refl
-  hits-moved z e y (s ∷ ss) k he =
+  stripes-moved-hits z e y (s ∷ ss) k he =
       hits-append e y (movedStripe p x z s k) (movedStripes p x z ss (suc k))
-      ∙ ap₂ _++_ (one ∙ hits-drives p e y z (λ d. putPiece d z (movedOn p (movedPieces p x s k) k d)) hit he) (hits-moved z e y ss (suc k) he)
+      ∙ ap₂ _++_ (one ∙ hits-drives p e y z (λ d. putPiece d z (movedOn p (movedPieces p x s k) k d)) hit he) (stripes-moved-hits z e y ss (suc k) he)
       ∙ join (eqb z y)
     where
       one : hits e y (movedStripe p x z s k) ≡ hits e y (map (λ d. putPiece d z (movedOn p (movedPieces p x s k) k d)) (drivesOf p))
@@ -207,11 +207,11 @@ module _ (p : Params) (r : Ranged p) (v : View) (sh : Shaped p v) (acc : Accepte
   lay : ℕ → List Chunk
   lay e = mkChunk (headerBlock p e z0 sn (x .serial)) zeroSpare ∷ chunksOn p x e cs 0
 
-  hits-new : (e : ℕ) → e < p .N → hits e z0 ts ≡ map (putAt e z0) (lay e)
-  hits-new e he = as! (hits-append e z0 (headerStores p z0 sn (x .serial) ++ movedStripes p x z0 cs 0) (resetStores p (x .seg))
+  new-hits : (e : ℕ) → e < p .N → hits e z0 ts ≡ map (putAt e z0) (lay e)
+  new-hits e he = as! (hits-append e z0 (headerStores p z0 sn (x .serial) ++ movedStripes p x z0 cs 0) (resetStores p (x .seg))
       ∙ ap₂ _++_ (hits-append e z0 (headerStores p z0 sn (x .serial)) (movedStripes p x z0 cs 0)
       ∙ ap₂ _++_ (hits-headers p e z0 z0 sn (x .serial) he ∙ cond-true (eqb z0 z0) (put e z0 (headerBlock p e z0 sn (x .serial)) zeroSpare ∷ []) [] (eqb-self z0))
-      (hits-moved p x z0 e z0 cs 0 he ∙ cond-true (eqb z0 z0) (map (putAt e z0) (chunksOn p x e cs 0)) [] (eqb-self z0)) ∙ first!)
+      (stripes-moved-hits p x z0 e z0 cs 0 he ∙ cond-true (eqb z0 z0) (map (putAt e z0) (chunksOn p x e cs 0)) [] (eqb-self z0)) ∙ first!)
       (ap (λ (n : ℕ). hits e z0 (resetStores p n)) (seg-is p v 0 g) ∙ hits-resets p e z0 g he ∙ cond-false (eqb g z0) (reset e g ∷ []) [] (ne-eqb g z0 (λ q. apart (sym q))))
       ∙ append-nil (map (putAt e z0) (lay e)))
     where
@@ -221,8 +221,8 @@ module _ (p : Params) (r : Ranged p) (v : View) (sh : Shaped p v) (acc : Accepte
       as! : hits e z0 ((headerStores p z0 sn (x .serial) ++ movedStripes p x z0 cs 0) ++ resetStores p (x .seg)) ≡ map (putAt e z0) (lay e) → hits e z0 ts ≡ map (putAt e z0) (lay e)
       as! q = unfold rewriteStores in q
 
-  new-zone : (e : ℕ) → e < p .N → zoneAt vc e z0 ≡ putAll e z0 (lay e) (zoneAt va e z0)
-  new-zone e he = zone-after p va e z0 ts (shaped-a p r v sh acc .sized) he hz0 ∙ ap (λ (l : List Store). storeAll zoneStore l (zoneAt va e z0)) (hits-new e he)
+  moved-zone : (e : ℕ) → e < p .N → zoneAt vc e z0 ≡ putAll e z0 (lay e) (zoneAt va e z0)
+  moved-zone e he = zone-after p va e z0 ts (shaped-a p r v sh acc .sized) he hz0 ∙ ap (λ (l : List Store). storeAll zoneStore l (zoneAt va e z0)) (new-hits e he)
 
   -- the chunk at offset o
   new-chunk : (e o : ℕ) → e < p .N → o < length cs → getD (zoneAt vc e z0 .blocks) (1 + o) noChunk ≡ pieceChunk (movedOn p (movedPieces p x (getD cs o 0) o) o e)
@@ -232,7 +232,7 @@ module _ (p : Params) (r : Ranged p) (v : View) (sh : Shaped p v) (acc : Accepte
       let cl = counted-low p 0 x in
       let k = capacity-over p r in
       let bl = shaped-a p r v sh acc .zone-ok e z0 he hz0 .blocks-long in
-      ap (λ (q : Zone). getD (q .blocks) (1 + o) noChunk) (new-zone e he)
+      ap (λ (q : Zone). getD (q .blocks) (1 + o) noChunk) (moved-zone e he)
       ∙ ap (λ (n : ℕ). getD (putAll e z0 (lay e) (zoneAt va e z0) .blocks) n noChunk) (let w : 1 + o ≡ zoneAt va e z0 .pointer + suc o = omega arith in w)
       ∙ puts-new e z0 (lay e) (zoneAt va e z0) (suc o) (omega arith) (omega arith)
       ∙ behind ∙ chunks-at p x e cs 0 o h ∙ ap (λ (n : ℕ). pieceChunk (movedOn p (movedPieces p x (getD cs o 0) n) n e)) (zero-add o)
@@ -253,11 +253,11 @@ module _ (p : Params) (r : Ranged p) (v : View) (sh : Shaped p v) (acc : Accepte
     abbrev y0 : Segment
     y0 = segmentOf p vc 0 z0
 
-    by-spare : (e o : ℕ) → recordIn p (sealedIn p vc 0 z0) (zoneAt vc e z0) o ≡ recordIn p false (zoneAt vc e z0) o
-    by-spare e o = ap (λ (w : Bool). recordIn p w (zoneAt vc e z0) o) (open-now p r v sh acc g hg kg ng oth z0 hz0 fz fit nw)
+    moved-unsealed : (e o : ℕ) → recordIn p (sealedIn p vc 0 z0) (zoneAt vc e z0) o ≡ recordIn p false (zoneAt vc e z0) o
+    moved-unsealed e o = ap (λ (w : Bool). recordIn p w (zoneAt vc e z0) o) (open-now p r v sh acc g hg kg ng oth z0 hz0 fz fit nw)
 
-    stored-low : (s : ℕ) → counts p 0 x s ≡ true → (e : ℕ) → e < p .N → (storedPiece x s e .rec .address < 256 ^ 8) × (storedPiece x s e .rec .stamp < 256 ^ 8)
-    stored-low s c e he =
+    stored-piece-low : (s : ℕ) → counts p 0 x s ≡ true → (e : ℕ) → e < p .N → (storedPiece x s e .rec .address < 256 ^ 8) × (storedPiece x s e .rec .stamp < 256 ^ 8)
+    stored-piece-low s c e he =
         let k = chunk-at p v 0 g e s he (isIn-empty e) (counts-in p 0 x s e c he (isIn-empty e)) in
         let q : storedPiece x s e .rec ≡ recordIn p (sealedIn p v 0 g) (zoneAt v e g) (offsetOn x e s) = ap (λ (y : Piece). y .rec) (piece-parts p v 0 g s e he) ∙ k .its-record in
         subst (λ (y : Rec). (y .address < 256 ^ 8) × (y .stamp < 256 ^ 8)) (sym q) (record-low p (zoneAt v e g) (sh .zone-ok e g he hg) (sealedIn p v 0 g) (offsetOn x e s))
@@ -267,23 +267,23 @@ module _ (p : Params) (r : Ranged p) (v : View) (sh : Shaped p v) (acc : Accepte
     new-piece o e h he =
         let s = getD cs o 0 in
         let cl = counted-low p 0 x in
-        let st : recordIn p (sealedIn p vc 0 z0) (zoneAt vc e z0) o .stripe ≡ o = ap (λ (a : Rec). a .stripe) (by-spare e o) ∙ new-stripe p r v sh acc g hg kg ng oth z0 hz0 fz fit e o he h in
+        let st : recordIn p (sealedIn p vc 0 z0) (zoneAt vc e z0) o .stripe ≡ o = ap (λ (a : Rec). a .stripe) (moved-unsealed e o) ∙ new-stripe p r v sh acc g hg kg ng oth z0 hz0 fz fit e o he h in
         let hs : o < dataStored p (zoneAt vc e z0) = low-data p (zoneAt vc e z0) o (omega arith) (lies (new-pointer p r v sh acc g hg kg ng oth z0 hz0 fz fit e he)) in
         let eo : offsetOn y0 e o ≡ o = offset-is p vc 0 z0 e o o he (isIn-empty e) hs st (λ i k q. before i k q) in
         let ch = new-chunk e o he h in
         let hc = has-chunk p vc 0 z0 e o o he (isIn-empty e) hs st in
         let er : storedRec y0 o e ≡ recordOf (recordBytes (movedOn p (movedPieces p x s o) o e .rec)) =
-        chunk-at p vc 0 z0 e o he (isIn-empty e) hc .its-record ∙ ap (recordIn p (sealedIn p vc 0 z0) (zoneAt vc e z0)) eo ∙ by-spare e o ∙ spare! (movedOn p (movedPieces p x s o) o e) ch in
+        chunk-at p vc 0 z0 e o he (isIn-empty e) hc .its-record ∙ ap (recordIn p (sealedIn p vc 0 z0) (zoneAt vc e z0)) eo ∙ moved-unsealed e o ∙ spare! (movedOn p (movedPieces p x s o) o e) ch in
         piece-parts p vc 0 z0 o e he
         ∙ ap₂ mkPiece (ap (λ (n : ℕ). getD (zoneAt vc e z0 .blocks) (1 + n) noChunk .block) eo ∙ ap (λ (y : Chunk). y .block) ch ∙ block! (movedOn p (movedPieces p x s o) o e))
-        (er ∙ moved-back p x s o r (omega arith) (stored-low s (counted-in p 0 x s (in-getD cs o 0 h) .1)) e he)
+        (er ∙ moved-back p x s o r (omega arith) (stored-piece-low s (counted-in p 0 x s (in-getD cs o 0 h) .1)) e he)
       where
         lies : pointerAt vc e z0 ≡ 1 + length cs → 1 + o < zoneAt vc e z0 .pointer
         lies q = unfold pointerAt in omega arith
 
         before : (i : ℕ) → i < o → recordIn p (sealedIn p vc 0 z0) (zoneAt vc e z0) i .stripe ≡ o → ⊥
         before i k q =
-            let w : i ≡ o = sym (new-stripe p r v sh acc g hg kg ng oth z0 hz0 fz fit e i he (omega arith)) ∙ ap (λ (a : Rec). a .stripe) (sym (by-spare e i)) ∙ q in
+            let w : i ≡ o = sym (new-stripe p r v sh acc g hg kg ng oth z0 hz0 fz fit e i he (omega arith)) ∙ ap (λ (a : Rec). a .stripe) (sym (moved-unsealed e i)) ∙ q in
             let bad : ⊥ = omega arith in bad
 
         spare! : (q : Piece) → getD (zoneAt vc e z0 .blocks) (1 + o) noChunk ≡ pieceChunk q → recordIn p false (zoneAt vc e z0) o ≡ recordOf (recordBytes (q .rec))
@@ -299,6 +299,6 @@ module _ (p : Params) (r : Ranged p) (v : View) (sh : Shaped p v) (acc : Accepte
         let k = chunk-at p vc 0 z0 0 o h0 (isIn-empty 0) (counts-in p 0 y0 o 0 c h0 (isIn-empty 0)) in
         let i = offsetOn y0 0 o in
         let l : i < length cs = under! p r v sh acc g hg kg ng oth z0 hz0 fz fit nw 0 i h0 (k .stored-there) in
-        let e : i ≡ o = sym (new-stripe p r v sh acc g hg kg ng oth z0 hz0 fz fit 0 i h0 l) ∙ ap (λ (a : Rec). a .stripe) (sym (by-spare 0 i)) ∙ k .its-stripe in
+        let e : i ≡ o = sym (new-stripe p r v sh acc g hg kg ng oth z0 hz0 fz fit 0 i h0 l) ∙ ap (λ (a : Rec). a .stripe) (sym (moved-unsealed 0 i)) ∙ k .its-stripe in
         let h : o < length cs = subst (λ (n : ℕ). n < length cs) e l in
         moved-made p x (getD cs o 0) o r y0 (λ d hd. new-piece o d h hd)

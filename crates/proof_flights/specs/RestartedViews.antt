@@ -27,7 +27,7 @@ use Rattle.law_drives.specs.Joins.{stores-none}
 use Rattle.law_drives.specs.Members.{In, in-map, in-any, keep-in, in-below, below-in, first-in, is-member, member-is}
 use Rattle.law_drives.specs.Mending.{lack, has-pointer, b-zone, b-other}
 use Rattle.law_drives.specs.Puts.{puts-old}
-use Rattle.law_drives.specs.Rewriting.{same-else, was! }
+use Rattle.law_drives.specs.Rewriting.{same-else, used-moved}
 use Rattle.law_drives.specs.Segs.{serial-is}
 use Rattle.law_drives.specs.Settled.{low-first, remains-is-used, SameZones, zones-used, zones-segment}
 use Rattle.law_drives.specs.Tables.{remains, in-remaining}
@@ -40,10 +40,10 @@ use Rattle.proof_flights.specs.Pieces.{ParityAt}
 use Rattle.proof_flights.specs.RestartedMoved.{rewritten-made}
 
 -- a counted stripe of a view is found in it
-pub found-in : (p : Params) (v : View) (gone g s : ℕ) → Remains p v gone g → counts p gone (segmentOf p v gone g) s ≡ true
+pub counted-found : (p : Params) (v : View) (gone g s : ℕ) → Remains p v gone g → counts p gone (segmentOf p v gone g) s ≡ true
     → foundCounted p gone (segments p v gone) (segmentOf p v gone g .serial) s ≡ true
 unfolding foundCounted segments
-found-in p v gone g s rm c =
+counted-found p v gone g s rm c =
     let x = segmentOf p v gone g in
     in-any (λ (y : Segment). eqb (y .serial) (x .serial) && counts p gone y s) (map (segmentOf p v gone) (remaining p v gone)) x
     (in-map (segmentOf p v gone) (remaining p v gone) g (is-member g (remaining p v gone) rm)) (and-both (eqb (x .serial) (x .serial)) (counts p gone x s) (eqb-self (x .serial)) c)
@@ -56,11 +56,11 @@ module _ (p : Params) (r : Ranged p) (v : View) (sh : Shaped p v) (acc : Accepte
   va = storeAll storeView (dropStores p gs) v
 
   -- every counted stripe was found, or is made
-  abbrev pub Settles : View → Type 0
-  Settles u = (y s : ℕ) → y < p .Z → usedAt u y ≡ true → s < p .S → counts p 0 (segmentOf p u 0 y) s ≡ true
+  abbrev pub SettlesCounted : View → Type 0
+  SettlesCounted u = (y s : ℕ) → y < p .Z → usedAt u y ≡ true → s < p .S → counts p 0 (segmentOf p u 0 y) s ≡ true
       → (foundCounted p 0 (segments p v 0) (segmentOf p u 0 y .serial) s ≡ true) ⊎ ParityAt p (segmentOf p u 0 y) s
 
-  pub settles-parities : (u : View) (b : ℕ) → Tidy p u b → Settles u → ParityMade p u 0 (segments p v 0)
+  pub settles-parities : (u : View) (b : ℕ) → Tidy p u b → SettlesCounted u → ParityMade p u 0 (segments p v 0)
   settles-parities u b t f = λ g s rm hs c n.
       let (hg, q) = remains-is-used p r u b t g (is-member g (remaining p u 0) rm) in
       ⊎-elim (λ y. clash y n) (λ m. m) (f g s hg q hs c)
@@ -73,9 +73,9 @@ module _ (p : Params) (r : Ranged p) (v : View) (sh : Shaped p v) (acc : Accepte
       → foundCounted p 0 gs (segmentOf p u 0 y .serial) s ≡ true
   same-found u y s hy k sm c =
       let e = zones-segment p r v u y sm in
-      subst (λ (x : Segment). foundCounted p 0 gs (x .serial) s ≡ true) e (found-in p v 0 y s (remained y hy k) (ap (λ (x : Segment). counts p 0 x s) e ∙ c))
+      subst (λ (x : Segment). foundCounted p 0 gs (x .serial) s ≡ true) e (counted-found p v 0 y s (remained y hy k) (ap (λ (x : Segment). counts p 0 x s) e ∙ c))
 
-  settles-drop : Settles va
+  settles-drop : SettlesCounted va
   settles-drop y s hy q hs c = let k = sym (drop-used p r v sh acc y hy) ∙ q in inl (same-found va y s hy k (drop-same p r v sh acc y hy k) c)
 
   module _ (g : ℕ) (hg : g < p .Z) (kg : remains p v 0 g ≡ true) (ng : sealedIn p v 0 g ≡ false)
@@ -89,8 +89,8 @@ module _ (p : Params) (r : Ranged p) (v : View) (sh : Shaped p v) (acc : Accepte
       abbrev vb : View
       vb = storeAll storeView (missingFooters p x) va
 
-      all-count : (s : ℕ) → s < p .S → counts p 0 x s ≡ true
-      all-count s h = keep-full (counts p 0 x) (below (p .S)) (full! wh ∙ sym (length-below (p .S))) s (in-below (p .S) s h)
+      restarted-counts : (s : ℕ) → s < p .S → counts p 0 x s ≡ true
+      restarted-counts s h = keep-full (counts p 0 x) (below (p .S)) (full! wh ∙ sym (length-below (p .S))) s (in-below (p .S) s h)
         where
           full! : isWhole p x ≡ true → length (keep (counts p 0 x) (below (p .S))) ≡ p .S
           full! q = unfold isWhole counted in eqb-true (length (keep (counts p 0 x) (below (p .S)))) (p .S) q
@@ -110,12 +110,12 @@ module _ (p : Params) (r : Ranged p) (v : View) (sh : Shaped p v) (acc : Accepte
           serial-is p vb 0 g ∙ ap (λ (d : ℕ). headerSerial (headerAt vb d g)) (low-first p r) ∙ ap headerSerial head
           ∙ sym (serial-is p v 0 g ∙ ap (λ (d : ℕ). headerSerial (headerAt v d g)) (low-first p r))
 
-      settles-footers : Settles vb
+      settles-footers : SettlesCounted vb
       settles-footers y s hy q hs c = go (ℕ-discrete g y)
         where
           go : Dec (g ≡ y) → (foundCounted p 0 (segments p v 0) (segmentOf p vb 0 y .serial) s ≡ true) ⊎ ParityAt p (segmentOf p vb 0 y) s
           go (yes e) = inl (subst (λ (n : ℕ). foundCounted p 0 (segments p v 0) (segmentOf p vb 0 n .serial) s ≡ true) e
-              (ap (λ (n : ℕ). foundCounted p 0 (segments p v 0) n s) serial! ∙ found-in p v 0 g s (remained g hg kg) (all-count s hs)))
+              (ap (λ (n : ℕ). foundCounted p 0 (segments p v 0) n s) serial! ∙ counted-found p v 0 g s (remained g hg kg) (restarted-counts s hs)))
           go (no n) =
               let so = b-other p r v sh acc g hg kg ng oth wh y hy n in
               let k = sym (drop-used p r v sh acc y hy) ∙ zones-used p r va vb y so ∙ q in
@@ -127,21 +127,21 @@ module _ (p : Params) (r : Ranged p) (v : View) (sh : Shaped p v) (acc : Accepte
       abbrev vc : View
       vc = storeAll storeView (rewriteStores p x z0 (suc (greatestSerial gs))) va
 
-      settles-rewrite : Settles vc
+      settles-rewrite : SettlesCounted vc
       settles-rewrite y s hy q hs c = ⊎-elim
           (λ e. inr (subst (λ (n : ℕ). ParityAt p (segmentOf p vc 0 n) s) (sym e)
           (rewritten-made p r v sh acc g hg kg ng oth z0 hz0 fz fit nw s (subst (λ (n : ℕ). counts p 0 (segmentOf p vc 0 n) s ≡ true) e c))))
           (λ k. inl (same-found vc y s hy (k .0) (λ d hd. drop-same p r v sh acc y hy (k .0) d hd ∙ same-else p r v sh acc g hg kg ng oth z0 hz0 fz fit y hy (k .1 .0) (k .1 .1) d hd) c))
-          (was! p r v sh acc g hg kg ng oth z0 hz0 fz fit nw y hy q)
+          (used-moved p r v sh acc g hg kg ng oth z0 hz0 fz fit nw y hy q)
 
     -- ---- in each case
 
     module _ (us : unsealed gs ≡ segmentOf p v 0 g ∷ []) (c6 : rewrites p 0 gs && eqb (greatestSerial gs) lastCount ≡ false)
         (c8 : rewrites p 0 gs && isNil (freeZones p gs) ≡ false) (bd : greatestSerial gs < 256 ^ 8) where
       abbrev After : List Store → Type 0
-      After l = Settles (storeAll storeView l va)
+      After l = SettlesCounted (storeAll storeView l va)
 
-      settles-one : Settles (storeAll storeView (mendStores p gs x) va)
+      settles-one : SettlesCounted (storeAll storeView (mendStores p gs x) va)
       settles-one = go (test (isWhole p x)) (test (isRagged p x))
         where
           whole! : isWhole p x ≡ true → mendStores p gs x ≡ missingFooters p x
@@ -156,9 +156,9 @@ module _ (p : Params) (r : Ranged p) (v : View) (sh : Shaped p v) (acc : Accepte
           rewrites! : isRagged p x ≡ true → rewrites p 0 gs ≡ true
           rewrites! q = unfold rewrites in (ap (any (isRagged p)) us ∙ in-any (isRagged p) (x ∷ []) x (inl refl) q)
 
-          go : Test (isWhole p x) → Test (isRagged p x) → Settles (storeAll storeView (mendStores p gs x) va)
+          go : Test (isWhole p x) → Test (isRagged p x) → SettlesCounted (storeAll storeView (mendStores p gs x) va)
           go (yes! q) w = subst (λ (l : List Store). After l) (sym (whole! q)) (settles-footers q)
-          go (no! q) (no! w) = subst (λ (l : List Store). After l) (sym (plain! q w)) (subst (λ (u : View). Settles u) (sym (stores-none va)) settles-drop)
+          go (no! q) (no! w) = subst (λ (l : List Store). After l) (sym (plain! q w)) (subst (λ (u : View). SettlesCounted u) (sym (stores-none va)) settles-drop)
           go (no! q) (yes! w) =
               let rw! = rewrites! w in
               let n6 : eqb (greatestSerial gs) lastCount ≡ false = sym (ap (λ (b : Bool). b && eqb (greatestSerial gs) lastCount) rw!) ∙ c6 in
@@ -171,17 +171,17 @@ module _ (p : Params) (r : Ranged p) (v : View) (sh : Shaped p v) (acc : Accepte
               (settles-rewrite z0 (below-in (p .Z) z0 i) (not-true (remains p v 0 z0) f) (let b = bd in omega arith) q)
 
   pub settles-mended : rewrites p 0 gs && eqb (greatestSerial gs) lastCount ≡ false → rewrites p 0 gs && isNil (freeZones p gs) ≡ false → greatestSerial gs < 256 ^ 8
-      → Settles (storeAll storeView (flat (mendStores p gs) (unsealed gs)) va)
+      → SettlesCounted (storeAll storeView (flat (mendStores p gs) (unsealed gs)) va)
   settles-mended c6 c8 bd = go (loose p r v sh acc)
     where
-      go : Loose p v → Settles (storeAll storeView (flat (mendStores p gs) (unsealed gs)) va)
-      go (loose-none e f) = subst (λ (l : List Store). Settles (storeAll storeView l va)) (sym (ap (flat (mendStores p gs)) e ∙ none!))
-          (subst (λ (u : View). Settles u) (sym (stores-none va)) settles-drop)
+      go : Loose p v → SettlesCounted (storeAll storeView (flat (mendStores p gs) (unsealed gs)) va)
+      go (loose-none e f) = subst (λ (l : List Store). SettlesCounted (storeAll storeView l va)) (sym (ap (flat (mendStores p gs)) e ∙ none!))
+          (subst (λ (u : View). SettlesCounted u) (sym (stores-none va)) settles-drop)
         where
           none! : flat (mendStores p gs) [] ≡ []
           none! = unfold flat in refl
       go (loose-one g hg kg ng us oth) =
-          subst (λ (l : List Store). Settles (storeAll storeView l va)) (sym (ap (flat (mendStores p gs)) us ∙ one! (segmentOf p v 0 g) ∙ append-nil (mendStores p gs (segmentOf p v 0 g))))
+          subst (λ (l : List Store). SettlesCounted (storeAll storeView l va)) (sym (ap (flat (mendStores p gs)) us ∙ one! (segmentOf p v 0 g) ∙ append-nil (mendStores p gs (segmentOf p v 0 g))))
           (settles-one g hg kg ng oth us c6 c8 bd)
         where
           one! : (x : Segment) → flat (mendStores p gs) (x ∷ []) ≡ mendStores p gs x ++ []

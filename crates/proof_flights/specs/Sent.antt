@@ -28,12 +28,12 @@ use Rattle.law_drives.specs.Headers.{header-other, header-pointer, empty-all}
 use Rattle.law_drives.specs.Members.{In, keep-in, below-in, first-in, in-some}
 use Rattle.law_drives.specs.Settled.{SameZones, zones-used}
 use Rattle.law_drives.specs.States.{StateOk}
-use Rattle.law_drives.specs.Tests.{clash, or-left, or-right, or-cases, or-true-right, not-so}
+use Rattle.law_drives.specs.Tests.{clash, or-first, or-right, or-cases, or-true-right, not-so}
 use Rattle.law_drives.specs.Zones.{Shaped}
 use Rattle.proof_tables.specs.Heading.{head-tidy}
-use Rattle.proof_tables.specs.Run.{flies, Lists, Healthy}
-use Rattle.proof_tables.specs.Sending.{filling-slot, free-slot, in-flight}
-use Rattle.proof_tables.specs.Slots.{begin-number, begin-number-other, begin-filled, begin-filled-other, begin-lists, free-is}
+use Rattle.proof_tables.specs.Run.{flies, Lists, HealthyState}
+use Rattle.proof_tables.specs.Sending.{filling-flies, free-slot-idle, in-flight}
+use Rattle.proof_tables.specs.Slots.{number-begun, begin-number-other, filled-begun, begin-filled-other, begin-lists, free-is}
 use Rattle.proof_flights.specs.Eighths.{freshly, plus}
 use Rattle.proof_flights.specs.Flocks.{Flock, open-of, flock-of, of-flock, flock-busy, flock-bare, bare-flock, flock-begin, flock-add, flies-add, flies-stay}
 use Rattle.proof_flights.specs.Flown.{Flights}
@@ -41,7 +41,7 @@ use Rattle.proof_flights.specs.Pieces.{bare-counts, parity-zones, remain
 
 -- ---- a segment is opened: parity stays right
 
-module _ (p : Params) (r : Ranged p) (v : View) (sh : Shaped p v) (st : State) (h : Healthy p v st) (old : List Segment) (g : ℕ) (hg : g < p .Z)
+module _ (p : Params) (r : Ranged p) (v : View) (sh : Shaped p v) (st : State) (h : HealthyState p v st) (old : List Segment) (g : ℕ) (hg : g < p .Z)
     (em : (d : ℕ) → d < p .N → pointerAt v d g ≡ 0) (fit : suc (st .serial .0) < 256 ^ 8) where
   abbrev n₀ : ℕ
   n₀ = st .serial .0
@@ -52,8 +52,8 @@ module _ (p : Params) (r : Ranged p) (v : View) (sh : Shaped p v) (st : State) (
   h0 : 0 < p .N
   h0 = omega (arith, r .drives-low)
 
-  same-off : (y : ℕ) → y < p .Z → (g ≡ y → ⊥) → SameZones p v after y
-  same-off y hy n d hd = sym (header-other p r v sh g (suc n₀) 0 hg em d y hd hy n)
+  sent-same-zones : (y : ℕ) → y < p .Z → (g ≡ y → ⊥) → SameZones p v after y
+  sent-same-zones y hy n d hd = sym (header-other p r v sh g (suc n₀) 0 hg em d y hd hy n)
 
   no-data : dataStored p (zoneAt after 0 g) ≡ 0
   no-data = go (zoneAt after 0 g) (as! (header-pointer p r v sh g (suc n₀) 0 hg em 0 h0))
@@ -71,12 +71,12 @@ module _ (p : Params) (r : Ranged p) (v : View) (sh : Shaped p v) (st : State) (
       go y rm (yes e) = inr (λ s c. bare-counts p after y s 0 h0 (ap (λ (x : ℕ). dataStored p (zoneAt after 0 x)) (sym e) ∙ no-data) c)
       go y rm (no n) =
           let (hy, q) = used-of-remains p r after (suc n₀) (head-tidy p r v sh n₀ g (h .tidy) hg em fit) y rm in
-          let sm = same-off y hy n in
+          let sm = sent-same-zones y hy n in
           inl (remains-of-used p r v n₀ (h .tidy) y hy (zones-used p r v after y sm ∙ q), sm)
 
 -- ---- the block sent
 
-module _ (p : Params) (r : Ranged p) (v : View) (sh : Shaped p v) (st : State) (h : Healthy p v st) (so : StateOk p st) (fl : List ℕ) (l : length fl ≡ inflightLen p)
+module _ (p : Params) (r : Ranged p) (v : View) (sh : Shaped p v) (st : State) (h : HealthyState p v st) (so : StateOk p st) (fl : List ℕ) (l : length fl ≡ inflightLen p)
     (ws : List Pending) (old : List Segment) (f : Flights p v st fl ws) (pm : ParityMade p v 0 old)
     (a t w : ℕ) (b : List ℕ) (hw : (w ≡ 0) ⊎ (w ≡ 1)) (lb : length b ≡ p .B) where
   abbrev sent : Sending
@@ -115,7 +115,7 @@ module _ (p : Params) (r : Ranged p) (v : View) (sh : Shaped p v) (st : State) (
   -- the next position of the filling stripe
   fills : hasFilling p st ≡ true → Leaves sent
   fills q =
-      let (hi, fi, room) = filling-slot p st q in
+      let (hi, fi, room) = filling-flies p st q in
       let i = fillingSlot p st in
       let (z, e) = open-of p v st h i hi fi in
       let o = flock-add p r v st (h .lists) fl l ws (flies st) i hi fi a t w b lb room hw (λ j hj fj x. h .opens-at z e .once j i hj hi fj fi (sym x)) flock in
@@ -127,13 +127,13 @@ module _ (p : Params) (r : Ranged p) (v : View) (sh : Shaped p v) (st : State) (
       sent-is q = unfold sending slotFor begunBy opens placed in rw q
 
   -- the next stripe number, in a state su with the same eighths
-  begins-in : (u : View) (su : State) (xs : List Pending) → Lists su → (i : ℕ) → i < 8 → flies su i ≡ false → ((j : ℕ) → j < 8 → flies su j ≡ true → stripeIn su j < su .next)
+  flown-begun : (u : View) (su : State) (xs : List Pending) → Lists su → (i : ℕ) → i < 8 → flies su i ≡ false → ((j : ℕ) → j < 8 → flies su j ≡ true → stripeIn su j < su .next)
       → Flock p u su fl xs (flies su)
       → Flights p u (addEntry (beginStripe su i) i a t w) (placed p (beginStripe su i) fl i a t w b .inflight) (plus xs w (freshly p (beginStripe su i) i a t b))
-  begins-in u su xs ls i hi nf bg o =
+  flown-begun u su xs ls i hi nf bg o =
       let sw = beginStripe su i in
       let lw = begin-lists su ls i hi in
-      let room : filledIn sw i < dataCount p = (let e = begin-filled su ls i hi in let c = data-count-low p r in omega arith) in
+      let room : filledIn sw i < dataCount p = (let e = filled-begun su ls i hi in let c = data-count-low p r in omega arith) in
       let o₁ = flock-begin p r u su ls fl xs i hi bg o nf in
       let here : (flies su i || eqb i i) ≡ true = or-true-right (flies su i) (eqb i i) (eq-eqb i i refl) in
       let o₂ = flock-add p r u sw lw fl l xs (λ j. flies su j || eqb j i) i hi here a t w b lb room hw (λ j hj q e. one j hj e (or-cases (flies su j) (eqb j i) q)) o₁ in
@@ -148,7 +148,7 @@ module _ (p : Params) (r : Ranged p) (v : View) (sh : Shaped p v) (st : State) (
           go (yes x) = x
           go (no x) = absurd (
               let y = bg j hj q in
-              let z = begin-number su ls i hi in
+              let z = number-begun su ls i hi in
               let y′ = begin-number-other su ls i hi j x in
               let bad : ⊥ = omega arith in bad)
 
@@ -169,14 +169,14 @@ module _ (p : Params) (r : Ranged p) (v : View) (sh : Shaped p v) (st : State) (
     abbrev x₃ : Bool
     x₃ = not (mustOpen p st) && any (otherGroup p st) (inFlight st)
 
-    wait-parts : (leb slotCount (length (inFlight st)) ≡ false) × (mustOpen p st && not (isNil (inFlight st)) ≡ false)
-    wait-parts = let q = or-left (x₁ || x₂) x₃ (sym (ap (λ (c : Bool). not c && (x₁ || x₂ || x₃)) nf) ∙ as!) in (or-left x₁ x₂ q, or-right x₁ x₂ q)
+    send-wait-parts : (leb slotCount (length (inFlight st)) ≡ false) × (mustOpen p st && not (isNil (inFlight st)) ≡ false)
+    send-wait-parts = let q = or-first (x₁ || x₂) x₃ (sym (ap (λ (c : Bool). not c && (x₁ || x₂ || x₃)) nf) ∙ as!) in (or-first x₁ x₂ q, or-right x₁ x₂ q)
       where
         as! : not (hasFilling p st) && (x₁ || x₂ || x₃) ≡ false
         as! = unfold mustWait in nw
 
-    free! : (freeSlot st < 8) × (flies st (freeSlot st) ≡ false)
-    free! = free-slot st (few (wait-parts .0))
+    send-slot-free : (freeSlot st < 8) × (flies st (freeSlot st) ≡ false)
+    send-slot-free = free-slot-idle st (few (send-wait-parts .0))
       where
         few : leb slotCount (length (inFlight st)) ≡ false → length (inFlight st) < 8
         few q = unfold slotCount in leb-false 8 (length (inFlight st)) q
@@ -186,7 +186,7 @@ module _ (p : Params) (r : Ranged p) (v : View) (sh : Shaped p v) (st : State) (
     begins-stripe mo =
         subst (λ (x : Sending). Leaves x) (sym (sent-is mo))
         (unstored (beginStripe st (freeSlot st)) (freeSlot st)
-        (begins-in v st ws (h .lists) (freeSlot st) (free! .0) (free! .1) (λ j hj fj. let (z, e) = open-of p v st h j hj fj in h .opens-at z e .flight j hj fj .begun) flock))
+        (flown-begun v st ws (h .lists) (freeSlot st) (send-slot-free .0) (send-slot-free .1) (λ j hj fj. let (z, e) = open-of p v st h j hj fj in h .opens-at z e .flight j hj fj .begun) flock))
       where
         sent-is : mustOpen p st ≡ false → sent ≡ sentAs [] (beginStripe st (freeSlot st)) (freeSlot st)
         sent-is mo = unfold sending slotFor begunBy openedBy opens placed in rw (nf, mo)
@@ -204,7 +204,7 @@ module _ (p : Params) (r : Ranged p) (v : View) (sh : Shaped p v) (st : State) (
         let we : ws ≡ [] = flock-bare p v st fl ws nothing-flies flock in
         let o : Flock p u su fl ws (flies su) = subst (λ (x : List Pending). Flock p u su fl x (flies su)) (sym we) (bare-flock p u su fl bare) in
         subst (λ (x : Sending). Leaves x) (sym (sent-is mo)) (
-          begins-in u su ws (lists-same g (suc s) (h .lists)) (freeSlot st) (free! .0) (free-same g (suc s) (freeSlot st) ∙ free! .1) (λ j hj fj. clash fj (bare j hj)) o,
+          flown-begun u su ws (lists-same g (suc s) (h .lists)) (freeSlot st) (send-slot-free .0) (free-same g (suc s) (freeSlot st) ∙ send-slot-free .1) (λ j hj fj. clash fj (bare j hj)) o,
           parity-headed p r v sh st h old g hg em serial-next pm,
         )
       where
@@ -225,7 +225,7 @@ module _ (p : Params) (r : Ranged p) (v : View) (sh : Shaped p v) (st : State) (
 
         nothing-flies : (j : ℕ) → j < 8 → flies st j ≡ false
         nothing-flies j hj = not-so (flies st j) (λ q.
-            let x : not (isNil (inFlight st)) ≡ false = sym (ap (λ (c : Bool). c && not (isNil (inFlight st))) mo) ∙ wait-parts .1 in
+            let x : not (isNil (inFlight st)) ≡ false = sym (ap (λ (c : Bool). c && not (isNil (inFlight st))) mo) ∙ send-wait-parts .1 in
             clash (ap not (in-some (inFlight st) j (in-flight st j hj q))) x)
 
         free-same : (g x j : ℕ) → flies (setOpen st g x) j ≡ flies st j

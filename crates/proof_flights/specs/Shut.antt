@@ -25,19 +25,19 @@ use Rattle.spec.specs.Write.{placed}
 use Rattle.law_basic.specs.Geometry.{Ranged, ranged}
 use Rattle.spec_demands.specs.Tables.{Pending, pendingAfter}
 use Rattle.law_checks.specs.Passed.{close-passed}
-use Rattle.proof_tables.specs.Filling.{placed-long}
+use Rattle.proof_tables.specs.Filling.{placed-inflight-long}
 use Rattle.proof_tables.specs.Going.{buffer-long}
-use Rattle.proof_tables.specs.Outcomes.{ended}
+use Rattle.proof_tables.specs.Outcomes.{outcome-ends}
 use Rattle.proof_tables.specs.Run.{flies, Lists, Run}
-use Rattle.proof_tables.specs.Sending.{filling-slot}
-use Rattle.proof_tables.specs.Slots.{add-filled, add-number, add-lists}
+use Rattle.proof_tables.specs.Sending.{filling-flies}
+use Rattle.proof_tables.specs.Slots.{filled-added, number-added, add-lists}
 use Rattle.law_views.specs.Views.{seen}
 use Rattle.law_drives.specs.States.{state-of}
 use Rattle.proof_flights.specs.Eighths.{freshly}
 use Rattle.proof_flights.specs.Flocks.{Flock, open-of, none-more, flock-of, of-flock, flock-busy, flock-add, flies-stay}
 use Rattle.proof_flights.specs.Flown.{Flown}
-use Rattle.proof_flights.specs.Idled.{Quiet, pending-quiet, quiet-kind, flown-as, flown-ended}
-use Rattle.proof_flights.specs.Written.{well-of, parity-none, flown-of}
+use Rattle.proof_flights.specs.Idled.{QuietAnswer, pending-quiet, quiet-kind, flown-as, flown-ended}
+use Rattle.proof_flights.specs.Written.{well-of, flown-parity-made, flown-of}
 
 -- ---- positions filled with padding
 
@@ -46,9 +46,9 @@ module _ (p : Params) (r : Ranged p) (v : View) (ws : List Pending) (i : ℕ) (h
   abbrev Alone : State → Type 0
   Alone su = (j : ℕ) → j < 8 → flies su j ≡ true → stripeIn su i ≡ stripeIn su j → j ≡ i
 
-  pad-one : (su : State) (fl : List ℕ) → Lists su → length fl ≡ inflightLen p → flies su i ≡ true → filledIn su i < dataCount p → Alone su → Flock p v su fl ws (flies su)
+  padding-flown : (su : State) (fl : List ℕ) → Lists su → length fl ≡ inflightLen p → flies su i ≡ true → filledIn su i < dataCount p → Alone su → Flock p v su fl ws (flies su)
       → Flock p v (addEntry su i paddingAddress 0 0) (placed p su fl i paddingAddress 0 0 (replicate (p .B) 0) .inflight) ws (flies (addEntry su i paddingAddress 0 0))
-  pad-one su fl ls l fi room al o =
+  padding-flown su fl ls l fi room al o =
       let b : List ℕ = replicate (p .B) 0 in
       let sw = addEntry su i paddingAddress 0 0 in
       let fl′ = placed p su fl i paddingAddress 0 0 b .inflight in
@@ -56,18 +56,18 @@ module _ (p : Params) (r : Ranged p) (v : View) (ws : List Pending) (i : ℕ) (h
       flock-busy p v sw fl′ ws (flies su) (flies sw) (λ j hj. flies-stay su ls i hi fi paddingAddress 0 0 j)
       (subst (λ (x : List Pending). Flock p v sw fl′ x (flies su)) (none-more ws (freshly p su i paddingAddress 0 b)) o₁)
 
-  pads : (x : ℕ) (su : State) (fl : List ℕ) → Lists su → length fl ≡ inflightLen p → flies su i ≡ true → filledIn su i + x ≤ dataCount p → Alone su → Flock p v su fl ws (flies su)
+  paddings-flown : (x : ℕ) (su : State) (fl : List ℕ) → Lists su → length fl ≡ inflightLen p → flies su i ≡ true → filledIn su i + x ≤ dataCount p → Alone su → Flock p v su fl ws (flies su)
       → Flock p v (padded p i x su fl .state) (padded p i x su fl .inflight) ws (flies (padded p i x su fl .state))
   unfolding padded placed
-  pads zero su fl ls l fi h al o = o
-  pads (suc x) su fl ls l fi h al o =
+  paddings-flown zero su fl ls l fi h al o = o
+  paddings-flown (suc x) su fl ls l fi h al o =
       let sw = addEntry su i paddingAddress 0 0 in
       let room : filledIn su i < dataCount p = omega arith in
-      pads x sw (placed p su fl i paddingAddress 0 0 (replicate (p .B) 0) .inflight) (add-lists su ls i hi paddingAddress 0 0)
-      (placed-long p r su fl i paddingAddress 0 0 (replicate (p .B) 0) l hi room (length-replicate (p .B) 0)) (sym (flies-stay su ls i hi fi paddingAddress 0 0 i) ∙ fi)
-      (let e = add-filled su ls i hi paddingAddress 0 0 in omega arith)
-      (λ j hj q e. al j hj (flies-stay su ls i hi fi paddingAddress 0 0 j ∙ q) (sym (add-number su ls i hi paddingAddress 0 0 i) ∙ e ∙ add-number su ls i hi paddingAddress 0 0 j))
-      (pad-one su fl ls l fi room al o)
+      paddings-flown x sw (placed p su fl i paddingAddress 0 0 (replicate (p .B) 0) .inflight) (add-lists su ls i hi paddingAddress 0 0)
+      (placed-inflight-long p r su fl i paddingAddress 0 0 (replicate (p .B) 0) l hi room (length-replicate (p .B) 0)) (sym (flies-stay su ls i hi fi paddingAddress 0 0 i) ∙ fi)
+      (let e = filled-added su ls i hi paddingAddress 0 0 in omega arith)
+      (λ j hj q e. al j hj (flies-stay su ls i hi fi paddingAddress 0 0 j ∙ q) (sym (number-added su ls i hi paddingAddress 0 0 i) ∙ e ∙ number-added su ls i hi paddingAddress 0 0 j))
+      (padding-flown su fl ls l fi room al o)
 
   pads-missing : (x : ℕ) (su : State) (fl : List ℕ) → padded p i x su fl .state .missing ≡ su .missing
   unfolding padded placed
@@ -89,24 +89,24 @@ module _ (p : Params) (k : Disk) (m : Memory) (u : Run p k m) (ws : List Pending
   abbrev checks : List Check
   checks = closeChecks p (lentOk p k m) v m
 
-  done : firstRefusal checks ≡ none → Flown p (storeAll (storeDisk p) (closePlan p m .stores) k) (closePlan p m .memory) (pendingAfter (close n) (closePlan p m .answer) ws) old
-  done e =
+  closed-flown : firstRefusal checks ≡ none → Flown p (storeAll (storeDisk p) (closePlan p m .stores) k) (closePlan p m .memory) (pendingAfter (close n) (closePlan p m .answer) ws) old
+  closed-flown e =
       let c = close-passed p (lentOk p k m) v m e in
       let rg = ranged p (u .base .ranged) in
       let we = well-of p k m u (c .healthy) in
       let so = state-of p rg st (u .base .state-ok) in
       let i = fillingSlot p st in
-      let (hi, fi, room) = filling-slot p st (c .filling) in
+      let (hi, fi, room) = filling-flies p st (c .filling) in
       let x = dataCount p - filledIn st i in
       let q = padded p i x st (m .inflight) in
       let h = we .healthy in
-      let o = pads p rg v ws i hi x st (m .inflight) (h .lists) (buffer-long p k m u we) fi (omega arith)
+      let o = paddings-flown p rg v ws i hi x st (m .inflight) (h .lists) (buffer-long p k m u we) fi (omega arith)
       (λ j hj fj e. let (z, op) = open-of p v st h i hi fi in h .opens-at z op .once j i hj hi fj fi (sym e))
       (flock-of p v st (m .inflight) ws h so (f .flights (we .none-missing))) in
       flown-as p k (mkMemory (q .state) (m .addresses) (m .compact) (q .inflight)) _ ws old _ _ stores-are memory-is
       (ap (λ (y : Answer). pendingAfter (close n) y ws) answer-is ∙ pending-quiet (close n) (Closed (stripeIn st i)) ws (quiet-closed (stripeIn st i)))
       (flown-of p k (mkMemory (q .state) (m .addresses) (m .compact) (q .inflight)) ws old v refl (pads-missing p rg v ws i hi x st (m .inflight) ∙ we .none-missing)
-      (of-flock p v (q .state) (q .inflight) ws o) (parity-none p k m ws old f (we .none-missing)))
+      (of-flock p v (q .state) (q .inflight) ws o) (flown-parity-made p k m ws old f (we .none-missing)))
     where
       stores-are : storeAll (storeDisk p) (closePlan p m .stores) k ≡ k
       stores-are = unfold closePlan storeAll in refl
@@ -119,10 +119,10 @@ module _ (p : Params) (k : Disk) (m : Memory) (u : Run p k m) (ws : List Pending
       answer-is : closePlan p m .answer ≡ Closed (stripeIn st (fillingSlot p st))
       answer-is = unfold closePlan in refl
 
-      quiet-closed : (s : ℕ) → Quiet (Closed s)
+      quiet-closed : (s : ℕ) → QuietAnswer (Closed s)
       quiet-closed s = quiet-kind (Closed s) 5 (unfold kind in refl) refl refl refl refl
 
   pub flown-close : isCut (callDisk p k m (close n) .answer) ≡ false
       → Flown p (callDisk p k m (close n) .drives) (callDisk p k m (close n) .memory) (pendingAfter (close n) (callDisk p k m (close n) .answer) ws) old
   unfolding callDisk callOn verdict storeCount lentBlock closeVerdict
-  flown-close nc = flown-ended p k m ws old f (close n) checks (closePlan p m) _ done nc (ended p k m checks (closePlan p m) n [])
+  flown-close nc = flown-ended p k m ws old f (close n) checks (closePlan p m) _ closed-flown nc (outcome-ends p k m checks (closePlan p m) n [])

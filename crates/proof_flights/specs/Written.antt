@@ -36,9 +36,9 @@ use Rattle.law_drives.specs.Range.{capacity-word}
 use Rattle.law_drives.specs.Tests.{clash}
 use Rattle.law_drives.specs.Zones.{Within, Roomy, all-fit}
 use Rattle.proof_tables.specs.Going.{address-small, buffer-long}
-use Rattle.proof_tables.specs.Outcomes.{ended}
-use Rattle.proof_tables.specs.Run.{Healthy, Well, Run}
-use Rattle.proof_tables.specs.Sending.{sends}
+use Rattle.proof_tables.specs.Outcomes.{outcome-ends}
+use Rattle.proof_tables.specs.Run.{HealthyState, Well, Run}
+use Rattle.proof_tables.specs.Sending.{sent-ok}
 use Rattle.law_views.specs.Views.{seen, view-stores}
 use Rattle.law_drives.specs.States.{StateOk, state-of}
 use Rattle.proof_flights.specs.Eighths.{plus}
@@ -56,14 +56,14 @@ well-of p k m u q = ⊎-elim
     (λ we. we) (u .mode)
 
 -- the view after stores that have room
-pub seen-after : (p : Params) (k : Disk) (m : Memory) → Run p k m → (ss : List Store) → Roomy p (seen p k) ss → ((s : Store) → In s ss → Within p s)
+pub run-seen-after : (p : Params) (k : Disk) (m : Memory) → Run p k m → (ss : List Store) → Roomy p (seen p k) ss → ((s : Store) → In s ss → Within p s)
     → seen p (storeAll (storeDisk p) ss k) ≡ storeAll storeView ss (seen p k)
-seen-after p k m u ss ro wi =
+run-seen-after p k m u ss ro wi =
     let rg = ranged p (u .base .ranged) in
     view-stores p k ss (capacity-word p rg) (whole-of p k m (u .base .lent)) (all-fit p (seen p k) ss (u .base .shaped .sized) wi ro)
 
-pub parity-none : (p : Params) (k : Disk) (m : Memory) (ws : List Pending) (old : List Segment) → Flown p k m ws old → m .state .missing ≡ 0 → ParityMade p (seen p k) 0 old
-parity-none p k m ws old f e = subst (λ (x : ℕ). ParityMade p (seen p k) x old) e (f .parities)
+pub flown-parity-made : (p : Params) (k : Disk) (m : Memory) (ws : List Pending) (old : List Segment) → Flown p k m ws old → m .state .missing ≡ 0 → ParityMade p (seen p k) 0 old
+flown-parity-made p k m ws old f e = subst (λ (x : ℕ). ParityMade p (seen p k) x old) e (f .parities)
 
 pub flown-of : (p : Params) (k : Disk) (m : Memory) (ws : List Pending) (old : List Segment) (u : View) → seen p k ≡ u → m .state .missing ≡ 0
     → Flights p u (m .state) (m .inflight) ws → ParityMade p u 0 old → Flown p k m ws old
@@ -75,7 +75,8 @@ flown-of p k m ws old u ev em f pm = record {
 
 -- ---- another stamp
 
-flights-stamp : (p : Params) → Ranged p → (v : View) (st : State) (fl : List ℕ) (ws : List Pending) (t : ℕ) → Healthy p v st → StateOk p st → Flights p v st fl ws → Flights p v (setStamp st t) fl ws
+flights-stamp : (p : Params) → Ranged p → (v : View) (st : State) (fl : List ℕ) (ws : List Pending) (t : ℕ) → HealthyState p v st → StateOk p st → Flights p v st fl ws
+    → Flights p v (setStamp st t) fl ws
 flights-stamp p r v st fl ws t h so f =
     of-flock p v (setStamp st t) fl ws (flock-same p r v v st (setStamp st t) fl ws (λ j. stamp-same st t j) (λ j d b hj fj hd. same-open d b) (flock-of p v st fl ws h so f))
   where
@@ -110,8 +111,9 @@ module _ (p : Params) (k : Disk) (m : Memory) (u : Run p k m) (ws : List Pending
     abbrev v′ : View
     v′ = storeAll storeView (q .stores) v
 
-    done : firstRefusal checks ≡ none → Flown p (storeAll (storeDisk p) (writePlan p v m a b .stores) k) (writePlan p v m a b .memory) (pendingAfter (write a b n) (writePlan p v m a b .answer) ws) old
-    done e =
+    written-flown : firstRefusal checks ≡ none → Flown p (storeAll (storeDisk p) (writePlan p v m a b .stores) k) (writePlan p v m a b .memory)
+        (pendingAfter (write a b n) (writePlan p v m a b .answer) ws) old
+    written-flown e =
         let c = write-passed p (lentOk p k m) v m a b e in
         let rg = ranged p (u .base .ranged) in
         let we = well-of p k m u (c .healthy) in
@@ -126,11 +128,11 @@ module _ (p : Params) (k : Disk) (m : Memory) (u : Run p k m) (ws : List Pending
         let sh = u .base .shaped in
         let h = we .healthy in
         let no = we .none-missing in
-        let s = sends p rg v sh st h so fl bu a t 1 b ha ht (omega arith) lb (c .no-wait) ns (λ x. ne) in
-        let le = leaves-sent p rg v sh st h so fl bu ws old (f .flights no) (parity-none p k m ws old f no) a t 1 b (inr refl) lb (c .no-wait) ns (λ x. ne) in
+        let s = sent-ok p rg v sh st h so fl bu a t 1 b ha ht (omega arith) lb (c .no-wait) ns (λ x. ne) in
+        let le = leaves-sent p rg v sh st h so fl bu ws old (f .flights no) (flown-parity-made p k m ws old f no) a t 1 b (inr refl) lb (c .no-wait) ns (λ x. ne) in
         flown-as p k′ m′ _ _ old _ _ (ap (λ (l : List Store). storeAll (storeDisk p) l k) stores-is) memory-is
         (ap (λ (x : Answer). pendingAfter (write a b n) x ws) answer-is ∙ pending-sent (q .stripe) (q .drive))
-        (flown-of p k′ m′ _ old v′ (seen-after p k m u (q .stores) (s .has-room) (s .all-within)) (missing-same (q .state) ∙ s .missing-after ∙ no)
+        (flown-of p k′ m′ _ old v′ (run-seen-after p k m u (q .stores) (s .has-room) (s .all-within)) (missing-same (q .state) ∙ s .missing-after ∙ no)
         (flights-stamp p rg v′ (q .state) (q .inflight) _ t (s .healthy-after) (s .state-after) (le .0)) (le .1))
       where
         stamp-left : noStamp st ≡ false → eqb (st .stamp .0) lastCount ≡ false
@@ -154,4 +156,4 @@ module _ (p : Params) (k : Disk) (m : Memory) (u : Run p k m) (ws : List Pending
     pub flown-write : isCut (callDisk p k m (write a b n) .answer) ≡ false
         → Flown p (callDisk p k m (write a b n) .drives) (callDisk p k m (write a b n) .memory) (pendingAfter (write a b n) (callDisk p k m (write a b n) .answer) ws) old
     unfolding callDisk callOn verdict storeCount lentBlock writeVerdict
-    flown-write nc = flown-ended p k m ws old f (write a b n) checks (writePlan p v m a b) _ done nc (ended p k m checks (writePlan p v m a b) n b)
+    flown-write nc = flown-ended p k m ws old f (write a b n) checks (writePlan p v m a b) _ written-flown nc (outcome-ends p k m checks (writePlan p v m a b) n b)

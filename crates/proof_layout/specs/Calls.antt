@@ -50,12 +50,12 @@ use Rattle.law_drives.specs.Tidy.{usedAt, Tidy}
 use Rattle.law_drives.specs.Zones.{Shaped, Within, Roomy, all-fit, shaped-after}
 use Rattle.proof_tables.specs.Chunks.{chunk-roomy, all-behind, open-after}
 use Rattle.proof_tables.specs.Going.{buffer-long}
-use Rattle.proof_tables.specs.Landings.{Waits, waits}
-use Rattle.proof_tables.specs.Outcomes.{Ended, ended, cut-cut}
-use Rattle.proof_tables.specs.Outcomes.Ended.{ended-refused, ended-done, ended-cut}
+use Rattle.proof_tables.specs.Landings.{LandWaits, land-waits}
+use Rattle.proof_tables.specs.Outcomes.{EndedAs, outcome-ends, cut-cut}
+use Rattle.proof_tables.specs.Outcomes.EndedAs.{ended-refused, ended-done, ended-cut}
 use Rattle.proof_tables.specs.Reading.{read-idle, fill-idle}
-use Rattle.proof_tables.specs.Reclaiming.{taken}
-use Rattle.proof_tables.specs.Run.{Lost, Healthy, Well, Run}
+use Rattle.proof_tables.specs.Reclaiming.{victim-taken}
+use Rattle.proof_tables.specs.Run.{LostDrive, HealthyState, Well, Run}
 use Rattle.proof_tables.specs.Sealing.{seal-roomy, seal-within}
 use Rattle.proof_tables.specs.Theorem.{stepped}
 use Rattle.law_views.specs.Views.{Whole, seen, view-stores}
@@ -67,11 +67,11 @@ use Rattle.proof_layout.specs.Segments.{opened-laid, reset-laid, chunk-l
 -- ---- what a call leaves
 
 -- what is claimed of a call
-abbrev pub Keeps : Params → List Segment → After Disk → Type 0
-Keeps p old r = Laid p (seen p (r .drives)) (r .memory .state .missing) old
+abbrev pub KeepsLaid : Params → List Segment → After Disk → Type 0
+KeepsLaid p old r = Laid p (seen p (r .drives)) (r .memory .state .missing) old
 
 -- drives and memory as they were
-pub same-keeps : (p : Params) (k : Disk) (m : Memory) (old : List Segment) (r : After Disk) → Laid p (seen p k) (m .state .missing) old → r .drives ≡ k → r .memory ≡ m → Keeps p old r
+pub same-keeps : (p : Params) (k : Disk) (m : Memory) (old : List Segment) (r : After Disk) → Laid p (seen p k) (m .state .missing) old → r .drives ≡ k → r .memory ≡ m → KeepsLaid p old r
 same-keeps p k m old r l e f = subst (λ (x : Disk). Laid p (seen p x) (r .memory .state .missing) old) (sym e) (subst (λ (x : Memory). Laid p (seen p k) (x .state .missing) old) (sym f) l)
 
 -- the view of the bytes after stores that fit
@@ -81,13 +81,13 @@ stored-view p k ss ir w sh ro wi = view-stores p k ss (capacity-word p (ranged p
 
 -- with none missing the segments are tidy
 pub run-tidy : (p : Params) (k : Disk) (m : Memory) → Run p k m → m .state .missing ≡ 0 → Tidy p (seen p k) (m .state .serial .0)
-run-tidy p k m u e = ⊎-elim (λ (x : Lost p k m). clash (eq-eqb (named (x .which)) 0 (sym (x .names-it) ∙ e)) (named-some p (ranged p (u .base .ranged)) (x .which) (x .which-low)))
+run-tidy p k m u e = ⊎-elim (λ (x : LostDrive p k m). clash (eq-eqb (named (x .which)) 0 (sym (x .names-it) ∙ e)) (named-some p (ranged p (u .base .ranged)) (x .which) (x .which-low)))
     (λ (x : Well p k m). x .healthy .tidy) (u .mode)
 
 -- stores done with none missing, in a run that goes on
 pub done-keeps : (p : Params) (k : Disk) (m : Memory) (old : List Segment) (r : After Disk) (ss : List Store)
     → Run p k m → Run p (r .drives) (r .memory) → r .drives ≡ storeAll (storeDisk p) ss k → r .memory .state .missing ≡ 0
-    → Roomy p (seen p k) ss → ((s : Store) → In s ss → Within p s) → WellLaid p (storeAll storeView ss (seen p k)) old → Keeps p old r
+    → Roomy p (seen p k) ss → ((s : Store) → In s ss → Within p s) → WellLaid p (storeAll storeView ss (seen p k)) old → KeepsLaid p old r
 done-keeps p k m old r ss u u2 e mz ro wi l =
     let ev : seen p (r .drives) ≡ storeAll storeView ss (seen p k) = ap (seen p) e ∙ stored-view p k ss (u .base .ranged) (whole-of p k m (u .base .lent)) (u .base .shaped) ro wi in
     subst (λ (g : ℕ). Laid p (seen p (r .drives)) g old) (sym mz)
@@ -95,11 +95,11 @@ done-keeps p k m old r ss u u2 e mz ro wi l =
 
 -- ---- a drive is missing: the third check refuses
 
-stopped : (p : Params) (k : Disk) (m : Memory) (cs : List Check) (q : Plan) (r : After Disk) (old : List Segment) → eqb (m .state .missing) 0 ≡ false
-    → Laid p (seen p k) (m .state .missing) old → Ended p k m cs q r → (firstRefusal cs ≡ none → m .state .missing ≡ 0) → isCut (r .answer) ≡ false → Keeps p old r
-stopped p k m cs q r old ms l (ended-refused a e f g h) healthy nc = same-keeps p k m old r l g h
-stopped p k m cs q r old ms l (ended-done c f g h) healthy nc = clash (eq-eqb (m .state .missing) 0 (healthy c)) ms
-stopped p k m cs q r old ms l (ended-cut c f) healthy nc = clash (ap isCut f ∙ cut-cut) nc
+stopped-laid : (p : Params) (k : Disk) (m : Memory) (cs : List Check) (q : Plan) (r : After Disk) (old : List Segment) → eqb (m .state .missing) 0 ≡ false
+    → Laid p (seen p k) (m .state .missing) old → EndedAs p k m cs q r → (firstRefusal cs ≡ none → m .state .missing ≡ 0) → isCut (r .answer) ≡ false → KeepsLaid p old r
+stopped-laid p k m cs q r old ms l (ended-refused a e f g h) healthy nc = same-keeps p k m old r l g h
+stopped-laid p k m cs q r old ms l (ended-done c f g h) healthy nc = clash (eq-eqb (m .state .missing) 0 (healthy c)) ms
+stopped-laid p k m cs q r old ms l (ended-cut c f) healthy nc = clash (ap isCut f ∙ cut-cut) nc
 
 module _ (p : Params) (k : Disk) (m : Memory) (u : Run p k m) (old : List Segment) (l : Laid p (seen p k) (m .state .missing) old) where
   abbrev v : View
@@ -111,7 +111,7 @@ module _ (p : Params) (k : Disk) (m : Memory) (u : Run p k m) (old : List Segmen
   rg : Ranged p
   rg = ranged p (u .base .ranged)
 
-  some-missing : Lost p k m → eqb (st .missing) 0 ≡ false
+  some-missing : LostDrive p k m → eqb (st .missing) 0 ≡ false
   some-missing lo = ap (λ (x : ℕ). eqb x 0) (lo .names-it) ∙ named-some p rg (lo .which) (lo .which-low)
 
   well-laid : Well p k m → WellLaid p v old
@@ -188,11 +188,11 @@ module _ (p : Params) (k : Disk) (m : Memory) (u : Run p k m) (old : List Segmen
     abbrev wr : After Disk
     wr = callDisk p k m (write a b n)
 
-    write-ends : Ended p k m (writeChecks p (lentOk p k m) v m a b) (writePlan p v m a b) wr
+    write-ends : EndedAs p k m (writeChecks p (lentOk p k m) v m a b) (writePlan p v m a b) wr
     unfolding callDisk callOn verdict storeCount lentBlock writeVerdict
-    write-ends = ended p k m (writeChecks p (lentOk p k m) v m a b) (writePlan p v m a b) n b
+    write-ends = outcome-ends p k m (writeChecks p (lentOk p k m) v m a b) (writePlan p v m a b) n b
 
-    write-well : Well p k m → isCut (wr .answer) ≡ false → Keeps p old wr
+    write-well : Well p k m → isCut (wr .answer) ≡ false → KeepsLaid p old wr
     write-well we nc = go write-ends
       where
         parts : firstRefusal (writeChecks p (lentOk p k m) v m a b) ≡ none → (noSerial p st ≡ false) × (opens p st ≡ true → isNil (emptyZones p v) ≡ false)
@@ -204,7 +204,7 @@ module _ (p : Params) (k : Disk) (m : Memory) (u : Run p k m) (old : List Segmen
         stores-is : writePlan p v m a b .stores ≡ sending p v st (m .inflight) a (suc (st .stamp .0)) 1 b .stores
         stores-is = unfold writePlan in refl
 
-        go : Ended p k m (writeChecks p (lentOk p k m) v m a b) (writePlan p v m a b) wr → Keeps p old wr
+        go : EndedAs p k m (writeChecks p (lentOk p k m) v m a b) (writePlan p v m a b) wr → KeepsLaid p old wr
         go (ended-refused x e f g h) = same-keeps p k m old wr l g h
         go (ended-done c f g h) =
             let (ns, ne) = parts c in
@@ -213,11 +213,11 @@ module _ (p : Params) (k : Disk) (m : Memory) (u : Run p k m) (old : List Segmen
             (ap (λ (x : Memory). x .state .missing) h ∙ missing-is ∙ sending-missing (m .inflight) a (suc (st .stamp .0)) 1 b ∙ we .none-missing) ro wi wl
         go (ended-cut c f) = clash (ap isCut f ∙ cut-cut) nc
 
-    write-lost : Lost p k m → isCut (wr .answer) ≡ false → Keeps p old wr
-    write-lost lo nc = stopped p k m _ _ wr old (some-missing lo) l write-ends (λ e. write-passed p (lentOk p k m) v m a b e .healthy) nc
+    write-lost : LostDrive p k m → isCut (wr .answer) ≡ false → KeepsLaid p old wr
+    write-lost lo nc = stopped-laid p k m _ _ wr old (some-missing lo) l write-ends (λ e. write-passed p (lentOk p k m) v m a b e .healthy) nc
 
     -- 01, Write
-    pub laid-write : isCut (wr .answer) ≡ false → Keeps p old wr
+    pub laid-write : isCut (wr .answer) ≡ false → KeepsLaid p old wr
     laid-write nc = ⊎-elim (λ x. write-lost x nc) (λ x. write-well x nc) (u .mode)
 
   -- ---- closing
@@ -226,9 +226,9 @@ module _ (p : Params) (k : Disk) (m : Memory) (u : Run p k m) (old : List Segmen
     abbrev cl : After Disk
     cl = callDisk p k m (close n)
 
-    close-ends : Ended p k m (closeChecks p (lentOk p k m) v m) (closePlan p m) cl
+    close-ends : EndedAs p k m (closeChecks p (lentOk p k m) v m) (closePlan p m) cl
     unfolding callDisk callOn verdict storeCount lentBlock closeVerdict
-    close-ends = ended p k m (closeChecks p (lentOk p k m) v m) (closePlan p m) n []
+    close-ends = outcome-ends p k m (closeChecks p (lentOk p k m) v m) (closePlan p m) n []
 
     padded-missing : (i x : ℕ) (su : State) (fl : List ℕ) → padded p i x su fl .state .missing ≡ su .missing
     unfolding padded placed
@@ -238,7 +238,7 @@ module _ (p : Params) (k : Disk) (m : Memory) (u : Run p k m) (old : List Segmen
         same : (su : State) → addEntry su i paddingAddress 0 0 .missing ≡ su .missing
         same su = unfold addEntry in refl
 
-    close-well : Well p k m → isCut (cl .answer) ≡ false → Keeps p old cl
+    close-well : Well p k m → isCut (cl .answer) ≡ false → KeepsLaid p old cl
     close-well we nc = go close-ends
       where
         missing-is : closePlan p m .memory .state .missing ≡ padded p (fillingSlot p st) (dataCount p - filledIn st (fillingSlot p st)) st (m .inflight) .state .missing
@@ -247,26 +247,26 @@ module _ (p : Params) (k : Disk) (m : Memory) (u : Run p k m) (old : List Segmen
         stores-is : closePlan p m .stores ≡ []
         stores-is = unfold closePlan in refl
 
-        go : Ended p k m (closeChecks p (lentOk p k m) v m) (closePlan p m) cl → Keeps p old cl
+        go : EndedAs p k m (closeChecks p (lentOk p k m) v m) (closePlan p m) cl → KeepsLaid p old cl
         go (ended-refused x e f g h) = same-keeps p k m old cl l g h
         go (ended-done c f g h) = done-keeps p k m old cl [] u (stepped p k m u (close n) .1 nc) (g ∙ ap (λ (x : List Store). storeAll (storeDisk p) x k) stores-is)
             (ap (λ (x : Memory). x .state .missing) h ∙ missing-is ∙ padded-missing (fillingSlot p st) (dataCount p - filledIn st (fillingSlot p st)) st (m .inflight) ∙ we .none-missing)
             (roomy-none p v) (λ s i. absurd i) (subst (λ (x : View). WellLaid p x old) (sym (stores-none v)) (well-laid we))
         go (ended-cut c f) = clash (ap isCut f ∙ cut-cut) nc
 
-    close-lost : Lost p k m → isCut (cl .answer) ≡ false → Keeps p old cl
-    close-lost lo nc = stopped p k m _ _ cl old (some-missing lo) l close-ends (λ e. close-passed p (lentOk p k m) v m e .healthy) nc
+    close-lost : LostDrive p k m → isCut (cl .answer) ≡ false → KeepsLaid p old cl
+    close-lost lo nc = stopped-laid p k m _ _ cl old (some-missing lo) l close-ends (λ e. close-passed p (lentOk p k m) v m e .healthy) nc
 
     -- 01, Closing
-    pub laid-close : isCut (cl .answer) ≡ false → Keeps p old cl
+    pub laid-close : isCut (cl .answer) ≡ false → KeepsLaid p old cl
     laid-close nc = ⊎-elim (λ x. close-lost x nc) (λ x. close-well x nc) (u .mode)
 
   -- ---- reads
 
-  pub laid-read : (a : ℕ) → Keeps p old (callDisk p k m (read a))
+  pub laid-read : (a : ℕ) → KeepsLaid p old (callDisk p k m (read a))
   laid-read a = let i = read-idle p k m (u .base) a in same-keeps p k m old (callDisk p k m (read a)) l (i .same-drives) (i .same-memory)
 
-  pub laid-fill : (a : ℕ) (b : List ℕ) → Keeps p old (callDisk p k m (fill a b))
+  pub laid-fill : (a : ℕ) (b : List ℕ) → KeepsLaid p old (callDisk p k m (fill a b))
   laid-fill a b = let i = fill-idle p k m (u .base) a b in same-keeps p k m old (callDisk p k m (fill a b)) l (i .same-drives) (i .same-memory)
 
   -- ---- reclaim
@@ -287,11 +287,11 @@ module _ (p : Params) (k : Disk) (m : Memory) (u : Run p k m) (old : List Segmen
     abbrev rplan : Plan
     rplan = cond (isNil (victimLive w)) (resetPlan p m (victimSegment w)) (copyPlan p v m place)
 
-    reclaim-ends : Ended p k m (reclaimChecks p (lentOk p k m) v m w) rplan rc
+    reclaim-ends : EndedAs p k m (reclaimChecks p (lentOk p k m) v m w) rplan rc
     unfolding callDisk callOn verdict storeCount lentBlock reclaimVerdict
-    reclaim-ends = ended p k m (reclaimChecks p (lentOk p k m) v m w) rplan n []
+    reclaim-ends = outcome-ends p k m (reclaimChecks p (lentOk p k m) v m w) rplan n []
 
-    reclaim-well : Well p k m → isCut (rc .answer) ≡ false → Keeps p old rc
+    reclaim-well : Well p k m → isCut (rc .answer) ≡ false → KeepsLaid p old rc
     reclaim-well we nc = go reclaim-ends
       where
         parts : firstRefusal (reclaimChecks p (lentOk p k m) v m w) ≡ none → ReclaimPassed p (lentOk p k m) v m w
@@ -315,10 +315,10 @@ module _ (p : Params) (k : Disk) (m : Memory) (u : Run p k m) (old : List Segmen
         copy-stores : (q : ℕ) → copyPlan p v m q .stores ≡ sending p v st (m .inflight) (copy-rec q .address) (copy-rec q .stamp) 0 (copy-block q) .stores
         copy-stores q = unfold copyPlan in refl
 
-        done : Test (isNil (victimLive w)) → ReclaimPassed p (lentOk p k m) v m w → rc .drives ≡ storeAll (storeDisk p) (rplan .stores) k → rc .memory ≡ rplan .memory → Keeps p old rc
+        done : Test (isNil (victimLive w)) → ReclaimPassed p (lentOk p k m) v m w → rc .drives ≡ storeAll (storeDisk p) (rplan .stores) k → rc .memory ≡ rplan .memory → KeepsLaid p old rc
         done (yes! q) c g h =
             let e : rplan ≡ resetPlan p m (victimSegment w) = cond-true (isNil (victimLive w)) (resetPlan p m (victimSegment w)) (copyPlan p v m place) q in
-            let hg = taken p v (m .addresses) (c .taken) .taken-low in
+            let hg = victim-taken p v (m .addresses) (c .taken) .taken-low in
             let s = victimSegment w in
             done-keeps p k m old rc (resetStores p s) u (stepped p k m u (reclaim n) .1 nc)
             (g ∙ ap (λ (x : Plan). storeAll (storeDisk p) (x .stores) k) e ∙ ap (λ (x : List Store). storeAll (storeDisk p) x k) (reset-stores s))
@@ -334,16 +334,16 @@ module _ (p : Params) (k : Disk) (m : Memory) (u : Run p k m) (old : List Segmen
             ∙ copy-missing place ∙ sending-missing (m .inflight) (copy-rec place .address) (copy-rec place .stamp) 0 (copy-block place) ∙ we .none-missing)
             ro wi wl
 
-        go : Ended p k m (reclaimChecks p (lentOk p k m) v m w) rplan rc → Keeps p old rc
+        go : EndedAs p k m (reclaimChecks p (lentOk p k m) v m w) rplan rc → KeepsLaid p old rc
         go (ended-refused x e f g h) = same-keeps p k m old rc l g h
         go (ended-done c f g h) = done (test (isNil (victimLive w))) (parts c) g h
         go (ended-cut c f) = clash (ap isCut f ∙ cut-cut) nc
 
-    reclaim-lost : Lost p k m → isCut (rc .answer) ≡ false → Keeps p old rc
-    reclaim-lost lo nc = stopped p k m _ _ rc old (some-missing lo) l reclaim-ends (λ e. reclaim-passed p (lentOk p k m) v m w e .healthy) nc
+    reclaim-lost : LostDrive p k m → isCut (rc .answer) ≡ false → KeepsLaid p old rc
+    reclaim-lost lo nc = stopped-laid p k m _ _ rc old (some-missing lo) l reclaim-ends (λ e. reclaim-passed p (lentOk p k m) v m w e .healthy) nc
 
     -- 01, Reclaim
-    pub laid-reclaim : isCut (rc .answer) ≡ false → Keeps p old rc
+    pub laid-reclaim : isCut (rc .answer) ≡ false → KeepsLaid p old rc
     laid-reclaim nc = ⊎-elim (λ x. reclaim-lost x nc) (λ x. reclaim-well x nc) (u .mode)
 
   -- ---- landing
@@ -352,9 +352,9 @@ module _ (p : Params) (k : Disk) (m : Memory) (u : Run p k m) (old : List Segmen
     abbrev ld : After Disk
     ld = callDisk p k m (land d s n)
 
-    land-ends : Ended p k m (landChecks p (lentOk p k m) v m d s) (landPlan p v m d s) ld
+    land-ended : EndedAs p k m (landChecks p (lentOk p k m) v m d s) (landPlan p v m d s) ld
     unfolding callDisk callOn verdict storeCount lentBlock landVerdict
-    land-ends = ended p k m (landChecks p (lentOk p k m) v m d s) (landPlan p v m d s) n []
+    land-ended = outcome-ends p k m (landChecks p (lentOk p k m) v m d s) (landPlan p v m d s) n []
 
     land-missing : landPlan p v m d s .memory .state .missing ≡ st .missing
     land-missing = unfold landPlan zoneOn in go (seals p st (slotOf st s) d) (completes p st (slotOf st s) d) (slotOf st s) (pointerAt v d (openSegment st) - 1)
@@ -366,8 +366,8 @@ module _ (p : Params) (k : Disk) (m : Memory) (u : Run p k m) (old : List Segmen
         go false true i o = unfold freeStripe markLanded in refl
         go false false i o = unfold markLanded in refl
 
-    land-well : Well p k m → isCut (ld .answer) ≡ false → Keeps p old ld
-    land-well we nc = go land-ends
+    land-well : Well p k m → isCut (ld .answer) ≡ false → KeepsLaid p old ld
+    land-well we nc = go land-ended
       where
         i : ℕ
         i = slotOf st s
@@ -381,7 +381,7 @@ module _ (p : Params) (k : Disk) (m : Memory) (u : Run p k m) (old : List Segmen
         so : StateOk p st
         so = state-of p rg st (u .base .state-ok)
 
-        he : Healthy p v st
+        he : HealthyState p v st
         he = we .healthy
 
         b : List ℕ
@@ -410,7 +410,8 @@ module _ (p : Params) (k : Disk) (m : Memory) (u : Run p k m) (old : List Segmen
         one-store : storeAll storeView (store ∷ []) v ≡ storeView store v
         one-store = unfold storeAll in refl
 
-        done : Test (seals p st (slotOf st s) d) → Waits p v st d s → ld .drives ≡ storeAll (storeDisk p) (landPlan p v m d s .stores) k → ld .memory ≡ landPlan p v m d s .memory → Keeps p old ld
+        done : Test (seals p st (slotOf st s) d) → LandWaits p v st d s → ld .drives ≡ storeAll (storeDisk p) (landPlan p v m d s .stores) k → ld .memory ≡ landPlan p v m d s .memory
+            → KeepsLaid p old ld
         done t x g h = two t
           where
             hd : d < p .N
@@ -441,7 +442,7 @@ module _ (p : Params) (k : Disk) (m : Memory) (u : Run p k m) (old : List Segmen
             mz : ld .memory .state .missing ≡ 0
             mz = ap (λ (y : Memory). y .state .missing) h ∙ land-missing ∙ we .none-missing
 
-            two : Test (seals p st (slotOf st s) d) → Keeps p old ld
+            two : Test (seals p st (slotOf st s) d) → KeepsLaid p old ld
             two (no! q) = done-keeps p k m old ld (store ∷ []) u (stepped p k m u (land d s n) .1 nc) (g ∙ ap (λ (y : List Store). storeAll (storeDisk p) y k) (plain-stores q)) mz ro wi
                 (subst (λ (y : View). WellLaid p y old) (sym one-store) wl)
             two (yes! q) =
@@ -456,16 +457,16 @@ module _ (p : Params) (k : Disk) (m : Memory) (u : Run p k m) (old : List Segmen
                 (seal-laid p rg v1 sh1 old z hz behind (used! v1 (λ e l. let a = behind e l in omega arith))
                 (open-after p rg v sh st he so z (x .slot-opened) d i hd (x .slot-ok) (x .slot-flies) (x .slot-ready) b lb) wl))
 
-        go : Ended p k m (landChecks p (lentOk p k m) v m d s) (landPlan p v m d s) ld → Keeps p old ld
+        go : EndedAs p k m (landChecks p (lentOk p k m) v m d s) (landPlan p v m d s) ld → KeepsLaid p old ld
         go (ended-refused x e f g h) = same-keeps p k m old ld l g h
-        go (ended-done c f g h) = done (test (seals p st (slotOf st s) d)) (waits p v st d s he (parts c)) g h
+        go (ended-done c f g h) = done (test (seals p st (slotOf st s) d)) (land-waits p v st d s he (parts c)) g h
         go (ended-cut c f) = clash (ap isCut f ∙ cut-cut) nc
 
-    land-lost : Lost p k m → isCut (ld .answer) ≡ false → Keeps p old ld
-    land-lost lo nc = stopped p k m _ _ ld old (some-missing lo) l land-ends (λ e. land-passed p (lentOk p k m) v m d s e .healthy) nc
+    land-lost : LostDrive p k m → isCut (ld .answer) ≡ false → KeepsLaid p old ld
+    land-lost lo nc = stopped-laid p k m _ _ ld old (some-missing lo) l land-ended (λ e. land-passed p (lentOk p k m) v m d s e .healthy) nc
 
     -- 01, Landing
-    pub laid-land : isCut (ld .answer) ≡ false → Keeps p old ld
+    pub laid-land : isCut (ld .answer) ≡ false → KeepsLaid p old ld
     laid-land nc = ⊎-elim (λ x. land-lost x nc) (λ x. land-well x nc) (u .mode)
 
   -- ---- rebuild
@@ -477,20 +478,20 @@ module _ (p : Params) (k : Disk) (m : Memory) (u : Run p k m) (old : List Segmen
     abbrev bplan : Plan
     bplan = mkPlan (rebuildStores p e (segments p v (named e))) Rebuilt m []
 
-    rebuild-ends : Ended p k m (rebuildChecks p (lentOk p k m) v m e (segments p v (named e))) bplan rb
+    rebuild-ended : EndedAs p k m (rebuildChecks p (lentOk p k m) v m e (segments p v (named e))) bplan rb
     unfolding callDisk callOn verdict storeCount lentBlock rebuildVerdict
-    rebuild-ends = ended p k m (rebuildChecks p (lentOk p k m) v m e (segments p v (named e))) bplan n []
+    rebuild-ended = outcome-ends p k m (rebuildChecks p (lentOk p k m) v m e (segments p v (named e))) bplan n []
 
     names : firstRefusal (rebuildChecks p (lentOk p k m) v m e (segments p v (named e))) ≡ none → (e < p .N) × (st .missing ≡ named e)
     names q = let c = rebuild-passed p (lentOk p k m) v m e (segments p v (named e)) q in (c .drive-low, c .names)
 
-    rebuild-well : Well p k m → isCut (rb .answer) ≡ false → Keeps p old rb
-    rebuild-well we nc = go rebuild-ends
+    rebuild-well : Well p k m → isCut (rb .answer) ≡ false → KeepsLaid p old rb
+    rebuild-well we nc = go rebuild-ended
       where
-        never! : (e < p .N) × (st .missing ≡ named e) → Keeps p old rb
+        never! : (e < p .N) × (st .missing ≡ named e) → KeepsLaid p old rb
         never! (he, x) = clash (eq-eqb (named e) 0 (sym x ∙ we .none-missing)) (named-some p rg e he)
 
-        go : Ended p k m (rebuildChecks p (lentOk p k m) v m e (segments p v (named e))) bplan rb → Keeps p old rb
+        go : EndedAs p k m (rebuildChecks p (lentOk p k m) v m e (segments p v (named e))) bplan rb → KeepsLaid p old rb
         go (ended-refused x q f g h) = same-keeps p k m old rb l g h
         go (ended-done c f g h) = never! (names c)
         go (ended-cut c f) = clash (ap isCut f ∙ cut-cut) nc
@@ -514,10 +515,10 @@ module _ (p : Params) (k : Disk) (m : Memory) (u : Run p k m) (old : List Segmen
         copied! : (g : ℕ) → core (segmentOf p v (st .missing) g) ≡ core (segmentOf p v2 (st .missing) g) → segmentOf p v (st .missing) g .copied ≡ segmentOf p v2 (st .missing) g .copied
         copied! g c = unfold core in ap (λ (x : Segment). x .copied) c
 
-    rebuild-lost : Lost p k m → isCut (rb .answer) ≡ false → Keeps p old rb
-    rebuild-lost lo nc = go rebuild-ends
+    rebuild-lost : LostDrive p k m → isCut (rb .answer) ≡ false → KeepsLaid p old rb
+    rebuild-lost lo nc = go rebuild-ended
       where
-        done : (e < p .N) × (st .missing ≡ named e) → rb .drives ≡ storeAll (storeDisk p) (bplan .stores) k → rb .memory ≡ m → Keeps p old rb
+        done : (e < p .N) × (st .missing ≡ named e) → rb .drives ≡ storeAll (storeDisk p) (bplan .stores) k → rb .memory ≡ m → KeepsLaid p old rb
         done (he, q) g h =
             let gone = st .missing in
             let lost = named-in p rg e he in
@@ -530,15 +531,15 @@ module _ (p : Params) (k : Disk) (m : Memory) (u : Run p k m) (old : List Segmen
             let ag : Agree p gone v v2 = subst (λ (y : ℕ). Agree p y v v2) (sym q) (rebuild-agrees p rg v sh e he lost) in
             let zn : Zoned p (seen p (rb .drives)) gone old = subst (λ (y : View). Zoned p y gone old) (sym ev) (agree-zoned v2 low ag) in
             let mm : rb .memory .state .missing ≡ gone = ap (λ (x : Memory). x .state .missing) h in
-            ⊎-elim (λ (x : Lost p (rb .drives) (rb .memory)).
+            ⊎-elim (λ (x : LostDrive p (rb .drives) (rb .memory)).
             laid-accepted p (seen p (rb .drives)) (rb .memory .state .missing) (x .accepts) old (subst (λ (y : ℕ). Zoned p (seen p (rb .drives)) y old) (sym mm) zn))
             (λ (x : Well p (rb .drives) (rb .memory)). clash (eq-eqb gone 0 (sym mm ∙ x .none-missing)) (some-missing lo)) (stepped p k m u (rebuild e n) .1 nc .mode)
 
-        go : Ended p k m (rebuildChecks p (lentOk p k m) v m e (segments p v (named e))) bplan rb → Keeps p old rb
+        go : EndedAs p k m (rebuildChecks p (lentOk p k m) v m e (segments p v (named e))) bplan rb → KeepsLaid p old rb
         go (ended-refused x q f g h) = same-keeps p k m old rb l g h
         go (ended-done c f g h) = done (names c) g h
         go (ended-cut c f) = clash (ap isCut f ∙ cut-cut) nc
 
     -- 01, Rebuild
-    pub laid-rebuild : isCut (rb .answer) ≡ false → Keeps p old rb
+    pub laid-rebuild : isCut (rb .answer) ≡ false → KeepsLaid p old rb
     laid-rebuild nc = ⊎-elim (λ x. rebuild-lost x nc) (λ x. rebuild-well x nc) (u .mode)

@@ -28,7 +28,7 @@ use Rattle.law_drives.specs.Members.{In, in-map, in-any, none-in, in-getD, is-m
 use Rattle.law_drives.specs.Records.{blocks-at}
 use Rattle.law_drives.specs.Segs.{in-present, length-records, record-at, zone-by, seg-is, copied-is, full-is}
 use Rattle.law_drives.specs.Settled.{low-first, used-remains, remains-is-used, serial-of, SameZones, zones-sealed, zones-header}
-use Rattle.law_drives.specs.Tests.{clash, or-left, or-right, eqb-self}
+use Rattle.law_drives.specs.Tests.{clash, or-first, or-right, eqb-self}
 use Rattle.law_drives.specs.Tidy.{usedAt, Tidy}
 
 -- 01, What a zone holds: all of the layout but the parity
@@ -156,8 +156,8 @@ zoned-laid p v gone old low above once z = record {
 -- ---- what a restart's checks give
 
 -- no number twice
-head-apart : (r : Rec) (rs : List Rec) → any (λ (q : Rec). eqb (q .stripe) (r .stripe)) rs ≡ false → (i : ℕ) → i < length rs → getD rs i (mkRec 0 0 0) .stripe ≡ r .stripe → ⊥
-head-apart r rs n i h e =
+first-stripe-once : (r : Rec) (rs : List Rec) → any (λ (q : Rec). eqb (q .stripe) (r .stripe)) rs ≡ false → (i : ℕ) → i < length rs → getD rs i (mkRec 0 0 0) .stripe ≡ r .stripe → ⊥
+first-stripe-once r rs n i h e =
     let a = getD rs i (mkRec 0 0 0) in
     eqb-false (a .stripe) (r .stripe) (none-in (λ (q : Rec). eqb (q .stripe) (r .stripe)) rs n a (in-getD rs i (mkRec 0 0 0) h)) e
 
@@ -165,8 +165,8 @@ pub twice-once : (rs : List Rec) → twice rs ≡ false → (o i : ℕ) → o < 
 unfolding twice
 twice-once [] n o i h k e = absurd (let z : ⊥ = omega arith in z)
 twice-once (r ∷ rs) n zero zero h k e = refl
-twice-once (r ∷ rs) n zero (suc i) h k e = absurd (head-apart r rs (or-left (any (λ (q : Rec). eqb (q .stripe) (r .stripe)) rs) (twice rs) n) i (omega arith) (sym e))
-twice-once (r ∷ rs) n (suc o) zero h k e = absurd (head-apart r rs (or-left (any (λ (q : Rec). eqb (q .stripe) (r .stripe)) rs) (twice rs) n) o (omega arith) e)
+twice-once (r ∷ rs) n zero (suc i) h k e = absurd (first-stripe-once r rs (or-first (any (λ (q : Rec). eqb (q .stripe) (r .stripe)) rs) (twice rs) n) i (omega arith) (sym e))
+twice-once (r ∷ rs) n (suc o) zero h k e = absurd (first-stripe-once r rs (or-first (any (λ (q : Rec). eqb (q .stripe) (r .stripe)) rs) (twice rs) n) o (omega arith) e)
 twice-once (r ∷ rs) n (suc o) (suc i) h k e = ap suc (twice-once rs (or-right (any (λ (q : Rec). eqb (q .stripe) (r .stripe)) rs) (twice rs) n) o i (omega arith) (omega arith) e)
 
 -- an unsealed zone's footers are made from its spares
@@ -299,8 +299,8 @@ module _ (p : Params) (r : Ranged p) (v : View) (s : ℕ) (t : Tidy p v s) (old 
       (laid-zoned p v 0 old l z d (used-remains p r v s t z hz u) hd (isIn-empty d)))
 
 -- a segment whose zones are the same
-pub seg-same : (p : Params) (r : Ranged p) (v u : View) (old : List Segment) (z : ℕ) → SameZones p v u z → SegLaid p v old z → SegLaid p u old z
-seg-same p r v u old z sm f d hd =
+pub laid-same : (p : Params) (r : Ranged p) (v u : View) (old : List Segment) (z : ℕ) → SameZones p v u z → SegLaid p v old z → SegLaid p u old z
+laid-same p r v u old z sm f d hd =
     subst (λ (q : Zone). ZoneLaid p old (sealedIn p u 0 z) (headerSerial (headerAt u 0 z)) (headerCopied (headerAt u 0 z)) d z q) (sm d hd)
     (subst (λ (b : List ℕ). ZoneLaid p old (sealedIn p u 0 z) (headerSerial b) (headerCopied b) d z (zoneAt v d z)) (zones-header p r v u z sm)
     (subst (λ (w : Bool). ZoneLaid p old w (headerSerial (headerAt v 0 z)) (headerCopied (headerAt v 0 z)) d z (zoneAt v d z)) (zones-sealed p r v u z sm) (f d hd)))

@@ -52,25 +52,25 @@ use Rattle.law_drives.specs.Tidy.{usedAt}
 use Rattle.law_drives.specs.Unsealed.{Loose, loose}
 use Rattle.law_drives.specs.Unsealed.Loose.{loose-none, loose-one}
 use Rattle.law_drives.specs.Zones.{Shaped}
-use Rattle.proof_tables.specs.Outcomes.{Ended, cut-unfinished, cut-cut}
-use Rattle.proof_tables.specs.Outcomes.Ended.{ended-refused, ended-done, ended-cut}
-use Rattle.proof_tables.specs.Restarting.{names-none}
+use Rattle.proof_tables.specs.Outcomes.{EndedAs, cut-unfinished, cut-cut}
+use Rattle.proof_tables.specs.Outcomes.EndedAs.{ended-refused, ended-done, ended-cut}
+use Rattle.proof_tables.specs.Restarting.{names-or-none}
 use Rattle.proof_tables.specs.Run.{Run}
-use Rattle.proof_tables.specs.Starting.{memory-missing, startChecks, startPlan, Begins, begins}
+use Rattle.proof_tables.specs.Starting.{memory-missing, startChecks, startPlan, Begins, start-begins}
 use Rattle.proof_tables.specs.Theorem.{restart-ends, restart-finished}
 use Rattle.law_views.specs.Views.{Whole, seen}
 use Rattle.law_calls.specs.Refusals.{refusal-kind, refused-unfinished}
-use Rattle.proof_layout.specs.Calls.{Keeps, same-keeps, stored-view, run-tidy}
-use Rattle.proof_layout.specs.Laid.{Laid, ZoneLaid, SegLaid, WellLaid, open-footers, checked-footers, accepted-zoned, laid-accepted, laid-tidy, seg-same}
+use Rattle.proof_layout.specs.Calls.{KeepsLaid, same-keeps, stored-view, run-tidy}
+use Rattle.proof_layout.specs.Laid.{Laid, ZoneLaid, SegLaid, WellLaid, open-footers, checked-footers, accepted-zoned, laid-accepted, laid-tidy, laid-same}
 use Rattle.proof_layout.specs.Segments.{all-but}
 use Rattle.proof_layout.specs.Stored.{plain-laid, mend-laid}
 
 -- ---- the answer
 
 -- 01, Restart: "the number of stripes with some chunk but not counted, in remaining segments"
-uncounted-is : (p : Params) (v : View) (gone : ℕ) → uncountedIn p gone (segments p v gone) ≡ uncountedNumber p v gone
+uncounted-number : (p : Params) (v : View) (gone : ℕ) → uncountedIn p gone (segments p v gone) ≡ uncountedNumber p v gone
 unfolding uncountedIn uncountedNumber segments
-uncounted-is p v gone = ap total (map-map (λ (g : Segment). length (uncounted p gone g)) (segmentOf p v gone) (remaining p v gone) ∙ same!)
+uncounted-number p v gone = ap total (map-map (λ (g : Segment). length (uncounted p gone g)) (segmentOf p v gone) (remaining p v gone) ∙ same!)
   where
     same! : map (λ g. length (uncounted p gone (segmentOf p v gone g))) (remaining p v gone) ≡ map (halfStored p v gone) (remaining p v gone)
     same! = unfold halfStored uncounted counts tally in refl
@@ -81,7 +81,7 @@ unfolding callWorld viewIn
 restarts-say p k m d n q = go (restart-ends p k m d n)
   where
     answer! : startPlan p k m d .answer ≡ Restarted (record { uncounted = uncountedNumber p (seen p k) (named d) })
-    answer! = unfold restartPlan reportOf in ap (λ (x : ℕ). Restarted (record { uncounted = x })) (uncounted-is p (seen p k) (named d))
+    answer! = unfold restartPlan reportOf in ap (λ (x : ℕ). Restarted (record { uncounted = x })) (uncounted-number p (seen p k) (named d))
 
     missing! : startPlan p k m d .memory .state .missing ≡ named d
     missing! = unfold restartPlan in memory-missing p _ (named d) (m .inflight)
@@ -90,7 +90,7 @@ restarts-say p k m d n q = go (restart-ends p k m d n)
         → Restarts onValues p (mkWorld k m) d (callWorld p (mkWorld k m) (restart d n))
     made e f = unfold callWorld viewIn in record { reports = e; under = f }
 
-    go : Ended p k m (startChecks p k m d) (startPlan p k m d) (callDisk p k m (restart d n)) → Restarts onValues p (mkWorld k m) d (callWorld p (mkWorld k m) (restart d n))
+    go : EndedAs p k m (startChecks p k m d) (startPlan p k m d) (callDisk p k m (restart d n)) → Restarts onValues p (mkWorld k m) d (callWorld p (mkWorld k m) (restart d n))
     go (ended-refused x e f g h) = clash q (ap finished f ∙ refused-unfinished x (refusal-kind (startChecks p k m d) x e))
     go (ended-done c f g h) = made (f ∙ answer!) (ap (λ (x : Memory). x .state .missing) h ∙ missing!)
     go (ended-cut c f) = clash q (ap finished f ∙ cut-unfinished)
@@ -117,7 +117,7 @@ module _ (p : Params) (r : Ranged p) (v : View) (sh : Shaped p v) (acc : Accepte
 
   -- what doesn't remain is reset
   drop-laid : WellLaid p va gs
-  drop-laid y hy q = let k = sym (drop-used p r v sh acc y hy) ∙ q in seg-same p r v va gs y (drop-same p r v sh acc y hy k) (kept-seg y hy k)
+  drop-laid y hy q = let k = sym (drop-used p r v sh acc y hy) ∙ q in laid-same p r v va gs y (drop-same p r v sh acc y hy k) (kept-seg y hy k)
 
   nothing-laid : WellLaid p (storeAll storeView [] va) gs
   nothing-laid = subst (λ (x : View). WellLaid p x gs) (sym (stores-none va)) drop-laid
@@ -206,11 +206,11 @@ module _ (p : Params) (r : Ranged p) (v : View) (sh : Shaped p v) (acc : Accepte
         go (no a) (yes e) = clash q (subst (λ (n : ℕ). usedAt vc n ≡ false) e (ap not (eq-eqb (pointerAt vc 0 g) 0 (old-pointer p r v sh acc g hg kg ng oth z0 hz0 fz fit 0 h0))))
         go (no a) (no b) =
             let sm = same-else p r v sh acc g hg kg ng oth z0 hz0 fz fit y hy a b in
-            seg-same p r va vc gs y sm (drop-laid y hy (zones-used p r va vc y sm ∙ q))
+            laid-same p r va vc gs y sm (drop-laid y hy (zones-used p r va vc y sm ∙ q))
 
-    mended-one : unsealed gs ≡ x ∷ [] → rewrites p 0 gs && eqb (greatestSerial gs) lastCount ≡ false → rewrites p 0 gs && isNil (freeZones p gs) ≡ false → greatestSerial gs < 256 ^ 8
+    one-mended-laid : unsealed gs ≡ x ∷ [] → rewrites p 0 gs && eqb (greatestSerial gs) lastCount ≡ false → rewrites p 0 gs && isNil (freeZones p gs) ≡ false → greatestSerial gs < 256 ^ 8
         → WellLaid p (storeAll storeView (mendStores p gs x) va) gs
-    mended-one us c6 c8 bd = go (test (isWhole p x)) (test (isRagged p x))
+    one-mended-laid us c6 c8 bd = go (test (isWhole p x)) (test (isRagged p x))
       where
         whole! : isWhole p x ≡ true → mendStores p gs x ≡ missingFooters p x
         whole! q = unfold mendStores in rw q
@@ -248,7 +248,7 @@ module _ (p : Params) (r : Ranged p) (v : View) (sh : Shaped p v) (acc : Accepte
           none! : flat (mendStores p gs) [] ≡ []
           none! = unfold flat in refl
       go (loose-one g hg kg ng us oth) = subst (λ (l : List Store). WellLaid p (storeAll storeView l va) gs)
-          (sym (ap (flat (mendStores p gs)) us ∙ one! (segmentOf p v 0 g) ∙ append-nil (mendStores p gs (segmentOf p v 0 g)))) (mended-one g hg kg ng oth us c6 c8 bd)
+          (sym (ap (flat (mendStores p gs)) us ∙ one! (segmentOf p v 0 g) ∙ append-nil (mendStores p gs (segmentOf p v 0 g)))) (one-mended-laid g hg kg ng oth us c6 c8 bd)
         where
           one! : (y : Segment) → flat (mendStores p gs) (y ∷ []) ≡ mendStores p gs y ++ []
           one! y = unfold flat in refl
@@ -265,14 +265,14 @@ module _ (p : Params) (k : Disk) (m : Memory) (d n : ℕ) (shk : Whole p k → S
   abbrev Found : Type 0
   Found = Laid p (seen p (a .drives)) (named d) (segments p v (named d))
 
-  stores-are : startPlan p k m d .stores ≡ restartStores p (named d) (segments p v (named d))
-  stores-are = unfold restartPlan in refl
+  restart-stores-are : startPlan p k m d .stores ≡ restartStores p (named d) (segments p v (named d))
+  restart-stores-are = unfold restartPlan in refl
 
   -- a drive is named: nothing is stored
   lost-first : Begins p k m d → d < p .N → a .drives ≡ storeAll (storeDisk p) (startPlan p k m d .stores) k → Found
   lost-first b hd g =
       let gone = named d in
-      let s0 : startPlan p k m d .stores ≡ [] = stores-are ∙ none! (named-some p (ranged p (b .in-range!)) d hd) in
+      let s0 : startPlan p k m d .stores ≡ [] = restart-stores-are ∙ none! (named-some p (ranged p (b .in-range!)) d hd) in
       let ek : a .drives ≡ k = g ∙ ap (λ (x : List Store). storeAll (storeDisk p) x k) s0 ∙ nothing in
       subst (λ (x : Disk). Laid p (seen p x) gone (segments p v gone)) (sym ek) (laid-accepted p v gone (b .accepted!) (segments p v gone) (accepted-zoned p v gone (b .accepted!)))
     where
@@ -297,7 +297,7 @@ module _ (p : Params) (k : Disk) (m : Memory) (d n : ℕ) (shk : Whole p k → S
       let md = mended p r v sh acc c6 c8 bd in
       let ds = dropStores p gs in
       let ts = flat (mendStores p gs) (unsealed gs) in
-      let es : startPlan p k m d .stores ≡ ds ++ ts = stores-are ∙ ap (λ (x : ℕ). restartStores p x (segments p v x)) nd ∙ zero! in
+      let es : startPlan p k m d .stores ≡ ds ++ ts = restart-stores-are ∙ ap (λ (x : ℕ). restartStores p x (segments p v x)) nd ∙ zero! in
       let ev : seen p (a .drives) ≡ storeAll storeView ts (storeAll storeView ds v) =
       ap (seen p) (g ∙ ap (λ (x : List Store). storeAll (storeDisk p) x k) es)
       ∙ stored-view p k (ds ++ ts) (b .in-range!) w sh (roomy-append p v ds ts (sh .sized) (drop-roomy p r v sh acc) (md .mend-roomy))
@@ -321,28 +321,28 @@ module _ (p : Params) (k : Disk) (m : Memory) (d n : ℕ) (shk : Whole p k → S
   pub laid-restart : Found
   laid-restart = go (restart-ends p k m d n)
     where
-      go : Ended p k m (startChecks p k m d) (startPlan p k m d) (callDisk p k m (restart d n)) → Found
+      go : EndedAs p k m (startChecks p k m d) (startPlan p k m d) (callDisk p k m (restart d n)) → Found
       go (ended-refused x e f g h) = clash fin (ap finished f ∙ refused-unfinished x (refusal-kind (startChecks p k m d) x e))
-      go (ended-done c f g h) = let b = begins p k m d c in ⊎-elim (λ x. lost-first b x g) (λ x. well-first b x missing-is g) (names-none p (ranged p (b .in-range!)) d (b .names!))
+      go (ended-done c f g h) = let b = start-begins p k m d c in ⊎-elim (λ x. lost-first b x g) (λ x. well-first b x missing-is g) (names-or-none p (ranged p (b .in-range!)) d (b .names!))
       go (ended-cut c f) = clash fin (ap finished f ∙ cut-unfinished)
 
-  pub laid-first : Keeps p (segments p v (named d)) a
+  pub laid-first : KeepsLaid p (segments p v (named d)) a
   laid-first = subst (λ (x : ℕ). Laid p (seen p (a .drives)) x (segments p v (named d))) (sym missing-is) laid-restart
 
 -- a restart in a run, finished or refused
 pub laid-again : (p : Params) (k : Disk) (m : Memory) → Run p k m → (old : List Segment) → Laid p (seen p k) (m .state .missing) old → (d n : ℕ) → isCut (callDisk p k m (restart d n) .answer) ≡ false
-    → Keeps p (foundAfter p (seen p k) (restart d n) (callDisk p k m (restart d n) .answer) old) (callDisk p k m (restart d n))
+    → KeepsLaid p (foundAfter p (seen p k) (restart d n) (callDisk p k m (restart d n) .answer) old) (callDisk p k m (restart d n))
 unfolding foundAfter
 laid-again p k m u old l d n nc = go (test (finished (callDisk p k m (restart d n) .answer))) (restart-ends p k m d n)
   where
     a : After Disk
     a = callDisk p k m (restart d n)
 
-    go : Test (finished (callDisk p k m (restart d n) .answer)) → Ended p k m (startChecks p k m d) (startPlan p k m d) (callDisk p k m (restart d n))
-        → Keeps p (cond (finished (callDisk p k m (restart d n) .answer)) (segments p (seen p k) (named d)) old) (callDisk p k m (restart d n))
-    go (yes! q) x = subst (λ (y : List Segment). Keeps p y (callDisk p k m (restart d n))) (sym (cond-true (finished (a .answer)) (segments p (seen p k) (named d)) old q))
+    go : Test (finished (callDisk p k m (restart d n) .answer)) → EndedAs p k m (startChecks p k m d) (startPlan p k m d) (callDisk p k m (restart d n))
+        → KeepsLaid p (cond (finished (callDisk p k m (restart d n) .answer)) (segments p (seen p k) (named d)) old) (callDisk p k m (restart d n))
+    go (yes! q) x = subst (λ (y : List Segment). KeepsLaid p y (callDisk p k m (restart d n))) (sym (cond-true (finished (a .answer)) (segments p (seen p k) (named d)) old q))
         (laid-first p k m d n (λ w. u .base .shaped) q)
-    go (no! q) (ended-refused x e f g h) = subst (λ (y : List Segment). Keeps p y (callDisk p k m (restart d n)))
+    go (no! q) (ended-refused x e f g h) = subst (λ (y : List Segment). KeepsLaid p y (callDisk p k m (restart d n)))
         (sym (cond-false (finished (a .answer)) (segments p (seen p k) (named d)) old q)) (same-keeps p k m old (callDisk p k m (restart d n)) l g h)
     go (no! q) (ended-done c f g h) = clash (ap finished f ∙ done!) q
       where

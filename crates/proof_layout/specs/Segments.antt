@@ -31,9 +31,9 @@ use Rattle.law_drives.specs.States.{StateOk}
 use Rattle.law_drives.specs.Tidy.{usedAt}
 use Rattle.law_drives.specs.Zones.{Shaped}
 use Rattle.proof_tables.specs.Chunks.{not-landed, pointer-some, pointer-data, offset-group, stripe-of, chunk-zone, chunk-other, chunk-grows, open-before, open-after}
-use Rattle.proof_tables.specs.Run.{flies, Healthy}
+use Rattle.proof_tables.specs.Run.{flies, HealthyState}
 use Rattle.proof_tables.specs.Sealing.{seal-zone, seal-other, seal-grows, seal-sealed}
-use Rattle.proof_layout.specs.Laid.{ZoneLaid, SegLaid, WellLaid, seg-same}
+use Rattle.proof_layout.specs.Laid.{ZoneLaid, SegLaid, WellLaid, laid-same}
 use Rattle.proof_layout.specs.Stored.{head-laid, put-laid, mend-laid}
 
 -- the zone by itself
@@ -47,7 +47,7 @@ all-but p r v u old z same f l y hy q = go (ℕ-discrete z y)
   where
     go : Dec (z ≡ y) → SegLaid p u old y
     go (yes e) = subst (λ (x : ℕ). SegLaid p u old x) e (f (subst (λ (x : ℕ). usedAt u x ≡ true) (sym e) q))
-    go (no n) = seg-same p r v u old y (same y hy n) (l y hy (zones-used p r v u y (same y hy n) ∙ q))
+    go (no n) = laid-same p r v u old y (same y hy n) (l y hy (zones-used p r v u y (same y hy n) ∙ q))
 
 -- 01, Write: a segment is opened under a serial of 8 bytes, with nothing copied
 pub opened-laid : (p : Params) (r : Ranged p) (v : View) (sh : Shaped p v) (old : List Segment) (g s : ℕ) (hg : g < p .Z) (em : (d : ℕ) → d < p .N → pointerAt v d g ≡ 0) → s < 256 ^ 8
@@ -68,7 +68,7 @@ pub reset-laid : (p : Params) (r : Ranged p) (v : View) (sh : Shaped p v) (old :
 reset-laid p r v sh old g hg l = all-but p r v (storeAll storeView (resetStores p g) v) old g (reset-same p r v sh g hg) (λ q. absurd (reset-was p r v sh g hg g hg q .0 refl)) l
 
 -- 01, Landing: a chunk
-module _ (p : Params) (r : Ranged p) (v : View) (sh : Shaped p v) (st : State) (h : Healthy p v st) (so : StateOk p st) (z : ℕ) (oz : st .opened ≡ suc z)
+module _ (p : Params) (r : Ranged p) (v : View) (sh : Shaped p v) (st : State) (h : HealthyState p v st) (so : StateOk p st) (z : ℕ) (oz : st .opened ≡ suc z)
     (d i : ℕ) (hd : d < p .N) (hi : i < 8) (fi : flies st i ≡ true) (rd : ready p st i d ≡ true) (b : List ℕ) (lb : length b ≡ p .B) (old : List Segment) where
   abbrev s : ℕ
   s = stripeIn st i
@@ -79,8 +79,8 @@ module _ (p : Params) (r : Ranged p) (v : View) (sh : Shaped p v) (st : State) (
   hz : z < p .Z
   hz = h .opens-at z oz .opened-zone
 
-  ptr : zoneAt v d z .pointer ≡ pointerAt v d z
-  ptr = zone-pointer v d z (pointerAt v d z) refl
+  pointer-of-zone : zoneAt v d z .pointer ≡ pointerAt v d z
+  pointer-of-zone = zone-pointer v d z (pointerAt v d z) refl
 
   stripe! : flightRec p st i d .stripe ≡ s
   stripe! = stripe-of p r v sh st h so z oz d i hd hi fi rd b lb
@@ -106,11 +106,11 @@ module _ (p : Params) (r : Ranged p) (v : View) (sh : Shaped p v) (st : State) (
       here x =
           let a = pointer-some p r v sh st h so z oz d i hd hi fi rd b lb in
           let c = pointer-data p r v sh st h so z oz d i hd hi fi rd b lb in
-          let y = ptr in
+          let y = pointer-of-zone in
           put-laid p r old sn cn d z (zoneAt v d z) b (flightRec p st i d) (sh .zone-ok d z hd hz) (omega arith) (omega arith)
           (subst (λ (n : ℕ). n < p .S) (sym stripe!) (so .slots-ok i hi .stripe-ok))
-          (subst (λ (n : ℕ). inGroupOf p (n - 1) (flightRec p st i d .stripe) ≡ true) (sym ptr) (subst (λ (n : ℕ). inGroupOf p (pointerAt v d z - 1) n ≡ true) (sym stripe!) in-its-group))
-          (λ o l q. h .opens-at z oz .flight i hi fi .not-there d o hd (not-landed p r v sh st h so z oz d i hd hi fi rd b lb) (subst (λ (n : ℕ). 1 + o < n) ptr l) (q ∙ stripe!)) x
+          (subst (λ (n : ℕ). inGroupOf p (n - 1) (flightRec p st i d .stripe) ≡ true) (sym pointer-of-zone) (subst (λ (n : ℕ). inGroupOf p (pointerAt v d z - 1) n ≡ true) (sym stripe!) in-its-group))
+          (λ o l q. h .opens-at z oz .flight i hi fi .not-there d o hd (not-landed p r v sh st h so z oz d i hd hi fi rd b lb) (subst (λ (n : ℕ). 1 + o < n) pointer-of-zone l) (q ∙ stripe!)) x
 
       go : Dec (d ≡ e) → ZoneLaid p old false sn cn e z (zoneAt v e z) → ZoneLaid p old false sn cn e z (zoneAt v1 e z)
       go (yes q) x = subst (λ (n : ℕ). ZoneLaid p old false sn cn n z (zoneAt v1 n z)) q

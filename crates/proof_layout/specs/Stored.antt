@@ -74,31 +74,31 @@ module _ (p : Params) (r : Ranged p) (old : List Segment) (serial copied d g : �
   point1 : q1 .pointer ≡ suc (q .pointer)
   point1 = unfold putZone in refl
 
-  block-old : (x : ℕ) → x < q .pointer → getD (q1 .blocks) x noChunk ≡ getD (q .blocks) x noChunk
-  block-old x l = unfold putZone in getD-set-other (q .blocks) (q .pointer) x (mkChunk b (recordBytes rc)) noChunk (λ e. let bad : ⊥ = omega arith in bad)
+  block-below-put : (x : ℕ) → x < q .pointer → getD (q1 .blocks) x noChunk ≡ getD (q .blocks) x noChunk
+  block-below-put x l = unfold putZone in getD-set-other (q .blocks) (q .pointer) x (mkChunk b (recordBytes rc)) noChunk (λ e. let bad : ⊥ = omega arith in bad)
 
-  block-new : getD (q1 .blocks) (q .pointer) noChunk ≡ mkChunk b (recordBytes rc)
-  block-new = unfold putZone in getD-set-same (q .blocks) (q .pointer) (mkChunk b (recordBytes rc)) noChunk (let l = k .blocks-long in let x = capacity-over p r in omega arith)
+  block-put : getD (q1 .blocks) (q .pointer) noChunk ≡ mkChunk b (recordBytes rc)
+  block-put = unfold putZone in getD-set-same (q .blocks) (q .pointer) (mkChunk b (recordBytes rc)) noChunk (let l = k .blocks-long in let x = capacity-over p r in omega arith)
 
   -- a data offset is old, or the new one
   offset-old : (o : ℕ) → o < dataStored p q1 → (1 + o ≡ q .pointer → ⊥) → o < dataStored p q
   offset-old o l n = let a = data-low p q1 o l in low-data p q o (a .0) (let e = point1 in let c = a .1 in omega arith)
 
   rec-old : (o : ℕ) → 1 + o < q .pointer → recordIn p false q1 o .stripe ≡ recordIn p false q o .stripe
-  rec-old o l = as! (block-old (1 + o) l)
+  rec-old o l = as! (block-below-put (1 + o) l)
     where
       as! : getD (q1 .blocks) (1 + o) noChunk ≡ getD (q .blocks) (1 + o) noChunk → recordIn p false q1 o .stripe ≡ recordIn p false q o .stripe
       as! e = unfold recordIn in ap (λ (c : Chunk). recordOf (c .spare) .stripe) e
 
   rec-new : (o : ℕ) → 1 + o ≡ q .pointer → recordIn p false q1 o .stripe ≡ rc .stripe
-  rec-new o e = as! (ap (λ (n : ℕ). getD (q1 .blocks) n noChunk) e ∙ block-new) (record-stripe rc (let s = r .stripes-high in omega arith))
+  rec-new o e = as! (ap (λ (n : ℕ). getD (q1 .blocks) n noChunk) e ∙ block-put) (record-stripe rc (let s = r .stripes-high in omega arith))
     where
       as! : getD (q1 .blocks) (1 + o) noChunk ≡ mkChunk b (recordBytes rc) → recordOf (recordBytes rc) .stripe ≡ rc .stripe → recordIn p false q1 o .stripe ≡ rc .stripe
       as! a c = unfold recordIn in (ap (λ (c : Chunk). recordOf (c .spare) .stripe) a ∙ c)
 
   pub put-laid : ZoneLaid p old false serial copied d g q → ZoneLaid p old false serial copied d g q1
   put-laid z = record {
-    header-is = block-old 0 some ∙ z .header-is;
+    header-is = block-below-put 0 some ∙ z .header-is;
     group-is = λ o l. grp o l (ℕ-discrete (1 + o) (q .pointer));
     once-is = λ o i l j e. one o i l j e (ℕ-discrete (1 + o) (q .pointer)) (ℕ-discrete (1 + i) (q .pointer));
     footer-is = λ n i l. absurd (no-footers p q1 (let e = point1 in omega arith) i l);

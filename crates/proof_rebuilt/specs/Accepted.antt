@@ -21,17 +21,17 @@ use Rattle.law_basic.specs.Mask.{isIn-empty}
 use Rattle.law_basic.specs.Ranges.{Test, test, and-left, and-right, and-both, map-map, getD-map, sameList-refl}
 use Rattle.law_basic.specs.Ranges.Test.{yes!, no! }
 use Rattle.law_drives.specs.Accept.{Accepted, pointer-ok, faults-apart}
-use Rattle.law_drives.specs.Frame.{any-map}
+use Rattle.law_drives.specs.Frame.{any-mapped}
 use Rattle.law_drives.specs.Members.{In, map-in, in-keep, keep-in, all-in, in-all, none-in, in-none, any-in, in-any, keep-cong, map-cong, keep-nothing, keep-map, in-below, below-in, in-getD, getD-in}
 use Rattle.law_drives.specs.Rebuilding.{counted-low, counted-in}
 use Rattle.law_drives.specs.Segs.{present-in, in-present, remaining-low, zone-by, seg-is, serial-is, copied-is}
 use Rattle.law_drives.specs.Settled.{present-all, low-first}
 use Rattle.law_drives.specs.Tables.{remains, remaining-is, in-remaining, remaining-in}
-use Rattle.law_drives.specs.Tests.{clash, and-false-left, and-false-right, or-neither, or-left, or-right, not-so, same-test}
+use Rattle.law_drives.specs.Tests.{clash, and-false-left, and-false-right, or-neither, or-first, or-right, not-so, same-test}
 use Rattle.proof_rebuilt.specs.Groups.{rank-group}
 use Rattle.proof_rebuilt.specs.Numbers.{rank-of}
-use Rattle.proof_rebuilt.specs.Segment.{decoded-stripe, same-full, recs-rebuilt, recs-other, header-of, head-serial, head-copied, same-serial, same-copied}
-use Rattle.proof_rebuilt.specs.Zone.{rebuiltView, Loss, lost, by-drive, zone-other, zone-dropped, rebuilt-low, rebuilt-open, rebuilt-some}
+use Rattle.proof_rebuilt.specs.Segment.{decoded-stripe, rebuilt-seg-full, recs-rebuilt, recs-other, header-of, head-serial, head-copied, rebuilt-serial, rebuilt-copied}
+use Rattle.proof_rebuilt.specs.Zone.{rebuiltView, Loss, drive-lost, each-drive, present-zone-same, zone-dropped, rebuilt-low, rebuilt-open, rebuilt-some}
 
 module _ (p : Params) (v : View) (d : ℕ) (lo : Loss p v d) where
   abbrev r : Ranged p
@@ -49,8 +49,8 @@ module _ (p : Params) (v : View) (d : ℕ) (lo : Loss p v d) where
   abbrev u : View
   u = rebuiltView p v d
 
-  same-zone : (e z : ℕ) → e < p .N → z < p .Z → isIn gone e ≡ false → zoneAt u e z ≡ zoneAt v e z
-  same-zone e z he hz pr = zone-other p v d lo e z he hz pr
+  kept-zone : (e z : ℕ) → e < p .N → z < p .Z → isIn gone e ≡ false → zoneAt u e z ≡ zoneAt v e z
+  kept-zone e z he hz pr = present-zone-same p v d lo e z he hz pr
 
   -- ---- what remains
 
@@ -78,17 +78,17 @@ module _ (p : Params) (v : View) (d : ℕ) (lo : Loss p v d) where
       let f : ℕ → Bool = isCopy v (lowDrive p gone) (leftBy1 p v gone) in
       let (i, q) = keep-in (λ g. not (f g)) (leftBy1 p v gone) z m in (i, not-true (f z) q)
 
-  pointer-zone : (t : View) (e z : ℕ) → pointerAt t e z ≡ zoneAt t e z .pointer
+  pointer-in-zone : (t : View) (e z : ℕ) → pointerAt t e z ≡ zoneAt t e z .pointer
   unfolding pointerAt
-  pointer-zone t e z = refl
+  pointer-in-zone t e z = refl
 
   filled-all : (z : ℕ) → In z (remaining p v gone) → all (filled u z) (present p 0) ≡ true
   filled-all z m =
       let (hz, rm) = remaining-in p v gone z m in
       in-all (filled u z) (present p 0)
-      (λ e i. by-drive p v d lo {P = λ e. filled u z e ≡ true}
-      (ap not (ne-eqb (pointerAt u d z) 0 (λ q. let a = rebuilt-some p v d lo z hz rm in let b = pointer-zone u d z in let bad : ⊥ = omega arith in bad)))
-      (λ e he pr. ap (λ (n : ℕ). not (eqb n 0)) (pointer-zone u e z ∙ ap (λ (q : Zone). q .pointer) (same-zone e z he hz pr) ∙ sym (pointer-zone v e z))
+      (λ e i. each-drive p v d lo {P = λ e. filled u z e ≡ true}
+      (ap not (ne-eqb (pointerAt u d z) 0 (λ q. let a = rebuilt-some p v d lo z hz rm in let b = pointer-in-zone u d z in let bad : ⊥ = omega arith in bad)))
+      (λ e he pr. ap (λ (n : ℕ). not (eqb n 0)) (pointer-in-zone u e z ∙ ap (λ (q : Zone). q .pointer) (kept-zone e z he hz pr) ∙ sym (pointer-in-zone v e z))
       ∙ all-in (filled v z) (present p gone) (was rm) e (in-present p gone e he pr))
       e (present-in p 0 e i .0))
     where
@@ -114,8 +114,8 @@ module _ (p : Params) (v : View) (d : ℕ) (lo : Loss p v d) where
       (in-any fv (leftBy1 p v gone) h (remaining-left h n .0) (ap₂ (λ (a b : ℕ). not (eqb h z) && eqb a b) (sym es) (sym ec) ∙ t)))
       (remaining-left z m .1))
 
-  pub same-remaining : remaining p u 0 ≡ remaining p v gone
-  same-remaining = remaining-is p u 0 ∙ keep-cong (remains p u 0) (remains p v gone) (below (p .Z)) (λ z i. same z (below-in (p .Z) z i)) ∙ sym (remaining-is p v gone)
+  pub rebuilt-remaining : remaining p u 0 ≡ remaining p v gone
+  rebuilt-remaining = remaining-is p u 0 ∙ keep-cong (remains p u 0) (remains p v gone) (below (p .Z)) (λ z i. same z (below-in (p .Z) z i)) ∙ sym (remaining-is p v gone)
     where
       same : (z : ℕ) → z < p .Z → remains p u 0 z ≡ remains p v gone z
       same z hz = same-test (remains p u 0 z) (remains p v gone z) (λ q. filled-remains z hz (here q)) (λ q. back (in-remaining p v gone z hz q))
@@ -134,14 +134,14 @@ module _ (p : Params) (v : View) (d : ℕ) (lo : Loss p v d) where
       (λ z i.
       let hz = below-in (p .Z) z i in
       in-none (λ e. ltb (capacity p) (pointerAt u e z)) (present p 0)
-      (λ e j. le-ltb (capacity p) (pointerAt u e z) (subst (λ (n : ℕ). n ≤ capacity p) (sym (pointer-zone u e z))
-      (by-drive p v d lo {P = λ e. zoneAt u e z .pointer ≤ capacity p} (here z hz (test (remains p v gone z)))
-      (λ e he pr. subst (λ (q : Zone). q .pointer ≤ capacity p) (sym (same-zone e z he hz pr)) (subst (λ (n : ℕ). n ≤ capacity p) (pointer-zone v e z) (pointer-ok p v gone acc e z he hz pr)))
+      (λ e j. le-ltb (capacity p) (pointerAt u e z) (subst (λ (n : ℕ). n ≤ capacity p) (sym (pointer-in-zone u e z))
+      (each-drive p v d lo {P = λ e. zoneAt u e z .pointer ≤ capacity p} (here z hz (test (remains p v gone z)))
+      (λ e he pr. subst (λ (q : Zone). q .pointer ≤ capacity p) (sym (kept-zone e z he hz pr)) (subst (λ (n : ℕ). n ≤ capacity p) (pointer-in-zone v e z) (pointer-ok p v gone acc e z he hz pr)))
       e (present-in p 0 e j .0)))))
     where
       here : (z : ℕ) → z < p .Z → Test (remains p v gone z) → zoneAt u d z .pointer ≤ capacity p
       here z hz (yes! q) = rebuilt-low p v d lo z hz q
-      here z hz (no! q) = let a = zone-dropped p v d lo z hz q in let b = pointer-zone u d z in omega arith
+      here z hz (no! q) = let a = zone-dropped p v d lo z hz q in let b = pointer-in-zone u d z in omega arith
 
   -- ---- serials and unsealed segments: by number, serials and sealed or not
 
@@ -149,9 +149,9 @@ module _ (p : Params) (v : View) (d : ℕ) (lo : Loss p v d) where
   unfoldable head : Segment → Segment
   head g = record { seg = g .seg; serial = g .serial; copied = g .copied; full = g .full; zonesBy = []; recs = [] }
 
-  head-serials : (gs : List Segment) (g : Segment) → serialFault gs g ≡ serialFault (map head gs) (head g)
+  serial-fault-head : (gs : List Segment) (g : Segment) → serialFault gs g ≡ serialFault (map head gs) (head g)
   unfolding serialFault head
-  head-serials gs g = ap (λ (b : Bool). leb (g .serial) (g .copied) || b) (sym (any-map (λ (h : Segment). not (eqb (h .seg) (g .seg)) && eqb (h .serial) (g .serial)) head gs))
+  serial-fault-head gs g = ap (λ (b : Bool). leb (g .serial) (g .copied) || b) (sym (any-mapped (λ (h : Segment). not (eqb (h .seg) (g .seg)) && eqb (h .serial) (g .serial)) head gs))
 
   head-clash : (gs : List Segment) (g : Segment) → clashes gs g ≡ clashes (map head gs) (head g)
   unfolding clashes head unsealed
@@ -162,15 +162,15 @@ module _ (p : Params) (v : View) (d : ℕ) (lo : Loss p v d) where
   unfolding head
   same-head g m =
       let e1 = seg-is p u 0 g ∙ sym (seg-is p v gone g) in
-      let e2 = same-serial p v d lo g m in
-      let e3 = same-copied p v d lo g m in
-      let e4 = same-full p v d lo g m in
+      let e2 = rebuilt-serial p v d lo g m in
+      let e3 = rebuilt-copied p v d lo g m in
+      let e4 = rebuilt-seg-full p v d lo g m in
       λ i. record { seg = e1 i; serial = e2 i; copied = e3 i; full = e4 i; zonesBy = []; recs = [] }
 
   same-heads : map head (segments p u 0) ≡ map head (segments p v gone)
   unfolding segments
   same-heads =
-      map-map head (segmentOf p u 0) (remaining p u 0) ∙ ap (map (λ g. head (segmentOf p u 0 g))) same-remaining
+      map-map head (segmentOf p u 0) (remaining p u 0) ∙ ap (map (λ g. head (segmentOf p u 0 g))) rebuilt-remaining
       ∙ map-cong (λ g. head (segmentOf p u 0 g)) (λ g. head (segmentOf p v gone g)) (remaining p v gone) same-head
       ∙ sym (map-map head (segmentOf p v gone) (remaining p v gone))
 
@@ -189,7 +189,7 @@ module _ (p : Params) (v : View) (d : ℕ) (lo : Loss p v d) where
 
     -- a test of each drive
     none-of : (f : ℕ → Bool) → f d ≡ false → ((e : ℕ) → e < p .N → isIn gone e ≡ false → f e ≡ false) → any f (present p 0) ≡ false
-    none-of f a h = in-none f (present p 0) (λ e i. by-drive p v d lo {P = λ e. f e ≡ false} a h e (present-in p 0 e i .0))
+    none-of f a h = in-none f (present p 0) (λ e i. each-drive p v d lo {P = λ e. f e ≡ false} a h e (present-in p 0 e i .0))
 
     no-header-fault : headerFault p 0 y ≡ false
     unfolding headerFault zoneOn
@@ -197,7 +197,7 @@ module _ (p : Params) (v : View) (d : ℕ) (lo : Loss p v d) where
         (λ e i.
         let he = present-in p 0 e i .0 in
         let t : sameChunk (getD (getD (y .zonesBy) e noZone .blocks) 0 noChunk) (headerBlock p e (y .seg) (y .serial) (y .copied)) zeroSpare ≡ true =
-        rw (zone-by p u 0 g e he, header-of p v d lo g m e he, seg-is p u 0 g, same-serial p v d lo g m, same-copied p v d lo g m)
+        rw (zone-by p u 0 g e he, header-of p v d lo g m e he, seg-is p u 0 g, rebuilt-serial p v d lo g m, rebuilt-copied p v d lo g m)
         (fine (headerBlock p e g (x .serial) (x .copied))) in
         ap not t)
       where
@@ -205,7 +205,7 @@ module _ (p : Params) (v : View) (d : ℕ) (lo : Loss p v d) where
         fine b = unfold sameChunk in and-both (sameList b b) (sameList zeroSpare zeroSpare) (sameList-refl b) (sameList-refl zeroSpare)
 
     no-serial-fault : serialFault (segments p u 0) y ≡ false
-    no-serial-fault = head-serials (segments p u 0) y ∙ ap₂ serialFault same-heads (same-head g m) ∙ sym (head-serials (segments p v gone) x) ∙ faults-apart p v gone acc g m .no-serial-fault
+    no-serial-fault = serial-fault-head (segments p u 0) y ∙ ap₂ serialFault same-heads (same-head g m) ∙ sym (serial-fault-head (segments p v gone) x) ∙ faults-apart p v gone acc g m .no-serial-fault
 
     no-clash : clashes (segments p u 0) y ≡ false
     no-clash = head-clash (segments p u 0) y ∙ ap₂ clashes same-heads (same-head g m) ∙ sym (head-clash (segments p v gone) x) ∙ faults-apart p v gone acc g m .no-clash
@@ -221,17 +221,17 @@ module _ (p : Params) (v : View) (d : ℕ) (lo : Loss p v d) where
     made-long : length made ≡ length ss
     made-long = length-map ss (λ s. recOf p gone x s d)
 
-    place-in : (j : ℕ) → j < length ss → tally (counts p gone x) (below (getD ss j 0)) ≡ j
+    counted-tally : (j : ℕ) → j < length ss → tally (counts p gone x) (below (getD ss j 0)) ≡ j
     unfolding counted
-    place-in j h = rank-of (counts p gone x) (p .S) j h
+    counted-tally j h = rank-of (counts p gone x) (p .S) j h
 
     -- each in its group
-    in-group : (j : ℕ) → j < length ss → inGroupOf p j (getD ss j 0) ≡ true
+    counted-in-group : (j : ℕ) → j < length ss → inGroupOf p j (getD ss j 0) ≡ true
     unfolding inGroupOf
-    in-group j h =
+    counted-in-group j h =
         let s = getD ss j 0 in
         let (l, c) = counted-in p gone x s (in-getD ss j 0 h) in
-        and-both (ltb s (p .S)) (eqb (group p s) (group p j)) (lt-ltb s (p .S) l) (eq-eqb (group p s) (group p j) (rank-group p r v gone acc g m s c ∙ ap (group p) (place-in j h)))
+        and-both (ltb s (p .S)) (eqb (group p s) (group p j)) (lt-ltb s (p .S) l) (eq-eqb (group p s) (group p j) (rank-group p r v gone acc g m s c ∙ ap (group p) (counted-tally j h)))
 
     none-outside : (b : ℕ) (rs : List Rec) → ((i : ℕ) → i < length rs → inGroupOf p (b + i) (getD rs i (mkRec 0 0 0) .stripe) ≡ true) → outside p b rs ≡ false
     unfolding outside
@@ -256,11 +256,11 @@ module _ (p : Params) (v : View) (d : ℕ) (lo : Loss p v d) where
     no-stripe-fault = none-of (λ e. outside p 0 (recsOn y e) || twice (recsOn y e))
         (ap (λ (l : List Rec). outside p 0 l || twice l) (recs-rebuilt p v d lo g m)
         ∙ or-neither (outside p 0 made) (twice made)
-        (none-outside 0 made (λ i h. let h2 : i < length ss = subst (λ (n : ℕ). i < n) made-long h in ap₂ (λ (a b : ℕ). inGroupOf p a b) (zero-add i) (made-stripe i h2) ∙ in-group i h2))
+        (none-outside 0 made (λ i h. let h2 : i < length ss = subst (λ (n : ℕ). i < n) made-long h in ap₂ (λ (a b : ℕ). inGroupOf p a b) (zero-add i) (made-stripe i h2) ∙ counted-in-group i h2))
         (none-twice made (λ i j a b e.
         let ha : i < length ss = subst (λ (n : ℕ). i < n) made-long a in
         let hb : j < length ss = subst (λ (n : ℕ). j < n) made-long b in
-        sym (place-in i ha) ∙ ap (λ (s : ℕ). tally (counts p gone x) (below s)) (sym (made-stripe i ha) ∙ e ∙ made-stripe j hb) ∙ place-in j hb)))
+        sym (counted-tally i ha) ∙ ap (λ (s : ℕ). tally (counts p gone x) (below s)) (sym (made-stripe i ha) ∙ e ∙ made-stripe j hb) ∙ counted-tally j hb)))
         (λ e he pr. ap (λ (l : List Rec). outside p 0 l || twice l) (recs-other p v d lo g m e he pr)
         ∙ none-in (λ e. outside p 0 (recsOn x e) || twice (recsOn x e)) (present p gone) (faults-apart p v gone acc g m .no-stripe-fault) e (in-present p gone e he pr))
 
@@ -276,11 +276,11 @@ module _ (p : Params) (v : View) (d : ℕ) (lo : Loss p v d) where
         or-neither (any (λ e. any (storedBad p e) (recsOn y e)) (present p 0)) (any (λ e. any (decodedBad p 0 y e) (counted p 0 y)) (absent p 0))
         (none-of (λ e. any (storedBad p e) (recsOn y e))
         (ap (any (storedBad p d)) (recs-rebuilt p v d lo g m) ∙ in-none (storedBad p d) made (λ b i. fine b i qd))
-        (λ e he pr. ap (any (storedBad p e)) (recs-other p v d lo g m e he pr) ∙ none-in (λ e. any (storedBad p e) (recsOn x e)) (present p gone) (or-left fa fb q) e (in-present p gone e he pr)))
+        (λ e he pr. ap (any (storedBad p e)) (recs-other p v d lo g m e he pr) ∙ none-in (λ e. any (storedBad p e) (recsOn x e)) (present p gone) (or-first fa fb q) e (in-present p gone e he pr)))
         (in-none (λ e. any (decodedBad p 0 y e) (counted p 0 y)) (absent p 0) (λ e i. absurd (gone-none e i)))
       where
         gone-in : In d (absent p gone)
-        gone-in = unfold absent drivesOf in in-keep (isIn gone) (below (p .N)) d (in-below (p .N) d hd) (lost p v d lo)
+        gone-in = unfold absent drivesOf in in-keep (isIn gone) (below (p .N)) d (in-below (p .N) d hd) (drive-lost p v d lo)
 
         gone-none : (e : ℕ) → In e (absent p 0) → ⊥
         gone-none e i = clash (off e i) (isIn-empty e)
@@ -307,12 +307,12 @@ module _ (p : Params) (v : View) (d : ℕ) (lo : Loss p v d) where
             zero! = unfold footersStored in omega arith
 
         go : Test (x .full) → not (y .full) && any (λ e. footerFaultIn p (getD (y .zonesBy) e noZone)) (present p 0) ≡ false
-        go (yes! q) = and-false-left (not (y .full)) (any (λ e. footerFaultIn p (getD (y .zonesBy) e noZone)) (present p 0)) (ap not (same-full p v d lo g m ∙ q))
+        go (yes! q) = and-false-left (not (y .full)) (any (λ e. footerFaultIn p (getD (y .zonesBy) e noZone)) (present p 0)) (ap not (rebuilt-seg-full p v d lo g m ∙ q))
         go (no! q) = and-false-right (not (y .full)) (any (λ e. footerFaultIn p (getD (y .zonesBy) e noZone)) (present p 0))
             (none-of (λ e. footerFaultIn p (getD (y .zonesBy) e noZone))
             (ap (footerFaultIn p) (zone-by p u 0 g d hd)
             ∙ few (zoneAt u d g) (let a = rebuilt-open p v d lo g hg (remaining-in p v gone g m .1) q in let b = counted-low p gone x in omega arith))
-            (λ e he pr. ap (footerFaultIn p) (zone-by p u 0 g e he ∙ same-zone e g he hg pr ∙ sym (zone-by p v gone g e he))
+            (λ e he pr. ap (footerFaultIn p) (zone-by p u 0 g e he ∙ kept-zone e g he hg pr ∙ sym (zone-by p v gone g e he))
             ∙ none-in (λ e. footerFaultIn p (getD (x .zonesBy) e noZone)) (present p gone) (were q) e (in-present p gone e he pr)))
           where
             were : x .full ≡ false → any (λ e. footerFaultIn p (getD (x .zonesBy) e noZone)) (present p gone) ≡ false
@@ -322,9 +322,9 @@ module _ (p : Params) (v : View) (d : ℕ) (lo : Loss p v d) where
                 second true b h k = k
                 second false b h k = clash h refl
 
-    no-fault : segmentFault p 0 (segments p u 0) y ≡ false
+    rebuilt-faultless : segmentFault p 0 (segments p u 0) y ≡ false
     unfolding segmentFault
-    no-fault =
+    rebuilt-faultless =
         let f1 = headerFault p 0 y in
         let f2 = serialFault (segments p u 0) y in
         let f3 = stripeFault p 0 y in
@@ -351,4 +351,4 @@ module _ (p : Params) (v : View) (d : ℕ) (lo : Loss p v d) where
               members i = unfold segments in map-in (segmentOf p u 0) (remaining p u 0) s i
 
               go : (g : ℕ) × In g (remaining p u 0) × (s ≡ segmentOf p u 0 g) → segmentFault p 0 (segments p u 0) s ≡ false
-              go (g, j, e) = ap (segmentFault p 0 (segments p u 0)) e ∙ no-fault g (subst (λ (l : List ℕ). In g l) same-remaining j)
+              go (g, j, e) = ap (segmentFault p 0 (segments p u 0)) e ∙ rebuilt-faultless g (subst (λ (l : List ℕ). In g l) rebuilt-remaining j)

@@ -108,15 +108,15 @@ module _ (p : Params) (r : Ranged p) (v : View) (gone : ℕ) (acc : Accepted p v
   unfolding sealedIn zoneOn pointerAt
   sealed-pointer e he pr h = eqb-true (zoneAt v e g .pointer) (capacity p) (all-in (λ e. eqb (zoneAt v e g .pointer) (capacity p)) (present p gone) h e (in-present p gone e he pr))
 
-  sealed-counts : w ≡ true → (t : ℕ) → t < p .S → counts p gone x t ≡ true
-  sealed-counts h t b = counts-of t (λ e he pr. full-has e he pr (go e (sealed-pointer e he pr h)) t b)
+  sealed-all-count : w ≡ true → (t : ℕ) → t < p .S → counts p gone x t ≡ true
+  sealed-all-count h t b = counts-of t (λ e he pr. full-has e he pr (go e (sealed-pointer e he pr h)) t b)
     where
       go : (e : ℕ) → zoneAt v e g .pointer ≡ capacity p → dataStored p (zoneAt v e g) ≡ p .S
       go e a = unfold dataStored in (let c = capacity-is p r in omega arith)
 
   pub sealed-all : w ≡ true → length (counted p gone x) ≡ p .S
   unfolding counted
-  sealed-all h = ap length (keep-all (counts p gone x) (below (p .S)) (λ t i. sealed-counts h t (below-in (p .S) t i))) ∙ length-below (p .S)
+  sealed-all h = ap length (keep-all (counts p gone x) (below (p .S)) (λ t i. sealed-all-count h t (below-in (p .S) t i))) ∙ length-below (p .S)
 
   -- the place of a stripe among the counted ones
   abbrev pub rankOf : ℕ → ℕ

@@ -21,8 +21,8 @@ use Rattle.law_drives.specs.Tests.{clash, same-test}
 -- ---- the place of a number that is kept
 
 module _ (f : ℕ → Bool) where
-  kept-split : (m k : ℕ) → keep f (below (m + k)) ≡ keep f (below m) ++ keep f (upFrom m k)
-  kept-split m k = ap (keep f) (below-split m k) ∙ keep-append f (below m) (upFrom m k)
+  keep-split : (m k : ℕ) → keep f (below (m + k)) ≡ keep f (below m) ++ keep f (upFrom m k)
+  keep-split m k = ap (keep f) (below-split m k) ∙ keep-append f (below m) (upFrom m k)
 
   -- from a number that is kept on
   kept-from : (s k : ℕ) → f s ≡ true → keep f (upFrom s (suc k)) ≡ s ∷ keep f (upFrom (suc s) k)
@@ -32,7 +32,7 @@ module _ (f : ℕ → Bool) where
   kept-here : (s n : ℕ) → s < n → f s ≡ true → keep f (below n) ≡ keep f (below s) ++ (s ∷ keep f (upFrom (suc s) (n - suc s)))
   kept-here s n h q =
       let e : n ≡ s + suc (n - suc s) = omega arith in
-      ap (λ (x : ℕ). keep f (below x)) e ∙ kept-split s (suc (n - suc s)) ∙ ap (λ (l : List ℕ). keep f (below s) ++ l) (kept-from s (n - suc s) q)
+      ap (λ (x : ℕ). keep f (below x)) e ∙ keep-split s (suc (n - suc s)) ∙ ap (λ (l : List ℕ). keep f (below s) ++ l) (kept-from s (n - suc s) q)
 
   -- it stands at the count of those kept below it
   pub rank-low : (s n : ℕ) → s < n → f s ≡ true → tally f (below s) < length (keep f (below n))
@@ -110,7 +110,7 @@ module _ (f : ℕ → Bool) where
   rank-high m s h g =
       let e : s ≡ m + (s - m) = omega arith in
       let a : length (keep f (below s)) ≡ length (keep f (below m)) + length (keep f (upFrom m (s - m))) =
-      ap (λ (x : ℕ). length (keep f (below x))) e ∙ ap length (kept-split m (s - m)) ∙ length-append (keep f (below m)) (keep f (upFrom m (s - m))) in
+      ap (λ (x : ℕ). length (keep f (below x))) e ∙ ap length (keep-split m (s - m)) ∙ length-append (keep f (below m)) (keep f (upFrom m (s - m))) in
       let b : length (keep f (below m)) ≡ m = ap length (keep-all f (below m) (λ t i. g t (below-in m t i))) ∙ length-below m in
       omega arith
 

@@ -27,11 +27,11 @@ use Rattle.law_drives.specs.Segs.{CandAt}
 use Rattle.law_drives.specs.Spots.{cand-zone, Spot, spot-of}
 use Rattle.law_drives.specs.Tests.{cond-true, cond-false}
 use Rattle.proof_tables.specs.Base.{offset-here, offset-away, its-chunk}
-use Rattle.proof_rebuilt.specs.Accepted.{same-remaining}
+use Rattle.proof_rebuilt.specs.Accepted.{rebuilt-remaining}
 use Rattle.proof_rebuilt.specs.Alike.{Alike, AlikeOr, alike-map, alike-flat, alike-best, beats-same}
 use Rattle.proof_rebuilt.specs.Numbers.{rank-order}
-use Rattle.proof_rebuilt.specs.Segment.{same-serial, same-counts, same-counted, offset-other, offset-rebuilt, same-piece, same-rec}
-use Rattle.proof_rebuilt.specs.Zone.{rebuiltView, Loss, lost, other-here}
+use Rattle.proof_rebuilt.specs.Segment.{rebuilt-serial, rebuilt-counts, same-counted, offset-other, offset-rebuilt, rebuilt-piece-same, same-rec}
+use Rattle.proof_rebuilt.specs.Zone.{rebuiltView, Loss, drive-lost, other-here}
 
 -- what is said of a candidate is its piece
 said-is : (p : Params) → Ranged p → (v : View) (gone : ℕ) (c : Cand) (k : CandAt p v gone c)
@@ -99,19 +99,19 @@ module _ (p : Params) (v : View) (d : ℕ) (lo : Loss p v d) where
 
     same-cand-serial : candOf p gone (x g) s e .serial ≡ candOf p 0 (y g) s e .serial
     unfolding candOf
-    same-cand-serial = sym (same-serial p v d lo g m)
+    same-cand-serial = sym (rebuilt-serial p v d lo g m)
 
-  cand-drive : (q : ℕ) (z : Segment) (s e : ℕ) → candOf p q z s e .drive ≡ e
+  candOf-drive : (q : ℕ) (z : Segment) (s e : ℕ) → candOf p q z s e .drive ≡ e
   unfolding candOf
-  cand-drive q z s e = refl
+  candOf-drive q z s e = refl
 
   cand-serial : (q : ℕ) (z : Segment) (s e : ℕ) → candOf p q z s e .serial ≡ z .serial
   unfolding candOf
   cand-serial q z s e = refl
 
-  cand-offset : (q : ℕ) (z : Segment) (s e : ℕ) → candOf p q z s e .offset ≡ offsetOf q z s e
+  candOf-offset : (q : ℕ) (z : Segment) (s e : ℕ) → candOf p q z s e .offset ≡ offsetOf q z s e
   unfolding candOf
-  cand-offset q z s e = refl
+  candOf-offset q z s e = refl
 
   -- offsets of a segment and drive keep their order
   same-order : (g s t e : ℕ) → In g (remaining p v gone) → s < p .S → t < p .S → counts p gone (x g) s ≡ true → counts p gone (x g) t ≡ true → e < p .N
@@ -122,7 +122,7 @@ module _ (p : Params) (v : View) (d : ℕ) (lo : Loss p v d) where
       now s e = unfold offsetOf in cond-false (isIn 0 e) s (offsetOn (y g) e s) (isIn-empty e)
 
       away : (s : ℕ) → offsetOf gone (x g) s d ≡ s
-      away s = unfold offsetOf in cond-true (isIn gone d) s (offsetOn (x g) d s) (lost p v d lo)
+      away s = unfold offsetOf in cond-true (isIn gone d) s (offsetOn (x g) d s) (drive-lost p v d lo)
 
       kept : (s : ℕ) → isIn gone e ≡ false → offsetOf gone (x g) s e ≡ offsetOn (x g) e s
       kept s q = unfold offsetOf in cond-false (isIn gone e) s (offsetOn (x g) e s) q
@@ -162,19 +162,19 @@ module _ (p : Params) (v : View) (d : ℕ) (lo : Loss p v d) where
     old-serial = ap (λ (b : Cand). b .serial) (k .was) ∙ cand-serial gone (x (k .of)) (k .stripe) drive
 
     old-drive : c .drive ≡ drive
-    old-drive = ap (λ (b : Cand). b .drive) (k .was) ∙ cand-drive gone (x (k .of)) (k .stripe) drive
+    old-drive = ap (λ (b : Cand). b .drive) (k .was) ∙ candOf-drive gone (x (k .of)) (k .stripe) drive
 
     new-drive : e .drive ≡ drive
-    new-drive = ap (λ (b : Cand). b .drive) (k .is-now) ∙ cand-drive 0 (y (k .of)) (k .stripe) drive
+    new-drive = ap (λ (b : Cand). b .drive) (k .is-now) ∙ candOf-drive 0 (y (k .of)) (k .stripe) drive
 
     pair-drive : c .drive ≡ e .drive
     pair-drive = old-drive ∙ sym new-drive
 
     old-offset : c .offset ≡ offsetOf gone (x (k .of)) (k .stripe) drive
-    old-offset = ap (λ (b : Cand). b .offset) (k .was) ∙ cand-offset gone (x (k .of)) (k .stripe) drive
+    old-offset = ap (λ (b : Cand). b .offset) (k .was) ∙ candOf-offset gone (x (k .of)) (k .stripe) drive
 
     new-offset : e .offset ≡ offsetOf 0 (y (k .of)) (k .stripe) drive
-    new-offset = ap (λ (b : Cand). b .offset) (k .is-now) ∙ cand-offset 0 (y (k .of)) (k .stripe) drive
+    new-offset = ap (λ (b : Cand). b .offset) (k .is-now) ∙ candOf-offset 0 (y (k .of)) (k .stripe) drive
 
     old-at : CandAt p v gone c
     old-at = record {
@@ -193,9 +193,9 @@ module _ (p : Params) (v : View) (d : ℕ) (lo : Loss p v d) where
       of = k .of;
       stripe = k .stripe;
       position = k .position;
-      remains = subst (λ (l : List ℕ). In (k .of) l) (sym (same-remaining p v d lo)) (k .remains);
+      remains = subst (λ (l : List ℕ). In (k .of) l) (sym (rebuilt-remaining p v d lo)) (k .remains);
       stripe-low = k .stripe-low;
-      it-counts = same-counts p v d lo (k .of) (k .remains) (k .stripe) (k .stripe-low) ∙ k .it-counts;
+      it-counts = rebuilt-counts p v d lo (k .of) (k .remains) (k .stripe) (k .stripe-low) ∙ k .it-counts;
       position-low = k .position-low;
       it-is = k .is-now;
     }
@@ -205,7 +205,7 @@ module _ (p : Params) (v : View) (d : ℕ) (lo : Loss p v d) where
     unfolding old-at new-at
     pair-said =
         said-is p r u 0 e new-at ∙ ap (λ (z : ℕ). got (pieceOf p 0 (y (k .of)) (k .stripe) z .block)) new-drive
-        ∙ ap (λ (q : Piece). got (q .block)) (same-piece p v d lo (k .of) (k .remains) (k .stripe) drive (k .stripe-low) (k .it-counts) drive-low)
+        ∙ ap (λ (q : Piece). got (q .block)) (rebuilt-piece-same p v d lo (k .of) (k .remains) (k .stripe) drive (k .stripe-low) (k .it-counts) drive-low)
         ∙ sym (said-is p r v gone c old-at ∙ ap (λ (z : ℕ). got (pieceOf p gone (x (k .of)) (k .stripe) z .block)) old-drive)
 
   -- the rule tells two pairs alike
@@ -260,7 +260,7 @@ module _ (p : Params) (v : View) (d : ℕ) (lo : Loss p v d) where
   pair-all =
       let a : flat (segmentCands p gone) (map x (remaining p v gone)) ≡ flat (λ g. segmentCands p gone (x g)) (remaining p v gone) = flat-map (segmentCands p gone) x (remaining p v gone) in
       let b : flat (segmentCands p 0) (map y (remaining p u 0)) ≡ flat (λ g. segmentCands p 0 (y g)) (remaining p v gone) =
-      flat-map (segmentCands p 0) y (remaining p u 0) ∙ ap (flat (λ g. segmentCands p 0 (y g))) (same-remaining p v d lo) in
+      flat-map (segmentCands p 0) y (remaining p u 0) ∙ ap (flat (λ g. segmentCands p 0 (y g))) (rebuilt-remaining p v d lo) in
       subst (λ (l : List Cand). Alike Pair l (flat (segmentCands p 0) (map y (remaining p u 0)))) (sym a)
       (subst (λ (l : List Cand). Alike Pair (flat (λ g. segmentCands p gone (x g)) (remaining p v gone)) l) (sym b)
       (alike-flat Pair (λ g. segmentCands p gone (x g)) (λ g. segmentCands p 0 (y g)) (remaining p v gone) pair-segment))

@@ -25,7 +25,7 @@ use Rattle.law_basic.specs.Mask.{isIn-empty}
 use Rattle.law_basic.specs.Ranges.{and-left, and-right, map-map, getD-map, getD-map-below, sameList-true}
 use Rattle.law_basic.specs.Xor.{xorAll-lt}
 use Rattle.law_drives.specs.Accept.{Accepted, faults-apart}
-use Rattle.law_drives.specs.Laid.{Long, getD-footer, serial-low, copied-low, header-serial, header-copied, record-back}
+use Rattle.law_drives.specs.Laid.{Long, getD-footer, serial-low, copied-word-low, header-serial, header-copied, record-back}
 use Rattle.law_drives.specs.Masks.{low-present}
 use Rattle.law_drives.specs.Members.{In, map-in, in-map, in-keep, all-in, in-all, none-in, in-any, keep-cong, in-below, below-in, in-getD, index-is}
 use Rattle.law_drives.specs.Range.{capacity-is, capacity-over}
@@ -39,7 +39,7 @@ use Rattle.law_drives.specs.Tests.{same-test}
 use Rattle.law_drives.specs.Zones.{Bytes}
 use Rattle.proof_rebuilt.specs.Groups.{sealed-all}
 use Rattle.proof_rebuilt.specs.Numbers.{rank-low, rank-at, rank-of}
-use Rattle.proof_rebuilt.specs.Zone.{rebuiltView, Loss, lost, by-drive, zone-other, rebuilt-full, rebuilt-header, rebuilt-piece, rebuilt-foot, rebuilt-stored}
+use Rattle.proof_rebuilt.specs.Zone.{rebuiltView, Loss, drive-lost, each-drive, present-zone-same, rebuilt-full, rebuilt-header, rebuilt-piece, rebuilt-foot, rebuilt-stored}
 
 -- ---- records that are read back
 
@@ -99,20 +99,20 @@ module _ (p : Params) (v : View) (d : ℕ) (lo : Loss p v d) (g : ℕ) (m : In g
   rm : remains p v gone g ≡ true
   rm = remaining-in p v gone g m .1
 
-  same-zone : (e : ℕ) → e < p .N → isIn gone e ≡ false → zoneAt u e g ≡ zoneAt v e g
-  same-zone e he pr = zone-other p v d lo e g he hg pr
+  kept-zone-here : (e : ℕ) → e < p .N → isIn gone e ≡ false → zoneAt u e g ≡ zoneAt v e g
+  kept-zone-here e he pr = present-zone-same p v d lo e g he hg pr
 
   -- ---- sealed or not
 
-  pub same-sealed : sealedIn p u 0 g ≡ w
+  pub rebuilt-sealed : sealedIn p u 0 g ≡ w
   unfolding sealedIn zoneOn pointerAt
-  same-sealed = same-test (sealedIn p u 0 g) w
+  rebuilt-sealed = same-test (sealedIn p u 0 g) w
       (λ q. in-all (λ e. eqb (zoneAt v e g .pointer) (capacity p)) (present p gone)
       (λ e i. let (he, pr) = present-in p gone e i in
-      ap (λ (z : Zone). eqb (z .pointer) (capacity p)) (sym (same-zone e he pr)) ∙ all-in (λ e. eqb (zoneAt u e g .pointer) (capacity p)) (present p 0) q e (present-all p e he)))
+      ap (λ (z : Zone). eqb (z .pointer) (capacity p)) (sym (kept-zone-here e he pr)) ∙ all-in (λ e. eqb (zoneAt u e g .pointer) (capacity p)) (present p 0) q e (present-all p e he)))
       (λ q. in-all (λ e. eqb (zoneAt u e g .pointer) (capacity p)) (present p 0)
-      (λ e i. by-drive p v d lo {P = λ e. eqb (zoneAt u e g .pointer) (capacity p) ≡ true} (here q)
-      (λ e he pr. ap (λ (z : Zone). eqb (z .pointer) (capacity p)) (same-zone e he pr) ∙ all-in (λ e. eqb (zoneAt v e g .pointer) (capacity p)) (present p gone) q e (in-present p gone e he pr))
+      (λ e i. each-drive p v d lo {P = λ e. eqb (zoneAt u e g .pointer) (capacity p) ≡ true} (here q)
+      (λ e he pr. ap (λ (z : Zone). eqb (z .pointer) (capacity p)) (kept-zone-here e he pr) ∙ all-in (λ e. eqb (zoneAt v e g .pointer) (capacity p)) (present p gone) q e (in-present p gone e he pr))
       e (present-in p 0 e i .0)))
     where
       here : w ≡ true → eqb (zoneAt u d g .pointer) (capacity p) ≡ true
@@ -120,27 +120,27 @@ module _ (p : Params) (v : View) (d : ℕ) (lo : Loss p v d) (g : ℕ) (m : In g
           (rebuilt-full p v d lo g hg rm (full-is p v gone g ∙ q)
           ∙ (let a = sealed-all p r v gone acc g m q in let c = capacity-is p r in let z : suc (length ss + footers p) ≡ capacity p = omega arith in z))
 
-  pub same-full : y .full ≡ x .full
-  same-full = full-is p u 0 g ∙ same-sealed ∙ sym (full-is p v gone g)
+  pub rebuilt-seg-full : y .full ≡ x .full
+  rebuilt-seg-full = full-is p u 0 g ∙ rebuilt-sealed ∙ sym (full-is p v gone g)
 
   -- ---- the decoded records fit
 
-  decoded : (s : ℕ) → recOf p gone x s d ≡ parityRec s (map (storedRec x s) (present p gone))
+  rec-decoded : (s : ℕ) → recOf p gone x s d ≡ parityRec s (map (storedRec x s) (present p gone))
   unfolding recOf
-  decoded s = rw (lost p v d lo)
+  rec-decoded s = rw (drive-lost p v d lo)
 
   pub decoded-stripe : (s : ℕ) → recOf p gone x s d .stripe ≡ s
   unfolding parityRec
-  decoded-stripe s = ap (λ (b : Rec). b .stripe) (decoded s)
+  decoded-stripe s = ap (λ (b : Rec). b .stripe) (rec-decoded s)
 
-  stored-low : (s e : ℕ) → counts p gone x s ≡ true → In e (present p gone) → (storedRec x s e .address < 256 ^ 8) × (storedRec x s e .stamp < 256 ^ 8)
-  stored-low s e c i =
+  present-rec-low : (s e : ℕ) → counts p gone x s ≡ true → In e (present p gone) → (storedRec x s e .address < 256 ^ 8) × (storedRec x s e .stamp < 256 ^ 8)
+  present-rec-low s e c i =
       let (he, pr) = present-in p gone e i in
       let k = chunk-at p v gone g e s he pr (counts-in p gone x s e c he pr) in
       subst (λ (b : Rec). (b .address < 256 ^ 8) × (b .stamp < 256 ^ 8)) (sym (k .its-record)) (record-low p (zoneAt v e g) (lo .shaped .zone-ok e g he hg) w (offsetOn x e s))
 
   decoded-low : (s : ℕ) → counts p gone x s ≡ true → (recOf p gone x s d .address < 256 ^ 8) × (recOf p gone x s d .stamp < 256 ^ 8)
-  decoded-low s c = subst (λ (b : Rec). (b .address < 256 ^ 8) × (b .stamp < 256 ^ 8)) (sym (decoded s)) both
+  decoded-low s c = subst (λ (b : Rec). (b .address < 256 ^ 8) × (b .stamp < 256 ^ 8)) (sym (rec-decoded s)) both
     where
       each : (f : Rec → ℕ) → ((e : ℕ) → In e (present p gone) → f (storedRec x s e) < 256 ^ 8) → xorAll (map f (map (storedRec x s) (present p gone))) < 256 ^ 8
       each f h = xor-low (map f (map (storedRec x s) (present p gone))) (λ n i.
@@ -149,7 +149,7 @@ module _ (p : Params) (v : View) (d : ℕ) (lo : Loss p v d) (g : ℕ) (m : In g
           subst (λ (t : ℕ). t < 256 ^ 8) (sym (q ∙ ap f z)) (h e k))
 
       both : (parityRec s (map (storedRec x s) (present p gone)) .address < 256 ^ 8) × (parityRec s (map (storedRec x s) (present p gone)) .stamp < 256 ^ 8)
-      both = unfold parityRec in (each (λ (b : Rec). b .address) (λ e i. stored-low s e c i .0), each (λ (b : Rec). b .stamp) (λ e i. stored-low s e c i .1))
+      both = unfold parityRec in (each (λ (b : Rec). b .address) (λ e i. present-rec-low s e c i .0), each (λ (b : Rec). b .stamp) (λ e i. present-rec-low s e c i .1))
 
   -- ---- records of the rebuilt zone
 
@@ -159,8 +159,8 @@ module _ (p : Params) (v : View) (d : ℕ) (lo : Loss p v d) (g : ℕ) (m : In g
   abbrev made : List (List ℕ)
   made = map (λ (c : Piece). recordBytes (c .rec)) (map (λ s. pieceOf p gone x s d) ss)
 
-  counted-at : (j : ℕ) → j < length ss → (getD ss j 0 < p .S) × (counts p gone x (getD ss j 0) ≡ true)
-  counted-at j h = counted-in p gone x (getD ss j 0) (in-getD ss j 0 h)
+  counted-nth : (j : ℕ) → j < length ss → (getD ss j 0 < p .S) × (counts p gone x (getD ss j 0) ≡ true)
+  counted-nth j h = counted-in p gone x (getD ss j 0) (in-getD ss j 0 h)
 
   record Fits8 (b : Rec) : Type 0 where
     address8 : b .address < 256 ^ 8
@@ -169,7 +169,7 @@ module _ (p : Params) (v : View) (d : ℕ) (lo : Loss p v d) (g : ℕ) (m : In g
 
   fits-at : (j : ℕ) → j < length ss → Fits8 (recOf p gone x (getD ss j 0) d)
   fits-at j h =
-      let (l, c) = counted-at j h in
+      let (l, c) = counted-nth j h in
       let f = decoded-low (getD ss j 0) c in
       record { address8 = f .0; stamp8 = f .1; stripe4 = subst (λ (n : ℕ). n < 256 ^ 4) (sym (decoded-stripe (getD ss j 0))) (omega (arith, r .stripes-high)) }
 
@@ -209,7 +209,7 @@ module _ (p : Params) (v : View) (d : ℕ) (lo : Loss p v d) (g : ℕ) (m : In g
 
   pub recs-rebuilt : recsOn y d ≡ map (λ s. recOf p gone x s d) ss
   recs-rebuilt =
-      recs-here p u 0 g d hd (isIn-empty d) ∙ ap (λ (b : Bool). recordsIn p b (zoneAt u d g)) same-sealed
+      recs-here p u 0 g d hd (isIn-empty d) ∙ ap (λ (b : Bool). recordsIn p b (zoneAt u d g)) rebuilt-sealed
       ∙ ext-getD (mkRec 0 0 0) (recordsIn p w (zoneAt u d g)) (map (λ s. recOf p gone x s d) ss) (long ∙ sym (length-map ss (λ s. recOf p gone x s d))) each
     where
       n : dataStored p (zoneAt u d g) ≡ length ss
@@ -227,13 +227,13 @@ module _ (p : Params) (v : View) (d : ℕ) (lo : Loss p v d) (g : ℕ) (m : In g
           row j h = unfold recordsIn in getD-map-below (recordIn p w (zoneAt u d g)) (dataStored p (zoneAt u d g)) j (mkRec 0 0 0) h
 
   pub recs-other : (e : ℕ) → e < p .N → isIn gone e ≡ false → recsOn y e ≡ recsOn x e
-  recs-other e he pr = recs-here p u 0 g e he (isIn-empty e) ∙ ap₂ (λ (b : Bool) (q : Zone). recordsIn p b q) same-sealed (same-zone e he pr) ∙ sym (recs-here p v gone g e he pr)
+  recs-other e he pr = recs-here p u 0 g e he (isIn-empty e) ∙ ap₂ (λ (b : Bool) (q : Zone). recordsIn p b q) rebuilt-sealed (kept-zone-here e he pr) ∙ sym (recs-here p v gone g e he pr)
 
   -- ---- headers
 
   pub header-of : (e : ℕ) → e < p .N → getD (zoneAt u e g .blocks) 0 noChunk ≡ mkChunk (headerBlock p e g (x .serial) (x .copied)) zeroSpare
-  header-of e he = by-drive p v d lo {P = λ e. getD (zoneAt u e g .blocks) 0 noChunk ≡ mkChunk (headerBlock p e g (x .serial) (x .copied)) zeroSpare}
-      (rebuilt-header p v d lo g hg rm) (λ e he pr. ap (λ (q : Zone). getD (q .blocks) 0 noChunk) (same-zone e he pr) ∙ there e he pr) e he
+  header-of e he = each-drive p v d lo {P = λ e. getD (zoneAt u e g .blocks) 0 noChunk ≡ mkChunk (headerBlock p e g (x .serial) (x .copied)) zeroSpare}
+      (rebuilt-header p v d lo g hg rm) (λ e he pr. ap (λ (q : Zone). getD (q .blocks) 0 noChunk) (kept-zone-here e he pr) ∙ there e he pr) e he
     where
       there : (e : ℕ) → e < p .N → isIn gone e ≡ false → getD (zoneAt v e g .blocks) 0 noChunk ≡ mkChunk (headerBlock p e g (x .serial) (x .copied)) zeroSpare
       there e he pr = go
@@ -266,26 +266,26 @@ module _ (p : Params) (v : View) (d : ℕ) (lo : Loss p v d) (g : ℕ) (m : In g
       let (he, pr) = present-in p gone (lowDrive p gone) (low-present p r d hd) in
       lo .shaped .zone-ok (lowDrive p gone) g he hg .sound 0 (omega (arith, capacity-over p r)) .block-bytes (inl refl)
 
-  serials-low : (x .serial < 256 ^ 8) × (x .copied < 256 ^ 8)
-  serials-low = (
+  header-serials-low : (x .serial < 256 ^ 8) × (x .copied < 256 ^ 8)
+  header-serials-low = (
     subst (λ (n : ℕ). n < 256 ^ 8) (sym (serial-is p v gone g)) (serial-low (headerAt v (lowDrive p gone) g) header-bytes),
-    subst (λ (n : ℕ). n < 256 ^ 8) (sym (copied-is p v gone g)) (copied-low (headerAt v (lowDrive p gone) g) header-bytes),
+    subst (λ (n : ℕ). n < 256 ^ 8) (sym (copied-is p v gone g)) (copied-word-low (headerAt v (lowDrive p gone) g) header-bytes),
   )
 
   -- drive 0's header, read back
   pub head-serial : headerSerial (headerAt u 0 g) ≡ x .serial
   unfolding headerAt chunkAt zoneOn
-  head-serial = ap (λ (c : Chunk). headerSerial (c .block)) (header-of 0 (omega (arith, r .drives-low))) ∙ header-serial p 0 g (x .serial) (x .copied) (serials-low .0)
+  head-serial = ap (λ (c : Chunk). headerSerial (c .block)) (header-of 0 (omega (arith, r .drives-low))) ∙ header-serial p 0 g (x .serial) (x .copied) (header-serials-low .0)
 
   pub head-copied : headerCopied (headerAt u 0 g) ≡ x .copied
   unfolding headerAt chunkAt zoneOn
-  head-copied = ap (λ (c : Chunk). headerCopied (c .block)) (header-of 0 (omega (arith, r .drives-low))) ∙ header-copied p 0 g (x .serial) (x .copied) (serials-low .1)
+  head-copied = ap (λ (c : Chunk). headerCopied (c .block)) (header-of 0 (omega (arith, r .drives-low))) ∙ header-copied p 0 g (x .serial) (x .copied) (header-serials-low .1)
 
-  pub same-serial : y .serial ≡ x .serial
-  same-serial = serial-is p u 0 g ∙ ap (λ (e : ℕ). headerSerial (headerAt u e g)) (low-first p r) ∙ head-serial
+  pub rebuilt-serial : y .serial ≡ x .serial
+  rebuilt-serial = serial-is p u 0 g ∙ ap (λ (e : ℕ). headerSerial (headerAt u e g)) (low-first p r) ∙ head-serial
 
-  pub same-copied : y .copied ≡ x .copied
-  same-copied = copied-is p u 0 g ∙ ap (λ (e : ℕ). headerCopied (headerAt u e g)) (low-first p r) ∙ head-copied
+  pub rebuilt-copied : y .copied ≡ x .copied
+  rebuilt-copied = copied-is p u 0 g ∙ ap (λ (e : ℕ). headerCopied (headerAt u e g)) (low-first p r) ∙ head-copied
 
   -- ---- stripes that count
 
@@ -297,23 +297,23 @@ module _ (p : Params) (v : View) (d : ℕ) (lo : Loss p v d) (g : ℕ) (m : In g
   has-rebuilt s i = ap (any (of s)) recs-rebuilt
       ∙ in-any (of s) (map (λ t. recOf p gone x t d) ss) (recOf p gone x s d) (in-map (λ t. recOf p gone x t d) ss s i) (eq-eqb (recOf p gone x s d .stripe) s (decoded-stripe s))
 
-  same-has : (s e : ℕ) → e < p .N → isIn gone e ≡ false → hasChunk y s e ≡ hasChunk x s e
+  rebuilt-has : (s e : ℕ) → e < p .N → isIn gone e ≡ false → hasChunk y s e ≡ hasChunk x s e
   unfolding hasChunk
-  same-has s e he pr = ap (any (of s)) (recs-other e he pr)
+  rebuilt-has s e he pr = ap (any (of s)) (recs-other e he pr)
 
-  pub same-counts : (s : ℕ) → s < p .S → counts p 0 y s ≡ counts p gone x s
+  pub rebuilt-counts : (s : ℕ) → s < p .S → counts p 0 y s ≡ counts p gone x s
   unfolding counts
-  same-counts s hs = same-test (counts p 0 y s) (counts p gone x s)
-      (λ q. in-all (hasChunk x s) (present p gone) (λ e i. let (he, pr) = present-in p gone e i in sym (same-has s e he pr) ∙ all-in (hasChunk y s) (present p 0) q e (present-all p e he)))
-      (λ q. in-all (hasChunk y s) (present p 0) (λ e i. by-drive p v d lo {P = λ e. hasChunk y s e ≡ true} (has-rebuilt s (in-counted q))
-      (λ e he pr. same-has s e he pr ∙ all-in (hasChunk x s) (present p gone) q e (in-present p gone e he pr)) e (present-in p 0 e i .0)))
+  rebuilt-counts s hs = same-test (counts p 0 y s) (counts p gone x s)
+      (λ q. in-all (hasChunk x s) (present p gone) (λ e i. let (he, pr) = present-in p gone e i in sym (rebuilt-has s e he pr) ∙ all-in (hasChunk y s) (present p 0) q e (present-all p e he)))
+      (λ q. in-all (hasChunk y s) (present p 0) (λ e i. each-drive p v d lo {P = λ e. hasChunk y s e ≡ true} (has-rebuilt s (in-counted q))
+      (λ e he pr. rebuilt-has s e he pr ∙ all-in (hasChunk x s) (present p gone) q e (in-present p gone e he pr)) e (present-in p 0 e i .0)))
     where
       in-counted : counts p gone x s ≡ true → In s ss
       in-counted q = unfold counted in in-keep (counts p gone x) (below (p .S)) s (in-below (p .S) s hs) q
 
   pub same-counted : counted p 0 y ≡ ss
   unfolding counted
-  same-counted = keep-cong (counts p 0 y) (counts p gone x) (below (p .S)) (λ s i. same-counts s (below-in (p .S) s i))
+  same-counted = keep-cong (counts p 0 y) (counts p gone x) (below (p .S)) (λ s i. rebuilt-counts s (below-in (p .S) s i))
 
   -- ---- chunks of counted stripes
 
@@ -328,9 +328,9 @@ module _ (p : Params) (v : View) (d : ℕ) (lo : Loss p v d) (g : ℕ) (m : In g
   unfolding counted
   rank-in s h c = (rank-low (counts p gone x) s (p .S) h c, rank-at (counts p gone x) s (p .S) h c)
 
-  place-in : (j : ℕ) → j < length ss → rank (getD ss j 0) ≡ j
+  counted-rank : (j : ℕ) → j < length ss → rank (getD ss j 0) ≡ j
   unfolding counted
-  place-in j h = rank-of (counts p gone x) (p .S) j h
+  counted-rank j h = rank-of (counts p gone x) (p .S) j h
 
   pub offset-rebuilt : (s : ℕ) → s < p .S → counts p gone x s ≡ true → offsetOn y d s ≡ rank s
   unfolding offsetOn
@@ -345,11 +345,11 @@ module _ (p : Params) (v : View) (d : ℕ) (lo : Loss p v d) (g : ℕ) (m : In g
       (λ j k. ne-eqb (getD (map (λ t. recOf p gone x t d) ss) j (mkRec 0 0 0) .stripe) s
       (λ q.
       let l2 : j < length ss = omega arith in
-      let z : j ≡ rank s = sym (place-in j l2) ∙ ap rank (sym (at j l2) ∙ q) in
+      let z : j ≡ rank s = sym (counted-rank j l2) ∙ ap rank (sym (at j l2) ∙ q) in
       let bad : ⊥ = omega arith in bad))
 
-  pub same-piece : (s e : ℕ) → s < p .S → counts p gone x s ≡ true → e < p .N → pieceOf p 0 y s e ≡ pieceOf p gone x s e
-  same-piece s e h c he = by-drive p v d lo {P = λ e. pieceOf p 0 y s e ≡ pieceOf p gone x s e} (none! d ∙ here) (λ e he pr. none! e ∙ there e he pr) e he
+  pub rebuilt-piece-same : (s e : ℕ) → s < p .S → counts p gone x s ≡ true → e < p .N → pieceOf p 0 y s e ≡ pieceOf p gone x s e
+  rebuilt-piece-same s e h c he = each-drive p v d lo {P = λ e. pieceOf p 0 y s e ≡ pieceOf p gone x s e} (none! d ∙ here) (λ e he pr. none! e ∙ there e he pr) e he
     where
       none! : (e : ℕ) → pieceOf p 0 y s e ≡ storedPiece y s e
       none! e = unfold pieceOf in rw (isIn-empty e)
@@ -361,7 +361,7 @@ module _ (p : Params) (v : View) (d : ℕ) (lo : Loss p v d) (g : ℕ) (m : In g
         recs-other e he pr,
         zone-by p u 0 g e he,
         zone-by p v gone g e he,
-        same-zone e he pr,
+        kept-zone-here e he pr,
       )
 
       block! : getD (getD (y .zonesBy) d noZone .blocks) (1 + offsetOn y d s) noChunk .block ≡ pieceOf p gone x s d .block
@@ -383,4 +383,4 @@ module _ (p : Params) (v : View) (d : ℕ) (lo : Loss p v d) (g : ℕ) (m : In g
       here = unfold storedPiece in λ i. record { block = block! i; rec = rec! i }
 
   pub same-rec : (s e : ℕ) → s < p .S → counts p gone x s ≡ true → e < p .N → recOf p 0 y s e ≡ recOf p gone x s e
-  same-rec s e h c he = sym (piece-rec p 0 y s e) ∙ ap (λ (q : Piece). q .rec) (same-piece s e h c he) ∙ piece-rec p gone x s e
+  same-rec s e h c he = sym (piece-rec p 0 y s e) ∙ ap (λ (q : Piece). q .rec) (rebuilt-piece-same s e h c he) ∙ piece-rec p gone x s e

@@ -38,12 +38,12 @@ use Rattle.law_drives.specs.Range.{capacity-word}
 use Rattle.law_drives.specs.Rebuilding.{rebuild-roomy, rebuild-within}
 use Rattle.law_drives.specs.Tests.{clash, false-true}
 use Rattle.law_drives.specs.Zones.{all-fit}
-use Rattle.proof_tables.specs.Outcomes.{Ended, ended, cut-mild}
-use Rattle.proof_tables.specs.Outcomes.Ended.{ended-refused, ended-done, ended-cut}
-use Rattle.proof_tables.specs.Run.{Lost, Well, Run}
+use Rattle.proof_tables.specs.Outcomes.{EndedAs, outcome-ends, cut-mild}
+use Rattle.proof_tables.specs.Outcomes.EndedAs.{ended-refused, ended-done, ended-cut}
+use Rattle.proof_tables.specs.Run.{LostDrive, Well, Run}
 use Rattle.proof_rebuilt.specs.Accepted.{rebuilt-accepted}
 use Rattle.proof_rebuilt.specs.Said.{rebuilt-said}
-use Rattle.proof_rebuilt.specs.Zone.{rebuiltView, Loss, lost}
+use Rattle.proof_rebuilt.specs.Zone.{rebuiltView, Loss, drive-lost}
 
 -- ---- a restart of drives on which nothing is wrong
 
@@ -52,9 +52,9 @@ unfolding named noDrive
 no-drive = only-none 255 (lit≤ tt)
 
 -- it is not refused 9, with whatever memory
-restart-mild : (p : Params) (k : Disk) (m : Memory) (n : ℕ) → Accepted p (seen p k) 0 → isRefusedAs 9 (callDisk p k m (restart noDrive n) .answer) ≡ false
+restart-not-ninth : (p : Params) (k : Disk) (m : Memory) (n : ℕ) → Accepted p (seen p k) 0 → isRefusedAs 9 (callDisk p k m (restart noDrive n) .answer) ≡ false
 unfolding callDisk callOn verdict storeCount lentBlock restartVerdict
-restart-mild p k m n acc = go (ended p k m checks plan n [])
+restart-not-ninth p k m n acc = go (outcome-ends p k m checks plan n [])
   where
     checks : List Check
     checks = restartChecks p (lentOk p k m) (seen p k) noDrive (segments p (seen p k) (named noDrive))
@@ -73,7 +73,7 @@ restart-mild p k m n acc = go (ended p k m checks plan n [])
     answer-is : plan .answer ≡ Restarted (reportOf p (named noDrive) (segments p (seen p k) (named noDrive)))
     answer-is = unfold restartPlan in refl
 
-    go : Ended p k m checks plan (outcome p (storeDisk p) n k m [] (decided (firstRefusal checks) plan))
+    go : EndedAs p k m checks plan (outcome p (storeDisk p) n k m [] (decided (firstRefusal checks) plan))
         → isRefusedAs 9 (outcome p (storeDisk p) n k m [] (decided (firstRefusal checks) plan) .answer) ≡ false
     go (ended-refused a e f g h) = ap (isRefusedAs 9) f ∙ fine a e
     go (ended-done c f g h) = ap (isRefusedAs 9) (f ∙ answer-is) ∙ restarted-mild (reportOf p (named noDrive) (segments p (seen p k) (named noDrive)))
@@ -96,7 +96,7 @@ module _ (p : Params) (k : Disk) (m : Memory) (u : Run p k m) (d n : ℕ) where
 
   rebuild-done : eqb (kind (callDisk p k m (rebuild d n) .answer)) 13 ≡ true → Done
   unfolding callDisk callOn verdict storeCount lentBlock rebuildVerdict
-  rebuild-done q = go (ended p k m checks plan n [])
+  rebuild-done q = go (outcome-ends p k m checks plan n [])
     where
       plan : Plan
       plan = mkPlan (rebuildStores p d (segments p v (named d))) Rebuilt m []
@@ -104,7 +104,7 @@ module _ (p : Params) (k : Disk) (m : Memory) (u : Run p k m) (d n : ℕ) where
       checks : List Check
       checks = rebuildChecks p (lentOk p k m) v m d (segments p v (named d))
 
-      accepts-of : (d < p .N) → m .state .missing ≡ named d → Lost p k m ⊎ Well p k m → Accepted p v (named d)
+      accepts-of : (d < p .N) → m .state .missing ≡ named d → LostDrive p k m ⊎ Well p k m → Accepted p v (named d)
       accepts-of hd e (inl lo) = subst (λ (g : ℕ). Accepted p v g) e (lo .accepts)
       accepts-of hd e (inr we) = clash (eq-eqb (named d) 0 (sym e ∙ we .none-missing)) (named-some p rg d hd)
 
@@ -114,7 +114,7 @@ module _ (p : Params) (k : Disk) (m : Memory) (u : Run p k m) (d n : ℕ) where
       cut-not : eqb (kind Cut) 13 ≡ true → ⊥
       cut-not y = unfold kind in false-true y
 
-      go : Ended p k m checks plan (outcome p (storeDisk p) n k m [] (decided (firstRefusal checks) plan)) → Done
+      go : EndedAs p k m checks plan (outcome p (storeDisk p) n k m [] (decided (firstRefusal checks) plan)) → Done
       go (ended-refused a e f g h) = absurd (refused-not a (refusal-kind checks a e) (ap (λ (b : Answer). eqb (kind b) 13) (sym f) ∙ q))
       go (ended-done c f g h) = let r = rebuild-passed p (lentOk p k m) v m d (segments p v (named d)) c in record {
         loses = record { ranged = rg; shaped = u .base .shaped; drive-low = r .drive-low; accepts = accepts-of (r .drive-low) (r .names) (u .mode) };
@@ -130,7 +130,7 @@ module _ (p : Params) (k : Disk) (m : Memory) (u : Run p k m) (d n : ℕ) where
       let ss = rebuildStores p d (segments p v (named d)) in
       let sh = u .base .shaped in
       let hd = o .loses .drive-low in
-      let nd = lost p v d (o .loses) in
+      let nd = drive-lost p v d (o .loses) in
       ap (seen p) (o .leaves)
       ∙ view-stores p k ss (capacity-word p rg) (whole-of p k m (u .base .lent))
       (all-fit p v ss (sh .sized) (rebuild-within p rg v sh d hd nd) (rebuild-roomy p rg v sh d hd nd))
@@ -141,7 +141,7 @@ module _ (p : Params) (k : Disk) (m : Memory) (u : Run p k m) (d n : ℕ) where
     says-same = λ a h.
         ap (λ (t : View). saidAt p t 0 a) (rebuild-view o) ∙ rebuilt-said p v d (o .loses) a
         ∙ ap (λ (g : ℕ). saidAt p v g a) (sym (o .named-so));
-    accepted = λ w i e. restart-mild p (w .disk) (w .memory) i
+    accepted = λ w i e. restart-not-ninth p (w .disk) (w .memory) i
         (subst (λ (t : View). Accepted p t 0) (sym (ap (seen p) e ∙ rebuild-view o)) (rebuilt-accepted p v d (o .loses)));
   }
 

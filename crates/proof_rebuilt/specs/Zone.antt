@@ -58,8 +58,8 @@ module _ (p : Params) (v : View) (d : ℕ) (lo : Loss p v d) where
   abbrev u : View
   u = rebuiltView p v d
 
-  pub lost : isIn gone d ≡ true
-  lost = named-in p r d hd
+  pub drive-lost : isIn gone d ≡ true
+  drive-lost = named-in p r d hd
 
   -- no other drive is missing
   pub other-here : (e : ℕ) → e < p .N → (e ≡ d → ⊥) → isIn gone e ≡ false
@@ -67,22 +67,22 @@ module _ (p : Params) (v : View) (d : ℕ) (lo : Loss p v d) where
   other-here e he ne = let h = r .drives-high in isIn-only d e (omega arith) (omega arith) ∙ ne-eqb e d ne
 
   -- each drive is the rebuilt one or as it was
-  pub by-drive : {P : ℕ → Type 0} → P d → ((e : ℕ) → e < p .N → isIn gone e ≡ false → P e) → (e : ℕ) → e < p .N → P e
-  by-drive {P} a f e he = go (ℕ-discrete e d)
+  pub each-drive : {P : ℕ → Type 0} → P d → ((e : ℕ) → e < p .N → isIn gone e ≡ false → P e) → (e : ℕ) → e < p .N → P e
+  each-drive {P} a f e he = go (ℕ-discrete e d)
     where
       go : Dec (e ≡ d) → P e
       go (yes q) = subst P (sym q) a
       go (no q) = f e he (other-here e he q)
 
-  pub zone-other : (e z : ℕ) → e < p .N → z < p .Z → isIn gone e ≡ false → zoneAt u e z ≡ zoneAt v e z
+  pub present-zone-same : (e z : ℕ) → e < p .N → z < p .Z → isIn gone e ≡ false → zoneAt u e z ≡ zoneAt v e z
   unfolding rebuiltView
-  zone-other e z he hz q = sym (rebuild-agrees p r v sh d hd lost e z he hz q)
+  present-zone-same e z he hz q = sym (rebuild-agrees p r v sh d hd drive-lost e z he hz q)
 
   zone-by-stores : (z : ℕ) → z < p .Z → zoneAt u d z ≡ storeAll zoneStore (cond (remains p v gone z) (rebuiltZone p d (segmentOf p v gone z)) []) (resetZone (zoneAt v d z))
   unfolding rebuiltView
   zone-by-stores z hz =
       zone-after p v d z (rebuildStores p d (segments p v gone)) (sh .sized) hd hz
-      ∙ ap (λ (l : List Store). storeAll zoneStore l (zoneAt v d z)) (hits-here p r v sh d hd lost z hz)
+      ∙ ap (λ (l : List Store). storeAll zoneStore l (zoneAt v d z)) (hits-here p r v sh d hd drive-lost z hz)
       ∙ first (cond (remains p v gone z) (rebuiltZone p d (segmentOf p v gone z)) []) (zoneAt v d z)
     where
       first : (l : List Store) (q : Zone) → storeAll zoneStore (reset d z ∷ l) q ≡ storeAll zoneStore l (resetZone q)
@@ -108,7 +108,7 @@ module _ (p : Params) (v : View) (d : ℕ) (lo : Loss p v d) where
     ss = counted p gone x
 
     abbrev chunks : List Chunk
-    chunks = rebuilt-chunks p r v sh gone g d hg hd lost
+    chunks = rebuilt-chunks p r v sh gone g d hg hd drive-lost
 
     abbrev pieces : List Piece
     pieces = map (λ s. pieceOf p gone x s d) ss
@@ -123,9 +123,9 @@ module _ (p : Params) (v : View) (d : ℕ) (lo : Loss p v d) where
     abbrev first : Chunk
     first = mkChunk (headerBlock p d g (x .serial) (x .copied)) zeroSpare
 
-    chunks-are : (b : Bool) → x .full ≡ b → chunks ≡ first ∷ (map pieceChunk pieces ++ cond b feet [])
+    zone-chunks-are : (b : Bool) → x .full ≡ b → chunks ≡ first ∷ (map pieceChunk pieces ++ cond b feet [])
     unfolding rebuilt-chunks
-    chunks-are b e = ap (λ (y : Bool). first ∷ (map pieceChunk pieces ++ cond y feet [])) e
+    zone-chunks-are b e = ap (λ (y : Bool). first ∷ (map pieceChunk pieces ++ cond y feet [])) e
 
     pieces-long : length (map pieceChunk pieces) ≡ length ss
     pieces-long = length-map pieces pieceChunk ∙ length-map ss (λ s. pieceOf p gone x s d)
@@ -133,8 +133,8 @@ module _ (p : Params) (v : View) (d : ℕ) (lo : Loss p v d) where
     feet-long : length feet ≡ footers p
     feet-long = length-map (below (footers p)) (λ i. mkChunk (footerBlock p sparesLost i) zeroSpare) ∙ length-below (footers p)
 
-    chunks-long : (b : Bool) → x .full ≡ b → length chunks ≡ suc (length ss + length (cond b feet []))
-    chunks-long b e = ap length (chunks-are b e) ∙ ap suc (length-append (map pieceChunk pieces) (cond b feet []) ∙ ap (λ (n : ℕ). n + length (cond b feet [])) pieces-long)
+    zone-chunks-long : (b : Bool) → x .full ≡ b → length chunks ≡ suc (length ss + length (cond b feet []))
+    zone-chunks-long b e = ap length (zone-chunks-are b e) ∙ ap suc (length-append (map pieceChunk pieces) (cond b feet []) ∙ ap (λ (n : ℕ). n + length (cond b feet [])) pieces-long)
 
     few : length ss ≤ p .S
     few = counted-low p gone x
@@ -143,14 +143,14 @@ module _ (p : Params) (v : View) (d : ℕ) (lo : Loss p v d) where
     chunks-low = go (x .full) refl
       where
         go : (b : Bool) → x .full ≡ b → length chunks ≤ capacity p
-        go true e = let a = chunks-long true e in let f = feet-long in let c = capacity-is p r in let n = few in omega arith
-        go false e = let a : length chunks ≡ suc (length ss + 0) = chunks-long false e in let c = capacity-over p r in let n = few in omega arith
+        go true e = let a = zone-chunks-long true e in let f = feet-long in let c = capacity-is p r in let n = few in omega arith
+        go false e = let a : length chunks ≡ suc (length ss + 0) = zone-chunks-long false e in let c = capacity-over p r in let n = few in omega arith
 
-    zone-is : zoneAt u d g ≡ putAll d g chunks (resetZone (zoneAt v d g))
-    zone-is =
+    rebuilt-zone : zoneAt u d g ≡ putAll d g chunks (resetZone (zoneAt v d g))
+    rebuilt-zone =
         zone-by-stores g hg
         ∙ ap (λ (b : Bool). storeAll zoneStore (cond b (rebuiltZone p d x) []) (resetZone (zoneAt v d g))) rm
-        ∙ ap (λ (l : List Store). storeAll zoneStore l (resetZone (zoneAt v d g))) (rebuilt-is p r v sh d g hg hd lost)
+        ∙ ap (λ (l : List Store). storeAll zoneStore l (resetZone (zoneAt v d g))) (rebuilt-is p r v sh d g hg hd drive-lost)
 
     reset-zero : (y : Zone) → resetZone y .pointer ≡ 0
     unfolding resetZone
@@ -162,16 +162,16 @@ module _ (p : Params) (v : View) (d : ℕ) (lo : Loss p v d) where
 
     pointer-long : zoneAt u d g .pointer ≡ length chunks
     pointer-long =
-        ap (λ (y : Zone). y .pointer) zone-is ∙ puts-pointer d g chunks (resetZone (zoneAt v d g))
+        ap (λ (y : Zone). y .pointer) rebuilt-zone ∙ puts-pointer d g chunks (resetZone (zoneAt v d g))
         ∙ ap (λ (n : ℕ). n + length chunks) (reset-zero (zoneAt v d g)) ∙ zero-add (length chunks)
 
-    chunk-is : (i : ℕ) → i < length chunks → getD (zoneAt u d g .blocks) i noChunk ≡ getD chunks i noChunk
-    chunk-is i h =
+    rebuilt-chunk : (i : ℕ) → i < length chunks → getD (zoneAt u d g .blocks) i noChunk ≡ getD chunks i noChunk
+    rebuilt-chunk i h =
         let y = resetZone (zoneAt v d g) in
         let z : y .pointer ≡ 0 = reset-zero (zoneAt v d g) in
         let l = chunks-low in
         let k = reset-long in
-        ap (λ (q : Zone). getD (q .blocks) i noChunk) zone-is
+        ap (λ (q : Zone). getD (q .blocks) i noChunk) rebuilt-zone
         ∙ ap (λ (n : ℕ). getD (putAll d g chunks y .blocks) n noChunk) (let e : i ≡ y .pointer + i = omega arith in e)
         ∙ puts-new d g chunks y i h (omega arith)
 
@@ -180,29 +180,29 @@ module _ (p : Params) (v : View) (d : ℕ) (lo : Loss p v d) where
     rebuilt-low = subst (λ (n : ℕ). n ≤ capacity p) (sym pointer-long) chunks-low
 
     pub rebuilt-open : x .full ≡ false → zoneAt u d g .pointer ≡ suc (length ss)
-    rebuilt-open e = pointer-long ∙ chunks-long false e ∙ (let z : suc (length ss + 0) ≡ suc (length ss) = omega arith in z)
+    rebuilt-open e = pointer-long ∙ zone-chunks-long false e ∙ (let z : suc (length ss + 0) ≡ suc (length ss) = omega arith in z)
 
     pub rebuilt-full : x .full ≡ true
         → zoneAt u d g .pointer ≡ suc (length ss + footers p)
-    rebuilt-full e = pointer-long ∙ chunks-long true e ∙ ap (λ (n : ℕ). suc (length ss + n)) feet-long
+    rebuilt-full e = pointer-long ∙ zone-chunks-long true e ∙ ap (λ (n : ℕ). suc (length ss + n)) feet-long
 
     pub rebuilt-some : 1 ≤ zoneAt u d g .pointer
     rebuilt-some = go (x .full) refl
       where
         go : (b : Bool) → x .full ≡ b → 1 ≤ zoneAt u d g .pointer
-        go b e = let a = pointer-long in let c = chunks-long b e in omega arith
+        go b e = let a = pointer-long in let c = zone-chunks-long b e in omega arith
 
     -- its blocks
     pub rebuilt-header : getD (zoneAt u d g .blocks) 0 noChunk ≡ mkChunk (headerBlock p d g (x .serial) (x .copied)) zeroSpare
     rebuilt-header =
-        let a = chunks-long (x .full) refl in
-        chunk-is 0 (omega arith) ∙ ap (λ (l : List Chunk). getD l 0 noChunk) (chunks-are (x .full) refl)
+        let a = zone-chunks-long (x .full) refl in
+        rebuilt-chunk 0 (omega arith) ∙ ap (λ (l : List Chunk). getD l 0 noChunk) (zone-chunks-are (x .full) refl)
 
     after-first : (b : Bool) → x .full ≡ b → (i : ℕ) → i < length ss + length (cond b feet [])
         → getD (zoneAt u d g .blocks) (1 + i) noChunk ≡ getD (map pieceChunk pieces ++ cond b feet []) i noChunk
     after-first b e i h =
-        let a = chunks-long b e in
-        chunk-is (1 + i) (omega arith) ∙ ap (λ (l : List Chunk). getD l (1 + i) noChunk) (chunks-are b e)
+        let a = zone-chunks-long b e in
+        rebuilt-chunk (1 + i) (omega arith) ∙ ap (λ (l : List Chunk). getD l (1 + i) noChunk) (zone-chunks-are b e)
         ∙ ap (λ (n : ℕ). getD (first ∷ (map pieceChunk pieces ++ cond b feet [])) n noChunk) (let z : 1 + i ≡ suc i = omega arith in z)
 
     pub rebuilt-piece : (j : ℕ) → j < length ss

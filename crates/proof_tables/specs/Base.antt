@@ -49,10 +49,10 @@ pub record Base (p : Params) (k : Disk) (m : Memory) : Type 0 where
   pub decodes : Decodes p (seen p k) (m .state .missing)
 
 -- where an address is found
-pub data Finds (p : Params) (v : View) (gone : ℕ) (o : Opt Cand) (f : Found) : Type 0 where
-  finds-none : o ≡ none → f ≡ nowhere → Finds p v gone o f
-  finds-here : (c : Cand) → o ≡ some c → CandAt p v gone c → Spot p v gone c → isIn gone (c .drive) ≡ false → f ≡ here (c .place) → Finds p v gone o f
-  finds-away : (c : Cand) → o ≡ some c → CandAt p v gone c → Spot p v gone c → isIn gone (c .drive) ≡ true → f ≡ away (c .place) → Finds p v gone o f
+pub data FindsAt (p : Params) (v : View) (gone : ℕ) (o : Opt Cand) (f : Found) : Type 0 where
+  finds-none : o ≡ none → f ≡ nowhere → FindsAt p v gone o f
+  finds-here : (c : Cand) → o ≡ some c → CandAt p v gone c → Spot p v gone c → isIn gone (c .drive) ≡ false → f ≡ here (c .place) → FindsAt p v gone o f
+  finds-away : (c : Cand) → o ≡ some c → CandAt p v gone c → Spot p v gone c → isIn gone (c .drive) ≡ true → f ≡ away (c .place) → FindsAt p v gone o f
 
 never-word : neverPlace < 256 ^ 4
 never-word = lit< tt
@@ -69,10 +69,10 @@ module _ (p : Params) (r : Ranged p) (v : View) (gone : ℕ) where
   unfolding lookup
   lookup-some tb a q e h = rw (e, ne-eqb q neverPlace (λ x. let z : ⊥ = omega arith in z))
 
-  pub finds : (a : ℕ) → a < p .L → Finds p v gone (best none (candsOf a said)) (lookup p gone (addressTable p said) a)
-  finds a h = go (best none (candsOf a said)) refl
+  pub lookup-finds : (a : ℕ) → a < p .L → FindsAt p v gone (best none (candsOf a said)) (lookup p gone (addressTable p said) a)
+  lookup-finds a h = go (best none (candsOf a said)) refl
     where
-      go : (o : Opt Cand) → best none (candsOf a said) ≡ o → Finds p v gone (best none (candsOf a said)) (lookup p gone (addressTable p said) a)
+      go : (o : Opt Cand) → best none (candsOf a said) ≡ o → FindsAt p v gone (best none (candsOf a said)) (lookup p gone (addressTable p said) a)
       go none e =
           let q : placeOr (best none (candsOf a said)) ≡ neverPlace = ap placeOr e ∙ (unfold placeOr in refl) in
           finds-none e (lookup-none (addressTable p said) a (place-at p said a h (subst (λ (x : ℕ). x < 256 ^ 4) (sym q) never-word) ∙ q))
@@ -88,12 +88,12 @@ module _ (p : Params) (r : Ranged p) (v : View) (gone : ℕ) where
         where
           two : (c : Cand) → best none (candsOf a said) ≡ some c → CandAt p v gone c → Spot p v gone c
               → lookup p gone (addressTable p said) a ≡ cond (isIn gone (c .drive)) (away (c .place)) (here (c .place))
-              → Test (isIn gone (c .drive)) → Finds p v gone (best none (candsOf a said)) (lookup p gone (addressTable p said) a)
+              → Test (isIn gone (c .drive)) → FindsAt p v gone (best none (candsOf a said)) (lookup p gone (addressTable p said) a)
           two c e k t y (yes! b) = finds-away c e k t b (y ∙ cond-true (isIn gone (c .drive)) (away (c .place)) (here (c .place)) b)
           two c e k t y (no! b) = finds-here c e k t b (y ∙ cond-false (isIn gone (c .drive)) (away (c .place)) (here (c .place)) b)
 
   -- no place that is found is bad
-  pub found-clear : (o : Opt Cand) (f : Found) → Finds p v gone o f → foundFaults p v gone f ≡ []
+  pub found-clear : (o : Opt Cand) (f : Found) → FindsAt p v gone o f → foundFaults p v gone f ≡ []
   unfolding foundFaults
   found-clear o f (finds-none e q) = rw q
   found-clear o f (finds-here c e k t b q) = rw q (spot-faults p r v gone c t)
@@ -166,7 +166,7 @@ module _ (p : Params) (r : Ranged p) (v : View) (gone : ℕ) where
         rw (cand-zone p r v gone c k t, eb, q)
 
   -- no decode that is found is bad
-  pub decodes-clear : (o : Opt Cand) (f : Found) → Decodes p v gone → Finds p v gone o f → decodeFaults p v gone (compactTable p (segments p v gone)) f ≡ []
+  pub decodes-clear : (o : Opt Cand) (f : Found) → Decodes p v gone → FindsAt p v gone o f → decodeFaults p v gone (compactTable p (segments p v gone)) f ≡ []
   unfolding decodeFaults
   decodes-clear o f w (finds-none e q) = rw q
   decodes-clear o f w (finds-here c e k t b q) = rw q

@@ -15,28 +15,28 @@ use Rattle.law_drives.specs.Range.{capacity-over}
 use Rattle.law_drives.specs.Settled.{SameZones}
 use Rattle.law_drives.specs.States.{StateOk}
 use Rattle.law_drives.specs.Tidy.{spareAt}
-use Rattle.proof_tables.specs.Run.{flies, awaits, Flight, Open}
+use Rattle.proof_tables.specs.Run.{flies, awaits, SlotFlies, OpenZone}
 
 -- ---- the open segment, where its zones are the same
 
 module _ (p : Params) (v u : View) (st : State) (z : ℕ) (sm : SameZones p v u z) where
-  at-pointer : (d : ℕ) → d < p .N → pointerAt v d z ≡ pointerAt u d z
+  pointer-carried : (d : ℕ) → d < p .N → pointerAt v d z ≡ pointerAt u d z
   unfolding pointerAt
-  at-pointer d h = ap (λ (x : Zone). x .pointer) (sm d h)
+  pointer-carried d h = ap (λ (x : Zone). x .pointer) (sm d h)
 
   at-spare : (d o : ℕ) → d < p .N → spareAt p v d z o ≡ spareAt p u d z o
   at-spare d o h = ap (λ (x : Zone). recordIn p false x o) (sm d h)
 
-  flight-view : (i : ℕ) → Flight p v st z i → Flight p u st z i
+  flight-view : (i : ℕ) → SlotFlies p v st z i → SlotFlies p u st z i
   flight-view i f = record {
     begun = f .begun;
-    group-low = λ d h. subst (λ (x : ℕ). group p (stripeIn st i) * p .G < x) (at-pointer d h) (f .group-low d h);
+    group-low = λ d h. subst (λ (x : ℕ). group p (stripeIn st i) * p .G < x) (pointer-carried d h) (f .group-low d h);
     group-high = f .group-high;
-    not-there = λ d o h q x y. f .not-there d o h q (subst (λ (n : ℕ). 1 + o < n) (sym (at-pointer d h)) x) (ap (λ (e : Rec). e .stripe) (at-spare d o h) ∙ y);
+    not-there = λ d o h q x y. f .not-there d o h q (subst (λ (n : ℕ). 1 + o < n) (sym (pointer-carried d h)) x) (ap (λ (e : Rec). e .stripe) (at-spare d o h) ∙ y);
     lands = λ d h q.
         let l = f .lands d h q in
         record {
-          lies = subst (λ (x : ℕ). 1 + offsetIn st i d < x) (at-pointer d h) (l .lies);
+          lies = subst (λ (x : ℕ). 1 + offsetIn st i d < x) (pointer-carried d h) (l .lies);
           of-stripe = ap (λ (e : Rec). e .stripe) (sym (at-spare d (offsetIn st i d) h)) ∙ l .of-stripe;
           not-before = λ o x y. l .not-before o x (ap (λ (e : Rec). e .stripe) (at-spare d o h) ∙ y);
           is-entry = λ y. (l .is-entry y .0, sym (at-spare d (offsetIn st i d) h) ∙ l .is-entry y .1);
@@ -44,17 +44,17 @@ module _ (p : Params) (v u : View) (st : State) (z : ℕ) (sm : SameZones p v u 
     entries-low = f .entries-low;
   }
 
-  pub open-view : (busy : ℕ → Bool) → Open p v st busy z → Open p u st busy z
+  pub open-view : (busy : ℕ → Bool) → OpenZone p v st busy z → OpenZone p u st busy z
   open-view busy o = record {
     opened-zone = o .opened-zone;
-    has-header = λ d h. subst (λ (x : ℕ). 1 ≤ x) (at-pointer d h) (o .has-header d h);
-    count = λ d h. ap (λ (x : ℕ). x + tally (awaits st busy d) slots) (sym (at-pointer d h)) ∙ o .count d h;
-    below-next = λ d e h q. subst (λ (x : Rec). x .stripe < st .next) (at-spare d e h) (o .below-next d e h (subst (λ (x : ℕ). 1 + e < x) (sym (at-pointer d h)) q));
+    has-header = λ d h. subst (λ (x : ℕ). 1 ≤ x) (pointer-carried d h) (o .has-header d h);
+    count = λ d h. ap (λ (x : ℕ). x + tally (awaits st busy d) slots) (sym (pointer-carried d h)) ∙ o .count d h;
+    below-next = λ d e h q. subst (λ (x : Rec). x .stripe < st .next) (at-spare d e h) (o .below-next d e h (subst (λ (x : ℕ). 1 + e < x) (sym (pointer-carried d h)) q));
     flight = λ i h q. flight-view i (o .flight i h q);
     once = o .once;
     goes-on = o .goes-on;
   }
 
 -- the pointers of the open segment are at data blocks
-pub open-short : (p : Params) (r : Ranged p) (v : View) (st : State) (z : ℕ) → StateOk p st → Open p v st (flies st) z → (d : ℕ) → d < p .N → pointerAt v d z < capacity p
+pub open-short : (p : Params) (r : Ranged p) (v : View) (st : State) (z : ℕ) → StateOk p st → OpenZone p v st (flies st) z → (d : ℕ) → d < p .N → pointerAt v d z < capacity p
 open-short p r v st z so o d h = let c = o .count d h in let n = so .next-low in let l = capacity-over p r in omega arith

@@ -21,12 +21,12 @@ use Rattle.law_drives.specs.Tests.{or-true-right, eqb-self}
 use Rattle.law_drives.specs.Tidy.{spareAt, Tidy}
 use Rattle.proof_tables.specs.Filling.{begin-ok}
 use Rattle.proof_tables.specs.Opened.{busy-same, add-open, begin-open}
-use Rattle.proof_tables.specs.Run.{flies, awaits, LandedAt, Flight, Open, Lists, Healthy}
-use Rattle.proof_tables.specs.Slots.{begin-filled, begin-filled-other, begin-lists, add-filled, add-filled-other, add-lists, free-is, some-flies}
+use Rattle.proof_tables.specs.Run.{flies, awaits, LandedAt, SlotFlies, OpenZone, Lists, HealthyState}
+use Rattle.proof_tables.specs.Slots.{filled-begun, begin-filled-other, begin-lists, filled-added, add-filled-other, add-lists, free-is, some-flies}
 use Rattle.proof_tables.specs.Tallies.{tally-cong}
 
 -- an eighth that is the same in both
-pub record SameSlot (st su : State) (i : ℕ) : Type 0 where
+pub record CarriedSlot (st su : State) (i : ℕ) : Type 0 where
   pub same-stripe : stripeIn st i ≡ stripeIn su i
   pub same-filled : filledIn st i ≡ filledIn su i
   pub same-landed : landedIn st i ≡ landedIn su i
@@ -35,10 +35,10 @@ pub record SameSlot (st su : State) (i : ℕ) : Type 0 where
   pub same-next : st .next ≡ su .next
 
 abbrev pub SameSlots : State → State → Type 0
-SameSlots st su = (i : ℕ) → SameSlot st su i
+SameSlots st su = (i : ℕ) → CarriedSlot st su i
 
 module _ (p : Params) (v : View) (st su : State) (z : ℕ) where
-  landed-same : (i d : ℕ) → SameSlot st su i → LandedAt p v st z i d → LandedAt p v su z i d
+  landed-same : (i d : ℕ) → CarriedSlot st su i → LandedAt p v st z i d → LandedAt p v su z i d
   landed-same i d s l = record {
     lies = subst (λ (x : ℕ). 1 + x < pointerAt v d z) (s .same-offsets d) (l .lies);
     of-stripe = ap (λ (x : ℕ). spareAt p v d z x .stripe) (sym (s .same-offsets d)) ∙ l .of-stripe ∙ s .same-stripe;
@@ -51,7 +51,7 @@ module _ (p : Params) (v : View) (st su : State) (z : ℕ) where
         );
   }
 
-  pub flight-same : (i : ℕ) → SameSlot st su i → Flight p v st z i → Flight p v su z i
+  pub flight-same : (i : ℕ) → CarriedSlot st su i → SlotFlies p v st z i → SlotFlies p v su z i
   flight-same i s f = record {
     begun = subst (λ (x : ℕ). x < su .next) (s .same-stripe) (subst (λ (x : ℕ). stripeIn st i < x) (s .same-next) (f .begun));
     group-low = subst (λ (x : ℕ). (d : ℕ) → d < p .N → group p x * p .G < pointerAt v d z) (s .same-stripe) (f .group-low);
@@ -61,8 +61,8 @@ module _ (p : Params) (v : View) (st su : State) (z : ℕ) where
     entries-low = λ e h. subst (λ (x : Rec). (x .address < 256 ^ 8) × (x .stamp < 256 ^ 8)) (s .same-entry e) (f .entries-low e (subst (λ (x : ℕ). e < x) (sym (s .same-filled)) h));
   }
 
-  open-same : SameSlots st su → (busy : ℕ → Bool) → Open p v st busy z → Open p v su busy z
-  open-same s busy o = record {
+  open-zone-carried : SameSlots st su → (busy : ℕ → Bool) → OpenZone p v st busy z → OpenZone p v su busy z
+  open-zone-carried s busy o = record {
     opened-zone = o .opened-zone;
     has-header = o .has-header;
     count =
@@ -79,8 +79,8 @@ module _ (p : Params) (v : View) (st su : State) (z : ℕ) where
 pub same-flies : (st su : State) → SameSlots st su → (i : ℕ) → flies st i ≡ flies su i
 same-flies st su s i = ap not (free-is st i ∙ ap (λ (x : ℕ). eqb x 0) (s i .same-filled) ∙ sym (free-is su i))
 
-pub open-carried : (p : Params) (v : View) (st su : State) (z : ℕ) → SameSlots st su → Open p v st (flies st) z → Open p v su (flies su) z
-open-carried p v st su z s o = busy-same p v su (flies st) (flies su) z (λ i h. same-flies st su s i) (open-same p v st su z s (flies st) o)
+pub open-carried : (p : Params) (v : View) (st su : State) (z : ℕ) → SameSlots st su → OpenZone p v st (flies st) z → OpenZone p v su (flies su) z
+open-carried p v st su z s o = busy-same p v su (flies st) (flies su) z (λ i h. same-flies st su s i) (open-zone-carried p v st su z s (flies st) o)
 
 -- ---- another stamp
 
@@ -88,7 +88,7 @@ stamp-slots : (st : State) (t : ℕ) → SameSlots st (setStamp st t)
 unfolding setStamp stripeIn filledIn landedIn offsetIn entryIn
 stamp-slots st t i = record { same-stripe = refl; same-filled = refl; same-landed = refl; same-offsets = λ d. refl; same-entry = λ e. refl; same-next = refl }
 
-pub stamp-healthy : (p : Params) (v : View) (st : State) (t : ℕ) → t < 256 ^ 8 → Healthy p v st → Healthy p v (setStamp st t)
+pub stamp-healthy : (p : Params) (v : View) (st : State) (t : ℕ) → t < 256 ^ 8 → HealthyState p v st → HealthyState p v (setStamp st t)
 stamp-healthy p v st t ht h = record {
   tidy = subst (λ (x : ℕ). Tidy p v x) (sym serial-same) (h .tidy);
   sealed-but = λ z hz q. subst (λ (x : ℕ). (x ≡ suc z) ⊎ ((d : ℕ) → d < p .N → pointerAt v d z ≡ capacity p)) (sym opened-same) (h .sealed-but z hz q);
@@ -133,9 +133,9 @@ stamp-ok p st t s = record {
 
 -- ---- a stripe begins, with its first entry
 
-pub begin-healthy : (p : Params) (r : Ranged p) (v : View) (st : State) (z i a t w : ℕ) → Healthy p v st → StateOk p st → st .opened ≡ suc z → i < 8 → flies st i ≡ false → st .next < p .S
+pub begin-healthy : (p : Params) (r : Ranged p) (v : View) (st : State) (z i a t w : ℕ) → HealthyState p v st → StateOk p st → st .opened ≡ suc z → i < 8 → flies st i ≡ false → st .next < p .S
     → ((j : ℕ) → j < 8 → flies st j ≡ true → group p (stripeIn st j) ≡ group p (st .next)) → a < 256 ^ 8 → t < 256 ^ 8
-    → Healthy p v (addEntry (beginStripe st i) i a t w)
+    → HealthyState p v (addEntry (beginStripe st i) i a t w)
 begin-healthy p r v st z i a t w h so op hi fi nx gr ha ht = record {
   tidy = subst (λ (x : ℕ). Tidy p v x) (sym serial-same) (h .tidy);
   sealed-but = λ y hy q. subst (λ (x : ℕ). (x ≡ suc y) ⊎ ((d : ℕ) → d < p .N → pointerAt v d y ≡ capacity p)) (sym opened-same) (h .sealed-but y hy q);
@@ -173,18 +173,19 @@ begin-healthy p r v st z i a t w h so op hi fi nx gr ha ht = record {
 
         go : Dec (j ≡ i) → flies st j || eqb j i ≡ flies sw j
         go (yes e) = or-true-right (flies st j) (eqb j i) (eq-eqb j i e)
-            ∙ sym (some-flies sw j (λ q. let x : filledIn sw j ≡ suc (filledIn su i) = ap (filledIn sw) e ∙ add-filled su (begin-lists st (h .lists) i hi) i hi a t w in let y : ⊥ = omega arith in y))
+            ∙ sym (some-flies sw j (λ q. let x : filledIn sw j ≡ suc (filledIn su i) = ap (filledIn sw) e ∙ filled-added su (begin-lists st (h .lists) i hi) i hi a t w in
+            let y : ⊥ = omega arith in y))
         go (no n) = ap (λ (b : Bool). flies st j || b) (ne-eqb j i n) ∙ orf (flies st j)
             ∙ ap not (free-is st j
             ∙ ap (λ (x : ℕ). eqb x 0)
             (sym (add-filled-other su (begin-lists st (h .lists) i hi) i hi a t w j n ∙ begin-filled-other st (h .lists) i hi j n))
             ∙ sym (free-is sw j))
 
-    opened-at : (y : ℕ) → st .opened ≡ suc y → Open p v sw (flies sw) y
+    opened-at : (y : ℕ) → st .opened ≡ suc y → OpenZone p v sw (flies sw) y
     opened-at y q =
         let o = h .opens-at y q in
-        let b : Open p v su more! y = begin-open p r v st (h .lists) (flies st) y i hi fi nx gr o in
+        let b : OpenZone p v su more! y = begin-open p r v st (h .lists) (flies st) y i hi fi nx gr o in
         let k = begin-ok p r st (h .lists) so i hi nx in
         busy-same p v sw more! (flies sw) y same!
         (add-open p r v su (begin-lists st (h .lists) i hi) more! y i a t w hi (or-true-right (flies st i) (eqb i i) (eqb-self i))
-        (let e = begin-filled st (h .lists) i hi in let c = data-count p r in omega (arith, r .drives-low)) ha ht b (λ j hj. k .slots-ok j hj .filled-ok))
+        (let e = filled-begun st (h .lists) i hi in let c = data-count p r in omega (arith, r .drives-low)) ha ht b (λ j hj. k .slots-ok j hj .filled-ok))

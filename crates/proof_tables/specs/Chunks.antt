@@ -30,7 +30,6 @@ use Rattle.spec.specs.Rank.{Cand, best, candsOf}
 use Rattle.spec.specs.Read.Found.{away}
 use Rattle.spec.specs.Segments.{headerAt, remaining, Segment, recordsIn, segmentOf, segments, recsOn, offsetOn, hasChunk, counts, storedRec, recOf, offsetOf}
 use Rattle.spec.specs.Segments.{candOf, candidates, addressTable, compactRow, compactTable}
-use Rattle.law_basic.specs.Be.{room}
 use Rattle.law_basic.specs.Geometry.{Ranged, compact-within, position-drive, drive-is-data, data-drive-lt}
 use Rattle.law_basic.specs.Mask.{isIn-empty, isIn-with}
 use Rattle.law_basic.specs.Ranges.{Test, test, and-left, and-right, and-both}
@@ -52,15 +51,15 @@ use Rattle.law_drives.specs.Tables.{addresses-cong, row-at, row-past, grid-ext,
 use Rattle.law_drives.specs.Tests.{clash, and-false-left, and-false-right, or-true-left, not-so, cond-true, cond-false, eqb-self}
 use Rattle.law_drives.specs.Tidy.{spareAt, usedAt, Tidy}
 use Rattle.law_drives.specs.Zones.{Shaped, hitsAt, zoneStore, hits, zone-stored, Room, put-pointer, Roomy}
-use Rattle.proof_tables.specs.Carried.{SameSlot, flight-same}
-use Rattle.proof_tables.specs.Live.{Holds, table-holds}
-use Rattle.proof_tables.specs.Live.Holds.{holds-none, holds-some}
+use Rattle.proof_tables.specs.Carried.{CarriedSlot, flight-same}
+use Rattle.proof_tables.specs.Live.{EntryHolds, table-holds}
+use Rattle.proof_tables.specs.Live.EntryHolds.{holds-none, holds-some}
 use Rattle.proof_tables.specs.Opened.{busy-same}
 use Rattle.proof_tables.specs.Pointing.{pointed-is}
 use Rattle.proof_tables.specs.Ranks.{same-best}
 use Rattle.proof_tables.specs.Reclaiming.{cand-record}
-use Rattle.proof_tables.specs.Run.{flies, awaits, LandedAt, Flight, Open, Lists, Healthy}
-use Rattle.proof_tables.specs.Slots.{cell-same, mark-landed, mark-landed-other, mark-offset, mark-offset-other, mark-lists, free-filled, free-filled-other, free-lists, free-is, none-flies}
+use Rattle.proof_tables.specs.Run.{flies, awaits, LandedAt, SlotFlies, OpenZone, Lists, HealthyState}
+use Rattle.proof_tables.specs.Slots.{cell-same, mark-landed, mark-landed-other, mark-offset, mark-offset-other, mark-lists, filled-freed, free-filled-other, free-lists, free-is, none-flies}
 use Rattle.proof_tables.specs.Tallies.{tally-cong, tally-none, tally-some, none-tally, tally-more}
 
 -- two eighths apart
@@ -68,18 +67,18 @@ pub cells-differ : (i j d e : ℕ) → d < 8 → e < 8 → (j ≡ i → ⊥) ⊎
 cells-differ i j d e hd he (inl n) q = n (cell-same j i e d he hd q .0)
 cells-differ i j d e hd he (inr n) q = n (cell-same j i e d he hd q .1)
 
-module _ (p : Params) (r : Ranged p) (v : View) (sh : Shaped p v) (st : State) (h : Healthy p v st) (so : StateOk p st) (z : ℕ) (oz : st .opened ≡ suc z)
+module _ (p : Params) (r : Ranged p) (v : View) (sh : Shaped p v) (st : State) (h : HealthyState p v st) (so : StateOk p st) (z : ℕ) (oz : st .opened ≡ suc z)
     (d i : ℕ) (hd : d < p .N) (hi : i < 8) (fi : flies st i ≡ true) (rd : ready p st i d ≡ true) (b : List ℕ) (lb : length b ≡ p .B) where
   abbrev s : ℕ
   s = stripeIn st i
 
-  abbrev op : Open p v st (flies st) z
+  abbrev op : OpenZone p v st (flies st) z
   op = h .opens-at z oz
 
   hz : z < p .Z
   hz = op .opened-zone
 
-  fl : Flight p v st z i
+  fl : SlotFlies p v st z i
   fl = op .flight i hi fi
 
   -- ---- the pointer
@@ -299,8 +298,8 @@ module _ (p : Params) (r : Ranged p) (v : View) (sh : Shaped p v) (st : State) (
   ls : Lists st
   ls = h .lists
 
-  one-more : 1 + o ≡ pointerAt v d z
-  one-more = let a = pointer-some in omega arith
+  offset-next : 1 + o ≡ pointerAt v d z
+  offset-next = let a = pointer-some in omega arith
 
   -- which drives have the stripe now
   pub mask-now : (e : ℕ) → e < p .N → isIn (landedIn st1 i) e ≡ (eqb e d || isIn (landedIn st i) e)
@@ -315,8 +314,8 @@ module _ (p : Params) (r : Ranged p) (v : View) (sh : Shaped p v) (st : State) (
   mask-here : isIn (landedIn st1 i) d ≡ true
   mask-here = mask-now d hd ∙ or-true-left (eqb d d) (isIn (landedIn st i) d) (eqb-self d)
 
-  stripe1 : (j : ℕ) → stripeIn st1 j ≡ stripeIn st j
-  stripe1 j = unfold stripeIn markLanded in refl
+  landed-stripe : (j : ℕ) → stripeIn st1 j ≡ stripeIn st j
+  landed-stripe j = unfold stripeIn markLanded in refl
 
   filled1 : (j : ℕ) → filledIn st1 j ≡ filledIn st j
   filled1 j = unfold filledIn markLanded in refl
@@ -342,14 +341,14 @@ module _ (p : Params) (r : Ranged p) (v : View) (sh : Shaped p v) (st : State) (
       let same : (x : ℕ) → 1 + x < pointerAt v e z → spareAt p v1 e z x ≡ spareAt p v e z x = λ x y. go x y (ℕ-discrete d e) in
       record {
         lies = subst (λ (x : ℕ). 1 + x < pointerAt v1 e z) (sym eo) (let a = l .lies in let c = pointer-grows e he in omega arith);
-        of-stripe = ap (λ (x : ℕ). spareAt p v1 e z x .stripe) eo ∙ ap (λ (x : Rec). x .stripe) (same (offsetIn st j e) (l .lies)) ∙ l .of-stripe ∙ sym (stripe1 j);
+        of-stripe = ap (λ (x : ℕ). spareAt p v1 e z x .stripe) eo ∙ ap (λ (x : Rec). x .stripe) (same (offsetIn st j e) (l .lies)) ∙ l .of-stripe ∙ sym (landed-stripe j);
         not-before = λ x y q.
             let y2 : x < offsetIn st j e = subst (λ (m : ℕ). x < m) eo y in
             let y3 : 1 + x < pointerAt v e z = (let a = l .lies in omega arith) in
-            l .not-before x y2 (ap (λ (m : Rec). m .stripe) (sym (same x y3)) ∙ q ∙ stripe1 j);
+            l .not-before x y2 (ap (λ (m : Rec). m .stripe) (sym (same x y3)) ∙ q ∙ landed-stripe j);
         is-entry = λ q.
-            let (x, y) = l .is-entry (ap (λ (n : ℕ). isData p n e) (sym (stripe1 j)) ∙ q) in
-            let ep : dataPosition p (stripeIn st1 j) e ≡ dataPosition p (stripeIn st j) e = ap (λ (n : ℕ). dataPosition p n e) (stripe1 j) in (
+            let (x, y) = l .is-entry (ap (λ (n : ℕ). isData p n e) (sym (landed-stripe j)) ∙ q) in
+            let ep : dataPosition p (stripeIn st1 j) e ≡ dataPosition p (stripeIn st j) e = ap (λ (n : ℕ). dataPosition p n e) (landed-stripe j) in (
               subst (λ (n : ℕ). n < filledIn st1 j) (sym ep) (subst (λ (n : ℕ). dataPosition p (stripeIn st j) e < n) (sym (filled1 j)) x),
               ap (spareAt p v1 e z) eo ∙ same (offsetIn st j e) (l .lies) ∙ y ∙ sym (ap (entryIn st1 j) ep ∙ entry1 j (dataPosition p (stripeIn st j) e)),
             );
@@ -364,28 +363,28 @@ module _ (p : Params) (r : Ranged p) (v : View) (sh : Shaped p v) (st : State) (
   lands-now =
       let eo : offsetIn st1 i d ≡ o = mark-offset st ls i hi d o d8 in
       record {
-        lies = subst (λ (x : ℕ). 1 + x < pointerAt v1 d z) (sym eo) (let a = one-more in let c = chunk-pointer in omega arith);
-        of-stripe = ap (λ (x : ℕ). spareAt p v1 d z x .stripe) eo ∙ ap (λ (x : Rec). x .stripe) (spare-new o one-more) ∙ read-stripe ∙ sym (stripe1 i);
+        lies = subst (λ (x : ℕ). 1 + x < pointerAt v1 d z) (sym eo) (let a = offset-next in let c = chunk-pointer in omega arith);
+        of-stripe = ap (λ (x : ℕ). spareAt p v1 d z x .stripe) eo ∙ ap (λ (x : Rec). x .stripe) (spare-new o offset-next) ∙ read-stripe ∙ sym (landed-stripe i);
         not-before = λ x y q.
-            let y2 : 1 + x < pointerAt v d z = (let e = subst (λ (m : ℕ). x < m) eo y in let a = one-more in omega arith) in
-            fl .not-there d x hd not-landed y2 (ap (λ (m : Rec). m .stripe) (sym (spare-old x y2)) ∙ q ∙ stripe1 i);
+            let y2 : 1 + x < pointerAt v d z = (let e = subst (λ (m : ℕ). x < m) eo y in let a = offset-next in omega arith) in
+            fl .not-there d x hd not-landed y2 (ap (λ (m : Rec). m .stripe) (sym (spare-old x y2)) ∙ q ∙ landed-stripe i);
         is-entry = λ q.
-            let q2 : isData p s d ≡ true = ap (λ (n : ℕ). isData p n d) (sym (stripe1 i)) ∙ q in
-            let ep : dataPosition p (stripeIn st1 i) d ≡ dataPosition p s d = ap (λ (n : ℕ). dataPosition p n d) (stripe1 i) in (
+            let q2 : isData p s d ≡ true = ap (λ (n : ℕ). isData p n d) (sym (landed-stripe i)) ∙ q in
+            let ep : dataPosition p (stripeIn st1 i) d ≡ dataPosition p s d = ap (λ (n : ℕ). dataPosition p n d) (landed-stripe i) in (
               subst (λ (n : ℕ). n < filledIn st1 i) (sym ep) (subst (λ (n : ℕ). dataPosition p s d < n) (sym (filled1 i)) (position-filled q2)),
-              ap (spareAt p v1 d z) eo ∙ spare-new o one-more ∙ read-entry q2 ∙ sym (ap (entryIn st1 i) ep ∙ entry1 i (dataPosition p s d)),
+              ap (spareAt p v1 d z) eo ∙ spare-new o offset-next ∙ read-entry q2 ∙ sym (ap (entryIn st1 i) ep ∙ entry1 i (dataPosition p s d)),
             );
       }
 
-  flight-else : (j : ℕ) → j < 8 → flies st j ≡ true → (j ≡ i → ⊥) → Flight p v1 st1 z j
+  flight-else : (j : ℕ) → j < 8 → flies st j ≡ true → (j ≡ i → ⊥) → SlotFlies p v1 st1 z j
   flight-else j hj fj n =
       let f = op .flight j hj fj in
       let el = mark-landed-other st ls i hi d o d8 j n in
       record {
-        begun = subst (λ (x : ℕ). x < st1 .next) (sym (stripe1 j)) (subst (λ (x : ℕ). stripeIn st j < x) (sym next1) (f .begun));
-        group-low = λ e he. subst (λ (x : ℕ). group p x * p .G < pointerAt v1 e z) (sym (stripe1 j)) (let a = f .group-low e he in let c = pointer-grows e he in omega arith);
-        group-high = subst (λ (x : ℕ). st1 .next ≤ suc (group p x) * p .G) (sym (stripe1 j)) (subst (λ (x : ℕ). x ≤ suc (group p (stripeIn st j)) * p .G) (sym next1) (f .group-high));
-        not-there = λ e x he q y w. away e x he (ap (λ (m : ℕ). isIn m e) (sym el) ∙ q) y (w ∙ stripe1 j) (ℕ-discrete d e);
+        begun = subst (λ (x : ℕ). x < st1 .next) (sym (landed-stripe j)) (subst (λ (x : ℕ). stripeIn st j < x) (sym next1) (f .begun));
+        group-low = λ e he. subst (λ (x : ℕ). group p x * p .G < pointerAt v1 e z) (sym (landed-stripe j)) (let a = f .group-low e he in let c = pointer-grows e he in omega arith);
+        group-high = subst (λ (x : ℕ). st1 .next ≤ suc (group p x) * p .G) (sym (landed-stripe j)) (subst (λ (x : ℕ). x ≤ suc (group p (stripeIn st j)) * p .G) (sym next1) (f .group-high));
+        not-there = λ e x he q y w. away e x he (ap (λ (m : ℕ). isIn m e) (sym el) ∙ q) y (w ∙ landed-stripe j) (ℕ-discrete d e);
         lands = λ e he q. was-landed j e he (inl n) (f .lands e he (ap (λ (m : ℕ). isIn m e) (sym el) ∙ q));
         entries-low = λ e y. subst (λ (x : Rec). (x .address < 256 ^ 8) × (x .stamp < 256 ^ 8)) (sym (entry1 j e)) (f .entries-low e (subst (λ (x : ℕ). e < x) (filled1 j) y));
       }
@@ -402,12 +401,12 @@ module _ (p : Params) (r : Ranged p) (v : View) (sh : Shaped p v) (st : State) (
           two (inl l) = op .flight j hj fj .not-there d x hd (subst (λ (m : ℕ). isIn (landedIn st j) m ≡ false) (sym a) q) l (ap (λ (m : Rec). m .stripe) (sym (spare-old x l)) ∙ w2)
           two (inr l) = n (op .once j i hj hi fj fi (sym w2 ∙ ap (λ (m : Rec). m .stripe) (spare-new x l) ∙ read-stripe))
 
-  flight-here : Flight p v1 st1 z i
+  flight-here : SlotFlies p v1 st1 z i
   flight-here = record {
-    begun = subst (λ (x : ℕ). x < st1 .next) (sym (stripe1 i)) (subst (λ (x : ℕ). s < x) (sym next1) (fl .begun));
-    group-low = λ e he. subst (λ (x : ℕ). group p x * p .G < pointerAt v1 e z) (sym (stripe1 i)) (let a = fl .group-low e he in let c = pointer-grows e he in omega arith);
-    group-high = subst (λ (x : ℕ). st1 .next ≤ suc (group p x) * p .G) (sym (stripe1 i)) (subst (λ (x : ℕ). x ≤ suc (group p s) * p .G) (sym next1) (fl .group-high));
-    not-there = λ e x he q y w. away e x he q y (w ∙ stripe1 i) (ℕ-discrete d e);
+    begun = subst (λ (x : ℕ). x < st1 .next) (sym (landed-stripe i)) (subst (λ (x : ℕ). s < x) (sym next1) (fl .begun));
+    group-low = λ e he. subst (λ (x : ℕ). group p x * p .G < pointerAt v1 e z) (sym (landed-stripe i)) (let a = fl .group-low e he in let c = pointer-grows e he in omega arith);
+    group-high = subst (λ (x : ℕ). st1 .next ≤ suc (group p x) * p .G) (sym (landed-stripe i)) (subst (λ (x : ℕ). x ≤ suc (group p s) * p .G) (sym next1) (fl .group-high));
+    not-there = λ e x he q y w. away e x he q y (w ∙ landed-stripe i) (ℕ-discrete d e);
     lands = λ e he q. on e he q (ℕ-discrete d e);
     entries-low = λ e y. subst (λ (x : Rec). (x .address < 256 ^ 8) × (x .stamp < 256 ^ 8)) (sym (entry1 i e)) (fl .entries-low e (subst (λ (x : ℕ). e < x) (filled1 i) y));
   }
@@ -420,19 +419,19 @@ module _ (p : Params) (r : Ranged p) (v : View) (sh : Shaped p v) (st : State) (
       on e he q (yes a) = subst (λ (m : ℕ). LandedAt p v1 st1 z i m) a lands-now
       on e he q (no a) = was-landed i e he (inr (λ x. a (sym x))) (fl .lands e he (sym (mask-else e he a) ∙ q))
 
-  pub chunk-open : Open p v1 st1 (flies st) z
+  pub chunk-open : OpenZone p v1 st1 (flies st) z
   chunk-open = record {
     opened-zone = hz;
     has-header = chunk-grows .used-now;
     count = λ e he. counts! e he (ℕ-discrete d e);
     below-next = λ e x he y. subst (λ (m : ℕ). spareAt p v1 e z x .stripe < m) (sym next1) (under e x he y (ℕ-discrete d e));
     flight = λ j hj q. go j hj q (ℕ-discrete j i);
-    once = λ j k hj hk x y e. op .once j k hj hk x y (sym (stripe1 j) ∙ e ∙ stripe1 k);
+    once = λ j k hj hk x y e. op .once j k hj hk x y (sym (landed-stripe j) ∙ e ∙ landed-stripe k);
     goes-on = λ q. op .goes-on (sym next1 ∙ q);
   }
     where
-      go : (j : ℕ) → j < 8 → flies st j ≡ true → Dec (j ≡ i) → Flight p v1 st1 z j
-      go j hj q (yes e) = subst (λ (x : ℕ). Flight p v1 st1 z x) (sym e) flight-here
+      go : (j : ℕ) → j < 8 → flies st j ≡ true → Dec (j ≡ i) → SlotFlies p v1 st1 z j
+      go j hj q (yes e) = subst (λ (x : ℕ). SlotFlies p v1 st1 z x) (sym e) flight-here
       go j hj q (no n) = flight-else j hj q n
 
       under : (e x : ℕ) → e < p .N → 1 + x < pointerAt v1 e z → Dec (d ≡ e) → spareAt p v1 e z x .stripe < st .next
@@ -497,8 +496,8 @@ module _ (p : Params) (r : Ranged p) (v : View) (sh : Shaped p v) (st : State) (
   pub open-after : sealedIn p v1 0 z ≡ false
   open-after = unsealed! v1 short-after
 
-  stored! : (u : View) (e x : ℕ) → pointerAt u e z ≤ 1 + p .S → 1 + x < pointerAt u e z → x < dataStored p (zoneAt u e z)
-  stored! u e x l m = low-data p (zoneAt u e z) x (omega arith) (as! m)
+  data-stored-below : (u : View) (e x : ℕ) → pointerAt u e z ≤ 1 + p .S → 1 + x < pointerAt u e z → x < dataStored p (zoneAt u e z)
+  data-stored-below u e x l m = low-data p (zoneAt u e z) x (omega arith) (as! m)
     where
       as! : 1 + x < pointerAt u e z → 1 + x < zoneAt u e z .pointer
       as! m = unfold pointerAt in m
@@ -523,23 +522,23 @@ module _ (p : Params) (r : Ranged p) (v : View) (sh : Shaped p v) (st : State) (
       go (yes q) = subst (λ (m : ℕ). spareAt p v1 m z x ≡ spareAt p v m z x) q (spare-old x (subst (λ (m : ℕ). 1 + x < pointerAt v m z) (sym q) l))
       go (no n) = spare-else e x he n
 
-  by-spare : (u : View) (e x : ℕ) → sealedIn p u 0 z ≡ false → recordIn p (sealedIn p u 0 z) (zoneAt u e z) x ≡ spareAt p u e z x
-  by-spare u e x q = ap (λ (w : Bool). recordIn p w (zoneAt u e z) x) q
+  unsealed-by-spare : (u : View) (e x : ℕ) → sealedIn p u 0 z ≡ false → recordIn p (sealedIn p u 0 z) (zoneAt u e z) x ≡ spareAt p u e z x
+  unsealed-by-spare u e x q = ap (λ (w : Bool). recordIn p w (zoneAt u e z) x) q
 
-  pub record Keeps (t e : ℕ) : Type 0 where
+  pub record KeepsChunk (t e : ℕ) : Type 0 where
     pub has-it : hasChunk seg1 t e ≡ true
     pub same-offset! : offsetOn seg0 e t ≡ offsetOn seg1 e t
     pub same-record! : storedRec seg0 t e ≡ storedRec seg1 t e
 
   -- a chunk that was there
-  keeps : (t e : ℕ) → e < p .N → hasChunk seg0 t e ≡ true → Keeps t e
-  keeps t e he c =
+  chunk-keeps : (t e : ℕ) → e < p .N → hasChunk seg0 t e ≡ true → KeepsChunk t e
+  chunk-keeps t e he c =
       let k = chunk-at p v 0 z e t he (isIn-empty e) c in
       let x = offsetOn seg0 e t in
       let l : 1 + x < pointerAt v e z = below! v e x (k .stored-there) in
-      let l1 : x < dataStored p (zoneAt v1 e z) = stored! v1 e x (short-after e he) (let a = pointer-grows e he in omega arith) in
+      let l1 : x < dataStored p (zoneAt v1 e z) = data-stored-below v1 e x (short-after e he) (let a = pointer-grows e he in omega arith) in
       let same : (y : ℕ) → 1 + y < pointerAt v e z → recordIn p (sealedIn p v1 0 z) (zoneAt v1 e z) y ≡ recordIn p (sealedIn p v 0 z) (zoneAt v e z) y =
-      λ y m. by-spare v1 e y open-after ∙ kept-spare e y he m ∙ sym (by-spare v e y open-before) in
+      λ y m. unsealed-by-spare v1 e y open-after ∙ kept-spare e y he m ∙ sym (unsealed-by-spare v e y open-before) in
       let st! : recordIn p (sealedIn p v1 0 z) (zoneAt v1 e z) x .stripe ≡ t = ap (λ (m : Rec). m .stripe) (same x l) ∙ k .its-stripe in
       let eo : offsetOn seg1 e t ≡ x = offset-is p v1 0 z e t x he (isIn-empty e) l1 st! (λ y m q. k .first y m (ap (λ (a : Rec). a .stripe) (sym (same y (omega arith))) ∙ q)) in
       let h1 : hasChunk seg1 t e ≡ true = has-chunk p v1 0 z e t x he (isIn-empty e) l1 st! in
@@ -555,9 +554,9 @@ module _ (p : Params) (r : Ranged p) (v : View) (sh : Shaped p v) (st : State) (
       let k = chunk-at p v1 0 z e t he (isIn-empty e) c in
       let x = offsetOn seg1 e t in
       let l : 1 + x < pointerAt v1 e z = below! v1 e x (k .stored-there) in
-      let q : spareAt p v1 e z x .stripe ≡ t = ap (λ (m : Rec). m .stripe) (sym (by-spare v1 e x open-after)) ∙ k .its-stripe in
+      let q : spareAt p v1 e z x .stripe ≡ t = ap (λ (m : Rec). m .stripe) (sym (unsealed-by-spare v1 e x open-after)) ∙ k .its-stripe in
       let m : 1 + x < pointerAt v e z = go x l q (ℕ-discrete d e) in
-      has-chunk p v 0 z e t x he (isIn-empty e) (stored! v e x (short-before e he) m) (ap (λ (a : Rec). a .stripe) (by-spare v e x open-before ∙ sym (kept-spare e x he m)) ∙ q)
+      has-chunk p v 0 z e t x he (isIn-empty e) (data-stored-below v e x (short-before e he) m) (ap (λ (a : Rec). a .stripe) (unsealed-by-spare v e x open-before ∙ sym (kept-spare e x he m)) ∙ q)
     where
       go : (x : ℕ) → 1 + x < pointerAt v1 e z → spareAt p v1 e z x .stripe ≡ t → Dec (d ≡ e) → 1 + x < pointerAt v e z
       go x l q (no a) = subst (λ (m : ℕ). 1 + x < m) (pointer-else e he a) l
@@ -568,7 +567,7 @@ module _ (p : Params) (r : Ranged p) (v : View) (sh : Shaped p v) (st : State) (
           two (inr m) = absurd (n (sym q ∙ subst (λ (y : ℕ). spareAt p v1 y z x .stripe ≡ s) a (ap (λ (y : Rec). y .stripe) (spare-new x m) ∙ read-stripe)))
 
   counts-up : (t : ℕ) → counts p 0 seg0 t ≡ true → counts p 0 seg1 t ≡ true
-  counts-up t q = as! (in-all (hasChunk seg1 t) (present p 0) (λ e m. let he = present-in p 0 e m .0 in keeps t e he (counts-in p 0 seg0 t e q he (isIn-empty e)) .has-it))
+  counts-up t q = as! (in-all (hasChunk seg1 t) (present p 0) (λ e m. let he = present-in p 0 e m .0 in chunk-keeps t e he (counts-in p 0 seg0 t e q he (isIn-empty e)) .has-it))
     where
       as! : all (hasChunk seg1 t) (present p 0) ≡ true → counts p 0 seg1 t ≡ true
       as! e = unfold counts in e
@@ -582,7 +581,7 @@ module _ (p : Params) (r : Ranged p) (v : View) (sh : Shaped p v) (st : State) (
   serial-same! : seg0 .serial ≡ seg1 .serial
   serial-same! = serial-of p r v s0 t0 z ∙ ap headerSerial (chunk-grows .same-head) ∙ sym (serial-of p r v1 s0 chunk-tidy z)
 
-  cand-eq : (t e : ℕ) → Keeps t e → candOf p 0 seg0 t e ≡ candOf p 0 seg1 t e
+  cand-eq : (t e : ℕ) → KeepsChunk t e → candOf p 0 seg0 t e ≡ candOf p 0 seg1 t e
   cand-eq t e k = as! (rec-is seg0 ∙ k .same-record! ∙ sym (rec-is seg1)) (off-is seg0 ∙ k .same-offset! ∙ sym (off-is seg1))
     where
       rec-is : (x : Segment) → recOf p 0 x t e ≡ storedRec x t e
@@ -623,7 +622,7 @@ module _ (p : Params) (r : Ranged p) (v : View) (sh : Shaped p v) (st : State) (
             it-is =
                 k .it-is
                 ∙ ap (λ (x : ℕ). candOf p 0 (segmentOf p v 0 x) (k .stripe) dd) (sym e)
-                ∙ cand-eq (k .stripe) dd (keeps (k .stripe) dd hdd (counts-in p 0 seg0 (k .stripe) dd q hdd (isIn-empty dd)));
+                ∙ cand-eq (k .stripe) dd (chunk-keeps (k .stripe) dd hdd (counts-in p 0 seg0 (k .stripe) dd q hdd (isIn-empty dd)));
           }
 
   pub cand-down : (c : Cand) (k : CandAt p v1 0 c) → ((k .of ≡ z) × (k .stripe ≡ s)) ⊎ CandAt p v 0 c
@@ -656,7 +655,7 @@ module _ (p : Params) (r : Ranged p) (v : View) (sh : Shaped p v) (st : State) (
                 it-is =
                     k .it-is
                     ∙ ap (λ (y : ℕ). candOf p 0 (segmentOf p v1 0 y) (k .stripe) dd) (sym e)
-                    ∙ sym (cand-eq (k .stripe) dd (keeps (k .stripe) dd hdd (counts-in p 0 seg0 (k .stripe) dd q hdd (isIn-empty dd))));
+                    ∙ sym (cand-eq (k .stripe) dd (chunk-keeps (k .stripe) dd hdd (counts-in p 0 seg0 (k .stripe) dd q hdd (isIn-empty dd))));
               })
 
   -- ---- complete or not
@@ -689,7 +688,8 @@ module _ (p : Params) (r : Ranged p) (v : View) (sh : Shaped p v) (st : State) (
   uncounted-yet q c =
       let (e, he, x) = some-unlanded q in
       clash (counts-in p 0 seg1 s e c he (isIn-empty e))
-      (no-chunk p v1 0 z e s he (isIn-empty e) (λ y l w. flight-here .not-there e y he x (below! v1 e y l) (ap (λ (m : Rec). m .stripe) (sym (by-spare v1 e y open-after)) ∙ w ∙ sym (stripe1 i))))
+      (no-chunk p v1 0 z e s he (isIn-empty e) (λ y l w. flight-here .not-there e y he x (below! v1 e y l)
+      (ap (λ (m : Rec). m .stripe) (sym (unsealed-by-spare v1 e y open-after)) ∙ w ∙ sym (landed-stripe i))))
 
   -- where the stripe lies on a drive that has it
   pub landed-chunk : (e : ℕ) → e < p .N → isIn (landedIn st1 i) e ≡ true
@@ -697,13 +697,13 @@ module _ (p : Params) (r : Ranged p) (v : View) (sh : Shaped p v) (st : State) (
   landed-chunk e he q =
       let l = flight-here .lands e he q in
       let x = offsetIn st1 i e in
-      let l1 : x < dataStored p (zoneAt v1 e z) = stored! v1 e x (short-after e he) (l .lies) in
-      let w : recordIn p (sealedIn p v1 0 z) (zoneAt v1 e z) x .stripe ≡ s = ap (λ (m : Rec). m .stripe) (by-spare v1 e x open-after) ∙ l .of-stripe ∙ stripe1 i in
+      let l1 : x < dataStored p (zoneAt v1 e z) = data-stored-below v1 e x (short-after e he) (l .lies) in
+      let w : recordIn p (sealedIn p v1 0 z) (zoneAt v1 e z) x .stripe ≡ s = ap (λ (m : Rec). m .stripe) (unsealed-by-spare v1 e x open-after) ∙ l .of-stripe ∙ landed-stripe i in
       let c = has-chunk p v1 0 z e s x he (isIn-empty e) l1 w in
       let eo : offsetOn seg1 e s ≡ x =
       offset-is p v1 0 z e s x he (isIn-empty e) l1 w
-      (λ y m a. l .not-before y m (ap (λ (n : Rec). n .stripe) (sym (by-spare v1 e y open-after)) ∙ a ∙ sym (stripe1 i))) in
-      (c, (eo, chunk-at p v1 0 z e s he (isIn-empty e) c .its-record ∙ ap (recordIn p (sealedIn p v1 0 z) (zoneAt v1 e z)) eo ∙ by-spare v1 e x open-after))
+      (λ y m a. l .not-before y m (ap (λ (n : Rec). n .stripe) (sym (unsealed-by-spare v1 e y open-after)) ∙ a ∙ sym (landed-stripe i))) in
+      (c, (eo, chunk-at p v1 0 z e s he (isIn-empty e) c .its-record ∙ ap (recordIn p (sealedIn p v1 0 z) (zoneAt v1 e z)) eo ∙ unsealed-by-spare v1 e x open-after))
 
   pub counts-now : completes p st i d ≡ true → counts p 0 seg1 s ≡ true
   counts-now q = as! (in-all (hasChunk seg1 s) (present p 0) (λ e m. let he = present-in p 0 e m .0 in landed-chunk e he (all-landed q e he) .0))
@@ -719,8 +719,8 @@ module _ (p : Params) (r : Ranged p) (v : View) (sh : Shaped p v) (st : State) (
       let l : n < dataCount p = (let x = r .drives-low in omega arith) in
       let dd = dataDrive p s n in
       let hdd = data-drive-lt p s n l in
-      let f = flight-here .lands dd hdd (all-landed q dd hdd) .is-entry (ap (λ (x : ℕ). isData p x dd) (stripe1 i) ∙ drive-is-data p s n) .0 in
-      let g : dataPosition p (stripeIn st1 i) dd ≡ n = ap (λ (x : ℕ). dataPosition p x dd) (stripe1 i) ∙ position-drive p s n in
+      let f = flight-here .lands dd hdd (all-landed q dd hdd) .is-entry (ap (λ (x : ℕ). isData p x dd) (landed-stripe i) ∙ drive-is-data p s n) .0 in
+      let g : dataPosition p (stripeIn st1 i) dd ≡ n = ap (λ (x : ℕ). dataPosition p x dd) (landed-stripe i) ∙ position-drive p s n in
       let k : filledIn st1 i ≤ dataCount p = subst (λ (x : ℕ). x ≤ dataCount p) (sym (filled1 i)) (so .slots-ok i hi .filled-ok) in
       omega arith
 
@@ -730,11 +730,11 @@ module _ (p : Params) (r : Ranged p) (v : View) (sh : Shaped p v) (st : State) (
       let dd = dataDrive p s n in
       let hdd = data-drive-lt p s n l in
       let (c, (eo, er)) = landed-chunk dd hdd (all-landed q dd hdd) in
-      let x = flight-here .lands dd hdd (all-landed q dd hdd) .is-entry (ap (λ (m : ℕ). isData p m dd) (stripe1 i) ∙ drive-is-data p s n) .1 in
-      let g : dataPosition p (stripeIn st1 i) dd ≡ n = ap (λ (m : ℕ). dataPosition p m dd) (stripe1 i) ∙ position-drive p s n in
+      let x = flight-here .lands dd hdd (all-landed q dd hdd) .is-entry (ap (λ (m : ℕ). isData p m dd) (landed-stripe i) ∙ drive-is-data p s n) .1 in
+      let g : dataPosition p (stripeIn st1 i) dd ≡ n = ap (λ (m : ℕ). dataPosition p m dd) (landed-stripe i) ∙ position-drive p s n in
       let e : entryIn st1 i n ≡ recOf p 0 seg1 s dd = ap (entryIn st1 i) (sym g) ∙ sym x ∙ sym er ∙ sym (rec-is dd) in
       let w : offsetIn st1 i dd ≡ offsetOf 0 seg1 s dd = sym eo ∙ sym (off-is dd) in
-      as! n dd (ap (λ (m : ℕ). dataDrive p m n) (stripe1 i)) e w
+      as! n dd (ap (λ (m : ℕ). dataDrive p m n) (landed-stripe i)) e w
     where
       rec-is : (e : ℕ) → recOf p 0 seg1 s e ≡ storedRec seg1 s e
       rec-is e = unfold recOf in cond-false (isIn 0 e) (parityRec s (map (storedRec seg1 s) (present p 0))) (storedRec seg1 s e) (isIn-empty e)
@@ -817,7 +817,7 @@ module _ (p : Params) (r : Ranged p) (v : View) (sh : Shaped p v) (st : State) (
   held-is : (tb : List ℕ) → tb ≡ addressTable p before! → (a : ℕ) → a < p .L → held p v1 tb a ≡ best none (candsOf a before!)
   held-is tb e a ha = go (table-holds p r v tb e a ha)
     where
-      go : Holds p v tb a → held p v1 tb a ≡ best none (candsOf a before!)
+      go : EntryHolds p v tb a → held p v1 tb a ≡ best none (candsOf a before!)
       go (holds-none b q) = none! q ∙ sym b
         where
           none! : placeAt tb a ≡ neverPlace → held p v1 tb a ≡ none
@@ -854,10 +854,10 @@ module _ (p : Params) (r : Ranged p) (v : View) (sh : Shaped p v) (st : State) (
                   (sym (zones-sealed p r v v1 (k .of) (chunk-grows .others (k .of) hk n)))
                   (sym (chunk-grows .others (k .of) hk n (c .drive) (t .drive-low)))
               two (yes x) = subst (λ (y : ℕ). recordIn p (sealedIn p v1 0 y) (zoneAt v1 (c .drive) y) (c .offset) .stamp ≡ recordIn p (sealedIn p v 0 y) (zoneAt v (c .drive) y) (c .offset) .stamp) x
-                  (ap (λ (m : Rec). m .stamp) (by-spare v1 (c .drive) (c .offset) open-after ∙ kept-spare (c .drive) (c .offset) (t .drive-low)
+                  (ap (λ (m : Rec). m .stamp) (unsealed-by-spare v1 (c .drive) (c .offset) open-after ∙ kept-spare (c .drive) (c .offset) (t .drive-low)
                   (subst (λ (y : ℕ). 1 + c .offset < pointerAt v (c .drive) y) (sym (spot-zone p r v 0 c t) ∙ ez ∙ sym x)
                   (t .visible (isIn-empty (c .drive))))
-                  ∙ sym (by-spare v (c .drive) (c .offset) open-before)))
+                  ∙ sym (unsealed-by-spare v (c .drive) (c .offset) open-before)))
 
           serial! : headerSerial (headerAt v1 0 (k .of)) ≡ c .serial
           serial! = ap headerSerial (sym (grows-header p r v v1 z chunk-grows (k .of) hk)) ∙ sym (its-serial p r v s0 t0 c k)
@@ -920,7 +920,7 @@ module _ (p : Params) (r : Ranged p) (v : View) (sh : Shaped p v) (st : State) (
   entry-at : (u : View) (x : ℕ) → pointerAt u d z ≤ 1 + p .S → 1 + x < pointerAt u d z → getD (compactRow p (recordsIn p false (zoneAt u d z))) x 0 ≡ compactEntry p (spareAt p u d z x .stripe)
   entry-at u x l m =
       row-at p (recordsIn p false (zoneAt u d z)) x (let e = long! u l in omega arith)
-      ∙ ap (λ (a : Rec). compactEntry p (a .stripe)) (record-at p false (zoneAt u d z) x (mkRec 0 0 0) (stored! u d x l m))
+      ∙ ap (λ (a : Rec). compactEntry p (a .stripe)) (record-at p false (zoneAt u d z) x (mkRec 0 0 0) (data-stored-below u d x l m))
 
   pub compact-lands : set (compactTable p (segments p v 0)) (compactAt p d z o) (compactEntry p s) ≡ compactTable p (segments p v1 0)
   compact-lands =
@@ -962,8 +962,8 @@ module _ (p : Params) (r : Ranged p) (v : View) (sh : Shaped p v) (st : State) (
               ap (λ (m : ℕ). getD (set cs (compactAt p d z o) (compactEntry p s)) m 0) ((λ j. compactAt p (sym b j) (sym a j) (c j)))
               ∙ getD-set-same cs (compactAt p d z o) (compactEntry p s) 0 (subst (λ (m : ℕ). compactAt p d z o < m) (sym (length-compact p v 0)) (compact-within p d z o hd hz os))
               ∙ sym ((λ j. getD (compactRow p (rowAt p v1 0 (sym b j) (sym a j))) (c j) 0) ∙ ap (λ (l : List Rec). getD (compactRow p l) o 0) (row-after d hd)
-              ∙ entry-at v1 o (short-after d hd) (let q = chunk-pointer in let k = one-more in omega arith)
-              ∙ ap (λ (m : Rec). compactEntry p (m .stripe)) (spare-new o one-more)
+              ∙ entry-at v1 o (short-after d hd) (let q = chunk-pointer in let k = offset-next in omega arith)
+              ∙ ap (λ (m : Rec). compactEntry p (m .stripe)) (spare-new o offset-next)
               ∙ ap (compactEntry p) read-stripe)
           go (yes a) (yes b) (no n) =
               else! (λ q. n (cells e y x hy hx q .1 .1))
@@ -980,7 +980,7 @@ module _ (p : Params) (r : Ranged p) (v : View) (sh : Shaped p v) (st : State) (
                   ap (λ (m : List Rec). getD (compactRow p m) x 0) (row-before d hd) ∙ row-past p (recordsIn p false (zoneAt v d z)) x (let q = long! v (short-before d hd) in omega arith)
                   ∙ sym (ap (λ (m : List Rec). getD (compactRow p m) x 0) (row-after d hd)
                   ∙ row-past p (recordsIn p false (zoneAt v1 d z)) x
-                  (let q = long! v1 (short-after d hd) in let w = chunk-pointer in let k = one-more in omega arith))
+                  (let q = long! v1 (short-after d hd) in let w = chunk-pointer in let k = offset-next in omega arith))
 
   -- ---- the state
 
@@ -992,7 +992,7 @@ module _ (p : Params) (r : Ranged p) (v : View) (sh : Shaped p v) (st : State) (
     opened-low = subst (λ (x : ℕ). x ≤ p .Z) (sym opened1) (so .opened-low);
     next-low = subst (λ (x : ℕ). x ≤ p .S) (sym next1) (so .next-low);
     slots-ok = λ j hj. record {
-      stripe-ok = subst (λ (x : ℕ). x < p .S) (sym (stripe1 j)) (so .slots-ok j hj .stripe-ok);
+      stripe-ok = subst (λ (x : ℕ). x < p .S) (sym (landed-stripe j)) (so .slots-ok j hj .stripe-ok);
       filled-ok = subst (λ (x : ℕ). x ≤ dataCount p) (sym (filled1 j)) (so .slots-ok j hj .filled-ok);
       writes-ok = writes! j (so .slots-ok j hj .writes-ok);
       landed-ok = landed! j hj (ℕ-discrete j i);
@@ -1048,11 +1048,11 @@ module _ (p : Params) (r : Ranged p) (v : View) (sh : Shaped p v) (st : State) (
   ls1 = mark-lists st ls i hi d o d8
 
   -- a chunk that doesn't complete its stripe
-  pub chunk-healthy : Healthy p v1 st1
+  pub chunk-healthy : HealthyState p v1 st1
   chunk-healthy = record {
     tidy = subst (λ (x : ℕ). Tidy p v1 x) (sym serial1) chunk-tidy;
     sealed-but = λ y hy q. ⊎-elim (λ e. inl (opened-mark ∙ ap suc (sym e))) (λ x. inr x) (sealed1 y hy q);
-    opens-at = λ y q. subst (λ (x : ℕ). Open p v1 st1 (flies st1) x) (let a : suc z ≡ suc y = sym opened-mark ∙ q in let w : z ≡ y = omega arith in w)
+    opens-at = λ y q. subst (λ (x : ℕ). OpenZone p v1 st1 (flies st1) x) (let a : suc z ≡ suc y = sym opened-mark ∙ q in let w : z ≡ y = omega arith in w)
         (busy-same p v1 st1 (flies st) (flies st1) z (λ j hj. flies1 j) chunk-open);
     shut = λ q. absurd (let a : suc z ≡ 0 = sym opened-mark ∙ q in let bad : ⊥ = omega arith in bad);
     serial-fits = subst (λ (x : ℕ). x < 256 ^ 8) (sym serial1) (h .serial-fits);
@@ -1124,14 +1124,14 @@ module _ (p : Params) (r : Ranged p) (v : View) (sh : Shaped p v) (st : State) (
       offs j x = unfold freeStripe in x
 
       filled! : (j : ℕ) → filledIn st1 j ≤ dataCount p → Dec (j ≡ i) → filledIn st2 j ≤ dataCount p
-      filled! j x (yes e) = subst (λ (m : ℕ). filledIn st2 m ≤ dataCount p) (sym e) (subst (λ (m : ℕ). m ≤ dataCount p) (sym (free-filled st1 ls1 i hi)) (omega arith))
+      filled! j x (yes e) = subst (λ (m : ℕ). filledIn st2 m ≤ dataCount p) (sym e) (subst (λ (m : ℕ). m ≤ dataCount p) (sym (filled-freed st1 ls1 i hi)) (omega arith))
       filled! j x (no n) = subst (λ (m : ℕ). m ≤ dataCount p) (sym (free-filled-other st1 ls1 i hi j n)) x
 
   flies2 : (j : ℕ) → (j ≡ i → ⊥) → flies st2 j ≡ flies st j
   flies2 j n = ap not (free-is st2 j ∙ ap (λ (x : ℕ). eqb x 0) (free-filled-other st1 ls1 i hi j n ∙ filled1 j) ∙ sym (free-is st j))
 
   flies2-here : flies st2 i ≡ false
-  flies2-here = none-flies st2 i (free-filled st1 ls1 i hi)
+  flies2-here = none-flies st2 i (filled-freed st1 ls1 i hi)
 
   -- one eighth fewer is in use
   pub flights-fewer : length (inFlight st) ≡ suc (tally (flies st2) slots)
@@ -1143,7 +1143,7 @@ module _ (p : Params) (r : Ranged p) (v : View) (sh : Shaped p v) (st : State) (
           tally-is : length (keep (λ i. not (isFree st i)) slots) ≡ tally (flies st) slots
           tally-is = unfold tally in refl
 
-  slot2 : (j : ℕ) → (j ≡ i → ⊥) → SameSlot st1 st2 j
+  slot2 : (j : ℕ) → (j ≡ i → ⊥) → CarriedSlot st1 st2 j
   slot2 j n = record {
     same-stripe = stripe!;
     same-filled = sym (free-filled-other st1 ls1 i hi j n);
@@ -1185,7 +1185,7 @@ module _ (p : Params) (r : Ranged p) (v : View) (sh : Shaped p v) (st : State) (
           (and-false-left (flies st2 i) (not (isIn (landedIn st2 i) e)) flies2-here ∙ sym (and-false-right (flies st i) (not (isIn (landedIn st1 i) e)) (ap not (all-landed q e he))))
       go j (no n) = ap₂ (λ (x : Bool) (y : ℕ). x && not (isIn y e)) (flies2 j n) (landed! j)
 
-  pub freed-open : completes p st i d ≡ true → (st .next ≡ p .S → length (inFlight st) ≡ 1 → ⊥) → Open p v1 st2 (flies st2) z
+  pub freed-open : completes p st i d ≡ true → (st .next ≡ p .S → length (inFlight st) ≡ 1 → ⊥) → OpenZone p v1 st2 (flies st2) z
   freed-open q ns = record {
     opened-zone = hz;
     has-header = chunk-open .has-header;
@@ -1206,11 +1206,11 @@ module _ (p : Params) (r : Ranged p) (v : View) (sh : Shaped p v) (st : State) (
       some zero e x = absurd (ns x (flights-fewer ∙ ap suc e))
       some (suc n) e x = subst (λ (m : ℕ). 0 < m) (sym e) (omega arith)
 
-  pub freed-healthy : completes p st i d ≡ true → (st .next ≡ p .S → length (inFlight st) ≡ 1 → ⊥) → Healthy p v1 st2
+  pub freed-healthy : completes p st i d ≡ true → (st .next ≡ p .S → length (inFlight st) ≡ 1 → ⊥) → HealthyState p v1 st2
   freed-healthy q ns = record {
     tidy = subst (λ (x : ℕ). Tidy p v1 x) (sym serial2) chunk-tidy;
     sealed-but = λ y hy x. ⊎-elim (λ e. inl (opened2 ∙ ap suc (sym e))) (λ w. inr w) (sealed1 y hy x);
-    opens-at = λ y x. subst (λ (m : ℕ). Open p v1 st2 (flies st2) m) (let a : suc z ≡ suc y = sym opened2 ∙ x in let w : z ≡ y = omega arith in w) (freed-open q ns);
+    opens-at = λ y x. subst (λ (m : ℕ). OpenZone p v1 st2 (flies st2) m) (let a : suc z ≡ suc y = sym opened2 ∙ x in let w : z ≡ y = omega arith in w) (freed-open q ns);
     shut = λ x. absurd (let a : suc z ≡ 0 = sym opened2 ∙ x in let bad : ⊥ = omega arith in bad);
     serial-fits = subst (λ (x : ℕ). x < 256 ^ 8) (sym serial2) (h .serial-fits);
     stamp-fits = subst (λ (x : ℕ). x < 256 ^ 8) (sym stamp2) (h .stamp-fits);
@@ -1242,5 +1242,5 @@ module _ (p : Params) (r : Ranged p) (v : View) (sh : Shaped p v) (st : State) (
       let n = next1 in
       omega arith
 
-  pub none-left : length (inFlight st) ≡ 1 → (j : ℕ) → j < 8 → flies st2 j ≡ false
-  none-left l j hj = none-tally (flies st2) slots (let f = flights-fewer in let t : tally (flies st2) slots ≡ 0 = omega arith in t) j (in-slots j hj)
+  pub last-flight : length (inFlight st) ≡ 1 → (j : ℕ) → j < 8 → flies st2 j ≡ false
+  last-flight l j hj = none-tally (flies st2) slots (let f = flights-fewer in let t : tally (flies st2) slots ≡ 0 = omega arith in t) j (in-slots j hj)

@@ -28,17 +28,17 @@ use Rattle.law_drives.specs.States.{SlotOk, StateOk}
 use Rattle.law_drives.specs.Tests.{clash}
 use Rattle.law_drives.specs.Tidy.{Tidy}
 use Rattle.proof_tables.specs.Opened.{busy-same, add-open}
-use Rattle.proof_tables.specs.Run.{flies, Lists, Healthy}
-use Rattle.proof_tables.specs.Slots.{begin-number, begin-number-other, begin-filled, begin-filled-other, begin-landed, begin-landed-other, begin-writes}
-use Rattle.proof_tables.specs.Slots.{begin-writes-other, begin-next, add-filled, add-filled-other, add-number, add-landed, add-writes, add-writes-other}
+use Rattle.proof_tables.specs.Run.{flies, Lists, HealthyState}
+use Rattle.proof_tables.specs.Slots.{number-begun, begin-number-other, filled-begun, begin-filled-other, landed-begun, begin-landed-other, begin-writes}
+use Rattle.proof_tables.specs.Slots.{begin-writes-other, begin-next, filled-added, add-filled-other, number-added, landed-added, add-writes, add-writes-other}
 use Rattle.proof_tables.specs.Slots.{add-lists, free-is, some-flies}
 
 -- ---- the in-flight buffer
 
-pub placed-long : (p : Params) → Ranged p → (st : State) (fl : List ℕ) (i a t w : ℕ) (b : List ℕ) → length fl ≡ inflightLen p → i < 8 → filledIn st i < dataCount p → length b ≡ p .B
+pub placed-inflight-long : (p : Params) → Ranged p → (st : State) (fl : List ℕ) (i a t w : ℕ) (b : List ℕ) → length fl ≡ inflightLen p → i < 8 → filledIn st i < dataCount p → length b ≡ p .B
     → length (placed p st fl i a t w b .inflight) ≡ inflightLen p
 unfolding placed
-placed-long p r st fl i a t w b l hi f e =
+placed-inflight-long p r st fl i a t w b l hi f e =
     let d = dataDrive p (stripeIn st i) (filledIn st i) in
     let fl′ = setSlotBlock p fl i d b in
     let q : length fl′ ≡ inflightLen p = slot-long p r fl l i hi d b (data-drive-lt p (stripeIn st i) (filledIn st i) f) e in
@@ -84,18 +84,18 @@ module _ (p : Params) (r : Ranged p) (st : State) (ls : Lists st) (so : StateOk 
 
       go : (j : ℕ) → SlotOk p st j → Dec (j ≡ i) → SlotOk p (addEntry st i a t w) j
       go j s (no n) = record {
-        stripe-ok = subst (λ (x : ℕ). x < p .S) (sym (add-number st ls i hi a t w j)) (s .stripe-ok);
+        stripe-ok = subst (λ (x : ℕ). x < p .S) (sym (number-added st ls i hi a t w j)) (s .stripe-ok);
         filled-ok = subst (λ (x : ℕ). x ≤ dataCount p) (sym (add-filled-other st ls i hi a t w j n)) (s .filled-ok);
         writes-ok = subst (λ (x : ℕ). x < 2 ^ dataCount p) (sym (add-writes-other st ls i hi a t w j n)) (s .writes-ok);
-        landed-ok = subst (λ (x : ℕ). x < 2 ^ p .N) (sym (add-landed st ls i hi a t w j)) (s .landed-ok);
+        landed-ok = subst (λ (x : ℕ). x < 2 ^ p .N) (sym (landed-added st ls i hi a t w j)) (s .landed-ok);
       }
       go j s (yes e) = subst (λ (x : ℕ). SlotOk p (addEntry st i a t w) x) (sym e) (record {
-        stripe-ok = subst (λ (x : ℕ). x < p .S) (sym (add-number st ls i hi a t w i)) (so .slots-ok i hi .stripe-ok);
-        filled-ok = subst (λ (x : ℕ). x ≤ dataCount p) (sym (add-filled st ls i hi a t w)) f;
+        stripe-ok = subst (λ (x : ℕ). x < p .S) (sym (number-added st ls i hi a t w i)) (so .slots-ok i hi .stripe-ok);
+        filled-ok = subst (λ (x : ℕ). x ≤ dataCount p) (sym (filled-added st ls i hi a t w)) f;
         writes-ok =
             subst (λ (x : ℕ). x < 2 ^ dataCount p) (sym (add-writes st ls i hi a t w))
             (or-lt (dataCount p) (getD (st .writes) i 0) (w * only (filledIn st i)) (so .slots-ok i hi .writes-ok) (mask-low (filledIn st i) w hw f));
-        landed-ok = subst (λ (x : ℕ). x < 2 ^ p .N) (sym (add-landed st ls i hi a t w i)) (so .slots-ok i hi .landed-ok);
+        landed-ok = subst (λ (x : ℕ). x < 2 ^ p .N) (sym (landed-added st ls i hi a t w i)) (so .slots-ok i hi .landed-ok);
       })
 
   pub begin-ok : st .next < p .S → StateOk p (beginStripe st i)
@@ -129,10 +129,10 @@ module _ (p : Params) (r : Ranged p) (st : State) (ls : Lists st) (so : StateOk 
         landed-ok = subst (λ (x : ℕ). x < 2 ^ p .N) (sym (begin-landed-other st ls i hi j n)) (s .landed-ok);
       }
       go j s (yes e) = subst (λ (x : ℕ). SlotOk p (beginStripe st i) x) (sym e) (record {
-        stripe-ok = subst (λ (x : ℕ). x < p .S) (sym (begin-number st ls i hi)) nx;
-        filled-ok = subst (λ (x : ℕ). x ≤ dataCount p) (sym (begin-filled st ls i hi)) (omega arith);
+        stripe-ok = subst (λ (x : ℕ). x < p .S) (sym (number-begun st ls i hi)) nx;
+        filled-ok = subst (λ (x : ℕ). x ≤ dataCount p) (sym (filled-begun st ls i hi)) (omega arith);
         writes-ok = subst (λ (x : ℕ). x < 2 ^ dataCount p) (sym (begin-writes st ls i hi)) (pow-pos (dataCount p));
-        landed-ok = subst (λ (x : ℕ). x < 2 ^ p .N) (sym (begin-landed st ls i hi)) (pow-pos (p .N));
+        landed-ok = subst (λ (x : ℕ). x < 2 ^ p .N) (sym (landed-begun st ls i hi)) (pow-pos (p .N));
       })
 
 -- ---- what holds is kept
@@ -140,14 +140,14 @@ module _ (p : Params) (r : Ranged p) (st : State) (ls : Lists st) (so : StateOk 
 -- a position of a stripe in flight is filled
 pub fill-healthy :
     (p : Params) (r : Ranged p) (v : View) (st : State) (i a t w : ℕ)
-    → Healthy p v st
+    → HealthyState p v st
     → StateOk p st
     → i < 8
     → flies st i ≡ true
     → filledIn st i < dataCount p
     → a < 256 ^ 8
     → t < 256 ^ 8
-    → Healthy p v (addEntry st i a t w)
+    → HealthyState p v (addEntry st i a t w)
 fill-healthy p r v st i a t w h so hi fi f ha ht = record {
   tidy = subst (λ (x : ℕ). Tidy p v x) (sym serial-same) (h .tidy);
   sealed-but = λ z hz q. subst (λ (x : ℕ). (x ≡ suc z) ⊎ ((d : ℕ) → d < p .N → pointerAt v d z ≡ capacity p)) (sym opened-same) (h .sealed-but z hz q);
@@ -173,5 +173,5 @@ fill-healthy p r v st i a t w h so hi fi f ha ht = record {
       where
         go : Dec (j ≡ i) → flies st j ≡ flies (addEntry st i a t w) j
         go (yes e) = subst (λ (x : ℕ). flies st x ≡ flies (addEntry st i a t w) x) (sym e)
-            (fi ∙ sym (some-flies (addEntry st i a t w) i (λ q. let x = add-filled st (h .lists) i hi a t w in let z : ⊥ = omega arith in z)))
+            (fi ∙ sym (some-flies (addEntry st i a t w) i (λ q. let x = filled-added st (h .lists) i hi a t w in let z : ⊥ = omega arith in z)))
         go (no n) = ap not (free-is st j ∙ ap (λ (x : ℕ). eqb x 0) (sym (add-filled-other st (h .lists) i hi a t w j n)) ∙ sym (free-is (addEntry st i a t w) j))

@@ -23,7 +23,7 @@ use Rattle.spec.specs.Memory.{Memory, mkMemory, filledIn, fillingSlot, hasFilli
 use Rattle.spec.specs.Params.{dataCount, inRange, inflightLen}
 use Rattle.spec.specs.Segments.{segments, candidates, addressTable, compactTable}
 use Rattle.spec.specs.Write.{opens, noStamp, scarce, placed, sending, writeChecks, writePlan, writeVerdict}
-use Rattle.law_basic.specs.Be.{room}
+use Rattle.law_basic.specs.Be.{be-room}
 use Rattle.law_basic.specs.Geometry.{Ranged, ranged, addresses-all}
 use Rattle.law_basic.specs.Mask.{isIn-empty}
 use Rattle.law_views.specs.Views.{Whole, seen, view-stores, whole-stores}
@@ -36,18 +36,18 @@ use Rattle.law_drives.specs.Tables.{length-addresses, length-compact}
 use Rattle.law_drives.specs.Tests.{clash}
 use Rattle.law_drives.specs.Zones.{Shaped, hits, Room, Within, Roomy, all-fit, shaped-after}
 use Rattle.proof_tables.specs.Carried.{stamp-healthy, stamp-ok}
-use Rattle.proof_tables.specs.Filling.{placed-long, add-ok, fill-healthy}
+use Rattle.proof_tables.specs.Filling.{placed-inflight-long, add-ok, fill-healthy}
 use Rattle.proof_tables.specs.Live.{table-clear}
 use Rattle.proof_tables.specs.Losing.{refused-kept, cut-kept}
-use Rattle.proof_tables.specs.Outcomes.{Ended, ended}
-use Rattle.proof_tables.specs.Outcomes.Ended.{ended-refused, ended-done, ended-cut}
-use Rattle.proof_tables.specs.Run.{flies, Healthy, Well, Run, Kept}
-use Rattle.proof_tables.specs.Sending.{filling-slot, SentOk, sends}
-use Rattle.proof_tables.specs.Slots.{add-filled, some-flies}
+use Rattle.proof_tables.specs.Outcomes.{EndedAs, outcome-ends}
+use Rattle.proof_tables.specs.Outcomes.EndedAs.{ended-refused, ended-done, ended-cut}
+use Rattle.proof_tables.specs.Run.{flies, HealthyState, Well, Run, Kept}
+use Rattle.proof_tables.specs.Sending.{filling-flies, SentOk, sent-ok}
+use Rattle.proof_tables.specs.Slots.{filled-added, some-flies}
 
 -- stores made and a memory that goes with the view after them
 pub well-run : (p : Params) (k : Disk) (ss : List Store) (m : Memory) → inRange p ≡ true → Whole p k → Shaped p (seen p k) → Roomy p (seen p k) ss → ((s : Store) → In s ss → Within p s)
-    → m .state .missing ≡ 0 → StateOk p (m .state) → Healthy p (storeAll storeView ss (seen p k)) (m .state)
+    → m .state .missing ≡ 0 → StateOk p (m .state) → HealthyState p (storeAll storeView ss (seen p k)) (m .state)
     → m .addresses ≡ addressTable p (candidates p 0 (segments p (storeAll storeView ss (seen p k)) 0))
     → m .compact ≡ compactTable p (segments p (storeAll storeView ss (seen p k)) 0) → length (m .inflight) ≡ inflightLen p
     → Run p (storeAll (storeDisk p) ss k) m
@@ -74,7 +74,7 @@ well-run p k ss m ir w sh ro wi ms so he ad co fl =
         compact-says = co ∙ ap₂ (λ (x : View) (g : ℕ). compactTable p (segments p x g)) (sym ev) (sym ms);
         decodes = λ d q. clash q (ap (λ (x : ℕ). isIn x d) ms ∙ isIn-empty d);
       };
-      mode = inr (record { none-missing = ms; healthy = subst (λ (x : View). Healthy p x (m .state)) (sym ev) he });
+      mode = inr (record { none-missing = ms; healthy = subst (λ (x : View). HealthyState p x (m .state)) (sym ev) he });
     }
 
 pub address-small : (p : Params) → inRange p ≡ true → (a : ℕ) → a < p .L → a < 256 ^ 8
@@ -106,7 +106,7 @@ module _ (p : Params) (k : Disk) (m : Memory) (u : Run p k m) (we : Well p k m) 
   buffer-long = lengths-of p k m (u .base .lent) .inflight-ok
 
   -- a sent block, in a memory whose state may have another stamp
-  pub sent-run : (su sw : State) (ss : List Store) (fl : List ℕ) → SentOk p v st su ss fl → sw .missing ≡ su .missing → StateOk p sw → Healthy p (storeAll storeView ss v) sw
+  pub sent-run : (su sw : State) (ss : List Store) (fl : List ℕ) → SentOk p v st su ss fl → sw .missing ≡ su .missing → StateOk p sw → HealthyState p (storeAll storeView ss v) sw
       → Run p (storeAll (storeDisk p) ss k) (mkMemory sw (m .addresses) (m .compact) fl)
   sent-run su sw ss fl s e sok he =
       well-run p k ss (mkMemory sw (m .addresses) (m .compact) fl) (u .base .ranged) wh (u .base .shaped) (s .has-room) (s .all-within) (e ∙ s .missing-after ∙ we .none-missing) sok he
@@ -118,13 +118,13 @@ module _ (p : Params) (k : Disk) (m : Memory) (u : Run p k m) (we : Well p k m) 
     abbrev checks : List Check
     checks = writeChecks p (lentOk p k m) v m a b
 
-    write-done : firstRefusal checks ≡ none → (x : Disk) → x ≡ storeAll (storeDisk p) (writePlan p v m a b .stores) k → Run p x (writePlan p v m a b .memory)
-    write-done e x ex =
+    run-written : firstRefusal checks ≡ none → (x : Disk) → x ≡ storeAll (storeDisk p) (writePlan p v m a b .stores) k → Run p x (writePlan p v m a b .memory)
+    run-written e x ex =
         let c = write-passed p (lentOk p k m) v m a b e in
         let t = suc (st .stamp .0) in
         let ha : a < 256 ^ 8 = address-small p (u .base .ranged) a (c .address-low) in
         let ht : t < 256 ^ 8 = (let nl = eqb-false (st .stamp .0) lastCount (stamp-left (c .stamp-left)) in let f = we .healthy .stamp-fits in omega arith) in
-        let s = sends p rg v (u .base .shaped) st (we .healthy) so (m .inflight) buffer-long a t 1 b ha ht (omega arith) (c .block-long) (c .no-wait) (c .serial-left) (λ q. zones-left (c .room)) in
+        let s = sent-ok p rg v (u .base .shaped) st (we .healthy) so (m .inflight) buffer-long a t 1 b ha ht (omega arith) (c .block-long) (c .no-wait) (c .serial-left) (λ q. zones-left (c .room)) in
         let q = sending p v st (m .inflight) a t 1 b in
         subst (λ (y : Disk). Run p y (writePlan p v m a b .memory)) (sym (ex ∙ ap (λ (l : List Store). storeAll (storeDisk p) l k) stores-is))
         (subst (λ (y : Memory). Run p (storeAll (storeDisk p) (q .stores) k) y) (sym memory-is)
@@ -158,18 +158,18 @@ module _ (p : Params) (k : Disk) (m : Memory) (u : Run p k m) (we : Well p k m) 
 
     pub well-write : Kept p (callDisk p k m (write a b n))
     unfolding callDisk callOn verdict storeCount lentBlock writeVerdict
-    well-write = go (ended p k m checks (writePlan p v m a b) n b)
+    well-write = go (outcome-ends p k m checks (writePlan p v m a b) n b)
       where
         mild-sent : isRefusedAs 9 (writePlan p v m a b .answer) ≡ false
         mild-sent = unfold writePlan isRefusedAs isRefused kind in refl
 
         go :
-            Ended p k m checks (writePlan p v m a b) (outcome p (storeDisk p) n k m b (decided (firstRefusal checks) (writePlan p v m a b)))
+            EndedAs p k m checks (writePlan p v m a b) (outcome p (storeDisk p) n k m b (decided (firstRefusal checks) (writePlan p v m a b)))
             → Kept p (outcome p (storeDisk p) n k m b (decided (firstRefusal checks) (writePlan p v m a b)))
         go (ended-refused x e f g h) = refused-kept p k m _ x u (write-mild p (lentOk p k m) v m a b (u .base .state-ok) x e) f g h
         go (ended-done c f g h) = record {
           never-ninth = ap (isRefusedAs 9) f ∙ mild-sent;
-          runs-on = λ x. subst (λ (y : Memory). Run p (outcome p (storeDisk p) n k m b (decided (firstRefusal checks) (writePlan p v m a b)) .drives) y) (sym h) (write-done c _ g);
+          runs-on = λ x. subst (λ (y : Memory). Run p (outcome p (storeDisk p) n k m b (decided (firstRefusal checks) (writePlan p v m a b)) .drives) y) (sym h) (run-written c _ g);
         }
         go (ended-cut c f) = cut-kept p _ f
 
@@ -180,43 +180,43 @@ module _ (p : Params) (k : Disk) (m : Memory) (u : Run p k m) (we : Well p k m) 
     closeList = closeChecks p (lentOk p k m) v m
 
     pub record PadOk (su : State) (fl : List ℕ) : Type 0 where
-      pub pad-healthy : Healthy p v su
+      pub pad-healthy : HealthyState p v su
       pub pad-state : StateOk p su
       pub pad-long : length fl ≡ inflightLen p
       pub pad-missing : su .missing ≡ st .missing
 
-    pads : (i x : ℕ) (su : State) (fl : List ℕ) → i < 8 → flies su i ≡ true → filledIn su i + x ≤ dataCount p → PadOk su fl → PadOk (padded p i x su fl .state) (padded p i x su fl .inflight)
+    padding-ok : (i x : ℕ) (su : State) (fl : List ℕ) → i < 8 → flies su i ≡ true → filledIn su i + x ≤ dataCount p → PadOk su fl → PadOk (padded p i x su fl .state) (padded p i x su fl .inflight)
     unfolding padded placed
-    pads i zero su fl hi fi l o = o
-    pads i (suc x) su fl hi fi l o =
+    padding-ok i zero su fl hi fi l o = o
+    padding-ok i (suc x) su fl hi fi l o =
         let sw = addEntry su i paddingAddress 0 0 in
         let room : filledIn su i < dataCount p = omega arith in
         let ls = o .pad-healthy .lists in
-        pads i x sw (placed p su fl i paddingAddress 0 0 (replicate (p .B) 0) .inflight) hi
-        (some-flies sw i (λ q. let e = add-filled su ls i hi paddingAddress 0 0 in let z : ⊥ = omega arith in z))
-        (let e = add-filled su ls i hi paddingAddress 0 0 in omega arith)
+        padding-ok i x sw (placed p su fl i paddingAddress 0 0 (replicate (p .B) 0) .inflight) hi
+        (some-flies sw i (λ q. let e = filled-added su ls i hi paddingAddress 0 0 in let z : ⊥ = omega arith in z))
+        (let e = filled-added su ls i hi paddingAddress 0 0 in omega arith)
         (record {
           pad-healthy = fill-healthy p rg v su i paddingAddress 0 0 (o .pad-healthy) (o .pad-state) hi fi room (lit< tt) (lit< tt);
           pad-state = add-ok p rg su ls (o .pad-state) i hi paddingAddress 0 0 room (omega arith);
-          pad-long = placed-long p rg su fl i paddingAddress 0 0 (replicate (p .B) 0) (o .pad-long) hi room (length-replicate (p .B) 0);
+          pad-long = placed-inflight-long p rg su fl i paddingAddress 0 0 (replicate (p .B) 0) (o .pad-long) hi room (length-replicate (p .B) 0);
           pad-missing = missing-same i su ∙ o .pad-missing;
         })
       where
         missing-same : (i : ℕ) (su : State) → addEntry su i paddingAddress 0 0 .missing ≡ su .missing
         missing-same i su = unfold addEntry in refl
 
-    close-done : firstRefusal closeList ≡ none → (x : Disk) → x ≡ storeAll (storeDisk p) (closePlan p m .stores) k → Run p x (closePlan p m .memory)
-    close-done e x ex =
+    run-closed : firstRefusal closeList ≡ none → (x : Disk) → x ≡ storeAll (storeDisk p) (closePlan p m .stores) k → Run p x (closePlan p m .memory)
+    run-closed e x ex =
         let f : hasFilling p st ≡ true = close-passed p (lentOk p k m) v m e .filling in
-        let (hi, fi, room) = filling-slot p st f in
+        let (hi, fi, be-room) = filling-flies p st f in
         let i = fillingSlot p st in
         let q = padded p i (dataCount p - filledIn st i) st (m .inflight) in
-        let o : PadOk (q .state) (q .inflight) = pads i (dataCount p - filledIn st i) st (m .inflight) hi fi (omega arith)
+        let o : PadOk (q .state) (q .inflight) = padding-ok i (dataCount p - filledIn st i) st (m .inflight) hi fi (omega arith)
         (record { pad-healthy = we .healthy; pad-state = so; pad-long = buffer-long; pad-missing = refl }) in
         subst (λ (y : Disk). Run p y (closePlan p m .memory)) (sym (ex ∙ ap (λ (l : List Store). storeAll (storeDisk p) l k) stores-is))
         (subst (λ (y : Memory). Run p (storeAll (storeDisk p) [] k) y) (sym memory-is)
         (well-run p k [] (mkMemory (q .state) (m .addresses) (m .compact) (q .inflight)) (u .base .ranged) wh (u .base .shaped) (λ d z hd hz. none-room d z) (λ s m. absurd m)
-        (o .pad-missing ∙ we .none-missing) (o .pad-state) (subst (λ (y : View). Healthy p y (q .state)) (sym nothing) (o .pad-healthy))
+        (o .pad-missing ∙ we .none-missing) (o .pad-state) (subst (λ (y : View). HealthyState p y (q .state)) (sym nothing) (o .pad-healthy))
         (address-table ∙ ap (λ (y : View). addressTable p (candidates p 0 (segments p y 0))) (sym nothing))
         (compact-table ∙ ap (λ (y : View). compactTable p (segments p y 0)) (sym nothing)) (o .pad-long)))
       where
@@ -237,18 +237,18 @@ module _ (p : Params) (k : Disk) (m : Memory) (u : Run p k m) (we : Well p k m) 
 
     pub well-close : Kept p (callDisk p k m (close n))
     unfolding callDisk callOn verdict storeCount lentBlock closeVerdict
-    well-close = go (ended p k m closeList (closePlan p m) n [])
+    well-close = go (outcome-ends p k m closeList (closePlan p m) n [])
       where
         mild-closed : isRefusedAs 9 (closePlan p m .answer) ≡ false
         mild-closed = unfold closePlan isRefusedAs isRefused kind in refl
 
         go :
-            Ended p k m closeList (closePlan p m) (outcome p (storeDisk p) n k m [] (decided (firstRefusal closeList) (closePlan p m)))
+            EndedAs p k m closeList (closePlan p m) (outcome p (storeDisk p) n k m [] (decided (firstRefusal closeList) (closePlan p m)))
             → Kept p (outcome p (storeDisk p) n k m [] (decided (firstRefusal closeList) (closePlan p m)))
         go (ended-refused x e f g h) =
             refused-kept p k m _ x u (close-mild p (lentOk p k m) v m (u .base .state-ok) (λ z. table-clear p rg v (m .addresses) address-table) x e) f g h
         go (ended-done c f g h) = record {
           never-ninth = ap (isRefusedAs 9) f ∙ mild-closed;
-          runs-on = λ x. subst (λ (y : Memory). Run p (outcome p (storeDisk p) n k m [] (decided (firstRefusal closeList) (closePlan p m)) .drives) y) (sym h) (close-done c _ g);
+          runs-on = λ x. subst (λ (y : Memory). Run p (outcome p (storeDisk p) n k m [] (decided (firstRefusal closeList) (closePlan p m)) .drives) y) (sym h) (run-closed c _ g);
         }
         go (ended-cut c f) = cut-kept p _ f

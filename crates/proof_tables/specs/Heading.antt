@@ -32,7 +32,7 @@ use Rattle.law_drives.specs.Tests.{clash, and-false-left, cond-false, cond-same
 use Rattle.law_drives.specs.Tidy.{usedAt, Tidy}
 use Rattle.law_drives.specs.Zones.{Shaped}
 use Rattle.proof_tables.specs.Ranks.{same-best}
-use Rattle.proof_tables.specs.Run.{flies, awaits, Open, Lists, Healthy}
+use Rattle.proof_tables.specs.Run.{flies, awaits, OpenZone, Lists, HealthyState}
 use Rattle.proof_tables.specs.Tallies.{tally-none}
 
 -- ---- the segment that a write opens
@@ -41,8 +41,8 @@ module _ (p : Params) (r : Ranged p) (v : View) (sh : Shaped p v) (s g : ℕ) (t
   abbrev after : View
   after = storeAll storeView (headerStores p g (suc s) 0) v
 
-  same-off : (y : ℕ) → y < p .Z → (g ≡ y → ⊥) → SameZones p v after y
-  same-off y hy n d hd = sym (header-other p r v sh g (suc s) 0 hg em d y hd hy n)
+  opened-same-zones : (y : ℕ) → y < p .Z → (g ≡ y → ⊥) → SameZones p v after y
+  opened-same-zones y hy n d hd = sym (header-other p r v sh g (suc s) 0 hg em d y hd hy n)
 
   h0 : 0 < p .N
   h0 = omega (arith, r .drives-low)
@@ -57,35 +57,36 @@ module _ (p : Params) (r : Ranged p) (v : View) (sh : Shaped p v) (s g : ℕ) (t
   head-copied = ap headerCopied (header-block p r v sh g (suc s) 0 hg em) ∙ header-copied p 0 g (suc s) 0 (lit< tt)
 
   -- a used segment is the new one or was used
-  was : (y : ℕ) → y < p .Z → usedAt after y ≡ true → (y ≡ g) ⊎ ((g ≡ y → ⊥) × (usedAt v y ≡ true))
-  was y hy q = go (ℕ-discrete g y)
+  used-before-open : (y : ℕ) → y < p .Z → usedAt after y ≡ true → (y ≡ g) ⊎ ((g ≡ y → ⊥) × (usedAt v y ≡ true))
+  used-before-open y hy q = go (ℕ-discrete g y)
     where
       go : Dec (g ≡ y) → (y ≡ g) ⊎ ((g ≡ y → ⊥) × (usedAt v y ≡ true))
       go (yes e) = inl (sym e)
-      go (no n) = inr (n, zones-used p r v after y (same-off y hy n) ∙ q)
+      go (no n) = inr (n, zones-used p r v after y (opened-same-zones y hy n) ∙ q)
 
   hdr-same : (y : ℕ) → y < p .Z → (g ≡ y → ⊥) → headerAt v 0 y ≡ headerAt after 0 y
-  hdr-same y hy n = zones-header p r v after y (same-off y hy n)
+  hdr-same y hy n = zones-header p r v after y (opened-same-zones y hy n)
 
   pub head-tidy : Tidy p after (suc s)
   head-tidy = record {
     pointer-low = λ d z hd hz. low d z hd hz (ℕ-discrete g z);
     together = λ d z hd hz. tog d z hd hz (ℕ-discrete g z);
-    copied-less = λ z hz q. less z hz (was z hz q);
-    serial-known = λ z hz q. known z hz (was z hz q);
-    serial-once = λ y z hy hz a b e. one y z hy hz e (was y hy a) (was z hz b);
-    no-copy = λ y z hy hz a b e. nc y z hy hz e (was y hy a) (was z hz b);
+    copied-less = λ z hz q. less z hz (used-before-open z hz q);
+    serial-known = λ z hz q. known z hz (used-before-open z hz q);
+    serial-once = λ y z hy hz a b e. one y z hy hz e (used-before-open y hy a) (used-before-open z hz b);
+    no-copy = λ y z hy hz a b e. nc y z hy hz e (used-before-open y hy a) (used-before-open z hz b);
   }
     where
       low : (d z : ℕ) → d < p .N → z < p .Z → Dec (g ≡ z) → pointerAt after d z ≤ capacity p
       low d z hd hz (yes e) = subst (λ (x : ℕ). pointerAt after d x ≤ capacity p) e (let q = header-pointer p r v sh g (suc s) 0 hg em d hd in let c = capacity-over p r in omega arith)
-      low d z hd hz (no n) = subst (λ (x : ℕ). x ≤ capacity p) (zones-pointer p r v after z (same-off z hz n) d hd) (t .pointer-low d z hd hz)
+      low d z hd hz (no n) = subst (λ (x : ℕ). x ≤ capacity p) (zones-pointer p r v after z (opened-same-zones z hz n) d hd) (t .pointer-low d z hd hz)
 
       tog : (d z : ℕ) → d < p .N → z < p .Z → Dec (g ≡ z) → eqb (pointerAt after d z) 0 ≡ eqb (pointerAt after 0 z) 0
       tog d z hd hz (yes e) = subst (λ (x : ℕ). eqb (pointerAt after d x) 0 ≡ eqb (pointerAt after 0 x) 0) e
           (ap (λ (x : ℕ). eqb x 0) (header-pointer p r v sh g (suc s) 0 hg em d hd ∙ sym (header-pointer p r v sh g (suc s) 0 hg em 0 h0)))
       tog d z hd hz (no n) =
-          ap (λ (x : ℕ). eqb x 0) (sym (zones-pointer p r v after z (same-off z hz n) d hd)) ∙ t .together d z hd hz ∙ ap (λ (x : ℕ). eqb x 0) (zones-pointer p r v after z (same-off z hz n) 0 h0)
+          ap (λ (x : ℕ). eqb x 0) (sym (zones-pointer p r v after z (opened-same-zones z hz n) d hd)) ∙ t .together d z hd hz
+          ∙ ap (λ (x : ℕ). eqb x 0) (zones-pointer p r v after z (opened-same-zones z hz n) 0 h0)
 
       less : (z : ℕ) → z < p .Z → (z ≡ g) ⊎ ((g ≡ z → ⊥) × (usedAt v z ≡ true)) → headerCopied (headerAt after 0 z) < headerSerial (headerAt after 0 z)
       less z hz (inl e) = subst (λ (x : ℕ). headerCopied (headerAt after 0 x) < headerSerial (headerAt after 0 x)) (sym e) (let a = head-serial in let b = head-copied in omega arith)
@@ -140,13 +141,13 @@ module _ (p : Params) (r : Ranged p) (v : View) (sh : Shaped p v) (s g : ℕ) (t
           let k = cand-at p v 0 c m in
           let (hk, q) = remains-is-used p r v s t (k .of) (k .remains) in
           let n : g ≡ k .of → ⊥ = λ x. clash q (subst (λ (y : ℕ). usedAt v y ≡ false) x unused) in
-          at-cand p after 0 c (cand-goes p r v after (suc s) head-tidy c k (same-off (k .of) hk n) (sym (zones-used p r v after (k .of) (same-off (k .of) hk n)) ∙ q))
+          at-cand p after 0 c (cand-goes p r v after (suc s) head-tidy c k (opened-same-zones (k .of) hk n) (sym (zones-used p r v after (k .of) (opened-same-zones (k .of) hk n)) ∙ q))
 
       bwd : (c : Cand) → c .address ≡ a → In c (candidates p 0 (segments p after 0)) → In c (candidates p 0 (segments p v 0))
       bwd c e m = go (cand-at p after 0 c m)
         where
           go : CandAt p after 0 c → In c (candidates p 0 (segments p v 0))
-          go k = two (was (k .of) hk q)
+          go k = two (used-before-open (k .of) hk q)
             where
               hk : k .of < p .Z
               hk = remains-is-used p r after (suc s) head-tidy (k .of) (k .remains) .0
@@ -160,7 +161,7 @@ module _ (p : Params) (r : Ranged p) (v : View) (sh : Shaped p v) (s g : ℕ) (t
                   let z : dataStored p (zoneAt after (c .drive) (k .of)) ≡ 0 =
                   ap (λ (x : ℕ). dataStored p (zoneAt after (c .drive) x)) e ∙ no-data (c .drive) (its-drive-low p r after (suc s) head-tidy c k) in
                   let bad : ⊥ = omega arith in bad)
-              two (inr (n, w)) = at-cand p v 0 c (cand-goes p r after v s t c k (λ d hd. sym (same-off (k .of) hk n d hd)) w)
+              two (inr (n, w)) = at-cand p v 0 c (cand-goes p r after v s t c k (λ d hd. sym (opened-same-zones (k .of) hk n d hd)) w)
 
   pub head-rows : (d y : ℕ) → d < p .N → y < p .Z → rowAt p v 0 d y ≡ rowAt p after 0 d y
   head-rows d y hd hy = go (ℕ-discrete g y)
@@ -179,7 +180,7 @@ module _ (p : Params) (r : Ranged p) (v : View) (sh : Shaped p v) (s g : ℕ) (t
 
       go : Dec (g ≡ y) → rowAt p v 0 d y ≡ rowAt p after 0 d y
       go (yes e) = subst (λ (x : ℕ). rowAt p v 0 d x ≡ rowAt p after 0 d x) e (empty-before ∙ sym empty-after)
-      go (no n) = row-goes p r v after s (suc s) t head-tidy d y hy (same-off y hy n)
+      go (no n) = row-goes p r v after s (suc s) t head-tidy d y hy (opened-same-zones y hy n)
 
   pub head-addresses : addressTable p (candidates p 0 (segments p v 0)) ≡ addressTable p (candidates p 0 (segments p after 0))
   head-addresses = addresses-cong p (candidates p 0 (segments p v 0)) (candidates p 0 (segments p after 0)) (λ a h. head-cands a)
@@ -193,10 +194,10 @@ module _ (p : Params) (r : Ranged p) (v : View) (sh : Shaped p v) (s g : ℕ) (t
 
   -- ---- what holds
 
-  pub head-healthy : (st : State) → Healthy p v st → st .serial .0 ≡ s → ((z : ℕ) → st .opened ≡ suc z → ⊥) → ((i : ℕ) → i < 8 → flies st i ≡ false) → Healthy p after (setOpen st g (suc s))
+  pub head-healthy : (st : State) → HealthyState p v st → st .serial .0 ≡ s → ((z : ℕ) → st .opened ≡ suc z → ⊥) → ((i : ℕ) → i < 8 → flies st i ≡ false) → HealthyState p after (setOpen st g (suc s))
   head-healthy st h es nz nf = record {
     tidy = subst (λ (x : ℕ). Tidy p after x) (sym serial-is!) head-tidy;
-    sealed-but = λ z hz q. sealed z hz (was z hz q);
+    sealed-but = λ z hz q. sealed z hz (used-before-open z hz q);
     opens-at = λ z q. at z (sym opened-is ∙ q);
     shut = λ q. absurd (let x : suc g ≡ 0 = sym opened-is ∙ q in let y : ⊥ = omega arith in y);
     serial-fits = subst (λ (x : ℕ). x < 256 ^ 8) (sym serial-is!) fit;
@@ -235,7 +236,7 @@ module _ (p : Params) (r : Ranged p) (v : View) (sh : Shaped p v) (s g : ℕ) (t
 
       sealed : (z : ℕ) → z < p .Z → (z ≡ g) ⊎ ((g ≡ z → ⊥) × (usedAt v z ≡ true)) → (su .opened ≡ suc z) ⊎ ((d : ℕ) → d < p .N → pointerAt after d z ≡ capacity p)
       sealed z hz (inl e) = inl (opened-is ∙ ap suc (sym e))
-      sealed z hz (inr (n, q)) = ⊎-elim (λ x. absurd (nz z x)) (λ x. inr (λ d hd. sym (zones-pointer p r v after z (same-off z hz n) d hd) ∙ x d hd)) (h .sealed-but z hz q)
+      sealed z hz (inr (n, q)) = ⊎-elim (λ x. absurd (nz z x)) (λ x. inr (λ d hd. sym (zones-pointer p r v after z (opened-same-zones z hz n) d hd) ∙ x d hd)) (h .sealed-but z hz q)
 
       none : (d : ℕ) → tally (awaits su (flies su) d) slots ≡ 0
       none d = tally-none (awaits su (flies su) d) slots (λ i m. and-false-left (flies su i) (not (isIn (landedIn su i) d)) (flies-is i ∙ nf i (slots-in i m)))
@@ -243,7 +244,7 @@ module _ (p : Params) (r : Ranged p) (v : View) (sh : Shaped p v) (s g : ℕ) (t
       one : (d : ℕ) → d < p .N → pointerAt after d g ≡ 1
       one d hd = header-pointer p r v sh g (suc s) 0 hg em d hd
 
-      new : Open p after su (flies su) g
+      new : OpenZone p after su (flies su) g
       new = record {
         opened-zone = hg;
         has-header = λ d hd. let e = one d hd in omega arith;
@@ -254,5 +255,5 @@ module _ (p : Params) (r : Ranged p) (v : View) (sh : Shaped p v) (s g : ℕ) (t
         goes-on = λ q. absurd (let e = sym next-is ∙ q in let l = r .stripes-low in let z : ⊥ = omega arith in z);
       }
 
-      at : (z : ℕ) → suc g ≡ suc z → Open p after su (flies su) z
-      at z q = subst (λ (x : ℕ). Open p after su (flies su) x) (let e : g ≡ z = omega arith in e) new
+      at : (z : ℕ) → suc g ≡ suc z → OpenZone p after su (flies su) z
+      at z q = subst (λ (x : ℕ). OpenZone p after su (flies su) x) (let e : g ≡ z = omega arith in e) new

@@ -46,14 +46,14 @@ use Rattle.law_drives.specs.Tests.{clash, and-false-right, cond-true, cond-fals
 use Rattle.law_drives.specs.Tidy.{usedAt, Tidy}
 use Rattle.law_drives.specs.Zones.{Shaped, Within, Roomy, shaped-after}
 use Rattle.proof_tables.specs.Chunks.{pointer-some, pointer-data, offset-group, chunk-roomy, chunk-tidy, addresses-stay, addresses-land, compact-lands}
-use Rattle.proof_tables.specs.Chunks.{sealed1, chunk-healthy, chunk-state, chunk-missing, freed-state, freed-healthy, all-behind, none-left}
+use Rattle.proof_tables.specs.Chunks.{sealed1, chunk-healthy, chunk-state, chunk-missing, freed-state, freed-healthy, all-behind, last-flight}
 use Rattle.proof_tables.specs.Going.{well-run, address-table, compact-table, buffer-long}
-use Rattle.proof_tables.specs.Live.{Holds, table-holds}
-use Rattle.proof_tables.specs.Live.Holds.{holds-none, holds-some}
+use Rattle.proof_tables.specs.Live.{EntryHolds, table-holds}
+use Rattle.proof_tables.specs.Live.EntryHolds.{holds-none, holds-some}
 use Rattle.proof_tables.specs.Losing.{refused-kept, cut-kept}
-use Rattle.proof_tables.specs.Outcomes.{Ended, ended}
-use Rattle.proof_tables.specs.Outcomes.Ended.{ended-refused, ended-done, ended-cut}
-use Rattle.proof_tables.specs.Run.{flies, Lists, Healthy, Well, Run, Kept}
+use Rattle.proof_tables.specs.Outcomes.{EndedAs, outcome-ends}
+use Rattle.proof_tables.specs.Outcomes.EndedAs.{ended-refused, ended-done, ended-cut}
+use Rattle.proof_tables.specs.Run.{flies, Lists, HealthyState, Well, Run, Kept}
 use Rattle.proof_tables.specs.Sealing.{seal-pointer, seal-roomy, seal-within, seal-grows, seal-records}
 use Rattle.proof_tables.specs.Slots.{free-lists}
 
@@ -85,7 +85,7 @@ slot-of-stripe st s h = go (as! h) (test (any f slots))
     go l (yes! q) = subst (λ (n : ℕ). (flies st n ≡ true) × (stripeIn st n ≡ s)) (sym index!) (parts (indexOf f slots) (ap f (sym (at (indexOf f slots) l)) ∙ index-passes f slots 0 q))
 
 -- a chunk that waits
-pub record Waits (p : Params) (v : View) (st : State) (d s : ℕ) : Type 0 where
+pub record LandWaits (p : Params) (v : View) (st : State) (d s : ℕ) : Type 0 where
   pub drive-ok : d < p .N
   pub slot-ok : slotOf st s < 8
   pub slot-flies : flies st (slotOf st s) ≡ true
@@ -93,8 +93,8 @@ pub record Waits (p : Params) (v : View) (st : State) (d s : ℕ) : Type 0 where
   pub slot-ready : ready p st (slotOf st s) d ≡ true
   pub slot-opened : st .opened ≡ suc (openSegment st)
 
-pub waits : (p : Params) (v : View) (st : State) (d s : ℕ) → Healthy p v st → waiting p st d s ≡ true → Waits p v st d s
-waits p v st d s h q =
+pub land-waits : (p : Params) (v : View) (st : State) (d s : ℕ) → HealthyState p v st → waiting p st d s ≡ true → LandWaits p v st d s
+land-waits p v st d s h q =
     let (a, (b, c)) = parts q in
     let (f, e) = slot-of-stripe st s b in
     record { drive-ok = a; slot-ok = b; slot-flies = f; slot-stripe = e; slot-ready = c; slot-opened = opened! (st .opened) refl b f }
@@ -135,13 +135,13 @@ module _ (p : Params) (k : Disk) (m : Memory) (u : Run p k m) (we : Well p k m) 
   sh : Shaped p v
   sh = u .base .shaped
 
-  he : Healthy p v st
+  he : HealthyState p v st
   he = we .healthy
 
-  at! : m .addresses ≡ addressTable p (candidates p 0 (segments p v 0))
-  at! = address-table p k m u we
+  land-table-said : m .addresses ≡ addressTable p (candidates p 0 (segments p v 0))
+  land-table-said = address-table p k m u we
 
-  module _ (w : Waits p v st d s) where
+  module _ (w : LandWaits p v st d s) where
     abbrev b : List ℕ
     b = slotBlock p (m .inflight) i d
 
@@ -217,9 +217,9 @@ module _ (p : Params) (k : Disk) (m : Memory) (u : Run p k m) (we : Well p k m) 
         q = placeAt (m .addresses) (e .address)
 
         inner : e .address < p .L → cond (eqb (placeAt (m .addresses) (e .address)) neverPlace) [] (placeFaults p v 0 (placeAt (m .addresses) (e .address))) ≡ []
-        inner l = go (table-holds p rg v (m .addresses) at! (e .address) l)
+        inner l = go (table-holds p rg v (m .addresses) land-table-said (e .address) l)
           where
-            go : Holds p v (m .addresses) (e .address) → cond (eqb (placeAt (m .addresses) (e .address)) neverPlace) [] (placeFaults p v 0 (placeAt (m .addresses) (e .address))) ≡ []
+            go : EntryHolds p v (m .addresses) (e .address) → cond (eqb (placeAt (m .addresses) (e .address)) neverPlace) [] (placeFaults p v 0 (placeAt (m .addresses) (e .address))) ≡ []
             go (holds-none x y) =
                 cond-true (eqb (placeAt (m .addresses) (e .address)) neverPlace) [] (placeFaults p v 0 (placeAt (m .addresses) (e .address)))
                 (eq-eqb (placeAt (m .addresses) (e .address)) neverPlace y)
@@ -267,12 +267,12 @@ module _ (p : Params) (k : Disk) (m : Memory) (u : Run p k m) (we : Well p k m) 
     store-within x (inr n) = absurd n
 
     -- the memory after a chunk
-    chunk-run : (su : State) (tb : List ℕ) → su .missing ≡ st .missing → StateOk p su → Healthy p v1 su → tb ≡ addressTable p (candidates p 0 (segments p v1 0))
+    chunk-run : (su : State) (tb : List ℕ) → su .missing ≡ st .missing → StateOk p su → HealthyState p v1 su → tb ≡ addressTable p (candidates p 0 (segments p v1 0))
         → Run p (storeAll (storeDisk p) (store ∷ []) k) (mkMemory su tb new-compact (m .inflight))
     chunk-run su tb e sk hk t =
         well-run p k (store ∷ []) (mkMemory su tb new-compact (m .inflight)) (u .base .ranged) (whole-of p k m (u .base .lent)) sh
         (chunk-roomy p rg v sh st he so z oz d i hd hi fi rd b lb) store-within
-        (e ∙ we .none-missing) sk (subst (λ (x : View). Healthy p x su) (sym one-store) hk)
+        (e ∙ we .none-missing) sk (subst (λ (x : View). HealthyState p x su) (sym one-store) hk)
         (t ∙ ap (λ (x : View). addressTable p (candidates p 0 (segments p x 0))) (sym one-store))
         (compact-now ∙ ap (λ (x : View). compactTable p (segments p x 0)) (sym one-store)) (buffer-long p k m u we)
 
@@ -290,7 +290,7 @@ module _ (p : Params) (k : Disk) (m : Memory) (u : Run p k m) (we : Well p k m) 
         (subst (λ (x : Memory). Run p (storeAll (storeDisk p) (store ∷ []) k) x) (sym (memory-is q))
         (chunk-run st1 (m .addresses) (chunk-missing p rg v sh st he so z oz d i hd hi fi rd b lb)
         (chunk-state p rg v sh st he so z oz d i hd hi fi rd b lb) (chunk-healthy p rg v sh st he so z oz d i hd hi fi rd b lb)
-        (at! ∙ addresses-stay p rg v sh st he so z oz d i hd hi fi rd b lb q)))
+        (land-table-said ∙ addresses-stay p rg v sh st he so z oz d i hd hi fi rd b lb q)))
       where
         stores-is : completes p st i d ≡ false → plan .stores ≡ store ∷ []
         stores-is q = unfold landPlan landStore seals zoneOn in rw q
@@ -305,7 +305,7 @@ module _ (p : Params) (k : Disk) (m : Memory) (u : Run p k m) (we : Well p k m) 
     free-missing = unfold freeStripe markLanded in refl
 
     addresses-now : completes p st i d ≡ true → new-addresses ≡ addressTable p (candidates p 0 (segments p v1 0))
-    addresses-now q = addresses-land p rg v sh st he so z oz d i hd hi fi rd b lb q (m .addresses) at!
+    addresses-now q = addresses-land p rg v sh st he so z oz d i hd hi fi rd b lb q (m .addresses) land-table-said
 
     -- it completes its stripe, and others are to come
     lands-stripe : completes p st i d ≡ true → seals p st i d ≡ false → Run p (storeAll (storeDisk p) (plan .stores) k) (plan .memory)
@@ -344,8 +344,8 @@ module _ (p : Params) (k : Disk) (m : Memory) (u : Run p k m) (we : Well p k m) 
         let s0 = st .serial .0 in
         let ev : storeAll storeView ((store ∷ []) ++ ss) v ≡ v2 = storeAll-append storeView (store ∷ []) ss v ∙ ap (storeAll storeView ss) one-store in
         let su = setClosed st2 in
-        let none! : (j : ℕ) → j < 8 → flies su j ≡ false = λ j hj. closed-flies j ∙ none-left p rg v sh st he so z oz d i hd hi fi rd b lb one j hj in
-        let hk : Healthy p v2 su = record {
+        let none! : (j : ℕ) → j < 8 → flies su j ≡ false = λ j hj. closed-flies j ∙ last-flight p rg v sh st he so z oz d i hd hi fi rd b lb one j hj in
+        let hk : HealthyState p v2 su = record {
           tidy = subst (λ (x : ℕ). Tidy p v2 x) (sym closed-serial) (grows-tidy p rg v1 v2 z gr s0 t1);
           sealed-but = λ y hy x. inr (sealed! y hy v2 x gr (ℕ-discrete z y) (seal-pointer p rg v1 sh1 z hz behind));
           opens-at = λ y x. absurd (let a = sym closed-opened ∙ x in let bad : ⊥ = omega arith in bad);
@@ -360,7 +360,7 @@ module _ (p : Params) (k : Disk) (m : Memory) (u : Run p k m) (we : Well p k m) 
         (roomy-append p v (store ∷ []) ss (sh .sized) (chunk-roomy p rg v sh st he so z oz d i hd hi fi rd b lb)
         (subst (λ (x : View). Roomy p x ss) (sym one-store) (seal-roomy p rg v1 sh1 z hz behind)))
         (within-append p (store ∷ []) ss store-within (seal-within p rg v1 sh1 z hz behind))
-        (closed-missing ∙ we .none-missing) (closed-ok (freed-state p rg v sh st he so z oz d i hd hi fi rd b lb)) (subst (λ (x : View). Healthy p x su) (sym ev) hk)
+        (closed-missing ∙ we .none-missing) (closed-ok (freed-state p rg v sh st he so z oz d i hd hi fi rd b lb)) (subst (λ (x : View). HealthyState p x su) (sym ev) hk)
         (addresses-now q ∙ ap (addressTable p) (grows-candidates p rg v1 v2 z gr s0 t1 recs) ∙ ap (λ (x : View). addressTable p (candidates p 0 (segments p x 0))) (sym ev))
         (compact-now ∙ grows-compact p rg v1 v2 z gr s0 t1 recs ∙ ap (λ (x : View). compactTable p (segments p x 0)) (sym ev))
         (buffer-long p k m u we)))
@@ -435,8 +435,8 @@ module _ (p : Params) (k : Disk) (m : Memory) (u : Run p k m) (we : Well p k m) 
         memory-is : completes p st i d ≡ true → seals p st i d ≡ true → plan .memory ≡ mkMemory (setClosed st2) new-addresses new-compact (m .inflight)
         memory-is q sl = unfold landPlan landStore zoneOn in rw (sl, q)
 
-    land-done : (x : Disk) → x ≡ storeAll (storeDisk p) (plan .stores) k → Run p x (plan .memory)
-    land-done x ex = subst (λ (y : Disk). Run p y (plan .memory)) (sym ex) (go (test (completes p st i d)) (test (seals p st i d)))
+    run-landed : (x : Disk) → x ≡ storeAll (storeDisk p) (plan .stores) k → Run p x (plan .memory)
+    run-landed x ex = subst (λ (y : Disk). Run p y (plan .memory)) (sym ex) (go (test (completes p st i d)) (test (seals p st i d)))
       where
         go : Test (completes p st i d) → Test (seals p st i d) → Run p (storeAll (storeDisk p) (plan .stores) k) (plan .memory)
         go (no! q) t = lands-chunk q
@@ -448,22 +448,22 @@ module _ (p : Params) (k : Disk) (m : Memory) (u : Run p k m) (we : Well p k m) 
 
   pub well-land : (n : ℕ) → Kept p (callDisk p k m (land d s n))
   unfolding callDisk callOn verdict storeCount lentBlock landVerdict
-  well-land n = go (ended p k m checks (landPlan p v m d s) n [])
+  well-land n = go (outcome-ends p k m checks (landPlan p v m d s) n [])
     where
       mild-landed : isRefusedAs 9 (landPlan p v m d s .answer) ≡ false
       mild-landed = unfold landPlan isRefusedAs isRefused kind in refl
 
-      waits! : waiting p st d s ≡ true → Waits p v st d s
-      waits! q = waits p v st d s he q
+      waits! : waiting p st d s ≡ true → LandWaits p v st d s
+      waits! q = land-waits p v st d s he q
 
       go :
-          Ended p k m checks (landPlan p v m d s) (outcome p (storeDisk p) n k m [] (decided (firstRefusal checks) (landPlan p v m d s)))
+          EndedAs p k m checks (landPlan p v m d s) (outcome p (storeDisk p) n k m [] (decided (firstRefusal checks) (landPlan p v m d s)))
           → Kept p (outcome p (storeDisk p) n k m [] (decided (firstRefusal checks) (landPlan p v m d s)))
       go (ended-refused x e f g h) =
           refused-kept p k m _ x u (land-mild p (lentOk p k m) v m d s (u .base .state-ok) (λ z q. faults-none (waits! q)) x e) f g h
       go (ended-done c f g h) = record {
         never-ninth = ap (isRefusedAs 9) f ∙ mild-landed;
         runs-on = λ x. subst (λ (y : Memory). Run p (outcome p (storeDisk p) n k m [] (decided (firstRefusal checks) (landPlan p v m d s)) .drives) y) (sym h)
-            (land-done (waits! (land-passed p (lentOk p k m) v m d s c .waits)) _ g);
+            (run-landed (waits! (land-passed p (lentOk p k m) v m d s c .waits)) _ g);
       }
       go (ended-cut c f) = cut-kept p _ f

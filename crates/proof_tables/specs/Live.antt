@@ -25,11 +25,11 @@ use Rattle.law_drives.specs.Tables.{place-at}
 use Rattle.law_drives.specs.Tests.{clash}
 
 -- what the table holds of an address
-pub data Holds (p : Params) (v : View) (tb : List ℕ) (a : ℕ) : Type 0 where
-  holds-none : best none (candsOf a (candidates p 0 (segments p v 0))) ≡ none → placeAt tb a ≡ neverPlace → Holds p v tb a
-  holds-some : (c : Cand) → best none (candsOf a (candidates p 0 (segments p v 0))) ≡ some c → CandAt p v 0 c → Spot p v 0 c → c .address ≡ a → placeAt tb a ≡ c .place → Holds p v tb a
+pub data EntryHolds (p : Params) (v : View) (tb : List ℕ) (a : ℕ) : Type 0 where
+  holds-none : best none (candsOf a (candidates p 0 (segments p v 0))) ≡ none → placeAt tb a ≡ neverPlace → EntryHolds p v tb a
+  holds-some : (c : Cand) → best none (candsOf a (candidates p 0 (segments p v 0))) ≡ some c → CandAt p v 0 c → Spot p v 0 c → c .address ≡ a → placeAt tb a ≡ c .place → EntryHolds p v tb a
 
-pub table-holds : (p : Params) (r : Ranged p) (v : View) (tb : List ℕ) → tb ≡ addressTable p (candidates p 0 (segments p v 0)) → (a : ℕ) → a < p .L → Holds p v tb a
+pub table-holds : (p : Params) (r : Ranged p) (v : View) (tb : List ℕ) → tb ≡ addressTable p (candidates p 0 (segments p v 0)) → (a : ℕ) → a < p .L → EntryHolds p v tb a
 table-holds p r v tb e a h = go (best none (candsOf a cs)) refl
   where
     cs : List Cand
@@ -38,7 +38,7 @@ table-holds p r v tb e a h = go (best none (candsOf a cs)) refl
     read! : placeOr (best none (candsOf a cs)) < 256 ^ 4 → placeAt tb a ≡ placeOr (best none (candsOf a cs))
     read! l = ap (λ (x : List ℕ). placeAt x a) e ∙ place-at p cs a h l
 
-    go : (o : Opt Cand) → best none (candsOf a cs) ≡ o → Holds p v tb a
+    go : (o : Opt Cand) → best none (candsOf a cs) ≡ o → EntryHolds p v tb a
     go none q =
         let x : placeOr (best none (candsOf a cs)) ≡ neverPlace = ap placeOr q ∙ nowhere! in
         holds-none q (read! (subst (λ (y : ℕ). y < 256 ^ 4) (sym x) (lit< tt)) ∙ x)
@@ -79,7 +79,7 @@ places-pointed p r v tb e q m = go (as! m)
         let (a, j, f) = map-in (placeAt tb) (below (p .L)) q i in
         two a (below-in (p .L) a j) f x (table-holds p r v tb e a (below-in (p .L) a j))
       where
-        two : (a : ℕ) → a < p .L → q ≡ placeAt tb a → not (eqb q neverPlace) ≡ true → Holds p v tb a → Pointed p v q
+        two : (a : ℕ) → a < p .L → q ≡ placeAt tb a → not (eqb q neverPlace) ≡ true → EntryHolds p v tb a → Pointed p v q
         two a ha f x (holds-none b y) = clash (eq-eqb q neverPlace (f ∙ y)) (not-true (eqb q neverPlace) x)
         two a ha f x (holds-some c b k t ea y) = record { address = a; cand = c; address-low = ha; wins = b; at-cand! = k; spot = t; of-address = ea; place! = f ∙ y }
 
@@ -93,7 +93,7 @@ holds-place p r v tb e a c h q = go (table-holds p r v tb e a h)
         (subst (λ (x : ℕ). In x (map (placeAt tb) (below (p .L)))) f (in-map (placeAt tb) (below (p .L)) a (in-below (p .L) a h)))
         (ap not (ne-eqb (c .place) neverPlace (λ x. let z : ⊥ = omega arith in z)))
 
-    go : Holds p v tb a → In (c .place) (placesIn p tb)
+    go : EntryHolds p v tb a → In (c .place) (placesIn p tb)
     go (holds-none b y) = absurd (let e : some c ≡ none = sym q ∙ b in let x : _≡_ {A = ℕ} 0 1 = cc in let z : ⊥ = omega arith in z)
     go (holds-some d b k t ea y) =
         let e : d ≡ c = (let x : some d ≡ some c = sym b ∙ q in cc) in

@@ -24,7 +24,6 @@ use Rattle.spec.specs.Rebuild.{rebuildChecks, rebuildStores, rebuildVerdict}
 use Rattle.spec.specs.Reclaim.{reclaimChecks, reclaimVerdict, victim}
 use Rattle.spec.specs.Segments.{lowDrive, segments, candidates, addressTable, compactTable}
 use Rattle.spec.specs.Write.{writeChecks, writeVerdict}
-use Rattle.law_basic.specs.Be.{room}
 use Rattle.law_basic.specs.Geometry.{Ranged, ranged}
 use Rattle.law_views.specs.Views.{seen, view-stores, whole-stores}
 use Rattle.law_drives.specs.Accept.{Accepted, in-groups}
@@ -40,10 +39,10 @@ use Rattle.law_drives.specs.Spots.{InGroups}
 use Rattle.law_drives.specs.Tests.{clash}
 use Rattle.law_drives.specs.Zones.{Shaped, all-fit, shaped-after}
 use Rattle.proof_tables.specs.Base.{Base}
-use Rattle.proof_tables.specs.Outcomes.{Ended, ended, cut-cut, cut-mild}
-use Rattle.proof_tables.specs.Outcomes.Ended.{ended-refused, ended-done, ended-cut}
+use Rattle.proof_tables.specs.Outcomes.{EndedAs, outcome-ends, cut-cut, cut-mild}
+use Rattle.proof_tables.specs.Outcomes.EndedAs.{ended-refused, ended-done, ended-cut}
 use Rattle.proof_tables.specs.Reading.{Idle}
-use Rattle.proof_tables.specs.Run.{Lost, Run, Kept}
+use Rattle.proof_tables.specs.Run.{LostDrive, Run, Kept}
 
 -- ---- a call that changes nothing keeps what holds
 
@@ -68,7 +67,7 @@ cut-kept p r e = record {
 
 -- ---- calls while a drive is missing
 
-module _ (p : Params) (k : Disk) (m : Memory) (u : Run p k m) (lo : Lost p k m) where
+module _ (p : Params) (k : Disk) (m : Memory) (u : Run p k m) (lo : LostDrive p k m) where
   abbrev v : View
   v = seen p k
 
@@ -81,38 +80,38 @@ module _ (p : Params) (k : Disk) (m : Memory) (u : Run p k m) (lo : Lost p k m) 
   missing-some : eqb (m .state .missing) 0 ≡ false
   missing-some = ap (λ (x : ℕ). eqb x 0) (lo .names-it) ∙ named-some p rg d (lo .which-low)
 
-  missing-none : {X : Type 0} → m .state .missing ≡ 0 → X
-  missing-none e = clash (eq-eqb (m .state .missing) 0 e) missing-some
+  not-healthy : {X : Type 0} → m .state .missing ≡ 0 → X
+  not-healthy e = clash (eq-eqb (m .state .missing) 0 e) missing-some
 
   -- a list of checks that wants no drive missing stops a call
-  stopped : (cs : List Check) (q : Plan) (n : ℕ) (b : List ℕ) → Mild cs → (firstRefusal cs ≡ none → m .state .missing ≡ 0)
+  stopped-kept : (cs : List Check) (q : Plan) (n : ℕ) (b : List ℕ) → Mild cs → (firstRefusal cs ≡ none → m .state .missing ≡ 0)
       → Kept p (outcome p (storeDisk p) n k m b (decided (firstRefusal cs) q))
-  stopped cs q n b mild healthy = go (ended p k m cs q n b)
+  stopped-kept cs q n b mild healthy = go (outcome-ends p k m cs q n b)
     where
-      go : Ended p k m cs q (outcome p (storeDisk p) n k m b (decided (firstRefusal cs) q)) → Kept p (outcome p (storeDisk p) n k m b (decided (firstRefusal cs) q))
+      go : EndedAs p k m cs q (outcome p (storeDisk p) n k m b (decided (firstRefusal cs) q)) → Kept p (outcome p (storeDisk p) n k m b (decided (firstRefusal cs) q))
       go (ended-refused a e f g h) = refused-kept p k m _ a u (mild a e) f g h
-      go (ended-done c f g h) = missing-none (healthy c)
+      go (ended-done c f g h) = not-healthy (healthy c)
       go (ended-cut c f) = cut-kept p _ f
 
   pub lost-write : (a : ℕ) (b : List ℕ) (n : ℕ) → Kept p (callDisk p k m (write a b n))
   unfolding callDisk callOn verdict storeCount lentBlock writeVerdict
-  lost-write a b n = stopped (writeChecks p (lentOk p k m) v m a b) _ n b (write-mild p (lentOk p k m) v m a b (u .base .state-ok)) (λ e. write-passed p (lentOk p k m) v m a b e .healthy)
+  lost-write a b n = stopped-kept (writeChecks p (lentOk p k m) v m a b) _ n b (write-mild p (lentOk p k m) v m a b (u .base .state-ok)) (λ e. write-passed p (lentOk p k m) v m a b e .healthy)
 
   pub lost-land : (e s n : ℕ) → Kept p (callDisk p k m (land e s n))
   unfolding callDisk callOn verdict storeCount lentBlock landVerdict
   lost-land e s n =
-      stopped (landChecks p (lentOk p k m) v m e s) _ n [] (land-mild p (lentOk p k m) v m e s (u .base .state-ok) (λ z w. missing-none z))
+      stopped-kept (landChecks p (lentOk p k m) v m e s) _ n [] (land-mild p (lentOk p k m) v m e s (u .base .state-ok) (λ z w. not-healthy z))
       (λ c. land-passed p (lentOk p k m) v m e s c .healthy)
 
   pub lost-close : (n : ℕ) → Kept p (callDisk p k m (close n))
   unfolding callDisk callOn verdict storeCount lentBlock closeVerdict
-  lost-close n = stopped (closeChecks p (lentOk p k m) v m) _ n [] (close-mild p (lentOk p k m) v m (u .base .state-ok) (λ z. missing-none z)) (λ c. close-passed p (lentOk p k m) v m c .healthy)
+  lost-close n = stopped-kept (closeChecks p (lentOk p k m) v m) _ n [] (close-mild p (lentOk p k m) v m (u .base .state-ok) (λ z. not-healthy z)) (λ c. close-passed p (lentOk p k m) v m c .healthy)
 
   pub lost-reclaim : (n : ℕ) → Kept p (callDisk p k m (reclaim n))
   unfolding callDisk callOn verdict storeCount lentBlock reclaimVerdict
   lost-reclaim n =
       let w = victim p v (m .addresses) in
-      stopped (reclaimChecks p (lentOk p k m) v m w) _ n [] (reclaim-mild p (lentOk p k m) v m w (u .base .state-ok) (λ z. missing-none z) (λ z t. missing-none z))
+      stopped-kept (reclaimChecks p (lentOk p k m) v m w) _ n [] (reclaim-mild p (lentOk p k m) v m w (u .base .state-ok) (λ z. not-healthy z) (λ z t. not-healthy z))
       (λ c. reclaim-passed p (lentOk p k m) v m w c .healthy)
 
   -- ---- the rebuild
@@ -129,8 +128,8 @@ module _ (p : Params) (k : Disk) (m : Memory) (u : Run p k m) (lo : Lost p k m) 
         let a : Accepted p v (named e) = subst (λ (x : ℕ). Accepted p v x) q (lo .accepts) in
         (a .pointers-ok, a .segments-ok)
 
-    done : firstRefusal checks ≡ none → (x : Disk) → x ≡ storeAll (storeDisk p) (plan .stores) k → Run p x m
-    done c x ex =
+    lost-run : firstRefusal checks ≡ none → (x : Disk) → x ≡ storeAll (storeDisk p) (plan .stores) k → Run p x m
+    lost-run c x ex =
         let r = rebuild-passed p (lentOk p k m) v m e (segments p v (named e)) c in
         let he = r .drive-low in
         let q = r .names in
@@ -175,15 +174,15 @@ module _ (p : Params) (k : Disk) (m : Memory) (u : Run p k m) (lo : Lost p k m) 
 
     pub lost-rebuild : Kept p (callDisk p k m (rebuild e n))
     unfolding callDisk callOn verdict storeCount lentBlock rebuildVerdict
-    lost-rebuild = go (ended p k m checks plan n [])
+    lost-rebuild = go (outcome-ends p k m checks plan n [])
       where
         mild-rebuilt : isRefusedAs 9 Rebuilt ≡ false
         mild-rebuilt = unfold isRefusedAs isRefused kind in refl
 
-        go : Ended p k m checks plan (outcome p (storeDisk p) n k m [] (decided (firstRefusal checks) plan)) → Kept p (outcome p (storeDisk p) n k m [] (decided (firstRefusal checks) plan))
+        go : EndedAs p k m checks plan (outcome p (storeDisk p) n k m [] (decided (firstRefusal checks) plan)) → Kept p (outcome p (storeDisk p) n k m [] (decided (firstRefusal checks) plan))
         go (ended-refused a x f g h) = refused-kept p k m _ a u (rebuild-mild p (lentOk p k m) v m e (segments p v (named e)) fine a x) f g h
         go (ended-done c f g h) = record {
           never-ninth = ap (isRefusedAs 9) f ∙ mild-rebuilt;
-          runs-on = λ x. subst (λ (y : Memory). Run p (outcome p (storeDisk p) n k m [] (decided (firstRefusal checks) plan) .drives) y) (sym h) (done c _ g);
+          runs-on = λ x. subst (λ (y : Memory). Run p (outcome p (storeDisk p) n k m [] (decided (firstRefusal checks) plan) .drives) y) (sym h) (lost-run c _ g);
         }
         go (ended-cut c f) = cut-kept p _ f

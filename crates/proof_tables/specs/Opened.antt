@@ -15,7 +15,6 @@ use Rattle.spec.specs.Layout.{dataPosition, isData, group, Rec}
 use Rattle.spec.specs.Lists.{any, tally, isIn}
 use Rattle.spec.specs.Memory.{slots, cell, stripeIn, filledIn, landedIn, entryIn, beginStripe, addEntry}
 use Rattle.spec.specs.Params.{dataCount}
-use Rattle.law_basic.specs.Be.{room}
 use Rattle.law_basic.specs.Geometry.{Ranged}
 use Rattle.law_basic.specs.Mask.{isIn-empty}
 use Rattle.law_basic.specs.Ranges.{Test, test, and-both}
@@ -24,14 +23,14 @@ use Rattle.law_drives.specs.Members.{none-in, any-in}
 use Rattle.law_drives.specs.States.{in-slots, slots-in}
 use Rattle.law_drives.specs.Tests.{clash, and-false-left, or-true-right, eqb-self}
 use Rattle.law_drives.specs.Tidy.{spareAt}
-use Rattle.proof_tables.specs.Run.{awaits, LandedAt, Flight, Open, Lists}
-use Rattle.proof_tables.specs.Slots.{cell-same, begin-number, begin-number-other, begin-filled, begin-filled-other, begin-landed, begin-landed-other}
-use Rattle.proof_tables.specs.Slots.{begin-entry-other, begin-offset, add-filled, add-filled-other, add-number, add-landed, add-offset, add-entry}
+use Rattle.proof_tables.specs.Run.{awaits, LandedAt, SlotFlies, OpenZone, Lists}
+use Rattle.proof_tables.specs.Slots.{cell-same, number-begun, begin-number-other, filled-begun, begin-filled-other, landed-begun, begin-landed-other}
+use Rattle.proof_tables.specs.Slots.{begin-entry-other, begin-offset, filled-added, add-filled-other, number-added, landed-added, offset-added, entry-added}
 use Rattle.proof_tables.specs.Slots.{add-entry-other}
 use Rattle.proof_tables.specs.Tallies.{tally-cong, tally-none, tally-some, tally-more}
 
 -- the eighths in use, told otherwise
-pub busy-same : (p : Params) (v : View) (st : State) (busy busy′ : ℕ → Bool) (z : ℕ) → ((i : ℕ) → i < 8 → busy i ≡ busy′ i) → Open p v st busy z → Open p v st busy′ z
+pub busy-same : (p : Params) (v : View) (st : State) (busy busy′ : ℕ → Bool) (z : ℕ) → ((i : ℕ) → i < 8 → busy i ≡ busy′ i) → OpenZone p v st busy z → OpenZone p v st busy′ z
 busy-same p v st busy busy′ z e o = record {
   opened-zone = o .opened-zone;
   has-header = o .has-header;
@@ -49,7 +48,7 @@ busy-same p v st busy busy′ z e o = record {
 -- ---- an entry more
 
 module _ (p : Params) (r : Ranged p) (v : View) (st : State) (ls : Lists st) (busy : ℕ → Bool) (z i a t w : ℕ) (hi : i < 8) (bi : busy i ≡ true)
-    (room : filledIn st i < dataCount p) (ha : a < 256 ^ 8) (ht : t < 256 ^ 8) (o : Open p v st busy z) where
+    (room : filledIn st i < dataCount p) (ha : a < 256 ^ 8) (ht : t < 256 ^ 8) (o : OpenZone p v st busy z) where
   abbrev st′ : State
   st′ = addEntry st i a t w
 
@@ -69,7 +68,7 @@ module _ (p : Params) (r : Ranged p) (v : View) (st : State) (ls : Lists st) (bu
   filled-least j = go (ℕ-discrete j i)
     where
       go : Dec (j ≡ i) → filledIn st j ≤ filledIn st′ j
-      go (yes e) = subst (λ (x : ℕ). filledIn st x ≤ filledIn st′ x) (sym e) (omega (arith, add-filled st ls i hi a t w))
+      go (yes e) = subst (λ (x : ℕ). filledIn st x ≤ filledIn st′ x) (sym e) (omega (arith, filled-added st ls i hi a t w))
       go (no n) = omega (arith, add-filled-other st ls i hi a t w j n)
 
   is-kept : (j e : ℕ) → e < filledIn st j → filledIn st j ≤ dataCount p → entryIn st′ j e ≡ entryIn st j e
@@ -79,18 +78,18 @@ module _ (p : Params) (r : Ranged p) (v : View) (st : State) (ls : Lists st) (bu
       go (yes q) = inr (subst (λ (x : ℕ). e < filledIn st x) q h)
       go (no n) = inl n
 
-  add-flight : (j : ℕ) → j < 8 → busy j ≡ true → filledIn st j ≤ dataCount p → Flight p v st z j → Flight p v st′ z j
+  add-flight : (j : ℕ) → j < 8 → busy j ≡ true → filledIn st j ≤ dataCount p → SlotFlies p v st z j → SlotFlies p v st′ z j
   add-flight j hj b l f = record {
     begun = begun-is;
     group-low = subst (λ (x : ℕ). (d : ℕ) → d < p .N → group p x * p .G < pointerAt v d z) (sym en) (f .group-low);
     group-high = high-is;
-    not-there = λ d o hd q x y. f .not-there d o hd (ap (λ (m : ℕ). isIn m d) (sym (add-landed st ls i hi a t w j)) ∙ q) x (y ∙ en);
-    lands = λ d hd q. landed-as d (f .lands d hd (ap (λ (m : ℕ). isIn m d) (sym (add-landed st ls i hi a t w j)) ∙ q));
+    not-there = λ d o hd q x y. f .not-there d o hd (ap (λ (m : ℕ). isIn m d) (sym (landed-added st ls i hi a t w j)) ∙ q) x (y ∙ en);
+    lands = λ d hd q. landed-as d (f .lands d hd (ap (λ (m : ℕ). isIn m d) (sym (landed-added st ls i hi a t w j)) ∙ q));
     entries-low = entries;
   }
     where
       en : stripeIn st′ j ≡ stripeIn st j
-      en = add-number st ls i hi a t w j
+      en = number-added st ls i hi a t w j
 
       next-is : st′ .next ≡ st .next
       next-is = unfold addEntry in refl
@@ -103,14 +102,14 @@ module _ (p : Params) (r : Ranged p) (v : View) (st : State) (ls : Lists st) (bu
 
       landed-as : (d : ℕ) → LandedAt p v st z j d → LandedAt p v st′ z j d
       landed-as d n = record {
-        lies = subst (λ (x : ℕ). 1 + x < pointerAt v d z) (sym (add-offset st ls i hi a t w j d)) (n .lies);
-        of-stripe = ap (λ (x : ℕ). spareAt p v d z x .stripe) (add-offset st ls i hi a t w j d) ∙ n .of-stripe ∙ sym en;
-        not-before = λ o h q. n .not-before o (subst (λ (x : ℕ). o < x) (add-offset st ls i hi a t w j d) h) (q ∙ en);
+        lies = subst (λ (x : ℕ). 1 + x < pointerAt v d z) (sym (offset-added st ls i hi a t w j d)) (n .lies);
+        of-stripe = ap (λ (x : ℕ). spareAt p v d z x .stripe) (offset-added st ls i hi a t w j d) ∙ n .of-stripe ∙ sym en;
+        not-before = λ o h q. n .not-before o (subst (λ (x : ℕ). o < x) (offset-added st ls i hi a t w j d) h) (q ∙ en);
         is-entry = λ q.
             let (x, y) = n .is-entry (ap (λ (s : ℕ). isData p s d) (sym en) ∙ q) in
             let ep : dataPosition p (stripeIn st′ j) d ≡ dataPosition p (stripeIn st j) d = ap (λ (s : ℕ). dataPosition p s d) en in (
               subst (λ (k : ℕ). k < filledIn st′ j) (sym ep) (let q = filled-least j in omega arith),
-              ap (spareAt p v d z) (add-offset st ls i hi a t w j d) ∙ y ∙ sym (ap (entryIn st′ j) ep ∙ is-kept j (dataPosition p (stripeIn st j) d) x l),
+              ap (spareAt p v d z) (offset-added st ls i hi a t w j d) ∙ y ∙ sym (ap (entryIn st′ j) ep ∙ is-kept j (dataPosition p (stripeIn st j) d) x l),
             );
       }
 
@@ -127,23 +126,23 @@ module _ (p : Params) (r : Ranged p) (v : View) (st : State) (ls : Lists st) (bu
               two : Dec (e < filledIn st j) → (entryIn st′ j e .address < 256 ^ 8) × (entryIn st′ j e .stamp < 256 ^ 8)
               two (yes l) = old e l
               two (no l) =
-                  let fj : filledIn st′ j ≡ suc (filledIn st j) = subst (λ (x : ℕ). filledIn st′ x ≡ suc (filledIn st x)) (sym q) (add-filled st ls i hi a t w) in
+                  let fj : filledIn st′ j ≡ suc (filledIn st j) = subst (λ (x : ℕ). filledIn st′ x ≡ suc (filledIn st x)) (sym q) (filled-added st ls i hi a t w) in
                   let ee : e ≡ filledIn st i = (let x : e ≡ filledIn st j = omega arith in x) ∙ ap (filledIn st) q in
-                  subst (λ (x : Rec). (x .address < 256 ^ 8) × (x .stamp < 256 ^ 8)) (sym (ap₂ (entryIn st′) q ee ∙ add-entry st ls i hi a t w (omega (arith, eight)))) (ha, ht)
+                  subst (λ (x : Rec). (x .address < 256 ^ 8) × (x .stamp < 256 ^ 8)) (sym (ap₂ (entryIn st′) q ee ∙ entry-added st ls i hi a t w (omega (arith, eight)))) (ha, ht)
 
   -- the open segment stays as it is
-  pub add-open : ((j : ℕ) → j < 8 → filledIn st j ≤ dataCount p) → Open p v st′ busy z
+  pub add-open : ((j : ℕ) → j < 8 → filledIn st j ≤ dataCount p) → OpenZone p v st′ busy z
   add-open l = record {
     opened-zone = o .opened-zone;
     has-header = o .has-header;
     count =
         λ d h. ap (λ (x : ℕ). pointerAt v d z + x) (tally-cong (awaits st′ busy d) (awaits st busy d) slots
-        (λ j m. ap (λ (x : ℕ). busy j && not (isIn x d)) (add-landed st ls i hi a t w j)))
+        (λ j m. ap (λ (x : ℕ). busy j && not (isIn x d)) (landed-added st ls i hi a t w j)))
         ∙ o .count d h
         ∙ ap suc (sym next-is);
     below-next = λ d e h q. subst (λ (x : ℕ). spareAt p v d z e .stripe < x) (sym next-is) (o .below-next d e h q);
     flight = λ j h q. add-flight j h q (l j h) (o .flight j h q);
-    once = λ j k hj hk x y e. o .once j k hj hk x y (sym (add-number st ls i hi a t w j) ∙ e ∙ add-number st ls i hi a t w k);
+    once = λ j k hj hk x y e. o .once j k hj hk x y (sym (number-added st ls i hi a t w j) ∙ e ∙ number-added st ls i hi a t w k);
     goes-on = λ q. o .goes-on (sym next-is ∙ q);
   }
     where
@@ -152,21 +151,21 @@ module _ (p : Params) (r : Ranged p) (v : View) (st : State) (ls : Lists st) (bu
 
 -- ---- a stripe more
 
-group-of : (p : Params) (s : ℕ) → group p s ≡ s / p .G
-group-of p s = unfold group in refl
+group-quotient : (p : Params) (s : ℕ) → group p s ≡ s / p .G
+group-quotient p s = unfold group in refl
 
 group-under : (p : Params) → Ranged p → (s : ℕ) → group p s * p .G ≤ s
-group-under p r s = let e = div-add-mod' s (p .G) in subst (λ (x : ℕ). x * p .G ≤ s) (sym (group-of p s)) (omega arith)
+group-under p r s = let e = div-add-mod' s (p .G) in subst (λ (x : ℕ). x * p .G ≤ s) (sym (group-quotient p s)) (omega arith)
 
 group-over : (p : Params) → Ranged p → (s : ℕ) → suc s ≤ suc (group p s) * p .G
 group-over p r s =
     let e = div-add-mod' s (p .G) in
     let m : s % p .G < p .G = mod-lt s (r .group-low) in
     let q : suc (s / p .G) * p .G ≡ s / p .G * p .G + p .G = suc-mul (s / p .G) (p .G) in
-    subst (λ (x : ℕ). suc s ≤ suc x * p .G) (sym (group-of p s)) (omega arith)
+    subst (λ (x : ℕ). suc s ≤ suc x * p .G) (sym (group-quotient p s)) (omega arith)
 
 module _ (p : Params) (r : Ranged p) (v : View) (st : State) (ls : Lists st) (busy : ℕ → Bool) (z i : ℕ) (hi : i < 8) (bi : busy i ≡ false)
-    (nx : st .next < p .S) (gr : (j : ℕ) → j < 8 → busy j ≡ true → group p (stripeIn st j) ≡ group p (st .next)) (o : Open p v st busy z) where
+    (nx : st .next < p .S) (gr : (j : ℕ) → j < 8 → busy j ≡ true → group p (stripeIn st j) ≡ group p (st .next)) (o : OpenZone p v st busy z) where
   abbrev su : State
   su = beginStripe st i
 
@@ -189,7 +188,7 @@ module _ (p : Params) (r : Ranged p) (v : View) (st : State) (ls : Lists st) (bu
   tally-su : (d : ℕ) → tally (awaits su more d) slots ≡ suc (tally (awaits st busy d) slots)
   tally-su d = tally-more (awaits su more d) (awaits st busy d) i hi
       (λ j n. ap₂ (λ (b : Bool) (x : ℕ). b && not (isIn x d)) (more-other j n) (begin-landed-other st ls i hi j n))
-      (and-both (more i) (not (isIn (landedIn su i) d)) more-here (ap (λ (x : ℕ). not (isIn x d)) (begin-landed st ls i hi) ∙ ap not (isIn-empty d)))
+      (and-both (more i) (not (isIn (landedIn su i) d)) more-here (ap (λ (x : ℕ). not (isIn x d)) (landed-begun st ls i hi) ∙ ap not (isIn-empty d)))
       (and-false-left (busy i) (not (isIn (landedIn st i) d)) bi)
 
   -- with nothing in flight the pointers are behind the stripes begun
@@ -207,19 +206,19 @@ module _ (p : Params) (r : Ranged p) (v : View) (st : State) (ls : Lists st) (bu
           let u = group-under p r (st .next) in
           omega arith
 
-  new-flight : Flight p v su z i
+  new-flight : SlotFlies p v su z i
   new-flight =
-      let en = begin-number st ls i hi in
+      let en = number-begun st ls i hi in
       record {
         begun = subst (λ (x : ℕ). x < su .next) (sym en) (subst (λ (x : ℕ). st .next < x) (sym next-su) (omega arith));
         group-low = subst (λ (x : ℕ). (d : ℕ) → d < p .N → group p x * p .G < pointerAt v d z) (sym en) low-here;
         group-high = subst (λ (x : ℕ). su .next ≤ suc (group p x) * p .G) (sym en) (subst (λ (x : ℕ). x ≤ suc (group p (st .next)) * p .G) (sym next-su) (group-over p r (st .next)));
         not-there = λ d e hd q x y. let l = o .below-next d e hd x in let s = y ∙ en in let bad : ⊥ = omega arith in bad;
-        lands = λ d hd q. clash q (ap (λ (x : ℕ). isIn x d) (begin-landed st ls i hi) ∙ isIn-empty d);
-        entries-low = λ e h. absurd (let f = begin-filled st ls i hi in let bad : ⊥ = omega arith in bad);
+        lands = λ d hd q. clash q (ap (λ (x : ℕ). isIn x d) (landed-begun st ls i hi) ∙ isIn-empty d);
+        entries-low = λ e h. absurd (let f = filled-begun st ls i hi in let bad : ⊥ = omega arith in bad);
       }
 
-  old-flight : (j : ℕ) → (j ≡ i → ⊥) → group p (stripeIn st j) ≡ group p (st .next) → Flight p v st z j → Flight p v su z j
+  old-flight : (j : ℕ) → (j ≡ i → ⊥) → group p (stripeIn st j) ≡ group p (st .next) → SlotFlies p v st z j → SlotFlies p v su z j
   old-flight j n g f =
       let en = begin-number-other st ls i hi j n in
       let el = begin-landed-other st ls i hi j n in
@@ -246,7 +245,7 @@ module _ (p : Params) (r : Ranged p) (v : View) (st : State) (ls : Lists st) (bu
         entries-low = λ e h. subst (λ (x : Rec). (x .address < 256 ^ 8) × (x .stamp < 256 ^ 8)) (sym (begin-entry-other st ls i hi j e n)) (f .entries-low e (subst (λ (x : ℕ). e < x) ef h));
       }
 
-  pub begin-open : Open p v su more z
+  pub begin-open : OpenZone p v su more z
   begin-open = record {
     opened-zone = o .opened-zone;
     has-header = o .has-header;
@@ -260,8 +259,8 @@ module _ (p : Params) (r : Ranged p) (v : View) (st : State) (ls : Lists st) (bu
     goes-on = λ q. tally-some more slots i (in-slots i hi) more-here;
   }
     where
-      go : (j : ℕ) → j < 8 → more j ≡ true → Dec (j ≡ i) → Flight p v su z j
-      go j h q (yes e) = subst (λ (x : ℕ). Flight p v su z x) (sym e) new-flight
+      go : (j : ℕ) → j < 8 → more j ≡ true → Dec (j ≡ i) → SlotFlies p v su z j
+      go j h q (yes e) = subst (λ (x : ℕ). SlotFlies p v su z x) (sym e) new-flight
       go j h q (no n) = let b : busy j ≡ true = sym (more-other j n) ∙ q in old-flight j n (gr j h b) (o .flight j h b)
 
       two : (j k : ℕ) → j < 8 → k < 8 → more j ≡ true → more k ≡ true → stripeIn su j ≡ stripeIn su k → Dec (j ≡ i) → Dec (k ≡ i) → j ≡ k
@@ -269,12 +268,12 @@ module _ (p : Params) (r : Ranged p) (v : View) (st : State) (ls : Lists st) (bu
       two j k hj hk x y e (yes a) (no b) =
           let bk : busy k ≡ true = sym (more-other k b) ∙ y in
           let l = o .flight k hk bk .begun in
-          let s : st .next ≡ stripeIn st k = sym (begin-number st ls i hi) ∙ ap (stripeIn su) (sym a) ∙ e ∙ begin-number-other st ls i hi k b in
+          let s : st .next ≡ stripeIn st k = sym (number-begun st ls i hi) ∙ ap (stripeIn su) (sym a) ∙ e ∙ begin-number-other st ls i hi k b in
           absurd (let z : ⊥ = omega arith in z)
       two j k hj hk x y e (no a) (yes b) =
           let bj : busy j ≡ true = sym (more-other j a) ∙ x in
           let l = o .flight j hj bj .begun in
-          let s : stripeIn st j ≡ st .next = sym (begin-number-other st ls i hi j a) ∙ e ∙ ap (stripeIn su) b ∙ begin-number st ls i hi in
+          let s : stripeIn st j ≡ st .next = sym (begin-number-other st ls i hi j a) ∙ e ∙ ap (stripeIn su) b ∙ number-begun st ls i hi in
           absurd (let z : ⊥ = omega arith in z)
       two j k hj hk x y e (no a) (no b) =
           o .once j k hj hk (sym (more-other j a) ∙ x) (sym (more-other k b) ∙ y) (sym (begin-number-other st ls i hi j a) ∙ e ∙ begin-number-other st ls i hi k b)

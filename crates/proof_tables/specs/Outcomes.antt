@@ -18,15 +18,15 @@ use Rattle.law_basic.specs.Stores.{refused-same}
 use Rattle.law_checks.specs.Checks.{Decided, decide}
 use Rattle.law_checks.specs.Checks.Decided.{stops, goes}
 
-pub data Ended (p : Params) (k : Disk) (m : Memory) (cs : List Check) (q : Plan) (r : After Disk) : Type 0 where
-  ended-refused : (a : Answer) → firstRefusal cs ≡ some a → r .answer ≡ a → r .drives ≡ k → r .memory ≡ m → Ended p k m cs q r
-  ended-done : firstRefusal cs ≡ none → r .answer ≡ q .answer → r .drives ≡ storeAll (storeDisk p) (q .stores) k → r .memory ≡ q .memory → Ended p k m cs q r
-  ended-cut : firstRefusal cs ≡ none → r .answer ≡ Cut → Ended p k m cs q r
+pub data EndedAs (p : Params) (k : Disk) (m : Memory) (cs : List Check) (q : Plan) (r : After Disk) : Type 0 where
+  ended-refused : (a : Answer) → firstRefusal cs ≡ some a → r .answer ≡ a → r .drives ≡ k → r .memory ≡ m → EndedAs p k m cs q r
+  ended-done : firstRefusal cs ≡ none → r .answer ≡ q .answer → r .drives ≡ storeAll (storeDisk p) (q .stores) k → r .memory ≡ q .memory → EndedAs p k m cs q r
+  ended-cut : firstRefusal cs ≡ none → r .answer ≡ Cut → EndedAs p k m cs q r
 
-pub ended : (p : Params) (k : Disk) (m : Memory) (cs : List Check) (q : Plan) (n : ℕ) (b : List ℕ) → Ended p k m cs q (outcome p (storeDisk p) n k m b (decided (firstRefusal cs) q))
-ended p k m cs q n b = go (decide cs q)
+pub outcome-ends : (p : Params) (k : Disk) (m : Memory) (cs : List Check) (q : Plan) (n : ℕ) (b : List ℕ) → EndedAs p k m cs q (outcome p (storeDisk p) n k m b (decided (firstRefusal cs) q))
+outcome-ends p k m cs q n b = go (decide cs q)
   where
-    limits : (t : Bool) → leb (length (q .stores)) n ≡ t → firstRefusal cs ≡ none → Ended p k m cs q (outcome p (storeDisk p) n k m b (due q))
+    limits : (t : Bool) → leb (length (q .stores)) n ≡ t → firstRefusal cs ≡ none → EndedAs p k m cs q (outcome p (storeDisk p) n k m b (due q))
     limits true e c = ended-done c (ap (λ (r : After Disk). r .answer) (all! e)) (ap (λ (r : After Disk). r .drives) (all! e)) (ap (λ (r : After Disk). r .memory) (all! e))
       where
         all! : leb (length (q .stores)) n ≡ true → outcome p (storeDisk p) n k m b (due q) ≡ mkAfter (q .answer) (storeAll (storeDisk p) (q .stores) k) (q .memory) (q .block)
@@ -36,12 +36,12 @@ ended p k m cs q n b = go (decide cs q)
         cut! : leb (length (q .stores)) n ≡ false → outcome p (storeDisk p) n k m b (due q) .answer ≡ Cut
         cut! e = unfold outcome limited in rw e
 
-    go : Decided cs q (decided (firstRefusal cs) q) → Ended p k m cs q (outcome p (storeDisk p) n k m b (decided (firstRefusal cs) q))
-    go (stops a e w) = subst (λ (x : Verdict). Ended p k m cs q (outcome p (storeDisk p) n k m b x)) (sym w)
+    go : Decided cs q (decided (firstRefusal cs) q) → EndedAs p k m cs q (outcome p (storeDisk p) n k m b (decided (firstRefusal cs) q))
+    go (stops a e w) = subst (λ (x : Verdict). EndedAs p k m cs q (outcome p (storeDisk p) n k m b x)) (sym w)
         (ended-refused a e (ap (λ (r : After Disk). r .answer) (refused-same p (storeDisk p) n k m b a))
         (ap (λ (r : After Disk). r .drives) (refused-same p (storeDisk p) n k m b a))
         (ap (λ (r : After Disk). r .memory) (refused-same p (storeDisk p) n k m b a)))
-    go (goes c w) = subst (λ (x : Verdict). Ended p k m cs q (outcome p (storeDisk p) n k m b x)) (sym w) (limits (leb (length (q .stores)) n) refl c)
+    go (goes c w) = subst (λ (x : Verdict). EndedAs p k m cs q (outcome p (storeDisk p) n k m b x)) (sym w) (limits (leb (length (q .stores)) n) refl c)
 
 pub cut-unfinished : finished Cut ≡ false
 unfolding finished kind

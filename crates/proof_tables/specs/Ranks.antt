@@ -12,7 +12,7 @@ use Rattle.spec.specs.Lists.Opt.{none, some}
 use Rattle.spec.specs.Rank.{Cand, beats, better, best, candsOf}
 use Rattle.law_basic.specs.Ranges.{Test, test, and-left, and-right, keep-append}
 use Rattle.law_basic.specs.Ranges.Test.{yes!, no! }
-use Rattle.law_drives.specs.Best.{Tied, ApartIn, At, Apart, at-of}
+use Rattle.law_drives.specs.Best.{Tied, ApartIn, OfAddress, CandsApart, at-of}
 use Rattle.law_drives.specs.Members.{In, in-keep}
 use Rattle.law_drives.specs.Tests.{clash, or-cases}
 
@@ -151,13 +151,13 @@ best-top P b (c ∷ cs) ap! t =
     (best-top Q (better b c) cs (λ x y u w k. ap! x y (f x u) (f y w) k)
     (better-top P b c (λ x y u w k. ap! x y (h x u) (h y w) k) t))
 
-pub of-at : (a : ℕ) (cs : List Cand) (d : Cand) → At a cs d → In d (candsOf a cs)
+pub of-at : (a : ℕ) (cs : List Cand) (d : Cand) → OfAddress a cs d → In d (candsOf a cs)
 unfolding candsOf
 of-at a cs d m = in-keep (λ (c : Cand). eqb (c .address) a) cs d (m .0) (eq-eqb (d .address) a (m .1))
 
-pub top-of : (a : ℕ) (cs : List Cand) → Apart cs → TopOf (At a cs) (best none (candsOf a cs))
+pub top-of : (a : ℕ) (cs : List Cand) → CandsApart cs → TopOf (OfAddress a cs) (best none (candsOf a cs))
 top-of a cs ap! =
-    top-same (λ (d : Cand). ⊥ ⊎ In d (candsOf a cs)) (At a cs) (best none (candsOf a cs))
+    top-same (λ (d : Cand). ⊥ ⊎ In d (candsOf a cs)) (OfAddress a cs) (best none (candsOf a cs))
     (λ d x. ⊎-elim (λ y. absurd y) (λ y. at-of a cs d y) x) (λ d x. inr (of-at a cs d x))
     (best-top (λ (d : Cand). ⊥) none (candsOf a cs)
     (λ x y u w k. ap! x y (⊎-elim (λ z. absurd z) (λ z. at-of a cs x z .0) u) (⊎-elim (λ z. absurd z) (λ z. at-of a cs y z .0) w) k)
@@ -171,28 +171,28 @@ one-top P (some c) none t u = absurd (u c (t .0))
 one-top P (some b) (some c) t u = ⊎-elim (λ e. ap some (sym e)) (λ x. ⊎-elim (λ e. ap some e) (λ y. absurd (beats-self b (beats-trans b c b x y))) (u .1 b (t .0))) (t .1 c (u .0))
 
 -- the same records, the same best
-pub same-best : (a : ℕ) (xs ys : List Cand) → Apart ys → ((d : Cand) → d .address ≡ a → In d xs → In d ys) → ((d : Cand) → d .address ≡ a → In d ys → In d xs)
+pub same-best : (a : ℕ) (xs ys : List Cand) → CandsApart ys → ((d : Cand) → d .address ≡ a → In d xs → In d ys) → ((d : Cand) → d .address ≡ a → In d ys → In d xs)
     → best none (candsOf a xs) ≡ best none (candsOf a ys)
 same-best a xs ys ap! f g =
     let P : Cand → Type 0 = λ (d : Cand). In d (candsOf a xs) in
     let aps : ApartIn (λ (d : Cand). ⊥ ⊎ In d (candsOf a xs)) =
     λ x y u w k. ⊎-elim (λ z. absurd z) (λ z. ⊎-elim (λ t. absurd t)
     (λ t. ap! x y (f x (at-of a xs x z .1) (at-of a xs x z .0)) (f y (at-of a xs y t .1) (at-of a xs y t .0)) k) w) u in
-    one-top (At a ys) (best none (candsOf a xs)) (best none (candsOf a ys))
-    (top-same (λ (d : Cand). ⊥ ⊎ In d (candsOf a xs)) (At a ys) (best none (candsOf a xs))
+    one-top (OfAddress a ys) (best none (candsOf a xs)) (best none (candsOf a ys))
+    (top-same (λ (d : Cand). ⊥ ⊎ In d (candsOf a xs)) (OfAddress a ys) (best none (candsOf a xs))
     (λ d x. ⊎-elim (λ y. absurd y) (λ y. (f d (at-of a xs d y .1) (at-of a xs d y .0), at-of a xs d y .1)) x)
     (λ d x. inr (of-at a xs d (g d (x .1) (x .0), x .1)))
     (best-top (λ (d : Cand). ⊥) none (candsOf a xs) aps (λ d x. x)))
     (top-of a ys ap!)
 
 -- fewer records, the best among them, the same best
-pub fewer-best : (a : ℕ) (xs ys : List Cand) → Apart xs → ((d : Cand) → In d ys → In d xs) → ((c : Cand) → best none (candsOf a xs) ≡ some c → In c ys)
+pub fewer-best : (a : ℕ) (xs ys : List Cand) → CandsApart xs → ((d : Cand) → In d ys → In d xs) → ((c : Cand) → best none (candsOf a xs) ≡ some c → In c ys)
     → best none (candsOf a ys) ≡ best none (candsOf a xs)
 fewer-best a xs ys ap! f g =
-    one-top (At a ys) (best none (candsOf a ys)) (best none (candsOf a xs)) (top-of a ys (λ x y u w k. ap! x y (f x u) (f y w) k))
+    one-top (OfAddress a ys) (best none (candsOf a ys)) (best none (candsOf a xs)) (top-of a ys (λ x y u w k. ap! x y (f x u) (f y w) k))
     (go (best none (candsOf a xs)) refl (top-of a xs ap!))
   where
-    go : (o : Opt Cand) → best none (candsOf a xs) ≡ o → TopOf (At a xs) o → TopOf (At a ys) o
+    go : (o : Opt Cand) → best none (candsOf a xs) ≡ o → TopOf (OfAddress a xs) o → TopOf (OfAddress a ys) o
     go none e t = λ d x. t d (f d (x .0), x .1)
     go (some c) e t = ((g c e, t .0 .1), λ d x. t .1 d (f d (x .0), x .1))
 

@@ -32,8 +32,8 @@ use Rattle.law_checks.specs.Checks.{Decided, decide}
 use Rattle.law_checks.specs.Checks.{Mild}
 use Rattle.law_checks.specs.Checks.Decided.{stops, goes}
 use Rattle.law_checks.specs.Passed.{readList, fillList, read-goes, read-mild, fill-goes, fill-mild}
-use Rattle.proof_tables.specs.Base.{Base, Finds, finds, found-clear, said-here, said-away, decodes-clear}
-use Rattle.proof_tables.specs.Base.Finds.{finds-none, finds-here, finds-away}
+use Rattle.proof_tables.specs.Base.{Base, FindsAt, lookup-finds, found-clear, said-here, said-away, decodes-clear}
+use Rattle.proof_tables.specs.Base.FindsAt.{finds-none, finds-here, finds-away}
 
 -- a call that is decided: refused it leaves all; due, and with no store, it leaves the drives
 pub left-idle : {D : Type 0} (p : Params) (f : Store → D → D) (n : ℕ) (d : D) (m m′ : Memory) (b b′ : List ℕ) (a : Answer)
@@ -42,7 +42,7 @@ unfolding outcome limited storeAll
 left-idle p f n d m m′ b b′ a = rw (leb·zero n)
 
 -- demand 2: tables and reads, with the state as a value
-pub record Says (p : Params) (k : Disk) (m : Memory) : Type 0 where
+pub record RunSays (p : Params) (k : Disk) (m : Memory) : Type 0 where
   pub addresses-say : m .addresses ≡ addressTable p (candidates p (m .state .missing) (segments p (seen p k) (m .state .missing)))
   pub compact-says : m .compact ≡ compactTable p (segments p (seen p k) (m .state .missing))
   pub reads-say : (a : ℕ) → a < p .L → seenAt p (mkWorld k m) a ≡ saidAt p (seen p k) (m .state .missing) a
@@ -63,14 +63,14 @@ module _ (p : Params) (k : Disk) (m : Memory) (b : Base p k m) where
   rg : Ranged p
   rg = ranged p (b .ranged)
 
-  pub found : (a : ℕ) → a < p .L → Finds p v gone (winner a) (place a)
-  found a h = subst (λ (x : List ℕ). Finds p v gone (winner a) (lookup p gone x a)) (sym (b .addresses-say)) (finds p rg v gone a h)
+  pub winner-found : (a : ℕ) → a < p .L → FindsAt p v gone (winner a) (place a)
+  winner-found a h = subst (λ (x : List ℕ). FindsAt p v gone (winner a) (lookup p gone x a)) (sym (b .addresses-say)) (lookup-finds p rg v gone a h)
 
   found-ok : (a : ℕ) → a < p .L → foundFaults p v gone (place a) ≡ []
-  found-ok a h = found-clear p rg v gone (winner a) (place a) (found a h)
+  found-ok a h = found-clear p rg v gone (winner a) (place a) (winner-found a h)
 
   decode-ok : (a : ℕ) → a < p .L → decodeFaults p v gone (m .compact) (place a) ≡ []
-  decode-ok a h = ap (λ (x : List ℕ). decodeFaults p v gone x (place a)) (b .compact-says) ∙ decodes-clear p rg v gone (winner a) (place a) (b .decodes) (found a h)
+  decode-ok a h = ap (λ (x : List ℕ). decodeFaults p v gone x (place a)) (b .compact-says) ∙ decodes-clear p rg v gone (winner a) (place a) (b .decodes) (winner-found a h)
 
   -- ---- the first read
 
@@ -106,27 +106,27 @@ module _ (p : Params) (k : Disk) (m : Memory) (b : Base p k m) where
 
   -- ---- what they give is what the drives say
 
-  seen-is : (a : ℕ) → a < p .L → seenAt p (mkWorld k m) a ≡ cond (eqb (kind (readAnswer p (place a))) 9) unwritten (got (readPiece p v gone (m .compact) (place a) .block))
+  run-seen-is : (a : ℕ) → a < p .L → seenAt p (mkWorld k m) a ≡ cond (eqb (kind (readAnswer p (place a))) 9) unwritten (got (readPiece p v gone (m .compact) (place a) .block))
   unfolding seenAt seenFilled kind
-  seen-is a h = rw (read-after a h, fill-after a (replicate (p .B) 0) h (length-replicate (p .B) 0))
+  run-seen-is a h = rw (read-after a h, fill-after a (replicate (p .B) 0) h (length-replicate (p .B) 0))
 
   -- only a block that is found is read
   pub reads-said : (a : ℕ) → a < p .L → seenAt p (mkWorld k m) a ≡ saidAt p v gone a
-  reads-said a h = seen-is a h ∙ ap (λ (x : List ℕ). cond (eqb (kind (readAnswer p (place a))) 9) unwritten (got (readPiece p v gone x (place a) .block))) (b .compact-says) ∙ go (found a h)
+  reads-said a h = run-seen-is a h ∙ ap (λ (x : List ℕ). cond (eqb (kind (readAnswer p (place a))) 9) unwritten (got (readPiece p v gone x (place a) .block))) (b .compact-says) ∙ go (winner-found a h)
     where
       cs : List ℕ
       cs = compactTable p (segments p v gone)
 
       go :
-          Finds p v gone (winner a) (place a)
+          FindsAt p v gone (winner a) (place a)
           → cond (eqb (kind (readAnswer p (place a))) 9) unwritten (got (readPiece p v gone (compactTable p (segments p v gone)) (place a) .block)) ≡
           saidAt p v gone a
       go (finds-none e q) = unfold readAnswer kind saidAt saidBlock in rw (q, e)
       go (finds-here c e i t x q) = unfold readAnswer kind saidAt in rw (q, e) (sym (said-here p rg v gone c i t x))
       go (finds-away c e i t x q) = unfold readAnswer kind saidAt in rw (q, e) (sym (said-away p rg v gone c i t (b .decodes (c .drive) x) x))
 
-  pub says : Says p k m
-  says = record { addresses-say = b .addresses-say; compact-says = b .compact-says; reads-say = reads-said }
+  pub run-says : RunSays p k m
+  run-says = record { addresses-say = b .addresses-say; compact-says = b .compact-says; reads-say = reads-said }
 
   -- ---- reads of any address
 

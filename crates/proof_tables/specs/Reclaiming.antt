@@ -48,11 +48,11 @@ use Rattle.law_drives.specs.Tidy.{Tidy}
 use Rattle.proof_tables.specs.Going.{well-run, address-table, compact-table, buffer-long, sent-run}
 use Rattle.proof_tables.specs.Live.{Pointed, places-pointed, holds-place, table-clear}
 use Rattle.proof_tables.specs.Losing.{refused-kept, cut-kept}
-use Rattle.proof_tables.specs.Outcomes.{Ended, ended}
-use Rattle.proof_tables.specs.Outcomes.Ended.{ended-refused, ended-done, ended-cut}
+use Rattle.proof_tables.specs.Outcomes.{EndedAs, outcome-ends}
+use Rattle.proof_tables.specs.Outcomes.EndedAs.{ended-refused, ended-done, ended-cut}
 use Rattle.proof_tables.specs.Resetting.{reset-addresses, reset-rows, reset-healthy, cleared-is}
 use Rattle.proof_tables.specs.Run.{Well, Run, Kept}
-use Rattle.proof_tables.specs.Sending.{sends}
+use Rattle.proof_tables.specs.Sending.{sent-ok}
 
 -- ---- the segment that it takes
 
@@ -70,8 +70,8 @@ pub record Taken (p : Params) (v : View) (tb : List ℕ) (w : Opt Victim) : Type
   pub taken-sealed : sealedIn p v 0 (victimSegment w) ≡ true
   pub taken-live : victimLive w ≡ liveIn p (placesIn p tb) (victimSegment w)
 
-pub taken : (p : Params) (v : View) (tb : List ℕ) → isNone (victim p v tb) ≡ false → Taken p v tb (victim p v tb)
-taken p v tb q = go (victim p v tb) refl q
+pub victim-taken : (p : Params) (v : View) (tb : List ℕ) → isNone (victim p v tb) ≡ false → Taken p v tb (victim p v tb)
+victim-taken p v tb q = go (victim p v tb) refl q
   where
     qs : List ℕ
     qs = placesIn p tb
@@ -177,14 +177,14 @@ module _ (p : Params) (k : Disk) (m : Memory) (u : Run p k m) (we : Well p k m) 
   so : StateOk p st
   so = state-of p rg st (u .base .state-ok)
 
-  at! : m .addresses ≡ addressTable p (candidates p 0 (segments p v 0))
-  at! = address-table p k m u we
+  reclaim-table-said : m .addresses ≡ addressTable p (candidates p 0 (segments p v 0))
+  reclaim-table-said = address-table p k m u we
 
   -- every live block is a data block
   live-pointed : (q : ℕ) → isNone w ≡ false → In q (victimLive w) → Pointed p v q
   live-pointed q nn i =
-      let t = taken p v (m .addresses) nn in
-      places-pointed p rg v (m .addresses) at! q (live-in p (placesIn p (m .addresses)) (victimSegment w) q (subst (λ (x : List ℕ). In q x) (t .taken-live) i))
+      let t = victim-taken p v (m .addresses) nn in
+      places-pointed p rg v (m .addresses) reclaim-table-said q (live-in p (placesIn p (m .addresses)) (victimSegment w) q (subst (λ (x : List ℕ). In q x) (t .taken-live) i))
 
   pointed-block : (q : ℕ) (t : Pointed p v q) → placeBlock p q ≡ 1 + t .cand .offset
   pointed-block q t = ap (placeBlock p) (t .place!) ∙ spot-block p rg v 0 (t .cand) (t .spot)
@@ -202,21 +202,21 @@ module _ (p : Params) (k : Disk) (m : Memory) (u : Run p k m) (we : Well p k m) 
   checks = reclaimChecks p (lentOk p k m) v m w
 
   -- with none live the segment is reset
-  reset-done : isNone w ≡ false → isNil (victimLive w) ≡ true → (x : Disk) → x ≡ storeAll (storeDisk p) (resetPlan p m (victimSegment w) .stores) k → Run p x (resetPlan p m (victimSegment w) .memory)
-  reset-done nn nl x ex =
+  run-reset : isNone w ≡ false → isNil (victimLive w) ≡ true → (x : Disk) → x ≡ storeAll (storeDisk p) (resetPlan p m (victimSegment w) .stores) k → Run p x (resetPlan p m (victimSegment w) .memory)
+  run-reset nn nl x ex =
       let g = victimSegment w in
-      let t = taken p v (m .addresses) nn in
+      let t = victim-taken p v (m .addresses) nn in
       let hg = t .taken-low in
       let sh = u .base .shaped in
       let s = st .serial .0 in
       let ty = we .healthy .tidy in
-      let dead = dead-segment p rg v (m .addresses) at! g (sym (t .taken-live) ∙ nil-is (victimLive w) nl) in
+      let dead = dead-segment p rg v (m .addresses) reclaim-table-said g (sym (t .taken-live) ∙ nil-is (victimLive w) nl) in
       subst (λ (y : Disk). Run p y (resetPlan p m g .memory)) (sym (ex ∙ ap (λ (l : List Store). storeAll (storeDisk p) l k) (stores-is g)))
       (subst (λ (y : Memory). Run p (storeAll (storeDisk p) (resetStores p g) k) y) (sym (memory-is g))
       (well-run p k (resetStores p g) (mkMemory st (m .addresses) (cleared p g (drivesOf p) (m .compact)) (m .inflight)) (u .base .ranged) (whole-of p k m (u .base .lent)) sh
       (reset-roomy p rg v sh g hg) (reset-within p rg v sh g hg) (we .none-missing) so
       (reset-healthy p rg v sh g hg st (we .healthy) so (sealed-full p v g (t .taken-sealed)))
-      (at! ∙ reset-addresses p rg v sh g hg s ty dead)
+      (reclaim-table-said ∙ reset-addresses p rg v sh g hg s ty dead)
       (ap (cleared p g (drivesOf p)) (compact-table p k m u we) ∙ cleared-is p rg g hg v (storeAll storeView (resetStores p g) v) (reset-rows p rg v sh g hg s ty))
       (buffer-long p k m u we)))
     where
@@ -227,9 +227,9 @@ module _ (p : Params) (k : Disk) (m : Memory) (u : Run p k m) (we : Well p k m) 
       memory-is g = unfold resetPlan in refl
 
   -- else a live block is copied
-  copy-done : isNone w ≡ false → live ≡ true → isNil (idle p v st w) ≡ false → noSerial p st ≡ false → mustWait p st ≡ false → (opens p st ≡ true → scarce p v 1 ≡ false)
+  run-copied : isNone w ≡ false → live ≡ true → isNil (idle p v st w) ≡ false → noSerial p st ≡ false → mustWait p st ≡ false → (opens p st ≡ true → scarce p v 1 ≡ false)
       → (x : Disk) → x ≡ storeAll (storeDisk p) (copyPlan p v m (firstOr 0 (idle p v st w)) .stores) k → Run p x (copyPlan p v m (firstOr 0 (idle p v st w)) .memory)
-  copy-done nn lv ni ns nw sc x ex =
+  run-copied nn lv ni ns nw sc x ex =
       let q = firstOr 0 (idle p v st w) in
       let i : In q (victimLive w) = idle-live q (first-in (idle p v st w) 0 ni) in
       let t = live-pointed q nn i in
@@ -250,7 +250,7 @@ module _ (p : Params) (k : Disk) (m : Memory) (u : Run p k m) (we : Well p k m) 
       let hb : placeBlock p q < capacity p = (let l = t .spot .offset-low in let y = capacity-over p rg in omega arith) in
       let ez : placeZone p q ≡ g = sym (segment-is q) in
       let lb : length (chunkAt v d (placeZone p q) (placeBlock p q) .block) ≡ p .B = ap (λ (y : ℕ). length (chunkAt v d y (placeBlock p q) .block)) ez ∙ chunk-long d g (placeBlock p q) hd hg hb in
-      let s = sends p rg v (u .base .shaped) st (we .healthy) so (m .inflight) (buffer-long p k m u we) (rc .address) (rc .stamp) 0 (chunkAt v d (placeZone p q) (placeBlock p q) .block)
+      let s = sent-ok p rg v (u .base .shaped) st (we .healthy) so (m .inflight) (buffer-long p k m u we) (rc .address) (rc .stamp) 0 (chunkAt v d (placeZone p q) (placeBlock p q) .block)
       (subst (λ (y : Rec). y .address < 256 ^ 8) (sym er) (low .0)) (subst (λ (y : Rec). y .stamp < 256 ^ 8) (sym er) (low .1)) (omega arith) lb nw ns (λ z. zones-left (sc z)) in
       let e = sending p v st (m .inflight) (rc .address) (rc .stamp) 0 (chunkAt v d (placeZone p q) (placeBlock p q) .block) in
       subst (λ (y : Disk). Run p y (copyPlan p v m q .memory)) (sym (ex ∙ ap (λ (l : List Store). storeAll (storeDisk p) l k) (stores-is q)))
@@ -306,24 +306,24 @@ module _ (p : Params) (k : Disk) (m : Memory) (u : Run p k m) (we : Well p k m) 
       go : Test (isNil (victimLive w)) → Run p x (plan .memory)
       go (yes! q) =
           let e : plan ≡ resetPlan p m (victimSegment w) = cond-true (isNil (victimLive w)) (resetPlan p m (victimSegment w)) (copyPlan p v m (firstOr 0 (idle p v st w))) q in
-          subst (λ (y : Plan). Run p x (y .memory)) (sym e) (reset-done (c .taken) q x (ex ∙ ap (λ (y : Plan). storeAll (storeDisk p) (y .stores) k) e))
+          subst (λ (y : Plan). Run p x (y .memory)) (sym e) (run-reset (c .taken) q x (ex ∙ ap (λ (y : Plan). storeAll (storeDisk p) (y .stores) k) e))
       go (no! q) =
           let e : plan ≡ copyPlan p v m (firstOr 0 (idle p v st w)) = cond-false (isNil (victimLive w)) (resetPlan p m (victimSegment w)) (copyPlan p v m (firstOr 0 (idle p v st w))) q in
           let lv : live ≡ true = ap not q in
           subst (λ (y : Plan). Run p x (y .memory)) (sym e)
-          (copy-done (c .taken) lv (c .some-idle q) (c .serial-left q) (c .no-wait q) (c .room q) x (ex ∙ ap (λ (y : Plan). storeAll (storeDisk p) (y .stores) k) e))
+          (run-copied (c .taken) lv (c .some-idle q) (c .serial-left q) (c .no-wait q) (c .room q) x (ex ∙ ap (λ (y : Plan). storeAll (storeDisk p) (y .stores) k) e))
 
   pub well-reclaim : (n : ℕ) → Kept p (callDisk p k m (reclaim n))
   unfolding callDisk callOn verdict storeCount lentBlock reclaimVerdict
-  well-reclaim n = go (ended p k m checks plan n [])
+  well-reclaim n = go (outcome-ends p k m checks plan n [])
     where
       mild-plan : (b : Bool) (g q : ℕ) → isRefusedAs 9 (cond b (resetPlan p m g) (copyPlan p v m q) .answer) ≡ false
       mild-plan true g q = unfold resetPlan isRefusedAs isRefused kind in refl
       mild-plan false g q = unfold copyPlan isRefusedAs isRefused kind in refl
 
-      go : Ended p k m checks plan (outcome p (storeDisk p) n k m [] (decided (firstRefusal checks) plan)) → Kept p (outcome p (storeDisk p) n k m [] (decided (firstRefusal checks) plan))
+      go : EndedAs p k m checks plan (outcome p (storeDisk p) n k m [] (decided (firstRefusal checks) plan)) → Kept p (outcome p (storeDisk p) n k m [] (decided (firstRefusal checks) plan))
       go (ended-refused x e f g h) =
-          refused-kept p k m _ x u (reclaim-mild p (lentOk p k m) v m w (u .base .state-ok) (λ z. table-clear p rg v (m .addresses) at!) (λ z t. live-faults t) x e) f g h
+          refused-kept p k m _ x u (reclaim-mild p (lentOk p k m) v m w (u .base .state-ok) (λ z. table-clear p rg v (m .addresses) reclaim-table-said) (λ z t. live-faults t) x e) f g h
       go (ended-done c f g h) = record {
         never-ninth = ap (isRefusedAs 9) f ∙ mild-plan (isNil (victimLive w)) (victimSegment w) (firstOr 0 (idle p v st w));
         runs-on = λ x. subst (λ (y : Memory). Run p (outcome p (storeDisk p) n k m [] (decided (firstRefusal checks) plan) .drives) y) (sym h) (reclaim-done c _ g);

@@ -20,7 +20,7 @@ use Rattle.spec.specs.Params.{capacity, compactLen, drivesOf}
 use Rattle.spec.specs.Rank.{Cand, best, candsOf}
 use Rattle.spec.specs.Reclaim.{clearedRow, cleared}
 use Rattle.spec.specs.Segments.{segmentOf, segments, recsOn, candidates, addressTable, compactRow, compactTable}
-use Rattle.law_basic.specs.Geometry.{item, Ranged, compact-within}
+use Rattle.law_basic.specs.Geometry.{item-fits, Ranged, compact-within}
 use Rattle.law_basic.specs.Splice.{length-splice, getD-splice-below, getD-splice-in, getD-splice-past}
 use Rattle.law_views.specs.Pointers.{index-drive, index-zone}
 use Rattle.law_drives.specs.Best.{best-in}
@@ -35,7 +35,7 @@ use Rattle.law_drives.specs.Tidy.{Tidy}
 use Rattle.law_drives.specs.Zones.{Shaped}
 use Rattle.proof_tables.specs.Bounds.{open-view, open-short}
 use Rattle.proof_tables.specs.Ranks.{fewer-best}
-use Rattle.proof_tables.specs.Run.{flies, Healthy}
+use Rattle.proof_tables.specs.Run.{flies, HealthyState}
 
 module _ (p : Params) (r : Ranged p) (v : View) (sh : Shaped p v) (g : ℕ) (hg : g < p .Z) where
   abbrev u : View
@@ -80,7 +80,7 @@ module _ (p : Params) (r : Ranged p) (v : View) (sh : Shaped p v) (g : ℕ) (hg 
       go (no n) = sym (row-goes p r v u s s t (reset-tidy p r v sh g hg s t) d y hy (reset-same p r v sh g hg y hy n)) ∙ sym (cond-false (eqb y g) [] (rowAt p v 0 d y) (ne-eqb y g (λ e. n (sym e))))
 
   -- the state needs no change
-  pub reset-healthy : (st : State) → Healthy p v st → StateOk p st → ((d : ℕ) → d < p .N → pointerAt v d g ≡ capacity p) → Healthy p u st
+  pub reset-healthy : (st : State) → HealthyState p v st → StateOk p st → ((d : ℕ) → d < p .N → pointerAt v d g ≡ capacity p) → HealthyState p u st
   reset-healthy st h so full = record {
     tidy = reset-tidy p r v sh g hg (st .serial .0) (h .tidy);
     sealed-but = λ z hz q.
@@ -102,28 +102,28 @@ module _ (p : Params) (r : Ranged p) (v : View) (sh : Shaped p v) (g : ℕ) (hg 
 -- ---- the compact table with a segment's rows cleared
 
 module _ (p : Params) (r : Ranged p) (g : ℕ) (hg : g < p .Z) where
-  row-end : (e : ℕ) → e < p .N → compactAt p e g 0 + p .S ≤ compactLen p
-  row-end e he =
+  row-within : (e : ℕ) → e < p .N → compactAt p e g 0 + p .S ≤ compactLen p
+  row-within e he =
       let x = compact-within p e g (p .S - 1) he hg (let s = r .stripes-low in omega arith) in
       let y : compactAt p e g (p .S - 1) ≡ compactAt p e g 0 + (p .S - 1) = (unfold compactAt in omega arith) in
       let s = r .stripes-low in
       omega arith
 
   row-length : (e : ℕ) (cs : List ℕ) → e < p .N → length cs ≡ compactLen p → compactAt p e g 0 + length (replicate {A = ℕ} (p .S) 0) ≤ length cs
-  row-length e cs he l = let x = row-end e he in let y : length (replicate {A = ℕ} (p .S) 0) ≡ p .S = length-replicate (p .S) 0 in omega arith
+  row-length e cs he l = let x = row-within e he in let y : length (replicate {A = ℕ} (p .S) 0) ≡ p .S = length-replicate (p .S) 0 in omega arith
 
   cleared-long : (e : ℕ) (cs : List ℕ) → e < p .N → length cs ≡ compactLen p → length (clearedRow p cs e g) ≡ compactLen p
   unfolding clearedRow
   cleared-long e cs he l = length-splice cs (compactAt p e g 0) (replicate (p .S) 0) (row-length e cs he l) ∙ l
 
-  base-is : (d z o : ℕ) → compactAt p d z o ≡ (d * p .Z + z) * p .S + o
-  base-is d z o = unfold compactAt in refl
+  compact-cell : (d z o : ℕ) → compactAt p d z o ≡ (d * p .Z + z) * p .S + o
+  compact-cell d z o = unfold compactAt in refl
 
   -- a cleared row: zeros there, the rest as it was
   cleared-here : (e o : ℕ) (cs : List ℕ) → e < p .N → o < p .S → length cs ≡ compactLen p → getD (clearedRow p cs e g) (compactAt p e g o) 0 ≡ 0
   unfolding clearedRow
   cleared-here e o cs he ho l =
-      let q : compactAt p e g o ≡ compactAt p e g 0 + o = base-is e g o ∙ (let x = base-is e g 0 in omega arith) in
+      let q : compactAt p e g o ≡ compactAt p e g 0 + o = compact-cell e g o ∙ (let x = compact-cell e g 0 in omega arith) in
       let n : length (replicate {A = ℕ} (p .S) 0) ≡ p .S = length-replicate (p .S) 0 in
       ap (λ (x : ℕ). getD (splice cs (compactAt p e g 0) (replicate (p .S) 0)) x 0) q
       ∙ getD-splice-in cs (compactAt p e g 0) (replicate (p .S) 0) (row-length e cs he l) o (omega arith) ∙ zero-at (p .S) o
@@ -138,20 +138,20 @@ module _ (p : Params) (r : Ranged p) (g : ℕ) (hg : g < p .Z) where
 
       go : Dec (d * p .Z + z < e * p .Z + g) → Dec (e * p .Z + g < d * p .Z + z) → getD (splice cs (compactAt p e g 0) (replicate (p .S) 0)) (compactAt p d z o) 0 ≡ getD cs (compactAt p d z o) 0
       go (yes a) b =
-          let m : (d * p .Z + z) * p .S + p .S ≤ (e * p .Z + g) * p .S = item (d * p .Z + z) (e * p .Z + g) (p .S) a in
-          getD-splice-below cs (compactAt p e g 0) (replicate (p .S) 0) (row-length e cs he l) (compactAt p d z o) (let x = base-is d z o in let y = base-is e g 0 in omega arith)
+          let m : (d * p .Z + z) * p .S + p .S ≤ (e * p .Z + g) * p .S = item-fits (d * p .Z + z) (e * p .Z + g) (p .S) a in
+          getD-splice-below cs (compactAt p e g 0) (replicate (p .S) 0) (row-length e cs he l) (compactAt p d z o) (let x = compact-cell d z o in let y = compact-cell e g 0 in omega arith)
       go (no a) (yes b) =
-          let m : (e * p .Z + g) * p .S + p .S ≤ (d * p .Z + z) * p .S = item (e * p .Z + g) (d * p .Z + z) (p .S) b in
-          getD-splice-past cs (compactAt p e g 0) (replicate (p .S) 0) (row-length e cs he l) (compactAt p d z o) (let x = base-is d z o in let y = base-is e g 0 in omega (arith, ln))
+          let m : (e * p .Z + g) * p .S + p .S ≤ (d * p .Z + z) * p .S = item-fits (e * p .Z + g) (d * p .Z + z) (p .S) b in
+          getD-splice-past cs (compactAt p e g 0) (replicate (p .S) 0) (row-length e cs he l) (compactAt p d z o) (let x = compact-cell d z o in let y = compact-cell e g 0 in omega (arith, ln))
       go (no a) (no b) =
           let q : d * p .Z + z ≡ e * p .Z + g = omega arith in
           absurd (n (index-drive (p .Z) d z e g hz hg q, index-zone (p .Z) d z e g hz hg q))
 
   -- over a list of drives
-  all-long : (ds cs : List ℕ) → ((e : ℕ) → In e ds → e < p .N) → length cs ≡ compactLen p → length (cleared p g ds cs) ≡ compactLen p
+  clearings-long : (ds cs : List ℕ) → ((e : ℕ) → In e ds → e < p .N) → length cs ≡ compactLen p → length (cleared p g ds cs) ≡ compactLen p
   unfolding cleared zoneOn
-  all-long [] cs h l = l
-  all-long (e ∷ ds) cs h l = all-long ds (clearedRow p cs e g) (λ x m. h x (inr m)) (cleared-long e cs (h e (inl refl)) l)
+  clearings-long [] cs h l = l
+  clearings-long (e ∷ ds) cs h l = clearings-long ds (clearedRow p cs e g) (λ x m. h x (inr m)) (cleared-long e cs (h e (inl refl)) l)
 
   all-else : (ds cs : List ℕ) (d z o : ℕ) → ((e : ℕ) → In e ds → e < p .N) → d < p .N → z < p .Z → o < p .S → length cs ≡ compactLen p → (z ≡ g → ⊥)
       → getD (cleared p g ds cs) (compactAt p d z o) 0 ≡ getD cs (compactAt p d z o) 0
@@ -184,7 +184,7 @@ module _ (p : Params) (r : Ranged p) (g : ℕ) (hg : g < p .Z) where
       → cleared p g (drivesOf p) (compactTable p (segments p v 0)) ≡ compactTable p (segments p u 0)
   cleared-is v u rows =
       grid-ext p (λ d z. compactRow p (rowAt p u 0 d z)) (compact-row-long p u 0) (cleared p g (drivesOf p) cs)
-      (all-long (drivesOf p) cs low (length-compact p v 0)) (r .stripes-low) (let z = r .zones-low in omega arith) entry
+      (clearings-long (drivesOf p) cs low (length-compact p v 0)) (r .stripes-low) (let z = r .zones-low in omega arith) entry
       ∙ sym (compact-is p u 0)
     where
       cs : List ℕ

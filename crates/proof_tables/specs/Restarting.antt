@@ -15,7 +15,6 @@ use Rattle.spec.specs.Memory.{Memory}
 use Rattle.spec.specs.Params.{noDrive, named}
 use Rattle.spec.specs.Restart.{freeZones, dropStores, mendStores, restartStores, restartMemory, namesDrive, rewrites, restartPlan}
 use Rattle.spec.specs.Segments.{Segment, segments, candidates, addressTable, compactTable, greatestSerial, unsealed}
-use Rattle.law_basic.specs.Be.{room}
 use Rattle.law_basic.specs.Geometry.{Ranged, ranged}
 use Rattle.law_basic.specs.Mask.{only-none}
 use Rattle.law_basic.specs.Stores.{storeAll-append}
@@ -30,8 +29,8 @@ use Rattle.law_drives.specs.Tests.{or-cases}
 use Rattle.law_drives.specs.Zones.{Shaped, shaped-after}
 use Rattle.proof_tables.specs.Going.{well-run}
 use Rattle.proof_tables.specs.Resting.{rest-healthy}
-use Rattle.proof_tables.specs.Run.{Healthy, Run}
-use Rattle.proof_tables.specs.Starting.{memory-missing, memory-addresses, memory-compact, memory-inflight, startPlan, Begins, lost-start}
+use Rattle.proof_tables.specs.Run.{HealthyState, Run}
+use Rattle.proof_tables.specs.Starting.{memory-missing, memory-addresses, memory-compact, memory-inflight, startPlan, Begins, start-lost}
 
 -- ---- a restart that names none
 
@@ -65,7 +64,7 @@ well-start p k m d shk b nd =
     subst (λ (l : List Store). Run p (storeAll (storeDisk p) l k) (startPlan p k m d .memory)) (sym es)
     (subst (λ (x : Memory). Run p (storeAll (storeDisk p) ss k) x) (sym em)
     (well-run p k ss mem (b .in-range!) w sh room (within-append p ds ts (drop-within p r v sh acc) (md .mend-within)) (memory-missing p v2 0 (m .inflight)) so
-    (subst (λ (x : View). Healthy p x (mem .state)) (sym ev) hk)
+    (subst (λ (x : View). HealthyState p x (mem .state)) (sym ev) hk)
     (memory-addresses p v2 0 (m .inflight) ∙ ap (λ (x : View). addressTable p (candidates p 0 (segments p x 0))) (sym ev))
     (memory-compact p v2 0 (m .inflight) ∙ ap (λ (x : View). compactTable p (segments p x 0)) (sym ev))
     (ap length (memory-inflight p v2 0 (m .inflight)) ∙ lengths-of p k m (b .lent!) .inflight-ok)))
@@ -87,8 +86,8 @@ well-start p k m d shk b nd =
 
 -- ---- any restart
 
-pub names-none : (p : Params) → Ranged p → (d : ℕ) → namesDrive p d ≡ true → (d < p .N) ⊎ (named d ≡ 0)
-names-none p r d q = ⊎-elim (λ x. inl (ltb-true d (p .N) x)) (λ x. inr (none! (eqb-true d noDrive x))) (parts q)
+pub names-or-none : (p : Params) → Ranged p → (d : ℕ) → namesDrive p d ≡ true → (d < p .N) ⊎ (named d ≡ 0)
+names-or-none p r d q = ⊎-elim (λ x. inl (ltb-true d (p .N) x)) (λ x. inr (none! (eqb-true d noDrive x))) (parts q)
   where
     parts : namesDrive p d ≡ true → (ltb d (p .N) ≡ true) ⊎ (eqb d noDrive ≡ true)
     parts q = unfold namesDrive in or-cases (ltb d (p .N)) (eqb d noDrive) q
@@ -99,9 +98,9 @@ names-none p r d q = ⊎-elim (λ x. inl (ltb-true d (p .N) x)) (λ x. inr (none
     none! : d ≡ noDrive → named d ≡ 0
     none! e = unfold named in only-none d (subst (λ (n : ℕ). 8 ≤ n) (sym (e ∙ is-255)) (lit≤ tt))
 
-pub started :
+pub run-started :
     (p : Params) (k : Disk) (m : Memory) (d : ℕ)
     → (Whole p k → Shaped p (seen p k))
     → Begins p k m d
     → Run p (storeAll (storeDisk p) (startPlan p k m d .stores) k) (startPlan p k m d .memory)
-started p k m d sh b = ⊎-elim (λ x. lost-start p k m d sh b x) (λ x. well-start p k m d sh b x) (names-none p (ranged p (b .in-range!)) d (b .names!))
+run-started p k m d sh b = ⊎-elim (λ x. start-lost p k m d sh b x) (λ x. well-start p k m d sh b x) (names-or-none p (ranged p (b .in-range!)) d (b .names!))

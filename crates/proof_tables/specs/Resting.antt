@@ -40,7 +40,7 @@ use Rattle.law_drives.specs.Tests.{clash, and-false-left, and-false-right, not-
 use Rattle.law_drives.specs.Tidy.{spareAt, usedAt, Tidy}
 use Rattle.law_drives.specs.Zones.{Bytes, Shaped}
 use Rattle.proof_tables.specs.Reclaiming.{cand-record}
-use Rattle.proof_tables.specs.Run.{flies, awaits, Open, Lists, Healthy}
+use Rattle.proof_tables.specs.Run.{flies, awaits, OpenZone, Lists, HealthyState}
 use Rattle.proof_tables.specs.Slots.{none-flies}
 use Rattle.proof_tables.specs.Tallies.{tally-none}
 
@@ -77,8 +77,8 @@ module _ (p : Params) (r : Ranged p) (v : View) (sh : Shaped p v) (b : ℕ) (t :
       cs! : In x gs → In x (map (segmentOf p v 0) (remaining p v 0))
       cs! m = unfold segments in m
 
-  header-bytes : (z : ℕ) → z < p .Z → Bytes (headerAt v 0 z)
-  header-bytes z hz = as! (sh .zone-ok 0 z h0 hz .sound 0 (let c = capacity-over p r in omega arith) .block-bytes (inl refl))
+  header-in-bytes : (z : ℕ) → z < p .Z → Bytes (headerAt v 0 z)
+  header-in-bytes z hz = as! (sh .zone-ok 0 z h0 hz .sound 0 (let c = capacity-over p r in omega arith) .block-bytes (inl refl))
     where
       as! : Bytes (getD (zoneAt v 0 z .blocks) 0 noChunk .block) → Bytes (headerAt v 0 z)
       as! x = unfold headerAt chunkAt zoneOn in x
@@ -88,7 +88,7 @@ module _ (p : Params) (r : Ranged p) (v : View) (sh : Shaped p v) (b : ℕ) (t :
       (λ n m.
       let (x, i, e) = map-in (λ (g : Segment). g .serial) gs n m in
       let (z, hz, q, f) = seg-is-used x i in
-      subst (λ (k : ℕ). k < 256 ^ 8) (sym (e ∙ ap (λ (y : Segment). y .serial) f ∙ serial-of p r v b t z)) (serial-low (headerAt v 0 z) (header-bytes z hz))))
+      subst (λ (k : ℕ). k < 256 ^ 8) (sym (e ∙ ap (λ (y : Segment). y .serial) f ∙ serial-of p r v b t z)) (serial-low (headerAt v 0 z) (header-in-bytes z hz))))
     where
       as! : greatest (map (λ (g : Segment). g .serial) gs) < 256 ^ 8 → serial < 256 ^ 8
       as! x = unfold greatestSerial in x
@@ -147,8 +147,8 @@ module _ (p : Params) (r : Ranged p) (v : View) (sh : Shaped p v) (b : ℕ) (t :
   steady-unsealed g c s =
       not-so (sealedIn p v 0 g) (λ q. let x = sealed-full p v g q 0 h0 in let y = s .steady-pointer 0 h0 in let w = s .steady-few in let l = capacity-over p r in let bad : ⊥ = omega arith in bad)
 
-  one-unsealed : (g c : ℕ) → Steady p v g c → ((z : ℕ) → z < p .Z → usedAt v z ≡ true → (z ≡ g → ⊥) → SealedAll p v z) → unsealed gs ≡ segmentOf p v 0 g ∷ []
-  one-unsealed g c s f = unsealed-are ∙ ap (map (segmentOf p v 0))
+  unsealed-steady : (g c : ℕ) → Steady p v g c → ((z : ℕ) → z < p .Z → usedAt v z ≡ true → (z ≡ g → ⊥) → SealedAll p v z) → unsealed gs ≡ segmentOf p v 0 g ∷ []
+  unsealed-steady g c s f = unsealed-are ∙ ap (map (segmentOf p v 0))
       (keep-cong (λ y. usedAt v y && not (sealedIn p v 0 y)) (λ y. eqb y g) (below (p .Z))
       (λ y m. go y (below-in (p .Z) y m) (ℕ-discrete y g) (test (usedAt v y)))
       ∙ keep-one-below (λ y. eqb y g) g (p .Z) (λ y. refl) (s .steady-low))
@@ -191,7 +191,7 @@ module _ (p : Params) (r : Ranged p) (v : View) (sh : Shaped p v) (b : ℕ) (t :
     idle-awaits d = tally-none (awaits su (flies su) d) slots (λ i m. and-false-left (flies su i) (not (isIn (landedIn su i) d)) (idle-flies i))
 
   -- nothing is open
-  sealed-healthy : ((z : ℕ) → z < p .Z → usedAt v z ≡ true → SealedAll p v z) → Healthy p v (su 0 0)
+  sealed-healthy : ((z : ℕ) → z < p .Z → usedAt v z ≡ true → SealedAll p v z) → HealthyState p v (su 0 0)
   sealed-healthy f = record {
     tidy = subst (λ (x : ℕ). Tidy p v x) (sym (idle-serial 0 0)) tidy-now;
     sealed-but = λ z hz q. inr (f z hz q);
@@ -203,7 +203,7 @@ module _ (p : Params) (r : Ranged p) (v : View) (sh : Shaped p v) (b : ℕ) (t :
   }
 
   -- the one that is steady is open
-  steady-open : (g c : ℕ) → Steady p v g c → Open p v (su (suc g) c) (flies (su (suc g) c)) g
+  steady-open : (g c : ℕ) → Steady p v g c → OpenZone p v (su (suc g) c) (flies (su (suc g) c)) g
   steady-open g c s = record {
     opened-zone = s .steady-low;
     has-header = λ d hd. let e = s .steady-pointer d hd in omega arith;
@@ -214,12 +214,13 @@ module _ (p : Params) (r : Ranged p) (v : View) (sh : Shaped p v) (b : ℕ) (t :
     goes-on = λ q. absurd (let e = sym (idle-next (suc g) c) ∙ q in let l = s .steady-few in let bad : ⊥ = omega arith in bad);
   }
 
-  open-healthy : (g c : ℕ) → Steady p v g c → ((z : ℕ) → z < p .Z → usedAt v z ≡ true → (z ≡ g → ⊥) → SealedAll p v z) → Healthy p v (su (suc g) c)
+  open-healthy : (g c : ℕ) → Steady p v g c → ((z : ℕ) → z < p .Z → usedAt v z ≡ true → (z ≡ g → ⊥) → SealedAll p v z) → HealthyState p v (su (suc g) c)
   open-healthy g c s f = record {
     tidy = subst (λ (x : ℕ). Tidy p v x) (sym (idle-serial (suc g) c)) tidy-now;
     sealed-but = λ z hz q. go z hz q (ℕ-discrete z g);
     opens-at =
-        λ z q. subst (λ (x : ℕ). Open p v (su (suc g) c) (flies (su (suc g) c)) x) (let e : suc g ≡ suc z = sym (idle-opened (suc g) c) ∙ q in let x : g ≡ z = omega arith in x) (steady-open g c s);
+        λ z q. subst (λ (x : ℕ). OpenZone p v (su (suc g) c) (flies (su (suc g) c)) x) (let e : suc g ≡ suc z = sym (idle-opened (suc g) c) ∙ q in let x : g ≡ z = omega arith in x)
+        (steady-open g c s);
     shut = λ q. absurd (let x = sym (idle-opened (suc g) c) ∙ q in let bad : ⊥ = omega arith in bad);
     serial-fits = subst (λ (x : ℕ). x < 256 ^ 8) (sym (idle-serial (suc g) c)) serial-bound;
     stamp-fits = subst (λ (x : ℕ). x < 256 ^ 8) (sym (idle-stamp (suc g) c)) stamp-bound;
@@ -238,10 +239,10 @@ module _ (p : Params) (r : Ranged p) (v : View) (sh : Shaped p v) (b : ℕ) (t :
       as! : restartMemory p v 0 fl .state ≡ su (openOf (cond (eqb 0 0) (unsealed gs) [])) (nextOf p (cond (eqb 0 0) (unsealed gs) []))
       as! = unfold restartMemory in refl
 
-  pub rest-healthy : Rest p v → (fl : List ℕ) → Healthy p v (restartMemory p v 0 fl .state) × (stateOk p (restartMemory p v 0 fl .state) ≡ true)
+  pub rest-healthy : Rest p v → (fl : List ℕ) → HealthyState p v (restartMemory p v 0 fl .state) × (stateOk p (restartMemory p v 0 fl .state) ≡ true)
   rest-healthy (rest-sealed f) fl =
       let e : restartMemory p v 0 fl .state ≡ su 0 0 = memory-state [] (no-unsealed f) fl ∙ none! in (
-        subst (λ (x : State). Healthy p v x) (sym e) (sealed-healthy f),
+        subst (λ (x : State). HealthyState p v x) (sym e) (sealed-healthy f),
         ap (stateOk p) e ∙ idle-ok p r 0 (greatestStamp (candidates p 0 gs)) serial 0 0 (pow-pos (p .N)) (le-of-eq-ones) (omega arith) (omega arith),
       )
     where
@@ -251,8 +252,8 @@ module _ (p : Params) (r : Ranged p) (v : View) (sh : Shaped p v) (b : ℕ) (t :
       le-of-eq-ones : ones 0 ≤ 1
       le-of-eq-ones = let e = ones-ones 0 in omega arith
   rest-healthy (rest-open g c s f) fl =
-      let e : restartMemory p v 0 fl .state ≡ su (suc g) c = memory-state (segmentOf p v 0 g ∷ []) (one-unsealed g c s f) fl ∙ one! ∙ ap₂ su (ap suc (seg-is p v 0 g)) (s .steady-count) in (
-        subst (λ (x : State). Healthy p v x) (sym e) (open-healthy g c s f),
+      let e : restartMemory p v 0 fl .state ≡ su (suc g) c = memory-state (segmentOf p v 0 g ∷ []) (unsealed-steady g c s f) fl ∙ one! ∙ ap₂ su (ap suc (seg-is p v 0 g)) (s .steady-count) in (
+        subst (λ (x : State). HealthyState p v x) (sym e) (open-healthy g c s f),
         ap (stateOk p) e
             ∙ idle-ok p r 0 (greatestStamp (candidates p 0 gs)) serial (suc g) c (pow-pos (p .N)) (let e = ones-ones 0 in omega arith) (s .steady-low)
             (let l = s .steady-few in omega arith),

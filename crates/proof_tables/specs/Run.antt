@@ -20,7 +20,7 @@ use Rattle.proof_tables.specs.Base.{Base}
 
 -- ---- one drive is missing: nothing is wrong on the others
 
-pub record Lost (p : Params) (k : Disk) (m : Memory) : Type 0 where
+pub record LostDrive (p : Params) (k : Disk) (m : Memory) : Type 0 where
   pub which : ℕ
   pub which-low : which < p .N
   pub names-it : m .state .missing ≡ named which
@@ -42,7 +42,7 @@ pub record LandedAt (p : Params) (v : View) (st : State) (z i d : ℕ) : Type 0 
   pub is-entry : isData p (stripeIn st i) d ≡ true
       → (dataPosition p (stripeIn st i) d < filledIn st i) × (spareAt p v d z (offsetIn st i d) ≡ entryIn st i (dataPosition p (stripeIn st i) d))
 
-pub record Flight (p : Params) (v : View) (st : State) (z i : ℕ) : Type 0 where
+pub record SlotFlies (p : Params) (v : View) (st : State) (z i : ℕ) : Type 0 where
   pub begun : stripeIn st i < st .next
   pub group-low : (d : ℕ) → d < p .N → group p (stripeIn st i) * p .G < pointerAt v d z
   pub group-high : st .next ≤ suc (group p (stripeIn st i)) * p .G
@@ -51,12 +51,12 @@ pub record Flight (p : Params) (v : View) (st : State) (z i : ℕ) : Type 0 wher
   pub entries-low : (e : ℕ) → e < filledIn st i → (entryIn st i e .address < 256 ^ 8) × (entryIn st i e .stamp < 256 ^ 8)
 
 -- the open segment
-pub record Open (p : Params) (v : View) (st : State) (busy : ℕ → Bool) (z : ℕ) : Type 0 where
+pub record OpenZone (p : Params) (v : View) (st : State) (busy : ℕ → Bool) (z : ℕ) : Type 0 where
   pub opened-zone : z < p .Z
   pub has-header : (d : ℕ) → d < p .N → 1 ≤ pointerAt v d z
   pub count : (d : ℕ) → d < p .N → pointerAt v d z + tally (awaits st busy d) slots ≡ suc (st .next)
   pub below-next : (d o : ℕ) → d < p .N → 1 + o < pointerAt v d z → spareAt p v d z o .stripe < st .next
-  pub flight : (i : ℕ) → i < 8 → busy i ≡ true → Flight p v st z i
+  pub flight : (i : ℕ) → i < 8 → busy i ≡ true → SlotFlies p v st z i
   pub once : (i j : ℕ) → i < 8 → j < 8 → busy i ≡ true → busy j ≡ true → stripeIn st i ≡ stripeIn st j → i ≡ j
   pub goes-on : st .next ≡ p .S → 0 < tally busy slots
 
@@ -70,10 +70,10 @@ pub record Lists (st : State) : Type 0 where
   pub stamps-long : length (st .stamps) ≡ 64
   pub offsets-long : length (st .offsets) ≡ 64
 
-pub record Healthy (p : Params) (v : View) (st : State) : Type 0 where
+pub record HealthyState (p : Params) (v : View) (st : State) : Type 0 where
   pub tidy : Tidy p v (st .serial .0)
   pub sealed-but : (z : ℕ) → z < p .Z → usedAt v z ≡ true → (st .opened ≡ suc z) ⊎ ((d : ℕ) → d < p .N → pointerAt v d z ≡ capacity p)
-  pub opens-at : (z : ℕ) → st .opened ≡ suc z → Open p v st (flies st) z
+  pub opens-at : (z : ℕ) → st .opened ≡ suc z → OpenZone p v st (flies st) z
   pub shut : st .opened ≡ 0 → (i : ℕ) → i < 8 → flies st i ≡ false
   pub serial-fits : st .serial .0 < 256 ^ 8
   pub stamp-fits : st .stamp .0 < 256 ^ 8
@@ -81,13 +81,13 @@ pub record Healthy (p : Params) (v : View) (st : State) : Type 0 where
 
 pub record Well (p : Params) (k : Disk) (m : Memory) : Type 0 where
   pub none-missing : m .state .missing ≡ 0
-  pub healthy : Healthy p (seen p k) (m .state)
+  pub healthy : HealthyState p (seen p k) (m .state)
 
 -- ---- together
 
 pub record Run (p : Params) (k : Disk) (m : Memory) : Type 0 where
   pub base : Base p k m
-  pub mode : Lost p k m ⊎ Well p k m
+  pub mode : LostDrive p k m ⊎ Well p k m
 
 -- what a step must give
 pub record Kept (p : Params) (r : After Disk) : Type 0 where

@@ -38,9 +38,9 @@ module _ (p : Params) (r : Ranged p) (v : View) (sh : Shaped p v) (z : ℕ) (hz 
   ft : ℕ → List Chunk
   ft d = footerChunks p (zoneAt v d z) 0 (footers p)
 
-  stores-are : ss ≡ flat (λ d. map (putAt d z) (ft d)) (drivesOf p)
+  seal-stores-are : ss ≡ flat (λ d. map (putAt d z) (ft d)) (drivesOf p)
   unfolding ft
-  stores-are =
+  seal-stores-are =
       as! (flat-cong (λ d. footerStores p d z (zoneAt v d z) 0 (footers p)) (λ d. map (putAt d z) (footerChunks p (zoneAt v d z) 0 (footers p)))
       (drivesOf p) (λ d m. footer-puts p d z (zoneAt v d z) 0 (footers p)))
     where
@@ -48,8 +48,8 @@ module _ (p : Params) (r : Ranged p) (v : View) (sh : Shaped p v) (z : ℕ) (hz 
           → sealStores p v z ≡ flat (λ d. map (putAt d z) (footerChunks p (zoneAt v d z) 0 (footers p))) (drivesOf p)
       as! e = unfold sealStores zoneOn in e
 
-  zone-pointer : (e : ℕ) → e < p .N → zoneAt v e z .pointer ≡ 1 + p .S
-  zone-pointer e he = as! (behind e he)
+  filled-zone-pointer : (e : ℕ) → e < p .N → zoneAt v e z .pointer ≡ 1 + p .S
+  filled-zone-pointer e he = as! (behind e he)
     where
       as! : pointerAt v e z ≡ 1 + p .S → zoneAt v e z .pointer ≡ 1 + p .S
       as! q = unfold pointerAt in q
@@ -58,19 +58,20 @@ module _ (p : Params) (r : Ranged p) (v : View) (sh : Shaped p v) (z : ℕ) (hz 
   unfolding ft
   seal-zone e he =
       zone-after p v e z ss (sh .sized) he hz
-      ∙ ap (λ (l : List Store). storeAll zoneStore l (zoneAt v e z)) (ap (hits e z) stores-are ∙ hits-each p e z z ft he ∙ cond-true (eqb z z) (map (putAt e z) (ft e)) [] (eqb-self z))
+      ∙ ap (λ (l : List Store). storeAll zoneStore l (zoneAt v e z)) (ap (hits e z) seal-stores-are ∙ hits-each p e z z ft he ∙ cond-true (eqb z z) (map (putAt e z) (ft e)) [] (eqb-self z))
 
   pub seal-other : (y : ℕ) → y < p .Z → (z ≡ y → ⊥) → SameZones p v u y
   seal-other y hy n e he =
       sym (zone-after p v e y ss (sh .sized) he hy
-      ∙ ap (λ (l : List Store). storeAll zoneStore l (zoneAt v e y)) (ap (hits e y) stores-are ∙ hits-each p e y z ft he ∙ cond-false (eqb z y) (map (putAt e z) (ft e)) [] (ne-eqb z y n)) ∙ nothing)
+      ∙ ap (λ (l : List Store). storeAll zoneStore l (zoneAt v e y)) (ap (hits e y) seal-stores-are ∙ hits-each p e y z ft he ∙ cond-false (eqb z y) (map (putAt e z) (ft e)) [] (ne-eqb z y n))
+      ∙ nothing)
     where
       nothing : storeAll zoneStore [] (zoneAt v e y) ≡ zoneAt v e y
       nothing = unfold storeAll in refl
 
   pub seal-pointer : (e : ℕ) → e < p .N → pointerAt u e z ≡ capacity p
   seal-pointer e he = as! (ap (λ (q : Zone). q .pointer) (seal-zone e he) ∙ puts-pointer e z (footerChunks p (zoneAt v e z) 0 (footers p)) (zoneAt v e z)
-      ∙ (let a = zone-pointer e he in let b = footers-count p r (zoneAt v e z) (sh .zone-ok e z he hz) 0 (footers p) in let c = capacity-is p r in let
+      ∙ (let a = filled-zone-pointer e he in let b = footers-count p r (zoneAt v e z) (sh .zone-ok e z he hz) 0 (footers p) in let c = capacity-is p r in let
       x : zoneAt v e z .pointer + length (footerChunks p (zoneAt v e z) 0 (footers p))
       ≡ capacity p = omega arith in x))
     where
@@ -79,10 +80,10 @@ module _ (p : Params) (r : Ranged p) (v : View) (sh : Shaped p v) (z : ℕ) (hz 
 
   pub seal-roomy : Roomy p v ss
   unfolding ft
-  seal-roomy e y he hy = subst (λ (l : List Store). Room p (pointerAt v e y) l) (sym (ap (hits e y) stores-are ∙ hits-each p e y z ft he)) (go (ℕ-discrete z y))
+  seal-roomy e y he hy = subst (λ (l : List Store). Room p (pointerAt v e y) l) (sym (ap (hits e y) seal-stores-are ∙ hits-each p e y z ft he)) (go (ℕ-discrete z y))
     where
       fit : Room p (pointerAt v e z) (map (putAt e z) (ft e))
-      fit = as! (footer-rooms p r (zoneAt v e z) (sh .zone-ok e z he hz) e z 0 (footers p) (let a = zone-pointer e he in let c = capacity-is p r in omega arith))
+      fit = as! (footer-rooms p r (zoneAt v e z) (sh .zone-ok e z he hz) e z 0 (footers p) (let a = filled-zone-pointer e he in let c = capacity-is p r in omega arith))
         where
           as! : Room p (zoneAt v e z .pointer) (map (putAt e z) (footerChunks p (zoneAt v e z) 0 (footers p))) → Room p (pointerAt v e z) (map (putAt e z) (ft e))
           as! x = unfold pointerAt ft in x
@@ -95,7 +96,7 @@ module _ (p : Params) (r : Ranged p) (v : View) (sh : Shaped p v) (z : ℕ) (hz 
 
   pub seal-within : (s : Store) → In s ss → Within p s
   unfolding ft
-  seal-within s m = within-each p z ft hz s (subst (λ (l : List Store). In s l) stores-are m)
+  seal-within s m = within-each p z ft hz s (subst (λ (l : List Store). In s l) seal-stores-are m)
 
   pub seal-grows : Grows p v u z
   seal-grows = record {
@@ -114,7 +115,7 @@ module _ (p : Params) (r : Ranged p) (v : View) (sh : Shaped p v) (z : ℕ) (hz 
       head =
           as! (sym (ap (λ (q : Zone). getD (q .blocks) 0 noChunk .block) (seal-zone 0 h0)
           ∙ ap (λ (c : Chunk). c .block)
-          (puts-old 0 z (footerChunks p (zoneAt v 0 z) 0 (footers p)) (zoneAt v 0 z) 0 (let a = zone-pointer 0 h0 in omega arith))))
+          (puts-old 0 z (footerChunks p (zoneAt v 0 z) 0 (footers p)) (zoneAt v 0 z) 0 (let a = filled-zone-pointer 0 h0 in omega arith))))
         where
           as! : getD (zoneAt v 0 z .blocks) 0 noChunk .block ≡ getD (zoneAt u 0 z .blocks) 0 noChunk .block → headerAt v 0 z ≡ headerAt u 0 z
           as! e = unfold headerAt chunkAt zoneOn in e
@@ -137,8 +138,8 @@ module _ (p : Params) (r : Ranged p) (v : View) (sh : Shaped p v) (z : ℕ) (hz 
   pub seal-records : (e : ℕ) → e < p .N → recordsIn p (sealedIn p v 0 z) (zoneAt v e z) ≡ recordsIn p (sealedIn p u 0 z) (zoneAt u e z)
   seal-records e he =
       ap (λ (w : Bool). recordsIn p w (zoneAt v e z)) open-yet
-      ∙ go (zoneAt v e z) (zoneAt u e z) (zone-pointer e he) (at u e (seal-pointer e he))
-      (λ x h. sym (ap (λ (q : Zone). recordIn p true q x) (seal-zone e he) ∙ footer-records p r (zoneAt v e z) (sh .zone-ok e z he hz) e z (zone-pointer e he) x h))
+      ∙ go (zoneAt v e z) (zoneAt u e z) (filled-zone-pointer e he) (at u e (seal-pointer e he))
+      (λ x h. sym (ap (λ (q : Zone). recordIn p true q x) (seal-zone e he) ∙ footer-records p r (zoneAt v e z) (sh .zone-ok e z he hz) e z (filled-zone-pointer e he) x h))
       ∙ ap (λ (w : Bool). recordsIn p w (zoneAt u e z)) (sym seal-sealed)
     where
       at : (w : View) (e : ℕ) → pointerAt w e z ≡ capacity p → zoneAt w e z .pointer ≡ capacity p

@@ -19,7 +19,7 @@ use Rattle.spec.specs.Memory.{slotCount, slots, stripeIn, filledIn, landedIn, i
 use Rattle.spec.specs.Params.{dataCount, inflightLen}
 use Rattle.spec.specs.Segments.{segments, candidates, addressTable, compactTable}
 use Rattle.spec.specs.Write.{mustOpen, opens, noSerial, otherGroup, mustWait, placed, Sending, openedBy, slotFor, begunBy, sending, scarce}
-use Rattle.law_basic.specs.Be.{room}
+use Rattle.law_basic.specs.Be.{be-room}
 use Rattle.law_basic.specs.Geometry.{Ranged}
 use Rattle.law_basic.specs.Ranges.{Test, test, and-left, and-right, length-below}
 use Rattle.law_basic.specs.Ranges.Test.{yes!, no! }
@@ -28,21 +28,20 @@ use Rattle.law_drives.specs.Members.{In, in-keep, keep-in, none-in, in-any, bel
 use Rattle.law_drives.specs.Range.{data-count}
 use Rattle.law_drives.specs.Slots.{slot-found}
 use Rattle.law_drives.specs.States.{StateOk, in-slots, slots-in}
-use Rattle.law_drives.specs.Tests.{clash, or-left, or-right, or-cases, not-so}
+use Rattle.law_drives.specs.Tests.{clash, or-first, or-right, or-cases, not-so}
 use Rattle.law_drives.specs.Zones.{Shaped, hits, Room, Within, Roomy}
 use Rattle.proof_tables.specs.Carried.{begin-healthy}
-use Rattle.proof_tables.specs.Filling.{placed-long, add-ok, begin-ok, fill-healthy}
+use Rattle.proof_tables.specs.Filling.{placed-inflight-long, add-ok, begin-ok, fill-healthy}
 use Rattle.proof_tables.specs.Heading.{head-addresses, head-compact, head-healthy}
-use Rattle.proof_tables.specs.Reading.{found}
-use Rattle.proof_tables.specs.Run.{flies, Healthy}
-use Rattle.proof_tables.specs.Slots.{begin-filled, begin-lists}
+use Rattle.proof_tables.specs.Run.{flies, HealthyState}
+use Rattle.proof_tables.specs.Slots.{filled-begun, begin-lists}
 use Rattle.proof_tables.specs.Tallies.{tally-none, some-out}
 
 -- ---- eighths found by a search
 
-pub filling-slot : (p : Params) (st : State) → hasFilling p st ≡ true → (fillingSlot p st < 8) × (flies st (fillingSlot p st) ≡ true) × (filledIn st (fillingSlot p st) < dataCount p)
+pub filling-flies : (p : Params) (st : State) → hasFilling p st ≡ true → (fillingSlot p st < 8) × (flies st (fillingSlot p st) ≡ true) × (filledIn st (fillingSlot p st) < dataCount p)
 unfolding hasFilling fillingSlot
-filling-slot p st q =
+filling-flies p st q =
     let (l, e) = slot-found (isFilling p st) q in
     let i = indexOf (isFilling p st) slots in
     (l, parts i e .0, parts i e .1)
@@ -53,8 +52,8 @@ filling-slot p st q =
       leb-false (dataCount p) (filledIn st i) (not-true (leb (dataCount p) (filledIn st i)) (and-right (not (isFree st i)) (not (leb (dataCount p) (filledIn st i))) e)),
     )
 
-pub free-slot : (st : State) → length (inFlight st) < 8 → (freeSlot st < 8) × (flies st (freeSlot st) ≡ false)
-free-slot st h = go (some-out (flies st) slots (few h))
+pub free-slot-idle : (st : State) → length (inFlight st) < 8 → (freeSlot st < 8) × (flies st (freeSlot st) ≡ false)
+free-slot-idle st h = go (some-out (flies st) slots (few h))
   where
     few : length (inFlight st) < 8 → tally (flies st) slots < length slots
     few h = unfold inFlight tally slots slotCount in subst (λ (x : ℕ). length (keep (λ i. not (isFree st i)) (below 8)) < x) (sym (length-below 8)) h
@@ -76,18 +75,18 @@ in-flight st i h q = in-keep (λ i. not (isFree st i)) slots i (in-slots i h) q
 pub record SentOk (p : Params) (v : View) (st su : State) (ss : List Store) (fl : List ℕ) : Type 0 where
   pub has-room : Roomy p v ss
   pub all-within : (s : Store) → In s ss → Within p s
-  pub healthy-after : Healthy p (storeAll storeView ss v) su
+  pub healthy-after : HealthyState p (storeAll storeView ss v) su
   pub state-after : StateOk p su
   pub buffer-after : length fl ≡ inflightLen p
   pub addresses-after : addressTable p (candidates p 0 (segments p v 0)) ≡ addressTable p (candidates p 0 (segments p (storeAll storeView ss v) 0))
   pub compact-after : compactTable p (segments p v 0) ≡ compactTable p (segments p (storeAll storeView ss v) 0)
   pub missing-after : su .missing ≡ st .missing
 
-no-stores : (p : Params) (v : View) (st su : State) (fl : List ℕ) → Healthy p v su → StateOk p su → length fl ≡ inflightLen p → su .missing ≡ st .missing → SentOk p v st su [] fl
-no-stores p v st su fl h so l e = record {
+sent-no-stores : (p : Params) (v : View) (st su : State) (fl : List ℕ) → HealthyState p v su → StateOk p su → length fl ≡ inflightLen p → su .missing ≡ st .missing → SentOk p v st su [] fl
+sent-no-stores p v st su fl h so l e = record {
   has-room = λ d z hd hz. none-room d z;
   all-within = λ s m. absurd m;
-  healthy-after = subst (λ (x : View). Healthy p x su) (sym nothing) h;
+  healthy-after = subst (λ (x : View). HealthyState p x su) (sym nothing) h;
   state-after = so;
   buffer-after = l;
   addresses-after = ap (λ (x : View). addressTable p (candidates p 0 (segments p x 0))) (sym nothing);
@@ -101,7 +100,7 @@ no-stores p v st su fl h so l e = record {
     none-room : (d z : ℕ) → Room p (pointerAt v d z) (hits d z [])
     none-room d z = unfold keep in tt
 
-module _ (p : Params) (r : Ranged p) (v : View) (sh : Shaped p v) (st : State) (h : Healthy p v st) (so : StateOk p st) (fl : List ℕ) (l : length fl ≡ inflightLen p)
+module _ (p : Params) (r : Ranged p) (v : View) (sh : Shaped p v) (st : State) (h : HealthyState p v st) (so : StateOk p st) (fl : List ℕ) (l : length fl ≡ inflightLen p)
     (a t w : ℕ) (b : List ℕ) (ha : a < 256 ^ 8) (ht : t < 256 ^ 8) (hw : w ≤ 1) (lb : length b ≡ p .B) where
   abbrev sent : Sending
   sent = sending p v st fl a t w b
@@ -112,7 +111,7 @@ module _ (p : Params) (r : Ranged p) (v : View) (sh : Shaped p v) (st : State) (
   -- the next position of the filling stripe
   fills : hasFilling p st ≡ true → SentOk p v st (sent .state) (sent .stores) (sent .inflight)
   fills q =
-      let (hi, fi, room) = filling-slot p st q in
+      let (hi, fi, be-room) = filling-flies p st q in
       let i = fillingSlot p st in
       let su = addEntry st i a t w in
       let e1 : sent .state ≡ su = state-is q in
@@ -121,8 +120,8 @@ module _ (p : Params) (r : Ranged p) (v : View) (sh : Shaped p v) (st : State) (
       subst (λ (x : State). SentOk p v st x (sent .stores) (sent .inflight)) (sym e1)
       (subst (λ (x : List Store). SentOk p v st su x (sent .inflight)) (sym e2)
       (subst (λ (x : List ℕ). SentOk p v st su [] x) (sym e3)
-      (no-stores p v st su (placed p st fl i a t w b .inflight) (fill-healthy p r v st i a t w h so hi fi room ha ht) (add-ok p r st (h .lists) so i hi a t w room hw)
-      (placed-long p r st fl i a t w b l hi room lb) (missing-is i))))
+      (sent-no-stores p v st su (placed p st fl i a t w b .inflight) (fill-healthy p r v st i a t w h so hi fi be-room ha ht) (add-ok p r st (h .lists) so i hi a t w be-room hw)
+      (placed-inflight-long p r st fl i a t w b l hi be-room lb) (missing-is i))))
     where
       state-is : hasFilling p st ≡ true → sent .state ≡ addEntry st (fillingSlot p st) a t w
       state-is q = unfold sending slotFor begunBy placed in rw q
@@ -137,15 +136,15 @@ module _ (p : Params) (r : Ranged p) (v : View) (sh : Shaped p v) (st : State) (
       missing-is i = unfold addEntry in refl
 
   -- the next stripe number, in a state su whose open zone is known
-  begins-in : (su : State) (u : View) (z : ℕ) → Healthy p u su → StateOk p su → su .opened ≡ suc z → su .next < p .S → (i : ℕ) → i < 8 → flies su i ≡ false
+  healthy-begun : (su : State) (u : View) (z : ℕ) → HealthyState p u su → StateOk p su → su .opened ≡ suc z → su .next < p .S → (i : ℕ) → i < 8 → flies su i ≡ false
       → ((j : ℕ) → j < 8 → flies su j ≡ true → group p (stripeIn su j) ≡ group p (su .next))
-      → Healthy p u (addEntry (beginStripe su i) i a t w) × StateOk p (addEntry (beginStripe su i) i a t w) × (length (placed p (beginStripe su i) fl i a t w b .inflight) ≡ inflightLen p)
-  begins-in su u z k ko op nx i hi fi gr =
+      → HealthyState p u (addEntry (beginStripe su i) i a t w) × StateOk p (addEntry (beginStripe su i) i a t w) × (length (placed p (beginStripe su i) fl i a t w b .inflight) ≡ inflightLen p)
+  healthy-begun su u z k ko op nx i hi fi gr =
       let lb! = begin-lists su (k .lists) i hi in
-      let room : filledIn (beginStripe su i) i < dataCount p = (let e = begin-filled su (k .lists) i hi in let d = two-up in omega arith) in (
+      let room : filledIn (beginStripe su i) i < dataCount p = (let e = filled-begun su (k .lists) i hi in let d = two-up in omega arith) in (
         begin-healthy p r u su z i a t w k ko op hi fi nx gr ha ht,
         add-ok p r (beginStripe su i) lb! (begin-ok p r su (k .lists) ko i hi nx) i hi a t w room hw,
-        placed-long p r (beginStripe su i) fl i a t w b l hi room lb,
+        placed-inflight-long p r (beginStripe su i) fl i a t w b l hi room lb,
       )
 
   module _ (nf : hasFilling p st ≡ false) (nw : mustWait p st ≡ false) where
@@ -155,8 +154,8 @@ module _ (p : Params) (r : Ranged p) (v : View) (sh : Shaped p v) (st : State) (
         let y = mustOpen p st && not (isNil (inFlight st)) in
         let z = not (mustOpen p st) && any (otherGroup p st) (inFlight st) in
         let q : x || y || z ≡ false = inner in
-        let q1 = or-left (x || y) z q in
-        (or-left x y q1, (or-right x y q1, or-right (x || y) z q))
+        let q1 = or-first (x || y) z q in
+        (or-first x y q1, (or-right x y q1, or-right (x || y) z q))
       where
         inner : leb slotCount (length (inFlight st)) || (mustOpen p st && not (isNil (inFlight st))) || (not (mustOpen p st) && any (otherGroup p st) (inFlight st)) ≡ false
         inner =
@@ -169,9 +168,9 @@ module _ (p : Params) (r : Ranged p) (v : View) (sh : Shaped p v) (st : State) (
     i : ℕ
     i = freeSlot st
 
-    free! : (i < 8) × (flies st i ≡ false)
+    aim-free : (i < 8) × (flies st i ≡ false)
     unfolding i
-    free! = free-slot st (few (wait-parts .0))
+    aim-free = free-slot-idle st (few (wait-parts .0))
       where
         few : leb slotCount (length (inFlight st)) ≡ false → length (inFlight st) < 8
         few q = unfold slotCount in leb-false 8 (length (inFlight st)) q
@@ -185,17 +184,17 @@ module _ (p : Params) (r : Ranged p) (v : View) (sh : Shaped p v) (st : State) (
         let nx : st .next < p .S = (let le = so .next-low in omega arith) in
         let g3 : any (otherGroup p st) (inFlight st) ≡ false = sym (ap (λ (c : Bool). not c && any (otherGroup p st) (inFlight st)) mo) ∙ wait-parts .1 .1 in
         let gr : (j : ℕ) → j < 8 → flies st j ≡ true → group p (stripeIn st j) ≡ group p (st .next) = λ j hj fj. same-group j (none-in (otherGroup p st) (inFlight st) g3 j (in-flight st j hj fj)) in
-        let (k1, k2, k3) = begins-in st v z h so op nx (freeSlot st) (free! .0) (free! .1) gr in
+        let (k1, k2, k3) = healthy-begun st v z h so op nx (freeSlot st) (aim-free .0) (aim-free .1) gr in
         let su = addEntry (beginStripe st (freeSlot st)) (freeSlot st) a t w in
         subst (λ (x : State). SentOk p v st x (sent .stores) (sent .inflight)) (sym (state-is mo))
         (subst (λ (x : List Store). SentOk p v st su x (sent .inflight)) (sym (stores-is mo))
         (subst (λ (x : List ℕ). SentOk p v st su [] x) (sym (inflight-is mo))
-        (no-stores p v st su (placed p (beginStripe st (freeSlot st)) fl (freeSlot st) a t w b .inflight) k1 k2 k3 (missing-is (freeSlot st)))))
+        (sent-no-stores p v st su (placed p (beginStripe st (freeSlot st)) fl (freeSlot st) a t w b .inflight) k1 k2 k3 (missing-is (freeSlot st)))))
       where
         open-parts : mustOpen p st ≡ false → (st .opened ≡ 0 → ⊥) × (st .next ≡ p .S → ⊥)
         open-parts q =
             unfold mustOpen in (
-              eqb-false (st .opened) 0 (or-left (eqb (st .opened) 0) (eqb (st .next) (p .S)) q),
+              eqb-false (st .opened) 0 (or-first (eqb (st .opened) 0) (eqb (st .next) (p .S)) q),
               eqb-false (st .next) (p .S) (or-right (eqb (st .opened) 0) (eqb (st .next) (p .S)) q),
             )
 
@@ -234,8 +233,8 @@ module _ (p : Params) (r : Ranged p) (v : View) (sh : Shaped p v) (st : State) (
         let ku = head-healthy p r v sh s g (h .tidy) hg em fit st h refl shut! none in
         let ko = open-ok g (suc s) hg in
         let (k1, k2, k3) =
-        begins-in su u g ku ko (opened-is g (suc s)) (subst (λ (x : ℕ). x < p .S) (sym (next-is g (suc s))) (r .stripes-low)) (freeSlot st)
-        (free! .0) (free-same g (suc s) (freeSlot st) ∙ free! .1)
+        healthy-begun su u g ku ko (opened-is g (suc s)) (subst (λ (x : ℕ). x < p .S) (sym (next-is g (suc s))) (r .stripes-low)) (freeSlot st)
+        (aim-free .0) (free-same g (suc s) (freeSlot st) ∙ aim-free .1)
         (λ j hj fj. clash fj (free-same g (suc s) j ∙ none j hj)) in
         let sw = addEntry (beginStripe su (freeSlot st)) (freeSlot st) a t w in
         subst (λ (x : State). SentOk p v st x (sent .stores) (sent .inflight)) (sym (state-is mo))
@@ -317,8 +316,8 @@ module _ (p : Params) (r : Ranged p) (v : View) (sh : Shaped p v) (st : State) (
         inflight-is mo = unfold sending slotFor begunBy openedBy opens in rw (nf, mo)
 
   -- all three
-  pub sends : mustWait p st ≡ false → noSerial p st ≡ false → (opens p st ≡ true → isNil (emptyZones p v) ≡ false) → SentOk p v st (sent .state) (sent .stores) (sent .inflight)
-  sends nw ns ne = go (test (hasFilling p st)) (test (mustOpen p st))
+  pub sent-ok : mustWait p st ≡ false → noSerial p st ≡ false → (opens p st ≡ true → isNil (emptyZones p v) ≡ false) → SentOk p v st (sent .state) (sent .stores) (sent .inflight)
+  sent-ok nw ns ne = go (test (hasFilling p st)) (test (mustOpen p st))
     where
       opens-is : hasFilling p st ≡ false → mustOpen p st ≡ true → opens p st ≡ true
       opens-is x y = unfold opens in rw (x, y)

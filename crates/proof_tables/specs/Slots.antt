@@ -21,25 +21,25 @@ cell-same i j k l a b e = (omega arith, omega arith)
 
 module _ (st : State) (ls : Lists st) (i : ℕ) (hi : i < 8) where
   -- ---- beginStripe
-  pub begin-number : stripeIn (beginStripe st i) i ≡ st .next
+  pub number-begun : stripeIn (beginStripe st i) i ≡ st .next
   unfolding stripeIn beginStripe
-  begin-number = getD-set-same (st .numbers) i (st .next) 0 (omega (arith, ls .numbers-long))
+  number-begun = getD-set-same (st .numbers) i (st .next) 0 (omega (arith, ls .numbers-long))
 
   pub begin-number-other : (j : ℕ) → (j ≡ i → ⊥) → stripeIn (beginStripe st i) j ≡ stripeIn st j
   unfolding stripeIn beginStripe
   begin-number-other j n = getD-set-other (st .numbers) i j (st .next) 0 n
 
-  pub begin-filled : filledIn (beginStripe st i) i ≡ 0
+  pub filled-begun : filledIn (beginStripe st i) i ≡ 0
   unfolding filledIn beginStripe
-  begin-filled = getD-set-same (st .filled) i 0 0 (omega (arith, ls .filled-long))
+  filled-begun = getD-set-same (st .filled) i 0 0 (omega (arith, ls .filled-long))
 
   pub begin-filled-other : (j : ℕ) → (j ≡ i → ⊥) → filledIn (beginStripe st i) j ≡ filledIn st j
   unfolding filledIn beginStripe
   begin-filled-other j n = getD-set-other (st .filled) i j 0 0 n
 
-  pub begin-landed : landedIn (beginStripe st i) i ≡ 0
+  pub landed-begun : landedIn (beginStripe st i) i ≡ 0
   unfolding landedIn beginStripe
-  begin-landed = getD-set-same (st .landed) i 0 0 (omega (arith, ls .landed-long))
+  landed-begun = getD-set-same (st .landed) i 0 0 (omega (arith, ls .landed-long))
 
   pub begin-landed-other : (j : ℕ) → (j ≡ i → ⊥) → landedIn (beginStripe st i) j ≡ landedIn st j
   unfolding landedIn beginStripe
@@ -79,25 +79,25 @@ module _ (st : State) (ls : Lists st) (i : ℕ) (hi : i < 8) where
 
   -- ---- addEntry
   module _ (a t w : ℕ) where
-    pub add-filled : filledIn (addEntry st i a t w) i ≡ suc (filledIn st i)
+    pub filled-added : filledIn (addEntry st i a t w) i ≡ suc (filledIn st i)
     unfolding filledIn addEntry
-    add-filled = getD-set-same (st .filled) i (suc (getD (st .filled) i 0)) 0 (omega (arith, ls .filled-long))
+    filled-added = getD-set-same (st .filled) i (suc (getD (st .filled) i 0)) 0 (omega (arith, ls .filled-long))
 
     pub add-filled-other : (j : ℕ) → (j ≡ i → ⊥) → filledIn (addEntry st i a t w) j ≡ filledIn st j
     unfolding filledIn addEntry
     add-filled-other j n = getD-set-other (st .filled) i j (suc (getD (st .filled) i 0)) 0 n
 
-    pub add-number : (j : ℕ) → stripeIn (addEntry st i a t w) j ≡ stripeIn st j
+    pub number-added : (j : ℕ) → stripeIn (addEntry st i a t w) j ≡ stripeIn st j
     unfolding stripeIn addEntry
-    add-number j = refl
+    number-added j = refl
 
-    pub add-landed : (j : ℕ) → landedIn (addEntry st i a t w) j ≡ landedIn st j
+    pub landed-added : (j : ℕ) → landedIn (addEntry st i a t w) j ≡ landedIn st j
     unfolding landedIn addEntry
-    add-landed j = refl
+    landed-added j = refl
 
-    pub add-offset : (j d : ℕ) → offsetIn (addEntry st i a t w) j d ≡ offsetIn st j d
+    pub offset-added : (j d : ℕ) → offsetIn (addEntry st i a t w) j d ≡ offsetIn st j d
     unfolding offsetIn addEntry
-    add-offset j d = refl
+    offset-added j d = refl
 
     pub add-writes : getD (addEntry st i a t w .writes) i 0 ≡ bitOr (getD (st .writes) i 0) (w * only (filledIn st i))
     unfolding addEntry
@@ -107,9 +107,9 @@ module _ (st : State) (ls : Lists st) (i : ℕ) (hi : i < 8) where
     unfolding addEntry
     add-writes-other j n = getD-set-other (st .writes) i j (bitOr (getD (st .writes) i 0) (w * only (filledIn st i))) 0 n
 
-    pub add-entry : filledIn st i < 8 → entryIn (addEntry st i a t w) i (filledIn st i) ≡ mkRec a t (stripeIn st i)
+    pub entry-added : filledIn st i < 8 → entryIn (addEntry st i a t w) i (filledIn st i) ≡ mkRec a t (stripeIn st i)
     unfolding entryIn addEntry stripeIn
-    add-entry f = ap₂ (λ (x y : ℕ). mkRec x y (getD (st .numbers) i 0))
+    entry-added f = ap₂ (λ (x y : ℕ). mkRec x y (getD (st .numbers) i 0))
         (getD-set-same (st .addresses) (cell i (filledIn st i)) a 0 (let z = cell-low i (filledIn st i) hi f in omega (arith, ls .addresses-long)))
         (getD-set-same (st .stamps) (cell i (filledIn st i)) t 0 (let z = cell-low i (filledIn st i) hi f in omega (arith, ls .stamps-long)))
 
@@ -160,9 +160,9 @@ module _ (st : State) (ls : Lists st) (i : ℕ) (hi : i < 8) where
       offsets-long = length-set (st .offsets) (cell i d) o ∙ ls .offsets-long;
     }
 
-  pub free-filled : filledIn (freeStripe st i) i ≡ 0
+  pub filled-freed : filledIn (freeStripe st i) i ≡ 0
   unfolding filledIn freeStripe
-  free-filled = getD-set-same (st .filled) i 0 0 (omega (arith, ls .filled-long))
+  filled-freed = getD-set-same (st .filled) i 0 0 (omega (arith, ls .filled-long))
 
   pub free-filled-other : (j : ℕ) → (j ≡ i → ⊥) → filledIn (freeStripe st i) j ≡ filledIn st j
   unfolding filledIn freeStripe

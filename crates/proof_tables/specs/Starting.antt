@@ -95,8 +95,8 @@ pub record Begins (p : Params) (k : Disk) (m : Memory) (d : ℕ) : Type 0 where
   pub sixth! : rewrites p (named d) (segments p (seen p k) (named d)) && eqb (greatestSerial (segments p (seen p k) (named d))) lastCount ≡ false
   pub eighth! : rewrites p (named d) (segments p (seen p k) (named d)) && isNil (freeZones p (segments p (seen p k) (named d))) ≡ false
 
-pub begins : (p : Params) (k : Disk) (m : Memory) (d : ℕ) → firstRefusal (startChecks p k m d) ≡ none → Begins p k m d
-begins p k m d e =
+pub start-begins : (p : Params) (k : Disk) (m : Memory) (d : ℕ) → firstRefusal (startChecks p k m d) ≡ none → Begins p k m d
+start-begins p k m d e =
     let c = restart-passed p (lentOk p k m) (seen p k) d (segments p (seen p k) (named d)) e in
     record {
       in-range! = c .in-range;
@@ -108,9 +108,9 @@ begins p k m d e =
     }
 
 -- the restart that names a drive stores nothing
-pub lost-start : (p : Params) (k : Disk) (m : Memory) (d : ℕ) → (Whole p k → Shaped p (seen p k)) → Begins p k m d → d < p .N
+pub start-lost : (p : Params) (k : Disk) (m : Memory) (d : ℕ) → (Whole p k → Shaped p (seen p k)) → Begins p k m d → d < p .N
     → Run p (storeAll (storeDisk p) (startPlan p k m d .stores) k) (startPlan p k m d .memory)
-lost-start p k m d sh b hd =
+start-lost p k m d sh b hd =
     let v = seen p k in
     let gone = named d in
     let gs = segments p v gone in

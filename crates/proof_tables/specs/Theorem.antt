@@ -30,13 +30,13 @@ use Rattle.law_drives.specs.Zones.{Shaped}
 use Rattle.proof_tables.specs.Going.{well-write, well-close}
 use Rattle.proof_tables.specs.Landings.{well-land}
 use Rattle.proof_tables.specs.Losing.{idle-kept, refused-kept, lost-write, lost-land, lost-close, lost-reclaim, lost-rebuild}
-use Rattle.proof_tables.specs.Outcomes.{Ended, ended, cut-unfinished, cut-cut}
-use Rattle.proof_tables.specs.Outcomes.Ended.{ended-refused, ended-done, ended-cut}
+use Rattle.proof_tables.specs.Outcomes.{EndedAs, outcome-ends, cut-unfinished, cut-cut}
+use Rattle.proof_tables.specs.Outcomes.EndedAs.{ended-refused, ended-done, ended-cut}
 use Rattle.proof_tables.specs.Reading.{read-idle, fill-idle}
 use Rattle.proof_tables.specs.Reclaiming.{well-reclaim}
-use Rattle.proof_tables.specs.Restarting.{started}
+use Rattle.proof_tables.specs.Restarting.{run-started}
 use Rattle.proof_tables.specs.Run.{Well, Run, Kept}
-use Rattle.proof_tables.specs.Starting.{startChecks, startPlan, begins}
+use Rattle.proof_tables.specs.Starting.{startChecks, startPlan, start-begins}
 
 -- Reading order: Run (what holds between calls); lists and numbers: Tests, Members, Range, Masks, Tallies, Counting; what the drives say: Segs,
 -- Ranks, Tables, Accept, Frame, Settled, Growing; reads: Reads, Base, Reading; stores: Zones, Image, Laid, Puts, Sealing, Joins; checks and how a call
@@ -46,9 +46,9 @@ use Rattle.proof_tables.specs.Starting.{startChecks, startPlan, begins}
 
 -- ---- a restart, on any bytes
 
-pub restart-ends : (p : Params) (k : Disk) (m : Memory) (d n : ℕ) → Ended p k m (startChecks p k m d) (startPlan p k m d) (callDisk p k m (restart d n))
+pub restart-ends : (p : Params) (k : Disk) (m : Memory) (d n : ℕ) → EndedAs p k m (startChecks p k m d) (startPlan p k m d) (callDisk p k m (restart d n))
 unfolding callDisk callOn verdict storeCount lentBlock restartVerdict
-restart-ends p k m d n = ended p k m (startChecks p k m d) (startPlan p k m d) n []
+restart-ends p k m d n = outcome-ends p k m (startChecks p k m d) (startPlan p k m d) n []
 
 -- finished: what holds between calls holds
 pub restart-finished : (p : Params) (k : Disk) (m : Memory) (d n : ℕ) → (Whole p k → Shaped p (seen p k)) → finished (callDisk p k m (restart d n) .answer) ≡ true
@@ -58,18 +58,18 @@ restart-finished p k m d n sh q = go (restart-ends p k m d n)
     r : After Disk
     r = callDisk p k m (restart d n)
 
-    go : Ended p k m (startChecks p k m d) (startPlan p k m d) (callDisk p k m (restart d n)) → Run p (callDisk p k m (restart d n) .drives) (callDisk p k m (restart d n) .memory)
+    go : EndedAs p k m (startChecks p k m d) (startPlan p k m d) (callDisk p k m (restart d n)) → Run p (callDisk p k m (restart d n) .drives) (callDisk p k m (restart d n) .memory)
     go (ended-refused a e f g h) = clash q (ap finished f ∙ refused-unfinished a (refusal-kind (startChecks p k m d) a e))
     go (ended-done c f g h) =
         subst (λ (x : Disk). Run p x (callDisk p k m (restart d n) .memory)) (sym g)
-        (subst (λ (x : Memory). Run p (storeAll (storeDisk p) (startPlan p k m d .stores) k) x) (sym h) (started p k m d sh (begins p k m d c)))
+        (subst (λ (x : Memory). Run p (storeAll (storeDisk p) (startPlan p k m d .stores) k) x) (sym h) (run-started p k m d sh (start-begins p k m d c)))
     go (ended-cut c f) = clash q (ap finished f ∙ cut-unfinished)
 
 -- ---- one call
 
 -- what a call gives
-abbrev pub Stepped : Params → Call → After Disk → Type 0
-Stepped p c r = NotNinth (restartOf c) (r .answer) × (isCut (r .answer) ≡ false → Run p (r .drives) (r .memory))
+abbrev pub CallKeeps : Params → Call → After Disk → Type 0
+CallKeeps p c r = NotNinth (restartOf c) (r .answer) × (isCut (r .answer) ≡ false → Run p (r .drives) (r .memory))
 
 kept-step : (p : Params) (r : After Disk) → Kept p r → (isRefusedAs 9 (r .answer) ≡ false) × (isCut (r .answer) ≡ false → Run p (r .drives) (r .memory))
 kept-step p r k = (k .never-ninth, k .runs-on)
@@ -77,7 +77,7 @@ kept-step p r k = (k .never-ninth, k .runs-on)
 -- with none missing no drive can be rebuilt
 well-rebuild : (p : Params) (k : Disk) (m : Memory) (u : Run p k m) → Well p k m → (d n : ℕ) → Kept p (callDisk p k m (rebuild d n))
 unfolding callDisk callOn verdict storeCount lentBlock rebuildVerdict
-well-rebuild p k m u we d n = go (ended p k m checks plan n [])
+well-rebuild p k m u we d n = go (outcome-ends p k m checks plan n [])
   where
     plan : Plan
     plan = mkPlan (rebuildStores p d (segments p (seen p k) (named d))) Rebuilt m []
@@ -91,7 +91,7 @@ well-rebuild p k m u we d n = go (ended p k m checks plan n [])
     passed! : {X : Type 0} → firstRefusal checks ≡ none → X
     passed! q = let c = rebuild-passed p (lentOk p k m) (seen p k) m d (segments p (seen p k) (named d)) q in never! (c .drive-low) (c .names)
 
-    go : Ended p k m checks plan (outcome p (storeDisk p) n k m [] (decided (firstRefusal checks) plan)) → Kept p (outcome p (storeDisk p) n k m [] (decided (firstRefusal checks) plan))
+    go : EndedAs p k m checks plan (outcome p (storeDisk p) n k m [] (decided (firstRefusal checks) plan)) → Kept p (outcome p (storeDisk p) n k m [] (decided (firstRefusal checks) plan))
     go (ended-refused a e f g h) = refused-kept p k m _ a u (rebuild-mild p (lentOk p k m) (seen p k) m d (segments p (seen p k) (named d)) (λ hd q. never! hd q) a e) f g h
     go (ended-done c f g h) = passed! c
     go (ended-cut c f) = passed! c
@@ -100,14 +100,14 @@ restart-step : (p : Params) (k : Disk) (m : Memory) (u : Run p k m) (d n : ℕ) 
     → Run p (callDisk p k m (restart d n) .drives) (callDisk p k m (restart d n) .memory)
 restart-step p k m u d n nc = go (restart-ends p k m d n)
   where
-    go : Ended p k m (startChecks p k m d) (startPlan p k m d) (callDisk p k m (restart d n)) → Run p (callDisk p k m (restart d n) .drives) (callDisk p k m (restart d n) .memory)
+    go : EndedAs p k m (startChecks p k m d) (startPlan p k m d) (callDisk p k m (restart d n)) → Run p (callDisk p k m (restart d n) .drives) (callDisk p k m (restart d n) .memory)
     go (ended-refused a e f g h) = subst (λ (x : Disk). Run p x (callDisk p k m (restart d n) .memory)) (sym g) (subst (λ (x : Memory). Run p k x) (sym h) u)
     go (ended-done c f g h) =
         subst (λ (x : Disk). Run p x (callDisk p k m (restart d n) .memory)) (sym g) (subst (λ (x : Memory). Run p (storeAll (storeDisk p) (startPlan p k m d .stores) k) x) (sym h)
-        (started p k m d (λ w. u .base .shaped) (begins p k m d c)))
+        (run-started p k m d (λ w. u .base .shaped) (start-begins p k m d c)))
     go (ended-cut c f) = clash (ap isCut f ∙ cut-cut) nc
 
-pub stepped : (p : Params) (k : Disk) (m : Memory) → Run p k m → (c : Call) → Stepped p c (callDisk p k m c)
+pub stepped : (p : Params) (k : Disk) (m : Memory) → Run p k m → (c : Call) → CallKeeps p c (callDisk p k m c)
 unfolding restartOf
 stepped p k m u (write a b n) = kept-step p (callDisk p k m (write a b n)) (⊎-elim (λ x. lost-write p k m u x a b n) (λ x. well-write p k m u x a n b) (u .mode))
 stepped p k m u (land d s n) = kept-step p (callDisk p k m (land d s n)) (⊎-elim (λ x. lost-land p k m u x d s n) (λ x. well-land p k m u x d s n) (u .mode))

@@ -26,14 +26,14 @@ use Rattle.law_basic.specs.Ranges.Test.{yes!, no! }
 use Rattle.law_basic.specs.Xor.{xorAll-none, xorAll-snoc}
 use Rattle.law_views.specs.Views.{Whole}
 use Rattle.law_drives.specs.Accept.{outside-in}
-use Rattle.recover_compact.specs.Compacts.{Shows}
+use Rattle.recover_compact.specs.Compacts.{SegmentShown}
 use Rattle.recover_groups.specs.Groups.{recsBad, recsFault}
 use Rattle.recover_segments.specs.Remains.{serialOf}
 use Rattle.law_drives.specs.Members.{In, in-map, none-in, keep-in, keep-cong, first-any}
 use Rattle.law_drives.specs.Segs.{in-present, remaining-low, length-records, record-at, data-low, recs-here, serial-is, chunk-at, CandAt}
 use Rattle.law_drives.specs.Spots.{cand-zone, counts-in, spot-of, spot-block, spot-drive, InGroups, shown-first}
 use Rattle.law_drives.specs.Tables.{compact-at}
-use Rattle.law_drives.specs.Tests.{or-left, cond-true, cond-false}
+use Rattle.law_drives.specs.Tests.{or-first, cond-true, cond-false}
 
 -- what the walk over the records rests on: buffers of their lengths, and records in order
 pub record Ground (p : Params) (im ps : List ℕ) (gone : ℕ) (cs : List ℕ) : Type 0 where
@@ -43,24 +43,24 @@ pub record Ground (p : Params) (im ps : List ℕ) (gone : ℕ) (cs : List ℕ) :
   pub compact-long : length cs ≡ compactLen p
 
 -- a counted stripe of a remaining segment, whose rows of the compact table are as the drives say
-pub record Counted (p : Params) (v : View) (gone : ℕ) (cs : List ℕ) (g s : ℕ) : Type 0 where
+pub record StripeCounts (p : Params) (v : View) (gone : ℕ) (cs : List ℕ) (g s : ℕ) : Type 0 where
   pub remains : In g (remaining p v gone)
   pub stripe-low : s < p .S
   pub it-counts : counts p gone (segmentOf p v gone g) s ≡ true
-  pub shown : Shows p v gone g cs
+  pub shown : SegmentShown p v gone g cs
 
 -- its record on a drive stands at data offset o
-pub record Lies (p : Params) (v : View) (gone : ℕ) (cs : List ℕ) (d g o s : ℕ) : Type 0 where
+pub record LiesIn (p : Params) (v : View) (gone : ℕ) (cs : List ℕ) (d g o s : ℕ) : Type 0 where
   pub drive-low : d < p .N
-  pub counted : Counted p v gone cs g s
+  pub counted : StripeCounts p v gone cs g s
   pub offset-is : o ≡ offsetOf gone (segmentOf p v gone g) s d
 
 -- the record of some counted stripe stands there
 abbrev pub Somewhere : Params → View → ℕ → List ℕ → ℕ → ℕ → ℕ → Type 0
-Somewhere p v gone cs d g o = (s : ℕ) × Lies p v gone cs d g o s
+Somewhere p v gone cs d g o = (s : ℕ) × LiesIn p v gone cs d g o s
 
-pub counted-low : (p : Params) (v : View) (gone : ℕ) (cs : List ℕ) (g s : ℕ) → Counted p v gone cs g s → g < p .Z
-counted-low p v gone cs g s k = remaining-low p v gone g (k .remains)
+pub counted-segment-low : (p : Params) (v : View) (gone : ℕ) (cs : List ℕ) (g s : ℕ) → StripeCounts p v gone cs g s → g < p .Z
+counted-segment-low p v gone cs g s k = remaining-low p v gone g (k .remains)
 
 -- ---- every chunk of what remains sits at an offset of its group
 
@@ -69,16 +69,16 @@ pub seg-clean : (p : Params) (v : View) (gone g : ℕ) → any (recsFault p gone
 unfolding segments
 seg-clean p v gone g q m = none-in (recsFault p gone) (map (segmentOf p v gone) (remaining p v gone)) q (segmentOf p v gone g) (in-map (segmentOf p v gone) (remaining p v gone) g m)
 
-pub in-groups : (p : Params) (v : View) (gone : ℕ) → any (recsFault p gone) (segments p v gone) ≡ false → InGroups p v gone
+pub no-fault-in-groups : (p : Params) (v : View) (gone : ℕ) → any (recsFault p gone) (segments p v gone) ≡ false → InGroups p v gone
 unfolding recsFault recsBad
-in-groups p v gone q g d o m hd pr h =
+no-fault-in-groups p v gone q g d o m hd pr h =
     let x = segmentOf p v gone g in
     let w = sealedIn p v gone g in
     let z = zoneAt v d g in
     let f : recsBad p d 0 (recsOn x d) ≡ false = none-in (λ d. recsBad p d 0 (recsOn x d)) (present p gone) (seg-clean p v gone g q m) d (in-present p gone d hd pr) in
     let u : outside p 0 (recsOn x d) ≡ false =
-    or-left (outside p 0 (recsOn x d)) (twice (recsOn x d))
-    (or-left (outside p 0 (recsOn x d) || twice (recsOn x d)) (any (storedBad p d) (recsOn x d)) f) in
+    or-first (outside p 0 (recsOn x d)) (twice (recsOn x d))
+    (or-first (outside p 0 (recsOn x d) || twice (recsOn x d)) (any (storedBad p d) (recsOn x d)) f) in
     let e : recsOn x d ≡ recordsIn p w z = recs-here p v gone g d hd pr in
     let l : length (recsOn x d) ≡ dataStored p z = ap length e ∙ length-records p w z in
     let a : getD (recsOn x d) o (mkRec 0 0 0) ≡ recordIn p w z o = ap (λ (y : List Rec). getD y o (mkRec 0 0 0)) e ∙ record-at p w z o (mkRec 0 0 0) h in
@@ -86,7 +86,8 @@ in-groups p v gone q g d o m hd pr h =
 
 -- ---- the stamp of a chunk that the table shows
 
-module _ (p : Params) (r : Ranged p) (v : View) (gone : ℕ) (cs : List ℕ) (g s : ℕ) (clean : any (recsFault p gone) (segments p v gone) ≡ false) (k : Counted p v gone cs g s) (d : ℕ) (hd : d < p .N)
+module _ (p : Params) (r : Ranged p) (v : View) (gone : ℕ) (cs : List ℕ) (g s : ℕ) (clean : any (recsFault p gone) (segments p v gone) ≡ false) (k : StripeCounts p v gone cs g s) (d : ℕ)
+    (hd : d < p .N)
     (pr : isIn gone d ≡ false) where
   has-it : hasChunk (segmentOf p v gone g) s d ≡ true
   has-it = counts-in p gone (segmentOf p v gone g) s d (k .it-counts) hd pr
@@ -99,13 +100,13 @@ module _ (p : Params) (r : Ranged p) (v : View) (gone : ℕ) (cs : List ℕ) (g 
       (keep (λ o. ltb o (p .S)) (upFrom (group p s * p .G) (p .G)))
       (λ o m.
       let l = ltb-true o (p .S) (keep-in (λ o. ltb o (p .S)) (upFrom (group p s * p .G) (p .G)) o m .1) in
-      let e = k .shown d o hd l ∙ sym (compact-at p v gone d g o hd (counted-low p v gone cs g s k) l) in
+      let e = k .shown d o hd l ∙ sym (compact-at p v gone d g o hd (counted-segment-low p v gone cs g s k) l) in
       ap (λ (x : ℕ). ltb (1 + o) (pointerAt v d g) && eqb x (compactEntry p s)) e)
 
   -- the offset that the compact table shows
   pub shown-there : (o : ℕ) → o ≡ firstOr (p .S) (shownAt p v cs d g s) → o ≡ offsetOn (segmentOf p v gone g) d s
   shown-there o eo =
-      let q = shown-first p r v gone (in-groups p v gone clean) g d s (k .remains) hd pr has-it in
+      let q = shown-first p r v gone (no-fault-in-groups p v gone clean) g d s (k .remains) hd pr has-it in
       eo ∙ ap (firstOr (p .S)) shown-same ∙ first-any (p .S) 0 (shownAt p v (compactTable p (segments p v gone)) d g s) (q .1) ∙ q .0
 
   pub offset-low : offsetOn (segmentOf p v gone g) d s < p .S
@@ -142,7 +143,7 @@ stamps-all f p gone = refl
 
 -- ---- the stamp at a place
 
-module _ (p : Params) (r : Ranged p) (v : View) (gone : ℕ) (cs : List ℕ) (d g o s : ℕ) (k : Lies p v gone cs d g o s) where
+module _ (p : Params) (r : Ranged p) (v : View) (gone : ℕ) (cs : List ℕ) (d g o s : ℕ) (k : LiesIn p v gone cs d g o s) where
   pub lies-away : isIn gone d ≡ true → o ≡ s
   unfolding offsetOf
   lies-away e = k .offset-is ∙ cond-true (isIn gone d) s (offsetOn (segmentOf p v gone g) d s) e
@@ -163,8 +164,8 @@ module _ (p : Params) (r : Ranged p) (v : View) (gone : ℕ) (cs : List ℕ) (d 
   stamp-here e q f =
       ap (λ (x : Rec). x .stamp) (f ∙ sym (cond-false (isIn gone d) (parityRec s (map (storedRec (segmentOf p v gone g) s) (present p gone))) (storedRec (segmentOf p v gone g) s d) e))
 
-  pub away-counted : isIn gone d ≡ true → Counted p v gone cs g o
-  away-counted e = subst (λ (x : ℕ). Counted p v gone cs g x) (sym (lies-away e)) (k .counted)
+  pub away-counted : isIn gone d ≡ true → StripeCounts p v gone cs g o
+  away-counted e = subst (λ (x : ℕ). StripeCounts p v gone cs g x) (sym (lies-away e)) (k .counted)
 
 -- ---- a candidate by its place
 
@@ -181,24 +182,24 @@ module _ (p : Params) (r : Ranged p) (v : View) (gone : ℕ) (h : Cand) (k : Can
   pub block-low : 1 ≤ placeBlock p (h .place)
   block-low = omega (arith, spot-block p r v gone h (spot-of p r v gone h k))
 
-  its-drive : h .drive ≡ dataDrive p (k .stripe) (k .position)
+  cand-on-drive : h .drive ≡ dataDrive p (k .stripe) (k .position)
   unfolding candOf
-  its-drive = ap (λ (x : Cand). x .drive) (k .it-is)
+  cand-on-drive = ap (λ (x : Cand). x .drive) (k .it-is)
 
-  its-lie : (cs : List ℕ) → Shows p v gone (k .of) cs → Lies p v gone cs (h .drive) (k .of) (h .offset) (k .stripe)
+  its-lie : (cs : List ℕ) → SegmentShown p v gone (k .of) cs → LiesIn p v gone cs (h .drive) (k .of) (h .offset) (k .stripe)
   unfolding candOf
   its-lie cs sh = record {
     drive-low = spot-of p r v gone h k .drive-low;
     counted = record { remains = k .remains; stripe-low = k .stripe-low; it-counts = k .it-counts; shown = sh };
-    offset-is = ap (λ (x : Cand). x .offset) (k .it-is) ∙ ap (offsetOf gone (segmentOf p v gone (k .of)) (k .stripe)) (sym its-drive);
+    offset-is = ap (λ (x : Cand). x .offset) (k .it-is) ∙ ap (offsetOf gone (segmentOf p v gone (k .of)) (k .stripe)) (sym cand-on-drive);
   }
 
   -- the place says drive, segment and offset
-  pub place-lies : (cs : List ℕ) → Shows p v gone (k .of) cs → (q : ℕ) → h .place ≡ q → Lies p v gone cs (placeDrive p q) (placeZone p q) (placeBlock p q - 1) (k .stripe)
-  place-lies cs sh q e = subst (λ (x : ℕ). Lies p v gone cs (placeDrive p x) (placeZone p x) (placeBlock p x - 1) (k .stripe)) e
-      (subst (λ (x : ℕ). Lies p v gone cs x (placeZone p (h .place)) (placeBlock p (h .place) - 1) (k .stripe)) (sym is-drive)
-      (subst (λ (x : ℕ). Lies p v gone cs (h .drive) x (placeBlock p (h .place) - 1) (k .stripe)) (sym is-zone)
-      (subst (λ (x : ℕ). Lies p v gone cs (h .drive) (k .of) x (k .stripe)) (sym is-offset) (its-lie cs sh))))
+  pub place-lies : (cs : List ℕ) → SegmentShown p v gone (k .of) cs → (q : ℕ) → h .place ≡ q → LiesIn p v gone cs (placeDrive p q) (placeZone p q) (placeBlock p q - 1) (k .stripe)
+  place-lies cs sh q e = subst (λ (x : ℕ). LiesIn p v gone cs (placeDrive p x) (placeZone p x) (placeBlock p x - 1) (k .stripe)) e
+      (subst (λ (x : ℕ). LiesIn p v gone cs x (placeZone p (h .place)) (placeBlock p (h .place) - 1) (k .stripe)) (sym is-drive)
+      (subst (λ (x : ℕ). LiesIn p v gone cs (h .drive) x (placeBlock p (h .place) - 1) (k .stripe)) (sym is-zone)
+      (subst (λ (x : ℕ). LiesIn p v gone cs (h .drive) (k .of) x (k .stripe)) (sym is-offset) (its-lie cs sh))))
 
   -- the record found there is the candidate
   pub it-is-found : (q a t n d o : ℕ) → h .place ≡ q → h .address ≡ a → d ≡ placeDrive p q → o ≡ placeBlock p q - 1
@@ -208,7 +209,7 @@ module _ (p : Params) (r : Ranged p) (v : View) (gone : ℕ) (h : Cand) (k : Can
   it-is-found q a t n d o eq ea ed eo et en =
       let ez : placeZone p q ≡ k .of = ap (placeZone p) (sym eq) ∙ is-zone in
       let es : t ≡ h .stamp =
-      et ∙ ap₂ (λ (x y : ℕ). recOf p gone (segmentOf p v gone x) (k .stripe) y .stamp) ez (ap (placeDrive p) (sym eq) ∙ is-drive ∙ its-drive) ∙ sym (ap (λ (x : Cand). x .stamp) (k .it-is)) in
+      et ∙ ap₂ (λ (x y : ℕ). recOf p gone (segmentOf p v gone x) (k .stripe) y .stamp) ez (ap (placeDrive p) (sym eq) ∙ is-drive ∙ cand-on-drive) ∙ sym (ap (λ (x : Cand). x .stamp) (k .it-is)) in
       let er : n ≡ h .serial = en ∙ ap (λ (x : ℕ). headerSerial (headerAt v (lowDrive p gone) x)) ez ∙ sym (serial-is p v gone (k .of)) ∙ sym (ap (λ (x : Cand). x .serial) (k .it-is)) in
       let ed′ : d ≡ h .drive = ed ∙ ap (placeDrive p) (sym eq) ∙ is-drive in
       let eo′ : o ≡ h .offset = eo ∙ ap (λ (x : ℕ). placeBlock p x - 1) (sym eq) ∙ is-offset in
@@ -226,6 +227,6 @@ add-away b t x e = sym (cond-true b t (bitXor t x) e)
 pub add-here : (b : Bool) (t x y : ℕ) → b ≡ false → y ≡ x → bitXor t y ≡ cond b t (bitXor t x)
 add-here b t x y e q = ap (bitXor t) q ∙ sym (cond-false b t (bitXor t x) e)
 
-pub lies-same : (p : Params) (v : View) (gone : ℕ) (cs : List ℕ) (d g o s e h i : ℕ) → e ≡ d → h ≡ g → i ≡ o → Lies p v gone cs d g o s → Lies p v gone cs e h i s
+pub lies-same : (p : Params) (v : View) (gone : ℕ) (cs : List ℕ) (d g o s e h i : ℕ) → e ≡ d → h ≡ g → i ≡ o → LiesIn p v gone cs d g o s → LiesIn p v gone cs e h i s
 lies-same p v gone cs d g o s e h i ed eg eo k =
-    subst (λ (x : ℕ). Lies p v gone cs x h i s) (sym ed) (subst (λ (x : ℕ). Lies p v gone cs d x i s) (sym eg) (subst (λ (x : ℕ). Lies p v gone cs d g x s) (sym eo) k))
+    subst (λ (x : ℕ). LiesIn p v gone cs x h i s) (sym ed) (subst (λ (x : ℕ). LiesIn p v gone cs d x i s) (sym eg) (subst (λ (x : ℕ). LiesIn p v gone cs d g x s) (sym eo) k))

@@ -43,9 +43,9 @@ best-else a cs c n =
     ∙ append-nil (keep (λ (x : Cand). eqb (x .address) a) cs))
 
 -- what an address has in the table
-pub entry-is : (p : Params) (cs : List Cand) (a : ℕ) → a < p .L → part (4 * a) 4 (addressTable p cs) ≡ toBe 4 (placeOr (best none (candsOf a cs)))
+pub table-entry : (p : Params) (cs : List Cand) (a : ℕ) → a < p .L → part (4 * a) 4 (addressTable p cs) ≡ toBe 4 (placeOr (best none (candsOf a cs)))
 unfolding addressTable
-entry-is p cs a h =
+table-entry p cs a h =
     ap (λ (n : ℕ). part n 4 (flat (λ a. toBe 4 (placeOr (best none (candsOf a cs)))) (below (p .L)))) (mul-comm 4 a)
     ∙ part-flat (λ a. toBe 4 (placeOr (best none (candsOf a cs)))) 4 (p .L) (λ i x. length-toBe 4 (placeOr (best none (candsOf i cs)))) a h
 
@@ -85,7 +85,7 @@ module _ (p : Params) (cs : List Cand) (c : Cand) where
           ∙ part-splice (addressTable p cs) (4 * c .address) (toBe 4 (c .place)) fits
           ∙ ap (λ (o : Opt Cand). toBe 4 (placeOr o)) (sym b)
       go a k (no n) =
-          other (decLt a (c .address)) ∙ entry-is p cs a k ∙ ap (λ (o : Opt Cand). toBe 4 (placeOr o)) (sym (best-else a cs c n))
+          other (decLt a (c .address)) ∙ table-entry p cs a k ∙ ap (λ (o : Opt Cand). toBe 4 (placeOr o)) (sym (best-else a cs c n))
         where
           other : Dec (a < c .address) → part (4 * a) 4 (splice (addressTable p cs) (4 * c .address) (toBe 4 (c .place))) ≡ part (4 * a) 4 (addressTable p cs)
           other (yes x) = part-splice-below (addressTable p cs) (4 * c .address) (toBe 4 (c .place)) fits (4 * a) 4 (omega arith)

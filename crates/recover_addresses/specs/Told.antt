@@ -20,7 +20,7 @@ use Rattle.spec.specs.Rank.{Cand, beats, better, best, placeOr, candsOf}
 use Rattle.spec.specs.Segments.{addressTable}
 use Rattle.law_basic.specs.Geometry.{Ranged}
 use Rattle.law_basic.specs.Splice.{length-part, getD-part}
-use Rattle.recover_compact.specs.Compacts.{Shows}
+use Rattle.recover_compact.specs.Compacts.{SegmentShown}
 use Rattle.law_drives.specs.Best.{best-in}
 use Rattle.law_drives.specs.Members.{In, in-append}
 use Rattle.law_drives.specs.Segs.{CandAt}
@@ -31,7 +31,7 @@ use Rattle.recover_addresses.specs.Offers.{offer-high, offer-kept, offer
 
 -- a candidate of a segment whose rows of the compact table are as the drives say
 abbrev pub Near : Params → View → ℕ → List ℕ → Cand → Type 0
-Near p v gone co c = (k : CandAt p v gone c) × Shows p v gone (k .of) co
+Near p v gone co c = (k : CandAt p v gone c) × SegmentShown p v gone (k .of) co
 
 -- candidates of the drives, and the table of them
 pub record Told (p : Params) (v : View) (gone : ℕ) (co tb : List ℕ) (cs : List Cand) : Type 0 where
@@ -84,12 +84,12 @@ pub data Holding (p : Params) (v : View) (gone : ℕ) (co tb : List ℕ) (cs : L
   holds-one : (h : Cand) → best none (candsOf a cs) ≡ some h → Near p v gone co h → h .address ≡ a → placeAt tb a ≡ h .place → h .place < neverPlace → Holding p v gone co tb cs a
 
 -- a candidate at a place
-abbrev pub Placed : Params → View → ℕ → List ℕ → ℕ → ℕ → Type 0
-Placed p v gone co a q = (h : Cand) × Near p v gone co h × (h .place ≡ q) × (h .address ≡ a)
+abbrev pub HasCand : Params → View → ℕ → List ℕ → ℕ → ℕ → Type 0
+HasCand p v gone co a q = (h : Cand) × Near p v gone co h × (h .place ≡ q) × (h .address ≡ a)
 
 -- the candidate at the place is x
-abbrev pub Found : Params → View → ℕ → List ℕ → ℕ → ℕ → Cand → Type 0
-Found p v gone co a q x = (h : Cand) → Near p v gone co h → h .place ≡ q → h .address ≡ a → x ≡ h
+abbrev pub IsCandAt : Params → View → ℕ → List ℕ → ℕ → ℕ → Cand → Type 0
+IsCandAt p v gone co a q x = (h : Cand) → Near p v gone co h → h .place ≡ q → h .address ≡ a → x ≡ h
 
 module _ (p : Params) (r : Ranged p) (v : View) (gone : ℕ) (co tb : List ℕ) (cs : List Cand) (t : Told p v gone co tb cs) where
   pub holding : (a : ℕ) → a < p .L → Holding p v gone co tb cs a
@@ -106,10 +106,10 @@ module _ (p : Params) (r : Ranged p) (v : View) (gone : ℕ) (co tb : List ℕ) 
           let q : placeOr (best none (candsOf a cs)) ≡ c .place = ap placeOr e ∙ (unfold placeOr in refl) in
           holds-one c e k (i .1) (ap (λ (x : List ℕ). placeAt x a) (t .table) ∙ place-at p cs a h (subst (λ (x : ℕ). x < 256 ^ 4) (sym q) (let z : c .place < 256 ^ 4 = omega arith in z)) ∙ q) l
 
-  pub placed : (a : ℕ) → a < p .L → (placeAt tb a ≡ neverPlace → ⊥) → Placed p v gone co a (placeAt tb a)
-  placed a h n = go (holding a h)
+  pub told-placed : (a : ℕ) → a < p .L → (placeAt tb a ≡ neverPlace → ⊥) → HasCand p v gone co a (placeAt tb a)
+  told-placed a h n = go (holding a h)
     where
-      go : Holding p v gone co tb cs a → Placed p v gone co a (placeAt tb a)
+      go : Holding p v gone co tb cs a → HasCand p v gone co a (placeAt tb a)
       go (holds-none e q) = absurd (n q)
       go (holds-one x e k i q l) = (x, k, sym q, i)
 
@@ -138,7 +138,7 @@ module _ (p : Params) (r : Ranged p) (v : View) (gone : ℕ) (co tb : List ℕ) 
         }
         go (holds-one x e i y q l) = absurd (let z : ⊥ = omega (arith, n, q, l) in z)
 
-    module _ (h : c .address < p .L) (n : placeAt tb (c .address) ≡ neverPlace → ⊥) (x : Cand) (f : Found p v gone co (c .address) (placeAt tb (c .address)) x) where
+    module _ (h : c .address < p .L) (n : placeAt tb (c .address) ≡ neverPlace → ⊥) (x : Cand) (f : IsCandAt p v gone co (c .address) (placeAt tb (c .address)) x) where
       holds-it : best none (candsOf (c .address) cs) ≡ some x
       holds-it = go (holding (c .address) h)
         where

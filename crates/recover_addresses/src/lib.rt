@@ -11,8 +11,8 @@ ghost use Rattle.spec.specs.Params.{present};
 ghost use Rattle.spec.specs.Segments.{segmentOf, storedRec, recOf};
 ghost use Rattle.disk_rank.specs.Ranked.{ranked};
 ghost use Rattle.recover_segments.specs.Remains.{Serials};
-ghost use Rattle.recover_addresses.specs.Lies.{Ground, Counted, Lies, Somewhere};
-ghost use Rattle.recover_addresses.specs.Told.{Near, Known, Tells, Placed, Found};
+ghost use Rattle.recover_addresses.specs.Lies.{Ground, StripeCounts, LiesIn, Somewhere};
+ghost use Rattle.recover_addresses.specs.Told.{Near, Known, Tells, HasCand, IsCandAt};
 use disk_rank::Cand;
 use spec::Address;
 use spec::Params;
@@ -34,7 +34,7 @@ fn add_stamp(
     t: Stamp,
 ) -> Stamp
     requires { ⌜ Ground p (now image) (now pointers) gone (now compact) ⌝ }
-    requires { ⌜ (drive < p .N) × Counted p (viewOf p (now image) (now pointers)) gone (now compact) segment s × (full ≡ sealedIn p (viewOf p (now image) (now pointers)) gone segment) ⌝ }
+    requires { ⌜ (drive < p .N) × StripeCounts p (viewOf p (now image) (now pointers)) gone (now compact) segment s × (full ≡ sealedIn p (viewOf p (now image) (now pointers)) gone segment) ⌝ }
     ensures { λ r. ⌜ r .0 ≡ cond (isIn gone drive) (t .0) (bitXor (t .0) (storedRec (segmentOf p (viewOf p (now (image .entry)) (now (pointers .entry))) gone segment) s drive .stamp)) ⌝ }
 {
     if bits_masks::has_drive(gone, drive) {
@@ -58,7 +58,7 @@ fn lost_stamp(
     s: usize,
 ) -> Stamp
     requires { ⌜ Ground p (now image) (now pointers) gone (now compact) ⌝ }
-    requires { ⌜ Counted p (viewOf p (now image) (now pointers)) gone (now compact) segment s × (full ≡ sealedIn p (viewOf p (now image) (now pointers)) gone segment) ⌝ }
+    requires { ⌜ StripeCounts p (viewOf p (now image) (now pointers)) gone (now compact) segment s × (full ≡ sealedIn p (viewOf p (now image) (now pointers)) gone segment) ⌝ }
     ensures { λ r. ⌜ r .0 ≡ xorAll (map (λ d. storedRec (segmentOf p (viewOf p (now (image .entry)) (now (pointers .entry))) gone segment) s d .stamp) (present p gone)) ⌝ }
 {
     let mut t = Stamp(0);
@@ -85,7 +85,7 @@ fn stamp_at(
     requires { ⌜ Somewhere p (viewOf p (now image) (now pointers)) gone (now compact) drive segment offset ⌝ }
     ensures { λ r. ⌜
         ((s : ℕ)
-        → Lies p (viewOf p (now (image .entry)) (now (pointers .entry))) gone (now (compact .entry)) drive segment offset s
+        → LiesIn p (viewOf p (now (image .entry)) (now (pointers .entry))) gone (now (compact .entry)) drive segment offset s
         → r .0 ≡ recOf p gone (segmentOf p (viewOf p (now (image .entry)) (now (pointers .entry))) gone segment) s drive .stamp) ⌝ }
 {
     let full = disk_zones::is_sealed(p, pointers, gone, segment);
@@ -110,8 +110,8 @@ fn cand_at(
 ) -> Cand
     requires { ⌜ Ground p (now image) (now pointers) gone (now compact) ⌝ }
     requires { ⌜ Serials p (viewOf p (now image) (now pointers)) gone (now serials) ⌝ }
-    requires { ⌜ Placed p (viewOf p (now image) (now pointers)) gone (now compact) (address .0) (place .0) ⌝ }
-    ensures { λ r. ⌜ Found p (viewOf p (now (image .entry)) (now (pointers .entry))) gone (now (compact .entry)) (address .0) (place .0) (ranked r) ⌝ }
+    requires { ⌜ HasCand p (viewOf p (now image) (now pointers)) gone (now compact) (address .0) (place .0) ⌝ }
+    ensures { λ r. ⌜ IsCandAt p (viewOf p (now (image .entry)) (now (pointers .entry))) gone (now (compact .entry)) (address .0) (place .0) (ranked r) ⌝ }
 {
     let drive = disk_shape::place_drive(p, place);
     let segment = disk_shape::place_zone(p, place);

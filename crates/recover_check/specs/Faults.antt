@@ -12,7 +12,7 @@ use Rattle.law_basic.specs.Geometry.{prod-le, ranged}
 use Rattle.law_basic.specs.Ranges.{Test, test, length-below, map-append, map-map, keep-below-same, length-keep, total-append, keep-below-snoc}
 use Rattle.law_basic.specs.Ranges.Test.{yes!, no! }
 use Rattle.recover_segments.specs.Kept.{segments-keep, segs-of, unsealed-list}
-use Rattle.recover_segments.specs.Remains.{remains, Keeps}
+use Rattle.recover_segments.specs.Remains.{remainsHere, Keeps}
 use Rattle.recover_survey.specs.declared.Tally.{Tally}
 use Rattle.recover_survey.specs.Tops.{topOf, Surveyed, last-le}
 use Rattle.spec.specs.declared.Params.{Params}
@@ -48,16 +48,16 @@ raggedBy p e = not (eqb (e .counted) (p .S)) && (not (eqb (e .top) (e .counted))
 
 -- 01, Refusals, 9: segment g remains and has a fault
 unfoldable pub faulty : Params → View → ℕ → ℕ → Bool
-faulty p v gone g = remains p v gone g && segmentFault p gone (segments p v gone) (segmentOf p v gone g)
+faulty p v gone g = remainsHere p v gone g && segmentFault p gone (segments p v gone) (segmentOf p v gone g)
 
 pub faults-list : (p : Params) (v : View) (gone : ℕ) → segmentFaults p gone (segments p v gone) ≡ keep (faulty p v gone) (below (p .Z))
 unfolding segmentFaults faulty
 faults-list p v gone =
     let gs = segments p v gone in
     ap (λ (l : List Segment). map (λ (g : Segment). g .seg) (keep (segmentFault p gone gs) l)) (segments-keep p v gone)
-    ∙ ap (map (λ (g : Segment). g .seg)) (keep-map (segmentFault p gone gs) (segmentOf p v gone) (keep (remains p v gone) (below (p .Z))))
-    ∙ segs-of p v gone (keep (λ g. segmentFault p gone gs (segmentOf p v gone g)) (keep (remains p v gone) (below (p .Z))))
-    ∙ keep-keep (λ g. segmentFault p gone gs (segmentOf p v gone g)) (remains p v gone) (below (p .Z))
+    ∙ ap (map (λ (g : Segment). g .seg)) (keep-map (segmentFault p gone gs) (segmentOf p v gone) (keep (remainsHere p v gone) (below (p .Z))))
+    ∙ segs-of p v gone (keep (λ g. segmentFault p gone gs (segmentOf p v gone g)) (keep (remainsHere p v gone) (below (p .Z))))
+    ∙ keep-keep (λ g. segmentFault p gone gs (segmentOf p v gone g)) (remainsHere p v gone) (below (p .Z))
 
 -- ---- one segment: header, serials, then footers and clashes; then the records
 
@@ -65,9 +65,9 @@ or-true : (b : Bool) → true ≡ (b || true)
 or-true true = refl
 or-true false = refl
 
-or-false : (b : Bool) → b ≡ (b || false)
-or-false true = refl
-or-false false = refl
+or-no-more : (b : Bool) → b ≡ (b || false)
+or-no-more true = refl
+or-no-more false = refl
 
 -- what is looked at before the records
 unfoldable pub frontFault : Params → ℕ → List Segment → Segment → Bool
@@ -80,7 +80,7 @@ fault-order p gone gs g = go (headerFault p gone g || serialFault gs g) (stripeF
   where
     end : (y e f : Bool) → ((y || e) || f) ≡ ((e || f) || y)
     end true e f = or-true (e || f)
-    end false e f = or-false (e || f)
+    end false e f = or-no-more (e || f)
 
     go : (x c d e f : Bool) → ((((x || c) || d) || e) || f) ≡ ((x || (e || f)) || (c || d))
     go true c d e f = refl
@@ -104,7 +104,7 @@ module _ (p : Params) (gone : ℕ) (gs : List Segment) (g : Segment) (e : (heade
       → any (λ d. footerFaultIn p (getD (g .zonesBy) d noZone)) (present p gone) ≡ frontFault p gone gs g
   unfolding frontFault clashes footerFault
   front-footer q m =
-      or-false (any (λ d. footerFaultIn p (getD (g .zonesBy) d noZone)) (present p gone))
+      or-no-more (any (λ d. footerFaultIn p (getD (g .zonesBy) d noZone)) (present p gone))
       ∙ sym (λ i. e i || ((not (q i) && any (λ d. footerFaultIn p (getD (g .zonesBy) d noZone)) (present p gone)) || (not (q i) && m i)))
 
 -- ---- sums over the first segments
@@ -149,7 +149,7 @@ sum-le f w b n h = sum-from f w b 0 n h
 unfoldable pub openBy : Params → View → ℕ → List Bool → ℕ → Bool
 openBy p v gone flags g = getD flags g false && not (sealedIn p v gone g)
 
-pub record Seen (p : Params) (v : View) (gone : ℕ) (flags : List Bool) (n : ℕ) (e : Exam) : Type 0 where
+pub record ExamSays (p : Params) (v : View) (gone : ℕ) (flags : List Bool) (n : ℕ) (e : Exam) : Type 0 where
   pub zone-is : e .zone ≡ p .Z
   pub loose-is : e .loose ≡ sumOf (λ g. getD flags g false) (λ g. length (uncounted p gone (segmentOf p v gone g))) n
   pub counted-is : e .counted ≡ sumOf (openBy p v gone flags) (λ g. length (counted p gone (segmentOf p v gone g))) n
@@ -169,7 +169,7 @@ module _ (p : Params) (gone : ℕ) (g : Segment) where
   top-most = subst (λ (x : ℕ). topOf p gone g ≤ x) (zero-add (p .S)) (last-le (counts p gone g) 0 (p .S))
 
 module _ (p : Params) (v : View) (gone : ℕ) (flags : List Bool) where
-  pub seen-none : Seen p v gone flags 0 (record { zone = p .Z; loose = 0; counted = 0; top = 0; part = 0 })
+  pub seen-none : ExamSays p v gone flags 0 (record { zone = p .Z; loose = 0; counted = 0; top = 0; part = 0 })
   seen-none = record {
     zone-is = refl;
     loose-is = sym (sum-none (λ g. getD flags g false) (λ g. length (uncounted p gone (segmentOf p v gone g))));
@@ -178,7 +178,7 @@ module _ (p : Params) (v : View) (gone : ℕ) (flags : List Bool) where
     part-is = sym (sum-none (openBy p v gone flags) (λ g. length (uncounted p gone (segmentOf p v gone g))));
   }
 
-  module _ (n : ℕ) (e : Exam) (s : Seen p v gone flags n e) where
+  module _ (n : ℕ) (e : Exam) (s : ExamSays p v gone flags n e) where
     -- the sums fit
     pub seen-fits : (e .loose ≤ n * p .S) × (e .counted ≤ n * p .S) × (e .top ≤ n * p .S) × (e .part ≤ n * p .S)
     seen-fits = (
@@ -189,7 +189,7 @@ module _ (p : Params) (v : View) (gone : ℕ) (flags : List Bool) where
     )
 
     -- a segment that doesn't remain
-    pub seen-gone : getD flags n false ≡ false → Seen p v gone flags (n + 1) e
+    pub seen-gone : getD flags n false ≡ false → ExamSays p v gone flags (n + 1) e
     unfolding openBy
     seen-gone h =
         let k : (getD flags n false && not (sealedIn p v gone n)) ≡ false = ap (λ (b : Bool). b && not (sealedIn p v gone n)) h in
@@ -206,7 +206,7 @@ module _ (p : Params) (v : View) (gone : ℕ) (flags : List Bool) where
       more-loose = ap₂ (λ (x y : ℕ). x + y) (s .loose-is) (u .loose-is good) ∙ sum-hit (λ g. getD flags g false) (λ g. length (uncounted p gone (segmentOf p v gone g))) n h
 
       -- one that is sealed
-      pub seen-full : sealedIn p v gone n ≡ true → Seen p v gone flags (n + 1) (record { zone = e .zone; loose = e .loose + t .loose; counted = e .counted; top = e .top; part = e .part })
+      pub seen-full : sealedIn p v gone n ≡ true → ExamSays p v gone flags (n + 1) (record { zone = e .zone; loose = e .loose + t .loose; counted = e .counted; top = e .top; part = e .part })
       unfolding openBy
       seen-full q =
           let k : (getD flags n false && not (sealedIn p v gone n)) ≡ false = λ i. h i && not (q i) in
@@ -220,7 +220,7 @@ module _ (p : Params) (v : View) (gone : ℕ) (flags : List Bool) where
 
       -- one that is unsealed
       pub seen-open : sealedIn p v gone n ≡ false
-          → Seen p v gone flags (n + 1) (record { zone = e .zone; loose = e .loose + t .loose; counted = e .counted + t .counted; top = e .top + t .top; part = e .part + t .loose })
+          → ExamSays p v gone flags (n + 1) (record { zone = e .zone; loose = e .loose + t .loose; counted = e .counted + t .counted; top = e .top + t .top; part = e .part + t .loose })
       unfolding openBy
       seen-open q =
           let k : (getD flags n false && not (sealedIn p v gone n)) ≡ true = λ i. h i && not (q i) in
@@ -233,7 +233,7 @@ module _ (p : Params) (v : View) (gone : ℕ) (flags : List Bool) where
           }
 
   -- all of them
-  pub seen-all : (e : Exam) → Keeps p v gone flags → Seen p v gone flags (p .Z) e → e .zone ≡ firstOr (p .Z) (segmentFaults p gone (segments p v gone)) → Examined p gone (segments p v gone) e
+  pub seen-all : (e : Exam) → Keeps p v gone flags → ExamSays p v gone flags (p .Z) e → e .zone ≡ firstOr (p .Z) (segmentFaults p gone (segments p v gone)) → Examined p gone (segments p v gone) e
   unfolding summed uncountedIn sumOf openBy
   seen-all e k s z =
       let opens : (w : Segment → ℕ)
@@ -244,9 +244,9 @@ module _ (p : Params) (v : View) (gone : ℕ) (flags : List Bool) where
       record {
         zone-is = z;
         loose-is = λ _. s .loose-is
-            ∙ ap (λ (l : List ℕ). total (map (λ g. length (uncounted p gone (segmentOf p v gone g))) l)) (keep-below-same (λ g. getD flags g false) (remains p v gone) (p .Z) (k .1))
+            ∙ ap (λ (l : List ℕ). total (map (λ g. length (uncounted p gone (segmentOf p v gone g))) l)) (keep-below-same (λ g. getD flags g false) (remainsHere p v gone) (p .Z) (k .1))
             ∙ sym (ap (λ (l : List Segment). total (map (λ (g : Segment). length (uncounted p gone g)) l)) (segments-keep p v gone)
-            ∙ ap total (map-map (λ (g : Segment). length (uncounted p gone g)) (segmentOf p v gone) (keep (remains p v gone) (below (p .Z)))));
+            ∙ ap total (map-map (λ (g : Segment). length (uncounted p gone g)) (segmentOf p v gone) (keep (remainsHere p v gone) (below (p .Z)))));
         counted-is = λ _. s .counted-is ∙ opens (λ (g : Segment). length (counted p gone g));
         top-is = λ _. s .top-is ∙ opens (topOf p gone);
         part-is = λ _. s .part-is ∙ opens (λ (g : Segment). length (uncounted p gone g));
@@ -278,27 +278,27 @@ added-open b e t q = ap (λ (x : Bool). added x e t) q
 
 -- ---- one segment
 
-module _ (p : Params) (v : View) (gone : ℕ) (flags : List Bool) (n : ℕ) (e : Exam) (s : Seen p v gone flags n e) where
+module _ (p : Params) (v : View) (gone : ℕ) (flags : List Bool) (n : ℕ) (e : Exam) (s : ExamSays p v gone flags n e) where
   pub seen-added : (b : Bool) (t : Tally) → Surveyed p gone (segmentOf p v gone n) t → t .bad ≡ false → getD flags n false ≡ true → b ≡ sealedIn p v gone n
-      → Seen p v gone flags (n + 1) (added b e t)
+      → ExamSays p v gone flags (n + 1) (added b e t)
   unfolding added
   seen-added true t u good h q = seen-full p v gone flags n e s t u good h (sym q)
   seen-added false t u good h q = seen-open p v gone flags n e s t u good h (sym q)
 
 -- faulty, of a segment that remains: in front, or by its records
-pub faulty-kept : (p : Params) (v : View) (gone g : ℕ) → remains p v gone g ≡ true
+pub faulty-kept : (p : Params) (v : View) (gone g : ℕ) → remainsHere p v gone g ≡ true
     → faulty p v gone g ≡ (frontFault p gone (segments p v gone) (segmentOf p v gone g) || (stripeFault p gone (segmentOf p v gone g) || addressFault p gone (segmentOf p v gone g)))
 unfolding faulty
 faulty-kept p v gone g e = ap (λ (b : Bool). b && segmentFault p gone (segments p v gone) (segmentOf p v gone g)) e ∙ fault-order p gone (segments p v gone) (segmentOf p v gone g)
 
-pub faulty-gone : (p : Params) (v : View) (gone g : ℕ) → remains p v gone g ≡ false → faulty p v gone g ≡ false
+pub faulty-gone : (p : Params) (v : View) (gone g : ℕ) → remainsHere p v gone g ≡ false → faulty p v gone g ≡ false
 unfolding faulty
 faulty-gone p v gone g e = ap (λ (b : Bool). b && segmentFault p gone (segments p v gone) (segmentOf p v gone g)) e
 
 -- ---- the loop's two ways on
 
 module _ (p : Params) (v : View) (gone : ℕ) (flags : List Bool) (n : ℕ) (r : Exam) (bad : faulty p v gone n ≡ true → r .zone ≡ n)
-    (good : faulty p v gone n ≡ false → Seen p v gone flags (n + 1) r) where
+    (good : faulty p v gone n ≡ false → ExamSays p v gone flags (n + 1) r) where
   pub stops : r .zone < p .Z → (faulty p v gone n ≡ true) × (r .zone ≡ n)
   stops h = go (test (faulty p v gone n))
     where
@@ -306,16 +306,16 @@ module _ (p : Params) (v : View) (gone : ℕ) (flags : List Bool) (n : ℕ) (r :
       go (yes! e) = (e, bad e)
       go (no! e) = absurd (let z : r .zone ≡ p .Z = good e .zone-is in let q : ⊥ = omega (arith, z, h) in q)
 
-  pub goes : n < p .Z → p .Z ≤ r .zone → (faulty p v gone n ≡ false) × Seen p v gone flags (n + 1) r
+  pub goes : n < p .Z → p .Z ≤ r .zone → (faulty p v gone n ≡ false) × ExamSays p v gone flags (n + 1) r
   goes k h = go (test (faulty p v gone n))
     where
-      go : Test (faulty p v gone n) → (faulty p v gone n ≡ false) × Seen p v gone flags (n + 1) r
+      go : Test (faulty p v gone n) → (faulty p v gone n ≡ false) × ExamSays p v gone flags (n + 1) r
       go (yes! e) = absurd (let z : r .zone ≡ n = bad e in let q : ⊥ = omega (arith, z, h, k) in q)
       go (no! e) = (e, good e)
 
 -- sums and tallies fit 32 bits
-pub sum-fits : (p : Params) (n x : ℕ) → inRange p ≡ true → n < p .Z → x ≤ n * p .S → x < 4294967296
-sum-fits p n x r h k =
+pub loose-sum-fits : (p : Params) (n x : ℕ) → inRange p ≡ true → n < p .Z → x ≤ n * p .S → x < 4294967296
+loose-sum-fits p n x r h k =
     let g = ranged p r in
     let m : n * p .S ≤ 67107840 = prod-le n (p .S) 1024 65535 67107840 (omega (arith, h, g .zones-high)) (g .stripes-high) (lit≤ tt) in
     omega (arith, m, k)

@@ -65,9 +65,9 @@ none-less {A} f g (a ∷ l) h e = go (f a) (g a) (h a) (none-less f g l h) e
     go false true q r k = absurd (not-both true refl k)
     go false false q r k = r k
 
-clash : (p : Params) (gone : ℕ) (gs : List Segment) → leb 2 (length (unsealed gs)) ≡ true → (g : Segment) → not (g .full) ≡ true → segmentFault p gone gs g ≡ true
+unsealed-clash : (p : Params) (gone : ℕ) (gs : List Segment) → leb 2 (length (unsealed gs)) ≡ true → (g : Segment) → not (g .full) ≡ true → segmentFault p gone gs g ≡ true
 unfolding segmentFault clashes
-clash p gone gs m g q =
+unsealed-clash p gone gs m g q =
     (λ i. (headerFault p gone g || serialFault gs g || stripeFault p gone g || addressFault p gone g || footerFault p gone g) || (q i && m i))
     ∙ or-last (headerFault p gone g || serialFault gs g || stripeFault p gone g || addressFault p gone g || footerFault p gone g)
   where
@@ -76,15 +76,16 @@ clash p gone gs m g q =
     or-last false = refl
 
 -- 01, Refusals, 9: no clash, so one is unsealed at most
-pub one-unsealed : (p : Params) (gone : ℕ) (gs : List Segment) → segmentFaults p gone gs ≡ [] → length (unsealed gs) ≤ 1
+pub unsealed-at-most-one : (p : Params) (gone : ℕ) (gs : List Segment) → segmentFaults p gone gs ≡ [] → length (unsealed gs) ≤ 1
 unfolding segmentFaults unsealed
-one-unsealed p gone gs e = go (decLe 2 (length (unsealed gs)))
+unsealed-at-most-one p gone gs e = go (decLe 2 (length (unsealed gs)))
   where
     go : Dec (2 ≤ length (unsealed gs)) → length (unsealed gs) ≤ 1
     go (no h) = omega arith
     go (yes h) =
         let f : any (segmentFault p gone gs) gs ≡ false = none-pass (segmentFault p gone gs) gs (map-nil (λ (g : Segment). g .seg) (keep (segmentFault p gone gs) gs) e) in
-        let n : any (λ (g : Segment). not (g .full)) gs ≡ false = none-less (λ (g : Segment). not (g .full)) (segmentFault p gone gs) gs (clash p gone gs (le-leb 2 (length (unsealed gs)) h)) f in
+        let n : any (λ (g : Segment). not (g .full)) gs ≡ false = none-less (λ (g : Segment). not (g .full)) (segmentFault p gone gs) gs
+        (unsealed-clash p gone gs (le-leb 2 (length (unsealed gs)) h)) f in
         let z : _≡_ {A = ℕ} (length (unsealed gs)) 0 = ap length (pass-none (λ (g : Segment). not (g .full)) gs n) in
         absurd (let w : ⊥ = omega (arith, z, h) in w)
 
@@ -98,9 +99,9 @@ or-nothing : (b : Bool) → (b || false) ≡ b
 or-nothing true = refl
 or-nothing false = refl
 
-top-same : (p : Params) (g : Segment) → sameList (counted p 0 g) (below (length (counted p 0 g))) ≡ eqb (topOf p 0 g) (length (counted p 0 g))
+top-counted : (p : Params) (g : Segment) → sameList (counted p 0 g) (below (length (counted p 0 g))) ≡ eqb (topOf p 0 g) (length (counted p 0 g))
 unfolding counted topOf
-top-same p g = same-top (counts p 0 g) (p .S)
+top-counted p g = same-top (counts p 0 g) (p .S)
 
 module _ (p : Params) (gone : ℕ) (gs : List Segment) (e : Exam) (x : Examined p gone gs e) (z : e .zone ≡ p .Z) where
   -- the numbers of the one unsealed segment
@@ -113,23 +114,23 @@ module _ (p : Params) (gone : ℕ) (gs : List Segment) (e : Exam) (x : Examined 
     unfolding summed total
     top-one = x .top-is z ∙ ap (summed (topOf p gone)) one ∙ add-zero (topOf p gone g)
 
-    pub part-one : e .part ≡ length (uncounted p gone g)
+    pub exam-part-one : e .part ≡ length (uncounted p gone g)
     unfolding uncountedIn total
-    part-one = x .part-is z ∙ ap (uncountedIn p gone) one ∙ add-zero (length (uncounted p gone g))
+    exam-part-one = x .part-is z ∙ ap (uncountedIn p gone) one ∙ add-zero (length (uncounted p gone g))
 
   -- there is none
   module _ (nil : unsealed gs ≡ []) where
-    pub counted-none : e .counted ≡ 0
+    pub exam-counted-none : e .counted ≡ 0
     unfolding summed total
-    counted-none = x .counted-is z ∙ ap (summed (λ (h : Segment). length (counted p gone h))) nil
+    exam-counted-none = x .counted-is z ∙ ap (summed (λ (h : Segment). length (counted p gone h))) nil
 
     pub top-none : e .top ≡ 0
     unfolding summed total
     top-none = x .top-is z ∙ ap (summed (topOf p gone)) nil
 
-    pub part-none : e .part ≡ 0
+    pub exam-part-none : e .part ≡ 0
     unfolding uncountedIn total
-    part-none = x .part-is z ∙ ap (uncountedIn p gone) nil
+    exam-part-none = x .part-is z ∙ ap (uncountedIn p gone) nil
 
 module _ (p : Params) (gs : List Segment) (e : Exam) (x : Examined p 0 gs e) (z : e .zone ≡ p .Z) where
   module _ (g : Segment) (one : unsealed gs ≡ g ∷ []) where
@@ -144,17 +145,17 @@ module _ (p : Params) (gs : List Segment) (e : Exam) (x : Examined p 0 gs e) (z 
     ragged-is = λ i. not (whole-is i) && (not (tops i) || not (parts i))
       where
         tops : sameList (counted p 0 g) (below (length (counted p 0 g))) ≡ eqb (e .top) (e .counted)
-        tops = top-same p g ∙ ap₂ eqb (sym (top-one p 0 gs e x z g one)) (sym (counted-one p 0 gs e x z g one))
+        tops = top-counted p g ∙ ap₂ eqb (sym (top-one p 0 gs e x z g one)) (sym (counted-one p 0 gs e x z g one))
 
         parts : isNil (uncounted p 0 g) ≡ eqb (e .part) 0
-        parts = isNil-length (uncounted p 0 g) ∙ ap (λ (n : ℕ). eqb n 0) (sym (part-one p 0 gs e x z g one))
+        parts = isNil-length (uncounted p 0 g) ∙ ap (λ (n : ℕ). eqb n 0) (sym (exam-part-one p 0 gs e x z g one))
 
   -- 01, Restart, 4: with none unsealed nothing is ragged
   pub ragged-none : unsealed gs ≡ [] → raggedBy p e ≡ false
   unfolding raggedBy
   ragged-none nil =
       (λ i. not (eqb (e .counted) (p .S))
-      && (not (eqb (top-none p 0 gs e x z nil i) (counted-none p 0 gs e x z nil i)) || not (eqb (part-none p 0 gs e x z nil i) 0)))
+      && (not (eqb (top-none p 0 gs e x z nil i) (exam-counted-none p 0 gs e x z nil i)) || not (eqb (exam-part-none p 0 gs e x z nil i) 0)))
       ∙ and-none (not (eqb (e .counted) (p .S)))
 
   -- 01, Restart, 4: any unsealed segment is ragged
@@ -183,7 +184,7 @@ pub rewrites-is : (p : Params) (v : View) (gone : ℕ) (e : Exam) → Examined p
 rewrites-is p v gone e x z = go (ℕ-discrete gone 0)
   where
     few : length (unsealed (segments p v gone)) ≤ 1
-    few = one-unsealed p gone (segments p v gone) (no-faults p v gone e x z)
+    few = unsealed-at-most-one p gone (segments p v gone) (no-faults p v gone e x z)
 
     go : Dec (gone ≡ 0) → rewrites p gone (segments p v gone) ≡ (eqb gone 0 && raggedBy p e)
     go (yes q) = rewrites-zero p gone (segments p v gone) e q (any-ragged p (segments p v gone) e (subst (λ (n : ℕ). Examined p n (segments p v gone) e) q x) z few)

@@ -9,7 +9,7 @@ ghost use Rattle.spec.specs.Params.{inRange};
 ghost use Rattle.spec.specs.Segments.{segmentOf, segments, unsealed};
 ghost use Rattle.recover_segments.specs.Remains.{Keeps, Serials};
 ghost use Rattle.law_views.specs.Views.{Whole};
-ghost use Rattle.recover_check.specs.Faults.{Examined, frontFault, faulty, Seen, added};
+ghost use Rattle.recover_check.specs.Faults.{Examined, frontFault, faulty, ExamSays, added};
 use recover_survey::Tally;
 use spec::Params;
 
@@ -112,12 +112,12 @@ fn exam_segment(
     requires { ⌜
         (g < p .Z)
         × (many ≡ leb 2 (length (unsealed (segments p (viewOf p (now image) (now pointers)) gone))))
-        × Seen p (viewOf p (now image) (now pointers)) gone (now kept) g e
+        × ExamSays p (viewOf p (now image) (now pointers)) gone (now kept) g e
         × (length (now at) ≡ 2048) ⌝ }
     ensures { λ r. ⌜ (faulty p (viewOf p (now (image .entry)) (now (pointers .entry))) gone g ≡ true → r .zone ≡ g) ⌝ }
     ensures { λ r. ⌜
         (faulty p (viewOf p (now (image .entry)) (now (pointers .entry))) gone g ≡ false
-        → Seen p (viewOf p (now (image .entry)) (now (pointers .entry))) gone (now (kept .entry)) (g + 1) r) ⌝ }
+        → ExamSays p (viewOf p (now (image .entry)) (now (pointers .entry))) gone (now (kept .entry)) (g + 1) r) ⌝ }
 {
     if !kept[g] {
         return e;

@@ -17,7 +17,7 @@ use Rattle.spec.specs.Lists.{below, padTo, isIn}
 use Rattle.spec.specs.Memory.{compactAt}
 use Rattle.spec.specs.Params.{compactLen}
 use Rattle.spec.specs.Segments.{recordsIn, segmentOf, recsOn, compactRow}
-use Rattle.law_basic.specs.Geometry.{item, row-fits}
+use Rattle.law_basic.specs.Geometry.{item-fits, row-fits}
 use Rattle.law_basic.specs.Ranges.{below-none, length-below, map-below-snoc, map-map}
 use Rattle.law_basic.specs.Splice.{splice-nil, wrote-one, splice-next, getD-splice-below, getD-splice-in, getD-splice-past}
 use Rattle.law_drives.specs.Segs.{recs-here, recs-gone}
@@ -25,8 +25,8 @@ use Rattle.law_drives.specs.Tables.{remains, rowAt, compact-row-long}
 use Rattle.law_drives.specs.Tests.{cond-true, cond-false}
 
 -- 01, What a zone holds: the entry of a data offset
-unfoldable pub entryOf : Params → Bool → Zone → ℕ → ℕ
-entryOf p w q o = compactEntry p (recordIn p w q o .stripe)
+unfoldable pub entrySaid : Params → Bool → Zone → ℕ → ℕ
+entrySaid p w q o = compactEntry p (recordIn p w q o .stripe)
 
 -- 01, What a zone holds: the row of a zone; w: its segment remains
 unfoldable pub rowBytes : Params → View → ℕ → Bool → ℕ → ℕ → List ℕ
@@ -36,9 +36,9 @@ rowBytes p v gone w d z = compactRow p (cond w (recsOn (segmentOf p v gone z) d)
 unfoldable pub rowSaid : Params → View → ℕ → ℕ → ℕ → List ℕ
 rowSaid p v gone d z = compactRow p (rowAt p v gone d z)
 
-pub row-of : (p : Params) (v : View) (gone d z : ℕ) (w : Bool) → w ≡ remains p v gone z → rowBytes p v gone w d z ≡ rowSaid p v gone d z
+pub row-said : (p : Params) (v : View) (gone d z : ℕ) (w : Bool) → w ≡ remains p v gone z → rowBytes p v gone w d z ≡ rowSaid p v gone d z
 unfolding rowBytes rowSaid rowAt
-row-of p v gone d z w e = ap (λ (b : Bool). compactRow p (cond b (recsOn (segmentOf p v gone z) d) [])) e
+row-said p v gone d z w e = ap (λ (b : Bool). compactRow p (cond b (recsOn (segmentOf p v gone z) d) [])) e
 
 -- ---- a row
 
@@ -56,8 +56,8 @@ row-missing p v gone d z w h e i = no-row p (cond w (recsOn (segmentOf p v gone 
 
 pub row-stored : (p : Params) (v : View) (gone d z : ℕ) (w : Bool) → d < p .N → w ≡ true → isIn gone d ≡ false
     → rowBytes p v gone w d z
-    ≡ map (entryOf p (sealedIn p v gone z) (zoneAt v d z)) (below (dataStored p (zoneAt v d z))) ++ replicate (p .S - dataStored p (zoneAt v d z)) 0
-unfolding rowBytes compactRow padTo entryOf recordsIn
+    ≡ map (entrySaid p (sealedIn p v gone z) (zoneAt v d z)) (below (dataStored p (zoneAt v d z))) ++ replicate (p .S - dataStored p (zoneAt v d z)) 0
+unfolding rowBytes compactRow padTo entrySaid recordsIn
 row-stored p v gone d z w h e i =
     let q = zoneAt v d z in
     let f : Rec → ℕ = λ (r : Rec). compactEntry p (r .stripe) in
@@ -73,27 +73,27 @@ length-row p v gone d z hd hz = compact-row-long p v gone d z hd hz
 -- ---- the rows of a segment
 
 -- they are as the drives say them
-abbrev pub Shows : Params → View → ℕ → ℕ → List ℕ → Type 0
-Shows p v gone g l = (d o : ℕ) → d < p .N → o < p .S → getD l (compactAt p d g o) 0 ≡ getD (compactRow p (rowAt p v gone d g)) o 0
+abbrev pub SegmentShown : Params → View → ℕ → ℕ → List ℕ → Type 0
+SegmentShown p v gone g l = (d o : ℕ) → d < p .N → o < p .S → getD l (compactAt p d g o) 0 ≡ getD (compactRow p (rowAt p v gone d g)) o 0
 
 -- nothing else changes
 abbrev pub Else : Params → ℕ → List ℕ → List ℕ → Type 0
 Else p g l l′ = (d z o : ℕ) → d < p .N → z < p .Z → o < p .S → (z ≡ g → ⊥) → getD l′ (compactAt p d z o) 0 ≡ getD l (compactAt p d z o) 0
 
 -- those of the drives below n are said, and nothing else changes
-pub record Rows (p : Params) (v : View) (gone g n : ℕ) (l l′ : List ℕ) : Type 0 where
+pub record RowsSaid (p : Params) (v : View) (gone g n : ℕ) (l l′ : List ℕ) : Type 0 where
   pub same-long : length l′ ≡ length l
   pub said : (d o : ℕ) → d < n → d < p .N → o < p .S → getD l′ (compactAt p d g o) 0 ≡ getD (compactRow p (rowAt p v gone d g)) o 0
   pub others : Else p g l l′
 
-pub rows-start : (p : Params) (v : View) (gone g : ℕ) (l : List ℕ) → Rows p v gone g 0 l l
+pub rows-start : (p : Params) (v : View) (gone g : ℕ) (l : List ℕ) → RowsSaid p v gone g 0 l l
 rows-start p v gone g l = record {
   same-long = refl;
   said = λ d o h. absurd (let bad : ⊥ = omega arith in bad);
   others = λ d z o hd hz ho n. refl;
 }
 
-pub rows-shown : (p : Params) (v : View) (gone g n : ℕ) (l l′ : List ℕ) → p .N ≤ n → Rows p v gone g n l l′ → Shows p v gone g l′ × Else p g l l′
+pub rows-shown : (p : Params) (v : View) (gone g n : ℕ) (l l′ : List ℕ) → p .N ≤ n → RowsSaid p v gone g n l l′ → SegmentShown p v gone g l′ × Else p g l l′
 rows-shown p v gone g n l l′ h r = ((λ d o hd ho. r .said d o (omega arith) hd ho), r .others)
 
 -- a place in another row lies below or behind a row
@@ -101,21 +101,21 @@ row-apart : (s x y o : ℕ) → o < s → (x ≡ y → ⊥) → (x * s + o < y *
 row-apart s x y o h n = go (decLt x y)
   where
     go : Dec (x < y) → (x * s + o < y * s) ⊎ (y * s + s ≤ x * s + o)
-    go (yes l) = inl (let a = item x y s l in omega arith)
-    go (no l) = inr (let a = item y x s (omega arith) in omega arith)
+    go (yes l) = inl (let a = item-fits x y s l in omega arith)
+    go (no l) = inr (let a = item-fits y x s (omega arith) in omega arith)
 
 module _ (p : Params) (l l′ : List ℕ) (d z : ℕ) (t : List ℕ) (hd : d < p .N) (hz : z < p .Z) (long : length l ≡ compactLen p) (lt : length t ≡ p .S)
     (e : l′ ≡ splice l (compactAt p d z 0) t) where
   fits : compactAt p d z 0 + length t ≤ length l
   fits = omega (arith, row-fits p d z hd hz)
 
-  first : (x y o : ℕ) → compactAt p x y o ≡ compactAt p x y 0 + o
+  compact-row-start : (x y o : ℕ) → compactAt p x y o ≡ compactAt p x y 0 + o
   unfolding compactAt
-  first x y o = let a = add-zero ((x * p .Z + y) * p .S) in omega arith
+  compact-row-start x y o = let a = add-zero ((x * p .Z + y) * p .S) in omega arith
 
   row-here : (o : ℕ) → o < p .S → getD l′ (compactAt p d z o) 0 ≡ getD t o 0
   row-here o ho =
-      ap₂ (λ (x : List ℕ) (i : ℕ). getD x i 0) e (first d z o) ∙ getD-splice-in l (compactAt p d z 0) t fits o (omega arith)
+      ap₂ (λ (x : List ℕ) (i : ℕ). getD x i 0) e (compact-row-start d z o) ∙ getD-splice-in l (compactAt p d z 0) t fits o (omega arith)
 
   row-else : (x y o : ℕ) → o < p .S → (x * p .Z + y ≡ d * p .Z + z → ⊥) → getD l′ (compactAt p x y o) 0 ≡ getD l (compactAt p x y o) 0
   row-else x y o ho n = ap (λ (q : List ℕ). getD q (compactAt p x y o) 0) e ∙ go (as! (row-apart (p .S) (x * p .Z + y) (d * p .Z + z) o ho n))
@@ -131,8 +131,8 @@ module _ (p : Params) (l l′ : List ℕ) (d z : ℕ) (t : List ℕ) (hd : d < p
       go (inr a) = getD-splice-past l (compactAt p d z 0) t fits (compactAt p x y o) a
 
 -- one drive more
-pub rows-turn : (p : Params) (v : View) (gone g d : ℕ) (l l′ l″ : List ℕ) → d < p .N → g < p .Z → length l ≡ compactLen p → Rows p v gone g d l l′
-    → l″ ≡ splice l′ (compactAt p d g 0) (rowSaid p v gone d g) → length l″ ≡ length l′ → Rows p v gone g (d + 1) l l″
+pub rows-turn : (p : Params) (v : View) (gone g d : ℕ) (l l′ l″ : List ℕ) → d < p .N → g < p .Z → length l ≡ compactLen p → RowsSaid p v gone g d l l′
+    → l″ ≡ splice l′ (compactAt p d g 0) (rowSaid p v gone d g) → length l″ ≡ length l′ → RowsSaid p v gone g (d + 1) l l″
 rows-turn p v gone g d l l′ l″ hd hg long r e n = record {
   same-long = n ∙ r .same-long;
   said = λ x o h hx ho. at x o h hx ho (ℕ-discrete x d);
@@ -152,22 +152,22 @@ rows-turn p v gone g d l l′ l″ hd hg long r e n = record {
     at x o h hx ho (yes q) =
         ap (λ (i : ℕ). getD l″ (compactAt p i g o) 0) q ∙ row-here p l′ l″ d g (rowSaid p v gone d g) hd hg (r .same-long ∙ long) lt e o ho
         ∙ named o ∙ ap (λ (i : ℕ). getD (compactRow p (rowAt p v gone i g)) o 0) (sym q)
-    at x o h hx ho (no q) = apart x g o ho (λ w. let a = item x d (p .Z) (omega arith) in let bad : ⊥ = omega arith in bad) ∙ r .said x o (omega arith) hx ho
+    at x o h hx ho (no q) = apart x g o ho (λ w. let a = item-fits x d (p .Z) (omega arith) in let bad : ⊥ = omega arith in bad) ∙ r .said x o (omega arith) hx ho
 
 -- ---- the entries of a row
 
-pub entry-of : (p : Params) (w : Bool) (q : Zone) (o s : ℕ) → s ≡ recordIn p w q o .stripe → compactEntry p s ≡ entryOf p w q o
-unfolding entryOf
+pub entry-of : (p : Params) (w : Bool) (q : Zone) (o s : ℕ) → s ≡ recordIn p w q o .stripe → compactEntry p s ≡ entrySaid p w q o
+unfolding entrySaid
 entry-of p w q o s e = ap (compactEntry p) e
 
 pub entries-turn : (p : Params) (w : Bool) (q : Zone) (l l′ : List ℕ) (row o : ℕ) → row + o < length l
-    → l′ ≡ splice l row (map (entryOf p w q) (below o)) → set l′ (row + o) (entryOf p w q o) ≡ splice l row (map (entryOf p w q) (below (o + 1)))
+    → l′ ≡ splice l row (map (entrySaid p w q) (below o)) → set l′ (row + o) (entrySaid p w q o) ≡ splice l row (map (entrySaid p w q) (below (o + 1)))
 entries-turn p w q l l′ row o h e =
-    wrote-one l l′ row o (map (entryOf p w q) (below o)) (entryOf p w q o) e (length-map (below o) (entryOf p w q) ∙ length-below o) h
-    ∙ ap (splice l row) (sym (map-below-snoc (entryOf p w q) o))
+    wrote-one l l′ row o (map (entrySaid p w q) (below o)) (entrySaid p w q o) e (length-map (below o) (entrySaid p w q) ∙ length-below o) h
+    ∙ ap (splice l row) (sym (map-below-snoc (entrySaid p w q) o))
 
-pub entries-none : (p : Params) (w : Bool) (q : Zone) (l : List ℕ) (row : ℕ) → l ≡ splice l row (map (entryOf p w q) (below 0))
-entries-none p w q l row = sym (ap (λ (x : List ℕ). splice l row (map (entryOf p w q) x)) below-none ∙ splice-nil l row)
+pub entries-none : (p : Params) (w : Bool) (q : Zone) (l : List ℕ) (row : ℕ) → l ≡ splice l row (map (entrySaid p w q) (below 0))
+entries-none p w q l row = sym (ap (λ (x : List ℕ). splice l row (map (entrySaid p w q) x)) below-none ∙ splice-nil l row)
 
 -- entries, then zeros
 pub row-both : (l l′ l″ : List ℕ) (at n m : ℕ) (s : List ℕ) → at + n + m ≤ length l → length s ≡ n → l′ ≡ splice l at s → l″ ≡ splice l′ (at + n) (replicate m 0)

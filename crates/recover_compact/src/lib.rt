@@ -12,7 +12,7 @@ ghost use Rattle.spec.specs.Memory.{compactAt};
 ghost use Rattle.spec.specs.Params.{inRange, imageLen, pointersLen, compactLen};
 ghost use Rattle.law_drives.specs.Tables.{remains};
 ghost use Rattle.law_views.specs.Views.{Whole};
-ghost use Rattle.recover_compact.specs.Compacts.{entryOf, rowBytes, Shows, Else};
+ghost use Rattle.recover_compact.specs.Compacts.{entrySaid, rowBytes, SegmentShown, Else};
 use spec::Params;
 
 // The first stripe of a group at or behind base, still at or below offset o.
@@ -60,7 +60,7 @@ fn entries(
         ((ps : List ℕ)
         → length ps ≡ pointersLen p
         → now (compact .exit) ≡ splice (now (compact .entry)) row
-        (map (entryOf p full (zoneAt (viewOf p (now (image .entry)) ps) drive zone)) (below n))) ⌝ }
+        (map (entrySaid p full (zoneAt (viewOf p (now (image .entry)) ps) drive zone)) (below n))) ⌝ }
 {
     let mut base = 0;
     let mut o = 0;
@@ -118,7 +118,7 @@ pub fn rows(
     requires { ⌜ (length (now compact) ≡ compactLen p) × (seg < p .Z) ⌝ }
     ensures { λ _. ⌜
         (kept ≡ remains p (viewOf p (now (image .entry)) (now (pointers .entry))) gone seg
-        → Shows p (viewOf p (now (image .entry)) (now (pointers .entry))) gone seg (now (compact .exit)) × Else p seg (now (compact .entry)) (now (compact .exit))) ⌝ }
+        → SegmentShown p (viewOf p (now (image .entry)) (now (pointers .entry))) gone seg (now (compact .exit)) × Else p seg (now (compact .entry)) (now (compact .exit))) ⌝ }
 {
     let mut d = 0;
     while d < p.N {

@@ -26,13 +26,13 @@ use Rattle.disk_zones.specs.declared.Made.{Made}
 use Rattle.disk_zones.specs.Made.{Storing}
 use Rattle.recover_groups.specs.declared.Group.{Group}
 use Rattle.recover_groups.specs.Bases.{stripes-step}
-use Rattle.recover_groups.specs.Groups.{groupLen, recsBad, recsFault, Indexed, segmentIn, Reads}
+use Rattle.recover_groups.specs.Groups.{groupLen, recsBad, recsFault, Indexed, segmentIn, GroupReads}
 use Rattle.recover_groups.specs.Pieces.{lost-piece, lost-piece-rec}
 use Rattle.recover_reset.specs.Same.{same-recs-on, same-has, same-offset}
-use Rattle.recover_decode.specs.Moving.{Lacks, OnDrive, Moving, moving-start, moving-as, moving-cut, moving-turn, moving-done, off-left}
+use Rattle.recover_decode.specs.Moving.{Lacks, OnDrive, Moving, moving-start, moving-as, moving-cut, moving-turn, moving-done, drive-apart}
 
 pub lost-on : (p : Params) (gone d : ℕ) (g : Segment) (ss : List ℕ) → OnDrive d (lostStores p gone d g ss)
-lost-on p gone d g ss e y q = lost-apart p gone d g ss e y (off-left d e (zoneOn (g .seg) d) y q)
+lost-on p gone d g ss e y q = lost-apart p gone d g ss e y (drive-apart d e (zoneOn (g .seg) d) y q)
 
 -- the store of a decoded chunk
 pub lost-store-is : (p : Params) (v : View) (gone seg d s : ℕ) (b : List ℕ) (q : Rec) → isIn gone d ≡ true
@@ -78,9 +78,9 @@ module _ (p : Params) (gone : ℕ) (v u : View) (low : In (lowDrive p gone) (pre
         subst (λ (x : ℕ). (base ≤ x) × (x < base + groupLen p base)) (same-offset p gone v u low ag g hg d (base + k)) (i .within d k hd hk (same-has p gone v u low ag g hg (base + k) d ∙ t));
   }
 
-  pub same-reads : (im ps im′ ps′ : List ℕ) (w : Group) (at : List ℕ) → v ≡ viewOf p im ps → u ≡ viewOf p im′ ps′ → w .gone ≡ gone → w .seg ≡ g → length ps′ ≡ pointersLen p
-      → Reads p im ps w at → Reads p im′ ps′ w at
-  same-reads im ps im′ ps′ w at ev eu ew es l r = record {
+  pub group-reads-same : (im ps im′ ps′ : List ℕ) (w : Group) (at : List ℕ) → v ≡ viewOf p im ps → u ≡ viewOf p im′ ps′ → w .gone ≡ gone → w .seg ≡ g → length ps′ ≡ pointersLen p
+      → GroupReads p im ps w at → GroupReads p im′ ps′ w at
+  group-reads-same im ps im′ ps′ w at ev eu ew es l r = record {
     long = l;
     full-right =
         r .full-right ∙ (λ j. sealedIn p (sym ev j) (ew j) (es j)) ∙ same-sealed p gone v u low ag g hg ∙ (λ j. sealedIn p (eu j) (sym ew j) (sym es j));
@@ -92,29 +92,29 @@ module _ (p : Params) (gone : ℕ) (v u : View) (low : In (lowDrive p gone) (pre
 -- ---- the loop over a group's stripes
 
 module _ (p : Params) (w : Group) (d n : ℕ) (k₀ : Disk) where
-  abbrev pub found : Segment
-  found = segmentIn p (k₀ .image) (k₀ .pointers) w
+  abbrev pub groupFound : Segment
+  groupFound = segmentIn p (k₀ .image) (k₀ .pointers) w
 
   -- the stores of the group
   abbrev pub groupStores : List Store
-  groupStores = lostStores p (w .gone) d found (upFrom (w .base) (groupLen p (w .base)))
+  groupStores = lostStores p (w .gone) d groupFound (upFrom (w .base) (groupLen p (w .base)))
 
   -- those of stripes k, k + 1, .. of the group are left
   pub record Stripes (k left : ℕ) (x : Disk) : Type 0 where
     pub upto : k ≤ groupLen p (w .base)
-    pub moving : Moving p (w .gone) n groupStores k₀ (lostStores p (w .gone) d found (upFrom (w .base + k) (groupLen p (w .base) - k))) left x
+    pub moving : Moving p (w .gone) n groupStores k₀ (lostStores p (w .gone) d groupFound (upFrom (w .base + k) (groupLen p (w .base) - k))) left x
 
   pub stripes-start : Whole p k₀ → AllFit p (seen p k₀) groupStores → Stripes 0 n k₀
   stripes-start wh f = record {
     upto = omega arith;
-    moving = moving-as p (w .gone) n groupStores k₀ groupStores (lostStores p (w .gone) d found (upFrom (w .base + 0) (groupLen p (w .base) - 0))) n k₀
-        (lost-start p (w .gone) d found (w .base) (groupLen p (w .base))) (moving-start p (w .gone) n groupStores k₀ wh f);
+    moving = moving-as p (w .gone) n groupStores k₀ groupStores (lostStores p (w .gone) d groupFound (upFrom (w .base + 0) (groupLen p (w .base) - 0))) n k₀
+        (lost-start p (w .gone) d groupFound (w .base) (groupLen p (w .base))) (moving-start p (w .gone) n groupStores k₀ wh f);
   }
 
   pub stripes-done : (k left : ℕ) (x : Disk) → Stripes k left x → groupLen p (w .base) ≤ k → Storing p n groupStores k₀ (record { left = left; cut = false }) x
   stripes-done k left x s h = moving-done p (w .gone) n groupStores k₀ left x
-      (moving-as p (w .gone) n groupStores k₀ (lostStores p (w .gone) d found (upFrom (w .base + k) (groupLen p (w .base) - k))) [] left x
-      (lost-end p (w .gone) d found (w .base) k (groupLen p (w .base)) h) (s .moving))
+      (moving-as p (w .gone) n groupStores k₀ (lostStores p (w .gone) d groupFound (upFrom (w .base + k) (groupLen p (w .base) - k))) [] left x
+      (lost-end p (w .gone) d groupFound (w .base) k (groupLen p (w .base)) h) (s .moving))
 
 module _ (p : Params) (r : Ranged p) (w : Group) (d n : ℕ) (k₀ : Disk) (la : Lacks p (w .gone) d) (hz : w .seg < p .Z) (k left : ℕ) (x : Disk) (s : Stripes p w d n k₀ k left x)
     (h : k < groupLen p (w .base)) where
@@ -124,37 +124,38 @@ module _ (p : Params) (r : Ranged p) (w : Group) (d n : ℕ) (k₀ : Disk) (la :
   abbrev len : ℕ
   len = groupLen p (w .base)
 
-  step : Moving p (w .gone) n (groupStores p w d n k₀) k₀
-      (lostStores p (w .gone) d (found p w d n k₀) ((w .base + k) ∷ []) ++ lostStores p (w .gone) d (found p w d n k₀) (upFrom (w .base + (k + 1)) (len - (k + 1)))) left x
-  step = moving-as p (w .gone) n (groupStores p w d n k₀) k₀ (lostStores p (w .gone) d (found p w d n k₀) (upFrom (w .base + k) (len - k)))
-      (lostStores p (w .gone) d (found p w d n k₀) ((w .base + k) ∷ []) ++ lostStores p (w .gone) d (found p w d n k₀) (upFrom (w .base + (k + 1)) (len - (k + 1)))) left x
-      (lost-step p (w .gone) d (found p w d n k₀) (w .base) k len h) (s .moving)
+  stripe-step : Moving p (w .gone) n (groupStores p w d n k₀) k₀
+      (lostStores p (w .gone) d (groupFound p w d n k₀) ((w .base + k) ∷ []) ++ lostStores p (w .gone) d (groupFound p w d n k₀) (upFrom (w .base + (k + 1)) (len - (k + 1)))) left x
+  stripe-step = moving-as p (w .gone) n (groupStores p w d n k₀) k₀ (lostStores p (w .gone) d (groupFound p w d n k₀) (upFrom (w .base + k) (len - k)))
+      (lostStores p (w .gone) d (groupFound p w d n k₀) ((w .base + k) ∷ []) ++ lostStores p (w .gone) d (groupFound p w d n k₀) (upFrom (w .base + (k + 1)) (len - (k + 1)))) left x
+      (lost-step p (w .gone) d (groupFound p w d n k₀) (w .base) k len h) (s .moving)
 
-  same : lostStores p (w .gone) d now! ((w .base + k) ∷ []) ≡ lostStores p (w .gone) d (found p w d n k₀) ((w .base + k) ∷ [])
-  same = sym (same-lost p (w .gone) (seen p k₀) (seen p x) (la .low) (s .moving .agree) (w .seg) hz d (la .lost) ((w .base + k) ∷ []))
+  lost-stripe-same : lostStores p (w .gone) d now! ((w .base + k) ∷ []) ≡ lostStores p (w .gone) d (groupFound p w d n k₀) ((w .base + k) ∷ [])
+  lost-stripe-same = sym (same-lost p (w .gone) (seen p k₀) (seen p x) (la .low) (s .moving .agree) (w .seg) hz d (la .lost) ((w .base + k) ∷ []))
 
   pub stripes-fit : AllFit p (seen p x) (lostStores p (w .gone) d now! ((w .base + k) ∷ []))
-  stripes-fit = subst (λ (l : List Store). AllFit p (seen p x) l) (sym same) (going-first p n (groupStores p w d n k₀) k₀ (lostStores p (w .gone) d (found p w d n k₀) ((w .base + k) ∷ []))
-      (lostStores p (w .gone) d (found p w d n k₀) (upFrom (w .base + (k + 1)) (len - (k + 1)))) left x (step .going))
+  stripes-fit =
+      subst (λ (l : List Store). AllFit p (seen p x) l) (sym lost-stripe-same) (going-first p n (groupStores p w d n k₀) k₀ (lostStores p (w .gone) d (groupFound p w d n k₀) ((w .base + k) ∷ []))
+      (lostStores p (w .gone) d (groupFound p w d n k₀) (upFrom (w .base + (k + 1)) (len - (k + 1)))) left x (stripe-step .going))
 
-  pub stripes-read : (at : List ℕ) → Reads p (k₀ .image) (k₀ .pointers) w at → Reads p (x .image) (x .pointers) w at
-  stripes-read at rd = same-reads p (w .gone) (seen p k₀) (seen p x) (la .low) (s .moving .agree) (w .seg) hz (k₀ .image) (k₀ .pointers) (x .image) (x .pointers) w at refl refl refl refl
+  pub stripes-read : (at : List ℕ) → GroupReads p (k₀ .image) (k₀ .pointers) w at → GroupReads p (x .image) (x .pointers) w at
+  stripes-read at rd = group-reads-same p (w .gone) (seen p k₀) (seen p x) (la .low) (s .moving .agree) (w .seg) hz (k₀ .image) (k₀ .pointers) (x .image) (x .pointers) w at refl refl refl refl
       (s .moving .going .whole .pointers-long) rd
 
   module _ (m : Made) (x′ : Disk) (t : Storing p left (lostStores p (w .gone) d now! ((w .base + k) ∷ [])) x m x′) where
-    this : Storing p left (lostStores p (w .gone) d (found p w d n k₀) ((w .base + k) ∷ [])) x m x′
-    this = subst (λ (l : List Store). Storing p left l x m x′) same t
+    stripe-stored : Storing p left (lostStores p (w .gone) d (groupFound p w d n k₀) ((w .base + k) ∷ [])) x m x′
+    stripe-stored = subst (λ (l : List Store). Storing p left l x m x′) lost-stripe-same t
 
     pub stripes-cut : m .cut ≡ true → Storing p n (groupStores p w d n k₀) k₀ m x′
-    stripes-cut c = moving-cut p (w .gone) n (groupStores p w d n k₀) k₀ (lostStores p (w .gone) d (found p w d n k₀) ((w .base + k) ∷ []))
-        (lostStores p (w .gone) d (found p w d n k₀) (upFrom (w .base + (k + 1)) (len - (k + 1)))) left x m x′ step this c
+    stripes-cut c = moving-cut p (w .gone) n (groupStores p w d n k₀) k₀ (lostStores p (w .gone) d (groupFound p w d n k₀) ((w .base + k) ∷ []))
+        (lostStores p (w .gone) d (groupFound p w d n k₀) (upFrom (w .base + (k + 1)) (len - (k + 1)))) left x m x′ stripe-step stripe-stored c
 
     pub stripes-turn : m .cut ≡ false → Stripes p w d n k₀ (k + 1) (m .left) x′
     stripes-turn c = record {
       upto = omega arith;
-      moving = moving-turn p (w .gone) n (groupStores p w d n k₀) k₀ (lostStores p (w .gone) d (found p w d n k₀) ((w .base + k) ∷ []))
-          (lostStores p (w .gone) d (found p w d n k₀) (upFrom (w .base + (k + 1)) (len - (k + 1)))) left x m x′ step this r d (la .lost)
-          (lost-on p (w .gone) d (found p w d n k₀) ((w .base + k) ∷ [])) c;
+      moving = moving-turn p (w .gone) n (groupStores p w d n k₀) k₀ (lostStores p (w .gone) d (groupFound p w d n k₀) ((w .base + k) ∷ []))
+          (lostStores p (w .gone) d (groupFound p w d n k₀) (upFrom (w .base + (k + 1)) (len - (k + 1)))) left x m x′ stripe-step stripe-stored r d (la .lost)
+          (lost-on p (w .gone) d (groupFound p w d n k₀) ((w .base + k) ∷ [])) c;
     }
 
 -- ---- the loop over the groups

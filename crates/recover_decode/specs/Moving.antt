@@ -68,5 +68,5 @@ pub moving-done : (p : Params) (gone n : ℕ) (ss : List Store) (k₀ : Disk) (l
     → Storing p n ss k₀ (record { left = left; cut = false }) k
 moving-done p gone n ss k₀ left k g = owes-done p n ss k₀ left k (g .going .owes)
 
-pub off-left : (d e x y : ℕ) → eqb d e ≡ false → (eqb d e && eqb x y) ≡ false
-off-left d e x y q = and-false-left (eqb d e) (eqb x y) q
+pub drive-apart : (d e x y : ℕ) → eqb d e ≡ false → (eqb d e && eqb x y) ≡ false
+drive-apart d e x y q = and-false-left (eqb d e) (eqb x y) q

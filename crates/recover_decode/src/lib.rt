@@ -9,7 +9,7 @@ ghost use Rattle.spec.specs.Drives.{viewOf, mkDisk, pointerOf, zoneOn, sealedIn
 ghost use Rattle.spec.specs.Lists.{upFrom, below};
 ghost use Rattle.spec.specs.Params.{inRange, capacity};
 ghost use Rattle.spec.specs.Segments.{segmentOf, counts};
-ghost use Rattle.recover_groups.specs.Groups.{groupLen, recsFault, segmentIn, Reads};
+ghost use Rattle.recover_groups.specs.Groups.{groupLen, recsFault, segmentIn, GroupReads};
 ghost use Rattle.recover_reset.specs.Lost.{lostStore, lostStores};
 ghost use Rattle.law_views.specs.Views.{Whole, AllFit};
 ghost use Rattle.disk_zones.specs.Made.{Storing};
@@ -39,7 +39,7 @@ fn put_lost_with(
         × (w .base < p .S)
         × (k < groupLen p (w .base))
         × (pointerOf p (now pointers) drive (zoneOn (w .seg) drive) < capacity p) ⌝ }
-    requires { ⌜ Reads p (now image) (now pointers) w (now at) ⌝ }
+    requires { ⌜ GroupReads p (now image) (now pointers) w (now at) ⌝ }
     requires { ⌜ counts p (w .gone) (segmentIn p (now image) (now pointers) w) (w .base + k) ≡ true ⌝ }
     ensures { λ r. ⌜
         Storing p count (lostStore p (w .gone) drive (segmentIn p (now (image .entry)) (now (pointers .entry)) w) (w .base + k) ∷ [])
@@ -68,7 +68,7 @@ fn put_lost(
     requires { ⌜ Whole p (mkDisk (now image) (now pointers)) ⌝ }
     requires { ⌜ Lacks p (w .gone) drive ⌝ }
     requires { ⌜ (length (now at) ≡ 2048) × (w .seg < p .Z) × (w .base < p .S) × (k < groupLen p (w .base)) × (pointerOf p (now pointers) drive (zoneOn (w .seg) drive) < capacity p) ⌝ }
-    requires { ⌜ Reads p (now image) (now pointers) w (now at) ⌝ }
+    requires { ⌜ GroupReads p (now image) (now pointers) w (now at) ⌝ }
     requires { ⌜ counts p (w .gone) (segmentIn p (now image) (now pointers) w) (w .base + k) ≡ true ⌝ }
     ensures { λ r. ⌜
         Storing p count (lostStore p (w .gone) drive (segmentIn p (now (image .entry)) (now (pointers .entry)) w) (w .base + k) ∷ [])
@@ -94,7 +94,7 @@ fn put_if(
     requires { ⌜ Whole p (mkDisk (now image) (now pointers)) ⌝ }
     requires { ⌜ Lacks p (w .gone) drive ⌝ }
     requires { ⌜ (length (now at) ≡ 2048) × (w .seg < p .Z) × (w .base < p .S) × (k < groupLen p (w .base)) ⌝ }
-    requires { ⌜ Reads p (now image) (now pointers) w (now at) ⌝ }
+    requires { ⌜ GroupReads p (now image) (now pointers) w (now at) ⌝ }
     requires { ⌜ AllFit p (viewOf p (now image) (now pointers)) (lostStores p (w .gone) drive (segmentIn p (now image) (now pointers) w) ((w .base + k) ∷ [])) ⌝ }
     ensures { λ r. ⌜
         Storing p count (lostStores p (w .gone) drive (segmentIn p (now (image .entry)) (now (pointers .entry)) w) ((w .base + k) ∷ []))

@@ -51,19 +51,19 @@ module _ (p : Params) (r : Ranged p) (n : ℕ) (ss : List Store) (k₀ : Disk) (
   made-all : k′ ≡ storeAll (storeDisk p) ts k
   made-all = storing-all p left ts k m k′ s c
 
-  split : AllFit p (seen p k) ts × AllFit p (storeAll storeView ts (seen p k)) us
-  split = fits-split p (seen p k) ts us (g .fits)
+  fit-split : AllFit p (seen p k) ts × AllFit p (storeAll storeView ts (seen p k)) us
+  fit-split = fits-split p (seen p k) ts us (g .fits)
 
   pub going-turn : Going p n ss k₀ us (m .left) k′
   going-turn = record {
     owes = owes-turn p n ss k₀ ts us left k m k′ (g .owes) s c;
-    fits = subst (λ (v : View). AllFit p v us) (sym (seen-after p r k k′ ts (g .whole) (split .0) made-all)) (split .1);
-    whole = whole-after p r k k′ ts (g .whole) (split .0) made-all;
+    fits = subst (λ (v : View). AllFit p v us) (sym (seen-after p r k k′ ts (g .whole) (fit-split .0) made-all)) (fit-split .1);
+    whole = whole-after p r k k′ ts (g .whole) (fit-split .0) made-all;
   }
 
   -- a zone that the part does not hit
   pub going-kept : (d z : ℕ) → d < p .N → z < p .Z → hits d z ts ≡ [] → zoneAt (seen p k′) d z ≡ zoneAt (seen p k) d z
-  going-kept d z hd hz q = zone-kept p r k k′ ts (g .whole) (split .0) made-all d z hd hz q
+  going-kept d z hd hz q = zone-kept p r k k′ ts (g .whole) (fit-split .0) made-all d z hd hz q
 
 pub going-first : (p : Params) (n : ℕ) (ss : List Store) (k₀ : Disk) (ts us : List Store) (left : ℕ) (k : Disk) → Going p n ss k₀ (ts ++ us) left k → AllFit p (seen p k) ts
 going-first p n ss k₀ ts us left k g = fits-split p (seen p k) ts us (g .fits) .0

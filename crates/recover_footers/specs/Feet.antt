@@ -34,10 +34,10 @@ unfolding missingFooters missingOn drivesOf
 missing-are p g = refl
 
 -- those of a segment as a view shows it
-pub missing-on : (p : Params) (v : View) (gone g d : ℕ) (q : Zone) → d < p .N → q ≡ zoneAt v d g
+pub missing-feet-on : (p : Params) (v : View) (gone g d : ℕ) (q : Zone) → d < p .N → q ≡ zoneAt v d g
     → footerStores p d g q (footersStored p q) (footers p - footersStored p q) ≡ missingOn p (segmentOf p v gone g) d
 unfolding missingOn zoneOn
-missing-on p v gone g d q hd e =
+missing-feet-on p v gone g d q hd e =
     ap₂ (λ (z : ℕ) (x : Zone). footerStores p d z x (footersStored p x) (footers p - footersStored p x)) (sym (seg-is p v gone g)) (e ∙ sym (zone-by p v gone g d hd))
 
 -- a zone whose data are all stored has room for the footers that it lacks
@@ -73,29 +73,29 @@ lack-stores p n d z q f g k m k′ a b s =
 
 -- ---- drive by drive: those from drive d on are still to be done, and their zones are as they were
 
-abbrev pub found : Params → Disk → ℕ → Segment
-found p k seg = segmentOf p (seen p k) 0 seg
+abbrev pub footFound : Params → Disk → ℕ → Segment
+footFound p k seg = segmentOf p (seen p k) 0 seg
 
-pub record Feet (p : Params) (n seg : ℕ) (k₀ : Disk) (d left : ℕ) (k : Disk) : Type 0 where
+pub record FeetUpto (p : Params) (n seg : ℕ) (k₀ : Disk) (d left : ℕ) (k : Disk) : Type 0 where
   pub up-to : d ≤ p .N
   pub same : (e : ℕ) → d ≤ e → e < p .N → zoneAt (seen p k) e seg ≡ zoneAt (seen p k₀) e seg
-  pub going : Going p n (missingFooters p (found p k₀ seg)) k₀ (flat (missingOn p (found p k₀ seg)) (upFrom d (p .N - d))) left k
+  pub going : Going p n (missingFooters p (footFound p k₀ seg)) k₀ (flat (missingOn p (footFound p k₀ seg)) (upFrom d (p .N - d))) left k
 
 module _ (p : Params) (r : Ranged p) (n seg : ℕ) (hz : seg < p .Z) (k₀ : Disk) where
   abbrev ss : List Store
-  ss = missingFooters p (found p k₀ seg)
+  ss = missingFooters p (footFound p k₀ seg)
 
   abbrev each : ℕ → List Store
-  each d = missingOn p (found p k₀ seg) d
+  each d = missingOn p (footFound p k₀ seg) d
 
-  pub feet-start : Whole p k₀ → AllFit p (seen p k₀) (missingFooters p (found p k₀ seg)) → Feet p n seg k₀ 0 n k₀
+  pub feet-start : Whole p k₀ → AllFit p (seen p k₀) (missingFooters p (footFound p k₀ seg)) → FeetUpto p n seg k₀ 0 n k₀
   feet-start w f = record {
     up-to = omega arith;
     same = λ e h l. refl;
-    going = going-as p n ss k₀ ss (flat each (upFrom 0 (p .N - 0))) n k₀ (missing-are p (found p k₀ seg) ∙ flat-start each (p .N)) (going-start p n ss k₀ w f);
+    going = going-as p n ss k₀ ss (flat each (upFrom 0 (p .N - 0))) n k₀ (missing-are p (footFound p k₀ seg) ∙ flat-start each (p .N)) (going-start p n ss k₀ w f);
   }
 
-  module _ (d left : ℕ) (k : Disk) (g : Feet p n seg k₀ d left k) where
+  module _ (d left : ℕ) (k : Disk) (g : FeetUpto p n seg k₀ d left k) where
     -- the pointers of the drives to come
     pub feet-pointer : (e : ℕ) → d ≤ e → e < p .N → Whole p k₀ → pointerOf p (k .pointers) e seg ≡ pointerOf p (k₀ .pointers) e seg
     feet-pointer e h l w = sym (pointer-view p k e seg l hz (g .going .whole)) ∙ as! ∙ pointer-view p k₀ e seg l hz w
@@ -114,25 +114,25 @@ module _ (p : Params) (r : Ranged p) (n seg : ℕ) (hz : seg < p .Z) (k₀ : Dis
       z-is : z ≡ seg
       z-is = unfold zoneOn in ez
 
-      step : Going p n ss k₀ (each d ++ rest) left k
-      step = going-as p n ss k₀ (flat each (upFrom d (p .N - d))) (each d ++ rest) left k (flat-step each d (p .N) l) (g .going)
+      drive-feet-step : Going p n ss k₀ (each d ++ rest) left k
+      drive-feet-step = going-as p n ss k₀ (flat each (upFrom d (p .N - d))) (each d ++ rest) left k (flat-step each d (p .N) l) (g .going)
 
       this : Storing p left (each d) k m k′
       this = subst (λ (x : List Store). Storing p left x k m k′)
           (ap (λ (y : ℕ). footerStores p d y (zoneAt (seen p k) d y) (footersStored p (zoneAt (seen p k) d y)) (footers p - footersStored p (zoneAt (seen p k) d y))) z-is
-          ∙ missing-on p (seen p k₀) 0 seg d (zoneAt (seen p k) d seg) l (g .same d (omega arith) l)) s
+          ∙ missing-feet-on p (seen p k₀) 0 seg d (zoneAt (seen p k) d seg) l (g .same d (omega arith) l)) s
 
       pub feet-cut : m .cut ≡ true → Storing p n ss k₀ m k′
-      feet-cut c = owes-cut p n ss k₀ (each d) rest left k m k′ (step .owes) this c
+      feet-cut c = owes-cut p n ss k₀ (each d) rest left k m k′ (drive-feet-step .owes) this c
 
-      pub feet-turn : m .cut ≡ false → Feet p n seg k₀ (d + 1) (m .left) k′
+      pub feet-turn : m .cut ≡ false → FeetUpto p n seg k₀ (d + 1) (m .left) k′
       feet-turn c = record {
         up-to = omega arith;
-        same = λ e h j. going-kept p r n ss k₀ (each d) rest left k m k′ step this c e seg j hz (apart e (λ q. let bad : ⊥ = omega arith in bad)) ∙ g .same e (omega arith) j;
-        going = going-turn p r n ss k₀ (each d) rest left k m k′ step this c;
+        same = λ e h j. going-kept p r n ss k₀ (each d) rest left k m k′ drive-feet-step this c e seg j hz (apart e (λ q. let bad : ⊥ = omega arith in bad)) ∙ g .same e (omega arith) j;
+        going = going-turn p r n ss k₀ (each d) rest left k m k′ drive-feet-step this c;
       }
         where
           apart : (e : ℕ) → (d ≡ e → ⊥) → hits e seg (each d) ≡ []
           apart e ne =
-              unfold missingOn in feet-apart p d (zoneOn (found p k₀ seg .seg) d) e seg (getD (found p k₀ seg .zonesBy) d noZone)
-              (footersStored p (getD (found p k₀ seg .zonesBy) d noZone)) (footers p - footersStored p (getD (found p k₀ seg .zonesBy) d noZone)) ne
+              unfold missingOn in feet-apart p d (zoneOn (footFound p k₀ seg .seg) d) e seg (getD (footFound p k₀ seg .zonesBy) d noZone)
+              (footersStored p (getD (footFound p k₀ seg .zonesBy) d noZone)) (footers p - footersStored p (getD (footFound p k₀ seg .zonesBy) d noZone)) ne

@@ -23,7 +23,7 @@ use Rattle.law_basic.specs.Ranges.Test.{yes!, no! }
 use Rattle.law_drives.specs.Counting.{different-few, stripes-different}
 use Rattle.law_drives.specs.Members.{In, map-in, all-in, in-all, none-in, in-none, in-any, keep-cong, keep-all, keep-keep, below-in, in-getD, getD-in, index-below, index-passes, index-first, index-is}
 use Rattle.law_drives.specs.Segs.{present-in, in-present, length-records, record-at, recs-here, recs-gone}
-use Rattle.law_drives.specs.Tests.{and-false-right, or-left, or-right, not-so, same-test, cond-true}
+use Rattle.law_drives.specs.Tests.{and-false-right, or-first, or-right, not-so, same-test, cond-true}
 use Rattle.recover_groups.specs.Bases.{group-len-le, group-of, group-back, base-is, in-group}
 use Rattle.recover_groups.specs.Faulty.{stripe-group, length-group}
 use Rattle.recover_groups.specs.Groups.{groupLen, groupRecs, recsBad, recsFault, Indexed, Entered, AllEntered, entryOf, Row}
@@ -42,10 +42,10 @@ all-tally {A} f (a ∷ l) = go (f a) (all-tally f l)
         (λ t. let x = eqb-true (suc (length (keep f l))) (suc (length l)) t in eq-eqb (length (keep f l)) (length l) (omega (arith, x)))
     go false e = sym (ne-eqb (length (keep f l)) (suc (length l)) (λ x. let y = length-keep f l in let z : ⊥ = omega (arith, x, y) in z))
 
-any-tally : {A : Type 0} (f : A → Bool) (l : List A) → any f l ≡ not (eqb (length (keep f l)) 0)
+any-length : {A : Type 0} (f : A → Bool) (l : List A) → any f l ≡ not (eqb (length (keep f l)) 0)
 unfolding any keep consIf
-any-tally f [] = ap not (sym (eq-eqb 0 0 refl))
-any-tally {A} f (a ∷ l) = go (f a) (any-tally f l)
+any-length f [] = ap not (sym (eq-eqb 0 0 refl))
+any-length {A} f (a ∷ l) = go (f a) (any-length f l)
   where
     go : (b : Bool) → any f l ≡ not (eqb (length (keep f l)) 0) → (b || any f l) ≡ not (eqb (length (consIf b a (keep f l))) 0)
     go true e = ap not (sym (ne-eqb (suc (length (keep f l))) 0 (λ x. let z : ⊥ = omega (arith, x) in z)))
@@ -140,7 +140,7 @@ module _ (p : Params) (v : View) (gone seg : ℕ) where
   chunks-counts s = all-tally (hasChunk sg s) (present p gone) ∙ ap (λ (l : List ℕ). eqb (length l) (length (present p gone))) (sym (chunks-present s))
 
   pub chunks-some : (s : ℕ) → any (hasChunk sg s) (present p gone) ≡ not (eqb (length (keep (hasChunk sg s) (drivesOf p))) 0)
-  chunks-some s = any-tally (hasChunk sg s) (present p gone) ∙ ap (λ (l : List ℕ). not (eqb (length l) 0)) (sym (chunks-present s))
+  chunks-some s = any-length (hasChunk sg s) (present p gone) ∙ ap (λ (l : List ℕ). not (eqb (length l) 0)) (sym (chunks-present s))
 
   -- S records, none twice: every stripe is there
   full-chunk : inRange p ≡ true → sealedIn p v gone seg ≡ true → stripeFault p gone sg ≡ false → (s d : ℕ) → s < p .S → In d (present p gone) → hasChunk sg s d ≡ true
@@ -149,7 +149,7 @@ module _ (p : Params) (v : View) (gone seg : ℕ) where
       let rs = recsOn sg d in
       let (hd, hp) = present-in p gone d m in
       let t = none-in (λ d. outside p 0 (recsOn sg d) || twice (recsOn sg d)) (present p gone) h d m in
-      let o : outside p 0 rs ≡ false = or-left (outside p 0 rs) (twice rs) t in
+      let o : outside p 0 rs ≡ false = or-first (outside p 0 rs) (twice rs) t in
       let w : twice rs ≡ false = or-right (outside p 0 rs) (twice rs) t in
       let c : pointerAt v d seg ≡ capacity p = eqb-true (pointerAt v d seg) (capacity p) (all-in (λ d. eqb (pointerAt v d seg) (capacity p)) (present p gone) f d m) in
       let n : length rs ≡ p .S = ap length (recs-here p v gone seg d hd hp) ∙ length-records p (sealedIn p v gone seg) (zoneAt v d seg) ∙ full-data p (zoneAt v d seg) c in
@@ -197,10 +197,10 @@ entry-zero rs s = go (any f rs)
     go true = ap not (sym (ne-eqb (indexOf f rs + 1) 0 (λ x. let z : ⊥ = omega (arith, x) in z)))
     go false = ap not (sym (eq-eqb 0 0 refl))
 
-index-hit : {A : Type 0} (f : A → Bool) (xs ys : List A) → any f xs ≡ true → indexOf f (xs ++ ys) ≡ indexOf f xs
+index-append : {A : Type 0} (f : A → Bool) (xs ys : List A) → any f xs ≡ true → indexOf f (xs ++ ys) ≡ indexOf f xs
 unfolding any indexOf sucUnless
-index-hit f [] ys h = absurd (not-both false h refl)
-index-hit {A} f (x ∷ xs) ys h = go (f x) h (index-hit f xs ys)
+index-append f [] ys h = absurd (not-both false h refl)
+index-append {A} f (x ∷ xs) ys h = go (f x) h (index-append f xs ys)
   where
     go : (b : Bool) → (b || any f xs) ≡ true → (any f xs ≡ true → indexOf f (xs ++ ys) ≡ indexOf f xs) → sucUnless b (indexOf f (xs ++ ys)) ≡ sucUnless b (indexOf f xs)
     go true h ih = refl
@@ -244,7 +244,7 @@ entry-old rs r s h = go (test (any f rs))
     a = any-append f rs (r ∷ []) ∙ ap (λ (x : Bool). any f rs || (x || false)) t ∙ or-no (any f rs)
 
     go : Test (any f rs) → cond (any f (rs ++ (r ∷ []))) (indexOf f (rs ++ (r ∷ [])) + 1) 0 ≡ cond (any f rs) (indexOf f rs + 1) 0
-    go (yes! e) = λ j. cond (a j) (index-hit f rs (r ∷ []) e j + 1) 0
+    go (yes! e) = λ j. cond (a j) (index-append f rs (r ∷ []) e j + 1) 0
     go (no! e) = ap (λ (x : Bool). cond x (indexOf f (rs ++ (r ∷ [])) + 1) 0) (a ∙ e) ∙ sym (ap (λ (x : Bool). cond x (indexOf f rs + 1) 0) e)
 
 -- ---- with no stripe outside its group, a chunk lies in its stripe's group
@@ -341,8 +341,8 @@ in-group-of p base o s g b m h k =
 -- ---- questions of the index
 
 module _ (p : Params) (g : Segment) (base : ℕ) (at : List ℕ) (x : Indexed p g base at) (d k : ℕ) (hd : d < p .N) (hk : k < groupLen p base) where
-  pub chunk-is : not (eqb (getD at (256 * d + k) 0) 0) ≡ hasChunk g (base + k) d
-  chunk-is = ap (λ (n : ℕ). not (eqb n 0)) (x .entry d k hd hk) ∙ go (hasChunk g (base + k) d)
+  pub entry-has-chunk : not (eqb (getD at (256 * d + k) 0) 0) ≡ hasChunk g (base + k) d
+  entry-has-chunk = ap (λ (n : ℕ). not (eqb n 0)) (x .entry d k hd hk) ∙ go (hasChunk g (base + k) d)
     where
       go : (b : Bool) → not (eqb (cond b (offsetOn g d (base + k) - base + 1) 0) 0) ≡ b
       go true = ap not (ne-eqb (offsetOn g d (base + k) - base + 1) 0 (λ y. let z : ⊥ = omega (arith, y) in z))
@@ -357,7 +357,7 @@ module _ (p : Params) (g : Segment) (base : ℕ) (at : List ℕ) (x : Indexed p 
   -- what an entry says
   pub entered-chunk : 1 ≤ getD at (256 * d + k) 0 → (hasChunk g (base + k) d ≡ true) × (base + getD at (256 * d + k) 0 - 1 ≡ offsetOn g d (base + k))
   entered-chunk h =
-      let t : hasChunk g (base + k) d ≡ true = sym chunk-is ∙ ap not (ne-eqb (getD at (256 * d + k) 0) 0 (λ y. let z : ⊥ = omega (arith, y, h) in z)) in
+      let t : hasChunk g (base + k) d ≡ true = sym entry-has-chunk ∙ ap not (ne-eqb (getD at (256 * d + k) 0) 0 (λ y. let z : ⊥ = omega (arith, y, h) in z)) in
       let e : getD at (256 * d + k) 0 ≡ offsetOn g d (base + k) - base + 1 = x .entry d k hd hk ∙ cond-true (hasChunk g (base + k) d) (offsetOn g d (base + k) - base + 1) 0 t in
       let w = x .within d k hd hk t in
       (t, omega (arith, e, w .0))

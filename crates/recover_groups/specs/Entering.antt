@@ -21,7 +21,7 @@ use Rattle.law_basic.specs.Ranges.Test.{yes!, no! }
 use Rattle.law_scans.specs.Scans.{any-keep}
 use Rattle.law_drives.specs.Tests.{or-neither, or-true-left, or-true-right}
 use Rattle.recover_groups.specs.Chunks.{entry-none, entry-zero, entry-new, entry-old, in-group-of}
-use Rattle.recover_groups.specs.Faulty.{bad-more, nextBad, bad-next, bad-none}
+use Rattle.recover_groups.specs.Faulty.{bad-more, nextBad, bad-next, no-recs-bad}
 use Rattle.recover_groups.specs.Groups.{groupLen, groupRecs, recsBad, groupFault, entryOf, Row, SameBelow}
 
 -- ---- an index with one more entry
@@ -57,7 +57,7 @@ entering-start p d base rs at l h = record {
   upto = omega arith;
   long = l;
   lower = λ j k. refl;
-  good = bad-none p d base;
+  good = no-recs-bad p d base;
   row = λ k hk. h k hk ∙ sym (entry-none (base + k));
 }
 
@@ -72,12 +72,12 @@ module _ (p : Params) (d base : ℕ) (rs : List Rec) (old at : List ℕ) (i : �
   abbrev done : List Rec
   done = take i rs
 
-  more : take (i + 1) rs ≡ done ++ (r ∷ [])
-  more = ap (λ (n : ℕ). take n rs) (add-one i) ∙ take-suc rs i (mkRec 0 0 0) h ∙ ap (λ (q : Rec). done ++ (q ∷ [])) (sym e)
+  take-next : take (i + 1) rs ≡ done ++ (r ∷ [])
+  take-next = ap (λ (n : ℕ). take n rs) (add-one i) ∙ take-suc rs i (mkRec 0 0 0) h ∙ ap (λ (q : Rec). done ++ (q ∷ [])) (sym e)
 
   bad-is : recsBad p d base (take (i + 1) rs) ≡ nextBad p d (base + i) done r
   bad-is =
-      ap (recsBad p d base) more ∙ bad-next p d base done r (x .good)
+      ap (recsBad p d base) take-next ∙ bad-next p d base done r (x .good)
       ∙ ap (λ (n : ℕ). nextBad p d (base + n) done r) (length-take-le i rs (omega (arith, h)))
 
   -- the record is at fault: so are all
@@ -147,12 +147,12 @@ module _ (p : Params) (d base : ℕ) (rs : List Rec) (old at : List ℕ) (i : �
           ∙ getD-set-same at (256 * d + (r .stripe - base)) (i + 1) 0 (let ll = x .long in omega (arith, ll, d8, len, w))
           ∙ (let y : i + 1 ≡ length done + 1 = ap (λ (n : ℕ). n + 1) (sym (length-take-le i rs (omega (arith, h)))) in y)
           ∙ sym (entry-new done r en)
-          ∙ (λ j. entryOf (sym more j) ((let y : r .stripe ≡ base + k = omega (arith, q, u) in y) j))
+          ∙ (λ j. entryOf (sym take-next j) ((let y : r .stripe ≡ base + k = omega (arith, q, u) in y) j))
       next-row d8 len u w en k hk (no q) =
           getD-set-other at (256 * d + (r .stripe - base)) (256 * d + k) (i + 1) 0 (λ y. q (omega (arith, y)))
           ∙ x .row k hk
           ∙ sym (entry-old done r (base + k) (λ y. q (omega (arith, y, u))))
-          ∙ ap (λ (n : List Rec). entryOf n (base + k)) (sym more)
+          ∙ ap (λ (n : List Rec). entryOf n (base + k)) (sym take-next)
 
 -- ---- the rows of the drives, one after the other
 

@@ -20,7 +20,7 @@ use Rattle.spec.specs.Segments.{Segment, recsOn, counted}
 use Rattle.law_basic.specs.Ranges.{and-left, and-right, not-both, any-append, any-same}
 use Rattle.law_drives.specs.Accept.{outside-in}
 use Rattle.law_drives.specs.Members.{none-in, in-none, any-in, in-any, getD-in}
-use Rattle.law_drives.specs.Tests.{or-left, or-right, or-neither, same-test}
+use Rattle.law_drives.specs.Tests.{or-first, or-right, or-neither, same-test}
 use Rattle.recover_groups.specs.Bases.{group-len-whole, group-len-last, group-of, group-back, bases-step, bases-end}
 use Rattle.recover_groups.specs.Groups.{groupLen, basesFrom, groupRecs, recsBad, groupFault, recsFault}
 
@@ -198,9 +198,9 @@ cross-none p o n q xs ys h k a b =
 
 -- ---- the records of a group, and those behind it
 
-pub bad-none : (p : Params) (d o : ℕ) → recsBad p d o [] ≡ false
+pub no-recs-bad : (p : Params) (d o : ℕ) → recsBad p d o [] ≡ false
 unfolding recsBad outside twice any
-bad-none p d o = refl
+no-recs-bad p d o = refl
 
 -- no fault in all of them: none in a part
 pub good-part : (p : Params) (d base n : ℕ) (rs : List Rec) → recsBad p d 0 rs ≡ false → recsBad p d base (take n (drop base rs)) ≡ false
@@ -214,7 +214,7 @@ good-part p d base n rs h = go (decLe base (length rs))
     three false false false h = (refl, refl, refl)
 
     go : Dec (base ≤ length rs) → recsBad p d base (take n (drop base rs)) ≡ false
-    go (no l) = ap (λ (x : List Rec). recsBad p d base (take n x)) (drop-of-length-le rs {i = base} (omega arith)) ∙ ap (recsBad p d base) (take-nil n) ∙ bad-none p d base
+    go (no l) = ap (λ (x : List Rec). recsBad p d base (take n x)) (drop-of-length-le rs {i = base} (omega arith)) ∙ ap (recsBad p d base) (take-nil n) ∙ no-recs-bad p d base
       where
         take-nil : (k : ℕ) → _≡_ {A = List Rec} (take k []) []
         take-nil zero = refl
@@ -228,11 +228,11 @@ good-part p d base n rs h = go (decLe base (length rs))
         let t = three (outside p 0 (xs ++ (ys ++ zs))) (twice (xs ++ (ys ++ zs))) (any (storedBad p d) (xs ++ (ys ++ zs))) f in
         let lb : length xs ≡ base = length-take-le base rs l in
         let o₁ = or-right (outside p 0 xs) (outside p (0 + length xs) (ys ++ zs)) (sym (outside-append p 0 xs (ys ++ zs)) ∙ t .0) in
-        let o₂ = or-left (outside p (0 + length xs) ys) (outside p (0 + length xs + length ys) zs) (sym (outside-append p (0 + length xs) ys zs) ∙ o₁) in
-        let t₁ = or-left (twice (ys ++ zs)) (cross xs (ys ++ zs)) (or-right (twice xs) (twice (ys ++ zs) || cross xs (ys ++ zs)) (sym (twice-append xs (ys ++ zs)) ∙ t .1)) in
-        let t₂ = or-left (twice ys) (twice zs || cross ys zs) (sym (twice-append ys zs) ∙ t₁) in
+        let o₂ = or-first (outside p (0 + length xs) ys) (outside p (0 + length xs + length ys) zs) (sym (outside-append p (0 + length xs) ys zs) ∙ o₁) in
+        let t₁ = or-first (twice (ys ++ zs)) (cross xs (ys ++ zs)) (or-right (twice xs) (twice (ys ++ zs) || cross xs (ys ++ zs)) (sym (twice-append xs (ys ++ zs)) ∙ t .1)) in
+        let t₂ = or-first (twice ys) (twice zs || cross ys zs) (sym (twice-append ys zs) ∙ t₁) in
         let b₁ = or-right (any (storedBad p d) xs) (any (storedBad p d) (ys ++ zs)) (sym (any-append (storedBad p d) xs (ys ++ zs)) ∙ t .2) in
-        let b₂ = or-left (any (storedBad p d) ys) (any (storedBad p d) zs) (sym (any-append (storedBad p d) ys zs) ∙ b₁) in
+        let b₂ = or-first (any (storedBad p d) ys) (any (storedBad p d) zs) (sym (any-append (storedBad p d) ys zs) ∙ b₁) in
         let o₃ : outside p base ys ≡ false = ap (λ (x : ℕ). outside p x ys) (let w : base ≡ 0 + length xs = omega (arith, lb) in w) ∙ o₂ in
         or-neither (outside p base ys || twice ys) (any (storedBad p d) ys) (or-neither (outside p base ys) (twice ys) o₃ t₂) b₂
 
@@ -273,7 +273,7 @@ group-step p d q rs g b l = ap (recsBad p d base) (split-group p base rs b l) �
     go (yes h) =
         let e : ys ≡ [] = drop-of-length-le rs h in
         ap (λ (x : List Rec). recsBad p d base (xs ++ x)) e ∙ ap (recsBad p d base) (append-nil xs)
-        ∙ sym (ap (λ (x : List Rec). recsBad p d base xs || recsBad p d (base + p .G) x) e ∙ ap (λ (x : Bool). recsBad p d base xs || x) (bad-none p d (base + p .G)) ∙ or-no (recsBad p d base xs))
+        ∙ sym (ap (λ (x : List Rec). recsBad p d base xs || recsBad p d (base + p .G) x) e ∙ ap (λ (x : Bool). recsBad p d base xs || x) (no-recs-bad p d (base + p .G)) ∙ or-no (recsBad p d base xs))
     go (no h) =
         let w : groupLen p base ≡ p .G = group-len-whole p base (omega arith) in
         let n : length xs ≡ p .G = length-group p base rs ∙ (let m : min (groupLen p base) (length rs - base) ≡ p .G = omega (arith, w) in m) in
@@ -291,14 +291,14 @@ bad-groups : (p : Params) (d : ℕ) (rs : List Rec) → 0 < p .G → length rs �
 unfolding any
 bad-groups p d rs g l zero q h =
     ap (any (λ b. recsBad p d b (groupRecs p b rs))) (bases-end p (q * p .G) g (omega arith))
-    ∙ sym (ap (recsBad p d (q * p .G)) (drop-of-length-le rs {i = q * p .G} (omega arith)) ∙ bad-none p d (q * p .G))
+    ∙ sym (ap (recsBad p d (q * p .G)) (drop-of-length-le rs {i = q * p .G} (omega arith)) ∙ no-recs-bad p d (q * p .G))
 bad-groups p d rs g l (suc m) q h = go (decLe (p .S) (q * p .G)) (bad-groups p d rs g l m (suc q))
   where
     go : Dec (p .S ≤ q * p .G) → (p .S ≤ suc q * p .G + m → any (λ b. recsBad p d b (groupRecs p b rs)) (basesFrom p (suc q * p .G)) ≡ recsBad p d (suc q * p .G) (drop (suc q * p .G) rs))
         → any (λ b. recsBad p d b (groupRecs p b rs)) (basesFrom p (q * p .G)) ≡ recsBad p d (q * p .G) (drop (q * p .G) rs)
     go (yes k) ih =
         ap (any (λ b. recsBad p d b (groupRecs p b rs))) (bases-end p (q * p .G) g k)
-        ∙ sym (ap (recsBad p d (q * p .G)) (drop-of-length-le rs {i = q * p .G} (omega arith)) ∙ bad-none p d (q * p .G))
+        ∙ sym (ap (recsBad p d (q * p .G)) (drop-of-length-le rs {i = q * p .G} (omega arith)) ∙ no-recs-bad p d (q * p .G))
     go (no k) ih =
         let e : suc q * p .G ≡ q * p .G + p .G = suc-mul q (p .G) in
         ap (any (λ b. recsBad p d b (groupRecs p b rs))) (bases-step p (q * p .G) g (omega arith))
@@ -326,7 +326,7 @@ unfolding addressFault
 no-recs-fault p gone g h k =
     recs-fault-is p gone g
     ∙ or-neither (stripeFault p gone g) (any (λ d. any (storedBad p d) (recsOn g d)) (present p gone)) h
-    (or-left (any (λ d. any (storedBad p d) (recsOn g d)) (present p gone)) (any (λ d. any (decodedBad p gone g d) (counted p gone g)) (absent p gone)) k)
+    (or-first (any (λ d. any (storedBad p d) (recsOn g d)) (present p gone)) (any (λ d. any (decodedBad p gone g d) (counted p gone g)) (absent p gone)) k)
 
 -- no fault in the segment: none in the group
 pub no-group-fault : (p : Params) (gone : ℕ) (g : Segment) (base : ℕ) → recsFault p gone g ≡ false → groupFault p gone g base ≡ false

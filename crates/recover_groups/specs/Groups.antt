@@ -62,7 +62,7 @@ abbrev pub segmentIn : Params → List ℕ → List ℕ → Group → Segment
 segmentIn p im ps w = segmentOf p (viewOf p im ps) (w .gone) (w .seg)
 
 -- the group is as image and pointers show it, and the index is the group's
-pub record Reads (p : Params) (im ps : List ℕ) (w : Group) (at : List ℕ) : Type 0 where
+pub record GroupReads (p : Params) (im ps : List ℕ) (w : Group) (at : List ℕ) : Type 0 where
   pub long : length ps ≡ pointersLen p
   pub full-right : w .full ≡ sealedIn p (viewOf p im ps) (w .gone) (w .seg)
   pub indexed : Indexed p (segmentIn p im ps w) (w .base) at

@@ -27,11 +27,11 @@ use Rattle.law_drives.specs.Tests.{cond-true}
 use Rattle.recover_groups.specs.declared.Group.{Group}
 use Rattle.recover_groups.specs.Bases.{group-len-fits}
 use Rattle.recover_groups.specs.Chunks.{chunk-present, entered-chunk}
-use Rattle.recover_groups.specs.Groups.{groupLen, Entered, segmentIn, Reads}
+use Rattle.recover_groups.specs.Groups.{groupLen, Entered, segmentIn, GroupReads}
 
 -- ---- stored
 
-module _ (p : Params) (im ps : List ℕ) (w : Group) (at : List ℕ) (r : Ranged p) (hi : length im ≡ imageLen p) (x : Reads p im ps w at)
+module _ (p : Params) (im ps : List ℕ) (w : Group) (at : List ℕ) (r : Ranged p) (hi : length im ≡ imageLen p) (x : GroupReads p im ps w at)
     (hz : w .seg < p .Z) (hb : w .base < p .S) (k : ℕ) (hk : k < groupLen p (w .base)) where
   abbrev seg-here : Segment
   seg-here = segmentIn p im ps w
@@ -61,9 +61,9 @@ module _ (p : Params) (im ps : List ℕ) (w : Group) (at : List ℕ) (r : Ranged
       ∙ block-view p (mkDisk im ps) d (w .seg) hd hz (record { image-long = hi; pointers-long = x .long }) (1 + o) (data-below p r (1 + o) (omega (arith, n .1, f)))
       ∙ ap (λ (y : ℕ). part (placeByte p (placeOf p d (w .seg) (1 + y))) (p .B) im) (sym e)
 
-  pub block-long : (d : ℕ) → d < p .N → Entered p (w .base) at d k → length (storedPiece seg-here (w .base + k) d .block) ≡ p .B
+  pub piece-block-long : (d : ℕ) → d < p .N → Entered p (w .base) at d k → length (storedPiece seg-here (w .base + k) d .block) ≡ p .B
   unfolding unitLen
-  block-long d hd h =
+  piece-block-long d hd h =
       let f = group-len-fits p (w .base) (omega (arith, hb)) in
       let o = w .base + getD at (256 * d + k) 0 - 1 in
       let a = block-within p d (zoneOn (w .seg) d) (1 + o) hd (zone-on-lt p (w .seg) d hz) (data-below p r (1 + o) (omega (arith, f, h .0, h .1))) in

@@ -14,9 +14,9 @@ ghost use Rattle.spec.specs.Lists.{keep, isIn};
 ghost use Rattle.spec.specs.Params.{inRange, imageLen, pointersLen, drivesOf, present};
 ghost use Rattle.spec.specs.Parity.{parityRec, parityPiece};
 ghost use Rattle.spec.specs.Segments.{Segment, recsOn, offsetOn, hasChunk, counts, storedPiece, storedRec, recOf, offsetOf};
-ghost use Rattle.disk_records.specs.Record.{recOf as recVal};
+ghost use Rattle.disk_records.specs.Record.{recVal};
 ghost use Rattle.law_views.specs.Views.{Whole};
-ghost use Rattle.recover_groups.specs.Groups.{groupLen, groupRecs, recsBad, groupFault, recsFault, Indexed, Entered, AllEntered, segmentIn, Reads, Row, SameBelow};
+ghost use Rattle.recover_groups.specs.Groups.{groupLen, groupRecs, recsBad, groupFault, recsFault, Indexed, Entered, AllEntered, segmentIn, GroupReads, Row, SameBelow};
 ghost use Rattle.recover_groups.specs.Entering.{isNew};
 ghost use Rattle.recover_groups.specs.Pieces.{addRec};
 use disk_records::Record;
@@ -308,7 +308,7 @@ pub fn stored_rec(p: Params, image: &[u8], w: Group, at: &[u16], drive: usize, k
     requires { ⌜ inRange p ≡ true ⌝ }
     requires { ⌜ (length (now image) ≡ imageLen p) × (length (now at) ≡ 2048) × (w .seg < p .Z) × (w .base < p .S) × (drive < p .N) × (k < groupLen p (w .base)) ⌝ }
     requires { ⌜ Entered p (w .base) (now at) drive k ⌝ }
-    ensures { λ r. ⌜ ((ps : List ℕ) → Reads p (now (image .entry)) ps w (now (at .entry)) → recVal r ≡ storedRec (segmentIn p (now (image .entry)) ps w) (w .base + k) drive) ⌝ }
+    ensures { λ r. ⌜ ((ps : List ℕ) → GroupReads p (now (image .entry)) ps w (now (at .entry)) → recVal r ≡ storedRec (segmentIn p (now (image .entry)) ps w) (w .base + k) drive) ⌝ }
 {
     let zone = disk_shape::zone_on(w.seg, drive);
     disk_stored::record_in(p, image, w.full, drive, zone, offset_on(w, at, drive, k))
@@ -340,7 +340,7 @@ fn add_rec(
     requires { ⌜ AllEntered p (w .gone) (w .base) (now at) k ⌝ }
     ensures { λ x. ⌜
         ((ps : List ℕ)
-        → Reads p (now (image .entry)) ps w (now (at .entry))
+        → GroupReads p (now (image .entry)) ps w (now (at .entry))
         → recVal x ≡ cond (isIn (w .gone) drive) (recVal r)
         (addRec (recVal r) (storedRec (segmentIn p (now (image .entry)) ps w) (w .base + k) drive))) ⌝ }
 {
@@ -357,7 +357,7 @@ pub fn lost_rec(p: Params, image: &[u8], w: Group, at: &[u16], k: usize) -> Reco
     requires { ⌜ AllEntered p (w .gone) (w .base) (now at) k ⌝ }
     ensures { λ r. ⌜
         ((ps : List ℕ)
-        → Reads p (now (image .entry)) ps w (now (at .entry))
+        → GroupReads p (now (image .entry)) ps w (now (at .entry))
         → recVal r ≡ parityRec (w .base + k) (map (storedRec (segmentIn p (now (image .entry)) ps w) (w .base + k)) (present p (w .gone)))) ⌝ }
 {
     let mut r = Record {
@@ -378,7 +378,7 @@ pub fn rec_of(p: Params, image: &[u8], w: Group, at: &[u16], drive: usize, k: us
     requires { ⌜ inRange p ≡ true ⌝ }
     requires { ⌜ (length (now image) ≡ imageLen p) × (length (now at) ≡ 2048) × (w .seg < p .Z) × (w .base < p .S) × (drive < p .N) × (k < groupLen p (w .base)) ⌝ }
     requires { ⌜ AllEntered p (w .gone) (w .base) (now at) k ⌝ }
-    ensures { λ r. ⌜ ((ps : List ℕ) → Reads p (now (image .entry)) ps w (now (at .entry)) → recVal r ≡ recOf p (w .gone) (segmentIn p (now (image .entry)) ps w) (w .base + k) drive) ⌝ }
+    ensures { λ r. ⌜ ((ps : List ℕ) → GroupReads p (now (image .entry)) ps w (now (at .entry)) → recVal r ≡ recOf p (w .gone) (segmentIn p (now (image .entry)) ps w) (w .base + k) drive) ⌝ }
 {
     if bits_masks::has_drive(w.gone, drive) {
         return lost_rec(p, image, w, at, k);
@@ -401,7 +401,7 @@ pub fn xor_block(
     requires { ⌜ Entered p (w .base) (now at) drive k ⌝ }
     ensures { λ _. ⌜
         ((ps : List ℕ)
-        → Reads p (now (image .entry)) ps w (now (at .entry))
+        → GroupReads p (now (image .entry)) ps w (now (at .entry))
         → now (block .exit) ≡ xors (now (block .entry)) (storedPiece (segmentIn p (now (image .entry)) ps w) (w .base + k) drive .block)) ⌝ }
 {
     let zone = disk_shape::zone_on(w.seg, drive);
@@ -423,7 +423,7 @@ pub fn copy_block(
     requires { ⌜ inRange p ≡ true ⌝ }
     requires { ⌜ (length (now image) ≡ imageLen p) × (length (now at) ≡ 2048) × (w .seg < p .Z) × (w .base < p .S) × (drive < p .N) × (k < groupLen p (w .base)) × (length (now block) ≡ p .B) ⌝ }
     requires { ⌜ Entered p (w .base) (now at) drive k ⌝ }
-    ensures { λ _. ⌜ ((ps : List ℕ) → Reads p (now (image .entry)) ps w (now (at .entry)) → now (block .exit) ≡ storedPiece (segmentIn p (now (image .entry)) ps w) (w .base + k) drive .block) ⌝ }
+    ensures { λ _. ⌜ ((ps : List ℕ) → GroupReads p (now (image .entry)) ps w (now (at .entry)) → now (block .exit) ≡ storedPiece (segmentIn p (now (image .entry)) ps w) (w .base + k) drive .block) ⌝ }
 {
     let zone = disk_shape::zone_on(w.seg, drive);
     let a = disk_shape::block_byte(p, drive, zone, 1 + offset_on(w, at, drive, k));
@@ -446,7 +446,7 @@ fn add_block(
     requires { ⌜ AllEntered p (w .gone) (w .base) (now at) k ⌝ }
     ensures { λ _. ⌜
         ((ps : List ℕ)
-        → Reads p (now (image .entry)) ps w (now (at .entry))
+        → GroupReads p (now (image .entry)) ps w (now (at .entry))
         → now (block .exit) ≡ cond (isIn (w .gone) drive) (now (block .entry))
         (xors (now (block .entry)) (storedPiece (segmentIn p (now (image .entry)) ps w) (w .base + k) drive .block))) ⌝ }
 {
@@ -463,7 +463,7 @@ pub fn lost_block(p: Params, image: &[u8], w: Group, at: &[u16], k: usize, block
     requires { ⌜ AllEntered p (w .gone) (w .base) (now at) k ⌝ }
     ensures { λ _. ⌜
         ((ps : List ℕ)
-        → Reads p (now (image .entry)) ps w (now (at .entry))
+        → GroupReads p (now (image .entry)) ps w (now (at .entry))
         → now (block .exit) ≡ parityPiece p (w .base + k)
         (map (storedPiece (segmentIn p (now (image .entry)) ps w) (w .base + k)) (present p (w .gone))) .block) ⌝ }
 {

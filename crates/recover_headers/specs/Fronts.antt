@@ -21,7 +21,7 @@ use Rattle.law_basic.specs.Ranges.{getD-map-below, keep-below-same, any-keep-sa
 use Rattle.law_scans.specs.Scans.{any-keep}
 use Rattle.law_views.specs.Views.{Whole, pointer-view, chunk-view}
 use Rattle.recover_segments.specs.Kept.{remaining-keep}
-use Rattle.recover_segments.specs.Remains.{remains, serialOf, Keeps, Serials, otherSerial}
+use Rattle.recover_segments.specs.Remains.{remainsHere, serialOf, Keeps, Serials, otherSerial}
 
 -- 01, Refusals, 9: a present drive's write pointer of zone z is above capacity, by the pointers' bytes
 unfoldable pub aboveBy : Params → List ℕ → ℕ → ℕ → Bool
@@ -58,13 +58,13 @@ module _ (p : Params) (im ptrs : List ℕ) (h : length im ≡ imageLen p) (k : l
       (λ d hd. ap (ltb (capacity p)) (pointer-view p (mkDisk im ptrs) d z hd hz whole)))
 
   -- a zone of a segment as read
-  pub zone-by : (gone g d : ℕ) → d < p .N → getD (segmentOf p (viewOf p im ptrs) gone g .zonesBy) d noZone ≡ zoneAt (viewOf p im ptrs) d (zoneOn g d)
+  pub zone-by-image : (gone g d : ℕ) → d < p .N → getD (segmentOf p (viewOf p im ptrs) gone g .zonesBy) d noZone ≡ zoneAt (viewOf p im ptrs) d (zoneOn g d)
   unfolding segmentOf drivesOf
-  zone-by gone g d hd = getD-map-below (λ e. zoneAt (viewOf p im ptrs) e (zoneOn g e)) (p .N) d noZone hd
+  zone-by-image gone g d hd = getD-map-below (λ e. zoneAt (viewOf p im ptrs) e (zoneOn g e)) (p .N) d noZone hd
 
-  seg-is : (gone g : ℕ) → segmentOf p (viewOf p im ptrs) gone g .seg ≡ g
+  seg-in-image : (gone g : ℕ) → segmentOf p (viewOf p im ptrs) gone g .seg ≡ g
   unfolding segmentOf
-  seg-is gone g = refl
+  seg-in-image gone g = refl
 
   pub header-list : (gone g serial copied : ℕ) → inRange p ≡ true → g < p .Z → serial ≡ segmentOf p (viewOf p im ptrs) gone g .serial
       → copied ≡ segmentOf p (viewOf p im ptrs) gone g .copied
@@ -76,15 +76,15 @@ module _ (p : Params) (im ptrs : List ℕ) (h : length im ≡ imageLen p) (k : l
       any-present p gone
       (λ d. not (sameChunk (getD (getD (x .zonesBy) d noZone .blocks) 0 noChunk) (headerBlock p d (zoneOn (x .seg) d) (x .serial) (x .copied)) zeroSpare))
       (headerOff p im g serial copied)
-      (λ d hd. λ j. not (sameChunk ((ap (λ (q : Zone). getD (q .blocks) 0 noChunk) (zone-by gone g d hd)
+      (λ d hd. λ j. not (sameChunk ((ap (λ (q : Zone). getD (q .blocks) 0 noChunk) (zone-by-image gone g d hd)
       ∙ chunk-view p (mkDisk im ptrs) d (zoneOn g d) hd (zone-on-lt p g d hg) whole 0 (omega (arith, capacity-low p (ranged p r)))) j)
-      (headerBlock p d (zoneOn (seg-is gone g j) d) (sym es j) (sym ec j)) zeroSpare))
+      (headerBlock p d (zoneOn (seg-in-image gone g j) d) (sym es j) (sym ec j)) zeroSpare))
 
   pub footer-list : (gone g : ℕ) → any (λ d. footerFaultIn p (getD (segmentOf p (viewOf p im ptrs) gone g .zonesBy) d noZone)) (present p gone)
       ≡ any (λ d. not (isIn gone d) && footerFaultIn p (zoneAt (viewOf p im ptrs) d (zoneOn g d))) (below (p .N))
   footer-list gone g =
       any-present p gone (λ d. footerFaultIn p (getD (segmentOf p (viewOf p im ptrs) gone g .zonesBy) d noZone)) (λ d. footerFaultIn p (zoneAt (viewOf p im ptrs) d (zoneOn g d)))
-      (λ d hd. ap (footerFaultIn p) (zone-by gone g d hd))
+      (λ d hd. ap (footerFaultIn p) (zone-by-image gone g d hd))
 
 -- ---- footer blocks
 
@@ -98,14 +98,14 @@ not-all {A} f (a ∷ l) = go (f a) (not-all f l)
     go false e = refl
 
 -- equal blocks, one by one
-same-blocks : (cs : List Chunk) (f : ℕ → List ℕ) (a i n : ℕ) → a + i + n ≤ length cs
+same-blocks-all : (cs : List Chunk) (f : ℕ → List ℕ) (a i n : ℕ) → a + i + n ≤ length cs
     → sameBlocks (blocksOf (take n (drop (a + i) cs))) (map f (upFrom i n)) ≡ all (λ k. sameList (getD cs (a + k) noChunk .block) (f k)) (upFrom i n)
 unfolding sameBlocks blocksOf upFrom all
-same-blocks cs f a i zero h = refl
-same-blocks cs f a i (suc n) h =
+same-blocks-all cs f a i zero h = refl
+same-blocks-all cs f a i (suc n) h =
     ap (λ (x : List Chunk). sameBlocks (blocksOf (take (suc n) x)) (f i ∷ map f (upFrom (suc i) n))) (drop-cons cs (a + i) noChunk (omega arith))
     ∙ ap (λ (b : Bool). sameList (getD cs (a + i) noChunk .block) (f i) && b)
-    (ap (λ (x : ℕ). sameBlocks (blocksOf (take n (drop x cs))) (map f (upFrom (suc i) n))) (sym (add-suc a i)) ∙ same-blocks cs f a (suc i) n (omega arith))
+    (ap (λ (x : ℕ). sameBlocks (blocksOf (take n (drop x cs))) (map f (upFrom (suc i) n))) (sym (add-suc a i)) ∙ same-blocks-all cs f a (suc i) n (omega arith))
 
 stored-le : (p : Params) (q : Zone) → footersStored p q ≤ footers p
 unfolding footersStored
@@ -118,7 +118,7 @@ footer-any p q long =
     let n = footersStored p q in
     let f = footerBlock p (sparesOf (take (p .S) (drop 1 (q .blocks)))) in
     ap not (ap (λ (x : ℕ). sameBlocks (blocksOf (take n (drop x (q .blocks)))) (map f (upFrom 0 n))) (sym (add-zero (1 + p .S)))
-    ∙ same-blocks (q .blocks) f (1 + p .S) 0 n (omega (arith, long, stored-le p q)))
+    ∙ same-blocks-all (q .blocks) f (1 + p .S) 0 n (omega (arith, long, stored-le p q)))
     ∙ not-all (λ i. sameList (getD (q .blocks) (1 + p .S + i) noChunk .block) (f i)) (upFrom 0 n)
 
 -- ---- for the loops
@@ -142,8 +142,8 @@ serial-list p v gone g flags serials hg hk hs =
     let f : ℕ → Bool = λ h. not (eqb h g) && eqb (serialOf p v gone h) (serialOf p v gone g) in
     λ j. leb (sym (hs .1 g hg) j) (segmentOf p v gone g .copied)
     || (any-map (λ (h : Segment). not (eqb (h .seg) g) && eqb (h .serial) (serialOf p v gone g)) (segmentOf p v gone) (remaining p v gone)
-    ∙ ap (any f) (remaining-keep p v gone) ∙ any-keep (remains p v gone) f (below (p .Z))
-    ∙ any-below-same (λ h. remains p v gone h && f h) (λ h. getD flags h false && (not (eqb h g) && eqb (getD serials h 0) s)) (p .Z)
+    ∙ ap (any f) (remaining-keep p v gone) ∙ any-keep (remainsHere p v gone) f (below (p .Z))
+    ∙ any-below-same (λ h. remainsHere p v gone h && f h) (λ h. getD flags h false && (not (eqb h g) && eqb (getD serials h 0) s)) (p .Z)
     (λ h hh. λ i. sym (hk .1 h hh) i && (not (eqb h g) && eqb (sym (hs .1 h hh) i) (sym (hs .1 g hg) i)))) j
 
 -- a segment's serials as read
@@ -155,8 +155,8 @@ seg-serial p v gone g = refl
 pub front-header : (f s : Bool) → f ≡ true → true ≡ (f || s)
 front-header f s e = sym (ap (λ (b : Bool). b || s) e)
 
-pub front-serial : (f s l o : Bool) → f ≡ false → s ≡ (l || o) → l ≡ true → true ≡ (f || s)
-front-serial f s l o e q h = sym (ap₂ (λ (x y : Bool). x || y) e (q ∙ ap (λ (b : Bool). b || o) h))
+pub fault-by-left : (f s l o : Bool) → f ≡ false → s ≡ (l || o) → l ≡ true → true ≡ (f || s)
+fault-by-left f s l o e q h = sym (ap₂ (λ (x y : Bool). x || y) e (q ∙ ap (λ (b : Bool). b || o) h))
 
 pub front-other : (f s l o r : Bool) → f ≡ false → s ≡ (l || o) → l ≡ false → r ≡ o → r ≡ (f || s)
 front-other f s l o r e q h k = k ∙ sym (ap₂ (λ (x y : Bool). x || y) e (q ∙ ap (λ (b : Bool). b || o) h))

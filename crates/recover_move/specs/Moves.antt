@@ -10,7 +10,7 @@ use Rattle.spec.specs.Restart.{movedPieces, movedOn, movedStripe, movedStripes}
 use Rattle.spec.specs.Segments.{Segment, segmentOf, putPiece}
 use Rattle.spec.specs.declared.Params.{Params}
 use Rattle.recover_drop.specs.Going.{owes-cut, owes-done, Going, going-start, going-turn, going-kept, going-first}
-use Rattle.recover_groups.specs.Groups.{groupLen, Indexed, segmentIn, Reads}
+use Rattle.recover_groups.specs.Groups.{groupLen, Indexed, segmentIn, GroupReads}
 use Rattle.recover_groups.specs.declared.Group.{Group}
 use Rattle.law_basic.specs.Geometry.{Ranged}
 use Rattle.law_basic.specs.Ranges.{upFrom-step, upFrom-end, below-start, keep-miss, keep-none}
@@ -126,7 +126,7 @@ module _ (p : Params) (r : Ranged p) (n : ℕ) (ss : List Store) (k₀ : Disk) (
     moves-in = (λ j. segmentOf p (seen p k₀) (ng j) (ws j)) ∙ moves-found ∙ sym (λ j. segmentOf p (seen p k) (ng j) (ws j))
 
     -- so the index of a group of it stays right
-    pub moves-reads : (at : List ℕ) → Reads p (k₀ .image) (k₀ .pointers) w at → Reads p (k .image) (k .pointers) w at
+    pub moves-reads : (at : List ℕ) → GroupReads p (k₀ .image) (k₀ .pointers) w at → GroupReads p (k .image) (k .pointers) w at
     moves-reads at x = record {
       long = g .going .whole .pointers-long;
       full-right = x .full-right ∙ (λ j. sealedIn p (seen p k₀) (ng j) (ws j)) ∙ moves-sealed ∙ sym (λ j. sealedIn p (seen p k) (ng j) (ws j));
@@ -136,14 +136,14 @@ module _ (p : Params) (r : Ranged p) (n : ℕ) (ss : List Store) (k₀ : Disk) (
 -- ---- a group of the segment, and a stripe of it
 
 -- stripe i of the group: numbers in range
-pub record Shown (p : Params) (w : Group) (at : List ℕ) (i : ℕ) : Type 0 where
+pub record MovesShown (p : Params) (w : Group) (at : List ℕ) (i : ℕ) : Type 0 where
   pub at-long : length at ≡ 2048
   pub seg-low : w .seg < p .Z
   pub base-low : w .base < p .S
   pub in-group : i < groupLen p (w .base)
   pub none-gone : w .gone ≡ 0
 
-pub shown-low : (p : Params) (w : Group) (at : List ℕ) (i : ℕ) → Shown p w at i → w .base + i < p .S
+pub shown-low : (p : Params) (w : Group) (at : List ℕ) (i : ℕ) → MovesShown p w at i → w .base + i < p .S
 unfolding groupLen
 shown-low p w at i h = omega (arith, h .base-low, h .in-group)
 
@@ -157,14 +157,15 @@ module _ (p : Params) (r : Ranged p) (n : ℕ) (k₀ : Disk) (w : Group) (hw : w
   each d = movedTo p (segmentIn p (k₀ .image) (k₀ .pointers) w) z s m d
 
   -- those from drive d on are still to be done
-  abbrev pub Row : ℕ → ℕ → Disk → Type 0
-  Row d left k = Moves p n (movedStripe p (segmentIn p (k₀ .image) (k₀ .pointers) w) z s m) k₀ (w .seg) (map (movedTo p (segmentIn p (k₀ .image) (k₀ .pointers) w) z s m) (upFrom d (p .N - d))) left k
+  abbrev pub RowMoves : ℕ → ℕ → Disk → Type 0
+  RowMoves d left k =
+      Moves p n (movedStripe p (segmentIn p (k₀ .image) (k₀ .pointers) w) z s m) k₀ (w .seg) (map (movedTo p (segmentIn p (k₀ .image) (k₀ .pointers) w) z s m) (upFrom d (p .N - d))) left k
 
-  pub row-start : Whole p k₀ → AllFit p (seen p k₀) (movedStripe p (segmentIn p (k₀ .image) (k₀ .pointers) w) z s m) → Row 0 n k₀
-  row-start wh f = moves-as p n (movedStripe p x z s m) k₀ (w .seg) (movedStripe p x z s m) (map each (upFrom 0 (p .N - 0))) n k₀ (stripe-are p x z s m ∙ ap (map each) (below-start (p .N)))
+  pub row-moves-start : Whole p k₀ → AllFit p (seen p k₀) (movedStripe p (segmentIn p (k₀ .image) (k₀ .pointers) w) z s m) → RowMoves 0 n k₀
+  row-moves-start wh f = moves-as p n (movedStripe p x z s m) k₀ (w .seg) (movedStripe p x z s m) (map each (upFrom 0 (p .N - 0))) n k₀ (stripe-are p x z s m ∙ ap (map each) (below-start (p .N)))
       (moves-start p n (movedStripe p x z s m) k₀ (w .seg) wh f)
 
-  module _ (d left : ℕ) (k : Disk) (g : Row d left k) where
+  module _ (d left : ℕ) (k : Disk) (g : RowMoves d left k) where
     pub row-done : p .N ≤ d → Storing p n (movedStripe p x z s m) k₀ (record { left = left; cut = false }) k
     row-done h =
         moves-done p n (movedStripe p x z s m) k₀ (w .seg) left k
@@ -174,27 +175,27 @@ module _ (p : Params) (r : Ranged p) (n : ℕ) (k₀ : Disk) (w : Group) (hw : w
       abbrev rest : List Store
       rest = map each (upFrom (d + 1) (p .N - (d + 1)))
 
-      step : Moves p n (movedStripe p x z s m) k₀ (w .seg) ((each d ∷ []) ++ rest) left k
-      step = moves-as p n (movedStripe p x z s m) k₀ (w .seg) (map each (upFrom d (p .N - d))) ((each d ∷ []) ++ rest) left k (ap (map each) (upFrom-step d (p .N) l)) g
+      drive-piece-step : Moves p n (movedStripe p x z s m) k₀ (w .seg) ((each d ∷ []) ++ rest) left k
+      drive-piece-step = moves-as p n (movedStripe p x z s m) k₀ (w .seg) (map each (upFrom d (p .N - d))) ((each d ∷ []) ++ rest) left k (ap (map each) (upFrom-step d (p .N) l)) g
 
       -- the zone has room
       pub row-room : pointerOf p (k .pointers) d (zoneOn z d) < capacity p
-      row-room = as! (moves-first p n (movedStripe p x z s m) k₀ (w .seg) (each d ∷ []) rest left k step)
+      row-room = as! (moves-first p n (movedStripe p x z s m) k₀ (w .seg) (each d ∷ []) rest left k drive-piece-step)
         where
           as! : AllFit p (seen p k) (each d ∷ []) → pointerOf p (k .pointers) d (zoneOn z d) < capacity p
           as! f = unfold movedTo putPiece in subst (λ (y : ℕ). y < capacity p) (pointer-view p k d (zoneOn z d) (f .0 .0) (f .0 .1) (g .going .whole)) (f .0 .2)
 
       module _ (made : Made) (k′ : Disk) (st : Storing p left (movedTo p (segmentIn p (k .image) (k .pointers) w) z s m d ∷ []) k made k′) where
-        this : Storing p left (each d ∷ []) k made k′
-        this =
+        piece-stored : Storing p left (each d ∷ []) k made k′
+        piece-stored =
             subst (λ (y : Segment). Storing p left (movedTo p y z s m d ∷ []) k made k′)
             (sym (moves-in p r n (movedStripe p x z s m) k₀ (w .seg) (map each (upFrom d (p .N - d))) left k g w ng refl)) st
 
         pub row-cut : made .cut ≡ true → Storing p n (movedStripe p x z s m) k₀ made k′
-        row-cut c = moves-cut p n (movedStripe p x z s m) k₀ (w .seg) (each d ∷ []) rest left k made k′ step this c
+        row-cut c = moves-cut p n (movedStripe p x z s m) k₀ (w .seg) (each d ∷ []) rest left k made k′ drive-piece-step piece-stored c
 
-        pub row-turn : made .cut ≡ false → Row (d + 1) (made .left) k′
-        row-turn c = moves-turn p r n (movedStripe p x z s m) k₀ (w .seg) hw (each d ∷ []) rest left k made k′ step this c (λ e he. one-misses p x z s m d e (w .seg) ne)
+        pub row-turn : made .cut ≡ false → RowMoves (d + 1) (made .left) k′
+        row-turn c = moves-turn p r n (movedStripe p x z s m) k₀ (w .seg) hw (each d ∷ []) rest left k made k′ drive-piece-step piece-stored c (λ e he. one-misses p x z s m d e (w .seg) ne)
 
 -- ---- one chunk
 

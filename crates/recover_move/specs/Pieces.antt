@@ -8,8 +8,8 @@ use Rattle.spec.specs.Parity.{Piece, mkPiece, parityRec, parityPiece}
 use Rattle.spec.specs.Restart.{renumbered, movedPieces, movedOn}
 use Rattle.spec.specs.Segments.{Segment, storedPiece, storedRec}
 use Rattle.spec.specs.declared.Params.{Params}
-use Rattle.recover_groups.specs.Groups.{groupLen, AllEntered, segmentIn, Reads}
-use Rattle.recover_groups.specs.Pieces.{block-long}
+use Rattle.recover_groups.specs.Groups.{groupLen, AllEntered, segmentIn, GroupReads}
+use Rattle.recover_groups.specs.Pieces.{piece-block-long}
 use Rattle.recover_groups.specs.declared.Group.{Group}
 use Rattle.law_basic.specs.Geometry.{Ranged, data-drive-lt, position-lt}
 use Rattle.law_basic.specs.Mask.{isIn-empty}
@@ -32,8 +32,8 @@ unfolding renumbered storedPiece storedRec
 piece-moved g s d n b q e a t m = λ j. mkPiece (e j) (mkRec (a j) (t j) (m j))
 
 module _ (p : Params) (g : Segment) (s n : ℕ) where
-  abbrev pub moved : List Piece
-  moved = movedPieces p g s n
+  abbrev pub piecesMoved : List Piece
+  piecesMoved = movedPieces p g s n
 
   -- the data of the stripe, by position
   abbrev pub dataAt : ℕ → Piece
@@ -44,17 +44,17 @@ module _ (p : Params) (g : Segment) (s n : ℕ) where
   moved-are = map-map (λ d. renumbered n (storedPiece g s d)) (dataDrive p s) (below (dataCount p))
 
   -- what a data drive gets
-  pub moved-data : (d : ℕ) → d < p .N → isData p n d ≡ true → renumbered n (storedPiece g s (dataDrive p s (dataPosition p n d))) ≡ movedOn p (movedPieces p g s n) n d
+  pub renumbered-data : (d : ℕ) → d < p .N → isData p n d ≡ true → renumbered n (storedPiece g s (dataDrive p s (dataPosition p n d))) ≡ movedOn p (movedPieces p g s n) n d
   unfolding movedOn
-  moved-data d hd q =
+  renumbered-data d hd q =
       sym (cond-true (isData p n d) (getD (movedPieces p g s n) (dataPosition p n d) (mkPiece [] (mkRec 0 0 0))) (parityPiece p n (movedPieces p g s n)) q
       ∙ ap (λ (l : List Piece). getD l (dataPosition p n d) (mkPiece [] (mkRec 0 0 0))) moved-are
       ∙ getD-map-below (λ i. renumbered n (storedPiece g s (dataDrive p s i))) (dataCount p) (dataPosition p n d) (mkPiece [] (mkRec 0 0 0)) (position-lt p n d q hd))
 
   -- what the parity drive gets
-  pub moved-parity : (d : ℕ) → isData p n d ≡ false → parityPiece p n (movedPieces p g s n) ≡ movedOn p (movedPieces p g s n) n d
+  pub parity-moved : (d : ℕ) → isData p n d ≡ false → parityPiece p n (movedPieces p g s n) ≡ movedOn p (movedPieces p g s n) n d
   unfolding movedOn
-  moved-parity d q = sym (cond-false (isData p n d) (getD (movedPieces p g s n) (dataPosition p n d) (mkPiece [] (mkRec 0 0 0))) (parityPiece p n (movedPieces p g s n)) q)
+  parity-moved d q = sym (cond-false (isData p n d) (getD (movedPieces p g s n) (dataPosition p n d) (mkPiece [] (mkRec 0 0 0))) (parityPiece p n (movedPieces p g s n)) q)
 
   -- ---- parity: block and record after the first i data chunks
 
@@ -123,7 +123,7 @@ module _ (p : Params) (g : Segment) (s n : ℕ) where
 -- ---- as the code goes
 
 module _ (p : Params) (r : Ranged p) (im ps : List ℕ) (w : Group) (at : List ℕ) (k n : ℕ) (long : length im ≡ imageLen p) (hs : w .seg < p .Z) (hb : w .base < p .S) (hk : k < groupLen p (w .base))
-    (en : AllEntered p 0 (w .base) at k) (x : Reads p im ps w at) where
+    (en : AllEntered p 0 (w .base) at k) (x : GroupReads p im ps w at) where
   abbrev g : Segment
   g = segmentIn p im ps w
 
@@ -146,12 +146,12 @@ module _ (p : Params) (r : Ranged p) (im ps : List ℕ) (w : Group) (at : List �
       xored-turn p g (w .base + k) n i b b′ q q′ xi
       (λ j h.
       let hd : dataDrive p (w .base + k) j < p .N = data-drive-lt p (w .base + k) j (omega arith) in
-      block-long p im ps w at r long x hs hb k hk (dataDrive p (w .base + k) j) hd (en (dataDrive p (w .base + k) j) hd (isIn-empty (dataDrive p (w .base + k) j))))
+      piece-block-long p im ps w at r long x hs hb k hk (dataDrive p (w .base + k) j) hd (en (dataDrive p (w .base + k) j) hd (isIn-empty (dataDrive p (w .base + k) j))))
       (eb ∙ ap (λ (d : ℕ). xors b (storedPiece g (w .base + k) d .block)) e)
       (a ∙ ap (λ (z : Rec). bitXor (q .address) (z .address)) (ey ∙ ap (storedRec g (w .base + k)) e))
       (t ∙ ap (λ (z : Rec). bitXor (q .stamp) (z .stamp)) (ey ∙ ap (storedRec g (w .base + k)) e))
       m
 
-pub data-count : (p : Params) → dataCount p ≡ p .N - 1
+pub data-count-minus : (p : Params) → dataCount p ≡ p .N - 1
 unfolding dataCount
-data-count p = refl
+data-count-minus p = refl

@@ -10,10 +10,10 @@ ghost use Rattle.spec.specs.Params.{inRange, dataCount, capacity, imageLen};
 ghost use Rattle.spec.specs.Parity.{mkPiece, parityPiece};
 ghost use Rattle.spec.specs.Restart.{renumbered, movedPieces, movedOn, movedStripe};
 ghost use Rattle.spec.specs.Segments.{storedPiece};
-ghost use Rattle.disk_records.specs.Record.{recOf as recVal};
+ghost use Rattle.disk_records.specs.Record.{recVal};
 ghost use Rattle.law_views.specs.Views.{Whole, AllFit};
-ghost use Rattle.recover_groups.specs.Groups.{AllEntered, segmentIn, Reads};
-ghost use Rattle.recover_move.specs.Moves.{Shown, movedTo};
+ghost use Rattle.recover_groups.specs.Groups.{AllEntered, segmentIn, GroupReads};
+ghost use Rattle.recover_move.specs.Moves.{MovesShown, movedTo};
 ghost use Rattle.disk_zones.specs.Made.{Storing};
 use disk_records::Record;
 use disk_zones::Made;
@@ -34,12 +34,12 @@ fn moved_data(
     block: &mut [u8],
 ) -> Record
     requires { ⌜ inRange p ≡ true ⌝ }
-    requires { ⌜ Shown p w (now at) k ⌝ }
+    requires { ⌜ MovesShown p w (now at) k ⌝ }
     requires { ⌜ AllEntered p 0 (w .base) (now at) k ⌝ }
     requires { ⌜ (length (now image) ≡ imageLen p) × (length (now block) ≡ p .B) × (i < dataCount p) × (s < 65536) ⌝ }
     ensures { λ r. ⌜
         ((ps : List ℕ)
-        → Reads p (now (image .entry)) ps w (now (at .entry))
+        → GroupReads p (now (image .entry)) ps w (now (at .entry))
         → mkPiece (now (block .exit)) (recVal r) ≡ renumbered s
         (storedPiece (segmentIn p (now (image .entry)) ps w) (w .base + k) (dataDrive p (w .base + k) i))) ⌝ }
 {
@@ -66,12 +66,12 @@ fn moved_parity(
     block: &mut [u8],
 ) -> Record
     requires { ⌜ inRange p ≡ true ⌝ }
-    requires { ⌜ Shown p w (now at) k ⌝ }
+    requires { ⌜ MovesShown p w (now at) k ⌝ }
     requires { ⌜ AllEntered p 0 (w .base) (now at) k ⌝ }
     requires { ⌜ (length (now image) ≡ imageLen p) × (length (now block) ≡ p .B) × (s < 65536) ⌝ }
     ensures { λ r. ⌜
         ((ps : List ℕ)
-        → Reads p (now (image .entry)) ps w (now (at .entry))
+        → GroupReads p (now (image .entry)) ps w (now (at .entry))
         → mkPiece (now (block .exit)) (recVal r) ≡ parityPiece p s (movedPieces p (segmentIn p (now (image .entry)) ps w) (w .base + k) s)) ⌝ }
 {
     disk_blocks::clear(block);
@@ -102,12 +102,12 @@ fn moved_chunk(
     block: &mut [u8],
 ) -> Record
     requires { ⌜ inRange p ≡ true ⌝ }
-    requires { ⌜ Shown p w (now at) k ⌝ }
+    requires { ⌜ MovesShown p w (now at) k ⌝ }
     requires { ⌜ AllEntered p 0 (w .base) (now at) k ⌝ }
     requires { ⌜ (length (now image) ≡ imageLen p) × (length (now block) ≡ p .B) × (drive < p .N) × (s < 65536) ⌝ }
     ensures { λ r. ⌜
         ((ps : List ℕ)
-        → Reads p (now (image .entry)) ps w (now (at .entry))
+        → GroupReads p (now (image .entry)) ps w (now (at .entry))
         → mkPiece (now (block .exit)) (recVal r) ≡ movedOn p (movedPieces p (segmentIn p (now (image .entry)) ps w) (w .base + k) s) s drive) ⌝ }
 {
     if disk_shape::is_data(p, s, drive) {
@@ -133,9 +133,9 @@ fn move_with(
 ) -> Made
     requires { ⌜ inRange p ≡ true ⌝ }
     requires { ⌜ Whole p (mkDisk (now image) (now pointers)) ⌝ }
-    requires { ⌜ Shown p w (now at) k ⌝ }
+    requires { ⌜ MovesShown p w (now at) k ⌝ }
     requires { ⌜ AllEntered p 0 (w .base) (now at) k ⌝ }
-    requires { ⌜ Reads p (now image) (now pointers) w (now at) ⌝ }
+    requires { ⌜ GroupReads p (now image) (now pointers) w (now at) ⌝ }
     requires { ⌜ (drive < p .N) × (to < p .Z) × (s < 65536) × (length (now block) ≡ p .B) × (pointerOf p (now pointers) drive (zoneOn to drive) < capacity p) ⌝ }
     ensures { λ r. ⌜
         Storing p count (movedTo p (segmentIn p (now (image .entry)) (now (pointers .entry)) w) to (w .base + k) s drive ∷ [])
@@ -163,9 +163,9 @@ fn move_chunk(
 ) -> Made
     requires { ⌜ inRange p ≡ true ⌝ }
     requires { ⌜ Whole p (mkDisk (now image) (now pointers)) ⌝ }
-    requires { ⌜ Shown p w (now at) k ⌝ }
+    requires { ⌜ MovesShown p w (now at) k ⌝ }
     requires { ⌜ AllEntered p 0 (w .base) (now at) k ⌝ }
-    requires { ⌜ Reads p (now image) (now pointers) w (now at) ⌝ }
+    requires { ⌜ GroupReads p (now image) (now pointers) w (now at) ⌝ }
     requires { ⌜ (drive < p .N) × (to < p .Z) × (s < 65536) × (pointerOf p (now pointers) drive (zoneOn to drive) < capacity p) ⌝ }
     ensures { λ r. ⌜
         Storing p count (movedTo p (segmentIn p (now (image .entry)) (now (pointers .entry)) w) to (w .base + k) s drive ∷ [])
@@ -202,9 +202,9 @@ pub fn move_stripe(
 ) -> Made
     requires { ⌜ inRange p ≡ true ⌝ }
     requires { ⌜ Whole p (mkDisk (now image) (now pointers)) ⌝ }
-    requires { ⌜ Shown p w (now at) k ⌝ }
+    requires { ⌜ MovesShown p w (now at) k ⌝ }
     requires { ⌜ AllEntered p 0 (w .base) (now at) k ⌝ }
-    requires { ⌜ Reads p (now image) (now pointers) w (now at) ⌝ }
+    requires { ⌜ GroupReads p (now image) (now pointers) w (now at) ⌝ }
     requires { ⌜ (to < p .Z) × (s < 65536) × (to ≡ w .seg → ⊥) ⌝ }
     requires { ⌜ AllFit p (viewOf p (now image) (now pointers)) (movedStripe p (segmentIn p (now image) (now pointers) w) to (w .base + k) s) ⌝ }
     ensures { λ r. ⌜

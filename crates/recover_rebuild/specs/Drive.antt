@@ -16,7 +16,7 @@ use Rattle.spec.specs.Rebuild.{rebuiltZone, rebuildStores}
 use Rattle.spec.specs.Segments.{segmentOf, segments}
 use Rattle.law_basic.specs.Geometry.{Ranged}
 use Rattle.law_views.specs.Views.{Whole, pointer-view, AllFit, seen}
-use Rattle.recover_segments.specs.Remains.{Keeps, remains}
+use Rattle.recover_segments.specs.Remains.{Keeps, remainsHere}
 use Rattle.law_drives.specs.Frame.{Agree}
 use Rattle.law_drives.specs.Image.{sized-of}
 use Rattle.law_drives.specs.Masks.{named-in, low-present}
@@ -33,7 +33,7 @@ use Rattle.recover_groups.specs.Groups.{recsFault}
 use Rattle.recover_segments.specs.Kept.{segments-keep}
 use Rattle.recover_reset.specs.Rebuilt.{rebuilt-apart, same-rebuilt}
 use Rattle.recover_decode.specs.Group.{same-recs-fault}
-use Rattle.recover_decode.specs.Moving.{OnDrive, Moving, moving-start, moving-as, moving-cut, moving-turn, moving-done, off-left}
+use Rattle.recover_decode.specs.Moving.{OnDrive, Moving, moving-start, moving-as, moving-cut, moving-turn, moving-done, drive-apart}
 
 -- 01, Rebuild: the stores of segment g, if it is flagged
 unfoldable pub oneStores : Params → ℕ → View → List Bool → ℕ → List Store
@@ -61,22 +61,22 @@ flat-kept q f (z ∷ l) = go (q z) (flat-kept q f l)
     go false ih = ih
 
 -- flags that say which segments remain
-pub stores-are : (p : Params) (d : ℕ) (v : View) (flags : List Bool) → Keeps p v (named d) flags → driveStores p d v flags ≡ rebuildStores p d (segments p v (named d))
+pub drive-stores-are : (p : Params) (d : ℕ) (v : View) (flags : List Bool) → Keeps p v (named d) flags → driveStores p d v flags ≡ rebuildStores p d (segments p v (named d))
 unfolding driveStores driveResets zonesStores oneStores rebuildStores
-stores-are p d v flags h =
+drive-stores-are p d v flags h =
     let gone = named d in
     ap (λ (l : List Store). map (λ z. reset d z) (below (p .Z)) ++ l)
-    (flat-cong (λ g. cond (getD flags g false) (rebuiltZone p d (segmentOf p v gone g)) []) (λ g. cond (remains p v gone g) (rebuiltZone p d (segmentOf p v gone g)) []) (below (p .Z))
+    (flat-cong (λ g. cond (getD flags g false) (rebuiltZone p d (segmentOf p v gone g)) []) (λ g. cond (remainsHere p v gone g) (rebuiltZone p d (segmentOf p v gone g)) []) (below (p .Z))
     (λ g m. ap (λ (b : Bool). cond b (rebuiltZone p d (segmentOf p v gone g)) []) (h .1 g (below-in (p .Z) g m)))
-    ∙ sym (flat-kept (remains p v gone) (λ g. rebuiltZone p d (segmentOf p v gone g)) (below (p .Z)))
-    ∙ sym (flat-map (rebuiltZone p d) (segmentOf p v gone) (keep (remains p v gone) (below (p .Z))))
+    ∙ sym (flat-kept (remainsHere p v gone) (λ g. rebuiltZone p d (segmentOf p v gone g)) (below (p .Z)))
+    ∙ sym (flat-map (rebuiltZone p d) (segmentOf p v gone) (keep (remainsHere p v gone) (below (p .Z))))
     ∙ ap (flat (rebuiltZone p d)) (sym (segments-keep p v gone)))
 
 -- ---- one segment
 
-pub one-kept : (p : Params) (d : ℕ) (v : View) (flags : List Bool) (g : ℕ) (b : Bool) → b ≡ getD flags g false → cond b (rebuiltZone p d (segmentOf p v (named d) g)) [] ≡ oneStores p d v flags g
+pub one-stores-are : (p : Params) (d : ℕ) (v : View) (flags : List Bool) (g : ℕ) (b : Bool) → b ≡ getD flags g false → cond b (rebuiltZone p d (segmentOf p v (named d) g)) [] ≡ oneStores p d v flags g
 unfolding oneStores
-one-kept p d v flags g b e = ap (λ (x : Bool). cond x (rebuiltZone p d (segmentOf p v (named d) g)) []) e
+one-stores-are p d v flags g b e = ap (λ (x : Bool). cond x (rebuiltZone p d (segmentOf p v (named d) g)) []) e
 
 one-apart : (p : Params) (d : ℕ) (v : View) (flags : List Bool) (g e y : ℕ) → (eqb d e && eqb g y) ≡ false → hits e y (oneStores p d v flags g) ≡ []
 unfolding oneStores
@@ -86,14 +86,14 @@ one-apart p d v flags g e y q = go (getD flags g false)
     go true = rebuilt-apart p d (segmentOf p v (named d) g) e y (unfold zoneOn in (ap (λ (x : ℕ). eqb d e && eqb x y) (seg-is p v (named d) g) ∙ q))
     go false = unfold keep in refl
 
-same-one : (p : Params) (r : Ranged p) (d : ℕ) (hd : d < p .N) (v u : View) → Agree p (named d) v u → (flags : List Bool) (g : ℕ) → g < p .Z → oneStores p d v flags g ≡ oneStores p d u flags g
+one-stores-same : (p : Params) (r : Ranged p) (d : ℕ) (hd : d < p .N) (v u : View) → Agree p (named d) v u → (flags : List Bool) (g : ℕ) → g < p .Z → oneStores p d v flags g ≡ oneStores p d u flags g
 unfolding oneStores
-same-one p r d hd v u ag flags g hg =
+one-stores-same p r d hd v u ag flags g hg =
     ap (λ (l : List Store). cond (getD flags g false) l []) (same-rebuilt p d v u (low-present p r d hd) (named-in p r d hd) ag g hg)
 
 pub same-zones : (p : Params) (r : Ranged p) (d : ℕ) (hd : d < p .N) (v u : View) → Agree p (named d) v u → (flags : List Bool) → zonesStores p d v flags ≡ zonesStores p d u flags
 unfolding zonesStores
-same-zones p r d hd v u ag flags = flat-cong (oneStores p d v flags) (oneStores p d u flags) (below (p .Z)) (λ g m. same-one p r d hd v u ag flags g (below-in (p .Z) g m))
+same-zones p r d hd v u ag flags = flat-cong (oneStores p d v flags) (oneStores p d u flags) (below (p .Z)) (λ g m. one-stores-same p r d hd v u ag flags g (below-in (p .Z) g m))
 
 -- ---- segment by segment
 
@@ -102,17 +102,17 @@ abbrev pub GoodRecs : Params → ℕ → View → List Bool → Type 0
 GoodRecs p d v flags = (g : ℕ) → g < p .Z → getD flags g false ≡ true → recsFault p (named d) (segmentOf p v (named d) g) ≡ false
 
 -- the drive's zones from z on are empty
-abbrev pub EmptyFrom : Params → ℕ → ℕ → List ℕ → Type 0
-EmptyFrom p d g ps = (z : ℕ) → g ≤ z → z < p .Z → pointerOf p ps d z ≡ 0
+abbrev pub ZonesEmptyFrom : Params → ℕ → ℕ → List ℕ → Type 0
+ZonesEmptyFrom p d g ps = (z : ℕ) → g ≤ z → z < p .Z → pointerOf p ps d z ≡ 0
 
 module _ (p : Params) (d n : ℕ) (flags : List Bool) (k₀ : Disk) where
   -- those from segment g on are left
   pub record Zones (g left : ℕ) (k : Disk) : Type 0 where
     pub upto : g ≤ p .Z
     pub moving : Moving p (named d) n (zonesStores p d (seen p k₀) flags) k₀ (flat (oneStores p d (seen p k₀) flags) (upFrom g (p .Z - g))) left k
-    pub empty : EmptyFrom p d g (k .pointers)
+    pub empty : ZonesEmptyFrom p d g (k .pointers)
 
-  pub zones-start : Whole p k₀ → AllFit p (seen p k₀) (zonesStores p d (seen p k₀) flags) → EmptyFrom p d 0 (k₀ .pointers) → Zones 0 n k₀
+  pub zones-start : Whole p k₀ → AllFit p (seen p k₀) (zonesStores p d (seen p k₀) flags) → ZonesEmptyFrom p d 0 (k₀ .pointers) → Zones 0 n k₀
   zones-start w f e = record {
     upto = omega arith;
     moving = moving-as p (named d) n ss k₀ ss (flat (oneStores p d (seen p k₀) flags) (upFrom 0 (p .Z - 0))) n k₀ as! (moving-start p (named d) n ss k₀ w f);
@@ -140,28 +140,29 @@ module _ (p : Params) (r : Ranged p) (d n : ℕ) (hd : d < p .N) (flags : List B
   abbrev whole! : List Store
   whole! = zonesStores p d (seen p k₀) flags
 
-  step : Moving p (named d) n whole! k₀ (ours ++ rest) left k
-  step = moving-as p (named d) n whole! k₀ (flat (oneStores p d (seen p k₀) flags) (upFrom g (p .Z - g))) (ours ++ rest) left k (flat-step (oneStores p d (seen p k₀) flags) g (p .Z) hg) (s .moving)
+  zone-step : Moving p (named d) n whole! k₀ (ours ++ rest) left k
+  zone-step =
+      moving-as p (named d) n whole! k₀ (flat (oneStores p d (seen p k₀) flags) (upFrom g (p .Z - g))) (ours ++ rest) left k (flat-step (oneStores p d (seen p k₀) flags) g (p .Z) hg) (s .moving)
 
-  same : (b : Bool) → b ≡ getD flags g false → cond b (rebuiltZone p d (segmentOf p (seen p k) (named d) g)) [] ≡ ours
-  same b e = one-kept p d (seen p k) flags g b e ∙ sym (same-one p r d hd (seen p k₀) (seen p k) (s .moving .agree) flags g hg)
+  zone-stores-same : (b : Bool) → b ≡ getD flags g false → cond b (rebuiltZone p d (segmentOf p (seen p k) (named d) g)) [] ≡ ours
+  zone-stores-same b e = one-stores-are p d (seen p k) flags g b e ∙ sym (one-stores-same p r d hd (seen p k₀) (seen p k) (s .moving .agree) flags g hg)
 
   module _ (b : Bool) (e : b ≡ getD flags g false) where
     pub zones-fit : AllFit p (seen p k) (cond b (rebuiltZone p d (segmentOf p (seen p k) (named d) g)) [])
-    zones-fit = subst (λ (l : List Store). AllFit p (seen p k) l) (sym (same b e)) (going-first p n whole! k₀ ours rest left k (step .going))
+    zones-fit = subst (λ (l : List Store). AllFit p (seen p k) l) (sym (zone-stores-same b e)) (going-first p n whole! k₀ ours rest left k (zone-step .going))
 
     pub zones-good : GoodRecs p d (seen p k₀) flags → b ≡ true → recsFault p (named d) (segmentOf p (seen p k) (named d) g) ≡ false
     zones-good h t = sym (same-recs-fault p (named d) (seen p k₀) (seen p k) (low-present p r d hd) (s .moving .agree) g hg) ∙ h g hg (sym e ∙ t)
 
     module _ (m : Made) (k′ : Disk) (t : Storing p left (cond b (rebuiltZone p d (segmentOf p (seen p k) (named d) g)) []) k m k′) where
       this : Storing p left ours k m k′
-      this = subst (λ (l : List Store). Storing p left l k m k′) (same b e) t
+      this = subst (λ (l : List Store). Storing p left l k m k′) (zone-stores-same b e) t
 
       pub zones-cut : m .cut ≡ true → Storing p n whole! k₀ m k′
-      zones-cut c = moving-cut p (named d) n whole! k₀ ours rest left k m k′ step this c
+      zones-cut c = moving-cut p (named d) n whole! k₀ ours rest left k m k′ zone-step this c
 
       on : OnDrive d ours
-      on e y q = one-apart p d (seen p k₀) flags g e y (off-left d e g y q)
+      on e y q = one-apart p d (seen p k₀) flags g e y (drive-apart d e g y q)
 
       pub zones-turn : m .cut ≡ false → Zones p d n flags k₀ (g + 1) (m .left) k′
       zones-turn c = record {
@@ -172,11 +173,11 @@ module _ (p : Params) (r : Ranged p) (d n : ℕ) (hd : d < p .N) (flags : List B
       }
         where
           next : Moving p (named d) n whole! k₀ rest (m .left) k′
-          next = moving-turn p (named d) n whole! k₀ ours rest left k m k′ step this r d (named-in p r d hd) on c
+          next = moving-turn p (named d) n whole! k₀ ours rest left k m k′ zone-step this r d (named-in p r d hd) on c
 
           as! : (z : ℕ) → g + 1 ≤ z → z < p .Z → pointerAt (seen p k′) d z ≡ pointerAt (seen p k) d z
           as! z h hz = unfold pointerAt in ap (λ (q : Zone). q .pointer)
-              (going-kept p r n whole! k₀ ours rest left k m k′ (step .going) this c d z hd hz
+              (going-kept p r n whole! k₀ ours rest left k m k′ (zone-step .going) this c d z hd hz
               (one-apart p d (seen p k₀) flags g d z (and-false-right (eqb d d) (eqb g z) (ne-eqb g z (λ q. let x : ⊥ = omega arith in x)))))
 
 -- ---- the resets first
@@ -201,39 +202,39 @@ module _ (p : Params) (r : Ranged p) (d n : ℕ) (hd : d < p .N) (flags : List B
   abbrev every : List Store
   every = driveStores p d (seen p k₀) flags
 
-  begun : Moving p (named d) n every k₀ (driveResets p d ++ zonesStores p d (seen p k₀) flags) n k₀
-  begun = moving-as p (named d) n every k₀ every (driveResets p d ++ zonesStores p d (seen p k₀) flags) n k₀ as! (moving-start p (named d) n every k₀ w fits)
+  drive-begun : Moving p (named d) n every k₀ (driveResets p d ++ zonesStores p d (seen p k₀) flags) n k₀
+  drive-begun = moving-as p (named d) n every k₀ every (driveResets p d ++ zonesStores p d (seen p k₀) flags) n k₀ as! (moving-start p (named d) n every k₀ w fits)
     where
       as! : driveStores p d (seen p k₀) flags ≡ driveResets p d ++ zonesStores p d (seen p k₀) flags
       as! = unfold driveStores in refl
 
   pub resets-cut : m .cut ≡ true → Storing p n every k₀ m k
-  resets-cut c = moving-cut p (named d) n every k₀ (driveResets p d) (zonesStores p d (seen p k₀) flags) n k₀ m k begun t c
+  resets-cut c = moving-cut p (named d) n every k₀ (driveResets p d) (zonesStores p d (seen p k₀) flags) n k₀ m k drive-begun t c
 
   module _ (c : m .cut ≡ false) where
     empty! : Moving p (named d) n every k₀ (zonesStores p d (seen p k₀) flags) (m .left) k
-    empty! = moving-turn p (named d) n every k₀ (driveResets p d) (zonesStores p d (seen p k₀) flags) n k₀ m k begun t r d (named-in p r d hd) (resets-apart p d) c
+    empty! = moving-turn p (named d) n every k₀ (driveResets p d) (zonesStores p d (seen p k₀) flags) n k₀ m k drive-begun t r d (named-in p r d hd) (resets-apart p d) c
 
     pub resets-whole : Whole p k
     resets-whole = empty! .going .whole
 
-    same-list : zonesStores p d (seen p k₀) flags ≡ zonesStores p d (seen p k) flags
-    same-list = same-zones p r d hd (seen p k₀) (seen p k) (empty! .agree) flags
+    zones-stores-same : zonesStores p d (seen p k₀) flags ≡ zonesStores p d (seen p k) flags
+    zones-stores-same = same-zones p r d hd (seen p k₀) (seen p k) (empty! .agree) flags
 
     pub resets-fit : AllFit p (seen p k) (zonesStores p d (seen p k) flags)
-    resets-fit = subst (λ (l : List Store). AllFit p (seen p k) l) same-list (empty! .going .fits)
+    resets-fit = subst (λ (l : List Store). AllFit p (seen p k) l) zones-stores-same (empty! .going .fits)
 
     pub resets-good : GoodRecs p d (seen p k₀) flags → GoodRecs p d (seen p k) flags
     resets-good h g hg f = sym (same-recs-fault p (named d) (seen p k₀) (seen p k) (low-present p r d hd) (empty! .agree) g hg) ∙ h g hg f
 
     -- every zone of the drive is empty
-    pub resets-empty : EmptyFrom p d 0 (k .pointers)
-    resets-empty z h hz = sym (pointer-view p k d z hd hz resets-whole) ∙ as!
+    pub drive-resets-empty : ZonesEmptyFrom p d 0 (k .pointers)
+    drive-resets-empty z h hz = sym (pointer-view p k d z hd hz resets-whole) ∙ as!
       where
         zone! : zoneAt (seen p k) d z ≡ storeAll zoneStore (reset d z ∷ []) (zoneAt (seen p k₀) d z)
         zone! =
             ap (λ (v : View). zoneAt v d z) (seen-after p r k₀ k (driveResets p d) w
-            (going-first p n every k₀ (driveResets p d) (zonesStores p d (seen p k₀) flags) n k₀ (begun .going))
+            (going-first p n every k₀ (driveResets p d) (zonesStores p d (seen p k₀) flags) n k₀ (drive-begun .going))
             (storing-all p n (driveResets p d) k₀ m k t c))
             ∙ zone-after p (seen p k₀) d z (driveResets p d) (sized-of p k₀ w) hd hz ∙ ap (λ (l : List Store). storeAll zoneStore l (zoneAt (seen p k₀) d z)) (reset-hit p d z hz)
 
@@ -244,4 +245,4 @@ module _ (p : Params) (r : Ranged p) (d n : ℕ) (hd : d < p .N) (flags : List B
         as! = unfold pointerAt in (ap (λ (q : Zone). q .pointer) zone! ∙ nought)
 
     pub resets-made : (m′ : Made) (k′ : Disk) → Storing p (m .left) (zonesStores p d (seen p k) flags) k m′ k′ → Storing p n every k₀ m′ k′
-    resets-made m′ k′ s = empty! .going .owes m′ k′ (subst (λ (l : List Store). Storing p (m .left) l k m′ k′) (sym same-list) s)
+    resets-made m′ k′ s = empty! .going .owes m′ k′ (subst (λ (l : List Store). Storing p (m .left) l k m′ k′) (sym zones-stores-same) s)

@@ -20,7 +20,7 @@ use Rattle.law_drives.specs.Frame.{same-sealed}
 use Rattle.law_drives.specs.Masks.{named-in, low-present}
 use Rattle.law_drives.specs.Range.{capacity-over}
 use Rattle.law_drives.specs.Segs.{seg-is, serial-is, copied-is, full-is}
-use Rattle.law_drives.specs.Tests.{or-left, cond-false}
+use Rattle.law_drives.specs.Tests.{or-first, cond-false}
 use Rattle.recover_drop.specs.Going.{going-first}
 use Rattle.disk_zones.specs.declared.Made.{Made}
 use Rattle.disk_zones.specs.Made.{Storing, storing-all, put-pointers}
@@ -28,9 +28,9 @@ use Rattle.recover_groups.specs.Chunks.{counted-full}
 use Rattle.recover_groups.specs.Faulty.{recs-fault-is}
 use Rattle.recover_groups.specs.Groups.{recsFault}
 use Rattle.recover_reset.specs.Lost.{lostStores}
-use Rattle.recover_reset.specs.Rebuilt.{headStore, lostSpares, lostFeet, lostRest, rebuilt-parts, head-apart, same-rest, feet-room, feet-are}
+use Rattle.recover_reset.specs.Rebuilt.{headStore, lostSpares, lostFeet, lostRest, rebuilt-parts, head-apart, same-rest, feet-room, lost-feet-are}
 use Rattle.recover_decode.specs.Group.{lost-on, same-recs-fault}
-use Rattle.recover_decode.specs.Moving.{OnDrive, Moving, moving-start, moving-as, moving-cut, moving-turn, moving-done, off-left}
+use Rattle.recover_decode.specs.Moving.{OnDrive, Moving, moving-start, moving-as, moving-cut, moving-turn, moving-done, drive-apart}
 
 module _ (p : Params) (r : Ranged p) (d g n : ℕ) (hd : d < p .N) (hg : g < p .Z) (k₀ : Disk) (w : Whole p k₀) where
   abbrev sg : Segment
@@ -48,51 +48,51 @@ module _ (p : Params) (r : Ranged p) (d g n : ℕ) (hd : d < p .N) (hg : g < p .
   -- ---- behind the header
 
   module _ (fits : AllFit p (seen p k₀) (lostRest p d sg)) where
-    begun : Moving p (named d) n (lostRest p d sg) k₀ (chunks ++ lostFeet p d sg) n k₀
-    begun = moving-as p (named d) n (lostRest p d sg) k₀ (lostRest p d sg) (chunks ++ lostFeet p d sg) n k₀ rest-is (moving-start p (named d) n (lostRest p d sg) k₀ w fits)
+    rest-begun : Moving p (named d) n (lostRest p d sg) k₀ (chunks ++ lostFeet p d sg) n k₀
+    rest-begun = moving-as p (named d) n (lostRest p d sg) k₀ (lostRest p d sg) (chunks ++ lostFeet p d sg) n k₀ rest-is (moving-start p (named d) n (lostRest p d sg) k₀ w fits)
 
     pub chunks-fit : AllFit p (seen p k₀) chunks
-    chunks-fit = going-first p n (lostRest p d sg) k₀ chunks (lostFeet p d sg) n k₀ (begun .going)
+    chunks-fit = going-first p n (lostRest p d sg) k₀ chunks (lostFeet p d sg) n k₀ (rest-begun .going)
 
     module _ (m : Made) (k : Disk) (s : Storing p n chunks k₀ m k) where
       pub chunks-cut : m .cut ≡ true → Storing p n (lostRest p d sg) k₀ m k
-      chunks-cut c = moving-cut p (named d) n (lostRest p d sg) k₀ chunks (lostFeet p d sg) n k₀ m k begun s c
+      chunks-cut c = moving-cut p (named d) n (lostRest p d sg) k₀ chunks (lostFeet p d sg) n k₀ m k rest-begun s c
 
-      stored : m .cut ≡ false → Moving p (named d) n (lostRest p d sg) k₀ (lostFeet p d sg) (m .left) k
-      stored c = moving-turn p (named d) n (lostRest p d sg) k₀ chunks (lostFeet p d sg) n k₀ m k begun s r d (named-in p r d hd) on-chunks c
+      chunks-stored : m .cut ≡ false → Moving p (named d) n (lostRest p d sg) k₀ (lostFeet p d sg) (m .left) k
+      chunks-stored c = moving-turn p (named d) n (lostRest p d sg) k₀ chunks (lostFeet p d sg) n k₀ m k rest-begun s r d (named-in p r d hd) on-chunks c
 
       -- the survivors' zones are not full: no footers
       pub chunks-only : m .cut ≡ false → sealedIn p (seen p k₀) (named d) g ≡ false → Storing p n (lostRest p d sg) k₀ m k
       chunks-only c f =
           subst (λ (x : Made). Storing p n (lostRest p d sg) k₀ x k) (λ j. record { left = m .left; cut = sym c j })
-          (moving-done p (named d) n (lostRest p d sg) k₀ (m .left) k (moving-as p (named d) n (lostRest p d sg) k₀ (lostFeet p d sg) [] (m .left) k no-feet (stored c)))
+          (moving-done p (named d) n (lostRest p d sg) k₀ (m .left) k (moving-as p (named d) n (lostRest p d sg) k₀ (lostFeet p d sg) [] (m .left) k no-feet (chunks-stored c)))
         where
           no-feet : lostFeet p d sg ≡ []
           no-feet = unfold lostFeet in
               cond-false (sg .full) (map (λ i. put d (zoneOn (sg .seg) d) (footerBlock p (lostSpares p d sg) i) zeroSpare) (below (footers p))) [] (full-is p (seen p k₀) (named d) g ∙ f)
 
       module _ (c : m .cut ≡ false) (f : sealedIn p (seen p k₀) (named d) g ≡ true) (good : recsFault p (named d) sg ≡ false) (ok : inRange p ≡ true) (one : pointerOf p (k₀ .pointers) d g ≡ 1) where
-        all-count : counted p (named d) sg ≡ below (p .S)
-        all-count = counted-full p (seen p k₀) (named d) g ok f
-            (or-left (stripeFault p (named d) sg) (any (λ e. any (storedBad p e) (recsOn sg e)) (present p (named d))) (sym (recs-fault-is p (named d) sg) ∙ good))
+        counted-below : counted p (named d) sg ≡ below (p .S)
+        counted-below = counted-full p (seen p k₀) (named d) g ok f
+            (or-first (stripeFault p (named d) sg) (any (λ e. any (storedBad p e) (recsOn sg e)) (present p (named d))) (sym (recs-fault-is p (named d) sg) ∙ good))
 
         made-all : k ≡ storeAll (storeDisk p) chunks k₀
         made-all = storing-all p n chunks k₀ m k s c
 
         pub whole-now : Whole p k
-        whole-now = stored c .going .whole
+        whole-now = chunks-stored c .going .whole
 
         pub room-now : pointerOf p (k .pointers) d (zoneOn g d) + footers p ≤ capacity p
-        room-now = unfold zoneOn in feet-room p r d g hd hg sg (seg-is p (seen p k₀) (named d) g) k₀ k w chunks-fit made-all one all-count
+        room-now = unfold zoneOn in feet-room p r d g hd hg sg (seg-is p (seen p k₀) (named d) g) k₀ k w chunks-fit made-all one counted-below
 
         -- the footers too
         pub feet-made : (m′ : Made) (k′ : Disk) → Storing p (m .left) (footerStores p d (zoneOn g d) (zoneAt (seen p k) d (zoneOn g d)) 0 (footers p)) k m′ k′ → Storing p n (lostRest p d sg) k₀ m′ k′
         feet-made m′ k′ t =
             let e : footerStores p d (zoneOn g d) (zoneAt (seen p k) d (zoneOn g d)) 0 (footers p) ≡ lostFeet p d sg = as! in
-            stored c .going .owes m′ k′ (subst (λ (l : List Store). Storing p (m .left) l k m′ k′) e t)
+            chunks-stored c .going .owes m′ k′ (subst (λ (l : List Store). Storing p (m .left) l k m′ k′) e t)
           where
             as! : footerStores p d (zoneOn g d) (zoneAt (seen p k) d (zoneOn g d)) 0 (footers p) ≡ lostFeet p d sg
-            as! = unfold zoneOn in feet-are p r d g hd hg sg (seg-is p (seen p k₀) (named d) g) k₀ k w chunks-fit made-all one all-count (full-is p (seen p k₀) (named d) g ∙ f)
+            as! = unfold zoneOn in lost-feet-are p r d g hd hg sg (seg-is p (seen p k₀) (named d) g) k₀ k w chunks-fit made-all one counted-below (full-is p (seen p k₀) (named d) g ∙ f)
 
   -- ---- with the header
 
@@ -103,15 +103,15 @@ module _ (p : Params) (r : Ranged p) (d g n : ℕ) (hd : d < p .N) (hg : g < p .
         (moving-start p (named d) n (rebuiltZone p d sg) k₀ w fits)
 
     head-on : OnDrive d (headStore p d sg ∷ [])
-    head-on e y q = head-apart p d sg e y (off-left d e (zoneOn (sg .seg) d) y q)
+    head-on e y q = head-apart p d sg e y (drive-apart d e (zoneOn (sg .seg) d) y q)
 
     pub head-room : pointerOf p (k₀ .pointers) d (zoneOn g d) < capacity p
     head-room = unfold zoneOn in omega (arith, zero!, capacity-over p r)
 
-    pub head-is : (serial copied : ℕ) → serial ≡ headerSerial (headerAt (seen p k₀) (lowDrive p (named d)) g) → copied ≡ headerCopied (headerAt (seen p k₀) (lowDrive p (named d)) g)
+    pub head-store-is : (serial copied : ℕ) → serial ≡ headerSerial (headerAt (seen p k₀) (lowDrive p (named d)) g) → copied ≡ headerCopied (headerAt (seen p k₀) (lowDrive p (named d)) g)
         → put d (zoneOn g d) (headerBlock p d (zoneOn g d) serial copied) zeroSpare ≡ headStore p d sg
     unfolding headStore
-    head-is serial copied a b =
+    head-store-is serial copied a b =
         λ j. put d (zoneOn (sym (seg-is p (seen p k₀) (named d) g) j) d)
         (headerBlock p d (zoneOn (sym (seg-is p (seen p k₀) (named d) g) j) d) ((a ∙ sym (serial-is p (seen p k₀) (named d) g)) j) ((b ∙ sym (copied-is p (seen p k₀) (named d) g)) j)) zeroSpare
 
@@ -120,26 +120,26 @@ module _ (p : Params) (r : Ranged p) (d g n : ℕ) (hd : d < p .N) (hg : g < p .
       head-cut c = moving-cut p (named d) n (rebuiltZone p d sg) k₀ (headStore p d sg ∷ []) (lostRest p d sg) n k₀ m k whole-list s c
 
       module _ (c : m .cut ≡ false) where
-        headed : Moving p (named d) n (rebuiltZone p d sg) k₀ (lostRest p d sg) (m .left) k
-        headed = moving-turn p (named d) n (rebuiltZone p d sg) k₀ (headStore p d sg ∷ []) (lostRest p d sg) n k₀ m k whole-list s r d (named-in p r d hd) head-on c
+        zone-headed : Moving p (named d) n (rebuiltZone p d sg) k₀ (lostRest p d sg) (m .left) k
+        zone-headed = moving-turn p (named d) n (rebuiltZone p d sg) k₀ (headStore p d sg ∷ []) (lostRest p d sg) n k₀ m k whole-list s r d (named-in p r d hd) head-on c
 
         pub head-whole : Whole p k
-        head-whole = headed .going .whole
+        head-whole = zone-headed .going .whole
 
         abbrev sg′ : Segment
         sg′ = segmentOf p (seen p k) (named d) g
 
         pub same-now : lostRest p d sg ≡ lostRest p d sg′
-        same-now = same-rest p d (seen p k₀) (seen p k) (low-present p r d hd) (named-in p r d hd) (headed .agree) g hg
+        same-now = same-rest p d (seen p k₀) (seen p k) (low-present p r d hd) (named-in p r d hd) (zone-headed .agree) g hg
 
         pub head-fits : AllFit p (seen p k) (lostRest p d sg′)
-        head-fits = subst (λ (l : List Store). AllFit p (seen p k) l) same-now (headed .going .fits)
+        head-fits = subst (λ (l : List Store). AllFit p (seen p k) l) same-now (zone-headed .going .fits)
 
         pub head-good : recsFault p (named d) sg ≡ false → recsFault p (named d) sg′ ≡ false
-        head-good e = sym (same-recs-fault p (named d) (seen p k₀) (seen p k) (low-present p r d hd) (headed .agree) g hg) ∙ e
+        head-good e = sym (same-recs-fault p (named d) (seen p k₀) (seen p k) (low-present p r d hd) (zone-headed .agree) g hg) ∙ e
 
         pub head-sealed : (f : Bool) → f ≡ sealedIn p (seen p k₀) (named d) g → f ≡ sealedIn p (seen p k) (named d) g
-        head-sealed f e = e ∙ same-sealed p (named d) (seen p k₀) (seen p k) (low-present p r d hd) (headed .agree) g hg
+        head-sealed f e = e ∙ same-sealed p (named d) (seen p k₀) (seen p k) (low-present p r d hd) (zone-headed .agree) g hg
 
         -- the pointer stands behind the header
         pub head-one : pointerOf p (k .pointers) d g ≡ 1
@@ -153,4 +153,4 @@ module _ (p : Params) (r : Ranged p) (d g n : ℕ) (hd : d < p .N) (hg : g < p .
                 ap (λ (z : ℕ). storeDisk p (put d z (headerBlock p d z (sg .serial) (sg .copied)) zeroSpare) k₀) (seg-is p (seen p k₀) (named d) g)
 
         pub rest-made : (m′ : Made) (k′ : Disk) → Storing p (m .left) (lostRest p d sg′) k m′ k′ → Storing p n (rebuiltZone p d sg) k₀ m′ k′
-        rest-made m′ k′ t = headed .going .owes m′ k′ (subst (λ (l : List Store). Storing p (m .left) l k m′ k′) (sym same-now) t)
+        rest-made m′ k′ t = zone-headed .going .owes m′ k′ (subst (λ (l : List Store). Storing p (m .left) l k m′ k′) (sym same-now) t)

@@ -10,7 +10,7 @@ ghost use Rattle.spec.specs.Rebuild.{rebuiltZone};
 ghost use Rattle.spec.specs.Segments.{segmentOf};
 ghost use Rattle.recover_groups.specs.Groups.{recsFault};
 ghost use Rattle.recover_reset.specs.Rebuilt.{lostRest};
-ghost use Rattle.recover_rebuild.specs.Drive.{zonesStores, driveStores, GoodRecs, EmptyFrom};
+ghost use Rattle.recover_rebuild.specs.Drive.{zonesStores, driveStores, GoodRecs, ZonesEmptyFrom};
 ghost use Rattle.law_views.specs.Views.{Whole, AllFit};
 ghost use Rattle.disk_zones.specs.Made.{Storing};
 use disk_zones::Made;
@@ -123,7 +123,7 @@ fn rebuild_zones(
     requires { ⌜ inRange p ≡ true ⌝ }
     requires { ⌜ Whole p (mkDisk (now image) (now pointers)) ⌝ }
     requires { ⌜ (gone ≡ named drive) × (drive < p .N) × (p .Z ≤ length (now kept)) ⌝ }
-    requires { ⌜ EmptyFrom p drive 0 (now pointers) ⌝ }
+    requires { ⌜ ZonesEmptyFrom p drive 0 (now pointers) ⌝ }
     requires { ⌜ GoodRecs p drive (viewOf p (now image) (now pointers)) (now kept) ⌝ }
     requires { ⌜ AllFit p (viewOf p (now image) (now pointers)) (zonesStores p drive (viewOf p (now image) (now pointers)) (now kept)) ⌝ }
     ensures { λ r. ⌜

@@ -73,8 +73,8 @@ feet-puts p d g = go (g .full)
     go true = sym (map-map (λ (c : Chunk). put d z (c .block) (c .spare)) (λ i. mkChunk (footerBlock p (lostSpares p d g) i) zeroSpare) (below (footers p)))
     go false = refl
 
-pub feet-apart : (p : Params) (d : ℕ) (g : Segment) (e y : ℕ) → (eqb d e && eqb (zoneOn (g .seg) d) y) ≡ false → hits e y (lostFeet p d g) ≡ []
-feet-apart p d g e y q =
+pub lost-feet-apart : (p : Params) (d : ℕ) (g : Segment) (e y : ℕ) → (eqb d e && eqb (zoneOn (g .seg) d) y) ≡ false → hits e y (lostFeet p d g) ≡ []
+lost-feet-apart p d g e y q =
     let z = zoneOn (g .seg) d in
     let cs : List Chunk = cond (g .full) (map (λ i. mkChunk (footerBlock p (lostSpares p d g) i) zeroSpare) (below (footers p))) [] in
     ap (hits e y) (feet-puts p d g) ∙ hits-puts e y d z cs ∙ cond-false (eqb d e && eqb z y) (map (putAt d z) cs) [] q
@@ -90,7 +90,7 @@ rebuilt-apart p d g e y q =
     ap (hits e y) (rebuilt-parts p d g)
     ∙ hits-append e y (headStore p d g ∷ []) (ls ++ lostFeet p d g)
     ∙ nil-append (hits e y (headStore p d g ∷ [])) (hits e y (ls ++ lostFeet p d g)) (head-apart p d g e y q)
-    (hits-append e y ls (lostFeet p d g) ∙ nil-append (hits e y ls) (hits e y (lostFeet p d g)) (lost-apart p (named d) d g (below (p .S)) e y q) (feet-apart p d g e y q))
+    (hits-append e y ls (lostFeet p d g) ∙ nil-append (hits e y ls) (hits e y (lostFeet p d g)) (lost-apart p (named d) d g (below (p .S)) e y q) (lost-feet-apart p d g e y q))
 
 -- ---- the same on views that agree but on the drive
 
@@ -222,9 +222,9 @@ module _ (p : Params) (r : Ranged p) (d g : ℕ) (hd : d < p .N) (hg : g < p .Z)
           ∙ sym (getD-map (λ (q : Piece). recordBytes (q .rec)) qs o [] none! (omega (arith, qs-long)))
 
   -- they are made from the spares
-  pub feet-are : sg .full ≡ true → footerStores p d g (zoneAt (seen p k′) d g) 0 (footers p) ≡ lostFeet p d sg
+  pub lost-feet-are : sg .full ≡ true → footerStores p d g (zoneAt (seen p k′) d g) 0 (footers p) ≡ lostFeet p d sg
   unfolding footerStores footersOf lostFeet zoneOn below
-  feet-are f =
+  lost-feet-are f =
       map-map (λ (b : List ℕ). put d g b zeroSpare) (footerBlock p (sparesOf (take (p .S) (drop 1 (zoneAt (seen p k′) d g .blocks))))) (upFrom 0 (footers p))
       ∙ ap₂ (λ (ss : List (List ℕ)) (z : ℕ). map (λ i. put d z (footerBlock p ss i) zeroSpare) (upFrom 0 (footers p))) spares-now (sym eg)
       ∙ sym (cond-true (sg .full) (map (λ i. put d (sg .seg) (footerBlock p (lostSpares p d sg) i) zeroSpare) (upFrom 0 (footers p))) [] f)

@@ -40,13 +40,13 @@ module _ (p : Params) (gone : ℕ) (v u : View) (low : In (lowDrive p gone) (pre
   unfolding core
   same-full = ap (λ (s : Segment). s .full) (same-core p gone v u low ag g hg)
 
-  pub same-records : x .recs ≡ y .recs
+  pub seg-records-same : x .recs ≡ y .recs
   unfolding core
-  same-records = ap (λ (s : Segment). s .recs) (same-core p gone v u low ag g hg)
+  seg-records-same = ap (λ (s : Segment). s .recs) (same-core p gone v u low ag g hg)
 
   pub same-recs-on : (d : ℕ) → recsOn x d ≡ recsOn y d
   unfolding recsOn
-  same-recs-on d = ap (λ (rs : List (List Rec)). getD rs d []) same-records
+  same-recs-on d = ap (λ (rs : List (List Rec)). getD rs d []) seg-records-same
 
   pub same-has : (s d : ℕ) → hasChunk x s d ≡ hasChunk y s d
   unfolding hasChunk

@@ -64,24 +64,24 @@ module _ (p : Params) (r : Ranged p) (n seg : ℕ) (hz : seg < p .Z) (to : ℕ) 
     rewrite-heads c = moves-cut p n all! k₀ seg heads (movs ++ resetStores p seg) n k₀ m₁ k₁ (rewrite-start w f) first c
 
     module _ (c₁ : m₁ .cut ≡ false) where
-      headed : Moves p n all! k₀ seg (movs ++ resetStores p seg) (m₁ .left) k₁
-      headed = moves-turn p r n all! k₀ seg hz heads (movs ++ resetStores p seg) n k₀ m₁ k₁ (rewrite-start w f) first c₁ head-misses
+      rewrite-headed : Moves p n all! k₀ seg (movs ++ resetStores p seg) (m₁ .left) k₁
+      rewrite-headed = moves-turn p r n all! k₀ seg hz heads (movs ++ resetStores p seg) n k₀ m₁ k₁ (rewrite-start w f) first c₁ head-misses
 
       found! : segmentOf p (seen p k₀) 0 seg ≡ segmentOf p (seen p k₁) 0 seg
-      found! = moves-found p r n all! k₀ seg (movs ++ resetStores p seg) (m₁ .left) k₁ headed
+      found! = moves-found p r n all! k₀ seg (movs ++ resetStores p seg) (m₁ .left) k₁ rewrite-headed
 
       -- what the moves ask for
       pub rewrite-whole : Whole p k₁
-      rewrite-whole = headed .going .whole
+      rewrite-whole = rewrite-headed .going .whole
 
       pub rewrite-sealed : sealedIn p (seen p k₀) 0 seg ≡ false → sealedIn p (seen p k₁) 0 seg ≡ false
-      rewrite-sealed q = sym (moves-sealed p r n all! k₀ seg (movs ++ resetStores p seg) (m₁ .left) k₁ headed) ∙ q
+      rewrite-sealed q = sym (moves-sealed p r n all! k₀ seg (movs ++ resetStores p seg) (m₁ .left) k₁ rewrite-headed) ∙ q
 
       pub rewrite-good : recsFault p 0 (segmentOf p (seen p k₀) 0 seg) ≡ false → recsFault p 0 (segmentOf p (seen p k₁) 0 seg) ≡ false
       rewrite-good q = subst (λ (y : Segment). recsFault p 0 y ≡ false) found! q
 
       pub rewrite-fits : AllFit p (seen p k₁) (movedStripes p (segmentOf p (seen p k₁) 0 seg) to (counted p 0 (segmentOf p (seen p k₁) 0 seg)) 0)
-      rewrite-fits = subst (λ (y : Segment). AllFit p (seen p k₁) (movedStripes p y to (counted p 0 y) 0)) found! (moves-first p n all! k₀ seg movs (resetStores p seg) (m₁ .left) k₁ headed)
+      rewrite-fits = subst (λ (y : Segment). AllFit p (seen p k₁) (movedStripes p y to (counted p 0 y) 0)) found! (moves-first p n all! k₀ seg movs (resetStores p seg) (m₁ .left) k₁ rewrite-headed)
 
       module _ (m₂ : Made) (k₂ : Disk) (s₂ : Storing p (m₁ .left) (movedStripes p (segmentOf p (seen p k₁) 0 seg) to (counted p 0 (segmentOf p (seen p k₁) 0 seg)) 0) k₁ m₂ k₂) where
         second : Storing p (m₁ .left) movs k₁ m₂ k₂
@@ -89,7 +89,7 @@ module _ (p : Params) (r : Ranged p) (n seg : ℕ) (hz : seg < p .Z) (to : ℕ) 
 
         -- cut at the moves
         pub rewrite-moves : m₂ .cut ≡ true → Storing p n (rewriteStores p (segmentOf p (seen p k₀) 0 seg) to serial) k₀ m₂ k₂
-        rewrite-moves c = moves-cut p n all! k₀ seg movs (resetStores p seg) (m₁ .left) k₁ m₂ k₂ headed second c
+        rewrite-moves c = moves-cut p n all! k₀ seg movs (resetStores p seg) (m₁ .left) k₁ m₂ k₂ rewrite-headed second c
 
         -- the resets, done or cut
         pub rewrite-resets :
@@ -98,9 +98,9 @@ module _ (p : Params) (r : Ranged p) (n seg : ℕ) (hz : seg < p .Z) (to : ℕ) 
             → Storing p (m₂ .left) (resetStores p seg) k₂ m₃ k₃
             → Storing p n (rewriteStores p (segmentOf p (seen p k₀) 0 seg) to serial) k₀ m₃ k₃
         rewrite-resets c m₃ k₃ s =
-            moves-turn p r n all! k₀ seg hz movs (resetStores p seg) (m₁ .left) k₁ m₂ k₂ headed second c (λ e he. moved-misses p x to (counted p 0 x) 0 e seg he ne) .going .owes m₃ k₃ s
+            moves-turn p r n all! k₀ seg hz movs (resetStores p seg) (m₁ .left) k₁ m₂ k₂ rewrite-headed second c (λ e he. moved-misses p x to (counted p 0 x) 0 e seg he ne) .going .owes m₃ k₃ s
 
 -- an empty zone has room for a header
-pub head-room : (p : Params) → Ranged p → (ps : List ℕ) (to d : ℕ) → pointerOf p ps d to ≡ 0 → pointerOf p ps d (zoneOn to d) < capacity p
+pub new-head-room : (p : Params) → Ranged p → (ps : List ℕ) (to d : ℕ) → pointerOf p ps d to ≡ 0 → pointerOf p ps d (zoneOn to d) < capacity p
 unfolding zoneOn
-head-room p r ps to d e = omega (arith, e, capacity-low p r)
+new-head-room p r ps to d e = omega (arith, e, capacity-low p r)

@@ -7,9 +7,9 @@ ghost use Rattle.spec.specs.Drives.{viewOf, mkDisk, pointerOf, sealedIn};
 ghost use Rattle.spec.specs.Params.{inRange};
 ghost use Rattle.spec.specs.Restart.{movedStripes, rewriteStores};
 ghost use Rattle.spec.specs.Segments.{segmentOf, counted};
-ghost use Rattle.recover_groups.specs.Groups.{groupLen, recsFault, segmentIn, Reads};
-ghost use Rattle.recover_move.specs.Moves.{Shown};
-ghost use Rattle.recover_rewrite.specs.Due.{itself, countedFrom, Step};
+ghost use Rattle.recover_groups.specs.Groups.{groupLen, recsFault, segmentIn, GroupReads};
+ghost use Rattle.recover_move.specs.Moves.{MovesShown};
+ghost use Rattle.recover_rewrite.specs.Due.{itself, countedFrom, StepMoved};
 ghost use Rattle.law_views.specs.Views.{Whole, AllFit};
 ghost use Rattle.disk_zones.specs.Made.{Storing};
 use disk_zones::Made;
@@ -37,14 +37,14 @@ fn move_if(
 ) -> Moved
     requires { ⌜ inRange p ≡ true ⌝ }
     requires { ⌜ Whole p (mkDisk (now image) (now pointers)) ⌝ }
-    requires { ⌜ Shown p w (now at) k ⌝ }
-    requires { ⌜ Reads p (now image) (now pointers) w (now at) ⌝ }
+    requires { ⌜ MovesShown p w (now at) k ⌝ }
+    requires { ⌜ GroupReads p (now image) (now pointers) w (now at) ⌝ }
     requires { ⌜ (to < p .Z) × (m .next ≤ w .base + k) × (m .cut ≡ false) × (to ≡ w .seg → ⊥) ⌝ }
     requires { ⌜
         AllFit p (viewOf p (now image) (now pointers))
         (movedStripes p (segmentIn p (now image) (now pointers) w) to (itself p (segmentIn p (now image) (now pointers) w) (w .base + k)) (m .next)) ⌝ }
     ensures { λ r. ⌜
-        Step p (segmentIn p (now (image .entry)) (now (pointers .entry)) w) to
+        StepMoved p (segmentIn p (now (image .entry)) (now (pointers .entry)) w) to
         (itself p (segmentIn p (now (image .entry)) (now (pointers .entry)) w) (w .base + k)) m
         (mkDisk (now (image .entry)) (now (pointers .entry))) r (mkDisk (now (image .exit)) (now (pointers .exit))) ⌝ }
 {
@@ -79,7 +79,7 @@ fn move_group(
         (movedStripes p (segmentIn p (now image) (now pointers) w) to
         (countedFrom p (segmentIn p (now image) (now pointers) w) (w .base) (groupLen p (w .base))) (m .next)) ⌝ }
     ensures { λ r. ⌜
-        Step p (segmentIn p (now (image .entry)) (now (pointers .entry)) w) to
+        StepMoved p (segmentIn p (now (image .entry)) (now (pointers .entry)) w) to
         (countedFrom p (segmentIn p (now (image .entry)) (now (pointers .entry)) w) (w .base) (groupLen p (w .base))) m
         (mkDisk (now (image .entry)) (now (pointers .entry))) r (mkDisk (now (image .exit)) (now (pointers .exit))) ⌝ }
 {

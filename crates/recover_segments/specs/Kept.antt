@@ -23,10 +23,10 @@ use Rattle.law_basic.specs.Ranges.{all-keep-same, greatest-snoc, all-keep, keep
 use Rattle.law_basic.specs.Ranges.Test.{yes!, no! }
 use Rattle.law_views.specs.Views.{pointer-view, block-view}
 use Rattle.law_scans.specs.Scans.{any-keep}
-use Rattle.law_drives.specs.Frame.{any-map}
+use Rattle.law_drives.specs.Frame.{any-mapped}
 use Rattle.law_drives.specs.Members.{keep-in, in-none, in-any, any-cong, map-cong, keep-keep, keep-map, in-below, below-in}
 use Rattle.law_drives.specs.Tests.{and-false-right}
-use Rattle.recover_segments.specs.Remains.{isLeft, remains, serialOf, LeftFlags, Keeps, Serials, otherSerial}
+use Rattle.recover_segments.specs.Remains.{isLeft, remainsHere, serialOf, LeftFlags, Keeps, Serials, otherSerial}
 
 -- ---- lists
 
@@ -89,11 +89,11 @@ module _ (p : Params) (im ps : List ℕ) (h : length im ≡ imageLen p) (k : len
 
 -- ---- the segments that remain
 
-pub remaining-keep : (p : Params) (v : View) (gone : ℕ) → remaining p v gone ≡ keep (remains p v gone) (below (p .Z))
-unfolding remaining leftBy1 remains isLeft segmentNumbers
+pub remaining-keep : (p : Params) (v : View) (gone : ℕ) → remaining p v gone ≡ keep (remainsHere p v gone) (below (p .Z))
+unfolding remaining leftBy1 remainsHere isLeft segmentNumbers
 remaining-keep p v gone = keep-keep (λ g. not (isCopy v (lowDrive p gone) (leftBy1 p v gone) g)) (isLeft p v gone) (below (p .Z))
 
-pub segments-keep : (p : Params) (v : View) (gone : ℕ) → segments p v gone ≡ map (segmentOf p v gone) (keep (remains p v gone) (below (p .Z)))
+pub segments-keep : (p : Params) (v : View) (gone : ℕ) → segments p v gone ≡ map (segmentOf p v gone) (keep (remainsHere p v gone) (below (p .Z)))
 unfolding segments
 segments-keep p v gone = ap (map (segmentOf p v gone)) (remaining-keep p v gone)
 
@@ -104,13 +104,13 @@ segs-of p v gone [] = refl
 segs-of p v gone (g ∷ l) = ap (λ (x : List ℕ). g ∷ x) (segs-of p v gone l)
 
 -- a segment is among them
-pub is-segment : (p : Params) (v : View) (gone z : ℕ) → z < p .Z → any (λ (s : Segment). eqb (s .seg) z) (segments p v gone) ≡ remains p v gone z
+pub is-segment : (p : Params) (v : View) (gone z : ℕ) → z < p .Z → any (λ (s : Segment). eqb (s .seg) z) (segments p v gone) ≡ remainsHere p v gone z
 unfolding segmentOf
 is-segment p v gone z h =
     ap (any (λ (s : Segment). eqb (s .seg) z)) (segments-keep p v gone)
-    ∙ any-map (λ (s : Segment). eqb (s .seg) z) (segmentOf p v gone) (keep (remains p v gone) (below (p .Z)))
-    ∙ any-keep (remains p v gone) (λ g. eqb g z) (below (p .Z))
-    ∙ any-one (remains p v gone) (p .Z) z h
+    ∙ any-mapped (λ (s : Segment). eqb (s .seg) z) (segmentOf p v gone) (keep (remainsHere p v gone) (below (p .Z)))
+    ∙ any-keep (remainsHere p v gone) (λ g. eqb g z) (below (p .Z))
+    ∙ any-one (remainsHere p v gone) (p .Z) z h
 
 -- 01, Restart, 2: another segment left by 1 has serial c
 other-is : (p : Params) (v : View) (gone : ℕ) (fl : List Bool) (ns : List ℕ) (g c : ℕ) → LeftFlags p v gone fl → Serials p v gone ns
@@ -123,8 +123,8 @@ other-is p v gone fl ns g c a b =
 
 -- 01, Restart, 1 and 2: whether a segment remains, by the flags and serials
 pub remains-is : (p : Params) (v : View) (gone : ℕ) (fl : List Bool) (ns : List ℕ) (g c : ℕ) → g < p .Z → LeftFlags p v gone fl → Serials p v gone ns
-    → c ≡ headerCopied (headerAt v (lowDrive p gone) g) → remains p v gone g ≡ (getD fl g false && not (not (eqb c 0) && otherSerial (p .Z) fl ns g c))
-unfolding remains isCopy
+    → c ≡ headerCopied (headerAt v (lowDrive p gone) g) → remainsHere p v gone g ≡ (getD fl g false && not (not (eqb c 0) && otherSerial (p .Z) fl ns g c))
+unfolding remainsHere isCopy
 remains-is p v gone fl ns g c h a b e =
     λ j. sym (a .1 g h) j
     && not (not (eqb (sym e j) 0)
@@ -133,8 +133,8 @@ remains-is p v gone fl ns g c h a b e =
 
 -- ---- what the flags say of all
 
-flags-keep : (p : Params) (v : View) (gone : ℕ) (fl : List Bool) → Keeps p v gone fl → keep (remains p v gone) (below (p .Z)) ≡ keep (λ g. getD fl g false) (below (p .Z))
-flags-keep p v gone fl a = keep-below-same (remains p v gone) (λ g. getD fl g false) (p .Z) (λ g h. sym (a .1 g h))
+flags-keep : (p : Params) (v : View) (gone : ℕ) (fl : List Bool) → Keeps p v gone fl → keep (remainsHere p v gone) (below (p .Z)) ≡ keep (λ g. getD fl g false) (below (p .Z))
+flags-keep p v gone fl a = keep-below-same (remainsHere p v gone) (λ g. getD fl g false) (p .Z) (λ g h. sym (a .1 g h))
 
 -- the greatest of the flagged among the first n
 unfoldable pub greatestIn : ℕ → List Bool → List ℕ → ℕ
@@ -166,7 +166,7 @@ greatest-all p v gone fl ns a b =
     let on : ℕ → Bool = λ g. getD fl g false in
     let q : map (λ (s : Segment). s .serial) (segments p v gone) ≡ map (serialOf p v gone) (keep on (below (p .Z))) =
     ap (map (λ (s : Segment). s .serial)) (segments-keep p v gone)
-    ∙ map-map (λ (s : Segment). s .serial) (segmentOf p v gone) (keep (remains p v gone) (below (p .Z)))
+    ∙ map-map (λ (s : Segment). s .serial) (segmentOf p v gone) (keep (remainsHere p v gone) (below (p .Z)))
     ∙ ap (map (serialOf p v gone)) (flags-keep p v gone fl a) in
     ap greatest (map-cong (λ g. getD ns g 0) (serialOf p v gone) (keep on (below (p .Z))) (λ g m. b .1 g (below-in (p .Z) g (keep-in on (below (p .Z)) g m .0))) ∙ sym q)
 

@@ -17,8 +17,8 @@ unfoldable pub isLeft : Params → View → ℕ → ℕ → Bool
 isLeft p v gone g = all (λ d. not (eqb (pointerAt v d (zoneOn g d)) 0)) (present p gone)
 
 -- 01, Restart, 1 and 2: the segment remains
-unfoldable pub remains : Params → View → ℕ → ℕ → Bool
-remains p v gone g = isLeft p v gone g && not (isCopy v (lowDrive p gone) (leftBy1 p v gone) g)
+unfoldable pub remainsHere : Params → View → ℕ → ℕ → Bool
+remainsHere p v gone g = isLeft p v gone g && not (isCopy v (lowDrive p gone) (leftBy1 p v gone) g)
 
 -- 01, Restart, 2: the serial in the segment's header on the lowest present drive
 unfoldable pub serialOf : Params → View → ℕ → ℕ → ℕ
@@ -30,7 +30,7 @@ LeftFlags p v gone l = (p .Z ≤ length l) × ((g : ℕ) → g < p .Z → getD l
 
 -- an array of flags says which segments remain
 abbrev pub Keeps : Params → View → ℕ → List Bool → Type 0
-Keeps p v gone l = (p .Z ≤ length l) × ((g : ℕ) → g < p .Z → getD l g false ≡ remains p v gone g)
+Keeps p v gone l = (p .Z ≤ length l) × ((g : ℕ) → g < p .Z → getD l g false ≡ remainsHere p v gone g)
 
 -- an array of numbers says the serials of the segments
 abbrev pub Serials : Params → View → ℕ → List ℕ → Type 0

@@ -12,7 +12,7 @@ ghost use Rattle.spec.specs.Params.{inRange, imageLen, pointersLen};
 ghost use Rattle.spec.specs.Restart.{freeZones};
 ghost use Rattle.spec.specs.Segments.{Segment, lowDrive, headerAt, isCopy, leftBy1, segments, greatestSerial, unsealed};
 ghost use Rattle.law_views.specs.Views.{Whole};
-ghost use Rattle.recover_segments.specs.Remains.{Keeping, isLeft, remains, serialOf, otherSerial, LeftFlags, Keeps, Serials};
+ghost use Rattle.recover_segments.specs.Remains.{Keeping, isLeft, remainsHere, serialOf, otherSerial, LeftFlags, Keeps, Serials};
 use spec::Params;
 use spec::Serial;
 
@@ -151,7 +151,7 @@ fn is_kept(p: Params, image: &[u8], low: usize, flags: &[bool], serials: &[u64],
         → low ≡ lowDrive p gone
         → LeftFlags p (viewOf p (now (image .entry)) ps) gone (now (flags .entry))
         → Serials p (viewOf p (now (image .entry)) ps) gone (now (serials .entry))
-        → r ≡ remains p (viewOf p (now (image .entry)) ps) gone g) ⌝ }
+        → r ≡ remainsHere p (viewOf p (now (image .entry)) ps) gone g) ⌝ }
 {
     if !flags[g] {
         return false;

@@ -40,17 +40,17 @@ use mathlib.Core.Path.{_≡_, refl, sym, ap, _∙_, subst}
 use native.Mathlib.Omega.{arith}
 
 -- where no check of a restart that names no drive holds
-pub record Sane (p : Params) (v : View) : Type 0 where
+pub record RefitReady (p : Params) (v : View) : Type 0 where
   pub shaped : Shaped p v
   pub accepted : Accepted p v 0
   pub sixth : rewrites p 0 (segments p v 0) && eqb (greatestSerial (segments p v 0)) lastCount ≡ false
   pub eighth : rewrites p 0 (segments p v 0) && isNil (freeZones p (segments p v 0)) ≡ false
 
 -- what is said of the unsealed segment: all its stripes count; it is rewritten
-abbrev pub Marks : Params → List Segment → Bool → Bool → Type 0
-Marks p gs whole ragged = (g : Segment) → unsealed gs ≡ g ∷ [] → (whole ≡ isWhole p g) × (ragged ≡ isRagged p g)
+abbrev pub MendMarks : Params → List Segment → Bool → Bool → Type 0
+MendMarks p gs whole ragged = (g : Segment) → unsealed gs ≡ g ∷ [] → (whole ≡ isWhole p g) × (ragged ≡ isRagged p g)
 
-module _ (p : Params) (r : Ranged p) (n : ℕ) (k₀ : Disk) (w : Whole p k₀) (sn : Sane p (seen p k₀)) (fl : List Bool) (kp : Keeps p (seen p k₀) 0 fl) where
+module _ (p : Params) (r : Ranged p) (n : ℕ) (k₀ : Disk) (w : Whole p k₀) (sn : RefitReady p (seen p k₀)) (fl : List Bool) (kp : Keeps p (seen p k₀) 0 fl) where
   abbrev v : View
   v = seen p k₀
 
@@ -72,26 +72,26 @@ module _ (p : Params) (r : Ranged p) (n : ℕ) (k₀ : Disk) (w : Whole p k₀) 
   drops : droppedBy p fl ≡ dropStores p gs
   drops = dropped-are p gs fl (λ g hg. kp .1 g hg ∙ sym (is-segment p v 0 g hg))
 
-  start : Going p n ss k₀ (droppedBy p fl ++ mends) n k₀
-  start = going-as p n ss k₀ ss (droppedBy p fl ++ mends) n k₀ (healthy-stores p gs ∙ ap (λ (l : List Store). l ++ mends) (sym drops))
+  refit-start : Going p n ss k₀ (droppedBy p fl ++ mends) n k₀
+  refit-start = going-as p n ss k₀ ss (droppedBy p fl ++ mends) n k₀ (healthy-stores p gs ∙ ap (λ (l : List Store). l ++ mends) (sym drops))
       (going-start p n ss k₀ w (settled p r v sh acc (sn .sixth) (sn .eighth) .fits))
 
   -- ---- the resets
 
   module _ (m₁ : Made) (k₁ : Disk) (s₁ : Storing p n (droppedBy p fl) k₀ m₁ k₁) where
     pub refit-cut : m₁ .cut ≡ true → Storing p n (restartStores p 0 (segments p (seen p k₀) 0)) k₀ m₁ k₁
-    refit-cut c = owes-cut p n ss k₀ (droppedBy p fl) mends n k₀ m₁ k₁ (start .owes) s₁ c
+    refit-cut c = owes-cut p n ss k₀ (droppedBy p fl) mends n k₀ m₁ k₁ (refit-start .owes) s₁ c
 
     module _ (c₁ : m₁ .cut ≡ false) where
       reset! : Going p n ss k₀ mends (m₁ .left) k₁
-      reset! = going-turn p r n ss k₀ (droppedBy p fl) mends n k₀ m₁ k₁ start s₁ c₁
+      reset! = going-turn p r n ss k₀ (droppedBy p fl) mends n k₀ m₁ k₁ refit-start s₁ c₁
 
       pub refit-whole : Whole p k₁
       refit-whole = reset! .whole
 
       -- the view behind them
-      behind : seen p k₁ ≡ storeAll storeView (dropStores p gs) v
-      behind = seen-after p r k₀ k₁ (droppedBy p fl) w (going-first p n ss k₀ (droppedBy p fl) mends n k₀ start) (storing-all p n (droppedBy p fl) k₀ m₁ k₁ s₁ c₁)
+      seen-dropped : seen p k₁ ≡ storeAll storeView (dropStores p gs) v
+      seen-dropped = seen-after p r k₀ k₁ (droppedBy p fl) w (going-first p n ss k₀ (droppedBy p fl) mends n k₀ refit-start) (storing-all p n (droppedBy p fl) k₀ m₁ k₁ s₁ c₁)
           ∙ ap (λ (l : List Store). storeAll storeView l v) drops
 
       -- nothing is stored behind them
@@ -123,8 +123,8 @@ module _ (p : Params) (r : Ranged p) (n : ℕ) (k₀ : Disk) (w : Whole p k₀) 
         pub is-it : unsealed (segments p (seen p k₀) 0) ≡ segmentOf p (seen p k₀) 0 sg ∷ []
         pub others : (y : ℕ) → y < p .Z → remains p (seen p k₀) 0 y ≡ true → (y ≡ sg → ⊥) → sealedIn p (seen p k₀) 0 y ≡ true
 
-      pub only : (sg : ℕ) → sg ≡ firstOr (p .Z) (map (λ (s : Segment). s .seg) (unsealed (segments p (seen p k₀) 0))) → sg < p .Z → Only sg
-      only sg e h = go (loose p r v sh acc)
+      pub only-unsealed : (sg : ℕ) → sg ≡ firstOr (p .Z) (map (λ (s : Segment). s .seg) (unsealed (segments p (seen p k₀) 0))) → sg < p .Z → Only sg
+      only-unsealed sg e h = go (loose p r v sh acc)
         where
           none : firstOr (p .Z) (map (λ (s : Segment). s .seg) []) ≡ p .Z
           none = unfold firstOr in refl
@@ -143,10 +143,10 @@ module _ (p : Params) (r : Ranged p) (n : ℕ) (k₀ : Disk) (w : Whole p k₀) 
         x = segmentOf p (seen p k₀) 0 sg
 
         stays : SameZones p v (seen p k₁) sg
-        stays = subst (λ (u : View). SameZones p v u sg) (sym behind) (drop-same p r v sh acc sg hs (o .kept))
+        stays = subst (λ (u : View). SameZones p v u sg) (sym seen-dropped) (drop-same p r v sh acc sg hs (o .kept))
 
-        same! : segmentOf p (seen p k₀) 0 sg ≡ segmentOf p (seen p k₁) 0 sg
-        same! = zones-segment p r v (seen p k₁) sg stays
+        dropped-same : segmentOf p (seen p k₀) 0 sg ≡ segmentOf p (seen p k₁) 0 sg
+        dropped-same = zones-segment p r v (seen p k₁) sg stays
 
         one! : mends ≡ mendStores p gs x
         one! =
@@ -166,11 +166,11 @@ module _ (p : Params) (r : Ranged p) (n : ℕ) (k₀ : Disk) (w : Whole p k₀) 
           whole! : mendStores p gs x ≡ missingFooters p x
           whole! = unfold mendStores in rw wh
 
-          feet : Going p n ss k₀ (missingFooters p x) (m₁ .left) k₁
-          feet = going-as p n ss k₀ mends (missingFooters p x) (m₁ .left) k₁ (one! ∙ whole!) reset!
+          feet-due : Going p n ss k₀ (missingFooters p x) (m₁ .left) k₁
+          feet-due = going-as p n ss k₀ mends (missingFooters p x) (m₁ .left) k₁ (one! ∙ whole!) reset!
 
           pub feet-fit : AllFit p (seen p k₁) (missingFooters p (segmentOf p (seen p k₁) 0 sg))
-          feet-fit = subst (λ (y : Segment). AllFit p (seen p k₁) (missingFooters p y)) same! (feet .fits)
+          feet-fit = subst (λ (y : Segment). AllFit p (seen p k₁) (missingFooters p y)) dropped-same (feet-due .fits)
 
           pub feet-pointers : (d : ℕ) → d < p .N → (1 + p .S ≤ pointerOf p (k₁ .pointers) d sg) × (pointerOf p (k₁ .pointers) d sg ≤ capacity p)
           feet-pointers d hd =
@@ -178,7 +178,7 @@ module _ (p : Params) (r : Ranged p) (n : ℕ) (k₀ : Disk) (w : Whole p k₀) 
               (subst (λ (y : ℕ). 1 + p .S ≤ y) e (whole-pointer p r v sh acc sg hs (o .kept) (o .open!) wh d hd), subst (λ (y : ℕ). y ≤ capacity p) e (pointer-ok p v 0 acc d sg hd hs (isIn-empty d)))
 
           pub refit-feet : (m : Made) (k′ : Disk) → Storing p (m₁ .left) (missingFooters p (segmentOf p (seen p k₁) 0 sg)) k₁ m k′ → Storing p n (restartStores p 0 (segments p (seen p k₀) 0)) k₀ m k′
-          refit-feet m k′ s = feet .owes m k′ (subst (λ (y : Segment). Storing p (m₁ .left) (missingFooters p y) k₁ m k′) (sym same!) s)
+          refit-feet m k′ s = feet-due .owes m k′ (subst (λ (y : Segment). Storing p (m₁ .left) (missingFooters p y) k₁ m k′) (sym dropped-same) s)
 
         -- ---- the rewrite
 
@@ -196,30 +196,30 @@ module _ (p : Params) (r : Ranged p) (n : ℕ) (k₀ : Disk) (w : Whole p k₀) 
           serial-left = eqb-false (greatestSerial gs) lastCount (sym (ap (λ (b : Bool). b && eqb (greatestSerial gs) lastCount) due!) ∙ sn .sixth)
 
           module _ (to : ℕ) (et : to ≡ firstOr (p .Z) (freeZones p (segments p (seen p k₀) 0))) where
-            free! : In to (keep (λ z. not (remains p v 0 z)) (below (p .Z)))
-            free! = subst (λ (l : List ℕ). In to l) (free-are p r v sh acc) (subst (λ (y : ℕ). In y (freeZones p gs)) (sym et) (first-in (freeZones p gs) (p .Z) some!))
+            to-free : In to (keep (λ z. not (remains p v 0 z)) (below (p .Z)))
+            to-free = subst (λ (l : List ℕ). In to l) (free-are p r v sh acc) (subst (λ (y : ℕ). In y (freeZones p gs)) (sym et) (first-in (freeZones p gs) (p .Z) some!))
 
             pub to-low : to < p .Z
-            to-low = below-in (p .Z) to (keep-in (λ z. not (remains p v 0 z)) (below (p .Z)) to free! .0)
+            to-low = below-in (p .Z) to (keep-in (λ z. not (remains p v 0 z)) (below (p .Z)) to to-free .0)
 
             gone! : remains p v 0 to ≡ false
-            gone! = not-true (remains p v 0 to) (keep-in (λ z. not (remains p v 0 z)) (below (p .Z)) to free! .1)
+            gone! = not-true (remains p v 0 to) (keep-in (λ z. not (remains p v 0 z)) (below (p .Z)) to to-free .1)
 
             pub to-apart : to ≡ sg → ⊥
             to-apart e = clash (o .kept) (subst (λ (y : ℕ). remains p v 0 y ≡ false) e gone!)
 
             pub to-empty : (d : ℕ) → d < p .N → pointerOf p (k₁ .pointers) d to ≡ 0
-            to-empty d hd = sym (pointer-view p k₁ d to hd to-low refit-whole) ∙ ap (λ (u : View). pointerAt u d to) behind ∙ drop-empty p r v sh acc to to-low gone! d hd
+            to-empty d hd = sym (pointer-view p k₁ d to hd to-low refit-whole) ∙ ap (λ (u : View). pointerAt u d to) seen-dropped ∙ drop-empty p r v sh acc to to-low gone! d hd
 
             pub still-open : sealedIn p (seen p k₁) 0 sg ≡ false
             still-open = sym (zones-sealed p r v (seen p k₁) sg stays) ∙ o .open!
 
             pub still-good : recsFault p 0 (segmentOf p (seen p k₁) 0 sg) ≡ false
-            still-good = subst (λ (y : Segment). recsFault p 0 y ≡ false) same!
+            still-good = subst (λ (y : Segment). recsFault p 0 y ≡ false) dropped-same
                 (let ok = faults-apart p v 0 acc sg (in-remaining p v 0 sg hs (o .kept)) in no-recs-fault p 0 x (ok .no-stripe-fault) (ok .no-address-fault))
 
             pub old-serial : (c : ℕ) → c ≡ serialOf p (seen p k₀) 0 sg → c ≡ segmentOf p (seen p k₁) 0 sg .serial
-            old-serial c e = e ∙ as! ∙ ap (λ (y : Segment). y .serial) same!
+            old-serial c e = e ∙ as! ∙ ap (λ (y : Segment). y .serial) dropped-same
               where
                 as! : serialOf p v 0 sg ≡ x .serial
                 as! = unfold serialOf in sym (serial-is p v 0 sg)
@@ -235,10 +235,10 @@ module _ (p : Params) (r : Ranged p) (n : ℕ) (k₀ : Disk) (w : Whole p k₀) 
               moves = going-as p n ss k₀ mends (rewriteStores p x to serial) (m₁ .left) k₁ (one! ∙ ragged!) reset!
 
               pub moves-fit : AllFit p (seen p k₁) (rewriteStores p (segmentOf p (seen p k₁) 0 sg) to serial)
-              moves-fit = subst (λ (y : Segment). AllFit p (seen p k₁) (rewriteStores p y to serial)) same! (moves .fits)
+              moves-fit = subst (λ (y : Segment). AllFit p (seen p k₁) (rewriteStores p y to serial)) dropped-same (moves .fits)
 
               pub refit-rewrite :
                   (m : Made) (k′ : Disk)
                   → Storing p (m₁ .left) (rewriteStores p (segmentOf p (seen p k₁) 0 sg) to serial) k₁ m k′
                   → Storing p n (restartStores p 0 (segments p (seen p k₀) 0)) k₀ m k′
-              refit-rewrite m k′ s = moves .owes m k′ (subst (λ (y : Segment). Storing p (m₁ .left) (rewriteStores p y to serial) k₁ m k′) (sym same!) s)
+              refit-rewrite m k′ s = moves .owes m k′ (subst (λ (y : Segment). Storing p (m₁ .left) (rewriteStores p y to serial) k₁ m k′) (sym dropped-same) s)

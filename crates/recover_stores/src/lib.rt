@@ -5,7 +5,7 @@ ghost use Rattle.spec.specs.Drives.{viewOf, mkDisk};
 ghost use Rattle.spec.specs.Params.{inRange};
 ghost use Rattle.spec.specs.Restart.{restartStores};
 ghost use Rattle.spec.specs.Segments.{segments};
-ghost use Rattle.recover_stores.specs.Refit.{Sane, Marks};
+ghost use Rattle.recover_stores.specs.Refit.{RefitReady, MendMarks};
 ghost use Rattle.recover_segments.specs.Remains.{Keeps, Serials};
 ghost use Rattle.law_views.specs.Views.{Whole};
 ghost use Rattle.disk_zones.specs.Made.{Storing};
@@ -28,8 +28,8 @@ pub fn healthy_stores(
     requires { ⌜ inRange p ≡ true ⌝ }
     requires { ⌜ Whole p (mkDisk (now image) (now pointers)) ⌝ }
     requires { ⌜ Keeps p (viewOf p (now image) (now pointers)) 0 (now kept) × Serials p (viewOf p (now image) (now pointers)) 0 (now serials) ⌝ }
-    requires { ⌜ Sane p (viewOf p (now image) (now pointers)) ⌝ }
-    requires { ⌜ Marks p (segments p (viewOf p (now image) (now pointers)) 0) whole ragged ⌝ }
+    requires { ⌜ RefitReady p (viewOf p (now image) (now pointers)) ⌝ }
+    requires { ⌜ MendMarks p (segments p (viewOf p (now image) (now pointers)) 0) whole ragged ⌝ }
     ensures { λ r. ⌜
         Storing p count (restartStores p 0 (segments p (viewOf p (now (image .entry)) (now (pointers .entry))) 0))
         (mkDisk (now (image .entry)) (now (pointers .entry))) r (mkDisk (now (image .exit)) (now (pointers .exit))) ⌝ }

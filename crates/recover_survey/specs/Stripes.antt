@@ -232,9 +232,9 @@ unfolding absent drivesOf
 absent-none p gone f e =
     sym (ap (any f) (keep-nothing (isIn gone) (below (p .N)) (λ d m. ap (λ (x : ℕ). isIn x d) e ∙ isIn-empty d)) ∙ any-none f)
 
-pub lost-none : (p : Params) (gone : ℕ) (g : Segment) (s : ℕ) → any (isData p s) (absent p gone) ≡ false → false ≡ lostBad p gone g s
+pub no-lost-bad : (p : Params) (gone : ℕ) (g : Segment) (s : ℕ) → any (isData p s) (absent p gone) ≡ false → false ≡ lostBad p gone g s
 unfolding lostBad
-lost-none p gone g s e = sym (ap (λ (b : Bool). b && badRec p (lostRec p gone g s)) e)
+no-lost-bad p gone g s e = sym (ap (λ (b : Bool). b && badRec p (lostRec p gone g s)) e)
 
 pub lost-some : (p : Params) (gone : ℕ) (g : Segment) (s : ℕ) (r : Rec) → any (isData p s) (absent p gone) ≡ true
     → r ≡ parityRec s (map (storedRec g s) (present p gone)) → badRec p r ≡ lostBad p gone g s
@@ -285,9 +285,9 @@ pub groups-left : (p : Params) (gone : ℕ) (g : Segment) (base : ℕ) → 0 < p
     → any (groupFault p gone g) (basesFrom p (base + p .G)) ≡ any (groupFault p gone g) (basesFrom p base)
 groups-left p gone g base h k e = sym (ap (any (groupFault p gone g)) (bases-step p base h k) ∙ any-miss (groupFault p gone g) base (basesFrom p (base + p .G)) e)
 
-pub groups-start : (p : Params) (v : View) (gone seg : ℕ) → 0 < p .G
+pub faults-start : (p : Params) (v : View) (gone seg : ℕ) → 0 < p .G
     → any (groupFault p gone (segmentOf p v gone seg)) (basesFrom p 0) ≡ recsFault p gone (segmentOf p v gone seg)
-groups-start p v gone seg h = sym (recs-fault-groups p gone (segmentOf p v gone seg) h (recs-short p v gone seg))
+faults-start p v gone seg h = sym (recs-fault-groups p gone (segmentOf p v gone seg) h (recs-short p v gone seg))
 
 -- none left, and none found
 pub groups-ended : (p : Params) (gone : ℕ) (g : Segment) (base : ℕ) (b : Bool) → 0 < p .G → p .S ≤ base

@@ -74,10 +74,10 @@ same-none : (i : ℕ) → sameList [] (upFrom i 0) ≡ eqb (max i (lastOf [])) (
 unfolding lastOf greatest sameList upFrom
 same-none i = sym (eq-eqb (max i 0) (i + 0) (omega arith))
 
-same-one : (i : ℕ) (m : List ℕ) → sameList m (upFrom (suc i) (length m)) ≡ eqb (max (suc i) (lastOf m)) (suc i + length m)
+tops-step : (i : ℕ) (m : List ℕ) → sameList m (upFrom (suc i) (length m)) ≡ eqb (max (suc i) (lastOf m)) (suc i + length m)
     → sameList (consIf true i m) (upFrom i (length (consIf true i m))) ≡ eqb (max i (lastOf (consIf true i m))) (i + length (consIf true i m))
 unfolding lastOf greatest sameList upFrom consIf
-same-one i m e =
+tops-step i m e =
     let a : max (suc i) (lastOf m) ≡ max i (max (suc i) (lastOf m)) = omega arith in
     let b : suc i + length m ≡ i + suc (length m) = omega arith in
     ap (λ (x : Bool). x && sameList m (upFrom (suc i) (length m))) (eq-eqb i i refl) ∙ e ∙ ap₂ eqb a b
@@ -104,7 +104,7 @@ same-from f i (suc n) = go (f i) (keep f (upFrom (suc i) n)) (same-from f (suc i
     go : (b : Bool) (m : List ℕ) → sameList m (upFrom (suc i) (length m)) ≡ eqb (max (suc i) (lastOf m)) (suc i + length m)
         → ((k : ℕ) (l : List ℕ) → m ≡ k ∷ l → suc i ≤ k) → (0 < length m → suc i + length m ≤ lastOf m)
         → sameList (consIf b i m) (upFrom i (length (consIf b i m))) ≡ eqb (max i (lastOf (consIf b i m))) (i + length (consIf b i m))
-    go true m e far many = same-one i m e
+    go true m e far many = tops-step i m e
     go false m e far many = same-gap i m far many
 
 -- stripes 0, 1, .. without a gap: as many as the last is far

@@ -29,15 +29,15 @@ unfolding unsealed segments
 unsealed-is p v gone = keep-map (λ (g : Segment). not (g .full)) (segmentOf p v gone) (remaining p v gone)
 
 -- the lowest of them
-pub data Opened (p : Params) (v : View) (gone u : ℕ) : Type 0 where
-  none-open : u ≡ p .Z → unsealed (segments p v gone) ≡ [] → Opened p v gone u
-  one-open : (us : List Segment) → u < p .Z → remains p v gone u ≡ true → unsealed (segments p v gone) ≡ segmentOf p v gone u ∷ us → Opened p v gone u
+pub data OpenFound (p : Params) (v : View) (gone u : ℕ) : Type 0 where
+  none-open : u ≡ p .Z → unsealed (segments p v gone) ≡ [] → OpenFound p v gone u
+  one-open : (us : List Segment) → u < p .Z → remains p v gone u ≡ true → unsealed (segments p v gone) ≡ segmentOf p v gone u ∷ us → OpenFound p v gone u
 
-pub opened-is : (p : Params) (v : View) (gone u : ℕ) → u ≡ firstOr (p .Z) (map (λ (g : Segment). g .seg) (unsealed (segments p v gone))) → Opened p v gone u
+pub open-found : (p : Params) (v : View) (gone u : ℕ) → u ≡ firstOr (p .Z) (map (λ (g : Segment). g .seg) (unsealed (segments p v gone))) → OpenFound p v gone u
 unfolding firstOr
-opened-is p v gone u e = go (keep (λ g. not (segmentOf p v gone g .full)) (remaining p v gone)) refl
+open-found p v gone u e = go (keep (λ g. not (segmentOf p v gone g .full)) (remaining p v gone)) refl
   where
-    go : (l : List ℕ) → keep (λ g. not (segmentOf p v gone g .full)) (remaining p v gone) ≡ l → Opened p v gone u
+    go : (l : List ℕ) → keep (λ g. not (segmentOf p v gone g .full)) (remaining p v gone) ≡ l → OpenFound p v gone u
     go [] q =
         let x : unsealed (segments p v gone) ≡ [] = unsealed-is p v gone ∙ ap (map (segmentOf p v gone)) q in
         none-open (e ∙ ap (λ (y : List Segment). firstOr (p .Z) (map (λ (g : Segment). g .seg) y)) x) x
@@ -49,15 +49,15 @@ opened-is p v gone u e = go (keep (λ g. not (segmentOf p v gone g .full)) (rema
         one-open (map (segmentOf p v gone) l) (subst (λ (n : ℕ). n < p .Z) (sym y) a) (ap (remains p v gone) y ∙ b) (x ∙ ap (λ (n : ℕ). segmentOf p v gone n ∷ map (segmentOf p v gone) l) (sym y))
 
 -- what the state takes from them: the open segment + 1 or 0, and its next stripe
-pub head-is : (p : Params) (v : View) (gone u n : ℕ) → Opened p v gone u → (u < p .Z → remains p v gone u ≡ true → n ≡ length (counted p gone (segmentOf p v gone u)))
+pub next-open-is : (p : Params) (v : View) (gone u n : ℕ) → OpenFound p v gone u → (u < p .Z → remains p v gone u ≡ true → n ≡ length (counted p gone (segmentOf p v gone u)))
     → (cond (eqb gone 0 && ltb u (p .Z)) (u + 1) 0 ≡ openOf (cond (eqb gone 0) (unsealed (segments p v gone)) []))
     × (cond (eqb gone 0 && ltb u (p .Z)) n 0 ≡ nextOf p (cond (eqb gone 0) (unsealed (segments p v gone)) []))
 unfolding openOf nextOf
-head-is p v gone u n (none-open h e) f =
+next-open-is p v gone u n (none-open h e) f =
     let x : cond (eqb gone 0) (unsealed (segments p v gone)) [] ≡ [] = ap (λ (y : List Segment). cond (eqb gone 0) y []) e ∙ cond-same (eqb gone 0) [] in
     let t : eqb gone 0 && ltb u (p .Z) ≡ false = and-false-right (eqb gone 0) (ltb u (p .Z)) (le-ltb u (p .Z) (omega arith)) in
     (cond-false (eqb gone 0 && ltb u (p .Z)) (u + 1) 0 t ∙ sym (ap openOf x), cond-false (eqb gone 0 && ltb u (p .Z)) n 0 t ∙ sym (ap (nextOf p) x))
-head-is p v gone u n (one-open us h m e) f = go (ℕ-discrete gone 0)
+next-open-is p v gone u n (one-open us h m e) f = go (ℕ-discrete gone 0)
   where
     go : Dec (gone ≡ 0) → (cond (eqb gone 0 && ltb u (p .Z)) (u + 1) 0 ≡ openOf (cond (eqb gone 0) (unsealed (segments p v gone)) []))
         × (cond (eqb gone 0 && ltb u (p .Z)) n 0 ≡ nextOf p (cond (eqb gone 0) (unsealed (segments p v gone)) []))
@@ -80,12 +80,12 @@ pub record SaidTables (p : Params) (v : View) (gone : ℕ) (tb cs : List ℕ) (t
   pub compact : cs ≡ compactTable p (segments p v gone)
   pub most : t ≡ greatestStamp (candidates p gone (segments p v gone))
 
-pub memory-is : (p : Params) (v : View) (gone t r u n : ℕ) (st : State) (tb cs fl : List ℕ) → SaidTables p v gone tb cs t → r ≡ greatestSerial (segments p v gone) → Opened p v gone u
+pub memory-is : (p : Params) (v : View) (gone t r u n : ℕ) (st : State) (tb cs fl : List ℕ) → SaidTables p v gone tb cs t → r ≡ greatestSerial (segments p v gone) → OpenFound p v gone u
     → (u < p .Z → remains p v gone u ≡ true → n ≡ length (counted p gone (segmentOf p v gone u)))
     → st ≡ idleState 1 gone t r (cond (eqb gone 0 && ltb u (p .Z)) (u + 1) 0) (cond (eqb gone 0 && ltb u (p .Z)) n 0) → mkMemory st tb cs fl ≡ restartMemory p v gone fl
 unfolding restartMemory
 memory-is p v gone t r u n st tb cs fl s er o f es =
-    let h = head-is p v gone u n o f in
+    let h = next-open-is p v gone u n o f in
     let e : st ≡ idleState 1 gone (greatestStamp (candidates p gone (segments p v gone))) (greatestSerial (segments p v gone))
     (openOf (cond (eqb gone 0) (unsealed (segments p v gone)) [])) (nextOf p (cond (eqb gone 0) (unsealed (segments p v gone)) [])) =
     es ∙ (λ j. idleState 1 gone (s .most j) (er j) (h .0 j) (h .1 j)) in

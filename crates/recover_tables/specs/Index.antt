@@ -20,7 +20,7 @@ use Rattle.spec.specs.Segments.{remaining, segmentOf, recsOn, compactRow}
 use Rattle.law_basic.specs.Geometry.{Ranged, compact-within}
 use Rattle.law_basic.specs.Ranges.{Test, test, not-both, and-left, and-right}
 use Rattle.law_basic.specs.Ranges.Test.{yes!, no! }
-use Rattle.recover_compact.specs.Compacts.{near, Shows}
+use Rattle.recover_compact.specs.Compacts.{near, SegmentShown}
 use Rattle.recover_groups.specs.Bases.{group-len-le}
 use Rattle.recover_groups.specs.Entering.{Entering, isNew, entering-bad-data, entering-bad, entering-next, entering-end}
 use Rattle.recover_groups.specs.Faulty.{length-group, no-group-fault}
@@ -33,7 +33,7 @@ use Rattle.law_drives.specs.Tables.{remains, rowAt, row-at, length-recs, remain
 use Rattle.law_drives.specs.Tests.{cond-true}
 
 module _ (p : Params) (r : Ranged p) (im ps : List ℕ) (gone : ℕ) (cs : List ℕ) (G : Ground p im ps gone cs) (seg base d : ℕ) (m : In seg (remaining p (viewOf p im ps) gone))
-    (sh : Shows p (viewOf p im ps) gone seg cs)
+    (sh : SegmentShown p (viewOf p im ps) gone seg cs)
     (hd : d < p .N) (hg : isIn gone d ≡ false) (hb : base < p .S) (hm : base % p .G ≡ 0) where
   abbrev v : View
   v = viewOf p im ps
@@ -55,17 +55,17 @@ module _ (p : Params) (r : Ranged p) (im ps : List ℕ) (gone : ℕ) (cs : List 
   short : length rs ≤ groupLen p base
   short = omega (arith, length-group p base all)
 
-  next : (i : ℕ) → compactAt p d seg base + i ≡ compactAt p d seg (base + i)
+  compact-next : (i : ℕ) → compactAt p d seg base + i ≡ compactAt p d seg (base + i)
   unfolding compactAt
-  next i = add-assoc ((d * p .Z + seg) * p .S) base i
+  compact-next i = add-assoc ((d * p .Z + seg) * p .S) base i
 
   kept : rowAt p v gone d seg ≡ all
   unfolding rowAt
   kept = cond-true (remains p v gone seg) all [] (remaining-in p v gone seg m .1)
 
-  of-group : (i : ℕ) → i < length rs → getD rs i (mkRec 0 0 0) ≡ getD all (base + i) (mkRec 0 0 0)
+  record-in-group : (i : ℕ) → i < length rs → getD rs i (mkRec 0 0 0) ≡ getD all (base + i) (mkRec 0 0 0)
   unfolding groupRecs
-  of-group i h =
+  record-in-group i h =
       let n = length-group p base all in
       getD-take (groupLen p base) (drop base all) i (mkRec 0 0 0) (omega (arith, n, h)) ∙ getD-drop base all i (mkRec 0 0 0)
 
@@ -75,11 +75,11 @@ module _ (p : Params) (r : Ranged p) (im ps : List ℕ) (gone : ℕ) (cs : List 
       let n = length-group p base all in
       let o : base + i < length all = omega (arith, n, h) in
       let s : base + i < p .S = omega (arith, o, length-recs p v gone seg d hd) in
-      ap (λ (x : ℕ). getD cs x 0) (next i)
+      ap (λ (x : ℕ). getD cs x 0) (compact-next i)
       ∙ sh d (base + i) hd s
       ∙ ap (λ (x : List Rec). getD (compactRow p x) (base + i) 0) kept
       ∙ row-at p all (base + i) o
-      ∙ ap (λ (x : Rec). compactEntry p (x .stripe)) (sym (of-group i h))
+      ∙ ap (λ (x : Rec). compactEntry p (x .stripe)) (sym (record-in-group i h))
 
   module _ (old at : List ℕ) (i : ℕ) (x : Entering p d base rs old at i) (h : i < length rs) where
     abbrev c : Rec
@@ -100,35 +100,35 @@ module _ (p : Params) (r : Ranged p) (im ps : List ℕ) (gone : ℕ) (cs : List 
         go (no! e) = absurd (not-both (recsBad p d base rs) (entering-bad p d base rs old at i x h some hb hm short c refl e) clean)
 
     -- it is the number of the stripe in the group
-    entry-is : getD cs (compactAt p d seg base + i) 0 ≡ c .stripe - base
-    entry-is =
+    entry-stripe : getD cs (compactAt p d seg base + i) 0 ≡ c .stripe - base
+    entry-stripe =
         let s = c .stripe in
         let y : (leb base s && ltb (s - base) (groupLen p base)) ≡ true = and-left (leb base s && ltb (s - base) (groupLen p base)) (eqb (getD at (256 * d + (s - base)) 0) 0) fresh in
         let u = leb-true base s (and-left (leb base s) (ltb (s - base) (groupLen p base)) y) in
         let w = ltb-true (s - base) (groupLen p base) (and-right (leb base s) (ltb (s - base) (groupLen p base)) y) in
         entry i h ∙ sym (near p base (s - base) s some hm (omega (arith, w, group-len-le p base)) (omega (arith, u)))
 
-    pub entered : Entering p d base rs old (set at (256 * d + getD cs (compactAt p d seg base + i) 0) (i + 1)) (i + 1)
-    entered =
-        subst (λ (n : ℕ). Entering p d base rs old (set at (256 * d + n) (i + 1)) (i + 1)) (sym entry-is)
+    pub index-entered : Entering p d base rs old (set at (256 * d + getD cs (compactAt p d seg base + i) 0) (i + 1)) (i + 1)
+    index-entered =
+        subst (λ (n : ℕ). Entering p d base rs old (set at (256 * d + n) (i + 1)) (i + 1)) (sym entry-stripe)
         (entering-next p d base rs old at i x h some hb hm short c refl (omega (arith, hd, r .drives-high)) (omega (arith, group-len-le p base, r .group-high)) fine fresh)
 
   pub all-entered : (old at : List ℕ) (i : ℕ) → Entering p d base rs old at i → length rs ≤ i → SameBelow d old at × Row p base rs d at
   all-entered old at i x h = (x .lower, entering-end p d base rs old at i x h .1)
 
 -- a place of the table lies in it
-pub entry-within : (p : Params) (d z b i : ℕ) → d < p .N → z < p .Z → b + i < p .S → compactAt p d z b + i < compactLen p
+pub compact-entry-within : (p : Params) (d z b i : ℕ) → d < p .N → z < p .Z → b + i < p .S → compactAt p d z b + i < compactLen p
 unfolding compactAt
-entry-within p d z b i hd hz h =
+compact-entry-within p d z b i hd hz h =
     let e : (d * p .Z + z) * p .S + b + i ≡ (d * p .Z + z) * p .S + (b + i) = add-assoc ((d * p .Z + z) * p .S) b i in
     omega (arith, e, compact-within p d z (b + i) hd hz h)
 
 -- the drive's row is that of its records, the lower ones are the same
 abbrev pub Rowed : Params → List ℕ → List ℕ → ℕ → List ℕ → ℕ → ℕ → ℕ → List ℕ → List ℕ → Type 0
-Rowed p im ps gone cs seg base d old at = Ground p im ps gone cs → In seg (remaining p (viewOf p im ps) gone) → Shows p (viewOf p im ps) gone seg cs
+Rowed p im ps gone cs seg base d old at = Ground p im ps gone cs → In seg (remaining p (viewOf p im ps) gone) → SegmentShown p (viewOf p im ps) gone seg cs
     → SameBelow d old at × Row p base (groupRecs p base (recsOn (segmentOf p (viewOf p im ps) gone seg) d)) d at
 
 -- the index of the group is right
 abbrev pub Grouped : Params → List ℕ → List ℕ → List ℕ → Group → List ℕ → Type 0
-Grouped p im ps cs w at = Ground p im ps (w .gone) cs → In (w .seg) (remaining p (viewOf p im ps) (w .gone)) → Shows p (viewOf p im ps) (w .gone) (w .seg) cs
+Grouped p im ps cs w at = Ground p im ps (w .gone) cs → In (w .seg) (remaining p (viewOf p im ps) (w .gone)) → SegmentShown p (viewOf p im ps) (w .gone) (w .seg) cs
     → Indexed p (segmentIn p im ps w) (w .base) at

@@ -24,11 +24,11 @@ use Rattle.law_basic.specs.Splice.{splice-nil, splice-all, wrote-one}
 use Rattle.recover_groups.specs.declared.Group.{Group}
 use Rattle.recover_groups.specs.Bases.{group-len-le, group-len-fits}
 use Rattle.recover_groups.specs.Chunks.{counts-entered}
-use Rattle.recover_groups.specs.Groups.{groupLen, AllEntered, segmentIn, Reads}
-use Rattle.recover_segments.specs.Remains.{remains as Remain, isLeft, serialOf}
-use Rattle.recover_addresses.specs.Lies.{Counted}
+use Rattle.recover_groups.specs.Groups.{groupLen, AllEntered, segmentIn, GroupReads}
+use Rattle.recover_segments.specs.Remains.{remainsHere, isLeft, serialOf}
+use Rattle.recover_addresses.specs.Lies.{StripeCounts}
 use Rattle.recover_addresses.specs.Told.{Near, Tells}
-use Rattle.recover_compact.specs.Compacts.{Shows}
+use Rattle.recover_compact.specs.Compacts.{SegmentShown}
 use Rattle.law_drives.specs.Members.{In}
 use Rattle.law_drives.specs.Segs.{remaining-low, serial-is}
 use Rattle.law_drives.specs.Spots.{counts-in}
@@ -41,17 +41,17 @@ abbrev pub lastBase : ℕ
 lastBase = 65535 + 256
 
 -- the index is that of the group, whose stripe k counts
-abbrev pub Reading : Params → List ℕ → Group → List ℕ → ℕ → Type 0
-Reading p im w at k = (ps : List ℕ) × Reads p im ps w at × (counts p (w .gone) (segmentIn p im ps w) (w .base + k) ≡ true)
+abbrev pub ReadsStripe : Params → List ℕ → Group → List ℕ → ℕ → Type 0
+ReadsStripe p im w at k = (ps : List ℕ) × GroupReads p im ps w at × (counts p (w .gone) (segmentIn p im ps w) (w .base + k) ≡ true)
 
 -- the index is that of the group, of a remaining segment, whose rows of the compact table are as the drives say
 pub record Indexing (p : Params) (im ps : List ℕ) (w : Group) (co at : List ℕ) (k : ℕ) : Type 0 where
-  pub reads : Reads p im ps w at
+  pub reads : GroupReads p im ps w at
   pub long : length at ≡ 2048
   pub base-low : w .base < p .S
   pub stripe-in : k < groupLen p (w .base)
   pub remains : In (w .seg) (remaining p (viewOf p im ps) (w .gone))
-  pub shown : Shows p (viewOf p im ps) (w .gone) (w .seg) co
+  pub shown : SegmentShown p (viewOf p im ps) (w .gone) (w .seg) co
 
 -- and stripe k counts
 pub record Standing (p : Params) (im ps : List ℕ) (w : Group) (co at : List ℕ) (k : ℕ) : Type 0 where
@@ -59,16 +59,16 @@ pub record Standing (p : Params) (im ps : List ℕ) (w : Group) (co at : List �
   pub it-counts : counts p (w .gone) (segmentIn p im ps w) (w .base + k) ≡ true
 
 module _ (p : Params) (im ps : List ℕ) (w : Group) (at : List ℕ) (k : ℕ) where
-  pub stripe-below : w .base < p .S → k < groupLen p (w .base) → w .base + k < p .S
-  stripe-below h l = omega (arith, group-len-fits p (w .base) (omega arith))
+  pub group-stripe-below : w .base < p .S → k < groupLen p (w .base) → w .base + k < p .S
+  group-stripe-below h l = omega (arith, group-len-fits p (w .base) (omega arith))
 
   pub stripe-byte : Ranged p → k < groupLen p (w .base) → k < 256
   stripe-byte r l = omega (arith, group-len-le p (w .base), r .group-high)
 
-  pub standing-counted : (co : List ℕ) → Standing p im ps w co at k → Counted p (viewOf p im ps) (w .gone) co (w .seg) (w .base + k)
+  pub standing-counted : (co : List ℕ) → Standing p im ps w co at k → StripeCounts p (viewOf p im ps) (w .gone) co (w .seg) (w .base + k)
   standing-counted co s = record {
     remains = s .index .remains;
-    stripe-low = stripe-below (s .index .base-low) (s .index .stripe-in);
+    stripe-low = group-stripe-below (s .index .base-low) (s .index .stripe-in);
     it-counts = s .it-counts;
     shown = s .index .shown;
   }
@@ -76,11 +76,11 @@ module _ (p : Params) (im ps : List ℕ) (w : Group) (at : List ℕ) (k : ℕ) w
   pub standing-low : (co : List ℕ) → Standing p im ps w co at k → w .seg < p .Z
   standing-low co s = remaining-low p (viewOf p im ps) (w .gone) (w .seg) (s .index .remains)
 
-  pub reading-entered : Reads p im ps w at → k < groupLen p (w .base) → counts p (w .gone) (segmentIn p im ps w) (w .base + k) ≡ true → AllEntered p (w .gone) (w .base) at k
+  pub reading-entered : GroupReads p im ps w at → k < groupLen p (w .base) → counts p (w .gone) (segmentIn p im ps w) (w .base + k) ≡ true → AllEntered p (w .gone) (w .base) at k
   reading-entered q l c = counts-entered p (w .gone) (segmentIn p im ps w) (w .base) at k (q .indexed) l c
 
   -- 01, The array: the offset of its record on a drive
-  pub offset-fits : (d : ℕ) → w .base < p .S → k < groupLen p (w .base) → d < p .N → Reads p im ps w at → counts p (w .gone) (segmentIn p im ps w) (w .base + k) ≡ true
+  pub offset-fits : (d : ℕ) → w .base < p .S → k < groupLen p (w .base) → d < p .N → GroupReads p im ps w at → counts p (w .gone) (segmentIn p im ps w) (w .base + k) ≡ true
       → offsetOf (w .gone) (segmentIn p im ps w) (w .base + k) d < p .S
   unfolding offsetOf
   offset-fits d h l hd q c = go (test (isIn (w .gone) d))
@@ -89,7 +89,7 @@ module _ (p : Params) (im ps : List ℕ) (w : Group) (at : List ℕ) (k : ℕ) w
       g = segmentIn p im ps w
 
       go : Test (isIn (w .gone) d) → cond (isIn (w .gone) d) (w .base + k) (offsetOn g d (w .base + k)) < p .S
-      go (yes! e) = subst (λ (x : ℕ). x < p .S) (sym (cond-true (isIn (w .gone) d) (w .base + k) (offsetOn g d (w .base + k)) e)) (stripe-below h l)
+      go (yes! e) = subst (λ (x : ℕ). x < p .S) (sym (cond-true (isIn (w .gone) d) (w .base + k) (offsetOn g d (w .base + k)) e)) (group-stripe-below h l)
       go (no! e) =
           let x = q .indexed .within d k hd l (counts-in p (w .gone) g (w .base + k) d c hd e) in
           subst (λ (x : ℕ). x < p .S) (sym (cond-false (isIn (w .gone) d) (w .base + k) (offsetOn g d (w .base + k)) e)) (omega (arith, x .1, group-len-fits p (w .base) (omega arith)))
@@ -104,7 +104,7 @@ cand-is p v gone g s d r n o q er eo en eq =
     λ j. record { address = er j .address; stamp = er j .stamp; serial = en j; drive = d; offset = eo j; place = ep j }
 
 -- it is one of the drives' candidates
-pub cand-there : (p : Params) (v : View) (gone : ℕ) (co : List ℕ) (g s i : ℕ) (c : Cand) → Counted p v gone co g s → i < dataCount p
+pub cand-there : (p : Params) (v : View) (gone : ℕ) (co : List ℕ) (g s i : ℕ) (c : Cand) → StripeCounts p v gone co g s → i < dataCount p
     → c ≡ candOf p gone (segmentOf p v gone g) s (dataDrive p s i) → Near p v gone co c
 cand-there p v gone co g s i c k h e = (
   record {
@@ -126,8 +126,8 @@ serial-there p v gone g n e = e ∙ sym (serial-is p v gone g)
 
 -- ---- answers of the code
 
-pub kept-is : (p : Params) (v : View) (gone g : ℕ) (b : Bool) → b ≡ Remain p v gone g → b ≡ remains p v gone g
-unfolding Remain isLeft remains
+pub kept-is : (p : Params) (v : View) (gone g : ℕ) (b : Bool) → b ≡ remainsHere p v gone g → b ≡ remains p v gone g
+unfolding remainsHere isLeft remains
 kept-is p v gone g b e = e
 
 -- the open segment's stripes, once its turn has come

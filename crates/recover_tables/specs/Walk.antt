@@ -20,7 +20,7 @@ use Rattle.law_drives.specs.Members.{In, map-in, flat-in, flat-map, keep-in, be
 use Rattle.law_drives.specs.Segs.{CandAt}
 use Rattle.law_drives.specs.Tables.{grid-ext, remains, remaining-is, in-remaining, rowAt, compact-is, compact-row-long}
 use Rattle.recover_addresses.specs.Told.{Told, Known, Tells, nothing-told}
-use Rattle.recover_compact.specs.Compacts.{Shows, Else}
+use Rattle.recover_compact.specs.Compacts.{SegmentShown, Else}
 
 -- 01, The calls: the candidates of a stripe
 unfoldable pub stripeCands : Params → ℕ → Segment → ℕ → List Cand
@@ -168,7 +168,7 @@ module _ (p : Params) (v : View) (gone : ℕ) (co : List ℕ) (g : ℕ) where
 -- the segments below n: their rows of the compact table, their candidates in the address table, and the greatest stamp of these
 pub record Toured (p : Params) (v : View) (gone n : ℕ) (co tb : List ℕ) (m : ℕ) : Type 0 where
   pub long : length co ≡ compactLen p
-  pub shown : (g : ℕ) → g < n → Shows p v gone g co
+  pub shown : (g : ℕ) → g < n → SegmentShown p v gone g co
   pub table : tb ≡ addressTable p (tourCands p v gone (below n))
   pub most : m ≡ greatestStamp (tourCands p v gone (below n))
 
@@ -235,13 +235,13 @@ module _ (p : Params) (v : View) (gone : ℕ) where
       none! : 0 ≡ greatestStamp []
       none! = unfold greatestStamp greatest in refl
 
-  module _ (g : ℕ) (hg : g < p .Z) (co co′ tb : List ℕ) (m : ℕ) (t : Toured p v gone g co tb m) (sh : Shows p v gone g co′ × Else p g co co′) where
+  module _ (g : ℕ) (hg : g < p .Z) (co co′ tb : List ℕ) (m : ℕ) (t : Toured p v gone g co tb m) (sh : SegmentShown p v gone g co′ × Else p g co co′) where
     -- the rows of the segments below, and of g
-    shown-next : (y : ℕ) → y < g + 1 → Shows p v gone y co′
+    shown-next : (y : ℕ) → y < g + 1 → SegmentShown p v gone y co′
     shown-next y h = go (ℕ-discrete y g)
       where
-        go : Dec (y ≡ g) → Shows p v gone y co′
-        go (yes e) = subst (λ (n : ℕ). Shows p v gone n co′) (sym e) (sh .0)
+        go : Dec (y ≡ g) → SegmentShown p v gone y co′
+        go (yes e) = subst (λ (n : ℕ). SegmentShown p v gone n co′) (sym e) (sh .0)
         go (no n) = λ d o hd ho. sh .1 d y o hd (omega arith) ho n ∙ t .shown y (omega arith) d o hd ho
 
     -- what is told is found again by these

@@ -11,10 +11,10 @@ ghost use Rattle.spec.specs.Memory.{mkMemory, idleState, compactAt};
 ghost use Rattle.spec.specs.Params.{inRange, imageLen, pointersLen, addressesLen, compactLen};
 ghost use Rattle.spec.specs.Restart.{restartMemory};
 ghost use Rattle.spec.specs.Segments.{remaining, segmentOf, segments, counted, candOf, greatestStamp};
-ghost use Rattle.recover_groups.specs.Groups.{groupLen, recsFault, segmentIn, Reads};
+ghost use Rattle.recover_groups.specs.Groups.{groupLen, recsFault, segmentIn, GroupReads};
 ghost use Rattle.recover_addresses.specs.Lies.{Ground};
 ghost use Rattle.recover_addresses.specs.Told.{Known, Tells};
-ghost use Rattle.recover_compact.specs.Compacts.{Shows};
+ghost use Rattle.recover_compact.specs.Compacts.{SegmentShown};
 ghost use Rattle.disk_rank.specs.Ranked.{ranked};
 ghost use Rattle.recover_segments.specs.Remains.{Keeps, Serials};
 ghost use Rattle.law_drives.specs.Members.{In};
@@ -22,7 +22,7 @@ ghost use Rattle.law_drives.specs.Tables.{remains};
 ghost use Rattle.law_views.specs.Views.{Whole};
 ghost use Rattle.recover_tables.specs.Head.{SaidTables};
 ghost use Rattle.recover_tables.specs.Index.{Rowed, Grouped};
-ghost use Rattle.recover_tables.specs.Ready.{Reading, Indexing, Standing};
+ghost use Rattle.recover_tables.specs.Ready.{ReadsStripe, Indexing, Standing};
 ghost use Rattle.recover_tables.specs.Walk.{stripeCands, Walked, Toured};
 use disk_rank::Cand;
 use recover_groups::Group;
@@ -65,10 +65,10 @@ fn cand_of(
 ) -> Cand
     requires { ⌜ inRange p ≡ true ⌝ }
     requires { ⌜ (length (now image) ≡ imageLen p) × (length (now at) ≡ 2048) × (w .seg < p .Z) × (w .base < p .S) × (drive < p .N) × (k < groupLen p (w .base)) ⌝ }
-    requires { ⌜ Reading p (now image) w (now at) k ⌝ }
+    requires { ⌜ ReadsStripe p (now image) w (now at) k ⌝ }
     ensures { λ r. ⌜
         ((ps : List ℕ)
-        → Reads p (now (image .entry)) ps w (now (at .entry))
+        → GroupReads p (now (image .entry)) ps w (now (at .entry))
         → serial .0 ≡ segmentIn p (now (image .entry)) ps w .serial
         → ranked r ≡ candOf p (w .gone) (segmentIn p (now (image .entry)) ps w) (w .base + k) drive) ⌝ }
 {
@@ -246,7 +246,7 @@ fn load_group(
         × (w .base % p .G ≡ 0)
         × (w .full ≡ sealedIn p (viewOf p (now image) (now pointers)) (w .gone) (w .seg))
         × In (w .seg) (remaining p (viewOf p (now image) (now pointers)) (w .gone))
-        × Shows p (viewOf p (now image) (now pointers)) (w .gone) (w .seg) (now compact)
+        × SegmentShown p (viewOf p (now image) (now pointers)) (w .gone) (w .seg) (now compact)
         × (t .counted ≤ w .base) ⌝ }
     requires { ⌜ Known p (viewOf p (now image) (now pointers)) (w .gone) (now compact) (now addresses) ⌝ }
     ensures { λ r. ⌜
@@ -290,7 +290,7 @@ fn load_groups(
 ) -> Loaded
     requires { ⌜ Ground p (now image) (now pointers) gone (now compact) ⌝ }
     requires { ⌜ Serials p (viewOf p (now image) (now pointers)) gone (now serials) ⌝ }
-    requires { ⌜ In seg (remaining p (viewOf p (now image) (now pointers)) gone) × Shows p (viewOf p (now image) (now pointers)) gone seg (now compact) ⌝ }
+    requires { ⌜ In seg (remaining p (viewOf p (now image) (now pointers)) gone) × SegmentShown p (viewOf p (now image) (now pointers)) gone seg (now compact) ⌝ }
     requires { ⌜ Known p (viewOf p (now image) (now pointers)) gone (now compact) (now addresses) × (length (now at) ≡ 2048) ⌝ }
     ensures { λ r. ⌜
         Walked p (viewOf p (now (image .entry)) (now (pointers .entry))) gone (now (compact .entry)) seg (below (p .S)) (now (addresses .entry)) (now (addresses .exit))

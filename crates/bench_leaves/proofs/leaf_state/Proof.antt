@@ -5,7 +5,7 @@ use borrow.Author.Tests.{le-leb, lt-leb, eq-eqb, ne-eqb}
 use native.Mathlib.Omega.{arith}
 use Rattle.spec.specs.Memory.{stateLen, stateBytes}
 use Rattle.spec.specs.declared.State.{State}
-use Rattle.bench_leaves.specs.Bench.{setCell, changed}
+use Rattle.bench_leaves.specs.Bench.{setCell, benchChanged}
 use borrow.Author.Needs.{needs}
 use Rattle.bench_leaves.proofs.leaf_state.Statement.{statement}
 use Rattle.bench_leaves.proofs.leaf_state.Tie as tie
@@ -14,7 +14,7 @@ state-len-requires : tie.Need-state-len-requires
 state-len-requires c κs = search needs
 
 returns : tie.Need-returns
-unfolding changed
+unfolding benchChanged
 returns c =
     let args = c .before .before .before .before .args in
     simp (ne-eqb (length (args .src .now)) stateLen (λ e. c .if1 .taken (e ∙ sym (c .before .state-len .ensures))))
@@ -23,7 +23,7 @@ state-len-requires-2 : tie.Need-state-len-requires-2
 state-len-requires-2 c κs = search needs
 
 returns-2 : tie.Need-returns-2
-unfolding changed
+unfolding benchChanged
 returns-2 c =
     let if1 = c .before .before .if1 in
     let state-len = c .before .before .before .state-len in
@@ -31,7 +31,7 @@ returns-2 c =
     simp (eq-eqb (length (args .src .now)) stateLen (if1 .left ∙ state-len .ensures), ne-eqb (length (args .dst .now)) stateLen (λ e. c .if2 .taken (e ∙ sym (c .before .state-len2 .ensures))))
 
 returns-3 : tie.Need-returns-3
-unfolding changed
+unfolding benchChanged
 returns-3 c =
     let state-len2 = c .before .before .state-len2 in
     let if1 = c .before .before .before .if1 in
@@ -71,7 +71,7 @@ same-length : tie.Need-same-length
 same-length c = search needs
 
 returns-4 : tie.Need-returns-4
-unfolding changed setCell
+unfolding benchChanged setCell
 returns-4 c =
     let a = c .before .before .before .before .before .before .before .before .before .before .before .before .args in
     let encode = c .before .before .encode in

@@ -5,7 +5,7 @@ use native.Mathlib.Omega.{arith}
 use lib.Dec.{lit<}
 use Rattle.spec.specs.Bytes.{beOf, part}
 use Rattle.spec.specs.Engine.Call.{close}
-use Rattle.law_basic.specs.Be.{room, room64, beOf-part-zero, beOf-part-suc}
+use Rattle.law_basic.specs.Be.{be-room, room64, beOf-part-zero, beOf-part-suc}
 use Rattle.bits_be.proofs.read_be.Statement.{statement}
 use Rattle.bits_be.proofs.read_be.Tie as tie
 
@@ -47,7 +47,7 @@ loop-again c =
     let a = c .before .before .before .before .before .args in (
       omega arith,
       ap₂ (λ (x y : ℕ). x * 256 + y) (l .inv .1) (c .wide .ensures .0) ∙ beOf-part-suc (a .at) (l .i) (a .src .now) (omega arith),
-      room (l .n) (l .i) (c .wide .result) (l .inv .2) (c .wide .ensures .1),
+      be-room (l .n) (l .i) (c .wide .result) (l .inv .2) (c .wide .ensures .1),
     )
 
 returns : tie.Need-returns Inv-loop μ-loop

@@ -1,6 +1,7 @@
--- `checks`: a failed test closes its end (`range-fails` and so on), the passed ones
+-- `checks`: a failed test closes its end (`close-range-fails` and so on), the passed ones
 -- before it drop off; if zones are scarce, `scarce_checks` is the rest. Assumes nothing.
-use Rattle.call_close.specs.Order.{range-fails, range-passes, lengths-fail, lengths-pass, missing-fails, missing-passes, filling-fails, scarce-last, state-fails, state-passes}
+use Rattle.call_close.specs.Order.{close-range-fails, close-range-passes, close-lengths-fail, close-lengths-pass, close-missing-fails, close-missing-passes, filling-fails, scarce-last}
+use Rattle.call_close.specs.Order.{close-state-fails, close-state-passes}
 use Rattle.spec.specs.Drives.{Disk, mkDisk, viewOf}
 use Rattle.spec.specs.Engine.{lentOk}
 use Rattle.spec.specs.Memory.{Memory, mkMemory, hasFilling, stateOf, stateOk}
@@ -25,7 +26,7 @@ returns c =
     let k : Disk = mkDisk (a .image .now) (a .pointers .now) in
     let m : Memory = mkMemory (stateOf (a .bytes .now)) (a .addresses .now) (a .compact .now) (a .inflight .now) in
     let er : inRange (a .p) ≡ false = sym (c .before .in-range .ensures) ∙ not-true (c .before .in-range .result) (c .if1 .taken) in
-    range-fails (a .p) k m er
+    close-range-fails (a .p) k m er
 
 lent-ok-requires : tie.Need-lent-ok-requires
 lent-ok-requires c κs = sym (c .before .in-range .ensures) ∙ not-false (c .before .in-range .result) (c .if1 .left)
@@ -39,7 +40,7 @@ returns-2 c =
     let m : Memory = mkMemory (stateOf (a .bytes .now)) (a .addresses .now) (a .compact .now) (a .inflight .now) in
     let er : inRange (a .p) ≡ true = sym (in-range .ensures) ∙ not-false (in-range .result) (if1 .left) in
     let el : lentOk (a .p) k m ≡ false = sym (c .before .lent-ok .ensures (stateOf (a .bytes .now))) ∙ not-true (c .before .lent-ok .result) (c .if2 .taken) in
-    lengths-fail (a .p) k m el ∙ range-passes (a .p) k m er
+    close-lengths-fail (a .p) k m el ∙ close-range-passes (a .p) k m er
 
 returns-3 : tie.Need-returns-3
 returns-3 c =
@@ -53,7 +54,7 @@ returns-3 c =
     let m : Memory = mkMemory (stateOf (a .bytes .now)) (a .addresses .now) (a .compact .now) (a .inflight .now) in
     let er : inRange (a .p) ≡ true = sym (in-range .ensures) ∙ not-false (in-range .result) (if1 .left) in
     let el : lentOk (a .p) k m ≡ true = sym (lent-ok .ensures (stateOf (a .bytes .now))) ∙ not-false (lent-ok .result) (if2 .left) in
-    missing-fails (a .p) k m (λ e. c .if3 .taken (pre .1 ∙ e)) ∙ lengths-pass (a .p) k m el ∙ range-passes (a .p) k m er
+    close-missing-fails (a .p) k m (λ e. c .if3 .taken (pre .1 ∙ e)) ∙ close-lengths-pass (a .p) k m el ∙ close-range-passes (a .p) k m er
 
 is-slot-requires : tie.Need-is-slot-requires
 is-slot-requires c κs = search needs
@@ -73,7 +74,7 @@ returns-4 c =
     let el : lentOk (a .p) k m ≡ true = sym (lent-ok .ensures (stateOf (a .bytes .now))) ∙ not-false (lent-ok .result) (if2 .left) in
     let st = stateOf (a .bytes .now) in
     let ef : hasFilling (a .p) st ≡ false = sym (slot-is (a .p) st (a .slot) (pre .0)) ∙ sym (c .before .is-slot .ensures) ∙ not-true (c .before .is-slot .result) (c .if4 .taken) in
-    filling-fails (a .p) k m ef ∙ missing-passes (a .p) k m (sym (pre .1) ∙ if3 .left) ∙ lengths-pass (a .p) k m el ∙ range-passes (a .p) k m er
+    filling-fails (a .p) k m ef ∙ close-missing-passes (a .p) k m (sym (pre .1) ∙ if3 .left) ∙ close-lengths-pass (a .p) k m el ∙ close-range-passes (a .p) k m er
 
 scarce-requires : tie.Need-scarce-requires
 scarce-requires c κs =
@@ -122,7 +123,7 @@ returns-5 c =
     let st = stateOf (a .bytes .now) in
     let ef : hasFilling (a .p) st ≡ true = sym (slot-is (a .p) st (a .slot) (pre .0)) ∙ sym (is-slot .ensures) ∙ not-false (is-slot .result) (if4 .left) in
     let es : scarce (a .p) (viewOf (a .p) (a .image .now) (a .pointers .now)) 1 ≡ true = sym (scarce′ .ensures (a .image .now) (lent-long (a .p) k m el .0)) ∙ c .before .if5 .taken in
-    c .scarce-checks .ensures ∙ scarce-last (a .p) k m ef es ∙ missing-passes (a .p) k m (sym (pre .1) ∙ if3 .left) ∙ lengths-pass (a .p) k m el ∙ range-passes (a .p) k m er
+    c .scarce-checks .ensures ∙ scarce-last (a .p) k m ef es ∙ close-missing-passes (a .p) k m (sym (pre .1) ∙ if3 .left) ∙ close-lengths-pass (a .p) k m el ∙ close-range-passes (a .p) k m er
 
 state-ok-requires : tie.Need-state-ok-requires
 state-ok-requires c κs =
@@ -152,7 +153,7 @@ returns-6 c =
     let ef : hasFilling (a .p) st ≡ true = sym (slot-is (a .p) st (a .slot) (pre .0)) ∙ sym (is-slot .ensures) ∙ not-false (is-slot .result) (if4 .left) in
     let es : scarce (a .p) (viewOf (a .p) (a .image .now) (a .pointers .now)) 1 ≡ false = sym (scarce′ .ensures (a .image .now) (lent-long (a .p) k m el .0)) ∙ if5 .left in
     let eo : stateOk (a .p) (stateOf (a .bytes .now)) ≡ false = sym (c .before .state-ok .ensures) ∙ not-true (c .before .state-ok .result) (c .if6 .taken) in
-    state-fails (a .p) k m ef es eo ∙ missing-passes (a .p) k m (sym (pre .1) ∙ if3 .left) ∙ lengths-pass (a .p) k m el ∙ range-passes (a .p) k m er
+    close-state-fails (a .p) k m ef es eo ∙ close-missing-passes (a .p) k m (sym (pre .1) ∙ if3 .left) ∙ close-lengths-pass (a .p) k m el ∙ close-range-passes (a .p) k m er
 
 returns-7 : tie.Need-returns-7
 returns-7 c =
@@ -175,7 +176,7 @@ returns-7 c =
     let ef : hasFilling (a .p) st ≡ true = sym (slot-is (a .p) st (a .slot) (pre .0)) ∙ sym (is-slot .ensures) ∙ not-false (is-slot .result) (if4 .left) in
     let es : scarce (a .p) (viewOf (a .p) (a .image .now) (a .pointers .now)) 1 ≡ false = sym (scarce′ .ensures (a .image .now) (lent-long (a .p) k m el .0)) ∙ if5 .left in
     let eo : stateOk (a .p) (stateOf (a .bytes .now)) ≡ true = sym (c .before .state-ok .ensures) ∙ not-false (c .before .state-ok .result) (c .if6 .left) in
-    state-passes (a .p) k m ef es eo ∙ missing-passes (a .p) k m (sym (pre .1) ∙ if3 .left) ∙ lengths-pass (a .p) k m el ∙ range-passes (a .p) k m er
+    close-state-passes (a .p) k m ef es eo ∙ close-missing-passes (a .p) k m (sym (pre .1) ∙ if3 .left) ∙ close-lengths-pass (a .p) k m el ∙ close-range-passes (a .p) k m er
 
 pub checks-spec : {M : Type 1} → statement M
 checks-spec =

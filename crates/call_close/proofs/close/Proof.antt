@@ -3,8 +3,8 @@ use Prim.Native.Nat.{_≤_}
 use Rattle.mem_calls.specs.Left.{checked}
 use Rattle.mem_codec.specs.Changes.{read-sized}
 use Rattle.call_close.specs.Ends.{close-refused, close-done}
-use Rattle.call_close.specs.Order.{refusal}
-use Rattle.call_close.specs.Ready.{ready, slot-low, slot-open}
+use Rattle.call_close.specs.Order.{closeRefusal}
+use Rattle.call_close.specs.Ready.{close-ready, slot-low, slot-open}
 use Rattle.spec.specs.Drives.{Disk, mkDisk}
 use Rattle.spec.specs.Lists.Opt.{none, some}
 use Rattle.spec.specs.Memory.{Memory, mkMemory, filledIn, fillingSlot}
@@ -13,7 +13,7 @@ use Rattle.spec.specs.declared.State.{State}
 use Rattle.call_filling.specs.Aims.{front-filling}
 use Rattle.call_filling.specs.Entries.{row-filled}
 use Rattle.law_basic.specs.Geometry.{ranged, data-count-high}
-use Rattle.mem_rows.specs.Rows.{Sized, rowOf}
+use Rattle.mem_rows.specs.Rows.{RowsSized, slotRow}
 use Rattle.mem_rows.specs.declared.Change.{Change}
 use Rattle.mem_rows.specs.declared.Row.{Row}
 use borrow.Author.Needs.{needs}
@@ -23,8 +23,8 @@ use Rattle.call_close.proofs.close.Statement.{statement}
 use Rattle.call_close.proofs.close.Tie as tie
 
 -- the arrays have their lengths
-sized : (c : tie.Start) → Sized (c .args .state)
-sized c = subst Sized (sym (c .pre .0)) (read-sized (c .args .bytes .now))
+sized : (c : tie.Start) → RowsSized (c .args .state)
+sized c = subst RowsSized (sym (c .pre .0)) (read-sized (c .args .bytes .now))
 
 abbrev disk : (c : tie.Start) → Disk
 disk c = mkDisk (c .args .image .now) (c .args .pointers .now)
@@ -59,11 +59,11 @@ start c =
     let at = c .before .before .before .before .before .before .before .before .before .before in
     at
 
-checked-is : (c : tie.After-checks) → checked (c .checks .result) ≡ refusal (start c .args .p) (disk (start c)) (memory (start c))
+checked-is : (c : tie.After-checks) → checked (c .checks .result) ≡ closeRefusal (start c .args .p) (disk (start c)) (memory (start c))
 checked-is c =
     let s = start c in
     let a = s .args in
-    subst (λ (x : State). checked (c .checks .result) ≡ refusal (a .p) (disk s) (mkMemory x (a .addresses .now) (a .compact .now) (a .inflight .now))) (sym (s .pre .0)) (c .checks .ensures)
+    subst (λ (x : State). checked (c .checks .result) ≡ closeRefusal (a .p) (disk s) (mkMemory x (a .addresses .now) (a .compact .now) (a .inflight .now))) (sym (s .pre .0)) (c .checks .ensures)
 
 enum-known-c : tie.Need-enum-known-c
 enum-known-c c = search needs
@@ -85,7 +85,7 @@ enum-told : tie.Need-enum-told
 enum-told c = search needs
 
 -- no check holds
-passed : (c : tie.After-enum-told) → refusal (start (c .before .before) .args .p) (disk (start (c .before .before))) (memory (start (c .before .before))) ≡ none
+passed : (c : tie.After-enum-told) → closeRefusal (start (c .before .before) .args .p) (disk (start (c .before .before))) (memory (start (c .before .before))) ≡ none
 passed c =
     let at = c .before .before in
     sym (checked-is (at)) ∙ ap checked (c .enum-told .given .1)
@@ -94,20 +94,20 @@ row-at-requires : tie.Need-row-at-requires
 row-at-requires c κs =
     let s = c .before .before .before .before .before .before .before .before .before .before .before .before in
     let at = c .before .before .before .before in
-    (s .pre .1, slot-low (s .args .p) (s .args .state) (at .filling-slot .result) (slot-of (at)) (ready (s .args .p) (disk s) (memory s) (passed c) .filling))
+    (s .pre .1, slot-low (s .args .p) (s .args .state) (at .filling-slot .result) (slot-of (at)) (close-ready (s .args .p) (disk s) (memory s) (passed c) .filling))
 
 -- the row is the state's
-row-is : (c : tie.After-row-at) → c .row-at .result ≡ rowOf (start (c .before .before .before) .args .state) (c .before .before .before .before .before .filling-slot .result)
+row-is : (c : tie.After-row-at) → c .row-at .result ≡ slotRow (start (c .before .before .before) .args .state) (c .before .before .before .before .before .filling-slot .result)
 row-is c =
     let s = c .before .before .before .before .before .before .before .before .before .before .before .before .before in
     let i = c .before .before .before .before .before .filling-slot .result in
-    c .row-at .ensures ∙ ap (λ (x : State). rowOf x i) (sym (s .pre .0))
+    c .row-at .ensures ∙ ap (λ (x : State). slotRow x i) (sym (s .pre .0))
 
 pad-all-requires : tie.Need-pad-all-requires
 pad-all-requires c κs =
     let s = c .before .before .before .before .before .before .before .before .before .before .before .before .before .before in
     let at = c .before .before .before .before .before .before in
-    let r = ready (s .args .p) (disk s) (memory s) (passed (c .before .before)) in
+    let r = close-ready (s .args .p) (disk s) (memory s) (passed (c .before .before)) in
     let i = at .filling-slot .result in
     let e : c .before .row-at .result .filled ≡ filledIn (s .args .state) i = ap (λ (x : Row). x .filled) (row-is (c .before)) ∙ row-filled (s .args .state) i in (
       r .ranged,
@@ -130,7 +130,7 @@ returns-2 c =
     let f = c .before .before .before .before .before .before .before .before .before .before .before .before .before .front-of in
     let a = s .args in
     let none! = passed (at-8) in
-    let r = ready (a .p) (disk s) (memory s) none! in
+    let r = close-ready (a .p) (disk s) (memory s) none! in
     let at = fillingSlot (a .p) (a .state) in
     let few : dataCount (a .p) ≤ 8 = omega (arith, data-count-high (a .p) (ranged (a .p) (r .ranged))) in
     λ n. close-done (a .p) (disk s) (memory s) none! (sized s) (slot-low (a .p) (a .state) at refl (r .filling)) few (slot-open (a .p) (a .state) at refl (r .filling)) (f .result) (f .ensures)

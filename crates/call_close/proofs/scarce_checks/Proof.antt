@@ -1,5 +1,5 @@
--- `scarce_checks`: `left-fails`, `numbers-fail`, `table-fails` close the refusals, `table-passes` the end; what is left the look tells. Assumes nothing.
-use Rattle.call_close.specs.Order.{left-fails, numbers-fail, table-fails, table-passes}
+-- `scarce_checks`: `left-fails`, `close-numbers-fail`, `table-fails` close the refusals, `table-passes` the end; what is left the look tells. Assumes nothing.
+use Rattle.call_close.specs.Order.{left-fails, close-numbers-fail, table-fails, table-passes}
 use Rattle.spec.specs.Counts.{neverPlace}
 use Rattle.spec.specs.Drives.{viewOf}
 use Rattle.spec.specs.Lists.{consIf, isNil}
@@ -45,7 +45,7 @@ returns-2 c =
     let s = c .before .before .before .before .before .before .before .before .before .before in
     let a = s .args in
     let state-ok = c .before .state-ok in
-    numbers-fail (a .p) (stateOf (a .bytes .now)) (a .addresses .now) (left s) (nothing-left (c .before .before)) (sym (state-ok .ensures) ∙ not-true (state-ok .result) (c .if2 .taken))
+    close-numbers-fail (a .p) (stateOf (a .bytes .now)) (a .addresses .now) (left s) (nothing-left (c .before .before)) (sym (state-ok .ensures) ∙ not-true (state-ok .result) (c .if2 .taken))
 
 is-outside-requires : tie.Need-is-outside-requires
 is-outside-requires c κs =

@@ -5,12 +5,12 @@ use Rattle.spec.specs.Drives.{Disk, mkDisk}
 use Rattle.spec.specs.Memory.{Memory, mkMemory, stateOf}
 use Rattle.spec.specs.declared.State.{State}
 use Rattle.mem_codec.specs.Changes.{read-sized}
-use Rattle.call_copy.specs.Copying.{copiedAs, sent-asks, sent-cut, sent-done}
+use Rattle.call_copy.specs.Copying.{copiedAs, sent-asks, copy-cut, sent-done}
 use Rattle.call_filling.specs.Aims.{front-aim}
-use Rattle.call_filling.specs.Left.{Opening, opening-front}
+use Rattle.call_filling.specs.Left.{OpeningStores, opening-front}
 use Rattle.call_filling.specs.declared.Aim.{Aim}
 use Rattle.law_calls.specs.Slots.{slot-lt}
-use Rattle.mem_rows.specs.Rows.{Sized, behind}
+use Rattle.mem_rows.specs.Rows.{RowsSized, behind}
 use Rattle.mem_rows.specs.declared.Change.{Change}
 use Rattle.mem_rows.specs.declared.Front.{Front}
 use borrow.Author.Needs.{needs}
@@ -27,7 +27,7 @@ serial-fits c = omega arith
 abbrev state : (c : tie.Start) → State
 state c = stateOf (c .args .bytes .now)
 
-sized : (c : tie.Start) → Sized (state c)
+sized : (c : tie.Start) → RowsSized (state c)
 sized c = read-sized (c .args .bytes .now)
 
 abbrev disk : (c : tie.Start) → Disk
@@ -66,13 +66,13 @@ start c =
     at
 
 -- and the opening is one of the state
-opened : (c : tie.After-open) → Opening (start c .args .p) (state (start c)) (start c .args .count) (disk (start c)) (c .«open» .result) (after c)
+opened : (c : tie.After-open) → OpeningStores (start c .args .p) (state (start c)) (start c .args .count) (disk (start c)) (c .«open» .result) (after c)
 opened c =
     let s = start c in
     let a = s .args in
     let o = c .«open» in
     opening-front (a .p) (state s) (a .count) (disk s) (o .result) (after c)
-    (subst (λ (x : Front). Opening (a .p) (behind x) (a .count) (disk s) (o .result) (after c)) (s .pre .1 .0) (o .ensures))
+    (subst (λ (x : Front). OpeningStores (a .p) (behind x) (a .count) (disk s) (o .result) (after c)) (s .pre .1 .0) (o .ensures))
 
 cut-requires : tie.Need-cut-requires
 cut-requires c κs = search needs
@@ -96,7 +96,7 @@ returns c =
     let if1 = c .before .before .before .before .before .before .before .if1 in
     let at = c .before .before .before .before .before .before .before .before .before .before .before .before in
     let a = s .args in
-    sent-cut (a .p) (disk s) (memory s) (a .address .0) (a .stamp .0) (a .block .now) (a .count) (s .pre .0) (at .«open» .result) (after at) (opened at) (if1 .taken) (u .result) (u .last .0)
+    copy-cut (a .p) (disk s) (memory s) (a .address .0) (a .stamp .0) (a .block .now) (a .count) (s .pre .0) (at .«open» .result) (after at) (opened at) (if1 .taken) (u .result) (u .last .0)
     (u .last .1 .0) (ap (λ (x : Change). x .answer) (u .ensures .0)) (u .ensures .1 .0) (u .ensures .1 .1)
 
 row-at-requires : tie.Need-row-at-requires

@@ -2,14 +2,14 @@
 use Prim.Native.Nat.{ℕ, _<_}
 use Rattle.mem_rows.specs.declared.Row.{Row}
 use Rattle.law_views.specs.Views.{seen}
-use Rattle.call_land_chunk.specs.Alone.{alone, row-filled}
+use Rattle.call_land_chunk.specs.Alone.{alone, filled-alone}
 use Rattle.spec.specs.Drives.{Disk, mkDisk}
 use Rattle.spec.specs.Engine.{lentOk}
 use Rattle.spec.specs.Landing.{slotOf, waiting}
 use Rattle.spec.specs.Memory.{Memory, mkMemory, filledIn, stateOf, stateOk}
 use Rattle.spec.specs.Params.{inRange}
-use Rattle.call_land.specs.Order.{range-fails, range-passes, lengths-fail, lengths-pass, missing-fails, missing-passes, waiting-fails, waiting-passes}
-use Rattle.call_land.specs.Order.{state-fails, faults-refused, waits-row, faults-seen}
+use Rattle.call_land.specs.Order.{land-range-fails, land-range-passes, land-lengths-fail, land-lengths-pass, land-missing-fails, land-missing-passes, waiting-fails, waiting-passes}
+use Rattle.call_land.specs.Order.{land-state-fails, faults-refused, waits-row, faults-seen}
 use Rattle.call_land.specs.Ready.{waits-low, segment-low, filled-low}
 use Rattle.law_basic.specs.Geometry.{ranged, data-count-high}
 use Rattle.call_write.specs.Ready.{lent-long}
@@ -44,7 +44,7 @@ returns c =
     let k : Disk = mkDisk (a .image .now) (a .pointers .now) in
     let m : Memory = mkMemory st (a .addresses .now) (a .compact .now) (a .inflight .now) in
     let er : inRange (a .p) ≡ false = sym (c .before .in-range .ensures) ∙ not-true (c .before .in-range .result) (c .if1 .taken) in
-    range-fails (a .p) k m (a .drive) (a .stripe) er
+    land-range-fails (a .p) k m (a .drive) (a .stripe) er
 
 lent-ok-requires : tie.Need-lent-ok-requires
 lent-ok-requires c κs = sym (c .before .in-range .ensures) ∙ not-false (c .before .in-range .result) (c .if1 .left)
@@ -60,7 +60,7 @@ returns-2 c =
     let m : Memory = mkMemory st (a .addresses .now) (a .compact .now) (a .inflight .now) in
     let er : inRange (a .p) ≡ true = sym (in-range .ensures) ∙ not-false (in-range .result) (if1 .left) in
     let el : lentOk (a .p) k m ≡ false = sym (c .before .lent-ok .ensures st) ∙ not-true (c .before .lent-ok .result) (c .if2 .taken) in
-    lengths-fail (a .p) k m (a .drive) (a .stripe) el ∙ range-passes (a .p) k m (a .drive) (a .stripe) er
+    land-lengths-fail (a .p) k m (a .drive) (a .stripe) el ∙ land-range-passes (a .p) k m (a .drive) (a .stripe) er
 
 returns-3 : tie.Need-returns-3
 returns-3 c =
@@ -74,9 +74,9 @@ returns-3 c =
     let m : Memory = mkMemory st (a .addresses .now) (a .compact .now) (a .inflight .now) in
     let er : inRange (a .p) ≡ true = sym (in-range .ensures) ∙ not-false (in-range .result) (if1 .left) in
     let el : lentOk (a .p) k m ≡ true = sym (lent-ok .ensures st) ∙ not-false (lent-ok .result) (c .before .if2 .left) in
-    missing-fails (a .p) k m (a .drive) (a .stripe) (λ e. c .if3 .taken (s .pre .1 .0 ∙ e))
-    ∙ lengths-pass (a .p) k m (a .drive) (a .stripe) el
-    ∙ range-passes (a .p) k m (a .drive) (a .stripe) er
+    land-missing-fails (a .p) k m (a .drive) (a .stripe) (λ e. c .if3 .taken (s .pre .1 .0 ∙ e))
+    ∙ land-lengths-pass (a .p) k m (a .drive) (a .stripe) el
+    ∙ land-range-passes (a .p) k m (a .drive) (a .stripe) er
 
 waiting-requires : tie.Need-waiting-requires
 waiting-requires c κs =
@@ -100,9 +100,9 @@ returns-4 c =
     let el : lentOk (a .p) k m ≡ true = sym (lent-ok .ensures st) ∙ not-false (lent-ok .result) (if2 .left) in
     let ew : waiting (a .p) st (a .drive) (a .stripe) ≡ false = sym (waits-is (c .before)) ∙ not-true (c .before .waiting .result) (c .if4 .taken) in
     waiting-fails (a .p) k m (a .drive) (a .stripe) ew
-    ∙ missing-passes (a .p) k m (a .drive) (a .stripe) (sym (s .pre .1 .0) ∙ if3 .left)
-    ∙ lengths-pass (a .p) k m (a .drive) (a .stripe) el
-    ∙ range-passes (a .p) k m (a .drive) (a .stripe) er
+    ∙ land-missing-passes (a .p) k m (a .drive) (a .stripe) (sym (s .pre .1 .0) ∙ if3 .left)
+    ∙ land-lengths-pass (a .p) k m (a .drive) (a .stripe) el
+    ∙ land-range-passes (a .p) k m (a .drive) (a .stripe) er
 
 state-ok-requires : tie.Need-state-ok-requires
 state-ok-requires c κs =
@@ -129,11 +129,11 @@ returns-5 c =
     let el : lentOk (a .p) k m ≡ true = sym (lent-ok .ensures st) ∙ not-false (lent-ok .result) (if2 .left) in
     let ew : waiting (a .p) st (a .drive) (a .stripe) ≡ true = sym (waits-is (at)) ∙ not-false (waiting′ .result) (if4 .left) in
     let eo : stateOk (a .p) st ≡ false = sym (c .before .state-ok .ensures) ∙ not-true (c .before .state-ok .result) (c .if5 .taken) in
-    state-fails (a .p) k m (a .drive) (a .stripe) eo
+    land-state-fails (a .p) k m (a .drive) (a .stripe) eo
     ∙ waiting-passes (a .p) k m (a .drive) (a .stripe) ew
-    ∙ missing-passes (a .p) k m (a .drive) (a .stripe) (sym (s .pre .1 .0) ∙ if3 .left)
-    ∙ lengths-pass (a .p) k m (a .drive) (a .stripe) el
-    ∙ range-passes (a .p) k m (a .drive) (a .stripe) er
+    ∙ land-missing-passes (a .p) k m (a .drive) (a .stripe) (sym (s .pre .1 .0) ∙ if3 .left)
+    ∙ land-lengths-pass (a .p) k m (a .drive) (a .stripe) el
+    ∙ land-range-passes (a .p) k m (a .drive) (a .stripe) er
 
 land-fault-requires : tie.Need-land-fault-requires
 land-fault-requires c κs =
@@ -159,7 +159,7 @@ land-fault-requires c κs =
     let f = filled-low (a .p) st eo (slotOf st (a .stripe)) (w .1) in
     let sn = s .pre .0 in
     let g = segment-low (a .p) st eo (omega (arith, r .zones-low)) in
-    let e : filledIn (alone (a .seen .row)) 0 ≡ filledIn st (slotOf st (a .stripe)) = ap (λ (x : Row). filledIn (alone x) 0) (sn .row (w .1)) ∙ row-filled st (slotOf st (a .stripe)) in
+    let e : filledIn (alone (a .seen .row)) 0 ≡ filledIn st (slotOf st (a .stripe)) = ap (λ (x : Row). filledIn (alone x) 0) (sn .row (w .1)) ∙ filled-alone st (slotOf st (a .stripe)) in
     (er, ((long .1, long .2, w .0), (subst (λ (x : ℕ). x < a .p .Z) (sym (sn .segment)) g, omega (arith, e, f, data-count-high (a .p) r))))
 
 zone-check-requires : tie.Need-zone-check-requires
@@ -194,9 +194,9 @@ returns-6 c =
     ∙ faults-seen (a .p) (seen (a .p) k) m (a .drive) (a .stripe) (a .seen) (s .pre .0) (waits-low (a .p) st (a .drive) (a .stripe) ew .1)
     (filled-low (a .p) st eo (slotOf st (a .stripe)) (waits-low (a .p) st (a .drive) (a .stripe) ew .1)) er)
     ∙ waiting-passes (a .p) k m (a .drive) (a .stripe) ew
-    ∙ missing-passes (a .p) k m (a .drive) (a .stripe) (sym (s .pre .1 .0) ∙ if3 .left)
-    ∙ lengths-pass (a .p) k m (a .drive) (a .stripe) el
-    ∙ range-passes (a .p) k m (a .drive) (a .stripe) er
+    ∙ land-missing-passes (a .p) k m (a .drive) (a .stripe) (sym (s .pre .1 .0) ∙ if3 .left)
+    ∙ land-lengths-pass (a .p) k m (a .drive) (a .stripe) el
+    ∙ land-range-passes (a .p) k m (a .drive) (a .stripe) er
 
 pub checks-spec : {M : Type 1} → statement M
 checks-spec =

@@ -9,9 +9,9 @@ use Rattle.spec.specs.declared.State.{State}
 use Rattle.call_land.specs.Plan.{Looks}
 use Rattle.spec.specs.Memory.{Memory, mkMemory}
 use Rattle.call_land.specs.Ends.{Chosen, land-refused}
-use Rattle.call_land.specs.Ready.{refusal}
+use Rattle.call_land.specs.Ready.{landRefusal}
 use Rattle.mem_rows.specs.declared.Change.{Change}
-use Rattle.mem_rows.specs.Rows.{Sized}
+use Rattle.mem_rows.specs.Rows.{RowsSized}
 use borrow.Author.Needs.{needs}
 use mathlib.Core.Path.{_≡_, sym, ap, _∙_, subst}
 use Rattle.call_land.proofs.land.Statement.{statement}
@@ -43,7 +43,7 @@ abbrev memory : tie.Start → State → Memory
 memory s x = mkMemory x (s .args .addresses .now) (s .args .compact .now) (s .args .inflight .now)
 
 abbrev refuses : tie.Start → State → Opt Answer
-refuses s x = refusal (s .args .p) (mkDisk (s .args .image .now) (s .args .pointers .now)) (memory s x) (s .args .drive) (s .args .stripe)
+refuses s x = landRefusal (s .args .p) (mkDisk (s .args .image .now) (s .args .pointers .now)) (memory s x) (s .args .drive) (s .args .stripe)
 
 checked-is : (c : tie.After-checks) → checked (c .checks .result) ≡ refuses (start c) (start c .args .state)
 checked-is c = subst (λ (x : State). checked (c .checks .result) ≡ refuses (start c) x) (sym (start c .pre .0)) (c .checks .ensures)
@@ -81,8 +81,8 @@ enum-told : tie.Need-enum-told
 enum-told c = search needs
 
 -- the arrays have their lengths
-sized : (c : tie.Start) → Sized (c .args .state)
-sized c = subst Sized (sym (c .pre .0)) (read-sized (c .args .bytes .now))
+sized : (c : tie.Start) → RowsSized (c .args .state)
+sized c = subst RowsSized (sym (c .pre .0)) (read-sized (c .args .bytes .now))
 
 -- the state, looked at and not refused
 chosen :

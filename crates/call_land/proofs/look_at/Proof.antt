@@ -1,7 +1,7 @@
 -- `look_at`: each field is what its question answers; the row of the bytes is that of the state. Assumes nothing.
 use Prim.Native.Nat.{ℕ, _<_}
 use Rattle.spec.specs.declared.State.{State}
-use Rattle.mem_rows.specs.Rows.{rowOf}
+use Rattle.mem_rows.specs.Rows.{slotRow}
 use borrow.Author.Needs.{needs}
 use lib.Dec.{eqb}
 use mathlib.Core.Bool.{_&&_}
@@ -43,7 +43,7 @@ returns c =
     let d = completes .result in
     record {
       slot = e;
-      row = λ h. row-at .ensures ∙ ap (λ (x : State). rowOf x (within .result)) (sym (s .pre .0)) ∙ ap (rowOf (a .state)) (within .ensures .1 (subst (λ (x : ℕ). x < 8) (sym e) h) ∙ e);
+      row = λ h. row-at .ensures ∙ ap (λ (x : State). slotRow x (within .result)) (sym (s .pre .0)) ∙ ap (slotRow (a .state)) (within .ensures .1 (subst (λ (x : ℕ). x < 8) (sym e) h) ∙ e);
       segment = open-segment .ensures;
       done = completes .ensures;
       seals = c .is-last .ensures ∙ ap (λ (x : ℕ). d && eqb (a .state .next) (a .p .S) && eqb x 1) (c .before .in-flight .ensures);

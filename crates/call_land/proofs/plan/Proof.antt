@@ -7,10 +7,10 @@ use Rattle.spec.specs.declared.Answer.the-variants.{Landed}
 use Rattle.call_land.specs.Ends.{row-eight, chunked, complete-ready, ends-none, ends-part, ends-whole}
 use Rattle.call_land.specs.Marked.{changeTo}
 use Rattle.call_land.specs.Plan.{look-done, look-seals, completing-same}
-use Rattle.call_land.specs.Ready.{ready, open-low, pointer-data}
+use Rattle.call_land.specs.Ready.{land-ready, open-low, land-pointer-data}
 use Rattle.mem_rows.specs.declared.Change.{Change}
 use Rattle.mem_rows.specs.declared.Row.{Row}
-use Rattle.mem_rows.specs.Rows.{rowOf}
+use Rattle.mem_rows.specs.Rows.{slotRow}
 use Rattle.law_views.specs.Views.{seen}
 use Rattle.call_land_chunk.specs.Alone.{alone, markRow, freeRow}
 use borrow.Author.Needs.{needs}
@@ -58,9 +58,9 @@ store-chunk-requires c κs =
     let s = a .stripe in
     let k : Disk = mkDisk (a .image .now) (a .pointers .now) in
     let m : Memory = mkMemory st (a .addresses .now) (a .compact .now) (a .inflight .now) in
-    let r = ready p k m d s (ch .none!) in
+    let r = land-ready p k m d s (ch .none!) in
     let w = ch .looks in
-    let q = pointer-data p k m d s r in
+    let q = land-pointer-data p k m d s r in
     let e : openSegment st ≡ a .seen .segment = sym (w .segment) in
     let f : filledIn (alone (a .seen .row)) 0 ≤ 8 = subst (λ (x : Row). filledIn (alone x) 0 ≤ 8) (sym (w .row (r .slot-low))) (row-eight p k m d s r) in
     let g = subst (λ (x : ℕ). x < p .Z) e (open-low p k m d s r) in
@@ -90,7 +90,7 @@ returns-2 c st ch =
     let s = a .stripe in
     let k : Disk = mkDisk (a .image .now) (a .pointers .now) in
     let m : Memory = mkMemory st (a .addresses .now) (a .compact .now) (a .inflight .now) in
-    let r = ready p k m d s (ch .none!) in
+    let r = land-ready p k m d s (ch .none!) in
     let w = ch .looks in
     let k₁ : Disk = mkDisk (store-chunk .last .1 .0) (store-chunk .last .1 .1 .0) in
     let co₁ = store-chunk .last .1 .1 .1 .0 in
@@ -119,7 +119,7 @@ complete-requires c κs =
     let s = a .stripe in
     let k : Disk = mkDisk (a .image .now) (a .pointers .now) in
     let m : Memory = mkMemory st (a .addresses .now) (a .compact .now) (a .inflight .now) in
-    let r = ready p k m d s (ch .none!) in
+    let r = land-ready p k m d s (ch .none!) in
     let w = ch .looks in
     let k₁ : Disk = mkDisk (store-chunk .last .1 .0) (store-chunk .last .1 .1 .0) in
     let co₁ = store-chunk .last .1 .1 .1 .0 in
@@ -186,7 +186,7 @@ returns-3 c st ch =
     let s = a .stripe in
     let k : Disk = mkDisk (a .image .now) (a .pointers .now) in
     let m : Memory = mkMemory st (a .addresses .now) (a .compact .now) (a .inflight .now) in
-    let r = ready p k m d s (ch .none!) in
+    let r = land-ready p k m d s (ch .none!) in
     let w = ch .looks in
     let k₁ : Disk = mkDisk (store-chunk .last .1 .0) (store-chunk .last .1 .1 .0) in
     let co₁ = store-chunk .last .1 .1 .1 .0 in
@@ -199,7 +199,7 @@ returns-3 c st ch =
     let tb₂ = complete .last .1 .1 .1 .0 in
     let co₂ = complete .last .1 .1 .1 .1 .0 in
     let b = look-seals p st d s (a .seen) w (r .slot-low) in
-    let q : c .before .free-stripe .result ≡ freeRow (markRow (rowOf st (slotOf st s)) d (pointerAt (seen p k) d (zoneOn (openSegment st) d) - 1)) =
+    let q : c .before .free-stripe .result ≡ freeRow (markRow (slotRow st (slotOf st s)) d (pointerAt (seen p k) d (zoneOn (openSegment st) d) - 1)) =
     c .before .free-stripe .ensures ∙ ap freeRow (x .0) in
     let e = c .change-to2 .ensures ∙ (λ j. changeTo o (ch .front j) (w .slot j) (q j) (b j)) in
     ends-whole p k m d s (a .count) (ch .none!) (ch .sized) n f o (c .change-to2 .result) k₂ tb₂ co₂ e

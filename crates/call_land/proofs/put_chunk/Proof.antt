@@ -9,7 +9,7 @@ use Rattle.spec.specs.Memory.{slotBlock}
 use Rattle.law_basic.specs.Geometry.{ranged, spare-len}
 use Rattle.law_basic.specs.Splice.{length-part, part-lent}
 use Rattle.law_basic.specs.Fields.{length-record}
-use Rattle.disk_records.specs.Record.{recOf}
+use Rattle.disk_records.specs.Record.{recVal}
 use Rattle.call_land_chunk.specs.Alone.{alone}
 use borrow.Author.Needs.{needs}
 use lib.ListN.{length, take, drop}
@@ -67,7 +67,7 @@ put-requires c κs =
     let b = a .p .B in
     let l : length (take (t + b - t) (drop t (a .inflight .now))) ≡ b =
     ap length (part-lent t b (a .inflight .now)) ∙ length-part t b (a .inflight .now) (omega (arith, slot-byte .ensures .1, q .1 .1 .0 .0)) in
-    (q .0, (q .1 .0, (q .1 .1 .1, (l, ap length (write-record .ensures) ∙ length-record (recOf (flight-record .result))))))
+    (q .0, (q .1 .0, (q .1 .1 .1, (l, ap length (write-record .ensures) ∙ length-record (recVal (flight-record .result))))))
 
 same-length : tie.Need-same-length
 same-length c = search needs

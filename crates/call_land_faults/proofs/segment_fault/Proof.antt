@@ -1,9 +1,9 @@
--- `segment_fault`: `segment-bad` for a misplaced chunk, `segment-full` for footers without room, else `segment-fine`; all are at most Z. Assumes nothing.
+-- `segment_fault`: `segment-bad` for a misplaced chunk, `segment-full` for footers without room, else `land-segment-fine`; all are at most Z. Assumes nothing.
 use Prim.Native.Nat.{ℕ}
 use Rattle.spec.specs.Drives.{View, viewOf, zoneOn}
 use Rattle.spec.specs.Landing.{misplaced, overfull}
 use Rattle.spec.specs.Lists.{least, consIf}
-use Rattle.call_land_faults.specs.Lowest.{segment-bad, segment-full, segment-fine}
+use Rattle.call_land_faults.specs.Lowest.{segment-bad, segment-full, land-segment-fine}
 use Rattle.law_basic.specs.Geometry.{zone-on-lt}
 use borrow.Author.Needs.{needs}
 use borrow.Author.Tests.{not-true, not-false}
@@ -55,7 +55,7 @@ returns-2 c =
           let m : false ≡ misplaced p v (a .d) (zoneOn g (a .d)) (a .stripe) =
           sym (c .before .if1 .left) ∙ misplaced′ .ensures im h ∙ ap (λ (x : ℕ). misplaced p v (a .d) x (a .stripe)) (zone-on .ensures) in
           let s : false ≡ a .seals = sym (not-true (a .seals) (c .if2 .taken)) in
-          segment-fine (p .Z) g hg ∙ (λ j. least (p .Z) (consIf (m j) g (consIf (s j && overfull p v (a .d) g) g []))),
+          land-segment-fine (p .Z) g hg ∙ (λ j. least (p .Z) (consIf (m j) g (consIf (s j && overfull p v (a .d) g) g []))),
       omega arith,
     )
 
@@ -100,7 +100,7 @@ returns-4 c =
           let m : false ≡ misplaced p v (a .d) (zoneOn g (a .d)) (a .stripe) = sym (if1 .left) ∙ misplaced′ .ensures im h ∙ ap (λ (x : ℕ). misplaced p v (a .d) x (a .stripe)) (zone-on .ensures) in
           let s : true ≡ a .seals = sym (not-false (a .seals) (if2 .left)) in
           let o : false ≡ overfull p v (a .d) g = sym (c .if3 .left) ∙ c .before .overfull .ensures im h in
-          segment-fine (p .Z) g hg ∙ (λ j. least (p .Z) (consIf (m j) g (consIf (s j && o j) g []))),
+          land-segment-fine (p .Z) g hg ∙ (λ j. least (p .Z) (consIf (m j) g (consIf (s j && o j) g []))),
       omega arith,
     )
 

@@ -1,9 +1,9 @@
--- `compete`: a record of another address is dropped (`other-address`); one of this address is the first to compete (`same-address`). Assumes nothing.
+-- `compete`: a record of another address is dropped (`other-address`); one of this address is the first to compete (`best-same-address`). Assumes nothing.
 use Rattle.spec.specs.Landing.{landedCand}
 use Rattle.spec.specs.Layout.{Rec}
 use Rattle.spec.specs.Rank.{better}
 use Rattle.law_basic.specs.Geometry.{ranged, data-count-high}
-use Rattle.call_land_table.specs.Winners.{other-address, same-address}
+use Rattle.call_land_table.specs.Winners.{other-address, best-same-address}
 use Rattle.disk_rank.specs.Ranked.{rankedBest}
 use Rattle.call_land_chunk.specs.Alone.{alone}
 use borrow.Author.Needs.{needs}
@@ -34,7 +34,7 @@ returns-2 c v cs h =
     let a = c .before .before .before .before .before .before .args in
     let entry = c .before .before .before .before .before .entry in
     let e = ap (λ (r : Rec). r .address) (entry .ensures) in
-    same-address (a .address .0) (rankedBest (a .b)) (rankedBest (c .better .result)) (landedCand (a .p) v (a .segment) (alone (a .row)) 0 (a .k)) cs
+    best-same-address (a .address .0) (rankedBest (a .b)) (rankedBest (c .better .result)) (landedCand (a .p) v (a .segment) (alone (a .row)) 0 (a .k)) cs
     (sym e ∙ c .before .before .if1 .left) (c .better .ensures ∙ ap (better (rankedBest (a .b))) (c .before .landed-cand .ensures v h))
 
 pub compete-spec : {M : Type 1} → statement M

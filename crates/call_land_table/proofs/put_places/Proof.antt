@@ -7,7 +7,7 @@ use Rattle.spec.specs.Memory.{filledIn, entryIn, setPlace}
 use Rattle.spec.specs.Params.{addressesLen}
 use Rattle.law_basic.specs.Geometry.{ranged, data-count-high}
 use Rattle.law_basic.specs.Ranges.{below-start}
-use Rattle.call_land_table.specs.Winners.{putAll, put-one, put-none, put-end}
+use Rattle.call_land_table.specs.Winners.{putWinners, put-one, put-none, put-end}
 use lib.ListN.{length, getD}
 use mathlib.Core.List.{List}
 use mathlib.Core.Logic.{⊎-elim}
@@ -19,7 +19,7 @@ use Rattle.call_land_table.proofs.put_places.Tie as tie
 abbrev Inv-loop : tie.InvT-loop
 Inv-loop p addresses₀ row places n k₀ addresses k =
     (n ≡ filledIn (alone row) 0) × (k ≤ n) × (length addresses ≡ length addresses₀)
-    × (putAll p (alone row) 0 places (upFrom k (n - k)) addresses ≡ putAll p (alone row) 0 places (below (filledIn (alone row) 0)) addresses₀)
+    × (putWinners p (alone row) 0 places (upFrom k (n - k)) addresses ≡ putWinners p (alone row) 0 places (below (filledIn (alone row) 0)) addresses₀)
 
 abbrev μ-loop : tie.MeasureT-loop
 μ-loop p addresses₀ row places n k₀ addresses k = n - k
@@ -31,7 +31,7 @@ loop-holds : tie.Need-loop-holds Inv-loop μ-loop
 loop-holds c =
     let a = c .before .before .args in
     let e = c .filled-in .ensures in
-    (e, omega arith, refl, ap (λ (x : List ℕ). putAll (a .p) (alone (a .row)) 0 (a .t4) x (a .addresses .now)) (sym (below-start (c .filled-in .result)) ∙ ap below e))
+    (e, omega arith, refl, ap (λ (x : List ℕ). putWinners (a .p) (alone (a .row)) 0 (a .t4) x (a .addresses .now)) (sym (below-start (c .filled-in .result)) ∙ ap below e))
 
 -- a filled position
 low : (c : tie.In-loop Inv-loop μ-loop) → c .before .loop .k < 8
@@ -79,11 +79,11 @@ loop-again c =
     let qs = a .t4 in
     let e : c .before .entry .result .address .0 ≡ entryIn st i k .address = ap (λ (r : Rec). r .address) (c .before .entry .ensures) in
     let t : List ℕ = upFrom (k + 1) (n - (k + 1)) in
-    let f : putAll p st i qs t (c .if1 .addresses) ≡ putAll p st i qs (upFrom k (n - k)) (l .addresses) =
+    let f : putWinners p st i qs t (c .if1 .addresses) ≡ putWinners p st i qs (upFrom k (n - k)) (l .addresses) =
     ⊎-elim
-    (λ w. ap (putAll p st i qs t) (w .5 ∙ w .2 .ensures ∙ ap (λ (x : ℕ). setPlace (l .addresses) x (getD qs k 0)) e)
+    (λ w. ap (putWinners p st i qs t) (w .5 ∙ w .2 .ensures ∙ ap (λ (x : ℕ). setPlace (l .addresses) x (getD qs k 0)) e)
     ∙ put-one p st i qs k n (l .addresses) (omega (arith, loop-test .taken)) (omega (arith, w .0 .taken, e)))
-    (λ w. ap (putAll p st i qs t) (w .1) ∙ put-none p st i qs k n (l .addresses) (omega (arith, loop-test .taken)) (omega (arith, w .0 .left, e))) (c .if1 .came) in
+    (λ w. ap (putWinners p st i qs t) (w .1) ∙ put-none p st i qs k n (l .addresses) (omega (arith, loop-test .taken)) (omega (arith, w .0 .left, e))) (c .if1 .came) in
     let g : length (c .if1 .addresses) ≡ length (l .addresses) = ⊎-elim (λ w. ap length (w .5) ∙ w .2 .kept .0) (λ w. ap length (w .1)) (c .if1 .came) in
     (l .inv .0, omega (arith, loop-test .taken), g ∙ l .inv .2, f ∙ l .inv .3)
 

@@ -1,11 +1,11 @@
--- `winner`: the best of b and positions k on is the best of the table's and all; a turn lets position k compete (`rest-turn`). Assumes nothing.
+-- `winner`: the best of b and positions k on is the best of the table's and all; a turn lets position k compete (`winner-turn`). Assumes nothing.
 use Prim.Native.Nat.{_-_, _≤_}
 use Rattle.spec.specs.Drives.{View, viewOf}
 use Rattle.spec.specs.Landing.{held, landedCand, landedCands}
 use Rattle.spec.specs.Lists.{upFrom, Opt}
 use Rattle.spec.specs.Memory.{filledIn}
 use Rattle.spec.specs.Rank.{Cand, best, placeOr, candsOf}
-use Rattle.call_land_table.specs.Winners.{rest-first, rest-turn, rest-last}
+use Rattle.call_land_table.specs.Winners.{rest-first, winner-turn, rest-last}
 use Rattle.disk_rank.specs.Ranked.{rankedBest}
 use Rattle.call_land_chunk.specs.Alone.{alone}
 use borrow.Author.Needs.{needs}
@@ -64,7 +64,7 @@ loop-again c =
     let n = filled-in .result in (
       l .inv .0,
       omega arith,
-      rest-turn (a .p) v (a .segment) (alone (a .row)) 0 (a .address .0) (rankedBest (l .b)) (rankedBest (c .compete .result)) (l .k) n (omega (arith, c .before .loop-test .taken))
+      winner-turn (a .p) v (a .segment) (alone (a .row)) 0 (a .address .0) (rankedBest (l .b)) (rankedBest (c .compete .result)) (l .k) n (omega (arith, c .before .loop-test .taken))
           (λ cs. c .compete .ensures v cs (pre .1 .1 .1 .1)) ∙ l .inv .2,
     )
 

@@ -1,4 +1,4 @@
--- `add_chunk`: a missing drive adds nothing; else the offset shown is in the zone (`block-low`) and its bytes are the chunk's (`shown-bytes`). Assumes nothing.
+-- `add_chunk`: a missing drive adds nothing; else the offset shown is in the zone (`block-in-zone`) and its bytes are the chunk's (`shown-bytes`). Assumes nothing.
 use Prim.Native.Nat.{ℕ, _+_, _<_}
 use Rattle.spec.specs.Bytes.{part, xors}
 use Rattle.spec.specs.Drives.{viewOf, mkDisk}
@@ -6,7 +6,7 @@ use Rattle.spec.specs.Lists.{isIn}
 use Rattle.spec.specs.Params.{unitLen, capacity, placeOf, placeByte}
 use Rattle.law_basic.specs.Geometry.{ranged}
 use Rattle.law_basic.specs.Splice.{part-lent}
-use Rattle.call_read.specs.Decode.{shownBlock, block-low, shown-bytes}
+use Rattle.call_read.specs.Decode.{shownBlock, block-in-zone, shown-bytes}
 use borrow.Author.Needs.{needs}
 use mathlib.Core.Bool.{Bool, false, cond}
 use mathlib.Core.Path.{_≡_, sym, ap, _∙_}
@@ -36,7 +36,7 @@ in-zone : (c : tie.After-shown-at) → 1 + c .shown-at .result < capacity (c .be
 in-zone c =
     let a = c .before .before .before .before .before .before .before .args in
     let q = c .before .before .before .before .before .before .before .pre in
-    block-low (a .p) (mkDisk (a .image .now) (a .pointers .now)) (a .compact .now) (a .zone) (a .s) (a .drive) (q .0) (q .1 .0) (q .1 .1 .1 .0 .0) (q .1 .1 .1 .0 .1) (q .1 .1 .1 .1 (here! c))
+    block-in-zone (a .p) (mkDisk (a .image .now) (a .pointers .now)) (a .compact .now) (a .zone) (a .s) (a .drive) (q .0) (q .1 .0) (q .1 .1 .1 .0 .0) (q .1 .1 .1 .0 .1) (q .1 .1 .1 .1 (here! c))
     (c .shown-at .result) (c .shown-at .ensures .0 (a .image .now) (q .1 .0 .image-long))
 
 -- and its bytes

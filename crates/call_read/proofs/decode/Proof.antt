@@ -3,7 +3,7 @@ use Prim.Native.Nat.{ℕ, _+_, _-_, _≤_, _<_}
 use Rattle.spec.specs.Bytes.{parity}
 use Rattle.spec.specs.Drives.{viewOf, mkDisk}
 use Rattle.spec.specs.Lists.{isIn}
-use Rattle.call_read.specs.Decode.{shownBlock, presentBelow, decoded-is, shown-on, shown-long, decode-none, decode-more}
+use Rattle.call_read.specs.Decode.{shownBlock, drivesBefore, decoded-is, shown-on, shown-long, decode-none, decode-more}
 use borrow.Author.Needs.{needs}
 use lib.ListN.{length, replicate}
 use mathlib.Core.Bool.{false}
@@ -16,7 +16,7 @@ use Rattle.call_read.proofs.decode.Tie as tie
 -- the block is the exclusive or of those on the present drives below d
 abbrev Inv-loop : tie.InvT-loop
 Inv-loop p image pointers gone compact zone s block₀ d₀ block d =
-    (d ≤ p .N) × (length block ≡ p .B) × (block ≡ parity (p .B) (map (shownBlock p (viewOf p image pointers) compact zone s) (presentBelow gone d)))
+    (d ≤ p .N) × (length block ≡ p .B) × (block ≡ parity (p .B) (map (shownBlock p (viewOf p image pointers) compact zone s) (drivesBefore gone d)))
 
 abbrev μ-loop : tie.MeasureT-loop
 μ-loop p image pointers gone compact zone s block₀ d₀ block d = p .N - d
@@ -91,7 +91,7 @@ returns c =
     let v = viewOf (a .p) (a .image .now) (a .pointers .now) in
     let l = c .before .before .loop in
     let e : l .d ≡ a .p .N = omega (arith, c .if1 .left, l .inv .0) in
-    l .inv .2 ∙ ap (λ (x : ℕ). parity (a .p .B) (map (shownBlock (a .p) v (a .compact .now) (a .zone) (a .s)) (presentBelow (a .gone) x))) e
+    l .inv .2 ∙ ap (λ (x : ℕ). parity (a .p .B) (map (shownBlock (a .p) v (a .compact .now) (a .zone) (a .s)) (drivesBefore (a .gone) x))) e
     ∙ sym (decoded-is (a .p) v (a .gone) (a .compact .now) (a .zone) (a .s))
 
 pub decode-spec : {M : Type 1} → statement M

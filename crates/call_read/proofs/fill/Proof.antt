@@ -4,8 +4,8 @@ use Rattle.spec.specs.Lists.Opt.{none}
 use Rattle.spec.specs.Memory.{Memory, mkMemory, stateOf}
 use Rattle.call_read.specs.Ends.{fill-refused, fill-done}
 use Rattle.call_read.specs.Fill.{filling, placedAt, found-placed}
-use Rattle.call_read.specs.Order.{found, refusal}
-use Rattle.call_read.specs.Ready.{ready}
+use Rattle.call_read.specs.Order.{foundAt, readRefusal}
+use Rattle.call_read.specs.Ready.{read-ready}
 use Rattle.call_read.specs.Sought.{refusedBy, liesAt}
 use Rattle.call_read.specs.declared.Sought.{Sought}
 use lib.ListN.{length}
@@ -42,9 +42,9 @@ fill-found-requires c κs =
     let m = memory s in
     let a = s .args .address .0 in
     let n = length (s .args .block .now) in
-    let none! : refusal p k m a n ≡ none = sym (seek .ensures .0) ∙ ap refusedBy (sought2 .given .1) in
-    let r = ready p k m a n none! in
-    let f = found p k m a n in
+    let none! : readRefusal p k m a n ≡ none = sym (seek .ensures .0) ∙ ap refusedBy (sought2 .given .1) in
+    let r = read-ready p k m a n none! in
+    let f = foundAt p k m a n in
     let e = subst (λ (x : Sought). liesAt x f) (sought2 .given .1) (seek .ensures .1) in
     let h : placedAt p f = found-placed p (viewOf p (k .image) (k .pointers)) (m .state .missing) f (r .faultless) in
     (r .ranged, (r .whole, (r .compact-long, r .block-long, subst (placedAt p) (sym e) h)))
@@ -73,10 +73,10 @@ returns-2 c =
     let a = s .args .address .0 in
     let b = s .args .block .now in
     let n = length b in
-    let none! : refusal p k m a n ≡ none = sym (sought .seek .ensures .0) ∙ ap refusedBy (told .sought2 .given .1) in
+    let none! : readRefusal p k m a n ≡ none = sym (sought .seek .ensures .0) ∙ ap refusedBy (told .sought2 .given .1) in
     let v = viewOf p (k .image) (k .pointers) in
     let g = filled .before .before .missing .ensures in
-    let e = subst (λ (x : Sought). liesAt x (found p k m a n)) (told .sought2 .given .1) (sought .seek .ensures .1) in
+    let e = subst (λ (x : Sought). liesAt x (foundAt p k m a n)) (told .sought2 .given .1) (sought .seek .ensures .1) in
     fill-done p k m a b (filled .fill-found .result) _ none! (filled .fill-found .ensures ∙ λ j. filling p v (g j) (m .compact) (e j) b)
 
 pub fill-spec : {M : Type 1} → statement M

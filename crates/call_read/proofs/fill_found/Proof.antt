@@ -2,7 +2,7 @@
 use Rattle.spec.specs.Drives.{viewOf, mkDisk}
 use Rattle.mem_lookup.specs.Lies.{foundOf}
 use Rattle.mem_lookup.specs.declared.Found.{Found}
-use Rattle.call_read.specs.Fill.{filling, Placed, placedAt, fill-copied, fill-zeros}
+use Rattle.call_read.specs.Fill.{filling, PlaceOk, placedAt, fill-copied, fill-zeros}
 use borrow.Author.Needs.{needs}
 use mathlib.Core.Path.{sym, ap, _∙_, subst}
 use Rattle.call_read.proofs.fill_found.Statement.{statement}
@@ -17,7 +17,7 @@ clear-requires c κs = search needs
 enum-known-f : tie.Need-enum-known-f
 enum-known-f c = search needs
 
-placed-here : (c : tie.After-known-told) → Placed (c .before .before .before .before .before .before .before .args .p) (c .before .f .given .0 .0 .0)
+placed-here : (c : tie.After-known-told) → PlaceOk (c .before .before .before .before .before .before .before .args .p) (c .before .f .given .0 .0 .0)
 placed-here c =
     let entry = c .before .before .before .before .before .before .before in
     let args = entry .args in

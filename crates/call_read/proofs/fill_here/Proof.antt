@@ -1,9 +1,9 @@
--- `fill_here`: the block at q ends within the image (`place-in`), and the part lent is the place's bytes. Assumes nothing.
+-- `fill_here`: the block at q ends within the image (`place-in-image`), and the part lent is the place's bytes. Assumes nothing.
 use Prim.Native.Nat.{ℕ}
 use Rattle.spec.specs.Bytes.{part}
 use Rattle.spec.specs.Params.{unitLen}
 use Rattle.law_basic.specs.Splice.{part-lent}
-use Rattle.call_read.specs.Fill.{place-in}
+use Rattle.call_read.specs.Fill.{place-in-image}
 use borrow.Author.Needs.{needs}
 use mathlib.Core.Path.{ap, _∙_}
 use native.Mathlib.Omega.{arith}
@@ -29,7 +29,7 @@ part-copy-end c =
     let entry = c .before .before .before .before .before in
     let args = entry .args in
     let pre = entry .pre in
-    omega (arith, place-byte .ensures .0, place-in (args .p) (args .q .0) (pre .0) (pre .1 .2), pre .1 .0)
+    omega (arith, place-byte .ensures .0, place-in-image (args .p) (args .q .0) (pre .0) (pre .1 .2), pre .1 .0)
 
 copy-requires : tie.Need-copy-requires
 copy-requires c κs = search needs

@@ -4,8 +4,8 @@ use Rattle.spec.specs.Lists.Opt.{none}
 use Rattle.spec.specs.Memory.{Memory, mkMemory, stateOf}
 use Rattle.spec.specs.Read.{readAnswer}
 use Rattle.call_read.specs.Ends.{read-refused, read-done}
-use Rattle.call_read.specs.Order.{found, refusal}
-use Rattle.call_read.specs.Ready.{ready}
+use Rattle.call_read.specs.Order.{foundAt, readRefusal}
+use Rattle.call_read.specs.Ready.{read-ready}
 use Rattle.call_read.specs.Sought.{refusedBy, liesAt}
 use Rattle.call_read.specs.declared.Sought.{Sought}
 use mathlib.Core.Path.{_≡_, sym, ap, _∙_, subst}
@@ -35,8 +35,8 @@ answer-of-requires c κs =
     let k = disk s in
     let m = memory s in
     let a = s .args .address .0 in
-    let none! : refusal p k m a (p .B) ≡ none = sym (c .before .before .before .seek .ensures .0) ∙ ap refusedBy (c .before .sought2 .given .1) in
-    ready p k m a (p .B) none! .ranged
+    let none! : readRefusal p k m a (p .B) ≡ none = sym (c .before .before .before .seek .ensures .0) ∙ ap refusedBy (c .before .sought2 .given .1) in
+    read-ready p k m a (p .B) none! .ranged
 
 returns : tie.Need-returns
 returns c =
@@ -56,8 +56,8 @@ returns-2 c =
     let k = disk s in
     let m = memory s in
     let a = s .args .address .0 in
-    let none! : refusal p k m a (p .B) ≡ none = sym (seek .ensures .0) ∙ ap refusedBy (sought2 .given .1) in
-    let e = subst (λ (x : Sought). liesAt x (found p k m a (p .B))) (sought2 .given .1) (seek .ensures .1) in
+    let none! : readRefusal p k m a (p .B) ≡ none = sym (seek .ensures .0) ∙ ap refusedBy (sought2 .given .1) in
+    let e = subst (λ (x : Sought). liesAt x (foundAt p k m a (p .B))) (sought2 .given .1) (seek .ensures .1) in
     read-done p k m a (c .answer-of .result) none! (c .answer-of .ensures ∙ ap (readAnswer p) e)
 
 pub find-spec : {M : Type 1} → statement M

@@ -1,4 +1,4 @@
--- `seek`: a failed test closes its end (`range-fails` and so on), those passed drop off; `judged` settles the fault of the place found. Assumes nothing.
+-- `seek`: a failed test closes its end (`read-range-fails` and so on), those passed drop off; `judged` settles the fault of the place found. Assumes nothing.
 use Prim.Native.Nat.{ℕ}
 use Rattle.spec.specs.Drives.{Disk, mkDisk, viewOf}
 use Rattle.spec.specs.Engine.{lentOk}
@@ -7,7 +7,8 @@ use Rattle.spec.specs.Memory.{Memory, mkMemory, stateOf, stateOk}
 use Rattle.spec.specs.Params.{inRange}
 use Rattle.spec.specs.Read.{lookup, foundFaults}
 use Rattle.mem_lookup.specs.Lies.{foundOf}
-use Rattle.call_read.specs.Order.{found, range-fails, range-passes, lengths-fail, block-fails, lengths-pass, address-fails, address-passes, state-fails, state-passes}
+use Rattle.call_read.specs.Order.{foundAt, read-range-fails, read-range-passes, read-lengths-fail, read-block-fails, read-lengths-pass, read-address-fails, read-address-passes, read-state-fails}
+use Rattle.call_read.specs.Order.{read-state-passes}
 use Rattle.call_read.specs.Sought.{liesAt}
 use Rattle.call_write.specs.Ready.{lent-long}
 use borrow.Author.Tests.{not-true, not-false}
@@ -40,7 +41,7 @@ returns c =
     let a = s .args .address .0 in
     let n = s .args .len in
     let er : inRange p ≡ false = sym (range .in-range .ensures) ∙ not-true (range .in-range .result) (one .if1 .taken) in
-    (range-fails p k m a n er, tt)
+    (read-range-fails p k m a n er, tt)
 
 lent-ok-requires : tie.Need-lent-ok-requires
 lent-ok-requires c κs = sym (c .before .in-range .ensures) ∙ not-false (c .before .in-range .result) (c .if1 .left)
@@ -59,7 +60,7 @@ returns-2 c =
     let n = s .args .len in
     let er : inRange p ≡ true = sym (range .in-range .ensures) ∙ not-false (range .in-range .result) (one .if1 .left) in
     let el : lentOk p k m ≡ false = sym (lent .lent-ok .ensures (m .state)) ∙ not-true (lent .lent-ok .result) (two .if2 .taken) in
-    (lengths-fail p k m a n el ∙ range-passes p k m a n er, tt)
+    (read-lengths-fail p k m a n el ∙ read-range-passes p k m a n er, tt)
 
 returns-3 : tie.Need-returns-3
 returns-3 c =
@@ -76,7 +77,7 @@ returns-3 c =
     let n = s .args .len in
     let er : inRange p ≡ true = sym (range .in-range .ensures) ∙ not-false (range .in-range .result) (one .if1 .left) in
     let el : lentOk p k m ≡ true = sym (lent .lent-ok .ensures (m .state)) ∙ not-false (lent .lent-ok .result) (two .if2 .left) in
-    (block-fails p k m a n el (three .if3 .taken) ∙ range-passes p k m a n er, tt)
+    (read-block-fails p k m a n el (three .if3 .taken) ∙ read-range-passes p k m a n er, tt)
 
 returns-4 : tie.Need-returns-4
 returns-4 c =
@@ -94,7 +95,7 @@ returns-4 c =
     let n = s .args .len in
     let er : inRange p ≡ true = sym (range .in-range .ensures) ∙ not-false (range .in-range .result) (one .if1 .left) in
     let el : lentOk p k m ≡ true = sym (lent .lent-ok .ensures (m .state)) ∙ not-false (lent .lent-ok .result) (two .if2 .left) in
-    (address-fails p k m a n (omega (arith, four .if4 .taken)) ∙ lengths-pass p k m a n el (three .if3 .left) ∙ range-passes p k m a n er, tt)
+    (read-address-fails p k m a n (omega (arith, four .if4 .taken)) ∙ read-lengths-pass p k m a n el (three .if3 .left) ∙ read-range-passes p k m a n er, tt)
 
 state-ok-requires : tie.Need-state-ok-requires
 state-ok-requires c κs =
@@ -128,8 +129,8 @@ returns-5 c =
     let er : inRange p ≡ true = sym (range .in-range .ensures) ∙ not-false (range .in-range .result) (one .if1 .left) in
     let el : lentOk p k m ≡ true = sym (lent .lent-ok .ensures (m .state)) ∙ not-false (lent .lent-ok .result) (two .if2 .left) in
     let es : stateOk p (m .state) ≡ false = sym (state .state-ok .ensures) ∙ not-true (state .state-ok .result) (five .if5 .taken) in (
-      state-fails p k m a n es ∙ address-passes p k m a n (omega (arith, four .if4 .left))
-          ∙ lengths-pass p k m a n el (three .if3 .left) ∙ range-passes p k m a n er,
+      read-state-fails p k m a n es ∙ read-address-passes p k m a n (omega (arith, four .if4 .left))
+          ∙ read-lengths-pass p k m a n el (three .if3 .left) ∙ read-range-passes p k m a n er,
       tt,
     )
 
@@ -213,12 +214,12 @@ returns-6 c =
     let z = zone .found-fault .result in
     let v = viewOf p (k .image) (k .pointers) in
     let g : gone .missing .result ≡ m .state .missing = gone .missing .ensures in
-    let e : foundOf (looked .lookup .result) ≡ found p k m a n = looked .lookup .ensures ∙ ap (λ (x : ℕ). lookup p x (m .addresses) a) g in
-    let ef : foundFaults p v (m .state .missing) (found p k m a n) ≡ consIf (ltb z (p .Z)) z [] =
+    let e : foundOf (looked .lookup .result) ≡ foundAt p k m a n = looked .lookup .ensures ∙ ap (λ (x : ℕ). lookup p x (m .addresses) a) g in
+    let ef : foundFaults p v (m .state .missing) (foundAt p k m a n) ≡ consIf (ltb z (p .Z)) z [] =
     (λ j. foundFaults p v (sym g j) (sym e j)) ∙ zone .found-fault .ensures (k .image) (lent-long p k m el .0) in (
-      c .judged .ensures .0 ∙ state-passes p k m a n es (consIf (ltb z (p .Z)) z []) ef
-          ∙ address-passes p k m a n (omega (arith, four .if4 .left)) ∙ lengths-pass p k m a n el (three .if3 .left)
-          ∙ range-passes p k m a n er,
+      c .judged .ensures .0 ∙ read-state-passes p k m a n es (consIf (ltb z (p .Z)) z []) ef
+          ∙ read-address-passes p k m a n (omega (arith, four .if4 .left)) ∙ read-lengths-pass p k m a n el (three .if3 .left)
+          ∙ read-range-passes p k m a n er,
       subst (liesAt (c .judged .result)) e (c .judged .ensures .1),
     )
 

@@ -1,4 +1,4 @@
--- `checks`: `numbers-fail`, `lengths-fail`, `pointers-fail` close the refusals; zone Z says that no pointer is at fault (`pointers-pass`). Assumes nothing.
+-- `checks`: `rebuild-numbers-fail`, `rebuild-lengths-fail`, `rebuild-pointers-fail` close the refusals; zone Z says that no pointer is at fault (`rebuild-pointers-pass`). Assumes nothing.
 use mathlib.Core.Path.{_≡_, sym, ap, _∙_}
 use Prim.Native.Nat.{ℕ}
 use borrow.Author.Tests.{not-true, not-false}
@@ -11,7 +11,7 @@ use Rattle.spec.specs.Lists.{firstOr}
 use Rattle.spec.specs.Memory.{mkMemory}
 use Rattle.spec.specs.Params.{named}
 use Rattle.law_drives.specs.Lengths.{whole-of}
-use Rattle.call_rebuild.specs.Order.{lengths-fail, numbers-good, numbers-fail, pointers-fail, pointers-pass, only-named}
+use Rattle.call_rebuild.specs.Order.{rebuild-lengths-fail, numbers-good, rebuild-numbers-fail, rebuild-pointers-fail, rebuild-pointers-pass, only-named}
 use Rattle.call_rebuild.proofs.checks.Statement.{statement}
 use Rattle.call_rebuild.proofs.checks.Tie as tie
 
@@ -25,7 +25,7 @@ returns c =
     let d = a .drive in
     let k = mkDisk (a .image .now) (a .pointers .now) in
     let m = mkMemory (a .state) (a .addresses .now) (a .compact .now) (a .inflight .now) in
-    numbers-fail p k m d (sym (c .before .bad-numbers .ensures) ∙ c .if1 .taken)
+    rebuild-numbers-fail p k m d (sym (c .before .bad-numbers .ensures) ∙ c .if1 .taken)
 
 lent-ok-requires : tie.Need-lent-ok-requires
 lent-ok-requires c κs =
@@ -39,7 +39,7 @@ returns-2 c =
     let d = a .drive in
     let k = mkDisk (a .image .now) (a .pointers .now) in
     let m = mkMemory (a .state) (a .addresses .now) (a .compact .now) (a .inflight .now) in
-    lengths-fail p k m d (sym (c .before .before .before .bad-numbers .ensures) ∙ c .before .before .if1 .left)
+    rebuild-lengths-fail p k m d (sym (c .before .before .before .bad-numbers .ensures) ∙ c .before .before .if1 .left)
     (sym (c .before .lent-ok .ensures (a .state)) ∙ not-true (c .before .lent-ok .result) (c .if2 .taken))
 
 only-drive-requires : tie.Need-only-drive-requires
@@ -94,7 +94,8 @@ returns-3 c =
     let d = a .drive in
     let k = mkDisk (a .image .now) (a .pointers .now) in
     let m = mkMemory (a .state) (a .addresses .now) (a .compact .now) (a .inflight .now) in
-    pointers-fail p k m d (sym (bad-numbers .ensures) ∙ if1 .left) (sym (lent-ok .ensures (a .state)) ∙ not-false (lent-ok .result) (if2 .left)) (pointer-fault .result) (found (at)) (c .if3 .taken)
+    rebuild-pointers-fail p k m d (sym (bad-numbers .ensures) ∙ if1 .left) (sym (lent-ok .ensures (a .state)) ∙ not-false (lent-ok .result) (if2 .left)) (pointer-fault .result) (found (at))
+    (c .if3 .taken)
 
 returns-4 : tie.Need-returns-4
 returns-4 c =
@@ -110,7 +111,7 @@ returns-4 c =
     let k = mkDisk (a .image .now) (a .pointers .now) in
     let m = mkMemory (a .state) (a .addresses .now) (a .compact .now) (a .inflight .now) in
     let z : pointer-fault .result ≡ p .Z = omega (arith, c .if3 .left, pointer-fault .ensures .0) in
-    pointers-pass p k m d (sym (bad-numbers .ensures) ∙ if1 .left) (sym (lent-ok .ensures (a .state)) ∙ not-false (lent-ok .result) (if2 .left)) (sym (found (at)) ∙ z)
+    rebuild-pointers-pass p k m d (sym (bad-numbers .ensures) ∙ if1 .left) (sym (lent-ok .ensures (a .state)) ∙ not-false (lent-ok .result) (if2 .left)) (sym (found (at)) ∙ z)
 
 pub checks-spec : {M : Type 1} → statement M
 checks-spec = tie.close (tie.spec bad-numbers-requires returns lent-ok-requires returns-2 only-drive-requires pointer-fault-requires returns-3 returns-4)

@@ -6,7 +6,7 @@ use borrow.Author.Needs.{needs}
 use native.Mathlib.Omega.{arith}
 use Rattle.spec.specs.declared.Answer.the-variants.{BadZone}
 use Rattle.spec.specs.Drives.{viewOf, mkDisk}
-use Rattle.call_rebuild.specs.Order.{ready, front-passed, only-named}
+use Rattle.call_rebuild.specs.Order.{rebuild-ready, rebuild-front-passed, only-named}
 use Rattle.spec.specs.Memory.{mkMemory}
 use Rattle.spec.specs.Params.{named}
 use Rattle.spec.specs.Segments.{segments}
@@ -15,7 +15,7 @@ use Rattle.recover_segments.specs.Remains.{Keeps}
 use Rattle.law_drives.specs.Lengths.{whole-of}
 use Rattle.recover_check.specs.Faults.{Examined}
 use Rattle.recover_check.specs.Mends.{no-faults, names-zone, zone-le}
-use Rattle.call_rebuild.specs.Ends.{ends-refused}
+use Rattle.call_rebuild.specs.Ends.{ends-rebuild-refused}
 use Rattle.call_rebuild.proofs.examined.Statement.{statement}
 use Rattle.call_rebuild.proofs.examined.Tie as tie
 
@@ -39,7 +39,7 @@ look-requires c κs =
     let d = a .drive in
     let k = mkDisk (a .image .now) (a .pointers .now) in
     let m = mkMemory (a .state) (a .addresses .now) (a .compact .now) (a .inflight .now) in
-    let rd = ready p k m d (e .pre) in
+    let rd = rebuild-ready p k m d (e .pre) in
     let w = whole-of p k m (rd .lent) in
     let z = ranged p (rd .in-range) .zones-high in
     (rd .in-range, (w, (z, z, z)))
@@ -60,7 +60,7 @@ examine-requires c κs =
     let d = a .drive in
     let k = mkDisk (a .image .now) (a .pointers .now) in
     let m = mkMemory (a .state) (a .addresses .now) (a .compact .now) (a .inflight .now) in
-    let rd = ready p k m d (e .pre) in
+    let rd = rebuild-ready p k m d (e .pre) in
     let w = whole-of p k m (rd .lent) in
     let l = look .ensures in
     (rd .in-range, (w, (l .1, l .0)))
@@ -84,7 +84,7 @@ returns c =
     let x = c .before .before .before .examine in
     let n = c1 .before .only-drive .ensures ∙ only-named d in
     let ex : Examined p (named d) (segments p v (named d)) (x .result) = subst (λ (g : ℕ). Examined p g (segments p v g) (x .result)) n (x .ensures) in
-    ends-refused p k m d (a .count) (BadZone (x .result .zone)) (front-passed p k m d (e .pre) ∙ names-zone p v (named d) (x .result) [] ex (c .if1 .taken))
+    ends-rebuild-refused p k m d (a .count) (BadZone (x .result .zone)) (rebuild-front-passed p k m d (e .pre) ∙ names-zone p v (named d) (x .result) [] ex (c .if1 .taken))
 
 slice-aggregate-restore : tie.Need-slice-aggregate-restore
 slice-aggregate-restore c = search needs

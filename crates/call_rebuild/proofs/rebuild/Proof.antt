@@ -1,4 +1,4 @@
--- `rebuild`: a check that fails refuses the whole call (`front-refused`); with none `examined` gives the rest. Assumes nothing.
+-- `rebuild`: a check that fails refuses the whole call (`rebuild-front-refused`); with none `examined` gives the rest. Assumes nothing.
 use mathlib.Core.Path.{sym, ap, _∙_}
 use borrow.Author.Needs.{needs}
 use Rattle.spec.specs.Drives.{viewOf, mkDisk}
@@ -6,8 +6,8 @@ use Rattle.spec.specs.Engine.Call.{close}
 use Rattle.spec.specs.History.{before}
 use Rattle.spec.specs.Memory.{mkMemory}
 use Rattle.mem_calls.specs.Left.{checked}
-use Rattle.call_rebuild.specs.Ends.{ends-refused}
-use Rattle.call_rebuild.specs.Order.{front-refused}
+use Rattle.call_rebuild.specs.Ends.{ends-rebuild-refused}
+use Rattle.call_rebuild.specs.Order.{rebuild-front-refused}
 use Rattle.call_rebuild.proofs.rebuild.Statement.{statement}
 use Rattle.call_rebuild.proofs.rebuild.Tie as tie
 
@@ -38,7 +38,7 @@ returns c =
     let k = mkDisk (a .image .now) (a .pointers .now) in
     let m = mkMemory (a .state) (a .addresses .now) (a .compact .now) (a .inflight .now) in
     let q = c .before .c .given in
-    ends-refused p k m d (a .count) (q .0 .0) (front-refused p k m d (q .0 .0) (sym (c .before .before .before .checks .ensures) ∙ ap checked (q .1)))
+    ends-rebuild-refused p k m d (a .count) (q .0 .0) (rebuild-front-refused p k m d (q .0 .0) (sym (c .before .before .before .checks .ensures) ∙ ap checked (q .1)))
 
 enum-told : tie.Need-enum-told
 enum-told c = search needs

@@ -1,4 +1,4 @@
--- `restore`: with no fault the records are good and the stores fit (`good-recs`, `stores-fit`); then `ends-cut` or `ends-done`. Assumes nothing.
+-- `restore`: with no fault the records are good and the stores fit (`good-recs`, `stores-fit`); then `ends-rebuild-cut` or `ends-rebuild-done`. Assumes nothing.
 use mathlib.Core.Path.{_∙_}
 use Prim.Native.Nat.{_≤_}
 use borrow.Author.Needs.{needs}
@@ -7,11 +7,11 @@ use lib.ListN.{length}
 use Rattle.spec.specs.Drives.{mkDisk}
 use Rattle.spec.specs.Engine.Call.{close}
 use Rattle.spec.specs.History.{before}
-use Rattle.call_rebuild.specs.Order.{ready, only-named}
+use Rattle.call_rebuild.specs.Order.{rebuild-ready, only-named}
 use Rattle.spec.specs.Memory.{mkMemory}
 use Rattle.law_basic.specs.Geometry.{ranged}
 use Rattle.law_drives.specs.Lengths.{whole-of}
-use Rattle.call_rebuild.specs.Ends.{ends-cut, ends-done, good-recs, stores-fit, all-passed}
+use Rattle.call_rebuild.specs.Ends.{ends-rebuild-cut, ends-rebuild-done, good-recs, stores-fit, rebuild-faultless}
 use Rattle.call_rebuild.proofs.restore.Statement.{statement}
 use Rattle.call_rebuild.proofs.restore.Tie as tie
 
@@ -28,7 +28,7 @@ rebuild-stores-requires c κs =
     let d = a .drive in
     let k = mkDisk (a .image .now) (a .pointers .now) in
     let m = mkMemory (a .state) (a .addresses .now) (a .compact .now) (a .inflight .now) in
-    let rd = ready p k m d (q .0) in
+    let rd = rebuild-ready p k m d (q .0) in
     let l : p .Z ≤ length (a .kept .now) = omega (arith, q .1 .1 .0, ranged p (rd .in-range) .zones-high) in (
       rd .in-range,
       (
@@ -69,9 +69,9 @@ returns c =
     let d = a .drive in
     let k = mkDisk (a .image .now) (a .pointers .now) in
     let m = mkMemory (a .state) (a .addresses .now) (a .compact .now) (a .inflight .now) in
-    let rd = ready p k m d (q .0) in
+    let rd = rebuild-ready p k m d (q .0) in
     let k′ = mkDisk (rebuild-stores .last .1 .0) (rebuild-stores .last .1 .1 .0) in
-    ends-cut p k m d (a .count) (all-passed p k m d (q .0) (q .1 .0)) (rebuild-stores .result) k′ (a .kept .now) (q .1 .1) (rebuild-stores .ensures) (if1 .taken) (rd .lent)
+    ends-rebuild-cut p k m d (a .count) (rebuild-faultless p k m d (q .0) (q .1 .0)) (rebuild-stores .result) k′ (a .kept .now) (q .1 .1) (rebuild-stores .ensures) (if1 .taken) (rd .lent)
     (cut .result) (cut .last .0) (cut .last .1 .0) (cut .ensures .0 .0) (cut .ensures .0 .1) (cut .ensures .1 .0) (cut .ensures .1 .1)
 
 same-length-5 : tie.Need-same-length-5
@@ -90,7 +90,7 @@ returns-2 c =
     let k = mkDisk (a .image .now) (a .pointers .now) in
     let m = mkMemory (a .state) (a .addresses .now) (a .compact .now) (a .inflight .now) in
     let k′ = mkDisk (rebuild-stores .last .1 .0) (rebuild-stores .last .1 .1 .0) in
-    ends-done p k m d (a .count) (all-passed p k m d (q .0) (q .1 .0)) (rebuild-stores .result) k′ (a .kept .now) (q .1 .1) (rebuild-stores .ensures) (c .if1 .left)
+    ends-rebuild-done p k m d (a .count) (rebuild-faultless p k m d (q .0) (q .1 .0)) (rebuild-stores .result) k′ (a .kept .now) (q .1 .1) (rebuild-stores .ensures) (c .if1 .left)
 
 pub restore-spec : {M : Type 1} → statement M
 restore-spec = tie.close (tie.spec only-drive-requires rebuild-stores-requires cut-requires same-length same-length-2 same-length-3 same-length-4 returns same-length-5 same-length-6 returns-2)

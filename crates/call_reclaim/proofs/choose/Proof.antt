@@ -10,7 +10,8 @@ use Rattle.spec.specs.Memory.{Memory, mkMemory, stateOf}
 use Rattle.spec.specs.Reclaim.{Victim, victim, victimLive}
 use Rattle.spec.specs.declared.Answer.{Answer}
 use Rattle.spec.specs.declared.Answer.the-variants.{BadZone}
-use Rattle.call_reclaim.specs.Choosing.{range-fails, range-passes, lengths-fail, lengths-pass, missing-fails, Chose, front-passes, length-nil, no-zones, nobody-fails, dead-checks}
+use Rattle.call_reclaim.specs.Choosing.{reclaim-range-fails, reclaim-range-passes, reclaim-lengths-fail, reclaim-lengths-pass, reclaim-missing-fails, Chose, front-passes, length-nil, no-zones}
+use Rattle.call_reclaim.specs.Choosing.{nobody-fails, dead-checks}
 use Rattle.call_write.specs.Ready.{lent-long}
 use borrow.Author.Needs.{needs}
 use borrow.Author.Tests.{le-leb, lt-leb, not-true, not-false}
@@ -27,7 +28,7 @@ in-range-requires c κs = search needs
 returns : tie.Need-returns
 returns c =
     let a = c .before .before .before .before .before .before .before .before .args in
-    range-fails (a .p) (mkDisk (a .image .now) (a .pointers .now)) (mkMemory (stateOf (a .bytes .now)) (a .addresses .now) (a .compact .now) (a .inflight .now))
+    reclaim-range-fails (a .p) (mkDisk (a .image .now) (a .pointers .now)) (mkMemory (stateOf (a .bytes .now)) (a .addresses .now) (a .compact .now) (a .inflight .now))
     (sym (c .before .in-range .ensures) ∙ not-true (c .before .in-range .result) (c .if1 .taken))
 
 lent-ok-requires : tie.Need-lent-ok-requires
@@ -40,8 +41,8 @@ returns-2 c =
     let in-range = c .before .before .before .in-range in
     let k : Disk = mkDisk (a .image .now) (a .pointers .now) in
     let m : Memory = mkMemory (stateOf (a .bytes .now)) (a .addresses .now) (a .compact .now) (a .inflight .now) in
-    range-passes (a .p) k m (sym (in-range .ensures) ∙ not-false (in-range .result) (if1 .left))
-    ∙ lengths-fail (a .p) k m (sym (c .before .lent-ok .ensures (stateOf (a .bytes .now))) ∙ not-true (c .before .lent-ok .result) (c .if2 .taken))
+    reclaim-range-passes (a .p) k m (sym (in-range .ensures) ∙ not-false (in-range .result) (if1 .left))
+    ∙ reclaim-lengths-fail (a .p) k m (sym (c .before .lent-ok .ensures (stateOf (a .bytes .now))) ∙ not-true (c .before .lent-ok .result) (c .if2 .taken))
 
 returns-3 : tie.Need-returns-3
 returns-3 c =
@@ -53,9 +54,9 @@ returns-3 c =
     let in-range = c .before .before .before .before .in-range in
     let k : Disk = mkDisk (a .image .now) (a .pointers .now) in
     let m : Memory = mkMemory (stateOf (a .bytes .now)) (a .addresses .now) (a .compact .now) (a .inflight .now) in
-    range-passes (a .p) k m (sym (in-range .ensures) ∙ not-false (in-range .result) (if1 .left))
-    ∙ lengths-pass (a .p) k m (sym (lent-ok .ensures (stateOf (a .bytes .now))) ∙ not-false (lent-ok .result) (if2 .left))
-    ∙ missing-fails (a .p) k m (λ e. c .if3 .taken (s .pre .2 ∙ e))
+    reclaim-range-passes (a .p) k m (sym (in-range .ensures) ∙ not-false (in-range .result) (if1 .left))
+    ∙ reclaim-lengths-pass (a .p) k m (sym (lent-ok .ensures (stateOf (a .bytes .now))) ∙ not-false (lent-ok .result) (if2 .left))
+    ∙ reclaim-missing-fails (a .p) k m (λ e. c .if3 .taken (s .pre .2 ∙ e))
 
 look-requires : tie.Need-look-requires
 look-requires c κs =

@@ -12,7 +12,7 @@ use Rattle.spec.specs.Memory.{stateOf}
 use Rattle.spec.specs.Reclaim.{Victim, victim, victimLive, idle}
 use Rattle.spec.specs.declared.Answer.{Answer}
 use Rattle.spec.specs.declared.Answer.the-variants.{BadZone}
-use Rattle.call_reclaim.specs.Choosing.{copyRules, badZones, orNext, zones-odd, length-some, first-any, idle-fails, idle-passes}
+use Rattle.call_reclaim.specs.Choosing.{copyRules, badZones, orNext, zones-odd, length-some, first-found, idle-fails, idle-passes}
 use Rattle.call_filling.specs.Aims.{front-aim}
 use Rattle.law_views.specs.Views.{seen}
 use borrow.Author.Needs.{needs}
@@ -136,7 +136,7 @@ returns-5 c =
           ∙ zones-odd (a .p) (stateOf (a .bytes .now)) tb w (has-fault .result) (a .seen .odd) (a .seen .segment) (has-fault .ensures) (k .odd) (k .segment (l .1))
           ∙ (let f = c .before .if2 .left in let o = c .if3 .left in λ j. cond (f j) (some (BadZone 0)) (cond (o j) (some (BadZone (a .seen .segment))) none)),
       d,
-      first-any (idle (a .p) v (stateOf (a .bytes .now)) w) neverPlace (a .seen .first .0) (k .first) n,
+      first-found (idle (a .p) v (stateOf (a .bytes .now)) w) neverPlace (a .seen .first .0) (k .first) n,
       g .1,
       g .3 (c .if3 .left),
     )

@@ -1,4 +1,4 @@
--- `clear_rows`: clearing the rows of drives d on in the table so far gives what clearing all gives; a turn clears drive d's (`rows-turn`). Assumes nothing.
+-- `clear_rows`: clearing the rows of drives d on in the table so far gives what clearing all gives; a turn clears drive d's (`cleared-turn`). Assumes nothing.
 use Prim.Native.Nat.{ℕ, _-_, _≤_}
 use Rattle.spec.specs.Bytes.{splice}
 use Rattle.spec.specs.Drives.{zoneOn}
@@ -7,7 +7,7 @@ use Rattle.spec.specs.Memory.{compactAt}
 use Rattle.spec.specs.Params.{drivesOf}
 use Rattle.spec.specs.Reclaim.{cleared}
 use Rattle.law_basic.specs.Geometry.{ranged, zone-on-lt, row-fits}
-use Rattle.call_reclaim.specs.Clearing.{rows-start, rows-turn, rows-end}
+use Rattle.call_reclaim.specs.Clearing.{cleared-start, cleared-turn, cleared-end}
 use lib.ListN.{length, replicate}
 use mathlib.Core.Path.{_≡_, refl, ap, _∙_}
 use native.Mathlib.Omega.{arith}
@@ -21,7 +21,7 @@ abbrev μ-loop : tie.MeasureT-loop
 μ-loop p compact₀ segment d₀ compact d = p .N - d
 
 loop-holds : tie.Need-loop-holds Inv-loop μ-loop
-loop-holds c = (omega arith, refl, rows-start (c .before .args .p) (c .before .args .segment) (c .before .args .compact .now))
+loop-holds c = (omega arith, refl, cleared-start (c .before .args .p) (c .before .args .segment) (c .before .args .compact .now))
 
 zone-on-requires : tie.Need-zone-on-requires Inv-loop μ-loop
 zone-on-requires c κs = tt
@@ -62,7 +62,7 @@ loop-again c =
     let e : compact-at .result ≡ compactAt (a .p) (l .d) (zoneOn (a .segment) (l .d)) 0 = compact-at .ensures .0 ∙ ap (λ (z : ℕ). compactAt (a .p) (l .d) z 0) (zone-on .ensures) in (
       omega (arith, t),
       clear-part .kept .0 ∙ l .inv .1,
-      rows-turn (a .p) (a .segment) (l .d) (l .compact) (clear-part .last .0) t (clear-part .ensures ∙ ap (λ (x : ℕ). splice (l .compact) x (replicate (a .p .S) 0)) e) ∙ l .inv .2,
+      cleared-turn (a .p) (a .segment) (l .d) (l .compact) (clear-part .last .0) t (clear-part .ensures ∙ ap (λ (x : ℕ). splice (l .compact) x (replicate (a .p .S) 0)) e) ∙ l .inv .2,
     )
 
 same-length : tie.Need-same-length Inv-loop μ-loop
@@ -72,7 +72,7 @@ returns : tie.Need-returns Inv-loop μ-loop
 returns c =
     let a = c .before .before .before .before .args in
     let l = c .before .before .loop in
-    rows-end (a .p) (a .segment) (l .d) (l .compact) (omega (arith, c .if1 .left)) ∙ l .inv .2
+    cleared-end (a .p) (a .segment) (l .d) (l .compact) (omega (arith, c .if1 .left)) ∙ l .inv .2
 
 pub clear-rows-spec : {M : Type 1} → statement M
 clear-rows-spec =

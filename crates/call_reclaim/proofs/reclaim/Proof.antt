@@ -9,7 +9,7 @@ use Rattle.spec.specs.Reclaim.{victim, copyPlan}
 use Rattle.spec.specs.declared.State.{State}
 use Rattle.call_copy.specs.Copying.{CopyReady}
 use Rattle.call_filling.specs.Aims.{aimOf, front-aim}
-use Rattle.call_reclaim.specs.Choosing.{refusal, Chose}
+use Rattle.call_reclaim.specs.Choosing.{reclaimRefusal, Chose}
 use Rattle.call_reclaim.specs.Ends.{lent, copy-ready, reclaim-refused, reclaim-clear, reclaim-copy}
 use Rattle.call_reclaim.specs.declared.Choice.{Choice}
 use Rattle.mem_rows.specs.Rows.{frontOf, afterChange}
@@ -60,13 +60,13 @@ start c =
 
 chosen : (c : tie.After-choose) (x : Choice) → c .choose .result ≡ x
     → Chose (start c .args .p) (view (start c)) (start c .args .state) (victim (start c .args .p) (view (start c)) (start c .args .addresses .now))
-    (refusal (start c .args .p) (disk (start c)) (memory (start c) (start c .args .state))) x
+    (reclaimRefusal (start c .args .p) (disk (start c)) (memory (start c) (start c .args .state))) x
 chosen c x q =
     let s = start c in
     let a = s .args in
     let w = victim (a .p) (view s) (a .addresses .now) in
-    subst (λ (st : State). Chose (a .p) (view s) st w (refusal (a .p) (disk s) (memory s st)) x) (sym (s .pre .0))
-    (subst (Chose (a .p) (view s) (stateOf (a .bytes .now)) w (refusal (a .p) (disk s) (memory s (stateOf (a .bytes .now))))) q (c .choose .ensures))
+    subst (λ (st : State). Chose (a .p) (view s) st w (reclaimRefusal (a .p) (disk s) (memory s st)) x) (sym (s .pre .0))
+    (subst (Chose (a .p) (view s) (stateOf (a .bytes .now)) w (reclaimRefusal (a .p) (disk s) (memory s (stateOf (a .bytes .now))))) q (c .choose .ensures))
 
 enum-known-c : tie.Need-enum-known-c
 enum-known-c c = search needs

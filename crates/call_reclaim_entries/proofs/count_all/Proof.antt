@@ -1,10 +1,10 @@
 -- `count_all`: used holds the entries of the first a addresses by segment; a turn adds that of address a (`entered-more`), at most a for each. Assumes nothing.
 use Prim.Native.Nat.{ℕ, _+_, _-_, _*_, _/_, _≤_, _<_}
 use Rattle.spec.specs.Params.{capacity, addressesLen}
-use Rattle.call_reclaim_entries.specs.Entries.{Entered, entered-more, zone-told}
+use Rattle.call_reclaim_entries.specs.Entries.{TakenCounted, entered-more, zone-told}
 use Rattle.call_reclaim_entries.specs.Inverse.{inverse}
 use Rattle.law_basic.specs.Geometry.{ranged, zones-all, addresses-all, zone-low}
-use Rattle.mem_tables.specs.Tables.{isWithin, countPlaces, bit-le, count-none, count-one, count-le}
+use Rattle.mem_tables.specs.Tables.{isWithin, countPlaces, bit-le, count-no-places, count-one, count-le}
 use lib.Dec.{ltb}
 use lib.ListN.{length, getD, set}
 use mathlib.Core.Bool.{cond}
@@ -17,7 +17,7 @@ use Rattle.call_reclaim_entries.proofs.count_all.Tie as tie
 
 abbrev Inv-loop : tie.InvT-loop
 Inv-loop p addresses segments used₀ all cap m k₀ a₀ used k a =
-    (a ≤ p .L) × (length used ≡ length used₀) × Entered p addresses a used × (k ≡ countPlaces addresses a all 4294967295) × (k ≤ a)
+    (a ≤ p .L) × (length used ≡ length used₀) × TakenCounted p addresses a used × (k ≡ countPlaces addresses a all 4294967295) × (k ≤ a)
 
 abbrev μ-loop : tie.MeasureT-loop
 μ-loop p addresses segments used₀ all cap m k₀ a₀ used k a = p .L - a
@@ -44,7 +44,7 @@ add-m c = omega (arith, quotient (c .capacity .result))
 loop-holds : tie.Need-loop-holds Inv-loop μ-loop
 loop-holds c =
     let o = c .before .before .before .before .before in
-    (omega arith, refl, o .pre .1 .1 .1, count-none (o .args .addresses .now) (c .before .places .result) 4294967295, omega arith)
+    (omega arith, refl, o .pre .1 .1 .1, count-no-places (o .args .addresses .now) (c .before .places .result) 4294967295, omega arith)
 
 place-at-requires : tie.Need-place-at-requires Inv-loop μ-loop
 unfolding addressesLen
@@ -143,7 +143,7 @@ returns c =
     let l = c .before .before .loop in
     let e : l .a ≡ a .p .L = omega (arith, c .if1 .left, l .inv .0) in
     let s = places .ensures .0 in (
-      subst (λ (x : ℕ). Entered (a .p) (a .addresses .now) x (l .used)) e (l .inv .2),
+      subst (λ (x : ℕ). TakenCounted (a .p) (a .addresses .now) x (l .used)) e (l .inv .2),
       l .inv .3 ∙ (λ j. countPlaces (a .addresses .now) (e j) (s j) 4294967295),
     )
 

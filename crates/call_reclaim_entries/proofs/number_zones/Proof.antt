@@ -1,7 +1,7 @@
 -- `number_zones`: the first t zones have their segments, and z is t modulo Z, as the zone after the last is 0; a turn numbers zone t. Assumes nothing.
 use Prim.Native.Nat.{ℕ, _+_, _-_, _%_, _≤_, _<_}
 use Rattle.call_reclaim_live.specs.Live.{mod-next}
-use Rattle.call_reclaim_entries.specs.Entries.{Zones, zones-more}
+use Rattle.call_reclaim_entries.specs.Entries.{ZonesInTurn, zones-more}
 use Rattle.law_basic.specs.Geometry.{ranged, zones-all}
 use lib.Dec.{eqb}
 use lib.ListN.{length, length-set}
@@ -13,7 +13,7 @@ use Rattle.call_reclaim_entries.proofs.number_zones.Statement.{statemen
 use Rattle.call_reclaim_entries.proofs.number_zones.Tie as tie
 
 abbrev Inv-loop : tie.InvT-loop
-Inv-loop p segments₀ n z₀ t₀ segments z t = (t ≤ n) × (length segments ≡ length segments₀) × (z < p .Z) × (z ≡ t % p .Z) × Zones p segments t
+Inv-loop p segments₀ n z₀ t₀ segments z t = (t ≤ n) × (length segments ≡ length segments₀) × (z < p .Z) × (z ≡ t % p .Z) × ZonesInTurn p segments t
 
 abbrev μ-loop : tie.MeasureT-loop
 μ-loop p segments₀ n z₀ t₀ segments z t = n - t

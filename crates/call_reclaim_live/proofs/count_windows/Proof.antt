@@ -1,6 +1,6 @@
 -- `count_windows`: live counts each segment's live blocks below first; a turn marks and counts a window. One window of all leaves its marks. Assumes nothing.
 use Prim.Native.Nat.{ℕ, _-_, _*_, _≤_, _<_}
-use Rattle.call_reclaim_live.specs.Live.{liveBelow, Counted, counted-le, only-window, left-marks, window-nearer}
+use Rattle.call_reclaim_live.specs.Live.{liveBelow, LiveCounted, counted-le, only-window, left-marks, window-nearer}
 use Rattle.spec.specs.Params.{addressesLen}
 use Rattle.law_basic.specs.Geometry.{ranged, capacity-low, place-lt}
 use Rattle.mem_marks.specs.Marks.{Marks}
@@ -13,7 +13,7 @@ use Rattle.call_reclaim_live.proofs.count_windows.Tie as tie
 
 abbrev Inv-loop : tie.InvT-loop
 Inv-loop p addresses marks₀ live₀ all step outside₀ first₀ marks live outside first =
-    (first ≤ all) × (length marks ≡ length marks₀) × (length live ≡ length live₀) × Counted p addresses live first
+    (first ≤ all) × (length marks ≡ length marks₀) × (length live ≡ length live₀) × LiveCounted p addresses live first
     × (0 < first → all ≤ 8 * length marks₀ → (first ≡ all) × Marks addresses (p .L) marks 0 all)
     × (0 < first → outside ≡ countPlaces addresses (p .L) first 4294967295)
 

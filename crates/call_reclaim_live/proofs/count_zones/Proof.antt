@@ -1,6 +1,6 @@
 -- `count_zones`: at is the first place of zone z, and live counts the live blocks below from; a turn adds the marks of that zone to z's count. Assumes nothing.
 use Prim.Native.Nat.{ℕ, _+_, _-_, min, max, _≤_, _<_}
-use Rattle.call_reclaim_live.specs.Live.{liveBelow, Counted, bounded-more, sum-fits, nearer, zone-first, zone-same, next-starts, zone-next, counted-more}
+use Rattle.call_reclaim_live.specs.Live.{liveBelow, LiveCounted, bounded-more, sum-fits, nearer, zone-first, place-zone-same, next-starts, zone-next, counted-more}
 use Rattle.spec.specs.Params.{capacity, placeBlock, placeZone}
 use Rattle.law_basic.specs.Geometry.{ranged}
 use Rattle.mem_marks.specs.Marks.{Marks}
@@ -21,7 +21,7 @@ Inv-loop p marks live₀ first end cap at₀ z₀ from₀ live at z from =
     × (z < p .Z)
     × (length live ≡ length live₀)
     × ((g : ℕ) → g < p .Z → getD live g 0 ≤ from)
-    × ((tb : List ℕ) → Marks tb (p .L) marks first end → Counted p tb live₀ first → Counted p tb live from)
+    × ((tb : List ℕ) → Marks tb (p .L) marks first end → LiveCounted p tb live₀ first → LiveCounted p tb live from)
     × (at ≤ end + 87381)
 
 abbrev μ-loop : tie.MeasureT-loop
@@ -123,7 +123,7 @@ loop-again c =
       omega (arith, length-set (l .live) (l .z) (getD (l .live) (l .z) 0 + n), i .4),
       bounded-more (p .Z) (l .live) (l .z) (getD (l .live) (l .z) 0 + n) (l .from) to (i .5) fits (omega (arith, i .5 (l .z) (i .3), en .1, mid, low)) mid,
       (λ tb told so. counted-more p tb (a .marks .now) (a .first) (a .end) told (l .live) (l .z) (l .from) to n low mid high fits
-          (λ q x y. zone-same p r (l .at) (i .1) q (omega (arith, i .0, et, pre, x, y)) (omega (arith, i .0, et, pre, x, y, ec)) ∙ i .2) (en .0) (i .6 tb told so)),
+          (λ q x y. place-zone-same p r (l .at) (i .1) q (omega (arith, i .0, et, pre, x, y)) (omega (arith, i .0, et, pre, x, y, ec)) ∙ i .2) (en .0) (i .6 tb told so)),
       omega (arith, capacity′ .ensures .2, t),
     )
 

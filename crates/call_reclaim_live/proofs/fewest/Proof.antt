@@ -2,7 +2,7 @@
 use Prim.Native.Nat.{ℕ, _-_, _*_, _≤_}
 use Rattle.call_reclaim_live.specs.Fewest.{takenAs, taken-none, turn-best, onward, onward-start, onward-end}
 use Rattle.call_reclaim_live.specs.Least.{Least, least-none, least-turn}
-use Rattle.call_reclaim_live.specs.Live.{Counted}
+use Rattle.call_reclaim_live.specs.Live.{LiveCounted}
 use Rattle.spec.specs.Drives.{View, viewOf}
 use Rattle.spec.specs.Lists.{Opt}
 use Rattle.spec.specs.Params.{capacity, imageLen}
@@ -20,7 +20,7 @@ use Rattle.call_reclaim_live.proofs.fewest.Tie as tie
 abbrev Inv-loop : tie.InvT-loop
 Inv-loop p pointers live best₀ g₀ best g =
     (g ≤ p .Z)
-    × ((im tb : List ℕ) → length im ≡ imageLen p → Counted p tb live (p .N * p .Z * capacity p)
+    × ((im tb : List ℕ) → length im ≡ imageLen p → LiveCounted p tb live (p .N * p .Z * capacity p)
     → onward p (viewOf p im pointers) tb (takenAs p tb best) g ≡ victim p (viewOf p im pointers) tb)
     × ((im : List ℕ) → length im ≡ imageLen p → Least p (viewOf p im pointers) live g best)
 

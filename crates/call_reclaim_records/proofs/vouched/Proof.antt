@@ -3,7 +3,7 @@ use Prim.Native.Nat.{_+_, _-_, _*_, _≤_}
 use Rattle.call_reclaim_live.specs.Live.{liveBelow}
 use Rattle.spec.specs.Params.{placeOf}
 use Rattle.law_basic.specs.Geometry.{ranged}
-use Rattle.call_reclaim_records.specs.Vouch.{live-within, drive-more}
+use Rattle.call_reclaim_records.specs.Vouch.{live-below-drive, drive-more}
 use lib.ListN.{length}
 use native.Mathlib.Omega.{arith}
 use Rattle.call_reclaim_records.proofs.vouched.Statement.{statement}
@@ -24,7 +24,7 @@ returns c =
     let o = c .before .before .before .before .before .before in
     let a = o .args in
     let l = c3 .loop in
-    omega (arith, l .inv .1, live-within (a .p) (a .addresses .now) (a .g) (l .d) (l .inv .0))
+    omega (arith, l .inv .1, live-below-drive (a .p) (a .addresses .now) (a .g) (l .d) (l .inv .0))
 
 sub-vouched-zone : tie.Need-sub-vouched-zone Inv-loop μ-loop
 sub-vouched-zone c = omega (arith, c .if2 .left)
@@ -68,7 +68,7 @@ returns-2 c =
     let o = c .before .before .before .before .before in
     let a = o .args in
     let l = c .before .before .loop in
-    omega (arith, l .inv .1, live-within (a .p) (a .addresses .now) (a .g) (l .d) (l .inv .0))
+    omega (arith, l .inv .1, live-below-drive (a .p) (a .addresses .now) (a .g) (l .d) (l .inv .0))
 
 pub vouched-spec : {M : Type 1} → statement M
 vouched-spec =

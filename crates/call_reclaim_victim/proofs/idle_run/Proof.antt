@@ -1,4 +1,4 @@
--- `idle_run`: found is right below q; a turn skips to the next mark (`run-skip`) and takes it (`run-step`); `run-other` if not mine. Assumes nothing.
+-- `idle_run`: found is right below q; a turn skips to the next mark (`run-skip`) and takes it (`idle-step`); `run-other` if not mine. Assumes nothing.
 use Rattle.spec.specs.Memory.{stateOf}
 use Prim.Native.Nat.{ℕ, _+_, _-_, _≤_, _<_}
 use Rattle.call_reclaim_live.specs.Live.{places-high}
@@ -6,8 +6,8 @@ use Rattle.spec.specs.Drives.{viewOf}
 use Rattle.spec.specs.Params.{placeZone}
 use Rattle.spec.specs.Reclaim.{idle}
 use Rattle.law_basic.specs.Geometry.{ranged}
-use Rattle.mem_marks.specs.Marks.{marked, Marks}
-use Rattle.call_reclaim_victim.specs.Waiting.{Waiting, waiting-at, run-other, run-skip, run-step}
+use Rattle.mem_marks.specs.Marks.{isMarked, Marks}
+use Rattle.call_reclaim_victim.specs.Waiting.{IdleBelow, waiting-at, run-other, run-skip, idle-step}
 use borrow.Author.Tests.{not-true, not-false}
 use lib.Dec.{eqb}
 use mathlib.Core.List.{List}
@@ -23,8 +23,8 @@ Inv-loop p image pointers marks bytes first lo hi mine found₀ q₀ found q =
     × ((tb : List ℕ) (g : ℕ)
     → Marks tb (p .L) marks first hi
     → ((x : ℕ) → lo ≤ x → x < hi → eqb (placeZone p x) g ≡ mine)
-    → Waiting p (viewOf p image pointers) (stateOf bytes) tb g lo found₀
-    → Waiting p (viewOf p image pointers) (stateOf bytes) tb g q found)
+    → IdleBelow p (viewOf p image pointers) (stateOf bytes) tb g lo found₀
+    → IdleBelow p (viewOf p image pointers) (stateOf bytes) tb g q found)
 
 abbrev μ-loop : tie.MeasureT-loop
 μ-loop p image pointers marks bytes first lo hi mine found₀ q₀ found q = hi - q
@@ -104,9 +104,9 @@ loop-again c =
       omega (arith, low, l .inv .0),
       omega (arith, f),
       λ tb g told same w.
-          run-step (a .p) v (stateOf (a .bytes .now)) tb g (a .marks .now) (a .first) (a .hi) told (a .first + k) (l .found) (c .idle-step .result) (omega arith) (omega (arith, f))
+          idle-step (a .p) v (stateOf (a .bytes .now)) tb g (a .marks .now) (a .first) (a .hi) told (a .first + k) (l .found) (c .idle-step .result) (omega arith) (omega (arith, f))
           (same (a .first + k) (omega (arith, low, l .inv .0)) (omega (arith, f)) ∙ not-false (a .mine) (if1 .left))
-          (ap (marked (a .marks .now)) s ∙ n .3 (omega (arith, f))) (omega (arith, f, h .3, places-high (a .p) (ranged (a .p) (pre .0))))
+          (ap (isMarked (a .marks .now)) s ∙ n .3 (omega (arith, f))) (omega (arith, f, h .3, places-high (a .p) (ranged (a .p) (pre .0))))
           (run-skip (a .p) v (stateOf (a .bytes .now)) tb g (a .marks .now) (a .first) (a .hi) told (l .q) (a .first + k) (l .found) (omega (arith, h .0, l .inv .0)) low (omega (arith, f))
           (λ j x y. n .2 j x (omega (arith, y, s))) (l .inv .2 tb g told same w)) (c .idle-step .ensures),
     )

@@ -6,7 +6,7 @@ use Rattle.spec.specs.Drives.{viewOf}
 use Rattle.spec.specs.History.{before, step}
 use Rattle.spec.specs.Lists.{all}
 use Rattle.spec.specs.Params.{capacity, addressesLen}
-use Rattle.call_reclaim_victim.specs.Waiting.{Waiting, waiting-at, waiting-none}
+use Rattle.call_reclaim_victim.specs.Waiting.{IdleBelow, waiting-at, waiting-none}
 use lib.ListN.{length}
 use mathlib.Core.Bool.{false}
 use mathlib.Core.Path.{_≡_, refl, _∙_}
@@ -16,7 +16,7 @@ use Rattle.call_reclaim_victim.proofs.idle_windows.Tie as tie
 
 abbrev Inv-loop : tie.InvT-loop
 Inv-loop p image pointers addresses marks₀ bytes g all step found₀ first₀ marks found first =
-    (first ≤ all) × (length marks ≡ length marks₀) × Waiting p (viewOf p image pointers) (stateOf bytes) addresses g first found
+    (first ≤ all) × (length marks ≡ length marks₀) × IdleBelow p (viewOf p image pointers) (stateOf bytes) addresses g first found
 
 abbrev μ-loop : tie.MeasureT-loop
 μ-loop p image pointers addresses marks₀ bytes g all step found₀ first₀ marks found first = all - first

@@ -1,12 +1,12 @@
 -- `idle_zones`: at is the first place of zone z, and found is right below from; a turn goes over zone z, whose places are all of one segment. Assumes nothing.
 use Rattle.spec.specs.Memory.{stateOf}
 use Prim.Native.Nat.{ℕ, _+_, _-_, min, max, _≤_, _<_}
-use Rattle.call_reclaim_live.specs.Live.{nearer, places-high, zone-first, zone-same, next-starts, zone-next}
+use Rattle.call_reclaim_live.specs.Live.{nearer, places-high, zone-first, place-zone-same, next-starts, zone-next}
 use Rattle.spec.specs.Drives.{viewOf}
 use Rattle.spec.specs.Params.{capacity, placeBlock, placeZone}
 use Rattle.law_basic.specs.Geometry.{ranged}
 use Rattle.mem_marks.specs.Marks.{Marks}
-use Rattle.call_reclaim_victim.specs.Waiting.{Waiting, waiting-at}
+use Rattle.call_reclaim_victim.specs.Waiting.{IdleBelow, waiting-at}
 use lib.Dec.{eqb}
 use mathlib.Core.Bool.{cond}
 use mathlib.Core.List.{List}
@@ -23,8 +23,8 @@ Inv-loop p image pointers marks bytes first end g cap found₀ at₀ z₀ from�
     × (z < p .Z)
     × ((tb : List ℕ)
     → Marks tb (p .L) marks first end
-    → Waiting p (viewOf p image pointers) (stateOf bytes) tb g first found₀
-    → Waiting p (viewOf p image pointers) (stateOf bytes) tb g from found)
+    → IdleBelow p (viewOf p image pointers) (stateOf bytes) tb g first found₀
+    → IdleBelow p (viewOf p image pointers) (stateOf bytes) tb g from found)
     × (at ≤ end + 87381)
 
 abbrev μ-loop : tie.MeasureT-loop
@@ -102,7 +102,7 @@ loop-again c =
       ap (λ (x : ℕ). placeZone p (l .at + x)) ec ∙ zone-next p r (l .at) (i .1) ∙ ap (λ (x : ℕ). cond (eqb (x + 1) (p .Z)) 0 (x + 1)) (i .2) ∙ sym (c .next-zone .ensures .0),
       c .next-zone .ensures .1,
       (λ tb told w. c .before .idle-run .ensures tb (a .g) (λ q x y. told q x (omega (arith, y, et)))
-          (λ q x y. ap (λ (k : ℕ). eqb k (a .g)) (zone-same p r (l .at) (i .1) q (omega (arith, i .0, et, h .0, x, y)) (omega (arith, i .0, et, h .0, x, y, ec)) ∙ i .2)) (i .4 tb told w)),
+          (λ q x y. ap (λ (k : ℕ). eqb k (a .g)) (place-zone-same p r (l .at) (i .1) q (omega (arith, i .0, et, h .0, x, y)) (omega (arith, i .0, et, h .0, x, y, ec)) ∙ i .2)) (i .4 tb told w)),
       omega (arith, capacity′ .ensures .2, t),
     )
 

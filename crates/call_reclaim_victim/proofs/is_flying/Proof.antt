@@ -1,7 +1,7 @@
 -- `is_flying`: the record's address and stamp are looked for in the stripes in flight, which for a data block is `flying` (`flying-is`). Assumes nothing.
 use Rattle.spec.specs.Drives.{viewOf}
 use Rattle.spec.specs.Memory.{holds, stateOf}
-use Rattle.disk_records.specs.Record.{recOf}
+use Rattle.disk_records.specs.Record.{recVal}
 use Rattle.call_reclaim_victim.specs.Waiting.{flying-is}
 use borrow.Author.Needs.{needs}
 use mathlib.Core.Path.{_∙_}
@@ -22,7 +22,7 @@ returns c =
     let record-of = c .before .before .before .record-of in
     let pre = c .before .before .before .before .before .before .before .pre in
     let v = viewOf (a .p) (a .image .now) (a .pointers .now) in
-    c .holds .ensures ∙ flying-is (a .p) v (stateOf (a .bytes .now)) (a .place .0) (recOf (record-of .result)) (pre .1 .1 .1) (record-of .ensures)
+    c .holds .ensures ∙ flying-is (a .p) v (stateOf (a .bytes .now)) (a .place .0) (recVal (record-of .result)) (pre .1 .1 .1) (record-of .ensures)
 
 pub is-flying-spec : {M : Type 1} → statement M
 is-flying-spec = tie.close (tie.spec record-of-requires holds-requires returns)

@@ -2,7 +2,7 @@
 use Rattle.spec.specs.Memory.{stateOf}
 use borrow.Author.Tests.{not-true, not-false}
 use Rattle.spec.specs.Drives.{viewOf}
-use Rattle.call_reclaim_victim.specs.Looked.{looked-none, unsealed}
+use Rattle.call_reclaim_victim.specs.Looked.{looked-none, victim-unsealed}
 use mathlib.Core.Bool.{false}
 use mathlib.Core.Path.{refl, sym, _∙_}
 use native.Mathlib.Omega.{arith}
@@ -22,7 +22,7 @@ returns c =
     let w = pre .1 .0 in
     let v = viewOf p (a .image .now) (a .pointers .now) in
     let no = sym (c .before .any-sealed .ensures (a .image .now) (w .image-long)) ∙ not-true (c .before .any-sealed .result) (c .if1 .taken) in
-    looked-none p v tb (stateOf (a .bytes .now)) (p .Z) (unsealed p v tb no) (omega arith)
+    looked-none p v tb (stateOf (a .bytes .now)) (p .Z) (victim-unsealed p v tb no) (omega arith)
     (record { segment = p .Z; live = 0; first = record { 0 = 4294967295 }; odd = false; outside = false }) refl refl refl refl
 
 places-requires : tie.Need-places-requires

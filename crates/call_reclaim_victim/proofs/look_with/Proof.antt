@@ -1,7 +1,7 @@
 -- `look_with`: Z is at most 1024, so all segments have a count, 0 at first; none sealed is `looked-none`, g with its idle block `looked-some`. Assumes nothing.
 use Rattle.spec.specs.Memory.{stateOf}
 use Prim.Native.Nat.{ℕ, _≤_, _<_}
-use Rattle.call_reclaim_live.specs.Live.{counted-none}
+use Rattle.call_reclaim_live.specs.Live.{none-live}
 use Rattle.spec.specs.Drives.{viewOf}
 use Rattle.spec.specs.Reclaim.{fewest}
 use Rattle.law_basic.specs.Geometry.{ranged}
@@ -29,7 +29,7 @@ count-windows-requires c κs =
       pre .0,
       (
         (h .0, h .1, h .2, subst (λ (x : ℕ). a .p .Z ≤ x) (sym n) (r .zones-high)),
-        counted-none (a .p) (a .addresses .now) (replicate 1024 0) (λ g l. getD-replicate 1024 g 0 0 (omega (arith, l, r .zones-high))),
+        none-live (a .p) (a .addresses .now) (replicate 1024 0) (λ g l. getD-replicate 1024 g 0 0 (omega (arith, l, r .zones-high))),
       ),
     )
 

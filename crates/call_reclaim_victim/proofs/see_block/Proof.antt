@@ -5,7 +5,7 @@ use Rattle.call_reclaim_live.specs.Live.{places-high}
 use Rattle.spec.specs.Drives.{viewOf}
 use Rattle.spec.specs.Params.{addressesLen}
 use Rattle.law_basic.specs.Geometry.{ranged}
-use Rattle.call_reclaim_victim.specs.Vouched.{vouched-skip, vouched-step, data-low, data-even, data-live}
+use Rattle.call_reclaim_victim.specs.Vouched.{vouched-skip, vouched-step, vouched-low, data-even, data-live}
 use borrow.Author.Needs.{needs}
 use mathlib.Core.Path.{refl, sym, ap, _∙_}
 use native.Mathlib.Omega.{arith}
@@ -18,7 +18,7 @@ in-image c =
     let a = c .args in
     let r = ranged (a .p) (c .pre .0) in
     let h = c .pre .1 .1 in
-    omega (arith, places-high (a .p) r, data-low (a .p) r (a .drive) (a .g) (a .o) (a .at + a .o) (h .1) (h .2) (h .4) (ap (λ (x : ℕ). x + a .o) (h .3)))
+    omega (arith, places-high (a .p) r, vouched-low (a .p) r (a .drive) (a .g) (a .o) (a .at + a .o) (h .1) (h .2) (h .4) (ap (λ (x : ℕ). x + a .o) (h .3)))
 
 record-in-requires : tie.Need-record-in-requires
 record-in-requires c κs = search needs
@@ -57,7 +57,7 @@ idle-step-requires c κs =
     let a = o .args in
     let r = ranged (a .p) (o .pre .0) in
     let h = o .pre .1 .1 in
-    (o .pre .0, (o .pre .1 .0, (data-low (a .p) r (a .drive) (a .g) (a .o) (a .at + a .o) (h .1) (h .2) (h .4) (ap (λ (x : ℕ). x + a .o) (h .3)), h .6)))
+    (o .pre .0, (o .pre .1 .0, (vouched-low (a .p) r (a .drive) (a .g) (a .o) (a .at + a .o) (h .1) (h .2) (h .4) (ap (λ (x : ℕ). x + a .o) (h .3)), h .6)))
 
 add-t19-2 : tie.Need-add-t19-2
 add-t19-2 c =

@@ -6,7 +6,7 @@ use Rattle.spec.specs.Params.{placeOf}
 use Rattle.law_basic.specs.Geometry.{ranged}
 use Rattle.call_reclaim_victim.specs.Vouched.{Vouched, vouched-none, vouched-skip}
 use Rattle.call_reclaim_victim.specs.declared.Seen.{Seen}
-use Rattle.call_reclaim_records.specs.Vouch.{drive-first, drive-last, drive-low, drive-high}
+use Rattle.call_reclaim_records.specs.Vouch.{drive-first, drive-last, drive-place-low, next-drive-place}
 use mathlib.Core.Path.{_≡_, refl, sym, ap, _∙_, subst}
 use native.Mathlib.Omega.{arith}
 use Rattle.call_reclaim_victim.proofs.see_segment.Statement.{statement}
@@ -56,8 +56,8 @@ loop-again c =
     let v = viewOf p (a .image .now) (a .pointers .now) in
     let e = c .see-zone .ensures in
     let q : ℕ = placeOf p (l .d) (a .g) 1 in
-    let one = vouched-skip p v (stateOf (a .bytes .now)) tb (a .g) (placeOf p (l .d) 0 0) q (l .found) (drive-low p tb (a .g) r hg (l .d)) (l .inv .2) in
-    let two = vouched-skip p v (stateOf (a .bytes .now)) tb (a .g) (q + p .S) (placeOf p (l .d + 1) 0 0) (c .see-zone .result) (drive-high p tb (a .g) r hg (l .d)) (e .1 one) in
+    let one = vouched-skip p v (stateOf (a .bytes .now)) tb (a .g) (placeOf p (l .d) 0 0) q (l .found) (drive-place-low p tb (a .g) r hg (l .d)) (l .inv .2) in
+    let two = vouched-skip p v (stateOf (a .bytes .now)) tb (a .g) (q + p .S) (placeOf p (l .d + 1) 0 0) (c .see-zone .result) (next-drive-place p tb (a .g) r hg (l .d)) (e .1 one) in
     (omega (arith, c .before .if1 .taken), e .0, two)
 
 returns : tie.Need-returns Inv-loop μ-loop

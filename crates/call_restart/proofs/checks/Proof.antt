@@ -1,4 +1,4 @@
--- `checks`: `numbers-fail`, `lengths-fail`, `pointers-fail` close the refusals; a zone not below Z is no fault (`pointers-pass`). Assumes nothing.
+-- `checks`: `restart-numbers-fail`, `restart-lengths-fail`, `restart-pointers-fail` close the refusals; a zone not below Z is no fault (`restart-pointers-pass`). Assumes nothing.
 use Prim.Native.Nat.{ℕ}
 use Rattle.spec.specs.Drives.{mkDisk}
 use Rattle.spec.specs.Engine.{lentOk}
@@ -7,9 +7,9 @@ use Rattle.spec.specs.Lists.{firstOr}
 use Rattle.spec.specs.Memory.{mkMemory, zeroState}
 use Rattle.spec.specs.Params.{inRange}
 use Rattle.spec.specs.Restart.{namesDrive}
-use Rattle.call_restart.specs.Order.{numbers-fail, lengths-fail, pointers-fail, pointers-pass, named-is}
+use Rattle.call_restart.specs.Order.{restart-numbers-fail, restart-lengths-fail, restart-pointers-fail, restart-pointers-pass, named-is}
 use Rattle.law_drives.specs.Lengths.{whole-of}
-use Rattle.law_drives.specs.Tests.{or-left}
+use Rattle.law_drives.specs.Tests.{or-first}
 use Rattle.law_views.specs.Views.{seen}
 use borrow.Author.Needs.{needs}
 use borrow.Author.Tests.{not-true, not-false}
@@ -25,21 +25,21 @@ bad-numbers-requires c κs = search needs
 returns : tie.Need-returns
 returns c =
     let args = c .before .before .before .before .before .before .before .args in
-    λ st. numbers-fail (args .p) (lentOk (args .p) (mkDisk (args .image .now) (args .pointers .now))
+    λ st. restart-numbers-fail (args .p) (lentOk (args .p) (mkDisk (args .image .now) (args .pointers .now))
     (mkMemory st (args .addresses .now) (args .compact .now) (args .inflight .now)))
     (seen (args .p) (mkDisk (args .image .now) (args .pointers .now))) (args .missing) (sym (c .before .bad-numbers .ensures) ∙ c .if1 .taken)
 
 lent-ok-requires : tie.Need-lent-ok-requires
 lent-ok-requires c κs =
     let args = c .before .before .before .before .before .before .before .args in
-    (not-false (inRange (args .p)) (or-left (not (inRange (args .p))) (not (namesDrive (args .p) (args .missing))) (sym (c .before .bad-numbers .ensures) ∙ c .if1 .left)))
+    (not-false (inRange (args .p)) (or-first (not (inRange (args .p))) (not (namesDrive (args .p) (args .missing))) (sym (c .before .bad-numbers .ensures) ∙ c .if1 .left)))
 
 returns-2 : tie.Need-returns-2
 returns-2 c =
     let if1 = c .before .before .if1 in
     let bad-numbers = c .before .before .before .bad-numbers in
     let args = c .before .before .before .before .before .before .before .before .before .args in
-    λ st. lengths-fail (args .p) (lentOk (args .p) (mkDisk (args .image .now) (args .pointers .now))
+    λ st. restart-lengths-fail (args .p) (lentOk (args .p) (mkDisk (args .image .now) (args .pointers .now))
     (mkMemory st (args .addresses .now) (args .compact .now) (args .inflight .now)))
     (seen (args .p) (mkDisk (args .image .now) (args .pointers .now))) (args .missing) (sym (bad-numbers .ensures) ∙ if1 .left)
     (sym (c .before .lent-ok .ensures st) ∙ not-true (c .before .lent-ok .result) (c .if2 .taken))
@@ -54,7 +54,7 @@ pointer-fault-requires c κs =
     let bad-numbers = c .before .before .before .before .bad-numbers in
     let args = c .before .before .before .before .before .before .before .before .before .before .args in (
       (not-false (inRange (args .p))
-          (or-left (not (inRange (args .p))) (not (namesDrive (args .p) (args .missing))) (sym (bad-numbers .ensures) ∙ if1 .left))),
+          (or-first (not (inRange (args .p))) (not (namesDrive (args .p) (args .missing))) (sym (bad-numbers .ensures) ∙ if1 .left))),
       (whole-of (args .p) (mkDisk (args .image .now) (args .pointers .now))
           (mkMemory zeroState (args .addresses .now) (args .compact .now) (args .inflight .now))
           (sym (lent-ok .ensures zeroState) ∙ not-false (lent-ok .result) (c .before .if2 .left))) .pointers-long,
@@ -69,7 +69,7 @@ returns-3 c =
     let if1 = c .before .before .before .before .before .before .if1 in
     let bad-numbers = c .before .before .before .before .before .before .before .bad-numbers in
     let args = c .before .before .before .before .before .before .before .before .before .before .before .before .before .args in
-    λ st. pointers-fail (args .p) (lentOk (args .p) (mkDisk (args .image .now) (args .pointers .now))
+    λ st. restart-pointers-fail (args .p) (lentOk (args .p) (mkDisk (args .image .now) (args .pointers .now))
     (mkMemory st (args .addresses .now) (args .compact .now) (args .inflight .now)))
     (seen (args .p) (mkDisk (args .image .now) (args .pointers .now))) (args .missing) (sym (bad-numbers .ensures) ∙ if1 .left)
     (sym (lent-ok .ensures st) ∙ not-false (lent-ok .result) (if2 .left)) (pointer-fault .result)
@@ -89,7 +89,7 @@ returns-4 c =
     let if1 = c .before .before .before .before .before .before .if1 in
     let bad-numbers = c .before .before .before .before .before .before .before .bad-numbers in
     let args = c .before .before .before .before .before .before .before .before .before .before .before .before .before .args in
-    λ st. pointers-pass (args .p) (lentOk (args .p) (mkDisk (args .image .now) (args .pointers .now))
+    λ st. restart-pointers-pass (args .p) (lentOk (args .p) (mkDisk (args .image .now) (args .pointers .now))
     (mkMemory st (args .addresses .now) (args .compact .now) (args .inflight .now)))
     (seen (args .p) (mkDisk (args .image .now) (args .pointers .now))) (args .missing) (sym (bad-numbers .ensures) ∙ if1 .left)
     (sym (lent-ok .ensures st) ∙ not-false (lent-ok .result) (if2 .left)) (pointer-fault .result)

@@ -1,4 +1,4 @@
--- The numbers read before the stores name the segments that `moves` speaks of; behind all stores the view is as it says, and keeps-moved and serials-moved change the arrays.
+-- The numbers read before the stores name the segments that `moves-view` speaks of; behind all stores the view is as it says, and keeps-moved and serials-moved change the arrays.
 use Prim.Native.Nat.{ℕ, suc, _+_}
 use Rattle.spec.specs.Counts.{lastCount}
 use Rattle.spec.specs.Drives.{View, Disk, mkDisk, storeView, storeAll}
@@ -6,7 +6,7 @@ use Rattle.spec.specs.Restart.{restartStores}
 use Rattle.spec.specs.Segments.{segments, greatestSerial}
 use Rattle.law_basic.specs.Geometry.{ranged}
 use Rattle.law_drives.specs.Mended.{serials-small}
-use Rattle.call_restart.specs.Stays.{Moved, keeps-moved, serials-moved, serial-left, new-place, moves, view-behind}
+use Rattle.call_restart.specs.Stays.{MovedView, keeps-moved, serials-moved, restart-serial-left, new-place, moves-view, view-behind}
 use Rattle.law_views.specs.Views.{seen}
 use Rattle.recover_segments.specs.Remains.{Keeps, Serials}
 use lib.ListN.{set, length-set}
@@ -53,7 +53,7 @@ slice-write-kept c =
     let v : View = seen (a .p) (mkDisk (a .image .now) (a .pointers .now)) in
     let g = first-unsealed in
     let z = lowest-free in
-    let m = moves (a .p) (ranged (a .p) (q .0)) v (q .1 .1 .1 .0 .0) (q .1 .1 .1 .0 .1) (g .result) (z .result)
+    let m = moves-view (a .p) (ranged (a .p) (q .0)) v (q .1 .1 .1 .0 .0) (q .1 .1 .1 .0 .1) (g .result) (z .result)
     (g .ensures .1 (a .image .now) (q .1 .0 .image-long) (f .0)) (z .ensures .1 v 0 (f .0)) in
     omega (arith, m .old-low, f .0 .0)
 
@@ -70,7 +70,7 @@ slice-write-kept-2 c =
     let v : View = seen (a .p) (mkDisk (a .image .now) (a .pointers .now)) in
     let g = first-unsealed in
     let z = lowest-free in
-    let m = moves (a .p) (ranged (a .p) (q .0)) v (q .1 .1 .1 .0 .0) (q .1 .1 .1 .0 .1) (g .result) (z .result)
+    let m = moves-view (a .p) (ranged (a .p) (q .0)) v (q .1 .1 .1 .0 .0) (q .1 .1 .1 .0 .1) (g .result) (z .result)
     (g .ensures .1 (a .image .now) (q .1 .0 .image-long) (f .0)) (z .ensures .1 v 0 (f .0)) in
     omega (arith, m .new-low, f .0 .0, length-set (a .kept .now) (g .result) false)
 
@@ -85,7 +85,7 @@ add-serials c =
     let f = q .1 .1 .0 in
     let v : View = seen (a .p) (mkDisk (a .image .now) (a .pointers .now)) in
     let e = greatest-serial .ensures v 0 (f .0) (f .1) in
-    let n = serial-left (a .p) (ranged (a .p) (q .0)) v (q .1 .1 .1 .0 .0) (q .1 .1 .1 .0 .1) in
+    let n = restart-serial-left (a .p) (ranged (a .p) (q .0)) v (q .1 .1 .1 .0 .0) (q .1 .1 .1 .0 .1) in
     let s = serials-small (a .p) (ranged (a .p) (q .0)) v (q .1 .1 .1 .0 .0 .shaped) in
     omega (arith, e, n, s)
 
@@ -102,7 +102,7 @@ mul-serials c =
     let v : View = seen (a .p) (mkDisk (a .image .now) (a .pointers .now)) in
     let g = first-unsealed in
     let z = lowest-free in
-    let m = moves (a .p) (ranged (a .p) (q .0)) v (q .1 .1 .1 .0 .0) (q .1 .1 .1 .0 .1) (g .result) (z .result)
+    let m = moves-view (a .p) (ranged (a .p) (q .0)) v (q .1 .1 .1 .0 .0) (q .1 .1 .1 .0 .1) (g .result) (z .result)
     (g .ensures .1 (a .image .now) (q .1 .0 .image-long) (f .0)) (z .ensures .1 v 0 (f .0)) in
     omega (arith, m .new-low, ranged (a .p) (q .0) .zones-high)
 
@@ -119,7 +119,7 @@ slice-write-serials c =
     let v : View = seen (a .p) (mkDisk (a .image .now) (a .pointers .now)) in
     let g = first-unsealed in
     let z = lowest-free in
-    let m = moves (a .p) (ranged (a .p) (q .0)) v (q .1 .1 .1 .0 .0) (q .1 .1 .1 .0 .1) (g .result) (z .result)
+    let m = moves-view (a .p) (ranged (a .p) (q .0)) v (q .1 .1 .1 .0 .0) (q .1 .1 .1 .0 .1) (g .result) (z .result)
     (g .ensures .1 (a .image .now) (q .1 .0 .image-long) (f .0)) (z .ensures .1 v 0 (f .0)) in
     omega (arith, m .new-low, f .1 .0)
 
@@ -169,15 +169,16 @@ returns c =
     let z = lowest-free in
     let x = healthy-stores in
     let k′ : Disk = mkDisk (x .last .1 .0) (x .last .1 .1 .0) in
-    let m = moves p r v (q .1 .1 .1 .0 .0) (q .1 .1 .1 .0 .1) (g .result) (z .result)
+    let m = moves-view p r v (q .1 .1 .1 .0 .0) (q .1 .1 .1 .0 .1) (g .result) (z .result)
     (g .ensures .1 (a .image .now) (q .1 .0 .image-long) (f .0)) (z .ensures .1 v 0 (f .0)) in
     let n : suc (greatestSerial (segments p v 0)) ≡ greatest-serial .result .0 + 1 =
     sym (add-one (greatestSerial (segments p v 0))) ∙ ap (λ (i : ℕ). i + 1) (sym (greatest-serial .ensures v 0 (f .0) (f .1))) in (
       x .ensures,
       λ c.
           let e = view-behind p r (a .count) k (q .1 .0) (q .1 .1 .1 .0 .0) (x .result) k′ (x .ensures) c in
-          let u : Moved p v (seen p k′) (g .result) (z .result) (greatest-serial .result .0 + 1) =
-          subst (λ (i : ℕ). Moved p v (seen p k′) (g .result) (z .result) i) n (subst (λ (y : View). Moved p v y (g .result) (z .result) (suc (greatestSerial (segments p v 0)))) (sym e) m) in (
+          let u : MovedView p v (seen p k′) (g .result) (z .result) (greatest-serial .result .0 + 1) =
+          subst (λ (i : ℕ). MovedView p v (seen p k′) (g .result) (z .result) i) n
+          (subst (λ (y : View). MovedView p v y (g .result) (z .result) (suc (greatestSerial (segments p v 0)))) (sym e) m) in (
             keeps-moved p v (seen p k′) (g .result) (z .result) (greatest-serial .result .0 + 1) (a .kept .now) u (f .0),
             serials-moved p v (seen p k′) (g .result) (z .result) (greatest-serial .result .0 + 1) (a .serials .now) u (f .1),
           ),

@@ -2,7 +2,7 @@
 use Rattle.mem_calls.specs.Left.{checked}
 use Rattle.spec.specs.Drives.{Disk, mkDisk}
 use Rattle.spec.specs.Memory.{mkMemory}
-use Rattle.call_restart.specs.Ends.{ends-refused, ends-cut, ends-done}
+use Rattle.call_restart.specs.Ends.{ends-restart-refused, ends-restart-cut, ends-restart-done}
 use borrow.Author.Needs.{needs}
 use mathlib.Core.Path.{ap, _∙_}
 use Rattle.call_restart.proofs.recover_in.Statement.{statement}
@@ -69,7 +69,7 @@ returns c =
     let p = a .p in
     let k : Disk = mkDisk (a .image .now) (a .pointers .now) in
     let k′ : Disk = mkDisk (t .last .1 .0) (t .last .1 .1 .0) in
-    λ fl. ends-refused p k (mkMemory (a .state) (a .addresses .now) (a .compact .now) fl) (a .gone) (a .count) (t .result) k′ (t .ensures .0) (o .given .0 .0) (o .given .1)
+    λ fl. ends-restart-refused p k (mkMemory (a .state) (a .addresses .now) (a .compact .now) fl) (a .gone) (a .count) (t .result) k′ (t .ensures .0) (o .given .0 .0) (o .given .1)
 
 enum-told : tie.Need-enum-told
 enum-told c = search needs
@@ -136,7 +136,7 @@ returns-2 c =
     let p = a .p in
     let k : Disk = mkDisk (a .image .now) (a .pointers .now) in
     let k′ : Disk = mkDisk (t .last .1 .0) (t .last .1 .1 .0) in
-    λ fl. ends-cut p k (mkMemory (a .state) (a .addresses .now) (a .compact .now) fl) (a .gone) (a .count) (t .result) k′ (t .ensures .0)
+    λ fl. ends-restart-cut p k (mkMemory (a .state) (a .addresses .now) (a .compact .now) fl) (a .gone) (a .count) (t .result) k′ (t .ensures .0)
     (enum-told .given .1) (if1 .taken) (x .result) (x .last .0) (x .last .1 .0)
     (q .1 .1 .1 .0 .0) (q .1 .1 .1 .0 .1) (x .ensures .0 .0) (x .ensures .0 .1) (x .ensures .1 .0) (x .ensures .1 .1)
 
@@ -215,7 +215,7 @@ returns-3 c =
     let p = a .p in
     let k : Disk = mkDisk (a .image .now) (a .pointers .now) in
     let k′ : Disk = mkDisk (t .last .1 .0) (t .last .1 .1 .0) in
-    λ fl. ends-done p k (mkMemory (a .state) (a .addresses .now) (a .compact .now) fl) (a .gone) (a .count) (t .result) k′ (t .ensures .0)
+    λ fl. ends-restart-done p k (mkMemory (a .state) (a .addresses .now) (a .compact .now) fl) (a .gone) (a .count) (t .result) k′ (t .ensures .0)
     (enum-told .given .1) (if1 .left) (x .result) (x .last .1 .1 .1 .0) (x .last .1 .1 .1 .1 .0) (x .ensures)
 
 pub recover-in-spec : {M : Type 1} → statement M

@@ -1,9 +1,9 @@
 -- `rest_checks`: a zone below Z is `segments-fail`; a missing drive or none ragged
--- `plain-pass`; else `serial-fails`, `zones-fail` or `zones-suffice`. Assumes nothing.
+-- `plain-pass`; else `restart-serial-fails`, `restart-zones-fail` or `restart-zones-suffice`. Assumes nothing.
 use Prim.Native.Nat.{ℕ, _≤_, _<_}
 use Rattle.spec.specs.Segments.{segments}
 use Rattle.recover_check.specs.Mends.{no-faults}
-use Rattle.call_restart.specs.Order.{segments-fail, zone-none, gone-plain, here-plain, plain-pass, serial-fails, zones-fail, zones-suffice}
+use Rattle.call_restart.specs.Order.{segments-fail, zone-none, gone-plain, here-plain, plain-pass, restart-serial-fails, restart-zones-fail, restart-zones-suffice}
 use borrow.Author.Needs.{needs}
 use borrow.Author.Tests.{not-true, not-false}
 use mathlib.Core.Path.{sym, _∙_, subst}
@@ -49,7 +49,7 @@ returns-4 c =
     let if2 = c .before .before .before .before .before .before .if2 in
     let if1 = c .before .before .before .before .before .before .before .if1 in
     let args = c .before .before .before .before .before .before .before .before .before .before .before .before .args in
-    λ v kp sr x. serial-fails (args .p) (args .gone) (segments (args .p) v (args .gone))
+    λ v kp sr x. restart-serial-fails (args .p) (args .gone) (segments (args .p) v (args .gone))
     (no-faults (args .p) v (args .gone) (args .e) x (zone-none (args .p) v (args .gone) (args .e) x (omega (arith, if1 .left))))
     (here-plain (args .p) v (args .gone) (args .e) x (zone-none (args .p) v (args .gone) (args .e) x (omega (arith, if1 .left))) (if2 .left)
     ∙ sym (is-ragged .ensures)
@@ -68,7 +68,7 @@ returns-5 c =
     let if2 = c .before .before .before .before .before .before .before .before .before .if2 in
     let if1 = c .before .before .before .before .before .before .before .before .before .before .if1 in
     let args = c .before .before .before .before .before .before .before .before .before .before .before .before .before .before .before .args in
-    λ v kp sr x. zones-fail (args .p) (args .gone) (segments (args .p) v (args .gone))
+    λ v kp sr x. restart-zones-fail (args .p) (args .gone) (segments (args .p) v (args .gone))
     (no-faults (args .p) v (args .gone) (args .e) x (zone-none (args .p) v (args .gone) (args .e) x (omega (arith, if1 .left))))
     (here-plain (args .p) v (args .gone) (args .e) x (zone-none (args .p) v (args .gone) (args .e) x (omega (arith, if1 .left))) (if2 .left)
     ∙ sym (is-ragged .ensures)
@@ -85,7 +85,7 @@ returns-6 c =
     let if2 = c .before .before .before .before .before .before .before .before .before .if2 in
     let if1 = c .before .before .before .before .before .before .before .before .before .before .if1 in
     let args = c .before .before .before .before .before .before .before .before .before .before .before .before .before .before .before .args in
-    λ v kp sr x. zones-suffice (args .p) (args .gone) (segments (args .p) v (args .gone))
+    λ v kp sr x. restart-zones-suffice (args .p) (args .gone) (segments (args .p) v (args .gone))
     (no-faults (args .p) v (args .gone) (args .e) x (zone-none (args .p) v (args .gone) (args .e) x (omega (arith, if1 .left))))
     (here-plain (args .p) v (args .gone) (args .e) x (zone-none (args .p) v (args .gone) (args .e) x (omega (arith, if1 .left))) (if2 .left)
     ∙ sym (is-ragged .ensures)

@@ -1,5 +1,5 @@
 -- `restart`: a failed check is `restart-refused`; passed, they give what `recover`
--- asks (`front-passed`), which is the call (`restart-recovers`). Assumes nothing.
+-- asks (`restart-front-passed`), which is the call (`restart-recovers`). Assumes nothing.
 use Prim.Native.Nat.{ℕ}
 use Rattle.mem_calls.specs.Left.{checked}
 use Rattle.spec.specs.Drives.{mkDisk}
@@ -9,7 +9,7 @@ use Rattle.spec.specs.Memory.{mkMemory}
 use Rattle.spec.specs.Params.{named}
 use Rattle.spec.specs.Segments.{segments}
 use Rattle.call_restart.specs.Ends.{recovered, restart-refused, restart-recovers}
-use Rattle.call_restart.specs.Order.{front-passed, named-is}
+use Rattle.call_restart.specs.Order.{restart-front-passed, named-is}
 use Rattle.law_drives.specs.Lengths.{lengths-of, whole-of}
 use Rattle.law_views.specs.Views.{seen}
 use borrow.Author.Needs.{needs}
@@ -56,7 +56,7 @@ recover-requires c κs =
     let enum-told = c .before .before .before .before .before .enum-told in
     let checks = c .before .before .before .before .before .before .before .checks in
     let args = c .before .before .before .before .before .before .before .before .before .before .before .before .before .before .before .before .before .args in (
-      (front-passed (args .p) (lentOk (args .p) (mkDisk (args .image .now) (args .pointers .now))
+      (restart-front-passed (args .p) (lentOk (args .p) (mkDisk (args .image .now) (args .pointers .now))
           (mkMemory (args .state) (args .addresses .now) (args .compact .now) (args .inflight .now)))
           (seen (args .p) (mkDisk (args .image .now) (args .pointers .now))) (args .missing)
           (segments (args .p) (seen (args .p) (mkDisk (args .image .now) (args .pointers .now))) (named (args .missing)))
@@ -64,7 +64,7 @@ recover-requires c κs =
       (
         whole-of (args .p) (mkDisk (args .image .now) (args .pointers .now))
             (mkMemory (args .state) (args .addresses .now) (args .compact .now) (args .inflight .now))
-            ((front-passed (args .p) (lentOk (args .p) (mkDisk (args .image .now) (args .pointers .now))
+            ((restart-front-passed (args .p) (lentOk (args .p) (mkDisk (args .image .now) (args .pointers .now))
             (mkMemory (args .state) (args .addresses .now) (args .compact .now) (args .inflight .now)))
             (seen (args .p) (mkDisk (args .image .now) (args .pointers .now))) (args .missing)
             (segments (args .p) (seen (args .p) (mkDisk (args .image .now) (args .pointers .now))) (named (args .missing)))
@@ -72,7 +72,7 @@ recover-requires c κs =
         (
           subst (λ (g : ℕ). pointerFaults (args .p) (seen (args .p) (mkDisk (args .image .now) (args .pointers .now))) g ≡ [])
               (sym (only-drive .ensures ∙ named-is (args .missing)))
-              ((front-passed (args .p) (lentOk (args .p) (mkDisk (args .image .now) (args .pointers .now))
+              ((restart-front-passed (args .p) (lentOk (args .p) (mkDisk (args .image .now) (args .pointers .now))
               (mkMemory (args .state) (args .addresses .now) (args .compact .now) (args .inflight .now)))
               (seen (args .p) (mkDisk (args .image .now) (args .pointers .now))) (args .missing)
               (segments (args .p) (seen (args .p) (mkDisk (args .image .now) (args .pointers .now))) (named (args .missing)))
@@ -80,14 +80,14 @@ recover-requires c κs =
           (
             lengths-of (args .p) (mkDisk (args .image .now) (args .pointers .now))
                 (mkMemory (args .state) (args .addresses .now) (args .compact .now) (args .inflight .now))
-                ((front-passed (args .p) (lentOk (args .p) (mkDisk (args .image .now) (args .pointers .now))
+                ((restart-front-passed (args .p) (lentOk (args .p) (mkDisk (args .image .now) (args .pointers .now))
                 (mkMemory (args .state) (args .addresses .now) (args .compact .now) (args .inflight .now)))
                 (seen (args .p) (mkDisk (args .image .now) (args .pointers .now))) (args .missing)
                 (segments (args .p) (seen (args .p) (mkDisk (args .image .now) (args .pointers .now))) (named (args .missing)))
                 (sym (checks .ensures (args .state)) ∙ ap checked (enum-told .given .1))) .lent) .addresses-ok,
             lengths-of (args .p) (mkDisk (args .image .now) (args .pointers .now))
                 (mkMemory (args .state) (args .addresses .now) (args .compact .now) (args .inflight .now))
-                ((front-passed (args .p) (lentOk (args .p) (mkDisk (args .image .now) (args .pointers .now))
+                ((restart-front-passed (args .p) (lentOk (args .p) (mkDisk (args .image .now) (args .pointers .now))
                 (mkMemory (args .state) (args .addresses .now) (args .compact .now) (args .inflight .now)))
                 (seen (args .p) (mkDisk (args .image .now) (args .pointers .now))) (args .missing)
                 (segments (args .p) (seen (args .p) (mkDisk (args .image .now) (args .pointers .now))) (named (args .missing)))
@@ -125,7 +125,7 @@ returns-2 c =
     (only-drive .ensures ∙ named-is (args .missing))
     ∙ restart-recovers (args .p) (mkDisk (args .image .now) (args .pointers .now))
     (mkMemory (args .state) (args .addresses .now) (args .compact .now) (args .inflight .now)) (args .missing) (args .count)
-    (front-passed (args .p) (lentOk (args .p) (mkDisk (args .image .now) (args .pointers .now))
+    (restart-front-passed (args .p) (lentOk (args .p) (mkDisk (args .image .now) (args .pointers .now))
     (mkMemory (args .state) (args .addresses .now) (args .compact .now) (args .inflight .now)))
     (seen (args .p) (mkDisk (args .image .now) (args .pointers .now))) (args .missing)
     (segments (args .p) (seen (args .p) (mkDisk (args .image .now) (args .pointers .now))) (named (args .missing)))

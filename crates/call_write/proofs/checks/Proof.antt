@@ -7,9 +7,10 @@ use Rattle.spec.specs.Write.{opens, noStamp, noSerial, mustWait, scarce}
 use Rattle.call_filling.specs.Aims.{front-stamp, front-wait, front-aim, front-serial}
 use Rattle.call_filling.specs.declared.Aim.{Aim}
 use Rattle.law_views.specs.Views.{seen}
-use Rattle.call_write.specs.Order.{range-fails, range-passes, lengths-fail, block-fails, lengths-pass, missing-fails, missing-passes, address-fails}
-use Rattle.call_write.specs.Order.{address-passes, stamp-fails, serial-fails, counts-pass, wait-fails, wait-passes, zones-fail, zones-suffice, state-fails}
-use Rattle.call_write.specs.Order.{state-passes}
+use Rattle.call_write.specs.Order.{write-range-fails, write-range-passes, write-lengths-fail, write-block-fails, write-lengths-pass, write-missing-fails, write-missing-passes}
+use Rattle.call_write.specs.Order.{write-address-fails}
+use Rattle.call_write.specs.Order.{write-address-passes, stamp-fails, write-serial-fails, counts-pass, wait-fails, wait-passes, write-zones-fail, write-zones-suffice, write-state-fails}
+use Rattle.call_write.specs.Order.{write-state-passes}
 use Rattle.call_write.specs.Ready.{lent-long}
 use borrow.Author.Needs.{needs}
 use borrow.Author.Tests.{not-true, not-false}
@@ -30,7 +31,7 @@ returns c =
     let k : Disk = mkDisk (a .image .now) (a .pointers .now) in
     let m : Memory = mkMemory st (a .addresses .now) (a .compact .now) (a .inflight .now) in
     let er : inRange (a .p) ≡ false = sym (c .before .in-range .ensures) ∙ not-true (c .before .in-range .result) (c .if1 .taken) in
-    range-fails (a .p) k m (a .address .0) (a .block .now) er
+    write-range-fails (a .p) k m (a .address .0) (a .block .now) er
 
 lent-ok-requires : tie.Need-lent-ok-requires
 lent-ok-requires c κs = sym (c .before .in-range .ensures) ∙ not-false (c .before .in-range .result) (c .if1 .left)
@@ -46,8 +47,8 @@ returns-2 c =
     let m : Memory = mkMemory st (a .addresses .now) (a .compact .now) (a .inflight .now) in
     let er : inRange (a .p) ≡ true = sym (in-range .ensures) ∙ not-false (in-range .result) (if1 .left) in
     let el : lentOk (a .p) k m ≡ false = sym (c .before .lent-ok .ensures st) ∙ not-true (c .before .lent-ok .result) (c .if2 .taken) in
-    lengths-fail (a .p) k m (a .address .0) (a .block .now) el
-    ∙ range-passes (a .p) k m (a .address .0) (a .block .now) er
+    write-lengths-fail (a .p) k m (a .address .0) (a .block .now) el
+    ∙ write-range-passes (a .p) k m (a .address .0) (a .block .now) er
 
 returns-3 : tie.Need-returns-3
 returns-3 c =
@@ -62,8 +63,8 @@ returns-3 c =
     let m : Memory = mkMemory st (a .addresses .now) (a .compact .now) (a .inflight .now) in
     let er : inRange (a .p) ≡ true = sym (in-range .ensures) ∙ not-false (in-range .result) (if1 .left) in
     let el : lentOk (a .p) k m ≡ true = sym (lent-ok .ensures st) ∙ not-false (lent-ok .result) (if2 .left) in
-    block-fails (a .p) k m (a .address .0) (a .block .now) el (c .if3 .taken)
-    ∙ range-passes (a .p) k m (a .address .0) (a .block .now) er
+    write-block-fails (a .p) k m (a .address .0) (a .block .now) el (c .if3 .taken)
+    ∙ write-range-passes (a .p) k m (a .address .0) (a .block .now) er
 
 returns-4 : tie.Need-returns-4
 returns-4 c =
@@ -78,9 +79,9 @@ returns-4 c =
     let m : Memory = mkMemory st (a .addresses .now) (a .compact .now) (a .inflight .now) in
     let er : inRange (a .p) ≡ true = sym (in-range .ensures) ∙ not-false (in-range .result) (if1 .left) in
     let el : lentOk (a .p) k m ≡ true = sym (lent-ok .ensures st) ∙ not-false (lent-ok .result) (if2 .left) in
-    missing-fails (a .p) k m (a .address .0) (a .block .now) (λ e. c .if4 .taken (s .pre .2 ∙ e))
-    ∙ lengths-pass (a .p) k m (a .address .0) (a .block .now) el (c .before .if3 .left)
-    ∙ range-passes (a .p) k m (a .address .0) (a .block .now) er
+    write-missing-fails (a .p) k m (a .address .0) (a .block .now) (λ e. c .if4 .taken (s .pre .2 ∙ e))
+    ∙ write-lengths-pass (a .p) k m (a .address .0) (a .block .now) el (c .before .if3 .left)
+    ∙ write-range-passes (a .p) k m (a .address .0) (a .block .now) er
 
 returns-5 : tie.Need-returns-5
 returns-5 c =
@@ -97,10 +98,10 @@ returns-5 c =
     let m : Memory = mkMemory st (a .addresses .now) (a .compact .now) (a .inflight .now) in
     let er : inRange (a .p) ≡ true = sym (in-range .ensures) ∙ not-false (in-range .result) (if1 .left) in
     let el : lentOk (a .p) k m ≡ true = sym (lent-ok .ensures st) ∙ not-false (lent-ok .result) (if2 .left) in
-    address-fails (a .p) k m (a .address .0) (a .block .now) (omega (arith, c .if5 .taken))
-    ∙ missing-passes (a .p) k m (a .address .0) (a .block .now) (sym (s .pre .2) ∙ if4 .left)
-    ∙ lengths-pass (a .p) k m (a .address .0) (a .block .now) el (if3 .left)
-    ∙ range-passes (a .p) k m (a .address .0) (a .block .now) er
+    write-address-fails (a .p) k m (a .address .0) (a .block .now) (omega (arith, c .if5 .taken))
+    ∙ write-missing-passes (a .p) k m (a .address .0) (a .block .now) (sym (s .pre .2) ∙ if4 .left)
+    ∙ write-lengths-pass (a .p) k m (a .address .0) (a .block .now) el (if3 .left)
+    ∙ write-range-passes (a .p) k m (a .address .0) (a .block .now) er
 
 no-stamp-requires : tie.Need-no-stamp-requires
 no-stamp-requires c κs = search needs
@@ -123,10 +124,10 @@ returns-6 c =
     let el : lentOk (a .p) k m ≡ true = sym (lent-ok .ensures st) ∙ not-false (lent-ok .result) (if2 .left) in
     let es : noStamp st ≡ true = sym (front-stamp (a .p) st (a .f) (s .pre .0)) ∙ sym (c .before .no-stamp .ensures) ∙ c .if6 .taken in
     stamp-fails (a .p) k m (a .address .0) (a .block .now) es
-    ∙ address-passes (a .p) k m (a .address .0) (a .block .now) (omega (arith, if5 .left))
-    ∙ missing-passes (a .p) k m (a .address .0) (a .block .now) (sym (s .pre .2) ∙ if4 .left)
-    ∙ lengths-pass (a .p) k m (a .address .0) (a .block .now) el (if3 .left)
-    ∙ range-passes (a .p) k m (a .address .0) (a .block .now) er
+    ∙ write-address-passes (a .p) k m (a .address .0) (a .block .now) (omega (arith, if5 .left))
+    ∙ write-missing-passes (a .p) k m (a .address .0) (a .block .now) (sym (s .pre .2) ∙ if4 .left)
+    ∙ write-lengths-pass (a .p) k m (a .address .0) (a .block .now) el (if3 .left)
+    ∙ write-range-passes (a .p) k m (a .address .0) (a .block .now) er
 
 no-serial-requires : tie.Need-no-serial-requires
 no-serial-requires c κs = search needs
@@ -151,11 +152,11 @@ returns-7 c =
     let el : lentOk (a .p) k m ≡ true = sym (lent-ok .ensures st) ∙ not-false (lent-ok .result) (if2 .left) in
     let es : noStamp st ≡ false = sym (front-stamp (a .p) st (a .f) (s .pre .0)) ∙ sym (no-stamp .ensures) ∙ if6 .left in
     let en : noSerial (a .p) st ≡ true = sym (front-serial (a .p) st (a .f) (s .pre .0) (a .a) (s .pre .1)) ∙ sym (c .before .no-serial .ensures) ∙ c .if7 .taken in
-    serial-fails (a .p) k m (a .address .0) (a .block .now) es en
-    ∙ address-passes (a .p) k m (a .address .0) (a .block .now) (omega (arith, if5 .left))
-    ∙ missing-passes (a .p) k m (a .address .0) (a .block .now) (sym (s .pre .2) ∙ if4 .left)
-    ∙ lengths-pass (a .p) k m (a .address .0) (a .block .now) el (if3 .left)
-    ∙ range-passes (a .p) k m (a .address .0) (a .block .now) er
+    write-serial-fails (a .p) k m (a .address .0) (a .block .now) es en
+    ∙ write-address-passes (a .p) k m (a .address .0) (a .block .now) (omega (arith, if5 .left))
+    ∙ write-missing-passes (a .p) k m (a .address .0) (a .block .now) (sym (s .pre .2) ∙ if4 .left)
+    ∙ write-lengths-pass (a .p) k m (a .address .0) (a .block .now) el (if3 .left)
+    ∙ write-range-passes (a .p) k m (a .address .0) (a .block .now) er
 
 must-wait-requires : tie.Need-must-wait-requires
 must-wait-requires c κs =
@@ -189,10 +190,10 @@ returns-8 c =
     let ew : mustWait (a .p) st ≡ true = sym (front-wait (a .p) st (a .f) (s .pre .0)) ∙ sym (c .before .must-wait .ensures) ∙ c .if8 .taken in
     wait-fails (a .p) k m (a .address .0) (a .block .now) ew
     ∙ counts-pass (a .p) k m (a .address .0) (a .block .now) es en
-    ∙ address-passes (a .p) k m (a .address .0) (a .block .now) (omega (arith, if5 .left))
-    ∙ missing-passes (a .p) k m (a .address .0) (a .block .now) (sym (s .pre .2) ∙ if4 .left)
-    ∙ lengths-pass (a .p) k m (a .address .0) (a .block .now) el (if3 .left)
-    ∙ range-passes (a .p) k m (a .address .0) (a .block .now) er
+    ∙ write-address-passes (a .p) k m (a .address .0) (a .block .now) (omega (arith, if5 .left))
+    ∙ write-missing-passes (a .p) k m (a .address .0) (a .block .now) (sym (s .pre .2) ∙ if4 .left)
+    ∙ write-lengths-pass (a .p) k m (a .address .0) (a .block .now) el (if3 .left)
+    ∙ write-range-passes (a .p) k m (a .address .0) (a .block .now) er
 
 reserve-requires : tie.Need-reserve-requires
 reserve-requires c κs = search needs
@@ -246,13 +247,13 @@ returns-9 c =
     ap (scarce (a .p) (seen (a .p) k)) (ap (λ (x : Aim). cond (x .opens) 2 1) (sym (s .pre .1)) ∙ sym (reserve .ensures .0))
     ∙ sym (c .before .scarce .ensures (a .image .now) (long .0))
     ∙ c .if9 .taken in
-    zones-fail (a .p) k m (a .address .0) (a .block .now) ez
+    write-zones-fail (a .p) k m (a .address .0) (a .block .now) ez
     ∙ wait-passes (a .p) k m (a .address .0) (a .block .now) ew
     ∙ counts-pass (a .p) k m (a .address .0) (a .block .now) es en
-    ∙ address-passes (a .p) k m (a .address .0) (a .block .now) (omega (arith, if5 .left))
-    ∙ missing-passes (a .p) k m (a .address .0) (a .block .now) (sym (s .pre .2) ∙ if4 .left)
-    ∙ lengths-pass (a .p) k m (a .address .0) (a .block .now) el (if3 .left)
-    ∙ range-passes (a .p) k m (a .address .0) (a .block .now) er
+    ∙ write-address-passes (a .p) k m (a .address .0) (a .block .now) (omega (arith, if5 .left))
+    ∙ write-missing-passes (a .p) k m (a .address .0) (a .block .now) (sym (s .pre .2) ∙ if4 .left)
+    ∙ write-lengths-pass (a .p) k m (a .address .0) (a .block .now) el (if3 .left)
+    ∙ write-range-passes (a .p) k m (a .address .0) (a .block .now) er
 
 state-ok-requires : tie.Need-state-ok-requires
 state-ok-requires c κs =
@@ -298,14 +299,14 @@ returns-10 c =
     let ez : scarce (a .p) (seen (a .p) k) (cond (opens (a .p) st) 2 1) ≡ false =
     ap (scarce (a .p) (seen (a .p) k)) (ap (λ (x : Aim). cond (x .opens) 2 1) (sym (s .pre .1)) ∙ sym (reserve .ensures .0)) ∙ sym (scarce′ .ensures (a .image .now) (long .0)) ∙ if9 .left in
     let eo : stateOk (a .p) st ≡ false = sym (c .before .state-ok .ensures) ∙ not-true (c .before .state-ok .result) (c .if10 .taken) in
-    state-fails (a .p) k m (a .address .0) (a .block .now) eo
-    ∙ zones-suffice (a .p) k m (a .address .0) (a .block .now) ez
+    write-state-fails (a .p) k m (a .address .0) (a .block .now) eo
+    ∙ write-zones-suffice (a .p) k m (a .address .0) (a .block .now) ez
     ∙ wait-passes (a .p) k m (a .address .0) (a .block .now) ew
     ∙ counts-pass (a .p) k m (a .address .0) (a .block .now) es en
-    ∙ address-passes (a .p) k m (a .address .0) (a .block .now) (omega (arith, if5 .left))
-    ∙ missing-passes (a .p) k m (a .address .0) (a .block .now) (sym (s .pre .2) ∙ if4 .left)
-    ∙ lengths-pass (a .p) k m (a .address .0) (a .block .now) el (if3 .left)
-    ∙ range-passes (a .p) k m (a .address .0) (a .block .now) er
+    ∙ write-address-passes (a .p) k m (a .address .0) (a .block .now) (omega (arith, if5 .left))
+    ∙ write-missing-passes (a .p) k m (a .address .0) (a .block .now) (sym (s .pre .2) ∙ if4 .left)
+    ∙ write-lengths-pass (a .p) k m (a .address .0) (a .block .now) el (if3 .left)
+    ∙ write-range-passes (a .p) k m (a .address .0) (a .block .now) er
 
 returns-11 : tie.Need-returns-11
 returns-11 c =
@@ -342,14 +343,14 @@ returns-11 c =
     let ez : scarce (a .p) (seen (a .p) k) (cond (opens (a .p) st) 2 1) ≡ false =
     ap (scarce (a .p) (seen (a .p) k)) (ap (λ (x : Aim). cond (x .opens) 2 1) (sym (s .pre .1)) ∙ sym (reserve .ensures .0)) ∙ sym (scarce′ .ensures (a .image .now) (long .0)) ∙ if9 .left in
     let eo : stateOk (a .p) st ≡ true = sym (c .before .state-ok .ensures) ∙ not-false (c .before .state-ok .result) (c .if10 .left) in
-    state-passes (a .p) k m (a .address .0) (a .block .now) eo
-    ∙ zones-suffice (a .p) k m (a .address .0) (a .block .now) ez
+    write-state-passes (a .p) k m (a .address .0) (a .block .now) eo
+    ∙ write-zones-suffice (a .p) k m (a .address .0) (a .block .now) ez
     ∙ wait-passes (a .p) k m (a .address .0) (a .block .now) ew
     ∙ counts-pass (a .p) k m (a .address .0) (a .block .now) es en
-    ∙ address-passes (a .p) k m (a .address .0) (a .block .now) (omega (arith, if5 .left))
-    ∙ missing-passes (a .p) k m (a .address .0) (a .block .now) (sym (s .pre .2) ∙ if4 .left)
-    ∙ lengths-pass (a .p) k m (a .address .0) (a .block .now) el (if3 .left)
-    ∙ range-passes (a .p) k m (a .address .0) (a .block .now) er
+    ∙ write-address-passes (a .p) k m (a .address .0) (a .block .now) (omega (arith, if5 .left))
+    ∙ write-missing-passes (a .p) k m (a .address .0) (a .block .now) (sym (s .pre .2) ∙ if4 .left)
+    ∙ write-lengths-pass (a .p) k m (a .address .0) (a .block .now) el (if3 .left)
+    ∙ write-range-passes (a .p) k m (a .address .0) (a .block .now) er
 
 pub checks-spec : {M : Type 1} → statement M
 checks-spec =

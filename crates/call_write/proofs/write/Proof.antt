@@ -8,14 +8,14 @@ use Rattle.spec.specs.Lists.Opt.{none, some}
 use Rattle.spec.specs.Memory.{Memory, mkMemory}
 use Rattle.spec.specs.declared.State.{State}
 use Rattle.call_filling.specs.Aims.{aimOf, front-aim}
-use Rattle.call_filling.specs.Left.{Opening, opening-front}
+use Rattle.call_filling.specs.Left.{OpeningStores, opening-front}
 use Rattle.call_filling.specs.declared.Aim.{Aim}
 use Rattle.law_calls.specs.Slots.{slot-lt}
-use Rattle.mem_rows.specs.Rows.{Sized, frontOf, behind, rowOf}
+use Rattle.mem_rows.specs.Rows.{RowsSized, frontOf, behind, slotRow}
 use Rattle.mem_rows.specs.declared.Change.{Change}
 use Rattle.mem_rows.specs.declared.Front.{Front}
-use Rattle.call_write.specs.Ends.{write-refused, ends-cut, plan-asks, ends-plan}
-use Rattle.call_write.specs.Ready.{ready, refusal}
+use Rattle.call_write.specs.Ends.{write-refused, ends-write-cut, plan-asks, ends-plan}
+use Rattle.call_write.specs.Ready.{write-ready, writeRefusal}
 use lib.Arith.{lt-of-le-ne}
 use mathlib.Core.Path.{_≡_, sym, ap, _∙_, subst}
 use native.Mathlib.Omega.{arith}
@@ -30,8 +30,8 @@ serial-fits c = omega arith
 stamp-fits : (c : tie.Start) → c .args .state .stamp .0 < 18446744073709551616
 stamp-fits c = omega arith
 
-sized : (c : tie.Start) → Sized (c .args .state)
-sized c = subst Sized (sym (c .pre .0)) (read-sized (c .args .bytes .now))
+sized : (c : tie.Start) → RowsSized (c .args .state)
+sized c = subst RowsSized (sym (c .pre .0)) (read-sized (c .args .bytes .now))
 
 abbrev disk : (c : tie.Start) → Disk
 disk c = mkDisk (c .args .image .now) (c .args .pointers .now)
@@ -67,11 +67,12 @@ start c =
     let at = c .before .before .before .before .before .before .before .before .before .before .before .before .before .before .before in
     at
 
-checked-is : (c : tie.After-checks) → checked (c .checks .result) ≡ refusal (start c .args .p) (disk (start c)) (memory (start c)) (start c .args .address .0) (start c .args .block .now)
+checked-is : (c : tie.After-checks) → checked (c .checks .result) ≡ writeRefusal (start c .args .p) (disk (start c)) (memory (start c)) (start c .args .address .0) (start c .args .block .now)
 checked-is c =
     let s = start c in
     let a = s .args in
-    subst (λ (x : State). checked (c .checks .result) ≡ refusal (a .p) (disk s) (mkMemory x (a .addresses .now) (a .compact .now) (a .inflight .now)) (a .address .0) (a .block .now)) (sym (s .pre .0))
+    subst (λ (x : State). checked (c .checks .result) ≡ writeRefusal (a .p) (disk s) (mkMemory x (a .addresses .now) (a .compact .now) (a .inflight .now)) (a .address .0) (a .block .now))
+    (sym (s .pre .0))
     (c .checks .ensures)
 
 enum-known-c : tie.Need-enum-known-c
@@ -116,8 +117,8 @@ open-requires c κs =
     let g = c .before .before .before .before .before .before .before .before .before .before .aim-of in
     let f = c .before .before .before .before .before .before .before .before .before .before .before .front-of in
     let a = s .args in
-    let none! : refusal (a .p) (disk s) (memory s) (a .address .0) (a .block .now) ≡ none = sym (checked-is (at-4)) ∙ ap checked (enum-told .given .1) in
-    let r = ready (a .p) (disk s) (memory s) (a .address .0) (a .block .now) none! in (
+    let none! : writeRefusal (a .p) (disk s) (memory s) (a .address .0) (a .block .now) ≡ none = sym (checked-is (at-4)) ∙ ap checked (enum-told .given .1) in
+    let r = write-ready (a .p) (disk s) (memory s) (a .address .0) (a .block .now) none! in (
       r .ranged,
       (
         r .whole,
@@ -165,13 +166,13 @@ returns-2 c =
     at-17
     .before .before .before .before .before .before .before .front-of in
     let a = s .args in
-    let none! : refusal (a .p) (disk s) (memory s) (a .address .0) (a .block .now) ≡ none = sym (checked-is (at-17)) ∙ ap checked (enum-told .given .1) in
+    let none! : writeRefusal (a .p) (disk s) (memory s) (a .address .0) (a .block .now) ≡ none = sym (checked-is (at-17)) ∙ ap checked (enum-told .given .1) in
     let o = at-12 .«open» in
     let k′ : Disk = mkDisk (o .last .1 .0) (o .last .1 .1 .0) in
-    let h : Opening (a .p) (a .state) (a .count) (disk s) (o .result) k′ =
+    let h : OpeningStores (a .p) (a .state) (a .count) (disk s) (o .result) k′ =
     opening-front (a .p) (a .state) (a .count) (disk s) (o .result) k′
-    (subst (λ (x : Front). Opening (a .p) (behind x) (a .count) (disk s) (o .result) k′) (front-of .ensures) (o .ensures)) in
-    ends-cut (a .p) (disk s) (memory s) (a .address .0) (a .block .now) (a .count) none! (o .result) k′ h (if1 .taken) (q .result) (q .last .0) (q .last .1 .0)
+    (subst (λ (x : Front). OpeningStores (a .p) (behind x) (a .count) (disk s) (o .result) k′) (front-of .ensures) (o .ensures)) in
+    ends-write-cut (a .p) (disk s) (memory s) (a .address .0) (a .block .now) (a .count) none! (o .result) k′ h (if1 .taken) (q .result) (q .last .0) (q .last .1 .0)
     (ap (λ (x : Change). x .answer) (q .ensures .0)) (q .ensures .1 .0) (q .ensures .1 .1)
 
 row-at-requires : tie.Need-row-at-requires
@@ -184,13 +185,13 @@ row-at-requires c κs =
     at-17
     .before .before .before .before .before .before .before .before in
     let a = s .args in
-    let none! : refusal (a .p) (disk s) (memory s) (a .address .0) (a .block .now) ≡ none = sym (checked-is (at-10)) ∙ ap checked (enum-told .given .1) in
-    (s .pre .1, subst (λ (x : Aim). x .slot < 8) (sym (aimed (at-16))) (slot-lt (a .p) (a .state) (ready (a .p) (disk s) (memory s) (a .address .0) (a .block .now) none! .waits)))
+    let none! : writeRefusal (a .p) (disk s) (memory s) (a .address .0) (a .block .now) ≡ none = sym (checked-is (at-10)) ∙ ap checked (enum-told .given .1) in
+    (s .pre .1, subst (λ (x : Aim). x .slot < 8) (sym (aimed (at-16))) (slot-lt (a .p) (a .state) (write-ready (a .p) (disk s) (memory s) (a .address .0) (a .block .now) none! .waits)))
 
 -- the row is the state's
 row-is :
     (c : tie.After-row-at)
-    → c .row-at .result ≡ rowOf (c .before .before .before .before .before .before .before .before .before .before .before .before .before .before
+    → c .row-at .result ≡ slotRow (c .before .before .before .before .before .before .before .before .before .before .before .before .before .before
     .before .before .before .before .before .before .before .before .before .before .before .before .args .state)
     (c .before .before .before .before .before .before .before .before .before .before .before .before .before .before .before .before .before .aim-of .result .slot)
 row-is c =
@@ -199,7 +200,7 @@ row-is c =
     let s =
     at′
     .before .before .before .before .before .before .before .before .before in
-    subst (λ (x : State). c .row-at .result ≡ rowOf x (aim-of .result .slot)) (sym (s .pre .0)) (c .row-at .ensures)
+    subst (λ (x : State). c .row-at .result ≡ slotRow x (aim-of .result .slot)) (sym (s .pre .0)) (c .row-at .ensures)
 
 plan-requires : tie.Need-plan-requires
 plan-requires c κs =
@@ -214,13 +215,13 @@ plan-requires c κs =
     at-17
     .before .before .before .before .before .before .before .before .before .before in
     let a = s .args in
-    let none! : refusal (a .p) (disk s) (memory s) (a .address .0) (a .block .now) ≡ none = sym (checked-is (at-12)) ∙ ap checked (enum-told .given .1) in
-    let r = ready (a .p) (disk s) (memory s) (a .address .0) (a .block .now) none! in
+    let none! : writeRefusal (a .p) (disk s) (memory s) (a .address .0) (a .block .now) ≡ none = sym (checked-is (at-12)) ∙ ap checked (enum-told .given .1) in
+    let r = write-ready (a .p) (disk s) (memory s) (a .address .0) (a .block .now) none! in
     let o = at-7 .«open» in
     let k′ : Disk = mkDisk (o .last .1 .0) (o .last .1 .1 .0) in
-    let h : Opening (a .p) (a .state) (a .count) (disk s) (o .result) k′ =
+    let h : OpeningStores (a .p) (a .state) (a .count) (disk s) (o .result) k′ =
     opening-front (a .p) (a .state) (a .count) (disk s) (o .result) k′
-    (subst (λ (x : Front). Opening (a .p) (behind x) (a .count) (disk s) (o .result) k′) (f .ensures) (o .ensures)) in (
+    (subst (λ (x : Front). OpeningStores (a .p) (behind x) (a .count) (disk s) (o .result) k′) (f .ensures) (o .ensures)) in (
       r .ranged,
       (
         plan-asks (a .p) (disk s) (memory s) (a .address .0) (a .block .now) (a .count) none! (o .result) k′ h (f .result) (f .ensures) (aim-of .result) (aimed (at-18))
@@ -262,12 +263,12 @@ returns-3 c =
     at-17
     .before .before .before .before .before .before .before .before .before .before .before .before .before in
     let a = s .args in
-    let none! : refusal (a .p) (disk s) (memory s) (a .address .0) (a .block .now) ≡ none = sym (checked-is (at-15)) ∙ ap checked (enum-told .given .1) in
+    let none! : writeRefusal (a .p) (disk s) (memory s) (a .address .0) (a .block .now) ≡ none = sym (checked-is (at-15)) ∙ ap checked (enum-told .given .1) in
     let o = at-10 .«open» in
     let k′ : Disk = mkDisk (o .last .1 .0) (o .last .1 .1 .0) in
-    let h : Opening (a .p) (a .state) (a .count) (disk s) (o .result) k′ =
+    let h : OpeningStores (a .p) (a .state) (a .count) (disk s) (o .result) k′ =
     opening-front (a .p) (a .state) (a .count) (disk s) (o .result) k′
-    (subst (λ (x : Front). Opening (a .p) (behind x) (a .count) (disk s) (o .result) k′) (f .ensures) (o .ensures)) in
+    (subst (λ (x : Front). OpeningStores (a .p) (behind x) (a .count) (disk s) (o .result) k′) (f .ensures) (o .ensures)) in
     ends-plan (a .p) (disk s) (memory s) (a .address .0) (a .block .now) (a .count) none! (o .result) k′ h (f .result) (f .ensures) (aim-of .result) (aimed (at-21))
     (row-at .result) (row-is (at-4)) (sized s) (if1 .left) (q .result) (q .last .1 .0) (q .ensures .0) (q .ensures .1)
 

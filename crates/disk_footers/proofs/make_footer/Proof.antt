@@ -11,9 +11,9 @@ use Rattle.spec.specs.Bytes.{part, splice}
 use Rattle.spec.specs.Layout.{footerBlock}
 use Rattle.spec.specs.Lists.{flat}
 use Rattle.spec.specs.Params.{spareLen, perFooter, unitLen, imageLen, placeOf, placeByte}
-use Rattle.law_basic.specs.Geometry.{Ranged, ranged, item, spare-len, per-footer-fits, image-high, data-below, block-within}
+use Rattle.law_basic.specs.Geometry.{Ranged, ranged, item-fits, spare-len, per-footer-fits, image-high, data-below, block-within}
 use Rattle.law_basic.specs.Splice.{length-part, part-lent, splice-nil}
-use Rattle.disk_footers.specs.Feet.{sparesBy, recordsOf, byte-next, footer-start, spares-count, spare-of, spare-long, spares-view, footer-is, footer-turn}
+use Rattle.disk_footers.specs.Feet.{sparesBy, recordsOf, byte-next, footer-start, sparesBy-count, spare-of, spare-long, spares-view, footer-is, footer-turn}
 use Rattle.spec.specs.declared.Params.{Params}
 use Rattle.disk_footers.proofs.make_footer.Statement.{statement}
 use Rattle.disk_footers.proofs.make_footer.Tie as tie
@@ -34,7 +34,7 @@ unit-is p = refl
 
 -- n: the bytes of a spare
 row-room : (p : Params) → Ranged p → (n j : ℕ) → n ≡ spareLen → j < perFooter p → n * j + n ≤ p .B
-row-room p r n j e h = subst (λ (x : ℕ). x * j + x ≤ p .B) (sym e) (omega (arith, mul-comm spareLen j, item j (perFooter p) spareLen h, per-footer-fits p r))
+row-room p r n j e h = subst (λ (x : ℕ). x * j + x ≤ p .B) (sym e) (omega (arith, mul-comm spareLen j, item-fits j (perFooter p) spareLen h, per-footer-fits p r))
 
 lent-long : (n at : ℕ) (im : List ℕ) → n ≡ spareLen → at + spareLen ≤ length im → length (take (at + n - at) (drop at im)) ≡ n
 lent-long n at im e h = ap length (part-lent at n im) ∙ length-part at n im (omega arith)
@@ -268,7 +268,7 @@ loop-again c =
       omega arith,
       copy-part .kept .0 ∙ l .inv .1,
       omega (arith, l .inv .2, u, spare-len, byte-next p (a .drive) (a .zone) (1 + a .i * perFooter p + l .j), ap (λ (x : ℕ). placeByte p (placeOf p (a .drive) (a .zone) x)) b₁),
-      footer-turn p r ss (spares-count p r (a .drive) (a .zone) (h .1) (h .2) im (h .0)) (spare-long p r (a .drive) (a .zone) (h .1) (h .2) im (h .0))
+      footer-turn p r ss (sparesBy-count p r (a .drive) (a .zone) (h .1) (h .2) im (h .0)) (spare-long p r (a .drive) (a .zone) (h .1) (h .2) im (h .0))
           (l .block) (copy-part .last .0) _ _ (a .i) (l .j) (sym spare-len) (l .inv .3) o (omega (arith, n .0, t))
           (part-lent (l .at) _ im ∙ ap (λ (x : ℕ). part (l .at) x im) (sym spare-len) ∙ d) (copy-part .ensures),
     )
@@ -292,7 +292,7 @@ returns c =
     let ss = sparesBy p im (a .drive) (a .zone) in
     let e : l .j ≡ records-of .result = omega (arith, c .loop-test .left) in
     λ ps hp. l .inv .3 ∙ ap (λ (x : ℕ). splice (replicate (p .B) 0) 0 (recordsOf p ss (a .i) x)) e
-    ∙ footer-is p r ss (spares-count p r (a .drive) (a .zone) (h .1) (h .2) im (h .0)) (spare-long p r (a .drive) (a .zone) (h .1) (h .2) im (h .0)) (a .i) (records-of .result) (n .0)
+    ∙ footer-is p r ss (sparesBy-count p r (a .drive) (a .zone) (h .1) (h .2) im (h .0)) (spare-long p r (a .drive) (a .zone) (h .1) (h .2) im (h .0)) (a .i) (records-of .result) (n .0)
     ∙ ap (λ (x : List (List ℕ)). footerBlock p x (a .i)) (sym (spares-view p r (a .drive) (a .zone) (h .1) (h .2) im (h .0) ps hp))
 
 pub make-footer-spec : {M : Type 1} → statement M

@@ -1,16 +1,16 @@
--- `write_fields`: what remains to be written makes at each turn what all fields make of the buffer at the start (`Rest`). Assumes nothing.
+-- `write_fields`: what remains to be written makes at each turn what all fields make of the buffer at the start (`FieldsLeft`). Assumes nothing.
 use mathlib.Core.Path.{_≡_, refl, sym, ap, _∙_, subst}
 use Prim.Native.Nat.{ℕ, suc, _+_, _-_, _≤_, _<_}
 use native.Mathlib.Omega.{arith}
 use lib.ListN.{length, getD, take}
 use Rattle.spec.specs.Lists.{total}
 use borrow.Author.Needs.{needs}
-use Rattle.disk_records.specs.Header.{Rest, rest-none, rest-more, rest-all, total-more, total-within}
+use Rattle.disk_records.specs.Header.{FieldsLeft, rest-none, rest-more, rest-all, total-more, total-within}
 use Rattle.disk_records.proofs.write_fields.Statement.{statement}
 use Rattle.disk_records.proofs.write_fields.Tie as tie
 
 abbrev Inv-loop : tie.InvT-loop
-Inv-loop dst₀ widths values at₀ i₀ dst at i = (i ≤ length widths) × (length dst ≡ length dst₀) × (at ≡ total (take i widths)) × Rest widths values dst₀ dst at i
+Inv-loop dst₀ widths values at₀ i₀ dst at i = (i ≤ length widths) × (length dst ≡ length dst₀) × (at ≡ total (take i widths)) × FieldsLeft widths values dst₀ dst at i
 
 abbrev μ-loop : tie.MeasureT-loop
 μ-loop dst₀ widths values at₀ i₀ dst at i = length widths - i
@@ -74,7 +74,7 @@ loop-again c =
       omega (arith, t),
       w .kept .0 ∙ l .inv .1,
       ap (λ (n : ℕ). n + getD ws (l .i) 0) (l .inv .2) ∙ sym (total-more ws (l .i) t) ∙ ap (λ (n : ℕ). total (take n ws)) (sym s),
-      subst (Rest ws (e .args .values .now) (e .args .dst .now) (w .last .0) (l .at + getD ws (l .i) 0)) (sym s)
+      subst (FieldsLeft ws (e .args .values .now) (e .args .dst .now) (w .last .0) (l .at + getD ws (l .i) 0)) (sym s)
           (rest-more ws (e .args .values .now) (e .args .dst .now) (e .pre .0) (l .dst) (w .last .0) (l .at) (l .i) t (l .inv .3) (w .ensures)),
     )
 

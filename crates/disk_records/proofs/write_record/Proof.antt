@@ -3,7 +3,7 @@ use native.Mathlib.Omega.{arith}
 use borrow.Author.Needs.{needs}
 use Rattle.spec.specs.Engine.Call.{close}
 use Rattle.law_basic.specs.Geometry.{spare-len}
-use Rattle.disk_records.specs.Record.{recOf, record-written}
+use Rattle.disk_records.specs.Record.{recVal, record-written}
 use Rattle.disk_records.proofs.write_record.Statement.{statement}
 use Rattle.disk_records.proofs.write_record.Tie as tie
 
@@ -27,7 +27,7 @@ returns c =
     let entry = c .before .before .before .before .before .before .before .before .before .before .before .before .before in
     let args = entry .args in
     let pre = entry .pre in
-    record-written (args .dst .now) (write-be64 .last .0) (write-be642 .last .0) (write-be32 .last .0) (recOf (args .r)) (pre) (write-be64 .ensures) (write-be642 .ensures) (write-be32 .ensures)
+    record-written (args .dst .now) (write-be64 .last .0) (write-be642 .last .0) (write-be32 .last .0) (recVal (args .r)) (pre) (write-be64 .ensures) (write-be642 .ensures) (write-be32 .ensures)
 
 pub write-record-spec : {M : Type 1} → statement M
 write-record-spec =

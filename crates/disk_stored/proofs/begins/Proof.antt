@@ -1,8 +1,8 @@
--- `begins`: per is the records of a footer block, so the numbers are footers, place and byte of the definitions; `begun` bounds each. Assumes nothing.
+-- `begins`: per is the records of a footer block, so the numbers are footers, place and byte of the definitions; `begun-at` bounds each. Assumes nothing.
 use mathlib.Core.Path.{sym}
 use native.Mathlib.Omega.{arith}
 use Rattle.law_basic.specs.Geometry.{ranged, spare-len, capacity-high}
-use Rattle.disk_stored.specs.Stored.{begun}
+use Rattle.disk_stored.specs.Stored.{begun-at}
 use Rattle.disk_stored.proofs.begins.Statement.{statement}
 use Rattle.disk_stored.proofs.begins.Tie as tie
 
@@ -11,7 +11,7 @@ cast-feet c =
     let a = c .before .args in
     let r = ranged (a .p) (c .before .pre .0) in
     let h = c .before .pre .1 in
-    let g = begun (a .p) r (a .per) _ (a .drive) (a .zone) (a .block) (h .0) (sym spare-len) (h .1) (h .2) (h .3) in
+    let g = begun-at (a .p) r (a .per) _ (a .drive) (a .zone) (a .block) (h .0) (sym spare-len) (h .1) (h .2) (h .3) in
     omega (arith, r .stripes-high)
 
 add-feet : tie.Need-add-feet
@@ -19,7 +19,7 @@ add-feet c =
     let a = c .before .args in
     let r = ranged (a .p) (c .before .pre .0) in
     let h = c .before .pre .1 in
-    let g = begun (a .p) r (a .per) _ (a .drive) (a .zone) (a .block) (h .0) (sym spare-len) (h .1) (h .2) (h .3) in
+    let g = begun-at (a .p) r (a .per) _ (a .drive) (a .zone) (a .block) (h .0) (sym spare-len) (h .1) (h .2) (h .3) in
     omega (arith, r .stripes-high, g .few)
 
 sub-feet : tie.Need-sub-feet
@@ -27,7 +27,7 @@ sub-feet c =
     let a = c .before .args in
     let r = ranged (a .p) (c .before .pre .0) in
     let h = c .before .pre .1 in
-    let g = begun (a .p) r (a .per) _ (a .drive) (a .zone) (a .block) (h .0) (sym spare-len) (h .1) (h .2) (h .3) in
+    let g = begun-at (a .p) r (a .per) _ (a .drive) (a .zone) (a .block) (h .0) (sym spare-len) (h .1) (h .2) (h .3) in
     omega (arith, g .some)
 
 div-feet : tie.Need-div-feet
@@ -35,7 +35,7 @@ div-feet c =
     let a = c .before .args in
     let r = ranged (a .p) (c .before .pre .0) in
     let h = c .before .pre .1 in
-    let g = begun (a .p) r (a .per) _ (a .drive) (a .zone) (a .block) (h .0) (sym spare-len) (h .1) (h .2) (h .3) in
+    let g = begun-at (a .p) r (a .per) _ (a .drive) (a .zone) (a .block) (h .0) (sym spare-len) (h .1) (h .2) (h .3) in
     omega (arith, g .some)
 
 cast-feet-2 : tie.Need-cast-feet-2
@@ -43,7 +43,7 @@ cast-feet-2 c =
     let a = c .before .args in
     let r = ranged (a .p) (c .before .pre .0) in
     let h = c .before .pre .1 in
-    let g = begun (a .p) r (a .per) _ (a .drive) (a .zone) (a .block) (h .0) (sym spare-len) (h .1) (h .2) (h .3) in
+    let g = begun-at (a .p) r (a .per) _ (a .drive) (a .zone) (a .block) (h .0) (sym spare-len) (h .1) (h .2) (h .3) in
     omega (arith, g .feet)
 
 mul-place : tie.Need-mul-place
@@ -52,7 +52,7 @@ mul-place c =
     let pre = c .before .before .pre in
     let r = ranged (a .p) (pre .0) in
     let h = pre .1 in
-    let g = begun (a .p) r (a .per) _ (a .drive) (a .zone) (a .block) (h .0) (sym spare-len) (h .1) (h .2) (h .3) in
+    let g = begun-at (a .p) r (a .per) _ (a .drive) (a .zone) (a .block) (h .0) (sym spare-len) (h .1) (h .2) (h .3) in
     omega (arith, g .zone-high)
 
 add-place : tie.Need-add-place
@@ -61,7 +61,7 @@ add-place c =
     let pre = c .before .before .pre in
     let r = ranged (a .p) (pre .0) in
     let h = pre .1 in
-    let g = begun (a .p) r (a .per) _ (a .drive) (a .zone) (a .block) (h .0) (sym spare-len) (h .1) (h .2) (h .3) in
+    let g = begun-at (a .p) r (a .per) _ (a .drive) (a .zone) (a .block) (h .0) (sym spare-len) (h .1) (h .2) (h .3) in
     omega (arith, g .zone-high)
 
 add-place-2 : tie.Need-add-place-2
@@ -70,7 +70,7 @@ add-place-2 c =
     let pre = c .before .before .before .pre in
     let r = ranged (a .p) (pre .0) in
     let h = pre .1 in
-    let g = begun (a .p) r (a .per) _ (a .drive) (a .zone) (a .block) (h .0) (sym spare-len) (h .1) (h .2) (h .3) in
+    let g = begun-at (a .p) r (a .per) _ (a .drive) (a .zone) (a .block) (h .0) (sym spare-len) (h .1) (h .2) (h .3) in
     omega (arith, r .stripes-high)
 
 add-place-3 : tie.Need-add-place-3
@@ -79,7 +79,7 @@ add-place-3 c =
     let pre = c .before .before .before .pre in
     let r = ranged (a .p) (pre .0) in
     let h = pre .1 in
-    let g = begun (a .p) r (a .per) _ (a .drive) (a .zone) (a .block) (h .0) (sym spare-len) (h .1) (h .2) (h .3) in
+    let g = begun-at (a .p) r (a .per) _ (a .drive) (a .zone) (a .block) (h .0) (sym spare-len) (h .1) (h .2) (h .3) in
     omega (arith, r .stripes-high, g .feet)
 
 mul-place-2 : tie.Need-mul-place-2
@@ -88,7 +88,7 @@ mul-place-2 c =
     let pre = c .before .before .before .pre in
     let r = ranged (a .p) (pre .0) in
     let h = pre .1 in
-    let g = begun (a .p) r (a .per) _ (a .drive) (a .zone) (a .block) (h .0) (sym spare-len) (h .1) (h .2) (h .3) in
+    let g = begun-at (a .p) r (a .per) _ (a .drive) (a .zone) (a .block) (h .0) (sym spare-len) (h .1) (h .2) (h .3) in
     omega (arith, g .rows)
 
 add-place-4 : tie.Need-add-place-4
@@ -97,7 +97,7 @@ add-place-4 c =
     let pre = c .before .before .before .pre in
     let r = ranged (a .p) (pre .0) in
     let h = pre .1 in
-    let g = begun (a .p) r (a .per) _ (a .drive) (a .zone) (a .block) (h .0) (sym spare-len) (h .1) (h .2) (h .3) in
+    let g = begun-at (a .p) r (a .per) _ (a .drive) (a .zone) (a .block) (h .0) (sym spare-len) (h .1) (h .2) (h .3) in
     omega (arith, g .rows, h .3, capacity-high (a .p) r)
 
 add-result : tie.Need-add-result
@@ -106,7 +106,7 @@ add-result c =
     let pre = c .before .before .before .before .pre in
     let r = ranged (a .p) (pre .0) in
     let h = pre .1 in
-    let g = begun (a .p) r (a .per) _ (a .drive) (a .zone) (a .block) (h .0) (sym spare-len) (h .1) (h .2) (h .3) in
+    let g = begun-at (a .p) r (a .per) _ (a .drive) (a .zone) (a .block) (h .0) (sym spare-len) (h .1) (h .2) (h .3) in
     omega (arith, r .block-high)
 
 mul-result : tie.Need-mul-result
@@ -115,7 +115,7 @@ mul-result c =
     let pre = c .before .before .before .before .pre in
     let r = ranged (a .p) (pre .0) in
     let h = pre .1 in
-    let g = begun (a .p) r (a .per) _ (a .drive) (a .zone) (a .block) (h .0) (sym spare-len) (h .1) (h .2) (h .3) in
+    let g = begun-at (a .p) r (a .per) _ (a .drive) (a .zone) (a .block) (h .0) (sym spare-len) (h .1) (h .2) (h .3) in
     omega (arith, g .byte, g .within, g .high)
 
 returns : tie.Need-returns
@@ -124,7 +124,7 @@ returns c =
     let pre = c .before .before .before .before .pre in
     let r = ranged (a .p) (pre .0) in
     let h = pre .1 in
-    let g = begun (a .p) r (a .per) _ (a .drive) (a .zone) (a .block) (h .0) (sym spare-len) (h .1) (h .2) (h .3) in
+    let g = begun-at (a .p) r (a .per) _ (a .drive) (a .zone) (a .block) (h .0) (sym spare-len) (h .1) (h .2) (h .3) in
     (g .byte, omega (arith, g .byte, g .within), omega (arith, g .byte, g .within, g .high))
 
 pub begins-spec : {M : Type 1} → statement M

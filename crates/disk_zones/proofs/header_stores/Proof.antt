@@ -11,7 +11,7 @@ use Rattle.spec.specs.Layout.{headerBlock}
 use Rattle.spec.specs.Params.{capacity, pointersLen, drivesOf}
 use Rattle.law_basic.specs.Geometry.{zone-on-lt}
 use Rattle.law_views.specs.Pointers.{pointer-other-drive}
-use Rattle.disk_zones.specs.Made.{Rest, rest-start, rest-turn, rest-cut, rest-done, put-pointers, headerStore}
+use Rattle.disk_zones.specs.Made.{StoresLeft, rest-start, rest-turn, rest-cut, rest-done, put-pointers, headerStore}
 use Rattle.disk_zones.proofs.header_stores.Statement.{statement}
 use Rattle.disk_zones.proofs.header_stores.Tie as tie
 
@@ -20,7 +20,7 @@ Inv-loop p image₀ pointers₀ segment serial copied count left₀ d₀ image p
     (length image ≡ length image₀)
     × (length pointers ≡ length pointers₀)
     × ((e : ℕ) → d ≤ e → e < p .N → pointerOf p pointers e (zoneOn segment e) < capacity p)
-    × Rest p (headerStore p segment (serial .0) (copied .0)) (p .N) count (mkDisk image₀ pointers₀) d left (mkDisk image pointers)
+    × StoresLeft p (headerStore p segment (serial .0) (copied .0)) (p .N) count (mkDisk image₀ pointers₀) d left (mkDisk image pointers)
 
 abbrev μ-loop : tie.MeasureT-loop
 μ-loop p image₀ pointers₀ segment serial copied count left₀ d₀ image pointers left d = p .N - d

@@ -10,13 +10,13 @@ use Rattle.spec.specs.Drives.Store.{reset}
 use Rattle.spec.specs.Engine.Call.{close}
 use Rattle.spec.specs.Params.{drivesOf}
 use Rattle.law_basic.specs.Geometry.{zone-on-lt}
-use Rattle.disk_zones.specs.Made.{Rest, rest-start, rest-turn, rest-cut, rest-done, reset-disk, resetStore}
+use Rattle.disk_zones.specs.Made.{StoresLeft, rest-start, rest-turn, rest-cut, rest-done, reset-disk, resetStore}
 use Rattle.disk_zones.proofs.reset_stores.Statement.{statement}
 use Rattle.disk_zones.proofs.reset_stores.Tie as tie
 
 abbrev Inv-loop : tie.InvT-loop
 Inv-loop p pointers₀ segment count left₀ d₀ pointers left d =
-    (length pointers ≡ length pointers₀) × ((im : List ℕ) → Rest p (resetStore segment) (p .N) count (mkDisk im pointers₀) d left (mkDisk im pointers))
+    (length pointers ≡ length pointers₀) × ((im : List ℕ) → StoresLeft p (resetStore segment) (p .N) count (mkDisk im pointers₀) d left (mkDisk im pointers))
 
 abbrev μ-loop : tie.MeasureT-loop
 μ-loop p pointers₀ segment count left₀ d₀ pointers left d = p .N - d

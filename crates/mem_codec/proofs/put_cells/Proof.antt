@@ -5,7 +5,7 @@ use Prim.Native.Nat.{ℕ, _+_, _*_}
 use Rattle.spec.specs.Bytes.{toLe, splice}
 use Rattle.spec.specs.Lists.{flat, total}
 use Rattle.spec.specs.Memory.{stateSections, sectionLen}
-use Rattle.mem_codec.specs.Edits.{written, writtenAll}
+use Rattle.mem_codec.specs.Edits.{editWritten, writtenAll}
 use borrow.Author.Needs.{needs}
 use Rattle.mem_codec.proofs.put_cells.Statement.{statement}
 use Rattle.mem_codec.proofs.put_cells.Tie as tie
@@ -44,7 +44,7 @@ same-length : tie.Need-same-length
 same-length c = search needs
 
 returns : tie.Need-returns
-unfolding writtenAll written stateSections sectionLen total
+unfolding writtenAll editWritten stateSections sectionLen total
 returns c =
     let a = c .before .before .before .before .before .before .before .before .before .before .before .before .before .before .before .before .args in
     let put-words = c .before .before .put-words in

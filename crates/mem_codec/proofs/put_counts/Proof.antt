@@ -4,7 +4,7 @@ use Rattle.spec.specs.Bytes.{splice}
 use Rattle.spec.specs.Lists.{total}
 use Rattle.spec.specs.Memory.{stateSections, sectionLen}
 use Rattle.mem_codec.specs.Changes.{number-written}
-use Rattle.mem_codec.specs.Edits.{written, writtenAll}
+use Rattle.mem_codec.specs.Edits.{editWritten, writtenAll}
 use borrow.Author.Needs.{needs}
 use Rattle.mem_codec.proofs.put_counts.Statement.{statement}
 use Rattle.mem_codec.proofs.put_counts.Tie as tie
@@ -25,7 +25,7 @@ same-length : tie.Need-same-length
 same-length c = search needs
 
 returns : tie.Need-returns
-unfolding writtenAll written stateSections sectionLen total
+unfolding writtenAll editWritten stateSections sectionLen total
 returns c =
     let a = c .before .before .before .before .before .before .before .before .before .before .before .before .before .before .before .before .before .args in
     let write-le322 = c .before .before .write-le322 in

@@ -1,11 +1,11 @@
--- `put_front`: six fields written one behind the other from 0 are the first six sections (`front-written`). Assumes nothing.
+-- `put_front`: six fields written one behind the other from 0 are the first six sections (`state-front-written`). Assumes nothing.
 use mathlib.Core.Path.{_≡_, ap, _∙_}
 use mathlib.Core.List.{List}
 use Prim.Native.Nat.{ℕ, _<_}
 use native.Mathlib.Omega.{arith}
 use lib.ListN.{length, length-set}
 use Rattle.spec.specs.Bytes.{toLe, splice}
-use Rattle.mem_codec.specs.Codec.{front-written}
+use Rattle.mem_codec.specs.Codec.{state-front-written}
 use borrow.Author.Needs.{needs}
 use Rattle.mem_codec.proofs.put_front.Statement.{statement}
 use Rattle.mem_codec.proofs.put_front.Tie as tie
@@ -71,7 +71,7 @@ returns c =
     ∙ ap (λ (x : List ℕ). splice x 22 (toLe 4 (a .next))) (write-le32 .ensures
     ∙ ap (λ (x : List ℕ). splice x 18 (toLe 4 (a .opened))) (write-le642 .ensures
     ∙ ap (λ (x : List ℕ). splice x 10 (toLe 8 (a .serial))) (write-le64 .ensures)))
-    ∙ front-written (a .dst .now) (a .live) (a .missing) (a .stamp) (a .serial) (a .opened) (a .next) (live-fits (at)) (missing-fits (at)) (pre)
+    ∙ state-front-written (a .dst .now) (a .live) (a .missing) (a .stamp) (a .serial) (a .opened) (a .next) (live-fits (at)) (missing-fits (at)) (pre)
 
 pub put-front-spec : {M : Type 1} → statement M
 put-front-spec =

@@ -7,7 +7,7 @@ use Rattle.spec.specs.Bytes.{toLe, splice}
 use Rattle.spec.specs.Lists.{flat, total}
 use Rattle.spec.specs.Memory.{stateSections, sectionLen}
 use Rattle.mem_codec.specs.Changes.{number-written, marks-written}
-use Rattle.mem_codec.specs.Edits.{written, writtenAll}
+use Rattle.mem_codec.specs.Edits.{editWritten, writtenAll}
 use borrow.Author.Needs.{needs}
 use native.Mathlib.Omega.{arith}
 use Rattle.mem_codec.proofs.put_marks.Statement.{statement}
@@ -47,7 +47,7 @@ same-length : tie.Need-same-length
 same-length c = search needs
 
 returns : tie.Need-returns
-unfolding writtenAll written stateSections sectionLen total
+unfolding writtenAll editWritten stateSections sectionLen total
 returns c =
     let s = c .before .before .before .before .before in
     let a = s .args in

@@ -1,13 +1,13 @@
 -- `lookup`: one law for each end: an entry of all ones lies nowhere, one on a missing drive is away, another is here. Assumes nothing.
 use Rattle.spec.specs.Lists.{isIn}
-use Rattle.mem_lookup.specs.Lies.{found-nowhere, found-away, found-here, entry-within}
+use Rattle.mem_lookup.specs.Lies.{found-nowhere, found-away, found-here, place-entry-within}
 use borrow.Author.Needs.{needs}
 use mathlib.Core.Path.{sym, ap, _∙_}
 use Rattle.mem_lookup.proofs.lookup.Statement.{statement}
 use Rattle.mem_lookup.proofs.lookup.Tie as tie
 
 place-at-requires : tie.Need-place-at-requires
-place-at-requires c κs = entry-within (c .before .args .p) (c .before .args .addresses .now) (c .before .args .a) (c .before .pre .1 .0) (c .before .pre .1 .1)
+place-at-requires c κs = place-entry-within (c .before .args .p) (c .before .args .addresses .now) (c .before .args .a) (c .before .pre .1 .0) (c .before .pre .1 .1)
 
 returns : tie.Need-returns
 returns c =

@@ -1,6 +1,6 @@
 -- `place_fault`: one law for each end: a drive from N on makes zone 0 bad, `is_bad` the zone of the place, else there is none: Z. Assumes nothing.
 use Rattle.law_basic.specs.Geometry.{ranged}
-use Rattle.mem_lookup.specs.Places.{fault-outside, fault-bad, fault-none}
+use Rattle.mem_lookup.specs.Places.{fault-outside, fault-bad, place-fault-none}
 use borrow.Author.Needs.{needs}
 use mathlib.Core.Path.{sym, _∙_}
 use native.Mathlib.Omega.{arith}
@@ -49,7 +49,7 @@ returns-3 c =
     let place-zone = c .before .before .before .before .before .place-zone in
     let place-drive = c .before .before .before .before .before .before .place-drive in
     let pre = c .before .before .before .before .before .before .before .before .pre in
-    λ im h. fault-none (a .p) im (a .pointers .now) (a .gone) (a .q .0) h (pre .1) (place-drive .result) (place-zone .result) (place-block .result)
+    λ im h. place-fault-none (a .p) im (a .pointers .now) (a .gone) (a .q .0) h (pre .1) (place-drive .result) (place-zone .result) (place-block .result)
     (place-drive .ensures .0) (place-zone .ensures .0) (place-block .ensures .0) (omega (arith, if1 .left)) (place-zone .ensures .1)
     (sym (c .before .is-bad .ensures) ∙ c .if2 .left)
 

@@ -7,7 +7,7 @@ use Rattle.spec.specs.Lists.{upFrom, keep}
 use Rattle.spec.specs.Memory.{compactAt, shownAt}
 use Rattle.spec.specs.Params.{imageLen, compactLen}
 use Rattle.law_basic.specs.Geometry.{ranged, compact-within, compact-high}
-use Rattle.mem_lookup.specs.Shown.{shows, shown-list, search-hit, search-miss, search-end, shows-entry, shows-past, row-entry, first-low}
+use Rattle.mem_lookup.specs.Shown.{shows, shown-list, search-hit, search-miss, search-end, shows-entry, shows-past, row-entry, group-first-low}
 use borrow.Author.Needs.{needs}
 use borrow.Author.Tests.{eq-eqb, ne-eqb}
 use lib.Dec.{eqb}
@@ -50,7 +50,7 @@ first-in : (c : tie.After-group Inv-loop μ-loop) → c .group .result * c .befo
 first-in c =
     let a = c .before .before .before .before .before .before .args in
     let pre = c .before .before .before .before .before .before .pre in
-    let e : c .group .result * a .p .G ≤ a .s = subst (λ (x : ℕ). x * a .p .G ≤ a .s) (sym (c .group .ensures .0)) (first-low (a .p) (a .s)) in
+    let e : c .group .result * a .p .G ≤ a .s = subst (λ (x : ℕ). x * a .p .G ≤ a .s) (sym (c .group .ensures .0)) (group-first-low (a .p) (a .s)) in
     omega (arith, e, pre .1 .1 .2)
 
 mul-first : tie.Need-mul-first Inv-loop μ-loop

@@ -1,7 +1,7 @@
 -- `count_bytes`: n is how many numbers of the bytes a to i - 1 are marked; one turn adds the ones of byte i (`byte-more`). Assumes nothing.
 use Prim.Native.Nat.{ℕ, _+_, _-_, _*_, _≤_}
 use Rattle.spec.specs.Lists.{upFrom, keep}
-use Rattle.mem_marks.specs.Marks.{marked, kept-nothing, byte-more}
+use Rattle.mem_marks.specs.Marks.{isMarked, kept-nothing, byte-more}
 use lib.ListN.{length}
 use mathlib.Core.Path.{_≡_, sym, ap, _∙_}
 use native.Mathlib.Omega.{arith}
@@ -9,7 +9,7 @@ use Rattle.mem_marks.proofs.count_bytes.Statement.{statement}
 use Rattle.mem_marks.proofs.count_bytes.Tie as tie
 
 abbrev Inv-loop : tie.InvT-loop
-Inv-loop marks a b n₀ i₀ n i = (a ≤ i) × (i ≤ b) × (n ≡ length (keep (marked marks) (upFrom (8 * a) (8 * i - 8 * a)))) × (n ≤ 8 * i - 8 * a)
+Inv-loop marks a b n₀ i₀ n i = (a ≤ i) × (i ≤ b) × (n ≡ length (keep (isMarked marks) (upFrom (8 * a) (8 * i - 8 * a)))) × (n ≤ 8 * i - 8 * a)
 
 abbrev μ-loop : tie.MeasureT-loop
 μ-loop marks a b n₀ i₀ n i = b - i
@@ -17,7 +17,7 @@ abbrev μ-loop : tie.MeasureT-loop
 loop-holds : tie.Need-loop-holds Inv-loop μ-loop
 loop-holds c =
     let a = c .before .args in
-    (omega arith, omega arith, sym (kept-nothing (marked (a .marks .now)) (8 * a .a)), omega arith)
+    (omega arith, omega arith, sym (kept-nothing (isMarked (a .marks .now)) (8 * a .a)), omega arith)
 
 shared-slice-read-m : tie.Need-shared-slice-read-m Inv-loop μ-loop
 shared-slice-read-m c = omega arith
@@ -49,7 +49,7 @@ returns c =
     let a = c .before .before .before .args in
     let l = c .before .loop in
     let e : l .i ≡ a .b = omega arith in
-    (l .inv .2 ∙ ap (λ (x : ℕ). length (keep (marked (a .marks .now)) (upFrom (8 * a .a) (8 * x - 8 * a .a)))) e, omega arith)
+    (l .inv .2 ∙ ap (λ (x : ℕ). length (keep (isMarked (a .marks .now)) (upFrom (8 * a .a) (8 * x - 8 * a .a)))) e, omega arith)
 
 pub count-bytes-spec : {M : Type 1} → statement M
 count-bytes-spec =

@@ -1,6 +1,6 @@
 -- `count_marks`: no whole byte: one count; else the range is split at 8 * a and 8 * b and the three counts add up (`kept-split`). Assumes nothing.
 use Prim.Native.Nat.{ℕ, _+_, _*_, _/_}
-use Rattle.mem_marks.specs.Marks.{marked, kept-split}
+use Rattle.mem_marks.specs.Marks.{isMarked, kept-split}
 use borrow.Author.Needs.{needs}
 use mathlib.Core.Bool.{Bool}
 use native.Mathlib.Omega.{arith}
@@ -42,7 +42,7 @@ returns-2 c =
     let s = c .before .before .before .before .before .args in
     let count-few2 = c .before .before .count-few2 in
     let if1 = c .before .before .before .if1 in
-    let f : ℕ → Bool = marked (s .marks .now) in
+    let f : ℕ → Bool = isMarked (s .marks .now) in
     let a : ℕ = (s .lo + 7) / 8 in
     let b : ℕ = s .hi / 8 in
     let h = if1 .left in

@@ -1,5 +1,5 @@
 -- `is_marked`: `has_drive` looks at bit k % 8 of byte k / 8, as the definition does. Assumes nothing.
-use Rattle.mem_marks.specs.Marks.{marked}
+use Rattle.mem_marks.specs.Marks.{isMarked}
 use borrow.Author.Needs.{needs}
 use Rattle.mem_marks.proofs.is_marked.Statement.{statement}
 use Rattle.mem_marks.proofs.is_marked.Tie as tie
@@ -11,7 +11,7 @@ has-drive-requires : tie.Need-has-drive-requires
 has-drive-requires c κs = search needs
 
 returns : tie.Need-returns
-unfolding marked
+unfolding isMarked
 returns c = c .has-drive .ensures
 
 pub is-marked-spec : {M : Type 1} → statement M

@@ -1,7 +1,7 @@
 -- `mark_places`: after a turns a place within is marked iff it was or one of the first a addresses has it; one turn adds that of address a. Assumes nothing.
 use Prim.Native.Nat.{ℕ, _+_, _-_, _≤_, _<_}
-use Rattle.mem_marks.specs.Marks.{marked, withMark, isPointed, pointed-none, turned}
-use Rattle.mem_tables.specs.Tables.{isWithin, countPlaces, bit-le, count-none, count-one, count-le}
+use Rattle.mem_marks.specs.Marks.{isMarked, withMark, isPointed, no-pointed, turned}
+use Rattle.mem_tables.specs.Tables.{isWithin, countPlaces, bit-le, count-no-places, count-one, count-le}
 use lib.ListN.{length}
 use mathlib.Core.Bool.{Bool, cond, _||_}
 use mathlib.Core.Path.{_≡_, refl, sym, ap, ap₂, _∙_}
@@ -13,7 +13,7 @@ use Rattle.mem_marks.proofs.mark_places.Tie as tie
 abbrev Inv-loop : tie.InvT-loop
 Inv-loop addresses n marks₀ first end k₀ a₀ marks k a =
     (a ≤ n) × (length marks ≡ length marks₀)
-    × ((q : ℕ) → first ≤ q → q < end → marked marks (q - first) ≡ (isPointed addresses a q || marked marks₀ (q - first)))
+    × ((q : ℕ) → first ≤ q → q < end → isMarked marks (q - first) ≡ (isPointed addresses a q || isMarked marks₀ (q - first)))
     × (k ≡ countPlaces addresses a end 4294967295) × (k ≤ a)
 
 abbrev μ-loop : tie.MeasureT-loop
@@ -25,8 +25,8 @@ loop-holds c =
     let tb = s .addresses .now in (
       omega arith,
       refl,
-      (λ q x y. ap (λ (b : Bool). b || marked (s .marks .now) (q - s .first)) (sym (pointed-none tb q))),
-      count-none tb (s .end) 4294967295,
+      (λ q x y. ap (λ (b : Bool). b || isMarked (s .marks .now) (q - s .first)) (sym (no-pointed tb q))),
+      count-no-places tb (s .end) 4294967295,
       omega arith,
     )
 
@@ -83,7 +83,7 @@ returns c =
     let s = c .before .before .before .before .args in
     let l = c .before .loop in
     let e : l .a ≡ s .n = omega arith in (
-      (λ q x y. l .inv .2 q x y ∙ ap (λ (k : ℕ). isPointed (s .addresses .now) k q || marked (s .marks .now) (q - s .first)) e),
+      (λ q x y. l .inv .2 q x y ∙ ap (λ (k : ℕ). isPointed (s .addresses .now) k q || isMarked (s .marks .now) (q - s .first)) e),
       l .inv .3 ∙ ap (λ (k : ℕ). countPlaces (s .addresses .now) k (s .end) 4294967295) e,
     )
 

@@ -1,6 +1,6 @@
 -- `mark_window`: cleared marks mark nothing, so that after `mark_places` just the places of the addresses are marked. Assumes nothing.
 use Prim.Native.Nat.{ℕ, _-_}
-use Rattle.mem_marks.specs.Marks.{marked, isPointed, marked-none}
+use Rattle.mem_marks.specs.Marks.{isMarked, isPointed, marked-none}
 use borrow.Author.Needs.{needs}
 use lib.ListN.{length}
 use mathlib.Core.Bool.{Bool, _||_, or-false}
@@ -25,7 +25,7 @@ returns c =
     let m = c .before .before .mark-places .ensures in
     let e = clear .ensures in (
       (λ q x y. m .0 q x y
-          ∙ ap (λ (b : Bool). isPointed (s .addresses .now) (s .n) q || b) (ap (λ (l : List ℕ). marked l (q - s .first)) e ∙ marked-none (length (s .marks .now)) (q - s .first))
+          ∙ ap (λ (b : Bool). isPointed (s .addresses .now) (s .n) q || b) (ap (λ (l : List ℕ). isMarked l (q - s .first)) e ∙ marked-none (length (s .marks .now)) (q - s .first))
           ∙ or-false (isPointed (s .addresses .now) (s .n) q)),
       m .1,
     )

@@ -1,6 +1,6 @@
 -- `next_marked`: no number from k to i - 1 is marked; a marked i is the answer, else `step_over` passes unmarked ones; at end there is none. Assumes nothing.
 use Prim.Native.Nat.{ℕ, _+_, _-_, _≤_, _<_}
-use Rattle.mem_marks.specs.Marks.{marked}
+use Rattle.mem_marks.specs.Marks.{isMarked}
 use mathlib.Core.Bool.{false}
 use mathlib.Core.List.{List}
 use mathlib.Core.Path.{_≡_, sym, _∙_}
@@ -10,12 +10,12 @@ use Rattle.mem_marks.proofs.next_marked.Statement.{statement}
 use Rattle.mem_marks.proofs.next_marked.Tie as tie
 
 abbrev Inv-loop : tie.InvT-loop
-Inv-loop marks k end i₀ i = (k ≤ i) × (i ≤ end) × ((j : ℕ) → k ≤ j → j < i → marked marks j ≡ false)
+Inv-loop marks k end i₀ i = (k ≤ i) × (i ≤ end) × ((j : ℕ) → k ≤ j → j < i → isMarked marks j ≡ false)
 
 abbrev μ-loop : tie.MeasureT-loop
 μ-loop marks k end i₀ i = end - i
 
-go : (ms : List ℕ) (k i r j : ℕ) → ((j : ℕ) → k ≤ j → j < i → marked ms j ≡ false) → ((j : ℕ) → i ≤ j → j < i + r → marked ms j ≡ false) → k ≤ j → j < i + r → Dec (j < i) → marked ms j ≡ false
+go : (ms : List ℕ) (k i r j : ℕ) → ((j : ℕ) → k ≤ j → j < i → isMarked ms j ≡ false) → ((j : ℕ) → i ≤ j → j < i + r → isMarked ms j ≡ false) → k ≤ j → j < i + r → Dec (j < i) → isMarked ms j ≡ false
 go ms k i r j f g x y (yes h) = f j x h
 go ms k i r j f g x y (no h) = g j (omega arith) y
 

@@ -1,6 +1,6 @@
 -- `is_cell`: the address is read at its place in the bytes, and another one ends it; with the same one the stamp decides. Assumes nothing.
 use Rattle.mem_codec.specs.Codec.{state-len}
-use Rattle.mem_state.specs.Flights.{other-address, same-address}
+use Rattle.mem_state.specs.Flights.{flight-other-address, flight-same-address}
 use borrow.Author.Needs.{needs}
 use native.Mathlib.Omega.{arith}
 use Rattle.mem_state.proofs.is_cell.Statement.{statement}
@@ -20,7 +20,7 @@ returns c =
     let s = c .before .before .before .before in
     let a = s .args in
     let r = c .before .before .read-le64 in
-    other-address (a .bytes .now) (a .j) (a .address .0) (a .stamp .0) (r .result) (s .pre .1) (r .ensures) (c .if1 .taken)
+    flight-other-address (a .bytes .now) (a .j) (a .address .0) (a .stamp .0) (r .result) (s .pre .1) (r .ensures) (c .if1 .taken)
 
 mul-read-le64-2 : tie.Need-mul-read-le64-2
 mul-read-le64-2 c = search needs
@@ -37,7 +37,7 @@ returns-2 c =
     let a = s .args in
     let r = c .before .before .before .before .read-le64 in
     let w = c .before .read-le642 in
-    same-address (a .bytes .now) (a .j) (a .address .0) (a .stamp .0) (r .result) (s .pre .1) (r .ensures) (c .before .before .if1 .left) (w .result) (w .ensures)
+    flight-same-address (a .bytes .now) (a .j) (a .address .0) (a .stamp .0) (r .result) (s .pre .1) (r .ensures) (c .before .before .if1 .left) (w .result) (w .ensures)
 
 pub is-cell-spec : {M : Type 1} → statement M
 is-cell-spec =

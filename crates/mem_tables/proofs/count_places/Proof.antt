@@ -4,7 +4,7 @@ use Prim.Native.Nat.{ℕ, _+_, _-_, _≤_}
 use native.Mathlib.Omega.{arith}
 use mir.Val.{boolByte}
 use Rattle.spec.specs.Memory.{placeAt}
-use Rattle.mem_tables.specs.Tables.{isWithin, countPlaces, bit-le, count-none, count-one, count-le}
+use Rattle.mem_tables.specs.Tables.{isWithin, countPlaces, bit-le, count-no-places, count-one, count-le}
 use Rattle.mem_tables.proofs.count_places.Statement.{statement}
 use Rattle.mem_tables.proofs.count_places.Tie as tie
 
@@ -20,7 +20,7 @@ span-of-requires c κs = tt
 loop-holds : tie.Need-loop-holds Inv-loop μ-loop
 loop-holds c =
     let args = c .before .before .args in
-    (omega arith, count-none (args .table .now) (args .lo .0) (args .hi .0), omega arith)
+    (omega arith, count-no-places (args .table .now) (args .lo .0) (args .hi .0), omega arith)
 
 mul-read-be32 : tie.Need-mul-read-be32 Inv-loop μ-loop
 mul-read-be32 c = omega arith

@@ -9,8 +9,8 @@ use Rattle.spec.specs.Lists.{firstOr, isIn}
 use Rattle.spec.specs.Memory.{shownAt}
 use Rattle.spec.specs.Segments.{segmentOf, offsetOn, storedRec}
 use Rattle.law_basic.specs.Geometry.{Ranged, ranged}
-use Rattle.disk_records.specs.Record.{recOf as recVal}
-use Rattle.recover_addresses.specs.Lies.{counted-low, shown-there, offset-low, record-there, zone-is, add-away, add-here}
+use Rattle.disk_records.specs.Record.{recVal}
+use Rattle.recover_addresses.specs.Lies.{counted-segment-low, shown-there, offset-low, record-there, zone-is, add-away, add-here}
 use Rattle.recover_addresses.proofs.add_stamp.Statement.{statement}
 use Rattle.recover_addresses.proofs.add_stamp.Tie as tie
 
@@ -30,7 +30,7 @@ shown-at-requires c κs =
     let v : View = viewOf (a .p) (a .image .now) (a .pointers .now) in
     let hz : c .zone-on .result < a .p .Z =
     subst (λ (x : ℕ). x < a .p .Z) (sym (c .zone-on .ensures ∙ zone-is (a .segment) (a .drive)))
-    (counted-low (a .p) v (a .gone) (a .compact .now) (a .segment) (a .s) (q .1 .1)) in
+    (counted-segment-low (a .p) v (a .gone) (a .compact .now) (a .segment) (a .s) (q .1 .1)) in
     (q .0 .in-range, ((q .0 .whole .pointers-long, q .0 .compact-long), (q .1 .0, hz, q .1 .1 .stripe-low)))
 
 record-in-requires : tie.Need-record-in-requires
@@ -43,7 +43,7 @@ record-in-requires c κs =
     let v : View = viewOf (a .p) (a .image .now) (a .pointers .now) in
     let ez : c .before .zone-on .result ≡ a .segment = c .before .zone-on .ensures ∙ zone-is (a .segment) (a .drive) in
     let pr : isIn (a .gone) (a .drive) ≡ false = sym (has-drive .ensures) ∙ if1 .left in
-    let hz : c .before .zone-on .result < a .p .Z = subst (λ (x : ℕ). x < a .p .Z) (sym ez) (counted-low (a .p) v (a .gone) (a .compact .now) (a .segment) (a .s) (q .1 .1)) in
+    let hz : c .before .zone-on .result < a .p .Z = subst (λ (x : ℕ). x < a .p .Z) (sym ez) (counted-segment-low (a .p) v (a .gone) (a .compact .now) (a .segment) (a .s) (q .1 .1)) in
     let eo : c .shown-at .result ≡ offsetOn (segmentOf (a .p) v (a .gone) (a .segment)) (a .drive) (a .s) =
     shown-there (a .p) r v (a .gone) (a .compact .now) (a .segment) (a .s) (q .0 .clean) (q .1 .1) (a .drive) (q .1 .0) pr (c .shown-at .result)
     (c .shown-at .ensures .0 (a .image .now) (q .0 .whole .image-long) ∙ ap (λ (z : ℕ). firstOr (a .p .S) (shownAt (a .p) v (a .compact .now) (a .drive) z (a .s))) ez) in

@@ -8,7 +8,7 @@ use Rattle.spec.specs.Params.{placeBlock, placeZone, placeDrive}
 use Rattle.spec.specs.Segments.{segmentOf, recOf}
 use Rattle.law_basic.specs.Geometry.{Ranged, ranged}
 use Rattle.recover_segments.specs.Remains.{serialOf}
-use Rattle.recover_addresses.specs.Lies.{Lies, block-low, place-lies, it-is-found, lies-same}
+use Rattle.recover_addresses.specs.Lies.{LiesIn, block-low, place-lies, it-is-found, lies-same}
 use Rattle.recover_addresses.proofs.cand_at.Statement.{statement}
 use Rattle.recover_addresses.proofs.cand_at.Tie as tie
 
@@ -83,7 +83,7 @@ returns c =
     let ed = place-drive .ensures .0 in
     let eo : place-block .result - 1 ≡ placeBlock p (a .place .0) - 1 = ap (λ (y : ℕ). y - 1) (place-block .ensures .0) in
     λ h k e x.
-    let l : Lies p v (a .gone) (a .compact .now) (place-drive .result) g (place-block .result - 1) (k .0 .stripe) =
+    let l : LiesIn p v (a .gone) (a .compact .now) (place-drive .result) g (place-block .result - 1) (k .0 .stripe) =
     lies-same p v (a .gone) (a .compact .now) (placeDrive p (a .place .0)) (placeZone p (a .place .0)) (placeBlock p (a .place .0) - 1) (k .0 .stripe) (place-drive .result) g (place-block .result - 1)
     ed eg eo (place-lies p r v (a .gone) h (k .0) (a .compact .now) (k .1) (a .place .0) e) in
     it-is-found p r v (a .gone) h (k .0) (a .place .0) (a .address .0) (c .before .stamp-at .result .0) (getD (a .serials .now) g 0) (place-drive .result) (place-block .result - 1) e x ed eo

@@ -6,7 +6,7 @@ use Prim.Native.Nat.{ℕ}
 use Rattle.spec.specs.Drives.{View, viewOf}
 use Rattle.law_basic.specs.Geometry.{ranged}
 use Rattle.disk_rank.specs.Ranked.{ranked}
-use Rattle.recover_addresses.specs.Told.{Told, Placed, told-fits, told-high, told-fresh, told-won, told-lost, placed}
+use Rattle.recover_addresses.specs.Told.{Told, HasCand, told-fits, told-high, told-fresh, told-won, told-lost, told-placed}
 use Rattle.recover_addresses.proofs.offer.Statement.{statement}
 use Rattle.recover_addresses.proofs.offer.Tie as tie
 
@@ -58,8 +58,8 @@ cand-at-requires c κs =
       q .0,
       (
         q .1 .0,
-        subst (λ (x : ℕ). Placed (a .p) v (a .gone) (a .compact .now) (a .c .address .0) x) (sym e)
-            (placed (a .p) (ranged (a .p) (q .0 .in-range)) v (a .gone) (a .compact .now) (a .addresses .now) (q .1 .1 .1 .0) (q .1 .1 .1 .1) (a .c .address .0) (if1 .left)
+        subst (λ (x : ℕ). HasCand (a .p) v (a .gone) (a .compact .now) (a .c .address .0) x) (sym e)
+            (told-placed (a .p) (ranged (a .p) (q .0 .in-range)) v (a .gone) (a .compact .now) (a .addresses .now) (q .1 .1 .1 .0) (q .1 .1 .1 .1) (a .c .address .0) (if1 .left)
             (λ x. c .if2 .left (e ∙ x))),
       ),
     )

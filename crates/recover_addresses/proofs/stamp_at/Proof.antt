@@ -6,8 +6,8 @@ use Prim.Native.Nat.{ℕ, _<_}
 use Rattle.spec.specs.Drives.{View, viewOf, zoneAt, recordIn}
 use Rattle.spec.specs.Lists.{isIn}
 use Rattle.law_basic.specs.Geometry.{Ranged, ranged}
-use Rattle.disk_records.specs.Record.{recOf as recVal}
-use Rattle.recover_addresses.specs.Lies.{counted-low, offset-low, record-there, lies-here, stamp-away, stamp-here, away-counted, zone-is}
+use Rattle.disk_records.specs.Record.{recVal}
+use Rattle.recover_addresses.specs.Lies.{counted-segment-low, offset-low, record-there, lies-here, stamp-away, stamp-here, away-counted, zone-is}
 use Rattle.recover_addresses.proofs.stamp_at.Statement.{statement}
 use Rattle.recover_addresses.proofs.stamp_at.Tie as tie
 
@@ -16,7 +16,7 @@ is-sealed-requires c κs =
     let a = c .before .before .before .args in
     let q = c .before .before .before .pre in
     let v : View = viewOf (a .p) (a .image .now) (a .pointers .now) in
-    (q .0 .in-range, (q .0 .whole .pointers-long, counted-low (a .p) v (a .gone) (a .compact .now) (a .segment) (q .1 .0) (q .1 .1 .counted)))
+    (q .0 .in-range, (q .0 .whole .pointers-long, counted-segment-low (a .p) v (a .gone) (a .compact .now) (a .segment) (q .1 .0) (q .1 .1 .counted)))
 
 has-drive-requires : tie.Need-has-drive-requires
 has-drive-requires c κs = search needs
@@ -57,7 +57,7 @@ record-in-requires c κs =
     let pr : isIn (a .gone) (a .drive) ≡ false = sym (c .before .before .has-drive .ensures) ∙ c .before .if1 .left in
     let hz : c .zone-on .result < a .p .Z =
     subst (λ (x : ℕ). x < a .p .Z) (sym (c .zone-on .ensures ∙ zone-is (a .segment) (a .drive)))
-    (counted-low (a .p) v (a .gone) (a .compact .now) (a .segment) (q .1 .0) (k .counted)) in
+    (counted-segment-low (a .p) v (a .gone) (a .compact .now) (a .segment) (q .1 .0) (k .counted)) in
     let ho : a .offset < a .p .S = subst (λ (x : ℕ). x < a .p .S) (sym (lies-here (a .p) r v (a .gone) (a .compact .now) (a .drive) (a .segment) (a .offset) (q .1 .0) k pr))
     (offset-low (a .p) r v (a .gone) (a .compact .now) (a .segment) (q .1 .0) (q .0 .clean) (k .counted) (a .drive) (k .drive-low) pr) in
     (q .0 .in-range, (q .0 .whole .image-long, k .drive-low, hz, ho))

@@ -11,7 +11,7 @@ use Rattle.spec.specs.Segments.{segmentOf}
 use Rattle.law_basic.specs.Geometry.{ranged}
 use Rattle.law_basic.specs.Ranges.{not-both}
 use Rattle.recover_check.specs.declared.Exam.{Exam}
-use Rattle.recover_check.specs.Faults.{faulty, Seen, faulty-kept, faulty-gone, seen-gone, seen-fits, seen-added, sum-fits, uncounted-most, top-most}
+use Rattle.recover_check.specs.Faults.{faulty, ExamSays, faulty-kept, faulty-gone, seen-gone, seen-fits, seen-added, loose-sum-fits, uncounted-most, top-most}
 use borrow.Author.Needs.{needs}
 use Rattle.law_drives.specs.Rebuilding.{counted-low}
 use Rattle.recover_check.proofs.exam_segment.Statement.{statement}
@@ -153,10 +153,10 @@ exam-good-requires c κs =
     let w = seen-fits p v (a .gone) (a .kept .now) (a .g) (a .e) (m .2) in
     let r = ranged p (h .0) .stripes-high in (
       (
-        sum-fits p (a .g) (a .e .loose) (h .0) (m .0) (w .0),
-        sum-fits p (a .g) (a .e .counted) (h .0) (m .0) (w .1),
-        sum-fits p (a .g) (a .e .top) (h .0) (m .0) (w .2),
-        sum-fits p (a .g) (a .e .part) (h .0) (m .0) (w .3),
+        loose-sum-fits p (a .g) (a .e .loose) (h .0) (m .0) (w .0),
+        loose-sum-fits p (a .g) (a .e .counted) (h .0) (m .0) (w .1),
+        loose-sum-fits p (a .g) (a .e .top) (h .0) (m .0) (w .2),
+        loose-sum-fits p (a .g) (a .e .part) (h .0) (m .0) (w .3),
       ),
       (
         omega (arith, u .ensures .loose-is d, uncounted-most p (a .gone) x, r),
@@ -195,7 +195,7 @@ returns-4 c =
     let d = if3 .left in
     let z : y ≡ false = k ∙ ap (λ (o : Bool). o || (stripeFault p (a .gone) x || addressFault p (a .gone) x)) (sym (segment-fault .ensures) ∙ if2 .left) ∙ sym (u .ensures .bad-is) ∙ d in (
       (λ q. absurd (not-both y q z)),
-      (λ _. subst (λ (r : Exam). Seen p v (a .gone) (a .kept .now) (a .g + 1) r) (sym (exam-good .ensures))
+      (λ _. subst (λ (r : Exam). ExamSays p v (a .gone) (a .kept .now) (a .g + 1) r) (sym (exam-good .ensures))
           (seen-added p v (a .gone) (a .kept .now) (a .g) (a .e) (m .2) (is-sealed .result) (u .result) (u .ensures) d f (is-sealed .ensures (a .image .now) (h .1 .0 .image-long)))),
     )
 

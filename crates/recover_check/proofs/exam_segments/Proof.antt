@@ -6,13 +6,13 @@ use lib.ListN.{length}
 use Rattle.spec.specs.Drives.{viewOf}
 use Rattle.spec.specs.Lists.{upFrom, below, keep, firstOr}
 use Rattle.recover_segments.specs.Kept.{lowest-turn, lowest-pass, lowest-end, lowest-start}
-use Rattle.recover_check.specs.Faults.{faulty, Seen, faults-list, seen-none, seen-all, seen-bad, stops, goes}
+use Rattle.recover_check.specs.Faults.{faulty, ExamSays, faults-list, seen-none, seen-all, seen-bad, stops, goes}
 use Rattle.recover_check.proofs.exam_segments.Statement.{statement}
 use Rattle.recover_check.proofs.exam_segments.Tie as tie
 
 abbrev Inv-loop : tie.InvT-loop
 Inv-loop p image pointers gone kept serials many at₀ e₀ g₀ at e g =
-    (g ≤ p .Z) × (length at ≡ length at₀) × Seen p (viewOf p image pointers) gone kept g e
+    (g ≤ p .Z) × (length at ≡ length at₀) × ExamSays p (viewOf p image pointers) gone kept g e
     × (firstOr (p .Z) (keep (faulty p (viewOf p image pointers) gone) (upFrom g (p .Z - g))) ≡ firstOr (p .Z) (keep (faulty p (viewOf p image pointers) gone) (below (p .Z))))
 
 abbrev μ-loop : tie.MeasureT-loop
@@ -113,7 +113,7 @@ returns-2 c =
     let f = faulty p v (a .gone) in
     let l = loop in
     let k : l .g ≡ p .Z = omega (arith, l .inv .0, if1 .left) in
-    let s = subst (λ (n : ℕ). Seen p v (a .gone) (a .kept .now) n (l .e)) k (l .inv .2) in
+    let s = subst (λ (n : ℕ). ExamSays p v (a .gone) (a .kept .now) n (l .e)) k (l .inv .2) in
     seen-all p v (a .gone) (a .kept .now) (l .e) (h .1 .1 .0) s
     (s .zone-is ∙ sym (lowest-end f (p .Z) (l .g) (p .Z) (omega (arith, k))) ∙ l .inv .3 ∙ ap (firstOr (p .Z)) (sym (faults-list p v (a .gone))))
 

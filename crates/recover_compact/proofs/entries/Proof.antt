@@ -9,14 +9,14 @@ use Rattle.spec.specs.Drives.{Zone, viewOf, zoneAt}
 use Rattle.spec.specs.Layout.{Rec}
 use Rattle.spec.specs.Lists.{below}
 use Rattle.spec.specs.Params.{pointersLen}
-use Rattle.recover_compact.specs.Compacts.{entryOf, entry-of, entries-turn, entries-none, zero-base}
+use Rattle.recover_compact.specs.Compacts.{entrySaid, entry-of, entries-turn, entries-none, zero-base}
 use Rattle.recover_compact.proofs.entries.Statement.{statement}
 use Rattle.recover_compact.proofs.entries.Tie as tie
 
 abbrev Inv-loop : tie.InvT-loop
 Inv-loop p image compact₀ full drive zone row n base₀ o₀ compact base o =
     (o ≤ n) × (base ≤ o) × (base % p .G ≡ 0) × (length compact ≡ length compact₀)
-    × ((ps : List ℕ) → length ps ≡ pointersLen p → compact ≡ splice compact₀ row (map (entryOf p full (zoneAt (viewOf p image ps) drive zone)) (below o)))
+    × ((ps : List ℕ) → length ps ≡ pointersLen p → compact ≡ splice compact₀ row (map (entrySaid p full (zoneAt (viewOf p image ps) drive zone)) (below o)))
 
 abbrev μ-loop : tie.MeasureT-loop
 μ-loop p image compact₀ full drive zone row n base₀ o₀ compact base o = n - o
@@ -72,7 +72,7 @@ loop-again c =
     let record-in = c .before .before .before .record-in in
     let loop-test = c .before .before .before .before .loop-test in
     let v : List ℕ → Zone = λ ps. zoneAt (viewOf (a .p) (a .image .now) ps) (a .drive) (a .zone) in
-    let e : (ps : List ℕ) → length ps ≡ pointersLen (a .p) → c .entry-near .result ≡ entryOf (a .p) (a .full) (v ps) (l .o) =
+    let e : (ps : List ℕ) → length ps ≡ pointersLen (a .p) → c .entry-near .result ≡ entrySaid (a .p) (a .full) (v ps) (l .o) =
     λ ps h. c .entry-near .ensures ∙ entry-of (a .p) (a .full) (v ps) (l .o) (record-in .result .stripe) (ap (λ (x : Rec). x .stripe) (record-in .ensures ps h)) in (
       omega arith,
       omega (arith, base-at .ensures .0),
@@ -91,7 +91,7 @@ returns c =
     let l = c .before .loop in
     let a = c .before .before .before .before .args in
     let e : l .o ≡ a .n = omega (arith, c .loop-test .left) in
-    λ ps h. l .inv .4 ps h ∙ ap (λ (x : ℕ). splice (a .compact .now) (a .row) (map (entryOf (a .p) (a .full) (zoneAt (viewOf (a .p) (a .image .now) ps) (a .drive) (a .zone))) (below x))) e
+    λ ps h. l .inv .4 ps h ∙ ap (λ (x : ℕ). splice (a .compact .now) (a .row) (map (entrySaid (a .p) (a .full) (zoneAt (viewOf (a .p) (a .image .now) ps) (a .drive) (a .zone))) (below x))) e
 
 pub entries-spec : {M : Type 1} → statement M
 entries-spec =

@@ -12,7 +12,7 @@ use Rattle.spec.specs.Drives.{View, viewOf, zoneAt, sealedIn, dataStored}
 use Rattle.spec.specs.Lists.{below}
 use Rattle.law_basic.specs.Geometry.{ranged, row-fits}
 use Rattle.law_basic.specs.Ranges.{length-below}
-use Rattle.recover_compact.specs.Compacts.{entryOf, row-dropped, row-missing, row-stored, row-both}
+use Rattle.recover_compact.specs.Compacts.{entrySaid, row-dropped, row-missing, row-stored, row-both}
 use Rattle.recover_compact.proofs.row.Statement.{statement}
 use Rattle.recover_compact.proofs.row.Tie as tie
 
@@ -136,13 +136,13 @@ returns-3 c =
     let n = data-stored .result in
     let en : n ≡ dataStored (a .p) (zoneAt v (a .drive) (a .zone)) = data-stored .ensures .0 (a .image .now) (q .1 .0 .image-long) in
     let ef : is-sealed .result ≡ sealedIn (a .p) v (a .gone) (a .zone) = is-sealed .ensures (a .image .now) (q .1 .0 .image-long) in
-    let s : List ℕ = map (entryOf (a .p) (is-sealed .result) (zoneAt v (a .drive) (a .zone))) (below n) in
+    let s : List ℕ = map (entrySaid (a .p) (is-sealed .result) (zoneAt v (a .drive) (a .zone))) (below n) in
     row-both (a .compact .now) (entries .last .1 .1 .0) (clear-part3 .last .0) (compact-at .result) n (a .p .S - n) s
     (omega (arith, compact-at .ensures .0, q .1 .1 .0, data-stored .ensures .1, row-fits (a .p) (a .drive) (a .zone) (q .1 .1 .1) (q .1 .1 .2)))
-    (length-map (below n) (entryOf (a .p) (is-sealed .result) (zoneAt v (a .drive) (a .zone))) ∙ length-below n)
+    (length-map (below n) (entrySaid (a .p) (is-sealed .result) (zoneAt v (a .drive) (a .zone))) ∙ length-below n)
     (entries .ensures (a .pointers .now) (q .1 .0 .pointers-long)) (clear-part3 .ensures)
     ∙ ap₂ (splice (a .compact .now)) (compact-at .ensures .0)
-    (ap₂ (λ (w : Bool) (m : ℕ). map (entryOf (a .p) w (zoneAt v (a .drive) (a .zone))) (below m) ++ replicate (a .p .S - m) 0) ef en
+    (ap₂ (λ (w : Bool) (m : ℕ). map (entrySaid (a .p) w (zoneAt v (a .drive) (a .zone))) (below m) ++ replicate (a .p .S - m) 0) ef en
     ∙ sym (row-stored (a .p) v (a .gone) (a .drive) (a .zone) (a .kept) (q .1 .1 .1) (not-false (a .kept) (if1 .left)) (sym (has-drive .ensures) ∙ if2 .left)))
 
 pub row-spec : {M : Type 1} → statement M

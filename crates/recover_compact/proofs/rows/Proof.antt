@@ -1,4 +1,4 @@
--- `rows`: the rows of the drives below d are said (`Rows`); one turn puts the row of drive d in its place. Assumes nothing.
+-- `rows`: the rows of the drives below d are said (`RowsSaid`); one turn puts the row of drive d in its place. Assumes nothing.
 use mathlib.Core.Path.{_≡_, refl, ap, _∙_}
 use Prim.Native.Nat.{_-_, _≤_}
 use native.Mathlib.Omega.{arith}
@@ -7,14 +7,14 @@ use Rattle.spec.specs.Bytes.{splice}
 use Rattle.spec.specs.Drives.{View, viewOf}
 use Rattle.spec.specs.Memory.{compactAt}
 use Rattle.law_drives.specs.Tables.{remains}
-use Rattle.recover_compact.specs.Compacts.{row-of, Rows, rows-start, rows-shown, rows-turn}
+use Rattle.recover_compact.specs.Compacts.{row-said, RowsSaid, rows-start, rows-shown, rows-turn}
 use Rattle.recover_compact.proofs.rows.Statement.{statement}
 use Rattle.recover_compact.proofs.rows.Tie as tie
 
 abbrev Inv-loop : tie.InvT-loop
 Inv-loop p image pointers compact₀ gone kept seg d₀ compact d =
     (d ≤ p .N) × (length compact ≡ length compact₀)
-    × (kept ≡ remains p (viewOf p image pointers) gone seg → Rows p (viewOf p image pointers) gone seg d compact₀ compact)
+    × (kept ≡ remains p (viewOf p image pointers) gone seg → RowsSaid p (viewOf p image pointers) gone seg d compact₀ compact)
 
 abbrev μ-loop : tie.MeasureT-loop
 μ-loop p image pointers compact₀ gone kept seg d₀ compact d = p .N - d
@@ -54,7 +54,7 @@ loop-again c =
       omega (arith, if1 .taken),
       x .kept .1 .1 .1 .0 ∙ l .inv .1,
       λ e. rows-turn (a .p) v (a .gone) (a .seg) (l .d) (a .compact .now) (l .compact) (x .last .1 .1 .1 .0) (if1 .taken) (q .1 .1 .1) (q .1 .1 .0) (l .inv .2 e)
-          (x .ensures ∙ ap (splice (l .compact) (compactAt (a .p) (l .d) (a .seg) 0)) (row-of (a .p) v (a .gone) (l .d) (a .seg) (a .kept) e)) (x .kept .1 .1 .1 .0),
+          (x .ensures ∙ ap (splice (l .compact) (compactAt (a .p) (l .d) (a .seg) 0)) (row-said (a .p) v (a .gone) (l .d) (a .seg) (a .kept) e)) (x .kept .1 .1 .1 .0),
     )
 
 same-length : tie.Need-same-length Inv-loop μ-loop

@@ -6,7 +6,7 @@ use Rattle.spec.specs.Drives.{mkDisk}
 use Rattle.spec.specs.Engine.Call.{close}
 use Rattle.spec.specs.History.{before}
 use Rattle.law_basic.specs.Geometry.{ranged}
-use Rattle.recover_groups.specs.Groups.{groupLen, Reads}
+use Rattle.recover_groups.specs.Groups.{groupLen, GroupReads}
 use Rattle.recover_decode.specs.Group.{Stripes, stripes-start, stripes-done, stripes-fit, stripes-read, stripes-cut, stripes-turn}
 use Rattle.recover_decode.proofs.put_group.Statement.{statement}
 use Rattle.recover_decode.proofs.put_group.Tie as tie
@@ -46,7 +46,7 @@ put-if-requires c κs =
     let x = mkDisk (l .image) (l .pointers) in
     let r = ranged (a .p) (q .0) in
     let k : l .k < groupLen (a .p) (a .w .base) = omega (arith, loop-test .taken, group-len .ensures .0) in
-    let rd : Reads (a .p) (a .image .now) (a .pointers .now) (a .w) (index-group .last .1 .1 .1 .1 .0) =
+    let rd : GroupReads (a .p) (a .image .now) (a .pointers .now) (a .w) (index-group .last .1 .1 .1 .1 .0) =
     record { long = q .1 .0 .pointers-long; full-right = q .1 .1 .1 .1 .0; indexed = index-group .ensures .1 (q .1 .1 .1 .1 .1 .0) } in (
       q .0,
       (

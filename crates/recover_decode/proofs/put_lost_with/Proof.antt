@@ -1,5 +1,5 @@
 -- `put_lost_with`: the stripe counts, so every present drive has its chunk; block and record are the lost ones, and make the one store. Assumes nothing.
-use Rattle.disk_records.specs.Record.{recOf as recVal}
+use Rattle.disk_records.specs.Record.{recVal}
 use mathlib.Core.Path.{sym, _∙_, subst}
 use mathlib.Core.List.{List, [], _∷_}
 use Prim.Native.Nat.{ℕ, _+_, _<_}

@@ -2,7 +2,7 @@
 use Prim.Native.Nat.{ℕ, _-_}
 use Rattle.spec.specs.Drives.{mkDisk, zoneOn}
 use Rattle.law_basic.specs.Geometry.{ranged}
-use Rattle.recover_footers.specs.Feet.{Feet, feet-start, feet-pointer, feet-done, feet-cut, feet-turn}
+use Rattle.recover_footers.specs.Feet.{FeetUpto, feet-start, feet-pointer, feet-done, feet-cut, feet-turn}
 use lib.ListN.{length}
 use mathlib.Core.Path.{_≡_, refl, _∙_}
 use native.Mathlib.Omega.{arith}
@@ -15,7 +15,7 @@ zone-same g d = refl
 
 abbrev Inv-loop : tie.InvT-loop
 Inv-loop p image₀ pointers₀ segment count left₀ d₀ image pointers left d =
-    (length image ≡ length image₀) × (length pointers ≡ length pointers₀) × Feet p count segment (mkDisk image₀ pointers₀) d left (mkDisk image pointers)
+    (length image ≡ length image₀) × (length pointers ≡ length pointers₀) × FeetUpto p count segment (mkDisk image₀ pointers₀) d left (mkDisk image pointers)
 
 abbrev μ-loop : tie.MeasureT-loop
 μ-loop p image₀ pointers₀ segment count left₀ d₀ image pointers left d = p .N - d

@@ -8,7 +8,7 @@ use Rattle.spec.specs.Segments.{storedRec}
 use Rattle.law_drives.specs.Tests.{cond-true, cond-false}
 use Rattle.recover_groups.specs.Groups.{segmentIn}
 use Rattle.recover_groups.specs.Pieces.{addRec}
-use Rattle.disk_records.specs.Record.{recOf as recVal}
+use Rattle.disk_records.specs.Record.{recVal}
 use borrow.Author.Needs.{needs}
 use Rattle.recover_groups.proofs.add_rec.Statement.{statement}
 use Rattle.recover_groups.proofs.add_rec.Tie as tie

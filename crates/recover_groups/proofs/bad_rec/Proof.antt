@@ -3,7 +3,7 @@ use mathlib.Core.Path.{sym}
 use native.Mathlib.Omega.{arith}
 use Rattle.spec.specs.History.{before}
 use Rattle.recover_groups.specs.Faulty.{bad-low, bad-high}
-use Rattle.disk_records.specs.Record.{recOf as recVal}
+use Rattle.disk_records.specs.Record.{recVal}
 use Rattle.recover_groups.proofs.bad_rec.Statement.{statement}
 use Rattle.recover_groups.proofs.bad_rec.Tie as tie
 

@@ -11,7 +11,7 @@ use Rattle.spec.specs.Segments.{Segment, hasChunk, counts}
 use Rattle.law_basic.specs.Geometry.{ranged}
 use Rattle.law_basic.specs.Ranges.{all-keep}
 use Rattle.law_scans.specs.Scans.{all-broken, all-passed, all-ended, all-start}
-use Rattle.recover_groups.specs.Chunks.{chunk-is}
+use Rattle.recover_groups.specs.Chunks.{entry-has-chunk}
 use Rattle.recover_groups.specs.Groups.{groupLen, Indexed}
 use Rattle.recover_groups.proofs.counts.Statement.{statement}
 use Rattle.recover_groups.proofs.counts.Tie as tie
@@ -51,7 +51,7 @@ returns c =
     let f : Segment → ℕ → ℕ → Bool = λ g base e. isIn (a .gone) e || hasChunk g (base + a .k) e in
     λ g base x hk. (sym (all-broken (f g base) (loop .d) (p .N) (if1 .taken)
     (sym (c .before .is-there .ensures
-    ∙ ap (λ (b : Bool). isIn (a .gone) (loop .d) || b) (chunk-is p g base (a .at .now) x (loop .d) (a .k) (if1 .taken) hk))
+    ∙ ap (λ (b : Bool). isIn (a .gone) (loop .d) || b) (entry-has-chunk p g base (a .at .now) x (loop .d) (a .k) (if1 .taken) hk))
     ∙ not-true (c .before .is-there .result) (c .if2 .taken)))
     ∙ loop .inv .1 g base x hk)
     ∙ sym (all-keep (hasChunk g (base + a .k)) (isIn (a .gone)) (below (p .N)))
@@ -72,7 +72,7 @@ loop-again c =
       omega (arith, if1 .taken),
       λ g base x hk. sym (all-passed (f g base) (loop .d) (p .N) (if1 .taken)
           (sym (c .before .is-there .ensures
-          ∙ ap (λ (b : Bool). isIn (a .gone) (loop .d) || b) (chunk-is p g base (a .at .now) x (loop .d) (a .k) (if1 .taken) hk))
+          ∙ ap (λ (b : Bool). isIn (a .gone) (loop .d) || b) (entry-has-chunk p g base (a .at .now) x (loop .d) (a .k) (if1 .taken) hk))
           ∙ not-false (c .before .is-there .result) (c .if2 .left)))
           ∙ loop .inv .1 g base x hk,
     )

@@ -18,7 +18,7 @@ use Rattle.recover_groups.specs.Bases.{group-len-le, group-len-fits}
 use Rattle.recover_groups.specs.Chunks.{group-record}
 use Rattle.recover_groups.specs.Entering.{Entering, entering-start, entering-end, entering-bad-data, entering-bad, entering-next}
 use Rattle.recover_groups.specs.Groups.{groupLen, groupRecs, segmentIn}
-use Rattle.disk_records.specs.Record.{recOf as recVal}
+use Rattle.disk_records.specs.Record.{recVal}
 use Rattle.recover_groups.proofs.index_drive.Statement.{statement}
 use Rattle.recover_groups.proofs.index_drive.Tie as tie
 

@@ -12,14 +12,15 @@ use Rattle.spec.specs.Params.{drivesOf, present}
 use Rattle.spec.specs.Parity.{parityPiece}
 use Rattle.spec.specs.Segments.{storedPiece}
 use Rattle.law_basic.specs.Geometry.{ranged}
-use Rattle.recover_groups.specs.Groups.{segmentIn, Reads}
-use Rattle.recover_groups.specs.Pieces.{block-long, presentBelow, piecesBlocks, blocks-first, blocks-next}
+use Rattle.recover_groups.specs.Groups.{segmentIn, GroupReads}
+use Rattle.recover_groups.specs.Pieces.{piece-block-long, presentBelow, piecesBlocks, blocks-first, blocks-next}
 use Rattle.recover_groups.proofs.lost_block.Statement.{statement}
 use Rattle.recover_groups.proofs.lost_block.Tie as tie
 
 abbrev Inv-loop : tie.InvT-loop
 Inv-loop p image w at k block₀ d₀ block d =
-    (d ≤ p .N) × (length block ≡ p .B) × ((ps : List ℕ) → Reads p image ps w at → block ≡ parity (p .B) (piecesBlocks (storedPiece (segmentIn p image ps w) (w .base + k)) (presentBelow (w .gone) d)))
+    (d ≤ p .N) × (length block ≡ p .B) × ((ps : List ℕ) → GroupReads p image ps w at
+    → block ≡ parity (p .B) (piecesBlocks (storedPiece (segmentIn p image ps w) (w .base + k)) (presentBelow (w .gone) d)))
 
 abbrev μ-loop : tie.MeasureT-loop
 μ-loop p image w at k block₀ d₀ block d = p .N - d
@@ -71,7 +72,7 @@ loop-again c =
       λ ps x. add-block .ensures ps x
           ∙ ap (λ (y : List ℕ). cond (isIn (w .gone) (loop .d)) y (xors y (storedPiece (segmentIn p im ps w) (w .base + a .k) (loop .d) .block))) (loop .inv .2 ps x)
           ∙ sym (blocks-next (p .B) (w .gone) (loop .d) (storedPiece (segmentIn p im ps w) (w .base + a .k))
-          (λ e h q. block-long p im ps w (a .at .now) (ranged (a .p) (pre .0)) (pre .1 .0 .0) x (pre .1 .0 .2) (pre .1 .0 .3) (a .k)
+          (λ e h q. piece-block-long p im ps w (a .at .now) (ranged (a .p) (pre .0)) (pre .1 .0 .0) x (pre .1 .0 .2) (pre .1 .0 .3) (a .k)
           (pre .1 .0 .4) e (omega (arith, h, if1 .taken)) (pre .1 .1 e (omega (arith, h, if1 .taken)) q))),
     )
 

@@ -12,15 +12,15 @@ use Rattle.spec.specs.Parity.{parityRec}
 use Rattle.spec.specs.Segments.{storedRec}
 use Rattle.law_basic.specs.Geometry.{ranged}
 use Rattle.recover_groups.specs.Bases.{group-len-fits}
-use Rattle.recover_groups.specs.Groups.{segmentIn, Reads}
+use Rattle.recover_groups.specs.Groups.{segmentIn, GroupReads}
 use Rattle.recover_groups.specs.Pieces.{presentBelow, addRec, lost-first, lost-next}
-use Rattle.disk_records.specs.Record.{recOf as recVal}
+use Rattle.disk_records.specs.Record.{recVal}
 use Rattle.recover_groups.proofs.lost_rec.Statement.{statement}
 use Rattle.recover_groups.proofs.lost_rec.Tie as tie
 
 abbrev Inv-loop : tie.InvT-loop
 Inv-loop p image w at k r₀ d₀ r d =
-    (d ≤ p .N) × ((ps : List ℕ) → Reads p image ps w at → recVal r ≡ parityRec (w .base + k) (map (storedRec (segmentIn p image ps w) (w .base + k)) (presentBelow (w .gone) d)))
+    (d ≤ p .N) × ((ps : List ℕ) → GroupReads p image ps w at → recVal r ≡ parityRec (w .base + k) (map (storedRec (segmentIn p image ps w) (w .base + k)) (presentBelow (w .gone) d)))
 
 abbrev μ-loop : tie.MeasureT-loop
 μ-loop p image w at k r₀ d₀ r d = p .N - d

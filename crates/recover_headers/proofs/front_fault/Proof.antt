@@ -1,4 +1,4 @@
--- `front_fault`: where the header is at fault `front-header`, where serial is not above copied `front-serial`, else `front-other`. Assumes nothing.
+-- `front_fault`: where the header is at fault `front-header`, where serial is not above copied `fault-by-left`, else `front-other`. Assumes nothing.
 use mathlib.Core.Path.{_≡_, sym, ap, _∙_}
 use Prim.Native.Nat.{ℕ}
 use native.Mathlib.Omega.{arith}
@@ -10,7 +10,7 @@ use Rattle.spec.specs.Faults.{headerFault, serialFault}
 use Rattle.spec.specs.Layout.{headerCopied}
 use Rattle.spec.specs.Segments.{headerAt, segmentOf, segments}
 use Rattle.recover_segments.specs.Remains.{otherSerial}
-use Rattle.recover_headers.specs.Fronts.{serial-list, seg-serial, front-header, front-serial, front-other}
+use Rattle.recover_headers.specs.Fronts.{serial-list, seg-serial, front-header, fault-by-left, front-other}
 use borrow.Author.Needs.{needs}
 use Rattle.law_drives.specs.Segs.{copied-is}
 use Rattle.recover_headers.proofs.front_fault.Statement.{statement}
@@ -68,7 +68,7 @@ returns-2 c =
     let hg = pre .1 .3 in
     let es : getD (a .serials .now) g 0 ≡ x .serial = hs .1 g hg ∙ sym (seg-serial p v gone g) in
     let ec : k .result .0 ≡ x .copied = k .ensures ps long ∙ ap (λ (d : ℕ). headerCopied (headerAt v d g)) (low .ensures .0) ∙ sym (copied-is p v gone g) in
-    front-serial (headerFault p gone x) (serialFault (segments p v gone) x) (leb (getD (a .serials .now) g 0) (x .copied))
+    fault-by-left (headerFault p gone x) (serialFault (segments p v gone) x) (leb (getD (a .serials .now) g 0) (x .copied))
     (otherSerial (p .Z) (a .kept .now) (a .serials .now) g (getD (a .serials .now) g 0))
     (sym (f .ensures ps long es ec) ∙ if1 .left) (serial-list p v gone g (a .kept .now) (a .serials .now) hg hk hs)
     (ap (leb (getD (a .serials .now) g 0)) (sym ec) ∙ le-leb (getD (a .serials .now) g 0) (k .result .0) (c .if2 .taken))

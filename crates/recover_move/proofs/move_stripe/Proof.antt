@@ -5,7 +5,7 @@ use Rattle.spec.specs.Lists.{upFrom}
 use Rattle.spec.specs.Restart.{movedStripe}
 use Rattle.recover_groups.specs.Groups.{segmentIn}
 use Rattle.law_basic.specs.Geometry.{ranged}
-use Rattle.recover_move.specs.Moves.{movedTo, Moves, moves-reads, row-start, row-done, row-room, row-cut, row-turn}
+use Rattle.recover_move.specs.Moves.{movedTo, Moves, moves-reads, row-moves-start, row-done, row-room, row-cut, row-turn}
 use lib.ListN.{length}
 use mathlib.Core.List.{map}
 use mathlib.Core.Path.{_≡_, refl, _∙_}
@@ -30,7 +30,7 @@ loop-holds c =
     let pre = entry .pre in (
       refl,
       refl,
-      row-start (args .p) (ranged (args .p) (pre .0)) (args .count) (mkDisk (args .image .now) (args .pointers .now)) (args .w)
+      row-moves-start (args .p) (ranged (args .p) (pre .0)) (args .count) (mkDisk (args .image .now) (args .pointers .now)) (args .w)
           (pre .1 .1 .0 .seg-low) (pre .1 .1 .0 .none-gone) (args .to) (args .w .base + args .k) (args .s) (pre .1 .1 .1 .1 .1 .0 .2) (pre .1 .0)
           (pre .1 .1 .1 .1 .1 .1),
     )

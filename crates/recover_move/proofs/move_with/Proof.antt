@@ -5,7 +5,7 @@ use Rattle.recover_groups.specs.Groups.{segmentIn}
 use Rattle.law_basic.specs.Geometry.{spare-len, zone-on-lt}
 use Rattle.recover_move.specs.Moves.{put-moved}
 use Rattle.law_basic.specs.Fields.{length-record}
-use Rattle.disk_records.specs.Record.{recOf as recVal}
+use Rattle.disk_records.specs.Record.{recVal}
 use borrow.Author.Needs.{needs}
 use lib.ListN.{length}
 use mathlib.Core.Path.{_≡_, sym, ap, _∙_}

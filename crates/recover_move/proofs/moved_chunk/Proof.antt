@@ -1,4 +1,4 @@
--- `moved_chunk`: a data drive of s gets the chunk of its position, by `moved-data`; the parity drive the new parity, by `moved-parity`. Assumes nothing.
+-- `moved_chunk`: a data drive of s gets the chunk of its position, by `renumbered-data`; the parity drive the new parity, by `parity-moved`. Assumes nothing.
 use Prim.Native.Nat.{ℕ, _+_, _<_}
 use Rattle.spec.specs.Layout.{dataDrive}
 use Rattle.spec.specs.Params.{dataCount}
@@ -6,7 +6,7 @@ use Rattle.spec.specs.Restart.{renumbered}
 use Rattle.spec.specs.Segments.{storedPiece}
 use Rattle.recover_groups.specs.Groups.{segmentIn}
 use Rattle.law_basic.specs.Geometry.{position-lt}
-use Rattle.recover_move.specs.Pieces.{moved-data, moved-parity}
+use Rattle.recover_move.specs.Pieces.{renumbered-data, parity-moved}
 use borrow.Author.Needs.{needs}
 use mathlib.Core.Path.{sym, ap, _∙_, subst}
 use Rattle.recover_move.proofs.moved_chunk.Statement.{statement}
@@ -58,7 +58,7 @@ returns c =
     let s = args .w .base + args .k in
     moved-data′ .ensures ps x
     ∙ ap (λ (i : ℕ). renumbered (args .s) (storedPiece g s (dataDrive (args .p) s i))) (data-position .ensures .0)
-    ∙ moved-data (args .p) g s (args .s) (args .drive) (pre .1 .1 .1 .2) (sym (is-data .ensures) ∙ if1 .taken)
+    ∙ renumbered-data (args .p) g s (args .s) (args .drive) (pre .1 .1 .1 .2) (sym (is-data .ensures) ∙ if1 .taken)
 
 moved-parity-requires : tie.Need-moved-parity-requires
 moved-parity-requires c κs =
@@ -75,7 +75,7 @@ returns-2 c =
     let is-data = c .before .before .before .before .before .is-data in
     let args = c .before .before .before .before .before .before .before .before .before .args in
     λ ps x. moved-parity′ .ensures ps x
-    ∙ moved-parity (args .p) (segmentIn (args .p) (args .image .now) ps (args .w)) (args .w .base + args .k) (args .s) (args .drive)
+    ∙ parity-moved (args .p) (segmentIn (args .p) (args .image .now) ps (args .w)) (args .w .base + args .k) (args .s) (args .drive)
     (sym (is-data .ensures) ∙ if1 .left)
 
 pub moved-chunk-spec : {M : Type 1} → statement M

@@ -4,7 +4,7 @@ use Rattle.law_basic.specs.Geometry.{ranged}
 use Rattle.law_basic.specs.Mask.{isIn-empty}
 use Rattle.recover_move.specs.Moves.{shown-low}
 use Rattle.recover_move.specs.Pieces.{data-moved}
-use Rattle.disk_records.specs.Record.{recOf as recVal}
+use Rattle.disk_records.specs.Record.{recVal}
 use borrow.Author.Needs.{needs}
 use mathlib.Core.Path.{refl}
 use native.Mathlib.Omega.{arith}

@@ -2,12 +2,12 @@
 use Prim.Native.Nat.{ℕ, _+_, _-_, _≤_}
 use Rattle.spec.specs.Layout.{mkRec}
 use Rattle.spec.specs.Params.{dataCount}
-use Rattle.recover_groups.specs.Groups.{segmentIn, Reads}
+use Rattle.recover_groups.specs.Groups.{segmentIn, GroupReads}
 use Rattle.law_basic.specs.Geometry.{ranged}
 use Rattle.law_basic.specs.Mask.{isIn-empty}
 use Rattle.recover_move.specs.Moves.{shown-low}
-use Rattle.recover_move.specs.Pieces.{data-count, Xored, xored-start, xored-done, xored-step}
-use Rattle.disk_records.specs.Record.{recOf as recVal}
+use Rattle.recover_move.specs.Pieces.{data-count-minus, Xored, xored-start, xored-done, xored-step}
+use Rattle.disk_records.specs.Record.{recVal}
 use lib.ListN.{length, replicate}
 use mathlib.Core.List.{List}
 use mathlib.Core.Path.{_≡_, refl, ap, _∙_, subst}
@@ -17,7 +17,7 @@ use Rattle.recover_move.proofs.moved_parity.Tie as tie
 
 abbrev Inv-loop : tie.InvT-loop
 Inv-loop p image w at k s block₀ r₀ i₀ block r i =
-    (i ≤ dataCount p) × (length block ≡ length block₀) × ((ps : List ℕ) → Reads p image ps w at → Xored p (segmentIn p image ps w) (w .base + k) s i block (recVal r))
+    (i ≤ dataCount p) × (length block ≡ length block₀) × ((ps : List ℕ) → GroupReads p image ps w at → Xored p (segmentIn p image ps w) (w .base + k) s i block (recVal r))
 
 abbrev μ-loop : tie.MeasureT-loop
 μ-loop p image w at k s block₀ r₀ i₀ block r i = dataCount p - i
@@ -59,7 +59,7 @@ data-drive-requires c κs =
     let entry = c .before .before .before .before .before .before .before .before .before .before .before in
     let args = entry .args in
     let pre = entry .pre in
-    (pre .0, omega (arith, data-count (args .p), c .before .if1 .taken))
+    (pre .0, omega (arith, data-count-minus (args .p), c .before .if1 .taken))
 
 xor-block-requires : tie.Need-xor-block-requires Inv-loop μ-loop
 xor-block-requires c κs =
@@ -104,7 +104,7 @@ loop-less : tie.Need-loop-less Inv-loop μ-loop
 loop-less c =
     let if1 = c .before .before .before .before .before .before .before .before .if1 in
     let args = c .before .before .before .before .before .before .before .before .before .before .before .before .before .before .before .before .before .before .args in
-    omega (arith, data-count (args .p), if1 .taken)
+    omega (arith, data-count-minus (args .p), if1 .taken)
 
 loop-again : tie.Need-loop-again Inv-loop μ-loop
 loop-again c =
@@ -115,13 +115,13 @@ loop-again c =
     let entry = c .before .before .before .before .before .before .before .before .before .before .before .before .before .before .before .before .before .before in
     let args = entry .args in
     let pre = entry .pre in (
-      omega (arith, data-count (args .p), if1 .taken),
+      omega (arith, data-count-minus (args .p), if1 .taken),
       xor-block .kept .1 .1 .1 .1 .1 .1 .0 ∙ loop .inv .1,
       λ ps x.
           xored-step (args .p) (ranged (args .p) (pre .0)) (args .image .now) ps (args .w) (args .at .now) (args .k) (args .s) (pre .1 .1 .1 .0)
           (pre .1 .0 .seg-low) (pre .1 .0 .base-low) (pre .1 .0 .in-group) (pre .1 .1 .0) x (loop .i) (data-drive .result) (loop .block)
           (xor-block .last .1 .1 .1 .1 .1 .1 .0) (recVal (loop .r)) (recVal (c .xor-rec .result)) (recVal (c .before .stored-rec .result))
-          (omega (arith, data-count (args .p), if1 .taken)) (data-drive .ensures .0) (loop .inv .2 ps x) (xor-block .ensures ps x)
+          (omega (arith, data-count-minus (args .p), if1 .taken)) (data-drive .ensures .0) (loop .inv .2 ps x) (xor-block .ensures ps x)
           (c .before .stored-rec .ensures ps x) (c .xor-rec .ensures .0) (c .xor-rec .ensures .1) (c .xor-rec .ensures .2),
     )
 
@@ -135,7 +135,7 @@ returns c =
     let loop = c .before .before .loop in
     let args = c .before .before .before .before .before .before .before .before .before .before .args in
     λ ps x.
-    let e : loop .i ≡ dataCount (args .p) = omega (arith, loop .inv .0, data-count (args .p), c .if1 .left) in
+    let e : loop .i ≡ dataCount (args .p) = omega (arith, loop .inv .0, data-count-minus (args .p), c .if1 .left) in
     xored-done (args .p) (segmentIn (args .p) (args .image .now) ps (args .w)) (args .w .base + args .k) (args .s) (loop .block) (recVal (loop .r))
     (subst (λ (n : ℕ). Xored (args .p) (segmentIn (args .p) (args .image .now) ps (args .w)) (args .w .base + args .k) (args .s) n (loop .block) (recVal (loop .r))) e (loop .inv .2 ps x))
 

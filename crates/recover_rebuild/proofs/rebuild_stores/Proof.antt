@@ -4,7 +4,7 @@ use Rattle.spec.specs.Drives.{mkDisk}
 use Rattle.spec.specs.Engine.Call.{close}
 use Rattle.spec.specs.History.{before}
 use Rattle.law_basic.specs.Geometry.{ranged}
-use Rattle.recover_rebuild.specs.Drive.{driveResets, resets-cut, resets-whole, resets-fit, resets-good, resets-empty, resets-made}
+use Rattle.recover_rebuild.specs.Drive.{driveResets, resets-cut, resets-whole, resets-fit, resets-good, drive-resets-empty, resets-made}
 use Rattle.recover_rebuild.proofs.rebuild_stores.Statement.{statement}
 use Rattle.recover_rebuild.proofs.rebuild_stores.Tie as tie
 
@@ -50,7 +50,7 @@ rebuild-zones-requires c κs =
         (
           q .1 .1 .0,
           (
-            resets-empty p r (a .drive) (a .count) (q .1 .1 .0 .1) (a .kept .now) k₀ (q .1 .0) (q .1 .1 .1 .1) m k t n,
+            drive-resets-empty p r (a .drive) (a .count) (q .1 .1 .0 .1) (a .kept .now) k₀ (q .1 .0) (q .1 .1 .1 .1) m k t n,
             (
               resets-good p r (a .drive) (a .count) (q .1 .1 .0 .1) (a .kept .now) k₀ (q .1 .0) (q .1 .1 .1 .1) m k t n (q .1 .1 .1 .0),
               resets-fit p r (a .drive) (a .count) (q .1 .1 .0 .1) (a .kept .now) k₀ (q .1 .0) (q .1 .1 .1 .1) m k t n,

@@ -13,7 +13,7 @@ use Rattle.spec.specs.Segments.{lowDrive, headerAt, segmentOf}
 use Rattle.law_basic.specs.Geometry.{ranged, zone-on-lt}
 use Rattle.disk_zones.specs.Made.{Storing}
 use Rattle.recover_reset.specs.Rebuilt.{headStore}
-use Rattle.recover_rebuild.specs.Zone.{head-room, head-is, head-cut, head-whole, head-fits, head-good, head-sealed, head-one, rest-made}
+use Rattle.recover_rebuild.specs.Zone.{head-room, head-store-is, head-cut, head-whole, head-fits, head-good, head-sealed, head-one, rest-made}
 use Rattle.recover_rebuild.proofs.rebuild_zone.Statement.{statement}
 use Rattle.recover_rebuild.proofs.rebuild_zone.Tie as tie
 
@@ -89,7 +89,7 @@ returns c =
     let k = mkDisk (put-header .last .1 .0) (put-header .last .1 .1 .0) in
     let s : Storing p (a .count) (headStore p d (segmentOf p v (named d) (a .seg)) ∷ []) k₀ m k =
     subst (λ (x : Store). Storing p (a .count) (x ∷ []) k₀ m k)
-    (head-is p r d (a .seg) (a .count) (h .1) (h .2) k₀ (q .1 .0) (q .1 .1 .1 .1) (h .3) (serial-on .result .0) (copied-on .result .0) ea eb)
+    (head-store-is p r d (a .seg) (a .count) (h .1) (h .2) k₀ (q .1 .0) (q .1 .1 .1 .1) (h .3) (serial-on .result .0) (copied-on .result .0) ea eb)
     (subst (λ (z : ℕ). Storing p (a .count) (put d z (headerBlock p d z (serial-on .result .0) (copied-on .result .0)) zeroSpare ∷ []) k₀ m k) (zone-on .ensures) (put-header .ensures)) in
     head-cut p r d (a .seg) (a .count) (h .1) (h .2) k₀ (q .1 .0) (q .1 .1 .1 .1) (h .3) m k s (c .if1 .taken)
 
@@ -117,7 +117,7 @@ rebuild-data-requires c κs =
     let k = mkDisk (put-header .last .1 .0) (put-header .last .1 .1 .0) in
     let s : Storing p (a .count) (headStore p d (segmentOf p v (named d) (a .seg)) ∷ []) k₀ m k =
     subst (λ (x : Store). Storing p (a .count) (x ∷ []) k₀ m k)
-    (head-is p r d (a .seg) (a .count) (h .1) (h .2) k₀ (q .1 .0) (q .1 .1 .1 .1) (h .3) (serial-on .result .0) (copied-on .result .0) ea eb)
+    (head-store-is p r d (a .seg) (a .count) (h .1) (h .2) k₀ (q .1 .0) (q .1 .1 .1 .1) (h .3) (serial-on .result .0) (copied-on .result .0) ea eb)
     (subst (λ (z : ℕ). Storing p (a .count) (put d z (headerBlock p d z (serial-on .result .0) (copied-on .result .0)) zeroSpare ∷ []) k₀ m k) (zone-on .ensures) (put-header .ensures)) in
     let n = if1 .left in
     let f = is-sealed .ensures (a .image .now) (q .1 .0 .image-long) ∙ ap (λ (x : ℕ). sealedIn p v x (a .seg)) (h .0) in (
@@ -173,7 +173,7 @@ returns-2 c =
     let k = mkDisk (put-header .last .1 .0) (put-header .last .1 .1 .0) in
     let s : Storing p (a .count) (headStore p d (segmentOf p v (named d) (a .seg)) ∷ []) k₀ m k =
     subst (λ (x : Store). Storing p (a .count) (x ∷ []) k₀ m k)
-    (head-is p r d (a .seg) (a .count) (h .1) (h .2) k₀ (q .1 .0) (q .1 .1 .1 .1) (h .3) (serial-on .result .0) (copied-on .result .0) ea eb)
+    (head-store-is p r d (a .seg) (a .count) (h .1) (h .2) k₀ (q .1 .0) (q .1 .1 .1 .1) (h .3) (serial-on .result .0) (copied-on .result .0) ea eb)
     (subst (λ (z : ℕ). Storing p (a .count) (put d z (headerBlock p d z (serial-on .result .0) (copied-on .result .0)) zeroSpare ∷ []) k₀ m k) (zone-on .ensures) (put-header .ensures)) in
     rest-made p r d (a .seg) (a .count) (h .1) (h .2) k₀ (q .1 .0) (q .1 .1 .1 .1) (h .3) m k s (if1 .left) (rebuild-data .result)
     (mkDisk (rebuild-data .last .1 .0) (rebuild-data .last .1 .1 .0)) (rebuild-data .ensures)

@@ -8,13 +8,13 @@ use Rattle.spec.specs.Drives.Store.{reset}
 use Rattle.spec.specs.Drives.{mkDisk}
 use Rattle.spec.specs.Engine.Call.{close}
 use Rattle.spec.specs.History.{before}
-use Rattle.disk_zones.specs.Made.{Rest, rest-start, rest-turn, rest-cut, rest-done, reset-disk}
+use Rattle.disk_zones.specs.Made.{StoresLeft, rest-start, rest-turn, rest-cut, rest-done, reset-disk}
 use Rattle.recover_reset.proofs.reset_drive.Statement.{statement}
 use Rattle.recover_reset.proofs.reset_drive.Tie as tie
 
 abbrev Inv-loop : tie.InvT-loop
 Inv-loop p pointers₀ drive count left₀ z₀ pointers left z =
-    (length pointers ≡ length pointers₀) × ((im : List ℕ) → Rest p (λ y. reset drive y) (p .Z) count (mkDisk im pointers₀) z left (mkDisk im pointers))
+    (length pointers ≡ length pointers₀) × ((im : List ℕ) → StoresLeft p (λ y. reset drive y) (p .Z) count (mkDisk im pointers₀) z left (mkDisk im pointers))
 
 abbrev μ-loop : tie.MeasureT-loop
 μ-loop p pointers₀ drive count left₀ z₀ pointers left z = p .Z - z

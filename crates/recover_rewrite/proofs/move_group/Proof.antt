@@ -5,7 +5,7 @@ use Rattle.spec.specs.Segments.{Segment}
 use Rattle.recover_groups.specs.Bases.{in-group}
 use Rattle.recover_groups.specs.Groups.{groupLen, segmentIn}
 use Rattle.law_basic.specs.Geometry.{ranged}
-use Rattle.recover_rewrite.specs.Due.{itself, countedFrom, itself-few, from-none, from-step, Upto, upto-start, upto-as, upto-done, upto-first, upto-cut}
+use Rattle.recover_rewrite.specs.Due.{itself, countedFrom, itself-few, from-none, from-step, MovedUpto, upto-start, upto-as, upto-done, upto-first, upto-cut}
 use Rattle.recover_rewrite.specs.Due.{upto-turn, from-start, upto-reads, upto-step, upto-fits}
 use lib.ListN.{length}
 use mathlib.Core.List.{[], _++_}
@@ -20,7 +20,7 @@ Inv-loop p image₀ pointers₀ w at to len next₀ k₀ image pointers next k =
     × (length image ≡ length image₀)
     × (length pointers ≡ length pointers₀)
     × (next .next ≤ w .base + k)
-    × Upto p (segmentIn p image₀ pointers₀ w) to (w .seg) next₀ (mkDisk image₀ pointers₀)
+    × MovedUpto p (segmentIn p image₀ pointers₀ w) to (w .seg) next₀ (mkDisk image₀ pointers₀)
     (countedFrom p (segmentIn p image₀ pointers₀ w) (w .base) (groupLen p (w .base)))
     (countedFrom p (segmentIn p image₀ pointers₀ w) (w .base + k) (groupLen p (w .base) - k)) next (mkDisk image pointers)
 

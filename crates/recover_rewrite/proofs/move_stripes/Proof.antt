@@ -5,7 +5,7 @@ use Rattle.spec.specs.Segments.{Segment, segmentOf, counted}
 use Rattle.recover_groups.specs.Bases.{group-len-le}
 use Rattle.recover_groups.specs.Groups.{groupLen, recsFault}
 use Rattle.law_basic.specs.Geometry.{ranged, base-next}
-use Rattle.recover_rewrite.specs.Due.{countedFrom, from-few, from-none, from-group, from-all, Upto, upto-start, upto-as, upto-done, upto-first, upto-cut}
+use Rattle.recover_rewrite.specs.Due.{countedFrom, from-few, from-none, from-group, from-all, MovedUpto, upto-start, upto-as, upto-done, upto-first, upto-cut}
 use Rattle.recover_rewrite.specs.Due.{upto-turn, upto-in, upto-sealed, upto-step, upto-fits, groupAt, unmoved, bases-first}
 use Rattle.law_views.specs.Views.{seen}
 use lib.ListN.{length}
@@ -23,7 +23,7 @@ Inv-loop p image₀ pointers₀ seg to count at₀ m₀ base₀ image pointers a
     × (length image ≡ length image₀)
     × (length pointers ≡ length pointers₀)
     × (m .next ≤ base)
-    × Upto p (segmentOf p (viewOf p image₀ pointers₀) 0 seg) to seg (unmoved count) (mkDisk image₀ pointers₀)
+    × MovedUpto p (segmentOf p (viewOf p image₀ pointers₀) 0 seg) to seg (unmoved count) (mkDisk image₀ pointers₀)
     (counted p 0 (segmentOf p (viewOf p image₀ pointers₀) 0 seg))
     (countedFrom p (segmentOf p (viewOf p image₀ pointers₀) 0 seg) base (p .S - base)) m (mkDisk image pointers)
 

@@ -1,7 +1,7 @@
 -- `rewrite`: headers, stripes, resets, each cut or made; the headers leave seg as it is, so what was asked of it still holds for the stripes. Assumes nothing.
 use Rattle.spec.specs.Drives.{mkDisk}
 use Rattle.law_basic.specs.Geometry.{ranged}
-use Rattle.recover_rewrite.specs.Rewrite.{rewrite-heads, rewrite-whole, rewrite-sealed, rewrite-good, rewrite-fits, rewrite-moves, rewrite-resets, head-room}
+use Rattle.recover_rewrite.specs.Rewrite.{rewrite-heads, rewrite-whole, rewrite-sealed, rewrite-good, rewrite-fits, rewrite-moves, rewrite-resets, new-head-room}
 use borrow.Author.Needs.{needs}
 use Rattle.recover_rewrite.proofs.rewrite.Statement.{statement}
 use Rattle.recover_rewrite.proofs.rewrite.Tie as tie
@@ -11,7 +11,7 @@ header-stores-requires c κs =
     let entry = c .before .before .before .before in
     let args = entry .args in
     let pre = entry .pre in
-    (pre .0, (pre .1 .0, (pre .1 .1 .0 .1, λ d hd. head-room (args .p) (ranged (args .p) (pre .0)) (args .pointers .now) (args .to) d (pre .1 .1 .1 .0 .1 d hd))))
+    (pre .0, (pre .1 .0, (pre .1 .1 .0 .1, λ d hd. new-head-room (args .p) (ranged (args .p) (pre .0)) (args .pointers .now) (args .to) d (pre .1 .1 .1 .0 .1 d hd))))
 
 same-length : tie.Need-same-length
 same-length c = search needs

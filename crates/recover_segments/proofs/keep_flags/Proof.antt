@@ -8,7 +8,7 @@ use lib.ListN.{length, getD, length-set}
 use Rattle.spec.specs.Drives.{viewOf}
 use Rattle.spec.specs.Params.{pointersLen}
 use Rattle.recover_segments.specs.Kept.{set-more}
-use Rattle.recover_segments.specs.Remains.{remains, LeftFlags, Serials}
+use Rattle.recover_segments.specs.Remains.{remainsHere, LeftFlags, Serials}
 use Rattle.recover_segments.proofs.keep_flags.Statement.{statement}
 use Rattle.recover_segments.proofs.keep_flags.Tie as tie
 
@@ -16,7 +16,7 @@ abbrev Inv-loop : tie.InvT-loop
 Inv-loop p image gone serials flags out₀ low g₀ out g =
     (g ≤ p .Z) × (length out ≡ length out₀)
     × ((ps : List ℕ) → length ps ≡ pointersLen p → LeftFlags p (viewOf p image ps) gone flags → Serials p (viewOf p image ps) gone serials
-    → (j : ℕ) → j < g → getD out j false ≡ remains p (viewOf p image ps) gone j)
+    → (j : ℕ) → j < g → getD out j false ≡ remainsHere p (viewOf p image ps) gone j)
 
 abbrev μ-loop : tie.MeasureT-loop
 μ-loop p image gone serials flags out₀ low g₀ out g = p .Z - g
@@ -55,7 +55,7 @@ loop-again c =
     let s = c .is-kept .result in (
       omega (arith, c .before .if1 .taken),
       length-set (l .out) (l .g) s ∙ l .inv .1,
-      λ ps h x y. set-more (l .out) (l .g) s false (remains p (viewOf p (e .args .image .now) ps) n) (omega (arith, l .inv .1, c .before .if1 .taken, e .pre .1 .3))
+      λ ps h x y. set-more (l .out) (l .g) s false (remainsHere p (viewOf p (e .args .image .now) ps) n) (omega (arith, l .inv .1, c .before .if1 .taken, e .pre .1 .3))
           (l .inv .2 ps h x y) (c .is-kept .ensures ps n h (low-drive .ensures .0) x y),
     )
 

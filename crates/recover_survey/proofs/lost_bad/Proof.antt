@@ -5,11 +5,11 @@ use native.Mathlib.Omega.{arith}
 use borrow.Author.Tests.{not-true, not-false}
 use Rattle.law_basic.specs.Geometry.{ranged}
 use Rattle.law_basic.specs.Ranges.{not-both}
-use Rattle.disk_records.specs.Record.{recOf as recVal}
+use Rattle.disk_records.specs.Record.{recVal}
 use Rattle.recover_groups.specs.Groups.{segmentIn}
 use Rattle.recover_groups.specs.Bases.{group-len-le}
 use Rattle.recover_groups.specs.Chunks.{counts-entered}
-use Rattle.recover_survey.specs.Stripes.{lost-none, lost-some}
+use Rattle.recover_survey.specs.Stripes.{no-lost-bad, lost-some}
 use borrow.Author.Needs.{needs}
 use Rattle.recover_survey.proofs.lost_bad.Statement.{statement}
 use Rattle.recover_survey.proofs.lost_bad.Tie as tie
@@ -32,7 +32,7 @@ returns c =
     let h = c .before .before .before .before .before .pre in
     let p = a .p in
     let w = a .w in
-    λ ps sh rf ct. lost-none p (w .gone) (segmentIn p (a .image .now) ps w) (w .base + a .k)
+    λ ps sh rf ct. no-lost-bad p (w .gone) (segmentIn p (a .image .now) ps w) (w .base + a .k)
     (sym (c .before .any-lost-data .ensures) ∙ not-true (c .before .any-lost-data .result) (c .if1 .taken))
 
 is-all-entered-requires : tie.Need-is-all-entered-requires

@@ -9,7 +9,7 @@ use Rattle.spec.specs.Lists.{any}
 use Rattle.spec.specs.Segments.{segmentOf}
 use Rattle.law_basic.specs.Geometry.{ranged, base-next}
 use Rattle.recover_groups.specs.Groups.{groupLen, groupFault, recsFault, basesFrom}
-use Rattle.recover_survey.specs.Stripes.{Tallied, tallied-none, surveyed, group-next, groups-left, groups-start, groups-ended}
+use Rattle.recover_survey.specs.Stripes.{Tallied, tallied-none, surveyed, group-next, groups-left, faults-start, groups-ended}
 use native.Mathlib.Nat.{zero-mod, zero-min}
 use Rattle.recover_survey.proofs.survey.Statement.{statement}
 use Rattle.recover_survey.proofs.survey.Tie as tie
@@ -36,7 +36,7 @@ loop-holds c =
       zero-mod (p .G),
       omega arith,
       omega arith,
-      (λ _. groups-start p v (a .gone) (a .seg) (r .group-low)),
+      (λ _. faults-start p v (a .gone) (a .seg) (r .group-low)),
       subst (λ (x : ℕ). Tallied p (a .gone) g x (record { bad = false; counted = 0; top = 0; loose = 0 })) (sym (zero-min (p .S))) (tallied-none p (a .gone) g),
     )
 

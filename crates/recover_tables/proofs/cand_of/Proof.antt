@@ -8,7 +8,7 @@ use Rattle.spec.specs.Params.{placeOf}
 use Rattle.recover_groups.specs.Groups.{segmentIn}
 use Rattle.law_basic.specs.Geometry.{Ranged, ranged, data-below}
 use Rattle.recover_addresses.specs.Lies.{zone-is}
-use Rattle.disk_records.specs.Record.{recOf as recVal}
+use Rattle.disk_records.specs.Record.{recVal}
 use Rattle.recover_tables.specs.Ready.{stripe-byte, reading-entered, offset-fits, cand-is}
 use Rattle.recover_tables.proofs.cand_of.Statement.{statement}
 use Rattle.recover_tables.proofs.cand_of.Tie as tie

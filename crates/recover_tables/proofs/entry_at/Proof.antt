@@ -9,7 +9,7 @@ use Rattle.spec.specs.Params.{compactLen}
 use Rattle.recover_groups.specs.Bases.{group-len-fits}
 use Rattle.law_basic.specs.Geometry.{ranged, zone-on-lt}
 use Rattle.recover_addresses.specs.Lies.{zone-is}
-use Rattle.recover_tables.specs.Index.{entry-within}
+use Rattle.recover_tables.specs.Index.{compact-entry-within}
 use Rattle.recover_tables.proofs.entry_at.Statement.{statement}
 use Rattle.recover_tables.proofs.entry_at.Tie as tie
 
@@ -42,7 +42,7 @@ within c =
     let pre = c .before .before .before .before .pre in
     let h = pre .1 in
     let e = at-is c in
-    omega (arith, e, entry-within (a .p) (a .drive) (a .w .seg) (a .w .base) (a .i) (h .1) (h .2) (omega (arith, group-len-fits (a .p) (a .w .base) (omega (arith, h .3)), h .4)))
+    omega (arith, e, compact-entry-within (a .p) (a .drive) (a .w .seg) (a .w .base) (a .i) (h .1) (h .2) (omega (arith, group-len-fits (a .p) (a .w .base) (omega (arith, h .3)), h .4)))
 
 shared-slice-read-result : tie.Need-shared-slice-read-result
 shared-slice-read-result c =

@@ -11,7 +11,7 @@ use Rattle.recover_groups.specs.Chunks.{indexed-of}
 use Rattle.recover_groups.specs.Entering.{rows-next}
 use Rattle.recover_groups.specs.Groups.{groupRecs, segmentIn, Row}
 use Rattle.law_basic.specs.Geometry.{ranged}
-use Rattle.recover_compact.specs.Compacts.{Shows}
+use Rattle.recover_compact.specs.Compacts.{SegmentShown}
 use Rattle.recover_addresses.specs.Lies.{Ground, seg-clean}
 use Rattle.law_drives.specs.Members.{In}
 use Rattle.recover_tables.proofs.index_group.Statement.{statement}
@@ -21,7 +21,7 @@ abbrev Inv-loop : tie.InvT-loop
 Inv-loop p pointers compact w at₀ d₀ at d =
     (d ≤ p .N) × (length at ≡ 2048)
     × ((im : List ℕ) → Ground p im pointers (w .gone) compact → In (w .seg) (remaining p (viewOf p im pointers) (w .gone))
-    → Shows p (viewOf p im pointers) (w .gone) (w .seg) compact
+    → SegmentShown p (viewOf p im pointers) (w .gone) (w .seg) compact
     → (e : ℕ) → e < d → Row p (w .base) (groupRecs p (w .base) (recsOn (segmentIn p im pointers w) e)) e at)
 
 abbrev μ-loop : tie.MeasureT-loop

@@ -2,7 +2,7 @@
 use borrow.Author.Needs.{needs}
 use Rattle.spec.specs.Drives.{View, viewOf}
 use Rattle.law_basic.specs.Geometry.{ranged}
-use Rattle.recover_tables.specs.Head.{opened-is, memory-is}
+use Rattle.recover_tables.specs.Head.{open-found, memory-is}
 use Rattle.recover_tables.proofs.load.Statement.{statement}
 use Rattle.recover_tables.proofs.load.Tie as tie
 
@@ -55,7 +55,7 @@ returns c =
     let s = q .1 .1 .1 .1 .0 in
     let k = q .1 .1 .1 .1 .1 in
     λ fl. memory-is (a .p) v (a .gone) (h .stamp .0) (n .result .0) (u .result) (h .next) (c .state-of .result) (t .last .1 .1 .1 .0) (t .last .1 .1 .1 .1 .0) fl (t .ensures .0)
-    (n .ensures v (a .gone) k s) (opened-is (a .p) v (a .gone) (u .result) (u .ensures .1 (a .image .now) (q .1 .0 .image-long) k)) (t .ensures .1 .1) (c .state-of .ensures)
+    (n .ensures v (a .gone) k s) (open-found (a .p) v (a .gone) (u .result) (u .ensures .1 (a .image .now) (q .1 .0 .image-long) k)) (t .ensures .1 .1) (c .state-of .ensures)
 
 pub load-spec : {M : Type 1} → statement M
 load-spec =

@@ -5,7 +5,7 @@ use native.Mathlib.Omega.{arith}
 use lib.ListN.{length}
 use Rattle.spec.specs.Drives.{View, viewOf}
 use Rattle.spec.specs.Lists.{upFrom}
-use Rattle.recover_groups.specs.Groups.{groupLen, segmentIn, Reads}
+use Rattle.recover_groups.specs.Groups.{groupLen, segmentIn, GroupReads}
 use Rattle.law_basic.specs.Ranges.{length-upFrom}
 use Rattle.law_drives.specs.Segs.{remaining-low}
 use Rattle.recover_tables.specs.Walk.{Walked, walkCands, walked-turn, walked-low, walked-start, tells-known}
@@ -49,7 +49,7 @@ load-if-requires c κs =
     let i = c .before .before .before .before .before .before .before .index-group in
     let x = q .1 .1 .0 in
     let v : View = viewOf (a .p) (a .image .now) (a .pointers .now) in
-    let rd : Reads (a .p) (a .image .now) (a .pointers .now) (a .w) (i .last .1 .1 .1 .1 .0) =
+    let rd : GroupReads (a .p) (a .image .now) (a .pointers .now) (a .w) (i .last .1 .1 .1 .1 .0) =
     record { long = q .0 .whole .pointers-long; full-right = x .3; indexed = i .ensures (a .image .now) (q .0) (x .4) (x .5) } in (
       q .0,
       (

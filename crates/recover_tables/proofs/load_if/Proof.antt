@@ -8,7 +8,7 @@ use Rattle.spec.specs.Drives.{View, viewOf}
 use Rattle.spec.specs.Segments.{Segment, counts}
 use Rattle.recover_groups.specs.Groups.{segmentIn}
 use Rattle.law_basic.specs.Geometry.{Ranged, ranged}
-use Rattle.recover_tables.specs.Ready.{stripe-byte, stripe-below}
+use Rattle.recover_tables.specs.Ready.{stripe-byte, group-stripe-below}
 use Rattle.recover_tables.specs.Walk.{walked-hit, walked-miss}
 use Rattle.recover_tables.proofs.load_if.Statement.{statement}
 use Rattle.recover_tables.proofs.load_if.Tie as tie
@@ -46,7 +46,7 @@ add-t17 c =
     let a = c .before .before .before .before .before .before .before .before .before .before .before .before .before .before .args in
     let q = c .before .before .before .before .before .before .before .before .before .before .before .before .before .before .pre in
     let r : Ranged (a .p) = ranged (a .p) (q .0 .in-range) in
-    omega (arith, q .1 .1 .0 .1, stripe-below (a .p) (a .image .now) (a .pointers .now) (a .w) (a .at .now) (a .k) (q .1 .1 .0 .0 .base-low) (q .1 .1 .0 .0 .stripe-in), r .stripes-high)
+    omega (arith, q .1 .1 .0 .1, group-stripe-below (a .p) (a .image .now) (a .pointers .now) (a .w) (a .at .now) (a .k) (q .1 .1 .0 .0 .base-low) (q .1 .1 .0 .0 .stripe-in), r .stripes-high)
 
 same-length : tie.Need-same-length
 same-length c = c .before .before .before .load-stripe .kept .1 .1 .1 .0

@@ -14,7 +14,7 @@ use Rattle.recover_groups.specs.Groups.{segmentIn}
 use Rattle.law_basic.specs.Geometry.{ranged}
 use Rattle.recover_addresses.specs.Told.{Tells}
 use Rattle.disk_rank.specs.Ranked.{ranked}
-use Rattle.recover_tables.specs.Ready.{standing-counted, standing-low, stripe-below, cand-there, serial-there, stripe-turn}
+use Rattle.recover_tables.specs.Ready.{standing-counted, standing-low, group-stripe-below, cand-there, serial-there, stripe-turn}
 use Rattle.recover_tables.specs.Walk.{firstCands, stripeCands, first-none, first-all, most-none, tells-none, tells-known}
 use Rattle.recover_tables.proofs.load_stripe.Statement.{statement}
 use Rattle.recover_tables.proofs.load_stripe.Tie as tie
@@ -45,7 +45,7 @@ add-s c =
     let a = c .before .before .before .before .before .before .before .before .args in
     let pre = c .before .before .before .before .before .before .before .before .pre in
     let st = pre .1 .1 .0 in
-    omega (arith, stripe-below (a .p) (a .image .now) (a .pointers .now) (a .w) (a .at .now) (a .k) (st .index .base-low) (st .index .stripe-in), ranged (a .p) (pre .0 .in-range) .stripes-high)
+    omega (arith, group-stripe-below (a .p) (a .image .now) (a .pointers .now) (a .w) (a .at .now) (a .k) (st .index .base-low) (st .index .stripe-in), ranged (a .p) (pre .0 .in-range) .stripes-high)
 
 data-count-requires : tie.Need-data-count-requires Inv-loop μ-loop
 data-count-requires c κs =
