@@ -1,10 +1,11 @@
 // Live blocks and the segment that reclaim takes (01, Reclaim).
 ghost use mathlib.Core.Path.{_≡_};
-ghost use mathlib.Core.Bool.{true, false};
+ghost use mathlib.Core.Bool.{true, false, cond};
 ghost use mathlib.Core.List.{List, []};
 ghost use Prim.Native.Nat.{ℕ, _+_, _-_, _*_, _≤_, _<_};
 ghost use lib.Dec.{eqb};
 ghost use lib.ListN.{length};
+ghost use Rattle.spec.specs.Counts.{neverPlace};
 ghost use Rattle.spec.specs.Drives.{viewOf, mkDisk, recordAt, sealedIn};
 ghost use Rattle.spec.specs.Lists.{consIf, any, below};
 ghost use Rattle.spec.specs.Memory.{stateLen, stateOf};
@@ -315,6 +316,33 @@ pub struct Seen {
     pub first: Place,
 }
 
+// The first data block that is not in flight, one more being at a place.
+fn next_idle(
+    p: Params,
+    image: &[u8],
+    pointers: &[u8],
+    bytes: &[u8],
+    first: Place,
+    place: Place,
+) -> Place
+    requires { ⌜ inRange p ≡ true ⌝ }
+    requires { ⌜ Whole p (mkDisk (now image) (now pointers)) ⌝ }
+    requires { ⌜ (place .0 < p .N * p .Z * capacity p) × (isOdd p (place .0) ≡ false) × (length (now bytes) ≡ stateLen) ⌝ }
+    ensures { λ r. ⌜
+        r .0
+        ≡ orElse (first .0) (cond (flying p (viewOf p (now (image .entry)) (now (pointers .entry))) (stateOf (now (bytes .entry))) (place .0)) neverPlace
+        (place .0)) ⌝ }
+{
+    let none = Place::NEVER;
+    if first.0 != none.0 {
+        return first;
+    }
+    if is_flying(p, image, pointers, bytes, place) {
+        return none;
+    }
+    place
+}
+
 // The data block at offset o, the place at + o, if the table has it at the address of its record.
 fn see_block(
     p: Params,
@@ -342,12 +370,10 @@ fn see_block(
     if there.0 != q.0 {
         return seen;
     }
-    let first = seen.first;
-    let idle = idle_step(p, image, pointers, bytes, Idle { first, odd: false }, q);
-    let next = idle.first;
+    let first = next_idle(p, image, pointers, bytes, seen.first, q);
     Seen {
         live: seen.live + 1,
-        first: next,
+        first,
     }
 }
 

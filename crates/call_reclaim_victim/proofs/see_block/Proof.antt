@@ -6,7 +6,10 @@ use Rattle.spec.specs.Drives.{viewOf}
 use Rattle.spec.specs.Params.{addressesLen}
 use Rattle.law_basic.specs.Geometry.{ranged}
 use Rattle.call_reclaim_victim.specs.Vouched.{vouched-skip, vouched-step, vouched-low, data-even, data-live}
+use Rattle.call_reclaim_victim.specs.Waiting.{IdleStepped}
+use Rattle.call_reclaim_victim.specs.declared.Idle.{Idle}
 use borrow.Author.Needs.{needs}
+use mathlib.Core.Bool.{false}
 use mathlib.Core.Path.{refl, sym, ap, _∙_}
 use native.Mathlib.Omega.{arith}
 use Rattle.call_reclaim_victim.proofs.see_block.Statement.{statement}
@@ -28,13 +31,13 @@ clipped-requires c κs =
     let o = c .before .before .before .before .before .before in
     omega (arith, ranged (o .args .p) (o .pre .0) .addresses-low)
 
-add-t19 : tie.Need-add-t19
-add-t19 c =
+add-t17 : tie.Need-add-t17
+add-t17 c =
     let o = c .before .before .before .before .before .before .before in
     omega (arith, in-image (o))
 
-cast-t20 : tie.Need-cast-t20
-cast-t20 c =
+cast-t18 : tie.Need-cast-t18
+cast-t18 c =
     let o = c .before .before .before .before .before .before .before in
     omega (arith, in-image (o))
 
@@ -51,39 +54,48 @@ returns c =
     let v = viewOf (a .p) (a .image .now) (a .pointers .now) in
     (omega arith, vouched-skip (a .p) v (stateOf (a .bytes .now)) (a .addresses .now) (a .g) (a .at + a .o) (a .at + a .o + 1) (a .seen) (omega arith))
 
-idle-step-requires : tie.Need-idle-step-requires
-idle-step-requires c κs =
-    let o = c .before .before .before .before .before .before .before .before .before .before .before .before in
+next-idle-requires : tie.Need-next-idle-requires
+next-idle-requires c κs =
+    let o = c .before .before .before .before .before .before .before .before .before .before .before in
     let a = o .args in
-    let r = ranged (a .p) (o .pre .0) in
+    let p = a .p in
+    let r = ranged p (o .pre .0) in
     let h = o .pre .1 .1 in
-    (o .pre .0, (o .pre .1 .0, (vouched-low (a .p) r (a .drive) (a .g) (a .o) (a .at + a .o) (h .1) (h .2) (h .4) (ap (λ (x : ℕ). x + a .o) (h .3)), h .6)))
+    let q : ℕ = a .at + a .o in
+    let e = ap (λ (x : ℕ). x + a .o) (h .3) in (
+      o .pre .0,
+      (
+        o .pre .1 .0,
+        (vouched-low p r (a .drive) (a .g) (a .o) q (h .1) (h .2) (h .4) e, data-even p r (a .drive) (a .g) (a .o) q (h .1) (h .2) (h .4) e, h .6),
+      ),
+    )
 
-add-t19-2 : tie.Need-add-t19-2
-add-t19-2 c =
-    let o = c .before .before .before .before .before .before .before .before .before .before .before .before .before .before .before in
+add-t17-2 : tie.Need-add-t17-2
+add-t17-2 c =
+    let o = c .before .before .before .before .before .before .before .before .before .before .before .before .before in
     omega (arith, o .pre .1 .1 .5)
 
 returns-2 : tie.Need-returns-2
 returns-2 c =
-    let c4 = c .before .before .before .before in
-    let c7 = c .before .before .before .before .before .before .before in
-    let c8 = c .before .before .before .before .before .before .before .before in
-    let o = c .before .before .before .before .before .before .before .before .before .before .before .before .before .before .before in
-    let idle-step = c .before .before .idle-step in
+    let c5 = c .before .before .before .before .before in
+    let c6 = c .before .before .before .before .before .before in
+    let o = c .before .before .before .before .before .before .before .before .before .before .before .before .before in
+    let next = c .before .next-idle in
     let a = o .args in
     let p = a .p in
     let tb = a .addresses .now in
     let v = viewOf p (a .image .now) (a .pointers .now) in
+    let st = stateOf (a .bytes .now) in
     let r = ranged p (o .pre .0) in
     let h = o .pre .1 .1 in
     let q : ℕ = a .at + a .o in
     let e = ap (λ (x : ℕ). x + a .o) (h .3) in
-    let live = data-live p r (a .drive) (a .g) (a .o) q (h .1) (h .2) (h .4) e tb (c8 .clipped .result) (c8 .clipped .ensures) (sym (c7 .place-at .ensures) ∙ c4 .if1 .left) in
+    let live = data-live p r (a .drive) (a .g) (a .o) q (h .1) (h .2) (h .4) e tb (c6 .clipped .result) (c6 .clipped .ensures) (sym (c5 .place-at .ensures) ∙ c .before .before .if1 .left) in
     let even = data-even p r (a .drive) (a .g) (a .o) q (h .1) (h .2) (h .4) e in
-    let s = idle-step .result in
+    let s : Idle = record { first = next .result; odd = false } in
+    let step : IdleStepped p v st (record { first = a .seen .first; odd = false }) q s = record { first = next .ensures; odd = sym even } in
     let low : q < 4294967295 = omega (arith, in-image (o)) in
-    (omega arith, vouched-step p v (stateOf (a .bytes .now)) tb (a .g) q (a .seen) (record { live = a .seen .live + 1; first = s .first }) s live even low (idle-step .ensures) refl refl)
+    (omega arith, vouched-step p v st tb (a .g) q (a .seen) (record { live = a .seen .live + 1; first = s .first }) s live even low step refl refl)
 
 pub see-block-spec : {M : Type 1} → statement M
 see-block-spec =
@@ -91,10 +103,10 @@ see-block-spec =
     (tie.spec
     record-in-requires
     clipped-requires
-    add-t19
-    cast-t20
+    add-t17
+    cast-t18
     place-at-requires
     returns
-    idle-step-requires
-    add-t19-2
+    next-idle-requires
+    add-t17-2
     returns-2)
