@@ -334,7 +334,7 @@ pub fn enter(
     let next = added(row, address, stamp, write);
     if !has_room(p, next.filled) {
         let s = whole(row.number);
-        disk_blocks::slot_parity(p, inflight, i, s);
+        disk_code::slot_parity(p, inflight, i, s);
     }
     next
 }

@@ -21,7 +21,7 @@ use Rattle.spec.specs.Layout.{group, Rec}
 use Rattle.spec.specs.Lists.{Opt, upFrom, below, all, any, consIf, flat, isIn}
 use Rattle.spec.specs.Lists.Opt.{none}
 use Rattle.spec.specs.Memory.{Memory, slotCount, slots, cell, stripeIn, filledIn, landedIn, entryIn, entriesIn, offsetIn, openSegment, slotOk, stateOk, markLanded, placeAt}
-use Rattle.spec.specs.Params.{between, dataCount, inRange, footers, capacity, addressesLen, compactLen, inflightLen, placeBlock, placeZone, placeDrive, drivesOf}
+use Rattle.spec.specs.Params.{between, parityCount, dataCount, inRange, footers, capacity, addressesLen, compactLen, inflightLen, placeBlock, placeZone, placeDrive, drivesOf}
 use Rattle.spec.specs.Read.{placeFaults}
 use Rattle.law_basic.specs.Geometry.{between-low, between-high, ranged as rangedIn, zone-on-lt}
 use Rattle.law_basic.specs.Ranges.{Test, test, and-left, and-right, all-getD, all-in-below, or-false, any-false}
@@ -77,7 +77,7 @@ land-ready p k m d s e =
 
 module _ (p : Params) (st : State) (fine : stateOk p st ≡ true) where
   abbrev lives : Bool
-  lives = eqb (st .live) 1 && ltb (st .missing) (2 ^ p .N) && leb (ones (st .missing)) 1
+  lives = eqb (st .live) 1 && ltb (st .missing) (2 ^ p .N) && leb (ones (st .missing)) (parityCount p)
 
   state-ok-parts : (leb (st .opened) (p .Z) ≡ true) × (all (slotOk p st) slots ≡ true) × (all (λ o. ltb o (p .S)) (st .offsets) ≡ true)
   unfolding stateOk

@@ -11,11 +11,11 @@ use Rattle.spec.specs.declared.State.{State}
 use Rattle.spec.specs.Bytes.{part}
 use Rattle.spec.specs.Drives.{View, zoneOn}
 use Rattle.spec.specs.Landing.{ready, completes, flightRec, serialAt, landedCand, landedCands, writesIn}
-use Rattle.spec.specs.Layout.{mkRec, dataPosition, dataDrive, isData}
+use Rattle.spec.specs.Layout.{mkRec, dataPosition, dataDrive, isData, parityPosition}
 use Rattle.spec.specs.Lists.{below, only}
 use Rattle.spec.specs.Memory.{mkState, cell, stripeIn, filledIn, landedIn, isWrite, entryIn, entriesIn, offsetIn, isFull, landedMask}
 use Rattle.spec.specs.Params.{placeOf}
-use Rattle.spec.specs.Parity.{parityRec}
+use Rattle.spec.specs.Parity.{encodeRec}
 use Rattle.law_basic.specs.Ranges.{map-below-same}
 use Rattle.law_basic.specs.Splice.{getD-part}
 use Rattle.mem_rows.specs.declared.Row.{Row}
@@ -114,8 +114,8 @@ module _ (st : State) (i : ℕ) where
       let e : stripeIn me 0 ≡ s = stripe-is in
       let a = entry-alone (dataPosition p s d) l in
       let b = row-entries h in
-      (λ j. cond (isData p (e j) d) (entryIn me 0 (dataPosition p (e j) d)) (parityRec (e j) (entriesIn me 0)))
-      ∙ (λ j. cond (isData p s d) (a j) (parityRec s (b j)))
+      (λ j. cond (isData p (e j) d) (entryIn me 0 (dataPosition p (e j) d)) (encodeRec (parityPosition p (e j) d) (e j) (entriesIn me 0)))
+      ∙ (λ j. cond (isData p s d) (a j) (encodeRec (parityPosition p s d) s (b j)))
     where
       stripe-is : stripeIn (alone (slotRow st i)) 0 ≡ stripeIn st i
       stripe-is = unfold alone slotRow stripeIn in refl

@@ -6,7 +6,7 @@ ghost use lib.Dec.{ltb, eqb};
 ghost use Rattle.spec.specs.Landing.{ready, completes, flightRec, writesIn};
 ghost use Rattle.spec.specs.Memory.{slotCount, stripeIn, filledIn, entryIn, entriesIn, offsetIn};
 ghost use Rattle.spec.specs.Params.{inRange};
-ghost use Rattle.spec.specs.Parity.{parityRec};
+ghost use Rattle.spec.specs.Parity.{encodeRec};
 ghost use Rattle.disk_records.specs.Record.{recVal};
 ghost use Rattle.call_land_chunk.specs.Alone.{alone, markRow, freeRow};
 use disk_records::Record;
@@ -110,22 +110,12 @@ pub fn offset_in(row: Row, drive: usize) -> usize
 // 01, What a zone holds: the parity's record, from the filled positions.
 pub fn parity_entry(row: Row) -> Record
     requires { ⌜ filledIn (alone row) 0 ≤ 8 ⌝ }
-    ensures { λ r. ⌜ recVal r ≡ parityRec (stripeIn (alone row) 0) (entriesIn (alone row) 0) ⌝ }
+    ensures { λ r. ⌜ recVal r ≡ encodeRec 0 (stripeIn (alone row) 0) (entriesIn (alone row) 0) ⌝ }
 {
     let n = filled_in(row);
-    let mut a = 0;
-    let mut t = 0;
-    let mut k = 0;
-    while k < n {
-        a = a ^ row.addresses[k];
-        t = t ^ row.stamps[k];
-        k += 1;
-    }
-    Record {
-        address: Address(a),
-        stamp: Stamp(t),
-        stripe: row.number,
-    }
+    let addresses = row.addresses;
+    let stamps = row.stamps;
+    disk_code::encode_record(n, &addresses, &stamps, 0, row.number)
 }
 
 // 01, What a zone holds: the record of the stripe's chunk on drive d.

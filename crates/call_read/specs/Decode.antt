@@ -1,27 +1,25 @@
 -- Decoding from the chunks that the table shows (01, Read; Refusals, 9). Assumes nothing.
-use Rattle.law_basic.specs.Splice.{length-part}
 use Rattle.spec.specs.Layout.{group, compactEntry}
 use Rattle.mem_lookup.specs.Shown.{shows, shown-list}
 use mathlib.Core.Path.{_≡_, refl, sym, ap, _∙_, subst}
-use mathlib.Core.List.{List, [], _∷_, _++_, map, append-nil}
-use mathlib.Core.Bool.{Bool, true, false, cond, not, _&&_}
-use Prim.Native.Nat.{ℕ, zero, suc, _+_, _<_, _*_, _-_}
+use mathlib.Core.List.{List, [], _∷_}
+use mathlib.Core.Bool.{Bool, true, false, not, _&&_}
+use Prim.Native.Nat.{ℕ, _+_, _<_, _*_, _-_}
 use borrow.Author.Tests.{ltb-true}
 use native.Mathlib.Omega.{arith}
 use lib.Dec.{eqb, ltb}
-use lib.ListN.{length, replicate, getD}
+use lib.ListN.{length, getD}
 use Rattle.spec.specs.declared.Params.{Params}
-use Rattle.spec.specs.Bytes.{part, xors, parity}
+use Rattle.spec.specs.Bytes.{part}
 use Rattle.spec.specs.Drives.{View, chunkAt, Disk, pointerOf}
-use Rattle.spec.specs.Lists.{upFrom, below, any, consIf, keep, isNil, firstOr, isIn}
+use Rattle.spec.specs.Lists.{upFrom, below, any, keep, isNil, firstOr, isIn}
 use Rattle.spec.specs.Memory.{shownAt, compactAt}
-use Rattle.spec.specs.Params.{inRange, capacity, placeOf, placeByte, drivesOf, present, unitLen}
-use Rattle.spec.specs.Parity.{Piece, parityPiece}
+use Rattle.spec.specs.Params.{inRange, capacity, placeOf, placeByte, drivesOf, present}
+use Rattle.spec.specs.Parity.{Piece, decodeBlock, decodePiece}
 use Rattle.spec.specs.Read.{shown, storedAt, decodedAt}
-use Rattle.law_basic.specs.Geometry.{data-below, ranged, block-within}
-use Rattle.law_basic.specs.Ranges.{Test, test, not-both, map-append, map-map, keep-below-snoc, first-passes, and-left, any-map, any-false}
-use Rattle.law_basic.specs.Ranges.Test.{yes!, no! }
-use Rattle.law_basic.specs.Xor.{AllLong, parity-none, parity-snoc}
+use Rattle.law_basic.specs.Geometry.{data-below, ranged}
+use Rattle.law_basic.specs.Ranges.{not-both, first-passes, and-left, any-map, any-false}
+use Rattle.law_code.specs.Code.{decode-apart, decode-block-same}
 use Rattle.law_views.specs.Views.{block-view, Whole, seen}
 use Rattle.law_scans.specs.Scans.{any-keep}
 
@@ -33,11 +31,17 @@ shownBlock p v cs z s d = chunkAt v d z (1 + firstOr 0 (shownAt p v cs d z s)) .
 abbrev pub drivesBefore : ℕ → ℕ → List ℕ
 drivesBefore gone d = keep (λ e. not (isIn gone e)) (below d)
 
-pub decoded-is : (p : Params) (v : View) (gone : ℕ) (cs : List ℕ) (z s : ℕ)
-    → decodedAt p v gone cs z s .block ≡ parity (p .B) (map (shownBlock p v cs z s) (drivesBefore gone (p .N)))
-unfolding decodedAt parityPiece storedAt present drivesOf shownBlock
-decoded-is p v gone cs z s =
-    ap (parity (p .B)) (map-map (λ (q : Piece). q .block) (λ d. storedAt p v gone d z (firstOr 0 (shownAt p v cs d z s))) (drivesBefore gone (p .N)))
+pub decoded-is : (p : Params) (v : View) (gone : ℕ) (cs : List ℕ) (d z s : ℕ) → decodedAt p v gone cs d z s .block ≡ decodeBlock p gone s d (shownBlock p v cs z s)
+decoded-is p v gone cs d z s = ap (λ (q : Piece). q .block) (as! ∙ decode-apart p gone s d at) ∙ decode-block-same p gone s d (λ e. at e .block) (shownBlock p v cs z s) (λ e l n. block! e)
+  where
+    at : ℕ → Piece
+    at e = storedAt p v gone e z (firstOr 0 (shownAt p v cs e z s))
+
+    as! : decodedAt p v gone cs d z s ≡ decodePiece p gone s d at
+    as! = unfold decodedAt in refl
+
+    block! : (e : ℕ) → at e .block ≡ shownBlock p v cs z s e
+    block! e = unfold storedAt shownBlock in refl
 
 -- 01, Refusals, 9: a drive that is present and does not show the stripe
 abbrev pub hides : Params → View → ℕ → List ℕ → ℕ → ℕ → ℕ → Bool
@@ -88,51 +92,10 @@ module _ (p : Params) (k : Disk) (cs : List ℕ) (z s d : ℕ) (ok : inRange p �
     offset-shown : o ≡ firstOr 0 (shownAt p (seen p k) cs d z s)
     offset-shown = e ∙ first-same (p .S) (shownAt p (seen p k) cs d z s) nil
 
-    pub block-in-zone : 1 + o < capacity p
+    block-in-zone : 1 + o < capacity p
     block-in-zone = data-below p (ranged p ok) (1 + o) (omega (arith, offset-shown, shown-offset-low))
 
     pub shown-bytes : shownBlock p (seen p k) cs z s d ≡ part (placeByte p (placeOf p d z (1 + o))) (p .B) (k .image)
     unfolding shownBlock
     shown-bytes =
         ap (λ (x : ℕ). chunkAt (seen p k) d z (1 + x) .block) (sym offset-shown) ∙ block-view p k d z hd hz w (1 + o) block-in-zone
-
-  pub shown-long : length (shownBlock p (seen p k) cs z s d) ≡ p .B
-  unfolding unitLen
-  shown-long =
-      let o = firstOr (p .S) (shownAt p (seen p k) cs d z s) in
-      let a = placeByte p (placeOf p d z (1 + o)) in
-      ap length (shown-bytes o refl) ∙ length-part a (p .B) (k .image) (omega (arith, block-within p d z (1 + o) hd hz (block-in-zone o refl), w .image-long))
-
--- one drive more: the exclusive or so far, with its block where it is present
-module _ (n gone : ℕ) (g : ℕ → List ℕ) where
-  long-kept : (i k : ℕ) → ((j : ℕ) → j < i + k → isIn gone j ≡ false → length (g j) ≡ n) → AllLong n (map g (keep (λ e. not (isIn gone e)) (upFrom i k)))
-  unfolding upFrom keep consIf
-  long-kept i zero h = tt
-  long-kept i (suc k) h = go (test (isIn gone i)) (long-kept (suc i) k (λ j p q. h j (omega arith) q))
-    where
-      go : Test (isIn gone i) → AllLong n (map g (keep (λ e. not (isIn gone e)) (upFrom (suc i) k)))
-          → AllLong n (map g (consIf (not (isIn gone i)) i (keep (λ e. not (isIn gone e)) (upFrom (suc i) k))))
-      go (yes! e) r = subst (λ (b : Bool). AllLong n (map g (consIf (not b) i (keep (λ e. not (isIn gone e)) (upFrom (suc i) k))))) (sym e) r
-      go (no! e) r = subst (λ (b : Bool). AllLong n (map g (consIf (not b) i (keep (λ e. not (isIn gone e)) (upFrom (suc i) k))))) (sym e) (h i (omega arith) e, r)
-
-  pub decode-none : replicate n 0 ≡ parity n (map g (drivesBefore gone 0))
-  unfolding below upFrom keep
-  decode-none = sym (parity-none n)
-
-  pub decode-more : (d : ℕ) → ((j : ℕ) → j < d + 1 → isIn gone j ≡ false → length (g j) ≡ n) → (b b′ : List ℕ) → b ≡ parity n (map g (drivesBefore gone d))
-      → b′ ≡ cond (isIn gone d) b (xors b (g d)) → b′ ≡ parity n (map g (drivesBefore gone (d + 1)))
-  unfolding below consIf
-  decode-more d h b b′ e q = q ∙ go (test (isIn gone d))
-    where
-      l : List ℕ
-      l = drivesBefore gone d
-
-      more : (x : Bool) → isIn gone d ≡ x → parity n (map g (drivesBefore gone (d + 1))) ≡ parity n (map g (l ++ consIf (not x) d []))
-      more x f = ap (λ (y : List ℕ). parity n (map g y)) (keep-below-snoc (λ e. not (isIn gone e)) d ∙ ap (λ (y : Bool). l ++ consIf (not y) d []) f)
-
-      go : Test (isIn gone d) → cond (isIn gone d) b (xors b (g d)) ≡ parity n (map g (drivesBefore gone (d + 1)))
-      go (yes! f) =
-          ap (λ (x : Bool). cond x b (xors b (g d))) f ∙ e ∙ ap (λ (y : List ℕ). parity n (map g y)) (sym (append-nil l)) ∙ sym (more true f)
-      go (no! f) =
-          ap (λ (x : Bool). cond x b (xors b (g d))) f ∙ ap (λ (x : List ℕ). xors x (g d)) e
-          ∙ sym (more false f ∙ ap (parity n) (map-append g l (d ∷ [])) ∙ parity-snoc n (map g l) (g d) (long-kept 0 d (λ j p r. h j (omega arith) r)) (h d (omega arith) f))

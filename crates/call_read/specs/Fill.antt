@@ -108,19 +108,19 @@ unfolding decodeFaults readPiece filledBy firstRefusal ninth
 fill-zeros p v gone cs b x h e = ap (mkFill Filled) (e ∙ ap (λ (y : ℕ). replicate y 0) h)
 
 -- 01, Read: the decoded block, or refused for its zone
-module _ (p : Params) (v : View) (gone : ℕ) (cs : List ℕ) (q : ℕ) (b : List ℕ) (z s : ℕ) (ez : z ≡ placeZone p q) (es : s ≡ placeBlock p q - 1) where
+module _ (p : Params) (v : View) (gone : ℕ) (cs : List ℕ) (q : ℕ) (b : List ℕ) (d z s : ℕ) (ed : d ≡ placeDrive p q) (ez : z ≡ placeZone p q) (es : s ≡ placeBlock p q - 1) where
   lost-is : filling p v gone cs (away q) b
-      ≡ filledBy (firstRefusal (zones (consIf (any isNil (shown p v gone cs z s)) z []) ∷ [])) b (decodedAt p v gone cs z s .block)
+      ≡ filledBy (firstRefusal (zones (consIf (any isNil (shown p v gone cs z s)) z []) ∷ [])) b (decodedAt p v gone cs d z s .block)
   unfolding decodeFaults readPiece
-  lost-is = sym (λ j. filledBy (firstRefusal (zones (consIf (any isNil (shown p v gone cs (ez j) (es j))) (ez j) []) ∷ [])) b (decodedAt p v gone cs (ez j) (es j) .block))
+  lost-is = sym (λ j. filledBy (firstRefusal (zones (consIf (any isNil (shown p v gone cs (ez j) (es j))) (ez j) []) ∷ [])) b (decodedAt p v gone cs (ed j) (ez j) (es j) .block))
 
   pub fill-hidden : any isNil (shown p v gone cs z s) ≡ true → mkFill (BadZone z) b ≡ filling p v gone cs (away q) b
   unfolding consIf filledBy
   fill-hidden e =
-      sym (lost-is ∙ ap (λ (x : Bool). filledBy (firstRefusal (zones (consIf x z []) ∷ [])) b (decodedAt p v gone cs z s .block)) e
-      ∙ ap (λ (x : Opt Answer). filledBy x b (decodedAt p v gone cs z s .block)) (zone-fails z []))
+      sym (lost-is ∙ ap (λ (x : Bool). filledBy (firstRefusal (zones (consIf x z []) ∷ [])) b (decodedAt p v gone cs d z s .block)) e
+      ∙ ap (λ (x : Opt Answer). filledBy x b (decodedAt p v gone cs d z s .block)) (zone-fails z []))
 
-  pub fill-decoded : any isNil (shown p v gone cs z s) ≡ false → (x : List ℕ) → x ≡ decodedAt p v gone cs z s .block → mkFill Filled x ≡ filling p v gone cs (away q) b
+  pub fill-decoded : any isNil (shown p v gone cs z s) ≡ false → (x : List ℕ) → x ≡ decodedAt p v gone cs d z s .block → mkFill Filled x ≡ filling p v gone cs (away q) b
   unfolding consIf filledBy firstRefusal ninth
   fill-decoded e x f =
-      ap (mkFill Filled) f ∙ sym (lost-is ∙ ap (λ (y : Bool). filledBy (firstRefusal (zones (consIf y z []) ∷ [])) b (decodedAt p v gone cs z s .block)) e)
+      ap (mkFill Filled) f ∙ sym (lost-is ∙ ap (λ (y : Bool). filledBy (firstRefusal (zones (consIf y z []) ∷ [])) b (decodedAt p v gone cs d z s .block)) e)

@@ -1,11 +1,11 @@
 // The two read calls (01, Read). They change neither drives nor memory, and take the state as its bytes: what they ask of it, they read there.
 ghost use mathlib.Core.Path.{_≡_};
-ghost use mathlib.Core.Bool.{true, false, cond, _&&_, not};
+ghost use mathlib.Core.Bool.{true, false, _&&_, not};
 ghost use mathlib.Core.List.{List, [], _∷_};
-ghost use Prim.Native.Nat.{ℕ, _-_, _<_};
+ghost use Prim.Native.Nat.{ℕ, _+_, _-_, _≤_, _<_};
 ghost use lib.Dec.{ltb};
 ghost use lib.ListN.{length};
-ghost use Rattle.spec.specs.Bytes.{part, xors};
+ghost use Rattle.spec.specs.Bytes.{part};
 ghost use Rattle.spec.specs.Calls.{firstRefusal, mkAfter};
 ghost use Rattle.spec.specs.Calls.Check.{zones};
 ghost use Rattle.spec.specs.Drives.{viewOf, mkDisk};
@@ -225,12 +225,40 @@ fn any_hidden(p: Params, pointers: &[u8], gone: u8, compact: &[u8], zone: usize,
     false
 }
 
-// Adds the chunk that the table shows on a present drive.
-fn add_chunk(
+// Byte offset of the block that the table shows on a drive; 0 for a missing one.
+fn shown_byte(
+    p: Params,
+    pointers: &[u8],
+    gone: u8,
+    compact: &[u8],
+    drive: usize,
+    zone: usize,
+    s: usize,
+) -> usize
+    requires { ⌜ inRange p ≡ true ⌝ }
+    requires { ⌜ (length (now pointers) ≡ pointersLen p) × (length (now compact) ≡ compactLen p) ⌝ }
+    requires { ⌜ (drive < p .N) × (zone < p .Z) × (s < p .S) ⌝ }
+    ensures { λ r. ⌜ (isIn gone drive ≡ false → r + p .B ≤ imageLen p) ⌝ }
+    ensures { λ r. ⌜
+        ((im : List ℕ)
+        → length im ≡ imageLen p
+        → isIn gone drive ≡ false
+        → isNil (shownAt p (viewOf p im (now (pointers .entry))) (now (compact .entry)) drive zone s) ≡ false
+        → shownBlock p (viewOf p im (now (pointers .entry))) (now (compact .entry)) zone s drive ≡ part r (p .B) im) ⌝ }
+{
+    if bits_masks::has_drive(gone, drive) {
+        return 0;
+    }
+    let o = mem_lookup::shown_at(p, pointers, compact, drive, zone, s);
+    disk_shape::block_byte(p, drive, zone, 1 + o)
+}
+
+// 01, Read: the block of a missing drive, decoded from the chunks that the table shows.
+fn decode(
     p: Params,
     image: &[u8],
     pointers: &[u8],
-    missing: u8,
+    gone: u8,
     compact: &[u8],
     drive: usize,
     zone: usize,
@@ -241,45 +269,16 @@ fn add_chunk(
     requires { ⌜ Whole p (mkDisk (now image) (now pointers)) ⌝ }
     requires { ⌜ (length (now compact) ≡ compactLen p) × (length (now block) ≡ p .B) ⌝ }
     requires { ⌜ (drive < p .N) × (zone < p .Z) × (s < p .S) ⌝ }
-    requires { ⌜ (isIn missing drive ≡ false → isNil (shownAt p (viewOf p (now image) (now pointers)) (now compact) drive zone s) ≡ false) ⌝ }
-    ensures { λ _. ⌜
-        now (block .exit)
-        ≡ cond (isIn missing drive) (now (block .entry))
-        (xors (now (block .entry)) (shownBlock p (viewOf p (now (image .entry)) (now (pointers .entry))) (now (compact .entry)) zone s drive)) ⌝ }
-{
-    if bits_masks::has_drive(missing, drive) {
-        return;
-    }
-    let o = mem_lookup::shown_at(p, pointers, compact, drive, zone, s);
-    let at = disk_shape::block_byte(p, drive, zone, 1 + o);
-    let end = at + p.B;
-    disk_blocks::xor_into(block, &image[at..end]);
-}
-
-// 01, Read: the block decoded from the chunks that the table shows.
-fn decode(
-    p: Params,
-    image: &[u8],
-    pointers: &[u8],
-    gone: u8,
-    compact: &[u8],
-    zone: usize,
-    s: usize,
-    block: &mut [u8],
-)
-    requires { ⌜ inRange p ≡ true ⌝ }
-    requires { ⌜ Whole p (mkDisk (now image) (now pointers)) ⌝ }
-    requires { ⌜ (length (now compact) ≡ compactLen p) × (length (now block) ≡ p .B) ⌝ }
-    requires { ⌜ (zone < p .Z) × (s < p .S) ⌝ }
     requires { ⌜ any isNil (shown p (viewOf p (now image) (now pointers)) gone (now compact) zone s) ≡ false ⌝ }
-    ensures { λ _. ⌜ now (block .exit) ≡ decodedAt p (viewOf p (now (image .entry)) (now (pointers .entry))) gone (now (compact .entry)) zone s .block ⌝ }
+    ensures { λ _. ⌜ now (block .exit) ≡ decodedAt p (viewOf p (now (image .entry)) (now (pointers .entry))) gone (now (compact .entry)) drive zone s .block ⌝ }
 {
-    disk_blocks::clear(block);
+    let mut at = [0usize; 8];
     let mut d = 0;
     while d < p.N {
-        add_chunk(p, image, pointers, gone, compact, d, zone, s, block);
+        at[d] = shown_byte(p, pointers, gone, compact, d, zone, s);
         d += 1;
     }
+    disk_code::decode_block(p, image, &at, gone, s, drive, block);
 }
 
 // The second read of a place on the missing drive: decoded, or refused for its zone.
@@ -302,7 +301,8 @@ fn fill_lost(
     if any_hidden(p, pointers, gone, compact, zone, s) {
         return Answer::BadZone(zone as u64);
     }
-    decode(p, image, pointers, gone, compact, zone, s, block);
+    let drive = disk_shape::place_drive(p, q);
+    decode(p, image, pointers, gone, compact, drive, zone, s, block);
     Answer::Filled
 }
 

@@ -1,16 +1,10 @@
 // Blocks of bytes and parts of buffers: copied, cleared, compared, exclusive-ored (01, What a zone holds).
 ghost use mathlib.Core.Path.{_≡_};
-ghost use mathlib.Core.Bool.{true};
-ghost use Prim.Native.Nat.{_+_, _≤_, _<_};
+ghost use Prim.Native.Nat.{_+_, _≤_};
 ghost use lib.ListN.{length, replicate};
 ghost use Rattle.spec.specs.Bytes.{part, splice, xors};
-ghost use Rattle.spec.specs.Layout.{parityDrive, dataDrive};
 ghost use Rattle.spec.specs.Lists.{sameList};
-ghost use Rattle.spec.specs.Memory.{slotByte, setSlotParity};
-ghost use Rattle.spec.specs.Params.{inRange, dataCount, inflightLen};
 ghost use Rattle.law_basic.specs.Turns.{Apart};
-ghost use Rattle.disk_blocks.specs.Slots.{dataParity};
-use spec::Params;
 
 // ---- through a local array: it is apart from what is read and written, so that the compiler makes one move of a copy's two loops,
 // and asks nothing before the loops of an exclusive or
@@ -243,43 +237,4 @@ pub fn same(a: &[u8], b: &[u8]) -> bool
         i += 1;
     }
     off == 0
-}
-
-// Byte offset of a data position's block in its eighth.
-fn data_byte(p: Params, slot: usize, stripe: usize, position: usize) -> usize
-    requires { ⌜ inRange p ≡ true ⌝ }
-    requires { ⌜ (slot < 8) × (position < dataCount p) ⌝ }
-    ensures { λ r. ⌜ (r ≡ slotByte p slot (dataDrive p stripe position)) × (r + p .B ≤ inflightLen p) ⌝ }
-{
-    disk_shape::slot_byte(p, slot, disk_shape::data_drive(p, stripe, position))
-}
-
-// Exclusive-ors the data blocks of an eighth, the first apart, into the parity's place, where the first stands.
-fn add_data(p: Params, inflight: &mut [u8], slot: usize, stripe: usize)
-    requires { ⌜ inRange p ≡ true ⌝ }
-    requires { ⌜ (slot < 8) × (length (now inflight) ≡ inflightLen p) × (part (slotByte p slot (parityDrive p stripe)) (p .B) (now inflight) ≡ dataParity p (now inflight) slot stripe 1) ⌝ }
-    ensures { λ _. ⌜ now (inflight .exit) ≡ setSlotParity p (now (inflight .entry)) slot stripe ⌝ }
-{
-    let n = disk_shape::data_count(p);
-    let b = p.B;
-    let at = disk_shape::slot_byte(p, slot, disk_shape::parity_drive(p, stripe));
-    let mut k = 1;
-    while k < n {
-        let next = data_byte(p, slot, stripe, k);
-        xor_within(inflight, at, next, b);
-        k += 1;
-    }
-}
-
-// 01, Write: parity is worked out in the stripe's eighth when the last data block is in.
-pub fn slot_parity(p: Params, inflight: &mut [u8], slot: usize, stripe: usize)
-    requires { ⌜ inRange p ≡ true ⌝ }
-    requires { ⌜ (slot < 8) × (length (now inflight) ≡ inflightLen p) ⌝ }
-    ensures { λ _. ⌜ now (inflight .exit) ≡ setSlotParity p (now (inflight .entry)) slot stripe ⌝ }
-{
-    let b = p.B;
-    let at = disk_shape::slot_byte(p, slot, disk_shape::parity_drive(p, stripe));
-    let first = data_byte(p, slot, stripe, 0);
-    copy_within(inflight, at, first, b);
-    add_data(p, inflight, slot, stripe);
 }

@@ -3,7 +3,7 @@ ghost use mathlib.Core.Path.{_≡_};
 ghost use mathlib.Core.Bool.{true};
 ghost use Prim.Native.Nat.{_+_, _≤_, _<_};
 ghost use Rattle.spec.specs.Lists.{isMember};
-ghost use Rattle.spec.specs.Params.{between, blockSizes, inRange, dataCount, spareLen, perFooter, footers, capacity, unitLen, imageLen, pointersLen};
+ghost use Rattle.spec.specs.Params.{between, blockSizes, inRange, parityCount, dataCount, spareLen, perFooter, footers, capacity, unitLen, imageLen, pointersLen};
 ghost use Rattle.spec.specs.Params.{addressesLen, compactLen, inflightLen, placeOf, placeBlock, placeZone, placeDrive, placeByte};
 ghost use Rattle.spec.specs.Layout.{parityDrive, dataDrive, dataPosition, isData, group, compactEntry};
 ghost use Rattle.spec.specs.Drives.{pointerByte, zoneOn};
@@ -83,7 +83,15 @@ pub fn in_range(p: Params) -> bool
     if !is_between(1, 256, p.G) {
         return false;
     }
-    is_between(1, (p.Z - 3) * p.S * (p.N - 1), p.L)
+    let n = p.N - parity_count(p);
+    is_between(1, (p.Z - 3) * p.S * n, p.L)
+}
+
+// Parities of a stripe; today one (02, item 5).
+pub fn parity_count(p: Params) -> usize
+    ensures { λ r. ⌜ (r ≡ parityCount p) × (1 ≤ r) × (r ≤ 2) ⌝ }
+{
+    1
 }
 
 // Data positions of a stripe.
@@ -91,7 +99,7 @@ pub fn data_count(p: Params) -> usize
     requires { ⌜ inRange p ≡ true ⌝ }
     ensures { λ r. ⌜ (r ≡ dataCount p) × (2 ≤ r) × (r ≤ 7) ⌝ }
 {
-    p.N - 1
+    p.N - parity_count(p)
 }
 
 // Records of a footer block.

@@ -8,13 +8,13 @@ use lib.Arith.{digits-lt, digits-div, digits-mod, lt-of-le-ne}
 use lib.Dec.{leb, ltb, eqb}
 use native.Mathlib.Nat.{suc-mul, mul-assoc, le-of-eq, le-trans, sub-le, mul-le-mul-right, mul-le-mul, div-add-mod', div-mul-le-self, le-div-iff-mul-le}
 use native.Mathlib.Nat.{div-lt-iff-lt-mul, lt-div-mul-add, mod-lt, add-mod-right}
-use borrow.Author.Tests.{leb-true, eqb-false, not-true, lt-ltb, le-ltb, le-leb, eq-eqb, ne-eqb}
+use borrow.Author.Tests.{leb-true, eqb-true, eqb-false, not-true, lt-ltb, le-ltb, le-leb, eq-eqb, ne-eqb}
 use Rattle.spec.specs.Bytes.{widthsOf}
 use Rattle.spec.specs.Drives.{pointerByte, zoneOn}
 use Rattle.spec.specs.Layout.{parityDrive, dataDrive, dataPosition, isData}
 use Rattle.spec.specs.Lists.{all, isMember, total}
 use Rattle.spec.specs.Memory.{compactAt, slotByte}
-use Rattle.spec.specs.Params.{between, blockSizes, dataCount, mostAddresses, inRange, recordTable, recordWidths, spareLen, perFooter, footers, capacity, unitLen}
+use Rattle.spec.specs.Params.{between, blockSizes, parityCount, dataCount, mostAddresses, inRange, recordTable, recordWidths, spareLen, perFooter, footers, capacity, unitLen}
 use Rattle.spec.specs.Params.{zoneLen, driveLen, imageLen, pointersLen, compactLen, inflightLen, placeOf, placeBlock, placeZone, placeDrive, placeByte}
 use Rattle.spec.specs.declared.Params.{Params}
 use Rattle.law_basic.specs.Ranges.{and-left, and-right, and-both, not-both, member-all}
@@ -185,11 +185,11 @@ module _ (p : Params) (r : Ranged p) where
       prod-le (8 * p .N) (p .B) 64 4096 262144 h (r .block-high) (omega arith)
 
   pub data-count-low : 2 ≤ dataCount p
-  unfolding dataCount
+  unfolding dataCount parityCount
   data-count-low = omega (arith, r .drives-low)
 
   pub data-count-high : dataCount p ≤ 7
-  unfolding dataCount
+  unfolding dataCount parityCount
   data-count-high = omega (arith, r .drives-high)
 
   pub most-addresses-high : mostAddresses p ≤ 468378645
@@ -201,6 +201,15 @@ module _ (p : Params) (r : Ranged p) where
 
   pub addresses-all : p .L ≤ 468378645
   addresses-all = le-trans (r .addresses-high) most-addresses-high
+
+-- 01, What a zone holds: a stripe has a parity, and two at the most (02, item 5)
+pub parity-count-low : (p : Params) → 1 ≤ parityCount p
+unfolding parityCount
+parity-count-low p = omega arith
+
+pub parity-count-high : (p : Params) → parityCount p ≤ 2
+unfolding parityCount
+parity-count-high p = omega arith
 
 -- ---- places: they tell the drive, the zone and the block
 
@@ -298,7 +307,7 @@ module _ (p : Params) (s i : ℕ) where
           simp (e, f)
 
   pub data-drive-lt : i < dataCount p → dataDrive p s i < p .N
-  unfolding dataDrive dataCount
+  unfolding dataDrive dataCount parityCount
   data-drive-lt k = go (decLt i (parityDrive p s))
     where
       go : Dec (i < parityDrive p s) → dataDrive p s i < p .N
@@ -309,6 +318,19 @@ pub data-not-parity : (p : Params) (s i : ℕ) → dataDrive p s i ≡ parityDri
 unfolding isData
 data-not-parity p s i e =
     not-both (isData p s (dataDrive p s i)) (drive-is-data p s i) (ap (λ (x : Bool). not x) (eq-eqb (dataDrive p s i) (parityDrive p s) e))
+
+-- 01, What a zone holds: the parity drive is the one without data
+pub parity-no-data : (p : Params) (s : ℕ) → isData p s (parityDrive p s) ≡ false
+unfolding isData
+parity-no-data p s = ap (λ (x : Bool). not x) (eq-eqb (parityDrive p s) (parityDrive p s) refl)
+
+pub no-data-parity : (p : Params) (s d : ℕ) → isData p s d ≡ false → d ≡ parityDrive p s
+unfolding isData
+no-data-parity p s d e = eqb-true d (parityDrive p s) (not-false (eqb d (parityDrive p s)) e)
+  where
+    not-false : (b : Bool) → not b ≡ false → b ≡ true
+    not-false true h = refl
+    not-false false h = absurd (not-both true refl h)
 
 pub drive-position : (p : Params) (s d : ℕ) → isData p s d ≡ true → dataDrive p s (dataPosition p s d) ≡ d
 unfolding isData dataPosition dataDrive
@@ -326,7 +348,7 @@ drive-position p s d k = go (decLt d (parityDrive p s))
         simp (e, f) (omega arith)
 
 pub position-lt : (p : Params) (s d : ℕ) → isData p s d ≡ true → d < p .N → dataPosition p s d < dataCount p
-unfolding isData dataPosition dataCount parityDrive
+unfolding isData dataPosition dataCount parityCount parityDrive
 position-lt p s d k hd = go (decLt d (parityDrive p s))
   where
     other : d ≡ parityDrive p s → ⊥
@@ -335,7 +357,7 @@ position-lt p s d k hd = go (decLt d (parityDrive p s))
     top : parityDrive p s ≤ p .N - 1
     top = sub-le (p .N - 1) (s % p .N)
 
-    go : Dec (d < parityDrive p s) → dataPosition p s d < p .N - 1
+    go : Dec (d < parityDrive p s) → dataPosition p s d < dataCount p
     go (yes h) = let e : ltb d (parityDrive p s) ≡ true = lt-ltb d (parityDrive p s) h in rw e (omega (arith, top))
     go (no h) =
         let n : parityDrive p s < d = lt-of-le-ne (omega arith) (λ q. other (sym q)) in

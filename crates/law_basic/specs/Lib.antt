@@ -2,6 +2,7 @@ pub mod Splice
 pub mod Be
 pub mod Le
 pub mod Ranges
+pub mod Each
 pub mod Xor
 pub mod Mask
 pub mod Sections

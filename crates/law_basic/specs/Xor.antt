@@ -4,13 +4,14 @@ use mathlib.Core.List.{map, List, [], _∷_, _++_}
 use Prim.Native.Nat.{ℕ, zero, suc, _+_, _*_, _/_, _%_, _^_, _≤_, _<_}
 use native.Mathlib.Omega.{arith}
 use lib.ListN.{length, getD, replicate, length-replicate}
-use lib.Bits.{differ, bitXor, xor-step, xor-zero-l, xor-zero-r, xor-comm, xor-lt, xor-self, xor-shr, xor-mod}
+use lib.Bits.{differ, bitXor, xor-step, xor-zero-l, xor-zero-r, xor-lt, xor-self, xor-shr, xor-mod}
 use lib.Arith.{bin-ind}
 use lib.Pow.{pow-pos}
 use lib.Dec.{lit<}
 use native.Mathlib.Nat.{le-of-suc-le-suc, not-suc-le-zero, mod-lt}
 use Rattle.spec.specs.Bytes.{part, xors, parity, xorAll}
 use Rattle.spec.specs.Lists.{upFrom, below}
+use Rattle.law_basic.specs.Each.{Each}
 use Rattle.law_basic.specs.Ranges.{map-below-snoc}
 use Rattle.law_basic.specs.Splice.{length-part, part-suc}
 
@@ -60,13 +61,6 @@ length-xors [] t = refl
 length-xors (a ∷ s) [] = refl
 length-xors (a ∷ s) (b ∷ t) = ap suc (length-xors s t)
 
-pub xors-comm : (s t : List ℕ) → length s ≡ length t → xors s t ≡ xors t s
-unfolding xors
-xors-comm [] [] h = refl
-xors-comm [] (b ∷ t) h = absurd (let q : ⊥ = omega arith in q)
-xors-comm (a ∷ s) [] h = absurd (let q : ⊥ = omega arith in q)
-xors-comm (a ∷ s) (b ∷ t) h = ap₂ _∷_ (xor-comm a b) (xors-comm s t (omega arith))
-
 pub xors-assoc : (s t u : List ℕ) → length s ≡ length t → length t ≡ length u → xors (xors s t) u ≡ xors s (xors t u)
 unfolding xors
 xors-assoc [] t u h k = refl
@@ -74,44 +68,15 @@ xors-assoc (a ∷ s) [] u h k = absurd (let q : ⊥ = omega arith in q)
 xors-assoc (a ∷ s) (b ∷ t) [] h k = absurd (let q : ⊥ = omega arith in q)
 xors-assoc (a ∷ s) (b ∷ t) (c ∷ u) h k = ap₂ _∷_ (xor-assoc a b c) (xors-assoc s t u (omega arith) (omega arith))
 
-pub xors-back : (s t : List ℕ) → length s ≡ length t → xors (xors s t) t ≡ s
-unfolding xors
-xors-back [] t h = refl
-xors-back (a ∷ s) [] h = absurd (let q : ⊥ = omega arith in q)
-xors-back (a ∷ s) (b ∷ t) h = ap₂ _∷_ (xor-back a b) (xors-back s t (omega arith))
-
 -- ---- parity of several blocks of n bytes
 
 abbrev pub AllLong : ℕ → List (List ℕ) → Type 0
-AllLong n [] = Unit {0}
-AllLong n (b ∷ bs) = (length b ≡ n) × AllLong n bs
+AllLong n bs = Each (λ (b : List ℕ). length b ≡ n) bs
 
 pub length-parity : (n : ℕ) (bs : List (List ℕ)) → AllLong n bs → length (parity n bs) ≡ n
 unfolding parity
 length-parity n [] h = length-replicate n 0
 length-parity n (b ∷ bs) h = length-xors b (parity n bs) ∙ h .0
-
-drop-one : (n : ℕ) (xs : List (List ℕ)) (d : List ℕ) (ys : List (List ℕ)) → AllLong n (xs ++ d ∷ ys) → AllLong n (xs ++ ys)
-drop-one n [] d ys h = h .1
-drop-one n (x ∷ xs) d ys h = (h .0, drop-one n xs d ys (h .1))
-
--- x cancels on both sides
-cancel : (x s t : List ℕ) → length x ≡ length s → length s ≡ length t → xors (xors x s) (xors x t) ≡ xors s t
-cancel x s t h k =
-    let l : length x ≡ length (xors x t) = sym (length-xors x t) in
-    ap (λ (u : List ℕ). xors u (xors x t)) (xors-comm x s h)
-    ∙ xors-assoc s x (xors x t) (sym h) l
-    ∙ ap (xors s) (xors-comm x (xors x t) l ∙ ap (λ (u : List ℕ). xors u x) (xors-comm x t (h ∙ k)) ∙ xors-back t x (sym (h ∙ k)))
-
--- a block is the exclusive or of the parity and the parity of the others, wherever it stands
-pub parity-decodes : (n : ℕ) (xs : List (List ℕ)) (d : List ℕ) (ys : List (List ℕ)) → AllLong n (xs ++ d ∷ ys)
-    → xors (parity n (xs ++ d ∷ ys)) (parity n (xs ++ ys)) ≡ d
-unfolding parity
-parity-decodes n [] d ys h = xors-back d (parity n ys) (h .0 ∙ sym (length-parity n ys (h .1)))
-parity-decodes n (x ∷ xs) d ys h =
-    let p = length-parity n (xs ++ d ∷ ys) (h .1) in
-    let q = length-parity n (xs ++ ys) (drop-one n xs d ys (h .1)) in
-    cancel x (parity n (xs ++ d ∷ ys)) (parity n (xs ++ ys)) (h .0 ∙ sym p) (p ∙ sym q) ∙ parity-decodes n xs d ys (h .1)
 
 -- what is exclusive-ored with zeros stays
 pub xors-zeros : (s : List ℕ) → xors s (replicate (length s) 0) ≡ s
@@ -192,16 +157,6 @@ pub xorAll-lt : (k : ℕ) (l : List ℕ) → ((i : ℕ) → i < length l → get
 unfolding xorAll
 xorAll-lt k [] h = pow-pos k
 xorAll-lt k (a ∷ l) h = xor-lt k a (xorAll l) (h 0 (omega arith)) (xorAll-lt k l (λ i p. h (suc i) (omega arith)))
-
--- a number is the exclusive or of all and of the others, wherever it stands
-pub xorAll-decode : (l : List ℕ) (d : ℕ) (m : List ℕ) → bitXor (xorAll (l ++ d ∷ m)) (xorAll (l ++ m)) ≡ d
-unfolding xorAll
-xorAll-decode l d m =
-    let x = xorAll l in
-    let y = xorAll m in
-    ap₂ bitXor (xorAll-append l (d ∷ m)) (xorAll-append l m)
-    ∙ ap (λ (z : ℕ). bitXor z (bitXor x y)) (ap (bitXor x) (xor-comm d y) ∙ sym (xor-assoc x y d) ∙ xor-comm (bitXor x y) d)
-    ∙ xor-back d (bitXor x y)
 
 pub xorAll-below-snoc : (f : ℕ → ℕ) (n : ℕ) → xorAll (map f (below (n + 1))) ≡ bitXor (xorAll (map f (below n))) (f n)
 xorAll-below-snoc f n = ap xorAll (map-below-snoc f n) ∙ xorAll-snoc (map f (below n)) (f n)

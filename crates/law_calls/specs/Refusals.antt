@@ -10,6 +10,7 @@ use Rattle.spec.specs.declared.Answer.{Answer}
 use Rattle.spec.specs.declared.Answer.the-variants.{Refused, BadZone, Cut}
 use Rattle.spec.specs.declared.Params.{Params}
 use Rattle.spec.specs.declared.State.{State}
+use Rattle.spec.specs.Params.{parityCount}
 use Rattle.law_basic.specs.Stores.{stores-all, refused-same, done-all, cut-prefix}
 use lib.ListN.{length, take}
 use mathlib.Core.Bool.{Bool, true, false, not, _&&_}
@@ -112,7 +113,7 @@ refusal-kind (zones (z ∷ zs) ∷ cs) a q = let e : BadZone (least z zs) ≡ a 
 pub next-low : (p : Params) (st : State) → stateOk p st ≡ true → st .next ≤ p .S
 unfolding stateOk
 next-low p st h =
-    let a = eqb (st .live) 1 && ltb (st .missing) (2 ^ p .N) && leb (ones (st .missing)) 1 && leb (st .opened) (p .Z) in
+    let a = eqb (st .live) 1 && ltb (st .missing) (2 ^ p .N) && leb (ones (st .missing)) (parityCount p) && leb (st .opened) (p .Z) in
     let b = leb (st .next) (p .S) in
     let c = all (slotOk p st) slots in
     let d = all (λ o. ltb o (p .S)) (st .offsets) in

@@ -5,14 +5,10 @@ use native.Mathlib.Nat.{mul-le-mul}
 use native.Mathlib.Omega.{arith}
 use Rattle.spec.specs.declared.Params.{Params}
 use Rattle.spec.specs.Counts.{neverPlace}
-use Rattle.spec.specs.Params.{dataCount, footers, capacity, placeOf}
+use Rattle.spec.specs.Params.{footers, capacity, placeOf}
 use Rattle.law_basic.specs.Geometry.{Ranged, footers-low, capacity-high}
 
 module _ (p : Params) (r : Ranged p) where
-  pub data-count : dataCount p + 1 ≡ p .N
-  unfolding dataCount
-  data-count = omega (arith, r .drives-low)
-
   pub capacity-is : capacity p ≡ 1 + p .S + footers p
   unfolding capacity
   capacity-is = refl

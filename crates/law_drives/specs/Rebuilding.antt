@@ -11,36 +11,29 @@ use native.Mathlib.Omega.{arith}
 use lib.Dec.{eqb}
 use lib.ListN.{length, getD, length-map}
 use Rattle.spec.specs.declared.Params.{Params}
-use Rattle.spec.specs.Bytes.{parity}
 use Rattle.spec.specs.Drives.{Chunk, mkChunk, noChunk, Zone, View, zoneAt, pointerAt, Store, storeView, storeAll, zoneOn, zeroSpare}
 use Rattle.spec.specs.Drives.Store.{put, reset}
 use Rattle.spec.specs.Layout.{headerBlock, Rec, mkRec, recordBytes, footerBlock}
 use Rattle.spec.specs.Lists.{below, flat, isIn}
-use Rattle.spec.specs.Params.{footers, named, present}
-use Rattle.spec.specs.Parity.{Piece, mkPiece, parityPiece}
+use Rattle.spec.specs.Params.{footers, named}
+use Rattle.spec.specs.Parity.{Piece, mkPiece}
 use Rattle.spec.specs.Rebuild.{rebuiltZone, rebuildStores}
 use Rattle.spec.specs.Segments.{remaining, Segment, segmentOf, segments, offsetOn, hasChunk, counts, counted, storedPiece, pieceOf, putPiece}
 use Rattle.law_basic.specs.Fields.{length-record}
 use Rattle.law_basic.specs.Geometry.{Ranged}
 use Rattle.law_basic.specs.Ranges.{length-below, map-append, map-map, getD-map, getD-map-below, length-keep}
-use Rattle.law_basic.specs.Xor.{AllLong, length-parity}
+use Rattle.law_code.specs.Chunks.{chunk-decoded}
+use Rattle.law_code.specs.Code.{decode-long, decode-apart}
 use Rattle.law_drives.specs.Frame.{Agree}
-use Rattle.law_drives.specs.Laid.{bytes-record, Long}
+use Rattle.law_drives.specs.Laid.{bytes-record}
 use Rattle.law_drives.specs.Members.{In, in-append, map-in, flat-in, keep-in, flat-cong, keep-nothing, flat-nothing, keep-map, flat-map, below-in, in-getD, nil-append}
 use Rattle.law_drives.specs.Puts.{hits-append, hits-flat, putAt, hits-puts, keep-one-below, flat-one, room-puts, room-append, header-sound, data-sound, footer-sound}
 use Rattle.law_drives.specs.Range.{capacity-is, capacity-over}
-use Rattle.law_drives.specs.Segs.{present-in, remaining-low, data-low, zone-by, seg-is, chunk-at}
+use Rattle.law_drives.specs.Segs.{remaining-low, data-low, zone-by, seg-is, chunk-at}
 use Rattle.law_drives.specs.Spots.{counts-in}
 use Rattle.law_drives.specs.Tables.{remains, remaining-is}
 use Rattle.law_drives.specs.Tests.{clash, and-false-left, cond-false, eqb-self}
 use Rattle.law_drives.specs.Zones.{Bytes, SoundChunk, Shaped, hitsAt, zoneStore, hits, zone-after, Room, Within, Roomy}
-
-all-long : (n : ℕ) (bs : List (List ℕ)) → Long n bs → AllLong n bs
-all-long n [] h = tt
-all-long n (b ∷ bs) h = (h b (inl refl), all-long n bs (λ c m. h c (inr m)))
-
-pub parity-length : (n : ℕ) (bs : List (List ℕ)) → Long n bs → length (parity n bs) ≡ n
-parity-length n bs h = length-parity n bs (all-long n bs h)
 
 pub counted-low : (p : Params) (gone : ℕ) (g : Segment) → length (counted p gone g) ≤ p .S
 unfolding counted
@@ -76,13 +69,9 @@ module _ (p : Params) (r : Ranged p) (v : View) (sh : Shaped p v) where
     x = segmentOf p v gone g
 
     decoded-long : (s : ℕ) → counts p gone x s ≡ true → length (pieceOf p gone x s d .block) ≡ p .B
-    unfolding pieceOf parityPiece
-    decoded-long s c = rw lost (parity-length (p .B) (map (λ (q : Piece). q .block) (map (storedPiece x s) (present p gone)))
-        (λ b m.
-        let (q, i, e) = map-in (λ (q : Piece). q .block) (map (storedPiece x s) (present p gone)) b m in
-        let (y, j, f) = map-in (storedPiece x s) (present p gone) q i in
-        let (hy, ny) = present-in p gone y j in
-        ap length (e ∙ ap (λ (q : Piece). q .block) f) ∙ stored-long gone g s y hg hy ny (counts-in p gone x s y c hy ny)))
+    decoded-long s c =
+        ap (λ (q : Piece). length (q .block)) (chunk-decoded p gone x s d lost ∙ decode-apart p gone s d (storedPiece x s))
+        ∙ decode-long p gone s d (λ e. storedPiece x s e .block) (λ e he ne. stored-long gone g s e hg he ne (counts-in p gone x s e c he ne))
 
     abbrev lostPieces : List Piece
     lostPieces = map (λ s. pieceOf p gone x s d) (counted p gone x)

@@ -11,20 +11,22 @@ use native.Mathlib.Omega.{arith}
 use lib.Dec.{ltb, eqb}
 use lib.ListN.{length, getD, length-map}
 use Rattle.spec.specs.declared.Params.{Params}
-use Rattle.spec.specs.Bytes.{parity}
 use Rattle.spec.specs.Drives.{Chunk, mkChunk, noChunk, Zone, View, zoneAt, pointerAt, chunkAt, Store, resetZone, storeView, storeAll, zoneOn, sealedIn}
 use Rattle.spec.specs.Drives.{dataStored, recordIn, zeroSpare, headerStores, resetStores}
 use Rattle.spec.specs.Drives.Store.{put, reset}
-use Rattle.spec.specs.Layout.{dataDrive, dataPosition, isData, dataDrives, headerBlock, headerSerial, headerCopied, Rec, mkRec, recordBytes, recordOf}
+use Rattle.spec.specs.Layout.{dataDrive, dataPosition, isData, parityPosition, dataDrives, headerBlock, headerSerial, headerCopied, Rec, mkRec, recordBytes, recordOf}
 use Rattle.spec.specs.Lists.{upFrom, below, all, consIf, keep}
 use Rattle.spec.specs.Params.{dataCount, capacity, drivesOf, present}
-use Rattle.spec.specs.Parity.{Piece, mkPiece, parityRec, parityPiece}
+use Rattle.spec.specs.Parity.{Piece, mkPiece, encodeBlock, encodeRec, encodePiece}
 use Rattle.spec.specs.Restart.{isWhole, renumbered, movedPieces, movedOn, movedStripe, movedStripes, rewriteStores, dropStores}
 use Rattle.spec.specs.Segments.{headerAt, Segment, segmentOf, segments, hasChunk, counts, counted, storedPiece, putPiece, greatestSerial}
+use Rattle.law_basic.specs.Each.{each-map, each-data}
 use Rattle.law_basic.specs.Geometry.{Ranged, data-drive-lt, position-lt}
 use Rattle.law_basic.specs.Mask.{isIn-empty}
 use Rattle.law_basic.specs.Ranges.{Test, test, length-upFrom, length-below, getD-map, getD-map-below}
 use Rattle.law_basic.specs.Ranges.Test.{yes!, no! }
+use Rattle.law_code.specs.Chunks.{moved-is-data, moved-is-parity}
+use Rattle.law_code.specs.Code.{encode-long, encode-stripe, encode-apart}
 use Rattle.law_views.specs.Views.{blocks-long}
 use Rattle.law_drives.specs.Accept.{Accepted}
 use Rattle.law_drives.specs.Dropping.{drop-same, drop-empty, drop-used, kept-less, kept-once, kept-known, kept-no-copy, drop-tidy}
@@ -34,7 +36,7 @@ use Rattle.law_drives.specs.Members.{In, in-append, map-in, in-all, keep
 use Rattle.law_drives.specs.Mending.{Mended, shaped-a}
 use Rattle.law_drives.specs.Puts.{hits-append, putAt, hits-drives, hits-resets, hits-headers, putAll, puts-pointer, puts-new, room-puts, header-sound, data-sound}
 use Rattle.law_drives.specs.Range.{capacity-over}
-use Rattle.law_drives.specs.Rebuilding.{parity-length, counted-low, counted-in, pieceChunk, stored-long}
+use Rattle.law_drives.specs.Rebuilding.{counted-low, counted-in, pieceChunk, stored-long}
 use Rattle.law_drives.specs.Resets.{reset-within}
 use Rattle.law_drives.specs.Segs.{present-in, data-low, low-data, seg-is, serial-is, has-chunk, no-chunk}
 use Rattle.law_drives.specs.Settled.{low-first, SameZones, zones-header, zones-pointer, zones-used, sealed-full}
@@ -122,20 +124,25 @@ module _ (p : Params) (r : Ranged p) (v : View) (sh : Shaped p v) (acc : Accepte
     on e = movedOn p qs k e
 
     pub moved-data : (e : ℕ) → isData p k e ≡ true → e < p .N → on e ≡ renumbered k (storedPiece x s (dataDrive p s (dataPosition p k e)))
-    moved-data e q he = as! q ∙ qs-at (dataPosition p k e) (position-lt p k e q he)
-      where
-        as! : isData p k e ≡ true → movedOn p qs k e ≡ getD qs (dataPosition p k e) (mkPiece [] (mkRec 0 0 0))
-        as! q = unfold movedOn in cond-true (isData p k e) (getD qs (dataPosition p k e) (mkPiece [] (mkRec 0 0 0))) (parityPiece p k qs) q
+    moved-data e q he = moved-is-data p qs k e q ∙ qs-at (dataPosition p k e) (position-lt p k e q he)
 
-    moved-parity : (e : ℕ) → isData p k e ≡ false → on e ≡ parityPiece p k qs
-    moved-parity e q = unfold movedOn in cond-false (isData p k e) (getD qs (dataPosition p k e) (mkPiece [] (mkRec 0 0 0))) (parityPiece p k qs) q
+    qs-map : qs ≡ map (λ d. renumbered k (storedPiece x s d)) (dataDrives p s)
+    qs-map = unfold movedPieces in refl
+
+    rewrite-made : (e : ℕ) → isData p k e ≡ false → on e
+        ≡ mkPiece (encodeBlock (p .B) (parityPosition p k e) (map (λ d. renumbered k (storedPiece x s d) .block) (dataDrives p s)))
+        (encodeRec (parityPosition p k e) k (map (λ d. renumbered k (storedPiece x s d) .rec) (dataDrives p s)))
+    rewrite-made e q =
+        moved-is-parity p qs k e q
+        ∙ ap (encodePiece p (parityPosition p k e) k) qs-map
+        ∙ encode-apart p (parityPosition p k e) k (λ d. renumbered k (storedPiece x s d)) (dataDrives p s)
 
     moved-stripe : (e : ℕ) → e < p .N → on e .rec .stripe ≡ k
     moved-stripe e he = go (test (isData p k e))
       where
         go : Test (isData p k e) → on e .rec .stripe ≡ k
         go (yes! q) = ap (λ (y : Piece). y .rec .stripe) (moved-data e q he) ∙ (unfold renumbered in refl)
-        go (no! q) = ap (λ (y : Piece). y .rec .stripe) (moved-parity e q) ∙ (unfold parityPiece parityRec in refl)
+        go (no! q) = ap (λ (y : Piece). y .rec .stripe) (rewrite-made e q) ∙ encode-stripe (parityPosition p k e) k (map (λ d. renumbered k (storedPiece x s d) .rec) (dataDrives p s))
 
     module _ (cn : counts p 0 x s ≡ true) where
       stored-b : (d : ℕ) → d < p .N → length (storedPiece x s d .block) ≡ p .B
@@ -155,15 +162,11 @@ module _ (p : Params) (r : Ranged p) (v : View) (sh : Shaped p v) (acc : Accepte
               ap (λ (y : Piece). length (y .block)) (moved-data e q he)
               ∙ ap length (block! (storedPiece x s (dataDrive p s (dataPosition p k e))))
               ∙ stored-b (dataDrive p s (dataPosition p k e)) (drive! (dataPosition p k e) (position-lt p k e q he))
-          go (no! q) = ap (λ (y : Piece). length (y .block)) (moved-parity e q) ∙ as! (parity-length (p .B) (map (λ (y : Piece). y .block) qs)
-              (λ b m.
-              let (y, i, f) = map-in (λ (y : Piece). y .block) qs b m in
-              let (d, j, h) = map-in (λ d. renumbered k (storedPiece x s d)) (map (dataDrive p s) (below (dataCount p))) y (subst (λ (l : List Piece). In y l) qs-is i) in
-              let (n, a, w) = map-in (dataDrive p s) (below (dataCount p)) d j in
-              ap length (f ∙ ap (λ (u : Piece). u .block) h ∙ block! (storedPiece x s d)) ∙ stored-b d (subst (λ (u : ℕ). u < p .N) (sym w) (drive! n (below-in (dataCount p) n a)))))
-            where
-              as! : length (parity (p .B) (map (λ (y : Piece). y .block) qs)) ≡ p .B → length (parityPiece p k qs .block) ≡ p .B
-              as! e = unfold parityPiece in e
+          go (no! q) =
+              ap (λ (y : Piece). length (y .block)) (rewrite-made e q)
+              ∙ encode-long (p .B) (parityPosition p k e) (map (λ d. renumbered k (storedPiece x s d) .block) (dataDrives p s))
+              (each-map (λ (b : List ℕ). length b ≡ p .B) (λ d. renumbered k (storedPiece x s d) .block) (dataDrives p s)
+              (each-data (λ d. length (renumbered k (storedPiece x s d) .block) ≡ p .B) p s (λ d hd n. ap length (block! (storedPiece x s d)) ∙ stored-b d hd)))
 
   -- ---- all of them, on one drive
 

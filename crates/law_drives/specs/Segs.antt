@@ -12,11 +12,14 @@ use Rattle.spec.specs.Drives.{Zone, noZone, View, zoneAt, pointerAt, segmentNum
 use Rattle.spec.specs.Layout.{dataDrive, dataDrives, headerSerial, headerCopied, Rec, mkRec}
 use Rattle.spec.specs.Lists.{below, all, keep, indexOf, isIn}
 use Rattle.spec.specs.Params.{dataCount, drivesOf, present}
-use Rattle.spec.specs.Parity.{Piece, parityRec, parityPiece}
+use Rattle.spec.specs.Parity.{Piece}
 use Rattle.spec.specs.Rank.{Cand}
 use Rattle.spec.specs.Segments.{lowDrive, headerAt, leftBy1, isCopy, remaining, Segment, recordsIn, segmentOf, segments, recsOn, offsetOn, hasChunk, counts}
 use Rattle.spec.specs.Segments.{counted, storedRec, candOf, segmentCands, candidates, storedPiece, pieceOf, recOf}
-use Rattle.law_basic.specs.Ranges.{length-below, getD-map-below, map-map}
+use Rattle.law_basic.specs.Ranges.{Test, test, length-below, getD-map-below}
+use Rattle.law_basic.specs.Ranges.Test.{yes!, no! }
+use Rattle.law_code.specs.Chunks.{chunk-stored, chunk-decoded, rec-here, rec-lost}
+use Rattle.law_code.specs.Code.{decode-apart, decode-rec-same}
 use Rattle.law_drives.specs.Members.{In, in-map, map-in, in-flat, flat-in, in-keep, keep-in, in-any, in-below, below-in, in-getD, index-below, index-passes, index-first, index-is}
 use Rattle.law_drives.specs.Tests.{not-so, cond-true, cond-false}
 
@@ -202,11 +205,14 @@ at-cand p v gone c k =
 
 -- the record of a piece is the record alone
 pub piece-rec : (p : Params) (gone : ℕ) (x : Segment) (s d : ℕ) → pieceOf p gone x s d .rec ≡ recOf p gone x s d
-piece-rec p gone x s d = go (isIn gone d) refl
+piece-rec p gone x s d = go (test (isIn gone d))
   where
-    alike : map (λ (q : Piece). q .rec) (map (storedPiece x s) (present p gone)) ≡ map (storedRec x s) (present p gone)
-    alike = map-map (λ (q : Piece). q .rec) (storedPiece x s) (present p gone) ∙ (unfold storedPiece storedRec in refl)
+    alike : (e : ℕ) → storedPiece x s e .rec ≡ storedRec x s e
+    alike e = unfold storedPiece storedRec in refl
 
-    go : (b : Bool) → isIn gone d ≡ b → pieceOf p gone x s d .rec ≡ recOf p gone x s d
-    go true e = unfold pieceOf recOf parityPiece in rw e (ap (parityRec s) alike)
-    go false e = unfold pieceOf recOf storedPiece storedRec in rw e
+    go : Test (isIn gone d) → pieceOf p gone x s d .rec ≡ recOf p gone x s d
+    go (yes! e) =
+        ap (λ (q : Piece). q .rec) (chunk-decoded p gone x s d e ∙ decode-apart p gone s d (storedPiece x s))
+        ∙ decode-rec-same p gone s d (λ e. storedPiece x s e .rec) (storedRec x s) (λ e h n. (ap (λ (r : Rec). r .address) (alike e), ap (λ (r : Rec). r .stamp) (alike e)))
+        ∙ sym (rec-lost p gone x s d e)
+    go (no! e) = ap (λ (q : Piece). q .rec) (chunk-stored p gone x s d e) ∙ alike d ∙ sym (rec-here p gone x s d e)

@@ -6,16 +6,17 @@ use Prim.Native.Nat.{ℕ, _<_}
 use native.Mathlib.Omega.{arith}
 use lib.ListN.{length}
 use Rattle.spec.specs.declared.Params.{Params}
-use Rattle.spec.specs.Bytes.{parity}
-use Rattle.spec.specs.Layout.{parityDrive, dataDrive, dataDrives}
+use Rattle.spec.specs.Layout.{parityDrive, dataDrives}
 use Rattle.spec.specs.Lists.{below, any, indexOf}
 use Rattle.spec.specs.Memory.{cell, slotCount, slots, slotByte, slotBlock, setSlotBlock, setSlotParity}
-use Rattle.spec.specs.Params.{dataCount, inflightLen}
-use Rattle.law_basic.specs.Geometry.{Ranged, slot-within, parity-drive-lt, data-drive-lt}
+use Rattle.spec.specs.Params.{inflightLen}
+use Rattle.spec.specs.Parity.{encodeBlock}
+use Rattle.law_basic.specs.Each.{each-map, each-data}
+use Rattle.law_basic.specs.Geometry.{Ranged, slot-within, parity-drive-lt}
 use Rattle.law_basic.specs.Ranges.{length-below, getD-below}
 use Rattle.law_basic.specs.Splice.{length-part, length-splice}
-use Rattle.law_drives.specs.Members.{index-below, index-passes, map-in, below-in}
-use Rattle.law_drives.specs.Rebuilding.{parity-length}
+use Rattle.law_code.specs.Code.{encode-long}
+use Rattle.law_drives.specs.Members.{index-below, index-passes}
 
 -- a cell of the lists of an eighth
 pub cell-low : (i k : ℕ) → i < 8 → k < 8 → cell i k < 64
@@ -39,10 +40,7 @@ module _ (p : Params) (r : Ranged p) (fl : List ℕ) (l : length fl ≡ inflight
   block-long! d hd = length-part (slotByte p i d) (p .B) fl (let w = slot-within p i d hi hd in omega arith)
 
   pub parity-long : (s : ℕ) → length (setSlotParity p fl i s) ≡ inflightLen p
-  unfolding setSlotParity dataDrives
-  parity-long s = slot-long (parityDrive p s) (parity (p .B) (map (slotBlock p fl i) (map (dataDrive p s) (below (dataCount p))))) (parity-drive-lt p s (omega (arith, r .drives-low)))
-      (parity-length (p .B) (map (slotBlock p fl i) (map (dataDrive p s) (below (dataCount p))))
-      (λ b m.
-      let (d, n, e) = map-in (slotBlock p fl i) (map (dataDrive p s) (below (dataCount p))) b m in
-      let (x, o, f) = map-in (dataDrive p s) (below (dataCount p)) d n in
-      ap length e ∙ block-long! d (subst (λ (y : ℕ). y < p .N) (sym f) (data-drive-lt p s x (below-in (dataCount p) x o)))))
+  unfolding setSlotParity
+  parity-long s = slot-long (parityDrive p s) (encodeBlock (p .B) 0 (map (slotBlock p fl i) (dataDrives p s))) (parity-drive-lt p s (omega (arith, r .drives-low)))
+      (encode-long (p .B) 0 (map (slotBlock p fl i) (dataDrives p s))
+      (each-map (λ (b : List ℕ). length b ≡ p .B) (slotBlock p fl i) (dataDrives p s) (each-data (λ d. length (slotBlock p fl i d) ≡ p .B) p s (λ d hd n. block-long! d hd))))

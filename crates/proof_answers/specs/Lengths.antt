@@ -1,7 +1,7 @@
 -- Blocks and spares of a view have their lengths, and so have the blocks and records made of them. Assumes nothing.
 use mathlib.Core.Path.{_≡_, refl, sym, ap, _∙_, subst}
 use mathlib.Core.List.{List, [], map}
-use mathlib.Core.Bool.{true, false, cond}
+use mathlib.Core.Bool.{true, false}
 use Prim.Native.Nat.{ℕ, _+_, _≤_, _<_}
 use native.Mathlib.Decide.{ℕ-discrete}
 use native.Mathlib.Omega.{arith}
@@ -10,10 +10,10 @@ use lib.Seq.{getD-set-same, getD-set-other}
 use Rattle.spec.specs.declared.Params.{Params}
 use Rattle.spec.specs.Drives.{Chunk, mkChunk, noChunk, Zone, View, zoneAt, chunkAt, Store, putZone, Disk, zoneOn, zeroSpare, sparesOf, footerStores, headerStores, resetStores}
 use Rattle.spec.specs.Drives.Store.{put, reset}
-use Rattle.spec.specs.Layout.{dataDrive, dataDrives, dataPosition, isData, headerBlock, mkRec, footerBlock}
+use Rattle.spec.specs.Layout.{dataDrive, dataDrives, dataPosition, isData, parityPosition, headerBlock, mkRec, footerBlock}
 use Rattle.spec.specs.Lists.{upFrom, below, isIn}
-use Rattle.spec.specs.Params.{dataCount, spareLen, capacity, unitLen, placeOf, placeByte, drivesOf, present}
-use Rattle.spec.specs.Parity.{Piece, mkPiece, parityPiece}
+use Rattle.spec.specs.Params.{dataCount, spareLen, capacity, unitLen, placeOf, placeByte, drivesOf}
+use Rattle.spec.specs.Parity.{Piece, mkPiece, encodePiece}
 use Rattle.spec.specs.Restart.{renumbered, movedPieces, movedOn}
 use Rattle.spec.specs.Segments.{Segment, segmentOf, offsetOn, hasChunk, counts, storedPiece, pieceOf, putPiece}
 use Rattle.law_basic.specs.Fields.{length-record, length-zeroSpare, header-block-long}
@@ -22,13 +22,15 @@ use Rattle.law_basic.specs.Mask.{isIn-empty}
 use Rattle.law_basic.specs.Ranges.{Test, test, length-upFrom, length-below}
 use Rattle.law_basic.specs.Ranges.Test.{yes!, no! }
 use Rattle.law_basic.specs.Splice.{length-part}
+use Rattle.law_basic.specs.Each.{each-map, each-data}
+use Rattle.law_code.specs.Chunks.{chunk-decoded, moved-is-data, moved-is-parity}
+use Rattle.law_code.specs.Code.{encode-long, encode-apart, decode-long, decode-apart}
 use Rattle.law_drives.specs.Footers.{sparesIn, footerChunks, footer-puts}
 use Rattle.law_drives.specs.Laid.{Long, in-take, in-drop, length-footer}
 use Rattle.law_drives.specs.Members.{In, map-in, below-in, in-getD, getD-in}
 use Rattle.law_drives.specs.Puts.{putAt}
 use Rattle.law_drives.specs.Range.{capacity-over}
-use Rattle.law_drives.specs.Rebuilding.{parity-length}
-use Rattle.law_drives.specs.Segs.{present-in, data-low, zone-by, chunk-at}
+use Rattle.law_drives.specs.Segs.{data-low, zone-by, chunk-at}
 use Rattle.law_drives.specs.Spots.{counts-in}
 use Rattle.law_views.specs.Views.{Whole, blocks-long, block-view, spare-view, seen}
 use Rattle.proof_answers.specs.Rising.{Proper}
@@ -156,13 +158,9 @@ module _ (p : Params) (r : Ranged p) (v : View) (fair : (d z : ℕ) → d < p .N
 
     -- decoded
     pub lost-piece-long : (d : ℕ) → isIn gone d ≡ true → length (pieceOf p gone x s d .block) ≡ p .B
-    unfolding pieceOf parityPiece
-    lost-piece-long d lost = rw lost (parity-length (p .B) (map (λ (q : Piece). q .block) (map (storedPiece x s) (present p gone)))
-        (λ b m.
-        let (q, i, e) = map-in (λ (q : Piece). q .block) (map (storedPiece x s) (present p gone)) b m in
-        let (y, j, f) = map-in (storedPiece x s) (present p gone) q i in
-        let (hy, ny) = present-in p gone y j in
-        ap length (e ∙ ap (λ (q : Piece). q .block) f) ∙ present-long y hy ny))
+    lost-piece-long d lost =
+        ap (λ (q : Piece). length (q .block)) (chunk-decoded p gone x s d lost ∙ decode-apart p gone s d (storedPiece x s))
+        ∙ decode-long p gone s d (λ e. storedPiece x s e .block) present-long
 
 -- 01, Restart, 4: and moved
 module _ (p : Params) (r : Ranged p) (v : View) (fair : (d z : ℕ) → d < p .N → z < p .Z → Fair p (zoneAt v d z)) (g : ℕ) (hg : g < p .Z)
@@ -188,17 +186,25 @@ module _ (p : Params) (r : Ranged p) (v : View) (fair : (d z : ℕ) → d < p .N
       ∙ length-map (below (dataCount p)) (dataDrive p s) ∙ length-below (dataCount p)
 
   pub moved-piece-long : (d : ℕ) → d < p .N → length (movedOn p qs k d .block) ≡ p .B
-  unfolding movedOn
   moved-piece-long d hd = go (test (isData p k d))
     where
-      parity-block : length (parityPiece p k qs .block) ≡ p .B
-      parity-block = unfold parityPiece in parity-length (p .B) (map (λ (y : Piece). y .block) qs)
-          (λ b m. let (y, i, f) = map-in (λ (y : Piece). y .block) qs b m in ap length f ∙ data-pieces-long y i)
+      from : ℕ → Piece
+      from e = renumbered k (storedPiece seg s e)
 
-      go : Test (isData p k d) → length (cond (isData p k d) (getD qs (dataPosition p k d) (mkPiece [] (mkRec 0 0 0))) (parityPiece p k qs) .block) ≡ p .B
-      go (yes! q) = rw q (data-pieces-long (getD qs (dataPosition p k d) (mkPiece [] (mkRec 0 0 0)))
-          (in-getD qs (dataPosition p k d) (mkPiece [] (mkRec 0 0 0)) (subst (λ (n : ℕ). dataPosition p k d < n) (sym count-pieces) (position-lt p k d q hd))))
-      go (no! q) = rw q parity-block
+      here : (e : ℕ) → e < p .N → length (from e .block) ≡ p .B
+      here e he = unfold renumbered in present-long p r v fair 0 g hg s c e he (isIn-empty e)
+
+      are : qs ≡ map from (dataDrives p s)
+      are = unfold movedPieces in refl
+
+      go : Test (isData p k d) → length (movedOn p qs k d .block) ≡ p .B
+      go (yes! q) = ap (λ (y : Piece). length (y .block)) (moved-is-data p qs k d q)
+          ∙ data-pieces-long (getD qs (dataPosition p k d) (mkPiece [] (mkRec 0 0 0)))
+          (in-getD qs (dataPosition p k d) (mkPiece [] (mkRec 0 0 0)) (subst (λ (n : ℕ). dataPosition p k d < n) (sym count-pieces) (position-lt p k d q hd)))
+      go (no! q) =
+          ap (λ (y : Piece). length (y .block)) (moved-is-parity p qs k d q ∙ ap (encodePiece p (parityPosition p k d) k) are ∙ encode-apart p (parityPosition p k d) k from (dataDrives p s))
+          ∙ encode-long (p .B) (parityPosition p k d) (map (λ e. from e .block) (dataDrives p s))
+          (each-map (λ (b : List ℕ). length b ≡ p .B) (λ e. from e .block) (dataDrives p s) (each-data (λ e. length (from e .block) ≡ p .B) p s (λ e he n. here e he)))
 
 -- the store of a piece
 pub piece-proper : (p : Params) (d z : ℕ) (q : Piece) → d < p .N → z < p .Z → length (q .block) ≡ p .B → Proper p (putPiece d z q)

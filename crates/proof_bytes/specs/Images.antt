@@ -4,17 +4,16 @@ use mathlib.Core.List.{List, [], _∷_, _++_, map}
 use mathlib.Core.Bool.{Bool, true, false, cond}
 use mathlib.Core.Logic.{inl, inr, ⊎-elim}
 use Prim.Native.Nat.{ℕ, zero, suc, _+_, _*_}
-use lib.Bits.{xor-lt}
 use lib.ListN.{length, getD, take, drop, set}
 use Rattle.spec.specs.declared.Params.{Params}
-use Rattle.spec.specs.Bytes.{splice, xors, parity}
+use Rattle.spec.specs.Bytes.{splice}
 use Rattle.spec.specs.Drives.{Chunk, mkChunk, noChunk, Zone, mkZone, noZone, View, zoneAt, chunkOf, zoneOf, driveOf, viewOf, Store, putZone, resetZone, setZone, storeView, Disk, storeDisk, storeAll}
 use Rattle.spec.specs.Drives.{pointerOf}
 use Rattle.spec.specs.Drives.Store.{put, reset}
 use Rattle.spec.specs.Lists.{flat, pieces, zipped}
 use Rattle.spec.specs.Params.{capacity, unitLen, zoneLen, driveLen, placeOf, placeByte}
 use Rattle.law_drives.specs.Image.{bytes-take, bytes-drop}
-use Rattle.law_drives.specs.Laid.{bytes-nil, bytes-append, bytes-zeros}
+use Rattle.law_drives.specs.Laid.{bytes-nil, bytes-append}
 use Rattle.law_drives.specs.Members.{In, map-in, flat-in, in-append}
 use Rattle.law_drives.specs.Zones.{Bytes}
 use Rattle.proof_bytes.specs.Reads.{Grounded}
@@ -25,18 +24,6 @@ pub bytes-splice : (l : List ℕ) (at : ℕ) (s : List ℕ) → Bytes l → Byte
 unfolding splice
 bytes-splice l at s h g =
     bytes-append (take at l) (s ++ drop (at + length s) l) (bytes-take at l h) (bytes-append s (drop (at + length s) l) g (bytes-drop (at + length s) l h))
-
-bytes-xors : (s t : List ℕ) → Bytes s → Bytes t → Bytes (xors s t)
-unfolding xors
-bytes-xors [] t h g i = bytes-nil i
-bytes-xors (a ∷ s) [] h g i = h i
-bytes-xors (a ∷ s) (b ∷ t) h g zero = xor-lt 8 a b (h 0) (g 0)
-bytes-xors (a ∷ s) (b ∷ t) h g (suc i) = bytes-xors s t (λ j. h (suc j)) (λ j. g (suc j)) i
-
-pub bytes-parity : (n : ℕ) (bs : List (List ℕ)) → ((b : List ℕ) → In b bs → Bytes b) → Bytes (parity n bs)
-unfolding parity
-bytes-parity n [] h = bytes-zeros n
-bytes-parity n (b ∷ bs) h = bytes-xors b (parity n bs) (h b (inl refl)) (bytes-parity n bs (λ c m. h c (inr m)))
 
 -- ---- what holds of every element holds of the one asked for
 

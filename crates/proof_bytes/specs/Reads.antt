@@ -14,18 +14,20 @@ use Rattle.spec.specs.Bytes.{part}
 use Rattle.spec.specs.Drives.{Chunk, noChunk, Zone, noZone, View, zoneAt, chunkAt, zoneOn, sealedIn, dataStored, blocksOf, recordIn}
 use Rattle.spec.specs.Layout.{dataDrive, headerSerial, Rec, mkRec, recordOf, footerRecord}
 use Rattle.spec.specs.Lists.{below, isIn}
-use Rattle.spec.specs.Params.{capacity, spareLen, perFooter, present}
-use Rattle.spec.specs.Parity.{parityRec}
+use Rattle.spec.specs.Params.{capacity, spareLen, perFooter}
 use Rattle.spec.specs.Rank.{Cand}
 use Rattle.spec.specs.Segments.{lowDrive, headerAt, remaining, Segment, recordsIn, segmentOf, segments, offsetOn, storedRec, recOf, candOf, candidates, greatestStamp, greatestSerial}
 use Rattle.law_basic.specs.Geometry.{data-drive-lt}
-use Rattle.law_basic.specs.Xor.{xorAll-lt}
+use Rattle.law_code.specs.Chunks.{rec-here, rec-lost}
+use Rattle.law_code.specs.Code.{decode-low}
+use Rattle.law_basic.specs.Ranges.{Test, test}
+use Rattle.law_basic.specs.Ranges.Test.{yes!, no! }
 use Rattle.law_drives.specs.Counting.{greatest-low}
 use Rattle.law_drives.specs.Image.{bytes-part}
 use Rattle.law_drives.specs.Laid.{bytes-nil, serial-low, address-low, stamp-low}
 use Rattle.law_drives.specs.Members.{In, map-in, in-getD}
 use Rattle.law_drives.specs.Records.{blocks-at}
-use Rattle.law_drives.specs.Segs.{present-in, recs-on, serial-is, cand-at}
+use Rattle.law_drives.specs.Segs.{recs-on, serial-is, cand-at}
 use Rattle.law_drives.specs.Zones.{Bytes, Plain, ZoneOk, Shaped}
 
 -- address and stamp are of 8 bytes
@@ -123,23 +125,12 @@ module _ (p : Params) (v : View) (h : LowReads p v) (gone : ℕ) where
       go true = (lit< tt, lit< tt)
       go false = rows-low (sealedIn p v gone g) (zoneAt v d g) (offsetOn (seg g) d s) (h .records-low (sealedIn p v gone g) d g)
 
-  -- the exclusive or of stamps
-  stored-parity-low : (g s : ℕ) → parityRec s (map (storedRec (seg g) s) (present p gone)) .stamp < 256 ^ 8
-  unfolding parityRec
-  stored-parity-low g s = xorAll-lt 64 (map (λ (r : Rec). r .stamp) (map (storedRec (seg g) s) (present p gone)))
-      (λ i l.
-      let x = getD (map (λ (r : Rec). r .stamp) (map (storedRec (seg g) s) (present p gone))) i 0 in
-      let (r, m, e) = map-in (λ (r : Rec). r .stamp) (map (storedRec (seg g) s) (present p gone)) x (in-getD (map (λ (r : Rec). r .stamp) (map (storedRec (seg g) s) (present p gone))) i 0 l) in
-      let (d, n, f) = map-in (storedRec (seg g) s) (present p gone) r m in
-      subst (λ (y : ℕ). y < 256 ^ 8) (sym (e ∙ ap (λ (r : Rec). r .stamp) f)) (stored-rec-low g s d (present-in p gone d n .0) .1))
-
   rec-low : (g s d : ℕ) → d < p .N → recOf p gone (seg g) s d .stamp < 256 ^ 8
-  unfolding recOf
-  rec-low g s d hd = go (isIn gone d)
+  rec-low g s d hd = go (test (isIn gone d))
     where
-      go : (b : Bool) → cond b (parityRec s (map (storedRec (seg g) s) (present p gone))) (storedRec (seg g) s d) .stamp < 256 ^ 8
-      go true = stored-parity-low g s
-      go false = stored-rec-low g s d hd .1
+      go : Test (isIn gone d) → recOf p gone (seg g) s d .stamp < 256 ^ 8
+      go (yes! e) = subst (λ (r : Rec). r .stamp < 256 ^ 8) (sym (rec-lost p gone (seg g) s d e)) (decode-low p gone s d (storedRec (seg g) s) (λ x l n. stored-rec-low g s x l) .1)
+      go (no! e) = subst (λ (r : Rec). r .stamp < 256 ^ 8) (sym (rec-here p gone (seg g) s d e)) (stored-rec-low g s d hd .1)
 
   pub stamps-low : greatestStamp (candidates p gone (segments p v gone)) < 256 ^ 8
   unfolding greatestStamp

@@ -1,6 +1,6 @@
 -- What each call stores, keeps in flight and fills is bytes: headers, records and footers as they are laid out, data from the image or the
 -- in-flight buffer, parity as the exclusive or of bytes. Assumes nothing.
-use mathlib.Core.Path.{sym, ap, _∙_, subst}
+use mathlib.Core.Path.{sym, ap, _∙_, subst, refl, _≡_}
 use mathlib.Core.List.{List, [], _∷_, _++_, map}
 use mathlib.Core.Bool.{Bool, true, false, cond, not}
 use Prim.Native.Nat.{ℕ, zero, suc, _+_, _-_}
@@ -10,18 +10,17 @@ use Rattle.spec.specs.declared.Params.{Params}
 use Rattle.spec.specs.declared.State.{State}
 use Rattle.spec.specs.declared.Answer.{Answer}
 use Rattle.spec.specs.declared.Answer.the-variants.{Rebuilt}
-use Rattle.spec.specs.Bytes.{parity}
 use Rattle.spec.specs.Calls.{Plan, mkPlan}
 use Rattle.spec.specs.Closing.{padded, closePlan}
 use Rattle.spec.specs.Counts.{paddingAddress}
 use Rattle.spec.specs.Drives.{Chunk, noChunk, Zone, noZone, View, zoneAt, chunkAt, storeView, zoneOn, sparesOf, footersOf, zeroSpare, headerStores, footerStores, resetStores, emptyZones}
 use Rattle.spec.specs.Drives.Store.{put, reset}
 use Rattle.spec.specs.Landing.{slotOf, seals, flightRec, sealStores, landStore, landPlan}
-use Rattle.spec.specs.Layout.{headerBlock, recordBytes, footerBlock, mkRec, dataPosition, isData, dataDrives}
+use Rattle.spec.specs.Layout.{headerBlock, recordBytes, footerBlock, mkRec, dataPosition, isData, dataDrives, parityPosition}
 use Rattle.spec.specs.Lists.{upFrom, below, flat, firstOr, isIn, isNil, keep, Opt}
 use Rattle.spec.specs.Memory.{Memory, stripeIn, filledIn, openSegment, fillingSlot, isFull, shownAt, addEntry, slotByte, slotBlock, setSlotBlock, setSlotParity}
-use Rattle.spec.specs.Params.{dataCount, drivesOf, footers, named, present, placeBlock, placeZone, placeDrive}
-use Rattle.spec.specs.Parity.{Piece, mkPiece, parityPiece}
+use Rattle.spec.specs.Params.{dataCount, drivesOf, footers, named, placeBlock, placeZone, placeDrive}
+use Rattle.spec.specs.Parity.{Piece, mkPiece, encodeBlock, encodePiece, decodePiece}
 use Rattle.spec.specs.Read.{Found, storedAt, decodedAt, readPiece}
 use Rattle.spec.specs.Read.Found.{nowhere, here, away}
 use Rattle.spec.specs.Rebuild.{rebuiltZone, rebuildStores}
@@ -30,12 +29,16 @@ use Rattle.spec.specs.Restart.{freeZones, isWhole, isRagged, missingFooters, re
 use Rattle.spec.specs.Restart.{restartMemory, restartPlan}
 use Rattle.spec.specs.Segments.{remaining, Segment, segmentOf, segments, counted, offsetOn, storedPiece, pieceOf, putPiece, greatestSerial, unsealed}
 use Rattle.spec.specs.Write.{placed, slotFor, opens, openedBy, begunBy, sending, writePlan}
+use Rattle.law_code.specs.Chunks.{chunk-stored, chunk-decoded, moved-is-data, moved-is-parity}
+use Rattle.law_code.specs.Code.{encode-bytes, encode-apart, decode-bytes, decode-apart}
+use Rattle.law_basic.specs.Each.{each-map, each-data}
+use Rattle.law_basic.specs.Ranges.{Test, test}
+use Rattle.law_basic.specs.Ranges.Test.{yes!, no! }
 use Rattle.law_drives.specs.Image.{bytes-part}
 use Rattle.law_drives.specs.Laid.{bytes-nil, bytes-zeros, bytes-header, bytes-zeroSpare, bytes-record, bytes-footer, in-take, in-drop}
 use Rattle.law_drives.specs.Members.{In, map-in, getD-in, keep-in}
 use Rattle.law_drives.specs.Zones.{Bytes}
-use Rattle.proof_bytes.specs.Images.{bytes-splice, bytes-parity, get-map, BytesOfZone, ViewBytes, no-zone-bytes, StoreBytes, StoresBytes, store-view, stores-bytes-none, stores-bytes-cons}
-use Rattle.proof_bytes.specs.Images.{stores-bytes-append}
+use Rattle.proof_bytes.specs.Images.{bytes-splice, get-map, BytesOfZone, ViewBytes, no-zone-bytes, StoreBytes, StoresBytes, store-view, stores-bytes-none, stores-bytes-cons, stores-bytes-append}
 use Rattle.proof_bytes.specs.Images.{stores-cond, stores-map, stores-flat}
 
 -- ---- headers, footers, resets
@@ -82,11 +85,6 @@ piece-bytes : (g : Segment) (s d : ℕ) → SegBytes g → Bytes (storedPiece g 
 unfolding storedPiece
 piece-bytes g s d h = h d (1 + offsetOn g d s) .0
 
-parity-piece : (p : Params) (s : ℕ) (qs : List Piece) → ((q : Piece) → In q qs → Bytes (q .block)) → Bytes (parityPiece p s qs .block)
-unfolding parityPiece
-parity-piece p s qs h = bytes-parity (p .B) (map (λ (q : Piece). q .block) qs)
-    (λ b m. let (q, i, e) = map-in (λ (q : Piece). q .block) qs b m in subst Bytes (sym e) (h q i))
-
 -- what is kept by a choice
 either : {A : Type 0} (P : A → Type 0) (b : Bool) (x y : A) → P x → P y → P (cond b x y)
 either P true x y h g = h
@@ -97,26 +95,36 @@ unfolding putPiece
 put-piece d z q h = (h, bytes-record (q .rec))
 
 pieces-bytes : (p : Params) (gone : ℕ) (g : Segment) (s d : ℕ) → SegBytes g → Bytes (pieceOf p gone g s d .block)
-unfolding pieceOf
-pieces-bytes p gone g s d h =
-    either (λ (q : Piece). Bytes (q .block)) (isIn gone d) (parityPiece p s (map (storedPiece g s) (present p gone))) (storedPiece g s d)
-    (parity-piece p s (map (storedPiece g s) (present p gone))
-    (λ q m. let (e, i, x) = map-in (storedPiece g s) (present p gone) q m in subst (λ (y : Piece). Bytes (y .block)) (sym x) (piece-bytes g s e h)))
-    (piece-bytes g s d h)
+pieces-bytes p gone g s d h = go (test (isIn gone d))
+  where
+    go : Test (isIn gone d) → Bytes (pieceOf p gone g s d .block)
+    go (yes! e) = subst (λ (q : Piece). Bytes (q .block)) (sym (chunk-decoded p gone g s d e ∙ decode-apart p gone s d (storedPiece g s)))
+        (decode-bytes p gone s d (λ x. storedPiece g s x .block) (λ x l n. piece-bytes g s x h))
+    go (no! e) = subst (λ (q : Piece). Bytes (q .block)) (sym (chunk-stored p gone g s d e)) (piece-bytes g s d h)
 
 -- ---- restart
 
 module _ (p : Params) (g : Segment) (h : SegBytes g) where
   moved-bytes : (s k d : ℕ) → Bytes (movedOn p (movedPieces p g s k) k d .block)
-  unfolding movedOn movedPieces
-  moved-bytes s k d =
-      let qs = map (λ e. renumbered k (storedPiece g s e)) (dataDrives p s) in
-      either (λ (q : Piece). Bytes (q .block)) (isData p k d) (getD qs (dataPosition p k d) (mkPiece [] (mkRec 0 0 0))) (parityPiece p k qs)
-      (get-map (λ (q : Piece). Bytes (q .block)) (λ e. renumbered k (storedPiece g s e)) (dataDrives p s) (dataPosition p k d) (mkPiece [] (mkRec 0 0 0)) bytes-nil one)
-      (parity-piece p k qs (λ q m. let (e, i, x) = map-in (λ e. renumbered k (storedPiece g s e)) (dataDrives p s) q m in subst (λ (y : Piece). Bytes (y .block)) (sym x) (one e)))
+  moved-bytes s k d = go (test (isData p k d))
     where
-      one : (e : ℕ) → Bytes (renumbered k (storedPiece g s e) .block)
+      from : ℕ → Piece
+      from e = renumbered k (storedPiece g s e)
+
+      are : movedPieces p g s k ≡ map from (dataDrives p s)
+      are = unfold movedPieces in refl
+
+      one : (e : ℕ) → Bytes (from e .block)
       one e = unfold renumbered in piece-bytes g s e h
+
+      go : Test (isData p k d) → Bytes (movedOn p (movedPieces p g s k) k d .block)
+      go (yes! e) = subst (λ (q : Piece). Bytes (q .block))
+          (sym (moved-is-data p (movedPieces p g s k) k d e ∙ ap (λ (l : List Piece). getD l (dataPosition p k d) (mkPiece [] (mkRec 0 0 0))) are))
+          (get-map (λ (q : Piece). Bytes (q .block)) from (dataDrives p s) (dataPosition p k d) (mkPiece [] (mkRec 0 0 0)) bytes-nil one)
+      go (no! e) = subst (λ (q : Piece). Bytes (q .block))
+          (sym (moved-is-parity p (movedPieces p g s k) k d e ∙ ap (encodePiece p (parityPosition p k d) k) are ∙ encode-apart p (parityPosition p k d) k from (dataDrives p s)))
+          (encode-bytes (p .B) (parityPosition p k d) (map (λ x. from x .block) (dataDrives p s))
+          (each-map Bytes (λ x. from x .block) (dataDrives p s) (each-data (λ x. Bytes (from x .block)) p s (λ x l n. one x))))
 
   stripes-bytes : (z : ℕ) (ss : List ℕ) (k : ℕ) → StoresBytes (movedStripes p g z ss k)
   unfolding movedStripes movedStripe
@@ -202,9 +210,9 @@ landing-bytes p v m d s h g =
 
 parity-set : (p : Params) (fl : List ℕ) (i s : ℕ) → Bytes fl → Bytes (setSlotParity p fl i s)
 unfolding setSlotParity setSlotBlock slotBlock
-parity-set p fl i s h = bytes-splice fl _ (parity (p .B) (map (slotBlock p fl i) (dataDrives p s))) h
-    (bytes-parity (p .B) (map (slotBlock p fl i) (dataDrives p s))
-    (λ b m. let (d, j, e) = map-in (slotBlock p fl i) (dataDrives p s) b m in subst Bytes (sym e) (bytes-part (slotByte p i d) (p .B) fl h)))
+parity-set p fl i s h = bytes-splice fl _ (encodeBlock (p .B) 0 (map (slotBlock p fl i) (dataDrives p s))) h
+    (encode-bytes (p .B) 0 (map (slotBlock p fl i) (dataDrives p s))
+    (each-map Bytes (slotBlock p fl i) (dataDrives p s) (each-data (λ d. Bytes (slotBlock p fl i d)) p s (λ d l n. bytes-part (slotByte p i d) (p .B) fl h))))
 
 placed-bytes : (p : Params) (st : State) (fl : List ℕ) (i a t w : ℕ) (b : List ℕ) → Bytes fl → Bytes b → Bytes (placed p st fl i a t w b .inflight)
 unfolding placed setSlotBlock
@@ -279,15 +287,26 @@ module _ (p : Params) (v : View) (m : Memory) (h : ViewBytes v) (g : Bytes (m .i
   read-bytes x b k = record { stores-bytes = stores-bytes-none; inflight-bytes = g; block-bytes = k }
 
   pub found-bytes : (gone : ℕ) (cs : List ℕ) (f : Found) → Bytes (readPiece p v gone cs f .block)
-  unfolding readPiece decodedAt storedAt chunkAt
+  unfolding readPiece storedAt chunkAt
   found-bytes gone cs nowhere = bytes-zeros (p .B)
   found-bytes gone cs (here q) = h (placeDrive p q) (placeZone p q) (1 + (placeBlock p q - 1)) .0
-  found-bytes gone cs (away q) =
-      let z = placeZone p q in
-      let s = placeBlock p q - 1 in
-      let f : ℕ → Piece = λ d. storedAt p v gone d z (firstOr 0 (shownAt p v cs d z s)) in
-      parity-piece p s (map f (present p gone))
-      (λ x i. let (d, j, e) = map-in f (present p gone) x i in subst (λ (y : Piece). Bytes (y .block)) (sym e) (h d z (1 + firstOr 0 (shownAt p v cs d z s)) .0))
+  found-bytes gone cs (away q) = subst (λ (y : Piece). Bytes (y .block)) (sym (is ∙ decode-apart p gone s d at))
+      (decode-bytes p gone s d (λ e. at e .block) (λ e l n. h e z (1 + firstOr 0 (shownAt p v cs e z s)) .0))
+    where
+      d : ℕ
+      d = placeDrive p q
+
+      z : ℕ
+      z = placeZone p q
+
+      s : ℕ
+      s = placeBlock p q - 1
+
+      at : ℕ → Piece
+      at e = storedAt p v gone e z (firstOr 0 (shownAt p v cs e z s))
+
+      is : decodedAt p v gone cs (placeDrive p q) (placeZone p q) (placeBlock p q - 1) ≡ decodePiece p gone s d at
+      is = unfold decodedAt in refl
 
   pub restarts-bytes : (d : ℕ) → PlanBytes (restartPlan p v d (segments p v (named d)) (m .inflight))
   unfolding restartPlan restartMemory

@@ -18,7 +18,7 @@ use Rattle.spec.specs.History.{callOf, restartOf, inOrder, swapped, before, hap
 use Rattle.spec.specs.History.{ackedBy, endsRun, sentAfter, untrustedAfter, marked, step, emptyDisk, began, namesAll, allowed, seenFilled, seenAt}
 use Rattle.spec.specs.Landing.{slotOf, ready, waiting, completes, seals, flightRec, misplaced, overfull, entryFaults, landFaults, serialAt, heldCand, held}
 use Rattle.spec.specs.Landing.{landedCand, landedCands, pointed, landChecks, sealStores, writesIn, landStore, landPlan, landVerdict}
-use Rattle.spec.specs.Layout.{parityDrive, dataDrive, dataPosition, isData, dataDrives, group, inGroupOf, groupOffsets, compactEntry, headerVersion}
+use Rattle.spec.specs.Layout.{parityDrive, dataDrive, dataPosition, isData, parityPosition, dataDrives, group, inGroupOf, groupOffsets, compactEntry, headerVersion}
 use Rattle.spec.specs.Layout.{headerTable, headerWidths, headerLen, headerFields, headerBlock, headerSerial, headerCopied, recordFields, recordBytes, recordOf}
 use Rattle.spec.specs.Layout.{footerBlock, footerRecord}
 use Rattle.spec.specs.Lists.{upFrom, below, all, any, isMember, consIf, keep, tally, isNil, sucUnless, indexOf, flat, total, greatest, least, firstOr}
@@ -28,10 +28,10 @@ use Rattle.spec.specs.Memory.{stateNumbers, sectionBytes, stateBytes, stateOf, 
 use Rattle.spec.specs.Memory.{openSegment, isFree, isFull, isFilling, inFlight, freeSlot, fillingSlot, hasFilling, holdsAt, holds, slotOk, stateOk}
 use Rattle.spec.specs.Memory.{stateFaults, setStamp, setOpen, setClosed, beginStripe, addEntry, landedMask, markLanded, freeStripe, placeAt, setPlace}
 use Rattle.spec.specs.Memory.{compactAt, shownAt, slotByte, slotBlock, setSlotBlock, setSlotParity}
-use Rattle.spec.specs.Params.{between, blockSizes, dataCount, mostAddresses, inRange, recordTable, recordWidths, spareLen, perFooter, footers, capacity, unitLen, zoneLen}
+use Rattle.spec.specs.Params.{between, blockSizes, parityCount, dataCount, mostAddresses, inRange, recordTable, recordWidths, spareLen, perFooter, footers, capacity, unitLen, zoneLen}
 use Rattle.spec.specs.Params.{driveLen, imageLen, pointersLen, addressesLen, compactLen, inflightLen, placeOf, placeBlock, placeZone, placeDrive, placeByte}
 use Rattle.spec.specs.Params.{noDrive, named, drivesOf, present, absent}
-use Rattle.spec.specs.Parity.{parityRec, parityPiece}
+use Rattle.spec.specs.Parity.{parityRec, parityPiece, encodeBlock, encodeRec, encodePiece, decodeBlock, decodeRec, decodePiece}
 use Rattle.spec.specs.Rank.{beats, better, best, placeOr, candsOf}
 use Rattle.spec.specs.Read.{placeFaults, lookup, foundFaults, shown, decodeFaults, storedAt, decodedAt, readPiece, readAnswer, readChecks, readVerdict, fillVerdict}
 use Rattle.spec.specs.Rebuild.{namesMissing, rebuildChecks, rebuiltZone, rebuildStores, rebuildVerdict}
@@ -61,15 +61,16 @@ unfolding ones onesIn kind values isRefused isRefusedAs isCut finished beFrom be
     footerFault clashes segmentFault segmentFaults imageChecks callOf restartOf inOrder swapped before happens onlyIf orderly restartIn worldAfter
     acknowledge forget sentBy ackedBy endsRun sentAfter untrustedAfter marked step emptyDisk began namesAll allowed seenFilled seenAt slotOf ready
     waiting completes seals flightRec misplaced overfull entryFaults landFaults serialAt heldCand held landedCand landedCands pointed landChecks
-    sealStores writesIn landStore landPlan landVerdict parityDrive dataDrive dataPosition isData dataDrives group inGroupOf groupOffsets compactEntry
+    sealStores writesIn landStore landPlan landVerdict parityDrive dataDrive dataPosition isData parityPosition dataDrives group inGroupOf groupOffsets compactEntry
     headerVersion headerTable headerWidths headerLen headerFields headerBlock headerSerial headerCopied recordFields recordBytes recordOf footerBlock
     footerRecord upFrom below all any isMember consIf keep tally isNil sucUnless indexOf flat total greatest least firstOr sameList padTo pieces zipped
     powers only isIn slotCount slots cell idleState zeroState stateSections sectionLen sectionAt stateLen numbersAt sectionOf numberOf stateNumbers
     sectionBytes stateBytes stateOf stripeIn filledIn landedIn isWrite entryIn entriesIn offsetIn openSegment isFree isFull isFilling inFlight freeSlot
     fillingSlot hasFilling holdsAt holds slotOk stateOk stateFaults setStamp setOpen setClosed beginStripe addEntry landedMask markLanded freeStripe
-    placeAt setPlace compactAt shownAt slotByte slotBlock setSlotBlock setSlotParity between blockSizes dataCount mostAddresses inRange recordTable recordWidths
+    placeAt setPlace compactAt shownAt slotByte slotBlock setSlotBlock setSlotParity between blockSizes parityCount dataCount mostAddresses inRange recordTable recordWidths
     spareLen perFooter footers capacity unitLen zoneLen driveLen imageLen pointersLen addressesLen compactLen inflightLen placeOf placeBlock placeZone
-    placeDrive placeByte noDrive named drivesOf present absent parityRec parityPiece beats better best placeOr candsOf placeFaults lookup foundFaults
+    placeDrive placeByte noDrive named drivesOf present absent parityRec parityPiece encodeBlock encodeRec encodePiece decodeBlock decodeRec decodePiece
+    beats better best placeOr candsOf placeFaults lookup foundFaults
     shown decodeFaults storedAt decodedAt readPiece readAnswer readChecks readVerdict fillVerdict namesMissing rebuildChecks rebuiltZone rebuildStores
     rebuildVerdict placesIn tableFaults segmentPlaces liveIn flying victimOf fewer fewest victim isNone victimSegment victimLive idle reclaimChecks
     clearedRow cleared resetPlan copyPlan reclaimVerdict freeZones isWhole isRagged missingFooters renumbered movedPieces movedOn movedStripe

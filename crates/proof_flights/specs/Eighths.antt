@@ -16,11 +16,11 @@ use Rattle.spec.specs.declared.State.{State}
 use Rattle.spec.specs.Bytes.{parity}
 use Rattle.spec.specs.Drives.{mkChunk, View, chunkAt, zoneOn}
 use Rattle.spec.specs.Landing.{flightRec}
-use Rattle.spec.specs.Layout.{parityDrive, dataDrive, dataPosition, isData, dataDrives, Rec, recordBytes}
+use Rattle.spec.specs.Layout.{parityDrive, dataDrive, dataPosition, isData, parityPosition, dataDrives, Rec, recordBytes}
 use Rattle.spec.specs.Lists.{below, consIf, keep, only, isIn}
 use Rattle.spec.specs.Memory.{stripeIn, filledIn, landedIn, isWrite, entryIn, entriesIn, offsetIn, openSegment, isFull, addEntry, slotBlock}
 use Rattle.spec.specs.Params.{dataCount, inflightLen}
-use Rattle.spec.specs.Parity.{parityRec}
+use Rattle.spec.specs.Parity.{encodeBlock, encodeRec}
 use Rattle.spec.specs.Write.{placed}
 use Rattle.law_basic.specs.Geometry.{Ranged, data-count-high, parity-drive-lt, position-drive, data-drive-lt, data-not-parity}
 use Rattle.law_basic.specs.Mask.{isIn-with}
@@ -31,6 +31,7 @@ use Rattle.proof_crash_calls.specs.Placed.{data-drive-once, placed-here, placed
 use Rattle.proof_crash_calls.specs.Rel.{RowsLong}
 use Rattle.proof_crash_calls.specs.Slots.{data-blocks-same}
 use Rattle.spec_demands.specs.Tables.{Pending}
+use Rattle.law_code.specs.Chunks.{flight-data}
 use Rattle.law_drives.specs.Members.{keep-in, map-cong, below-in}
 use Rattle.law_drives.specs.Tests.{clash, cond-true, cond-false, not-so, eqb-self}
 use Rattle.proof_tables.specs.Run.{Lists}
@@ -55,7 +56,7 @@ pub record Eighth (p : Params) (v : View) (st : State) (fl : List ℕ) (ws : Lis
   pub landed-here : (d : ℕ) → d < p .N → isIn (landedIn st i) d ≡ true
       → chunkAt v d (zoneOn (openSegment st) d) (1 + offsetIn st i d) ≡ mkChunk (slotBlock p fl i d) (recordBytes (flightRec p st i d))
   pub full-landed : isIn (landedIn st i) (parityDrive p (stripeIn st i)) ≡ true → isFull p st i ≡ true
-  pub full-ready : isFull p st i ≡ true → slotBlock p fl i (parityDrive p (stripeIn st i)) ≡ parity (p .B) (map (slotBlock p fl i) (dataDrives p (stripeIn st i)))
+  pub full-ready : isFull p st i ≡ true → slotBlock p fl i (parityDrive p (stripeIn st i)) ≡ encodeBlock (p .B) 0 (map (slotBlock p fl i) (dataDrives p (stripeIn st i)))
   pub waits-are : waitsOf ws (stripeIn st i) ≡ map (pendingOf p st fl i) (keep (isWrite st i) (below (filledIn st i)))
   pub unmarked : (k : ℕ) → filledIn st i ≤ k → k < 8 → isWrite st i k ≡ false
 
@@ -73,13 +74,10 @@ lists-long st l = record {
 -- ---- the record of a chunk in flight
 
 flight-parts : (p : Params) (st : State) (i d : ℕ) → flightRec p st i d
-    ≡ cond (isData p (stripeIn st i) d) (entryIn st i (dataPosition p (stripeIn st i) d)) (parityRec (stripeIn st i) (map (entryIn st i) (below (filledIn st i))))
+    ≡ cond (isData p (stripeIn st i) d) (entryIn st i (dataPosition p (stripeIn st i) d))
+    (encodeRec (parityPosition p (stripeIn st i) d) (stripeIn st i) (map (entryIn st i) (below (filledIn st i))))
 unfolding flightRec entriesIn
 flight-parts p st i d = refl
-
-pub flight-data : (p : Params) (st : State) (i d : ℕ) → isData p (stripeIn st i) d ≡ true → flightRec p st i d ≡ entryIn st i (dataPosition p (stripeIn st i) d)
-flight-data p st i d q =
-    flight-parts p st i d ∙ cond-true (isData p (stripeIn st i) d) (entryIn st i (dataPosition p (stripeIn st i) d)) (parityRec (stripeIn st i) (map (entryIn st i) (below (filledIn st i)))) q
 
 position-small : (p : Params) (s d : ℕ) → dataPosition p s d ≤ d
 unfolding dataPosition
@@ -88,6 +86,10 @@ position-small p s d = go (test (ltb d (parityDrive p s)))
     go : Test (ltb d (parityDrive p s)) → cond (ltb d (parityDrive p s)) d (d - 1) ≤ d
     go (yes! q) = subst (λ (x : ℕ). x ≤ d) (sym (cond-true (ltb d (parityDrive p s)) d (d - 1) q)) (omega arith)
     go (no! q) = subst (λ (x : ℕ). x ≤ d) (sym (cond-false (ltb d (parityDrive p s)) d (d - 1) q)) (omega arith)
+
+-- a parity block as the crash theory has it
+encoded : (n : ℕ) (bs : List (List ℕ)) (x : List ℕ) → x ≡ parity n bs → x ≡ encodeBlock n 0 bs
+encoded n bs x e = unfold encodeBlock in e
 
 -- ---- an eighth that stays
 
@@ -109,7 +111,7 @@ module _ (p : Params) (r : Ranged p) (v u : View) (st su : State) (fl fl′ : Li
       let e1 : entryIn su j (dataPosition p (stripeIn su j) d) ≡ entryIn st j (dataPosition p (stripeIn st j) d) =
       s .entry (dataPosition p (stripeIn su j) d) (let x = position-small p (stripeIn su j) d in let y = drive-8 d hd in omega arith)
       ∙ ap (λ (n : ℕ). entryIn st j (dataPosition p n d)) (s .number) in
-      flight-parts p su j d ∙ (λ i. cond (isData p (s .number i) d) (e1 i) (parityRec (s .number i) (ee i))) ∙ sym (flight-parts p st j d)
+      flight-parts p su j d ∙ (λ i. cond (isData p (s .number i) d) (e1 i) (encodeRec (parityPosition p (s .number i) d) (s .number i) (ee i))) ∙ sym (flight-parts p st j d)
 
   full-same : isFull p su j ≡ isFull p st j
   unfolding isFull
@@ -136,8 +138,8 @@ module _ (p : Params) (r : Ranged p) (v u : View) (st su : State) (fl fl′ : Li
     full-ready = λ q.
         ap (λ (n : ℕ). slotBlock p fl′ j (parityDrive p n)) (s .number) ∙ bs (parityDrive p (stripeIn st j)) (parity-drive-lt p (stripeIn st j) (omega (arith, r .drives-low)))
         ∙ o .full-ready (sym full-same ∙ q)
-        ∙ ap (parity (p .B)) (data-blocks-same p fl fl′ j (stripeIn st j) (λ k h. sym (bs (dataDrive p (stripeIn st j) k) (data-drive-lt p (stripeIn st j) k h))))
-        ∙ ap (λ (n : ℕ). parity (p .B) (map (slotBlock p fl′ j) (dataDrives p n))) (sym (s .number));
+        ∙ ap (encodeBlock (p .B) 0) (data-blocks-same p fl fl′ j (stripeIn st j) (λ k h. sym (bs (dataDrive p (stripeIn st j) k) (data-drive-lt p (stripeIn st j) k h))))
+        ∙ ap (λ (n : ℕ). encodeBlock (p .B) 0 (map (slotBlock p fl′ j) (dataDrives p n))) (sym (s .number));
     waits-are =
         ap (waitsOf ws′) (s .number) ∙ kp ∙ o .waits-are
         ∙ map-cong (pendingOf p st fl j) (pendingOf p su fl′ j) (keep (isWrite st j) (below (filledIn st j)))
@@ -287,8 +289,8 @@ module _ (p : Params) (r : Ranged p) (v : View) (st : State) (ls : Lists st) (fl
         chunk-stays d ∙ o .landed-here d hd (landed-was d q)
         ∙ ap₂ (λ (x : List ℕ) (y : Rec). mkChunk x (recordBytes y)) (block-stays d hd (landed-was d q)) (rec-stays d hd (landed-was d q));
     full-landed = λ q. clash (ap (λ (n : ℕ). isIn (landedIn st i) (parityDrive p n)) (sym number-is) ∙ landed-was (parityDrive p (stripeIn st′ i)) q) no-parity;
-    full-ready = λ q. subst (λ (n : ℕ). slotBlock p now i (parityDrive p n) ≡ parity (p .B) (map (slotBlock p now i) (dataDrives p n))) (sym number-is)
-        (placed-parity p r st L fl long i il a t w b bl kl (full-count q));
+    full-ready = λ q. subst (λ (n : ℕ). slotBlock p now i (parityDrive p n) ≡ encodeBlock (p .B) 0 (map (slotBlock p now i) (dataDrives p n))) (sym number-is)
+        (encoded (p .B) (map (slotBlock p now i) (dataDrives p s)) (slotBlock p now i (parityDrive p s)) (placed-parity p r st L fl long i il a t w b bl kl (full-count q)));
     waits-are =
         ap (waitsOf (plus ws w fresh)) number-is ∙ waits-now ∙ ap (λ (n : ℕ). map (pendingOf p st′ now i) (keep (isWrite st′ i) (below n))) (sym filled-is);
     unmarked = λ e l h. let x = filled-is in mark-old e h (λ q. let bad : ⊥ = omega arith in bad) ∙ o .unmarked e (omega arith) h;

@@ -7,12 +7,12 @@ use lib.Dec.{eqb}
 use lib.ListN.{length, getD}
 use Rattle.spec.specs.declared.Params.{Params}
 use Rattle.spec.specs.declared.State.{State}
-use Rattle.spec.specs.Bytes.{parity}
 use Rattle.spec.specs.Drives.{mkChunk, View, chunkAt, Disk, zoneOn}
 use Rattle.spec.specs.Landing.{flightRec}
 use Rattle.spec.specs.Layout.{parityDrive, dataDrive, dataDrives, recordBytes}
 use Rattle.spec.specs.Lists.{below, keep, isIn}
 use Rattle.spec.specs.Memory.{Memory, stripeIn, filledIn, landedIn, isWrite, entryIn, offsetIn, openSegment, isFull, slotBlock}
+use Rattle.spec.specs.Parity.{encodeBlock}
 use Rattle.spec.specs.Segments.{Segment, segmentOf, counts}
 use Rattle.spec_demands.specs.Layouts.{Remains, foundCounted, ParityMade}
 use Rattle.spec_demands.specs.Tables.{Pending, noPending}
@@ -34,7 +34,7 @@ pub record Flights (p : Params) (v : View) (st : State) (fl : List ℕ) (ws : Li
   pub parity-full : (i : ℕ) → i < 8 → flies st i ≡ true → isIn (landedIn st i) (parityDrive p (stripeIn st i)) ≡ true → isFull p st i ≡ true
   -- and it is worked out once the stripe is full
   pub parity-ready : (i : ℕ) → i < 8 → flies st i ≡ true → isFull p st i ≡ true
-      → slotBlock p fl i (parityDrive p (stripeIn st i)) ≡ parity (p .B) (map (slotBlock p fl i) (dataDrives p (stripeIn st i)))
+      → slotBlock p fl i (parityDrive p (stripeIn st i)) ≡ encodeBlock (p .B) 0 (map (slotBlock p fl i) (dataDrives p (stripeIn st i)))
   -- the writes that wait are those of the stripes in flight, by data position
   pub pending-is : (i : ℕ) → i < 8 → flies st i ≡ true
       → keep (λ (w : Pending). eqb (w .stripe) (stripeIn st i)) ws ≡ map (pendingOf p st fl i) (keep (isWrite st i) (below (filledIn st i)))

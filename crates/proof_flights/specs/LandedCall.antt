@@ -29,6 +29,7 @@ use Rattle.law_basic.specs.Geometry.{Ranged, ranged, position-drive, drive-is-d
 use Rattle.law_basic.specs.Ranges.{Test, test, and-left, and-right}
 use Rattle.law_basic.specs.Ranges.Test.{yes!, no! }
 use Rattle.law_basic.specs.Stores.{storeAll-append}
+use Rattle.law_code.specs.Chunks.{flight-data, flight-stripe}
 use Rattle.law_views.specs.Views.{seen}
 use Rattle.law_calls.specs.Refusals.{refusal-kind}
 use Rattle.spec_demands.specs.Layouts.{ParityMade}
@@ -48,11 +49,10 @@ use Rattle.proof_tables.specs.Outcomes.{EndedAs, outcome-ends}
 use Rattle.proof_tables.specs.Outcomes.EndedAs.{ended-refused, ended-done, ended-cut}
 use Rattle.proof_tables.specs.Run.{flies, HealthyState, Well, Run}
 use Rattle.proof_tables.specs.Sealing.{seal-roomy, seal-within, seal-sealed}
-use Rattle.proof_flights.specs.Eighths.{flight-data}
 use Rattle.proof_flights.specs.Flown.{pendingOf, Flights, Flown}
 use Rattle.proof_flights.specs.Idled.{flown-ended}
 use Rattle.proof_flights.specs.Written.{well-of, run-seen-after, flown-parity-made, flown-of}
-use Rattle.proof_flights.specs.LandedChunk.{flies1, stripe1, chunk-flights, chunk-parities, flight-stripe}
+use Rattle.proof_flights.specs.LandedChunk.{flies1, stripe1, chunk-flights, chunk-parities}
 use Rattle.proof_flights.specs.LandedFree.{elsewhere, elsewhere-all, free-flights, seal-parities, seal-counts}
 
 -- ---- the writes that wait after an answer

@@ -9,25 +9,26 @@ use native.Mathlib.Omega.{arith}
 use native.Mathlib.Nat.{le-of-eq}
 use borrow.Author.Tests.{le-leb, eq-eqb, ne-eqb}
 use lib.Dec.{ltb, eqb}
-use lib.ListN.{length, getD, length-map}
+use lib.ListN.{length, getD}
 use lib.Seq.{getD-set-same, getD-set-other}
 use Rattle.spec.specs.declared.Params.{Params}
 use Rattle.spec.specs.declared.State.{State}
-use Rattle.spec.specs.Bytes.{parity}
 use Rattle.spec.specs.Drives.{Chunk, mkChunk, noChunk, Zone, View, zoneAt, pointerAt, chunkAt, putZone, storeView, zoneOn, sealedIn, dataStored, recordIn}
 use Rattle.spec.specs.Drives.Store.{put}
 use Rattle.spec.specs.Landing.{ready, completes, flightRec}
-use Rattle.spec.specs.Layout.{parityDrive, dataDrive, dataPosition, isData, dataDrives, Rec, recordBytes, recordOf}
+use Rattle.spec.specs.Layout.{parityDrive, dataDrive, dataPosition, isData, parityPosition, dataDrives, Rec, recordBytes, recordOf}
 use Rattle.spec.specs.Lists.{below, all, keep, isIn}
 use Rattle.spec.specs.Memory.{stripeIn, filledIn, landedIn, isWrite, entryIn, entriesIn, offsetIn, openSegment, isFree, isFull, markLanded, slotBlock}
 use Rattle.spec.specs.Params.{dataCount, present}
-use Rattle.spec.specs.Parity.{Piece, mkPiece, parityRec, parityPiece}
+use Rattle.spec.specs.Parity.{Piece, mkPiece, encodeBlock, encodeRec}
 use Rattle.spec.specs.Segments.{Segment, segmentOf, hasChunk, counts, storedPiece}
-use Rattle.law_basic.specs.Geometry.{Ranged, parity-drive-lt, position-drive, drive-is-data, position-lt}
+use Rattle.law_basic.specs.Each.{each-map, each-below}
+use Rattle.law_basic.specs.Geometry.{Ranged, parity-no-data, parity-drive-lt, position-drive, drive-is-data, position-lt}
 use Rattle.law_basic.specs.Mask.{isIn-empty}
-use Rattle.law_basic.specs.Ranges.{Test, test, and-right, length-below, getD-map-below, map-map}
+use Rattle.law_basic.specs.Ranges.{Test, test, and-right, map-map}
 use Rattle.law_basic.specs.Ranges.Test.{yes!, no! }
-use Rattle.law_basic.specs.Xor.{xorAll-lt}
+use Rattle.law_code.specs.Chunks.{flight-data, flight-parity, flight-stripe}
+use Rattle.law_code.specs.Code.{encode-low, encode-apart}
 use Rattle.spec_demands.specs.Layouts.{ParityMade}
 use Rattle.spec_demands.specs.Tables.{Pending}
 use Rattle.law_drives.specs.Laid.{record-back}
@@ -42,7 +43,6 @@ use Rattle.proof_tables.specs.Chunks.{cells-differ, pointer-some, pointer-data,
 use Rattle.proof_tables.specs.Chunks.{chunk-open, open-before, open-after, all-landed, uncounted-yet, landed-chunk, all-filled}
 use Rattle.proof_tables.specs.Run.{flies, SlotFlies, OpenZone, HealthyState}
 use Rattle.proof_tables.specs.Slots.{mark-landed-other, mark-offset, mark-offset-other}
-use Rattle.proof_flights.specs.Eighths.{flight-data}
 use Rattle.proof_flights.specs.Flown.{pendingOf, Flights}
 use Rattle.proof_flights.specs.LandedPieces.{piece-parts, Extends, extends-piece, extends-back, data-drives-in, parity-grows}
 use Rattle.proof_flights.specs.Pieces.{ParityAt}
@@ -66,49 +66,14 @@ put-below p q w x e l n y = let (a, c) = data-low p w x y in low-data p q x a (g
 
 -- ---- records in flight
 
-module _ (p : Params) (st : State) (i : ℕ) where
-  pub flight-parity : (e : ℕ) → isData p (stripeIn st i) e ≡ false → flightRec p st i e ≡ parityRec (stripeIn st i) (entriesIn st i)
-  unfolding flightRec
-  flight-parity e q = cond-false (isData p (stripeIn st i) e) (entryIn st i (dataPosition p (stripeIn st i) e)) (parityRec (stripeIn st i) (entriesIn st i)) q
-
-  pub flight-stripe : (e : ℕ) → flightRec p st i e .stripe ≡ stripeIn st i
-  flight-stripe e = go (test (isData p (stripeIn st i) e))
-    where
-      entry! : (k : ℕ) → entryIn st i k .stripe ≡ stripeIn st i
-      entry! k = unfold entryIn in refl
-
-      par! : parityRec (stripeIn st i) (entriesIn st i) .stripe ≡ stripeIn st i
-      par! = unfold parityRec in refl
-
-      go : Test (isData p (stripeIn st i) e) → flightRec p st i e .stripe ≡ stripeIn st i
-      go (yes! q) = ap (λ (x : Rec). x .stripe) (flight-data p st i e q) ∙ entry! (dataPosition p (stripeIn st i) e)
-      go (no! q) = ap (λ (x : Rec). x .stripe) (flight-parity e q) ∙ par!
-
 module _ (p : Params) (r : Ranged p) (v : View) (st : State) (z i : ℕ) (f : SlotFlies p v st z i) (full : filledIn st i ≡ dataCount p) (so : stripeIn st i < p .S) where
   abbrev Low : Rec → Type 0
   Low x = (x .address < 256 ^ 8) × (x .stamp < 256 ^ 8)
 
-  entries-map : (g : Rec → ℕ) → map g (entriesIn st i) ≡ map (λ k. g (entryIn st i k)) (below (filledIn st i))
-  entries-map g = as! (map-map g (entryIn st i) (below (filledIn st i)))
-    where
-      as! : map g (map (entryIn st i) (below (filledIn st i))) ≡ map (λ k. g (entryIn st i k)) (below (filledIn st i))
-          → map g (entriesIn st i) ≡ map (λ k. g (entryIn st i k)) (below (filledIn st i))
-      as! e = unfold entriesIn in e
-
-  each-low : (g : Rec → ℕ) → ((k : ℕ) → k < filledIn st i → g (entryIn st i k) < 2 ^ 64)
-      → (k : ℕ) → k < length (map g (entriesIn st i)) → getD (map g (entriesIn st i)) k 0 < 2 ^ 64
-  each-low g h k l =
-      let n : length (map g (entriesIn st i)) ≡ filledIn st i =
-      ap length (entries-map g) ∙ length-map (below (filledIn st i)) (λ k. g (entryIn st i k)) ∙ length-below (filledIn st i) in
-      let l2 : k < filledIn st i = subst (λ (x : ℕ). k < x) n l in
-      subst (λ (x : ℕ). x < 2 ^ 64) (sym (ap (λ (m : List ℕ). getD m k 0) (entries-map g) ∙ getD-map-below (λ k. g (entryIn st i k)) (filledIn st i) k 0 l2)) (h k l2)
-
-  flight-parity-low : Low (parityRec (stripeIn st i) (entriesIn st i))
-  unfolding parityRec
-  flight-parity-low = (
-    xorAll-lt 64 (map (λ (x : Rec). x .address) (entriesIn st i)) (each-low (λ (x : Rec). x .address) (λ k l. f .entries-low k l .0)),
-    xorAll-lt 64 (map (λ (x : Rec). x .stamp) (entriesIn st i)) (each-low (λ (x : Rec). x .stamp) (λ k l. f .entries-low k l .1)),
-  )
+  flight-parity-low : (k : ℕ) → Low (encodeRec k (stripeIn st i) (entriesIn st i))
+  unfolding entriesIn
+  flight-parity-low k = encode-low k (stripeIn st i) (map (entryIn st i) (below (filledIn st i)))
+      (each-map Low (entryIn st i) (below (filledIn st i)) (each-below (λ n. Low (entryIn st i n)) (filledIn st i) (f .entries-low)))
 
   flight-low : (e : ℕ) → e < p .N → Low (flightRec p st i e)
   flight-low e he = go (test (isData p (stripeIn st i) e))
@@ -116,7 +81,7 @@ module _ (p : Params) (r : Ranged p) (v : View) (st : State) (z i : ℕ) (f : Sl
       go : Test (isData p (stripeIn st i) e) → Low (flightRec p st i e)
       go (yes! q) = subst (λ (x : Rec). Low x) (sym (flight-data p st i e q))
           (f .entries-low (dataPosition p (stripeIn st i) e) (subst (λ (x : ℕ). dataPosition p (stripeIn st i) e < x) (sym full) (position-lt p (stripeIn st i) e q he)))
-      go (no! q) = subst (λ (x : Rec). Low x) (sym (flight-parity p st i e q)) flight-parity-low
+      go (no! q) = subst (λ (x : Rec). Low x) (sym (flight-parity p st i e q)) (flight-parity-low (parityPosition p (stripeIn st i) e))
 
   -- stored and read back it is the same
   pub flight-back : (e : ℕ) → e < p .N → recordOf (recordBytes (flightRec p st i e)) ≡ flightRec p st i e
@@ -269,8 +234,8 @@ module _ (p : Params) (r : Ranged p) (v : View) (sh : Shaped p v) (st : State) (
         at! j e x = unfold chunkAt zoneOn in
             (ap (λ (n : ℕ). getD (zoneAt v1 e n .blocks) (1 + offsetIn st1 j e) noChunk) open1 ∙ x ∙ ap (λ (y : Rec). mkChunk (slotBlock p fl j e) (recordBytes y)) (sym (rec1 j e)))
 
-        ready! : (j : ℕ) → slotBlock p fl j (parityDrive p (stripeIn st j)) ≡ parity (p .B) (map (slotBlock p fl j) (dataDrives p (stripeIn st j)))
-            → slotBlock p fl j (parityDrive p (stripeIn st1 j)) ≡ parity (p .B) (map (slotBlock p fl j) (dataDrives p (stripeIn st1 j)))
+        ready! : (j : ℕ) → slotBlock p fl j (parityDrive p (stripeIn st j)) ≡ encodeBlock (p .B) 0 (map (slotBlock p fl j) (dataDrives p (stripeIn st j)))
+            → slotBlock p fl j (parityDrive p (stripeIn st1 j)) ≡ encodeBlock (p .B) 0 (map (slotBlock p fl j) (dataDrives p (stripeIn st1 j)))
         ready! j x = unfold stripeIn markLanded in x
 
         pending! : (j : ℕ) → keep (λ (w : Pending). eqb (w .stripe) (stripeIn st j)) ws ≡ map (pendingOf p st fl j) (keep (isWrite st j) (below (filledIn st j)))
@@ -302,13 +267,12 @@ module _ (p : Params) (r : Ranged p) (v : View) (sh : Shaped p v) (st : State) (
     made-now : completes p st i d ≡ true → ParityAt p seg1 s
     made-now q =
         piece (parityDrive p s) (parity-drive-lt p s (omega (arith, r .drives-low)))
-        ∙ ap₂ mkPiece (F .parity-ready i hi fi full!) (flight-parity p st i (parityDrive p s) no-data)
-        ∙ sym (as! (ap₂ (λ (x : List (List ℕ)) (y : List Rec). mkPiece (parity (p .B) x) (parityRec s y))
-        (map-map (λ (y : Piece). y .block) (storedPiece seg1 s) (dataDrives p s)
-        ∙ map-cong (λ e. storedPiece seg1 s e .block) (slotBlock p fl i) (dataDrives p s) (λ e m. ap (λ (y : Piece). y .block) (piece e (data-drives-in p s e m))))
-        (map-map (λ (y : Piece). y .rec) (storedPiece seg1 s) (dataDrives p s)
-        ∙ map-cong (λ e. storedPiece seg1 s e .rec) (flightRec p st i) (dataDrives p s) (λ e m. ap (λ (y : Piece). y .rec) (piece e (data-drives-in p s e m)))
-        ∙ flight-entries p r v st z i f0 filled s-low)))
+        ∙ ap₂ mkPiece (F .parity-ready i hi fi full!) (flight-parity p st i (parityDrive p s) (parity-no-data p s) ∙ first)
+        ∙ sym (encode-apart p 0 s (storedPiece seg1 s) (dataDrives p s)
+        ∙ ap₂ (λ (x : List (List ℕ)) (y : List Rec). mkPiece (encodeBlock (p .B) 0 x) (encodeRec 0 s y))
+        (map-cong (λ e. storedPiece seg1 s e .block) (slotBlock p fl i) (dataDrives p s) (λ e m. ap (λ (y : Piece). y .block) (piece e (data-drives-in p s e m))))
+        (map-cong (λ e. storedPiece seg1 s e .rec) (flightRec p st i) (dataDrives p s) (λ e m. ap (λ (y : Piece). y .rec) (piece e (data-drives-in p s e m)))
+        ∙ flight-entries p r v st z i f0 filled s-low))
       where
         f0 : SlotFlies p v st z i
         f0 = h .opens-at z oz .flight i hi fi
@@ -325,14 +289,8 @@ module _ (p : Params) (r : Ranged p) (v : View) (sh : Shaped p v) (st : State) (
         full! : isFull p st i ≡ true
         full! = unfold isFull in le-leb (dataCount p) (filledIn st i) (le-of-eq (sym filled))
 
-        no-data : isData p s (parityDrive p s) ≡ false
-        no-data = unfold isData in ap not (eq-eqb (parityDrive p s) (parityDrive p s) refl)
-
-        as! : mkPiece (parity (p .B) (map (λ (y : Piece). y .block) (map (storedPiece seg1 s) (dataDrives p s))))
-            (parityRec s (map (λ (y : Piece). y .rec) (map (storedPiece seg1 s) (dataDrives p s))))
-            ≡ mkPiece (parity (p .B) (map (slotBlock p fl i) (dataDrives p s))) (parityRec s (entriesIn st i))
-            → parityPiece p s (map (storedPiece seg1 s) (dataDrives p s)) ≡ mkPiece (parity (p .B) (map (slotBlock p fl i) (dataDrives p s))) (parityRec s (entriesIn st i))
-        as! e = unfold parityPiece in e
+        first : encodeRec (parityPosition p s (parityDrive p s)) s (entriesIn st i) ≡ encodeRec 0 s (entriesIn st i)
+        first = unfold parityPosition in refl
 
         spare! : (e x : ℕ) → recordIn p false (zoneAt v1 e z) x ≡ recordOf (getD (zoneAt v1 e z .blocks) (1 + x) noChunk .spare)
         spare! e x = unfold recordIn in refl

@@ -11,14 +11,13 @@ use lib.Dec.{eqb}
 use lib.ListN.{length, getD}
 use Rattle.spec.specs.declared.Params.{Params}
 use Rattle.spec.specs.declared.State.{State}
-use Rattle.spec.specs.Bytes.{parity}
 use Rattle.spec.specs.Drives.{Chunk, mkChunk, noChunk, Zone, View, zoneAt, pointerAt, chunkAt, storeView, storeAll, zoneOn, sealedIn, dataStored}
 use Rattle.spec.specs.Landing.{flightRec, sealStores}
-use Rattle.spec.specs.Layout.{parityDrive, dataPosition, isData, dataDrives, Rec, mkRec, recordBytes}
+use Rattle.spec.specs.Layout.{parityDrive, dataPosition, isData, parityPosition, dataDrives, Rec, mkRec, recordBytes}
 use Rattle.spec.specs.Lists.{below, keep, isIn}
 use Rattle.spec.specs.Memory.{stripeIn, filledIn, landedIn, isWrite, entryIn, entriesIn, offsetIn, openSegment, isFree, isFull, freeStripe, slotBlock}
 use Rattle.spec.specs.Params.{footers}
-use Rattle.spec.specs.Parity.{parityRec}
+use Rattle.spec.specs.Parity.{encodeBlock, encodeRec}
 use Rattle.spec.specs.Segments.{Segment, segmentOf, counts}
 use Rattle.law_basic.specs.Geometry.{Ranged}
 use Rattle.law_basic.specs.Mask.{isIn-empty}
@@ -106,10 +105,12 @@ module _ (p : Params) (v : View) (st : State) (ls : Lists st) (i : ℕ) (hi : i 
           same = unfold entryIn stripeIn freeStripe in refl
 
       as! : filledIn st2 j ≡ filledIn st j → flightRec p st2 j e ≡ flightRec p st j e
-      as! x = unfold flightRec in (ap (λ (l : List Rec). cond (isData p (stripeIn st2 j) e) (entryIn st2 j (dataPosition p (stripeIn st2 j) e)) (parityRec (stripeIn st2 j) l)) (entries! x) ∙ same)
+      as! x = unfold flightRec in
+          (ap (λ (l : List Rec). cond (isData p (stripeIn st2 j) e) (entryIn st2 j (dataPosition p (stripeIn st2 j) e)) (encodeRec (parityPosition p (stripeIn st2 j) e) (stripeIn st2 j) l))
+          (entries! x) ∙ same)
         where
-          same : cond (isData p (stripeIn st2 j) e) (entryIn st2 j (dataPosition p (stripeIn st2 j) e)) (parityRec (stripeIn st2 j) (entriesIn st j))
-              ≡ cond (isData p (stripeIn st j) e) (entryIn st j (dataPosition p (stripeIn st j) e)) (parityRec (stripeIn st j) (entriesIn st j))
+          same : cond (isData p (stripeIn st2 j) e) (entryIn st2 j (dataPosition p (stripeIn st2 j) e)) (encodeRec (parityPosition p (stripeIn st2 j) e) (stripeIn st2 j) (entriesIn st j))
+              ≡ cond (isData p (stripeIn st j) e) (entryIn st j (dataPosition p (stripeIn st j) e)) (encodeRec (parityPosition p (stripeIn st j) e) (stripeIn st j) (entriesIn st j))
           same = unfold entryIn stripeIn freeStripe in refl
 
   pub free-flights : Flights p v st2 fl (elsewhere (stripeIn st i) ws)
@@ -133,8 +134,8 @@ module _ (p : Params) (v : View) (st : State) (ls : Lists st) (i : ℕ) (hi : i 
       bit! : (j : ℕ) → isIn (landedIn st2 j) (parityDrive p (stripeIn st2 j)) ≡ true → isIn (landedIn st j) (parityDrive p (stripeIn st j)) ≡ true
       bit! j q = unfold landedIn stripeIn freeStripe in q
 
-      ready! : (j : ℕ) → slotBlock p fl j (parityDrive p (stripeIn st j)) ≡ parity (p .B) (map (slotBlock p fl j) (dataDrives p (stripeIn st j)))
-          → slotBlock p fl j (parityDrive p (stripeIn st2 j)) ≡ parity (p .B) (map (slotBlock p fl j) (dataDrives p (stripeIn st2 j)))
+      ready! : (j : ℕ) → slotBlock p fl j (parityDrive p (stripeIn st j)) ≡ encodeBlock (p .B) 0 (map (slotBlock p fl j) (dataDrives p (stripeIn st j)))
+          → slotBlock p fl j (parityDrive p (stripeIn st2 j)) ≡ encodeBlock (p .B) 0 (map (slotBlock p fl j) (dataDrives p (stripeIn st2 j)))
       ready! j x = unfold stripeIn freeStripe in x
 
       pending! : (j : ℕ) → (j ≡ i → ⊥)

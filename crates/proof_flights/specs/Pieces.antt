@@ -11,7 +11,7 @@ use Rattle.spec.specs.Drives.{noChunk, Zone, noZone, View, zoneAt, chunkAt, zon
 use Rattle.spec.specs.Layout.{parityDrive, dataDrive, dataDrives}
 use Rattle.spec.specs.Lists.{below}
 use Rattle.spec.specs.Params.{dataCount, present}
-use Rattle.spec.specs.Parity.{mkPiece, parityPiece}
+use Rattle.spec.specs.Parity.{mkPiece, encodePiece}
 use Rattle.spec.specs.Segments.{remaining, Segment, segmentOf, offsetOn, hasChunk, counts, storedPiece, storedRec}
 use Rattle.law_basic.specs.Geometry.{Ranged, parity-drive-lt, data-drive-lt}
 use Rattle.law_basic.specs.Mask.{isIn-empty}
@@ -94,7 +94,7 @@ module _ (p : Params) (v : View) (g d s : ℕ) (hd : d < p .N) where
 
 -- the stripe's pieces give its parity
 abbrev pub ParityAt : Params → Segment → ℕ → Type 0
-ParityAt p x s = storedPiece x s (parityDrive p s) ≡ parityPiece p s (map (storedPiece x s) (dataDrives p s))
+ParityAt p x s = storedPiece x s (parityDrive p s) ≡ encodePiece p 0 s (map (storedPiece x s) (dataDrives p s))
 
 -- a stripe whose pieces are the same in both
 pub record SameStripe (p : Params) (gone : ℕ) (x y : Segment) (s : ℕ) : Type 0 where
@@ -104,7 +104,7 @@ pub record SameStripe (p : Params) (gone : ℕ) (x y : Segment) (s : ℕ) : Type
 
 pub parity-goes : (p : Params) → Ranged p → (x y : Segment) (s : ℕ) → ((d : ℕ) → d < p .N → storedPiece x s d ≡ storedPiece y s d) → ParityAt p x s → ParityAt p y s
 parity-goes p r x y s sm q =
-    sym (sm (parityDrive p s) (parity-drive-lt p s (omega (arith, r .drives-low)))) ∙ q ∙ ap (parityPiece p s) data-same
+    sym (sm (parityDrive p s) (parity-drive-lt p s (omega (arith, r .drives-low)))) ∙ q ∙ ap (encodePiece p 0 s) data-same
   where
     data-same : map (storedPiece x s) (dataDrives p s) ≡ map (storedPiece y s) (dataDrives p s)
     data-same = unfold dataDrives in (

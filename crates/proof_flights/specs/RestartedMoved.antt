@@ -1,27 +1,29 @@
 -- A restart rewrites a segment: what stands in its new zones, and that the parity of each stripe there is what its data make. Assumes nothing.
 use mathlib.Core.Path.{_≡_, refl, sym, ap, ap₂, _∙_, subst}
 use mathlib.Core.List.{List, [], _∷_, _++_, map, append-nil}
-use mathlib.Core.Bool.{Bool, true, false, cond, not, _&&_}
+use mathlib.Core.Bool.{Bool, true, false, cond, _&&_}
 use Prim.Native.Nat.{ℕ, zero, suc, _+_, _^_, _<_}
 use native.Mathlib.Nat.{add-zero, zero-add}
 use native.Mathlib.Omega.{arith}
-use borrow.Author.Tests.{eq-eqb, ne-eqb}
+use borrow.Author.Tests.{ne-eqb}
 use lib.Dec.{eqb}
-use lib.ListN.{length, getD, length-map}
+use lib.ListN.{length, getD}
 use Rattle.spec.specs.declared.Params.{Params}
 use Rattle.spec.specs.Drives.{Chunk, mkChunk, noChunk, Zone, View, zoneAt, pointerAt, Store, storeView, storeAll, zoneOn, sealedIn, dataStored, recordIn, zeroSpare, headerStores, resetStores}
 use Rattle.spec.specs.Drives.Store.{put, reset}
-use Rattle.spec.specs.Layout.{parityDrive, dataDrive, dataPosition, isData, dataDrives, headerBlock, Rec, mkRec, recordBytes, recordOf}
+use Rattle.spec.specs.Layout.{parityDrive, dataDrive, dataPosition, isData, parityPosition, dataDrives, headerBlock, Rec, mkRec, recordBytes, recordOf}
 use Rattle.spec.specs.Lists.{below, keep}
 use Rattle.spec.specs.Params.{dataCount, drivesOf}
-use Rattle.spec.specs.Parity.{Piece, mkPiece, parityRec, parityPiece}
+use Rattle.spec.specs.Parity.{Piece, mkPiece, encodeBlock, encodeRec, encodePiece}
 use Rattle.spec.specs.Restart.{isWhole, renumbered, movedPieces, movedOn, movedStripe, movedStripes, rewriteStores, dropStores}
 use Rattle.spec.specs.Segments.{Segment, segmentOf, segments, offsetOn, counts, counted, storedPiece, storedRec, putPiece, greatestSerial}
-use Rattle.law_basic.specs.Geometry.{Ranged, parity-drive-lt, position-drive, drive-is-data, data-drive-lt, position-lt}
+use Rattle.law_basic.specs.Geometry.{Ranged, parity-drive-lt, position-drive, drive-is-data, data-drive-lt, parity-no-data, position-lt}
 use Rattle.law_basic.specs.Mask.{isIn-empty}
-use Rattle.law_basic.specs.Ranges.{Test, test, length-below, getD-map-below, map-map}
+use Rattle.law_basic.specs.Ranges.{Test, test, getD-map-below, map-map}
 use Rattle.law_basic.specs.Ranges.Test.{yes!, no! }
-use Rattle.law_basic.specs.Xor.{xorAll-lt}
+use Rattle.law_basic.specs.Each.{each-map, each-below}
+use Rattle.law_code.specs.Chunks.{moved-is-data, moved-is-parity}
+use Rattle.law_code.specs.Code.{encode-low, encode-stripe, encode-apart}
 use Rattle.law_drives.specs.Accept.{Accepted}
 use Rattle.law_drives.specs.Dropping.{drop-empty}
 use Rattle.law_drives.specs.Laid.{record-back}
@@ -62,20 +64,16 @@ module _ (p : Params) (x : Segment) (s k : ℕ) where
       ∙ getD-map-below from (dataCount p) (dataPosition p k e) (mkPiece [] (mkRec 0 0 0)) (position-lt p k e q he)
     where
       as! : isData p k e ≡ true → on e ≡ getD qs (dataPosition p k e) (mkPiece [] (mkRec 0 0 0))
-      as! w = unfold movedOn in cond-true (isData p k e) (getD qs (dataPosition p k e) (mkPiece [] (mkRec 0 0 0))) (parityPiece p k qs) w
+      as! w = moved-is-data p qs k e w
 
-  moved-on-parity : (e : ℕ) → isData p k e ≡ false → on e ≡ parityPiece p k qs
-  unfolding movedOn
-  moved-on-parity e q = cond-false (isData p k e) (getD qs (dataPosition p k e) (mkPiece [] (mkRec 0 0 0))) (parityPiece p k qs) q
+  moved-on-parity : (e : ℕ) → isData p k e ≡ false → on e ≡ encodePiece p 0 k qs
+  moved-on-parity e q = moved-is-parity p qs k e q ∙ (unfold parityPosition in refl)
 
   -- a segment that has these pieces
   pub moved-made : Ranged p → (y : Segment) → ((e : ℕ) → e < p .N → storedPiece y k e ≡ on e) → ParityAt p y k
   moved-made r y f =
-      f (parityDrive p k) (parity-drive-lt p k (omega (arith, r .drives-low))) ∙ moved-on-parity (parityDrive p k) no-data ∙ ap (parityPiece p k) (sym back)
+      f (parityDrive p k) (parity-drive-lt p k (omega (arith, r .drives-low))) ∙ moved-on-parity (parityDrive p k) (parity-no-data p k) ∙ ap (encodePiece p 0 k) (sym back)
     where
-      no-data : isData p k (parityDrive p k) ≡ false
-      no-data = unfold isData in ap not (eq-eqb (parityDrive p k) (parityDrive p k) refl)
-
       as! : map (storedPiece y k) (map (dataDrive p k) (below (dataCount p))) ≡ qs → map (storedPiece y k) (dataDrives p k) ≡ qs
       as! e = unfold dataDrives in e
 
@@ -96,23 +94,12 @@ module _ (p : Params) (x : Segment) (s k : ℕ) where
     unfolding renumbered
     from-low n h = low (dataDrive p s n) (data-drive-lt p s n h)
 
-    moved-fields-low : (f : Rec → ℕ) → ((n : ℕ) → n < dataCount p → f (from n .rec) < 2 ^ 64) → (i : ℕ)
-        → i < length (map f (map (λ (q : Piece). q .rec) qs)) → getD (map f (map (λ (q : Piece). q .rec) qs)) i 0 < 2 ^ 64
-    moved-fields-low f h i l =
-        let e : map f (map (λ (q : Piece). q .rec) qs) ≡ map (λ n. f (from n .rec)) (below (dataCount p)) =
-        ap (λ (w : List Piece). map f (map (λ (q : Piece). q .rec) w)) qs-are ∙ map-map f (λ (q : Piece). q .rec) (map from (below (dataCount p)))
-        ∙ map-map (λ (q : Piece). f (q .rec)) from (below (dataCount p)) in
-        let n : length (map f (map (λ (q : Piece). q .rec) qs)) ≡ dataCount p =
-        ap length e ∙ length-map (below (dataCount p)) (λ n. f (from n .rec)) ∙ length-below (dataCount p) in
-        let l2 : i < dataCount p = subst (λ (w : ℕ). i < w) n l in
-        subst (λ (w : ℕ). w < 2 ^ 64) (sym (ap (λ (w : List ℕ). getD w i 0) e ∙ getD-map-below (λ n. f (from n .rec)) (dataCount p) i 0 l2)) (h i l2)
+    made-by-rewrite : encodePiece p 0 k qs ≡ mkPiece (encodeBlock (p .B) 0 (map (λ n. from n .block) (below (dataCount p)))) (encodeRec 0 k (map (λ n. from n .rec) (below (dataCount p))))
+    made-by-rewrite = ap (encodePiece p 0 k) qs-are ∙ encode-apart p 0 k from (below (dataCount p))
 
-    parity-low : Low (parityPiece p k qs .rec)
-    unfolding parityPiece parityRec
-    parity-low = (
-      xorAll-lt 64 (map (λ (q : Rec). q .address) (map (λ (q : Piece). q .rec) qs)) (moved-fields-low (λ (q : Rec). q .address) (λ n h. from-low n h .0)),
-      xorAll-lt 64 (map (λ (q : Rec). q .stamp) (map (λ (q : Piece). q .rec) qs)) (moved-fields-low (λ (q : Rec). q .stamp) (λ n h. from-low n h .1)),
-    )
+    parity-low : Low (encodePiece p 0 k qs .rec)
+    parity-low = subst (λ (x : Piece). Low (x .rec)) (sym made-by-rewrite)
+        (encode-low 0 k (map (λ n. from n .rec) (below (dataCount p))) (each-map Low (λ n. from n .rec) (below (dataCount p)) (each-below (λ n. Low (from n .rec)) (dataCount p) from-low)))
 
     on-low : (e : ℕ) → e < p .N → Low (on e .rec) × (on e .rec .stripe ≡ k)
     on-low e he = go (test (isData p k e))
@@ -120,8 +107,8 @@ module _ (p : Params) (x : Segment) (s k : ℕ) where
         stripe-data : (n : ℕ) → from n .rec .stripe ≡ k
         stripe-data n = unfold renumbered in refl
 
-        stripe-parity : parityPiece p k qs .rec .stripe ≡ k
-        stripe-parity = unfold parityPiece parityRec in refl
+        stripe-parity : encodePiece p 0 k qs .rec .stripe ≡ k
+        stripe-parity = ap (λ (x : Piece). x .rec .stripe) made-by-rewrite ∙ encode-stripe 0 k (map (λ n. from n .rec) (below (dataCount p)))
 
         go : Test (isData p k e) → Low (on e .rec) × (on e .rec .stripe ≡ k)
         go (yes! q) = (

@@ -11,19 +11,20 @@ use lib.Dec.{eqb}
 use lib.ListN.{length, getD, drop, length-map}
 use lib.Seq.{ext-getD, getD-drop}
 use Rattle.spec.specs.declared.Params.{Params}
-use Rattle.spec.specs.Bytes.{part, xorAll}
+use Rattle.spec.specs.Bytes.{part}
 use Rattle.spec.specs.Drives.{Chunk, mkChunk, noChunk, Zone, noZone, View, zoneAt, pointerAt, chunkAt, zoneOn, sealedIn, dataStored, blocksOf, recordIn, zeroSpare}
 use Rattle.spec.specs.Faults.{sameChunk, headerFault}
 use Rattle.spec.specs.Layout.{headerBlock, headerSerial, headerCopied, Rec, mkRec, recordBytes, recordOf, footerBlock, footerRecord}
 use Rattle.spec.specs.Lists.{below, any, indexOf, sameList, tally, isIn}
 use Rattle.spec.specs.Params.{spareLen, perFooter, footers, capacity, named, present}
-use Rattle.spec.specs.Parity.{Piece, parityRec}
+use Rattle.spec.specs.Parity.{Piece, decodeRec}
 use Rattle.spec.specs.Segments.{lowDrive, headerAt, remaining, Segment, recordsIn, segmentOf, recsOn, offsetOn, hasChunk, counts, counted, storedPiece, pieceOf, storedRec, recOf}
 use Rattle.law_basic.specs.Fields.{length-record}
 use Rattle.law_basic.specs.Geometry.{Ranged, per-footer-low, footers-cover}
 use Rattle.law_basic.specs.Mask.{isIn-empty}
 use Rattle.law_basic.specs.Ranges.{and-left, and-right, map-map, getD-map, getD-map-below, sameList-true}
-use Rattle.law_basic.specs.Xor.{xorAll-lt}
+use Rattle.law_code.specs.Chunks.{chunk-stored, rec-lost}
+use Rattle.law_code.specs.Code.{decode-low, decode-stripe}
 use Rattle.law_drives.specs.Accept.{Accepted, faults-apart}
 use Rattle.law_drives.specs.Laid.{Long, getD-footer, serial-low, copied-word-low, header-serial, header-copied, record-back}
 use Rattle.law_drives.specs.Masks.{low-present}
@@ -60,10 +61,6 @@ footer-back p r q ss j b l h e f a t s =
     let ef : getD (blocksOf (drop (1 + p .S) (q .blocks))) i [] ≡ footerBlock p ss i =
     blocks-at (drop (1 + p .S) (q .blocks)) i ∙ ap (λ (c : Chunk). c .block) (getD-drop (1 + p .S) (q .blocks) i noChunk ∙ f) in
     ap (λ (y : List ℕ). recordOf (part (spareLen * (j % k)) spareLen y)) ef ∙ ap recordOf (getD-footer p r ss j l h ∙ e) ∙ record-back b a t s
-
--- numbers of 8 bytes, all together
-xor-low : (l : List ℕ) → ((n : ℕ) → In n l → n < 256 ^ 8) → xorAll l < 256 ^ 8
-xor-low l h = xorAll-lt 64 l (λ i k. h (getD l i 0) (in-getD l i 0 k))
 
 module _ (p : Params) (v : View) (d : ℕ) (lo : Loss p v d) (g : ℕ) (m : In g (remaining p v (named d))) where
   abbrev r : Ranged p
@@ -125,13 +122,11 @@ module _ (p : Params) (v : View) (d : ℕ) (lo : Loss p v d) (g : ℕ) (m : In g
 
   -- ---- the decoded records fit
 
-  rec-decoded : (s : ℕ) → recOf p gone x s d ≡ parityRec s (map (storedRec x s) (present p gone))
-  unfolding recOf
-  rec-decoded s = rw (drive-lost p v d lo)
+  rec-decoded : (s : ℕ) → recOf p gone x s d ≡ decodeRec p gone s d (storedRec x s)
+  rec-decoded s = rec-lost p gone x s d (drive-lost p v d lo)
 
   pub decoded-stripe : (s : ℕ) → recOf p gone x s d .stripe ≡ s
-  unfolding parityRec
-  decoded-stripe s = ap (λ (b : Rec). b .stripe) (rec-decoded s)
+  decoded-stripe s = ap (λ (b : Rec). b .stripe) (rec-decoded s) ∙ decode-stripe p gone s d (storedRec x s)
 
   present-rec-low : (s e : ℕ) → counts p gone x s ≡ true → In e (present p gone) → (storedRec x s e .address < 256 ^ 8) × (storedRec x s e .stamp < 256 ^ 8)
   present-rec-low s e c i =
@@ -140,16 +135,8 @@ module _ (p : Params) (v : View) (d : ℕ) (lo : Loss p v d) (g : ℕ) (m : In g
       subst (λ (b : Rec). (b .address < 256 ^ 8) × (b .stamp < 256 ^ 8)) (sym (k .its-record)) (record-low p (zoneAt v e g) (lo .shaped .zone-ok e g he hg) w (offsetOn x e s))
 
   decoded-low : (s : ℕ) → counts p gone x s ≡ true → (recOf p gone x s d .address < 256 ^ 8) × (recOf p gone x s d .stamp < 256 ^ 8)
-  decoded-low s c = subst (λ (b : Rec). (b .address < 256 ^ 8) × (b .stamp < 256 ^ 8)) (sym (rec-decoded s)) both
-    where
-      each : (f : Rec → ℕ) → ((e : ℕ) → In e (present p gone) → f (storedRec x s e) < 256 ^ 8) → xorAll (map f (map (storedRec x s) (present p gone))) < 256 ^ 8
-      each f h = xor-low (map f (map (storedRec x s) (present p gone))) (λ n i.
-          let (b, j, q) = map-in f (map (storedRec x s) (present p gone)) n i in
-          let (e, k, z) = map-in (storedRec x s) (present p gone) b j in
-          subst (λ (t : ℕ). t < 256 ^ 8) (sym (q ∙ ap f z)) (h e k))
-
-      both : (parityRec s (map (storedRec x s) (present p gone)) .address < 256 ^ 8) × (parityRec s (map (storedRec x s) (present p gone)) .stamp < 256 ^ 8)
-      both = unfold parityRec in (each (λ (b : Rec). b .address) (λ e i. present-rec-low s e c i .0), each (λ (b : Rec). b .stamp) (λ e i. present-rec-low s e c i .1))
+  decoded-low s c = subst (λ (b : Rec). (b .address < 256 ^ 8) × (b .stamp < 256 ^ 8)) (sym (rec-decoded s))
+      (decode-low p gone s d (storedRec x s) (λ e he pr. present-rec-low s e c (in-present p gone e he pr)))
 
   -- ---- records of the rebuilt zone
 
@@ -352,17 +339,13 @@ module _ (p : Params) (v : View) (d : ℕ) (lo : Loss p v d) (g : ℕ) (m : In g
   rebuilt-piece-same s e h c he = each-drive p v d lo {P = λ e. pieceOf p 0 y s e ≡ pieceOf p gone x s e} (none! d ∙ here) (λ e he pr. none! e ∙ there e he pr) e he
     where
       none! : (e : ℕ) → pieceOf p 0 y s e ≡ storedPiece y s e
-      none! e = unfold pieceOf in rw (isIn-empty e)
+      none! e = chunk-stored p 0 y s e (isIn-empty e)
 
       there : (e : ℕ) → e < p .N → isIn gone e ≡ false → storedPiece y s e ≡ pieceOf p gone x s e
-      there e he pr = unfold pieceOf storedPiece in rw (
-        pr,
-        offset-other s e he pr,
-        recs-other e he pr,
-        zone-by p u 0 g e he,
-        zone-by p v gone g e he,
-        kept-zone-here e he pr,
-      )
+      there e he pr = same ∙ sym (chunk-stored p gone x s e pr)
+        where
+          same : storedPiece y s e ≡ storedPiece x s e
+          same = unfold storedPiece in rw (offset-other s e he pr, recs-other e he pr, zone-by p u 0 g e he, zone-by p v gone g e he, kept-zone-here e he pr)
 
       block! : getD (getD (y .zonesBy) d noZone .blocks) (1 + offsetOn y d s) noChunk .block ≡ pieceOf p gone x s d .block
       block! =

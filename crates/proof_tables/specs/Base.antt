@@ -7,7 +7,6 @@ use borrow.Author.Tests.{ne-eqb}
 use native.Mathlib.Omega.{arith}
 use lib.Dec.{lit<}
 use Rattle.spec.specs.declared.Params.{Params}
-use Rattle.spec.specs.Bytes.{parity}
 use Rattle.spec.specs.Counts.{neverPlace}
 use Rattle.spec.specs.Demands.{saidBlock}
 use Rattle.spec.specs.Drives.{View, zoneAt, chunkAt, Disk, zoneOn, placeSegment, sealedIn, recordIn, recordAt}
@@ -17,18 +16,20 @@ use Rattle.spec.specs.Lists.{Opt, any, consIf, isNil, firstOr, isIn}
 use Rattle.spec.specs.Lists.Opt.{none, some}
 use Rattle.spec.specs.Memory.{Memory, stateOk, placeAt, shownAt}
 use Rattle.spec.specs.Params.{inRange, placeBlock, placeDrive, present}
-use Rattle.spec.specs.Parity.{Piece, parityPiece}
+use Rattle.spec.specs.Parity.{Piece, decodePiece}
 use Rattle.spec.specs.Rank.{Cand, best, placeOr, candsOf}
 use Rattle.spec.specs.Read.{Found, lookup, foundFaults, shown, decodeFaults, storedAt, decodedAt, readPiece}
 use Rattle.spec.specs.Read.Found.{nowhere, here, away}
-use Rattle.spec.specs.Segments.{segmentOf, segments, offsetOn, storedPiece, pieceOf, offsetOf, candidates, addressTable, compactTable}
+use Rattle.spec.specs.Segments.{segmentOf, segments, offsetOn, storedPiece, pieceOf, offsetOf, candidates, addressTable, compactTable, Segment}
 use Rattle.law_basic.specs.Geometry.{Ranged}
-use Rattle.law_basic.specs.Ranges.{Test, test, map-map}
+use Rattle.law_basic.specs.Ranges.{Test, test}
 use Rattle.law_basic.specs.Ranges.Test.{yes!, no! }
+use Rattle.law_code.specs.Chunks.{chunk-decoded}
+use Rattle.law_code.specs.Code.{decode-apart, decode-block-same}
 use Rattle.law_views.specs.Views.{seen}
 use Rattle.law_drives.specs.Best.{best-in}
-use Rattle.law_drives.specs.Members.{In, map-in, in-none, map-cong}
-use Rattle.law_drives.specs.Segs.{present-in, zone-by, ChunkAt, chunk-at, CandAt, cand-at}
+use Rattle.law_drives.specs.Members.{In, map-in, in-none}
+use Rattle.law_drives.specs.Segs.{present-in, zone-by, ChunkAt, chunk-at, CandAt, cand-at, in-present}
 use Rattle.law_drives.specs.Spots.{Spot, counts-in, spot-of, spot-block, spot-drive, spot-low, spot-faults, InGroups, shown-first, cand-offset, cand-zone}
 use Rattle.law_drives.specs.Tables.{place-at, remains}
 use Rattle.law_drives.specs.Tests.{cond-true, cond-false}
@@ -137,19 +138,28 @@ module _ (p : Params) (r : Ranged p) (v : View) (gone : ℕ) where
 
     pub said-away : InGroups p v gone → isIn gone (c .drive) ≡ true
         → saidBlock p v gone (some c) ≡ got (readPiece p v gone (compactTable p (segments p v gone)) (away (c .place)) .block)
-    unfolding saidBlock readPiece decodedAt placeSegment pieceOf parityPiece
+    unfolding saidBlock readPiece placeSegment
     said-away w b =
-        let g = k .of in
-        let x = segmentOf p v gone g in
-        let tb = compactTable p (segments p v gone) in
         let eo : c .offset ≡ k .stripe = offset-away b in
         let eb : placeBlock p (c .place) - 1 ≡ k .stripe = ap (λ (y : ℕ). y - 1) (spot-block p r v gone c t) ∙ (let z : 1 + c .offset - 1 ≡ c .offset = omega arith in z) ∙ eo in
-        rw (b, cand-zone p r v gone c k t, eo, eb)
-        (ap (λ (y : List (List ℕ)). got (parity (p .B) y))
-        (map-map (λ (q : Piece). q .block) (storedPiece x (k .stripe)) (present p gone)
-        ∙ map-cong (λ d. storedPiece x (k .stripe) d .block) (λ d. storedAt p v gone d g (firstOr 0 (shownAt p v tb d g (k .stripe))) .block) (present p gone)
-        (λ d i. sym (block-of-shown w d i))
-        ∙ sym (map-map (λ (q : Piece). q .block) (λ d. storedAt p v gone d g (firstOr 0 (shownAt p v tb d g (k .stripe)))) (present p gone))))
+        rw (b, cand-zone p r v gone c k t, eo, eb, spot-drive p r v gone c t) (ap got (same w b))
+      where
+        x : Segment
+        x = segmentOf p v gone (k .of)
+
+        at : ℕ → Piece
+        at d = storedAt p v gone d (k .of) (firstOr 0 (shownAt p v (compactTable p (segments p v gone)) d (k .of) (k .stripe)))
+
+        read! : decodedAt p v gone (compactTable p (segments p v gone)) (c .drive) (k .of) (k .stripe) ≡ decodePiece p gone (k .stripe) (c .drive) at
+        read! = unfold decodedAt in refl
+
+        same : InGroups p v gone → isIn gone (c .drive) ≡ true
+            → pieceOf p gone x (k .stripe) (c .drive) .block ≡ decodedAt p v gone (compactTable p (segments p v gone)) (c .drive) (k .of) (k .stripe) .block
+        same w b =
+            ap (λ (q : Piece). q .block) (chunk-decoded p gone x (k .stripe) (c .drive) b ∙ decode-apart p gone (k .stripe) (c .drive) (storedPiece x (k .stripe)))
+            ∙ decode-block-same p gone (k .stripe) (c .drive) (λ d. storedPiece x (k .stripe) d .block) (λ d. at d .block)
+            (λ d hd pr. sym (block-of-shown w d (in-present p gone d hd pr)))
+            ∙ sym (ap (λ (q : Piece). q .block) (read! ∙ decode-apart p gone (k .stripe) (c .drive) at))
 
     pub decode-clear : InGroups p v gone → isIn gone (c .drive) ≡ true → decodeFaults p v gone (compactTable p (segments p v gone)) (away (c .place)) ≡ []
     unfolding decodeFaults shown consIf

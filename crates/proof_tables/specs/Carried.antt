@@ -14,8 +14,7 @@ use Rattle.spec.specs.Layout.{dataPosition, isData, group, Rec}
 use Rattle.spec.specs.Lists.{isIn}
 use Rattle.spec.specs.Memory.{slots, stripeIn, filledIn, landedIn, entryIn, offsetIn, setStamp, beginStripe, addEntry}
 use Rattle.spec.specs.Params.{capacity}
-use Rattle.law_basic.specs.Geometry.{Ranged}
-use Rattle.law_drives.specs.Range.{data-count}
+use Rattle.law_basic.specs.Geometry.{Ranged, data-count-low}
 use Rattle.law_drives.specs.States.{StateOk}
 use Rattle.law_drives.specs.Tests.{or-true-right, eqb-self}
 use Rattle.law_drives.specs.Tidy.{spareAt, Tidy}
@@ -124,7 +123,7 @@ unfolding setStamp stripeIn filledIn landedIn
 stamp-ok p st t s = record {
   live-is = s .live-is;
   missing-low = s .missing-low;
-  missing-one = s .missing-one;
+  missing-few = s .missing-few;
   opened-low = s .opened-low;
   next-low = s .next-low;
   slots-ok = λ i h. record { stripe-ok = s .slots-ok i h .stripe-ok; filled-ok = s .slots-ok i h .filled-ok; writes-ok = s .slots-ok i h .writes-ok; landed-ok = s .slots-ok i h .landed-ok };
@@ -188,4 +187,4 @@ begin-healthy p r v st z i a t w h so op hi fi nx gr ha ht = record {
         let k = begin-ok p r st (h .lists) so i hi nx in
         busy-same p v sw more! (flies sw) y same!
         (add-open p r v su (begin-lists st (h .lists) i hi) more! y i a t w hi (or-true-right (flies st i) (eqb i i) (eqb-self i))
-        (let e = filled-begun st (h .lists) i hi in let c = data-count p r in omega (arith, r .drives-low)) ha ht b (λ j hj. k .slots-ok j hj .filled-ok))
+        (let e = filled-begun st (h .lists) i hi in let c = data-count-low p r in omega arith) ha ht b (λ j hj. k .slots-ok j hj .filled-ok))

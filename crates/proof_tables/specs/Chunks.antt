@@ -23,17 +23,17 @@ use Rattle.spec.specs.Landing.{ready, completes, flightRec, serialAt, heldCand,
 use Rattle.spec.specs.Layout.{dataDrive, dataPosition, isData, group, compactEntry, headerSerial, Rec, mkRec, recordBytes, recordOf}
 use Rattle.spec.specs.Lists.{below, all, consIf, keep, tally, only, isIn}
 use Rattle.spec.specs.Lists.Opt.{none, some}
-use Rattle.spec.specs.Memory.{slots, cell, stripeIn, filledIn, landedIn, entryIn, entriesIn, offsetIn, isFree, isFull, inFlight, landedMask, markLanded, freeStripe, placeAt, compactAt}
-use Rattle.spec.specs.Params.{dataCount, capacity, placeOf, placeBlock, placeZone, placeDrive, present}
-use Rattle.spec.specs.Parity.{parityRec}
+use Rattle.spec.specs.Memory.{slots, cell, stripeIn, filledIn, landedIn, entryIn, offsetIn, isFree, isFull, inFlight, landedMask, markLanded, freeStripe, placeAt, compactAt}
+use Rattle.spec.specs.Params.{dataCount, capacity, placeOf, placeBlock, placeZone, placeDrive, present, parityCount}
 use Rattle.spec.specs.Rank.{Cand, best, candsOf}
 use Rattle.spec.specs.Read.Found.{away}
 use Rattle.spec.specs.Segments.{headerAt, remaining, Segment, recordsIn, segmentOf, segments, recsOn, offsetOn, hasChunk, counts, storedRec, recOf, offsetOf}
 use Rattle.spec.specs.Segments.{candOf, candidates, addressTable, compactRow, compactTable}
-use Rattle.law_basic.specs.Geometry.{Ranged, compact-within, position-drive, drive-is-data, data-drive-lt}
+use Rattle.law_basic.specs.Geometry.{Ranged, compact-within, position-drive, drive-is-data, data-drive-lt, data-count-low}
 use Rattle.law_basic.specs.Mask.{isIn-empty, isIn-with}
 use Rattle.law_basic.specs.Ranges.{Test, test, and-left, and-right, and-both}
 use Rattle.law_basic.specs.Ranges.Test.{yes!, no! }
+use Rattle.law_code.specs.Chunks.{rec-here, flight-data, flight-stripe}
 use Rattle.law_views.specs.Pointers.{index-drive, index-zone}
 use Rattle.law_views.specs.Views.{blocks-long}
 use Rattle.law_drives.specs.Growing.{Grows, grows-used, grows-header, grows-tidy, grows-remaining}
@@ -41,7 +41,7 @@ use Rattle.law_drives.specs.Laid.{record-stripe, record-back}
 use Rattle.law_drives.specs.Masks.{only-low, full-mask, not-full}
 use Rattle.law_drives.specs.Members.{In, in-left, in-right, in-append, in-map, map-in, in-all, in-below, below-in}
 use Rattle.law_drives.specs.Puts.{data-sound}
-use Rattle.law_drives.specs.Range.{data-count, capacity-over}
+use Rattle.law_drives.specs.Range.{capacity-over}
 use Rattle.law_drives.specs.Segs.{present-in, remaining-low, length-records, record-at, data-low, low-data, recs-here, seg-is, chunk-at, has-chunk, offset-is, no-chunk, CandAt, cand-at, at-cand}
 use Rattle.law_drives.specs.Settled.{remains-used, used-remains, remains-is-used, serial-of, its-serial, cands-apart, zones-sealed, zones-pointer, cand-goes, row-goes, sealed-full}
 use Rattle.law_drives.specs.Slots.{cell-low}
@@ -132,11 +132,7 @@ module _ (p : Params) (r : Ranged p) (v : View) (sh : Shaped p v) (st : State) (
   rc = flightRec p st i d
 
   pub stripe-of : rc .stripe ≡ s
-  stripe-of = go (test (isData p s d))
-    where
-      go : Test (isData p s d) → flightRec p st i d .stripe ≡ s
-      go (yes! q) = unfold flightRec entryIn in ap (λ (x : Rec). x .stripe) (cond-true (isData p s d) (entryIn st i (dataPosition p s d)) (parityRec s (entriesIn st i)) q)
-      go (no! q) = unfold flightRec parityRec in ap (λ (x : Rec). x .stripe) (cond-false (isData p s d) (entryIn st i (dataPosition p s d)) (parityRec s (entriesIn st i)) q)
+  stripe-of = flight-stripe p st i d
 
   stripe-low : s < 256 ^ 4
   stripe-low = let a = so .slots-ok i hi .stripe-ok in let c = r .stripes-high in omega arith
@@ -146,12 +142,9 @@ module _ (p : Params) (r : Ranged p) (v : View) (sh : Shaped p v) (st : State) (
 
   read-entry : isData p s d ≡ true → recordOf (recordBytes rc) ≡ entryIn st i (dataPosition p s d)
   read-entry q =
-      let e : rc ≡ entryIn st i (dataPosition p s d) = data-rec q in
+      let e : rc ≡ entryIn st i (dataPosition p s d) = flight-data p st i d q in
       let (a, t) = fl .entries-low (dataPosition p s d) (position-filled q) in
       record-back rc (subst (λ (x : Rec). x .address < 256 ^ 8) (sym e) a) (subst (λ (x : Rec). x .stamp < 256 ^ 8) (sym e) t) (subst (λ (x : ℕ). x < 256 ^ 4) (sym stripe-of) stripe-low) ∙ e
-    where
-      data-rec : isData p s d ≡ true → flightRec p st i d ≡ entryIn st i (dataPosition p s d)
-      data-rec q = unfold flightRec in cond-true (isData p s d) (entryIn st i (dataPosition p s d)) (parityRec s (entriesIn st i)) q
 
   -- ---- the view
 
@@ -585,7 +578,7 @@ module _ (p : Params) (r : Ranged p) (v : View) (sh : Shaped p v) (st : State) (
   cand-eq t e k = as! (rec-is seg0 ∙ k .same-record! ∙ sym (rec-is seg1)) (off-is seg0 ∙ k .same-offset! ∙ sym (off-is seg1))
     where
       rec-is : (x : Segment) → recOf p 0 x t e ≡ storedRec x t e
-      rec-is x = unfold recOf in cond-false (isIn 0 e) (parityRec t (map (storedRec x t) (present p 0))) (storedRec x t e) (isIn-empty e)
+      rec-is x = rec-here p 0 x t e (isIn-empty e)
 
       off-is : (x : Segment) → offsetOf 0 x t e ≡ offsetOn x e t
       off-is x = unfold offsetOf in cond-false (isIn 0 e) t (offsetOn x e t) (isIn-empty e)
@@ -715,8 +708,7 @@ module _ (p : Params) (r : Ranged p) (v : View) (sh : Shaped p v) (st : State) (
   pub all-filled : completes p st i d ≡ true → filledIn st1 i ≡ dataCount p
   all-filled q =
       let n = dataCount p - 1 in
-      let c = data-count p r in
-      let l : n < dataCount p = (let x = r .drives-low in omega arith) in
+      let l : n < dataCount p = (let x = data-count-low p r in omega arith) in
       let dd = dataDrive p s n in
       let hdd = data-drive-lt p s n l in
       let f = flight-here .lands dd hdd (all-landed q dd hdd) .is-entry (ap (λ (x : ℕ). isData p x dd) (landed-stripe i) ∙ drive-is-data p s n) .0 in
@@ -737,7 +729,7 @@ module _ (p : Params) (r : Ranged p) (v : View) (sh : Shaped p v) (st : State) (
       as! n dd (ap (λ (m : ℕ). dataDrive p m n) (landed-stripe i)) e w
     where
       rec-is : (e : ℕ) → recOf p 0 seg1 s e ≡ storedRec seg1 s e
-      rec-is e = unfold recOf in cond-false (isIn 0 e) (parityRec s (map (storedRec seg1 s) (present p 0))) (storedRec seg1 s e) (isIn-empty e)
+      rec-is e = rec-here p 0 seg1 s e (isIn-empty e)
 
       off-is : (e : ℕ) → offsetOf 0 seg1 s e ≡ offsetOn seg1 e s
       off-is e = unfold offsetOf in cond-false (isIn 0 e) s (offsetOn seg1 e s) (isIn-empty e)
@@ -988,7 +980,7 @@ module _ (p : Params) (r : Ranged p) (v : View) (sh : Shaped p v) (st : State) (
   mark-ok = record {
     live-is = live-same ∙ so .live-is;
     missing-low = subst (λ (x : ℕ). x < 2 ^ p .N) (sym missing-same) (so .missing-low);
-    missing-one = subst (λ (x : ℕ). ones x ≤ 1) (sym missing-same) (so .missing-one);
+    missing-few = subst (λ (x : ℕ). ones x ≤ parityCount p) (sym missing-same) (so .missing-few);
     opened-low = subst (λ (x : ℕ). x ≤ p .Z) (sym opened1) (so .opened-low);
     next-low = subst (λ (x : ℕ). x ≤ p .S) (sym next1) (so .next-low);
     slots-ok = λ j hj. record {
@@ -1087,7 +1079,7 @@ module _ (p : Params) (r : Ranged p) (v : View) (sh : Shaped p v) (st : State) (
   freed-state = record {
     live-is = live-same ∙ mark-ok .live-is;
     missing-low = subst (λ (x : ℕ). x < 2 ^ p .N) (sym missing-same) (mark-ok .missing-low);
-    missing-one = subst (λ (x : ℕ). ones x ≤ 1) (sym missing-same) (mark-ok .missing-one);
+    missing-few = subst (λ (x : ℕ). ones x ≤ parityCount p) (sym missing-same) (mark-ok .missing-few);
     opened-low = subst (λ (x : ℕ). x ≤ p .Z) (sym opened-same) (mark-ok .opened-low);
     next-low = subst (λ (x : ℕ). x ≤ p .S) (sym next-same) (mark-ok .next-low);
     slots-ok = λ j hj. record {

@@ -18,11 +18,10 @@ use Rattle.spec.specs.Drives.{View, pointerAt}
 use Rattle.spec.specs.Layout.{dataDrive}
 use Rattle.spec.specs.Lists.{only}
 use Rattle.spec.specs.Memory.{stripeIn, filledIn, isFull, beginStripe, addEntry, setSlotBlock, setSlotParity}
-use Rattle.spec.specs.Params.{dataCount, capacity, inflightLen}
+use Rattle.spec.specs.Params.{dataCount, capacity, inflightLen, parityCount}
 use Rattle.spec.specs.Write.{placed}
-use Rattle.law_basic.specs.Geometry.{Ranged, data-drive-lt}
+use Rattle.law_basic.specs.Geometry.{Ranged, data-drive-lt, data-count-high}
 use Rattle.law_drives.specs.Masks.{only-low}
-use Rattle.law_drives.specs.Range.{data-count}
 use Rattle.law_drives.specs.Slots.{slot-long, parity-long}
 use Rattle.law_drives.specs.States.{SlotOk, StateOk}
 use Rattle.law_drives.specs.Tests.{clash}
@@ -55,7 +54,7 @@ module _ (p : Params) (r : Ranged p) (st : State) (ls : Lists st) (so : StateOk 
   add-ok a t w f hw = record {
     live-is = live-same ∙ so .live-is;
     missing-low = subst (λ (x : ℕ). x < 2 ^ p .N) (sym missing-same) (so .missing-low);
-    missing-one = subst (λ (x : ℕ). ones x ≤ 1) (sym missing-same) (so .missing-one);
+    missing-few = subst (λ (x : ℕ). ones x ≤ parityCount p) (sym missing-same) (so .missing-few);
     opened-low = subst (λ (x : ℕ). x ≤ p .Z) (sym opened-same) (so .opened-low);
     next-low = subst (λ (x : ℕ). x ≤ p .S) (sym next-same) (so .next-low);
     slots-ok = λ j hj. go j (so .slots-ok j hj) (ℕ-discrete j i);
@@ -79,7 +78,7 @@ module _ (p : Params) (r : Ranged p) (st : State) (ls : Lists st) (so : StateOk 
 
       mask-low : (k w : ℕ) → w ≤ 1 → k < dataCount p → w * only k < 2 ^ dataCount p
       mask-low k zero h l = subst (λ (x : ℕ). x < 2 ^ dataCount p) (sym (zero-mul (only k))) (pow-pos (dataCount p))
-      mask-low k (suc zero) h l = subst (λ (x : ℕ). x < 2 ^ dataCount p) (sym (one-mul (only k))) (only-low k (dataCount p) l (let e = data-count p r in omega (arith, r .drives-high)))
+      mask-low k (suc zero) h l = subst (λ (x : ℕ). x < 2 ^ dataCount p) (sym (one-mul (only k))) (only-low k (dataCount p) l (let e = data-count-high p r in omega arith))
       mask-low k (suc (suc w)) h l = absurd (let z : ⊥ = omega arith in z)
 
       go : (j : ℕ) → SlotOk p st j → Dec (j ≡ i) → SlotOk p (addEntry st i a t w) j
@@ -102,7 +101,7 @@ module _ (p : Params) (r : Ranged p) (st : State) (ls : Lists st) (so : StateOk 
   begin-ok nx = record {
     live-is = live-same ∙ so .live-is;
     missing-low = subst (λ (x : ℕ). x < 2 ^ p .N) (sym missing-same) (so .missing-low);
-    missing-one = subst (λ (x : ℕ). ones x ≤ 1) (sym missing-same) (so .missing-one);
+    missing-few = subst (λ (x : ℕ). ones x ≤ parityCount p) (sym missing-same) (so .missing-few);
     opened-low = subst (λ (x : ℕ). x ≤ p .Z) (sym opened-same) (so .opened-low);
     next-low = subst (λ (x : ℕ). x ≤ p .S) (sym (begin-next st ls i hi)) nx;
     slots-ok = λ j hj. go j (so .slots-ok j hj) (ℕ-discrete j i);

@@ -406,7 +406,7 @@ module _ (p : Params) (k : Disk) (m : Memory) (u : Run p k m) (we : Well p k m) 
         closed-ok sx = unfold setClosed stripeIn filledIn landedIn in record {
           live-is = sx .live-is;
           missing-low = sx .missing-low;
-          missing-one = sx .missing-one;
+          missing-few = sx .missing-few;
           opened-low = omega arith;
           next-low = omega arith;
           slots-ok =

@@ -15,7 +15,7 @@ use Rattle.spec.specs.Layout.{dataPosition, isData, group, Rec}
 use Rattle.spec.specs.Lists.{any, tally, isIn}
 use Rattle.spec.specs.Memory.{slots, cell, stripeIn, filledIn, landedIn, entryIn, beginStripe, addEntry}
 use Rattle.spec.specs.Params.{dataCount}
-use Rattle.law_basic.specs.Geometry.{Ranged}
+use Rattle.law_basic.specs.Geometry.{Ranged, data-count-high}
 use Rattle.law_basic.specs.Mask.{isIn-empty}
 use Rattle.law_basic.specs.Ranges.{Test, test, and-both}
 use Rattle.law_basic.specs.Ranges.Test.{yes!, no! }
@@ -53,8 +53,7 @@ module _ (p : Params) (r : Ranged p) (v : View) (st : State) (ls : Lists st) (bu
   st′ = addEntry st i a t w
 
   eight : dataCount p ≤ 7
-  unfolding dataCount
-  eight = omega (arith, r .drives-high)
+  eight = data-count-high p r
 
   -- entries that were there stay
   kept-entry : (j e : ℕ) → e < 8 → ((j ≡ i → ⊥) ⊎ (e < filledIn st i)) → entryIn st′ j e ≡ entryIn st j e

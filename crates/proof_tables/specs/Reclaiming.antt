@@ -16,11 +16,10 @@ use Rattle.spec.specs.Engine.{storeCount, lentBlock, verdict, lentOk, callOn, c
 use Rattle.spec.specs.Engine.Call.{reclaim}
 use Rattle.spec.specs.History.{step}
 use Rattle.spec.specs.Layout.{dataDrive, Rec}
-use Rattle.spec.specs.Lists.{Opt, below, isMember, keep, isNil, firstOr, isIn}
+use Rattle.spec.specs.Lists.{Opt, below, isMember, keep, isNil, firstOr}
 use Rattle.spec.specs.Lists.Opt.{none, some}
 use Rattle.spec.specs.Memory.{Memory, mkMemory}
-use Rattle.spec.specs.Params.{between, capacity, placeOf, placeBlock, placeZone, placeDrive, drivesOf, present}
-use Rattle.spec.specs.Parity.{parityRec}
+use Rattle.spec.specs.Params.{between, capacity, placeOf, placeBlock, placeZone, placeDrive, drivesOf}
 use Rattle.spec.specs.Rank.{Cand, best, candsOf}
 use Rattle.spec.specs.Reclaim.{placesIn, segmentPlaces, liveIn, flying, Victim, victimOf, fewer, fewest, victim, isNone, victimSegment}
 use Rattle.spec.specs.Reclaim.{victimLive, idle, reclaimChecks, cleared, resetPlan, copyPlan, reclaimVerdict}
@@ -30,6 +29,7 @@ use Rattle.law_basic.specs.Geometry.{between-of, Ranged, ranged}
 use Rattle.law_basic.specs.Mask.{isIn-empty}
 use Rattle.law_basic.specs.Ranges.{Test, test, nil-is}
 use Rattle.law_basic.specs.Ranges.Test.{yes!, no! }
+use Rattle.law_code.specs.Chunks.{rec-here}
 use Rattle.law_views.specs.Views.{seen}
 use Rattle.law_drives.specs.Best.{fewer-is}
 use Rattle.law_drives.specs.Lengths.{whole-of}
@@ -145,7 +145,7 @@ cand-record p r v s t c k =
     )
   where
     rec-of : (x : Segment) (s d : ℕ) → recOf p 0 x s d ≡ storedRec x s d
-    rec-of x s d = unfold recOf in cond-false (isIn 0 d) (parityRec s (map (storedRec x s) (present p 0))) (storedRec x s d) (isIn-empty d)
+    rec-of x s d = rec-here p 0 x s d (isIn-empty d)
 
     cand-address : (x : Segment) (s d : ℕ) → candOf p 0 x s d .address ≡ recOf p 0 x s d .address
     cand-address x s d = unfold candOf in refl

@@ -20,12 +20,11 @@ use Rattle.spec.specs.Params.{dataCount, inflightLen}
 use Rattle.spec.specs.Segments.{segments, candidates, addressTable, compactTable}
 use Rattle.spec.specs.Write.{mustOpen, opens, noSerial, otherGroup, mustWait, placed, Sending, openedBy, slotFor, begunBy, sending, scarce}
 use Rattle.law_basic.specs.Be.{be-room}
-use Rattle.law_basic.specs.Geometry.{Ranged}
+use Rattle.law_basic.specs.Geometry.{Ranged, data-count-low}
 use Rattle.law_basic.specs.Ranges.{Test, test, and-left, and-right, length-below}
 use Rattle.law_basic.specs.Ranges.Test.{yes!, no! }
 use Rattle.law_drives.specs.Headers.{header-roomy, header-within, empty-all}
 use Rattle.law_drives.specs.Members.{In, in-keep, keep-in, none-in, in-any, below-in, first-in, in-some}
-use Rattle.law_drives.specs.Range.{data-count}
 use Rattle.law_drives.specs.Slots.{slot-found}
 use Rattle.law_drives.specs.States.{StateOk, in-slots, slots-in}
 use Rattle.law_drives.specs.Tests.{clash, or-first, or-right, or-cases, not-so}
@@ -106,7 +105,7 @@ module _ (p : Params) (r : Ranged p) (v : View) (sh : Shaped p v) (st : State) (
   sent = sending p v st fl a t w b
 
   two-up : 0 < dataCount p
-  two-up = let c = data-count p r in omega (arith, r .drives-low)
+  two-up = let c = data-count-low p r in omega arith
 
   -- the next position of the filling stripe
   fills : hasFilling p st ≡ true → SentOk p v st (sent .state) (sent .stores) (sent .inflight)
@@ -286,7 +285,7 @@ module _ (p : Params) (r : Ranged p) (v : View) (sh : Shaped p v) (st : State) (
         open-ok g x hg = unfold setOpen stripeIn filledIn landedIn in record {
           live-is = so .live-is;
           missing-low = so .missing-low;
-          missing-one = so .missing-one;
+          missing-few = so .missing-few;
           opened-low = hg;
           next-low = omega arith;
           slots-ok =

@@ -1,6 +1,6 @@
 -- The lost chunks of a group, and of all groups (01, Rebuild; Restart, 3). Assumes nothing.
 use mathlib.Core.Path.{_≡_, refl, sym, ap, _∙_, subst}
-use mathlib.Core.List.{List, [], _∷_, _++_, map}
+use mathlib.Core.List.{List, [], _∷_, _++_}
 use mathlib.Core.Bool.{Bool, true, false, cond}
 use Prim.Native.Nat.{ℕ, _+_, _-_, _%_, _≤_, _<_}
 use native.Mathlib.Nat.{zero-mod, add-mod-right}
@@ -12,14 +12,16 @@ use Rattle.spec.specs.Drives.Store.{put}
 use Rattle.spec.specs.Layout.{Rec, recordBytes}
 use Rattle.spec.specs.Lists.{upFrom, below, isIn}
 use Rattle.spec.specs.Params.{capacity, pointersLen, present}
-use Rattle.spec.specs.Parity.{Piece, parityRec, parityPiece}
+use Rattle.spec.specs.Parity.{Piece, decodeBlock, decodeRec}
 use Rattle.spec.specs.Segments.{lowDrive, Segment, segmentOf, recsOn, counts, storedPiece, pieceOf, putPiece, storedRec}
 use Rattle.law_basic.specs.Geometry.{Ranged, zone-on-lt}
 use Rattle.law_basic.specs.Ranges.{upFrom-end, below-start, any-same}
+use Rattle.law_code.specs.Chunks.{chunk-decoded, rec-lost}
+use Rattle.law_code.specs.Code.{decode-apart}
 use Rattle.law_views.specs.Views.{Whole, pointer-view, AllFit, seen}
 use Rattle.law_drives.specs.Frame.{Agree, same-sealed}
 use Rattle.law_drives.specs.Members.{In}
-use Rattle.law_drives.specs.Segs.{seg-is}
+use Rattle.law_drives.specs.Segs.{seg-is, piece-rec}
 use Rattle.recover_reset.specs.Lost.{lost-start, lostStore, lostStores, lost-none, lost-append, lost-hit, lost-step, lost-end, lost-apart, same-lost}
 use Rattle.recover_drop.specs.Going.{going-first}
 use Rattle.disk_zones.specs.declared.Made.{Made}
@@ -27,7 +29,6 @@ use Rattle.disk_zones.specs.Made.{Storing}
 use Rattle.recover_groups.specs.declared.Group.{Group}
 use Rattle.recover_groups.specs.Bases.{stripes-step}
 use Rattle.recover_groups.specs.Groups.{groupLen, recsBad, recsFault, Indexed, segmentIn, GroupReads}
-use Rattle.recover_groups.specs.Pieces.{lost-piece, lost-piece-rec}
 use Rattle.recover_reset.specs.Same.{same-recs-on, same-has, same-offset}
 use Rattle.recover_decode.specs.Moving.{Lacks, OnDrive, Moving, moving-start, moving-as, moving-cut, moving-turn, moving-done, drive-apart}
 
@@ -36,15 +37,14 @@ lost-on p gone d g ss e y q = lost-apart p gone d g ss e y (drive-apart d e (zon
 
 -- the store of a decoded chunk
 pub lost-store-is : (p : Params) (v : View) (gone seg d s : ℕ) (b : List ℕ) (q : Rec) → isIn gone d ≡ true
-    → b ≡ parityPiece p s (map (storedPiece (segmentOf p v gone seg) s) (present p gone)) .block
-    → q ≡ parityRec s (map (storedRec (segmentOf p v gone seg) s) (present p gone))
+    → b ≡ decodeBlock p gone s d (λ e. storedPiece (segmentOf p v gone seg) s e .block)
+    → q ≡ decodeRec p gone s d (storedRec (segmentOf p v gone seg) s)
     → put d (zoneOn seg d) b (recordBytes q) ≡ lostStore p gone d (segmentOf p v gone seg) s
 unfolding lostStore putPiece
 lost-store-is p v gone seg d s b q lost eb eq =
     let sg = segmentOf p v gone seg in
-    let e = lost-piece p gone sg s d lost in
-    let f : b ≡ pieceOf p gone sg s d .block = eb ∙ ap (λ (x : Piece). x .block) (sym e) in
-    let h : q ≡ pieceOf p gone sg s d .rec = eq ∙ sym (lost-piece-rec p sg s (present p gone)) ∙ ap (λ (x : Piece). x .rec) (sym e) in
+    let f : b ≡ pieceOf p gone sg s d .block = eb ∙ sym (ap (λ (x : Piece). x .block) (chunk-decoded p gone sg s d lost ∙ decode-apart p gone s d (storedPiece sg s))) in
+    let h : q ≡ pieceOf p gone sg s d .rec = eq ∙ sym (piece-rec p gone sg s d ∙ rec-lost p gone sg s d lost) in
     λ j. put d (zoneOn (sym (seg-is p v gone seg) j) d) (f j) (recordBytes (h j))
 
 -- room for one

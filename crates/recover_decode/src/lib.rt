@@ -45,8 +45,8 @@ fn put_lost_with(
         Storing p count (lostStore p (w .gone) drive (segmentIn p (now (image .entry)) (now (pointers .entry)) w) (w .base + k) ∷ [])
         (mkDisk (now (image .entry)) (now (pointers .entry))) r (mkDisk (now (image .exit)) (now (pointers .exit))) ⌝ }
 {
-    recover_groups::lost_block(p, image, w, at, k, block);
-    let q = recover_groups::lost_rec(p, image, w, at, k);
+    recover_groups::lost_block(p, image, w, at, drive, k, block);
+    let q = recover_groups::lost_rec(p, image, w, at, drive, k);
     let mut spare = [0u8; disk_shape::SPARE];
     disk_records::write_record(&mut spare, q);
     let zone = disk_shape::zone_on(w.seg, drive);

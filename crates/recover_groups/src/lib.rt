@@ -1,24 +1,23 @@
 // Groups of a segment: the index of a group's chunks, its records and blocks, stored and lost (01, What a zone holds; Restart, 3; Refusals, 9).
 ghost use mathlib.Core.Path.{_≡_};
 ghost use mathlib.Core.Bool.{true, false, cond, not, _||_};
-ghost use mathlib.Core.List.{List, map};
+ghost use mathlib.Core.List.{List};
 ghost use Prim.Native.Nat.{ℕ, _+_, _-_, _*_, _%_, _≤_, _<_};
 ghost use lib.Bits.{bitXor};
 ghost use lib.Dec.{eqb};
 ghost use lib.ListN.{length, getD, set};
-ghost use Rattle.spec.specs.Bytes.{xors};
+ghost use Rattle.spec.specs.Bytes.{part, xors};
 ghost use Rattle.spec.specs.Drives.{viewOf, mkDisk, sealedIn, zoneAt, recordIn};
 ghost use Rattle.spec.specs.Faults.{badRec, storedBad};
 ghost use Rattle.spec.specs.declared.Params.{Params};
 ghost use Rattle.spec.specs.Lists.{keep, isIn};
-ghost use Rattle.spec.specs.Params.{inRange, imageLen, pointersLen, drivesOf, present};
-ghost use Rattle.spec.specs.Parity.{parityRec, parityPiece};
+ghost use Rattle.spec.specs.Params.{inRange, imageLen, pointersLen, drivesOf};
+ghost use Rattle.spec.specs.Parity.{decodeBlock, decodeRec};
 ghost use Rattle.spec.specs.Segments.{Segment, recsOn, offsetOn, hasChunk, counts, storedPiece, storedRec, recOf, offsetOf};
 ghost use Rattle.disk_records.specs.Record.{recVal};
 ghost use Rattle.law_views.specs.Views.{Whole};
 ghost use Rattle.recover_groups.specs.Groups.{groupLen, groupRecs, recsBad, groupFault, recsFault, Indexed, Entered, AllEntered, segmentIn, GroupReads, Row, SameBelow};
 ghost use Rattle.recover_groups.specs.Entering.{isNew};
-ghost use Rattle.recover_groups.specs.Pieces.{addRec};
 use disk_records::Record;
 use spec::Address;
 use spec::Params;
@@ -314,6 +313,50 @@ pub fn stored_rec(p: Params, image: &[u8], w: Group, at: &[u16], drive: usize, k
     disk_stored::record_in(p, image, w.full, drive, zone, offset_on(w, at, drive, k))
 }
 
+// The same; zeros for a missing drive.
+fn present_rec(p: Params, image: &[u8], w: Group, at: &[u16], drive: usize, k: usize) -> Record
+    requires { ⌜ inRange p ≡ true ⌝ }
+    requires { ⌜ (length (now image) ≡ imageLen p) × (length (now at) ≡ 2048) × (w .seg < p .Z) × (w .base < p .S) × (drive < p .N) × (k < groupLen p (w .base)) ⌝ }
+    requires { ⌜ AllEntered p (w .gone) (w .base) (now at) k ⌝ }
+    ensures { λ r. ⌜
+        ((ps : List ℕ)
+        → GroupReads p (now (image .entry)) ps w (now (at .entry))
+        → isIn (w .gone) drive ≡ false
+        → recVal r ≡ storedRec (segmentIn p (now (image .entry)) ps w) (w .base + k) drive) ⌝ }
+{
+    if bits_masks::has_drive(w.gone, drive) {
+        return Record {
+            address: Address(0),
+            stamp: Stamp(0),
+            stripe: 0,
+        };
+    }
+    stored_rec(p, image, w, at, drive, k)
+}
+
+// 01, Read and Rebuild: the record that a missing drive has of a counted stripe, decoded from the present drives' ones.
+pub fn lost_rec(p: Params, image: &[u8], w: Group, at: &[u16], drive: usize, k: usize) -> Record
+    requires { ⌜ inRange p ≡ true ⌝ }
+    requires { ⌜ (length (now image) ≡ imageLen p) × (length (now at) ≡ 2048) × (w .seg < p .Z) × (w .base < p .S) × (drive < p .N) × (k < groupLen p (w .base)) ⌝ }
+    requires { ⌜ AllEntered p (w .gone) (w .base) (now at) k ⌝ }
+    ensures { λ r. ⌜
+        ((ps : List ℕ)
+        → GroupReads p (now (image .entry)) ps w (now (at .entry))
+        → recVal r ≡ decodeRec p (w .gone) (w .base + k) drive (storedRec (segmentIn p (now (image .entry)) ps w) (w .base + k))) ⌝ }
+{
+    let mut addresses = [0u64; 8];
+    let mut stamps = [0u64; 8];
+    let mut d = 0;
+    while d < p.N {
+        let r = present_rec(p, image, w, at, d, k);
+        addresses[d] = r.address.0;
+        stamps[d] = r.stamp.0;
+        d += 1;
+    }
+    let s = (w.base + k) as u32;
+    disk_code::decode_record(p, &addresses, &stamps, w.gone, s, drive)
+}
+
 // Adds a record's address and stamp to those of r.
 pub fn xor_rec(r: Record, q: Record) -> Record
     ensures { λ x. ⌜ (x .address .0 ≡ bitXor (r .address .0) (q .address .0)) × (x .stamp .0 ≡ bitXor (r .stamp .0) (q .stamp .0)) × (x .stripe ≡ r .stripe) ⌝ }
@@ -325,54 +368,6 @@ pub fn xor_rec(r: Record, q: Record) -> Record
     }
 }
 
-// Adds the record of a present drive.
-fn add_rec(
-    p: Params,
-    image: &[u8],
-    w: Group,
-    at: &[u16],
-    drive: usize,
-    k: usize,
-    r: Record,
-) -> Record
-    requires { ⌜ inRange p ≡ true ⌝ }
-    requires { ⌜ (length (now image) ≡ imageLen p) × (length (now at) ≡ 2048) × (w .seg < p .Z) × (w .base < p .S) × (drive < p .N) × (k < groupLen p (w .base)) ⌝ }
-    requires { ⌜ AllEntered p (w .gone) (w .base) (now at) k ⌝ }
-    ensures { λ x. ⌜
-        ((ps : List ℕ)
-        → GroupReads p (now (image .entry)) ps w (now (at .entry))
-        → recVal x ≡ cond (isIn (w .gone) drive) (recVal r)
-        (addRec (recVal r) (storedRec (segmentIn p (now (image .entry)) ps w) (w .base + k) drive))) ⌝ }
-{
-    if bits_masks::has_drive(w.gone, drive) {
-        return r;
-    }
-    xor_rec(r, stored_rec(p, image, w, at, drive, k))
-}
-
-// 01, Read and Rebuild: the record that is lost of a counted stripe: the exclusive or of the present drives' ones.
-pub fn lost_rec(p: Params, image: &[u8], w: Group, at: &[u16], k: usize) -> Record
-    requires { ⌜ inRange p ≡ true ⌝ }
-    requires { ⌜ (length (now image) ≡ imageLen p) × (length (now at) ≡ 2048) × (w .seg < p .Z) × (w .base < p .S) × (k < groupLen p (w .base)) ⌝ }
-    requires { ⌜ AllEntered p (w .gone) (w .base) (now at) k ⌝ }
-    ensures { λ r. ⌜
-        ((ps : List ℕ)
-        → GroupReads p (now (image .entry)) ps w (now (at .entry))
-        → recVal r ≡ parityRec (w .base + k) (map (storedRec (segmentIn p (now (image .entry)) ps w) (w .base + k)) (present p (w .gone)))) ⌝ }
-{
-    let mut r = Record {
-        address: Address(0),
-        stamp: Stamp(0),
-        stripe: (w.base + k) as u32,
-    };
-    let mut d = 0;
-    while d < p.N {
-        r = add_rec(p, image, w, at, d, k, r);
-        d += 1;
-    }
-    r
-}
-
 // 01, Restart, 3: the record of a counted stripe on a drive, stored or decoded.
 pub fn rec_of(p: Params, image: &[u8], w: Group, at: &[u16], drive: usize, k: usize) -> Record
     requires { ⌜ inRange p ≡ true ⌝ }
@@ -381,9 +376,25 @@ pub fn rec_of(p: Params, image: &[u8], w: Group, at: &[u16], drive: usize, k: us
     ensures { λ r. ⌜ ((ps : List ℕ) → GroupReads p (now (image .entry)) ps w (now (at .entry)) → recVal r ≡ recOf p (w .gone) (segmentIn p (now (image .entry)) ps w) (w .base + k) drive) ⌝ }
 {
     if bits_masks::has_drive(w.gone, drive) {
-        return lost_rec(p, image, w, at, k);
+        return lost_rec(p, image, w, at, drive, k);
     }
     stored_rec(p, image, w, at, drive, k)
+}
+
+// Byte offset of the block of the stripe's chunk on a drive that has it.
+pub fn block_at(p: Params, w: Group, at: &[u16], drive: usize, k: usize) -> usize
+    requires { ⌜ inRange p ≡ true ⌝ }
+    requires { ⌜ (length (now at) ≡ 2048) × (w .seg < p .Z) × (w .base < p .S) × (drive < p .N) × (k < groupLen p (w .base)) ⌝ }
+    requires { ⌜ Entered p (w .base) (now at) drive k ⌝ }
+    ensures { λ r. ⌜ r + p .B ≤ imageLen p ⌝ }
+    ensures { λ r. ⌜
+        ((im ps : List ℕ)
+        → length im ≡ imageLen p
+        → GroupReads p im ps w (now (at .entry))
+        → storedPiece (segmentIn p im ps w) (w .base + k) drive .block ≡ part r (p .B) im) ⌝ }
+{
+    let zone = disk_shape::zone_on(w.seg, drive);
+    disk_shape::block_byte(p, drive, zone, 1 + offset_on(w, at, drive, k))
 }
 
 // Adds the block of the stripe's chunk on a drive that has it.
@@ -431,8 +442,27 @@ pub fn copy_block(
     disk_blocks::copy(block, &image[a..e]);
 }
 
-// Adds the block of a present drive.
-fn add_block(
+// Byte offset of the block of the stripe's chunk on a drive; 0 for a missing one.
+fn present_block(p: Params, w: Group, at: &[u16], drive: usize, k: usize) -> usize
+    requires { ⌜ inRange p ≡ true ⌝ }
+    requires { ⌜ (length (now at) ≡ 2048) × (w .seg < p .Z) × (w .base < p .S) × (drive < p .N) × (k < groupLen p (w .base)) ⌝ }
+    requires { ⌜ AllEntered p (w .gone) (w .base) (now at) k ⌝ }
+    ensures { λ r. ⌜ (isIn (w .gone) drive ≡ false → r + p .B ≤ imageLen p) ⌝ }
+    ensures { λ r. ⌜
+        ((im ps : List ℕ)
+        → length im ≡ imageLen p
+        → GroupReads p im ps w (now (at .entry))
+        → isIn (w .gone) drive ≡ false
+        → storedPiece (segmentIn p im ps w) (w .base + k) drive .block ≡ part r (p .B) im) ⌝ }
+{
+    if bits_masks::has_drive(w.gone, drive) {
+        return 0;
+    }
+    block_at(p, w, at, drive, k)
+}
+
+// 01, Read and Rebuild: the block that a missing drive has of a counted stripe, decoded from the present drives' ones.
+pub fn lost_block(
     p: Params,
     image: &[u8],
     w: Group,
@@ -447,30 +477,15 @@ fn add_block(
     ensures { λ _. ⌜
         ((ps : List ℕ)
         → GroupReads p (now (image .entry)) ps w (now (at .entry))
-        → now (block .exit) ≡ cond (isIn (w .gone) drive) (now (block .entry))
-        (xors (now (block .entry)) (storedPiece (segmentIn p (now (image .entry)) ps w) (w .base + k) drive .block))) ⌝ }
+        → now (block .exit)
+        ≡ decodeBlock p (w .gone) (w .base + k) drive (λ e. storedPiece (segmentIn p (now (image .entry)) ps w) (w .base + k) e .block)) ⌝ }
 {
-    if bits_masks::has_drive(w.gone, drive) {
-        return;
-    }
-    xor_block(p, image, w, at, drive, k, block);
-}
-
-// 01, Read and Rebuild: the block that is lost of a counted stripe: the exclusive or of the present drives' ones.
-pub fn lost_block(p: Params, image: &[u8], w: Group, at: &[u16], k: usize, block: &mut [u8])
-    requires { ⌜ inRange p ≡ true ⌝ }
-    requires { ⌜ (length (now image) ≡ imageLen p) × (length (now at) ≡ 2048) × (w .seg < p .Z) × (w .base < p .S) × (k < groupLen p (w .base)) × (length (now block) ≡ p .B) ⌝ }
-    requires { ⌜ AllEntered p (w .gone) (w .base) (now at) k ⌝ }
-    ensures { λ _. ⌜
-        ((ps : List ℕ)
-        → GroupReads p (now (image .entry)) ps w (now (at .entry))
-        → now (block .exit) ≡ parityPiece p (w .base + k)
-        (map (storedPiece (segmentIn p (now (image .entry)) ps w) (w .base + k)) (present p (w .gone))) .block) ⌝ }
-{
-    disk_blocks::clear(block);
+    let mut from = [0usize; 8];
     let mut d = 0;
     while d < p.N {
-        add_block(p, image, w, at, d, k, block);
+        from[d] = present_block(p, w, at, d, k);
         d += 1;
     }
+    let s = w.base + k;
+    disk_code::decode_block(p, image, &from, w.gone, s, drive, block);
 }

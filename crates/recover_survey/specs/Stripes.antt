@@ -22,16 +22,16 @@ use Rattle.spec.specs.Faults.{stripeFault, badRec, storedBad, decodedBad, addre
 use Rattle.spec.specs.Layout.{isData, Rec}
 use Rattle.spec.specs.Lists.{upFrom, below, any, consIf, keep, tally, greatest, isIn}
 use Rattle.spec.specs.Params.{pointersLen, drivesOf, present, absent}
-use Rattle.spec.specs.Parity.{parityRec}
+use Rattle.spec.specs.Parity.{decodeRec}
 use Rattle.recover_survey.specs.declared.Tally.{Tally}
 use Rattle.law_drives.specs.Members.{keep-nothing}
 use Rattle.recover_survey.specs.Tops.{lastOf, topOf, Surveyed, last-le}
 
 -- ---- decoded addresses, by stripe
 
--- 01, Read and Rebuild: the record that is lost of a counted stripe
+-- 01, Read and Rebuild: the record that is lost of a counted stripe; with one parity it is the same whichever missing drive is asked for (02, item 5)
 unfoldable pub lostRec : Params → ℕ → Segment → ℕ → Rec
-lostRec p gone g s = parityRec s (map (storedRec g s) (present p gone))
+lostRec p gone g s = decodeRec p gone s 0 (storedRec g s)
 
 -- 01, Refusals, 9: a missing drive has data of the stripe, and their address, decoded, is bad
 unfoldable pub lostBad : Params → ℕ → Segment → ℕ → Bool
@@ -237,7 +237,7 @@ unfolding lostBad
 no-lost-bad p gone g s e = sym (ap (λ (b : Bool). b && badRec p (lostRec p gone g s)) e)
 
 pub lost-some : (p : Params) (gone : ℕ) (g : Segment) (s : ℕ) (r : Rec) → any (isData p s) (absent p gone) ≡ true
-    → r ≡ parityRec s (map (storedRec g s) (present p gone)) → badRec p r ≡ lostBad p gone g s
+    → r ≡ decodeRec p gone s 0 (storedRec g s) → badRec p r ≡ lostBad p gone g s
 unfolding lostBad lostRec
 lost-some p gone g s r e q = ap (badRec p) q ∙ sym (ap (λ (b : Bool). b && badRec p (lostRec p gone g s)) e)
 

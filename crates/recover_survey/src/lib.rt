@@ -107,7 +107,7 @@ fn lost_bad(p: Params, image: &[u8], w: Group, at: &[u16], k: usize) -> bool
     if !is_all_entered(p, w, at, k) {
         return true;
     }
-    recover_groups::bad_rec(p, recover_groups::lost_rec(p, image, w, at, k))
+    recover_groups::bad_rec(p, recover_groups::lost_rec(p, image, w, at, 0, k))
 }
 
 // ---- the stripes of a segment

@@ -23,7 +23,7 @@ use Rattle.spec.specs.Faults.{pointerFaults, sameChunk, headerFault, ser
 use Rattle.spec.specs.Faults.{addressFault, footersStored, sameBlocks, footerFaultIn, footerFault, clashes, segmentFault, segmentFaults, imageChecks}
 use Rattle.spec.specs.Landing.{slotOf, ready, waiting, completes, seals, flightRec, misplaced, overfull, entryFaults, landFaults, serialAt, heldCand}
 use Rattle.spec.specs.Landing.{held, landedCand, landedCands, pointed, landChecks, sealStores, writesIn, landStore, landPlan, landVerdict}
-use Rattle.spec.specs.Layout.{parityDrive, dataDrive, dataPosition, isData, dataDrives, group, inGroupOf, groupOffsets, compactEntry, headerVersion}
+use Rattle.spec.specs.Layout.{parityDrive, dataDrive, dataPosition, isData, parityPosition, dataDrives, group, inGroupOf, groupOffsets, compactEntry, headerVersion}
 use Rattle.spec.specs.Layout.{headerTable, headerWidths, headerLen, headerFields, headerBlock, headerSerial, headerCopied, mkRec, recordFields, recordBytes}
 use Rattle.spec.specs.Layout.{recordOf, footerBlock, footerRecord}
 use Rattle.spec.specs.Lists.{upFrom, below, all, any, isMember, consIf, keep, tally, isNil, sucUnless, indexOf, flat, total, greatest, least, firstOr}
@@ -33,10 +33,10 @@ use Rattle.spec.specs.Memory.{numberOf, stateNumbers, sectionBytes, stat
 use Rattle.spec.specs.Memory.{offsetIn, openSegment, isFree, isFull, isFilling, inFlight, freeSlot, fillingSlot, hasFilling, holdsAt, holds, slotOk}
 use Rattle.spec.specs.Memory.{stateOk, stateFaults, setStamp, setOpen, setClosed, beginStripe, addEntry, landedMask, markLanded, freeStripe, placeAt}
 use Rattle.spec.specs.Memory.{setPlace, compactAt, shownAt, slotByte, slotBlock, setSlotBlock, setSlotParity}
-use Rattle.spec.specs.Params.{mkParams, between, blockSizes, dataCount, mostAddresses, inRange, recordTable, recordWidths, spareLen, perFooter, footers}
+use Rattle.spec.specs.Params.{mkParams, between, blockSizes, parityCount, dataCount, mostAddresses, inRange, recordTable, recordWidths, spareLen, perFooter, footers}
 use Rattle.spec.specs.Params.{capacity, unitLen, zoneLen, driveLen, imageLen, pointersLen, addressesLen, compactLen, inflightLen, placeOf, placeBlock, placeZone}
 use Rattle.spec.specs.Params.{placeDrive, placeByte, noDrive, named, drivesOf, present, absent}
-use Rattle.spec.specs.Parity.{parityRec, parityPiece}
+use Rattle.spec.specs.Parity.{parityRec, parityPiece, encodeBlock, encodeRec, encodePiece, decodeBlock, decodeRec, decodePiece}
 use Rattle.spec.specs.Rank.{beats, better, best, placeOr, candsOf}
 use Rattle.spec.specs.Read.{placeFaults, lookup, foundFaults, shown, decodeFaults, storedAt, decodedAt, readPiece, readAnswer, readChecks, readVerdict, fillVerdict}
 use Rattle.spec.specs.Rebuild.{namesMissing, rebuildChecks, rebuiltZone, rebuildStores, rebuildVerdict}
@@ -118,8 +118,8 @@ pub record Examples : Type 0 where
   pub m1 : (inRange small ≡ true) × (inRange (mkParams 3 64 4 4 2 9) ≡ false)
       × (callBytes (mkParams 3 64 4 4 2 9) (emptyLent (mkParams 3 64 4 4 2 9)) (restart 255 100) .answer ≡ Refused 1)
   pub m2 : map (parityDrive small) (below 4) ≡ 2 ∷ 1 ∷ 0 ∷ 2 ∷ []
-  pub m3 : parity 1 ((0x0f ∷ []) ∷ (0x33 ∷ []) ∷ []) ≡ 0x3c ∷ []
-  pub m4 : parityRec 0 (mkRec 0 5 0 ∷ mkRec 0 9 0 ∷ []) .stamp ≡ 12
+  pub m3 : encodeBlock 1 0 ((0x0f ∷ []) ∷ (0x33 ∷ []) ∷ []) ≡ 0x3c ∷ []
+  pub m4 : encodeRec 0 0 (mkRec 0 5 0 ∷ mkRec 0 9 0 ∷ []) .stamp ≡ 12
   pub m5 : (map (group (mkParams 3 64 4 5 2 8)) (below 5) ≡ 0 ∷ 0 ∷ 1 ∷ 1 ∷ 2 ∷ []) × (compactEntry (mkParams 3 64 4 5 2 8) 4 ≡ 0)
   pub m6 : (perFooter small ≡ 3) × (footers (mkParams 3 64 4 3 2 6) ≡ 1) × (footers small ≡ 2)
   pub m7 : m7Reads (runs small (fresh small) m7First) ≡ 3 ∷ 3 ∷ blockOf 3
@@ -133,15 +133,16 @@ unfolding ones onesIn kind values isRefused isRefusedAs isCut finished beFrom be
     storeCount lentBlock verdict lentOk callOn callDisk lentDisk lentMemory lentAll leftBy callBytes pointerFaults sameChunk headerFault serialFault
     outside twice stripeFault badRec storedBad decodedBad addressFault footersStored sameBlocks footerFaultIn footerFault clashes segmentFault
     segmentFaults imageChecks slotOf ready waiting completes seals flightRec misplaced overfull entryFaults landFaults serialAt heldCand held landedCand
-    landedCands pointed landChecks sealStores writesIn landStore landPlan landVerdict parityDrive dataDrive dataPosition isData dataDrives group
+    landedCands pointed landChecks sealStores writesIn landStore landPlan landVerdict parityDrive dataDrive dataPosition isData parityPosition dataDrives group
     inGroupOf groupOffsets compactEntry headerVersion headerTable headerWidths headerLen headerFields headerBlock headerSerial headerCopied recordFields
     recordBytes recordOf footerBlock footerRecord upFrom below all any isMember consIf keep tally isNil sucUnless indexOf flat total greatest least
     firstOr sameList padTo pieces zipped powers only isIn slotCount slots cell idleState zeroState stateSections sectionLen sectionAt stateLen numbersAt
     sectionOf numberOf stateNumbers sectionBytes stateBytes stateOf stripeIn filledIn landedIn isWrite entryIn entriesIn offsetIn openSegment isFree
     isFull isFilling inFlight freeSlot fillingSlot hasFilling holdsAt holds slotOk stateOk stateFaults setStamp setOpen setClosed beginStripe addEntry
-    landedMask markLanded freeStripe placeAt setPlace compactAt shownAt slotByte slotBlock setSlotBlock setSlotParity between blockSizes dataCount
+    landedMask markLanded freeStripe placeAt setPlace compactAt shownAt slotByte slotBlock setSlotBlock setSlotParity between blockSizes parityCount dataCount
     mostAddresses inRange recordTable recordWidths spareLen perFooter footers capacity unitLen zoneLen driveLen imageLen pointersLen addressesLen compactLen
-    inflightLen placeOf placeBlock placeZone placeDrive placeByte noDrive named drivesOf present absent parityRec parityPiece beats better best placeOr
+    inflightLen placeOf placeBlock placeZone placeDrive placeByte noDrive named drivesOf present absent parityRec parityPiece
+    encodeBlock encodeRec encodePiece decodeBlock decodeRec decodePiece beats better best placeOr
     candsOf placeFaults lookup foundFaults shown decodeFaults storedAt decodedAt readPiece readAnswer readChecks readVerdict fillVerdict namesMissing
     rebuildChecks rebuiltZone rebuildStores rebuildVerdict placesIn tableFaults segmentPlaces liveIn flying victimOf fewer fewest victim isNone
     victimSegment victimLive idle reclaimChecks clearedRow cleared resetPlan copyPlan reclaimVerdict freeZones isWhole isRagged missingFooters

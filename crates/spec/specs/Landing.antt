@@ -13,14 +13,14 @@ use Rattle.spec.specs.Calls.Check.{rule, zones}
 use Rattle.spec.specs.Counts.{neverPlace}
 use Rattle.spec.specs.Drives.{View, zoneAt, pointerAt, chunkAt, Store, storeView, zoneOn, placeSegment, recordAt, footerStores}
 use Rattle.spec.specs.Drives.Store.{put}
-use Rattle.spec.specs.Layout.{dataDrive, dataPosition, isData, group, compactEntry, headerSerial, Rec, recordBytes}
+use Rattle.spec.specs.Layout.{dataDrive, dataPosition, isData, parityPosition, group, compactEntry, headerSerial, Rec, recordBytes}
 use Rattle.spec.specs.Lists.{Opt, below, any, consIf, tally, indexOf, flat, isIn}
 use Rattle.spec.specs.Lists.Opt.{none, some}
 use Rattle.spec.specs.Memory.{Memory, mkMemory, slotCount, slots, stripeIn, filledIn, landedIn, isWrite, entryIn, entriesIn, offsetIn, openSegment}
 use Rattle.spec.specs.Memory.{isFree, isFull, inFlight, stateFaults, setClosed, landedMask, markLanded, freeStripe, placeAt, setPlace, compactAt}
 use Rattle.spec.specs.Memory.{slotBlock}
 use Rattle.spec.specs.Params.{between, inRange, footers, capacity, placeOf, placeBlock, placeDrive, drivesOf}
-use Rattle.spec.specs.Parity.{parityRec}
+use Rattle.spec.specs.Parity.{encodeRec}
 use Rattle.spec.specs.Rank.{Cand, best, placeOr, candsOf}
 use Rattle.spec.specs.Read.{placeFaults}
 
@@ -50,9 +50,10 @@ seals p st i d = completes p st i d && eqb (st .next) (p .S) && eqb (length (inF
 
 -- 01, What a zone holds: the record of a chunk in flight
 unfoldable pub flightRec : Params → State → ℕ → ℕ → Rec
+unfolding encodeRec parityPosition
 flightRec p st i d =
     let s = stripeIn st i in
-    let r = parityRec s (entriesIn st i) in
+    let r = encodeRec (parityPosition p s d) s (entriesIn st i) in
     cond (isData p s d) (entryIn st i (dataPosition p s d)) r
 
 -- ---- refusal 9

@@ -25,6 +25,10 @@ dataPosition p s d = cond (ltb d (parityDrive p s)) d (d - 1)
 unfoldable pub isData : Params → ℕ → ℕ → Bool
 isData p s d = not (eqb d (parityDrive p s))
 
+-- 01, What a zone holds: which of the stripe's parities a drive without data holds; today the first (02, item 5)
+unfoldable pub parityPosition : Params → ℕ → ℕ → ℕ
+parityPosition p s d = 0
+
 -- the drives of the data positions in order
 unfoldable pub dataDrives : Params → ℕ → List ℕ
 dataDrives p s = map (dataDrive p s) (below (dataCount p))

@@ -8,12 +8,13 @@ use lib.Bits.{bitOr}
 use lib.Count.{ones}
 use Rattle.spec.specs.declared.Params.{Params}
 use Rattle.spec.specs.declared.State.{State}
-use Rattle.spec.specs.Bytes.{beOf, toBe, leOf, toLe, part, splice, parity}
+use Rattle.spec.specs.Bytes.{beOf, toBe, leOf, toLe, part, splice}
 use Rattle.spec.specs.Counts.{aStamp, aSerial}
 use Rattle.spec.specs.Drives.{View, pointerAt}
 use Rattle.spec.specs.Layout.{parityDrive, dataDrives, groupOffsets, compactEntry, Rec, mkRec}
 use Rattle.spec.specs.Lists.{below, all, any, consIf, keep, indexOf, flat, total, zipped, only, isIn}
-use Rattle.spec.specs.Params.{dataCount}
+use Rattle.spec.specs.Params.{parityCount, dataCount}
+use Rattle.spec.specs.Parity.{encodeBlock}
 
 -- 01, The calls: what a call is lent beside image and pointers
 pub record Memory : Type 0 where
@@ -206,8 +207,9 @@ slotOk p st i =
 
 -- 01, Refusals, 9: no state number out of range
 unfoldable pub stateOk : Params → State → Bool
+unfolding parityCount
 stateOk p st =
-    eqb (st .live) 1 && ltb (st .missing) (2 ^ p .N) && leb (ones (st .missing)) 1 && leb (st .opened) (p .Z) && leb (st .next) (p .S)
+    eqb (st .live) 1 && ltb (st .missing) (2 ^ p .N) && leb (ones (st .missing)) (parityCount p) && leb (st .opened) (p .Z) && leb (st .next) (p .S)
     && all (slotOk p st) slots && all (λ o. ltb o (p .S)) (st .offsets)
 
 -- 01, Refusals, 9: a state number out of range names zone 0
@@ -300,4 +302,5 @@ setSlotBlock p fl i d b = splice fl (slotByte p i d) b
 
 -- 01, Write: parity is worked out there
 unfoldable pub setSlotParity : Params → List ℕ → ℕ → ℕ → List ℕ
-setSlotParity p fl i s = setSlotBlock p fl i (parityDrive p s) (parity (p .B) (map (slotBlock p fl i) (dataDrives p s)))
+unfolding encodeBlock
+setSlotParity p fl i s = setSlotBlock p fl i (parityDrive p s) (encodeBlock (p .B) 0 (map (slotBlock p fl i) (dataDrives p s)))

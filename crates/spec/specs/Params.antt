@@ -19,9 +19,14 @@ between lo hi n = leb lo n && leb n hi
 unfoldable pub blockSizes : List ℕ
 blockSizes = 64 ∷ 128 ∷ 256 ∷ 512 ∷ 1024 ∷ 2048 ∷ 4096 ∷ []
 
+-- 01, What a zone holds: how many parities a stripe has, and so how many drives may be missing; today one (02, item 5)
+unfoldable pub parityCount : Params → ℕ
+parityCount p = 1
+
 -- 01, What a zone holds: how many data positions a stripe has
 unfoldable pub dataCount : Params → ℕ
-dataCount p = p .N - 1
+unfolding parityCount
+dataCount p = p .N - parityCount p
 
 -- 01, The array: the greatest L
 unfoldable pub mostAddresses : Params → ℕ

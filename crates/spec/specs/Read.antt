@@ -15,7 +15,7 @@ use Rattle.spec.specs.Layout.{mkRec}
 use Rattle.spec.specs.Lists.{any, consIf, isNil, firstOr, isIn}
 use Rattle.spec.specs.Memory.{Memory, stateFaults, placeAt, shownAt}
 use Rattle.spec.specs.Params.{between, inRange, placeBlock, placeZone, placeDrive, placeByte, present}
-use Rattle.spec.specs.Parity.{Piece, mkPiece, parityPiece}
+use Rattle.spec.specs.Parity.{Piece, mkPiece, decodePiece}
 
 -- 01, Refusals, 9: a place to be read: not a data block, or on a present drive not below its zone's pointer; outside the image names zone 0
 unfoldable pub placeFaults : Params → View → ℕ → ℕ → List ℕ
@@ -59,15 +59,16 @@ decodeFaults p v gone cs (away q) = consIf (any isNil (shown p v gone cs (placeZ
 unfoldable pub storedAt : Params → View → ℕ → ℕ → ℕ → ℕ → Piece
 storedAt p v gone d z o = mkPiece (chunkAt v d z (1 + o) .block) (recordAt p v gone d z o)
 
--- 01, Read: block and record decoded from the chunks that the table shows
-unfoldable pub decodedAt : Params → View → ℕ → List ℕ → ℕ → ℕ → Piece
-decodedAt p v gone cs z s = parityPiece p s (map (λ d. storedAt p v gone d z (firstOr 0 (shownAt p v cs d z s))) (present p gone))
+-- 01, Read: block and record of drive d, decoded from the chunks that the table shows
+unfoldable pub decodedAt : Params → View → ℕ → List ℕ → ℕ → ℕ → ℕ → Piece
+unfolding decodePiece
+decodedAt p v gone cs d z s = decodePiece p gone s d (λ e. storedAt p v gone e z (firstOr 0 (shownAt p v cs e z s)))
 
 -- 01, Read: the block, with its record, that an address reads: zeros if never written (02, item 2, takes the stamp from here)
 unfoldable pub readPiece : Params → View → ℕ → List ℕ → Found → Piece
 readPiece p v gone cs nowhere = mkPiece (replicate (p .B) 0) (mkRec 0 0 0)
 readPiece p v gone cs (here q) = storedAt p v gone (placeDrive p q) (placeZone p q) (placeBlock p q - 1)
-readPiece p v gone cs (away q) = decodedAt p v gone cs (placeZone p q) (placeBlock p q - 1)
+readPiece p v gone cs (away q) = decodedAt p v gone cs (placeDrive p q) (placeZone p q) (placeBlock p q - 1)
 
 -- 01, Read: the part of the image, never written, or on the missing drive
 unfoldable pub readAnswer : Params → Found → Answer

@@ -12,11 +12,11 @@ use Rattle.spec.specs.Calls.Check.{rule}
 use Rattle.spec.specs.Counts.{lastCount}
 use Rattle.spec.specs.Drives.{noZone, View, Store, storeView, storeAll, segmentNumbers, zoneOn, headerStores, footerStores, resetStores}
 use Rattle.spec.specs.Faults.{footersStored, imageChecks}
-use Rattle.spec.specs.Layout.{dataPosition, isData, dataDrives, mkRec}
+use Rattle.spec.specs.Layout.{dataPosition, isData, parityPosition, dataDrives, mkRec}
 use Rattle.spec.specs.Lists.{below, any, keep, isNil, flat, total, firstOr, sameList}
 use Rattle.spec.specs.Memory.{Memory, mkMemory, idleState}
 use Rattle.spec.specs.Params.{inRange, footers, noDrive, named, drivesOf}
-use Rattle.spec.specs.Parity.{Piece, mkPiece, parityPiece}
+use Rattle.spec.specs.Parity.{Piece, mkPiece, encodePiece}
 use Rattle.spec.specs.Segments.{Segment, segments, counted, uncounted, storedPiece, putPiece, candidates, addressTable, compactTable, greatestStamp, greatestSerial, unsealed}
 
 -- ---- step 4
@@ -50,9 +50,10 @@ movedPieces p g s k = map (λ d. renumbered k (storedPiece g s d)) (dataDrives p
 
 -- 01, Restart, 4: what drive d gets of it
 unfoldable pub movedOn : Params → List Piece → ℕ → ℕ → Piece
+unfolding encodePiece parityPosition
 movedOn p qs k d =
     let a = getD qs (dataPosition p k d) (mkPiece [] (mkRec 0 0 0)) in
-    let b = parityPiece p k qs in
+    let b = encodePiece p (parityPosition p k d) k qs in
     cond (isData p k d) a b
 
 -- 01, Restart, 4: its stores, by drive

@@ -12,7 +12,7 @@ use Rattle.spec.specs.Layout.{dataDrives, compactEntry, headerSerial, he
 use Rattle.spec.specs.Lists.Opt.{none}
 use Rattle.spec.specs.Lists.{below, all, any, keep, indexOf, flat, greatest, firstOr, padTo, isIn}
 use Rattle.spec.specs.Params.{placeOf, drivesOf, present}
-use Rattle.spec.specs.Parity.{Piece, mkPiece, parityRec, parityPiece}
+use Rattle.spec.specs.Parity.{Piece, mkPiece, decodeRec, decodePiece}
 use Rattle.spec.specs.Rank.{Cand, best, placeOr, candsOf}
 
 -- 01, Restart, 2: the headers on the lowest present drive
@@ -105,9 +105,10 @@ storedPiece g s d =
 
 -- 01, Read and Rebuild: the chunk of a counted stripe, stored, or decoded from the present ones
 unfoldable pub pieceOf : Params → ℕ → Segment → ℕ → ℕ → Piece
+unfolding decodePiece
 pieceOf p gone g s d =
     let a = storedPiece g s d in
-    let b = parityPiece p s (map (storedPiece g s) (present p gone)) in
+    let b = decodePiece p gone s d (storedPiece g s) in
     cond (isIn gone d) b a
 
 -- the store of a chunk
@@ -120,9 +121,10 @@ storedRec g s d = getD (recsOn g d) (offsetOn g d s) (mkRec 0 0 0)
 
 -- 01, Restart, 3: its record, stored or decoded
 unfoldable pub recOf : Params → ℕ → Segment → ℕ → ℕ → Rec
+unfolding decodeRec
 recOf p gone g s d =
     let a = storedRec g s d in
-    let b = parityRec s (map (storedRec g s) (present p gone)) in
+    let b = decodeRec p gone s d (storedRec g s) in
     cond (isIn gone d) b a
 
 -- 01, The array: on the missing drive data offset s stands for stripe s

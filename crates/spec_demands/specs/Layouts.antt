@@ -11,7 +11,7 @@ use Rattle.spec.specs.Faults.{footersStored}
 use Rattle.spec.specs.Layout.{parityDrive, dataDrives, inGroupOf, headerBlock, footerBlock}
 use Rattle.spec.specs.Lists.{any, isMember, isIn}
 use Rattle.spec.specs.Params.{capacity}
-use Rattle.spec.specs.Parity.{parityPiece}
+use Rattle.spec.specs.Parity.{encodePiece}
 use Rattle.spec.specs.Segments.{remaining, Segment, segmentOf, counts, storedPiece}
 
 -- a drive that is present
@@ -34,7 +34,7 @@ foundCounted p gone old serial s = any (λ (g : Segment). eqb (g .serial) serial
 abbrev pub ParityMade : Params → View → ℕ → List Segment → Type 0
 ParityMade p v gone old = (g s : ℕ) → Remains p v gone g → s < p .S → counts p gone (segmentOf p v gone g) s ≡ true
     → foundCounted p gone old (segmentOf p v gone g .serial) s ≡ false
-    → storedPiece (segmentOf p v gone g) s (parityDrive p s) ≡ parityPiece p s (map (storedPiece (segmentOf p v gone g) s) (dataDrives p s))
+    → storedPiece (segmentOf p v gone g) s (parityDrive p s) ≡ encodePiece p 0 s (map (storedPiece (segmentOf p v gone g) s) (dataDrives p s))
 
 -- 01, What a zone holds: on the drives that are present, where the restart of this run found the segments old
 pub record Layout (p : Params) (v : View) (gone : ℕ) (old : List Segment) : Type 0 where

@@ -1,98 +1,95 @@
--- `decode`: the block is the exclusive or of the chunks on the present drives below d; a turn adds drive d's (`decode-more`). Assumes nothing.
-use Prim.Native.Nat.{ℕ, _+_, _-_, _≤_, _<_}
-use Rattle.spec.specs.Bytes.{parity}
-use Rattle.spec.specs.Drives.{viewOf, mkDisk}
-use Rattle.spec.specs.Lists.{isIn}
-use Rattle.call_read.specs.Decode.{shownBlock, drivesBefore, decoded-is, shown-on, shown-long, decode-none, decode-more}
-use borrow.Author.Needs.{needs}
-use lib.ListN.{length, replicate}
+-- `decode`: the first d entries are the offsets of the shown blocks of present drives; from all of them `decode_block` decodes. Assumes nothing.
+use mathlib.Core.Path.{_≡_, refl, sym, _∙_}
 use mathlib.Core.Bool.{false}
-use mathlib.Core.List.{map}
-use mathlib.Core.Path.{_≡_, sym, ap, _∙_}
+use Prim.Native.Nat.{ℕ, _+_, _-_, _≤_, _<_}
 use native.Mathlib.Omega.{arith}
+use borrow.Author.Needs.{needs}
+use lib.ListN.{length, getD, length-set}
+use Rattle.spec.specs.Bytes.{part}
+use Rattle.spec.specs.Drives.{viewOf}
+use Rattle.spec.specs.Lists.{isIn}
+use Rattle.spec.specs.Params.{imageLen}
+use Rattle.law_basic.specs.Each.{set-next}
+use Rattle.law_basic.specs.Geometry.{ranged}
+use Rattle.law_code.specs.Code.{decode-block-same}
+use Rattle.call_read.specs.Decode.{shownBlock, decoded-is, shown-on}
 use Rattle.call_read.proofs.decode.Statement.{statement}
 use Rattle.call_read.proofs.decode.Tie as tie
 
--- the block is the exclusive or of those on the present drives below d
 abbrev Inv-loop : tie.InvT-loop
-Inv-loop p image pointers gone compact zone s block₀ d₀ block d =
-    (d ≤ p .N) × (length block ≡ p .B) × (block ≡ parity (p .B) (map (shownBlock p (viewOf p image pointers) compact zone s) (drivesBefore gone d)))
+Inv-loop p image pointers gone compact drive zone s block at₀ d₀ at d =
+    (d ≤ p .N)
+    × (length at ≡ 8)
+    × ((e : ℕ) → e < d → isIn gone e ≡ false → (getD at e 0 + p .B ≤ imageLen p) × (shownBlock p (viewOf p image pointers) compact zone s e ≡ part (getD at e 0) (p .B) image))
 
 abbrev μ-loop : tie.MeasureT-loop
-μ-loop p image pointers gone compact zone s block₀ d₀ block d = p .N - d
-
-clear-requires : tie.Need-clear-requires Inv-loop μ-loop
-clear-requires c κs = search needs
+μ-loop p image pointers gone compact drive zone s block at₀ d₀ at d = p .N - d
 
 loop-holds : tie.Need-loop-holds Inv-loop μ-loop
-loop-holds c =
-    let a = c .before .before .before .before .before .before .before .before .args in
-    let clear = c .before .before .clear in
-    let pre = c .before .before .before .before .before .before .before .before .pre in
-    let v = viewOf (a .p) (a .image .now) (a .pointers .now) in (
-      omega arith,
-      clear .kept .0 ∙ pre .1 .1 .0 .1,
-      clear .ensures ∙ ap (λ (x : ℕ). replicate x 0) (pre .1 .1 .0 .1) ∙ decode-none (a .p .B) (a .gone) (shownBlock (a .p) v (a .compact .now) (a .zone) (a .s)),
-    )
+loop-holds c = (omega arith, refl, λ e h n. absurd (let z : ⊥ = omega (arith, h) in z))
 
-add-chunk-requires : tie.Need-add-chunk-requires Inv-loop μ-loop
-add-chunk-requires c κs =
-    let a = c .before .before .before .before .before .before .before .before .before .before .before .before .args in
-    let q = c .before .before .before .before .before .before .before .before .before .before .before .before .pre in
-    let loop = c .before .before .before .loop in
-    let v = viewOf (a .p) (a .image .now) (a .pointers .now) in (
-      q .0,
-      (
-        q .1 .0,
-        (
-          (q .1 .1 .0 .0, loop .inv .1),
-          (
-            (c .before .if1 .taken, q .1 .1 .1 .0 .0, q .1 .1 .1 .0 .1),
-            λ e. shown-on (a .p) v (a .gone) (a .compact .now) (a .zone) (a .s) (loop .d) (q .1 .1 .1 .1) (c .before .if1 .taken) e,
-          ),
-        ),
-      ),
-    )
+shown-byte-requires : tie.Need-shown-byte-requires Inv-loop μ-loop
+shown-byte-requires c κs =
+    let q = c .before .before .before .before .before .before .before .pre in
+    (q .0, ((q .1 .0 .pointers-long, q .1 .1 .0 .0), (c .if1 .taken, q .1 .1 .1 .0 .1, q .1 .1 .1 .0 .2)))
+
+mul-at : tie.Need-mul-at Inv-loop μ-loop
+mul-at c =
+    let o = c .before .before .before .before .before .before .before .before in
+    omega (arith, c .before .if1 .taken, ranged (o .args .p) (o .pre .0) .drives-high)
+
+array-write-at : tie.Need-array-write-at Inv-loop μ-loop
+array-write-at c =
+    let o = c .before .before .before .before .before .before .before .before in
+    omega (arith, c .before .if1 .taken, ranged (o .args .p) (o .pre .0) .drives-high)
 
 add-d : tie.Need-add-d Inv-loop μ-loop
-add-d c = omega arith
+add-d c = omega (arith, c .before .if1 .taken)
 
 loop-less : tie.Need-loop-less Inv-loop μ-loop
-loop-less c =
-    let if1 = c .before .before .before .before .if1 in
-    omega (arith, if1 .taken)
+loop-less c = omega (arith, c .before .if1 .taken)
 
 loop-again : tie.Need-loop-again Inv-loop μ-loop
 loop-again c =
-    let a = c .before .before .before .before .before .before .before .before .before .before .before .before .before .before .before .args in
-    let q = c .before .before .before .before .before .before .before .before .before .before .before .before .before .before .before .pre in
-    let l = c .before .before .before .before .before .before .loop in
-    let add-chunk = c .before .before .add-chunk in
-    let if1 = c .before .before .before .before .if1 in
-    let k = mkDisk (a .image .now) (a .pointers .now) in
-    let v = viewOf (a .p) (a .image .now) (a .pointers .now) in
-    let g = shownBlock (a .p) v (a .compact .now) (a .zone) (a .s) in
-    let long : (j : ℕ) → j < l .d + 1 → isIn (a .gone) j ≡ false → length (g j) ≡ a .p .B =
-    λ j h e. let n : j < a .p .N = omega (arith, if1 .taken) in
-    shown-long (a .p) k (a .compact .now) (a .zone) (a .s) j (q .0) (q .1 .0) n (q .1 .1 .1 .0 .0) (shown-on (a .p) v (a .gone) (a .compact .now) (a .zone) (a .s) j (q .1 .1 .1 .1) n e) in (
-      omega (arith, if1 .taken),
-      add-chunk .kept .1 .1 .1 .1 .1 .1 .1 .1 .0 ∙ l .inv .1,
-      decode-more (a .p .B) (a .gone) g (l .d) long (l .block) _ (l .inv .2) (add-chunk .ensures),
+    let a = c .before .before .before .before .before .before .before .before .args in
+    let q = c .before .before .before .before .before .before .before .before .pre in
+    let l = c .before .before .before .loop in
+    let p = a .p in
+    let im = a .image .now in
+    let v = viewOf p im (a .pointers .now) in
+    let t = c .before .if1 .taken in
+    let d = ranged p (q .0) .drives-high in (
+      omega (arith, t),
+      length-set (l .at) (l .d) (c .shown-byte .result) ∙ l .inv .1,
+      set-next (λ e y. isIn (a .gone) e ≡ false → (y + p .B ≤ imageLen p) × (shownBlock p v (a .compact .now) (a .zone) (a .s) e ≡ part y (p .B) im))
+          (l .at) (l .d) (c .shown-byte .result) (omega (arith, t, d, l .inv .1)) (l .inv .2)
+          (λ n. (c .shown-byte .ensures .0 n, c .shown-byte .ensures .1 im (q .1 .0 .image-long) n (shown-on p v (a .gone) (a .compact .now) (a .zone) (a .s) (l .d) (q .1 .1 .1 .1) t n))),
     )
 
+slice-aggregate-decode-block : tie.Need-slice-aggregate-decode-block Inv-loop μ-loop
+slice-aggregate-decode-block c = search needs
+
+decode-block-requires : tie.Need-decode-block-requires Inv-loop μ-loop
+decode-block-requires c κs =
+    let q = c .before .before .before .before .before .before .before .before .before .pre in
+    let l = c .before .before .before .before .loop in
+    let e : l .d ≡ c .before .before .before .before .before .before .before .before .before .args .p .N = omega (arith, c .before .before .if1 .left, l .inv .0) in
+    (q .0, ((l .inv .1, q .1 .1 .0 .1, q .1 .1 .1 .0 .0), λ k h n. omega (arith, l .inv .2 k (omega (arith, h, e)) n .0, q .1 .0 .image-long)))
+
 same-length : tie.Need-same-length Inv-loop μ-loop
-same-length c =
-    let pre = c .before .before .before .before .before .before .before .before .before .before .before .pre in
-    c .before .before .loop .inv .1 ∙ sym (pre .1 .1 .0 .1)
+same-length c = search needs
 
 returns : tie.Need-returns Inv-loop μ-loop
 returns c =
-    let a = c .before .before .before .before .before .before .before .before .before .before .before .args in
-    let v = viewOf (a .p) (a .image .now) (a .pointers .now) in
-    let l = c .before .before .loop in
-    let e : l .d ≡ a .p .N = omega (arith, c .if1 .left, l .inv .0) in
-    l .inv .2 ∙ ap (λ (x : ℕ). parity (a .p .B) (map (shownBlock (a .p) v (a .compact .now) (a .zone) (a .s)) (drivesBefore (a .gone) x))) e
-    ∙ sym (decoded-is (a .p) v (a .gone) (a .compact .now) (a .zone) (a .s))
+    let a = c .before .before .before .before .before .before .before .before .before .before .before .before .args in
+    let l = c .before .before .before .before .before .before .before .loop in
+    let p = a .p in
+    let v = viewOf p (a .image .now) (a .pointers .now) in
+    let e : l .d ≡ p .N = omega (arith, c .before .before .before .before .before .if1 .left, l .inv .0) in
+    c .before .before .decode-block .ensures
+    ∙ decode-block-same p (a .gone) (a .s) (a .drive) (λ k. part (getD (l .at) k 0) (p .B) (a .image .now)) (shownBlock p v (a .compact .now) (a .zone) (a .s))
+    (λ k h n. sym (l .inv .2 k (omega (arith, h, e)) n .1))
+    ∙ sym (decoded-is p v (a .gone) (a .compact .now) (a .drive) (a .zone) (a .s))
 
 pub decode-spec : {M : Type 1} → statement M
 decode-spec =
@@ -100,11 +97,14 @@ decode-spec =
     (tie.spec
     Inv-loop
     μ-loop
-    clear-requires
     loop-holds
-    add-chunk-requires
+    shown-byte-requires
+    mul-at
+    array-write-at
     add-d
     loop-less
     loop-again
+    slice-aggregate-decode-block
+    decode-block-requires
     same-length
     returns)

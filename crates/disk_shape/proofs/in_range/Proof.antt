@@ -1,7 +1,7 @@
 -- `in_range`: each test is one conjunct of the definition, in its order; the ranges of Z, S and N bound the product of the last by 468378645. Assumes nothing.
-use mathlib.Core.Path.{_≡_, sym, _∙_}
+use mathlib.Core.Path.{_≡_, sym, ap, _∙_}
 use mathlib.Core.Bool.{true, false}
-use Prim.Native.Nat.{_-_, _*_, _≤_}
+use Prim.Native.Nat.{ℕ, _-_, _*_, _≤_}
 use native.Mathlib.Omega.{arith}
 use borrow.Author.Needs.{needs}
 use borrow.Author.Tests.{not-true, not-false}
@@ -91,20 +91,30 @@ returns-5 c =
     let e4 : between 1 256 (args .p .G) ≡ false = sym (c .before .is-between4 .ensures) ∙ not-true (c .before .is-between4 .result) (c .if5 .taken) in
     simp (e0, e1, e2, e3, e4)
 
+parity-count-requires : tie.Need-parity-count-requires
+parity-count-requires c κs = search needs
+
+sub-n : tie.Need-sub-n
+sub-n c =
+    let if1 = c .before .before .before .before .before .before .before .before .before .before .if1 in
+    let is-between = c .before .before .before .before .before .before .before .before .before .before .before .is-between in
+    let args = c .before .before .before .before .before .before .before .before .before .before .before .before .args in
+    omega (arith, c .before .parity-count .ensures .2, between-low 3 8 (args .p .N) (sym (is-between .ensures) ∙ not-false (is-between .result) (if1 .left)))
+
 sub-is-between : tie.Need-sub-is-between
 sub-is-between c =
-    let if3 = c .before .before .before .before .before .if3 in
-    let is-between2 = c .before .before .before .before .before .before .is-between2 in
-    let args = c .before .before .before .before .before .before .before .before .before .before .before .args in
+    let if3 = c .before .before .before .before .before .before .before .if3 in
+    let is-between2 = c .before .before .before .before .before .before .before .before .is-between2 in
+    let args = c .before .before .before .before .before .before .before .before .before .before .before .before .before .args in
     omega (arith, between-low 4 1024 (args .p .Z) (sym (is-between2 .ensures) ∙ not-false (is-between2 .result) (if3 .left)))
 
 mul-is-between : tie.Need-mul-is-between
 mul-is-between c =
-    let if4 = c .before .before .before .before .if4 in
-    let is-between3 = c .before .before .before .before .before .is-between3 in
-    let if3 = c .before .before .before .before .before .before .if3 in
-    let is-between2 = c .before .before .before .before .before .before .before .is-between2 in
-    let args = c .before .before .before .before .before .before .before .before .before .before .before .before .args in
+    let if4 = c .before .before .before .before .before .before .if4 in
+    let is-between3 = c .before .before .before .before .before .before .before .is-between3 in
+    let if3 = c .before .before .before .before .before .before .before .before .if3 in
+    let is-between2 = c .before .before .before .before .before .before .before .before .before .is-between2 in
+    let args = c .before .before .before .before .before .before .before .before .before .before .before .before .before .before .args in
     omega (
       arith,
       prod-le (args .p .Z - 3) (args .p .S) 1021 65535 66911235
@@ -112,30 +122,24 @@ mul-is-between c =
           (between-high 1 65535 (args .p .S) (sym (is-between3 .ensures) ∙ not-false (is-between3 .result) (if4 .left))) (omega arith),
     )
 
-sub-is-between-2 : tie.Need-sub-is-between-2
-sub-is-between-2 c =
-    let if1 = c .before .before .before .before .before .before .before .before .before .before .before .if1 in
-    let is-between = c .before .before .before .before .before .before .before .before .before .before .before .before .is-between in
-    let args = c .before .before .before .before .before .before .before .before .before .before .before .before .before .args in
-    omega (arith, between-low 3 8 (args .p .N) (sym (is-between .ensures) ∙ not-false (is-between .result) (if1 .left)))
-
 mul-is-between-2 : tie.Need-mul-is-between-2
 mul-is-between-2 c =
-    let if4 = c .before .before .before .before .before .if4 in
-    let is-between3 = c .before .before .before .before .before .before .is-between3 in
-    let if3 = c .before .before .before .before .before .before .before .if3 in
-    let is-between2 = c .before .before .before .before .before .before .before .before .is-between2 in
-    let if1 = c .before .before .before .before .before .before .before .before .before .before .before .if1 in
-    let is-between = c .before .before .before .before .before .before .before .before .before .before .before .before .is-between in
-    let args = c .before .before .before .before .before .before .before .before .before .before .before .before .before .args in
+    let if4 = c .before .before .before .before .before .before .if4 in
+    let is-between3 = c .before .before .before .before .before .before .before .is-between3 in
+    let if3 = c .before .before .before .before .before .before .before .before .if3 in
+    let is-between2 = c .before .before .before .before .before .before .before .before .before .is-between2 in
+    let if1 = c .before .before .before .before .before .before .before .before .before .before .before .before .if1 in
+    let is-between = c .before .before .before .before .before .before .before .before .before .before .before .before .before .is-between in
+    let args = c .before .before .before .before .before .before .before .before .before .before .before .before .before .before .args in
+    let parities = c .before .before .before .parity-count in
     let h : (args .p .Z - 3) * args .p .S ≤ 66911235 =
     prod-le (args .p .Z - 3) (args .p .S) 1021 65535 66911235
     (omega (arith, between-high 4 1024 (args .p .Z) (sym (is-between2 .ensures) ∙ not-false (is-between2 .result) (if3 .left))))
     (between-high 1 65535 (args .p .S) (sym (is-between3 .ensures) ∙ not-false (is-between3 .result) (if4 .left))) (omega arith) in
     omega (
       arith,
-      prod-le ((args .p .Z - 3) * args .p .S) (args .p .N - 1) 66911235 7 468378645 h
-          (omega (arith, between-high 3 8 (args .p .N) (sym (is-between .ensures) ∙ not-false (is-between .result) (if1 .left)))) (omega arith),
+      prod-le ((args .p .Z - 3) * args .p .S) (args .p .N - parities .result) 66911235 7 468378645 h
+          (omega (arith, parities .ensures .1, between-high 3 8 (args .p .N) (sym (is-between .ensures) ∙ not-false (is-between .result) (if1 .left)))) (omega arith),
     )
 
 is-between-requires-5 : tie.Need-is-between-requires-5
@@ -144,23 +148,24 @@ is-between-requires-5 c κs = search needs
 returns-6 : tie.Need-returns-6
 unfolding inRange mostAddresses dataCount
 returns-6 c =
-    let if5 = c .before .before .before .before .if5 in
-    let is-between4 = c .before .before .before .before .before .is-between4 in
-    let if4 = c .before .before .before .before .before .before .if4 in
-    let is-between3 = c .before .before .before .before .before .before .before .is-between3 in
-    let if3 = c .before .before .before .before .before .before .before .before .if3 in
-    let is-between2 = c .before .before .before .before .before .before .before .before .before .is-between2 in
-    let if2 = c .before .before .before .before .before .before .before .before .before .before .if2 in
-    let is-block-size = c .before .before .before .before .before .before .before .before .before .before .before .is-block-size in
-    let if1 = c .before .before .before .before .before .before .before .before .before .before .before .before .if1 in
-    let is-between = c .before .before .before .before .before .before .before .before .before .before .before .before .before .is-between in
-    let args = c .before .before .before .before .before .before .before .before .before .before .before .before .before .before .args in
+    let parities = c .before .before .before .before .parity-count in
+    let if5 = c .before .before .before .before .before .if5 in
+    let is-between4 = c .before .before .before .before .before .before .is-between4 in
+    let if4 = c .before .before .before .before .before .before .before .if4 in
+    let is-between3 = c .before .before .before .before .before .before .before .before .is-between3 in
+    let if3 = c .before .before .before .before .before .before .before .before .before .if3 in
+    let is-between2 = c .before .before .before .before .before .before .before .before .before .before .is-between2 in
+    let if2 = c .before .before .before .before .before .before .before .before .before .before .before .if2 in
+    let is-block-size = c .before .before .before .before .before .before .before .before .before .before .before .before .is-block-size in
+    let if1 = c .before .before .before .before .before .before .before .before .before .before .before .before .before .if1 in
+    let is-between = c .before .before .before .before .before .before .before .before .before .before .before .before .before .before .is-between in
+    let args = c .before .before .before .before .before .before .before .before .before .before .before .before .before .before .before .args in
     let e0 : between 3 8 (args .p .N) ≡ true = sym (is-between .ensures) ∙ not-false (is-between .result) (if1 .left) in
     let e1 : isMember (args .p .B) blockSizes ≡ true = sym (is-block-size .ensures) ∙ not-false (is-block-size .result) (if2 .left) in
     let e2 : between 4 1024 (args .p .Z) ≡ true = sym (is-between2 .ensures) ∙ not-false (is-between2 .result) (if3 .left) in
     let e3 : between 1 65535 (args .p .S) ≡ true = sym (is-between3 .ensures) ∙ not-false (is-between3 .result) (if4 .left) in
     let e4 : between 1 256 (args .p .G) ≡ true = sym (is-between4 .ensures) ∙ not-false (is-between4 .result) (if5 .left) in
-    c .is-between5 .ensures ∙ sym (simp (e0, e1, e2, e3, e4))
+    c .is-between5 .ensures ∙ ap (λ (k : ℕ). between 1 ((args .p .Z - 3) * args .p .S * (args .p .N - k)) (args .p .L)) (parities .ensures .0) ∙ sym (simp (e0, e1, e2, e3, e4))
 
 pub in-range-spec : {M : Type 1} → statement M
 in-range-spec =
@@ -176,9 +181,10 @@ in-range-spec =
     returns-4
     is-between-requires-4
     returns-5
+    parity-count-requires
+    sub-n
     sub-is-between
     mul-is-between
-    sub-is-between-2
     mul-is-between-2
     is-between-requires-5
     returns-6)

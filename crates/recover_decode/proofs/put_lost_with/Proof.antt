@@ -34,14 +34,14 @@ lost-block-requires : tie.Need-lost-block-requires
 lost-block-requires c κs =
     let q = c .before .before .before .before .before .before .pre in
     let h = q .1 .1 .1 .0 in
-    (q .0, ((q .1 .0 .image-long, h .1, h .2, h .3, h .4, h .0), entered c))
+    (q .0, ((q .1 .0 .image-long, h .1, h .2, h .3, q .1 .1 .0 .drive-low, h .4, h .0), entered c))
 
 lost-rec-requires : tie.Need-lost-rec-requires
 lost-rec-requires c κs =
     let q = c .before .before .before .before .before .before .before .before .before .before .pre in
     let at = c .before .before .before .before in
     let h = q .1 .1 .1 .0 in
-    (q .0, ((q .1 .0 .image-long, h .1, h .2, h .3, h .4), entered (at)))
+    (q .0, ((q .1 .0 .image-long, h .1, h .2, h .3, q .1 .1 .0 .drive-low, h .4), entered (at)))
 
 slice-aggregate-write-record : tie.Need-slice-aggregate-write-record
 slice-aggregate-write-record c = search needs
@@ -73,7 +73,7 @@ put-limited-requires c κs =
             subst (λ (x : ℕ). x < a .p .Z) (sym z) (zone-on-lt (a .p) (a .w .seg) (a .drive) (h .2)),
             subst (λ (x : ℕ). pointerOf (a .p) (a .pointers .now) (a .drive) x < capacity (a .p)) (sym z) (h .5),
           ),
-          (lost-block .kept .1 .1 .1 .1 .1 .0 ∙ h .0, write-record .kept .0 ∙ sym spare-len),
+          (lost-block .kept .1 .1 .1 .1 .1 .1 .0 ∙ h .0, write-record .kept .0 ∙ sym spare-len),
         ),
       ),
     )
@@ -109,10 +109,10 @@ returns c =
     let x = lost-rec .ensures (a .pointers .now) rd in
     let e =
     lost-store-is (a .p) (viewOf (a .p) (a .image .now) (a .pointers .now)) (a .w .gone) (a .w .seg) (a .drive) (a .w .base + a .k)
-    (lost-block .last .1 .1 .1 .1 .1 .0) (recVal (lost-rec .result)) (q .1 .1 .0 .lost) b x in
+    (lost-block .last .1 .1 .1 .1 .1 .1 .0) (recVal (lost-rec .result)) (q .1 .1 .0 .lost) b x in
     subst (λ (s : Store). Storing (a .p) (a .count) (s ∷ []) k m k′) e
-    (subst (λ (z : ℕ). Storing (a .p) (a .count) (put (a .drive) z (lost-block .last .1 .1 .1 .1 .1 .0) (recordBytes (recVal (lost-rec .result))) ∷ []) k m k′) (zone-on .ensures)
-    (subst (λ (y : List ℕ). Storing (a .p) (a .count) (put (a .drive) (zone-on .result) (lost-block .last .1 .1 .1 .1 .1 .0) y ∷ []) k m k′) (write-record .ensures) (put-limited .ensures)))
+    (subst (λ (z : ℕ). Storing (a .p) (a .count) (put (a .drive) z (lost-block .last .1 .1 .1 .1 .1 .1 .0) (recordBytes (recVal (lost-rec .result))) ∷ []) k m k′) (zone-on .ensures)
+    (subst (λ (y : List ℕ). Storing (a .p) (a .count) (put (a .drive) (zone-on .result) (lost-block .last .1 .1 .1 .1 .1 .1 .0) y ∷ []) k m k′) (write-record .ensures) (put-limited .ensures)))
 
 pub put-lost-with-spec : {M : Type 1} → statement M
 put-lost-with-spec =

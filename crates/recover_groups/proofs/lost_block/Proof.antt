@@ -1,97 +1,107 @@
--- `lost_block`: the block is the exclusive or of the present drives' blocks below d, at first zeros; one turn adds that of d, at N all are in. Assumes nothing.
-use mathlib.Core.Path.{_≡_, sym, ap, _∙_}
+-- `lost_block`: the first d entries are the offsets of the blocks of present drives; from all of them `decode_block` decodes. Assumes nothing.
+use mathlib.Core.Path.{_≡_, refl, sym, _∙_}
+use mathlib.Core.Bool.{false}
 use mathlib.Core.List.{List}
-use mathlib.Core.Bool.{cond}
-use Prim.Native.Nat.{ℕ, _+_, _-_, _≤_}
+use Prim.Native.Nat.{ℕ, _+_, _-_, _≤_, _<_}
 use native.Mathlib.Omega.{arith}
-use lib.ListN.{length, replicate, length-replicate}
-use Rattle.spec.specs.Bytes.{xors, parity}
-use Rattle.spec.specs.History.{before}
+use borrow.Author.Needs.{needs}
+use lib.ListN.{length, getD, length-set}
+use Rattle.spec.specs.Bytes.{part}
 use Rattle.spec.specs.Lists.{isIn}
-use Rattle.spec.specs.Params.{drivesOf, present}
-use Rattle.spec.specs.Parity.{parityPiece}
+use Rattle.spec.specs.Params.{imageLen}
 use Rattle.spec.specs.Segments.{storedPiece}
+use Rattle.law_basic.specs.Each.{set-next}
 use Rattle.law_basic.specs.Geometry.{ranged}
+use Rattle.law_code.specs.Code.{decode-block-same}
+use Rattle.recover_groups.specs.Bases.{group-len-fits}
 use Rattle.recover_groups.specs.Groups.{segmentIn, GroupReads}
-use Rattle.recover_groups.specs.Pieces.{piece-block-long, presentBelow, piecesBlocks, blocks-first, blocks-next}
 use Rattle.recover_groups.proofs.lost_block.Statement.{statement}
 use Rattle.recover_groups.proofs.lost_block.Tie as tie
 
 abbrev Inv-loop : tie.InvT-loop
-Inv-loop p image w at k block₀ d₀ block d =
-    (d ≤ p .N) × (length block ≡ p .B) × ((ps : List ℕ) → GroupReads p image ps w at
-    → block ≡ parity (p .B) (piecesBlocks (storedPiece (segmentIn p image ps w) (w .base + k)) (presentBelow (w .gone) d)))
+Inv-loop p image w at drive k block from₀ d₀ from d =
+    (d ≤ p .N)
+    × (length from ≡ 8)
+    × ((e : ℕ) → e < d → isIn (w .gone) e ≡ false → (getD from e 0 + p .B ≤ imageLen p) × ((ps : List ℕ) → GroupReads p image ps w at
+    → storedPiece (segmentIn p image ps w) (w .base + k) e .block ≡ part (getD from e 0) (p .B) image))
 
 abbrev μ-loop : tie.MeasureT-loop
-μ-loop p image w at k block₀ d₀ block d = p .N - d
-
-clear-requires : tie.Need-clear-requires Inv-loop μ-loop
-clear-requires c κs = tt
+μ-loop p image w at drive k block from₀ d₀ from d = p .N - d
 
 loop-holds : tie.Need-loop-holds Inv-loop μ-loop
-loop-holds c =
-    let a = c .before .before .before .before .before .before .before .args in
-    let clear = c .before .before .clear in
-    let pre = c .before .before .before .before .before .before .before .pre in
-    let p = a .p in
-    let w = a .w in
-    let im = a .image .now in (
-      omega arith,
-      ap length (clear .ensures)
-          ∙ length-replicate (length (a .block .now)) 0
-          ∙ pre .1 .0 .5,
-      λ ps x. clear .ensures
-          ∙ ap (λ (n : ℕ). replicate n 0) (pre .1 .0 .5)
-          ∙ blocks-first (p .B) (w .gone) (storedPiece (segmentIn p im ps w) (w .base + a .k)),
-    )
+loop-holds c = (omega arith, refl, λ e h n. absurd (let z : ⊥ = omega (arith, h) in z))
 
-add-block-requires : tie.Need-add-block-requires Inv-loop μ-loop
-add-block-requires c κs =
-    let loop = c .before .before .before .loop in
-    let pre = c .before .before .before .before .before .before .before .before .before .before .before .pre in
-    (pre .0, ((pre .1 .0 .0, pre .1 .0 .1, pre .1 .0 .2, pre .1 .0 .3, c .before .if1 .taken, pre .1 .0 .4, loop .inv .1), pre .1 .1))
+present-block-requires : tie.Need-present-block-requires Inv-loop μ-loop
+present-block-requires c κs =
+    let pre = c .before .before .before .before .before .before .pre in
+    (pre .0, ((pre .1 .0 .1, pre .1 .0 .2, pre .1 .0 .3, c .if1 .taken, pre .1 .0 .5), pre .1 .1))
+
+mul-from : tie.Need-mul-from Inv-loop μ-loop
+mul-from c =
+    let o = c .before .before .before .before .before .before .before in
+    omega (arith, c .before .if1 .taken, ranged (o .args .p) (o .pre .0) .drives-high)
+
+array-write-from : tie.Need-array-write-from Inv-loop μ-loop
+array-write-from c =
+    let o = c .before .before .before .before .before .before .before in
+    omega (arith, c .before .if1 .taken, ranged (o .args .p) (o .pre .0) .drives-high)
 
 add-d : tie.Need-add-d Inv-loop μ-loop
-add-d c = omega arith
+add-d c = omega (arith, c .before .if1 .taken)
 
 loop-less : tie.Need-loop-less Inv-loop μ-loop
-loop-less c = omega arith
+loop-less c = omega (arith, c .before .if1 .taken)
 
 loop-again : tie.Need-loop-again Inv-loop μ-loop
 loop-again c =
-    let a = c .before .before .before .before .before .before .before .before .before .before .before .before .before .before .args in
-    let add-block = c .before .before .add-block in
-    let if1 = c .before .before .before .before .if1 in
-    let loop = c .before .before .before .before .before .before .loop in
-    let pre = c .before .before .before .before .before .before .before .before .before .before .before .before .before .before .pre in
-    let p = a .p in
-    let w = a .w in
-    let im = a .image .now in (
-      omega (arith, if1 .taken),
-      add-block .kept .1 .1 .1 .1 .1 .1 .0 ∙ loop .inv .1,
-      λ ps x. add-block .ensures ps x
-          ∙ ap (λ (y : List ℕ). cond (isIn (w .gone) (loop .d)) y (xors y (storedPiece (segmentIn p im ps w) (w .base + a .k) (loop .d) .block))) (loop .inv .2 ps x)
-          ∙ sym (blocks-next (p .B) (w .gone) (loop .d) (storedPiece (segmentIn p im ps w) (w .base + a .k))
-          (λ e h q. piece-block-long p im ps w (a .at .now) (ranged (a .p) (pre .0)) (pre .1 .0 .0) x (pre .1 .0 .2) (pre .1 .0 .3) (a .k)
-          (pre .1 .0 .4) e (omega (arith, h, if1 .taken)) (pre .1 .1 e (omega (arith, h, if1 .taken)) q))),
-    )
-
-same-length : tie.Need-same-length Inv-loop μ-loop
-same-length c =
-    let pre = c .before .before .before .before .before .before .before .before .before .before .pre in
-    c .before .before .loop .inv .1 ∙ sym (pre .1 .0 .5)
-
-returns : tie.Need-returns Inv-loop μ-loop
-unfolding present drivesOf parityPiece
-returns c =
-    let a = c .before .before .before .before .before .before .before .before .before .before .args in
-    let loop = c .before .before .loop in
+    let a = c .before .before .before .before .before .before .before .args in
+    let pre = c .before .before .before .before .before .before .before .pre in
+    let l = c .before .before .before .loop in
     let p = a .p in
     let w = a .w in
     let im = a .image .now in
-    λ ps x. loop .inv .2 ps x
-    ∙ ap (λ (n : ℕ). parity (p .B) (piecesBlocks (storedPiece (segmentIn p im ps w) (w .base + a .k)) (presentBelow (w .gone) n)))
-    (let q : loop .d ≡ p .N = omega (arith, c .if1 .left, loop .inv .0) in q)
+    let t = c .before .if1 .taken in
+    let d = ranged p (pre .0) .drives-high in (
+      omega (arith, t),
+      length-set (l .from) (l .d) (c .present-block .result) ∙ l .inv .1,
+      set-next
+          (λ e y. isIn (w .gone) e ≡ false → (y + p .B ≤ imageLen p) × ((ps : List ℕ) → GroupReads p im ps w (a .at .now)
+          → storedPiece (segmentIn p im ps w) (w .base + a .k) e .block ≡ part y (p .B) im))
+          (l .from) (l .d) (c .present-block .result) (omega (arith, t, d, l .inv .1)) (l .inv .2)
+          (λ n. (c .present-block .ensures .0 n, λ ps x. c .present-block .ensures .1 im ps (pre .1 .0 .0) x n)),
+    )
+
+add-s : tie.Need-add-s Inv-loop μ-loop
+add-s c =
+    let a = c .before .before .before .before .before .before .before .args in
+    let pre = c .before .before .before .before .before .before .before .pre in
+    let g = group-len-fits (a .p) (a .w .base) (omega (arith, pre .1 .0 .3)) in
+    omega (arith, g, pre .1 .0 .5, ranged (a .p) (pre .0) .stripes-high)
+
+slice-aggregate-decode-block : tie.Need-slice-aggregate-decode-block Inv-loop μ-loop
+slice-aggregate-decode-block c = search needs
+
+decode-block-requires : tie.Need-decode-block-requires Inv-loop μ-loop
+decode-block-requires c κs =
+    let pre = c .before .before .before .before .before .before .before .before .before .pre in
+    let l = c .before .before .before .before .before .loop in
+    let e : l .d ≡ c .before .before .before .before .before .before .before .before .before .args .p .N = omega (arith, c .before .before .before .if1 .left, l .inv .0) in
+    (pre .0, ((l .inv .1, pre .1 .0 .6, pre .1 .0 .4), λ k h n. omega (arith, l .inv .2 k (omega (arith, h, e)) n .0, pre .1 .0 .0)))
+
+same-length : tie.Need-same-length Inv-loop μ-loop
+same-length c = search needs
+
+returns : tie.Need-returns Inv-loop μ-loop
+returns c =
+    let a = c .before .before .before .before .before .before .before .before .before .before .before .before .args in
+    let l = c .before .before .before .before .before .before .before .before .loop in
+    let p = a .p in
+    let w = a .w in
+    let im = a .image .now in
+    let e : l .d ≡ p .N = omega (arith, c .before .before .before .before .before .before .if1 .left, l .inv .0) in
+    λ ps x. c .before .before .decode-block .ensures
+    ∙ decode-block-same p (w .gone) (w .base + a .k) (a .drive) (λ k. part (getD (l .from) k 0) (p .B) im) (λ k. storedPiece (segmentIn p im ps w) (w .base + a .k) k .block)
+    (λ k h n. sym (l .inv .2 k (omega (arith, h, e)) n .1 ps x))
 
 pub lost-block-spec : {M : Type 1} → statement M
 lost-block-spec =
@@ -99,11 +109,15 @@ lost-block-spec =
     (tie.spec
     Inv-loop
     μ-loop
-    clear-requires
     loop-holds
-    add-block-requires
+    present-block-requires
+    mul-from
+    array-write-from
     add-d
     loop-less
     loop-again
+    add-s
+    slice-aggregate-decode-block
+    decode-block-requires
     same-length
     returns)

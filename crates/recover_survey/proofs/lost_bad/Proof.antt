@@ -61,7 +61,8 @@ lost-rec-requires c κs =
     let p = a .p in
     let w = a .w in
     let i = c .before .is-all-entered in
-    (h .0, (h .1, i .ensures .0 (not-false (i .result) (c .if2 .left))))
+    let d = ranged p (h .0) .drives-low in
+    (h .0, ((h .1 .0, h .1 .1, h .1 .2, h .1 .3, omega (arith, d), h .1 .4), i .ensures .0 (not-false (i .result) (c .if2 .left))))
 
 bad-rec-requires : tie.Need-bad-rec-requires
 bad-rec-requires c κs = search needs

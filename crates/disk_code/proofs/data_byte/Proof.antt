@@ -3,8 +3,8 @@ use mathlib.Core.Path.{ap, _∙_}
 use borrow.Author.Needs.{needs}
 use Rattle.spec.specs.Engine.Call.{close}
 use Rattle.spec.specs.Memory.{slotByte}
-use Rattle.disk_blocks.proofs.data_byte.Statement.{statement}
-use Rattle.disk_blocks.proofs.data_byte.Tie as tie
+use Rattle.disk_code.proofs.data_byte.Statement.{statement}
+use Rattle.disk_code.proofs.data_byte.Tie as tie
 
 data-drive-requires : tie.Need-data-drive-requires
 data-drive-requires c κs = search needs

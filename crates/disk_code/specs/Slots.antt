@@ -12,6 +12,7 @@ use Rattle.spec.specs.Layout.{parityDrive, dataDrive, dataDrives}
 use Rattle.spec.specs.Lists.{upFrom, below}
 use Rattle.spec.specs.Memory.{slotByte, slotBlock, setSlotBlock, setSlotParity}
 use Rattle.spec.specs.Params.{dataCount, inflightLen}
+use Rattle.spec.specs.Parity.{encodeBlock}
 use Rattle.spec.specs.declared.Params.{Params}
 use Rattle.law_basic.specs.Geometry.{slot-within, slots-apart, parity-drive-lt, data-drive-lt, data-not-parity}
 use Rattle.law_basic.specs.Ranges.{map-below-snoc, map-below-same, map-map}
@@ -44,16 +45,16 @@ module _ (p : Params) (fl : List ℕ) (i s : ℕ) (r : 0 < p .N) (hi : i < 8) (l
   from-fits : (k : ℕ) → k < dataCount p → from k + p .B ≤ length fl
   from-fits k h = omega (arith, slot-within p i (dataDrive p s k) hi (data-drive-lt p s k h), long)
 
-  slot-block-long : (k : ℕ) → k < dataCount p → length (slotBlock p fl i (dataDrive p s k)) ≡ p .B
+  slot-blocks-long : (k : ℕ) → k < dataCount p → length (slotBlock p fl i (dataDrive p s k)) ≡ p .B
   unfolding slotBlock
-  slot-block-long k h = length-part (from k) (p .B) fl (from-fits k h)
+  slot-blocks-long k h = length-part (from k) (p .B) fl (from-fits k h)
 
   slots-long : (k : ℕ) → k ≤ dataCount p → AllLong (p .B) (map (λ j. slotBlock p fl i (dataDrive p s j)) (below k))
-  slots-long k h = long-below (p .B) (λ j. slotBlock p fl i (dataDrive p s j)) k (λ j q. slot-block-long j (omega arith))
+  slots-long k h = long-below (p .B) (λ j. slotBlock p fl i (dataDrive p s j)) k (λ j q. slot-blocks-long j (omega arith))
 
-  pub data-parity-long : (k : ℕ) → k ≤ dataCount p → length (dataParity p fl i s k) ≡ p .B
+  pub slot-parity-long : (k : ℕ) → k ≤ dataCount p → length (dataParity p fl i s k) ≡ p .B
   unfolding dataParity
-  data-parity-long k h = length-parity (p .B) (map (λ j. slotBlock p fl i (dataDrive p s j)) (below k)) (slots-long k h)
+  slot-parity-long k h = length-parity (p .B) (map (λ j. slotBlock p fl i (dataDrive p s j)) (below k)) (slots-long k h)
 
   -- one position
   pub parity-first : 0 < dataCount p → part (from 0) (p .B) fl ≡ dataParity p fl i s 1
@@ -65,7 +66,7 @@ module _ (p : Params) (fl : List ℕ) (i s : ℕ) (r : 0 < p .N) (hi : i < 8) (l
   unfolding dataParity slotBlock
   parity-next k h =
       let f : ℕ → List ℕ = λ j. slotBlock p fl i (dataDrive p s j) in
-      sym (ap (parity (p .B)) (map-below-snoc f k) ∙ parity-snoc (p .B) (map f (below k)) (f k) (slots-long k (omega arith)) (slot-block-long k h))
+      sym (ap (parity (p .B)) (map-below-snoc f k) ∙ parity-snoc (p .B) (map f (below k)) (f k) (slots-long k (omega arith)) (slot-blocks-long k h))
 
   -- a data block is as it was, whatever stands in the parity's place
   kept-at : (k : ℕ) (x : List ℕ) → k < dataCount p → length x ≡ p .B → Apart at (from k) (p .B) → part (from k) (p .B) (splice fl at x) ≡ part (from k) (p .B) fl
@@ -89,7 +90,7 @@ module _ (p : Params) (fl : List ℕ) (i s : ℕ) (r : 0 < p .N) (hi : i < 8) (l
       → splice fl′ at (xors (part at (p .B) fl′) (part (from k) (p .B) fl′)) ≡ splice fl at (dataParity p fl i s (k + 1))
   parity-turn k fl′ h e =
       let x = dataParity p fl i s k in
-      let n : length x ≡ p .B = data-parity-long k (omega arith) in
+      let n : length x ≡ p .B = slot-parity-long k (omega arith) in
       let fits : at + length x ≤ length fl = omega (arith, at-fits) in
       let a : part at (p .B) (splice fl at x) ≡ x = ap (λ (y : ℕ). part at y (splice fl at x)) (sym n) ∙ part-splice fl at x fits in
       let m : length (xors x (part (from k) (p .B) fl)) ≡ length x = length-xors x (part (from k) (p .B) fl) in
@@ -99,7 +100,7 @@ module _ (p : Params) (fl : List ℕ) (i s : ℕ) (r : 0 < p .N) (hi : i < 8) (l
       ∙ ap (splice fl at) (parity-next k h)
 
   pub parity-done : splice fl at (dataParity p fl i s (dataCount p)) ≡ setSlotParity p fl i s
-  unfolding setSlotParity setSlotBlock dataParity dataDrives
+  unfolding setSlotParity setSlotBlock dataParity dataDrives encodeBlock
   parity-done = ap (λ (x : List (List ℕ)). splice fl at (parity (p .B) x)) (sym (map-map (slotBlock p fl i) (dataDrive p s) (below (dataCount p))))
 
 -- what stood in the parity's place does not count
@@ -110,7 +111,7 @@ parity-again p fl i s r hi long x n =
     let fits : a + length x ≤ length fl = omega (arith, slot-within p i (parityDrive p s) hi (parity-drive-lt p s r), long) in
     let long′ : length (splice fl a x) ≡ inflightLen p = length-splice fl a x fits ∙ long in
     let y = dataParity p fl i s (dataCount p) in
-    let m : length y ≡ length x = data-parity-long p fl i s r hi long (dataCount p) (omega arith) ∙ sym n in
+    let m : length y ≡ length x = slot-parity-long p fl i s r hi long (dataCount p) (omega arith) ∙ sym n in
     sym (parity-done p (splice fl a x) i s r hi long′)
     ∙ ap (splice (splice fl a x) a) (data-kept p fl i s r hi long (dataCount p) x (omega arith) n)
     ∙ splice-again fl a x y fits m

@@ -6,7 +6,7 @@ use Prim.Native.Nat.{ℕ, _<_}
 use native.Mathlib.Omega.{arith}
 use borrow.Author.Needs.{needs}
 use lib.ListN.{length}
-use Rattle.disk_blocks.specs.Slots.{slots-differ, parity-again, parity-copied}
+use Rattle.disk_code.specs.Slots.{slots-differ, parity-again, parity-copied}
 use Rattle.spec.specs.Bytes.{part, splice}
 use Rattle.spec.specs.Engine.Call.{close}
 use Rattle.spec.specs.Layout.{parityDrive, dataDrive}
@@ -14,8 +14,8 @@ use Rattle.spec.specs.Memory.{slotByte, setSlotParity}
 use Rattle.spec.specs.Params.{dataCount}
 use Rattle.law_basic.specs.Geometry.{ranged, data-count-low, data-not-parity}
 use Rattle.law_basic.specs.Splice.{length-part}
-use Rattle.disk_blocks.proofs.slot_parity.Statement.{statement}
-use Rattle.disk_blocks.proofs.slot_parity.Tie as tie
+use Rattle.disk_code.proofs.slot_parity.Statement.{statement}
+use Rattle.disk_code.proofs.slot_parity.Tie as tie
 
 parity-drive-requires : tie.Need-parity-drive-requires
 parity-drive-requires c κs = search needs

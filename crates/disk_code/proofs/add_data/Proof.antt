@@ -4,15 +4,15 @@ use mathlib.Core.Path.{_≡_, refl, sym, ap, ap₂, _∙_}
 use Prim.Native.Nat.{ℕ, _-_, _≤_, _<_}
 use native.Mathlib.Omega.{arith}
 use lib.ListN.{length}
-use Rattle.disk_blocks.specs.Slots.{slots-differ, dataParity, parity-start, parity-turn, parity-done}
+use Rattle.disk_code.specs.Slots.{slots-differ, dataParity, parity-start, parity-turn, parity-done}
 use Rattle.spec.specs.Bytes.{part, splice, xors}
 use Rattle.spec.specs.Engine.Call.{close}
 use Rattle.spec.specs.Layout.{parityDrive, dataDrive}
 use Rattle.spec.specs.Memory.{slotByte}
 use Rattle.spec.specs.Params.{dataCount}
 use Rattle.law_basic.specs.Geometry.{ranged, data-not-parity}
-use Rattle.disk_blocks.proofs.add_data.Statement.{statement}
-use Rattle.disk_blocks.proofs.add_data.Tie as tie
+use Rattle.disk_code.proofs.add_data.Statement.{statement}
+use Rattle.disk_code.proofs.add_data.Tie as tie
 
 abbrev Inv-loop : tie.InvT-loop
 Inv-loop p inflight₀ slot stripe n b at k₀ inflight k =

@@ -1,0 +1,29 @@
+-- `present_block`: a missing drive asks nothing; a present one has its entry. Assumes nothing.
+use mathlib.Core.Path.{_≡_, sym, _∙_}
+use mathlib.Core.Bool.{true}
+use borrow.Author.Needs.{needs}
+use Rattle.spec.specs.Lists.{isIn}
+use Rattle.law_basic.specs.Ranges.{not-both}
+use Rattle.recover_groups.proofs.present_block.Statement.{statement}
+use Rattle.recover_groups.proofs.present_block.Tie as tie
+
+has-drive-requires : tie.Need-has-drive-requires
+has-drive-requires c κs = search needs
+
+returns : tie.Need-returns
+returns c =
+    let a = c .before .before .before .args in
+    let t : isIn (a .w .gone) (a .drive) ≡ true = sym (c .before .has-drive .ensures) ∙ c .if1 .taken in
+    (λ e. absurd (not-both (isIn (a .w .gone) (a .drive)) t e), λ im ps h x e. absurd (not-both (isIn (a .w .gone) (a .drive)) t e))
+
+block-at-requires : tie.Need-block-at-requires
+block-at-requires c κs =
+    let a = c .before .before .before .args in
+    let pre = c .before .before .before .pre in
+    (pre .0, (pre .1 .0, pre .1 .1 (a .drive) (pre .1 .0 .3) (sym (c .before .has-drive .ensures) ∙ c .if1 .left)))
+
+returns-2 : tie.Need-returns-2
+returns-2 c = (λ e. c .block-at .ensures .0, λ im ps h x e. c .block-at .ensures .1 im ps h x)
+
+pub present-block-spec : {M : Type 1} → statement M
+present-block-spec = tie.close (tie.spec has-drive-requires returns block-at-requires returns-2)
