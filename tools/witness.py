@@ -1,6 +1,7 @@
 #!/usr/bin/env python3
-"""Write crates/proof_crash_witness/proofs/Evaluation.antt: every unfoldable name of the definitions and of the crate on one `unfolding` line."""
+"""Write crates/proof_crash_witness/proofs/Evaluation.antt: every unfoldable name of the definitions and of the crate behind `unfolding`."""
 import re
+import textwrap
 from pathlib import Path
 WITNESS = Path("crates/proof_crash_witness")
 OUT = WITNESS / "proofs" / "Evaluation.antt"
@@ -14,7 +15,7 @@ for f, home in homes:
     # of the worked examples only the blocks
     found = ["blockOf"] if f.stem == "Examples" else re.findall(r"^unfoldable pub (\S+)", f.read_text(), re.M)
     if found:
-        lines.append("use %s.%s.{%s}" % (home, f.stem, ", ".join(found)))
+        lines += ["use %s.%s.{%s}" % (home, f.stem, part.rstrip(",")) for part in textwrap.wrap(", ".join(found), 120)]
         names += found
-lines += ["", "unfoldable pub evaluated : ℕ", "unfolding " + " ".join(names), "evaluated = 0"]
+lines += ["", "unfoldable pub evaluated : ℕ", *textwrap.wrap("unfolding " + " ".join(names), 150, subsequent_indent="    "), "evaluated = 0"]
 OUT.write_text("\n".join(lines) + "\n")

@@ -5,7 +5,7 @@ use Rattle.spec.specs.Bytes.{part, splice}
 use Rattle.spec.specs.Calls.{Plan, mkPlan, mkAfter, cutMemory, outcome}
 use Rattle.spec.specs.Calls.Verdict.{due}
 use Rattle.spec.specs.Counts.{lastCount, aStamp}
-use Rattle.spec.specs.Drives.{View, chunkAt, Store, Disk, storeDisk, storeAll, placeSegment, emptyZones, recordAt}
+use Rattle.spec.specs.Drives.{View, chunkAt, Store, Disk, storeDisk, storeAll, placeSegment, emptySegs, recordAt}
 use Rattle.spec.specs.Answers.{kind, isRefused, isCut}
 use Rattle.spec.specs.Memory.{Memory, mkMemory, hasFilling}
 use Rattle.spec.specs.Params.{inRange, dataCount, capacity, addressesLen, compactLen, inflightLen, placeBlock, placeZone, placeDrive, placeByte}
@@ -48,10 +48,10 @@ sentPlan p v m a t b =
     mkPlan (w .stores) (Copied (aStamp t) (w .stripe) (w .drive)) (mkMemory (w .state) (m .addresses) (m .compact) (w .inflight)) []
 
 -- 01, Reclaim: the copy of the block at place q
-pub copy-sent : (p : Params) (v : View) (m : Memory) (q a t : ℕ) (b : List ℕ) → a ≡ recordAt p v 0 (placeDrive p q) (placeZone p q) (placeBlock p q - 1) .address
-    → t ≡ recordAt p v 0 (placeDrive p q) (placeZone p q) (placeBlock p q - 1) .stamp → b ≡ chunkAt v (placeDrive p q) (placeZone p q) (placeBlock p q) .block
+pub copy-sent : (p : Params) (v : View) (m : Memory) (q a t : ℕ) (b : List ℕ) → a ≡ recordAt p v 0 (placeDrive p q) (placeSegment p q) (placeBlock p q - 1) .address
+    → t ≡ recordAt p v 0 (placeDrive p q) (placeSegment p q) (placeBlock p q - 1) .stamp → b ≡ chunkAt v (placeDrive p q) (placeZone p q) (placeBlock p q) .block
     → sentPlan p v m a t b ≡ copyPlan p v m q
-unfolding copyPlan sentPlan placeSegment
+unfolding copyPlan sentPlan
 copy-sent p v m q a t b ea et eb = (λ j. sentPlan p v m (ea j) (et j) (eb j))
 
 -- the bytes of the block at a place
@@ -78,7 +78,7 @@ pub record CopyReady (p : Params) (k : Disk) (m : Memory) : Type 0 where
   pub inflight-long : length (m .inflight) ≡ inflightLen p
   pub serial-left : opens p (m .state) ≡ true → m .state .serial .0 ≡ lastCount → ⊥
   pub waits : mustWait p (m .state) ≡ false
-  pub empties : opens p (m .state) ≡ true → 0 < length (emptyZones p (seen p k))
+  pub empties : opens p (m .state) ≡ true → 0 < length (emptySegs p (seen p k))
   pub next-high : m .state .next ≤ p .S
 
 -- what a copy changes, the block sent as q says

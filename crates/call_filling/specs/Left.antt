@@ -1,10 +1,10 @@
 -- What the functions leave, put together as the definitions have it (01, Write). Assumes nothing.
 use Prim.Native.Nat.{ℕ, suc, _+_, min, _≤_, _<_}
-use Rattle.spec.specs.Drives.{View, viewOf, Store, Disk, pointerOf, storeDisk, storeAll, zoneOn, emptyZones, headerStores}
-use Rattle.spec.specs.Lists.{upFrom, below, keep, firstOr}
+use Rattle.spec.specs.Drives.{View, viewOf, Store, Disk, pointerOf, storeDisk, storeAll, zoneOn, emptySegs, headerStores, Seg, seg}
+use Rattle.spec.specs.Lists.{firstOr}
 use Rattle.spec.specs.Counts.{aSerial}
 use Rattle.spec.specs.Memory.{filledIn, isFree, isFull, isFilling, hasFilling, setOpen}
-use Rattle.spec.specs.Params.{inRange, capacity, imageLen, pointersLen, drivesOf}
+use Rattle.spec.specs.Params.{inRange, capacity, imageLen, pointersLen}
 use Rattle.spec.specs.Write.{mustOpen, opens, scarce, openedBy}
 use Rattle.spec.specs.declared.Params.{Params}
 use Rattle.spec.specs.declared.State.{State}
@@ -13,26 +13,25 @@ use Rattle.call_filling.specs.declared.Opened.{Opened}
 use Rattle.call_filling.specs.declared.Put.{Put}
 use Rattle.call_filling.specs.declared.Taken.{Taken}
 use Rattle.law_basic.specs.Geometry.{ranged, capacity-low}
-use Rattle.law_basic.specs.Ranges.{all-in-below, first-passes}
 use Rattle.law_basic.specs.Stores.{stores-nil}
 use Rattle.mem_rows.specs.Rows.{frontOf, behind}
 use Rattle.law_views.specs.Views.{seen}
-use Rattle.disk_zones.specs.Empty.{emptyBy, empty-list}
+use Rattle.disk_zones.specs.Empty.{lowest-is-empty, empty-pointer}
 use Rattle.disk_zones.specs.Made.{madeOf, Storing}
 use Rattle.disk_zones.specs.declared.Made.{Made}
-use borrow.Author.Tests.{eqb-true, le-ltb, le-leb, lt-leb}
-use lib.Dec.{leb, ltb, eqb}
+use borrow.Author.Tests.{le-ltb, le-leb, lt-leb}
+use lib.Dec.{leb, ltb}
 use lib.ListN.{length, take}
 use mathlib.Core.Bool.{Bool, true, false, cond}
 use mathlib.Core.List.{List, []}
-use mathlib.Core.Path.{_≡_, refl, sym, ap, ap₂, _∙_, subst}
+use mathlib.Core.Path.{_≡_, refl, sym, ap, ap₂, _∙_}
 use native.Mathlib.Numerals.{add-one}
 use native.Mathlib.Decide.{decLe}
 use native.Mathlib.Omega.{arith}
 
 -- the stores of the headers, where a segment is opened
 abbrev pub openStores : Params → Disk → State → List Store
-openStores p k st = cond (opens p st) (headerStores p (firstOr 0 (emptyZones p (seen p k))) (suc (st .serial .0)) 0) []
+openStores p k st = cond (opens p st) (headerStores p (firstOr (seg 0) (emptySegs p (seen p k))) (suc (st .serial .0)) 0) []
 
 -- 01, Write; Store count: the first n of the headers' stores are made on the bytes k, which are then k′; r says whether more were due, and
 -- has the numbers in front with the segment open if not
@@ -62,7 +61,7 @@ module _ (p : Params) (st : State) (n : ℕ) (k : Disk) where
   pub opening-none : opens p st ≡ false → OpeningStores p st n k (openedAs false (st .serial .0) (st .opened) (st .next)) k
   unfolding openedBy
   opening-none e =
-      let g = firstOr 0 (emptyZones p (seen p k)) in
+      let g = firstOr (seg 0) (emptySegs p (seen p k)) in
       let hs = headerStores p g (suc (st .serial .0)) 0 in
       let q : openStores p k st ≡ [] = ap (λ (x : Bool). cond x hs []) e in
       let o : st ≡ cond (opens p st) (setOpen st g (suc (st .serial .0))) st = sym (ap (λ (x : Bool). cond x (setOpen st g (suc (st .serial .0))) st) e) in
@@ -74,18 +73,18 @@ module _ (p : Params) (st : State) (n : ℕ) (k : Disk) where
         next = ap (λ (x : State). x .next) o;
       }
 
-  module _ (e : opens p st ≡ true) (g s : ℕ) (lowest : g ≡ firstOr 0 (emptyZones p (seen p k))) (next : s ≡ suc (st .serial .0)) where
-    stores-are : headerStores p g s 0 ≡ openStores p k st
+  module _ (e : opens p st ≡ true) (g s : ℕ) (lowest : seg g ≡ firstOr (seg 0) (emptySegs p (seen p k))) (next : s ≡ suc (st .serial .0)) where
+    stores-are : headerStores p (seg g) s 0 ≡ openStores p k st
     stores-are =
-        ap₂ (λ (x y : ℕ). headerStores p x y 0) lowest next
-        ∙ ap (λ (x : Bool). cond x (headerStores p (firstOr 0 (emptyZones p (seen p k))) (suc (st .serial .0)) 0) []) (sym e)
+        ap₂ (λ (x : Seg) (y : ℕ). headerStores p x y 0) lowest next
+        ∙ ap (λ (x : Bool). cond x (headerStores p (firstOr (seg 0) (emptySegs p (seen p k))) (suc (st .serial .0)) 0) []) (sym e)
 
     -- made, or cut
-    pub opening-made : (r : Made) (k′ : Disk) → Storing p n (headerStores p g s 0) k r k′ → OpeningStores p st n k (openedAs (r .cut) s (g + 1) 0) k′
+    pub opening-made : (r : Made) (k′ : Disk) → Storing p n (headerStores p (seg g) s 0) k r k′ → OpeningStores p st n k (openedAs (r .cut) s (g + 1) 0) k′
     unfolding madeOf openedBy setOpen
     opening-made r k′ h =
-        let o : setOpen st g s ≡ openedBy p (seen p k) st =
-        ap₂ (λ (x y : ℕ). setOpen st x y) lowest next ∙ ap (λ (x : Bool). cond x (setOpen st (firstOr 0 (emptyZones p (seen p k))) (suc (st .serial .0))) st) (sym e) in
+        let o : setOpen st (seg g) s ≡ openedBy p (seen p k) st =
+        ap₂ (setOpen st) lowest next ∙ ap (λ (x : Bool). cond x (setOpen st (firstOr (seg 0) (emptySegs p (seen p k))) (suc (st .serial .0))) st) (sym e) in
         record {
           cut = ap (λ (x : Made). x .cut) (h .made) ∙ ap (λ (x : List Store). ltb n (length x)) stores-are;
           disk = h .disk ∙ ap (λ (x : List Store). storeAll (storeDisk p) (take n x) k) stores-are;
@@ -105,8 +104,8 @@ opening-front p st n k r k′ h = record {
   next = h .next ∙ same (opens p st) .2;
 }
   where
-    g : ℕ
-    g = firstOr 0 (emptyZones p (seen p k))
+    g : Seg
+    g = firstOr (seg 0) (emptySegs p (seen p k))
 
     same : (b : Bool) → let x = cond b (setOpen (behind (frontOf st)) g (suc (st .serial .0))) (behind (frontOf st)) in let y = cond b (setOpen st g (suc (st .serial .0))) st in
         (x .serial .0 ≡ y .serial .0) × (x .opened ≡ y .opened) × (x .next ≡ y .next)
@@ -114,22 +113,18 @@ opening-front p st n k r k′ h = record {
     same false = (refl, refl, refl)
 
 -- 01, Refusals, 8: a count that stops at n + 1
-pub scarce-count : (p : Params) (v : View) (n : ℕ) → leb (min (n + 1) (length (emptyZones p v))) n ≡ scarce p v n
+pub scarce-count : (p : Params) (v : View) (n : ℕ) → leb (min (n + 1) (length (emptySegs p v))) n ≡ scarce p v n
 unfolding scarce
-scarce-count p v n = go (decLe (length (emptyZones p v)) n)
+scarce-count p v n = go (decLe (length (emptySegs p v)) n)
   where
-    go : Dec (length (emptyZones p v) ≤ n) → leb (min (n + 1) (length (emptyZones p v))) n ≡ leb (length (emptyZones p v)) n
-    go (yes h) = le-leb (min (n + 1) (length (emptyZones p v))) n (omega arith) ∙ sym (le-leb (length (emptyZones p v)) n h)
-    go (no h) = lt-leb (min (n + 1) (length (emptyZones p v))) n (omega arith) ∙ sym (lt-leb (length (emptyZones p v)) n (omega arith))
+    go : Dec (length (emptySegs p v) ≤ n) → leb (min (n + 1) (length (emptySegs p v))) n ≡ leb (length (emptySegs p v)) n
+    go (yes h) = le-leb (min (n + 1) (length (emptySegs p v))) n (omega arith) ∙ sym (le-leb (length (emptySegs p v)) n h)
+    go (no h) = lt-leb (min (n + 1) (length (emptySegs p v))) n (omega arith) ∙ sym (lt-leb (length (emptySegs p v)) n (omega arith))
 
 -- the lowest empty zone has room for a header on every drive
-pub lowest-room : (p : Params) (im ps : List ℕ) → inRange p ≡ true → length im ≡ imageLen p → length ps ≡ pointersLen p → 0 < length (emptyZones p (viewOf p im ps))
-    → (d : ℕ) → d < p .N → pointerOf p ps d (zoneOn (firstOr 0 (emptyZones p (viewOf p im ps))) d) < capacity p
-unfolding emptyBy drivesOf below
+pub lowest-room : (p : Params) (im ps : List ℕ) → inRange p ≡ true → length im ≡ imageLen p → length ps ≡ pointersLen p → 0 < length (emptySegs p (viewOf p im ps))
+    → (d : ℕ) → d < p .N → pointerOf p ps d (zoneOn (firstOr (seg 0) (emptySegs p (viewOf p im ps))) d) < capacity p
 lowest-room p im ps ok hi hp h d hd =
-    let e : emptyZones p (viewOf p im ps) ≡ keep (emptyBy p ps) (below (p .Z)) = empty-list p im ps hi hp in
-    let l : 0 < length (keep (emptyBy p ps) (upFrom 0 (p .Z))) = subst (λ (x : List ℕ). 0 < length x) e h in
-    let g = firstOr 0 (keep (emptyBy p ps) (upFrom 0 (p .Z))) in
-    let q : eqb (pointerOf p ps d (zoneOn g d)) 0 ≡ true = all-in-below (λ x. eqb (pointerOf p ps x (zoneOn g x)) 0) (p .N) d (first-passes (emptyBy p ps) 0 (p .Z) l .0) hd in
-    let z : pointerOf p ps d (zoneOn g d) ≡ 0 = eqb-true (pointerOf p ps d (zoneOn g d)) 0 q in
-    subst (λ (x : List ℕ). pointerOf p ps d (zoneOn (firstOr 0 x) d) < capacity p) (sym e) (omega (arith, z, capacity-low p (ranged p ok)))
+    let g = firstOr (seg 0) (emptySegs p (viewOf p im ps)) in
+    let z : pointerOf p ps d (zoneOn g d) ≡ 0 = empty-pointer p ps g d (lowest-is-empty p im ps hi hp h .0) hd in
+    omega (arith, z, capacity-low p (ranged p ok))

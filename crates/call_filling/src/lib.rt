@@ -3,14 +3,14 @@
 ghost use mathlib.Core.Path.{_≡_};
 ghost use mathlib.Core.Bool.{true, false, cond, not, _&&_};
 ghost use mathlib.Core.List.{List};
-ghost use Prim.Native.Nat.{ℕ, suc, _*_, _<_};
+ghost use Prim.Native.Nat.{ℕ, _*_, _<_};
 ghost use lib.Bits.{bitOr};
 ghost use lib.Dec.{leb, eqb};
 ghost use lib.ListN.{length, replicate};
 ghost use Rattle.spec.specs.declared.Answer.the-variants.{Cut};
 ghost use Rattle.spec.specs.Lists.{any, only};
 ghost use Rattle.spec.specs.Counts.{lastCount};
-ghost use Rattle.spec.specs.Drives.{viewOf, mkDisk, emptyZones};
+ghost use Rattle.spec.specs.Drives.{viewOf, mkDisk, emptySegs};
 ghost use Rattle.spec.specs.Params.{inRange, dataCount, imageLen, pointersLen, inflightLen};
 ghost use Rattle.spec.specs.Memory.{isFree, isFilling, inFlight, freeSlot, fillingSlot};
 ghost use Rattle.spec.specs.Write.{mustOpen, opens, noStamp, otherGroup, mustWait, scarce};
@@ -255,7 +255,7 @@ pub fn open(
     requires { ⌜ Whole p (mkDisk (now image) (now pointers)) ⌝ }
     requires { ⌜ a .opens ≡ opens p (behind f) ⌝ }
     requires { ⌜ (a .opens ≡ true → f .serial .0 < lastCount) ⌝ }
-    requires { ⌜ (a .opens ≡ true → 0 < length (emptyZones p (viewOf p (now image) (now pointers)))) ⌝ }
+    requires { ⌜ (a .opens ≡ true → 0 < length (emptySegs p (viewOf p (now image) (now pointers)))) ⌝ }
     ensures { λ r. ⌜ OpeningStores p (behind f) count (mkDisk (now (image .entry)) (now (pointers .entry))) r (mkDisk (now (image .exit)) (now (pointers .exit))) ⌝ }
 {
     let old = f.serial;

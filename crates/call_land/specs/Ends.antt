@@ -13,7 +13,7 @@ use Rattle.spec.specs.declared.State.{State}
 use Rattle.spec.specs.declared.Answer.{Answer}
 use Rattle.spec.specs.declared.Answer.the-variants.{Cut, Landed}
 use Rattle.spec.specs.Calls.{Plan, mkPlan, mkAfter, cutMemory}
-use Rattle.spec.specs.Drives.{View, pointerAt, Store, storeView, Disk, pointerOf, setPointer, storeDisk, storeAll, zoneOn}
+use Rattle.spec.specs.Drives.{View, pointerAt, Store, storeView, Disk, pointerOf, setPointer, storeDisk, storeAll, zoneOn, Seg, seg}
 use Rattle.spec.specs.Drives.Store.{put}
 use Rattle.spec.specs.Engine.Call.{land}
 use Rattle.spec.specs.Engine.{lentOk, storeCount, lentBlock, verdict, callOn, callDisk}
@@ -25,9 +25,10 @@ use Rattle.spec.specs.Lists.Opt.{none, some}
 use Rattle.spec.specs.Memory.{Memory, mkMemory, stripeIn, filledIn, entryIn, openSegment, setClosed, freeStripe, placeAt, compactAt, slotByte, slotBlock}
 use Rattle.spec.specs.Params.{spareLen, dataCount, footers, capacity}
 use Rattle.law_basic.specs.Fields.{length-record}
-use Rattle.law_basic.specs.Geometry.{ranged, data-count-high, data-drive-lt, capacity-high, data-below, zone-on-lt, slot-within}
+use Rattle.law_basic.specs.Geometry.{ranged, data-count-high, data-drive-lt, capacity-high, data-below, slot-within}
 use Rattle.law_basic.specs.Splice.{length-part}
 use Rattle.law_basic.specs.Stores.{stores-cons, stores-zero, stores-nil}
+use Rattle.law_basic.specs.Segs.{named-lt, zone-on-lt}
 use Rattle.law_calls.specs.Refusals.{call-refused, call-done, call-cut, refusal-kind}
 use Rattle.law_views.specs.Pointers.{pointer-set, pointer-other-drive}
 use Rattle.law_views.specs.Views.{Whole, pointer-view, view-put, whole-put, seen}
@@ -82,7 +83,7 @@ module _ (p : Params) (k : Disk) (m : Memory) (d s : ℕ) (r : LandReady p k m d
   abbrev i : ℕ
   i = slotOf (m .state) s
 
-  abbrev g : ℕ
+  abbrev g : Seg
   g = openSegment (m .state)
 
   abbrev z : ℕ
@@ -186,9 +187,9 @@ module _ (p : Params) (k : Disk) (m : Memory) (d s : ℕ) (r : LandReady p k m d
   module _ (sized : RowsSized (m .state)) where
     -- what the store, the table's entry and the mark come to
     pub chunked : (l : Look) → Looks p (m .state) d s l → (w : Row) (k′ : Disk) (co : List ℕ)
-        → k′ ≡ storeDisk p (put d (zoneOn (l .segment) d) (slotBlock p (m .inflight) (l .slot) d) (recordBytes (flightRec p (alone (l .row)) 0 d))) k
-        → co ≡ set (m .compact) (compactAt p d (zoneOn (l .segment) d) (pointerOf p (k .pointers) d (zoneOn (l .segment) d) - 1)) (compactEntry p s)
-        → w ≡ markRow (l .row) d (pointerOf p (k .pointers) d (zoneOn (l .segment) d) - 1)
+        → k′ ≡ storeDisk p (put d (zoneOn (seg (l .segment)) d) (slotBlock p (m .inflight) (l .slot) d) (recordBytes (flightRec p (alone (l .row)) 0 d))) k
+        → co ≡ set (m .compact) (compactAt p d (zoneOn (seg (l .segment)) d) (pointerOf p (k .pointers) d (zoneOn (seg (l .segment)) d) - 1)) (compactEntry p s)
+        → w ≡ markRow (l .row) d (pointerOf p (k .pointers) d (zoneOn (seg (l .segment)) d) - 1)
         → (w ≡ markRow (slotRow (m .state) (slotOf (m .state) s)) d (pointerAt (seen p k) d (zoneOn (openSegment (m .state)) d) - 1))
         × (k′ ≡ storeDisk p (landStore p (seen p k) m d s) k) × (co ≡ shownTable p (seen p k) m d s)
     chunked l x w k′ co f h q =
@@ -217,13 +218,13 @@ module _ (p : Params) (k : Disk) (m : Memory) (d s : ℕ) (r : LandReady p k m d
         subst (λ (x : ℕ). Sane p (placeAt (m .addresses) x)) (sym e) (table-sound p k m d s r c o h h< (omega (arith, a, e)))
 
     -- what completing asks
-    pub complete-ready : completes p (m .state) (slotOf (m .state) s) d ≡ true → (w : Row) (g′ : ℕ) (b′ : Bool) (k′ : Disk)
+    pub complete-ready : completes p (m .state) (slotOf (m .state) s) d ≡ true → (w : Row) (g′ : Seg) (b′ : Bool) (k′ : Disk)
         → w ≡ markRow (slotRow (m .state) (slotOf (m .state) s)) d (pointerAt (seen p k) d (zoneOn (openSegment (m .state)) d) - 1) → g′ ≡ openSegment (m .state)
         → b′ ≡ seals p (m .state) (slotOf (m .state) s) d → k′ ≡ storeDisk p (landStore p (seen p k) m d s) k → Complete p (m .addresses) w g′ b′ k′
     complete-ready c w g′ b′ k′ ew eg eb ek =
         subst (λ (x : Disk). Complete p (m .addresses) w g′ b′ x) (sym (ek ∙ store-is))
         (subst (λ (x : Row). Complete p (m .addresses) x g′ b′ after!) (sym (ew ∙ row₁-is))
-        (subst (λ (x : ℕ). Complete p (m .addresses) (slotRow st₁ i) x b′ after!) (sym eg) (
+        (subst (λ (x : Seg). Complete p (m .addresses) (slotRow st₁ i) x b′ after!) (sym eg) (
           r .ranged,
           (
             landed-whole,
@@ -234,7 +235,7 @@ module _ (p : Params) (k : Disk) (m : Memory) (d s : ℕ) (r : LandReady p k m d
                   subst (λ (x : ℕ). x ≤ dataCount p) (sym (filled-alone st₁ i)) filled₁,
                   λ e he. subst (λ (x : ℕ). x < p .S) (sym (row-offset st₁ i e (omega (arith, he, ranged p (r .ranged) .drives-high)))) (offsets-low p (m .state) (r .fine) i d o e o-low),
                 ),
-                (open-low p k m d s r, λ l e he. room-after (sym eb ∙ l) e he),
+                (named-lt p g (open-low p k m d s r), λ l e he. room-after (sym eb ∙ l) e he),
               ),
             ),
           ),
@@ -314,7 +315,7 @@ module _ (p : Params) (k : Disk) (m : Memory) (d s n : ℕ) (none! : landRefusal
       abbrev b₀ : Bool
       b₀ = seals p (m .state) i₀ d
 
-      abbrev g₀ : ℕ
+      abbrev g₀ : Seg
       g₀ = openSegment (m .state)
 
       abbrev st₂ : State

@@ -11,7 +11,7 @@ use Rattle.spec.specs.declared.State.{State}
 use Rattle.spec.specs.declared.Answer.{Answer}
 use Rattle.spec.specs.declared.Answer.the-variants.{Cut, Landed}
 use Rattle.spec.specs.Calls.{mkPlan}
-use Rattle.spec.specs.Drives.{View, pointerAt, Store, storeView, Disk, pointerOf, storeDisk, storeAll, zoneOn}
+use Rattle.spec.specs.Drives.{View, pointerAt, Store, storeView, Disk, pointerOf, storeDisk, storeAll, zoneOn, Seg, seg}
 use Rattle.spec.specs.Landing.{slotOf, completes, seals, landedCands, pointed, sealStores, writesIn, landStore, landPlan}
 use Rattle.spec.specs.Layout.{compactEntry}
 use Rattle.spec.specs.Memory.{Memory, mkMemory, filledIn, isWrite, offsetIn, openSegment, inFlight, setClosed, markLanded, freeStripe, compactAt}
@@ -30,7 +30,7 @@ use Rattle.call_land.specs.declared.Look.{Look}
 pub record Looks (p : Params) (st : State) (d s : ℕ) (l : Look) : Type 0 where
   pub slot : l .slot ≡ slotOf st s
   pub row : slotOf st s < 8 → l .row ≡ slotRow st (slotOf st s)
-  pub segment : l .segment ≡ openSegment st
+  pub segment : seg (l .segment) ≡ openSegment st
   pub done : l .done ≡ completes p (alone (l .row)) 0 d
   pub seals : l .seals ≡ (l .done && eqb (st .next) (p .S) && eqb (length (inFlight st)) 1)
 
@@ -44,27 +44,27 @@ module _ (p : Params) (st : State) (d s : ℕ) (l : Look) (w : Looks p st d s l)
   look-seals = w .seals ∙ ap (λ (x : Bool). x && eqb (st .next) (p .S) && eqb (length (inFlight st)) 1) look-done
 
 -- the footers' stores in segment g, where it is sealed
-abbrev pub sealsOf : Params → Disk → ℕ → Bool → List Store
+abbrev pub sealsOf : Params → Disk → Seg → Bool → List Store
 sealsOf p k g b = cond b (sealStores p (seen p k) g) []
 
 -- the table that points at what holds
-abbrev pub tableOf : Params → View → ℕ → State → ℕ → List ℕ → List ℕ
+abbrev pub tableOf : Params → View → Seg → State → ℕ → List ℕ → List ℕ
 tableOf p v g st i tb = pointed p v tb (landedCands p v g st i) (landedCands p v g st i) tb
 
 -- what completing the stripe of row r in segment g asks: drives, table and stripe fit; b: it seals the segment
-abbrev pub Complete : Params → List ℕ → Row → ℕ → Bool → Disk → Type 0
+abbrev pub Complete : Params → List ℕ → Row → Seg → Bool → Disk → Type 0
 Complete p tb r g b k =
     (inRange p ≡ true) × (Whole p k × (((length tb ≡ addressesLen p) × EntriesSane p (alone r) 0 tb)
     × (((filledIn (alone r) 0 ≤ dataCount p) × ((d : ℕ) → d < p .N → offsetIn (alone r) 0 d < p .S))
-    × ((g < p .Z) × (b ≡ true → (d : ℕ) → d < p .N → pointerOf p (k .pointers) d (zoneOn g d) + footers p ≤ capacity p)))))
+    × ((g .name < p .Z) × (b ≡ true → (d : ℕ) → d < p .N → pointerOf p (k .pointers) d (zoneOn g d) + footers p ≤ capacity p)))))
 
 -- 01, Landing; Store count: the stripe of row r completes in segment g on the bytes k, with the tables tb and co, under the number n
-pub record Completing (p : Params) (n : ℕ) (r : Row) (g : ℕ) (b : Bool) (k : Disk) (tb co : List ℕ) (a : Answer) (k′ : Disk) (tb′ co′ : List ℕ) : Type 0 where
+pub record Completing (p : Params) (n : ℕ) (r : Row) (g : Seg) (b : Bool) (k : Disk) (tb co : List ℕ) (a : Answer) (k′ : Disk) (tb′ co′ : List ℕ) : Type 0 where
   pub disk : k′ ≡ storeAll (storeDisk p) (take n (sealsOf p k g b)) k
   pub done : length (sealsOf p k g b) ≤ n → (a ≡ Landed (writesIn (alone r) 0)) × (tb′ ≡ tableOf p (seen p k) g (alone r) 0 tb) × (co′ ≡ co)
   pub cut : n < length (sealsOf p k g b) → (a ≡ Cut) × (tb′ ≡ replicate (length tb) 0) × (co′ ≡ replicate (length co) 0)
 
-module _ (p : Params) (n : ℕ) (w : Row) (g : ℕ) (b : Bool) (k : Disk) (tb co : List ℕ) (a : Made) (k′ : Disk) (h : Storing p n (sealsOf p k g b) k a k′) (r : Answer) (tb′ co′ : List ℕ) where
+module _ (p : Params) (n : ℕ) (w : Row) (g : Seg) (b : Bool) (k : Disk) (tb co : List ℕ) (a : Made) (k′ : Disk) (h : Storing p n (sealsOf p k g b) k a k′) (r : Answer) (tb′ co′ : List ℕ) where
   pub completing-cut : a .cut ≡ true → r ≡ Cut → tb′ ≡ replicate (length tb) 0 → co′ ≡ replicate (length co) 0 → Completing p n w g b k tb co r k′ tb′ co′
   completing-cut c e f q = record {
     disk = h .disk;
@@ -80,22 +80,22 @@ module _ (p : Params) (n : ℕ) (w : Row) (g : ℕ) (b : Bool) (k : Disk) (tb co
   }
 
 -- the same of the same
-pub completing-same : (p : Params) (n : ℕ) (tb : List ℕ) (a : Answer) (k′ : Disk) (tb′ co′ : List ℕ) {r r′ : Row} {g g′ : ℕ} {b b′ : Bool} {k k₁ : Disk} {co co₁ : List ℕ}
+pub completing-same : (p : Params) (n : ℕ) (tb : List ℕ) (a : Answer) (k′ : Disk) (tb′ co′ : List ℕ) {r r′ : Row} {g g′ : Seg} {b b′ : Bool} {k k₁ : Disk} {co co₁ : List ℕ}
     → r ≡ r′ → g ≡ g′ → b ≡ b′ → k ≡ k₁ → co ≡ co₁ → Completing p n r g b k tb co a k′ tb′ co′ → Completing p n r′ g′ b′ k₁ tb co₁ a k′ tb′ co′
 completing-same p n tb a k′ tb′ co′ {r} {r′} {g} {g′} {b} {b′} {k} {k₁} {co} {co₁} er eg eb ek ec h =
     subst (λ (x : Row). Completing p n x g′ b′ k₁ tb co₁ a k′ tb′ co′) er
-    (subst (λ (x : ℕ). Completing p n r x b′ k₁ tb co₁ a k′ tb′ co′) eg
+    (subst (λ (x : Seg). Completing p n r x b′ k₁ tb co₁ a k′ tb′ co′) eg
     (subst (λ (x : Bool). Completing p n r g x k₁ tb co₁ a k′ tb′ co′) eb
     (subst (λ (x : Disk). Completing p n r g b x tb co₁ a k′ tb′ co′) ek
     (subst (λ (x : List ℕ). Completing p n r g b k tb x a k′ tb′ co′) ec h))))
 
 -- no footers are due
-pub seals-none : (p : Params) (n g : ℕ) (b : Bool) (k : Disk) → b ≡ false → Storing p n (sealsOf p k g b) k (record { left = n; cut = false }) k
+pub seals-none : (p : Params) (n : ℕ) (g : Seg) (b : Bool) (k : Disk) → b ≡ false → Storing p n (sealsOf p k g b) k (record { left = n; cut = false }) k
 seals-none p n g b k e =
     subst (λ (x : List Store). Storing p n x k (record { left = n; cut = false }) k) (sym (ap (λ (x : Bool). cond x (sealStores p (seen p k) g) []) e)) (storing-none p n k)
 
 -- they are
-pub seals-some : (p : Params) (n g : ℕ) (b : Bool) (k : Disk) (a : Made) (k′ : Disk) → b ≡ true → Storing p n (sealStores p (seen p k) g) k a k′ → Storing p n (sealsOf p k g b) k a k′
+pub seals-some : (p : Params) (n : ℕ) (g : Seg) (b : Bool) (k : Disk) (a : Made) (k′ : Disk) → b ≡ true → Storing p n (sealStores p (seen p k) g) k a k′ → Storing p n (sealsOf p k g b) k a k′
 seals-some p n g b k a k′ e h =
     subst (λ (x : List Store). Storing p n x k a k′) (sym (ap (λ (x : Bool). cond x (sealStores p (seen p k) g) []) e)) h
 

@@ -14,7 +14,7 @@ use Rattle.spec.specs.declared.Params.{Params}
 use Rattle.spec.specs.declared.State.{State}
 use Rattle.spec.specs.declared.Answer.{Answer}
 use Rattle.spec.specs.Calls.{firstRefusal}
-use Rattle.spec.specs.Drives.{View, pointerAt, Disk, pointerOf, zoneOn}
+use Rattle.spec.specs.Drives.{View, pointerAt, Disk, pointerOf, zoneOn, Seg}
 use Rattle.spec.specs.Engine.{lentOk}
 use Rattle.spec.specs.Landing.{slotOf, ready as isReady, waiting, completes, seals, misplaced, overfull, entryFaults, landFaults, landChecks}
 use Rattle.spec.specs.Layout.{group, Rec}
@@ -23,9 +23,10 @@ use Rattle.spec.specs.Lists.Opt.{none}
 use Rattle.spec.specs.Memory.{Memory, slotCount, slots, cell, stripeIn, filledIn, landedIn, entryIn, entriesIn, offsetIn, openSegment, slotOk, stateOk, markLanded, placeAt}
 use Rattle.spec.specs.Params.{between, parityCount, dataCount, inRange, footers, capacity, addressesLen, compactLen, inflightLen, placeBlock, placeZone, placeDrive, drivesOf}
 use Rattle.spec.specs.Read.{placeFaults}
-use Rattle.law_basic.specs.Geometry.{between-low, between-high, ranged as rangedIn, zone-on-lt}
+use Rattle.law_basic.specs.Geometry.{between-low, between-high, ranged as rangedIn}
 use Rattle.law_basic.specs.Ranges.{Test, test, and-left, and-right, all-getD, all-in-below, or-false, any-false}
 use Rattle.law_basic.specs.Ranges.Test.{yes!, no! }
+use Rattle.law_basic.specs.Segs.{Named, seg-named, zone-on-lt}
 use Rattle.law_views.specs.Views.{Whole, pointer-view, seen}
 use Rattle.law_drives.specs.Members.{if-none}
 use Rattle.law_checks.specs.Passed.{nil-both, land-passed}
@@ -91,9 +92,9 @@ module _ (p : Params) (st : State) (fine : stateOk p st ≡ true) where
       let h₂ = and-left (lives && a) b h₁ in
       (and-right lives a h₂, and-right (lives && a && b) c h, and-right (lives && a && b && c) d fine)
 
-  pub segment-low : 0 < p .Z → openSegment st < p .Z
+  pub segment-low : 0 < p .Z → Named p (openSegment st)
   unfolding openSegment
-  segment-low h = omega (arith, leb-true (st .opened) (p .Z) (state-ok-parts .0))
+  segment-low h = seg-named p (st .opened - 1) (omega (arith, leb-true (st .opened) (p .Z) (state-ok-parts .0)))
 
   pub filled-low : (i : ℕ) → i < 8 → filledIn st i ≤ dataCount p
   unfolding slots slotCount slotOk
@@ -168,7 +169,7 @@ module _ (p : Params) (k : Disk) (m : Memory) (d s : ℕ) (r : LandReady p k m d
   abbrev slot : ℕ
   slot = slotOf (m .state) s
 
-  abbrev segment : ℕ
+  abbrev segment : Seg
   segment = openSegment (m .state)
 
   abbrev entries : List ℕ
@@ -180,11 +181,11 @@ module _ (p : Params) (k : Disk) (m : Memory) (d s : ℕ) (r : LandReady p k m d
   land-faults-none =
       let b = seals p (m .state) slot d && overfull p (seen p k) d segment in
       let ws : List ℕ = cond (completes p (m .state) slot d) entries [] in
-      let x = if-none (misplaced p (seen p k) d (zoneOn segment d) s) segment (consIf b segment ws) (r .faultless) in
-      let y = if-none b segment ws (x .1) in
+      let x = if-none (misplaced p (seen p k) d (zoneOn segment d) s) (zoneOn segment d) (consIf b (zoneOn segment d) ws) (r .faultless) in
+      let y = if-none b (zoneOn segment d) ws (x .1) in
       (x .0, y .0, y .1)
 
-  pub open-low : openSegment (m .state) < p .Z
+  pub open-low : Named p (openSegment (m .state))
   open-low = segment-low p (m .state) (r .fine) (omega (arith, rangedIn p (r .ranged) .zones-low))
 
   pub open-zone-low : zoneOn (openSegment (m .state)) d < p .Z

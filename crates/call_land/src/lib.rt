@@ -7,7 +7,7 @@ ghost use lib.ListN.{length, set, replicate};
 ghost use Rattle.mem_calls.specs.Left.{checked};
 ghost use Rattle.spec.specs.declared.Answer.the-variants.{Cut};
 ghost use Rattle.spec.specs.declared.State.{State as StateOf};
-ghost use Rattle.spec.specs.Drives.{mkDisk, pointerOf, storeDisk, zoneOn};
+ghost use Rattle.spec.specs.Drives.{mkDisk, pointerOf, storeDisk, zoneOn, seg};
 ghost use Rattle.spec.specs.Drives.Store.{put};
 ghost use Rattle.spec.specs.Engine.{callDisk};
 ghost use Rattle.spec.specs.Engine.Call.{land};
@@ -185,18 +185,18 @@ fn store_chunk(
     requires { ⌜ inRange p ≡ true ⌝ }
     requires { ⌜ Whole p (mkDisk (now image) (now pointers)) ⌝ }
     requires { ⌜ (length (now compact) ≡ compactLen p) × (length (now inflight) ≡ inflightLen p) × (i < 8) × (filledIn (alone row) 0 ≤ 8) ⌝ }
-    requires { ⌜ (drive < p .N) × (segment < p .Z) × (1 ≤ pointerOf p (now pointers) drive (zoneOn segment drive)) × (pointerOf p (now pointers) drive (zoneOn segment drive) ≤ p .S) ⌝ }
+    requires { ⌜ (drive < p .N) × (segment < p .Z) × (1 ≤ pointerOf p (now pointers) drive (zoneOn (seg segment) drive)) × (pointerOf p (now pointers) drive (zoneOn (seg segment) drive) ≤ p .S) ⌝ }
     ensures { λ _. ⌜
         mkDisk (now (image .exit)) (now (pointers .exit))
         ≡ storeDisk p
-        (put drive (zoneOn segment drive) (slotBlock p (now (inflight .entry)) i drive) (recordBytes (flightRec p (alone row) 0 drive)))
+        (put drive (zoneOn (seg segment) drive) (slotBlock p (now (inflight .entry)) i drive) (recordBytes (flightRec p (alone row) 0 drive)))
         (mkDisk (now (image .entry)) (now (pointers .entry))) ⌝ }
     ensures { λ r. ⌜
         (now (compact .exit)
         ≡ set (now (compact .entry))
-        (compactAt p drive (zoneOn segment drive) (pointerOf p (now (pointers .entry)) drive (zoneOn segment drive) - 1))
+        (compactAt p drive (zoneOn (seg segment) drive) (pointerOf p (now (pointers .entry)) drive (zoneOn (seg segment) drive) - 1))
         (compactEntry p stripe))
-        × (r ≡ markRow row drive (pointerOf p (now (pointers .entry)) drive (zoneOn segment drive) - 1)) ⌝ }
+        × (r ≡ markRow row drive (pointerOf p (now (pointers .entry)) drive (zoneOn (seg segment) drive) - 1)) ⌝ }
 {
     let zone = disk_shape::zone_on(segment, drive);
     let offset = disk_zones::pointer(p, pointers, drive, zone) as usize - 1;
@@ -216,9 +216,9 @@ fn seal(
 ) -> Made
     requires { ⌜ inRange p ≡ true ⌝ }
     requires { ⌜ Whole p (mkDisk (now image) (now pointers)) ⌝ }
-    requires { ⌜ (segment < p .Z) × (seals ≡ true → (d : ℕ) → d < p .N → pointerOf p (now pointers) d (zoneOn segment d) + footers p ≤ capacity p) ⌝ }
+    requires { ⌜ (segment < p .Z) × (seals ≡ true → (d : ℕ) → d < p .N → pointerOf p (now pointers) d (zoneOn (seg segment) d) + footers p ≤ capacity p) ⌝ }
     ensures { λ r. ⌜
-        Storing p count (sealsOf p (mkDisk (now (image .entry)) (now (pointers .entry))) segment seals)
+        Storing p count (sealsOf p (mkDisk (now (image .entry)) (now (pointers .entry))) (seg segment) seals)
         (mkDisk (now (image .entry)) (now (pointers .entry))) r (mkDisk (now (image .exit)) (now (pointers .exit))) ⌝ }
 {
     if !seals {
@@ -255,9 +255,9 @@ fn complete(
     requires { ⌜ Whole p (mkDisk (now image) (now pointers)) ⌝ }
     requires { ⌜ (length (now addresses) ≡ addressesLen p) × EntriesSane p (alone row) 0 (now addresses) ⌝ }
     requires { ⌜ (filledIn (alone row) 0 ≤ dataCount p) × ((d : ℕ) → d < p .N → offsetIn (alone row) 0 d < p .S) ⌝ }
-    requires { ⌜ (segment < p .Z) × (seals ≡ true → (d : ℕ) → d < p .N → pointerOf p (now pointers) d (zoneOn segment d) + footers p ≤ capacity p) ⌝ }
+    requires { ⌜ (segment < p .Z) × (seals ≡ true → (d : ℕ) → d < p .N → pointerOf p (now pointers) d (zoneOn (seg segment) d) + footers p ≤ capacity p) ⌝ }
     ensures { λ r. ⌜
-        Completing p count row segment seals (mkDisk (now (image .entry)) (now (pointers .entry))) (now (addresses .entry)) (now (compact .entry)) r
+        Completing p count row (seg segment) seals (mkDisk (now (image .entry)) (now (pointers .entry))) (now (addresses .entry)) (now (compact .entry)) r
         (mkDisk (now (image .exit)) (now (pointers .exit))) (now (addresses .exit)) (now (compact .exit)) ⌝ }
 {
     call_land_table::point(p, image, pointers, addresses, segment, row);

@@ -9,7 +9,7 @@ use lib.Bits.{bitOr}
 use Rattle.spec.specs.declared.Params.{Params}
 use Rattle.spec.specs.declared.State.{State}
 use Rattle.spec.specs.Bytes.{part}
-use Rattle.spec.specs.Drives.{View, zoneOn}
+use Rattle.spec.specs.Drives.{Seg, View, zoneOn}
 use Rattle.spec.specs.Landing.{ready, completes, flightRec, serialAt, landedCand, landedCands, writesIn}
 use Rattle.spec.specs.Layout.{mkRec, dataPosition, dataDrive, isData, parityPosition}
 use Rattle.spec.specs.Lists.{below, only}
@@ -120,7 +120,7 @@ module _ (st : State) (i : ℕ) where
       stripe-is : stripeIn (alone (slotRow st i)) 0 ≡ stripeIn st i
       stripe-is = unfold alone slotRow stripeIn in refl
 
-  pub row-cand : (p : Params) (v : View) (g k : ℕ) → k < 8 → dataDrive p (stripeIn st i) k < 8 → landedCand p v g (alone (slotRow st i)) 0 k ≡ landedCand p v g st i k
+  pub row-cand : (p : Params) (v : View) (g : Seg) (k : ℕ) → k < 8 → dataDrive p (stripeIn st i) k < 8 → landedCand p v g (alone (slotRow st i)) 0 k ≡ landedCand p v g st i k
   unfolding landedCand
   row-cand p v g k h l =
       let d = dataDrive p (stripeIn st i) k in
@@ -132,7 +132,7 @@ module _ (st : State) (i : ℕ) where
       stripe-is : stripeIn (alone (slotRow st i)) 0 ≡ stripeIn st i
       stripe-is = unfold alone slotRow stripeIn in refl
 
-  pub row-cands : (p : Params) (v : View) (g : ℕ) → filledIn st i ≤ 8 → ((k : ℕ) → k < filledIn st i → dataDrive p (stripeIn st i) k < 8)
+  pub row-cands : (p : Params) (v : View) (g : Seg) → filledIn st i ≤ 8 → ((k : ℕ) → k < filledIn st i → dataDrive p (stripeIn st i) k < 8)
       → landedCands p v g (alone (slotRow st i)) 0 ≡ landedCands p v g st i
   unfolding landedCands
   row-cands p v g h l =

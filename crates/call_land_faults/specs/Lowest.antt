@@ -13,7 +13,7 @@ use Rattle.spec.specs.declared.State.{State}
 use Rattle.spec.specs.Calls.Check.{zones}
 use Rattle.spec.specs.Calls.{ninth, firstRefusal}
 use Rattle.spec.specs.Counts.{neverPlace}
-use Rattle.spec.specs.Drives.{View, pointerAt, viewOf, mkDisk, pointerOf, zoneOn}
+use Rattle.spec.specs.Drives.{View, pointerAt, viewOf, mkDisk, pointerOf, zoneOn, Seg}
 use Rattle.spec.specs.Landing.{slotOf, completes, seals, misplaced, overfull, entryFaults, landFaults}
 use Rattle.spec.specs.Layout.{group, Rec}
 use Rattle.spec.specs.Lists.Opt.{none}
@@ -22,8 +22,9 @@ use Rattle.spec.specs.Memory.{Memory, filledIn, entryIn, entriesIn, openSegment
 use Rattle.spec.specs.Params.{between, footers, capacity, imageLen, pointersLen, placeBlock, placeZone, placeDrive, drivesOf}
 use Rattle.spec.specs.Read.{placeFaults}
 use Rattle.law_views.specs.Views.{pointer-view}
-use Rattle.law_basic.specs.Geometry.{Ranged, zone-on-lt}
+use Rattle.law_basic.specs.Geometry.{Ranged}
 use Rattle.law_basic.specs.Ranges.{and-left, and-both, upFrom-step, upFrom-end, below-start, all-append, all-hit, all-none, flat-none, flat-cons, any-upFrom-same}
+use Rattle.law_basic.specs.Segs.{Named, zone-on-lt}
 
 -- ---- the least of a list, from a start
 
@@ -110,7 +111,7 @@ module _ (p : Params) (r : Ranged p) (v : View) where
       low-cond (p .Z) (ltb (e .address) (p .L)) (cond (eqb q neverPlace) [] zs) []
       (low-cond (p .Z) (eqb q neverPlace) [] zs (low-none (p .Z)) (low-place 0 q)) (low-none (p .Z))
 
-  pub low-faults : (m : Memory) (d s : ℕ) → openSegment (m .state) < p .Z → all (λ z. ltb z (p .Z)) (landFaults p v m d s) ≡ true
+  pub low-faults : (m : Memory) (d s : ℕ) → Named p (openSegment (m .state)) → all (λ z. ltb z (p .Z)) (landFaults p v m d s) ≡ true
   unfolding landFaults
   low-faults m d s h =
       let st = m .state in
@@ -118,23 +119,25 @@ module _ (p : Params) (r : Ranged p) (v : View) where
       let g = openSegment st in
       let zs = flat (entryFaults p v (m .addresses)) (entriesIn st i) in
       let ws : List ℕ = cond (completes p st i d) zs [] in
-      low-if (p .Z) (misplaced p v d (zoneOn g d) s) g (consIf (seals p st i d && overfull p v d g) g ws) h
-      (low-if (p .Z) (seals p st i d && overfull p v d g) g ws h
+      let z = zoneOn g d in
+      let hz = zone-on-lt p g d h in
+      low-if (p .Z) (misplaced p v d z s) z (consIf (seals p st i d && overfull p v d g) z ws) hz
+      (low-if (p .Z) (seals p st i d && overfull p v d g) z ws hz
       (low-cond (p .Z) (completes p st i d) zs [] (low-flat (p .Z) (entryFaults p v (m .addresses)) (entriesIn st i) (low-entry (m .addresses))) (low-none (p .Z))))
 
 -- ---- by the pointers' bytes
 
 -- drive e's zone has no room for its footers, once the chunk is on drive d
-unfoldable pub overBy : Params → List ℕ → ℕ → ℕ → ℕ → Bool
+unfoldable pub overBy : Params → List ℕ → ℕ → Seg → ℕ → Bool
 overBy p ps d g e = ltb (capacity p) (pointerOf p ps e (zoneOn g e) + cond (eqb e d) 1 0 + footers p)
 
 module _ (p : Params) (im ps : List ℕ) (h : length im ≡ imageLen p) (g : length ps ≡ pointersLen p) where
-  pub over-view : (d z : ℕ) → z < p .Z → any (overBy p ps d z) (below (p .N)) ≡ overfull p (viewOf p im ps) d z
+  pub over-view : (d : ℕ) (k : Seg) → Named p k → any (overBy p ps d k) (below (p .N)) ≡ overfull p (viewOf p im ps) d k
   unfolding overfull drivesOf below overBy
-  over-view d z hz =
-      any-upFrom-same (overBy p ps d z) (λ e. ltb (capacity p) (pointerAt (viewOf p im ps) e (zoneOn z e) + cond (eqb e d) 1 0 + footers p)) 0 (p .N)
+  over-view d k hk =
+      any-upFrom-same (overBy p ps d k) (λ e. ltb (capacity p) (pointerAt (viewOf p im ps) e (zoneOn k e) + cond (eqb e d) 1 0 + footers p)) 0 (p .N)
       (λ e _ he. ap (λ (x : ℕ). ltb (capacity p) (x + cond (eqb e d) 1 0 + footers p))
-      (sym (pointer-view p (mkDisk im ps) e (zoneOn z e) (omega arith) (zone-on-lt p z e hz) (record { image-long = h; pointers-long = g }))))
+      (sym (pointer-view p (mkDisk im ps) e (zoneOn k e) (omega arith) (zone-on-lt p k e hk) (record { image-long = h; pointers-long = g }))))
 
   -- the pointer is not at a data block of the stripe's group
   module _ (d z s : ℕ) (hd : d < p .N) (hz : z < p .Z) where
@@ -225,33 +228,33 @@ module _ (p : Params) (v : View) (tb : List ℕ) (st : State) (i : ℕ) where
 
 -- ---- the open segment, then the entries
 
-module _ (Z g : ℕ) (hg : g < Z) where
+module _ (Z z : ℕ) (hz : z < Z) where
   -- bad
-  pub segment-bad : (b : Bool) → g ≡ least Z (consIf true g (consIf b g []))
+  pub segment-bad : (b : Bool) → z ≡ least Z (consIf true z (consIf b z []))
   unfolding least consIf
   segment-bad true = omega arith
   segment-bad false = omega arith
 
-  pub segment-full : g ≡ least Z (consIf false g (consIf true g []))
+  pub segment-full : z ≡ least Z (consIf false z (consIf true z []))
   unfolding least consIf
   segment-full = omega arith
 
-  pub land-segment-fine : Z ≡ least Z (consIf false g (consIf false g []))
+  pub land-segment-fine : Z ≡ least Z (consIf false z (consIf false z []))
   unfolding least consIf
   land-segment-fine = refl
 
-if-append : (a b : Bool) (g : ℕ) (zs : List ℕ) → consIf a g (consIf b g zs) ≡ consIf a g (consIf b g []) ++ zs
+if-append : (a b : Bool) (z : ℕ) (zs : List ℕ) → consIf a z (consIf b z zs) ≡ consIf a z (consIf b z []) ++ zs
 unfolding consIf
-if-append true true g zs = refl
-if-append true false g zs = refl
-if-append false true g zs = refl
-if-append false false g zs = refl
+if-append true true z zs = refl
+if-append true false z zs = refl
+if-append false true z zs = refl
+if-append false false z zs = refl
 
 -- 01, Refusals, 9: the bad zones of a landing in segment g of a stripe with these entries; b: it completes the stripe, c: it seals the segment
-unfoldable pub faultsOf : Params → View → List ℕ → List Rec → ℕ → ℕ → ℕ → Bool → Bool → List ℕ
+unfoldable pub faultsOf : Params → View → List ℕ → List Rec → ℕ → Seg → ℕ → Bool → Bool → List ℕ
 faultsOf p v tb es d g s b c =
     let zs = flat (entryFaults p v tb) es in
-    consIf (misplaced p v d (zoneOn g d) s) g (consIf (c && overfull p v d g) g (cond b zs []))
+    consIf (misplaced p v d (zoneOn g d) s) (zoneOn g d) (consIf (c && overfull p v d g) (zoneOn g d) (cond b zs []))
 
 -- 01, Refusals, 9: they are those of the definition
 pub land-faults-are : (p : Params) (v : View) (m : Memory) (d s : ℕ) (es : List Rec) (b c : Bool) → es ≡ entriesIn (m .state) (slotOf (m .state) s)
@@ -260,11 +263,12 @@ pub land-faults-are : (p : Params) (v : View) (m : Memory) (d s : ℕ) (es : Lis
 unfolding faultsOf landFaults
 land-faults-are p v m d s es b c e f h =
     let g = openSegment (m .state) in
-    λ j. consIf (misplaced p v d (zoneOn g d) s) g (consIf (h j && overfull p v d g) g (cond (f j) (flat (entryFaults p v (m .addresses)) (e j)) []))
+    let z = zoneOn g d in
+    λ j. consIf (misplaced p v d z s) z (consIf (h j && overfull p v d g) z (cond (f j) (flat (entryFaults p v (m .addresses)) (e j)) []))
 
-module _ (p : Params) (v : View) (tb : List ℕ) (es : List Rec) (d g s : ℕ) (c : Bool) where
+module _ (p : Params) (v : View) (tb : List ℕ) (es : List Rec) (d : ℕ) (g : Seg) (s : ℕ) (c : Bool) where
   abbrev first : List ℕ
-  first = consIf (misplaced p v d (zoneOn g d) s) g (consIf (c && overfull p v d g) g [])
+  first = consIf (misplaced p v d (zoneOn g d) s) (zoneOn g d) (consIf (c && overfull p v d g) (zoneOn g d) [])
 
   -- the stripe doesn't complete
   pub faults-part : least (p .Z) first ≡ least (p .Z) (faultsOf p v tb es d g s false c)
@@ -276,4 +280,4 @@ module _ (p : Params) (v : View) (tb : List ℕ) (es : List Rec) (d g s : ℕ) (
   unfolding faultsOf
   faults-whole =
       let zs = flat (entryFaults p v tb) es in
-      sym (least-append (p .Z) first zs) ∙ ap (least (p .Z)) (sym (if-append (misplaced p v d (zoneOn g d) s) (c && overfull p v d g) g zs))
+      sym (least-append (p .Z) first zs) ∙ ap (least (p .Z)) (sym (if-append (misplaced p v d (zoneOn g d) s) (c && overfull p v d g) (zoneOn g d) zs))

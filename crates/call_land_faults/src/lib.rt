@@ -5,7 +5,7 @@ ghost use mathlib.Core.List.{List, []};
 ghost use Prim.Native.Nat.{ℕ, _≤_, _<_};
 ghost use lib.Dec.{ltb};
 ghost use lib.ListN.{length};
-ghost use Rattle.spec.specs.Drives.{viewOf, zoneOn};
+ghost use Rattle.spec.specs.Drives.{viewOf, zoneOn, seg};
 ghost use Rattle.spec.specs.Landing.{misplaced, overfull, entryFaults};
 ghost use Rattle.spec.specs.Layout.{Rec};
 ghost use Rattle.spec.specs.Lists.{consIf, least, flat};
@@ -38,7 +38,7 @@ fn misplaced(p: Params, pointers: &[u8], d: usize, zone: usize, stripe: usize) -
 fn no_room(p: Params, pointers: &[u8], d: usize, segment: usize, e: usize) -> bool
     requires { ⌜ inRange p ≡ true ⌝ }
     requires { ⌜ (length (now pointers) ≡ pointersLen p) × (e < p .N) × (segment < p .Z) ⌝ }
-    ensures { λ r. ⌜ r ≡ overBy p (now (pointers .entry)) d segment e ⌝ }
+    ensures { λ r. ⌜ r ≡ overBy p (now (pointers .entry)) d (seg segment) e ⌝ }
 {
     let zone = disk_shape::zone_on(segment, e);
     let n = disk_zones::pointer(p, pointers, e, zone) as usize;
@@ -54,7 +54,7 @@ fn no_room(p: Params, pointers: &[u8], d: usize, segment: usize, e: usize) -> bo
 fn overfull(p: Params, pointers: &[u8], d: usize, segment: usize) -> bool
     requires { ⌜ inRange p ≡ true ⌝ }
     requires { ⌜ (length (now pointers) ≡ pointersLen p) × (segment < p .Z) ⌝ }
-    ensures { λ r. ⌜ ((im : List ℕ) → length im ≡ imageLen p → r ≡ overfull p (viewOf p im (now (pointers .entry))) d segment) ⌝ }
+    ensures { λ r. ⌜ ((im : List ℕ) → length im ≡ imageLen p → r ≡ overfull p (viewOf p im (now (pointers .entry))) d (seg segment)) ⌝ }
 {
     let mut e = 0;
     while e < p.N {
@@ -107,7 +107,7 @@ fn entries_fault(p: Params, pointers: &[u8], addresses: &[u8], row: Row, zone: u
     worst
 }
 
-// 01, Refusals, 9: the open segment, where the chunk or the footers go wrong; Z where they don't.
+// 01, Refusals, 9: the open segment's zone on the drive, where the chunk or the footers go wrong; Z where they don't.
 fn segment_fault(
     p: Params,
     pointers: &[u8],
@@ -121,19 +121,19 @@ fn segment_fault(
     ensures { λ r. ⌜
         ((im : List ℕ)
         → length im ≡ imageLen p
-        → r ≡ least (p .Z) (consIf (misplaced p (viewOf p im (now (pointers .entry))) d (zoneOn segment d) stripe) segment
-        (consIf (seals && overfull p (viewOf p im (now (pointers .entry))) d segment) segment []))) ⌝ }
+        → r ≡ least (p .Z) (consIf (misplaced p (viewOf p im (now (pointers .entry))) d (zoneOn (seg segment) d) stripe) (zoneOn (seg segment) d)
+        (consIf (seals && overfull p (viewOf p im (now (pointers .entry))) d (seg segment)) (zoneOn (seg segment) d) []))) ⌝ }
     ensures { λ r. ⌜ r ≤ p .Z ⌝ }
 {
     let zone = disk_shape::zone_on(segment, d);
     if misplaced(p, pointers, d, zone, stripe) {
-        return segment;
+        return zone;
     }
     if !seals {
         return p.Z;
     }
     if overfull(p, pointers, d, segment) {
-        return segment;
+        return zone;
     }
     p.Z
 }
@@ -158,7 +158,7 @@ pub fn land_fault(
         ((im : List ℕ)
         → length im ≡ imageLen p
         → r ≡ least (p .Z)
-        (faultsOf p (viewOf p im (now (pointers .entry))) (now (addresses .entry)) (entriesIn (alone row) 0) d segment stripe done seals)) ⌝ }
+        (faultsOf p (viewOf p im (now (pointers .entry))) (now (addresses .entry)) (entriesIn (alone row) 0) d (seg segment) stripe done seals)) ⌝ }
 {
     let z = segment_fault(p, pointers, seals, d, segment, stripe);
     if !done {

@@ -8,17 +8,18 @@ use lib.ListN.{length, getD, take, drop, set, length-map}
 use lib.Seq.{getD-set-other}
 use Rattle.spec.specs.declared.Params.{Params}
 use Rattle.spec.specs.Drives.{Chunk, noChunk, Zone, noZone, View, zoneAt, pointerAt, chunkAt, Store, putZone, setZone, storeView, Disk, pointerOf, storeDisk}
-use Rattle.spec.specs.Drives.{storeAll, zoneOn, sparesOf, footersOf, zeroSpare, footerStores}
+use Rattle.spec.specs.Drives.{storeAll, Seg, zoneOn, sparesOf, footersOf, zeroSpare, footerStores}
 use Rattle.spec.specs.Drives.Store.{put}
 use Rattle.spec.specs.Landing.{sealStores}
 use Rattle.spec.specs.Layout.{footerBlock}
 use Rattle.spec.specs.Lists.{upFrom, below, flat}
 use Rattle.spec.specs.Params.{spareLen, footers, capacity, unitLen, placeOf, placeByte, drivesOf}
 use Rattle.law_basic.specs.Fields.{length-zeroSpare}
-use Rattle.law_basic.specs.Geometry.{Ranged, capacity-high, zone-on-lt, block-within}
+use Rattle.law_basic.specs.Geometry.{Ranged, capacity-high, block-within}
 use Rattle.law_basic.specs.Ranges.{length-upFrom, upFrom-add, below-none, flat-append, flat-none, flat-below-snoc}
 use Rattle.law_basic.specs.Splice.{length-part}
 use Rattle.law_basic.specs.Xor.{AllLong, long-upFrom}
+use Rattle.law_basic.specs.Segs.{Named, zone-on-lt}
 use Rattle.law_views.specs.Pointers.{pointer-set}
 use Rattle.law_views.specs.Views.{Whole, pointer-view, blocks-long, spare-view, view-put, whole-put, seen}
 use Rattle.disk_zones.specs.declared.Made.{Made}
@@ -87,7 +88,7 @@ module _ (p : Params) (r : Ranged p) (k : Disk) (w : Whole p k) (d z : ℕ) (hd 
 
 -- ---- drive by drive
 
-module _ (p : Params) (k₀ : Disk) (g number : ℕ) where
+module _ (p : Params) (k₀ : Disk) (g : Seg) (number : ℕ) where
   -- the stores of drive d
   abbrev pub feet : ℕ → List Store
   feet d = footerStores p d (zoneOn g d) (zoneAt (seen p k₀) d (zoneOn g d)) 0 (footers p)
@@ -113,7 +114,7 @@ module _ (p : Params) (k₀ : Disk) (g number : ℕ) where
       let e : d ≡ p .N = omega (arith, s .within) in
       subst (λ (x : ℕ). Storing p number (flat feet (below x)) k₀ (record { left = left; cut = false }) k) e (s .made)
 
-module _ (p : Params) (k₀ : Disk) (g number d left : ℕ) (k : Disk) (s : Sealing p k₀ g number d left k) (hd : d < p .N) (hg : g < p .Z) where
+module _ (p : Params) (k₀ : Disk) (g : Seg) (number d left : ℕ) (k : Disk) (s : Sealing p k₀ g number d left k) (hd : d < p .N) (hg : Named p g) where
   -- a pointer that waits is as it came
   pub sealing-room : Whole p k₀ → pointerOf p (k₀ .pointers) d (zoneOn g d) + footers p ≤ capacity p → pointerOf p (k .pointers) d (zoneOn g d) + footers p ≤ capacity p
   unfolding pointerAt

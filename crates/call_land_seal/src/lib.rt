@@ -2,7 +2,7 @@
 ghost use mathlib.Core.Path.{_≡_};
 ghost use mathlib.Core.Bool.{true};
 ghost use Prim.Native.Nat.{ℕ, _+_, _≤_, _<_};
-ghost use Rattle.spec.specs.Drives.{viewOf, mkDisk, pointerOf, zoneOn};
+ghost use Rattle.spec.specs.Drives.{viewOf, mkDisk, pointerOf, zoneOn, seg};
 ghost use Rattle.spec.specs.Landing.{sealStores};
 ghost use Rattle.spec.specs.Params.{inRange, footers, capacity};
 ghost use Rattle.law_views.specs.Views.{Whole};
@@ -20,9 +20,9 @@ pub fn seal_stores(
 ) -> Made
     requires { ⌜ inRange p ≡ true ⌝ }
     requires { ⌜ Whole p (mkDisk (now image) (now pointers)) ⌝ }
-    requires { ⌜ (segment < p .Z) × ((d : ℕ) → d < p .N → pointerOf p (now pointers) d (zoneOn segment d) + footers p ≤ capacity p) ⌝ }
+    requires { ⌜ (segment < p .Z) × ((d : ℕ) → d < p .N → pointerOf p (now pointers) d (zoneOn (seg segment) d) + footers p ≤ capacity p) ⌝ }
     ensures { λ r. ⌜
-        Storing p count (sealStores p (viewOf p (now (image .entry)) (now (pointers .entry))) segment)
+        Storing p count (sealStores p (viewOf p (now (image .entry)) (now (pointers .entry))) (seg segment))
         (mkDisk (now (image .entry)) (now (pointers .entry))) r (mkDisk (now (image .exit)) (now (pointers .exit))) ⌝ }
 {
     let n = disk_shape::footers(p);

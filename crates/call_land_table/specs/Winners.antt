@@ -13,7 +13,7 @@ use native.Mathlib.Decide.{ℕ-discrete}
 use Rattle.spec.specs.declared.Params.{Params}
 use Rattle.spec.specs.declared.State.{State}
 use Rattle.spec.specs.Counts.{neverPlace}
-use Rattle.spec.specs.Drives.{View}
+use Rattle.spec.specs.Drives.{View, Seg}
 use Rattle.spec.specs.Landing.{held, landedCand, landedCands, pointed}
 use Rattle.spec.specs.Lists.{Opt, upFrom, below, keep}
 use Rattle.spec.specs.Memory.{filledIn, entryIn, placeAt, setPlace}
@@ -67,7 +67,7 @@ module _ (p : Params) (st : State) (i : ℕ) (qs : List ℕ) where
   put-end k n t h = ap (λ (x : List ℕ). putWinners p st i qs x t) (upFrom-end k n h)
 
   -- 01, Landing: with the places that hold, that is the table when the stripe completes
-  module _ (v : View) (tb : List ℕ) (g : ℕ) where
+  module _ (v : View) (tb : List ℕ) (g : Seg) where
     -- one address
     put-same : (b : Bool) (a x y : ℕ) (t : List ℕ) → (b ≡ true → x ≡ y) → cond b (setPlace t a x) t ≡ cond b (setPlace t a y) t
     put-same true a x y t e = ap (setPlace t a) (e refl)
@@ -105,7 +105,7 @@ module _ (a : ℕ) where
       ap (λ (x : Opt Cand). best x (candsOf a cs)) f
       ∙ ap (best b) (sym (keep-hit (λ (x : Cand). eqb (x .address) a) c cs (eq-eqb (c .address) a e)))
 
-module _ (p : Params) (v : View) (g : ℕ) (st : State) (i a : ℕ) where
+module _ (p : Params) (v : View) (g : Seg) (st : State) (i a : ℕ) where
   -- what competes from data position k on
   pub rest-first : (b : Opt Cand) (n : ℕ) → n ≡ filledIn st i → best b (candsOf a (map (landedCand p v g st i) (upFrom 0 (n - 0)))) ≡ best b (candsOf a (landedCands p v g st i))
   unfolding landedCands

@@ -4,7 +4,7 @@ ghost use mathlib.Core.Bool.{true};
 ghost use mathlib.Core.List.{List, _∷_};
 ghost use Prim.Native.Nat.{ℕ, _≤_, _<_};
 ghost use lib.ListN.{length, getD};
-ghost use Rattle.spec.specs.Drives.{View, viewOf, mkDisk};
+ghost use Rattle.spec.specs.Drives.{View, viewOf, mkDisk, seg};
 ghost use Rattle.spec.specs.Landing.{serialAt, heldCand, held, landedCand, landedCands, pointed};
 ghost use Rattle.spec.specs.Lists.{below};
 ghost use Rattle.spec.specs.Memory.{filledIn, entryIn, offsetIn, placeAt};
@@ -26,7 +26,7 @@ use spec::Serial;
 fn serial_at(p: Params, image: &[u8], segment: usize) -> Serial
     requires { ⌜ inRange p ≡ true ⌝ }
     requires { ⌜ (length (now image) ≡ imageLen p) × (segment < p .Z) ⌝ }
-    ensures { λ r. ⌜ ((ps : List ℕ) → length ps ≡ pointersLen p → r .0 ≡ serialAt (viewOf p (now (image .entry)) ps) segment) ⌝ }
+    ensures { λ r. ⌜ ((ps : List ℕ) → length ps ≡ pointersLen p → r .0 ≡ serialAt (viewOf p (now (image .entry)) ps) (seg segment)) ⌝ }
 {
     let a = disk_shape::block_byte(p, 0, disk_shape::zone_on(segment, 0), 0);
     let e = a + p.B;
@@ -74,7 +74,7 @@ fn held(p: Params, image: &[u8], pointers: &[u8], addresses: &[u8], address: Add
 fn landed_cand(p: Params, segment: usize, serial: Serial, row: Row, k: usize) -> Cand
     requires { ⌜ inRange p ≡ true ⌝ }
     requires { ⌜ (segment < p .Z) × (k < dataCount p) × ((d : ℕ) → d < p .N → offsetIn (alone row) 0 d < p .S) ⌝ }
-    ensures { λ r. ⌜ ((v : View) → serial .0 ≡ serialAt v segment → ranked r ≡ landedCand p v segment (alone row) 0 k) ⌝ }
+    ensures { λ r. ⌜ ((v : View) → serial .0 ≡ serialAt v (seg segment) → ranked r ≡ landedCand p v (seg segment) (alone row) 0 k) ⌝ }
 {
     let e = call_land_chunk::entry(row, k);
     let address = e.address;
@@ -107,8 +107,8 @@ fn compete(
     requires { ⌜ (segment < p .Z) × (k < dataCount p) × ((d : ℕ) → d < p .N → offsetIn (alone row) 0 d < p .S) ⌝ }
     ensures { λ r. ⌜
         ((v : View) (cs : List CandOf)
-        → serial .0 ≡ serialAt v segment
-        → best (rankedBest r) (candsOf (address .0) cs) ≡ best (rankedBest b) (candsOf (address .0) (landedCand p v segment (alone row) 0 k ∷ cs))) ⌝ }
+        → serial .0 ≡ serialAt v (seg segment)
+        → best (rankedBest r) (candsOf (address .0) cs) ≡ best (rankedBest b) (candsOf (address .0) (landedCand p v (seg segment) (alone row) 0 k ∷ cs))) ⌝ }
 {
     let e = call_land_chunk::entry(row, k);
     if e.address.0 != address.0 {
@@ -133,11 +133,11 @@ fn winner(
     requires { ⌜ Whole p (mkDisk (now image) (now pointers)) ⌝ }
     requires { ⌜ (length (now addresses) ≡ addressesLen p) × (address .0 < p .L) × Sane p (placeAt (now addresses) (address .0)) ⌝ }
     requires { ⌜ (segment < p .Z) × (filledIn (alone row) 0 ≤ dataCount p) × ((d : ℕ) → d < p .N → offsetIn (alone row) 0 d < p .S) ⌝ }
-    requires { ⌜ serial .0 ≡ serialAt (viewOf p (now image) (now pointers)) segment ⌝ }
+    requires { ⌜ serial .0 ≡ serialAt (viewOf p (now image) (now pointers)) (seg segment) ⌝ }
     ensures { λ r. ⌜
         r .0
         ≡ winnerOf p (viewOf p (now (image .entry)) (now (pointers .entry))) (now (addresses .entry))
-        (landedCands p (viewOf p (now (image .entry)) (now (pointers .entry))) segment (alone row) 0) (address .0) ⌝ }
+        (landedCands p (viewOf p (now (image .entry)) (now (pointers .entry))) (seg segment) (alone row) 0) (address .0) ⌝ }
 {
     let n = call_land_chunk::filled_in(row);
     let mut b = held(p, image, pointers, addresses, address);
@@ -163,13 +163,13 @@ fn winners(
     requires { ⌜ Whole p (mkDisk (now image) (now pointers)) ⌝ }
     requires { ⌜ (length (now addresses) ≡ addressesLen p) × EntriesSane p (alone row) 0 (now addresses) ⌝ }
     requires { ⌜ (segment < p .Z) × (filledIn (alone row) 0 ≤ dataCount p) × ((d : ℕ) → d < p .N → offsetIn (alone row) 0 d < p .S) ⌝ }
-    requires { ⌜ serial .0 ≡ serialAt (viewOf p (now image) (now pointers)) segment ⌝ }
+    requires { ⌜ serial .0 ≡ serialAt (viewOf p (now image) (now pointers)) (seg segment) ⌝ }
     ensures { λ r. ⌜
         ((k : ℕ)
         → k < filledIn (alone row) 0
         → entryIn (alone row) 0 k .address < p .L
         → getD r k 0 ≡ winnerOf p (viewOf p (now (image .entry)) (now (pointers .entry))) (now (addresses .entry))
-        (landedCands p (viewOf p (now (image .entry)) (now (pointers .entry))) segment (alone row) 0) (entryIn (alone row) 0 k .address)) ⌝ }
+        (landedCands p (viewOf p (now (image .entry)) (now (pointers .entry))) (seg segment) (alone row) 0) (entryIn (alone row) 0 k .address)) ⌝ }
 {
     let n = call_land_chunk::filled_in(row);
     let mut out = [0u32; 8];
@@ -220,8 +220,8 @@ pub fn point(
     ensures { λ _. ⌜
         now (addresses .exit)
         ≡ pointed p (viewOf p (now (image .entry)) (now (pointers .entry))) (now (addresses .entry))
-        (landedCands p (viewOf p (now (image .entry)) (now (pointers .entry))) segment (alone row) 0)
-        (landedCands p (viewOf p (now (image .entry)) (now (pointers .entry))) segment (alone row) 0) (now (addresses .entry)) ⌝ }
+        (landedCands p (viewOf p (now (image .entry)) (now (pointers .entry))) (seg segment) (alone row) 0)
+        (landedCands p (viewOf p (now (image .entry)) (now (pointers .entry))) (seg segment) (alone row) 0) (now (addresses .entry)) ⌝ }
 {
     let serial = serial_at(p, image, segment);
     let places = winners(p, image, pointers, addresses, segment, serial, row);

@@ -1,5 +1,5 @@
 -- What the second read leaves: a refusal and the block as it came, or the block that the address reads (01, Read). Assumes nothing.
-use mathlib.Core.Path.{_≡_, refl, sym, ap, _∙_, subst}
+use mathlib.Core.Path.{_≡_, refl, sym, ap, _∙_, subst, ap₂}
 use mathlib.Core.List.{List, [], _∷_}
 use mathlib.Core.Bool.{Bool, true, false, cond, not, _&&_, _||_}
 use Prim.Native.Nat.{ℕ, _+_, _-_, _/_, _≤_, _<_}
@@ -14,13 +14,14 @@ use Rattle.spec.specs.declared.Answer.the-variants.{BadZone, Filled}
 use Rattle.spec.specs.Bytes.{part}
 use Rattle.spec.specs.Calls.Check.{zones}
 use Rattle.spec.specs.Calls.{ninth, firstRefusal}
-use Rattle.spec.specs.Drives.{View, pointerAt, chunkAt, Disk}
+use Rattle.spec.specs.Drives.{View, pointerAt, chunkAt, Disk, placeSegment, seg}
 use Rattle.spec.specs.Lists.{Opt, any, consIf, isNil, isIn}
 use Rattle.spec.specs.Lists.Opt.{none, some}
 use Rattle.spec.specs.Params.{between, inRange, capacity, unitLen, imageLen, placeBlock, placeZone, placeDrive, placeByte}
 use Rattle.spec.specs.Read.{Found, placeFaults, foundFaults, shown, decodeFaults, storedAt, decodedAt, readPiece}
 use Rattle.spec.specs.Read.Found.{nowhere, here, away}
 use Rattle.law_basic.specs.Geometry.{data-below, between-low, between-high, ranged, place-again, block-within}
+use Rattle.law_basic.specs.Segs.{place-number, place-segment-zone}
 use Rattle.law_views.specs.Views.{block-view, Whole, seen}
 use Rattle.law_calls.specs.Refusals.{zone-fails}
 
@@ -100,7 +101,7 @@ module _ (p : Params) (q : ℕ) (ok : inRange p ≡ true) (h : PlaceOk p q) wher
       let t : 1 + (placeBlock p q - 1) ≡ placeBlock p q = omega (arith, h .block-low) in
       ap (mkFill Filled)
       (e ∙ ap (λ (y : ℕ). part (placeByte p y) (p .B) (k .image)) (sym (place-again p q)) ∙ sym (block-view p k d z (h .drive-low) zone-low w (placeBlock p q) block-in)
-      ∙ ap (λ (y : ℕ). chunkAt (seen p k) d z y .block) (sym t))
+      ∙ ap₂ (λ (x y : ℕ). chunkAt (seen p k) d x y .block) (sym (place-segment-zone p q)) (sym t))
 
 -- 01, Read: zeros
 pub fill-zeros : (p : Params) (v : View) (gone : ℕ) (cs b x : List ℕ) → length b ≡ p .B → x ≡ replicate (length b) 0 → mkFill Filled x ≡ filling p v gone cs nowhere b
@@ -110,17 +111,19 @@ fill-zeros p v gone cs b x h e = ap (mkFill Filled) (e ∙ ap (λ (y : ℕ). rep
 -- 01, Read: the decoded block, or refused for its zone
 module _ (p : Params) (v : View) (gone : ℕ) (cs : List ℕ) (q : ℕ) (b : List ℕ) (d z s : ℕ) (ed : d ≡ placeDrive p q) (ez : z ≡ placeZone p q) (es : s ≡ placeBlock p q - 1) where
   lost-is : filling p v gone cs (away q) b
-      ≡ filledBy (firstRefusal (zones (consIf (any isNil (shown p v gone cs z s)) z []) ∷ [])) b (decodedAt p v gone cs d z s .block)
+      ≡ filledBy (firstRefusal (zones (consIf (any isNil (shown p v gone cs (seg z) s)) z []) ∷ [])) b (decodedAt p v gone cs d (seg z) s .block)
   unfolding decodeFaults readPiece
-  lost-is = sym (λ j. filledBy (firstRefusal (zones (consIf (any isNil (shown p v gone cs (ez j) (es j))) (ez j) []) ∷ [])) b (decodedAt p v gone cs (ed j) (ez j) (es j) .block))
+  lost-is =
+      let eg : seg z ≡ placeSegment p q = ap (λ (x : ℕ). seg x) ez ∙ sym (place-number p q) in
+      sym (λ j. filledBy (firstRefusal (zones (consIf (any isNil (shown p v gone cs (eg j) (es j))) (ez j) []) ∷ [])) b (decodedAt p v gone cs (ed j) (eg j) (es j) .block))
 
-  pub fill-hidden : any isNil (shown p v gone cs z s) ≡ true → mkFill (BadZone z) b ≡ filling p v gone cs (away q) b
+  pub fill-hidden : any isNil (shown p v gone cs (seg z) s) ≡ true → mkFill (BadZone z) b ≡ filling p v gone cs (away q) b
   unfolding consIf filledBy
   fill-hidden e =
-      sym (lost-is ∙ ap (λ (x : Bool). filledBy (firstRefusal (zones (consIf x z []) ∷ [])) b (decodedAt p v gone cs d z s .block)) e
-      ∙ ap (λ (x : Opt Answer). filledBy x b (decodedAt p v gone cs d z s .block)) (zone-fails z []))
+      sym (lost-is ∙ ap (λ (x : Bool). filledBy (firstRefusal (zones (consIf x z []) ∷ [])) b (decodedAt p v gone cs d (seg z) s .block)) e
+      ∙ ap (λ (x : Opt Answer). filledBy x b (decodedAt p v gone cs d (seg z) s .block)) (zone-fails z []))
 
-  pub fill-decoded : any isNil (shown p v gone cs z s) ≡ false → (x : List ℕ) → x ≡ decodedAt p v gone cs d z s .block → mkFill Filled x ≡ filling p v gone cs (away q) b
+  pub fill-decoded : any isNil (shown p v gone cs (seg z) s) ≡ false → (x : List ℕ) → x ≡ decodedAt p v gone cs d (seg z) s .block → mkFill Filled x ≡ filling p v gone cs (away q) b
   unfolding consIf filledBy firstRefusal ninth
   fill-decoded e x f =
-      ap (mkFill Filled) f ∙ sym (lost-is ∙ ap (λ (y : Bool). filledBy (firstRefusal (zones (consIf y z []) ∷ [])) b (decodedAt p v gone cs d z s .block)) e)
+      ap (mkFill Filled) f ∙ sym (lost-is ∙ ap (λ (y : Bool). filledBy (firstRefusal (zones (consIf y z []) ∷ [])) b (decodedAt p v gone cs d (seg z) s .block)) e)

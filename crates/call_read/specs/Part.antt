@@ -11,7 +11,6 @@ use Rattle.spec.specs.declared.Params.{Params}
 use Rattle.spec.specs.declared.Answer.{Answer}
 use Rattle.spec.specs.declared.Answer.the-variants.{Refused, BadZone, Part}
 use Rattle.spec.specs.Answers.{kind, values}
-use Rattle.spec.specs.Bytes.{part}
 use Rattle.spec.specs.Calls.Check.{rule, zones}
 use Rattle.spec.specs.Calls.{Check, ninth, ruled, firstRefusal}
 use Rattle.spec.specs.Lists.Opt.{some}

@@ -8,7 +8,7 @@ ghost use lib.ListN.{length};
 ghost use Rattle.spec.specs.Bytes.{part};
 ghost use Rattle.spec.specs.Calls.{firstRefusal, mkAfter};
 ghost use Rattle.spec.specs.Calls.Check.{zones};
-ghost use Rattle.spec.specs.Drives.{viewOf, mkDisk};
+ghost use Rattle.spec.specs.Drives.{viewOf, mkDisk, seg};
 ghost use Rattle.spec.specs.Engine.{callDisk};
 ghost use Rattle.spec.specs.Engine.Call.{read, fill};
 ghost use Rattle.spec.specs.Lists.{any, consIf, isNil, isIn};
@@ -213,7 +213,7 @@ fn any_hidden(p: Params, pointers: &[u8], gone: u8, compact: &[u8], zone: usize,
     requires { ⌜ inRange p ≡ true ⌝ }
     requires { ⌜ (length (now pointers) ≡ pointersLen p) × (length (now compact) ≡ compactLen p) ⌝ }
     requires { ⌜ (zone < p .Z) × (s < p .S) ⌝ }
-    ensures { λ r. ⌜ ((im : List ℕ) → length im ≡ imageLen p → r ≡ any isNil (shown p (viewOf p im (now (pointers .entry))) gone (now (compact .entry)) zone s)) ⌝ }
+    ensures { λ r. ⌜ ((im : List ℕ) → length im ≡ imageLen p → r ≡ any isNil (shown p (viewOf p im (now (pointers .entry))) gone (now (compact .entry)) (seg zone) s)) ⌝ }
 {
     let mut d = 0;
     while d < p.N {
@@ -269,8 +269,8 @@ fn decode(
     requires { ⌜ Whole p (mkDisk (now image) (now pointers)) ⌝ }
     requires { ⌜ (length (now compact) ≡ compactLen p) × (length (now block) ≡ p .B) ⌝ }
     requires { ⌜ (drive < p .N) × (zone < p .Z) × (s < p .S) ⌝ }
-    requires { ⌜ any isNil (shown p (viewOf p (now image) (now pointers)) gone (now compact) zone s) ≡ false ⌝ }
-    ensures { λ _. ⌜ now (block .exit) ≡ decodedAt p (viewOf p (now (image .entry)) (now (pointers .entry))) gone (now (compact .entry)) drive zone s .block ⌝ }
+    requires { ⌜ any isNil (shown p (viewOf p (now image) (now pointers)) gone (now compact) (seg zone) s) ≡ false ⌝ }
+    ensures { λ _. ⌜ now (block .exit) ≡ decodedAt p (viewOf p (now (image .entry)) (now (pointers .entry))) gone (now (compact .entry)) drive (seg zone) s .block ⌝ }
 {
     let mut at = [0usize; 8];
     let mut d = 0;

@@ -8,12 +8,12 @@ use Rattle.spec.specs.declared.Params.{Params}
 use Rattle.spec.specs.declared.Answer.{Answer}
 use Rattle.spec.specs.declared.Answer.the-variants.{Cut, Rebuilt}
 use Rattle.spec.specs.Calls.{firstRefusal, Plan, mkPlan, mkAfter, cutMemory}
-use Rattle.spec.specs.Drives.{Store, Disk, storeDisk, storeAll}
+use Rattle.spec.specs.Drives.{Store, Disk, storeDisk, storeAll, Seg, seg}
 use Rattle.spec.specs.Engine.Call.{rebuild}
 use Rattle.spec.specs.Engine.{storeCount, lentBlock, verdict, lentOk, callOn, callDisk}
 use Rattle.spec.specs.Faults.{segmentFaults}
 use Rattle.spec.specs.Lists.Opt.{none, some}
-use Rattle.spec.specs.Lists.{below}
+use Rattle.spec.specs.Lists.{below, keep}
 use Rattle.spec.specs.Memory.{Memory, mkMemory, zeroState}
 use Rattle.spec.specs.Params.{named}
 use Rattle.spec.specs.Rebuild.{rebuildChecks, rebuildStores, rebuildVerdict}
@@ -27,7 +27,7 @@ use Rattle.law_drives.specs.Accept.{Accepted, faults-apart}
 use Rattle.law_drives.specs.Image.{sized-of, shaped-of}
 use Rattle.law_drives.specs.Lengths.{lengths-of, whole-of}
 use Rattle.law_drives.specs.Masks.{named-in}
-use Rattle.law_drives.specs.Members.{In, in-keep, in-below}
+use Rattle.law_drives.specs.Members.{In, in-map, in-keep, in-below}
 use Rattle.law_drives.specs.Rebuilding.{rebuild-roomy, rebuild-within}
 use Rattle.law_drives.specs.Zones.{all-fit}
 use Rattle.recover_segments.specs.Remains.{Keeps, remainsHere}
@@ -84,11 +84,12 @@ module _ (p : Params) (k : Disk) (m : Memory) (d : ℕ) (rd : RebuildReady p k m
   good-recs g hg f =
       let v = seen p k in
       let a : Accepted p v (named d) = record { pointers-ok = rd .pointers-ok; segments-ok = none! } in
-      let i : In g (remaining p v (named d)) =
-      subst (λ (l : List ℕ). In g l) (sym (remaining-keep p v (named d)))
-      (in-keep (remainsHere p v (named d)) (below (p .Z)) g (in-below (p .Z) g hg) (sym (kp .1 g hg) ∙ f)) in
-      let o = faults-apart p v (named d) a g i in
-      no-recs-fault p (named d) (segmentOf p v (named d) g) (o .no-stripe-fault) (o .no-address-fault)
+      let on : ℕ → Bool = λ h. remainsHere p v (named d) (seg h) in
+      let i : In (seg g) (remaining p v (named d)) =
+      subst (λ (l : List Seg). In (seg g) l) (sym (remaining-keep p v (named d)))
+      (in-map seg (keep on (below (p .Z))) g (in-keep on (below (p .Z)) g (in-below (p .Z) g hg) (sym (kp .1 g hg) ∙ f))) in
+      let o = faults-apart p v (named d) a (seg g) i in
+      no-recs-fault p (named d) (segmentOf p v (named d) (seg g)) (o .no-stripe-fault) (o .no-address-fault)
 
   -- the stores fit
   pub stores-fit : ((i : ℕ) → getD (k .image) i 0 < 256) → AllFit p (seen p k) (driveStores p d (seen p k) flags)

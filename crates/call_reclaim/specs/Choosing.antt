@@ -2,25 +2,25 @@
 use Prim.Native.Nat.{ℕ, suc, _*_, min, _<_}
 use Rattle.spec.specs.Calls.{Check, ninth, ruled, firstRefusal}
 use Rattle.spec.specs.Calls.Check.{rule, zones}
-use Rattle.spec.specs.Drives.{View, Disk}
+use Rattle.spec.specs.Drives.{View, Disk, seg}
 use Rattle.spec.specs.Engine.{lentOk}
-use Rattle.spec.specs.Lists.{Opt, any, consIf, keep, isNil, least, firstOr}
+use Rattle.spec.specs.Lists.{Opt, all, any, consIf, keep, isNil, least, firstOr}
 use Rattle.spec.specs.Lists.Opt.{none, some}
 use Rattle.spec.specs.Memory.{Memory, stateOk, stateFaults}
-use Rattle.spec.specs.Params.{inRange, capacity}
+use Rattle.spec.specs.Params.{inRange, capacity, placeZone}
 use Rattle.spec.specs.Reclaim.{tableFaults, Victim, victim, isNone, victimSegment, victimLive, idle, reclaimChecks}
 use Rattle.spec.specs.Write.{opens, noSerial, mustWait, scarce}
 use Rattle.spec.specs.declared.Answer.{Answer}
 use Rattle.spec.specs.declared.Answer.the-variants.{Refused, BadZone}
 use Rattle.spec.specs.declared.Params.{Params}
 use Rattle.spec.specs.declared.State.{State}
-use Rattle.law_basic.specs.Ranges.{keep-none, nil-is}
+use Rattle.law_basic.specs.Ranges.{and-left, and-right, keep-none, nil-is}
 use Rattle.law_calls.specs.Refusals.{zones-pass, none-left, state-fault, state-fine, rule-fails, rule-passes, least-zero}
 use Rattle.call_reclaim.specs.declared.Choice.{Choice}
 use Rattle.call_reclaim.specs.declared.Choice.the-variants.{Refuse, Clear, Copy}
 use Rattle.call_reclaim_victim.specs.Waiting.{isOdd}
 use Rattle.law_views.specs.Views.{seen}
-use borrow.Author.Tests.{eq-eqb, ne-eqb}
+use borrow.Author.Tests.{eq-eqb, ne-eqb, eqb-true}
 use lib.Dec.{eqb}
 use lib.ListN.{length, drop}
 use mathlib.Core.Bool.{Bool, true, false, cond, not, _&&_, _||_}
@@ -38,7 +38,7 @@ copyRules p v st = rule 6 (noSerial p st) ∷ rule 7 (mustWait p st) ∷ rule 8 
 
 -- 01, Refusals, 9: the bad zones of reclaim
 unfoldable pub badZones : Params → State → List ℕ → Opt Victim → List ℕ
-badZones p st tb w = stateFaults p st ++ tableFaults p tb ++ map (λ q. victimSegment w) (keep (isOdd p) (victimLive w))
+badZones p st tb w = stateFaults p st ++ tableFaults p tb ++ map (placeZone p) (keep (isOdd p) (victimLive w))
 
 -- the checks from 5 on
 unfoldable pub laterChecks : Params → View → State → List ℕ → Opt Victim → List Check
@@ -51,7 +51,7 @@ laterChecks p v st tb w =
 -- what the code chooses, where r is the first refusal and w the segment: refuses so, resets it, or copies the first of its live blocks not in flight
 abbrev pub Chose : Params → View → State → Opt Victim → Opt Answer → Choice → Type 0
 Chose p v st w r (Refuse a) = r ≡ some a
-Chose p v st w r (Clear g) = (r ≡ none) × (isNil (victimLive w) ≡ true) × (victimSegment w ≡ g) × (g < p .Z)
+Chose p v st w r (Clear g) = (r ≡ none) × (isNil (victimLive w) ≡ true) × (victimSegment w ≡ seg g) × (g < p .Z)
 Chose p v st w r (Copy q) = (r ≡ none) × (isNil (victimLive w) ≡ false) × (firstOr 0 (idle p v st w) ≡ q .0) × (q .0 < p .N * p .Z * capacity p) × (isOdd p (q .0) ≡ false)
 
 -- ---- the first checks
@@ -160,7 +160,17 @@ any-kept {A} f (a ∷ l) = go (f a) (any-kept f l)
     go true e = refl
     go false e = e
 
--- a live block that is no data block names the segment
+-- numbers that are all made the same
+map-one : (f : ℕ → ℕ) (g : ℕ) (t : ℕ → Bool) (l : List ℕ) → all (λ q. eqb (f q) g) l ≡ true → map f (keep t l) ≡ map (λ q. g) (keep t l)
+unfolding all keep consIf
+map-one f g t [] h = refl
+map-one f g t (a ∷ l) h = go (t a) (eqb-true (f a) g (and-left (eqb (f a) g) (all (λ q. eqb (f q) g) l) h)) (map-one f g t l (and-right (eqb (f a) g) (all (λ q. eqb (f q) g) l) h))
+  where
+    go : (b : Bool) → f a ≡ g → map f (keep t l) ≡ map (λ q. g) (keep t l) → map f (consIf b a (keep t l)) ≡ map (λ q. g) (consIf b a (keep t l))
+    go true e r = ap₂ _∷_ e r
+    go false e r = r
+
+-- live blocks that are no data blocks, all in zones of number g, name that zone
 pub odd-zones : (f : ℕ → Bool) (g : ℕ) (l : List ℕ) → firstRefusal (zones (map (λ q. g) (keep f l)) ∷ []) ≡ cond (any f l) (some (BadZone g)) none
 unfolding firstRefusal ninth isNil
 odd-zones f g l = go (keep f l) ∙ ap (λ (x : Bool). cond x (some (BadZone g)) none) (sym (any-kept f l))
@@ -210,8 +220,8 @@ module _ (p : Params) (v : View) (st : State) (tb : List ℕ) (w : Opt Victim) w
         ∙ (λ j. firstRefusal (rule 6 (n j && noSerial p st) ∷ rule 7 (n j && mustWait p st) ∷ rule 8 (n j && opens p st && scarce p v 1) ∷ zones (badZones p st tb w) ∷ []))
         ∙ three false false false (zones (badZones p st tb w) ∷ [])
         ∙ first-none
-        ∙ ap (λ (l : List ℕ). firstRefusal (zones (stateFaults p st ++ tableFaults p tb ++ map (λ q. victimSegment w) (keep (isOdd p) l)) ∷ [])) (nil-is (victimLive w) d)
-        ∙ ap (λ (l : List ℕ). firstRefusal (zones (stateFaults p st ++ tableFaults p tb ++ map (λ q. victimSegment w) l) ∷ [])) (keep-none (isOdd p))
+        ∙ ap (λ (l : List ℕ). firstRefusal (zones (stateFaults p st ++ tableFaults p tb ++ map (placeZone p) (keep (isOdd p) l)) ∷ [])) (nil-is (victimLive w) d)
+        ∙ ap (λ (l : List ℕ). firstRefusal (zones (stateFaults p st ++ tableFaults p tb ++ map (placeZone p) l) ∷ [])) (keep-none (isOdd p))
       where
         first-none : orNext (firstRefusal (rule 6 false ∷ rule 7 false ∷ rule 8 false ∷ [])) (firstRefusal (zones (badZones p st tb w) ∷ [])) ≡ firstRefusal (zones (badZones p st tb w) ∷ [])
         first-none = ap (λ (r : Opt Answer). orNext r (firstRefusal (zones (badZones p st tb w) ∷ []))) all-pass
@@ -236,11 +246,14 @@ module _ (p : Params) (v : View) (st : State) (tb : List ℕ) (w : Opt Victim) w
 -- the zones, once neither state nor table is at fault
 pub zones-odd : (p : Params) (st : State) (tb : List ℕ) (w : Opt Victim) (fault odd : Bool) (g : ℕ)
     → ((zs : List ℕ) → firstRefusal (zones (stateFaults p st ++ tableFaults p tb ++ zs) ∷ []) ≡ cond fault (some (BadZone 0)) (firstRefusal (zones zs ∷ [])))
-    → any (isOdd p) (victimLive w) ≡ odd → victimSegment w ≡ g → firstRefusal (zones (badZones p st tb w) ∷ []) ≡ cond fault (some (BadZone 0)) (cond odd (some (BadZone g)) none)
+    → any (isOdd p) (victimLive w) ≡ odd → all (λ q. eqb (placeZone p q) g) (victimLive w) ≡ true
+    → firstRefusal (zones (badZones p st tb w) ∷ []) ≡ cond fault (some (BadZone 0)) (cond odd (some (BadZone g)) none)
 unfolding badZones
 zones-odd p st tb w fault odd g h o s =
-    h (map (λ q. victimSegment w) (keep (isOdd p) (victimLive w)))
-    ∙ ap (cond fault (some (BadZone 0))) (odd-zones (isOdd p) (victimSegment w) (victimLive w) ∙ (λ j. cond (o j) (some (BadZone (s j))) none))
+    h (map (placeZone p) (keep (isOdd p) (victimLive w)))
+    ∙ ap (cond fault (some (BadZone 0)))
+    (ap (λ (l : List ℕ). firstRefusal (zones l ∷ [])) (map-one (placeZone p) g (isOdd p) (victimLive w) s)
+    ∙ odd-zones (isOdd p) g (victimLive w) ∙ ap (λ (b : Bool). cond b (some (BadZone g)) none) o)
 
 -- ---- lists
 

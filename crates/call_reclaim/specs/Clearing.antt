@@ -4,7 +4,7 @@ use Rattle.spec.specs.Answers.{kind, isRefused, isCut}
 use Rattle.spec.specs.Bytes.{splice}
 use Rattle.spec.specs.Calls.{mkAfter, cutMemory, outcome}
 use Rattle.spec.specs.Calls.Verdict.{due}
-use Rattle.spec.specs.Drives.{Disk, storeDisk, zoneOn, resetStores}
+use Rattle.spec.specs.Drives.{Disk, storeDisk, zoneOn, resetStores, Seg}
 use Rattle.spec.specs.Lists.{upFrom}
 use Rattle.spec.specs.Memory.{Memory, mkMemory, compactAt}
 use Rattle.spec.specs.Params.{addressesLen, compactLen, drivesOf}
@@ -23,7 +23,7 @@ use mathlib.Core.Bool.{true, false}
 use mathlib.Core.List.{List, []}
 use mathlib.Core.Path.{_≡_, refl, sym, ap, _∙_}
 
-module _ (p : Params) (g : ℕ) where
+module _ (p : Params) (g : Seg) where
   pub cleared-start : (cs : List ℕ) → cleared p g (upFrom 0 (p .N - 0)) cs ≡ cleared p g (drivesOf p) cs
   unfolding drivesOf
   cleared-start cs = ap (λ (l : List ℕ). cleared p g l cs) (sym (below-start (p .N)))
@@ -39,7 +39,7 @@ module _ (p : Params) (g : ℕ) where
 
 -- ---- the two ends of a reset
 
-module _ (p : Params) (n g : ℕ) (k k′ : Disk) (m : Memory) (r : Made) (h : Storing p n (resetStores p g) k r k′) where
+module _ (p : Params) (n : ℕ) (g : Seg) (k k′ : Disk) (m : Memory) (r : Made) (h : Storing p n (resetStores p g) k r k′) where
   pub reset-cut : length (m .addresses) ≡ addressesLen p → length (m .compact) ≡ compactLen p → r .cut ≡ true → (o : Change) (ad co : List ℕ) → o .answer ≡ Cut
       → ad ≡ replicate (length (m .addresses)) 0 → co ≡ replicate (length (m .compact)) 0
       → afterChange (m .state) o (k′ .image) (k′ .pointers) ad co (m .inflight) [] ≡ outcome p (storeDisk p) n k m [] (due (resetPlan p m g))
@@ -49,14 +49,14 @@ module _ (p : Params) (n g : ℕ) (k k′ : Disk) (m : Memory) (r : Made) (h : S
       (λ j. mkAfter (e j) (h .disk j) (w j) []) ∙ sym (cut-prefix p (storeDisk p) n k m [] (resetPlan p m g) (storing-cut p n (resetStores p g) k r k′ h c))
 
   -- the state stays
-  state-kept : stateAfter (m .state) (keptAs (Reset g) (frontOf (m .state))) ≡ m .state
+  state-kept : stateAfter (m .state) (keptAs (Reset (zoneOn g 0)) (frontOf (m .state))) ≡ m .state
   unfolding isRefused isCut kind
-  state-kept = after-done (m .state) (keptAs (Reset g) (frontOf (m .state))) refl refl ∙ changed-none (m .state) (Reset g)
+  state-kept = after-done (m .state) (keptAs (Reset (zoneOn g 0)) (frontOf (m .state))) refl refl ∙ changed-none (m .state) (Reset (zoneOn g 0))
 
-  pub reset-done : r .cut ≡ false → (o : Change) → o ≡ keptAs (Reset g) (frontOf (m .state)) → (co : List ℕ) → co ≡ cleared p g (drivesOf p) (m .compact)
+  pub reset-done : r .cut ≡ false → (o : Change) → o ≡ keptAs (Reset (zoneOn g 0)) (frontOf (m .state)) → (co : List ℕ) → co ≡ cleared p g (drivesOf p) (m .compact)
       → afterChange (m .state) o (k′ .image) (k′ .pointers) (m .addresses) co (m .inflight) [] ≡ outcome p (storeDisk p) n k m [] (due (resetPlan p m g))
   unfolding resetPlan
   reset-done c o q co e =
       ap (λ (x : Change). afterChange (m .state) x (k′ .image) (k′ .pointers) (m .addresses) co (m .inflight) []) q
-      ∙ (λ j. mkAfter (Reset g) (storing-all p n (resetStores p g) k r k′ h c j) (mkMemory (state-kept j) (m .addresses) (e j) (m .inflight)) [])
+      ∙ (λ j. mkAfter (Reset (zoneOn g 0)) (storing-all p n (resetStores p g) k r k′ h c j) (mkMemory (state-kept j) (m .addresses) (e j) (m .inflight)) [])
       ∙ sym (done-all p (storeDisk p) n k m [] (resetPlan p m g) (storing-done p n (resetStores p g) k r k′ h c))

@@ -3,7 +3,7 @@ use Prim.Native.Nat.{ℕ, _<_}
 use Rattle.spec.specs.Calls.{Plan, decided, mkAfter, outcome}
 use Rattle.spec.specs.Calls.Verdict.{due}
 use Rattle.spec.specs.Counts.{lastCount}
-use Rattle.spec.specs.Drives.{View, Disk, storeDisk, emptyZones}
+use Rattle.spec.specs.Drives.{View, Disk, storeDisk, emptySegs, Seg}
 use Rattle.spec.specs.Engine.{storeCount, lentBlock, verdict, lentOk, callOn, callDisk}
 use Rattle.spec.specs.Engine.Call.{reclaim}
 use Rattle.spec.specs.Lists.{Opt, isNil, firstOr}
@@ -33,9 +33,9 @@ use mathlib.Core.Path.{_≡_, sym, ap, _∙_}
 use native.Mathlib.Omega.{arith}
 
 -- 01, Refusals, 8: not scarce
-one-left : (p : Params) (v : View) → scarce p v 1 ≡ false → 0 < length (emptyZones p v)
+one-left : (p : Params) (v : View) → scarce p v 1 ≡ false → 0 < length (emptySegs p v)
 unfolding scarce
-one-left p v h = omega (arith, leb-false (length (emptyZones p v)) 1 h)
+one-left p v h = omega (arith, leb-false (length (emptySegs p v)) 1 h)
 
 module _ (p : Params) (k : Disk) (m : Memory) (none! : reclaimRefusal p k m ≡ none) where
   abbrev w : Opt Victim
@@ -95,7 +95,7 @@ module _ (p : Params) (k : Disk) (m : Memory) (n : ℕ) where
       ∙ sym (call-refused p (storeDisk p) n k m [] (reclaimRefusal p k m) both (c .answer) e)
 
   -- 01, Reclaim: with none live it resets its zones
-  pub reclaim-clear : (g : ℕ) → reclaimRefusal p k m ≡ none → isNil (victimLive w!) ≡ true → victimSegment w! ≡ g
+  pub reclaim-clear : (g : Seg) → reclaimRefusal p k m ≡ none → isNil (victimLive w!) ≡ true → victimSegment w! ≡ g
       → outcome p (storeDisk p) n k m [] (due (resetPlan p m g)) ≡ callDisk p k m (reclaim n)
   unfolding callDisk callOn storeCount lentBlock verdict reclaimVerdict decided
   reclaim-clear g e d s =

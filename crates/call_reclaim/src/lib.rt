@@ -10,7 +10,7 @@ ghost use Rattle.spec.specs.declared.State.{State as StateOf};
 ghost use Rattle.spec.specs.Calls.{firstRefusal, outcome};
 ghost use Rattle.spec.specs.Calls.Check.{zones};
 ghost use Rattle.spec.specs.Calls.Verdict.{due};
-ghost use Rattle.spec.specs.Drives.{viewOf, mkDisk, storeDisk};
+ghost use Rattle.spec.specs.Drives.{viewOf, mkDisk, storeDisk, seg};
 ghost use Rattle.spec.specs.Engine.{callDisk};
 ghost use Rattle.spec.specs.Engine.Call.{reclaim};
 ghost use Rattle.spec.specs.Lists.Opt.{some};
@@ -169,7 +169,7 @@ fn choose(
 fn clear_rows(p: Params, compact: &mut [u8], segment: usize)
     requires { ⌜ inRange p ≡ true ⌝ }
     requires { ⌜ (length (now compact) ≡ compactLen p) × (segment < p .Z) ⌝ }
-    ensures { λ _. ⌜ now (compact .exit) ≡ cleared p segment (drivesOf p) (now (compact .entry)) ⌝ }
+    ensures { λ _. ⌜ now (compact .exit) ≡ cleared p (seg segment) (drivesOf p) (now (compact .entry)) ⌝ }
 {
     let mut d = 0;
     while d < p.N {
@@ -197,7 +197,7 @@ fn reset_segment(
         → f ≡ frontOf st
         → afterChange st r im (now (pointers .exit)) (now (addresses .exit)) (now (compact .exit)) fl [] ≡ outcome p (storeDisk p) count
         (mkDisk im (now (pointers .entry))) (mkMemory st (now (addresses .entry)) (now (compact .entry)) fl) []
-        (due (resetPlan p (mkMemory st (now (addresses .entry)) (now (compact .entry)) fl) g))) ⌝ }
+        (due (resetPlan p (mkMemory st (now (addresses .entry)) (now (compact .entry)) fl) (seg g)))) ⌝ }
 {
     let made = disk_zones::reset_stores(p, pointers, g, count);
     if made.cut {

@@ -1,15 +1,16 @@
 -- The sealed segment with fewest live blocks, by the counts (01, Reclaim). Assumes nothing.
 use Prim.Native.Nat.{ℕ, _+_, _-_, _*_, _≤_, _<_}
 use Rattle.call_reclaim_live.specs.Live.{LiveCounted, live-all}
-use Rattle.spec.specs.Drives.{View, segmentNumbers, sealedIn}
-use Rattle.spec.specs.Lists.{Opt, upFrom, keep}
+use Rattle.spec.specs.Drives.{View, sealedIn, Seg, seg}
+use Rattle.spec.specs.Lists.{Opt, upFrom, below, keep}
 use Rattle.spec.specs.Lists.Opt.{none, some}
 use Rattle.spec.specs.Params.{capacity}
 use Rattle.spec.specs.Reclaim.{placesIn, liveIn, Victim, victimOf, fewer, fewest, victim}
 use Rattle.spec.specs.declared.Params.{Params}
 use Rattle.law_basic.specs.Geometry.{Ranged}
-use Rattle.law_basic.specs.Ranges.{Test, test, upFrom-step, upFrom-end, below-start, keep-hit, keep-miss, keep-none}
+use Rattle.law_basic.specs.Ranges.{Test, test, upFrom-step, upFrom-end, below-start, map-map, keep-hit, keep-miss, keep-none}
 use Rattle.law_basic.specs.Ranges.Test.{yes!, no! }
+use Rattle.law_basic.specs.Segs.{keep-segs}
 use borrow.Author.Tests.{le-leb, lt-leb, lt-ltb, le-ltb}
 use lib.Dec.{leb, ltb}
 use lib.ListN.{length, getD}
@@ -21,7 +22,7 @@ use native.Mathlib.Omega.{arith}
 
 -- the segment of a number below Z, with its live blocks; none for Z
 unfoldable pub takenAs : Params → List ℕ → ℕ → Opt Victim
-takenAs p tb g = cond (leb (p .Z) g) none (some (victimOf p (placesIn p tb) g))
+takenAs p tb g = cond (leb (p .Z) g) none (some (victimOf p (placesIn p tb) (seg g)))
 
 -- 01, Reclaim: of two segments the one with fewer live blocks, the first on a tie; g, where there is no best
 unfoldable pub pickOf : Params → List ℕ → ℕ → ℕ → ℕ
@@ -41,23 +42,23 @@ pick-old p live best g h l = (λ j. cond (lt-leb (p .Z) best h j) g (cond (le-lt
 
 pub taken-none : (p : Params) (tb : List ℕ) (g : ℕ) → p .Z ≤ g → takenAs p tb g ≡ none
 unfolding takenAs
-taken-none p tb g h = ap (λ (x : Bool). cond x none (some (victimOf p (placesIn p tb) g))) (le-leb (p .Z) g h)
+taken-none p tb g h = ap (λ (x : Bool). cond x none (some (victimOf p (placesIn p tb) (seg g)))) (le-leb (p .Z) g h)
 
-pub taken-some : (p : Params) (tb : List ℕ) (g : ℕ) → g < p .Z → takenAs p tb g ≡ some (victimOf p (placesIn p tb) g)
+pub taken-some : (p : Params) (tb : List ℕ) (g : ℕ) → g < p .Z → takenAs p tb g ≡ some (victimOf p (placesIn p tb) (seg g))
 unfolding takenAs
-taken-some p tb g h = ap (λ (x : Bool). cond x none (some (victimOf p (placesIn p tb) g))) (lt-leb (p .Z) g h)
+taken-some p tb g h = ap (λ (x : Bool). cond x none (some (victimOf p (placesIn p tb) (seg g)))) (lt-leb (p .Z) g h)
 
 -- a segment's count
-pub count-live : (p : Params) → Ranged p → (tb live : List ℕ) → LiveCounted p tb live (p .N * p .Z * capacity p) → (g : ℕ) → g < p .Z → length (liveIn p (placesIn p tb) g) ≡ getD live g 0
+pub count-live : (p : Params) → Ranged p → (tb live : List ℕ) → LiveCounted p tb live (p .N * p .Z * capacity p) → (g : ℕ) → g < p .Z → length (liveIn p (placesIn p tb) (seg g)) ≡ getD live g 0
 count-live p r tb live so g h = ap length (live-all p r tb g h) ∙ sym (so g h)
 
 pub pick-fewer : (p : Params) → Ranged p → (tb live : List ℕ) → LiveCounted p tb live (p .N * p .Z * capacity p) → (best g : ℕ) → g < p .Z
-    → takenAs p tb (pickOf p live best g) ≡ fewer (takenAs p tb best) (victimOf p (placesIn p tb) g)
+    → takenAs p tb (pickOf p live best g) ≡ fewer (takenAs p tb best) (victimOf p (placesIn p tb) (seg g))
 unfolding pickOf fewer victimOf
 pick-fewer p r tb live so best g h = go (decLe (p .Z) best)
   where
     W : ℕ → Victim
-    W = victimOf p (placesIn p tb)
+    W a = victimOf p (placesIn p tb) (seg a)
 
     sizes : (a : ℕ) → a < p .Z → length (W a .live) ≡ getD live a 0
     sizes a l = count-live p r tb live so a l
@@ -80,41 +81,49 @@ pick-fewer p r tb live so best g h = go (decLe (p .Z) best)
 -- ---- the search from segment g on
 
 module _ (p : Params) (v : View) (tb : List ℕ) where
+  abbrev W : ℕ → Victim
+  W k = victimOf p (placesIn p tb) (seg k)
+
+  abbrev s : ℕ → Bool
+  s k = sealedIn p v 0 (seg k)
+
+  -- the segments by number
+  pub victim-number : victim p v tb ≡ fewest none (map W (keep s (below (p .Z))))
+  unfolding victim
+  victim-number =
+      let of : Seg → Victim = victimOf p (placesIn p tb) in
+      ap (λ (l : List Seg). fewest none (map of l)) (keep-segs p (sealedIn p v 0)) ∙ ap (fewest none) (map-map of seg (keep s (below (p .Z))))
+
   abbrev pub onward : Opt Victim → ℕ → Opt Victim
-  onward a g = fewest a (map (victimOf p (placesIn p tb)) (keep (sealedIn p v 0) (upFrom g (p .Z - g))))
+  onward a g = fewest a (map W (keep s (upFrom g (p .Z - g))))
 
   pub onward-start : onward none 0 ≡ victim p v tb
-  unfolding victim segmentNumbers
-  onward-start = ap (λ (l : List ℕ). fewest none (map (victimOf p (placesIn p tb)) (keep (sealedIn p v 0) l))) (sym (below-start (p .Z)))
+  onward-start = ap (λ (l : List ℕ). fewest none (map W (keep s l))) (sym (below-start (p .Z))) ∙ sym victim-number
 
   pub onward-end : (a : Opt Victim) (g : ℕ) → p .Z ≤ g → onward a g ≡ a
   unfolding fewest
   onward-end a g h =
-      ap (λ (l : List ℕ). fewest a (map (victimOf p (placesIn p tb)) l)) (ap (keep (sealedIn p v 0)) (upFrom-end g (p .Z) h) ∙ keep-none (sealedIn p v 0))
+      ap (λ (l : List ℕ). fewest a (map W l)) (ap (keep s) (upFrom-end g (p .Z) h) ∙ keep-none s)
 
-  pub onward-turn : (a : Opt Victim) (g : ℕ) → g < p .Z → onward a g ≡ onward (cond (sealedIn p v 0 g) (fewer a (victimOf p (placesIn p tb) g)) a) (g + 1)
+  pub onward-turn : (a : Opt Victim) (g : ℕ) → g < p .Z → onward a g ≡ onward (cond (s g) (fewer a (W g)) a) (g + 1)
   unfolding fewest
   onward-turn a g h =
-      let W : ℕ → Victim = victimOf p (placesIn p tb) in
-      let s : ℕ → Bool = sealedIn p v 0 in
-      let m : List ℕ = upFrom (g + 1) (p .Z - (g + 1)) in
       ap (λ (l : List ℕ). fewest a (map W (keep s l))) (upFrom-step g (p .Z) h) ∙ go (test (s g))
     where
-      go : Test (sealedIn p v 0 g) → fewest a (map (victimOf p (placesIn p tb)) (keep (sealedIn p v 0) (g ∷ upFrom (g + 1) (p .Z - (g + 1)))))
-          ≡ onward (cond (sealedIn p v 0 g) (fewer a (victimOf p (placesIn p tb) g)) a) (g + 1)
+      go : Test (s g) → fewest a (map W (keep s (g ∷ upFrom (g + 1) (p .Z - (g + 1))))) ≡ onward (cond (s g) (fewer a (W g)) a) (g + 1)
       go (yes! e) =
-          ap (λ (l : List ℕ). fewest a (map (victimOf p (placesIn p tb)) l)) (keep-hit (sealedIn p v 0) g (upFrom (g + 1) (p .Z - (g + 1))) e)
-          ∙ ap (λ (x : Bool). onward (cond x (fewer a (victimOf p (placesIn p tb) g)) a) (g + 1)) (sym e)
+          ap (λ (l : List ℕ). fewest a (map W l)) (keep-hit s g (upFrom (g + 1) (p .Z - (g + 1))) e)
+          ∙ ap (λ (x : Bool). onward (cond x (fewer a (W g)) a) (g + 1)) (sym e)
       go (no! e) =
-          ap (λ (l : List ℕ). fewest a (map (victimOf p (placesIn p tb)) l)) (keep-miss (sealedIn p v 0) g (upFrom (g + 1) (p .Z - (g + 1))) e)
-          ∙ ap (λ (x : Bool). onward (cond x (fewer a (victimOf p (placesIn p tb) g)) a) (g + 1)) (sym e)
+          ap (λ (l : List ℕ). fewest a (map W l)) (keep-miss s g (upFrom (g + 1) (p .Z - (g + 1))) e)
+          ∙ ap (λ (x : Bool). onward (cond x (fewer a (W g)) a) (g + 1)) (sym e)
 
 -- one turn of the loop
 pub turn-best : (p : Params) → Ranged p → (v : View) (tb live : List ℕ) → LiveCounted p tb live (p .N * p .Z * capacity p) → (best best′ g : ℕ) → g < p .Z
-    → best′ ≡ cond (sealedIn p v 0 g) (pickOf p live best g) best → onward p v tb (takenAs p tb best) g ≡ victim p v tb → onward p v tb (takenAs p tb best′) (g + 1) ≡ victim p v tb
+    → best′ ≡ cond (sealedIn p v 0 (seg g)) (pickOf p live best g) best → onward p v tb (takenAs p tb best) g ≡ victim p v tb → onward p v tb (takenAs p tb best′) (g + 1) ≡ victim p v tb
 turn-best p r v tb live so best best′ g h e k =
-    ap (λ (x : Opt Victim). onward p v tb x (g + 1)) (ap (takenAs p tb) e ∙ go (sealedIn p v 0 g)) ∙ sym (onward-turn p v tb (takenAs p tb best) g h) ∙ k
+    ap (λ (x : Opt Victim). onward p v tb x (g + 1)) (ap (takenAs p tb) e ∙ go (sealedIn p v 0 (seg g))) ∙ sym (onward-turn p v tb (takenAs p tb best) g h) ∙ k
   where
-    go : (b : Bool) → takenAs p tb (cond b (pickOf p live best g) best) ≡ cond b (fewer (takenAs p tb best) (victimOf p (placesIn p tb) g)) (takenAs p tb best)
+    go : (b : Bool) → takenAs p tb (cond b (pickOf p live best g) best) ≡ cond b (fewer (takenAs p tb best) (victimOf p (placesIn p tb) (seg g))) (takenAs p tb best)
     go true = pick-fewer p r tb live so best g h
     go false = refl

@@ -1,7 +1,7 @@
 -- Live blocks by ascending place, and their count by segment (01, Reclaim). Assumes nothing.
 use Prim.Native.Nat.{ℕ, zero, suc, _+_, _-_, _*_, _/_, _%_, _^_, min, max, _≤_, _<_}
 use Rattle.spec.specs.Counts.{neverPlace}
-use Rattle.spec.specs.Drives.{zoneOn}
+use Rattle.spec.specs.Drives.{seg}
 use Rattle.spec.specs.History.{step}
 use Rattle.spec.specs.Lists.{upFrom, below, isMember, consIf, keep, flat}
 use Rattle.spec.specs.Memory.{placeAt}
@@ -12,6 +12,7 @@ use Rattle.law_basic.specs.Geometry.{prod-le, Ranged, capacity-low, capacity-hi
 use Rattle.law_basic.specs.Ranges.{Test, test, upFrom-add, below-none, length-below, any-same, keep-append, keep-none, keep-below-same, length-keep, flat-none}
 use Rattle.law_basic.specs.Ranges.{flat-below-snoc, keep-below-snoc, any-map, below-split}
 use Rattle.law_basic.specs.Ranges.Test.{yes!, no! }
+use Rattle.law_basic.specs.Segs.{zone-number}
 use Rattle.mem_marks.specs.Marks.{isMarked, isPointed, Marks, shifted}
 use Rattle.law_scans.specs.Scans.{any-keep}
 use borrow.Author.Tests.{eq-eqb, ne-eqb, eqb-true, eqb-false}
@@ -152,8 +153,8 @@ module _ (p : Params) (r : Ranged p) where
       h (q / C) (le-div-iff-mul-le k .1 low) (div-lt-iff-lt-mul k .1 (omega arith))
 
   -- one drive more
-  places-more : (g d : ℕ) → g < p .Z → keep (λ q. eqb (placeZone p q) g) (upFrom (d * p .Z * C) (p .Z * C)) ≡ map (placeOf p d (zoneOn g d)) (below C)
-  unfolding zoneOn below placeOf
+  places-more : (g d : ℕ) → g < p .Z → keep (λ q. eqb (placeZone p q) g) (upFrom (d * p .Z * C) (p .Z * C)) ≡ map (placeOf p d g) (below C)
+  unfolding below placeOf
   places-more g d h =
       let f : ℕ → Bool = λ q. eqb (placeZone p q) g in
       let Z = p .Z in
@@ -180,14 +181,14 @@ module _ (p : Params) (r : Ranged p) where
       ∙ ap (λ (x : ℕ). upFrom x C) (let w : a * C + g * C ≡ (a + g) * C + 0 = omega arith in w)
       ∙ sym (map-upFrom (λ b. (a + g) * C + b) ((a + g) * C) 0 C (λ b. refl))
 
-  segment-drives : (g n : ℕ) → g < p .Z → flat (λ d. map (placeOf p d (zoneOn g d)) (below C)) (below n) ≡ keep (λ q. eqb (placeZone p q) g) (below (n * p .Z * C))
+  segment-drives : (g n : ℕ) → g < p .Z → flat (λ d. map (placeOf p d g) (below C)) (below n) ≡ keep (λ q. eqb (placeZone p q) g) (below (n * p .Z * C))
   segment-drives g zero h =
       let f : ℕ → Bool = λ q. eqb (placeZone p q) g in
       let e : 0 * p .Z * C ≡ 0 = ap (λ (x : ℕ). x * C) (zero-mul (p .Z)) ∙ zero-mul C in
-      ap (flat (λ d. map (placeOf p d (zoneOn g d)) (below C))) below-none ∙ flat-none (λ d. map (placeOf p d (zoneOn g d)) (below C))
+      ap (flat (λ d. map (placeOf p d g) (below C))) below-none ∙ flat-none (λ d. map (placeOf p d g) (below C))
       ∙ sym (ap (λ (x : ℕ). keep f (below x)) e ∙ ap (keep f) below-none ∙ keep-none f)
   segment-drives g (suc n) h =
-      let F : ℕ → List ℕ = λ d. map (placeOf p d (zoneOn g d)) (below C) in
+      let F : ℕ → List ℕ = λ d. map (placeOf p d g) (below C) in
       let f : ℕ → Bool = λ q. eqb (placeZone p q) g in
       let e : suc n * p .Z * C ≡ n * p .Z * C + p .Z * C = ap (λ (x : ℕ). x * C) (suc-mul n (p .Z)) ∙ add-mul (n * p .Z) (p .Z) C in
       ap (λ (x : ℕ). flat F (below x)) (sym (add-one n)) ∙ flat-below-snoc F n
@@ -195,9 +196,9 @@ module _ (p : Params) (r : Ranged p) where
       ∙ sym (ap (λ (x : ℕ). keep f (below x)) e ∙ ap (keep f) (below-split (n * p .Z * C) (p .Z * C)) ∙ keep-append f (below (n * p .Z * C)) (upFrom (n * p .Z * C) (p .Z * C)))
 
   -- 01, Reclaim: the places of a segment
-  pub segment-places : (g : ℕ) → g < p .Z → segmentPlaces p g ≡ keep (λ q. eqb (placeZone p q) g) (below (p .N * p .Z * C))
+  pub segment-places : (g : ℕ) → g < p .Z → segmentPlaces p (seg g) ≡ keep (λ q. eqb (placeZone p q) g) (below (p .N * p .Z * C))
   unfolding segmentPlaces drivesOf
-  segment-places g h = segment-drives g (p .N) h
+  segment-places g h = (λ j. flat (λ d. map (placeOf p d (zone-number g d j)) (below C)) (below (p .N))) ∙ segment-drives g (p .N) h
 
 -- ---- the table's places
 
@@ -216,7 +217,7 @@ member-places p tb q h =
     go k (no! e) = ap (λ (x : Bool). not (eqb k neverPlace) && x) e ∙ and-false (not (eqb k neverPlace)) ∙ sym e
 
 -- 01, Reclaim: a segment's live blocks, in rising order of place
-pub live-all : (p : Params) → Ranged p → (tb : List ℕ) (g : ℕ) → g < p .Z → liveIn p (placesIn p tb) g ≡ liveBelow p tb g (p .N * p .Z * capacity p)
+pub live-all : (p : Params) → Ranged p → (tb : List ℕ) (g : ℕ) → g < p .Z → liveIn p (placesIn p tb) (seg g) ≡ liveBelow p tb g (p .N * p .Z * capacity p)
 unfolding liveIn liveBelow isLiveIn
 live-all p r tb g h =
     let all! = p .N * p .Z * capacity p in

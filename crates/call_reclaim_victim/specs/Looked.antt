@@ -3,8 +3,8 @@ use Prim.Native.Nat.{ℕ, _*_, _≤_, _<_}
 use Rattle.call_reclaim_live.specs.Fewest.{takenAs, taken-none, taken-some}
 use Rattle.call_reclaim_live.specs.Live.{liveBelow, live-all, places-high}
 use Rattle.spec.specs.Counts.{neverPlace}
-use Rattle.spec.specs.Drives.{View, segmentNumbers, sealedIn}
-use Rattle.spec.specs.Lists.{Opt, any, below, keep, isNil, firstOr}
+use Rattle.spec.specs.Drives.{View, Seg, seg, allSegs, placeSegment, sealedIn}
+use Rattle.spec.specs.Lists.{Opt, all, any, keep, isNil, firstOr}
 use Rattle.spec.specs.Lists.Opt.{none, some}
 use Rattle.spec.specs.Params.{capacity, placeZone}
 use Rattle.spec.specs.Reclaim.{placesIn, flying, Victim, victimOf, fewest, victim, isNone, victimSegment, victimLive, idle}
@@ -12,23 +12,24 @@ use Rattle.spec.specs.declared.Params.{Params}
 use Rattle.spec.specs.declared.State.{State}
 use Rattle.law_basic.specs.Geometry.{Ranged}
 use Rattle.call_reclaim_victim.specs.Outside.{isOutside}
-use Rattle.call_reclaim_victim.specs.Waiting.{isOdd, IdleBelow, nil-first, waiting-nil, waiting-found}
+use Rattle.call_reclaim_victim.specs.Waiting.{isOdd, IdleBelow, nil-first, waiting-nil, waiting-found, live-zones}
 use Rattle.call_reclaim_victim.specs.declared.Chosen.{Chosen}
 use Rattle.call_reclaim_victim.specs.declared.Idle.{Idle}
 use borrow.Author.Tests.{le-leb, lt-leb, eq-eqb}
 use lib.Dec.{leb, eqb}
 use lib.ListN.{length, replicate, length-replicate}
-use mathlib.Core.Bool.{Bool, false, not}
+use mathlib.Core.Bool.{Bool, true, false, not}
 use mathlib.Core.List.{List, map}
 use mathlib.Core.Path.{_≡_, sym, ap, _∙_, subst}
 use native.Mathlib.Omega.{arith}
 use Rattle.law_basic.specs.Ranges.{pass-none}
+use Rattle.law_basic.specs.Segs.{place-number}
 
 -- what r says of the segment that reclaim takes, with the drives v, the address table tb and the state st
 pub record Looked (p : Params) (v : View) (tb : List ℕ) (st : State) (r : Chosen) : Type 0 where
   -- no segment is sealed just if the number is not below Z
   pub nobody : isNone (victim p v tb) ≡ leb (p .Z) (r .segment)
-  pub segment : r .segment < p .Z → victimSegment (victim p v tb) ≡ r .segment
+  pub segment : r .segment < p .Z → victimSegment (victim p v tb) ≡ seg (r .segment)
   -- how many live blocks it has; 0 where there is no such segment
   pub live : length (victimLive (victim p v tb)) ≡ r .live
   -- the first that is not in flight, or never written if there is none
@@ -37,9 +38,11 @@ pub record Looked (p : Params) (v : View) (tb : List ℕ) (st : State) (r : Chos
   pub none-idle : isNil (idle p v st (victim p v tb)) ≡ eqb (r .first .0) neverPlace
   -- some live block is no data block
   pub odd : any (isOdd p) (victimLive (victim p v tb)) ≡ r .odd
+  -- its live blocks lie in zones of its number
+  pub zoned : r .segment < p .Z → all (λ q. eqb (placeZone p q) (r .segment)) (victimLive (victim p v tb)) ≡ true
   -- the first one not in flight, where there is one, is a block of the image in that segment
   pub found : (r .first .0 ≡ neverPlace → ⊥)
-      → (r .segment < p .Z) × (r .first .0 < p .N * p .Z * capacity p) × (placeZone p (r .first .0) ≡ r .segment)
+      → (r .segment < p .Z) × (r .first .0 < p .N * p .Z * capacity p) × (placeSegment p (r .first .0) ≡ seg (r .segment))
       × (r .odd ≡ false → isOdd p (r .first .0) ≡ false)
   -- some place of the table lies outside the image; not looked at where no segment is sealed
   pub outside : r .segment < p .Z → r .outside ≡ isOutside p tb
@@ -59,6 +62,7 @@ module _ (p : Params) (v : View) (tb : List ℕ) (st : State) (g : ℕ) (taken :
         first = ap (λ (x : Opt Victim). firstOr neverPlace (idle p v st x)) w ∙ sym ef;
         none-idle = ap (λ (x : Opt Victim). isNil (idle p v st x)) w ∙ sym (eq-eqb (r .first .0) neverPlace ef);
         odd = ap (λ (x : Opt Victim). any (isOdd p) (victimLive x)) w ∙ sym eo;
+        zoned = λ l. absurd (let q : ⊥ = omega (arith, es, l) in q);
         found = λ n. absurd (n ef);
         outside = λ l. absurd (let q : ⊥ = omega (arith, es, l) in q);
       }
@@ -67,7 +71,7 @@ module _ (p : Params) (v : View) (tb : List ℕ) (st : State) (g : ℕ) (taken :
     abbrev all! : ℕ
     all! = p .N * p .Z * capacity p
 
-    is-some : victim p v tb ≡ some (victimOf p (placesIn p tb) g)
+    is-some : victim p v tb ≡ some (victimOf p (placesIn p tb) (seg g))
     is-some = taken ∙ taken-some p tb g h
 
     its-live : victimLive (victim p v tb) ≡ liveBelow p tb g all!
@@ -88,17 +92,18 @@ module _ (p : Params) (v : View) (tb : List ℕ) (st : State) (g : ℕ) (taken :
         let e : firstOr neverPlace (keep f l) ≡ r .first .0 = sym (wait .first) ∙ sym ef in
         record {
           nobody = ap isNone is-some ∙ sym (lt-leb (p .Z) (r .segment) (omega (arith, es, h)));
-          segment = λ _. ap victimSegment is-some ∙ sym es;
+          segment = λ _. ap victimSegment is-some ∙ ap seg (sym es);
           live = ap length its-live ∙ so ∙ sym el;
           first = ap (firstOr neverPlace) its-idle ∙ e;
           none-idle = ap isNil its-idle ∙ nil-first (keep f l) (waiting-nil p v st tb g all! (omega (arith, places-high p rg))) ∙ ap (λ (x : ℕ). eqb x neverPlace) e;
           odd = ap (any (isOdd p)) its-live ∙ sym (wait .odd) ∙ sym eo;
+          zoned = λ _. (λ j. all (λ q. eqb (placeZone p q) (es j)) (its-live j)) ∙ live-zones p tb g all!;
           found = λ m.
               let t = waiting-found p v st tb g all! (λ c. m (sym e ∙ c)) in
               let z : placeZone p (r .first .0) ≡ g = ap (placeZone p) (sym e) ∙ t .1 in (
                 omega (arith, es, h),
                 subst (λ (x : ℕ). x < all!) e (t .0),
-                z ∙ sym es,
+                place-number p (r .first .0) ∙ ap seg (z ∙ sym es),
                 λ o. subst (λ (x : ℕ). isOdd p x ≡ false) e (t .2 (sym (wait .odd) ∙ sym eo ∙ o)),
               );
           outside = λ _. ex;
@@ -107,9 +112,9 @@ module _ (p : Params) (v : View) (tb : List ℕ) (st : State) (g : ℕ) (taken :
 -- ---- no segment is sealed
 
 -- then none is taken, whatever the table holds
-pub victim-unsealed : (p : Params) (v : View) (tb : List ℕ) → any (sealedIn p v 0) (below (p .Z)) ≡ false → victim p v tb ≡ takenAs p tb (p .Z)
-unfolding victim fewest segmentNumbers
-victim-unsealed p v tb h = ap (λ (l : List ℕ). fewest none (map (victimOf p (placesIn p tb)) l)) (pass-none (sealedIn p v 0) (below (p .Z)) h) ∙ sym (taken-none p tb (p .Z) (omega arith))
+pub victim-unsealed : (p : Params) (v : View) (tb : List ℕ) → any (sealedIn p v 0) (allSegs p) ≡ false → victim p v tb ≡ takenAs p tb (p .Z)
+unfolding victim fewest
+victim-unsealed p v tb h = ap (λ (l : List Seg). fewest none (map (victimOf p (placesIn p tb)) l)) (pass-none (sealedIn p v 0) (allSegs p) h) ∙ sym (taken-none p tb (p .Z) (omega arith))
 
 -- ---- clear marks, however many
 

@@ -4,7 +4,7 @@ use Rattle.call_reclaim_live.specs.Live.{isLiveIn, liveBelow, keep-nobody, keep
 use Rattle.spec.specs.Counts.{neverPlace}
 use Rattle.spec.specs.Drives.{View, placeSegment, recordAt}
 use Rattle.spec.specs.Layout.{Rec}
-use Rattle.spec.specs.Lists.{upFrom, below, any, consIf, keep, isNil, firstOr}
+use Rattle.spec.specs.Lists.{upFrom, below, all, any, consIf, keep, isNil, firstOr}
 use Rattle.spec.specs.Memory.{holds}
 use Rattle.spec.specs.Params.{between, placeBlock, placeZone, placeDrive}
 use Rattle.spec.specs.Reclaim.{flying}
@@ -196,6 +196,21 @@ odd-high p q h = ap (λ (x : Bool). not (x && leb (placeBlock p q) (p .S))) (le-
     go (yes l) = ap not (lt-leb (placeBlock p q) (p .S) l) ∙ sym (lt-ltb (p .S) (placeBlock p q) l)
     go (no l) = ap not (le-leb (placeBlock p q) (p .S) (omega arith)) ∙ sym (le-ltb (p .S) (placeBlock p q) (omega arith))
 
+-- what passes one test passes another
+all-kept : {A : Type 0} (f t : A → Bool) (l : List A) → ((a : A) → t a ≡ true → f a ≡ true) → all f (keep t l) ≡ true
+unfolding keep consIf all
+all-kept f t [] h = refl
+all-kept {A} f t (a ∷ l) h = go (test (t a)) (all-kept f t l h)
+  where
+    go : Test (t a) → all f (keep t l) ≡ true → all f (consIf (t a) a (keep t l)) ≡ true
+    go (yes! e) r = ap (λ (b : Bool). all f (consIf b a (keep t l))) e ∙ and-both (f a) (all f (keep t l)) (h a e) r
+    go (no! e) r = ap (λ (b : Bool). all f (consIf b a (keep t l))) e ∙ r
+
+-- 01, The array: the live blocks of segment g lie in zones of that number
+pub live-zones : (p : Params) (tb : List ℕ) (g n : ℕ) → all (λ q. eqb (placeZone p q) g) (liveBelow p tb g n) ≡ true
+unfolding liveBelow isLiveIn
+live-zones p tb g n = all-kept (λ q. eqb (placeZone p q) g) (isLiveIn p tb g) (below n) (λ q. and-left (eqb (placeZone p q) g) (isPointed tb (p .L) q))
+
 -- 01, What a zone holds: blocks 1 to S hold data
 pub data-block : (p : Params) (q : ℕ) → isOdd p q ≡ false → between 1 (p .S) (placeBlock p q) ≡ true
 unfolding isOdd
@@ -206,23 +221,23 @@ unfolding isOdd
 odd-block p q e = not-true (between 1 (p .S) (placeBlock p q)) e
 
 -- 01, Reclaim: a data block, by its record
-pub flying-is : (p : Params) (v : View) (st : State) (q : ℕ) (r : Rec) → isOdd p q ≡ false → r ≡ recordAt p v 0 (placeDrive p q) (placeZone p q) (placeBlock p q - 1)
+pub flying-is : (p : Params) (v : View) (st : State) (q : ℕ) (r : Rec) → isOdd p q ≡ false → r ≡ recordAt p v 0 (placeDrive p q) (placeSegment p q) (placeBlock p q - 1)
     → holds st (r .address) (r .stamp) ≡ flying p v st q
-unfolding flying placeSegment
+unfolding flying
 flying-is p v st q r o e =
     let f : ℕ → Bool = λ b. between 1 (p .S) b in
     (λ j. holds st (e j .address) (e j .stamp))
     ∙ ap (λ (x : Bool). x
-    && holds st (recordAt p v 0 (placeDrive p q) (placeZone p q) (placeBlock p q - 1) .address)
-    (recordAt p v 0 (placeDrive p q) (placeZone p q) (placeBlock p q - 1) .stamp)) (sym (data-block p q o))
+    && holds st (recordAt p v 0 (placeDrive p q) (placeSegment p q) (placeBlock p q - 1) .address)
+    (recordAt p v 0 (placeDrive p q) (placeSegment p q) (placeBlock p q - 1) .stamp)) (sym (data-block p q o))
 
 module _ (p : Params) (v : View) (st : State) (i : Idle) (q : ℕ) where
   not-flying : isOdd p q ≡ true → flying p v st q ≡ false
-  unfolding flying placeSegment
+  unfolding flying
   not-flying o =
       ap (λ (x : Bool). x
-      && holds st (recordAt p v 0 (placeDrive p q) (placeZone p q) (placeBlock p q - 1) .address)
-      (recordAt p v 0 (placeDrive p q) (placeZone p q) (placeBlock p q - 1) .stamp)) (odd-block p q o)
+      && holds st (recordAt p v 0 (placeDrive p q) (placeSegment p q) (placeBlock p q - 1) .address)
+      (recordAt p v 0 (placeDrive p q) (placeSegment p q) (placeBlock p q - 1) .stamp)) (odd-block p q o)
 
   same-odd : isOdd p q ≡ false → i .odd ≡ (i .odd || isOdd p q)
   same-odd o = sym (ap (λ (x : Bool). i .odd || x) o ∙ or-false (i .odd))

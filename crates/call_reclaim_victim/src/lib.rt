@@ -6,8 +6,8 @@ ghost use Prim.Native.Nat.{ℕ, _+_, _-_, _*_, _≤_, _<_};
 ghost use lib.Dec.{eqb};
 ghost use lib.ListN.{length};
 ghost use Rattle.spec.specs.Counts.{neverPlace};
-ghost use Rattle.spec.specs.Drives.{viewOf, mkDisk, recordAt, sealedIn};
-ghost use Rattle.spec.specs.Lists.{consIf, any, below};
+ghost use Rattle.spec.specs.Drives.{viewOf, mkDisk, allSegs, placeSegment, recordAt, sealedIn};
+ghost use Rattle.spec.specs.Lists.{consIf, any};
 ghost use Rattle.spec.specs.Memory.{stateLen, stateOf};
 ghost use Rattle.spec.specs.Params.{inRange, capacity, imageLen, pointersLen, addressesLen, placeOf, placeBlock, placeZone, placeDrive};
 ghost use Rattle.spec.specs.Reclaim.{tableFaults, flying};
@@ -46,7 +46,7 @@ pub fn record_of(p: Params, image: &[u8], pointers: &[u8], place: Place) -> Reco
     requires { ⌜ inRange p ≡ true ⌝ }
     requires { ⌜ Whole p (mkDisk (now image) (now pointers)) ⌝ }
     requires { ⌜ (place .0 < p .N * p .Z * capacity p) × (isOdd p (place .0) ≡ false) ⌝ }
-    ensures { λ r. ⌜ recVal r ≡ recordAt p (viewOf p (now (image .entry)) (now (pointers .entry))) 0 (placeDrive p (place .0)) (placeZone p (place .0)) (placeBlock p (place .0) - 1) ⌝ }
+    ensures { λ r. ⌜ recVal r ≡ recordAt p (viewOf p (now (image .entry)) (now (pointers .entry))) 0 (placeDrive p (place .0)) (placeSegment p (place .0)) (placeBlock p (place .0) - 1) ⌝ }
 {
     let drive = disk_shape::place_drive(p, place);
     let zone = disk_shape::place_zone(p, place);
@@ -540,7 +540,7 @@ fn look_huge(p: Params, image: &[u8], pointers: &[u8], addresses: &[u8], bytes: 
 fn any_sealed(p: Params, pointers: &[u8]) -> bool
     requires { ⌜ inRange p ≡ true ⌝ }
     requires { ⌜ length (now pointers) ≡ pointersLen p ⌝ }
-    ensures { λ r. ⌜ ((im : List ℕ) → length im ≡ imageLen p → r ≡ any (sealedIn p (viewOf p im (now (pointers .entry))) 0) (below (p .Z))) ⌝ }
+    ensures { λ r. ⌜ ((im : List ℕ) → length im ≡ imageLen p → r ≡ any (sealedIn p (viewOf p im (now (pointers .entry))) 0) (allSegs p)) ⌝ }
 {
     let mut g = 0;
     while g < p.Z {

@@ -5,7 +5,7 @@ use Rattle.spec.specs.Host.{after}
 use Rattle.mem_calls.specs.declared.Check.the-variants.{Pass, Fail}
 use Rattle.spec.specs.declared.Done.{Done}
 use Rattle.spec.specs.Calls.{firstRefusal, Plan, mkPlan, decided, After, mkAfter, cutMemory, outcome}
-use Rattle.spec.specs.Drives.{View, Store, storeView, Disk, storeDisk, storeAll}
+use Rattle.spec.specs.Drives.{View, Store, storeView, Disk, storeDisk, storeAll, Seg}
 use Rattle.spec.specs.Engine.{storeCount, lentBlock, verdict, lentOk, callOn, callDisk}
 use Rattle.spec.specs.Engine.Call.{restart}
 use Rattle.spec.specs.Faults.{pointerFaults, stripeFault, storedBad}
@@ -82,9 +82,6 @@ module _ (p : Params) (k : Disk) (m : Memory) (gone n : ℕ) where
   abbrev ss : List Store
   ss = restartStores p gone (segments p (seen p k) gone)
 
-  due-stores : restartDue p (seen p k) gone gs (m .inflight) .stores ≡ ss
-  due-stores = unfold restartDue in refl
-
   pub recovered-refused : (a : Answer) → firstRefusal (restChecks p gone (segments p (seen p k) gone)) ≡ some a → mkAfter a k m [] ≡ recovered p k m gone n
   unfolding recovered
   recovered-refused a e = sym (call-refused p (storeDisk p) n k m [] (firstRefusal (restChecks p gone gs)) (restartDue p (seen p k) gone gs (m .inflight)) a e)
@@ -139,7 +136,7 @@ good-segments p v gone f = as! (in-none (recsFault p gone) (map (segmentOf p v g
     as! : any (recsFault p gone) (map (segmentOf p v gone) (remaining p v gone)) ≡ false → any (recsFault p gone) (segments p v gone) ≡ false
     as! q = unfold segments in q
 
-    bs! : (g : ℕ) → badData p gone (segmentOf p v gone g) ≡ false → any (λ d. any (storedBad p d) (recsOn (segmentOf p v gone g) d)) (present p gone) ≡ false
+    bs! : (g : Seg) → badData p gone (segmentOf p v gone g) ≡ false → any (λ d. any (storedBad p d) (recsOn (segmentOf p v gone g) d)) (present p gone) ≡ false
     bs! g q = unfold badData in q
 
 -- with a drive missing nothing is stored

@@ -3,12 +3,12 @@ use Prim.Native.Nat.{ℕ, _≤_, _<_}
 use Rattle.spec.specs.Calls.{Check, ninth, ruled, firstRefusal}
 use Rattle.spec.specs.Calls.Check.{rule, zones}
 use Rattle.spec.specs.Counts.{lastCount}
-use Rattle.spec.specs.Drives.{View, pointerAt, segmentNumbers}
+use Rattle.spec.specs.Drives.{View, pointerAt, allSegs, Seg, seg, sameSeg}
 use Rattle.spec.specs.Faults.{pointerFaults, segmentFaults, imageChecks}
 use Rattle.spec.specs.Lists.{only, below, any, keep, isNil, firstOr}
 use Rattle.spec.specs.Lists.Opt.{none, some}
 use Rattle.spec.specs.Params.{inRange, capacity, noDrive, named, present}
-use Rattle.spec.specs.Restart.{freeZones, namesDrive, rewrites, restartChecks}
+use Rattle.spec.specs.Restart.{freeSegs, namesDrive, rewrites, restartChecks}
 use Rattle.spec.specs.Segments.{Segment, segments, greatestSerial}
 use Rattle.spec.specs.declared.Answer.{Answer}
 use Rattle.spec.specs.declared.Answer.the-variants.{Refused, BadZone}
@@ -18,8 +18,10 @@ use Rattle.recover_check.specs.Mends.{names-zone, zone-le, rewrites-is}
 use Rattle.recover_check.specs.declared.Exam.{Exam}
 use Rattle.recover_headers.specs.Lowest.{low-none, low-named, low-le}
 use Rattle.law_basic.specs.Ranges.{and-both}
+use Rattle.law_basic.specs.Segs.{Named, named-lt}
 use Rattle.law_calls.specs.Refusals.{none-left, rule-fails, rule-passes, zones-pass, rule-free, zones-free}
-use Rattle.law_drives.specs.Members.{In, keep-in, below-in}
+use Rattle.law_drives.specs.Members.{In, keep-in}
+use Rattle.law_drives.specs.Segs.{segs-in}
 use Rattle.law_drives.specs.Tests.{and-false-right, or-first, or-right}
 use borrow.Author.Tests.{lt-ltb, le-ltb, eq-eqb, ne-eqb, not-false}
 use lib.Dec.{ltb, eqb}
@@ -36,7 +38,7 @@ frontChecks p long v d = rule 1 (not (inRange p) || not (namesDrive p d)) ∷ ru
 -- 01, Refusals: what of 9 is left, then 6 and 8
 unfoldable pub restChecks : Params → ℕ → List Segment → List Check
 restChecks p gone gs =
-    zones (segmentFaults p gone gs) ∷ rule 6 (rewrites p gone gs && eqb (greatestSerial gs) lastCount) ∷ rule 8 (rewrites p gone gs && isNil (freeZones p gs)) ∷ []
+    zones (segmentFaults p gone gs) ∷ rule 6 (rewrites p gone gs && eqb (greatestSerial gs) lastCount) ∷ rule 8 (rewrites p gone gs && isNil (freeSegs p gs)) ∷ []
 
 module _ (p : Params) (long : Bool) (v : View) (d : ℕ) (gs : List Segment) where
   abbrev bad1 : Bool
@@ -48,7 +50,7 @@ module _ (p : Params) (long : Bool) (v : View) (d : ℕ) (gs : List Segment) whe
   rest! : List Check
   rest! =
       zones (cond (isNil (pointerFaults p v (named d))) (segmentFaults p (named d) gs) []) ∷ rule 6
-      (rewrites p (named d) gs && eqb (greatestSerial gs) lastCount) ∷ rule 8 (rewrites p (named d) gs && isNil (freeZones p gs)) ∷ []
+      (rewrites p (named d) gs && eqb (greatestSerial gs) lastCount) ∷ rule 8 (rewrites p (named d) gs && isNil (freeSegs p gs)) ∷ []
 
   all-are : restartChecks p long v d gs ≡ rule 1 bad1 ∷ rule 2 (not long) ∷ zones ps ∷ rest!
   unfolding restartChecks imageChecks rest!
@@ -104,14 +106,14 @@ module _ (p : Params) (long : Bool) (v : View) (d : ℕ) (gs : List Segment) whe
       left q =
           unfold rest! restChecks in ap (λ (zs : List ℕ). firstRefusal
           (zones (cond (isNil zs) (segmentFaults p (named d) gs) []) ∷ rule 6 (rewrites p (named d) gs && eqb (greatestSerial gs) lastCount) ∷
-          rule 8 (rewrites p (named d) gs && isNil (freeZones p gs)) ∷ [])) q
+          rule 8 (rewrites p (named d) gs && isNil (freeSegs p gs)) ∷ [])) q
           ∙ nil!
         where
           nil! :
               firstRefusal (zones (cond (isNil {A = ℕ} []) (segmentFaults p (named d) gs) []) ∷ rule 6
-              (rewrites p (named d) gs && eqb (greatestSerial gs) lastCount) ∷ rule 8 (rewrites p (named d) gs && isNil (freeZones p gs)) ∷ [])
+              (rewrites p (named d) gs && eqb (greatestSerial gs) lastCount) ∷ rule 8 (rewrites p (named d) gs && isNil (freeSegs p gs)) ∷ [])
               ≡ firstRefusal (zones (segmentFaults p (named d) gs) ∷ rule 6 (rewrites p (named d) gs && eqb (greatestSerial gs) lastCount) ∷ rule 8
-              (rewrites p (named d) gs && isNil (freeZones p gs)) ∷ [])
+              (rewrites p (named d) gs && isNil (freeSegs p gs)) ∷ [])
           nil! = unfold isNil in refl
 
 -- ---- the front checks, in order
@@ -162,7 +164,7 @@ pub segments-fail :
 unfolding restChecks
 segments-fail p v gone e x h =
     let gs = segments p v gone in
-    sym (names-zone p v gone e (rule 6 (rewrites p gone gs && eqb (greatestSerial gs) lastCount) ∷ rule 8 (rewrites p gone gs && isNil (freeZones p gs)) ∷ []) x h)
+    sym (names-zone p v gone e (rule 6 (rewrites p gone gs && eqb (greatestSerial gs) lastCount) ∷ rule 8 (rewrites p gone gs && isNil (freeSegs p gs)) ∷ []) x h)
 
 -- no zone below Z: none is bad
 pub zone-none : (p : Params) (v : View) (gone : ℕ) (e : Exam) → Examined p gone (segments p v gone) e → p .Z ≤ e .zone → e .zone ≡ p .Z
@@ -180,7 +182,7 @@ module _ (p : Params) (gone : ℕ) (gs : List Segment) where
   six = rewrites p gone gs && eqb (greatestSerial gs) lastCount
 
   abbrev eight : Bool
-  eight = rewrites p gone gs && isNil (freeZones p gs)
+  eight = rewrites p gone gs && isNil (freeSegs p gs)
 
   module _ (ok : segmentFaults p gone gs ≡ []) where
     restart-rest-passed : firstRefusal (restChecks p gone gs) ≡ firstRefusal (rule 6 six ∷ rule 8 eight ∷ [])
@@ -190,7 +192,7 @@ module _ (p : Params) (gone : ℕ) (gs : List Segment) where
     -- nothing is rewritten
     pub plain-pass : rewrites p gone gs ≡ false → none ≡ firstRefusal (restChecks p gone gs)
     plain-pass q = sym (restart-rest-passed ∙ rule-passes 6 six (rule 8 eight ∷ []) (ap (λ (b : Bool). b && eqb (greatestSerial gs) lastCount) q)
-        ∙ rule-passes 8 eight [] (ap (λ (b : Bool). b && isNil (freeZones p gs)) q) ∙ none-left)
+        ∙ rule-passes 8 eight [] (ap (λ (b : Bool). b && isNil (freeSegs p gs)) q) ∙ none-left)
 
     module _ (q : rewrites p gone gs ≡ true) where
       pub restart-serial-fails : greatestSerial gs ≡ lastCount → some (Refused 6) ≡ firstRefusal (restChecks p gone gs)
@@ -201,49 +203,51 @@ module _ (p : Params) (gone : ℕ) (gs : List Segment) where
         fine6 : six ≡ false
         fine6 = and-false-right (rewrites p gone gs) (eqb (greatestSerial gs) lastCount) (ne-eqb (greatestSerial gs) lastCount h)
 
-        pub restart-zones-fail : p .Z ≤ firstOr (p .Z) (freeZones p gs) → some (Refused 8) ≡ firstRefusal (restChecks p gone gs)
-        restart-zones-fail l =
+        pub restart-zones-fail : (z : ℕ) → seg z ≡ firstOr (seg (p .Z)) (freeSegs p gs) → p .Z ≤ z → some (Refused 8) ≡ firstRefusal (restChecks p gone gs)
+        restart-zones-fail z e high =
             sym (restart-rest-passed
             ∙ rule-passes 6 six (rule 8 eight ∷ []) fine6
             ∙ rule-fails 8 eight []
-            (and-both (rewrites p gone gs) (isNil (freeZones p gs)) q (empty (freeZones p gs) (λ z m. free-low p gs z m) l)))
+            (and-both (rewrites p gone gs) (isNil (freeSegs p gs)) q (empty (freeSegs p gs) (λ g m. free-named g m) e)))
           where
-            empty : (l : List ℕ) → ((z : ℕ) → In z l → z < p .Z) → p .Z ≤ firstOr (p .Z) l → isNil l ≡ true
-            empty [] f h = unfold isNil in refl
-            empty (z ∷ l) f h = absurd (as! h (f z (inl refl)))
+            empty : (l : List Seg) → ((g : Seg) → In g l → Named p g) → seg z ≡ firstOr (seg (p .Z)) l → isNil l ≡ true
+            empty [] f e = unfold isNil in refl
+            empty (g ∷ l) f e = absurd (
+                let low : z < p .Z = named-lt p (seg z) (subst (λ (y : Seg). Named p y) (sym (as! e)) (f g (inl refl))) in
+                let bad : ⊥ = omega (arith, low, high) in bad)
               where
-                as! : p .Z ≤ firstOr (p .Z) (z ∷ l) → z < p .Z → ⊥
-                as! h g = unfold firstOr in omega arith
+                as! : seg z ≡ firstOr (seg (p .Z)) (g ∷ l) → seg z ≡ g
+                as! e = unfold firstOr in e
 
-            free-low : (p : Params) (gs : List Segment) (z : ℕ) → In z (freeZones p gs) → z < p .Z
-            free-low p gs z m = as! m
+            free-named : (g : Seg) → In g (freeSegs p gs) → Named p g
+            free-named g m = as! m
               where
-                as! : In z (freeZones p gs) → z < p .Z
-                as! m = unfold freeZones segmentNumbers in below-in (p .Z) z (keep-in (λ z. not (any (λ (g : Segment). eqb (g .seg) z) gs)) (below (p .Z)) z m .0)
+                as! : In g (freeSegs p gs) → Named p g
+                as! m = unfold freeSegs in segs-in p g (keep-in (λ h. not (any (λ (x : Segment). sameSeg (x .seg) h) gs)) (allSegs p) g m .0)
 
-        pub restart-zones-suffice : firstOr (p .Z) (freeZones p gs) < p .Z → none ≡ firstRefusal (restChecks p gone gs)
-        restart-zones-suffice l =
+        pub restart-zones-suffice : (z : ℕ) → seg z ≡ firstOr (seg (p .Z)) (freeSegs p gs) → z < p .Z → none ≡ firstRefusal (restChecks p gone gs)
+        restart-zones-suffice z e l =
             sym (restart-rest-passed ∙ rule-passes 6 six (rule 8 eight ∷ []) fine6
-            ∙ rule-passes 8 eight [] (and-false-right (rewrites p gone gs) (isNil (freeZones p gs)) (some! (freeZones p gs) l)) ∙ none-left)
+            ∙ rule-passes 8 eight [] (and-false-right (rewrites p gone gs) (isNil (freeSegs p gs)) (some! (freeSegs p gs) e)) ∙ none-left)
           where
-            some! : (l : List ℕ) → firstOr (p .Z) l < p .Z → isNil l ≡ false
-            some! [] h = absurd (as! h)
+            some! : (l : List Seg) → seg z ≡ firstOr (seg (p .Z)) l → isNil l ≡ false
+            some! [] e = absurd (let last : z ≡ p .Z = ap (λ (y : Seg). y .name) (as! e) in let bad : ⊥ = omega arith in bad)
               where
-                as! : firstOr (p .Z) [] < p .Z → ⊥
-                as! h = unfold firstOr in omega arith
-            some! (z ∷ l) h = unfold isNil in refl
+                as! : seg z ≡ firstOr (seg (p .Z)) [] → seg z ≡ seg (p .Z)
+                as! e = unfold firstOr in e
+            some! (g ∷ l) e = unfold isNil in refl
 
 -- where none of them holds
 pub record Rested (p : Params) (gone : ℕ) (gs : List Segment) : Type 0 where
   pub segments-ok : segmentFaults p gone gs ≡ []
   pub sixth : rewrites p gone gs && eqb (greatestSerial gs) lastCount ≡ false
-  pub eighth : rewrites p gone gs && isNil (freeZones p gs) ≡ false
+  pub eighth : rewrites p gone gs && isNil (freeSegs p gs) ≡ false
 
 pub rested : (p : Params) (gone : ℕ) (gs : List Segment) → firstRefusal (restChecks p gone gs) ≡ none → Rested p gone gs
 unfolding restChecks
 rested p gone gs e =
     let c6 = rewrites p gone gs && eqb (greatestSerial gs) lastCount in
-    let c8 = rewrites p gone gs && isNil (freeZones p gs) in
+    let c8 = rewrites p gone gs && isNil (freeSegs p gs) in
     let f₉ = zones-free (segmentFaults p gone gs) (rule 6 c6 ∷ rule 8 c8 ∷ []) e in
     let f₆ = rule-free 6 c6 (rule 8 c8 ∷ []) (f₉ .1) in
     let f₈ = rule-free 8 c8 [] (f₆ .1) in

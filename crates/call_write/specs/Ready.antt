@@ -2,7 +2,7 @@
 use Prim.Native.Nat.{ℕ, suc, _≤_, _<_}
 use Rattle.spec.specs.Calls.{firstRefusal}
 use Rattle.spec.specs.Counts.{lastCount, aStamp}
-use Rattle.spec.specs.Drives.{View, Disk, emptyZones}
+use Rattle.spec.specs.Drives.{View, Disk, emptySegs}
 use Rattle.spec.specs.Engine.{lentOk}
 use Rattle.spec.specs.Lists.{Opt}
 use Rattle.spec.specs.Lists.Opt.{none}
@@ -25,7 +25,7 @@ use Rattle.law_views.specs.Views.{Whole, seen}
 use borrow.Author.Tests.{leb-false, eqb-true, eqb-false, eq-eqb}
 use lib.Dec.{eqb}
 use lib.ListN.{length}
-use mathlib.Core.Bool.{Bool, true, false, cond, not, _&&_}
+use mathlib.Core.Bool.{Bool, true, false, cond, _&&_}
 use mathlib.Core.List.{List}
 use mathlib.Core.Path.{_≡_}
 use native.Mathlib.Omega.{arith}
@@ -44,7 +44,7 @@ pub record WriteReady (p : Params) (k : Disk) (m : Memory) (b : List ℕ) : Type
   pub stamp-left : m .state .stamp .0 ≡ lastCount → ⊥
   pub serial-left : opens p (m .state) ≡ true → m .state .serial .0 ≡ lastCount → ⊥
   pub waits : mustWait p (m .state) ≡ false
-  pub empties : 0 < length (emptyZones p (seen p k))
+  pub empties : 0 < length (emptySegs p (seen p k))
   pub next-high : m .state .next ≤ p .S
 
 -- the five lengths
@@ -69,9 +69,9 @@ lent-long p k m h =
     )
 
 -- 01, Refusals, 8: not scarce
-zones-enough : (p : Params) (v : View) (n : ℕ) → 0 < n → scarce p v n ≡ false → 0 < length (emptyZones p v)
+zones-enough : (p : Params) (v : View) (n : ℕ) → 0 < n → scarce p v n ≡ false → 0 < length (emptySegs p v)
 unfolding scarce
-zones-enough p v n g h = omega (arith, leb-false (length (emptyZones p v)) n h)
+zones-enough p v n g h = omega (arith, leb-false (length (emptySegs p v)) n h)
 
 reserve-low : (b : Bool) → 0 < cond {A = ℕ} b 2 1
 reserve-low true = omega arith

@@ -1,5 +1,5 @@
 -- The two folds, one more at a time: the exclusive or of the first n without those that a mask leaves out (01, What a zone holds). Assumes nothing.
-use mathlib.Core.Path.{_≡_, refl, sym, ap, _∙_}
+use mathlib.Core.Path.{_≡_, refl, ap, _∙_}
 use mathlib.Core.List.{List, [], _∷_, _++_, map, append-nil}
 use mathlib.Core.Bool.{Bool, true, false, cond, not}
 use Prim.Native.Nat.{ℕ, _+_, _≤_, _<_}
@@ -9,10 +9,9 @@ use lib.ListN.{length, getD, replicate}
 use lib.Bits.{bitXor}
 use Rattle.spec.specs.Bytes.{part, xors, parity, xorAll}
 use Rattle.spec.specs.Lists.{upFrom, below, consIf, keep, isIn}
-use Rattle.law_basic.specs.Each.{Each, each-map, each-below, each-keep}
+use Rattle.law_basic.specs.Each.{each-map, each-below, each-keep}
 use Rattle.law_basic.specs.Mask.{isIn-empty}
-use Rattle.law_basic.specs.Ranges.{Test, test, map-append, keep-below-snoc, keep-hit}
-use Rattle.law_basic.specs.Ranges.Test.{yes!, no! }
+use Rattle.law_basic.specs.Ranges.{map-append, keep-below-snoc}
 use Rattle.law_basic.specs.Splice.{length-part}
 use Rattle.law_basic.specs.Xor.{AllLong, parity-snoc, xorAll-snoc}
 

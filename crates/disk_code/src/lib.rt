@@ -1,14 +1,14 @@
 // The code of a stripe: its parities from its data, and what is lost of it from what is there (01, What a zone holds; Write; Read; Restart; Rebuild). What two parities
 // change (02, item 5) is here, in its definitions (spec, Parity) and in its laws (law_code).
 ghost use mathlib.Core.Path.{_≡_};
-ghost use mathlib.Core.Bool.{true, false, cond, not};
-ghost use mathlib.Core.List.{List, map};
-ghost use Prim.Native.Nat.{ℕ, _+_, _≤_, _<_};
+ghost use mathlib.Core.Bool.{true, false, cond};
+ghost use mathlib.Core.List.{map};
+ghost use Prim.Native.Nat.{_+_, _≤_, _<_};
 ghost use lib.Bits.{bitXor};
 ghost use lib.ListN.{length, getD};
 ghost use Rattle.spec.specs.Bytes.{part, xors, parity, xorAll};
 ghost use Rattle.spec.specs.Layout.{mkRec, parityDrive, dataDrive};
-ghost use Rattle.spec.specs.Lists.{below, keep, isIn};
+ghost use Rattle.spec.specs.Lists.{below, isIn};
 ghost use Rattle.spec.specs.Memory.{slotByte, setSlotParity};
 ghost use Rattle.spec.specs.Params.{inRange, dataCount, inflightLen};
 ghost use Rattle.spec.specs.Parity.{encodeBlock, encodeRec, decodeBlock, decodeRec};

@@ -1,8 +1,8 @@
 -- Footer blocks and the spares that they are made from, by bytes (01, What a zone holds). Assumes nothing.
 use mathlib.Core.Path.{_≡_, refl, sym, ap, ap₂, _∙_, subst}
 use mathlib.Core.List.{List, [], _++_, map}
-use Prim.Native.Nat.{ℕ, zero, suc, _+_, _-_, _*_, _/_, _%_, min, _≤_, _<_}
-use native.Mathlib.Nat.{mod-lt, add-zero, zero-add, add-suc, mul-comm, suc-mul, zero-mul, mul-le-mul-right, le-trans, le-of-eq, sub-zero, zero-sub, suc-sub-suc, div-add-mod', le-div-iff-mul-le}
+use Prim.Native.Nat.{ℕ, zero, suc, _+_, _-_, _*_, min, _≤_, _<_}
+use native.Mathlib.Nat.{zero-add, add-suc, mul-comm, suc-mul, zero-mul, mul-le-mul-right, le-trans, sub-zero, zero-sub, suc-sub-suc, le-div-iff-mul-le}
 use native.Mathlib.Decide.{decLt, decLe}
 use native.Mathlib.Omega.{arith}
 use lib.ListN.{length, getD, take, drop, replicate, length-append, length-take, length-drop, length-replicate, length-map}
@@ -10,12 +10,12 @@ use lib.Seq.{getD-take, getD-drop, ext-getD, take-suc, take-all}
 use Rattle.spec.specs.declared.Params.{Params}
 use Rattle.spec.specs.Bytes.{part, splice}
 use Rattle.spec.specs.Drives.{Chunk, noChunk, zoneAt, chunkAt, viewOf, mkDisk, sparesOf}
-use Rattle.spec.specs.Layout.{recordOf, footerBlock, footerRecord}
+use Rattle.spec.specs.Layout.{footerBlock}
 use Rattle.spec.specs.Lists.{below, flat, padTo}
 use Rattle.spec.specs.Params.{spareLen, perFooter, footers, capacity, unitLen, imageLen, pointersLen, placeOf, placeByte}
-use Rattle.law_basic.specs.Geometry.{item-fits, Ranged, block-within, per-footer-low, per-footer-fits, data-below, footer-of}
+use Rattle.law_basic.specs.Geometry.{item-fits, Ranged, block-within, per-footer-low, per-footer-fits, data-below}
 use Rattle.law_basic.specs.Ranges.{length-below, map-below-same, getD-map, getD-map-below, flat-snoc}
-use Rattle.law_basic.specs.Splice.{length-part, part-all, part-append-left, part-append-right, splice-zero, splice-next, length-splice, part-splice-in, part-splice-below, part-splice-above}
+use Rattle.law_basic.specs.Splice.{length-part, splice-zero, splice-next, length-splice, part-splice-below, part-splice-above}
 use Rattle.law_views.specs.Views.{Whole, blocks-long, spare-view}
 use native.Mathlib.Numerals.{add-one}
 
@@ -211,55 +211,3 @@ module _ (p : Params) (r : Ranged p) where
         f ∙ ap₂ (λ (x : List ℕ) (y : ℕ). splice x y s) e a
         ∙ splice-next z 0 t s (omega (arith, n, ls, lz, w, suc-mul j spareLen))
         ∙ ap (splice z 0) (ap (λ (x : List ℕ). t ++ x) q ∙ sym (records-more i j h) ∙ ap (recordsOf p ss i) (sym (add-one j)))
-
-    records-part : (i j k : ℕ) → j < k → i * perFooter p + k ≤ p .S → part (j * spareLen) spareLen (recordsOf p ss i k) ≡ getD ss (i * perFooter p + j) []
-    records-part i j zero h g = absurd (let q : ⊥ = omega arith in q)
-    records-part i j (suc k) h g = go (decLt j k) (records-part i j k)
-      where
-        t : List ℕ
-        t = recordsOf p ss i k
-
-        s : List ℕ
-        s = getD ss (i * perFooter p + k) []
-
-        tl : length t ≡ k * spareLen
-        tl = records-long i k (omega arith)
-
-        more : recordsOf p ss i (suc k) ≡ t ++ s
-        more = records-more i k (omega arith)
-
-        go : Dec (j < k) → (j < k → i * perFooter p + k ≤ p .S → part (j * spareLen) spareLen t ≡ getD ss (i * perFooter p + j) [])
-            → part (j * spareLen) spareLen (recordsOf p ss i (suc k)) ≡ getD ss (i * perFooter p + j) []
-        go (yes l) ih =
-            ap (part (j * spareLen) spareLen) more ∙ part-append-left (j * spareLen) spareLen t s (omega (arith, tl, item-fits j k spareLen l)) ∙ ih l (omega arith)
-        go (no l) ih =
-            let e : j ≡ k = omega arith in
-            let a : j * spareLen ≡ length t + 0 = ap (λ (x : ℕ). x * spareLen) e ∙ sym (add-zero (length t) ∙ tl) in
-            ap₂ (λ (x : ℕ) (y : List ℕ). part x spareLen y) a more ∙ part-append-right 0 spareLen t s
-            ∙ part-all spareLen s (le-of-eq (long (i * perFooter p + k) (omega arith))) ∙ ap (λ (x : ℕ). getD ss (i * perFooter p + x) []) (sym e)
-
-    -- 01, What a zone holds: the footer repeats the records in order
-    pub footer-part : (o : ℕ) → o < p .S → part (spareLen * (o % perFooter p)) spareLen (footerBlock p ss (o / perFooter p)) ≡ getD ss o []
-    footer-part o h =
-        let k = perFooter p in
-        let i = o / k in
-        let j = o % k in
-        let m : 0 < k = omega (arith, per-footer-low p r) in
-        let e : i * k + j ≡ o = div-add-mod' o k in
-        let q : j < k = mod-lt o m in
-        let z : List ℕ = replicate (p .B) 0 in
-        let lz : length z ≡ p .B = length-replicate (p .B) 0 in
-        let f : i < footers p = footer-of p r o h in
-        let n : i * k + held i ≤ p .S = omega (arith, e, h) in
-        let l : j < held i = omega (arith, e, q, h) in
-        let ln : length (recordsOf p ss i (held i)) ≡ held i * spareLen = records-long i (held i) n in
-        let a : spareLen * j ≡ 0 + j * spareLen = mul-comm spareLen j ∙ sym (zero-add (j * spareLen)) in
-        ap₂ (λ (x : ℕ) (y : List ℕ). part x spareLen y) a (sym (footer-is i (held i) refl))
-        ∙ part-splice-in z 0 (recordsOf p ss i (held i)) (omega (arith, held-long i f, lz)) (j * spareLen) spareLen (omega (arith, ln, item-fits j (held i) spareLen l))
-        ∙ records-part i j (held i) l n ∙ ap (λ (x : ℕ). getD ss x []) e
-
-    pub footer-record : (o : ℕ) → o < p .S → footerRecord p (map (footerBlock p ss) (below (footers p))) o ≡ recordOf (getD ss o [])
-    unfolding footerRecord
-    footer-record o h =
-        ap (λ (x : List ℕ). recordOf (part (spareLen * (o % perFooter p)) spareLen x)) (getD-map-below (footerBlock p ss) (footers p) (o / perFooter p) [] (footer-of p r o h))
-        ∙ ap recordOf (footer-part o h)

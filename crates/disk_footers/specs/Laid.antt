@@ -42,14 +42,6 @@ module _ (p : Params) (d z : ℕ) (hd : d < p .N) (hz : z < p .Z) where
       → placeByte p (placeOf p d z b) + e + length s ≤ length im
   inside e b im s w h l hb hi = omega (arith, block-within p d z b hd hz hb)
 
-  pub length-laid : (e b w : ℕ) (ss : List (List ℕ)) (im : List ℕ) → e + w ≤ unitLen p → AllLong w ss → b + length ss ≤ capacity p → length im ≡ imageLen p
-      → length (laid p d z e b ss im) ≡ imageLen p
-  unfolding laid
-  length-laid e b w [] im h l c hi = hi
-  length-laid e b w (s ∷ ss) im h l c hi =
-      length-laid e (suc b) w ss (splice im (placeByte p (placeOf p d z b) + e) s) h (l .1) (omega arith)
-      (length-splice im (placeByte p (placeOf p d z b) + e) s (inside e b im s w h (l .0) (omega arith) hi) ∙ hi)
-
   -- what comes before them may as well be written first
   laid-comm : (e b w : ℕ) (ss : List (List ℕ)) (im : List ℕ) (a : ℕ) (t : List ℕ) → e + w ≤ unitLen p → AllLong w ss → b + length ss ≤ capacity p → length im ≡ imageLen p
       → a + length t ≤ placeByte p (placeOf p d z b) + e → splice (laid p d z e b ss im) a t ≡ laid p d z e b ss (splice im a t)

@@ -6,7 +6,7 @@ ghost use Rattle.spec.specs.Lists.{isMember};
 ghost use Rattle.spec.specs.Params.{between, blockSizes, inRange, parityCount, dataCount, spareLen, perFooter, footers, capacity, unitLen, imageLen, pointersLen};
 ghost use Rattle.spec.specs.Params.{addressesLen, compactLen, inflightLen, placeOf, placeBlock, placeZone, placeDrive, placeByte};
 ghost use Rattle.spec.specs.Layout.{parityDrive, dataDrive, dataPosition, isData, group, compactEntry};
-ghost use Rattle.spec.specs.Drives.{pointerByte, zoneOn};
+ghost use Rattle.spec.specs.Drives.{pointerByte, zoneOn, seg};
 ghost use Rattle.spec.specs.Memory.{compactAt, slotByte};
 use spec::Params;
 use spec::Place;
@@ -310,7 +310,7 @@ pub fn slot_byte(p: Params, slot: usize, drive: usize) -> usize
 
 // The zone of a segment on a drive.
 pub fn zone_on(segment: usize, drive: usize) -> usize
-    ensures { λ r. ⌜ r ≡ zoneOn segment drive ⌝ }
+    ensures { λ r. ⌜ r ≡ zoneOn (seg segment) drive ⌝ }
 {
     segment
 }

@@ -4,7 +4,7 @@ ghost use mathlib.Core.Bool.{true};
 ghost use mathlib.Core.List.{List};
 ghost use Prim.Native.Nat.{ℕ, _+_, _≤_, _<_};
 ghost use lib.ListN.{length};
-ghost use Rattle.spec.specs.Drives.{viewOf, mkDisk, zoneAt, dataStored, recordIn, recordAt};
+ghost use Rattle.spec.specs.Drives.{viewOf, mkDisk, zoneAt, dataStored, recordIn, recordAt, seg};
 ghost use Rattle.spec.specs.Faults.{footersStored};
 ghost use Rattle.spec.specs.Params.{inRange, spareLen, perFooter, footers, capacity, unitLen, imageLen, pointersLen, placeOf, placeByte};
 ghost use Rattle.disk_records.specs.Record.{recVal};
@@ -138,7 +138,7 @@ pub fn record_at(
     requires { ⌜ inRange p ≡ true ⌝ }
     requires { ⌜ Whole p (mkDisk (now image) (now pointers)) ⌝ }
     requires { ⌜ (drive < p .N) × (segment < p .Z) × (offset < p .S) ⌝ }
-    ensures { λ r. ⌜ recVal r ≡ recordAt p (viewOf p (now (image .entry)) (now (pointers .entry))) gone drive segment offset ⌝ }
+    ensures { λ r. ⌜ recVal r ≡ recordAt p (viewOf p (now (image .entry)) (now (pointers .entry))) gone drive (seg segment) offset ⌝ }
 {
     let full = disk_zones::is_sealed(p, pointers, gone, segment);
     let zone = disk_shape::zone_on(segment, drive);

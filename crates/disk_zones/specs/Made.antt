@@ -10,11 +10,11 @@ use lib.Dec.{ltb}
 use native.Mathlib.Nat.{add-zero, sub-zero}
 use borrow.Author.Tests.{ltb-true, ltb-false, lt-ltb, le-ltb}
 use Rattle.spec.specs.Bytes.{splice}
-use Rattle.spec.specs.Drives.{Store, Disk, mkDisk, pointerOf, setPointer, storeDisk, storeAll, zoneOn, zeroSpare, headerStores, resetStores}
+use Rattle.spec.specs.Drives.{Store, Disk, mkDisk, pointerOf, setPointer, storeDisk, storeAll, zoneOn, zeroSpare, Seg}
 use Rattle.spec.specs.Drives.Store.{put, reset}
 use Rattle.spec.specs.Layout.{headerBlock}
 use Rattle.spec.specs.Lists.{upFrom, below}
-use Rattle.spec.specs.Params.{unitLen, placeOf, placeByte, drivesOf}
+use Rattle.spec.specs.Params.{unitLen, placeOf, placeByte}
 use Rattle.spec.specs.declared.Params.{Params}
 use Rattle.law_basic.specs.Fields.{length-zeroSpare, header-block-long}
 use Rattle.law_basic.specs.Geometry.{Ranged}
@@ -158,11 +158,6 @@ module _ (p : Params) (f : ℕ → Store) (m number : ℕ) (k₀ : Disk) where
 
 -- ---- image and pointers of a store
 
-pub put-image : (p : Params) (d z : ℕ) (b s : List ℕ) (k : Disk)
-    → storeDisk p (put d z b s) k .image ≡ splice (k .image) (placeByte p (placeOf p d z (pointerOf p (k .pointers) d z))) (b ++ s)
-unfolding storeDisk
-put-image p d z b s k = refl
-
 pub put-pointers : (p : Params) (d z : ℕ) (b s : List ℕ) (k : Disk)
     → storeDisk p (put d z b s) k .pointers ≡ setPointer p (k .pointers) d z (suc (pointerOf p (k .pointers) d z))
 unfolding storeDisk
@@ -178,25 +173,13 @@ pub reset-disk : (p : Params) (d z : ℕ) (im ps ps′ : List ℕ) → ps′ ≡
 unfolding storeDisk
 reset-disk p d z im ps ps′ e = ap (mkDisk im) e
 
-pub reset-store-pointers : (p : Params) (d z : ℕ) (k : Disk) → storeDisk p (reset d z) k .pointers ≡ setPointer p (k .pointers) d z 0
-unfolding storeDisk
-reset-store-pointers p d z k = refl
-
 -- ---- the stores of a segment, drive by drive
 
-unfoldable pub headerStore : Params → ℕ → ℕ → ℕ → ℕ → Store
+unfoldable pub headerStore : Params → Seg → ℕ → ℕ → ℕ → Store
 headerStore p g serial copied d = put d (zoneOn g d) (headerBlock p d (zoneOn g d) serial copied) zeroSpare
 
-unfoldable pub resetStore : ℕ → ℕ → Store
+unfoldable pub resetStore : Seg → ℕ → Store
 resetStore g d = reset d (zoneOn g d)
-
-pub header-stores-are : (p : Params) (g serial copied : ℕ) → headerStores p g serial copied ≡ map (headerStore p g serial copied) (below (p .N))
-unfolding headerStores drivesOf headerStore
-header-stores-are p g serial copied = refl
-
-pub reset-stores-are : (p : Params) (g : ℕ) → resetStores p g ≡ map (resetStore g) (below (p .N))
-unfolding resetStores drivesOf resetStore
-reset-stores-are p g = refl
 
 -- a header with its spare fills a block's place
 pub header-unit : (p : Params) → Ranged p → (d z r c : ℕ) → length (headerBlock p d z r c ++ zeroSpare) ≡ unitLen p

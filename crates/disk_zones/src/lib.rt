@@ -2,10 +2,10 @@
 ghost use mathlib.Core.Path.{_≡_};
 ghost use mathlib.Core.Bool.{true, _||_};
 ghost use mathlib.Core.List.{List, [], _∷_};
-ghost use Prim.Native.Nat.{ℕ, _+_, _≤_, _<_, min};
+ghost use Prim.Native.Nat.{ℕ, _+_, _<_, min};
 ghost use lib.Dec.{eqb};
 ghost use lib.ListN.{length};
-ghost use Rattle.spec.specs.Drives.{viewOf, mkDisk, pointerOf, setPointer, storeDisk, zoneOn, emptyZones, sealedIn, zeroSpare, headerStores, resetStores};
+ghost use Rattle.spec.specs.Drives.{viewOf, mkDisk, pointerOf, setPointer, storeDisk, zoneOn, emptySegs, sealedIn, zeroSpare, headerStores, resetStores, seg};
 ghost use Rattle.spec.specs.Drives.Store.{put};
 ghost use Rattle.spec.specs.Layout.{headerBlock};
 ghost use Rattle.spec.specs.Lists.{firstOr, isIn};
@@ -141,8 +141,9 @@ pub fn header_stores(
 ) -> Made
     requires { ⌜ inRange p ≡ true ⌝ }
     requires { ⌜ Whole p (mkDisk (now image) (now pointers)) ⌝ }
-    requires { ⌜ (segment < p .Z) × ((d : ℕ) → d < p .N → pointerOf p (now pointers) d (zoneOn segment d) < capacity p) ⌝ }
-    ensures { λ r. ⌜ Storing p count (headerStores p segment (serial .0) (copied .0)) (mkDisk (now (image .entry)) (now (pointers .entry))) r (mkDisk (now (image .exit)) (now (pointers .exit))) ⌝ }
+    requires { ⌜ (segment < p .Z) × ((d : ℕ) → d < p .N → pointerOf p (now pointers) d (zoneOn (seg segment) d) < capacity p) ⌝ }
+    ensures { λ r. ⌜ Storing p count (headerStores p (seg segment) (serial .0) (copied .0)) (mkDisk (now (image .entry)) (now (pointers .entry))) r
+        (mkDisk (now (image .exit)) (now (pointers .exit))) ⌝ }
 {
     let mut left = count;
     let mut d = 0;
@@ -162,7 +163,7 @@ pub fn header_stores(
 pub fn reset_stores(p: Params, pointers: &mut [u8], segment: usize, count: u64) -> Made
     requires { ⌜ inRange p ≡ true ⌝ }
     requires { ⌜ (length (now pointers) ≡ pointersLen p) × (segment < p .Z) ⌝ }
-    ensures { λ r. ⌜ ((im : List ℕ) → Storing p count (resetStores p segment) (mkDisk im (now (pointers .entry))) r (mkDisk im (now (pointers .exit)))) ⌝ }
+    ensures { λ r. ⌜ ((im : List ℕ) → Storing p count (resetStores p (seg segment)) (mkDisk im (now (pointers .entry))) r (mkDisk im (now (pointers .exit)))) ⌝ }
 {
     let mut left = count;
     let mut d = 0;
@@ -182,7 +183,7 @@ pub fn reset_stores(p: Params, pointers: &mut [u8], segment: usize, count: u64) 
 pub fn is_empty(p: Params, pointers: &[u8], segment: usize) -> bool
     requires { ⌜ inRange p ≡ true ⌝ }
     requires { ⌜ (length (now pointers) ≡ pointersLen p) × (segment < p .Z) ⌝ }
-    ensures { λ r. ⌜ r ≡ emptyBy p (now (pointers .entry)) segment ⌝ }
+    ensures { λ r. ⌜ r ≡ emptyBy p (now (pointers .entry)) (seg segment) ⌝ }
 {
     let mut d = 0;
     while d < p.N {
@@ -199,7 +200,7 @@ pub fn is_empty(p: Params, pointers: &[u8], segment: usize) -> bool
 pub fn empty_zones(p: Params, pointers: &[u8], most: usize) -> usize
     requires { ⌜ inRange p ≡ true ⌝ }
     requires { ⌜ length (now pointers) ≡ pointersLen p ⌝ }
-    ensures { λ r. ⌜ ((im : List ℕ) → length im ≡ imageLen p → r ≡ min most (length (emptyZones p (viewOf p im (now (pointers .entry)))))) ⌝ }
+    ensures { λ r. ⌜ ((im : List ℕ) → length im ≡ imageLen p → r ≡ min most (length (emptySegs p (viewOf p im (now (pointers .entry)))))) ⌝ }
 {
     let mut n = 0;
     let mut z = p.Z;
@@ -219,7 +220,7 @@ pub fn empty_zones(p: Params, pointers: &[u8], most: usize) -> usize
 pub fn lowest_empty(p: Params, pointers: &[u8]) -> usize
     requires { ⌜ inRange p ≡ true ⌝ }
     requires { ⌜ length (now pointers) ≡ pointersLen p ⌝ }
-    ensures { λ r. ⌜ ((im : List ℕ) → length im ≡ imageLen p → r ≡ firstOr 0 (emptyZones p (viewOf p im (now (pointers .entry))))) ⌝ }
+    ensures { λ r. ⌜ ((im : List ℕ) → length im ≡ imageLen p → seg r ≡ firstOr (seg 0) (emptySegs p (viewOf p im (now (pointers .entry))))) ⌝ }
     ensures { λ r. ⌜ r < p .Z ⌝ }
 {
     let mut z = 0;
@@ -236,7 +237,7 @@ pub fn lowest_empty(p: Params, pointers: &[u8]) -> usize
 fn is_full(p: Params, pointers: &[u8], gone: u8, segment: usize, drive: usize) -> bool
     requires { ⌜ inRange p ≡ true ⌝ }
     requires { ⌜ (length (now pointers) ≡ pointersLen p) × (drive < p .N) × (segment < p .Z) ⌝ }
-    ensures { λ r. ⌜ r ≡ (isIn gone drive || eqb (pointerOf p (now (pointers .entry)) drive (zoneOn segment drive)) (capacity p)) ⌝ }
+    ensures { λ r. ⌜ r ≡ (isIn gone drive || eqb (pointerOf p (now (pointers .entry)) drive (zoneOn (seg segment) drive)) (capacity p)) ⌝ }
 {
     if bits_masks::has_drive(gone, drive) {
         return true;
@@ -249,7 +250,7 @@ fn is_full(p: Params, pointers: &[u8], gone: u8, segment: usize, drive: usize) -
 pub fn is_sealed(p: Params, pointers: &[u8], gone: u8, segment: usize) -> bool
     requires { ⌜ inRange p ≡ true ⌝ }
     requires { ⌜ (length (now pointers) ≡ pointersLen p) × (segment < p .Z) ⌝ }
-    ensures { λ r. ⌜ ((im : List ℕ) → length im ≡ imageLen p → r ≡ sealedIn p (viewOf p im (now (pointers .entry))) gone segment) ⌝ }
+    ensures { λ r. ⌜ ((im : List ℕ) → length im ≡ imageLen p → r ≡ sealedIn p (viewOf p im (now (pointers .entry))) gone (seg segment)) ⌝ }
 {
     let mut d = 0;
     while d < p.N {

@@ -5,7 +5,7 @@ use Prim.Native.Nat.{ℕ, zero, suc, _+_, _-_, _*_, _/_, _%_, _^_, _≤_, _<_}
 use native.Mathlib.Omega.{arith}
 use native.Mathlib.Decide.{decLt}
 use native.Mathlib.Numerals.{add-one}
-use lib.Seq.{append-snoc, getD-at}
+use lib.Seq.{getD-at}
 use lib.ListN.{length, getD, set, length-append, take-append-drop, List·getD-eq-default, List·getD-append}
 use lib.Arith.{digits-lt, digits-div, digits-mod, mod-mul}
 use lib.Dec.{lit<}
@@ -149,22 +149,6 @@ beFrom-lt n i (b ∷ bs) h f =
 pub beOf-lt : (bs : List ℕ) → ((k : ℕ) → k < length bs → getD bs k 0 < 256) → beOf bs < 256 ^ length bs
 unfolding beOf
 beOf-lt bs f = let e : 0 + length bs ≡ length bs = omega arith in rw e at (beFrom-lt 0 0 bs (lit< tt) f)
-
-pub toBe-snoc : (w n b : ℕ) → b < 256 → toBe (suc w) (n * 256 + b) ≡ toBe w n ++ (b ∷ [])
-unfolding toBe
-toBe-snoc w n b h = ap₂ (λ (x y : ℕ). toBe w x ++ (y ∷ [])) (digits-div n h) (digits-mod n h)
-
-pub toBe-beFrom : (w n : ℕ) (bs : List ℕ) → ((k : ℕ) → k < length bs → getD bs k 0 < 256) → toBe (w + length bs) (beFrom n bs) ≡ toBe w n ++ bs
-unfolding beFrom
-toBe-beFrom w n [] f = let e : w + 0 ≡ w = omega arith in rw e (sym (append-nil (toBe w n)))
-toBe-beFrom w n (b ∷ bs) f =
-    let e : w + suc (length bs) ≡ suc w + length bs = omega arith in
-    rw e (toBe-beFrom (suc w) (n * 256 + b) bs (λ k q. f (suc k) (omega arith))
-    ∙ ap (λ (x : List ℕ). x ++ bs) (toBe-snoc w n b (f 0 (omega arith))) ∙ append-snoc (toBe w n) b bs)
-
-pub toBe-beOf : (bs : List ℕ) → ((k : ℕ) → k < length bs → getD bs k 0 < 256) → toBe (length bs) (beOf bs) ≡ bs
-unfolding beOf toBe
-toBe-beOf bs f = let e : 0 + length bs ≡ length bs = omega arith in rw e at (toBe-beFrom 0 0 bs f)
 
 -- the bytes of a number are bytes
 pub toBe-byte : (w n k : ℕ) → getD (toBe w n) k 0 < 256

@@ -30,13 +30,6 @@ unfolding bytesOf widthsOf total
 length-bytesOf [] = refl
 length-bytesOf (f ∷ fs) = length-append (toBe (f .width) (f .value)) (bytesOf fs) ∙ ap₂ _+_ (length-toBe (f .width) (f .value)) (length-bytesOf fs)
 
-pub bytesOf-append : (fs gs : List Field) → bytesOf (fs ++ gs) ≡ bytesOf fs ++ bytesOf gs
-unfolding bytesOf
-bytesOf-append [] gs = refl
-bytesOf-append (f ∷ fs) gs =
-    let b = toBe (f .width) (f .value) in
-    ap (λ (x : List ℕ). b ++ x) (bytesOf-append fs gs) ∙ sym (append-assoc b (bytesOf fs) (bytesOf gs))
-
 -- all of them at once
 pub written-is : (l : List ℕ) (at k : ℕ) (fs : List Field) → at + k + total (widthsOf fs) ≤ length l → written l at k fs ≡ splice l (at + k) (bytesOf fs)
 unfolding written widthsOf total bytesOf

@@ -8,9 +8,9 @@ use lib.Arith.{digits-lt, digits-div, digits-mod, lt-of-le-ne}
 use lib.Dec.{leb, ltb, eqb}
 use native.Mathlib.Nat.{suc-mul, mul-assoc, le-of-eq, le-trans, sub-le, mul-le-mul-right, mul-le-mul, div-add-mod', div-mul-le-self, le-div-iff-mul-le}
 use native.Mathlib.Nat.{div-lt-iff-lt-mul, lt-div-mul-add, mod-lt, add-mod-right}
-use borrow.Author.Tests.{leb-true, eqb-true, eqb-false, not-true, lt-ltb, le-ltb, le-leb, eq-eqb, ne-eqb}
+use borrow.Author.Tests.{leb-true, eqb-false, not-true, lt-ltb, le-ltb, le-leb, eq-eqb, ne-eqb}
 use Rattle.spec.specs.Bytes.{widthsOf}
-use Rattle.spec.specs.Drives.{pointerByte, zoneOn}
+use Rattle.spec.specs.Drives.{pointerByte}
 use Rattle.spec.specs.Layout.{parityDrive, dataDrive, dataPosition, isData}
 use Rattle.spec.specs.Lists.{all, isMember, total}
 use Rattle.spec.specs.Memory.{compactAt, slotByte}
@@ -147,10 +147,6 @@ module _ (p : Params) (r : Ranged p) where
   unfolding capacity
   data-below b h = omega arith
 
-  pub unit-low : 64 + spareLen ≤ unitLen p
-  unfolding unitLen
-  unit-low = omega (arith, r .block-low)
-
   pub unit-high : unitLen p ≤ 4096 + spareLen
   unfolding unitLen
   unit-high = omega (arith, r .block-high)
@@ -207,10 +203,6 @@ pub parity-count-low : (p : Params) → 1 ≤ parityCount p
 unfolding parityCount
 parity-count-low p = omega arith
 
-pub parity-count-high : (p : Params) → parityCount p ≤ 2
-unfolding parityCount
-parity-count-high p = omega arith
-
 -- ---- places: they tell the drive, the zone and the block
 
 pub place-block : (p : Params) (d z b : ℕ) → b < capacity p → placeBlock p (placeOf p d z b) ≡ b
@@ -236,11 +228,6 @@ place-lt p d z b hd hz hb = digits-lt (digits-lt hd hz) hb
 
 pub zone-index-lt : (p : Params) (d z : ℕ) → d < p .N → z < p .Z → d * p .Z + z < p .N * p .Z
 zone-index-lt p d z hd hz = digits-lt hd hz
-
--- the zone of a segment on a drive
-pub zone-on-lt : (p : Params) (g d : ℕ) → g < p .Z → zoneOn g d < p .Z
-unfolding zoneOn
-zone-on-lt p g d h = h
 
 -- ---- parts of the lent buffers lie within them
 
@@ -323,14 +310,6 @@ data-not-parity p s i e =
 pub parity-no-data : (p : Params) (s : ℕ) → isData p s (parityDrive p s) ≡ false
 unfolding isData
 parity-no-data p s = ap (λ (x : Bool). not x) (eq-eqb (parityDrive p s) (parityDrive p s) refl)
-
-pub no-data-parity : (p : Params) (s d : ℕ) → isData p s d ≡ false → d ≡ parityDrive p s
-unfolding isData
-no-data-parity p s d e = eqb-true d (parityDrive p s) (not-false (eqb d (parityDrive p s)) e)
-  where
-    not-false : (b : Bool) → not b ≡ false → b ≡ true
-    not-false true h = refl
-    not-false false h = absurd (not-both true refl h)
 
 pub drive-position : (p : Params) (s d : ℕ) → isData p s d ≡ true → dataDrive p s (dataPosition p s d) ≡ d
 unfolding isData dataPosition dataDrive

@@ -8,5 +8,6 @@ pub mod Mask
 pub mod Sections
 pub mod Stores
 pub mod Geometry
+pub mod Segs
 pub mod Fields
 pub mod Turns

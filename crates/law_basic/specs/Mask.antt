@@ -5,12 +5,12 @@ use Prim.Native.Nat.{ℕ, zero, suc, _+_, _-_, _*_, _/_, _%_, _^_, _≤_, _<_}
 use native.Mathlib.Omega.{arith}
 use native.Mathlib.Decide.{decLt}
 use lib.ListN.{getD, List·getD-eq-default}
-use lib.Bits.{bitAnd, bitOr, and-step, or-zero-l, and-zero-r, or-lt, or-disjoint, or-shr, or-mod}
+use lib.Bits.{bitOr, or-zero-l, or-lt, or-shr, or-mod}
 use lib.Count.{ones, ones-step, ones-ones, ones-le}
 use lib.Arith.{lt-one}
 use lib.Pow.{pow-pos, pow-lt}
 use lib.Dec.{eqb, lit<}
-use native.Mathlib.Nat.{pow-suc, one-mul, pow-succ', min-zero, mod-lt, mod-eq-of-lt, zero-div, div-div-eq-div-mul}
+use native.Mathlib.Nat.{pow-suc, one-mul, pow-succ', mod-lt, mod-eq-of-lt, zero-div, div-div-eq-div-mul}
 use borrow.Author.Tests.{eqb-true, eqb-false, eq-eqb, ne-eqb}
 use Rattle.spec.specs.Lists.{upFrom, below, all, powers, only, isIn}
 use Rattle.law_basic.specs.Ranges.{Test, test, not-both, all-below, all-in-below}
@@ -27,38 +27,6 @@ ones-full (suc k) n h e =
     let q : 0 < 2 ^ k = pow-pos k in
     let i : n / 2 ≡ 2 ^ k - 1 = ones-full k (n / 2) m (omega arith) in
     omega arith
-
--- one more drive
-pub ones-more : (d m : ℕ) → m / 2 ^ d % 2 ≡ 0 → ones (m + 2 ^ d) ≡ ones m + 1
-ones-more zero m h =
-    let a : m % 2 ≡ 0 = omega arith in
-    let b : (m + 1) / 2 ≡ m / 2 = omega arith in
-    let c : (m + 1) % 2 ≡ 1 = omega arith in
-    ones-step (m + 1) ∙ rw (b, c) (omega (arith, ones-step m))
-ones-more (suc d) m h =
-    let p : 2 ^ suc d ≡ 2 ^ d * 2 = pow-suc 2 d in
-    let b : (m + 2 ^ suc d) / 2 ≡ m / 2 + 2 ^ d = omega arith in
-    let c : (m + 2 ^ suc d) % 2 ≡ m % 2 = omega arith in
-    let g : m / 2 / 2 ^ d % 2 ≡ 0 = ap (λ (x : ℕ). x % 2) (div-div-eq-div-mul m 2 (2 ^ d) ∙ ap (λ (x : ℕ). m / x) (sym (pow-succ' 2 d))) ∙ h in
-    ones-step (m + 2 ^ suc d) ∙ rw (b, c, ones-more d (m / 2) g) (omega (arith, ones-step m))
-
-and-clear : (d m : ℕ) → m / 2 ^ d % 2 ≡ 0 → bitAnd m (2 ^ d) ≡ 0
-and-clear zero m h =
-    let a : m % 2 ≡ 0 = omega arith in
-    and-step m 1 ∙ rw (a, and-zero-r)
-and-clear (suc d) m h =
-    let p : 2 ^ suc d ≡ 2 ^ d * 2 = pow-suc 2 d in
-    let b : 2 ^ suc d / 2 ≡ 2 ^ d = omega arith in
-    let c : 2 ^ suc d % 2 ≡ 0 = omega arith in
-    let g : m / 2 / 2 ^ d % 2 ≡ 0 = ap (λ (x : ℕ). x % 2) (div-div-eq-div-mul m 2 (2 ^ d) ∙ ap (λ (x : ℕ). m / x) (sym (pow-succ' 2 d))) ∙ h in
-    and-step m (2 ^ suc d) ∙ rw (b, c, and-clear d (m / 2) g, min-zero)
-
--- a mask with the digit d, as `mask | (1 << d)` computes it at 8 bits
-pub with-digit : (d m : ℕ) → d < 8 → m / 2 ^ d % 2 ≡ 0 → bitOr m (1 * 2 ^ d % 256) ≡ m + 2 ^ d
-with-digit d m k h =
-    let p : 2 ^ d < 2 ^ 8 = pow-lt k in
-    let e : 1 * 2 ^ d % 256 ≡ 2 ^ d = mod-eq-of-lt (omega arith) ∙ one-mul (2 ^ d) in
-    rw e (or-disjoint m (2 ^ d) (and-clear d m h))
 
 -- ---- a drive's mask, by a test of the whole table
 
@@ -129,20 +97,6 @@ isIn-with m d e h k =
 pub isIn-only : (d e : ℕ) → d < 8 → e < 8 → isIn (only d) e ≡ eqb e d
 isIn-only d e h k =
     ap (λ (x : ℕ). isIn x e) (sym (or-zero-l (only d))) ∙ isIn-with 0 d e h k ∙ ap (λ (z : Bool). eqb e d || z) (isIn-empty e) ∙ or-false (eqb e d)
-
-not-digit : (x : ℕ) → x < 2 → eqb x 1 ≡ false → x ≡ 0
-not-digit zero h e = refl
-not-digit (suc zero) h e = absurd (let z : _≡_ {A = ℕ} 0 1 = cc in let q : ⊥ = omega arith in q)
-not-digit (suc (suc x)) h e = absurd (let q : ⊥ = omega arith in q)
-
-pub clear-digit : (m d : ℕ) → d < 8 → isIn m d ≡ false → m / 2 ^ d % 2 ≡ 0
-clear-digit m d h e = not-digit (m / 2 ^ d % 2) (mod-lt (m / 2 ^ d) (lit< {m = 0} {n = 2} tt)) (sym (isIn-pow m d h) ∙ e)
-
-pub with-new : (m d : ℕ) → d < 8 → isIn m d ≡ false → bitOr m (only d) ≡ m + 2 ^ d
-with-new m d h e = ap (bitOr m) (only-pow d h) ∙ or-disjoint m (2 ^ d) (and-clear d m (clear-digit m d h e))
-
-pub ones-with : (m d : ℕ) → d < 8 → isIn m d ≡ false → ones (bitOr m (only d)) ≡ ones m + 1
-ones-with m d h e = ap ones (with-new m d h e) ∙ ones-more d m (clear-digit m d h e)
 
 pub with-lt : (k m d : ℕ) → d < k → k ≤ 8 → m < 2 ^ k → bitOr m (only d) < 2 ^ k
 with-lt k m d h l g = or-lt k m (only d) g (subst (λ (x : ℕ). x < 2 ^ k) (sym (only-pow d (omega arith))) (pow-lt h))

@@ -14,7 +14,7 @@ use borrow.Author.Tests.{eqb-true, lt-ltb, eq-eqb, ne-eqb}
 use lib.Arith.{lt-of-le-ne}
 use Rattle.spec.specs.Bytes.{part}
 use Rattle.spec.specs.Lists.{upFrom, below, all, any, isMember, consIf, keep, tally, sucUnless, indexOf, flat, total, greatest, firstOr, sameList, padTo, pieces, zipped, isNil}
-use Rattle.law_basic.specs.Splice.{length-part, getD-part, part-append-left}
+use Rattle.law_basic.specs.Splice.{length-part, getD-part}
 
 -- ---- Booleans: a test and its two cases
 
@@ -311,15 +311,6 @@ pub indexOf-none : {A : Type 0} (f : A → Bool) → indexOf f [] ≡ 0
 unfolding indexOf
 indexOf-none f = refl
 
-pub indexOf-le : {A : Type 0} (f : A → Bool) (l : List A) → indexOf f l ≤ length l
-unfolding indexOf sucUnless
-indexOf-le f [] = omega arith
-indexOf-le f (a ∷ l) = go (f a) (indexOf f l) (length l) (indexOf-le f l)
-  where
-    go : (b : Bool) (n m : ℕ) → n ≤ m → sucUnless b n ≤ suc m
-    go true n m h = omega arith
-    go false n m h = omega arith
-
 -- there is one just if the index is within the list
 pub indexOf-any : {A : Type 0} (f : A → Bool) (l : List A) → ltb (indexOf f l) (length l) ≡ any f l
 unfolding indexOf any sucUnless
@@ -440,10 +431,6 @@ same-end s t i h k = sameList-of (drop i s) (drop i t) (drop-of-length-le s h �
 pub length-padTo : (n : ℕ) (l : List ℕ) → length l ≤ n → length (padTo n l) ≡ n
 unfolding padTo
 length-padTo n l h = length-append l (replicate (n - length l) 0) ∙ ap (λ (x : ℕ). length l + x) (length-replicate (n - length l) 0) ∙ add-sub-of-le h
-
-pub part-padTo : (n a k : ℕ) (l : List ℕ) → a + k ≤ length l → part a k (padTo n l) ≡ part a k l
-unfolding padTo
-part-padTo n a k l h = part-append-left a k l (replicate (n - length l) 0) h
 
 pub replicate-snoc : (n : ℕ) → _≡_ {A = List ℕ} (replicate n 0 ++ (0 ∷ [])) (replicate (n + 1) 0)
 replicate-snoc n = replicate-append-replicate n 1 0
@@ -572,9 +559,6 @@ pub tally-le : (f : ℕ → Bool) (n : ℕ) → tally f (below n) ≤ n
 unfolding tally
 tally-le f n = omega (arith, length-keep f (below n), length-below n)
 
-pub greatest-below-snoc : (f : ℕ → ℕ) (n : ℕ) → greatest (map f (below (n + 1))) ≡ max (greatest (map f (below n))) (f n)
-greatest-below-snoc f n = ap greatest (map-below-snoc f n) ∙ greatest-snoc (map f (below n)) (f n)
-
 pub any-map : {A B : Type 0} (f : B → Bool) (g : A → B) (l : List A) → any f (map g l) ≡ any (λ (a : A). f (g a)) l
 unfolding any
 any-map f g [] = refl
@@ -628,11 +612,16 @@ pub or-left : (a b : Bool) → (a || b) ≡ false → a ≡ false
 or-left true b h = absurd (not-both true refl h)
 or-left false b h = refl
 
-pub right-nil : (zs ws : List ℕ) → zs ++ ws ≡ [] → ws ≡ []
-right-nil [] ws e = e
-right-nil (z ∷ zs) ws e = absurd (let q : _≡_ {A = ℕ} (suc (length (zs ++ ws))) 0 = ap length e in let w : ⊥ = omega arith in w)
-
 pub nil-is : {A : Type 0} (l : List A) → isNil l ≡ true → l ≡ []
 unfolding isNil
 nil-is [] q = refl
 nil-is (a ∷ l) q = absurd (not-both false q refl)
+
+pub keep-map : {A B : Type 0} (f : B → Bool) (g : A → B) (l : List A) → keep f (map g l) ≡ map g (keep (λ (a : A). f (g a)) l)
+unfolding keep consIf
+keep-map f g [] = refl
+keep-map {A} f g (a ∷ l) = go (test (f (g a))) (keep-map f g l)
+  where
+    go : Test (f (g a)) → keep f (map g l) ≡ map g (keep (λ (x : A). f (g x)) l) → keep f (map g (a ∷ l)) ≡ map g (keep (λ (x : A). f (g x)) (a ∷ l))
+    go (yes! q) ih = rw q (ap (λ x. g a ∷ x) ih)
+    go (no! q) ih = rw q ih

@@ -69,16 +69,6 @@ module _ (l : List ℕ) (at : ℕ) (s : List ℕ) (fits : at + length s ≤ leng
       let h′ : i < length s = omega (arith, length-part at (length s) (splice l at s) lp) in
       getD-part at (length s) (splice l at s) i h′ ∙ getD-splice-in i h′)
 
-  -- and a part of it
-  pub part-splice-in : (j n : ℕ) → j + n ≤ length s → part (at + j) n (splice l at s) ≡ part j n s
-  part-splice-in j n h =
-      let e : length (part (at + j) n (splice l at s)) ≡ n = length-part (at + j) n (splice l at s) (omega (arith, length-splice)) in
-      let e′ : length (part j n s) ≡ n = length-part j n s h in
-      ext-getD 0 (part (at + j) n (splice l at s)) (part j n s) (e ∙ sym e′)
-      (λ i k.
-      getD-part (at + j) n (splice l at s) i (omega arith) ∙ ap (λ (x : ℕ). getD (splice l at s) x 0) (add-assoc at j i)
-      ∙ getD-splice-in (j + i) (omega arith) ∙ sym (getD-part j n s i (omega arith)))
-
   -- and at a place that ends before it, or begins after it
   pub part-splice-below : (a n : ℕ) → a + n ≤ at → part a n (splice l at s) ≡ part a n l
   part-splice-below a n h =
@@ -304,10 +294,3 @@ pub splice-lent : (a n : ℕ) (l s : List ℕ) → length s ≡ n → take a l +
 unfolding splice
 splice-lent a n l s e =
     ap (λ (x : List ℕ). take a l ++ (s ++ x)) (drop-drop (a + n - a) a l ∙ ap (λ (k : ℕ). drop (a + k) l) (add-sub-cancel-left a n ∙ sym e))
-
--- the same with the end as a number of its own
-pub part-between : (a e n : ℕ) (l : List ℕ) → e ≡ a + n → take (e - a) (drop a l) ≡ part a n l
-part-between a e n l q = ap (λ (k : ℕ). take (k - a) (drop a l)) q ∙ part-lent a n l
-
-pub splice-between : (a e n : ℕ) (l s : List ℕ) → e ≡ a + n → length s ≡ n → take a l ++ (s ++ drop (e - a) (drop a l)) ≡ splice l a s
-splice-between a e n l s q h = ap (λ (k : ℕ). take a l ++ (s ++ drop (k - a) (drop a l))) q ∙ splice-lent a n l s h

@@ -4,13 +4,12 @@ use mathlib.Core.List.{List, [], _∷_, _++_}
 use mathlib.Core.Bool.{true, false}
 use Prim.Native.Nat.{ℕ, zero, suc, _-_, _≤_, _<_}
 use native.Mathlib.Omega.{arith}
-use native.Mathlib.Decide.{decLe}
 use lib.Seq.{take-all}
 use lib.ListN.{length, take}
 use lib.Dec.{leb}
 use native.Mathlib.Nat.{sub-zero, suc-sub-suc, zero-sub}
 use borrow.Author.Tests.{le-leb, lt-leb}
-use Rattle.spec.specs.Calls.{Plan, After, mkAfter, cutMemory, limited, outcome}
+use Rattle.spec.specs.Calls.{Plan, mkAfter, cutMemory, limited, outcome}
 use Rattle.spec.specs.Calls.Verdict.{refused, due}
 use Rattle.spec.specs.Drives.{Store, storeAll}
 use Rattle.spec.specs.Memory.{Memory}
@@ -68,12 +67,3 @@ pub cut-prefix : {D : Type 0} (p : Params) (f : Store → D → D) (n : ℕ) (d 
     → outcome p f n d m b (due q) ≡ mkAfter Cut (storeAll f (take n (q .stores)) d) (cutMemory p m) b
 unfolding outcome limited
 cut-prefix p f n d m b q h = let e : leb (length (q .stores)) n ≡ false = lt-leb (length (q .stores)) n h in rw e
-
--- done or cut, the drives are as after the first n stores
-pub outcome-drives : {D : Type 0} (p : Params) (f : Store → D → D) (n : ℕ) (d : D) (m : Memory) (b : List ℕ) (q : Plan)
-    → outcome p f n d m b (due q) .drives ≡ storeAll f (take n (q .stores)) d
-outcome-drives {D} p f n d m b q = go (decLe (length (q .stores)) n)
-  where
-    go : Dec (length (q .stores) ≤ n) → outcome p f n d m b (due q) .drives ≡ storeAll f (take n (q .stores)) d
-    go (yes h) = ap (λ (r : After D). r .drives) (done-all p f n d m b q h) ∙ sym (stores-all f n (q .stores) d h)
-    go (no h) = ap (λ (r : After D). r .drives) (cut-prefix p f n d m b q (omega arith))

@@ -100,19 +100,11 @@ xors-snoc [] (y ∷ t) a b h = absurd (let q : ⊥ = omega arith in q)
 xors-snoc (x ∷ s) [] a b h = absurd (let q : ⊥ = omega arith in q)
 xors-snoc (x ∷ s) (y ∷ t) a b h = ap (λ (l : List ℕ). bitXor x y ∷ l) (xors-snoc s t a b (omega arith))
 
-pub xors-part-zero : (l m : List ℕ) (a b : ℕ) → xors (part a 0 l) (part b 0 m) ≡ []
-unfolding xors part
-xors-part-zero l m a b = refl
-
 pub xors-part-suc : (l m : List ℕ) (a b i : ℕ) → a + i < length l → b + i < length m
     → xors (part a i l) (part b i m) ++ (bitXor (getD l (a + i) 0) (getD m (b + i) 0) ∷ []) ≡ xors (part a (i + 1) l) (part b (i + 1) m)
 xors-part-suc l m a b i h k =
     let e : length (part a i l) ≡ length (part b i m) = length-part a i l (omega arith) ∙ sym (length-part b i m (omega arith)) in
     sym (ap₂ xors (part-suc a i l h) (part-suc b i m k) ∙ xors-snoc (part a i l) (part b i m) (getD l (a + i) 0) (getD m (b + i) 0) e)
-
-pub long-append : (n : ℕ) (bs cs : List (List ℕ)) → AllLong n bs → AllLong n cs → AllLong n (bs ++ cs)
-long-append n [] cs h k = k
-long-append n (b ∷ bs) cs h k = (h .0, long-append n bs cs (h .1) k)
 
 pub long-upFrom : (n : ℕ) (f : ℕ → List ℕ) (i k : ℕ) → ((j : ℕ) → i ≤ j → j < i + k → length (f j) ≡ n) → AllLong n (map f (upFrom i k))
 unfolding upFrom

@@ -4,7 +4,7 @@ use mathlib.Core.List.{List}
 use mathlib.Core.Bool.{false}
 use Rattle.spec.specs.declared.Answer.{Answer}
 use Rattle.spec.specs.Answers.{isRefusedAs}
-use Rattle.spec.specs.Calls.{Check, ninth, firstRefusal, Plan, Verdict, decided}
+use Rattle.spec.specs.Calls.{Check, firstRefusal, Plan, Verdict, decided}
 use Rattle.spec.specs.Calls.Verdict.{refused, due}
 use Rattle.spec.specs.Lists.{Opt}
 use Rattle.spec.specs.Lists.Opt.{none, some}

@@ -22,11 +22,11 @@ use Rattle.spec.specs.Landing.{waiting, landFaults, landChecks}
 use Rattle.spec.specs.Lists.{Opt, keep, isNil}
 use Rattle.spec.specs.Lists.Opt.{none, some}
 use Rattle.spec.specs.Memory.{Memory, hasFilling, stateOk, stateFaults}
-use Rattle.spec.specs.Params.{between, inRange, placeBlock, named}
+use Rattle.spec.specs.Params.{between, inRange, placeBlock, placeZone, named}
 use Rattle.spec.specs.Read.{Found, lookup, foundFaults, decodeFaults, readChecks}
 use Rattle.spec.specs.Rebuild.{namesMissing, rebuildChecks}
-use Rattle.spec.specs.Reclaim.{Victim, tableFaults, victim, isNone, victimSegment, victimLive, idle, reclaimChecks}
-use Rattle.spec.specs.Restart.{namesDrive, rewrites, freeZones, restartChecks}
+use Rattle.spec.specs.Reclaim.{Victim, tableFaults, victim, isNone, victimLive, idle, reclaimChecks}
+use Rattle.spec.specs.Restart.{namesDrive, rewrites, freeSegs, restartChecks}
 use Rattle.spec.specs.Segments.{Segment, greatestSerial}
 use Rattle.spec.specs.Write.{opens, noStamp, noSerial, mustWait, scarce, writeChecks}
 use Rattle.law_basic.specs.Ranges.{or-false, and-left, and-right, and-both, not-both}
@@ -242,9 +242,9 @@ module _ (p : Params) (long : Bool) (v : View) (m : Memory) where
 
 -- ---- reclaim
 
--- the live blocks of the segment taken that aren't data blocks, by its number
+-- the live blocks of the segment taken that aren't data blocks, by their zones
 abbrev pub strayFaults : Params → Opt Victim → List ℕ
-strayFaults p w = map (λ q. victimSegment w) (keep (λ q. not (between 1 (p .S) (placeBlock p q))) (victimLive w))
+strayFaults p w = map (placeZone p) (keep (λ q. not (between 1 (p .S) (placeBlock p q))) (victimLive w))
 
 pub record ReclaimPassed (p : Params) (long : Bool) (v : View) (m : Memory) (w : Opt Victim) : Type 0 where
   pub in-range : inRange p ≡ true
@@ -453,7 +453,7 @@ pub record RestartPassed (p : Params) (long : Bool) (v : View) (d : ℕ) (gs : L
   pub pointers-fine : pointerFaults p v (named d) ≡ []
   pub segments-fine : segmentFaults p (named d) gs ≡ []
   pub serial-left : (rewrites p (named d) gs && eqb (greatestSerial gs) lastCount) ≡ false
-  pub zone-left : (rewrites p (named d) gs && isNil (freeZones p gs)) ≡ false
+  pub zone-left : (rewrites p (named d) gs && isNil (freeSegs p gs)) ≡ false
 
 module _ (p : Params) (long : Bool) (v : View) (d : ℕ) (gs : List Segment) where
   pub restart-passed : firstRefusal (restartChecks p long v d gs) ≡ none → RestartPassed p long v d gs
@@ -483,7 +483,7 @@ module _ (p : Params) (long : Bool) (v : View) (d : ℕ) (gs : List Segment) whe
       → (rewrites p (named d) gs && eqb (greatestSerial gs) lastCount) ≡ true → firstRefusal (restartChecks p long v d gs) ≡ some (Refused 6)
   unfolding restartChecks imageChecks firstRefusal ruled ninth
   restart-sixth r n l ps ss six =
-      let eight = rewrites p (named d) gs && isNil (freeZones p gs) in
+      let eight = rewrites p (named d) gs && isNil (freeSegs p gs) in
       let rest : List Check = rule 6 (rewrites p (named d) gs && eqb (greatestSerial gs) lastCount) ∷ rule 8 eight ∷ [] in
       ap₂ (λ (x y : Bool). ruled 1 (not x || not y) (ruled 2 (not long) (firstRefusal (imageChecks p v (named d) gs ++ rest)))) r n
       ∙ ap₂ (λ (x : Bool) (zs : List ℕ). ruled 2 (not x) (ninth zs (ninth (seg-faults p v (named d) gs) (firstRefusal rest)))) l ps

@@ -4,18 +4,19 @@ use mathlib.Core.List.{List, [], _∷_, map}
 use mathlib.Core.Bool.{true, false, not, _&&_, _||_}
 use Prim.Native.Nat.{ℕ, zero, suc, _+_, _≤_, _<_}
 use native.Mathlib.Nat.{add-zero, zero-add}
-use borrow.Author.Tests.{eq-eqb, ne-eqb, leb-false, ltb-false, not-false}
+use borrow.Author.Tests.{eq-eqb, leb-false, ltb-false, not-false}
 use native.Mathlib.Omega.{arith}
 use lib.Dec.{leb, ltb, eqb}
 use lib.ListN.{length, getD}
 use Rattle.spec.specs.declared.Params.{Params}
-use Rattle.spec.specs.Drives.{View, zoneAt, pointerAt, sealedIn}
+use Rattle.spec.specs.Drives.{View, zoneAt, pointerAt, sealedIn, Seg, sameSeg, zoneOn}
 use Rattle.spec.specs.Faults.{pointerFaults, headerFault, serialFault, outside, twice, stripeFault, addressFault, footerFault, clashes, segmentFault, segmentFaults, sameBlocks}
 use Rattle.spec.specs.Layout.{inGroupOf, Rec, mkRec}
 use Rattle.spec.specs.Lists.{below, any, keep, isIn, sameList}
 use Rattle.spec.specs.Params.{capacity, present}
-use Rattle.spec.specs.Segments.{remaining, Segment, recordsIn, segmentOf, segments, recsOn}
+use Rattle.spec.specs.Segments.{lowDrive, remaining, Segment, recordsIn, segmentOf, segments, recsOn}
 use Rattle.law_basic.specs.Ranges.{and-both, and-left, and-right, sameList-true}
+use Rattle.law_basic.specs.Segs.{seg-other}
 use Rattle.law_drives.specs.Members.{In, in-map, none-in, keep-nil-in, in-below}
 use Rattle.law_drives.specs.Segs.{in-present, length-records, record-at, recs-here, seg-is}
 use Rattle.law_drives.specs.Spots.{InGroups}
@@ -48,14 +49,15 @@ module _ (p : Params) (v : View) (gone : ℕ) (acc : Accepted p v gone) where
       (none-in (λ d. ltb (capacity p) (pointerAt v d z)) (present p gone)
       (keep-nil-in (λ z. any (λ d. ltb (capacity p) (pointerAt v d z)) (present p gone)) (below (p .Z)) (acc .pointers-ok) z (in-below (p .Z) z hz)) d (in-present p gone d hd q))
 
-  pub segment-ok : (g : ℕ) → In g (remaining p v gone) → segmentFault p gone (segments p v gone) (segmentOf p v gone g) ≡ false
+  pub segment-ok : (g : Seg) → In g (remaining p v gone) → segmentFault p gone (segments p v gone) (segmentOf p v gone g) ≡ false
   unfolding segmentFaults segments
   segment-ok g m =
       keep-nil-in (segmentFault p gone (map (segmentOf p v gone) (remaining p v gone))) (map (segmentOf p v gone) (remaining p v gone))
-      (map-nil (λ (x : Segment). x .seg) (keep (segmentFault p gone (map (segmentOf p v gone) (remaining p v gone))) (map (segmentOf p v gone) (remaining p v gone))) (acc .segments-ok))
+      (map-nil (λ (x : Segment). zoneOn (x .seg) (lowDrive p gone)) (keep (segmentFault p gone (map (segmentOf p v gone) (remaining p v gone))) (map (segmentOf p v gone) (remaining p v gone)))
+      (acc .segments-ok))
       (segmentOf p v gone g) (in-map (segmentOf p v gone) (remaining p v gone) g m)
 
-  pub record SegmentOk (g : ℕ) : Type 0 where
+  pub record SegmentOk (g : Seg) : Type 0 where
     pub no-header-fault : headerFault p gone (segmentOf p v gone g) ≡ false
     pub no-serial-fault : serialFault (segments p v gone) (segmentOf p v gone g) ≡ false
     pub no-stripe-fault : stripeFault p gone (segmentOf p v gone g) ≡ false
@@ -63,7 +65,7 @@ module _ (p : Params) (v : View) (gone : ℕ) (acc : Accepted p v gone) where
     pub no-footer-fault : footerFault p gone (segmentOf p v gone g) ≡ false
     pub no-clash : clashes (segments p v gone) (segmentOf p v gone g) ≡ false
 
-  pub faults-apart : (g : ℕ) → In g (remaining p v gone) → SegmentOk g
+  pub faults-apart : (g : Seg) → In g (remaining p v gone) → SegmentOk g
   unfolding segmentFault
   faults-apart g m =
       let x = segmentOf p v gone g in
@@ -87,8 +89,8 @@ module _ (p : Params) (v : View) (gone : ℕ) (acc : Accepted p v gone) where
         no-clash = or-right (f1 || f2 || f3 || f4 || f5) f6 q;
       }
 
-  pub zone-stripes : (g d : ℕ) → In g (remaining p v gone) → d < p .N → isIn gone d ≡ false
-      → (outside p 0 (recordsIn p (sealedIn p v gone g) (zoneAt v d g)) ≡ false) × (twice (recordsIn p (sealedIn p v gone g) (zoneAt v d g)) ≡ false)
+  pub zone-stripes : (g : Seg) (d : ℕ) → In g (remaining p v gone) → d < p .N → isIn gone d ≡ false
+      → (outside p 0 (recordsIn p (sealedIn p v gone g) (zoneAt v d (zoneOn g d))) ≡ false) × (twice (recordsIn p (sealedIn p v gone g) (zoneAt v d (zoneOn g d))) ≡ false)
   unfolding stripeFault
   zone-stripes g d m hd q =
       let x = segmentOf p v gone g in
@@ -100,28 +102,28 @@ module _ (p : Params) (v : View) (gone : ℕ) (acc : Accepted p v gone) where
   pub in-groups : InGroups p v gone
   in-groups g d o m hd q h =
       let w = sealedIn p v gone g in
-      let rs = recordsIn p w (zoneAt v d g) in
-      let i = outside-in p 0 rs (zone-stripes g d m hd q .0) o (subst (λ (x : ℕ). o < x) (sym (length-records p w (zoneAt v d g))) h) in
-      ap₂ (λ (x y : ℕ). inGroupOf p x y) (sym (zero-add o)) (ap (λ (r : Rec). r .stripe) (sym (record-at p w (zoneAt v d g) o (mkRec 0 0 0) h))) ∙ i
+      let rs = recordsIn p w (zoneAt v d (zoneOn g d)) in
+      let i = outside-in p 0 rs (zone-stripes g d m hd q .0) o (subst (λ (x : ℕ). o < x) (sym (length-records p w (zoneAt v d (zoneOn g d)))) h) in
+      ap₂ (λ (x y : ℕ). inGroupOf p x y) (sym (zero-add o)) (ap (λ (r : Rec). r .stripe) (sym (record-at p w (zoneAt v d (zoneOn g d)) o (mkRec 0 0 0) h))) ∙ i
 
-  pub copied-low : (g : ℕ) → In g (remaining p v gone) → segmentOf p v gone g .copied < segmentOf p v gone g .serial
+  pub copied-low : (g : Seg) → In g (remaining p v gone) → segmentOf p v gone g .copied < segmentOf p v gone g .serial
   unfolding serialFault
   copied-low g m =
       let x = segmentOf p v gone g in
       leb-false (x .serial) (x .copied) (or-first (leb (x .serial) (x .copied))
-      (any (λ (h : Segment). not (eqb (h .seg) (x .seg)) && eqb (h .serial) (x .serial)) (segments p v gone)) (faults-apart g m .no-serial-fault))
+      (any (λ (h : Segment). not (sameSeg (h .seg) (x .seg)) && eqb (h .serial) (x .serial)) (segments p v gone)) (faults-apart g m .no-serial-fault))
 
-  pub serials-differ : (g h : ℕ) → In g (remaining p v gone) → In h (remaining p v gone) → (h ≡ g → ⊥) → segmentOf p v gone h .serial ≡ segmentOf p v gone g .serial → ⊥
+  pub serials-differ : (g h : Seg) → In g (remaining p v gone) → In h (remaining p v gone) → (h ≡ g → ⊥) → segmentOf p v gone h .serial ≡ segmentOf p v gone g .serial → ⊥
   unfolding serialFault segments
   serials-differ g h m n ne e =
       let x = segmentOf p v gone g in
       let y = segmentOf p v gone h in
-      let f : not (eqb (y .seg) (x .seg)) && eqb (y .serial) (x .serial) ≡ false =
-      none-in (λ (z : Segment). not (eqb (z .seg) (x .seg)) && eqb (z .serial) (x .serial)) (map (segmentOf p v gone) (remaining p v gone))
-      (or-right (leb (x .serial) (x .copied)) (any (λ (z : Segment). not (eqb (z .seg) (x .seg)) && eqb (z .serial) (x .serial)) (segments p v gone)) (faults-apart g m .no-serial-fault))
+      let f : not (sameSeg (y .seg) (x .seg)) && eqb (y .serial) (x .serial) ≡ false =
+      none-in (λ (z : Segment). not (sameSeg (z .seg) (x .seg)) && eqb (z .serial) (x .serial)) (map (segmentOf p v gone) (remaining p v gone))
+      (or-right (leb (x .serial) (x .copied)) (any (λ (z : Segment). not (sameSeg (z .seg) (x .seg)) && eqb (z .serial) (x .serial)) (segments p v gone)) (faults-apart g m .no-serial-fault))
       y (in-map (segmentOf p v gone) (remaining p v gone) h n) in
-      let t : not (eqb (y .seg) (x .seg)) && eqb (y .serial) (x .serial) ≡ true =
-      and-both (not (eqb (y .seg) (x .seg))) (eqb (y .serial) (x .serial)) (ap not (ap₂ eqb (seg-is p v gone h) (seg-is p v gone g) ∙ ne-eqb h g ne)) (eq-eqb (y .serial) (x .serial) e) in
+      let t : not (sameSeg (y .seg) (x .seg)) && eqb (y .serial) (x .serial) ≡ true =
+      and-both (not (sameSeg (y .seg) (x .seg))) (eqb (y .serial) (x .serial)) (ap not (ap₂ sameSeg (seg-is p v gone h) (seg-is p v gone g) ∙ seg-other h g ne)) (eq-eqb (y .serial) (x .serial) e) in
       clash t f
 
 -- 01, Refusals, 9: every number in its group

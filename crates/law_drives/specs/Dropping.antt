@@ -3,30 +3,30 @@ use mathlib.Core.Path.{_≡_, refl, sym, ap, _∙_, subst}
 use mathlib.Core.List.{List, [], _∷_, map}
 use mathlib.Core.Bool.{Bool, true, false, cond, not, _&&_}
 use Prim.Native.Nat.{ℕ, _≤_, _<_}
-use native.Mathlib.Decide.{ℕ-discrete}
-use borrow.Author.Tests.{eq-eqb, ne-eqb, eqb-true, eqb-false, not-true}
+use borrow.Author.Tests.{eq-eqb, ne-eqb, eqb-false, not-true}
 use native.Mathlib.Omega.{arith}
 use lib.Dec.{eqb}
 use Rattle.spec.specs.declared.Params.{Params}
-use Rattle.spec.specs.Drives.{Zone, View, zoneAt, pointerAt, Store, resetZone, storeView, storeAll, segmentNumbers, zoneOn, resetStores}
+use Rattle.spec.specs.Drives.{Zone, View, zoneAt, pointerAt, Store, resetZone, storeView, storeAll, allSegs, zoneOn, resetStores, Seg, sameSeg}
 use Rattle.spec.specs.Drives.Store.{reset}
 use Rattle.spec.specs.Layout.{headerSerial, headerCopied}
-use Rattle.spec.specs.Lists.{below, all, any, keep, flat, greatest}
+use Rattle.spec.specs.Lists.{all, any, keep, flat, greatest}
 use Rattle.spec.specs.Params.{capacity, present}
-use Rattle.spec.specs.Restart.{freeZones, dropStores}
+use Rattle.spec.specs.Restart.{freeSegs, dropStores}
 use Rattle.spec.specs.Segments.{lowDrive, headerAt, leftBy1, isCopy, remaining, Segment, segmentOf, segments, greatestSerial}
 use Rattle.law_basic.specs.Geometry.{Ranged}
 use Rattle.law_basic.specs.Mask.{isIn-empty}
 use Rattle.law_basic.specs.Ranges.{Test, test, and-left, and-right, and-both}
 use Rattle.law_basic.specs.Ranges.Test.{yes!, no! }
+use Rattle.law_basic.specs.Segs.{seg-other, segs-differ, Named, zone-on-lt, seg-same, seg-true, by-seg}
 use Rattle.law_drives.specs.Accept.{Accepted, pointer-ok, copied-low, serials-differ}
 use Rattle.law_drives.specs.Counting.{in-greatest}
-use Rattle.law_drives.specs.Members.{In, in-map, map-in, flat-in, in-keep, keep-in, all-in, in-all, any-in, in-any, keep-cong, flat-cong, in-below, below-in}
-use Rattle.law_drives.specs.Puts.{hits-flat, hits-resets, flat-one}
+use Rattle.law_drives.specs.Members.{In, in-map, map-in, flat-in, in-keep, keep-in, all-in, in-all, any-in, in-any, keep-cong, flat-cong}
+use Rattle.law_drives.specs.Puts.{hits-flat, resets-on}
 use Rattle.law_drives.specs.Resets.{reset-within}
-use Rattle.law_drives.specs.Segs.{present-in, seg-is, serial-is, copied-is}
+use Rattle.law_drives.specs.Segs.{present-in, seg-is, serial-is, copied-is, in-segs, segs-in}
 use Rattle.law_drives.specs.Settled.{present-all, low-first, SameZones, zones-header, zones-pointer}
-use Rattle.law_drives.specs.Tables.{remains, in-remaining, remaining-in}
+use Rattle.law_drives.specs.Tables.{remains, in-remaining, remaining-in, seg-one}
 use Rattle.law_drives.specs.Tests.{clash, same-test, cond-true, cond-false}
 use Rattle.law_drives.specs.Tidy.{usedAt, Tidy}
 use Rattle.law_drives.specs.Zones.{Shaped, zoneStore, hits, zone-after, Room, Within, reset-pointer, Roomy}
@@ -35,30 +35,30 @@ module _ (p : Params) (r : Ranged p) (v : View) (sh : Shaped p v) (acc : Accepte
   abbrev gs : List Segment
   gs = segments p v 0
 
-  abbrev keeps! : ℕ → Bool
+  abbrev keeps! : Seg → Bool
   keeps! y = remains p v 0 y
 
   h0 : 0 < p .N
   h0 = omega (arith, r .drives-low)
 
-  pub free-test : (z : ℕ) → z < p .Z → any (λ (g : Segment). eqb (g .seg) z) gs ≡ keeps! z
-  free-test z hz = as! (same-test (any (λ (g : Segment). eqb (g .seg) z) (map (segmentOf p v 0) (remaining p v 0))) (keeps! z)
+  pub free-test : (z : Seg) → Named p z → any (λ (g : Segment). sameSeg (g .seg) z) gs ≡ keeps! z
+  free-test z hz = as! (same-test (any (λ (g : Segment). sameSeg (g .seg) z) (map (segmentOf p v 0) (remaining p v 0))) (keeps! z)
       (λ q.
-      let (x, m, e) = any-in (λ (g : Segment). eqb (g .seg) z) (map (segmentOf p v 0) (remaining p v 0)) q in
+      let (x, m, e) = any-in (λ (g : Segment). sameSeg (g .seg) z) (map (segmentOf p v 0) (remaining p v 0)) q in
       let (g, i, f) = map-in (segmentOf p v 0) (remaining p v 0) x m in
-      let eg : g ≡ z = sym (seg-is p v 0 g) ∙ ap (λ (y : Segment). y .seg) (sym f) ∙ eqb-true (x .seg) z e in
-      subst (λ (y : ℕ). keeps! y ≡ true) eg (remaining-in p v 0 g i .1))
-      (λ q. in-any (λ (g : Segment). eqb (g .seg) z) (map (segmentOf p v 0) (remaining p v 0)) (segmentOf p v 0 z)
-      (in-map (segmentOf p v 0) (remaining p v 0) z (in-remaining p v 0 z hz q)) (eq-eqb (segmentOf p v 0 z .seg) z (seg-is p v 0 z))))
+      let eg : g ≡ z = sym (seg-is p v 0 g) ∙ ap (λ (y : Segment). y .seg) (sym f) ∙ seg-true (x .seg) z e in
+      subst (λ (y : Seg). keeps! y ≡ true) eg (remaining-in p v 0 g i .1))
+      (λ q. in-any (λ (g : Segment). sameSeg (g .seg) z) (map (segmentOf p v 0) (remaining p v 0)) (segmentOf p v 0 z)
+      (in-map (segmentOf p v 0) (remaining p v 0) z (in-remaining p v 0 z hz q)) (seg-same (segmentOf p v 0 z .seg) z (seg-is p v 0 z))))
     where
-      as! : any (λ (g : Segment). eqb (g .seg) z) (map (segmentOf p v 0) (remaining p v 0)) ≡ keeps! z → any (λ (g : Segment). eqb (g .seg) z) gs ≡ keeps! z
+      as! : any (λ (g : Segment). sameSeg (g .seg) z) (map (segmentOf p v 0) (remaining p v 0)) ≡ keeps! z → any (λ (g : Segment). sameSeg (g .seg) z) gs ≡ keeps! z
       as! e = unfold segments in e
 
-  pub free-are : freeZones p gs ≡ keep (λ z. not (keeps! z)) (below (p .Z))
-  free-are = as! (keep-cong (λ z. not (any (λ (g : Segment). eqb (g .seg) z) gs)) (λ z. not (keeps! z)) (below (p .Z)) (λ z m. ap not (free-test z (below-in (p .Z) z m))))
+  pub free-are : freeSegs p gs ≡ keep (λ z. not (keeps! z)) (allSegs p)
+  free-are = as! (keep-cong (λ z. not (any (λ (g : Segment). sameSeg (g .seg) z) gs)) (λ z. not (keeps! z)) (allSegs p) (λ z m. ap not (free-test z (segs-in p z m))))
     where
-      as! : keep (λ z. not (any (λ (g : Segment). eqb (g .seg) z) gs)) (below (p .Z)) ≡ keep (λ z. not (keeps! z)) (below (p .Z)) → freeZones p gs ≡ keep (λ z. not (keeps! z)) (below (p .Z))
-      as! e = unfold freeZones segmentNumbers in e
+      as! : keep (λ z. not (any (λ (g : Segment). sameSeg (g .seg) z) gs)) (allSegs p) ≡ keep (λ z. not (keeps! z)) (allSegs p) → freeSegs p gs ≡ keep (λ z. not (keeps! z)) (allSegs p)
+      as! e = unfold freeSegs in e
 
   abbrev ds : List Store
   ds = dropStores p gs
@@ -66,99 +66,103 @@ module _ (p : Params) (r : Ranged p) (v : View) (sh : Shaped p v) (acc : Accepte
   abbrev va : View
   va = storeAll storeView ds v
 
-  drop-hits : (e y : ℕ) → e < p .N → y < p .Z → hits e y ds ≡ cond (not (keeps! y)) (reset e y ∷ []) []
-  drop-hits e y he hy = as! (hits-flat e y (resetStores p) (freeZones p gs)
-      ∙ flat-cong (λ g. hits e y (resetStores p g)) (λ g. cond (eqb g y) (reset e g ∷ []) []) (freeZones p gs) (λ g m. hits-resets p e y g he)
-      ∙ ap (flat (λ g. cond (eqb g y) (reset e g ∷ []) [])) free-are
-      ∙ flat-one (λ z. not (keeps! z)) (λ g. reset e g ∷ []) y (p .Z) hy)
+  pub free-low : (g : Seg) → In g (freeSegs p gs) → Named p g
+  free-low g m = segs-in p g (keep-in (λ z. not (keeps! z)) (allSegs p) g (subst (λ (l : List Seg). In g l) free-are m) .0)
+
+  drop-hits : (e : ℕ) (y : Seg) → e < p .N → Named p y → hits e (zoneOn y e) ds ≡ cond (not (keeps! y)) (reset e (zoneOn y e) ∷ []) []
+  drop-hits e y he hy = as! (hits-flat e (zoneOn y e) (resetStores p) (freeSegs p gs)
+      ∙ flat-cong (λ g. hits e (zoneOn y e) (resetStores p g)) (λ g. cond (sameSeg g y) (reset e (zoneOn g e) ∷ []) []) (freeSegs p gs) (λ g m. resets-on p e y g hy (free-low g m) he)
+      ∙ ap (flat (λ g. cond (sameSeg g y) (reset e (zoneOn g e) ∷ []) [])) free-are
+      ∙ seg-one p (λ z. not (keeps! z)) (λ g. reset e (zoneOn g e) ∷ []) y hy)
     where
-      as! : hits e y (flat (resetStores p) (freeZones p gs)) ≡ cond (not (keeps! y)) (reset e y ∷ []) [] → hits e y ds ≡ cond (not (keeps! y)) (reset e y ∷ []) []
+      as! : hits e (zoneOn y e) (flat (resetStores p) (freeSegs p gs)) ≡ cond (not (keeps! y)) (reset e (zoneOn y e) ∷ []) []
+          → hits e (zoneOn y e) ds ≡ cond (not (keeps! y)) (reset e (zoneOn y e) ∷ []) []
       as! q = unfold dropStores in q
 
-  pub drop-same : (y : ℕ) → y < p .Z → keeps! y ≡ true → SameZones p v va y
+  pub drop-same : (y : Seg) → Named p y → keeps! y ≡ true → SameZones p v va y
   drop-same y hy q d hd =
-      sym (zone-after p v d y ds (sh .sized) hd hy
-      ∙ ap (λ (l : List Store). storeAll zoneStore l (zoneAt v d y))
-      (drop-hits d y hd hy ∙ cond-false (not (keeps! y)) (reset d y ∷ []) [] (ap not q))
+      sym (zone-after p v d (zoneOn y d) ds (sh .sized) hd (zone-on-lt p y d hy)
+      ∙ ap (λ (l : List Store). storeAll zoneStore l (zoneAt v d (zoneOn y d)))
+      (drop-hits d y hd hy ∙ cond-false (not (keeps! y)) (reset d (zoneOn y d) ∷ []) [] (ap not q))
       ∙ nothing)
     where
-      nothing : storeAll zoneStore [] (zoneAt v d y) ≡ zoneAt v d y
+      nothing : storeAll zoneStore [] (zoneAt v d (zoneOn y d)) ≡ zoneAt v d (zoneOn y d)
       nothing = unfold storeAll in refl
 
-  pub drop-empty : (y : ℕ) → y < p .Z → keeps! y ≡ false → (d : ℕ) → d < p .N → pointerAt va d y ≡ 0
+  pub drop-empty : (y : Seg) → Named p y → keeps! y ≡ false → (d : ℕ) → d < p .N → pointerAt va d (zoneOn y d) ≡ 0
   drop-empty y hy q d hd = as! (ap (λ (x : Zone). x .pointer)
-      (zone-after p v d y ds (sh .sized) hd hy
-      ∙ ap (λ (l : List Store). storeAll zoneStore l (zoneAt v d y))
-      (drop-hits d y hd hy ∙ cond-true (not (keeps! y)) (reset d y ∷ []) [] (ap not q))
+      (zone-after p v d (zoneOn y d) ds (sh .sized) hd (zone-on-lt p y d hy)
+      ∙ ap (λ (l : List Store). storeAll zoneStore l (zoneAt v d (zoneOn y d)))
+      (drop-hits d y hd hy ∙ cond-true (not (keeps! y)) (reset d (zoneOn y d) ∷ []) [] (ap not q))
       ∙ once)
-      ∙ reset-pointer (zoneAt v d y))
+      ∙ reset-pointer (zoneAt v d (zoneOn y d)))
     where
-      once : storeAll zoneStore (reset d y ∷ []) (zoneAt v d y) ≡ resetZone (zoneAt v d y)
+      once : storeAll zoneStore (reset d (zoneOn y d) ∷ []) (zoneAt v d (zoneOn y d)) ≡ resetZone (zoneAt v d (zoneOn y d))
       once = unfold storeAll zoneStore in refl
 
-      as! : zoneAt va d y .pointer ≡ 0 → pointerAt va d y ≡ 0
+      as! : zoneAt va d (zoneOn y d) .pointer ≡ 0 → pointerAt va d (zoneOn y d) ≡ 0
       as! e = unfold pointerAt in e
 
   pub drop-roomy : Roomy p v ds
-  drop-roomy d y hd hy = subst (λ (l : List Store). Room p (pointerAt v d y) l) (sym (drop-hits d y hd hy)) (go (not (keeps! y)))
+  drop-roomy d z hd hz = by-seg (λ x. Room p (pointerAt v d x) (hits d x ds)) p d z hz
+      (λ y hy. subst (λ (l : List Store). Room p (pointerAt v d (zoneOn y d)) l) (sym (drop-hits d y hd hy)) (go y (not (keeps! y))))
     where
-      go : (c : Bool) → Room p (pointerAt v d y) (cond c (reset d y ∷ []) [])
-      go true = tt
-      go false = tt
+      go : (y : Seg) (c : Bool) → Room p (pointerAt v d (zoneOn y d)) (cond c (reset d (zoneOn y d) ∷ []) [])
+      go y true = tt
+      go y false = tt
 
   pub drop-within : (s : Store) → In s ds → Within p s
   drop-within s m =
-      let (g, i, j) = flat-in (resetStores p) (freeZones p gs) s (as! m) in
-      let hg : g < p .Z = below-in (p .Z) g (keep-in (λ z. not (keeps! z)) (below (p .Z)) g (subst (λ (l : List ℕ). In g l) free-are i) .0) in
-      reset-within p r v sh g hg s j
+      let (g, i, j) = flat-in (resetStores p) (freeSegs p gs) s (as! m) in
+      reset-within p r v sh g (free-low g i) s j
     where
-      as! : In s ds → In s (flat (resetStores p) (freeZones p gs))
+      as! : In s ds → In s (flat (resetStores p) (freeSegs p gs))
       as! m = unfold dropStores in m
 
   -- ---- what remains is used on every drive
 
-  pub kept-pointer : (y d : ℕ) → keeps! y ≡ true → d < p .N → pointerAt v d y ≡ 0 → ⊥
-  kept-pointer y d q hd = eqb-false (pointerAt v d y) 0 (not-true (eqb (pointerAt v d y) 0)
-      (all-in (λ d. not (eqb (pointerAt v d y) 0)) (present p 0) (left! q) d (present-all p d hd)))
+  pub kept-pointer : (y : Seg) (d : ℕ) → keeps! y ≡ true → d < p .N → pointerAt v d (zoneOn y d) ≡ 0 → ⊥
+  kept-pointer y d q hd = eqb-false (pointerAt v d (zoneOn y d)) 0 (not-true (eqb (pointerAt v d (zoneOn y d)) 0)
+      (all-in (λ d. not (eqb (pointerAt v d (zoneOn y d)) 0)) (present p 0) (left! q) d (present-all p d hd)))
     where
-      left! : keeps! y ≡ true → all (λ d. not (eqb (pointerAt v d y) 0)) (present p 0) ≡ true
-      left! q = unfold remains zoneOn in and-left (all (λ d. not (eqb (pointerAt v d y) 0)) (present p 0)) (not (isCopy v (lowDrive p 0) (leftBy1 p v 0) y)) q
+      left! : keeps! y ≡ true → all (λ d. not (eqb (pointerAt v d (zoneOn y d)) 0)) (present p 0) ≡ true
+      left! q = unfold remains in and-left (all (λ d. not (eqb (pointerAt v d (zoneOn y d)) 0)) (present p 0)) (not (isCopy v (lowDrive p 0) (leftBy1 p v 0) y)) q
 
-  pub drop-used : (y : ℕ) → y < p .Z → usedAt va y ≡ keeps! y
+  pub drop-used : (y : Seg) → Named p y → usedAt va y ≡ keeps! y
   drop-used y hy = go (test (keeps! y))
     where
       go : Test (keeps! y) → usedAt va y ≡ keeps! y
-      go (yes! q) = ap not (ap (λ (x : ℕ). eqb x 0) (sym (zones-pointer p r v va y (drop-same y hy q) 0 h0)) ∙ ne-eqb (pointerAt v 0 y) 0 (kept-pointer y 0 q h0)) ∙ sym q
-      go (no! q) = ap not (eq-eqb (pointerAt va 0 y) 0 (drop-empty y hy q 0 h0)) ∙ sym q
+      go (yes! q) = ap not (ap (λ (x : ℕ). eqb x 0) (sym (zones-pointer p r v va y (drop-same y hy q) 0 h0)) ∙ ne-eqb (pointerAt v 0 (zoneOn y 0)) 0 (kept-pointer y 0 q h0)) ∙ sym q
+      go (no! q) = ap not (eq-eqb (pointerAt va 0 (zoneOn y 0)) 0 (drop-empty y hy q 0 h0)) ∙ sym q
 
   -- ---- serials
 
-  abbrev ser : ℕ → ℕ
+  abbrev ser : Seg → ℕ
   ser y = headerSerial (headerAt v 0 y)
 
-  abbrev cop : ℕ → ℕ
+  abbrev cop : Seg → ℕ
   cop y = headerCopied (headerAt v 0 y)
 
-  in-rem : (y : ℕ) → y < p .Z → keeps! y ≡ true → In y (remaining p v 0)
+  in-rem : (y : Seg) → Named p y → keeps! y ≡ true → In y (remaining p v 0)
   in-rem y hy q = in-remaining p v 0 y hy q
 
-  ser-is : (y : ℕ) → segmentOf p v 0 y .serial ≡ ser y
+  ser-is : (y : Seg) → segmentOf p v 0 y .serial ≡ ser y
   ser-is y = serial-is p v 0 y ∙ ap (λ (x : ℕ). headerSerial (headerAt v x y)) (low-first p r)
 
-  cop-is : (y : ℕ) → segmentOf p v 0 y .copied ≡ cop y
+  cop-is : (y : Seg) → segmentOf p v 0 y .copied ≡ cop y
   cop-is y = copied-is p v 0 y ∙ ap (λ (x : ℕ). headerCopied (headerAt v x y)) (low-first p r)
 
-  pub kept-less : (y : ℕ) → y < p .Z → keeps! y ≡ true → cop y < ser y
+  pub kept-less : (y : Seg) → Named p y → keeps! y ≡ true → cop y < ser y
   kept-less y hy q = let a = copied-low p v 0 acc y (in-rem y hy q) in let e = ser-is y in let f = cop-is y in omega arith
 
-  pub kept-once : (y z : ℕ) → y < p .Z → z < p .Z → keeps! y ≡ true → keeps! z ≡ true → ser y ≡ ser z → y ≡ z
-  kept-once y z hy hz a b e = go (ℕ-discrete y z)
+  pub kept-once : (y z : Seg) → Named p y → Named p z → keeps! y ≡ true → keeps! z ≡ true → ser y ≡ ser z → y ≡ z
+  kept-once y z hy hz a b e = go (segs-differ y z)
     where
       go : Dec (y ≡ z) → y ≡ z
       go (yes x) = x
       go (no n) = absurd (serials-differ p v 0 acc z y (in-rem z hz b) (in-rem y hy a) n (ser-is y ∙ e ∙ sym (ser-is z)))
 
-  pub kept-known : (y : ℕ) → y < p .Z → keeps! y ≡ true → ser y ≤ greatestSerial gs
+  pub kept-known : (y : Seg) → Named p y → keeps! y ≡ true → ser y ≤ greatestSerial gs
   kept-known y hy q =
       as! (in-greatest (ser y) (map (λ (g : Segment). g .serial) gs)
       (subst (λ (n : ℕ). In n (map (λ (g : Segment). g .serial) gs)) (ser-is y)
@@ -170,28 +174,29 @@ module _ (p : Params) (r : Ranged p) (v : View) (sh : Shaped p v) (acc : Accepte
       as! : ser y ≤ greatest (map (λ (g : Segment). g .serial) gs) → ser y ≤ greatestSerial gs
       as! x = unfold greatestSerial in x
 
-  pub kept-no-copy : (y z : ℕ) → y < p .Z → z < p .Z → keeps! y ≡ true → keeps! z ≡ true → cop y ≡ ser z → ⊥
-  kept-no-copy y z hy hz a b e = go (ℕ-discrete z y)
+  pub kept-no-copy : (y z : Seg) → Named p y → Named p z → keeps! y ≡ true → keeps! z ≡ true → cop y ≡ ser z → ⊥
+  kept-no-copy y z hy hz a b e = go (segs-differ z y)
     where
       left-in : In z (leftBy1 p v 0)
       left-in =
-          as! (in-keep (λ g. all (λ d. not (eqb (pointerAt v d g) 0)) (present p 0)) (below (p .Z)) z (in-below (p .Z) z hz)
-          (in-all (λ d. not (eqb (pointerAt v d z) 0)) (present p 0)
-          (λ d m. ap not (ne-eqb (pointerAt v d z) 0 (kept-pointer z d b (present-in p 0 d m .0))))))
+          as! (in-keep (λ g. all (λ d. not (eqb (pointerAt v d (zoneOn g d)) 0)) (present p 0)) (allSegs p) z (in-segs p z hz)
+          (in-all (λ d. not (eqb (pointerAt v d (zoneOn z d)) 0)) (present p 0)
+          (λ d m. ap not (ne-eqb (pointerAt v d (zoneOn z d)) 0 (kept-pointer z d b (present-in p 0 d m .0))))))
         where
-          as! : In z (keep (λ g. all (λ d. not (eqb (pointerAt v d g) 0)) (present p 0)) (below (p .Z))) → In z (leftBy1 p v 0)
-          as! m = unfold leftBy1 segmentNumbers zoneOn in m
+          as! : In z (keep (λ g. all (λ d. not (eqb (pointerAt v d (zoneOn g d)) 0)) (present p 0)) (allSegs p)) → In z (leftBy1 p v 0)
+          as! m = unfold leftBy1 in m
 
       not-copy : isCopy v (lowDrive p 0) (leftBy1 p v 0) y ≡ false
       not-copy = not-true (isCopy v (lowDrive p 0) (leftBy1 p v 0) y) (right! a)
         where
           right! : keeps! y ≡ true → not (isCopy v (lowDrive p 0) (leftBy1 p v 0) y) ≡ true
-          right! q = unfold remains zoneOn in and-right (all (λ d. not (eqb (pointerAt v d y) 0)) (present p 0)) (not (isCopy v (lowDrive p 0) (leftBy1 p v 0) y)) q
+          right! q = unfold remains in and-right (all (λ d. not (eqb (pointerAt v d (zoneOn y d)) 0)) (present p 0)) (not (isCopy v (lowDrive p 0) (leftBy1 p v 0) y)) q
 
       copy! : (z ≡ y → ⊥) → isCopy v 0 (leftBy1 p v 0) y ≡ true
-      copy! n = unfold isCopy in and-both (not (eqb (cop y) 0)) (any (λ h. not (eqb h y) && eqb (ser h) (cop y)) (leftBy1 p v 0))
+      copy! n = unfold isCopy in and-both (not (eqb (cop y) 0)) (any (λ h. not (sameSeg h y) && eqb (ser h) (cop y)) (leftBy1 p v 0))
           (ap not (ne-eqb (cop y) 0 (λ x. let c = kept-less z hz b in let bad : ⊥ = omega arith in bad)))
-          (in-any (λ h. not (eqb h y) && eqb (ser h) (cop y)) (leftBy1 p v 0) z left-in (and-both (not (eqb z y)) (eqb (ser z) (cop y)) (ap not (ne-eqb z y n)) (eq-eqb (ser z) (cop y) (sym e))))
+          (in-any (λ h. not (sameSeg h y) && eqb (ser h) (cop y)) (leftBy1 p v 0) z left-in
+          (and-both (not (sameSeg z y)) (eqb (ser z) (cop y)) (ap not (seg-other z y n)) (eq-eqb (ser z) (cop y) (sym e))))
 
       go : Dec (z ≡ y) → ⊥
       go (yes x) = let c = kept-less y hy a in let f : ser z ≡ ser y = ap ser x in let bad : ⊥ = omega arith in bad
@@ -199,10 +204,10 @@ module _ (p : Params) (r : Ranged p) (v : View) (sh : Shaped p v) (acc : Accepte
 
   -- ---- the view is tidy
 
-  hdr : (y : ℕ) → y < p .Z → keeps! y ≡ true → headerAt v 0 y ≡ headerAt va 0 y
+  hdr : (y : Seg) → Named p y → keeps! y ≡ true → headerAt v 0 y ≡ headerAt va 0 y
   hdr y hy q = zones-header p r v va y (drop-same y hy q)
 
-  used-kept : (y : ℕ) → y < p .Z → usedAt va y ≡ true → keeps! y ≡ true
+  used-kept : (y : Seg) → Named p y → usedAt va y ≡ true → keeps! y ≡ true
   used-kept y hy q = sym (drop-used y hy) ∙ q
 
   pub drop-tidy : Tidy p va (greatestSerial gs)
@@ -221,12 +226,12 @@ module _ (p : Params) (r : Ranged p) (v : View) (sh : Shaped p v) (acc : Accepte
         kept-no-copy y z hy hz k l (ap headerCopied (hdr y hy k) ∙ e ∙ ap headerSerial (sym (hdr z hz l)));
   }
     where
-      low : (d z : ℕ) → d < p .N → z < p .Z → Test (keeps! z) → pointerAt va d z ≤ capacity p
-      low d z hd hz (yes! q) = subst (λ (x : ℕ). x ≤ capacity p) (zones-pointer p r v va z (drop-same z hz q) d hd) (pointer-ok p v 0 acc d z hd hz (isIn-empty d))
+      low : (d : ℕ) (z : Seg) → d < p .N → Named p z → Test (keeps! z) → pointerAt va d (zoneOn z d) ≤ capacity p
+      low d z hd hz (yes! q) = subst (λ (x : ℕ). x ≤ capacity p) (zones-pointer p r v va z (drop-same z hz q) d hd) (pointer-ok p v 0 acc d (zoneOn z d) hd (zone-on-lt p z d hz) (isIn-empty d))
       low d z hd hz (no! q) = let e = drop-empty z hz q d hd in omega arith
 
-      tog : (d z : ℕ) → d < p .N → z < p .Z → Test (keeps! z) → eqb (pointerAt va d z) 0 ≡ eqb (pointerAt va 0 z) 0
+      tog : (d : ℕ) (z : Seg) → d < p .N → Named p z → Test (keeps! z) → eqb (pointerAt va d (zoneOn z d)) 0 ≡ eqb (pointerAt va 0 (zoneOn z 0)) 0
       tog d z hd hz (yes! q) =
-          ap (λ (x : ℕ). eqb x 0) (sym (zones-pointer p r v va z (drop-same z hz q) d hd)) ∙ ne-eqb (pointerAt v d z) 0 (kept-pointer z d q hd)
-          ∙ sym (ap (λ (x : ℕ). eqb x 0) (sym (zones-pointer p r v va z (drop-same z hz q) 0 h0)) ∙ ne-eqb (pointerAt v 0 z) 0 (kept-pointer z 0 q h0))
+          ap (λ (x : ℕ). eqb x 0) (sym (zones-pointer p r v va z (drop-same z hz q) d hd)) ∙ ne-eqb (pointerAt v d (zoneOn z d)) 0 (kept-pointer z d q hd)
+          ∙ sym (ap (λ (x : ℕ). eqb x 0) (sym (zones-pointer p r v va z (drop-same z hz q) 0 h0)) ∙ ne-eqb (pointerAt v 0 (zoneOn z 0)) 0 (kept-pointer z 0 q h0))
       tog d z hd hz (no! q) = ap (λ (x : ℕ). eqb x 0) (drop-empty z hz q d hd ∙ sym (drop-empty z hz q 0 h0))

@@ -10,7 +10,7 @@ use lib.ListN.{length, getD, take, drop, length-take, length-drop, length-map}
 use lib.Seq.{getD-take, getD-drop}
 use Rattle.spec.specs.declared.Params.{Params}
 use Rattle.spec.specs.Bytes.{part}
-use Rattle.spec.specs.Drives.{Chunk, mkChunk, noChunk, Zone, Store, blocksOf, sparesOf, recordIn, footersOf, zeroSpare, footerStores}
+use Rattle.spec.specs.Drives.{Chunk, mkChunk, noChunk, Zone, Store, blocksOf, sparesOf, recordIn, footersOf, zeroSpare, footerStores, Seg, sameSeg, zoneOn}
 use Rattle.spec.specs.Drives.Store.{put}
 use Rattle.spec.specs.Layout.{recordOf, footerBlock, footerRecord}
 use Rattle.spec.specs.Lists.{upFrom, below, flat}
@@ -18,52 +18,58 @@ use Rattle.spec.specs.Params.{spareLen, perFooter, footers, capacity, drivesOf}
 use Rattle.law_basic.specs.Geometry.{Ranged, per-footer-low, footers-cover}
 use Rattle.law_basic.specs.Ranges.{Test, test, length-upFrom, getD-upFrom, map-map, getD-map}
 use Rattle.law_basic.specs.Ranges.Test.{yes!, no! }
+use Rattle.law_basic.specs.Segs.{Named, zone-on-lt, zone-same}
 use Rattle.law_views.specs.Views.{blocks-long}
 use Rattle.law_drives.specs.Laid.{Long, in-take, in-drop, getD-footer}
 use Rattle.law_drives.specs.Members.{In, map-in, flat-in, flat-cong, keep-all, flat-nothing, below-in, getD-in}
-use Rattle.law_drives.specs.Puts.{hits-flat, putAt, hits-puts, flat-one, putAll, puts-new, room-puts, footer-sound}
+use Rattle.law_drives.specs.Puts.{hits-flat, putAt, hits-puts, flat-one, putAll, puts-new, room-puts, footer-sound, on-drive}
 use Rattle.law_drives.specs.Range.{capacity-is, capacity-over}
 use Rattle.law_drives.specs.Records.{blocks-at, spares-at}
 use Rattle.law_drives.specs.Tests.{and-false-right, cond-true, cond-false}
 use Rattle.law_drives.specs.Zones.{Bytes, SoundChunk, ZoneOk, hits, Room, Within}
 
 -- a list of chunks for each drive, in the zone of one segment
-pub hits-each : (p : Params) (e y z : ℕ) (f : ℕ → List Chunk) → e < p .N → hits e y (flat (λ d. map (putAt d z) (f d)) (drivesOf p)) ≡ cond (eqb z y) (map (putAt e z) (f e)) []
+pub hits-each : (p : Params) (e y : ℕ) (z : ℕ → ℕ) (f : ℕ → List Chunk) → e < p .N → hits e y (flat (λ d. map (putAt d (z d)) (f d)) (drivesOf p)) ≡ cond (eqb (z e) y) (map (putAt e (z e)) (f e)) []
 hits-each p e y z f he =
-    hits-flat e y (λ d. map (putAt d z) (f d)) (drivesOf p)
-    ∙ as! (flat-cong (λ d. hits e y (map (putAt d z) (f d))) (λ d. cond (eqb d e && eqb z y) (map (putAt d z) (f d)) []) (below (p .N))
-    (λ d m. hits-puts e y d z (f d))
-    ∙ go (test (eqb z y)))
+    hits-flat e y (λ d. map (putAt d (z d)) (f d)) (drivesOf p)
+    ∙ as! (flat-cong (λ d. hits e y (map (putAt d (z d)) (f d))) (λ d. cond (eqb d e && eqb (z d) y) (map (putAt d (z d)) (f d)) []) (below (p .N))
+    (λ d m. hits-puts e y d (z d) (f d))
+    ∙ go (test (eqb (z e) y)))
   where
     as! :
-        flat (λ d. hits e y (map (putAt d z) (f d))) (below (p .N)) ≡ cond (eqb z y) (map (putAt e z) (f e)) []
-        → flat (λ d. hits e y (map (putAt d z) (f d))) (drivesOf p) ≡ cond (eqb z y) (map (putAt e z) (f e)) []
+        flat (λ d. hits e y (map (putAt d (z d)) (f d))) (below (p .N)) ≡ cond (eqb (z e) y) (map (putAt e (z e)) (f e)) []
+        → flat (λ d. hits e y (map (putAt d (z d)) (f d))) (drivesOf p) ≡ cond (eqb (z e) y) (map (putAt e (z e)) (f e)) []
     as! q = unfold drivesOf in q
 
     and-true! : (b : Bool) → b && true ≡ b
     and-true! true = refl
     and-true! false = refl
 
-    go : Test (eqb z y) → flat (λ d. cond (eqb d e && eqb z y) (map (putAt d z) (f d)) []) (below (p .N)) ≡ cond (eqb z y) (map (putAt e z) (f e)) []
+    go : Test (eqb (z e) y) → flat (λ d. cond (eqb d e && eqb (z d) y) (map (putAt d (z d)) (f d)) []) (below (p .N)) ≡ cond (eqb (z e) y) (map (putAt e (z e)) (f e)) []
     go (no! q) =
-        flat-nothing (λ d. cond (eqb d e && eqb z y) (map (putAt d z) (f d)) []) (below (p .N))
-        (λ d m. cond-false (eqb d e && eqb z y) (map (putAt d z) (f d)) [] (and-false-right (eqb d e) (eqb z y) q))
-        ∙ sym (cond-false (eqb z y) (map (putAt e z) (f e)) [] q)
+        flat-nothing (λ d. cond (eqb d e && eqb (z d) y) (map (putAt d (z d)) (f d)) []) (below (p .N))
+        (λ d m. cond-false (eqb d e && eqb (z d) y) (map (putAt d (z d)) (f d)) [] (on-drive z d e y ∙ and-false-right (eqb d e) (eqb (z e) y) q))
+        ∙ sym (cond-false (eqb (z e) y) (map (putAt e (z e)) (f e)) [] q)
     go (yes! q) =
-        flat-cong (λ d. cond (eqb d e && eqb z y) (map (putAt d z) (f d)) []) (λ d. cond (eqb d e) (map (putAt d z) (f d)) []) (below (p .N))
-        (λ d m. ap (λ (b : Bool). cond b (map (putAt d z) (f d)) []) (ap (λ (b : Bool). eqb d e && b) q ∙ and-true! (eqb d e)))
-        ∙ ap (flat (λ d. cond (eqb d e) (map (putAt d z) (f d)) [])) (sym (keep-all (λ d. true) (below (p .N)) (λ d m. refl)))
-        ∙ flat-one (λ d. true) (λ d. map (putAt d z) (f d)) e (p .N) he
-        ∙ sym (cond-true (eqb z y) (map (putAt e z) (f e)) [] q)
+        flat-cong (λ d. cond (eqb d e && eqb (z d) y) (map (putAt d (z d)) (f d)) []) (λ d. cond (eqb d e) (map (putAt d (z d)) (f d)) []) (below (p .N))
+        (λ d m. ap (λ (b : Bool). cond b (map (putAt d (z d)) (f d)) []) (on-drive z d e y ∙ ap (λ (b : Bool). eqb d e && b) q ∙ and-true! (eqb d e)))
+        ∙ ap (flat (λ d. cond (eqb d e) (map (putAt d (z d)) (f d)) [])) (sym (keep-all (λ d. true) (below (p .N)) (λ d m. refl)))
+        ∙ flat-one (λ d. true) (λ d. map (putAt d (z d)) (f d)) e (p .N) he
+        ∙ sym (cond-true (eqb (z e) y) (map (putAt e (z e)) (f e)) [] q)
 
-pub within-each : (p : Params) (z : ℕ) (f : ℕ → List Chunk) → z < p .Z → (s : Store) → In s (flat (λ d. map (putAt d z) (f d)) (drivesOf p)) → Within p s
+-- on a zone of a segment
+pub each-on : (p : Params) (e : ℕ) (y g : Seg) (f : ℕ → List Chunk) → Named p y → Named p g → e < p .N
+    → hits e (zoneOn y e) (flat (λ d. map (putAt d (zoneOn g d)) (f d)) (drivesOf p)) ≡ cond (sameSeg g y) (map (putAt e (zoneOn g e)) (f e)) []
+each-on p e y g f hy hg he = hits-each p e (zoneOn y e) (zoneOn g) f he ∙ ap (λ (b : Bool). cond b (map (putAt e (zoneOn g e)) (f e)) []) (zone-same p g y e hg hy)
+
+pub within-each : (p : Params) (z : Seg) (f : ℕ → List Chunk) → Named p z → (s : Store) → In s (flat (λ d. map (putAt d (zoneOn z d)) (f d)) (drivesOf p)) → Within p s
 within-each p z f hz s m =
-    let (d, i, j) = flat-in (λ d. map (putAt d z) (f d)) (drivesOf p) s m in
-    let (c, n, e) = map-in (putAt d z) (f d) s j in
+    let (d, i, j) = flat-in (λ d. map (putAt d (zoneOn z d)) (f d)) (drivesOf p) s m in
+    let (c, n, e) = map-in (putAt d (zoneOn z d)) (f d) s j in
     subst (λ (x : Store). Within p x) (sym e) (put-within d c (low d i))
   where
-    put-within : (d : ℕ) (c : Chunk) → d < p .N → Within p (putAt d z c)
-    put-within d c h = unfold putAt in (h, hz)
+    put-within : (d : ℕ) (c : Chunk) → d < p .N → Within p (putAt d (zoneOn z d) c)
+    put-within d c h = unfold putAt in (h, zone-on-lt p z d hz)
 
     low : (d : ℕ) → In d (drivesOf p) → d < p .N
     low d i = unfold drivesOf in below-in (p .N) d i

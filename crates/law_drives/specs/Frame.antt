@@ -6,18 +6,19 @@ use Prim.Native.Nat.{ℕ, _<_}
 use lib.Dec.{leb, ltb, eqb}
 use lib.ListN.{length, getD, length-map}
 use Rattle.spec.specs.declared.Params.{Params}
-use Rattle.spec.specs.Drives.{noChunk, Zone, noZone, View, zoneAt, pointerAt, chunkAt, segmentNumbers, zoneOn, sealedIn, zeroSpare}
+use Rattle.spec.specs.Drives.{noChunk, Zone, noZone, View, zoneAt, pointerAt, chunkAt, allSegs, zoneOn, sealedIn, zeroSpare, Seg, sameSeg}
 use Rattle.spec.specs.Faults.{pointerFaults, sameChunk, headerFault, serialFault, stripeFault, decodedBad, addressFault, footerFaultIn, footerFault, clashes, segmentFault, segmentFaults}
 use Rattle.spec.specs.Layout.{headerBlock, headerSerial, headerCopied}
 use Rattle.spec.specs.Lists.{below, all, any, keep, flat, isIn}
 use Rattle.spec.specs.Params.{capacity, drivesOf, present}
 use Rattle.spec.specs.Segments.{lowDrive, headerAt, leftBy1, isCopy, remaining, Segment, recordsIn, segmentOf, segments, recsOn, offsetOn, hasChunk, counts}
 use Rattle.spec.specs.Segments.{counted, storedRec, recOf, offsetOf, candOf, segmentCands, candidates, compactRow, rowOf, compactTable, unsealed}
-use Rattle.law_basic.specs.Ranges.{Test, test, map-map, getD-map-below}
+use Rattle.law_basic.specs.Ranges.{Test, test, map-map, getD-map-below, keep-map}
 use Rattle.law_basic.specs.Ranges.Test.{yes!, no! }
+use Rattle.law_basic.specs.Segs.{Named, zone-on-lt}
 use Rattle.law_drives.specs.Accept.{Accepted, segment-ok}
-use Rattle.law_drives.specs.Members.{In, keep-in, all-cong, any-cong, keep-cong, map-cong, flat-cong, keep-nothing, keep-map, flat-map, below-in}
-use Rattle.law_drives.specs.Segs.{present-in, remaining-low, zone-by, seg-is, serial-is, copied-is, full-is}
+use Rattle.law_drives.specs.Members.{In, keep-in, all-cong, any-cong, keep-cong, map-cong, flat-cong, keep-nothing, flat-map, below-in}
+use Rattle.law_drives.specs.Segs.{present-in, remaining-low, zone-by, seg-is, serial-is, copied-is, full-is, segs-in}
 
 abbrev pub Agree : Params → ℕ → View → View → Type 0
 Agree p gone v u = (d z : ℕ) → d < p .N → z < p .Z → isIn gone d ≡ false → zoneAt v d z ≡ zoneAt u d z
@@ -50,7 +51,7 @@ core-compact p gs = flat-cong (λ d. flat (λ z. compactRow p (rowOf p gs d z)) 
 
 core-serial : (gs : List Segment) (g : Segment) → serialFault gs g ≡ serialFault (map core gs) (core g)
 unfolding serialFault core
-core-serial gs g = ap (λ (x : Bool). leb (g .serial) (g .copied) || x) (sym (any-mapped (λ (h : Segment). not (eqb (h .seg) (g .seg)) && eqb (h .serial) (g .serial)) core gs))
+core-serial gs g = ap (λ (x : Bool). leb (g .serial) (g .copied) || x) (sym (any-mapped (λ (h : Segment). not (sameSeg (h .seg) (g .seg)) && eqb (h .serial) (g .serial)) core gs))
 
 core-stripe : (p : Params) (gone : ℕ) (g : Segment) → stripeFault p gone g ≡ stripeFault p gone (core g)
 unfolding stripeFault core recsOn
@@ -73,54 +74,57 @@ module _ (p : Params) (gone : ℕ) (v u : View) (low : In (lowDrive p gone) (pre
   unfolding pointerAt
   same-pointer d z m hz = let (hd, q) = present-in p gone d m in ap (λ (x : Zone). x .pointer) (ag d z hd hz q)
 
-  pub same-header : (g : ℕ) → g < p .Z → headerAt v (lowDrive p gone) g ≡ headerAt u (lowDrive p gone) g
-  unfolding headerAt chunkAt zoneOn
-  same-header g h = ap (λ (x : Zone). getD (x .blocks) 0 noChunk .block) (ag (lowDrive p gone) g (low-in .0) h (low-in .1))
+  pub same-header : (g : Seg) → Named p g → headerAt v (lowDrive p gone) g ≡ headerAt u (lowDrive p gone) g
+  unfolding headerAt chunkAt
+  same-header g h = ap (λ (x : Zone). getD (x .blocks) 0 noChunk .block) (ag (lowDrive p gone) (zoneOn g (lowDrive p gone)) (low-in .0) (zone-on-lt p g (lowDrive p gone) h) (low-in .1))
 
   same-left : leftBy1 p v gone ≡ leftBy1 p u gone
-  unfolding leftBy1 segmentNumbers zoneOn
-  same-left = keep-cong (λ g. all (λ d. not (eqb (pointerAt v d g) 0)) (present p gone)) (λ g. all (λ d. not (eqb (pointerAt u d g) 0)) (present p gone)) (below (p .Z))
-      (λ g m. all-cong (λ d. not (eqb (pointerAt v d g) 0)) (λ d. not (eqb (pointerAt u d g) 0)) (present p gone)
-      (λ d n. ap (λ (x : ℕ). not (eqb x 0)) (same-pointer d g n (below-in (p .Z) g m))))
+  unfolding leftBy1
+  same-left = keep-cong (λ g. all (λ d. not (eqb (pointerAt v d (zoneOn g d)) 0)) (present p gone)) (λ g. all (λ d. not (eqb (pointerAt u d (zoneOn g d)) 0)) (present p gone)) (allSegs p)
+      (λ g m. all-cong (λ d. not (eqb (pointerAt v d (zoneOn g d)) 0)) (λ d. not (eqb (pointerAt u d (zoneOn g d)) 0)) (present p gone)
+      (λ d n. ap (λ (x : ℕ). not (eqb x 0)) (same-pointer d (zoneOn g d) n (zone-on-lt p g d (segs-in p g m)))))
 
-  left-low : (g : ℕ) → In g (leftBy1 p v gone) → g < p .Z
-  unfolding leftBy1 segmentNumbers
-  left-low g m = below-in (p .Z) g (keep-in (λ g. all (λ d. not (eqb (pointerAt v d (zoneOn g d)) 0)) (present p gone)) (below (p .Z)) g m .0)
+  left-low : (g : Seg) → In g (leftBy1 p v gone) → Named p g
+  unfolding leftBy1
+  left-low g m = segs-in p g (keep-in (λ g. all (λ d. not (eqb (pointerAt v d (zoneOn g d)) 0)) (present p gone)) (allSegs p) g m .0)
 
-  same-copy : (g : ℕ) → g < p .Z → isCopy v (lowDrive p gone) (leftBy1 p v gone) g ≡ isCopy u (lowDrive p gone) (leftBy1 p v gone) g
+  same-copy : (g : Seg) → Named p g → isCopy v (lowDrive p gone) (leftBy1 p v gone) g ≡ isCopy u (lowDrive p gone) (leftBy1 p v gone) g
   unfolding isCopy
   same-copy g h =
       let l = lowDrive p gone in
       ap₂ (λ (x : List ℕ) (y : List ℕ → Bool). not (eqb (headerCopied x) 0) && y x) (same-header g h)
-      (λ i x. any-cong (λ h. not (eqb h g) && eqb (headerSerial (headerAt v l h)) (headerCopied x)) (λ h. not (eqb h g) && eqb (headerSerial (headerAt u l h)) (headerCopied x)) (leftBy1 p v gone)
-      (λ h m. ap (λ (y : List ℕ). not (eqb h g) && eqb (headerSerial y) (headerCopied x)) (same-header h (left-low h m))) i)
+      (λ i x. any-cong (λ h. not (sameSeg h g) && eqb (headerSerial (headerAt v l h)) (headerCopied x)) (λ h. not (sameSeg h g) && eqb (headerSerial (headerAt u l h)) (headerCopied x))
+      (leftBy1 p v gone)
+      (λ h m. ap (λ (y : List ℕ). not (sameSeg h g) && eqb (headerSerial y) (headerCopied x)) (same-header h (left-low h m))) i)
 
   pub same-remaining : remaining p v gone ≡ remaining p u gone
   unfolding remaining
   same-remaining =
       keep-cong (λ g. not (isCopy v (lowDrive p gone) (leftBy1 p v gone) g)) (λ g. not (isCopy u (lowDrive p gone) (leftBy1 p v gone) g))
       (leftBy1 p v gone) (λ g m. ap not (same-copy g (left-low g m)))
-      ∙ ap (λ (x : List ℕ). keep (λ g. not (isCopy u (lowDrive p gone) x g)) x) same-left
+      ∙ ap (λ (x : List Seg). keep (λ g. not (isCopy u (lowDrive p gone) x g)) x) same-left
 
-  pub same-sealed : (g : ℕ) → g < p .Z → sealedIn p v gone g ≡ sealedIn p u gone g
-  unfolding sealedIn zoneOn
-  same-sealed g h = all-cong (λ d. eqb (pointerAt v d g) (capacity p)) (λ d. eqb (pointerAt u d g) (capacity p)) (present p gone) (λ d m. ap (λ (x : ℕ). eqb x (capacity p)) (same-pointer d g m h))
+  pub same-sealed : (g : Seg) → Named p g → sealedIn p v gone g ≡ sealedIn p u gone g
+  unfolding sealedIn
+  same-sealed g h =
+      all-cong (λ d. eqb (pointerAt v d (zoneOn g d)) (capacity p)) (λ d. eqb (pointerAt u d (zoneOn g d)) (capacity p)) (present p gone)
+      (λ d m. ap (λ (x : ℕ). eqb x (capacity p)) (same-pointer d (zoneOn g d) m (zone-on-lt p g d h)))
 
-  same-recs : (g : ℕ) → g < p .Z → segmentOf p v gone g .recs ≡ segmentOf p u gone g .recs
-  unfolding segmentOf drivesOf zoneOn
+  same-recs : (g : Seg) → Named p g → segmentOf p v gone g .recs ≡ segmentOf p u gone g .recs
+  unfolding segmentOf drivesOf
   same-recs g h =
-      map-cong (λ d. cond (isIn gone d) [] (recordsIn p (sealedIn p v gone g) (getD (map (λ d. zoneAt v d g) (below (p .N))) d noZone)))
-      (λ d. cond (isIn gone d) [] (recordsIn p (sealedIn p u gone g) (getD (map (λ d. zoneAt u d g) (below (p .N))) d noZone))) (below (p .N))
+      map-cong (λ d. cond (isIn gone d) [] (recordsIn p (sealedIn p v gone g) (getD (map (λ d. zoneAt v d (zoneOn g d)) (below (p .N))) d noZone)))
+      (λ d. cond (isIn gone d) [] (recordsIn p (sealedIn p u gone g) (getD (map (λ d. zoneAt u d (zoneOn g d)) (below (p .N))) d noZone))) (below (p .N))
       (λ d m. go d (below-in (p .N) d m) (test (isIn gone d)))
     where
       go : (d : ℕ) → d < p .N → Test (isIn gone d)
-          → cond (isIn gone d) [] (recordsIn p (sealedIn p v gone g) (getD (map (λ d. zoneAt v d g) (below (p .N))) d noZone))
-          ≡ cond (isIn gone d) [] (recordsIn p (sealedIn p u gone g) (getD (map (λ d. zoneAt u d g) (below (p .N))) d noZone))
+          → cond (isIn gone d) [] (recordsIn p (sealedIn p v gone g) (getD (map (λ d. zoneAt v d (zoneOn g d)) (below (p .N))) d noZone))
+          ≡ cond (isIn gone d) [] (recordsIn p (sealedIn p u gone g) (getD (map (λ d. zoneAt u d (zoneOn g d)) (below (p .N))) d noZone))
       go d hd (yes! q) = rw q
       go d hd (no! q) = rw q (ap₂ (λ (x : Bool) (y : Zone). recordsIn p x y) (same-sealed g h)
-          (getD-map-below (λ d. zoneAt v d g) (p .N) d noZone hd ∙ ag d g hd h q ∙ sym (getD-map-below (λ d. zoneAt u d g) (p .N) d noZone hd)))
+          (getD-map-below (λ d. zoneAt v d (zoneOn g d)) (p .N) d noZone hd ∙ ag d (zoneOn g d) hd (zone-on-lt p g d h) q ∙ sym (getD-map-below (λ d. zoneAt u d (zoneOn g d)) (p .N) d noZone hd)))
 
-  pub same-core : (g : ℕ) → g < p .Z → core (segmentOf p v gone g) ≡ core (segmentOf p u gone g)
+  pub same-core : (g : Seg) → Named p g → core (segmentOf p v gone g) ≡ core (segmentOf p u gone g)
   unfolding core
   same-core g h = λ i. record {
     seg = (seg-is p v gone g ∙ sym (seg-is p u gone g)) i;
@@ -147,10 +151,10 @@ module _ (p : Params) (gone : ℕ) (v u : View) (low : In (lowDrive p gone) (pre
 
   -- ---- and nothing else is wrong
 
-  same-zone-by : (g d : ℕ) → g < p .Z → In d (present p gone) → getD (segmentOf p v gone g .zonesBy) d noZone ≡ getD (segmentOf p u gone g .zonesBy) d noZone
-  same-zone-by g d h m = let (hd, q) = present-in p gone d m in zone-by p v gone g d hd ∙ ag d g hd h q ∙ sym (zone-by p u gone g d hd)
+  same-zone-by : (g : Seg) (d : ℕ) → Named p g → In d (present p gone) → getD (segmentOf p v gone g .zonesBy) d noZone ≡ getD (segmentOf p u gone g .zonesBy) d noZone
+  same-zone-by g d h m = let (hd, q) = present-in p gone d m in zone-by p v gone g d hd ∙ ag d (zoneOn g d) hd (zone-on-lt p g d h) q ∙ sym (zone-by p u gone g d hd)
 
-  same-header-fault : (g : ℕ) → g < p .Z → headerFault p gone (segmentOf p v gone g) ≡ headerFault p gone (segmentOf p u gone g)
+  same-header-fault : (g : Seg) → Named p g → headerFault p gone (segmentOf p v gone g) ≡ headerFault p gone (segmentOf p u gone g)
   unfolding headerFault core
   same-header-fault g h =
       any-cong (λ d. not (sameChunk (getD (getD (segmentOf p v gone g .zonesBy) d noZone .blocks) 0 noChunk)
@@ -162,13 +166,13 @@ module _ (p : Params) (gone : ℕ) (v u : View) (low : In (lowDrive p gone) (pre
       (sameChunk (getD (x .blocks) 0 noChunk) (headerBlock p d (zoneOn (y .seg) d) (y .serial) (y .copied)) zeroSpare)) (same-zone-by g d h m)
       (same-core g h))
 
-  same-footer-fault : (g : ℕ) → g < p .Z → footerFault p gone (segmentOf p v gone g) ≡ footerFault p gone (segmentOf p u gone g)
+  same-footer-fault : (g : Seg) → Named p g → footerFault p gone (segmentOf p v gone g) ≡ footerFault p gone (segmentOf p u gone g)
   unfolding footerFault
   same-footer-fault g h = ap₂ (λ (x y : Bool). not x && y) (full-is p v gone g ∙ same-sealed g h ∙ sym (full-is p u gone g))
       (any-cong (λ d. footerFaultIn p (getD (segmentOf p v gone g .zonesBy) d noZone)) (λ d. footerFaultIn p (getD (segmentOf p u gone g .zonesBy) d noZone)) (present p gone)
       (λ d m. ap (footerFaultIn p) (same-zone-by g d h m)))
 
-  same-segment-fault : (g : ℕ) → g < p .Z → segmentFault p gone (segments p v gone) (segmentOf p v gone g) ≡ segmentFault p gone (segments p u gone) (segmentOf p u gone g)
+  same-segment-fault : (g : Seg) → Named p g → segmentFault p gone (segments p v gone) (segmentOf p v gone g) ≡ segmentFault p gone (segments p u gone) (segmentOf p u gone g)
   unfolding segmentFault
   same-segment-fault g h =
       let x = segmentOf p v gone g in
@@ -184,12 +188,13 @@ module _ (p : Params) (gone : ℕ) (v u : View) (low : In (lowDrive p gone) (pre
 
   faults-are :
       (w : View)
-      → segmentFaults p gone (segments p w gone) ≡ map (λ g. segmentOf p w gone g .seg)
+      → segmentFaults p gone (segments p w gone) ≡ map (λ g. zoneOn (segmentOf p w gone g .seg) (lowDrive p gone))
       (keep (λ g. segmentFault p gone (segments p w gone) (segmentOf p w gone g)) (remaining p w gone))
   unfolding segmentFaults segments
   faults-are w =
-      ap (map (λ (x : Segment). x .seg)) (keep-map (segmentFault p gone (map (segmentOf p w gone) (remaining p w gone))) (segmentOf p w gone) (remaining p w gone))
-      ∙ map-map (λ (x : Segment). x .seg) (segmentOf p w gone) (keep (λ g. segmentFault p gone (map (segmentOf p w gone) (remaining p w gone)) (segmentOf p w gone g)) (remaining p w gone))
+      ap (map (λ (x : Segment). zoneOn (x .seg) (lowDrive p gone))) (keep-map (segmentFault p gone (map (segmentOf p w gone) (remaining p w gone))) (segmentOf p w gone) (remaining p w gone))
+      ∙ map-map (λ (x : Segment). zoneOn (x .seg) (lowDrive p gone)) (segmentOf p w gone)
+      (keep (λ g. segmentFault p gone (map (segmentOf p w gone) (remaining p w gone)) (segmentOf p w gone g)) (remaining p w gone))
 
   pub same-accepted : Accepted p v gone → Accepted p u gone
   unfolding pointerFaults
@@ -201,7 +206,7 @@ module _ (p : Params) (gone : ℕ) (v u : View) (low : In (lowDrive p gone) (pre
         ∙ a .pointers-ok;
     segments-ok =
         faults-are u
-        ∙ ap (map (λ g. segmentOf p u gone g .seg)) (sym (
+        ∙ ap (map (λ g. zoneOn (segmentOf p u gone g .seg) (lowDrive p gone))) (sym (
         keep-cong (λ g. segmentFault p gone (segments p v gone) (segmentOf p v gone g)) (λ g. segmentFault p gone (segments p u gone) (segmentOf p u gone g)) (remaining p v gone)
         (λ g m. same-segment-fault g (remaining-low p v gone g m))
         ∙ ap (keep (λ g. segmentFault p gone (segments p u gone) (segmentOf p u gone g))) same-remaining)

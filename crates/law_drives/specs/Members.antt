@@ -192,15 +192,6 @@ unfolding flat keep
 keep-flat f g [] = refl
 keep-flat f g (a ∷ l) = keep-append f (g a) (flat g l) ∙ ap (λ x. keep f (g a) ++ x) (keep-flat f g l)
 
-pub keep-map : {A B : Type 0} (f : B → Bool) (g : A → B) (l : List A) → keep f (map g l) ≡ map g (keep (λ a. f (g a)) l)
-unfolding keep consIf
-keep-map f g [] = refl
-keep-map {A} {B} f g (a ∷ l) = go (test (f (g a))) (keep-map f g l)
-  where
-    go : Test (f (g a)) → keep f (map g l) ≡ map g (keep (λ (x : A). f (g x)) l) → keep f (map g (a ∷ l)) ≡ map g (keep (λ (x : A). f (g x)) (a ∷ l))
-    go (yes! e) ih = rw e (ap (λ x. g a ∷ x) ih)
-    go (no! e) ih = rw e ih
-
 pub flat-map : {A B C : Type 0} (f : B → List C) (g : A → B) (l : List A) → flat f (map g l) ≡ flat (λ a. f (g a)) l
 unfolding flat
 flat-map f g [] = refl
@@ -285,7 +276,7 @@ unfolding any indexOf sucUnless
 index-none f [] q = refl
 index-none f (a ∷ l) q = rw (or-first (f a) (any f l) q) (ap suc (index-none f l (or-right (f a) (any f l) q)))
 
-pub first-in : (l : List ℕ) (n : ℕ) → isNil l ≡ false → In (firstOr n l) l
+pub first-in : {A : Type 0} (l : List A) (n : A) → isNil l ≡ false → In (firstOr n l) l
 unfolding isNil firstOr
 first-in [] n q = true-false q
 first-in (a ∷ l) n q = inl refl
@@ -306,17 +297,12 @@ member-is n l m = in-any (λ k. eqb n k) l n m (eqb-self n)
 pub nil-append : {A : Type 0} (xs ys : List A) → xs ≡ [] → ys ≡ [] → xs ++ ys ≡ []
 nil-append xs ys p q = ap₂ _++_ p q
 
--- nothing of either
-pub nil-left : {A : Type 0} (s t : List A) → s ++ t ≡ [] → (s ≡ []) × (t ≡ [])
-nil-left [] t e = (refl, e)
-nil-left (a ∷ s) t e = absurd (let x : _≡_ {A = ℕ} 0 1 = cc in let y : ⊥ = omega arith in y)
-
 pub if-none : (b : Bool) (g : ℕ) (zs : List ℕ) → consIf b g zs ≡ [] → (b ≡ false) × (zs ≡ [])
 unfolding consIf
 if-none true g zs e = absurd (let z : _≡_ {A = ℕ} (suc (length zs)) 0 = ap length e in let w : ⊥ = omega arith in w)
 if-none false g zs e = (refl, e)
 
-pub first-any : (n m : ℕ) (l : List ℕ) → isNil l ≡ false → firstOr n l ≡ firstOr m l
+pub first-any : {A : Type 0} (n m : A) (l : List A) → isNil l ≡ false → firstOr n l ≡ firstOr m l
 unfolding isNil firstOr
 first-any n m [] q = true-false q
 first-any n m (a ∷ l) q = refl

@@ -10,23 +10,24 @@ use lib.Dec.{eqb, lit<}
 use lib.ListN.{getD}
 use Rattle.spec.specs.declared.Params.{Params}
 use Rattle.spec.specs.Counts.{lastCount}
-use Rattle.spec.specs.Drives.{noChunk, View, zoneAt, chunkAt, Store, storeView, storeAll, zoneOn, sealedIn}
+use Rattle.spec.specs.Drives.{noChunk, View, zoneAt, chunkAt, Store, storeView, storeAll, zoneOn, sealedIn, Seg, seg, allSegs}
 use Rattle.spec.specs.Layout.{headerSerial}
-use Rattle.spec.specs.Lists.{below, any, keep, isNil, flat, greatest, firstOr}
-use Rattle.spec.specs.Restart.{freeZones, isWhole, isRagged, missingFooters, rewriteStores, dropStores, mendStores, rewrites}
+use Rattle.spec.specs.Lists.{any, keep, isNil, flat, greatest, firstOr}
+use Rattle.spec.specs.Restart.{freeSegs, isWhole, isRagged, missingFooters, rewriteStores, dropStores, mendStores, rewrites}
 use Rattle.spec.specs.Segments.{headerAt, remaining, Segment, segmentOf, segments, greatestSerial, unsealed}
 use Rattle.law_basic.specs.Geometry.{Ranged}
 use Rattle.law_basic.specs.Ranges.{Test, test}
 use Rattle.law_basic.specs.Ranges.Test.{yes!, no! }
+use Rattle.law_basic.specs.Segs.{Named, zone-on-lt}
 use Rattle.law_drives.specs.Accept.{Accepted}
 use Rattle.law_drives.specs.Counting.{greatest-low}
 use Rattle.law_drives.specs.Dropping.{free-are}
 use Rattle.law_drives.specs.Laid.{serial-low}
-use Rattle.law_drives.specs.Members.{In, map-in, keep-in, in-any, below-in, first-in}
+use Rattle.law_drives.specs.Members.{In, map-in, keep-in, in-any, first-in}
 use Rattle.law_drives.specs.Mending.{Mended, mend-none, mend-tidy-one, mend-footers}
 use Rattle.law_drives.specs.Range.{capacity-over}
 use Rattle.law_drives.specs.Rewriting.{mend-rewrite}
-use Rattle.law_drives.specs.Segs.{remaining-low, serial-is}
+use Rattle.law_drives.specs.Segs.{remaining-low, serial-is, segs-in}
 use Rattle.law_drives.specs.Settled.{low-first}
 use Rattle.law_drives.specs.Tables.{remains}
 use Rattle.law_drives.specs.Unsealed.{Loose, loose}
@@ -41,10 +42,10 @@ module _ (p : Params) (r : Ranged p) (v : View) (sh : Shaped p v) (acc : Accepte
   abbrev va : View
   va = storeAll storeView (dropStores p gs) v
 
-  mended-one : (g : ℕ) → g < p .Z → remains p v 0 g ≡ true → sealedIn p v 0 g ≡ false → ((y : ℕ) → y < p .Z → remains p v 0 y ≡ true → (y ≡ g → ⊥) → sealedIn p v 0 y ≡ true)
+  mended-one : (g : Seg) → Named p g → remains p v 0 g ≡ true → sealedIn p v 0 g ≡ false → ((y : Seg) → Named p y → remains p v 0 y ≡ true → (y ≡ g → ⊥) → sealedIn p v 0 y ≡ true)
       → unsealed gs ≡ segmentOf p v 0 g ∷ []
       → rewrites p 0 gs && eqb (greatestSerial gs) lastCount ≡ false
-      → rewrites p 0 gs && isNil (freeZones p gs) ≡ false
+      → rewrites p 0 gs && isNil (freeSegs p gs) ≡ false
       → greatestSerial gs < 256 ^ 8
       → Mended p va (mendStores p gs (segmentOf p v 0 g))
   mended-one g hg kg ng oth us c6 c8 bd = go (test (isWhole p x)) (test (isRagged p x))
@@ -61,7 +62,7 @@ module _ (p : Params) (r : Ranged p) (v : View) (sh : Shaped p v) (acc : Accepte
       ragged! :
           isWhole p (segmentOf p v 0 g) ≡ false
           → isRagged p (segmentOf p v 0 g) ≡ true
-          → mendStores p gs (segmentOf p v 0 g) ≡ rewriteStores p (segmentOf p v 0 g) (firstOr 0 (freeZones p gs)) (suc (greatestSerial gs))
+          → mendStores p gs (segmentOf p v 0 g) ≡ rewriteStores p (segmentOf p v 0 g) (firstOr (seg 0) (freeSegs p gs)) (suc (greatestSerial gs))
       ragged! q w = unfold mendStores in rw (q, w)
 
       rewrites! : isRagged p (segmentOf p v 0 g) ≡ true → rewrites p 0 gs ≡ true
@@ -73,17 +74,17 @@ module _ (p : Params) (r : Ranged p) (v : View) (sh : Shaped p v) (acc : Accepte
       go (no! q) (yes! w) =
           let rw! = rewrites! w in
           let n6 : eqb (greatestSerial gs) lastCount ≡ false = sym (ap (λ (b : Bool). b && eqb (greatestSerial gs) lastCount) rw!) ∙ c6 in
-          let n8 : isNil (freeZones p gs) ≡ false = sym (ap (λ (b : Bool). b && isNil (freeZones p gs)) rw!) ∙ c8 in
-          let z0 = firstOr 0 (freeZones p gs) in
-          let m : In z0 (keep (λ z. not (remains p v 0 z)) (below (p .Z))) = subst (λ (l : List ℕ). In z0 l) (free-are p r v sh acc) (first-in (freeZones p gs) 0 n8) in
-          let (i, f) = keep-in (λ z. not (remains p v 0 z)) (below (p .Z)) z0 m in
+          let n8 : isNil (freeSegs p gs) ≡ false = sym (ap (λ (b : Bool). b && isNil (freeSegs p gs)) rw!) ∙ c8 in
+          let z0 = firstOr (seg 0) (freeSegs p gs) in
+          let m : In z0 (keep (λ z. not (remains p v 0 z)) (allSegs p)) = subst (λ (l : List Seg). In z0 l) (free-are p r v sh acc) (first-in (freeSegs p gs) (seg 0) n8) in
+          let (i, f) = keep-in (λ z. not (remains p v 0 z)) (allSegs p) z0 m in
           let ne : ¬ (greatestSerial gs ≡ lastCount) = eqb-false (greatestSerial gs) lastCount n6 in
           subst (λ (l : List Store). Mended p va l) (sym (ragged! q w))
-          (mend-rewrite p r v sh acc g hg kg ng oth z0 (below-in (p .Z) z0 i) (not-true (remains p v 0 z0) f) (let b = bd in omega arith) q)
+          (mend-rewrite p r v sh acc g hg kg ng oth z0 (segs-in p z0 i) (not-true (remains p v 0 z0) f) (let b = bd in omega arith) q)
 
   pub mended :
       rewrites p 0 gs && eqb (greatestSerial gs) lastCount ≡ false
-      → rewrites p 0 gs && isNil (freeZones p gs) ≡ false
+      → rewrites p 0 gs && isNil (freeSegs p gs) ≡ false
       → greatestSerial gs < 256 ^ 8
       → Mended p va (flat (mendStores p gs) (unsealed gs))
   mended c6 c8 bd = go (loose p r v sh acc)
@@ -108,7 +109,8 @@ serials-small p r v sh = as! (greatest-low (256 ^ 8) (map (λ (g : Segment). g .
     let (x, i, e) = map-in (λ (g : Segment). g .serial) (segments p v 0) n m in
     let (z, j, f) = map-in (segmentOf p v 0) (remaining p v 0) x (bs! x i) in
     subst (λ (k : ℕ). k < 256 ^ 8) (sym (e ∙ ap (λ (y : Segment). y .serial) f ∙ serial-is p v 0 z ∙ ap (λ (k : ℕ). headerSerial (headerAt v k z)) (low-first p r)))
-    (serial-low (headerAt v 0 z) (cs! z (sh .zone-ok 0 z (omega (arith, r .drives-low)) (remaining-low p v 0 z j) .sound 0 (let c = capacity-over p r in omega arith) .block-bytes (inl refl))))))
+    (serial-low (headerAt v 0 z) (cs! z (sh .zone-ok 0 (zoneOn z 0) (omega (arith, r .drives-low)) (zone-on-lt p z 0 (remaining-low p v 0 z j)) .sound 0
+    (let c = capacity-over p r in omega arith) .block-bytes (inl refl))))))
   where
     as! : greatest (map (λ (g : Segment). g .serial) (segments p v 0)) < 256 ^ 8 → greatestSerial (segments p v 0) < 256 ^ 8
     as! x = unfold greatestSerial in x
@@ -116,5 +118,5 @@ serials-small p r v sh = as! (greatest-low (256 ^ 8) (map (λ (g : Segment). g .
     bs! : (x : Segment) → In x (segments p v 0) → In x (map (segmentOf p v 0) (remaining p v 0))
     bs! x m = unfold segments in m
 
-    cs! : (z : ℕ) → Bytes (getD (zoneAt v 0 z .blocks) 0 noChunk .block) → Bytes (headerAt v 0 z)
-    cs! z x = unfold headerAt chunkAt zoneOn in x
+    cs! : (z : Seg) → Bytes (getD (zoneAt v 0 (zoneOn z 0) .blocks) 0 noChunk .block) → Bytes (headerAt v 0 z)
+    cs! z x = unfold headerAt chunkAt in x

@@ -6,23 +6,24 @@ use mathlib.Core.Logic.{⊎-elim}
 use Prim.Native.Nat.{ℕ, zero, suc, _+_, _≤_, _<_}
 use native.Mathlib.Nat.{add-zero}
 use native.Mathlib.Decide.{ℕ-discrete}
-use borrow.Author.Tests.{eq-eqb, ne-eqb}
+use borrow.Author.Tests.{eq-eqb, ne-eqb, eqb-true}
 use native.Mathlib.Omega.{arith}
 use lib.Dec.{eqb}
 use lib.ListN.{length, getD, length-set}
 use lib.Seq.{getD-set-same, getD-set-other}
 use Rattle.spec.specs.declared.Params.{Params}
-use Rattle.spec.specs.Drives.{Chunk, mkChunk, noChunk, Zone, Store, putZone, storeAll, zoneOn, zeroSpare, headerStores, resetStores}
+use Rattle.spec.specs.Drives.{Chunk, mkChunk, noChunk, Zone, Store, putZone, storeAll, zoneOn, zeroSpare, headerStores, resetStores, Seg, sameSeg, seg, allSegs}
 use Rattle.spec.specs.Drives.Store.{put, reset}
 use Rattle.spec.specs.Layout.{headerBlock, Rec, recordBytes, footerBlock}
 use Rattle.spec.specs.Lists.{upFrom, below, consIf, keep, flat}
 use Rattle.spec.specs.Params.{spareLen, capacity, drivesOf}
 use Rattle.law_basic.specs.Fields.{length-record, length-zeroSpare, header-block-long}
 use Rattle.law_basic.specs.Geometry.{Ranged}
-use Rattle.law_basic.specs.Ranges.{Test, test, keep-append}
+use Rattle.law_basic.specs.Ranges.{Test, test, keep-append, keep-map}
 use Rattle.law_basic.specs.Ranges.Test.{yes!, no! }
+use Rattle.law_basic.specs.Segs.{Named, zone-same, seg-number, named-lt, keep-segs}
 use Rattle.law_drives.specs.Laid.{bytes-header, bytes-zeroSpare, bytes-record, Long, length-footer, bytes-footer}
-use Rattle.law_drives.specs.Members.{In, map-in, keep-nothing, keep-all, keep-flat, keep-map, from-in}
+use Rattle.law_drives.specs.Members.{In, map-in, keep-nothing, keep-all, keep-flat, from-in}
 use Rattle.law_drives.specs.Tables.{the-row}
 use Rattle.law_drives.specs.Tests.{and-false-right}
 use Rattle.law_drives.specs.Zones.{Bytes, SoundChunk, hitsAt, zoneStore, hits, Room}
@@ -68,27 +69,48 @@ pub keep-one-below : (f : ℕ → Bool) (z n : ℕ) → ((y : ℕ) → f y ≡ e
 unfolding below
 keep-one-below f z n h b = keep-one f z 0 n h (omega arith) (omega arith)
 
--- of a store for each drive, those that fall on a zone of drive e
-pub hits-drives : (p : Params) (e y z : ℕ) (f : ℕ → Store) → ((d : ℕ) → hitsAt e y (f d) ≡ (eqb d e && eqb z y)) → e < p .N
-    → hits e y (map f (drivesOf p)) ≡ cond (eqb z y) (f e ∷ []) []
-unfolding drivesOf
-hits-drives p e y z f h he = keep-map (hitsAt e y) f (below (p .N)) ∙ go (test (eqb z y))
+pub keep-one-seg : (p : Params) (f : Seg → Bool) (g : Seg) → ((y : Seg) → f y ≡ sameSeg y g) → Named p g → keep f (allSegs p) ≡ g ∷ []
+keep-one-seg p f g h hg = keep-segs p f ∙ ap (map seg) (keep-one-below (λ n. f (seg n)) (g .name) (p .Z) (λ n. h (seg n) ∙ seg-number n (g .name)) (named-lt p g hg))
+
+-- a zone that each drive has of its own counts on the drive alone
+pub on-drive : (z : ℕ → ℕ) (d e y : ℕ) → (eqb d e && eqb (z d) y) ≡ (eqb d e && eqb (z e) y)
+on-drive z d e y = go (test (eqb d e))
   where
-    go : Test (eqb z y) → map f (keep (λ d. hitsAt e y (f d)) (below (p .N))) ≡ cond (eqb z y) (f e ∷ []) []
-    go (yes! q) = rw q (ap (map f) (keep-one-below (λ d. hitsAt e y (f d)) e (p .N) (λ d. h d ∙ (ap (λ (x : Bool). eqb d e && x) q ∙ and-true! (eqb d e))) he))
+    go : Test (eqb d e) → (eqb d e && eqb (z d) y) ≡ (eqb d e && eqb (z e) y)
+    go (yes! q) = ap (λ (x : ℕ). eqb d e && eqb (z x) y) (eqb-true d e q)
+    go (no! q) = rw q
+
+-- of a store for each drive, those that fall on a zone of drive e
+pub hits-drives : (p : Params) (e y : ℕ) (z : ℕ → ℕ) (f : ℕ → Store) → ((d : ℕ) → hitsAt e y (f d) ≡ (eqb d e && eqb (z d) y)) → e < p .N
+    → hits e y (map f (drivesOf p)) ≡ cond (eqb (z e) y) (f e ∷ []) []
+unfolding drivesOf
+hits-drives p e y z f h he = keep-map (hitsAt e y) f (below (p .N)) ∙ go (test (eqb (z e) y))
+  where
+    go : Test (eqb (z e) y) → map f (keep (λ d. hitsAt e y (f d)) (below (p .N))) ≡ cond (eqb (z e) y) (f e ∷ []) []
+    go (yes! q) = rw q (ap (map f) (keep-one-below (λ d. hitsAt e y (f d)) e (p .N) (λ d. h d ∙ on-drive z d e y ∙ (ap (λ (x : Bool). eqb d e && x) q ∙ and-true! (eqb d e))) he))
       where
         and-true! : (b : Bool) → b && true ≡ b
         and-true! true = refl
         and-true! false = refl
-    go (no! q) = rw q (ap (map f) (keep-nothing (λ d. hitsAt e y (f d)) (below (p .N)) (λ d m. h d ∙ and-false-right (eqb d e) (eqb z y) q)))
+    go (no! q) = rw q (ap (map f) (keep-nothing (λ d. hitsAt e y (f d)) (below (p .N)) (λ d m. h d ∙ on-drive z d e y ∙ and-false-right (eqb d e) (eqb (z e) y) q)))
 
-pub hits-resets : (p : Params) (e y g : ℕ) → e < p .N → hits e y (resetStores p g) ≡ cond (eqb g y) (reset e g ∷ []) []
-unfolding resetStores zoneOn
-hits-resets p e y g h = hits-drives p e y g (λ d. reset d g) (λ d. unfold hitsAt in refl) h
+pub hits-resets : (p : Params) (e y : ℕ) (g : Seg) → e < p .N → hits e y (resetStores p g) ≡ cond (eqb (zoneOn g e) y) (reset e (zoneOn g e) ∷ []) []
+unfolding resetStores
+hits-resets p e y g h = hits-drives p e y (zoneOn g) (λ d. reset d (zoneOn g d)) (λ d. unfold hitsAt in refl) h
 
-pub hits-headers : (p : Params) (e y g r c : ℕ) → e < p .N → hits e y (headerStores p g r c) ≡ cond (eqb g y) (put e g (headerBlock p e g r c) zeroSpare ∷ []) []
-unfolding headerStores zoneOn
-hits-headers p e y g r c h = hits-drives p e y g (λ d. put d g (headerBlock p d g r c) zeroSpare) (λ d. unfold hitsAt in refl) h
+pub hits-headers : (p : Params) (e y : ℕ) (g : Seg) (r c : ℕ) → e < p .N
+    → hits e y (headerStores p g r c) ≡ cond (eqb (zoneOn g e) y) (put e (zoneOn g e) (headerBlock p e (zoneOn g e) r c) zeroSpare ∷ []) []
+unfolding headerStores
+hits-headers p e y g r c h = hits-drives p e y (zoneOn g) (λ d. put d (zoneOn g d) (headerBlock p d (zoneOn g d) r c) zeroSpare) (λ d. unfold hitsAt in refl) h
+
+-- those that fall on a zone of a segment
+pub resets-on : (p : Params) (e : ℕ) (y g : Seg) → Named p y → Named p g → e < p .N → hits e (zoneOn y e) (resetStores p g) ≡ cond (sameSeg g y) (reset e (zoneOn g e) ∷ []) []
+resets-on p e y g hy hg h = hits-resets p e (zoneOn y e) g h ∙ ap (λ (b : Bool). cond b (reset e (zoneOn g e) ∷ []) []) (zone-same p g y e hg hy)
+
+pub headers-on : (p : Params) (e : ℕ) (y g : Seg) (r c : ℕ) → Named p y → Named p g → e < p .N
+    → hits e (zoneOn y e) (headerStores p g r c) ≡ cond (sameSeg g y) (put e (zoneOn g e) (headerBlock p e (zoneOn g e) r c) zeroSpare ∷ []) []
+headers-on p e y g r c hy hg h =
+    hits-headers p e (zoneOn y e) g r c h ∙ ap (λ (b : Bool). cond b (put e (zoneOn g e) (headerBlock p e (zoneOn g e) r c) zeroSpare ∷ []) []) (zone-same p g y e hg hy)
 
 -- of a list for each number of a range, those of one number
 pub flat-one : {B : Type 0} (h : ℕ → Bool) (f : ℕ → List B) (z n : ℕ) → z < n → flat (λ g. cond (eqb g z) (f g) []) (keep h (below n)) ≡ cond (h z) (f z) []
@@ -104,11 +126,6 @@ pub puts-pointer : (d z : ℕ) (cs : List Chunk) (q : Zone) → putAll d z cs q 
 unfolding storeAll zoneStore putAt putZone
 puts-pointer d z [] q = sym (add-zero (q .pointer))
 puts-pointer d z (c ∷ cs) q = puts-pointer d z cs (putZone (c .block) (c .spare) q) ∙ omega arith
-
-pub puts-long : (d z : ℕ) (cs : List Chunk) (q : Zone) → length (putAll d z cs q .blocks) ≡ length (q .blocks)
-unfolding storeAll zoneStore putAt putZone
-puts-long d z [] q = refl
-puts-long d z (c ∷ cs) q = puts-long d z cs (putZone (c .block) (c .spare) q) ∙ length-set (q .blocks) (q .pointer) (mkChunk (c .block) (c .spare))
 
 -- what was there stays
 pub puts-old : (d z : ℕ) (cs : List Chunk) (q : Zone) (b : ℕ) → b < q .pointer → getD (putAll d z cs q .blocks) b noChunk ≡ getD (q .blocks) b noChunk

@@ -5,14 +5,14 @@ use mathlib.Core.Bool.{Bool, true, false, cond, not, _&&_}
 use mathlib.Core.Logic.{_⊎_, inl, inr, ⊎-elim}
 use Prim.Native.Nat.{ℕ, zero, suc, _+_, _-_, _^_, _≤_, _<_}
 use native.Mathlib.Nat.{add-zero, zero-add, le-of-eq}
-use native.Mathlib.Decide.{decLt, ℕ-discrete}
+use native.Mathlib.Decide.{decLt}
 use borrow.Author.Tests.{lt-ltb, le-ltb, eq-eqb, ne-eqb, eqb-false}
 use native.Mathlib.Omega.{arith}
 use lib.Dec.{ltb, eqb}
 use lib.ListN.{length, getD, length-map}
 use Rattle.spec.specs.declared.Params.{Params}
 use Rattle.spec.specs.Drives.{Chunk, mkChunk, noChunk, Zone, View, zoneAt, pointerAt, chunkAt, Store, resetZone, storeView, storeAll, zoneOn, sealedIn}
-use Rattle.spec.specs.Drives.{dataStored, recordIn, zeroSpare, headerStores, resetStores}
+use Rattle.spec.specs.Drives.{dataStored, recordIn, zeroSpare, headerStores, resetStores, Seg, sameSeg}
 use Rattle.spec.specs.Drives.Store.{put, reset}
 use Rattle.spec.specs.Layout.{dataDrive, dataPosition, isData, parityPosition, dataDrives, headerBlock, headerSerial, headerCopied, Rec, mkRec, recordBytes, recordOf}
 use Rattle.spec.specs.Lists.{upFrom, below, all, consIf, keep}
@@ -25,6 +25,7 @@ use Rattle.law_basic.specs.Geometry.{Ranged, data-drive-lt, position-lt}
 use Rattle.law_basic.specs.Mask.{isIn-empty}
 use Rattle.law_basic.specs.Ranges.{Test, test, length-upFrom, length-below, getD-map, getD-map-below}
 use Rattle.law_basic.specs.Ranges.Test.{yes!, no! }
+use Rattle.law_basic.specs.Segs.{seg-other, seg-self, segs-differ, Named, zone-on-lt, zone-same, by-seg}
 use Rattle.law_code.specs.Chunks.{moved-is-data, moved-is-parity}
 use Rattle.law_code.specs.Code.{encode-long, encode-stripe, encode-apart}
 use Rattle.law_views.specs.Views.{blocks-long}
@@ -34,7 +35,7 @@ use Rattle.law_drives.specs.Headers.{header-within}
 use Rattle.law_drives.specs.Laid.{header-serial, header-copied, record-stripe}
 use Rattle.law_drives.specs.Members.{In, in-append, map-in, in-all, keep-cong, keep-nothing, from-in, below-in}
 use Rattle.law_drives.specs.Mending.{Mended, shaped-a}
-use Rattle.law_drives.specs.Puts.{hits-append, putAt, hits-drives, hits-resets, hits-headers, putAll, puts-pointer, puts-new, room-puts, header-sound, data-sound}
+use Rattle.law_drives.specs.Puts.{hits-append, putAt, hits-drives, putAll, puts-pointer, puts-new, room-puts, header-sound, data-sound}
 use Rattle.law_drives.specs.Range.{capacity-over}
 use Rattle.law_drives.specs.Rebuilding.{counted-low, counted-in, pieceChunk, stored-long}
 use Rattle.law_drives.specs.Resets.{reset-within}
@@ -44,9 +45,10 @@ use Rattle.law_drives.specs.Spots.{counts-in}
 use Rattle.law_drives.specs.Steady.{Steady, SealedAll}
 use Rattle.law_drives.specs.Steady.Rest.{rest-open}
 use Rattle.law_drives.specs.Tables.{remains}
-use Rattle.law_drives.specs.Tests.{clash, not-so, cond-true, cond-false, cond-same, eqb-self}
+use Rattle.law_drives.specs.Tests.{clash, not-so, cond-true, cond-false, cond-same}
 use Rattle.law_drives.specs.Tidy.{spareAt, usedAt, Tidy}
 use Rattle.law_drives.specs.Zones.{SoundChunk, Shaped, hitsAt, zoneStore, hits, zone-after, Room, Within, reset-pointer, Roomy}
+use Rattle.law_drives.specs.Puts.{resets-on, headers-on}
 
 keep-firsts : (c i n : ℕ) → i ≤ c → c ≤ i + n → keep (λ s. ltb s c) (upFrom i n) ≡ upFrom i (c - i)
 unfolding keep consIf upFrom
@@ -71,13 +73,13 @@ unfolding below
 keep-below c n h = ap length (keep-firsts c 0 n (omega arith) (omega arith)) ∙ length-upFrom 0 (c - 0) ∙ omega arith
 
 module _ (p : Params) (r : Ranged p) (v : View) (sh : Shaped p v) (acc : Accepted p v 0)
-    (g : ℕ) (hg : g < p .Z) (kg : remains p v 0 g ≡ true) (ng : sealedIn p v 0 g ≡ false)
-    (oth : (y : ℕ) → y < p .Z → remains p v 0 y ≡ true → (y ≡ g → ⊥) → sealedIn p v 0 y ≡ true)
-    (z0 : ℕ) (hz0 : z0 < p .Z) (fz : remains p v 0 z0 ≡ false) (fit : suc (greatestSerial (segments p v 0)) < 256 ^ 8) where
+    (g : Seg) (hg : Named p g) (kg : remains p v 0 g ≡ true) (ng : sealedIn p v 0 g ≡ false)
+    (oth : (y : Seg) → Named p y → remains p v 0 y ≡ true → (y ≡ g → ⊥) → sealedIn p v 0 y ≡ true)
+    (z0 : Seg) (hz0 : Named p z0) (fz : remains p v 0 z0 ≡ false) (fit : suc (greatestSerial (segments p v 0)) < 256 ^ 8) where
   abbrev gs : List Segment
   gs = segments p v 0
 
-  abbrev keeps! : ℕ → Bool
+  abbrev keeps! : Seg → Bool
   keeps! y = remains p v 0 y
 
   abbrev x : Segment
@@ -99,7 +101,7 @@ module _ (p : Params) (r : Ranged p) (v : View) (sh : Shaped p v) (acc : Accepte
   h0 = omega (arith, r .drives-low)
 
   apart : z0 ≡ g → ⊥
-  apart e = clash kg (subst (λ (y : ℕ). keeps! y ≡ false) e fz)
+  apart e = clash kg (subst (λ (y : Seg). keeps! y ≡ false) e fz)
 
   sha : Shaped p va
   sha = shaped-a p r v sh acc
@@ -185,27 +187,30 @@ module _ (p : Params) (r : Ranged p) (v : View) (sh : Shaped p v) (acc : Accepte
   moved-at e (s ∷ ss) k zero h = (s, inl refl, ap (λ (n : ℕ). pieceChunk (on s n e)) (sym (add-zero k)))
   moved-at e (s ∷ ss) k (suc i) h = let (t, m, q) = moved-at e ss (suc k) i (omega arith) in (t, inr m, q ∙ ap (λ (n : ℕ). pieceChunk (on t n e)) (let z : suc k + i ≡ k + suc i = omega arith in z))
 
-  hits-moved : (e y : ℕ) (ss : List ℕ) (k : ℕ) → e < p .N → hits e y (movedStripes p x z0 ss k) ≡ cond (eqb z0 y) (map (putAt e z0) (movedChunks e ss k)) []
+  hits-moved : (e : ℕ) (y : Seg) (ss : List ℕ) (k : ℕ) → e < p .N → Named p y
+      → hits e (zoneOn y e) (movedStripes p x z0 ss k) ≡ cond (sameSeg z0 y) (map (putAt e (zoneOn z0 e)) (movedChunks e ss k)) []
   unfolding movedStripes movedChunks
-  hits-moved e y [] k he = none! ∙ sym (cond-same (eqb z0 y) [])
+  hits-moved e y [] k he hy = none! ∙ sym (cond-same (sameSeg z0 y) [])
     where
-      none! : hits e y [] ≡ []
+      none! : hits e (zoneOn y e) [] ≡ []
       none! = unfold keep in refl
-  hits-moved e y (s ∷ ss) k he =
-      hits-append e y (movedStripe p x z0 s k) (movedStripes p x z0 ss (suc k))
-      ∙ ap₂ _++_ (one ∙ hits-drives p e y z0 (λ d. putPiece d z0 (on s k d)) hit he) (hits-moved e y ss (suc k) he)
-      ∙ join (eqb z0 y)
+  hits-moved e y (s ∷ ss) k he hy =
+      hits-append e (zoneOn y e) (movedStripe p x z0 s k) (movedStripes p x z0 ss (suc k))
+      ∙ ap₂ _++_ (one ∙ hits-drives p e (zoneOn y e) (zoneOn z0) (λ d. putPiece d (zoneOn z0 d) (on s k d)) hit he
+      ∙ ap (λ (b : Bool). cond b (putPiece e (zoneOn z0 e) (on s k e) ∷ []) []) (zone-same p z0 y e hz0 hy))
+      (hits-moved e y ss (suc k) he hy)
+      ∙ join (sameSeg z0 y)
     where
-      one : hits e y (movedStripe p x z0 s k) ≡ hits e y (map (λ d. putPiece d z0 (on s k d)) (drivesOf p))
-      one = unfold movedStripe zoneOn in refl
+      one : hits e (zoneOn y e) (movedStripe p x z0 s k) ≡ hits e (zoneOn y e) (map (λ d. putPiece d (zoneOn z0 d) (on s k d)) (drivesOf p))
+      one = unfold movedStripe in refl
 
-      hit : (d : ℕ) → hitsAt e y (putPiece d z0 (on s k d)) ≡ (eqb d e && eqb z0 y)
+      hit : (d : ℕ) → hitsAt e (zoneOn y e) (putPiece d (zoneOn z0 d) (on s k d)) ≡ (eqb d e && eqb (zoneOn z0 d) (zoneOn y e))
       hit d = unfold putPiece hitsAt in refl
 
       join :
           (b : Bool)
-          → cond b (putPiece e z0 (on s k e) ∷ []) [] ++ cond b (map (putAt e z0) (movedChunks e ss (suc k))) [] ≡ cond b
-          (putAt e z0 (pieceChunk (on s k e)) ∷ map (putAt e z0) (movedChunks e ss (suc k))) []
+          → cond b (putPiece e (zoneOn z0 e) (on s k e) ∷ []) [] ++ cond b (map (putAt e (zoneOn z0 e)) (movedChunks e ss (suc k))) [] ≡ cond b
+          (putAt e (zoneOn z0 e) (pieceChunk (on s k e)) ∷ map (putAt e (zoneOn z0 e)) (movedChunks e ss (suc k))) []
       join true = unfold putPiece putAt pieceChunk in refl
       join false = refl
 
@@ -218,44 +223,48 @@ module _ (p : Params) (r : Ranged p) (v : View) (sh : Shaped p v) (acc : Accepte
   vc = storeAll storeView ts va
 
   lay : ℕ → List Chunk
-  lay e = mkChunk (headerBlock p e z0 sn (x .serial)) zeroSpare ∷ movedChunks e cs 0
+  lay e = mkChunk (headerBlock p e (zoneOn z0 e) sn (x .serial)) zeroSpare ∷ movedChunks e cs 0
 
-  ts-hits : (e y : ℕ) → e < p .N → hits e y ts ≡ cond (eqb z0 y) (map (putAt e z0) (lay e)) [] ++ cond (eqb g y) (reset e g ∷ []) []
+  ts-hits : (e : ℕ) (y : Seg) → e < p .N → Named p y → hits e (zoneOn y e) ts ≡ cond (sameSeg z0 y) (map (putAt e (zoneOn z0 e)) (lay e)) [] ++ cond (sameSeg g y) (reset e (zoneOn g e) ∷ []) []
   unfolding lay
-  ts-hits e y he = as! (hits-append e y (headerStores p z0 sn (x .serial) ++ movedStripes p x z0 cs 0) (resetStores p (x .seg))
-      ∙ ap₂ _++_ (hits-append e y (headerStores p z0 sn (x .serial)) (movedStripes p x z0 cs 0) ∙ ap₂ _++_ (hits-headers p e y z0 sn (x .serial) he) (hits-moved e y cs 0 he) ∙ join (eqb z0 y))
-      (ap (λ (n : ℕ). hits e y (resetStores p n)) (seg-is p v 0 g) ∙ hits-resets p e y g he))
+  ts-hits e y he hy = as! (hits-append e (zoneOn y e) (headerStores p z0 sn (x .serial) ++ movedStripes p x z0 cs 0) (resetStores p (x .seg))
+      ∙ ap₂ _++_ (hits-append e (zoneOn y e) (headerStores p z0 sn (x .serial)) (movedStripes p x z0 cs 0) ∙ ap₂ _++_ (headers-on p e y z0 sn (x .serial) hy hz0 he) (hits-moved e y cs 0 he hy)
+      ∙ join (sameSeg z0 y))
+      (ap (λ (n : Seg). hits e (zoneOn y e) (resetStores p n)) (seg-is p v 0 g) ∙ resets-on p e y g hy hg he))
     where
       as! :
-          hits e y ((headerStores p z0 sn (x .serial) ++ movedStripes p x z0 cs 0) ++ resetStores p (x .seg))
-          ≡ cond (eqb z0 y) (map (putAt e z0) (mkChunk (headerBlock p e z0 sn (x .serial)) zeroSpare ∷ movedChunks e cs 0)) [] ++ cond (eqb g y)
-          (reset e g ∷ []) []
-          → hits e y ts ≡ cond (eqb z0 y) (map (putAt e z0) (mkChunk (headerBlock p e z0 sn (x .serial)) zeroSpare ∷ movedChunks e cs 0)) [] ++ cond (eqb g y) (reset e g ∷ []) []
+          hits e (zoneOn y e) ((headerStores p z0 sn (x .serial) ++ movedStripes p x z0 cs 0) ++ resetStores p (x .seg))
+          ≡ cond (sameSeg z0 y) (map (putAt e (zoneOn z0 e)) (mkChunk (headerBlock p e (zoneOn z0 e) sn (x .serial)) zeroSpare ∷ movedChunks e cs 0)) [] ++ cond (sameSeg g y)
+          (reset e (zoneOn g e) ∷ []) []
+          → hits e (zoneOn y e) ts ≡ cond (sameSeg z0 y) (map (putAt e (zoneOn z0 e)) (mkChunk (headerBlock p e (zoneOn z0 e) sn (x .serial)) zeroSpare ∷ movedChunks e cs 0)) [] ++ cond
+          (sameSeg g y) (reset e (zoneOn g e) ∷ []) []
       as! q = unfold rewriteStores in q
 
       join :
           (b : Bool)
-          → cond b (put e z0 (headerBlock p e z0 sn (x .serial)) zeroSpare ∷ []) [] ++ cond b (map (putAt e z0) (movedChunks e cs 0)) [] ≡ cond b
-          (map (putAt e z0) (mkChunk (headerBlock p e z0 sn (x .serial)) zeroSpare ∷ movedChunks e cs 0)) []
+          → cond b (put e (zoneOn z0 e) (headerBlock p e (zoneOn z0 e) sn (x .serial)) zeroSpare ∷ []) [] ++ cond b (map (putAt e (zoneOn z0 e)) (movedChunks e cs 0)) [] ≡ cond b
+          (map (putAt e (zoneOn z0 e)) (mkChunk (headerBlock p e (zoneOn z0 e) sn (x .serial)) zeroSpare ∷ movedChunks e cs 0)) []
       join true = unfold putAt in refl
       join false = refl
 
-  hits-new : (e : ℕ) → e < p .N → hits e z0 ts ≡ map (putAt e z0) (lay e)
-  hits-new e he = ts-hits e z0 he
-      ∙ ap₂ _++_ (cond-true (eqb z0 z0) (map (putAt e z0) (lay e)) [] (eqb-self z0)) (cond-false (eqb g z0) (reset e g ∷ []) [] (ne-eqb g z0 (λ q. apart (sym q))))
-      ∙ append-nil (map (putAt e z0) (lay e))
+  hits-new : (e : ℕ) → e < p .N → hits e (zoneOn z0 e) ts ≡ map (putAt e (zoneOn z0 e)) (lay e)
+  hits-new e he = ts-hits e z0 he hz0
+      ∙ ap₂ _++_ (cond-true (sameSeg z0 z0) (map (putAt e (zoneOn z0 e)) (lay e)) [] (seg-self z0)) (cond-false (sameSeg g z0) (reset e (zoneOn g e) ∷ []) [] (seg-other g z0 (λ q. apart (sym q))))
+      ∙ append-nil (map (putAt e (zoneOn z0 e)) (lay e))
 
-  hits-old : (e : ℕ) → e < p .N → hits e g ts ≡ reset e g ∷ []
-  hits-old e he = ts-hits e g he ∙ ap₂ _++_ (cond-false (eqb z0 g) (map (putAt e z0) (lay e)) [] (ne-eqb z0 g apart)) (cond-true (eqb g g) (reset e g ∷ []) [] (eqb-self g))
+  hits-old : (e : ℕ) → e < p .N → hits e (zoneOn g e) ts ≡ reset e (zoneOn g e) ∷ []
+  hits-old e he =
+      ts-hits e g he hg ∙ ap₂ _++_ (cond-false (sameSeg z0 g) (map (putAt e (zoneOn z0 e)) (lay e)) [] (seg-other z0 g apart)) (cond-true (sameSeg g g) (reset e (zoneOn g e) ∷ []) [] (seg-self g))
 
-  hits-else : (e y : ℕ) → e < p .N → (z0 ≡ y → ⊥) → (g ≡ y → ⊥) → hits e y ts ≡ []
-  hits-else e y he a b = ts-hits e y he ∙ ap₂ _++_ (cond-false (eqb z0 y) (map (putAt e z0) (lay e)) [] (ne-eqb z0 y a)) (cond-false (eqb g y) (reset e g ∷ []) [] (ne-eqb g y b))
+  hits-else : (e : ℕ) (y : Seg) → e < p .N → Named p y → (z0 ≡ y → ⊥) → (g ≡ y → ⊥) → hits e (zoneOn y e) ts ≡ []
+  hits-else e y he hy a b =
+      ts-hits e y he hy ∙ ap₂ _++_ (cond-false (sameSeg z0 y) (map (putAt e (zoneOn z0 e)) (lay e)) [] (seg-other z0 y a)) (cond-false (sameSeg g y) (reset e (zoneOn g e) ∷ []) [] (seg-other g y b))
 
   lay-count : (e : ℕ) → length (lay e) ≡ 1 + c
   unfolding lay
   lay-count e = ap suc (moved-count e cs 0) ∙ omega arith
 
-  empty-a : (e : ℕ) → e < p .N → pointerAt va e z0 ≡ 0
+  empty-a : (e : ℕ) → e < p .N → pointerAt va e (zoneOn z0 e) ≡ 0
   empty-a e he = drop-empty p r v sh acc z0 hz0 fz e he
 
   c-low : c ≤ p .S
@@ -274,14 +283,14 @@ module _ (p : Params) (r : Ranged p) (v : View) (sh : Shaped p v) (acc : Accepte
       piece! : (q : Piece) → pieceChunk q ≡ mkChunk (q .block) (recordBytes (q .rec))
       piece! q = unfold pieceChunk in refl
 
-  lay-room : (e : ℕ) → e < p .N → Room p 0 (map (putAt e z0) (lay e))
-  lay-room e he = room-puts p e z0 0 (lay e) (let a = lay-count e in let b = c-low in let k = capacity-over p r in omega arith) go
+  lay-room : (e : ℕ) → e < p .N → Room p 0 (map (putAt e (zoneOn z0 e)) (lay e))
+  lay-room e he = room-puts p e (zoneOn z0 e) 0 (lay e) (let a = lay-count e in let b = c-low in let k = capacity-over p r in omega arith) go
     where
       go : (i : ℕ) → i < length (lay e) → SoundChunk p (0 + i) (getD (lay e) i noChunk)
       go zero h = first!
         where
           first! : SoundChunk p 0 (getD (lay e) 0 noChunk)
-          first! = unfold lay in header-sound p r e z0 sn (x .serial)
+          first! = unfold lay in header-sound p r e (zoneOn z0 e) sn (x .serial)
       go (suc i) h =
           let l : i < c = (let a = lay-count e in omega arith) in
           let (b, q, f, lb, st) = lay-at e i he l in
@@ -290,15 +299,16 @@ module _ (p : Params) (r : Ranged p) (v : View) (sh : Shaped p v) (acc : Accepte
           (subst (λ (y : Chunk). SoundChunk p (suc i) y) (sym f) (data-sound p (suc i) b q (omega arith) (let k = c-low in omega arith) lb))
 
   rewrite-roomy : Roomy p va ts
-  rewrite-roomy e y he hy = go (ℕ-discrete z0 y) (ℕ-discrete g y)
+  rewrite-roomy e k he hk = by-seg (λ n. Room p (pointerAt va e n) (hits e n ts)) p e k hk (λ y hy. go y hy (segs-differ z0 y) (segs-differ g y))
     where
-      go : Dec (z0 ≡ y) → Dec (g ≡ y) → Room p (pointerAt va e y) (hits e y ts)
-      go (yes a) b =
-          subst (λ (n : ℕ). Room p (pointerAt va e n) (hits e n ts)) a
-          (subst (λ (l : List Store). Room p (pointerAt va e z0) l) (sym (hits-new e he))
-          (subst (λ (n : ℕ). Room p n (map (putAt e z0) (lay e))) (sym (empty-a e he)) (lay-room e he)))
-      go (no a) (yes b) = subst (λ (n : ℕ). Room p (pointerAt va e n) (hits e n ts)) b (subst (λ (l : List Store). Room p (pointerAt va e g) l) (sym (hits-old e he)) tt)
-      go (no a) (no b) = subst (λ (l : List Store). Room p (pointerAt va e y) l) (sym (hits-else e y he a b)) tt
+      go : (y : Seg) → Named p y → Dec (z0 ≡ y) → Dec (g ≡ y) → Room p (pointerAt va e (zoneOn y e)) (hits e (zoneOn y e) ts)
+      go y hy (yes a) b =
+          subst (λ (n : Seg). Room p (pointerAt va e (zoneOn n e)) (hits e (zoneOn n e) ts)) a
+          (subst (λ (l : List Store). Room p (pointerAt va e (zoneOn z0 e)) l) (sym (hits-new e he))
+          (subst (λ (n : ℕ). Room p n (map (putAt e (zoneOn z0 e)) (lay e))) (sym (empty-a e he)) (lay-room e he)))
+      go y hy (no a) (yes b) =
+          subst (λ (n : Seg). Room p (pointerAt va e (zoneOn n e)) (hits e (zoneOn n e) ts)) b (subst (λ (l : List Store). Room p (pointerAt va e (zoneOn g e)) l) (sym (hits-old e he)) tt)
+      go y hy (no a) (no b) = subst (λ (l : List Store). Room p (pointerAt va e (zoneOn y e)) l) (sym (hits-else e y he hy a b)) tt
 
   rewrite-within : (s : Store) → In s ts → Within p s
   rewrite-within s m = ⊎-elim (λ a. ⊎-elim (λ b. header! b) (λ b. moved! cs 0 b) (in-append s (headerStores p z0 sn (x .serial)) (movedStripes p x z0 cs 0) a)) (λ a. reset! a)
@@ -311,7 +321,7 @@ module _ (p : Params) (r : Ranged p) (v : View) (sh : Shaped p v) (acc : Accepte
       header! m = header-within p r va sha z0 sn (x .serial) hz0 empty-a s m
 
       reset! : In s (resetStores p (x .seg)) → Within p s
-      reset! m = reset-within p r va sha g hg s (subst (λ (n : ℕ). In s (resetStores p n)) (seg-is p v 0 g) m)
+      reset! m = reset-within p r va sha g hg s (subst (λ (n : Seg). In s (resetStores p n)) (seg-is p v 0 g) m)
 
       moved! : (ss : List ℕ) (k : ℕ) → In s (movedStripes p x z0 ss k) → Within p s
       moved! [] k m = absurd (none! m)
@@ -325,80 +335,83 @@ module _ (p : Params) (r : Ranged p) (v : View) (sh : Shaped p v) (acc : Accepte
 
           one : In s (movedStripe p x z0 t k) → Within p s
           one m =
-              let (d, i, e) = map-in (λ d. putPiece d z0 (on t k d)) (below (p .N)) s (ds! m) in
+              let (d, i, e) = map-in (λ d. putPiece d (zoneOn z0 d) (on t k d)) (below (p .N)) s (ds! m) in
               subst (λ (y : Store). Within p y) (sym e) (within! d (below-in (p .N) d i))
             where
-              ds! : In s (movedStripe p x z0 t k) → In s (map (λ d. putPiece d z0 (on t k d)) (below (p .N)))
-              ds! m = unfold movedStripe drivesOf zoneOn in m
+              ds! : In s (movedStripe p x z0 t k) → In s (map (λ d. putPiece d (zoneOn z0 d) (on t k d)) (below (p .N)))
+              ds! m = unfold movedStripe drivesOf in m
 
-              within! : (d : ℕ) → d < p .N → Within p (putPiece d z0 (on t k d))
-              within! d h = unfold putPiece in (h, hz0)
+              within! : (d : ℕ) → d < p .N → Within p (putPiece d (zoneOn z0 d) (on t k d))
+              within! d h = unfold putPiece in (h, zone-on-lt p z0 d hz0)
 
   -- ---- the zones after them
 
-  new-zone : (e : ℕ) → e < p .N → zoneAt vc e z0 ≡ putAll e z0 (lay e) (zoneAt va e z0)
-  new-zone e he = zone-after p va e z0 ts (sha .sized) he hz0 ∙ ap (λ (l : List Store). storeAll zoneStore l (zoneAt va e z0)) (hits-new e he)
+  new-zone : (e : ℕ) → e < p .N → zoneAt vc e (zoneOn z0 e) ≡ putAll e (zoneOn z0 e) (lay e) (zoneAt va e (zoneOn z0 e))
+  new-zone e he = zone-after p va e (zoneOn z0 e) ts (sha .sized) he (zone-on-lt p z0 e hz0) ∙ ap (λ (l : List Store). storeAll zoneStore l (zoneAt va e (zoneOn z0 e))) (hits-new e he)
 
-  pub old-pointer : (e : ℕ) → e < p .N → pointerAt vc e g ≡ 0
+  pub old-pointer : (e : ℕ) → e < p .N → pointerAt vc e (zoneOn g e) ≡ 0
   old-pointer e he =
       as! (ap (λ (q : Zone). q .pointer)
-      (zone-after p va e g ts (sha .sized) he hg ∙ ap (λ (l : List Store). storeAll zoneStore l (zoneAt va e g)) (hits-old e he) ∙ once)
-      ∙ reset-pointer (zoneAt va e g))
+      (zone-after p va e (zoneOn g e) ts (sha .sized) he (zone-on-lt p g e hg) ∙ ap (λ (l : List Store). storeAll zoneStore l (zoneAt va e (zoneOn g e))) (hits-old e he) ∙ once)
+      ∙ reset-pointer (zoneAt va e (zoneOn g e)))
     where
-      once : storeAll zoneStore (reset e g ∷ []) (zoneAt va e g) ≡ resetZone (zoneAt va e g)
+      once : storeAll zoneStore (reset e (zoneOn g e) ∷ []) (zoneAt va e (zoneOn g e)) ≡ resetZone (zoneAt va e (zoneOn g e))
       once = unfold storeAll zoneStore in refl
 
-      as! : zoneAt vc e g .pointer ≡ 0 → pointerAt vc e g ≡ 0
+      as! : zoneAt vc e (zoneOn g e) .pointer ≡ 0 → pointerAt vc e (zoneOn g e) ≡ 0
       as! q = unfold pointerAt in q
 
-  pub same-else : (y : ℕ) → y < p .Z → (z0 ≡ y → ⊥) → (g ≡ y → ⊥) → SameZones p va vc y
-  same-else y hy a b e he = sym (zone-after p va e y ts (sha .sized) he hy ∙ ap (λ (l : List Store). storeAll zoneStore l (zoneAt va e y)) (hits-else e y he a b) ∙ nothing)
+  pub same-else : (y : Seg) → Named p y → (z0 ≡ y → ⊥) → (g ≡ y → ⊥) → SameZones p va vc y
+  same-else y hy a b e he =
+      sym (zone-after p va e (zoneOn y e) ts (sha .sized) he (zone-on-lt p y e hy) ∙ ap (λ (l : List Store). storeAll zoneStore l (zoneAt va e (zoneOn y e))) (hits-else e y he hy a b) ∙ nothing)
     where
-      nothing : storeAll zoneStore [] (zoneAt va e y) ≡ zoneAt va e y
+      nothing : storeAll zoneStore [] (zoneAt va e (zoneOn y e)) ≡ zoneAt va e (zoneOn y e)
       nothing = unfold storeAll in refl
 
-  zero! : (e : ℕ) → e < p .N → zoneAt va e z0 .pointer ≡ 0
+  zero! : (e : ℕ) → e < p .N → zoneAt va e (zoneOn z0 e) .pointer ≡ 0
   zero! e he = as! (empty-a e he)
     where
-      as! : pointerAt va e z0 ≡ 0 → zoneAt va e z0 .pointer ≡ 0
+      as! : pointerAt va e (zoneOn z0 e) ≡ 0 → zoneAt va e (zoneOn z0 e) .pointer ≡ 0
       as! q = unfold pointerAt in q
 
-  pub new-pointer : (e : ℕ) → e < p .N → pointerAt vc e z0 ≡ 1 + c
+  pub new-pointer : (e : ℕ) → e < p .N → pointerAt vc e (zoneOn z0 e) ≡ 1 + c
   new-pointer e he =
       as! (ap (λ (q : Zone). q .pointer) (new-zone e he)
-      ∙ puts-pointer e z0 (lay e) (zoneAt va e z0)
-      ∙ (let a = zero! e he in let b = lay-count e in let w : zoneAt va e z0 .pointer + length (lay e) ≡ 1 + c = omega arith in w))
+      ∙ puts-pointer e (zoneOn z0 e) (lay e) (zoneAt va e (zoneOn z0 e))
+      ∙ (let a = zero! e he in let b = lay-count e in let w : zoneAt va e (zoneOn z0 e) .pointer + length (lay e) ≡ 1 + c = omega arith in w))
     where
-      as! : zoneAt vc e z0 .pointer ≡ 1 + c → pointerAt vc e z0 ≡ 1 + c
+      as! : zoneAt vc e (zoneOn z0 e) .pointer ≡ 1 + c → pointerAt vc e (zoneOn z0 e) ≡ 1 + c
       as! q = unfold pointerAt in q
 
-  new-block : (e i : ℕ) → e < p .N → i < length (lay e) → getD (zoneAt vc e z0 .blocks) i noChunk ≡ getD (lay e) i noChunk
+  new-block : (e i : ℕ) → e < p .N → i < length (lay e) → getD (zoneAt vc e (zoneOn z0 e) .blocks) i noChunk ≡ getD (lay e) i noChunk
   new-block e i he h =
       ap (λ (q : Zone). getD (q .blocks) i noChunk) (new-zone e he)
-      ∙ ap (λ (n : ℕ). getD (putAll e z0 (lay e) (zoneAt va e z0) .blocks) n noChunk) (let a = zero! e he in let w : i ≡ zoneAt va e z0 .pointer + i = omega arith in w)
-      ∙ puts-new e z0 (lay e) (zoneAt va e z0) i h
-      (let a = zero! e he in let b = lay-count e in let d = c-low in let k = capacity-over p r in let l = sha .zone-ok e z0 he hz0 .blocks-long in
+      ∙ ap (λ (n : ℕ). getD (putAll e (zoneOn z0 e) (lay e) (zoneAt va e (zoneOn z0 e)) .blocks) n noChunk)
+      (let a = zero! e he in let w : i ≡ zoneAt va e (zoneOn z0 e) .pointer + i = omega arith in w)
+      ∙ puts-new e (zoneOn z0 e) (lay e) (zoneAt va e (zoneOn z0 e)) i h
+      (let a = zero! e he in let b = lay-count e in let d = c-low in let k = capacity-over p r in let l = sha .zone-ok e (zoneOn z0 e) he (zone-on-lt p z0 e hz0) .blocks-long in
       omega arith)
 
   -- stripe o lies at offset o
-  pub new-stripe : (e o : ℕ) → e < p .N → o < c → spareAt p vc e z0 o .stripe ≡ o
+  pub new-stripe : (e o : ℕ) → e < p .N → o < c → spareAt p vc e (zoneOn z0 e) o .stripe ≡ o
   new-stripe e o he h =
       let (b, q, f, lb, st) = lay-at e o he h in
-      let w : getD (zoneAt vc e z0 .blocks) (1 + o) noChunk ≡ mkChunk b (recordBytes q) =
-      ap (λ (n : ℕ). getD (zoneAt vc e z0 .blocks) n noChunk) (let z : 1 + o ≡ suc o = omega arith in z)
+      let w : getD (zoneAt vc e (zoneOn z0 e) .blocks) (1 + o) noChunk ≡ mkChunk b (recordBytes q) =
+      ap (λ (n : ℕ). getD (zoneAt vc e (zoneOn z0 e) .blocks) n noChunk) (let z : 1 + o ≡ suc o = omega arith in z)
       ∙ new-block e (suc o) he (let a = lay-count e in omega arith)
       ∙ f in
       as! b q w (record-stripe q (subst (λ (n : ℕ). n < 256 ^ 4) (sym st) (let a = c-low in let k = r .stripes-high in omega arith)) ∙ st)
     where
-      as! : (b : List ℕ) (q : Rec) → getD (zoneAt vc e z0 .blocks) (1 + o) noChunk ≡ mkChunk b (recordBytes q) → recordOf (recordBytes q) .stripe ≡ o → spareAt p vc e z0 o .stripe ≡ o
+      as! : (b : List ℕ) (q : Rec) → getD (zoneAt vc e (zoneOn z0 e) .blocks) (1 + o) noChunk ≡ mkChunk b (recordBytes q) → recordOf (recordBytes q) .stripe ≡ o
+          → spareAt p vc e (zoneOn z0 e) o .stripe ≡ o
       as! b q w u = unfold recordIn in (ap (λ (y : Chunk). recordOf (y .spare) .stripe) w ∙ u)
 
   -- its record is that of a counted stripe, moved
-  pub new-record : (e o : ℕ) → e < p .N → o < c → (s : ℕ) × In s cs × (spareAt p vc e z0 o ≡ recordOf (recordBytes (movedOn p (movedPieces p x s o) o e .rec)))
+  pub new-record : (e o : ℕ) → e < p .N → o < c → (s : ℕ) × In s cs × (spareAt p vc e (zoneOn z0 e) o ≡ recordOf (recordBytes (movedOn p (movedPieces p x s o) o e .rec)))
   new-record e o he h =
       let (s, m, q) = moved-at e cs 0 o h in
-      let w : getD (zoneAt vc e z0 .blocks) (1 + o) noChunk ≡ pieceChunk (on s o e) =
-      ap (λ (n : ℕ). getD (zoneAt vc e z0 .blocks) n noChunk) (let z : 1 + o ≡ suc o = omega arith in z)
+      let w : getD (zoneAt vc e (zoneOn z0 e) .blocks) (1 + o) noChunk ≡ pieceChunk (on s o e) =
+      ap (λ (n : ℕ). getD (zoneAt vc e (zoneOn z0 e) .blocks) n noChunk) (let z : 1 + o ≡ suc o = omega arith in z)
       ∙ new-block e (suc o) he (let a = lay-count e in omega arith)
       ∙ behind
       ∙ q
@@ -408,24 +421,24 @@ module _ (p : Params) (r : Ranged p) (v : View) (sh : Shaped p v) (acc : Accepte
       behind : getD (lay e) (suc o) noChunk ≡ getD (movedChunks e cs 0) o noChunk
       behind = unfold lay in refl
 
-      as! : (s : ℕ) → getD (zoneAt vc e z0 .blocks) (1 + o) noChunk ≡ pieceChunk (on s o e) → spareAt p vc e z0 o ≡ recordOf (recordBytes (on s o e .rec))
+      as! : (s : ℕ) → getD (zoneAt vc e (zoneOn z0 e) .blocks) (1 + o) noChunk ≡ pieceChunk (on s o e) → spareAt p vc e (zoneOn z0 e) o ≡ recordOf (recordBytes (on s o e .rec))
       as! s w = unfold recordIn pieceChunk in ap (λ (y : Chunk). recordOf (y .spare)) w
 
   -- its header, on each drive
-  pub new-header : (e : ℕ) → e < p .N → getD (zoneAt vc e z0 .blocks) 0 noChunk ≡ mkChunk (headerBlock p e z0 sn (x .serial)) zeroSpare
+  pub new-header : (e : ℕ) → e < p .N → getD (zoneAt vc e (zoneOn z0 e) .blocks) 0 noChunk ≡ mkChunk (headerBlock p e (zoneOn z0 e) sn (x .serial)) zeroSpare
   new-header e he = new-block e 0 he (let a = lay-count e in omega arith) ∙ first!
     where
-      first! : getD (lay e) 0 noChunk ≡ mkChunk (headerBlock p e z0 sn (x .serial)) zeroSpare
+      first! : getD (lay e) 0 noChunk ≡ mkChunk (headerBlock p e (zoneOn z0 e) sn (x .serial)) zeroSpare
       first! = unfold lay in refl
 
-  new-head : headerAt vc 0 z0 ≡ headerBlock p 0 z0 sn (x .serial)
+  new-head : headerAt vc 0 z0 ≡ headerBlock p 0 (zoneOn z0 0) sn (x .serial)
   new-head = as! (ap (λ (y : Chunk). y .block) (new-block 0 0 h0 (let a = lay-count 0 in omega arith)) ∙ first!)
     where
-      first! : getD (lay 0) 0 noChunk .block ≡ headerBlock p 0 z0 sn (x .serial)
+      first! : getD (lay 0) 0 noChunk .block ≡ headerBlock p 0 (zoneOn z0 0) sn (x .serial)
       first! = unfold lay in refl
 
-      as! : getD (zoneAt vc 0 z0 .blocks) 0 noChunk .block ≡ headerBlock p 0 z0 sn (x .serial) → headerAt vc 0 z0 ≡ headerBlock p 0 z0 sn (x .serial)
-      as! e = unfold headerAt chunkAt zoneOn in e
+      as! : getD (zoneAt vc 0 (zoneOn z0 0) .blocks) 0 noChunk .block ≡ headerBlock p 0 (zoneOn z0 0) sn (x .serial) → headerAt vc 0 z0 ≡ headerBlock p 0 (zoneOn z0 0) sn (x .serial)
+      as! e = unfold headerAt chunkAt in e
 
   -- ---- the new segment is steady
 
@@ -442,20 +455,20 @@ module _ (p : Params) (r : Ranged p) (v : View) (sh : Shaped p v) (acc : Accepte
     pub open-now : sealedIn p vc 0 z0 ≡ false
     open-now = not-so (sealedIn p vc 0 z0) (λ q. let a = sealed-full p vc z0 q 0 h0 in let b = new-pointer 0 h0 in let d = few! in let k = capacity-over p r in let bad : ⊥ = omega arith in bad)
 
-    stored! : (e o : ℕ) → e < p .N → o < c → o < dataStored p (zoneAt vc e z0)
-    stored! e o he h = low-data p (zoneAt vc e z0) o (let a = few! in omega arith) (as! (new-pointer e he))
+    stored! : (e o : ℕ) → e < p .N → o < c → o < dataStored p (zoneAt vc e (zoneOn z0 e))
+    stored! e o he h = low-data p (zoneAt vc e (zoneOn z0 e)) o (let a = few! in omega arith) (as! (new-pointer e he))
       where
-        as! : pointerAt vc e z0 ≡ 1 + c → 1 + o < zoneAt vc e z0 .pointer
+        as! : pointerAt vc e (zoneOn z0 e) ≡ 1 + c → 1 + o < zoneAt vc e (zoneOn z0 e) .pointer
         as! q = unfold pointerAt in omega arith
 
-    pub under! : (e o : ℕ) → e < p .N → o < dataStored p (zoneAt vc e z0) → o < c
-    under! e o he h = let a = data-low p (zoneAt vc e z0) o h .1 in as! (new-pointer e he) a
+    pub under! : (e o : ℕ) → e < p .N → o < dataStored p (zoneAt vc e (zoneOn z0 e)) → o < c
+    under! e o he h = let a = data-low p (zoneAt vc e (zoneOn z0 e)) o h .1 in as! (new-pointer e he) a
       where
-        as! : pointerAt vc e z0 ≡ 1 + c → 1 + o < zoneAt vc e z0 .pointer → o < c
+        as! : pointerAt vc e (zoneOn z0 e) ≡ 1 + c → 1 + o < zoneAt vc e (zoneOn z0 e) .pointer → o < c
         as! q w = unfold pointerAt in omega arith
 
-    moved-by-spare : (e o : ℕ) → recordIn p (sealedIn p vc 0 z0) (zoneAt vc e z0) o ≡ spareAt p vc e z0 o
-    moved-by-spare e o = ap (λ (w : Bool). recordIn p w (zoneAt vc e z0) o) open-now
+    moved-by-spare : (e o : ℕ) → recordIn p (sealedIn p vc 0 z0) (zoneAt vc e (zoneOn z0 e)) o ≡ spareAt p vc e (zoneOn z0 e) o
+    moved-by-spare e o = ap (λ (w : Bool). recordIn p w (zoneAt vc e (zoneOn z0 e)) o) open-now
 
     counts-are : (s : ℕ) → s < p .S → counts p 0 y0 s ≡ ltb s c
     counts-are s h = go (decLt s c)
@@ -481,7 +494,7 @@ module _ (p : Params) (r : Ranged p) (v : View) (sh : Shaped p v) (acc : Accepte
         as! e = unfold counted in e
 
     new-used : usedAt vc z0 ≡ true
-    new-used = ap not (ne-eqb (pointerAt vc 0 z0) 0 (λ q. let a = new-pointer 0 h0 in let bad : ⊥ = omega arith in bad))
+    new-used = ap not (ne-eqb (pointerAt vc 0 (zoneOn z0 0)) 0 (λ q. let a = new-pointer 0 h0 in let bad : ⊥ = omega arith in bad))
 
     new-steady : Steady p vc z0 c
     new-steady = record {
@@ -495,19 +508,19 @@ module _ (p : Params) (r : Ranged p) (v : View) (sh : Shaped p v) (acc : Accepte
 
     -- ---- the view is tidy
 
-    pub used-moved : (y : ℕ) → y < p .Z → usedAt vc y ≡ true → (y ≡ z0) ⊎ ((keeps! y ≡ true) × ((z0 ≡ y → ⊥) × (g ≡ y → ⊥)))
-    used-moved y hy q = go (ℕ-discrete z0 y) (ℕ-discrete g y)
+    pub used-moved : (y : Seg) → Named p y → usedAt vc y ≡ true → (y ≡ z0) ⊎ ((keeps! y ≡ true) × ((z0 ≡ y → ⊥) × (g ≡ y → ⊥)))
+    used-moved y hy q = go (segs-differ z0 y) (segs-differ g y)
       where
         go : Dec (z0 ≡ y) → Dec (g ≡ y) → (y ≡ z0) ⊎ ((keeps! y ≡ true) × ((z0 ≡ y → ⊥) × (g ≡ y → ⊥)))
         go (yes a) b = inl (sym a)
-        go (no a) (yes b) = clash q (ap not (eq-eqb (pointerAt vc 0 y) 0 (ap (pointerAt vc 0) (sym b) ∙ old-pointer 0 h0)))
+        go (no a) (yes b) = clash q (ap not (eq-eqb (pointerAt vc 0 (zoneOn y 0)) 0 (ap (λ (n : Seg). pointerAt vc 0 (zoneOn n 0)) (sym b) ∙ old-pointer 0 h0)))
         go (no a) (no b) = inr (sym (drop-used p r v sh acc y hy) ∙ zones-used p r va vc y (same-else y hy a b) ∙ q, (a, b))
 
-    hdr! : (y : ℕ) → y < p .Z → keeps! y ≡ true → (z0 ≡ y → ⊥) → (g ≡ y → ⊥) → headerAt v 0 y ≡ headerAt vc 0 y
+    hdr! : (y : Seg) → Named p y → keeps! y ≡ true → (z0 ≡ y → ⊥) → (g ≡ y → ⊥) → headerAt v 0 y ≡ headerAt vc 0 y
     hdr! y hy k a b = zones-header p r v va y (drop-same p r v sh acc y hy k) ∙ zones-header p r va vc y (same-else y hy a b)
 
     serial-new : headerSerial (headerAt vc 0 z0) ≡ sn
-    serial-new = ap headerSerial new-head ∙ header-serial p 0 z0 sn (x .serial) fit
+    serial-new = ap headerSerial new-head ∙ header-serial p 0 (zoneOn z0 0) sn (x .serial) fit
 
     serial-g : x .serial ≡ headerSerial (headerAt v 0 g)
     serial-g = serial-is p v 0 g ∙ ap (λ (n : ℕ). headerSerial (headerAt v n g)) (low-first p r)
@@ -516,49 +529,52 @@ module _ (p : Params) (r : Ranged p) (v : View) (sh : Shaped p v) (acc : Accepte
     serial-g-low = let a = kept-known p r v sh acc g hg kg in omega arith
 
     copied-new : headerCopied (headerAt vc 0 z0) ≡ headerSerial (headerAt v 0 g)
-    copied-new = ap headerCopied new-head ∙ header-copied p 0 z0 sn (x .serial) (subst (λ (n : ℕ). n < 256 ^ 8) (sym serial-g) (let a = serial-g-low in let b = fit in omega arith)) ∙ serial-g
+    copied-new =
+        ap headerCopied new-head ∙ header-copied p 0 (zoneOn z0 0) sn (x .serial) (subst (λ (n : ℕ). n < 256 ^ 8) (sym serial-g) (let a = serial-g-low in let b = fit in omega arith)) ∙ serial-g
 
     rewrite-tidy : Tidy p vc sn
     rewrite-tidy = record {
-      pointer-low = λ d z hd hz. low d z hd hz (ℕ-discrete z0 z) (ℕ-discrete g z);
-      together = λ d z hd hz. tog d z hd hz (ℕ-discrete z0 z) (ℕ-discrete g z);
+      pointer-low = λ d z hd hz. low d z hd hz (segs-differ z0 z) (segs-differ g z);
+      together = λ d z hd hz. tog d z hd hz (segs-differ z0 z) (segs-differ g z);
       copied-less = λ z hz q. less z hz (used-moved z hz q);
       serial-known = λ z hz q. known z hz (used-moved z hz q);
       serial-once = λ y z hy hz a b e. once y z hy hz e (used-moved y hy a) (used-moved z hz b);
       no-copy = λ y z hy hz a b e. nc y z hy hz e (used-moved y hy a) (used-moved z hz b);
     }
       where
-        low : (d z : ℕ) → d < p .N → z < p .Z → Dec (z0 ≡ z) → Dec (g ≡ z) → pointerAt vc d z ≤ capacity p
-        low d z hd hz (yes a) b = subst (λ (n : ℕ). pointerAt vc d n ≤ capacity p) a (let e = new-pointer d hd in let k = c-low in let l = capacity-over p r in omega arith)
-        low d z hd hz (no a) (yes b) = subst (λ (n : ℕ). pointerAt vc d n ≤ capacity p) b (let e = old-pointer d hd in omega arith)
+        low : (d : ℕ) (z : Seg) → d < p .N → Named p z → Dec (z0 ≡ z) → Dec (g ≡ z) → pointerAt vc d (zoneOn z d) ≤ capacity p
+        low d z hd hz (yes a) b = subst (λ (n : Seg). pointerAt vc d (zoneOn n d) ≤ capacity p) a (let e = new-pointer d hd in let k = c-low in let l = capacity-over p r in omega arith)
+        low d z hd hz (no a) (yes b) = subst (λ (n : Seg). pointerAt vc d (zoneOn n d) ≤ capacity p) b (let e = old-pointer d hd in omega arith)
         low d z hd hz (no a) (no b) = subst (λ (n : ℕ). n ≤ capacity p) (zones-pointer p r va vc z (same-else z hz a b) d hd) (drop-tidy p r v sh acc .pointer-low d z hd hz)
 
-        tog : (d z : ℕ) → d < p .N → z < p .Z → Dec (z0 ≡ z) → Dec (g ≡ z) → eqb (pointerAt vc d z) 0 ≡ eqb (pointerAt vc 0 z) 0
-        tog d z hd hz (yes a) b = subst (λ (n : ℕ). eqb (pointerAt vc d n) 0 ≡ eqb (pointerAt vc 0 n) 0) a (ap (λ (n : ℕ). eqb n 0) (new-pointer d hd ∙ sym (new-pointer 0 h0)))
-        tog d z hd hz (no a) (yes b) = subst (λ (n : ℕ). eqb (pointerAt vc d n) 0 ≡ eqb (pointerAt vc 0 n) 0) b (ap (λ (n : ℕ). eqb n 0) (old-pointer d hd ∙ sym (old-pointer 0 h0)))
+        tog : (d : ℕ) (z : Seg) → d < p .N → Named p z → Dec (z0 ≡ z) → Dec (g ≡ z) → eqb (pointerAt vc d (zoneOn z d)) 0 ≡ eqb (pointerAt vc 0 (zoneOn z 0)) 0
+        tog d z hd hz (yes a) b = subst (λ (n : Seg). eqb (pointerAt vc d (zoneOn n d)) 0 ≡ eqb (pointerAt vc 0 (zoneOn n 0)) 0) a (ap (λ (n : ℕ). eqb n 0) (new-pointer d hd ∙ sym (new-pointer 0 h0)))
+        tog d z hd hz (no a) (yes b) =
+            subst (λ (n : Seg). eqb (pointerAt vc d (zoneOn n d)) 0 ≡ eqb (pointerAt vc 0 (zoneOn n 0)) 0) b (ap (λ (n : ℕ). eqb n 0) (old-pointer d hd ∙ sym (old-pointer 0 h0)))
         tog d z hd hz (no a) (no b) =
             ap (λ (n : ℕ). eqb n 0) (sym (zones-pointer p r va vc z (same-else z hz a b) d hd))
             ∙ drop-tidy p r v sh acc .together d z hd hz
             ∙ ap (λ (n : ℕ). eqb n 0) (zones-pointer p r va vc z (same-else z hz a b) 0 h0)
 
-        less : (z : ℕ) → z < p .Z → (z ≡ z0) ⊎ ((keeps! z ≡ true) × ((z0 ≡ z → ⊥) × (g ≡ z → ⊥))) → headerCopied (headerAt vc 0 z) < headerSerial (headerAt vc 0 z)
-        less z hz (inl e) = subst (λ (n : ℕ). headerCopied (headerAt vc 0 n) < headerSerial (headerAt vc 0 n)) (sym e) (let a = serial-new in let b = copied-new in let d = serial-g-low in omega arith)
+        less : (z : Seg) → Named p z → (z ≡ z0) ⊎ ((keeps! z ≡ true) × ((z0 ≡ z → ⊥) × (g ≡ z → ⊥))) → headerCopied (headerAt vc 0 z) < headerSerial (headerAt vc 0 z)
+        less z hz (inl e) =
+            subst (λ (n : Seg). headerCopied (headerAt vc 0 n) < headerSerial (headerAt vc 0 n)) (sym e) (let a = serial-new in let b = copied-new in let d = serial-g-low in omega arith)
         less z hz (inr (k, (a, b))) = subst (λ (l : List ℕ). headerCopied l < headerSerial l) (hdr! z hz k a b) (kept-less p r v sh acc z hz k)
 
-        known : (z : ℕ) → z < p .Z → (z ≡ z0) ⊎ ((keeps! z ≡ true) × ((z0 ≡ z → ⊥) × (g ≡ z → ⊥))) → headerSerial (headerAt vc 0 z) ≤ sn
-        known z hz (inl e) = subst (λ (n : ℕ). headerSerial (headerAt vc 0 n) ≤ sn) (sym e) (le-of-eq serial-new)
+        known : (z : Seg) → Named p z → (z ≡ z0) ⊎ ((keeps! z ≡ true) × ((z0 ≡ z → ⊥) × (g ≡ z → ⊥))) → headerSerial (headerAt vc 0 z) ≤ sn
+        known z hz (inl e) = subst (λ (n : Seg). headerSerial (headerAt vc 0 n) ≤ sn) (sym e) (le-of-eq serial-new)
         known z hz (inr (k, (a, b))) = subst (λ (l : List ℕ). headerSerial l ≤ sn) (hdr! z hz k a b) (let d = kept-known p r v sh acc z hz k in omega arith)
 
-        old-low : (z : ℕ) → z < p .Z → keeps! z ≡ true → (z0 ≡ z → ⊥) → (g ≡ z → ⊥) → headerSerial (headerAt vc 0 z) ≤ greatestSerial gs
+        old-low : (z : Seg) → Named p z → keeps! z ≡ true → (z0 ≡ z → ⊥) → (g ≡ z → ⊥) → headerSerial (headerAt vc 0 z) ≤ greatestSerial gs
         old-low z hz k a b = subst (λ (l : List ℕ). headerSerial l ≤ greatestSerial gs) (hdr! z hz k a b) (kept-known p r v sh acc z hz k)
 
-        new-is : (y : ℕ) → y ≡ z0 → headerSerial (headerAt vc 0 y) ≡ sn
-        new-is y e = ap (λ (n : ℕ). headerSerial (headerAt vc 0 n)) e ∙ serial-new
+        new-is : (y : Seg) → y ≡ z0 → headerSerial (headerAt vc 0 y) ≡ sn
+        new-is y e = ap (λ (n : Seg). headerSerial (headerAt vc 0 n)) e ∙ serial-new
 
         once :
-            (y z : ℕ)
-            → y < p .Z
-            → z < p .Z
+            (y z : Seg)
+            → Named p y
+            → Named p z
             → headerSerial (headerAt vc 0 y) ≡ headerSerial (headerAt vc 0 z)
             → (y ≡ z0) ⊎ ((keeps! y ≡ true) × ((z0 ≡ y → ⊥) × (g ≡ y → ⊥)))
             → (z ≡ z0) ⊎ ((keeps! z ≡ true) × ((z0 ≡ z → ⊥) × (g ≡ z → ⊥)))
@@ -569,20 +585,21 @@ module _ (p : Params) (r : Ranged p) (v : View) (sh : Shaped p v) (acc : Accepte
         once y z hy hz e (inr (k, (m, n))) (inr (k2, (m2, n2))) = kept-once p r v sh acc y z hy hz k k2 (ap headerSerial (hdr! y hy k m n) ∙ e ∙ ap headerSerial (sym (hdr! z hz k2 m2 n2)))
 
         nc :
-            (y z : ℕ)
-            → y < p .Z
-            → z < p .Z
+            (y z : Seg)
+            → Named p y
+            → Named p z
             → headerCopied (headerAt vc 0 y) ≡ headerSerial (headerAt vc 0 z)
             → (y ≡ z0) ⊎ ((keeps! y ≡ true) × ((z0 ≡ y → ⊥) × (g ≡ y → ⊥)))
             → (z ≡ z0) ⊎ ((keeps! z ≡ true) × ((z0 ≡ z → ⊥) × (g ≡ z → ⊥)))
             → ⊥
         nc y z hy hz e (inl a) (inl b) =
             let w = new-is z b in
-            let f : headerCopied (headerAt vc 0 y) ≡ headerSerial (headerAt v 0 g) = ap (λ (n : ℕ). headerCopied (headerAt vc 0 n)) a ∙ copied-new in
+            let f : headerCopied (headerAt vc 0 y) ≡ headerSerial (headerAt v 0 g) = ap (λ (n : Seg). headerCopied (headerAt vc 0 n)) a ∙ copied-new in
             let d = serial-g-low in
             let bad : ⊥ = omega arith in bad
         nc y z hy hz e (inl a) (inr (k, (m, n))) =
-            let f : headerSerial (headerAt v 0 g) ≡ headerSerial (headerAt v 0 z) = sym (ap (λ (n : ℕ). headerCopied (headerAt vc 0 n)) a ∙ copied-new) ∙ e ∙ ap headerSerial (sym (hdr! z hz k m n)) in
+            let f : headerSerial (headerAt v 0 g) ≡ headerSerial (headerAt v 0 z) = sym (ap (λ (n : Seg). headerCopied (headerAt vc 0 n)) a ∙ copied-new) ∙ e
+            ∙ ap headerSerial (sym (hdr! z hz k m n)) in
             n (kept-once p r v sh acc g z hg hz kg k f)
         nc y z hy hz e (inr (k, (m, n))) (inl b) = let w = new-is z b in let l = less y hy (inr (k, (m, n))) in let d = old-low y hy k m n in let bad : ⊥ = omega arith in bad
         nc y z hy hz e (inr (k, (m, n))) (inr (k2, (m2, n2))) = kept-no-copy p r v sh acc y z hy hz k k2 (ap headerCopied (hdr! y hy k m n) ∙ e ∙ ap headerSerial (sym (hdr! z hz k2 m2 n2)))
@@ -596,7 +613,7 @@ module _ (p : Params) (r : Ranged p) (v : View) (sh : Shaped p v) (acc : Accepte
       mend-rest = rest-open z0 c new-steady (λ z hz q n. sealed! z hz n (used-moved z hz q));
     }
       where
-        sealed! : (z : ℕ) → z < p .Z → (z ≡ z0 → ⊥) → (z ≡ z0) ⊎ ((keeps! z ≡ true) × ((z0 ≡ z → ⊥) × (g ≡ z → ⊥))) → SealedAll p vc z
+        sealed! : (z : Seg) → Named p z → (z ≡ z0 → ⊥) → (z ≡ z0) ⊎ ((keeps! z ≡ true) × ((z0 ≡ z → ⊥) × (g ≡ z → ⊥))) → SealedAll p vc z
         sealed! z hz n (inl e) = absurd (n e)
         sealed! z hz n (inr (k, (a, b))) =
             λ d hd. sym (zones-pointer p r va vc z (same-else z hz a b) d hd)

@@ -8,19 +8,20 @@ use native.Mathlib.Omega.{arith}
 use lib.Dec.{eqb}
 use lib.ListN.{length, getD, length-map}
 use Rattle.spec.specs.declared.Params.{Params}
-use Rattle.spec.specs.Drives.{Zone, noZone, View, zoneAt, pointerAt, segmentNumbers, zoneOn, sealedIn, dataStored, recordIn}
+use Rattle.spec.specs.Drives.{Zone, noZone, View, zoneAt, pointerAt, allSegs, zoneOn, sealedIn, dataStored, recordIn, Seg, seg, sameSeg}
 use Rattle.spec.specs.Layout.{dataDrive, dataDrives, headerSerial, headerCopied, Rec, mkRec}
-use Rattle.spec.specs.Lists.{below, all, keep, indexOf, isIn}
+use Rattle.spec.specs.Lists.{below, all, any, keep, indexOf, isIn}
 use Rattle.spec.specs.Params.{dataCount, drivesOf, present}
 use Rattle.spec.specs.Parity.{Piece}
 use Rattle.spec.specs.Rank.{Cand}
 use Rattle.spec.specs.Segments.{lowDrive, headerAt, leftBy1, isCopy, remaining, Segment, recordsIn, segmentOf, segments, recsOn, offsetOn, hasChunk, counts}
 use Rattle.spec.specs.Segments.{counted, storedRec, candOf, segmentCands, candidates, storedPiece, pieceOf, recOf}
 use Rattle.law_basic.specs.Ranges.{Test, test, length-below, getD-map-below}
+use Rattle.law_basic.specs.Segs.{Named, seg-named, named-lt, segs-are, seg-true, seg-self}
 use Rattle.law_basic.specs.Ranges.Test.{yes!, no! }
 use Rattle.law_code.specs.Chunks.{chunk-stored, chunk-decoded, rec-here, rec-lost}
 use Rattle.law_code.specs.Code.{decode-apart, decode-rec-same}
-use Rattle.law_drives.specs.Members.{In, in-map, map-in, in-flat, flat-in, in-keep, keep-in, in-any, in-below, below-in, in-getD, index-below, index-passes, index-first, index-is}
+use Rattle.law_drives.specs.Members.{In, in-map, map-in, in-flat, flat-in, in-keep, keep-in, in-any, in-below, below-in, in-getD, index-below, index-passes, index-first, index-is, any-in}
 use Rattle.law_drives.specs.Tests.{not-so, cond-true, cond-false}
 
 -- ---- drives that are present
@@ -33,14 +34,28 @@ pub in-present : (p : Params) (gone d : ℕ) → d < p .N → isIn gone d ≡ fa
 unfolding present drivesOf
 in-present p gone d h q = in-keep (λ d. not (isIn gone d)) (below (p .N)) d (in-below (p .N) d h) (ap not q)
 
+-- ---- the segments that there may be
+
+pub segs-in : (p : Params) (g : Seg) → In g (allSegs p) → Named p g
+segs-in p g m = let (n, i, e) = map-in seg (below (p .Z)) g (subst (λ (l : List Seg). In g l) (segs-are p) m) in subst (λ (x : Seg). Named p x) (sym e) (seg-named p n (below-in (p .Z) n i))
+
+pub in-segs : (p : Params) (g : Seg) → Named p g → In g (allSegs p)
+in-segs p g h = subst (λ (l : List Seg). In g l) (sym (segs-are p)) (in-map seg (below (p .Z)) (g .name) (in-below (p .Z) (g .name) (named-lt p g h)))
+
+pub is-seg : (g : Seg) (l : List Seg) → any (sameSeg g) l ≡ true → In g l
+is-seg g l q = let (k, m, e) = any-in (sameSeg g) l q in subst (λ (x : Seg). In x l) (sym (seg-true g k e)) m
+
+pub seg-in : (g : Seg) (l : List Seg) → In g l → any (sameSeg g) l ≡ true
+seg-in g l m = in-any (sameSeg g) l g m (seg-self g)
+
 -- ---- what remains
 
-pub remaining-low : (p : Params) (v : View) (gone g : ℕ) → In g (remaining p v gone) → g < p .Z
-unfolding remaining leftBy1 segmentNumbers
+pub remaining-low : (p : Params) (v : View) (gone : ℕ) (g : Seg) → In g (remaining p v gone) → Named p g
+unfolding remaining leftBy1
 remaining-low p v gone g m =
     let (i, q) = keep-in (λ g. not (isCopy v (lowDrive p gone) (leftBy1 p v gone) g)) (leftBy1 p v gone) g m in
-    let (j, r) = keep-in (λ g. all (λ d. not (eqb (pointerAt v d (zoneOn g d)) 0)) (present p gone)) (below (p .Z)) g i in
-    below-in (p .Z) g j
+    let (j, r) = keep-in (λ g. all (λ d. not (eqb (pointerAt v d (zoneOn g d)) 0)) (present p gone)) (allSegs p) g i in
+    segs-in p g j
 
 -- ---- records of a zone
 
@@ -62,22 +77,22 @@ low-data p q o h k = omega arith
 
 -- ---- a segment's zones and records by drive
 
-module _ (p : Params) (v : View) (gone g : ℕ) where
-  pub zone-by : (d : ℕ) → d < p .N → getD (segmentOf p v gone g .zonesBy) d noZone ≡ zoneAt v d g
-  unfolding segmentOf drivesOf zoneOn
-  zone-by d h = getD-map-below (λ d. zoneAt v d g) (p .N) d noZone h
+module _ (p : Params) (v : View) (gone : ℕ) (g : Seg) where
+  pub zone-by : (d : ℕ) → d < p .N → getD (segmentOf p v gone g .zonesBy) d noZone ≡ zoneAt v d (zoneOn g d)
+  unfolding segmentOf drivesOf
+  zone-by d h = getD-map-below (λ d. zoneAt v d (zoneOn g d)) (p .N) d noZone h
 
-  pub recs-on : (d : ℕ) → d < p .N → recsOn (segmentOf p v gone g) d ≡ cond (isIn gone d) [] (recordsIn p (sealedIn p v gone g) (zoneAt v d g))
-  unfolding recsOn segmentOf drivesOf zoneOn
+  pub recs-on : (d : ℕ) → d < p .N → recsOn (segmentOf p v gone g) d ≡ cond (isIn gone d) [] (recordsIn p (sealedIn p v gone g) (zoneAt v d (zoneOn g d)))
+  unfolding recsOn segmentOf drivesOf
   recs-on d h =
-      getD-map-below (λ d. cond (isIn gone d) [] (recordsIn p (sealedIn p v gone g) (getD (map (λ d. zoneAt v d g) (below (p .N))) d noZone))) (p .N) d [] h
-      ∙ ap (λ (x : Zone). cond (isIn gone d) [] (recordsIn p (sealedIn p v gone g) x)) (getD-map-below (λ d. zoneAt v d g) (p .N) d noZone h)
+      getD-map-below (λ d. cond (isIn gone d) [] (recordsIn p (sealedIn p v gone g) (getD (map (λ d. zoneAt v d (zoneOn g d)) (below (p .N))) d noZone))) (p .N) d [] h
+      ∙ ap (λ (x : Zone). cond (isIn gone d) [] (recordsIn p (sealedIn p v gone g) x)) (getD-map-below (λ d. zoneAt v d (zoneOn g d)) (p .N) d noZone h)
 
-  pub recs-here : (d : ℕ) → d < p .N → isIn gone d ≡ false → recsOn (segmentOf p v gone g) d ≡ recordsIn p (sealedIn p v gone g) (zoneAt v d g)
-  recs-here d h q = recs-on d h ∙ cond-false (isIn gone d) [] (recordsIn p (sealedIn p v gone g) (zoneAt v d g)) q
+  pub recs-here : (d : ℕ) → d < p .N → isIn gone d ≡ false → recsOn (segmentOf p v gone g) d ≡ recordsIn p (sealedIn p v gone g) (zoneAt v d (zoneOn g d))
+  recs-here d h q = recs-on d h ∙ cond-false (isIn gone d) [] (recordsIn p (sealedIn p v gone g) (zoneAt v d (zoneOn g d))) q
 
   pub recs-gone : (d : ℕ) → d < p .N → isIn gone d ≡ true → recsOn (segmentOf p v gone g) d ≡ []
-  recs-gone d h q = recs-on d h ∙ cond-true (isIn gone d) [] (recordsIn p (sealedIn p v gone g) (zoneAt v d g)) q
+  recs-gone d h q = recs-on d h ∙ cond-true (isIn gone d) [] (recordsIn p (sealedIn p v gone g) (zoneAt v d (zoneOn g d))) q
 
   pub seg-is : segmentOf p v gone g .seg ≡ g
   unfolding segmentOf
@@ -97,16 +112,16 @@ module _ (p : Params) (v : View) (gone g : ℕ) where
 
   -- where a drive has a stripe's chunk
   pub record ChunkAt (d s : ℕ) : Type 0 where
-    pub stored-there : offsetOn (segmentOf p v gone g) d s < dataStored p (zoneAt v d g)
-    pub its-stripe : recordIn p (sealedIn p v gone g) (zoneAt v d g) (offsetOn (segmentOf p v gone g) d s) .stripe ≡ s
-    pub its-record : storedRec (segmentOf p v gone g) s d ≡ recordIn p (sealedIn p v gone g) (zoneAt v d g) (offsetOn (segmentOf p v gone g) d s)
-    pub first : (o : ℕ) → o < offsetOn (segmentOf p v gone g) d s → (recordIn p (sealedIn p v gone g) (zoneAt v d g) o .stripe ≡ s) → ⊥
+    pub stored-there : offsetOn (segmentOf p v gone g) d s < dataStored p (zoneAt v d (zoneOn g d))
+    pub its-stripe : recordIn p (sealedIn p v gone g) (zoneAt v d (zoneOn g d)) (offsetOn (segmentOf p v gone g) d s) .stripe ≡ s
+    pub its-record : storedRec (segmentOf p v gone g) s d ≡ recordIn p (sealedIn p v gone g) (zoneAt v d (zoneOn g d)) (offsetOn (segmentOf p v gone g) d s)
+    pub first : (o : ℕ) → o < offsetOn (segmentOf p v gone g) d s → (recordIn p (sealedIn p v gone g) (zoneAt v d (zoneOn g d)) o .stripe ≡ s) → ⊥
 
   pub chunk-at : (d s : ℕ) → d < p .N → isIn gone d ≡ false → hasChunk (segmentOf p v gone g) s d ≡ true → ChunkAt d s
   unfolding hasChunk offsetOn storedRec
   chunk-at d s h q c =
       let w = sealedIn p v gone g in
-      let z = zoneAt v d g in
+      let z = zoneAt v d (zoneOn g d) in
       let rs = recsOn (segmentOf p v gone g) d in
       let f : Rec → Bool = λ (r : Rec). eqb (r .stripe) s in
       let e : rs ≡ recordsIn p w z = recs-here d h q in
@@ -123,12 +138,12 @@ module _ (p : Params) (v : View) (gone g : ℕ) where
       }
 
   -- a chunk of the stripe gives one
-  pub has-chunk : (d s o : ℕ) → d < p .N → isIn gone d ≡ false → o < dataStored p (zoneAt v d g)
-      → recordIn p (sealedIn p v gone g) (zoneAt v d g) o .stripe ≡ s → hasChunk (segmentOf p v gone g) s d ≡ true
+  pub has-chunk : (d s o : ℕ) → d < p .N → isIn gone d ≡ false → o < dataStored p (zoneAt v d (zoneOn g d))
+      → recordIn p (sealedIn p v gone g) (zoneAt v d (zoneOn g d)) o .stripe ≡ s → hasChunk (segmentOf p v gone g) s d ≡ true
   unfolding hasChunk
   has-chunk d s o h q b e =
       let w = sealedIn p v gone g in
-      let z = zoneAt v d g in
+      let z = zoneAt v d (zoneOn g d) in
       let rs = recsOn (segmentOf p v gone g) d in
       let l : length rs ≡ dataStored p z = ap length (recs-here d h q) ∙ length-records p w z in
       let a : getD rs o (mkRec 0 0 0) ≡ recordIn p w z o = ap (λ (x : List Rec). getD x o (mkRec 0 0 0)) (recs-here d h q) ∙ record-at p w z o (mkRec 0 0 0) b in
@@ -136,13 +151,13 @@ module _ (p : Params) (v : View) (gone g : ℕ) where
       (eq-eqb (getD rs o (mkRec 0 0 0) .stripe) s (ap (λ (r : Rec). r .stripe) a ∙ e))
 
   -- its first offset
-  pub offset-is : (d s o : ℕ) → d < p .N → isIn gone d ≡ false → o < dataStored p (zoneAt v d g)
-      → recordIn p (sealedIn p v gone g) (zoneAt v d g) o .stripe ≡ s
-      → ((i : ℕ) → i < o → recordIn p (sealedIn p v gone g) (zoneAt v d g) i .stripe ≡ s → ⊥) → offsetOn (segmentOf p v gone g) d s ≡ o
+  pub offset-is : (d s o : ℕ) → d < p .N → isIn gone d ≡ false → o < dataStored p (zoneAt v d (zoneOn g d))
+      → recordIn p (sealedIn p v gone g) (zoneAt v d (zoneOn g d)) o .stripe ≡ s
+      → ((i : ℕ) → i < o → recordIn p (sealedIn p v gone g) (zoneAt v d (zoneOn g d)) i .stripe ≡ s → ⊥) → offsetOn (segmentOf p v gone g) d s ≡ o
   unfolding offsetOn
   offset-is d s o h q b e f =
       let w = sealedIn p v gone g in
-      let z = zoneAt v d g in
+      let z = zoneAt v d (zoneOn g d) in
       let rs = recsOn (segmentOf p v gone g) d in
       let l : length rs ≡ dataStored p z = ap length (recs-here d h q) ∙ length-records p w z in
       let a : (i : ℕ) → i < dataStored p z → getD rs i (mkRec 0 0 0) ≡ recordIn p w z i =
@@ -152,7 +167,7 @@ module _ (p : Params) (v : View) (gone g : ℕ) where
       (λ i k. ne-eqb (getD rs i (mkRec 0 0 0) .stripe) s (λ x. f i k (ap (λ (r : Rec). r .stripe) (sym (a i (omega arith))) ∙ x)))
 
   pub no-chunk : (d s : ℕ) → d < p .N → isIn gone d ≡ false
-      → ((o : ℕ) → o < dataStored p (zoneAt v d g) → recordIn p (sealedIn p v gone g) (zoneAt v d g) o .stripe ≡ s → ⊥) → hasChunk (segmentOf p v gone g) s d ≡ false
+      → ((o : ℕ) → o < dataStored p (zoneAt v d (zoneOn g d)) → recordIn p (sealedIn p v gone g) (zoneAt v d (zoneOn g d)) o .stripe ≡ s → ⊥) → hasChunk (segmentOf p v gone g) s d ≡ false
   no-chunk d s h q f = not-so (hasChunk (segmentOf p v gone g) s d)
       (λ c. let k = chunk-at d s h q c in f (offsetOn (segmentOf p v gone g) d s) (k .stored-there) (k .its-stripe))
 
@@ -160,7 +175,7 @@ module _ (p : Params) (v : View) (gone g : ℕ) where
 
 -- a candidate: of which segment, stripe and position
 pub record CandAt (p : Params) (v : View) (gone : ℕ) (c : Cand) : Type 0 where
-  pub of : ℕ
+  pub of : Seg
   pub stripe : ℕ
   pub position : ℕ
   pub remains : In of (remaining p v gone)

@@ -8,7 +8,7 @@ use native.Mathlib.Omega.{arith}
 use lib.Dec.{eqb}
 use lib.ListN.{getD}
 use Rattle.spec.specs.declared.Params.{Params}
-use Rattle.spec.specs.Drives.{noChunk, Zone, noZone, View, zoneAt, pointerAt, chunkAt, segmentNumbers, zoneOn, sealedIn, recordIn}
+use Rattle.spec.specs.Drives.{noChunk, Zone, noZone, View, zoneAt, pointerAt, chunkAt, zoneOn, sealedIn, recordIn, Seg, sameSeg, allSegs}
 use Rattle.spec.specs.Layout.{dataDrive, dataPosition, headerSerial, headerCopied}
 use Rattle.spec.specs.Lists.{upFrom, below, all, any, firstOr, isIn}
 use Rattle.spec.specs.Params.{capacity, drivesOf, present}
@@ -17,11 +17,12 @@ use Rattle.spec.specs.Segments.{lowDrive, headerAt, leftBy1, isCopy, remaining,
 use Rattle.law_basic.specs.Geometry.{Ranged, position-drive, data-drive-lt}
 use Rattle.law_basic.specs.Mask.{isIn-empty}
 use Rattle.law_basic.specs.Ranges.{and-left, and-both}
+use Rattle.law_basic.specs.Segs.{Named}
 use Rattle.law_drives.specs.Best.{CandsApart}
 use Rattle.law_drives.specs.Members.{In, keep-in, all-in, in-all, in-none, all-cong, map-cong, keep-all, below-in}
-use Rattle.law_drives.specs.Segs.{present-in, in-present, remaining-low, serial-is, ChunkAt, chunk-at, CandAt, cand-at}
+use Rattle.law_drives.specs.Segs.{present-in, in-present, remaining-low, serial-is, ChunkAt, chunk-at, CandAt, cand-at, segs-in}
 use Rattle.law_drives.specs.Spots.{counts-in}
-use Rattle.law_drives.specs.Tables.{remains, in-remaining, remaining-in, rowAt}
+use Rattle.law_drives.specs.Tables.{remains, in-remaining, remaining-in, rowAt, row-seg}
 use Rattle.law_drives.specs.Tests.{and-false-right, same-test, cond-false}
 use Rattle.law_drives.specs.Tidy.{usedAt, Tidy}
 
@@ -41,45 +42,45 @@ module _ (p : Params) (r : Ranged p) (v : View) (serial : ℕ) (t : Tidy p v ser
   zero-low = omega (arith, r .drives-low)
 
   -- no zone of a used segment is empty
-  pub used-all : (d z : ℕ) → d < p .N → z < p .Z → usedAt v z ≡ true → not (eqb (pointerAt v d z) 0) ≡ true
+  pub used-all : (d : ℕ) (z : Seg) → d < p .N → Named p z → usedAt v z ≡ true → not (eqb (pointerAt v d (zoneOn z d)) 0) ≡ true
   used-all d z hd hz q = ap not (t .together d z hd hz) ∙ q
 
-  left-used : (g : ℕ) → In g (leftBy1 p v 0) → (g < p .Z) × (usedAt v g ≡ true)
-  unfolding leftBy1 segmentNumbers zoneOn
+  left-used : (g : Seg) → In g (leftBy1 p v 0) → (Named p g) × (usedAt v g ≡ true)
+  unfolding leftBy1
   left-used g m =
-      let (i, q) = keep-in (λ g. all (λ d. not (eqb (pointerAt v d g) 0)) (present p 0)) (below (p .Z)) g m in
-      (below-in (p .Z) g i, all-in (λ d. not (eqb (pointerAt v d g) 0)) (present p 0) q 0 (present-all p 0 zero-low))
+      let (i, q) = keep-in (λ g. all (λ d. not (eqb (pointerAt v d (zoneOn g d)) 0)) (present p 0)) (allSegs p) g m in
+      (segs-in p g i, all-in (λ d. not (eqb (pointerAt v d (zoneOn g d)) 0)) (present p 0) q 0 (present-all p 0 zero-low))
 
-  no-copies : (g : ℕ) → g < p .Z → usedAt v g ≡ true → isCopy v (lowDrive p 0) (leftBy1 p v 0) g ≡ false
+  no-copies : (g : Seg) → Named p g → usedAt v g ≡ true → isCopy v (lowDrive p 0) (leftBy1 p v 0) g ≡ false
   unfolding isCopy
   no-copies g hg q =
       let l = lowDrive p 0 in
-      and-false-right (not (eqb (headerCopied (headerAt v l g)) 0)) (any (λ h. not (eqb h g) && eqb (headerSerial (headerAt v l h)) (headerCopied (headerAt v l g))) (leftBy1 p v 0))
-      (in-none (λ h. not (eqb h g) && eqb (headerSerial (headerAt v l h)) (headerCopied (headerAt v l g))) (leftBy1 p v 0)
+      and-false-right (not (eqb (headerCopied (headerAt v l g)) 0)) (any (λ h. not (sameSeg h g) && eqb (headerSerial (headerAt v l h)) (headerCopied (headerAt v l g))) (leftBy1 p v 0))
+      (in-none (λ h. not (sameSeg h g) && eqb (headerSerial (headerAt v l h)) (headerCopied (headerAt v l g))) (leftBy1 p v 0)
       (λ h m.
       let (hh, u) = left-used h m in
-      and-false-right (not (eqb h g)) (eqb (headerSerial (headerAt v l h)) (headerCopied (headerAt v l g)))
+      and-false-right (not (sameSeg h g)) (eqb (headerSerial (headerAt v l h)) (headerCopied (headerAt v l g)))
       (ne-eqb (headerSerial (headerAt v l h)) (headerCopied (headerAt v l g))
       (λ e. t .no-copy g h hg hh q u (sym (subst (λ (x : ℕ). headerSerial (headerAt v x h) ≡ headerCopied (headerAt v x g)) (low-first p r) e))))))
 
-  pub remains-used : (g : ℕ) → g < p .Z → remains p v 0 g ≡ usedAt v g
-  unfolding remains zoneOn
-  remains-used g hg = same-test (all (λ d. not (eqb (pointerAt v d g) 0)) (present p 0) && not (isCopy v (lowDrive p 0) (leftBy1 p v 0) g)) (usedAt v g)
-      (λ q. all-in (λ d. not (eqb (pointerAt v d g) 0)) (present p 0)
-      (and-left (all (λ d. not (eqb (pointerAt v d g) 0)) (present p 0)) (not (isCopy v (lowDrive p 0) (leftBy1 p v 0) g)) q) 0
+  pub remains-used : (g : Seg) → Named p g → remains p v 0 g ≡ usedAt v g
+  unfolding remains
+  remains-used g hg = same-test (all (λ d. not (eqb (pointerAt v d (zoneOn g d)) 0)) (present p 0) && not (isCopy v (lowDrive p 0) (leftBy1 p v 0) g)) (usedAt v g)
+      (λ q. all-in (λ d. not (eqb (pointerAt v d (zoneOn g d)) 0)) (present p 0)
+      (and-left (all (λ d. not (eqb (pointerAt v d (zoneOn g d)) 0)) (present p 0)) (not (isCopy v (lowDrive p 0) (leftBy1 p v 0) g)) q) 0
       (present-all p 0 zero-low))
-      (λ q. and-both (all (λ d. not (eqb (pointerAt v d g) 0)) (present p 0)) (not (isCopy v (lowDrive p 0) (leftBy1 p v 0) g))
-      (in-all (λ d. not (eqb (pointerAt v d g) 0)) (present p 0) (λ d m. used-all d g (present-in p 0 d m .0) hg q)) (ap not (no-copies g hg q)))
+      (λ q. and-both (all (λ d. not (eqb (pointerAt v d (zoneOn g d)) 0)) (present p 0)) (not (isCopy v (lowDrive p 0) (leftBy1 p v 0) g))
+      (in-all (λ d. not (eqb (pointerAt v d (zoneOn g d)) 0)) (present p 0) (λ d m. used-all d g (present-in p 0 d m .0) hg q)) (ap not (no-copies g hg q)))
 
-  pub used-remains : (g : ℕ) → g < p .Z → usedAt v g ≡ true → In g (remaining p v 0)
+  pub used-remains : (g : Seg) → Named p g → usedAt v g ≡ true → In g (remaining p v 0)
   used-remains g hg q = in-remaining p v 0 g hg (remains-used g hg ∙ q)
 
-  pub remains-is-used : (g : ℕ) → In g (remaining p v 0) → (g < p .Z) × (usedAt v g ≡ true)
+  pub remains-is-used : (g : Seg) → In g (remaining p v 0) → (Named p g) × (usedAt v g ≡ true)
   remains-is-used g m = let (hg, q) = remaining-in p v 0 g m in (hg, sym (remains-used g hg) ∙ q)
 
   -- ---- candidates
 
-  pub serial-of : (g : ℕ) → segmentOf p v 0 g .serial ≡ headerSerial (headerAt v 0 g)
+  pub serial-of : (g : Seg) → segmentOf p v 0 g .serial ≡ headerSerial (headerAt v 0 g)
   serial-of g = serial-is p v 0 g ∙ ap (λ (x : ℕ). headerSerial (headerAt v x g)) (low-first p r)
 
   module _ (c : Cand) (k : CandAt p v 0 c) where
@@ -107,14 +108,14 @@ module _ (p : Params) (r : Ranged p) (v : View) (serial : ℕ) (t : Tidy p v ser
         chunk-at p v 0 (k .of) (c .drive) (k .stripe) its-drive-low (isIn-empty (c .drive))
         (counts-in p 0 (segmentOf p v 0 (k .of)) (k .stripe) (c .drive) (k .it-counts) its-drive-low (isIn-empty (c .drive)))
 
-    pub stripe-at-offset : recordIn p (sealedIn p v 0 (k .of)) (zoneAt v (c .drive) (k .of)) (c .offset) .stripe ≡ k .stripe
-    stripe-at-offset = ap (λ (x : ℕ). recordIn p (sealedIn p v 0 (k .of)) (zoneAt v (c .drive) (k .of)) x .stripe) its-offset ∙ chunk-of-it .its-stripe
+    pub stripe-at-offset : recordIn p (sealedIn p v 0 (k .of)) (zoneAt v (c .drive) (zoneOn (k .of) (c .drive))) (c .offset) .stripe ≡ k .stripe
+    stripe-at-offset = ap (λ (x : ℕ). recordIn p (sealedIn p v 0 (k .of)) (zoneAt v (c .drive) (zoneOn (k .of) (c .drive))) x .stripe) its-offset ∙ chunk-of-it .its-stripe
 
   -- candidates of one segment, drive and offset are the same
   pub cand-same : (c d : Cand) (k : CandAt p v 0 c) (j : CandAt p v 0 d) → k .of ≡ j .of → c .drive ≡ d .drive → c .offset ≡ d .offset → c ≡ d
   cand-same c d k j e f g =
       let es : k .stripe ≡ j .stripe = sym (stripe-at-offset c k)
-      ∙ (λ i. recordIn p (sealedIn p v 0 (e i)) (zoneAt v (f i) (e i)) (g i) .stripe) ∙ stripe-at-offset d j in
+      ∙ (λ i. recordIn p (sealedIn p v 0 (e i)) (zoneAt v (f i) (zoneOn (e i) (f i))) (g i) .stripe) ∙ stripe-at-offset d j in
       let ep : k .position ≡ j .position =
       sym (position-drive p (k .stripe) (k .position))
       ∙ ap₂ (dataPosition p) es (sym (its-drive c k) ∙ f ∙ its-drive d j)
@@ -131,20 +132,20 @@ module _ (p : Params) (r : Ranged p) (v : View) (serial : ℕ) (t : Tidy p v ser
 
 -- ---- segments whose zones are the same
 
-abbrev pub SameZones : Params → View → View → ℕ → Type 0
-SameZones p v u g = (d : ℕ) → d < p .N → zoneAt v d g ≡ zoneAt u d g
+abbrev pub SameZones : Params → View → View → Seg → Type 0
+SameZones p v u g = (d : ℕ) → d < p .N → zoneAt v d (zoneOn g d) ≡ zoneAt u d (zoneOn g d)
 
-module _ (p : Params) (r : Ranged p) (v u : View) (g : ℕ) (sm : SameZones p v u g) where
+module _ (p : Params) (r : Ranged p) (v u : View) (g : Seg) (sm : SameZones p v u g) where
   pub zones-sealed : sealedIn p v 0 g ≡ sealedIn p u 0 g
-  unfolding sealedIn zoneOn pointerAt
-  zones-sealed = all-cong (λ d. eqb (zoneAt v d g .pointer) (capacity p)) (λ d. eqb (zoneAt u d g .pointer) (capacity p)) (present p 0)
+  unfolding sealedIn pointerAt
+  zones-sealed = all-cong (λ d. eqb (zoneAt v d (zoneOn g d) .pointer) (capacity p)) (λ d. eqb (zoneAt u d (zoneOn g d) .pointer) (capacity p)) (present p 0)
       (λ d m. ap (λ (x : Zone). eqb (x .pointer) (capacity p)) (sm d (present-in p 0 d m .0)))
 
   pub zones-header : headerAt v 0 g ≡ headerAt u 0 g
-  unfolding headerAt chunkAt zoneOn
+  unfolding headerAt chunkAt
   zones-header = ap (λ (x : Zone). getD (x .blocks) 0 noChunk .block) (sm 0 (omega (arith, r .drives-low)))
 
-  pub zones-pointer : (d : ℕ) → d < p .N → pointerAt v d g ≡ pointerAt u d g
+  pub zones-pointer : (d : ℕ) → d < p .N → pointerAt v d (zoneOn g d) ≡ pointerAt u d (zoneOn g d)
   unfolding pointerAt
   zones-pointer d h = ap (λ (x : Zone). x .pointer) (sm d h)
 
@@ -152,10 +153,11 @@ module _ (p : Params) (r : Ranged p) (v u : View) (g : ℕ) (sm : SameZones p v 
   zones-used = ap (λ (x : ℕ). not (eqb x 0)) (zones-pointer 0 (omega (arith, r .drives-low)))
 
   pub zones-segment : segmentOf p v 0 g ≡ segmentOf p u 0 g
-  unfolding segmentOf drivesOf zoneOn
+  unfolding segmentOf drivesOf
   zones-segment =
       let hd : headerAt v (lowDrive p 0) g ≡ headerAt u (lowDrive p 0) g = subst (λ (x : ℕ). headerAt v x g ≡ headerAt u x g) (sym (low-first p r)) zones-header in
-      let zs : map (λ d. zoneAt v d g) (below (p .N)) ≡ map (λ d. zoneAt u d g) (below (p .N)) = map-cong (λ d. zoneAt v d g) (λ d. zoneAt u d g) (below (p .N)) (λ d m. sm d (below-in (p .N) d m)) in
+      let zs : map (λ d. zoneAt v d (zoneOn g d)) (below (p .N)) ≡ map (λ d. zoneAt u d (zoneOn g d)) (below (p .N)) = map-cong (λ d. zoneAt v d (zoneOn g d)) (λ d. zoneAt u d (zoneOn g d))
+      (below (p .N)) (λ d m. sm d (below-in (p .N) d m)) in
       λ i. record {
         seg = g;
         serial = headerSerial (hd i);
@@ -181,13 +183,15 @@ cand-goes p r v u s t c k sm q =
     }
 
 -- the row of a zone that is the same in both
-pub row-goes : (p : Params) (r : Ranged p) (v u : View) (s s′ : ℕ) → Tidy p v s → Tidy p u s′ → (d g : ℕ) → g < p .Z → SameZones p v u g → rowAt p v 0 d g ≡ rowAt p u 0 d g
-unfolding rowAt
+pub row-goes : (p : Params) (r : Ranged p) (v u : View) (s s′ : ℕ) → Tidy p v s → Tidy p u s′ → (d : ℕ) (g : Seg) → Named p g → SameZones p v u g
+    → rowAt p v 0 d (zoneOn g d) ≡ rowAt p u 0 d (zoneOn g d)
 row-goes p r v u s s′ t t′ d g hg sm =
-    ap₂ (λ (x : Bool) (y : Segment). cond x (recsOn y d) []) (remains-used p r v s t g hg ∙ zones-used p r v u g sm ∙ sym (remains-used p r u s′ t′ g hg)) (zones-segment p r v u g sm)
+    row-seg p v 0 d g hg
+    ∙ ap₂ (λ (x : Bool) (y : Segment). cond x (recsOn y d) []) (remains-used p r v s t g hg ∙ zones-used p r v u g sm ∙ sym (remains-used p r u s′ t′ g hg)) (zones-segment p r v u g sm)
+    ∙ sym (row-seg p u 0 d g hg)
 
-pub sealed-full : (p : Params) (v : View) (g : ℕ) → sealedIn p v 0 g ≡ true → (d : ℕ) → d < p .N → pointerAt v d g ≡ capacity p
-sealed-full p v g q d h = eqb-true (pointerAt v d g) (capacity p) (all-in (λ d. eqb (pointerAt v d g) (capacity p)) (present p 0) (as! q) d (present-all p d h))
+pub sealed-full : (p : Params) (v : View) (g : Seg) → sealedIn p v 0 g ≡ true → (d : ℕ) → d < p .N → pointerAt v d (zoneOn g d) ≡ capacity p
+sealed-full p v g q d h = eqb-true (pointerAt v d (zoneOn g d)) (capacity p) (all-in (λ d. eqb (pointerAt v d (zoneOn g d)) (capacity p)) (present p 0) (as! q) d (present-all p d h))
   where
-    as! : sealedIn p v 0 g ≡ true → all (λ d. eqb (pointerAt v d g) (capacity p)) (present p 0) ≡ true
-    as! q = unfold sealedIn zoneOn in q
+    as! : sealedIn p v 0 g ≡ true → all (λ d. eqb (pointerAt v d (zoneOn g d)) (capacity p)) (present p 0) ≡ true
+    as! q = unfold sealedIn in q

@@ -12,7 +12,7 @@ use lib.ListN.{length, getD}
 use lib.Arith.{digits-div}
 use Rattle.spec.specs.declared.Params.{Params}
 use Rattle.spec.specs.Counts.{neverPlace}
-use Rattle.spec.specs.Drives.{View, zoneAt, pointerAt, zoneOn, sealedIn, dataStored, recordIn}
+use Rattle.spec.specs.Drives.{View, zoneAt, pointerAt, zoneOn, sealedIn, dataStored, recordIn, Seg, placeSegment}
 use Rattle.spec.specs.Layout.{dataDrive, group, inGroupOf, groupOffsets, compactEntry, Rec, mkRec}
 use Rattle.spec.specs.Lists.{upFrom, consIf, keep, isNil, firstOr, isIn}
 use Rattle.spec.specs.Memory.{compactAt, shownAt}
@@ -24,10 +24,11 @@ use Rattle.spec.specs.Segments.{remaining, Segment, recordsIn, segmentOf, segme
 use Rattle.law_basic.specs.Geometry.{between-of, Ranged, place-block, place-zone, place-drive, data-drive-lt}
 use Rattle.law_basic.specs.Ranges.{Test, test, and-left, and-right, and-both}
 use Rattle.law_basic.specs.Ranges.Test.{yes!, no! }
+use Rattle.law_basic.specs.Segs.{Named, zone-on-lt, place-segment-of}
 use Rattle.law_drives.specs.Members.{In, all-in, keep-keep}
 use Rattle.law_drives.specs.Range.{capacity-over, place-low}
 use Rattle.law_drives.specs.Segs.{in-present, remaining-low, length-records, record-at, data-low, low-data, recs-here, seg-is, chunk-at, CandAt}
-use Rattle.law_drives.specs.Tables.{row-at, remains, remaining-in, rowAt, compact-at}
+use Rattle.law_drives.specs.Tables.{row-at, remains, remaining-in, rowAt, compact-at, row-seg}
 use Rattle.law_drives.specs.Tests.{true-false, not-so, cond-true}
 
 -- ---- the spot of a candidate
@@ -46,31 +47,31 @@ counts-in p gone g s d q h i = all-in (hasChunk g s) (present p gone) q d (in-pr
 
 module _ (p : Params) (r : Ranged p) (v : View) (gone : ℕ) where
   pub spot-of : (c : Cand) → CandAt p v gone c → Spot p v gone c
-  unfolding candOf offsetOf zoneOn pointerAt
+  unfolding candOf offsetOf pointerAt
   spot-of c k =
       let g = k .of in
       let s = k .stripe in
       let d = dataDrive p s (k .position) in
       let x = segmentOf p v gone g in
       let hd : d < p .N = data-drive-lt p s (k .position) (k .position-low) in
-      let hz : g < p .Z = remaining-low p v gone g (k .remains) in
+      let hz : zoneOn g d < p .Z = zone-on-lt p g d (remaining-low p v gone g (k .remains)) in
       let o = offsetOf gone x s d in
-      let m : (o < p .S) × (isIn gone d ≡ false → 1 + o < zoneAt v d g .pointer) = go g s d hd (k .stripe-low) (k .it-counts) (test (isIn gone d)) in
+      let m : (o < p .S) × (isIn gone d ≡ false → 1 + o < zoneAt v d (zoneOn g d) .pointer) = go g s d hd (k .stripe-low) (k .it-counts) (test (isIn gone d)) in
       subst (λ (y : Cand). Spot p v gone y) (sym (k .it-is)) (record {
-        zone = g;
+        zone = zoneOn g d;
         drive-low = hd;
         zone-low = hz;
         offset-low = m .0;
-        place-is = ap (λ (u : ℕ). placeOf p d u (1 + o)) (seg-is p v gone g);
+        place-is = ap (λ (u : Seg). placeOf p d (zoneOn u d) (1 + o)) (seg-is p v gone g);
         visible = m .1;
       })
     where
-      go : (g s d : ℕ) → d < p .N → s < p .S → counts p gone (segmentOf p v gone g) s ≡ true → Test (isIn gone d)
+      go : (g : Seg) (s d : ℕ) → d < p .N → s < p .S → counts p gone (segmentOf p v gone g) s ≡ true → Test (isIn gone d)
           → (cond (isIn gone d) s (offsetOn (segmentOf p v gone g) d s) < p .S)
-          × (isIn gone d ≡ false → 1 + cond (isIn gone d) s (offsetOn (segmentOf p v gone g) d s) < zoneAt v d g .pointer)
+          × (isIn gone d ≡ false → 1 + cond (isIn gone d) s (offsetOn (segmentOf p v gone g) d s) < zoneAt v d (zoneOn g d) .pointer)
       go g s d hd hs q (yes! e) = rw e (hs, λ f. true-false f)
       go g s d hd hs q (no! e) =
-          let l = data-low p (zoneAt v d g) (offsetOn (segmentOf p v gone g) d s) (chunk-at p v gone g d s hd e (counts-in p gone (segmentOf p v gone g) s d q hd e) .stored-there) in
+          let l = data-low p (zoneAt v d (zoneOn g d)) (offsetOn (segmentOf p v gone g) d s) (chunk-at p v gone g d s hd e (counts-in p gone (segmentOf p v gone g) s d q hd e) .stored-there) in
           rw e (l .0, λ f. l .1)
 
   module _ (c : Cand) (t : Spot p v gone c) where
@@ -123,37 +124,36 @@ same-number g a b d m = sym (div-add-mod' a g) ∙ ap₂ (λ (x y : ℕ). x * g 
 
 -- every chunk of what remains sits at an offset of its group
 abbrev pub InGroups : Params → View → ℕ → Type 0
-InGroups p v gone = (g d o : ℕ) → In g (remaining p v gone) → d < p .N → isIn gone d ≡ false → o < dataStored p (zoneAt v d g)
-    → inGroupOf p o (recordIn p (sealedIn p v gone g) (zoneAt v d g) o .stripe) ≡ true
+InGroups p v gone = (g : Seg) (d o : ℕ) → In g (remaining p v gone) → d < p .N → isIn gone d ≡ false → o < dataStored p (zoneAt v d (zoneOn g d))
+    → inGroupOf p o (recordIn p (sealedIn p v gone g) (zoneAt v d (zoneOn g d)) o .stripe) ≡ true
 
-module _ (p : Params) (r : Ranged p) (v : View) (gone : ℕ) (groups : InGroups p v gone) (g d s : ℕ) (hg : In g (remaining p v gone)) (hd : d < p .N)
+module _ (p : Params) (r : Ranged p) (v : View) (gone : ℕ) (groups : InGroups p v gone) (g : Seg) (d s : ℕ) (hg : In g (remaining p v gone)) (hd : d < p .N)
     (pr : isIn gone d ≡ false) (c : hasChunk (segmentOf p v gone g) s d ≡ true) where
   abbrev table : List ℕ
   table = compactTable p (segments p v gone)
 
   abbrev shows : ℕ → Bool
-  shows o = ltb (1 + o) (pointerAt v d g) && eqb (getD table (compactAt p d g o) 0) (compactEntry p s)
+  shows o = ltb (1 + o) (pointerAt v d (zoneOn g d)) && eqb (getD table (compactAt p d (zoneOn g d) o) 0) (compactEntry p s)
 
-  hz : g < p .Z
+  hz : Named p g
   hz = remaining-low p v gone g hg
 
-  entry-is : (o : ℕ) → o < dataStored p (zoneAt v d g) → getD table (compactAt p d g o) 0 ≡ compactEntry p (recordIn p (sealedIn p v gone g) (zoneAt v d g) o .stripe)
-  unfolding rowAt
+  entry-is : (o : ℕ) → o < dataStored p (zoneAt v d (zoneOn g d)) → getD table (compactAt p d (zoneOn g d) o) 0 ≡ compactEntry p (recordIn p (sealedIn p v gone g) (zoneAt v d (zoneOn g d)) o .stripe)
   entry-is o h =
-      let e : rowAt p v gone d g ≡ recordsIn p (sealedIn p v gone g) (zoneAt v d g) =
-      cond-true (remains p v gone g) (recsOn (segmentOf p v gone g) d) [] (remaining-in p v gone g hg .1) ∙ recs-here p v gone g d hd pr in
-      let l : length (rowAt p v gone d g) ≡ dataStored p (zoneAt v d g) = ap length e ∙ length-records p (sealedIn p v gone g) (zoneAt v d g) in
-      compact-at p v gone d g o hd hz (data-low p (zoneAt v d g) o h .0)
-      ∙ row-at p (rowAt p v gone d g) o (subst (λ (x : ℕ). o < x) (sym l) h)
-      ∙ ap (λ (x : Rec). compactEntry p (x .stripe)) (ap (λ (x : List Rec). getD x o (mkRec 0 0 0)) e ∙ record-at p (sealedIn p v gone g) (zoneAt v d g) o (mkRec 0 0 0) h)
+      let e : rowAt p v gone d (zoneOn g d) ≡ recordsIn p (sealedIn p v gone g) (zoneAt v d (zoneOn g d)) =
+      row-seg p v gone d g hz ∙ cond-true (remains p v gone g) (recsOn (segmentOf p v gone g) d) [] (remaining-in p v gone g hg .1) ∙ recs-here p v gone g d hd pr in
+      let l : length (rowAt p v gone d (zoneOn g d)) ≡ dataStored p (zoneAt v d (zoneOn g d)) = ap length e ∙ length-records p (sealedIn p v gone g) (zoneAt v d (zoneOn g d)) in
+      compact-at p v gone d (zoneOn g d) o hd (zone-on-lt p g d hz) (data-low p (zoneAt v d (zoneOn g d)) o h .0)
+      ∙ row-at p (rowAt p v gone d (zoneOn g d)) o (subst (λ (x : ℕ). o < x) (sym l) h)
+      ∙ ap (λ (x : Rec). compactEntry p (x .stripe)) (ap (λ (x : List Rec). getD x o (mkRec 0 0 0)) e ∙ record-at p (sealedIn p v gone g) (zoneAt v d (zoneOn g d)) o (mkRec 0 0 0) h)
 
-  pub shown-first : (firstOr 0 (shownAt p v table d g s) ≡ offsetOn (segmentOf p v gone g) d s) × (isNil (shownAt p v table d g s) ≡ false)
+  pub shown-first : (firstOr 0 (shownAt p v table d (zoneOn g d) s) ≡ offsetOn (segmentOf p v gone g) d s) × (isNil (shownAt p v table d (zoneOn g d) s) ≡ false)
   unfolding shownAt groupOffsets pointerAt
   shown-first =
       let k = chunk-at p v gone g d s hd pr c in
       let o = offsetOn (segmentOf p v gone g) d s in
       let b = group p s * p .G in
-      let low = data-low p (zoneAt v d g) o (k .stored-there) in
+      let low = data-low p (zoneAt v d (zoneOn g d)) o (k .stored-there) in
       let gr : inGroupOf p o s ≡ true = subst (λ (x : ℕ). inGroupOf p o x ≡ true) (k .its-stripe) (groups g d o hg hd pr (k .stored-there)) in
       let same : s / p .G ≡ o / p .G = go-group o gr in
       let eo : o / p .G * p .G + o % p .G ≡ o = div-add-mod' o (p .G) in
@@ -161,8 +161,8 @@ module _ (p : Params) (r : Ranged p) (v : View) (gone : ℕ) (groups : InGroups 
       let es : s / p .G * p .G ≡ o / p .G * p .G = ap (λ (x : ℕ). x * p .G) same in
       let f : ℕ → Bool = λ x. ltb x (p .S) && shows x in
       let here : f o ≡ true = and-both (ltb o (p .S)) (shows o) (lt-ltb o (p .S) (low .0))
-      (and-both (ltb (1 + o) (pointerAt v d g)) (eqb (getD table (compactAt p d g o) 0) (compactEntry p s)) (lt-ltb (1 + o) (pointerAt v d g) (low .1))
-      (eq-eqb (getD table (compactAt p d g o) 0) (compactEntry p s) (entry-is o (k .stored-there) ∙ ap (compactEntry p) (k .its-stripe)))) in
+      (and-both (ltb (1 + o) (pointerAt v d (zoneOn g d))) (eqb (getD table (compactAt p d (zoneOn g d) o) 0) (compactEntry p s)) (lt-ltb (1 + o) (pointerAt v d (zoneOn g d)) (low .1))
+      (eq-eqb (getD table (compactAt p d (zoneOn g d) o) 0) (compactEntry p s) (entry-is o (k .stored-there) ∙ ap (compactEntry p) (k .its-stripe)))) in
       let base : group p s * p .G ≡ s / p .G * p .G = group-base in
       let q = first-kept f b (p .G) o (omega arith) (omega arith) here (λ i u w. earlier i (omega arith) (omega arith) w) in
       let e : keep shows (keep (λ x. ltb x (p .S)) (upFrom b (p .G))) ≡ keep f (upFrom b (p .G)) = keep-keep shows (λ x. ltb x (p .S)) (upFrom b (p .G)) in
@@ -178,10 +178,11 @@ module _ (p : Params) (r : Ranged p) (v : View) (gone : ℕ) (groups : InGroups 
       earlier i u w l = not-so (ltb i (p .S) && shows i) (λ q.
           let a = and-left (ltb i (p .S)) (shows i) q in
           let x = and-right (ltb i (p .S)) (shows i) q in
-          let y = ltb-true (1 + i) (pointerAt v d g) (and-left (ltb (1 + i) (pointerAt v d g)) (eqb (getD table (compactAt p d g i) 0) (compactEntry p s)) x) in
-          let z = eqb-true (getD table (compactAt p d g i) 0) (compactEntry p s) (and-right (ltb (1 + i) (pointerAt v d g)) (eqb (getD table (compactAt p d g i) 0) (compactEntry p s)) x) in
-          let st : i < dataStored p (zoneAt v d g) = low-data p (zoneAt v d g) i (ltb-true i (p .S) a) y in
-          let t = recordIn p (sealedIn p v gone g) (zoneAt v d g) i .stripe in
+          let y = ltb-true (1 + i) (pointerAt v d (zoneOn g d)) (and-left (ltb (1 + i) (pointerAt v d (zoneOn g d))) (eqb (getD table (compactAt p d (zoneOn g d) i) 0) (compactEntry p s)) x) in
+          let z = eqb-true (getD table (compactAt p d (zoneOn g d) i) 0) (compactEntry p s)
+          (and-right (ltb (1 + i) (pointerAt v d (zoneOn g d))) (eqb (getD table (compactAt p d (zoneOn g d) i) 0) (compactEntry p s)) x) in
+          let st : i < dataStored p (zoneAt v d (zoneOn g d)) = low-data p (zoneAt v d (zoneOn g d)) i (ltb-true i (p .S) a) y in
+          let t = recordIn p (sealedIn p v gone g) (zoneAt v d (zoneOn g d)) i .stripe in
           let gr : t / p .G ≡ i / p .G = in-same i t (groups g d i hg hd pr st) in
           let di : i / p .G ≡ s / p .G = ap (λ (x : ℕ). x / p .G) (let e : i ≡ s / p .G * p .G + (i - s / p .G * p .G) = omega arith in e)
           ∙ digits-div (s / p .G) (let e : i - s / p .G * p .G < p .G = omega arith in e) in
@@ -204,12 +205,17 @@ module _ (p : Params) (r : Ranged p) (v : View) (gone : ℕ) where
     unfolding candOf
     cand-offset = ap (λ (x : Cand). x .offset) (k .it-is) ∙ ap (offsetOf gone (segmentOf p v gone (k .of)) (k .stripe)) (sym cand-drive)
 
-    cand-place : c .place ≡ placeOf p (c .drive) (k .of) (1 + c .offset)
-    unfolding candOf zoneOn
+    cand-place : c .place ≡ placeOf p (c .drive) (zoneOn (k .of) (c .drive)) (1 + c .offset)
+    unfolding candOf
     cand-place = ap (λ (x : Cand). x .place) (k .it-is)
-        ∙ ap₂ (λ (x y : ℕ). placeOf p x (segmentOf p v gone (k .of) .seg) (1 + y)) (sym cand-drive) (sym (ap (λ (x : Cand). x .offset) (k .it-is)))
-        ∙ ap (λ (x : ℕ). placeOf p (c .drive) x (1 + c .offset)) (seg-is p v gone (k .of))
+        ∙ ap₂ (λ (x y : ℕ). placeOf p x (zoneOn (segmentOf p v gone (k .of) .seg) x) (1 + y)) (sym cand-drive) (sym (ap (λ (x : Cand). x .offset) (k .it-is)))
+        ∙ ap (λ (x : Seg). placeOf p (c .drive) (zoneOn x (c .drive)) (1 + c .offset)) (seg-is p v gone (k .of))
 
-    pub cand-zone : placeZone p (c .place) ≡ k .of
+    pub cand-zone : placeZone p (c .place) ≡ zoneOn (k .of) (c .drive)
     cand-zone = ap (placeZone p) cand-place
-        ∙ place-zone p (c .drive) (k .of) (1 + c .offset) (remaining-low p v gone (k .of) (k .remains)) (omega (arith, capacity-over p r, t .offset-low))
+        ∙ place-zone p (c .drive) (zoneOn (k .of) (c .drive)) (1 + c .offset) (zone-on-lt p (k .of) (c .drive) (remaining-low p v gone (k .of) (k .remains)))
+        (omega (arith, capacity-over p r, t .offset-low))
+
+    pub cand-segment : placeSegment p (c .place) ≡ k .of
+    cand-segment = ap (placeSegment p) cand-place
+        ∙ place-segment-of p (k .of) (c .drive) (1 + c .offset) (remaining-low p v gone (k .of) (k .remains)) (omega (arith, capacity-over p r, t .offset-low))

@@ -4,24 +4,25 @@ use mathlib.Core.Bool.{Bool, true, false, not}
 use Prim.Native.Nat.{ℕ, _≤_, _<_}
 use lib.Dec.{eqb}
 use Rattle.spec.specs.declared.Params.{Params}
-use Rattle.spec.specs.Drives.{View, zoneAt, pointerAt, recordIn}
+use Rattle.spec.specs.Drives.{View, zoneAt, pointerAt, recordIn, Seg, zoneOn}
 use Rattle.spec.specs.Layout.{headerSerial, headerCopied, Rec}
 use Rattle.spec.specs.Params.{capacity}
 use Rattle.spec.specs.Segments.{headerAt}
+use Rattle.law_basic.specs.Segs.{Named}
 
 -- the record of a data offset, by its spare
 abbrev pub spareAt : Params → View → ℕ → ℕ → ℕ → Rec
 spareAt p v d z o = recordIn p false (zoneAt v d z) o
 
 -- a segment with a header
-abbrev pub usedAt : View → ℕ → Bool
-usedAt v z = not (eqb (pointerAt v 0 z) 0)
+abbrev pub usedAt : View → Seg → Bool
+usedAt v g = not (eqb (pointerAt v 0 (zoneOn g 0)) 0)
 
 -- the segments by their zones and headers alone
 pub record Tidy (p : Params) (v : View) (serial : ℕ) : Type 0 where
-  pub pointer-low : (d z : ℕ) → d < p .N → z < p .Z → pointerAt v d z ≤ capacity p
-  pub together : (d z : ℕ) → d < p .N → z < p .Z → eqb (pointerAt v d z) 0 ≡ eqb (pointerAt v 0 z) 0
-  pub copied-less : (z : ℕ) → z < p .Z → usedAt v z ≡ true → headerCopied (headerAt v 0 z) < headerSerial (headerAt v 0 z)
-  pub serial-known : (z : ℕ) → z < p .Z → usedAt v z ≡ true → headerSerial (headerAt v 0 z) ≤ serial
-  pub serial-once : (y z : ℕ) → y < p .Z → z < p .Z → usedAt v y ≡ true → usedAt v z ≡ true → headerSerial (headerAt v 0 y) ≡ headerSerial (headerAt v 0 z) → y ≡ z
-  pub no-copy : (y z : ℕ) → y < p .Z → z < p .Z → usedAt v y ≡ true → usedAt v z ≡ true → headerCopied (headerAt v 0 y) ≡ headerSerial (headerAt v 0 z) → ⊥
+  pub pointer-low : (d : ℕ) (z : Seg) → d < p .N → Named p z → pointerAt v d (zoneOn z d) ≤ capacity p
+  pub together : (d : ℕ) (z : Seg) → d < p .N → Named p z → eqb (pointerAt v d (zoneOn z d)) 0 ≡ eqb (pointerAt v 0 (zoneOn z 0)) 0
+  pub copied-less : (z : Seg) → Named p z → usedAt v z ≡ true → headerCopied (headerAt v 0 z) < headerSerial (headerAt v 0 z)
+  pub serial-known : (z : Seg) → Named p z → usedAt v z ≡ true → headerSerial (headerAt v 0 z) ≤ serial
+  pub serial-once : (y z : Seg) → Named p y → Named p z → usedAt v y ≡ true → usedAt v z ≡ true → headerSerial (headerAt v 0 y) ≡ headerSerial (headerAt v 0 z) → y ≡ z
+  pub no-copy : (y z : Seg) → Named p y → Named p z → usedAt v y ≡ true → usedAt v z ≡ true → headerCopied (headerAt v 0 y) ≡ headerSerial (headerAt v 0 z) → ⊥

@@ -9,7 +9,7 @@ use native.Mathlib.Omega.{arith}
 use lib.Dec.{leb, ltb, eqb}
 use lib.ListN.{length, getD, length-map}
 use Rattle.spec.specs.declared.Params.{Params}
-use Rattle.spec.specs.Drives.{View, zoneAt, pointerAt, sealedIn, dataStored, recordIn}
+use Rattle.spec.specs.Drives.{View, zoneAt, pointerAt, sealedIn, dataStored, recordIn, Seg, zoneOn}
 use Rattle.spec.specs.Faults.{twice, clashes}
 use Rattle.spec.specs.Layout.{group, inGroupOf, Rec, mkRec}
 use Rattle.spec.specs.Lists.{below, any, consIf, keep, isNil, sameList}
@@ -20,6 +20,7 @@ use Rattle.law_basic.specs.Geometry.{Ranged}
 use Rattle.law_basic.specs.Mask.{isIn-empty}
 use Rattle.law_basic.specs.Ranges.{Test, test, and-left, and-both, length-below, length-keep, sameList-true, nil-is}
 use Rattle.law_basic.specs.Ranges.Test.{yes!, no! }
+use Rattle.law_basic.specs.Segs.{Named}
 use Rattle.law_drives.specs.Accept.{Accepted, faults-apart, zone-stripes, in-groups}
 use Rattle.law_drives.specs.Counting.{Different, different-few, holds-many, stripes-different}
 use Rattle.law_drives.specs.Members.{In, in-map, map-in, in-keep, keep-in, in-any, in-below, below-in, in-getD, getD-in}
@@ -58,24 +59,24 @@ keep-full {A} f l e a m = go (test (f a))
 
 -- which are unsealed: none, or one
 pub data Loose (p : Params) (v : View) : Type 0 where
-  loose-none : unsealed (segments p v 0) ≡ [] → ((y : ℕ) → y < p .Z → remains p v 0 y ≡ true → sealedIn p v 0 y ≡ true) → Loose p v
+  loose-none : unsealed (segments p v 0) ≡ [] → ((y : Seg) → Named p y → remains p v 0 y ≡ true → sealedIn p v 0 y ≡ true) → Loose p v
   loose-one :
-      (g : ℕ)
-      → g < p .Z
+      (g : Seg)
+      → Named p g
       → remains p v 0 g ≡ true
       → sealedIn p v 0 g ≡ false
       → unsealed (segments p v 0) ≡ segmentOf p v 0 g ∷ []
-      → ((y : ℕ) → y < p .Z → remains p v 0 y ≡ true → (y ≡ g → ⊥) → sealedIn p v 0 y ≡ true)
+      → ((y : Seg) → Named p y → remains p v 0 y ≡ true → (y ≡ g → ⊥) → sealedIn p v 0 y ≡ true)
       → Loose p v
 
 module _ (p : Params) (r : Ranged p) (v : View) (sh : Shaped p v) (acc : Accepted p v 0) where
   abbrev gs : List Segment
   gs = segments p v 0
 
-  abbrev keeps! : ℕ → Bool
+  abbrev keeps! : Seg → Bool
   keeps! y = remains p v 0 y
 
-  in-unsealed : (y : ℕ) → y < p .Z → keeps! y ≡ true → sealedIn p v 0 y ≡ false → In (segmentOf p v 0 y) (unsealed gs)
+  in-unsealed : (y : Seg) → Named p y → keeps! y ≡ true → sealedIn p v 0 y ≡ false → In (segmentOf p v 0 y) (unsealed gs)
   in-unsealed y hy q ns =
       as! (in-keep (λ (g : Segment). not (g .full)) (map (segmentOf p v 0) (remaining p v 0)) (segmentOf p v 0 y)
       (in-map (segmentOf p v 0) (remaining p v 0) y (in-remaining p v 0 y hy q)) (ap not (full-is p v 0 y ∙ ns)))
@@ -83,7 +84,7 @@ module _ (p : Params) (r : Ranged p) (v : View) (sh : Shaped p v) (acc : Accepte
       as! : In (segmentOf p v 0 y) (keep (λ (g : Segment). not (g .full)) (map (segmentOf p v 0) (remaining p v 0))) → In (segmentOf p v 0 y) (unsealed gs)
       as! m = unfold unsealed segments in m
 
-  unsealed-in : (x : Segment) → In x (unsealed gs) → (g : ℕ) × (g < p .Z) × (keeps! g ≡ true) × (sealedIn p v 0 g ≡ false) × (x ≡ segmentOf p v 0 g)
+  unsealed-in : (x : Segment) → In x (unsealed gs) → (g : Seg) × (Named p g) × (keeps! g ≡ true) × (sealedIn p v 0 g ≡ false) × (x ≡ segmentOf p v 0 g)
   unsealed-in x m =
       let (i, q) = keep-in (λ (g : Segment). not (g .full)) (map (segmentOf p v 0) (remaining p v 0)) x (as! m) in
       let (g, j, e) = map-in (segmentOf p v 0) (remaining p v 0) x i in
@@ -93,7 +94,7 @@ module _ (p : Params) (r : Ranged p) (v : View) (sh : Shaped p v) (acc : Accepte
       as! : In x (unsealed gs) → In x (keep (λ (g : Segment). not (g .full)) (map (segmentOf p v 0) (remaining p v 0)))
       as! m = unfold unsealed segments in m
 
-  segment-injective : (y g : ℕ) → segmentOf p v 0 y ≡ segmentOf p v 0 g → y ≡ g
+  segment-injective : (y g : Seg) → segmentOf p v 0 y ≡ segmentOf p v 0 g → y ≡ g
   segment-injective y g e = sym (seg-is p v 0 y) ∙ ap (λ (x : Segment). x .seg) e ∙ seg-is p v 0 g
 
   pub loose : Loose p v
@@ -113,7 +114,7 @@ module _ (p : Params) (r : Ranged p) (v : View) (sh : Shaped p v) (acc : Accepte
           not-false! true f = refl
           not-false! false f = absurd (f refl)
 
-          others : (g : ℕ) → x ≡ segmentOf p v 0 g → (y : ℕ) → y < p .Z → keeps! y ≡ true → (y ≡ g → ⊥) → sealedIn p v 0 y ≡ true
+          others : (g : Seg) → x ≡ segmentOf p v 0 g → (y : Seg) → Named p y → keeps! y ≡ true → (y ≡ g → ⊥) → sealedIn p v 0 y ≡ true
           others g f y hy q n = not-false! (sealedIn p v 0 y) (λ ns. one (subst (λ (l : List Segment). In (segmentOf p v 0 y) l) e (in-unsealed y hy q ns)))
             where
               one : (segmentOf p v 0 y ≡ x) ⊎ ⊥ → ⊥
@@ -123,7 +124,7 @@ module _ (p : Params) (r : Ranged p) (v : View) (sh : Shaped p v) (acc : Accepte
           let (g, hg, k, ns, f) = unsealed-in x (subst (λ (l : List Segment). In x l) (sym e) (inl refl)) in
           clash (both g ns) (faults-apart p v 0 acc g (in-remaining p v 0 g hg k) .no-clash)
         where
-          both : (g : ℕ) → sealedIn p v 0 g ≡ false → clashes gs (segmentOf p v 0 g) ≡ true
+          both : (g : Seg) → sealedIn p v 0 g ≡ false → clashes gs (segmentOf p v 0 g) ≡ true
           both g ns =
               unfold clashes in and-both (not (segmentOf p v 0 g .full)) (leb 2 (length (unsealed gs))) (ap not (full-is p v 0 g ∙ ns))
               (le-leb 2 (length (unsealed gs))
@@ -131,7 +132,7 @@ module _ (p : Params) (r : Ranged p) (v : View) (sh : Shaped p v) (acc : Accepte
 
   -- ---- the zones of an unsealed segment
 
-  module _ (g : ℕ) (hg : g < p .Z) (kg : keeps! g ≡ true) (ng : sealedIn p v 0 g ≡ false) where
+  module _ (g : Seg) (hg : Named p g) (kg : keeps! g ≡ true) (ng : sealedIn p v 0 g ≡ false) where
     abbrev x : Segment
     x = segmentOf p v 0 g
 
@@ -139,29 +140,29 @@ module _ (p : Params) (r : Ranged p) (v : View) (sh : Shaped p v) (acc : Accepte
     c = length (counted p 0 x)
 
     abbrev rs : ℕ → List Rec
-    rs d = recordsIn p false (zoneAt v d g)
+    rs d = recordsIn p false (zoneAt v d (zoneOn g d))
 
     ing : In g (remaining p v 0)
     ing = in-remaining p v 0 g hg kg
 
-    by-spare : (d o : ℕ) → recordIn p (sealedIn p v 0 g) (zoneAt v d g) o ≡ spareAt p v d g o
-    by-spare d o = ap (λ (w : Bool). recordIn p w (zoneAt v d g) o) ng
+    by-spare : (d o : ℕ) → recordIn p (sealedIn p v 0 g) (zoneAt v d (zoneOn g d)) o ≡ spareAt p v d (zoneOn g d) o
+    by-spare d o = ap (λ (w : Bool). recordIn p w (zoneAt v d (zoneOn g d)) o) ng
 
     numbers : ℕ → List ℕ
     numbers d = map (λ (y : Rec). y .stripe) (rs d)
 
-    numbers-long : (d : ℕ) → length (numbers d) ≡ dataStored p (zoneAt v d g)
+    numbers-long : (d : ℕ) → length (numbers d) ≡ dataStored p (zoneAt v d (zoneOn g d))
     unfolding numbers
-    numbers-long d = length-map (rs d) (λ (y : Rec). y .stripe) ∙ length-records p false (zoneAt v d g)
+    numbers-long d = length-map (rs d) (λ (y : Rec). y .stripe) ∙ length-records p false (zoneAt v d (zoneOn g d))
 
     has-number : (d s : ℕ) → d < p .N → hasChunk x s d ≡ true → In s (numbers d)
     unfolding numbers
     has-number d s hd q =
         let k = chunk-at p v 0 g d s hd (isIn-empty d) q in
         let o = offsetOn x d s in
-        let l : o < length (rs d) = subst (λ (n : ℕ). o < n) (sym (length-records p false (zoneAt v d g))) (k .stored-there) in
+        let l : o < length (rs d) = subst (λ (n : ℕ). o < n) (sym (length-records p false (zoneAt v d (zoneOn g d)))) (k .stored-there) in
         subst (λ (n : ℕ). In n (map (λ (y : Rec). y .stripe) (rs d)))
-        (ap (λ (y : Rec). y .stripe) (record-at p false (zoneAt v d g) o (mkRec 0 0 0) (k .stored-there) ∙ sym (by-spare d o)) ∙ k .its-stripe)
+        (ap (λ (y : Rec). y .stripe) (record-at p false (zoneAt v d (zoneOn g d)) o (mkRec 0 0 0) (k .stored-there) ∙ sym (by-spare d o)) ∙ k .its-stripe)
         (in-map (λ (y : Rec). y .stripe) (rs d) (getD (rs d) o (mkRec 0 0 0)) (in-getD (rs d) o (mkRec 0 0 0) l))
 
     number-has : (d s : ℕ) → d < p .N → In s (numbers d) → (hasChunk x s d ≡ true) × (s < p .S)
@@ -169,8 +170,9 @@ module _ (p : Params) (r : Ranged p) (v : View) (sh : Shaped p v) (acc : Accepte
     number-has d s hd m =
         let (y, i, e) = map-in (λ (y : Rec). y .stripe) (rs d) s m in
         let (o, l, f) = getD-in (rs d) (mkRec 0 0 0) y i in
-        let l2 : o < dataStored p (zoneAt v d g) = subst (λ (n : ℕ). o < n) (length-records p false (zoneAt v d g)) l in
-        let w : recordIn p (sealedIn p v 0 g) (zoneAt v d g) o .stripe ≡ s = ap (λ (a : Rec). a .stripe) (by-spare d o ∙ sym (record-at p false (zoneAt v d g) o (mkRec 0 0 0) l2) ∙ sym f) ∙ sym e in
+        let l2 : o < dataStored p (zoneAt v d (zoneOn g d)) = subst (λ (n : ℕ). o < n) (length-records p false (zoneAt v d (zoneOn g d))) l in
+        let w : recordIn p (sealedIn p v 0 g) (zoneAt v d (zoneOn g d)) o .stripe ≡ s = ap (λ (a : Rec). a .stripe)
+        (by-spare d o ∙ sym (record-at p false (zoneAt v d (zoneOn g d)) o (mkRec 0 0 0) l2) ∙ sym f) ∙ sym e in
         (has-chunk p v 0 g d s o hd (isIn-empty d) l2 w, low o s (subst (λ (n : ℕ). inGroupOf p o n ≡ true) w (in-groups p v 0 acc g d o ing hd (isIn-empty d) l2)))
       where
         low : (o s : ℕ) → inGroupOf p o s ≡ true → s < p .S
@@ -178,7 +180,7 @@ module _ (p : Params) (r : Ranged p) (v : View) (sh : Shaped p v) (acc : Accepte
 
     numbers-differ : (d : ℕ) → d < p .N → Different (numbers d)
     unfolding numbers
-    numbers-differ d hd = stripes-different (rs d) (ap twice (ap (λ (w : Bool). recordsIn p w (zoneAt v d g)) (sym ng)) ∙ zone-stripes p v 0 acc g d ing hd (isIn-empty d) .1)
+    numbers-differ d hd = stripes-different (rs d) (ap twice (ap (λ (w : Bool). recordsIn p w (zoneAt v d (zoneOn g d))) (sym ng)) ∙ zone-stripes p v 0 acc g d ing hd (isIn-empty d) .1)
 
     in-counted : (s : ℕ) → s < p .S → counts p 0 x s ≡ true → In s (counted p 0 x)
     in-counted s h q = as! (in-keep (counts p 0 x) (below (p .S)) s (in-below (p .S) s h) q)
@@ -187,7 +189,7 @@ module _ (p : Params) (r : Ranged p) (v : View) (sh : Shaped p v) (acc : Accepte
         as! m = unfold counted in m
 
     -- all stripes count: every zone has its S chunks
-    pub whole-pointer : isWhole p x ≡ true → (d : ℕ) → d < p .N → 1 + p .S ≤ pointerAt v d g
+    pub whole-pointer : isWhole p x ≡ true → (d : ℕ) → d < p .N → 1 + p .S ≤ pointerAt v d (zoneOn g d)
     whole-pointer q d hd = as! (holds-many (p .S) (numbers d) (λ s h. has-number d s hd (counts-in p 0 x s d (all! s h) hd (isIn-empty d))))
       where
         all! : (s : ℕ) → s < p .S → counts p 0 x s ≡ true
@@ -196,10 +198,10 @@ module _ (p : Params) (r : Ranged p) (v : View) (sh : Shaped p v) (acc : Accepte
             full! : isWhole p x ≡ true → length (keep (counts p 0 x) (below (p .S))) ≡ p .S
             full! q = unfold isWhole counted in eqb-true (length (keep (counts p 0 x) (below (p .S)))) (p .S) q
 
-        as! : p .S ≤ length (numbers d) → 1 + p .S ≤ pointerAt v d g
+        as! : p .S ≤ length (numbers d) → 1 + p .S ≤ pointerAt v d (zoneOn g d)
         as! l = bs! (subst (λ (n : ℕ). p .S ≤ n) (numbers-long d) l)
           where
-            bs! : p .S ≤ dataStored p (zoneAt v d g) → 1 + p .S ≤ pointerAt v d g
+            bs! : p .S ≤ dataStored p (zoneAt v d (zoneOn g d)) → 1 + p .S ≤ pointerAt v d (zoneOn g d)
             bs! l = unfold dataStored pointerAt in (let s = r .stripes-low in omega arith)
 
     -- its stripes are 0 to c - 1, and nothing else is there
@@ -241,7 +243,7 @@ module _ (p : Params) (r : Ranged p) (v : View) (sh : Shaped p v) (acc : Accepte
               as! : In s (keep (λ s. any (hasChunk x s) (present p 0) && not (counts p 0 x s)) (below (p .S))) → In s (uncounted p 0 x)
               as! m = unfold uncounted in m
 
-      stored-are : (d : ℕ) → d < p .N → dataStored p (zoneAt v d g) ≡ c
+      stored-are : (d : ℕ) → d < p .N → dataStored p (zoneAt v d (zoneOn g d)) ≡ c
       stored-are d hd =
           let a : length (numbers d) ≤ c = different-few c (numbers d) (numbers-differ d hd) (λ s m. let (q, h) = number-has d s hd m in chunk-counts d s hd q h) in
           let b : c ≤ length (numbers d) =
@@ -250,21 +252,21 @@ module _ (p : Params) (r : Ranged p) (v : View) (sh : Shaped p v) (acc : Accepte
           let e = numbers-long d in
           omega arith
 
-      tidy-pointer : (d : ℕ) → d < p .N → (pointerAt v d g ≡ 0 → ⊥) → pointerAt v d g ≡ 1 + c
+      tidy-pointer : (d : ℕ) → d < p .N → (pointerAt v d (zoneOn g d) ≡ 0 → ⊥) → pointerAt v d (zoneOn g d) ≡ 1 + c
       tidy-pointer d hd n = as! (stored-are d hd) n
         where
-          as! : dataStored p (zoneAt v d g) ≡ c → (pointerAt v d g ≡ 0 → ⊥) → pointerAt v d g ≡ 1 + c
-          as! e n = unfold dataStored pointerAt in (let f = few! in let m : ¬ (zoneAt v d g .pointer ≡ 0) = n in omega arith)
+          as! : dataStored p (zoneAt v d (zoneOn g d)) ≡ c → (pointerAt v d (zoneOn g d) ≡ 0 → ⊥) → pointerAt v d (zoneOn g d) ≡ 1 + c
+          as! e n = unfold dataStored pointerAt in (let f = few! in let m : ¬ (zoneAt v d (zoneOn g d) .pointer ≡ 0) = n in omega arith)
 
-      pub tidy-steady : usedAt v g ≡ true → ((d : ℕ) → d < p .N → pointerAt v d g ≡ 0 → ⊥) → Steady p v g c
+      pub tidy-steady : usedAt v g ≡ true → ((d : ℕ) → d < p .N → pointerAt v d (zoneOn g d) ≡ 0 → ⊥) → Steady p v g c
       tidy-steady us n = record {
         steady-low = hg;
         steady-used = us;
         steady-few = few!;
         steady-pointer = λ d hd. tidy-pointer d hd (n d hd);
         steady-stripes = λ d o hd h.
-            let l : o < dataStored p (zoneAt v d g) = subst (λ (k : ℕ). o < k) (sym (stored-are d hd)) h in
-            let s = spareAt p v d g o .stripe in
+            let l : o < dataStored p (zoneAt v d (zoneOn g d)) = subst (λ (k : ℕ). o < k) (sym (stored-are d hd)) h in
+            let s = spareAt p v d (zoneOn g d) o .stripe in
             let q = has-chunk p v 0 g d s o hd (isIn-empty d) l (ap (λ (a : Rec). a .stripe) (by-spare d o)) in
             chunk-counts d s hd q (low o s (subst (λ (a : Rec). inGroupOf p o (a .stripe) ≡ true) (by-spare d o) (in-groups p v 0 acc g d o ing hd (isIn-empty d) l)));
         steady-count = refl;

@@ -1,13 +1,13 @@
 -- A restart's stores fit, and behind them no remaining segment has a bad stripe number or a bad data address (01, Restart, 4; Refusals, 9). Assumes nothing.
 use Prim.Native.Nat.{ℕ, suc, _+_, _^_, _<_}
 use Rattle.spec.specs.Counts.{lastCount}
-use Rattle.spec.specs.Drives.{noChunk, noZone, View, zoneAt, pointerAt, Store, storeView, storeAll, zoneOn, sealedIn, dataStored, recordIn}
+use Rattle.spec.specs.Drives.{noChunk, noZone, View, zoneAt, pointerAt, Store, storeView, storeAll, zoneOn, sealedIn, dataStored, recordIn, seg, Seg, allSegs}
 use Rattle.spec.specs.Faults.{outside, twice, stripeFault, storedBad, footerFaultIn, footerFault}
 use Rattle.spec.specs.Layout.{dataDrive, dataPosition, isData, Rec, mkRec, recordBytes, recordOf}
-use Rattle.spec.specs.Lists.{below, all, any, keep, isNil, flat, firstOr}
+use Rattle.spec.specs.Lists.{all, any, keep, isNil, flat, firstOr}
 use Rattle.spec.specs.Params.{dataCount, capacity, present}
 use Rattle.spec.specs.Parity.{Piece}
-use Rattle.spec.specs.Restart.{freeZones, isWhole, isRagged, missingFooters, renumbered, rewriteStores, dropStores, mendStores, restartStores, rewrites}
+use Rattle.spec.specs.Restart.{freeSegs, isWhole, isRagged, missingFooters, renumbered, rewriteStores, dropStores, mendStores, restartStores, rewrites}
 use Rattle.spec.specs.Segments.{remaining, Segment, recordsIn, segmentOf, segments, offsetOn, hasChunk, counted, storedPiece, storedRec, greatestSerial, unsealed}
 use Rattle.spec.specs.declared.Params.{Params}
 use Rattle.law_basic.specs.Geometry.{Ranged, drive-is-data, data-drive-lt, position-lt}
@@ -15,19 +15,20 @@ use Rattle.law_basic.specs.Mask.{isIn-empty}
 use Rattle.law_basic.specs.Ranges.{Test, test, flat-none, flat-cons}
 use Rattle.law_basic.specs.Ranges.Test.{yes!, no! }
 use Rattle.law_basic.specs.Stores.{storeAll-append}
+use Rattle.law_basic.specs.Segs.{segs-differ, Named, zone-on-lt}
 use Rattle.law_restart.specs.Feet.{records-footed}
 use Rattle.law_restart.specs.Stripes.{fault-none, in-order, badData, data-none, bad-none, none-bad, zone-good, good-at, moved-good, parity-good}
 use Rattle.law_drives.specs.Accept.{Accepted, faults-apart, zone-stripes}
 use Rattle.law_drives.specs.Dropping.{free-are, drop-same, drop-roomy, drop-within, drop-used}
 use Rattle.law_drives.specs.Joins.{roomy-append, within-append, stores-none}
 use Rattle.law_drives.specs.Laid.{record-back, address-low, stamp-low}
-use Rattle.law_drives.specs.Members.{In, keep-in, in-all, none-in, in-any, below-in, first-in}
+use Rattle.law_drives.specs.Members.{In, keep-in, in-all, none-in, in-any, first-in}
 use Rattle.law_drives.specs.Mended.{mended, serials-small}
 use Rattle.law_drives.specs.Mending.{Mended, has-pointer, b-zone, b-other, b-pointer}
 use Rattle.law_drives.specs.Range.{capacity-over}
 use Rattle.law_drives.specs.Rebuilding.{counted-low, counted-in}
 use Rattle.law_drives.specs.Rewriting.{moved-data, same-else, new-stripe, new-record, open-now, under!, used-moved}
-use Rattle.law_drives.specs.Segs.{present-in, data-low, zone-by, full-is, chunk-at}
+use Rattle.law_drives.specs.Segs.{present-in, data-low, zone-by, full-is, chunk-at, segs-in}
 use Rattle.law_drives.specs.Settled.{present-all, remains-is-used, SameZones, zones-used, zones-segment}
 use Rattle.law_drives.specs.Spots.{counts-in}
 use Rattle.law_drives.specs.Tables.{remains, in-remaining}
@@ -43,7 +44,6 @@ use mathlib.Core.Bool.{Bool, true, false, not, _&&_}
 use mathlib.Core.List.{List, [], _∷_, _++_, append-nil}
 use mathlib.Core.Logic.{_⊎_, inl, inr}
 use mathlib.Core.Path.{_≡_, refl, sym, ap, ap₂, _∙_, subst}
-use native.Mathlib.Decide.{ℕ-discrete}
 use native.Mathlib.Omega.{arith}
 
 -- what loading the memory asks for: no bad stripe number, and no bad data address stored
@@ -52,7 +52,7 @@ GoodSegment p gone g = (stripeFault p gone g ≡ false) × (badData p gone g ≡
 
 -- of every remaining segment
 abbrev pub AllGood : Params → View → ℕ → Type 0
-AllGood p v gone = (g : ℕ) → In g (remaining p v gone) → GoodSegment p gone (segmentOf p v gone g)
+AllGood p v gone = (g : Seg) → In g (remaining p v gone) → GoodSegment p gone (segmentOf p v gone g)
 
 -- what is accepted passes it
 pub accepted-fine : (p : Params) (v : View) (gone : ℕ) → Accepted p v gone → AllGood p v gone
@@ -65,27 +65,27 @@ healthy-stores p gs = refl
 
 -- of every segment that is used
 abbrev pub UsedGood : Params → View → Type 0
-UsedGood p v = (y : ℕ) → y < p .Z → usedAt v y ≡ true → GoodSegment p 0 (segmentOf p v 0 y)
+UsedGood p v = (y : Seg) → Named p y → usedAt v y ≡ true → GoodSegment p 0 (segmentOf p v 0 y)
 
 module _ (p : Params) (r : Ranged p) (v : View) (sh : Shaped p v) (acc : Accepted p v 0) where
   abbrev gs : List Segment
   gs = segments p v 0
 
-  abbrev keeps! : ℕ → Bool
+  abbrev keeps! : Seg → Bool
   keeps! y = remains p v 0 y
 
   abbrev va : View
   va = storeAll storeView (dropStores p gs) v
 
   -- a segment whose zones are as they were found
-  as-found : (u : View) (y : ℕ) → y < p .Z → keeps! y ≡ true → SameZones p v u y → GoodSegment p 0 (segmentOf p u 0 y)
+  as-found : (u : View) (y : Seg) → Named p y → keeps! y ≡ true → SameZones p v u y → GoodSegment p 0 (segmentOf p u 0 y)
   as-found u y hy q sm = subst (λ (x : Segment). GoodSegment p 0 x) (zones-segment p r v u y sm) (accepted-fine p v 0 acc y (in-remaining p v 0 y hy q))
 
   -- once the dropped segments are reset
   fine-none : UsedGood p va
   fine-none y hy q = let k = sym (drop-used p r v sh acc y hy) ∙ q in as-found va y hy k (drop-same p r v sh acc y hy k)
 
-  module _ (g : ℕ) (hg : g < p .Z) (kg : keeps! g ≡ true) (ng : sealedIn p v 0 g ≡ false) (oth : (y : ℕ) → y < p .Z → keeps! y ≡ true → (y ≡ g → ⊥) → sealedIn p v 0 y ≡ true) where
+  module _ (g : Seg) (hg : Named p g) (kg : keeps! g ≡ true) (ng : sealedIn p v 0 g ≡ false) (oth : (y : Seg) → Named p y → keeps! y ≡ true → (y ≡ g → ⊥) → sealedIn p v 0 y ≡ true) where
     abbrev x : Segment
     x = segmentOf p v 0 g
 
@@ -94,7 +94,7 @@ module _ (p : Params) (r : Ranged p) (v : View) (sh : Shaped p v) (acc : Accepte
       abbrev vb : View
       vb = storeAll storeView (missingFooters p x) va
 
-      footer-faultless : (d : ℕ) → d < p .N → footerFaultIn p (zoneAt v d g) ≡ false
+      footer-faultless : (d : ℕ) → d < p .N → footerFaultIn p (zoneAt v d (zoneOn g d)) ≡ false
       footer-faultless d hd =
           ap (footerFaultIn p) (sym (zone-by p v 0 g d hd))
           ∙ none-in (λ e. footerFaultIn p (getD (x .zonesBy) e noZone)) (present p 0) (as! (faults-apart p v 0 acc g (in-remaining p v 0 g hg kg) .no-footer-fault)) d (present-all p d hd)
@@ -104,22 +104,23 @@ module _ (p : Params) (r : Ranged p) (v : View) (sh : Shaped p v) (acc : Accepte
 
       sealed-b : sealedIn p vb 0 g ≡ true
       sealed-b =
-          as! (in-all (λ e. eqb (pointerAt vb e g) (capacity p)) (present p 0) (λ e m. eq-eqb (pointerAt vb e g) (capacity p) (b-pointer p r v sh acc g hg kg ng oth wh e (present-in p 0 e m .0))))
+          as! (in-all (λ e. eqb (pointerAt vb e (zoneOn g e)) (capacity p)) (present p 0)
+          (λ e m. eq-eqb (pointerAt vb e (zoneOn g e)) (capacity p) (b-pointer p r v sh acc g hg kg ng oth wh e (present-in p 0 e m .0))))
         where
-          as! : all (λ e. eqb (pointerAt vb e g) (capacity p)) (present p 0) ≡ true → sealedIn p vb 0 g ≡ true
-          as! q = unfold sealedIn zoneOn in q
+          as! : all (λ e. eqb (pointerAt vb e (zoneOn g e)) (capacity p)) (present p 0) ≡ true → sealedIn p vb 0 g ≡ true
+          as! q = unfold sealedIn in q
 
-      same-records : (d : ℕ) → d < p .N → recordsIn p (sealedIn p vb 0 g) (zoneAt vb d g) ≡ recordsIn p (sealedIn p v 0 g) (zoneAt v d g)
+      same-records : (d : ℕ) → d < p .N → recordsIn p (sealedIn p vb 0 g) (zoneAt vb d (zoneOn g d)) ≡ recordsIn p (sealedIn p v 0 g) (zoneAt v d (zoneOn g d))
       same-records d hd =
           ap₂ (recordsIn p) sealed-b (b-zone p r v sh acc g hg kg ng oth wh d hd)
-          ∙ records-footed p r (zoneAt v d g) (sh .zone-ok d g hd hg) (has-pointer p r v sh acc g hg kg ng oth wh d hd) (footer-faultless d hd) d g
-          ∙ ap (λ (w : Bool). recordsIn p w (zoneAt v d g)) (sym ng)
+          ∙ records-footed p r (zoneAt v d (zoneOn g d)) (sh .zone-ok d (zoneOn g d) hd (zone-on-lt p g d hg)) (has-pointer p r v sh acc g hg kg ng oth wh d hd) (footer-faultless d hd) d (zoneOn g d)
+          ∙ ap (λ (w : Bool). recordsIn p w (zoneAt v d (zoneOn g d))) (sym ng)
 
       fine-footers : UsedGood p vb
-      fine-footers y hy q = go (ℕ-discrete y g)
+      fine-footers y hy q = go (segs-differ y g)
         where
           go : Dec (y ≡ g) → GoodSegment p 0 (segmentOf p vb 0 y)
-          go (yes e) = subst (λ (n : ℕ). GoodSegment p 0 (segmentOf p vb 0 n)) (sym e) (
+          go (yes e) = subst (λ (n : Seg). GoodSegment p 0 (segmentOf p vb 0 n)) (sym e) (
             fault-none p vb 0 g (λ d hd i.
                 let (a, b) = zone-stripes p v 0 acc g d (in-remaining p v 0 g hg kg) hd i in
                 (ap (outside p 0) (same-records d hd) ∙ a, ap twice (same-records d hd) ∙ b)),
@@ -131,7 +132,7 @@ module _ (p : Params) (r : Ranged p) (v : View) (sh : Shaped p v) (acc : Accepte
               as-found vb y hy k (λ d hd. drop-same p r v sh acc y hy k d hd ∙ sm d hd)
 
     -- 01, Restart, 4: the counted stripes are rewritten
-    module _ (z0 : ℕ) (hz0 : z0 < p .Z) (fz : keeps! z0 ≡ false) (fit : suc (greatestSerial gs) < 256 ^ 8) (nw : isWhole p x ≡ false) where
+    module _ (z0 : Seg) (hz0 : Named p z0) (fz : keeps! z0 ≡ false) (fit : suc (greatestSerial gs) < 256 ^ 8) (nw : isWhole p x ≡ false) where
       abbrev vc : View
       vc = storeAll storeView (rewriteStores p x z0 (suc (greatestSerial gs))) va
 
@@ -142,24 +143,24 @@ module _ (p : Params) (r : Ranged p) (v : View) (sh : Shaped p v) (acc : Accepte
       old-low :
           (d o : ℕ)
           → d < p .N
-          → o < dataStored p (zoneAt v d g)
-          → (recordIn p (sealedIn p v 0 g) (zoneAt v d g) o .address < 256 ^ 8) × (recordIn p (sealedIn p v 0 g) (zoneAt v d g) o .stamp < 256 ^ 8)
+          → o < dataStored p (zoneAt v d (zoneOn g d))
+          → (recordIn p (sealedIn p v 0 g) (zoneAt v d (zoneOn g d)) o .address < 256 ^ 8) × (recordIn p (sealedIn p v 0 g) (zoneAt v d (zoneOn g d)) o .stamp < 256 ^ 8)
       old-low d o hd h =
-          let l : 1 + o < capacity p = (let a = data-low p (zoneAt v d g) o h .0 in let b = capacity-over p r in omega arith) in
-          as! (sh .zone-ok d g hd hg .sound (1 + o) l .spare-bytes)
+          let l : 1 + o < capacity p = (let a = data-low p (zoneAt v d (zoneOn g d)) o h .0 in let b = capacity-over p r in omega arith) in
+          as! (sh .zone-ok d (zoneOn g d) hd (zone-on-lt p g d hg) .sound (1 + o) l .spare-bytes)
         where
           as! :
-              Bytes (getD (zoneAt v d g .blocks) (1 + o) noChunk .spare)
-              → (recordIn p (sealedIn p v 0 g) (zoneAt v d g) o .address < 256 ^ 8) ×
-              (recordIn p (sealedIn p v 0 g) (zoneAt v d g) o .stamp < 256 ^ 8)
-          as! b = subst (λ (w : Bool). (recordIn p w (zoneAt v d g) o .address < 256 ^ 8) × (recordIn p w (zoneAt v d g) o .stamp < 256 ^ 8)) (sym ng)
-              (unfold recordIn in (address-low (getD (zoneAt v d g .blocks) (1 + o) noChunk .spare) b, stamp-low (getD (zoneAt v d g .blocks) (1 + o) noChunk .spare) b))
+              Bytes (getD (zoneAt v d (zoneOn g d) .blocks) (1 + o) noChunk .spare)
+              → (recordIn p (sealedIn p v 0 g) (zoneAt v d (zoneOn g d)) o .address < 256 ^ 8) ×
+              (recordIn p (sealedIn p v 0 g) (zoneAt v d (zoneOn g d)) o .stamp < 256 ^ 8)
+          as! b = subst (λ (w : Bool). (recordIn p w (zoneAt v d (zoneOn g d)) o .address < 256 ^ 8) × (recordIn p w (zoneAt v d (zoneOn g d)) o .stamp < 256 ^ 8)) (sym ng)
+              (unfold recordIn in (address-low (getD (zoneAt v d (zoneOn g d) .blocks) (1 + o) noChunk .spare) b, stamp-low (getD (zoneAt v d (zoneOn g d) .blocks) (1 + o) noChunk .spare) b))
 
       -- a chunk that was moved is not bad
-      new-good : (d o : ℕ) → d < p .N → o < length (counted p 0 x) → storedBad p d (recordIn p false (zoneAt vc d z0) o) ≡ false
+      new-good : (d o : ℕ) → d < p .N → o < length (counted p 0 x) → storedBad p d (recordIn p false (zoneAt vc d (zoneOn z0 d)) o) ≡ false
       new-good d o hd h = go (test (isData p o d))
         where
-          number! : recordIn p false (zoneAt vc d z0) o .stripe ≡ o
+          number! : recordIn p false (zoneAt vc d (zoneOn z0 d)) o .stripe ≡ o
           number! = new-stripe p r v sh acc g hg kg ng oth z0 hz0 fz fit d o hd h
 
           low! : o < 256 ^ 4
@@ -168,8 +169,8 @@ module _ (p : Params) (r : Ranged p) (v : View) (sh : Shaped p v) (acc : Accepte
           rec! : (s e : ℕ) → renumbered o (storedPiece x s e) .rec ≡ mkRec (storedRec x s e .address) (storedRec x s e .stamp) o
           rec! s e = unfold renumbered storedPiece storedRec in refl
 
-          go : Test (isData p o d) → storedBad p d (recordIn p false (zoneAt vc d z0) o) ≡ false
-          go (no! q) = parity-good p d (recordIn p false (zoneAt vc d z0) o) (ap (λ (n : ℕ). isData p n d) number! ∙ q)
+          go : Test (isData p o d) → storedBad p d (recordIn p false (zoneAt vc d (zoneOn z0 d)) o) ≡ false
+          go (no! q) = parity-good p d (recordIn p false (zoneAt vc d (zoneOn z0 d)) o) (ap (λ (n : ℕ). isData p n d) number! ∙ q)
           go (yes! q) =
               let (s, m, e) = new-record p r v sh acc g hg kg ng oth z0 hz0 fz fit d o hd h in
               let i = dataPosition p o d in
@@ -179,39 +180,40 @@ module _ (p : Params) (r : Ranged p) (v : View) (sh : Shaped p v) (acc : Accepte
               let has : hasChunk x s D ≡ true = counts-in p 0 x s D (counted-in p 0 x s m .1) hD (isIn-empty D) in
               let c = chunk-at p v 0 g D s hD (isIn-empty D) has in
               let off = offsetOn x D s in
-              let y = recordIn p (sealedIn p v 0 g) (zoneAt v D g) off in
+              let y = recordIn p (sealedIn p v 0 g) (zoneAt v D (zoneOn g D)) off in
               let (la, lt) = old-low D off hD (c .stored-there) in
-              let f : recordIn p false (zoneAt vc d z0) o ≡ mkRec (y .address) (y .stamp) o =
+              let f : recordIn p false (zoneAt vc d (zoneOn z0 d)) o ≡ mkRec (y .address) (y .stamp) o =
               e ∙ ap (λ (a : Piece). recordOf (recordBytes (a .rec))) (moved-data p r v sh acc g hg kg ng oth z0 hz0 fz fit s o d q hd)
               ∙ ap (λ (a : Rec). recordOf (recordBytes a)) (rec! s D ∙ ap (λ (a : Rec). mkRec (a .address) (a .stamp) o) (c .its-record))
               ∙ record-back (mkRec (y .address) (y .stamp) o) la lt low! in
-              moved-good p D d y (recordIn p false (zoneAt vc d z0) o) (ap (λ (n : ℕ). isData p n D) (c .its-stripe) ∙ drive-is-data p s i)
-              (good-at p (sealedIn p v 0 g) (zoneAt v D g) D off (c .stored-there) (none-bad p v 0 g D hD (isIn-empty D) (accepted-fine p v 0 acc g (in-remaining p v 0 g hg kg) .1)))
+              moved-good p D d y (recordIn p false (zoneAt vc d (zoneOn z0 d)) o) (ap (λ (n : ℕ). isData p n D) (c .its-stripe) ∙ drive-is-data p s i)
+              (good-at p (sealedIn p v 0 g) (zoneAt v D (zoneOn g D)) D off (c .stored-there) (none-bad p v 0 g D hD (isIn-empty D) (accepted-fine p v 0 acc g (in-remaining p v 0 g hg kg) .1)))
               (ap (λ (a : Rec). a .address) f) (ap (λ (a : Rec). a .stamp) f)
 
       fine-rewrite : UsedGood p vc
       fine-rewrite y hy q = go (used-moved p r v sh acc g hg kg ng oth z0 hz0 fz fit nw y hy q)
         where
-          low! : (d o : ℕ) → d < p .N → o < dataStored p (zoneAt vc d z0) → o < length (counted p 0 x)
+          low! : (d o : ℕ) → d < p .N → o < dataStored p (zoneAt vc d (zoneOn z0 d)) → o < length (counted p 0 x)
           low! d o hd h = under! p r v sh acc g hg kg ng oth z0 hz0 fz fit nw d o hd h
 
           go : (y ≡ z0) ⊎ ((keeps! y ≡ true) × ((z0 ≡ y → ⊥) × (g ≡ y → ⊥))) → GoodSegment p 0 (segmentOf p vc 0 y)
-          go (inl e) = subst (λ (n : ℕ). GoodSegment p 0 (segmentOf p vc 0 n)) (sym e) (
+          go (inl e) = subst (λ (n : Seg). GoodSegment p 0 (segmentOf p vc 0 n)) (sym e) (
             fault-none p vc 0 z0 (λ d hd i.
-                in-order p (sealedIn p vc 0 z0) (zoneAt vc d z0) (λ o h.
-                ap (λ (w : Bool). recordIn p w (zoneAt vc d z0) o .stripe) open!
+                in-order p (sealedIn p vc 0 z0) (zoneAt vc d (zoneOn z0 d)) (λ o h.
+                ap (λ (w : Bool). recordIn p w (zoneAt vc d (zoneOn z0 d)) o .stripe) open!
                 ∙ new-stripe p r v sh acc g hg kg ng oth z0 hz0 fz fit d o hd (low! d o hd h))),
             bad-none p vc 0 z0 (λ d hd i.
-                zone-good p (sealedIn p vc 0 z0) (zoneAt vc d z0) d (λ o h. ap (λ (w : Bool). storedBad p d (recordIn p w (zoneAt vc d z0) o)) open! ∙ new-good d o hd (low! d o hd h))),
+                zone-good p (sealedIn p vc 0 z0) (zoneAt vc d (zoneOn z0 d)) d
+                (λ o h. ap (λ (w : Bool). storedBad p d (recordIn p w (zoneAt vc d (zoneOn z0 d)) o)) open! ∙ new-good d o hd (low! d o hd h))),
           )
           go (inr (k, (a, b))) = as-found vc y hy k (λ d hd. drop-same p r v sh acc y hy k d hd ∙ same-else p r v sh acc g hg kg ng oth z0 hz0 fz fit y hy a b d hd)
 
   -- ---- the unsealed segment, in each case
 
-  fine-one : (g : ℕ) → g < p .Z → keeps! g ≡ true → sealedIn p v 0 g ≡ false → ((y : ℕ) → y < p .Z → keeps! y ≡ true → (y ≡ g → ⊥) → sealedIn p v 0 y ≡ true)
+  fine-one : (g : Seg) → Named p g → keeps! g ≡ true → sealedIn p v 0 g ≡ false → ((y : Seg) → Named p y → keeps! y ≡ true → (y ≡ g → ⊥) → sealedIn p v 0 y ≡ true)
       → unsealed gs ≡ segmentOf p v 0 g ∷ []
       → rewrites p 0 gs && eqb (greatestSerial gs) lastCount ≡ false
-      → rewrites p 0 gs && isNil (freeZones p gs) ≡ false
+      → rewrites p 0 gs && isNil (freeSegs p gs) ≡ false
       → greatestSerial gs < 256 ^ 8
       → UsedGood p (storeAll storeView (mendStores p gs (segmentOf p v 0 g)) va)
   fine-one g hg kg ng oth us c6 c8 bd = go (test (isWhole p (segmentOf p v 0 g))) (test (isRagged p (segmentOf p v 0 g)))
@@ -225,7 +227,7 @@ module _ (p : Params) (r : Ranged p) (v : View) (sh : Shaped p v) (acc : Accepte
       ragged! :
           isWhole p (segmentOf p v 0 g) ≡ false
           → isRagged p (segmentOf p v 0 g) ≡ true
-          → mendStores p gs (segmentOf p v 0 g) ≡ rewriteStores p (segmentOf p v 0 g) (firstOr 0 (freeZones p gs)) (suc (greatestSerial gs))
+          → mendStores p gs (segmentOf p v 0 g) ≡ rewriteStores p (segmentOf p v 0 g) (firstOr (seg 0) (freeSegs p gs)) (suc (greatestSerial gs))
       ragged! q w = unfold mendStores in rw (q, w)
 
       rewrites! : isRagged p (segmentOf p v 0 g) ≡ true → rewrites p 0 gs ≡ true
@@ -237,15 +239,15 @@ module _ (p : Params) (r : Ranged p) (v : View) (sh : Shaped p v) (acc : Accepte
       go (no! q) (yes! w) =
           let rw! = rewrites! w in
           let n6 : eqb (greatestSerial gs) lastCount ≡ false = sym (ap (λ (b : Bool). b && eqb (greatestSerial gs) lastCount) rw!) ∙ c6 in
-          let n8 : isNil (freeZones p gs) ≡ false = sym (ap (λ (b : Bool). b && isNil (freeZones p gs)) rw!) ∙ c8 in
-          let z0 = firstOr 0 (freeZones p gs) in
-          let m : In z0 (keep (λ z. not (remains p v 0 z)) (below (p .Z))) = subst (λ (l : List ℕ). In z0 l) (free-are p r v sh acc) (first-in (freeZones p gs) 0 n8) in
-          let (i, f) = keep-in (λ z. not (remains p v 0 z)) (below (p .Z)) z0 m in
+          let n8 : isNil (freeSegs p gs) ≡ false = sym (ap (λ (b : Bool). b && isNil (freeSegs p gs)) rw!) ∙ c8 in
+          let z0 = firstOr (seg 0) (freeSegs p gs) in
+          let m : In z0 (keep (λ z. not (remains p v 0 z)) (allSegs p)) = subst (λ (l : List Seg). In z0 l) (free-are p r v sh acc) (first-in (freeSegs p gs) (seg 0) n8) in
+          let (i, f) = keep-in (λ z. not (remains p v 0 z)) (allSegs p) z0 m in
           let ne : ¬ (greatestSerial gs ≡ lastCount) = eqb-false (greatestSerial gs) lastCount n6 in
           subst (λ (l : List Store). UsedGood p (storeAll storeView l va)) (sym (ragged! q w))
-          (fine-rewrite g hg kg ng oth z0 (below-in (p .Z) z0 i) (not-true (remains p v 0 z0) f) (let b = bd in omega arith) q)
+          (fine-rewrite g hg kg ng oth z0 (segs-in p z0 i) (not-true (remains p v 0 z0) f) (let b = bd in omega arith) q)
 
-  fine-mend : rewrites p 0 gs && eqb (greatestSerial gs) lastCount ≡ false → rewrites p 0 gs && isNil (freeZones p gs) ≡ false → greatestSerial gs < 256 ^ 8
+  fine-mend : rewrites p 0 gs && eqb (greatestSerial gs) lastCount ≡ false → rewrites p 0 gs && isNil (freeSegs p gs) ≡ false → greatestSerial gs < 256 ^ 8
       → UsedGood p (storeAll storeView (flat (mendStores p gs) (unsealed gs)) va)
   fine-mend c6 c8 bd = go (loose p r v sh acc)
     where
@@ -266,7 +268,7 @@ pub record Settled (p : Params) (v : View) : Type 0 where
   pub fine : AllGood p (storeAll storeView (restartStores p 0 (segments p v 0)) v) 0
 
 pub settled : (p : Params) (r : Ranged p) (v : View) → Shaped p v → Accepted p v 0
-    → rewrites p 0 (segments p v 0) && eqb (greatestSerial (segments p v 0)) lastCount ≡ false → rewrites p 0 (segments p v 0) && isNil (freeZones p (segments p v 0)) ≡ false → Settled p v
+    → rewrites p 0 (segments p v 0) && eqb (greatestSerial (segments p v 0)) lastCount ≡ false → rewrites p 0 (segments p v 0) && isNil (freeSegs p (segments p v 0)) ≡ false → Settled p v
 settled p r v sh acc c6 c8 =
     let gs = segments p v 0 in
     let bd = serials-small p r v sh in

@@ -1,7 +1,7 @@
 -- When no stripe number of a segment is outside its group or twice in a zone (01, Refusals, 9). Assumes nothing.
 use Prim.Native.Nat.{ℕ, suc, _<_}
 use Rattle.spec.specs.Counts.{paddingAddress}
-use Rattle.spec.specs.Drives.{Zone, View, zoneAt, sealedIn, dataStored, recordIn}
+use Rattle.spec.specs.Drives.{Zone, View, zoneAt, sealedIn, dataStored, recordIn, Seg, zoneOn}
 use Rattle.spec.specs.Faults.{outside, twice, stripeFault, badRec, storedBad, decodedBad, addressFault}
 use Rattle.spec.specs.Layout.{isData, group, inGroupOf, Rec, mkRec}
 use Rattle.spec.specs.Lists.{any, isIn}
@@ -34,8 +34,9 @@ twice-none (r ∷ rs) f =
     (twice-none rs (λ i j h l e. f (suc i) (suc j) (omega arith) (omega arith) e))
 
 -- what it takes, zone by zone
-pub fault-none : (p : Params) (v : View) (gone g : ℕ)
-    → ((d : ℕ) → d < p .N → isIn gone d ≡ false → (outside p 0 (recordsIn p (sealedIn p v gone g) (zoneAt v d g)) ≡ false) × (twice (recordsIn p (sealedIn p v gone g) (zoneAt v d g)) ≡ false))
+pub fault-none : (p : Params) (v : View) (gone : ℕ) (g : Seg)
+    → ((d : ℕ) → d < p .N → isIn gone d ≡ false → (outside p 0 (recordsIn p (sealedIn p v gone g) (zoneAt v d (zoneOn g d))) ≡ false)
+    × (twice (recordsIn p (sealedIn p v gone g) (zoneAt v d (zoneOn g d))) ≡ false))
     → stripeFault p gone (segmentOf p v gone g) ≡ false
 unfolding stripeFault
 fault-none p v gone g f =
@@ -80,8 +81,8 @@ data-none p gone g q = or-first (any (λ d. any (storedBad p d) (recsOn g d)) (p
 
 -- what it takes, zone by zone
 pub bad-none :
-    (p : Params) (v : View) (gone g : ℕ)
-    → ((d : ℕ) → d < p .N → isIn gone d ≡ false → any (storedBad p d) (recordsIn p (sealedIn p v gone g) (zoneAt v d g)) ≡ false)
+    (p : Params) (v : View) (gone : ℕ) (g : Seg)
+    → ((d : ℕ) → d < p .N → isIn gone d ≡ false → any (storedBad p d) (recordsIn p (sealedIn p v gone g) (zoneAt v d (zoneOn g d))) ≡ false)
     → badData p gone (segmentOf p v gone g) ≡ false
 unfolding badData
 bad-none p v gone g f = in-none (λ d. any (storedBad p d) (recsOn (segmentOf p v gone g) d)) (present p gone) (λ d m.
@@ -90,11 +91,11 @@ bad-none p v gone g f = in-none (λ d. any (storedBad p d) (recsOn (segmentOf p 
 
 -- and of a zone
 pub none-bad :
-    (p : Params) (v : View) (gone g d : ℕ)
+    (p : Params) (v : View) (gone : ℕ) (g : Seg) (d : ℕ)
     → d < p .N
     → isIn gone d ≡ false
     → badData p gone (segmentOf p v gone g) ≡ false
-    → any (storedBad p d) (recordsIn p (sealedIn p v gone g) (zoneAt v d g)) ≡ false
+    → any (storedBad p d) (recordsIn p (sealedIn p v gone g) (zoneAt v d (zoneOn g d))) ≡ false
 unfolding badData
 none-bad p v gone g d hd q e =
     ap (any (storedBad p d)) (sym (recs-here p v gone g d hd q)) ∙ none-in (λ d. any (storedBad p d) (recsOn (segmentOf p v gone g) d)) (present p gone) e d (in-present p gone d hd q)

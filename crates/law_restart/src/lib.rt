@@ -7,7 +7,7 @@ ghost use Rattle.spec.specs.Counts.{lastCount};
 ghost use Rattle.spec.specs.Drives.{View};
 ghost use Rattle.spec.specs.Lists.{isNil};
 ghost use Rattle.spec.specs.Params.{inRange};
-ghost use Rattle.spec.specs.Restart.{freeZones, rewrites};
+ghost use Rattle.spec.specs.Restart.{freeSegs, rewrites};
 ghost use Rattle.spec.specs.Segments.{segments, greatestSerial};
 ghost use Rattle.law_restart.specs.Settled.{Settled};
 ghost use Rattle.law_drives.specs.Accept.{Accepted};
@@ -21,6 +21,6 @@ pub fn settles()
         → Shaped p v
         → Accepted p v 0
         → rewrites p 0 (segments p v 0) && eqb (greatestSerial (segments p v 0)) lastCount ≡ false
-        → rewrites p 0 (segments p v 0) && isNil (freeZones p (segments p v 0)) ≡ false
+        → rewrites p 0 (segments p v 0) && isNil (freeSegs p (segments p v 0)) ≡ false
         → Settled p v) ⌝ }
 {}

@@ -4,13 +4,11 @@ use Rattle.spec.specs.Lists.{upFrom, below, all, any, consIf, keep, isNil}
 use Rattle.law_basic.specs.Ranges.{upFrom-step, upFrom-end, below-start, all-hit, all-miss, any-hit, any-miss, all-none, any-none, keep-hit, keep-miss, keep-none}
 use borrow.Author.Tests.{ne-eqb}
 use lib.Dec.{eqb}
-use lib.ListN.{length, getD, drop, drop-of-length-le}
-use lib.Seq.{drop-cons}
+use lib.ListN.{length}
 use mathlib.Core.Bool.{Bool, true, false, _&&_, _||_}
 use mathlib.Core.List.{List, [], _∷_}
 use mathlib.Core.Path.{_≡_, refl, sym, ap, _∙_}
 use native.Mathlib.Nat.{add-zero, zero-add}
-use native.Mathlib.Numerals.{add-one}
 use native.Mathlib.Omega.{arith}
 
 module _ (f : ℕ → Bool) (i n : ℕ) where
@@ -55,17 +53,6 @@ all-start f n = ap (all f) (sym (below-start n))
 
 pub kept-start : (f : ℕ → Bool) (n : ℕ) → 0 + length (keep f (upFrom 0 (n - 0))) ≡ length (keep f (below n))
 kept-start f n = zero-add (length (keep f (upFrom 0 (n - 0)))) ∙ ap (λ (x : List ℕ). length (keep f x)) (sym (below-start n))
-
--- the same over the elements of a list, from index i on
-module _ (f : ℕ → Bool) (l : List ℕ) (i : ℕ) where
-  pub all-broken-in : i < length l → f (getD l i 0) ≡ false → all f (drop i l) ≡ false
-  all-broken-in h e = ap (all f) (drop-cons l i 0 h) ∙ all-miss f (getD l i 0) (drop (suc i) l) e
-
-  pub all-passed-in : i < length l → f (getD l i 0) ≡ true → all f (drop i l) ≡ all f (drop (i + 1) l)
-  all-passed-in h e = ap (all f) (drop-cons l i 0 h) ∙ all-hit f (getD l i 0) (drop (suc i) l) e ∙ ap (λ (k : ℕ). all f (drop k l)) (sym (add-one i))
-
-  pub all-ended-in : length l ≤ i → all f (drop i l) ≡ true
-  all-ended-in h = ap (all f) (drop-of-length-le l h) ∙ all-none f
 
 pub isNil-length : {A : Type 0} (l : List A) → isNil l ≡ eqb (length l) 0
 unfolding isNil

@@ -12,7 +12,7 @@ use Rattle.spec.specs.Params.{pointersLen}
 use Rattle.spec.specs.declared.Params.{Params}
 use Rattle.law_basic.specs.Be.{length-toBe, beOf-toBe}
 use Rattle.law_basic.specs.Geometry.{pointer-within}
-use Rattle.law_basic.specs.Splice.{length-splice, part-splice, part-splice-below, part-splice-above}
+use Rattle.law_basic.specs.Splice.{part-splice, part-splice-below, part-splice-above}
 
 -- different zones have different indices
 pub index-drive : (Z d z e y : ℕ) → z < Z → y < Z → d * Z + z ≡ e * Z + y → d ≡ e
@@ -24,10 +24,6 @@ index-zone Z d z e y hz hy q = sym (digits-mod d hz) ∙ ap (λ (x : ℕ). x % Z
 module _ (p : Params) (ptrs : List ℕ) (d z n : ℕ) (hd : d < p .N) (hz : z < p .Z) (long : length ptrs ≡ pointersLen p) where
   pointer-bytes-fit : pointerByte p d z + length (toBe 4 n) ≤ length ptrs
   pointer-bytes-fit = omega (arith, pointer-within p d z hd hz, length-toBe 4 n, long)
-
-  pub length-setPointer : length (setPointer p ptrs d z n) ≡ length ptrs
-  unfolding setPointer
-  length-setPointer = length-splice ptrs (pointerByte p d z) (toBe 4 n) pointer-bytes-fit
 
   -- the pointer that was set
   pub pointer-set : n < 256 ^ 4 → pointerOf p (setPointer p ptrs d z n) d z ≡ n
@@ -53,6 +49,3 @@ module _ (p : Params) (ptrs : List ℕ) (d z n : ℕ) (hd : d < p .N) (hz : z < 
 
   pub pointer-other-drive : (e y : ℕ) → e < p .N → y < p .Z → (d ≡ e → ⊥) → pointerOf p (setPointer p ptrs d z n) e y ≡ pointerOf p ptrs e y
   pointer-other-drive e y he hy q = pointer-other e y he hy (λ r. q (index-drive (p .Z) d z e y hz hy r))
-
-  pub pointer-other-zone : (e y : ℕ) → e < p .N → y < p .Z → (z ≡ y → ⊥) → pointerOf p (setPointer p ptrs d z n) e y ≡ pointerOf p ptrs e y
-  pointer-other-zone e y he hy q = pointer-other e y he hy (λ r. q (index-zone (p .Z) d z e y hz hy r))

@@ -10,16 +10,17 @@ use lib.Dec.{eqb, lit<}
 use native.Mathlib.Nat.{zero-add, suc-add, zero-mul, suc-mul, mul-comm, add-mul, mul-assoc, le-of-eq, le-trans}
 use Rattle.spec.specs.Bytes.{beOf, toBe, part, splice}
 use Rattle.spec.specs.Drives.{Chunk, mkChunk, noChunk, Zone, mkZone, noZone, View, zoneAt, pointerAt, chunkAt, chunkOf, zoneOf, driveOf, viewOf, Store}
-use Rattle.spec.specs.Drives.{putZone, resetZone, setZone, storeView, Disk, pointerByte, pointerOf, setPointer, storeDisk, storeAll, segmentNumbers, zoneOn}
-use Rattle.spec.specs.Drives.{emptyOnAll, emptyZones, sealedIn}
+use Rattle.spec.specs.Drives.{putZone, resetZone, setZone, storeView, Disk, pointerByte, pointerOf, setPointer, storeDisk, storeAll, allSegs, zoneOn}
+use Rattle.spec.specs.Drives.{emptyOnAll, emptySegs, sealedIn, Seg}
 use Rattle.spec.specs.Drives.Store.{put, reset}
 use Rattle.spec.specs.Lists.{below, all, keep, pieces, zipped, isIn}
 use Rattle.spec.specs.Params.{spareLen, capacity, unitLen, zoneLen, driveLen, imageLen, pointersLen, placeOf, placeByte, drivesOf, present}
 use Rattle.spec.specs.declared.Params.{Params}
 use Rattle.law_basic.specs.Be.{length-toBe, beOf-toBe}
 use Rattle.law_basic.specs.Geometry.{item-fits, block-within}
-use Rattle.law_basic.specs.Ranges.{getD-map, map-set, all-below-same, keep-below-same, all-keep-same, length-pieces, getD-pieces, zipped-set, getD-zipped}
+use Rattle.law_basic.specs.Ranges.{getD-map, map-set, all-below-same, all-keep-same, length-pieces, getD-pieces, zipped-set, getD-zipped}
 use Rattle.law_basic.specs.Splice.{length-part, length-splice, part-add, part-part, splice-nil, splice-zero, splice-all, splice-cons-suc}
+use Rattle.law_basic.specs.Segs.{Named, zone-on-lt, keep-segs-same}
 
 -- ---- splices and pieces
 
@@ -404,23 +405,23 @@ whole-stores p k (s ∷ ss) c w (h, f) =
 
 -- ---- questions that the pointers alone answer
 
-pub empty-view : (p : Params) (k : Disk) (g : ℕ) → g < p .Z → Whole p k
+pub empty-view : (p : Params) (k : Disk) (g : Seg) → Named p g → Whole p k
     → emptyOnAll p (seen p k) g ≡ all (λ d. eqb (pointerOf p (k .pointers) d (zoneOn g d)) 0) (drivesOf p)
-unfolding emptyOnAll zoneOn drivesOf
+unfolding emptyOnAll drivesOf
 empty-view p k g hg w =
-    all-below-same (λ d. eqb (pointerAt (seen p k) d g) 0) (λ d. eqb (pointerOf p (k .pointers) d g) 0) (p .N)
-    (λ d hd. ap (λ (x : ℕ). eqb x 0) (pointer-view p k d g hd hg w))
+    all-below-same (λ d. eqb (pointerAt (seen p k) d (zoneOn g d)) 0) (λ d. eqb (pointerOf p (k .pointers) d (zoneOn g d)) 0) (p .N)
+    (λ d hd. ap (λ (x : ℕ). eqb x 0) (pointer-view p k d (zoneOn g d) hd (zone-on-lt p g d hg) w))
 
-pub sealed-view : (p : Params) (k : Disk) (gone g : ℕ) → g < p .Z → Whole p k
+pub sealed-view : (p : Params) (k : Disk) (gone : ℕ) (g : Seg) → Named p g → Whole p k
     → sealedIn p (seen p k) gone g ≡ all (λ d. eqb (pointerOf p (k .pointers) d (zoneOn g d)) (capacity p)) (present p gone)
-unfolding sealedIn zoneOn present drivesOf below
+unfolding sealedIn present drivesOf below
 sealed-view p k gone g hg w =
-    all-keep-same (λ d. not (isIn gone d)) (λ d. eqb (pointerAt (seen p k) d g) (capacity p)) (λ d. eqb (pointerOf p (k .pointers) d g) (capacity p)) 0 (p .N)
-    (λ d _ hd. ap (λ (x : ℕ). eqb x (capacity p)) (pointer-view p k d g (omega arith) hg w))
+    all-keep-same (λ d. not (isIn gone d)) (λ d. eqb (pointerAt (seen p k) d (zoneOn g d)) (capacity p)) (λ d. eqb (pointerOf p (k .pointers) d (zoneOn g d)) (capacity p)) 0 (p .N)
+    (λ d _ hd. ap (λ (x : ℕ). eqb x (capacity p)) (pointer-view p k d (zoneOn g d) (omega arith) (zone-on-lt p g d hg) w))
 
 pub empty-zones-view : (p : Params) (k : Disk) → Whole p k
-    → emptyZones p (seen p k) ≡ keep (λ g. all (λ d. eqb (pointerOf p (k .pointers) d (zoneOn g d)) 0) (drivesOf p)) (segmentNumbers p)
-unfolding emptyZones segmentNumbers
+    → emptySegs p (seen p k) ≡ keep (λ g. all (λ d. eqb (pointerOf p (k .pointers) d (zoneOn g d)) 0) (drivesOf p)) (allSegs p)
+unfolding emptySegs
 empty-zones-view p k w =
-    keep-below-same (emptyOnAll p (seen p k)) (λ g. all (λ d. eqb (pointerOf p (k .pointers) d (zoneOn g d)) 0) (drivesOf p)) (p .Z)
+    keep-segs-same p (emptyOnAll p (seen p k)) (λ g. all (λ d. eqb (pointerOf p (k .pointers) d (zoneOn g d)) 0) (drivesOf p))
     (λ g hg. empty-view p k g hg w)

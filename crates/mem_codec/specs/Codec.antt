@@ -1,10 +1,10 @@
 -- The state as bytes: sections of little-endian numbers read and written, over width and count; what is written is read back (01, The array). Assumes nothing.
 use mathlib.Core.Path.{_≡_, refl, sym, ap, ap₂, _∙_, subst}
 use mathlib.Core.List.{map, List, [], _∷_, _++_, append-nil}
-use Prim.Native.Nat.{ℕ, zero, suc, _+_, _*_, _^_, _≤_, _<_}
+use Prim.Native.Nat.{ℕ, zero, suc, _+_, _*_, _≤_, _<_}
 use native.Mathlib.Omega.{arith}
 use native.Mathlib.Numerals.{add-one}
-use native.Mathlib.Nat.{add-zero, mul-comm, mul-zero, mul-suc, mul-le-mul-left, mod-eq-of-lt}
+use native.Mathlib.Nat.{add-zero, mul-comm, mul-zero, mul-suc, mod-eq-of-lt}
 use lib.Dec.{lit<}
 use lib.ListN.{length, getD, take, drop, set, length-set, drop-of-length-le}
 use lib.Seq.{set-at, append-snoc, drop-cons, length-take-le, take-all}
@@ -12,9 +12,9 @@ use Rattle.spec.specs.Bytes.{leOf, toLe, part, splice}
 use Rattle.spec.specs.Lists.{upFrom, below, flat, total, zipped}
 use Rattle.spec.specs.Memory.{Section, section, stateSections, sectionLen, sectionAt, stateLen, numbersAt, sectionOf, numberOf, stateNumbers, sectionBytes, stateBytes, stateOf, mkState}
 use Rattle.spec.specs.declared.State.{State}
-use Rattle.law_basic.specs.Le.{leOf-lt, toLe-leOf}
+use Rattle.law_basic.specs.Le.{toLe-leOf}
 use Rattle.law_basic.specs.Ranges.{map-below-snoc, getD-map-below, flat-snoc, length-flat}
-use Rattle.law_basic.specs.Sections.{length-numbersAt, SectionCounts, Fitting, sectionsBytes, length-section, length-sections}
+use Rattle.law_basic.specs.Sections.{length-numbersAt, SectionCounts, sectionsBytes, length-section, length-sections}
 use Rattle.law_basic.specs.Splice.{length-part, getD-part, part-zero, part-add, length-splice, part-all, splice-nil, splice-next, splice-all, wrote-one}
 use Rattle.law_basic.specs.Turns.{take-more}
 
@@ -196,21 +196,6 @@ unfolding readSections
 sections-counted [] at bs = tt
 sections-counted (s ∷ ss) at bs = (length-numbersAt (s .width) (s .count) at bs, sections-counted ss (at + sectionLen s) bs)
 
-number-fits : (w n at : ℕ) (bs : List ℕ) → AllBytes bs → at + w * n ≤ length bs → (k : ℕ) → k < length (numbersAt w n at bs) → getD (numbersAt w n at bs) k 0 < 256 ^ w
-unfolding numbersAt
-number-fits w n at bs f h k q =
-    let i : k < n = omega (arith, length-numbersAt w n at bs) in
-    let r : w * k + w ≤ w * n = subst (λ (x : ℕ). x ≤ w * n) (mul-suc w k) (mul-le-mul-left w i) in
-    let b : List ℕ = part (at + w * k) w bs in
-    let g : at + w * k + w ≤ length bs = omega arith in
-    subst (λ (x : ℕ). x < 256 ^ w) (sym (getD-map-below (λ (j : ℕ). leOf (part (at + w * j) w bs)) n k 0 i))
-    (subst (λ (x : ℕ). leOf b < 256 ^ x) (length-part (at + w * k) w bs g) (leOf-lt b (part-bytes w (at + w * k) bs f g)))
-
-sections-fit : (ss : List Section) (at : ℕ) (bs : List ℕ) → AllBytes bs → at + total (map sectionLen ss) ≤ length bs → Fitting ss (readSections ss at bs)
-unfolding readSections total sectionLen
-sections-fit [] at bs f h = tt
-sections-fit (s ∷ ss) at bs f h = (number-fits (s .width) (s .count) at bs f (omega arith), sections-fit ss (at + s .width * s .count) bs f (omega arith))
-
 numbers-read : (bs : List ℕ) → readSections stateSections 0 bs ≡ stateNumbers (stateOf bs)
 unfolding readSections stateSections sectionLen stateNumbers stateOf numberOf sectionOf sectionAt total numbersAt below upFrom
 numbers-read bs = refl
@@ -222,9 +207,6 @@ module _ (bs : List ℕ) (long : length bs ≡ stateLen) (bytes : AllBytes bs) w
   all-read : 0 + total (map sectionLen stateSections) ≤ length bs
   unfolding stateLen
   all-read = omega arith
-
-  pub stateOf-fitting : Fitting stateSections (stateNumbers (stateOf bs))
-  stateOf-fitting = subst (Fitting stateSections) (numbers-read bs) (sections-fit stateSections 0 bs bytes all-read)
 
   -- 01, The array: bytes that are read as a state are that state's bytes
   pub stateBytes-stateOf : stateBytes (stateOf bs) ≡ bs

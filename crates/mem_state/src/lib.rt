@@ -8,6 +8,7 @@ ghost use lib.ListN.{length};
 ghost use Rattle.mem_state.specs.Flights.{hasAt, heldIn};
 ghost use Rattle.spec.specs.Memory.{stripeIn, openSegment, isFree, inFlight, holds, idleState, zeroState, stateLen, stateOf};
 ghost use Rattle.spec.specs.Landing.{slotOf};
+ghost use Rattle.spec.specs.Drives.{seg};
 use spec::Address;
 use spec::Serial;
 use spec::Stamp;
@@ -87,7 +88,7 @@ pub fn slot_of(state: State, stripe: usize) -> usize
 
 // The open segment; 0 if there is none.
 pub fn open_segment(state: State) -> usize
-    ensures { λ r. ⌜ r ≡ openSegment state ⌝ }
+    ensures { λ r. ⌜ seg r ≡ openSegment state ⌝ }
 {
     let g = whole(state.opened);
     if g == 0 {

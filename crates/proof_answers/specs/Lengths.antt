@@ -16,12 +16,14 @@ use Rattle.spec.specs.Params.{dataCount, spareLen, capacity, unitLen, placeOf, 
 use Rattle.spec.specs.Parity.{Piece, mkPiece, encodePiece}
 use Rattle.spec.specs.Restart.{renumbered, movedPieces, movedOn}
 use Rattle.spec.specs.Segments.{Segment, segmentOf, offsetOn, hasChunk, counts, storedPiece, pieceOf, putPiece}
+use Rattle.spec.specs.Drives.{Seg}
 use Rattle.law_basic.specs.Fields.{length-record, length-zeroSpare, header-block-long}
 use Rattle.law_basic.specs.Geometry.{Ranged, block-within, data-drive-lt, position-lt}
 use Rattle.law_basic.specs.Mask.{isIn-empty}
 use Rattle.law_basic.specs.Ranges.{Test, test, length-upFrom, length-below}
 use Rattle.law_basic.specs.Ranges.Test.{yes!, no! }
 use Rattle.law_basic.specs.Splice.{length-part}
+use Rattle.law_basic.specs.Segs.{Named, zone-on-lt}
 use Rattle.law_basic.specs.Each.{each-map, each-data}
 use Rattle.law_code.specs.Chunks.{chunk-decoded, moved-is-data, moved-is-parity}
 use Rattle.law_code.specs.Code.{encode-long, encode-apart, decode-long, decode-apart}
@@ -100,15 +102,15 @@ module _ (p : Params) (r : Ranged p) where
   pub header-proper : (d z s c : ℕ) → d < p .N → z < p .Z → Proper p (put d z (headerBlock p d z s c) zeroSpare)
   header-proper d z s c hd hz = (hd, hz, header-block-long p r d z s c, length-zeroSpare)
 
-  pub headers-proper : (z sn c : ℕ) → z < p .Z → (s : Store) → In s (headerStores p z sn c) → Proper p s
-  unfolding headerStores zoneOn
+  pub headers-proper : (z : Seg) (sn c : ℕ) → Named p z → (s : Store) → In s (headerStores p z sn c) → Proper p s
+  unfolding headerStores
   headers-proper z sn c hz s m =
-      let (d, i, e) = map-in (λ d. put d z (headerBlock p d z sn c) zeroSpare) (drivesOf p) s m in
-      subst (λ (x : Store). Proper p x) (sym e) (header-proper d z sn c (listed-drive-low d i) hz)
+      let (d, i, e) = map-in (λ d. put d (zoneOn z d) (headerBlock p d (zoneOn z d) sn c) zeroSpare) (drivesOf p) s m in
+      subst (λ (x : Store). Proper p x) (sym e) (header-proper d (zoneOn z d) sn c (listed-drive-low d i) (zone-on-lt p z d hz))
 
-  pub resets-proper : (z : ℕ) → z < p .Z → (s : Store) → In s (resetStores p z) → Proper p s
-  unfolding resetStores zoneOn
-  resets-proper z hz s m = let (d, i, e) = map-in (λ d. reset d z) (drivesOf p) s m in subst (λ (x : Store). Proper p x) (sym e) (listed-drive-low d i, hz)
+  pub resets-proper : (z : Seg) → Named p z → (s : Store) → In s (resetStores p z) → Proper p s
+  unfolding resetStores
+  resets-proper z hz s m = let (d, i, e) = map-in (λ d. reset d (zoneOn z d)) (drivesOf p) s m in subst (λ (x : Store). Proper p x) (sym e) (listed-drive-low d i, zone-on-lt p z d hz)
 
   pub footer-proper : (d z : ℕ) (ss : List (List ℕ)) (i : ℕ) → d < p .N → z < p .Z → Long spareLen ss → Proper p (put d z (footerBlock p ss i) zeroSpare)
   footer-proper d z ss i hd hz l = (hd, hz, length-footer p r ss i l, length-zeroSpare)
@@ -139,7 +141,7 @@ footer-chunks-count p q i n = length-map (upFrom i n) (λ j. mkChunk (footerBloc
 
 -- ---- chunks of a segment
 
-module _ (p : Params) (r : Ranged p) (v : View) (fair : (d z : ℕ) → d < p .N → z < p .Z → Fair p (zoneAt v d z)) (gone g : ℕ) (hg : g < p .Z) where
+module _ (p : Params) (r : Ranged p) (v : View) (fair : (d z : ℕ) → d < p .N → z < p .Z → Fair p (zoneAt v d z)) (gone : ℕ) (g : Seg) (hg : Named p g) where
   abbrev x : Segment
   x = segmentOf p v gone g
 
@@ -148,9 +150,9 @@ module _ (p : Params) (r : Ranged p) (v : View) (fair : (d z : ℕ) → d < p .N
   unfolding storedPiece
   fair-piece-long s d hd q c =
       let o = offsetOn x d s in
-      let l = data-low p (zoneAt v d g) o (chunk-at p v gone g d s hd q c .stored-there) in
+      let l = data-low p (zoneAt v d (zoneOn g d)) o (chunk-at p v gone g d s hd q c .stored-there) in
       ap (λ (y : Zone). length (getD (y .blocks) (1 + o) noChunk .block)) (zone-by p v gone g d hd)
-      ∙ fair d g hd hg .block-long (1 + o) (omega (arith, capacity-over p r))
+      ∙ fair d (zoneOn g d) hd (zone-on-lt p g d hg) .block-long (1 + o) (omega (arith, capacity-over p r))
 
   module _ (s : ℕ) (c : counts p gone x s ≡ true) where
     present-long : (d : ℕ) → d < p .N → isIn gone d ≡ false → length (storedPiece x s d .block) ≡ p .B
@@ -163,7 +165,7 @@ module _ (p : Params) (r : Ranged p) (v : View) (fair : (d z : ℕ) → d < p .N
         ∙ decode-long p gone s d (λ e. storedPiece x s e .block) present-long
 
 -- 01, Restart, 4: and moved
-module _ (p : Params) (r : Ranged p) (v : View) (fair : (d z : ℕ) → d < p .N → z < p .Z → Fair p (zoneAt v d z)) (g : ℕ) (hg : g < p .Z)
+module _ (p : Params) (r : Ranged p) (v : View) (fair : (d z : ℕ) → d < p .N → z < p .Z → Fair p (zoneAt v d z)) (g : Seg) (hg : Named p g)
     (s : ℕ) (c : counts p 0 (segmentOf p v 0 g) s ≡ true) (k : ℕ) where
   abbrev seg : Segment
   seg = segmentOf p v 0 g

@@ -23,7 +23,7 @@ use Rattle.spec.specs.Memory.{Memory, stateLen}
 use Rattle.spec.specs.Params.{inRange, placeBlock, placeZone, placeDrive, named}
 use Rattle.spec.specs.Rebuild.{rebuildChecks, rebuildStores, rebuildVerdict}
 use Rattle.spec.specs.Reclaim.{Victim, victim, isNone, victimSegment, victimLive, idle, reclaimChecks, resetPlan, copyPlan, reclaimVerdict}
-use Rattle.spec.specs.Restart.{freeZones, restartStores, rewrites, restartChecks, restartPlan, restartVerdict}
+use Rattle.spec.specs.Restart.{freeSegs, restartStores, rewrites, restartChecks, restartPlan, restartVerdict}
 use Rattle.spec.specs.Segments.{segments}
 use Rattle.spec.specs.Write.{opens, scarce, writeChecks, writePlan, writeVerdict}
 use Rattle.law_basic.specs.Geometry.{Ranged, ranged}
@@ -54,15 +54,15 @@ use Rattle.proof_answers.specs.Verdicts.VerdictSays.{says-no, says-yes}
 
 -- 01, Restart: a restart that misses a drive stores nothing
 restarting : (p : Params) (r : Ranged p) (v : View) → ((d z : ℕ) → d < p .N → z < p .Z → Fair p (zoneAt v d z)) → (gone : ℕ) → Accepted p v gone
-    → rewrites p gone (segments p v gone) && isNil (freeZones p (segments p v gone)) ≡ false → Able p v (restartStores p gone (segments p v gone))
+    → rewrites p gone (segments p v gone) && isNil (freeSegs p (segments p v gone)) ≡ false → Able p v (restartStores p gone (segments p v gone))
 restarting p r v fair gone acc c8 = go (ℕ-discrete gone 0) acc c8
   where
     none : eqb gone 0 ≡ false → Able p v (restartStores p gone (segments p v gone))
     none q = unfold restartStores in rw q (able-none p v)
 
-    go : Dec (gone ≡ 0) → Accepted p v gone → rewrites p gone (segments p v gone) && isNil (freeZones p (segments p v gone)) ≡ false
+    go : Dec (gone ≡ 0) → Accepted p v gone → rewrites p gone (segments p v gone) && isNil (freeSegs p (segments p v gone)) ≡ false
         → Able p v (restartStores p gone (segments p v gone))
-    go (yes e) = subst (λ (g : ℕ). Accepted p v g → rewrites p g (segments p v g) && isNil (freeZones p (segments p v g)) ≡ false → Able p v (restartStores p g (segments p v g)))
+    go (yes e) = subst (λ (g : ℕ). Accepted p v g → rewrites p g (segments p v g) && isNil (freeSegs p (segments p v g)) ≡ false → Able p v (restartStores p g (segments p v g)))
         (sym e) (restart-able p r v fair)
     go (no n) = λ a c. none (ne-eqb gone 0 n)
 

@@ -16,7 +16,7 @@ use Rattle.spec.specs.Calls.{Check, ninth, ruled, firstRefusal, Plan, mkPlan, V
 use Rattle.spec.specs.Calls.Check.{rule, zones}
 use Rattle.spec.specs.Calls.Verdict.{refused, due}
 use Rattle.spec.specs.Closing.{closeChecks, closePlan, closeVerdict}
-use Rattle.spec.specs.Drives.{View, Disk, storeDisk}
+use Rattle.spec.specs.Drives.{View, Disk, storeDisk, Seg}
 use Rattle.spec.specs.Engine.{Call, storeCount, lentBlock, verdict, callOn}
 use Rattle.spec.specs.Engine.Call.{write, land, close, reclaim, read, fill, restart, rebuild}
 use Rattle.spec.specs.Faults.{imageChecks}
@@ -98,7 +98,7 @@ module _ (p : Params) (long : Bool) (v : View) (m : Memory) where
       says-decided (reclaim n) (reclaimChecks p long v m w) (cond (isNil (victimLive w)) a b) refl
       (either (isNil (victimLive w)) (victimSegment w) (firstOr 0 (idle p v (m .state) w))) (inl refl)
     where
-      either : (t : Bool) (g q : ℕ) → isMember (kind (cond t (resetPlan p m g) (copyPlan p v m q) .answer)) (resultsOf (reclaim n)) ≡ true
+      either : (t : Bool) (g : Seg) (q : ℕ) → isMember (kind (cond t (resetPlan p m g) (copyPlan p v m q) .answer)) (resultsOf (reclaim n)) ≡ true
       either true g q = unfold resetPlan kind resultsOf isMember any in refl
       either false g q = unfold copyPlan kind resultsOf isMember any in refl
 

@@ -1,6 +1,6 @@
 -- The state that each call leaves fits: the checks bound what it sets, and the rest comes from bytes. Assumes nothing.
 use mathlib.Core.Path.{_≡_, refl, sym, ap, _∙_, subst}
-use mathlib.Core.List.{List, [], _∷_, _++_, map}
+use mathlib.Core.List.{List, [], _∷_, map}
 use mathlib.Core.Logic.{inl}
 use mathlib.Core.Bool.{Bool, true, false, cond, not, _&&_}
 use Prim.Native.Nat.{ℕ, zero, suc, _+_, _-_, _≤_, _<_}
@@ -15,7 +15,7 @@ use Rattle.spec.specs.declared.Params.{Params}
 use Rattle.spec.specs.declared.State.{State}
 use Rattle.spec.specs.Closing.{padded, closeChecks, closePlan}
 use Rattle.spec.specs.Counts.{paddingAddress, lastCount}
-use Rattle.spec.specs.Drives.{View, pointerAt, storeView, storeAll, segmentNumbers, emptyOnAll, emptyZones, zoneOn, recordAt}
+use Rattle.spec.specs.Drives.{View, pointerAt, storeView, storeAll, Seg, seg, allSegs, emptyOnAll, emptySegs, zoneOn, recordAt}
 use Rattle.spec.specs.Landing.{slotOf, completes, seals, misplaced, overfull, entryFaults, landFaults, landChecks, landPlan}
 use Rattle.spec.specs.Layout.{group}
 use Rattle.spec.specs.Lists.{Opt, below, isNil, firstOr, consIf, flat}
@@ -30,9 +30,10 @@ use Rattle.law_basic.specs.Geometry.{between-high, Ranged, ranged, addresses-al
 use Rattle.law_basic.specs.Mask.{only-lt}
 use Rattle.law_basic.specs.Ranges.{Test, test, and-left, length-below, length-keep}
 use Rattle.law_basic.specs.Ranges.Test.{yes!, no! }
+use Rattle.law_basic.specs.Segs.{Named, named-lt, seg-named}
 use Rattle.law_checks.specs.Passed.{write-passed, land-passed, close-passed, ReclaimPassed, reclaim-passed, restart-passed}
-use Rattle.law_drives.specs.Members.{In, map-in, keep-in, below-in, first-in}
-use Rattle.law_drives.specs.Segs.{remaining-low, seg-is}
+use Rattle.law_drives.specs.Members.{In, map-in, keep-in, first-in}
+use Rattle.law_drives.specs.Segs.{remaining-low, seg-is, segs-in}
 use Rattle.law_drives.specs.Tests.{clash}
 use Rattle.law_drives.specs.States.{StateOk, state-of}
 use Rattle.proof_bytes.specs.Sections.{limit, limit-pos, StateFits}
@@ -45,10 +46,6 @@ use Rattle.proof_bytes.specs.Reads.{LowReads, stamps-low, serials-low}
 pub record Small (st : State) : Type 0 where
   pub filled-small : (i : ℕ) → getD (st .filled) i 0 < 8
   pub next-small : st .next ≤ 65535
-
-append-nil-left : (s t : List ℕ) → s ++ t ≡ [] → s ≡ []
-append-nil-left [] t q = refl
-append-nil-left (a ∷ s) t q = absurd (let z : _≡_ {A = ℕ} (suc (length (s ++ t))) 0 = ap length q in let y : ⊥ = omega arith in y)
 
 module _ (p : Params) (st : State) (f : StateFits st) (r : Ranged p) (so : StateOk p st) where
   small : Small st
@@ -64,23 +61,23 @@ module _ (p : Params) (st : State) (f : StateFits st) (r : Ranged p) (so : State
 
 -- ---- a block sent
 
-first-empty-low : (p : Params) (v : View) → 4 ≤ p .Z → firstOr 0 (emptyZones p v) < p .Z
+first-empty-low : (p : Params) (v : View) → 4 ≤ p .Z → Named p (firstOr (seg 0) (emptySegs p v))
 unfolding isNil
-first-empty-low p v h = go (test (isNil (emptyZones p v)))
+first-empty-low p v h = go (test (isNil (emptySegs p v)))
   where
-    inside : In (firstOr 0 (emptyZones p v)) (emptyZones p v) → firstOr 0 (emptyZones p v) < p .Z
-    inside m = below-in (p .Z) (firstOr 0 (emptyZones p v)) (of! (firstOr 0 (emptyZones p v)) m)
+    inside : In (firstOr (seg 0) (emptySegs p v)) (emptySegs p v) → Named p (firstOr (seg 0) (emptySegs p v))
+    inside m = segs-in p (firstOr (seg 0) (emptySegs p v)) (of! (firstOr (seg 0) (emptySegs p v)) m)
       where
-        of! : (n : ℕ) → In n (emptyZones p v) → In n (below (p .Z))
-        of! n m = unfold emptyZones segmentNumbers in keep-in (emptyOnAll p v) (below (p .Z)) n m .0
+        of! : (g : Seg) → In g (emptySegs p v) → In g (allSegs p)
+        of! g m = unfold emptySegs in keep-in (emptyOnAll p v) (allSegs p) g m .0
 
-    nothing : (l : List ℕ) → isNil l ≡ true → firstOr 0 l < p .Z
-    nothing [] q = unfold firstOr in omega arith
+    nothing : (l : List Seg) → isNil l ≡ true → Named p (firstOr (seg 0) l)
+    nothing [] q = unfold firstOr in seg-named p 0 (omega arith)
     nothing (a ∷ l) q = clash q refl
 
-    go : Test (isNil (emptyZones p v)) → firstOr 0 (emptyZones p v) < p .Z
-    go (yes! q) = nothing (emptyZones p v) q
-    go (no! q) = inside (first-in (emptyZones p v) 0 q)
+    go : Test (isNil (emptySegs p v)) → Named p (firstOr (seg 0) (emptySegs p v))
+    go (yes! q) = nothing (emptySegs p v) q
+    go (no! q) = inside (first-in (emptySegs p v) (seg 0) q)
 
 module _ (p : Params) (r : Ranged p) (v : View) (st : State) (f : StateFits st) (m : Small st) (serial : opens p st ≡ true → suc (st .serial .0) < limit 3) where
   opened-fits : StateFits (openedBy p v st) × Small (openedBy p v st)
@@ -88,11 +85,12 @@ module _ (p : Params) (r : Ranged p) (v : View) (st : State) (f : StateFits st) 
   opened-fits = go (test (opens p st))
     where
       st′ : State
-      st′ = setOpen st (firstOr 0 (emptyZones p v)) (suc (st .serial .0))
+      st′ = setOpen st (firstOr (seg 0) (emptySegs p v)) (suc (st .serial .0))
 
       go : Test (opens p st) → StateFits (cond (opens p st) st′ st) × Small (cond (opens p st) st′ st)
       go (yes! q) = subst (λ (b : Bool). StateFits (cond b st′ st) × Small (cond b st′ st)) (sym q) (
-        fits-open st f (firstOr 0 (emptyZones p v)) (suc (st .serial .0)) (let a = first-empty-low p v (r .zones-low) in let b = r .zones-high in omega arith) (serial q),
+        fits-open st f (firstOr (seg 0) (emptySegs p v)) (suc (st .serial .0))
+            (let a = named-lt p (firstOr (seg 0) (emptySegs p v)) (first-empty-low p v (r .zones-low)) in let b = r .zones-high in omega arith) (serial q),
         record { filled-small = m .filled-small; next-small = omega arith },
       )
       go (no! q) = subst (λ (b : Bool). StateFits (cond b st′ st) × Small (cond b st′ st)) (sym q) (f, m)
@@ -163,7 +161,7 @@ module _ (p : Params) (long : Bool) (v : View) (m : Memory) (f : StateFits (m .s
   consIf-nil true n l q = absurd (let z : _≡_ {A = ℕ} (suc (length l)) 0 = ap length q in let y : ⊥ = omega arith in y)
   consIf-nil false n l q = refl
 
-  placed-low : (d g s : ℕ) → Ranged p → misplaced p v d (zoneOn g d) s ≡ false → pointerAt v d (zoneOn g d) - 1 < limit 12
+  placed-low : (d : ℕ) (g : Seg) (s : ℕ) → Ranged p → misplaced p v d (zoneOn g d) s ≡ false → pointerAt v d (zoneOn g d) - 1 < limit 12
   unfolding misplaced stateSections
   placed-low d g s r q =
       let n = pointerAt v d (zoneOn g d) in
@@ -184,10 +182,10 @@ module _ (p : Params) (long : Bool) (v : View) (m : Memory) (f : StateFits (m .s
       go (completes p st i d) (seals p st i d) st₁ i f₁
     where
       off : landFaults p v m d s ≡ [] → misplaced p v d (zoneOn (openSegment st) d) s ≡ false
-      off q = unfold landFaults in consIf-nil (misplaced p v d (zoneOn (openSegment st) d) s) (openSegment st) _ (of! q)
+      off q = unfold landFaults in consIf-nil (misplaced p v d (zoneOn (openSegment st) d) s) (zoneOn (openSegment st) d) _ (of! q)
         where
-          of! : landFaults p v m d s ≡ [] → consIf (misplaced p v d (zoneOn (openSegment st) d) s) (openSegment st)
-              (consIf (seals p st (slotOf st s) d && overfull p v d (openSegment st)) (openSegment st)
+          of! : landFaults p v m d s ≡ [] → consIf (misplaced p v d (zoneOn (openSegment st) d) s) (zoneOn (openSegment st) d)
+              (consIf (seals p st (slotOf st s) d && overfull p v d (openSegment st)) (zoneOn (openSegment st) d)
               (cond (completes p st (slotOf st s) d) (flat (entryFaults p v (m .addresses)) (entriesIn st (slotOf st s))) [])) ≡ []
           of! q = unfold landFaults in q
 
@@ -259,24 +257,24 @@ idle-fits p r v d fl ht hs =
     names : named d < limit 1
     names = unfold named in only-lt d
 
-    in-segs : (x : Segment) → In x (segments p v (named d)) → x .seg < p .Z
-    in-segs x i =
+    inside : (x : Segment) → In x (segments p v (named d)) → Named p (x .seg)
+    inside x i =
         let (z, j, e) = map-in (segmentOf p v (named d)) (remaining p v (named d)) x (of! x i) in
-        subst (λ (n : ℕ). n < p .Z) (sym (ap (λ (y : Segment). y .seg) e ∙ seg-is p v (named d) z)) (remaining-low p v (named d) z j)
+        subst (Named p) (sym (ap (λ (y : Segment). y .seg) e ∙ seg-is p v (named d) z)) (remaining-low p v (named d) z j)
       where
         of! : (x : Segment) → In x (segments p v (named d)) → In x (map (segmentOf p v (named d)) (remaining p v (named d)))
         of! x i = unfold segments in i
 
-    left : (x : Segment) → In x us → x .seg < p .Z
+    left : (x : Segment) → In x us → Named p (x .seg)
     left x i = go (eqb (named d) 0) i
       where
-        go : (b : Bool) → In x (cond b (unsealed (segments p v (named d))) []) → x .seg < p .Z
-        go true i = in-segs x (unfold unsealed in keep-in (λ (g : Segment). not (g .full)) (segments p v (named d)) x i .0)
+        go : (b : Bool) → In x (cond b (unsealed (segments p v (named d))) []) → Named p (x .seg)
+        go true i = inside x (unfold unsealed in keep-in (λ (g : Segment). not (g .full)) (segments p v (named d)) x i .0)
         go false i = absurd i
 
-    low-open : (l : List Segment) → ((x : Segment) → In x l → x .seg < p .Z) → openOf l < limit 4
+    low-open : (l : List Segment) → ((x : Segment) → In x l → Named p (x .seg)) → openOf l < limit 4
     low-open [] i = lit< tt
-    low-open (g ∷ gs) i = let a = i g (inl refl) in let b = r .zones-high in omega arith
+    low-open (g ∷ gs) i = let a = named-lt p (g .seg) (i g (inl refl)) in let b = r .zones-high in omega arith
 
     low-next : (l : List Segment) → nextOf p l < limit 5
     low-next [] = lit< tt

@@ -1,10 +1,9 @@
 -- Every call, on any lent bytes: the state that it leaves fits, all that it leaves is bytes, and on bytes it does what it does on the decoded state. Assumes nothing.
 use mathlib.Core.Path.{_≡_, refl, sym, ap, _∙_, subst}
-use mathlib.Core.List.{List, [], _∷_}
+use mathlib.Core.List.{List, []}
 use mathlib.Core.Bool.{Bool, true, false, _&&_}
-use Prim.Native.Nat.{ℕ, suc}
-use borrow.Author.Tests.{lt-ltb}
-use lib.Dec.{leb, ltb, eqb}
+use Prim.Native.Nat.{ℕ}
+use lib.Dec.{leb, eqb}
 use lib.ListN.{length, take}
 use Rattle.spec.specs.Lists.Opt.{none}
 use Rattle.spec.specs.declared.Params.{Params}
@@ -14,18 +13,16 @@ use Rattle.spec.specs.declared.Answer.the-variants.{Cut}
 use Rattle.spec.specs.Answers.{isRefused, finished}
 use Rattle.spec.specs.Calls.{firstRefusal, Verdict, decided, After, mkAfter, cutMemory, limited, outcome}
 use Rattle.spec.specs.Calls.Verdict.{due}
-use Rattle.spec.specs.Demands.{areBytes}
 use Rattle.spec.specs.Drives.{View, Store, Disk, storeDisk, storeAll}
 use Rattle.spec.specs.Engine.{Call, storeCount, lentBlock, lentOk, callOn, callDisk, Lent, Left, lentDisk, lentMemory, lentAll, leftBy, callBytes}
 use Rattle.spec.specs.Engine.Call.{write, land, close, reclaim, read, fill, restart, rebuild}
-use Rattle.spec.specs.Lists.{all, firstOr}
+use Rattle.spec.specs.Lists.{firstOr}
 use Rattle.spec.specs.Memory.{Memory, mkMemory, stateLen}
 use Rattle.spec.specs.Params.{named}
 use Rattle.spec.specs.Read.{lookup}
 use Rattle.spec.specs.Reclaim.{victim, idle}
 use Rattle.spec.specs.Restart.{restartStores, restartChecks, restartPlan}
 use Rattle.spec.specs.Segments.{segments}
-use Rattle.law_basic.specs.Ranges.{and-left, and-right, and-both}
 use Rattle.law_basic.specs.Sections.{stateOf-stateBytes}
 use Rattle.law_basic.specs.Stores.{refused-same}
 use Rattle.law_views.specs.Views.{seen}
@@ -35,7 +32,6 @@ use Rattle.law_lent.specs.Shorts.{write-keeps, land-keeps, close-keeps, reclaim
 use Rattle.proof_crash_calls.specs.Refusals.{Decides, decides}
 use Rattle.law_checks.specs.Checks.{Decided, decide}
 use Rattle.law_checks.specs.Checks.Decided.{stops, goes}
-use Rattle.law_drives.specs.Image.{bytes-of}
 use Rattle.law_drives.specs.Laid.{in-take}
 use Rattle.law_drives.specs.Tests.{clash}
 use Rattle.law_drives.specs.Zones.{Bytes}
@@ -200,31 +196,6 @@ pub record LentBytes (l : Lent) : Type 0 where
   pub inflight-bytes : Bytes (l .inflight)
   pub state-bytes : Bytes (l .state)
 
--- the same as a test
-unfoldable pub holdBytes : Lent → Bool
-holdBytes l = areBytes (l .image) && areBytes (l .inflight) && areBytes (l .state)
-
-pub lent-bytes : (l : Lent) → holdBytes l ≡ true → LentBytes l
-unfolding holdBytes
-lent-bytes l q =
-    let a = areBytes (l .image) in
-    let b = areBytes (l .inflight) in
-    let c = areBytes (l .state) in
-    let e = and-left (a && b) c q in
-    record { image-bytes = bytes-of (l .image) (and-left a b e); inflight-bytes = bytes-of (l .inflight) (and-right a b e); state-bytes = bytes-of (l .state) (and-right (a && b) c q) }
-
-are-bytes : (l : List ℕ) → Bytes l → areBytes l ≡ true
-unfolding areBytes all
-are-bytes [] h = refl
-are-bytes (b ∷ l) h = and-both (ltb b 256) (areBytes l) (lt-ltb b 256 (h 0)) (are-bytes l (λ i. h (suc i)))
-
-pub bytes-held : (l : Lent) → LentBytes l → holdBytes l ≡ true
-unfolding holdBytes
-bytes-held l h =
-    let a = areBytes (l .image) in
-    let b = areBytes (l .inflight) in
-    and-both (a && b) (areBytes (l .state)) (and-both a b (are-bytes (l .image) (h .image-bytes)) (are-bytes (l .inflight) (h .inflight-bytes))) (are-bytes (l .state) (h .state-bytes))
-
 module _ (p : Params) (l : Lent) (c : Call) (h : LentBytes l) (b : Bytes (lentBlock c)) where
   fits-on : (long : Bool) → StateFits (callOn p long (lentDisk l) (lentMemory l) c .memory .state)
   unfolding lentDisk lentMemory
@@ -250,15 +221,6 @@ module _ (p : Params) (l : Lent) (c : Call) (h : LentBytes l) (b : Bytes (lentBl
       go : (t : Bool) → AfterBytes r → LentBytes (leftBy l r t .lent) × Bytes (leftBy l r t .block)
       go true a = (h, a .block-bytes)
       go false a = (record { image-bytes = a .image-bytes; inflight-bytes = a .inflight-bytes; state-bytes = bytes-stateBytes (r .memory .state) }, a .block-bytes)
-
--- any parameters, any lent bytes, hostile states too: what a call leaves fits, and is bytes again
-pub call-keeps : (p : Params) (l : Lent) (c : Call) → holdBytes l ≡ true → areBytes (lentBlock c) ≡ true
-    → StateFits (callDisk p (lentDisk l) (lentMemory l) c .memory .state) × (holdBytes (callBytes p l c .lent) ≡ true) × (areBytes (callBytes p l c .block) ≡ true)
-call-keeps p l c q t =
-    let h = lent-bytes l q in
-    let b = bytes-of (lentBlock c) t in
-    let (x, y) = call-bytes p l c h b in
-    (call-fits p l c h b, bytes-held (callBytes p l c .lent) x, are-bytes (callBytes p l c .block) y)
 
 -- ---- simulation
 

@@ -11,7 +11,7 @@ use lib.ListN.{length, getD, drop, List·getD-eq-default}
 use lib.Seq.{getD-drop}
 use Rattle.spec.specs.declared.Params.{Params}
 use Rattle.spec.specs.Bytes.{part}
-use Rattle.spec.specs.Drives.{Chunk, noChunk, Zone, noZone, View, zoneAt, chunkAt, zoneOn, sealedIn, dataStored, blocksOf, recordIn}
+use Rattle.spec.specs.Drives.{Chunk, noChunk, Zone, noZone, View, zoneAt, chunkAt, Seg, zoneOn, sealedIn, dataStored, blocksOf, recordIn}
 use Rattle.spec.specs.Layout.{dataDrive, headerSerial, Rec, mkRec, recordOf, footerRecord}
 use Rattle.spec.specs.Lists.{below, isIn}
 use Rattle.spec.specs.Params.{capacity, spareLen, perFooter}
@@ -37,7 +37,7 @@ LowRec r = (r .address < 256 ^ 8) × (r .stamp < 256 ^ 8)
 -- every record and every serial is
 pub record LowReads (p : Params) (v : View) : Type 0 where
   pub records-low : (w : Bool) (d z o : ℕ) → LowRec (recordIn p w (zoneAt v d z) o)
-  pub headers-low : (d g : ℕ) → headerSerial (headerAt v d g) < 256 ^ 8
+  pub headers-low : (d : ℕ) (g : Seg) → headerSerial (headerAt v d g) < 256 ^ 8
 
 -- ---- from bytes in spares, headers and footers
 
@@ -61,7 +61,7 @@ module _ (p : Params) (v : View) (h : Grounded p v) where
       (bytes-part (spareLen * (o % perFooter p)) spareLen (getD (blocksOf (drop (1 + p .S) q)) j []) b)
   record-low-at false d z o = low-record (getD (zoneAt v d z .blocks) (1 + o) noChunk .spare) (h d z (1 + o) .0)
 
-  header-at : (d g : ℕ) → headerSerial (headerAt v d g) < 256 ^ 8
+  header-at : (d : ℕ) (g : Seg) → headerSerial (headerAt v d g) < 256 ^ 8
   unfolding headerAt chunkAt
   header-at d g = serial-low (getD (zoneAt v d (zoneOn g d) .blocks) 0 noChunk .block) (h d (zoneOn g d) 0 .1 (inl refl))
 
@@ -103,8 +103,8 @@ shaped-grounded p v sh d z b = go (decLt d (p .N)) (decLt z (p .Z))
 -- ---- what a restart takes from them
 
 module _ (p : Params) (v : View) (h : LowReads p v) (gone : ℕ) where
-  abbrev seg : ℕ → Segment
-  seg g = segmentOf p v gone g
+  abbrev segAt : Seg → Segment
+  segAt g = segmentOf p v gone g
 
   rows-low : (w : Bool) (q : Zone) (o : ℕ) → ((i : ℕ) → LowRec (recordIn p w q i)) → LowRec (getD (recordsIn p w q) o (mkRec 0 0 0))
   unfolding recordsIn
@@ -117,20 +117,20 @@ module _ (p : Params) (v : View) (h : LowReads p v) (gone : ℕ) where
       go (yes h) = let (i, m, e) = map-in (recordIn p w q) (below (dataStored p q)) (getD l o (mkRec 0 0 0)) (in-getD l o (mkRec 0 0 0) h) in subst LowRec (sym e) (k i)
       go (no h) = subst LowRec (sym (List·getD-eq-default l (mkRec 0 0 0) {n = o} (omega arith))) (lit< tt, lit< tt)
 
-  stored-rec-low : (g s d : ℕ) → d < p .N → LowRec (storedRec (seg g) s d)
+  stored-rec-low : (g : Seg) (s d : ℕ) → d < p .N → LowRec (storedRec (segAt g) s d)
   unfolding storedRec
-  stored-rec-low g s d hd = subst (λ (l : List Rec). LowRec (getD l (offsetOn (seg g) d s) (mkRec 0 0 0))) (sym (recs-on p v gone g d hd)) (go (isIn gone d))
+  stored-rec-low g s d hd = subst (λ (l : List Rec). LowRec (getD l (offsetOn (segAt g) d s) (mkRec 0 0 0))) (sym (recs-on p v gone g d hd)) (go (isIn gone d))
     where
-      go : (b : Bool) → LowRec (getD (cond b [] (recordsIn p (sealedIn p v gone g) (zoneAt v d g))) (offsetOn (seg g) d s) (mkRec 0 0 0))
+      go : (b : Bool) → LowRec (getD (cond b [] (recordsIn p (sealedIn p v gone g) (zoneAt v d (zoneOn g d)))) (offsetOn (segAt g) d s) (mkRec 0 0 0))
       go true = (lit< tt, lit< tt)
-      go false = rows-low (sealedIn p v gone g) (zoneAt v d g) (offsetOn (seg g) d s) (h .records-low (sealedIn p v gone g) d g)
+      go false = rows-low (sealedIn p v gone g) (zoneAt v d (zoneOn g d)) (offsetOn (segAt g) d s) (h .records-low (sealedIn p v gone g) d (zoneOn g d))
 
-  rec-low : (g s d : ℕ) → d < p .N → recOf p gone (seg g) s d .stamp < 256 ^ 8
+  rec-low : (g : Seg) (s d : ℕ) → d < p .N → recOf p gone (segAt g) s d .stamp < 256 ^ 8
   rec-low g s d hd = go (test (isIn gone d))
     where
-      go : Test (isIn gone d) → recOf p gone (seg g) s d .stamp < 256 ^ 8
-      go (yes! e) = subst (λ (r : Rec). r .stamp < 256 ^ 8) (sym (rec-lost p gone (seg g) s d e)) (decode-low p gone s d (storedRec (seg g) s) (λ x l n. stored-rec-low g s x l) .1)
-      go (no! e) = subst (λ (r : Rec). r .stamp < 256 ^ 8) (sym (rec-here p gone (seg g) s d e)) (stored-rec-low g s d hd .1)
+      go : Test (isIn gone d) → recOf p gone (segAt g) s d .stamp < 256 ^ 8
+      go (yes! e) = subst (λ (r : Rec). r .stamp < 256 ^ 8) (sym (rec-lost p gone (segAt g) s d e)) (decode-low p gone s d (storedRec (segAt g) s) (λ x l n. stored-rec-low g s x l) .1)
+      go (no! e) = subst (λ (r : Rec). r .stamp < 256 ^ 8) (sym (rec-here p gone (segAt g) s d e)) (stored-rec-low g s d hd .1)
 
   pub stamps-low : greatestStamp (candidates p gone (segments p v gone)) < 256 ^ 8
   unfolding greatestStamp
@@ -144,7 +144,7 @@ module _ (p : Params) (v : View) (h : LowReads p v) (gone : ℕ) where
           let k = cand-at p v gone c i in
           subst (λ (x : Cand). x .stamp < 256 ^ 8) (sym (k .it-is)) (of! (k .of) (k .stripe) (dataDrive p (k .stripe) (k .position)) (data-drive-lt p (k .stripe) (k .position) (k .position-low)))
         where
-          of! : (g s d : ℕ) → d < p .N → candOf p gone (seg g) s d .stamp < 256 ^ 8
+          of! : (g : Seg) (s d : ℕ) → d < p .N → candOf p gone (segAt g) s d .stamp < 256 ^ 8
           of! g s d hd = unfold candOf in rec-low g s d hd
 
   pub serials-low : greatestSerial (segments p v gone) < 256 ^ 8

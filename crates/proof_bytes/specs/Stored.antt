@@ -13,7 +13,8 @@ use Rattle.spec.specs.declared.Answer.the-variants.{Rebuilt}
 use Rattle.spec.specs.Calls.{Plan, mkPlan}
 use Rattle.spec.specs.Closing.{padded, closePlan}
 use Rattle.spec.specs.Counts.{paddingAddress}
-use Rattle.spec.specs.Drives.{Chunk, noChunk, Zone, noZone, View, zoneAt, chunkAt, storeView, zoneOn, sparesOf, footersOf, zeroSpare, headerStores, footerStores, resetStores, emptyZones}
+use Rattle.spec.specs.Drives.{Chunk, noChunk, Zone, noZone, View, zoneAt, chunkAt, storeView, Seg, seg, zoneOn, placeSegment, sparesOf, footersOf, zeroSpare, headerStores, footerStores}
+use Rattle.spec.specs.Drives.{resetStores, emptySegs}
 use Rattle.spec.specs.Drives.Store.{put, reset}
 use Rattle.spec.specs.Landing.{slotOf, seals, flightRec, sealStores, landStore, landPlan}
 use Rattle.spec.specs.Layout.{headerBlock, recordBytes, footerBlock, mkRec, dataPosition, isData, dataDrives, parityPosition}
@@ -25,7 +26,7 @@ use Rattle.spec.specs.Read.{Found, storedAt, decodedAt, readPiece}
 use Rattle.spec.specs.Read.Found.{nowhere, here, away}
 use Rattle.spec.specs.Rebuild.{rebuiltZone, rebuildStores}
 use Rattle.spec.specs.Reclaim.{Victim, victimSegment, victimLive, resetPlan, copyPlan}
-use Rattle.spec.specs.Restart.{freeZones, isWhole, isRagged, missingFooters, renumbered, movedPieces, movedOn, movedStripe, movedStripes, rewriteStores, dropStores, mendStores, restartStores}
+use Rattle.spec.specs.Restart.{freeSegs, isWhole, isRagged, missingFooters, renumbered, movedPieces, movedOn, movedStripe, movedStripes, rewriteStores, dropStores, mendStores, restartStores}
 use Rattle.spec.specs.Restart.{restartMemory, restartPlan}
 use Rattle.spec.specs.Segments.{remaining, Segment, segmentOf, segments, counted, offsetOn, storedPiece, pieceOf, putPiece, greatestSerial, unsealed}
 use Rattle.spec.specs.Write.{placed, slotFor, opens, openedBy, begunBy, sending, writePlan}
@@ -43,12 +44,12 @@ use Rattle.proof_bytes.specs.Images.{stores-cond, stores-map, stores-fla
 
 -- ---- headers, footers, resets
 
-headers-bytes : (p : Params) (g serial copied : ℕ) → StoresBytes (headerStores p g serial copied)
+headers-bytes : (p : Params) (g : Seg) (serial copied : ℕ) → StoresBytes (headerStores p g serial copied)
 unfolding headerStores
 headers-bytes p g serial copied = stores-map (λ d. put d (zoneOn g d) (headerBlock p d (zoneOn g d) serial copied) zeroSpare) (drivesOf p)
     (λ d m. (bytes-header p d (zoneOn g d) serial copied, bytes-zeroSpare))
 
-resets-bytes : (p : Params) (g : ℕ) → StoresBytes (resetStores p g)
+resets-bytes : (p : Params) (g : Seg) → StoresBytes (resetStores p g)
 unfolding resetStores
 resets-bytes p g = stores-map (λ d. reset d (zoneOn g d)) (drivesOf p) (λ d m. tt)
 
@@ -71,7 +72,7 @@ footers-bytes p d z q i n h =
 abbrev SegBytes : Segment → Type 0
 SegBytes g = (d : ℕ) → BytesOfZone (getD (g .zonesBy) d noZone)
 
-segment-bytes : (p : Params) (v : View) (gone g : ℕ) → ViewBytes v → SegBytes (segmentOf p v gone g)
+segment-bytes : (p : Params) (v : View) (gone : ℕ) (g : Seg) → ViewBytes v → SegBytes (segmentOf p v gone g)
 unfolding segmentOf
 segment-bytes p v gone g h d = get-map BytesOfZone (λ e. zoneAt v e (zoneOn g e)) (drivesOf p) d noZone no-zone-bytes (λ e. h e (zoneOn g e))
 
@@ -126,7 +127,7 @@ module _ (p : Params) (g : Segment) (h : SegBytes g) where
           (encode-bytes (p .B) (parityPosition p k d) (map (λ x. from x .block) (dataDrives p s))
           (each-map Bytes (λ x. from x .block) (dataDrives p s) (each-data (λ x. Bytes (from x .block)) p s (λ x l n. one x))))
 
-  stripes-bytes : (z : ℕ) (ss : List ℕ) (k : ℕ) → StoresBytes (movedStripes p g z ss k)
+  stripes-bytes : (z : Seg) (ss : List ℕ) (k : ℕ) → StoresBytes (movedStripes p g z ss k)
   unfolding movedStripes movedStripe
   stripes-bytes z [] k = stores-bytes-none
   stripes-bytes z (s ∷ ss) k = stores-bytes-append (map (λ d. putPiece d (zoneOn z d) (movedOn p (movedPieces p g s k) k d)) (drivesOf p)) (movedStripes p g z ss (suc k))
@@ -134,7 +135,7 @@ module _ (p : Params) (g : Segment) (h : SegBytes g) where
       (λ d m. put-piece d (zoneOn z d) (movedOn p (movedPieces p g s k) k d) (moved-bytes s k d)))
       (stripes-bytes z ss (suc k))
 
-  rewrite-bytes : (z serial : ℕ) → StoresBytes (rewriteStores p g z serial)
+  rewrite-bytes : (z : Seg) (serial : ℕ) → StoresBytes (rewriteStores p g z serial)
   unfolding rewriteStores
   rewrite-bytes z serial =
       let a = headerStores p z serial (g .serial) in
@@ -148,18 +149,18 @@ module _ (p : Params) (g : Segment) (h : SegBytes g) where
   mend-bytes : (gs : List Segment) → StoresBytes (mendStores p gs g)
   unfolding mendStores
   mend-bytes gs =
-      stores-cond (isWhole p g) (missingFooters p g) (cond (isRagged p g) (rewriteStores p g (firstOr 0 (freeZones p gs)) (suc (greatestSerial gs))) []) missing-bytes
-      (stores-cond (isRagged p g) (rewriteStores p g (firstOr 0 (freeZones p gs)) (suc (greatestSerial gs))) []
-      (rewrite-bytes (firstOr 0 (freeZones p gs)) (suc (greatestSerial gs))) stores-bytes-none)
+      stores-cond (isWhole p g) (missingFooters p g) (cond (isRagged p g) (rewriteStores p g (firstOr (seg 0) (freeSegs p gs)) (suc (greatestSerial gs))) []) missing-bytes
+      (stores-cond (isRagged p g) (rewriteStores p g (firstOr (seg 0) (freeSegs p gs)) (suc (greatestSerial gs))) []
+      (rewrite-bytes (firstOr (seg 0) (freeSegs p gs)) (suc (greatestSerial gs))) stores-bytes-none)
 
 pub restart-bytes : (p : Params) (gone : ℕ) (gs : List Segment) → ((g : Segment) → In g gs → SegBytes g) → StoresBytes (restartStores p gone gs)
 unfolding restartStores dropStores unsealed
 restart-bytes p gone gs h =
-    let a = flat (resetStores p) (freeZones p gs) in
+    let a = flat (resetStores p) (freeSegs p gs) in
     let us = keep (λ (g : Segment). not (g .full)) gs in
     let b = flat (mendStores p gs) us in
     stores-cond (eqb gone 0) (a ++ b) []
-    (stores-bytes-append a b (stores-flat (resetStores p) (freeZones p gs) (λ z m. resets-bytes p z))
+    (stores-bytes-append a b (stores-flat (resetStores p) (freeSegs p gs) (λ z m. resets-bytes p z))
     (stores-flat (mendStores p gs) us (λ g m. mend-bytes p g (h g (keep-in (λ (g : Segment). not (g .full)) gs g m .0)) gs)))
     stores-bytes-none
 
@@ -203,7 +204,7 @@ landing-bytes p v m d s h g =
     one : StoreBytes (landStore p v m d s)
     one = unfold landStore slotBlock in (bytes-part (slotByte p (slotOf (m .state) s) d) (p .B) (m .inflight) g, bytes-record (flightRec p (m .state) (slotOf (m .state) s) d))
 
-    seal : (u : View) (z : ℕ) → ViewBytes u → StoresBytes (sealStores p u z)
+    seal : (u : View) (z : Seg) → ViewBytes u → StoresBytes (sealStores p u z)
     seal u z k = unfold sealStores in stores-flat _ (drivesOf p) (λ d m. footers-bytes p d (zoneOn z d) (zoneAt u d (zoneOn z d)) 0 (footers p) (k d (zoneOn z d)))
 
 -- ---- in flight
@@ -228,7 +229,8 @@ module _ (p : Params) (v : View) (st : State) (fl : List ℕ) (a t w : ℕ) (b :
   sending-bytes : StoresBytes (sending p v st fl a t w b .stores)
   unfolding sending
   sending-bytes =
-      stores-cond (opens p st) (headerStores p (firstOr 0 (emptyZones p v)) (suc (st .serial .0)) 0) [] (headers-bytes p (firstOr 0 (emptyZones p v)) (suc (st .serial .0)) 0) stores-bytes-none
+      stores-cond (opens p st) (headerStores p (firstOr (seg 0) (emptySegs p v)) (suc (st .serial .0)) 0) []
+      (headers-bytes p (firstOr (seg 0) (emptySegs p v)) (suc (st .serial .0)) 0) stores-bytes-none
 
 padded-bytes : (p : Params) (i k : ℕ) (st : State) (fl : List ℕ) → Bytes fl → Bytes (padded p i k st fl .inflight)
 unfolding padded
@@ -267,7 +269,7 @@ module _ (p : Params) (v : View) (m : Memory) (h : ViewBytes v) (g : Bytes (m .i
     block-bytes = bytes-nil;
   }
 
-  reset-bytes : (z : ℕ) → PlanBytes (resetPlan p m z)
+  reset-bytes : (z : Seg) → PlanBytes (resetPlan p m z)
   unfolding resetPlan
   reset-bytes z = record { stores-bytes = resets-bytes p z; inflight-bytes = g; block-bytes = bytes-nil }
 
@@ -289,23 +291,23 @@ module _ (p : Params) (v : View) (m : Memory) (h : ViewBytes v) (g : Bytes (m .i
   pub found-bytes : (gone : ℕ) (cs : List ℕ) (f : Found) → Bytes (readPiece p v gone cs f .block)
   unfolding readPiece storedAt chunkAt
   found-bytes gone cs nowhere = bytes-zeros (p .B)
-  found-bytes gone cs (here q) = h (placeDrive p q) (placeZone p q) (1 + (placeBlock p q - 1)) .0
+  found-bytes gone cs (here q) = h (placeDrive p q) (zoneOn (placeSegment p q) (placeDrive p q)) (1 + (placeBlock p q - 1)) .0
   found-bytes gone cs (away q) = subst (λ (y : Piece). Bytes (y .block)) (sym (is ∙ decode-apart p gone s d at))
-      (decode-bytes p gone s d (λ e. at e .block) (λ e l n. h e z (1 + firstOr 0 (shownAt p v cs e z s)) .0))
+      (decode-bytes p gone s d (λ e. at e .block) (λ e l n. h e (zoneOn z e) (1 + firstOr 0 (shownAt p v cs e (zoneOn z e) s)) .0))
     where
       d : ℕ
       d = placeDrive p q
 
-      z : ℕ
-      z = placeZone p q
+      z : Seg
+      z = placeSegment p q
 
       s : ℕ
       s = placeBlock p q - 1
 
       at : ℕ → Piece
-      at e = storedAt p v gone e z (firstOr 0 (shownAt p v cs e z s))
+      at e = storedAt p v gone e z (firstOr 0 (shownAt p v cs e (zoneOn z e) s))
 
-      is : decodedAt p v gone cs (placeDrive p q) (placeZone p q) (placeBlock p q - 1) ≡ decodePiece p gone s d at
+      is : decodedAt p v gone cs (placeDrive p q) (placeSegment p q) (placeBlock p q - 1) ≡ decodePiece p gone s d at
       is = unfold decodedAt in refl
 
   pub restarts-bytes : (d : ℕ) → PlanBytes (restartPlan p v d (segments p v (named d)) (m .inflight))

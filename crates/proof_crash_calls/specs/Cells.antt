@@ -10,6 +10,7 @@ use lib.ListN.{getD, length-set}
 use lib.Seq.{getD-set-same, getD-set-other}
 use lib.Bits.{bitOr, or-zero-r}
 use Rattle.spec.specs.declared.State.{State}
+use Rattle.spec.specs.Drives.{Seg}
 use Rattle.spec.specs.Layout.{mkRec}
 use Rattle.spec.specs.Lists.{only, isIn}
 use Rattle.spec.specs.Memory.{cell, stripeIn, filledIn, landedIn, isWrite, entryIn, offsetIn, isFree, setStamp, setOpen, setClosed, beginStripe, addEntry, landedMask, markLanded, freeStripe}
@@ -251,7 +252,7 @@ stamp-same st t j = record {
   write = λ k. unfold setStamp isWrite in refl;
 }
 
-pub open-same : (st : State) (z r j : ℕ) → SameSlot st (setOpen st z r) j
+pub open-same : (st : State) (z : Seg) (r j : ℕ) → SameSlot st (setOpen st z r) j
 open-same st z r j = record {
   number = unfold setOpen stripeIn in refl;
   filled = unfold setOpen filledIn in refl;

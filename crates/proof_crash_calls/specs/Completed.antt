@@ -11,7 +11,7 @@ use lib.ListN.{length}
 use Rattle.spec.specs.declared.Params.{Params}
 use Rattle.spec.specs.declared.State.{State}
 use Rattle.spec.specs.Counts.{neverPlace}
-use Rattle.spec.specs.Drives.{View, zoneOn, placeSegment, recordAt}
+use Rattle.spec.specs.Drives.{View, Seg, zoneOn, placeSegment, recordAt}
 use Rattle.spec.specs.Landing.{heldCand, held, landedCand, landedCands, pointed}
 use Rattle.spec.specs.Layout.{parityDrive, dataDrive}
 use Rattle.spec.specs.Lists.{Opt, below, any}
@@ -22,6 +22,7 @@ use Rattle.spec.specs.Rank.{Cand, best, placeOr, candsOf}
 use Rattle.law_basic.specs.Geometry.{Ranged, place-block, place-zone, place-drive, data-drive-lt, data-not-parity}
 use Rattle.law_basic.specs.Ranges.{Test, test}
 use Rattle.law_basic.specs.Ranges.Test.{yes!, no! }
+use Rattle.law_basic.specs.Segs.{Named, zone-on-lt, place-segment-of}
 use Rattle.law_drives.specs.Tests.{cond-true, cond-false}
 use Rattle.proof_crash_machine.specs.Facts.{Ghost, Counted, Off, None}
 use Rattle.proof_crash_machine.specs.Ghosts.{withBase}
@@ -42,10 +43,10 @@ use Rattle.proof_crash_calls.specs.Pointed.{pointTo, pointed-none, point
 
 module _ (p : Params) (h : Ranged p) (g : Ghost) (u : View) (k : OnDrives p h g u) (none? : None (parOf p h) (g .un)) (v : ItemView)
     (gr : Grown (parOf p h) v (itemsIn p u)) (tb : List ℕ) (long : length tb ≡ addressesLen p)
-    (T : TableOk p h g v tb) (st : State) (i z s : ℕ) (F : ℕ → Val) (zl : z < p .Z) (full : filledIn st i ≡ dataCount p) (number : stripeIn st i ≡ s)
+    (T : TableOk p h g v tb) (st : State) (i : ℕ) (z : Seg) (s : ℕ) (F : ℕ → Val) (zl : Named p z) (full : filledIn st i ≡ dataCount p) (number : stripeIn st i ≡ s)
     (ent : (j : ℕ) → j < dataCount p → (F (dataDrive p s j) .addr ≡ entryIn st i j .address) × (F (dataDrive p s j) .stamp ≡ entryIn st i j .stamp))
-    (on : (d : ℕ) → d < p .N → Off (itemsIn p u d z) (suc (offsetIn st i d)) (chunk s (F d)))
-    (cnt : (d : ℕ) → d < p .N → d ≢ parityDrive p s → (c : Counted (parOf p h) (g .hd) (itemsIn p u) (g .un) (F d)) × (c .z ≡ z)) where
+    (on : (d : ℕ) → d < p .N → Off (itemsIn p u d (z .name)) (suc (offsetIn st i d)) (chunk s (F d)))
+    (cnt : (d : ℕ) → d < p .N → d ≢ parityDrive p s → (c : Counted (parOf p h) (g .hd) (itemsIn p u) (g .un) (F d)) × (c .z ≡ z .name)) where
   abbrev cs : List Cand
   cs = landedCands p u z st i
 
@@ -77,9 +78,9 @@ module _ (p : Params) (h : Ranged p) (g : Ghost) (u : View) (k : OnDrives p h g 
   cand-stamp : (j : ℕ) → j < dataCount p → landedCand p u z st i j .stamp ≡ F (dataDrive p s j) .stamp
   cand-stamp j l = (let e : landedCand p u z st i j .stamp ≡ entryIn st i j .stamp = unfold landedCand in refl in e) ∙ sym (ent j l .1)
 
-  landed-place : (j : ℕ) → landedCand p u z st i j .place ≡ placeOf p (dataDrive p s j) z (1 + offsetIn st i (dataDrive p s j))
-  unfolding landedCand zoneOn
-  landed-place j = ap (λ (x : ℕ). placeOf p (dataDrive p x j) z (1 + offsetIn st i (dataDrive p x j))) number
+  landed-place : (j : ℕ) → landedCand p u z st i j .place ≡ placeOf p (dataDrive p s j) (zoneOn z (dataDrive p s j)) (1 + offsetIn st i (dataDrive p s j))
+  unfolding landedCand
+  landed-place j = ap (λ (x : ℕ). placeOf p (dataDrive p x j) (zoneOn z (dataDrive p x j)) (1 + offsetIn st i (dataDrive p x j))) number
 
   -- ---- the floor
 
@@ -111,12 +112,12 @@ module _ (p : Params) (h : Ranged p) (g : Ghost) (u : View) (k : OnDrives p h g 
     s = s;
     x = F d;
     drive = subst (λ (y : ℕ). y < p .N) (sym place-d) dl;
-    zone = subst (λ (y : ℕ). y < p .Z) (sym place-z) zl;
-    at = subst (λ (y : ℕ). Off (itemsIn p u (placeDrive p (placeOf p d z (1 + o))) (placeZone p (placeOf p d z (1 + o)))) y (chunk s (F d))) (sym place-b)
-        (subst (λ (y : ℕ). Off (itemsIn p u y (placeZone p (placeOf p d z (1 + o)))) (suc o) (chunk s (F d))) (sym place-d)
-        (subst (λ (y : ℕ). Off (itemsIn p u d y) (suc o) (chunk s (F d))) (sym place-z) (on d dl)));
+    zone = subst (λ (y : ℕ). y < p .Z) (sym place-z) zone-low;
+    at = subst (λ (y : ℕ). Off (itemsIn p u (placeDrive p (placeOf p d (zoneOn z d) (1 + o))) (placeSegment p (placeOf p d (zoneOn z d) (1 + o)) .name)) y (chunk s (F d))) (sym place-b)
+        (subst (λ (y : ℕ). Off (itemsIn p u y (placeSegment p (placeOf p d (zoneOn z d) (1 + o)) .name)) (suc o) (chunk s (F d))) (sym place-d)
+        (subst (λ (y : Seg). Off (itemsIn p u d (y .name)) (suc o) (chunk s (F d))) (sym place-seg) (on d dl)));
     counts = cnt d dl (λ q. data-not-parity p s j q) .0;
-    same = cnt d dl (λ q. data-not-parity p s j q) .1 ∙ sym place-z;
+    same = cnt d dl (λ q. data-not-parity p s j q) .1 ∙ sym (ap (λ (y : Seg). y .name) place-seg);
     addr = e;
     floor = b;
   })
@@ -130,17 +131,23 @@ module _ (p : Params) (h : Ranged p) (g : Ghost) (u : View) (k : OnDrives p h g 
       o : ℕ
       o = offsetIn st i d
 
+      zone-low : zoneOn z d < p .Z
+      zone-low = zone-on-lt p z d zl
+
       within : 1 + o < capacity p
-      within = omega (arith, on d dl .0, zone-len p h g u k d z dl (omega (arith, dl, none?)) zl, zone-bytes p h g u k d z dl (omega (arith, dl, none?)) zl .low, pointer-is u d z)
+      within = omega (arith, on d dl .0, zone-len p h g u k d z dl (omega (arith, dl, none?)) zl, zone-bytes p h g u k d z dl (omega (arith, dl, none?)) zl .low, pointer-is u d (zoneOn z d))
 
-      place-d : placeDrive p (placeOf p d z (1 + o)) ≡ d
-      place-d = place-drive p d z (1 + o) zl within
+      place-d : placeDrive p (placeOf p d (zoneOn z d) (1 + o)) ≡ d
+      place-d = place-drive p d (zoneOn z d) (1 + o) zone-low within
 
-      place-z : placeZone p (placeOf p d z (1 + o)) ≡ z
-      place-z = place-zone p d z (1 + o) zl within
+      place-z : placeZone p (placeOf p d (zoneOn z d) (1 + o)) ≡ zoneOn z d
+      place-z = place-zone p d (zoneOn z d) (1 + o) zone-low within
 
-      place-b : placeBlock p (placeOf p d z (1 + o)) ≡ suc o
-      place-b = place-block p d z (1 + o) within ∙ (let w : 1 + o ≡ suc o = omega arith in w)
+      place-seg : placeSegment p (placeOf p d (zoneOn z d) (1 + o)) ≡ z
+      place-seg = place-segment-of p z d (1 + o) zl within
+
+      place-b : placeBlock p (placeOf p d (zoneOn z d) (1 + o)) ≡ suc o
+      place-b = place-block p d (zoneOn z d) (1 + o) within ∙ (let w : 1 + o ≡ suc o = omega arith in w)
 
   -- an old one, where the new floor is no higher
   old-entry : (q a : ℕ) (e : Entry p h g (itemsIn p u) q a) → base′ a ≤ e .x .stamp → Entry p h g′ (itemsIn p u) q a
@@ -237,8 +244,8 @@ module _ (p : Params) (h : Ranged p) (g : Ghost) (u : View) (k : OnDrives p h g 
             its-stamp : heldCand p u a (placeAt tb a) .stamp ≡ x .x .stamp
             its-stamp =
                 (let e : heldCand p u a (placeAt tb a) .stamp
-                ≡ recordAt p u 0 (placeDrive p (placeAt tb a)) (placeZone p (placeAt tb a)) (placeBlock p (placeAt tb a) - 1) .stamp = unfold
-                heldCand placeSegment in refl in e)
+                ≡ recordAt p u 0 (placeDrive p (placeAt tb a)) (placeSegment p (placeAt tb a)) (placeBlock p (placeAt tb a) - 1) .stamp = unfold
+                heldCand in refl in e)
                 ∙ entry-stamp p h g u k none? (placeAt tb a) a x
 
             its-place : heldCand p u a (placeAt tb a) .place ≡ placeAt tb a

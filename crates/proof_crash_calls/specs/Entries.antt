@@ -7,10 +7,11 @@ use native.Mathlib.Omega.{arith}
 use lib.ListN.{length, getD}
 use Rattle.spec.specs.declared.Params.{Params}
 use Rattle.spec.specs.Counts.{neverPlace}
-use Rattle.spec.specs.Drives.{noChunk, Zone, View, zoneAt, chunkAt, recordAt}
+use Rattle.spec.specs.Drives.{noChunk, Zone, View, zoneAt, chunkAt, Seg, zoneOn, placeSegment, recordAt}
 use Rattle.spec.specs.Layout.{recordOf}
 use Rattle.spec.specs.Params.{capacity, placeBlock, placeZone, placeDrive}
 use Rattle.law_basic.specs.Geometry.{Ranged, place-again, place-lt}
+use Rattle.law_basic.specs.Segs.{Named, place-segment-zone, place-segment-named}
 use Rattle.proof_crash_machine.specs.Facts.{Ghost, Off, None}
 use Rattle.proof_crash_machine.specs.Val.{Val}
 use Rattle.proof_crash_machine.specs.View.{Item}
@@ -27,19 +28,22 @@ module _ (p : Params) (h : Ranged p) (g : Ghost) (v : View) (k : OnDrives p h g 
   abbrev dd : ℕ
   dd = placeDrive p q
 
-  abbrev zz : ℕ
-  zz = placeZone p q
+  abbrev zz : Seg
+  zz = placeSegment p q
+
+  named : Named p (placeSegment p q)
+  named = place-segment-named p q (e .zone)
 
   trust : g .un dd ≡ false
   trust = none? dd (e .drive)
 
   abbrev zone : Zone
-  zone = zoneAt v (placeDrive p q) (placeZone p q)
+  zone = zoneAt v (placeDrive p q) (zoneOn (placeSegment p q) (placeDrive p q))
 
   entry-found : (o : ℕ) × (placeBlock p q ≡ suc o) × (o < p .S) × (suc o < zone .pointer) × (recordOf (getD (zone .blocks) (suc o) noChunk .spare) .stripe ≡ e .s)
       × (valueOf (getD (zone .blocks) (suc o) noChunk .block) (recordOf (getD (zone .blocks) (suc o) noChunk .spare)) ≡ e .x)
   entry-found =
-      of-chunk p zone (zone-pointer-low p h g v k dd zz (e .drive) trust (e .zone)) (placeBlock p q) (e .s) (e .x)
+      of-chunk p zone (zone-pointer-low p h g v k dd zz (e .drive) trust named) (placeBlock p q) (e .s) (e .x)
       (subst (λ (l : List Item). Off l (placeBlock p q) (chunk (e .s) (e .x))) (items-in p v dd zz) (e .at))
 
   pub entry-block : (1 ≤ placeBlock p q) × (placeBlock p q ≤ p .S)
@@ -49,18 +53,18 @@ module _ (p : Params) (h : Ranged p) (g : Ghost) (v : View) (k : OnDrives p h g 
   entry-within = omega (arith, entry-block .1, capacity-few p h)
 
   pub entry-low : q < neverPlace
-  entry-low = omega (arith, place-again p q, place-lt p dd zz (placeBlock p q) (e .drive) (e .zone) entry-within, places-many p h)
+  entry-low = omega (arith, place-again p q, place-lt p dd (placeZone p q) (placeBlock p q) (e .drive) (e .zone) entry-within, places-many p h)
 
   -- the block and the record there
-  pub entry-value : valueOf (chunkAt v (placeDrive p q) (placeZone p q) (placeBlock p q) .block) (recordAt p v 0 (placeDrive p q) (placeZone p q) (placeBlock p q - 1)) ≡ e .x
+  pub entry-value : valueOf (chunkAt v (placeDrive p q) (placeZone p q) (placeBlock p q) .block) (recordAt p v 0 (placeDrive p q) (placeSegment p q) (placeBlock p q - 1)) ≡ e .x
   unfolding chunkAt
   entry-value =
-      ap₂ valueOf (ap (λ (n : ℕ). getD (zone .blocks) n noChunk .block) (entry-found .1))
+      ap₂ valueOf (ap₂ (λ (y n : ℕ). getD (zoneAt v dd y .blocks) n noChunk .block) (sym (place-segment-zone p q)) (entry-found .1))
       (ap (recordAt p v 0 dd zz) (let i : placeBlock p q - 1 ≡ entry-found .0 = omega (arith, entry-found .1) in i)
-      ∙ record-of-spare p h g v k none? dd zz (entry-found .0) (e .drive) (e .zone) (entry-found .2)) ∙ entry-found .5
+      ∙ record-of-spare p h g v k none? dd zz (entry-found .0) (e .drive) named (entry-found .2)) ∙ entry-found .5
 
-  pub entry-stamp : recordAt p v 0 (placeDrive p q) (placeZone p q) (placeBlock p q - 1) .stamp ≡ e .x .stamp
-  entry-stamp = sym (value-stamp (chunkAt v dd zz (placeBlock p q) .block) (recordAt p v 0 dd zz (placeBlock p q - 1))) ∙ ap (λ (y : Val). y .stamp) entry-value
+  pub entry-stamp : recordAt p v 0 (placeDrive p q) (placeSegment p q) (placeBlock p q - 1) .stamp ≡ e .x .stamp
+  entry-stamp = sym (value-stamp (chunkAt v dd (placeZone p q) (placeBlock p q) .block) (recordAt p v 0 dd zz (placeBlock p q - 1))) ∙ ap (λ (y : Val). y .stamp) entry-value
 
   pub entry-long : length (chunkAt v (placeDrive p q) (placeZone p q) (placeBlock p q) .block) ≡ p .B
-  entry-long = k .shape .long dd zz (placeBlock p q) (e .drive) (e .zone) entry-within .0
+  entry-long = k .shape .long dd (placeZone p q) (placeBlock p q) (e .drive) (e .zone) entry-within .0

@@ -14,7 +14,7 @@ use Rattle.spec.specs.declared.Params.{Params}
 use Rattle.spec.specs.declared.State.{State}
 use Rattle.spec.specs.Calls.{Plan}
 use Rattle.spec.specs.Demands.{sendAt}
-use Rattle.spec.specs.Drives.{Zone, View, zoneAt, pointerAt, Store, putZone, storeView, storeAll, zoneOn}
+use Rattle.spec.specs.Drives.{Zone, View, zoneAt, pointerAt, Store, putZone, storeView, storeAll, Seg, seg, zoneOn}
 use Rattle.spec.specs.History.{Send, acknowledge, forget}
 use Rattle.spec.specs.Landing.{slotOf, completes, seals, flightRec, landedCands, pointed, sealStores, writesIn, landStore, landPlan}
 use Rattle.spec.specs.Layout.{parityDrive, dataDrive, Rec, recordBytes}
@@ -25,6 +25,7 @@ use Rattle.spec.specs.Params.{dataCount, footers, capacity, addressesLen, infli
 use Rattle.law_basic.specs.Geometry.{Ranged}
 use Rattle.law_basic.specs.Ranges.{Test, test, and-left, and-right, and-both, and-fails}
 use Rattle.law_basic.specs.Ranges.Test.{yes!, no! }
+use Rattle.law_basic.specs.Segs.{Named, zone-on-lt}
 use Rattle.law_drives.specs.Tests.{cond-true, cond-false}
 use Rattle.proof_crash_machine.specs.Exec.{or-either}
 use Rattle.proof_crash_machine.specs.Facts.{Ghost, InV, L, Counted, Off, Ragged, used, self-none, None}
@@ -131,8 +132,8 @@ module _ (p : Params) (h : Ranged p) (v : View) (m : Memory) (ss : List Send) (n
   abbrev M : Mem
   M = l .M
 
-  abbrev z : ℕ
-  z = l .M .zone
+  abbrev z : Seg
+  z = seg (l .M .zone)
 
   abbrev v₀ : ItemView
   v₀ = itemsIn p v
@@ -144,22 +145,22 @@ module _ (p : Params) (h : Ranged p) (v : View) (m : Memory) (ss : List Send) (n
   w = landPut p h v m ss n l fits d s A
 
   abbrev o : ℕ
-  o = pointerAt v d (l .M .zone) - 1
+  o = pointerAt v d (zoneOn (seg (l .M .zone)) d) - 1
 
   inv-land : Inv (parOf p h) (mst (l .g) (itemsIn p v) (l .a) (l .c) (run (l .M)))
   inv-land = live-inv p h v (m .state) (m .inflight) (m .addresses) ss n l
 
-  zin : z < p .Z
+  zin : Named p z
   zin = zone-in p h v m ss n l fits d s A
 
-  landed-items : itemsIn p u ≡ withItem v₀ d z (chunk s (M .F s d))
+  landed-items : itemsIn p u ≡ withItem v₀ d (z .name) (chunk s (M .F s d))
   landed-items = land-items p h v m ss n l fits d s A
 
-  from : 1 ≤ pointerAt v d z
-  from = subst (λ (x : ℕ). 1 ≤ pointerAt v d x) (land-zone p h v m ss n l fits d s A) (A .from)
+  from : 1 ≤ pointerAt v d (zoneOn z d)
+  from = subst (λ (x : Seg). 1 ≤ pointerAt v d (zoneOn x d)) (land-zone p h v m ss n l fits d s A) (A .from)
 
-  oe : suc o ≡ length (v₀ d z)
-  oe = let e : length (v₀ d z) ≡ pointerAt v d z = live-len p h v (m .state) (m .inflight) (m .addresses) ss n l d z (A .drive) zin in omega (arith, e, from)
+  oe : suc o ≡ length (v₀ d (z .name))
+  oe = let e : length (v₀ d (z .name)) ≡ pointerAt v d (zoneOn z d) = live-len p h v (m .state) (m .inflight) (m .addresses) ss n l d z (A .drive) zin in omega (arith, e, from)
 
   wide : landedIn st i < 2 ^ p .N
   wide = slots-ok p st (A .ok) i (A .low) .1
@@ -169,12 +170,11 @@ module _ (p : Params) (h : Ranged p) (v : View) (m : Memory) (ss : List Send) (n
 
   -- the state with the bit set
   abbrev st₁ : State
-  st₁ = markLanded (m .state) (slotOf (m .state) s) d (pointerAt v d (l .M .zone) - 1)
+  st₁ = markLanded (m .state) (slotOf (m .state) s) d (pointerAt v d (zoneOn (seg (l .M .zone)) d) - 1)
 
   -- ---- the plan's parts
   plan-o : pointerAt v d (zoneOn (openSegment st) d) - 1 ≡ o
-  unfolding zoneOn
-  plan-o = ap (λ (x : ℕ). pointerAt v d x - 1) (land-zone p h v m ss n l fits d s A)
+  plan-o = ap (λ (x : Seg). pointerAt v d (zoneOn x d) - 1) (land-zone p h v m ss n l fits d s A)
 
   -- all but the footers
   sound₁ : AllSound p v (w ∷ [])
@@ -202,7 +202,7 @@ module _ (p : Params) (h : Ranged p) (v : View) (m : Memory) (ss : List Send) (n
   drives-u = record { shape = shape-u; bytes = λ x b e. bytes-store p h v w (l .reached .shape) (land-sound p h v m ss n l fits d s A) x (l .reached .bytes x b e); facts = I₁ .facts }
 
   grew-u : Grown (parOf p h) v₀ (itemsIn p u)
-  grew-u = subst (λ (x : ItemView). Grown (parOf p h) v₀ x) (sym landed-items) (grown-put (parOf p h) v₀ d z (chunk s (M .F s d)) (omega (arith, oe)))
+  grew-u = subst (λ (x : ItemView). Grown (parOf p h) v₀ x) (sym landed-items) (grown-put (parOf p h) v₀ d (z .name) (chunk s (M .F s d)) (omega (arith, oe)))
 
   -- ---- not complete
 
@@ -224,10 +224,11 @@ module _ (p : Params) (h : Ranged p) (v : View) (m : Memory) (ss : List Send) (n
     abbrev st₂ : State
     st₂ = freeStripe st₁ i
 
-    all-on-u : (e : ℕ) → e < p .N → (x : Val) × InI (chunk s x) (itemsIn p u e z)
+    all-on-u : (e : ℕ) → e < p .N → (x : Val) × InI (chunk s x) (itemsIn p u e (z .name))
     all-on-u e el =
-        let k : (x : Val) × InI (chunk s x) (withItem v₀ d z (chunk s (M .F s d)) e z) = all-on p h v₀ st fl M (l .rel) d s i o (A .drive) (A .low) (A .used?) (A .number) oe wide done′ e el in
-        (k .0, subst (λ (x : ItemView). InI (chunk s (k .0)) (x e z)) (sym landed-items) (k .1))
+        let k : (x : Val) × InI (chunk s x) (withItem v₀ d (z .name) (chunk s (M .F s d)) e (z .name)) =
+        all-on p h v₀ st fl M (l .rel) d s i o (A .drive) (A .low) (A .used?) (A .number) oe wide done′ e el in
+        (k .0, subst (λ (x : ItemView). InI (chunk s (k .0)) (x e (z .name))) (sym landed-items) (k .1))
 
     abbrev g₂ : Ghost
     g₂ = withBase (l .g) (ackBase p h (l .g) (itemsIn p u) (l .a) (l .c) M (l .T) ss st s (land-flies p h v m ss n l fits d s A) all-on-u (l .waits) filled-most)
@@ -248,8 +249,8 @@ module _ (p : Params) (h : Ranged p) (v : View) (m : Memory) (ss : List Send) (n
     abbrev tb₂ : List ℕ
     tb₂ = pointed p u (m .addresses) (landedCands p u z st₁ i) (landedCands p u z st₁ i) (m .addresses)
 
-    bits : (e : ℕ) → e < p .N → Off (itemsIn p u e z) (suc (offsetIn st₁ i e)) (chunk s (M .F s e))
-    bits e el = subst (λ (x : ItemView). Off (x e z) (suc (offsetIn st₁ i e)) (chunk s (M .F s e))) (sym landed-items)
+    bits : (e : ℕ) → e < p .N → Off (itemsIn p u e (z .name)) (suc (offsetIn st₁ i e)) (chunk s (M .F s e))
+    bits e el = subst (λ (x : ItemView). Off (x e (z .name)) (suc (offsetIn st₁ i e)) (chunk s (M .F s e))) (sym landed-items)
         (bit-on p h v₀ st fl M (l .rel) d s i o (A .drive) (A .low) (A .used?) (A .number) oe wide e el
         (mask-full p h v₀ st fl M (l .rel) d s i o (A .drive) (A .low) (A .used?) (A .number) oe wide done′ e el))
 
@@ -277,26 +278,26 @@ module _ (p : Params) (h : Ranged p) (v : View) (m : Memory) (ss : List Send) (n
           ap (λ (x : Val). x .stamp) e ∙ value-stamp (slotBlock p fl i (dataDrive p s j)) (entryIn st i j) ∙ ap (λ (x : Rec). x .stamp) (sym f),
         )
 
-    landed-counts : (e : ℕ) → e < p .N → e ≢ parityDrive p s → (c : Counted (parOf p h) (l .g .hd) (itemsIn p u) (l .g .un) (M .F s e)) × (c .z ≡ z)
+    landed-counts : (e : ℕ) → e < p .N → e ≢ parityDrive p s → (c : Counted (parOf p h) (l .g .hd) (itemsIn p u) (l .g .un) (M .F s e)) × (c .z ≡ z .name)
     landed-counts e el np = (
       record {
-        z = z;
+        z = z .name;
         s = s;
         f = M .F s;
         rem = record {
           left = left;
           own =
-              λ x k q. pair-alone (sym (I₁ .facts .swap .one z x (used (parOf p h) (l .g) (itemsIn p u) (l .g .un) z (self-none (parOf p h) (l .g .un) none?) left)
+              λ x k q. pair-alone (sym (I₁ .facts .swap .one (z .name) x (used (parOf p h) (l .g) (itemsIn p u) (l .g .un) (z .name) (self-none (parOf p h) (l .g .un) none?) left)
               (used (parOf p h) (l .g) (itemsIn p u) (l .g .un) x (self-none (parOf p h) (l .g .un) none?) k) q)
               ∙ I₁ .mode .no-pair);
         };
-        st = record { on = λ x b k. off-in (itemsIn p u x z) (suc (offsetIn st₁ i x)) (chunk s (M .F s x)) (bits x b); word = land-flight p h v m ss n l fits d s A .2 .word };
+        st = record { on = λ x b k. off-in (itemsIn p u x (z .name)) (suc (offsetIn st₁ i x)) (chunk s (M .F s x)) (bits x b); word = land-flight p h v m ss n l fits d s A .2 .word };
         dt = record { d = e; lt = el; data? = apart-code p h s e np; val = refl };
       },
       refl,
     )
       where
-        left : L (parOf p h) (itemsIn p u) (l .g .un) z
+        left : L (parOf p h) (itemsIn p u) (l .g .un) (z .name)
         left = I₁ .mode .begun (land-open p h v m ss n l fits d s A)
 
     table₂ : TableOk p h g₂ (itemsIn p u) tb₂
@@ -373,52 +374,56 @@ module _ (p : Params) (h : Ranged p) (v : View) (m : Memory) (ss : List Send) (n
 
     -- ---- the last stripe: footers, and the segment is sealed
     module _ (last : seals p (m .state) (slotOf (m .state) s) d ≡ true) (ends : l .M .next ≡ p .S) (lone : (j : ℕ) → j < 8 → inUse (m .state) j ≡ true → j ≡ slotOf (m .state) s) where
-      room-u : (x : ℕ) → x < p .N → pointerAt v x z + cond (eqb x d) 1 0 ≤ suc (p .S)
+      room-u : (x : ℕ) → x < p .N → pointerAt v x (zoneOn z x) + cond (eqb x d) 1 0 ≤ suc (p .S)
       unfolding capacity
       room-u x b =
-          let k : pointerAt v x z + cond (eqb x d) 1 0 + footers p ≤ capacity p =
-          subst (λ (y : ℕ). pointerAt v x y + cond (eqb x d) 1 0 + footers p ≤ capacity p) (land-zone p h v m ss n l fits d s A)
+          let k : pointerAt v x (zoneOn z x) + cond (eqb x d) 1 0 + footers p ≤ capacity p =
+          subst (λ (y : Seg). pointerAt v x (zoneOn y x) + cond (eqb x d) 1 0 + footers p ≤ capacity p) (land-zone p h v m ss n l fits d s A)
           (A .room last x b) in
           omega (arith, k)
 
-      landed-pointer : (x : ℕ) → x < p .N → pointerAt u x z ≡ pointerAt v x z + cond (eqb x d) 1 0
+      landed-pointer : (x : ℕ) → x < p .N → pointerAt u x (zoneOn z x) ≡ pointerAt v x (zoneOn z x) + cond (eqb x d) 1 0
       landed-pointer x b = go (ℕ-discrete x d)
         where
-          go : Dec (x ≡ d) → pointerAt u x z ≡ pointerAt v x z + cond (eqb x d) 1 0
+          go : Dec (x ≡ d) → pointerAt u x (zoneOn z x) ≡ pointerAt v x (zoneOn z x) + cond (eqb x d) 1 0
           go (yes e) =
-              let k : pointerAt u d z ≡ suc (pointerAt v d z) = unfold pointerAt storeView putZone in
-              ap (λ (q : Zone). q .pointer) (zone-set-at p v (l .reached .shape) d z (putZone (slotBlock p fl i d) (recordBytes (flightRec p st i d)) (zoneAt v d z)) (A .drive) zin) in
+              let k : pointerAt u d (zoneOn z d) ≡ suc (pointerAt v d (zoneOn z d)) = unfold pointerAt storeView putZone in
+              ap (λ (q : Zone). q .pointer) (zone-set-at p v (l .reached .shape) d (zoneOn z d) (putZone (slotBlock p fl i d) (recordBytes (flightRec p st i d)) (zoneAt v d (zoneOn z d))) (A .drive)
+              (zone-on-lt p z d zin)) in
               let f : _≡_ {A = ℕ} (cond (eqb x d) 1 0) 1 = cond-true (eqb x d) 1 0 (eq-eqb x d e) in
-              let a : pointerAt u x z ≡ pointerAt u d z = ap (λ (y : ℕ). pointerAt u y z) e in
-              let c : pointerAt v x z ≡ pointerAt v d z = ap (λ (y : ℕ). pointerAt v y z) e in
+              let a : pointerAt u x (zoneOn z x) ≡ pointerAt u d (zoneOn z d) = ap (λ (y : ℕ). pointerAt u y (zoneOn z y)) e in
+              let c : pointerAt v x (zoneOn z x) ≡ pointerAt v d (zoneOn z d) = ap (λ (y : ℕ). pointerAt v y (zoneOn z y)) e in
               omega (arith, k, f, a, c)
           go (no e) =
-              let k : pointerAt u x z ≡ pointerAt v x z = unfold pointerAt storeView in
-              ap (λ (q : Zone). q .pointer) (zone-set-else p v (l .reached .shape) d z (putZone (slotBlock p fl i d) (recordBytes (flightRec p st i d)) (zoneAt v d z)) (A .drive) x z (inl e)) in
+              let k : pointerAt u x (zoneOn z x) ≡ pointerAt v x (zoneOn z x) = unfold pointerAt storeView in
+              ap (λ (q : Zone). q .pointer) (zone-set-else p v (l .reached .shape) d (zoneOn z d) (putZone (slotBlock p fl i d) (recordBytes (flightRec p st i d)) (zoneAt v d (zoneOn z d)))
+              (A .drive) x (zoneOn z x) (inl e)) in
               let f : _≡_ {A = ℕ} (cond (eqb x d) 1 0) 0 = cond-false (eqb x d) 1 0 (ne-eqb x d e) in
               omega (arith, k, f)
 
-      len-u : (x : ℕ) → x < p .N → length (itemsIn p u x z) ≡ pointerAt u x z
-      len-u x b = ap length (items-in p u x z) ∙ length-of p (zoneAt u x z) low-u ∙ (unfold pointerAt in refl)
+      len-u : (x : ℕ) → x < p .N → length (itemsIn p u x (z .name)) ≡ pointerAt u x (zoneOn z x)
+      len-u x b = ap length (items-in p u x z) ∙ length-of p (zoneAt u x (zoneOn z x)) low-u ∙ (unfold pointerAt in refl)
         where
-          low-u : zoneAt u x z .pointer ≤ length (zoneAt u x z .blocks)
+          low-u : zoneAt u x (zoneOn z x) .pointer ≤ length (zoneAt u x (zoneOn z x) .blocks)
           low-u =
-              let k : zoneAt u x z .pointer ≡ pointerAt v x z + cond (eqb x d) 1 0 = unfold pointerAt in landed-pointer x b in omega (arith, k, room-u x b, capacity-few p h, shape-u .blocks x z b zin)
+              let k : zoneAt u x (zoneOn z x) .pointer ≡ pointerAt v x (zoneOn z x) + cond (eqb x d) 1 0 = unfold pointerAt in landed-pointer x b in
+              omega (arith, k, room-u x b, capacity-few p h, shape-u .blocks x (zoneOn z x) b (zone-on-lt p z x zin))
 
       -- every stripe is on every drive
-      every : (x : ℕ) → x < p .N → (t : ℕ) → t < p .S → (y : Val) × InI (chunk t y) (itemsIn p u x z)
+      every : (x : ℕ) → x < p .N → (t : ℕ) → t < p .S → (y : Val) × InI (chunk t y) (itemsIn p u x (z .name))
       every x b t tl = go (ℕ-discrete t s)
         where
-          go : Dec (t ≡ s) → (y : Val) × InI (chunk t y) (itemsIn p u x z)
-          go (yes e) = let k : (y : Val) × InI (chunk s y) (itemsIn p u x z) = all-on-u x b in (k .0, subst (λ (r : ℕ). InI (chunk r (k .0)) (itemsIn p u x z)) (sym e) (k .1))
+          go : Dec (t ≡ s) → (y : Val) × InI (chunk t y) (itemsIn p u x (z .name))
+          go (yes e) = let k : (y : Val) × InI (chunk s y) (itemsIn p u x (z .name)) = all-on-u x b in (k .0, subst (λ (r : ℕ). InI (chunk r (k .0)) (itemsIn p u x (z .name))) (sym e) (k .1))
           go (no e) =
               let f : M .fly t ≡ false = sym (setAt-else (M .fly) s false t e) ∙ sealed-idle p h v₀ st fl M (l .rel) d s i o (A .drive) (A .low) (A .used?) (A .number) oe wide done′ lone t in
-              let k : (y : Val) × InI (chunk t y) (v₀ x z) = l .rel .whole (land-open p h v m ss n l fits d s A) t (omega (arith, tl, ends)) f x b in
-              (k .0, subst (λ (r : ItemView). InI (chunk t (k .0)) (r x z)) (sym landed-items) (in-fwd v₀ d z (chunk s (M .F s d)) (chunk t (k .0)) x z (k .1)))
+              let k : (y : Val) × InI (chunk t y) (v₀ x (z .name)) = l .rel .whole (land-open p h v m ss n l fits d s A) t (omega (arith, tl, ends)) f x b in
+              (k .0, subst (λ (r : ItemView). InI (chunk t (k .0)) (r x (z .name))) (sym landed-items) (in-fwd v₀ d (z .name) (chunk s (M .F s d)) (chunk t (k .0)) x (z .name) (k .1)))
 
-      at-end : (x : ℕ) → x < p .N → pointerAt u x z ≡ suc (p .S)
+      at-end : (x : ℕ) → x < p .N → pointerAt u x (zoneOn z x) ≡ suc (p .S)
       at-end x b =
-          let k : p .S < length (itemsIn p u x z) = all-stripes (parOf p h) (l .g) x z (itemsIn p u x z) (I₁ .facts .zones x z (b, live-trust p h v (m .state) (m .inflight) (m .addresses) ss n l x b))
+          let k : p .S < length (itemsIn p u x (z .name)) =
+          all-stripes (parOf p h) (l .g) x (z .name) (itemsIn p u x (z .name)) (I₁ .facts .zones x (z .name) (b, live-trust p h v (m .state) (m .inflight) (m .addresses) ss n l x b))
           (I₁ .mode .begun (land-open p h v m ss n l fits d s A) x b (live-trust p h v (m .state) (m .inflight) (m .addresses) ss n l x b)) (every x b) in
           omega (arith, k, len-u x b, landed-pointer x b, room-u x b)
 
@@ -447,9 +452,9 @@ module _ (p : Params) (h : Ranged p) (v : View) (m : Memory) (ss : List Send) (n
 
       none-ragged : (y : ℕ) → Ragged (parOf p h) (g₂ .un) (itemsIn p u₃) y → ⊥
       none-ragged y (x, t, a, b) =
-          let e : y ≡ z = I₃ .mode .lone y (x, t, a, b) .1 in
-          let k : length (itemsIn p u₃ x z) ≡ capacity p = footed-full p h z zin u at-end every g₂ a₂ (l .c) (ended M s) u₃ (chain g₂ a₂ (ended M s) .1) x (t .0) in
-          let f : length (itemsIn p u₃ x y) ≡ length (itemsIn p u₃ x z) = ap (λ (q : ℕ). length (itemsIn p u₃ x q)) e in
+          let e : y ≡ z .name = I₃ .mode .lone y (x, t, a, b) .1 in
+          let k : length (itemsIn p u₃ x (z .name)) ≡ capacity p = footed-full p h z zin u at-end every g₂ a₂ (l .c) (ended M s) u₃ (chain g₂ a₂ (ended M s) .1) x (t .0) in
+          let f : length (itemsIn p u₃ x y) ≡ length (itemsIn p u₃ x (z .name)) = ap (λ (q : ℕ). length (itemsIn p u₃ x q)) e in
           let q : ⊥ = omega (arith, b, k, f) in q
 
       live-seal : (x : Live p h (storeAll storeView (w ∷ fs) v) (setClosed st₂) fl tb₂ (landSends p st d s ss) n) × Later (l .g) (x .g)
@@ -515,7 +520,7 @@ module _ (p : Params) (h : Ranged p) (v : View) (m : Memory) (ss : List Send) (n
   stores-all-of : seals p st i d ≡ true → q .stores ≡ w ∷ sealStores p u z
   stores-all-of e = land-plan-stores ∙ ap₂ (λ (x : Store) (y : List Store). x ∷ y) (land-store-is p h v m ss n l fits d s A)
       (cond-true (seals p st i d) (sealStores p (storeView (landStore p v m d s) v) (openSegment st)) [] e
-      ∙ ap₂ (λ (x : Store) (y : ℕ). sealStores p (storeView x v) y) (land-store-is p h v m ss n l fits d s A) same-seg)
+      ∙ ap₂ (λ (x : Store) (y : Seg). sealStores p (storeView x v) y) (land-store-is p h v m ss n l fits d s A) same-seg)
 
   state-part : completes p st i d ≡ false → seals p st i d ≡ false → q .memory .state ≡ st₁
   state-part e f = plan-state

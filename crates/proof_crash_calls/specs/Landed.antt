@@ -11,7 +11,7 @@ use lib.ListN.{length}
 use Rattle.spec.specs.declared.Params.{Params}
 use Rattle.spec.specs.declared.State.{State}
 use Rattle.spec.specs.Calls.{firstRefusal}
-use Rattle.spec.specs.Drives.{View, zoneAt, pointerAt, Store, storeView, zoneOn}
+use Rattle.spec.specs.Drives.{View, zoneAt, pointerAt, Store, storeView, Seg, seg, zoneOn}
 use Rattle.spec.specs.Drives.Store.{put}
 use Rattle.spec.specs.History.{Send}
 use Rattle.spec.specs.Landing.{slotOf, ready, waiting, completes, seals, flightRec, misplaced, overfull, entryFaults, landFaults, landChecks, landStore}
@@ -24,6 +24,7 @@ use Rattle.spec.specs.Parity.{parityRec}
 use Rattle.law_basic.specs.Geometry.{between-low, between-high, Ranged, position-drive, drive-is-data, data-drive-lt}
 use Rattle.law_basic.specs.Ranges.{and-left, and-right, and-fails}
 use Rattle.law_drives.specs.Members.{if-none}
+use Rattle.law_basic.specs.Segs.{Named, seg-named, zone-on-lt}
 use Rattle.law_drives.specs.Tests.{cond-true, cond-false}
 use Rattle.law_drives.specs.Slots.{slot-found}
 use Rattle.law_checks.specs.Passed.{land-passed}
@@ -63,10 +64,10 @@ pub record LandAsked (p : Params) (v : View) (st : State) (d s : ℕ) : Type 0 w
   pub fresh : isIn (landedIn st (slotOf st s)) d ≡ false
   pub may : readyAt p s (filledIn st (slotOf st s)) d ≡ true
   pub ok : stateOk p st ≡ true
-  pub from : 1 ≤ pointerAt v d (openSegment st)
-  pub to : pointerAt v d (openSegment st) ≤ p .S
-  pub group? : group p (pointerAt v d (openSegment st) - 1) ≡ group p s
-  pub room : seals p st (slotOf st s) d ≡ true → (e : ℕ) → e < p .N → pointerAt v e (openSegment st) + cond (eqb e d) 1 0 + footers p ≤ capacity p
+  pub from : 1 ≤ pointerAt v d (zoneOn (openSegment st) d)
+  pub to : pointerAt v d (zoneOn (openSegment st) d) ≤ p .S
+  pub group? : group p (pointerAt v d (zoneOn (openSegment st) d) - 1) ≡ group p s
+  pub room : seals p st (slotOf st s) d ≡ true → (e : ℕ) → e < p .N → pointerAt v e (zoneOn (openSegment st) e) + cond (eqb e d) 1 0 + footers p ≤ capacity p
 
 slot-of : (st : State) (s : ℕ) → slotOf st s < 8 → (inUse st (slotOf st s) ≡ true) × (stripeIn st (slotOf st s) ≡ s)
 unfolding slotOf inUse
@@ -94,11 +95,11 @@ placed-well p v d z s e =
       eqb-true (group p (pointerAt v d z - 1)) (group p s) (and-right (between 1 (p .S) (pointerAt v d z)) (eqb (group p (pointerAt v d z - 1)) (group p s)) q),
     )
 
-room-of : (p : Params) (v : View) (d z : ℕ) → overfull p v d z ≡ false → (e : ℕ) → e < p .N → pointerAt v e z + cond (eqb e d) 1 0 + footers p ≤ capacity p
-unfolding overfull zoneOn drivesOf
+room-of : (p : Params) (v : View) (d : ℕ) (z : Seg) → overfull p v d z ≡ false → (e : ℕ) → e < p .N → pointerAt v e (zoneOn z e) + cond (eqb e d) 1 0 + footers p ≤ capacity p
+unfolding overfull drivesOf
 room-of p v d z q e l =
-    ltb-false (capacity p) (pointerAt v e z + cond (eqb e d) 1 0 + footers p)
-    (any-false-in (λ e. ltb (capacity p) (pointerAt v e z + cond (eqb e d) 1 0 + footers p)) (below (p .N)) q e (has-below e (p .N) l))
+    ltb-false (capacity p) (pointerAt v e (zoneOn z e) + cond (eqb e d) 1 0 + footers p)
+    (any-false-in (λ e. ltb (capacity p) (pointerAt v e (zoneOn z e) + cond (eqb e d) 1 0 + footers p)) (below (p .N)) q e (has-below e (p .N) l))
 
 pub land-asked : (p : Params) (long : Bool) (v : View) (m : Memory) (d s : ℕ) → firstRefusal (landChecks p long v m d s) ≡ none → LandAsked p v (m .state) d s
 land-asked p long v m d s e =
@@ -109,8 +110,9 @@ land-asked p long v m d s e =
     let i : slotOf st s < 8 = ltb-true (slotOf st s) 8 (and-right (ltb d (p .N)) (ltb (slotOf st s) 8) x) in
     let r : (isIn (landedIn st (slotOf st s)) d ≡ false) × (readyAt p (stripeIn st (slotOf st s)) (filledIn st (slotOf st s)) d ≡ true) =
     ready-parts p st (slotOf st s) d (and-right (ltb d (p .N) && ltb (slotOf st s) 8) (ready p st (slotOf st s) d) w) in
-    let g : (misplaced p v d (openSegment st) s ≡ false) × ((seals p st (slotOf st s) d && overfull p v d (openSegment st)) ≡ false) = faults (c .chunk-fine) in
-    let z : (1 ≤ pointerAt v d (openSegment st)) × (pointerAt v d (openSegment st) ≤ p .S) × (group p (pointerAt v d (openSegment st) - 1) ≡ group p s) = placed-well p v d (openSegment st) s (g .0) in
+    let g : (misplaced p v d (zoneOn (openSegment st) d) s ≡ false) × ((seals p st (slotOf st s) d && overfull p v d (openSegment st)) ≡ false) = faults (c .chunk-fine) in
+    let z : (1 ≤ pointerAt v d (zoneOn (openSegment st) d)) × (pointerAt v d (zoneOn (openSegment st) d) ≤ p .S) × (group p (pointerAt v d (zoneOn (openSegment st) d) - 1) ≡ group p s) =
+    placed-well p v d (zoneOn (openSegment st) d) s (g .0) in
     let o : (inUse st (slotOf st s) ≡ true) × (stripeIn st (slotOf st s) ≡ s) = slot-of st s i in
     record {
       drive = ltb-true d (p .N) (and-left (ltb d (p .N)) (ltb (slotOf st s) 8) x);
@@ -129,14 +131,15 @@ land-asked p long v m d s e =
     waits : waiting p (m .state) d s ≡ true → ((ltb d (p .N) && ltb (slotOf (m .state) s) 8) && ready p (m .state) (slotOf (m .state) s) d) ≡ true
     waits x = unfold waiting slotCount in x
 
-    faults : landFaults p v m d s ≡ [] → (misplaced p v d (openSegment (m .state)) s ≡ false) × ((seals p (m .state) (slotOf (m .state) s) d && overfull p v d (openSegment (m .state))) ≡ false)
-    faults x = unfold landFaults zoneOn in
+    faults : landFaults p v m d s ≡ []
+        → (misplaced p v d (zoneOn (openSegment (m .state)) d) s ≡ false) × ((seals p (m .state) (slotOf (m .state) s) d && overfull p v d (openSegment (m .state))) ≡ false)
+    faults x = unfold landFaults in
         let zs : List ℕ = cond (completes p (m .state) (slotOf (m .state) s) d) (flat (entryFaults p v (m .addresses)) (entriesIn (m .state) (slotOf (m .state) s))) [] in
-        let a : (misplaced p v d (openSegment (m .state)) s ≡ false)
-        × (consIf (seals p (m .state) (slotOf (m .state) s) d && overfull p v d (openSegment (m .state))) (openSegment (m .state)) zs ≡ []) =
-        if-none (misplaced p v d (openSegment (m .state)) s) (openSegment (m .state))
-        (consIf (seals p (m .state) (slotOf (m .state) s) d && overfull p v d (openSegment (m .state))) (openSegment (m .state)) zs) x in
-        (a .0, if-none (seals p (m .state) (slotOf (m .state) s) d && overfull p v d (openSegment (m .state))) (openSegment (m .state)) zs (a .1) .0)
+        let a : (misplaced p v d (zoneOn (openSegment (m .state)) d) s ≡ false)
+        × (consIf (seals p (m .state) (slotOf (m .state) s) d && overfull p v d (openSegment (m .state))) (zoneOn (openSegment (m .state)) d) zs ≡ []) =
+        if-none (misplaced p v d (zoneOn (openSegment (m .state)) d) s) (zoneOn (openSegment (m .state)) d)
+        (consIf (seals p (m .state) (slotOf (m .state) s) d && overfull p v d (openSegment (m .state))) (zoneOn (openSegment (m .state)) d) zs) x in
+        (a .0, if-none (seals p (m .state) (slotOf (m .state) s) d && overfull p v d (openSegment (m .state))) (zoneOn (openSegment (m .state)) d) zs (a .1) .0)
 
 -- ---- the chunk
 
@@ -154,15 +157,15 @@ module _ (p : Params) (h : Ranged p) (v : View) (m : Memory) (ss : List Send) (n
   abbrev M : Mem
   M = l .M
 
-  abbrev z : ℕ
-  z = l .M .zone
+  abbrev z : Seg
+  z = seg (l .M .zone)
 
   inv-landed : Inv (parOf p h) (mst (l .g) (itemsIn p v) (l .a) (l .c) (run (l .M)))
   inv-landed = live-inv p h v (m .state) (m .inflight) (m .addresses) ss n l
 
   -- the stripe of the eighth is s
   pub land-slot : SlotOf p (itemsIn p v) (m .state) (m .inflight) (l .M .zone) (slotOf (m .state) s) (l .M .F s) (l .M .ready s)
-  land-slot = subst (λ (x : ℕ). SlotOf p (itemsIn p v) st fl z i (M .F x) (M .ready x)) (A .number) (l .rel .slot i (A .low) (A .used?))
+  land-slot = subst (λ (x : ℕ). SlotOf p (itemsIn p v) st fl (z .name) i (M .F x) (M .ready x)) (A .number) (l .rel .slot i (A .low) (A .used?))
 
   pub land-flies : l .M .fly s ≡ true
   land-flies = subst (λ (x : ℕ). M .fly x ≡ true) (A .number) (l .rel .flying i (A .low) (A .used?))
@@ -173,18 +176,18 @@ module _ (p : Params) (h : Ranged p) (v : View) (m : Memory) (ss : List Send) (n
   pub land-open : l .M .is-open ≡ true
   land-open = land-flight .0
 
-  pub land-zone : openSegment (m .state) ≡ l .M .zone
+  pub land-zone : openSegment (m .state) ≡ seg (l .M .zone)
   unfolding openSegment
-  land-zone = let e : m .state .opened ≡ suc (l .M .zone) = l .rel .zone land-open in omega arith
+  land-zone = ap seg (let e : m .state .opened ≡ suc (l .M .zone) = l .rel .zone land-open in let i : m .state .opened - 1 ≡ l .M .zone = omega arith in i)
 
-  pub zone-in : l .M .zone < p .Z
-  zone-in = omega (arith, l .rel .zone land-open, opened-low p st (A .ok))
+  pub zone-in : Named p (seg (l .M .zone))
+  zone-in = seg-named p (l .M .zone) (omega (arith, l .rel .zone land-open, opened-low p st (A .ok)))
 
-  from : 1 ≤ pointerAt v d z
-  from = subst (λ (x : ℕ). 1 ≤ pointerAt v d x) land-zone (A .from)
+  from : 1 ≤ pointerAt v d (zoneOn z d)
+  from = subst (λ (x : Seg). 1 ≤ pointerAt v d (zoneOn x d)) land-zone (A .from)
 
-  to : pointerAt v d z ≤ p .S
-  to = subst (λ (x : ℕ). pointerAt v d x ≤ p .S) land-zone (A .to)
+  to : pointerAt v d (zoneOn z d) ≤ p .S
+  to = subst (λ (x : Seg). pointerAt v d (zoneOn x d) ≤ p .S) land-zone (A .to)
 
   may : M .ready s d ≡ true
   may = subst (λ (x : ℕ). M .ready s d ≡ readyAt p x (filledIn st i) d) (A .number) (land-slot .may d (A .drive)) ∙ A .may
@@ -251,7 +254,7 @@ module _ (p : Params) (h : Ranged p) (v : View) (m : Memory) (ss : List Send) (n
   chunk-parity e = subst ChunkIs (sym is) (record {
     val = ap (λ (x : ℕ). valueOf (slotBlock p fl i x) (parityRec s (map (entryIn st i) (below (filledIn st i))))) e
         ∙ subst (λ (x : ℕ). valueOf (slotBlock p fl i (parityDrive p x)) (parityRec x (map (entryIn st i) (below (filledIn st i)))) ≡ M .F s (parityDrive p x)) (A .number)
-        (parity-is p h (λ e. itemsIn p v e z) (slotBlock p fl i) (entryIn st i) (offsetIn st i) (stripeIn st i) (filledIn st i) (landedIn st i) (M .F s) (M .ready s) land-slot
+        (parity-is p h (λ e. itemsIn p v e (z .name)) (slotBlock p fl i) (entryIn st i) (offsetIn st i) (stripeIn st i) (filledIn st i) (landedIn st i) (M .F s) (M .ready s) land-slot
         (λ x b. inflight-block-long p fl fits i x (A .low) b) full (code-word p h s (M .F s) (land-flight .2 .word)))
         ∙ ap (M .F s) (sym e);
     stripe = unfold parityRec in refl;
@@ -278,30 +281,30 @@ module _ (p : Params) (h : Ranged p) (v : View) (m : Memory) (ss : List Send) (n
 
   -- what is put, and where
   abbrev pub landPut : Store
-  landPut = put d (l .M .zone) (slotBlock p (m .inflight) (slotOf (m .state) s) d) (recordBytes (flightRec p (m .state) (slotOf (m .state) s) d))
+  landPut = put d (zoneOn (seg (l .M .zone)) d) (slotBlock p (m .inflight) (slotOf (m .state) s) d) (recordBytes (flightRec p (m .state) (slotOf (m .state) s) d))
 
   pub land-store-is : landStore p v m d s ≡ landPut
-  unfolding landStore zoneOn
-  land-store-is = ap (λ (x : ℕ). put d x (slotBlock p fl i d) (recordBytes (flightRec p st i d))) land-zone
+  unfolding landStore
+  land-store-is = ap (λ (x : Seg). put d (zoneOn x d) (slotBlock p fl i d) (recordBytes (flightRec p st i d))) land-zone
 
   abbrev at-o : ℕ
-  at-o = pointerAt v d (l .M .zone) - 1
+  at-o = pointerAt v d (zoneOn (seg (l .M .zone)) d) - 1
 
-  landed-kind : Kind p d z (zoneAt v d z) (slotBlock p fl i d) (recordBytes (flightRec p st i d))
+  landed-kind : Kind p d (zoneOn z d) (zoneAt v d (zoneOn z d)) (slotBlock p fl i d) (recordBytes (flightRec p st i d))
   landed-kind = datum at-o (slotBlock p fl i d) (flightRec p st i d) at (let b : at-o < p .S = omega (arith, from, to) in b) (inflight-block-long p fl fits i d (A .low) (A .drive)) (chunk-is .wide)
     where
-      at : zoneAt v d z .pointer ≡ suc at-o
-      at = unfold pointerAt in (let e : pointerAt v d z ≡ suc (pointerAt v d z - 1) = omega (arith, from) in e)
+      at : zoneAt v d (zoneOn z d) .pointer ≡ suc at-o
+      at = unfold pointerAt in (let e : pointerAt v d (zoneOn z d) ≡ suc (pointerAt v d (zoneOn z d) - 1) = omega (arith, from) in e)
 
   pub land-sound : Sound p v landPut
-  land-sound = (A .drive, zone-in, landed-kind)
+  land-sound = (A .drive, zone-on-lt p z d zone-in, landed-kind)
 
-  landed-item : storeItem p v landPut ≡ m-put d z (chunk s (M .F s d))
+  landed-item : storeItem p v landPut ≡ m-put d (z .name) (chunk s (M .F s d))
   unfolding landed-kind
-  landed-item = store-put p v d z (slotBlock p fl i d) (recordBytes (flightRec p st i d)) landed-kind ∙ same
+  landed-item = store-put p v d z (slotBlock p fl i d) (recordBytes (flightRec p st i d)) zone-in landed-kind ∙ same
     where
-      same : m-put d z (kindItem p d z (zoneAt v d z) (slotBlock p fl i d) (recordBytes (flightRec p st i d)) landed-kind) ≡ m-put d z (chunk s (M .F s d))
-      same = unfold kindItem in ap₂ (λ (x : ℕ) (y : Val). m-put d z (chunk x y)) (chunk-is .stripe) (chunk-is .val)
+      same : m-put d (z .name) (kindItem p d z (zoneAt v d (zoneOn z d)) (slotBlock p fl i d) (recordBytes (flightRec p st i d)) landed-kind) ≡ m-put d (z .name) (chunk s (M .F s d))
+      same = unfold kindItem in ap₂ (λ (x : ℕ) (y : Val). m-put d (z .name) (chunk x y)) (chunk-is .stripe) (chunk-is .val)
 
   -- the drives afterwards
   abbrev pub landView : View
@@ -310,16 +313,16 @@ module _ (p : Params) (h : Ranged p) (v : View) (m : Memory) (ss : List Send) (n
   pub land-items : itemsIn p landView ≡ withItem (itemsIn p v) d (l .M .zone) (chunk s (l .M .F s d))
   land-items = items-store p v landPut (l .reached .shape) (sound-fits p h v landPut (l .reached .shape) land-sound) ∙ ap (apply (itemsIn p v)) landed-item ∙ (unfold apply in refl)
 
-  landed-length : length (itemsIn p v d z) ≡ pointerAt v d z
+  landed-length : length (itemsIn p v d (z .name)) ≡ pointerAt v d (zoneOn z d)
   landed-length = live-len p h v (m .state) (m .inflight) (m .addresses) ss n l d z (A .drive) zone-in
 
   pub land-step : (T : Track) → Go (parOf p h) (mst (l .g) (itemsIn p v) (l .a) (l .c) (run (l .M))) (mst (l .g) (itemsIn p landView) (l .a) (l .c) (run (l .M))) T T
   land-step T =
-      go-view (parOf p h) (mst (l .g) (itemsIn p v) (l .a) (l .c) (run (l .M))) (l .g) (withItem (itemsIn p v) d z (chunk s (M .F s d)))
+      go-view (parOf p h) (mst (l .g) (itemsIn p v) (l .a) (l .c) (run (l .M))) (l .g) (withItem (itemsIn p v) d (z .name) (chunk s (M .F s d)))
       (itemsIn p landView) (l .a) (l .c) (run (l .M)) T T (sym land-items)
-      (go-step (parOf p h) (mst (l .g) (itemsIn p v) (l .a) (l .c) (run (l .M))) (mst (l .g) (withItem (itemsIn p v) d z (chunk s (M .F s d))) (l .a) (l .c) (run (l .M))) T
+      (go-step (parOf p h) (mst (l .g) (itemsIn p v) (l .a) (l .c) (run (l .M))) (mst (l .g) (withItem (itemsIn p v) d (z .name) (chunk s (M .F s d))) (l .a) (l .c) (run (l .M))) T
       (m-land (mst (l .g) (itemsIn p v) (l .a) (l .c) (run (l .M))) M d s refl (A .drive) land-flies
-      (λ x k. land-slot .out d (A .drive) (A .fresh) x (subst (λ (y : ℕ). InI (chunk y x) (itemsIn p v d z)) (sym (A .number)) k)) may
-      (λ k e. let f : pointerAt v d z ≡ suc k = sym landed-length ∙ e in
-      let o : pointerAt v d z - 1 ≡ k = omega (arith, f) in
-      (omega (arith, f, to), sym (ap (λ (x : ℕ). group p (pointerAt v d x - 1)) (sym land-zone) ∙ A .group?) ∙ ap (group p) o))))
+      (λ x k. land-slot .out d (A .drive) (A .fresh) x (subst (λ (y : ℕ). InI (chunk y x) (itemsIn p v d (z .name))) (sym (A .number)) k)) may
+      (λ k e. let f : pointerAt v d (zoneOn z d) ≡ suc k = sym landed-length ∙ e in
+      let o : pointerAt v d (zoneOn z d) - 1 ≡ k = omega (arith, f) in
+      (omega (arith, f, to), sym (ap (λ (x : Seg). group p (pointerAt v d (zoneOn x d) - 1)) (sym land-zone) ∙ A .group?) ∙ ap (group p) o))))

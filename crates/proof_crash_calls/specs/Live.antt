@@ -9,9 +9,10 @@ use Rattle.spec.specs.declared.Params.{Params}
 use Rattle.spec.specs.declared.State.{State}
 use Rattle.spec.specs.Calls.{Plan}
 use Rattle.spec.specs.Demands.{sendAt}
-use Rattle.spec.specs.Drives.{View, pointerAt, Store, storeView, storeAll}
+use Rattle.spec.specs.Drives.{View, pointerAt, Store, storeView, storeAll, Seg, zoneOn}
 use Rattle.spec.specs.History.{Send, forget}
 use Rattle.law_basic.specs.Geometry.{Ranged}
+use Rattle.law_basic.specs.Segs.{Named}
 use Rattle.proof_crash_machine.specs.Facts.{Ghost, InV, None}
 use Rattle.proof_crash_machine.specs.History.{Mode, State as m-State, Inv}
 use Rattle.proof_crash_machine.specs.History.Mode.{off, run}
@@ -86,7 +87,7 @@ module _ (p : Params) (h : Ranged p) (v : View) (st : State) (fl tb : List ℕ) 
   pub live-trust : (d : ℕ) → d < p .N → l .g .un d ≡ false
   live-trust d b = live-none d b
 
-  pub live-len : (d z : ℕ) → d < p .N → z < p .Z → length (itemsIn p v d z) ≡ pointerAt v d z
+  pub live-len : (d : ℕ) (z : Seg) → d < p .N → Named p z → length (itemsIn p v d (z .name)) ≡ pointerAt v d (zoneOn z d)
   live-len d z b k = zone-len p h (l .g) v live-drives d z b (live-trust d b) k
 
   -- the stores of a call, all of them

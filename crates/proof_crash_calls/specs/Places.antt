@@ -10,7 +10,7 @@ use lib.Dec.{eqb}
 use lib.ListN.{getD}
 use Rattle.spec.specs.declared.Params.{Params}
 use Rattle.spec.specs.Counts.{neverPlace}
-use Rattle.spec.specs.Drives.{noChunk, Zone, View, zoneAt, chunkAt, zoneOn, sealedIn, recordIn, recordAt}
+use Rattle.spec.specs.Drives.{noChunk, Zone, View, zoneAt, chunkAt, Seg, zoneOn, placeSegment, sealedIn, recordIn, recordAt}
 use Rattle.spec.specs.Layout.{recordOf}
 use Rattle.spec.specs.Lists.Opt.{none, some}
 use Rattle.spec.specs.Lists.{isIn}
@@ -20,6 +20,7 @@ use Rattle.spec.specs.Parity.{mkPiece}
 use Rattle.spec.specs.Rank.{Cand, best, placeOr, candsOf}
 use Rattle.spec.specs.Segments.{segmentOf, segments, offsetOn, hasChunk, offsetOf, candOf, candidates, addressTable}
 use Rattle.law_basic.specs.Geometry.{Ranged, place-block, place-zone, place-drive, place-again, place-lt}
+use Rattle.law_basic.specs.Segs.{Named, zone-on-lt, place-segment-of}
 use Rattle.law_drives.specs.Tables.{place-at}
 use Rattle.law_drives.specs.Tests.{cond-false}
 use Rattle.law_basic.specs.Mask.{isIn-empty}
@@ -74,22 +75,22 @@ module _ (p : Params) (h : Ranged p) (g : Ghost) (v : View) (k : OnDrives p h g 
   not-m d l = isIn-empty d
 
   -- the record at an offset, sealed or not
-  pub record-of-spare : (d z o : ℕ) → d < p .N → z < p .Z → o < p .S → recordAt p v 0 d z o ≡ recordOf (blockIn (zoneAt v d z) (suc o) .spare)
-  unfolding recordAt zoneOn
+  pub record-of-spare : (d : ℕ) (z : Seg) (o : ℕ) → d < p .N → Named p z → o < p .S → recordAt p v 0 d z o ≡ recordOf (blockIn (zoneAt v d (zoneOn z d)) (suc o) .spare)
+  unfolding recordAt
   record-of-spare d z o l b ol = go (sealedIn p v 0 z) refl
     where
-      zone-shape : ZoneShape p (zoneAt v d z)
-      zone-shape = shape-zone p v (k .shape) d z l b
+      zone-shape : ZoneShape p (zoneAt v d (zoneOn z d))
+      zone-shape = shape-zone p v (k .shape) d (zoneOn z d) l (zone-on-lt p z d b)
 
-      spare : recordIn p false (zoneAt v d z) o ≡ recordOf (blockIn (zoneAt v d z) (suc o) .spare)
-      spare = unfold recordIn in ap (λ (i : ℕ). recordOf (getD (zoneAt v d z .blocks) i noChunk .spare)) (let i : 1 + o ≡ suc o = omega arith in i)
+      spare : recordIn p false (zoneAt v d (zoneOn z d)) o ≡ recordOf (blockIn (zoneAt v d (zoneOn z d)) (suc o) .spare)
+      spare = unfold recordIn in ap (λ (i : ℕ). recordOf (getD (zoneAt v d (zoneOn z d) .blocks) i noChunk .spare)) (let i : 1 + o ≡ suc o = omega arith in i)
 
-      full : sealedIn p v 0 z ≡ true → zoneAt v d z .pointer ≡ capacity p
-      full e = pointer-is v d z ∙ sealed-at-capacity p h g v k 0 choice-none z d e l (not-m d l)
+      full : sealedIn p v 0 z ≡ true → zoneAt v d (zoneOn z d) .pointer ≡ capacity p
+      full e = pointer-is v d (zoneOn z d) ∙ sealed-at-capacity p h g v k 0 choice-none z d e l (not-m d l)
 
-      go : (t : Bool) → sealedIn p v 0 z ≡ t → recordIn p t (zoneAt v d z) o ≡ recordOf (blockIn (zoneAt v d z) (suc o) .spare)
+      go : (t : Bool) → sealedIn p v 0 z ≡ t → recordIn p t (zoneAt v d (zoneOn z d)) o ≡ recordOf (blockIn (zoneAt v d (zoneOn z d)) (suc o) .spare)
       go false e = spare
-      go true e = by-footer p h d z (zoneAt v d z) zone-shape (zone-bytes p h g v k d z l (not-untrusted d l) b) (full e) o ol ∙ spare
+      go true e = by-footer p h d (zoneOn z d) (zoneAt v d (zoneOn z d)) zone-shape (zone-bytes p h g v k d z l (not-untrusted d l) b) (full e) o ol ∙ spare
 
   -- ---- a record that counts
 
@@ -97,8 +98,14 @@ module _ (p : Params) (h : Ranged p) (g : Ghost) (v : View) (k : OnDrives p h g 
     from : From p h g v k 0 choice-none x
     from = cands-from p h g v k 0 choice-none x (subst (λ (l : List Cand). Has x l) (sym said-is) i)
 
-    zb : from .z < p .Z
+    zb : Named p (from .z)
     zb = remaining-has p h g v k 0 choice-none (from .z) (from .rem) .0
+
+    abbrev its-zone : ℕ
+    its-zone = zoneOn (from .z) (from .d)
+
+    its-zone-low : its-zone < p .Z
+    its-zone-low = zone-on-lt p (from .z) (from .d) zb
 
     has : hasChunk (segmentOf p v 0 (from .z)) (from .s) (from .d) ≡ true
     has = counted-has p h g v k 0 choice-none (from .z) (from .s) (from .cnt) .1 (from .d) (from .drv) (not-m (from .d) (from .drv))
@@ -106,15 +113,15 @@ module _ (p : Params) (h : Ranged p) (g : Ghost) (v : View) (k : OnDrives p h g 
     o : ℕ
     o = offsetOn (segmentOf p v 0 (from .z)) (from .d) (from .s)
 
-    o-low : (o < p .S) × (suc o < zoneAt v (from .d) (from .z) .pointer)
+    o-low : (o < p .S) × (suc o < zoneAt v (from .d) its-zone .pointer)
     unfolding o
-    o-low = stored-below p (zoneAt v (from .d) (from .z)) (offsetOn (segmentOf p v 0 (from .z)) (from .d) (from .s))
+    o-low = stored-below p (zoneAt v (from .d) its-zone) (offsetOn (segmentOf p v 0 (from .z)) (from .d) (from .s))
         (offset-on p h g v k 0 choice-none (from .z) (from .s) (from .d) zb (from .drv) (not-m (from .d) (from .drv)) has .0)
 
     b-low : 1 + o < capacity p
     b-low = omega (arith, o-low .0, capacity-few p h)
 
-    place : x .place ≡ placeOf p (from .d) (from .z) (1 + o)
+    place : x .place ≡ placeOf p (from .d) its-zone (1 + o)
     place = ap (λ (y : Cand). y .place) (from .is) ∙ here
       where
         off-here : offsetOf 0 (segmentOf p v 0 (from .z)) (from .s) (from .d) ≡ o
@@ -123,17 +130,20 @@ module _ (p : Params) (h : Ranged p) (g : Ghost) (v : View) (k : OnDrives p h g 
             (offsetOn (segmentOf p v 0 (from .z)) (from .d) (from .s))
             (not-m (from .d) (from .drv))
 
-        here : candOf p 0 (segmentOf p v 0 (from .z)) (from .s) (from .d) .place ≡ placeOf p (from .d) (from .z) (1 + o)
-        here = unfold candOf zoneOn segmentOf in ap (λ (n : ℕ). placeOf p (from .d) (from .z) (1 + n)) off-here
+        here : candOf p 0 (segmentOf p v 0 (from .z)) (from .s) (from .d) .place ≡ placeOf p (from .d) its-zone (1 + o)
+        here = unfold candOf segmentOf in ap (λ (n : ℕ). placeOf p (from .d) its-zone (1 + n)) off-here
 
     place-d : placeDrive p (x .place) ≡ from .d
-    place-d = ap (placeDrive p) place ∙ place-drive p (from .d) (from .z) (1 + o) zb b-low
+    place-d = ap (placeDrive p) place ∙ place-drive p (from .d) its-zone (1 + o) its-zone-low b-low
 
-    place-z : placeZone p (x .place) ≡ from .z
-    place-z = ap (placeZone p) place ∙ place-zone p (from .d) (from .z) (1 + o) zb b-low
+    place-z : placeZone p (x .place) ≡ its-zone
+    place-z = ap (placeZone p) place ∙ place-zone p (from .d) its-zone (1 + o) its-zone-low b-low
+
+    place-seg : placeSegment p (x .place) ≡ from .z
+    place-seg = ap (placeSegment p) place ∙ place-segment-of p (from .z) (from .d) (1 + o) zb b-low
 
     place-b : placeBlock p (x .place) ≡ suc o
-    place-b = ap (placeBlock p) place ∙ place-block p (from .d) (from .z) (1 + o) b-low ∙ (let e : 1 + o ≡ suc o = omega arith in e)
+    place-b = ap (placeBlock p) place ∙ place-block p (from .d) its-zone (1 + o) b-low ∙ (let e : 1 + o ≡ suc o = omega arith in e)
 
     -- where it lies
     pub record Lies : Type 0 where
@@ -147,10 +157,10 @@ module _ (p : Params) (h : Ranged p) (g : Ghost) (v : View) (k : OnDrives p h g 
     pub lies : Lies
     lies = record {
       drive = subst (λ (n : ℕ). n < p .N) (sym place-d) (from .drv);
-      zone = subst (λ (n : ℕ). n < p .Z) (sym place-z) zb;
+      zone = subst (λ (n : ℕ). n < p .Z) (sym place-z) its-zone-low;
       block-low = omega (arith, place-b);
       block-high = omega (arith, place-b, o-low .0);
-      low = omega (arith, place, place-lt p (from .d) (from .z) (1 + o) (from .drv) zb b-low, places-many p h);
+      low = omega (arith, place, place-lt p (from .d) its-zone (1 + o) (from .drv) its-zone-low b-low, places-many p h);
       again = place-again p (x .place);
     }
 
@@ -158,30 +168,30 @@ module _ (p : Params) (h : Ranged p) (g : Ghost) (v : View) (k : OnDrives p h g 
     abbrev pub valueAt : Val
     valueAt =
         valueOf (chunkAt v (placeDrive p (x .place)) (placeZone p (x .place)) (placeBlock p (x .place)) .block)
-        (recordAt p v 0 (placeDrive p (x .place)) (placeZone p (x .place)) (placeBlock p (x .place) - 1))
+        (recordAt p v 0 (placeDrive p (x .place)) (placeSegment p (x .place)) (placeBlock p (x .place) - 1))
 
-    value-here : valueAt ≡ valueOf (blockIn (zoneAt v (from .d) (from .z)) (suc o) .block) (recordOf (blockIn (zoneAt v (from .d) (from .z)) (suc o) .spare))
+    value-here : valueAt ≡ valueOf (blockIn (zoneAt v (from .d) its-zone) (suc o) .block) (recordOf (blockIn (zoneAt v (from .d) its-zone) (suc o) .spare))
     value-here =
-        (λ j. valueOf (chunkAt v (place-d j) (place-z j) (place-b j) .block) (recordAt p v 0 (place-d j) (place-z j) (place-b j - 1)))
+        (λ j. valueOf (chunkAt v (place-d j) (place-z j) (place-b j) .block) (recordAt p v 0 (place-d j) (place-seg j) (place-b j - 1)))
         ∙ ap₂ valueOf block-is (ap (recordAt p v 0 (from .d) (from .z)) (let e : suc o - 1 ≡ o = omega arith in e) ∙ record-of-spare (from .d) (from .z) o (from .drv) zb (o-low .0))
       where
-        block-is : chunkAt v (from .d) (from .z) (suc o) .block ≡ blockIn (zoneAt v (from .d) (from .z)) (suc o) .block
+        block-is : chunkAt v (from .d) its-zone (suc o) .block ≡ blockIn (zoneAt v (from .d) its-zone) (suc o) .block
         block-is = unfold chunkAt in refl
 
     value-is : valueAt ≡ pieceAt p h g v k 0 choice-none (from .z) (from .s) (from .d)
     value-is = value-here
-        ∙ sym (piece-value ∙ value-same (blockIn (zoneAt v (from .d) (from .z)) (suc o) .block) (recordOf (blockIn (zoneAt v (from .d) (from .z)) (suc o) .spare)))
+        ∙ sym (piece-value ∙ value-same (blockIn (zoneAt v (from .d) its-zone) (suc o) .block) (recordOf (blockIn (zoneAt v (from .d) its-zone) (suc o) .spare)))
       where
         piece-value :
             pieceAt p h g v k 0 choice-none (from .z) (from .s) (from .d)
             ≡ pieceValue
-            (mkPiece (blockIn (zoneAt v (from .d) (from .z)) (suc o) .block) (recordOf (blockIn (zoneAt v (from .d) (from .z)) (suc o) .spare)))
+            (mkPiece (blockIn (zoneAt v (from .d) its-zone) (suc o) .block) (recordOf (blockIn (zoneAt v (from .d) its-zone) (suc o) .spare)))
         piece-value = unfold pieceAt o in ap pieceValue (piece-here p h g v k 0 choice-none (from .z) (from .s) (from .d) (from .drv) (not-m (from .d) (from .drv))
             ∙ stored-piece p h g v k 0 choice-none (from .z) (from .s) (from .d) zb (from .drv) (not-m (from .d) (from .drv)) has)
 
     counts-here : Counted (parOf p h) (g .hd) (itemsIn p v) (isIn 0) (pieceAt p h g v k 0 choice-none (from .z) (from .s) (from .d))
     counts-here = record {
-      z = from .z;
+      z = from .z .name;
       s = from .s;
       f = pieceAt p h g v k 0 choice-none (from .z) (from .s);
       rem = remaining-has p h g v k 0 choice-none (from .z) (from .rem) .1;
@@ -190,10 +200,12 @@ module _ (p : Params) (h : Ranged p) (g : Ghost) (v : View) (k : OnDrives p h g 
     }
 
     -- it counts, in the segment of its place
-    pub counted-at : (q : Counted (parOf p h) (g .hd) (itemsIn p v) (g .un) valueAt) × (q .z ≡ placeZone p (x .place))
+    pub counted-at : (q : Counted (parOf p h) (g .hd) (itemsIn p v) (g .un) valueAt) × (q .z ≡ placeSegment p (x .place) .name)
     unfolding counts-here
-    counted-at = subst (λ (y : Val). (q : Counted (parOf p h) (g .hd) (itemsIn p v) (g .un) y) × (q .z ≡ placeZone p (x .place))) (sym value-is)
-        (counted-none (parOf p h) (g .hd) (itemsIn p v) (isIn 0) (g .un) (none-out p h) none? (pieceAt p h g v k 0 choice-none (from .z) (from .s) (from .d)) counts-here, sym place-z)
+    counted-at = subst (λ (y : Val). (q : Counted (parOf p h) (g .hd) (itemsIn p v) (g .un) y) × (q .z ≡ placeSegment p (x .place) .name)) (sym value-is) (
+      counted-none (parOf p h) (g .hd) (itemsIn p v) (isIn 0) (g .un) (none-out p h) none? (pieceAt p h g v k 0 choice-none (from .z) (from .s) (from .d)) counts-here,
+      sym (ap (λ (y : Seg). y .name) place-seg),
+    )
 
     pub value-address : valueAt .addr ≡ x .address
     value-address = ap (λ (y : Val). y .addr) value-is ∙ sym (cand-value p h g v k 0 choice-none (from .z) (from .s) (from .d) .0) ∙ ap (λ (y : Cand). y .address) (sym (from .is))
@@ -205,36 +217,36 @@ module _ (p : Params) (h : Ranged p) (g : Ghost) (v : View) (k : OnDrives p h g 
     pub cand-stamp-low : x .stamp < 256 ^ 8
     cand-stamp-low =
         subst (λ (n : ℕ). n < 256 ^ 8) (sym
-        (value-stamp (blockIn (zoneAt v (from .d) (from .z)) (suc o) .block) (recordOf (blockIn (zoneAt v (from .d) (from .z)) (suc o) .spare)))
+        (value-stamp (blockIn (zoneAt v (from .d) its-zone) (suc o) .block) (recordOf (blockIn (zoneAt v (from .d) its-zone) (suc o) .spare)))
         ∙ sym (ap (λ (y : Val). y .stamp) value-here)
         ∙ value-stamped)
         (zone-bytes p h g v k (from .d) (from .z) (from .drv) (not-untrusted (from .d) (from .drv)) zb .wide o (o-low .0) (o-low .1) .stamp)
 
     -- the item there
-    pub item-at : (t : ℕ) × Off (itemsIn p v (placeDrive p (x .place)) (placeZone p (x .place))) (placeBlock p (x .place)) (chunk t valueAt)
+    pub item-at : (t : ℕ) × Off (itemsIn p v (placeDrive p (x .place)) (placeSegment p (x .place) .name)) (placeBlock p (x .place)) (chunk t valueAt)
     item-at = (
       n,
-      subst (λ (y : ℕ). Off (itemsIn p v y (placeZone p (x .place))) (placeBlock p (x .place)) (chunk n valueAt)) (sym place-d)
-          (subst (λ (y : ℕ). Off (itemsIn p v (from .d) y) (placeBlock p (x .place)) (chunk n valueAt)) (sym place-z) (subst
-          (λ (y : ℕ). Off (itemsIn p v (from .d) (from .z)) y (chunk n valueAt)) (sym place-b)
-          (subst (λ (y : Val). Off (itemsIn p v (from .d) (from .z)) (suc o) (chunk n y)) (sym value-here) there))),
+      subst (λ (y : ℕ). Off (itemsIn p v y (placeSegment p (x .place) .name)) (placeBlock p (x .place)) (chunk n valueAt)) (sym place-d)
+          (subst (λ (y : Seg). Off (itemsIn p v (from .d) (y .name)) (placeBlock p (x .place)) (chunk n valueAt)) (sym place-seg) (subst
+          (λ (y : ℕ). Off (itemsIn p v (from .d) (from .z .name)) y (chunk n valueAt)) (sym place-b)
+          (subst (λ (y : Val). Off (itemsIn p v (from .d) (from .z .name)) (suc o) (chunk n y)) (sym value-here) there))),
     )
       where
         q : Zone
-        q = zoneAt v (from .d) (from .z)
+        q = zoneAt v (from .d) its-zone
 
         n : ℕ
-        n = recordOf (blockIn (zoneAt v (from .d) (from .z)) (suc o) .spare) .stripe
+        n = recordOf (blockIn (zoneAt v (from .d) its-zone) (suc o) .spare) .stripe
 
         there :
-            Off (itemsIn p v (from .d) (from .z)) (suc o)
+            Off (itemsIn p v (from .d) (from .z .name)) (suc o)
             (chunk n
-            (valueOf (blockIn (zoneAt v (from .d) (from .z)) (suc o) .block) (recordOf (blockIn (zoneAt v (from .d) (from .z)) (suc o) .spare))))
+            (valueOf (blockIn (zoneAt v (from .d) its-zone) (suc o) .block) (recordOf (blockIn (zoneAt v (from .d) its-zone) (suc o) .spare))))
         there =
             subst (λ (l : List Item). Off l (suc o) (chunk n
-            (valueOf (blockIn (zoneAt v (from .d) (from .z)) (suc o) .block) (recordOf (blockIn (zoneAt v (from .d) (from .z)) (suc o) .spare)))))
+            (valueOf (blockIn (zoneAt v (from .d) its-zone) (suc o) .block) (recordOf (blockIn (zoneAt v (from .d) its-zone) (suc o) .spare)))))
             (sym (items-in p v (from .d) (from .z)))
-            (unfold chunkItem in chunk-of p (zoneAt v (from .d) (from .z)) (zone-pointer-low p h g v k (from .d) (from .z) (from .drv) (not-untrusted (from .d) (from .drv)) zb) o (o-low .0)
+            (unfold chunkItem in chunk-of p (zoneAt v (from .d) its-zone) (zone-pointer-low p h g v k (from .d) (from .z) (from .drv) (not-untrusted (from .d) (from .drv)) zb) o (o-low .0)
             (o-low .1))
 
   -- ---- the best of an address

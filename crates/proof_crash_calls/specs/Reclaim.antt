@@ -1,5 +1,5 @@
 -- Reclaim: a reset, or a copy. Assumes nothing.
-use mathlib.Core.Path.{_≡_, refl, sym, ap, _∙_, subst}
+use mathlib.Core.Path.{_≡_, refl, sym, ap, ap₂, _∙_, subst}
 use mathlib.Core.List.{List, [], _∷_, map}
 use mathlib.Core.Bool.{Bool, true, false, cond, not}
 use mathlib.Core.Logic.{inl, ⊎-elim, _≢_}
@@ -12,7 +12,7 @@ use Rattle.spec.specs.declared.State.{State}
 use Rattle.spec.specs.Calls.{firstRefusal, Plan}
 use Rattle.spec.specs.Counts.{neverPlace}
 use Rattle.spec.specs.Demands.{sendAt}
-use Rattle.spec.specs.Drives.{View, pointerAt, chunkAt, storeView, storeAll, zoneOn, placeSegment, emptyZones, recordAt, resetStores}
+use Rattle.spec.specs.Drives.{View, pointerAt, chunkAt, storeView, storeAll, Seg, zoneOn, placeSegment, emptySegs, recordAt, resetStores}
 use Rattle.spec.specs.Drives.Store.{reset}
 use Rattle.spec.specs.History.{Send}
 use Rattle.spec.specs.Layout.{Rec, mkRec}
@@ -26,6 +26,7 @@ use Rattle.law_basic.specs.Ranges.{nil-is}
 use Rattle.law_basic.specs.Geometry.{Ranged}
 use Rattle.law_basic.specs.Ranges.{Test, test}
 use Rattle.law_basic.specs.Ranges.Test.{yes!, no! }
+use Rattle.law_basic.specs.Segs.{Named, zone-on-lt}
 use Rattle.law_drives.specs.Tests.{clash, cond-true, cond-false}
 use Rattle.law_checks.specs.Passed.{ReclaimPassed, reclaim-passed}
 use Rattle.proof_crash_machine.specs.Facts.{Ghost, InV, Counted, Off, Facts, None}
@@ -39,12 +40,11 @@ use Rattle.proof_crash_machine.specs.Reclaim.{Quiet, reclaimed-end}
 use Rattle.proof_crash_machine.specs.Val.{Val}
 use Rattle.proof_crash_machine.specs.View.{Item, ItemView, ItemStore, applyAll, InI, resets}
 use Rattle.proof_crash_machine.specs.View.Item.{chunk}
-use Rattle.proof_crash_machine.specs.View.ItemStore.{reset as m-reset}
-use Rattle.proof_crash_items.specs.Items.{valueOf, itemsIn, storeItem, storeItems}
+use Rattle.proof_crash_items.specs.Items.{valueOf, itemsIn, storeItems}
 use Rattle.proof_crash_items.specs.Member.{Has, keep-has, firstOr-has}
 use Rattle.proof_crash_items.specs.Ranges.{parOf}
 use Rattle.proof_crash_items.specs.Segs.{OnDrives}
-use Rattle.proof_crash_items.specs.Sound.{Follows, follows-all, follows-cut}
+use Rattle.proof_crash_items.specs.Sound.{Follows, follows-all, follows-cut, store-reset}
 use Rattle.proof_crash_calls.specs.Entries.{entry-value, entry-long}
 use Rattle.proof_crash_calls.specs.Go.{mst, later-same, go-step, go-then, go-view, go-inv}
 use Rattle.proof_crash_calls.specs.Held.{Entry, table-to}
@@ -56,15 +56,19 @@ use Rattle.proof_crash_calls.specs.Victim.{VictimIs, victim-is, place-ha
 
 -- ---- the resets are the machine's
 
-zone-resets-follow : (p : Params) (z : ℕ) → z < p .Z → (n d : ℕ) (v : View) → d + n ≤ p .N → Follows p v (map (λ e. reset e z) (upFrom d n)) (resets z d n)
-unfolding upFrom resets storeItems storeItem
+zone-resets-follow : (p : Params) (z : Seg) → Named p z → (n d : ℕ) (v : View) → d + n ≤ p .N → Follows p v (map (λ e. reset e (zoneOn z e)) (upFrom d n)) (resets (z .name) d n)
+unfolding upFrom resets storeItems
 zone-resets-follow p z zl zero d v b = record { sound = tt; items = refl }
 zone-resets-follow p z zl (suc n) d v b =
-    let r : Follows p (storeView (reset d z) v) (map (λ e. reset e z) (upFrom (suc d) n)) (resets z (suc d) n) = zone-resets-follow p z zl n (suc d) (storeView (reset d z) v) (omega arith) in
-    record { sound = ((omega arith, zl), r .sound); items = ap (λ (y : List ItemStore). m-reset d z ∷ y) (r .items) }
+    let r : Follows p (storeView (reset d (zoneOn z d)) v) (map (λ e. reset e (zoneOn z e)) (upFrom (suc d) n)) (resets (z .name) (suc d) n) =
+    zone-resets-follow p z zl n (suc d) (storeView (reset d (zoneOn z d)) v) (omega arith) in
+    record {
+      sound = ((omega arith, zone-on-lt p z d zl), r .sound);
+      items = ap₂ (λ (x : ItemStore) (y : List ItemStore). x ∷ y) (store-reset p v d z zl) (r .items);
+    }
 
-pub reset-follow : (p : Params) (v : View) (z : ℕ) → z < p .Z → Follows p v (resetStores p z) (resets z 0 (p .N))
-unfolding resetStores zoneOn drivesOf below
+pub reset-follow : (p : Params) (v : View) (z : Seg) → Named p z → Follows p v (resetStores p z) (resets (z .name) 0 (p .N))
+unfolding resetStores drivesOf below
 reset-follow p v z zl = zone-resets-follow p z zl (p .N) 0 v (omega arith)
 
 -- ---- memory, when a segment is emptied that isn't the open one
@@ -114,9 +118,9 @@ module _ (p : Params) (h : Ranged p) (v : View) (m : Memory) (ss : List Send) (n
   -- ---- reset
 
   pub reset-call-ok :
-      (z : ℕ)
-      → z < p .Z
-      → ((d : ℕ) → d < p .N → pointerAt v d z ≡ capacity p)
+      (z : Seg)
+      → Named p z
+      → ((d : ℕ) → d < p .N → pointerAt v d (zoneOn z d) ≡ capacity p)
       → liveIn p (placesIn p (m .addresses)) z ≡ []
       → stateOk p (m .state) ≡ true
       → CallOk p h (l .g) v (resetPlan p m z) ss ss n
@@ -124,35 +128,36 @@ module _ (p : Params) (h : Ranged p) (v : View) (m : Memory) (ss : List Send) (n
   reset-call-ok z zl full dead ok = record {
     sound = follow .sound;
     done = live-after p h v st fl (m .addresses) ss n l (resetStores p z) (follow .sound) (l .g) (l .a) (l .c) (l .M) (l .T) st fl (m .addresses) ss (later-same (l .g))
-        (go-view (parOf p h) σ (l .g) (applyAll (itemsIn p v) (resets z 0 (p .N))) u (l .a) (l .c) (run (l .M)) (l .T) (l .T) (sym items)
-        (go-step (parOf p h) σ (mst (l .g) (applyAll (itemsIn p v) (resets z 0 (p .N))) (l .a) (l .c) (run (l .M))) (l .T) (reset-done σ (l .M) z refl silent apart)))
+        (go-view (parOf p h) σ (l .g) (applyAll (itemsIn p v) (resets (z .name) 0 (p .N))) u (l .a) (l .c) (run (l .M)) (l .T) (l .T) (sym items)
+        (go-step (parOf p h) σ (mst (l .g) (applyAll (itemsIn p v) (resets (z .name) 0 (p .N))) (l .a) (l .c) (run (l .M))) (l .T) (reset-done σ (l .M) (z .name) refl silent apart)))
         (emptied-rel p h (l .g) (itemsIn p v) u st fl (l .M) (inv-reclaim .mode) (l .rel)
-        (λ o e. ap (λ (x : ItemView). x e (l .M .zone)) items ∙ resets-other (itemsIn p v) z 0 (p .N) e (l .M .zone) (apart o)))
+        (λ o e. ap (λ (x : ItemView). x e (l .M .zone)) items ∙ resets-other (itemsIn p v) (z .name) 0 (p .N) e (l .M .zone) (apart o)))
         (l .reached .logged) (l .waits) (l .reached .marked) (l .reached .still)
         (table-left p h v st fl (m .addresses) ss n l ok z dead u facts-u
-        (λ e y b. ap (λ (x : ItemView). x e y) items ∙ resets-other (itemsIn p v) z 0 (p .N) e y b));
+        (λ e y b. ap (λ (x : ItemView). x e y) items ∙ resets-other (itemsIn p v) (z .name) 0 (p .N) e y b));
     cut = λ k. live-cut p h v st fl (m .addresses) ss n l (resetStores p z) (follow .sound) k (l .g) (later-same (l .g))
-        (go-view (parOf p h) σ (l .g) (applyAll (itemsIn p v) (take k (resets z 0 (p .N)))) (itemsIn p (storeAll storeView (take k (resetStores p z)) v)) (l .a) (l .c) off (l .T) (l .T)
-        (sym (follows-cut p h v (resetStores p z) (resets z 0 (p .N)) k (l .reached .shape) follow))
-        (go-step (parOf p h) σ (mst (l .g) (applyAll (itemsIn p v) (take k (resets z 0 (p .N)))) (l .a) (l .c) off) (l .T) (reset-cut σ (l .M) z k refl silent)));
+        (go-view (parOf p h) σ (l .g) (applyAll (itemsIn p v) (take k (resets (z .name) 0 (p .N)))) (itemsIn p (storeAll storeView (take k (resetStores p z)) v)) (l .a) (l .c) off (l .T) (l .T)
+        (sym (follows-cut p h v (resetStores p z) (resets (z .name) 0 (p .N)) k (l .reached .shape) follow))
+        (go-step (parOf p h) σ (mst (l .g) (applyAll (itemsIn p v) (take k (resets (z .name) 0 (p .N)))) (l .a) (l .c) off) (l .T) (reset-cut σ (l .M) (z .name) k refl silent)));
   }
     where
-      follow : Follows p v (resetStores p z) (resets z 0 (p .N))
+      follow : Follows p v (resetStores p z) (resets (z .name) 0 (p .N))
       follow = reset-follow p v z zl
 
       u : ItemView
       u = itemsIn p (storeAll storeView (resetStores p z) v)
 
-      items : u ≡ applyAll (itemsIn p v) (resets z 0 (p .N))
-      items = follows-all p h v (resetStores p z) (resets z 0 (p .N)) (l .reached .shape) follow
+      items : u ≡ applyAll (itemsIn p v) (resets (z .name) 0 (p .N))
+      items = follows-all p h v (resetStores p z) (resets (z .name) 0 (p .N)) (l .reached .shape) follow
 
-      silent : Quiet (parOf p h) (l .g) (itemsIn p v) z
+      silent : Quiet (parOf p h) (l .g) (itemsIn p v) (z .name)
       silent = quiet p h v st fl (m .addresses) ss n l ok z dead
 
       facts-u : Facts (parOf p h) (l .g) u
-      facts-u = subst (Facts (parOf p h) (l .g)) (sym items) (reclaimed-end (parOf p h) (l .g) z (inv-reclaim .mode .none) (inv-reclaim .mode .no-pair) (itemsIn p v) (inv-reclaim .facts) silent)
+      facts-u =
+          subst (Facts (parOf p h) (l .g)) (sym items) (reclaimed-end (parOf p h) (l .g) (z .name) (inv-reclaim .mode .none) (inv-reclaim .mode .no-pair) (itemsIn p v) (inv-reclaim .facts) silent)
 
-      apart : l .M .is-open ≡ true → l .M .zone ≢ z
+      apart : l .M .is-open ≡ true → l .M .zone ≢ z .name
       apart = open-unsealed p h v st fl (m .addresses) ss n l ok z zl full
 
   -- ---- copy
@@ -181,7 +186,6 @@ module _ (p : Params) (h : Ranged p) (v : View) (m : Memory) (ss : List Send) (n
     bl = entry-long p h (l .g) v k none? q (copied-entry .0) (copied-entry .1)
 
     copied-counts : Counted (parOf p h) (l .g .hd) (itemsIn p v) (l .g .un) (valueOf b r)
-    unfolding placeSegment
     copied-counts =
         subst (λ (x : Val). Counted (parOf p h) (l .g .hd) (itemsIn p v) (l .g .un) x) (sym (entry-value p h (l .g) v k none? q (copied-entry .0) (copied-entry .1))) (copied-entry .1 .counts)
 
@@ -246,8 +250,8 @@ module _ (p : Params) (h : Ranged p) (v : View) (m : Memory) (ss : List Send) (n
     room = λ e. room (o e);
   }
     where
-      room : scarce p v 1 ≡ false → 2 ≤ length (emptyZones p v)
-      room x = leb-false (length (emptyZones p v)) 1 (unfold scarce in x)
+      room : scarce p v 1 ≡ false → 2 ≤ length (emptySegs p v)
+      room x = leb-false (length (emptySegs p v)) 1 (unfold scarce in x)
 
   pub reclaim-ok : length (m .inflight) ≡ inflightLen p → (long : Bool) → firstRefusal (reclaimChecks p long v m (victim p v (m .addresses))) ≡ none → CallOk p h (l .g) v (reclaimPlan p v m) ss ss n
   reclaim-ok fits long e = go (victim p v (m .addresses)) refl (reclaim-passed p long v m (victim p v (m .addresses)) e)
@@ -258,8 +262,8 @@ module _ (p : Params) (h : Ranged p) (v : View) (m : Memory) (ss : List Send) (n
       some-victim : (w : Victim) → VictimIs p v (m .addresses) w → ReclaimPassed p long v m (some w) → CallOk p h (l .g) v (plan (some w)) ss ss n
       some-victim w vi q = pick? (test (isNil (victimLive (some w))))
         where
-          seg : victimSegment (some w) ≡ w .segment
-          seg = unfold victimSegment in refl
+          of : victimSegment (some w) ≡ w .segment
+          of = unfold victimSegment in refl
 
           alive : victimLive (some w) ≡ w .live
           alive = unfold victimLive in refl
@@ -269,7 +273,7 @@ module _ (p : Params) (h : Ranged p) (v : View) (m : Memory) (ss : List Send) (n
               subst (λ (y : Plan). CallOk p h (l .g) v y ss ss n)
               (sym (cond-true (isNil (victimLive (some w))) (resetPlan p m (victimSegment (some w)))
               (copyPlan p v m (firstOr 0 (idle p v st (some w)))) t))
-              (subst (λ (z : ℕ). CallOk p h (l .g) v (resetPlan p m z) ss ss n) (sym seg)
+              (subst (λ (z : Seg). CallOk p h (l .g) v (resetPlan p m z) ss ss n) (sym of)
               (reset-call-ok (w .segment) (vi .low) (vi .sealed) (sym (vi .live) ∙ sym alive ∙ nil-is (victimLive (some w)) t) (q .state-fine)))
           pick? (no! t) =
               subst (λ (y : Plan). CallOk p h (l .g) v y ss ss n)

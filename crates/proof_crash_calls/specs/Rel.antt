@@ -32,7 +32,7 @@ use Rattle.proof_crash_items.specs.Ranges.{parity-on}
 unfoldable pub readyAt : Params → ℕ → ℕ → ℕ → Bool
 readyAt p s k d = cond (isData p s d) (ltb (dataPosition p s d) k) (leb (dataCount p) k)
 
--- stripe s with k positions filled and mask m of landed drives, its blocks B, records E and offsets O; G and r: the machine's; W: the open zone by drive
+-- stripe s with k positions filled and mask m of landed drives, its blocks B, records E and offsets O; G and r: the machine's; W: the items of the open segment by drive
 pub record SlotRel (p : Params) (W : ℕ → List Item) (B : ℕ → List ℕ) (E : ℕ → Rec) (O : ℕ → ℕ) (s k m : ℕ) (G : ℕ → Val) (r : ℕ → Bool) : Type 0 where
   pub most : k ≤ dataCount p
   -- not on all drives

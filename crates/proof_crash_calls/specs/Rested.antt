@@ -6,26 +6,16 @@ use mathlib.Core.Logic.{_≢_}
 use Prim.Native.Nat.{ℕ, suc, _^_, _<_}
 use native.Mathlib.Omega.{arith}
 use lib.Dec.{eqb}
-use lib.ListN.{length, length-replicate}
+use lib.ListN.{length-replicate}
 use Rattle.spec.specs.declared.Params.{Params}
-use Rattle.spec.specs.Demands.{sendAt}
-use Rattle.spec.specs.Drives.{View}
-use Rattle.spec.specs.History.{Send}
 use Rattle.spec.specs.Memory.{idleState}
-use Rattle.law_basic.specs.Geometry.{Ranged}
 use Rattle.law_drives.specs.Tests.{clash, not-so}
 use Rattle.proof_crash_machine.specs.Exec.{true≢false}
-use Rattle.proof_crash_machine.specs.Facts.{Ghost}
 use Rattle.proof_crash_machine.specs.Memory2.{restMem}
-use Rattle.proof_crash_machine.specs.Order.{Track}
 use Rattle.proof_crash_machine.specs.Val.{Val}
 use Rattle.proof_crash_machine.specs.View.Item.{chunk}
 use Rattle.proof_crash_machine.specs.View.{ItemView, InI}
-use Rattle.proof_crash_machine.specs.History.Mode.{run}
-use Rattle.proof_crash_items.specs.Items.{itemsIn}
 use Rattle.proof_crash_items.specs.RestMem.{idle-filled}
-use Rattle.proof_crash_calls.specs.Held.{TableOk}
-use Rattle.proof_crash_calls.specs.Live.{Reached, Live}
 use Rattle.proof_crash_calls.specs.Rel.{RowsLong, inUse, used-filled, Rel}
 
 idle-long : (live gone t sr opened next : ℕ) → RowsLong (idleState live gone t sr opened next)
@@ -68,19 +58,3 @@ rest-rel p v fl live t sr opened next b z k tl sl eb ez ek few whole = record {
   where
     free : {A : Type 0} (i : ℕ) → inUse (idleState live 0 t sr opened next) i ≡ true → A
     free i q = clash q (idle-unused live 0 t sr opened next i)
-
--- so a run begins
-pub rest-live : (p : Params) (h : Ranged p) (v : View) (fl tb : List ℕ) (ss : List Send) (n : ℕ) (g : Ghost) (a : List Val) (c : Bool) (T : Track) (live t sr opened next : ℕ) (b : Bool) (z k : ℕ)
-    → Reached p h v ss n g a c (run (restMem b z k t sr)) T → Rel p (itemsIn p v) (idleState live 0 t sr opened next) fl (restMem b z k t sr)
-    → ((j : ℕ) → j < length ss → sendAt ss j .waits ≡ false) → TableOk p h g (itemsIn p v) tb → Live p h v (idleState live 0 t sr opened next) fl tb ss n
-rest-live p h v fl tb ss n g a c T live t sr opened next b z k r R idle table = record {
-  g = g;
-  a = a;
-  c = c;
-  M = restMem b z k t sr;
-  T = T;
-  reached = r;
-  rel = R;
-  waits = λ j l q. clash q (idle j l);
-  table = table;
-}

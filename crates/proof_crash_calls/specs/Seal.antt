@@ -1,5 +1,5 @@
 -- Footers on every drive of a segment whose stripes are all complete, and the sealing. Assumes nothing.
-use mathlib.Core.Path.{_≡_, refl, sym, ap, _∙_, subst}
+use mathlib.Core.Path.{_≡_, refl, sym, ap, ap₂, _∙_, subst}
 use mathlib.Core.List.{List, map}
 use mathlib.Core.Bool.{Bool}
 use mathlib.Core.Logic.{inl, _≢_}
@@ -9,13 +9,14 @@ use native.Mathlib.Omega.{arith}
 use lib.ListN.{length, getD, take, drop, set}
 use lib.Seq.{take-set-le, drop-set-add}
 use Rattle.spec.specs.declared.Params.{Params}
-use Rattle.spec.specs.Drives.{mkChunk, Zone, View, zoneAt, pointerAt, Store, putZone, storeView, storeAll, zoneOn, sparesOf, footersOf, zeroSpare, footerStores}
+use Rattle.spec.specs.Drives.{mkChunk, Zone, View, zoneAt, pointerAt, Store, putZone, storeView, storeAll, Seg, zoneOn, sparesOf, footersOf, zeroSpare, footerStores}
 use Rattle.spec.specs.Drives.Store.{put}
 use Rattle.spec.specs.Landing.{sealStores}
 use Rattle.spec.specs.Layout.{footerBlock}
 use Rattle.spec.specs.Lists.{upFrom, below, flat}
 use Rattle.spec.specs.Params.{footers, capacity, drivesOf}
 use Rattle.law_basic.specs.Geometry.{Ranged}
+use Rattle.law_basic.specs.Segs.{Named, zone-on-lt, seg-on-is}
 use Rattle.law_basic.specs.Stores.{storeAll-append}
 use Rattle.law_views.specs.Views.{Fits}
 use Rattle.law_drives.specs.Counting.{pigeon}
@@ -80,20 +81,20 @@ module _ (P : Par) (g : Ghost) (d z : ℕ) (l : List Item) (f : ZoneItems P g d 
 
 -- ---- the footers
 
-module _ (p : Params) (h : Ranged p) (z : ℕ) (zl : z < p .Z) (u₀ : View) (at₀ : (x : ℕ) → x < p .N → pointerAt u₀ x z ≡ suc (p .S))
-    (on₀ : (x : ℕ) → x < p .N → (s : ℕ) → s < p .S → (y : Val) × InI (chunk s y) (itemsIn p u₀ x z)) where
+module _ (p : Params) (h : Ranged p) (z : Seg) (zl : Named p z) (u₀ : View) (at₀ : (x : ℕ) → x < p .N → pointerAt u₀ x (zoneOn z x) ≡ suc (p .S))
+    (on₀ : (x : ℕ) → x < p .N → (s : ℕ) → s < p .S → (y : Val) × InI (chunk s y) (itemsIn p u₀ x (z .name))) where
   -- drives below e have their footers, e has j of them, the others are as in u₀
   pub record Footed (e j : ℕ) (u : View) : Type 0 where
     pub shape : Shape p u
-    pub done : (x : ℕ) → x < e → pointerAt u x z ≡ capacity p
-    pub to : e < p .N → pointerAt u e z ≡ suc (p .S + j)
-    pub spares : e < p .N → sparesIn p (zoneAt u e z) ≡ sparesIn p (zoneAt u₀ e z)
-    pub has : e < p .N → (s : ℕ) → s < p .S → (y : Val) × InI (chunk s y) (itemsIn p u e z)
-    pub later : (x : ℕ) → e < x → x < p .N → zoneAt u x z ≡ zoneAt u₀ x z
+    pub done : (x : ℕ) → x < e → pointerAt u x (zoneOn z x) ≡ capacity p
+    pub to : e < p .N → pointerAt u e (zoneOn z e) ≡ suc (p .S + j)
+    pub spares : e < p .N → sparesIn p (zoneAt u e (zoneOn z e)) ≡ sparesIn p (zoneAt u₀ e (zoneOn z e))
+    pub has : e < p .N → (s : ℕ) → s < p .S → (y : Val) × InI (chunk s y) (itemsIn p u e (z .name))
+    pub later : (x : ℕ) → e < x → x < p .N → zoneAt u x (zoneOn z x) ≡ zoneAt u₀ x (zoneOn z x)
     pub grew : Grown (parOf p h) (itemsIn p u₀) (itemsIn p u)
 
   abbrev footPut : ℕ → ℕ → Store
-  footPut e j = put e z (footerBlock p (sparesIn p (zoneAt u₀ e z)) j) zeroSpare
+  footPut e j = put e (zoneOn z e) (footerBlock p (sparesIn p (zoneAt u₀ e (zoneOn z e))) j) zeroSpare
 
   pub footed-start : Shape p u₀ → Footed 0 0 u₀
   footed-start sh = record {
@@ -120,11 +121,13 @@ module _ (p : Params) (h : Ranged p) (z : ℕ) (zl : z < p .Z) (u₀ : View) (at
     grew = f .grew;
   }
     where
-      next-ptr : suc e < p .N → pointerAt u (suc e) z ≡ suc (p .S)
-      next-ptr l = let k : pointerAt u (suc e) z ≡ pointerAt u₀ (suc e) z = unfold pointerAt in ap (λ (q : Zone). q .pointer) (f .later (suc e) (omega arith) l) in k ∙ at₀ (suc e) l
+      next-ptr : suc e < p .N → pointerAt u (suc e) (zoneOn z (suc e)) ≡ suc (p .S)
+      next-ptr l =
+          let k : pointerAt u (suc e) (zoneOn z (suc e)) ≡ pointerAt u₀ (suc e) (zoneOn z (suc e)) = unfold pointerAt in ap (λ (q : Zone). q .pointer) (f .later (suc e) (omega arith) l) in
+          k ∙ at₀ (suc e) l
 
-      done : (x : ℕ) → Dec (x ≡ e) → x < suc e → pointerAt u x z ≡ capacity p
-      done x (yes q) l = ap (λ (y : ℕ). pointerAt u y z) q ∙ f .to el ∙ (let k : suc (p .S + footers p) ≡ capacity p = unfold capacity in omega arith in k)
+      done : (x : ℕ) → Dec (x ≡ e) → x < suc e → pointerAt u x (zoneOn z x) ≡ capacity p
+      done x (yes q) l = ap (λ (y : ℕ). pointerAt u y (zoneOn z y)) q ∙ f .to el ∙ (let k : suc (p .S + footers p) ≡ capacity p = unfold capacity in omega arith in k)
       done x (no q) l = f .done x (omega arith)
 
   module _ (g : Ghost) (a : List Val) (c : Bool) (M : Mem) where
@@ -133,49 +136,49 @@ module _ (p : Params) (h : Ranged p) (z : ℕ) (zl : z < p .Z) (u₀ : View) (at
 
     module _ (e j : ℕ) (u : View) (el : e < p .N) (jl : j < footers p) (f : Footed e j u) where
       abbrev b : List ℕ
-      b = footerBlock p (sparesIn p (zoneAt u₀ e z)) j
+      b = footerBlock p (sparesIn p (zoneAt u₀ e (zoneOn z e))) j
 
       abbrev q : Zone
-      q = zoneAt u e z
+      q = zoneAt u e (zoneOn z e)
 
       ptr : q .pointer ≡ suc (p .S + j)
       ptr = unfold pointerAt in f .to el
 
-      seal-foot-kind : Kind p e z (zoneAt u e z) (footerBlock p (sparesIn p (zoneAt u₀ e z)) j) zeroSpare
-      seal-foot-kind = subst (λ (ss : List (List ℕ)). Kind p e z (zoneAt u e z) (footerBlock p ss j) zeroSpare) (f .spares el) (footer j ptr jl)
+      seal-foot-kind : Kind p e (zoneOn z e) (zoneAt u e (zoneOn z e)) (footerBlock p (sparesIn p (zoneAt u₀ e (zoneOn z e))) j) zeroSpare
+      seal-foot-kind = subst (λ (ss : List (List ℕ)). Kind p e (zoneOn z e) (zoneAt u e (zoneOn z e)) (footerBlock p ss j) zeroSpare) (f .spares el) (footer j ptr jl)
 
       pub foot-sound : Sound p u (footPut e j)
-      foot-sound = (el, zl, seal-foot-kind)
+      foot-sound = (el, zone-on-lt p z e zl, seal-foot-kind)
 
       fits : Fits p u (footPut e j)
       fits = sound-fits p h u (footPut e j) (f .shape) foot-sound
 
       foot-low : q .pointer ≤ length (q .blocks)
-      foot-low = unfold capacity in omega (arith, ptr, jl, f .shape .blocks e z el zl)
+      foot-low = unfold capacity in omega (arith, ptr, jl, f .shape .blocks e (zoneOn z e) el (zone-on-lt p z e zl))
 
-      seal-length : length (itemsIn p u e z) ≡ suc (p .S + j)
-      seal-length = ap length (items-in p u e z) ∙ length-of p (zoneAt u e z) foot-low ∙ ptr
+      seal-length : length (itemsIn p u e (z .name)) ≡ suc (p .S + j)
+      seal-length = ap length (items-in p u e z) ∙ length-of p (zoneAt u e (zoneOn z e)) foot-low ∙ ptr
 
-      foot-item : storeItem p u (footPut e j) ≡ m-put e z (foot j)
-      foot-item = (unfold storeItem pointerAt in ap (m-put e z) at)
+      foot-item : storeItem p u (footPut e j) ≡ m-put e (z .name) (foot j)
+      foot-item = (unfold storeItem pointerAt in ap₂ (λ (x : Seg) (t : Item). m-put e (x .name) t) (seg-on-is p z e zl) at)
         where
-          at : itemAt p (zoneAt u e z .pointer) (mkChunk (footerBlock p (sparesIn p (zoneAt u₀ e z)) j) zeroSpare) ≡ foot j
-          at = ap (λ (n : ℕ). itemAt p n (mkChunk (footerBlock p (sparesIn p (zoneAt u₀ e z)) j) zeroSpare)) ptr
-              ∙ item-foot p (p .S + j) (mkChunk (footerBlock p (sparesIn p (zoneAt u₀ e z)) j) zeroSpare) (omega arith) ∙ ap foot (let k : p .S + j - p .S ≡ j = omega arith in k)
+          at : itemAt p (zoneAt u e (zoneOn z e) .pointer) (mkChunk (footerBlock p (sparesIn p (zoneAt u₀ e (zoneOn z e))) j) zeroSpare) ≡ foot j
+          at = ap (λ (n : ℕ). itemAt p n (mkChunk (footerBlock p (sparesIn p (zoneAt u₀ e (zoneOn z e))) j) zeroSpare)) ptr
+              ∙ item-foot p (p .S + j) (mkChunk (footerBlock p (sparesIn p (zoneAt u₀ e (zoneOn z e))) j) zeroSpare) (omega arith) ∙ ap foot (let k : p .S + j - p .S ≡ j = omega arith in k)
 
-      foot-items : itemsIn p (storeView (footPut e j) u) ≡ withItem (itemsIn p u) e z (foot j)
+      foot-items : itemsIn p (storeView (footPut e j) u) ≡ withItem (itemsIn p u) e (z .name) (foot j)
       foot-items = items-store p u (footPut e j) (f .shape) fits ∙ ap (apply (itemsIn p u)) foot-item ∙ (unfold apply in refl)
 
       pub foot-go : (T : Track) → Go (parOf p h) (mst g (itemsIn p u) a c (run M)) (mst g (itemsIn p (storeView (footPut e j) u)) a c (run M)) T T
-      foot-go T = go-view (parOf p h) (σ u) g (withItem (itemsIn p u) e z (foot j)) (itemsIn p (storeView (footPut e j) u)) a c (run M) T T (sym foot-items)
-          (go-step (parOf p h) (σ u) (mst g (withItem (itemsIn p u) e z (foot j)) a c (run M)) T
-          (m-footer (σ u) M e z j refl el (omega (arith, seal-length)) (unfold capacity in omega (arith, seal-length, jl)) (f .has el)))
+      foot-go T = go-view (parOf p h) (σ u) g (withItem (itemsIn p u) e (z .name) (foot j)) (itemsIn p (storeView (footPut e j) u)) a c (run M) T T (sym foot-items)
+          (go-step (parOf p h) (σ u) (mst g (withItem (itemsIn p u) e (z .name) (foot j)) a c (run M)) T
+          (m-footer (σ u) M e (z .name) j refl el (omega (arith, seal-length)) (unfold capacity in omega (arith, seal-length, jl)) (f .has el)))
 
-      now : zoneAt (storeView (footPut e j) u) e z ≡ putZone b zeroSpare q
-      now = unfold storeView in zone-set-at p u (f .shape) e z (putZone b zeroSpare (zoneAt u e z)) el zl
+      now : zoneAt (storeView (footPut e j) u) e (zoneOn z e) ≡ putZone b zeroSpare q
+      now = unfold storeView in zone-set-at p u (f .shape) e (zoneOn z e) (putZone b zeroSpare (zoneAt u e (zoneOn z e))) el (zone-on-lt p z e zl)
 
-      foot-zone-other : (x : ℕ) → x ≢ e → zoneAt (storeView (footPut e j) u) x z ≡ zoneAt u x z
-      foot-zone-other x n = unfold storeView in zone-set-else p u (f .shape) e z (putZone b zeroSpare (zoneAt u e z)) el x z (inl n)
+      foot-zone-other : (x : ℕ) → x ≢ e → zoneAt (storeView (footPut e j) u) x (zoneOn z x) ≡ zoneAt u x (zoneOn z x)
+      foot-zone-other x n = unfold storeView in zone-set-else p u (f .shape) e (zoneOn z e) (putZone b zeroSpare (zoneAt u e (zoneOn z e))) el x (zoneOn z x) (inl n)
 
       pub foot-next : Footed e (suc j) (storeView (footPut e j) u)
       foot-next = record {
@@ -183,16 +186,16 @@ module _ (p : Params) (h : Ranged p) (z : ℕ) (zl : z < p .Z) (u₀ : View) (at
         done = λ x l. unfold pointerAt in (ap (λ (y : Zone). y .pointer) (foot-zone-other x (let n : x ≢ e = omega arith in n)) ∙ (unfold pointerAt in f .done x l));
         to = λ l. unfold pointerAt in (ap (λ (y : Zone). y .pointer) now ∙ (unfold putZone in (ap suc ptr ∙ (let k : suc (suc (p .S + j)) ≡ suc (p .S + suc j) = omega arith in k))));
         spares = λ l. ap (sparesIn p) now ∙ spares-kept p q b zeroSpare j ptr ∙ f .spares l;
-        has = λ l s k. let w : (y : Val) × InI (chunk s y) (itemsIn p u e z) = f .has l s k in
-            (w .0, subst (λ (x : ItemView). InI (chunk s (w .0)) (x e z)) (sym foot-items) (in-fwd (itemsIn p u) e z (foot j) (chunk s (w .0)) e z (w .1)));
+        has = λ l s k. let w : (y : Val) × InI (chunk s y) (itemsIn p u e (z .name)) = f .has l s k in
+            (w .0, subst (λ (x : ItemView). InI (chunk s (w .0)) (x e (z .name))) (sym foot-items) (in-fwd (itemsIn p u) e (z .name) (foot j) (chunk s (w .0)) e (z .name) (w .1)));
         later = λ x l k. foot-zone-other x (let n : x ≢ e = omega arith in n) ∙ f .later x l k;
         grew = grown-then (parOf p h) (itemsIn p u₀) (itemsIn p u) (itemsIn p (storeView (footPut e j) u)) (f .grew)
-            (subst (λ (x : ItemView). Grown (parOf p h) (itemsIn p u) x) (sym foot-items) (grown-put (parOf p h) (itemsIn p u) e z (foot j) (omega (arith, seal-length))));
+            (subst (λ (x : ItemView). Grown (parOf p h) (itemsIn p u) x) (sym foot-items) (grown-put (parOf p h) (itemsIn p u) e (z .name) (foot j) (omega (arith, seal-length))));
       }
 
     -- the footers of one drive
     abbrev footRow : ℕ → ℕ → ℕ → List Store
-    footRow e j n = map (λ (b : List ℕ). put e z b zeroSpare) (map (footerBlock p (sparesIn p (zoneAt u₀ e z))) (upFrom j n))
+    footRow e j n = map (λ (b : List ℕ). put e (zoneOn z e) b zeroSpare) (map (footerBlock p (sparesIn p (zoneAt u₀ e (zoneOn z e)))) (upFrom j n))
 
     row-chain : (n e j : ℕ) (u : View) → e < p .N → j + n ≡ footers p → Footed e j u → Chain p h g a c (run M) u (footRow e j n) × Footed e (footers p) (storeAll storeView (footRow e j n) u)
     unfolding upFrom storeAll
@@ -219,12 +222,12 @@ module _ (p : Params) (h : Ranged p) (z : ℕ) (zl : z < p .Z) (u₀ : View) (at
 
     -- the stores of a sealing
     pub seal-chain : Shape p u₀ → Chain p h g a c (run M) u₀ (sealStores p u₀ z) × Footed (p .N) 0 (storeAll storeView (sealStores p u₀ z) u₀)
-    unfolding sealStores footerStores footersOf zoneOn drivesOf below
+    unfolding sealStores footerStores footersOf drivesOf below
     seal-chain sh = drives-chain (p .N) 0 u₀ (omega arith) (footed-start sh)
 
     -- every zone is full
-    pub footed-full : (u : View) → Footed (p .N) 0 u → (x : ℕ) → x < p .N → length (itemsIn p u x z) ≡ capacity p
-    footed-full u f x l = ap length (items-in p u x z) ∙ length-of p (zoneAt u x z) (omega (arith, full, f .shape .blocks x z l zl)) ∙ full
+    pub footed-full : (u : View) → Footed (p .N) 0 u → (x : ℕ) → x < p .N → length (itemsIn p u x (z .name)) ≡ capacity p
+    footed-full u f x l = ap length (items-in p u x z) ∙ length-of p (zoneAt u x (zoneOn z x)) (omega (arith, full, f .shape .blocks x (zoneOn z x) l (zone-on-lt p z x zl))) ∙ full
       where
-        full : zoneAt u x z .pointer ≡ capacity p
+        full : zoneAt u x (zoneOn z x) .pointer ≡ capacity p
         full = unfold pointerAt in f .done x l

@@ -12,17 +12,18 @@ use lib.ListN.{length}
 use Rattle.spec.specs.declared.Params.{Params}
 use Rattle.spec.specs.declared.State.{State}
 use Rattle.spec.specs.Counts.{neverPlace}
-use Rattle.spec.specs.Drives.{View, pointerAt, segmentNumbers, zoneOn, sealedIn}
+use Rattle.spec.specs.Drives.{View, pointerAt, Seg, allSegs, zoneOn, placeSegment, sealedIn}
 use Rattle.spec.specs.History.{Send}
 use Rattle.spec.specs.Lists.{Opt, below, all, any, isMember, keep, flat, isIn}
 use Rattle.spec.specs.Lists.Opt.{none, some}
 use Rattle.spec.specs.Memory.{stripeIn, landedIn, stateOk, placeAt}
-use Rattle.spec.specs.Params.{capacity, placeOf, placeBlock, placeZone, placeDrive, drivesOf, present}
+use Rattle.spec.specs.Params.{capacity, placeOf, placeBlock, placeDrive, drivesOf, present}
 use Rattle.spec.specs.Reclaim.{placesIn, segmentPlaces, liveIn, Victim, victimOf, fewer, fewest, victim}
 use Rattle.law_basic.specs.Geometry.{Ranged, place-again}
 use Rattle.law_basic.specs.Mask.{isIn-empty, ones-all}
 use Rattle.law_basic.specs.Ranges.{Test, test}
 use Rattle.law_basic.specs.Ranges.Test.{yes!, no! }
+use Rattle.law_basic.specs.Segs.{name-once, Named, place-segment-zone}
 use Rattle.law_drives.specs.Best.{fewer-is}
 use Rattle.law_drives.specs.Tests.{clash}
 use Rattle.proof_crash_machine.specs.Facts.{InV, Counted, Off, Facts, None, self-none}
@@ -36,7 +37,7 @@ use Rattle.proof_crash_machine.specs.View.Item.{chunk}
 use Rattle.proof_crash_items.specs.Items.{itemsIn}
 use Rattle.proof_crash_items.specs.Member.{Has, keep-has, has-keep, below-has, has-below, all-has, has-all, any-has, has-any, any-false-in, has-flat, map-has, has-map}
 use Rattle.proof_crash_items.specs.Ranges.{capacity-few, parOf}
-use Rattle.proof_crash_items.specs.Segs.{OnDrives}
+use Rattle.proof_crash_items.specs.Segs.{OnDrives, segs-has}
 use Rattle.proof_crash_calls.specs.Base.{eqb-self}
 use Rattle.proof_crash_calls.specs.Entries.{entry-within, entry-low}
 use Rattle.proof_crash_calls.specs.Go.{mst}
@@ -57,8 +58,8 @@ fewest-in o (b ∷ l) x e =
     ⊎-elim (λ (q : fewer o b ≡ some x). ⊎-elim (λ (w : o ≡ some x). inl w) (λ (w : x ≡ b). inr (inl w)) (fewer-is o b x q)) (λ (q : Has x l). inr (inr q)) (fewest-in (fewer o b) l x e)
 
 pub record VictimIs (p : Params) (v : View) (tb : List ℕ) (w : Victim) : Type 0 where
-  pub low : w .segment < p .Z
-  pub sealed : (d : ℕ) → d < p .N → pointerAt v d (w .segment) ≡ capacity p
+  pub low : Named p (w .segment)
+  pub sealed : (d : ℕ) → d < p .N → pointerAt v d (zoneOn (w .segment) d) ≡ capacity p
   pub live : w .live ≡ liveIn p (placesIn p tb) (w .segment)
 
 present-all? : (p : Params) (d : ℕ) → d < p .N → Has d (present p 0)
@@ -66,26 +67,27 @@ unfolding present drivesOf
 present-all? p d l = has-keep (λ d. not (isIn 0 d)) d (below (p .N)) (has-below d (p .N) l) (ap not (isIn-empty d))
 
 pub victim-is : (p : Params) (v : View) (tb : List ℕ) (w : Victim) → victim p v tb ≡ some w → VictimIs p v tb w
-unfolding victim segmentNumbers
+unfolding victim
 victim-is p v tb w e = ⊎-elim (λ (q : none ≡ some w). opt-none q)
-    (λ (q : Has w (map (victimOf p (placesIn p tb)) (keep (sealedIn p v 0) (below (p .Z))))).
-    let a : (z : ℕ) × Has z (keep (sealedIn p v 0) (below (p .Z))) × (w ≡ victimOf p (placesIn p tb) z) = map-has (victimOf p (placesIn p tb)) w (keep (sealedIn p v 0) (below (p .Z))) q in
-    let b : Has (a .0) (below (p .Z)) × (sealedIn p v 0 (a .0) ≡ true) = keep-has (sealedIn p v 0) (a .0) (below (p .Z)) (a .1) in
-    let s : w .segment ≡ a .0 = ap (λ (x : Victim). x .segment) (a .2) ∙ seg (a .0) in
+    (λ (q : Has w (map (victimOf p (placesIn p tb)) (keep (sealedIn p v 0) (allSegs p)))).
+    let a : (z : Seg) × Has z (keep (sealedIn p v 0) (allSegs p)) × (w ≡ victimOf p (placesIn p tb) z) = map-has (victimOf p (placesIn p tb)) w (keep (sealedIn p v 0) (allSegs p)) q in
+    let b : Has (a .0) (allSegs p) × (sealedIn p v 0 (a .0) ≡ true) = keep-has (sealedIn p v 0) (a .0) (allSegs p) (a .1) in
+    let s : w .segment ≡ a .0 = ap (λ (x : Victim). x .segment) (a .2) ∙ of (a .0) in
     record {
-      low = subst (λ (n : ℕ). n < p .Z) (sym s) (below-has (a .0) (p .Z) (b .0));
-      sealed = λ d l. ap (pointerAt v d) s ∙ full (a .0) (b .1) d l;
+      low = subst (λ (z : Seg). Named p z) (sym s) (segs-has p (a .0) (b .0));
+      sealed = λ d l. ap (λ (z : Seg). pointerAt v d (zoneOn z d)) s ∙ full (a .0) (b .1) d l;
       live = ap (λ (x : Victim). x .live) (a .2) ∙ alive (a .0) ∙ ap (liveIn p (placesIn p tb)) (sym s);
-    }) (fewest-in none (map (victimOf p (placesIn p tb)) (keep (sealedIn p v 0) (below (p .Z)))) w e)
+    }) (fewest-in none (map (victimOf p (placesIn p tb)) (keep (sealedIn p v 0) (allSegs p))) w e)
   where
-    seg : (z : ℕ) → victimOf p (placesIn p tb) z .segment ≡ z
-    seg z = unfold victimOf in refl
+    of : (z : Seg) → victimOf p (placesIn p tb) z .segment ≡ z
+    of z = unfold victimOf in refl
 
-    alive : (z : ℕ) → victimOf p (placesIn p tb) z .live ≡ liveIn p (placesIn p tb) z
+    alive : (z : Seg) → victimOf p (placesIn p tb) z .live ≡ liveIn p (placesIn p tb) z
     alive z = unfold victimOf in refl
 
-    full : (z : ℕ) → sealedIn p v 0 z ≡ true → (d : ℕ) → d < p .N → pointerAt v d z ≡ capacity p
-    full z q d l = unfold sealedIn zoneOn in eqb-true (pointerAt v d z) (capacity p) (all-has (λ d. eqb (pointerAt v d z) (capacity p)) (present p 0) q d (present-all? p d l))
+    full : (z : Seg) → sealedIn p v 0 z ≡ true → (d : ℕ) → d < p .N → pointerAt v d (zoneOn z d) ≡ capacity p
+    full z q d l = unfold sealedIn in
+        eqb-true (pointerAt v d (zoneOn z d)) (capacity p) (all-has (λ d. eqb (pointerAt v d (zoneOn z d)) (capacity p)) (present p 0) q d (present-all? p d l))
 
 -- ---- live blocks
 
@@ -111,16 +113,17 @@ unfolding isMember
 has-member q l i = has-any (λ k. eqb q k) l q i (eqb-self q)
 
 -- a live block is held by the table
-pub live-has : (p : Params) (qs : List ℕ) (z q : ℕ) → Has q (liveIn p qs z) → Has q qs
+pub live-has : (p : Params) (qs : List ℕ) (z : Seg) (q : ℕ) → Has q (liveIn p qs z) → Has q qs
 unfolding liveIn
 live-has p qs z q i = member-has q qs (keep-has (λ q. isMember q qs) q (segmentPlaces p z) i .1)
 
 -- what the table holds of a segment is live
-pub has-live : (p : Params) (qs : List ℕ) (z d b : ℕ) → d < p .N → b < capacity p → Has (placeOf p d z b) qs → Has (placeOf p d z b) (liveIn p qs z)
-unfolding liveIn segmentPlaces zoneOn drivesOf
-has-live p qs z d b dl bl i = has-keep (λ q. isMember q qs) (placeOf p d z b) (flat (λ d. map (placeOf p d z) (below (capacity p))) (below (p .N)))
-    (has-flat (λ d. map (placeOf p d z) (below (capacity p))) (placeOf p d z b) (below (p .N)) d (has-below d (p .N) dl) (has-map (placeOf p d z) (below (capacity p)) b (has-below b (capacity p) bl)))
-    (has-member (placeOf p d z b) qs i)
+pub has-live : (p : Params) (qs : List ℕ) (z : Seg) (d b : ℕ) → d < p .N → b < capacity p → Has (placeOf p d (zoneOn z d) b) qs → Has (placeOf p d (zoneOn z d) b) (liveIn p qs z)
+unfolding liveIn segmentPlaces drivesOf
+has-live p qs z d b dl bl i = has-keep (λ q. isMember q qs) (placeOf p d (zoneOn z d) b) (flat (λ d. map (placeOf p d (zoneOn z d)) (below (capacity p))) (below (p .N)))
+    (has-flat (λ d. map (placeOf p d (zoneOn z d)) (below (capacity p))) (placeOf p d (zoneOn z d) b) (below (p .N)) d (has-below d (p .N) dl)
+    (has-map (placeOf p d (zoneOn z d)) (below (capacity p)) b (has-below b (capacity p) bl)))
+    (has-member (placeOf p d (zoneOn z d) b) qs i)
 
 -- ---- the open segment isn't sealed
 
@@ -138,7 +141,7 @@ module _ (p : Params) (h : Ranged p) (v : View) (st : State) (fl tb : List ℕ) 
   inv-victim : Inv (parOf p h) (mst (l .g) (itemsIn p v) (l .a) (l .c) (run (l .M)))
   inv-victim = live-inv p h v st fl tb ss n l
 
-  pub open-unsealed : (z : ℕ) → z < p .Z → ((d : ℕ) → d < p .N → pointerAt v d z ≡ capacity p) → l .M .is-open ≡ true → l .M .zone ≢ z
+  pub open-unsealed : (z : Seg) → Named p z → ((d : ℕ) → d < p .N → pointerAt v d (zoneOn z d) ≡ capacity p) → l .M .is-open ≡ true → l .M .zone ≢ z .name
   open-unsealed z zl full o e =
       absurd (slot .out (lost .0) (lost .1) (lost .2) (there (lost .0) (lost .1) s₀ (omega (arith, low)) .0) (subst
       (λ (x : ℕ). InI (chunk x (there (lost .0) (lost .1) s₀ (omega (arith, low)) .0)) (itemsIn p v (lost .0) (M .zone))) (sym (w .3))
@@ -183,25 +186,27 @@ module _ (p : Params) (h : Ranged p) (v : View) (st : State) (fl tb : List ℕ) 
   none? = live-none p h v st fl tb ss n l
 
   -- an entry of the table lies elsewhere
-  entry-elsewhere : (z : ℕ) → liveIn p (placesIn p tb) z ≡ [] → (a : ℕ) → a < p .L → Entry p h (l .g) (itemsIn p v) (placeAt tb a) a → placeZone p (placeAt tb a) ≢ z
+  entry-elsewhere : (z : Seg) → liveIn p (placesIn p tb) z ≡ [] → (a : ℕ) → a < p .L → Entry p h (l .g) (itemsIn p v) (placeAt tb a) a → placeSegment p (placeAt tb a) ≡ z → ⊥
   entry-elsewhere z dead a al e y =
       let m : Has (placeAt tb a) (placesIn p tb) = has-place p tb a al (let f : placeAt tb a ≢ neverPlace = omega (arith, entry-low p h (l .g) v k none? (placeAt tb a) a e) in f) in
-      let f : placeAt tb a ≡ placeOf p (placeDrive p (placeAt tb a)) z (placeBlock p (placeAt tb a)) =
-      sym (place-again p (placeAt tb a)) ∙ ap (λ (x : ℕ). placeOf p (placeDrive p (placeAt tb a)) x (placeBlock p (placeAt tb a))) y in
-      let u : Has (placeOf p (placeDrive p (placeAt tb a)) z (placeBlock p (placeAt tb a))) (liveIn p (placesIn p tb) z) =
+      let f : placeAt tb a ≡ placeOf p (placeDrive p (placeAt tb a)) (zoneOn z (placeDrive p (placeAt tb a))) (placeBlock p (placeAt tb a)) =
+      sym (place-again p (placeAt tb a)) ∙ ap (λ (x : ℕ). placeOf p (placeDrive p (placeAt tb a)) x (placeBlock p (placeAt tb a)))
+      (sym (place-segment-zone p (placeAt tb a)) ∙ ap (λ (x : Seg). zoneOn x (placeDrive p (placeAt tb a))) y) in
+      let u : Has (placeOf p (placeDrive p (placeAt tb a)) (zoneOn z (placeDrive p (placeAt tb a))) (placeBlock p (placeAt tb a))) (liveIn p (placesIn p tb) z) =
       has-live p (placesIn p tb) z (placeDrive p (placeAt tb a)) (placeBlock p (placeAt tb a)) (e .drive)
       (entry-within p h (l .g) v k none? (placeAt tb a) a e) (subst (λ (x : ℕ). Has x (placesIn p tb)) f m) in
-      subst (λ (x : List ℕ). Has (placeOf p (placeDrive p (placeAt tb a)) z (placeBlock p (placeAt tb a))) x) dead u
+      subst (λ (x : List ℕ). Has (placeOf p (placeDrive p (placeAt tb a)) (zoneOn z (placeDrive p (placeAt tb a))) (placeBlock p (placeAt tb a))) x) dead u
 
-  pub quiet : (z : ℕ) → liveIn p (placesIn p tb) z ≡ [] → Quiet (parOf p h) (l .g) (itemsIn p v) z
+  pub quiet : (z : Seg) → liveIn p (placesIn p tb) z ≡ [] → Quiet (parOf p h) (l .g) (itemsIn p v) (z .name)
   quiet z dead a = go (ℕ-discrete (l .g .base a) 0) (inv-victim .facts .content .floor a)
     where
       go : Dec (l .g .base a ≡ 0) → (l .g .base a ≡ 0) ⊎ ((x : Val) × Counted (parOf p h) (l .g .hd) (itemsIn p v) (l .g .un) x × (x .addr ≡ a) × (l .g .base a ≤ x .stamp))
-          → (l .g .base a ≡ 0) ⊎ ((x : Val) × (c : Counted (parOf p h) (l .g .hd) (itemsIn p v) (l .g .un) x) × (c .z ≢ z) × (x .addr ≡ a) × (l .g .base a ≤ x .stamp))
+          → (l .g .base a ≡ 0) ⊎ ((x : Val) × (c : Counted (parOf p h) (l .g .hd) (itemsIn p v) (l .g .un) x) × (c .z ≢ z .name) × (x .addr ≡ a) × (l .g .base a ≤ x .stamp))
       go (yes e) f = inl e
       go (no e) (inl f) = inl f
       go (no e) (inr (x, c, xa, xs)) = ⊎-elim (λ (w : (placeAt tb a ≡ neverPlace) × (l .g .base a ≡ 0)). inl (w .1))
-          (λ (w : Entry p h (l .g) (itemsIn p v) (placeAt tb a) a). inr (w .x, w .counts, (λ b. entry-elsewhere z dead a sent w (sym (w .same) ∙ b)), w .addr, w .floor)) (l .table a sent)
+          (λ (w : Entry p h (l .g) (itemsIn p v) (placeAt tb a) a). inr
+          (w .x, w .counts, (λ b. entry-elsewhere z dead a sent w (name-once (placeSegment p (placeAt tb a)) z (sym (w .same) ∙ b))), w .addr, w .floor)) (l .table a sent)
         where
           -- the address is in range
           sent : a < p .L
@@ -209,11 +214,11 @@ module _ (p : Params) (h : Ranged p) (v : View) (st : State) (fl tb : List ℕ) 
               (inv-victim .facts .parity .sound (l .g .un) (self-none (parOf p h) (l .g .un) none?) (c .z) (c .s) (c .f) (c .st) x (c .dt)))
 
   -- what is left when such a segment is emptied
-  pub table-left : (z : ℕ) → liveIn p (placesIn p tb) z ≡ [] → (u : ItemView) → Facts (parOf p h) (l .g) u → ((e y : ℕ) → y ≢ z → u e y ≡ itemsIn p v e y) → TableOk p h (l .g) u tb
+  pub table-left : (z : Seg) → liveIn p (placesIn p tb) z ≡ [] → (u : ItemView) → Facts (parOf p h) (l .g) u → ((e y : ℕ) → y ≢ z .name → u e y ≡ itemsIn p v e y) → TableOk p h (l .g) u tb
   table-left z dead u f same a al = ⊎-elim (λ w. inl w)
       (λ (w : Entry p h (l .g) (itemsIn p v) (placeAt tb a) a).
-      let n : placeZone p (placeAt tb a) ≢ z = entry-elsewhere z dead a al w in
+      let n : placeSegment p (placeAt tb a) .name ≢ z .name = λ i. entry-elsewhere z dead a al w (name-once (placeSegment p (placeAt tb a)) z i) in
       inr (entry-to p h (l .g) (l .g) (itemsIn p v) u (placeAt tb a) a w
-      (subst (λ (x : List Item). Off x (placeBlock p (placeAt tb a)) (chunk (w .s) (w .x))) (sym (same (placeDrive p (placeAt tb a)) (placeZone p (placeAt tb a)) n)) (w .at))
+      (subst (λ (x : List Item). Off x (placeBlock p (placeAt tb a)) (chunk (w .s) (w .x))) (sym (same (placeDrive p (placeAt tb a)) (placeSegment p (placeAt tb a) .name) n)) (w .at))
       (counted-kept (parOf p h) (l .g) (l .g) (itemsIn p v) u f (inv-victim .mode .no-pair) refl (w .x) (w .counts)
       (λ d b. same d (w .counts .z) (λ q. n (sym (w .same) ∙ q)))) (w .same) (w .floor))) (l .table a al)

@@ -16,7 +16,7 @@ use Rattle.spec.specs.declared.Answer.{Answer}
 use Rattle.spec.specs.Calls.{firstRefusal, mkPlan}
 use Rattle.spec.specs.Closing.{padded, closeChecks, closePlan}
 use Rattle.spec.specs.Demands.{sendAt}
-use Rattle.spec.specs.Drives.{View, Store, storeView, storeAll, emptyZones}
+use Rattle.spec.specs.Drives.{View, Store, storeView, storeAll, emptySegs}
 use Rattle.spec.specs.History.{Send, mkSend, forget}
 use Rattle.spec.specs.Layout.{mkRec}
 use Rattle.spec.specs.Lists.Opt.{none}
@@ -101,9 +101,9 @@ write-asked p long v m ad b e =
     last : noStamp (m .state) ≡ false → m .state .stamp .0 ≢ 18446744073709551615
     last x = eqb-false (m .state .stamp .0) 18446744073709551615 (unfold noStamp in x)
 
-    room : opens p (m .state) ≡ true → scarce p v (cond (opens p (m .state)) 2 1) ≡ false → 2 ≤ length (emptyZones p v)
+    room : opens p (m .state) ≡ true → scarce p v (cond (opens p (m .state)) 2 1) ≡ false → 2 ≤ length (emptySegs p v)
     room o x =
-        let y : 2 < length (emptyZones p v) = leb-false (length (emptyZones p v)) 2 (subst (λ (t : Bool). leb (length (emptyZones p v)) (cond t 2 1) ≡ false) o (unfold scarce in x)) in omega arith
+        let y : 2 < length (emptySegs p v) = leb-false (length (emptySegs p v)) 2 (subst (λ (t : Bool). leb (length (emptySegs p v)) (cond t 2 1) ≡ false) o (unfold scarce in x)) in omega arith
 
 -- the answer's stripe
 unfoldable pub sentStripe : Params → View → State → ℕ

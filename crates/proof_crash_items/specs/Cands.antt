@@ -8,7 +8,7 @@ use borrow.Author.Tests.{eq-eqb, ltb-true, ltb-false, eqb-true}
 use native.Mathlib.Omega.{arith}
 use lib.Dec.{ltb, eqb}
 use Rattle.spec.specs.declared.Params.{Params}
-use Rattle.spec.specs.Drives.{View}
+use Rattle.spec.specs.Drives.{View, Seg, seg}
 use Rattle.spec.specs.Layout.{dataDrive, dataPosition, isData, dataDrives, Rec}
 use Rattle.spec.specs.Lists.{Opt, below, flat, greatest, isIn}
 use Rattle.spec.specs.Lists.Opt.{none, some}
@@ -16,6 +16,7 @@ use Rattle.spec.specs.Params.{dataCount}
 use Rattle.spec.specs.Rank.{Cand, beats, better, best, candsOf}
 use Rattle.spec.specs.Segments.{remaining, Segment, segmentOf, segments, counted, candOf, segmentCands, candidates, greatestStamp}
 use Rattle.law_basic.specs.Geometry.{Ranged, data-drive-lt, drive-position, position-lt, drive-is-data}
+use Rattle.law_basic.specs.Segs.{Named}
 use Rattle.law_drives.specs.Segs.{piece-rec}
 use Rattle.law_drives.specs.Tests.{cond-true, cond-false}
 use Rattle.proof_crash_machine.specs.Exec.{and-1, or-either}
@@ -126,7 +127,7 @@ has-data-drive p r s d l e =
 -- ---- the record of a piece
 
 module _ (p : Params) (r : Ranged p) (g : Ghost) (v : View) (k : OnDrives p r g v) (m : ℕ) (c : Choice (parOf p r) (g .un) (isIn m)) where
-  abbrev G : ℕ → Segment
+  abbrev G : Seg → Segment
   G z = segmentOf p v m z
 
   unfoldable pub candsSeen : List Cand
@@ -134,7 +135,7 @@ module _ (p : Params) (r : Ranged p) (g : Ghost) (v : View) (k : OnDrives p r g 
 
   -- where a record comes from
   pub record From (x : Cand) : Type 0 where
-    pub z : ℕ
+    pub z : Seg
     pub s : ℕ
     pub d : ℕ
     pub rem : Has z (remaining p v m)
@@ -148,7 +149,7 @@ module _ (p : Params) (r : Ranged p) (g : Ghost) (v : View) (k : OnDrives p r g 
   cands-from x i =
       let a : (q : Segment) × Has q (map (segmentOf p v m) (remaining p v m)) × Has x (flat (λ s. map (candOf p m q s) (dataDrives p s)) (counted p m q)) =
       flat-has (segmentCands p m) x (map (segmentOf p v m) (remaining p v m)) i in
-      let b : (z : ℕ) × Has z (remaining p v m) × (a .0 ≡ G z) = map-has (segmentOf p v m) (a .0) (remaining p v m) (a .1) in
+      let b : (z : Seg) × Has z (remaining p v m) × (a .0 ≡ G z) = map-has (segmentOf p v m) (a .0) (remaining p v m) (a .1) in
       let t : Has x (flat (λ s. map (candOf p m (G (b .0)) s) (dataDrives p s)) (counted p m (G (b .0)))) =
       subst (λ (q : Segment). Has x (flat (λ s. map (candOf p m q s) (dataDrives p s)) (counted p m q))) (b .2) (a .2) in
       let e : (s : ℕ) × Has s (counted p m (G (b .0))) × Has x (map (candOf p m (G (b .0)) s) (dataDrives p s)) =
@@ -156,7 +157,7 @@ module _ (p : Params) (r : Ranged p) (g : Ghost) (v : View) (k : OnDrives p r g 
       let f : (d : ℕ) × Has d (dataDrives p (e .0)) × (x ≡ candOf p m (G (b .0)) (e .0) d) = map-has (candOf p m (G (b .0)) (e .0)) x (dataDrives p (e .0)) (e .2) in
       record { z = b .0; s = e .0; d = f .0; rem = b .1; cnt = e .1; drv = data-drives p r (e .0) (f .0) (f .1) .0; dat = data-drives p r (e .0) (f .0) (f .1) .1; is = f .2 }
 
-  pub has-cand : (z s d : ℕ) → Has z (remaining p v m) → Has s (counted p m (G z)) → d < p .N → isData p s d ≡ true → Has (candOf p m (G z) s d) candsSeen
+  pub has-cand : (z : Seg) (s d : ℕ) → Has z (remaining p v m) → Has s (counted p m (G z)) → d < p .N → isData p s d ≡ true → Has (candOf p m (G z) s d) candsSeen
   unfolding candsSeen candidates segmentCands segments
   has-cand z s d i j l n =
       has-flat (segmentCands p m) (candOf p m (G z) s d) (map (segmentOf p v m) (remaining p v m)) (G z)
@@ -165,7 +166,7 @@ module _ (p : Params) (r : Ranged p) (g : Ghost) (v : View) (k : OnDrives p r g 
       (has-map (candOf p m (G z) s) (dataDrives p s) d (has-data-drive p r s d l n)))
 
   -- its address and stamp are those of the piece
-  pub cand-value : (z s d : ℕ) → (candOf p m (G z) s d .address ≡ pieceAt p r g v k m c z s d .addr) × (candOf p m (G z) s d .stamp ≡ pieceAt p r g v k m c z s d .stamp)
+  pub cand-value : (z : Seg) (s d : ℕ) → (candOf p m (G z) s d .address ≡ pieceAt p r g v k m c z s d .addr) × (candOf p m (G z) s d .stamp ≡ pieceAt p r g v k m c z s d .stamp)
   unfolding candOf pieceAt pieceValue valueOf
   cand-value z s d = (ap (λ (x : Rec). x .address) (sym (piece-rec p m (G z) s d)), ap (λ (x : Rec). x .stamp) (sym (piece-rec p m (G z) s d)))
 
@@ -173,9 +174,9 @@ module _ (p : Params) (r : Ranged p) (g : Ghost) (v : View) (k : OnDrives p r g 
       → Counted (parOf p r) (g .hd) (itemsIn p v) (isIn m) (pieceAt p r g v k m c (f .z) (f .s) (f .d)) × (pieceAt p r g v k m c (f .z) (f .s) (f .d) .addr ≡ x .address)
       × (pieceAt p r g v k m c (f .z) (f .s) (f .d) .stamp ≡ x .stamp)
   cand-counted x f =
-      let b : (f .z < p .Z) × R (parOf p r) (g .hd) (itemsIn p v) (isIn m) (f .z) = remaining-has p r g v k m c (f .z) (f .rem) in (
+      let b : Named p (f .z) × R (parOf p r) (g .hd) (itemsIn p v) (isIn m) (f .z .name) = remaining-has p r g v k m c (f .z) (f .rem) in (
         record {
-          z = f .z;
+          z = f .z .name;
           s = f .s;
           f = pieceAt p r g v k m c (f .z) (f .s);
           rem = b .1;
@@ -191,12 +192,13 @@ module _ (p : Params) (r : Ranged p) (g : Ghost) (v : View) (k : OnDrives p r g 
 
   pub of-counted : (x : Val) → Counted (parOf p r) (g .hd) (itemsIn p v) (isIn m) x → (y : Cand) × Has y candsSeen × (y .address ≡ x .addr) × (y .stamp ≡ x .stamp)
   of-counted x q =
-      let e : Has (q .s) (counted p m (G (q .z))) × ((d : ℕ) → d < p .N → pieceAt p r g v k m c (q .z) (q .s) d ≡ q .f d) = stripe-counted p r g v k m c (q .z) (q .s) (q .f) (q .st) in
-      let w : pieceAt p r g v k m c (q .z) (q .s) (q .dt .d) ≡ x = e .1 (q .dt .d) (q .dt .lt) ∙ q .dt .val in (
-        candOf p m (G (q .z)) (q .s) (q .dt .d),
-        has-cand (q .z) (q .s) (q .dt .d) (has-remaining p r g v k m c (q .z) (q .rem)) (e .0) (q .dt .lt) (code-data p r (q .s) (q .dt .d) (q .dt .data?)),
-        cand-value (q .z) (q .s) (q .dt .d) .0 ∙ ap (λ (y : Val). y .addr) w,
-        cand-value (q .z) (q .s) (q .dt .d) .1 ∙ ap (λ (y : Val). y .stamp) w,
+      let e : Has (q .s) (counted p m (G (seg (q .z)))) × ((d : ℕ) → d < p .N → pieceAt p r g v k m c (seg (q .z)) (q .s) d ≡ q .f d) =
+      stripe-counted p r g v k m c (seg (q .z)) (q .s) (q .f) (q .st) in
+      let w : pieceAt p r g v k m c (seg (q .z)) (q .s) (q .dt .d) ≡ x = e .1 (q .dt .d) (q .dt .lt) ∙ q .dt .val in (
+        candOf p m (G (seg (q .z))) (q .s) (q .dt .d),
+        has-cand (seg (q .z)) (q .s) (q .dt .d) (has-remaining p r g v k m c (seg (q .z)) (q .rem)) (e .0) (q .dt .lt) (code-data p r (q .s) (q .dt .d) (q .dt .data?)),
+        cand-value (seg (q .z)) (q .s) (q .dt .d) .0 ∙ ap (λ (y : Val). y .addr) w,
+        cand-value (seg (q .z)) (q .s) (q .dt .d) .1 ∙ ap (λ (y : Val). y .stamp) w,
       )
 
   -- ---- the greatest stamps

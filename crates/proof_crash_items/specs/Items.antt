@@ -1,7 +1,8 @@
 -- The drives as the machine sees them: stored items. A store on the view is the store on the items, for every prefix. Assumes nothing.
-use mathlib.Core.Path.{_≡_, refl, sym, ap, ap₂, _∙_}
+use mathlib.Core.Path.{_≡_, refl, sym, ap, ap₂, _∙_, subst}
 use mathlib.Core.List.{List, [], _∷_, _++_}
 use mathlib.Core.Bool.{cond}
+use mathlib.Core.Logic.{_⊎_, inl, inr, ⊎-elim, _≢_}
 use Prim.Native.Nat.{ℕ, zero, suc, _+_, _-_, _≤_, _<_}
 use native.Mathlib.Decide.{decLt}
 use borrow.Author.Tests.{lt-ltb, le-ltb}
@@ -11,10 +12,11 @@ use lib.ListN.{length, getD, take, List·getD-eq-default}
 use lib.Seq.{getD-take, take-suc-set, length-take-le}
 use Rattle.spec.specs.declared.Params.{Params}
 use Rattle.spec.specs.Bytes.{readField}
-use Rattle.spec.specs.Drives.{Chunk, mkChunk, noChunk, Zone, stored, View, zoneAt, pointerAt, Store, putZone, resetZone, setZone, storeView, storeAll, zoneOn, noZone}
+use Rattle.spec.specs.Drives.{Chunk, mkChunk, noChunk, Zone, stored, View, zoneAt, pointerAt, Store, putZone, resetZone, setZone, storeView, storeAll, noZone, Seg, seg, zoneOn}
 use Rattle.spec.specs.Drives.Store.{put, reset}
 use Rattle.spec.specs.Layout.{headerWidths, zoneField, headerSerial, headerCopied, Rec, recordOf}
 use Rattle.spec.specs.Params.{capacity}
+use Rattle.law_basic.specs.Segs.{Named, zone-named, segOn, seg-on-named, seg-on-zone, other-zone}
 use Rattle.law_views.specs.Views.{Fits, AllFit}
 use Rattle.law_drives.specs.Tests.{cond-true, cond-false}
 use Rattle.proof_crash_machine.specs.Facts.{Off}
@@ -32,9 +34,13 @@ valueOf b r = record { addr = r .address; stamp = r .stamp; blk = λ i. getD b i
 unfoldable pub chunkItem : Chunk → Item
 chunkItem c = chunk (recordOf (c .spare) .stripe) (valueOf (c .block) (recordOf (c .spare)))
 
--- the zones that a header names, by drive: those of the segment with its zone's number
+-- a header's drive: its index in the table
+abbrev pub driveField : ℕ
+driveField = 3
+
+-- the zones that a header names, by drive: those of the segment of its zone
 unfoldable pub headerZones : List ℕ → ℕ → ℕ
-headerZones b = zoneOn (readField headerWidths zoneField b)
+headerZones b = zoneOn (segOn (readField headerWidths driveField b) (readField headerWidths zoneField b))
 
 -- block 0 is the header, 1 to S are data, then footers
 unfoldable pub itemAt : Params → ℕ → Chunk → Item
@@ -49,31 +55,31 @@ itemsFrom p k (c ∷ cs) = itemAt p k c ∷ itemsFrom p (suc k) cs
 unfoldable pub itemsOf : Params → Zone → List Item
 itemsOf p q = itemsFrom p 0 (stored q)
 
--- the drives, by drive and zone
+-- the drives, by drive and segment: the segment's name is the machine's number of it
 unfoldable pub itemsIn : Params → View → ItemView
-itemsIn p v d z = itemsOf p (zoneAt v d z)
+itemsIn p v d n = itemsOf p (zoneAt v d (zoneOn (seg n) d))
 
-pub items-in : (p : Params) (v : View) (d z : ℕ) → itemsIn p v d z ≡ itemsOf p (zoneAt v d z)
+pub items-in : (p : Params) (v : View) (d : ℕ) (g : Seg) → itemsIn p v d (g .name) ≡ itemsOf p (zoneAt v d (zoneOn g d))
 unfolding itemsIn
-items-in p v d z = refl
+items-in p v d g = refl
 
--- beyond the drives, or their zones, there is nothing
-pub outside-nothing : (p : Params) (v : View) → Shape p v → (d z : ℕ) → (d < p .N → z < p .Z → ⊥) → itemsIn p v d z ≡ []
+-- beyond the drives, or the segments, there is nothing
+pub outside-nothing : (p : Params) (v : View) → Shape p v → (d : ℕ) (g : Seg) → (d < p .N → Named p g → ⊥) → itemsIn p v d (g .name) ≡ []
 unfolding itemsIn zoneAt
-outside-nothing p v h d z n = go (decLt d (p .N))
+outside-nothing p v h d g n = go (decLt d (p .N))
   where
     nothing : itemsOf p noZone ≡ []
     nothing = unfold itemsOf stored itemsFrom noZone in refl
 
-    go : Dec (d < p .N) → itemsOf p (getD (getD v d []) z noZone) ≡ []
-    go (no q) = ap (λ (x : List Zone). itemsOf p (getD x z noZone)) (List·getD-eq-default v [] {n = d} (omega (arith, h .drives))) ∙ nothing
-    go (yes q) = ap (itemsOf p) (List·getD-eq-default (getD v d []) noZone {n = z} (omega (arith, h .zones d q, above))) ∙ nothing
+    go : Dec (d < p .N) → itemsOf p (getD (getD v d []) (zoneOn g d) noZone) ≡ []
+    go (no q) = ap (λ (x : List Zone). itemsOf p (getD x (zoneOn g d) noZone)) (List·getD-eq-default v [] {n = d} (omega (arith, h .drives))) ∙ nothing
+    go (yes q) = ap (itemsOf p) (List·getD-eq-default (getD v d []) noZone {n = zoneOn g d} (omega (arith, h .zones d q, above))) ∙ nothing
       where
-        above : p .Z ≤ z
-        above = low (decLt z (p .Z))
+        above : p .Z ≤ zoneOn g d
+        above = low (decLt (zoneOn g d) (p .Z))
           where
-            low : Dec (z < p .Z) → p .Z ≤ z
-            low (yes b) = absurd (n q b)
+            low : Dec (zoneOn g d < p .Z) → p .Z ≤ zoneOn g d
+            low (yes b) = absurd (n q (zone-named p g d b))
             low (no b) = omega arith
 
 -- ---- lists of items
@@ -169,39 +175,49 @@ pub items-reset-zone : (p : Params) (q : Zone) → itemsOf p (resetZone q) ≡ [
 unfolding itemsOf stored resetZone itemsFrom
 items-reset-zone p q = refl
 
--- ---- a store on the view
+-- ---- a store on the view: it changes the segment of its zone, and no other
+
+zone-of-other : (p : Params) (d z e n : ℕ) → z < p .Z → (e ≢ d) ⊎ (n ≢ segOn d z .name) → (e ≢ d) ⊎ (zoneOn (seg n) e ≢ z)
+zone-of-other p d z e n k w =
+    subst (λ (x : ℕ). (e ≢ d) ⊎ (zoneOn (seg n) e ≢ x)) (seg-on-zone d z)
+    (other-zone p (seg n) (segOn d z) e d (seg-on-named p d z k) (⊎-elim (λ (i : e ≢ d). inl i) (λ (i : n ≢ segOn d z .name). inr (λ q. i (ap (λ (x : Seg). x .name) q))) w))
+
+-- and its own zone is there
+zone-of-same : (d z e n : ℕ) → e ≡ d → n ≡ segOn d z .name → zoneOn (seg n) e ≡ z
+zone-of-same d z e n a c = ap₂ (λ (x y : ℕ). zoneOn (seg x) y) c a ∙ seg-on-zone d z
 
 pub items-put : (p : Params) (v : View) → Shape p v → (d z : ℕ) (b s : List ℕ) → d < p .N → z < p .Z → pointerAt v d z < capacity p
-    → itemsIn p (storeView (put d z b s) v) ≡ withItem (itemsIn p v) d z (itemAt p (pointerAt v d z) (mkChunk b s))
+    → itemsIn p (storeView (put d z b s) v) ≡ withItem (itemsIn p v) d (segOn d z .name) (itemAt p (pointerAt v d z) (mkChunk b s))
 unfolding storeView withItem itemsIn pointerAt
-items-put p v h d z b s l k r = λ j e y. go e y j
+items-put p v h d z b s l k r = λ j e n. go e n j
   where
-    q : Zone
-    q = zoneAt v d z
+    old : itemsOf p (zoneAt v d (zoneOn (segOn d z) d)) ≡ itemsOf p (zoneAt v d z)
+    old = ap (λ (x : ℕ). itemsOf p (zoneAt v d x)) (seg-on-zone d z)
 
-    go : (e y : ℕ) → itemsOf p (zoneAt (setZone v d z (putZone b s (zoneAt v d z))) e y)
-        ≡ upd (itemsIn p v) d z (itemsIn p v d z ++ (itemAt p (zoneAt v d z .pointer) (mkChunk b s) ∷ [])) e y
-    go e y = upd-elim (λ (i : List Item). itemsOf p (zoneAt (setZone v d z (putZone b s (zoneAt v d z))) e y) ≡ i) (itemsIn p v) d z
-        (itemsIn p v d z ++ (itemAt p (zoneAt v d z .pointer) (mkChunk b s) ∷ [])) e y
-        (λ a c. ap (itemsOf p) (ap₂ (zoneAt (setZone v d z (putZone b s (zoneAt v d z)))) a c ∙ zone-set-at p v h d z (putZone b s (zoneAt v d z)) l k)
-        ∙ items-put-zone p (zoneAt v d z) b s (omega (arith, r, h .blocks d z l k)))
-        (λ w. ap (itemsOf p) (zone-set-else p v h d z (putZone b s (zoneAt v d z)) l e y w))
+    go : (e n : ℕ) → itemsOf p (zoneAt (setZone v d z (putZone b s (zoneAt v d z))) e (zoneOn (seg n) e))
+        ≡ upd (itemsIn p v) d (segOn d z .name) (itemsOf p (zoneAt v d (zoneOn (segOn d z) d)) ++ (itemAt p (zoneAt v d z .pointer) (mkChunk b s) ∷ [])) e n
+    go e n = upd-elim (λ (i : List Item). itemsOf p (zoneAt (setZone v d z (putZone b s (zoneAt v d z))) e (zoneOn (seg n) e)) ≡ i) (itemsIn p v) d (segOn d z .name)
+        (itemsOf p (zoneAt v d (zoneOn (segOn d z) d)) ++ (itemAt p (zoneAt v d z .pointer) (mkChunk b s) ∷ [])) e n
+        (λ a c. ap (itemsOf p) (ap₂ (zoneAt (setZone v d z (putZone b s (zoneAt v d z)))) a (zone-of-same d z e n a c) ∙ zone-set-at p v h d z (putZone b s (zoneAt v d z)) l k)
+        ∙ items-put-zone p (zoneAt v d z) b s (omega (arith, r, h .blocks d z l k))
+        ∙ ap (λ (x : List Item). x ++ (itemAt p (zoneAt v d z .pointer) (mkChunk b s) ∷ [])) (sym old))
+        (λ w. ap (itemsOf p) (zone-set-else p v h d z (putZone b s (zoneAt v d z)) l e (zoneOn (seg n) e) (zone-of-other p d z e n k w)))
 
-pub items-reset : (p : Params) (v : View) → Shape p v → (d z : ℕ) → d < p .N → z < p .Z → itemsIn p (storeView (reset d z) v) ≡ emptiedAt (itemsIn p v) d z
+pub items-reset : (p : Params) (v : View) → Shape p v → (d z : ℕ) → d < p .N → z < p .Z → itemsIn p (storeView (reset d z) v) ≡ emptiedAt (itemsIn p v) d (segOn d z .name)
 unfolding storeView emptiedAt itemsIn
-items-reset p v h d z l k = λ j e y. go e y j
+items-reset p v h d z l k = λ j e n. go e n j
   where
-    go : (e y : ℕ) → itemsOf p (zoneAt (setZone v d z (resetZone (zoneAt v d z))) e y) ≡ upd (itemsIn p v) d z [] e y
-    go e y = upd-elim (λ (i : List Item). itemsOf p (zoneAt (setZone v d z (resetZone (zoneAt v d z))) e y) ≡ i) (itemsIn p v) d z [] e y
-        (λ a c. ap (itemsOf p) (ap₂ (zoneAt (setZone v d z (resetZone (zoneAt v d z)))) a c ∙ zone-set-at p v h d z (resetZone (zoneAt v d z)) l k)
+    go : (e n : ℕ) → itemsOf p (zoneAt (setZone v d z (resetZone (zoneAt v d z))) e (zoneOn (seg n) e)) ≡ upd (itemsIn p v) d (segOn d z .name) [] e n
+    go e n = upd-elim (λ (i : List Item). itemsOf p (zoneAt (setZone v d z (resetZone (zoneAt v d z))) e (zoneOn (seg n) e)) ≡ i) (itemsIn p v) d (segOn d z .name) [] e n
+        (λ a c. ap (itemsOf p) (ap₂ (zoneAt (setZone v d z (resetZone (zoneAt v d z)))) a (zone-of-same d z e n a c) ∙ zone-set-at p v h d z (resetZone (zoneAt v d z)) l k)
         ∙ items-reset-zone p (zoneAt v d z))
-        (λ w. ap (itemsOf p) (zone-set-else p v h d z (resetZone (zoneAt v d z)) l e y w))
+        (λ w. ap (itemsOf p) (zone-set-else p v h d z (resetZone (zoneAt v d z)) l e (zoneOn (seg n) e) (zone-of-other p d z e n k w)))
 
 -- ---- the machine's stores
 
 unfoldable pub storeItem : Params → View → Store → ItemStore
-storeItem p v (put d z b s) = m-put d z (itemAt p (pointerAt v d z) (mkChunk b s))
-storeItem p v (reset d z) = m-reset d z
+storeItem p v (put d z b s) = m-put d (segOn d z .name) (itemAt p (pointerAt v d z) (mkChunk b s))
+storeItem p v (reset d z) = m-reset d (segOn d z .name)
 
 unfoldable pub storeItems : Params → View → List Store → List ItemStore
 storeItems p v [] = []

@@ -2,7 +2,6 @@ pub mod Member
 pub mod Ranges
 pub mod Named
 pub mod Shape
-pub mod Zoning
 pub mod Items
 pub mod Codec
 pub mod ZoneBytes

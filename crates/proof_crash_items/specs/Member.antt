@@ -155,7 +155,7 @@ unfolding isNil
 isNil-has [] a m = absurd m
 isNil-has (b ∷ l) a m = refl
 
-pub firstOr-has : (n : ℕ) (l : List ℕ) → isNil l ≡ false → Has (firstOr n l) l
+pub firstOr-has : {A : Type 0} (n : A) (l : List A) → isNil l ≡ false → Has (firstOr n l) l
 unfolding isNil firstOr
 firstOr-has n [] e = true≢false (sym e)
 firstOr-has n (b ∷ l) e = inl refl

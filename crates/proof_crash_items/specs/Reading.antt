@@ -16,7 +16,7 @@ use Rattle.spec.specs.Answers.{kind}
 use Rattle.spec.specs.Bytes.{parity}
 use Rattle.spec.specs.Calls.{mkPlan, decided, limited, outcome}
 use Rattle.spec.specs.Counts.{neverPlace}
-use Rattle.spec.specs.Drives.{noChunk, View, zoneAt, pointerAt, chunkAt, Disk, storeDisk, zoneOn}
+use Rattle.spec.specs.Drives.{noChunk, View, zoneAt, pointerAt, chunkAt, Disk, storeDisk, Seg, zoneOn, placeSegment}
 use Rattle.spec.specs.Engine.Call.{read, fill}
 use Rattle.spec.specs.Engine.{storeCount, lentBlock, verdict, lentOk, callOn, callDisk}
 use Rattle.spec.specs.History.{mkWorld, seenFilled, seenAt}
@@ -33,6 +33,7 @@ use Rattle.spec.specs.Segments.{Segment, segmentOf, segments, offsetOn, hasChun
 use Rattle.law_checks.specs.Passed.{read-goes, fill-goes}
 use Rattle.law_basic.specs.Geometry.{between-of, Ranged, capacity-high, zones-all, addresses-all, place-block, place-zone, place-drive, place-lt}
 use Rattle.law_basic.specs.Ranges.{and-false}
+use Rattle.law_basic.specs.Segs.{Named, zone-on-lt, place-segment-of}
 use Rattle.law_basic.specs.Xor.{length-parity}
 use Rattle.law_views.specs.Views.{Whole, seen}
 use Rattle.law_calls.specs.Refusals.{state-fine}
@@ -135,7 +136,7 @@ module _ (p : Params) (r : Ranged p) (g : Ghost) (dk : Disk) (w : Whole p dk) (k
   abbrev v : View
   v = seen p dk
 
-  abbrev G : ℕ → Segment
+  abbrev G : Seg → Segment
   G z = segmentOf p v m z
 
   abbrev cands : List Cand
@@ -143,8 +144,14 @@ module _ (p : Params) (r : Ranged p) (g : Ghost) (dk : Disk) (w : Whole p dk) (k
 
   -- where a record's piece lies
   module _ (x : Cand) (f : From p r g v k m c x) where
-    zb : f .z < p .Z
+    zb : Named p (f .z)
     zb = remaining-has p r g v k m c (f .z) (f .rem) .0
+
+    abbrev its-zone : ℕ
+    its-zone = zoneOn (f .z) (f .d)
+
+    its-zone-low : its-zone < p .Z
+    its-zone-low = zone-on-lt p (f .z) (f .d) zb
 
     chunk-on : (d : ℕ) → d < p .N → isIn m d ≡ false → hasChunk (G (f .z)) (f .s) d ≡ true
     chunk-on = counted-has p r g v k m c (f .z) (f .s) (f .cnt) .1
@@ -167,29 +174,33 @@ module _ (p : Params) (r : Ranged p) (g : Ghost) (dk : Disk) (w : Whole p dk) (k
         go true e = subst (λ (x : ℕ). x < p .S) (sym (off-lost e)) (counted-has p r g v k m c (f .z) (f .s) (f .cnt) .0)
         go false n =
             subst (λ (x : ℕ). x < p .S) (sym (offset-read n))
-            (stored-below p (zoneAt v (f .d) (f .z)) (offsetOn (G (f .z)) (f .d) (f .s))
+            (stored-below p (zoneAt v (f .d) its-zone) (offsetOn (G (f .z)) (f .d) (f .s))
             (offset-on p r g v k m c (f .z) (f .s) (f .d) zb (f .drv) n (chunk-on (f .d) (f .drv) n) .0) .0)
 
     block-few : 1 + off < capacity p
     block-few = omega (arith, off-few, capacity-few p r)
 
-    place-is : x .place ≡ placeOf p (f .d) (f .z) (1 + off)
+    place-is : x .place ≡ placeOf p (f .d) its-zone (1 + off)
     place-is = ap (λ (y : Cand). y .place) (f .is) ∙ go
       where
-        go : candOf p m (G (f .z)) (f .s) (f .d) .place ≡ placeOf p (f .d) (f .z) (1 + off)
-        go = unfold candOf off zoneOn segmentOf in refl
+        go : candOf p m (G (f .z)) (f .s) (f .d) .place ≡ placeOf p (f .d) its-zone (1 + off)
+        go = unfold candOf off segmentOf in refl
 
     place-d : placeDrive p (x .place) ≡ f .d
-    place-d = ap (placeDrive p) place-is ∙ place-drive p (f .d) (f .z) (1 + off) zb block-few
+    place-d = ap (placeDrive p) place-is ∙ place-drive p (f .d) its-zone (1 + off) its-zone-low block-few
 
-    place-z : placeZone p (x .place) ≡ f .z
-    place-z = ap (placeZone p) place-is ∙ place-zone p (f .d) (f .z) (1 + off) zb block-few
+    place-z : placeZone p (x .place) ≡ its-zone
+    place-z = ap (placeZone p) place-is ∙ place-zone p (f .d) its-zone (1 + off) its-zone-low block-few
+
+    place-seg : placeSegment p (x .place) ≡ f .z
+    place-seg = ap (placeSegment p) place-is ∙ place-segment-of p (f .z) (f .d) (1 + off) zb block-few
 
     place-b : placeBlock p (x .place) ≡ 1 + off
-    place-b = ap (placeBlock p) place-is ∙ place-block p (f .d) (f .z) (1 + off) block-few
+    place-b = ap (placeBlock p) place-is ∙ place-block p (f .d) its-zone (1 + off) block-few
 
     place-low : x .place < neverPlace
-    place-low = let q : placeOf p (f .d) (f .z) (1 + off) < p .N * p .Z * capacity p = place-lt p (f .d) (f .z) (1 + off) (f .drv) zb block-few in omega (arith, place-is, q, places-many p r)
+    place-low =
+        let q : placeOf p (f .d) its-zone (1 + off) < p .N * p .Z * capacity p = place-lt p (f .d) its-zone (1 + off) (f .drv) its-zone-low block-few in omega (arith, place-is, q, places-many p r)
 
     no-place-fault : placeFaults p v m (x .place) ≡ []
     unfolding placeFaults
@@ -212,14 +223,14 @@ module _ (p : Params) (r : Ranged p) (g : Ghost) (dk : Disk) (w : Whole p dk) (k
         nothing true z e = true≢false (sym e)
         nothing false z e = unfold consIf in refl
 
-        go : (y : Bool) → isIn m (f .d) ≡ y → (not (isIn m (f .d)) && leb (pointerAt v (f .d) (f .z)) (1 + off)) ≡ false
-        go true e = and-false-1 (not (isIn m (f .d))) (leb (pointerAt v (f .d) (f .z)) (1 + off)) (ap not e)
-        go false n = and-false (not (isIn m (f .d))) (leb (pointerAt v (f .d) (f .z)) (1 + off)) (lt-leb (pointerAt v (f .d) (f .z)) (1 + off)
+        go : (y : Bool) → isIn m (f .d) ≡ y → (not (isIn m (f .d)) && leb (pointerAt v (f .d) its-zone) (1 + off)) ≡ false
+        go true e = and-false-1 (not (isIn m (f .d))) (leb (pointerAt v (f .d) its-zone) (1 + off)) (ap not e)
+        go false n = and-false (not (isIn m (f .d))) (leb (pointerAt v (f .d) its-zone) (1 + off)) (lt-leb (pointerAt v (f .d) its-zone) (1 + off)
             (omega (
               arith,
               offset-read n,
-              pointer-is v (f .d) (f .z),
-              stored-below p (zoneAt v (f .d) (f .z)) (offsetOn (G (f .z)) (f .d) (f .s))
+              pointer-is v (f .d) its-zone,
+              stored-below p (zoneAt v (f .d) its-zone) (offsetOn (G (f .z)) (f .d) (f .s))
                   (offset-on p r g v k m c (f .z) (f .s) (f .d) zb (f .drv) n (chunk-on (f .d) (f .drv) n) .0) .1,
             )))
 
@@ -227,16 +238,16 @@ module _ (p : Params) (r : Ranged p) (g : Ghost) (dk : Disk) (w : Whole p dk) (k
     read-stored : isIn m (f .d) ≡ false → readPiece p v m (compactTable p (segments p v m)) (here (x .place)) .block ≡ pieceOf p m (G (f .z)) (f .s) (f .d) .block
     unfolding readPiece storedAt chunkAt
     read-stored n =
-        rw (place-d, place-z, place-b) (
-        ap (λ (i : ℕ). getD (zoneAt v (f .d) (f .z) .blocks) i noChunk .block) (let e : 1 + (1 + off - 1) ≡ suc (offsetOn (G (f .z)) (f .d) (f .s)) = omega (arith, offset-read n) in e)
+        rw (place-d, place-seg, place-b) (
+        ap (λ (i : ℕ). getD (zoneAt v (f .d) its-zone .blocks) i noChunk .block) (let e : 1 + (1 + off - 1) ≡ suc (offsetOn (G (f .z)) (f .d) (f .s)) = omega (arith, offset-read n) in e)
         ∙ sym (ap (λ (y : Piece). y .block) (stored-piece p r g v k m c (f .z) (f .s) (f .d) zb (f .drv) n (chunk-on (f .d) (f .drv) n)))
         ∙ sym (ap (λ (y : Piece). y .block) (piece-here p r g v k m c (f .z) (f .s) (f .d) (f .drv) n)))
 
     shown-block : (d : ℕ) → d < p .N → isIn m d ≡ false
-        → storedAt p v m d (f .z) (firstOr 0 (shownAt p v (compactTable p (segments p v m)) d (f .z) (f .s))) .block ≡ storedPiece (G (f .z)) (f .s) d .block
+        → storedAt p v m d (f .z) (firstOr 0 (shownAt p v (compactTable p (segments p v m)) d (zoneOn (f .z) d) (f .s))) .block ≡ storedPiece (G (f .z)) (f .s) d .block
     unfolding storedAt chunkAt
     shown-block d l n =
-        ap (λ (i : ℕ). getD (zoneAt v d (f .z) .blocks) i noChunk .block)
+        ap (λ (i : ℕ). getD (zoneAt v d (zoneOn (f .z) d) .blocks) i noChunk .block)
         (ap (λ (i : ℕ). 1 + i) (shown-offset p r g v k m c (f .z) (f .s) d (f .rem) l n (chunk-on d l n))
         ∙ (let e : 1 + offsetOn (G (f .z)) d (f .s) ≡ suc (offsetOn (G (f .z)) d (f .s)) = omega arith in e))
         ∙ sym (ap (λ (y : Piece). y .block) (stored-piece p r g v k m c (f .z) (f .s) d zb l n (chunk-on d l n)))
@@ -244,16 +255,16 @@ module _ (p : Params) (r : Ranged p) (g : Ghost) (dk : Disk) (w : Whole p dk) (k
     read-decoded : isIn m (f .d) ≡ true → readPiece p v m (compactTable p (segments p v m)) (away (x .place)) .block ≡ pieceOf p m (G (f .z)) (f .s) (f .d) .block
     unfolding readPiece decodedAt parityPiece
     read-decoded e =
-        rw (place-z, place-b) (
+        rw (place-seg, place-b) (
         ap (λ (s : ℕ). parity (p .B) (map (λ (q : Piece). q .block)
-        (map (λ d. storedAt p v m d (f .z) (firstOr 0 (shownAt p v (compactTable p (segments p v m)) d (f .z) s)))
+        (map (λ d. storedAt p v m d (f .z) (firstOr 0 (shownAt p v (compactTable p (segments p v m)) d (zoneOn (f .z) d) s)))
         (present p m))))
         (let i : 1 + off - 1 ≡ f .s = omega (arith, off-lost e) in i)
         ∙ ap (parity (p .B)) (same (present p m) (λ d i. present-has p m d i))
         ∙ sym (ap (λ (y : Piece). y .block) (piece-lost p r g v k m c (f .z) (f .s) (f .d) e)))
       where
         same : (l : List ℕ) → ((d : ℕ) → Has d l → (d < p .N) × (isIn m d ≡ false))
-            → map (λ (q : Piece). q .block) (map (λ d. storedAt p v m d (f .z) (firstOr 0 (shownAt p v (compactTable p (segments p v m)) d (f .z) (f .s)))) l)
+            → map (λ (q : Piece). q .block) (map (λ d. storedAt p v m d (f .z) (firstOr 0 (shownAt p v (compactTable p (segments p v m)) d (zoneOn (f .z) d) (f .s)))) l)
             ≡ map (λ (q : Piece). q .block) (map (storedPiece (G (f .z)) (f .s)) l)
         same [] h = refl
         same (d ∷ l) h = ap₂ (λ (b : List ℕ) (bs : List (List ℕ)). b ∷ bs) (shown-block d (h d (inl refl) .0) (h d (inl refl) .1)) (same l (λ e i. h e (inr i)))
@@ -261,7 +272,7 @@ module _ (p : Params) (r : Ranged p) (g : Ghost) (dk : Disk) (w : Whole p dk) (k
     no-decode-fault : isIn m (f .d) ≡ true → decodeFaults p v m (compactTable p (segments p v m)) (away (x .place)) ≡ []
     unfolding decodeFaults shown
     no-decode-fault e =
-        nothing (any isNil (map (λ d. shownAt p v (compactTable p (segments p v m)) d (placeZone p (x .place)) (placeBlock p (x .place) - 1))
+        nothing (any isNil (map (λ d. shownAt p v (compactTable p (segments p v m)) d (zoneOn (placeSegment p (x .place)) d) (placeBlock p (x .place) - 1))
         (present p m))) (placeZone p (x .place)) go
       where
         nothing : (b : Bool) (z : ℕ) → b ≡ false → consIf b z [] ≡ []
@@ -269,10 +280,10 @@ module _ (p : Params) (r : Ranged p) (g : Ghost) (dk : Disk) (w : Whole p dk) (k
         nothing false z e = unfold consIf in refl
 
         at : ℕ → List ℕ
-        at d = shownAt p v (compactTable p (segments p v m)) d (f .z) (f .s)
+        at d = shownAt p v (compactTable p (segments p v m)) d (zoneOn (f .z) d) (f .s)
 
-        go : any isNil (map (λ d. shownAt p v (compactTable p (segments p v m)) d (placeZone p (x .place)) (placeBlock p (x .place) - 1)) (present p m)) ≡ false
-        go = ap₂ (λ (z s : ℕ). any isNil (map (λ d. shownAt p v (compactTable p (segments p v m)) d z s) (present p m))) place-z
+        go : any isNil (map (λ d. shownAt p v (compactTable p (segments p v m)) d (zoneOn (placeSegment p (x .place)) d) (placeBlock p (x .place) - 1)) (present p m)) ≡ false
+        go = ap₂ (λ (z : Seg) (s : ℕ). any isNil (map (λ d. shownAt p v (compactTable p (segments p v m)) d (zoneOn z d) s) (present p m))) place-seg
             (ap (λ (y : ℕ). y - 1) place-b ∙ (let i : 1 + off - 1 ≡ f .s = omega (arith, off-lost e) in i))
             ∙ none-any isNil (map at (present p m)) (λ y i.
             let d : (d : ℕ) × Has d (present p m) × (y ≡ at d) = map-has at y (present p m) i in

@@ -4,7 +4,6 @@ use mathlib.Core.List.{List, [], _∷_, map}
 use mathlib.Core.Bool.{Bool, true, false, not, _&&_, _||_}
 use mathlib.Core.Logic.{inl, inr, _≢_}
 use Prim.Native.Nat.{ℕ, zero, suc, _+_, _≤_, _<_}
-use native.Mathlib.Decide.{ℕ-discrete}
 use borrow.Author.Tests.{lt-leb, lt-ltb, le-ltb, eq-eqb, ne-eqb, not-true}
 use native.Mathlib.Omega.{arith}
 use lib.Dec.{leb, ltb, eqb}
@@ -13,18 +12,19 @@ use lib.Seq.{getD-take, getD-drop, ext-getD, length-take-le}
 use Rattle.spec.specs.declared.Params.{Params}
 use Rattle.spec.specs.Calls.{firstRefusal}
 use Rattle.spec.specs.Counts.{paddingAddress, lastCount}
-use Rattle.spec.specs.Drives.{Chunk, mkChunk, noChunk, Zone, noZone, View, zoneAt, pointerAt, chunkAt, segmentNumbers, zoneOn, dataStored, blocksOf, footersOf, zeroSpare}
+use Rattle.spec.specs.Drives.{Chunk, mkChunk, noChunk, Zone, noZone, View, zoneAt, pointerAt, chunkAt, Seg, seg, sameSeg, allSegs, zoneOn, dataStored, blocksOf, footersOf, zeroSpare}
 use Rattle.spec.specs.Faults.{pointerFaults, sameChunk, headerFault, serialFault, outside, twice, stripeFault, badRec, storedBad, decodedBad, addressFault}
 use Rattle.spec.specs.Faults.{footersStored, sameBlocks, footerFaultIn, footerFault, clashes, segmentFault, segmentFaults}
 use Rattle.spec.specs.Layout.{isData, group, inGroupOf, headerBlock, headerSerial, headerCopied, Rec, mkRec, recordOf, footerBlock}
 use Rattle.spec.specs.Lists.Opt.{none}
 use Rattle.spec.specs.Lists.{upFrom, below, all, any, consIf, keep, isNil, sameList, isIn}
 use Rattle.spec.specs.Params.{inRange, footers, capacity, named, present, absent}
-use Rattle.spec.specs.Restart.{freeZones, namesDrive, rewrites, restartChecks}
+use Rattle.spec.specs.Restart.{freeSegs, namesDrive, rewrites, restartChecks}
 use Rattle.spec.specs.Segments.{lowDrive, headerAt, leftBy1, isCopy, remaining, Segment, segmentOf, segments, recsOn, counted, pieceOf, recOf, greatestSerial, unsealed}
 use Rattle.law_checks.specs.Passed.{restart-goes}
 use Rattle.law_basic.specs.Geometry.{Ranged, addresses-all}
-use Rattle.law_basic.specs.Ranges.{and-both, length-upFrom, getD-upFrom, getD-map, sameList-refl, and-false}
+use Rattle.law_basic.specs.Ranges.{and-both, length-upFrom, getD-upFrom, getD-map, sameList-refl, and-false, keep-map}
+use Rattle.law_basic.specs.Segs.{seg-same, seg-other, segs-differ, name-once, Named, keep-segs, zone-on-lt, segOn, seg-on-named, seg-on-zone}
 use Rattle.law_drives.specs.Accept.{outside-none}
 use Rattle.law_drives.specs.Records.{blocks-at}
 use Rattle.law_drives.specs.Segs.{piece-rec}
@@ -36,16 +36,15 @@ use Rattle.proof_crash_machine.specs.Val.{Val, pads}
 use Rattle.proof_crash_machine.specs.View.{Item}
 use Rattle.proof_crash_machine.specs.View.Item.{chunk}
 use Rattle.proof_crash_items.specs.Items.{valueOf, chunkItem, itemsIn, items-in, chunk-of}
-use Rattle.proof_crash_items.specs.Member.{Has, or-both-false, and-false-1, keep-has, has-keep, keep-nil, upFrom-has, below-has, has-below, none-any, map-has, has-getD, isNil-has}
+use Rattle.proof_crash_items.specs.Member.{Has, or-both-false, and-false-1, keep-has, has-keep, keep-nil, upFrom-has, below-has, none-any, map-has, has-map, has-getD, isNil-has}
 use Rattle.proof_crash_items.specs.Named.{has-absent, none-present}
 use Rattle.proof_crash_items.specs.Ranges.{parOf, data-code}
 use Rattle.proof_crash_items.specs.SegFacts.{segment-fields, seg-low, seg-R, begun-on, serial-ghost, copied-ghost, seg-used, ragged-of}
-use Rattle.proof_crash_items.specs.Segs.{OnDrives, zone-bytes, zone-pointer-low, zone-facts, head-serials, trusted, low-serials, used-zones}
+use Rattle.proof_crash_items.specs.Segs.{OnDrives, zone-bytes, zone-pointer-low, zone-facts, head-serials, trusted, low-serials, used-zones, has-segs}
 use Rattle.proof_crash_items.specs.Shape.{ZoneShape, shape-zone}
 use Rattle.proof_crash_items.specs.Stripes.{spareRecs, length-spareRecs, getD-spareRecs, stored-below, pointer-is, zones-by, recs-by-spare, pieceAt, counted-stripe}
 use Rattle.proof_crash_items.specs.Values.{pieceValue}
 use Rattle.proof_crash_items.specs.ZoneBytes.{sparesIn, blockIn, ZoneBytes}
-use Rattle.proof_crash_items.specs.Zoning.{zone-found}
 
 -- ---- rising lists
 
@@ -71,31 +70,55 @@ pub rising-below : (n : ℕ) → Rising (below n)
 unfolding below
 rising-below n = rising-upFrom 0 n
 
-pub remaining-rising : (p : Params) (v : View) (gone : ℕ) → Rising (remaining p v gone)
-unfolding remaining leftBy1 segmentNumbers
+-- ---- segments, rising by their names
+
+abbrev pub segNames : List Seg → List ℕ
+segNames l = map (λ (z : Seg). z .name) l
+
+pub names-segs : (l : List ℕ) → segNames (map seg l) ≡ l
+names-segs [] = refl
+names-segs (n ∷ l) = ap (λ (x : List ℕ). n ∷ x) (names-segs l)
+
+pub segs-names : (l : List Seg) → map seg (segNames l) ≡ l
+segs-names [] = refl
+segs-names (z ∷ l) = ap (λ (x : List Seg). z ∷ x) (segs-names l)
+
+-- of segments that rise the first is none of the others
+pub rising-apart : (z : Seg) (l : List Seg) → Rising (segNames (z ∷ l)) → (y : Seg) → Has y l → y ≡ z → ⊥
+rising-apart z l r y i e =
+    let b : z .name < y .name = r .0 (y .name) (has-map (λ (x : Seg). x .name) l y i) in
+    let o : y .name ≡ z .name = ap (λ (x : Seg). x .name) e in
+    let j : ⊥ = omega (arith, b, o) in j
+
+pub remaining-rising : (p : Params) (v : View) (gone : ℕ) → Rising (segNames (remaining p v gone))
+unfolding remaining leftBy1
 remaining-rising p v gone =
-    rising-keep (λ g. not (isCopy v (lowDrive p gone) (leftBy1 p v gone) g)) (keep (λ g. all (λ d. not (eqb (pointerAt v d (zoneOn g d)) 0)) (present p gone)) (below (p .Z)))
-    (rising-keep (λ g. all (λ d. not (eqb (pointerAt v d (zoneOn g d)) 0)) (present p gone)) (below (p .Z)) (rising-below (p .Z)))
+    subst (λ (l : List Seg). Rising (segNames l)) (sym are)
+    (subst Rising (sym (names-segs ns)) (rising-keep (λ n. own (seg n)) (keep (λ n. left (seg n)) (below (p .Z))) (rising-keep (λ n. left (seg n)) (below (p .Z)) (rising-below (p .Z)))))
+  where
+    left : Seg → Bool
+    left z = all (λ d. not (eqb (pointerAt v d (zoneOn z d)) 0)) (present p gone)
+
+    own : Seg → Bool
+    own z = not (isCopy v (lowDrive p gone) (leftBy1 p v gone) z)
+
+    ns : List ℕ
+    ns = keep (λ n. own (seg n)) (keep (λ n. left (seg n)) (below (p .Z)))
+
+    are : keep own (keep left (allSegs p)) ≡ map seg ns
+    are = ap (keep own) (keep-segs p left) ∙ keep-map own seg (keep (λ n. left (seg n)) (below (p .Z)))
 
 -- at most one passes
-one-kept-at-most : (f : ℕ → Bool) (l : List ℕ) → Rising l → ((a b : ℕ) → Has a l → Has b l → f a ≡ true → f b ≡ true → a ≡ b) → length (keep f l) ≤ 1
+one-kept-at-most : (f : Seg → Bool) (l : List Seg) → Rising (segNames l) → ((a b : Seg) → Has a l → Has b l → f a ≡ true → f b ≡ true → a ≡ b) → length (keep f l) ≤ 1
 unfolding keep
 one-kept-at-most f [] h e = omega arith
 one-kept-at-most f (a ∷ l) h e = go (f a) refl (one-kept-at-most f l (h .1) (λ x y i j. e x y (inr i) (inr j)))
   where
     go : (b : Bool) → f a ≡ b → length (keep f l) ≤ 1 → length (consIf b a (keep f l)) ≤ 1
-    go true q ih = unfold consIf in (let n : keep f l ≡ [] = keep-nil f l (λ x i. not-so (f x) (λ t. let w : a ≡ x = e a x (inl refl) (inr i) q t in let j : ⊥ = omega (arith, w, h .0 x i) in j)) in
+    go true q ih = unfold consIf in (let n : keep f l ≡ [] = keep-nil f l (λ x i. not-so (f x) (λ t.
+        rising-apart a l h x i (sym (e a x (inl refl) (inr i) q t)))) in
         let z : length (keep f l) ≡ 0 = ap length n in omega arith)
     go false q ih = unfold consIf in ih
-
-keep-mapped : {A B : Type 0} (f : B → Bool) (h : A → B) (l : List A) → keep f (map h l) ≡ map h (keep (λ (a : A). f (h a)) l)
-unfolding keep
-keep-mapped f h [] = refl
-keep-mapped {A} {B} f h (a ∷ l) = go (f (h a)) (keep-mapped f h l)
-  where
-    go : (t : Bool) → keep f (map h l) ≡ map h (keep (λ (a : A). f (h a)) l) → consIf t (h a) (keep f (map h l)) ≡ map h (consIf t a (keep (λ (a : A). f (h a)) l))
-    go true e = unfold consIf in ap (λ (x : List B). h a ∷ x) e
-    go false e = unfold consIf in e
 
 -- ---- records by offset
 
@@ -151,7 +174,7 @@ footers-made p r d z q s f = ap not (blocks-same (blocksOf (take (footersStored 
 
 module _ (p : Params) (r : Ranged p) (g : Ghost) (v : View) (k : OnDrives p r g v) (known : (x : Val) → InV x (g .sent) → (0 < x .stamp) × (x .addr < p .L))
     (m : ℕ) (c : Choice (parOf p r) (g .un) (isIn m)) where
-  abbrev G : ℕ → Segment
+  abbrev G : Seg → Segment
   G z = segmentOf p v m z
 
   -- ---- pointers
@@ -159,16 +182,16 @@ module _ (p : Params) (r : Ranged p) (g : Ghost) (v : View) (k : OnDrives p r g 
   unfolding pointerFaults
   pointers-fine = keep-nil (λ z. any (λ d. ltb (capacity p) (pointerAt v d z)) (present p m)) (below (p .Z)) (λ z i.
       none-present p m (λ d. ltb (capacity p) (pointerAt v d z)) (λ d l n.
-      le-ltb (capacity p) (pointerAt v d z) (subst (λ (x : ℕ). x ≤ capacity p) (pointer-is v d z) (zone-bytes p r g v k d z l (trusted p r g v k m c d l n) (below-has z (p .Z) i) .low))))
+      le-ltb (capacity p) (pointerAt v d z) (subst (λ (x : ℕ). x ≤ capacity p) (pointer-is v d z) (k .bytes d l (trusted p r g v k m c d l n) z (below-has z (p .Z) i) .low))))
 
-  module _ (z : ℕ) (i : Has z (remaining p v m)) where
-    b : z < p .Z
+  module _ (z : Seg) (i : Has z (remaining p v m)) where
+    b : Named p z
     b = seg-low p r g v k m c z i
 
-    R? : R (parOf p r) (g .hd) (itemsIn p v) (isIn m) z
+    R? : R (parOf p r) (g .hd) (itemsIn p v) (isIn m) (z .name)
     R? = seg-R p r g v k m c z i
 
-    zone-begun : (d : ℕ) → d < p .N → isIn m d ≡ false → 0 < pointerAt v d z
+    zone-begun : (d : ℕ) → d < p .N → isIn m d ≡ false → 0 < pointerAt v d (zoneOn z d)
     zone-begun = begun-on p r g v k m c z i
 
     -- ---- headers
@@ -180,70 +203,74 @@ module _ (p : Params) (r : Ranged p) (g : Ghost) (v : View) (k : OnDrives p r g 
         zeroSpare
         ≡ true) (sym (zones-by p r g v k m c z d l)) (one d l n)))
       where
-        one : (d : ℕ) → d < p .N → isIn m d ≡ false → sameChunk (getD (zoneAt v d z .blocks) 0 noChunk) (headerBlock p d (zoneOn (G z .seg) d) (G z .serial) (G z .copied)) zeroSpare ≡ true
+        one : (d : ℕ) → d < p .N → isIn m d ≡ false → sameChunk (getD (zoneAt v d (zoneOn z d) .blocks) 0 noChunk) (headerBlock p d (zoneOn (G z .seg) d) (G z .serial) (G z .copied)) zeroSpare ≡ true
         one d l n =
             let t : g .un d ≡ false = trusted p r g v k m c d l n in
-            let a : (headerSerial (headerAt v d z) ≡ g .hd .ser z) × (headerCopied (headerAt v d z) ≡ g .hd .cop z) = head-serials p r g v k d z l t b (zone-begun d l n) in
-            let w : (headerSerial (headerAt v (lowDrive p m) z) ≡ g .hd .ser z) × (headerCopied (headerAt v (lowDrive p m) z) ≡ g .hd .cop z) =
+            let a : (headerSerial (headerAt v d z) ≡ g .hd .ser (z .name)) × (headerCopied (headerAt v d z) ≡ g .hd .cop (z .name)) = head-serials p r g v k d z l t b (zone-begun d l n) in
+            let w : (headerSerial (headerAt v (lowDrive p m) z) ≡ g .hd .ser (z .name)) × (headerCopied (headerAt v (lowDrive p m) z) ≡ g .hd .cop (z .name)) =
             low-serials p r g v k m c z (R? .left) in
-            let h : blockIn (zoneAt v d z) 0 ≡ mkChunk (headerBlock p d z (headerSerial (headerAt v d z)) (headerCopied (headerAt v d z))) zeroSpare = whole d l n in
-            let e : mkChunk (headerBlock p d z (headerSerial (headerAt v d z)) (headerCopied (headerAt v d z))) zeroSpare
+            let h : blockIn (zoneAt v d (zoneOn z d)) 0 ≡ mkChunk (headerBlock p d (zoneOn z d) (headerSerial (headerAt v d z)) (headerCopied (headerAt v d z))) zeroSpare = whole d l n in
+            let e : mkChunk (headerBlock p d (zoneOn z d) (headerSerial (headerAt v d z)) (headerCopied (headerAt v d z))) zeroSpare
             ≡ mkChunk (headerBlock p d (zoneOn (G z .seg) d) (G z .serial) (G z .copied)) zeroSpare =
-            ap₂ (λ (x y : ℕ). mkChunk (headerBlock p d z x y) zeroSpare) (a .0 ∙ sym (w .0) ∙ sym (segment-fields p r g v k m c z .1)) (a .1 ∙ sym (w .1) ∙ sym (segment-fields p r g v k m c z .2))
+            ap₂ (λ (x y : ℕ). mkChunk (headerBlock p d (zoneOn z d) x y) zeroSpare) (a .0 ∙ sym (w .0) ∙ sym (segment-fields p r g v k m c z .1))
+            (a .1 ∙ sym (w .1) ∙ sym (segment-fields p r g v k m c z .2))
             ∙ ap (λ (x : ℕ). mkChunk (headerBlock p d x (G z .serial) (G z .copied)) zeroSpare) (sym (on d)) in
             subst (λ (x : Chunk). sameChunk x (headerBlock p d (zoneOn (G z .seg) d) (G z .serial) (G z .copied)) zeroSpare ≡ true) (sym (h ∙ e))
             (chunk-self (headerBlock p d (zoneOn (G z .seg) d) (G z .serial) (G z .copied)) zeroSpare)
           where
-            on : (d : ℕ) → zoneOn (G z .seg) d ≡ z
-            on d = unfold zoneOn in segment-fields p r g v k m c z .0
+            on : (d : ℕ) → zoneOn (G z .seg) d ≡ zoneOn z d
+            on d = ap (λ (x : Seg). zoneOn x d) (segment-fields p r g v k m c z .0)
 
-            whole : (d : ℕ) → d < p .N → isIn m d ≡ false → blockIn (zoneAt v d z) 0 ≡ mkChunk (headerBlock p d z (headerSerial (headerAt v d z)) (headerCopied (headerAt v d z))) zeroSpare
-            whole d l n = unfold headerAt chunkAt zoneOn in zone-bytes p r g v k d z l (trusted p r g v k m c d l n) b .head (subst (λ (x : ℕ). 0 < x) (sym (pointer-is v d z)) (zone-begun d l n))
+            whole : (d : ℕ) → d < p .N → isIn m d ≡ false
+                → blockIn (zoneAt v d (zoneOn z d)) 0 ≡ mkChunk (headerBlock p d (zoneOn z d) (headerSerial (headerAt v d z)) (headerCopied (headerAt v d z))) zeroSpare
+            whole d l n = unfold headerAt chunkAt in zone-bytes p r g v k d z l (trusted p r g v k m c d l n) b .head (subst (λ (x : ℕ). 0 < x) (sym (pointer-is v d (zoneOn z d))) (zone-begun d l n))
 
             chunk-self : (x y : List ℕ) → sameChunk (mkChunk x y) x y ≡ true
             chunk-self x y = unfold sameChunk in and-both (sameList x x) (sameList y y) (sameList-refl x) (sameList-refl y)
 
     -- ---- stripe numbers
-    off-rec : (d o : ℕ) → d < p .N → isIn m d ≡ false → o < dataStored p (zoneAt v d z)
-        → Off (itemsIn p v d z) (suc o) (chunk (recordOf (blockIn (zoneAt v d z) (suc o) .spare) .stripe)
-        (valueOf (blockIn (zoneAt v d z) (suc o) .block) (recordOf (blockIn (zoneAt v d z) (suc o) .spare))))
+    off-rec : (d o : ℕ) → d < p .N → isIn m d ≡ false → o < dataStored p (zoneAt v d (zoneOn z d))
+        → Off (itemsIn p v d (z .name)) (suc o) (chunk (recordOf (blockIn (zoneAt v d (zoneOn z d)) (suc o) .spare) .stripe)
+        (valueOf (blockIn (zoneAt v d (zoneOn z d)) (suc o) .block) (recordOf (blockIn (zoneAt v d (zoneOn z d)) (suc o) .spare))))
     off-rec d o l n w =
-        let s : (o < p .S) × (suc o < zoneAt v d z .pointer) = stored-below p (zoneAt v d z) o w in
-        subst (λ (y : List Item). Off y (suc o) (chunk (recordOf (blockIn (zoneAt v d z) (suc o) .spare) .stripe)
-        (valueOf (blockIn (zoneAt v d z) (suc o) .block) (recordOf (blockIn (zoneAt v d z) (suc o) .spare)))))
-        (sym (items-in p v d z)) (unfold chunkItem in chunk-of p (zoneAt v d z) (zone-pointer-low p r g v k d z l (trusted p r g v k m c d l n) b) o (s .0) (s .1))
+        let s : (o < p .S) × (suc o < zoneAt v d (zoneOn z d) .pointer) = stored-below p (zoneAt v d (zoneOn z d)) o w in
+        subst (λ (y : List Item). Off y (suc o) (chunk (recordOf (blockIn (zoneAt v d (zoneOn z d)) (suc o) .spare) .stripe)
+        (valueOf (blockIn (zoneAt v d (zoneOn z d)) (suc o) .block) (recordOf (blockIn (zoneAt v d (zoneOn z d)) (suc o) .spare)))))
+        (sym (items-in p v d z)) (unfold chunkItem in chunk-of p (zoneAt v d (zoneOn z d)) (zone-pointer-low p r g v k d z l (trusted p r g v k m c d l n) b) o (s .0) (s .1))
 
     stripes-fine : stripeFault p m (G z) ≡ false
     unfolding stripeFault
     stripes-fine = none-present p m (λ d. outside p 0 (recsOn (G z) d) || twice (recsOn (G z) d)) (λ d l n.
         subst (λ (x : List Rec). (outside p 0 x || twice x) ≡ false) (sym (recs-by-spare p r g v k m c z d b l n))
-        (or-both-false (outside p 0 (spareRecs p (zoneAt v d z))) (twice (spareRecs p (zoneAt v d z))) (out d l n) (once d l n)))
+        (or-both-false (outside p 0 (spareRecs p (zoneAt v d (zoneOn z d)))) (twice (spareRecs p (zoneAt v d (zoneOn z d)))) (out d l n) (once d l n)))
       where
-        at : (d o : ℕ) → o < length (spareRecs p (zoneAt v d z)) → getD (spareRecs p (zoneAt v d z)) o (mkRec 0 0 0) ≡ recordOf (blockIn (zoneAt v d z) (suc o) .spare)
-        at d o w = getD-spareRecs p (zoneAt v d z) o (mkRec 0 0 0) (omega (arith, w, length-spareRecs p (zoneAt v d z)))
+        at : (d o : ℕ) → o < length (spareRecs p (zoneAt v d (zoneOn z d))) → getD (spareRecs p (zoneAt v d (zoneOn z d))) o (mkRec 0 0 0) ≡ recordOf (blockIn (zoneAt v d (zoneOn z d)) (suc o) .spare)
+        at d o w = getD-spareRecs p (zoneAt v d (zoneOn z d)) o (mkRec 0 0 0) (omega (arith, w, length-spareRecs p (zoneAt v d (zoneOn z d))))
 
-        out : (d : ℕ) → d < p .N → isIn m d ≡ false → outside p 0 (spareRecs p (zoneAt v d z)) ≡ false
-        out d l n = outside-none p 0 (spareRecs p (zoneAt v d z)) (λ o w.
-            let f : (recordOf (blockIn (zoneAt v d z) (suc o) .spare) .stripe < p .S) × (o < p .S) × (group p (recordOf (blockIn (zoneAt v d z) (suc o) .spare) .stripe) ≡ group p o) =
-            zone-facts p r g v k d z l (trusted p r g v k m c d l n) .num o (recordOf (blockIn (zoneAt v d z) (suc o) .spare) .stripe)
-            (valueOf (blockIn (zoneAt v d z) (suc o) .block) (recordOf (blockIn (zoneAt v d z) (suc o) .spare))) (off-rec d o l n (omega (arith, w, length-spareRecs p (zoneAt v d z)))) in
+        out : (d : ℕ) → d < p .N → isIn m d ≡ false → outside p 0 (spareRecs p (zoneAt v d (zoneOn z d))) ≡ false
+        out d l n = outside-none p 0 (spareRecs p (zoneAt v d (zoneOn z d))) (λ o w.
+            let f : (recordOf (blockIn (zoneAt v d (zoneOn z d)) (suc o) .spare) .stripe < p .S) × (o < p .S)
+            × (group p (recordOf (blockIn (zoneAt v d (zoneOn z d)) (suc o) .spare) .stripe) ≡ group p o) =
+            zone-facts p r g v k d z l (trusted p r g v k m c d l n) .num o (recordOf (blockIn (zoneAt v d (zoneOn z d)) (suc o) .spare) .stripe)
+            (valueOf (blockIn (zoneAt v d (zoneOn z d)) (suc o) .block) (recordOf (blockIn (zoneAt v d (zoneOn z d)) (suc o) .spare)))
+            (off-rec d o l n (omega (arith, w, length-spareRecs p (zoneAt v d (zoneOn z d))))) in
             ap₂ (λ (i : ℕ) (x : Rec). inGroupOf p i (x .stripe)) (let e : 0 + o ≡ o = omega arith in e) (at d o w)
-            ∙ (inside o (recordOf (blockIn (zoneAt v d z) (suc o) .spare) .stripe) (f .0) (f .2)))
+            ∙ (inside o (recordOf (blockIn (zoneAt v d (zoneOn z d)) (suc o) .spare) .stripe) (f .0) (f .2)))
           where
             inside : (o s : ℕ) → s < p .S → group p s ≡ group p o → inGroupOf p o s ≡ true
             inside o s a e = unfold inGroupOf in and-both (ltb s (p .S)) (eqb (group p s) (group p o)) (lt-ltb s (p .S) a) (eq-eqb (group p s) (group p o) e)
 
-        once : (d : ℕ) → d < p .N → isIn m d ≡ false → twice (spareRecs p (zoneAt v d z)) ≡ false
-        once d l n = not-twice (spareRecs p (zoneAt v d z)) (λ i j a a′ e.
-            let ia : i < dataStored p (zoneAt v d z) = omega (arith, a, length-spareRecs p (zoneAt v d z)) in
-            let ja : j < dataStored p (zoneAt v d z) = omega (arith, a′, length-spareRecs p (zoneAt v d z)) in
-            let q : recordOf (blockIn (zoneAt v d z) (suc i) .spare) .stripe ≡ recordOf (blockIn (zoneAt v d z) (suc j) .spare) .stripe =
+        once : (d : ℕ) → d < p .N → isIn m d ≡ false → twice (spareRecs p (zoneAt v d (zoneOn z d))) ≡ false
+        once d l n = not-twice (spareRecs p (zoneAt v d (zoneOn z d))) (λ i j a a′ e.
+            let ia : i < dataStored p (zoneAt v d (zoneOn z d)) = omega (arith, a, length-spareRecs p (zoneAt v d (zoneOn z d))) in
+            let ja : j < dataStored p (zoneAt v d (zoneOn z d)) = omega (arith, a′, length-spareRecs p (zoneAt v d (zoneOn z d))) in
+            let q : recordOf (blockIn (zoneAt v d (zoneOn z d)) (suc i) .spare) .stripe ≡ recordOf (blockIn (zoneAt v d (zoneOn z d)) (suc j) .spare) .stripe =
             ap (λ (x : Rec). x .stripe) (sym (at d i a)) ∙ e ∙ ap (λ (x : Rec). x .stripe) (at d j a′) in
-            let w : suc i ≡ suc j = zone-facts p r g v k d z l (trusted p r g v k m c d l n) .once (suc i) (suc j) (recordOf (blockIn (zoneAt v d z) (suc j) .spare) .stripe)
-            (valueOf (blockIn (zoneAt v d z) (suc i) .block) (recordOf (blockIn (zoneAt v d z) (suc i) .spare)))
-            (valueOf (blockIn (zoneAt v d z) (suc j) .block) (recordOf (blockIn (zoneAt v d z) (suc j) .spare)))
-            (subst (λ (s : ℕ). Off (itemsIn p v d z) (suc i)
-            (chunk s (valueOf (blockIn (zoneAt v d z) (suc i) .block) (recordOf (blockIn (zoneAt v d z) (suc i) .spare))))) q
+            let w : suc i ≡ suc j = zone-facts p r g v k d z l (trusted p r g v k m c d l n) .once (suc i) (suc j) (recordOf (blockIn (zoneAt v d (zoneOn z d)) (suc j) .spare) .stripe)
+            (valueOf (blockIn (zoneAt v d (zoneOn z d)) (suc i) .block) (recordOf (blockIn (zoneAt v d (zoneOn z d)) (suc i) .spare)))
+            (valueOf (blockIn (zoneAt v d (zoneOn z d)) (suc j) .block) (recordOf (blockIn (zoneAt v d (zoneOn z d)) (suc j) .spare)))
+            (subst (λ (s : ℕ). Off (itemsIn p v d (z .name)) (suc i)
+            (chunk s (valueOf (blockIn (zoneAt v d (zoneOn z d)) (suc i) .block) (recordOf (blockIn (zoneAt v d (zoneOn z d)) (suc i) .spare))))) q
             (off-rec d i l n ia)) (off-rec d j l n ja) in
             omega (arith, w))
 
@@ -273,22 +300,23 @@ module _ (p : Params) (r : Ranged p) (g : Ghost) (v : View) (k : OnDrives p r g 
     stored-fine : any (λ d. any (storedBad p d) (recsOn (G z) d)) (present p m) ≡ false
     stored-fine = none-present p m (λ d. any (storedBad p d) (recsOn (G z) d)) (λ d l n.
         subst (λ (y : List Rec). any (storedBad p d) y ≡ false) (sym (recs-by-spare p r g v k m c z d b l n))
-        (none-any (storedBad p d) (spareRecs p (zoneAt v d z)) (λ x i. one d l n x (has-getD (spareRecs p (zoneAt v d z)) x (mkRec 0 0 0) i))))
+        (none-any (storedBad p d) (spareRecs p (zoneAt v d (zoneOn z d))) (λ x i. one d l n x (has-getD (spareRecs p (zoneAt v d (zoneOn z d))) x (mkRec 0 0 0) i))))
       where
-        one : (d : ℕ) → d < p .N → isIn m d ≡ false → (x : Rec) → (j : ℕ) × (j < length (spareRecs p (zoneAt v d z))) × (getD (spareRecs p (zoneAt v d z)) j (mkRec 0 0 0) ≡ x)
+        one : (d : ℕ) → d < p .N → isIn m d ≡ false → (x : Rec) → (j : ℕ) × (j < length (spareRecs p (zoneAt v d (zoneOn z d)))) × (getD (spareRecs p (zoneAt v d (zoneOn z d))) j (mkRec 0 0 0) ≡ x)
             → storedBad p d x ≡ false
         one d l n x (j, a, e) =
-            let w : j < dataStored p (zoneAt v d z) = omega (arith, a, length-spareRecs p (zoneAt v d z)) in
-            let q : recordOf (blockIn (zoneAt v d z) (suc j) .spare) ≡ x = sym (getD-spareRecs p (zoneAt v d z) j (mkRec 0 0 0) w) ∙ e in
-            let f : Off (itemsIn p v d z) (suc j) (chunk (x .stripe) (valueOf (blockIn (zoneAt v d z) (suc j) .block) x)) =
-            subst (λ (y : Rec). Off (itemsIn p v d z) (suc j) (chunk (y .stripe) (valueOf (blockIn (zoneAt v d z) (suc j) .block) y))) q (off-rec d j l n w) in
+            let w : j < dataStored p (zoneAt v d (zoneOn z d)) = omega (arith, a, length-spareRecs p (zoneAt v d (zoneOn z d))) in
+            let q : recordOf (blockIn (zoneAt v d (zoneOn z d)) (suc j) .spare) ≡ x = sym (getD-spareRecs p (zoneAt v d (zoneOn z d)) j (mkRec 0 0 0) w) ∙ e in
+            let f : Off (itemsIn p v d (z .name)) (suc j) (chunk (x .stripe) (valueOf (blockIn (zoneAt v d (zoneOn z d)) (suc j) .block) x)) =
+            subst (λ (y : Rec). Off (itemsIn p v d (z .name)) (suc j) (chunk (y .stripe) (valueOf (blockIn (zoneAt v d (zoneOn z d)) (suc j) .block) y))) q (off-rec d j l n w) in
             case (isData p (x .stripe) d) refl f
           where
-            case : (t : Bool) → isData p (x .stripe) d ≡ t → Off (itemsIn p v d z) (suc j) (chunk (x .stripe) (valueOf (blockIn (zoneAt v d z) (suc j) .block) x)) → storedBad p d x ≡ false
+            case : (t : Bool) → isData p (x .stripe) d ≡ t → Off (itemsIn p v d (z .name)) (suc j) (chunk (x .stripe) (valueOf (blockIn (zoneAt v d (zoneOn z d)) (suc j) .block) x))
+                → storedBad p d x ≡ false
             case false e f = unfold storedBad in and-false-1 (isData p (x .stripe) d) (badRec p x) e
-            case true e f = unfold storedBad in and-false (isData p (x .stripe) d) (badRec p x) (good-rec (blockIn (zoneAt v d z) (suc j) .block) x
-                (zone-facts p r g v k d z l (trusted p r g v k m c d l n) .origin (x .stripe) (valueOf (blockIn (zoneAt v d z) (suc j) .block) x)
-                (off-in (itemsIn p v d z) (suc j) (chunk (x .stripe) (valueOf (blockIn (zoneAt v d z) (suc j) .block) x)) f) (data-code p r (x .stripe) d e)))
+            case true e f = unfold storedBad in and-false (isData p (x .stripe) d) (badRec p x) (good-rec (blockIn (zoneAt v d (zoneOn z d)) (suc j) .block) x
+                (zone-facts p r g v k d z l (trusted p r g v k m c d l n) .origin (x .stripe) (valueOf (blockIn (zoneAt v d (zoneOn z d)) (suc j) .block) x)
+                (off-in (itemsIn p v d (z .name)) (suc j) (chunk (x .stripe) (valueOf (blockIn (zoneAt v d (zoneOn z d)) (suc j) .block) x)) f) (data-code p r (x .stripe) d e)))
 
     decoded-fine : any (λ d. any (decodedBad p m (G z) d) (counted p m (G z))) (absent p m) ≡ false
     decoded-fine = none-any (λ d. any (decodedBad p m (G z) d) (counted p m (G z))) (absent p m) (λ d j.
@@ -300,7 +328,8 @@ module _ (p : Params) (r : Ranged p) (g : Ghost) (v : View) (k : OnDrives p r g 
             subst (λ (x : Rec). badRec p x ≡ false) (piece-rec p m (G z) s d) (good-rec (pieceOf p m (G z) s d .block) (pieceOf p m (G z) s d .rec) (good d l s i e)))
           where
             good : (d : ℕ) → d < p .N → (s : ℕ) → Has s (counted p m (G z)) → isData p s d ≡ true → Good g (valueOf (pieceOf p m (G z) s d .block) (pieceOf p m (G z) s d .rec))
-            good d l s i e = unfold pieceAt pieceValue in k .facts .parity .sound (isIn m) c z s (pieceAt p r g v k m c z s) (counted-stripe p r g v k m c z s b i) (pieceAt p r g v k m c z s d)
+            good d l s i e =
+                unfold pieceAt pieceValue in k .facts .parity .sound (isIn m) c (z .name) s (pieceAt p r g v k m c z s) (counted-stripe p r g v k m c z s b i) (pieceAt p r g v k m c z s d)
                 (record { d = d; lt = l; data? = data-code p r s d e; val = refl })
 
     addresses-fine : addressFault p m (G z) ≡ false
@@ -315,40 +344,41 @@ module _ (p : Params) (r : Ranged p) (g : Ghost) (v : View) (k : OnDrives p r g 
     footers-fine = and-false (not (G z .full)) (any (λ d. footerFaultIn p (getD (G z .zonesBy) d noZone)) (present p m))
         (none-present p m (λ d. footerFaultIn p (getD (G z .zonesBy) d noZone)) (λ d l n.
         ap (footerFaultIn p) (zones-by p r g v k m c z d l)
-        ∙ footers-made p r d z (zoneAt v d z) (shape-zone p v (k .shape) d z l b) (zone-bytes p r g v k d z l (trusted p r g v k m c d l n) b)))
+        ∙ footers-made p r d (zoneOn z d) (zoneAt v d (zoneOn z d)) (shape-zone p v (k .shape) d (zoneOn z d) l (zone-on-lt p z d b)) (zone-bytes p r g v k d z l (trusted p r g v k m c d l n) b)))
 
   -- ---- serials
-  serials-fine : (z : ℕ) → Has z (remaining p v m) → serialFault (segments p v m) (G z) ≡ false
+  serials-fine : (z : Seg) → Has z (remaining p v m) → serialFault (segments p v m) (G z) ≡ false
   unfolding serialFault segments
   serials-fine z i = or-both-false (leb (G z .serial) (G z .copied)) (any test? (map (segmentOf p v m) (remaining p v m)))
-      (lt-leb (G z .serial) (G z .copied) (omega (arith, serial-ghost p r g v k m c z i, copied-ghost p r g v k m c z i, k .facts .swap .below z (seg-used p r g v k m c z i))))
+      (lt-leb (G z .serial) (G z .copied) (omega (arith, serial-ghost p r g v k m c z i, copied-ghost p r g v k m c z i, k .facts .swap .below (z .name) (seg-used p r g v k m c z i))))
       (none-any test? (map (segmentOf p v m) (remaining p v m)) (λ h j. one h (map-has (segmentOf p v m) h (remaining p v m) j)))
     where
       test? : Segment → Bool
-      test? h = not (eqb (h .seg) (G z .seg)) && eqb (h .serial) (G z .serial)
+      test? h = not (sameSeg (h .seg) (G z .seg)) && eqb (h .serial) (G z .serial)
 
-      one : (h : Segment) → (y : ℕ) × Has y (remaining p v m) × (h ≡ G y) → test? h ≡ false
-      one h (y, j, e) = rw e (go (ℕ-discrete y z))
+      one : (h : Segment) → (y : Seg) × Has y (remaining p v m) × (h ≡ G y) → test? h ≡ false
+      one h (y, j, e) = rw e (go (segs-differ y z))
         where
           go : Dec (y ≡ z) → test? (G y) ≡ false
           go (yes q) =
-              and-false-1 (not (eqb (G y .seg) (G z .seg))) (eqb (G y .serial) (G z .serial))
-              (ap not (eq-eqb (G y .seg) (G z .seg) (segment-fields p r g v k m c y .0 ∙ q ∙ sym (segment-fields p r g v k m c z .0))))
-          go (no q) = and-false (not (eqb (G y .seg) (G z .seg))) (eqb (G y .serial) (G z .serial)) (ne-eqb (G y .serial) (G z .serial) (λ w.
-              q (k .facts .swap .serials y z (seg-used p r g v k m c y j) (seg-used p r g v k m c z i) (sym (serial-ghost p r g v k m c y j) ∙ w ∙ serial-ghost p r g v k m c z i))))
+              and-false-1 (not (sameSeg (G y .seg) (G z .seg))) (eqb (G y .serial) (G z .serial))
+              (ap not (seg-same (G y .seg) (G z .seg) (segment-fields p r g v k m c y .0 ∙ q ∙ sym (segment-fields p r g v k m c z .0))))
+          go (no q) = and-false (not (sameSeg (G y .seg) (G z .seg))) (eqb (G y .serial) (G z .serial)) (ne-eqb (G y .serial) (G z .serial) (λ w.
+              q (name-once y z (k .facts .swap .serials (y .name) (z .name) (seg-used p r g v k m c y j) (seg-used p r g v k m c z i)
+              (sym (serial-ghost p r g v k m c y j) ∙ w ∙ serial-ghost p r g v k m c z i)))))
 
   -- ---- one unsealed segment
   pub one-unsealed : length (unsealed (segments p v m)) ≤ 1
   unfolding unsealed segments
   one-unsealed =
       let e : keep (λ (g : Segment). not (g .full)) (map (segmentOf p v m) (remaining p v m)) ≡ map (segmentOf p v m) (keep (λ z. not (G z .full)) (remaining p v m)) =
-      keep-mapped (λ (g : Segment). not (g .full)) (segmentOf p v m) (remaining p v m) in
+      keep-map (λ (g : Segment). not (g .full)) (segmentOf p v m) (remaining p v m) in
       let n : length (keep (λ z. not (G z .full)) (remaining p v m)) ≤ 1 = one-kept-at-most (λ z. not (G z .full)) (remaining p v m) (remaining-rising p v m) (λ y z i j a b.
-      accepted (parOf p r) g (itemsIn p v) (k .facts) (isIn m) c .one y z (R? y i) (R? z j) (ragged-of p r g v k m c y i (not-true (G y .full) a))
-      (ragged-of p r g v k m c z j (not-true (G z .full) b))) in
+      name-once y z (accepted (parOf p r) g (itemsIn p v) (k .facts) (isIn m) c .one (y .name) (z .name) (R? y i) (R? z j) (ragged-of p r g v k m c y i (not-true (G y .full) a))
+      (ragged-of p r g v k m c z j (not-true (G z .full) b)))) in
       omega (arith, n, ap length e ∙ length-map (keep (λ z. not (G z .full)) (remaining p v m)) (segmentOf p v m))
 
-  segment-fine : (z : ℕ) → Has z (remaining p v m) → segmentFault p m (segments p v m) (G z) ≡ false
+  segment-fine : (z : Seg) → Has z (remaining p v m) → segmentFault p m (segments p v m) (G z) ≡ false
   unfolding segmentFault clashes
   segment-fine z i =
       let gs : List Segment = segments p v m in
@@ -368,36 +398,39 @@ module _ (p : Params) (r : Ranged p) (g : Ghost) (v : View) (k : OnDrives p r g 
 
   pub segments-fine : segmentFaults p m (segments p v m) ≡ []
   unfolding segmentFaults
-  segments-fine = ap (map (λ (g : Segment). g .seg)) (keep-nil (segmentFault p m (segments p v m)) (segments p v m) (λ h j. one h (each h j)))
+  segments-fine = ap (map (λ (g : Segment). zoneOn (g .seg) (lowDrive p m))) (keep-nil (segmentFault p m (segments p v m)) (segments p v m) (λ h j. one h (each h j)))
     where
-      each : (h : Segment) → Has h (segments p v m) → (y : ℕ) × Has y (remaining p v m) × (h ≡ G y)
+      each : (h : Segment) → Has h (segments p v m) → (y : Seg) × Has y (remaining p v m) × (h ≡ G y)
       each h j = unfold segments in map-has (segmentOf p v m) h (remaining p v m) j
 
-      one : (h : Segment) → (y : ℕ) × Has y (remaining p v m) × (h ≡ G y) → segmentFault p m (segments p v m) h ≡ false
+      one : (h : Segment) → (y : Seg) × Has y (remaining p v m) × (h ≡ G y) → segmentFault p m (segments p v m) h ≡ false
       one h (y, i, e) = rw e (segment-fine y i)
 
-  -- ---- 8: a zone is free
-  pub free-zone : isNil (freeZones p (segments p v m)) ≡ false
-  unfolding freeZones segmentNumbers
-  free-zone =
-      let a : (z : ℕ) × (z < p .Z) × (R (parOf p r) (g .hd) (itemsIn p v) (isIn m) z → ⊥) = room in
-      isNil-has (keep (λ z. not (any (λ (g : Segment). eqb (g .seg) z) (segments p v m))) (below (p .Z))) (a .0)
-      (has-keep (λ z. not (any (λ (g : Segment). eqb (g .seg) z) (segments p v m))) (a .0) (below (p .Z)) (has-below (a .0) (p .Z) (a .1))
-      (ap not (none-any (λ (g : Segment). eqb (g .seg) (a .0)) (segments p v m) (λ h j. one (a .0) (a .2) h (each h j)))))
+  -- ---- 8: a segment is free
+  pub free-seg : isNil (freeSegs p (segments p v m)) ≡ false
+  unfolding freeSegs
+  free-seg =
+      let a : (z : Seg) × Named p z × (R (parOf p r) (g .hd) (itemsIn p v) (isIn m) (z .name) → ⊥) = room in
+      isNil-has (keep (λ z. not (any (λ (g : Segment). sameSeg (g .seg) z) (segments p v m))) (allSegs p)) (a .0)
+      (has-keep (λ z. not (any (λ (g : Segment). sameSeg (g .seg) z) (segments p v m))) (a .0) (allSegs p) (has-segs p (a .0) (a .1))
+      (ap not (none-any (λ (g : Segment). sameSeg (g .seg) (a .0)) (segments p v m) (λ h j. one (a .0) (a .2) h (each h j)))))
     where
-      -- a zone of the first drive that no remaining segment has
-      room : (z : ℕ) × (z < p .Z) × (R (parOf p r) (g .hd) (itemsIn p v) (isIn m) z → ⊥)
+      -- the segment of a zone of the first drive that no remaining segment has
+      room : (z : Seg) × Named p z × (R (parOf p r) (g .hd) (itemsIn p v) (isIn m) (z .name) → ⊥)
       room =
-          let a : (y : ℕ) × (y < p .Z) × (true ≡ true) × ((z : ℕ) → R (parOf p r) (g .hd) (itemsIn p v) (isIn m) z → g .hd .zn z 0 ≢ y) =
+          let a : (y : ℕ) × (y < p .Z) × (true ≡ true) × ((n : ℕ) → R (parOf p r) (g .hd) (itemsIn p v) (isIn m) n → g .hd .zn n 0 ≢ y) =
           accepted (parOf p r) g (itemsIn p v) (k .facts) (isIn m) c .room 0 (omega (arith, r .drives-low)) in
-          let z : (z : ℕ) × (z < p .Z) × (zoneOn z 0 ≡ a .0) = zone-found p (a .0) 0 (a .1) in
-          (z .0, z .1, λ q. a .3 (z .0) q (ap (λ (f : ℕ → ℕ). f 0) (used-zones p r g v k (z .0) (used (parOf p r) g (itemsIn p v) (isIn m) (z .0) c (q .left))) ∙ z .2))
+          let z : Seg = segOn 0 (a .0) in (
+            z,
+            seg-on-named p 0 (a .0) (a .1),
+            λ q. a .3 (z .name) q (ap (λ (f : ℕ → ℕ). f 0) (used-zones p r g v k z (used (parOf p r) g (itemsIn p v) (isIn m) (z .name) c (q .left))) ∙ seg-on-zone 0 (a .0)),
+          )
 
-      each : (h : Segment) → Has h (segments p v m) → (y : ℕ) × Has y (remaining p v m) × (h ≡ G y)
+      each : (h : Segment) → Has h (segments p v m) → (y : Seg) × Has y (remaining p v m) × (h ≡ G y)
       each h j = unfold segments in map-has (segmentOf p v m) h (remaining p v m) j
 
-      one : (z : ℕ) → (R (parOf p r) (g .hd) (itemsIn p v) (isIn m) z → ⊥) → (h : Segment) → (y : ℕ) × Has y (remaining p v m) × (h ≡ G y) → eqb (h .seg) z ≡ false
-      one z n h (y, i, e) = rw e (ne-eqb (G y .seg) z (λ w. n (subst (λ (x : ℕ). R (parOf p r) (g .hd) (itemsIn p v) (isIn m) x) (sym (segment-fields p r g v k m c y .0) ∙ w) (R? y i))))
+      one : (z : Seg) → (R (parOf p r) (g .hd) (itemsIn p v) (isIn m) (z .name) → ⊥) → (h : Segment) → (y : Seg) × Has y (remaining p v m) × (h ≡ G y) → sameSeg (h .seg) z ≡ false
+      one z n h (y, i, e) = rw e (seg-other (G y .seg) z (λ w. n (subst (λ (x : Seg). R (parOf p r) (g .hd) (itemsIn p v) (isIn m) (x .name)) (sym (segment-fields p r g v k m c y .0) ∙ w) (R? y i))))
 
 -- ---- nothing refuses the restart (but for 6)
 module _ (p : Params) (r : Ranged p) (g : Ghost) (v : View) (k : OnDrives p r g v) (known : (x : Val) → InV x (g .sent) → (0 < x .stamp) × (x .addr < p .L))
@@ -414,5 +447,5 @@ module _ (p : Params) (r : Ranged p) (g : Ghost) (v : View) (k : OnDrives p r g 
         pointers-fine = pointers-fine p r g v k known (named d) c;
         segments-fine = segments-fine p r g v k known (named d) c;
         serial-left = h₆;
-        zone-left = and-false (rewrites p (named d) gs) (isNil (freeZones p gs)) (free-zone p r g v k known (named d) c);
+        zone-left = and-false (rewrites p (named d) gs) (isNil (freeSegs p gs)) (free-seg p r g v k known (named d) c);
       })

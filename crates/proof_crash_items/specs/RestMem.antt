@@ -12,7 +12,7 @@ use lib.ListN.{length}
 use lib.Count.{ones, onesIn}
 use lib.Pow.{pow-lt, pow-pos}
 use Rattle.spec.specs.declared.Params.{Params}
-use Rattle.spec.specs.Drives.{View, Disk}
+use Rattle.spec.specs.Drives.{View, Disk, Seg}
 use Rattle.spec.specs.Engine.{lentOk}
 use Rattle.spec.specs.Lists.{below, keep, powers, only, isIn}
 use Rattle.spec.specs.Memory.{idleState, filledIn}
@@ -22,6 +22,7 @@ use Rattle.spec.specs.Segments.{remaining, Segment, segmentOf, segments, counts
 use Rattle.law_basic.specs.Geometry.{Ranged}
 use Rattle.law_basic.specs.Mask.{only-pow}
 use Rattle.law_basic.specs.Ranges.{and-both, length-below, length-keep}
+use Rattle.law_basic.specs.Segs.{Named, named-lt}
 use Rattle.law_views.specs.Views.{Whole}
 use Rattle.law_drives.specs.States.{idle-ok}
 use Rattle.law_drives.specs.Tables.{zero-at, length-addresses}
@@ -90,18 +91,18 @@ module _ (p : Params) (r : Ranged p) (g : Ghost) (v : View) (k : OnDrives p r g 
       go true i = keep-has (λ (g : Segment). not (g .full)) q (segments p v m) i .0
       go false i = absurd i
 
-  seg-below : (q : Segment) → Has q (segments p v m) → q .seg < p .Z
+  seg-below : (q : Segment) → Has q (segments p v m) → Named p (q .seg)
   unfolding segments segmentOf
   seg-below q i =
-      let a : (z : ℕ) × Has z (remaining p v m) × (q ≡ segmentOf p v m z) = map-has (segmentOf p v m) q (remaining p v m) i in
-      subst (λ (x : ℕ). x < p .Z) (sym (ap (λ (y : Segment). y .seg) (a .2))) (remaining-has p r g v k m c (a .0) (a .1) .0)
+      let a : (z : Seg) × Has z (remaining p v m) × (q ≡ segmentOf p v m z) = map-has (segmentOf p v m) q (remaining p v m) i in
+      subst (λ (x : Seg). Named p x) (sym (ap (λ (y : Segment). y .seg) (a .2))) (remaining-has p r g v k m c (a .0) (a .1) .0)
 
   open-low : openOf us ≤ p .Z
   open-low = go us (λ q i. seg-below q (from-us q i))
     where
-      go : (l : List Segment) → ((q : Segment) → Has q l → q .seg < p .Z) → openOf l ≤ p .Z
+      go : (l : List Segment) → ((q : Segment) → Has q l → Named p (q .seg)) → openOf l ≤ p .Z
       go [] h = unfold openOf in omega arith
-      go (q ∷ l) h = unfold openOf in h q (inl refl)
+      go (q ∷ l) h = unfold openOf in named-lt p (q .seg) (h q (inl refl))
 
   next-low : nextOf p us ≤ p .S
   next-low = go us

@@ -9,12 +9,13 @@ use native.Mathlib.Omega.{arith}
 use lib.Dec.{eqb}
 use lib.ListN.{length}
 use Rattle.spec.specs.declared.Params.{Params}
-use Rattle.spec.specs.Drives.{View, pointerAt, zoneOn, sealedIn}
+use Rattle.spec.specs.Drives.{View, pointerAt, Seg, zoneOn, sealedIn}
 use Rattle.spec.specs.Layout.{headerSerial, headerCopied}
 use Rattle.spec.specs.Lists.{all, isIn}
 use Rattle.spec.specs.Params.{capacity, present}
 use Rattle.spec.specs.Segments.{lowDrive, headerAt, remaining, Segment, segmentOf}
 use Rattle.law_basic.specs.Geometry.{Ranged}
+use Rattle.law_basic.specs.Segs.{Named}
 use Rattle.proof_crash_machine.specs.Exec.{true≢false}
 use Rattle.proof_crash_machine.specs.Facts.{Ghost, Choice, R, Used, Ragged, used}
 use Rattle.proof_crash_items.specs.Items.{itemsIn}
@@ -34,44 +35,44 @@ all-false {A} f (b ∷ l) e = go (f b) refl e (all-false f l)
     go false q e ih = (b, inl refl, q)
 
 module _ (p : Params) (r : Ranged p) (g : Ghost) (v : View) (k : OnDrives p r g v) (m : ℕ) (c : Choice (parOf p r) (g .un) (isIn m)) where
-  abbrev G : ℕ → Segment
+  abbrev G : Seg → Segment
   G z = segmentOf p v m z
 
   pub segment-fields :
-      (z : ℕ)
+      (z : Seg)
       → (G z .seg ≡ z) × (G z .serial ≡ headerSerial (headerAt v (lowDrive p m) z)) ×
       (G z .copied ≡ headerCopied (headerAt v (lowDrive p m) z)) × (G z .full ≡ sealedIn p v m z)
   unfolding segmentOf
   segment-fields z = (refl, refl, refl, refl)
 
-  module _ (z : ℕ) (i : Has z (remaining p v m)) where
-    pub seg-low : z < p .Z
+  module _ (z : Seg) (i : Has z (remaining p v m)) where
+    pub seg-low : Named p z
     seg-low = remaining-has p r g v k m c z i .0
 
-    pub seg-R : R (parOf p r) (g .hd) (itemsIn p v) (isIn m) z
+    pub seg-R : R (parOf p r) (g .hd) (itemsIn p v) (isIn m) (z .name)
     seg-R = remaining-has p r g v k m c z i .1
 
-    pub begun-on : (d : ℕ) → d < p .N → isIn m d ≡ false → 0 < pointerAt v d z
+    pub begun-on : (d : ℕ) → d < p .N → isIn m d ≡ false → 0 < pointerAt v d (zoneOn z d)
     begun-on d l n = omega (arith, seg-R .left d l n, zone-len p r g v k d z l (trusted p r g v k m c d l n) seg-low)
 
-    pub serial-ghost : G z .serial ≡ g .hd .ser z
+    pub serial-ghost : G z .serial ≡ g .hd .ser (z .name)
     serial-ghost = segment-fields z .1 ∙ low-serials p r g v k m c z (seg-R .left) .0
 
-    pub copied-ghost : G z .copied ≡ g .hd .cop z
+    pub copied-ghost : G z .copied ≡ g .hd .cop (z .name)
     copied-ghost = segment-fields z .2 ∙ low-serials p r g v k m c z (seg-R .left) .1
 
-    pub seg-used : Used (parOf p r) (g .un) (itemsIn p v) z
-    seg-used = used (parOf p r) g (itemsIn p v) (isIn m) z c (seg-R .left)
+    pub seg-used : Used (parOf p r) (g .un) (itemsIn p v) (z .name)
+    seg-used = used (parOf p r) g (itemsIn p v) (isIn m) (z .name) c (seg-R .left)
 
     -- an unsealed one is ragged
-    pub ragged-of : G z .full ≡ false → Ragged (parOf p r) (isIn m) (itemsIn p v) z
-    unfolding sealedIn zoneOn
+    pub ragged-of : G z .full ≡ false → Ragged (parOf p r) (isIn m) (itemsIn p v) (z .name)
+    unfolding sealedIn
     ragged-of e =
-        let a : (d : ℕ) × Has d (present p m) × (eqb (pointerAt v d z) (capacity p) ≡ false) =
-        all-false (λ d. eqb (pointerAt v d z) (capacity p)) (present p m) (sym (segment-fields z .3) ∙ e) in
+        let a : (d : ℕ) × Has d (present p m) × (eqb (pointerAt v d (zoneOn z d)) (capacity p) ≡ false) =
+        all-false (λ d. eqb (pointerAt v d (zoneOn z d)) (capacity p)) (present p m) (sym (segment-fields z .3) ∙ e) in
         let l : (a .0 < p .N) × (isIn m (a .0) ≡ false) = present-has p m (a .0) (a .1) in
         let t : g .un (a .0) ≡ false = trusted p r g v k m c (a .0) (l .0) (l .1) in
-        let n : length (itemsIn p v (a .0) z) ≡ pointerAt v (a .0) z = zone-len p r g v k (a .0) z (l .0) t seg-low in
-        let w : pointerAt v (a .0) z ≢ capacity p = eqb-false (pointerAt v (a .0) z) (capacity p) (a .2) in
-        let h : pointerAt v (a .0) z ≤ capacity p = subst (λ (x : ℕ). x ≤ capacity p) (pointer-is v (a .0) z) (zone-bytes p r g v k (a .0) z (l .0) t seg-low .low) in
+        let n : length (itemsIn p v (a .0) (z .name)) ≡ pointerAt v (a .0) (zoneOn z (a .0)) = zone-len p r g v k (a .0) z (l .0) t seg-low in
+        let w : pointerAt v (a .0) (zoneOn z (a .0)) ≢ capacity p = eqb-false (pointerAt v (a .0) (zoneOn z (a .0))) (capacity p) (a .2) in
+        let h : pointerAt v (a .0) (zoneOn z (a .0)) ≤ capacity p = subst (λ (x : ℕ). x ≤ capacity p) (pointer-is v (a .0) (zoneOn z (a .0))) (zone-bytes p r g v k (a .0) z (l .0) t seg-low .low) in
         (a .0, l, omega (arith, n, begun-on (a .0) (l .0) (l .1)), omega (arith, n, w, h))

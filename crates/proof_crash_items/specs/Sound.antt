@@ -8,16 +8,17 @@ use native.Mathlib.Decide.{ℕ-discrete}
 use native.Mathlib.Omega.{arith}
 use lib.ListN.{length, take}
 use Rattle.spec.specs.declared.Params.{Params}
-use Rattle.spec.specs.Drives.{mkChunk, Zone, View, zoneAt, pointerAt, Store, putZone, resetZone, setZone, storeView, storeAll}
+use Rattle.spec.specs.Drives.{mkChunk, Zone, View, zoneAt, pointerAt, Store, putZone, resetZone, setZone, storeView, storeAll, Seg, zoneOn}
 use Rattle.spec.specs.Drives.Store.{put, reset}
 use Rattle.spec.specs.Lists.{upFrom}
 use Rattle.spec.specs.Params.{spareLen, capacity}
 use Rattle.law_basic.specs.Geometry.{Ranged}
+use Rattle.law_basic.specs.Segs.{Named, zone-on-lt, seg-on-is}
 use Rattle.law_views.specs.Views.{Fits, AllFit}
 use Rattle.proof_crash_machine.specs.Mask.{Mask}
 use Rattle.proof_crash_machine.specs.Steps.{list}
-use Rattle.proof_crash_machine.specs.View.{ItemStore, withItem, applyAll}
-use Rattle.proof_crash_machine.specs.View.ItemStore.{put as m-put}
+use Rattle.proof_crash_machine.specs.View.{Item, ItemStore, withItem, applyAll}
+use Rattle.proof_crash_machine.specs.View.ItemStore.{put as m-put, reset as m-reset}
 use Rattle.proof_crash_items.specs.Items.{itemAt, itemsIn, items-put, storeItem, storeItems, items-stores, append-stores, items-cut}
 use Rattle.proof_crash_items.specs.Shape.{Shape, zone-set-else, set-elim, shape-zone, shape-store}
 use Rattle.proof_crash_items.specs.ZoneBytes.{ZoneBytes, Kind, kind-fits, kindItem, kind-item, bytes-reset, bytes-put}
@@ -118,16 +119,24 @@ pub follows-cut : (p : Params) → Ranged p → (v : View) (ss : List Store) (ms
     → itemsIn p (storeAll storeView (take n ss) v) ≡ applyAll (itemsIn p v) (take n ms)
 follows-cut p r v ss ms n h f = items-cut p v ss n h (sounds-fit p r v ss h (f .sound)) ∙ ap (λ (l : List ItemStore). applyAll (itemsIn p v) (take n l)) (f .items)
 
--- one store
-pub store-put : (p : Params) (v : View) (d z : ℕ) (b t : List ℕ) (k : Kind p d z (zoneAt v d z) b t) → storeItem p v (put d z b t) ≡ m-put d z (kindItem p d z (zoneAt v d z) b t k)
+-- one store, in a segment's zone
+pub store-put : (p : Params) (v : View) (d : ℕ) (g : Seg) (b t : List ℕ) → Named p g → (k : Kind p d (zoneOn g d) (zoneAt v d (zoneOn g d)) b t)
+    → storeItem p v (put d (zoneOn g d) b t) ≡ m-put d (g .name) (kindItem p d g (zoneAt v d (zoneOn g d)) b t k)
 unfolding storeItem pointerAt
-store-put p v d z b t k = ap (m-put d z) (kind-item p d z (zoneAt v d z) b t k)
+store-put p v d g b t m k = ap₂ (λ (x : Seg) (i : Item). m-put d (x .name) i) (seg-on-is p g d m) (kind-item p d g (zoneAt v d (zoneOn g d)) b t m k)
 
-pub items-put-kind : (p : Params) → Ranged p → (v : View) (d z : ℕ) (b t : List ℕ) → Shape p v → d < p .N → z < p .Z → (k : Kind p d z (zoneAt v d z) b t)
-    → itemsIn p (storeView (put d z b t) v) ≡ withItem (itemsIn p v) d z (kindItem p d z (zoneAt v d z) b t k)
-items-put-kind p r v d z b t h l m k =
-    items-put p v h d z b t l m (sound-fits p r v (put d z b t) h (l, m, k) .2)
-    ∙ ap (withItem (itemsIn p v) d z) (ap (λ (n : ℕ). itemAt p n (mkChunk b t)) (pointer-at-is v d z) ∙ kind-item p d z (zoneAt v d z) b t k)
+pub store-reset : (p : Params) (v : View) (d : ℕ) (g : Seg) → Named p g → storeItem p v (reset d (zoneOn g d)) ≡ m-reset d (g .name)
+unfolding storeItem
+store-reset p v d g m = ap (λ (x : Seg). m-reset d (x .name)) (seg-on-is p g d m)
+
+pub items-put-kind : (p : Params) → Ranged p → (v : View) (d : ℕ) (g : Seg) (b t : List ℕ) → Shape p v → d < p .N → Named p g
+    → (k : Kind p d (zoneOn g d) (zoneAt v d (zoneOn g d)) b t)
+    → itemsIn p (storeView (put d (zoneOn g d) b t) v) ≡ withItem (itemsIn p v) d (g .name) (kindItem p d g (zoneAt v d (zoneOn g d)) b t k)
+items-put-kind p r v d g b t h l m k =
+    let y : zoneOn g d < p .Z = zone-on-lt p g d m in
+    items-put p v h d (zoneOn g d) b t l y (sound-fits p r v (put d (zoneOn g d) b t) h (l, y, k) .2)
+    ∙ ap₂ (λ (x : Seg) (i : Item). withItem (itemsIn p v) d (x .name) i) (seg-on-is p g d m)
+    (ap (λ (n : ℕ). itemAt p n (mkChunk b t)) (pointer-at-is v d (zoneOn g d)) ∙ kind-item p d g (zoneAt v d (zoneOn g d)) b t m k)
   where
     pointer-at-is : (v : View) (d z : ℕ) → pointerAt v d z ≡ zoneAt v d z .pointer
     pointer-at-is v d z = unfold pointerAt in refl

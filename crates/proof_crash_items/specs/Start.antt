@@ -9,12 +9,13 @@ use lib.Dec.{eqb}
 use lib.ListN.{length, take, replicate, length-replicate}
 use Rattle.spec.specs.declared.Params.{Params}
 use Rattle.spec.specs.Bytes.{beFrom, beOf, part}
-use Rattle.spec.specs.Drives.{Zone, stored, zoneAt, pointerAt, Disk, pointerByte, pointerOf}
+use Rattle.spec.specs.Drives.{Zone, stored, zoneAt, pointerAt, Disk, pointerByte, pointerOf, Seg, seg, zoneOn}
 use Rattle.spec.specs.History.{emptyDisk}
 use Rattle.spec.specs.Lists.{sameList}
 use Rattle.spec.specs.Params.{imageLen, pointersLen}
 use Rattle.law_basic.specs.Geometry.{Ranged, pointer-within}
 use Rattle.law_basic.specs.Ranges.{and-left, and-right, sameList-true, part-replicate}
+use Rattle.law_basic.specs.Segs.{Named, zone-on-lt, named?}
 use Rattle.law_views.specs.Views.{Whole, pointer-view, seen}
 use Rattle.proof_crash_machine.specs.Facts.{Facts}
 use Rattle.proof_crash_machine.specs.History.{start, inv-start}
@@ -48,10 +49,12 @@ module _ (p : Params) (r : Ranged p) (dk : Disk) (e : emptyDisk p dk ≡ true) w
       ∙ ap beOf (ap (part (pointerByte p d z) 4) (empty-pointers p dk e .1) ∙ part-replicate (pointersLen p) (pointerByte p d z) 4 (pointer-within p d z l b)) ∙ four-zeros
 
   pub empty-items : itemsIn p (seen p dk) ≡ (λ d z. [])
-  empty-items = λ j d z. go d z (decLt d (p .N)) (decLt z (p .Z)) j
+  empty-items = λ j d n. go d (seg n) (decLt d (p .N)) (named? p (seg n)) j
     where
-      go : (d z : ℕ) → Dec (d < p .N) → Dec (z < p .Z) → itemsIn p (seen p dk) d z ≡ []
-      go d z (yes l) (yes b) = items-in p (seen p dk) d z ∙ none-stored (zoneAt (seen p dk) d z) (pointer-is (seen p dk) d z ∙ start-pointer d z l b)
+      go : (d : ℕ) (z : Seg) → Dec (d < p .N) → Dec (Named p z) → itemsIn p (seen p dk) d (z .name) ≡ []
+      go d z (yes l) (yes b) =
+          items-in p (seen p dk) d z
+          ∙ none-stored (zoneAt (seen p dk) d (zoneOn z d)) (pointer-is (seen p dk) d (zoneOn z d) ∙ start-pointer d (zoneOn z d) l (zone-on-lt p z d b))
         where
           none-stored : (q : Zone) → q .pointer ≡ 0 → itemsOf p q ≡ []
           none-stored q i = unfold itemsOf stored in (ap (λ (n : ℕ). itemsFrom p 0 (take n (q .blocks))) i ∙ (unfold itemsFrom in refl))

@@ -8,13 +8,14 @@ use native.Mathlib.Omega.{arith}
 use lib.Dec.{eqb}
 use lib.ListN.{length, getD, length-map}
 use Rattle.spec.specs.declared.Params.{Params}
-use Rattle.spec.specs.Drives.{noChunk, Zone, noZone, View, zoneAt, pointerAt, zoneOn, sealedIn, dataStored, recordIn}
+use Rattle.spec.specs.Drives.{noChunk, Zone, noZone, View, zoneAt, pointerAt, Seg, zoneOn, sealedIn, dataStored, recordIn}
 use Rattle.spec.specs.Layout.{Rec, mkRec, recordOf}
 use Rattle.spec.specs.Lists.{below, all, any, keep, sucUnless, indexOf, isIn}
 use Rattle.spec.specs.Params.{capacity, drivesOf, present}
 use Rattle.spec.specs.Parity.{Piece, mkPiece, parityPiece}
 use Rattle.spec.specs.Segments.{Segment, recordsIn, segmentOf, recsOn, offsetOn, hasChunk, counts, counted, storedPiece, pieceOf, storedRec}
 use Rattle.law_basic.specs.Geometry.{Ranged}
+use Rattle.law_basic.specs.Segs.{Named, zone-on-lt}
 use Rattle.law_basic.specs.Ranges.{length-below, map-below-same, map-map, getD-map-below}
 use Rattle.law_drives.specs.Tests.{cond-true, cond-false}
 use Rattle.proof_crash_machine.specs.Exec.{true≢false}
@@ -71,32 +72,32 @@ index-hit {A} f (a ∷ l) d e = go (f a) refl e (index-hit f l d)
     go false q e ih = unfold sucUnless in (omega (arith, ih e .0), ih e .1)
 
 module _ (p : Params) (r : Ranged p) (g : Ghost) (v : View) (k : OnDrives p r g v) (m : ℕ) (c : Choice (parOf p r) (g .un) (isIn m)) where
-  abbrev G : ℕ → Segment
+  abbrev G : Seg → Segment
   G z = segmentOf p v m z
 
   -- ---- the fields of a segment as read
 
-  pub zones-by : (z d : ℕ) → d < p .N → getD (G z .zonesBy) d noZone ≡ zoneAt v d z
-  unfolding segmentOf drivesOf zoneOn
-  zones-by z d l = getD-map-below (λ d. zoneAt v d z) (p .N) d noZone l
+  pub zones-by : (z : Seg) (d : ℕ) → d < p .N → getD (G z .zonesBy) d noZone ≡ zoneAt v d (zoneOn z d)
+  unfolding segmentOf drivesOf
+  zones-by z d l = getD-map-below (λ d. zoneAt v d (zoneOn z d)) (p .N) d noZone l
 
-  pub sealed-at-capacity : (z d : ℕ) → sealedIn p v m z ≡ true → d < p .N → isIn m d ≡ false → pointerAt v d z ≡ capacity p
-  unfolding sealedIn zoneOn
-  sealed-at-capacity z d e l n = eqb-true (pointerAt v d z) (capacity p) (all-present p m (λ d. eqb (pointerAt v d z) (capacity p)) e d l n)
+  pub sealed-at-capacity : (z : Seg) (d : ℕ) → sealedIn p v m z ≡ true → d < p .N → isIn m d ≡ false → pointerAt v d (zoneOn z d) ≡ capacity p
+  unfolding sealedIn
+  sealed-at-capacity z d e l n = eqb-true (pointerAt v d (zoneOn z d)) (capacity p) (all-present p m (λ d. eqb (pointerAt v d (zoneOn z d)) (capacity p)) e d l n)
 
   -- by footer or by spare
-  record-by-spare : (z d o : ℕ) (w : Bool) → sealedIn p v m z ≡ w → z < p .Z → d < p .N → isIn m d ≡ false → o < p .S
-      → recordIn p w (zoneAt v d z) o ≡ recordOf (blockIn (zoneAt v d z) (suc o) .spare)
+  record-by-spare : (z : Seg) (d o : ℕ) (w : Bool) → sealedIn p v m z ≡ w → Named p z → d < p .N → isIn m d ≡ false → o < p .S
+      → recordIn p w (zoneAt v d (zoneOn z d)) o ≡ recordOf (blockIn (zoneAt v d (zoneOn z d)) (suc o) .spare)
   record-by-spare z d o true e b l n s =
-      by-footer p r d z (zoneAt v d z) (shape-zone p v (k .shape) d z l b) (zone-bytes p r g v k d z l (trusted p r g v k m c d l n) b)
-      (pointer-is v d z ∙ sealed-at-capacity z d e l n) o s
+      by-footer p r d (zoneOn z d) (zoneAt v d (zoneOn z d)) (shape-zone p v (k .shape) d (zoneOn z d) l (zone-on-lt p z d b)) (zone-bytes p r g v k d z l (trusted p r g v k m c d l n) b)
+      (pointer-is v d (zoneOn z d) ∙ sealed-at-capacity z d e l n) o s
       ∙ by-spare-false
     where
-      by-spare-false : recordIn p false (zoneAt v d z) o ≡ recordOf (blockIn (zoneAt v d z) (suc o) .spare)
-      by-spare-false = unfold recordIn in ap (λ (i : ℕ). recordOf (getD (zoneAt v d z .blocks) i noChunk .spare)) (let e : 1 + o ≡ suc o = omega arith in e)
-  record-by-spare z d o false e b l n s = unfold recordIn in ap (λ (i : ℕ). recordOf (getD (zoneAt v d z .blocks) i noChunk .spare)) (let e : 1 + o ≡ suc o = omega arith in e)
+      by-spare-false : recordIn p false (zoneAt v d (zoneOn z d)) o ≡ recordOf (blockIn (zoneAt v d (zoneOn z d)) (suc o) .spare)
+      by-spare-false = unfold recordIn in ap (λ (i : ℕ). recordOf (getD (zoneAt v d (zoneOn z d) .blocks) i noChunk .spare)) (let e : 1 + o ≡ suc o = omega arith in e)
+  record-by-spare z d o false e b l n s = unfold recordIn in ap (λ (i : ℕ). recordOf (getD (zoneAt v d (zoneOn z d) .blocks) i noChunk .spare)) (let e : 1 + o ≡ suc o = omega arith in e)
 
-  pub recs-by-spare : (z d : ℕ) → z < p .Z → d < p .N → isIn m d ≡ false → recsOn (G z) d ≡ spareRecs p (zoneAt v d z)
+  pub recs-by-spare : (z : Seg) (d : ℕ) → Named p z → d < p .N → isIn m d ≡ false → recsOn (G z) d ≡ spareRecs p (zoneAt v d (zoneOn z d))
   unfolding recsOn segmentOf drivesOf recordsIn spareRecs
   recs-by-spare z d b l n =
       getD-map-below (λ d. cond (isIn m d) [] (map (recordIn p (sealedIn p v m z) (getD (map (λ d. zoneAt v d (zoneOn z d)) (below (p .N))) d noZone))
@@ -104,10 +105,10 @@ module _ (p : Params) (r : Ranged p) (g : Ghost) (v : View) (k : OnDrives p r g 
       ∙ cond-false (isIn m d) [] (map (recordIn p (sealedIn p v m z) (getD (map (λ d. zoneAt v d (zoneOn z d)) (below (p .N))) d noZone))
       (below (dataStored p (getD (map (λ d. zoneAt v d (zoneOn z d)) (below (p .N))) d noZone)))) n
       ∙ ap (λ (q : Zone). map (recordIn p (sealedIn p v m z) q) (below (dataStored p q))) (zones-by z d l)
-      ∙ map-below-same (recordIn p (sealedIn p v m z) (zoneAt v d z)) (λ o. recordOf (blockIn (zoneAt v d z) (suc o) .spare)) (dataStored p (zoneAt v d z))
-      (λ o i. record-by-spare z d o (sealedIn p v m z) refl b l n (stored-below p (zoneAt v d z) o i .0))
+      ∙ map-below-same (recordIn p (sealedIn p v m z) (zoneAt v d (zoneOn z d))) (λ o. recordOf (blockIn (zoneAt v d (zoneOn z d)) (suc o) .spare)) (dataStored p (zoneAt v d (zoneOn z d)))
+      (λ o i. record-by-spare z d o (sealedIn p v m z) refl b l n (stored-below p (zoneAt v d (zoneOn z d)) o i .0))
 
-  pub recs-missing : (z d : ℕ) → d < p .N → isIn m d ≡ true → recsOn (G z) d ≡ []
+  pub recs-missing : (z : Seg) (d : ℕ) → d < p .N → isIn m d ≡ true → recsOn (G z) d ≡ []
   unfolding recsOn segmentOf drivesOf
   recs-missing z d l n =
       getD-map-below (λ d. cond (isIn m d) [] (recordsIn p (sealedIn p v m z) (getD (map (λ d. zoneAt v d (zoneOn z d)) (below (p .N))) d noZone))) (p .N) d [] l
@@ -119,58 +120,61 @@ module _ (p : Params) (r : Ranged p) (g : Ghost) (v : View) (k : OnDrives p r g 
   is s x = eqb (x .stripe) s
 
   -- the offset that holds the chunk
-  pub offset-on : (z s d : ℕ) → z < p .Z → d < p .N → isIn m d ≡ false → hasChunk (G z) s d ≡ true
-      → (offsetOn (G z) d s < dataStored p (zoneAt v d z)) × (recordOf (blockIn (zoneAt v d z) (suc (offsetOn (G z) d s)) .spare) .stripe ≡ s)
+  pub offset-on : (z : Seg) (s d : ℕ) → Named p z → d < p .N → isIn m d ≡ false → hasChunk (G z) s d ≡ true
+      → (offsetOn (G z) d s < dataStored p (zoneAt v d (zoneOn z d))) × (recordOf (blockIn (zoneAt v d (zoneOn z d)) (suc (offsetOn (G z) d s)) .spare) .stripe ≡ s)
   unfolding offsetOn hasChunk
   offset-on z s d b l n e =
       let h : (indexOf (is s) (recsOn (G z) d) < length (recsOn (G z) d)) × (is s (getD (recsOn (G z) d) (indexOf (is s) (recsOn (G z) d)) (mkRec 0 0 0)) ≡ true) =
       index-hit (is s) (recsOn (G z) d) (mkRec 0 0 0) e in
-      let q : length (recsOn (G z) d) ≡ dataStored p (zoneAt v d z) = ap length (recs-by-spare z d b l n) ∙ length-spareRecs p (zoneAt v d z) in
-      let j : indexOf (is s) (recsOn (G z) d) < dataStored p (zoneAt v d z) = omega (arith, h .0, q) in
-      let x : getD (recsOn (G z) d) (indexOf (is s) (recsOn (G z) d)) (mkRec 0 0 0) ≡ recordOf (blockIn (zoneAt v d z) (suc (indexOf (is s) (recsOn (G z) d))) .spare) =
-      ap (λ (y : List Rec). getD y (indexOf (is s) (recsOn (G z) d)) (mkRec 0 0 0)) (recs-by-spare z d b l n) ∙ getD-spareRecs p (zoneAt v d z) (indexOf (is s) (recsOn (G z) d)) (mkRec 0 0 0) j in
+      let q : length (recsOn (G z) d) ≡ dataStored p (zoneAt v d (zoneOn z d)) = ap length (recs-by-spare z d b l n) ∙ length-spareRecs p (zoneAt v d (zoneOn z d)) in
+      let j : indexOf (is s) (recsOn (G z) d) < dataStored p (zoneAt v d (zoneOn z d)) = omega (arith, h .0, q) in
+      let x : getD (recsOn (G z) d) (indexOf (is s) (recsOn (G z) d)) (mkRec 0 0 0) ≡ recordOf (blockIn (zoneAt v d (zoneOn z d)) (suc (indexOf (is s) (recsOn (G z) d))) .spare) =
+      ap (λ (y : List Rec). getD y (indexOf (is s) (recsOn (G z) d)) (mkRec 0 0 0)) (recs-by-spare z d b l n)
+      ∙ getD-spareRecs p (zoneAt v d (zoneOn z d)) (indexOf (is s) (recsOn (G z) d)) (mkRec 0 0 0) j in
       (j, ap (λ (y : Rec). y .stripe) (sym x) ∙ eqb-true (getD (recsOn (G z) d) (indexOf (is s) (recsOn (G z) d)) (mkRec 0 0 0) .stripe) s (h .1))
 
-  pub stored-rec : (z s d : ℕ) → z < p .Z → d < p .N → isIn m d ≡ false → hasChunk (G z) s d ≡ true → storedRec (G z) s d ≡ recordOf (blockIn (zoneAt v d z) (suc (offsetOn (G z) d s)) .spare)
+  pub stored-rec : (z : Seg) (s d : ℕ) → Named p z → d < p .N → isIn m d ≡ false → hasChunk (G z) s d ≡ true
+      → storedRec (G z) s d ≡ recordOf (blockIn (zoneAt v d (zoneOn z d)) (suc (offsetOn (G z) d s)) .spare)
   unfolding storedRec
   stored-rec z s d b l n e =
       ap (λ (y : List Rec). getD y (offsetOn (G z) d s) (mkRec 0 0 0)) (recs-by-spare z d b l n)
-      ∙ getD-spareRecs p (zoneAt v d z) (offsetOn (G z) d s) (mkRec 0 0 0) (offset-on z s d b l n e .0)
+      ∙ getD-spareRecs p (zoneAt v d (zoneOn z d)) (offsetOn (G z) d s) (mkRec 0 0 0) (offset-on z s d b l n e .0)
 
-  pub stored-piece : (z s d : ℕ) → z < p .Z → d < p .N → isIn m d ≡ false → hasChunk (G z) s d ≡ true
-      → storedPiece (G z) s d ≡ mkPiece (blockIn (zoneAt v d z) (suc (offsetOn (G z) d s)) .block) (recordOf (blockIn (zoneAt v d z) (suc (offsetOn (G z) d s)) .spare))
+  pub stored-piece : (z : Seg) (s d : ℕ) → Named p z → d < p .N → isIn m d ≡ false → hasChunk (G z) s d ≡ true
+      → storedPiece (G z) s d ≡ mkPiece (blockIn (zoneAt v d (zoneOn z d)) (suc (offsetOn (G z) d s)) .block) (recordOf (blockIn (zoneAt v d (zoneOn z d)) (suc (offsetOn (G z) d s)) .spare))
   unfolding storedPiece storedRec
   stored-piece z s d b l n e = ap₂ mkPiece
       (ap₂ (λ (q : Zone) (i : ℕ). getD (q .blocks) i noChunk .block) (zones-by z d l) (let i : 1 + offsetOn (G z) d s ≡ suc (offsetOn (G z) d s) = omega arith in i))
       (stored-rec z s d b l n e)
 
-  pub stored-block-long : (z s d : ℕ) → z < p .Z → d < p .N → isIn m d ≡ false → hasChunk (G z) s d ≡ true → length (storedPiece (G z) s d .block) ≡ p .B
+  pub stored-block-long : (z : Seg) (s d : ℕ) → Named p z → d < p .N → isIn m d ≡ false → hasChunk (G z) s d ≡ true → length (storedPiece (G z) s d .block) ≡ p .B
   stored-block-long z s d b l n e =
       ap (λ (q : Piece). length (q .block)) (stored-piece z s d b l n e)
-      ∙ shape-zone p v (k .shape) d z l b .long (suc (offsetOn (G z) d s)) (omega (arith, stored-below p (zoneAt v d z) (offsetOn (G z) d s) (offset-on z s d b l n e .0) .0, capacity-few p r)) .0
+      ∙ shape-zone p v (k .shape) d (zoneOn z d) l (zone-on-lt p z d b) .long (suc (offsetOn (G z) d s))
+      (omega (arith, stored-below p (zoneAt v d (zoneOn z d)) (offsetOn (G z) d s) (offset-on z s d b l n e .0) .0, capacity-few p r)) .0
 
   -- the stored chunk is an item of the zone
-  pub stored-in : (z s d : ℕ) → z < p .Z → d < p .N → isIn m d ≡ false → hasChunk (G z) s d ≡ true → InI (chunk s (pieceValue (storedPiece (G z) s d))) (itemsIn p v d z)
+  pub stored-in : (z : Seg) (s d : ℕ) → Named p z → d < p .N → isIn m d ≡ false → hasChunk (G z) s d ≡ true → InI (chunk s (pieceValue (storedPiece (G z) s d))) (itemsIn p v d (z .name))
   stored-in z s d b l n e =
       let o : ℕ = offsetOn (G z) d s in
-      let q : Zone = zoneAt v d z in
-      let h : (offsetOn (G z) d s < dataStored p (zoneAt v d z)) × (recordOf (blockIn (zoneAt v d z) (suc (offsetOn (G z) d s)) .spare) .stripe ≡ s) = offset-on z s d b l n e in
+      let q : Zone = zoneAt v d (zoneOn z d) in
+      let h : (offsetOn (G z) d s < dataStored p (zoneAt v d (zoneOn z d))) × (recordOf (blockIn (zoneAt v d (zoneOn z d)) (suc (offsetOn (G z) d s)) .spare) .stripe ≡ s) = offset-on z s d b l n e in
       let i : (o < p .S) × (suc o < q .pointer) = stored-below p q o (h .0) in
       let f : Off (itemsOf p q) (suc o) (chunkItem (blockIn q (suc o))) = chunk-of p q (zone-pointer-low p r g v k d z l (trusted p r g v k m c d l n) b) o (i .0) (i .1) in
       let x : chunkItem (blockIn q (suc o)) ≡ chunk s (pieceValue (storedPiece (G z) s d)) = named-chunk z s d b l n e in
       subst (λ (y : List Item). InI (chunk s (pieceValue (storedPiece (G z) s d))) y) (sym (items-in p v d z))
       (subst (λ (y : Item). InI y (itemsOf p q)) x (off-in (itemsOf p q) (suc o) (chunkItem (blockIn q (suc o))) f))
     where
-      named-chunk : (z s d : ℕ) → z < p .Z → d < p .N → isIn m d ≡ false → hasChunk (G z) s d ≡ true
-          → chunkItem (blockIn (zoneAt v d z) (suc (offsetOn (G z) d s))) ≡ chunk s (pieceValue (storedPiece (G z) s d))
+      named-chunk : (z : Seg) (s d : ℕ) → Named p z → d < p .N → isIn m d ≡ false → hasChunk (G z) s d ≡ true
+          → chunkItem (blockIn (zoneAt v d (zoneOn z d)) (suc (offsetOn (G z) d s))) ≡ chunk s (pieceValue (storedPiece (G z) s d))
       named-chunk z s d b l n e = unfold chunkItem pieceValue in
           ap₂ chunk (offset-on z s d b l n e .1) (ap (λ (q : Piece). valueOf (q .block) (q .rec)) (sym (stored-piece z s d b l n e)))
 
   -- and an item is a stored chunk
-  pub in-has-chunk : (z s d : ℕ) (x : Val) → z < p .Z → d < p .N → isIn m d ≡ false → InI (chunk s x) (itemsIn p v d z) → hasChunk (G z) s d ≡ true
+  pub in-has-chunk : (z : Seg) (s d : ℕ) (x : Val) → Named p z → d < p .N → isIn m d ≡ false → InI (chunk s x) (itemsIn p v d (z .name)) → hasChunk (G z) s d ≡ true
   unfolding hasChunk
   in-has-chunk z s d x b l n i =
-      let q : Zone = zoneAt v d z in
+      let q : Zone = zoneAt v d (zoneOn z d) in
       let j : (j : ℕ) × Off (itemsOf p q) j (chunk s x) = in-off (chunk s x) (itemsOf p q) (subst (λ (y : List Item). InI (chunk s x) y) (items-in p v d z) i) in
       let f : (o : ℕ) × (j .0 ≡ suc o) × (o < p .S) × (suc o < q .pointer) × (recordOf (getD (q .blocks) (suc o) noChunk .spare) .stripe ≡ s)
       × (valueOf (getD (q .blocks) (suc o) noChunk .block) (recordOf (getD (q .blocks) (suc o) noChunk .spare)) ≡ x) =
@@ -185,40 +189,41 @@ module _ (p : Params) (r : Ranged p) (g : Ghost) (v : View) (k : OnDrives p r g 
 
   -- ---- stripes that count
 
-  pub counted-has : (z s : ℕ) → Has s (counted p m (G z)) → (s < p .S) × ((d : ℕ) → d < p .N → isIn m d ≡ false → hasChunk (G z) s d ≡ true)
+  pub counted-has : (z : Seg) (s : ℕ) → Has s (counted p m (G z)) → (s < p .S) × ((d : ℕ) → d < p .N → isIn m d ≡ false → hasChunk (G z) s d ≡ true)
   unfolding counted counts
   counted-has z s i =
       let q : Has s (below (p .S)) × (all (hasChunk (G z) s) (present p m) ≡ true) = keep-has (λ s. all (hasChunk (G z) s) (present p m)) s (below (p .S)) i in
       (below-has s (p .S) (q .0), all-present p m (hasChunk (G z) s) (q .1))
 
-  pub has-counted : (z s : ℕ) → s < p .S → ((d : ℕ) → d < p .N → isIn m d ≡ false → hasChunk (G z) s d ≡ true) → Has s (counted p m (G z))
+  pub has-counted : (z : Seg) (s : ℕ) → s < p .S → ((d : ℕ) → d < p .N → isIn m d ≡ false → hasChunk (G z) s d ≡ true) → Has s (counted p m (G z))
   unfolding counted counts
   has-counted z s l h = has-keep (λ s. all (hasChunk (G z) s) (present p m)) s (below (p .S)) (has-below s (p .S) l) (all-on-present p m (hasChunk (G z) s) h)
 
   -- the chunk of a counted stripe, as a value
-  unfoldable pub pieceAt : ℕ → ℕ → ℕ → Val
+  unfoldable pub pieceAt : Seg → ℕ → ℕ → Val
   pieceAt z s d = pieceValue (pieceOf p m (segmentOf p v m z) s d)
 
-  pub piece-here : (z s d : ℕ) → d < p .N → isIn m d ≡ false → pieceOf p m (G z) s d ≡ storedPiece (G z) s d
+  pub piece-here : (z : Seg) (s d : ℕ) → d < p .N → isIn m d ≡ false → pieceOf p m (G z) s d ≡ storedPiece (G z) s d
   unfolding pieceOf
   piece-here z s d l n = cond-false (isIn m d) (parityPiece p s (map (storedPiece (G z) s) (present p m))) (storedPiece (G z) s d) n
 
-  pub piece-lost : (z s d : ℕ) → isIn m d ≡ true → pieceOf p m (G z) s d ≡ parityPiece p s (map (storedPiece (G z) s) (present p m))
+  pub piece-lost : (z : Seg) (s d : ℕ) → isIn m d ≡ true → pieceOf p m (G z) s d ≡ parityPiece p s (map (storedPiece (G z) s) (present p m))
   unfolding pieceOf
   piece-lost z s d n = cond-true (isIn m d) (parityPiece p s (map (storedPiece (G z) s) (present p m))) (storedPiece (G z) s d) n
 
-  here-in : (z s : ℕ) → z < p .Z → ((d : ℕ) → d < p .N → isIn m d ≡ false → hasChunk (G z) s d ≡ true) → (d : ℕ) → d < p .N → isIn m d ≡ false → InI (chunk s (pieceAt z s d)) (itemsIn p v d z)
+  here-in : (z : Seg) (s : ℕ) → Named p z → ((d : ℕ) → d < p .N → isIn m d ≡ false → hasChunk (G z) s d ≡ true) → (d : ℕ) → d < p .N → isIn m d ≡ false
+      → InI (chunk s (pieceAt z s d)) (itemsIn p v d (z .name))
   unfolding pieceAt
-  here-in z s b h d l n = subst (λ (x : Piece). InI (chunk s (pieceValue x)) (itemsIn p v d z)) (sym (piece-here z s d l n)) (stored-in z s d b l n (h d l n))
+  here-in z s b h d l n = subst (λ (x : Piece). InI (chunk s (pieceValue x)) (itemsIn p v d (z .name))) (sym (piece-here z s d l n)) (stored-in z s d b l n (h d l n))
 
   abbrev P : ℕ → Bool
   P d = not (isIn m d)
 
-  abbrev F : ℕ → ℕ → ℕ → Val
+  abbrev F : Seg → ℕ → ℕ → Val
   F z s d = pieceValue (storedPiece (G z) s d)
 
   -- what is lost is decoded from the others
-  piece-decoded : (z s d : ℕ) → z < p .Z → isIn m d ≡ true → ((d : ℕ) → d < p .N → isIn m d ≡ false → hasChunk (G z) s d ≡ true)
+  piece-decoded : (z : Seg) (s d : ℕ) → Named p z → isIn m d ≡ true → ((d : ℕ) → d < p .N → isIn m d ≡ false → hasChunk (G z) s d ≡ true)
       → pieceAt z s d ≡ codeOf p r .dec s (isIn m) (F z s) d
   unfolding pieceAt present drivesOf
   piece-decoded z s d b n h =
@@ -233,14 +238,14 @@ module _ (p : Params) (r : Ranged p) (g : Ghost) (v : View) (k : OnDrives p r g 
       at e false q = only-there P (F z s) e (ap not q) ∙ sym (cond-false (isIn m e) 𝟘 (F z s e) q)
 
   -- it is a word with the stored ones
-  pub counted-stripe : (z s : ℕ) → z < p .Z → Has s (counted p m (G z)) → Stripe (parOf p r) (itemsIn p v) (isIn m) z s (pieceAt z s)
+  pub counted-stripe : (z : Seg) (s : ℕ) → Named p z → Has s (counted p m (G z)) → Stripe (parOf p r) (itemsIn p v) (isIn m) (z .name) s (pieceAt z s)
   counted-stripe z s b i = record { on = here; word = respell (parOf p r) s (w .0) (pieceAt z s) (λ d l. sym (all d l (isIn m d) refl)) (w .1) }
     where
-      here : (d : ℕ) → d < p .N → isIn m d ≡ false → InI (chunk s (pieceAt z s d)) (itemsIn p v d z)
+      here : (d : ℕ) → d < p .N → isIn m d ≡ false → InI (chunk s (pieceAt z s d)) (itemsIn p v d (z .name))
       here = here-in z s b (counted-has z s i .1)
 
       w : (h : ℕ → Val) × Word (parOf p r) s h × ((d : ℕ) → d < p .N → isIn m d ≡ false → pieceAt z s d ≡ h d)
-      w = k .facts .parity .whole (isIn m) c z s (pieceAt z s) here
+      w = k .facts .parity .whole (isIn m) c (z .name) s (pieceAt z s) here
 
       stored-is : (d : ℕ) → d < p .N → isIn m d ≡ false → F z s d ≡ w .0 d
       stored-is d l n = sym here-is ∙ w .2 d l n
@@ -254,27 +259,27 @@ module _ (p : Params) (r : Ranged p) (g : Ghost) (v : View) (k : OnDrives p r g 
           piece-decoded z s d b n (counted-has z s i .1)
           ∙ codeOf p r .law s (isIn m) (F z s) (w .0) (c .0) (λ e q a. stored-is e q a ∙ w .1 e q) d l n ∙ sym (w .1 d l)
 
-  pub stripe-below : (z s : ℕ) (f : ℕ → Val) → Stripe (parOf p r) (itemsIn p v) (isIn m) z s f → (z < p .Z) × (s < p .S)
+  pub stripe-below : (z : Seg) (s : ℕ) (f : ℕ → Val) → Stripe (parOf p r) (itemsIn p v) (isIn m) (z .name) s f → Named p z × (s < p .S)
   stripe-below z s f st = go (some-present (parOf p r) (isIn m) (c .0))
     where
-      go : (d : ℕ) × (d < p .N) × (isIn m d ≡ false) → (z < p .Z) × (s < p .S)
+      go : (d : ℕ) × (d < p .N) × (isIn m d ≡ false) → Named p z × (s < p .S)
       go (d, l, n) =
           let t : g .un d ≡ false = trusted p r g v k m c d l n in
-          let i : InI (chunk s (f d)) (itemsIn p v d z) = st .on d l n in
-          let b : z < p .Z = used-below p r g v k z (d, (l, t), item-some (chunk s (f d)) (itemsIn p v d z) i) in
-          let j : (j : ℕ) × Off (itemsIn p v d z) j (chunk s (f d)) = in-off (chunk s (f d)) (itemsIn p v d z) i in
+          let i : InI (chunk s (f d)) (itemsIn p v d (z .name)) = st .on d l n in
+          let b : Named p z = used-below p r g v k z (d, (l, t), item-some (chunk s (f d)) (itemsIn p v d (z .name)) i) in
+          let j : (j : ℕ) × Off (itemsIn p v d (z .name)) j (chunk s (f d)) = in-off (chunk s (f d)) (itemsIn p v d (z .name)) i in
           (b, num d l t i (j .0) (j .1))
         where
-          num : (d : ℕ) → d < p .N → g .un d ≡ false → InI (chunk s (f d)) (itemsIn p v d z) → (j : ℕ) → Off (itemsIn p v d z) j (chunk s (f d)) → s < p .S
-          num d l t i zero o = absurd (chunk-hdr (sym (o .1) ∙ k .facts .zones d z (l, t) .head (item-some (chunk s (f d)) (itemsIn p v d z) i)))
-          num d l t i (suc j) o = k .facts .zones d z (l, t) .num j s (f d) o .0
+          num : (d : ℕ) → d < p .N → g .un d ≡ false → InI (chunk s (f d)) (itemsIn p v d (z .name)) → (j : ℕ) → Off (itemsIn p v d (z .name)) j (chunk s (f d)) → s < p .S
+          num d l t i zero o = absurd (chunk-hdr (sym (o .1) ∙ k .facts .zones d (z .name) (l, t) .head (item-some (chunk s (f d)) (itemsIn p v d (z .name)) i)))
+          num d l t i (suc j) o = k .facts .zones d (z .name) (l, t) .num j s (f d) o .0
 
-  pub stripe-counted : (z s : ℕ) (f : ℕ → Val) → Stripe (parOf p r) (itemsIn p v) (isIn m) z s f → Has s (counted p m (G z)) × ((d : ℕ) → d < p .N → pieceAt z s d ≡ f d)
+  pub stripe-counted : (z : Seg) (s : ℕ) (f : ℕ → Val) → Stripe (parOf p r) (itemsIn p v) (isIn m) (z .name) s f → Has s (counted p m (G z)) × ((d : ℕ) → d < p .N → pieceAt z s d ≡ f d)
   stripe-counted z s f st =
-      let b : (z < p .Z) × (s < p .S) = stripe-below z s f st in
+      let b : Named p z × (s < p .S) = stripe-below z s f st in
       let i : Has s (counted p m (G z)) = has-counted z s (b .1) (λ d l n. in-has-chunk z s d (f d) (b .0) l n (st .on d l n)) in
-      let st′ : Stripe (parOf p r) (itemsIn p v) (isIn m) z s (pieceAt z s) = counted-stripe z s (b .0) i in (
+      let st′ : Stripe (parOf p r) (itemsIn p v) (isIn m) (z .name) s (pieceAt z s) = counted-stripe z s (b .0) i in (
         i,
         word-unique (parOf p r) s (isIn m) (c .0) (pieceAt z s) f (st′ .word) (st .word) (λ d l n.
-            once-in (parOf p r) g d z (itemsIn p v d z) (k .facts .zones d z (l, trusted p r g v k m c d l n)) s (pieceAt z s d) (f d) (st′ .on d l n) (st .on d l n)),
+            once-in (parOf p r) g d (z .name) (itemsIn p v d (z .name)) (k .facts .zones d (z .name) (l, trusted p r g v k m c d l n)) s (pieceAt z s d) (f d) (st′ .on d l n) (st .on d l n)),
       )

@@ -4,18 +4,17 @@ use mathlib.Core.List.{List, [], _∷_, _++_, map, append-nil, append-assoc}
 use mathlib.Core.Bool.{Bool, true, false, cond, _&&_}
 use mathlib.Core.Logic.{_⊎_, inl, inr}
 use Prim.Native.Nat.{ℕ, zero, suc, _+_, _≤_, _<_}
-use borrow.Author.Tests.{eq-eqb, eqb-true}
 use native.Mathlib.Omega.{arith}
-use lib.Dec.{eqb}
 use lib.ListN.{length, getD}
 use Rattle.spec.specs.declared.Params.{Params}
-use Rattle.spec.specs.Drives.{View}
+use Rattle.spec.specs.Drives.{View, Seg, seg, sameSeg}
 use Rattle.spec.specs.Layout.{group}
-use Rattle.spec.specs.Lists.{upFrom, below, any, isMember, isIn}
+use Rattle.spec.specs.Lists.{upFrom, below, any, isIn}
 use Rattle.spec.specs.Params.{footers, capacity}
 use Rattle.spec.specs.Segments.{remaining, Segment, segmentOf, counts, counted}
 use Rattle.law_basic.specs.Geometry.{Ranged}
 use Rattle.law_basic.specs.Ranges.{upFrom-snoc, length-below, map-append, length-keep}
+use Rattle.law_basic.specs.Segs.{seg-true, seg-self, Named}
 use Rattle.law_drives.specs.Tests.{cond-true, cond-false}
 use Rattle.proof_crash_machine.specs.Facts.{Ghost, Choice, Stripe, Ragged, self}
 use Rattle.proof_crash_machine.specs.Rebuild2.{RPlan, chunks, column}
@@ -53,111 +52,105 @@ module _ (p : Params) (r : Ranged p) (g₀ : Ghost) (m : ℕ) (few-lost : count 
   abbrev c : Choice (parOf p r) (isIn m) (isIn m)
   c = self (parOf p r) (isIn m) few-lost
 
-  abbrev G : ℕ → Segment
+  abbrev G : Seg → Segment
   G z = segmentOf p v m z
 
-  abbrev rem : List ℕ
+  abbrev rem : List Seg
   rem = remaining p v m
 
-  unfoldable pub planCount : ℕ → ℕ
-  planCount z = cond (isMember z (remaining p v m)) (length (counted p m (segmentOf p v m z))) 0
+  unfoldable pub planCount : Seg → ℕ
+  planCount z = cond (any (sameSeg z) (remaining p v m)) (length (counted p m (segmentOf p v m z))) 0
 
-  unfoldable pub planFeet : ℕ → ℕ
-  planFeet z = cond (isMember z (remaining p v m) && segmentOf p v m z .full) (footers p) 0
+  unfoldable pub planFeet : Seg → ℕ
+  planFeet z = cond (any (sameSeg z) (remaining p v m) && segmentOf p v m z .full) (footers p) 0
 
-  member : (z : ℕ) → Has z (remaining p v m) → isMember z (remaining p v m) ≡ true
-  member z i = unfold isMember in has-any (λ x. eqb z x) rem z i (eq-eqb z z refl)
+  member : (z : Seg) → Has z (remaining p v m) → any (sameSeg z) (remaining p v m) ≡ true
+  member z i = has-any (sameSeg z) rem z i (seg-self z)
 
-  of-member : (z : ℕ) → isMember z (remaining p v m) ≡ true → Has z (remaining p v m)
-  of-member z e = go (reveal e)
-    where
-      reveal : isMember z rem ≡ true → any (λ x. eqb z x) rem ≡ true
-      reveal e = unfold isMember in e
+  of-member : (z : Seg) → any (sameSeg z) (remaining p v m) ≡ true → Has z (remaining p v m)
+  of-member z e = let q : (y : Seg) × Has y rem × (sameSeg z y ≡ true) = any-has (sameSeg z) rem e in subst (λ (x : Seg). Has x rem) (sym (seg-true z (q .0) (q .2))) (q .1)
 
-      go : any (λ x. eqb z x) rem ≡ true → Has z rem
-      go e = let q : (y : ℕ) × Has y rem × (eqb z y ≡ true) = any-has (λ x. eqb z x) rem e in subst (λ (x : ℕ). Has x rem) (sym (eqb-true z (q .0) (q .2))) (q .1)
+  pub count-here : (z : Seg) → Has z (remaining p v m) → planCount z ≡ length (counted p m (G z))
+  count-here z i = unfold planCount in cond-true (any (sameSeg z) rem) (length (counted p m (G z))) 0 (member z i)
 
-  pub count-here : (z : ℕ) → Has z (remaining p v m) → planCount z ≡ length (counted p m (G z))
-  count-here z i = unfold planCount in cond-true (isMember z rem) (length (counted p m (G z))) 0 (member z i)
-
-  pub feet-here : (z : ℕ) → Has z (remaining p v m) → planFeet z ≡ cond (G z .full) (footers p) 0
+  pub feet-here : (z : Seg) → Has z (remaining p v m) → planFeet z ≡ cond (G z .full) (footers p) 0
   feet-here z i = unfold planFeet in ap (λ (b : Bool). cond (b && G z .full) (footers p) 0) (member z i)
 
-  counted-within : (z : ℕ) → length (counted p m (G z)) ≤ p .S
+  counted-within : (z : Seg) → length (counted p m (G z)) ≤ p .S
   counted-within z = unfold counted in omega (arith, length-keep (counts p m (G z)) (below (p .S)), length-below (p .S))
 
-  full-counts : (z : ℕ) → z < p .Z → G z .full ≡ true → length (counted p m (G z)) ≡ p .S
+  full-counts : (z : Seg) → Named p z → G z .full ≡ true → length (counted p m (G z)) ≡ p .S
   full-counts z zb e =
       ap length (rising-same (counted p m (G z)) (below (p .S)) (counted-rising p r g v k m c z) (rising-below (p .S))
       (λ s h. has-below s (p .S) (counted-has p r g v k m c z s h .0))
       (λ s h. sealed-counts p r g v k m c z s zb (sym (segment-fields p r g v k m c z .3) ∙ e) (below-has s (p .S) h))) ∙ length-below (p .S)
 
-  remaining-zone-low : (z : ℕ) → Has z (remaining p v m) → z < p .Z
+  remaining-zone-low : (z : Seg) → Has z (remaining p v m) → Named p z
   remaining-zone-low z i = seg-low p r g v k m c z i
 
   -- count and footers by cases: not remaining, remaining and unsealed, remaining and sealed
   cases :
-      (z : ℕ)
+      (z : Seg)
       → ((planCount z ≡ 0) × (planFeet z ≡ 0)) ⊎ (Has z (remaining p v m)
       × (planCount z ≡ length (counted p m (G z)))
       × (((G z .full ≡ false) × (planFeet z ≡ 0)) ⊎ ((G z .full ≡ true) × (planFeet z ≡ footers p))))
-  cases z = go (isMember z rem) refl
+  cases z = go (any (sameSeg z) rem) refl
     where
       go :
           (b : Bool)
-          → isMember z rem ≡ b
+          → any (sameSeg z) rem ≡ b
           → ((planCount z ≡ 0) × (planFeet z ≡ 0)) ⊎ (Has z (remaining p v m)
           × (planCount z ≡ length (counted p m (G z)))
           × (((G z .full ≡ false) × (planFeet z ≡ 0)) ⊎ ((G z .full ≡ true) × (planFeet z ≡ footers p))))
-      go false e = inl ((unfold planCount in cond-false (isMember z rem) (length (counted p m (G z))) 0 e), (unfold planFeet in ap (λ (b : Bool). cond (b && G z .full) (footers p) 0) e))
+      go false e = inl ((unfold planCount in cond-false (any (sameSeg z) rem) (length (counted p m (G z))) 0 e), (unfold planFeet in ap (λ (b : Bool). cond (b && G z .full) (footers p) 0) e))
       go true e = inr (of-member z e, count-here z (of-member z e), two (G z .full) refl)
         where
           two : (b : Bool) → G z .full ≡ b → ((G z .full ≡ false) × (planFeet z ≡ 0)) ⊎ ((G z .full ≡ true) × (planFeet z ≡ footers p))
           two true f = inr (f, feet-here z (of-member z e) ∙ ap (λ (b : Bool). cond b (footers p) 0) f)
           two false f = inl (f, feet-here z (of-member z e) ∙ ap (λ (b : Bool). cond b (footers p) 0) f)
 
-  abbrev Cases : ℕ → Type 0
+  abbrev Cases : Seg → Type 0
   Cases z =
       ((planCount z ≡ 0) × (planFeet z ≡ 0))
       ⊎ (Has z (remaining p v m)
       × (planCount z ≡ length (counted p m (G z)))
       × (((G z .full ≡ false) × (planFeet z ≡ 0)) ⊎ ((G z .full ≡ true) × (planFeet z ≡ footers p))))
 
-  abbrev src : ℕ → ℕ → ℕ
+  abbrev src : Seg → ℕ → ℕ
   src z j = getD (counted p m (G z)) j 0
 
   pub plan : RPlan (parOf p r) g (itemsIn p v)
   plan = record {
-    c = planCount;
-    src = λ z j. getD (counted p m (segmentOf p v m z)) j 0;
-    E = λ z j e. pieceAt p r g v k m c z (getD (counted p m (segmentOf p v m z)) j 0) e;
-    foots = planFeet;
-    st = λ z rr j l. st? z (has-remaining p r g v k m c z rr) j l;
-    every = λ z s f rr q. every? z s f (has-remaining p r g v k m c z rr) q;
-    inj = λ z i j a b e. inj? z i j a b e (cases z);
-    grp = λ z j l. grp? z j l (cases z);
-    sealed = λ z b s l. sealed? z b s l (cases z);
-    room = λ z. room? z (cases z);
-    ragged = λ z rr b. ragged? z (has-remaining p r g v k m c z rr) b (cases z);
+    c = λ n. planCount (seg n);
+    src = λ n j. getD (counted p m (segmentOf p v m (seg n))) j 0;
+    E = λ n j e. pieceAt p r g v k m c (seg n) (getD (counted p m (segmentOf p v m (seg n))) j 0) e;
+    foots = λ n. planFeet (seg n);
+    st = λ n rr j l. st? (seg n) (has-remaining p r g v k m c (seg n) rr) j l;
+    every = λ n s f rr q. every? (seg n) s f (has-remaining p r g v k m c (seg n) rr) q;
+    inj = λ n i j a b e. inj? (seg n) i j a b e (cases (seg n));
+    grp = λ n j l. grp? (seg n) j l (cases (seg n));
+    sealed = λ n b s l. sealed? (seg n) b s l (cases (seg n));
+    room = λ n. room? (seg n) (cases (seg n));
+    ragged = λ n rr b. ragged? (seg n) (has-remaining p r g v k m c (seg n) rr) b (cases (seg n));
   }
     where
-      st? : (z : ℕ) → Has z rem → (j : ℕ) → j < planCount z → Stripe (parOf p r) (itemsIn p v) (isIn m) z (src z j) (λ e. pieceAt p r g v k m c z (src z j) e)
+      st? : (z : Seg) → Has z rem → (j : ℕ) → j < planCount z → Stripe (parOf p r) (itemsIn p v) (isIn m) (z .name) (src z j) (λ e. pieceAt p r g v k m c z (src z j) e)
       st? z i j l = counted-stripe p r g v k m c z (src z j) (remaining-zone-low z i) (getD-has (counted p m (G z)) j 0 (omega (arith, l, count-here z i)))
 
-      every? : (z s : ℕ) (f : ℕ → Val) → Has z rem → Stripe (parOf p r) (itemsIn p v) (isIn m) z s f → (j : ℕ) × (j < planCount z) × (src z j ≡ s)
+      every? : (z : Seg) (s : ℕ) (f : ℕ → Val) → Has z rem → Stripe (parOf p r) (itemsIn p v) (isIn m) (z .name) s f → (j : ℕ) × (j < planCount z) × (src z j ≡ s)
       every? z s f i q =
           let a : (j : ℕ) × (j < length (counted p m (G z))) × (src z j ≡ s) = has-getD (counted p m (G z)) s 0 (stripe-counted p r g v k m c z s f q .0) in
           (a .0, omega (arith, a .1, count-here z i), a .2)
 
-      inj? : (z i j : ℕ) → i < planCount z → j < planCount z → src z i ≡ src z j → Cases z → i ≡ j
+      inj? : (z : Seg) (i j : ℕ) → i < planCount z → j < planCount z → src z i ≡ src z j → Cases z → i ≡ j
       inj? z i j a b e (inl (q, w)) = absurd (let x : ⊥ = omega (arith, a, q) in x)
       inj? z i j a b e (inr (h, q, w)) = rising-one (counted p m (G z)) (counted-rising p r g v k m c z) i j (omega (arith, a, q)) (omega (arith, b, q)) e
 
-      grp? : (z j : ℕ) → j < planCount z → Cases z → (src z j < p .S) × (j < p .S) × (group p (src z j) ≡ group p j)
+      grp? : (z : Seg) (j : ℕ) → j < planCount z → Cases z → (src z j < p .S) × (j < p .S) × (group p (src z j) ≡ group p j)
       grp? z j l (inl (q, w)) = absurd (let x : ⊥ = omega (arith, l, q) in x)
       grp? z j l (inr (h, q, w)) = counted-group p r g v k m c z j (remaining-zone-low z h) (omega (arith, l, q))
 
-      sealed? : (z : ℕ) → suc (p .S) < suc (planCount z + planFeet z) → (s : ℕ) → s < p .S → Cases z → (j : ℕ) × (j < planCount z) × (src z j ≡ s)
+      sealed? : (z : Seg) → suc (p .S) < suc (planCount z + planFeet z) → (s : ℕ) → s < p .S → Cases z → (j : ℕ) × (j < planCount z) × (src z j ≡ s)
       sealed? z b s l (inl (q, w)) = absurd (let x : ⊥ = omega (arith, b, q, w) in x)
       sealed? z b s l (inr (h, q, inl (f, w))) = absurd (let x : ⊥ = omega (arith, b, q, w, counted-within z) in x)
       sealed? z b s l (inr (h, q, inr (f, w))) =
@@ -166,56 +159,57 @@ module _ (p : Params) (r : Ranged p) (g₀ : Ghost) (m : ℕ) (few-lost : count 
           (sealed-counts p r g v k m c z s (remaining-zone-low z h) (sym (segment-fields p r g v k m c z .3) ∙ f) l) in
           (a .0, omega (arith, a .1, q), a .2)
 
-      room? : (z : ℕ) → Cases z → suc (planCount z + planFeet z) ≤ capacity p
+      room? : (z : Seg) → Cases z → suc (planCount z + planFeet z) ≤ capacity p
       room? z (inl (q, w)) = omega (arith, q, w, capacity-few p r)
       room? z (inr (h, q, inl (f, w))) = omega (arith, q, w, counted-within z, capacity-few p r)
       room? z (inr (h, q, inr (f, w))) = unfold capacity in omega (arith, q, w, counted-within z)
 
-      ragged? : (z : ℕ) → Has z rem → suc (planCount z + planFeet z) < capacity p → Cases z → Ragged (parOf p r) (isIn m) (itemsIn p v) z
+      ragged? : (z : Seg) → Has z rem → suc (planCount z + planFeet z) < capacity p → Cases z → Ragged (parOf p r) (isIn m) (itemsIn p v) (z .name)
       ragged? z i b (inl (q, w)) = go (G z .full) refl
         where
-          go : (t : Bool) → G z .full ≡ t → Ragged (parOf p r) (isIn m) (itemsIn p v) z
+          go : (t : Bool) → G z .full ≡ t → Ragged (parOf p r) (isIn m) (itemsIn p v) (z .name)
           go false f = ragged-of p r g v k m c z i f
           go true f = absurd (let x : length (counted p m (G z)) ≡ p .S = full-counts z (remaining-zone-low z i) f in let y : ⊥ = omega (arith, x, q, count-here z i, r .stripes-low) in y)
       ragged? z i b (inr (h, q, inl (f, w))) = ragged-of p r g v k m c z i f
       ragged? z i b (inr (h, q, inr (f, w))) =
           absurd (unfold capacity in (let x : length (counted p m (G z)) ≡ p .S = full-counts z (remaining-zone-low z i) f in let y : ⊥ = omega (arith, x, q, w, b) in y))
 
-  plan-foots : (z : ℕ) → plan .foots z ≡ planFeet z
+  plan-foots : (z : Seg) → plan .foots (z .name) ≡ planFeet z
   unfolding plan
   plan-foots z = refl
 
   -- ---- the machine's columns
-  module _ (d z : ℕ) (i : Has z (remaining p v m)) where
+  module _ (d : ℕ) (z : Seg) (i : Has z (remaining p v m)) where
     abbrev cs : List ℕ
     cs = counted p m (G z)
 
     abbrev it : ℕ → Item
     it j = chunk (src z j) (pieceAt p r g v k m c z (src z j) d)
 
-    chunks-are : (n : ℕ) → chunks (parOf p r) g (itemsIn p v) plan d z n ≡ hdr (g .hd .ser z) (g .hd .cop z) (g .hd .zn z) ∷ map it (below n)
+    chunks-are : (n : ℕ) → chunks (parOf p r) g (itemsIn p v) plan d (z .name) n ≡ hdr (g .hd .ser (z .name)) (g .hd .cop (z .name)) (g .hd .zn (z .name)) ∷ map it (below n)
     unfolding chunks plan below upFrom
     chunks-are zero = refl
-    chunks-are (suc n) = ap (λ (x : List Item). x ++ (it n ∷ [])) (chunks-are n) ∙ ap (λ (x : List Item). hdr (g .hd .ser z) (g .hd .cop z) (g .hd .zn z) ∷ x) (snoc n)
+    chunks-are (suc n) = ap (λ (x : List Item). x ++ (it n ∷ [])) (chunks-are n) ∙ ap (λ (x : List Item). hdr (g .hd .ser (z .name)) (g .hd .cop (z .name)) (g .hd .zn (z .name)) ∷ x) (snoc n)
       where
         snoc : (n : ℕ) → map it (upFrom 0 n) ++ (it n ∷ []) ≡ map it (upFrom 0 (suc n))
         snoc n = sym (ap (map it) (upFrom-snoc 0 n) ∙ map-append it (upFrom 0 n) ((0 + n) ∷ []) ∙ ap (λ (x : ℕ). map it (upFrom 0 n) ++ (it x ∷ [])) (let e : 0 + n ≡ n = omega arith in e))
 
-    column-feet : (j : ℕ) → column (parOf p r) g (itemsIn p v) plan d z j ≡ chunks (parOf p r) g (itemsIn p v) plan d z (planCount z) ++ map foot (below j)
+    column-feet : (j : ℕ) → column (parOf p r) g (itemsIn p v) plan d (z .name) j ≡ chunks (parOf p r) g (itemsIn p v) plan d (z .name) (planCount z) ++ map foot (below j)
     unfolding column plan below upFrom
-    column-feet zero = sym (append-nil (chunks (parOf p r) g (itemsIn p v) plan d z (planCount z)))
-    column-feet (suc j) = ap (λ (x : List Item). x ++ (foot j ∷ [])) (column-feet j) ∙ append-assoc (chunks (parOf p r) g (itemsIn p v) plan d z (planCount z)) (map foot (upFrom 0 j)) (foot j ∷ [])
-        ∙ ap (λ (x : List Item). chunks (parOf p r) g (itemsIn p v) plan d z (planCount z) ++ x) (snoc j)
+    column-feet zero = sym (append-nil (chunks (parOf p r) g (itemsIn p v) plan d (z .name) (planCount z)))
+    column-feet (suc j) =
+        ap (λ (x : List Item). x ++ (foot j ∷ [])) (column-feet j) ∙ append-assoc (chunks (parOf p r) g (itemsIn p v) plan d (z .name) (planCount z)) (map foot (upFrom 0 j)) (foot j ∷ [])
+        ∙ ap (λ (x : List Item). chunks (parOf p r) g (itemsIn p v) plan d (z .name) (planCount z) ++ x) (snoc j)
       where
         snoc : (n : ℕ) → map foot (upFrom 0 n) ++ (foot n ∷ []) ≡ map foot (upFrom 0 (suc n))
         snoc n = sym (ap (map foot) (upFrom-snoc 0 n) ∙ map-append foot (upFrom 0 n) ((0 + n) ∷ []) ∙ ap (λ (x : ℕ). map foot (upFrom 0 n) ++ (foot x ∷ [])) (let e : 0 + n ≡ n = omega arith in e))
 
-    pub column-is : column (parOf p r) g (itemsIn p v) plan d z (planFeet z) ≡ zoneItems p r g v k m c d z
+    pub column-is : column (parOf p r) g (itemsIn p v) plan d (z .name) (planFeet z) ≡ zoneItems p r g v k m c d z
     column-is =
         column-feet (planFeet z)
-        ∙ ap₂ (λ (x y : List Item). x ++ y) (ap (chunks (parOf p r) g (itemsIn p v) plan d z) (count-here z i)
+        ∙ ap₂ (λ (x y : List Item). x ++ y) (ap (chunks (parOf p r) g (itemsIn p v) plan d (z .name)) (count-here z i)
         ∙ chunks-are (length cs)
-        ∙ ap (λ (x : List Item). hdr (g .hd .ser z) (g .hd .cop z) (g .hd .zn z) ∷ x)
+        ∙ ap (λ (x : List Item). hdr (g .hd .ser (z .name)) (g .hd .cop (z .name)) (g .hd .zn (z .name)) ∷ x)
         (map-index (λ s. chunk s (pieceAt p r g v k m c z s d)) cs))
         (ap (λ (n : ℕ). map foot (below n)) (feet-here z i) ∙ feet-cond (G z .full))
         ∙ (unfold zoneItems in refl)
@@ -224,5 +218,5 @@ module _ (p : Params) (r : Ranged p) (g₀ : Ghost) (m : ℕ) (few-lost : count 
         feet-cond true = refl
         feet-cond false = unfold below upFrom in refl
 
-    pub column-foots : column (parOf p r) g (itemsIn p v) plan d z (plan .foots z) ≡ zoneItems p r g v k m c d z
-    column-foots = ap (column (parOf p r) g (itemsIn p v) plan d z) (plan-foots z) ∙ column-is
+    pub column-foots : column (parOf p r) g (itemsIn p v) plan d (z .name) (plan .foots (z .name)) ≡ zoneItems p r g v k m c d z
+    column-foots = ap (column (parOf p r) g (itemsIn p v) plan d (z .name)) (plan-foots z) ∙ column-is

@@ -9,13 +9,14 @@ use native.Mathlib.Omega.{arith}
 use lib.ListN.{length, getD}
 use lib.Arith.{digits-div}
 use Rattle.spec.specs.declared.Params.{Params}
-use Rattle.spec.specs.Drives.{View, zoneAt, sealedIn, dataStored}
+use Rattle.spec.specs.Drives.{View, zoneAt, Seg, zoneOn, sealedIn, dataStored}
 use Rattle.spec.specs.Layout.{group, recordOf}
 use Rattle.spec.specs.Lists.{below, isIn}
 use Rattle.spec.specs.Params.{capacity}
 use Rattle.spec.specs.Read.Found.{here}
 use Rattle.spec.specs.Segments.{Segment, segmentOf, offsetOn, hasChunk, counts, counted}
 use Rattle.law_basic.specs.Geometry.{Ranged}
+use Rattle.law_basic.specs.Segs.{Named}
 use Rattle.law_drives.specs.Counting.{pigeon}
 use Rattle.proof_crash_machine.specs.Facts.{Ghost, Choice, Off}
 use Rattle.proof_crash_machine.specs.Put.{off-in}
@@ -32,7 +33,7 @@ use Rattle.proof_crash_items.specs.ZoneBytes.{blockIn}
 use Rattle.proof_crash_rebuilds.specs.Sorted.{rising-index, rising-least, onto}
 
 module _ (p : Params) (r : Ranged p) (g : Ghost) (v : View) (k : OnDrives p r g v) (m : ℕ) (c : Choice (parOf p r) (g .un) (isIn m)) where
-  abbrev G : ℕ → Segment
+  abbrev G : Seg → Segment
   G z = segmentOf p v m z
 
   gp : 0 < p .G
@@ -54,89 +55,93 @@ module _ (p : Params) (r : Ranged p) (g : Ghost) (v : View) (k : OnDrives p r g 
       let b : suc q * p .G ≤ group p s * p .G = mul-le-mul-right (p .G) l in
       omega (arith, a .0, b, suc-mul q (p .G))
 
-  module _ (z d : ℕ) (zb : z < p .Z) (l : d < p .N) (n : isIn m d ≡ false) where
+  module _ (z : Seg) (d : ℕ) (zb : Named p z) (l : d < p .N) (n : isIn m d ≡ false) where
     at : ℕ → ℕ
-    at o = recordOf (blockIn (zoneAt v d z) (suc o) .spare) .stripe
+    at o = recordOf (blockIn (zoneAt v d (zoneOn z d)) (suc o) .spare) .stripe
 
     off :
         (o : ℕ)
-        → o < dataStored p (zoneAt v d z)
-        → Off (itemsIn p v d z) (suc o) (chunk (recordOf (blockIn (zoneAt v d z) (suc o) .spare) .stripe)
-        (valueOf (blockIn (zoneAt v d z) (suc o) .block) (recordOf (blockIn (zoneAt v d z) (suc o) .spare))))
+        → o < dataStored p (zoneAt v d (zoneOn z d))
+        → Off (itemsIn p v d (z .name)) (suc o) (chunk (recordOf (blockIn (zoneAt v d (zoneOn z d)) (suc o) .spare) .stripe)
+        (valueOf (blockIn (zoneAt v d (zoneOn z d)) (suc o) .block) (recordOf (blockIn (zoneAt v d (zoneOn z d)) (suc o) .spare))))
     off o w =
-        let j : (o < p .S) × (suc o < zoneAt v d z .pointer) = stored-below p (zoneAt v d z) o w in
-        subst (λ (y : List Item). Off y (suc o) (chunk (recordOf (blockIn (zoneAt v d z) (suc o) .spare) .stripe)
-        (valueOf (blockIn (zoneAt v d z) (suc o) .block) (recordOf (blockIn (zoneAt v d z) (suc o) .spare)))))
-        (sym (items-in p v d z)) (unfold chunkItem in chunk-of p (zoneAt v d z) (zone-pointer-low p r g v k d z l (trusted p r g v k m c d l n) zb) o (j .0) (j .1))
+        let j : (o < p .S) × (suc o < zoneAt v d (zoneOn z d) .pointer) = stored-below p (zoneAt v d (zoneOn z d)) o w in
+        subst (λ (y : List Item). Off y (suc o) (chunk (recordOf (blockIn (zoneAt v d (zoneOn z d)) (suc o) .spare) .stripe)
+        (valueOf (blockIn (zoneAt v d (zoneOn z d)) (suc o) .block) (recordOf (blockIn (zoneAt v d (zoneOn z d)) (suc o) .spare)))))
+        (sym (items-in p v d z)) (unfold chunkItem in chunk-of p (zoneAt v d (zoneOn z d)) (zone-pointer-low p r g v k d z l (trusted p r g v k m c d l n) zb) o (j .0) (j .1))
 
     fact :
         (o : ℕ)
-        → o < dataStored p (zoneAt v d z)
-        → (recordOf (blockIn (zoneAt v d z) (suc o) .spare) .stripe < p .S) × (o < p .S) ×
-        (group p (recordOf (blockIn (zoneAt v d z) (suc o) .spare) .stripe) ≡ group p o)
-    fact o w = zone-facts p r g v k d z l (trusted p r g v k m c d l n) .num o (recordOf (blockIn (zoneAt v d z) (suc o) .spare) .stripe)
-        (valueOf (blockIn (zoneAt v d z) (suc o) .block) (recordOf (blockIn (zoneAt v d z) (suc o) .spare))) (off o w)
+        → o < dataStored p (zoneAt v d (zoneOn z d))
+        → (recordOf (blockIn (zoneAt v d (zoneOn z d)) (suc o) .spare) .stripe < p .S) × (o < p .S) ×
+        (group p (recordOf (blockIn (zoneAt v d (zoneOn z d)) (suc o) .spare) .stripe) ≡ group p o)
+    fact o w = zone-facts p r g v k d z l (trusted p r g v k m c d l n) .num o (recordOf (blockIn (zoneAt v d (zoneOn z d)) (suc o) .spare) .stripe)
+        (valueOf (blockIn (zoneAt v d (zoneOn z d)) (suc o) .block) (recordOf (blockIn (zoneAt v d (zoneOn z d)) (suc o) .spare))) (off o w)
 
-    stripe-once : (i j : ℕ) → i < dataStored p (zoneAt v d z) → j < dataStored p (zoneAt v d z)
-        → recordOf (blockIn (zoneAt v d z) (suc i) .spare) .stripe ≡ recordOf (blockIn (zoneAt v d z) (suc j) .spare) .stripe → i ≡ j
+    stripe-once : (i j : ℕ) → i < dataStored p (zoneAt v d (zoneOn z d)) → j < dataStored p (zoneAt v d (zoneOn z d))
+        → recordOf (blockIn (zoneAt v d (zoneOn z d)) (suc i) .spare) .stripe ≡ recordOf (blockIn (zoneAt v d (zoneOn z d)) (suc j) .spare) .stripe → i ≡ j
     stripe-once i j a b e =
-        let w : suc i ≡ suc j = zone-facts p r g v k d z l (trusted p r g v k m c d l n) .once (suc i) (suc j) (recordOf (blockIn (zoneAt v d z) (suc j) .spare) .stripe)
-        (valueOf (blockIn (zoneAt v d z) (suc i) .block) (recordOf (blockIn (zoneAt v d z) (suc i) .spare)))
-        (valueOf (blockIn (zoneAt v d z) (suc j) .block) (recordOf (blockIn (zoneAt v d z) (suc j) .spare)))
-        (subst (λ (s : ℕ). Off (itemsIn p v d z) (suc i) (chunk s (valueOf (blockIn (zoneAt v d z) (suc i) .block) (recordOf (blockIn (zoneAt v d z) (suc i) .spare))))) e (off i a)) (off j b) in
+        let w : suc i ≡ suc j = zone-facts p r g v k d z l (trusted p r g v k m c d l n) .once (suc i) (suc j) (recordOf (blockIn (zoneAt v d (zoneOn z d)) (suc j) .spare) .stripe)
+        (valueOf (blockIn (zoneAt v d (zoneOn z d)) (suc i) .block) (recordOf (blockIn (zoneAt v d (zoneOn z d)) (suc i) .spare)))
+        (valueOf (blockIn (zoneAt v d (zoneOn z d)) (suc j) .block) (recordOf (blockIn (zoneAt v d (zoneOn z d)) (suc j) .spare)))
+        (subst (λ (s : ℕ). Off (itemsIn p v d (z .name)) (suc i) (chunk s (valueOf (blockIn (zoneAt v d (zoneOn z d)) (suc i) .block) (recordOf (blockIn (zoneAt v d (zoneOn z d)) (suc i) .spare))))) e
+        (off i a)) (off j b) in
         omega (arith, w)
 
     -- the zone has every stripe of an earlier group
     pub earlier : (s t : ℕ) → hasChunk (G z) s d ≡ true → t < p .S → group p t < group p s → hasChunk (G z) t d ≡ true
     earlier s t h tl e =
-        let w : (offsetOn (G z) d s < dataStored p (zoneAt v d z)) × (recordOf (blockIn (zoneAt v d z) (suc (offsetOn (G z) d s)) .spare) .stripe ≡ s) = offset-on p r g v k m c z s d zb l n h in
+        let w : (offsetOn (G z) d s < dataStored p (zoneAt v d (zoneOn z d))) × (recordOf (blockIn (zoneAt v d (zoneOn z d)) (suc (offsetOn (G z) d s)) .spare) .stripe ≡ s) =
+        offset-on p r g v k m c z s d zb l n h in
         let q : ℕ = group p t in
         let gs : group p (offsetOn (G z) d s) ≡ group p s = sym (fact (offsetOn (G z) d s) (w .0) .2) ∙ ap (group p) (w .1) in
         let far : q * p .G + p .G ≤ offsetOn (G z) d s = below-group q (offsetOn (G z) d s) (omega (arith, e, gs)) in
-        let inside : (i : ℕ) → i < p .G → q * p .G + i < dataStored p (zoneAt v d z) = λ i b. omega (arith, far, w .0, b) in
-        let f : ℕ → ℕ = λ i. recordOf (blockIn (zoneAt v d z) (suc (q * p .G + i)) .spare) .stripe - q * p .G in
+        let inside : (i : ℕ) → i < p .G → q * p .G + i < dataStored p (zoneAt v d (zoneOn z d)) = λ i b. omega (arith, far, w .0, b) in
+        let f : ℕ → ℕ = λ i. recordOf (blockIn (zoneAt v d (zoneOn z d)) (suc (q * p .G + i)) .spare) .stripe - q * p .G in
         let here :
         (i : ℕ)
         → i < p .G
-        → (q * p .G ≤ recordOf (blockIn (zoneAt v d z) (suc (q * p .G + i)) .spare) .stripe) ×
-        (recordOf (blockIn (zoneAt v d z) (suc (q * p .G + i)) .spare) .stripe < q * p .G + p .G) =
+        → (q * p .G ≤ recordOf (blockIn (zoneAt v d (zoneOn z d)) (suc (q * p .G + i)) .spare) .stripe) ×
+        (recordOf (blockIn (zoneAt v d (zoneOn z d)) (suc (q * p .G + i)) .spare) .stripe < q * p .G + p .G) =
         λ i b. in-group? q (q * p .G + i) i b refl (inside i b) in
         let a : (i : ℕ) × (i < p .G) × (f i ≡ t % p .G) = onto (p .G) f (λ i b. omega (arith, here i b .0, here i b .1))
         (λ i j x y e. let z : q * p .G + i
         ≡ q * p .G + j = stripe-once (q * p .G + i) (q * p .G + j) (inside i x) (inside j y) (omega (arith, e, here i x .0, here j y .0)) in omega
         (arith, z)) (t % p .G) (group-split t .1) in
-        let u : recordOf (blockIn (zoneAt v d z) (suc (q * p .G + a .0)) .spare) .stripe ≡ t = omega (arith, a .2, here (a .0) (a .1) .0, group-split t .0) in
-        in-has-chunk p r g v k m c z t d (valueOf (blockIn (zoneAt v d z) (suc (q * p .G + a .0)) .block) (recordOf (blockIn (zoneAt v d z) (suc (q * p .G + a .0)) .spare))) zb l n
-        (subst (λ (s : ℕ). InI (chunk s (valueOf (blockIn (zoneAt v d z) (suc (q * p .G + a .0)) .block) (recordOf (blockIn (zoneAt v d z) (suc (q * p .G + a .0)) .spare)))) (itemsIn p v d z)) u
-        (off-in (itemsIn p v d z) (suc (q * p .G + a .0))
-        (chunk (recordOf (blockIn (zoneAt v d z) (suc (q * p .G + a .0)) .spare) .stripe)
-        (valueOf (blockIn (zoneAt v d z) (suc (q * p .G + a .0)) .block) (recordOf (blockIn (zoneAt v d z) (suc (q * p .G + a .0)) .spare))))
+        let u : recordOf (blockIn (zoneAt v d (zoneOn z d)) (suc (q * p .G + a .0)) .spare) .stripe ≡ t = omega (arith, a .2, here (a .0) (a .1) .0, group-split t .0) in
+        in-has-chunk p r g v k m c z t d
+        (valueOf (blockIn (zoneAt v d (zoneOn z d)) (suc (q * p .G + a .0)) .block) (recordOf (blockIn (zoneAt v d (zoneOn z d)) (suc (q * p .G + a .0)) .spare))) zb l n
+        (subst (λ (s : ℕ). InI (chunk s (valueOf (blockIn (zoneAt v d (zoneOn z d)) (suc (q * p .G + a .0)) .block) (recordOf (blockIn (zoneAt v d (zoneOn z d)) (suc (q * p .G + a .0)) .spare))))
+        (itemsIn p v d (z .name))) u
+        (off-in (itemsIn p v d (z .name)) (suc (q * p .G + a .0))
+        (chunk (recordOf (blockIn (zoneAt v d (zoneOn z d)) (suc (q * p .G + a .0)) .spare) .stripe)
+        (valueOf (blockIn (zoneAt v d (zoneOn z d)) (suc (q * p .G + a .0)) .block) (recordOf (blockIn (zoneAt v d (zoneOn z d)) (suc (q * p .G + a .0)) .spare))))
         (off (q * p .G + a .0) (inside (a .0) (a .1)))))
       where
-        in-group? : (q o i : ℕ) → i < p .G → o ≡ q * p .G + i → o < dataStored p (zoneAt v d z)
-            → (q * p .G ≤ recordOf (blockIn (zoneAt v d z) (suc o) .spare) .stripe) × (recordOf (blockIn (zoneAt v d z) (suc o) .spare) .stripe < q * p .G + p .G)
+        in-group? : (q o i : ℕ) → i < p .G → o ≡ q * p .G + i → o < dataStored p (zoneAt v d (zoneOn z d))
+            → (q * p .G ≤ recordOf (blockIn (zoneAt v d (zoneOn z d)) (suc o) .spare) .stripe) × (recordOf (blockIn (zoneAt v d (zoneOn z d)) (suc o) .spare) .stripe < q * p .G + p .G)
         in-group? q o i b e w =
-            let x : group p (recordOf (blockIn (zoneAt v d z) (suc o) .spare) .stripe) ≡ q = fact o w .2 ∙ ap (group p) e ∙ group-at q i b in
-            let y : (group p (recordOf (blockIn (zoneAt v d z) (suc o) .spare) .stripe) * p .G + recordOf
-            (blockIn (zoneAt v d z) (suc o) .spare) .stripe % p .G
-            ≡ recordOf (blockIn (zoneAt v d z) (suc o) .spare) .stripe)
-            × (recordOf (blockIn (zoneAt v d z) (suc o) .spare) .stripe % p .G < p .G) = group-split (recordOf (blockIn (zoneAt v d z) (suc o) .spare) .stripe) in
-            let u : group p (recordOf (blockIn (zoneAt v d z) (suc o) .spare) .stripe) * p .G ≡ q * p .G = ap (λ (n : ℕ). n * p .G) x in
+            let x : group p (recordOf (blockIn (zoneAt v d (zoneOn z d)) (suc o) .spare) .stripe) ≡ q = fact o w .2 ∙ ap (group p) e ∙ group-at q i b in
+            let y : (group p (recordOf (blockIn (zoneAt v d (zoneOn z d)) (suc o) .spare) .stripe) * p .G + recordOf
+            (blockIn (zoneAt v d (zoneOn z d)) (suc o) .spare) .stripe % p .G
+            ≡ recordOf (blockIn (zoneAt v d (zoneOn z d)) (suc o) .spare) .stripe)
+            × (recordOf (blockIn (zoneAt v d (zoneOn z d)) (suc o) .spare) .stripe % p .G < p .G) = group-split (recordOf (blockIn (zoneAt v d (zoneOn z d)) (suc o) .spare) .stripe) in
+            let u : group p (recordOf (blockIn (zoneAt v d (zoneOn z d)) (suc o) .spare) .stripe) * p .G ≡ q * p .G = ap (λ (n : ℕ). n * p .G) x in
             (omega (arith, y .0, u), omega (arith, y .0, y .1, u))
 
   -- ---- counted stripes
-  abbrev cs : ℕ → List ℕ
+  abbrev cs : Seg → List ℕ
   cs z = counted p m (G z)
 
-  pub counted-rising : (z : ℕ) → Rising (counted p m (G z))
+  pub counted-rising : (z : Seg) → Rising (counted p m (G z))
   counted-rising z = unfold counted in rising-keep (counts p m (G z)) (below (p .S)) (rising-below (p .S))
 
-  pub earlier-counts : (z s t : ℕ) → z < p .Z → Has s (counted p m (G z)) → t < p .S → group p t < group p s → Has t (counted p m (G z))
+  pub earlier-counts : (z : Seg) (s t : ℕ) → Named p z → Has s (counted p m (G z)) → t < p .S → group p t < group p s → Has t (counted p m (G z))
   earlier-counts z s t zb h tl e = has-counted p r g v k m c z t tl (λ d l n. earlier z d zb l n s t (counted-has p r g v k m c z s h .1 d l n) tl e)
 
   pub counted-group :
-      (z j : ℕ)
-      → z < p .Z
+      (z : Seg) (j : ℕ)
+      → Named p z
       → j < length (counted p m (G z))
       → (getD (counted p m (G z)) j 0 < p .S) × (j < p .S) × (group p (getD (counted p m (G z)) j 0) ≡ group p j)
   counted-group z j zb jl =
@@ -166,9 +171,9 @@ module _ (p : Params) (r : Ranged p) (g : Ghost) (v : View) (k : OnDrives p r g 
       index t (no b) h = (0, λ x. absurd (b x))
 
   -- a sealed segment has every stripe
-  pub sealed-counts : (z s : ℕ) → z < p .Z → sealedIn p v m z ≡ true → s < p .S → Has s (counted p m (G z))
+  pub sealed-counts : (z : Seg) (s : ℕ) → Named p z → sealedIn p v m z ≡ true → s < p .S → Has s (counted p m (G z))
   sealed-counts z s zb e sl = has-counted p r g v k m c z s sl (λ d l n.
       let t : g .un d ≡ false = trusted p r g v k m c d l n in
-      let b : length (itemsIn p v d z) ≡ capacity p = zone-len p r g v k d z l t zb ∙ sealed-at-capacity p r g v k m c z d e l n in
-      let x : (x : Val) × InI (chunk s x) (itemsIn p v d z) = zone-facts p r g v k d z l t .sealed (omega (arith, b, capacity-few p r)) s sl in
+      let b : length (itemsIn p v d (z .name)) ≡ capacity p = zone-len p r g v k d z l t zb ∙ sealed-at-capacity p r g v k m c z d e l n in
+      let x : (x : Val) × InI (chunk s x) (itemsIn p v d (z .name)) = zone-facts p r g v k d z l t .sealed (omega (arith, b, capacity-few p r)) s sl in
       in-has-chunk p r g v k m c z s d (x .0) zb l n (x .1))

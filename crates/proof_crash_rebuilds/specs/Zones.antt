@@ -9,7 +9,7 @@ use native.Mathlib.Omega.{arith}
 use lib.ListN.{length, getD, length-map}
 use lib.Seq.{ext-getD}
 use Rattle.spec.specs.declared.Params.{Params}
-use Rattle.spec.specs.Drives.{Chunk, mkChunk, Zone, View, zoneAt, pointerAt, chunkAt, Store, putZone, storeView, storeAll, zoneOn, dataStored, zeroSpare}
+use Rattle.spec.specs.Drives.{Chunk, mkChunk, Zone, View, zoneAt, pointerAt, chunkAt, Store, putZone, storeView, storeAll, Seg, zoneOn, dataStored, zeroSpare}
 use Rattle.spec.specs.Drives.Store.{put}
 use Rattle.spec.specs.Layout.{headerBlock, headerSerial, headerCopied, recordBytes, recordOf, footerBlock}
 use Rattle.spec.specs.Lists.{upFrom, below, isIn}
@@ -19,6 +19,7 @@ use Rattle.spec.specs.Rebuild.{rebuiltZone}
 use Rattle.spec.specs.Segments.{lowDrive, headerAt, remaining, Segment, segmentOf, offsetOn, hasChunk, counts, counted, storedPiece, pieceOf, putPiece}
 use Rattle.law_basic.specs.Geometry.{Ranged}
 use Rattle.law_basic.specs.Ranges.{length-below, map-map, getD-map, length-keep}
+use Rattle.law_basic.specs.Segs.{Named, zone-on-lt}
 use Rattle.law_basic.specs.Xor.{length-parity}
 use Rattle.proof_crash_machine.specs.Facts.{Ghost, Choice}
 use Rattle.proof_crash_machine.specs.Rebuild2.{puts}
@@ -78,13 +79,13 @@ on-other p r d z (s ∷ ss) v h f a l e y n =
     one : (b : List ℕ) × (t : List ℕ) × (s ≡ put d z b t) → zoneAt (storeView s v) e y ≡ zoneAt v e y
     one (b, t, q) = ap (λ (x : Store). zoneAt (storeView x v) e y) q ∙ (unfold storeView in zone-set-else p v h d z (putZone b t (zoneAt v d z)) l e y n)
 
--- what zone z of drive d gets, where the drives m are missing
-unfoldable pub zoneItems : (p : Params) (r : Ranged p) (g : Ghost) (v : View) (k : OnDrives p r g v) (m : ℕ) (c : Choice (parOf p r) (g .un) (isIn m)) → ℕ → ℕ → List Item
+-- what segment z gets on drive d, where the drives m are missing
+unfoldable pub zoneItems : (p : Params) (r : Ranged p) (g : Ghost) (v : View) (k : OnDrives p r g v) (m : ℕ) (c : Choice (parOf p r) (g .un) (isIn m)) → ℕ → Seg → List Item
 zoneItems p r g v k m c d z =
-    hdr (g .hd .ser z) (g .hd .cop z) (g .hd .zn z) ∷ (map (λ s. chunk s (pieceAt p r g v k m c z s d)) (counted p m (segmentOf p v m z)) ++ cond
+    hdr (g .hd .ser (z .name)) (g .hd .cop (z .name)) (g .hd .zn (z .name)) ∷ (map (λ s. chunk s (pieceAt p r g v k m c z s d)) (counted p m (segmentOf p v m z)) ++ cond
     (segmentOf p v m z .full) (map foot (below (footers p))) [])
 
-module _ (p : Params) (r : Ranged p) (g : Ghost) (v : View) (k : OnDrives p r g v) (d : ℕ) (c : Choice (parOf p r) (g .un) (isIn (named d))) (dl : d < p .N) (z : ℕ)
+module _ (p : Params) (r : Ranged p) (g : Ghost) (v : View) (k : OnDrives p r g v) (d : ℕ) (c : Choice (parOf p r) (g .un) (isIn (named d))) (dl : d < p .N) (z : Seg)
     (i : Has z (remaining p v (named d))) where
   abbrev G : Segment
   G = segmentOf p v (named d) z
@@ -92,8 +93,11 @@ module _ (p : Params) (r : Ranged p) (g : Ghost) (v : View) (k : OnDrives p r g 
   abbrev cs : List ℕ
   cs = counted p (named d) G
 
-  zb : z < p .Z
+  zb : Named p z
   zb = seg-low p r g v k (named d) c z i
+
+  zl : zoneOn z d < p .Z
+  zl = zone-on-lt p z d zb
 
   abbrev piece : ℕ → Piece
   piece s = pieceOf p (named d) (segmentOf p v (named d) z) s d
@@ -123,9 +127,9 @@ module _ (p : Params) (r : Ranged p) (g : Ghost) (v : View) (k : OnDrives p r g 
     where
       wide-at : (e : ℕ) → e < p .N → isIn (named d) e ≡ false → Wide (storedPiece G s e .rec)
       wide-at e l n =
-          let a : (offsetOn G e s < dataStored p (zoneAt v e z)) × (recordOf (blockIn (zoneAt v e z) (suc (offsetOn G e s)) .spare) .stripe ≡ s) =
+          let a : (offsetOn G e s < dataStored p (zoneAt v e (zoneOn z e))) × (recordOf (blockIn (zoneAt v e (zoneOn z e)) (suc (offsetOn G e s)) .spare) .stripe ≡ s) =
           offset-on p r g v k (named d) c z s e zb l n (counted-chunk s e h l n) in
-          let b : (offsetOn G e s < p .S) × (suc (offsetOn G e s) < zoneAt v e z .pointer) = stored-below p (zoneAt v e z) (offsetOn G e s) (a .0) in
+          let b : (offsetOn G e s < p .S) × (suc (offsetOn G e s) < zoneAt v e (zoneOn z e) .pointer) = stored-below p (zoneAt v e (zoneOn z e)) (offsetOn G e s) (a .0) in
           subst (λ (q : Piece). Wide (q .rec)) (sym (stored-piece p r g v k (named d) c z s e zb l n (counted-chunk s e h l n)))
           (zone-bytes p r g v k e z l (trusted p r g v k (named d) c e l n) zb .wide (offsetOn G e s) (b .0) (b .1))
 
@@ -144,95 +148,104 @@ module _ (p : Params) (r : Ranged p) (g : Ghost) (v : View) (k : OnDrives p r g 
   -- ---- chunks
   pub record Rows (j : ℕ) (w : View) : Type 0 where
     pub shape : Shape p w
-    pub at : pointerAt w d z ≡ suc j
-    pub spares : (o : ℕ) → o < j → blockIn (zoneAt w d z) (suc o) .spare ≡ recordBytes (piece (getD cs o 0) .rec)
+    pub at : pointerAt w d (zoneOn z d) ≡ suc j
+    pub spares : (o : ℕ) → o < j → blockIn (zoneAt w d (zoneOn z d)) (suc o) .spare ≡ recordBytes (piece (getD cs o 0) .rec)
 
   rebuilt-row-step : (s j : ℕ) (w : View) → Has s cs → j < p .S → s ≡ getD cs j 0 → Rows j w
-      → Sound p w (putPiece d z (piece s)) × (storeItem p w (putPiece d z (piece s)) ≡ m-put d z (chunkIt s)) × Rows (suc j) (storeView (putPiece d z (piece s)) w)
+      → Sound p w (putPiece d (zoneOn z d) (piece s)) × (storeItem p w (putPiece d (zoneOn z d) (piece s)) ≡ m-put d (z .name) (chunkIt s))
+      × Rows (suc j) (storeView (putPiece d (zoneOn z d) (piece s)) w)
   unfolding putPiece
   rebuilt-row-step s j w h jl e a =
-      let so : Sound p w (put d z (piece s .block) (recordBytes (piece s .rec))) = (dl, zb, kd) in (
+      let so : Sound p w (put d (zoneOn z d) (piece s .block) (recordBytes (piece s .rec))) = (dl, zl, kd) in (
         so,
-        store-put p w d z (piece s .block) (recordBytes (piece s .rec)) kd ∙ ap (m-put d z) item-is,
+        store-put p w d z (piece s .block) (recordBytes (piece s .rec)) zb kd ∙ ap (m-put d (z .name)) item-is,
         record {
-          shape = shape-store p w (put d z (piece s .block) (recordBytes (piece s .rec))) (a .shape) (sound-fits p r w (put d z (piece s .block) (recordBytes (piece s .rec))) (a .shape) so);
-          at = put-pointer-at p w (a .shape) d z (piece s .block) (recordBytes (piece s .rec)) dl zb ∙ ap suc (a .at);
-          spares = λ o ol. ap (λ (q : Zone). blockIn q (suc o) .spare) (put-at p w (a .shape) d z (piece s .block) (recordBytes (piece s .rec)) dl zb) ∙ go o ol (ℕ-discrete o j);
+          shape =
+              shape-store p w (put d (zoneOn z d) (piece s .block) (recordBytes (piece s .rec))) (a .shape)
+              (sound-fits p r w (put d (zoneOn z d) (piece s .block) (recordBytes (piece s .rec))) (a .shape) so);
+          at = put-pointer-at p w (a .shape) d (zoneOn z d) (piece s .block) (recordBytes (piece s .rec)) dl zl ∙ ap suc (a .at);
+          spares = λ o ol. ap (λ (q : Zone). blockIn q (suc o) .spare) (put-at p w (a .shape) d (zoneOn z d) (piece s .block) (recordBytes (piece s .rec)) dl zl) ∙ go o ol (ℕ-discrete o j);
         },
       )
     where
-      kd : Kind p d z (zoneAt w d z) (piece s .block) (recordBytes (piece s .rec))
-      kd = datum j (piece s .block) (piece s .rec) (pointer-is w d z ∙ a .at) jl (piece-length s h) (piece-fits s h)
+      kd : Kind p d (zoneOn z d) (zoneAt w d (zoneOn z d)) (piece s .block) (recordBytes (piece s .rec))
+      kd = datum j (piece s .block) (piece s .rec) (pointer-is w d (zoneOn z d) ∙ a .at) jl (piece-length s h) (piece-fits s h)
 
-      item-is : kindItem p d z (zoneAt w d z) (piece s .block) (recordBytes (piece s .rec)) kd ≡ chunkIt s
+      item-is : kindItem p d z (zoneAt w d (zoneOn z d)) (piece s .block) (recordBytes (piece s .rec)) kd ≡ chunkIt s
       item-is = unfold kindItem in piece-chunk s
 
-      go : (o : ℕ) → o < suc j → Dec (o ≡ j) → blockIn (putZone (piece s .block) (recordBytes (piece s .rec)) (zoneAt w d z)) (suc o) .spare ≡ recordBytes (piece (getD cs o 0) .rec)
+      go : (o : ℕ) → o < suc j → Dec (o ≡ j) → blockIn (putZone (piece s .block) (recordBytes (piece s .rec)) (zoneAt w d (zoneOn z d))) (suc o) .spare ≡ recordBytes (piece (getD cs o 0) .rec)
       go o ol (yes q) =
-          ap (λ (x : ℕ). blockIn (putZone (piece s .block) (recordBytes (piece s .rec)) (zoneAt w d z)) x .spare) (ap suc q ∙ sym (pointer-is w d z ∙ a .at))
-          ∙ ap (λ (x : Chunk). x .spare) (put-new-block p r d z (zoneAt w d z) (shape-zone p w (a .shape) d z dl zb) (piece s .block)
-          (recordBytes (piece s .rec)) (omega (arith, pointer-is w d z ∙ a .at, jl, capacity-few p r)))
+          ap (λ (x : ℕ). blockIn (putZone (piece s .block) (recordBytes (piece s .rec)) (zoneAt w d (zoneOn z d))) x .spare) (ap suc q ∙ sym (pointer-is w d (zoneOn z d) ∙ a .at))
+          ∙ ap (λ (x : Chunk). x .spare) (put-new-block p r d (zoneOn z d) (zoneAt w d (zoneOn z d)) (shape-zone p w (a .shape) d (zoneOn z d) dl zl) (piece s .block)
+          (recordBytes (piece s .rec)) (omega (arith, pointer-is w d (zoneOn z d) ∙ a .at, jl, capacity-few p r)))
           ∙ ap (λ (x : ℕ). recordBytes (piece x .rec)) (e ∙ ap (λ (x : ℕ). getD cs x 0) (sym q))
       go o ol (no q) =
-          ap (λ (x : Chunk). x .spare) (old-block p r d z (zoneAt w d z) (shape-zone p w (a .shape) d z dl zb) (piece s .block)
-          (recordBytes (piece s .rec)) (suc o) (omega (arith, pointer-is w d z ∙ a .at, q, ol)))
+          ap (λ (x : Chunk). x .spare) (old-block p r d (zoneOn z d) (zoneAt w d (zoneOn z d)) (shape-zone p w (a .shape) d (zoneOn z d) dl zl) (piece s .block)
+          (recordBytes (piece s .rec)) (suc o) (omega (arith, pointer-is w d (zoneOn z d) ∙ a .at, q, ol)))
           ∙ a .spares o (omega arith)
 
   few-cs : length (counted p (named d) G) ≤ p .S
   few-cs = unfold counted in omega (arith, length-keep (counts p (named d) G) (below (p .S)), length-below (p .S))
 
   chunks-follow : (ss : List ℕ) (j : ℕ) → ((t : ℕ) → t < length ss → getD ss t 0 ≡ getD (counted p (named d) G) (j + t) 0) → j + length ss ≡ length (counted p (named d) G) → (w : View) → Rows j w
-      → Follows p w (map (putPiece d z) (map piece ss)) (puts d z (map chunkIt ss)) × Rows (length (counted p (named d) G)) (storeAll storeView (map (putPiece d z) (map piece ss)) w)
+      → Follows p w (map (putPiece d (zoneOn z d)) (map piece ss)) (puts d (z .name) (map chunkIt ss))
+      × Rows (length (counted p (named d) G)) (storeAll storeView (map (putPiece d (zoneOn z d)) (map piece ss)) w)
   unfolding puts storeAll storeItems
   chunks-follow [] j h e w a = (record { sound = tt; items = refl }, subst (λ (x : ℕ). Rows x w) (let q : j ≡ length cs = omega (arith, e) in q) a)
   chunks-follow (s ∷ ss) j h e w a =
       let q : s ≡ getD cs j 0 = h 0 (omega arith) ∙ ap (λ (x : ℕ). getD cs x 0) (let q : j + 0 ≡ j = omega arith in q) in
       let jl : j < length cs = omega (arith, e) in
-      let one : Sound p w (putPiece d z (piece s)) × (storeItem p w (putPiece d z (piece s)) ≡ m-put d z (chunkIt s)) × Rows (suc j) (storeView (putPiece d z (piece s)) w) =
+      let one : Sound p w (putPiece d (zoneOn z d) (piece s)) × (storeItem p w (putPiece d (zoneOn z d) (piece s)) ≡ m-put d (z .name) (chunkIt s))
+      × Rows (suc j) (storeView (putPiece d (zoneOn z d) (piece s)) w) =
       rebuilt-row-step s j w (subst (λ (x : ℕ). Has x cs) (sym q) (getD-has cs j 0 jl)) (omega (arith, jl, few-cs)) q a in
-      let more : Follows p (storeView (putPiece d z (piece s)) w) (map (putPiece d z) (map piece ss)) (puts d z (map chunkIt ss))
-      × Rows (length cs) (storeAll storeView (map (putPiece d z) (map piece ss)) (storeView (putPiece d z (piece s)) w)) =
+      let more : Follows p (storeView (putPiece d (zoneOn z d) (piece s)) w) (map (putPiece d (zoneOn z d)) (map piece ss)) (puts d (z .name) (map chunkIt ss))
+      × Rows (length cs) (storeAll storeView (map (putPiece d (zoneOn z d)) (map piece ss)) (storeView (putPiece d (zoneOn z d) (piece s)) w)) =
       chunks-follow ss (suc j) (λ t l. h (suc t) (omega arith) ∙ ap (λ (x : ℕ). getD cs x 0) (let q : j + suc t ≡ suc j + t = omega arith in q))
-      (omega (arith, e)) (storeView (putPiece d z (piece s)) w) (one .2) in
+      (omega (arith, e)) (storeView (putPiece d (zoneOn z d) (piece s)) w) (one .2) in
       (record { sound = (one .0, more .0 .sound); items = ap₂ (λ (x : ItemStore) (y : List ItemStore). x ∷ y) (one .1) (more .0 .items) }, more .1)
 
   -- ---- header
   abbrev hItem : Item
-  hItem = hdr (g .hd .ser z) (g .hd .cop z) (g .hd .zn z)
+  hItem = hdr (g .hd .ser (z .name)) (g .hd .cop (z .name)) (g .hd .zn (z .name))
 
   wide-heads : (G .serial < 256 ^ 8) × (G .copied < 256 ^ 8)
   wide-heads =
       let e : (lowDrive p (named d) < p .N) × (isIn (named d) (lowDrive p (named d)) ≡ false) = low-drive p (named d) r (c .0) in
       let t : g .un (lowDrive p (named d)) ≡ false = trusted p r g v k (named d) c (lowDrive p (named d)) (e .0) (e .1) in
-      let b : 0 < pointerAt v (lowDrive p (named d)) z = begun-on p r g v k (named d) c z i (lowDrive p (named d)) (e .0) (e .1) in
-      let q : (headerSerial (blockIn (zoneAt v (lowDrive p (named d)) z) 0 .block) < 256 ^ 8) × (headerCopied (blockIn (zoneAt v (lowDrive p (named d)) z) 0 .block) < 256 ^ 8) =
-      zone-bytes p r g v k (lowDrive p (named d)) z (e .0) t zb .serials (subst (λ (x : ℕ). 0 < x) (sym (pointer-is v (lowDrive p (named d)) z)) b) in
+      let b : 0 < pointerAt v (lowDrive p (named d)) (zoneOn z (lowDrive p (named d))) = begun-on p r g v k (named d) c z i (lowDrive p (named d)) (e .0) (e .1) in
+      let q : (headerSerial (blockIn (zoneAt v (lowDrive p (named d)) (zoneOn z (lowDrive p (named d)))) 0 .block) < 256 ^ 8)
+      × (headerCopied (blockIn (zoneAt v (lowDrive p (named d)) (zoneOn z (lowDrive p (named d)))) 0 .block) < 256 ^ 8) =
+      zone-bytes p r g v k (lowDrive p (named d)) z (e .0) t zb .serials (subst (λ (x : ℕ). 0 < x) (sym (pointer-is v (lowDrive p (named d)) (zoneOn z (lowDrive p (named d))))) b) in
       reveal q
     where
       reveal :
-          (headerSerial (blockIn (zoneAt v (lowDrive p (named d)) z) 0 .block) < 256 ^ 8) ×
-          (headerCopied (blockIn (zoneAt v (lowDrive p (named d)) z) 0 .block) < 256 ^ 8)
+          (headerSerial (blockIn (zoneAt v (lowDrive p (named d)) (zoneOn z (lowDrive p (named d)))) 0 .block) < 256 ^ 8) ×
+          (headerCopied (blockIn (zoneAt v (lowDrive p (named d)) (zoneOn z (lowDrive p (named d)))) 0 .block) < 256 ^ 8)
           → (G .serial < 256 ^ 8) × (G .copied < 256 ^ 8)
-      reveal q = unfold segmentOf headerAt chunkAt zoneOn in q
+      reveal q = unfold segmentOf headerAt chunkAt in q
 
-  header-step : (w : View) → Shape p w → pointerAt w d z ≡ 0
-      → Sound p w (put d z (headerBlock p d z (G .serial) (G .copied)) zeroSpare) × (storeItem p w (put d z (headerBlock p d z (G .serial) (G .copied)) zeroSpare) ≡ m-put d z hItem)
-      × Rows 0 (storeView (put d z (headerBlock p d z (G .serial) (G .copied)) zeroSpare) w)
+  header-step : (w : View) → Shape p w → pointerAt w d (zoneOn z d) ≡ 0
+      → Sound p w (put d (zoneOn z d) (headerBlock p d (zoneOn z d) (G .serial) (G .copied)) zeroSpare)
+      × (storeItem p w (put d (zoneOn z d) (headerBlock p d (zoneOn z d) (G .serial) (G .copied)) zeroSpare) ≡ m-put d (z .name) hItem)
+      × Rows 0 (storeView (put d (zoneOn z d) (headerBlock p d (zoneOn z d) (G .serial) (G .copied)) zeroSpare) w)
   header-step w h e =
-      let so : Sound p w (put d z (headerBlock p d z (G .serial) (G .copied)) zeroSpare) = (dl, zb, kd) in (
+      let so : Sound p w (put d (zoneOn z d) (headerBlock p d (zoneOn z d) (G .serial) (G .copied)) zeroSpare) = (dl, zl, kd) in (
         so,
-        store-put p w d z (headerBlock p d z (G .serial) (G .copied)) zeroSpare kd ∙ ap (m-put d z) item-is,
+        store-put p w d z (headerBlock p d (zoneOn z d) (G .serial) (G .copied)) zeroSpare zb kd ∙ ap (m-put d (z .name)) item-is,
         record {
-          shape = shape-store p w (put d z (headerBlock p d z (G .serial) (G .copied)) zeroSpare) h (sound-fits p r w (put d z (headerBlock p d z (G .serial) (G .copied)) zeroSpare) h so);
-          at = put-pointer-at p w h d z (headerBlock p d z (G .serial) (G .copied)) zeroSpare dl zb ∙ ap suc e;
+          shape =
+              shape-store p w (put d (zoneOn z d) (headerBlock p d (zoneOn z d) (G .serial) (G .copied)) zeroSpare) h
+              (sound-fits p r w (put d (zoneOn z d) (headerBlock p d (zoneOn z d) (G .serial) (G .copied)) zeroSpare) h so);
+          at = put-pointer-at p w h d (zoneOn z d) (headerBlock p d (zoneOn z d) (G .serial) (G .copied)) zeroSpare dl zl ∙ ap suc e;
           spares = λ o l. absurd (let q : ⊥ = omega arith in q);
         },
       )
     where
-      kd : Kind p d z (zoneAt w d z) (headerBlock p d z (G .serial) (G .copied)) zeroSpare
-      kd = header (G .serial) (G .copied) (pointer-is w d z ∙ e) (omega (arith, zb, r .zones-high)) (wide-heads .0) (wide-heads .1)
+      kd : Kind p d (zoneOn z d) (zoneAt w d (zoneOn z d)) (headerBlock p d (zoneOn z d) (G .serial) (G .copied)) zeroSpare
+      kd = header (G .serial) (G .copied) (pointer-is w d (zoneOn z d) ∙ e) (omega (arith, dl, r .drives-high)) (omega (arith, zl, r .zones-high)) (wide-heads .0) (wide-heads .1)
 
-      item-is : kindItem p d z (zoneAt w d z) (headerBlock p d z (G .serial) (G .copied)) zeroSpare kd ≡ hItem
+      item-is : kindItem p d z (zoneAt w d (zoneOn z d)) (headerBlock p d (zoneOn z d) (G .serial) (G .copied)) zeroSpare kd ≡ hItem
       item-is = unfold kindItem in λ j. hdr (serial-ghost p r g v k (named d) c z i j) (copied-ghost p r g v k (named d) c z i j) (sym (used-zones p r g v k z (seg-used p r g v k (named d) c z i)) j)
 
   -- ---- footers
@@ -241,8 +254,8 @@ module _ (p : Params) (r : Ranged p) (g : Ghost) (v : View) (k : OnDrives p r g 
 
   pub record Feet (j : ℕ) (w : View) : Type 0 where
     pub shape : Shape p w
-    pub at : pointerAt w d z ≡ suc (p .S + j)
-    pub spares : sparesIn p (zoneAt w d z) ≡ made
+    pub at : pointerAt w d (zoneOn z d) ≡ suc (p .S + j)
+    pub spares : sparesIn p (zoneAt w d (zoneOn z d)) ≡ made
 
   feet-begin : length (counted p (named d) G) ≡ p .S → (w : View) → Rows (length (counted p (named d) G)) w → Feet 0 w
   feet-begin e w a =
@@ -250,44 +263,45 @@ module _ (p : Params) (r : Ranged p) (g : Ghost) (v : View) (k : OnDrives p r g 
         shape = a .shape;
         at = a .at
             ∙ ap suc (e ∙ (let q : p .S ≡ p .S + 0 = omega arith in q));
-        spares = ext-getD [] (sparesIn p (zoneAt w d z)) made
-            (length-sparesIn p r (zoneAt w d z) sz ∙ sym long) each;
+        spares = ext-getD [] (sparesIn p (zoneAt w d (zoneOn z d))) made
+            (length-sparesIn p r (zoneAt w d (zoneOn z d)) sz ∙ sym long) each;
       }
     where
-      sz : ZoneShape p (zoneAt w d z)
-      sz = shape-zone p w (a .shape) d z dl zb
+      sz : ZoneShape p (zoneAt w d (zoneOn z d))
+      sz = shape-zone p w (a .shape) d (zoneOn z d) dl zl
 
       long : length made ≡ p .S
       long = length-map (map piece cs) (λ (q : Piece). recordBytes (q .rec)) ∙ length-map cs piece ∙ e
 
-      each : (o : ℕ) → o < length (sparesIn p (zoneAt w d z)) → getD (sparesIn p (zoneAt w d z)) o [] ≡ getD made o []
+      each : (o : ℕ) → o < length (sparesIn p (zoneAt w d (zoneOn z d))) → getD (sparesIn p (zoneAt w d (zoneOn z d))) o [] ≡ getD made o []
       each o l =
-          let ol : o < p .S = omega (arith, l, length-sparesIn p r (zoneAt w d z) sz) in
-          spare-in p r (zoneAt w d z) sz o ol ∙ a .spares o (omega (arith, ol, e))
+          let ol : o < p .S = omega (arith, l, length-sparesIn p r (zoneAt w d (zoneOn z d)) sz) in
+          spare-in p r (zoneAt w d (zoneOn z d)) sz o ol ∙ a .spares o (omega (arith, ol, e))
           ∙ sym (ap (λ (x : List (List ℕ)). getD x o []) (map-map (λ (q : Piece). recordBytes (q .rec)) piece cs) ∙ getD-map (λ s. recordBytes (piece s .rec)) cs o [] 0 (omega (arith, ol, e)))
 
   feet-step : (j : ℕ) (w : View) → j < footers p → Feet j w
-      → Sound p w (put d z (footerBlock p made j) zeroSpare)
-      × (storeItem p w (put d z (footerBlock p made j) zeroSpare) ≡ m-put d z (foot j))
-      × Feet (suc j) (storeView (put d z (footerBlock p made j) zeroSpare) w)
+      → Sound p w (put d (zoneOn z d) (footerBlock p made j) zeroSpare)
+      × (storeItem p w (put d (zoneOn z d) (footerBlock p made j) zeroSpare) ≡ m-put d (z .name) (foot j))
+      × Feet (suc j) (storeView (put d (zoneOn z d) (footerBlock p made j) zeroSpare) w)
   feet-step j w l a =
-      let so : Sound p w (put d z (footerBlock p made j) zeroSpare) = (dl, zb, kd) in (
+      let so : Sound p w (put d (zoneOn z d) (footerBlock p made j) zeroSpare) = (dl, zl, kd) in (
         so,
-        store-put p w d z (footerBlock p made j) zeroSpare kd ∙ ap (m-put d z) item-is,
+        store-put p w d z (footerBlock p made j) zeroSpare zb kd ∙ ap (m-put d (z .name)) item-is,
         record {
-          shape = shape-store p w (put d z (footerBlock p made j) zeroSpare) (a .shape) (sound-fits p r w (put d z (footerBlock p made j) zeroSpare) (a .shape) so);
-          at = put-pointer-at p w (a .shape) d z (footerBlock p made j) zeroSpare dl zb ∙ ap suc (a .at) ∙ (let q : suc (suc (p .S + j)) ≡ suc (p .S + suc j) = omega arith in q);
-          spares = ap (sparesIn p) (put-at p w (a .shape) d z (footerBlock p made j) zeroSpare dl zb)
-              ∙ old-spares p r d z (zoneAt w d z) (shape-zone p w (a .shape) d z dl zb) (footerBlock p made j) zeroSpare j (pointer-is w d z ∙ a .at) ∙ a .spares;
+          shape = shape-store p w (put d (zoneOn z d) (footerBlock p made j) zeroSpare) (a .shape) (sound-fits p r w (put d (zoneOn z d) (footerBlock p made j) zeroSpare) (a .shape) so);
+          at = put-pointer-at p w (a .shape) d (zoneOn z d) (footerBlock p made j) zeroSpare dl zl ∙ ap suc (a .at) ∙ (let q : suc (suc (p .S + j)) ≡ suc (p .S + suc j) = omega arith in q);
+          spares = ap (sparesIn p) (put-at p w (a .shape) d (zoneOn z d) (footerBlock p made j) zeroSpare dl zl)
+              ∙ old-spares p r d (zoneOn z d) (zoneAt w d (zoneOn z d)) (shape-zone p w (a .shape) d (zoneOn z d) dl zl) (footerBlock p made j) zeroSpare j (pointer-is w d (zoneOn z d) ∙ a .at)
+              ∙ a .spares;
         },
       )
     where
-      kd : Kind p d z (zoneAt w d z) (footerBlock p made j) zeroSpare
-      kd = subst (λ (ss : List (List ℕ)). Kind p d z (zoneAt w d z) (footerBlock p ss j) zeroSpare) (a .spares) (footer j (pointer-is w d z ∙ a .at) l)
+      kd : Kind p d (zoneOn z d) (zoneAt w d (zoneOn z d)) (footerBlock p made j) zeroSpare
+      kd = subst (λ (ss : List (List ℕ)). Kind p d (zoneOn z d) (zoneAt w d (zoneOn z d)) (footerBlock p ss j) zeroSpare) (a .spares) (footer j (pointer-is w d (zoneOn z d) ∙ a .at) l)
 
-      item-is : kindItem p d z (zoneAt w d z) (footerBlock p made j) zeroSpare kd ≡ foot j
-      item-is = sym (kind-item p d z (zoneAt w d z) (footerBlock p made j) zeroSpare kd)
-          ∙ ap (λ (x : ℕ). itemAt p x (mkChunk (footerBlock p made j) zeroSpare)) (pointer-is w d z ∙ a .at)
+      item-is : kindItem p d z (zoneAt w d (zoneOn z d)) (footerBlock p made j) zeroSpare kd ≡ foot j
+      item-is = sym (kind-item p d z (zoneAt w d (zoneOn z d)) (footerBlock p made j) zeroSpare zb kd)
+          ∙ ap (λ (x : ℕ). itemAt p x (mkChunk (footerBlock p made j) zeroSpare)) (pointer-is w d (zoneOn z d) ∙ a .at)
           ∙ item-foot p (p .S + j) (mkChunk (footerBlock p made j) zeroSpare) (omega arith) ∙ ap foot (let e : p .S + j - p .S ≡ j = omega arith in e)
 
   full-counts-named : G .full ≡ true → length (counted p (named d) G) ≡ p .S
@@ -295,62 +309,69 @@ module _ (p : Params) (r : Ranged p) (g : Ghost) (v : View) (k : OnDrives p r g 
       (λ s h. sealed-counts p r g v k (named d) c z s zb (sym (segment-fields p r g v k (named d) c z .3) ∙ e) (below-has s (p .S) h))) ∙ length-below (p .S)
 
   abbrev fs : List Store
-  fs = map (λ j. put d z (footerBlock p made j) zeroSpare) (below (footers p))
+  fs = map (λ j. put d (zoneOn z d) (footerBlock p made j) zeroSpare) (below (footers p))
 
   abbrev hs : Store
-  hs = put d z (headerBlock p d z (G .serial) (G .copied)) zeroSpare
+  hs = put d (zoneOn z d) (headerBlock p d (zoneOn z d) (G .serial) (G .copied)) zeroSpare
 
-  feet-follow : (b : Bool) → G .full ≡ b → (w : View) → Rows (length (counted p (named d) G)) w → Follows p w (cond b fs []) (puts d z (cond b (map foot (below (footers p))) []))
+  feet-follow : (b : Bool) → G .full ≡ b → (w : View) → Rows (length (counted p (named d) G)) w → Follows p w (cond b fs []) (puts d (z .name) (cond b (map foot (below (footers p))) []))
   unfolding below
-  feet-follow true e w a = subst (Follows p w (map (λ j. put d z (footerBlock p made j) zeroSpare) (upFrom 0 (footers p)))) (sym (puts-list d z foot 0 (footers p)))
-      (follows-list p Feet (λ j. put d z (footerBlock p made j) zeroSpare) (λ j. m-put d z (foot j)) (footers p) feet-step 0 (footers p) (omega arith) w (feet-begin (full-counts-named e) w a))
+  feet-follow true e w a = subst (Follows p w (map (λ j. put d (zoneOn z d) (footerBlock p made j) zeroSpare) (upFrom 0 (footers p)))) (sym (puts-list d (z .name) foot 0 (footers p)))
+      (follows-list p Feet (λ j. put d (zoneOn z d) (footerBlock p made j) zeroSpare) (λ j. m-put d (z .name) (foot j)) (footers p) feet-step 0 (footers p) (omega arith) w
+      (feet-begin (full-counts-named e) w a))
   feet-follow false e w a = unfold puts in follows-nil p w
 
-  rebuilt-zone-is : rebuiltZone p d G ≡ hs ∷ (map (putPiece d z) (map piece cs) ++ cond (G .full) fs [])
+  rebuilt-zone-is : rebuiltZone p d G ≡ hs ∷ (map (putPiece d (zoneOn z d)) (map piece cs) ++ cond (G .full) fs [])
   unfolding rebuiltZone
   rebuilt-zone-is =
       ap (λ (x : ℕ). put d x (headerBlock p d x (G .serial) (G .copied)) zeroSpare ∷
       (map (putPiece d x) (map piece cs) ++ cond (G .full) (map (λ j. put d x (footerBlock p made j) zeroSpare) (below (footers p))) [])) seg-z
     where
-      seg-z : zoneOn (G .seg) d ≡ z
-      seg-z = unfold zoneOn in segment-fields p r g v k (named d) c z .0
+      seg-z : zoneOn (G .seg) d ≡ zoneOn z d
+      seg-z = ap (λ (x : Seg). zoneOn x d) (segment-fields p r g v k (named d) c z .0)
 
-  pub zone-follows : (w : View) → Shape p w → pointerAt w d z ≡ 0 → Follows p w (rebuiltZone p d G) (puts d z (zoneItems p r g v k (named d) c d z))
+  pub zone-follows : (w : View) → Shape p w → pointerAt w d (zoneOn z d) ≡ 0 → Follows p w (rebuiltZone p d G) (puts d (z .name) (zoneItems p r g v k (named d) c d z))
   zone-follows w h e =
-      subst (λ (x : List Store). Follows p w x (puts d z (zoneItems p r g v k (named d) c d z))) (sym rebuilt-zone-is) (subst
-      (Follows p w (hs ∷ (map (putPiece d z) (map piece cs) ++ cond (G .full) fs []))) (sym items-are)
-      (follows-cons p w hs (map (putPiece d z) (map piece cs) ++ cond (G .full) fs []) (m-put d z hItem)
-      (puts d z (map chunkIt cs) ++ puts d z (cond (G .full) (map foot (below (footers p))) [])) (a .0) (a .1)
-      (follows-append p (storeView hs w) (map (putPiece d z) (map piece cs)) (cond (G .full) fs []) (puts d z (map chunkIt cs)) (puts d z (cond (G .full) (map foot (below (footers p))) [])) (b .0)
-      (feet-follow (G .full) refl (storeAll storeView (map (putPiece d z) (map piece cs)) (storeView hs w)) (b .1)))))
+      subst (λ (x : List Store). Follows p w x (puts d (z .name) (zoneItems p r g v k (named d) c d z))) (sym rebuilt-zone-is) (subst
+      (Follows p w (hs ∷ (map (putPiece d (zoneOn z d)) (map piece cs) ++ cond (G .full) fs []))) (sym items-are)
+      (follows-cons p w hs (map (putPiece d (zoneOn z d)) (map piece cs) ++ cond (G .full) fs []) (m-put d (z .name) hItem)
+      (puts d (z .name) (map chunkIt cs) ++ puts d (z .name) (cond (G .full) (map foot (below (footers p))) [])) (a .0) (a .1)
+      (follows-append p (storeView hs w) (map (putPiece d (zoneOn z d)) (map piece cs)) (cond (G .full) fs []) (puts d (z .name) (map chunkIt cs))
+      (puts d (z .name) (cond (G .full) (map foot (below (footers p))) [])) (b .0)
+      (feet-follow (G .full) refl (storeAll storeView (map (putPiece d (zoneOn z d)) (map piece cs)) (storeView hs w)) (b .1)))))
     where
-      a : Sound p w hs × (storeItem p w hs ≡ m-put d z hItem) × Rows 0 (storeView hs w)
+      a : Sound p w hs × (storeItem p w hs ≡ m-put d (z .name) hItem) × Rows 0 (storeView hs w)
       a = header-step w h e
 
-      b : Follows p (storeView hs w) (map (putPiece d z) (map piece cs)) (puts d z (map chunkIt cs)) × Rows (length cs) (storeAll storeView (map (putPiece d z) (map piece cs)) (storeView hs w))
+      b : Follows p (storeView hs w) (map (putPiece d (zoneOn z d)) (map piece cs)) (puts d (z .name) (map chunkIt cs))
+          × Rows (length cs) (storeAll storeView (map (putPiece d (zoneOn z d)) (map piece cs)) (storeView hs w))
       b = chunks-follow cs 0 (λ t l. ap (λ (x : ℕ). getD cs x 0) (let q : t ≡ 0 + t = omega arith in q)) (omega arith) (storeView hs w) (a .2)
 
-      items-are : puts d z (zoneItems p r g v k (named d) c d z) ≡ m-put d z hItem ∷ (puts d z (map chunkIt cs) ++ puts d z (cond (G .full) (map foot (below (footers p))) []))
-      items-are = unfold zoneItems puts in ap (λ (l : List ItemStore). m-put d z hItem ∷ l) (puts-append d z (map chunkIt cs) (cond (G .full) (map foot (below (footers p))) []))
+      items-are : puts d (z .name) (zoneItems p r g v k (named d) c d z)
+          ≡ m-put d (z .name) hItem ∷ (puts d (z .name) (map chunkIt cs) ++ puts d (z .name) (cond (G .full) (map foot (below (footers p))) []))
+      items-are = unfold zoneItems puts in ap (λ (l : List ItemStore). m-put d (z .name) hItem ∷ l) (puts-append d (z .name) (map chunkIt cs) (cond (G .full) (map foot (below (footers p))) []))
 
-  -- all of it on zone z of drive d
-  pub zone-on : AllOn d z (rebuiltZone p d G)
+  -- all of it on its zone of drive d
+  pub zone-on : AllOn d (zoneOn z d) (rebuiltZone p d G)
   zone-on s m = go (subst (λ (x : List Store). Has s x) rebuilt-zone-is m)
     where
-      feet-on : (b : Bool) → Has s (cond b fs []) → (x : List ℕ) × (t : List ℕ) × (s ≡ put d z x t)
+      feet-on : (b : Bool) → Has s (cond b fs []) → (x : List ℕ) × (t : List ℕ) × (s ≡ put d (zoneOn z d) x t)
       feet-on true q =
-          let j : (j : ℕ) × Has j (below (footers p)) × (s ≡ put d z (footerBlock p made j) zeroSpare) = map-has (λ j. put d z (footerBlock p made j) zeroSpare) s (below (footers p)) q in
+          let j : (j : ℕ) × Has j (below (footers p)) × (s ≡ put d (zoneOn z d) (footerBlock p made j) zeroSpare) =
+          map-has (λ j. put d (zoneOn z d) (footerBlock p made j) zeroSpare) s (below (footers p)) q in
           (footerBlock p made (j .0), zeroSpare, j .2)
       feet-on false q = absurd q
 
-      go : Has s (hs ∷ (map (putPiece d z) (map piece cs) ++ cond (G .full) fs [])) → (x : List ℕ) × (t : List ℕ) × (s ≡ put d z x t)
-      go (inl e) = (headerBlock p d z (G .serial) (G .copied), zeroSpare, e)
+      go : Has s (hs ∷ (map (putPiece d (zoneOn z d)) (map piece cs) ++ cond (G .full) fs [])) → (x : List ℕ) × (t : List ℕ) × (s ≡ put d (zoneOn z d) x t)
+      go (inl e) = (headerBlock p d (zoneOn z d) (G .serial) (G .copied), zeroSpare, e)
       go (inr q) =
-          ⊎-elim (λ (y : Has s (map (putPiece d z) (map piece cs))). chunk-on y) (λ (y : Has s (cond (G .full) fs [])). feet-on (G .full) y)
-          (append-has s (map (putPiece d z) (map piece cs)) (cond (G .full) fs []) q)
+          ⊎-elim (λ (y : Has s (map (putPiece d (zoneOn z d)) (map piece cs))). chunk-on y) (λ (y : Has s (cond (G .full) fs [])). feet-on (G .full) y)
+          (append-has s (map (putPiece d (zoneOn z d)) (map piece cs)) (cond (G .full) fs []) q)
         where
-          chunk-on : Has s (map (putPiece d z) (map piece cs)) → (x : List ℕ) × (t : List ℕ) × (s ≡ put d z x t)
-          chunk-on y = let q : (q : Piece) × Has q (map piece cs) × (s ≡ putPiece d z q) = map-has (putPiece d z) s (map piece cs) y in (q .0 .block, recordBytes (q .0 .rec), unfolded (q .0) (q .2))
+          chunk-on : Has s (map (putPiece d (zoneOn z d)) (map piece cs)) → (x : List ℕ) × (t : List ℕ) × (s ≡ put d (zoneOn z d) x t)
+          chunk-on y =
+              let q : (q : Piece) × Has q (map piece cs) × (s ≡ putPiece d (zoneOn z d) q) = map-has (putPiece d (zoneOn z d)) s (map piece cs) y in
+              (q .0 .block, recordBytes (q .0 .rec), unfolded (q .0) (q .2))
             where
-              unfolded : (q : Piece) → s ≡ putPiece d z q → s ≡ put d z (q .block) (recordBytes (q .rec))
+              unfolded : (q : Piece) → s ≡ putPiece d (zoneOn z d) q → s ≡ put d (zoneOn z d) (q .block) (recordBytes (q .rec))
               unfolded q e = unfold putPiece in e

@@ -9,14 +9,16 @@ use borrow.Author.Tests.{not-true}
 use native.Mathlib.Omega.{arith}
 use lib.ListN.{length, getD}
 use Rattle.spec.specs.declared.Params.{Params}
-use Rattle.spec.specs.Drives.{View, sealedIn}
+use Rattle.spec.specs.Drives.{View, Seg, seg, sealedIn}
 use Rattle.spec.specs.Lists.{below, any, greatest, isIn}
 use Rattle.spec.specs.Params.{capacity, present}
 use Rattle.spec.specs.Restart.{openOf, nextOf}
 use Rattle.spec.specs.Segments.{remaining, Segment, segmentOf, segments, hasChunk, counts, counted, uncounted, candidates, greatestStamp, greatestSerial, unsealed}
 use Rattle.law_basic.specs.Geometry.{Ranged}
 use Rattle.law_basic.specs.Ranges.{and-both, length-below, length-keep}
+use Rattle.law_basic.specs.Segs.{name-once, Named}
 use Rattle.law_drives.specs.Counting.{pigeon}
+use Rattle.law_drives.specs.Segs.{seg-is}
 use Rattle.law_drives.specs.Tests.{not-so}
 use Rattle.proof_crash_machine.specs.Accept.{accepted}
 use Rattle.proof_crash_machine.specs.Exec.{true≢false}
@@ -40,27 +42,27 @@ use Rattle.proof_crash_restarts.specs.Same.{Stripe-none-any, Counted-non
 
 -- the unsealed segment has the stripes 0 to c - 1, not all S, and no other chunks
 abbrev pub InOrder : Params → View → Type 0
-InOrder p v = (z : ℕ) → Has z (remaining p v 0) → segmentOf p v 0 z .full ≡ false
+InOrder p v = (z : Seg) → Has z (remaining p v 0) → segmentOf p v 0 z .full ≡ false
     → (counted p 0 (segmentOf p v 0 z) ≡ below (length (counted p 0 (segmentOf p v 0 z))))
     × (uncounted p 0 (segmentOf p v 0 z) ≡ []) × (length (counted p 0 (segmentOf p v 0 z)) < p .S)
 
--- the memory that a restart makes of the unsealed segments: open or not, its zone, its next stripe
-pub record Opened (p : Params) (r : Ranged p) (g : Ghost) (v : View) (b : Bool) (z n : ℕ) : Type 0 where
+-- the memory that a restart makes of the unsealed segments: open or not, the segment, its next stripe
+pub record Opened (p : Params) (r : Ranged p) (g : Ghost) (v : View) (b : Bool) (z : Seg) (n : ℕ) : Type 0 where
   pub few : n ≤ p .S
   -- it isn't whole
   pub less : b ≡ true → n < p .S
-  pub lone : (y : ℕ) → Ragged (parOf p r) (g .un) (itemsIn p v) y → (b ≡ true) × (y ≡ z)
-  pub whole : b ≡ true → WholeZone (parOf p r) (g .un) (itemsIn p v) z
-  pub low : b ≡ true → (e s : ℕ) (x : Val) → e < p .N → InI (chunk s x) (itemsIn p v e z) → s < n
+  pub lone : (y : ℕ) → Ragged (parOf p r) (g .un) (itemsIn p v) y → (b ≡ true) × (y ≡ z .name)
+  pub whole : b ≡ true → WholeZone (parOf p r) (g .un) (itemsIn p v) (z .name)
+  pub low : b ≡ true → (e s : ℕ) (x : Val) → e < p .N → InI (chunk s x) (itemsIn p v e (z .name)) → s < n
   -- it has no footer
-  pub short : b ≡ true → (e : ℕ) → e < p .N → length (itemsIn p v e z) ≤ suc (p .S)
+  pub short : b ≡ true → (e : ℕ) → e < p .N → length (itemsIn p v e (z .name)) ≤ suc (p .S)
   -- stripes below n are on all drives
-  pub full : b ≡ true → (s : ℕ) → s < n → (e : ℕ) → e < p .N → (x : Val) × InI (chunk s x) (itemsIn p v e z)
-  pub is : ((b ≡ true) × (openOf (unsealed (segments p v 0)) ≡ suc z) × (nextOf p (unsealed (segments p v 0)) ≡ n))
+  pub full : b ≡ true → (s : ℕ) → s < n → (e : ℕ) → e < p .N → (x : Val) × InI (chunk s x) (itemsIn p v e (z .name))
+  pub is : ((b ≡ true) × (openOf (unsealed (segments p v 0)) ≡ suc (z .name)) × (nextOf p (unsealed (segments p v 0)) ≡ n))
       ⊎ ((b ≡ false) × (openOf (unsealed (segments p v 0)) ≡ 0))
 
 module _ (p : Params) (r : Ranged p) (g : Ghost) (v : View) (k : SettledOn p r g v) where
-  abbrev G : ℕ → Segment
+  abbrev G : Seg → Segment
   G z = segmentOf p v 0 z
 
   pub none-choice : Choice (parOf p r) (g .un) (isIn 0)
@@ -69,56 +71,56 @@ module _ (p : Params) (r : Ranged p) (g : Ghost) (v : View) (k : SettledOn p r g
   none-untrusted : (d : ℕ) → d < p .N → (g .un d ≡ false) × (isIn 0 d ≡ false)
   none-untrusted d l = (k .none d l, far-off p r g v k d l)
 
-  pub full-sealed : (z : ℕ) → G z .full ≡ sealedIn p v 0 z
+  pub full-sealed : (z : Seg) → G z .full ≡ sealedIn p v 0 z
   unfolding segmentOf
   full-sealed z = refl
 
   -- a full segment is full on every drive
-  pub full-length : (z d : ℕ) → z < p .Z → d < p .N → G z .full ≡ true → length (itemsIn p v d z) ≡ capacity p
+  pub full-length : (z : Seg) (d : ℕ) → Named p z → d < p .N → G z .full ≡ true → length (itemsIn p v d (z .name)) ≡ capacity p
   full-length z d b l e =
       zone-len p r g v (k .on) d z l (none-untrusted d l .0) b ∙ sealed-at-capacity p r g v (k .on) 0 none-choice z d (sym (full-sealed z) ∙ e) l (none-untrusted d l .1)
 
-  ragged-unsealed : (y : ℕ) → Ragged (parOf p r) (g .un) (itemsIn p v) y → Has y (remaining p v 0) × (G y .full ≡ false)
+  ragged-unsealed : (y : Seg) → Ragged (parOf p r) (g .un) (itemsIn p v) (y .name) → Has y (remaining p v 0) × (G y .full ≡ false)
   ragged-unsealed y (d, t, a, b) =
       let i : Has y (remaining p v 0) = settled-remains p r g v k y (d, t, a) in
       (i, not-so (G y .full) (λ e. let q : ⊥ = omega (arith, full-length y d (settled-used p r g v k y i .0) (t .0) e, b) in q))
 
-  pub us-has : (q : Segment) → Has q (unsealed (segments p v 0)) → (z : ℕ) × Has z (remaining p v 0) × (q ≡ G z) × (G z .full ≡ false)
+  pub us-has : (q : Segment) → Has q (unsealed (segments p v 0)) → (z : Seg) × Has z (remaining p v 0) × (q ≡ G z) × (G z .full ≡ false)
   unfolding unsealed segments
   us-has q i =
       let a : Has q (map (segmentOf p v 0) (remaining p v 0)) × (not (q .full) ≡ true) =
       keep-has (λ (g : Segment). not (g .full)) q (map (segmentOf p v 0) (remaining p v 0)) i in
-      let b : (z : ℕ) × Has z (remaining p v 0) × (q ≡ G z) = map-has (segmentOf p v 0) q (remaining p v 0) (a .0) in
+      let b : (z : Seg) × Has z (remaining p v 0) × (q ≡ G z) = map-has (segmentOf p v 0) q (remaining p v 0) (a .0) in
       (b .0, b .1, b .2, ap (λ (x : Segment). x .full) (sym (b .2)) ∙ not-true (q .full) (a .1))
 
-  pub has-us : (z : ℕ) → Has z (remaining p v 0) → G z .full ≡ false → Has (G z) (unsealed (segments p v 0))
+  pub has-us : (z : Seg) → Has z (remaining p v 0) → G z .full ≡ false → Has (G z) (unsealed (segments p v 0))
   unfolding unsealed segments
   has-us z i e =
       has-keep (λ (g : Segment). not (g .full)) (G z) (map (segmentOf p v 0) (remaining p v 0))
       (has-map (segmentOf p v 0) (remaining p v 0) z i) (ap not e)
 
   -- two unsealed segments are one
-  pub one-of : (y z : ℕ) → Has y (remaining p v 0) → Has z (remaining p v 0) → G y .full ≡ false → G z .full ≡ false → y ≡ z
+  pub one-of : (y z : Seg) → Has y (remaining p v 0) → Has z (remaining p v 0) → G y .full ≡ false → G z .full ≡ false → y ≡ z
   one-of y z i j a b =
-      accepted (parOf p r) g (itemsIn p v) (k .on .facts) (isIn 0) none-choice .one y z (remaining-has p r g v (k .on) 0 none-choice y i .1)
-      (remaining-has p r g v (k .on) 0 none-choice z j .1) (rag y i a) (rag z j b)
+      name-once y z (accepted (parOf p r) g (itemsIn p v) (k .on .facts) (isIn 0) none-choice .one (y .name) (z .name) (remaining-has p r g v (k .on) 0 none-choice y i .1)
+      (remaining-has p r g v (k .on) 0 none-choice z j .1) (rag y i a) (rag z j b))
     where
-      rag : (y : ℕ) → Has y (remaining p v 0) → G y .full ≡ false → Ragged (parOf p r) (isIn 0) (itemsIn p v) y
+      rag : (y : Seg) → Has y (remaining p v 0) → G y .full ≡ false → Ragged (parOf p r) (isIn 0) (itemsIn p v) (y .name)
       rag y i a = ragged-of p r g v (k .on) 0 none-choice y i a
 
   module _ (ord : InOrder p v) where
     -- each chunk of an unsealed segment is of a counted stripe
-    chunk-counted : (z d s : ℕ) (x : Val) → Has z (remaining p v 0) → G z .full ≡ false → d < p .N → InI (chunk s x) (itemsIn p v d z) → Has s (counted p 0 (G z))
+    chunk-counted : (z : Seg) (d s : ℕ) (x : Val) → Has z (remaining p v 0) → G z .full ≡ false → d < p .N → InI (chunk s x) (itemsIn p v d (z .name)) → Has s (counted p 0 (G z))
     chunk-counted z d s x i e l m =
-        let b : z < p .Z = settled-used p r g v k z i .0 in
+        let b : Named p z = settled-used p r g v k z i .0 in
         go (counts p 0 (G z) s) refl (chunk-number z d s x l m) (in-has-chunk p r g v (k .on) 0 none-choice z s d x b l (none-untrusted d l .1) m)
       where
-        chunk-number : (z d s : ℕ) (x : Val) → d < p .N → InI (chunk s x) (itemsIn p v d z) → s < p .S
-        chunk-number z d s x l m = let j : (j : ℕ) × Off (itemsIn p v d z) j (chunk s x) = in-off (chunk s x) (itemsIn p v d z) m in num (j .0) (j .1)
+        chunk-number : (z : Seg) (d s : ℕ) (x : Val) → d < p .N → InI (chunk s x) (itemsIn p v d (z .name)) → s < p .S
+        chunk-number z d s x l m = let j : (j : ℕ) × Off (itemsIn p v d (z .name)) j (chunk s x) = in-off (chunk s x) (itemsIn p v d (z .name)) m in num (j .0) (j .1)
           where
-            num : (j : ℕ) → Off (itemsIn p v d z) j (chunk s x) → s < p .S
-            num zero o = absurd (chunk-hdr (sym (o .1) ∙ k .on .facts .zones d z (l, none-untrusted d l .0) .head (item-some (chunk s x) (itemsIn p v d z) m)))
-            num (suc j) o = k .on .facts .zones d z (l, none-untrusted d l .0) .num j s x o .0
+            num : (j : ℕ) → Off (itemsIn p v d (z .name)) j (chunk s x) → s < p .S
+            num zero o = absurd (chunk-hdr (sym (o .1) ∙ k .on .facts .zones d (z .name) (l, none-untrusted d l .0) .head (item-some (chunk s x) (itemsIn p v d (z .name)) m)))
+            num (suc j) o = k .on .facts .zones d (z .name) (l, none-untrusted d l .0) .num j s x o .0
 
         go : (t : Bool) → counts p 0 (G z) s ≡ t → s < p .S → hasChunk (G z) s d ≡ true → Has s (counted p 0 (G z))
         go true q a h = unfold counted in has-keep (counts p 0 (G z)) s (below (p .S)) (has-below s (p .S) a) q
@@ -129,35 +131,33 @@ module _ (p : Params) (r : Ranged p) (g : Ghost) (v : View) (k : SettledOn p r g
                 (and-both (any (hasChunk (G z) s) (present p 0)) (not (counts p 0 (G z) s))
                 (has-any (hasChunk (G z) s) (present p 0) d (has-present p 0 d l (none-untrusted d l .1)) h) (ap not q))
 
-    pub tidy : (d z s : ℕ) (x : Val) → d < p .N → Unsealed (parOf p r) (itemsIn p v) z → InI (chunk s x) (itemsIn p v d z)
-        → (f : ℕ → Val) × Stripe (parOf p r) (itemsIn p v) (g .un) z s f × (f d ≡ x)
+    pub tidy : (d : ℕ) (z : Seg) (s : ℕ) (x : Val) → d < p .N → Unsealed (parOf p r) (itemsIn p v) (z .name) → InI (chunk s x) (itemsIn p v d (z .name))
+        → (f : ℕ → Val) × Stripe (parOf p r) (itemsIn p v) (g .un) (z .name) s f × (f d ≡ x)
     tidy d z s x l u m =
-        let i : Has z (remaining p v 0) = settled-remains p r g v k z (d, (l, none-untrusted d l .0), item-some (chunk s x) (itemsIn p v d z) m) in
-        let b : z < p .Z = settled-used p r g v k z i .0 in
+        let i : Has z (remaining p v 0) = settled-remains p r g v k z (d, (l, none-untrusted d l .0), item-some (chunk s x) (itemsIn p v d (z .name)) m) in
+        let b : Named p z = settled-used p r g v k z i .0 in
         let e : G z .full ≡ false = not-so (G z .full) (λ q. u (λ n a. omega (arith, full-length z n b a q))) in
         let h : Has s (counted p 0 (G z)) = chunk-counted z d s x i e l m in
-        let st : Stripe (parOf p r) (itemsIn p v) (isIn 0) z s (pieceAt p r g v (k .on) 0 none-choice z s) = counted-stripe p r g v (k .on) 0 none-choice z s b h in (
+        let st : Stripe (parOf p r) (itemsIn p v) (isIn 0) (z .name) s (pieceAt p r g v (k .on) 0 none-choice z s) = counted-stripe p r g v (k .on) 0 none-choice z s b h in (
           pieceAt p r g v (k .on) 0 none-choice z s,
-          Stripe-none-any (parOf p r) (g .hd) (itemsIn p v) (isIn 0) (g .un) (far-off p r g v k) (k .none) z s (pieceAt p r g v (k .on) 0 none-choice z s) st,
-          once-in (parOf p r) g d z (itemsIn p v d z) (k .on .facts .zones d z (l, none-untrusted d l .0)) s (pieceAt p r g v (k .on) 0 none-choice z s d) x (st .on d l (none-untrusted d l .1)) m,
+          Stripe-none-any (parOf p r) (g .hd) (itemsIn p v) (isIn 0) (g .un) (far-off p r g v k) (k .none) (z .name) s (pieceAt p r g v (k .on) 0 none-choice z s) st,
+          once-in (parOf p r) g d (z .name) (itemsIn p v d (z .name)) (k .on .facts .zones d (z .name) (l, none-untrusted d l .0)) s (pieceAt p r g v (k .on) 0 none-choice z s d) x
+              (st .on d l (none-untrusted d l .1)) m,
         )
 
     -- ---- what is open
-    seg-is : (z : ℕ) → G z .seg ≡ z
-    seg-is z = unfold segmentOf in refl
-
-    pub opened-is : (b : Bool) × (z : ℕ) × (n : ℕ) × Opened p r g v b z n
+    pub opened-is : (b : Bool) × (z : Seg) × (n : ℕ) × Opened p r g v b z n
     opened-is = go (unsealed (segments p v 0)) refl
       where
-        go : (l : List Segment) → unsealed (segments p v 0) ≡ l → (b : Bool) × (z : ℕ) × (n : ℕ) × Opened p r g v b z n
+        go : (l : List Segment) → unsealed (segments p v 0) ≡ l → (b : Bool) × (z : Seg) × (n : ℕ) × Opened p r g v b z n
         go [] e = (
           false,
-          0,
+          seg 0,
           0,
           record {
             few = omega arith;
             less = λ q. true≢false q;
-            lone = λ y q. absurd (subst (λ (x : List Segment). Has (G y) x) e (has-us y (ragged-unsealed y q .0) (ragged-unsealed y q .1)));
+            lone = λ y q. absurd (subst (λ (x : List Segment). Has (G (seg y)) x) e (has-us (seg y) (ragged-unsealed (seg y) q .0) (ragged-unsealed (seg y) q .1)));
             whole = λ q. true≢false q;
             low = λ q. true≢false q;
             full = λ q. true≢false q;
@@ -166,46 +166,46 @@ module _ (p : Params) (r : Ranged p) (g : Ghost) (v : View) (k : SettledOn p r g
           },
         )
         go (q ∷ l) e =
-            let a : (z : ℕ) × Has z (remaining p v 0) × (q ≡ G z) × (G z .full ≡ false) = us-has q (subst (λ (x : List Segment). Has q x) (sym e) (inl refl)) in
+            let a : (z : Seg) × Has z (remaining p v 0) × (q ≡ G z) × (G z .full ≡ false) = us-has q (subst (λ (x : List Segment). Has q x) (sym e) (inl refl)) in
             let o :
             (counted p 0 (G (a .0)) ≡ below (length (counted p 0 (G (a .0)))))
             × (uncounted p 0 (G (a .0)) ≡ [])
             × (length (counted p 0 (G (a .0))) < p .S) =
             ord (a .0) (a .1) (a .3) in
-            let b : a .0 < p .Z = settled-used p r g v k (a .0) (a .1) .0 in (
+            let b : Named p (a .0) = settled-used p r g v k (a .0) (a .1) .0 in (
               true,
               a .0,
               length (counted p 0 (G (a .0))),
               record {
                 few = few-counted (a .0);
                 less = λ w. o .2;
-                lone = λ y w. (refl, one-of y (a .0) (ragged-unsealed y w .0) (a .1) (ragged-unsealed y w .1) (a .3));
-                whole = λ w. k .rest (a .0) (settled-used p r g v k (a .0) (a .1) .1) .left;
+                lone = λ y w. (refl, ap (λ (x : Seg). x .name) (one-of (seg y) (a .0) (ragged-unsealed (seg y) w .0) (a .1) (ragged-unsealed (seg y) w .1) (a .3)));
+                whole = λ w. k .rest (a .0 .name) (settled-used p r g v k (a .0) (a .1) .1) .left;
                 low = λ w d s x l m. below-has s (length (counted p 0 (G (a .0)))) (subst (λ (y : List ℕ). Has s y) (o .0) (chunk-counted (a .0) d s x (a .1) (a .3) l m));
-                full = λ w s l d h. let st : Stripe (parOf p r) (itemsIn p v) (isIn 0) (a .0) s (pieceAt p r g v (k .on) 0 none-choice (a .0) s) =
+                full = λ w s l d h. let st : Stripe (parOf p r) (itemsIn p v) (isIn 0) (a .0 .name) s (pieceAt p r g v (k .on) 0 none-choice (a .0) s) =
                     counted-stripe p r g v (k .on) 0 none-choice (a .0) s b (subst (λ (y : List ℕ). Has s y) (sym (o .0)) (has-below s (length (counted p 0 (G (a .0)))) l)) in
                     (pieceAt p r g v (k .on) 0 none-choice (a .0) s d, st .on d h (none-untrusted d h .1));
-                short = λ w d l. no-footer (a .0) (a .1) (a .3) (o .2) d l (decLt (suc (p .S)) (length (itemsIn p v d (a .0))));
+                short = λ w d l. no-footer (a .0) (a .1) (a .3) (o .2) d l (decLt (suc (p .S)) (length (itemsIn p v d (a .0 .name))));
                 is = inl (refl, open-at q l e (a .0) (a .2), next-at q l e (a .0) (a .2));
               },
             )
           where
-            few-counted : (z : ℕ) → length (counted p 0 (G z)) ≤ p .S
+            few-counted : (z : Seg) → length (counted p 0 (G z)) ≤ p .S
             few-counted z = unfold counted in omega (arith, length-keep (counts p 0 (G z)) (below (p .S)), length-below (p .S))
 
             no-footer :
-                (z : ℕ)
+                (z : Seg)
                 → Has z (remaining p v 0)
                 → G z .full ≡ false
                 → length (counted p 0 (G z)) < p .S
                 → (d : ℕ)
                 → d < p .N
-                → Dec (suc (p .S) < length (itemsIn p v d z))
-                → length (itemsIn p v d z) ≤ suc (p .S)
+                → Dec (suc (p .S) < length (itemsIn p v d (z .name)))
+                → length (itemsIn p v d (z .name)) ≤ suc (p .S)
             no-footer z i f c d l (no q) = omega arith
             no-footer z i f c d l (yes q) =
                 let every : (s : ℕ) → s < p .S → Has s (counted p 0 (G z)) = λ s b.
-                let x : (x : Val) × InI (chunk s x) (itemsIn p v d z) = k .on .facts .zones d z (l, none-untrusted d l .0) .sealed q s b in chunk-counted z d s (x .0) i f l (x .1) in
+                let x : (x : Val) × InI (chunk s x) (itemsIn p v d (z .name)) = k .on .facts .zones d (z .name) (l, none-untrusted d l .0) .sealed q s b in chunk-counted z d s (x .0) i f l (x .1) in
                 absurd (let w : p .S ≤ length (counted p 0 (G z)) = many (counted p 0 (G z)) every in let j : ⊥ = omega arith in j)
               where
                 many : (l : List ℕ) → ((s : ℕ) → s < p .S → Has s l) → p .S ≤ length l
@@ -217,13 +217,13 @@ module _ (p : Params) (r : Ranged p) (g : Ghost) (v : View) (k : SettledOn p r g
                     at s (yes b) = let q : (j : ℕ) × (j < length l) × (getD l j 0 ≡ s) = has-getD l s 0 (h s b) in (q .0, λ x. (q .1, q .2))
                     at s (no b) = (0, λ x. absurd (b x))
 
-            open-at : (q : Segment) (l : List Segment) → unsealed (segments p v 0) ≡ q ∷ l → (z : ℕ) → q ≡ G z → openOf (unsealed (segments p v 0)) ≡ suc z
-            open-at q l e z w = unfold openOf in (ap openOf e ∙ ap (λ (x : Segment). suc (x .seg)) w ∙ ap suc (seg-is z))
+            open-at : (q : Segment) (l : List Segment) → unsealed (segments p v 0) ≡ q ∷ l → (z : Seg) → q ≡ G z → openOf (unsealed (segments p v 0)) ≡ suc (z .name)
+            open-at q l e z w = unfold openOf in (ap openOf e ∙ ap (λ (x : Segment). suc (x .seg .name)) w ∙ ap (λ (x : Seg). suc (x .name)) (seg-is p v 0 z))
 
             next-at :
                 (q : Segment) (l : List Segment)
                 → unsealed (segments p v 0) ≡ q ∷ l
-                → (z : ℕ)
+                → (z : Seg)
                 → q ≡ G z
                 → nextOf p (unsealed (segments p v 0)) ≡ length (counted p 0 (G z))
             next-at q l e z w = unfold nextOf in (ap (nextOf p) e ∙ ap (λ (x : Segment). length (counted p 0 x)) w)
@@ -240,10 +240,10 @@ module _ (p : Params) (r : Ranged p) (g : Ghost) (v : View) (k : SettledOn p r g
   pub ends-serials : (y : ℕ) → Used (parOf p r) (g .un) (itemsIn p v) y → g .hd .ser y ≤ greatestSerial (segments p v 0)
   unfolding greatestSerial segments
   ends-serials y u =
-      let i : Has y (remaining p v 0) = settled-remains p r g v k y u in
-      let e : G y .serial ≡ g .hd .ser y = serial-ghost p r g v (k .on) 0 none-choice y i in
-      let b : G y .serial ≤ greatest (map (λ (g : Segment). g .serial) (map (segmentOf p v 0) (remaining p v 0))) =
-      greatest-most (G y .serial) (map (λ (g : Segment). g .serial) (map (segmentOf p v 0) (remaining p v 0)))
-      (has-map (λ (g : Segment). g .serial) (map (segmentOf p v 0) (remaining p v 0)) (G y)
-      (has-map (segmentOf p v 0) (remaining p v 0) y i)) in
+      let i : Has (seg y) (remaining p v 0) = settled-remains p r g v k (seg y) u in
+      let e : G (seg y) .serial ≡ g .hd .ser y = serial-ghost p r g v (k .on) 0 none-choice (seg y) i in
+      let b : G (seg y) .serial ≤ greatest (map (λ (g : Segment). g .serial) (map (segmentOf p v 0) (remaining p v 0))) =
+      greatest-most (G (seg y) .serial) (map (λ (g : Segment). g .serial) (map (segmentOf p v 0) (remaining p v 0)))
+      (has-map (λ (g : Segment). g .serial) (map (segmentOf p v 0) (remaining p v 0)) (G (seg y))
+      (has-map (segmentOf p v 0) (remaining p v 0) (seg y) i)) in
       omega (arith, b, e)

@@ -10,7 +10,7 @@ use native.Mathlib.Omega.{arith}
 use lib.Dec.{eqb}
 use lib.ListN.{length, getD, set}
 use Rattle.spec.specs.declared.Params.{Params}
-use Rattle.spec.specs.Drives.{Zone, noZone, View, zoneAt, pointerAt, Store, putZone, storeView, storeAll, zoneOn, sealedIn, dataStored, footersOf, zeroSpare, footerStores}
+use Rattle.spec.specs.Drives.{Zone, noZone, View, zoneAt, pointerAt, Store, putZone, storeView, storeAll, Seg, zoneOn, sealedIn, dataStored, footersOf, zeroSpare, footerStores}
 use Rattle.spec.specs.Drives.Store.{put}
 use Rattle.spec.specs.Faults.{footersStored}
 use Rattle.spec.specs.Layout.{recordOf, footerBlock}
@@ -21,6 +21,7 @@ use Rattle.spec.specs.Restart.{isWhole, missingFooters}
 use Rattle.spec.specs.Segments.{remaining, Segment, segmentOf, offsetOn, hasChunk, counts, counted}
 use Rattle.law_basic.specs.Geometry.{Ranged}
 use Rattle.law_basic.specs.Ranges.{length-below, map-map, getD-map-below, length-keep}
+use Rattle.law_basic.specs.Segs.{segs-differ, Named, zone-on-lt, other-zone}
 use Rattle.law_drives.specs.Counting.{pigeon}
 use Rattle.law_drives.specs.Tests.{clash}
 use Rattle.proof_crash_machine.specs.Facts.Pair.{alone}
@@ -68,95 +69,107 @@ keep-whole {A} f (b ∷ l) e a i = go (f b) refl e i (keep-whole f l)
 
 module _ (p : Params) (r : Ranged p) (g₀ : Ghost) (a : List Val) (s : Bool) where
   -- what holds after each store: the facts, and all stripes of o on every drive
-  pub record Footing (o : ℕ) (w : View) : Type 0 where
+  pub record Footing (o : Seg) (w : View) : Type 0 where
     pub linked : Linked p r w (withPr g₀ alone) a s off
     pub set : SettledOn p r (withPr g₀ alone) w
-    pub stripes : (d t : ℕ) → d < p .N → t < p .S → (x : Val) × InI (chunk t x) (itemsIn p w d o)
+    pub stripes : (d t : ℕ) → d < p .N → t < p .S → (x : Val) × InI (chunk t x) (itemsIn p w d (o .name))
 
-  module _ (o : ℕ) (ob : o < p .Z) where
-    foot-kind : (w : View) (d j : ℕ) → pointerAt w d o ≡ suc (p .S + j) → j < footers p → Kind p d o (zoneAt w d o) (footerBlock p (sparesIn p (zoneAt w d o)) j) zeroSpare
-    foot-kind w d j e l = footer j (pointer-is w d o ∙ e) l
+  module _ (o : Seg) (ob : Named p o) where
+    -- footer j of o on drive d, made from the spares there
+    abbrev footStore : View → ℕ → ℕ → Store
+    footStore w d j = put d (zoneOn o d) (footerBlock p (sparesIn p (zoneAt w d (zoneOn o d))) j) zeroSpare
 
-    module _ (w : View) (d j : ℕ) (k : Footing o w) (dl : d < p .N) (e : pointerAt w d o ≡ suc (p .S + j)) (jl : j < footers p) where
-      sound : Sound p w (put d o (footerBlock p (sparesIn p (zoneAt w d o)) j) zeroSpare)
-      sound = (dl, ob, foot-kind w d j e jl)
+    foot-kind : (w : View) (d j : ℕ) → pointerAt w d (zoneOn o d) ≡ suc (p .S + j) → j < footers p
+        → Kind p d (zoneOn o d) (zoneAt w d (zoneOn o d)) (footerBlock p (sparesIn p (zoneAt w d (zoneOn o d))) j) zeroSpare
+    foot-kind w d j e l = footer j (pointer-is w d (zoneOn o d) ∙ e) l
 
-      items′ : itemsIn p (storeView (put d o (footerBlock p (sparesIn p (zoneAt w d o)) j) zeroSpare) w) ≡ withItem (itemsIn p w) d o (foot j)
-      items′ = items-put-kind p r w d o (footerBlock p (sparesIn p (zoneAt w d o)) j) zeroSpare (k .linked .shape) dl ob (foot-kind w d j e jl) ∙ ap (withItem (itemsIn p w) d o) is-foot
+    module _ (w : View) (d j : ℕ) (k : Footing o w) (dl : d < p .N) (e : pointerAt w d (zoneOn o d) ≡ suc (p .S + j)) (jl : j < footers p) where
+      sound : Sound p w (footStore w d j)
+      sound = (dl, zone-on-lt p o d ob, foot-kind w d j e jl)
+
+      items′ : itemsIn p (storeView (footStore w d j) w) ≡ withItem (itemsIn p w) d (o .name) (foot j)
+      items′ =
+          items-put-kind p r w d o (footerBlock p (sparesIn p (zoneAt w d (zoneOn o d))) j) zeroSpare (k .linked .shape) dl ob (foot-kind w d j e jl) ∙ ap (withItem (itemsIn p w) d (o .name)) is-foot
         where
-          is-foot : kindItem p d o (zoneAt w d o) (footerBlock p (sparesIn p (zoneAt w d o)) j) zeroSpare (foot-kind w d j e jl) ≡ foot j
+          is-foot : kindItem p d o (zoneAt w d (zoneOn o d)) (footerBlock p (sparesIn p (zoneAt w d (zoneOn o d))) j) zeroSpare (foot-kind w d j e jl) ≡ foot j
           is-foot = unfold kindItem foot-kind in refl
 
-      foot-length : length (itemsIn p w d o) ≡ suc (p .S + j)
+      foot-length : length (itemsIn p w d (o .name)) ≡ suc (p .S + j)
       foot-length = zone-len p r (withPr g₀ alone) w (k .set .on) d o dl (k .set .none d dl) ob ∙ e
 
-      shape′ : Shape p (storeView (put d o (footerBlock p (sparesIn p (zoneAt w d o)) j) zeroSpare) w)
+      shape′ : Shape p (storeView (footStore w d j) w)
       shape′ =
-          shape-store p w (put d o (footerBlock p (sparesIn p (zoneAt w d o)) j) zeroSpare) (k .linked .shape)
-          (sound-fits p r w (put d o (footerBlock p (sparesIn p (zoneAt w d o)) j) zeroSpare) (k .linked .shape) sound)
+          shape-store p w (footStore w d j) (k .linked .shape)
+          (sound-fits p r w (footStore w d j) (k .linked .shape) sound)
 
-      linked′ : Linked p r (storeView (put d o (footerBlock p (sparesIn p (zoneAt w d o)) j) zeroSpare) w) (withPr g₀ alone) a s off
+      linked′ : Linked p r (storeView (footStore w d j) w) (withPr g₀ alone) a s off
       linked′ =
-          linked-step p r w (storeView (put d o (footerBlock p (sparesIn p (zoneAt w d o)) j) zeroSpare) w) (withPr g₀ alone) (withPr g₀ alone) a a s
-          s off off (withItem (itemsIn p w) d o (foot j)) (k .linked)
-          (restart-footer (stateOn p w (withPr g₀ alone) a s off) d o j (k .set .none) (k .set .rest) dl (omega (arith, foot-length)) (unfold capacity in omega (arith, foot-length, jl))
+          linked-step p r w (storeView (footStore w d j) w) (withPr g₀ alone) (withPr g₀ alone) a a s
+          s off off (withItem (itemsIn p w) d (o .name) (foot j)) (k .linked)
+          (restart-footer (stateOn p w (withPr g₀ alone) a s off) d (o .name) j (k .set .none) (k .set .rest) dl (omega (arith, foot-length)) (unfold capacity in omega (arith, foot-length, jl))
           (λ t l. k .stripes d t dl l))
-          (sym items′) shape′ (λ e l n. bytes-store p r w (put d o (footerBlock p (sparesIn p (zoneAt w d o)) j) zeroSpare) (k .linked .shape) sound e (k .linked .bytes e l n))
+          (sym items′) shape′ (λ e l n. bytes-store p r w (footStore w d j) (k .linked .shape) sound e (k .linked .bytes e l n))
 
-      pub foot-step : Footing o (storeView (put d o (footerBlock p (sparesIn p (zoneAt w d o)) j) zeroSpare) w)
+      pub foot-step : Footing o (storeView (footStore w d j) w)
       foot-step = record {
         linked = linked′;
         set = record {
-          on = linked-on p r (storeView (put d o (footerBlock p (sparesIn p (zoneAt w d o)) j) zeroSpare) w) (withPr g₀ alone) a s off linked′;
+          on = linked-on p r (storeView (footStore w d j) w) (withPr g₀ alone) a s off linked′;
           none = k .set .none;
           no-pair = refl;
           rest = subst (λ (u : ItemView). (z : ℕ) → Used (parOf p r) (g₀ .un) u z → R (parOf p r) (g₀ .hd) u (g₀ .un) z) (sym items′)
-              (λ z u. Put·R-fwd (itemsIn p w) d o (foot j) (omega (arith, foot-length)) (parOf p r) (withPr g₀ alone) (g₀ .un) z
-              (k .set .rest z (Put·Used-back (itemsIn p w) d o (foot j) (omega (arith, foot-length)) (parOf p r) (withPr g₀ alone) z u)));
+              (λ z u. Put·R-fwd (itemsIn p w) d (o .name) (foot j) (omega (arith, foot-length)) (parOf p r) (withPr g₀ alone) (g₀ .un) z
+              (k .set .rest z (Put·Used-back (itemsIn p w) d (o .name) (foot j) (omega (arith, foot-length)) (parOf p r) (withPr g₀ alone) z u)));
         };
-        stripes = subst (λ (u : ItemView). (d t : ℕ) → d < p .N → t < p .S → (x : Val) × InI (chunk t x) (u d o)) (sym items′)
-            (λ e t l b. (k .stripes e t l b .0, in-fwd (itemsIn p w) d o (foot j) (chunk t (k .stripes e t l b .0)) e o (k .stripes e t l b .1)));
+        stripes = subst (λ (u : ItemView). (d t : ℕ) → d < p .N → t < p .S → (x : Val) × InI (chunk t x) (u d (o .name))) (sym items′)
+            (λ e t l b. (k .stripes e t l b .0, in-fwd (itemsIn p w) d (o .name) (foot j) (chunk t (k .stripes e t l b .0)) e (o .name) (k .stripes e t l b .1)));
       }
 
       -- what the store changes
-      pub foot-pointer : pointerAt (storeView (put d o (footerBlock p (sparesIn p (zoneAt w d o)) j) zeroSpare) w) d o ≡ suc (p .S + suc j)
+      pub foot-pointer : pointerAt (storeView (footStore w d j) w) d (zoneOn o d) ≡ suc (p .S + suc j)
       unfolding storeView pointerAt
-      foot-pointer = ap (λ (q : Zone). q .pointer) (zone-set-at p w (k .linked .shape) d o (putZone (footerBlock p (sparesIn p (zoneAt w d o)) j) zeroSpare (zoneAt w d o)) dl ob)
-          ∙ (unfold putZone in (ap suc (pointer-is w d o ∙ e) ∙ (let x : suc (suc (p .S + j)) ≡ suc (p .S + suc j) = omega arith in x)))
+      foot-pointer =
+          ap (λ (q : Zone). q .pointer) (zone-set-at p w (k .linked .shape) d (zoneOn o d) (putZone (footerBlock p (sparesIn p (zoneAt w d (zoneOn o d))) j) zeroSpare (zoneAt w d (zoneOn o d))) dl
+          (zone-on-lt p o d ob))
+          ∙ (unfold putZone in (ap suc (pointer-is w d (zoneOn o d) ∙ e) ∙ (let x : suc (suc (p .S + j)) ≡ suc (p .S + suc j) = omega arith in x)))
 
-      pub foot-spares : sparesIn p (zoneAt (storeView (put d o (footerBlock p (sparesIn p (zoneAt w d o)) j) zeroSpare) w) d o) ≡ sparesIn p (zoneAt w d o)
+      pub foot-spares : sparesIn p (zoneAt (storeView (footStore w d j) w) d (zoneOn o d)) ≡ sparesIn p (zoneAt w d (zoneOn o d))
       unfolding storeView
-      foot-spares = ap (sparesIn p) (zone-set-at p w (k .linked .shape) d o (putZone (footerBlock p (sparesIn p (zoneAt w d o)) j) zeroSpare (zoneAt w d o)) dl ob)
-          ∙ old-spares p r d o (zoneAt w d o) (shape-zone p w (k .linked .shape) d o dl ob) (footerBlock p (sparesIn p (zoneAt w d o)) j) zeroSpare j (pointer-is w d o ∙ e)
+      foot-spares =
+          ap (sparesIn p) (zone-set-at p w (k .linked .shape) d (zoneOn o d) (putZone (footerBlock p (sparesIn p (zoneAt w d (zoneOn o d))) j) zeroSpare (zoneAt w d (zoneOn o d))) dl
+          (zone-on-lt p o d ob))
+          ∙ old-spares p r d (zoneOn o d) (zoneAt w d (zoneOn o d)) (shape-zone p w (k .linked .shape) d (zoneOn o d) dl (zone-on-lt p o d ob))
+          (footerBlock p (sparesIn p (zoneAt w d (zoneOn o d))) j) zeroSpare j (pointer-is w d (zoneOn o d) ∙ e)
 
-      pub foot-other : (e y : ℕ) → (e ≢ d) ⊎ (y ≢ o) → zoneAt (storeView (put d o (footerBlock p (sparesIn p (zoneAt w d o)) j) zeroSpare) w) e y ≡ zoneAt w e y
+      pub foot-other : (e : ℕ) (y : Seg) → (e ≢ d) ⊎ (y ≡ o → ⊥) → zoneAt (storeView (footStore w d j) w) e (zoneOn y e) ≡ zoneAt w e (zoneOn y e)
       unfolding storeView
-      foot-other e y n = zone-set-else p w (k .linked .shape) d o (putZone (footerBlock p (sparesIn p (zoneAt w d o)) j) zeroSpare (zoneAt w d o)) dl e y n
+      foot-other e y n = zone-set-else p w (k .linked .shape) d (zoneOn o d) (putZone (footerBlock p (sparesIn p (zoneAt w d (zoneOn o d))) j) zeroSpare (zoneAt w d (zoneOn o d))) dl e (zoneOn y e)
+          (other-zone p y o e d ob n)
 
     -- ---- one drive, then all
     module _ (v : View) where
       abbrev feetOn : ℕ → List Store
-      feetOn d = map (λ j. put d o (footerBlock p (sparesIn p (zoneAt v d o)) j) zeroSpare) (upFrom (footersStored p (zoneAt v d o)) (footers p - footersStored p (zoneAt v d o)))
+      feetOn d = map (λ j. footStore v d j) (upFrom (footersStored p (zoneAt v d (zoneOn o d))) (footers p - footersStored p (zoneAt v d (zoneOn o d))))
 
       -- drives below d are done, the others as they were
       pub record Upto (d : ℕ) (w : View) : Type 0 where
         pub foot : Footing o w
-        pub done : (e : ℕ) → e < d → e < p .N → pointerAt w e o ≡ capacity p
-        pub left : (e : ℕ) → d ≤ e → zoneAt w e o ≡ zoneAt v e o
-        pub other : (e y : ℕ) → y ≢ o → zoneAt w e y ≡ zoneAt v e y
+        pub done : (e : ℕ) → e < d → e < p .N → pointerAt w e (zoneOn o e) ≡ capacity p
+        pub left : (e : ℕ) → d ≤ e → zoneAt w e (zoneOn o e) ≡ zoneAt v e (zoneOn o e)
+        pub other : (e : ℕ) (y : Seg) → (y ≡ o → ⊥) → zoneAt w e (zoneOn y e) ≡ zoneAt v e (zoneOn y e)
 
       -- within drive d
       pub record FootWithin (d j : ℕ) (w : View) : Type 0 where
         pub foot : Footing o w
-        pub at : pointerAt w d o ≡ suc (p .S + j)
-        pub spares : sparesIn p (zoneAt w d o) ≡ sparesIn p (zoneAt v d o)
-        pub done : (e : ℕ) → e < d → e < p .N → pointerAt w e o ≡ capacity p
-        pub left : (e : ℕ) → d < e → zoneAt w e o ≡ zoneAt v e o
-        pub other : (e y : ℕ) → y ≢ o → zoneAt w e y ≡ zoneAt v e y
+        pub at : pointerAt w d (zoneOn o d) ≡ suc (p .S + j)
+        pub spares : sparesIn p (zoneAt w d (zoneOn o d)) ≡ sparesIn p (zoneAt v d (zoneOn o d))
+        pub done : (e : ℕ) → e < d → e < p .N → pointerAt w e (zoneOn o e) ≡ capacity p
+        pub left : (e : ℕ) → d < e → zoneAt w e (zoneOn o e) ≡ zoneAt v e (zoneOn o e)
+        pub other : (e : ℕ) (y : Seg) → (y ≡ o → ⊥) → zoneAt w e (zoneOn y e) ≡ zoneAt v e (zoneOn y e)
 
-      within-step : (d j : ℕ) (w : View) → d < p .N → j < footers p → FootWithin d j w → FootWithin d (suc j) (storeView (put d o (footerBlock p (sparesIn p (zoneAt v d o)) j) zeroSpare) w)
+      within-step : (d j : ℕ) (w : View) → d < p .N → j < footers p → FootWithin d j w → FootWithin d (suc j) (storeView (footStore v d j) w)
       unfolding pointerAt
-      within-step d j w dl jl k = subst (λ (ss : List (List ℕ)). FootWithin d (suc j) (storeView (put d o (footerBlock p ss j) zeroSpare) w)) (k .spares) (record {
+      within-step d j w dl jl k = subst (λ (ss : List (List ℕ)). FootWithin d (suc j) (storeView (put d (zoneOn o d) (footerBlock p ss j) zeroSpare) w)) (k .spares) (record {
         foot = foot-step w d j (k .foot) dl (k .at) jl;
         at = foot-pointer w d j (k .foot) dl (k .at) jl;
         spares = foot-spares w d j (k .foot) dl (k .at) jl ∙ k .spares;
@@ -168,26 +181,26 @@ module _ (p : Params) (r : Ranged p) (g₀ : Ghost) (a : List Val) (s : Bool) wh
       stored-few : (q : Zone) → footersStored p q ≤ footers p
       stored-few q = unfold footersStored in omega arith
 
-      drive-step : ((d : ℕ) → d < p .N → pointerAt v d o ≡ suc (p .S + footersStored p (zoneAt v d o)))
+      drive-step : ((d : ℕ) → d < p .N → pointerAt v d (zoneOn o d) ≡ suc (p .S + footersStored p (zoneAt v d (zoneOn o d))))
           → (d : ℕ) (w : View) → d < p .N → Upto d w → Always (Footing o) w (feetOn d) × Upto (suc d) (storeAll storeView (feetOn d) w)
       drive-step starts d w dl k = (
-        run-always (Footing o) (FootWithin d) st (footers p) (λ j u i. i .foot) (λ j u l i. within-step d j u dl l i) (footersStored p (zoneAt v d o))
-            (footers p - footersStored p (zoneAt v d o)) fits w begin?,
+        run-always (Footing o) (FootWithin d) st (footers p) (λ j u i. i .foot) (λ j u l i. within-step d j u dl l i) (footersStored p (zoneAt v d (zoneOn o d)))
+            (footers p - footersStored p (zoneAt v d (zoneOn o d))) fits w begin?,
         ended? (storeAll storeView (feetOn d) w) (run-end (Footing o) (FootWithin d) st (footers p) (λ j u i. i .foot)
-            (λ j u l i. within-step d j u dl l i) (footersStored p (zoneAt v d o)) (footers p - footersStored p (zoneAt v d o)) (footers p) fits
-            (omega (arith, stored-few (zoneAt v d o))) w begin?),
+            (λ j u l i. within-step d j u dl l i) (footersStored p (zoneAt v d (zoneOn o d))) (footers p - footersStored p (zoneAt v d (zoneOn o d))) (footers p) fits
+            (omega (arith, stored-few (zoneAt v d (zoneOn o d)))) w begin?),
       )
         where
           st : ℕ → Store
-          st j = put d o (footerBlock p (sparesIn p (zoneAt v d o)) j) zeroSpare
+          st j = footStore v d j
 
-          fits : footersStored p (zoneAt v d o) + (footers p - footersStored p (zoneAt v d o)) ≤ footers p
-          fits = omega (arith, stored-few (zoneAt v d o))
+          fits : footersStored p (zoneAt v d (zoneOn o d)) + (footers p - footersStored p (zoneAt v d (zoneOn o d))) ≤ footers p
+          fits = omega (arith, stored-few (zoneAt v d (zoneOn o d)))
 
-          begin? : FootWithin d (footersStored p (zoneAt v d o)) w
+          begin? : FootWithin d (footersStored p (zoneAt v d (zoneOn o d))) w
           begin? = record {
             foot = k .foot;
-            at = pointer-zone w v d o (k .left d (omega arith)) ∙ starts d dl;
+            at = pointer-zone w v d (zoneOn o d) (k .left d (omega arith)) ∙ starts d dl;
             spares = ap (sparesIn p) (k .left d (omega arith));
             done = k .done;
             left = λ e b. k .left e (omega arith);
@@ -197,20 +210,20 @@ module _ (p : Params) (r : Ranged p) (g₀ : Ghost) (a : List Val) (s : Bool) wh
           ended? : (u : View) → FootWithin d (footers p) u → Upto (suc d) u
           ended? u i = record { foot = i .foot; done = λ e b l. done e b l (ℕ-discrete e d); left = λ e b. i .left e b; other = i .other }
             where
-              done : (e : ℕ) → e < suc d → e < p .N → Dec (e ≡ d) → pointerAt u e o ≡ capacity p
-              done e b l (yes q) = unfold capacity in (ap (λ (x : ℕ). pointerAt u x o) q ∙ i .at ∙ (let x : suc (p .S + footers p) ≡ 1 + p .S + footers p = omega arith in x))
+              done : (e : ℕ) → e < suc d → e < p .N → Dec (e ≡ d) → pointerAt u e (zoneOn o e) ≡ capacity p
+              done e b l (yes q) = unfold capacity in (ap (λ (x : ℕ). pointerAt u x (zoneOn o x)) q ∙ i .at ∙ (let x : suc (p .S + footers p) ≡ 1 + p .S + footers p = omega arith in x))
               done e b l (no q) = i .done e (omega arith) l
 
-      within-sound : (d j : ℕ) (w : View) → d < p .N → j < footers p → FootWithin d j w → Sound p w (put d o (footerBlock p (sparesIn p (zoneAt v d o)) j) zeroSpare)
-      within-sound d j w dl jl k = subst (λ (ss : List (List ℕ)). Sound p w (put d o (footerBlock p ss j) zeroSpare)) (k .spares) (sound w d j (k .foot) dl (k .at) jl)
+      within-sound : (d j : ℕ) (w : View) → d < p .N → j < footers p → FootWithin d j w → Sound p w (footStore v d j)
+      within-sound d j w dl jl k = subst (λ (ss : List (List ℕ)). Sound p w (put d (zoneOn o d) (footerBlock p ss j) zeroSpare)) (k .spares) (sound w d j (k .foot) dl (k .at) jl)
 
-      drive-sound : ((d : ℕ) → d < p .N → pointerAt v d o ≡ suc (p .S + footersStored p (zoneAt v d o)))
+      drive-sound : ((d : ℕ) → d < p .N → pointerAt v d (zoneOn o d) ≡ suc (p .S + footersStored p (zoneAt v d (zoneOn o d))))
           → (d : ℕ) (w : View) → d < p .N → Upto d w → AllSound p w (feetOn d) × Upto (suc d) (storeAll storeView (feetOn d) w)
       drive-sound starts d w dl k = (
-        run-sound p (FootWithin d) (λ j. put d o (footerBlock p (sparesIn p (zoneAt v d o)) j) zeroSpare) (footers p) (λ j u l i. within-step d j u dl l i) (λ j u l i. within-sound d j u dl l i)
-            (footersStored p (zoneAt v d o)) (footers p - footersStored p (zoneAt v d o)) (omega (arith, stored-few (zoneAt v d o))) w (record {
+        run-sound p (FootWithin d) (λ j. footStore v d j) (footers p) (λ j u l i. within-step d j u dl l i) (λ j u l i. within-sound d j u dl l i)
+            (footersStored p (zoneAt v d (zoneOn o d))) (footers p - footersStored p (zoneAt v d (zoneOn o d))) (omega (arith, stored-few (zoneAt v d (zoneOn o d)))) w (record {
               foot = k .foot;
-              at = pointer-zone w v d o (k .left d (omega arith)) ∙ starts d dl;
+              at = pointer-zone w v d (zoneOn o d) (k .left d (omega arith)) ∙ starts d dl;
               spares = ap (sparesIn p) (k .left d (omega arith));
               done = k .done;
               left = λ e b. k .left e (omega arith);
@@ -219,13 +232,13 @@ module _ (p : Params) (r : Ranged p) (g₀ : Ghost) (a : List Val) (s : Bool) wh
         drive-step starts d w dl k .1,
       )
 
-      pub feet-sound : ((d : ℕ) → d < p .N → pointerAt v d o ≡ suc (p .S + footersStored p (zoneAt v d o))) → Footing o v → AllSound p v (flat feetOn (below (p .N)))
+      pub feet-sound : ((d : ℕ) → d < p .N → pointerAt v d (zoneOn o d) ≡ suc (p .S + footersStored p (zoneAt v d (zoneOn o d)))) → Footing o v → AllSound p v (flat feetOn (below (p .N)))
       unfolding below
       feet-sound starts k =
           runs-sound p Upto feetOn (p .N) (drive-sound starts) 0 (p .N) (omega arith) v
           (record { foot = k; done = λ e b l. absurd (let q : ⊥ = omega arith in q); left = λ e b. refl; other = λ e y n. refl })
 
-      pub feet-all : ((d : ℕ) → d < p .N → pointerAt v d o ≡ suc (p .S + footersStored p (zoneAt v d o))) → Footing o v
+      pub feet-all : ((d : ℕ) → d < p .N → pointerAt v d (zoneOn o d) ≡ suc (p .S + footersStored p (zoneAt v d (zoneOn o d)))) → Footing o v
           → Always (Footing o) v (flat feetOn (below (p .N))) × Upto (p .N) (storeAll storeView (flat feetOn (below (p .N))) v)
       unfolding below
       feet-all starts k = (
@@ -238,11 +251,11 @@ module _ (p : Params) (r : Ranged p) (g₀ : Ghost) (a : List Val) (s : Bool) wh
 
 -- ---- a whole segment
 
-module _ (p : Params) (r : Ranged p) (g : Ghost) (v : View) (k : SettledOn p r g v) (o : ℕ) (i : Has o (remaining p v 0)) (w : isWhole p (segmentOf p v 0 o) ≡ true) where
+module _ (p : Params) (r : Ranged p) (g : Ghost) (v : View) (k : SettledOn p r g v) (o : Seg) (i : Has o (remaining p v 0)) (w : isWhole p (segmentOf p v 0 o) ≡ true) where
   abbrev G : Segment
   G = segmentOf p v 0 o
 
-  ob : o < p .Z
+  ob : Named p o
   ob = settled-used p r g v k o i .0
 
   all-count : (s : ℕ) → s < p .S → Has s (counted p 0 G)
@@ -254,23 +267,23 @@ module _ (p : Params) (r : Ranged p) (g : Ghost) (v : View) (k : SettledOn p r g
           long : length (keep (counts p 0 G) (below (p .S))) ≡ p .S
           long = unfold isWhole counted in eqb-true (length (keep (counts p 0 G) (below (p .S)))) (p .S) w
 
-  pub whole-stripes : (d t : ℕ) → d < p .N → t < p .S → (x : Val) × InI (chunk t x) (itemsIn p v d o)
+  pub whole-stripes : (d t : ℕ) → d < p .N → t < p .S → (x : Val) × InI (chunk t x) (itemsIn p v d (o .name))
   whole-stripes d t l b =
-      let st : Stripe (parOf p r) (itemsIn p v) (isIn 0) o t (pieceAt p r g v (k .on) 0 (none-choice p r g v k) o t) =
+      let st : Stripe (parOf p r) (itemsIn p v) (isIn 0) (o .name) t (pieceAt p r g v (k .on) 0 (none-choice p r g v k) o t) =
       counted-stripe p r g v (k .on) 0 (none-choice p r g v k) o t ob (all-count t b) in
       (pieceAt p r g v (k .on) 0 (none-choice p r g v k) o t d, st .on d l (far-off p r g v k d l))
 
   -- its data blocks are all there
-  pub whole-pointers : (d : ℕ) → d < p .N → pointerAt v d o ≡ suc (p .S + footersStored p (zoneAt v d o))
+  pub whole-pointers : (d : ℕ) → d < p .N → pointerAt v d (zoneOn o d) ≡ suc (p .S + footersStored p (zoneAt v d (zoneOn o d)))
   whole-pointers d l =
       let n : isIn 0 d ≡ false = far-off p r g v k d l in
       let has : (t : ℕ) → t < p .S → hasChunk G t d ≡ true = λ t b. counted-has p r g v (k .on) 0 (none-choice p r g v k) o t (all-count t b) .1 d l n in
-      let at : (t : ℕ) → t < p .S → (offsetOn G d t < dataStored p (zoneAt v d o)) × (recordOf (blockIn (zoneAt v d o) (suc (offsetOn G d t)) .spare) .stripe ≡ t) =
+      let at : (t : ℕ) → t < p .S → (offsetOn G d t < dataStored p (zoneAt v d (zoneOn o d))) × (recordOf (blockIn (zoneAt v d (zoneOn o d)) (suc (offsetOn G d t)) .spare) .stripe ≡ t) =
       λ t b. offset-on p r g v (k .on) 0 (none-choice p r g v k) o t d ob l n (has t b) in
-      let q : p .S ≤ dataStored p (zoneAt v d o) = pigeon (p .S) (dataStored p (zoneAt v d o)) (λ t. offsetOn G d t) (λ t b. at t b .0)
-      (λ s t a b e. sym (at s a .1) ∙ ap (λ (x : ℕ). recordOf (blockIn (zoneAt v d o) (suc x) .spare) .stripe) e ∙ at t b .1) in
-      let low : zoneAt v d o .pointer ≤ capacity p = zone-bytes p r g v (k .on) d o l (k .none d l) ob .low in
-      sym (pointer-is v d o) ∙ exact (zoneAt v d o) q low
+      let q : p .S ≤ dataStored p (zoneAt v d (zoneOn o d)) = pigeon (p .S) (dataStored p (zoneAt v d (zoneOn o d))) (λ t. offsetOn G d t) (λ t b. at t b .0)
+      (λ s t a b e. sym (at s a .1) ∙ ap (λ (x : ℕ). recordOf (blockIn (zoneAt v d (zoneOn o d)) (suc x) .spare) .stripe) e ∙ at t b .1) in
+      let low : zoneAt v d (zoneOn o d) .pointer ≤ capacity p = zone-bytes p r g v (k .on) d o l (k .none d l) ob .low in
+      sym (pointer-is v d (zoneOn o d)) ∙ exact (zoneAt v d (zoneOn o d)) q low
     where
       exact : (z : Zone) → p .S ≤ dataStored p z → z .pointer ≤ capacity p → z .pointer ≡ suc (p .S + footersStored p z)
       exact z q l = unfold dataStored footersStored capacity in (go q l)
@@ -280,40 +293,43 @@ module _ (p : Params) (r : Ranged p) (g : Ghost) (v : View) (k : SettledOn p r g
 
   pub feet-are :
       missingFooters p G
-      ≡ flat (λ d. map (λ j. put d o (footerBlock p (sparesIn p (zoneAt v d o)) j) zeroSpare)
-      (upFrom (footersStored p (zoneAt v d o)) (footers p - footersStored p (zoneAt v d o)))) (below (p .N))
-  feet-are = unfold missingFooters drivesOf zoneOn footerStores footersOf segmentOf in
+      ≡ flat (λ d. map (λ j. put d (zoneOn o d) (footerBlock p (sparesIn p (zoneAt v d (zoneOn o d))) j) zeroSpare)
+      (upFrom (footersStored p (zoneAt v d (zoneOn o d))) (footers p - footersStored p (zoneAt v d (zoneOn o d))))) (below (p .N))
+  feet-are = unfold missingFooters drivesOf footerStores footersOf segmentOf in
       same (below (p .N)) (λ d j. below-has d (p .N) j)
     where
       one : ℕ → Zone → List Store
-      one d q = map (λ (b : List ℕ). put d o b zeroSpare) (map (footerBlock p (sparesIn p q)) (upFrom (footersStored p q) (footers p - footersStored p q)))
+      one d q = map (λ (b : List ℕ). put d (zoneOn o d) b zeroSpare) (map (footerBlock p (sparesIn p q)) (upFrom (footersStored p q) (footers p - footersStored p q)))
 
       same : (l : List ℕ) → ((d : ℕ) → Has d l → d < p .N)
-          → flat (λ d. one d (getD (map (λ d. zoneAt v d o) (below (p .N))) d noZone)) l
-          ≡ flat (λ d. map (λ j. put d o (footerBlock p (sparesIn p (zoneAt v d o)) j) zeroSpare) (upFrom (footersStored p (zoneAt v d o)) (footers p - footersStored p (zoneAt v d o)))) l
-      same l h = flat-same (λ d. one d (getD (map (λ d. zoneAt v d o) (below (p .N))) d noZone))
-          (λ d. map (λ j. put d o (footerBlock p (sparesIn p (zoneAt v d o)) j) zeroSpare) (upFrom (footersStored p (zoneAt v d o)) (footers p - footersStored p (zoneAt v d o)))) l
-          (λ d j. ap (one d) (getD-map-below (λ d. zoneAt v d o) (p .N) d noZone (h d j))
-          ∙ map-map (λ (b : List ℕ). put d o b zeroSpare) (footerBlock p (sparesIn p (zoneAt v d o))) (upFrom (footersStored p (zoneAt v d o)) (footers p - footersStored p (zoneAt v d o))))
+          → flat (λ d. one d (getD (map (λ d. zoneAt v d (zoneOn o d)) (below (p .N))) d noZone)) l
+          ≡ flat (λ d. map (λ j. put d (zoneOn o d) (footerBlock p (sparesIn p (zoneAt v d (zoneOn o d))) j) zeroSpare)
+          (upFrom (footersStored p (zoneAt v d (zoneOn o d))) (footers p - footersStored p (zoneAt v d (zoneOn o d))))) l
+      same l h = flat-same (λ d. one d (getD (map (λ d. zoneAt v d (zoneOn o d)) (below (p .N))) d noZone))
+          (λ d. map (λ j. put d (zoneOn o d) (footerBlock p (sparesIn p (zoneAt v d (zoneOn o d))) j) zeroSpare)
+          (upFrom (footersStored p (zoneAt v d (zoneOn o d))) (footers p - footersStored p (zoneAt v d (zoneOn o d))))) l
+          (λ d j. ap (one d) (getD-map-below (λ d. zoneAt v d (zoneOn o d)) (p .N) d noZone (h d j))
+          ∙ map-map (λ (b : List ℕ). put d (zoneOn o d) b zeroSpare) (footerBlock p (sparesIn p (zoneAt v d (zoneOn o d))))
+          (upFrom (footersStored p (zoneAt v d (zoneOn o d))) (footers p - footersStored p (zoneAt v d (zoneOn o d)))))
 
 -- ---- once all footers stand, every segment is full
 
-module _ (p : Params) (r : Ranged p) (g₀ : Ghost) (a : List Val) (s : Bool) (v u : View) (k : SettledOn p r (withPr g₀ alone) v) (o : ℕ) (i : Has o (remaining p v 0))
+module _ (p : Params) (r : Ranged p) (g₀ : Ghost) (a : List Val) (s : Bool) (v u : View) (k : SettledOn p r (withPr g₀ alone) v) (o : Seg) (i : Has o (remaining p v 0))
     (un : segmentOf p v 0 o .full ≡ false) (q : Upto p r g₀ a s o (settled-used p r (withPr g₀ alone) v k o i .0) v (p .N) u) where
-  all-full : (z : ℕ) → Has z (remaining p u 0) → segmentOf p u 0 z .full ≡ false → ⊥
-  all-full z j e = go (ℕ-discrete z o)
+  all-full : (z : Seg) → Has z (remaining p u 0) → segmentOf p u 0 z .full ≡ false → ⊥
+  all-full z j e = go (segs-differ z o)
     where
       set : SettledOn p r (withPr g₀ alone) u
       set = q .foot .set
 
       go : Dec (z ≡ o) → ⊥
-      go (yes w) = clash sealed (sym (full-sealed p r (withPr g₀ alone) u set o) ∙ ap (λ (x : ℕ). segmentOf p u 0 x .full) (sym w) ∙ e)
+      go (yes w) = clash sealed (sym (full-sealed p r (withPr g₀ alone) u set o) ∙ ap (λ (x : Seg). segmentOf p u 0 x .full) (sym w) ∙ e)
         where
           sealed : sealedIn p u 0 o ≡ true
-          sealed = unfold sealedIn zoneOn in all-on-present p 0 (λ d. eqb (pointerAt u d o) (capacity p)) (λ d l n. eq-eqb (pointerAt u d o) (capacity p) (q .done d l l))
+          sealed = unfold sealedIn in all-on-present p 0 (λ d. eqb (pointerAt u d (zoneOn o d)) (capacity p)) (λ d l n. eq-eqb (pointerAt u d (zoneOn o d)) (capacity p) (q .done d l l))
       go (no w) =
-          let same : (d : ℕ) → d < p .N → zoneAt u d z ≡ zoneAt v d z = λ d l. q .other d z w in
-          let used? : (z < p .Z) × Used (parOf p r) (g₀ .un) (itemsIn p u) z = settled-used p r (withPr g₀ alone) u set z j in
+          let same : (d : ℕ) → d < p .N → zoneAt u d (zoneOn z d) ≡ zoneAt v d (zoneOn z d) = λ d l. q .other d z w in
+          let used? : Named p z × Used (parOf p r) (g₀ .un) (itemsIn p u) (z .name) = settled-used p r (withPr g₀ alone) u set z j in
           let j′ : Has z (remaining p v 0) = settled-remains p r (withPr g₀ alone) v k z (
             used? .1 .0,
             used? .1 .1,

@@ -11,17 +11,18 @@ use lib.ListN.{length, take, set}
 use lib.Count.{ones}
 use Rattle.spec.specs.declared.Params.{Params}
 use Rattle.spec.specs.Counts.{lastCount}
-use Rattle.spec.specs.Drives.{View, zoneAt, pointerAt, chunkAt, Store, storeView, storeAll, zoneOn, zeroSpare}
+use Rattle.spec.specs.Drives.{View, zoneAt, pointerAt, chunkAt, Store, storeView, storeAll, Seg, seg, zoneOn, zeroSpare}
 use Rattle.spec.specs.Drives.Store.{put}
 use Rattle.spec.specs.Faults.{footersStored}
 use Rattle.spec.specs.Layout.{headerSerial, footerBlock}
 use Rattle.spec.specs.Lists.Opt.{none}
 use Rattle.spec.specs.Lists.{upFrom, below, any, keep, isNil, flat, greatest, firstOr, sameList}
 use Rattle.spec.specs.Params.{footers}
-use Rattle.spec.specs.Restart.{freeZones, isWhole, isRagged, missingFooters, rewriteStores, dropStores, mendStores, restartStores, rewrites}
+use Rattle.spec.specs.Restart.{isWhole, isRagged, missingFooters, rewriteStores, dropStores, mendStores, restartStores, rewrites, freeSegs}
 use Rattle.spec.specs.Segments.{headerAt, remaining, Segment, segmentOf, segments, counts, counted, uncounted, greatestSerial, unsealed}
 use Rattle.law_basic.specs.Geometry.{Ranged}
 use Rattle.law_basic.specs.Ranges.{and-both, length-below, length-keep, sameList-true, nil-is}
+use Rattle.law_basic.specs.Segs.{Named}
 use Rattle.law_basic.specs.Stores.{storeAll-append}
 use Rattle.law_drives.specs.Tests.{cond-true, clash}
 use Rattle.law_basic.specs.Mask.{isIn-empty}
@@ -36,7 +37,7 @@ use Rattle.proof_crash_machine.specs.Val.{Val}
 use Rattle.proof_crash_machine.specs.View.{applyAll}
 use Rattle.proof_crash_items.specs.Member.{Has, keep-has, has-keep, has-any, map-has, has-map, firstOr-has, greatest-some}
 use Rattle.proof_crash_items.specs.Named.{zero-choice, zero-few}
-use Rattle.proof_crash_items.specs.Refuse.{one-unsealed, free-zone}
+use Rattle.proof_crash_items.specs.Refuse.{one-unsealed, free-seg}
 use Rattle.proof_crash_items.specs.SegFacts.{seg-low, begun-on, serial-ghost}
 use Rattle.proof_crash_items.specs.Segs.{OnDrives, zone-bytes, head-serials}
 use Rattle.proof_crash_items.specs.Sound.{AllSound, sound-append}
@@ -97,9 +98,9 @@ module _ (p : Params) (r : Ranged p) (v₀ : View) (g₀ : Ghost) (a : List Val)
   plain ord = plain-done p r v₀ v g₀ a s m lk none (dropItems p gs) (dropping p r g₀ v₀ on₀ none) (sym (dropped-items p r g₀ v₀ on₀ none)) k ord
 
   -- ---- an unsealed segment
-  module _ (o : ℕ) (i₀ : Has o (remaining p v₀ 0)) (un₀ : segmentOf p v₀ 0 o .full ≡ false) where
+  module _ (o : Seg) (i₀ : Has o (remaining p v₀ 0)) (un₀ : segmentOf p v₀ 0 o .full ≡ false) where
     i : Has o (remaining p v 0)
-    i = subst (λ (l : List ℕ). Has o l) (sym (remaining-same p r g₀ v₀ on₀ none)) i₀
+    i = subst (λ (l : List Seg). Has o l) (sym (remaining-same p r g₀ v₀ on₀ none)) i₀
 
     same-G : segmentOf p v 0 o ≡ segmentOf p v₀ 0 o
     same-G = segment-same p r v₀ v 0 o (zero-few p r) (λ d b. kept-zone-after p r g₀ v₀ on₀ none d o i₀)
@@ -107,14 +108,15 @@ module _ (p : Params) (r : Ranged p) (v₀ : View) (g₀ : Ghost) (a : List Val)
     un : segmentOf p v 0 o .full ≡ false
     un = ap (λ (x : Segment). x .full) same-G ∙ un₀
 
-    abbrev ob : o < p .Z
+    abbrev ob : Named p o
     ob = settled-used p r (withPr g₀ alone) v k o i .0
 
     -- ---- missing footers
     module _ (w : isWhole p (segmentOf p v 0 o) ≡ true) where
       abbrev feet : List Store
       feet =
-          flat (λ d. map (λ j. put d o (footerBlock p (sparesIn p (zoneAt v d o)) j) zeroSpare) (upFrom (footersStored p (zoneAt v d o)) (footers p - footersStored p (zoneAt v d o)))) (below (p .N))
+          flat (λ d. map (λ j. put d (zoneOn o d) (footerBlock p (sparesIn p (zoneAt v d (zoneOn o d))) j) zeroSpare)
+          (upFrom (footersStored p (zoneAt v d (zoneOn o d))) (footers p - footersStored p (zoneAt v d (zoneOn o d))))) (below (p .N))
 
       footing : Footing p r g₀ a s o v
       footing = record { linked = linked₁; set = k; stripes = whole-stripes p r (withPr g₀ alone) v k o i w }
@@ -159,24 +161,24 @@ module _ (p : Params) (r : Ranged p) (v₀ : View) (g₀ : Ghost) (a : List Val)
       feet-right = subst (AllSound p v) (sym (feet-are p r (withPr g₀ alone) v k o i w)) (feet-sound p r g₀ a s o ob v (whole-pointers p r (withPr g₀ alone) v k o i w) footing)
 
     -- ---- a rewrite
-    free? : Has (firstOr 0 (freeZones p gs)) (freeZones p gs)
-    free? = firstOr-has 0 (freeZones p gs) (free-zone p r g₀ v₀ on₀ (λ x q. lk .inv .ones x q) 0 (zero-choice p r (g₀ .un) none))
+    free? : Has (firstOr (seg 0) (freeSegs p gs)) (freeSegs p gs)
+    free? = firstOr-has (seg 0) (freeSegs p gs) (free-seg p r g₀ v₀ on₀ (λ x q. lk .inv .ones x q) 0 (zero-choice p r (g₀ .un) none))
 
     wide-serials : greatestSerial gs < 256 ^ 8
     wide-serials = unfold greatestSerial segments in go (greatest-some (map (λ (g : Segment). g .serial) (map (segmentOf p v₀ 0) (remaining p v₀ 0))))
       where
-        one : (z : ℕ) → Has z (remaining p v₀ 0) → segmentOf p v₀ 0 z .serial < 256 ^ 8
+        one : (z : Seg) → Has z (remaining p v₀ 0) → segmentOf p v₀ 0 z .serial < 256 ^ 8
         one z j =
             let d0 : 0 < p .N = omega (arith, r .drives-low) in
             let t : g₀ .un 0 ≡ false = none 0 d0 in
-            let zb : z < p .Z = seg-low p r g₀ v₀ on₀ 0 (zero-choice p r (g₀ .un) none) z j in
-            let b : 0 < pointerAt v₀ 0 z = begun-on p r g₀ v₀ on₀ 0 (zero-choice p r (g₀ .un) none) z j 0 d0 (isIn-empty 0) in
-            let h : headerSerial (headerAt v₀ 0 z) ≡ g₀ .hd .ser z = head-serials p r g₀ v₀ on₀ 0 z d0 t zb b .0 in
-            let q : headerSerial (headerAt v₀ 0 z) < 256 ^ 8 = wide z (zone-bytes p r g₀ v₀ on₀ 0 z d0 t zb .serials (subst (λ (x : ℕ). 0 < x) (sym (pointer-is v₀ 0 z)) b) .0) in
+            let zb : Named p z = seg-low p r g₀ v₀ on₀ 0 (zero-choice p r (g₀ .un) none) z j in
+            let b : 0 < pointerAt v₀ 0 (zoneOn z 0) = begun-on p r g₀ v₀ on₀ 0 (zero-choice p r (g₀ .un) none) z j 0 d0 (isIn-empty 0) in
+            let h : headerSerial (headerAt v₀ 0 z) ≡ g₀ .hd .ser (z .name) = head-serials p r g₀ v₀ on₀ 0 z d0 t zb b .0 in
+            let q : headerSerial (headerAt v₀ 0 z) < 256 ^ 8 = wide z (zone-bytes p r g₀ v₀ on₀ 0 z d0 t zb .serials (subst (λ (x : ℕ). 0 < x) (sym (pointer-is v₀ 0 (zoneOn z 0))) b) .0) in
             subst (λ (x : ℕ). x < 256 ^ 8) (h ∙ sym (serial-ghost p r g₀ v₀ on₀ 0 (zero-choice p r (g₀ .un) none) z j)) q
           where
-            wide : (z : ℕ) → headerSerial (blockIn (zoneAt v₀ 0 z) 0 .block) < 256 ^ 8 → headerSerial (headerAt v₀ 0 z) < 256 ^ 8
-            wide z l = unfold headerAt chunkAt zoneOn in l
+            wide : (z : Seg) → headerSerial (blockIn (zoneAt v₀ 0 (zoneOn z 0)) 0 .block) < 256 ^ 8 → headerSerial (headerAt v₀ 0 z) < 256 ^ 8
+            wide z l = unfold headerAt chunkAt in l
 
         go : (greatest (map (λ (g : Segment). g .serial) (map (segmentOf p v₀ 0) (remaining p v₀ 0))) ≡ 0)
             ⊎ Has (greatest (map (λ (g : Segment). g .serial) (map (segmentOf p v₀ 0) (remaining p v₀ 0))))
@@ -190,7 +192,7 @@ module _ (p : Params) (r : Ranged p) (v₀ : View) (g₀ : Ghost) (a : List Val)
             map-has (λ (g : Segment). g .serial)
             (greatest (map (λ (g : Segment). g .serial) (map (segmentOf p v₀ 0) (remaining p v₀ 0))))
             (map (segmentOf p v₀ 0) (remaining p v₀ 0)) q in
-            let z : (z : ℕ) × Has z (remaining p v₀ 0) × (x .0 ≡ segmentOf p v₀ 0 z) =
+            let z : (z : Seg) × Has z (remaining p v₀ 0) × (x .0 ≡ segmentOf p v₀ 0 z) =
             map-has (segmentOf p v₀ 0) (x .0) (remaining p v₀ 0) (x .1) in
             subst (λ (y : ℕ). y < 256 ^ 8) (sym (x .2 ∙ ap (λ (g : Segment). g .serial) (z .2))) (one (z .0) (z .1))
 
@@ -218,11 +220,11 @@ module _ (p : Params) (r : Ranged p) (v₀ : View) (g₀ : Ghost) (a : List Val)
       top : serialTop p v < suc (greatestSerial gs)
       top = unfold serialTop in (let e : greatestSerial (segments p v 0) ≡ greatestSerial gs = ap greatestSerial same-gs in omega (arith, e))
 
-      empty? : (e : ℕ) → e < p .N → pointerAt v e (firstOr 0 (freeZones p gs)) ≡ 0
-      empty? e l = free-after p r g₀ v₀ on₀ none e (firstOr 0 (freeZones p gs)) l free?
+      empty? : (e : ℕ) → e < p .N → pointerAt v e (zoneOn (firstOr (seg 0) (freeSegs p gs)) e) ≡ 0
+      empty? e l = free-after p r g₀ v₀ on₀ none e (firstOr (seg 0) (freeSegs p gs)) l free?
 
-      wb : firstOr 0 (freeZones p gs) < p .Z
-      wb = free-has p r v₀ 0 (firstOr 0 (freeZones p gs)) free? .0
+      wb : Named p (firstOr (seg 0) (freeSegs p gs))
+      wb = free-has p r v₀ 0 (firstOr (seg 0) (freeSegs p gs)) free? .0
 
       unfull : length (counted p 0 (segmentOf p v 0 o)) < p .S
       unfull = not-whole (segmentOf p v 0 o) (go (isWhole p (segmentOf p v 0 o)) refl (ap (isRagged p) same-G ∙ rag))
@@ -247,22 +249,22 @@ module _ (p : Params) (r : Ranged p) (v₀ : View) (g₀ : Ghost) (a : List Val)
                   ≡ true
               reveal q = unfold isRagged in q
 
-      pub moved-both : Always (CutTo p r g₀ a s) v (rewriteStores p (segmentOf p v 0 o) (firstOr 0 (freeZones p gs)) (suc (greatestSerial gs)))
-          × RestartDone p r g₀ a s (storeAll storeView (rewriteStores p (segmentOf p v 0 o) (firstOr 0 (freeZones p gs)) (suc (greatestSerial gs))) v)
+      pub moved-both : Always (CutTo p r g₀ a s) v (rewriteStores p (segmentOf p v 0 o) (firstOr (seg 0) (freeSegs p gs)) (suc (greatestSerial gs)))
+          × RestartDone p r g₀ a s (storeAll storeView (rewriteStores p (segmentOf p v 0 o) (firstOr (seg 0) (freeSegs p gs)) (suc (greatestSerial gs))) v)
       moved-both = (
-        moved-cut p r v₀ g₀ a s m lk none o i un (firstOr 0 (freeZones p gs)) wb empty? (suc (greatestSerial gs)) next-low top unfull,
-        moved-done p r v₀ g₀ a s m lk none o i un (firstOr 0 (freeZones p gs)) wb empty? (suc (greatestSerial gs)) next-low top unfull,
+        moved-cut p r v₀ g₀ a s m lk none o i un (firstOr (seg 0) (freeSegs p gs)) wb empty? (suc (greatestSerial gs)) next-low top unfull,
+        moved-done p r v₀ g₀ a s m lk none o i un (firstOr (seg 0) (freeSegs p gs)) wb empty? (suc (greatestSerial gs)) next-low top unfull,
       )
 
-      moved-right : AllSound p v (rewriteStores p (segmentOf p v 0 o) (firstOr 0 (freeZones p gs)) (suc (greatestSerial gs)))
-      moved-right = rewrite-follows p r (withPr g₀ alone) v k o i (firstOr 0 (freeZones p gs)) wb empty? (suc (greatestSerial gs)) next-low .sound
+      moved-right : AllSound p v (rewriteStores p (segmentOf p v 0 o) (firstOr (seg 0) (freeSegs p gs)) (suc (greatestSerial gs)))
+      moved-right = rewrite-follows p r (withPr g₀ alone) v k o i (firstOr (seg 0) (freeSegs p gs)) wb empty? (suc (greatestSerial gs)) next-low .sound
 
     -- ---- what mending o comes to
     abbrev Both : List Store → Type 0
     Both l = Always (CutTo p r g₀ a s) v l × RestartDone p r g₀ a s (storeAll storeView l v)
 
     -- the others are full
-    others-full : (z : ℕ) → Has z (remaining p v 0) → segmentOf p v 0 z .full ≡ false → z ≡ o
+    others-full : (z : Seg) → Has z (remaining p v 0) → segmentOf p v 0 z .full ≡ false → z ≡ o
     others-full z j e = one-of p r (withPr g₀ alone) v k z o j i e un
 
     nothing : InOrder p v → Both []
@@ -306,10 +308,10 @@ module _ (p : Params) (r : Ranged p) (v₀ : View) (g₀ : Ghost) (a : List Val)
         is : (b c : Bool) → isWhole p (segmentOf p v 0 o) ≡ b → isRagged p (segmentOf p v 0 o) ≡ c
             → mendStores p gs (segmentOf p v 0 o)
             ≡ cond b (missingFooters p (segmentOf p v 0 o))
-            (cond c (rewriteStores p (segmentOf p v 0 o) (firstOr 0 (freeZones p gs)) (suc (greatestSerial gs))) [])
+            (cond c (rewriteStores p (segmentOf p v 0 o) (firstOr (seg 0) (freeSegs p gs)) (suc (greatestSerial gs))) [])
         is b c e f =
             unfold mendStores in ap₂ (λ (x y : Bool). cond x (missingFooters p (segmentOf p v 0 o))
-            (cond y (rewriteStores p (segmentOf p v 0 o) (firstOr 0 (freeZones p gs)) (suc (greatestSerial gs))) [])) e f
+            (cond y (rewriteStores p (segmentOf p v 0 o) (firstOr (seg 0) (freeSegs p gs)) (suc (greatestSerial gs))) [])) e f
 
         go :
             (b : Bool)
@@ -327,10 +329,10 @@ module _ (p : Params) (r : Ranged p) (v₀ : View) (g₀ : Ghost) (a : List Val)
         is : (b c : Bool) → isWhole p (segmentOf p v 0 o) ≡ b → isRagged p (segmentOf p v 0 o) ≡ c
             → mendStores p gs (segmentOf p v 0 o)
             ≡ cond b (missingFooters p (segmentOf p v 0 o))
-            (cond c (rewriteStores p (segmentOf p v 0 o) (firstOr 0 (freeZones p gs)) (suc (greatestSerial gs))) [])
+            (cond c (rewriteStores p (segmentOf p v 0 o) (firstOr (seg 0) (freeSegs p gs)) (suc (greatestSerial gs))) [])
         is b c e f =
             unfold mendStores in ap₂ (λ (x y : Bool). cond x (missingFooters p (segmentOf p v 0 o))
-            (cond y (rewriteStores p (segmentOf p v 0 o) (firstOr 0 (freeZones p gs)) (suc (greatestSerial gs))) [])) e f
+            (cond y (rewriteStores p (segmentOf p v 0 o) (firstOr (seg 0) (freeSegs p gs)) (suc (greatestSerial gs))) [])) e f
 
         go : (b : Bool) → isWhole p (segmentOf p v 0 o) ≡ b → (c : Bool) → isRagged p (segmentOf p v 0 o) ≡ c → Both (mendStores p gs (segmentOf p v 0 o))
         go true e c f = subst Both (sym (is true c e f)) (feet-both e)
@@ -356,16 +358,16 @@ module _ (p : Params) (r : Ranged p) (v₀ : View) (g₀ : Ghost) (a : List Val)
       short : length (unsealed gs) ≤ 1
       short = one-unsealed p r g₀ v₀ on₀ (λ x q. lk .inv .ones x q) 0 (zero-choice p r (g₀ .un) none)
 
-      from : (q : Segment) → Has q (unsealed gs) → (z : ℕ) × Has z (remaining p v₀ 0) × (q ≡ segmentOf p v₀ 0 z) × (segmentOf p v₀ 0 z .full ≡ false)
+      from : (q : Segment) → Has q (unsealed gs) → (z : Seg) × Has z (remaining p v₀ 0) × (q ≡ segmentOf p v₀ 0 z) × (segmentOf p v₀ 0 z .full ≡ false)
       from q i = unfold unsealed segments in go (keep-has (λ (g : Segment). not (g .full)) q (map (segmentOf p v₀ 0) (remaining p v₀ 0)) (reveal i))
         where
           reveal : Has q (unsealed gs) → Has q (keep (λ (g : Segment). not (g .full)) (map (segmentOf p v₀ 0) (remaining p v₀ 0)))
           reveal i = unfold unsealed segments in i
 
           go : Has q (map (segmentOf p v₀ 0) (remaining p v₀ 0)) × (not (q .full) ≡ true)
-              → (z : ℕ) × Has z (remaining p v₀ 0) × (q ≡ segmentOf p v₀ 0 z) × (segmentOf p v₀ 0 z .full ≡ false)
+              → (z : Seg) × Has z (remaining p v₀ 0) × (q ≡ segmentOf p v₀ 0 z) × (segmentOf p v₀ 0 z .full ≡ false)
           go (h, f) =
-              let b : (z : ℕ) × Has z (remaining p v₀ 0) × (q ≡ segmentOf p v₀ 0 z) = map-has (segmentOf p v₀ 0) q (remaining p v₀ 0) h in
+              let b : (z : Seg) × Has z (remaining p v₀ 0) × (q ≡ segmentOf p v₀ 0 z) = map-has (segmentOf p v₀ 0) q (remaining p v₀ 0) h in
               (b .0, b .1, b .2, ap (λ (x : Segment). x .full) (sym (b .2)) ∙ not-true (q .full) f)
 
       go : (l : List Segment) → unsealed gs ≡ l → Whole? (dropStores p gs ++ flat (mendStores p gs) l)
@@ -378,11 +380,11 @@ module _ (p : Params) (r : Ranged p) (v₀ : View) (g₀ : Ghost) (a : List Val)
           none-open : InOrder p v
           none-open z j f = absurd (subst (λ (x : List Segment). Has (segmentOf p v 0 z) x) (ap unsealed same-gs ∙ e) (has-us p r (withPr g₀ alone) v k z j f))
       go (q ∷ []) e =
-          let z : (z : ℕ) × Has z (remaining p v₀ 0) × (q ≡ segmentOf p v₀ 0 z) × (segmentOf p v₀ 0 z .full ≡ false) =
+          let z : (z : Seg) × Has z (remaining p v₀ 0) × (q ≡ segmentOf p v₀ 0 z) × (segmentOf p v₀ 0 z .full ≡ false) =
           from q (subst (λ (x : List Segment). Has q x) (sym e) (inl refl)) in
           subst (λ (x : List Store). Whole? (dropStores p gs ++ x)) (single q (z .0) (z .2)) (join (mendStores p gs (segmentOf p v₀ 0 (z .0))) (mend-both (z .0) (z .1) (z .3)))
         where
-          single : (q : Segment) (z : ℕ) → q ≡ segmentOf p v₀ 0 z → mendStores p gs (segmentOf p v₀ 0 z) ≡ flat (mendStores p gs) (q ∷ [])
+          single : (q : Segment) (z : Seg) → q ≡ segmentOf p v₀ 0 z → mendStores p gs (segmentOf p v₀ 0 z) ≡ flat (mendStores p gs) (q ∷ [])
           single q z h = unfold flat in (ap (mendStores p gs) (sym h) ∙ sym (append-nil (mendStores p gs q)))
       go (q ∷ (x ∷ l)) e = absurd (let y : length (unsealed gs) ≡ suc (suc (length l)) = ap length e in let j : ⊥ = omega (arith, short, y) in j)
 
@@ -396,16 +398,16 @@ module _ (p : Params) (r : Ranged p) (v₀ : View) (g₀ : Ghost) (a : List Val)
       short : length (unsealed gs) ≤ 1
       short = one-unsealed p r g₀ v₀ on₀ (λ x q. lk .inv .ones x q) 0 (zero-choice p r (g₀ .un) none)
 
-      from : (q : Segment) → Has q (unsealed gs) → (z : ℕ) × Has z (remaining p v₀ 0) × (q ≡ segmentOf p v₀ 0 z) × (segmentOf p v₀ 0 z .full ≡ false)
+      from : (q : Segment) → Has q (unsealed gs) → (z : Seg) × Has z (remaining p v₀ 0) × (q ≡ segmentOf p v₀ 0 z) × (segmentOf p v₀ 0 z .full ≡ false)
       from q i = unfold unsealed segments in go (keep-has (λ (g : Segment). not (g .full)) q (map (segmentOf p v₀ 0) (remaining p v₀ 0)) (reveal i))
         where
           reveal : Has q (unsealed gs) → Has q (keep (λ (g : Segment). not (g .full)) (map (segmentOf p v₀ 0) (remaining p v₀ 0)))
           reveal i = unfold unsealed segments in i
 
           go : Has q (map (segmentOf p v₀ 0) (remaining p v₀ 0)) × (not (q .full) ≡ true)
-              → (z : ℕ) × Has z (remaining p v₀ 0) × (q ≡ segmentOf p v₀ 0 z) × (segmentOf p v₀ 0 z .full ≡ false)
+              → (z : Seg) × Has z (remaining p v₀ 0) × (q ≡ segmentOf p v₀ 0 z) × (segmentOf p v₀ 0 z .full ≡ false)
           go (h, f) =
-              let b : (z : ℕ) × Has z (remaining p v₀ 0) × (q ≡ segmentOf p v₀ 0 z) = map-has (segmentOf p v₀ 0) q (remaining p v₀ 0) h in
+              let b : (z : Seg) × Has z (remaining p v₀ 0) × (q ≡ segmentOf p v₀ 0 z) = map-has (segmentOf p v₀ 0) q (remaining p v₀ 0) h in
               (b .0, b .1, b .2, ap (λ (x : Segment). x .full) (sym (b .2)) ∙ not-true (q .full) f)
 
       dropped : (l : List Store) → AllSound p v l → AllSound p v₀ (dropStores p gs ++ l)
@@ -414,11 +416,11 @@ module _ (p : Params) (r : Ranged p) (v₀ : View) (g₀ : Ghost) (a : List Val)
       go : (l : List Segment) → unsealed gs ≡ l → AllSound p v₀ (dropStores p gs ++ flat (mendStores p gs) l)
       go [] e = dropped (flat (mendStores p gs) []) (unfold flat in tt)
       go (q ∷ []) e =
-          let z : (z : ℕ) × Has z (remaining p v₀ 0) × (q ≡ segmentOf p v₀ 0 z) × (segmentOf p v₀ 0 z .full ≡ false) =
+          let z : (z : Seg) × Has z (remaining p v₀ 0) × (q ≡ segmentOf p v₀ 0 z) × (segmentOf p v₀ 0 z .full ≡ false) =
           from q (subst (λ (x : List Segment). Has q x) (sym e) (inl refl)) in
           subst (λ (x : List Store). AllSound p v₀ (dropStores p gs ++ x)) (single q (z .0) (z .2))
           (dropped (mendStores p gs (segmentOf p v₀ 0 (z .0))) (mended-right (z .0) (z .1) (z .3)))
         where
-          single : (q : Segment) (z : ℕ) → q ≡ segmentOf p v₀ 0 z → mendStores p gs (segmentOf p v₀ 0 z) ≡ flat (mendStores p gs) (q ∷ [])
+          single : (q : Segment) (z : Seg) → q ≡ segmentOf p v₀ 0 z → mendStores p gs (segmentOf p v₀ 0 z) ≡ flat (mendStores p gs) (q ∷ [])
           single q z h = unfold flat in (ap (mendStores p gs) (sym h) ∙ sym (append-nil (mendStores p gs q)))
       go (q ∷ (x ∷ l)) e = absurd (let y : length (unsealed gs) ≡ suc (suc (length l)) = ap length e in let j : ⊥ = omega (arith, short, y) in j)

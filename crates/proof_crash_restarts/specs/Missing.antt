@@ -6,7 +6,7 @@ use mathlib.Core.Logic.{inl, inr}
 use Prim.Native.Nat.{ℕ, max, _≤_, _<_}
 use native.Mathlib.Omega.{arith}
 use Rattle.spec.specs.declared.Params.{Params}
-use Rattle.spec.specs.Drives.{Zone, View, zoneAt}
+use Rattle.spec.specs.Drives.{Zone, View, zoneAt, seg, zoneOn}
 use Rattle.spec.specs.Lists.{isIn}
 use Rattle.law_basic.specs.Geometry.{Ranged}
 use Rattle.proof_crash_machine.specs.Distrust.{distrust}
@@ -41,7 +41,7 @@ module _ (p : Params) (r : Ranged p) (v u : View) (g : Ghost) (a : List Val) (s 
     (m : ℕ) (lost : (d : ℕ) × (d < p .N) × (isIn m d ≡ true)) (ch : Choice (parOf p r) (g .un) (isIn m))
     (sh : Shape p u) (same : (e y : ℕ) → e < p .N → isIn m e ≡ false → zoneAt u e y ≡ zoneAt v e y) where
   items-same : (e y : ℕ) → e < p .N → isIn m e ≡ false → itemsIn p v e y ≡ itemsIn p u e y
-  items-same e y l n = items-in p v e y ∙ ap (itemsOf p) (sym (same e y l n)) ∙ sym (items-in p u e y)
+  items-same e y l n = items-in p v e (seg y) ∙ ap (itemsOf p) (sym (same e (zoneOn (seg y) e) l n)) ∙ sym (items-in p u e (seg y))
 
   -- the drives as this restart sees them
   pub missing-on : OnDrives p r (withUn g (isIn m)) u

@@ -1,17 +1,17 @@
 -- Rising lists are known by their elements; an injective map into fewer numbers there is none. Assumes nothing.
-use mathlib.Core.Path.{_≡_, refl, sym, ap, ap₂}
-use mathlib.Core.List.{List, [], _∷_, _++_}
+use mathlib.Core.Path.{_≡_, refl, sym, ap, ap₂, _∙_, subst}
+use mathlib.Core.List.{List, [], _∷_, _++_, map}
 use mathlib.Core.Logic.{inl, inr, ⊎-elim}
 use Prim.Native.Nat.{ℕ}
 use native.Mathlib.Omega.{arith}
 use Rattle.spec.specs.declared.Params.{Params}
-use Rattle.spec.specs.Drives.{Zone, View, zoneAt, pointerAt, Store, storeView, storeAll}
+use Rattle.spec.specs.Drives.{Zone, View, zoneAt, pointerAt, Store, storeView, storeAll, Seg, seg}
 use Rattle.spec.specs.Lists.{flat}
 use Rattle.proof_crash_machine.specs.Memory.{Ok}
 use Rattle.proof_crash_machine.specs.Rest.{InS}
 use Rattle.proof_crash_machine.specs.View.{ItemStore, AllS}
-use Rattle.proof_crash_items.specs.Member.{Has}
-use Rattle.proof_crash_items.specs.Refuse.{Rising}
+use Rattle.proof_crash_items.specs.Member.{Has, map-has, has-map}
+use Rattle.proof_crash_items.specs.Refuse.{Rising, segNames, segs-names}
 use Rattle.proof_crash_items.specs.Sound.{Follows, follows-nil, follows-append}
 
 -- equal elements, equal lists
@@ -30,6 +30,15 @@ rising-same (a ∷ l) (b ∷ k) r q f h = ap₂ (λ (x : ℕ) (y : List ℕ). x 
     bwd : (x : ℕ) → Has x k → Has x l
     bwd x i = ⊎-elim (λ (e : x ≡ a). absurd (let w : ⊥ = omega (arith, q .0 x i, e, first) in w)) (λ j. j) (h x (inr i))
 
+-- segments too, by their names
+pub segs-same : (l k : List Seg) → Rising (segNames l) → Rising (segNames k) → ((z : Seg) → Has z l → Has z k) → ((z : Seg) → Has z k → Has z l) → l ≡ k
+segs-same l k r q f h = sym (segs-names l) ∙ ap (map seg) (rising-same (segNames l) (segNames k) r q (into l k f) (into k l h)) ∙ segs-names k
+  where
+    into : (l k : List Seg) → ((z : Seg) → Has z l → Has z k) → (n : ℕ) → Has n (segNames l) → Has n (segNames k)
+    into l k f n i =
+        let z : (z : Seg) × Has z l × (n ≡ z .name) = map-has (λ (z : Seg). z .name) n l i in
+        subst (λ (x : ℕ). Has x (segNames k)) (sym (z .2)) (has-map (λ (z : Seg). z .name) k (z .0) (f (z .0) (z .1)))
+
 -- ---- lists of stores
 
 pub all-S : (Ok : ItemStore → Type 0) (ss : List ItemStore) → ((s : ItemStore) → Has s ss → Ok s) → AllS Ok ss
@@ -42,7 +51,8 @@ in-S s (t ∷ ss) (inl e) = inl e
 in-S s (t ∷ ss) (inr i) = inr (in-S s ss i)
 
 -- runs of runs
-pub follows-flat : (p : Params) (f : ℕ → List Store) (h : ℕ → List ItemStore) (l : List ℕ) → ((v : View) (z : ℕ) → Has z l → Follows p v (f z) (h z)) → (v : View) → Follows p v (flat f l) (flat h l)
+pub follows-flat : {A : Type 0} (p : Params) (f : A → List Store) (h : A → List ItemStore) (l : List A) → ((v : View) (z : A) → Has z l → Follows p v (f z) (h z)) → (v : View)
+    → Follows p v (flat f l) (flat h l)
 unfolding flat
 follows-flat p f h [] k v = follows-nil p v
 follows-flat p f h (z ∷ l) k v =

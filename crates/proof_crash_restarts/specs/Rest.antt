@@ -1,19 +1,19 @@
 -- After the resets of a healthy restart: the same segments remain, all that is used does, and no pair is left. Assumes nothing.
 use mathlib.Core.Path.{_≡_, refl, sym, ap, ap₂, _∙_, subst}
 use mathlib.Core.List.{List, [], _∷_, map}
-use mathlib.Core.Logic.{inl, inr, ⊎-elim}
+use mathlib.Core.Logic.{inl, inr}
 use Prim.Native.Nat.{ℕ, _<_}
-use native.Mathlib.Decide.{ℕ-discrete}
 use native.Mathlib.Omega.{arith}
 use lib.ListN.{length}
 use Rattle.spec.specs.declared.Params.{Params}
-use Rattle.spec.specs.Drives.{View, zoneAt, pointerAt, storeView, storeAll}
+use Rattle.spec.specs.Drives.{View, zoneAt, pointerAt, storeView, storeAll, Seg, zoneOn}
 use Rattle.spec.specs.Lists.Opt.{none}
-use Rattle.spec.specs.Restart.{freeZones, dropStores}
+use Rattle.spec.specs.Restart.{dropStores, freeSegs}
 use Rattle.spec.specs.Segments.{remaining, Segment, segmentOf, segments}
 use Rattle.spec.specs.Lists.{isIn}
 use Rattle.law_basic.specs.Geometry.{Ranged}
 use Rattle.law_basic.specs.Mask.{isIn-empty}
+use Rattle.law_basic.specs.Segs.{Named}
 use Rattle.proof_crash_machine.specs.Drop.{dropped-end, settle-facts}
 use Rattle.proof_crash_machine.specs.Facts.Pair.{alone}
 use Rattle.proof_crash_machine.specs.Facts.{Ghost, R, Used, Facts, used, None}
@@ -24,12 +24,12 @@ use Rattle.proof_crash_items.specs.Items.{itemsOf, itemsIn, items-in}
 use Rattle.proof_crash_items.specs.Member.{Has}
 use Rattle.proof_crash_items.specs.Ranges.{parOf}
 use Rattle.proof_crash_items.specs.Refuse.{remaining-rising}
-use Rattle.proof_crash_items.specs.Segs.{OnDrives, zone-len, has-remaining, remaining-has}
+use Rattle.proof_crash_items.specs.Segs.{OnDrives, zone-len, in-segs?, has-remaining, remaining-has}
 use Rattle.proof_crash_items.specs.Sound.{Follows, follows-all}
 use Rattle.proof_crash_items.specs.Named.{zero-choice, none-out, zero-few}
 use Rattle.proof_crash_restarts.specs.Drops.{dropItems, all-other, all-zero, free-has, has-free, drops-follow, dropping}
 use Rattle.proof_crash_restarts.specs.Link.{shape-after, bytes-after}
-use Rattle.proof_crash_restarts.specs.Order.{rising-same}
+use Rattle.proof_crash_restarts.specs.Order.{segs-same}
 use Rattle.proof_crash_restarts.specs.Same.{segment-same, R-none-any}
 
 -- drives with the facts, none missing, no pair, where all that is used remains
@@ -43,13 +43,14 @@ module _ (p : Params) (r : Ranged p) (g : Ghost) (v : View) (k : SettledOn p r g
   pub far-off : None (parOf p r) (isIn 0)
   far-off = none-out p r
 
-  pub settled-remains : (z : ℕ) → Used (parOf p r) (g .un) (itemsIn p v) z → Has z (remaining p v 0)
-  settled-remains z u = has-remaining p r g v (k .on) 0 (zero-choice p r (g .un) (k .none)) z (R-none-any (parOf p r) (g .hd) (itemsIn p v) (g .un) (isIn 0) (k .none) far-off z (k .rest z u))
+  pub settled-remains : (z : Seg) → Used (parOf p r) (g .un) (itemsIn p v) (z .name) → Has z (remaining p v 0)
+  settled-remains z u =
+      has-remaining p r g v (k .on) 0 (zero-choice p r (g .un) (k .none)) z (R-none-any (parOf p r) (g .hd) (itemsIn p v) (g .un) (isIn 0) (k .none) far-off (z .name) (k .rest (z .name) u))
 
-  pub settled-used : (z : ℕ) → Has z (remaining p v 0) → (z < p .Z) × Used (parOf p r) (g .un) (itemsIn p v) z
+  pub settled-used : (z : Seg) → Has z (remaining p v 0) → Named p z × Used (parOf p r) (g .un) (itemsIn p v) (z .name)
   settled-used z i =
-      let a : (z < p .Z) × R (parOf p r) (g .hd) (itemsIn p v) (isIn 0) z = remaining-has p r g v (k .on) 0 (zero-choice p r (g .un) (k .none)) z i in
-      (a .0, used (parOf p r) g (itemsIn p v) (isIn 0) z (zero-choice p r (g .un) (k .none)) (a .1 .left))
+      let a : Named p z × R (parOf p r) (g .hd) (itemsIn p v) (isIn 0) (z .name) = remaining-has p r g v (k .on) 0 (zero-choice p r (g .un) (k .none)) z i in
+      (a .0, used (parOf p r) g (itemsIn p v) (isIn 0) (z .name) (zero-choice p r (g .un) (k .none)) (a .1 .left))
 
 module _ (p : Params) (r : Ranged p) (g : Ghost) (v : View) (k : OnDrives p r g v) (none : None (parOf p r) (g .un)) where
   abbrev v₁ : View
@@ -79,56 +80,48 @@ module _ (p : Params) (r : Ranged p) (g : Ghost) (v : View) (k : OnDrives p r g 
         (rest-of (parOf p r) g (itemsIn p v) (k .facts) none (dropItems p (segments p v 0)) (dropping p r g v k none .are) (dropping p r g v k none .every));
   }
 
-  low-free : (z : ℕ) → Has z (freeZones p (segments p v 0)) → z < p .Z
+  low-free : (z : Seg) → Has z (freeSegs p (segments p v 0)) → Named p z
   low-free z i = free-has p r v 0 z i .0
 
-  -- zones that remain are untouched, the others are empty
-  pub kept-zone-after : (d z : ℕ) → Has z (remaining p v 0) → zoneAt v₁ d z ≡ zoneAt v d z
+  -- zones of segments that remain are untouched, those of the others are empty
+  pub kept-zone-after : (d : ℕ) (z : Seg) → Has z (remaining p v 0) → zoneAt v₁ d (zoneOn z d) ≡ zoneAt v d (zoneOn z d)
   unfolding dropStores
-  kept-zone-after d z i = all-other p r (freeZones p (segments p v 0)) low-free v (k .shape) d z (λ j. free-has p r v 0 z j .1 i)
+  kept-zone-after d z i = all-other p r (freeSegs p (segments p v 0)) low-free v (k .shape) d z (λ j. free-has p r v 0 z j .1 i)
 
-  pub free-after : (d z : ℕ) → d < p .N → Has z (freeZones p (segments p v 0)) → pointerAt v₁ d z ≡ 0
+  pub free-after : (d : ℕ) (z : Seg) → d < p .N → Has z (freeSegs p (segments p v 0)) → pointerAt v₁ d (zoneOn z d) ≡ 0
   unfolding dropStores
-  free-after d z l i = all-zero p r (freeZones p (segments p v 0)) low-free v (k .shape) d z l i
+  free-after d z l i = all-zero p r (freeSegs p (segments p v 0)) low-free v (k .shape) d z l i
 
   -- the same segments remain
-  same-fwd : (z : ℕ) → Has z (remaining p v 0) → Has z (remaining p v₁ 0)
+  same-fwd : (z : Seg) → Has z (remaining p v 0) → Has z (remaining p v₁ 0)
   same-fwd z i = settled-remains p r (withPr g alone) v₁ after-settled z (0, (omega (arith, r .drives-low), none 0 (omega (arith, r .drives-low))), begun)
     where
-      a : (z < p .Z) × R (parOf p r) (g .hd) (itemsIn p v) (isIn 0) z
+      a : Named p z × R (parOf p r) (g .hd) (itemsIn p v) (isIn 0) (z .name)
       a = remaining-has p r g v k 0 (zero-choice p r (g .un) none) z i
 
-      begun : 0 < length (itemsIn p v₁ 0 z)
+      begun : 0 < length (itemsIn p v₁ 0 (z .name))
       begun = subst (λ (x : List Item). 0 < length x) (items-in p v 0 z ∙ ap (itemsOf p) (sym (kept-zone-after 0 z i)) ∙ sym (items-in p v₁ 0 z))
           (a .1 .left 0 (omega (arith, r .drives-low)) (isIn-empty 0))
 
-  same-bwd : (z : ℕ) → Has z (remaining p v₁ 0) → Has z (remaining p v 0)
-  same-bwd z i = go (in? z (remaining p v 0))
+  same-bwd : (z : Seg) → Has z (remaining p v₁ 0) → Has z (remaining p v 0)
+  same-bwd z i = go (in-segs? z (remaining p v 0))
     where
-      in? : (z : ℕ) (l : List ℕ) → Dec (Has z l)
-      in? z [] = no (λ i. i)
-      in? z (y ∷ l) = two (ℕ-discrete z y) (in? z l)
-        where
-          two : Dec (z ≡ y) → Dec (Has z l) → Dec (Has z (y ∷ l))
-          two (yes e) q = yes (inl e)
-          two (no e) (yes q) = yes (inr q)
-          two (no e) (no q) = no (λ i. ⊎-elim (λ (w : z ≡ y). e w) (λ (w : Has z l). q w) i)
-
-      a : (z < p .Z) × R (parOf p r) (g .hd) (itemsIn p v₁) (isIn 0) z
+      a : Named p z × R (parOf p r) (g .hd) (itemsIn p v₁) (isIn 0) (z .name)
       a = remaining-has p r (withPr g alone) v₁ (after-settled .on) 0 (zero-choice p r (g .un) none) z i
 
       go : Dec (Has z (remaining p v 0)) → Has z (remaining p v 0)
       go (yes q) = q
       go (no q) =
-          let f : pointerAt v₁ 0 z ≡ 0 = free-after 0 z (omega (arith, r .drives-low)) (has-free p r v 0 z (a .0) q) in
-          let n : length (itemsIn p v₁ 0 z) ≡ pointerAt v₁ 0 z = zone-len p r (withPr g alone) v₁ (after-settled .on) 0 z (omega (arith, r .drives-low)) (none 0 (omega (arith, r .drives-low)))
+          let f : pointerAt v₁ 0 (zoneOn z 0) ≡ 0 = free-after 0 z (omega (arith, r .drives-low)) (has-free p r v 0 z (a .0) q) in
+          let n : length (itemsIn p v₁ 0 (z .name)) ≡ pointerAt v₁ 0 (zoneOn z 0) =
+          zone-len p r (withPr g alone) v₁ (after-settled .on) 0 z (omega (arith, r .drives-low)) (none 0 (omega (arith, r .drives-low)))
           (a .0) in
           absurd (let w : ⊥ = omega (arith, f, n, a .1 .left 0 (omega (arith, r .drives-low)) (isIn-empty 0)) in w)
 
   pub remaining-same : remaining p v₁ 0 ≡ remaining p v 0
-  remaining-same = rising-same (remaining p v₁ 0) (remaining p v 0) (remaining-rising p v₁ 0) (remaining-rising p v 0) same-bwd same-fwd
+  remaining-same = segs-same (remaining p v₁ 0) (remaining p v 0) (remaining-rising p v₁ 0) (remaining-rising p v 0) same-bwd same-fwd
 
-  map-has-same : (l : List ℕ) → ((z : ℕ) → Has z l → Has z (remaining p v 0)) → map (segmentOf p v₁ 0) l ≡ map (segmentOf p v 0) l
+  map-has-same : (l : List Seg) → ((z : Seg) → Has z l → Has z (remaining p v 0)) → map (segmentOf p v₁ 0) l ≡ map (segmentOf p v 0) l
   map-has-same [] h = refl
   map-has-same (z ∷ l) h =
       ap₂ (λ (x : Segment) (y : List Segment). x ∷ y) (segment-same p r v v₁ 0 z (zero-few p r) (λ d b. kept-zone-after d z (h z (inl refl)))) (map-has-same l (λ y i. h y (inr i)))

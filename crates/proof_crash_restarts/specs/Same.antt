@@ -8,7 +8,7 @@ use native.Mathlib.Omega.{arith}
 use lib.Dec.{eqb}
 use lib.ListN.{getD}
 use Rattle.spec.specs.declared.Params.{Params}
-use Rattle.spec.specs.Drives.{noChunk, Zone, noZone, View, zoneAt, pointerAt, chunkAt, zoneOn, sealedIn}
+use Rattle.spec.specs.Drives.{noChunk, Zone, noZone, View, zoneAt, pointerAt, chunkAt, Seg, zoneOn, sealedIn}
 use Rattle.spec.specs.Layout.{headerSerial, headerCopied}
 use Rattle.spec.specs.Lists.Opt.{some}
 use Rattle.spec.specs.Lists.{below, isIn}
@@ -24,25 +24,25 @@ use Rattle.proof_crash_machine.specs.Mask.{Mask, tf, count}
 use Rattle.proof_crash_items.specs.Named.{low-drive}
 use Rattle.proof_crash_items.specs.Ranges.{parities}
 
-module _ (p : Params) (r : Ranged p) (v u : View) (m z : ℕ) (few : count (p .N) (isIn m) ≤ parities p) (same : (d : ℕ) → d < p .N → zoneAt u d z ≡ zoneAt v d z) where
-  pub pointer-same : (d : ℕ) → d < p .N → pointerAt u d z ≡ pointerAt v d z
+module _ (p : Params) (r : Ranged p) (v u : View) (m : ℕ) (z : Seg) (few : count (p .N) (isIn m) ≤ parities p) (same : (d : ℕ) → d < p .N → zoneAt u d (zoneOn z d) ≡ zoneAt v d (zoneOn z d)) where
+  pub pointer-same : (d : ℕ) → d < p .N → pointerAt u d (zoneOn z d) ≡ pointerAt v d (zoneOn z d)
   unfolding pointerAt
   pointer-same d l = ap (λ (q : Zone). q .pointer) (same d l)
 
   pub sealed-same : sealedIn p u m z ≡ sealedIn p v m z
-  unfolding sealedIn zoneOn present drivesOf below
-  sealed-same = all-keep-same (λ d. not (isIn m d)) (λ d. eqb (pointerAt u d z) (capacity p)) (λ d. eqb (pointerAt v d z) (capacity p)) 0 (p .N)
+  unfolding sealedIn present drivesOf below
+  sealed-same = all-keep-same (λ d. not (isIn m d)) (λ d. eqb (pointerAt u d (zoneOn z d)) (capacity p)) (λ d. eqb (pointerAt v d (zoneOn z d)) (capacity p)) 0 (p .N)
       (λ d a l. ap (λ (x : ℕ). eqb x (capacity p)) (pointer-same d (omega arith)))
 
   pub header-same : headerAt u (lowDrive p m) z ≡ headerAt v (lowDrive p m) z
-  unfolding headerAt chunkAt zoneOn
+  unfolding headerAt chunkAt
   header-same = ap (λ (q : Zone). getD (q .blocks) 0 noChunk .block) (same (lowDrive p m) (low-drive p m r few .0))
 
-  zones-same : map (λ d. zoneAt u d z) (below (p .N)) ≡ map (λ d. zoneAt v d z) (below (p .N))
-  zones-same = map-below-same (λ d. zoneAt u d z) (λ d. zoneAt v d z) (p .N) same
+  zones-same : map (λ d. zoneAt u d (zoneOn z d)) (below (p .N)) ≡ map (λ d. zoneAt v d (zoneOn z d)) (below (p .N))
+  zones-same = map-below-same (λ d. zoneAt u d (zoneOn z d)) (λ d. zoneAt v d (zoneOn z d)) (p .N) same
 
   pub segment-same : segmentOf p u m z ≡ segmentOf p v m z
-  unfolding segmentOf drivesOf zoneOn
+  unfolding segmentOf drivesOf
   segment-same = λ j. record {
     seg = z;
     serial = headerSerial (header-same j);

@@ -14,7 +14,7 @@ use Rattle.spec.specs.Answers.{kind, isRefused}
 use Rattle.spec.specs.Calls.{After, firstRefusal}
 use Rattle.spec.specs.Counts.{lastCount}
 use Rattle.spec.specs.Lists.Opt.{none, some}
-use Rattle.spec.specs.Drives.{View, pointerAt, Disk, zoneOn, segmentNumbers}
+use Rattle.spec.specs.Drives.{View, pointerAt, Disk, Seg, zoneOn, allSegs}
 use Rattle.spec.specs.Engine.{lentOk, callDisk, Lent, Left, lentDisk, lentMemory, leftBy, callBytes}
 use Rattle.spec.specs.Engine.Call.{restart}
 use Rattle.spec.specs.Faults.{pointerFaults, segmentFault, segmentFaults}
@@ -22,10 +22,11 @@ use Rattle.spec.specs.History.{emptyDisk}
 use Rattle.spec.specs.Lists.{below, all, any, keep, isNil, isIn}
 use Rattle.spec.specs.Memory.{Memory, stateLen}
 use Rattle.spec.specs.Params.{inRange, capacity, named, present}
-use Rattle.spec.specs.Restart.{freeZones, isRagged, namesDrive, rewrites, restartPlan}
+use Rattle.spec.specs.Restart.{freeSegs, isRagged, namesDrive, rewrites, restartPlan}
 use Rattle.spec.specs.Segments.{lowDrive, leftBy1, isCopy, remaining, Segment, segmentOf, segments, greatestSerial, unsealed}
 use Rattle.law_basic.specs.Geometry.{Ranged, ranged}
 use Rattle.law_basic.specs.Ranges.{and-left, and-right}
+use Rattle.law_basic.specs.Segs.{Named, zone-on-lt}
 use Rattle.law_views.specs.Views.{seen}
 use Rattle.law_lent.specs.Hosts.{bytes-long}
 use Rattle.spec_demands.specs.Histories.{lentInOrder}
@@ -33,7 +34,7 @@ use Rattle.proof_crash_items.specs.Named.{is-named}
 use Rattle.proof_crash_items.specs.Start.{start-pointer}
 use Rattle.law_checks.specs.Passed.{restart-goes}
 use Rattle.law_drives.specs.Members.{keep-nothing, in-none, below-in, all-in}
-use Rattle.law_drives.specs.Segs.{in-present, present-in}
+use Rattle.law_drives.specs.Segs.{in-present, present-in, segs-in}
 use Rattle.proof_tables.specs.Outcomes.{EndedAs}
 use Rattle.proof_tables.specs.Outcomes.EndedAs.{ended-refused, ended-done, ended-cut}
 use Rattle.proof_tables.specs.Starting.{startChecks, startPlan}
@@ -55,22 +56,22 @@ module _ (p : Params) (rg : inRange p ≡ true) (k : Disk) (e : emptyDisk p k �
       go (yes q) = (1, omega (arith, r .drives-low), is-named p r d 1 (omega (arith, r .drives-low)) ∙ ne-eqb 1 d (λ (x : 1 ≡ d). let z : ⊥ = omega (arith, x, q) in z))
 
   none-left : leftBy1 p v (named d) ≡ []
-  unfolding leftBy1 segmentNumbers zoneOn
-  none-left = keep-nothing (λ g. all (λ x. not (eqb (pointerAt v x g) 0)) (present p (named d))) (below (p .Z)) (λ g m. no! g (below-in (p .Z) g m))
+  unfolding leftBy1
+  none-left = keep-nothing (λ g. all (λ x. not (eqb (pointerAt v x (zoneOn g x)) 0)) (present p (named d))) (allSegs p) (λ g m. no! g (segs-in p g m))
     where
-      no! : (g : ℕ) → g < p .Z → all (λ x. not (eqb (pointerAt v x g) 0)) (present p (named d)) ≡ false
-      no! g hg = go (all (λ x. not (eqb (pointerAt v x g) 0)) (present p (named d))) refl
+      no! : (g : Seg) → Named p g → all (λ x. not (eqb (pointerAt v x (zoneOn g x)) 0)) (present p (named d)) ≡ false
+      no! g hg = go (all (λ x. not (eqb (pointerAt v x (zoneOn g x)) 0)) (present p (named d))) refl
         where
-          go : (b : Bool) → all (λ x. not (eqb (pointerAt v x g) 0)) (present p (named d)) ≡ b → b ≡ false
+          go : (b : Bool) → all (λ x. not (eqb (pointerAt v x (zoneOn g x)) 0)) (present p (named d)) ≡ b → b ≡ false
           go false q = refl
           go true q =
               let (x, hx, hn) = present-drive in
-              sym (all-in (λ x. not (eqb (pointerAt v x g) 0)) (present p (named d)) q x (in-present p (named d) x hx hn))
-              ∙ ap not (eq-eqb (pointerAt v x g) 0 (start-pointer p r k e x g hx hg))
+              sym (all-in (λ x. not (eqb (pointerAt v x (zoneOn g x)) 0)) (present p (named d)) q x (in-present p (named d) x hx hn))
+              ∙ ap not (eq-eqb (pointerAt v x (zoneOn g x)) 0 (start-pointer p r k e x (zoneOn g x) hx (zone-on-lt p g x hg)))
 
   none-remains : segments p v (named d) ≡ []
   unfolding segments remaining
-  none-remains = ap (λ (l : List ℕ). map (segmentOf p v (named d)) (keep (λ g. not (isCopy v (lowDrive p (named d)) l g)) l)) none-left ∙ (unfold keep in refl)
+  none-remains = ap (λ (l : List Seg). map (segmentOf p v (named d)) (keep (λ g. not (isCopy v (lowDrive p (named d)) l g)) l)) none-left ∙ (unfold keep in refl)
 
   no-pointer : pointerFaults p v (named d) ≡ []
   unfolding pointerFaults
@@ -81,7 +82,7 @@ module _ (p : Params) (rg : inRange p ≡ true) (k : Disk) (e : emptyDisk p k �
 
   no-segment : (gs : List Segment) → gs ≡ [] → segmentFaults p (named d) gs ≡ []
   unfolding segmentFaults keep
-  no-segment gs q = ap (λ (l : List Segment). map (λ (g : Segment). g .seg) (keep (segmentFault p (named d) l) l)) q
+  no-segment gs q = ap (λ (l : List Segment). map (λ (g : Segment). zoneOn (g .seg) (lowDrive p (named d))) (keep (segmentFault p (named d) l) l)) q
 
   no-rewrite : (gs : List Segment) → gs ≡ [] → (b : Bool) → rewrites p (named d) gs && b ≡ false
   unfolding rewrites unsealed keep any
@@ -97,7 +98,7 @@ module _ (p : Params) (rg : inRange p ≡ true) (k : Disk) (e : emptyDisk p k �
         pointers-fine = no-pointer;
         segments-fine = no-segment gs none-remains;
         serial-left = no-rewrite gs none-remains (eqb (greatestSerial gs) lastCount);
-        zone-left = no-rewrite gs none-remains (isNil (freeZones p gs));
+        zone-left = no-rewrite gs none-remains (isNil (freeSegs p gs));
       })
 
   some-not-none : {X : Type 0} {a : Answer} → some a ≡ none → X

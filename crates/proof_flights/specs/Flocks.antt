@@ -12,7 +12,7 @@ use lib.ListN.{length, getD, length-append, List·getD-append}
 use lib.Seq.{getD-append-seam}
 use Rattle.spec.specs.declared.Params.{Params}
 use Rattle.spec.specs.declared.State.{State}
-use Rattle.spec.specs.Drives.{View, chunkAt, zoneOn}
+use Rattle.spec.specs.Drives.{View, chunkAt, Seg, seg, zoneOn}
 use Rattle.spec.specs.Lists.{upFrom, below, consIf, keep, isIn}
 use Rattle.spec.specs.Memory.{stripeIn, filledIn, landedIn, isWrite, openSegment, isFull, beginStripe, addEntry}
 use Rattle.spec.specs.Params.{dataCount, inflightLen}
@@ -37,12 +37,12 @@ pub record Flock (p : Params) (v : View) (st : State) (fl : List ℕ) (ws : List
   pub waiting : (n : ℕ) → n < length ws → (i : ℕ) × (i < 8) × (busy i ≡ true) × (stripeIn st i ≡ getD ws n noPending .stripe)
 
 -- with a stripe in flight a segment is open
-pub open-of : (p : Params) (v : View) (st : State) → HealthyState p v st → (j : ℕ) → j < 8 → flies st j ≡ true → (z : ℕ) × (st .opened ≡ suc z)
+pub open-of : (p : Params) (v : View) (st : State) → HealthyState p v st → (j : ℕ) → j < 8 → flies st j ≡ true → (z : Seg) × (st .opened ≡ suc (z .name))
 open-of p v st h j hj fj = go (st .opened) refl
   where
-    go : (n : ℕ) → st .opened ≡ n → (z : ℕ) × (st .opened ≡ suc z)
+    go : (n : ℕ) → st .opened ≡ n → (z : Seg) × (st .opened ≡ suc (z .name))
     go zero e = clash fj (h .shut e j hj)
-    go (suc z) e = (z, e)
+    go (suc n) e = (seg n, e)
 
 -- a copy or padding adds none that waits
 pub none-more : (ws : List Pending) (x : Pending) → plus ws 0 x ≡ ws

@@ -22,7 +22,6 @@ use Rattle.spec.specs.Memory.{Memory}
 use Rattle.spec.specs.Read.{Found, lookup, readPiece, readAnswer, readVerdict, fillVerdict}
 use Rattle.spec.specs.Read.Found.{nowhere, here, away}
 use Rattle.spec.specs.Segments.{Segment}
-use Rattle.law_lent.specs.Shorts.{write-keeps, land-keeps, close-keeps, reclaim-keeps, read-keeps, fill-keeps, restart-keeps, rebuild-keeps}
 use Rattle.spec_demands.specs.Tables.{Pending, pendingBy, stillPending, pendingAfter}
 use Rattle.law_checks.specs.Passed.{readList, fillList}
 use Rattle.law_drives.specs.Tests.{clash, cond-false, and-false-left, or-neither}
@@ -110,22 +109,6 @@ flown-ended p k m ws old f c cs q r done nc (ended-refused a e x y z) =
 flown-ended p k m ws old f c cs q r done nc (ended-done h x y z) =
     flown-as p _ _ _ _ old (r .drives) (r .memory) y z (ap (λ (b : Answer). pendingAfter c b ws) x) (done h)
 flown-ended p k m ws old f c cs q r done nc (ended-cut h x) = clash (ap isCut x ∙ cut-cut) nc
-
--- a refusal of any call
-pub flown-refused : (p : Params) (k : Disk) (m : Memory) (ws : List Pending) (old : List Segment) → Flown p k m ws old → (c : Call) → isRefused (callDisk p k m c .answer) ≡ true
-    → Flown p (callDisk p k m c .drives) (callDisk p k m c .memory) (pendingAfter c (callDisk p k m c .answer) ws) old
-flown-refused p k m ws old f c q =
-    flown-still p k m ws old f c (callDisk p k m c) (ap (λ (r : After Disk). r .drives) (kept c q .1)) (ap (λ (r : After Disk). r .memory) (kept c q .1)) (quiet-refused (callDisk p k m c .answer) q)
-  where
-    kept : (c : Call) → isRefused (callDisk p k m c .answer) ≡ true → (b : List ℕ) × (callDisk p k m c ≡ record { answer = callDisk p k m c .answer; drives = k; memory = m; block = b })
-    kept (write a b n) q = (b, write-keeps p k m a b n q)
-    kept (land d s n) q = ([], land-keeps p k m d s n q)
-    kept (close n) q = ([], close-keeps p k m n q)
-    kept (reclaim n) q = ([], reclaim-keeps p k m n q)
-    kept (read a) q = ([], read-keeps p k m a q)
-    kept (fill a b) q = (b, fill-keeps p k m a b q)
-    kept (restart d n) q = ([], restart-keeps p k m d n q)
-    kept (rebuild d n) q = ([], rebuild-keeps p k m d n q)
 
 -- ---- the reads
 

@@ -15,7 +15,7 @@ use Rattle.spec.specs.declared.Answer.{Answer}
 use Rattle.spec.specs.declared.Answer.the-variants.{Landed, Cut}
 use Rattle.spec.specs.Answers.{kind, values, isRefused, isCut, finished}
 use Rattle.spec.specs.Calls.{Plan, firstRefusal}
-use Rattle.spec.specs.Drives.{View, pointerAt, Store, storeView, Disk, storeDisk, storeAll, zoneOn, sealedIn}
+use Rattle.spec.specs.Drives.{View, pointerAt, Store, storeView, Disk, storeDisk, storeAll, Seg, zoneOn, sealedIn}
 use Rattle.spec.specs.Drives.Store.{put}
 use Rattle.spec.specs.Engine.Call.{land}
 use Rattle.spec.specs.Engine.{storeCount, lentBlock, verdict, lentOk, callOn, callDisk}
@@ -28,6 +28,7 @@ use Rattle.spec.specs.Segments.{Segment, segmentOf, counts}
 use Rattle.law_basic.specs.Geometry.{Ranged, ranged, position-drive, drive-is-data}
 use Rattle.law_basic.specs.Ranges.{Test, test, and-left, and-right}
 use Rattle.law_basic.specs.Ranges.Test.{yes!, no! }
+use Rattle.law_basic.specs.Segs.{Named, zone-on-lt}
 use Rattle.law_basic.specs.Stores.{storeAll-append}
 use Rattle.law_code.specs.Chunks.{flight-data, flight-stripe}
 use Rattle.law_views.specs.Views.{seen}
@@ -74,7 +75,7 @@ module _ (p : Params) (k : Disk) (m : Memory) (u : Run p k m) (d s : ℕ) where
   abbrev i : ℕ
   i = slotOf st s
 
-  abbrev z : ℕ
+  abbrev z : Seg
   z = openSegment st
 
   abbrev plan : Plan
@@ -125,17 +126,17 @@ module _ (p : Params) (k : Disk) (m : Memory) (u : Run p k m) (d s : ℕ) where
     abbrev fi : flies st i ≡ true
     fi = w .slot-flies
 
-    abbrev oz : st .opened ≡ suc z
+    abbrev oz : st .opened ≡ suc (z .name)
     oz = w .slot-opened
 
     abbrev store : Store
-    store = put d z b (recordBytes (flightRec p st i d))
+    store = put d (zoneOn z d) b (recordBytes (flightRec p st i d))
 
     abbrev v1 : View
     v1 = storeView store v
 
     abbrev st1 : State
-    st1 = markLanded st i d (pointerAt v d z - 1)
+    st1 = markLanded st i d (pointerAt v d (zoneOn z d) - 1)
 
     abbrev st2 : State
     st2 = freeStripe st1 i
@@ -143,7 +144,7 @@ module _ (p : Params) (k : Disk) (m : Memory) (u : Run p k m) (d s : ℕ) where
     abbrev v2 : View
     v2 = storeAll storeView (sealStores p v1 z) v1
 
-    hz : z < p .Z
+    hz : Named p z
     hz = he .opens-at z oz .opened-zone
 
     -- ---- the view after it
@@ -152,17 +153,17 @@ module _ (p : Params) (k : Disk) (m : Memory) (u : Run p k m) (d s : ℕ) where
     roomy1 = chunk-roomy p rg v sh st he so z oz d i hd hi fi (w .slot-ready) b lb
 
     within1 : (x : Store) → In x (store ∷ []) → Within p x
-    within1 x (inl e) = subst (λ (y : Store). Within p y) (sym e) (hd, hz)
+    within1 x (inl e) = subst (λ (y : Store). Within p y) (sym e) (hd, zone-on-lt p z d hz)
     within1 x (inr n) = absurd n
 
     one-store : storeAll storeView (store ∷ []) v ≡ v1
     one-store = unfold storeAll in refl
 
     stores-open : seals p st i d ≡ false → plan .stores ≡ store ∷ []
-    stores-open q = unfold landPlan landStore zoneOn in rw q
+    stores-open q = unfold landPlan landStore in rw q
 
     stores-sealed : seals p st i d ≡ true → plan .stores ≡ (store ∷ []) ++ sealStores p v1 z
-    stores-sealed q = unfold landPlan landStore zoneOn in rw q
+    stores-sealed q = unfold landPlan landStore in rw q
 
     pub view-open : seals p st i d ≡ false → seen p (storeAll (storeDisk p) (plan .stores) k) ≡ v1
     view-open q = ap (λ (ss : List Store). seen p (storeAll (storeDisk p) ss k)) (stores-open q) ∙ run-seen-after p k m u (store ∷ []) roomy1 within1 ∙ one-store
@@ -178,7 +179,7 @@ module _ (p : Params) (k : Disk) (m : Memory) (u : Run p k m) (d s : ℕ) where
         let q1 : x && y ≡ true = and-left (x && y) t sl in
         (and-left x y q1, (eqb-true (st .next) (p .S) (and-right x y q1), eqb-true (length (inFlight st)) 1 (and-right (x && y) t sl)))
 
-    pointers-full : seals p st i d ≡ true → (e : ℕ) → e < p .N → pointerAt v1 e z ≡ 1 + p .S
+    pointers-full : seals p st i d ≡ true → (e : ℕ) → e < p .N → pointerAt v1 e (zoneOn z e) ≡ 1 + p .S
     pointers-full sl = let (q, (nx, one)) = seal-parts sl in all-behind p rg v sh st he so z oz d i hd hi fi (w .slot-ready) b lb q nx one
 
     pub view-sealed : seals p st i d ≡ true → seen p (storeAll (storeDisk p) (plan .stores) k) ≡ v2
@@ -195,13 +196,13 @@ module _ (p : Params) (k : Disk) (m : Memory) (u : Run p k m) (d s : ℕ) where
     inflight-is = unfold landPlan in refl
 
     state-open : completes p st i d ≡ false → plan .memory .state ≡ st1
-    state-open q = unfold landPlan seals zoneOn in rw q
+    state-open q = unfold landPlan seals in rw q
 
     state-freed : completes p st i d ≡ true → seals p st i d ≡ false → plan .memory .state ≡ st2
-    state-freed q ns = unfold landPlan zoneOn in rw (ns, q)
+    state-freed q ns = unfold landPlan in rw (ns, q)
 
     state-closed : completes p st i d ≡ true → seals p st i d ≡ true → plan .memory .state ≡ setClosed st2
-    state-closed q sl = unfold landPlan zoneOn in rw (sl, q)
+    state-closed q sl = unfold landPlan in rw (sl, q)
 
     answer-is : plan .answer ≡ Landed (cond (completes p st i d) (writesIn st i) 0)
     answer-is = unfold landPlan in refl
@@ -444,10 +445,10 @@ lands-say p k m ws old d s n u f x q = go (land-ends p k m u d s n)
         }
       where
         v1 : View
-        v1 = storeView (put d (openSegment (m .state)) (slotBlock p (m .inflight) (slotOf (m .state) s) d) (recordBytes (flightRec p (m .state) (slotOf (m .state) s) d))) (seen p k)
+        v1 = storeView (put d (zoneOn (openSegment (m .state)) d) (slotBlock p (m .inflight) (slotOf (m .state) s) d) (recordBytes (flightRec p (m .state) (slotOf (m .state) s) d))) (seen p k)
 
         Stored : View → Type 0
-        Stored y = y ≡ storeAll storeView (put d (openSegment (m .state)) (slotBlock p (m .inflight) (slotOf (m .state) s) d) (recordBytes (flightRec p (m .state) (slotOf (m .state) s) d))
+        Stored y = y ≡ storeAll storeView (put d (zoneOn (openSegment (m .state)) d) (slotBlock p (m .inflight) (slotOf (m .state) s) d) (recordBytes (flightRec p (m .state) (slotOf (m .state) s) d))
             ∷ cond (sealedIn p y 0 (openSegment (m .state))) (sealStores p v1 (openSegment (m .state))) []) (seen p k)
 
         stored! : callDisk p k m (land d s n) .drives ≡ storeAll (storeDisk p) (landPlan p (seen p k) m d s .stores) k
@@ -456,7 +457,7 @@ lands-say p k m ws old d s n u f x q = go (land-ends p k m u d s n)
             ≡ storeAll storeView (landingStores onValues p (mkWorld k m) (put d (zoneOn (openIn onValues (mkWorld k m)) d) (slotBlock p (m .inflight) (slotOf (m .state) s) d)
             (recordBytes (flightRec p (m .state) (slotOf (m .state) s) d)))
             (sealedIn p (viewIn onValues p (callWorld p (mkWorld k m) (land d s n) .world)) 0 (openIn onValues (mkWorld k m)))) (viewIn onValues p (mkWorld k m))
-        stored! e h = unfold viewIn callWorld landingStores openIn zoneOn in (subst (λ (y : Disk). Stored (seen p y)) (sym e) h)
+        stored! e h = unfold viewIn callWorld landingStores openIn in (subst (λ (y : Disk). Stored (seen p y)) (sym e) h)
 
         acknowledges! : callDisk p k m (land d s n) .drives ≡ storeAll (storeDisk p) (landPlan p (seen p k) m d s .stores) k
             → x ≡ cond (counts p 0 (segmentOf p (seen p (storeAll (storeDisk p) (landPlan p (seen p k) m d s .stores) k)) 0 (openSegment (m .state))) s) (pendingIn ws s) 0

@@ -13,7 +13,7 @@ use lib.ListN.{length, getD}
 use lib.Seq.{getD-set-same, getD-set-other}
 use Rattle.spec.specs.declared.Params.{Params}
 use Rattle.spec.specs.declared.State.{State}
-use Rattle.spec.specs.Drives.{Chunk, mkChunk, noChunk, Zone, View, zoneAt, pointerAt, chunkAt, putZone, storeView, zoneOn, sealedIn, dataStored, recordIn}
+use Rattle.spec.specs.Drives.{Chunk, mkChunk, noChunk, Zone, View, zoneAt, pointerAt, chunkAt, putZone, storeView, Seg, zoneOn, sealedIn, dataStored, recordIn}
 use Rattle.spec.specs.Drives.Store.{put}
 use Rattle.spec.specs.Landing.{ready, completes, flightRec}
 use Rattle.spec.specs.Layout.{parityDrive, dataDrive, dataPosition, isData, parityPosition, dataDrives, Rec, recordBytes, recordOf}
@@ -27,6 +27,7 @@ use Rattle.law_basic.specs.Geometry.{Ranged, parity-no-data, parity-drive-lt, p
 use Rattle.law_basic.specs.Mask.{isIn-empty}
 use Rattle.law_basic.specs.Ranges.{Test, test, and-right, map-map}
 use Rattle.law_basic.specs.Ranges.Test.{yes!, no! }
+use Rattle.law_basic.specs.Segs.{Named, zone-on-lt}
 use Rattle.law_code.specs.Chunks.{flight-data, flight-parity, flight-stripe}
 use Rattle.law_code.specs.Code.{encode-low, encode-apart}
 use Rattle.spec_demands.specs.Layouts.{ParityMade}
@@ -66,7 +67,7 @@ put-below p q w x e l n y = let (a, c) = data-low p w x y in low-data p q x a (g
 
 -- ---- records in flight
 
-module _ (p : Params) (r : Ranged p) (v : View) (st : State) (z i : ℕ) (f : SlotFlies p v st z i) (full : filledIn st i ≡ dataCount p) (so : stripeIn st i < p .S) where
+module _ (p : Params) (r : Ranged p) (v : View) (st : State) (z : Seg) (i : ℕ) (f : SlotFlies p v st z i) (full : filledIn st i ≡ dataCount p) (so : stripeIn st i < p .S) where
   abbrev Low : Rec → Type 0
   Low x = (x .address < 256 ^ 8) × (x .stamp < 256 ^ 8)
 
@@ -102,9 +103,9 @@ module _ (p : Params) (r : Ranged p) (v : View) (st : State) (z i : ℕ) (f : Sl
 
 -- ---- the chunk
 
-module _ (p : Params) (r : Ranged p) (v : View) (sh : Shaped p v) (st : State) (h : HealthyState p v st) (so : StateOk p st) (oz : st .opened ≡ suc (openSegment st))
+module _ (p : Params) (r : Ranged p) (v : View) (sh : Shaped p v) (st : State) (h : HealthyState p v st) (so : StateOk p st) (oz : st .opened ≡ suc (openSegment st .name))
     (d i : ℕ) (hd : d < p .N) (hi : i < 8) (fi : flies st i ≡ true) (rd : ready p st i d ≡ true) (fl : List ℕ) (lb : length (slotBlock p fl i d) ≡ p .B) where
-  abbrev z : ℕ
+  abbrev z : Seg
   z = openSegment st
 
   abbrev s : ℕ
@@ -114,10 +115,10 @@ module _ (p : Params) (r : Ranged p) (v : View) (sh : Shaped p v) (st : State) (
   b = slotBlock p fl i d
 
   abbrev v1 : View
-  v1 = storeView (put d z b (recordBytes (flightRec p st i d))) v
+  v1 = storeView (put d (zoneOn z d) b (recordBytes (flightRec p st i d))) v
 
   abbrev o : ℕ
-  o = pointerAt v d z - 1
+  o = pointerAt v d (zoneOn z d) - 1
 
   abbrev st1 : State
   st1 = markLanded st i d o
@@ -128,37 +129,38 @@ module _ (p : Params) (r : Ranged p) (v : View) (sh : Shaped p v) (st : State) (
   abbrev seg1 : Segment
   seg1 = segmentOf p v1 0 z
 
-  hz : z < p .Z
+  hz : Named p z
   hz = h .opens-at z oz .opened-zone
 
   d8 : d < 8
   d8 = omega (arith, r .drives-high)
 
   -- a chunk below the pointer stays
-  chunk-kept : (e x : ℕ) → e < p .N → x < pointerAt v e z → getD (zoneAt v1 e z .blocks) x noChunk ≡ getD (zoneAt v e z .blocks) x noChunk
+  chunk-kept : (e x : ℕ) → e < p .N → x < pointerAt v e (zoneOn z e) → getD (zoneAt v1 e (zoneOn z e) .blocks) x noChunk ≡ getD (zoneAt v e (zoneOn z e) .blocks) x noChunk
   chunk-kept e x he l = go (ℕ-discrete d e)
     where
-      as! : x < pointerAt v d z → x < zoneAt v d z .pointer
+      as! : x < pointerAt v d (zoneOn z d) → x < zoneAt v d (zoneOn z d) .pointer
       as! m = unfold pointerAt in m
 
-      go : Dec (d ≡ e) → getD (zoneAt v1 e z .blocks) x noChunk ≡ getD (zoneAt v e z .blocks) x noChunk
-      go (yes q) = subst (λ (y : ℕ). getD (zoneAt v1 y z .blocks) x noChunk ≡ getD (zoneAt v y z .blocks) x noChunk) q
+      go : Dec (d ≡ e) → getD (zoneAt v1 e (zoneOn z e) .blocks) x noChunk ≡ getD (zoneAt v e (zoneOn z e) .blocks) x noChunk
+      go (yes q) = subst (λ (y : ℕ). getD (zoneAt v1 y (zoneOn z y) .blocks) x noChunk ≡ getD (zoneAt v y (zoneOn z y) .blocks) x noChunk) q
           (ap (λ (y : Zone). getD (y .blocks) x noChunk) (chunk-zone p r v sh st h so z oz d i hd hi fi rd b lb)
-          ∙ put-old b (recordBytes (flightRec p st i d)) (zoneAt v d z) x (as! (subst (λ (y : ℕ). x < pointerAt v y z) (sym q) l)))
+          ∙ put-old b (recordBytes (flightRec p st i d)) (zoneAt v d (zoneOn z d)) x (as! (subst (λ (y : ℕ). x < pointerAt v y (zoneOn z y)) (sym q) l)))
       go (no n) = ap (λ (y : Zone). getD (y .blocks) x noChunk) (chunk-other p r v sh st h so z oz d i hd hi fi rd b lb e z he hz (inl n))
 
   -- the new one
-  chunk-new : getD (zoneAt v1 d z .blocks) (1 + o) noChunk ≡ mkChunk b (recordBytes (flightRec p st i d))
+  chunk-new : getD (zoneAt v1 d (zoneOn z d) .blocks) (1 + o) noChunk ≡ mkChunk b (recordBytes (flightRec p st i d))
   chunk-new =
       let a = pointer-some p r v sh st h so z oz d i hd hi fi rd b lb in
       let c = pointer-data p r v sh st h so z oz d i hd hi fi rd b lb in
-      let e : 1 + o ≡ pointerAt v d z = omega arith in
-      ap (λ (n : ℕ). getD (zoneAt v1 d z .blocks) n noChunk) (e ∙ at!)
-      ∙ ap (λ (y : Zone). getD (y .blocks) (zoneAt v d z .pointer) noChunk) (chunk-zone p r v sh st h so z oz d i hd hi fi rd b lb)
-      ∙ put-new b (recordBytes (flightRec p st i d)) (zoneAt v d z) (subst (λ (n : ℕ). zoneAt v d z .pointer < n) (sym (sh .zone-ok d z hd hz .blocks-long))
+      let e : 1 + o ≡ pointerAt v d (zoneOn z d) = omega arith in
+      ap (λ (n : ℕ). getD (zoneAt v1 d (zoneOn z d) .blocks) n noChunk) (e ∙ at!)
+      ∙ ap (λ (y : Zone). getD (y .blocks) (zoneAt v d (zoneOn z d) .pointer) noChunk) (chunk-zone p r v sh st h so z oz d i hd hi fi rd b lb)
+      ∙ put-new b (recordBytes (flightRec p st i d)) (zoneAt v d (zoneOn z d))
+      (subst (λ (n : ℕ). zoneAt v d (zoneOn z d) .pointer < n) (sym (sh .zone-ok d (zoneOn z d) hd (zone-on-lt p z d hz) .blocks-long))
       (let k = capacity-over p r in let f = at! in omega arith))
     where
-      at! : pointerAt v d z ≡ zoneAt v d z .pointer
+      at! : pointerAt v d (zoneOn z d) ≡ zoneAt v d (zoneOn z d) .pointer
       at! = unfold pointerAt in refl
 
   -- ---- the eighths
@@ -195,27 +197,27 @@ module _ (p : Params) (r : Ranged p) (v : View) (sh : Shaped p v) (st : State) (
 
   module _ (ws : List Pending) (F : Flights p v st fl ws) where
     landed! : (j e : ℕ) → j < 8 → flies st j ≡ true → e < p .N → isIn (landedIn st1 j) e ≡ true
-        → getD (zoneAt v1 e z .blocks) (1 + offsetIn st1 j e) noChunk ≡ mkChunk (slotBlock p fl j e) (recordBytes (flightRec p st j e))
+        → getD (zoneAt v1 e (zoneOn z e) .blocks) (1 + offsetIn st1 j e) noChunk ≡ mkChunk (slotBlock p fl j e) (recordBytes (flightRec p st j e))
     landed! j e hj fj he q = ⊎-elim here! (λ x. there! (x .0) (x .1)) (landed-or j e he q)
       where
-        here! : (j ≡ i) × (e ≡ d) → getD (zoneAt v1 e z .blocks) (1 + offsetIn st1 j e) noChunk ≡ mkChunk (slotBlock p fl j e) (recordBytes (flightRec p st j e))
+        here! : (j ≡ i) × (e ≡ d) → getD (zoneAt v1 e (zoneOn z e) .blocks) (1 + offsetIn st1 j e) noChunk ≡ mkChunk (slotBlock p fl j e) (recordBytes (flightRec p st j e))
         here! (x, y) =
-            (λ k. getD (zoneAt v1 (y k) z .blocks) (1 + offsetIn st1 (x k) (y k)) noChunk)
-            ∙ ap (λ (n : ℕ). getD (zoneAt v1 d z .blocks) (1 + n) noChunk) (mark-offset st (h .lists) i hi d o d8) ∙ chunk-new
+            (λ k. getD (zoneAt v1 (y k) (zoneOn z (y k)) .blocks) (1 + offsetIn st1 (x k) (y k)) noChunk)
+            ∙ ap (λ (n : ℕ). getD (zoneAt v1 d (zoneOn z d) .blocks) (1 + n) noChunk) (mark-offset st (h .lists) i hi d o d8) ∙ chunk-new
             ∙ (λ k. mkChunk (slotBlock p fl (sym x k) (sym y k)) (recordBytes (flightRec p st (sym x k) (sym y k))))
 
-        before! : isIn (landedIn st j) e ≡ true → getD (zoneAt v e z .blocks) (1 + offsetIn st j e) noChunk ≡ mkChunk (slotBlock p fl j e) (recordBytes (flightRec p st j e))
+        before! : isIn (landedIn st j) e ≡ true → getD (zoneAt v e (zoneOn z e) .blocks) (1 + offsetIn st j e) noChunk ≡ mkChunk (slotBlock p fl j e) (recordBytes (flightRec p st j e))
         before! y = as! (F .landed-is j e hj fj he y)
           where
             as! : chunkAt v e (zoneOn (openSegment st) e) (1 + offsetIn st j e) ≡ mkChunk (slotBlock p fl j e) (recordBytes (flightRec p st j e))
-                → getD (zoneAt v e z .blocks) (1 + offsetIn st j e) noChunk ≡ mkChunk (slotBlock p fl j e) (recordBytes (flightRec p st j e))
-            as! x = unfold chunkAt zoneOn in x
+                → getD (zoneAt v e (zoneOn z e) .blocks) (1 + offsetIn st j e) noChunk ≡ mkChunk (slotBlock p fl j e) (recordBytes (flightRec p st j e))
+            as! x = unfold chunkAt in x
 
         there! : (j ≡ i → ⊥) ⊎ (e ≡ d → ⊥) → isIn (landedIn st j) e ≡ true
-            → getD (zoneAt v1 e z .blocks) (1 + offsetIn st1 j e) noChunk ≡ mkChunk (slotBlock p fl j e) (recordBytes (flightRec p st j e))
+            → getD (zoneAt v1 e (zoneOn z e) .blocks) (1 + offsetIn st1 j e) noChunk ≡ mkChunk (slotBlock p fl j e) (recordBytes (flightRec p st j e))
         there! n y =
             let e8 : e < 8 = omega (arith, r .drives-high) in
-            ap (λ (m : ℕ). getD (zoneAt v1 e z .blocks) (1 + m) noChunk) (mark-offset-other st (h .lists) i hi d o d8 j e (cells-differ i j d e d8 e8 n))
+            ap (λ (m : ℕ). getD (zoneAt v1 e (zoneOn z e) .blocks) (1 + m) noChunk) (mark-offset-other st (h .lists) i hi d o d8 j e (cells-differ i j d e d8 e8 n))
             ∙ chunk-kept e (1 + offsetIn st j e) he (h .opens-at z oz .flight j hj fj .lands e he y .lies) ∙ before! y
 
     -- what is known of the flights after the chunk
@@ -229,10 +231,10 @@ module _ (p : Params) (r : Ranged p) (v : View) (sh : Shaped p v) (st : State) (
       pending-flies = λ n hn. let (j, hj, fj, e) = F .pending-flies n hn in (j, hj, flies1 j ∙ fj, stripe1 j ∙ e);
     }
       where
-        at! : (j e : ℕ) → getD (zoneAt v1 e z .blocks) (1 + offsetIn st1 j e) noChunk ≡ mkChunk (slotBlock p fl j e) (recordBytes (flightRec p st j e))
+        at! : (j e : ℕ) → getD (zoneAt v1 e (zoneOn z e) .blocks) (1 + offsetIn st1 j e) noChunk ≡ mkChunk (slotBlock p fl j e) (recordBytes (flightRec p st j e))
             → chunkAt v1 e (zoneOn (openSegment st1) e) (1 + offsetIn st1 j e) ≡ mkChunk (slotBlock p fl j e) (recordBytes (flightRec p st1 j e))
-        at! j e x = unfold chunkAt zoneOn in
-            (ap (λ (n : ℕ). getD (zoneAt v1 e n .blocks) (1 + offsetIn st1 j e) noChunk) open1 ∙ x ∙ ap (λ (y : Rec). mkChunk (slotBlock p fl j e) (recordBytes y)) (sym (rec1 j e)))
+        at! j e x = unfold chunkAt in
+            (ap (λ (n : Seg). getD (zoneAt v1 e (zoneOn n e) .blocks) (1 + offsetIn st1 j e) noChunk) open1 ∙ x ∙ ap (λ (y : Rec). mkChunk (slotBlock p fl j e) (recordBytes y)) (sym (rec1 j e)))
 
         ready! : (j : ℕ) → slotBlock p fl j (parityDrive p (stripeIn st j)) ≡ encodeBlock (p .B) 0 (map (slotBlock p fl j) (dataDrives p (stripeIn st j)))
             → slotBlock p fl j (parityDrive p (stripeIn st1 j)) ≡ encodeBlock (p .B) 0 (map (slotBlock p fl j) (dataDrives p (stripeIn st1 j)))
@@ -292,7 +294,7 @@ module _ (p : Params) (r : Ranged p) (v : View) (sh : Shaped p v) (st : State) (
         first : encodeRec (parityPosition p s (parityDrive p s)) s (entriesIn st i) ≡ encodeRec 0 s (entriesIn st i)
         first = unfold parityPosition in refl
 
-        spare! : (e x : ℕ) → recordIn p false (zoneAt v1 e z) x ≡ recordOf (getD (zoneAt v1 e z .blocks) (1 + x) noChunk .spare)
+        spare! : (e x : ℕ) → recordIn p false (zoneAt v1 e (zoneOn z e)) x ≡ recordOf (getD (zoneAt v1 e (zoneOn z e) .blocks) (1 + x) noChunk .spare)
         spare! e x = unfold recordIn in refl
 
         piece : (e : ℕ) → e < p .N → storedPiece seg1 s e ≡ mkPiece (slotBlock p fl i e) (flightRec p st i e)
@@ -301,7 +303,7 @@ module _ (p : Params) (r : Ranged p) (v : View) (sh : Shaped p v) (st : State) (
             let (c, (eo, er)) = landed-chunk p r v sh st h so z oz d i hd hi fi rd b lb e he on in
             let ch = landed! i e hi fi he on in
             piece-parts p v1 0 z s e he
-            ∙ ap₂ mkPiece (ap (λ (n : ℕ). getD (zoneAt v1 e z .blocks) (1 + n) noChunk .block) eo ∙ ap (λ (y : Chunk). y .block) ch)
+            ∙ ap₂ mkPiece (ap (λ (n : ℕ). getD (zoneAt v1 e (zoneOn z e) .blocks) (1 + n) noChunk .block) eo ∙ ap (λ (y : Chunk). y .block) ch)
             (er ∙ spare! e (offsetIn st1 i e) ∙ ap (λ (y : Chunk). recordOf (y .spare)) ch ∙ flight-back p r v st z i f0 filled s-low e he)
 
     -- ---- every counted stripe after the chunk
@@ -310,32 +312,32 @@ module _ (p : Params) (r : Ranged p) (v : View) (sh : Shaped p v) (st : State) (
     chunk-extends e he = record {
       more = more! (pointers e he);
       same-record = λ x l.
-          ap (λ (t : Bool). recordIn p t (zoneAt v1 e z) x) (open-after p r v sh st h so z oz d i hd hi fi rd b lb)
+          ap (λ (t : Bool). recordIn p t (zoneAt v1 e (zoneOn z e)) x) (open-after p r v sh st h so z oz d i hd hi fi rd b lb)
           ∙ spare! x (ap (λ (c : Chunk). recordOf (c .spare)) (chunk-kept e (1 + x) he (lies x l)))
-          ∙ ap (λ (t : Bool). recordIn p t (zoneAt v e z) x) (sym (open-before p r v sh st h so z oz d i hd hi fi rd b lb));
+          ∙ ap (λ (t : Bool). recordIn p t (zoneAt v e (zoneOn z e)) x) (sym (open-before p r v sh st h so z oz d i hd hi fi rd b lb));
       same-block = λ x l. ap (λ (c : Chunk). c .block) (chunk-kept e (1 + x) he (lies x l));
     }
       where
-        pointers : (e : ℕ) → e < p .N → pointerAt v e z ≤ pointerAt v1 e z
+        pointers : (e : ℕ) → e < p .N → pointerAt v e (zoneOn z e) ≤ pointerAt v1 e (zoneOn z e)
         pointers e he = go (ℕ-discrete d e)
           where
-            go : Dec (d ≡ e) → pointerAt v e z ≤ pointerAt v1 e z
-            go (yes q) = subst (λ (x : ℕ). pointerAt v x z ≤ pointerAt v1 x z) q (let a = chunk-pointer p r v sh st h so z oz d i hd hi fi rd b lb in omega arith)
+            go : Dec (d ≡ e) → pointerAt v e (zoneOn z e) ≤ pointerAt v1 e (zoneOn z e)
+            go (yes q) = subst (λ (x : ℕ). pointerAt v x (zoneOn z x) ≤ pointerAt v1 x (zoneOn z x)) q (let a = chunk-pointer p r v sh st h so z oz d i hd hi fi rd b lb in omega arith)
             go (no n) = le-of-eq (sym (pointer-else p r v sh st h so z oz d i hd hi fi rd b lb e he n))
 
-        more! : pointerAt v e z ≤ pointerAt v1 e z → dataStored p (zoneAt v e z) ≤ dataStored p (zoneAt v1 e z)
+        more! : pointerAt v e (zoneOn z e) ≤ pointerAt v1 e (zoneOn z e) → dataStored p (zoneAt v e (zoneOn z e)) ≤ dataStored p (zoneAt v1 e (zoneOn z e))
         more! l = unfold pointerAt dataStored in omega arith
 
-        lies : (x : ℕ) → x < dataStored p (zoneAt v e z) → 1 + x < pointerAt v e z
-        lies x l = unfold pointerAt in data-low p (zoneAt v e z) x l .1
+        lies : (x : ℕ) → x < dataStored p (zoneAt v e (zoneOn z e)) → 1 + x < pointerAt v e (zoneOn z e)
+        lies x l = unfold pointerAt in data-low p (zoneAt v e (zoneOn z e)) x l .1
 
-        spare! : (x : ℕ) → recordOf (getD (zoneAt v1 e z .blocks) (1 + x) noChunk .spare) ≡ recordOf (getD (zoneAt v e z .blocks) (1 + x) noChunk .spare)
-            → recordIn p false (zoneAt v1 e z) x ≡ recordIn p false (zoneAt v e z) x
+        spare! : (x : ℕ) → recordOf (getD (zoneAt v1 e (zoneOn z e) .blocks) (1 + x) noChunk .spare) ≡ recordOf (getD (zoneAt v e (zoneOn z e) .blocks) (1 + x) noChunk .spare)
+            → recordIn p false (zoneAt v1 e (zoneOn z e)) x ≡ recordIn p false (zoneAt v e (zoneOn z e)) x
         spare! x q = unfold recordIn in q
 
     -- a chunk on drive e that is not of this stripe was there
-    was-there : (t : ℕ) → (t ≡ s → ⊥) → (e : ℕ) → e < p .N → (x : ℕ) → x < dataStored p (zoneAt v1 e z)
-        → recordIn p (sealedIn p v1 0 z) (zoneAt v1 e z) x .stripe ≡ t → x < dataStored p (zoneAt v e z)
+    was-there : (t : ℕ) → (t ≡ s → ⊥) → (e : ℕ) → e < p .N → (x : ℕ) → x < dataStored p (zoneAt v1 e (zoneOn z e))
+        → recordIn p (sealedIn p v1 0 z) (zoneAt v1 e (zoneOn z e)) x .stripe ≡ t → x < dataStored p (zoneAt v e (zoneOn z e))
     was-there t n e he x l q = go (ℕ-discrete d e)
       where
         op : OpenZone p v1 st1 (flies st) z
@@ -344,23 +346,24 @@ module _ (p : Params) (r : Ranged p) (v : View) (sh : Shaped p v) (st : State) (
         on : isIn (landedIn st1 i) d ≡ true
         on = mask-now p r v sh st h so z oz d i hd hi fi rd b lb d hd ∙ or-true-left (eqb d d) (isIn (landedIn st i) d) (eqb-self d)
 
-        new-stripe : recordIn p (sealedIn p v1 0 z) (zoneAt v1 d z) o .stripe ≡ s
+        new-stripe : recordIn p (sealedIn p v1 0 z) (zoneAt v1 d (zoneOn z d)) o .stripe ≡ s
         new-stripe =
-            ap (λ (w : Bool). recordIn p w (zoneAt v1 d z) o .stripe) (open-after p r v sh st h so z oz d i hd hi fi rd b lb)
-            ∙ ap (λ (y : ℕ). recordIn p false (zoneAt v1 d z) y .stripe) (sym (mark-offset st (h .lists) i hi d o d8)) ∙ op .flight i hi fi .lands d hd on .of-stripe ∙ stripe1 i
+            ap (λ (w : Bool). recordIn p w (zoneAt v1 d (zoneOn z d)) o .stripe) (open-after p r v sh st h so z oz d i hd hi fi rd b lb)
+            ∙ ap (λ (y : ℕ). recordIn p false (zoneAt v1 d (zoneOn z d)) y .stripe) (sym (mark-offset st (h .lists) i hi d o d8)) ∙ op .flight i hi fi .lands d hd on .of-stripe ∙ stripe1 i
 
-        other : (x ≡ o → ⊥) → pointerAt v1 d z ≡ suc (pointerAt v d z) → 1 ≤ pointerAt v d z → x < dataStored p (zoneAt v1 d z) → x < dataStored p (zoneAt v d z)
-        other ne a c y = unfold pointerAt in put-below p (zoneAt v d z) (zoneAt v1 d z) x a c ne y
+        other : (x ≡ o → ⊥) → pointerAt v1 d (zoneOn z d) ≡ suc (pointerAt v d (zoneOn z d)) → 1 ≤ pointerAt v d (zoneOn z d) → x < dataStored p (zoneAt v1 d (zoneOn z d))
+            → x < dataStored p (zoneAt v d (zoneOn z d))
+        other ne a c y = unfold pointerAt in put-below p (zoneAt v d (zoneOn z d)) (zoneAt v1 d (zoneOn z d)) x a c ne y
 
-        here! : x < dataStored p (zoneAt v1 d z) → recordIn p (sealedIn p v1 0 z) (zoneAt v1 d z) x .stripe ≡ t → Dec (x ≡ o) → x < dataStored p (zoneAt v d z)
-        here! y w (yes a) = absurd (n (sym w ∙ ap (λ (m : ℕ). recordIn p (sealedIn p v1 0 z) (zoneAt v1 d z) m .stripe) a ∙ new-stripe))
+        here! : x < dataStored p (zoneAt v1 d (zoneOn z d)) → recordIn p (sealedIn p v1 0 z) (zoneAt v1 d (zoneOn z d)) x .stripe ≡ t → Dec (x ≡ o) → x < dataStored p (zoneAt v d (zoneOn z d))
+        here! y w (yes a) = absurd (n (sym w ∙ ap (λ (m : ℕ). recordIn p (sealedIn p v1 0 z) (zoneAt v1 d (zoneOn z d)) m .stripe) a ∙ new-stripe))
         here! y w (no a) = other a (chunk-pointer p r v sh st h so z oz d i hd hi fi rd b lb) (pointer-some p r v sh st h so z oz d i hd hi fi rd b lb) y
 
-        go : Dec (d ≡ e) → x < dataStored p (zoneAt v e z)
+        go : Dec (d ≡ e) → x < dataStored p (zoneAt v e (zoneOn z e))
         go (no a) = subst (λ (y : Zone). x < dataStored p y) (chunk-other p r v sh st h so z oz d i hd hi fi rd b lb e z he hz (inl a)) l
-        go (yes a) = subst (λ (m : ℕ). x < dataStored p (zoneAt v m z)) a
-            (here! (subst (λ (m : ℕ). x < dataStored p (zoneAt v1 m z)) (sym a) l)
-            (subst (λ (m : ℕ). recordIn p (sealedIn p v1 0 z) (zoneAt v1 m z) x .stripe ≡ t) (sym a) q) (ℕ-discrete x o))
+        go (yes a) = subst (λ (m : ℕ). x < dataStored p (zoneAt v m (zoneOn z m))) a
+            (here! (subst (λ (m : ℕ). x < dataStored p (zoneAt v1 m (zoneOn z m))) (sym a) l)
+            (subst (λ (m : ℕ). recordIn p (sealedIn p v1 0 z) (zoneAt v1 m (zoneOn z m)) x .stripe ≡ t) (sym a) q) (ℕ-discrete x o))
 
     pub chunk-parities : (old : List Segment) → ParityMade p v 0 old → ParityMade p v1 0 old
     chunk-parities old pm = parity-grows p r v v1 z (chunk-grows p r v sh st h so z oz d i hd hi fi rd b lb) (st .serial .0) (h .tidy) old pm

@@ -11,7 +11,7 @@ use lib.Dec.{eqb}
 use lib.ListN.{length, getD}
 use Rattle.spec.specs.declared.Params.{Params}
 use Rattle.spec.specs.declared.State.{State}
-use Rattle.spec.specs.Drives.{Chunk, mkChunk, noChunk, Zone, View, zoneAt, pointerAt, chunkAt, storeView, storeAll, zoneOn, sealedIn, dataStored}
+use Rattle.spec.specs.Drives.{Chunk, mkChunk, noChunk, Zone, View, zoneAt, pointerAt, chunkAt, storeView, storeAll, Seg, zoneOn, sealedIn, dataStored}
 use Rattle.spec.specs.Landing.{flightRec, sealStores}
 use Rattle.spec.specs.Layout.{parityDrive, dataPosition, isData, parityPosition, dataDrives, Rec, mkRec, recordBytes}
 use Rattle.spec.specs.Lists.{below, keep, isIn}
@@ -23,6 +23,7 @@ use Rattle.law_basic.specs.Geometry.{Ranged}
 use Rattle.law_basic.specs.Mask.{isIn-empty}
 use Rattle.law_basic.specs.Ranges.{Test, test}
 use Rattle.law_basic.specs.Ranges.Test.{yes!, no! }
+use Rattle.law_basic.specs.Segs.{Named}
 use Rattle.spec_demands.specs.Layouts.{ParityMade}
 use Rattle.spec_demands.specs.Tables.{Pending, noPending}
 use Rattle.law_drives.specs.Footers.{footerChunks}
@@ -165,35 +166,35 @@ module _ (p : Params) (v : View) (st : State) (ls : Lists st) (i : ℕ) (hi : i 
 
 -- ---- a segment is sealed
 
-module _ (p : Params) (r : Ranged p) (v : View) (sh : Shaped p v) (z : ℕ) (hz : z < p .Z) (behind : (e : ℕ) → e < p .N → pointerAt v e z ≡ 1 + p .S) where
+module _ (p : Params) (r : Ranged p) (v : View) (sh : Shaped p v) (z : Seg) (hz : Named p z) (behind : (e : ℕ) → e < p .N → pointerAt v e (zoneOn z e) ≡ 1 + p .S) where
   abbrev u : View
   u = storeAll storeView (sealStores p v z) v
 
-  all-data : (w : View) (e : ℕ) → 1 + p .S ≤ pointerAt w e z → dataStored p (zoneAt w e z) ≡ p .S
-  all-data w e l = unfold pointerAt dataStored in (let x : min (zoneAt w e z .pointer - 1) (p .S) ≡ p .S = omega arith in x)
+  all-data : (w : View) (e : ℕ) → 1 + p .S ≤ pointerAt w e (zoneOn z e) → dataStored p (zoneAt w e (zoneOn z e)) ≡ p .S
+  all-data w e l = unfold pointerAt dataStored in (let x : min (zoneAt w e (zoneOn z e) .pointer - 1) (p .S) ≡ p .S = omega arith in x)
 
-  stored-before : (e : ℕ) → e < p .N → dataStored p (zoneAt v e z) ≡ p .S
+  stored-before : (e : ℕ) → e < p .N → dataStored p (zoneAt v e (zoneOn z e)) ≡ p .S
   stored-before e he = all-data v e (let a = behind e he in omega arith)
 
-  stored-after : (e : ℕ) → e < p .N → dataStored p (zoneAt u e z) ≡ p .S
+  stored-after : (e : ℕ) → e < p .N → dataStored p (zoneAt u e (zoneOn z e)) ≡ p .S
   stored-after e he = all-data u e (let a = seal-pointer p r v sh z hz behind e he in let c = capacity-over p r in omega arith)
 
   seal-extends : (e : ℕ) → e < p .N → Extends p 0 v u z e
   seal-extends e he = record {
     more = le-of-eq (stored-before e he ∙ sym (stored-after e he));
     same-record = λ o l.
-        sym (record-at p (sealedIn p u 0 z) (zoneAt u e z) o (mkRec 0 0 0) (subst (λ (n : ℕ). o < n) (stored-before e he ∙ sym (stored-after e he)) l))
+        sym (record-at p (sealedIn p u 0 z) (zoneAt u e (zoneOn z e)) o (mkRec 0 0 0) (subst (λ (n : ℕ). o < n) (stored-before e he ∙ sym (stored-after e he)) l))
         ∙ ap (λ (rs : List Rec). getD rs o (mkRec 0 0 0)) (sym (seal-records p r v sh z hz behind e he))
-        ∙ record-at p (sealedIn p v 0 z) (zoneAt v e z) o (mkRec 0 0 0) l;
+        ∙ record-at p (sealedIn p v 0 z) (zoneAt v e (zoneOn z e)) o (mkRec 0 0 0) l;
     same-block = λ o l.
         ap (λ (q : Zone). getD (q .blocks) (1 + o) noChunk .block) (seal-zone p r v sh z hz behind e he)
-        ∙ ap (λ (c : Chunk). c .block) (puts-old e z (footerChunks p (zoneAt v e z) 0 (footers p)) (zoneAt v e z) (1 + o) (low o l));
+        ∙ ap (λ (c : Chunk). c .block) (puts-old e (zoneOn z e) (footerChunks p (zoneAt v e (zoneOn z e)) 0 (footers p)) (zoneAt v e (zoneOn z e)) (1 + o) (low o l));
   }
     where
-      low : (o : ℕ) → o < dataStored p (zoneAt v e z) → 1 + o < zoneAt v e z .pointer
+      low : (o : ℕ) → o < dataStored p (zoneAt v e (zoneOn z e)) → 1 + o < zoneAt v e (zoneOn z e) .pointer
       low o l = let a = stored-before e he in let c = at! (behind e he) in omega arith
         where
-          at! : pointerAt v e z ≡ 1 + p .S → zoneAt v e z .pointer ≡ 1 + p .S
+          at! : pointerAt v e (zoneOn z e) ≡ 1 + p .S → zoneAt v e (zoneOn z e) .pointer ≡ 1 + p .S
           at! q = unfold pointerAt in q
 
   -- a stripe that counts goes on counting

@@ -7,61 +7,39 @@ use Prim.Native.Nat.{ℕ, _+_, _<_}
 use native.Mathlib.Omega.{arith}
 use lib.ListN.{getD}
 use Rattle.spec.specs.declared.Params.{Params}
-use Rattle.spec.specs.Drives.{noChunk, Zone, noZone, View, zoneAt, chunkAt, zoneOn, sealedIn, dataStored, recordIn, recordAt}
+use Rattle.spec.specs.Drives.{noChunk, Zone, noZone, View, zoneAt, chunkAt, Seg, zoneOn, sealedIn, dataStored, recordIn, recordAt}
 use Rattle.spec.specs.Layout.{parityDrive, dataDrive, dataDrives}
 use Rattle.spec.specs.Lists.{below}
-use Rattle.spec.specs.Params.{dataCount, present}
+use Rattle.spec.specs.Params.{dataCount}
 use Rattle.spec.specs.Parity.{mkPiece, encodePiece}
 use Rattle.spec.specs.Segments.{remaining, Segment, segmentOf, offsetOn, hasChunk, counts, storedPiece, storedRec}
 use Rattle.law_basic.specs.Geometry.{Ranged, parity-drive-lt, data-drive-lt}
 use Rattle.law_basic.specs.Mask.{isIn-empty}
 use Rattle.law_basic.specs.Ranges.{map-map}
+use Rattle.law_basic.specs.Segs.{Named}
 use Rattle.spec_demands.specs.Layouts.{Remains, foundCounted, ParityMade}
-use Rattle.law_drives.specs.Members.{in-all, map-cong, below-in, is-member, member-is}
-use Rattle.law_drives.specs.Segs.{present-in, zone-by, chunk-at, has-chunk, offset-is}
+use Rattle.law_drives.specs.Members.{map-cong, below-in}
+use Rattle.law_drives.specs.Segs.{is-seg, seg-in, zone-by, chunk-at}
 use Rattle.law_drives.specs.Settled.{used-remains, remains-is-used, SameZones, zones-segment}
 use Rattle.law_drives.specs.Spots.{counts-in}
 use Rattle.law_drives.specs.Tidy.{usedAt, Tidy}
 
 -- ---- the same zones, the same pieces
 
--- zone by zone, as the layout names them
-abbrev pub ZonesAs : Params → View → View → ℕ → Type 0
-ZonesAs p v u g = (d : ℕ) → d < p .N → zoneAt u d (zoneOn g d) ≡ zoneAt v d (zoneOn g d)
-
-pub zones-as-same : (p : Params) (v u : View) (g : ℕ) → ZonesAs p v u g → SameZones p v u g
-unfolding zoneOn
-zones-as-same p v u g sm d h = sym (sm d h)
-
--- the segment as read
-pub same-segment : (p : Params) → Ranged p → (v u : View) (g : ℕ) → ZonesAs p v u g → segmentOf p u 0 g ≡ segmentOf p v 0 g
-same-segment p r v u g sm = sym (zones-segment p r v u g (zones-as-same p v u g sm))
-
-pub counts-as : (p : Params) → Ranged p → (v u : View) (g s : ℕ) → ZonesAs p v u g → counts p 0 (segmentOf p u 0 g) s ≡ counts p 0 (segmentOf p v 0 g) s
-counts-as p r v u g s sm = ap (λ (x : Segment). counts p 0 x s) (same-segment p r v u g sm)
-
-pub stored-piece-as : (p : Params) → Ranged p → (v u : View) (g s d : ℕ) → ZonesAs p v u g → storedPiece (segmentOf p u 0 g) s d ≡ storedPiece (segmentOf p v 0 g) s d
-stored-piece-as p r v u g s d sm = ap (λ (x : Segment). storedPiece x s d) (same-segment p r v u g sm)
-
 -- ---- what counts
-
--- a stripe counts where every drive has its chunk
-pub counts-by-all : (p : Params) (x : Segment) (s : ℕ) → ((d : ℕ) → d < p .N → hasChunk x s d ≡ true) → counts p 0 x s ≡ true
-unfolding counts
-counts-by-all p x s f = in-all (hasChunk x s) (present p 0) (λ d m. f d (present-in p 0 d m .0))
 
 pub count-all : (p : Params) (x : Segment) (s : ℕ) → counts p 0 x s ≡ true → (d : ℕ) → d < p .N → hasChunk x s d ≡ true
 count-all p x s q d h = counts-in p 0 x s d q h (isIn-empty d)
 
 -- nothing counts in a segment with no data on some drive
-pub bare-counts : (p : Params) (v : View) (g s d : ℕ) → d < p .N → dataStored p (zoneAt v d g) ≡ 0 → counts p 0 (segmentOf p v 0 g) s ≡ true → ⊥
+pub bare-counts : (p : Params) (v : View) (g : Seg) (s d : ℕ) → d < p .N → dataStored p (zoneAt v d (zoneOn g d)) ≡ 0 → counts p 0 (segmentOf p v 0 g) s ≡ true → ⊥
 bare-counts p v g s d h e q =
     let k = chunk-at p v 0 g d s h (isIn-empty d) (count-all p (segmentOf p v 0 g) s q d h) .stored-there in
     let bad : ⊥ = omega arith in bad
 
 -- ---- a piece: the block and the record at the stripe's first offset
 
-module _ (p : Params) (v : View) (g d s : ℕ) (hd : d < p .N) where
+module _ (p : Params) (v : View) (g : Seg) (d s : ℕ) (hd : d < p .N) where
   abbrev seg : Segment
   seg = segmentOf p v 0 g
 
@@ -70,25 +48,16 @@ module _ (p : Params) (v : View) (g d s : ℕ) (hd : d < p .N) where
   piece-made = refl
 
   block-there : (o : ℕ) → getD (getD (seg .zonesBy) d noZone .blocks) (1 + o) noChunk .block ≡ chunkAt v d (zoneOn g d) (1 + o) .block
-  unfolding chunkAt zoneOn
+  unfolding chunkAt
   block-there o = ap (λ (x : Zone). getD (x .blocks) (1 + o) noChunk .block) (zone-by p v 0 g d hd)
 
-  recordIn-at : (o : ℕ) → recordIn p (sealedIn p v 0 g) (zoneAt v d g) o ≡ recordAt p v 0 d g o
-  unfolding recordAt zoneOn
+  recordIn-at : (o : ℕ) → recordIn p (sealedIn p v 0 g) (zoneAt v d (zoneOn g d)) o ≡ recordAt p v 0 d g o
+  unfolding recordAt
   recordIn-at o = refl
 
   -- where the drive has the chunk
   pub piece-at : hasChunk seg s d ≡ true → storedPiece seg s d ≡ mkPiece (chunkAt v d (zoneOn g d) (1 + offsetOn seg d s) .block) (recordAt p v 0 d g (offsetOn seg d s))
   piece-at q = piece-made ∙ ap₂ mkPiece (block-there (offsetOn seg d s)) (chunk-at p v 0 g d s hd (isIn-empty d) q .its-record ∙ recordIn-at (offsetOn seg d s))
-
-  -- and the offset is known: the first of the stripe
-  pub stored-piece-is : (o : ℕ) → o < dataStored p (zoneAt v d (zoneOn g d)) → recordAt p v 0 d g o .stripe ≡ s → ((i : ℕ) → i < o → recordAt p v 0 d g i .stripe ≡ s → ⊥)
-      → (hasChunk seg s d ≡ true) × (offsetOn seg d s ≡ o) × (storedPiece seg s d ≡ mkPiece (chunkAt v d (zoneOn g d) (1 + o) .block) (recordAt p v 0 d g o))
-  unfolding recordAt zoneOn
-  stored-piece-is o l e f =
-      let h = has-chunk p v 0 g d s o hd (isIn-empty d) l e in
-      let eo = offset-is p v 0 g d s o hd (isIn-empty d) l e f in
-      (h, eo, piece-at h ∙ ap (λ (x : ℕ). mkPiece (chunkAt v d (zoneOn g d) (1 + x) .block) (recordAt p v 0 d g x)) eo)
 
 -- ---- parity, from one view to the next
 
@@ -115,7 +84,7 @@ parity-goes p r x y s sm q =
 
 -- each stripe that counts was there before, or has its parity
 pub parity-from : (p : Params) → Ranged p → (v u : View) (gone : ℕ) (old : List Segment) → ParityMade p v gone old
-    → ((g s : ℕ) → Remains p u gone g → s < p .S → counts p gone (segmentOf p u gone g) s ≡ true
+    → ((g : Seg) (s : ℕ) → Remains p u gone g → s < p .S → counts p gone (segmentOf p u gone g) s ≡ true
     → (Remains p v gone g × SameStripe p gone (segmentOf p v gone g) (segmentOf p u gone g) s) ⊎ ParityAt p (segmentOf p u gone g) s)
     → ParityMade p u gone old
 parity-from p r v u gone old pm f g s rm hs c nf = go (f g s rm hs c)
@@ -127,11 +96,11 @@ parity-from p r v u gone old pm f g s rm hs c nf = go (f g s rm hs c)
 
 -- segments that remain are of before, with the same zones, or nothing counts in them
 pub parity-zones : (p : Params) → Ranged p → (v u : View) (old : List Segment) → ParityMade p v 0 old
-    → ((g : ℕ) → Remains p u 0 g → (Remains p v 0 g × SameZones p v u g) ⊎ ((s : ℕ) → counts p 0 (segmentOf p u 0 g) s ≡ true → ⊥))
+    → ((g : Seg) → Remains p u 0 g → (Remains p v 0 g × SameZones p v u g) ⊎ ((s : ℕ) → counts p 0 (segmentOf p u 0 g) s ≡ true → ⊥))
     → ParityMade p u 0 old
 parity-zones p r v u old pm f = parity-from p r v u 0 old pm (λ g s rm hs c. go g s c (f g rm))
   where
-    go : (g s : ℕ) → counts p 0 (segmentOf p u 0 g) s ≡ true → (Remains p v 0 g × SameZones p v u g) ⊎ ((s : ℕ) → counts p 0 (segmentOf p u 0 g) s ≡ true → ⊥)
+    go : (g : Seg) (s : ℕ) → counts p 0 (segmentOf p u 0 g) s ≡ true → (Remains p v 0 g × SameZones p v u g) ⊎ ((s : ℕ) → counts p 0 (segmentOf p u 0 g) s ≡ true → ⊥)
         → (Remains p v 0 g × SameStripe p 0 (segmentOf p v 0 g) (segmentOf p u 0 g) s) ⊎ ParityAt p (segmentOf p u 0 g) s
     go g s c (inr n) = absurd (n s c)
     go g s c (inl (rv, sm)) =
@@ -146,8 +115,8 @@ parity-zones p r v u old pm f = parity-from p r v u 0 old pm (λ g s rm hs c. go
         )
 
 -- what remains, where none is missing and the segments are tidy: what is used
-pub remains-of-used : (p : Params) (r : Ranged p) (v : View) (n : ℕ) → Tidy p v n → (g : ℕ) → g < p .Z → usedAt v g ≡ true → Remains p v 0 g
-remains-of-used p r v n t g hg q = member-is g (remaining p v 0) (used-remains p r v n t g hg q)
+pub remains-of-used : (p : Params) (r : Ranged p) (v : View) (n : ℕ) → Tidy p v n → (g : Seg) → Named p g → usedAt v g ≡ true → Remains p v 0 g
+remains-of-used p r v n t g hg q = seg-in g (remaining p v 0) (used-remains p r v n t g hg q)
 
-pub used-of-remains : (p : Params) (r : Ranged p) (v : View) (n : ℕ) → Tidy p v n → (g : ℕ) → Remains p v 0 g → (g < p .Z) × (usedAt v g ≡ true)
-used-of-remains p r v n t g q = remains-is-used p r v n t g (is-member g (remaining p v 0) q)
+pub used-of-remains : (p : Params) (r : Ranged p) (v : View) (n : ℕ) → Tidy p v n → (g : Seg) → Remains p v 0 g → Named p g × (usedAt v g ≡ true)
+used-of-remains p r v n t g q = remains-is-used p r v n t g (is-seg g (remaining p v 0) q)

@@ -14,7 +14,7 @@ use Rattle.spec.specs.declared.Answer.the-variants.{Copied, Reset}
 use Rattle.spec.specs.Answers.{kind, isCut}
 use Rattle.spec.specs.Calls.{Check, Plan, firstRefusal}
 use Rattle.spec.specs.Counts.{aStamp}
-use Rattle.spec.specs.Drives.{noChunk, Zone, View, zoneAt, pointerAt, chunkAt, Store, storeView, Disk, storeDisk, storeAll, zoneOn, placeSegment, sealedIn, recordIn, recordAt, resetStores}
+use Rattle.spec.specs.Drives.{noChunk, Zone, View, zoneAt, pointerAt, chunkAt, Store, storeView, Disk, storeDisk, storeAll, Seg, seg, zoneOn, placeSegment, sealedIn, recordIn, recordAt, resetStores}
 use Rattle.spec.specs.Engine.{storeCount, lentBlock, verdict, lentOk, callOn, callDisk}
 use Rattle.spec.specs.Engine.Call.{reclaim}
 use Rattle.spec.specs.Layout.{Rec}
@@ -28,6 +28,7 @@ use Rattle.spec.specs.Write.{opens, noSerial, mustWait, scarce, Sending, sendin
 use Rattle.law_basic.specs.Geometry.{Ranged, ranged}
 use Rattle.law_basic.specs.Ranges.{Test, test}
 use Rattle.law_basic.specs.Ranges.Test.{yes!, no! }
+use Rattle.law_basic.specs.Segs.{Named, zone-on-lt, place-segment-zone}
 use Rattle.proof_crash_calls.specs.Cells.{SameSlot}
 use Rattle.spec_demands.specs.Layouts.{Remains, ParityMade}
 use Rattle.spec_demands.specs.Tables.{Pending, pendingAfter}
@@ -39,7 +40,7 @@ use Rattle.law_drives.specs.Records.{record-low}
 use Rattle.law_drives.specs.Resets.{reset-same, reset-roomy, reset-within, reset-was, reset-tidy}
 use Rattle.law_drives.specs.Segs.{remaining-low}
 use Rattle.law_drives.specs.Settled.{SameZones}
-use Rattle.law_drives.specs.Spots.{cand-zone, spot-block, spot-drive}
+use Rattle.law_drives.specs.Spots.{cand-segment, spot-block, spot-drive}
 use Rattle.law_drives.specs.Tests.{clash, cond-true, cond-false}
 use Rattle.law_drives.specs.Zones.{Shaped}
 use Rattle.proof_tables.specs.Bounds.{open-short}
@@ -60,17 +61,17 @@ use Rattle.proof_flights.specs.Written.{well-of, run-seen-after, flown-p
 
 -- ---- a sealed segment is reset
 
-module _ (p : Params) (r : Ranged p) (v : View) (sh : Shaped p v) (g : ℕ) (hg : g < p .Z) (st : State) (h : HealthyState p v st) (so : StateOk p st)
-    (full : (d : ℕ) → d < p .N → pointerAt v d g ≡ capacity p) where
+module _ (p : Params) (r : Ranged p) (v : View) (sh : Shaped p v) (g : Seg) (hg : Named p g) (st : State) (h : HealthyState p v st) (so : StateOk p st)
+    (full : (d : ℕ) → d < p .N → pointerAt v d (zoneOn g d) ≡ capacity p) where
   abbrev after : View
   after = storeAll storeView (resetStores p g) v
 
   -- it isn't the open one
-  not-open : (z : ℕ) → st .opened ≡ suc z → g ≡ z → ⊥
+  not-open : (z : Seg) → st .opened ≡ suc (z .name) → g ≡ z → ⊥
   not-open z e q =
       let h0 : 0 < p .N = omega (arith, r .drives-low) in
       let x = open-short p r v st z so (h .opens-at z e) 0 h0 in
-      let y : pointerAt v 0 z ≡ capacity p = ap (pointerAt v 0) (sym q) ∙ full 0 h0 in
+      let y : pointerAt v 0 (zoneOn z 0) ≡ capacity p = ap (λ (x : Seg). pointerAt v 0 (zoneOn x 0)) (sym q) ∙ full 0 h0 in
       let bad : ⊥ = omega arith in bad
 
   pub flights-reset : (fl : List ℕ) (ws : List Pending) → Flights p v st fl ws → Flights p after st fl ws
@@ -82,20 +83,20 @@ module _ (p : Params) (r : Ranged p) (v : View) (sh : Shaped p v) (g : ℕ) (hg 
       stays : (j d b : ℕ) → j < 8 → flies st j ≡ true → d < p .N → (n : ℕ) → st .opened ≡ n
           → chunkAt after d (zoneOn (openSegment st) d) b ≡ chunkAt v d (zoneOn (openSegment st) d) b
       stays j d b hj fj hd zero e = clash fj (h .shut e j hj)
-      stays j d b hj fj hd (suc z) e =
-          subst (λ (x : ℕ). chunkAt after d (zoneOn x d) b ≡ chunkAt v d (zoneOn x d) b) (sym (open-is e))
-          (chunk-same (sym (reset-same p r v sh g hg z (h .opens-at z e .opened-zone) (not-open z e) d hd)))
+      stays j d b hj fj hd (suc n) e =
+          subst (λ (x : Seg). chunkAt after d (zoneOn x d) b ≡ chunkAt v d (zoneOn x d) b) (sym (open-is e))
+          (chunk-same (sym (reset-same p r v sh g hg (seg n) (h .opens-at (seg n) e .opened-zone) (not-open (seg n) e) d hd)))
         where
-          open-is : st .opened ≡ suc z → openSegment st ≡ z
-          open-is e = unfold openSegment in omega arith
+          open-is : st .opened ≡ suc n → openSegment st ≡ seg n
+          open-is e = unfold openSegment in ap seg (let x : st .opened - 1 ≡ n = omega arith in x)
 
-          chunk-same : zoneAt after d z ≡ zoneAt v d z → chunkAt after d (zoneOn z d) b ≡ chunkAt v d (zoneOn z d) b
-          chunk-same q = unfold chunkAt zoneOn in ap (λ (x : Zone). getD (x .blocks) b noChunk) q
+          chunk-same : zoneAt after d (zoneOn (seg n) d) ≡ zoneAt v d (zoneOn (seg n) d) → chunkAt after d (zoneOn (seg n) d) b ≡ chunkAt v d (zoneOn (seg n) d) b
+          chunk-same q = unfold chunkAt in ap (λ (x : Zone). getD (x .blocks) b noChunk) q
 
   pub parity-reset : (old : List Segment) → ParityMade p v 0 old → ParityMade p after 0 old
   parity-reset old pm = parity-zones p r v after old pm (λ y rm. go y rm)
     where
-      go : (y : ℕ) → Remains p after 0 y → (Remains p v 0 y × SameZones p v after y) ⊎ ((s : ℕ) → counts p 0 (segmentOf p after 0 y) s ≡ true → ⊥)
+      go : (y : Seg) → Remains p after 0 y → (Remains p v 0 y × SameZones p v after y) ⊎ ((s : ℕ) → counts p 0 (segmentOf p after 0 y) s ≡ true → ⊥)
       go y rm =
           let n = st .serial .0 in
           let (hy, q) = used-of-remains p r after n (reset-tidy p r v sh g hg n (h .tidy)) y rm in
@@ -144,23 +145,23 @@ module _ (p : Params) (k : Disk) (m : Memory) (u : Run p k m) (ws : List Pending
       let k′ = storeAll (storeDisk p) (resetStores p g) k in
       let m′ = mkMemory st (m .addresses) cs (m .inflight) in
       flown-as p k′ m′ _ ws old _ _ (ap (λ (l : List Store). storeAll (storeDisk p) l k) (stores-is g)) (memory-is g)
-      (ap (λ (y : Answer). pendingAfter (reclaim n) y ws) (answer-is g) ∙ pending-quiet (reclaim n) (Reset g) ws (quiet-reset g))
+      (ap (λ (y : Answer). pendingAfter (reclaim n) y ws) (answer-is g) ∙ pending-quiet (reclaim n) (Reset (zoneOn g 0)) ws (quiet-reset (zoneOn g 0)))
       (flown-of p k′ m′ ws old (storeAll storeView (resetStores p g) v)
       (run-seen-after p k m u (resetStores p g) (reset-roomy p rg v sh g hg) (reset-within p rg v sh g hg)) (we .none-missing)
       (flights-reset p rg v sh g hg st (we .healthy) so full (m .inflight) ws (f .flights (we .none-missing)))
       (parity-reset p rg v sh g hg st (we .healthy) so full old (flown-parity-made p k m ws old f (we .none-missing))))
     where
-      stores-is : (g : ℕ) → resetPlan p m g .stores ≡ resetStores p g
+      stores-is : (g : Seg) → resetPlan p m g .stores ≡ resetStores p g
       stores-is g = unfold resetPlan in refl
 
-      memory-is : (g : ℕ) → resetPlan p m g .memory ≡ mkMemory st (m .addresses) (cleared p g (drivesOf p) (m .compact)) (m .inflight)
+      memory-is : (g : Seg) → resetPlan p m g .memory ≡ mkMemory st (m .addresses) (cleared p g (drivesOf p) (m .compact)) (m .inflight)
       memory-is g = unfold resetPlan in refl
 
-      answer-is : (g : ℕ) → resetPlan p m g .answer ≡ Reset g
+      answer-is : (g : Seg) → resetPlan p m g .answer ≡ Reset (zoneOn g 0)
       answer-is g = unfold resetPlan in refl
 
-      quiet-reset : (g : ℕ) → QuietAnswer (Reset g)
-      quiet-reset g = quiet-kind (Reset g) 7 (unfold kind in refl) refl refl refl refl
+      quiet-reset : (z : ℕ) → QuietAnswer (Reset z)
+      quiet-reset z = quiet-kind (Reset z) 7 (unfold kind in refl) refl refl refl refl
 
   -- the block that is copied, as it is sent
   abbrev rec : ℕ → Rec
@@ -183,15 +184,15 @@ module _ (p : Params) (k : Disk) (m : Memory) (u : Run p k m) (ws : List Pending
       let g = placeSegment p q in
       let o = placeBlock p q - 1 in
       let ed : d ≡ c .drive = ap (placeDrive p) (t .place!) ∙ spot-drive p rg v 0 c (t .spot) in
-      let eg : g ≡ kc .of = segment-is q ∙ ap (placeZone p) (t .place!) ∙ cand-zone p rg v 0 c kc (t .spot) in
+      let eg : g ≡ kc .of = ap (placeSegment p) (t .place!) ∙ cand-segment p rg v 0 c kc (t .spot) in
       let eb : placeBlock p q ≡ 1 + c .offset = ap (placeBlock p) (t .place!) ∙ spot-block p rg v 0 c (t .spot) in
       let hd : d < p .N = subst (λ (y : ℕ). y < p .N) (sym ed) (t .spot .drive-low) in
-      let hg : g < p .Z = subst (λ (y : ℕ). y < p .Z) (sym eg) (remaining-low p v 0 (kc .of) (kc .remains)) in
-      let low = record-low p (zoneAt v d g) (u .base .shaped .zone-ok d g hd hg) (sealedIn p v 0 g) o in
+      let hg : Named p g = subst (λ (y : Seg). Named p y) (sym eg) (remaining-low p v 0 (kc .of) (kc .remains)) in
+      let low = record-low p (zoneAt v d (zoneOn g d)) (u .base .shaped .zone-ok d (zoneOn g d) hd (zone-on-lt p g d hg)) (sealedIn p v 0 g) o in
       let er = record-is d g o in
       let hb : placeBlock p q < capacity p = (let l = t .spot .offset-low in let y = capacity-over p rg in omega arith) in
       let lb : length (chunkAt v d (placeZone p q) (placeBlock p q) .block) ≡ p .B =
-      ap (λ (y : ℕ). length (chunkAt v d y (placeBlock p q) .block)) (sym (segment-is q)) ∙ chunk-long d g (placeBlock p q) hd hg hb in
+      ap (λ (y : ℕ). length (chunkAt v d y (placeBlock p q) .block)) (sym (place-segment-zone p q)) ∙ chunk-long d g (placeBlock p q) hd hg hb in
       let sh = u .base .shaped in
       let bu = buffer-long p k m u we in
       let b = chunkAt v d (placeZone p q) (placeBlock p q) .block in
@@ -215,14 +216,11 @@ module _ (p : Params) (k : Disk) (m : Memory) (u : Run p k m) (ws : List Pending
           as! : In q (idle p v st w) → In q (keep (λ q. not (flying p v st q)) (victimLive w))
           as! i = unfold idle in i
 
-      segment-is : (q : ℕ) → placeSegment p q ≡ placeZone p q
-      segment-is q = unfold placeSegment in refl
+      record-is : (d : ℕ) (g : Seg) (o : ℕ) → recordAt p v 0 d g o ≡ recordIn p (sealedIn p v 0 g) (zoneAt v d (zoneOn g d)) o
+      record-is d g o = unfold recordAt in refl
 
-      record-is : (d g o : ℕ) → recordAt p v 0 d g o ≡ recordIn p (sealedIn p v 0 g) (zoneAt v d g) o
-      record-is d g o = unfold recordAt zoneOn in refl
-
-      chunk-long : (d g b : ℕ) → d < p .N → g < p .Z → b < capacity p → length (chunkAt v d g b .block) ≡ p .B
-      chunk-long d g b hd hg hb = unfold chunkAt in u .base .shaped .zone-ok d g hd hg .sound b hb .block-long
+      chunk-long : (d : ℕ) (g : Seg) (b : ℕ) → d < p .N → Named p g → b < capacity p → length (chunkAt v d (zoneOn g d) b .block) ≡ p .B
+      chunk-long d g b hd hg hb = unfold chunkAt in u .base .shaped .zone-ok d (zoneOn g d) hd (zone-on-lt p g d hg) .sound b hb .block-long
 
       stores-is : (q : ℕ) → copyPlan p v m q .stores ≡ copied q .stores
       stores-is q = unfold copyPlan in refl

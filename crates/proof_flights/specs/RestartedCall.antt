@@ -12,13 +12,13 @@ use Rattle.spec.specs.declared.Answer.the-variants.{Rebuilt}
 use Rattle.spec.specs.Answers.{kind, isRefused, isCut, finished}
 use Rattle.spec.specs.Calls.{Plan, mkPlan, After, firstRefusal}
 use Rattle.spec.specs.Counts.{lastCount}
-use Rattle.spec.specs.Drives.{View, Store, storeView, Disk, storeDisk, storeAll}
+use Rattle.spec.specs.Drives.{View, Store, storeView, Disk, storeDisk, storeAll, Seg, sameSeg}
 use Rattle.spec.specs.Engine.Call.{restart, rebuild}
 use Rattle.spec.specs.Engine.{storeCount, lentBlock, verdict, lentOk, callOn, callDisk}
 use Rattle.spec.specs.History.{endsRun}
-use Rattle.spec.specs.Lists.{isMember, isNil, flat}
+use Rattle.spec.specs.Lists.{any, isNil, flat}
 use Rattle.spec.specs.Memory.{Memory, idleState, filledIn}
-use Rattle.spec.specs.Restart.{freeZones, dropStores, mendStores, restartStores, restartMemory, rewrites, restartPlan}
+use Rattle.spec.specs.Restart.{freeSegs, dropStores, mendStores, restartStores, restartMemory, rewrites, restartPlan}
 use Rattle.spec.specs.Params.{named, present}
 use Rattle.spec.specs.Rebuild.{rebuildChecks, rebuildStores, rebuildVerdict}
 use Rattle.spec.specs.Segments.{lowDrive, remaining, Segment, segmentOf, segments, recsOn, hasChunk, counts, greatestSerial, unsealed}
@@ -37,11 +37,11 @@ use Rattle.law_drives.specs.Frame.{Agree, core, same-remaining, same-core}
 use Rattle.law_drives.specs.Joins.{roomy-append, within-append}
 use Rattle.law_drives.specs.Lengths.{whole-of}
 use Rattle.law_drives.specs.Masks.{named-in, named-some, low-present}
-use Rattle.law_drives.specs.Members.{In, is-member}
+use Rattle.law_drives.specs.Members.{In}
 use Rattle.law_drives.specs.Mended.{mended, serials-small}
 use Rattle.law_drives.specs.Range.{capacity-word}
 use Rattle.law_drives.specs.Rebuilding.{rebuild-roomy, rebuild-within, rebuild-agrees}
-use Rattle.law_drives.specs.Segs.{remaining-low}
+use Rattle.law_drives.specs.Segs.{remaining-low, is-seg}
 use Rattle.law_drives.specs.Tables.{zero-at}
 use Rattle.law_drives.specs.Tests.{clash, or-true-right, cond-true, cond-false}
 use Rattle.law_drives.specs.Zones.{Shaped, all-fit}
@@ -129,7 +129,7 @@ module _ (p : Params) (k : Disk) (m : Memory) (d : ℕ) (shk : Whole p k → Sha
       drives-same : storeAll (storeDisk p) (plan .stores) k ≡ k
       drives-same = ap (λ (l : List Store). storeAll (storeDisk p) l k) (start-plan-stores ∙ none!) ∙ nothing
 
-      found : (g s : ℕ) → Remains p v (plan .memory .state .missing) g → counts p (plan .memory .state .missing) (segmentOf p v (plan .memory .state .missing) g) s ≡ true
+      found : (g : Seg) (s : ℕ) → Remains p v (plan .memory .state .missing) g → counts p (plan .memory .state .missing) (segmentOf p v (plan .memory .state .missing) g) s ≡ true
           → foundCounted p (plan .memory .state .missing) (segments p v (named d)) (segmentOf p v (plan .memory .state .missing) g .serial) s ≡ true
       found g s = subst (λ (n : ℕ). Remains p v n g → counts p n (segmentOf p v n g) s ≡ true → foundCounted p n (segments p v (named d)) (segmentOf p v n g .serial) s ≡ true)
           (sym plan-missing) (counted-found p v (named d) g s)
@@ -140,7 +140,7 @@ module _ (p : Params) (k : Disk) (m : Memory) (d : ℕ) (shk : Whole p k → Sha
       let acc : Accepted p v 0 = subst (λ (g : ℕ). Accepted p v g) nd (b .accepted!) in
       let gs = segments p v 0 in
       let c6 = subst (λ (g : ℕ). rewrites p g (segments p v g) && eqb (greatestSerial (segments p v g)) lastCount ≡ false) nd (b .sixth!) in
-      let c8 = subst (λ (g : ℕ). rewrites p g (segments p v g) && isNil (freeZones p (segments p v g)) ≡ false) nd (b .eighth!) in
+      let c8 = subst (λ (g : ℕ). rewrites p g (segments p v g) && isNil (freeSegs p (segments p v g)) ≡ false) nd (b .eighth!) in
       let bd = serials-small p rg v sh in
       let ds = dropStores p gs in
       let ts = flat (mendStores p gs) (unsealed gs) in
@@ -231,8 +231,8 @@ found-agrees : (p : Params) (gone : ℕ) (v u : View) (old : List Segment) → I
     → FoundBefore p v gone old → FoundBefore p u gone old
 found-agrees p gone v u old low ag f g s rm hs c =
     let er = same-remaining p gone v u low ag in
-    let rv : Remains p v gone g = ap (isMember g) er ∙ rm in
-    let ec = same-core p gone v u low ag g (remaining-low p v gone g (is-member g (remaining p v gone) rv)) in
+    let rv : Remains p v gone g = ap (any (sameSeg g)) er ∙ rm in
+    let ec = same-core p gone v u low ag g (remaining-low p v gone g (is-seg g (remaining p v gone) rv)) in
     let sx = segmentOf p v gone g in
     let sy = segmentOf p u gone g in
     let es : sx .serial ≡ sy .serial = serial-core sx ∙ ap (λ (x : Segment). x .serial) ec ∙ sym (serial-core sy) in

@@ -5,11 +5,11 @@ use mathlib.Core.Bool.{Bool, true, false, cond, _&&_}
 use Prim.Native.Nat.{ℕ, zero, suc, _+_, _^_, _<_}
 use native.Mathlib.Nat.{add-zero, zero-add}
 use native.Mathlib.Omega.{arith}
-use borrow.Author.Tests.{ne-eqb}
 use lib.Dec.{eqb}
 use lib.ListN.{length, getD}
 use Rattle.spec.specs.declared.Params.{Params}
-use Rattle.spec.specs.Drives.{Chunk, mkChunk, noChunk, Zone, View, zoneAt, pointerAt, Store, storeView, storeAll, zoneOn, sealedIn, dataStored, recordIn, zeroSpare, headerStores, resetStores}
+use Rattle.spec.specs.Drives.{Chunk, mkChunk, noChunk, Zone, View, zoneAt, pointerAt, Store, storeView, storeAll, zoneOn, Seg, sameSeg, sealedIn, dataStored}
+use Rattle.spec.specs.Drives.{recordIn, zeroSpare, headerStores, resetStores}
 use Rattle.spec.specs.Drives.Store.{put, reset}
 use Rattle.spec.specs.Layout.{parityDrive, dataDrive, dataPosition, isData, parityPosition, dataDrives, headerBlock, Rec, mkRec, recordBytes, recordOf}
 use Rattle.spec.specs.Lists.{below, keep}
@@ -22,6 +22,7 @@ use Rattle.law_basic.specs.Mask.{isIn-empty}
 use Rattle.law_basic.specs.Ranges.{Test, test, getD-map-below, map-map}
 use Rattle.law_basic.specs.Ranges.Test.{yes!, no! }
 use Rattle.law_basic.specs.Each.{each-map, each-below}
+use Rattle.law_basic.specs.Segs.{Named, seg-other, zone-on-lt}
 use Rattle.law_code.specs.Chunks.{moved-is-data, moved-is-parity}
 use Rattle.law_code.specs.Code.{encode-low, encode-stripe, encode-apart}
 use Rattle.law_drives.specs.Accept.{Accepted}
@@ -29,7 +30,7 @@ use Rattle.law_drives.specs.Dropping.{drop-empty}
 use Rattle.law_drives.specs.Laid.{record-back}
 use Rattle.law_drives.specs.Members.{map-cong, in-getD, below-in}
 use Rattle.law_drives.specs.Mending.{shaped-a}
-use Rattle.law_drives.specs.Puts.{hits-append, putAt, hits-drives, hits-resets, hits-headers, putAll, puts-new}
+use Rattle.law_drives.specs.Puts.{hits-append, putAt, hits-drives, hits-headers, resets-on, putAll, puts-new}
 use Rattle.law_drives.specs.Range.{capacity-over}
 use Rattle.law_drives.specs.Rebuilding.{counted-low, counted-in, pieceChunk}
 use Rattle.law_drives.specs.Records.{record-low}
@@ -142,34 +143,35 @@ module _ (p : Params) (x : Segment) where
   chunks-at e (s ∷ ss) k (suc i) h = chunks-at e ss (suc k) i (omega arith)
       ∙ ap (λ (n : ℕ). pieceChunk (movedOn p (movedPieces p x (getD ss i 0) n) n e)) (let w : suc k + i ≡ k + suc i = omega arith in w)
 
-  stripes-moved-hits : (z e y : ℕ) (ss : List ℕ) (k : ℕ) → e < p .N → hits e y (movedStripes p x z ss k) ≡ cond (eqb z y) (map (putAt e z) (chunksOn e ss k)) []
+  stripes-moved-hits : (z : Seg) (e y : ℕ) (ss : List ℕ) (k : ℕ) → e < p .N
+      → hits e y (movedStripes p x z ss k) ≡ cond (eqb (zoneOn z e) y) (map (putAt e (zoneOn z e)) (chunksOn e ss k)) []
   unfolding movedStripes chunksOn
-  stripes-moved-hits z e y [] k he = none! ∙ sym (cond-same (eqb z y) [])
+  stripes-moved-hits z e y [] k he = none! ∙ sym (cond-same (eqb (zoneOn z e) y) [])
     where
       none! : hits e y [] ≡ []
       none! = unfold keep in refl
   stripes-moved-hits z e y (s ∷ ss) k he =
       hits-append e y (movedStripe p x z s k) (movedStripes p x z ss (suc k))
-      ∙ ap₂ _++_ (one ∙ hits-drives p e y z (λ d. putPiece d z (movedOn p (movedPieces p x s k) k d)) hit he) (stripes-moved-hits z e y ss (suc k) he)
-      ∙ join (eqb z y)
+      ∙ ap₂ _++_ (one ∙ hits-drives p e y (zoneOn z) (λ d. putPiece d (zoneOn z d) (movedOn p (movedPieces p x s k) k d)) hit he) (stripes-moved-hits z e y ss (suc k) he)
+      ∙ join (eqb (zoneOn z e) y)
     where
-      one : hits e y (movedStripe p x z s k) ≡ hits e y (map (λ d. putPiece d z (movedOn p (movedPieces p x s k) k d)) (drivesOf p))
-      one = unfold movedStripe zoneOn in refl
+      one : hits e y (movedStripe p x z s k) ≡ hits e y (map (λ d. putPiece d (zoneOn z d) (movedOn p (movedPieces p x s k) k d)) (drivesOf p))
+      one = unfold movedStripe in refl
 
-      hit : (d : ℕ) → hitsAt e y (putPiece d z (movedOn p (movedPieces p x s k) k d)) ≡ (eqb d e && eqb z y)
+      hit : (d : ℕ) → hitsAt e y (putPiece d (zoneOn z d) (movedOn p (movedPieces p x s k) k d)) ≡ (eqb d e && eqb (zoneOn z d) y)
       hit d = unfold putPiece hitsAt in refl
 
-      join : (b : Bool) → cond b (putPiece e z (movedOn p (movedPieces p x s k) k e) ∷ []) [] ++ cond b (map (putAt e z) (chunksOn e ss (suc k))) []
-          ≡ cond b (putAt e z (pieceChunk (movedOn p (movedPieces p x s k) k e)) ∷ map (putAt e z) (chunksOn e ss (suc k))) []
+      join : (b : Bool) → cond b (putPiece e (zoneOn z e) (movedOn p (movedPieces p x s k) k e) ∷ []) [] ++ cond b (map (putAt e (zoneOn z e)) (chunksOn e ss (suc k))) []
+          ≡ cond b (putAt e (zoneOn z e) (pieceChunk (movedOn p (movedPieces p x s k) k e)) ∷ map (putAt e (zoneOn z e)) (chunksOn e ss (suc k))) []
       join true = unfold putPiece putAt pieceChunk in refl
       join false = refl
 
 -- ---- the rewritten segment
 
 module _ (p : Params) (r : Ranged p) (v : View) (sh : Shaped p v) (acc : Accepted p v 0)
-    (g : ℕ) (hg : g < p .Z) (kg : remains p v 0 g ≡ true) (ng : sealedIn p v 0 g ≡ false)
-    (oth : (y : ℕ) → y < p .Z → remains p v 0 y ≡ true → (y ≡ g → ⊥) → sealedIn p v 0 y ≡ true)
-    (z0 : ℕ) (hz0 : z0 < p .Z) (fz : remains p v 0 z0 ≡ false) (fit : suc (greatestSerial (segments p v 0)) < 256 ^ 8) where
+    (g : Seg) (hg : Named p g) (kg : remains p v 0 g ≡ true) (ng : sealedIn p v 0 g ≡ false)
+    (oth : (y : Seg) → Named p y → remains p v 0 y ≡ true → (y ≡ g → ⊥) → sealedIn p v 0 y ≡ true)
+    (z0 : Seg) (hz0 : Named p z0) (fz : remains p v 0 z0 ≡ false) (fit : suc (greatestSerial (segments p v 0)) < 256 ^ 8) where
   abbrev x : Segment
   x = segmentOf p v 0 g
 
@@ -189,45 +191,49 @@ module _ (p : Params) (r : Ranged p) (v : View) (sh : Shaped p v) (acc : Accepte
   vc = storeAll storeView ts va
 
   apart : z0 ≡ g → ⊥
-  apart e = clash kg (subst (λ (y : ℕ). remains p v 0 y ≡ false) e fz)
+  apart e = clash kg (subst (λ (y : Seg). remains p v 0 y ≡ false) e fz)
 
   lay : ℕ → List Chunk
-  lay e = mkChunk (headerBlock p e z0 sn (x .serial)) zeroSpare ∷ chunksOn p x e cs 0
+  lay e = mkChunk (headerBlock p e (zoneOn z0 e) sn (x .serial)) zeroSpare ∷ chunksOn p x e cs 0
 
-  new-hits : (e : ℕ) → e < p .N → hits e z0 ts ≡ map (putAt e z0) (lay e)
-  new-hits e he = as! (hits-append e z0 (headerStores p z0 sn (x .serial) ++ movedStripes p x z0 cs 0) (resetStores p (x .seg))
-      ∙ ap₂ _++_ (hits-append e z0 (headerStores p z0 sn (x .serial)) (movedStripes p x z0 cs 0)
-      ∙ ap₂ _++_ (hits-headers p e z0 z0 sn (x .serial) he ∙ cond-true (eqb z0 z0) (put e z0 (headerBlock p e z0 sn (x .serial)) zeroSpare ∷ []) [] (eqb-self z0))
-      (stripes-moved-hits p x z0 e z0 cs 0 he ∙ cond-true (eqb z0 z0) (map (putAt e z0) (chunksOn p x e cs 0)) [] (eqb-self z0)) ∙ first!)
-      (ap (λ (n : ℕ). hits e z0 (resetStores p n)) (seg-is p v 0 g) ∙ hits-resets p e z0 g he ∙ cond-false (eqb g z0) (reset e g ∷ []) [] (ne-eqb g z0 (λ q. apart (sym q))))
-      ∙ append-nil (map (putAt e z0) (lay e)))
+  new-hits : (e : ℕ) → e < p .N → hits e (zoneOn z0 e) ts ≡ map (putAt e (zoneOn z0 e)) (lay e)
+  new-hits e he = as! (hits-append e (zoneOn z0 e) (headerStores p z0 sn (x .serial) ++ movedStripes p x z0 cs 0) (resetStores p (x .seg))
+      ∙ ap₂ _++_ (hits-append e (zoneOn z0 e) (headerStores p z0 sn (x .serial)) (movedStripes p x z0 cs 0)
+      ∙ ap₂ _++_ (hits-headers p e (zoneOn z0 e) z0 sn (x .serial) he
+      ∙ cond-true (eqb (zoneOn z0 e) (zoneOn z0 e)) (put e (zoneOn z0 e) (headerBlock p e (zoneOn z0 e) sn (x .serial)) zeroSpare ∷ []) [] (eqb-self (zoneOn z0 e)))
+      (stripes-moved-hits p x z0 e (zoneOn z0 e) cs 0 he ∙ cond-true (eqb (zoneOn z0 e) (zoneOn z0 e)) (map (putAt e (zoneOn z0 e)) (chunksOn p x e cs 0)) [] (eqb-self (zoneOn z0 e))) ∙ first!)
+      (ap (λ (n : Seg). hits e (zoneOn z0 e) (resetStores p n)) (seg-is p v 0 g) ∙ resets-on p e z0 g hz0 hg he
+      ∙ cond-false (sameSeg g z0) (reset e (zoneOn g e) ∷ []) [] (seg-other g z0 (λ q. apart (sym q))))
+      ∙ append-nil (map (putAt e (zoneOn z0 e)) (lay e)))
     where
-      first! : (put e z0 (headerBlock p e z0 sn (x .serial)) zeroSpare ∷ []) ++ map (putAt e z0) (chunksOn p x e cs 0) ≡ map (putAt e z0) (lay e)
+      first! : (put e (zoneOn z0 e) (headerBlock p e (zoneOn z0 e) sn (x .serial)) zeroSpare ∷ []) ++ map (putAt e (zoneOn z0 e)) (chunksOn p x e cs 0) ≡ map (putAt e (zoneOn z0 e)) (lay e)
       first! = unfold lay putAt in refl
 
-      as! : hits e z0 ((headerStores p z0 sn (x .serial) ++ movedStripes p x z0 cs 0) ++ resetStores p (x .seg)) ≡ map (putAt e z0) (lay e) → hits e z0 ts ≡ map (putAt e z0) (lay e)
+      as! : hits e (zoneOn z0 e) ((headerStores p z0 sn (x .serial) ++ movedStripes p x z0 cs 0) ++ resetStores p (x .seg)) ≡ map (putAt e (zoneOn z0 e)) (lay e)
+          → hits e (zoneOn z0 e) ts ≡ map (putAt e (zoneOn z0 e)) (lay e)
       as! q = unfold rewriteStores in q
 
-  moved-zone : (e : ℕ) → e < p .N → zoneAt vc e z0 ≡ putAll e z0 (lay e) (zoneAt va e z0)
-  moved-zone e he = zone-after p va e z0 ts (shaped-a p r v sh acc .sized) he hz0 ∙ ap (λ (l : List Store). storeAll zoneStore l (zoneAt va e z0)) (new-hits e he)
+  moved-zone : (e : ℕ) → e < p .N → zoneAt vc e (zoneOn z0 e) ≡ putAll e (zoneOn z0 e) (lay e) (zoneAt va e (zoneOn z0 e))
+  moved-zone e he =
+      zone-after p va e (zoneOn z0 e) ts (shaped-a p r v sh acc .sized) he (zone-on-lt p z0 e hz0) ∙ ap (λ (l : List Store). storeAll zoneStore l (zoneAt va e (zoneOn z0 e))) (new-hits e he)
 
   -- the chunk at offset o
-  new-chunk : (e o : ℕ) → e < p .N → o < length cs → getD (zoneAt vc e z0 .blocks) (1 + o) noChunk ≡ pieceChunk (movedOn p (movedPieces p x (getD cs o 0) o) o e)
+  new-chunk : (e o : ℕ) → e < p .N → o < length cs → getD (zoneAt vc e (zoneOn z0 e) .blocks) (1 + o) noChunk ≡ pieceChunk (movedOn p (movedPieces p x (getD cs o 0) o) o e)
   new-chunk e o he h =
       let a = zero! in
       let l : length (lay e) ≡ 1 + length cs = lay-long in
       let cl = counted-low p 0 x in
       let k = capacity-over p r in
-      let bl = shaped-a p r v sh acc .zone-ok e z0 he hz0 .blocks-long in
+      let bl = shaped-a p r v sh acc .zone-ok e (zoneOn z0 e) he (zone-on-lt p z0 e hz0) .blocks-long in
       ap (λ (q : Zone). getD (q .blocks) (1 + o) noChunk) (moved-zone e he)
-      ∙ ap (λ (n : ℕ). getD (putAll e z0 (lay e) (zoneAt va e z0) .blocks) n noChunk) (let w : 1 + o ≡ zoneAt va e z0 .pointer + suc o = omega arith in w)
-      ∙ puts-new e z0 (lay e) (zoneAt va e z0) (suc o) (omega arith) (omega arith)
+      ∙ ap (λ (n : ℕ). getD (putAll e (zoneOn z0 e) (lay e) (zoneAt va e (zoneOn z0 e)) .blocks) n noChunk) (let w : 1 + o ≡ zoneAt va e (zoneOn z0 e) .pointer + suc o = omega arith in w)
+      ∙ puts-new e (zoneOn z0 e) (lay e) (zoneAt va e (zoneOn z0 e)) (suc o) (omega arith) (omega arith)
       ∙ behind ∙ chunks-at p x e cs 0 o h ∙ ap (λ (n : ℕ). pieceChunk (movedOn p (movedPieces p x (getD cs o 0) n) n e)) (zero-add o)
     where
-      zero! : zoneAt va e z0 .pointer ≡ 0
+      zero! : zoneAt va e (zoneOn z0 e) .pointer ≡ 0
       zero! = as! (drop-empty p r v sh acc z0 hz0 fz e he)
         where
-          as! : pointerAt va e z0 ≡ 0 → zoneAt va e z0 .pointer ≡ 0
+          as! : pointerAt va e (zoneOn z0 e) ≡ 0 → zoneAt va e (zoneOn z0 e) .pointer ≡ 0
           as! q = unfold pointerAt in q
 
       lay-long : length (lay e) ≡ 1 + length cs
@@ -240,40 +246,43 @@ module _ (p : Params) (r : Ranged p) (v : View) (sh : Shaped p v) (acc : Accepte
     abbrev y0 : Segment
     y0 = segmentOf p vc 0 z0
 
-    moved-unsealed : (e o : ℕ) → recordIn p (sealedIn p vc 0 z0) (zoneAt vc e z0) o ≡ recordIn p false (zoneAt vc e z0) o
-    moved-unsealed e o = ap (λ (w : Bool). recordIn p w (zoneAt vc e z0) o) (open-now p r v sh acc g hg kg ng oth z0 hz0 fz fit nw)
+    moved-unsealed : (e o : ℕ) → recordIn p (sealedIn p vc 0 z0) (zoneAt vc e (zoneOn z0 e)) o ≡ recordIn p false (zoneAt vc e (zoneOn z0 e)) o
+    moved-unsealed e o = ap (λ (w : Bool). recordIn p w (zoneAt vc e (zoneOn z0 e)) o) (open-now p r v sh acc g hg kg ng oth z0 hz0 fz fit nw)
 
     stored-piece-low : (s : ℕ) → counts p 0 x s ≡ true → (e : ℕ) → e < p .N → (storedPiece x s e .rec .address < 256 ^ 8) × (storedPiece x s e .rec .stamp < 256 ^ 8)
     stored-piece-low s c e he =
         let k = chunk-at p v 0 g e s he (isIn-empty e) (counts-in p 0 x s e c he (isIn-empty e)) in
-        let q : storedPiece x s e .rec ≡ recordIn p (sealedIn p v 0 g) (zoneAt v e g) (offsetOn x e s) = ap (λ (y : Piece). y .rec) (piece-parts p v 0 g s e he) ∙ k .its-record in
-        subst (λ (y : Rec). (y .address < 256 ^ 8) × (y .stamp < 256 ^ 8)) (sym q) (record-low p (zoneAt v e g) (sh .zone-ok e g he hg) (sealedIn p v 0 g) (offsetOn x e s))
+        let q : storedPiece x s e .rec ≡ recordIn p (sealedIn p v 0 g) (zoneAt v e (zoneOn g e)) (offsetOn x e s) = ap (λ (y : Piece). y .rec) (piece-parts p v 0 g s e he) ∙ k .its-record in
+        subst (λ (y : Rec). (y .address < 256 ^ 8) × (y .stamp < 256 ^ 8)) (sym q)
+        (record-low p (zoneAt v e (zoneOn g e)) (sh .zone-ok e (zoneOn g e) he (zone-on-lt p g e hg)) (sealedIn p v 0 g) (offsetOn x e s))
 
     -- a stripe of it is a counted one moved
     new-piece : (o e : ℕ) → o < length cs → e < p .N → storedPiece y0 o e ≡ movedOn p (movedPieces p x (getD cs o 0) o) o e
     new-piece o e h he =
         let s = getD cs o 0 in
         let cl = counted-low p 0 x in
-        let st : recordIn p (sealedIn p vc 0 z0) (zoneAt vc e z0) o .stripe ≡ o = ap (λ (a : Rec). a .stripe) (moved-unsealed e o) ∙ new-stripe p r v sh acc g hg kg ng oth z0 hz0 fz fit e o he h in
-        let hs : o < dataStored p (zoneAt vc e z0) = low-data p (zoneAt vc e z0) o (omega arith) (lies (new-pointer p r v sh acc g hg kg ng oth z0 hz0 fz fit e he)) in
+        let st : recordIn p (sealedIn p vc 0 z0) (zoneAt vc e (zoneOn z0 e)) o .stripe ≡ o =
+        ap (λ (a : Rec). a .stripe) (moved-unsealed e o) ∙ new-stripe p r v sh acc g hg kg ng oth z0 hz0 fz fit e o he h in
+        let hs : o < dataStored p (zoneAt vc e (zoneOn z0 e)) = low-data p (zoneAt vc e (zoneOn z0 e)) o (omega arith) (lies (new-pointer p r v sh acc g hg kg ng oth z0 hz0 fz fit e he)) in
         let eo : offsetOn y0 e o ≡ o = offset-is p vc 0 z0 e o o he (isIn-empty e) hs st (λ i k q. before i k q) in
         let ch = new-chunk e o he h in
         let hc = has-chunk p vc 0 z0 e o o he (isIn-empty e) hs st in
         let er : storedRec y0 o e ≡ recordOf (recordBytes (movedOn p (movedPieces p x s o) o e .rec)) =
-        chunk-at p vc 0 z0 e o he (isIn-empty e) hc .its-record ∙ ap (recordIn p (sealedIn p vc 0 z0) (zoneAt vc e z0)) eo ∙ moved-unsealed e o ∙ spare! (movedOn p (movedPieces p x s o) o e) ch in
+        chunk-at p vc 0 z0 e o he (isIn-empty e) hc .its-record ∙ ap (recordIn p (sealedIn p vc 0 z0) (zoneAt vc e (zoneOn z0 e))) eo ∙ moved-unsealed e o
+        ∙ spare! (movedOn p (movedPieces p x s o) o e) ch in
         piece-parts p vc 0 z0 o e he
-        ∙ ap₂ mkPiece (ap (λ (n : ℕ). getD (zoneAt vc e z0 .blocks) (1 + n) noChunk .block) eo ∙ ap (λ (y : Chunk). y .block) ch ∙ block! (movedOn p (movedPieces p x s o) o e))
+        ∙ ap₂ mkPiece (ap (λ (n : ℕ). getD (zoneAt vc e (zoneOn z0 e) .blocks) (1 + n) noChunk .block) eo ∙ ap (λ (y : Chunk). y .block) ch ∙ block! (movedOn p (movedPieces p x s o) o e))
         (er ∙ moved-back p x s o r (omega arith) (stored-piece-low s (counted-in p 0 x s (in-getD cs o 0 h) .1)) e he)
       where
-        lies : pointerAt vc e z0 ≡ 1 + length cs → 1 + o < zoneAt vc e z0 .pointer
+        lies : pointerAt vc e (zoneOn z0 e) ≡ 1 + length cs → 1 + o < zoneAt vc e (zoneOn z0 e) .pointer
         lies q = unfold pointerAt in omega arith
 
-        before : (i : ℕ) → i < o → recordIn p (sealedIn p vc 0 z0) (zoneAt vc e z0) i .stripe ≡ o → ⊥
+        before : (i : ℕ) → i < o → recordIn p (sealedIn p vc 0 z0) (zoneAt vc e (zoneOn z0 e)) i .stripe ≡ o → ⊥
         before i k q =
             let w : i ≡ o = sym (new-stripe p r v sh acc g hg kg ng oth z0 hz0 fz fit e i he (omega arith)) ∙ ap (λ (a : Rec). a .stripe) (sym (moved-unsealed e i)) ∙ q in
             let bad : ⊥ = omega arith in bad
 
-        spare! : (q : Piece) → getD (zoneAt vc e z0 .blocks) (1 + o) noChunk ≡ pieceChunk q → recordIn p false (zoneAt vc e z0) o ≡ recordOf (recordBytes (q .rec))
+        spare! : (q : Piece) → getD (zoneAt vc e (zoneOn z0 e) .blocks) (1 + o) noChunk ≡ pieceChunk q → recordIn p false (zoneAt vc e (zoneOn z0 e)) o ≡ recordOf (recordBytes (q .rec))
         spare! q w = unfold recordIn pieceChunk in ap (λ (y : Chunk). recordOf (y .spare)) w
 
         block! : (q : Piece) → pieceChunk q .block ≡ q .block

@@ -12,9 +12,9 @@ use lib.ListN.{length}
 use Rattle.spec.specs.declared.Params.{Params}
 use Rattle.spec.specs.declared.State.{State}
 use Rattle.spec.specs.Counts.{lastCount}
-use Rattle.spec.specs.Drives.{Zone, View, zoneAt, pointerAt, Store, storeView, storeAll, segmentNumbers, emptyOnAll, emptyZones, dataStored, headerStores}
+use Rattle.spec.specs.Drives.{Zone, View, zoneAt, pointerAt, Store, storeView, storeAll, Seg, seg, allSegs, zoneOn, emptyOnAll, emptySegs, dataStored, headerStores}
 use Rattle.spec.specs.Layout.{dataDrive}
-use Rattle.spec.specs.Lists.{below, any, isNil, firstOr}
+use Rattle.spec.specs.Lists.{any, isNil, firstOr}
 use Rattle.spec.specs.Memory.{slotCount, stripeIn, filledIn, isFree, inFlight, freeSlot, fillingSlot, hasFilling, setOpen, beginStripe, addEntry}
 use Rattle.spec.specs.Params.{dataCount, inflightLen}
 use Rattle.spec.specs.Segments.{Segment, segmentOf, counts}
@@ -22,10 +22,12 @@ use Rattle.spec.specs.Write.{mustOpen, opens, noSerial, otherGroup, mustWait, p
 use Rattle.law_basic.specs.Geometry.{Ranged, data-count-low}
 use Rattle.law_basic.specs.Ranges.{Test, test}
 use Rattle.law_basic.specs.Ranges.Test.{yes!, no! }
+use Rattle.law_basic.specs.Segs.{segs-differ, Named}
 use Rattle.spec_demands.specs.Layouts.{Remains, ParityMade}
 use Rattle.spec_demands.specs.Tables.{Pending}
 use Rattle.law_drives.specs.Headers.{header-other, header-pointer, empty-all}
-use Rattle.law_drives.specs.Members.{In, keep-in, below-in, first-in, in-some}
+use Rattle.law_drives.specs.Members.{In, keep-in, first-in, in-some}
+use Rattle.law_drives.specs.Segs.{segs-in}
 use Rattle.law_drives.specs.Settled.{SameZones, zones-used}
 use Rattle.law_drives.specs.States.{StateOk}
 use Rattle.law_drives.specs.Tests.{clash, or-first, or-right, or-cases, or-true-right, not-so}
@@ -41,8 +43,8 @@ use Rattle.proof_flights.specs.Pieces.{bare-counts, parity-zones, remain
 
 -- ---- a segment is opened: parity stays right
 
-module _ (p : Params) (r : Ranged p) (v : View) (sh : Shaped p v) (st : State) (h : HealthyState p v st) (old : List Segment) (g : ℕ) (hg : g < p .Z)
-    (em : (d : ℕ) → d < p .N → pointerAt v d g ≡ 0) (fit : suc (st .serial .0) < 256 ^ 8) where
+module _ (p : Params) (r : Ranged p) (v : View) (sh : Shaped p v) (st : State) (h : HealthyState p v st) (old : List Segment) (g : Seg) (hg : Named p g)
+    (em : (d : ℕ) → d < p .N → pointerAt v d (zoneOn g d) ≡ 0) (fit : suc (st .serial .0) < 256 ^ 8) where
   abbrev n₀ : ℕ
   n₀ = st .serial .0
 
@@ -52,23 +54,23 @@ module _ (p : Params) (r : Ranged p) (v : View) (sh : Shaped p v) (st : State) (
   h0 : 0 < p .N
   h0 = omega (arith, r .drives-low)
 
-  sent-same-zones : (y : ℕ) → y < p .Z → (g ≡ y → ⊥) → SameZones p v after y
+  sent-same-zones : (y : Seg) → Named p y → (g ≡ y → ⊥) → SameZones p v after y
   sent-same-zones y hy n d hd = sym (header-other p r v sh g (suc n₀) 0 hg em d y hd hy n)
 
-  no-data : dataStored p (zoneAt after 0 g) ≡ 0
-  no-data = go (zoneAt after 0 g) (as! (header-pointer p r v sh g (suc n₀) 0 hg em 0 h0))
+  opened-bare : dataStored p (zoneAt after 0 (zoneOn g 0)) ≡ 0
+  opened-bare = go (zoneAt after 0 (zoneOn g 0)) (as! (header-pointer p r v sh g (suc n₀) 0 hg em 0 h0))
     where
-      as! : pointerAt after 0 g ≡ 1 → zoneAt after 0 g .pointer ≡ 1
+      as! : pointerAt after 0 (zoneOn g 0) ≡ 1 → zoneAt after 0 (zoneOn g 0) .pointer ≡ 1
       as! e = unfold pointerAt in e
 
       go : (q : Zone) → q .pointer ≡ 1 → dataStored p q ≡ 0
       go q e = unfold dataStored in omega arith
 
   pub parity-headed : ParityMade p v 0 old → ParityMade p after 0 old
-  parity-headed pm = parity-zones p r v after old pm (λ y rm. go y rm (ℕ-discrete g y))
+  parity-headed pm = parity-zones p r v after old pm (λ y rm. go y rm (segs-differ g y))
     where
-      go : (y : ℕ) → Remains p after 0 y → Dec (g ≡ y) → (Remains p v 0 y × SameZones p v after y) ⊎ ((s : ℕ) → counts p 0 (segmentOf p after 0 y) s ≡ true → ⊥)
-      go y rm (yes e) = inr (λ s c. bare-counts p after y s 0 h0 (ap (λ (x : ℕ). dataStored p (zoneAt after 0 x)) (sym e) ∙ no-data) c)
+      go : (y : Seg) → Remains p after 0 y → Dec (g ≡ y) → (Remains p v 0 y × SameZones p v after y) ⊎ ((s : ℕ) → counts p 0 (segmentOf p after 0 y) s ≡ true → ⊥)
+      go y rm (yes e) = inr (λ s c. bare-counts p after y s 0 h0 (ap (λ (x : Seg). dataStored p (zoneAt after 0 (zoneOn x 0))) (sym e) ∙ opened-bare) c)
       go y rm (no n) =
           let (hy, q) = used-of-remains p r after (suc n₀) (head-tidy p r v sh n₀ g (h .tidy) hg em fit) y rm in
           let sm = sent-same-zones y hy n in
@@ -192,9 +194,9 @@ module _ (p : Params) (r : Ranged p) (v : View) (sh : Shaped p v) (st : State) (
         sent-is mo = unfold sending slotFor begunBy openedBy opens placed in rw (nf, mo)
 
     -- the first stripe of a segment that is opened: nothing is in flight
-    begins-segment : mustOpen p st ≡ true → noSerial p st ≡ false → isNil (emptyZones p v) ≡ false → Leaves sent
+    begins-segment : mustOpen p st ≡ true → noSerial p st ≡ false → isNil (emptySegs p v) ≡ false → Leaves sent
     begins-segment mo ns ne =
-        let g = firstOr 0 (emptyZones p v) in
+        let g = firstOr (seg 0) (emptySegs p v) in
         let s = st .serial .0 in
         let (hg, eg) = first-empty in
         let em = empty-all p v g eg in
@@ -208,11 +210,11 @@ module _ (p : Params) (r : Ranged p) (v : View) (sh : Shaped p v) (st : State) (
           parity-headed p r v sh st h old g hg em serial-next pm,
         )
       where
-        first-empty : (firstOr 0 (emptyZones p v) < p .Z) × (emptyOnAll p v (firstOr 0 (emptyZones p v)) ≡ true)
-        first-empty = parts (firstOr 0 (emptyZones p v)) (first-in (emptyZones p v) 0 ne)
+        first-empty : Named p (firstOr (seg 0) (emptySegs p v)) × (emptyOnAll p v (firstOr (seg 0) (emptySegs p v)) ≡ true)
+        first-empty = parts (firstOr (seg 0) (emptySegs p v)) (first-in (emptySegs p v) (seg 0) ne)
           where
-            parts : (g : ℕ) → In g (emptyZones p v) → (g < p .Z) × (emptyOnAll p v g ≡ true)
-            parts g m = unfold emptyZones segmentNumbers in (let (i, q) = keep-in (emptyOnAll p v) (below (p .Z)) g m in (below-in (p .Z) g i, q))
+            parts : (g : Seg) → In g (emptySegs p v) → Named p g × (emptyOnAll p v g ≡ true)
+            parts g m = unfold emptySegs in (let (i, q) = keep-in (emptyOnAll p v) (allSegs p) g m in (segs-in p g i, q))
 
         serial-next : suc (st .serial .0) < 256 ^ 8
         serial-next =
@@ -228,10 +230,10 @@ module _ (p : Params) (r : Ranged p) (v : View) (sh : Shaped p v) (st : State) (
             let x : not (isNil (inFlight st)) ≡ false = sym (ap (λ (c : Bool). c && not (isNil (inFlight st))) mo) ∙ send-wait-parts .1 in
             clash (ap not (in-some (inFlight st) j (in-flight st j hj q))) x)
 
-        free-same : (g x j : ℕ) → flies (setOpen st g x) j ≡ flies st j
+        free-same : (g : Seg) (x j : ℕ) → flies (setOpen st g x) j ≡ flies st j
         free-same g x j = unfold setOpen isFree filledIn in refl
 
-        lists-same : (g x : ℕ) → Lists st → Lists (setOpen st g x)
+        lists-same : (g : Seg) (x : ℕ) → Lists st → Lists (setOpen st g x)
         lists-same g x l = unfold setOpen in record {
           numbers-long = l .numbers-long;
           filled-long = l .filled-long;
@@ -242,12 +244,12 @@ module _ (p : Params) (r : Ranged p) (v : View) (sh : Shaped p v) (st : State) (
           offsets-long = l .offsets-long;
         }
 
-        sent-is : mustOpen p st ≡ true → sent ≡ sentAs (headerStores p (firstOr 0 (emptyZones p v)) (suc (st .serial .0)) 0)
-            (beginStripe (setOpen st (firstOr 0 (emptyZones p v)) (suc (st .serial .0))) (freeSlot st)) (freeSlot st)
+        sent-is : mustOpen p st ≡ true → sent ≡ sentAs (headerStores p (firstOr (seg 0) (emptySegs p v)) (suc (st .serial .0)) 0)
+            (beginStripe (setOpen st (firstOr (seg 0) (emptySegs p v)) (suc (st .serial .0))) (freeSlot st)) (freeSlot st)
         sent-is mo = unfold sending slotFor begunBy openedBy opens placed in rw (nf, mo)
 
   -- all three
-  pub leaves-sent : mustWait p st ≡ false → noSerial p st ≡ false → (opens p st ≡ true → isNil (emptyZones p v) ≡ false) → Leaves sent
+  pub leaves-sent : mustWait p st ≡ false → noSerial p st ≡ false → (opens p st ≡ true → isNil (emptySegs p v) ≡ false) → Leaves sent
   leaves-sent nw ns ne = go (test (hasFilling p st)) (test (mustOpen p st))
     where
       opens-is : hasFilling p st ≡ false → mustOpen p st ≡ true → opens p st ≡ true

@@ -16,7 +16,7 @@ use Rattle.spec.specs.declared.Answer.the-variants.{Sent}
 use Rattle.spec.specs.Answers.{kind, values, isCut, finished}
 use Rattle.spec.specs.Calls.{Check, firstRefusal}
 use Rattle.spec.specs.Counts.{lastCount, aStamp}
-use Rattle.spec.specs.Drives.{View, chunkAt, Store, storeView, Disk, storeDisk, storeAll, zoneOn, emptyZones}
+use Rattle.spec.specs.Drives.{View, chunkAt, Store, storeView, Disk, storeDisk, storeAll, zoneOn, emptySegs}
 use Rattle.spec.specs.Lists.{isNil}
 use Rattle.spec.specs.Engine.{storeCount, lentBlock, verdict, lentOk, callOn, callDisk}
 use Rattle.spec.specs.Engine.Call.{write}
@@ -124,7 +124,7 @@ module _ (p : Params) (k : Disk) (m : Memory) (u : Run p k m) (ws : List Pending
         let ns = c .serial-left in
         let fl = m .inflight in
         let bu = buffer-long p k m u we in
-        let ne : isNil (emptyZones p v) ≡ false = plenty p v (cond (opens p st) 2 1) (c .room) in
+        let ne : isNil (emptySegs p v) ≡ false = plenty p v (cond (opens p st) 2 1) (c .room) in
         let sh = u .base .shaped in
         let h = we .healthy in
         let no = we .none-missing in

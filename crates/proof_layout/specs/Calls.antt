@@ -17,13 +17,13 @@ use Rattle.spec.specs.Calls.{Check, Plan, mkPlan, After, firstRefusal}
 use Rattle.spec.specs.Closing.{padded, closeChecks, closePlan, closeVerdict}
 use Rattle.spec.specs.Counts.{paddingAddress, lastCount}
 use Rattle.spec.specs.Drives.{Zone, View, zoneAt, pointerAt, chunkAt, Store, storeView, Disk, storeDisk, storeAll}
-use Rattle.spec.specs.Drives.{segmentNumbers, zoneOn, placeSegment, emptyOnAll, emptyZones, sealedIn, recordAt, headerStores, resetStores}
+use Rattle.spec.specs.Drives.{allSegs, zoneOn, placeSegment, emptyOnAll, emptySegs, sealedIn, recordAt, headerStores, resetStores, seg, Seg}
 use Rattle.spec.specs.Drives.Store.{put}
 use Rattle.spec.specs.Engine.{storeCount, lentBlock, verdict, lentOk, callOn, callDisk}
 use Rattle.spec.specs.Engine.Call.{write, land, close, reclaim, read, fill, rebuild}
 use Rattle.spec.specs.Landing.{slotOf, waiting, completes, seals, flightRec, landChecks, sealStores, landStore, landPlan, landVerdict}
 use Rattle.spec.specs.Layout.{Rec, recordBytes}
-use Rattle.spec.specs.Lists.{Opt, below, isNil, firstOr}
+use Rattle.spec.specs.Lists.{Opt, isNil, firstOr}
 use Rattle.spec.specs.Memory.{Memory, filledIn, openSegment, freeSlot, fillingSlot, hasFilling, inFlight, setStamp, setOpen, setClosed, beginStripe, addEntry, markLanded, freeStripe, slotBlock}
 use Rattle.spec.specs.Params.{dataCount, inRange, placeBlock, placeZone, placeDrive, named, present}
 use Rattle.spec.specs.Rebuild.{rebuildChecks, rebuildStores, rebuildVerdict}
@@ -34,17 +34,18 @@ use Rattle.law_basic.specs.Geometry.{Ranged, ranged}
 use Rattle.law_basic.specs.Ranges.{Test, test, and-left, and-right}
 use Rattle.law_basic.specs.Ranges.Test.{yes!, no! }
 use Rattle.law_basic.specs.Stores.{storeAll-append}
+use Rattle.law_basic.specs.Segs.{Named, zone-on-lt}
 use Rattle.law_checks.specs.Passed.{write-passed, land-passed, close-passed, ReclaimPassed, reclaim-passed, rebuild-passed}
 use Rattle.law_drives.specs.Frame.{Agree, same-remaining, same-sealed, same-core, core}
 use Rattle.law_drives.specs.Headers.{header-roomy, header-within, empty-all}
 use Rattle.law_drives.specs.Joins.{roomy-append, within-append, roomy-none, stores-none}
 use Rattle.law_drives.specs.Lengths.{whole-of}
 use Rattle.law_drives.specs.Masks.{named-in, named-some, low-present}
-use Rattle.law_drives.specs.Members.{In, keep-in, below-in, first-in}
+use Rattle.law_drives.specs.Members.{In, keep-in, first-in}
 use Rattle.law_drives.specs.Range.{capacity-word}
 use Rattle.law_drives.specs.Rebuilding.{rebuild-roomy, rebuild-within, rebuild-agrees}
 use Rattle.law_drives.specs.Resets.{reset-roomy, reset-within}
-use Rattle.law_drives.specs.Segs.{remaining-low}
+use Rattle.law_drives.specs.Segs.{remaining-low, segs-in}
 use Rattle.law_drives.specs.Tests.{clash, cond-true, cond-false}
 use Rattle.law_drives.specs.Tidy.{usedAt, Tidy}
 use Rattle.law_drives.specs.Zones.{Shaped, Within, Roomy, all-fit, shaped-after}
@@ -120,7 +121,7 @@ module _ (p : Params) (k : Disk) (m : Memory) (u : Run p k m) (old : List Segmen
   -- ---- a block sent
 
   abbrev headers : List Store
-  headers = headerStores p (firstOr 0 (emptyZones p v)) (suc (st .serial .0)) 0
+  headers = headerStores p (firstOr (seg 0) (emptySegs p v)) (suc (st .serial .0)) 0
 
   sending-stores : (fl : List ℕ) (a t w : ℕ) (b : List ℕ) → sending p v st fl a t w b .stores ≡ cond (opens p st) headers []
   sending-stores fl a t w b = unfold sending in refl
@@ -128,12 +129,12 @@ module _ (p : Params) (k : Disk) (m : Memory) (u : Run p k m) (old : List Segmen
   sending-missing : (fl : List ℕ) (a t w : ℕ) (b : List ℕ) → sending p v st fl a t w b .state .missing ≡ st .missing
   sending-missing fl a t w b = as! (begun (hasFilling p st) (opens p st))
     where
-      begun : (x y : Bool) → cond x st (beginStripe (cond y (setOpen st (firstOr 0 (emptyZones p v)) (suc (st .serial .0))) st) (freeSlot st)) .missing ≡ st .missing
+      begun : (x y : Bool) → cond x st (beginStripe (cond y (setOpen st (firstOr (seg 0) (emptySegs p v)) (suc (st .serial .0))) st) (freeSlot st)) .missing ≡ st .missing
       begun true y = refl
       begun false true = unfold beginStripe setOpen in refl
       begun false false = unfold beginStripe in refl
 
-      as! : cond (hasFilling p st) st (beginStripe (cond (opens p st) (setOpen st (firstOr 0 (emptyZones p v)) (suc (st .serial .0))) st) (freeSlot st)) .missing ≡ st .missing
+      as! : cond (hasFilling p st) st (beginStripe (cond (opens p st) (setOpen st (firstOr (seg 0) (emptySegs p v)) (suc (st .serial .0))) st) (freeSlot st)) .missing ≡ st .missing
           → sending p v st fl a t w b .state .missing ≡ st .missing
       as! e = unfold sending placed addEntry begunBy openedBy in e
 
@@ -141,7 +142,7 @@ module _ (p : Params) (k : Disk) (m : Memory) (u : Run p k m) (old : List Segmen
   abbrev Sent : List Store → Type 0
   Sent ss = Roomy p v ss × ((s : Store) → In s ss → Within p s) × WellLaid p (storeAll storeView ss v) old
 
-  sent-laid : Well p k m → noSerial p st ≡ false → (opens p st ≡ true → isNil (emptyZones p v) ≡ false) → (ss : List Store) → ss ≡ cond (opens p st) headers [] → Sent ss
+  sent-laid : Well p k m → noSerial p st ≡ false → (opens p st ≡ true → isNil (emptySegs p v) ≡ false) → (ss : List Store) → ss ≡ cond (opens p st) headers [] → Sent ss
   sent-laid we ns ne ss e = subst (λ (x : List Store). Sent x) (sym e) (go (test (opens p st)))
     where
       sh : Shaped p v
@@ -160,8 +161,8 @@ module _ (p : Params) (k : Disk) (m : Memory) (u : Run p k m) (old : List Segmen
       go (no! q) = subst (λ (x : List Store). Sent x) (sym (cond-false (opens p st) headers [] q))
           (roomy-none p v, λ s i. absurd i, subst (λ (x : View). WellLaid p x old) (sym (stores-none v)) (well-laid we))
       go (yes! q) = subst (λ (x : List Store). Sent x) (sym (cond-true (opens p st) headers [] q)) (
-          let g = firstOr 0 (emptyZones p v) in
-          let (hg, eg) = parts g (first-in (emptyZones p v) 0 (ne q)) in
+          let g = firstOr (seg 0) (emptySegs p v) in
+          let (hg, eg) = parts g (first-in (emptySegs p v) (seg 0) (ne q)) in
           let em = empty-all p v g eg in
           let s = suc (st .serial .0) in (
             header-roomy p rg v sh g s 0 hg em,
@@ -169,16 +170,16 @@ module _ (p : Params) (k : Disk) (m : Memory) (u : Run p k m) (old : List Segmen
             opened-laid p rg v sh old g s hg em (serial-next q) (well-laid we),
           ))
         where
-          parts : (g : ℕ) → In g (emptyZones p v) → (g < p .Z) × (emptyOnAll p v g ≡ true)
-          parts g i = unfold emptyZones segmentNumbers in (let (j, q) = keep-in (emptyOnAll p v) (below (p .Z)) g i in (below-in (p .Z) g j, q))
+          parts : (g : Seg) → In g (emptySegs p v) → (Named p g) × (emptyOnAll p v g ≡ true)
+          parts g i = unfold emptySegs in (let (j, q) = keep-in (emptyOnAll p v) (allSegs p) g i in (segs-in p g j, q))
 
-  zones-left : (n : ℕ) → scarce p v n ≡ false → isNil (emptyZones p v) ≡ false
-  zones-left n q = go (emptyZones p v) (few q)
+  zones-left : (n : ℕ) → scarce p v n ≡ false → isNil (emptySegs p v) ≡ false
+  zones-left n q = go (emptySegs p v) (few q)
     where
-      few : scarce p v n ≡ false → n < length (emptyZones p v)
-      few q = unfold scarce in leb-false (length (emptyZones p v)) n q
+      few : scarce p v n ≡ false → n < length (emptySegs p v)
+      few q = unfold scarce in leb-false (length (emptySegs p v)) n q
 
-      go : (x : List ℕ) → n < length x → isNil x ≡ false
+      go : (x : List Seg) → n < length x → isNil x ≡ false
       go [] h = absurd (let z : ⊥ = omega arith in z)
       go (y ∷ x) h = unfold isNil in refl
 
@@ -195,7 +196,7 @@ module _ (p : Params) (k : Disk) (m : Memory) (u : Run p k m) (old : List Segmen
     write-well : Well p k m → isCut (wr .answer) ≡ false → KeepsLaid p old wr
     write-well we nc = go write-ends
       where
-        parts : firstRefusal (writeChecks p (lentOk p k m) v m a b) ≡ none → (noSerial p st ≡ false) × (opens p st ≡ true → isNil (emptyZones p v) ≡ false)
+        parts : firstRefusal (writeChecks p (lentOk p k m) v m a b) ≡ none → (noSerial p st ≡ false) × (opens p st ≡ true → isNil (emptySegs p v) ≡ false)
         parts e = let c = write-passed p (lentOk p k m) v m a b e in (c .serial-left, λ q. zones-left (cond (opens p st) 2 1) (c .room))
 
         missing-is : writePlan p v m a b .memory .state .missing ≡ sending p v st (m .inflight) a (suc (st .stamp .0)) 1 b .state .missing
@@ -297,10 +298,10 @@ module _ (p : Params) (k : Disk) (m : Memory) (u : Run p k m) (old : List Segmen
         parts : firstRefusal (reclaimChecks p (lentOk p k m) v m w) ≡ none → ReclaimPassed p (lentOk p k m) v m w
         parts e = reclaim-passed p (lentOk p k m) v m w e
 
-        reset-missing : (g : ℕ) → resetPlan p m g .memory .state .missing ≡ st .missing
+        reset-missing : (g : Seg) → resetPlan p m g .memory .state .missing ≡ st .missing
         reset-missing g = unfold resetPlan in refl
 
-        reset-stores : (g : ℕ) → resetPlan p m g .stores ≡ resetStores p g
+        reset-stores : (g : Seg) → resetPlan p m g .stores ≡ resetStores p g
         reset-stores g = unfold resetPlan in refl
 
         copy-rec : ℕ → Rec
@@ -326,7 +327,7 @@ module _ (p : Params) (k : Disk) (m : Memory) (u : Run p k m) (old : List Segmen
             (reset-roomy p rg v (u .base .shaped) s hg) (reset-within p rg v (u .base .shaped) s hg) (reset-laid p rg v (u .base .shaped) old s hg (well-laid we))
         done (no! q) c g h =
             let e : rplan ≡ copyPlan p v m place = cond-false (isNil (victimLive w)) (resetPlan p m (victimSegment w)) (copyPlan p v m place) q in
-            let ne : opens p st ≡ true → isNil (emptyZones p v) ≡ false = λ z. zones-left 1 (c .room q z) in
+            let ne : opens p st ≡ true → isNil (emptySegs p v) ≡ false = λ z. zones-left 1 (c .room q z) in
             let (ro, wi, wl) = sent-laid we (c .serial-left q) ne (copyPlan p v m place .stores)
             (copy-stores place ∙ sending-stores (m .inflight) (copy-rec place .address) (copy-rec place .stamp) 0 (copy-block place)) in
             done-keeps p k m old rc (copyPlan p v m place .stores) u (stepped p k m u (reclaim n) .1 nc) (g ∙ ap (λ (x : Plan). storeAll (storeDisk p) (x .stores) k) e)
@@ -357,7 +358,7 @@ module _ (p : Params) (k : Disk) (m : Memory) (u : Run p k m) (old : List Segmen
     land-ended = outcome-ends p k m (landChecks p (lentOk p k m) v m d s) (landPlan p v m d s) n []
 
     land-missing : landPlan p v m d s .memory .state .missing ≡ st .missing
-    land-missing = unfold landPlan zoneOn in go (seals p st (slotOf st s) d) (completes p st (slotOf st s) d) (slotOf st s) (pointerAt v d (openSegment st) - 1)
+    land-missing = unfold landPlan in go (seals p st (slotOf st s) d) (completes p st (slotOf st s) d) (slotOf st s) (pointerAt v d (zoneOn (openSegment st) d) - 1)
       where
         go : (x y : Bool) (i o : ℕ) → cond x (setClosed (cond y (freeStripe (markLanded st i d o) i) (markLanded st i d o)))
             (cond y (freeStripe (markLanded st i d o) i) (markLanded st i d o)) .missing ≡ st .missing
@@ -372,7 +373,7 @@ module _ (p : Params) (k : Disk) (m : Memory) (u : Run p k m) (old : List Segmen
         i : ℕ
         i = slotOf st s
 
-        z : ℕ
+        z : Seg
         z = openSegment st
 
         sh : Shaped p v
@@ -388,16 +389,16 @@ module _ (p : Params) (k : Disk) (m : Memory) (u : Run p k m) (old : List Segmen
         b = slotBlock p (m .inflight) i d
 
         store : Store
-        store = put d z b (recordBytes (flightRec p st i d))
+        store = put d (zoneOn z d) b (recordBytes (flightRec p st i d))
 
         parts : firstRefusal (landChecks p (lentOk p k m) v m d s) ≡ none → waiting p st d s ≡ true
         parts e = land-passed p (lentOk p k m) v m d s e .waits
 
         plain-stores : seals p st (slotOf st s) d ≡ false → landPlan p v m d s .stores ≡ store ∷ []
-        plain-stores q = unfold landPlan landStore zoneOn in rw q
+        plain-stores q = unfold landPlan landStore in rw q
 
         seal-stores : seals p st (slotOf st s) d ≡ true → landPlan p v m d s .stores ≡ (store ∷ []) ++ sealStores p (storeView store v) z
-        seal-stores q = unfold landPlan landStore zoneOn in rw q
+        seal-stores q = unfold landPlan landStore in rw q
 
         seal-parts : seals p st (slotOf st s) d ≡ true → (completes p st (slotOf st s) d ≡ true) × (st .next ≡ p .S) × (length (inFlight st) ≡ 1)
         seal-parts q = unfold seals in
@@ -423,18 +424,18 @@ module _ (p : Params) (k : Disk) (m : Memory) (u : Run p k m) (old : List Segmen
             v1 : View
             v1 = storeView store v
 
-            hz : z < p .Z
+            hz : Named p z
             hz = he .opens-at z (x .slot-opened) .opened-zone
 
             ro : Roomy p v (store ∷ [])
             ro = chunk-roomy p rg v sh st he so z (x .slot-opened) d i hd (x .slot-ok) (x .slot-flies) (x .slot-ready) b lb
 
             wi : (y : Store) → In y (store ∷ []) → Within p y
-            wi y (inl e) = subst (λ (a : Store). Within p a) (sym e) (hd, hz)
+            wi y (inl e) = subst (λ (a : Store). Within p a) (sym e) (hd, zone-on-lt p z d hz)
             wi y (inr e) = absurd e
 
-            used! : (y : View) → ((e : ℕ) → e < p .N → 1 ≤ pointerAt y e z) → usedAt y z ≡ true
-            used! y f = ap not (ne-eqb (pointerAt y 0 z) 0 (λ e. let a = f 0 (omega (arith, rg .drives-low)) in let bad : ⊥ = omega arith in bad))
+            used! : (y : View) → ((e : ℕ) → e < p .N → 1 ≤ pointerAt y e (zoneOn z e)) → usedAt y z ≡ true
+            used! y f = ap not (ne-eqb (pointerAt y 0 (zoneOn z 0)) 0 (λ e. let a = f 0 (omega (arith, rg .drives-low)) in let bad : ⊥ = omega arith in bad))
 
             wl : WellLaid p v1 old
             wl = chunk-laid p rg v sh st he so z (x .slot-opened) d i hd (x .slot-ok) (x .slot-flies) (x .slot-ready) b lb old (used! v (he .opens-at z (x .slot-opened) .has-header)) (well-laid we)
@@ -500,19 +501,19 @@ module _ (p : Params) (k : Disk) (m : Memory) (u : Run p k m) (old : List Segmen
     agree-zoned : (v2 : View) → In (lowDrive p (st .missing)) (present p (st .missing)) → Agree p (st .missing) v v2 → Zoned p v2 (st .missing) old
     agree-zoned v2 low ag g d i hd hq =
         let gone = st .missing in
-        let j : In g (remaining p v gone) = subst (λ (x : List ℕ). In g x) (sym (same-remaining p gone v v2 low ag)) i in
+        let j : In g (remaining p v gone) = subst (λ (x : List Seg). In g x) (sym (same-remaining p gone v v2 low ag)) i in
         let hg = remaining-low p v gone g j in
         let c = same-core p gone v v2 low ag g hg in
-        subst (λ (x : Zone). ZoneLaid p old (sealedIn p v2 gone g) (segmentOf p v2 gone g .serial) (segmentOf p v2 gone g .copied) d g x) (ag d g hd hg hq)
-        (subst (λ (x : ℕ). ZoneLaid p old (sealedIn p v2 gone g) (segmentOf p v2 gone g .serial) x d g (zoneAt v d g)) (copied! g c)
-        (subst (λ (x : ℕ). ZoneLaid p old (sealedIn p v2 gone g) x (segmentOf p v gone g .copied) d g (zoneAt v d g)) (serial! g c)
-        (subst (λ (x : Bool). ZoneLaid p old x (segmentOf p v gone g .serial) (segmentOf p v gone g .copied) d g (zoneAt v d g)) (same-sealed p gone v v2 low ag g hg)
+        subst (λ (x : Zone). ZoneLaid p old (sealedIn p v2 gone g) (segmentOf p v2 gone g .serial) (segmentOf p v2 gone g .copied) d (zoneOn g d) x) (ag d (zoneOn g d) hd (zone-on-lt p g d hg) hq)
+        (subst (λ (x : ℕ). ZoneLaid p old (sealedIn p v2 gone g) (segmentOf p v2 gone g .serial) x d (zoneOn g d) (zoneAt v d (zoneOn g d))) (copied! g c)
+        (subst (λ (x : ℕ). ZoneLaid p old (sealedIn p v2 gone g) x (segmentOf p v gone g .copied) d (zoneOn g d) (zoneAt v d (zoneOn g d))) (serial! g c)
+        (subst (λ (x : Bool). ZoneLaid p old x (segmentOf p v gone g .serial) (segmentOf p v gone g .copied) d (zoneOn g d) (zoneAt v d (zoneOn g d))) (same-sealed p gone v v2 low ag g hg)
         (laid-zoned p v gone old l g d j hd hq))))
       where
-        serial! : (g : ℕ) → core (segmentOf p v (st .missing) g) ≡ core (segmentOf p v2 (st .missing) g) → segmentOf p v (st .missing) g .serial ≡ segmentOf p v2 (st .missing) g .serial
+        serial! : (g : Seg) → core (segmentOf p v (st .missing) g) ≡ core (segmentOf p v2 (st .missing) g) → segmentOf p v (st .missing) g .serial ≡ segmentOf p v2 (st .missing) g .serial
         serial! g c = unfold core in ap (λ (x : Segment). x .serial) c
 
-        copied! : (g : ℕ) → core (segmentOf p v (st .missing) g) ≡ core (segmentOf p v2 (st .missing) g) → segmentOf p v (st .missing) g .copied ≡ segmentOf p v2 (st .missing) g .copied
+        copied! : (g : Seg) → core (segmentOf p v (st .missing) g) ≡ core (segmentOf p v2 (st .missing) g) → segmentOf p v (st .missing) g .copied ≡ segmentOf p v2 (st .missing) g .copied
         copied! g c = unfold core in ap (λ (x : Segment). x .copied) c
 
     rebuild-lost : LostDrive p k m → isCut (rb .answer) ≡ false → KeepsLaid p old rb

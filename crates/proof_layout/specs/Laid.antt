@@ -4,7 +4,6 @@ use mathlib.Core.List.{List, [], _∷_, map}
 use mathlib.Core.Bool.{Bool, true, false, not, _&&_}
 use Prim.Native.Nat.{ℕ, zero, suc, _+_, _≤_, _<_}
 use native.Mathlib.Nat.{zero-add}
-use native.Mathlib.Decide.{ℕ-discrete}
 use borrow.Author.Tests.{eqb-false, not-false}
 use native.Mathlib.Omega.{arith}
 use lib.Dec.{eqb}
@@ -17,16 +16,18 @@ use Rattle.spec.specs.Layout.{inGroupOf, headerBlock, headerSerial, headerCopie
 use Rattle.spec.specs.Lists.{upFrom, any, sameList, isIn}
 use Rattle.spec.specs.Params.{capacity, present}
 use Rattle.spec.specs.Segments.{headerAt, remaining, Segment, recordsIn, segmentOf, segments}
+use Rattle.spec.specs.Drives.{Seg}
 use Rattle.law_basic.specs.Geometry.{Ranged}
 use Rattle.law_basic.specs.Mask.{isIn-empty}
 use Rattle.law_basic.specs.Ranges.{Test, test, and-left, and-right, and-both, length-upFrom, getD-upFrom, getD-map, sameList-true}
 use Rattle.law_basic.specs.Ranges.Test.{yes!, no! }
+use Rattle.law_basic.specs.Segs.{segs-differ, Named, by-seg}
 use Rattle.spec_demands.specs.Layouts.{Here, Remains, foundSealed, ParityMade, Layout}
 use Rattle.law_drives.specs.Accept.{Accepted, pointer-ok, faults-apart, zone-stripes, in-groups, copied-low, serials-differ, same-blocks}
 use Rattle.law_drives.specs.Footers.{sparesIn}
-use Rattle.law_drives.specs.Members.{In, in-map, in-any, none-in, in-getD, is-member, member-is}
+use Rattle.law_drives.specs.Members.{In, in-map, in-any, none-in, in-getD}
 use Rattle.law_drives.specs.Records.{blocks-at}
-use Rattle.law_drives.specs.Segs.{in-present, length-records, record-at, zone-by, seg-is, copied-is, full-is}
+use Rattle.law_drives.specs.Segs.{in-present, length-records, record-at, zone-by, seg-is, copied-is, full-is, is-seg, seg-in}
 use Rattle.law_drives.specs.Settled.{low-first, used-remains, remains-is-used, serial-of, SameZones, zones-sealed, zones-header}
 use Rattle.law_drives.specs.Tests.{clash, or-first, or-right, eqb-self}
 use Rattle.law_drives.specs.Tidy.{usedAt, Tidy}
@@ -34,15 +35,15 @@ use Rattle.law_drives.specs.Tidy.{usedAt, Tidy}
 -- 01, What a zone holds: all of the layout but the parity
 pub record Laid (p : Params) (v : View) (gone : ℕ) (old : List Segment) : Type 0 where
   pub pointer-low : (d z : ℕ) → Here p gone d → z < p .Z → pointerAt v d z ≤ capacity p
-  pub header-stands : (g d : ℕ) → Remains p v gone g → Here p gone d
+  pub header-stands : (g : Seg) (d : ℕ) → Remains p v gone g → Here p gone d
       → chunkAt v d (zoneOn g d) 0 ≡ mkChunk (headerBlock p d (zoneOn g d) (segmentOf p v gone g .serial) (segmentOf p v gone g .copied)) zeroSpare
-  pub serial-above : (g : ℕ) → Remains p v gone g → segmentOf p v gone g .copied < segmentOf p v gone g .serial
-  pub serial-once : (g h : ℕ) → Remains p v gone g → Remains p v gone h → segmentOf p v gone g .serial ≡ segmentOf p v gone h .serial → g ≡ h
-  pub in-group : (g d o : ℕ) → Remains p v gone g → Here p gone d → o < dataStored p (zoneAt v d (zoneOn g d))
+  pub serial-above : (g : Seg) → Remains p v gone g → segmentOf p v gone g .copied < segmentOf p v gone g .serial
+  pub serial-once : (g h : Seg) → Remains p v gone g → Remains p v gone h → segmentOf p v gone g .serial ≡ segmentOf p v gone h .serial → g ≡ h
+  pub in-group : (g : Seg) (d o : ℕ) → Remains p v gone g → Here p gone d → o < dataStored p (zoneAt v d (zoneOn g d))
       → inGroupOf p o (recordAt p v gone d g o .stripe) ≡ true
-  pub number-once : (g d o i : ℕ) → Remains p v gone g → Here p gone d → o < dataStored p (zoneAt v d (zoneOn g d)) → i < dataStored p (zoneAt v d (zoneOn g d))
+  pub number-once : (g : Seg) (d o i : ℕ) → Remains p v gone g → Here p gone d → o < dataStored p (zoneAt v d (zoneOn g d)) → i < dataStored p (zoneAt v d (zoneOn g d))
       → recordAt p v gone d g o .stripe ≡ recordAt p v gone d g i .stripe → o ≡ i
-  pub footer-made : (g d i : ℕ) → Remains p v gone g → Here p gone d → foundSealed old (segmentOf p v gone g .serial) ≡ false
+  pub footer-made : (g : Seg) (d i : ℕ) → Remains p v gone g → Here p gone d → foundSealed old (segmentOf p v gone g .serial) ≡ false
       → i < footersStored p (zoneAt v d (zoneOn g d))
       → chunkAt v d (zoneOn g d) (1 + p .S + i) .block ≡ footerBlock p (sparesOf (take (p .S) (drop 1 (zoneAt v d (zoneOn g d) .blocks)))) i
 
@@ -69,20 +70,20 @@ pub record ZoneLaid (p : Params) (old : List Segment) (w : Bool) (serial copied 
 
 -- every zone of what remains
 abbrev pub Zoned : Params → View → ℕ → List Segment → Type 0
-Zoned p v gone old = (g d : ℕ) → In g (remaining p v gone) → d < p .N → isIn gone d ≡ false
-    → ZoneLaid p old (sealedIn p v gone g) (segmentOf p v gone g .serial) (segmentOf p v gone g .copied) d g (zoneAt v d g)
+Zoned p v gone old = (g : Seg) (d : ℕ) → In g (remaining p v gone) → d < p .N → isIn gone d ≡ false
+    → ZoneLaid p old (sealedIn p v gone g) (segmentOf p v gone g .serial) (segmentOf p v gone g .copied) d (zoneOn g d) (zoneAt v d (zoneOn g d))
 
 -- a segment with none missing, by its header on drive 0
-abbrev pub SegLaid : Params → View → List Segment → ℕ → Type 0
-SegLaid p v old z = (d : ℕ) → d < p .N → ZoneLaid p old (sealedIn p v 0 z) (headerSerial (headerAt v 0 z)) (headerCopied (headerAt v 0 z)) d z (zoneAt v d z)
+abbrev pub SegLaid : Params → View → List Segment → Seg → Type 0
+SegLaid p v old z = (d : ℕ) → d < p .N → ZoneLaid p old (sealedIn p v 0 z) (headerSerial (headerAt v 0 z)) (headerCopied (headerAt v 0 z)) d (zoneOn z d) (zoneAt v d (zoneOn z d))
 
 -- every used segment
 abbrev pub WellLaid : Params → View → List Segment → Type 0
-WellLaid p v old = (z : ℕ) → z < p .Z → usedAt v z ≡ true → SegLaid p v old z
+WellLaid p v old = (z : Seg) → Named p z → usedAt v z ≡ true → SegLaid p v old z
 
 pub laid-zoned : (p : Params) (v : View) (gone : ℕ) (old : List Segment) → Laid p v gone old → Zoned p v gone old
 laid-zoned p v gone old l g d m hd hq =
-    let k = member-is g (remaining p v gone) m in
+    let k = seg-in g (remaining p v gone) m in
     record {
       header-is = head! (l .header-stands g d k (hd, hq));
       group-is = λ o h. group! o (l .in-group g d o k (hd, hq)) h;
@@ -94,64 +95,65 @@ laid-zoned p v gone old l g d m hd hq =
     w = sealedIn p v gone g
 
     q : Zone
-    q = zoneAt v d g
+    q = zoneAt v d (zoneOn g d)
 
     head! : chunkAt v d (zoneOn g d) 0 ≡ mkChunk (headerBlock p d (zoneOn g d) (segmentOf p v gone g .serial) (segmentOf p v gone g .copied)) zeroSpare
-        → getD (q .blocks) 0 noChunk ≡ mkChunk (headerBlock p d g (segmentOf p v gone g .serial) (segmentOf p v gone g .copied)) zeroSpare
-    head! e = unfold chunkAt zoneOn in e
+        → getD (q .blocks) 0 noChunk ≡ mkChunk (headerBlock p d (zoneOn g d) (segmentOf p v gone g .serial) (segmentOf p v gone g .copied)) zeroSpare
+    head! e = unfold chunkAt in e
 
     group! : (o : ℕ) → (o < dataStored p (zoneAt v d (zoneOn g d)) → inGroupOf p o (recordAt p v gone d g o .stripe) ≡ true) → o < dataStored p q → inGroupOf p o (recordIn p w q o .stripe) ≡ true
-    group! o f = unfold recordAt zoneOn in f
+    group! o f = unfold recordAt in f
 
     once! : (o i : ℕ) → (o < dataStored p (zoneAt v d (zoneOn g d)) → i < dataStored p (zoneAt v d (zoneOn g d)) → recordAt p v gone d g o .stripe ≡ recordAt p v gone d g i .stripe → o ≡ i)
         → o < dataStored p q → i < dataStored p q → recordIn p w q o .stripe ≡ recordIn p w q i .stripe → o ≡ i
-    once! o i f = unfold recordAt zoneOn in f
+    once! o i f = unfold recordAt in f
 
     foot! : (i : ℕ) → (i < footersStored p (zoneAt v d (zoneOn g d))
         → chunkAt v d (zoneOn g d) (1 + p .S + i) .block ≡ footerBlock p (sparesOf (take (p .S) (drop 1 (zoneAt v d (zoneOn g d) .blocks)))) i)
         → i < footersStored p q → getD (q .blocks) (1 + p .S + i) noChunk .block ≡ footerBlock p (sparesIn p q) i
-    foot! i f = unfold chunkAt zoneOn sparesIn in f
+    foot! i f = unfold chunkAt sparesIn in f
 
 -- and back, where pointers and serials are in order
 pub zoned-laid : (p : Params) (v : View) (gone : ℕ) (old : List Segment) → ((d z : ℕ) → d < p .N → z < p .Z → isIn gone d ≡ false → pointerAt v d z ≤ capacity p)
-    → ((g : ℕ) → In g (remaining p v gone) → segmentOf p v gone g .copied < segmentOf p v gone g .serial)
-    → ((g h : ℕ) → In g (remaining p v gone) → In h (remaining p v gone) → segmentOf p v gone g .serial ≡ segmentOf p v gone h .serial → g ≡ h)
+    → ((g : Seg) → In g (remaining p v gone) → segmentOf p v gone g .copied < segmentOf p v gone g .serial)
+    → ((g h : Seg) → In g (remaining p v gone) → In h (remaining p v gone) → segmentOf p v gone g .serial ≡ segmentOf p v gone h .serial → g ≡ h)
     → Zoned p v gone old → Laid p v gone old
 zoned-laid p v gone old low above once z = record {
   pointer-low = λ d y k hy. low d y (k .0) hy (k .1);
   header-stands = λ g d m k. head! g d (at g d m k .header-is);
-  serial-above = λ g m. above g (is-member g (remaining p v gone) m);
-  serial-once = λ g h m n. once g h (is-member g (remaining p v gone) m) (is-member h (remaining p v gone) n);
+  serial-above = λ g m. above g (is-seg g (remaining p v gone) m);
+  serial-once = λ g h m n. once g h (is-seg g (remaining p v gone) m) (is-seg h (remaining p v gone) n);
   in-group = λ g d o m k. group! g d o (at g d m k .group-is o);
   number-once = λ g d o i m k. once! g d o i (at g d m k .once-is o i);
   footer-made = λ g d i m k n. foot! g d i (at g d m k .footer-is n i);
 }
   where
-    w : ℕ → Bool
+    w : Seg → Bool
     w g = sealedIn p v gone g
 
-    q : ℕ → ℕ → Zone
-    q g d = zoneAt v d g
+    q : Seg → ℕ → Zone
+    q g d = zoneAt v d (zoneOn g d)
 
-    at : (g d : ℕ) → Remains p v gone g → Here p gone d → ZoneLaid p old (sealedIn p v gone g) (segmentOf p v gone g .serial) (segmentOf p v gone g .copied) d g (zoneAt v d g)
-    at g d m k = z g d (is-member g (remaining p v gone) m) (k .0) (k .1)
+    at : (g : Seg) (d : ℕ) → Remains p v gone g → Here p gone d
+        → ZoneLaid p old (sealedIn p v gone g) (segmentOf p v gone g .serial) (segmentOf p v gone g .copied) d (zoneOn g d) (zoneAt v d (zoneOn g d))
+    at g d m k = z g d (is-seg g (remaining p v gone) m) (k .0) (k .1)
 
-    head! : (g d : ℕ) → getD (q g d .blocks) 0 noChunk ≡ mkChunk (headerBlock p d g (segmentOf p v gone g .serial) (segmentOf p v gone g .copied)) zeroSpare
+    head! : (g : Seg) (d : ℕ) → getD (q g d .blocks) 0 noChunk ≡ mkChunk (headerBlock p d (zoneOn g d) (segmentOf p v gone g .serial) (segmentOf p v gone g .copied)) zeroSpare
         → chunkAt v d (zoneOn g d) 0 ≡ mkChunk (headerBlock p d (zoneOn g d) (segmentOf p v gone g .serial) (segmentOf p v gone g .copied)) zeroSpare
-    head! g d e = unfold chunkAt zoneOn in e
+    head! g d e = unfold chunkAt in e
 
-    group! : (g d o : ℕ) → (o < dataStored p (q g d) → inGroupOf p o (recordIn p (w g) (q g d) o .stripe) ≡ true)
+    group! : (g : Seg) (d o : ℕ) → (o < dataStored p (q g d) → inGroupOf p o (recordIn p (w g) (q g d) o .stripe) ≡ true)
         → o < dataStored p (zoneAt v d (zoneOn g d)) → inGroupOf p o (recordAt p v gone d g o .stripe) ≡ true
-    group! g d o f = unfold recordAt zoneOn in f
+    group! g d o f = unfold recordAt in f
 
-    once! : (g d o i : ℕ) → (o < dataStored p (q g d) → i < dataStored p (q g d) → recordIn p (w g) (q g d) o .stripe ≡ recordIn p (w g) (q g d) i .stripe → o ≡ i)
+    once! : (g : Seg) (d o i : ℕ) → (o < dataStored p (q g d) → i < dataStored p (q g d) → recordIn p (w g) (q g d) o .stripe ≡ recordIn p (w g) (q g d) i .stripe → o ≡ i)
         → o < dataStored p (zoneAt v d (zoneOn g d)) → i < dataStored p (zoneAt v d (zoneOn g d)) → recordAt p v gone d g o .stripe ≡ recordAt p v gone d g i .stripe → o ≡ i
-    once! g d o i f = unfold recordAt zoneOn in f
+    once! g d o i f = unfold recordAt in f
 
-    foot! : (g d i : ℕ) → (i < footersStored p (q g d) → getD (q g d .blocks) (1 + p .S + i) noChunk .block ≡ footerBlock p (sparesIn p (q g d)) i)
+    foot! : (g : Seg) (d i : ℕ) → (i < footersStored p (q g d) → getD (q g d .blocks) (1 + p .S + i) noChunk .block ≡ footerBlock p (sparesIn p (q g d)) i)
         → i < footersStored p (zoneAt v d (zoneOn g d))
         → chunkAt v d (zoneOn g d) (1 + p .S + i) .block ≡ footerBlock p (sparesOf (take (p .S) (drop 1 (zoneAt v d (zoneOn g d) .blocks)))) i
-    foot! g d i f = unfold chunkAt zoneOn sparesIn in f
+    foot! g d i f = unfold chunkAt sparesIn in f
 
 -- ---- what a restart's checks give
 
@@ -187,9 +189,9 @@ checked-footers p q f i h =
 
 module _ (p : Params) (v : View) (gone : ℕ) (acc : Accepted p v gone) where
   -- 01, Refusals, 9: the header
-  checked-header : (g d : ℕ) → In g (remaining p v gone) → d < p .N → isIn gone d ≡ false
-      → getD (zoneAt v d g .blocks) 0 noChunk ≡ mkChunk (headerBlock p d g (segmentOf p v gone g .serial) (segmentOf p v gone g .copied)) zeroSpare
-  checked-header g d m hd hq = chunk! (zone! (not-false (same (getD (x .zonesBy) d noZone) (x .seg))
+  checked-header : (g : Seg) (d : ℕ) → In g (remaining p v gone) → d < p .N → isIn gone d ≡ false
+      → getD (zoneAt v d (zoneOn g d) .blocks) 0 noChunk ≡ mkChunk (headerBlock p d (zoneOn g d) (segmentOf p v gone g .serial) (segmentOf p v gone g .copied)) zeroSpare
+  checked-header g d m hd hq = chunk! (zone! (not-false (same (getD (x .zonesBy) d noZone) (zoneOn (x .seg) d))
       (none-in fault (present p gone) (as! (faults-apart p v gone acc g m .no-header-fault)) d (in-present p gone d hd hq))))
     where
       x : Segment
@@ -200,33 +202,36 @@ module _ (p : Params) (v : View) (gone : ℕ) (acc : Accepted p v gone) where
 
       fault : ℕ → Bool
       fault e = not (sameChunk (getD (getD (segmentOf p v gone g .zonesBy) e noZone .blocks) 0 noChunk)
-          (headerBlock p e (segmentOf p v gone g .seg) (segmentOf p v gone g .serial) (segmentOf p v gone g .copied)) zeroSpare)
+          (headerBlock p e (zoneOn (segmentOf p v gone g .seg) e) (segmentOf p v gone g .serial) (segmentOf p v gone g .copied)) zeroSpare)
 
       as! : headerFault p gone (segmentOf p v gone g) ≡ false → any fault (present p gone) ≡ false
-      as! e = unfold headerFault zoneOn in e
+      as! e = unfold headerFault in e
 
-      zone! : same (getD (x .zonesBy) d noZone) (x .seg) ≡ true → same (zoneAt v d g) g ≡ true
-      zone! e = subst (λ (q : Zone). same q g ≡ true) (zone-by p v gone g d hd) (subst (λ (y : ℕ). same (getD (segmentOf p v gone g .zonesBy) d noZone) y ≡ true) (seg-is p v gone g) e)
+      zone! : same (getD (x .zonesBy) d noZone) (zoneOn (x .seg) d) ≡ true → same (zoneAt v d (zoneOn g d)) (zoneOn g d) ≡ true
+      zone! e =
+          subst (λ (q : Zone). same q (zoneOn g d) ≡ true) (zone-by p v gone g d hd)
+          (subst (λ (y : Seg). same (getD (segmentOf p v gone g .zonesBy) d noZone) (zoneOn y d) ≡ true) (seg-is p v gone g) e)
 
-      chunk! : same (zoneAt v d g) g ≡ true → getD (zoneAt v d g .blocks) 0 noChunk ≡ mkChunk (headerBlock p d g (segmentOf p v gone g .serial) (segmentOf p v gone g .copied)) zeroSpare
+      chunk! : same (zoneAt v d (zoneOn g d)) (zoneOn g d) ≡ true
+          → getD (zoneAt v d (zoneOn g d) .blocks) 0 noChunk ≡ mkChunk (headerBlock p d (zoneOn g d) (segmentOf p v gone g .serial) (segmentOf p v gone g .copied)) zeroSpare
       chunk! e = unfold sameChunk in
-          let c = getD (zoneAt v d g .blocks) 0 noChunk in
-          let b = headerBlock p d g (segmentOf p v gone g .serial) (segmentOf p v gone g .copied) in
+          let c = getD (zoneAt v d (zoneOn g d) .blocks) 0 noChunk in
+          let b = headerBlock p d (zoneOn g d) (segmentOf p v gone g .serial) (segmentOf p v gone g .copied) in
           let e1 = sameList-true (c .block) b (and-left (sameList (c .block) b) (sameList (c .spare) zeroSpare) e) in
           let e2 = sameList-true (c .spare) zeroSpare (and-right (sameList (c .block) b) (sameList (c .spare) zeroSpare) e) in
           λ i. mkChunk (e1 i) (e2 i)
 
-  checked-once : (g d o i : ℕ) → In g (remaining p v gone) → d < p .N → isIn gone d ≡ false → o < dataStored p (zoneAt v d g) → i < dataStored p (zoneAt v d g)
-      → recordIn p (sealedIn p v gone g) (zoneAt v d g) o .stripe ≡ recordIn p (sealedIn p v gone g) (zoneAt v d g) i .stripe → o ≡ i
+  checked-once : (g : Seg) (d o i : ℕ) → In g (remaining p v gone) → d < p .N → isIn gone d ≡ false → o < dataStored p (zoneAt v d (zoneOn g d)) → i < dataStored p (zoneAt v d (zoneOn g d))
+      → recordIn p (sealedIn p v gone g) (zoneAt v d (zoneOn g d)) o .stripe ≡ recordIn p (sealedIn p v gone g) (zoneAt v d (zoneOn g d)) i .stripe → o ≡ i
   checked-once g d o i m hd hq h j e =
       let w = sealedIn p v gone g in
-      let q = zoneAt v d g in
+      let q = zoneAt v d (zoneOn g d) in
       let rs = recordsIn p w q in
       let l = length-records p w q in
       twice-once rs (zone-stripes p v gone acc g d m hd hq .1) o i (subst (λ (x : ℕ). o < x) (sym l) h) (subst (λ (x : ℕ). i < x) (sym l) j)
       (ap (λ (r : Rec). r .stripe) (record-at p w q o (mkRec 0 0 0) h) ∙ e ∙ ap (λ (r : Rec). r .stripe) (sym (record-at p w q i (mkRec 0 0 0) j)))
 
-  pub open-footers : (g d : ℕ) → In g (remaining p v gone) → d < p .N → isIn gone d ≡ false → sealedIn p v gone g ≡ false → footerFaultIn p (zoneAt v d g) ≡ false
+  pub open-footers : (g : Seg) (d : ℕ) → In g (remaining p v gone) → d < p .N → isIn gone d ≡ false → sealedIn p v gone g ≡ false → footerFaultIn p (zoneAt v d (zoneOn g d)) ≡ false
   open-footers g d m hd hq ns =
       ap (footerFaultIn p) (sym (zone-by p v gone g d hd))
       ∙ none-in (λ e. footerFaultIn p (getD (segmentOf p v gone g .zonesBy) e noZone)) (present p gone) (as! (faults-apart p v gone acc g m .no-footer-fault)) d (in-present p gone d hd hq)
@@ -235,7 +240,7 @@ module _ (p : Params) (v : View) (gone : ℕ) (acc : Accepted p v gone) where
       as! e = unfold footerFault in (sym (ap (λ (b : Bool). not b && any (λ e. footerFaultIn p (getD (segmentOf p v gone g .zonesBy) e noZone)) (present p gone)) (full-is p v gone g ∙ ns)) ∙ e)
 
   -- a sealed segment of an accepted image is found sealed
-  pub sealed-found : (g : ℕ) → In g (remaining p v gone) → sealedIn p v gone g ≡ true → foundSealed (segments p v gone) (segmentOf p v gone g .serial) ≡ true
+  pub sealed-found : (g : Seg) → In g (remaining p v gone) → sealedIn p v gone g ≡ true → foundSealed (segments p v gone) (segmentOf p v gone g .serial) ≡ true
   sealed-found g m q = as! (in-any found (segments p v gone) (segmentOf p v gone g) (seg! (in-map (segmentOf p v gone) (remaining p v gone) g m))
       (and-both (eqb (segmentOf p v gone g .serial) (segmentOf p v gone g .serial)) (segmentOf p v gone g .full) (eqb-self (segmentOf p v gone g .serial)) (full-is p v gone g ∙ q)))
     where
@@ -257,16 +262,16 @@ module _ (p : Params) (v : View) (gone : ℕ) (acc : Accepted p v gone) where
     footer-is = λ nf i h. go nf i h (test (sealedIn p v gone g));
   }
     where
-      go : foundSealed (segments p v gone) (segmentOf p v gone g .serial) ≡ false → (i : ℕ) → i < footersStored p (zoneAt v d g) → Test (sealedIn p v gone g)
-          → getD (zoneAt v d g .blocks) (1 + p .S + i) noChunk .block ≡ footerBlock p (sparesIn p (zoneAt v d g)) i
+      go : foundSealed (segments p v gone) (segmentOf p v gone g .serial) ≡ false → (i : ℕ) → i < footersStored p (zoneAt v d (zoneOn g d)) → Test (sealedIn p v gone g)
+          → getD (zoneAt v d (zoneOn g d) .blocks) (1 + p .S + i) noChunk .block ≡ footerBlock p (sparesIn p (zoneAt v d (zoneOn g d))) i
       go nf i h (yes! q) = clash (sealed-found g m q) nf
-      go nf i h (no! q) = checked-footers p (zoneAt v d g) (open-footers g d m hd hq q) i h
+      go nf i h (no! q) = checked-footers p (zoneAt v d (zoneOn g d)) (open-footers g d m hd hq q) i h
 
   pub laid-accepted : (old : List Segment) → Zoned p v gone old → Laid p v gone old
   laid-accepted old z = zoned-laid p v gone old (λ d y hd hy hq. pointer-ok p v gone acc d y hd hy hq) (copied-low p v gone acc) once z
     where
-      once : (g h : ℕ) → In g (remaining p v gone) → In h (remaining p v gone) → segmentOf p v gone g .serial ≡ segmentOf p v gone h .serial → g ≡ h
-      once g h m n e = go (ℕ-discrete g h)
+      once : (g h : Seg) → In g (remaining p v gone) → In h (remaining p v gone) → segmentOf p v gone g .serial ≡ segmentOf p v gone h .serial → g ≡ h
+      once g h m n e = go (segs-differ g h)
         where
           go : Dec (g ≡ h) → g ≡ h
           go (yes x) = x
@@ -275,18 +280,19 @@ module _ (p : Params) (v : View) (gone : ℕ) (acc : Accepted p v gone) where
 -- ---- with none missing
 
 module _ (p : Params) (r : Ranged p) (v : View) (s : ℕ) (t : Tidy p v s) (old : List Segment) where
-  copied-of : (g : ℕ) → segmentOf p v 0 g .copied ≡ headerCopied (headerAt v 0 g)
+  copied-of : (g : Seg) → segmentOf p v 0 g .copied ≡ headerCopied (headerAt v 0 g)
   copied-of g = copied-is p v 0 g ∙ ap (λ (x : ℕ). headerCopied (headerAt v x g)) (low-first p r)
 
   pub laid-tidy : WellLaid p v old → Laid p v 0 old
-  laid-tidy f = zoned-laid p v 0 old (λ d y hd hy hq. t .pointer-low d y hd hy) above once
-      (λ g d m hd hq. let (hg, u) = remains-is-used p r v s t g m in subst (λ (x : ℕ). ZoneLaid p old (sealedIn p v 0 g) x (segmentOf p v 0 g .copied) d g (zoneAt v d g)) (sym (serial-of p r v s t g))
-      (subst (λ (x : ℕ). ZoneLaid p old (sealedIn p v 0 g) (headerSerial (headerAt v 0 g)) x d g (zoneAt v d g)) (sym (copied-of g)) (f g hg u d hd)))
+  laid-tidy f = zoned-laid p v 0 old (λ d y hd hy hq. by-seg (λ x. pointerAt v d x ≤ capacity p) p d y hy (λ g hg. t .pointer-low d g hd hg)) above once
+      (λ g d m hd hq. let (hg, u) = remains-is-used p r v s t g m in
+      subst (λ (x : ℕ). ZoneLaid p old (sealedIn p v 0 g) x (segmentOf p v 0 g .copied) d (zoneOn g d) (zoneAt v d (zoneOn g d))) (sym (serial-of p r v s t g))
+      (subst (λ (x : ℕ). ZoneLaid p old (sealedIn p v 0 g) (headerSerial (headerAt v 0 g)) x d (zoneOn g d) (zoneAt v d (zoneOn g d))) (sym (copied-of g)) (f g hg u d hd)))
     where
-      above : (g : ℕ) → In g (remaining p v 0) → segmentOf p v 0 g .copied < segmentOf p v 0 g .serial
+      above : (g : Seg) → In g (remaining p v 0) → segmentOf p v 0 g .copied < segmentOf p v 0 g .serial
       above g m = let (hg, u) = remains-is-used p r v s t g m in let a = serial-of p r v s t g in let b = copied-of g in let c = t .copied-less g hg u in omega arith
 
-      once : (g h : ℕ) → In g (remaining p v 0) → In h (remaining p v 0) → segmentOf p v 0 g .serial ≡ segmentOf p v 0 h .serial → g ≡ h
+      once : (g h : Seg) → In g (remaining p v 0) → In h (remaining p v 0) → segmentOf p v 0 g .serial ≡ segmentOf p v 0 h .serial → g ≡ h
       once g h m n e =
           let (hg, u) = remains-is-used p r v s t g m in
           let (hh, w) = remains-is-used p r v s t h n in
@@ -294,13 +300,13 @@ module _ (p : Params) (r : Ranged p) (v : View) (s : ℕ) (t : Tidy p v s) (old 
 
   pub tidy-laid : Laid p v 0 old → WellLaid p v old
   tidy-laid l z hz u d hd =
-      subst (λ (x : ℕ). ZoneLaid p old (sealedIn p v 0 z) x (headerCopied (headerAt v 0 z)) d z (zoneAt v d z)) (serial-of p r v s t z)
-      (subst (λ (x : ℕ). ZoneLaid p old (sealedIn p v 0 z) (segmentOf p v 0 z .serial) x d z (zoneAt v d z)) (copied-of z)
+      subst (λ (x : ℕ). ZoneLaid p old (sealedIn p v 0 z) x (headerCopied (headerAt v 0 z)) d (zoneOn z d) (zoneAt v d (zoneOn z d))) (serial-of p r v s t z)
+      (subst (λ (x : ℕ). ZoneLaid p old (sealedIn p v 0 z) (segmentOf p v 0 z .serial) x d (zoneOn z d) (zoneAt v d (zoneOn z d))) (copied-of z)
       (laid-zoned p v 0 old l z d (used-remains p r v s t z hz u) hd (isIn-empty d)))
 
 -- a segment whose zones are the same
-pub laid-same : (p : Params) (r : Ranged p) (v u : View) (old : List Segment) (z : ℕ) → SameZones p v u z → SegLaid p v old z → SegLaid p u old z
+pub laid-same : (p : Params) (r : Ranged p) (v u : View) (old : List Segment) (z : Seg) → SameZones p v u z → SegLaid p v old z → SegLaid p u old z
 laid-same p r v u old z sm f d hd =
-    subst (λ (q : Zone). ZoneLaid p old (sealedIn p u 0 z) (headerSerial (headerAt u 0 z)) (headerCopied (headerAt u 0 z)) d z q) (sm d hd)
-    (subst (λ (b : List ℕ). ZoneLaid p old (sealedIn p u 0 z) (headerSerial b) (headerCopied b) d z (zoneAt v d z)) (zones-header p r v u z sm)
-    (subst (λ (w : Bool). ZoneLaid p old w (headerSerial (headerAt v 0 z)) (headerCopied (headerAt v 0 z)) d z (zoneAt v d z)) (zones-sealed p r v u z sm) (f d hd)))
+    subst (λ (q : Zone). ZoneLaid p old (sealedIn p u 0 z) (headerSerial (headerAt u 0 z)) (headerCopied (headerAt u 0 z)) d (zoneOn z d) q) (sm d hd)
+    (subst (λ (b : List ℕ). ZoneLaid p old (sealedIn p u 0 z) (headerSerial b) (headerCopied b) d (zoneOn z d) (zoneAt v d (zoneOn z d))) (zones-header p r v u z sm)
+    (subst (λ (w : Bool). ZoneLaid p old w (headerSerial (headerAt v 0 z)) (headerCopied (headerAt v 0 z)) d (zoneOn z d) (zoneAt v d (zoneOn z d))) (zones-sealed p r v u z sm) (f d hd)))

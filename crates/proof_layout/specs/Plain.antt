@@ -7,12 +7,11 @@ use Prim.Native.Nat.{ℕ}
 use native.Mathlib.Omega.{arith}
 use Rattle.spec.specs.declared.Params.{Params}
 use Rattle.spec.specs.Demands.{saidBlock, saidAt}
-use Rattle.spec.specs.Drives.{View, zoneAt, zoneOn, placeSegment, sealedIn, recordIn, recordAt}
+use Rattle.spec.specs.Drives.{View, zoneAt, zoneOn, placeSegment, sealedIn, recordIn, recordAt, Seg}
 use Rattle.spec.specs.History.Seen.{unwritten, got}
 use Rattle.spec.specs.Layout.{dataDrive, dataPosition}
 use Rattle.spec.specs.Lists.{Opt, isIn}
 use Rattle.spec.specs.Lists.Opt.{none, some}
-use Rattle.spec.specs.Params.{placeZone}
 use Rattle.spec.specs.Rank.{Cand, beats, better, best, candsOf}
 use Rattle.spec.specs.Segments.{remaining, segmentOf, segments, offsetOn, pieceOf, candOf, candidates}
 use Rattle.law_basic.specs.Geometry.{Ranged, ranged, drive-is-data, data-drive-lt, drive-position, position-lt}
@@ -21,9 +20,9 @@ use Rattle.law_basic.specs.Ranges.Test.{yes!, no! }
 use Rattle.spec_demands.specs.Latest.{Recorded, Latest, SaidIsLatest}
 use Rattle.spec_demands.specs.Latest.Latest.{never, latest}
 use Rattle.law_drives.specs.Best.{Tied, best-in, some-is}
-use Rattle.law_drives.specs.Members.{In, is-member, member-is}
-use Rattle.law_drives.specs.Segs.{CandAt, cand-at, at-cand}
-use Rattle.law_drives.specs.Spots.{cand-zone, Spot, spot-of}
+use Rattle.law_drives.specs.Members.{In}
+use Rattle.law_drives.specs.Segs.{CandAt, cand-at, at-cand, is-seg, seg-in}
+use Rattle.law_drives.specs.Spots.{Spot, spot-of, cand-segment}
 use Rattle.law_drives.specs.Tests.{clash, not-so, cond-true, cond-false}
 use Rattle.proof_tables.specs.Base.{offset-here, offset-away, its-chunk}
 use Rattle.proof_tables.specs.Ranks.{Beats, beats-yes, yes-beats, beats-trans, beats-self, tied-of, of-at}
@@ -105,7 +104,7 @@ module _ (p : Params) (v : View) (gone a : ℕ) where
       of = k .segment;
       stripe = k .stripe;
       position = dataPosition p (k .stripe) (k .drive);
-      remains = is-member (k .segment) (remaining p v gone) (k .segment-remains);
+      remains = is-seg (k .segment) (remaining p v gone) (k .segment-remains);
       stripe-low = k .stripe-low;
       it-counts = k .stripe-counts;
       position-low = position-lt p (k .stripe) (k .drive) (k .drive-data) (k .drive-low);
@@ -119,7 +118,7 @@ module _ (p : Params) (v : View) (gone a : ℕ) where
     segment = k .of;
     stripe = k .stripe;
     drive = dataDrive p (k .stripe) (k .position);
-    segment-remains = member-is (k .of) (remaining p v gone) (k .remains);
+    segment-remains = seg-in (k .of) (remaining p v gone) (k .remains);
     stripe-low = k .stripe-low;
     stripe-counts = k .it-counts;
     drive-low = data-drive-lt p (k .stripe) (k .position) (k .position-low);
@@ -134,14 +133,11 @@ module _ (p : Params) (v : View) (gone a : ℕ) where
   block-of r c k =
       let t = spot-of p r v gone c k in
       let d = c .drive in
-      let zone! : placeSegment p (c .place) ≡ k .of = segment! ∙ cand-zone p r v gone c k t in
-      as! ∙ ap₂ (λ (g s : ℕ). got (pieceOf p gone (segmentOf p v gone g) s (c .drive) .block)) zone!
-      (ap (λ (g : ℕ). cond (isIn gone d) (c .offset) (recordAt p v gone d g (c .offset) .stripe)) zone! ∙ stripe! t (test (isIn gone d)))
+      let zone! : placeSegment p (c .place) ≡ k .of = cand-segment p r v gone c k t in
+      as! ∙ ap₂ (λ (g : Seg) (s : ℕ). got (pieceOf p gone (segmentOf p v gone g) s (c .drive) .block)) zone!
+      (ap (λ (g : Seg). cond (isIn gone d) (c .offset) (recordAt p v gone d g (c .offset) .stripe)) zone! ∙ stripe! t (test (isIn gone d)))
       ∙ ap (λ (e : ℕ). got (pieceOf p gone (segmentOf p v gone (k .of)) (k .stripe) e .block)) drive!
     where
-      segment! : placeSegment p (c .place) ≡ placeZone p (c .place)
-      segment! = unfold placeSegment in refl
-
       drive! : c .drive ≡ dataDrive p (k .stripe) (k .position)
       drive! = unfold candOf in ap (λ (x : Cand). x .drive) (k .it-is)
 
@@ -155,9 +151,9 @@ module _ (p : Params) (v : View) (gone a : ℕ) where
       stripe! t (no! q) = cond-false (isIn gone (c .drive)) (c .offset) (recordAt p v gone (c .drive) (k .of) (c .offset) .stripe) q
           ∙ ap (λ (o : ℕ). recordAt p v gone (c .drive) (k .of) o .stripe) (offset-here p r v gone c k t q) ∙ there (its-chunk p r v gone c k t q .its-stripe)
         where
-          there : recordIn p (sealedIn p v gone (k .of)) (zoneAt v (c .drive) (k .of)) (offsetOn (segmentOf p v gone (k .of)) (c .drive) (k .stripe)) .stripe ≡ k .stripe
+          there : recordIn p (sealedIn p v gone (k .of)) (zoneAt v (c .drive) (zoneOn (k .of) (c .drive))) (offsetOn (segmentOf p v gone (k .of)) (c .drive) (k .stripe)) .stripe ≡ k .stripe
               → recordAt p v gone (c .drive) (k .of) (offsetOn (segmentOf p v gone (k .of)) (c .drive) (k .stripe)) .stripe ≡ k .stripe
-          there e = unfold recordAt zoneOn in e
+          there e = unfold recordAt in e
 
   said-latest : Ranged p → Latest p v gone a (best none (candsOf a said)) (saidAt p v gone a)
   unfolding in-recorded

@@ -4,7 +4,6 @@ use mathlib.Core.List.{List, [], _∷_, _++_, map, append-nil}
 use mathlib.Core.Bool.{Bool, true, false, cond, not, _&&_}
 use mathlib.Core.Logic.{inl, ⊎-elim}
 use Prim.Native.Nat.{ℕ, suc, _+_, _^_, _<_}
-use native.Mathlib.Decide.{ℕ-discrete}
 use borrow.Author.Tests.{eq-eqb, eqb-false, not-true}
 use native.Mathlib.Omega.{arith}
 use lib.Dec.{eqb}
@@ -14,22 +13,23 @@ use Rattle.spec.specs.declared.Answer.the-variants.{Restarted}
 use Rattle.spec.specs.Answers.{kind, isCut, finished}
 use Rattle.spec.specs.Calls.{After}
 use Rattle.spec.specs.Counts.{lastCount}
-use Rattle.spec.specs.Drives.{Chunk, noChunk, Zone, View, zoneAt, pointerAt, chunkAt, Store, storeView, Disk, storeDisk, storeAll, zoneOn, sealedIn}
+use Rattle.spec.specs.Drives.{Chunk, noChunk, Zone, View, zoneAt, pointerAt, chunkAt, Store, storeView, Disk, storeDisk, storeAll, zoneOn, sealedIn, Seg, allSegs, seg}
 use Rattle.spec.specs.Engine.{callDisk}
 use Rattle.spec.specs.Engine.Call.{restart}
 use Rattle.spec.specs.Faults.{footersStored}
 use Rattle.spec.specs.History.{mkWorld}
 use Rattle.spec.specs.Layout.{headerBlock, headerSerial, headerCopied}
-use Rattle.spec.specs.Lists.{below, all, any, keep, tally, isNil, flat, total, firstOr}
+use Rattle.spec.specs.Lists.{all, any, keep, tally, isNil, flat, total, firstOr}
 use Rattle.spec.specs.Memory.{Memory}
 use Rattle.spec.specs.Params.{capacity, named, present}
-use Rattle.spec.specs.Restart.{freeZones, isWhole, isRagged, missingFooters, rewriteStores, dropStores, mendStores, restartStores, uncountedIn, reportOf, rewrites, restartPlan}
+use Rattle.spec.specs.Restart.{freeSegs, isWhole, isRagged, missingFooters, rewriteStores, dropStores, mendStores, restartStores, uncountedIn, reportOf, rewrites, restartPlan}
 use Rattle.spec.specs.Segments.{lowDrive, headerAt, remaining, Segment, segmentOf, segments, counts, counted, uncounted, greatestSerial, unsealed}
 use Rattle.law_basic.specs.Geometry.{Ranged, ranged}
 use Rattle.law_basic.specs.Mask.{isIn-empty}
 use Rattle.law_basic.specs.Ranges.{Test, test, map-map}
 use Rattle.law_basic.specs.Ranges.Test.{yes!, no! }
 use Rattle.law_basic.specs.Stores.{storeAll-append}
+use Rattle.law_basic.specs.Segs.{segs-differ, Named, zone-on-lt}
 use Rattle.spec_demands.specs.Engines.{callWorld, onValues, viewIn}
 use Rattle.spec_demands.specs.Tables.{halfStored, uncountedNumber, foundAfter, Restarts}
 use Rattle.law_drives.specs.Accept.{Accepted}
@@ -38,13 +38,13 @@ use Rattle.law_drives.specs.Joins.{roomy-append, within-append, stores-none}
 use Rattle.law_drives.specs.Laid.{header-serial, header-copied}
 use Rattle.law_drives.specs.Lengths.{whole-of}
 use Rattle.law_drives.specs.Masks.{named-some}
-use Rattle.law_drives.specs.Members.{In, keep-in, in-all, in-any, below-in, first-in}
+use Rattle.law_drives.specs.Members.{In, keep-in, in-all, in-any, first-in}
 use Rattle.law_drives.specs.Mended.{mended, serials-small}
 use Rattle.law_drives.specs.Mending.{lack, has-pointer, have-few, b-zone, b-other, b-pointer}
 use Rattle.law_drives.specs.Puts.{puts-old}
 use Rattle.law_drives.specs.Rebuilding.{counted-low}
 use Rattle.law_drives.specs.Rewriting.{old-pointer, same-else, new-pointer, new-stripe, new-header, open-now}
-use Rattle.law_drives.specs.Segs.{present-in, data-low, serial-is, copied-is}
+use Rattle.law_drives.specs.Segs.{present-in, data-low, serial-is, copied-is, segs-in}
 use Rattle.law_drives.specs.Settled.{low-first, zones-used}
 use Rattle.law_drives.specs.Tables.{remains, in-remaining}
 use Rattle.law_drives.specs.Tests.{clash, cond-true, cond-false}
@@ -108,11 +108,11 @@ module _ (p : Params) (r : Ranged p) (v : View) (sh : Shaped p v) (acc : Accepte
   h0 = omega (arith, r .drives-low)
 
   -- a segment that remains, as accepted
-  kept-seg : (y : ℕ) → y < p .Z → remains p v 0 y ≡ true → SegLaid p v gs y
+  kept-seg : (y : Seg) → Named p y → remains p v 0 y ≡ true → SegLaid p v gs y
   kept-seg y hy q d hd =
-      subst (λ (x : ℕ). ZoneLaid p gs (sealedIn p v 0 y) (headerSerial (headerAt v x y)) (headerCopied (headerAt v x y)) d y (zoneAt v d y)) (low-first p r)
-      (subst (λ (x : ℕ). ZoneLaid p gs (sealedIn p v 0 y) (headerSerial (headerAt v (lowDrive p 0) y)) x d y (zoneAt v d y)) (copied-is p v 0 y)
-      (subst (λ (x : ℕ). ZoneLaid p gs (sealedIn p v 0 y) x (segmentOf p v 0 y .copied) d y (zoneAt v d y)) (serial-is p v 0 y)
+      subst (λ (x : ℕ). ZoneLaid p gs (sealedIn p v 0 y) (headerSerial (headerAt v x y)) (headerCopied (headerAt v x y)) d (zoneOn y d) (zoneAt v d (zoneOn y d))) (low-first p r)
+      (subst (λ (x : ℕ). ZoneLaid p gs (sealedIn p v 0 y) (headerSerial (headerAt v (lowDrive p 0) y)) x d (zoneOn y d) (zoneAt v d (zoneOn y d))) (copied-is p v 0 y)
+      (subst (λ (x : ℕ). ZoneLaid p gs (sealedIn p v 0 y) x (segmentOf p v 0 y .copied) d (zoneOn y d) (zoneAt v d (zoneOn y d))) (serial-is p v 0 y)
       (accepted-zoned p v 0 acc y d (in-remaining p v 0 y hy q) hd (isIn-empty d))))
 
   -- what doesn't remain is reset
@@ -122,8 +122,8 @@ module _ (p : Params) (r : Ranged p) (v : View) (sh : Shaped p v) (acc : Accepte
   nothing-laid : WellLaid p (storeAll storeView [] va) gs
   nothing-laid = subst (λ (x : View). WellLaid p x gs) (sym (stores-none va)) drop-laid
 
-  module _ (g : ℕ) (hg : g < p .Z) (kg : remains p v 0 g ≡ true) (ng : sealedIn p v 0 g ≡ false)
-      (oth : (y : ℕ) → y < p .Z → remains p v 0 y ≡ true → (y ≡ g → ⊥) → sealedIn p v 0 y ≡ true) where
+  module _ (g : Seg) (hg : Named p g) (kg : remains p v 0 g ≡ true) (ng : sealedIn p v 0 g ≡ false)
+      (oth : (y : Seg) → Named p y → remains p v 0 y ≡ true → (y ≡ g → ⊥) → sealedIn p v 0 y ≡ true) where
     abbrev x : Segment
     x = segmentOf p v 0 g
 
@@ -136,35 +136,36 @@ module _ (p : Params) (r : Ranged p) (v : View) (sh : Shaped p v) (acc : Accepte
 
         head : headerAt v 0 g ≡ headerAt vb 0 g
         head = as! (sym (ap (λ (q : Zone). getD (q .blocks) 0 noChunk .block) (b-zone p r v sh acc g hg kg ng oth wh 0 h0)
-            ∙ ap (λ (c : Chunk). c .block) (puts-old 0 g (lack p r v sh acc g hg kg ng oth 0) (zoneAt v 0 g) 0 (let a = has-pointer p r v sh acc g hg kg ng oth wh 0 h0 in omega arith))))
+            ∙ ap (λ (c : Chunk). c .block) (puts-old 0 (zoneOn g 0) (lack p r v sh acc g hg kg ng oth 0) (zoneAt v 0 (zoneOn g 0)) 0
+            (let a = has-pointer p r v sh acc g hg kg ng oth wh 0 h0 in omega arith))))
           where
-            as! : getD (zoneAt v 0 g .blocks) 0 noChunk .block ≡ getD (zoneAt vb 0 g .blocks) 0 noChunk .block → headerAt v 0 g ≡ headerAt vb 0 g
-            as! e = unfold headerAt chunkAt zoneOn in e
+            as! : getD (zoneAt v 0 (zoneOn g 0) .blocks) 0 noChunk .block ≡ getD (zoneAt vb 0 (zoneOn g 0) .blocks) 0 noChunk .block → headerAt v 0 g ≡ headerAt vb 0 g
+            as! e = unfold headerAt chunkAt in e
 
         sealed-now : sealedIn p vb 0 g ≡ true
-        sealed-now = as! (in-all (λ e. eqb (pointerAt vb e g) (capacity p)) (present p 0)
-            (λ e i. eq-eqb (pointerAt vb e g) (capacity p) (b-pointer p r v sh acc g hg kg ng oth wh e (present-in p 0 e i .0))))
+        sealed-now = as! (in-all (λ e. eqb (pointerAt vb e (zoneOn g e)) (capacity p)) (present p 0)
+            (λ e i. eq-eqb (pointerAt vb e (zoneOn g e)) (capacity p) (b-pointer p r v sh acc g hg kg ng oth wh e (present-in p 0 e i .0))))
           where
-            as! : all (λ e. eqb (pointerAt vb e g) (capacity p)) (present p 0) ≡ true → sealedIn p vb 0 g ≡ true
-            as! q = unfold sealedIn zoneOn in q
+            as! : all (λ e. eqb (pointerAt vb e (zoneOn g e)) (capacity p)) (present p 0) ≡ true → sealedIn p vb 0 g ≡ true
+            as! q = unfold sealedIn in q
 
         seg : SegLaid p vb gs g
         seg d hd =
-            let q = zoneAt v d g in
+            let q = zoneAt v d (zoneOn g d) in
             let i = footersStored p q in
             let sn = headerSerial (headerAt v 0 g) in
             let cn = headerCopied (headerAt v 0 g) in
-            let z : ZoneLaid p gs false sn cn d g q = subst (λ (w : Bool). ZoneLaid p gs w sn cn d g q) ng (kept-seg g hg kg d hd) in
-            subst (λ (c : List ℕ). ZoneLaid p gs (sealedIn p vb 0 g) (headerSerial c) (headerCopied c) d g (zoneAt vb d g)) head
-            (subst (λ (w : Bool). ZoneLaid p gs w sn cn d g (zoneAt vb d g)) (sym sealed-now)
-            (subst (λ (y : Zone). ZoneLaid p gs true sn cn d g y) (sym (b-zone p r v sh acc g hg kg ng oth wh d hd))
-            (mend-laid p r d g q (sh .zone-ok d g hd hg) i (have-few p r v sh acc g hg kg ng oth wh d) (has-pointer p r v sh acc g hg kg ng oth wh d hd)
+            let z : ZoneLaid p gs false sn cn d (zoneOn g d) q = subst (λ (w : Bool). ZoneLaid p gs w sn cn d (zoneOn g d) q) ng (kept-seg g hg kg d hd) in
+            subst (λ (c : List ℕ). ZoneLaid p gs (sealedIn p vb 0 g) (headerSerial c) (headerCopied c) d (zoneOn g d) (zoneAt vb d (zoneOn g d))) head
+            (subst (λ (w : Bool). ZoneLaid p gs w sn cn d (zoneOn g d) (zoneAt vb d (zoneOn g d))) (sym sealed-now)
+            (subst (λ (y : Zone). ZoneLaid p gs true sn cn d (zoneOn g d) y) (sym (b-zone p r v sh acc g hg kg ng oth wh d hd))
+            (mend-laid p r d (zoneOn g d) q (sh .zone-ok d (zoneOn g d) hd (zone-on-lt p g d hg)) i (have-few p r v sh acc g hg kg ng oth wh d) (has-pointer p r v sh acc g hg kg ng oth wh d hd)
             (λ j l. checked-footers p q (open-footers p v 0 acc g d (in-remaining p v 0 g hg kg) hd (isIn-empty d) ng) j l) gs sn cn z)))
 
     -- the rewrite
-    rewrite-laid : isWhole p x ≡ false → (z0 : ℕ) → z0 < p .Z → remains p v 0 z0 ≡ false → suc (greatestSerial gs) < 256 ^ 8
+    rewrite-laid : isWhole p x ≡ false → (z0 : Seg) → Named p z0 → remains p v 0 z0 ≡ false → suc (greatestSerial gs) < 256 ^ 8
         → WellLaid p (storeAll storeView (rewriteStores p x z0 (suc (greatestSerial gs))) va) gs
-    rewrite-laid nw z0 hz0 fz fit y hy q = go (ℕ-discrete z0 y) (ℕ-discrete g y)
+    rewrite-laid nw z0 hz0 fz fit y hy q = go (segs-differ z0 y) (segs-differ g y)
       where
         sn : ℕ
         sn = suc (greatestSerial gs)
@@ -176,39 +177,40 @@ module _ (p : Params) (r : Ranged p) (v : View) (sh : Shaped p v) (acc : Accepte
         serial-low = let a = kept-known p r v sh acc g hg kg in
             let e : x .serial ≡ headerSerial (headerAt v 0 g) = serial-is p v 0 g ∙ ap (λ (y : ℕ). headerSerial (headerAt v y g)) (low-first p r) in omega arith
 
-        head : headerAt vc 0 z0 ≡ headerBlock p 0 z0 sn (x .serial)
+        head : headerAt vc 0 z0 ≡ headerBlock p 0 (zoneOn z0 0) sn (x .serial)
         head = as! (ap (λ (c : Chunk). c .block) (new-header p r v sh acc g hg kg ng oth z0 hz0 fz fit 0 h0))
           where
-            as! : getD (zoneAt vc 0 z0 .blocks) 0 noChunk .block ≡ headerBlock p 0 z0 sn (x .serial) → headerAt vc 0 z0 ≡ headerBlock p 0 z0 sn (x .serial)
-            as! e = unfold headerAt chunkAt zoneOn in e
+            as! : getD (zoneAt vc 0 (zoneOn z0 0) .blocks) 0 noChunk .block ≡ headerBlock p 0 (zoneOn z0 0) sn (x .serial) → headerAt vc 0 z0 ≡ headerBlock p 0 (zoneOn z0 0) sn (x .serial)
+            as! e = unfold headerAt chunkAt in e
 
-        new-ptr : (d : ℕ) → d < p .N → zoneAt vc d z0 .pointer ≡ 1 + length (counted p 0 x)
+        new-ptr : (d : ℕ) → d < p .N → zoneAt vc d (zoneOn z0 d) .pointer ≡ 1 + length (counted p 0 x)
         new-ptr d hd = as! (new-pointer p r v sh acc g hg kg ng oth z0 hz0 fz fit d hd)
           where
-            as! : pointerAt vc d z0 ≡ 1 + length (counted p 0 x) → zoneAt vc d z0 .pointer ≡ 1 + length (counted p 0 x)
+            as! : pointerAt vc d (zoneOn z0 d) ≡ 1 + length (counted p 0 x) → zoneAt vc d (zoneOn z0 d) .pointer ≡ 1 + length (counted p 0 x)
             as! e = unfold pointerAt in e
 
         seg : SegLaid p vc gs z0
         seg d hd =
-            let qz = zoneAt vc d z0 in
+            let qz = zoneAt vc d (zoneOn z0 d) in
             let c = length (counted p 0 x) in
             let ep = new-ptr d hd in
             let cl = counted-low p 0 x in
-            subst (λ (b : List ℕ). ZoneLaid p gs (sealedIn p vc 0 z0) (headerSerial b) (headerCopied b) d z0 qz) (sym head)
-            (subst (λ (a : ℕ). ZoneLaid p gs (sealedIn p vc 0 z0) a (headerCopied (headerBlock p 0 z0 sn (x .serial))) d z0 qz) (sym (header-serial p 0 z0 sn (x .serial) fit))
-            (subst (λ (a : ℕ). ZoneLaid p gs (sealedIn p vc 0 z0) sn a d z0 qz) (sym (header-copied p 0 z0 sn (x .serial) serial-low))
-            (subst (λ (w : Bool). ZoneLaid p gs w sn (x .serial) d z0 qz) (sym (open-now p r v sh acc g hg kg ng oth z0 hz0 fz fit nw))
-            (plain-laid p gs sn (x .serial) d z0 qz (new-header p r v sh acc g hg kg ng oth z0 hz0 fz fit d hd) (omega arith)
+            subst (λ (b : List ℕ). ZoneLaid p gs (sealedIn p vc 0 z0) (headerSerial b) (headerCopied b) d (zoneOn z0 d) qz) (sym head)
+            (subst (λ (a : ℕ). ZoneLaid p gs (sealedIn p vc 0 z0) a (headerCopied (headerBlock p 0 (zoneOn z0 0) sn (x .serial))) d (zoneOn z0 d) qz)
+            (sym (header-serial p 0 (zoneOn z0 0) sn (x .serial) fit))
+            (subst (λ (a : ℕ). ZoneLaid p gs (sealedIn p vc 0 z0) sn a d (zoneOn z0 d) qz) (sym (header-copied p 0 (zoneOn z0 0) sn (x .serial) serial-low))
+            (subst (λ (w : Bool). ZoneLaid p gs w sn (x .serial) d (zoneOn z0 d) qz) (sym (open-now p r v sh acc g hg kg ng oth z0 hz0 fz fit nw))
+            (plain-laid p gs sn (x .serial) d (zoneOn z0 d) qz (new-header p r v sh acc g hg kg ng oth z0 hz0 fz fit d hd) (omega arith)
             (λ o l. new-stripe p r v sh acc g hg kg ng oth z0 hz0 fz fit d o hd (let a = data-low p qz o l .1 in omega arith))))))
 
         go : Dec (z0 ≡ y) → Dec (g ≡ y) → SegLaid p vc gs y
-        go (yes e) b = subst (λ (n : ℕ). SegLaid p vc gs n) e seg
-        go (no a) (yes e) = clash q (subst (λ (n : ℕ). usedAt vc n ≡ false) e (ap not (eq-eqb (pointerAt vc 0 g) 0 (old-pointer p r v sh acc g hg kg ng oth z0 hz0 fz fit 0 h0))))
+        go (yes e) b = subst (λ (n : Seg). SegLaid p vc gs n) e seg
+        go (no a) (yes e) = clash q (subst (λ (n : Seg). usedAt vc n ≡ false) e (ap not (eq-eqb (pointerAt vc 0 (zoneOn g 0)) 0 (old-pointer p r v sh acc g hg kg ng oth z0 hz0 fz fit 0 h0))))
         go (no a) (no b) =
             let sm = same-else p r v sh acc g hg kg ng oth z0 hz0 fz fit y hy a b in
             laid-same p r va vc gs y sm (drop-laid y hy (zones-used p r va vc y sm ∙ q))
 
-    one-mended-laid : unsealed gs ≡ x ∷ [] → rewrites p 0 gs && eqb (greatestSerial gs) lastCount ≡ false → rewrites p 0 gs && isNil (freeZones p gs) ≡ false → greatestSerial gs < 256 ^ 8
+    one-mended-laid : unsealed gs ≡ x ∷ [] → rewrites p 0 gs && eqb (greatestSerial gs) lastCount ≡ false → rewrites p 0 gs && isNil (freeSegs p gs) ≡ false → greatestSerial gs < 256 ^ 8
         → WellLaid p (storeAll storeView (mendStores p gs x) va) gs
     one-mended-laid us c6 c8 bd = go (test (isWhole p x)) (test (isRagged p x))
       where
@@ -218,7 +220,7 @@ module _ (p : Params) (r : Ranged p) (v : View) (sh : Shaped p v) (acc : Accepte
         plain! : isWhole p x ≡ false → isRagged p x ≡ false → mendStores p gs x ≡ []
         plain! q w = unfold mendStores in rw (q, w)
 
-        ragged! : isWhole p x ≡ false → isRagged p x ≡ true → mendStores p gs x ≡ rewriteStores p x (firstOr 0 (freeZones p gs)) (suc (greatestSerial gs))
+        ragged! : isWhole p x ≡ false → isRagged p x ≡ true → mendStores p gs x ≡ rewriteStores p x (firstOr (seg 0) (freeSegs p gs)) (suc (greatestSerial gs))
         ragged! q w = unfold mendStores in rw (q, w)
 
         rewrites! : isRagged p x ≡ true → rewrites p 0 gs ≡ true
@@ -230,15 +232,15 @@ module _ (p : Params) (r : Ranged p) (v : View) (sh : Shaped p v) (acc : Accepte
         go (no! q) (yes! w) =
             let rw! = rewrites! w in
             let n6 : eqb (greatestSerial gs) lastCount ≡ false = sym (ap (λ (b : Bool). b && eqb (greatestSerial gs) lastCount) rw!) ∙ c6 in
-            let n8 : isNil (freeZones p gs) ≡ false = sym (ap (λ (b : Bool). b && isNil (freeZones p gs)) rw!) ∙ c8 in
-            let z0 = firstOr 0 (freeZones p gs) in
-            let i : In z0 (keep (λ z. not (remains p v 0 z)) (below (p .Z))) = subst (λ (l : List ℕ). In z0 l) (free-are p r v sh acc) (first-in (freeZones p gs) 0 n8) in
-            let (j, f) = keep-in (λ z. not (remains p v 0 z)) (below (p .Z)) z0 i in
+            let n8 : isNil (freeSegs p gs) ≡ false = sym (ap (λ (b : Bool). b && isNil (freeSegs p gs)) rw!) ∙ c8 in
+            let z0 = firstOr (seg 0) (freeSegs p gs) in
+            let i : In z0 (keep (λ z. not (remains p v 0 z)) (allSegs p)) = subst (λ (l : List Seg). In z0 l) (free-are p r v sh acc) (first-in (freeSegs p gs) (seg 0) n8) in
+            let (j, f) = keep-in (λ z. not (remains p v 0 z)) (allSegs p) z0 i in
             let ne : ¬ (greatestSerial gs ≡ lastCount) = eqb-false (greatestSerial gs) lastCount n6 in
             subst (λ (l : List Store). WellLaid p (storeAll storeView l va) gs) (sym (ragged! q w))
-            (rewrite-laid q z0 (below-in (p .Z) z0 j) (not-true (remains p v 0 z0) f) (let b = bd in omega arith))
+            (rewrite-laid q z0 (segs-in p z0 j) (not-true (remains p v 0 z0) f) (let b = bd in omega arith))
 
-  mended-laid : rewrites p 0 gs && eqb (greatestSerial gs) lastCount ≡ false → rewrites p 0 gs && isNil (freeZones p gs) ≡ false → greatestSerial gs < 256 ^ 8
+  mended-laid : rewrites p 0 gs && eqb (greatestSerial gs) lastCount ≡ false → rewrites p 0 gs && isNil (freeSegs p gs) ≡ false → greatestSerial gs < 256 ^ 8
       → WellLaid p (storeAll storeView (flat (mendStores p gs) (unsealed gs)) va) gs
   mended-laid c6 c8 bd = go (loose p r v sh acc)
     where
@@ -292,7 +294,7 @@ module _ (p : Params) (k : Disk) (m : Memory) (d n : ℕ) (shk : Whole p k → S
       let acc : Accepted p v 0 = subst (λ (x : ℕ). Accepted p v x) nd (b .accepted!) in
       let c6 : rewrites p 0 gs && eqb (greatestSerial gs) lastCount ≡ false =
       subst (λ (x : ℕ). rewrites p x (segments p v x) && eqb (greatestSerial (segments p v x)) lastCount ≡ false) nd (b .sixth!) in
-      let c8 : rewrites p 0 gs && isNil (freeZones p gs) ≡ false = subst (λ (x : ℕ). rewrites p x (segments p v x) && isNil (freeZones p (segments p v x)) ≡ false) nd (b .eighth!) in
+      let c8 : rewrites p 0 gs && isNil (freeSegs p gs) ≡ false = subst (λ (x : ℕ). rewrites p x (segments p v x) && isNil (freeSegs p (segments p v x)) ≡ false) nd (b .eighth!) in
       let bd = serials-small p r v sh in
       let md = mended p r v sh acc c6 c8 bd in
       let ds = dropStores p gs in

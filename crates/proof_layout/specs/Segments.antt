@@ -12,7 +12,7 @@ use lib.Dec.{ltb, eqb, lit<}
 use lib.ListN.{length}
 use Rattle.spec.specs.declared.Params.{Params}
 use Rattle.spec.specs.declared.State.{State}
-use Rattle.spec.specs.Drives.{Zone, View, zoneAt, pointerAt, putZone, storeView, storeAll, sealedIn, headerStores, resetStores}
+use Rattle.spec.specs.Drives.{Zone, View, zoneAt, pointerAt, putZone, storeView, storeAll, sealedIn, headerStores, resetStores, Seg, zoneOn}
 use Rattle.spec.specs.Drives.Store.{put}
 use Rattle.spec.specs.Landing.{ready, flightRec, sealStores}
 use Rattle.spec.specs.Layout.{group, inGroupOf, headerBlock, headerSerial, headerCopied, recordBytes}
@@ -21,6 +21,7 @@ use Rattle.spec.specs.Params.{footers}
 use Rattle.spec.specs.Segments.{headerAt, Segment}
 use Rattle.law_basic.specs.Geometry.{Ranged}
 use Rattle.law_basic.specs.Ranges.{and-both}
+use Rattle.law_basic.specs.Segs.{segs-differ, Named, zone-on-lt}
 use Rattle.law_drives.specs.Footers.{footerChunks}
 use Rattle.law_drives.specs.Headers.{header-zone, header-other, header-block}
 use Rattle.law_drives.specs.Laid.{header-serial, header-copied}
@@ -41,59 +42,62 @@ zone-pointer : (v : View) (d z n : ℕ) → pointerAt v d z ≡ n → zoneAt v d
 zone-pointer v d z n e = unfold pointerAt in e
 
 -- one segment changes, and is laid out as it is then
-pub all-but : (p : Params) (r : Ranged p) (v u : View) (old : List Segment) (z : ℕ) → ((y : ℕ) → y < p .Z → (z ≡ y → ⊥) → SameZones p v u y)
+pub all-but : (p : Params) (r : Ranged p) (v u : View) (old : List Segment) (z : Seg) → ((y : Seg) → Named p y → (z ≡ y → ⊥) → SameZones p v u y)
     → (usedAt u z ≡ true → SegLaid p u old z) → WellLaid p v old → WellLaid p u old
-all-but p r v u old z same f l y hy q = go (ℕ-discrete z y)
+all-but p r v u old z same f l y hy q = go (segs-differ z y)
   where
     go : Dec (z ≡ y) → SegLaid p u old y
-    go (yes e) = subst (λ (x : ℕ). SegLaid p u old x) e (f (subst (λ (x : ℕ). usedAt u x ≡ true) (sym e) q))
+    go (yes e) = subst (λ (x : Seg). SegLaid p u old x) e (f (subst (λ (x : Seg). usedAt u x ≡ true) (sym e) q))
     go (no n) = laid-same p r v u old y (same y hy n) (l y hy (zones-used p r v u y (same y hy n) ∙ q))
 
 -- 01, Write: a segment is opened under a serial of 8 bytes, with nothing copied
-pub opened-laid : (p : Params) (r : Ranged p) (v : View) (sh : Shaped p v) (old : List Segment) (g s : ℕ) (hg : g < p .Z) (em : (d : ℕ) → d < p .N → pointerAt v d g ≡ 0) → s < 256 ^ 8
+pub opened-laid : (p : Params) (r : Ranged p) (v : View) (sh : Shaped p v) (old : List Segment) (g : Seg) (s : ℕ) (hg : Named p g) (em : (d : ℕ) → d < p .N → pointerAt v d (zoneOn g d) ≡ 0)
+    → s < 256 ^ 8
     → WellLaid p v old → WellLaid p (storeAll storeView (headerStores p g s 0) v) old
 opened-laid p r v sh old g s hg em fit l =
     all-but p r v u old g (λ y hy n d hd. sym (header-other p r v sh g s 0 hg em d y hd hy n)) (λ q d hd.
-    subst (λ (b : List ℕ). ZoneLaid p old (sealedIn p u 0 g) (headerSerial b) (headerCopied b) d g (zoneAt u d g)) (sym (header-block p r v sh g s 0 hg em))
-    (subst (λ (x : ℕ). ZoneLaid p old (sealedIn p u 0 g) x (headerCopied (headerBlock p 0 g s 0)) d g (zoneAt u d g)) (sym (header-serial p 0 g s 0 fit))
-    (subst (λ (x : ℕ). ZoneLaid p old (sealedIn p u 0 g) s x d g (zoneAt u d g)) (sym (header-copied p 0 g s 0 (lit< tt)))
-    (subst (λ (x : Zone). ZoneLaid p old (sealedIn p u 0 g) s 0 d g x) (sym (header-zone p r v sh g s 0 hg em d hd))
-    (head-laid p r old (sealedIn p u 0 g) s 0 d g (zoneAt v d g) (sh .zone-ok d g hd hg) (zone-pointer v d g 0 (em d hd))))))) l
+    subst (λ (b : List ℕ). ZoneLaid p old (sealedIn p u 0 g) (headerSerial b) (headerCopied b) d (zoneOn g d) (zoneAt u d (zoneOn g d))) (sym (header-block p r v sh g s 0 hg em))
+    (subst (λ (x : ℕ). ZoneLaid p old (sealedIn p u 0 g) x (headerCopied (headerBlock p 0 (zoneOn g 0) s 0)) d (zoneOn g d) (zoneAt u d (zoneOn g d))) (sym (header-serial p 0 (zoneOn g 0) s 0 fit))
+    (subst (λ (x : ℕ). ZoneLaid p old (sealedIn p u 0 g) s x d (zoneOn g d) (zoneAt u d (zoneOn g d))) (sym (header-copied p 0 (zoneOn g 0) s 0 (lit< tt)))
+    (subst (λ (x : Zone). ZoneLaid p old (sealedIn p u 0 g) s 0 d (zoneOn g d) x) (sym (header-zone p r v sh g s 0 hg em d hd))
+    (head-laid p r old (sealedIn p u 0 g) s 0 d (zoneOn g d) (zoneAt v d (zoneOn g d)) (sh .zone-ok d (zoneOn g d) hd (zone-on-lt p g d hg)) (zone-pointer v d (zoneOn g d) 0 (em d hd))))))) l
   where
     u : View
     u = storeAll storeView (headerStores p g s 0) v
 
 -- 01, Reclaim: a segment is reset
-pub reset-laid : (p : Params) (r : Ranged p) (v : View) (sh : Shaped p v) (old : List Segment) (g : ℕ) (hg : g < p .Z) → WellLaid p v old → WellLaid p (storeAll storeView (resetStores p g) v) old
+pub reset-laid : (p : Params) (r : Ranged p) (v : View) (sh : Shaped p v) (old : List Segment) (g : Seg) (hg : Named p g) → WellLaid p v old → WellLaid p (storeAll storeView (resetStores p g) v) old
 reset-laid p r v sh old g hg l = all-but p r v (storeAll storeView (resetStores p g) v) old g (reset-same p r v sh g hg) (λ q. absurd (reset-was p r v sh g hg g hg q .0 refl)) l
 
 -- 01, Landing: a chunk
-module _ (p : Params) (r : Ranged p) (v : View) (sh : Shaped p v) (st : State) (h : HealthyState p v st) (so : StateOk p st) (z : ℕ) (oz : st .opened ≡ suc z)
+module _ (p : Params) (r : Ranged p) (v : View) (sh : Shaped p v) (st : State) (h : HealthyState p v st) (so : StateOk p st) (z : Seg) (oz : st .opened ≡ suc (z .name))
     (d i : ℕ) (hd : d < p .N) (hi : i < 8) (fi : flies st i ≡ true) (rd : ready p st i d ≡ true) (b : List ℕ) (lb : length b ≡ p .B) (old : List Segment) where
   abbrev s : ℕ
   s = stripeIn st i
 
   abbrev v1 : View
-  v1 = storeView (put d z b (recordBytes (flightRec p st i d))) v
+  v1 = storeView (put d (zoneOn z d) b (recordBytes (flightRec p st i d))) v
 
-  hz : z < p .Z
+  hz : Named p z
   hz = h .opens-at z oz .opened-zone
 
-  pointer-of-zone : zoneAt v d z .pointer ≡ pointerAt v d z
-  pointer-of-zone = zone-pointer v d z (pointerAt v d z) refl
+  pointer-of-zone : zoneAt v d (zoneOn z d) .pointer ≡ pointerAt v d (zoneOn z d)
+  pointer-of-zone = zone-pointer v d (zoneOn z d) (pointerAt v d (zoneOn z d)) refl
 
   stripe! : flightRec p st i d .stripe ≡ s
   stripe! = stripe-of p r v sh st h so z oz d i hd hi fi rd b lb
 
-  in-its-group : inGroupOf p (pointerAt v d z - 1) s ≡ true
-  in-its-group = unfold inGroupOf in and-both (ltb s (p .S)) (eqb (group p s) (group p (pointerAt v d z - 1))) (lt-ltb s (p .S) (so .slots-ok i hi .stripe-ok))
-      (eq-eqb (group p s) (group p (pointerAt v d z - 1)) (sym (offset-group p r v sh st h so z oz d i hd hi fi rd b lb)))
+  in-its-group : inGroupOf p (pointerAt v d (zoneOn z d) - 1) s ≡ true
+  in-its-group = unfold inGroupOf in and-both (ltb s (p .S)) (eqb (group p s) (group p (pointerAt v d (zoneOn z d) - 1))) (lt-ltb s (p .S) (so .slots-ok i hi .stripe-ok))
+      (eq-eqb (group p s) (group p (pointerAt v d (zoneOn z d) - 1)) (sym (offset-group p r v sh st h so z oz d i hd hi fi rd b lb)))
 
   chunk-seg : SegLaid p v old z → SegLaid p v1 old z
   chunk-seg f e he =
-      subst (λ (c : List ℕ). ZoneLaid p old (sealedIn p v1 0 z) (headerSerial c) (headerCopied c) e z (zoneAt v1 e z)) (chunk-grows p r v sh st h so z oz d i hd hi fi rd b lb .same-head)
-      (subst (λ (w : Bool). ZoneLaid p old w (headerSerial (headerAt v 0 z)) (headerCopied (headerAt v 0 z)) e z (zoneAt v1 e z)) (sym (open-after p r v sh st h so z oz d i hd hi fi rd b lb))
-      (go (ℕ-discrete d e) (subst (λ (w : Bool). ZoneLaid p old w (headerSerial (headerAt v 0 z)) (headerCopied (headerAt v 0 z)) e z (zoneAt v e z))
+      subst (λ (c : List ℕ). ZoneLaid p old (sealedIn p v1 0 z) (headerSerial c) (headerCopied c) e (zoneOn z e) (zoneAt v1 e (zoneOn z e)))
+      (chunk-grows p r v sh st h so z oz d i hd hi fi rd b lb .same-head)
+      (subst (λ (w : Bool). ZoneLaid p old w (headerSerial (headerAt v 0 z)) (headerCopied (headerAt v 0 z)) e (zoneOn z e) (zoneAt v1 e (zoneOn z e)))
+      (sym (open-after p r v sh st h so z oz d i hd hi fi rd b lb))
+      (go (ℕ-discrete d e) (subst (λ (w : Bool). ZoneLaid p old w (headerSerial (headerAt v 0 z)) (headerCopied (headerAt v 0 z)) e (zoneOn z e) (zoneAt v e (zoneOn z e)))
       (open-before p r v sh st h so z oz d i hd hi fi rd b lb) (f e he))))
     where
       sn : ℕ
@@ -102,27 +106,28 @@ module _ (p : Params) (r : Ranged p) (v : View) (sh : Shaped p v) (st : State) (
       cn : ℕ
       cn = headerCopied (headerAt v 0 z)
 
-      here : ZoneLaid p old false sn cn d z (zoneAt v d z) → ZoneLaid p old false sn cn d z (putZone b (recordBytes (flightRec p st i d)) (zoneAt v d z))
+      here : ZoneLaid p old false sn cn d (zoneOn z d) (zoneAt v d (zoneOn z d)) → ZoneLaid p old false sn cn d (zoneOn z d) (putZone b (recordBytes (flightRec p st i d)) (zoneAt v d (zoneOn z d)))
       here x =
           let a = pointer-some p r v sh st h so z oz d i hd hi fi rd b lb in
           let c = pointer-data p r v sh st h so z oz d i hd hi fi rd b lb in
           let y = pointer-of-zone in
-          put-laid p r old sn cn d z (zoneAt v d z) b (flightRec p st i d) (sh .zone-ok d z hd hz) (omega arith) (omega arith)
+          put-laid p r old sn cn d (zoneOn z d) (zoneAt v d (zoneOn z d)) b (flightRec p st i d) (sh .zone-ok d (zoneOn z d) hd (zone-on-lt p z d hz)) (omega arith) (omega arith)
           (subst (λ (n : ℕ). n < p .S) (sym stripe!) (so .slots-ok i hi .stripe-ok))
-          (subst (λ (n : ℕ). inGroupOf p (n - 1) (flightRec p st i d .stripe) ≡ true) (sym pointer-of-zone) (subst (λ (n : ℕ). inGroupOf p (pointerAt v d z - 1) n ≡ true) (sym stripe!) in-its-group))
+          (subst (λ (n : ℕ). inGroupOf p (n - 1) (flightRec p st i d .stripe) ≡ true) (sym pointer-of-zone)
+          (subst (λ (n : ℕ). inGroupOf p (pointerAt v d (zoneOn z d) - 1) n ≡ true) (sym stripe!) in-its-group))
           (λ o l q. h .opens-at z oz .flight i hi fi .not-there d o hd (not-landed p r v sh st h so z oz d i hd hi fi rd b lb) (subst (λ (n : ℕ). 1 + o < n) pointer-of-zone l) (q ∙ stripe!)) x
 
-      go : Dec (d ≡ e) → ZoneLaid p old false sn cn e z (zoneAt v e z) → ZoneLaid p old false sn cn e z (zoneAt v1 e z)
-      go (yes q) x = subst (λ (n : ℕ). ZoneLaid p old false sn cn n z (zoneAt v1 n z)) q
-          (subst (λ (y : Zone). ZoneLaid p old false sn cn d z y) (sym (chunk-zone p r v sh st h so z oz d i hd hi fi rd b lb))
-          (here (subst (λ (n : ℕ). ZoneLaid p old false sn cn n z (zoneAt v n z)) (sym q) x)))
-      go (no n) x = subst (λ (y : Zone). ZoneLaid p old false sn cn e z y) (sym (chunk-other p r v sh st h so z oz d i hd hi fi rd b lb e z he hz (inl n))) x
+      go : Dec (d ≡ e) → ZoneLaid p old false sn cn e (zoneOn z e) (zoneAt v e (zoneOn z e)) → ZoneLaid p old false sn cn e (zoneOn z e) (zoneAt v1 e (zoneOn z e))
+      go (yes q) x = subst (λ (n : ℕ). ZoneLaid p old false sn cn n (zoneOn z n) (zoneAt v1 n (zoneOn z n))) q
+          (subst (λ (y : Zone). ZoneLaid p old false sn cn d (zoneOn z d) y) (sym (chunk-zone p r v sh st h so z oz d i hd hi fi rd b lb))
+          (here (subst (λ (n : ℕ). ZoneLaid p old false sn cn n (zoneOn z n) (zoneAt v n (zoneOn z n))) (sym q) x)))
+      go (no n) x = subst (λ (y : Zone). ZoneLaid p old false sn cn e (zoneOn z e) y) (sym (chunk-other p r v sh st h so z oz d i hd hi fi rd b lb e z he hz (inl n))) x
 
   pub chunk-laid : usedAt v z ≡ true → WellLaid p v old → WellLaid p v1 old
   chunk-laid us l = all-but p r v v1 old z (λ y hy n e he. sym (chunk-other p r v sh st h so z oz d i hd hi fi rd b lb e y he hy (inr n))) (λ q. chunk-seg (l z hz us)) l
 
 -- 01, Landing: a segment is sealed
-pub seal-laid : (p : Params) (r : Ranged p) (v : View) (sh : Shaped p v) (old : List Segment) (z : ℕ) (hz : z < p .Z) (behind : (e : ℕ) → e < p .N → pointerAt v e z ≡ 1 + p .S)
+pub seal-laid : (p : Params) (r : Ranged p) (v : View) (sh : Shaped p v) (old : List Segment) (z : Seg) (hz : Named p z) (behind : (e : ℕ) → e < p .N → pointerAt v e (zoneOn z e) ≡ 1 + p .S)
     → usedAt v z ≡ true → sealedIn p v 0 z ≡ false → WellLaid p v old → WellLaid p (storeAll storeView (sealStores p v z) v) old
 seal-laid p r v sh old z hz behind us ns l = all-but p r v u old z (seal-other p r v sh z hz behind) (λ q. seg (l z hz us)) l
   where
@@ -131,14 +136,15 @@ seal-laid p r v sh old z hz behind us ns l = all-but p r v u old z (seal-other p
 
     seg : SegLaid p v old z → SegLaid p (storeAll storeView (sealStores p v z) v) old z
     seg f e he =
-        let q = zoneAt v e z in
+        let q = zoneAt v e (zoneOn z e) in
         let sn = headerSerial (headerAt v 0 z) in
         let cn = headerCopied (headerAt v 0 z) in
-        let m : ZoneLaid p old true sn cn e z (putAll e z (footerChunks p q 0 (footers p - 0)) q) =
-        mend-laid p r e z q (sh .zone-ok e z he hz) 0 (omega arith) (zone-pointer v e z (1 + p .S) (behind e he) ∙ (let y : 1 + p .S ≡ 1 + p .S + 0 = omega arith in y))
+        let m : ZoneLaid p old true sn cn e (zoneOn z e) (putAll e (zoneOn z e) (footerChunks p q 0 (footers p - 0)) q) =
+        mend-laid p r e (zoneOn z e) q (sh .zone-ok e (zoneOn z e) he (zone-on-lt p z e hz)) 0 (omega arith)
+        (zone-pointer v e (zoneOn z e) (1 + p .S) (behind e he) ∙ (let y : 1 + p .S ≡ 1 + p .S + 0 = omega arith in y))
         (λ j k. absurd (let bad : ⊥ = omega arith in bad)) old sn cn
-        (subst (λ (w : Bool). ZoneLaid p old w sn cn e z q) ns (f e he)) in
-        subst (λ (c : List ℕ). ZoneLaid p old (sealedIn p u 0 z) (headerSerial c) (headerCopied c) e z (zoneAt u e z)) (seal-grows p r v sh z hz behind .same-head)
-        (subst (λ (w : Bool). ZoneLaid p old w sn cn e z (zoneAt u e z)) (sym (seal-sealed p r v sh z hz behind))
-        (subst (λ (y : Zone). ZoneLaid p old true sn cn e z y) (sym (seal-zone p r v sh z hz behind e he))
-        (subst (λ (n : ℕ). ZoneLaid p old true sn cn e z (putAll e z (footerChunks p q 0 n) q)) (sub-zero (footers p)) m)))
+        (subst (λ (w : Bool). ZoneLaid p old w sn cn e (zoneOn z e) q) ns (f e he)) in
+        subst (λ (c : List ℕ). ZoneLaid p old (sealedIn p u 0 z) (headerSerial c) (headerCopied c) e (zoneOn z e) (zoneAt u e (zoneOn z e))) (seal-grows p r v sh z hz behind .same-head)
+        (subst (λ (w : Bool). ZoneLaid p old w sn cn e (zoneOn z e) (zoneAt u e (zoneOn z e))) (sym (seal-sealed p r v sh z hz behind))
+        (subst (λ (y : Zone). ZoneLaid p old true sn cn e (zoneOn z e) y) (sym (seal-zone p r v sh z hz behind e he))
+        (subst (λ (n : ℕ). ZoneLaid p old true sn cn e (zoneOn z e) (putAll e (zoneOn z e) (footerChunks p q 0 n) q)) (sub-zero (footers p)) m)))

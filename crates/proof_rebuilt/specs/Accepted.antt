@@ -9,7 +9,7 @@ use native.Mathlib.Omega.{arith}
 use lib.Dec.{leb, ltb, eqb}
 use lib.ListN.{length, getD, length-map}
 use Rattle.spec.specs.declared.Params.{Params}
-use Rattle.spec.specs.Drives.{mkChunk, noChunk, Zone, noZone, View, zoneAt, pointerAt, segmentNumbers, zoneOn, blocksOf, footersOf, zeroSpare}
+use Rattle.spec.specs.Drives.{mkChunk, noChunk, Zone, noZone, View, zoneAt, pointerAt, zoneOn, blocksOf, footersOf, zeroSpare, Seg, sameSeg, allSegs}
 use Rattle.spec.specs.Faults.{pointerFaults, sameChunk, headerFault, serialFault, outside, twice, stripeFault, badRec, storedBad, decodedBad, addressFault, footersStored, sameBlocks, footerFaultIn}
 use Rattle.spec.specs.Faults.{footerFault, clashes, segmentFault, segmentFaults}
 use Rattle.spec.specs.Layout.{isData, group, inGroupOf, headerBlock, headerSerial, headerCopied, Rec, mkRec}
@@ -18,13 +18,14 @@ use Rattle.spec.specs.Params.{capacity, named, drivesOf, present, absent}
 use Rattle.spec.specs.Segments.{lowDrive, headerAt, leftBy1, isCopy, remaining, Segment, segmentOf, segments, recsOn, counts, counted, recOf, unsealed}
 use Rattle.law_basic.specs.Geometry.{Ranged}
 use Rattle.law_basic.specs.Mask.{isIn-empty}
-use Rattle.law_basic.specs.Ranges.{Test, test, and-left, and-right, and-both, map-map, getD-map, sameList-refl}
+use Rattle.law_basic.specs.Ranges.{Test, test, and-left, and-right, and-both, map-map, getD-map, sameList-refl, keep-map}
 use Rattle.law_basic.specs.Ranges.Test.{yes!, no! }
+use Rattle.law_basic.specs.Segs.{Named, zone-on-lt, by-seg}
 use Rattle.law_drives.specs.Accept.{Accepted, pointer-ok, faults-apart}
 use Rattle.law_drives.specs.Frame.{any-mapped}
-use Rattle.law_drives.specs.Members.{In, map-in, in-keep, keep-in, all-in, in-all, none-in, in-none, any-in, in-any, keep-cong, map-cong, keep-nothing, keep-map, in-below, below-in, in-getD, getD-in}
+use Rattle.law_drives.specs.Members.{In, map-in, in-keep, keep-in, all-in, in-all, none-in, in-none, any-in, in-any, keep-cong, map-cong, keep-nothing, in-below, below-in, in-getD, getD-in}
 use Rattle.law_drives.specs.Rebuilding.{counted-low, counted-in}
-use Rattle.law_drives.specs.Segs.{present-in, in-present, remaining-low, zone-by, seg-is, serial-is, copied-is}
+use Rattle.law_drives.specs.Segs.{present-in, in-present, remaining-low, zone-by, seg-is, serial-is, copied-is, segs-in}
 use Rattle.law_drives.specs.Settled.{present-all, low-first}
 use Rattle.law_drives.specs.Tables.{remains, remaining-is, in-remaining, remaining-in}
 use Rattle.law_drives.specs.Tests.{clash, and-false-left, and-false-right, or-neither, or-first, or-right, not-so, same-test}
@@ -54,77 +55,78 @@ module _ (p : Params) (v : View) (d : ℕ) (lo : Loss p v d) where
 
   -- ---- what remains
 
-  abbrev filled : View → ℕ → ℕ → Bool
-  filled t z e = not (eqb (pointerAt t e z) 0)
+  abbrev filled : View → Seg → ℕ → Bool
+  filled t z e = not (eqb (pointerAt t e (zoneOn z e)) 0)
 
   -- a zone of the rebuilt drive that isn't empty
-  filled-remains : (z : ℕ) → z < p .Z → filled u z d ≡ true → remains p v gone z ≡ true
+  filled-remains : (z : Seg) → Named p z → filled u z d ≡ true → remains p v gone z ≡ true
   filled-remains z hz q = go (test (remains p v gone z))
     where
       go : Test (remains p v gone z) → remains p v gone z ≡ true
       go (yes! h) = h
-      go (no! h) = clash (eq-eqb (pointerAt u d z) 0 (zone-dropped p v d lo z hz h)) (not-true (eqb (pointerAt u d z) 0) q)
+      go (no! h) = clash (eq-eqb (pointerAt u d (zoneOn z d)) 0 (zone-dropped p v d lo z hz h)) (not-true (eqb (pointerAt u d (zoneOn z d)) 0) q)
 
-  left-remains : (z : ℕ) → In z (leftBy1 p u 0) → In z (remaining p v gone)
-  unfolding leftBy1 segmentNumbers zoneOn
+  left-remains : (z : Seg) → In z (leftBy1 p u 0) → In z (remaining p v gone)
+  unfolding leftBy1
   left-remains z m =
-      let (i, q) = keep-in (λ g. all (filled u g) (present p 0)) (below (p .Z)) z m in
-      let hz = below-in (p .Z) z i in
+      let (i, q) = keep-in (λ g. all (filled u g) (present p 0)) (allSegs p) z m in
+      let hz = segs-in p z i in
       in-remaining p v gone z hz (filled-remains z hz (all-in (filled u z) (present p 0) q d (present-all p d hd)))
 
-  remaining-left : (z : ℕ) → In z (remaining p v gone) → In z (leftBy1 p v gone) × (isCopy v (lowDrive p gone) (leftBy1 p v gone) z ≡ false)
+  remaining-left : (z : Seg) → In z (remaining p v gone) → In z (leftBy1 p v gone) × (isCopy v (lowDrive p gone) (leftBy1 p v gone) z ≡ false)
   unfolding remaining
   remaining-left z m =
-      let f : ℕ → Bool = isCopy v (lowDrive p gone) (leftBy1 p v gone) in
+      let f : Seg → Bool = isCopy v (lowDrive p gone) (leftBy1 p v gone) in
       let (i, q) = keep-in (λ g. not (f g)) (leftBy1 p v gone) z m in (i, not-true (f z) q)
 
   pointer-in-zone : (t : View) (e z : ℕ) → pointerAt t e z ≡ zoneAt t e z .pointer
   unfolding pointerAt
   pointer-in-zone t e z = refl
 
-  filled-all : (z : ℕ) → In z (remaining p v gone) → all (filled u z) (present p 0) ≡ true
+  filled-all : (z : Seg) → In z (remaining p v gone) → all (filled u z) (present p 0) ≡ true
   filled-all z m =
       let (hz, rm) = remaining-in p v gone z m in
       in-all (filled u z) (present p 0)
       (λ e i. each-drive p v d lo {P = λ e. filled u z e ≡ true}
-      (ap not (ne-eqb (pointerAt u d z) 0 (λ q. let a = rebuilt-some p v d lo z hz rm in let b = pointer-in-zone u d z in let bad : ⊥ = omega arith in bad)))
-      (λ e he pr. ap (λ (n : ℕ). not (eqb n 0)) (pointer-in-zone u e z ∙ ap (λ (q : Zone). q .pointer) (kept-zone e z he hz pr) ∙ sym (pointer-in-zone v e z))
+      (ap not (ne-eqb (pointerAt u d (zoneOn z d)) 0 (λ q. let a = rebuilt-some p v d lo z hz rm in let b = pointer-in-zone u d (zoneOn z d) in let bad : ⊥ = omega arith in bad)))
+      (λ e he pr. ap (λ (n : ℕ). not (eqb n 0)) (pointer-in-zone u e (zoneOn z e) ∙ ap (λ (q : Zone). q .pointer) (kept-zone e (zoneOn z e) he (zone-on-lt p z e hz) pr)
+      ∙ sym (pointer-in-zone v e (zoneOn z e)))
       ∙ all-in (filled v z) (present p gone) (was rm) e (in-present p gone e he pr))
       e (present-in p 0 e i .0))
     where
       was : remains p v gone z ≡ true → all (filled v z) (present p gone) ≡ true
-      was rm = unfold remains zoneOn in and-left (all (filled v z) (present p gone)) (not (isCopy v (lowDrive p gone) (leftBy1 p v gone) z)) rm
+      was rm = unfold remains in and-left (all (filled v z) (present p gone)) (not (isCopy v (lowDrive p gone) (leftBy1 p v gone) z)) rm
 
   -- its copied serial names no other
-  no-copy : (z : ℕ) → In z (remaining p v gone) → isCopy u (lowDrive p 0) (leftBy1 p u 0) z ≡ false
+  no-copy : (z : Seg) → In z (remaining p v gone) → isCopy u (lowDrive p 0) (leftBy1 p u 0) z ≡ false
   unfolding isCopy
   no-copy z m = not-so (isCopy u (lowDrive p 0) (leftBy1 p u 0) z) (λ q.
       let l = lowDrive p 0 in
       let k = lowDrive p gone in
       let cu = headerCopied (headerAt u l z) in
       let cv = headerCopied (headerAt v k z) in
-      let fu : ℕ → Bool = λ h. not (eqb h z) && eqb (headerSerial (headerAt u l h)) cu in
-      let fv : ℕ → Bool = λ h. not (eqb h z) && eqb (headerSerial (headerAt v k h)) cv in
+      let fu : Seg → Bool = λ h. not (sameSeg h z) && eqb (headerSerial (headerAt u l h)) cu in
+      let fv : Seg → Bool = λ h. not (sameSeg h z) && eqb (headerSerial (headerAt v k h)) cv in
       let ec : cu ≡ cv = ap (λ (e : ℕ). headerCopied (headerAt u e z)) (low-first p r) ∙ head-copied p v d lo z m ∙ copied-is p v gone z in
       let (h, i, t) = any-in fu (leftBy1 p u 0) (and-right (not (eqb cu 0)) (any fu (leftBy1 p u 0)) q) in
       let n = left-remains h i in
       let es : headerSerial (headerAt u l h) ≡ headerSerial (headerAt v k h) =
       ap (λ (e : ℕ). headerSerial (headerAt u e h)) (low-first p r) ∙ head-serial p v d lo h n ∙ serial-is p v gone h in
       clash (and-both (not (eqb cv 0)) (any fv (leftBy1 p v gone)) (ap (λ (c : ℕ). not (eqb c 0)) (sym ec) ∙ and-left (not (eqb cu 0)) (any fu (leftBy1 p u 0)) q)
-      (in-any fv (leftBy1 p v gone) h (remaining-left h n .0) (ap₂ (λ (a b : ℕ). not (eqb h z) && eqb a b) (sym es) (sym ec) ∙ t)))
+      (in-any fv (leftBy1 p v gone) h (remaining-left h n .0) (ap₂ (λ (a b : ℕ). not (sameSeg h z) && eqb a b) (sym es) (sym ec) ∙ t)))
       (remaining-left z m .1))
 
   pub rebuilt-remaining : remaining p u 0 ≡ remaining p v gone
-  rebuilt-remaining = remaining-is p u 0 ∙ keep-cong (remains p u 0) (remains p v gone) (below (p .Z)) (λ z i. same z (below-in (p .Z) z i)) ∙ sym (remaining-is p v gone)
+  rebuilt-remaining = remaining-is p u 0 ∙ keep-cong (remains p u 0) (remains p v gone) (allSegs p) (λ z i. same z (segs-in p z i)) ∙ sym (remaining-is p v gone)
     where
-      same : (z : ℕ) → z < p .Z → remains p u 0 z ≡ remains p v gone z
+      same : (z : Seg) → Named p z → remains p u 0 z ≡ remains p v gone z
       same z hz = same-test (remains p u 0 z) (remains p v gone z) (λ q. filled-remains z hz (here q)) (λ q. back (in-remaining p v gone z hz q))
         where
           here : remains p u 0 z ≡ true → filled u z d ≡ true
-          here q = unfold remains zoneOn in (all-in (filled u z) (present p 0) (and-left (all (filled u z) (present p 0)) (not (isCopy u (lowDrive p 0) (leftBy1 p u 0) z)) q) d (present-all p d hd))
+          here q = unfold remains in (all-in (filled u z) (present p 0) (and-left (all (filled u z) (present p 0)) (not (isCopy u (lowDrive p 0) (leftBy1 p u 0) z)) q) d (present-all p d hd))
 
           back : In z (remaining p v gone) → remains p u 0 z ≡ true
-          back m = unfold remains zoneOn in and-both (all (filled u z) (present p 0)) (not (isCopy u (lowDrive p 0) (leftBy1 p u 0) z)) (filled-all z m) (ap not (no-copy z m))
+          back m = unfold remains in and-both (all (filled u z) (present p 0)) (not (isCopy u (lowDrive p 0) (leftBy1 p u 0) z)) (filled-all z m) (ap not (no-copy z m))
 
   -- ---- pointers
 
@@ -135,13 +137,13 @@ module _ (p : Params) (v : View) (d : ℕ) (lo : Loss p v d) where
       let hz = below-in (p .Z) z i in
       in-none (λ e. ltb (capacity p) (pointerAt u e z)) (present p 0)
       (λ e j. le-ltb (capacity p) (pointerAt u e z) (subst (λ (n : ℕ). n ≤ capacity p) (sym (pointer-in-zone u e z))
-      (each-drive p v d lo {P = λ e. zoneAt u e z .pointer ≤ capacity p} (here z hz (test (remains p v gone z)))
+      (each-drive p v d lo {P = λ e. zoneAt u e z .pointer ≤ capacity p} (by-seg (λ n. zoneAt u d n .pointer ≤ capacity p) p d z hz (λ g hg. here g hg (test (remains p v gone g))))
       (λ e he pr. subst (λ (q : Zone). q .pointer ≤ capacity p) (sym (kept-zone e z he hz pr)) (subst (λ (n : ℕ). n ≤ capacity p) (pointer-in-zone v e z) (pointer-ok p v gone acc e z he hz pr)))
       e (present-in p 0 e j .0)))))
     where
-      here : (z : ℕ) → z < p .Z → Test (remains p v gone z) → zoneAt u d z .pointer ≤ capacity p
+      here : (z : Seg) → Named p z → Test (remains p v gone z) → zoneAt u d (zoneOn z d) .pointer ≤ capacity p
       here z hz (yes! q) = rebuilt-low p v d lo z hz q
-      here z hz (no! q) = let a = zone-dropped p v d lo z hz q in let b = pointer-in-zone u d z in omega arith
+      here z hz (no! q) = let a = zone-dropped p v d lo z hz q in let b = pointer-in-zone u d (zoneOn z d) in omega arith
 
   -- ---- serials and unsealed segments: by number, serials and sealed or not
 
@@ -151,14 +153,14 @@ module _ (p : Params) (v : View) (d : ℕ) (lo : Loss p v d) where
 
   serial-fault-head : (gs : List Segment) (g : Segment) → serialFault gs g ≡ serialFault (map head gs) (head g)
   unfolding serialFault head
-  serial-fault-head gs g = ap (λ (b : Bool). leb (g .serial) (g .copied) || b) (sym (any-mapped (λ (h : Segment). not (eqb (h .seg) (g .seg)) && eqb (h .serial) (g .serial)) head gs))
+  serial-fault-head gs g = ap (λ (b : Bool). leb (g .serial) (g .copied) || b) (sym (any-mapped (λ (h : Segment). not (sameSeg (h .seg) (g .seg)) && eqb (h .serial) (g .serial)) head gs))
 
   head-clash : (gs : List Segment) (g : Segment) → clashes gs g ≡ clashes (map head gs) (head g)
   unfolding clashes head unsealed
   head-clash gs g = ap (λ (n : ℕ). not (g .full) && leb 2 n)
       (sym (length-map (keep (λ (h : Segment). not (head h .full)) gs) head) ∙ ap length (sym (keep-map (λ (h : Segment). not (h .full)) head gs)))
 
-  same-head : (g : ℕ) → In g (remaining p v gone) → head (segmentOf p u 0 g) ≡ head (segmentOf p v gone g)
+  same-head : (g : Seg) → In g (remaining p v gone) → head (segmentOf p u 0 g) ≡ head (segmentOf p v gone g)
   unfolding head
   same-head g m =
       let e1 = seg-is p u 0 g ∙ sym (seg-is p v gone g) in
@@ -174,7 +176,7 @@ module _ (p : Params) (v : View) (d : ℕ) (lo : Loss p v d) where
       ∙ map-cong (λ g. head (segmentOf p u 0 g)) (λ g. head (segmentOf p v gone g)) (remaining p v gone) same-head
       ∙ sym (map-map head (segmentOf p v gone) (remaining p v gone))
 
-  module _ (g : ℕ) (m : In g (remaining p v gone)) where
+  module _ (g : Seg) (m : In g (remaining p v gone)) where
     abbrev x : Segment
     x = segmentOf p v gone g
 
@@ -184,7 +186,7 @@ module _ (p : Params) (v : View) (d : ℕ) (lo : Loss p v d) where
     abbrev ss : List ℕ
     ss = counted p gone x
 
-    hg : g < p .Z
+    hg : Named p g
     hg = remaining-low p v gone g m
 
     -- a test of each drive
@@ -192,13 +194,13 @@ module _ (p : Params) (v : View) (d : ℕ) (lo : Loss p v d) where
     none-of f a h = in-none f (present p 0) (λ e i. each-drive p v d lo {P = λ e. f e ≡ false} a h e (present-in p 0 e i .0))
 
     no-header-fault : headerFault p 0 y ≡ false
-    unfolding headerFault zoneOn
-    no-header-fault = in-none (λ e. not (sameChunk (getD (getD (y .zonesBy) e noZone .blocks) 0 noChunk) (headerBlock p e (y .seg) (y .serial) (y .copied)) zeroSpare)) (present p 0)
+    unfolding headerFault
+    no-header-fault = in-none (λ e. not (sameChunk (getD (getD (y .zonesBy) e noZone .blocks) 0 noChunk) (headerBlock p e (zoneOn (y .seg) e) (y .serial) (y .copied)) zeroSpare)) (present p 0)
         (λ e i.
         let he = present-in p 0 e i .0 in
-        let t : sameChunk (getD (getD (y .zonesBy) e noZone .blocks) 0 noChunk) (headerBlock p e (y .seg) (y .serial) (y .copied)) zeroSpare ≡ true =
+        let t : sameChunk (getD (getD (y .zonesBy) e noZone .blocks) 0 noChunk) (headerBlock p e (zoneOn (y .seg) e) (y .serial) (y .copied)) zeroSpare ≡ true =
         rw (zone-by p u 0 g e he, header-of p v d lo g m e he, seg-is p u 0 g, rebuilt-serial p v d lo g m, rebuilt-copied p v d lo g m)
-        (fine (headerBlock p e g (x .serial) (x .copied))) in
+        (fine (headerBlock p e (zoneOn g e) (x .serial) (x .copied))) in
         ap not t)
       where
         fine : (b : List ℕ) → sameChunk (mkChunk b zeroSpare) b zeroSpare ≡ true
@@ -311,8 +313,8 @@ module _ (p : Params) (v : View) (d : ℕ) (lo : Loss p v d) where
         go (no! q) = and-false-right (not (y .full)) (any (λ e. footerFaultIn p (getD (y .zonesBy) e noZone)) (present p 0))
             (none-of (λ e. footerFaultIn p (getD (y .zonesBy) e noZone))
             (ap (footerFaultIn p) (zone-by p u 0 g d hd)
-            ∙ few (zoneAt u d g) (let a = rebuilt-open p v d lo g hg (remaining-in p v gone g m .1) q in let b = counted-low p gone x in omega arith))
-            (λ e he pr. ap (footerFaultIn p) (zone-by p u 0 g e he ∙ kept-zone e g he hg pr ∙ sym (zone-by p v gone g e he))
+            ∙ few (zoneAt u d (zoneOn g d)) (let a = rebuilt-open p v d lo g hg (remaining-in p v gone g m .1) q in let b = counted-low p gone x in omega arith))
+            (λ e he pr. ap (footerFaultIn p) (zone-by p u 0 g e he ∙ kept-zone e (zoneOn g e) he (zone-on-lt p g e hg) pr ∙ sym (zone-by p v gone g e he))
             ∙ none-in (λ e. footerFaultIn p (getD (x .zonesBy) e noZone)) (present p gone) (were q) e (in-present p gone e he pr)))
           where
             were : x .full ≡ false → any (λ e. footerFaultIn p (getD (x .zonesBy) e noZone)) (present p gone) ≡ false
@@ -342,13 +344,13 @@ module _ (p : Params) (v : View) (d : ℕ) (lo : Loss p v d) where
   rebuilt-accepted = record { pointers-ok = no-pointer-fault; segments-ok = none! }
     where
       none! : segmentFaults p 0 (segments p u 0) ≡ []
-      none! = unfold segmentFaults in ap (map (λ (g : Segment). g .seg)) (keep-nothing (segmentFault p 0 (segments p u 0)) (segments p u 0) (λ s i. each s i))
+      none! = unfold segmentFaults in ap (map (λ (g : Segment). zoneOn (g .seg) (lowDrive p 0))) (keep-nothing (segmentFault p 0 (segments p u 0)) (segments p u 0) (λ s i. each s i))
         where
           each : (s : Segment) → In s (segments p u 0) → segmentFault p 0 (segments p u 0) s ≡ false
           each s i = go (members i)
             where
-              members : In s (segments p u 0) → (g : ℕ) × In g (remaining p u 0) × (s ≡ segmentOf p u 0 g)
+              members : In s (segments p u 0) → (g : Seg) × In g (remaining p u 0) × (s ≡ segmentOf p u 0 g)
               members i = unfold segments in map-in (segmentOf p u 0) (remaining p u 0) s i
 
-              go : (g : ℕ) × In g (remaining p u 0) × (s ≡ segmentOf p u 0 g) → segmentFault p 0 (segments p u 0) s ≡ false
-              go (g, j, e) = ap (segmentFault p 0 (segments p u 0)) e ∙ rebuilt-faultless g (subst (λ (l : List ℕ). In g l) rebuilt-remaining j)
+              go : (g : Seg) × In g (remaining p u 0) × (s ≡ segmentOf p u 0 g) → segmentFault p 0 (segments p u 0) s ≡ false
+              go (g, j, e) = ap (segmentFault p 0 (segments p u 0)) e ∙ rebuilt-faultless g (subst (λ (l : List Seg). In g l) rebuilt-remaining j)

@@ -11,7 +11,7 @@ use lib.ListN.{length, getD, take, length-map}
 use lib.Seq.{length-take-le, getD-take}
 use lib.Arith.{digits-div}
 use Rattle.spec.specs.declared.Params.{Params}
-use Rattle.spec.specs.Drives.{Zone, View, zoneAt, pointerAt, zoneOn, sealedIn, dataStored, recordIn}
+use Rattle.spec.specs.Drives.{Zone, View, zoneAt, pointerAt, zoneOn, sealedIn, dataStored, recordIn, Seg}
 use Rattle.spec.specs.Layout.{group, inGroupOf, Rec, mkRec}
 use Rattle.spec.specs.Lists.{below, tally, isIn}
 use Rattle.spec.specs.Params.{capacity, present}
@@ -26,7 +26,7 @@ use Rattle.law_drives.specs.Segs.{present-in, in-present, length-records, recor
 use Rattle.law_drives.specs.Spots.{counts-in}
 use Rattle.proof_rebuilt.specs.Numbers.{rank-high, different-take, all-there}
 
-module _ (p : Params) (r : Ranged p) (v : View) (gone : ℕ) (acc : Accepted p v gone) (g : ℕ) (m : In g (remaining p v gone)) where
+module _ (p : Params) (r : Ranged p) (v : View) (gone : ℕ) (acc : Accepted p v gone) (g : Seg) (m : In g (remaining p v gone)) where
   abbrev x : Segment
   x = segmentOf p v gone g
 
@@ -38,7 +38,7 @@ module _ (p : Params) (r : Ranged p) (v : View) (gone : ℕ) (acc : Accepted p v
 
   module _ (e : ℕ) (he : e < p .N) (pr : isIn gone e ≡ false) where
     abbrev q : Zone
-    q = zoneAt v e g
+    q = zoneAt v e (zoneOn g e)
 
     abbrev at : ℕ → ℕ
     at o = recordIn p w q o .stripe
@@ -104,14 +104,15 @@ module _ (p : Params) (r : Ranged p) (v : View) (gone : ℕ) (acc : Accepted p v
   before-counts s t c h = counts-of t (λ e he pr. before-has e he pr s t (counts-in p gone x s e c he pr) h)
 
   -- a sealed segment counts all
-  sealed-pointer : (e : ℕ) → e < p .N → isIn gone e ≡ false → w ≡ true → zoneAt v e g .pointer ≡ capacity p
-  unfolding sealedIn zoneOn pointerAt
-  sealed-pointer e he pr h = eqb-true (zoneAt v e g .pointer) (capacity p) (all-in (λ e. eqb (zoneAt v e g .pointer) (capacity p)) (present p gone) h e (in-present p gone e he pr))
+  sealed-pointer : (e : ℕ) → e < p .N → isIn gone e ≡ false → w ≡ true → zoneAt v e (zoneOn g e) .pointer ≡ capacity p
+  unfolding sealedIn pointerAt
+  sealed-pointer e he pr h =
+      eqb-true (zoneAt v e (zoneOn g e) .pointer) (capacity p) (all-in (λ e. eqb (zoneAt v e (zoneOn g e) .pointer) (capacity p)) (present p gone) h e (in-present p gone e he pr))
 
   sealed-all-count : w ≡ true → (t : ℕ) → t < p .S → counts p gone x t ≡ true
   sealed-all-count h t b = counts-of t (λ e he pr. full-has e he pr (go e (sealed-pointer e he pr h)) t b)
     where
-      go : (e : ℕ) → zoneAt v e g .pointer ≡ capacity p → dataStored p (zoneAt v e g) ≡ p .S
+      go : (e : ℕ) → zoneAt v e (zoneOn g e) .pointer ≡ capacity p → dataStored p (zoneAt v e (zoneOn g e)) ≡ p .S
       go e a = unfold dataStored in (let c = capacity-is p r in omega arith)
 
   pub sealed-all : w ≡ true → length (counted p gone x) ≡ p .S

@@ -7,7 +7,7 @@ use native.Mathlib.Decide.{ℕ-discrete}
 use lib.Dec.{ltb}
 use Rattle.spec.specs.declared.Params.{Params}
 use Rattle.spec.specs.Demands.{saidBlock, saidAt}
-use Rattle.spec.specs.Drives.{View, zoneAt, zoneOn, placeSegment, sealedIn, recordIn, recordAt}
+use Rattle.spec.specs.Drives.{View, zoneAt, zoneOn, sealedIn, recordIn, recordAt, Seg}
 use Rattle.spec.specs.History.Seen.{got}
 use Rattle.spec.specs.Layout.{dataDrive, dataDrives, Rec}
 use Rattle.spec.specs.Lists.{Opt, below, flat, isIn}
@@ -20,11 +20,12 @@ use Rattle.law_basic.specs.Geometry.{Ranged, data-drive-lt}
 use Rattle.law_basic.specs.Mask.{isIn-empty}
 use Rattle.law_basic.specs.Ranges.{Test, test}
 use Rattle.law_basic.specs.Ranges.Test.{yes!, no! }
+use Rattle.law_basic.specs.Segs.{segs-differ}
 use Rattle.law_drives.specs.Accept.{Accepted, serials-differ}
 use Rattle.law_drives.specs.Members.{In, map-in, flat-map, below-in}
 use Rattle.law_drives.specs.Rebuilding.{counted-in}
 use Rattle.law_drives.specs.Segs.{CandAt}
-use Rattle.law_drives.specs.Spots.{cand-zone, Spot, spot-of}
+use Rattle.law_drives.specs.Spots.{Spot, spot-of, cand-segment}
 use Rattle.law_drives.specs.Tests.{cond-true, cond-false}
 use Rattle.proof_tables.specs.Base.{offset-here, offset-away, its-chunk}
 use Rattle.proof_rebuilt.specs.Accepted.{rebuilt-remaining}
@@ -36,21 +37,21 @@ use Rattle.proof_rebuilt.specs.Zone.{rebuiltView, Loss, drive-lost, othe
 -- what is said of a candidate is its piece
 said-is : (p : Params) → Ranged p → (v : View) (gone : ℕ) (c : Cand) (k : CandAt p v gone c)
     → saidBlock p v gone (some c) ≡ got (pieceOf p gone (segmentOf p v gone (k .of)) (k .stripe) (c .drive) .block)
-unfolding saidBlock placeSegment recordAt zoneOn
+unfolding saidBlock recordAt
 said-is p r v gone c k =
     let t : Spot p v gone c = spot-of p r v gone c k in
-    let stripe : ℕ → ℕ = λ g. cond (isIn gone (c .drive)) (c .offset) (recordIn p (sealedIn p v gone g) (zoneAt v (c .drive) g) (c .offset) .stripe) in
-    ap (λ (g : ℕ). got (pieceOf p gone (segmentOf p v gone g) (stripe g) (c .drive) .block)) (cand-zone p r v gone c k t)
+    let stripe : Seg → ℕ = λ g. cond (isIn gone (c .drive)) (c .offset) (recordIn p (sealedIn p v gone g) (zoneAt v (c .drive) (zoneOn g (c .drive))) (c .offset) .stripe) in
+    ap (λ (g : Seg). got (pieceOf p gone (segmentOf p v gone g) (stripe g) (c .drive) .block)) (cand-segment p r v gone c k t)
     ∙ ap (λ (s : ℕ). got (pieceOf p gone (segmentOf p v gone (k .of)) s (c .drive) .block)) (its-stripe! t (test (isIn gone (c .drive))))
   where
     its-stripe! : Spot p v gone c → Test (isIn gone (c .drive))
-        → cond (isIn gone (c .drive)) (c .offset) (recordIn p (sealedIn p v gone (k .of)) (zoneAt v (c .drive) (k .of)) (c .offset) .stripe) ≡ k .stripe
+        → cond (isIn gone (c .drive)) (c .offset) (recordIn p (sealedIn p v gone (k .of)) (zoneAt v (c .drive) (zoneOn (k .of) (c .drive))) (c .offset) .stripe) ≡ k .stripe
     its-stripe! t (yes! b) =
-        cond-true (isIn gone (c .drive)) (c .offset) (recordIn p (sealedIn p v gone (k .of)) (zoneAt v (c .drive) (k .of)) (c .offset) .stripe) b
+        cond-true (isIn gone (c .drive)) (c .offset) (recordIn p (sealedIn p v gone (k .of)) (zoneAt v (c .drive) (zoneOn (k .of) (c .drive))) (c .offset) .stripe) b
         ∙ offset-away p r v gone c k t b
     its-stripe! t (no! b) =
-        cond-false (isIn gone (c .drive)) (c .offset) (recordIn p (sealedIn p v gone (k .of)) (zoneAt v (c .drive) (k .of)) (c .offset) .stripe) b
-        ∙ ap (λ (o : ℕ). recordIn p (sealedIn p v gone (k .of)) (zoneAt v (c .drive) (k .of)) o .stripe) (offset-here p r v gone c k t b) ∙ its-chunk p r v gone c k t b .its-stripe
+        cond-false (isIn gone (c .drive)) (c .offset) (recordIn p (sealedIn p v gone (k .of)) (zoneAt v (c .drive) (zoneOn (k .of) (c .drive))) (c .offset) .stripe) b
+        ∙ ap (λ (o : ℕ). recordIn p (sealedIn p v gone (k .of)) (zoneAt v (c .drive) (zoneOn (k .of) (c .drive))) o .stripe) (offset-here p r v gone c k t b) ∙ its-chunk p r v gone c k t b .its-stripe
 
 module _ (p : Params) (v : View) (d : ℕ) (lo : Loss p v d) where
   abbrev r : Ranged p
@@ -68,15 +69,15 @@ module _ (p : Params) (v : View) (d : ℕ) (lo : Loss p v d) where
   abbrev u : View
   u = rebuiltView p v d
 
-  abbrev x : ℕ → Segment
+  abbrev x : Seg → Segment
   x g = segmentOf p v gone g
 
-  abbrev y : ℕ → Segment
+  abbrev y : Seg → Segment
   y g = segmentOf p u 0 g
 
   -- a candidate before and after
   record Pair (c e : Cand) : Type 0 where
-    of : ℕ
+    of : Seg
     stripe : ℕ
     position : ℕ
     remains : In of (remaining p v gone)
@@ -88,7 +89,7 @@ module _ (p : Params) (v : View) (d : ℕ) (lo : Loss p v d) where
 
   -- ---- fields
 
-  module _ (g s e : ℕ) (m : In g (remaining p v gone)) (hs : s < p .S) (c : counts p gone (x g) s ≡ true) (he : e < p .N) where
+  module _ (g : Seg) (s e : ℕ) (m : In g (remaining p v gone)) (hs : s < p .S) (c : counts p gone (x g) s ≡ true) (he : e < p .N) where
     same-address : candOf p gone (x g) s e .address ≡ candOf p 0 (y g) s e .address
     unfolding candOf
     same-address = sym (ap (λ (b : Rec). b .address) (same-rec p v d lo g m s e hs c he))
@@ -114,7 +115,7 @@ module _ (p : Params) (v : View) (d : ℕ) (lo : Loss p v d) where
   candOf-offset q z s e = refl
 
   -- offsets of a segment and drive keep their order
-  same-order : (g s t e : ℕ) → In g (remaining p v gone) → s < p .S → t < p .S → counts p gone (x g) s ≡ true → counts p gone (x g) t ≡ true → e < p .N
+  same-order : (g : Seg) (s t e : ℕ) → In g (remaining p v gone) → s < p .S → t < p .S → counts p gone (x g) s ≡ true → counts p gone (x g) t ≡ true → e < p .N
       → ltb (offsetOf gone (x g) s e) (offsetOf gone (x g) t e) ≡ ltb (offsetOf 0 (y g) s e) (offsetOf 0 (y g) t e)
   same-order g s t e m hs ht cs ct he = go (ℕ-discrete e d)
     where
@@ -193,7 +194,7 @@ module _ (p : Params) (v : View) (d : ℕ) (lo : Loss p v d) where
       of = k .of;
       stripe = k .stripe;
       position = k .position;
-      remains = subst (λ (l : List ℕ). In (k .of) l) (sym (rebuilt-remaining p v d lo)) (k .remains);
+      remains = subst (λ (l : List Seg). In (k .of) l) (sym (rebuilt-remaining p v d lo)) (k .remains);
       stripe-low = k .stripe-low;
       it-counts = rebuilt-counts p v d lo (k .of) (k .remains) (k .stripe) (k .stripe-low) ∙ k .it-counts;
       position-low = k .position-low;
@@ -214,7 +215,7 @@ module _ (p : Params) (v : View) (d : ℕ) (lo : Loss p v d) where
       (λ qs qd. order (segment (sym (old-serial c e k) ∙ qs ∙ old-serial b f l)) (sym (old-drive c e k) ∙ qd ∙ old-drive b f l))
     where
       segment : x (k .of) .serial ≡ x (l .of) .serial → l .of ≡ k .of
-      segment q = go (ℕ-discrete (l .of) (k .of))
+      segment q = go (segs-differ (l .of) (k .of))
         where
           go : Dec (l .of ≡ k .of) → l .of ≡ k .of
           go (yes z) = z
@@ -222,14 +223,14 @@ module _ (p : Params) (v : View) (d : ℕ) (lo : Loss p v d) where
 
       order : l .of ≡ k .of → drive c e k ≡ drive b f l → ltb (c .offset) (b .offset) ≡ ltb (e .offset) (f .offset)
       order qo qd =
-          ap₂ ltb (old-offset c e k) (old-offset b f l ∙ ap₂ (λ (g z : ℕ). offsetOf gone (x g) (l .stripe) z) qo (sym qd))
+          ap₂ ltb (old-offset c e k) (old-offset b f l ∙ ap₂ (λ (g : Seg) (z : ℕ). offsetOf gone (x g) (l .stripe) z) qo (sym qd))
           ∙ same-order (k .of) (k .stripe) (l .stripe) (drive c e k) (k .remains) (k .stripe-low) (l .stripe-low) (k .it-counts)
-          (subst (λ (g : ℕ). counts p gone (x g) (l .stripe) ≡ true) qo (l .it-counts)) (drive-low c e k)
-          ∙ sym (ap₂ ltb (new-offset c e k) (new-offset b f l ∙ ap₂ (λ (g z : ℕ). offsetOf 0 (y g) (l .stripe) z) qo (sym qd)))
+          (subst (λ (g : Seg). counts p gone (x g) (l .stripe) ≡ true) qo (l .it-counts)) (drive-low c e k)
+          ∙ sym (ap₂ ltb (new-offset c e k) (new-offset b f l ∙ ap₂ (λ (g : Seg) (z : ℕ). offsetOf 0 (y g) (l .stripe) z) qo (sym qd)))
 
   -- ---- all candidates
 
-  pair-stripe : (g s : ℕ) → In g (remaining p v gone) → In s (counted p gone (x g)) → Alike Pair (map (candOf p gone (x g) s) (dataDrives p s)) (map (candOf p 0 (y g) s) (dataDrives p s))
+  pair-stripe : (g : Seg) (s : ℕ) → In g (remaining p v gone) → In s (counted p gone (x g)) → Alike Pair (map (candOf p gone (x g) s) (dataDrives p s)) (map (candOf p 0 (y g) s) (dataDrives p s))
   unfolding dataDrives
   pair-stripe g s m i =
       let (hs, c) = counted-in p gone (x g) s i in
@@ -248,7 +249,7 @@ module _ (p : Params) (v : View) (d : ℕ) (lo : Loss p v d) where
         is-now = ap (candOf p 0 (y g) s) q;
       })
 
-  pair-segment : (g : ℕ) → In g (remaining p v gone) → Alike Pair (segmentCands p gone (x g)) (segmentCands p 0 (y g))
+  pair-segment : (g : Seg) → In g (remaining p v gone) → Alike Pair (segmentCands p gone (x g)) (segmentCands p 0 (y g))
   unfolding segmentCands
   pair-segment g m =
       subst (λ (l : List ℕ). Alike Pair (flat (λ s. map (candOf p gone (x g) s) (dataDrives p s)) (counted p gone (x g))) (flat (λ s. map (candOf p 0 (y g) s) (dataDrives p s)) l))

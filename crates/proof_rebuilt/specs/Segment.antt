@@ -12,7 +12,7 @@ use lib.ListN.{length, getD, drop, length-map}
 use lib.Seq.{ext-getD, getD-drop}
 use Rattle.spec.specs.declared.Params.{Params}
 use Rattle.spec.specs.Bytes.{part}
-use Rattle.spec.specs.Drives.{Chunk, mkChunk, noChunk, Zone, noZone, View, zoneAt, pointerAt, chunkAt, zoneOn, sealedIn, dataStored, blocksOf, recordIn, zeroSpare}
+use Rattle.spec.specs.Drives.{Chunk, mkChunk, noChunk, Zone, noZone, View, zoneAt, pointerAt, chunkAt, zoneOn, sealedIn, dataStored, blocksOf, recordIn, zeroSpare, Seg}
 use Rattle.spec.specs.Faults.{sameChunk, headerFault}
 use Rattle.spec.specs.Layout.{headerBlock, headerSerial, headerCopied, Rec, mkRec, recordBytes, recordOf, footerBlock, footerRecord}
 use Rattle.spec.specs.Lists.{below, any, indexOf, sameList, tally, isIn}
@@ -23,6 +23,7 @@ use Rattle.law_basic.specs.Fields.{length-record}
 use Rattle.law_basic.specs.Geometry.{Ranged, per-footer-low, footers-cover}
 use Rattle.law_basic.specs.Mask.{isIn-empty}
 use Rattle.law_basic.specs.Ranges.{and-left, and-right, map-map, getD-map, getD-map-below, sameList-true}
+use Rattle.law_basic.specs.Segs.{Named, zone-on-lt}
 use Rattle.law_code.specs.Chunks.{chunk-stored, rec-lost}
 use Rattle.law_code.specs.Code.{decode-low, decode-stripe}
 use Rattle.law_drives.specs.Accept.{Accepted, faults-apart}
@@ -62,7 +63,7 @@ footer-back p r q ss j b l h e f a t s =
     blocks-at (drop (1 + p .S) (q .blocks)) i ∙ ap (λ (c : Chunk). c .block) (getD-drop (1 + p .S) (q .blocks) i noChunk ∙ f) in
     ap (λ (y : List ℕ). recordOf (part (spareLen * (j % k)) spareLen y)) ef ∙ ap recordOf (getD-footer p r ss j l h ∙ e) ∙ record-back b a t s
 
-module _ (p : Params) (v : View) (d : ℕ) (lo : Loss p v d) (g : ℕ) (m : In g (remaining p v (named d))) where
+module _ (p : Params) (v : View) (d : ℕ) (lo : Loss p v d) (g : Seg) (m : In g (remaining p v (named d))) where
   abbrev r : Ranged p
   r = lo .ranged
 
@@ -90,30 +91,31 @@ module _ (p : Params) (v : View) (d : ℕ) (lo : Loss p v d) (g : ℕ) (m : In g
   abbrev ss : List ℕ
   ss = counted p gone x
 
-  hg : g < p .Z
+  hg : Named p g
   hg = remaining-in p v gone g m .0
 
   rm : remains p v gone g ≡ true
   rm = remaining-in p v gone g m .1
 
-  kept-zone-here : (e : ℕ) → e < p .N → isIn gone e ≡ false → zoneAt u e g ≡ zoneAt v e g
-  kept-zone-here e he pr = present-zone-same p v d lo e g he hg pr
+  kept-zone-here : (e : ℕ) → e < p .N → isIn gone e ≡ false → zoneAt u e (zoneOn g e) ≡ zoneAt v e (zoneOn g e)
+  kept-zone-here e he pr = present-zone-same p v d lo e (zoneOn g e) he (zone-on-lt p g e hg) pr
 
   -- ---- sealed or not
 
   pub rebuilt-sealed : sealedIn p u 0 g ≡ w
-  unfolding sealedIn zoneOn pointerAt
+  unfolding sealedIn pointerAt
   rebuilt-sealed = same-test (sealedIn p u 0 g) w
-      (λ q. in-all (λ e. eqb (zoneAt v e g .pointer) (capacity p)) (present p gone)
+      (λ q. in-all (λ e. eqb (zoneAt v e (zoneOn g e) .pointer) (capacity p)) (present p gone)
       (λ e i. let (he, pr) = present-in p gone e i in
-      ap (λ (z : Zone). eqb (z .pointer) (capacity p)) (sym (kept-zone-here e he pr)) ∙ all-in (λ e. eqb (zoneAt u e g .pointer) (capacity p)) (present p 0) q e (present-all p e he)))
-      (λ q. in-all (λ e. eqb (zoneAt u e g .pointer) (capacity p)) (present p 0)
-      (λ e i. each-drive p v d lo {P = λ e. eqb (zoneAt u e g .pointer) (capacity p) ≡ true} (here q)
-      (λ e he pr. ap (λ (z : Zone). eqb (z .pointer) (capacity p)) (kept-zone-here e he pr) ∙ all-in (λ e. eqb (zoneAt v e g .pointer) (capacity p)) (present p gone) q e (in-present p gone e he pr))
+      ap (λ (z : Zone). eqb (z .pointer) (capacity p)) (sym (kept-zone-here e he pr)) ∙ all-in (λ e. eqb (zoneAt u e (zoneOn g e) .pointer) (capacity p)) (present p 0) q e (present-all p e he)))
+      (λ q. in-all (λ e. eqb (zoneAt u e (zoneOn g e) .pointer) (capacity p)) (present p 0)
+      (λ e i. each-drive p v d lo {P = λ e. eqb (zoneAt u e (zoneOn g e) .pointer) (capacity p) ≡ true} (here q)
+      (λ e he pr. ap (λ (z : Zone). eqb (z .pointer) (capacity p)) (kept-zone-here e he pr)
+      ∙ all-in (λ e. eqb (zoneAt v e (zoneOn g e) .pointer) (capacity p)) (present p gone) q e (in-present p gone e he pr))
       e (present-in p 0 e i .0)))
     where
-      here : w ≡ true → eqb (zoneAt u d g .pointer) (capacity p) ≡ true
-      here q = eq-eqb (zoneAt u d g .pointer) (capacity p)
+      here : w ≡ true → eqb (zoneAt u d (zoneOn g d) .pointer) (capacity p) ≡ true
+      here q = eq-eqb (zoneAt u d (zoneOn g d) .pointer) (capacity p)
           (rebuilt-full p v d lo g hg rm (full-is p v gone g ∙ q)
           ∙ (let a = sealed-all p r v gone acc g m q in let c = capacity-is p r in let z : suc (length ss + footers p) ≡ capacity p = omega arith in z))
 
@@ -132,7 +134,8 @@ module _ (p : Params) (v : View) (d : ℕ) (lo : Loss p v d) (g : ℕ) (m : In g
   present-rec-low s e c i =
       let (he, pr) = present-in p gone e i in
       let k = chunk-at p v gone g e s he pr (counts-in p gone x s e c he pr) in
-      subst (λ (b : Rec). (b .address < 256 ^ 8) × (b .stamp < 256 ^ 8)) (sym (k .its-record)) (record-low p (zoneAt v e g) (lo .shaped .zone-ok e g he hg) w (offsetOn x e s))
+      subst (λ (b : Rec). (b .address < 256 ^ 8) × (b .stamp < 256 ^ 8)) (sym (k .its-record))
+      (record-low p (zoneAt v e (zoneOn g e)) (lo .shaped .zone-ok e (zoneOn g e) he (zone-on-lt p g e hg)) w (offsetOn x e s))
 
   decoded-low : (s : ℕ) → counts p gone x s ≡ true → (recOf p gone x s d .address < 256 ^ 8) × (recOf p gone x s d .stamp < 256 ^ 8)
   decoded-low s c = subst (λ (b : Rec). (b .address < 256 ^ 8) × (b .stamp < 256 ^ 8)) (sym (rec-decoded s))
@@ -160,23 +163,23 @@ module _ (p : Params) (v : View) (d : ℕ) (lo : Loss p v d) (g : ℕ) (m : In g
       let f = decoded-low (getD ss j 0) c in
       record { address8 = f .0; stamp8 = f .1; stripe4 = subst (λ (n : ℕ). n < 256 ^ 4) (sym (decoded-stripe (getD ss j 0))) (omega (arith, r .stripes-high)) }
 
-  record-of : (j : ℕ) → j < length ss → recordIn p w (zoneAt u d g) j ≡ recOf p gone x (getD ss j 0) d
+  record-of : (j : ℕ) → j < length ss → recordIn p w (zoneAt u d (zoneOn g d)) j ≡ recOf p gone x (getD ss j 0) d
   record-of j h = go w refl
     where
       fit : Fits8 (pieceAt j .rec)
       fit = subst (λ (b : Rec). Fits8 b) (sym (piece-rec p gone x (getD ss j 0) d)) (fits-at j h)
 
-      go : (b : Bool) → w ≡ b → recordIn p w (zoneAt u d g) j ≡ recOf p gone x (getD ss j 0) d
+      go : (b : Bool) → w ≡ b → recordIn p w (zoneAt u d (zoneOn g d)) j ≡ recOf p gone x (getD ss j 0) d
       go false q =
-          ap (λ (b : Bool). recordIn p b (zoneAt u d g) j) q
-          ∙ spare-back p (zoneAt u d g) j (pieceAt j) (rebuilt-piece p v d lo g hg rm j h) (fit .address8) (fit .stamp8) (fit .stripe4) ∙ piece-rec p gone x (getD ss j 0) d
+          ap (λ (b : Bool). recordIn p b (zoneAt u d (zoneOn g d)) j) q
+          ∙ spare-back p (zoneAt u d (zoneOn g d)) j (pieceAt j) (rebuilt-piece p v d lo g hg rm j h) (fit .address8) (fit .stamp8) (fit .stripe4) ∙ piece-rec p gone x (getD ss j 0) d
       go true q =
           let n = sealed-all p r v gone acc g m q in
           let i = j / perFooter p in
           let kp : 0 < perFooter p = omega (arith, per-footer-low p r) in
           let hi : i < footers p = div-lt-iff-lt-mul kp .1 (let z = footers-cover p r in let t : j < footers p * perFooter p = omega arith in t) in
-          ap (λ (b : Bool). recordIn p b (zoneAt u d g) j) q
-          ∙ footer-back p r (zoneAt u d g) made j (pieceAt j .rec) made-long made-low made-at
+          ap (λ (b : Bool). recordIn p b (zoneAt u d (zoneOn g d)) j) q
+          ∙ footer-back p r (zoneAt u d (zoneOn g d)) made j (pieceAt j .rec) made-long made-low made-at
           (rebuilt-foot p v d lo g hg rm (full-is p v gone g ∙ q) n i hi) (fit .address8) (fit .stamp8) (fit .stripe4)
           ∙ piece-rec p gone x (getD ss j 0) d
         where
@@ -196,33 +199,33 @@ module _ (p : Params) (v : View) (d : ℕ) (lo : Loss p v d) (g : ℕ) (m : In g
 
   pub recs-rebuilt : recsOn y d ≡ map (λ s. recOf p gone x s d) ss
   recs-rebuilt =
-      recs-here p u 0 g d hd (isIn-empty d) ∙ ap (λ (b : Bool). recordsIn p b (zoneAt u d g)) rebuilt-sealed
-      ∙ ext-getD (mkRec 0 0 0) (recordsIn p w (zoneAt u d g)) (map (λ s. recOf p gone x s d) ss) (long ∙ sym (length-map ss (λ s. recOf p gone x s d))) each
+      recs-here p u 0 g d hd (isIn-empty d) ∙ ap (λ (b : Bool). recordsIn p b (zoneAt u d (zoneOn g d))) rebuilt-sealed
+      ∙ ext-getD (mkRec 0 0 0) (recordsIn p w (zoneAt u d (zoneOn g d))) (map (λ s. recOf p gone x s d) ss) (long ∙ sym (length-map ss (λ s. recOf p gone x s d))) each
     where
-      n : dataStored p (zoneAt u d g) ≡ length ss
+      n : dataStored p (zoneAt u d (zoneOn g d)) ≡ length ss
       n = rebuilt-stored p v d lo g hg rm
 
-      long : length (recordsIn p w (zoneAt u d g)) ≡ length ss
-      long = length-records p w (zoneAt u d g) ∙ n
+      long : length (recordsIn p w (zoneAt u d (zoneOn g d))) ≡ length ss
+      long = length-records p w (zoneAt u d (zoneOn g d)) ∙ n
 
-      each : (j : ℕ) → j < length (recordsIn p w (zoneAt u d g)) → getD (recordsIn p w (zoneAt u d g)) j (mkRec 0 0 0) ≡ getD (map (λ s. recOf p gone x s d) ss) j (mkRec 0 0 0)
+      each : (j : ℕ) → j < length (recordsIn p w (zoneAt u d (zoneOn g d))) → getD (recordsIn p w (zoneAt u d (zoneOn g d))) j (mkRec 0 0 0) ≡ getD (map (λ s. recOf p gone x s d) ss) j (mkRec 0 0 0)
       each j h =
           let h2 : j < length ss = subst (λ (k : ℕ). j < k) long h in
           row j (subst (λ (k : ℕ). j < k) (sym n) h2) ∙ record-of j h2 ∙ sym (getD-map (λ s. recOf p gone x s d) ss j (mkRec 0 0 0) 0 h2)
         where
-          row : (j : ℕ) → j < dataStored p (zoneAt u d g) → getD (recordsIn p w (zoneAt u d g)) j (mkRec 0 0 0) ≡ recordIn p w (zoneAt u d g) j
-          row j h = unfold recordsIn in getD-map-below (recordIn p w (zoneAt u d g)) (dataStored p (zoneAt u d g)) j (mkRec 0 0 0) h
+          row : (j : ℕ) → j < dataStored p (zoneAt u d (zoneOn g d)) → getD (recordsIn p w (zoneAt u d (zoneOn g d))) j (mkRec 0 0 0) ≡ recordIn p w (zoneAt u d (zoneOn g d)) j
+          row j h = unfold recordsIn in getD-map-below (recordIn p w (zoneAt u d (zoneOn g d))) (dataStored p (zoneAt u d (zoneOn g d))) j (mkRec 0 0 0) h
 
   pub recs-other : (e : ℕ) → e < p .N → isIn gone e ≡ false → recsOn y e ≡ recsOn x e
   recs-other e he pr = recs-here p u 0 g e he (isIn-empty e) ∙ ap₂ (λ (b : Bool) (q : Zone). recordsIn p b q) rebuilt-sealed (kept-zone-here e he pr) ∙ sym (recs-here p v gone g e he pr)
 
   -- ---- headers
 
-  pub header-of : (e : ℕ) → e < p .N → getD (zoneAt u e g .blocks) 0 noChunk ≡ mkChunk (headerBlock p e g (x .serial) (x .copied)) zeroSpare
-  header-of e he = each-drive p v d lo {P = λ e. getD (zoneAt u e g .blocks) 0 noChunk ≡ mkChunk (headerBlock p e g (x .serial) (x .copied)) zeroSpare}
+  pub header-of : (e : ℕ) → e < p .N → getD (zoneAt u e (zoneOn g e) .blocks) 0 noChunk ≡ mkChunk (headerBlock p e (zoneOn g e) (x .serial) (x .copied)) zeroSpare
+  header-of e he = each-drive p v d lo {P = λ e. getD (zoneAt u e (zoneOn g e) .blocks) 0 noChunk ≡ mkChunk (headerBlock p e (zoneOn g e) (x .serial) (x .copied)) zeroSpare}
       (rebuilt-header p v d lo g hg rm) (λ e he pr. ap (λ (q : Zone). getD (q .blocks) 0 noChunk) (kept-zone-here e he pr) ∙ there e he pr) e he
     where
-      there : (e : ℕ) → e < p .N → isIn gone e ≡ false → getD (zoneAt v e g .blocks) 0 noChunk ≡ mkChunk (headerBlock p e g (x .serial) (x .copied)) zeroSpare
+      there : (e : ℕ) → e < p .N → isIn gone e ≡ false → getD (zoneAt v e (zoneOn g e) .blocks) 0 noChunk ≡ mkChunk (headerBlock p e (zoneOn g e) (x .serial) (x .copied)) zeroSpare
       there e he pr = go
         where
           c : Chunk
@@ -239,19 +242,19 @@ module _ (p : Params) (v : View) (d : ℕ) (lo : Loss p v d) (g : ℕ) (m : In g
               let e2 = sameList-true (c .spare) s (and-right (sameList (c .block) b) (sameList (c .spare) s) q) in
               λ i. record { block = e1 i; spare = e2 i })
 
-          seg! : zoneOn (x .seg) e ≡ g
-          seg! = unfold zoneOn in seg-is p v gone g
+          seg! : zoneOn (x .seg) e ≡ zoneOn g e
+          seg! = ap (λ (y : Seg). zoneOn y e) (seg-is p v gone g)
 
-          go : getD (zoneAt v e g .blocks) 0 noChunk ≡ mkChunk (headerBlock p e g (x .serial) (x .copied)) zeroSpare
+          go : getD (zoneAt v e (zoneOn g e) .blocks) 0 noChunk ≡ mkChunk (headerBlock p e (zoneOn g e) (x .serial) (x .copied)) zeroSpare
           go = ap (λ (q : Zone). getD (q .blocks) 0 noChunk) (sym (zone-by p v gone g e he))
               ∙ same! c (headerBlock p e (zoneOn (x .seg) e) (x .serial) (x .copied)) zeroSpare fine
               ∙ ap (λ (z : ℕ). mkChunk (headerBlock p e z (x .serial) (x .copied)) zeroSpare) seg!
 
   header-bytes : Bytes (headerAt v (lowDrive p gone) g)
-  unfolding headerAt chunkAt zoneOn
+  unfolding headerAt chunkAt
   header-bytes =
       let (he, pr) = present-in p gone (lowDrive p gone) (low-present p r d hd) in
-      lo .shaped .zone-ok (lowDrive p gone) g he hg .sound 0 (omega (arith, capacity-over p r)) .block-bytes (inl refl)
+      lo .shaped .zone-ok (lowDrive p gone) (zoneOn g (lowDrive p gone)) he (zone-on-lt p g (lowDrive p gone) hg) .sound 0 (omega (arith, capacity-over p r)) .block-bytes (inl refl)
 
   header-serials-low : (x .serial < 256 ^ 8) × (x .copied < 256 ^ 8)
   header-serials-low = (
@@ -261,12 +264,12 @@ module _ (p : Params) (v : View) (d : ℕ) (lo : Loss p v d) (g : ℕ) (m : In g
 
   -- drive 0's header, read back
   pub head-serial : headerSerial (headerAt u 0 g) ≡ x .serial
-  unfolding headerAt chunkAt zoneOn
-  head-serial = ap (λ (c : Chunk). headerSerial (c .block)) (header-of 0 (omega (arith, r .drives-low))) ∙ header-serial p 0 g (x .serial) (x .copied) (header-serials-low .0)
+  unfolding headerAt chunkAt
+  head-serial = ap (λ (c : Chunk). headerSerial (c .block)) (header-of 0 (omega (arith, r .drives-low))) ∙ header-serial p 0 (zoneOn g 0) (x .serial) (x .copied) (header-serials-low .0)
 
   pub head-copied : headerCopied (headerAt u 0 g) ≡ x .copied
-  unfolding headerAt chunkAt zoneOn
-  head-copied = ap (λ (c : Chunk). headerCopied (c .block)) (header-of 0 (omega (arith, r .drives-low))) ∙ header-copied p 0 g (x .serial) (x .copied) (header-serials-low .1)
+  unfolding headerAt chunkAt
+  head-copied = ap (λ (c : Chunk). headerCopied (c .block)) (header-of 0 (omega (arith, r .drives-low))) ∙ header-copied p 0 (zoneOn g 0) (x .serial) (x .copied) (header-serials-low .1)
 
   pub rebuilt-serial : y .serial ≡ x .serial
   rebuilt-serial = serial-is p u 0 g ∙ ap (λ (e : ℕ). headerSerial (headerAt u e g)) (low-first p r) ∙ head-serial

@@ -10,7 +10,7 @@ use native.Mathlib.Omega.{arith}
 use lib.ListN.{length, getD, length-append, length-map, List·getD-append}
 use lib.Seq.{getD-append-add}
 use Rattle.spec.specs.declared.Params.{Params}
-use Rattle.spec.specs.Drives.{Chunk, mkChunk, noChunk, Zone, View, zoneAt, pointerAt, Store, resetZone, storeView, storeAll, dataStored, zeroSpare}
+use Rattle.spec.specs.Drives.{Chunk, mkChunk, noChunk, Zone, View, zoneAt, pointerAt, Store, resetZone, storeView, storeAll, dataStored, zeroSpare, Seg, zoneOn}
 use Rattle.spec.specs.Drives.Store.{reset}
 use Rattle.spec.specs.Layout.{headerBlock, mkRec, recordBytes, footerBlock}
 use Rattle.spec.specs.Lists.{below, isIn}
@@ -21,6 +21,7 @@ use Rattle.spec.specs.Segments.{Segment, segmentOf, segments, counted, pieceOf}
 use Rattle.law_basic.specs.Geometry.{Ranged}
 use Rattle.law_basic.specs.Mask.{isIn-only}
 use Rattle.law_basic.specs.Ranges.{length-below, getD-map, getD-map-below}
+use Rattle.law_basic.specs.Segs.{Named, zone-on-lt}
 use Rattle.law_drives.specs.Accept.{Accepted}
 use Rattle.law_drives.specs.Masks.{named-in}
 use Rattle.law_drives.specs.Puts.{putAll, puts-pointer, puts-new}
@@ -78,29 +79,29 @@ module _ (p : Params) (v : View) (d : ℕ) (lo : Loss p v d) where
   unfolding rebuiltView
   present-zone-same e z he hz q = sym (rebuild-agrees p r v sh d hd drive-lost e z he hz q)
 
-  zone-by-stores : (z : ℕ) → z < p .Z → zoneAt u d z ≡ storeAll zoneStore (cond (remains p v gone z) (rebuiltZone p d (segmentOf p v gone z)) []) (resetZone (zoneAt v d z))
+  zone-by-stores : (z : Seg) → Named p z → zoneAt u d (zoneOn z d) ≡ storeAll zoneStore (cond (remains p v gone z) (rebuiltZone p d (segmentOf p v gone z)) []) (resetZone (zoneAt v d (zoneOn z d)))
   unfolding rebuiltView
   zone-by-stores z hz =
-      zone-after p v d z (rebuildStores p d (segments p v gone)) (sh .sized) hd hz
-      ∙ ap (λ (l : List Store). storeAll zoneStore l (zoneAt v d z)) (hits-here p r v sh d hd drive-lost z hz)
-      ∙ first (cond (remains p v gone z) (rebuiltZone p d (segmentOf p v gone z)) []) (zoneAt v d z)
+      zone-after p v d (zoneOn z d) (rebuildStores p d (segments p v gone)) (sh .sized) hd (zone-on-lt p z d hz)
+      ∙ ap (λ (l : List Store). storeAll zoneStore l (zoneAt v d (zoneOn z d))) (hits-here p r v sh d hd drive-lost z hz)
+      ∙ first (cond (remains p v gone z) (rebuiltZone p d (segmentOf p v gone z)) []) (zoneAt v d (zoneOn z d))
     where
-      first : (l : List Store) (q : Zone) → storeAll zoneStore (reset d z ∷ l) q ≡ storeAll zoneStore l (resetZone q)
+      first : (l : List Store) (q : Zone) → storeAll zoneStore (reset d (zoneOn z d) ∷ l) q ≡ storeAll zoneStore l (resetZone q)
       first l q = unfold storeAll zoneStore in refl
 
   -- a zone whose segment doesn't remain
-  pub zone-dropped : (z : ℕ) → z < p .Z → remains p v gone z ≡ false → pointerAt u d z ≡ 0
+  pub zone-dropped : (z : Seg) → Named p z → remains p v gone z ≡ false → pointerAt u d (zoneOn z d) ≡ 0
   unfolding pointerAt
   zone-dropped z hz q =
-      ap (λ (y : Zone). y .pointer) (zone-by-stores z hz) ∙ ap (λ (b : Bool). storeAll zoneStore (cond b (rebuiltZone p d (segmentOf p v gone z)) []) (resetZone (zoneAt v d z)) .pointer) q
-      ∙ nothing (zoneAt v d z)
+      ap (λ (y : Zone). y .pointer) (zone-by-stores z hz) ∙ ap (λ (b : Bool). storeAll zoneStore (cond b (rebuiltZone p d (segmentOf p v gone z)) []) (resetZone (zoneAt v d (zoneOn z d))) .pointer) q
+      ∙ nothing (zoneAt v d (zoneOn z d))
     where
       nothing : (y : Zone) → storeAll zoneStore [] (resetZone y) .pointer ≡ 0
       nothing y = unfold storeAll resetZone in refl
 
   -- ---- the zone of a segment that remains
 
-  module _ (g : ℕ) (hg : g < p .Z) (rm : remains p v gone g ≡ true) where
+  module _ (g : Seg) (hg : Named p g) (rm : remains p v gone g ≡ true) where
     abbrev x : Segment
     x = segmentOf p v gone g
 
@@ -121,7 +122,7 @@ module _ (p : Params) (v : View) (d : ℕ) (lo : Loss p v d) where
     feet = map (λ i. mkChunk (footerBlock p sparesLost i) zeroSpare) (below (footers p))
 
     abbrev first : Chunk
-    first = mkChunk (headerBlock p d g (x .serial) (x .copied)) zeroSpare
+    first = mkChunk (headerBlock p d (zoneOn g d) (x .serial) (x .copied)) zeroSpare
 
     zone-chunks-are : (b : Bool) → x .full ≡ b → chunks ≡ first ∷ (map pieceChunk pieces ++ cond b feet [])
     unfolding rebuilt-chunks
@@ -146,67 +147,67 @@ module _ (p : Params) (v : View) (d : ℕ) (lo : Loss p v d) where
         go true e = let a = zone-chunks-long true e in let f = feet-long in let c = capacity-is p r in let n = few in omega arith
         go false e = let a : length chunks ≡ suc (length ss + 0) = zone-chunks-long false e in let c = capacity-over p r in let n = few in omega arith
 
-    rebuilt-zone : zoneAt u d g ≡ putAll d g chunks (resetZone (zoneAt v d g))
+    rebuilt-zone : zoneAt u d (zoneOn g d) ≡ putAll d (zoneOn g d) chunks (resetZone (zoneAt v d (zoneOn g d)))
     rebuilt-zone =
         zone-by-stores g hg
-        ∙ ap (λ (b : Bool). storeAll zoneStore (cond b (rebuiltZone p d x) []) (resetZone (zoneAt v d g))) rm
-        ∙ ap (λ (l : List Store). storeAll zoneStore l (resetZone (zoneAt v d g))) (rebuilt-is p r v sh d g hg hd drive-lost)
+        ∙ ap (λ (b : Bool). storeAll zoneStore (cond b (rebuiltZone p d x) []) (resetZone (zoneAt v d (zoneOn g d)))) rm
+        ∙ ap (λ (l : List Store). storeAll zoneStore l (resetZone (zoneAt v d (zoneOn g d)))) (rebuilt-is p r v sh d g hg hd drive-lost)
 
     reset-zero : (y : Zone) → resetZone y .pointer ≡ 0
     unfolding resetZone
     reset-zero y = refl
 
-    reset-long : length (resetZone (zoneAt v d g) .blocks) ≡ capacity p
+    reset-long : length (resetZone (zoneAt v d (zoneOn g d)) .blocks) ≡ capacity p
     unfolding resetZone
-    reset-long = sh .zone-ok d g hd hg .blocks-long
+    reset-long = sh .zone-ok d (zoneOn g d) hd (zone-on-lt p g d hg) .blocks-long
 
-    pointer-long : zoneAt u d g .pointer ≡ length chunks
+    pointer-long : zoneAt u d (zoneOn g d) .pointer ≡ length chunks
     pointer-long =
-        ap (λ (y : Zone). y .pointer) rebuilt-zone ∙ puts-pointer d g chunks (resetZone (zoneAt v d g))
-        ∙ ap (λ (n : ℕ). n + length chunks) (reset-zero (zoneAt v d g)) ∙ zero-add (length chunks)
+        ap (λ (y : Zone). y .pointer) rebuilt-zone ∙ puts-pointer d (zoneOn g d) chunks (resetZone (zoneAt v d (zoneOn g d)))
+        ∙ ap (λ (n : ℕ). n + length chunks) (reset-zero (zoneAt v d (zoneOn g d))) ∙ zero-add (length chunks)
 
-    rebuilt-chunk : (i : ℕ) → i < length chunks → getD (zoneAt u d g .blocks) i noChunk ≡ getD chunks i noChunk
+    rebuilt-chunk : (i : ℕ) → i < length chunks → getD (zoneAt u d (zoneOn g d) .blocks) i noChunk ≡ getD chunks i noChunk
     rebuilt-chunk i h =
-        let y = resetZone (zoneAt v d g) in
-        let z : y .pointer ≡ 0 = reset-zero (zoneAt v d g) in
+        let y = resetZone (zoneAt v d (zoneOn g d)) in
+        let z : y .pointer ≡ 0 = reset-zero (zoneAt v d (zoneOn g d)) in
         let l = chunks-low in
         let k = reset-long in
         ap (λ (q : Zone). getD (q .blocks) i noChunk) rebuilt-zone
-        ∙ ap (λ (n : ℕ). getD (putAll d g chunks y .blocks) n noChunk) (let e : i ≡ y .pointer + i = omega arith in e)
-        ∙ puts-new d g chunks y i h (omega arith)
+        ∙ ap (λ (n : ℕ). getD (putAll d (zoneOn g d) chunks y .blocks) n noChunk) (let e : i ≡ y .pointer + i = omega arith in e)
+        ∙ puts-new d (zoneOn g d) chunks y i h (omega arith)
 
     -- the pointer
-    pub rebuilt-low : zoneAt u d g .pointer ≤ capacity p
+    pub rebuilt-low : zoneAt u d (zoneOn g d) .pointer ≤ capacity p
     rebuilt-low = subst (λ (n : ℕ). n ≤ capacity p) (sym pointer-long) chunks-low
 
-    pub rebuilt-open : x .full ≡ false → zoneAt u d g .pointer ≡ suc (length ss)
+    pub rebuilt-open : x .full ≡ false → zoneAt u d (zoneOn g d) .pointer ≡ suc (length ss)
     rebuilt-open e = pointer-long ∙ zone-chunks-long false e ∙ (let z : suc (length ss + 0) ≡ suc (length ss) = omega arith in z)
 
     pub rebuilt-full : x .full ≡ true
-        → zoneAt u d g .pointer ≡ suc (length ss + footers p)
+        → zoneAt u d (zoneOn g d) .pointer ≡ suc (length ss + footers p)
     rebuilt-full e = pointer-long ∙ zone-chunks-long true e ∙ ap (λ (n : ℕ). suc (length ss + n)) feet-long
 
-    pub rebuilt-some : 1 ≤ zoneAt u d g .pointer
+    pub rebuilt-some : 1 ≤ zoneAt u d (zoneOn g d) .pointer
     rebuilt-some = go (x .full) refl
       where
-        go : (b : Bool) → x .full ≡ b → 1 ≤ zoneAt u d g .pointer
+        go : (b : Bool) → x .full ≡ b → 1 ≤ zoneAt u d (zoneOn g d) .pointer
         go b e = let a = pointer-long in let c = zone-chunks-long b e in omega arith
 
     -- its blocks
-    pub rebuilt-header : getD (zoneAt u d g .blocks) 0 noChunk ≡ mkChunk (headerBlock p d g (x .serial) (x .copied)) zeroSpare
+    pub rebuilt-header : getD (zoneAt u d (zoneOn g d) .blocks) 0 noChunk ≡ mkChunk (headerBlock p d (zoneOn g d) (x .serial) (x .copied)) zeroSpare
     rebuilt-header =
         let a = zone-chunks-long (x .full) refl in
         rebuilt-chunk 0 (omega arith) ∙ ap (λ (l : List Chunk). getD l 0 noChunk) (zone-chunks-are (x .full) refl)
 
     after-first : (b : Bool) → x .full ≡ b → (i : ℕ) → i < length ss + length (cond b feet [])
-        → getD (zoneAt u d g .blocks) (1 + i) noChunk ≡ getD (map pieceChunk pieces ++ cond b feet []) i noChunk
+        → getD (zoneAt u d (zoneOn g d) .blocks) (1 + i) noChunk ≡ getD (map pieceChunk pieces ++ cond b feet []) i noChunk
     after-first b e i h =
         let a = zone-chunks-long b e in
         rebuilt-chunk (1 + i) (omega arith) ∙ ap (λ (l : List Chunk). getD l (1 + i) noChunk) (zone-chunks-are b e)
         ∙ ap (λ (n : ℕ). getD (first ∷ (map pieceChunk pieces ++ cond b feet [])) n noChunk) (let z : 1 + i ≡ suc i = omega arith in z)
 
     pub rebuilt-piece : (j : ℕ) → j < length ss
-        → getD (zoneAt u d g .blocks) (1 + j) noChunk
+        → getD (zoneAt u d (zoneOn g d) .blocks) (1 + j) noChunk
         ≡ pieceChunk (pieceOf p gone x (getD ss j 0) d)
     rebuilt-piece j h =
         let none! : Piece = mkPiece [] (mkRec 0 0 0) in
@@ -217,16 +218,16 @@ module _ (p : Params) (v : View) (d : ℕ) (lo : Loss p v d) where
         ∙ getD-map pieceChunk pieces j noChunk none! l2 ∙ ap pieceChunk (getD-map (λ s. pieceOf p gone x s d) ss j none! 0 h)
 
     pub rebuilt-foot : x .full ≡ true → length ss ≡ p .S → (i : ℕ) → i < footers p
-        → getD (zoneAt u d g .blocks) (1 + p .S + i) noChunk ≡ mkChunk (footerBlock p sparesLost i) zeroSpare
+        → getD (zoneAt u d (zoneOn g d) .blocks) (1 + p .S + i) noChunk ≡ mkChunk (footerBlock p sparesLost i) zeroSpare
     rebuilt-foot e n i h =
         let f = feet-long in
         let l = pieces-long in
-        ap (λ (k : ℕ). getD (zoneAt u d g .blocks) k noChunk) (let z : 1 + p .S + i ≡ 1 + (length (map pieceChunk pieces) + i) = omega arith in z)
+        ap (λ (k : ℕ). getD (zoneAt u d (zoneOn g d) .blocks) k noChunk) (let z : 1 + p .S + i ≡ 1 + (length (map pieceChunk pieces) + i) = omega arith in z)
         ∙ after-first true e (length (map pieceChunk pieces) + i) (let z : length (map pieceChunk pieces) + i < length ss + length feet = omega arith in z)
         ∙ getD-append-add (map pieceChunk pieces) feet i noChunk ∙ getD-map-below (λ i. mkChunk (footerBlock p sparesLost i) zeroSpare) (footers p) i noChunk h
 
     -- its data blocks are the counted ones
-    pub rebuilt-stored : dataStored p (zoneAt u d g) ≡ length ss
+    pub rebuilt-stored : dataStored p (zoneAt u d (zoneOn g d)) ≡ length ss
     rebuilt-stored = go (x .full) refl
       where
         min-is : (y : Zone) (n : ℕ) → y .pointer ≡ suc n → n ≤ p .S → dataStored p y ≡ n
@@ -235,6 +236,6 @@ module _ (p : Params) (v : View) (d : ℕ) (lo : Loss p v d) where
         min-over : (y : Zone) (n k : ℕ) → y .pointer ≡ suc (n + k) → n ≡ p .S → dataStored p y ≡ n
         min-over y n k e l = unfold dataStored in omega arith
 
-        go : (b : Bool) → x .full ≡ b → dataStored p (zoneAt u d g) ≡ length ss
-        go true e = min-over (zoneAt u d g) (length ss) (footers p) (rebuilt-full e) (sealed-all p r v gone (lo .accepts) g (in-remaining p v gone g hg rm) (sym (full-is p v gone g) ∙ e))
-        go false e = min-is (zoneAt u d g) (length ss) (rebuilt-open e) few
+        go : (b : Bool) → x .full ≡ b → dataStored p (zoneAt u d (zoneOn g d)) ≡ length ss
+        go true e = min-over (zoneAt u d (zoneOn g d)) (length ss) (footers p) (rebuilt-full e) (sealed-all p r v gone (lo .accepts) g (in-remaining p v gone g hg rm) (sym (full-is p v gone g) ∙ e))
+        go false e = min-is (zoneAt u d (zoneOn g d)) (length ss) (rebuilt-open e) few

@@ -9,7 +9,7 @@ use lib.Dec.{lit<}
 use Rattle.spec.specs.declared.Params.{Params}
 use Rattle.spec.specs.Counts.{neverPlace}
 use Rattle.spec.specs.Demands.{saidBlock}
-use Rattle.spec.specs.Drives.{View, zoneAt, chunkAt, Disk, zoneOn, placeSegment, sealedIn, recordIn, recordAt}
+use Rattle.spec.specs.Drives.{View, zoneAt, chunkAt, Disk, zoneOn, sealedIn, recordIn, recordAt}
 use Rattle.spec.specs.Engine.{lentOk}
 use Rattle.spec.specs.History.Seen.{got}
 use Rattle.spec.specs.Lists.{Opt, any, consIf, isNil, firstOr, isIn}
@@ -30,7 +30,7 @@ use Rattle.law_views.specs.Views.{seen}
 use Rattle.law_drives.specs.Best.{best-in}
 use Rattle.law_drives.specs.Members.{In, map-in, in-none}
 use Rattle.law_drives.specs.Segs.{present-in, zone-by, ChunkAt, chunk-at, CandAt, cand-at, in-present}
-use Rattle.law_drives.specs.Spots.{Spot, counts-in, spot-of, spot-block, spot-drive, spot-low, spot-faults, InGroups, shown-first, cand-offset, cand-zone}
+use Rattle.law_drives.specs.Spots.{Spot, counts-in, spot-of, spot-block, spot-drive, spot-low, spot-faults, InGroups, shown-first, cand-offset, cand-segment}
 use Rattle.law_drives.specs.Tables.{place-at, remains}
 use Rattle.law_drives.specs.Tests.{cond-true, cond-false}
 use Rattle.law_drives.specs.Zones.{Shaped}
@@ -114,20 +114,20 @@ module _ (p : Params) (r : Ranged p) (v : View) (gone : ℕ) where
 
     -- what a read of a present drive gives is what the drives say
     pub said-here : isIn gone (c .drive) ≡ false → saidBlock p v gone (some c) ≡ got (readPiece p v gone (compactTable p (segments p v gone)) (here (c .place)) .block)
-    unfolding saidBlock readPiece storedAt placeSegment recordAt zoneOn pieceOf storedPiece chunkAt
+    unfolding saidBlock readPiece storedAt recordAt pieceOf storedPiece chunkAt
     said-here b =
         let g = k .of in
         let d = c .drive in
         let x = segmentOf p v gone g in
         let o = offsetOn x d (k .stripe) in
         let eo : c .offset ≡ o = offset-here b in
-        let es : recordIn p (sealedIn p v gone g) (zoneAt v d g) (c .offset) .stripe ≡ k .stripe =
-        ap (λ (y : ℕ). recordIn p (sealedIn p v gone g) (zoneAt v d g) y .stripe) eo ∙ its-chunk b .its-stripe in
+        let es : recordIn p (sealedIn p v gone g) (zoneAt v d (zoneOn g d)) (c .offset) .stripe ≡ k .stripe =
+        ap (λ (y : ℕ). recordIn p (sealedIn p v gone g) (zoneAt v d (zoneOn g d)) y .stripe) eo ∙ its-chunk b .its-stripe in
         let eb : placeBlock p (c .place) - 1 ≡ o = ap (λ (y : ℕ). y - 1) (spot-block p r v gone c t) ∙ (let z : 1 + c .offset - 1 ≡ c .offset = omega arith in z) ∙ eo in
-        rw (b, cand-zone p r v gone c k t, es, spot-drive p r v gone c t, eb, zone-by p v gone g d (t .drive-low))
+        rw (b, cand-segment p r v gone c k t, es, spot-drive p r v gone c t, eb, zone-by p v gone g d (t .drive-low))
 
     block-of-shown : InGroups p v gone → (d : ℕ) → In d (present p gone)
-        → storedAt p v gone d (k .of) (firstOr 0 (shownAt p v (compactTable p (segments p v gone)) d (k .of) (k .stripe))) .block
+        → storedAt p v gone d (k .of) (firstOr 0 (shownAt p v (compactTable p (segments p v gone)) d (zoneOn (k .of) d) (k .stripe))) .block
         ≡ storedPiece (segmentOf p v gone (k .of)) (k .stripe) d .block
     unfolding storedAt storedPiece chunkAt
     block-of-shown w d i =
@@ -138,17 +138,17 @@ module _ (p : Params) (r : Ranged p) (v : View) (gone : ℕ) where
 
     pub said-away : InGroups p v gone → isIn gone (c .drive) ≡ true
         → saidBlock p v gone (some c) ≡ got (readPiece p v gone (compactTable p (segments p v gone)) (away (c .place)) .block)
-    unfolding saidBlock readPiece placeSegment
+    unfolding saidBlock readPiece
     said-away w b =
         let eo : c .offset ≡ k .stripe = offset-away b in
         let eb : placeBlock p (c .place) - 1 ≡ k .stripe = ap (λ (y : ℕ). y - 1) (spot-block p r v gone c t) ∙ (let z : 1 + c .offset - 1 ≡ c .offset = omega arith in z) ∙ eo in
-        rw (b, cand-zone p r v gone c k t, eo, eb, spot-drive p r v gone c t) (ap got (same w b))
+        rw (b, cand-segment p r v gone c k t, eo, eb, spot-drive p r v gone c t) (ap got (same w b))
       where
         x : Segment
         x = segmentOf p v gone (k .of)
 
         at : ℕ → Piece
-        at d = storedAt p v gone d (k .of) (firstOr 0 (shownAt p v (compactTable p (segments p v gone)) d (k .of) (k .stripe)))
+        at d = storedAt p v gone d (k .of) (firstOr 0 (shownAt p v (compactTable p (segments p v gone)) d (zoneOn (k .of) d) (k .stripe)))
 
         read! : decodedAt p v gone (compactTable p (segments p v gone)) (c .drive) (k .of) (k .stripe) ≡ decodePiece p gone (k .stripe) (c .drive) at
         read! = unfold decodedAt in refl
@@ -167,13 +167,13 @@ module _ (p : Params) (r : Ranged p) (v : View) (gone : ℕ) where
         let g = k .of in
         let tb = compactTable p (segments p v gone) in
         let eb : placeBlock p (c .place) - 1 ≡ k .stripe = ap (λ (y : ℕ). y - 1) (spot-block p r v gone c t) ∙ (let z : 1 + c .offset - 1 ≡ c .offset = omega arith in z) ∙ offset-away b in
-        let q : any isNil (map (λ d. shownAt p v tb d g (k .stripe)) (present p gone)) ≡ false =
-        in-none isNil (map (λ d. shownAt p v tb d g (k .stripe)) (present p gone))
+        let q : any isNil (map (λ d. shownAt p v tb d (zoneOn g d) (k .stripe)) (present p gone)) ≡ false =
+        in-none isNil (map (λ d. shownAt p v tb d (zoneOn g d) (k .stripe)) (present p gone))
         (λ l m.
-        let (d, i, e) = map-in (λ d. shownAt p v tb d g (k .stripe)) (present p gone) l m in
+        let (d, i, e) = map-in (λ d. shownAt p v tb d (zoneOn g d) (k .stripe)) (present p gone) l m in
         let (hd, pr) = present-in p gone d i in
         ap isNil e ∙ shown-first p r v gone w g d (k .stripe) (k .remains) hd pr (counts-in p gone (segmentOf p v gone g) (k .stripe) d (k .it-counts) hd pr) .1) in
-        rw (cand-zone p r v gone c k t, eb, q)
+        rw (cand-segment p r v gone c k t, eb, q)
 
   -- no decode that is found is bad
   pub decodes-clear : (o : Opt Cand) (f : Found) → Decodes p v gone → FindsAt p v gone o f → decodeFaults p v gone (compactTable p (segments p v gone)) f ≡ []

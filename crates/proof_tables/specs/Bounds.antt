@@ -5,7 +5,7 @@ use Prim.Native.Nat.{ℕ, _+_, _*_, _≤_, _<_}
 use native.Mathlib.Omega.{arith}
 use Rattle.spec.specs.declared.Params.{Params}
 use Rattle.spec.specs.declared.State.{State}
-use Rattle.spec.specs.Drives.{Zone, View, pointerAt, recordIn}
+use Rattle.spec.specs.Drives.{Zone, View, pointerAt, recordIn, Seg, zoneOn}
 use Rattle.spec.specs.Layout.{group, Rec}
 use Rattle.spec.specs.Lists.{tally}
 use Rattle.spec.specs.Memory.{slots, stripeIn, offsetIn}
@@ -19,12 +19,12 @@ use Rattle.proof_tables.specs.Run.{flies, awaits, SlotFlies, OpenZone}
 
 -- ---- the open segment, where its zones are the same
 
-module _ (p : Params) (v u : View) (st : State) (z : ℕ) (sm : SameZones p v u z) where
-  pointer-carried : (d : ℕ) → d < p .N → pointerAt v d z ≡ pointerAt u d z
+module _ (p : Params) (v u : View) (st : State) (z : Seg) (sm : SameZones p v u z) where
+  pointer-carried : (d : ℕ) → d < p .N → pointerAt v d (zoneOn z d) ≡ pointerAt u d (zoneOn z d)
   unfolding pointerAt
   pointer-carried d h = ap (λ (x : Zone). x .pointer) (sm d h)
 
-  at-spare : (d o : ℕ) → d < p .N → spareAt p v d z o ≡ spareAt p u d z o
+  at-spare : (d o : ℕ) → d < p .N → spareAt p v d (zoneOn z d) o ≡ spareAt p u d (zoneOn z d) o
   at-spare d o h = ap (λ (x : Zone). recordIn p false x o) (sm d h)
 
   flight-view : (i : ℕ) → SlotFlies p v st z i → SlotFlies p u st z i
@@ -56,5 +56,5 @@ module _ (p : Params) (v u : View) (st : State) (z : ℕ) (sm : SameZones p v u 
   }
 
 -- the pointers of the open segment are at data blocks
-pub open-short : (p : Params) (r : Ranged p) (v : View) (st : State) (z : ℕ) → StateOk p st → OpenZone p v st (flies st) z → (d : ℕ) → d < p .N → pointerAt v d z < capacity p
+pub open-short : (p : Params) (r : Ranged p) (v : View) (st : State) (z : Seg) → StateOk p st → OpenZone p v st (flies st) z → (d : ℕ) → d < p .N → pointerAt v d (zoneOn z d) < capacity p
 open-short p r v st z so o d h = let c = o .count d h in let n = so .next-low in let l = capacity-over p r in omega arith

@@ -9,7 +9,7 @@ use native.Mathlib.Omega.{arith}
 use lib.Dec.{eqb}
 use Rattle.spec.specs.declared.Params.{Params}
 use Rattle.spec.specs.declared.State.{State}
-use Rattle.spec.specs.Drives.{View, pointerAt}
+use Rattle.spec.specs.Drives.{View, pointerAt, Seg, zoneOn}
 use Rattle.spec.specs.Layout.{dataPosition, isData, group, Rec}
 use Rattle.spec.specs.Lists.{isIn}
 use Rattle.spec.specs.Memory.{slots, stripeIn, filledIn, landedIn, entryIn, offsetIn, setStamp, beginStripe, addEntry}
@@ -36,24 +36,24 @@ pub record CarriedSlot (st su : State) (i : ℕ) : Type 0 where
 abbrev pub SameSlots : State → State → Type 0
 SameSlots st su = (i : ℕ) → CarriedSlot st su i
 
-module _ (p : Params) (v : View) (st su : State) (z : ℕ) where
+module _ (p : Params) (v : View) (st su : State) (z : Seg) where
   landed-same : (i d : ℕ) → CarriedSlot st su i → LandedAt p v st z i d → LandedAt p v su z i d
   landed-same i d s l = record {
-    lies = subst (λ (x : ℕ). 1 + x < pointerAt v d z) (s .same-offsets d) (l .lies);
-    of-stripe = ap (λ (x : ℕ). spareAt p v d z x .stripe) (sym (s .same-offsets d)) ∙ l .of-stripe ∙ s .same-stripe;
+    lies = subst (λ (x : ℕ). 1 + x < pointerAt v d (zoneOn z d)) (s .same-offsets d) (l .lies);
+    of-stripe = ap (λ (x : ℕ). spareAt p v d (zoneOn z d) x .stripe) (sym (s .same-offsets d)) ∙ l .of-stripe ∙ s .same-stripe;
     not-before = λ o h q. l .not-before o (subst (λ (x : ℕ). o < x) (sym (s .same-offsets d)) h) (q ∙ sym (s .same-stripe));
     is-entry = λ q.
         let (x, y) = l .is-entry (ap (λ (n : ℕ). isData p n d) (s .same-stripe) ∙ q) in
         let e : dataPosition p (stripeIn st i) d ≡ dataPosition p (stripeIn su i) d = ap (λ (n : ℕ). dataPosition p n d) (s .same-stripe) in (
           subst (λ (n : ℕ). n < filledIn su i) e (subst (λ (n : ℕ). dataPosition p (stripeIn st i) d < n) (s .same-filled) x),
-          ap (spareAt p v d z) (sym (s .same-offsets d)) ∙ y ∙ ap (entryIn st i) e ∙ s .same-entry (dataPosition p (stripeIn su i) d),
+          ap (spareAt p v d (zoneOn z d)) (sym (s .same-offsets d)) ∙ y ∙ ap (entryIn st i) e ∙ s .same-entry (dataPosition p (stripeIn su i) d),
         );
   }
 
   pub flight-same : (i : ℕ) → CarriedSlot st su i → SlotFlies p v st z i → SlotFlies p v su z i
   flight-same i s f = record {
     begun = subst (λ (x : ℕ). x < su .next) (s .same-stripe) (subst (λ (x : ℕ). stripeIn st i < x) (s .same-next) (f .begun));
-    group-low = subst (λ (x : ℕ). (d : ℕ) → d < p .N → group p x * p .G < pointerAt v d z) (s .same-stripe) (f .group-low);
+    group-low = subst (λ (x : ℕ). (d : ℕ) → d < p .N → group p x * p .G < pointerAt v d (zoneOn z d)) (s .same-stripe) (f .group-low);
     group-high = subst (λ (x : ℕ). su .next ≤ suc (group p x) * p .G) (s .same-stripe) (subst (λ (x : ℕ). x ≤ suc (group p (stripeIn st i)) * p .G) (s .same-next) (f .group-high));
     not-there = λ d o hd q x y. f .not-there d o hd (ap (λ (n : ℕ). isIn n d) (s .same-landed) ∙ q) x (y ∙ sym (s .same-stripe));
     lands = λ d hd q. landed-same i d s (f .lands d hd (ap (λ (n : ℕ). isIn n d) (s .same-landed) ∙ q));
@@ -65,11 +65,11 @@ module _ (p : Params) (v : View) (st su : State) (z : ℕ) where
     opened-zone = o .opened-zone;
     has-header = o .has-header;
     count =
-        λ d h. ap (λ (x : ℕ). pointerAt v d z + x)
+        λ d h. ap (λ (x : ℕ). pointerAt v d (zoneOn z d) + x)
         (sym (tally-cong (awaits st busy d) (awaits su busy d) slots (λ i m. ap (λ (n : ℕ). busy i && not (isIn n d)) (s i .same-landed))))
         ∙ o .count d h
         ∙ ap suc (s 0 .same-next);
-    below-next = λ d e h q. subst (λ (x : ℕ). spareAt p v d z e .stripe < x) (s 0 .same-next) (o .below-next d e h q);
+    below-next = λ d e h q. subst (λ (x : ℕ). spareAt p v d (zoneOn z d) e .stripe < x) (s 0 .same-next) (o .below-next d e h q);
     flight = λ i h q. flight-same i (s i) (o .flight i h q);
     once = λ i j hi hj a b e. o .once i j hi hj a b (s i .same-stripe ∙ e ∙ sym (s j .same-stripe));
     goes-on = λ q. o .goes-on (s 0 .same-next ∙ q);
@@ -78,7 +78,7 @@ module _ (p : Params) (v : View) (st su : State) (z : ℕ) where
 pub same-flies : (st su : State) → SameSlots st su → (i : ℕ) → flies st i ≡ flies su i
 same-flies st su s i = ap not (free-is st i ∙ ap (λ (x : ℕ). eqb x 0) (s i .same-filled) ∙ sym (free-is su i))
 
-pub open-carried : (p : Params) (v : View) (st su : State) (z : ℕ) → SameSlots st su → OpenZone p v st (flies st) z → OpenZone p v su (flies su) z
+pub open-carried : (p : Params) (v : View) (st su : State) (z : Seg) → SameSlots st su → OpenZone p v st (flies st) z → OpenZone p v su (flies su) z
 open-carried p v st su z s o = busy-same p v su (flies st) (flies su) z (λ i h. same-flies st su s i) (open-zone-carried p v st su z s (flies st) o)
 
 -- ---- another stamp
@@ -90,7 +90,7 @@ stamp-slots st t i = record { same-stripe = refl; same-filled = refl; same-lande
 pub stamp-healthy : (p : Params) (v : View) (st : State) (t : ℕ) → t < 256 ^ 8 → HealthyState p v st → HealthyState p v (setStamp st t)
 stamp-healthy p v st t ht h = record {
   tidy = subst (λ (x : ℕ). Tidy p v x) (sym serial-same) (h .tidy);
-  sealed-but = λ z hz q. subst (λ (x : ℕ). (x ≡ suc z) ⊎ ((d : ℕ) → d < p .N → pointerAt v d z ≡ capacity p)) (sym opened-same) (h .sealed-but z hz q);
+  sealed-but = λ z hz q. subst (λ (x : ℕ). (x ≡ suc (z .name)) ⊎ ((d : ℕ) → d < p .N → pointerAt v d (zoneOn z d) ≡ capacity p)) (sym opened-same) (h .sealed-but z hz q);
   opens-at = λ z q. open-carried p v st (setStamp st t) z (stamp-slots st t) (h .opens-at z (sym opened-same ∙ q));
   shut = λ q i hi. sym (same-flies st (setStamp st t) (stamp-slots st t) i) ∙ h .shut (sym opened-same ∙ q) i hi;
   serial-fits = subst (λ (x : ℕ). x < 256 ^ 8) (sym serial-same) (h .serial-fits);
@@ -132,14 +132,15 @@ stamp-ok p st t s = record {
 
 -- ---- a stripe begins, with its first entry
 
-pub begin-healthy : (p : Params) (r : Ranged p) (v : View) (st : State) (z i a t w : ℕ) → HealthyState p v st → StateOk p st → st .opened ≡ suc z → i < 8 → flies st i ≡ false → st .next < p .S
+pub begin-healthy : (p : Params) (r : Ranged p) (v : View) (st : State) (z : Seg) (i a t w : ℕ) → HealthyState p v st → StateOk p st → st .opened ≡ suc (z .name) → i < 8 → flies st i ≡ false
+    → st .next < p .S
     → ((j : ℕ) → j < 8 → flies st j ≡ true → group p (stripeIn st j) ≡ group p (st .next)) → a < 256 ^ 8 → t < 256 ^ 8
     → HealthyState p v (addEntry (beginStripe st i) i a t w)
 begin-healthy p r v st z i a t w h so op hi fi nx gr ha ht = record {
   tidy = subst (λ (x : ℕ). Tidy p v x) (sym serial-same) (h .tidy);
-  sealed-but = λ y hy q. subst (λ (x : ℕ). (x ≡ suc y) ⊎ ((d : ℕ) → d < p .N → pointerAt v d y ≡ capacity p)) (sym opened-same) (h .sealed-but y hy q);
+  sealed-but = λ y hy q. subst (λ (x : ℕ). (x ≡ suc (y .name)) ⊎ ((d : ℕ) → d < p .N → pointerAt v d (zoneOn y d) ≡ capacity p)) (sym opened-same) (h .sealed-but y hy q);
   opens-at = λ y q. opened-at y (sym opened-same ∙ q);
-  shut = λ q. absurd (let x : suc z ≡ 0 = sym op ∙ sym opened-same ∙ q in let y : ⊥ = omega arith in y);
+  shut = λ q. absurd (let x : suc (z .name) ≡ 0 = sym op ∙ sym opened-same ∙ q in let y : ⊥ = omega arith in y);
   serial-fits = subst (λ (x : ℕ). x < 256 ^ 8) (sym serial-same) (h .serial-fits);
   stamp-fits = subst (λ (x : ℕ). x < 256 ^ 8) (sym stamp-same) (h .stamp-fits);
   lists = add-lists (beginStripe st i) (begin-lists st (h .lists) i hi) i hi a t w;
@@ -180,7 +181,7 @@ begin-healthy p r v st z i a t w h so op hi fi nx gr ha ht = record {
             (sym (add-filled-other su (begin-lists st (h .lists) i hi) i hi a t w j n ∙ begin-filled-other st (h .lists) i hi j n))
             ∙ sym (free-is sw j))
 
-    opened-at : (y : ℕ) → st .opened ≡ suc y → OpenZone p v sw (flies sw) y
+    opened-at : (y : Seg) → st .opened ≡ suc (y .name) → OpenZone p v sw (flies sw) y
     opened-at y q =
         let o = h .opens-at y q in
         let b : OpenZone p v su more! y = begin-open p r v st (h .lists) (flies st) y i hi fi nx gr o in

@@ -17,22 +17,24 @@ use lib.Arith.{digits-div, digits-mod}
 use Rattle.spec.specs.declared.Params.{Params}
 use Rattle.spec.specs.declared.State.{State}
 use Rattle.spec.specs.Counts.{neverPlace}
-use Rattle.spec.specs.Drives.{Chunk, mkChunk, noChunk, Zone, View, zoneAt, pointerAt, chunkAt, Store, putZone, storeView, zoneOn, placeSegment, sealedIn, dataStored, recordIn, recordAt}
+use Rattle.spec.specs.Drives.{Chunk, mkChunk, noChunk, Zone, View, zoneAt, pointerAt, chunkAt, Store, putZone, storeView, zoneOn, sealedIn, dataStored, recordIn, recordAt}
 use Rattle.spec.specs.Drives.Store.{put}
 use Rattle.spec.specs.Landing.{ready, completes, flightRec, serialAt, heldCand, held, landedCand, landedCands, pointed}
 use Rattle.spec.specs.Layout.{dataDrive, dataPosition, isData, group, compactEntry, headerSerial, Rec, mkRec, recordBytes, recordOf}
 use Rattle.spec.specs.Lists.{below, all, consIf, keep, tally, only, isIn}
 use Rattle.spec.specs.Lists.Opt.{none, some}
 use Rattle.spec.specs.Memory.{slots, cell, stripeIn, filledIn, landedIn, entryIn, offsetIn, isFree, isFull, inFlight, landedMask, markLanded, freeStripe, placeAt, compactAt}
-use Rattle.spec.specs.Params.{dataCount, capacity, placeOf, placeBlock, placeZone, placeDrive, present, parityCount}
+use Rattle.spec.specs.Params.{dataCount, capacity, placeOf, placeBlock, placeDrive, present, parityCount}
 use Rattle.spec.specs.Rank.{Cand, best, candsOf}
 use Rattle.spec.specs.Read.Found.{away}
 use Rattle.spec.specs.Segments.{headerAt, remaining, Segment, recordsIn, segmentOf, segments, recsOn, offsetOn, hasChunk, counts, storedRec, recOf, offsetOf}
 use Rattle.spec.specs.Segments.{candOf, candidates, addressTable, compactRow, compactTable}
+use Rattle.spec.specs.Drives.{Seg, placeSegment}
 use Rattle.law_basic.specs.Geometry.{Ranged, compact-within, position-drive, drive-is-data, data-drive-lt, data-count-low}
 use Rattle.law_basic.specs.Mask.{isIn-empty, isIn-with}
 use Rattle.law_basic.specs.Ranges.{Test, test, and-left, and-right, and-both}
 use Rattle.law_basic.specs.Ranges.Test.{yes!, no! }
+use Rattle.law_basic.specs.Segs.{seg-other, segs-differ, Named, zone-on-lt, name-once, zone-same, zone-once, by-seg}
 use Rattle.law_code.specs.Chunks.{rec-here, flight-data, flight-stripe}
 use Rattle.law_views.specs.Pointers.{index-drive, index-zone}
 use Rattle.law_views.specs.Views.{blocks-long}
@@ -40,14 +42,14 @@ use Rattle.law_drives.specs.Growing.{Grows, grows-used, grows-header, grows-tid
 use Rattle.law_drives.specs.Laid.{record-stripe, record-back}
 use Rattle.law_drives.specs.Masks.{only-low, full-mask, not-full}
 use Rattle.law_drives.specs.Members.{In, in-left, in-right, in-append, in-map, map-in, in-all, in-below, below-in}
-use Rattle.law_drives.specs.Puts.{data-sound}
+use Rattle.law_drives.specs.Puts.{data-sound, on-drive}
 use Rattle.law_drives.specs.Range.{capacity-over}
 use Rattle.law_drives.specs.Segs.{present-in, remaining-low, length-records, record-at, data-low, low-data, recs-here, seg-is, chunk-at, has-chunk, offset-is, no-chunk, CandAt, cand-at, at-cand}
 use Rattle.law_drives.specs.Settled.{remains-used, used-remains, remains-is-used, serial-of, its-serial, cands-apart, zones-sealed, zones-pointer, cand-goes, row-goes, sealed-full}
 use Rattle.law_drives.specs.Slots.{cell-low}
-use Rattle.law_drives.specs.Spots.{cand-zone, counts-in, spot-block, spot-zone, spot-drive, spot-low}
+use Rattle.law_drives.specs.Spots.{cand-zone, counts-in, spot-block, spot-zone, spot-drive, spot-low, cand-segment}
 use Rattle.law_drives.specs.States.{StateOk, in-slots}
-use Rattle.law_drives.specs.Tables.{addresses-cong, row-at, row-past, grid-ext, remains, rowAt, compact-is, compact-row-long, length-compact, compact-at}
+use Rattle.law_drives.specs.Tables.{addresses-cong, row-at, row-past, grid-ext, remains, rowAt, compact-is, compact-row-long, length-compact, compact-at, row-seg}
 use Rattle.law_drives.specs.Tests.{clash, and-false-left, and-false-right, or-true-left, not-so, cond-true, cond-false, eqb-self}
 use Rattle.law_drives.specs.Tidy.{spareAt, usedAt, Tidy}
 use Rattle.law_drives.specs.Zones.{Shaped, hitsAt, zoneStore, hits, zone-stored, Room, put-pointer, Roomy}
@@ -67,7 +69,7 @@ pub cells-differ : (i j d e : ℕ) → d < 8 → e < 8 → (j ≡ i → ⊥) ⊎
 cells-differ i j d e hd he (inl n) q = n (cell-same j i e d he hd q .0)
 cells-differ i j d e hd he (inr n) q = n (cell-same j i e d he hd q .1)
 
-module _ (p : Params) (r : Ranged p) (v : View) (sh : Shaped p v) (st : State) (h : HealthyState p v st) (so : StateOk p st) (z : ℕ) (oz : st .opened ≡ suc z)
+module _ (p : Params) (r : Ranged p) (v : View) (sh : Shaped p v) (st : State) (h : HealthyState p v st) (so : StateOk p st) (z : Seg) (oz : st .opened ≡ suc (z .name))
     (d i : ℕ) (hd : d < p .N) (hi : i < 8) (fi : flies st i ≡ true) (rd : ready p st i d ≡ true) (b : List ℕ) (lb : length b ≡ p .B) where
   abbrev s : ℕ
   s = stripeIn st i
@@ -75,7 +77,7 @@ module _ (p : Params) (r : Ranged p) (v : View) (sh : Shaped p v) (st : State) (
   abbrev op : OpenZone p v st (flies st) z
   op = h .opens-at z oz
 
-  hz : z < p .Z
+  hz : Named p z
   hz = op .opened-zone
 
   fl : SlotFlies p v st z i
@@ -100,28 +102,28 @@ module _ (p : Params) (r : Ranged p) (v : View) (sh : Shaped p v) (st : State) (
   awaits-it : awaits st (flies st) d i ≡ true
   awaits-it = and-both (flies st i) (not (isIn (landedIn st i) d)) fi (ap not not-landed)
 
-  pub pointer-next : pointerAt v d z ≤ st .next
+  pub pointer-next : pointerAt v d (zoneOn z d) ≤ st .next
   pointer-next = let c = op .count d hd in let t = tally-some (awaits st (flies st) d) slots i (in-slots i hi) awaits-it in omega arith
 
-  pub pointer-some : 1 ≤ pointerAt v d z
+  pub pointer-some : 1 ≤ pointerAt v d (zoneOn z d)
   pointer-some = op .has-header d hd
 
-  pub pointer-data : pointerAt v d z ≤ p .S
+  pub pointer-data : pointerAt v d (zoneOn z d) ≤ p .S
   pointer-data = let a = pointer-next in let c = so .next-low in omega arith
 
   -- the offset is of the stripe's group
-  pub offset-group : group p (pointerAt v d z - 1) ≡ group p s
+  pub offset-group : group p (pointerAt v d (zoneOn z d) - 1) ≡ group p s
   offset-group = as! (
       let a = fl .group-low d hd in
       let c = fl .group-high in
       let e = pointer-next in
       let f : suc (group p s) * p .G ≡ group p s * p .G + p .G = suc-mul (group p s) (p .G) in
-      let q : pointerAt v d z - 1 ≡ group p s * p .G + (pointerAt v d z - 1 - group p s * p .G) = omega arith in
-      let l : pointerAt v d z - 1 - group p s * p .G < p .G = (let y = pointer-some in let g = r .group-low in omega arith) in
+      let q : pointerAt v d (zoneOn z d) - 1 ≡ group p s * p .G + (pointerAt v d (zoneOn z d) - 1 - group p s * p .G) = omega arith in
+      let l : pointerAt v d (zoneOn z d) - 1 - group p s * p .G < p .G = (let y = pointer-some in let g = r .group-low in omega arith) in
       ap (λ (x : ℕ). x / p .G) q ∙ digits-div (group p s) l)
     where
-      as! : (pointerAt v d z - 1) / p .G ≡ group p s → group p (pointerAt v d z - 1) ≡ group p s
-      as! e = group-div (pointerAt v d z - 1) ∙ e
+      as! : (pointerAt v d (zoneOn z d) - 1) / p .G ≡ group p s → group p (pointerAt v d (zoneOn z d) - 1) ≡ group p s
+      as! e = group-div (pointerAt v d (zoneOn z d) - 1) ∙ e
         where
           group-div : (x : ℕ) → group p x ≡ x / p .G
           group-div x = unfold group in refl
@@ -149,78 +151,83 @@ module _ (p : Params) (r : Ranged p) (v : View) (sh : Shaped p v) (st : State) (
   -- ---- the view
 
   abbrev store : Store
-  store = put d z b (recordBytes rc)
+  store = put d (zoneOn z d) b (recordBytes rc)
 
   abbrev v1 : View
   v1 = storeView store v
 
-  hit! : hitsAt d z store ≡ true
-  hit! = unfold hitsAt in and-both (eqb d d) (eqb z z) (eqb-self d) (eqb-self z)
+  hit! : hitsAt d (zoneOn z d) store ≡ true
+  hit! = unfold hitsAt in and-both (eqb d d) (eqb (zoneOn z d) (zoneOn z d)) (eqb-self d) (eqb-self (zoneOn z d))
 
-  pub chunk-zone : zoneAt v1 d z ≡ putZone b (recordBytes rc) (zoneAt v d z)
-  chunk-zone = zone-stored p v d z store (sh .sized) hd hz ∙ cond-true (hitsAt d z store) (zoneStore store (zoneAt v d z)) (zoneAt v d z) hit! ∙ once
+  pub chunk-zone : zoneAt v1 d (zoneOn z d) ≡ putZone b (recordBytes rc) (zoneAt v d (zoneOn z d))
+  chunk-zone =
+      zone-stored p v d (zoneOn z d) store (sh .sized) hd (zone-on-lt p z d hz)
+      ∙ cond-true (hitsAt d (zoneOn z d) store) (zoneStore store (zoneAt v d (zoneOn z d))) (zoneAt v d (zoneOn z d)) hit! ∙ once
     where
-      once : zoneStore store (zoneAt v d z) ≡ putZone b (recordBytes rc) (zoneAt v d z)
+      once : zoneStore store (zoneAt v d (zoneOn z d)) ≡ putZone b (recordBytes rc) (zoneAt v d (zoneOn z d))
       once = unfold zoneStore in refl
 
-  pub chunk-other : (e y : ℕ) → e < p .N → y < p .Z → (d ≡ e → ⊥) ⊎ (z ≡ y → ⊥) → zoneAt v1 e y ≡ zoneAt v e y
-  chunk-other e y he hy n = zone-stored p v e y store (sh .sized) he hy ∙ cond-false (hitsAt e y store) (zoneStore store (zoneAt v e y)) (zoneAt v e y) (miss n)
+  pub chunk-other : (e : ℕ) (y : Seg) → e < p .N → Named p y → (d ≡ e → ⊥) ⊎ (z ≡ y → ⊥) → zoneAt v1 e (zoneOn y e) ≡ zoneAt v e (zoneOn y e)
+  chunk-other e y he hy n =
+      zone-stored p v e (zoneOn y e) store (sh .sized) he (zone-on-lt p y e hy)
+      ∙ cond-false (hitsAt e (zoneOn y e) store) (zoneStore store (zoneAt v e (zoneOn y e))) (zoneAt v e (zoneOn y e)) (miss n)
     where
-      miss : (d ≡ e → ⊥) ⊎ (z ≡ y → ⊥) → hitsAt e y store ≡ false
-      miss (inl x) = unfold hitsAt in and-false-left (eqb d e) (eqb z y) (ne-eqb d e x)
-      miss (inr x) = unfold hitsAt in and-false-right (eqb d e) (eqb z y) (ne-eqb z y x)
+      miss : (d ≡ e → ⊥) ⊎ (z ≡ y → ⊥) → hitsAt e (zoneOn y e) store ≡ false
+      miss (inl x) = unfold hitsAt in and-false-left (eqb d e) (eqb (zoneOn z d) (zoneOn y e)) (ne-eqb d e x)
+      miss (inr x) = unfold hitsAt in (on-drive (zoneOn z) d e (zoneOn y e) ∙ and-false-right (eqb d e) (eqb (zoneOn z e) (zoneOn y e)) (zone-same p z y e hz hy ∙ seg-other z y x))
 
-  pub chunk-pointer : pointerAt v1 d z ≡ suc (pointerAt v d z)
-  chunk-pointer = as! (ap (λ (q : Zone). q .pointer) chunk-zone ∙ put-pointer b (recordBytes rc) (zoneAt v d z))
+  pub chunk-pointer : pointerAt v1 d (zoneOn z d) ≡ suc (pointerAt v d (zoneOn z d))
+  chunk-pointer = as! (ap (λ (q : Zone). q .pointer) chunk-zone ∙ put-pointer b (recordBytes rc) (zoneAt v d (zoneOn z d)))
     where
-      as! : zoneAt v1 d z .pointer ≡ suc (zoneAt v d z .pointer) → pointerAt v1 d z ≡ suc (pointerAt v d z)
+      as! : zoneAt v1 d (zoneOn z d) .pointer ≡ suc (zoneAt v d (zoneOn z d) .pointer) → pointerAt v1 d (zoneOn z d) ≡ suc (pointerAt v d (zoneOn z d))
       as! e = unfold pointerAt in e
 
-  pub pointer-else : (e : ℕ) → e < p .N → (d ≡ e → ⊥) → pointerAt v1 e z ≡ pointerAt v e z
+  pub pointer-else : (e : ℕ) → e < p .N → (d ≡ e → ⊥) → pointerAt v1 e (zoneOn z e) ≡ pointerAt v e (zoneOn z e)
   pointer-else e he n = as! (chunk-other e z he hz (inl n))
     where
-      as! : zoneAt v1 e z ≡ zoneAt v e z → pointerAt v1 e z ≡ pointerAt v e z
+      as! : zoneAt v1 e (zoneOn z e) ≡ zoneAt v e (zoneOn z e) → pointerAt v1 e (zoneOn z e) ≡ pointerAt v e (zoneOn z e)
       as! q = unfold pointerAt in ap (λ (x : Zone). x .pointer) q
 
-  pub spare-else : (e x : ℕ) → e < p .N → (d ≡ e → ⊥) → spareAt p v1 e z x ≡ spareAt p v e z x
+  pub spare-else : (e x : ℕ) → e < p .N → (d ≡ e → ⊥) → spareAt p v1 e (zoneOn z e) x ≡ spareAt p v e (zoneOn z e) x
   spare-else e x he n = ap (λ (q : Zone). recordIn p false q x) (chunk-other e z he hz (inl n))
 
-  block-old : (x : ℕ) → x < pointerAt v d z → getD (zoneAt v1 d z .blocks) x noChunk ≡ getD (zoneAt v d z .blocks) x noChunk
-  block-old x l = ap (λ (q : Zone). getD (q .blocks) x noChunk) chunk-zone ∙ go (zoneAt v d z) (as! l)
+  block-old : (x : ℕ) → x < pointerAt v d (zoneOn z d) → getD (zoneAt v1 d (zoneOn z d) .blocks) x noChunk ≡ getD (zoneAt v d (zoneOn z d) .blocks) x noChunk
+  block-old x l = ap (λ (q : Zone). getD (q .blocks) x noChunk) chunk-zone ∙ go (zoneAt v d (zoneOn z d)) (as! l)
     where
-      as! : x < pointerAt v d z → x < zoneAt v d z .pointer
+      as! : x < pointerAt v d (zoneOn z d) → x < zoneAt v d (zoneOn z d) .pointer
       as! l = unfold pointerAt in l
 
       go : (q : Zone) → x < q .pointer → getD (putZone b (recordBytes rc) q .blocks) x noChunk ≡ getD (q .blocks) x noChunk
       go q l = unfold putZone in getD-set-other (q .blocks) (q .pointer) x (mkChunk b (recordBytes rc)) noChunk (λ e. let bad : ⊥ = omega arith in bad)
 
-  block-new : (x : ℕ) → x ≡ pointerAt v d z → getD (zoneAt v1 d z .blocks) x noChunk ≡ mkChunk b (recordBytes rc)
-  block-new x l = ap (λ (q : Zone). getD (q .blocks) x noChunk) chunk-zone ∙ go (zoneAt v d z) (as! l)
-      (let e = sh .zone-ok d z hd hz .blocks-long in let c = pointer-data in let y = capacity-over p r in subst (λ (n : ℕ). x < n) (sym e) (omega arith))
+  block-new : (x : ℕ) → x ≡ pointerAt v d (zoneOn z d) → getD (zoneAt v1 d (zoneOn z d) .blocks) x noChunk ≡ mkChunk b (recordBytes rc)
+  block-new x l = ap (λ (q : Zone). getD (q .blocks) x noChunk) chunk-zone ∙ go (zoneAt v d (zoneOn z d)) (as! l)
+      (let e = sh .zone-ok d (zoneOn z d) hd (zone-on-lt p z d hz) .blocks-long in let c = pointer-data in let y = capacity-over p r in subst (λ (n : ℕ). x < n) (sym e) (omega arith))
     where
-      as! : x ≡ pointerAt v d z → x ≡ zoneAt v d z .pointer
+      as! : x ≡ pointerAt v d (zoneOn z d) → x ≡ zoneAt v d (zoneOn z d) .pointer
       as! l = unfold pointerAt in l
 
       go : (q : Zone) → x ≡ q .pointer → x < length (q .blocks) → getD (putZone b (recordBytes rc) q .blocks) x noChunk ≡ mkChunk b (recordBytes rc)
       go q e l = unfold putZone in (ap (λ (y : ℕ). getD (set (q .blocks) y (mkChunk b (recordBytes rc))) x noChunk) (sym e) ∙ getD-set-same (q .blocks) x (mkChunk b (recordBytes rc)) noChunk l)
 
-  pub spare-old : (x : ℕ) → 1 + x < pointerAt v d z → spareAt p v1 d z x ≡ spareAt p v d z x
+  pub spare-old : (x : ℕ) → 1 + x < pointerAt v d (zoneOn z d) → spareAt p v1 d (zoneOn z d) x ≡ spareAt p v d (zoneOn z d) x
   spare-old x l = as! (ap (λ (c : Chunk). recordOf (c .spare)) (block-old (1 + x) l))
     where
-      as! : recordOf (getD (zoneAt v1 d z .blocks) (1 + x) noChunk .spare) ≡ recordOf (getD (zoneAt v d z .blocks) (1 + x) noChunk .spare) → spareAt p v1 d z x ≡ spareAt p v d z x
+      as! : recordOf (getD (zoneAt v1 d (zoneOn z d) .blocks) (1 + x) noChunk .spare) ≡ recordOf (getD (zoneAt v d (zoneOn z d) .blocks) (1 + x) noChunk .spare)
+          → spareAt p v1 d (zoneOn z d) x ≡ spareAt p v d (zoneOn z d) x
       as! e = unfold recordIn in e
 
-  pub spare-new : (x : ℕ) → 1 + x ≡ pointerAt v d z → spareAt p v1 d z x ≡ recordOf (recordBytes rc)
+  pub spare-new : (x : ℕ) → 1 + x ≡ pointerAt v d (zoneOn z d) → spareAt p v1 d (zoneOn z d) x ≡ recordOf (recordBytes rc)
   spare-new x l = as! (ap (λ (c : Chunk). recordOf (c .spare)) (block-new (1 + x) l))
     where
-      as! : recordOf (getD (zoneAt v1 d z .blocks) (1 + x) noChunk .spare) ≡ recordOf (recordBytes rc) → spareAt p v1 d z x ≡ recordOf (recordBytes rc)
+      as! : recordOf (getD (zoneAt v1 d (zoneOn z d) .blocks) (1 + x) noChunk .spare) ≡ recordOf (recordBytes rc) → spareAt p v1 d (zoneOn z d) x ≡ recordOf (recordBytes rc)
       as! e = unfold recordIn in e
 
   -- a chunk of drive d below the new pointer is old or the new one
-  old-or-new : (x : ℕ) → 1 + x < pointerAt v1 d z → (1 + x < pointerAt v d z) ⊎ (1 + x ≡ pointerAt v d z)
-  old-or-new x l = go (decLt (1 + x) (pointerAt v d z))
+  old-or-new : (x : ℕ) → 1 + x < pointerAt v1 d (zoneOn z d) → (1 + x < pointerAt v d (zoneOn z d)) ⊎ (1 + x ≡ pointerAt v d (zoneOn z d))
+  old-or-new x l = go (decLt (1 + x) (pointerAt v d (zoneOn z d)))
     where
-      go : Dec (1 + x < pointerAt v d z) → (1 + x < pointerAt v d z) ⊎ (1 + x ≡ pointerAt v d z)
+      go : Dec (1 + x < pointerAt v d (zoneOn z d)) → (1 + x < pointerAt v d (zoneOn z d)) ⊎ (1 + x ≡ pointerAt v d (zoneOn z d))
       go (yes a) = inl a
       go (no a) = inr (let e = chunk-pointer in omega arith)
 
@@ -235,8 +242,8 @@ module _ (p : Params) (r : Ranged p) (v : View) (sh : Shaped p v) (st : State) (
       none! : hitsAt e y store ≡ false → hits e y (store ∷ []) ≡ []
       none! q = unfold keep consIf in rw q
 
-      same : hitsAt e y store ≡ true → (d ≡ e) × (z ≡ y)
-      same q = unfold hitsAt in (eqb-true d e (and-left (eqb d e) (eqb z y) q), eqb-true z y (and-right (eqb d e) (eqb z y) q))
+      same : hitsAt e y store ≡ true → (d ≡ e) × (zoneOn z d ≡ y)
+      same q = unfold hitsAt in (eqb-true d e (and-left (eqb d e) (eqb (zoneOn z d) y) q), eqb-true (zoneOn z d) y (and-right (eqb d e) (eqb (zoneOn z d) y) q))
 
       go : Test (hitsAt e y store) → Room p (pointerAt v e y) (hits e y (store ∷ []))
       go (no! q) = subst (λ (l : List Store). Room p (pointerAt v e y) l) (sym (none! q)) tt
@@ -244,7 +251,7 @@ module _ (p : Params) (r : Ranged p) (v : View) (sh : Shaped p v) (st : State) (
           let (a, c) = same q in
           subst (λ (l : List Store). Room p (pointerAt v e y) l) (sym (one q))
           (subst (λ (x : ℕ). Room p x (store ∷ [])) (ap₂ (pointerAt v) a c)
-          (record { room = let x = pointer-data in let k = capacity-over p r in omega arith; fine = data-sound p (pointerAt v d z) b rc pointer-some pointer-data lb }, tt))
+          (record { room = let x = pointer-data in let k = capacity-over p r in omega arith; fine = data-sound p (pointerAt v d (zoneOn z d)) b rc pointer-some pointer-data lb }, tt))
 
   -- ---- what grows
 
@@ -258,29 +265,30 @@ module _ (p : Params) (r : Ranged p) (v : View) (sh : Shaped p v) (st : State) (
     same-head = head;
   }
     where
-      now : (e : ℕ) → e < p .N → Dec (d ≡ e) → 1 ≤ pointerAt v1 e z
-      now e he (yes q) = subst (λ (x : ℕ). 1 ≤ pointerAt v1 x z) q (let a = chunk-pointer in omega arith)
+      now : (e : ℕ) → e < p .N → Dec (d ≡ e) → 1 ≤ pointerAt v1 e (zoneOn z e)
+      now e he (yes q) = subst (λ (x : ℕ). 1 ≤ pointerAt v1 x (zoneOn z x)) q (let a = chunk-pointer in omega arith)
       now e he (no n) = subst (λ (x : ℕ). 1 ≤ x) (sym (pointer-else e he n)) (op .has-header e he)
 
-      low : (e : ℕ) → e < p .N → Dec (d ≡ e) → pointerAt v1 e z ≤ capacity p
-      low e he (yes q) = subst (λ (x : ℕ). pointerAt v1 x z ≤ capacity p) q (let a = chunk-pointer in let c = pointer-data in let k = capacity-over p r in omega arith)
+      low : (e : ℕ) → e < p .N → Dec (d ≡ e) → pointerAt v1 e (zoneOn z e) ≤ capacity p
+      low e he (yes q) = subst (λ (x : ℕ). pointerAt v1 x (zoneOn z x) ≤ capacity p) q (let a = chunk-pointer in let c = pointer-data in let k = capacity-over p r in omega arith)
       low e he (no n) = subst (λ (x : ℕ). x ≤ capacity p) (sym (pointer-else e he n)) (h .tidy .pointer-low e z he hz)
 
       head : headerAt v 0 z ≡ headerAt v1 0 z
       head = go (ℕ-discrete d 0)
         where
-          as! : getD (zoneAt v 0 z .blocks) 0 noChunk .block ≡ getD (zoneAt v1 0 z .blocks) 0 noChunk .block → headerAt v 0 z ≡ headerAt v1 0 z
-          as! e = unfold headerAt chunkAt zoneOn in e
+          as! : getD (zoneAt v 0 (zoneOn z 0) .blocks) 0 noChunk .block ≡ getD (zoneAt v1 0 (zoneOn z 0) .blocks) 0 noChunk .block → headerAt v 0 z ≡ headerAt v1 0 z
+          as! e = unfold headerAt chunkAt in e
 
           go : Dec (d ≡ 0) → headerAt v 0 z ≡ headerAt v1 0 z
           go (yes e) =
-              as! (subst (λ (x : ℕ). getD (zoneAt v x z .blocks) 0 noChunk .block ≡ getD (zoneAt v1 x z .blocks) 0 noChunk .block) e (ap (λ (c : Chunk). c .block) (sym (block-old 0 pointer-some))))
+              as! (subst (λ (x : ℕ). getD (zoneAt v x (zoneOn z x) .blocks) 0 noChunk .block ≡ getD (zoneAt v1 x (zoneOn z x) .blocks) 0 noChunk .block) e
+              (ap (λ (c : Chunk). c .block) (sym (block-old 0 pointer-some))))
           go (no n) = as! (ap (λ (q : Zone). getD (q .blocks) 0 noChunk .block) (sym (chunk-other 0 z (omega (arith, r .drives-low)) hz (inl n))))
 
   -- ---- the open segment
 
   abbrev o : ℕ
-  o = pointerAt v d z - 1
+  o = pointerAt v d (zoneOn z d) - 1
 
   abbrev st1 : State
   st1 = markLanded st i d o
@@ -291,7 +299,7 @@ module _ (p : Params) (r : Ranged p) (v : View) (sh : Shaped p v) (st : State) (
   ls : Lists st
   ls = h .lists
 
-  offset-next : 1 + o ≡ pointerAt v d z
+  offset-next : 1 + o ≡ pointerAt v d (zoneOn z d)
   offset-next = let a = pointer-some in omega arith
 
   -- which drives have the stripe now
@@ -319,11 +327,11 @@ module _ (p : Params) (r : Ranged p) (v : View) (sh : Shaped p v) (st : State) (
   next1 : st1 .next ≡ st .next
   next1 = unfold markLanded in refl
 
-  pointer-grows : (e : ℕ) → e < p .N → pointerAt v e z ≤ pointerAt v1 e z
+  pointer-grows : (e : ℕ) → e < p .N → pointerAt v e (zoneOn z e) ≤ pointerAt v1 e (zoneOn z e)
   pointer-grows e he = go (ℕ-discrete d e)
     where
-      go : Dec (d ≡ e) → pointerAt v e z ≤ pointerAt v1 e z
-      go (yes q) = subst (λ (x : ℕ). pointerAt v x z ≤ pointerAt v1 x z) q (let a = chunk-pointer in omega arith)
+      go : Dec (d ≡ e) → pointerAt v e (zoneOn z e) ≤ pointerAt v1 e (zoneOn z e)
+      go (yes q) = subst (λ (x : ℕ). pointerAt v x (zoneOn z x) ≤ pointerAt v1 x (zoneOn z x)) q (let a = chunk-pointer in omega arith)
       go (no n) = le-of-eq (sym (pointer-else e he n))
 
   -- a landed chunk of before is where it was
@@ -331,24 +339,24 @@ module _ (p : Params) (r : Ranged p) (v : View) (sh : Shaped p v) (st : State) (
   was-landed j e he n l =
       let e8 : e < 8 = omega (arith, r .drives-high) in
       let eo : offsetIn st1 j e ≡ offsetIn st j e = mark-offset-other st ls i hi d o d8 j e (cells-differ i j d e d8 e8 n) in
-      let same : (x : ℕ) → 1 + x < pointerAt v e z → spareAt p v1 e z x ≡ spareAt p v e z x = λ x y. go x y (ℕ-discrete d e) in
+      let same : (x : ℕ) → 1 + x < pointerAt v e (zoneOn z e) → spareAt p v1 e (zoneOn z e) x ≡ spareAt p v e (zoneOn z e) x = λ x y. go x y (ℕ-discrete d e) in
       record {
-        lies = subst (λ (x : ℕ). 1 + x < pointerAt v1 e z) (sym eo) (let a = l .lies in let c = pointer-grows e he in omega arith);
-        of-stripe = ap (λ (x : ℕ). spareAt p v1 e z x .stripe) eo ∙ ap (λ (x : Rec). x .stripe) (same (offsetIn st j e) (l .lies)) ∙ l .of-stripe ∙ sym (landed-stripe j);
+        lies = subst (λ (x : ℕ). 1 + x < pointerAt v1 e (zoneOn z e)) (sym eo) (let a = l .lies in let c = pointer-grows e he in omega arith);
+        of-stripe = ap (λ (x : ℕ). spareAt p v1 e (zoneOn z e) x .stripe) eo ∙ ap (λ (x : Rec). x .stripe) (same (offsetIn st j e) (l .lies)) ∙ l .of-stripe ∙ sym (landed-stripe j);
         not-before = λ x y q.
             let y2 : x < offsetIn st j e = subst (λ (m : ℕ). x < m) eo y in
-            let y3 : 1 + x < pointerAt v e z = (let a = l .lies in omega arith) in
+            let y3 : 1 + x < pointerAt v e (zoneOn z e) = (let a = l .lies in omega arith) in
             l .not-before x y2 (ap (λ (m : Rec). m .stripe) (sym (same x y3)) ∙ q ∙ landed-stripe j);
         is-entry = λ q.
             let (x, y) = l .is-entry (ap (λ (n : ℕ). isData p n e) (sym (landed-stripe j)) ∙ q) in
             let ep : dataPosition p (stripeIn st1 j) e ≡ dataPosition p (stripeIn st j) e = ap (λ (n : ℕ). dataPosition p n e) (landed-stripe j) in (
               subst (λ (n : ℕ). n < filledIn st1 j) (sym ep) (subst (λ (n : ℕ). dataPosition p (stripeIn st j) e < n) (sym (filled1 j)) x),
-              ap (spareAt p v1 e z) eo ∙ same (offsetIn st j e) (l .lies) ∙ y ∙ sym (ap (entryIn st1 j) ep ∙ entry1 j (dataPosition p (stripeIn st j) e)),
+              ap (spareAt p v1 e (zoneOn z e)) eo ∙ same (offsetIn st j e) (l .lies) ∙ y ∙ sym (ap (entryIn st1 j) ep ∙ entry1 j (dataPosition p (stripeIn st j) e)),
             );
       }
     where
-      go : (x : ℕ) → 1 + x < pointerAt v e z → Dec (d ≡ e) → spareAt p v1 e z x ≡ spareAt p v e z x
-      go x y (yes q) = subst (λ (m : ℕ). spareAt p v1 m z x ≡ spareAt p v m z x) q (spare-old x (subst (λ (m : ℕ). 1 + x < pointerAt v m z) (sym q) y))
+      go : (x : ℕ) → 1 + x < pointerAt v e (zoneOn z e) → Dec (d ≡ e) → spareAt p v1 e (zoneOn z e) x ≡ spareAt p v e (zoneOn z e) x
+      go x y (yes q) = subst (λ (m : ℕ). spareAt p v1 m (zoneOn z m) x ≡ spareAt p v m (zoneOn z m) x) q (spare-old x (subst (λ (m : ℕ). 1 + x < pointerAt v m (zoneOn z m)) (sym q) y))
       go x y (no n) = spare-else e x he n
 
   -- and the new one
@@ -356,16 +364,16 @@ module _ (p : Params) (r : Ranged p) (v : View) (sh : Shaped p v) (st : State) (
   lands-now =
       let eo : offsetIn st1 i d ≡ o = mark-offset st ls i hi d o d8 in
       record {
-        lies = subst (λ (x : ℕ). 1 + x < pointerAt v1 d z) (sym eo) (let a = offset-next in let c = chunk-pointer in omega arith);
-        of-stripe = ap (λ (x : ℕ). spareAt p v1 d z x .stripe) eo ∙ ap (λ (x : Rec). x .stripe) (spare-new o offset-next) ∙ read-stripe ∙ sym (landed-stripe i);
+        lies = subst (λ (x : ℕ). 1 + x < pointerAt v1 d (zoneOn z d)) (sym eo) (let a = offset-next in let c = chunk-pointer in omega arith);
+        of-stripe = ap (λ (x : ℕ). spareAt p v1 d (zoneOn z d) x .stripe) eo ∙ ap (λ (x : Rec). x .stripe) (spare-new o offset-next) ∙ read-stripe ∙ sym (landed-stripe i);
         not-before = λ x y q.
-            let y2 : 1 + x < pointerAt v d z = (let e = subst (λ (m : ℕ). x < m) eo y in let a = offset-next in omega arith) in
+            let y2 : 1 + x < pointerAt v d (zoneOn z d) = (let e = subst (λ (m : ℕ). x < m) eo y in let a = offset-next in omega arith) in
             fl .not-there d x hd not-landed y2 (ap (λ (m : Rec). m .stripe) (sym (spare-old x y2)) ∙ q ∙ landed-stripe i);
         is-entry = λ q.
             let q2 : isData p s d ≡ true = ap (λ (n : ℕ). isData p n d) (sym (landed-stripe i)) ∙ q in
             let ep : dataPosition p (stripeIn st1 i) d ≡ dataPosition p s d = ap (λ (n : ℕ). dataPosition p n d) (landed-stripe i) in (
               subst (λ (n : ℕ). n < filledIn st1 i) (sym ep) (subst (λ (n : ℕ). dataPosition p s d < n) (sym (filled1 i)) (position-filled q2)),
-              ap (spareAt p v1 d z) eo ∙ spare-new o offset-next ∙ read-entry q2 ∙ sym (ap (entryIn st1 i) ep ∙ entry1 i (dataPosition p s d)),
+              ap (spareAt p v1 d (zoneOn z d)) eo ∙ spare-new o offset-next ∙ read-entry q2 ∙ sym (ap (entryIn st1 i) ep ∙ entry1 i (dataPosition p s d)),
             );
       }
 
@@ -375,36 +383,36 @@ module _ (p : Params) (r : Ranged p) (v : View) (sh : Shaped p v) (st : State) (
       let el = mark-landed-other st ls i hi d o d8 j n in
       record {
         begun = subst (λ (x : ℕ). x < st1 .next) (sym (landed-stripe j)) (subst (λ (x : ℕ). stripeIn st j < x) (sym next1) (f .begun));
-        group-low = λ e he. subst (λ (x : ℕ). group p x * p .G < pointerAt v1 e z) (sym (landed-stripe j)) (let a = f .group-low e he in let c = pointer-grows e he in omega arith);
+        group-low = λ e he. subst (λ (x : ℕ). group p x * p .G < pointerAt v1 e (zoneOn z e)) (sym (landed-stripe j)) (let a = f .group-low e he in let c = pointer-grows e he in omega arith);
         group-high = subst (λ (x : ℕ). st1 .next ≤ suc (group p x) * p .G) (sym (landed-stripe j)) (subst (λ (x : ℕ). x ≤ suc (group p (stripeIn st j)) * p .G) (sym next1) (f .group-high));
         not-there = λ e x he q y w. away e x he (ap (λ (m : ℕ). isIn m e) (sym el) ∙ q) y (w ∙ landed-stripe j) (ℕ-discrete d e);
         lands = λ e he q. was-landed j e he (inl n) (f .lands e he (ap (λ (m : ℕ). isIn m e) (sym el) ∙ q));
         entries-low = λ e y. subst (λ (x : Rec). (x .address < 256 ^ 8) × (x .stamp < 256 ^ 8)) (sym (entry1 j e)) (f .entries-low e (subst (λ (x : ℕ). e < x) (filled1 j) y));
       }
     where
-      away : (e x : ℕ) → e < p .N → isIn (landedIn st j) e ≡ false → 1 + x < pointerAt v1 e z → spareAt p v1 e z x .stripe ≡ stripeIn st j → Dec (d ≡ e) → ⊥
+      away : (e x : ℕ) → e < p .N → isIn (landedIn st j) e ≡ false → 1 + x < pointerAt v1 e (zoneOn z e) → spareAt p v1 e (zoneOn z e) x .stripe ≡ stripeIn st j → Dec (d ≡ e) → ⊥
       away e x he q y w (no a) =
           op .flight j hj fj .not-there e x he q (subst (λ (m : ℕ). 1 + x < m) (pointer-else e he a) y) (ap (λ (m : Rec). m .stripe) (sym (spare-else e x he a)) ∙ w)
-      away e x he q y w (yes a) = two (old-or-new x (subst (λ (m : ℕ). 1 + x < pointerAt v1 m z) (sym a) y))
+      away e x he q y w (yes a) = two (old-or-new x (subst (λ (m : ℕ). 1 + x < pointerAt v1 m (zoneOn z m)) (sym a) y))
         where
-          w2 : spareAt p v1 d z x .stripe ≡ stripeIn st j
-          w2 = subst (λ (m : ℕ). spareAt p v1 m z x .stripe ≡ stripeIn st j) (sym a) w
+          w2 : spareAt p v1 d (zoneOn z d) x .stripe ≡ stripeIn st j
+          w2 = subst (λ (m : ℕ). spareAt p v1 m (zoneOn z m) x .stripe ≡ stripeIn st j) (sym a) w
 
-          two : (1 + x < pointerAt v d z) ⊎ (1 + x ≡ pointerAt v d z) → ⊥
+          two : (1 + x < pointerAt v d (zoneOn z d)) ⊎ (1 + x ≡ pointerAt v d (zoneOn z d)) → ⊥
           two (inl l) = op .flight j hj fj .not-there d x hd (subst (λ (m : ℕ). isIn (landedIn st j) m ≡ false) (sym a) q) l (ap (λ (m : Rec). m .stripe) (sym (spare-old x l)) ∙ w2)
           two (inr l) = n (op .once j i hj hi fj fi (sym w2 ∙ ap (λ (m : Rec). m .stripe) (spare-new x l) ∙ read-stripe))
 
   flight-here : SlotFlies p v1 st1 z i
   flight-here = record {
     begun = subst (λ (x : ℕ). x < st1 .next) (sym (landed-stripe i)) (subst (λ (x : ℕ). s < x) (sym next1) (fl .begun));
-    group-low = λ e he. subst (λ (x : ℕ). group p x * p .G < pointerAt v1 e z) (sym (landed-stripe i)) (let a = fl .group-low e he in let c = pointer-grows e he in omega arith);
+    group-low = λ e he. subst (λ (x : ℕ). group p x * p .G < pointerAt v1 e (zoneOn z e)) (sym (landed-stripe i)) (let a = fl .group-low e he in let c = pointer-grows e he in omega arith);
     group-high = subst (λ (x : ℕ). st1 .next ≤ suc (group p x) * p .G) (sym (landed-stripe i)) (subst (λ (x : ℕ). x ≤ suc (group p s) * p .G) (sym next1) (fl .group-high));
     not-there = λ e x he q y w. away e x he q y (w ∙ landed-stripe i) (ℕ-discrete d e);
     lands = λ e he q. on e he q (ℕ-discrete d e);
     entries-low = λ e y. subst (λ (x : Rec). (x .address < 256 ^ 8) × (x .stamp < 256 ^ 8)) (sym (entry1 i e)) (fl .entries-low e (subst (λ (x : ℕ). e < x) (filled1 i) y));
   }
     where
-      away : (e x : ℕ) → e < p .N → isIn (landedIn st1 i) e ≡ false → 1 + x < pointerAt v1 e z → spareAt p v1 e z x .stripe ≡ s → Dec (d ≡ e) → ⊥
+      away : (e x : ℕ) → e < p .N → isIn (landedIn st1 i) e ≡ false → 1 + x < pointerAt v1 e (zoneOn z e) → spareAt p v1 e (zoneOn z e) x .stripe ≡ s → Dec (d ≡ e) → ⊥
       away e x he q y w (yes a) = clash (subst (λ (m : ℕ). isIn (landedIn st1 i) m ≡ true) a mask-here) q
       away e x he q y w (no a) = fl .not-there e x he (sym (mask-else e he a) ∙ q) (subst (λ (m : ℕ). 1 + x < m) (pointer-else e he a) y) (ap (λ (m : Rec). m .stripe) (sym (spare-else e x he a)) ∙ w)
 
@@ -417,7 +425,7 @@ module _ (p : Params) (r : Ranged p) (v : View) (sh : Shaped p v) (st : State) (
     opened-zone = hz;
     has-header = chunk-grows .used-now;
     count = λ e he. counts! e he (ℕ-discrete d e);
-    below-next = λ e x he y. subst (λ (m : ℕ). spareAt p v1 e z x .stripe < m) (sym next1) (under e x he y (ℕ-discrete d e));
+    below-next = λ e x he y. subst (λ (m : ℕ). spareAt p v1 e (zoneOn z e) x .stripe < m) (sym next1) (under e x he y (ℕ-discrete d e));
     flight = λ j hj q. go j hj q (ℕ-discrete j i);
     once = λ j k hj hk x y e. op .once j k hj hk x y (sym (landed-stripe j) ∙ e ∙ landed-stripe k);
     goes-on = λ q. op .goes-on (sym next1 ∙ q);
@@ -427,11 +435,11 @@ module _ (p : Params) (r : Ranged p) (v : View) (sh : Shaped p v) (st : State) (
       go j hj q (yes e) = subst (λ (x : ℕ). SlotFlies p v1 st1 z x) (sym e) flight-here
       go j hj q (no n) = flight-else j hj q n
 
-      under : (e x : ℕ) → e < p .N → 1 + x < pointerAt v1 e z → Dec (d ≡ e) → spareAt p v1 e z x .stripe < st .next
+      under : (e x : ℕ) → e < p .N → 1 + x < pointerAt v1 e (zoneOn z e) → Dec (d ≡ e) → spareAt p v1 e (zoneOn z e) x .stripe < st .next
       under e x he y (no a) = subst (λ (m : Rec). m .stripe < st .next) (sym (spare-else e x he a)) (op .below-next e x he (subst (λ (m : ℕ). 1 + x < m) (pointer-else e he a) y))
-      under e x he y (yes a) = subst (λ (m : ℕ). spareAt p v1 m z x .stripe < st .next) a (two (old-or-new x (subst (λ (m : ℕ). 1 + x < pointerAt v1 m z) (sym a) y)))
+      under e x he y (yes a) = subst (λ (m : ℕ). spareAt p v1 m (zoneOn z m) x .stripe < st .next) a (two (old-or-new x (subst (λ (m : ℕ). 1 + x < pointerAt v1 m (zoneOn z m)) (sym a) y)))
         where
-          two : (1 + x < pointerAt v d z) ⊎ (1 + x ≡ pointerAt v d z) → spareAt p v1 d z x .stripe < st .next
+          two : (1 + x < pointerAt v d (zoneOn z d)) ⊎ (1 + x ≡ pointerAt v d (zoneOn z d)) → spareAt p v1 d (zoneOn z d) x .stripe < st .next
           two (inl l) = subst (λ (m : Rec). m .stripe < st .next) (sym (spare-old x l)) (op .below-next d x hd l)
           two (inr l) = subst (λ (m : ℕ). m < st .next) (sym (ap (λ (m : Rec). m .stripe) (spare-new x l) ∙ read-stripe)) (fl .begun)
 
@@ -443,19 +451,19 @@ module _ (p : Params) (r : Ranged p) (v : View) (sh : Shaped p v) (st : State) (
           pick (yes q) = subst (λ (x : ℕ). isIn (landedIn st1 x) e ≡ isIn (landedIn st x) e) (sym q) (mask-else e he n)
           pick (no q) = ap (λ (m : ℕ). isIn m e) (mark-landed-other st ls i hi d o d8 j q)
 
-      counts! : (e : ℕ) → e < p .N → Dec (d ≡ e) → pointerAt v1 e z + tally (awaits st1 (flies st) e) slots ≡ suc (st1 .next)
+      counts! : (e : ℕ) → e < p .N → Dec (d ≡ e) → pointerAt v1 e (zoneOn z e) + tally (awaits st1 (flies st) e) slots ≡ suc (st1 .next)
       counts! e he (no n) =
           ap₂ (λ (x y : ℕ). x + y) (pointer-else e he n)
           (tally-cong (awaits st1 (flies st) e) (awaits st (flies st) e) slots
           (λ j m. ap (λ (x : Bool). flies st j && not x) (landed-else j e he (inr n))))
           ∙ op .count e he ∙ ap suc (sym next1)
-      counts! e he (yes a) = subst (λ (x : ℕ). pointerAt v1 x z + tally (awaits st1 (flies st) x) slots ≡ suc (st1 .next)) a
+      counts! e he (yes a) = subst (λ (x : ℕ). pointerAt v1 x (zoneOn z x) + tally (awaits st1 (flies st) x) slots ≡ suc (st1 .next)) a
           (let t : tally (awaits st (flies st) d) slots ≡ suc (tally (awaits st1 (flies st) d) slots) =
           tally-more (awaits st (flies st) d) (awaits st1 (flies st) d) i hi (λ j n. ap (λ (x : Bool). flies st j && not x) (sym (landed-else j d hd (inl n)))) awaits-it
           (and-false-right (flies st i) (not (isIn (landedIn st1 i) d)) (ap not mask-here)) in
           let c = op .count d hd in
           let e = chunk-pointer in
-          let q : pointerAt v1 d z + tally (awaits st1 (flies st) d) slots ≡ suc (st .next) = omega arith in
+          let q : pointerAt v1 d (zoneOn z d) + tally (awaits st1 (flies st) d) slots ≡ suc (st .next) = omega arith in
           q ∙ ap suc (sym next1))
 
   -- ---- what the drives say of the segment before and after
@@ -469,13 +477,13 @@ module _ (p : Params) (r : Ranged p) (v : View) (sh : Shaped p v) (st : State) (
   pub chunk-tidy : Tidy p v1 s0
   chunk-tidy = grows-tidy p r v v1 z chunk-grows s0 t0
 
-  short-before : (e : ℕ) → e < p .N → pointerAt v e z ≤ 1 + p .S
+  short-before : (e : ℕ) → e < p .N → pointerAt v e (zoneOn z e) ≤ 1 + p .S
   short-before e he = let c = op .count e he in let n = so .next-low in omega arith
 
-  pub short-after : (e : ℕ) → e < p .N → pointerAt v1 e z ≤ 1 + p .S
+  pub short-after : (e : ℕ) → e < p .N → pointerAt v1 e (zoneOn z e) ≤ 1 + p .S
   short-after e he = let c = chunk-open .count e he in let n = so .next-low in let x = next1 in omega arith
 
-  unsealed! : (u : View) → ((e : ℕ) → e < p .N → pointerAt u e z ≤ 1 + p .S) → sealedIn p u 0 z ≡ false
+  unsealed! : (u : View) → ((e : ℕ) → e < p .N → pointerAt u e (zoneOn z e) ≤ 1 + p .S) → sealedIn p u 0 z ≡ false
   unsealed! u f = not-so (sealedIn p u 0 z) (λ q.
       let h0 : 0 < p .N = omega (arith, r .drives-low) in
       let x = sealed-full p u z q 0 h0 in
@@ -489,16 +497,16 @@ module _ (p : Params) (r : Ranged p) (v : View) (sh : Shaped p v) (st : State) (
   pub open-after : sealedIn p v1 0 z ≡ false
   open-after = unsealed! v1 short-after
 
-  data-stored-below : (u : View) (e x : ℕ) → pointerAt u e z ≤ 1 + p .S → 1 + x < pointerAt u e z → x < dataStored p (zoneAt u e z)
-  data-stored-below u e x l m = low-data p (zoneAt u e z) x (omega arith) (as! m)
+  data-stored-below : (u : View) (e x : ℕ) → pointerAt u e (zoneOn z e) ≤ 1 + p .S → 1 + x < pointerAt u e (zoneOn z e) → x < dataStored p (zoneAt u e (zoneOn z e))
+  data-stored-below u e x l m = low-data p (zoneAt u e (zoneOn z e)) x (omega arith) (as! m)
     where
-      as! : 1 + x < pointerAt u e z → 1 + x < zoneAt u e z .pointer
+      as! : 1 + x < pointerAt u e (zoneOn z e) → 1 + x < zoneAt u e (zoneOn z e) .pointer
       as! m = unfold pointerAt in m
 
-  below! : (u : View) (e x : ℕ) → x < dataStored p (zoneAt u e z) → 1 + x < pointerAt u e z
-  below! u e x m = as! (data-low p (zoneAt u e z) x m .1)
+  below! : (u : View) (e x : ℕ) → x < dataStored p (zoneAt u e (zoneOn z e)) → 1 + x < pointerAt u e (zoneOn z e)
+  below! u e x m = as! (data-low p (zoneAt u e (zoneOn z e)) x m .1)
     where
-      as! : 1 + x < zoneAt u e z .pointer → 1 + x < pointerAt u e z
+      as! : 1 + x < zoneAt u e (zoneOn z e) .pointer → 1 + x < pointerAt u e (zoneOn z e)
       as! m = unfold pointerAt in m
 
   -- the record at an offset, whatever the flag
@@ -508,15 +516,15 @@ module _ (p : Params) (r : Ranged p) (v : View) (sh : Shaped p v) (st : State) (
   abbrev seg1 : Segment
   seg1 = segmentOf p v1 0 z
 
-  kept-spare : (e x : ℕ) → e < p .N → 1 + x < pointerAt v e z → spareAt p v1 e z x ≡ spareAt p v e z x
+  kept-spare : (e x : ℕ) → e < p .N → 1 + x < pointerAt v e (zoneOn z e) → spareAt p v1 e (zoneOn z e) x ≡ spareAt p v e (zoneOn z e) x
   kept-spare e x he l = go (ℕ-discrete d e)
     where
-      go : Dec (d ≡ e) → spareAt p v1 e z x ≡ spareAt p v e z x
-      go (yes q) = subst (λ (m : ℕ). spareAt p v1 m z x ≡ spareAt p v m z x) q (spare-old x (subst (λ (m : ℕ). 1 + x < pointerAt v m z) (sym q) l))
+      go : Dec (d ≡ e) → spareAt p v1 e (zoneOn z e) x ≡ spareAt p v e (zoneOn z e) x
+      go (yes q) = subst (λ (m : ℕ). spareAt p v1 m (zoneOn z m) x ≡ spareAt p v m (zoneOn z m) x) q (spare-old x (subst (λ (m : ℕ). 1 + x < pointerAt v m (zoneOn z m)) (sym q) l))
       go (no n) = spare-else e x he n
 
-  unsealed-by-spare : (u : View) (e x : ℕ) → sealedIn p u 0 z ≡ false → recordIn p (sealedIn p u 0 z) (zoneAt u e z) x ≡ spareAt p u e z x
-  unsealed-by-spare u e x q = ap (λ (w : Bool). recordIn p w (zoneAt u e z) x) q
+  unsealed-by-spare : (u : View) (e x : ℕ) → sealedIn p u 0 z ≡ false → recordIn p (sealedIn p u 0 z) (zoneAt u e (zoneOn z e)) x ≡ spareAt p u e (zoneOn z e) x
+  unsealed-by-spare u e x q = ap (λ (w : Bool). recordIn p w (zoneAt u e (zoneOn z e)) x) q
 
   pub record KeepsChunk (t e : ℕ) : Type 0 where
     pub has-it : hasChunk seg1 t e ≡ true
@@ -528,17 +536,17 @@ module _ (p : Params) (r : Ranged p) (v : View) (sh : Shaped p v) (st : State) (
   chunk-keeps t e he c =
       let k = chunk-at p v 0 z e t he (isIn-empty e) c in
       let x = offsetOn seg0 e t in
-      let l : 1 + x < pointerAt v e z = below! v e x (k .stored-there) in
-      let l1 : x < dataStored p (zoneAt v1 e z) = data-stored-below v1 e x (short-after e he) (let a = pointer-grows e he in omega arith) in
-      let same : (y : ℕ) → 1 + y < pointerAt v e z → recordIn p (sealedIn p v1 0 z) (zoneAt v1 e z) y ≡ recordIn p (sealedIn p v 0 z) (zoneAt v e z) y =
+      let l : 1 + x < pointerAt v e (zoneOn z e) = below! v e x (k .stored-there) in
+      let l1 : x < dataStored p (zoneAt v1 e (zoneOn z e)) = data-stored-below v1 e x (short-after e he) (let a = pointer-grows e he in omega arith) in
+      let same : (y : ℕ) → 1 + y < pointerAt v e (zoneOn z e) → recordIn p (sealedIn p v1 0 z) (zoneAt v1 e (zoneOn z e)) y ≡ recordIn p (sealedIn p v 0 z) (zoneAt v e (zoneOn z e)) y =
       λ y m. unsealed-by-spare v1 e y open-after ∙ kept-spare e y he m ∙ sym (unsealed-by-spare v e y open-before) in
-      let st! : recordIn p (sealedIn p v1 0 z) (zoneAt v1 e z) x .stripe ≡ t = ap (λ (m : Rec). m .stripe) (same x l) ∙ k .its-stripe in
+      let st! : recordIn p (sealedIn p v1 0 z) (zoneAt v1 e (zoneOn z e)) x .stripe ≡ t = ap (λ (m : Rec). m .stripe) (same x l) ∙ k .its-stripe in
       let eo : offsetOn seg1 e t ≡ x = offset-is p v1 0 z e t x he (isIn-empty e) l1 st! (λ y m q. k .first y m (ap (λ (a : Rec). a .stripe) (sym (same y (omega arith))) ∙ q)) in
       let h1 : hasChunk seg1 t e ≡ true = has-chunk p v1 0 z e t x he (isIn-empty e) l1 st! in
       record {
         has-it = h1;
         same-offset! = sym eo;
-        same-record! = k .its-record ∙ sym (same x l) ∙ ap (recordIn p (sealedIn p v1 0 z) (zoneAt v1 e z)) (sym eo) ∙ sym (chunk-at p v1 0 z e t he (isIn-empty e) h1 .its-record);
+        same-record! = k .its-record ∙ sym (same x l) ∙ ap (recordIn p (sealedIn p v1 0 z) (zoneAt v1 e (zoneOn z e))) (sym eo) ∙ sym (chunk-at p v1 0 z e t he (isIn-empty e) h1 .its-record);
       }
 
   -- a chunk that is there was there, unless it is the new one
@@ -546,18 +554,18 @@ module _ (p : Params) (r : Ranged p) (v : View) (sh : Shaped p v) (st : State) (
   had t e he n c =
       let k = chunk-at p v1 0 z e t he (isIn-empty e) c in
       let x = offsetOn seg1 e t in
-      let l : 1 + x < pointerAt v1 e z = below! v1 e x (k .stored-there) in
-      let q : spareAt p v1 e z x .stripe ≡ t = ap (λ (m : Rec). m .stripe) (sym (unsealed-by-spare v1 e x open-after)) ∙ k .its-stripe in
-      let m : 1 + x < pointerAt v e z = go x l q (ℕ-discrete d e) in
+      let l : 1 + x < pointerAt v1 e (zoneOn z e) = below! v1 e x (k .stored-there) in
+      let q : spareAt p v1 e (zoneOn z e) x .stripe ≡ t = ap (λ (m : Rec). m .stripe) (sym (unsealed-by-spare v1 e x open-after)) ∙ k .its-stripe in
+      let m : 1 + x < pointerAt v e (zoneOn z e) = go x l q (ℕ-discrete d e) in
       has-chunk p v 0 z e t x he (isIn-empty e) (data-stored-below v e x (short-before e he) m) (ap (λ (a : Rec). a .stripe) (unsealed-by-spare v e x open-before ∙ sym (kept-spare e x he m)) ∙ q)
     where
-      go : (x : ℕ) → 1 + x < pointerAt v1 e z → spareAt p v1 e z x .stripe ≡ t → Dec (d ≡ e) → 1 + x < pointerAt v e z
+      go : (x : ℕ) → 1 + x < pointerAt v1 e (zoneOn z e) → spareAt p v1 e (zoneOn z e) x .stripe ≡ t → Dec (d ≡ e) → 1 + x < pointerAt v e (zoneOn z e)
       go x l q (no a) = subst (λ (m : ℕ). 1 + x < m) (pointer-else e he a) l
-      go x l q (yes a) = subst (λ (m : ℕ). 1 + x < pointerAt v m z) a (two (old-or-new x (subst (λ (m : ℕ). 1 + x < pointerAt v1 m z) (sym a) l)))
+      go x l q (yes a) = subst (λ (m : ℕ). 1 + x < pointerAt v m (zoneOn z m)) a (two (old-or-new x (subst (λ (m : ℕ). 1 + x < pointerAt v1 m (zoneOn z m)) (sym a) l)))
         where
-          two : (1 + x < pointerAt v d z) ⊎ (1 + x ≡ pointerAt v d z) → 1 + x < pointerAt v d z
+          two : (1 + x < pointerAt v d (zoneOn z d)) ⊎ (1 + x ≡ pointerAt v d (zoneOn z d)) → 1 + x < pointerAt v d (zoneOn z d)
           two (inl m) = m
-          two (inr m) = absurd (n (sym q ∙ subst (λ (y : ℕ). spareAt p v1 y z x .stripe ≡ s) a (ap (λ (y : Rec). y .stripe) (spare-new x m) ∙ read-stripe)))
+          two (inr m) = absurd (n (sym q ∙ subst (λ (y : ℕ). spareAt p v1 y (zoneOn z y) x .stripe ≡ s) a (ap (λ (y : Rec). y .stripe) (spare-new x m) ∙ read-stripe)))
 
   counts-up : (t : ℕ) → counts p 0 seg0 t ≡ true → counts p 0 seg1 t ≡ true
   counts-up t q = as! (in-all (hasChunk seg1 t) (present p 0) (λ e m. let he = present-in p 0 e m .0 in chunk-keeps t e he (counts-in p 0 seg0 t e q he (isIn-empty e)) .has-it))
@@ -584,44 +592,44 @@ module _ (p : Params) (r : Ranged p) (v : View) (sh : Shaped p v) (st : State) (
       off-is x = unfold offsetOf in cond-false (isIn 0 e) t (offsetOn x e t) (isIn-empty e)
 
       as! : recOf p 0 seg0 t e ≡ recOf p 0 seg1 t e → offsetOf 0 seg0 t e ≡ offsetOf 0 seg1 t e → candOf p 0 seg0 t e ≡ candOf p 0 seg1 t e
-      as! a c = unfold candOf zoneOn in λ j. record {
+      as! a c = unfold candOf in λ j. record {
         address = a j .address;
         stamp = a j .stamp;
         serial = serial-same! j;
         drive = e;
         offset = c j;
-        place = placeOf p e ((seg-is p v 0 z ∙ sym (seg-is p v1 0 z)) j) (1 + c j);
+        place = placeOf p e (zoneOn ((seg-is p v 0 z ∙ sym (seg-is p v1 0 z)) j) e) (1 + c j);
       }
 
   pub cand-up : (c : Cand) → CandAt p v 0 c → CandAt p v1 0 c
-  cand-up c k = go (ℕ-discrete z (k .of))
+  cand-up c k = go (segs-differ z (k .of))
     where
       go : Dec (z ≡ k .of) → CandAt p v1 0 c
       go (no n) =
           let (hk, q) = remains-is-used p r v s0 t0 (k .of) (k .remains) in
           cand-goes p r v v1 s0 chunk-tidy c k (chunk-grows .others (k .of) hk n) (sym (grows-used p r v v1 z chunk-grows (k .of) hk) ∙ q)
       go (yes e) =
-          let q : counts p 0 seg0 (k .stripe) ≡ true = subst (λ (x : ℕ). counts p 0 (segmentOf p v 0 x) (k .stripe) ≡ true) (sym e) (k .it-counts) in
+          let q : counts p 0 seg0 (k .stripe) ≡ true = subst (λ (x : Seg). counts p 0 (segmentOf p v 0 x) (k .stripe) ≡ true) (sym e) (k .it-counts) in
           let dd = dataDrive p (k .stripe) (k .position) in
           let hdd = data-drive-lt p (k .stripe) (k .position) (k .position-low) in
           record {
             of = z;
             stripe = k .stripe;
             position = k .position;
-            remains = subst (λ (x : List ℕ). In z x) (grows-remaining p r v v1 z chunk-grows s0 t0) (subst (λ (x : ℕ). In x (remaining p v 0)) (sym e) (k .remains));
+            remains = subst (λ (x : List Seg). In z x) (grows-remaining p r v v1 z chunk-grows s0 t0) (subst (λ (x : Seg). In x (remaining p v 0)) (sym e) (k .remains));
             stripe-low = k .stripe-low;
             it-counts = counts-up (k .stripe) q;
             position-low = k .position-low;
             it-is =
                 k .it-is
-                ∙ ap (λ (x : ℕ). candOf p 0 (segmentOf p v 0 x) (k .stripe) dd) (sym e)
+                ∙ ap (λ (x : Seg). candOf p 0 (segmentOf p v 0 x) (k .stripe) dd) (sym e)
                 ∙ cand-eq (k .stripe) dd (chunk-keeps (k .stripe) dd hdd (counts-in p 0 seg0 (k .stripe) dd q hdd (isIn-empty dd)));
           }
 
   pub cand-down : (c : Cand) (k : CandAt p v1 0 c) → ((k .of ≡ z) × (k .stripe ≡ s)) ⊎ CandAt p v 0 c
-  cand-down c k = go (ℕ-discrete z (k .of))
+  cand-down c k = go (segs-differ z (k .of))
     where
-      hk : k .of < p .Z
+      hk : Named p (k .of)
       hk = remains-is-used p r v1 s0 chunk-tidy (k .of) (k .remains) .0
 
       go : Dec (z ≡ k .of) → ((k .of ≡ z) × (k .stripe ≡ s)) ⊎ CandAt p v 0 c
@@ -633,7 +641,7 @@ module _ (p : Params) (r : Ranged p) (v : View) (sh : Shaped p v) (st : State) (
           two : Dec (k .stripe ≡ s) → ((k .of ≡ z) × (k .stripe ≡ s)) ⊎ CandAt p v 0 c
           two (yes x) = inl (sym e, x)
           two (no x) =
-              let q1 : counts p 0 seg1 (k .stripe) ≡ true = subst (λ (y : ℕ). counts p 0 (segmentOf p v1 0 y) (k .stripe) ≡ true) (sym e) (k .it-counts) in
+              let q1 : counts p 0 seg1 (k .stripe) ≡ true = subst (λ (y : Seg). counts p 0 (segmentOf p v1 0 y) (k .stripe) ≡ true) (sym e) (k .it-counts) in
               let q : counts p 0 seg0 (k .stripe) ≡ true = counts-down (k .stripe) x q1 in
               let dd = dataDrive p (k .stripe) (k .position) in
               let hdd = data-drive-lt p (k .stripe) (k .position) (k .position-low) in
@@ -641,13 +649,13 @@ module _ (p : Params) (r : Ranged p) (v : View) (sh : Shaped p v) (st : State) (
                 of = z;
                 stripe = k .stripe;
                 position = k .position;
-                remains = subst (λ (y : List ℕ). In z y) (sym (grows-remaining p r v v1 z chunk-grows s0 t0)) (subst (λ (y : ℕ). In y (remaining p v1 0)) (sym e) (k .remains));
+                remains = subst (λ (y : List Seg). In z y) (sym (grows-remaining p r v v1 z chunk-grows s0 t0)) (subst (λ (y : Seg). In y (remaining p v1 0)) (sym e) (k .remains));
                 stripe-low = k .stripe-low;
                 it-counts = q;
                 position-low = k .position-low;
                 it-is =
                     k .it-is
-                    ∙ ap (λ (y : ℕ). candOf p 0 (segmentOf p v1 0 y) (k .stripe) dd) (sym e)
+                    ∙ ap (λ (y : Seg). candOf p 0 (segmentOf p v1 0 y) (k .stripe) dd) (sym e)
                     ∙ sym (cand-eq (k .stripe) dd (chunk-keeps (k .stripe) dd hdd (counts-in p 0 seg0 (k .stripe) dd q hdd (isIn-empty dd))));
               })
 
@@ -686,17 +694,17 @@ module _ (p : Params) (r : Ranged p) (v : View) (sh : Shaped p v) (st : State) (
 
   -- where the stripe lies on a drive that has it
   pub landed-chunk : (e : ℕ) → e < p .N → isIn (landedIn st1 i) e ≡ true
-      → (hasChunk seg1 s e ≡ true) × ((offsetOn seg1 e s ≡ offsetIn st1 i e) × (storedRec seg1 s e ≡ spareAt p v1 e z (offsetIn st1 i e)))
+      → (hasChunk seg1 s e ≡ true) × ((offsetOn seg1 e s ≡ offsetIn st1 i e) × (storedRec seg1 s e ≡ spareAt p v1 e (zoneOn z e) (offsetIn st1 i e)))
   landed-chunk e he q =
       let l = flight-here .lands e he q in
       let x = offsetIn st1 i e in
-      let l1 : x < dataStored p (zoneAt v1 e z) = data-stored-below v1 e x (short-after e he) (l .lies) in
-      let w : recordIn p (sealedIn p v1 0 z) (zoneAt v1 e z) x .stripe ≡ s = ap (λ (m : Rec). m .stripe) (unsealed-by-spare v1 e x open-after) ∙ l .of-stripe ∙ landed-stripe i in
+      let l1 : x < dataStored p (zoneAt v1 e (zoneOn z e)) = data-stored-below v1 e x (short-after e he) (l .lies) in
+      let w : recordIn p (sealedIn p v1 0 z) (zoneAt v1 e (zoneOn z e)) x .stripe ≡ s = ap (λ (m : Rec). m .stripe) (unsealed-by-spare v1 e x open-after) ∙ l .of-stripe ∙ landed-stripe i in
       let c = has-chunk p v1 0 z e s x he (isIn-empty e) l1 w in
       let eo : offsetOn seg1 e s ≡ x =
       offset-is p v1 0 z e s x he (isIn-empty e) l1 w
       (λ y m a. l .not-before y m (ap (λ (n : Rec). n .stripe) (sym (unsealed-by-spare v1 e y open-after)) ∙ a ∙ sym (landed-stripe i))) in
-      (c, (eo, chunk-at p v1 0 z e s he (isIn-empty e) c .its-record ∙ ap (recordIn p (sealedIn p v1 0 z) (zoneAt v1 e z)) eo ∙ unsealed-by-spare v1 e x open-after))
+      (c, (eo, chunk-at p v1 0 z e s he (isIn-empty e) c .its-record ∙ ap (recordIn p (sealedIn p v1 0 z) (zoneAt v1 e (zoneOn z e))) eo ∙ unsealed-by-spare v1 e x open-after))
 
   pub counts-now : completes p st i d ≡ true → counts p 0 seg1 s ≡ true
   counts-now q = as! (in-all (hasChunk seg1 s) (present p 0) (λ e m. let he = present-in p 0 e m .0 in landed-chunk e he (all-landed q e he) .0))
@@ -741,13 +749,13 @@ module _ (p : Params) (r : Ranged p) (v : View) (sh : Shaped p v) (st : State) (
           as! = unfold serialAt headerAt in refl
 
       as! : (n dd : ℕ) → dataDrive p (stripeIn st1 i) n ≡ dd → entryIn st1 i n ≡ recOf p 0 seg1 s dd → offsetIn st1 i dd ≡ offsetOf 0 seg1 s dd → landedCand p v1 z st1 i n ≡ candOf p 0 seg1 s dd
-      as! n dd ed e w = unfold landedCand candOf zoneOn in λ j. record {
+      as! n dd ed e w = unfold landedCand candOf in λ j. record {
         address = e j .address;
         stamp = e j .stamp;
         serial = serial-now j;
         drive = ed j;
         offset = (ap (offsetIn st1 i) ed ∙ w) j;
-        place = placeOf p (ed j) (sym (seg-is p v1 0 z) j) (1 + (ap (offsetIn st1 i) ed ∙ w) j);
+        place = placeOf p (ed j) (zoneOn (sym (seg-is p v1 0 z) j) (ed j)) (1 + (ap (offsetIn st1 i) ed ∙ w) j);
       }
 
   -- ---- the address table
@@ -769,7 +777,7 @@ module _ (p : Params) (r : Ranged p) (v : View) (sh : Shaped p v) (st : State) (
       down c k = ⊎-elim
           (λ (x : (k .of ≡ z) × (k .stripe ≡ s)). absurd
           (uncounted-yet q (subst (λ (y : ℕ). counts p 0 seg1 y ≡ true) (x .1)
-          (subst (λ (y : ℕ). counts p 0 (segmentOf p v1 0 y) (k .stripe) ≡ true) (x .0) (k .it-counts)))))
+          (subst (λ (y : Seg). counts p 0 (segmentOf p v1 0 y) (k .stripe) ≡ true) (x .0) (k .it-counts)))))
           (λ x. at-cand p v 0 c x) (cand-down c k)
 
   abbrev mine : List Cand
@@ -795,7 +803,7 @@ module _ (p : Params) (r : Ranged p) (v : View) (sh : Shaped p v) (st : State) (
         remains =
             used-remains p r v1 s0 chunk-tidy z hz (sym (grows-used p r v v1 z chunk-grows z hz)
             ∙ ap not
-            (ne-eqb (pointerAt v 0 z) 0 (λ x. let y = op .has-header 0 (omega (arith, r .drives-low)) in let bad : ⊥ = omega arith in bad)));
+            (ne-eqb (pointerAt v 0 (zoneOn z 0)) 0 (λ x. let y = op .has-header 0 (omega (arith, r .drives-low)) in let bad : ⊥ = omega arith in bad)));
         stripe-low = so .slots-ok i hi .stripe-ok;
         it-counts = counts-now q;
         position-low = l;
@@ -825,29 +833,31 @@ module _ (p : Params) (r : Ranged p) (v : View) (sh : Shaped p v) (st : State) (
           ed : placeDrive p (c .place) ≡ c .drive
           ed = spot-drive p r v 0 c t
 
-          ez : placeZone p (c .place) ≡ k .of
-          ez = cand-zone p r v 0 c k t
+          ez : placeSegment p (c .place) ≡ k .of
+          ez = cand-segment p r v 0 c k t
 
           eb : placeBlock p (c .place) - 1 ≡ c .offset
           eb = ap (λ (x : ℕ). x - 1) (spot-block p r v 0 c t) ∙ (let y : 1 + c .offset - 1 ≡ c .offset = omega arith in y)
 
-          hk : k .of < p .Z
+          hk : Named p (k .of)
           hk = remaining-low p v 0 (k .of) (k .remains)
 
-          stamp! : recordIn p (sealedIn p v1 0 (k .of)) (zoneAt v1 (c .drive) (k .of)) (c .offset) .stamp ≡ c .stamp
-          stamp! = two (ℕ-discrete z (k .of)) ∙ sym (cand-record p r v s0 t0 c k .1)
+          stamp! : recordIn p (sealedIn p v1 0 (k .of)) (zoneAt v1 (c .drive) (zoneOn (k .of) (c .drive))) (c .offset) .stamp ≡ c .stamp
+          stamp! = two (segs-differ z (k .of)) ∙ sym (cand-record p r v s0 t0 c k .1)
             where
               two :
                   Dec (z ≡ k .of)
-                  → recordIn p (sealedIn p v1 0 (k .of)) (zoneAt v1 (c .drive) (k .of)) (c .offset) .stamp ≡ recordIn p (sealedIn p v 0 (k .of))
-                  (zoneAt v (c .drive) (k .of)) (c .offset) .stamp
+                  → recordIn p (sealedIn p v1 0 (k .of)) (zoneAt v1 (c .drive) (zoneOn (k .of) (c .drive))) (c .offset) .stamp ≡ recordIn p (sealedIn p v 0 (k .of))
+                  (zoneAt v (c .drive) (zoneOn (k .of) (c .drive))) (c .offset) .stamp
               two (no n) =
                   ap₂ (λ (x : Bool) (y : Zone). recordIn p x y (c .offset) .stamp)
                   (sym (zones-sealed p r v v1 (k .of) (chunk-grows .others (k .of) hk n)))
                   (sym (chunk-grows .others (k .of) hk n (c .drive) (t .drive-low)))
-              two (yes x) = subst (λ (y : ℕ). recordIn p (sealedIn p v1 0 y) (zoneAt v1 (c .drive) y) (c .offset) .stamp ≡ recordIn p (sealedIn p v 0 y) (zoneAt v (c .drive) y) (c .offset) .stamp) x
+              two (yes x) =
+                  subst (λ (y : Seg). recordIn p (sealedIn p v1 0 y) (zoneAt v1 (c .drive) (zoneOn y (c .drive))) (c .offset) .stamp ≡ recordIn p (sealedIn p v 0 y)
+                  (zoneAt v (c .drive) (zoneOn y (c .drive))) (c .offset) .stamp) x
                   (ap (λ (m : Rec). m .stamp) (unsealed-by-spare v1 (c .drive) (c .offset) open-after ∙ kept-spare (c .drive) (c .offset) (t .drive-low)
-                  (subst (λ (y : ℕ). 1 + c .offset < pointerAt v (c .drive) y) (sym (spot-zone p r v 0 c t) ∙ ez ∙ sym x)
+                  (subst (λ (y : ℕ). 1 + c .offset < pointerAt v (c .drive) y) (sym (spot-zone p r v 0 c t) ∙ cand-zone p r v 0 c k t ∙ ap (λ (y : Seg). zoneOn y (c .drive)) (sym x))
                   (t .visible (isIn-empty (c .drive))))
                   ∙ sym (unsealed-by-spare v (c .drive) (c .offset) open-before)))
 
@@ -855,20 +865,20 @@ module _ (p : Params) (r : Ranged p) (v : View) (sh : Shaped p v) (st : State) (
           serial! = ap headerSerial (sym (grows-header p r v v1 z chunk-grows (k .of) hk)) ∙ sym (its-serial p r v s0 t0 c k)
 
           cand! : heldCand p v1 a (c .place) ≡ c
-          cand! = unfold heldCand recordAt serialAt placeSegment zoneOn in λ j. record {
+          cand! = unfold heldCand recordAt serialAt in λ j. record {
             address = sym ea j;
-            stamp = ((λ l. recordIn p (sealedIn p v1 0 (ez l)) (zoneAt v1 (ed l) (ez l)) (eb l) .stamp) ∙ stamp!) j;
-            serial = (ap (λ (x : ℕ). headerSerial (chunkAt v1 0 x 0 .block)) ez ∙ head!) j;
+            stamp = ((λ l. recordIn p (sealedIn p v1 0 (ez l)) (zoneAt v1 (ed l) (zoneOn (ez l) (ed l))) (eb l) .stamp) ∙ stamp!) j;
+            serial = (ap (λ (x : Seg). headerSerial (chunkAt v1 0 (zoneOn x 0) 0 .block)) ez ∙ head!) j;
             drive = ed j;
             offset = eb j;
             place = c .place;
           }
             where
-              head! : headerSerial (chunkAt v1 0 (k .of) 0 .block) ≡ c .serial
+              head! : headerSerial (chunkAt v1 0 (zoneOn (k .of) 0) 0 .block) ≡ c .serial
               head! = as! serial!
                 where
-                  as! : headerSerial (headerAt v1 0 (k .of)) ≡ c .serial → headerSerial (chunkAt v1 0 (k .of) 0 .block) ≡ c .serial
-                  as! e = unfold headerAt zoneOn in e
+                  as! : headerSerial (headerAt v1 0 (k .of)) ≡ c .serial → headerSerial (chunkAt v1 0 (zoneOn (k .of) 0) 0 .block) ≡ c .serial
+                  as! e = unfold headerAt in e
 
   pub addresses-land : completes p st i d ≡ true → (tb : List ℕ) → tb ≡ addressTable p before! → pointed p v1 tb mine mine tb ≡ addressTable p after!
   addresses-land q tb e =
@@ -885,40 +895,41 @@ module _ (p : Params) (r : Ranged p) (v : View) (sh : Shaped p v) (st : State) (
 
   -- ---- the compact table
 
-  used! : (u : View) → usedAt u z ≡ true → (s1 : ℕ) → Tidy p u s1 → (e : ℕ) → e < p .N → sealedIn p u 0 z ≡ false → rowAt p u 0 e z ≡ recordsIn p false (zoneAt u e z)
+  used! : (u : View) → usedAt u z ≡ true → (s1 : ℕ) → Tidy p u s1 → (e : ℕ) → e < p .N → sealedIn p u 0 z ≡ false → rowAt p u 0 e (zoneOn z e) ≡ recordsIn p false (zoneAt u e (zoneOn z e))
   used! u q s1 ty e he ns =
-      as! (cond-true (remains p u 0 z) (recsOn (segmentOf p u 0 z) e) [] (remains-used p r u s1 ty z hz ∙ q)
+      row-seg p u 0 e z hz
+      ∙ cond-true (remains p u 0 z) (recsOn (segmentOf p u 0 z) e) [] (remains-used p r u s1 ty z hz ∙ q)
       ∙ recs-here p u 0 z e he (isIn-empty e)
-      ∙ ap (λ (w : Bool). recordsIn p w (zoneAt u e z)) ns)
-    where
-      as! : cond (remains p u 0 z) (recsOn (segmentOf p u 0 z) e) [] ≡ recordsIn p false (zoneAt u e z) → rowAt p u 0 e z ≡ recordsIn p false (zoneAt u e z)
-      as! x = unfold rowAt in x
+      ∙ ap (λ (w : Bool). recordsIn p w (zoneAt u e (zoneOn z e))) ns
 
   used-zone : usedAt v z ≡ true
-  used-zone = ap not (ne-eqb (pointerAt v 0 z) 0 (λ x. let y = op .has-header 0 (omega (arith, r .drives-low)) in let bad : ⊥ = omega arith in bad))
+  used-zone = ap not (ne-eqb (pointerAt v 0 (zoneOn z 0)) 0 (λ x. let y = op .has-header 0 (omega (arith, r .drives-low)) in let bad : ⊥ = omega arith in bad))
 
-  row-before : (e : ℕ) → e < p .N → rowAt p v 0 e z ≡ recordsIn p false (zoneAt v e z)
+  row-before : (e : ℕ) → e < p .N → rowAt p v 0 e (zoneOn z e) ≡ recordsIn p false (zoneAt v e (zoneOn z e))
   row-before e he = used! v used-zone s0 t0 e he open-before
 
-  row-after : (e : ℕ) → e < p .N → rowAt p v1 0 e z ≡ recordsIn p false (zoneAt v1 e z)
+  row-after : (e : ℕ) → e < p .N → rowAt p v1 0 e (zoneOn z e) ≡ recordsIn p false (zoneAt v1 e (zoneOn z e))
   row-after e he = used! v1 (sym (grows-used p r v v1 z chunk-grows z hz) ∙ used-zone) s0 chunk-tidy e he open-after
 
-  long! : (u : View) → pointerAt u d z ≤ 1 + p .S → length (recordsIn p false (zoneAt u d z)) ≡ pointerAt u d z - 1
-  long! u l = length-records p false (zoneAt u d z) ∙ as! l
+  long! : (u : View) → pointerAt u d (zoneOn z d) ≤ 1 + p .S → length (recordsIn p false (zoneAt u d (zoneOn z d))) ≡ pointerAt u d (zoneOn z d) - 1
+  long! u l = length-records p false (zoneAt u d (zoneOn z d)) ∙ as! l
     where
-      as! : pointerAt u d z ≤ 1 + p .S → dataStored p (zoneAt u d z) ≡ pointerAt u d z - 1
+      as! : pointerAt u d (zoneOn z d) ≤ 1 + p .S → dataStored p (zoneAt u d (zoneOn z d)) ≡ pointerAt u d (zoneOn z d) - 1
       as! l = unfold dataStored pointerAt in omega arith
 
-  entry-at : (u : View) (x : ℕ) → pointerAt u d z ≤ 1 + p .S → 1 + x < pointerAt u d z → getD (compactRow p (recordsIn p false (zoneAt u d z))) x 0 ≡ compactEntry p (spareAt p u d z x .stripe)
+  entry-at : (u : View) (x : ℕ) → pointerAt u d (zoneOn z d) ≤ 1 + p .S → 1 + x < pointerAt u d (zoneOn z d)
+      → getD (compactRow p (recordsIn p false (zoneAt u d (zoneOn z d)))) x 0 ≡ compactEntry p (spareAt p u d (zoneOn z d) x .stripe)
   entry-at u x l m =
-      row-at p (recordsIn p false (zoneAt u d z)) x (let e = long! u l in omega arith)
-      ∙ ap (λ (a : Rec). compactEntry p (a .stripe)) (record-at p false (zoneAt u d z) x (mkRec 0 0 0) (data-stored-below u d x l m))
+      row-at p (recordsIn p false (zoneAt u d (zoneOn z d))) x (let e = long! u l in omega arith)
+      ∙ ap (λ (a : Rec). compactEntry p (a .stripe)) (record-at p false (zoneAt u d (zoneOn z d)) x (mkRec 0 0 0) (data-stored-below u d x l m))
 
-  pub compact-lands : set (compactTable p (segments p v 0)) (compactAt p d z o) (compactEntry p s) ≡ compactTable p (segments p v1 0)
+  pub compact-lands : set (compactTable p (segments p v 0)) (compactAt p d (zoneOn z d) o) (compactEntry p s) ≡ compactTable p (segments p v1 0)
   compact-lands =
-      grid-ext p (λ e y. compactRow p (rowAt p v1 0 e y)) (compact-row-long p v1 0) (set cs (compactAt p d z o) (compactEntry p s))
-      (length-set cs (compactAt p d z o) (compactEntry p s) ∙ length-compact p v 0)
-      (r .stripes-low) (let a = r .zones-low in omega arith) entry
+      grid-ext p (λ e y. compactRow p (rowAt p v1 0 e y)) (compact-row-long p v1 0) (set cs (compactAt p d (zoneOn z d) o) (compactEntry p s))
+      (length-set cs (compactAt p d (zoneOn z d) o) (compactEntry p s) ∙ length-compact p v 0)
+      (r .stripes-low) (let a = r .zones-low in omega arith)
+      (λ e k x he hk hx. by-seg (λ n. getD (set cs (compactAt p d (zoneOn z d) o) (compactEntry p s)) (compactAt p e n x) 0 ≡ getD (compactRow p (rowAt p v1 0 e n)) x 0) p e k hk
+      (λ y hy. entry e y x he hy hx))
       ∙ sym (compact-is p v1 0)
     where
       cs : List ℕ
@@ -930,48 +941,57 @@ module _ (p : Params) (r : Ranged p) (v : View) (sh : Shaped p v) (st : State) (
       base : (e y x : ℕ) → compactAt p e y x ≡ (e * p .Z + y) * p .S + x
       base e y x = unfold compactAt in refl
 
-      cells : (e y x : ℕ) → y < p .Z → x < p .S → compactAt p e y x ≡ compactAt p d z o → (e ≡ d) × ((y ≡ z) × (x ≡ o))
+      cells : (e : ℕ) (y : Seg) (x : ℕ) → Named p y → x < p .S → compactAt p e (zoneOn y e) x ≡ compactAt p d (zoneOn z d) o → (e ≡ d) × ((y ≡ z) × (x ≡ o))
       cells e y x hy hx q =
-          let f : (e * p .Z + y) * p .S + x ≡ (d * p .Z + z) * p .S + o = sym (base e y x) ∙ q ∙ base d z o in
-          let a : e * p .Z + y ≡ d * p .Z + z = sym (digits-div (e * p .Z + y) hx) ∙ ap (λ (n : ℕ). n / p .S) f ∙ digits-div (d * p .Z + z) os in
-          let c : x ≡ o = sym (digits-mod (e * p .Z + y) hx) ∙ ap (λ (n : ℕ). n % p .S) f ∙ digits-mod (d * p .Z + z) os in
-          (index-drive (p .Z) e y d z hy hz a, (index-zone (p .Z) e y d z hy hz a, c))
+          let ye = zoneOn y e in
+          let zd = zoneOn z d in
+          let hye = zone-on-lt p y e hy in
+          let hzd = zone-on-lt p z d hz in
+          let f : (e * p .Z + ye) * p .S + x ≡ (d * p .Z + zd) * p .S + o = sym (base e ye x) ∙ q ∙ base d zd o in
+          let a : e * p .Z + ye ≡ d * p .Z + zd = sym (digits-div (e * p .Z + ye) hx) ∙ ap (λ (n : ℕ). n / p .S) f ∙ digits-div (d * p .Z + zd) os in
+          let c : x ≡ o = sym (digits-mod (e * p .Z + ye) hx) ∙ ap (λ (n : ℕ). n % p .S) f ∙ digits-mod (d * p .Z + zd) os in
+          let w : e ≡ d = index-drive (p .Z) e ye d zd hye hzd a in
+          (w, (zone-once p y z e hy hz (index-zone (p .Z) e ye d zd hye hzd a ∙ ap (zoneOn z) (sym w)), c))
 
-      entry : (e y x : ℕ) → e < p .N → y < p .Z → x < p .S → getD (set cs (compactAt p d z o) (compactEntry p s)) (compactAt p e y x) 0 ≡ getD (compactRow p (rowAt p v1 0 e y)) x 0
-      entry e y x he hy hx = go (ℕ-discrete z y) (ℕ-discrete d e) (ℕ-discrete x o)
+      entry : (e : ℕ) (y : Seg) (x : ℕ) → e < p .N → Named p y → x < p .S
+          → getD (set cs (compactAt p d (zoneOn z d) o) (compactEntry p s)) (compactAt p e (zoneOn y e) x) 0 ≡ getD (compactRow p (rowAt p v1 0 e (zoneOn y e))) x 0
+      entry e y x he hy hx = go (segs-differ z y) (ℕ-discrete d e) (ℕ-discrete x o)
         where
-          else! : (compactAt p e y x ≡ compactAt p d z o → ⊥) → getD (set cs (compactAt p d z o) (compactEntry p s)) (compactAt p e y x) 0 ≡ getD (compactRow p (rowAt p v 0 e y)) x 0
-          else! n = getD-set-other cs (compactAt p d z o) (compactAt p e y x) (compactEntry p s) 0 n ∙ compact-at p v 0 e y x he hy hx
+          else! : (compactAt p e (zoneOn y e) x ≡ compactAt p d (zoneOn z d) o → ⊥)
+              → getD (set cs (compactAt p d (zoneOn z d) o) (compactEntry p s)) (compactAt p e (zoneOn y e) x) 0 ≡ getD (compactRow p (rowAt p v 0 e (zoneOn y e))) x 0
+          else! n = getD-set-other cs (compactAt p d (zoneOn z d) o) (compactAt p e (zoneOn y e) x) (compactEntry p s) 0 n ∙ compact-at p v 0 e (zoneOn y e) x he (zone-on-lt p y e hy) hx
 
-          go : Dec (z ≡ y) → Dec (d ≡ e) → Dec (x ≡ o) → getD (set cs (compactAt p d z o) (compactEntry p s)) (compactAt p e y x) 0 ≡ getD (compactRow p (rowAt p v1 0 e y)) x 0
+          go : Dec (z ≡ y) → Dec (d ≡ e) → Dec (x ≡ o) → getD (set cs (compactAt p d (zoneOn z d) o) (compactEntry p s)) (compactAt p e (zoneOn y e) x) 0 ≡ getD
+              (compactRow p (rowAt p v1 0 e (zoneOn y e))) x 0
           go (no n) b c =
               else! (λ q. n (sym (cells e y x hy hx q .1 .0))) ∙ ap (λ (l : List Rec). getD (compactRow p l) x 0) (row-goes p r v v1 s0 s0 t0 chunk-tidy e y hy (chunk-grows .others y hy n))
           go (yes a) (no n) c =
               else! (λ q. n (sym (cells e y x hy hx q .0)))
-              ∙ subst (λ (m : ℕ). getD (compactRow p (rowAt p v 0 e m)) x 0 ≡ getD (compactRow p (rowAt p v1 0 e m)) x 0) a
+              ∙ subst (λ (m : Seg). getD (compactRow p (rowAt p v 0 e (zoneOn m e))) x 0 ≡ getD (compactRow p (rowAt p v1 0 e (zoneOn m e))) x 0) a
               (ap (λ (l : List Rec). getD (compactRow p l) x 0) (row-before e he ∙ ap (recordsIn p false) (sym (chunk-other e z he hz (inl n))) ∙ sym (row-after e he)))
           go (yes a) (yes b) (yes c) =
-              ap (λ (m : ℕ). getD (set cs (compactAt p d z o) (compactEntry p s)) m 0) ((λ j. compactAt p (sym b j) (sym a j) (c j)))
-              ∙ getD-set-same cs (compactAt p d z o) (compactEntry p s) 0 (subst (λ (m : ℕ). compactAt p d z o < m) (sym (length-compact p v 0)) (compact-within p d z o hd hz os))
-              ∙ sym ((λ j. getD (compactRow p (rowAt p v1 0 (sym b j) (sym a j))) (c j) 0) ∙ ap (λ (l : List Rec). getD (compactRow p l) o 0) (row-after d hd)
+              ap (λ (m : ℕ). getD (set cs (compactAt p d (zoneOn z d) o) (compactEntry p s)) m 0) ((λ j. compactAt p (sym b j) (zoneOn (sym a j) (sym b j)) (c j)))
+              ∙ getD-set-same cs (compactAt p d (zoneOn z d) o) (compactEntry p s) 0
+              (subst (λ (m : ℕ). compactAt p d (zoneOn z d) o < m) (sym (length-compact p v 0)) (compact-within p d (zoneOn z d) o hd (zone-on-lt p z d hz) os))
+              ∙ sym ((λ j. getD (compactRow p (rowAt p v1 0 (sym b j) (zoneOn (sym a j) (sym b j)))) (c j) 0) ∙ ap (λ (l : List Rec). getD (compactRow p l) o 0) (row-after d hd)
               ∙ entry-at v1 o (short-after d hd) (let q = chunk-pointer in let k = offset-next in omega arith)
               ∙ ap (λ (m : Rec). compactEntry p (m .stripe)) (spare-new o offset-next)
               ∙ ap (compactEntry p) read-stripe)
           go (yes a) (yes b) (no n) =
               else! (λ q. n (cells e y x hy hx q .1 .1))
-              ∙ (λ j. getD (compactRow p (rowAt p v 0 (sym b j) (sym a j))) x 0)
-              ∙ two (decLt (1 + x) (pointerAt v d z))
-              ∙ (λ j. getD (compactRow p (rowAt p v1 0 (b j) (a j))) x 0)
+              ∙ (λ j. getD (compactRow p (rowAt p v 0 (sym b j) (zoneOn (sym a j) (sym b j)))) x 0)
+              ∙ two (decLt (1 + x) (pointerAt v d (zoneOn z d)))
+              ∙ (λ j. getD (compactRow p (rowAt p v1 0 (b j) (zoneOn (a j) (b j)))) x 0)
             where
-              two : Dec (1 + x < pointerAt v d z) → getD (compactRow p (rowAt p v 0 d z)) x 0 ≡ getD (compactRow p (rowAt p v1 0 d z)) x 0
+              two : Dec (1 + x < pointerAt v d (zoneOn z d)) → getD (compactRow p (rowAt p v 0 d (zoneOn z d))) x 0 ≡ getD (compactRow p (rowAt p v1 0 d (zoneOn z d))) x 0
               two (yes l) =
                   ap (λ (m : List Rec). getD (compactRow p m) x 0) (row-before d hd) ∙ entry-at v x (short-before d hd) l
                   ∙ ap (λ (m : Rec). compactEntry p (m .stripe)) (sym (spare-old x l))
                   ∙ sym (ap (λ (m : List Rec). getD (compactRow p m) x 0) (row-after d hd) ∙ entry-at v1 x (short-after d hd) (let q = chunk-pointer in omega arith))
               two (no l) =
-                  ap (λ (m : List Rec). getD (compactRow p m) x 0) (row-before d hd) ∙ row-past p (recordsIn p false (zoneAt v d z)) x (let q = long! v (short-before d hd) in omega arith)
+                  ap (λ (m : List Rec). getD (compactRow p m) x 0) (row-before d hd) ∙ row-past p (recordsIn p false (zoneAt v d (zoneOn z d))) x (let q = long! v (short-before d hd) in omega arith)
                   ∙ sym (ap (λ (m : List Rec). getD (compactRow p m) x 0) (row-after d hd)
-                  ∙ row-past p (recordsIn p false (zoneAt v1 d z)) x
+                  ∙ row-past p (recordsIn p false (zoneAt v1 d (zoneOn z d))) x
                   (let q = long! v1 (short-after d hd) in let w = chunk-pointer in let k = offset-next in omega arith))
 
   -- ---- the state
@@ -1021,19 +1041,19 @@ module _ (p : Params) (r : Ranged p) (v : View) (sh : Shaped p v) (st : State) (
               (let a = pointer-data in let c = pointer-some in omega arith))
           go (no n) = subst (λ (x : ℕ). x < p .S) (sym (getD-set-other (st .offsets) (cell i d) j o 0 n)) (so .offsets-low j)
 
-  opened-mark : st1 .opened ≡ suc z
+  opened-mark : st1 .opened ≡ suc (z .name)
   opened-mark = as! oz
     where
-      as! : st .opened ≡ suc z → st1 .opened ≡ suc z
+      as! : st .opened ≡ suc (z .name) → st1 .opened ≡ suc (z .name)
       as! e = unfold markLanded in e
 
   -- segments but this one are as they were
-  pub sealed1 : (y : ℕ) → y < p .Z → usedAt v1 y ≡ true → (y ≡ z) ⊎ ((e : ℕ) → e < p .N → pointerAt v1 e y ≡ capacity p)
-  sealed1 y hy q = go (ℕ-discrete z y)
+  pub sealed1 : (y : Seg) → Named p y → usedAt v1 y ≡ true → (y ≡ z) ⊎ ((e : ℕ) → e < p .N → pointerAt v1 e (zoneOn y e) ≡ capacity p)
+  sealed1 y hy q = go (segs-differ z y)
     where
-      go : Dec (z ≡ y) → (y ≡ z) ⊎ ((e : ℕ) → e < p .N → pointerAt v1 e y ≡ capacity p)
+      go : Dec (z ≡ y) → (y ≡ z) ⊎ ((e : ℕ) → e < p .N → pointerAt v1 e (zoneOn y e) ≡ capacity p)
       go (yes e) = inl (sym e)
-      go (no n) = ⊎-elim (λ x. inl (let a : suc z ≡ suc y = sym oz ∙ x in let w : y ≡ z = omega arith in w))
+      go (no n) = ⊎-elim (λ x. inl (let a : suc (z .name) ≡ suc (y .name) = sym oz ∙ x in name-once y z (omega arith)))
           (λ x. inr (λ e he. sym (zones-pointer p r v v1 y (chunk-grows .others y hy n) e he) ∙ x e he)) (h .sealed-but y hy (grows-used p r v v1 z chunk-grows y hy ∙ q))
 
   ls1 : Lists st1
@@ -1043,10 +1063,10 @@ module _ (p : Params) (r : Ranged p) (v : View) (sh : Shaped p v) (st : State) (
   pub chunk-healthy : HealthyState p v1 st1
   chunk-healthy = record {
     tidy = subst (λ (x : ℕ). Tidy p v1 x) (sym serial1) chunk-tidy;
-    sealed-but = λ y hy q. ⊎-elim (λ e. inl (opened-mark ∙ ap suc (sym e))) (λ x. inr x) (sealed1 y hy q);
-    opens-at = λ y q. subst (λ (x : ℕ). OpenZone p v1 st1 (flies st1) x) (let a : suc z ≡ suc y = sym opened-mark ∙ q in let w : z ≡ y = omega arith in w)
+    sealed-but = λ y hy q. ⊎-elim (λ e. inl (opened-mark ∙ ap (λ (x : Seg). suc (x .name)) (sym e))) (λ x. inr x) (sealed1 y hy q);
+    opens-at = λ y q. subst (λ (x : Seg). OpenZone p v1 st1 (flies st1) x) (let a : suc (z .name) ≡ suc (y .name) = sym opened-mark ∙ q in name-once z y (omega arith))
         (busy-same p v1 st1 (flies st) (flies st1) z (λ j hj. flies1 j) chunk-open);
-    shut = λ q. absurd (let a : suc z ≡ 0 = sym opened-mark ∙ q in let bad : ⊥ = omega arith in bad);
+    shut = λ q. absurd (let a : suc (z .name) ≡ 0 = sym opened-mark ∙ q in let bad : ⊥ = omega arith in bad);
     serial-fits = subst (λ (x : ℕ). x < 256 ^ 8) (sym serial1) (h .serial-fits);
     stamp-fits = subst (λ (x : ℕ). x < 256 ^ 8) (sym stamp1) (h .stamp-fits);
     lists = ls1;
@@ -1181,8 +1201,8 @@ module _ (p : Params) (r : Ranged p) (v : View) (sh : Shaped p v) (st : State) (
   freed-open q ns = record {
     opened-zone = hz;
     has-header = chunk-open .has-header;
-    count = λ e he. ap (λ (x : ℕ). pointerAt v1 e z + x) (awaits-freed q e he) ∙ chunk-open .count e he ∙ ap suc (next1 ∙ sym next2);
-    below-next = λ e x he y. subst (λ (m : ℕ). spareAt p v1 e z x .stripe < m) (next1 ∙ sym next2) (chunk-open .below-next e x he y);
+    count = λ e he. ap (λ (x : ℕ). pointerAt v1 e (zoneOn z e) + x) (awaits-freed q e he) ∙ chunk-open .count e he ∙ ap suc (next1 ∙ sym next2);
+    below-next = λ e x he y. subst (λ (m : ℕ). spareAt p v1 e (zoneOn z e) x .stripe < m) (next1 ∙ sym next2) (chunk-open .below-next e x he y);
     flight =
         λ j hj x. let n : j ≡ i
         → ⊥ = λ a. clash x (subst (λ (m : ℕ). flies st2 m ≡ false) (sym a) flies2-here) in flight-same p v1 st1 st2 z j (slot2 j n)
@@ -1201,9 +1221,9 @@ module _ (p : Params) (r : Ranged p) (v : View) (sh : Shaped p v) (st : State) (
   pub freed-healthy : completes p st i d ≡ true → (st .next ≡ p .S → length (inFlight st) ≡ 1 → ⊥) → HealthyState p v1 st2
   freed-healthy q ns = record {
     tidy = subst (λ (x : ℕ). Tidy p v1 x) (sym serial2) chunk-tidy;
-    sealed-but = λ y hy x. ⊎-elim (λ e. inl (opened2 ∙ ap suc (sym e))) (λ w. inr w) (sealed1 y hy x);
-    opens-at = λ y x. subst (λ (m : ℕ). OpenZone p v1 st2 (flies st2) m) (let a : suc z ≡ suc y = sym opened2 ∙ x in let w : z ≡ y = omega arith in w) (freed-open q ns);
-    shut = λ x. absurd (let a : suc z ≡ 0 = sym opened2 ∙ x in let bad : ⊥ = omega arith in bad);
+    sealed-but = λ y hy x. ⊎-elim (λ e. inl (opened2 ∙ ap (λ (x : Seg). suc (x .name)) (sym e))) (λ w. inr w) (sealed1 y hy x);
+    opens-at = λ y x. subst (λ (m : Seg). OpenZone p v1 st2 (flies st2) m) (let a : suc (z .name) ≡ suc (y .name) = sym opened2 ∙ x in name-once z y (omega arith)) (freed-open q ns);
+    shut = λ x. absurd (let a : suc (z .name) ≡ 0 = sym opened2 ∙ x in let bad : ⊥ = omega arith in bad);
     serial-fits = subst (λ (x : ℕ). x < 256 ^ 8) (sym serial2) (h .serial-fits);
     stamp-fits = subst (λ (x : ℕ). x < 256 ^ 8) (sym stamp2) (h .stamp-fits);
     lists = free-lists st1 ls1 i hi;
@@ -1215,14 +1235,14 @@ module _ (p : Params) (r : Ranged p) (v : View) (sh : Shaped p v) (st : State) (
       stamp2 : st2 .stamp .0 ≡ st .stamp .0
       stamp2 = unfold freeStripe markLanded in refl
 
-      opened2 : st2 .opened ≡ suc z
+      opened2 : st2 .opened ≡ suc (z .name)
       opened2 = as! oz
         where
-          as! : st .opened ≡ suc z → st2 .opened ≡ suc z
+          as! : st .opened ≡ suc (z .name) → st2 .opened ≡ suc (z .name)
           as! e = unfold freeStripe markLanded in e
 
   -- with the last stripe of the segment complete, every zone has its S chunks
-  pub all-behind : completes p st i d ≡ true → st .next ≡ p .S → length (inFlight st) ≡ 1 → (e : ℕ) → e < p .N → pointerAt v1 e z ≡ 1 + p .S
+  pub all-behind : completes p st i d ≡ true → st .next ≡ p .S → length (inFlight st) ≡ 1 → (e : ℕ) → e < p .N → pointerAt v1 e (zoneOn z e) ≡ 1 + p .S
   all-behind q nx l e he =
       let f = flights-fewer in
       let t : tally (flies st2) slots ≡ 0 = omega arith in

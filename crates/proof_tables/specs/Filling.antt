@@ -14,7 +14,7 @@ use lib.Count.{ones}
 use lib.Pow.{pow-pos}
 use Rattle.spec.specs.declared.Params.{Params}
 use Rattle.spec.specs.declared.State.{State}
-use Rattle.spec.specs.Drives.{View, pointerAt}
+use Rattle.spec.specs.Drives.{View, pointerAt, zoneOn}
 use Rattle.spec.specs.Layout.{dataDrive}
 use Rattle.spec.specs.Lists.{only}
 use Rattle.spec.specs.Memory.{stripeIn, filledIn, isFull, beginStripe, addEntry, setSlotBlock, setSlotParity}
@@ -149,7 +149,7 @@ pub fill-healthy :
     → HealthyState p v (addEntry st i a t w)
 fill-healthy p r v st i a t w h so hi fi f ha ht = record {
   tidy = subst (λ (x : ℕ). Tidy p v x) (sym serial-same) (h .tidy);
-  sealed-but = λ z hz q. subst (λ (x : ℕ). (x ≡ suc z) ⊎ ((d : ℕ) → d < p .N → pointerAt v d z ≡ capacity p)) (sym opened-same) (h .sealed-but z hz q);
+  sealed-but = λ z hz q. subst (λ (x : ℕ). (x ≡ suc (z .name)) ⊎ ((d : ℕ) → d < p .N → pointerAt v d (zoneOn z d) ≡ capacity p)) (sym opened-same) (h .sealed-but z hz q);
   opens-at = λ z q. busy-same p v (addEntry st i a t w) (flies st) (flies (addEntry st i a t w)) z flies-same
       (add-open p r v st (h .lists) (flies st) z i a t w hi fi f ha ht (h .opens-at z (sym opened-same ∙ q)) (λ j hj. so .slots-ok j hj .filled-ok));
   shut = λ q. clash fi (h .shut (sym opened-same ∙ q) i hi);

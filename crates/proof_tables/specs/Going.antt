@@ -15,7 +15,7 @@ use Rattle.spec.specs.Answers.{kind, isRefused, isRefusedAs}
 use Rattle.spec.specs.Calls.{Check, firstRefusal, decided, outcome}
 use Rattle.spec.specs.Closing.{padded, closeChecks, closePlan, closeVerdict}
 use Rattle.spec.specs.Counts.{paddingAddress, lastCount}
-use Rattle.spec.specs.Drives.{View, pointerAt, Store, storeView, Disk, storeDisk, storeAll, emptyZones}
+use Rattle.spec.specs.Drives.{View, pointerAt, Store, storeView, Disk, storeDisk, storeAll, emptySegs, Seg}
 use Rattle.spec.specs.Engine.{storeCount, lentBlock, verdict, lentOk, callOn, callDisk}
 use Rattle.spec.specs.Engine.Call.{write, close}
 use Rattle.spec.specs.Lists.{keep, isNil, isIn}
@@ -134,13 +134,13 @@ module _ (p : Params) (k : Disk) (m : Memory) (u : Run p k m) (we : Well p k m) 
         stamp-left : noStamp st ≡ false → eqb (st .stamp .0) lastCount ≡ false
         stamp-left q = unfold noStamp in q
 
-        zones-left : scarce p v (cond (opens p st) 2 1) ≡ false → isNil (emptyZones p v) ≡ false
-        zones-left q = go (emptyZones p v) (few q)
+        zones-left : scarce p v (cond (opens p st) 2 1) ≡ false → isNil (emptySegs p v) ≡ false
+        zones-left q = go (emptySegs p v) (few q)
           where
-            few : scarce p v (cond (opens p st) 2 1) ≡ false → cond (opens p st) 2 1 < length (emptyZones p v)
-            few q = unfold scarce in leb-false (length (emptyZones p v)) (cond (opens p st) 2 1) q
+            few : scarce p v (cond (opens p st) 2 1) ≡ false → cond (opens p st) 2 1 < length (emptySegs p v)
+            few q = unfold scarce in leb-false (length (emptySegs p v)) (cond (opens p st) 2 1) q
 
-            go : (l : List ℕ) → cond (opens p st) 2 1 < length l → isNil l ≡ false
+            go : (l : List Seg) → cond (opens p st) 2 1 < length l → isNil l ≡ false
             go [] h = absurd (let z : ⊥ = omega arith in z)
             go (x ∷ l) h = unfold isNil in refl
 

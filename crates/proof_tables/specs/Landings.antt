@@ -14,7 +14,7 @@ use Rattle.spec.specs.declared.State.{State}
 use Rattle.spec.specs.Answers.{kind, isRefused, isRefusedAs}
 use Rattle.spec.specs.Calls.{Check, firstRefusal, Plan, decided, outcome}
 use Rattle.spec.specs.Counts.{neverPlace}
-use Rattle.spec.specs.Drives.{View, pointerAt, Store, storeView, Disk, storeDisk, storeAll, zoneOn}
+use Rattle.spec.specs.Drives.{View, pointerAt, Store, storeView, Disk, storeDisk, storeAll, zoneOn, Seg}
 use Rattle.spec.specs.Drives.Store.{put}
 use Rattle.spec.specs.Engine.{storeCount, lentBlock, verdict, lentOk, callOn, callDisk}
 use Rattle.spec.specs.Engine.Call.{land}
@@ -31,6 +31,7 @@ use Rattle.law_basic.specs.Geometry.{between-of, Ranged, ranged}
 use Rattle.law_basic.specs.Ranges.{Test, test, and-left, and-right, and-both, length-below, getD-below}
 use Rattle.law_basic.specs.Ranges.Test.{yes!, no! }
 use Rattle.law_basic.specs.Stores.{storeAll-append}
+use Rattle.law_basic.specs.Segs.{segs-differ, Named, zone-on-lt}
 use Rattle.law_views.specs.Views.{seen}
 use Rattle.law_checks.specs.Passed.{land-passed, land-mild}
 use Rattle.law_drives.specs.Growing.{Grows, grows-used, grows-tidy, grows-candidates, grows-compact}
@@ -91,7 +92,7 @@ pub record LandWaits (p : Params) (v : View) (st : State) (d s : ℕ) : Type 0 w
   pub slot-flies : flies st (slotOf st s) ≡ true
   pub slot-stripe : stripeIn st (slotOf st s) ≡ s
   pub slot-ready : ready p st (slotOf st s) d ≡ true
-  pub slot-opened : st .opened ≡ suc (openSegment st)
+  pub slot-opened : st .opened ≡ suc (openSegment st .name)
 
 pub land-waits : (p : Params) (v : View) (st : State) (d s : ℕ) → HealthyState p v st → waiting p st d s ≡ true → LandWaits p v st d s
 land-waits p v st d s h q =
@@ -107,9 +108,9 @@ land-waits p v st d s h q =
         let q1 : x && y ≡ true = and-left (x && y) z q in
         (ltb-true d (p .N) (and-left x y q1), (ltb-true (slotOf st s) 8 (and-right x y q1), and-right (x && y) z q))
 
-    opened! : (o : ℕ) → st .opened ≡ o → slotOf st s < 8 → flies st (slotOf st s) ≡ true → st .opened ≡ suc (openSegment st)
+    opened! : (o : ℕ) → st .opened ≡ o → slotOf st s < 8 → flies st (slotOf st s) ≡ true → st .opened ≡ suc (openSegment st .name)
     opened! zero e b f = clash f (h .shut e (slotOf st s) b)
-    opened! (suc z) e b f = unfold openSegment in omega arith
+    opened! (suc n) e b f = unfold openSegment in omega arith
 
 -- ---- the call
 
@@ -123,7 +124,7 @@ module _ (p : Params) (k : Disk) (m : Memory) (u : Run p k m) (we : Well p k m) 
   abbrev i : ℕ
   i = slotOf st s
 
-  abbrev z : ℕ
+  abbrev z : Seg
   z = openSegment st
 
   rg : Ranged p
@@ -160,46 +161,46 @@ module _ (p : Params) (k : Disk) (m : Memory) (u : Run p k m) (we : Well p k m) 
     abbrev rd : ready p st i d ≡ true
     rd = w .slot-ready
 
-    abbrev oz : st .opened ≡ suc z
+    abbrev oz : st .opened ≡ suc (z .name)
     oz = w .slot-opened
 
     abbrev store : Store
-    store = put d z b (recordBytes (flightRec p st i d))
+    store = put d (zoneOn z d) b (recordBytes (flightRec p st i d))
 
     abbrev v1 : View
     v1 = storeView store v
 
     abbrev o : ℕ
-    o = pointerAt v d z - 1
+    o = pointerAt v d (zoneOn z d) - 1
 
     abbrev st1 : State
     st1 = markLanded st i d o
 
     -- ---- refusal 9 never comes
 
-    never-misplaced : misplaced p v d z s ≡ false
+    never-misplaced : misplaced p v d (zoneOn z d) s ≡ false
     never-misplaced = as! (
         let a = pointer-some p rg v sh st he so z oz d i hd hi fi rd b lb in
         let c = pointer-data p rg v sh st he so z oz d i hd hi fi rd b lb in
         let e = offset-group p rg v sh st he so z oz d i hd hi fi rd b lb in
-        and-both (between 1 (p .S) (pointerAt v d z)) (eqb (group p (pointerAt v d z - 1)) (group p s)) (between-of 1 (p .S) (pointerAt v d z) a c)
-        (eq-eqb (group p (pointerAt v d z - 1)) (group p s) (e ∙ ap (group p) (w .slot-stripe))))
+        and-both (between 1 (p .S) (pointerAt v d (zoneOn z d))) (eqb (group p (pointerAt v d (zoneOn z d) - 1)) (group p s)) (between-of 1 (p .S) (pointerAt v d (zoneOn z d)) a c)
+        (eq-eqb (group p (pointerAt v d (zoneOn z d) - 1)) (group p s) (e ∙ ap (group p) (w .slot-stripe))))
       where
-        as! : between 1 (p .S) (pointerAt v d z) && eqb (group p (pointerAt v d z - 1)) (group p s) ≡ true → misplaced p v d z s ≡ false
+        as! : between 1 (p .S) (pointerAt v d (zoneOn z d)) && eqb (group p (pointerAt v d (zoneOn z d) - 1)) (group p s) ≡ true → misplaced p v d (zoneOn z d) s ≡ false
         as! q = unfold misplaced in ap not q
 
     never-overfull : overfull p v d z ≡ false
     never-overfull =
-        as! (in-none (λ e. ltb (capacity p) (pointerAt v e z + cond (eqb e d) 1 0 + footers p)) (below (p .N))
-        (λ e mm. le-ltb (capacity p) (pointerAt v e z + cond (eqb e d) 1 0 + footers p) (fits e (below-in (p .N) e mm) (ℕ-discrete e d))))
+        as! (in-none (λ e. ltb (capacity p) (pointerAt v e (zoneOn z e) + cond (eqb e d) 1 0 + footers p)) (below (p .N))
+        (λ e mm. le-ltb (capacity p) (pointerAt v e (zoneOn z e) + cond (eqb e d) 1 0 + footers p) (fits e (below-in (p .N) e mm) (ℕ-discrete e d))))
       where
-        as! : any (λ e. ltb (capacity p) (pointerAt v e z + cond (eqb e d) 1 0 + footers p)) (below (p .N)) ≡ false → overfull p v d z ≡ false
-        as! q = unfold overfull drivesOf zoneOn in q
+        as! : any (λ e. ltb (capacity p) (pointerAt v e (zoneOn z e) + cond (eqb e d) 1 0 + footers p)) (below (p .N)) ≡ false → overfull p v d z ≡ false
+        as! q = unfold overfull drivesOf in q
 
-        fits : (e : ℕ) → e < p .N → Dec (e ≡ d) → pointerAt v e z + cond (eqb e d) 1 0 + footers p ≤ capacity p
+        fits : (e : ℕ) → e < p .N → Dec (e ≡ d) → pointerAt v e (zoneOn z e) + cond (eqb e d) 1 0 + footers p ≤ capacity p
         fits e h (yes x) =
             let c = pointer-data p rg v sh st he so z oz d i hd hi fi rd b lb in
-            let y : pointerAt v e z ≡ pointerAt v d z = ap (λ (n : ℕ). pointerAt v n z) x in
+            let y : pointerAt v e (zoneOn z e) ≡ pointerAt v d (zoneOn z d) = ap (λ (n : ℕ). pointerAt v n (zoneOn z n)) x in
             let n : _≡_ {A = ℕ} (cond (eqb e d) 1 0) 1 = cond-true (eqb e d) 1 0 (eq-eqb e d x) in
             let l = capacity-is p rg in
             omega arith
@@ -237,9 +238,9 @@ module _ (p : Params) (k : Disk) (m : Memory) (u : Run p k m) (we : Well p k m) 
             unfold entryFaults in cond-false (ltb (e .address) (p .L)) (cond (eqb (placeAt (m .addresses) (e .address)) neverPlace) [] (placeFaults p v 0 (placeAt (m .addresses) (e .address)))) [] x
 
     faults-none : landFaults p v m d s ≡ []
-    faults-none = unfold landFaults zoneOn consIf in
-        rw (never-misplaced) (ap (λ (c : Bool). consIf (seals p st i d && c) z (cond (completes p st i d) (flat (entryFaults p v (m .addresses)) (entriesIn st i)) [])) never-overfull
-        ∙ ap (λ (c : Bool). consIf c z (cond (completes p st i d) (flat (entryFaults p v (m .addresses)) (entriesIn st i)) [])) (and-false-right (seals p st i d) false refl)
+    faults-none = unfold landFaults consIf in
+        rw (never-misplaced) (ap (λ (c : Bool). consIf (seals p st i d && c) (zoneOn z d) (cond (completes p st i d) (flat (entryFaults p v (m .addresses)) (entriesIn st i)) [])) never-overfull
+        ∙ ap (λ (c : Bool). consIf c (zoneOn z d) (cond (completes p st i d) (flat (entryFaults p v (m .addresses)) (entriesIn st i)) [])) (and-false-right (seals p st i d) false refl)
         ∙ ap (λ (l : List ℕ). cond (completes p st i d) l []) zs-none ∙ cond-same (completes p st i d) [])
       where
         zs : List ℕ
@@ -251,19 +252,19 @@ module _ (p : Params) (k : Disk) (m : Memory) (u : Run p k m) (we : Well p k m) 
     -- ---- what it leaves
 
     abbrev new-compact : List ℕ
-    new-compact = set (m .compact) (compactAt p d z o) (compactEntry p s)
+    new-compact = set (m .compact) (compactAt p d (zoneOn z d) o) (compactEntry p s)
 
     compact-now : new-compact ≡ compactTable p (segments p v1 0)
     compact-now =
-        ap (λ (l : List ℕ). set l (compactAt p d z o) (compactEntry p s)) (compact-table p k m u we)
-        ∙ ap (λ (x : ℕ). set (compactTable p (segments p v 0)) (compactAt p d z o) (compactEntry p x)) (sym (w .slot-stripe))
+        ap (λ (l : List ℕ). set l (compactAt p d (zoneOn z d) o) (compactEntry p s)) (compact-table p k m u we)
+        ∙ ap (λ (x : ℕ). set (compactTable p (segments p v 0)) (compactAt p d (zoneOn z d) o) (compactEntry p x)) (sym (w .slot-stripe))
         ∙ compact-lands p rg v sh st he so z oz d i hd hi fi rd b lb
 
     one-store : storeAll storeView (store ∷ []) v ≡ v1
     one-store = unfold storeAll in refl
 
     store-within : (x : Store) → In x (store ∷ []) → Within p x
-    store-within x (inl e) = subst (λ (y : Store). Within p y) (sym e) (hd, he .opens-at z oz .opened-zone)
+    store-within x (inl e) = subst (λ (y : Store). Within p y) (sym e) (hd, zone-on-lt p z d (he .opens-at z oz .opened-zone))
     store-within x (inr n) = absurd n
 
     -- the memory after a chunk
@@ -293,10 +294,10 @@ module _ (p : Params) (k : Disk) (m : Memory) (u : Run p k m) (we : Well p k m) 
         (land-table-said ∙ addresses-stay p rg v sh st he so z oz d i hd hi fi rd b lb q)))
       where
         stores-is : completes p st i d ≡ false → plan .stores ≡ store ∷ []
-        stores-is q = unfold landPlan landStore seals zoneOn in rw q
+        stores-is q = unfold landPlan landStore seals in rw q
 
         memory-is : completes p st i d ≡ false → plan .memory ≡ mkMemory st1 (m .addresses) new-compact (m .inflight)
-        memory-is q = unfold landPlan seals zoneOn in rw q
+        memory-is q = unfold landPlan seals in rw q
 
     abbrev st2 : State
     st2 = freeStripe st1 i
@@ -316,10 +317,10 @@ module _ (p : Params) (k : Disk) (m : Memory) (u : Run p k m) (we : Well p k m) 
         (freed-healthy p rg v sh st he so z oz d i hd hi fi rd b lb q (λ x y. not-last x y)) (addresses-now q)))
       where
         stores-is : seals p st i d ≡ false → plan .stores ≡ store ∷ []
-        stores-is ns = unfold landPlan landStore zoneOn in rw ns
+        stores-is ns = unfold landPlan landStore in rw ns
 
         memory-is : completes p st i d ≡ true → seals p st i d ≡ false → plan .memory ≡ mkMemory st2 new-addresses new-compact (m .inflight)
-        memory-is q ns = unfold landPlan landStore zoneOn in rw (ns, q)
+        memory-is q ns = unfold landPlan landStore in rw (ns, q)
 
         not-last : st .next ≡ p .S → length (inFlight st) ≡ 1 → ⊥
         not-last x y = clash (yes q x y) ns
@@ -347,7 +348,7 @@ module _ (p : Params) (k : Disk) (m : Memory) (u : Run p k m) (we : Well p k m) 
         let none! : (j : ℕ) → j < 8 → flies su j ≡ false = λ j hj. closed-flies j ∙ last-flight p rg v sh st he so z oz d i hd hi fi rd b lb one j hj in
         let hk : HealthyState p v2 su = record {
           tidy = subst (λ (x : ℕ). Tidy p v2 x) (sym closed-serial) (grows-tidy p rg v1 v2 z gr s0 t1);
-          sealed-but = λ y hy x. inr (sealed! y hy v2 x gr (ℕ-discrete z y) (seal-pointer p rg v1 sh1 z hz behind));
+          sealed-but = λ y hy x. inr (sealed! y hy v2 x gr (segs-differ z y) (seal-pointer p rg v1 sh1 z hz behind));
           opens-at = λ y x. absurd (let a = sym closed-opened ∙ x in let bad : ⊥ = omega arith in bad);
           shut = λ x j hj. none! j hj;
           serial-fits = subst (λ (x : ℕ). x < 256 ^ 8) (sym closed-serial) (he .serial-fits);
@@ -415,25 +416,25 @@ module _ (p : Params) (k : Disk) (m : Memory) (u : Run p k m) (we : Well p k m) 
         }
 
         sealed! :
-            (y : ℕ)
-            → y < p .Z
+            (y : Seg)
+            → Named p y
             → (v2 : View)
             → usedAt v2 y ≡ true
             → Grows p v1 v2 z
             → Dec (z ≡ y)
-            → ((e : ℕ) → e < p .N → pointerAt v2 e z ≡ capacity p)
+            → ((e : ℕ) → e < p .N → pointerAt v2 e (zoneOn z e) ≡ capacity p)
             → (e : ℕ)
             → e < p .N
-            → pointerAt v2 e y ≡ capacity p
-        sealed! y hy v2 x gr (yes a) f e h = subst (λ (n : ℕ). pointerAt v2 e n ≡ capacity p) a (f e h)
+            → pointerAt v2 e (zoneOn y e) ≡ capacity p
+        sealed! y hy v2 x gr (yes a) f e h = subst (λ (n : Seg). pointerAt v2 e (zoneOn n e) ≡ capacity p) a (f e h)
         sealed! y hy v2 x gr (no n) f e h = ⊎-elim (λ a. absurd (n (sym a))) (λ a. sym (zones-pointer p rg v1 v2 y (gr .others y hy n) e h) ∙ a e h)
             (sealed1 p rg v sh st he so z oz d i hd hi fi rd b lb y hy (grows-used p rg v1 v2 z gr y hy ∙ x))
 
         stores-is : seals p st i d ≡ true → plan .stores ≡ (store ∷ []) ++ sealStores p v1 z
-        stores-is sl = unfold landPlan landStore zoneOn in rw sl
+        stores-is sl = unfold landPlan landStore in rw sl
 
         memory-is : completes p st i d ≡ true → seals p st i d ≡ true → plan .memory ≡ mkMemory (setClosed st2) new-addresses new-compact (m .inflight)
-        memory-is q sl = unfold landPlan landStore zoneOn in rw (sl, q)
+        memory-is q sl = unfold landPlan landStore in rw (sl, q)
 
     run-landed : (x : Disk) → x ≡ storeAll (storeDisk p) (plan .stores) k → Run p x (plan .memory)
     run-landed x ex = subst (λ (y : Disk). Run p y (plan .memory)) (sym ex) (go (test (completes p st i d)) (test (seals p st i d)))

@@ -10,7 +10,7 @@ use native.Mathlib.Omega.{arith}
 use lib.Dec.{eqb}
 use Rattle.spec.specs.declared.Params.{Params}
 use Rattle.spec.specs.declared.State.{State}
-use Rattle.spec.specs.Drives.{View, pointerAt}
+use Rattle.spec.specs.Drives.{View, pointerAt, Seg, zoneOn}
 use Rattle.spec.specs.Layout.{dataPosition, isData, group, Rec}
 use Rattle.spec.specs.Lists.{any, tally, isIn}
 use Rattle.spec.specs.Memory.{slots, cell, stripeIn, filledIn, landedIn, entryIn, beginStripe, addEntry}
@@ -30,12 +30,12 @@ use Rattle.proof_tables.specs.Slots.{add-entry-other}
 use Rattle.proof_tables.specs.Tallies.{tally-cong, tally-none, tally-some, tally-more}
 
 -- the eighths in use, told otherwise
-pub busy-same : (p : Params) (v : View) (st : State) (busy busy′ : ℕ → Bool) (z : ℕ) → ((i : ℕ) → i < 8 → busy i ≡ busy′ i) → OpenZone p v st busy z → OpenZone p v st busy′ z
+pub busy-same : (p : Params) (v : View) (st : State) (busy busy′ : ℕ → Bool) (z : Seg) → ((i : ℕ) → i < 8 → busy i ≡ busy′ i) → OpenZone p v st busy z → OpenZone p v st busy′ z
 busy-same p v st busy busy′ z e o = record {
   opened-zone = o .opened-zone;
   has-header = o .has-header;
   count =
-      λ d h. ap (λ (x : ℕ). pointerAt v d z + x) (sym
+      λ d h. ap (λ (x : ℕ). pointerAt v d (zoneOn z d) + x) (sym
       (tally-cong (awaits st busy d) (awaits st busy′ d) slots
       (λ i m. ap (λ (b : Bool). b && not (isIn (landedIn st i) d)) (e i (slots-in i m)))))
       ∙ o .count d h;
@@ -47,7 +47,7 @@ busy-same p v st busy busy′ z e o = record {
 
 -- ---- an entry more
 
-module _ (p : Params) (r : Ranged p) (v : View) (st : State) (ls : Lists st) (busy : ℕ → Bool) (z i a t w : ℕ) (hi : i < 8) (bi : busy i ≡ true)
+module _ (p : Params) (r : Ranged p) (v : View) (st : State) (ls : Lists st) (busy : ℕ → Bool) (z : Seg) (i a t w : ℕ) (hi : i < 8) (bi : busy i ≡ true)
     (room : filledIn st i < dataCount p) (ha : a < 256 ^ 8) (ht : t < 256 ^ 8) (o : OpenZone p v st busy z) where
   abbrev st′ : State
   st′ = addEntry st i a t w
@@ -80,7 +80,7 @@ module _ (p : Params) (r : Ranged p) (v : View) (st : State) (ls : Lists st) (bu
   add-flight : (j : ℕ) → j < 8 → busy j ≡ true → filledIn st j ≤ dataCount p → SlotFlies p v st z j → SlotFlies p v st′ z j
   add-flight j hj b l f = record {
     begun = begun-is;
-    group-low = subst (λ (x : ℕ). (d : ℕ) → d < p .N → group p x * p .G < pointerAt v d z) (sym en) (f .group-low);
+    group-low = subst (λ (x : ℕ). (d : ℕ) → d < p .N → group p x * p .G < pointerAt v d (zoneOn z d)) (sym en) (f .group-low);
     group-high = high-is;
     not-there = λ d o hd q x y. f .not-there d o hd (ap (λ (m : ℕ). isIn m d) (sym (landed-added st ls i hi a t w j)) ∙ q) x (y ∙ en);
     lands = λ d hd q. landed-as d (f .lands d hd (ap (λ (m : ℕ). isIn m d) (sym (landed-added st ls i hi a t w j)) ∙ q));
@@ -101,14 +101,14 @@ module _ (p : Params) (r : Ranged p) (v : View) (st : State) (ls : Lists st) (bu
 
       landed-as : (d : ℕ) → LandedAt p v st z j d → LandedAt p v st′ z j d
       landed-as d n = record {
-        lies = subst (λ (x : ℕ). 1 + x < pointerAt v d z) (sym (offset-added st ls i hi a t w j d)) (n .lies);
-        of-stripe = ap (λ (x : ℕ). spareAt p v d z x .stripe) (offset-added st ls i hi a t w j d) ∙ n .of-stripe ∙ sym en;
+        lies = subst (λ (x : ℕ). 1 + x < pointerAt v d (zoneOn z d)) (sym (offset-added st ls i hi a t w j d)) (n .lies);
+        of-stripe = ap (λ (x : ℕ). spareAt p v d (zoneOn z d) x .stripe) (offset-added st ls i hi a t w j d) ∙ n .of-stripe ∙ sym en;
         not-before = λ o h q. n .not-before o (subst (λ (x : ℕ). o < x) (offset-added st ls i hi a t w j d) h) (q ∙ en);
         is-entry = λ q.
             let (x, y) = n .is-entry (ap (λ (s : ℕ). isData p s d) (sym en) ∙ q) in
             let ep : dataPosition p (stripeIn st′ j) d ≡ dataPosition p (stripeIn st j) d = ap (λ (s : ℕ). dataPosition p s d) en in (
               subst (λ (k : ℕ). k < filledIn st′ j) (sym ep) (let q = filled-least j in omega arith),
-              ap (spareAt p v d z) (offset-added st ls i hi a t w j d) ∙ y ∙ sym (ap (entryIn st′ j) ep ∙ is-kept j (dataPosition p (stripeIn st j) d) x l),
+              ap (spareAt p v d (zoneOn z d)) (offset-added st ls i hi a t w j d) ∙ y ∙ sym (ap (entryIn st′ j) ep ∙ is-kept j (dataPosition p (stripeIn st j) d) x l),
             );
       }
 
@@ -135,11 +135,11 @@ module _ (p : Params) (r : Ranged p) (v : View) (st : State) (ls : Lists st) (bu
     opened-zone = o .opened-zone;
     has-header = o .has-header;
     count =
-        λ d h. ap (λ (x : ℕ). pointerAt v d z + x) (tally-cong (awaits st′ busy d) (awaits st busy d) slots
+        λ d h. ap (λ (x : ℕ). pointerAt v d (zoneOn z d) + x) (tally-cong (awaits st′ busy d) (awaits st busy d) slots
         (λ j m. ap (λ (x : ℕ). busy j && not (isIn x d)) (landed-added st ls i hi a t w j)))
         ∙ o .count d h
         ∙ ap suc (sym next-is);
-    below-next = λ d e h q. subst (λ (x : ℕ). spareAt p v d z e .stripe < x) (sym next-is) (o .below-next d e h q);
+    below-next = λ d e h q. subst (λ (x : ℕ). spareAt p v d (zoneOn z d) e .stripe < x) (sym next-is) (o .below-next d e h q);
     flight = λ j h q. add-flight j h q (l j h) (o .flight j h q);
     once = λ j k hj hk x y e. o .once j k hj hk x y (sym (number-added st ls i hi a t w j) ∙ e ∙ number-added st ls i hi a t w k);
     goes-on = λ q. o .goes-on (sym next-is ∙ q);
@@ -163,7 +163,7 @@ group-over p r s =
     let q : suc (s / p .G) * p .G ≡ s / p .G * p .G + p .G = suc-mul (s / p .G) (p .G) in
     subst (λ (x : ℕ). suc s ≤ suc x * p .G) (sym (group-quotient p s)) (omega arith)
 
-module _ (p : Params) (r : Ranged p) (v : View) (st : State) (ls : Lists st) (busy : ℕ → Bool) (z i : ℕ) (hi : i < 8) (bi : busy i ≡ false)
+module _ (p : Params) (r : Ranged p) (v : View) (st : State) (ls : Lists st) (busy : ℕ → Bool) (z : Seg) (i : ℕ) (hi : i < 8) (bi : busy i ≡ false)
     (nx : st .next < p .S) (gr : (j : ℕ) → j < 8 → busy j ≡ true → group p (stripeIn st j) ≡ group p (st .next)) (o : OpenZone p v st busy z) where
   abbrev su : State
   su = beginStripe st i
@@ -191,14 +191,14 @@ module _ (p : Params) (r : Ranged p) (v : View) (st : State) (ls : Lists st) (bu
       (and-false-left (busy i) (not (isIn (landedIn st i) d)) bi)
 
   -- with nothing in flight the pointers are behind the stripes begun
-  low-here : (d : ℕ) → d < p .N → group p (st .next) * p .G < pointerAt v d z
+  low-here : (d : ℕ) → d < p .N → group p (st .next) * p .G < pointerAt v d (zoneOn z d)
   low-here d hd = go (test (any busy slots))
     where
-      go : Test (any busy slots) → group p (st .next) * p .G < pointerAt v d z
+      go : Test (any busy slots) → group p (st .next) * p .G < pointerAt v d (zoneOn z d)
       go (yes! q) =
           let (j, m, b) = any-in busy slots q in
           let hj = slots-in j m in
-          subst (λ (x : ℕ). x * p .G < pointerAt v d z) (gr j hj b) (o .flight j hj b .group-low d hd)
+          subst (λ (x : ℕ). x * p .G < pointerAt v d (zoneOn z d)) (gr j hj b) (o .flight j hj b .group-low d hd)
       go (no! q) =
           let e : tally (awaits st busy d) slots ≡ 0 = tally-none (awaits st busy d) slots (λ j m. and-false-left (busy j) (not (isIn (landedIn st j) d)) (none-in busy slots q j m)) in
           let c = o .count d hd in
@@ -210,7 +210,7 @@ module _ (p : Params) (r : Ranged p) (v : View) (st : State) (ls : Lists st) (bu
       let en = number-begun st ls i hi in
       record {
         begun = subst (λ (x : ℕ). x < su .next) (sym en) (subst (λ (x : ℕ). st .next < x) (sym next-su) (omega arith));
-        group-low = subst (λ (x : ℕ). (d : ℕ) → d < p .N → group p x * p .G < pointerAt v d z) (sym en) low-here;
+        group-low = subst (λ (x : ℕ). (d : ℕ) → d < p .N → group p x * p .G < pointerAt v d (zoneOn z d)) (sym en) low-here;
         group-high = subst (λ (x : ℕ). su .next ≤ suc (group p x) * p .G) (sym en) (subst (λ (x : ℕ). x ≤ suc (group p (st .next)) * p .G) (sym next-su) (group-over p r (st .next)));
         not-there = λ d e hd q x y. let l = o .below-next d e hd x in let s = y ∙ en in let bad : ⊥ = omega arith in bad;
         lands = λ d hd q. clash q (ap (λ (x : ℕ). isIn x d) (landed-begun st ls i hi) ∙ isIn-empty d);
@@ -224,21 +224,21 @@ module _ (p : Params) (r : Ranged p) (v : View) (st : State) (ls : Lists st) (bu
       let ef = begin-filled-other st ls i hi j n in
       record {
         begun = subst (λ (x : ℕ). x < su .next) (sym en) (subst (λ (x : ℕ). stripeIn st j < x) (sym next-su) (let l = f .begun in omega arith));
-        group-low = subst (λ (x : ℕ). (d : ℕ) → d < p .N → group p x * p .G < pointerAt v d z) (sym en) (f .group-low);
+        group-low = subst (λ (x : ℕ). (d : ℕ) → d < p .N → group p x * p .G < pointerAt v d (zoneOn z d)) (sym en) (f .group-low);
         group-high = subst (λ (x : ℕ). su .next ≤ suc (group p x) * p .G) (sym en)
             (subst (λ (x : ℕ). x ≤ suc (group p (stripeIn st j)) * p .G) (sym next-su) (subst (λ (x : ℕ). suc (st .next) ≤ suc x * p .G) (sym g) (group-over p r (st .next))));
         not-there = λ d e hd q x y. f .not-there d e hd (ap (λ (m : ℕ). isIn m d) (sym el) ∙ q) x (y ∙ en);
         lands = λ d hd q.
             let l = f .lands d hd (ap (λ (m : ℕ). isIn m d) (sym el) ∙ q) in
             record {
-              lies = subst (λ (x : ℕ). 1 + x < pointerAt v d z) (sym (begin-offset st ls i hi j d)) (l .lies);
-              of-stripe = ap (λ (x : ℕ). spareAt p v d z x .stripe) (begin-offset st ls i hi j d) ∙ l .of-stripe ∙ sym en;
+              lies = subst (λ (x : ℕ). 1 + x < pointerAt v d (zoneOn z d)) (sym (begin-offset st ls i hi j d)) (l .lies);
+              of-stripe = ap (λ (x : ℕ). spareAt p v d (zoneOn z d) x .stripe) (begin-offset st ls i hi j d) ∙ l .of-stripe ∙ sym en;
               not-before = λ e h q. l .not-before e (subst (λ (x : ℕ). e < x) (begin-offset st ls i hi j d) h) (q ∙ en);
               is-entry = λ q.
                   let (x, y) = l .is-entry (ap (λ (s : ℕ). isData p s d) (sym en) ∙ q) in
                   let ep : dataPosition p (stripeIn su j) d ≡ dataPosition p (stripeIn st j) d = ap (λ (s : ℕ). dataPosition p s d) en in (
                     subst (λ (k : ℕ). k < filledIn su j) (sym ep) (subst (λ (k : ℕ). dataPosition p (stripeIn st j) d < k) (sym ef) x),
-                    ap (spareAt p v d z) (begin-offset st ls i hi j d) ∙ y ∙ sym (ap (entryIn su j) ep ∙ begin-entry-other st ls i hi j (dataPosition p (stripeIn st j) d) n),
+                    ap (spareAt p v d (zoneOn z d)) (begin-offset st ls i hi j d) ∙ y ∙ sym (ap (entryIn su j) ep ∙ begin-entry-other st ls i hi j (dataPosition p (stripeIn st j) d) n),
                   );
             };
         entries-low = λ e h. subst (λ (x : Rec). (x .address < 256 ^ 8) × (x .stamp < 256 ^ 8)) (sym (begin-entry-other st ls i hi j e n)) (f .entries-low e (subst (λ (x : ℕ). e < x) ef h));
@@ -249,10 +249,10 @@ module _ (p : Params) (r : Ranged p) (v : View) (st : State) (ls : Lists st) (bu
     opened-zone = o .opened-zone;
     has-header = o .has-header;
     count =
-        λ d h. ap (λ (x : ℕ). pointerAt v d z + x) (tally-su d)
-        ∙ (let c = o .count d h in let e : pointerAt v d z + suc (tally (awaits st busy d) slots) ≡ suc (suc (st .next)) = omega arith in e)
+        λ d h. ap (λ (x : ℕ). pointerAt v d (zoneOn z d) + x) (tally-su d)
+        ∙ (let c = o .count d h in let e : pointerAt v d (zoneOn z d) + suc (tally (awaits st busy d) slots) ≡ suc (suc (st .next)) = omega arith in e)
         ∙ ap suc (sym next-su);
-    below-next = λ d e h q. subst (λ (x : ℕ). spareAt p v d z e .stripe < x) (sym next-su) (let l = o .below-next d e h q in omega arith);
+    below-next = λ d e h q. subst (λ (x : ℕ). spareAt p v d (zoneOn z d) e .stripe < x) (sym next-su) (let l = o .below-next d e h q in omega arith);
     flight = λ j h q. go j h q (ℕ-discrete j i);
     once = λ j k hj hk x y e. two j k hj hk x y e (ℕ-discrete j i) (ℕ-discrete k i);
     goes-on = λ q. tally-some more slots i (in-slots i hi) more-here;

@@ -11,7 +11,7 @@ use Rattle.spec.specs.declared.Params.{Params}
 use Rattle.spec.specs.declared.State.{State}
 use Rattle.spec.specs.Answers.{kind, isRefused, isRefusedAs}
 use Rattle.spec.specs.Calls.{Check, firstRefusal, Plan, decided, outcome}
-use Rattle.spec.specs.Drives.{View, zoneAt, chunkAt, Store, storeView, Disk, storeDisk, storeAll, segmentNumbers, zoneOn, placeSegment, emptyZones, sealedIn, recordIn, recordAt, resetStores}
+use Rattle.spec.specs.Drives.{View, zoneAt, chunkAt, Store, storeView, Disk, storeDisk, storeAll, allSegs, zoneOn, placeSegment, emptySegs, sealedIn, recordIn, recordAt, resetStores}
 use Rattle.spec.specs.Engine.{storeCount, lentBlock, verdict, lentOk, callOn, callDisk}
 use Rattle.spec.specs.Engine.Call.{reclaim}
 use Rattle.spec.specs.History.{step}
@@ -25,23 +25,25 @@ use Rattle.spec.specs.Reclaim.{placesIn, segmentPlaces, liveIn, flying, Victim,
 use Rattle.spec.specs.Reclaim.{victimLive, idle, reclaimChecks, cleared, resetPlan, copyPlan, reclaimVerdict}
 use Rattle.spec.specs.Segments.{Segment, segmentOf, segments, storedRec, recOf, candOf, candidates, addressTable}
 use Rattle.spec.specs.Write.{opens, noSerial, mustWait, scarce, sending}
+use Rattle.spec.specs.Drives.{Seg}
 use Rattle.law_basic.specs.Geometry.{between-of, Ranged, ranged}
 use Rattle.law_basic.specs.Mask.{isIn-empty}
 use Rattle.law_basic.specs.Ranges.{Test, test, nil-is}
 use Rattle.law_basic.specs.Ranges.Test.{yes!, no! }
+use Rattle.law_basic.specs.Segs.{Named, zone-on-lt, place-segment-zone}
 use Rattle.law_code.specs.Chunks.{rec-here}
 use Rattle.law_views.specs.Views.{seen}
 use Rattle.law_drives.specs.Best.{fewer-is}
 use Rattle.law_drives.specs.Lengths.{whole-of}
 use Rattle.law_checks.specs.Passed.{strayFaults, ReclaimPassed, reclaim-passed, reclaim-mild}
 use Rattle.law_drives.specs.Settled.{sealed-full}
-use Rattle.law_drives.specs.Members.{In, in-map, map-in, in-flat, in-keep, keep-in, keep-nothing, in-below, below-in, first-in, is-member, member-is}
+use Rattle.law_drives.specs.Members.{In, in-map, map-in, in-flat, in-keep, keep-in, keep-nothing, in-below, first-in, is-member, member-is}
 use Rattle.law_drives.specs.Range.{capacity-over}
 use Rattle.law_drives.specs.Records.{record-low}
 use Rattle.law_drives.specs.Resets.{reset-roomy, reset-within}
-use Rattle.law_drives.specs.Segs.{remaining-low, CandAt}
+use Rattle.law_drives.specs.Segs.{remaining-low, CandAt, segs-in}
 use Rattle.law_drives.specs.Settled.{its-drive, its-offset, chunk-of-it}
-use Rattle.law_drives.specs.Spots.{cand-zone, spot-of, spot-block, spot-zone, spot-drive}
+use Rattle.law_drives.specs.Spots.{cand-zone, spot-of, spot-block, spot-zone, spot-drive, cand-segment}
 use Rattle.law_drives.specs.States.{StateOk, state-of}
 use Rattle.law_drives.specs.Tests.{true-false, cond-true, cond-false}
 use Rattle.law_drives.specs.Tidy.{Tidy}
@@ -66,7 +68,7 @@ fewest-is a (b ∷ bs) w q = two (fewest-is (fewer a b) bs w q)
     two (inl e) = ⊎-elim (λ x. inl x) (λ x. inr (inl x)) (fewer-is a b w e)
 
 pub record Taken (p : Params) (v : View) (tb : List ℕ) (w : Opt Victim) : Type 0 where
-  pub taken-low : victimSegment w < p .Z
+  pub taken-low : Named p (victimSegment w)
   pub taken-sealed : sealedIn p v 0 (victimSegment w) ≡ true
   pub taken-live : victimLive w ≡ liveIn p (placesIn p tb) (victimSegment w)
 
@@ -76,17 +78,17 @@ victim-taken p v tb q = go (victim p v tb) refl q
     qs : List ℕ
     qs = placesIn p tb
 
-    member : (w : Victim) → victim p v tb ≡ some w → In w (map (victimOf p qs) (keep (sealedIn p v 0) (below (p .Z))))
-    member w e = step (fewest-is none (map (victimOf p qs) (keep (sealedIn p v 0) (below (p .Z)))) w (as! e))
+    member : (w : Victim) → victim p v tb ≡ some w → In w (map (victimOf p qs) (keep (sealedIn p v 0) (allSegs p)))
+    member w e = step (fewest-is none (map (victimOf p qs) (keep (sealedIn p v 0) (allSegs p))) w (as! e))
       where
-        as! : victim p v tb ≡ some w → fewest none (map (victimOf p qs) (keep (sealedIn p v 0) (below (p .Z)))) ≡ some w
-        as! e = unfold victim segmentNumbers in e
+        as! : victim p v tb ≡ some w → fewest none (map (victimOf p qs) (keep (sealedIn p v 0) (allSegs p))) ≡ some w
+        as! e = unfold victim in e
 
-        step : (none ≡ some w) ⊎ In w (map (victimOf p qs) (keep (sealedIn p v 0) (below (p .Z)))) → In w (map (victimOf p qs) (keep (sealedIn p v 0) (below (p .Z))))
+        step : (none ≡ some w) ⊎ In w (map (victimOf p qs) (keep (sealedIn p v 0) (allSegs p))) → In w (map (victimOf p qs) (keep (sealedIn p v 0) (allSegs p)))
         step (inl x) = absurd (let z : _≡_ {A = ℕ} 0 1 = cc in let y : ⊥ = omega arith in y)
         step (inr m) = m
 
-    of-victim : (g : ℕ) → g < p .Z → sealedIn p v 0 g ≡ true → Taken p v tb (some (victimOf p qs g))
+    of-victim : (g : Seg) → Named p g → sealedIn p v 0 g ≡ true → Taken p v tb (some (victimOf p qs g))
     of-victim g hg s = unfold victimSegment victimLive victimOf in record { taken-low = hg; taken-sealed = s; taken-live = refl }
 
     go : (w : Opt Victim) → victim p v tb ≡ w → isNone w ≡ false → Taken p v tb w
@@ -95,50 +97,51 @@ victim-taken p v tb q = go (victim p v tb) refl q
         none! : isNone none ≡ false → true ≡ false
         none! x = unfold isNone in x
     go (some w) e x =
-        let (g, m, f) = map-in (victimOf p qs) (keep (sealedIn p v 0) (below (p .Z))) w (member w e) in
-        let (i, s) = keep-in (sealedIn p v 0) (below (p .Z)) g m in
-        subst (λ (y : Victim). Taken p v tb (some y)) (sym f) (of-victim g (below-in (p .Z) g i) s)
+        let (g, m, f) = map-in (victimOf p qs) (keep (sealedIn p v 0) (allSegs p)) w (member w e) in
+        let (i, s) = keep-in (sealedIn p v 0) (allSegs p) g m in
+        subst (λ (y : Victim). Taken p v tb (some y)) (sym f) (of-victim g (segs-in p g i) s)
 
 -- ---- live blocks
 
-pub live-in : (p : Params) (qs : List ℕ) (g q : ℕ) → In q (liveIn p qs g) → In q qs
+pub live-in : (p : Params) (qs : List ℕ) (g : Seg) (q : ℕ) → In q (liveIn p qs g) → In q qs
 live-in p qs g q m = is-member q qs (keep-in (λ q. isMember q qs) (segmentPlaces p g) q (as! m) .1)
   where
     as! : In q (liveIn p qs g) → In q (keep (λ q. isMember q qs) (segmentPlaces p g))
     as! m = unfold liveIn in m
 
-in-live : (p : Params) (qs : List ℕ) (g d b : ℕ) → d < p .N → b < capacity p → In (placeOf p d g b) qs → In (placeOf p d g b) (liveIn p qs g)
-in-live p qs g d b hd hb m = as! (in-keep (λ q. isMember q qs) (segmentPlaces p g) (placeOf p d g b) place (member-is (placeOf p d g b) qs m))
+in-live : (p : Params) (qs : List ℕ) (g : Seg) (d b : ℕ) → d < p .N → b < capacity p → In (placeOf p d (zoneOn g d) b) qs → In (placeOf p d (zoneOn g d) b) (liveIn p qs g)
+in-live p qs g d b hd hb m = as! (in-keep (λ q. isMember q qs) (segmentPlaces p g) (placeOf p d (zoneOn g d) b) place (member-is (placeOf p d (zoneOn g d) b) qs m))
   where
-    as! : In (placeOf p d g b) (keep (λ q. isMember q qs) (segmentPlaces p g)) → In (placeOf p d g b) (liveIn p qs g)
+    as! : In (placeOf p d (zoneOn g d) b) (keep (λ q. isMember q qs) (segmentPlaces p g)) → In (placeOf p d (zoneOn g d) b) (liveIn p qs g)
     as! m = unfold liveIn in m
 
-    place : In (placeOf p d g b) (segmentPlaces p g)
-    place = unfold segmentPlaces drivesOf zoneOn in
-        in-flat (λ d. map (placeOf p d g) (below (capacity p))) (below (p .N)) d (placeOf p d g b) (in-below (p .N) d hd) (in-map (placeOf p d g) (below (capacity p)) b (in-below (capacity p) b hb))
+    place : In (placeOf p d (zoneOn g d) b) (segmentPlaces p g)
+    place = unfold segmentPlaces drivesOf in
+        in-flat (λ d. map (placeOf p d (zoneOn g d)) (below (capacity p))) (below (p .N)) d (placeOf p d (zoneOn g d) b) (in-below (p .N) d hd)
+        (in-map (placeOf p d (zoneOn g d)) (below (capacity p)) b (in-below (capacity p) b hb))
 
 -- with none live, no record of the segment holds
-pub dead-segment : (p : Params) (r : Ranged p) (v : View) (tb : List ℕ) → tb ≡ addressTable p (candidates p 0 (segments p v 0)) → (g : ℕ) → liveIn p (placesIn p tb) g ≡ []
+pub dead-segment : (p : Params) (r : Ranged p) (v : View) (tb : List ℕ) → tb ≡ addressTable p (candidates p 0 (segments p v 0)) → (g : Seg) → liveIn p (placesIn p tb) g ≡ []
     → (a : ℕ) (c : Cand) (k : CandAt p v 0 c) → a < p .L → best none (candsOf a (candidates p 0 (segments p v 0))) ≡ some c → k .of ≡ g → ⊥
 dead-segment p r v tb e g n a c k ha b eo =
     let t = spot-of p r v 0 c k in
-    let ez : t .zone ≡ g = sym (spot-zone p r v 0 c t) ∙ cand-zone p r v 0 c k t ∙ eo in
-    let ep : c .place ≡ placeOf p (c .drive) g (1 + c .offset) = t .place-is ∙ ap (λ (x : ℕ). placeOf p (c .drive) x (1 + c .offset)) ez in
+    let ez : t .zone ≡ zoneOn g (c .drive) = sym (spot-zone p r v 0 c t) ∙ cand-zone p r v 0 c k t ∙ ap (λ (x : Seg). zoneOn x (c .drive)) eo in
+    let ep : c .place ≡ placeOf p (c .drive) (zoneOn g (c .drive)) (1 + c .offset) = t .place-is ∙ ap (λ (x : ℕ). placeOf p (c .drive) x (1 + c .offset)) ez in
     let m : In (c .place) (placesIn p tb) = holds-place p r v tb e a c ha b in
     let l : 1 + c .offset < capacity p = (let x = t .offset-low in let y = capacity-over p r in omega arith) in
-    subst (λ (x : List ℕ). In (placeOf p (c .drive) g (1 + c .offset)) x) n
+    subst (λ (x : List ℕ). In (placeOf p (c .drive) (zoneOn g (c .drive)) (1 + c .offset)) x) n
     (in-live p (placesIn p tb) g (c .drive) (1 + c .offset) (t .drive-low) l (subst (λ (x : ℕ). In x (placesIn p tb)) ep m))
 
 -- the record of a candidate, as stored
 pub cand-record : (p : Params) (r : Ranged p) (v : View) (s : ℕ) (t : Tidy p v s) (c : Cand) (k : CandAt p v 0 c)
-    → (c .address ≡ recordIn p (sealedIn p v 0 (k .of)) (zoneAt v (c .drive) (k .of)) (c .offset) .address)
-    × (c .stamp ≡ recordIn p (sealedIn p v 0 (k .of)) (zoneAt v (c .drive) (k .of)) (c .offset) .stamp)
+    → (c .address ≡ recordIn p (sealedIn p v 0 (k .of)) (zoneAt v (c .drive) (zoneOn (k .of) (c .drive))) (c .offset) .address)
+    × (c .stamp ≡ recordIn p (sealedIn p v 0 (k .of)) (zoneAt v (c .drive) (zoneOn (k .of) (c .drive))) (c .offset) .stamp)
 cand-record p r v s t c k =
     let x = segmentOf p v 0 (k .of) in
     let d = dataDrive p (k .stripe) (k .position) in
     let e : c .drive ≡ d = its-drive p r v s t c k in
-    let q : storedRec x (k .stripe) (c .drive) ≡ recordIn p (sealedIn p v 0 (k .of)) (zoneAt v (c .drive) (k .of)) (c .offset) =
-    chunk-of-it p r v s t c k .its-record ∙ ap (recordIn p (sealedIn p v 0 (k .of)) (zoneAt v (c .drive) (k .of))) (sym (its-offset p r v s t c k)) in
+    let q : storedRec x (k .stripe) (c .drive) ≡ recordIn p (sealedIn p v 0 (k .of)) (zoneAt v (c .drive) (zoneOn (k .of) (c .drive))) (c .offset) =
+    chunk-of-it p r v s t c k .its-record ∙ ap (recordIn p (sealedIn p v 0 (k .of)) (zoneAt v (c .drive) (zoneOn (k .of) (c .drive)))) (sym (its-offset p r v s t c k)) in
     let f : recOf p 0 x (k .stripe) d ≡ storedRec x (k .stripe) (c .drive) = rec-of x (k .stripe) d ∙ ap (storedRec x (k .stripe)) (sym e) in (
       ap (λ (y : Cand). y .address) (k .it-is) ∙ cand-address x (k .stripe) d ∙ ap (λ (y : Rec). y .address) (f ∙ q),
       ap (λ (y : Cand). y .stamp) (k .it-is) ∙ cand-stamp x (k .stripe) d ∙ ap (λ (y : Rec). y .stamp) (f ∙ q),
@@ -196,7 +199,7 @@ module _ (p : Params) (k : Disk) (m : Memory) (u : Run p k m) (we : Well p k m) 
   live-faults nn =
       let e : keep (λ q. not (between 1 (p .S) (placeBlock p q))) (victimLive w) ≡ [] =
       keep-nothing (λ q. not (between 1 (p .S) (placeBlock p q))) (victimLive w) (λ q i. ap not (between-live q (live-pointed q nn i))) in
-      ap (map (λ q. victimSegment w)) e
+      ap (map (placeZone p)) e
 
   abbrev checks : List Check
   checks = reclaimChecks p (lentOk p k m) v m w
@@ -220,10 +223,10 @@ module _ (p : Params) (k : Disk) (m : Memory) (u : Run p k m) (we : Well p k m) 
       (ap (cleared p g (drivesOf p)) (compact-table p k m u we) ∙ cleared-is p rg g hg v (storeAll storeView (resetStores p g) v) (reset-rows p rg v sh g hg s ty))
       (buffer-long p k m u we)))
     where
-      stores-is : (g : ℕ) → resetPlan p m g .stores ≡ resetStores p g
+      stores-is : (g : Seg) → resetPlan p m g .stores ≡ resetStores p g
       stores-is g = unfold resetPlan in refl
 
-      memory-is : (g : ℕ) → resetPlan p m g .memory ≡ mkMemory st (m .addresses) (cleared p g (drivesOf p) (m .compact)) (m .inflight)
+      memory-is : (g : Seg) → resetPlan p m g .memory ≡ mkMemory st (m .addresses) (cleared p g (drivesOf p) (m .compact)) (m .inflight)
       memory-is g = unfold resetPlan in refl
 
   -- else a live block is copied
@@ -240,15 +243,15 @@ module _ (p : Params) (k : Disk) (m : Memory) (u : Run p k m) (we : Well p k m) 
       let o = placeBlock p q - 1 in
       let rc = recordAt p v 0 d g o in
       let ed : d ≡ c .drive = ap (placeDrive p) (t .place!) ∙ spot-drive p rg v 0 c (t .spot) in
-      let eg : g ≡ kc .of = segment-is q ∙ ap (placeZone p) (t .place!) ∙ cand-zone p rg v 0 c kc (t .spot) in
+      let eg : g ≡ kc .of = ap (placeSegment p) (t .place!) ∙ cand-segment p rg v 0 c kc (t .spot) in
       let eb = pointed-block q t in
       let eo : o ≡ c .offset = (let z : placeBlock p q - 1 ≡ c .offset = omega arith in z) in
       let hd : d < p .N = subst (λ (y : ℕ). y < p .N) (sym ed) (t .spot .drive-low) in
-      let hg : g < p .Z = subst (λ (y : ℕ). y < p .Z) (sym eg) (remaining-low p v 0 (kc .of) (kc .remains)) in
-      let low = record-low p (zoneAt v d g) (u .base .shaped .zone-ok d g hd hg) (sealedIn p v 0 g) o in
-      let er : recordAt p v 0 d g o ≡ recordIn p (sealedIn p v 0 g) (zoneAt v d g) o = record-is d g o in
+      let hg : Named p g = subst (λ (y : Seg). Named p y) (sym eg) (remaining-low p v 0 (kc .of) (kc .remains)) in
+      let low = record-low p (zoneAt v d (zoneOn g d)) (u .base .shaped .zone-ok d (zoneOn g d) hd (zone-on-lt p g d hg)) (sealedIn p v 0 g) o in
+      let er : recordAt p v 0 d g o ≡ recordIn p (sealedIn p v 0 g) (zoneAt v d (zoneOn g d)) o = record-is d g o in
       let hb : placeBlock p q < capacity p = (let l = t .spot .offset-low in let y = capacity-over p rg in omega arith) in
-      let ez : placeZone p q ≡ g = sym (segment-is q) in
+      let ez : placeZone p q ≡ zoneOn g d = sym (place-segment-zone p q) in
       let lb : length (chunkAt v d (placeZone p q) (placeBlock p q) .block) ≡ p .B = ap (λ (y : ℕ). length (chunkAt v d y (placeBlock p q) .block)) ez ∙ chunk-long d g (placeBlock p q) hd hg hb in
       let s = sent-ok p rg v (u .base .shaped) st (we .healthy) so (m .inflight) (buffer-long p k m u we) (rc .address) (rc .stamp) 0 (chunkAt v d (placeZone p q) (placeBlock p q) .block)
       (subst (λ (y : Rec). y .address < 256 ^ 8) (sym er) (low .0)) (subst (λ (y : Rec). y .stamp < 256 ^ 8) (sym er) (low .1)) (omega arith) lb nw ns (λ z. zones-left (sc z)) in
@@ -263,22 +266,19 @@ module _ (p : Params) (k : Disk) (m : Memory) (u : Run p k m) (we : Well p k m) 
           as! : In q (idle p v st w) → In q (keep (λ q. not (flying p v st q)) (victimLive w))
           as! i = unfold idle in i
 
-      segment-is : (q : ℕ) → placeSegment p q ≡ placeZone p q
-      segment-is q = unfold placeSegment in refl
+      record-is : (d : ℕ) (g : Seg) (o : ℕ) → recordAt p v 0 d g o ≡ recordIn p (sealedIn p v 0 g) (zoneAt v d (zoneOn g d)) o
+      record-is d g o = unfold recordAt in refl
 
-      record-is : (d g o : ℕ) → recordAt p v 0 d g o ≡ recordIn p (sealedIn p v 0 g) (zoneAt v d g) o
-      record-is d g o = unfold recordAt zoneOn in refl
+      chunk-long : (d : ℕ) (g : Seg) (b : ℕ) → d < p .N → Named p g → b < capacity p → length (chunkAt v d (zoneOn g d) b .block) ≡ p .B
+      chunk-long d g b hd hg hb = unfold chunkAt in u .base .shaped .zone-ok d (zoneOn g d) hd (zone-on-lt p g d hg) .sound b hb .block-long
 
-      chunk-long : (d g b : ℕ) → d < p .N → g < p .Z → b < capacity p → length (chunkAt v d g b .block) ≡ p .B
-      chunk-long d g b hd hg hb = unfold chunkAt in u .base .shaped .zone-ok d g hd hg .sound b hb .block-long
-
-      zones-left : scarce p v 1 ≡ false → isNil (emptyZones p v) ≡ false
-      zones-left q = go (emptyZones p v) (few q)
+      zones-left : scarce p v 1 ≡ false → isNil (emptySegs p v) ≡ false
+      zones-left q = go (emptySegs p v) (few q)
         where
-          few : scarce p v 1 ≡ false → 1 < length (emptyZones p v)
-          few q = unfold scarce in leb-false (length (emptyZones p v)) 1 q
+          few : scarce p v 1 ≡ false → 1 < length (emptySegs p v)
+          few q = unfold scarce in leb-false (length (emptySegs p v)) 1 q
 
-          go : (l : List ℕ) → 1 < length l → isNil l ≡ false
+          go : (l : List Seg) → 1 < length l → isNil l ≡ false
           go [] h = absurd (let z : ⊥ = omega arith in z)
           go (x ∷ l) h = unfold isNil in refl
 
@@ -317,7 +317,7 @@ module _ (p : Params) (k : Disk) (m : Memory) (u : Run p k m) (we : Well p k m) 
   unfolding callDisk callOn verdict storeCount lentBlock reclaimVerdict
   well-reclaim n = go (outcome-ends p k m checks plan n [])
     where
-      mild-plan : (b : Bool) (g q : ℕ) → isRefusedAs 9 (cond b (resetPlan p m g) (copyPlan p v m q) .answer) ≡ false
+      mild-plan : (b : Bool) (g : Seg) (q : ℕ) → isRefusedAs 9 (cond b (resetPlan p m g) (copyPlan p v m q) .answer) ≡ false
       mild-plan true g q = unfold resetPlan isRefusedAs isRefused kind in refl
       mild-plan false g q = unfold copyPlan isRefusedAs isRefused kind in refl
 

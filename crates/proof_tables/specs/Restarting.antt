@@ -13,7 +13,7 @@ use Rattle.spec.specs.Drives.{View, Store, storeView, Disk, storeDisk, storeAll
 use Rattle.spec.specs.Lists.{isNil, flat}
 use Rattle.spec.specs.Memory.{Memory}
 use Rattle.spec.specs.Params.{noDrive, named}
-use Rattle.spec.specs.Restart.{freeZones, dropStores, mendStores, restartStores, restartMemory, namesDrive, rewrites, restartPlan}
+use Rattle.spec.specs.Restart.{freeSegs, dropStores, mendStores, restartStores, restartMemory, namesDrive, rewrites, restartPlan}
 use Rattle.spec.specs.Segments.{Segment, segments, candidates, addressTable, compactTable, greatestSerial, unsealed}
 use Rattle.law_basic.specs.Geometry.{Ranged, ranged}
 use Rattle.law_basic.specs.Mask.{only-none}
@@ -47,7 +47,7 @@ well-start p k m d shk b nd =
     let ts = flat (mendStores p gs) (unsealed gs) in
     let va = storeAll storeView ds v in
     let md = mended p r v sh acc (subst (λ (g : ℕ). rewrites p g (segments p v g) && eqb (greatestSerial (segments p v g)) lastCount ≡ false) nd (b .sixth!))
-    (subst (λ (g : ℕ). rewrites p g (segments p v g) && isNil (freeZones p (segments p v g)) ≡ false) nd (b .eighth!)) (serials-small p r v sh) in
+    (subst (λ (g : ℕ). rewrites p g (segments p v g) && isNil (freeSegs p (segments p v g)) ≡ false) nd (b .eighth!)) (serials-small p r v sh) in
     let v2 = storeAll storeView ts va in
     let ss = ds ++ ts in
     let ev : storeAll storeView ss v ≡ v2 = storeAll-append storeView ds ts v in

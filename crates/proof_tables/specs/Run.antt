@@ -8,7 +8,7 @@ use Rattle.spec.specs.declared.Params.{Params}
 use Rattle.spec.specs.declared.State.{State}
 use Rattle.spec.specs.Answers.{isRefusedAs, isCut}
 use Rattle.spec.specs.Calls.{After}
-use Rattle.spec.specs.Drives.{View, pointerAt, Disk}
+use Rattle.spec.specs.Drives.{View, pointerAt, Disk, Seg, zoneOn}
 use Rattle.spec.specs.Layout.{dataPosition, isData, group}
 use Rattle.spec.specs.Lists.{tally, isIn}
 use Rattle.spec.specs.Memory.{Memory, slots, stripeIn, filledIn, landedIn, entryIn, offsetIn, isFree}
@@ -16,6 +16,7 @@ use Rattle.spec.specs.Params.{capacity, named}
 use Rattle.law_views.specs.Views.{seen}
 use Rattle.law_drives.specs.Accept.{Accepted}
 use Rattle.law_drives.specs.Tidy.{spareAt, usedAt, Tidy}
+use Rattle.law_basic.specs.Segs.{Named}
 use Rattle.proof_tables.specs.Base.{Base}
 
 -- ---- one drive is missing: nothing is wrong on the others
@@ -35,27 +36,27 @@ abbrev pub awaits : State → (ℕ → Bool) → ℕ → ℕ → Bool
 awaits st busy d i = busy i && not (isIn (landedIn st i) d)
 
 -- where drive d has the stripe of eighth i
-pub record LandedAt (p : Params) (v : View) (st : State) (z i d : ℕ) : Type 0 where
-  pub lies : 1 + offsetIn st i d < pointerAt v d z
-  pub of-stripe : spareAt p v d z (offsetIn st i d) .stripe ≡ stripeIn st i
-  pub not-before : (o : ℕ) → o < offsetIn st i d → spareAt p v d z o .stripe ≡ stripeIn st i → ⊥
+pub record LandedAt (p : Params) (v : View) (st : State) (z : Seg) (i d : ℕ) : Type 0 where
+  pub lies : 1 + offsetIn st i d < pointerAt v d (zoneOn z d)
+  pub of-stripe : spareAt p v d (zoneOn z d) (offsetIn st i d) .stripe ≡ stripeIn st i
+  pub not-before : (o : ℕ) → o < offsetIn st i d → spareAt p v d (zoneOn z d) o .stripe ≡ stripeIn st i → ⊥
   pub is-entry : isData p (stripeIn st i) d ≡ true
-      → (dataPosition p (stripeIn st i) d < filledIn st i) × (spareAt p v d z (offsetIn st i d) ≡ entryIn st i (dataPosition p (stripeIn st i) d))
+      → (dataPosition p (stripeIn st i) d < filledIn st i) × (spareAt p v d (zoneOn z d) (offsetIn st i d) ≡ entryIn st i (dataPosition p (stripeIn st i) d))
 
-pub record SlotFlies (p : Params) (v : View) (st : State) (z i : ℕ) : Type 0 where
+pub record SlotFlies (p : Params) (v : View) (st : State) (z : Seg) (i : ℕ) : Type 0 where
   pub begun : stripeIn st i < st .next
-  pub group-low : (d : ℕ) → d < p .N → group p (stripeIn st i) * p .G < pointerAt v d z
+  pub group-low : (d : ℕ) → d < p .N → group p (stripeIn st i) * p .G < pointerAt v d (zoneOn z d)
   pub group-high : st .next ≤ suc (group p (stripeIn st i)) * p .G
-  pub not-there : (d o : ℕ) → d < p .N → isIn (landedIn st i) d ≡ false → 1 + o < pointerAt v d z → spareAt p v d z o .stripe ≡ stripeIn st i → ⊥
+  pub not-there : (d o : ℕ) → d < p .N → isIn (landedIn st i) d ≡ false → 1 + o < pointerAt v d (zoneOn z d) → spareAt p v d (zoneOn z d) o .stripe ≡ stripeIn st i → ⊥
   pub lands : (d : ℕ) → d < p .N → isIn (landedIn st i) d ≡ true → LandedAt p v st z i d
   pub entries-low : (e : ℕ) → e < filledIn st i → (entryIn st i e .address < 256 ^ 8) × (entryIn st i e .stamp < 256 ^ 8)
 
 -- the open segment
-pub record OpenZone (p : Params) (v : View) (st : State) (busy : ℕ → Bool) (z : ℕ) : Type 0 where
-  pub opened-zone : z < p .Z
-  pub has-header : (d : ℕ) → d < p .N → 1 ≤ pointerAt v d z
-  pub count : (d : ℕ) → d < p .N → pointerAt v d z + tally (awaits st busy d) slots ≡ suc (st .next)
-  pub below-next : (d o : ℕ) → d < p .N → 1 + o < pointerAt v d z → spareAt p v d z o .stripe < st .next
+pub record OpenZone (p : Params) (v : View) (st : State) (busy : ℕ → Bool) (z : Seg) : Type 0 where
+  pub opened-zone : Named p z
+  pub has-header : (d : ℕ) → d < p .N → 1 ≤ pointerAt v d (zoneOn z d)
+  pub count : (d : ℕ) → d < p .N → pointerAt v d (zoneOn z d) + tally (awaits st busy d) slots ≡ suc (st .next)
+  pub below-next : (d o : ℕ) → d < p .N → 1 + o < pointerAt v d (zoneOn z d) → spareAt p v d (zoneOn z d) o .stripe < st .next
   pub flight : (i : ℕ) → i < 8 → busy i ≡ true → SlotFlies p v st z i
   pub once : (i j : ℕ) → i < 8 → j < 8 → busy i ≡ true → busy j ≡ true → stripeIn st i ≡ stripeIn st j → i ≡ j
   pub goes-on : st .next ≡ p .S → 0 < tally busy slots
@@ -72,8 +73,8 @@ pub record Lists (st : State) : Type 0 where
 
 pub record HealthyState (p : Params) (v : View) (st : State) : Type 0 where
   pub tidy : Tidy p v (st .serial .0)
-  pub sealed-but : (z : ℕ) → z < p .Z → usedAt v z ≡ true → (st .opened ≡ suc z) ⊎ ((d : ℕ) → d < p .N → pointerAt v d z ≡ capacity p)
-  pub opens-at : (z : ℕ) → st .opened ≡ suc z → OpenZone p v st (flies st) z
+  pub sealed-but : (z : Seg) → Named p z → usedAt v z ≡ true → (st .opened ≡ suc (z .name)) ⊎ ((d : ℕ) → d < p .N → pointerAt v d (zoneOn z d) ≡ capacity p)
+  pub opens-at : (z : Seg) → st .opened ≡ suc (z .name) → OpenZone p v st (flies st) z
   pub shut : st .opened ≡ 0 → (i : ℕ) → i < 8 → flies st i ≡ false
   pub serial-fits : st .serial .0 < 256 ^ 8
   pub stamp-fits : st .stamp .0 < 256 ^ 8

@@ -4,8 +4,7 @@ use mathlib.Core.List.{List, [], map}
 use mathlib.Core.Bool.{Bool, true, false, cond}
 use Prim.Native.Nat.{ℕ, _+_, _-_, min, _<_}
 use native.Mathlib.Nat.{le-of-eq}
-use native.Mathlib.Decide.{ℕ-discrete}
-use borrow.Author.Tests.{eq-eqb, ne-eqb}
+use borrow.Author.Tests.{eq-eqb}
 use native.Mathlib.Omega.{arith}
 use lib.Dec.{eqb}
 use lib.ListN.{length, getD}
@@ -15,20 +14,22 @@ use Rattle.spec.specs.Landing.{sealStores}
 use Rattle.spec.specs.Lists.{below, all, flat}
 use Rattle.spec.specs.Params.{footers, capacity, drivesOf, present}
 use Rattle.spec.specs.Segments.{headerAt, recordsIn}
+use Rattle.spec.specs.Drives.{Seg, sameSeg}
 use Rattle.law_basic.specs.Geometry.{Ranged}
-use Rattle.law_drives.specs.Footers.{hits-each, within-each, footerChunks, footer-puts, footers-count, footer-rooms, footer-records}
+use Rattle.law_basic.specs.Segs.{seg-same, seg-other, seg-self, segs-differ, Named, zone-on-lt, by-seg}
+use Rattle.law_drives.specs.Footers.{within-each, footerChunks, footer-puts, footers-count, footer-rooms, footer-records, each-on}
 use Rattle.law_drives.specs.Growing.{Grows}
 use Rattle.law_drives.specs.Members.{In, in-all, map-cong, flat-cong, below-in}
 use Rattle.law_drives.specs.Puts.{putAt, putAll, puts-pointer, puts-old}
 use Rattle.law_drives.specs.Range.{capacity-is, capacity-over}
 use Rattle.law_drives.specs.Segs.{present-in}
 use Rattle.law_drives.specs.Settled.{SameZones, sealed-full}
-use Rattle.law_drives.specs.Tests.{not-so, cond-true, cond-false, eqb-self}
+use Rattle.law_drives.specs.Tests.{not-so, cond-true, cond-false}
 use Rattle.law_drives.specs.Zones.{Shaped, zoneStore, hits, zone-after, Room, Within, Roomy}
 
 -- ---- a segment sealed on every drive
 
-module _ (p : Params) (r : Ranged p) (v : View) (sh : Shaped p v) (z : ℕ) (hz : z < p .Z) (behind : (e : ℕ) → e < p .N → pointerAt v e z ≡ 1 + p .S) where
+module _ (p : Params) (r : Ranged p) (v : View) (sh : Shaped p v) (z : Seg) (hz : Named p z) (behind : (e : ℕ) → e < p .N → pointerAt v e (zoneOn z e) ≡ 1 + p .S) where
   abbrev ss : List Store
   ss = sealStores p v z
 
@@ -36,63 +37,69 @@ module _ (p : Params) (r : Ranged p) (v : View) (sh : Shaped p v) (z : ℕ) (hz 
   u = storeAll storeView ss v
 
   ft : ℕ → List Chunk
-  ft d = footerChunks p (zoneAt v d z) 0 (footers p)
+  ft d = footerChunks p (zoneAt v d (zoneOn z d)) 0 (footers p)
 
-  seal-stores-are : ss ≡ flat (λ d. map (putAt d z) (ft d)) (drivesOf p)
+  seal-stores-are : ss ≡ flat (λ d. map (putAt d (zoneOn z d)) (ft d)) (drivesOf p)
   unfolding ft
   seal-stores-are =
-      as! (flat-cong (λ d. footerStores p d z (zoneAt v d z) 0 (footers p)) (λ d. map (putAt d z) (footerChunks p (zoneAt v d z) 0 (footers p)))
-      (drivesOf p) (λ d m. footer-puts p d z (zoneAt v d z) 0 (footers p)))
+      as! (flat-cong (λ d. footerStores p d (zoneOn z d) (zoneAt v d (zoneOn z d)) 0 (footers p)) (λ d. map (putAt d (zoneOn z d)) (footerChunks p (zoneAt v d (zoneOn z d)) 0 (footers p)))
+      (drivesOf p) (λ d m. footer-puts p d (zoneOn z d) (zoneAt v d (zoneOn z d)) 0 (footers p)))
     where
-      as! : flat (λ d. footerStores p d z (zoneAt v d z) 0 (footers p)) (drivesOf p) ≡ flat (λ d. map (putAt d z) (footerChunks p (zoneAt v d z) 0 (footers p))) (drivesOf p)
-          → sealStores p v z ≡ flat (λ d. map (putAt d z) (footerChunks p (zoneAt v d z) 0 (footers p))) (drivesOf p)
-      as! e = unfold sealStores zoneOn in e
+      as! : flat (λ d. footerStores p d (zoneOn z d) (zoneAt v d (zoneOn z d)) 0 (footers p)) (drivesOf p) ≡ flat
+          (λ d. map (putAt d (zoneOn z d)) (footerChunks p (zoneAt v d (zoneOn z d)) 0 (footers p))) (drivesOf p)
+          → sealStores p v z ≡ flat (λ d. map (putAt d (zoneOn z d)) (footerChunks p (zoneAt v d (zoneOn z d)) 0 (footers p))) (drivesOf p)
+      as! e = unfold sealStores in e
 
-  filled-zone-pointer : (e : ℕ) → e < p .N → zoneAt v e z .pointer ≡ 1 + p .S
+  filled-zone-pointer : (e : ℕ) → e < p .N → zoneAt v e (zoneOn z e) .pointer ≡ 1 + p .S
   filled-zone-pointer e he = as! (behind e he)
     where
-      as! : pointerAt v e z ≡ 1 + p .S → zoneAt v e z .pointer ≡ 1 + p .S
+      as! : pointerAt v e (zoneOn z e) ≡ 1 + p .S → zoneAt v e (zoneOn z e) .pointer ≡ 1 + p .S
       as! q = unfold pointerAt in q
 
-  pub seal-zone : (e : ℕ) → e < p .N → zoneAt u e z ≡ putAll e z (footerChunks p (zoneAt v e z) 0 (footers p)) (zoneAt v e z)
+  pub seal-zone : (e : ℕ) → e < p .N → zoneAt u e (zoneOn z e) ≡ putAll e (zoneOn z e) (footerChunks p (zoneAt v e (zoneOn z e)) 0 (footers p)) (zoneAt v e (zoneOn z e))
   unfolding ft
   seal-zone e he =
-      zone-after p v e z ss (sh .sized) he hz
-      ∙ ap (λ (l : List Store). storeAll zoneStore l (zoneAt v e z)) (ap (hits e z) seal-stores-are ∙ hits-each p e z z ft he ∙ cond-true (eqb z z) (map (putAt e z) (ft e)) [] (eqb-self z))
+      zone-after p v e (zoneOn z e) ss (sh .sized) he (zone-on-lt p z e hz)
+      ∙ ap (λ (l : List Store). storeAll zoneStore l (zoneAt v e (zoneOn z e)))
+      (ap (hits e (zoneOn z e)) seal-stores-are ∙ each-on p e z z ft hz hz he ∙ cond-true (sameSeg z z) (map (putAt e (zoneOn z e)) (ft e)) [] (seg-self z))
 
-  pub seal-other : (y : ℕ) → y < p .Z → (z ≡ y → ⊥) → SameZones p v u y
+  pub seal-other : (y : Seg) → Named p y → (z ≡ y → ⊥) → SameZones p v u y
   seal-other y hy n e he =
-      sym (zone-after p v e y ss (sh .sized) he hy
-      ∙ ap (λ (l : List Store). storeAll zoneStore l (zoneAt v e y)) (ap (hits e y) seal-stores-are ∙ hits-each p e y z ft he ∙ cond-false (eqb z y) (map (putAt e z) (ft e)) [] (ne-eqb z y n))
-      ∙ nothing)
+      sym (zone-after p v e (zoneOn y e) ss (sh .sized) he (zone-on-lt p y e hy)
+      ∙ ap (λ (l : List Store). storeAll zoneStore l (zoneAt v e (zoneOn y e)))
+      (ap (hits e (zoneOn y e)) seal-stores-are ∙ each-on p e y z ft hy hz he ∙ cond-false (sameSeg z y) (map (putAt e (zoneOn z e)) (ft e)) [] (seg-other z y n)) ∙ nothing)
     where
-      nothing : storeAll zoneStore [] (zoneAt v e y) ≡ zoneAt v e y
+      nothing : storeAll zoneStore [] (zoneAt v e (zoneOn y e)) ≡ zoneAt v e (zoneOn y e)
       nothing = unfold storeAll in refl
 
-  pub seal-pointer : (e : ℕ) → e < p .N → pointerAt u e z ≡ capacity p
-  seal-pointer e he = as! (ap (λ (q : Zone). q .pointer) (seal-zone e he) ∙ puts-pointer e z (footerChunks p (zoneAt v e z) 0 (footers p)) (zoneAt v e z)
-      ∙ (let a = filled-zone-pointer e he in let b = footers-count p r (zoneAt v e z) (sh .zone-ok e z he hz) 0 (footers p) in let c = capacity-is p r in let
-      x : zoneAt v e z .pointer + length (footerChunks p (zoneAt v e z) 0 (footers p))
+  pub seal-pointer : (e : ℕ) → e < p .N → pointerAt u e (zoneOn z e) ≡ capacity p
+  seal-pointer e he = as! (ap (λ (q : Zone). q .pointer) (seal-zone e he) ∙ puts-pointer e (zoneOn z e) (footerChunks p (zoneAt v e (zoneOn z e)) 0 (footers p)) (zoneAt v e (zoneOn z e))
+      ∙ (let a = filled-zone-pointer e he in let b = footers-count p r (zoneAt v e (zoneOn z e)) (sh .zone-ok e (zoneOn z e) he (zone-on-lt p z e hz)) 0 (footers p) in let c = capacity-is p r in let
+      x : zoneAt v e (zoneOn z e) .pointer + length (footerChunks p (zoneAt v e (zoneOn z e)) 0 (footers p))
       ≡ capacity p = omega arith in x))
     where
-      as! : zoneAt u e z .pointer ≡ capacity p → pointerAt u e z ≡ capacity p
+      as! : zoneAt u e (zoneOn z e) .pointer ≡ capacity p → pointerAt u e (zoneOn z e) ≡ capacity p
       as! q = unfold pointerAt in q
 
   pub seal-roomy : Roomy p v ss
   unfolding ft
-  seal-roomy e y he hy = subst (λ (l : List Store). Room p (pointerAt v e y) l) (sym (ap (hits e y) seal-stores-are ∙ hits-each p e y z ft he)) (go (ℕ-discrete z y))
+  seal-roomy e k he hk = by-seg (λ n. Room p (pointerAt v e n) (hits e n ss)) p e k hk
+      (λ y hy. subst (λ (l : List Store). Room p (pointerAt v e (zoneOn y e)) l) (sym (ap (hits e (zoneOn y e)) seal-stores-are ∙ each-on p e y z ft hy hz he)) (go y (segs-differ z y)))
     where
-      fit : Room p (pointerAt v e z) (map (putAt e z) (ft e))
-      fit = as! (footer-rooms p r (zoneAt v e z) (sh .zone-ok e z he hz) e z 0 (footers p) (let a = filled-zone-pointer e he in let c = capacity-is p r in omega arith))
+      fit : Room p (pointerAt v e (zoneOn z e)) (map (putAt e (zoneOn z e)) (ft e))
+      fit =
+          as! (footer-rooms p r (zoneAt v e (zoneOn z e)) (sh .zone-ok e (zoneOn z e) he (zone-on-lt p z e hz)) e (zoneOn z e) 0 (footers p)
+          (let a = filled-zone-pointer e he in let c = capacity-is p r in omega arith))
         where
-          as! : Room p (zoneAt v e z .pointer) (map (putAt e z) (footerChunks p (zoneAt v e z) 0 (footers p))) → Room p (pointerAt v e z) (map (putAt e z) (ft e))
+          as! : Room p (zoneAt v e (zoneOn z e) .pointer) (map (putAt e (zoneOn z e)) (footerChunks p (zoneAt v e (zoneOn z e)) 0 (footers p)))
+              → Room p (pointerAt v e (zoneOn z e)) (map (putAt e (zoneOn z e)) (ft e))
           as! x = unfold pointerAt ft in x
 
-      go : Dec (z ≡ y) → Room p (pointerAt v e y) (cond (eqb z y) (map (putAt e z) (ft e)) [])
-      go (no n) = subst (λ (l : List Store). Room p (pointerAt v e y) l) (sym (cond-false (eqb z y) (map (putAt e z) (ft e)) [] (ne-eqb z y n))) tt
-      go (yes q) =
-          subst (λ (l : List Store). Room p (pointerAt v e y) l) (sym (cond-true (eqb z y) (map (putAt e z) (ft e)) [] (eq-eqb z y q)))
-          (subst (λ (x : ℕ). Room p (pointerAt v e x) (map (putAt e z) (ft e))) q fit)
+      go : (y : Seg) → Dec (z ≡ y) → Room p (pointerAt v e (zoneOn y e)) (cond (sameSeg z y) (map (putAt e (zoneOn z e)) (ft e)) [])
+      go y (no n) = subst (λ (l : List Store). Room p (pointerAt v e (zoneOn y e)) l) (sym (cond-false (sameSeg z y) (map (putAt e (zoneOn z e)) (ft e)) [] (seg-other z y n))) tt
+      go y (yes q) =
+          subst (λ (l : List Store). Room p (pointerAt v e (zoneOn y e)) l) (sym (cond-true (sameSeg z y) (map (putAt e (zoneOn z e)) (ft e)) [] (seg-same z y q)))
+          (subst (λ (x : Seg). Room p (pointerAt v e (zoneOn x e)) (map (putAt e (zoneOn z e)) (ft e))) q fit)
 
   pub seal-within : (s : Store) → In s ss → Within p s
   unfolding ft
@@ -115,16 +122,16 @@ module _ (p : Params) (r : Ranged p) (v : View) (sh : Shaped p v) (z : ℕ) (hz 
       head =
           as! (sym (ap (λ (q : Zone). getD (q .blocks) 0 noChunk .block) (seal-zone 0 h0)
           ∙ ap (λ (c : Chunk). c .block)
-          (puts-old 0 z (footerChunks p (zoneAt v 0 z) 0 (footers p)) (zoneAt v 0 z) 0 (let a = filled-zone-pointer 0 h0 in omega arith))))
+          (puts-old 0 (zoneOn z 0) (footerChunks p (zoneAt v 0 (zoneOn z 0)) 0 (footers p)) (zoneAt v 0 (zoneOn z 0)) 0 (let a = filled-zone-pointer 0 h0 in omega arith))))
         where
-          as! : getD (zoneAt v 0 z .blocks) 0 noChunk .block ≡ getD (zoneAt u 0 z .blocks) 0 noChunk .block → headerAt v 0 z ≡ headerAt u 0 z
-          as! e = unfold headerAt chunkAt zoneOn in e
+          as! : getD (zoneAt v 0 (zoneOn z 0) .blocks) 0 noChunk .block ≡ getD (zoneAt u 0 (zoneOn z 0) .blocks) 0 noChunk .block → headerAt v 0 z ≡ headerAt u 0 z
+          as! e = unfold headerAt chunkAt in e
 
   pub seal-sealed : sealedIn p u 0 z ≡ true
-  seal-sealed = as! (in-all (λ e. eqb (pointerAt u e z) (capacity p)) (present p 0) (λ e m. eq-eqb (pointerAt u e z) (capacity p) (seal-pointer e (present-in p 0 e m .0))))
+  seal-sealed = as! (in-all (λ e. eqb (pointerAt u e (zoneOn z e)) (capacity p)) (present p 0) (λ e m. eq-eqb (pointerAt u e (zoneOn z e)) (capacity p) (seal-pointer e (present-in p 0 e m .0))))
     where
-      as! : all (λ e. eqb (pointerAt u e z) (capacity p)) (present p 0) ≡ true → sealedIn p u 0 z ≡ true
-      as! q = unfold sealedIn zoneOn in q
+      as! : all (λ e. eqb (pointerAt u e (zoneOn z e)) (capacity p)) (present p 0) ≡ true → sealedIn p u 0 z ≡ true
+      as! q = unfold sealedIn in q
 
   open-yet : sealedIn p v 0 z ≡ false
   open-yet = not-so (sealedIn p v 0 z) (λ q.
@@ -135,14 +142,15 @@ module _ (p : Params) (r : Ranged p) (v : View) (sh : Shaped p v) (z : ℕ) (hz 
       let bad : ⊥ = omega arith in bad)
 
   -- it says the same
-  pub seal-records : (e : ℕ) → e < p .N → recordsIn p (sealedIn p v 0 z) (zoneAt v e z) ≡ recordsIn p (sealedIn p u 0 z) (zoneAt u e z)
+  pub seal-records : (e : ℕ) → e < p .N → recordsIn p (sealedIn p v 0 z) (zoneAt v e (zoneOn z e)) ≡ recordsIn p (sealedIn p u 0 z) (zoneAt u e (zoneOn z e))
   seal-records e he =
-      ap (λ (w : Bool). recordsIn p w (zoneAt v e z)) open-yet
-      ∙ go (zoneAt v e z) (zoneAt u e z) (filled-zone-pointer e he) (at u e (seal-pointer e he))
-      (λ x h. sym (ap (λ (q : Zone). recordIn p true q x) (seal-zone e he) ∙ footer-records p r (zoneAt v e z) (sh .zone-ok e z he hz) e z (filled-zone-pointer e he) x h))
-      ∙ ap (λ (w : Bool). recordsIn p w (zoneAt u e z)) (sym seal-sealed)
+      ap (λ (w : Bool). recordsIn p w (zoneAt v e (zoneOn z e))) open-yet
+      ∙ go (zoneAt v e (zoneOn z e)) (zoneAt u e (zoneOn z e)) (filled-zone-pointer e he) (at u e (seal-pointer e he))
+      (λ x h. sym (ap (λ (q : Zone). recordIn p true q x) (seal-zone e he)
+      ∙ footer-records p r (zoneAt v e (zoneOn z e)) (sh .zone-ok e (zoneOn z e) he (zone-on-lt p z e hz)) e (zoneOn z e) (filled-zone-pointer e he) x h))
+      ∙ ap (λ (w : Bool). recordsIn p w (zoneAt u e (zoneOn z e))) (sym seal-sealed)
     where
-      at : (w : View) (e : ℕ) → pointerAt w e z ≡ capacity p → zoneAt w e z .pointer ≡ capacity p
+      at : (w : View) (e : ℕ) → pointerAt w e (zoneOn z e) ≡ capacity p → zoneAt w e (zoneOn z e) .pointer ≡ capacity p
       at w e q = unfold pointerAt in q
 
       go : (q q2 : Zone) → q .pointer ≡ 1 + p .S → q2 .pointer ≡ capacity p → ((x : ℕ) → x < p .S → recordIn p false q x ≡ recordIn p true q2 x) → recordsIn p false q ≡ recordsIn p true q2

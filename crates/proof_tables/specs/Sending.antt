@@ -11,7 +11,7 @@ use lib.ListN.{length}
 use Rattle.spec.specs.declared.Params.{Params}
 use Rattle.spec.specs.declared.State.{State}
 use Rattle.spec.specs.Counts.{lastCount}
-use Rattle.spec.specs.Drives.{View, pointerAt, Store, storeView, storeAll, segmentNumbers, emptyOnAll, emptyZones, headerStores}
+use Rattle.spec.specs.Drives.{View, pointerAt, Store, storeView, storeAll, allSegs, emptyOnAll, emptySegs, headerStores, seg, Seg}
 use Rattle.spec.specs.Layout.{group}
 use Rattle.spec.specs.Lists.{below, any, keep, tally, isNil, indexOf, firstOr}
 use Rattle.spec.specs.Lists.Opt.{none}
@@ -23,12 +23,14 @@ use Rattle.law_basic.specs.Be.{be-room}
 use Rattle.law_basic.specs.Geometry.{Ranged, data-count-low}
 use Rattle.law_basic.specs.Ranges.{Test, test, and-left, and-right, length-below}
 use Rattle.law_basic.specs.Ranges.Test.{yes!, no! }
+use Rattle.law_basic.specs.Segs.{Named, named-lt}
 use Rattle.law_drives.specs.Headers.{header-roomy, header-within, empty-all}
-use Rattle.law_drives.specs.Members.{In, in-keep, keep-in, none-in, in-any, below-in, first-in, in-some}
+use Rattle.law_drives.specs.Members.{In, in-keep, keep-in, none-in, in-any, first-in, in-some}
 use Rattle.law_drives.specs.Slots.{slot-found}
 use Rattle.law_drives.specs.States.{StateOk, in-slots, slots-in}
 use Rattle.law_drives.specs.Tests.{clash, or-first, or-right, or-cases, not-so}
 use Rattle.law_drives.specs.Zones.{Shaped, hits, Room, Within, Roomy}
+use Rattle.law_drives.specs.Segs.{segs-in}
 use Rattle.proof_tables.specs.Carried.{begin-healthy}
 use Rattle.proof_tables.specs.Filling.{placed-inflight-long, add-ok, begin-ok, fill-healthy}
 use Rattle.proof_tables.specs.Heading.{head-addresses, head-compact, head-healthy}
@@ -135,7 +137,7 @@ module _ (p : Params) (r : Ranged p) (v : View) (sh : Shaped p v) (st : State) (
       missing-is i = unfold addEntry in refl
 
   -- the next stripe number, in a state su whose open zone is known
-  healthy-begun : (su : State) (u : View) (z : ℕ) → HealthyState p u su → StateOk p su → su .opened ≡ suc z → su .next < p .S → (i : ℕ) → i < 8 → flies su i ≡ false
+  healthy-begun : (su : State) (u : View) (z : Seg) → HealthyState p u su → StateOk p su → su .opened ≡ suc (z .name) → su .next < p .S → (i : ℕ) → i < 8 → flies su i ≡ false
       → ((j : ℕ) → j < 8 → flies su j ≡ true → group p (stripeIn su j) ≡ group p (su .next))
       → HealthyState p u (addEntry (beginStripe su i) i a t w) × StateOk p (addEntry (beginStripe su i) i a t w) × (length (placed p (beginStripe su i) fl i a t w b .inflight) ≡ inflightLen p)
   healthy-begun su u z k ko op nx i hi fi gr =
@@ -197,9 +199,9 @@ module _ (p : Params) (r : Ranged p) (v : View) (sh : Shaped p v) (st : State) (
               eqb-false (st .next) (p .S) (or-right (eqb (st .opened) 0) (eqb (st .next) (p .S)) q),
             )
 
-        opened-at : (o : ℕ) → st .opened ≡ o → (st .opened ≡ 0 → ⊥) → (z : ℕ) × (st .opened ≡ suc z)
+        opened-at : (o : ℕ) → st .opened ≡ o → (st .opened ≡ 0 → ⊥) → (z : Seg) × (st .opened ≡ suc (z .name))
         opened-at zero e n = absurd (n e)
-        opened-at (suc z) e n = (z, e)
+        opened-at (suc n) e k = (seg n, e)
 
         same-group : (j : ℕ) → otherGroup p st j ≡ false → group p (stripeIn st j) ≡ group p (st .next)
         same-group j q = unfold otherGroup in eqb-true (group p (stripeIn st j)) (group p (st .next)) (not-false (eqb (group p (stripeIn st j)) (group p (st .next))) q)
@@ -217,16 +219,16 @@ module _ (p : Params) (r : Ranged p) (v : View) (sh : Shaped p v) (st : State) (
         missing-is i = unfold addEntry beginStripe in refl
 
     -- a segment is opened first
-    begins-segment : mustOpen p st ≡ true → noSerial p st ≡ false → isNil (emptyZones p v) ≡ false → SentOk p v st (sent .state) (sent .stores) (sent .inflight)
+    begins-segment : mustOpen p st ≡ true → noSerial p st ≡ false → isNil (emptySegs p v) ≡ false → SentOk p v st (sent .state) (sent .stores) (sent .inflight)
     unfolding i
     begins-segment mo ns ne =
-        let g = firstOr 0 (emptyZones p v) in
+        let g = firstOr (seg 0) (emptySegs p v) in
         let s = st .serial .0 in
         let (hg, eg) = first-empty in
         let em = empty-all p v g eg in
         let fit : suc s < 256 ^ 8 = serial-next in
         let none : (j : ℕ) → j < 8 → flies st j ≡ false = λ j hj. nothing-flies j hj in
-        let shut! : (z : ℕ) → st .opened ≡ suc z → ⊥ = not-open in
+        let shut! : (z : Seg) → st .opened ≡ suc (z .name) → ⊥ = not-open in
         let su = setOpen st g (suc s) in
         let u = storeAll storeView (headerStores p g (suc s) 0) v in
         let ku = head-healthy p r v sh s g (h .tidy) hg em fit st h refl shut! none in
@@ -250,13 +252,13 @@ module _ (p : Params) (r : Ranged p) (v : View) (sh : Shaped p v) (st : State) (
           missing-after = missing-is g (suc s) (freeSlot st);
         })))
       where
-        first-empty : (firstOr 0 (emptyZones p v) < p .Z) × (emptyOnAll p v (firstOr 0 (emptyZones p v)) ≡ true)
+        first-empty : Named p (firstOr (seg 0) (emptySegs p v)) × (emptyOnAll p v (firstOr (seg 0) (emptySegs p v)) ≡ true)
         first-empty =
-            let m : In (firstOr 0 (emptyZones p v)) (emptyZones p v) = first-in (emptyZones p v) 0 ne in
-            parts (firstOr 0 (emptyZones p v)) m
+            let m : In (firstOr (seg 0) (emptySegs p v)) (emptySegs p v) = first-in (emptySegs p v) (seg 0) ne in
+            parts (firstOr (seg 0) (emptySegs p v)) m
           where
-            parts : (g : ℕ) → In g (emptyZones p v) → (g < p .Z) × (emptyOnAll p v g ≡ true)
-            parts g m = unfold emptyZones segmentNumbers in (let (i, q) = keep-in (emptyOnAll p v) (below (p .Z)) g m in (below-in (p .Z) g i, q))
+            parts : (g : Seg) → In g (emptySegs p v) → (Named p g) × (emptyOnAll p v g ≡ true)
+            parts g m = unfold emptySegs in (let (i, q) = keep-in (emptyOnAll p v) (allSegs p) g m in (segs-in p g i, q))
 
         serial-next : suc (st .serial .0) < 256 ^ 8
         serial-next =
@@ -272,7 +274,7 @@ module _ (p : Params) (r : Ranged p) (v : View) (sh : Shaped p v) (st : State) (
             let x : not (isNil (inFlight st)) ≡ false = sym (ap (λ (c : Bool). c && not (isNil (inFlight st))) mo) ∙ wait-parts .1 .0 in
             clash (ap not (in-some (inFlight st) j (in-flight st j hj q))) x)
 
-        not-open : (z : ℕ) → st .opened ≡ suc z → ⊥
+        not-open : (z : Seg) → st .opened ≡ suc (z .name) → ⊥
         not-open z e =
             let o = h .opens-at z e in
             ⊎-elim (λ x. let y = eqb-true (st .opened) 0 x in let bad : ⊥ = omega arith in bad)
@@ -281,41 +283,42 @@ module _ (p : Params) (r : Ranged p) (v : View) (sh : Shaped p v) (st : State) (
             must : mustOpen p st ≡ true → (eqb (st .opened) 0 ≡ true) ⊎ (eqb (st .next) (p .S) ≡ true)
             must q = unfold mustOpen in or-cases (eqb (st .opened) 0) (eqb (st .next) (p .S)) q
 
-        open-ok : (g x : ℕ) → g < p .Z → StateOk p (setOpen st g x)
+        open-ok : (g : Seg) (x : ℕ) → Named p g → StateOk p (setOpen st g x)
         open-ok g x hg = unfold setOpen stripeIn filledIn landedIn in record {
           live-is = so .live-is;
           missing-low = so .missing-low;
           missing-few = so .missing-few;
-          opened-low = hg;
+          opened-low = named-lt p g hg;
           next-low = omega arith;
           slots-ok =
               λ i h. record { stripe-ok = so .slots-ok i h .stripe-ok; filled-ok = so .slots-ok i h .filled-ok; writes-ok = so .slots-ok i h .writes-ok; landed-ok = so .slots-ok i h .landed-ok };
           offsets-low = so .offsets-low;
         }
 
-        opened-is : (g x : ℕ) → setOpen st g x .opened ≡ suc g
+        opened-is : (g : Seg) (x : ℕ) → setOpen st g x .opened ≡ suc (g .name)
         opened-is g x = unfold setOpen in refl
 
-        next-is : (g x : ℕ) → setOpen st g x .next ≡ 0
+        next-is : (g : Seg) (x : ℕ) → setOpen st g x .next ≡ 0
         next-is g x = unfold setOpen in refl
 
-        free-same : (g x j : ℕ) → flies (setOpen st g x) j ≡ flies st j
+        free-same : (g : Seg) (x j : ℕ) → flies (setOpen st g x) j ≡ flies st j
         free-same g x j = unfold setOpen isFree filledIn in refl
 
-        missing-is : (g x i : ℕ) → addEntry (beginStripe (setOpen st g x) i) i a t w .missing ≡ st .missing
+        missing-is : (g : Seg) (x i : ℕ) → addEntry (beginStripe (setOpen st g x) i) i a t w .missing ≡ st .missing
         missing-is g x i = unfold addEntry beginStripe setOpen in refl
 
-        state-is : mustOpen p st ≡ true → sent .state ≡ addEntry (beginStripe (setOpen st (firstOr 0 (emptyZones p v)) (suc (st .serial .0))) (freeSlot st)) (freeSlot st) a t w
+        state-is : mustOpen p st ≡ true → sent .state ≡ addEntry (beginStripe (setOpen st (firstOr (seg 0) (emptySegs p v)) (suc (st .serial .0))) (freeSlot st)) (freeSlot st) a t w
         state-is mo = unfold sending slotFor begunBy openedBy opens placed in rw (nf, mo)
 
-        stores-is : mustOpen p st ≡ true → sent .stores ≡ headerStores p (firstOr 0 (emptyZones p v)) (suc (st .serial .0)) 0
+        stores-is : mustOpen p st ≡ true → sent .stores ≡ headerStores p (firstOr (seg 0) (emptySegs p v)) (suc (st .serial .0)) 0
         stores-is mo = unfold sending opens in rw (nf, mo)
 
-        inflight-is : mustOpen p st ≡ true → sent .inflight ≡ placed p (beginStripe (setOpen st (firstOr 0 (emptyZones p v)) (suc (st .serial .0))) (freeSlot st)) fl (freeSlot st) a t w b .inflight
+        inflight-is : mustOpen p st ≡ true → sent .inflight ≡ placed p (beginStripe (setOpen st (firstOr (seg 0) (emptySegs p v)) (suc (st .serial .0))) (freeSlot st)) fl
+            (freeSlot st) a t w b .inflight
         inflight-is mo = unfold sending slotFor begunBy openedBy opens in rw (nf, mo)
 
   -- all three
-  pub sent-ok : mustWait p st ≡ false → noSerial p st ≡ false → (opens p st ≡ true → isNil (emptyZones p v) ≡ false) → SentOk p v st (sent .state) (sent .stores) (sent .inflight)
+  pub sent-ok : mustWait p st ≡ false → noSerial p st ≡ false → (opens p st ≡ true → isNil (emptySegs p v) ≡ false) → SentOk p v st (sent .state) (sent .stores) (sent .inflight)
   sent-ok nw ns ne = go (test (hasFilling p st)) (test (mustOpen p st))
     where
       opens-is : hasFilling p st ≡ false → mustOpen p st ≡ true → opens p st ≡ true
@@ -327,10 +330,10 @@ module _ (p : Params) (r : Ranged p) (v : View) (sh : Shaped p v) (st : State) (
       go (no! q) (no! m) = begins-stripe q nw m
 
 -- 01, Refusals, 8: more than n zones are empty
-pub plenty : (p : Params) (v : View) (n : ℕ) → scarce p v n ≡ false → isNil (emptyZones p v) ≡ false
+pub plenty : (p : Params) (v : View) (n : ℕ) → scarce p v n ≡ false → isNil (emptySegs p v) ≡ false
 unfolding scarce
-plenty p v n q = some (emptyZones p v) (leb-false (length (emptyZones p v)) n q)
+plenty p v n q = some (emptySegs p v) (leb-false (length (emptySegs p v)) n q)
   where
-    some : (l : List ℕ) → n < length l → isNil l ≡ false
+    some : (l : List Seg) → n < length l → isNil l ≡ false
     some [] h = absurd (let x : ⊥ = omega arith in x)
     some (a ∷ l) h = unfold isNil in refl

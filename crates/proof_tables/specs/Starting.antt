@@ -16,7 +16,7 @@ use Rattle.spec.specs.Engine.{lentOk}
 use Rattle.spec.specs.Lists.{isNil, flat}
 use Rattle.spec.specs.Memory.{Memory, idleState, stateOk}
 use Rattle.spec.specs.Params.{inRange, inflightLen, named}
-use Rattle.spec.specs.Restart.{freeZones, dropStores, mendStores, restartStores, openOf, nextOf, restartMemory, namesDrive, rewrites, restartChecks, restartPlan}
+use Rattle.spec.specs.Restart.{freeSegs, dropStores, mendStores, restartStores, openOf, nextOf, restartMemory, namesDrive, rewrites, restartChecks, restartPlan}
 use Rattle.spec.specs.Segments.{Segment, segments, candidates, addressTable, compactTable, greatestStamp, greatestSerial, unsealed}
 use Rattle.law_basic.specs.Geometry.{ranged}
 use Rattle.law_views.specs.Views.{Whole, seen}
@@ -93,7 +93,7 @@ pub record Begins (p : Params) (k : Disk) (m : Memory) (d : ℕ) : Type 0 where
   pub lent! : lentOk p k m ≡ true
   pub accepted! : Accepted p (seen p k) (named d)
   pub sixth! : rewrites p (named d) (segments p (seen p k) (named d)) && eqb (greatestSerial (segments p (seen p k) (named d))) lastCount ≡ false
-  pub eighth! : rewrites p (named d) (segments p (seen p k) (named d)) && isNil (freeZones p (segments p (seen p k) (named d))) ≡ false
+  pub eighth! : rewrites p (named d) (segments p (seen p k) (named d)) && isNil (freeSegs p (segments p (seen p k) (named d))) ≡ false
 
 pub start-begins : (p : Params) (k : Disk) (m : Memory) (d : ℕ) → firstRefusal (startChecks p k m d) ≡ none → Begins p k m d
 start-begins p k m d e =

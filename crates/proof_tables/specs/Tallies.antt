@@ -12,7 +12,7 @@ use Rattle.spec.specs.Memory.{slotCount, slots}
 use Rattle.law_basic.specs.Ranges.{Test, test}
 use Rattle.law_basic.specs.Ranges.Test.{yes!, no! }
 use Rattle.law_drives.specs.Members.{In, in-keep, keep-cong, keep-nothing, from-in}
-use Rattle.law_drives.specs.Tests.{clash, not-so}
+use Rattle.law_drives.specs.Tests.{not-so}
 
 pub tally-cong : {A : Type 0} (f g : A → Bool) (l : List A) → ((a : A) → In a l → f a ≡ g a) → tally f l ≡ tally g l
 unfolding tally
@@ -56,18 +56,6 @@ from-more f g i b (suc n) x y h p q = go (ℕ-discrete b i) (from-more f g i (su
 pub tally-more : (f g : ℕ → Bool) (i : ℕ) → i < 8 → ((j : ℕ) → (j ≡ i → ⊥) → f j ≡ g j) → f i ≡ true → g i ≡ false → tally f slots ≡ suc (tally g slots)
 unfolding tally slots slotCount below
 tally-more f g i h e p q = from-more f g i 0 8 (omega arith) h e p q
-
--- a mapped or kept list is no longer
-pub tally-mono : {A : Type 0} (f g : A → Bool) (l : List A) → ((a : A) → In a l → f a ≡ true → g a ≡ true) → tally f l ≤ tally g l
-unfolding tally keep consIf
-tally-mono f g [] h = omega arith
-tally-mono f g (a ∷ l) h = go (test (f a)) (test (g a)) (tally-mono f g l (λ b m. h b (inr m)))
-  where
-    go : Test (f a) → Test (g a) → length (keep f l) ≤ length (keep g l) → length (consIf (f a) a (keep f l)) ≤ length (consIf (g a) a (keep g l))
-    go (yes! p) (yes! q) k = rw (p, q) (omega arith)
-    go (yes! p) (no! q) k = clash (h a (inl refl) p) q
-    go (no! p) (yes! q) k = rw (p, q) (omega arith)
-    go (no! p) (no! q) k = rw (p, q) k
 
 -- fewer pass than there are: one fails
 pub some-out : {A : Type 0} (f : A → Bool) (l : List A) → tally f l < length l → (a : A) × In a l × (f a ≡ false)

@@ -11,12 +11,12 @@ use lib.ListN.{length, getD}
 use lib.Bits.{bitXor}
 use Rattle.spec.specs.declared.Params.{Params}
 use Rattle.spec.specs.Bytes.{xorAll}
-use Rattle.spec.specs.Drives.{View, zoneAt, pointerAt, viewOf, mkDisk, zoneOn, sealedIn, dataStored, recordIn}
+use Rattle.spec.specs.Drives.{View, zoneAt, pointerAt, viewOf, mkDisk, zoneOn, sealedIn, dataStored, recordIn, Seg, placeSegment}
 use Rattle.spec.specs.Faults.{outside, twice, storedBad}
 use Rattle.spec.specs.Layout.{dataDrive, group, inGroupOf, groupOffsets, compactEntry, headerSerial, Rec, mkRec}
 use Rattle.spec.specs.Lists.{upFrom, below, any, consIf, keep, firstOr, isIn}
 use Rattle.spec.specs.Memory.{compactAt, shownAt}
-use Rattle.spec.specs.Params.{inRange, compactLen, placeBlock, placeZone, placeDrive, drivesOf, present}
+use Rattle.spec.specs.Params.{inRange, compactLen, placeBlock, placeDrive, drivesOf, present}
 use Rattle.spec.specs.Parity.{parityRec}
 use Rattle.spec.specs.Rank.{Cand}
 use Rattle.spec.specs.Segments.{lowDrive, headerAt, remaining, recordsIn, segmentOf, segments, recsOn, offsetOn, hasChunk, counts, storedRec, recOf, offsetOf, candOf, compactTable}
@@ -24,6 +24,7 @@ use Rattle.law_basic.specs.Geometry.{Ranged}
 use Rattle.law_basic.specs.Ranges.{Test, test, below-none, map-append, map-map, keep-below-snoc}
 use Rattle.law_basic.specs.Ranges.Test.{yes!, no! }
 use Rattle.law_basic.specs.Xor.{xorAll-none, xorAll-snoc}
+use Rattle.law_basic.specs.Segs.{Named, zone-on-lt}
 use Rattle.law_views.specs.Views.{Whole}
 use Rattle.law_drives.specs.Accept.{outside-in}
 use Rattle.recover_compact.specs.Compacts.{SegmentShown}
@@ -31,7 +32,7 @@ use Rattle.recover_groups.specs.Groups.{recsBad, recsFault}
 use Rattle.recover_segments.specs.Remains.{serialOf}
 use Rattle.law_drives.specs.Members.{In, in-map, none-in, keep-in, keep-cong, first-any}
 use Rattle.law_drives.specs.Segs.{in-present, remaining-low, length-records, record-at, data-low, recs-here, serial-is, chunk-at, CandAt}
-use Rattle.law_drives.specs.Spots.{cand-zone, counts-in, spot-of, spot-block, spot-drive, InGroups, shown-first}
+use Rattle.law_drives.specs.Spots.{counts-in, spot-of, spot-block, spot-drive, InGroups, shown-first, cand-segment}
 use Rattle.law_drives.specs.Tables.{compact-at}
 use Rattle.law_drives.specs.Tests.{or-first, cond-true, cond-false}
 
@@ -43,29 +44,29 @@ pub record Ground (p : Params) (im ps : List ℕ) (gone : ℕ) (cs : List ℕ) :
   pub compact-long : length cs ≡ compactLen p
 
 -- a counted stripe of a remaining segment, whose rows of the compact table are as the drives say
-pub record StripeCounts (p : Params) (v : View) (gone : ℕ) (cs : List ℕ) (g s : ℕ) : Type 0 where
+pub record StripeCounts (p : Params) (v : View) (gone : ℕ) (cs : List ℕ) (g : Seg) (s : ℕ) : Type 0 where
   pub remains : In g (remaining p v gone)
   pub stripe-low : s < p .S
   pub it-counts : counts p gone (segmentOf p v gone g) s ≡ true
   pub shown : SegmentShown p v gone g cs
 
 -- its record on a drive stands at data offset o
-pub record LiesIn (p : Params) (v : View) (gone : ℕ) (cs : List ℕ) (d g o s : ℕ) : Type 0 where
+pub record LiesIn (p : Params) (v : View) (gone : ℕ) (cs : List ℕ) (d : ℕ) (g : Seg) (o s : ℕ) : Type 0 where
   pub drive-low : d < p .N
   pub counted : StripeCounts p v gone cs g s
   pub offset-is : o ≡ offsetOf gone (segmentOf p v gone g) s d
 
 -- the record of some counted stripe stands there
-abbrev pub Somewhere : Params → View → ℕ → List ℕ → ℕ → ℕ → ℕ → Type 0
+abbrev pub Somewhere : Params → View → ℕ → List ℕ → ℕ → Seg → ℕ → Type 0
 Somewhere p v gone cs d g o = (s : ℕ) × LiesIn p v gone cs d g o s
 
-pub counted-segment-low : (p : Params) (v : View) (gone : ℕ) (cs : List ℕ) (g s : ℕ) → StripeCounts p v gone cs g s → g < p .Z
+pub counted-segment-low : (p : Params) (v : View) (gone : ℕ) (cs : List ℕ) (g : Seg) (s : ℕ) → StripeCounts p v gone cs g s → Named p g
 counted-segment-low p v gone cs g s k = remaining-low p v gone g (k .remains)
 
 -- ---- every chunk of what remains sits at an offset of its group
 
 -- a remaining segment has no such fault
-pub seg-clean : (p : Params) (v : View) (gone g : ℕ) → any (recsFault p gone) (segments p v gone) ≡ false → In g (remaining p v gone) → recsFault p gone (segmentOf p v gone g) ≡ false
+pub seg-clean : (p : Params) (v : View) (gone : ℕ) (g : Seg) → any (recsFault p gone) (segments p v gone) ≡ false → In g (remaining p v gone) → recsFault p gone (segmentOf p v gone g) ≡ false
 unfolding segments
 seg-clean p v gone g q m = none-in (recsFault p gone) (map (segmentOf p v gone) (remaining p v gone)) q (segmentOf p v gone g) (in-map (segmentOf p v gone) (remaining p v gone) g m)
 
@@ -74,7 +75,7 @@ unfolding recsFault recsBad
 no-fault-in-groups p v gone q g d o m hd pr h =
     let x = segmentOf p v gone g in
     let w = sealedIn p v gone g in
-    let z = zoneAt v d g in
+    let z = zoneAt v d (zoneOn g d) in
     let f : recsBad p d 0 (recsOn x d) ≡ false = none-in (λ d. recsBad p d 0 (recsOn x d)) (present p gone) (seg-clean p v gone g q m) d (in-present p gone d hd pr) in
     let u : outside p 0 (recsOn x d) ≡ false =
     or-first (outside p 0 (recsOn x d)) (twice (recsOn x d))
@@ -86,37 +87,39 @@ no-fault-in-groups p v gone q g d o m hd pr h =
 
 -- ---- the stamp of a chunk that the table shows
 
-module _ (p : Params) (r : Ranged p) (v : View) (gone : ℕ) (cs : List ℕ) (g s : ℕ) (clean : any (recsFault p gone) (segments p v gone) ≡ false) (k : StripeCounts p v gone cs g s) (d : ℕ)
+module _ (p : Params) (r : Ranged p) (v : View) (gone : ℕ) (cs : List ℕ) (g : Seg) (s : ℕ) (clean : any (recsFault p gone) (segments p v gone) ≡ false) (k : StripeCounts p v gone cs g s) (d : ℕ)
     (hd : d < p .N)
     (pr : isIn gone d ≡ false) where
   has-it : hasChunk (segmentOf p v gone g) s d ≡ true
   has-it = counts-in p gone (segmentOf p v gone g) s d (k .it-counts) hd pr
 
   -- the table shows the stripe where the whole one would
-  shown-same : shownAt p v cs d g s ≡ shownAt p v (compactTable p (segments p v gone)) d g s
+  shown-same : shownAt p v cs d (zoneOn g d) s ≡ shownAt p v (compactTable p (segments p v gone)) d (zoneOn g d) s
   unfolding shownAt groupOffsets
-  shown-same = keep-cong (λ o. ltb (1 + o) (pointerAt v d g) && eqb (getD cs (compactAt p d g o) 0) (compactEntry p s))
-      (λ o. ltb (1 + o) (pointerAt v d g) && eqb (getD (compactTable p (segments p v gone)) (compactAt p d g o) 0) (compactEntry p s))
+  shown-same =
+      let z = zoneOn g d in
+      keep-cong (λ o. ltb (1 + o) (pointerAt v d z) && eqb (getD cs (compactAt p d z o) 0) (compactEntry p s))
+      (λ o. ltb (1 + o) (pointerAt v d z) && eqb (getD (compactTable p (segments p v gone)) (compactAt p d z o) 0) (compactEntry p s))
       (keep (λ o. ltb o (p .S)) (upFrom (group p s * p .G) (p .G)))
       (λ o m.
       let l = ltb-true o (p .S) (keep-in (λ o. ltb o (p .S)) (upFrom (group p s * p .G) (p .G)) o m .1) in
-      let e = k .shown d o hd l ∙ sym (compact-at p v gone d g o hd (counted-segment-low p v gone cs g s k) l) in
-      ap (λ (x : ℕ). ltb (1 + o) (pointerAt v d g) && eqb x (compactEntry p s)) e)
+      let e = k .shown d o hd l ∙ sym (compact-at p v gone d z o hd (zone-on-lt p g d (counted-segment-low p v gone cs g s k)) l) in
+      ap (λ (x : ℕ). ltb (1 + o) (pointerAt v d z) && eqb x (compactEntry p s)) e)
 
   -- the offset that the compact table shows
-  pub shown-there : (o : ℕ) → o ≡ firstOr (p .S) (shownAt p v cs d g s) → o ≡ offsetOn (segmentOf p v gone g) d s
+  pub shown-there : (o : ℕ) → o ≡ firstOr (p .S) (shownAt p v cs d (zoneOn g d) s) → o ≡ offsetOn (segmentOf p v gone g) d s
   shown-there o eo =
       let q = shown-first p r v gone (no-fault-in-groups p v gone clean) g d s (k .remains) hd pr has-it in
-      eo ∙ ap (firstOr (p .S)) shown-same ∙ first-any (p .S) 0 (shownAt p v (compactTable p (segments p v gone)) d g s) (q .1) ∙ q .0
+      eo ∙ ap (firstOr (p .S)) shown-same ∙ first-any (p .S) 0 (shownAt p v (compactTable p (segments p v gone)) d (zoneOn g d) s) (q .1) ∙ q .0
 
   pub offset-low : offsetOn (segmentOf p v gone g) d s < p .S
-  offset-low = data-low p (zoneAt v d g) (offsetOn (segmentOf p v gone g) d s) (chunk-at p v gone g d s hd pr has-it .stored-there) .0
+  offset-low = data-low p (zoneAt v d (zoneOn g d)) (offsetOn (segmentOf p v gone g) d s) (chunk-at p v gone g d s hd pr has-it .stored-there) .0
 
   -- the record there
-  pub record-there : (w : Bool) (o : ℕ) (q : Rec) → w ≡ sealedIn p v gone g → o ≡ offsetOn (segmentOf p v gone g) d s → q ≡ recordIn p w (zoneAt v d g) o
+  pub record-there : (w : Bool) (o : ℕ) (q : Rec) → w ≡ sealedIn p v gone g → o ≡ offsetOn (segmentOf p v gone g) d s → q ≡ recordIn p w (zoneAt v d (zoneOn g d)) o
       → q ≡ storedRec (segmentOf p v gone g) s d
   record-there w o q ew eo eq =
-      eq ∙ ap₂ (λ (x : Bool) (y : ℕ). recordIn p x (zoneAt v d g) y) ew eo ∙ sym (chunk-at p v gone g d s hd pr has-it .its-record)
+      eq ∙ ap₂ (λ (x : Bool) (y : ℕ). recordIn p x (zoneAt v d (zoneOn g d)) y) ew eo ∙ sym (chunk-at p v gone g d s hd pr has-it .its-record)
 
 -- ---- the exclusive or of the present drives' stamps, drive by drive
 
@@ -143,7 +146,7 @@ stamps-all f p gone = refl
 
 -- ---- the stamp at a place
 
-module _ (p : Params) (r : Ranged p) (v : View) (gone : ℕ) (cs : List ℕ) (d g o s : ℕ) (k : LiesIn p v gone cs d g o s) where
+module _ (p : Params) (r : Ranged p) (v : View) (gone : ℕ) (cs : List ℕ) (d : ℕ) (g : Seg) (o s : ℕ) (k : LiesIn p v gone cs d g o s) where
   pub lies-away : isIn gone d ≡ true → o ≡ s
   unfolding offsetOf
   lies-away e = k .offset-is ∙ cond-true (isIn gone d) s (offsetOn (segmentOf p v gone g) d s) e
@@ -173,8 +176,8 @@ module _ (p : Params) (r : Ranged p) (v : View) (gone : ℕ) (h : Cand) (k : Can
   is-drive : placeDrive p (h .place) ≡ h .drive
   is-drive = spot-drive p r v gone h (spot-of p r v gone h k)
 
-  is-zone : placeZone p (h .place) ≡ k .of
-  is-zone = cand-zone p r v gone h k (spot-of p r v gone h k)
+  is-segment : placeSegment p (h .place) ≡ k .of
+  is-segment = cand-segment p r v gone h k (spot-of p r v gone h k)
 
   is-offset : placeBlock p (h .place) - 1 ≡ h .offset
   is-offset = ap (λ (x : ℕ). x - 1) (spot-block p r v gone h (spot-of p r v gone h k)) ∙ (let z : 1 + h .offset - 1 ≡ h .offset = omega arith in z)
@@ -195,31 +198,28 @@ module _ (p : Params) (r : Ranged p) (v : View) (gone : ℕ) (h : Cand) (k : Can
   }
 
   -- the place says drive, segment and offset
-  pub place-lies : (cs : List ℕ) → SegmentShown p v gone (k .of) cs → (q : ℕ) → h .place ≡ q → LiesIn p v gone cs (placeDrive p q) (placeZone p q) (placeBlock p q - 1) (k .stripe)
-  place-lies cs sh q e = subst (λ (x : ℕ). LiesIn p v gone cs (placeDrive p x) (placeZone p x) (placeBlock p x - 1) (k .stripe)) e
-      (subst (λ (x : ℕ). LiesIn p v gone cs x (placeZone p (h .place)) (placeBlock p (h .place) - 1) (k .stripe)) (sym is-drive)
-      (subst (λ (x : ℕ). LiesIn p v gone cs (h .drive) x (placeBlock p (h .place) - 1) (k .stripe)) (sym is-zone)
+  pub place-lies : (cs : List ℕ) → SegmentShown p v gone (k .of) cs → (q : ℕ) → h .place ≡ q → LiesIn p v gone cs (placeDrive p q) (placeSegment p q) (placeBlock p q - 1) (k .stripe)
+  place-lies cs sh q e = subst (λ (x : ℕ). LiesIn p v gone cs (placeDrive p x) (placeSegment p x) (placeBlock p x - 1) (k .stripe)) e
+      (subst (λ (x : ℕ). LiesIn p v gone cs x (placeSegment p (h .place)) (placeBlock p (h .place) - 1) (k .stripe)) (sym is-drive)
+      (subst (λ (x : Seg). LiesIn p v gone cs (h .drive) x (placeBlock p (h .place) - 1) (k .stripe)) (sym is-segment)
       (subst (λ (x : ℕ). LiesIn p v gone cs (h .drive) (k .of) x (k .stripe)) (sym is-offset) (its-lie cs sh))))
 
   -- the record found there is the candidate
   pub it-is-found : (q a t n d o : ℕ) → h .place ≡ q → h .address ≡ a → d ≡ placeDrive p q → o ≡ placeBlock p q - 1
-      → t ≡ recOf p gone (segmentOf p v gone (placeZone p q)) (k .stripe) (placeDrive p q) .stamp → n ≡ serialOf p v gone (placeZone p q)
+      → t ≡ recOf p gone (segmentOf p v gone (placeSegment p q)) (k .stripe) (placeDrive p q) .stamp → n ≡ serialOf p v gone (placeSegment p q)
       → record { address = a; stamp = t; serial = n; drive = d; offset = o; place = q } ≡ h
   unfolding serialOf candOf
   it-is-found q a t n d o eq ea ed eo et en =
-      let ez : placeZone p q ≡ k .of = ap (placeZone p) (sym eq) ∙ is-zone in
+      let ez : placeSegment p q ≡ k .of = ap (placeSegment p) (sym eq) ∙ is-segment in
       let es : t ≡ h .stamp =
-      et ∙ ap₂ (λ (x y : ℕ). recOf p gone (segmentOf p v gone x) (k .stripe) y .stamp) ez (ap (placeDrive p) (sym eq) ∙ is-drive ∙ cand-on-drive) ∙ sym (ap (λ (x : Cand). x .stamp) (k .it-is)) in
-      let er : n ≡ h .serial = en ∙ ap (λ (x : ℕ). headerSerial (headerAt v (lowDrive p gone) x)) ez ∙ sym (serial-is p v gone (k .of)) ∙ sym (ap (λ (x : Cand). x .serial) (k .it-is)) in
+      et ∙ ap₂ (λ (x : Seg) (y : ℕ). recOf p gone (segmentOf p v gone x) (k .stripe) y .stamp) ez (ap (placeDrive p) (sym eq) ∙ is-drive ∙ cand-on-drive)
+      ∙ sym (ap (λ (x : Cand). x .stamp) (k .it-is)) in
+      let er : n ≡ h .serial = en ∙ ap (λ (x : Seg). headerSerial (headerAt v (lowDrive p gone) x)) ez ∙ sym (serial-is p v gone (k .of)) ∙ sym (ap (λ (x : Cand). x .serial) (k .it-is)) in
       let ed′ : d ≡ h .drive = ed ∙ ap (placeDrive p) (sym eq) ∙ is-drive in
       let eo′ : o ≡ h .offset = eo ∙ ap (λ (x : ℕ). placeBlock p x - 1) (sym eq) ∙ is-offset in
       λ j. record { address = sym ea j; stamp = es j; serial = er j; drive = ed′ j; offset = eo′ j; place = sym eq j }
 
 -- ---- answers of the code
-
-pub zone-is : (g d : ℕ) → zoneOn g d ≡ g
-unfolding zoneOn
-zone-is g d = refl
 
 pub add-away : (b : Bool) (t x : ℕ) → b ≡ true → t ≡ cond b t (bitXor t x)
 add-away b t x e = sym (cond-true b t (bitXor t x) e)
@@ -227,6 +227,6 @@ add-away b t x e = sym (cond-true b t (bitXor t x) e)
 pub add-here : (b : Bool) (t x y : ℕ) → b ≡ false → y ≡ x → bitXor t y ≡ cond b t (bitXor t x)
 add-here b t x y e q = ap (bitXor t) q ∙ sym (cond-false b t (bitXor t x) e)
 
-pub lies-same : (p : Params) (v : View) (gone : ℕ) (cs : List ℕ) (d g o s e h i : ℕ) → e ≡ d → h ≡ g → i ≡ o → LiesIn p v gone cs d g o s → LiesIn p v gone cs e h i s
+pub lies-same : (p : Params) (v : View) (gone : ℕ) (cs : List ℕ) (d : ℕ) (g : Seg) (o s e : ℕ) (h : Seg) (i : ℕ) → e ≡ d → h ≡ g → i ≡ o → LiesIn p v gone cs d g o s → LiesIn p v gone cs e h i s
 lies-same p v gone cs d g o s e h i ed eg eo k =
-    subst (λ (x : ℕ). LiesIn p v gone cs x h i s) (sym ed) (subst (λ (x : ℕ). LiesIn p v gone cs d x i s) (sym eg) (subst (λ (x : ℕ). LiesIn p v gone cs d g x s) (sym eo) k))
+    subst (λ (x : ℕ). LiesIn p v gone cs x h i s) (sym ed) (subst (λ (x : Seg). LiesIn p v gone cs d x i s) (sym eg) (subst (λ (x : ℕ). LiesIn p v gone cs d g x s) (sym eo) k))

@@ -1,11 +1,11 @@
 // One completed record more in the address table: the record that the table holds is found again by its place, and the better of the two stays (01, The calls, last paragraph).
 ghost use mathlib.Core.Path.{_≡_};
-ghost use mathlib.Core.Bool.{true, cond};
+ghost use mathlib.Core.Bool.{cond};
 ghost use mathlib.Core.List.{[], _∷_, map};
 ghost use Prim.Native.Nat.{ℕ, _<_};
 ghost use lib.Bits.{bitXor};
 ghost use Rattle.spec.specs.Bytes.{xorAll};
-ghost use Rattle.spec.specs.Drives.{viewOf, sealedIn};
+ghost use Rattle.spec.specs.Drives.{viewOf, sealedIn, seg};
 ghost use Rattle.spec.specs.Lists.{isIn};
 ghost use Rattle.spec.specs.Params.{present};
 ghost use Rattle.spec.specs.Segments.{segmentOf, storedRec, recOf};
@@ -34,8 +34,11 @@ fn add_stamp(
     t: Stamp,
 ) -> Stamp
     requires { ⌜ Ground p (now image) (now pointers) gone (now compact) ⌝ }
-    requires { ⌜ (drive < p .N) × StripeCounts p (viewOf p (now image) (now pointers)) gone (now compact) segment s × (full ≡ sealedIn p (viewOf p (now image) (now pointers)) gone segment) ⌝ }
-    ensures { λ r. ⌜ r .0 ≡ cond (isIn gone drive) (t .0) (bitXor (t .0) (storedRec (segmentOf p (viewOf p (now (image .entry)) (now (pointers .entry))) gone segment) s drive .stamp)) ⌝ }
+    requires { ⌜
+        (drive < p .N)
+        × StripeCounts p (viewOf p (now image) (now pointers)) gone (now compact) (seg segment) s
+        × (full ≡ sealedIn p (viewOf p (now image) (now pointers)) gone (seg segment)) ⌝ }
+    ensures { λ r. ⌜ r .0 ≡ cond (isIn gone drive) (t .0) (bitXor (t .0) (storedRec (segmentOf p (viewOf p (now (image .entry)) (now (pointers .entry))) gone (seg segment)) s drive .stamp)) ⌝ }
 {
     if bits_masks::has_drive(gone, drive) {
         return t;
@@ -58,8 +61,8 @@ fn lost_stamp(
     s: usize,
 ) -> Stamp
     requires { ⌜ Ground p (now image) (now pointers) gone (now compact) ⌝ }
-    requires { ⌜ StripeCounts p (viewOf p (now image) (now pointers)) gone (now compact) segment s × (full ≡ sealedIn p (viewOf p (now image) (now pointers)) gone segment) ⌝ }
-    ensures { λ r. ⌜ r .0 ≡ xorAll (map (λ d. storedRec (segmentOf p (viewOf p (now (image .entry)) (now (pointers .entry))) gone segment) s d .stamp) (present p gone)) ⌝ }
+    requires { ⌜ StripeCounts p (viewOf p (now image) (now pointers)) gone (now compact) (seg segment) s × (full ≡ sealedIn p (viewOf p (now image) (now pointers)) gone (seg segment)) ⌝ }
+    ensures { λ r. ⌜ r .0 ≡ xorAll (map (λ d. storedRec (segmentOf p (viewOf p (now (image .entry)) (now (pointers .entry))) gone (seg segment)) s d .stamp) (present p gone)) ⌝ }
 {
     let mut t = Stamp(0);
     let mut d = 0;
@@ -82,11 +85,11 @@ fn stamp_at(
     offset: usize,
 ) -> Stamp
     requires { ⌜ Ground p (now image) (now pointers) gone (now compact) ⌝ }
-    requires { ⌜ Somewhere p (viewOf p (now image) (now pointers)) gone (now compact) drive segment offset ⌝ }
+    requires { ⌜ Somewhere p (viewOf p (now image) (now pointers)) gone (now compact) drive (seg segment) offset ⌝ }
     ensures { λ r. ⌜
         ((s : ℕ)
-        → LiesIn p (viewOf p (now (image .entry)) (now (pointers .entry))) gone (now (compact .entry)) drive segment offset s
-        → r .0 ≡ recOf p gone (segmentOf p (viewOf p (now (image .entry)) (now (pointers .entry))) gone segment) s drive .stamp) ⌝ }
+        → LiesIn p (viewOf p (now (image .entry)) (now (pointers .entry))) gone (now (compact .entry)) drive (seg segment) offset s
+        → r .0 ≡ recOf p gone (segmentOf p (viewOf p (now (image .entry)) (now (pointers .entry))) gone (seg segment)) s drive .stamp) ⌝ }
 {
     let full = disk_zones::is_sealed(p, pointers, gone, segment);
     if bits_masks::has_drive(gone, drive) {

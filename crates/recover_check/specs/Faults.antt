@@ -1,28 +1,29 @@
 -- What restart and rebuild learn of the drives (01, Refusals, 9; Restart, 4). Assumes nothing.
 use mathlib.Core.Path.{_≡_, refl, sym, ap, ap₂, _∙_, subst}
-use mathlib.Core.List.{List, [], _++_, map}
+use mathlib.Core.List.{List, [], _∷_, _++_, map}
 use mathlib.Core.Bool.{Bool, true, false, not, _&&_, _||_}
 use Prim.Native.Nat.{ℕ, zero, suc, _+_, _*_, _≤_, _<_}
 use native.Mathlib.Nat.{add-zero, zero-add, suc-mul}
 use native.Mathlib.Omega.{arith}
 use lib.Dec.{leb, eqb, lit≤}
 use lib.ListN.{length, getD}
-use Rattle.law_drives.specs.Members.{keep-keep, keep-map}
+use Rattle.law_drives.specs.Members.{keep-keep}
 use Rattle.law_basic.specs.Geometry.{prod-le, ranged}
-use Rattle.law_basic.specs.Ranges.{Test, test, length-below, map-append, map-map, keep-below-same, length-keep, total-append, keep-below-snoc}
+use Rattle.law_basic.specs.Ranges.{Test, test, length-below, map-append, map-map, keep-below-same, length-keep, total-append, keep-below-snoc, keep-map}
 use Rattle.law_basic.specs.Ranges.Test.{yes!, no! }
-use Rattle.recover_segments.specs.Kept.{segments-keep, segs-of, unsealed-list}
+use Rattle.law_basic.specs.Segs.{zone-number}
+use Rattle.recover_segments.specs.Kept.{segments-keep, unsealed-list}
 use Rattle.recover_segments.specs.Remains.{remainsHere, Keeps}
 use Rattle.recover_survey.specs.declared.Tally.{Tally}
 use Rattle.recover_survey.specs.Tops.{topOf, Surveyed, last-le}
 use Rattle.spec.specs.declared.Params.{Params}
 use Rattle.spec.specs.Bytes.{part}
-use Rattle.spec.specs.Drives.{noZone, View, sealedIn}
+use Rattle.spec.specs.Drives.{noZone, View, zoneOn, sealedIn, Seg, seg}
 use Rattle.spec.specs.Faults.{headerFault, serialFault, stripeFault, addressFault, footerFaultIn, footerFault, clashes, segmentFault, segmentFaults}
 use Rattle.spec.specs.Lists.{upFrom, below, any, consIf, keep, total, firstOr}
 use Rattle.spec.specs.Params.{inRange, present}
 use Rattle.spec.specs.Restart.{uncountedIn}
-use Rattle.spec.specs.Segments.{Segment, segmentOf, segments, hasChunk, counts, counted, uncounted, unsealed}
+use Rattle.spec.specs.Segments.{lowDrive, Segment, segmentOf, segments, hasChunk, counts, counted, uncounted, unsealed}
 use Rattle.spec.specs.Write.{opens}
 use Rattle.law_drives.specs.Rebuilding.{counted-low}
 use Rattle.recover_check.specs.declared.Exam.{Exam}
@@ -47,17 +48,26 @@ raggedBy p e = not (eqb (e .counted) (p .S)) && (not (eqb (e .top) (e .counted))
 -- ---- the zones with a fault
 
 -- 01, Refusals, 9: segment g remains and has a fault
-unfoldable pub faulty : Params → View → ℕ → ℕ → Bool
+unfoldable pub faulty : Params → View → ℕ → Seg → Bool
 faulty p v gone g = remainsHere p v gone g && segmentFault p gone (segments p v gone) (segmentOf p v gone g)
 
-pub faults-list : (p : Params) (v : View) (gone : ℕ) → segmentFaults p gone (segments p v gone) ≡ keep (faulty p v gone) (below (p .Z))
+-- the zones of segments as read, on a drive, are their numbers
+zones-by-number : (p : Params) (v : View) (gone d : ℕ) (l : List ℕ) → map (λ (s : Segment). zoneOn (s .seg) d) (map (λ g. segmentOf p v gone (seg g)) l) ≡ l
+unfolding segmentOf
+zones-by-number p v gone d [] = refl
+zones-by-number p v gone d (g ∷ l) = ap₂ (λ (x : ℕ) (r : List ℕ). x ∷ r) (zone-number g d) (zones-by-number p v gone d l)
+
+pub faults-list : (p : Params) (v : View) (gone : ℕ) → segmentFaults p gone (segments p v gone) ≡ keep (λ n. faulty p v gone (seg n)) (below (p .Z))
 unfolding segmentFaults faulty
 faults-list p v gone =
     let gs = segments p v gone in
-    ap (λ (l : List Segment). map (λ (g : Segment). g .seg) (keep (segmentFault p gone gs) l)) (segments-keep p v gone)
-    ∙ ap (map (λ (g : Segment). g .seg)) (keep-map (segmentFault p gone gs) (segmentOf p v gone) (keep (remainsHere p v gone) (below (p .Z))))
-    ∙ segs-of p v gone (keep (λ g. segmentFault p gone gs (segmentOf p v gone g)) (keep (remainsHere p v gone) (below (p .Z))))
-    ∙ keep-keep (λ g. segmentFault p gone gs (segmentOf p v gone g)) (remainsHere p v gone) (below (p .Z))
+    let on : ℕ → Bool = λ n. remainsHere p v gone (seg n) in
+    let bad : ℕ → Bool = λ n. segmentFault p gone gs (segmentOf p v gone (seg n)) in
+    let z : Segment → ℕ = λ s. zoneOn (s .seg) (lowDrive p gone) in
+    ap (λ (l : List Segment). map z (keep (segmentFault p gone gs) l)) (segments-keep p v gone)
+    ∙ ap (map z) (keep-map (segmentFault p gone gs) (λ n. segmentOf p v gone (seg n)) (keep on (below (p .Z))))
+    ∙ zones-by-number p v gone (lowDrive p gone) (keep bad (keep on (below (p .Z))))
+    ∙ keep-keep bad on (below (p .Z))
 
 -- ---- one segment: header, serials, then footers and clashes; then the records
 
@@ -147,14 +157,14 @@ sum-le f w b n h = sum-from f w b 0 n h
 
 -- 01, Restart, 4: segment g remains, by the flags, and is unsealed
 unfoldable pub openBy : Params → View → ℕ → List Bool → ℕ → Bool
-openBy p v gone flags g = getD flags g false && not (sealedIn p v gone g)
+openBy p v gone flags g = getD flags g false && not (sealedIn p v gone (seg g))
 
 pub record ExamSays (p : Params) (v : View) (gone : ℕ) (flags : List Bool) (n : ℕ) (e : Exam) : Type 0 where
   pub zone-is : e .zone ≡ p .Z
-  pub loose-is : e .loose ≡ sumOf (λ g. getD flags g false) (λ g. length (uncounted p gone (segmentOf p v gone g))) n
-  pub counted-is : e .counted ≡ sumOf (openBy p v gone flags) (λ g. length (counted p gone (segmentOf p v gone g))) n
-  pub top-is : e .top ≡ sumOf (openBy p v gone flags) (λ g. topOf p gone (segmentOf p v gone g)) n
-  pub part-is : e .part ≡ sumOf (openBy p v gone flags) (λ g. length (uncounted p gone (segmentOf p v gone g))) n
+  pub loose-is : e .loose ≡ sumOf (λ g. getD flags g false) (λ g. length (uncounted p gone (segmentOf p v gone (seg g)))) n
+  pub counted-is : e .counted ≡ sumOf (openBy p v gone flags) (λ g. length (counted p gone (segmentOf p v gone (seg g)))) n
+  pub top-is : e .top ≡ sumOf (openBy p v gone flags) (λ g. topOf p gone (segmentOf p v gone (seg g))) n
+  pub part-is : e .part ≡ sumOf (openBy p v gone flags) (λ g. length (uncounted p gone (segmentOf p v gone (seg g)))) n
 
 kept-most : (f : ℕ → Bool) (n : ℕ) → length (keep f (below n)) ≤ n
 kept-most f n = omega (arith, length-keep f (below n), length-below n)
@@ -172,64 +182,64 @@ module _ (p : Params) (v : View) (gone : ℕ) (flags : List Bool) where
   pub seen-none : ExamSays p v gone flags 0 (record { zone = p .Z; loose = 0; counted = 0; top = 0; part = 0 })
   seen-none = record {
     zone-is = refl;
-    loose-is = sym (sum-none (λ g. getD flags g false) (λ g. length (uncounted p gone (segmentOf p v gone g))));
-    counted-is = sym (sum-none (openBy p v gone flags) (λ g. length (counted p gone (segmentOf p v gone g))));
-    top-is = sym (sum-none (openBy p v gone flags) (λ g. topOf p gone (segmentOf p v gone g)));
-    part-is = sym (sum-none (openBy p v gone flags) (λ g. length (uncounted p gone (segmentOf p v gone g))));
+    loose-is = sym (sum-none (λ g. getD flags g false) (λ g. length (uncounted p gone (segmentOf p v gone (seg g)))));
+    counted-is = sym (sum-none (openBy p v gone flags) (λ g. length (counted p gone (segmentOf p v gone (seg g)))));
+    top-is = sym (sum-none (openBy p v gone flags) (λ g. topOf p gone (segmentOf p v gone (seg g))));
+    part-is = sym (sum-none (openBy p v gone flags) (λ g. length (uncounted p gone (segmentOf p v gone (seg g)))));
   }
 
   module _ (n : ℕ) (e : Exam) (s : ExamSays p v gone flags n e) where
     -- the sums fit
     pub seen-fits : (e .loose ≤ n * p .S) × (e .counted ≤ n * p .S) × (e .top ≤ n * p .S) × (e .part ≤ n * p .S)
     seen-fits = (
-      omega (arith, s .loose-is, sum-le (λ g. getD flags g false) (λ g. length (uncounted p gone (segmentOf p v gone g))) (p .S) n (λ g. uncounted-most p gone (segmentOf p v gone g))),
-      omega (arith, s .counted-is, sum-le (openBy p v gone flags) (λ g. length (counted p gone (segmentOf p v gone g))) (p .S) n (λ g. counted-low p gone (segmentOf p v gone g))),
-      omega (arith, s .top-is, sum-le (openBy p v gone flags) (λ g. topOf p gone (segmentOf p v gone g)) (p .S) n (λ g. top-most p gone (segmentOf p v gone g))),
-      omega (arith, s .part-is, sum-le (openBy p v gone flags) (λ g. length (uncounted p gone (segmentOf p v gone g))) (p .S) n (λ g. uncounted-most p gone (segmentOf p v gone g))),
+      omega (arith, s .loose-is, sum-le (λ g. getD flags g false) (λ g. length (uncounted p gone (segmentOf p v gone (seg g)))) (p .S) n (λ g. uncounted-most p gone (segmentOf p v gone (seg g)))),
+      omega (arith, s .counted-is, sum-le (openBy p v gone flags) (λ g. length (counted p gone (segmentOf p v gone (seg g)))) (p .S) n (λ g. counted-low p gone (segmentOf p v gone (seg g)))),
+      omega (arith, s .top-is, sum-le (openBy p v gone flags) (λ g. topOf p gone (segmentOf p v gone (seg g))) (p .S) n (λ g. top-most p gone (segmentOf p v gone (seg g)))),
+      omega (arith, s .part-is, sum-le (openBy p v gone flags) (λ g. length (uncounted p gone (segmentOf p v gone (seg g)))) (p .S) n (λ g. uncounted-most p gone (segmentOf p v gone (seg g)))),
     )
 
     -- a segment that doesn't remain
     pub seen-gone : getD flags n false ≡ false → ExamSays p v gone flags (n + 1) e
     unfolding openBy
     seen-gone h =
-        let k : (getD flags n false && not (sealedIn p v gone n)) ≡ false = ap (λ (b : Bool). b && not (sealedIn p v gone n)) h in
+        let k : (getD flags n false && not (sealedIn p v gone (seg n))) ≡ false = ap (λ (b : Bool). b && not (sealedIn p v gone (seg n))) h in
         record {
           zone-is = s .zone-is;
-          loose-is = s .loose-is ∙ sum-miss (λ g. getD flags g false) (λ g. length (uncounted p gone (segmentOf p v gone g))) n h;
-          counted-is = s .counted-is ∙ sum-miss (openBy p v gone flags) (λ g. length (counted p gone (segmentOf p v gone g))) n k;
-          top-is = s .top-is ∙ sum-miss (openBy p v gone flags) (λ g. topOf p gone (segmentOf p v gone g)) n k;
-          part-is = s .part-is ∙ sum-miss (openBy p v gone flags) (λ g. length (uncounted p gone (segmentOf p v gone g))) n k;
+          loose-is = s .loose-is ∙ sum-miss (λ g. getD flags g false) (λ g. length (uncounted p gone (segmentOf p v gone (seg g)))) n h;
+          counted-is = s .counted-is ∙ sum-miss (openBy p v gone flags) (λ g. length (counted p gone (segmentOf p v gone (seg g)))) n k;
+          top-is = s .top-is ∙ sum-miss (openBy p v gone flags) (λ g. topOf p gone (segmentOf p v gone (seg g))) n k;
+          part-is = s .part-is ∙ sum-miss (openBy p v gone flags) (λ g. length (uncounted p gone (segmentOf p v gone (seg g)))) n k;
         }
 
-    module _ (t : Tally) (u : Surveyed p gone (segmentOf p v gone n) t) (good : t .bad ≡ false) (h : getD flags n false ≡ true) where
-      more-loose : e .loose + t .loose ≡ sumOf (λ g. getD flags g false) (λ g. length (uncounted p gone (segmentOf p v gone g))) (n + 1)
-      more-loose = ap₂ (λ (x y : ℕ). x + y) (s .loose-is) (u .loose-is good) ∙ sum-hit (λ g. getD flags g false) (λ g. length (uncounted p gone (segmentOf p v gone g))) n h
+    module _ (t : Tally) (u : Surveyed p gone (segmentOf p v gone (seg n)) t) (good : t .bad ≡ false) (h : getD flags n false ≡ true) where
+      more-loose : e .loose + t .loose ≡ sumOf (λ g. getD flags g false) (λ g. length (uncounted p gone (segmentOf p v gone (seg g)))) (n + 1)
+      more-loose = ap₂ (λ (x y : ℕ). x + y) (s .loose-is) (u .loose-is good) ∙ sum-hit (λ g. getD flags g false) (λ g. length (uncounted p gone (segmentOf p v gone (seg g)))) n h
 
       -- one that is sealed
-      pub seen-full : sealedIn p v gone n ≡ true → ExamSays p v gone flags (n + 1) (record { zone = e .zone; loose = e .loose + t .loose; counted = e .counted; top = e .top; part = e .part })
+      pub seen-full : sealedIn p v gone (seg n) ≡ true → ExamSays p v gone flags (n + 1) (record { zone = e .zone; loose = e .loose + t .loose; counted = e .counted; top = e .top; part = e .part })
       unfolding openBy
       seen-full q =
-          let k : (getD flags n false && not (sealedIn p v gone n)) ≡ false = λ i. h i && not (q i) in
+          let k : (getD flags n false && not (sealedIn p v gone (seg n))) ≡ false = λ i. h i && not (q i) in
           record {
             zone-is = s .zone-is;
             loose-is = more-loose;
-            counted-is = s .counted-is ∙ sum-miss (openBy p v gone flags) (λ g. length (counted p gone (segmentOf p v gone g))) n k;
-            top-is = s .top-is ∙ sum-miss (openBy p v gone flags) (λ g. topOf p gone (segmentOf p v gone g)) n k;
-            part-is = s .part-is ∙ sum-miss (openBy p v gone flags) (λ g. length (uncounted p gone (segmentOf p v gone g))) n k;
+            counted-is = s .counted-is ∙ sum-miss (openBy p v gone flags) (λ g. length (counted p gone (segmentOf p v gone (seg g)))) n k;
+            top-is = s .top-is ∙ sum-miss (openBy p v gone flags) (λ g. topOf p gone (segmentOf p v gone (seg g))) n k;
+            part-is = s .part-is ∙ sum-miss (openBy p v gone flags) (λ g. length (uncounted p gone (segmentOf p v gone (seg g)))) n k;
           }
 
       -- one that is unsealed
-      pub seen-open : sealedIn p v gone n ≡ false
+      pub seen-open : sealedIn p v gone (seg n) ≡ false
           → ExamSays p v gone flags (n + 1) (record { zone = e .zone; loose = e .loose + t .loose; counted = e .counted + t .counted; top = e .top + t .top; part = e .part + t .loose })
       unfolding openBy
       seen-open q =
-          let k : (getD flags n false && not (sealedIn p v gone n)) ≡ true = λ i. h i && not (q i) in
+          let k : (getD flags n false && not (sealedIn p v gone (seg n))) ≡ true = λ i. h i && not (q i) in
           record {
             zone-is = s .zone-is;
             loose-is = more-loose;
-            counted-is = ap₂ (λ (x y : ℕ). x + y) (s .counted-is) (u .counted-is good) ∙ sum-hit (openBy p v gone flags) (λ g. length (counted p gone (segmentOf p v gone g))) n k;
-            top-is = ap₂ (λ (x y : ℕ). x + y) (s .top-is) (u .top-is good) ∙ sum-hit (openBy p v gone flags) (λ g. topOf p gone (segmentOf p v gone g)) n k;
-            part-is = ap₂ (λ (x y : ℕ). x + y) (s .part-is) (u .loose-is good) ∙ sum-hit (openBy p v gone flags) (λ g. length (uncounted p gone (segmentOf p v gone g))) n k;
+            counted-is = ap₂ (λ (x y : ℕ). x + y) (s .counted-is) (u .counted-is good) ∙ sum-hit (openBy p v gone flags) (λ g. length (counted p gone (segmentOf p v gone (seg g)))) n k;
+            top-is = ap₂ (λ (x y : ℕ). x + y) (s .top-is) (u .top-is good) ∙ sum-hit (openBy p v gone flags) (λ g. topOf p gone (segmentOf p v gone (seg g))) n k;
+            part-is = ap₂ (λ (x y : ℕ). x + y) (s .part-is) (u .loose-is good) ∙ sum-hit (openBy p v gone flags) (λ g. length (uncounted p gone (segmentOf p v gone (seg g)))) n k;
           }
 
   -- all of them
@@ -237,16 +247,17 @@ module _ (p : Params) (v : View) (gone : ℕ) (flags : List Bool) where
   unfolding summed uncountedIn sumOf openBy
   seen-all e k s z =
       let opens : (w : Segment → ℕ)
-      → total (map (λ g. w (segmentOf p v gone g)) (keep (λ g. getD flags g false && not (sealedIn p v gone g)) (below (p .Z)))) ≡ total
+      → total (map (λ g. w (segmentOf p v gone (seg g))) (keep (λ g. getD flags g false && not (sealedIn p v gone (seg g))) (below (p .Z)))) ≡ total
       (map w (unsealed (segments p v gone))) =
       λ w. sym (ap (λ (l : List Segment). total (map w l)) (unsealed-list p v gone flags k)
-      ∙ ap total (map-map w (segmentOf p v gone) (keep (λ g. getD flags g false && not (sealedIn p v gone g)) (below (p .Z))))) in
+      ∙ ap total (map-map w (λ g. segmentOf p v gone (seg g)) (keep (λ g. getD flags g false && not (sealedIn p v gone (seg g))) (below (p .Z))))) in
       record {
         zone-is = z;
         loose-is = λ _. s .loose-is
-            ∙ ap (λ (l : List ℕ). total (map (λ g. length (uncounted p gone (segmentOf p v gone g))) l)) (keep-below-same (λ g. getD flags g false) (remainsHere p v gone) (p .Z) (k .1))
+            ∙ ap (λ (l : List ℕ). total (map (λ g. length (uncounted p gone (segmentOf p v gone (seg g)))) l))
+            (keep-below-same (λ g. getD flags g false) (λ g. remainsHere p v gone (seg g)) (p .Z) (k .1))
             ∙ sym (ap (λ (l : List Segment). total (map (λ (g : Segment). length (uncounted p gone g)) l)) (segments-keep p v gone)
-            ∙ ap total (map-map (λ (g : Segment). length (uncounted p gone g)) (segmentOf p v gone) (keep (remainsHere p v gone) (below (p .Z)))));
+            ∙ ap total (map-map (λ (g : Segment). length (uncounted p gone g)) (λ g. segmentOf p v gone (seg g)) (keep (λ g. remainsHere p v gone (seg g)) (below (p .Z)))));
         counted-is = λ _. s .counted-is ∙ opens (λ (g : Segment). length (counted p gone g));
         top-is = λ _. s .top-is ∙ opens (topOf p gone);
         part-is = λ _. s .part-is ∙ opens (λ (g : Segment). length (uncounted p gone g));
@@ -279,37 +290,37 @@ added-open b e t q = ap (λ (x : Bool). added x e t) q
 -- ---- one segment
 
 module _ (p : Params) (v : View) (gone : ℕ) (flags : List Bool) (n : ℕ) (e : Exam) (s : ExamSays p v gone flags n e) where
-  pub seen-added : (b : Bool) (t : Tally) → Surveyed p gone (segmentOf p v gone n) t → t .bad ≡ false → getD flags n false ≡ true → b ≡ sealedIn p v gone n
+  pub seen-added : (b : Bool) (t : Tally) → Surveyed p gone (segmentOf p v gone (seg n)) t → t .bad ≡ false → getD flags n false ≡ true → b ≡ sealedIn p v gone (seg n)
       → ExamSays p v gone flags (n + 1) (added b e t)
   unfolding added
   seen-added true t u good h q = seen-full p v gone flags n e s t u good h (sym q)
   seen-added false t u good h q = seen-open p v gone flags n e s t u good h (sym q)
 
 -- faulty, of a segment that remains: in front, or by its records
-pub faulty-kept : (p : Params) (v : View) (gone g : ℕ) → remainsHere p v gone g ≡ true
+pub faulty-kept : (p : Params) (v : View) (gone : ℕ) (g : Seg) → remainsHere p v gone g ≡ true
     → faulty p v gone g ≡ (frontFault p gone (segments p v gone) (segmentOf p v gone g) || (stripeFault p gone (segmentOf p v gone g) || addressFault p gone (segmentOf p v gone g)))
 unfolding faulty
 faulty-kept p v gone g e = ap (λ (b : Bool). b && segmentFault p gone (segments p v gone) (segmentOf p v gone g)) e ∙ fault-order p gone (segments p v gone) (segmentOf p v gone g)
 
-pub faulty-gone : (p : Params) (v : View) (gone g : ℕ) → remainsHere p v gone g ≡ false → faulty p v gone g ≡ false
+pub faulty-gone : (p : Params) (v : View) (gone : ℕ) (g : Seg) → remainsHere p v gone g ≡ false → faulty p v gone g ≡ false
 unfolding faulty
 faulty-gone p v gone g e = ap (λ (b : Bool). b && segmentFault p gone (segments p v gone) (segmentOf p v gone g)) e
 
 -- ---- the loop's two ways on
 
-module _ (p : Params) (v : View) (gone : ℕ) (flags : List Bool) (n : ℕ) (r : Exam) (bad : faulty p v gone n ≡ true → r .zone ≡ n)
-    (good : faulty p v gone n ≡ false → ExamSays p v gone flags (n + 1) r) where
-  pub stops : r .zone < p .Z → (faulty p v gone n ≡ true) × (r .zone ≡ n)
-  stops h = go (test (faulty p v gone n))
+module _ (p : Params) (v : View) (gone : ℕ) (flags : List Bool) (n : ℕ) (r : Exam) (bad : faulty p v gone (seg n) ≡ true → r .zone ≡ n)
+    (good : faulty p v gone (seg n) ≡ false → ExamSays p v gone flags (n + 1) r) where
+  pub stops : r .zone < p .Z → (faulty p v gone (seg n) ≡ true) × (r .zone ≡ n)
+  stops h = go (test (faulty p v gone (seg n)))
     where
-      go : Test (faulty p v gone n) → (faulty p v gone n ≡ true) × (r .zone ≡ n)
+      go : Test (faulty p v gone (seg n)) → (faulty p v gone (seg n) ≡ true) × (r .zone ≡ n)
       go (yes! e) = (e, bad e)
       go (no! e) = absurd (let z : r .zone ≡ p .Z = good e .zone-is in let q : ⊥ = omega (arith, z, h) in q)
 
-  pub goes : n < p .Z → p .Z ≤ r .zone → (faulty p v gone n ≡ false) × ExamSays p v gone flags (n + 1) r
-  goes k h = go (test (faulty p v gone n))
+  pub goes : n < p .Z → p .Z ≤ r .zone → (faulty p v gone (seg n) ≡ false) × ExamSays p v gone flags (n + 1) r
+  goes k h = go (test (faulty p v gone (seg n)))
     where
-      go : Test (faulty p v gone n) → (faulty p v gone n ≡ false) × ExamSays p v gone flags (n + 1) r
+      go : Test (faulty p v gone (seg n)) → (faulty p v gone (seg n) ≡ false) × ExamSays p v gone flags (n + 1) r
       go (yes! e) = absurd (let z : r .zone ≡ n = bad e in let q : ⊥ = omega (arith, z, h, k) in q)
       go (no! e) = (e, good e)
 

@@ -19,12 +19,12 @@ use Rattle.spec.specs.declared.Answer.the-variants.{BadZone}
 use Rattle.spec.specs.Bytes.{part}
 use Rattle.spec.specs.Calls.{Check, firstRefusal}
 use Rattle.spec.specs.Calls.Check.{zones}
-use Rattle.spec.specs.Drives.{View}
+use Rattle.spec.specs.Drives.{View, zoneOn, seg}
 use Rattle.spec.specs.Faults.{headerFault, serialFault, stripeFault, addressFault, footerFault, clashes, segmentFault, segmentFaults}
 use Rattle.spec.specs.Lists.Opt.{some}
 use Rattle.spec.specs.Lists.{below, any, consIf, keep, isNil, total, sameList}
 use Rattle.spec.specs.Restart.{isWhole, isRagged, uncountedIn, rewrites}
-use Rattle.spec.specs.Segments.{Segment, segments, counts, counted, uncounted, unsealed}
+use Rattle.spec.specs.Segments.{lowDrive, Segment, segments, counts, counted, uncounted, unsealed}
 use Rattle.recover_check.specs.declared.Exam.{Exam}
 use Rattle.recover_check.specs.Faults.{summed, Examined, raggedBy, faulty, faults-list}
 
@@ -32,17 +32,17 @@ use Rattle.recover_check.specs.Faults.{summed, Examined, raggedBy, fault
 
 -- 01, Refusals, 9: zone Z says that no segment has a fault
 pub no-faults : (p : Params) (v : View) (gone : ℕ) (e : Exam) → Examined p gone (segments p v gone) e → e .zone ≡ p .Z → segmentFaults p gone (segments p v gone) ≡ []
-no-faults p v gone e x z = low-none (faulty p v gone) (p .Z) (segmentFaults p gone (segments p v gone)) (faults-list p v gone) (sym (x .zone-is) ∙ z)
+no-faults p v gone e x z = low-none (λ n. faulty p v gone (seg n)) (p .Z) (segmentFaults p gone (segments p v gone)) (faults-list p v gone) (sym (x .zone-is) ∙ z)
 
 -- and a lower one that it is the zone that 9 names
 pub names-zone : (p : Params) (v : View) (gone : ℕ) (e : Exam) (cs : List Check) → Examined p gone (segments p v gone) e → e .zone < p .Z
     → firstRefusal (zones (segmentFaults p gone (segments p v gone)) ∷ cs) ≡ some (BadZone (e .zone))
 names-zone p v gone e cs x h =
-    low-named (faulty p v gone) (p .Z) (segmentFaults p gone (segments p v gone)) (faults-list p v gone) cs (subst (λ (n : ℕ). n < p .Z) (x .zone-is) h)
+    low-named (λ n. faulty p v gone (seg n)) (p .Z) (segmentFaults p gone (segments p v gone)) (faults-list p v gone) cs (subst (λ (n : ℕ). n < p .Z) (x .zone-is) h)
     ∙ ap (λ (n : ℕ). some (BadZone n)) (sym (x .zone-is))
 
 pub zone-le : (p : Params) (v : View) (gone : ℕ) (e : Exam) → Examined p gone (segments p v gone) e → e .zone ≤ p .Z
-zone-le p v gone e x = subst (λ (n : ℕ). n ≤ p .Z) (sym (x .zone-is)) (low-le (faulty p v gone) (p .Z) (segmentFaults p gone (segments p v gone)) (faults-list p v gone))
+zone-le p v gone e x = subst (λ (n : ℕ). n ≤ p .Z) (sym (x .zone-is)) (low-le (λ n. faulty p v gone (seg n)) (p .Z) (segmentFaults p gone (segments p v gone)) (faults-list p v gone))
 
 -- ---- two unsealed segments clash
 
@@ -83,7 +83,7 @@ unsealed-at-most-one p gone gs e = go (decLe 2 (length (unsealed gs)))
     go : Dec (2 ≤ length (unsealed gs)) → length (unsealed gs) ≤ 1
     go (no h) = omega arith
     go (yes h) =
-        let f : any (segmentFault p gone gs) gs ≡ false = none-pass (segmentFault p gone gs) gs (map-nil (λ (g : Segment). g .seg) (keep (segmentFault p gone gs) gs) e) in
+        let f : any (segmentFault p gone gs) gs ≡ false = none-pass (segmentFault p gone gs) gs (map-nil (λ (g : Segment). zoneOn (g .seg) (lowDrive p gone)) (keep (segmentFault p gone gs) gs) e) in
         let n : any (λ (g : Segment). not (g .full)) gs ≡ false = none-less (λ (g : Segment). not (g .full)) (segmentFault p gone gs) gs
         (unsealed-clash p gone gs (le-leb 2 (length (unsealed gs)) h)) f in
         let z : _≡_ {A = ℕ} (length (unsealed gs)) 0 = ap length (pass-none (λ (g : Segment). not (g .full)) gs n) in

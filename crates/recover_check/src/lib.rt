@@ -1,10 +1,10 @@
 // Refusal 9 of restart and rebuild, and what is counted on the way (01, Refusals; Restart, 4).
 ghost use mathlib.Core.Path.{_≡_};
 ghost use mathlib.Core.Bool.{true, false};
-ghost use Prim.Native.Nat.{_+_, _≤_, _<_};
+ghost use Prim.Native.Nat.{_+_, _<_};
 ghost use lib.Dec.{leb};
-ghost use lib.ListN.{length, getD};
-ghost use Rattle.spec.specs.Drives.{viewOf, mkDisk, sealedIn};
+ghost use lib.ListN.{length};
+ghost use Rattle.spec.specs.Drives.{viewOf, mkDisk, sealedIn, seg};
 ghost use Rattle.spec.specs.Params.{inRange};
 ghost use Rattle.spec.specs.Segments.{segmentOf, segments, unsealed};
 ghost use Rattle.recover_segments.specs.Remains.{Keeps, Serials};
@@ -39,8 +39,11 @@ fn segment_fault(
     requires { ⌜ Whole p (mkDisk (now image) (now pointers)) ⌝ }
     requires { ⌜ Keeps p (viewOf p (now image) (now pointers)) gone (now kept) ⌝ }
     requires { ⌜ Serials p (viewOf p (now image) (now pointers)) gone (now serials) ⌝ }
-    requires { ⌜ (g < p .Z) × (full ≡ sealedIn p (viewOf p (now image) (now pointers)) gone g) × (many ≡ leb 2 (length (unsealed (segments p (viewOf p (now image) (now pointers)) gone)))) ⌝ }
-    ensures { λ r. ⌜ r ≡ frontFault p gone (segments p (viewOf p (now (image .entry)) (now (pointers .entry))) gone) (segmentOf p (viewOf p (now (image .entry)) (now (pointers .entry))) gone g) ⌝ }
+    requires { ⌜ (g < p .Z) × (full ≡ sealedIn p (viewOf p (now image) (now pointers)) gone (seg g)) × (many ≡ leb 2 (length (unsealed (segments p (viewOf p (now image) (now pointers)) gone)))) ⌝ }
+    ensures { λ r. ⌜
+        r
+        ≡ frontFault p gone (segments p (viewOf p (now (image .entry)) (now (pointers .entry))) gone)
+        (segmentOf p (viewOf p (now (image .entry)) (now (pointers .entry))) gone (seg g)) ⌝ }
 {
     if recover_headers::front_fault(p, image, gone, kept, serials, g) {
         return true;
@@ -114,9 +117,9 @@ fn exam_segment(
         × (many ≡ leb 2 (length (unsealed (segments p (viewOf p (now image) (now pointers)) gone))))
         × ExamSays p (viewOf p (now image) (now pointers)) gone (now kept) g e
         × (length (now at) ≡ 2048) ⌝ }
-    ensures { λ r. ⌜ (faulty p (viewOf p (now (image .entry)) (now (pointers .entry))) gone g ≡ true → r .zone ≡ g) ⌝ }
+    ensures { λ r. ⌜ (faulty p (viewOf p (now (image .entry)) (now (pointers .entry))) gone (seg g) ≡ true → r .zone ≡ g) ⌝ }
     ensures { λ r. ⌜
-        (faulty p (viewOf p (now (image .entry)) (now (pointers .entry))) gone g ≡ false
+        (faulty p (viewOf p (now (image .entry)) (now (pointers .entry))) gone (seg g) ≡ false
         → ExamSays p (viewOf p (now (image .entry)) (now (pointers .entry))) gone (now (kept .entry)) (g + 1) r) ⌝ }
 {
     if !kept[g] {

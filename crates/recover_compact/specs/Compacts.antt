@@ -7,11 +7,11 @@ use Prim.Native.Nat.{ℕ, _+_, _-_, _*_, _/_, _%_, _≤_, _<_}
 use native.Mathlib.Nat.{add-zero, sub-zero, div-add-mod', zero-mod, mod-eq-of-lt, mul-add-mod-self-right}
 use native.Mathlib.Decide.{decLt, ℕ-discrete}
 use native.Mathlib.Omega.{arith}
-use lib.Arith.{digits-mod}
+use lib.Arith.{digits-div, digits-mod}
 use lib.ListN.{length, getD, set, replicate, length-replicate, length-map}
 use Rattle.spec.specs.declared.Params.{Params}
 use Rattle.spec.specs.Bytes.{splice}
-use Rattle.spec.specs.Drives.{Zone, View, zoneAt, sealedIn, dataStored, recordIn}
+use Rattle.spec.specs.Drives.{Zone, View, zoneAt, sealedIn, dataStored, recordIn, Seg, zoneOn}
 use Rattle.spec.specs.Layout.{compactEntry, Rec}
 use Rattle.spec.specs.Lists.{below, padTo, isIn}
 use Rattle.spec.specs.Memory.{compactAt}
@@ -20,6 +20,7 @@ use Rattle.spec.specs.Segments.{recordsIn, segmentOf, recsOn, compactRow}
 use Rattle.law_basic.specs.Geometry.{item-fits, row-fits}
 use Rattle.law_basic.specs.Ranges.{below-none, length-below, map-below-snoc, map-map}
 use Rattle.law_basic.specs.Splice.{splice-nil, wrote-one, splice-next, getD-splice-below, getD-splice-in, getD-splice-past}
+use Rattle.law_basic.specs.Segs.{Named, zone-on-lt, segOn, seg-on-zone}
 use Rattle.law_drives.specs.Segs.{recs-here, recs-gone}
 use Rattle.law_drives.specs.Tables.{remains, rowAt, compact-row-long}
 use Rattle.law_drives.specs.Tests.{cond-true, cond-false}
@@ -30,15 +31,15 @@ entrySaid p w q o = compactEntry p (recordIn p w q o .stripe)
 
 -- 01, What a zone holds: the row of a zone; w: its segment remains
 unfoldable pub rowBytes : Params → View → ℕ → Bool → ℕ → ℕ → List ℕ
-rowBytes p v gone w d z = compactRow p (cond w (recsOn (segmentOf p v gone z) d) [])
+rowBytes p v gone w d z = compactRow p (cond w (recsOn (segmentOf p v gone (segOn d z)) d) [])
 
 -- the row of a zone as the drives say it
 unfoldable pub rowSaid : Params → View → ℕ → ℕ → ℕ → List ℕ
 rowSaid p v gone d z = compactRow p (rowAt p v gone d z)
 
-pub row-said : (p : Params) (v : View) (gone d z : ℕ) (w : Bool) → w ≡ remains p v gone z → rowBytes p v gone w d z ≡ rowSaid p v gone d z
+pub row-said : (p : Params) (v : View) (gone d z : ℕ) (w : Bool) → w ≡ remains p v gone (segOn d z) → rowBytes p v gone w d z ≡ rowSaid p v gone d z
 unfolding rowBytes rowSaid rowAt
-row-said p v gone d z w e = ap (λ (b : Bool). compactRow p (cond b (recsOn (segmentOf p v gone z) d) [])) e
+row-said p v gone d z w e = ap (λ (b : Bool). compactRow p (cond b (recsOn (segmentOf p v gone (segOn d z)) d) [])) e
 
 -- ---- a row
 
@@ -48,23 +49,26 @@ no-row p rs e = ap (compactRow p) e ∙ ap (λ (n : ℕ). replicate n 0) (sub-ze
 
 pub row-dropped : (p : Params) (v : View) (gone d z : ℕ) (w : Bool) → w ≡ false → rowBytes p v gone w d z ≡ replicate (p .S) 0
 unfolding rowBytes
-row-dropped p v gone d z w e = no-row p (cond w (recsOn (segmentOf p v gone z) d) []) (cond-false w (recsOn (segmentOf p v gone z) d) [] e)
+row-dropped p v gone d z w e = no-row p (cond w (recsOn (segmentOf p v gone (segOn d z)) d) []) (cond-false w (recsOn (segmentOf p v gone (segOn d z)) d) [] e)
 
 pub row-missing : (p : Params) (v : View) (gone d z : ℕ) (w : Bool) → d < p .N → w ≡ true → isIn gone d ≡ true → rowBytes p v gone w d z ≡ replicate (p .S) 0
 unfolding rowBytes
-row-missing p v gone d z w h e i = no-row p (cond w (recsOn (segmentOf p v gone z) d) []) (cond-true w (recsOn (segmentOf p v gone z) d) [] e ∙ recs-gone p v gone z d h i)
+row-missing p v gone d z w h e i =
+    no-row p (cond w (recsOn (segmentOf p v gone (segOn d z)) d) []) (cond-true w (recsOn (segmentOf p v gone (segOn d z)) d) [] e ∙ recs-gone p v gone (segOn d z) d h i)
 
 pub row-stored : (p : Params) (v : View) (gone d z : ℕ) (w : Bool) → d < p .N → w ≡ true → isIn gone d ≡ false
     → rowBytes p v gone w d z
-    ≡ map (entrySaid p (sealedIn p v gone z) (zoneAt v d z)) (below (dataStored p (zoneAt v d z))) ++ replicate (p .S - dataStored p (zoneAt v d z)) 0
+    ≡ map (entrySaid p (sealedIn p v gone (segOn d z)) (zoneAt v d z)) (below (dataStored p (zoneAt v d z))) ++ replicate (p .S - dataStored p (zoneAt v d z)) 0
 unfolding rowBytes compactRow padTo entrySaid recordsIn
 row-stored p v gone d z w h e i =
+    let g = segOn d z in
+    let k = sealedIn p v gone g in
     let q = zoneAt v d z in
     let f : Rec → ℕ = λ (r : Rec). compactEntry p (r .stripe) in
-    let l : length (map f (map (recordIn p (sealedIn p v gone z) q) (below (dataStored p q)))) ≡ dataStored p q =
-    length-map (map (recordIn p (sealedIn p v gone z) q) (below (dataStored p q))) f ∙ length-map (below (dataStored p q)) (recordIn p (sealedIn p v gone z) q) ∙ length-below (dataStored p q) in
-    ap (compactRow p) (cond-true w (recsOn (segmentOf p v gone z) d) [] e ∙ recs-here p v gone z d h i)
-    ∙ ap₂ (λ (x : List ℕ) (n : ℕ). x ++ replicate (p .S - n) 0) (map-map f (recordIn p (sealedIn p v gone z) q) (below (dataStored p q))) l
+    let l : length (map f (map (recordIn p k q) (below (dataStored p q)))) ≡ dataStored p q =
+    length-map (map (recordIn p k q) (below (dataStored p q))) f ∙ length-map (below (dataStored p q)) (recordIn p k q) ∙ length-below (dataStored p q) in
+    ap (compactRow p) (cond-true w (recsOn (segmentOf p v gone g) d) [] e ∙ recs-here p v gone g d h i ∙ ap (λ (y : ℕ). recordsIn p k (zoneAt v d y)) (seg-on-zone d z))
+    ∙ ap₂ (λ (x : List ℕ) (n : ℕ). x ++ replicate (p .S - n) 0) (map-map f (recordIn p k q) (below (dataStored p q))) l
 
 pub length-row : (p : Params) (v : View) (gone d z : ℕ) → d < p .N → z < p .Z → length (rowSaid p v gone d z) ≡ p .S
 unfolding rowSaid
@@ -73,27 +77,27 @@ length-row p v gone d z hd hz = compact-row-long p v gone d z hd hz
 -- ---- the rows of a segment
 
 -- they are as the drives say them
-abbrev pub SegmentShown : Params → View → ℕ → ℕ → List ℕ → Type 0
-SegmentShown p v gone g l = (d o : ℕ) → d < p .N → o < p .S → getD l (compactAt p d g o) 0 ≡ getD (compactRow p (rowAt p v gone d g)) o 0
+abbrev pub SegmentShown : Params → View → ℕ → Seg → List ℕ → Type 0
+SegmentShown p v gone g l = (d o : ℕ) → d < p .N → o < p .S → getD l (compactAt p d (zoneOn g d) o) 0 ≡ getD (compactRow p (rowAt p v gone d (zoneOn g d))) o 0
 
 -- nothing else changes
-abbrev pub Else : Params → ℕ → List ℕ → List ℕ → Type 0
-Else p g l l′ = (d z o : ℕ) → d < p .N → z < p .Z → o < p .S → (z ≡ g → ⊥) → getD l′ (compactAt p d z o) 0 ≡ getD l (compactAt p d z o) 0
+abbrev pub Else : Params → Seg → List ℕ → List ℕ → Type 0
+Else p g l l′ = (d z o : ℕ) → d < p .N → z < p .Z → o < p .S → (z ≡ zoneOn g d → ⊥) → getD l′ (compactAt p d z o) 0 ≡ getD l (compactAt p d z o) 0
 
 -- those of the drives below n are said, and nothing else changes
-pub record RowsSaid (p : Params) (v : View) (gone g n : ℕ) (l l′ : List ℕ) : Type 0 where
+pub record RowsSaid (p : Params) (v : View) (gone : ℕ) (g : Seg) (n : ℕ) (l l′ : List ℕ) : Type 0 where
   pub same-long : length l′ ≡ length l
-  pub said : (d o : ℕ) → d < n → d < p .N → o < p .S → getD l′ (compactAt p d g o) 0 ≡ getD (compactRow p (rowAt p v gone d g)) o 0
+  pub said : (d o : ℕ) → d < n → d < p .N → o < p .S → getD l′ (compactAt p d (zoneOn g d) o) 0 ≡ getD (compactRow p (rowAt p v gone d (zoneOn g d))) o 0
   pub others : Else p g l l′
 
-pub rows-start : (p : Params) (v : View) (gone g : ℕ) (l : List ℕ) → RowsSaid p v gone g 0 l l
+pub rows-start : (p : Params) (v : View) (gone : ℕ) (g : Seg) (l : List ℕ) → RowsSaid p v gone g 0 l l
 rows-start p v gone g l = record {
   same-long = refl;
   said = λ d o h. absurd (let bad : ⊥ = omega arith in bad);
   others = λ d z o hd hz ho n. refl;
 }
 
-pub rows-shown : (p : Params) (v : View) (gone g n : ℕ) (l l′ : List ℕ) → p .N ≤ n → RowsSaid p v gone g n l l′ → SegmentShown p v gone g l′ × Else p g l l′
+pub rows-shown : (p : Params) (v : View) (gone : ℕ) (g : Seg) (n : ℕ) (l l′ : List ℕ) → p .N ≤ n → RowsSaid p v gone g n l l′ → SegmentShown p v gone g l′ × Else p g l l′
 rows-shown p v gone g n l l′ h r = ((λ d o hd ho. r .said d o (omega arith) hd ho), r .others)
 
 -- a place in another row lies below or behind a row
@@ -131,28 +135,32 @@ module _ (p : Params) (l l′ : List ℕ) (d z : ℕ) (t : List ℕ) (hd : d < p
       go (inr a) = getD-splice-past l (compactAt p d z 0) t fits (compactAt p x y o) a
 
 -- one drive more
-pub rows-turn : (p : Params) (v : View) (gone g d : ℕ) (l l′ l″ : List ℕ) → d < p .N → g < p .Z → length l ≡ compactLen p → RowsSaid p v gone g d l l′
-    → l″ ≡ splice l′ (compactAt p d g 0) (rowSaid p v gone d g) → length l″ ≡ length l′ → RowsSaid p v gone g (d + 1) l l″
+pub rows-turn : (p : Params) (v : View) (gone : ℕ) (g : Seg) (d : ℕ) (l l′ l″ : List ℕ) → d < p .N → Named p g → length l ≡ compactLen p → RowsSaid p v gone g d l l′
+    → l″ ≡ splice l′ (compactAt p d (zoneOn g d) 0) (rowSaid p v gone d (zoneOn g d)) → length l″ ≡ length l′ → RowsSaid p v gone g (d + 1) l l″
 rows-turn p v gone g d l l′ l″ hd hg long r e n = record {
   same-long = n ∙ r .same-long;
   said = λ x o h hx ho. at x o h hx ho (ℕ-discrete x d);
-  others = λ x z o hx hz ho q. apart x z o ho (λ w. q (sym (digits-mod x hz) ∙ ap (λ (i : ℕ). i % p .Z) w ∙ digits-mod d hg)) ∙ r .others x z o hx hz ho q;
+  others = λ x z o hx hz ho q. apart x z o hz ho (λ a b. q (b ∙ ap (zoneOn g) (sym a))) ∙ r .others x z o hx hz ho q;
 }
   where
-    lt : length (rowSaid p v gone d g) ≡ p .S
-    lt = length-row p v gone d g hd hg
+    here : zoneOn g d < p .Z
+    here = zone-on-lt p g d hg
 
-    apart : (x z o : ℕ) → o < p .S → (x * p .Z + z ≡ d * p .Z + g → ⊥) → getD l″ (compactAt p x z o) 0 ≡ getD l′ (compactAt p x z o) 0
-    apart x z o ho q = row-else p l′ l″ d g (rowSaid p v gone d g) hd hg (r .same-long ∙ long) lt e x z o ho q
+    lt : length (rowSaid p v gone d (zoneOn g d)) ≡ p .S
+    lt = length-row p v gone d (zoneOn g d) hd here
 
-    named : (o : ℕ) → getD (rowSaid p v gone d g) o 0 ≡ getD (compactRow p (rowAt p v gone d g)) o 0
+    apart : (x z o : ℕ) → z < p .Z → o < p .S → (x ≡ d → z ≡ zoneOn g d → ⊥) → getD l″ (compactAt p x z o) 0 ≡ getD l′ (compactAt p x z o) 0
+    apart x z o hz ho q = row-else p l′ l″ d (zoneOn g d) (rowSaid p v gone d (zoneOn g d)) hd here (r .same-long ∙ long) lt e x z o ho
+        (λ w. q (sym (digits-div x hz) ∙ ap (λ (i : ℕ). i / p .Z) w ∙ digits-div d here) (sym (digits-mod x hz) ∙ ap (λ (i : ℕ). i % p .Z) w ∙ digits-mod d here))
+
+    named : (o : ℕ) → getD (rowSaid p v gone d (zoneOn g d)) o 0 ≡ getD (compactRow p (rowAt p v gone d (zoneOn g d))) o 0
     named o = unfold rowSaid in refl
 
-    at : (x o : ℕ) → x < d + 1 → x < p .N → o < p .S → Dec (x ≡ d) → getD l″ (compactAt p x g o) 0 ≡ getD (compactRow p (rowAt p v gone x g)) o 0
+    at : (x o : ℕ) → x < d + 1 → x < p .N → o < p .S → Dec (x ≡ d) → getD l″ (compactAt p x (zoneOn g x) o) 0 ≡ getD (compactRow p (rowAt p v gone x (zoneOn g x))) o 0
     at x o h hx ho (yes q) =
-        ap (λ (i : ℕ). getD l″ (compactAt p i g o) 0) q ∙ row-here p l′ l″ d g (rowSaid p v gone d g) hd hg (r .same-long ∙ long) lt e o ho
-        ∙ named o ∙ ap (λ (i : ℕ). getD (compactRow p (rowAt p v gone i g)) o 0) (sym q)
-    at x o h hx ho (no q) = apart x g o ho (λ w. let a = item-fits x d (p .Z) (omega arith) in let bad : ⊥ = omega arith in bad) ∙ r .said x o (omega arith) hx ho
+        ap (λ (i : ℕ). getD l″ (compactAt p i (zoneOn g i) o) 0) q ∙ row-here p l′ l″ d (zoneOn g d) (rowSaid p v gone d (zoneOn g d)) hd here (r .same-long ∙ long) lt e o ho
+        ∙ named o ∙ ap (λ (i : ℕ). getD (compactRow p (rowAt p v gone i (zoneOn g i))) o 0) (sym q)
+    at x o h hx ho (no q) = apart x (zoneOn g x) o (zone-on-lt p g x hg) ho (λ a b. q a) ∙ r .said x o (omega arith) hx ho
 
 -- ---- the entries of a row
 

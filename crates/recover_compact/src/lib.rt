@@ -1,11 +1,11 @@
 // The rows of a segment in the compact table, as the drives say them (01, What a zone holds; Restart, 3).
 ghost use mathlib.Core.Path.{_≡_};
-ghost use mathlib.Core.Bool.{Bool, true};
+ghost use mathlib.Core.Bool.{true};
 ghost use mathlib.Core.List.{List, map};
 ghost use Prim.Native.Nat.{ℕ, _+_, _%_, _≤_, _<_};
 ghost use lib.ListN.{length};
 ghost use Rattle.spec.specs.Bytes.{splice};
-ghost use Rattle.spec.specs.Drives.{viewOf, mkDisk, zoneAt, recordIn};
+ghost use Rattle.spec.specs.Drives.{seg as segNo, viewOf, mkDisk, zoneAt};
 ghost use Rattle.spec.specs.Layout.{compactEntry};
 ghost use Rattle.spec.specs.Lists.{below};
 ghost use Rattle.spec.specs.Memory.{compactAt};
@@ -117,8 +117,8 @@ pub fn rows(
     requires { ⌜ Whole p (mkDisk (now image) (now pointers)) ⌝ }
     requires { ⌜ (length (now compact) ≡ compactLen p) × (seg < p .Z) ⌝ }
     ensures { λ _. ⌜
-        (kept ≡ remains p (viewOf p (now (image .entry)) (now (pointers .entry))) gone seg
-        → SegmentShown p (viewOf p (now (image .entry)) (now (pointers .entry))) gone seg (now (compact .exit)) × Else p seg (now (compact .entry)) (now (compact .exit))) ⌝ }
+        (kept ≡ remains p (viewOf p (now (image .entry)) (now (pointers .entry))) gone (segNo seg)
+        → SegmentShown p (viewOf p (now (image .entry)) (now (pointers .entry))) gone (segNo seg) (now (compact .exit)) × Else p (segNo seg) (now (compact .entry)) (now (compact .exit))) ⌝ }
 {
     let mut d = 0;
     while d < p.N {

@@ -7,15 +7,16 @@ use native.Mathlib.Nat.{zero-mod, add-mod-right}
 use native.Mathlib.Omega.{arith}
 use lib.ListN.{length}
 use Rattle.spec.specs.declared.Params.{Params}
-use Rattle.spec.specs.Drives.{View, pointerAt, viewOf, Store, Disk, pointerOf, zoneOn, sealedIn}
+use Rattle.spec.specs.Drives.{View, pointerAt, viewOf, Store, Disk, pointerOf, zoneOn, sealedIn, Seg, seg}
 use Rattle.spec.specs.Drives.Store.{put}
 use Rattle.spec.specs.Layout.{Rec, recordBytes}
 use Rattle.spec.specs.Lists.{upFrom, below, isIn}
 use Rattle.spec.specs.Params.{capacity, pointersLen, present}
 use Rattle.spec.specs.Parity.{Piece, decodeBlock, decodeRec}
 use Rattle.spec.specs.Segments.{lowDrive, Segment, segmentOf, recsOn, counts, storedPiece, pieceOf, putPiece, storedRec}
-use Rattle.law_basic.specs.Geometry.{Ranged, zone-on-lt}
+use Rattle.law_basic.specs.Geometry.{Ranged}
 use Rattle.law_basic.specs.Ranges.{upFrom-end, below-start, any-same}
+use Rattle.law_basic.specs.Segs.{Named, seg-named, zone-on-lt}
 use Rattle.law_code.specs.Chunks.{chunk-decoded, rec-lost}
 use Rattle.law_code.specs.Code.{decode-apart}
 use Rattle.law_views.specs.Views.{Whole, pointer-view, AllFit, seen}
@@ -36,36 +37,36 @@ pub lost-on : (p : Params) (gone d : ℕ) (g : Segment) (ss : List ℕ) → OnDr
 lost-on p gone d g ss e y q = lost-apart p gone d g ss e y (drive-apart d e (zoneOn (g .seg) d) y q)
 
 -- the store of a decoded chunk
-pub lost-store-is : (p : Params) (v : View) (gone seg d s : ℕ) (b : List ℕ) (q : Rec) → isIn gone d ≡ true
-    → b ≡ decodeBlock p gone s d (λ e. storedPiece (segmentOf p v gone seg) s e .block)
-    → q ≡ decodeRec p gone s d (storedRec (segmentOf p v gone seg) s)
-    → put d (zoneOn seg d) b (recordBytes q) ≡ lostStore p gone d (segmentOf p v gone seg) s
+pub lost-store-is : (p : Params) (v : View) (gone : ℕ) (sgm : Seg) (d s : ℕ) (b : List ℕ) (q : Rec) → isIn gone d ≡ true
+    → b ≡ decodeBlock p gone s d (λ e. storedPiece (segmentOf p v gone sgm) s e .block)
+    → q ≡ decodeRec p gone s d (storedRec (segmentOf p v gone sgm) s)
+    → put d (zoneOn sgm d) b (recordBytes q) ≡ lostStore p gone d (segmentOf p v gone sgm) s
 unfolding lostStore putPiece
-lost-store-is p v gone seg d s b q lost eb eq =
-    let sg = segmentOf p v gone seg in
+lost-store-is p v gone sgm d s b q lost eb eq =
+    let sg = segmentOf p v gone sgm in
     let f : b ≡ pieceOf p gone sg s d .block = eb ∙ sym (ap (λ (x : Piece). x .block) (chunk-decoded p gone sg s d lost ∙ decode-apart p gone s d (storedPiece sg s))) in
     let h : q ≡ pieceOf p gone sg s d .rec = eq ∙ sym (piece-rec p gone sg s d ∙ rec-lost p gone sg s d lost) in
-    λ j. put d (zoneOn (sym (seg-is p v gone seg) j) d) (f j) (recordBytes (h j))
+    λ j. put d (zoneOn (sym (seg-is p v gone sgm) j) d) (f j) (recordBytes (h j))
 
 -- room for one
-pub lost-room : (p : Params) (gone d : ℕ) (k : Disk) (seg s : ℕ) → Whole p k → d < p .N → seg < p .Z → counts p gone (segmentOf p (seen p k) gone seg) s ≡ true
-    → AllFit p (seen p k) (lostStores p gone d (segmentOf p (seen p k) gone seg) (s ∷ [])) → pointerOf p (k .pointers) d (zoneOn seg d) < capacity p
-lost-room p gone d k seg s w hd hz c f =
+pub lost-room : (p : Params) (gone d : ℕ) (k : Disk) (sgm : Seg) (s : ℕ) → Whole p k → d < p .N → Named p sgm → counts p gone (segmentOf p (seen p k) gone sgm) s ≡ true
+    → AllFit p (seen p k) (lostStores p gone d (segmentOf p (seen p k) gone sgm) (s ∷ [])) → pointerOf p (k .pointers) d (zoneOn sgm d) < capacity p
+lost-room p gone d k sgm s w hd hz c f =
     let v = seen p k in
-    let sg = segmentOf p v gone seg in
+    let sg = segmentOf p v gone sgm in
     let a : AllFit p v (put d (zoneOn (sg .seg) d) (pieceOf p gone sg s d .block) (recordBytes (pieceOf p gone sg s d .rec)) ∷ []) =
     subst (λ (l : List Store). AllFit p v l) (lost-hit p gone d sg s c ∙ ap (λ (x : Store). x ∷ []) as!) f in
-    subst (λ (x : ℕ). x < capacity p) (pointer-view p k d (zoneOn seg d) hd (zone-on-lt p seg d hz) w)
-    (subst (λ (x : ℕ). pointerAt v d (zoneOn x d) < capacity p) (seg-is p v gone seg) (a .0 .2))
+    subst (λ (x : ℕ). x < capacity p) (pointer-view p k d (zoneOn sgm d) hd (zone-on-lt p sgm d hz) w)
+    (subst (λ (x : Seg). pointerAt v d (zoneOn x d) < capacity p) (seg-is p v gone sgm) (a .0 .2))
   where
-    as! : lostStore p gone d (segmentOf p (seen p k) gone seg) s
-        ≡ put d (zoneOn (segmentOf p (seen p k) gone seg .seg) d) (pieceOf p gone (segmentOf p (seen p k) gone seg) s d .block)
-        (recordBytes (pieceOf p gone (segmentOf p (seen p k) gone seg) s d .rec))
+    as! : lostStore p gone d (segmentOf p (seen p k) gone sgm) s
+        ≡ put d (zoneOn (segmentOf p (seen p k) gone sgm .seg) d) (pieceOf p gone (segmentOf p (seen p k) gone sgm) s d .block)
+        (recordBytes (pieceOf p gone (segmentOf p (seen p k) gone sgm) s d .rec))
     as! = unfold lostStore putPiece in refl
 
 -- ---- what was read of a group stays while the present drives stay
 
-module _ (p : Params) (gone : ℕ) (v u : View) (low : In (lowDrive p gone) (present p gone)) (ag : Agree p gone v u) (g : ℕ) (hg : g < p .Z) where
+module _ (p : Params) (gone : ℕ) (v u : View) (low : In (lowDrive p gone) (present p gone)) (ag : Agree p gone v u) (g : Seg) (hg : Named p g) where
   pub same-recs-fault : recsFault p gone (segmentOf p v gone g) ≡ recsFault p gone (segmentOf p u gone g)
   unfolding recsFault
   same-recs-fault = any-same (λ d. recsBad p d 0 (recsOn (segmentOf p v gone g) d)) (λ d. recsBad p d 0 (recsOn (segmentOf p u gone g) d)) (present p gone)
@@ -78,7 +79,7 @@ module _ (p : Params) (gone : ℕ) (v u : View) (low : In (lowDrive p gone) (pre
         subst (λ (x : ℕ). (base ≤ x) × (x < base + groupLen p base)) (same-offset p gone v u low ag g hg d (base + k)) (i .within d k hd hk (same-has p gone v u low ag g hg (base + k) d ∙ t));
   }
 
-  pub group-reads-same : (im ps im′ ps′ : List ℕ) (w : Group) (at : List ℕ) → v ≡ viewOf p im ps → u ≡ viewOf p im′ ps′ → w .gone ≡ gone → w .seg ≡ g → length ps′ ≡ pointersLen p
+  pub group-reads-same : (im ps im′ ps′ : List ℕ) (w : Group) (at : List ℕ) → v ≡ viewOf p im ps → u ≡ viewOf p im′ ps′ → w .gone ≡ gone → seg (w .seg) ≡ g → length ps′ ≡ pointersLen p
       → GroupReads p im ps w at → GroupReads p im′ ps′ w at
   group-reads-same im ps im′ ps′ w at ev eu ew es l r = record {
     long = l;
@@ -131,7 +132,7 @@ module _ (p : Params) (r : Ranged p) (w : Group) (d n : ℕ) (k₀ : Disk) (la :
       (lost-step p (w .gone) d (groupFound p w d n k₀) (w .base) k len h) (s .moving)
 
   lost-stripe-same : lostStores p (w .gone) d now! ((w .base + k) ∷ []) ≡ lostStores p (w .gone) d (groupFound p w d n k₀) ((w .base + k) ∷ [])
-  lost-stripe-same = sym (same-lost p (w .gone) (seen p k₀) (seen p x) (la .low) (s .moving .agree) (w .seg) hz d (la .lost) ((w .base + k) ∷ []))
+  lost-stripe-same = sym (same-lost p (w .gone) (seen p k₀) (seen p x) (la .low) (s .moving .agree) (seg (w .seg)) (seg-named p (w .seg) hz) d (la .lost) ((w .base + k) ∷ []))
 
   pub stripes-fit : AllFit p (seen p x) (lostStores p (w .gone) d now! ((w .base + k) ∷ []))
   stripes-fit =
@@ -139,7 +140,9 @@ module _ (p : Params) (r : Ranged p) (w : Group) (d n : ℕ) (k₀ : Disk) (la :
       (lostStores p (w .gone) d (groupFound p w d n k₀) (upFrom (w .base + (k + 1)) (len - (k + 1)))) left x (stripe-step .going))
 
   pub stripes-read : (at : List ℕ) → GroupReads p (k₀ .image) (k₀ .pointers) w at → GroupReads p (x .image) (x .pointers) w at
-  stripes-read at rd = group-reads-same p (w .gone) (seen p k₀) (seen p x) (la .low) (s .moving .agree) (w .seg) hz (k₀ .image) (k₀ .pointers) (x .image) (x .pointers) w at refl refl refl refl
+  stripes-read at rd =
+      group-reads-same p (w .gone) (seen p k₀) (seen p x) (la .low) (s .moving .agree) (seg (w .seg)) (seg-named p (w .seg) hz) (k₀ .image) (k₀ .pointers) (x .image)
+      (x .pointers) w at refl refl refl refl
       (s .moving .going .whole .pointers-long) rd
 
   module _ (m : Made) (x′ : Disk) (t : Storing p left (lostStores p (w .gone) d now! ((w .base + k) ∷ [])) x m x′) where
@@ -160,9 +163,9 @@ module _ (p : Params) (r : Ranged p) (w : Group) (d n : ℕ) (k₀ : Disk) (la :
 
 -- ---- the loop over the groups
 
-module _ (p : Params) (gone seg d n : ℕ) (k₀ : Disk) where
+module _ (p : Params) (gone : ℕ) (sgm : Seg) (d n : ℕ) (k₀ : Disk) where
   abbrev pub segNow : Disk → Segment
-  segNow x = segmentOf p (seen p x) gone seg
+  segNow x = segmentOf p (seen p x) gone sgm
 
   -- the stores of the segment's chunks
   abbrev pub allStores : List Store
@@ -185,13 +188,13 @@ module _ (p : Params) (gone seg d n : ℕ) (k₀ : Disk) where
       (moving-as p gone n allStores k₀ (lostStores p gone d (segNow k₀) (upFrom base (p .S - base))) [] left x
       (ap (lostStores p gone d (segNow k₀)) (upFrom-end base (p .S) h) ∙ lost-none p gone d (segNow k₀)) (s .moving))
 
-module _ (p : Params) (r : Ranged p) (gone seg d n : ℕ) (k₀ : Disk) (la : Lacks p gone d) (hz : seg < p .Z) (base left : ℕ) (x : Disk)
-    (s : Groups p gone seg d n k₀ base left x) (h : base < p .S) where
+module _ (p : Params) (r : Ranged p) (gone : ℕ) (sgm : Seg) (d n : ℕ) (k₀ : Disk) (la : Lacks p gone d) (hz : Named p sgm) (base left : ℕ) (x : Disk)
+    (s : Groups p gone sgm d n k₀ base left x) (h : base < p .S) where
   abbrev ours : Segment
-  ours = segNow p gone seg d n k₀ k₀
+  ours = segNow p gone sgm d n k₀ k₀
 
   abbrev theirs : Segment
-  theirs = segNow p gone seg d n k₀ x
+  theirs = segNow p gone sgm d n k₀ x
 
   abbrev part! : Segment → List Store
   part! sg = lostStores p gone d sg (upFrom base (groupLen p base))
@@ -199,31 +202,31 @@ module _ (p : Params) (r : Ranged p) (gone seg d n : ℕ) (k₀ : Disk) (la : La
   abbrev rest! : List Store
   rest! = lostStores p gone d ours (upFrom (base + p .G) (p .S - (base + p .G)))
 
-  step! : Moving p gone n (allStores p gone seg d n k₀) k₀ (part! ours ++ rest!) left x
-  step! = moving-as p gone n (allStores p gone seg d n k₀) k₀ (lostStores p gone d ours (upFrom base (p .S - base))) (part! ours ++ rest!) left x
+  step! : Moving p gone n (allStores p gone sgm d n k₀) k₀ (part! ours ++ rest!) left x
+  step! = moving-as p gone n (allStores p gone sgm d n k₀) k₀ (lostStores p gone d ours (upFrom base (p .S - base))) (part! ours ++ rest!) left x
       (ap (lostStores p gone d ours) (stripes-step p base h) ∙ lost-append p gone d ours (upFrom base (groupLen p base)) (upFrom (base + p .G) (p .S - (base + p .G)))) (s .moving)
 
   same! : part! theirs ≡ part! ours
-  same! = sym (same-lost p gone (seen p k₀) (seen p x) (la .low) (s .moving .agree) seg hz d (la .lost) (upFrom base (groupLen p base)))
+  same! = sym (same-lost p gone (seen p k₀) (seen p x) (la .low) (s .moving .agree) sgm hz d (la .lost) (upFrom base (groupLen p base)))
 
   pub groups-fit : AllFit p (seen p x) (part! theirs)
-  groups-fit = subst (λ (l : List Store). AllFit p (seen p x) l) (sym same!) (going-first p n (allStores p gone seg d n k₀) k₀ (part! ours) rest! left x (step! .going))
+  groups-fit = subst (λ (l : List Store). AllFit p (seen p x) l) (sym same!) (going-first p n (allStores p gone sgm d n k₀) k₀ (part! ours) rest! left x (step! .going))
 
-  pub groups-full : (f : Bool) → f ≡ sealedIn p (seen p k₀) gone seg → f ≡ sealedIn p (seen p x) gone seg
-  groups-full f e = e ∙ same-sealed p gone (seen p k₀) (seen p x) (la .low) (s .moving .agree) seg hz
+  pub groups-full : (f : Bool) → f ≡ sealedIn p (seen p k₀) gone sgm → f ≡ sealedIn p (seen p x) gone sgm
+  groups-full f e = e ∙ same-sealed p gone (seen p k₀) (seen p x) (la .low) (s .moving .agree) sgm hz
 
   pub groups-sound : recsFault p gone ours ≡ false → recsFault p gone theirs ≡ false
-  groups-sound e = sym (same-recs-fault p gone (seen p k₀) (seen p x) (la .low) (s .moving .agree) seg hz) ∙ e
+  groups-sound e = sym (same-recs-fault p gone (seen p k₀) (seen p x) (la .low) (s .moving .agree) sgm hz) ∙ e
 
   module _ (m : Made) (x′ : Disk) (t : Storing p left (part! theirs) x m x′) where
     this! : Storing p left (part! ours) x m x′
     this! = subst (λ (l : List Store). Storing p left l x m x′) same! t
 
-    pub groups-cut : m .cut ≡ true → Storing p n (allStores p gone seg d n k₀) k₀ m x′
-    groups-cut c = moving-cut p gone n (allStores p gone seg d n k₀) k₀ (part! ours) rest! left x m x′ step! this! c
+    pub groups-cut : m .cut ≡ true → Storing p n (allStores p gone sgm d n k₀) k₀ m x′
+    groups-cut c = moving-cut p gone n (allStores p gone sgm d n k₀) k₀ (part! ours) rest! left x m x′ step! this! c
 
-    pub groups-turn : m .cut ≡ false → Groups p gone seg d n k₀ (base + p .G) (m .left) x′
+    pub groups-turn : m .cut ≡ false → Groups p gone sgm d n k₀ (base + p .G) (m .left) x′
     groups-turn c = record {
       first = add-mod-right base (p .G) ∙ s .first;
-      moving = moving-turn p gone n (allStores p gone seg d n k₀) k₀ (part! ours) rest! left x m x′ step! this! r d (la .lost) (lost-on p gone d ours (upFrom base (groupLen p base))) c;
+      moving = moving-turn p gone n (allStores p gone sgm d n k₀) k₀ (part! ours) rest! left x m x′ step! this! r d (la .lost) (lost-on p gone d ours (upFrom base (groupLen p base))) c;
     }

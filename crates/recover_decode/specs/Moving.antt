@@ -17,7 +17,7 @@ use Rattle.law_drives.specs.Masks.{named-in, low-present}
 use Rattle.law_drives.specs.Members.{In}
 use Rattle.law_drives.specs.Tests.{clash, and-false-left}
 use Rattle.law_drives.specs.Zones.{hits}
-use Rattle.recover_drop.specs.Going.{owes-cut, owes-done, Going, going-start, going-turn, going-kept, going-first}
+use Rattle.recover_drop.specs.Going.{owes-cut, owes-done, Going, going-start, going-turn, going-kept}
 use Rattle.disk_zones.specs.declared.Made.{Made}
 use Rattle.disk_zones.specs.Made.{Storing}
 
@@ -59,9 +59,6 @@ module _ (p : Params) (gone n : ℕ) (ss : List Store) (k₀ : Disk) (ts us : Li
         g .agree e y he hy q
         ∙ sym (going-kept p r n ss k₀ ts us left k m k′ (g .going) s c e y he hy (on e y (ne-eqb d e (λ x. clash (subst (λ (z : ℕ). isIn gone z ≡ true) x lost) q))));
   }
-
-  pub moving-first : AllFit p (seen p k) ts
-  moving-first = going-first p n ss k₀ ts us left k (g .going)
 
 -- nothing is left
 pub moving-done : (p : Params) (gone n : ℕ) (ss : List Store) (k₀ : Disk) (left : ℕ) (k : Disk) → Moving p gone n ss k₀ [] left k

@@ -1,11 +1,11 @@
 // The lost chunks of a drive, decoded and stored (01, Rebuild).
 ghost use mathlib.Core.Path.{_≡_};
 ghost use mathlib.Core.Bool.{true, false};
-ghost use mathlib.Core.List.{List, [], _∷_};
-ghost use Prim.Native.Nat.{ℕ, _+_, _%_, _<_};
+ghost use mathlib.Core.List.{[], _∷_};
+ghost use Prim.Native.Nat.{_+_, _%_, _<_};
 ghost use lib.ListN.{length};
 ghost use Rattle.recover_decode.specs.Moving.{Lacks};
-ghost use Rattle.spec.specs.Drives.{viewOf, mkDisk, pointerOf, zoneOn, sealedIn};
+ghost use Rattle.spec.specs.Drives.{viewOf, mkDisk, pointerOf, zoneOn, sealedIn, seg as segNo};
 ghost use Rattle.spec.specs.Lists.{upFrom, below};
 ghost use Rattle.spec.specs.Params.{inRange, capacity};
 ghost use Rattle.spec.specs.Segments.{segmentOf, counts};
@@ -38,7 +38,7 @@ fn put_lost_with(
         × (w .seg < p .Z)
         × (w .base < p .S)
         × (k < groupLen p (w .base))
-        × (pointerOf p (now pointers) drive (zoneOn (w .seg) drive) < capacity p) ⌝ }
+        × (pointerOf p (now pointers) drive (zoneOn (segNo (w .seg)) drive) < capacity p) ⌝ }
     requires { ⌜ GroupReads p (now image) (now pointers) w (now at) ⌝ }
     requires { ⌜ counts p (w .gone) (segmentIn p (now image) (now pointers) w) (w .base + k) ≡ true ⌝ }
     ensures { λ r. ⌜
@@ -67,7 +67,7 @@ fn put_lost(
     requires { ⌜ inRange p ≡ true ⌝ }
     requires { ⌜ Whole p (mkDisk (now image) (now pointers)) ⌝ }
     requires { ⌜ Lacks p (w .gone) drive ⌝ }
-    requires { ⌜ (length (now at) ≡ 2048) × (w .seg < p .Z) × (w .base < p .S) × (k < groupLen p (w .base)) × (pointerOf p (now pointers) drive (zoneOn (w .seg) drive) < capacity p) ⌝ }
+    requires { ⌜ (length (now at) ≡ 2048) × (w .seg < p .Z) × (w .base < p .S) × (k < groupLen p (w .base)) × (pointerOf p (now pointers) drive (zoneOn (segNo (w .seg)) drive) < capacity p) ⌝ }
     requires { ⌜ GroupReads p (now image) (now pointers) w (now at) ⌝ }
     requires { ⌜ counts p (w .gone) (segmentIn p (now image) (now pointers) w) (w .base + k) ≡ true ⌝ }
     ensures { λ r. ⌜
@@ -123,7 +123,7 @@ fn put_group(
     requires { ⌜ Whole p (mkDisk (now image) (now pointers)) ⌝ }
     requires { ⌜ Lacks p (w .gone) drive ⌝ }
     requires { ⌜ (length (now at) ≡ 2048) × (w .seg < p .Z) × (w .base < p .S) × (w .base % p .G ≡ 0) ⌝ }
-    requires { ⌜ w .full ≡ sealedIn p (viewOf p (now image) (now pointers)) (w .gone) (w .seg) ⌝ }
+    requires { ⌜ w .full ≡ sealedIn p (viewOf p (now image) (now pointers)) (w .gone) (segNo (w .seg)) ⌝ }
     requires { ⌜ recsFault p (w .gone) (segmentIn p (now image) (now pointers) w) ≡ false ⌝ }
     requires { ⌜ AllFit p (viewOf p (now image) (now pointers)) (lostStores p (w .gone) drive (segmentIn p (now image) (now pointers) w) (upFrom (w .base) (groupLen p (w .base)))) ⌝ }
     ensures { λ r. ⌜
@@ -162,11 +162,11 @@ fn put_groups_with(
     requires { ⌜ Whole p (mkDisk (now image) (now pointers)) ⌝ }
     requires { ⌜ Lacks p gone drive ⌝ }
     requires { ⌜ (length (now at) ≡ 2048) × (seg < p .Z) ⌝ }
-    requires { ⌜ full ≡ sealedIn p (viewOf p (now image) (now pointers)) gone seg ⌝ }
-    requires { ⌜ recsFault p gone (segmentOf p (viewOf p (now image) (now pointers)) gone seg) ≡ false ⌝ }
-    requires { ⌜ AllFit p (viewOf p (now image) (now pointers)) (lostStores p gone drive (segmentOf p (viewOf p (now image) (now pointers)) gone seg) (below (p .S))) ⌝ }
+    requires { ⌜ full ≡ sealedIn p (viewOf p (now image) (now pointers)) gone (segNo seg) ⌝ }
+    requires { ⌜ recsFault p gone (segmentOf p (viewOf p (now image) (now pointers)) gone (segNo seg)) ≡ false ⌝ }
+    requires { ⌜ AllFit p (viewOf p (now image) (now pointers)) (lostStores p gone drive (segmentOf p (viewOf p (now image) (now pointers)) gone (segNo seg)) (below (p .S))) ⌝ }
     ensures { λ r. ⌜
-        Storing p count (lostStores p gone drive (segmentOf p (viewOf p (now (image .entry)) (now (pointers .entry))) gone seg) (below (p .S)))
+        Storing p count (lostStores p gone drive (segmentOf p (viewOf p (now (image .entry)) (now (pointers .entry))) gone (segNo seg)) (below (p .S)))
         (mkDisk (now (image .entry)) (now (pointers .entry))) r (mkDisk (now (image .exit)) (now (pointers .exit))) ⌝ }
 {
     let mut left = count;
@@ -203,11 +203,11 @@ pub fn put_groups(
     requires { ⌜ Whole p (mkDisk (now image) (now pointers)) ⌝ }
     requires { ⌜ Lacks p gone drive ⌝ }
     requires { ⌜ seg < p .Z ⌝ }
-    requires { ⌜ full ≡ sealedIn p (viewOf p (now image) (now pointers)) gone seg ⌝ }
-    requires { ⌜ recsFault p gone (segmentOf p (viewOf p (now image) (now pointers)) gone seg) ≡ false ⌝ }
-    requires { ⌜ AllFit p (viewOf p (now image) (now pointers)) (lostStores p gone drive (segmentOf p (viewOf p (now image) (now pointers)) gone seg) (below (p .S))) ⌝ }
+    requires { ⌜ full ≡ sealedIn p (viewOf p (now image) (now pointers)) gone (segNo seg) ⌝ }
+    requires { ⌜ recsFault p gone (segmentOf p (viewOf p (now image) (now pointers)) gone (segNo seg)) ≡ false ⌝ }
+    requires { ⌜ AllFit p (viewOf p (now image) (now pointers)) (lostStores p gone drive (segmentOf p (viewOf p (now image) (now pointers)) gone (segNo seg)) (below (p .S))) ⌝ }
     ensures { λ r. ⌜
-        Storing p count (lostStores p gone drive (segmentOf p (viewOf p (now (image .entry)) (now (pointers .entry))) gone seg) (below (p .S)))
+        Storing p count (lostStores p gone drive (segmentOf p (viewOf p (now (image .entry)) (now (pointers .entry))) gone (segNo seg)) (below (p .S)))
         (mkDisk (now (image .entry)) (now (pointers .entry))) r (mkDisk (now (image .exit)) (now (pointers .exit))) ⌝ }
 {
     let mut at = [0u16; 2048];

@@ -1,12 +1,13 @@
 -- The resets of the segments that do not remain, by flags (01, Restart, 4). Assumes nothing.
 use Prim.Native.Nat.{ℕ, _<_}
-use Rattle.spec.specs.Drives.{Store, segmentNumbers, resetStores}
+use Rattle.spec.specs.Drives.{Store, resetStores, seg, sameSeg}
 use Rattle.spec.specs.Lists.{below, any, consIf, keep, flat}
-use Rattle.spec.specs.Restart.{freeZones, dropStores}
+use Rattle.spec.specs.Restart.{freeSegs, dropStores}
 use Rattle.spec.specs.Segments.{Segment}
 use Rattle.spec.specs.declared.Params.{Params}
 use Rattle.law_basic.specs.Ranges.{keep-below-same}
-use lib.Dec.{eqb}
+use Rattle.law_basic.specs.Segs.{keep-segs}
+use Rattle.law_drives.specs.Members.{flat-map}
 use lib.ListN.{getD}
 use mathlib.Core.Bool.{Bool, true, false, cond, not}
 use mathlib.Core.List.{List, [], _∷_, _++_}
@@ -14,7 +15,7 @@ use mathlib.Core.Path.{_≡_, refl, sym, ap, _∙_}
 
 -- segment g, if it is not flagged
 unfoldable pub droppedOne : Params → List Bool → ℕ → List Store
-droppedOne p flags g = cond (getD flags g false) [] (resetStores p g)
+droppedOne p flags g = cond (getD flags g false) [] (resetStores p (seg g))
 
 -- 01, Restart, 4: dropped segments are reset; the flags say which remain
 unfoldable pub droppedBy : Params → List Bool → List Store
@@ -22,11 +23,11 @@ droppedBy p flags = flat (droppedOne p flags) (below (p .Z))
 
 pub one-kept : (p : Params) (flags : List Bool) (g : ℕ) → getD flags g false ≡ true → droppedOne p flags g ≡ []
 unfolding droppedOne
-one-kept p flags g e = ap (λ (b : Bool). cond b [] (resetStores p g)) e
+one-kept p flags g e = ap (λ (b : Bool). cond b [] (resetStores p (seg g))) e
 
-pub one-dropped : (p : Params) (flags : List Bool) (g : ℕ) → getD flags g false ≡ false → droppedOne p flags g ≡ resetStores p g
+pub one-dropped : (p : Params) (flags : List Bool) (g : ℕ) → getD flags g false ≡ false → droppedOne p flags g ≡ resetStores p (seg g)
 unfolding droppedOne
-one-dropped p flags g e = ap (λ (b : Bool). cond b [] (resetStores p g)) e
+one-dropped p flags g e = ap (λ (b : Bool). cond b [] (resetStores p (seg g))) e
 
 -- those that fail a test, one after the other
 flat-keep : {A : Type 0} (q : ℕ → Bool) (f : ℕ → List A) (l : List ℕ) → flat f (keep (λ z. not (q z)) l) ≡ flat (λ z. cond (q z) [] (f z)) l
@@ -39,8 +40,11 @@ flat-keep q f (z ∷ l) = go (q z) (flat-keep q f l)
     go false ih = ap (λ (x : List _). f z ++ x) ih
 
 -- flags that say which segments remain
-pub dropped-are : (p : Params) (gs : List Segment) (flags : List Bool) → ((g : ℕ) → g < p .Z → getD flags g false ≡ any (λ (x : Segment). eqb (x .seg) g) gs) → droppedBy p flags ≡ dropStores p gs
-unfolding droppedBy droppedOne dropStores freeZones segmentNumbers
+pub dropped-are : (p : Params) (gs : List Segment) (flags : List Bool) → ((g : ℕ) → g < p .Z → getD flags g false ≡ any (λ (x : Segment). sameSeg (x .seg) (seg g)) gs)
+    → droppedBy p flags ≡ dropStores p gs
+unfolding droppedBy droppedOne dropStores freeSegs
 dropped-are p gs flags h =
-    sym (flat-keep (λ g. getD flags g false) (resetStores p) (below (p .Z)))
-    ∙ ap (flat (resetStores p)) (keep-below-same (λ g. not (getD flags g false)) (λ z. not (any (λ (x : Segment). eqb (x .seg) z) gs)) (p .Z) (λ g hg. ap not (h g hg)))
+    let free : ℕ → Bool = λ z. not (any (λ (x : Segment). sameSeg (x .seg) (seg z)) gs) in
+    sym (flat-keep (λ g. getD flags g false) (λ g. resetStores p (seg g)) (below (p .Z)))
+    ∙ ap (flat (λ g. resetStores p (seg g))) (keep-below-same (λ g. not (getD flags g false)) free (p .Z) (λ g hg. ap not (h g hg)))
+    ∙ sym (ap (flat (resetStores p)) (keep-segs p (λ z. not (any (λ (x : Segment). sameSeg (x .seg) z) gs))) ∙ flat-map (resetStores p) seg (keep free (below (p .Z))))

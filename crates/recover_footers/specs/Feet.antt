@@ -1,6 +1,6 @@
 -- Missing footers, drive by drive (01, Restart, 4). Assumes nothing.
 use Prim.Native.Nat.{ℕ, _+_, _-_, _≤_, _<_}
-use Rattle.spec.specs.Drives.{Zone, noZone, View, zoneAt, pointerAt, Store, Disk, pointerOf, zoneOn, footerStores}
+use Rattle.spec.specs.Drives.{Zone, noZone, View, zoneAt, pointerAt, Store, Disk, pointerOf, zoneOn, footerStores, Seg}
 use Rattle.spec.specs.Faults.{footersStored}
 use Rattle.spec.specs.Lists.{upFrom, below, flat}
 use Rattle.spec.specs.Params.{footers, capacity, drivesOf}
@@ -9,6 +9,7 @@ use Rattle.spec.specs.Segments.{Segment, segmentOf}
 use Rattle.spec.specs.declared.Params.{Params}
 use Rattle.recover_drop.specs.Going.{owes-cut, owes-done, Going, going-start, going-as, going-turn, going-kept, flat-step, flat-end, flat-start}
 use Rattle.law_basic.specs.Geometry.{Ranged}
+use Rattle.law_basic.specs.Segs.{Named, zone-on-lt}
 use Rattle.law_drives.specs.Footers.{footerChunks, footer-puts}
 use Rattle.law_drives.specs.Puts.{putAt, hits-puts}
 use Rattle.law_drives.specs.Segs.{zone-by, seg-is}
@@ -34,11 +35,11 @@ unfolding missingFooters missingOn drivesOf
 missing-are p g = refl
 
 -- those of a segment as a view shows it
-pub missing-feet-on : (p : Params) (v : View) (gone g d : ℕ) (q : Zone) → d < p .N → q ≡ zoneAt v d g
-    → footerStores p d g q (footersStored p q) (footers p - footersStored p q) ≡ missingOn p (segmentOf p v gone g) d
-unfolding missingOn zoneOn
+pub missing-feet-on : (p : Params) (v : View) (gone : ℕ) (g : Seg) (d : ℕ) (q : Zone) → d < p .N → q ≡ zoneAt v d (zoneOn g d)
+    → footerStores p d (zoneOn g d) q (footersStored p q) (footers p - footersStored p q) ≡ missingOn p (segmentOf p v gone g) d
+unfolding missingOn
 missing-feet-on p v gone g d q hd e =
-    ap₂ (λ (z : ℕ) (x : Zone). footerStores p d z x (footersStored p x) (footers p - footersStored p x)) (sym (seg-is p v gone g)) (e ∙ sym (zone-by p v gone g d hd))
+    ap₂ (λ (z : Seg) (x : Zone). footerStores p d (zoneOn z d) x (footersStored p x) (footers p - footersStored p x)) (sym (seg-is p v gone g)) (e ∙ sym (zone-by p v gone g d hd))
 
 -- a zone whose data are all stored has room for the footers that it lacks
 pub lack-room : (p : Params) → Ranged p → (q : Zone) → 1 + p .S ≤ q .pointer → q .pointer ≤ capacity p → q .pointer + (footers p - footersStored p q) ≤ capacity p
@@ -73,66 +74,65 @@ lack-stores p n d z q f g k m k′ a b s =
 
 -- ---- drive by drive: those from drive d on are still to be done, and their zones are as they were
 
-abbrev pub footFound : Params → Disk → ℕ → Segment
-footFound p k seg = segmentOf p (seen p k) 0 seg
+abbrev pub footFound : Params → Disk → Seg → Segment
+footFound p k sg = segmentOf p (seen p k) 0 sg
 
-pub record FeetUpto (p : Params) (n seg : ℕ) (k₀ : Disk) (d left : ℕ) (k : Disk) : Type 0 where
+pub record FeetUpto (p : Params) (n : ℕ) (sg : Seg) (k₀ : Disk) (d left : ℕ) (k : Disk) : Type 0 where
   pub up-to : d ≤ p .N
-  pub same : (e : ℕ) → d ≤ e → e < p .N → zoneAt (seen p k) e seg ≡ zoneAt (seen p k₀) e seg
-  pub going : Going p n (missingFooters p (footFound p k₀ seg)) k₀ (flat (missingOn p (footFound p k₀ seg)) (upFrom d (p .N - d))) left k
+  pub same : (e : ℕ) → d ≤ e → e < p .N → zoneAt (seen p k) e (zoneOn sg e) ≡ zoneAt (seen p k₀) e (zoneOn sg e)
+  pub going : Going p n (missingFooters p (footFound p k₀ sg)) k₀ (flat (missingOn p (footFound p k₀ sg)) (upFrom d (p .N - d))) left k
 
-module _ (p : Params) (r : Ranged p) (n seg : ℕ) (hz : seg < p .Z) (k₀ : Disk) where
+module _ (p : Params) (r : Ranged p) (n : ℕ) (sg : Seg) (hz : Named p sg) (k₀ : Disk) where
   abbrev ss : List Store
-  ss = missingFooters p (footFound p k₀ seg)
+  ss = missingFooters p (footFound p k₀ sg)
 
   abbrev each : ℕ → List Store
-  each d = missingOn p (footFound p k₀ seg) d
+  each d = missingOn p (footFound p k₀ sg) d
 
-  pub feet-start : Whole p k₀ → AllFit p (seen p k₀) (missingFooters p (footFound p k₀ seg)) → FeetUpto p n seg k₀ 0 n k₀
+  pub feet-start : Whole p k₀ → AllFit p (seen p k₀) (missingFooters p (footFound p k₀ sg)) → FeetUpto p n sg k₀ 0 n k₀
   feet-start w f = record {
     up-to = omega arith;
     same = λ e h l. refl;
-    going = going-as p n ss k₀ ss (flat each (upFrom 0 (p .N - 0))) n k₀ (missing-are p (footFound p k₀ seg) ∙ flat-start each (p .N)) (going-start p n ss k₀ w f);
+    going = going-as p n ss k₀ ss (flat each (upFrom 0 (p .N - 0))) n k₀ (missing-are p (footFound p k₀ sg) ∙ flat-start each (p .N)) (going-start p n ss k₀ w f);
   }
 
-  module _ (d left : ℕ) (k : Disk) (g : FeetUpto p n seg k₀ d left k) where
+  module _ (d left : ℕ) (k : Disk) (g : FeetUpto p n sg k₀ d left k) where
     -- the pointers of the drives to come
-    pub feet-pointer : (e : ℕ) → d ≤ e → e < p .N → Whole p k₀ → pointerOf p (k .pointers) e seg ≡ pointerOf p (k₀ .pointers) e seg
-    feet-pointer e h l w = sym (pointer-view p k e seg l hz (g .going .whole)) ∙ as! ∙ pointer-view p k₀ e seg l hz w
+    pub feet-pointer : (e : ℕ) → d ≤ e → e < p .N → Whole p k₀ → pointerOf p (k .pointers) e (zoneOn sg e) ≡ pointerOf p (k₀ .pointers) e (zoneOn sg e)
+    feet-pointer e h l w = sym (pointer-view p k e (zoneOn sg e) l (zone-on-lt p sg e hz) (g .going .whole)) ∙ as! ∙ pointer-view p k₀ e (zoneOn sg e) l (zone-on-lt p sg e hz) w
       where
-        as! : pointerAt (seen p k) e seg ≡ pointerAt (seen p k₀) e seg
+        as! : pointerAt (seen p k) e (zoneOn sg e) ≡ pointerAt (seen p k₀) e (zoneOn sg e)
         as! = unfold pointerAt in ap (λ (q : Zone). q .pointer) (g .same e h l)
 
     pub feet-done : p .N ≤ d → Storing p n ss k₀ (record { left = left; cut = false }) k
     feet-done h = owes-done p n ss k₀ left k (going-as p n ss k₀ (flat each (upFrom d (p .N - d))) [] left k (flat-end each d (p .N) h) (g .going) .owes)
 
-    module _ (l : d < p .N) (z : ℕ) (ez : z ≡ zoneOn seg d) (m : Made) (k′ : Disk)
+    module _ (l : d < p .N) (z : ℕ) (ez : z ≡ zoneOn sg d) (m : Made) (k′ : Disk)
         (s : Storing p left (footerStores p d z (zoneAt (seen p k) d z) (footersStored p (zoneAt (seen p k) d z)) (footers p - footersStored p (zoneAt (seen p k) d z))) k m k′) where
       abbrev rest : List Store
       rest = flat each (upFrom (d + 1) (p .N - (d + 1)))
-
-      z-is : z ≡ seg
-      z-is = unfold zoneOn in ez
 
       drive-feet-step : Going p n ss k₀ (each d ++ rest) left k
       drive-feet-step = going-as p n ss k₀ (flat each (upFrom d (p .N - d))) (each d ++ rest) left k (flat-step each d (p .N) l) (g .going)
 
       this : Storing p left (each d) k m k′
       this = subst (λ (x : List Store). Storing p left x k m k′)
-          (ap (λ (y : ℕ). footerStores p d y (zoneAt (seen p k) d y) (footersStored p (zoneAt (seen p k) d y)) (footers p - footersStored p (zoneAt (seen p k) d y))) z-is
-          ∙ missing-feet-on p (seen p k₀) 0 seg d (zoneAt (seen p k) d seg) l (g .same d (omega arith) l)) s
+          (ap (λ (y : ℕ). footerStores p d y (zoneAt (seen p k) d y) (footersStored p (zoneAt (seen p k) d y)) (footers p - footersStored p (zoneAt (seen p k) d y))) ez
+          ∙ missing-feet-on p (seen p k₀) 0 sg d (zoneAt (seen p k) d (zoneOn sg d)) l (g .same d (omega arith) l)) s
 
       pub feet-cut : m .cut ≡ true → Storing p n ss k₀ m k′
       feet-cut c = owes-cut p n ss k₀ (each d) rest left k m k′ (drive-feet-step .owes) this c
 
-      pub feet-turn : m .cut ≡ false → FeetUpto p n seg k₀ (d + 1) (m .left) k′
+      pub feet-turn : m .cut ≡ false → FeetUpto p n sg k₀ (d + 1) (m .left) k′
       feet-turn c = record {
         up-to = omega arith;
-        same = λ e h j. going-kept p r n ss k₀ (each d) rest left k m k′ drive-feet-step this c e seg j hz (apart e (λ q. let bad : ⊥ = omega arith in bad)) ∙ g .same e (omega arith) j;
+        same =
+            λ e h j. going-kept p r n ss k₀ (each d) rest left k m k′ drive-feet-step this c e (zoneOn sg e) j (zone-on-lt p sg e hz) (apart e (λ q. let bad : ⊥ = omega arith in bad))
+            ∙ g .same e (omega arith) j;
         going = going-turn p r n ss k₀ (each d) rest left k m k′ drive-feet-step this c;
       }
         where
-          apart : (e : ℕ) → (d ≡ e → ⊥) → hits e seg (each d) ≡ []
+          apart : (e : ℕ) → (d ≡ e → ⊥) → hits e (zoneOn sg e) (each d) ≡ []
           apart e ne =
-              unfold missingOn in feet-apart p d (zoneOn (footFound p k₀ seg .seg) d) e seg (getD (footFound p k₀ seg .zonesBy) d noZone)
-              (footersStored p (getD (footFound p k₀ seg .zonesBy) d noZone)) (footers p - footersStored p (getD (footFound p k₀ seg .zonesBy) d noZone)) ne
+              unfold missingOn in feet-apart p d (zoneOn (footFound p k₀ sg .seg) d) e (zoneOn sg e) (getD (footFound p k₀ sg .zonesBy) d noZone)
+              (footersStored p (getD (footFound p k₀ sg .zonesBy) d noZone)) (footers p - footersStored p (getD (footFound p k₀ sg .zonesBy) d noZone)) ne

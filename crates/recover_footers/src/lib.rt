@@ -2,7 +2,7 @@
 ghost use mathlib.Core.Path.{_≡_};
 ghost use mathlib.Core.Bool.{true};
 ghost use Prim.Native.Nat.{ℕ, _+_, _-_, _≤_, _<_};
-ghost use Rattle.spec.specs.Drives.{viewOf, zoneAt, mkDisk, pointerOf, footerStores};
+ghost use Rattle.spec.specs.Drives.{viewOf, zoneAt, mkDisk, pointerOf, footerStores, seg, zoneOn};
 ghost use Rattle.spec.specs.Faults.{footersStored};
 ghost use Rattle.spec.specs.Params.{inRange, footers, capacity};
 ghost use Rattle.spec.specs.Restart.{missingFooters};
@@ -45,10 +45,10 @@ pub fn missing_footers(
 ) -> Made
     requires { ⌜ inRange p ≡ true ⌝ }
     requires { ⌜ Whole p (mkDisk (now image) (now pointers)) ⌝ }
-    requires { ⌜ (segment < p .Z) × ((d : ℕ) → d < p .N → (1 + p .S ≤ pointerOf p (now pointers) d segment) × (pointerOf p (now pointers) d segment ≤ capacity p)) ⌝ }
-    requires { ⌜ AllFit p (viewOf p (now image) (now pointers)) (missingFooters p (segmentOf p (viewOf p (now image) (now pointers)) 0 segment)) ⌝ }
+    requires { ⌜ (segment < p .Z) × ((d : ℕ) → d < p .N → (1 + p .S ≤ pointerOf p (now pointers) d (zoneOn (seg segment) d)) × (pointerOf p (now pointers) d (zoneOn (seg segment) d) ≤ capacity p)) ⌝ }
+    requires { ⌜ AllFit p (viewOf p (now image) (now pointers)) (missingFooters p (segmentOf p (viewOf p (now image) (now pointers)) 0 (seg segment))) ⌝ }
     ensures { λ r. ⌜
-        Storing p count (missingFooters p (segmentOf p (viewOf p (now (image .entry)) (now (pointers .entry))) 0 segment))
+        Storing p count (missingFooters p (segmentOf p (viewOf p (now (image .entry)) (now (pointers .entry))) 0 (seg segment)))
         (mkDisk (now (image .entry)) (now (pointers .entry))) r (mkDisk (now (image .exit)) (now (pointers .exit))) ⌝ }
 {
     let mut left = count;

@@ -24,10 +24,6 @@ pub group-len-fits : (p : Params) (base : ℕ) → base ≤ p .S → base + grou
 unfolding groupLen
 group-len-fits p base h = omega arith
 
-pub group-len-some : (p : Params) (base : ℕ) → 0 < p .G → base < p .S → 0 < groupLen p base
-unfolding groupLen
-group-len-some p base g h = omega arith
-
 -- a group is whole, or it is the last
 pub group-len-whole : (p : Params) (base : ℕ) → base + p .G ≤ p .S → groupLen p base ≡ p .G
 unfolding groupLen

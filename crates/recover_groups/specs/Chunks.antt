@@ -12,7 +12,7 @@ use lib.Dec.{leb, ltb, eqb}
 use lib.ListN.{List·getD-eq-default, length-map, length, getD, take, drop, drop-of-length-le}
 use lib.Seq.{getD-take, getD-drop}
 use Rattle.spec.specs.declared.Params.{Params}
-use Rattle.spec.specs.Drives.{Zone, noZone, View, zoneAt, pointerAt, zoneOn, sealedIn, dataStored, recordIn}
+use Rattle.spec.specs.Drives.{Zone, noZone, View, zoneAt, pointerAt, zoneOn, sealedIn, dataStored, recordIn, Seg}
 use Rattle.spec.specs.Faults.{outside, twice, stripeFault, storedBad}
 use Rattle.spec.specs.Layout.{inGroupOf, Rec, mkRec}
 use Rattle.spec.specs.Lists.{below, all, any, consIf, keep, sucUnless, indexOf, isIn}
@@ -57,16 +57,16 @@ data-most : (p : Params) (q : Zone) → dataStored p q ≤ p .S
 unfolding dataStored
 data-most p q = omega arith
 
-module _ (p : Params) (v : View) (gone seg : ℕ) where
+module _ (p : Params) (v : View) (gone : ℕ) (sgm : Seg) where
   abbrev sg : Segment
-  sg = segmentOf p v gone seg
+  sg = segmentOf p v gone sgm
 
   recs-out : (d : ℕ) → p .N ≤ d → recsOn sg d ≡ []
   unfolding recsOn segmentOf drivesOf
   recs-out d k =
-      List·getD-eq-default (map (λ d. cond (isIn gone d) [] (recordsIn p (sealedIn p v gone seg) (getD (map (λ d. zoneAt v d (zoneOn seg d)) (below (p .N))) d noZone))) (below (p .N))) [] {n = d}
+      List·getD-eq-default (map (λ d. cond (isIn gone d) [] (recordsIn p (sealedIn p v gone sgm) (getD (map (λ d. zoneAt v d (zoneOn sgm d)) (below (p .N))) d noZone))) (below (p .N))) [] {n = d}
       (let e = length-map (below (p .N))
-      (λ d. cond (isIn gone d) [] (recordsIn p (sealedIn p v gone seg) (getD (map (λ d. zoneAt v d (zoneOn seg d)) (below (p .N))) d noZone)))
+      (λ d. cond (isIn gone d) [] (recordsIn p (sealedIn p v gone sgm) (getD (map (λ d. zoneAt v d (zoneOn sgm d)) (below (p .N))) d noZone)))
       ∙ length-below (p .N) in omega (arith, e, k))
 
   -- 01, Restart, 3: at most S records of a zone are read
@@ -74,36 +74,35 @@ module _ (p : Params) (v : View) (gone seg : ℕ) where
   recs-short d = go (decLt d (p .N)) (test (isIn gone d))
     where
       go : Dec (d < p .N) → Test (isIn gone d) → length (recsOn sg d) ≤ p .S
-      go (yes h) (yes! q) = let e : length (recsOn sg d) ≡ 0 = ap length (recs-gone p v gone seg d h q) in omega (arith, e)
+      go (yes h) (yes! q) = let e : length (recsOn sg d) ≡ 0 = ap length (recs-gone p v gone sgm d h q) in omega (arith, e)
       go (yes h) (no! q) =
-          let e : length (recsOn sg d) ≡ dataStored p (zoneAt v d seg) = ap length (recs-here p v gone seg d h q) ∙ length-records p (sealedIn p v gone seg) (zoneAt v d seg) in
-          let m : dataStored p (zoneAt v d seg) ≤ p .S = data-most p (zoneAt v d seg) in
+          let e : length (recsOn sg d) ≡ dataStored p (zoneAt v d (zoneOn sgm d)) = ap length (recs-here p v gone sgm d h q) ∙ length-records p (sealedIn p v gone sgm) (zoneAt v d (zoneOn sgm d)) in
+          let m : dataStored p (zoneAt v d (zoneOn sgm d)) ≤ p .S = data-most p (zoneAt v d (zoneOn sgm d)) in
           omega (arith, e, m)
       go (no h) t = let e : length (recsOn sg d) ≡ 0 = ap length (recs-out d (omega arith)) in omega (arith, e)
 
   -- how many records of the group a present drive has, and each of them
   pub group-stored-is : (base d : ℕ) → d < p .N → isIn gone d ≡ false
-      → length (groupRecs p base (recsOn sg d)) ≡ min (groupLen p base) (dataStored p (zoneAt v d (zoneOn seg d)) - base)
-  unfolding zoneOn
+      → length (groupRecs p base (recsOn sg d)) ≡ min (groupLen p base) (dataStored p (zoneAt v d (zoneOn sgm d)) - base)
   group-stored-is base d h q =
       length-group p base (recsOn sg d)
-      ∙ ap (λ (n : ℕ). min (groupLen p base) (n - base)) (ap length (recs-here p v gone seg d h q) ∙ length-records p (sealedIn p v gone seg) (zoneAt v d seg))
+      ∙ ap (λ (n : ℕ). min (groupLen p base) (n - base)) (ap length (recs-here p v gone sgm d h q) ∙ length-records p (sealedIn p v gone sgm) (zoneAt v d (zoneOn sgm d)))
 
   pub group-record : (base d i : ℕ) → d < p .N → isIn gone d ≡ false → i < length (groupRecs p base (recsOn sg d))
-      → recordIn p (sealedIn p v gone seg) (zoneAt v d (zoneOn seg d)) (base + i) ≡ getD (groupRecs p base (recsOn sg d)) i (mkRec 0 0 0)
-  unfolding zoneOn groupRecs
+      → recordIn p (sealedIn p v gone sgm) (zoneAt v d (zoneOn sgm d)) (base + i) ≡ getD (groupRecs p base (recsOn sg d)) i (mkRec 0 0 0)
+  unfolding groupRecs
   group-record base d i h q l =
       let n = group-stored-is base d h q in
-      let w = sealedIn p v gone seg in
+      let w = sealedIn p v gone sgm in
       sym (getD-take (groupLen p base) (drop base (recsOn sg d)) i (mkRec 0 0 0) (omega (arith, n, l)) ∙ getD-drop base (recsOn sg d) i (mkRec 0 0 0)
-      ∙ ap (λ (rs : List Rec). getD rs (base + i) (mkRec 0 0 0)) (recs-here p v gone seg d h q)
-      ∙ record-at p w (zoneAt v d seg) (base + i) (mkRec 0 0 0) (omega (arith, n, l)))
+      ∙ ap (λ (rs : List Rec). getD rs (base + i) (mkRec 0 0 0)) (recs-here p v gone sgm d h q)
+      ∙ record-at p w (zoneAt v d (zoneOn sgm d)) (base + i) (mkRec 0 0 0) (omega (arith, n, l)))
 
   -- a missing drive has no entries
   pub missing-entry : (base d s : ℕ) → d < p .N → isIn gone d ≡ true → entryOf (groupRecs p base (recsOn sg d)) s ≡ 0
   unfolding groupRecs entryOf any
   missing-entry base d s h q =
-      ap (λ (rs : List Rec). entryOf (take (groupLen p base) (drop base rs)) s) (recs-gone p v gone seg d h q)
+      ap (λ (rs : List Rec). entryOf (take (groupLen p base) (drop base rs)) s) (recs-gone p v gone sgm d h q)
       ∙ ap (λ (rs : List Rec). entryOf (take (groupLen p base) rs) s) (drop-of-length-le [] {i = base} (omega arith))
       ∙ ap (λ (rs : List Rec). entryOf rs s) (take-nil (groupLen p base))
     where
@@ -117,7 +116,7 @@ module _ (p : Params) (v : View) (gone seg : ℕ) where
   missing-none s d q = go (decLt d (p .N))
     where
       go : Dec (d < p .N) → any (λ (r : Rec). eqb (r .stripe) s) (recsOn sg d) ≡ false
-      go (yes h) = ap (any (λ (r : Rec). eqb (r .stripe) s)) (recs-gone p v gone seg d h q)
+      go (yes h) = ap (any (λ (r : Rec). eqb (r .stripe) s)) (recs-gone p v gone sgm d h q)
       go (no h) = ap (any (λ (r : Rec). eqb (r .stripe) s)) (recs-out d (omega arith))
 
   pub chunk-present : (s d : ℕ) → hasChunk sg s d ≡ true → isIn gone d ≡ false
@@ -143,16 +142,16 @@ module _ (p : Params) (v : View) (gone seg : ℕ) where
   chunks-some s = any-length (hasChunk sg s) (present p gone) ∙ ap (λ (l : List ℕ). not (eqb (length l) 0)) (sym (chunks-present s))
 
   -- S records, none twice: every stripe is there
-  full-chunk : inRange p ≡ true → sealedIn p v gone seg ≡ true → stripeFault p gone sg ≡ false → (s d : ℕ) → s < p .S → In d (present p gone) → hasChunk sg s d ≡ true
-  unfolding sealedIn stripeFault zoneOn hasChunk pointerAt
+  full-chunk : inRange p ≡ true → sealedIn p v gone sgm ≡ true → stripeFault p gone sg ≡ false → (s d : ℕ) → s < p .S → In d (present p gone) → hasChunk sg s d ≡ true
+  unfolding sealedIn stripeFault hasChunk pointerAt
   full-chunk r f h s d l m =
       let rs = recsOn sg d in
       let (hd, hp) = present-in p gone d m in
       let t = none-in (λ d. outside p 0 (recsOn sg d) || twice (recsOn sg d)) (present p gone) h d m in
       let o : outside p 0 rs ≡ false = or-first (outside p 0 rs) (twice rs) t in
       let w : twice rs ≡ false = or-right (outside p 0 rs) (twice rs) t in
-      let c : pointerAt v d seg ≡ capacity p = eqb-true (pointerAt v d seg) (capacity p) (all-in (λ d. eqb (pointerAt v d seg) (capacity p)) (present p gone) f d m) in
-      let n : length rs ≡ p .S = ap length (recs-here p v gone seg d hd hp) ∙ length-records p (sealedIn p v gone seg) (zoneAt v d seg) ∙ full-data p (zoneAt v d seg) c in
+      let c : pointerAt v d (zoneOn sgm d) ≡ capacity p = eqb-true (pointerAt v d (zoneOn sgm d)) (capacity p) (all-in (λ d. eqb (pointerAt v d (zoneOn sgm d)) (capacity p)) (present p gone) f d m) in
+      let n : length rs ≡ p .S = ap length (recs-here p v gone sgm d hd hp) ∙ length-records p (sealedIn p v gone sgm) (zoneAt v d (zoneOn sgm d)) ∙ full-data p (zoneAt v d (zoneOn sgm d)) c in
       not-false (any (λ (r : Rec). eqb (r .stripe) s) rs) (not-so (not (any (λ (r : Rec). eqb (r .stripe) s) rs)) (λ e.
       let z : any (λ (r : Rec). eqb (r .stripe) s) rs ≡ false = not-true (any (λ (r : Rec). eqb (r .stripe) s) rs) e in
       let few = different-few (p .S) (s ∷ map (λ (r : Rec). r .stripe) rs)
@@ -174,7 +173,7 @@ module _ (p : Params) (v : View) (gone seg : ℕ) where
           omega (arith, a, b)
 
   -- 01, Restart, 3: where all present zones are full and no stripe is wrong, every stripe counts
-  pub counted-full : inRange p ≡ true → sealedIn p v gone seg ≡ true → stripeFault p gone sg ≡ false → counted p gone sg ≡ below (p .S)
+  pub counted-full : inRange p ≡ true → sealedIn p v gone sgm ≡ true → stripeFault p gone sg ≡ false → counted p gone sg ≡ below (p .S)
   unfolding counted
   counted-full r f h =
       keep-all (counts p gone sg) (below (p .S)) (λ s m. (unfold counts in in-all (hasChunk sg s) (present p gone) (λ d n. full-chunk r f h s d (below-in (p .S) s m) n)))
@@ -302,33 +301,33 @@ module _ (p : Params) (q : ℕ) (rs : List Rec) (g : 0 < p .G) (b : q * p .G < p
           ap (λ (x : Bool). cond x (indexOf its mid + 1) 0) a ∙ sym (ap (λ (x : Bool). cond x (indexOf its rs - q * p .G + 1) 0) t)
 
 -- the rows of the drives are the group's index
-indexed-at : (p : Params) (v : View) (gone seg q : ℕ) (at : List ℕ) → 0 < p .G → q * p .G < p .S → recsFault p gone (segmentOf p v gone seg) ≡ false
-    → ((d : ℕ) → d < p .N → Row p (q * p .G) (groupRecs p (q * p .G) (recsOn (segmentOf p v gone seg) d)) d at) → Indexed p (segmentOf p v gone seg) (q * p .G) at
+indexed-at : (p : Params) (v : View) (gone : ℕ) (sgm : Seg) (q : ℕ) (at : List ℕ) → 0 < p .G → q * p .G < p .S → recsFault p gone (segmentOf p v gone sgm) ≡ false
+    → ((d : ℕ) → d < p .N → Row p (q * p .G) (groupRecs p (q * p .G) (recsOn (segmentOf p v gone sgm) d)) d at) → Indexed p (segmentOf p v gone sgm) (q * p .G) at
 unfolding hasChunk offsetOn
-indexed-at p v gone seg q at g b h rows = record {
-  entry = λ d k hd hk. rows d hd k hk ∙ chunk-entry p q (recsOn (segmentOf p v gone seg) d) g b (recs-short p v gone seg d) (good d hd) k hk;
-  within = λ d k hd hk t. chunk-within p q (recsOn (segmentOf p v gone seg) d) g b (recs-short p v gone seg d) (good d hd) k hk t;
+indexed-at p v gone sgm q at g b h rows = record {
+  entry = λ d k hd hk. rows d hd k hk ∙ chunk-entry p q (recsOn (segmentOf p v gone sgm) d) g b (recs-short p v gone sgm d) (good d hd) k hk;
+  within = λ d k hd hk t. chunk-within p q (recsOn (segmentOf p v gone sgm) d) g b (recs-short p v gone sgm d) (good d hd) k hk t;
 }
   where
     three : (a b c : Bool) → (a || b || c) ≡ false → a ≡ false
     three true b c h = absurd (not-both true refl h)
     three false b c h = refl
 
-    good : (d : ℕ) → d < p .N → outside p 0 (recsOn (segmentOf p v gone seg) d) ≡ false
+    good : (d : ℕ) → d < p .N → outside p 0 (recsOn (segmentOf p v gone sgm) d) ≡ false
     good d hd = go (test (isIn gone d))
       where
-        go : Test (isIn gone d) → outside p 0 (recsOn (segmentOf p v gone seg) d) ≡ false
-        go (yes! e) = unfold outside in ap (outside p 0) (recs-gone p v gone seg d hd e)
-        go (no! e) = three (outside p 0 (recsOn (segmentOf p v gone seg) d)) (twice (recsOn (segmentOf p v gone seg) d)) (any (storedBad p d) (recsOn (segmentOf p v gone seg) d))
-            (unfold recsFault recsBad in none-in (λ d. recsBad p d 0 (recsOn (segmentOf p v gone seg) d)) (present p gone) h d (in-present p gone d hd e))
+        go : Test (isIn gone d) → outside p 0 (recsOn (segmentOf p v gone sgm) d) ≡ false
+        go (yes! e) = unfold outside in ap (outside p 0) (recs-gone p v gone sgm d hd e)
+        go (no! e) = three (outside p 0 (recsOn (segmentOf p v gone sgm) d)) (twice (recsOn (segmentOf p v gone sgm) d)) (any (storedBad p d) (recsOn (segmentOf p v gone sgm) d))
+            (unfold recsFault recsBad in none-in (λ d. recsBad p d 0 (recsOn (segmentOf p v gone sgm) d)) (present p gone) h d (in-present p gone d hd e))
 
-pub indexed-of : (p : Params) (v : View) (gone seg base : ℕ) (at : List ℕ) → 0 < p .G → base < p .S → base % p .G ≡ 0 → recsFault p gone (segmentOf p v gone seg) ≡ false
-    → ((d : ℕ) → d < p .N → Row p base (groupRecs p base (recsOn (segmentOf p v gone seg) d)) d at) → Indexed p (segmentOf p v gone seg) base at
-indexed-of p v gone seg base at g b m h rows =
+pub indexed-of : (p : Params) (v : View) (gone : ℕ) (sgm : Seg) (base : ℕ) (at : List ℕ) → 0 < p .G → base < p .S → base % p .G ≡ 0 → recsFault p gone (segmentOf p v gone sgm) ≡ false
+    → ((d : ℕ) → d < p .N → Row p base (groupRecs p base (recsOn (segmentOf p v gone sgm) d)) d at) → Indexed p (segmentOf p v gone sgm) base at
+indexed-of p v gone sgm base at g b m h rows =
     let e = base-is p base m in
-    subst (λ (x : ℕ). Indexed p (segmentOf p v gone seg) x at) (sym e)
-    (indexed-at p v gone seg (base / p .G) at g (subst (λ (x : ℕ). x < p .S) e b) h
-    (λ d hd. subst (λ (x : ℕ). Row p x (groupRecs p x (recsOn (segmentOf p v gone seg) d)) d at) e (rows d hd)))
+    subst (λ (x : ℕ). Indexed p (segmentOf p v gone sgm) x at) (sym e)
+    (indexed-at p v gone sgm (base / p .G) at g (subst (λ (x : ℕ). x < p .S) e b) h
+    (λ d hd. subst (λ (x : ℕ). Row p x (groupRecs p x (recsOn (segmentOf p v gone sgm) d)) d at) e (rows d hd)))
 
 -- a stripe number of the group
 pub in-group-of : (p : Params) (base o s : ℕ) → 0 < p .G → base < p .S → base % p .G ≡ 0 → base ≤ o → o < base + groupLen p base

@@ -7,7 +7,7 @@ ghost use lib.Bits.{bitXor};
 ghost use lib.Dec.{eqb};
 ghost use lib.ListN.{length, getD, set};
 ghost use Rattle.spec.specs.Bytes.{part, xors};
-ghost use Rattle.spec.specs.Drives.{viewOf, mkDisk, sealedIn, zoneAt, recordIn};
+ghost use Rattle.spec.specs.Drives.{viewOf, mkDisk, sealedIn, zoneAt, recordIn, seg};
 ghost use Rattle.spec.specs.Faults.{badRec, storedBad};
 ghost use Rattle.spec.specs.declared.Params.{Params};
 ghost use Rattle.spec.specs.Lists.{keep, isIn};
@@ -155,7 +155,7 @@ fn index_drive(
     requires { ⌜ inRange p ≡ true ⌝ }
     requires { ⌜ Whole p (mkDisk (now image) (now pointers)) ⌝ }
     requires { ⌜ (length (now at) ≡ 2048) × (drive < p .N) × (w .seg < p .Z) × (w .base < p .S) × (w .base % p .G ≡ 0) × (isIn (w .gone) drive ≡ false) ⌝ }
-    requires { ⌜ w .full ≡ sealedIn p (viewOf p (now image) (now pointers)) (w .gone) (w .seg) ⌝ }
+    requires { ⌜ w .full ≡ sealedIn p (viewOf p (now image) (now pointers)) (w .gone) (seg (w .seg)) ⌝ }
     requires { ⌜ ((k : ℕ) → k < groupLen p (w .base) → getD (now at) (256 * drive + k) 0 ≡ 0) ⌝ }
     ensures { λ r. ⌜ r ≡ not (recsBad p drive (w .base) (groupRecs p (w .base) (recsOn (segmentIn p (now (image .entry)) (now (pointers .entry)) w) drive))) ⌝ }
     ensures { λ _. ⌜ SameBelow drive (now (at .entry)) (now (at .exit)) ⌝ }
@@ -190,7 +190,7 @@ fn index_any(
     requires { ⌜ inRange p ≡ true ⌝ }
     requires { ⌜ Whole p (mkDisk (now image) (now pointers)) ⌝ }
     requires { ⌜ (length (now at) ≡ 2048) × (drive < p .N) × (w .seg < p .Z) × (w .base < p .S) × (w .base % p .G ≡ 0) ⌝ }
-    requires { ⌜ w .full ≡ sealedIn p (viewOf p (now image) (now pointers)) (w .gone) (w .seg) ⌝ }
+    requires { ⌜ w .full ≡ sealedIn p (viewOf p (now image) (now pointers)) (w .gone) (seg (w .seg)) ⌝ }
     ensures { λ r. ⌜ r ≡ (isIn (w .gone) drive || not (recsBad p drive (w .base) (groupRecs p (w .base) (recsOn (segmentIn p (now (image .entry)) (now (pointers .entry)) w) drive)))) ⌝ }
     ensures { λ _. ⌜ SameBelow drive (now (at .entry)) (now (at .exit)) ⌝ }
     ensures { λ r. ⌜ (r ≡ true → Row p (w .base) (groupRecs p (w .base) (recsOn (segmentIn p (now (image .entry)) (now (pointers .entry)) w) drive)) drive (now (at .exit))) ⌝ }
@@ -207,7 +207,7 @@ pub fn index_group(p: Params, image: &[u8], pointers: &[u8], w: Group, at: &mut 
     requires { ⌜ inRange p ≡ true ⌝ }
     requires { ⌜ Whole p (mkDisk (now image) (now pointers)) ⌝ }
     requires { ⌜ (length (now at) ≡ 2048) × (w .seg < p .Z) × (w .base < p .S) × (w .base % p .G ≡ 0) ⌝ }
-    requires { ⌜ w .full ≡ sealedIn p (viewOf p (now image) (now pointers)) (w .gone) (w .seg) ⌝ }
+    requires { ⌜ w .full ≡ sealedIn p (viewOf p (now image) (now pointers)) (w .gone) (seg (w .seg)) ⌝ }
     ensures { λ r. ⌜ r ≡ not (groupFault p (w .gone) (segmentIn p (now (image .entry)) (now (pointers .entry)) w) (w .base)) ⌝ }
     ensures { λ _. ⌜
         (recsFault p (w .gone) (segmentIn p (now (image .entry)) (now (pointers .entry)) w) ≡ false

@@ -16,8 +16,10 @@ use Rattle.spec.specs.Layout.{headerBlock, footerBlock}
 use Rattle.spec.specs.Lists.{upFrom, below, all, any, keep, sameList, isIn}
 use Rattle.spec.specs.Params.{inRange, footers, capacity, unitLen, imageLen, pointersLen, placeOf, placeByte, drivesOf, present}
 use Rattle.spec.specs.Segments.{remaining, Segment, segmentOf, segments}
-use Rattle.law_basic.specs.Geometry.{ranged, capacity-low, zone-on-lt}
+use Rattle.spec.specs.Drives.{Seg, seg, sameSeg}
+use Rattle.law_basic.specs.Geometry.{ranged, capacity-low}
 use Rattle.law_basic.specs.Ranges.{getD-map-below, keep-below-same, any-keep-same, any-map, any-upFrom-same}
+use Rattle.law_basic.specs.Segs.{seg-number, Named, zone-on-lt}
 use Rattle.law_scans.specs.Scans.{any-keep}
 use Rattle.law_views.specs.Views.{Whole, pointer-view, chunk-view}
 use Rattle.recover_segments.specs.Kept.{remaining-keep}
@@ -28,7 +30,7 @@ unfoldable pub aboveBy : Params → List ℕ → ℕ → ℕ → Bool
 aboveBy p ptrs gone z = any (λ d. not (isIn gone d) && ltb (capacity p) (pointerOf p ptrs d z)) (drivesOf p)
 
 -- 01, Refusals, 9: segment g's header on drive d is not as these serials give it, by the image's bytes
-unfoldable pub headerOff : Params → List ℕ → ℕ → ℕ → ℕ → ℕ → Bool
+unfoldable pub headerOff : Params → List ℕ → Seg → ℕ → ℕ → ℕ → Bool
 headerOff p im g serial copied d =
     not (sameChunk (chunkOf p (part (placeByte p (placeOf p d (zoneOn g d) 0)) (unitLen p) im)) (headerBlock p d (zoneOn g d) serial copied) zeroSpare)
 
@@ -58,15 +60,15 @@ module _ (p : Params) (im ptrs : List ℕ) (h : length im ≡ imageLen p) (k : l
       (λ d hd. ap (ltb (capacity p)) (pointer-view p (mkDisk im ptrs) d z hd hz whole)))
 
   -- a zone of a segment as read
-  pub zone-by-image : (gone g d : ℕ) → d < p .N → getD (segmentOf p (viewOf p im ptrs) gone g .zonesBy) d noZone ≡ zoneAt (viewOf p im ptrs) d (zoneOn g d)
+  pub zone-by-image : (gone : ℕ) (g : Seg) (d : ℕ) → d < p .N → getD (segmentOf p (viewOf p im ptrs) gone g .zonesBy) d noZone ≡ zoneAt (viewOf p im ptrs) d (zoneOn g d)
   unfolding segmentOf drivesOf
   zone-by-image gone g d hd = getD-map-below (λ e. zoneAt (viewOf p im ptrs) e (zoneOn g e)) (p .N) d noZone hd
 
-  seg-in-image : (gone g : ℕ) → segmentOf p (viewOf p im ptrs) gone g .seg ≡ g
+  seg-in-image : (gone : ℕ) (g : Seg) → segmentOf p (viewOf p im ptrs) gone g .seg ≡ g
   unfolding segmentOf
   seg-in-image gone g = refl
 
-  pub header-list : (gone g serial copied : ℕ) → inRange p ≡ true → g < p .Z → serial ≡ segmentOf p (viewOf p im ptrs) gone g .serial
+  pub header-list : (gone : ℕ) (g : Seg) (serial copied : ℕ) → inRange p ≡ true → Named p g → serial ≡ segmentOf p (viewOf p im ptrs) gone g .serial
       → copied ≡ segmentOf p (viewOf p im ptrs) gone g .copied
       → headerFault p gone (segmentOf p (viewOf p im ptrs) gone g) ≡ any (λ d. not (isIn gone d) && headerOff p im g serial copied d) (below (p .N))
   unfolding headerFault headerOff chunkAt
@@ -80,7 +82,7 @@ module _ (p : Params) (im ptrs : List ℕ) (h : length im ≡ imageLen p) (k : l
       ∙ chunk-view p (mkDisk im ptrs) d (zoneOn g d) hd (zone-on-lt p g d hg) whole 0 (omega (arith, capacity-low p (ranged p r)))) j)
       (headerBlock p d (zoneOn (seg-in-image gone g j) d) (sym es j) (sym ec j)) zeroSpare))
 
-  pub footer-list : (gone g : ℕ) → any (λ d. footerFaultIn p (getD (segmentOf p (viewOf p im ptrs) gone g .zonesBy) d noZone)) (present p gone)
+  pub footer-list : (gone : ℕ) (g : Seg) → any (λ d. footerFaultIn p (getD (segmentOf p (viewOf p im ptrs) gone g .zonesBy) d noZone)) (present p gone)
       ≡ any (λ d. not (isIn gone d) && footerFaultIn p (zoneAt (viewOf p im ptrs) d (zoneOn g d))) (below (p .N))
   footer-list gone g =
       any-present p gone (λ d. footerFaultIn p (getD (segmentOf p (viewOf p im ptrs) gone g .zonesBy) d noZone)) (λ d. footerFaultIn p (zoneAt (viewOf p im ptrs) d (zoneOn g d)))
@@ -135,19 +137,21 @@ any-below-same f g n h = any-upFrom-same f g 0 n (λ k p q. h k (omega arith))
 
 -- 01, Refusals, 9: a serial at or below its copied one or used twice, by arrays that say serials and remaining segments
 pub serial-list : (p : Params) (v : View) (gone g : ℕ) (flags : List Bool) (serials : List ℕ) → g < p .Z → Keeps p v gone flags → Serials p v gone serials
-    → serialFault (segments p v gone) (segmentOf p v gone g) ≡ (leb (getD serials g 0) (segmentOf p v gone g .copied) || otherSerial (p .Z) flags serials g (getD serials g 0))
+    → serialFault (segments p v gone) (segmentOf p v gone (seg g))
+    ≡ (leb (getD serials g 0) (segmentOf p v gone (seg g) .copied) || otherSerial (p .Z) flags serials g (getD serials g 0))
 unfolding serialFault segments otherSerial segmentOf serialOf
 serial-list p v gone g flags serials hg hk hs =
     let s = getD serials g 0 in
-    let f : ℕ → Bool = λ h. not (eqb h g) && eqb (serialOf p v gone h) (serialOf p v gone g) in
-    λ j. leb (sym (hs .1 g hg) j) (segmentOf p v gone g .copied)
-    || (any-map (λ (h : Segment). not (eqb (h .seg) g) && eqb (h .serial) (serialOf p v gone g)) (segmentOf p v gone) (remaining p v gone)
-    ∙ ap (any f) (remaining-keep p v gone) ∙ any-keep (remainsHere p v gone) f (below (p .Z))
-    ∙ any-below-same (λ h. remainsHere p v gone h && f h) (λ h. getD flags h false && (not (eqb h g) && eqb (getD serials h 0) s)) (p .Z)
-    (λ h hh. λ i. sym (hk .1 h hh) i && (not (eqb h g) && eqb (sym (hs .1 h hh) i) (sym (hs .1 g hg) i)))) j
+    let f : Seg → Bool = λ h. not (sameSeg h (seg g)) && eqb (serialOf p v gone h) (serialOf p v gone (seg g)) in
+    let on : ℕ → Bool = λ h. remainsHere p v gone (seg h) in
+    λ j. leb (sym (hs .1 g hg) j) (segmentOf p v gone (seg g) .copied)
+    || (any-map (λ (h : Segment). not (sameSeg (h .seg) (seg g)) && eqb (h .serial) (serialOf p v gone (seg g))) (segmentOf p v gone) (remaining p v gone)
+    ∙ ap (any f) (remaining-keep p v gone) ∙ any-map f seg (keep on (below (p .Z))) ∙ any-keep on (λ h. f (seg h)) (below (p .Z))
+    ∙ any-below-same (λ h. on h && f (seg h)) (λ h. getD flags h false && (not (eqb h g) && eqb (getD serials h 0) s)) (p .Z)
+    (λ h hh. λ i. sym (hk .1 h hh) i && (not (seg-number h g i) && eqb (sym (hs .1 h hh) i) (sym (hs .1 g hg) i)))) j
 
 -- a segment's serials as read
-pub seg-serial : (p : Params) (v : View) (gone g : ℕ) → segmentOf p v gone g .serial ≡ serialOf p v gone g
+pub seg-serial : (p : Params) (v : View) (gone : ℕ) (g : Seg) → segmentOf p v gone g .serial ≡ serialOf p v gone g
 unfolding segmentOf serialOf
 seg-serial p v gone g = refl
 

@@ -1,11 +1,11 @@
 // Refusal 9 of restart and rebuild but for the records: write pointers, headers, serials, footers (01, Refusals).
 ghost use mathlib.Core.Path.{_≡_};
-ghost use mathlib.Core.Bool.{Bool, true, false, not, _&&_, _||_};
+ghost use mathlib.Core.Bool.{true, false, not, _&&_, _||_};
 ghost use mathlib.Core.List.{List};
 ghost use Prim.Native.Nat.{ℕ, _+_, _≤_, _<_};
 ghost use lib.Dec.{ltb};
 ghost use lib.ListN.{length, getD};
-ghost use Rattle.spec.specs.Drives.{noZone, viewOf, zoneAt, mkDisk, pointerOf, zoneOn};
+ghost use Rattle.spec.specs.Drives.{noZone, viewOf, zoneAt, mkDisk, pointerOf, zoneOn, seg};
 ghost use Rattle.spec.specs.Faults.{pointerFaults, headerFault, serialFault, footerFaultIn};
 ghost use Rattle.spec.specs.Lists.{firstOr, any, isIn};
 ghost use Rattle.spec.specs.Params.{inRange, footers, capacity, imageLen, pointersLen, present};
@@ -77,7 +77,7 @@ fn header_differs(
 ) -> bool
     requires { ⌜ inRange p ≡ true ⌝ }
     requires { ⌜ (length (now image) ≡ imageLen p) × (drive < p .N) × (segment < p .Z) ⌝ }
-    ensures { λ r. ⌜ r ≡ (not (isIn gone drive) && headerOff p (now (image .entry)) segment (serial .0) (copied .0) drive) ⌝ }
+    ensures { λ r. ⌜ r ≡ (not (isIn gone drive) && headerOff p (now (image .entry)) (seg segment) (serial .0) (copied .0) drive) ⌝ }
 {
     if bits_masks::has_drive(gone, drive) {
         return false;
@@ -102,9 +102,9 @@ fn header_fault(
     ensures { λ r. ⌜
         ((ps : List ℕ)
         → length ps ≡ pointersLen p
-        → serial .0 ≡ segmentOf p (viewOf p (now (image .entry)) ps) gone segment .serial
-        → copied .0 ≡ segmentOf p (viewOf p (now (image .entry)) ps) gone segment .copied
-        → r ≡ headerFault p gone (segmentOf p (viewOf p (now (image .entry)) ps) gone segment)) ⌝ }
+        → serial .0 ≡ segmentOf p (viewOf p (now (image .entry)) ps) gone (seg segment) .serial
+        → copied .0 ≡ segmentOf p (viewOf p (now (image .entry)) ps) gone (seg segment) .copied
+        → r ≡ headerFault p gone (segmentOf p (viewOf p (now (image .entry)) ps) gone (seg segment))) ⌝ }
 {
     let mut d = 0;
     while d < p.N {
@@ -132,8 +132,8 @@ pub fn front_fault(
         → length ps ≡ pointersLen p
         → Keeps p (viewOf p (now (image .entry)) ps) gone (now (kept .entry))
         → Serials p (viewOf p (now (image .entry)) ps) gone (now (serials .entry))
-        → r ≡ (headerFault p gone (segmentOf p (viewOf p (now (image .entry)) ps) gone g)
-        || serialFault (segments p (viewOf p (now (image .entry)) ps) gone) (segmentOf p (viewOf p (now (image .entry)) ps) gone g))) ⌝ }
+        → r ≡ (headerFault p gone (segmentOf p (viewOf p (now (image .entry)) ps) gone (seg g))
+        || serialFault (segments p (viewOf p (now (image .entry)) ps) gone) (segmentOf p (viewOf p (now (image .entry)) ps) gone (seg g)))) ⌝ }
 {
     let serial = Serial(serials[g]);
     let low = recover_segments::low_drive(p, gone);
@@ -209,7 +209,7 @@ fn drive_footer_fault(
     requires { ⌜ inRange p ≡ true ⌝ }
     requires { ⌜ Whole p (mkDisk (now image) (now pointers)) ⌝ }
     requires { ⌜ (drive < p .N) × (segment < p .Z) ⌝ }
-    ensures { λ r. ⌜ r ≡ (not (isIn gone drive) && footerFaultIn p (zoneAt (viewOf p (now (image .entry)) (now (pointers .entry))) drive (zoneOn segment drive))) ⌝ }
+    ensures { λ r. ⌜ r ≡ (not (isIn gone drive) && footerFaultIn p (zoneAt (viewOf p (now (image .entry)) (now (pointers .entry))) drive (zoneOn (seg segment) drive))) ⌝ }
 {
     if bits_masks::has_drive(gone, drive) {
         return false;
@@ -223,7 +223,7 @@ pub fn footer_fault(p: Params, image: &[u8], pointers: &[u8], gone: u8, segment:
     requires { ⌜ inRange p ≡ true ⌝ }
     requires { ⌜ Whole p (mkDisk (now image) (now pointers)) ⌝ }
     requires { ⌜ segment < p .Z ⌝ }
-    ensures { λ r. ⌜ r ≡ any (λ d. footerFaultIn p (getD (segmentOf p (viewOf p (now (image .entry)) (now (pointers .entry))) gone segment .zonesBy) d noZone)) (present p gone) ⌝ }
+    ensures { λ r. ⌜ r ≡ any (λ d. footerFaultIn p (getD (segmentOf p (viewOf p (now (image .entry)) (now (pointers .entry))) gone (seg segment) .zonesBy) d noZone)) (present p gone) ⌝ }
 {
     let mut d = 0;
     while d < p.N {

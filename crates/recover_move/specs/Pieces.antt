@@ -32,9 +32,6 @@ unfolding renumbered storedPiece storedRec
 piece-moved g s d n b q e a t m = λ j. mkPiece (e j) (mkRec (a j) (t j) (m j))
 
 module _ (p : Params) (g : Segment) (s n : ℕ) where
-  abbrev pub piecesMoved : List Piece
-  piecesMoved = movedPieces p g s n
-
   -- the data of the stripe, by position
   abbrev pub dataAt : ℕ → Piece
   dataAt i = renumbered n (storedPiece g s (dataDrive p s i))

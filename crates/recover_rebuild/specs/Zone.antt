@@ -5,7 +5,7 @@ use mathlib.Core.Bool.{Bool, true, false}
 use Prim.Native.Nat.{ℕ, suc, _+_, _≤_, _<_}
 use native.Mathlib.Omega.{arith}
 use Rattle.spec.specs.declared.Params.{Params}
-use Rattle.spec.specs.Drives.{zoneAt, Store, Disk, pointerOf, storeDisk, storeAll, zoneOn, sealedIn, zeroSpare, footerStores}
+use Rattle.spec.specs.Drives.{zoneAt, Store, Disk, pointerOf, storeDisk, storeAll, zoneOn, sealedIn, zeroSpare, footerStores, Seg}
 use Rattle.spec.specs.Drives.Store.{put}
 use Rattle.spec.specs.Faults.{stripeFault, storedBad}
 use Rattle.spec.specs.Layout.{headerBlock, headerSerial, headerCopied, footerBlock}
@@ -14,6 +14,7 @@ use Rattle.spec.specs.Params.{inRange, footers, capacity, named, present}
 use Rattle.spec.specs.Rebuild.{rebuiltZone}
 use Rattle.spec.specs.Segments.{lowDrive, headerAt, Segment, segmentOf, recsOn, counted}
 use Rattle.law_basic.specs.Geometry.{Ranged}
+use Rattle.law_basic.specs.Segs.{Named, zone-on-lt}
 use Rattle.law_views.specs.Pointers.{pointer-set}
 use Rattle.law_views.specs.Views.{Whole, AllFit, seen}
 use Rattle.law_drives.specs.Frame.{same-sealed}
@@ -32,7 +33,7 @@ use Rattle.recover_reset.specs.Rebuilt.{headStore, lostSpares, lostFeet, lostRe
 use Rattle.recover_decode.specs.Group.{lost-on, same-recs-fault}
 use Rattle.recover_decode.specs.Moving.{OnDrive, Moving, moving-start, moving-as, moving-cut, moving-turn, moving-done, drive-apart}
 
-module _ (p : Params) (r : Ranged p) (d g n : ℕ) (hd : d < p .N) (hg : g < p .Z) (k₀ : Disk) (w : Whole p k₀) where
+module _ (p : Params) (r : Ranged p) (d : ℕ) (g : Seg) (n : ℕ) (hd : d < p .N) (hg : Named p g) (k₀ : Disk) (w : Whole p k₀) where
   abbrev sg : Segment
   sg = segmentOf p (seen p k₀) (named d) g
 
@@ -71,7 +72,8 @@ module _ (p : Params) (r : Ranged p) (d g n : ℕ) (hd : d < p .N) (hg : g < p .
           no-feet = unfold lostFeet in
               cond-false (sg .full) (map (λ i. put d (zoneOn (sg .seg) d) (footerBlock p (lostSpares p d sg) i) zeroSpare) (below (footers p))) [] (full-is p (seen p k₀) (named d) g ∙ f)
 
-      module _ (c : m .cut ≡ false) (f : sealedIn p (seen p k₀) (named d) g ≡ true) (good : recsFault p (named d) sg ≡ false) (ok : inRange p ≡ true) (one : pointerOf p (k₀ .pointers) d g ≡ 1) where
+      module _ (c : m .cut ≡ false) (f : sealedIn p (seen p k₀) (named d) g ≡ true) (good : recsFault p (named d) sg ≡ false) (ok : inRange p ≡ true)
+          (one : pointerOf p (k₀ .pointers) d (zoneOn g d) ≡ 1) where
         counted-below : counted p (named d) sg ≡ below (p .S)
         counted-below = counted-full p (seen p k₀) (named d) g ok f
             (or-first (stripeFault p (named d) sg) (any (λ e. any (storedBad p e) (recsOn sg e)) (present p (named d))) (sym (recs-fault-is p (named d) sg) ∙ good))
@@ -83,7 +85,7 @@ module _ (p : Params) (r : Ranged p) (d g n : ℕ) (hd : d < p .N) (hg : g < p .
         whole-now = chunks-stored c .going .whole
 
         pub room-now : pointerOf p (k .pointers) d (zoneOn g d) + footers p ≤ capacity p
-        room-now = unfold zoneOn in feet-room p r d g hd hg sg (seg-is p (seen p k₀) (named d) g) k₀ k w chunks-fit made-all one counted-below
+        room-now = feet-room p r d g hd hg sg (seg-is p (seen p k₀) (named d) g) k₀ k w chunks-fit made-all one counted-below
 
         -- the footers too
         pub feet-made : (m′ : Made) (k′ : Disk) → Storing p (m .left) (footerStores p d (zoneOn g d) (zoneAt (seen p k) d (zoneOn g d)) 0 (footers p)) k m′ k′ → Storing p n (lostRest p d sg) k₀ m′ k′
@@ -92,11 +94,11 @@ module _ (p : Params) (r : Ranged p) (d g n : ℕ) (hd : d < p .N) (hg : g < p .
             chunks-stored c .going .owes m′ k′ (subst (λ (l : List Store). Storing p (m .left) l k m′ k′) e t)
           where
             as! : footerStores p d (zoneOn g d) (zoneAt (seen p k) d (zoneOn g d)) 0 (footers p) ≡ lostFeet p d sg
-            as! = unfold zoneOn in lost-feet-are p r d g hd hg sg (seg-is p (seen p k₀) (named d) g) k₀ k w chunks-fit made-all one counted-below (full-is p (seen p k₀) (named d) g ∙ f)
+            as! = lost-feet-are p r d g hd hg sg (seg-is p (seen p k₀) (named d) g) k₀ k w chunks-fit made-all one counted-below (full-is p (seen p k₀) (named d) g ∙ f)
 
   -- ---- with the header
 
-  module _ (fits : AllFit p (seen p k₀) (rebuiltZone p d sg)) (zero! : pointerOf p (k₀ .pointers) d g ≡ 0) where
+  module _ (fits : AllFit p (seen p k₀) (rebuiltZone p d sg)) (zero! : pointerOf p (k₀ .pointers) d (zoneOn g d) ≡ 0) where
     whole-list : Moving p (named d) n (rebuiltZone p d sg) k₀ ((headStore p d sg ∷ []) ++ lostRest p d sg) n k₀
     whole-list =
         moving-as p (named d) n (rebuiltZone p d sg) k₀ (rebuiltZone p d sg) ((headStore p d sg ∷ []) ++ lostRest p d sg) n k₀ (rebuilt-parts p d sg)
@@ -106,7 +108,7 @@ module _ (p : Params) (r : Ranged p) (d g n : ℕ) (hd : d < p .N) (hg : g < p .
     head-on e y q = head-apart p d sg e y (drive-apart d e (zoneOn (sg .seg) d) y q)
 
     pub head-room : pointerOf p (k₀ .pointers) d (zoneOn g d) < capacity p
-    head-room = unfold zoneOn in omega (arith, zero!, capacity-over p r)
+    head-room = omega (arith, zero!, capacity-over p r)
 
     pub head-store-is : (serial copied : ℕ) → serial ≡ headerSerial (headerAt (seen p k₀) (lowDrive p (named d)) g) → copied ≡ headerCopied (headerAt (seen p k₀) (lowDrive p (named d)) g)
         → put d (zoneOn g d) (headerBlock p d (zoneOn g d) serial copied) zeroSpare ≡ headStore p d sg
@@ -142,15 +144,16 @@ module _ (p : Params) (r : Ranged p) (d g n : ℕ) (hd : d < p .N) (hg : g < p .
         head-sealed f e = e ∙ same-sealed p (named d) (seen p k₀) (seen p k) (low-present p r d hd) (zone-headed .agree) g hg
 
         -- the pointer stands behind the header
-        pub head-one : pointerOf p (k .pointers) d g ≡ 1
+        pub head-one : pointerOf p (k .pointers) d (zoneOn g d) ≡ 1
         head-one =
-            (ap (λ (x : Disk). pointerOf p (x .pointers) d g) (storing-all p n (headStore p d sg ∷ []) k₀ m k s c ∙ as!)
-            ∙ ap (λ (x : List ℕ). pointerOf p x d g) (put-pointers p d g (headerBlock p d g (sg .serial) (sg .copied)) zeroSpare k₀)
-            ∙ pointer-set p (k₀ .pointers) d g (suc (pointerOf p (k₀ .pointers) d g)) hd hg (w .pointers-long) (omega (arith, zero!)) ∙ ap suc zero!)
+            let z : ℕ = zoneOn g d in
+            ap (λ (x : Disk). pointerOf p (x .pointers) d z) (storing-all p n (headStore p d sg ∷ []) k₀ m k s c ∙ as!)
+            ∙ ap (λ (x : List ℕ). pointerOf p x d z) (put-pointers p d z (headerBlock p d z (sg .serial) (sg .copied)) zeroSpare k₀)
+            ∙ pointer-set p (k₀ .pointers) d z (suc (pointerOf p (k₀ .pointers) d z)) hd (zone-on-lt p g d hg) (w .pointers-long) (omega (arith, zero!)) ∙ ap suc zero!
           where
-            as! : storeAll (storeDisk p) (headStore p d sg ∷ []) k₀ ≡ storeDisk p (put d g (headerBlock p d g (sg .serial) (sg .copied)) zeroSpare) k₀
-            as! = unfold storeAll headStore zoneOn in
-                ap (λ (z : ℕ). storeDisk p (put d z (headerBlock p d z (sg .serial) (sg .copied)) zeroSpare) k₀) (seg-is p (seen p k₀) (named d) g)
+            as! : storeAll (storeDisk p) (headStore p d sg ∷ []) k₀ ≡ storeDisk p (put d (zoneOn g d) (headerBlock p d (zoneOn g d) (sg .serial) (sg .copied)) zeroSpare) k₀
+            as! = unfold storeAll headStore in
+                ap (λ (x : Seg). storeDisk p (put d (zoneOn x d) (headerBlock p d (zoneOn x d) (sg .serial) (sg .copied)) zeroSpare) k₀) (seg-is p (seen p k₀) (named d) g)
 
         pub rest-made : (m′ : Made) (k′ : Disk) → Storing p (m .left) (lostRest p d sg′) k m′ k′ → Storing p n (rebuiltZone p d sg) k₀ m′ k′
         rest-made m′ k′ t = zone-headed .going .owes m′ k′ (subst (λ (l : List Store). Storing p (m .left) l k m′ k′) (sym same-now) t)

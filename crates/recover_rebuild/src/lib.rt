@@ -3,8 +3,8 @@ ghost use mathlib.Core.Path.{_≡_};
 ghost use mathlib.Core.Bool.{true, false, cond};
 ghost use mathlib.Core.List.{[]};
 ghost use Prim.Native.Nat.{_≤_, _<_};
-ghost use lib.ListN.{length, getD};
-ghost use Rattle.spec.specs.Drives.{viewOf, mkDisk, pointerOf, sealedIn};
+ghost use lib.ListN.{length};
+ghost use Rattle.spec.specs.Drives.{viewOf, mkDisk, pointerOf, zoneOn, sealedIn, seg as segNo};
 ghost use Rattle.spec.specs.Params.{inRange, named};
 ghost use Rattle.spec.specs.Rebuild.{rebuiltZone};
 ghost use Rattle.spec.specs.Segments.{segmentOf};
@@ -30,12 +30,12 @@ fn rebuild_data(
 ) -> Made
     requires { ⌜ inRange p ≡ true ⌝ }
     requires { ⌜ Whole p (mkDisk (now image) (now pointers)) ⌝ }
-    requires { ⌜ (gone ≡ named drive) × (drive < p .N) × (seg < p .Z) × (pointerOf p (now pointers) drive seg ≡ 1) ⌝ }
-    requires { ⌜ full ≡ sealedIn p (viewOf p (now image) (now pointers)) (named drive) seg ⌝ }
-    requires { ⌜ recsFault p (named drive) (segmentOf p (viewOf p (now image) (now pointers)) (named drive) seg) ≡ false ⌝ }
-    requires { ⌜ AllFit p (viewOf p (now image) (now pointers)) (lostRest p drive (segmentOf p (viewOf p (now image) (now pointers)) (named drive) seg)) ⌝ }
+    requires { ⌜ (gone ≡ named drive) × (drive < p .N) × (seg < p .Z) × (pointerOf p (now pointers) drive (zoneOn (segNo seg) drive) ≡ 1) ⌝ }
+    requires { ⌜ full ≡ sealedIn p (viewOf p (now image) (now pointers)) (named drive) (segNo seg) ⌝ }
+    requires { ⌜ recsFault p (named drive) (segmentOf p (viewOf p (now image) (now pointers)) (named drive) (segNo seg)) ≡ false ⌝ }
+    requires { ⌜ AllFit p (viewOf p (now image) (now pointers)) (lostRest p drive (segmentOf p (viewOf p (now image) (now pointers)) (named drive) (segNo seg))) ⌝ }
     ensures { λ r. ⌜
-        Storing p count (lostRest p drive (segmentOf p (viewOf p (now (image .entry)) (now (pointers .entry))) (named drive) seg))
+        Storing p count (lostRest p drive (segmentOf p (viewOf p (now (image .entry)) (now (pointers .entry))) (named drive) (segNo seg)))
         (mkDisk (now (image .entry)) (now (pointers .entry))) r (mkDisk (now (image .exit)) (now (pointers .exit))) ⌝ }
 {
     let made = recover_decode::put_groups(p, image, pointers, gone, seg, full, drive, count);
@@ -62,11 +62,11 @@ fn rebuild_zone(
 ) -> Made
     requires { ⌜ inRange p ≡ true ⌝ }
     requires { ⌜ Whole p (mkDisk (now image) (now pointers)) ⌝ }
-    requires { ⌜ (gone ≡ named drive) × (drive < p .N) × (seg < p .Z) × (pointerOf p (now pointers) drive seg ≡ 0) ⌝ }
-    requires { ⌜ recsFault p (named drive) (segmentOf p (viewOf p (now image) (now pointers)) (named drive) seg) ≡ false ⌝ }
-    requires { ⌜ AllFit p (viewOf p (now image) (now pointers)) (rebuiltZone p drive (segmentOf p (viewOf p (now image) (now pointers)) (named drive) seg)) ⌝ }
+    requires { ⌜ (gone ≡ named drive) × (drive < p .N) × (seg < p .Z) × (pointerOf p (now pointers) drive (zoneOn (segNo seg) drive) ≡ 0) ⌝ }
+    requires { ⌜ recsFault p (named drive) (segmentOf p (viewOf p (now image) (now pointers)) (named drive) (segNo seg)) ≡ false ⌝ }
+    requires { ⌜ AllFit p (viewOf p (now image) (now pointers)) (rebuiltZone p drive (segmentOf p (viewOf p (now image) (now pointers)) (named drive) (segNo seg))) ⌝ }
     ensures { λ r. ⌜
-        Storing p count (rebuiltZone p drive (segmentOf p (viewOf p (now (image .entry)) (now (pointers .entry))) (named drive) seg))
+        Storing p count (rebuiltZone p drive (segmentOf p (viewOf p (now (image .entry)) (now (pointers .entry))) (named drive) (segNo seg)))
         (mkDisk (now (image .entry)) (now (pointers .entry))) r (mkDisk (now (image .exit)) (now (pointers .exit))) ⌝ }
 {
     let low = recover_segments::low_drive(p, gone);
@@ -94,11 +94,11 @@ fn rebuild_if(
 ) -> Made
     requires { ⌜ inRange p ≡ true ⌝ }
     requires { ⌜ Whole p (mkDisk (now image) (now pointers)) ⌝ }
-    requires { ⌜ (gone ≡ named drive) × (drive < p .N) × (seg < p .Z) × (pointerOf p (now pointers) drive seg ≡ 0) ⌝ }
-    requires { ⌜ (kept ≡ true → recsFault p (named drive) (segmentOf p (viewOf p (now image) (now pointers)) (named drive) seg) ≡ false) ⌝ }
-    requires { ⌜ AllFit p (viewOf p (now image) (now pointers)) (cond kept (rebuiltZone p drive (segmentOf p (viewOf p (now image) (now pointers)) (named drive) seg)) []) ⌝ }
+    requires { ⌜ (gone ≡ named drive) × (drive < p .N) × (seg < p .Z) × (pointerOf p (now pointers) drive (zoneOn (segNo seg) drive) ≡ 0) ⌝ }
+    requires { ⌜ (kept ≡ true → recsFault p (named drive) (segmentOf p (viewOf p (now image) (now pointers)) (named drive) (segNo seg)) ≡ false) ⌝ }
+    requires { ⌜ AllFit p (viewOf p (now image) (now pointers)) (cond kept (rebuiltZone p drive (segmentOf p (viewOf p (now image) (now pointers)) (named drive) (segNo seg))) []) ⌝ }
     ensures { λ r. ⌜
-        Storing p count (cond kept (rebuiltZone p drive (segmentOf p (viewOf p (now (image .entry)) (now (pointers .entry))) (named drive) seg)) [])
+        Storing p count (cond kept (rebuiltZone p drive (segmentOf p (viewOf p (now (image .entry)) (now (pointers .entry))) (named drive) (segNo seg))) [])
         (mkDisk (now (image .entry)) (now (pointers .entry))) r (mkDisk (now (image .exit)) (now (pointers .exit))) ⌝ }
 {
     if !kept {

@@ -7,12 +7,13 @@ use native.Mathlib.Nat.{add-zero, sub-zero}
 use native.Mathlib.Omega.{arith}
 use lib.Dec.{eqb}
 use Rattle.spec.specs.declared.Params.{Params}
-use Rattle.spec.specs.Drives.{Chunk, View, Store, zoneOn}
+use Rattle.spec.specs.Drives.{Chunk, View, Store, zoneOn, Seg}
 use Rattle.spec.specs.Lists.{upFrom, keep, isIn}
 use Rattle.spec.specs.Params.{present}
 use Rattle.spec.specs.Parity.{Piece}
 use Rattle.spec.specs.Segments.{lowDrive, Segment, segmentOf, counts, pieceOf, putPiece}
 use Rattle.law_basic.specs.Ranges.{upFrom-add, map-append, map-same, map-map, keep-append, keep-hit, keep-miss, keep-none}
+use Rattle.law_basic.specs.Segs.{Named}
 use Rattle.law_drives.specs.Frame.{Agree}
 use Rattle.law_drives.specs.Members.{In, keep-cong}
 use Rattle.law_drives.specs.Puts.{putAt, hits-puts}
@@ -86,7 +87,7 @@ lost-apart p gone d g ss e y q =
     ap (hits e y) (lost-puts p gone d g ss) ∙ hits-puts e y d z cs ∙ cond-false (eqb d e && eqb z y) (map (putAt d z) cs) [] q
 
 -- the same on views that agree but on the missing drives
-pub same-lost : (p : Params) (gone : ℕ) (v u : View) → In (lowDrive p gone) (present p gone) → Agree p gone v u → (g : ℕ) → g < p .Z → (d : ℕ) → isIn gone d ≡ true
+pub same-lost : (p : Params) (gone : ℕ) (v u : View) → In (lowDrive p gone) (present p gone) → Agree p gone v u → (g : Seg) → Named p g → (d : ℕ) → isIn gone d ≡ true
     → (ss : List ℕ) → lostStores p gone d (segmentOf p v gone g) ss ≡ lostStores p gone d (segmentOf p u gone g) ss
 unfolding lostStores lostStore
 same-lost p gone v u low ag g hg d q ss =
@@ -94,4 +95,4 @@ same-lost p gone v u low ag g hg d q ss =
     let y = segmentOf p u gone g in
     ap (map (λ s. putPiece d (zoneOn (x .seg) d) (pieceOf p gone x s d))) (keep-cong (counts p gone x) (counts p gone y) ss (λ s m. same-counts p gone v u low ag g hg s))
     ∙ map-same (λ s. putPiece d (zoneOn (x .seg) d) (pieceOf p gone x s d)) (λ s. putPiece d (zoneOn (y .seg) d) (pieceOf p gone y s d)) (keep (counts p gone y) ss)
-    (λ s. ap₂ (λ (z : ℕ) (t : Piece). putPiece d (zoneOn z d) t) (same-seg p gone v u low ag g hg) (same-piece p gone v u low ag g hg s d q))
+    (λ s. ap₂ (λ (z : Seg) (t : Piece). putPiece d (zoneOn z d) t) (same-seg p gone v u low ag g hg) (same-piece p gone v u low ag g hg s d q))

@@ -17,8 +17,10 @@ use Rattle.spec.specs.Params.{footers, capacity, named, present}
 use Rattle.spec.specs.Parity.{Piece, mkPiece}
 use Rattle.spec.specs.Rebuild.{rebuiltZone}
 use Rattle.spec.specs.Segments.{lowDrive, Segment, segmentOf, counts, counted, pieceOf, putPiece}
+use Rattle.spec.specs.Drives.{Seg}
 use Rattle.law_basic.specs.Geometry.{Ranged}
 use Rattle.law_basic.specs.Ranges.{and-both, length-below, map-same, map-map, getD-map}
+use Rattle.law_basic.specs.Segs.{Named, zone-on-lt}
 use Rattle.law_views.specs.Views.{Whole, pointer-view, blocks-long, AllFit, seen}
 use Rattle.law_drives.specs.Frame.{Agree}
 use Rattle.law_drives.specs.Image.{sized-of}
@@ -94,7 +96,7 @@ rebuilt-apart p d g e y q =
 
 -- ---- the same on views that agree but on the drive
 
-module _ (p : Params) (d : ℕ) (v u : View) (low : In (lowDrive p (named d)) (present p (named d))) (lost : isIn (named d) d ≡ true) (ag : Agree p (named d) v u) (g : ℕ) (hg : g < p .Z) where
+module _ (p : Params) (d : ℕ) (v u : View) (low : In (lowDrive p (named d)) (present p (named d))) (lost : isIn (named d) d ≡ true) (ag : Agree p (named d) v u) (g : Seg) (hg : Named p g) where
   abbrev x : Segment
   x = segmentOf p v (named d) g
 
@@ -126,9 +128,9 @@ module _ (p : Params) (d : ℕ) (v u : View) (low : In (lowDrive p (named d)) (p
 
 -- ---- the footers, once all S chunks are stored behind the header
 
-module _ (p : Params) (r : Ranged p) (d g : ℕ) (hd : d < p .N) (hg : g < p .Z) (sg : Segment) (eg : sg .seg ≡ g) (k k′ : Disk) (w : Whole p k)
+module _ (p : Params) (r : Ranged p) (d : ℕ) (g : Seg) (hd : d < p .N) (hg : Named p g) (sg : Segment) (eg : sg .seg ≡ g) (k k′ : Disk) (w : Whole p k)
     (fits : AllFit p (seen p k) (lostStores p (named d) d sg (below (p .S)))) (e : k′ ≡ storeAll (storeDisk p) (lostStores p (named d) d sg (below (p .S))) k)
-    (one : pointerOf p (k .pointers) d g ≡ 1) (all! : counted p (named d) sg ≡ below (p .S)) where
+    (one : pointerOf p (k .pointers) d (zoneOn g d) ≡ 1) (all! : counted p (named d) sg ≡ below (p .S)) where
   abbrev ls : List Store
   ls = lostStores p (named d) d sg (below (p .S))
 
@@ -140,53 +142,59 @@ module _ (p : Params) (r : Ranged p) (d g : ℕ) (hd : d < p .N) (hg : g < p .Z)
       length-map (map (λ s. pieceOf p (named d) sg s d) (counted p (named d) sg)) pieceChunk ∙ length-map (counted p (named d) sg) (λ s. pieceOf p (named d) sg s d)
       ∙ ap length all! ∙ length-below (p .S)
 
-  puts-are : hits d g ls ≡ map (putAt d g) cs
-  unfolding zoneOn counted
+  zone-eq : zoneOn (sg .seg) d ≡ zoneOn g d
+  zone-eq = ap (λ (x : Seg). zoneOn x d) eg
+
+  puts-are : hits d (zoneOn g d) ls ≡ map (putAt d (zoneOn g d)) cs
+  unfolding counted
   puts-are =
-      let q : (eqb d d && eqb (sg .seg) g) ≡ true = and-both (eqb d d) (eqb (sg .seg) g) (eqb-self d) (eq-eqb (sg .seg) g eg) in
-      ap (hits d g) (lost-puts p (named d) d sg (below (p .S))) ∙ hits-puts d g d (sg .seg) cs ∙ cond-true (eqb d d && eqb (sg .seg) g) (map (putAt d (sg .seg)) cs) [] q
-      ∙ ap (λ (z : ℕ). map (putAt d z) cs) eg
+      let z = zoneOn (sg .seg) d in
+      let y = zoneOn g d in
+      let q : (eqb d d && eqb z y) ≡ true = and-both (eqb d d) (eqb z y) (eqb-self d) (eq-eqb z y zone-eq) in
+      ap (hits d y) (lost-puts p (named d) d sg (below (p .S))) ∙ hits-puts d y d z cs ∙ cond-true (eqb d d && eqb z y) (map (putAt d z) cs) [] q
+      ∙ ap (λ (n : ℕ). map (putAt d n) cs) zone-eq
 
   abbrev q₀ : Zone
-  q₀ = zoneAt (seen p k) d g
+  q₀ = zoneAt (seen p k) d (zoneOn g d)
 
-  zone-now : zoneAt (seen p k′) d g ≡ putAll d g cs q₀
+  zone-now : zoneAt (seen p k′) d (zoneOn g d) ≡ putAll d (zoneOn g d) cs q₀
   zone-now =
-      ap (λ (v : View). zoneAt v d g) (seen-after p r k k′ ls w fits e) ∙ zone-after p (seen p k) d g ls (sized-of p k w) hd hg
+      ap (λ (v : View). zoneAt v d (zoneOn g d)) (seen-after p r k k′ ls w fits e) ∙ zone-after p (seen p k) d (zoneOn g d) ls (sized-of p k w) hd (zone-on-lt p g d hg)
       ∙ ap (λ (l : List Store). storeAll zoneStore l q₀) puts-are
 
   pointer-one : q₀ .pointer ≡ 1
-  pointer-one = as! (pointer-view p k d g hd hg w ∙ one)
+  pointer-one = as! (pointer-view p k d (zoneOn g d) hd (zone-on-lt p g d hg) w ∙ one)
     where
-      as! : pointerAt (seen p k) d g ≡ 1 → zoneAt (seen p k) d g .pointer ≡ 1
+      as! : pointerAt (seen p k) d (zoneOn g d) ≡ 1 → zoneAt (seen p k) d (zoneOn g d) .pointer ≡ 1
       as! h = unfold pointerAt in h
 
   -- there is room for them
-  pub feet-room : pointerOf p (k′ .pointers) d g + footers p ≤ capacity p
+  pub feet-room : pointerOf p (k′ .pointers) d (zoneOn g d) + footers p ≤ capacity p
   feet-room =
       let w′ = whole-after p r k k′ ls w fits e in
-      let a : pointerOf p (k′ .pointers) d g ≡ q₀ .pointer + length cs = sym (pointer-view p k′ d g hd hg w′) ∙ as! (ap (λ (z : Zone). z .pointer) zone-now ∙ puts-pointer d g cs q₀) in
+      let a : pointerOf p (k′ .pointers) d (zoneOn g d) ≡ q₀ .pointer + length cs = sym (pointer-view p k′ d (zoneOn g d) hd (zone-on-lt p g d hg) w′)
+      ∙ as! (ap (λ (z : Zone). z .pointer) zone-now ∙ puts-pointer d (zoneOn g d) cs q₀) in
       omega (arith, a, pointer-one, cs-long, capacity-is p r)
     where
-      as! : zoneAt (seen p k′) d g .pointer ≡ q₀ .pointer + length cs → pointerAt (seen p k′) d g ≡ q₀ .pointer + length cs
+      as! : zoneAt (seen p k′) d (zoneOn g d) .pointer ≡ q₀ .pointer + length cs → pointerAt (seen p k′) d (zoneOn g d) ≡ q₀ .pointer + length cs
       as! h = unfold pointerAt in h
 
-  blocks-now : length (zoneAt (seen p k′) d g .blocks) ≡ capacity p
-  blocks-now = blocks-long p k′ d g hd hg (whole-after p r k k′ ls w fits e)
+  blocks-now : length (zoneAt (seen p k′) d (zoneOn g d) .blocks) ≡ capacity p
+  blocks-now = blocks-long p k′ d (zoneOn g d) hd (zone-on-lt p g d hg) (whole-after p r k k′ ls w fits e)
 
-  chunk-now : (o : ℕ) → o < p .S → getD (zoneAt (seen p k′) d g .blocks) (1 + o) noChunk ≡ getD cs o noChunk
+  chunk-now : (o : ℕ) → o < p .S → getD (zoneAt (seen p k′) d (zoneOn g d) .blocks) (1 + o) noChunk ≡ getD cs o noChunk
   chunk-now o h =
-      let l : length (q₀ .blocks) ≡ capacity p = blocks-long p k d g hd hg w in
+      let l : length (q₀ .blocks) ≡ capacity p = blocks-long p k d (zoneOn g d) hd (zone-on-lt p g d hg) w in
       ap (λ (z : Zone). getD (z .blocks) (1 + o) noChunk) zone-now
-      ∙ ap (λ (n : ℕ). getD (putAll d g cs q₀ .blocks) (n + o) noChunk) (sym pointer-one)
-      ∙ puts-new d g cs q₀ o (omega (arith, cs-long)) (omega (arith, pointer-one, cs-long, l, capacity-over p r))
+      ∙ ap (λ (n : ℕ). getD (putAll d (zoneOn g d) cs q₀ .blocks) (n + o) noChunk) (sym pointer-one)
+      ∙ puts-new d (zoneOn g d) cs q₀ o (omega (arith, cs-long)) (omega (arith, pointer-one, cs-long, l, capacity-over p r))
 
-  spares-now : sparesOf (take (p .S) (drop 1 (zoneAt (seen p k′) d g .blocks))) ≡ lostSpares p d sg
+  spares-now : sparesOf (take (p .S) (drop 1 (zoneAt (seen p k′) d (zoneOn g d) .blocks))) ≡ lostSpares p d sg
   unfolding sparesOf lostSpares
   spares-now = ext-getD [] (map (λ (c : Chunk). c .spare) row) made (long ∙ sym made-long) (λ o l. each o (omega (arith, long)))
     where
       row : List Chunk
-      row = take (p .S) (drop 1 (zoneAt (seen p k′) d g .blocks))
+      row = take (p .S) (drop 1 (zoneAt (seen p k′) d (zoneOn g d) .blocks))
 
       qs : List Piece
       qs = map (λ s. pieceOf p (named d) sg s d) (counted p (named d) sg)
@@ -202,7 +210,8 @@ module _ (p : Params) (r : Ranged p) (d g : ℕ) (hd : d < p .N) (hg : g < p .Z)
 
       row-long : length row ≡ p .S
       row-long =
-          length-take (p .S) (drop 1 (zoneAt (seen p k′) d g .blocks)) ∙ ap (min (p .S)) (length-drop 1 (zoneAt (seen p k′) d g .blocks)) ∙ omega (arith, blocks-now, capacity-over p r)
+          length-take (p .S) (drop 1 (zoneAt (seen p k′) d (zoneOn g d) .blocks)) ∙ ap (min (p .S)) (length-drop 1 (zoneAt (seen p k′) d (zoneOn g d) .blocks))
+          ∙ omega (arith, blocks-now, capacity-over p r)
 
       long : length (map (λ (c : Chunk). c .spare) row) ≡ p .S
       long = length-map row (λ (c : Chunk). c .spare) ∙ row-long
@@ -216,15 +225,15 @@ module _ (p : Params) (r : Ranged p) (d g : ℕ) (hd : d < p .N) (hg : g < p .Z)
       each : (o : ℕ) → o < p .S → getD (map (λ (c : Chunk). c .spare) row) o [] ≡ getD made o []
       each o h =
           getD-map (λ (c : Chunk). c .spare) row o [] noChunk (omega (arith, row-long))
-          ∙ ap (λ (c : Chunk). c .spare) (getD-take (p .S) (drop 1 (zoneAt (seen p k′) d g .blocks)) o noChunk h ∙ getD-drop 1 (zoneAt (seen p k′) d g .blocks) o noChunk
+          ∙ ap (λ (c : Chunk). c .spare) (getD-take (p .S) (drop 1 (zoneAt (seen p k′) d (zoneOn g d) .blocks)) o noChunk h ∙ getD-drop 1 (zoneAt (seen p k′) d (zoneOn g d) .blocks) o noChunk
           ∙ chunk-now o h ∙ getD-map pieceChunk qs o noChunk none! (omega (arith, qs-long)))
           ∙ spare-is (getD qs o none!)
           ∙ sym (getD-map (λ (q : Piece). recordBytes (q .rec)) qs o [] none! (omega (arith, qs-long)))
 
   -- they are made from the spares
-  pub lost-feet-are : sg .full ≡ true → footerStores p d g (zoneAt (seen p k′) d g) 0 (footers p) ≡ lostFeet p d sg
-  unfolding footerStores footersOf lostFeet zoneOn below
+  pub lost-feet-are : sg .full ≡ true → footerStores p d (zoneOn g d) (zoneAt (seen p k′) d (zoneOn g d)) 0 (footers p) ≡ lostFeet p d sg
+  unfolding footerStores footersOf lostFeet below
   lost-feet-are f =
-      map-map (λ (b : List ℕ). put d g b zeroSpare) (footerBlock p (sparesOf (take (p .S) (drop 1 (zoneAt (seen p k′) d g .blocks))))) (upFrom 0 (footers p))
-      ∙ ap₂ (λ (ss : List (List ℕ)) (z : ℕ). map (λ i. put d z (footerBlock p ss i) zeroSpare) (upFrom 0 (footers p))) spares-now (sym eg)
-      ∙ sym (cond-true (sg .full) (map (λ i. put d (sg .seg) (footerBlock p (lostSpares p d sg) i) zeroSpare) (upFrom 0 (footers p))) [] f)
+      map-map (λ (b : List ℕ). put d (zoneOn g d) b zeroSpare) (footerBlock p (sparesOf (take (p .S) (drop 1 (zoneAt (seen p k′) d (zoneOn g d) .blocks))))) (upFrom 0 (footers p))
+      ∙ ap₂ (λ (ss : List (List ℕ)) (z : ℕ). map (λ i. put d z (footerBlock p ss i) zeroSpare) (upFrom 0 (footers p))) spares-now (sym zone-eq)
+      ∙ sym (cond-true (sg .full) (map (λ i. put d (zoneOn (sg .seg) d) (footerBlock p (lostSpares p d sg) i) zeroSpare) (upFrom 0 (footers p))) [] f)

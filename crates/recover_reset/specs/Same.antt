@@ -2,23 +2,24 @@
 use mathlib.Core.Path.{_≡_, sym, ap, _∙_}
 use mathlib.Core.List.{List, [], map}
 use mathlib.Core.Bool.{true}
-use Prim.Native.Nat.{ℕ, _+_, _<_}
+use Prim.Native.Nat.{ℕ, _+_}
 use lib.Dec.{eqb}
 use lib.ListN.{getD}
 use Rattle.spec.specs.declared.Params.{Params}
-use Rattle.spec.specs.Drives.{noChunk, noZone, View}
+use Rattle.spec.specs.Drives.{noChunk, noZone, View, Seg, zoneOn}
 use Rattle.spec.specs.Layout.{Rec, mkRec}
 use Rattle.spec.specs.Lists.{any, indexOf, isIn}
 use Rattle.spec.specs.Params.{present}
 use Rattle.spec.specs.Parity.{mkPiece, parityPiece}
 use Rattle.spec.specs.Segments.{lowDrive, Segment, segmentOf, recsOn, offsetOn, hasChunk, counts, storedPiece, pieceOf}
 use Rattle.law_basic.specs.Ranges.{all-same}
+use Rattle.law_basic.specs.Segs.{Named, zone-on-lt}
 use Rattle.law_drives.specs.Frame.{Agree, core, same-core}
 use Rattle.law_drives.specs.Members.{In, map-cong}
 use Rattle.law_drives.specs.Segs.{present-in, zone-by, seg-is}
 use Rattle.law_drives.specs.Tests.{cond-true}
 
-module _ (p : Params) (gone : ℕ) (v u : View) (low : In (lowDrive p gone) (present p gone)) (ag : Agree p gone v u) (g : ℕ) (hg : g < p .Z) where
+module _ (p : Params) (gone : ℕ) (v u : View) (low : In (lowDrive p gone) (present p gone)) (ag : Agree p gone v u) (g : Seg) (hg : Named p g) where
   abbrev x : Segment
   x = segmentOf p v gone g
 
@@ -64,7 +65,7 @@ module _ (p : Params) (gone : ℕ) (v u : View) (low : In (lowDrive p gone) (pre
   unfolding storedPiece
   same-stored s e m =
       let (he, q) = present-in p gone e m in
-      let z : getD (x .zonesBy) e noZone ≡ getD (y .zonesBy) e noZone = zone-by p v gone g e he ∙ ag e g he hg q ∙ sym (zone-by p u gone g e he) in
+      let z : getD (x .zonesBy) e noZone ≡ getD (y .zonesBy) e noZone = zone-by p v gone g e he ∙ ag e (zoneOn g e) he (zone-on-lt p g e hg) q ∙ sym (zone-by p u gone g e he) in
       λ j. mkPiece (getD (z j .blocks) (1 + same-offset e s j) noChunk .block) (getD (same-recs-on e j) (same-offset e s j) (mkRec 0 0 0))
 
   -- the chunk of a missing drive

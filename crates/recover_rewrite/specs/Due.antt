@@ -1,6 +1,6 @@
 -- The counted stripes that are still to be moved, numbered on (01, Restart, 4). Assumes nothing.
 use Prim.Native.Nat.{ℕ, suc, _+_, _-_, _*_, _%_, _≤_, _<_}
-use Rattle.spec.specs.Drives.{View, Store, Disk, sealedIn}
+use Rattle.spec.specs.Drives.{View, Store, Disk, sealedIn, Seg, seg}
 use Rattle.spec.specs.Lists.{upFrom, consIf, keep}
 use Rattle.spec.specs.Restart.{movedStripe, movedStripes}
 use Rattle.spec.specs.Segments.{Segment, counts, counted}
@@ -10,6 +10,7 @@ use Rattle.recover_groups.specs.Groups.{groupLen, segmentIn, GroupReads}
 use Rattle.recover_groups.specs.declared.Group.{Group}
 use Rattle.law_basic.specs.Geometry.{Ranged}
 use Rattle.law_basic.specs.Ranges.{length-upFrom, below-start, keep-append, length-keep}
+use Rattle.law_basic.specs.Segs.{Named, OtherSeg}
 use Rattle.recover_move.specs.Moves.{moved-none, moved-one, moved-append, moved-misses, Moves, moves-start, moves-as, moves-turn, moves-cut, moves-done}
 use Rattle.recover_move.specs.Moves.{moves-first, moves-sealed, moves-in, moves-reads}
 use Rattle.recover_rewrite.specs.declared.Moved.{Moved}
@@ -93,18 +94,18 @@ abbrev pub madeBy : Moved → Made
 madeBy m = record { left = m .left; cut = m .cut }
 
 -- the stripes l are moved, numbered from m's next on
-pub record StepMoved (p : Params) (g : Segment) (to : ℕ) (l : List ℕ) (m : Moved) (k : Disk) (r : Moved) (k′ : Disk) : Type 0 where
+pub record StepMoved (p : Params) (g : Segment) (to : Seg) (l : List ℕ) (m : Moved) (k : Disk) (r : Moved) (k′ : Disk) : Type 0 where
   pub stored : Storing p (m .left) (movedStripes p g to l (m .next)) k (madeBy r) k′
   pub number : r .cut ≡ false → r .next ≡ m .next + length l
 
-pub step-none : (p : Params) (g : Segment) (to : ℕ) (l : List ℕ) (m : Moved) (k : Disk) → l ≡ [] → m .cut ≡ false → StepMoved p g to l m k m k
+pub step-none : (p : Params) (g : Segment) (to : Seg) (l : List ℕ) (m : Moved) (k : Disk) → l ≡ [] → m .cut ≡ false → StepMoved p g to l m k m k
 step-none p g to l m k e c = subst (λ (x : List ℕ). StepMoved p g to x m k m k) (sym e) (record {
   stored = subst (λ (x : List Store). Storing p (m .left) x k (madeBy m) k) (sym (moved-none p g to (m .next)))
       (subst (λ (b : Bool). Storing p (m .left) [] k (record { left = m .left; cut = b }) k) (sym c) (storing-none p (m .left) k));
   number = λ q. sym (add-zero (m .next));
 })
 
-pub step-one : (p : Params) (g : Segment) (to s : ℕ) (l : List ℕ) (m : Moved) (k : Disk) (made : Made) (k′ : Disk) → l ≡ s ∷ [] → Storing p (m .left) (movedStripe p g to s (m .next)) k made k′
+pub step-one : (p : Params) (g : Segment) (to : Seg) (s : ℕ) (l : List ℕ) (m : Moved) (k : Disk) (made : Made) (k′ : Disk) → l ≡ s ∷ [] → Storing p (m .left) (movedStripe p g to s (m .next)) k made k′
     → StepMoved p g to l m k (record { next = m .next + 1; left = made .left; cut = made .cut }) k′
 step-one p g to s l m k made k′ e st = subst (λ (x : List ℕ). StepMoved p g to x m k (record { next = m .next + 1; left = made .left; cut = made .cut }) k′) (sym e) (record {
   stored = subst (λ (x : List Store). Storing p (m .left) x k made k′) (sym (moved-one p g to s (m .next))) st;
@@ -113,76 +114,76 @@ step-one p g to s l m k made k′ e st = subst (λ (x : List ℕ). StepMoved p g
 
 -- ---- the parts one after the other: L in all, T still to be done
 
-pub record MovedUpto (p : Params) (g : Segment) (to seg : ℕ) (m₀ : Moved) (k₀ : Disk) (L T : List ℕ) (m : Moved) (k : Disk) : Type 0 where
-  pub moves : Moves p (m₀ .left) (movedStripes p g to L (m₀ .next)) k₀ seg (movedStripes p g to T (m .next)) (m .left) k
+pub record MovedUpto (p : Params) (g : Segment) (to sgm : Seg) (m₀ : Moved) (k₀ : Disk) (L T : List ℕ) (m : Moved) (k : Disk) : Type 0 where
+  pub moves : Moves p (m₀ .left) (movedStripes p g to L (m₀ .next)) k₀ sgm (movedStripes p g to T (m .next)) (m .left) k
   pub number : m .next + length T ≡ m₀ .next + length L
   pub uncut : m .cut ≡ false
 
-module _ (p : Params) (r : Ranged p) (g : Segment) (to seg : ℕ) (hz : seg < p .Z) (ne : to ≡ seg → ⊥) (m₀ : Moved) (k₀ : Disk) (L : List ℕ) where
-  pub upto-start : Whole p k₀ → AllFit p (seen p k₀) (movedStripes p g to L (m₀ .next)) → m₀ .cut ≡ false → MovedUpto p g to seg m₀ k₀ L L m₀ k₀
-  upto-start w f c = record { moves = moves-start p (m₀ .left) (movedStripes p g to L (m₀ .next)) k₀ seg w f; number = refl; uncut = c }
+module _ (p : Params) (r : Ranged p) (g : Segment) (to sgm : Seg) (hz : Named p sgm) (ne : OtherSeg p to sgm) (m₀ : Moved) (k₀ : Disk) (L : List ℕ) where
+  pub upto-start : Whole p k₀ → AllFit p (seen p k₀) (movedStripes p g to L (m₀ .next)) → m₀ .cut ≡ false → MovedUpto p g to sgm m₀ k₀ L L m₀ k₀
+  upto-start w f c = record { moves = moves-start p (m₀ .left) (movedStripes p g to L (m₀ .next)) k₀ sgm w f; number = refl; uncut = c }
 
-  pub upto-as : (T U : List ℕ) (m : Moved) (k : Disk) → T ≡ U → MovedUpto p g to seg m₀ k₀ L T m k → MovedUpto p g to seg m₀ k₀ L U m k
-  upto-as T U m k e u = subst (λ (x : List ℕ). MovedUpto p g to seg m₀ k₀ L x m k) e u
+  pub upto-as : (T U : List ℕ) (m : Moved) (k : Disk) → T ≡ U → MovedUpto p g to sgm m₀ k₀ L T m k → MovedUpto p g to sgm m₀ k₀ L U m k
+  upto-as T U m k e u = subst (λ (x : List ℕ). MovedUpto p g to sgm m₀ k₀ L x m k) e u
 
-  pub upto-done : (m : Moved) (k : Disk) → MovedUpto p g to seg m₀ k₀ L [] m k → StepMoved p g to L m₀ k₀ m k
+  pub upto-done : (m : Moved) (k : Disk) → MovedUpto p g to sgm m₀ k₀ L [] m k → StepMoved p g to L m₀ k₀ m k
   upto-done m k u = record {
     stored = subst (λ (b : Bool). Storing p (m₀ .left) (movedStripes p g to L (m₀ .next)) k₀ (record { left = m .left; cut = b }) k) (sym (u .uncut))
-        (moves-done p (m₀ .left) (movedStripes p g to L (m₀ .next)) k₀ seg (m .left) k
-        (moves-as p (m₀ .left) (movedStripes p g to L (m₀ .next)) k₀ seg (movedStripes p g to [] (m .next)) [] (m .left) k (moved-none p g to (m .next)) (u .moves)));
+        (moves-done p (m₀ .left) (movedStripes p g to L (m₀ .next)) k₀ sgm (m .left) k
+        (moves-as p (m₀ .left) (movedStripes p g to L (m₀ .next)) k₀ sgm (movedStripes p g to [] (m .next)) [] (m .left) k (moved-none p g to (m .next)) (u .moves)));
     number = λ q. sym (add-zero (m .next)) ∙ u .number;
   }
 
-  module _ (A B : List ℕ) (m : Moved) (k : Disk) (u : MovedUpto p g to seg m₀ k₀ L (A ++ B) m k) where
+  module _ (A B : List ℕ) (m : Moved) (k : Disk) (u : MovedUpto p g to sgm m₀ k₀ L (A ++ B) m k) where
     abbrev ss : List Store
     ss = movedStripes p g to L (m₀ .next)
 
-    stripes-parts : Moves p (m₀ .left) ss k₀ seg (movedStripes p g to A (m .next) ++ movedStripes p g to B (m .next + length A)) (m .left) k
+    stripes-parts : Moves p (m₀ .left) ss k₀ sgm (movedStripes p g to A (m .next) ++ movedStripes p g to B (m .next + length A)) (m .left) k
     stripes-parts =
-        moves-as p (m₀ .left) ss k₀ seg (movedStripes p g to (A ++ B) (m .next))
+        moves-as p (m₀ .left) ss k₀ sgm (movedStripes p g to (A ++ B) (m .next))
         (movedStripes p g to A (m .next) ++ movedStripes p g to B (m .next + length A)) (m .left) k (moved-append p g to A B (m .next)) (u .moves)
 
     pub upto-first : AllFit p (seen p k) (movedStripes p g to A (m .next))
-    upto-first = moves-first p (m₀ .left) ss k₀ seg (movedStripes p g to A (m .next)) (movedStripes p g to B (m .next + length A)) (m .left) k stripes-parts
+    upto-first = moves-first p (m₀ .left) ss k₀ sgm (movedStripes p g to A (m .next)) (movedStripes p g to B (m .next + length A)) (m .left) k stripes-parts
 
     module _ (m′ : Moved) (k′ : Disk) (s : StepMoved p g to A m k m′ k′) where
       pub upto-cut : m′ .cut ≡ true → StepMoved p g to L m₀ k₀ m′ k′
       upto-cut c = record {
-        stored = moves-cut p (m₀ .left) ss k₀ seg (movedStripes p g to A (m .next)) (movedStripes p g to B (m .next + length A)) (m .left) k (madeBy m′) k′ stripes-parts (s .stored) c;
+        stored = moves-cut p (m₀ .left) ss k₀ sgm (movedStripes p g to A (m .next)) (movedStripes p g to B (m .next + length A)) (m .left) k (madeBy m′) k′ stripes-parts (s .stored) c;
         number = λ q. clash c q;
       }
 
-      pub upto-turn : m′ .cut ≡ false → MovedUpto p g to seg m₀ k₀ L B m′ k′
+      pub upto-turn : m′ .cut ≡ false → MovedUpto p g to sgm m₀ k₀ L B m′ k′
       upto-turn c = record {
-        moves = subst (λ (x : ℕ). Moves p (m₀ .left) ss k₀ seg (movedStripes p g to B x) (m′ .left) k′) (sym (s .number c))
-            (moves-turn p r (m₀ .left) ss k₀ seg hz (movedStripes p g to A (m .next)) (movedStripes p g to B (m .next + length A)) (m .left) k
-            (madeBy m′) k′ stripes-parts (s .stored) c (λ e he. moved-misses p g to A (m .next) e seg he ne));
+        moves = subst (λ (x : ℕ). Moves p (m₀ .left) ss k₀ sgm (movedStripes p g to B x) (m′ .left) k′) (sym (s .number c))
+            (moves-turn p r (m₀ .left) ss k₀ sgm hz (movedStripes p g to A (m .next)) (movedStripes p g to B (m .next + length A)) (m .left) k
+            (madeBy m′) k′ stripes-parts (s .stored) c (λ e he. moved-misses p g to A (m .next) e sgm he (ne .0) hz (ne .1)));
         number = let e = s .number c in let f = u .number in let l = length-append A B in omega arith;
         uncut = c;
       }
 
 -- ---- as the code goes
 
-pub fit-one : (p : Params) (v : View) (g : Segment) (to s n : ℕ) → counts p 0 g s ≡ true → AllFit p v (movedStripes p g to (itself p g s) n) → AllFit p v (movedStripe p g to s n)
+pub fit-one : (p : Params) (v : View) (g : Segment) (to : Seg) (s n : ℕ) → counts p 0 g s ≡ true → AllFit p v (movedStripes p g to (itself p g s) n) → AllFit p v (movedStripe p g to s n)
 fit-one p v g to s n c f = subst (λ (l : List Store). AllFit p v l) (ap (λ (x : List ℕ). movedStripes p g to x n) (itself-counts p g s c) ∙ moved-one p g to s n) f
 
 pub from-start : (p : Params) (g : Segment) (b n : ℕ) → countedFrom p g b n ≡ countedFrom p g (b + 0) (n - 0)
 from-start p g b n = ap₂ (countedFrom p g) (sym (add-zero b)) (sym (sub-zero n))
 
 -- the segment that is read stays
-module _ (p : Params) (r : Ranged p) (w : Group) (ng : w .gone ≡ 0) (to : ℕ) (m₀ : Moved) (k₀ : Disk) (L T : List ℕ) (m : Moved) (k : Disk)
-    (u : MovedUpto p (segmentIn p (k₀ .image) (k₀ .pointers) w) to (w .seg) m₀ k₀ L T m k) where
+module _ (p : Params) (r : Ranged p) (w : Group) (ng : w .gone ≡ 0) (to : Seg) (m₀ : Moved) (k₀ : Disk) (L T : List ℕ) (m : Moved) (k : Disk)
+    (u : MovedUpto p (segmentIn p (k₀ .image) (k₀ .pointers) w) to (seg (w .seg)) m₀ k₀ L T m k) where
   abbrev g₀ : Segment
   g₀ = segmentIn p (k₀ .image) (k₀ .pointers) w
 
   pub upto-in : segmentIn p (k₀ .image) (k₀ .pointers) w ≡ segmentIn p (k .image) (k .pointers) w
-  upto-in = moves-in p r (m₀ .left) (movedStripes p g₀ to L (m₀ .next)) k₀ (w .seg) (movedStripes p g₀ to T (m .next)) (m .left) k (u .moves) w ng refl
+  upto-in = moves-in p r (m₀ .left) (movedStripes p g₀ to L (m₀ .next)) k₀ (seg (w .seg)) (movedStripes p g₀ to T (m .next)) (m .left) k (u .moves) w ng refl
 
-  pub upto-sealed : sealedIn p (seen p k₀) 0 (w .seg) ≡ sealedIn p (seen p k) 0 (w .seg)
-  upto-sealed = moves-sealed p r (m₀ .left) (movedStripes p g₀ to L (m₀ .next)) k₀ (w .seg) (movedStripes p g₀ to T (m .next)) (m .left) k (u .moves)
+  pub upto-sealed : sealedIn p (seen p k₀) 0 (seg (w .seg)) ≡ sealedIn p (seen p k) 0 (seg (w .seg))
+  upto-sealed = moves-sealed p r (m₀ .left) (movedStripes p g₀ to L (m₀ .next)) k₀ (seg (w .seg)) (movedStripes p g₀ to T (m .next)) (m .left) k (u .moves)
 
   pub upto-reads : (at : List ℕ) → GroupReads p (k₀ .image) (k₀ .pointers) w at → GroupReads p (k .image) (k .pointers) w at
-  upto-reads at x = moves-reads p r (m₀ .left) (movedStripes p g₀ to L (m₀ .next)) k₀ (w .seg) (movedStripes p g₀ to T (m .next)) (m .left) k (u .moves) w ng refl at x
+  upto-reads at x = moves-reads p r (m₀ .left) (movedStripes p g₀ to L (m₀ .next)) k₀ (seg (w .seg)) (movedStripes p g₀ to T (m .next)) (m .left) k (u .moves) w ng refl at x
 
   pub upto-step : (l : Segment → List ℕ) (m′ : Moved) (k′ : Disk) → StepMoved p (segmentIn p (k .image) (k .pointers) w) to (l (segmentIn p (k .image) (k .pointers) w)) m k m′ k′
       → StepMoved p (segmentIn p (k₀ .image) (k₀ .pointers) w) to (l (segmentIn p (k₀ .image) (k₀ .pointers) w)) m k m′ k′

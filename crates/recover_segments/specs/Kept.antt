@@ -11,20 +11,21 @@ use lib.ListN.{length-map, length, getD, set}
 use lib.Seq.{getD-set-same, getD-set-other}
 use Rattle.spec.specs.declared.Params.{Params}
 use Rattle.spec.specs.Bytes.{part}
-use Rattle.spec.specs.Drives.{View, pointerAt, viewOf, mkDisk, pointerOf, segmentNumbers, zoneOn, sealedIn}
+use Rattle.spec.specs.Drives.{View, pointerAt, viewOf, mkDisk, pointerOf, allSegs, zoneOn, sealedIn, Seg, seg, sameSeg}
 use Rattle.spec.specs.Layout.{headerSerial, headerCopied}
 use Rattle.spec.specs.Lists.{upFrom, below, all, any, consIf, keep, greatest, firstOr, isIn}
 use Rattle.spec.specs.Params.{unitLen, imageLen, pointersLen, placeOf, placeByte, drivesOf, present}
-use Rattle.spec.specs.Restart.{freeZones}
+use Rattle.spec.specs.Restart.{freeSegs}
 use Rattle.spec.specs.Segments.{lowDrive, headerAt, leftBy1, isCopy, remaining, Segment, segmentOf, segments, greatestSerial, unsealed}
-use Rattle.law_basic.specs.Geometry.{Ranged, capacity-low, zone-on-lt}
+use Rattle.law_basic.specs.Geometry.{Ranged, capacity-low}
 use Rattle.law_basic.specs.Ranges.{Test, test, and-both, upFrom-step, upFrom-end, below-start, map-append, map-map, keep-hit, keep-miss, keep-none, keep-below-same}
-use Rattle.law_basic.specs.Ranges.{all-keep-same, greatest-snoc, all-keep, keep-below-snoc}
+use Rattle.law_basic.specs.Ranges.{all-keep-same, any-same, greatest-snoc, all-keep, keep-below-snoc, keep-map}
 use Rattle.law_basic.specs.Ranges.Test.{yes!, no! }
+use Rattle.law_basic.specs.Segs.{seg-number, Named, zone-on-lt, keep-segs, any-segs, first-seg}
 use Rattle.law_views.specs.Views.{pointer-view, block-view}
 use Rattle.law_scans.specs.Scans.{any-keep}
 use Rattle.law_drives.specs.Frame.{any-mapped}
-use Rattle.law_drives.specs.Members.{keep-in, in-none, in-any, any-cong, map-cong, keep-keep, keep-map, in-below, below-in}
+use Rattle.law_drives.specs.Members.{keep-in, in-none, in-any, any-cong, map-cong, keep-keep, in-below, below-in}
 use Rattle.law_drives.specs.Tests.{and-false-right}
 use Rattle.recover_segments.specs.Remains.{isLeft, remainsHere, serialOf, LeftFlags, Keeps, Serials, otherSerial}
 
@@ -74,67 +75,71 @@ unfolding unitLen
 block-in-unit p = omega arith
 
 module _ (p : Params) (im ps : List ℕ) (h : length im ≡ imageLen p) (k : length ps ≡ pointersLen p) (r : Ranged p) where
-  pub header-bytes : (d g : ℕ) → d < p .N → g < p .Z → headerAt (viewOf p im ps) d g ≡ part (placeByte p (placeOf p d (zoneOn g d) 0)) (p .B) im
+  pub header-bytes : (d : ℕ) (g : Seg) → d < p .N → Named p g → headerAt (viewOf p im ps) d g ≡ part (placeByte p (placeOf p d (zoneOn g d) 0)) (p .B) im
   unfolding headerAt
   header-bytes d g hd hg =
       block-view p (mkDisk im ps) d (zoneOn g d) hd (zone-on-lt p g d hg) (record { image-long = h; pointers-long = k }) 0 (let x = capacity-low p r in omega (arith, x))
 
-  pub left-bytes : (gone g : ℕ) → g < p .Z
+  pub left-bytes : (gone : ℕ) (g : Seg) → Named p g
       → isLeft p (viewOf p im ps) gone g ≡ all (λ d. isIn gone d || not (eqb (pointerOf p ps d (zoneOn g d)) 0)) (below (p .N))
-  unfolding isLeft zoneOn present drivesOf below
+  unfolding isLeft present drivesOf below
   left-bytes gone g hg =
-      all-keep-same (λ d. not (isIn gone d)) (λ d. not (eqb (pointerAt (viewOf p im ps) d g) 0)) (λ d. not (eqb (pointerOf p ps d g) 0)) 0 (p .N)
-      (λ d _ hd. ap (λ (x : ℕ). not (eqb x 0)) (pointer-view p (mkDisk im ps) d g (omega arith) hg (record { image-long = h; pointers-long = k })))
-      ∙ all-keep (λ d. not (eqb (pointerOf p ps d g) 0)) (isIn gone) (below (p .N))
+      all-keep-same (λ d. not (isIn gone d)) (λ d. not (eqb (pointerAt (viewOf p im ps) d (zoneOn g d)) 0)) (λ d. not (eqb (pointerOf p ps d (zoneOn g d)) 0)) 0 (p .N)
+      (λ d _ hd. ap (λ (x : ℕ). not (eqb x 0)) (pointer-view p (mkDisk im ps) d (zoneOn g d) (omega arith) (zone-on-lt p g d hg) (record { image-long = h; pointers-long = k })))
+      ∙ all-keep (λ d. not (eqb (pointerOf p ps d (zoneOn g d)) 0)) (isIn gone) (below (p .N))
 
--- ---- the segments that remain
+-- ---- the segments that remain, by number
 
-pub remaining-keep : (p : Params) (v : View) (gone : ℕ) → remaining p v gone ≡ keep (remainsHere p v gone) (below (p .Z))
-unfolding remaining leftBy1 remainsHere isLeft segmentNumbers
-remaining-keep p v gone = keep-keep (λ g. not (isCopy v (lowDrive p gone) (leftBy1 p v gone) g)) (isLeft p v gone) (below (p .Z))
+pub remaining-keep : (p : Params) (v : View) (gone : ℕ) → remaining p v gone ≡ map seg (keep (λ g. remainsHere p v gone (seg g)) (below (p .Z)))
+unfolding remaining leftBy1 remainsHere isLeft
+remaining-keep p v gone =
+    keep-keep (λ g. not (isCopy v (lowDrive p gone) (leftBy1 p v gone) g)) (isLeft p v gone) (allSegs p) ∙ keep-segs p (remainsHere p v gone)
 
-pub segments-keep : (p : Params) (v : View) (gone : ℕ) → segments p v gone ≡ map (segmentOf p v gone) (keep (remainsHere p v gone) (below (p .Z)))
+pub segments-keep : (p : Params) (v : View) (gone : ℕ) → segments p v gone ≡ map (λ g. segmentOf p v gone (seg g)) (keep (λ g. remainsHere p v gone (seg g)) (below (p .Z)))
 unfolding segments
-segments-keep p v gone = ap (map (segmentOf p v gone)) (remaining-keep p v gone)
+segments-keep p v gone = ap (map (segmentOf p v gone)) (remaining-keep p v gone) ∙ map-map (segmentOf p v gone) seg (keep (λ g. remainsHere p v gone (seg g)) (below (p .Z)))
 
--- the segment numbers of segments as read
-pub segs-of : (p : Params) (v : View) (gone : ℕ) (l : List ℕ) → map (λ (s : Segment). s .seg) (map (segmentOf p v gone) l) ≡ l
+-- the segments of segments as read
+pub segs-of : (p : Params) (v : View) (gone : ℕ) (l : List ℕ) → map (λ (s : Segment). s .seg) (map (λ g. segmentOf p v gone (seg g)) l) ≡ map seg l
 unfolding segmentOf
 segs-of p v gone [] = refl
-segs-of p v gone (g ∷ l) = ap (λ (x : List ℕ). g ∷ x) (segs-of p v gone l)
+segs-of p v gone (g ∷ l) = ap (λ (x : List Seg). seg g ∷ x) (segs-of p v gone l)
 
 -- a segment is among them
-pub is-segment : (p : Params) (v : View) (gone z : ℕ) → z < p .Z → any (λ (s : Segment). eqb (s .seg) z) (segments p v gone) ≡ remainsHere p v gone z
+pub is-segment : (p : Params) (v : View) (gone z : ℕ) → z < p .Z → any (λ (s : Segment). sameSeg (s .seg) (seg z)) (segments p v gone) ≡ remainsHere p v gone (seg z)
 unfolding segmentOf
 is-segment p v gone z h =
-    ap (any (λ (s : Segment). eqb (s .seg) z)) (segments-keep p v gone)
-    ∙ any-mapped (λ (s : Segment). eqb (s .seg) z) (segmentOf p v gone) (keep (remainsHere p v gone) (below (p .Z)))
-    ∙ any-keep (remainsHere p v gone) (λ g. eqb g z) (below (p .Z))
-    ∙ any-one (remainsHere p v gone) (p .Z) z h
+    let on : ℕ → Bool = λ g. remainsHere p v gone (seg g) in
+    ap (any (λ (s : Segment). sameSeg (s .seg) (seg z))) (segments-keep p v gone)
+    ∙ any-mapped (λ (s : Segment). sameSeg (s .seg) (seg z)) (λ g. segmentOf p v gone (seg g)) (keep on (below (p .Z)))
+    ∙ any-same (λ g. sameSeg (seg g) (seg z)) (λ g. eqb g z) (keep on (below (p .Z))) (λ g. seg-number g z)
+    ∙ any-keep on (λ g. eqb g z) (below (p .Z))
+    ∙ any-one on (p .Z) z h
 
 -- 01, Restart, 2: another segment left by 1 has serial c
 other-is : (p : Params) (v : View) (gone : ℕ) (fl : List Bool) (ns : List ℕ) (g c : ℕ) → LeftFlags p v gone fl → Serials p v gone ns
-    → any (λ h. not (eqb h g) && eqb (headerSerial (headerAt v (lowDrive p gone) h)) c) (leftBy1 p v gone) ≡ otherSerial (p .Z) fl ns g c
-unfolding leftBy1 segmentNumbers isLeft otherSerial serialOf
+    → any (λ h. not (sameSeg h (seg g)) && eqb (headerSerial (headerAt v (lowDrive p gone) h)) c) (leftBy1 p v gone) ≡ otherSerial (p .Z) fl ns g c
+unfolding leftBy1 isLeft otherSerial serialOf
 other-is p v gone fl ns g c a b =
-    any-keep (isLeft p v gone) (λ h. not (eqb h g) && eqb (serialOf p v gone h) c) (below (p .Z))
-    ∙ any-cong (λ h. isLeft p v gone h && (not (eqb h g) && eqb (serialOf p v gone h) c)) (λ h. getD fl h false && (not (eqb h g) && eqb (getD ns h 0) c)) (below (p .Z))
-    (λ h m. λ j. sym (a .1 h (below-in (p .Z) h m)) j && (not (eqb h g) && eqb (sym (b .1 h (below-in (p .Z) h m)) j) c))
+    any-keep (isLeft p v gone) (λ h. not (sameSeg h (seg g)) && eqb (serialOf p v gone h) c) (allSegs p)
+    ∙ any-segs p (λ h. isLeft p v gone h && (not (sameSeg h (seg g)) && eqb (serialOf p v gone h) c))
+    ∙ any-cong (λ h. isLeft p v gone (seg h) && (not (sameSeg (seg h) (seg g)) && eqb (serialOf p v gone (seg h)) c)) (λ h. getD fl h false && (not (eqb h g) && eqb (getD ns h 0) c)) (below (p .Z))
+    (λ h m. λ j. sym (a .1 h (below-in (p .Z) h m)) j && (not (seg-number h g j) && eqb (sym (b .1 h (below-in (p .Z) h m)) j) c))
 
 -- 01, Restart, 1 and 2: whether a segment remains, by the flags and serials
 pub remains-is : (p : Params) (v : View) (gone : ℕ) (fl : List Bool) (ns : List ℕ) (g c : ℕ) → g < p .Z → LeftFlags p v gone fl → Serials p v gone ns
-    → c ≡ headerCopied (headerAt v (lowDrive p gone) g) → remainsHere p v gone g ≡ (getD fl g false && not (not (eqb c 0) && otherSerial (p .Z) fl ns g c))
+    → c ≡ headerCopied (headerAt v (lowDrive p gone) (seg g)) → remainsHere p v gone (seg g) ≡ (getD fl g false && not (not (eqb c 0) && otherSerial (p .Z) fl ns g c))
 unfolding remainsHere isCopy
 remains-is p v gone fl ns g c h a b e =
     λ j. sym (a .1 g h) j
     && not (not (eqb (sym e j) 0)
-    && (ap (λ (x : ℕ). any (λ h. not (eqb h g) && eqb (headerSerial (headerAt v (lowDrive p gone) h)) x) (leftBy1 p v gone)) (sym e)
+    && (ap (λ (x : ℕ). any (λ h. not (sameSeg h (seg g)) && eqb (headerSerial (headerAt v (lowDrive p gone) h)) x) (leftBy1 p v gone)) (sym e)
     ∙ other-is p v gone fl ns g c a b) j)
 
 -- ---- what the flags say of all
 
-flags-keep : (p : Params) (v : View) (gone : ℕ) (fl : List Bool) → Keeps p v gone fl → keep (remainsHere p v gone) (below (p .Z)) ≡ keep (λ g. getD fl g false) (below (p .Z))
-flags-keep p v gone fl a = keep-below-same (remainsHere p v gone) (λ g. getD fl g false) (p .Z) (λ g h. sym (a .1 g h))
+flags-keep : (p : Params) (v : View) (gone : ℕ) (fl : List Bool) → Keeps p v gone fl → keep (λ g. remainsHere p v gone (seg g)) (below (p .Z)) ≡ keep (λ g. getD fl g false) (below (p .Z))
+flags-keep p v gone fl a = keep-below-same (λ g. remainsHere p v gone (seg g)) (λ g. getD fl g false) (p .Z) (λ g h. sym (a .1 g h))
 
 -- the greatest of the flagged among the first n
 unfoldable pub greatestIn : ℕ → List Bool → List ℕ → ℕ
@@ -164,35 +169,46 @@ pub greatest-all : (p : Params) (v : View) (gone : ℕ) (fl : List Bool) (ns : L
 unfolding greatestIn greatestSerial segmentOf serialOf
 greatest-all p v gone fl ns a b =
     let on : ℕ → Bool = λ g. getD fl g false in
-    let q : map (λ (s : Segment). s .serial) (segments p v gone) ≡ map (serialOf p v gone) (keep on (below (p .Z))) =
+    let q : map (λ (s : Segment). s .serial) (segments p v gone) ≡ map (λ g. serialOf p v gone (seg g)) (keep on (below (p .Z))) =
     ap (map (λ (s : Segment). s .serial)) (segments-keep p v gone)
-    ∙ map-map (λ (s : Segment). s .serial) (segmentOf p v gone) (keep (remainsHere p v gone) (below (p .Z)))
-    ∙ ap (map (serialOf p v gone)) (flags-keep p v gone fl a) in
-    ap greatest (map-cong (λ g. getD ns g 0) (serialOf p v gone) (keep on (below (p .Z))) (λ g m. b .1 g (below-in (p .Z) g (keep-in on (below (p .Z)) g m .0))) ∙ sym q)
+    ∙ map-map (λ (s : Segment). s .serial) (λ g. segmentOf p v gone (seg g)) (keep (λ g. remainsHere p v gone (seg g)) (below (p .Z)))
+    ∙ ap (map (λ g. serialOf p v gone (seg g))) (flags-keep p v gone fl a) in
+    ap greatest (map-cong (λ g. getD ns g 0) (λ g. serialOf p v gone (seg g)) (keep on (below (p .Z))) (λ g m. b .1 g (below-in (p .Z) g (keep-in on (below (p .Z)) g m .0))) ∙ sym q)
 
 -- 01, Restart, 4: the zones whose segment doesn't remain
 pub free-list : (p : Params) (v : View) (gone : ℕ) (fl : List Bool) → Keeps p v gone fl
-    → freeZones p (segments p v gone) ≡ keep (λ z. not (getD fl z false)) (below (p .Z))
-unfolding freeZones segmentNumbers
+    → freeSegs p (segments p v gone) ≡ map seg (keep (λ z. not (getD fl z false)) (below (p .Z)))
+unfolding freeSegs
 free-list p v gone fl a =
-    keep-below-same (λ z. not (any (λ (s : Segment). eqb (s .seg) z) (segments p v gone))) (λ z. not (getD fl z false)) (p .Z)
-    (λ z h. ap not (is-segment p v gone z h ∙ sym (a .1 z h)))
+    keep-segs p (λ z. not (any (λ (s : Segment). sameSeg (s .seg) z) (segments p v gone)))
+    ∙ ap (map seg) (keep-below-same (λ z. not (any (λ (s : Segment). sameSeg (s .seg) (seg z)) (segments p v gone))) (λ z. not (getD fl z false)) (p .Z)
+    (λ z h. ap not (is-segment p v gone z h ∙ sym (a .1 z h))))
+
+-- the first of them
+pub free-first : (p : Params) (v : View) (gone n : ℕ) (fl : List Bool) → Keeps p v gone fl
+    → firstOr (seg n) (freeSegs p (segments p v gone)) ≡ seg (firstOr n (keep (λ z. not (getD fl z false)) (below (p .Z))))
+free-first p v gone n fl a = ap (firstOr (seg n)) (free-list p v gone fl a) ∙ first-seg n (keep (λ z. not (getD fl z false)) (below (p .Z)))
 
 -- 01, Restart, 4: the unsealed segments
 pub unsealed-list : (p : Params) (v : View) (gone : ℕ) (fl : List Bool) → Keeps p v gone fl
-    → unsealed (segments p v gone) ≡ map (segmentOf p v gone) (keep (λ g. getD fl g false && not (sealedIn p v gone g)) (below (p .Z)))
+    → unsealed (segments p v gone) ≡ map (λ g. segmentOf p v gone (seg g)) (keep (λ g. getD fl g false && not (sealedIn p v gone (seg g))) (below (p .Z)))
 unfolding unsealed segmentOf
 unsealed-list p v gone fl a =
-    ap (keep (λ (s : Segment). not (s .full))) (segments-keep p v gone ∙ ap (map (segmentOf p v gone)) (flags-keep p v gone fl a))
-    ∙ keep-map (λ (s : Segment). not (s .full)) (segmentOf p v gone) (keep (λ g. getD fl g false) (below (p .Z)))
-    ∙ ap (map (segmentOf p v gone)) (keep-keep (λ g. not (sealedIn p v gone g)) (λ g. getD fl g false) (below (p .Z)))
+    ap (keep (λ (s : Segment). not (s .full))) (segments-keep p v gone ∙ ap (map (λ g. segmentOf p v gone (seg g))) (flags-keep p v gone fl a))
+    ∙ keep-map (λ (s : Segment). not (s .full)) (λ g. segmentOf p v gone (seg g)) (keep (λ g. getD fl g false) (below (p .Z)))
+    ∙ ap (map (λ g. segmentOf p v gone (seg g))) (keep-keep (λ g. not (sealedIn p v gone (seg g))) (λ g. getD fl g false) (below (p .Z)))
 
 pub unsealed-segs : (p : Params) (v : View) (gone : ℕ) (fl : List Bool) → Keeps p v gone fl
-    → map (λ (s : Segment). s .seg) (unsealed (segments p v gone)) ≡ keep (λ g. getD fl g false && not (sealedIn p v gone g)) (below (p .Z))
+    → map (λ (s : Segment). s .seg) (unsealed (segments p v gone)) ≡ map seg (keep (λ g. getD fl g false && not (sealedIn p v gone (seg g))) (below (p .Z)))
 unsealed-segs p v gone fl a =
-    ap (map (λ (s : Segment). s .seg)) (unsealed-list p v gone fl a) ∙ segs-of p v gone (keep (λ g. getD fl g false && not (sealedIn p v gone g)) (below (p .Z)))
+    ap (map (λ (s : Segment). s .seg)) (unsealed-list p v gone fl a) ∙ segs-of p v gone (keep (λ g. getD fl g false && not (sealedIn p v gone (seg g))) (below (p .Z)))
+
+pub unsealed-first : (p : Params) (v : View) (gone n : ℕ) (fl : List Bool) → Keeps p v gone fl
+    → firstOr (seg n) (map (λ (s : Segment). s .seg) (unsealed (segments p v gone))) ≡ seg (firstOr n (keep (λ g. getD fl g false && not (sealedIn p v gone (seg g))) (below (p .Z))))
+unsealed-first p v gone n fl a =
+    ap (firstOr (seg n)) (unsealed-segs p v gone fl a) ∙ first-seg n (keep (λ g. getD fl g false && not (sealedIn p v gone (seg g))) (below (p .Z)))
 
 pub unsealed-length : (p : Params) (v : View) (gone : ℕ) (fl : List Bool) → Keeps p v gone fl
-    → length (unsealed (segments p v gone)) ≡ length (keep (λ g. getD fl g false && not (sealedIn p v gone g)) (below (p .Z)))
+    → length (unsealed (segments p v gone)) ≡ length (keep (λ g. getD fl g false && not (sealedIn p v gone (seg g))) (below (p .Z)))
 unsealed-length p v gone fl a =
-    ap length (unsealed-list p v gone fl a) ∙ length-map (keep (λ g. getD fl g false && not (sealedIn p v gone g)) (below (p .Z))) (segmentOf p v gone)
+    ap length (unsealed-list p v gone fl a) ∙ length-map (keep (λ g. getD fl g false && not (sealedIn p v gone (seg g))) (below (p .Z))) (λ g. segmentOf p v gone (seg g))

@@ -1,18 +1,18 @@
 // Which segments remain, by the headers and the write pointers (01, Restart, 1 and 2).
 ghost use mathlib.Core.Path.{_≡_};
-ghost use mathlib.Core.Bool.{Bool, true, false, cond, not, _&&_, _||_};
+ghost use mathlib.Core.Bool.{true, false, cond, not, _&&_, _||_};
 ghost use mathlib.Core.List.{List, map};
 ghost use Prim.Native.Nat.{ℕ, _≤_, _<_, max};
 ghost use lib.Dec.{eqb};
 ghost use lib.ListN.{length, getD};
-ghost use Rattle.spec.specs.Drives.{View, viewOf, mkDisk, pointerOf, zoneOn, sealedIn};
+ghost use Rattle.spec.specs.Drives.{View, viewOf, mkDisk, pointerOf, zoneOn, sealedIn, seg};
 ghost use Rattle.spec.specs.Layout.{headerSerial, headerCopied};
 ghost use Rattle.spec.specs.Lists.{firstOr, isIn};
 ghost use Rattle.spec.specs.Params.{inRange, imageLen, pointersLen};
-ghost use Rattle.spec.specs.Restart.{freeZones};
-ghost use Rattle.spec.specs.Segments.{Segment, lowDrive, headerAt, isCopy, leftBy1, segments, greatestSerial, unsealed};
+ghost use Rattle.spec.specs.Restart.{freeSegs};
+ghost use Rattle.spec.specs.Segments.{Segment, lowDrive, headerAt, segments, greatestSerial, unsealed};
 ghost use Rattle.law_views.specs.Views.{Whole};
-ghost use Rattle.recover_segments.specs.Remains.{Keeping, isLeft, remainsHere, serialOf, otherSerial, LeftFlags, Keeps, Serials};
+ghost use Rattle.recover_segments.specs.Remains.{Keeping, isLeft, remainsHere, otherSerial, LeftFlags, Keeps, Serials};
 use spec::Params;
 use spec::Serial;
 
@@ -37,7 +37,7 @@ pub fn low_drive(p: Params, gone: u8) -> usize
 pub fn serial_on(p: Params, image: &[u8], drive: usize, segment: usize) -> Serial
     requires { ⌜ inRange p ≡ true ⌝ }
     requires { ⌜ (length (now image) ≡ imageLen p) × (drive < p .N) × (segment < p .Z) ⌝ }
-    ensures { λ r. ⌜ ((ps : List ℕ) → length ps ≡ pointersLen p → r .0 ≡ headerSerial (headerAt (viewOf p (now (image .entry)) ps) drive segment)) ⌝ }
+    ensures { λ r. ⌜ ((ps : List ℕ) → length ps ≡ pointersLen p → r .0 ≡ headerSerial (headerAt (viewOf p (now (image .entry)) ps) drive (seg segment))) ⌝ }
 {
     let a = disk_shape::block_byte(p, drive, disk_shape::zone_on(segment, drive), 0);
     let e = a + p.B;
@@ -48,7 +48,7 @@ pub fn serial_on(p: Params, image: &[u8], drive: usize, segment: usize) -> Seria
 pub fn copied_on(p: Params, image: &[u8], drive: usize, segment: usize) -> Serial
     requires { ⌜ inRange p ≡ true ⌝ }
     requires { ⌜ (length (now image) ≡ imageLen p) × (drive < p .N) × (segment < p .Z) ⌝ }
-    ensures { λ r. ⌜ ((ps : List ℕ) → length ps ≡ pointersLen p → r .0 ≡ headerCopied (headerAt (viewOf p (now (image .entry)) ps) drive segment)) ⌝ }
+    ensures { λ r. ⌜ ((ps : List ℕ) → length ps ≡ pointersLen p → r .0 ≡ headerCopied (headerAt (viewOf p (now (image .entry)) ps) drive (seg segment))) ⌝ }
 {
     let a = disk_shape::block_byte(p, drive, disk_shape::zone_on(segment, drive), 0);
     let e = a + p.B;
@@ -76,7 +76,7 @@ fn read_serials(p: Params, image: &[u8], gone: u8, out: &mut [u64])
 fn is_used(p: Params, pointers: &[u8], gone: u8, drive: usize, segment: usize) -> bool
     requires { ⌜ inRange p ≡ true ⌝ }
     requires { ⌜ (length (now pointers) ≡ pointersLen p) × (drive < p .N) × (segment < p .Z) ⌝ }
-    ensures { λ r. ⌜ r ≡ (isIn gone drive || not (eqb (pointerOf p (now (pointers .entry)) drive (zoneOn segment drive)) 0)) ⌝ }
+    ensures { λ r. ⌜ r ≡ (isIn gone drive || not (eqb (pointerOf p (now (pointers .entry)) drive (zoneOn (seg segment) drive)) 0)) ⌝ }
 {
     if bits_masks::has_drive(gone, drive) {
         return true;
@@ -88,7 +88,7 @@ fn is_used(p: Params, pointers: &[u8], gone: u8, drive: usize, segment: usize) -
 fn is_left(p: Params, pointers: &[u8], gone: u8, g: usize) -> bool
     requires { ⌜ inRange p ≡ true ⌝ }
     requires { ⌜ (length (now pointers) ≡ pointersLen p) × (g < p .Z) ⌝ }
-    ensures { λ r. ⌜ ((im : List ℕ) → length im ≡ imageLen p → r ≡ isLeft p (viewOf p im (now (pointers .entry))) gone g) ⌝ }
+    ensures { λ r. ⌜ ((im : List ℕ) → length im ≡ imageLen p → r ≡ isLeft p (viewOf p im (now (pointers .entry))) gone (seg g)) ⌝ }
 {
     let mut d = 0;
     while d < p.N {
@@ -151,7 +151,7 @@ fn is_kept(p: Params, image: &[u8], low: usize, flags: &[bool], serials: &[u64],
         → low ≡ lowDrive p gone
         → LeftFlags p (viewOf p (now (image .entry)) ps) gone (now (flags .entry))
         → Serials p (viewOf p (now (image .entry)) ps) gone (now (serials .entry))
-        → r ≡ remainsHere p (viewOf p (now (image .entry)) ps) gone g) ⌝ }
+        → r ≡ remainsHere p (viewOf p (now (image .entry)) ps) gone (seg g)) ⌝ }
 {
     if !flags[g] {
         return false;
@@ -231,7 +231,7 @@ pub fn greatest_serial(p: Params, kept: &[bool], serials: &[u64]) -> Serial
 pub fn lowest_free(p: Params, kept: &[bool]) -> usize
     requires { ⌜ p .Z ≤ length (now kept) ⌝ }
     ensures { λ r. ⌜ r ≤ p .Z ⌝ }
-    ensures { λ r. ⌜ ((v : View) (gone : ℕ) → Keeps p v gone (now (kept .entry)) → r ≡ firstOr (p .Z) (freeZones p (segments p v gone))) ⌝ }
+    ensures { λ r. ⌜ ((v : View) (gone : ℕ) → Keeps p v gone (now (kept .entry)) → seg r ≡ firstOr (seg (p .Z)) (freeSegs p (segments p v gone))) ⌝ }
 {
     let mut z = 0;
     while z < p.Z {
@@ -247,7 +247,7 @@ pub fn lowest_free(p: Params, kept: &[bool]) -> usize
 pub fn is_unsealed(p: Params, pointers: &[u8], gone: u8, kept: &[bool], g: usize) -> bool
     requires { ⌜ inRange p ≡ true ⌝ }
     requires { ⌜ (length (now pointers) ≡ pointersLen p) × (p .Z ≤ length (now kept)) × (g < p .Z) ⌝ }
-    ensures { λ r. ⌜ ((im : List ℕ) → length im ≡ imageLen p → r ≡ (getD (now (kept .entry)) g false && not (sealedIn p (viewOf p im (now (pointers .entry))) gone g))) ⌝ }
+    ensures { λ r. ⌜ ((im : List ℕ) → length im ≡ imageLen p → r ≡ (getD (now (kept .entry)) g false && not (sealedIn p (viewOf p im (now (pointers .entry))) gone (seg g)))) ⌝ }
 {
     if !kept[g] {
         return false;
@@ -264,7 +264,7 @@ pub fn first_unsealed(p: Params, pointers: &[u8], gone: u8, kept: &[bool]) -> us
         ((im : List ℕ)
         → length im ≡ imageLen p
         → Keeps p (viewOf p im (now (pointers .entry))) gone (now (kept .entry))
-        → r ≡ firstOr (p .Z) (map (λ (s : Segment). s .seg) (unsealed (segments p (viewOf p im (now (pointers .entry))) gone)))) ⌝ }
+        → seg r ≡ firstOr (seg (p .Z)) (map (λ (s : Segment). s .seg) (unsealed (segments p (viewOf p im (now (pointers .entry))) gone)))) ⌝ }
 {
     let mut g = 0;
     while g < p.Z {

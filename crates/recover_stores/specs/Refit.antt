@@ -1,10 +1,10 @@
 -- A healthy restart's stores: resets, then missing footers or the rewrite (01, Restart, 4). Assumes nothing.
 use Prim.Native.Nat.{ℕ, suc, _+_, _≤_, _<_}
 use Rattle.spec.specs.Counts.{lastCount}
-use Rattle.spec.specs.Drives.{View, pointerAt, Store, storeView, Disk, pointerOf, storeAll, sealedIn}
-use Rattle.spec.specs.Lists.{below, any, keep, isNil, flat, firstOr}
+use Rattle.spec.specs.Drives.{View, pointerAt, Store, storeView, Disk, pointerOf, storeAll, allSegs, zoneOn, sealedIn, Seg, seg}
+use Rattle.spec.specs.Lists.{any, keep, isNil, flat, firstOr}
 use Rattle.spec.specs.Params.{capacity}
-use Rattle.spec.specs.Restart.{freeZones, isWhole, isRagged, missingFooters, rewriteStores, dropStores, mendStores, restartStores, rewrites}
+use Rattle.spec.specs.Restart.{freeSegs, isWhole, isRagged, missingFooters, rewriteStores, dropStores, mendStores, restartStores, rewrites}
 use Rattle.spec.specs.Segments.{Segment, segmentOf, segments, greatestSerial, unsealed}
 use Rattle.spec.specs.declared.Params.{Params}
 use Rattle.recover_drop.specs.Dropped.{droppedBy, dropped-are}
@@ -14,14 +14,15 @@ use Rattle.recover_groups.specs.Groups.{recsFault}
 use Rattle.law_basic.specs.Geometry.{Ranged}
 use Rattle.law_basic.specs.Mask.{isIn-empty}
 use Rattle.law_basic.specs.Ranges.{flat-none, flat-cons}
+use Rattle.law_basic.specs.Segs.{Named, named-lt, OtherSeg, zone-on-lt}
 use Rattle.recover_segments.specs.Kept.{is-segment}
 use Rattle.recover_segments.specs.Remains.{serialOf, Keeps}
 use Rattle.law_restart.specs.Frames.{seen-after}
 use Rattle.law_restart.specs.Settled.{healthy-stores, settled}
 use Rattle.law_drives.specs.Accept.{Accepted, pointer-ok, faults-apart}
 use Rattle.law_drives.specs.Dropping.{free-are, drop-same, drop-empty}
-use Rattle.law_drives.specs.Members.{In, keep-in, in-any, below-in, first-in, first-any}
-use Rattle.law_drives.specs.Segs.{seg-is, serial-is}
+use Rattle.law_drives.specs.Members.{In, keep-in, in-any, first-in, first-any}
+use Rattle.law_drives.specs.Segs.{segs-in, seg-is, serial-is}
 use Rattle.law_drives.specs.Settled.{SameZones, zones-sealed, zones-pointer, zones-segment}
 use Rattle.law_drives.specs.Tables.{remains, in-remaining}
 use Rattle.law_drives.specs.Tests.{clash}
@@ -44,7 +45,7 @@ pub record RefitReady (p : Params) (v : View) : Type 0 where
   pub shaped : Shaped p v
   pub accepted : Accepted p v 0
   pub sixth : rewrites p 0 (segments p v 0) && eqb (greatestSerial (segments p v 0)) lastCount ≡ false
-  pub eighth : rewrites p 0 (segments p v 0) && isNil (freeZones p (segments p v 0)) ≡ false
+  pub eighth : rewrites p 0 (segments p v 0) && isNil (freeSegs p (segments p v 0)) ≡ false
 
 -- what is said of the unsealed segment: all its stripes count; it is rewritten
 abbrev pub MendMarks : Params → List Segment → Bool → Bool → Type 0
@@ -101,7 +102,7 @@ module _ (p : Params) (r : Ranged p) (n : ℕ) (k₀ : Disk) (w : Whole p k₀) 
 
       pub refit-none :
           (sg : ℕ)
-          → sg ≡ firstOr (p .Z) (map (λ (s : Segment). s .seg) (unsealed (segments p (seen p k₀) 0)))
+          → seg sg ≡ firstOr (seg (p .Z)) (map (λ (s : Segment). s .seg) (unsealed (segments p (seen p k₀) 0)))
           → p .Z ≤ sg
           → Storing p n (restartStores p 0 (segments p (seen p k₀) 0)) k₀ m₁ k₁
       refit-none sg e h = go (loose p r v sh acc)
@@ -109,36 +110,39 @@ module _ (p : Params) (r : Ranged p) (n : ℕ) (k₀ : Disk) (w : Whole p k₀) 
           go : Loose p v → Storing p n ss k₀ m₁ k₁
           go (loose-none f o) = as-made (ap (flat (mendStores p gs)) f ∙ flat-none (mendStores p gs))
           go (loose-one g hg kg ng us oth) = absurd (
-              let q : sg ≡ g = e ∙ ap (λ (l : List Segment). firstOr (p .Z) (map (λ (s : Segment). s .seg) l)) us ∙ head g ∙ seg-is p v 0 g in
-              let bad : ⊥ = omega arith in bad)
+              let q : seg sg ≡ g = e ∙ ap (λ (l : List Segment). firstOr (seg (p .Z)) (map (λ (s : Segment). s .seg) l)) us ∙ head g ∙ seg-is p v 0 g in
+              let low : sg < p .Z = named-lt p (seg sg) (subst (λ (y : Seg). Named p y) (sym q) hg) in
+              let bad : ⊥ = omega (arith, low, h) in bad)
             where
-              head : (g : ℕ) → firstOr (p .Z) (map (λ (s : Segment). s .seg) (segmentOf p v 0 g ∷ [])) ≡ segmentOf p v 0 g .seg
+              head : (g : Seg) → firstOr (seg (p .Z)) (map (λ (s : Segment). s .seg) (segmentOf p v 0 g ∷ [])) ≡ segmentOf p v 0 g .seg
               head g = unfold firstOr in refl
 
       -- ---- the unsealed segment
 
-      pub record Only (sg : ℕ) : Type 0 where
+      pub record Only (sg : Seg) : Type 0 where
         pub kept : remains p (seen p k₀) 0 sg ≡ true
         pub open! : sealedIn p (seen p k₀) 0 sg ≡ false
         pub is-it : unsealed (segments p (seen p k₀) 0) ≡ segmentOf p (seen p k₀) 0 sg ∷ []
-        pub others : (y : ℕ) → y < p .Z → remains p (seen p k₀) 0 y ≡ true → (y ≡ sg → ⊥) → sealedIn p (seen p k₀) 0 y ≡ true
+        pub others : (y : Seg) → Named p y → remains p (seen p k₀) 0 y ≡ true → (y ≡ sg → ⊥) → sealedIn p (seen p k₀) 0 y ≡ true
 
-      pub only-unsealed : (sg : ℕ) → sg ≡ firstOr (p .Z) (map (λ (s : Segment). s .seg) (unsealed (segments p (seen p k₀) 0))) → sg < p .Z → Only sg
+      pub only-unsealed : (sg : ℕ) → seg sg ≡ firstOr (seg (p .Z)) (map (λ (s : Segment). s .seg) (unsealed (segments p (seen p k₀) 0))) → sg < p .Z → Only (seg sg)
       only-unsealed sg e h = go (loose p r v sh acc)
         where
-          none : firstOr (p .Z) (map (λ (s : Segment). s .seg) []) ≡ p .Z
+          none : firstOr (seg (p .Z)) (map (λ (s : Segment). s .seg) []) ≡ seg (p .Z)
           none = unfold firstOr in refl
 
-          head : (g : ℕ) → firstOr (p .Z) (map (λ (s : Segment). s .seg) (segmentOf p v 0 g ∷ [])) ≡ segmentOf p v 0 g .seg
+          head : (g : Seg) → firstOr (seg (p .Z)) (map (λ (s : Segment). s .seg) (segmentOf p v 0 g ∷ [])) ≡ segmentOf p v 0 g .seg
           head g = unfold firstOr in refl
 
-          go : Loose p v → Only sg
-          go (loose-none f o) = absurd (let q : sg ≡ p .Z = e ∙ ap (λ (l : List Segment). firstOr (p .Z) (map (λ (s : Segment). s .seg) l)) f ∙ none in let bad : ⊥ = omega arith in bad)
+          go : Loose p v → Only (seg sg)
+          go (loose-none f o) = absurd (
+              let q : sg ≡ p .Z = ap (λ (y : Seg). y .name) (e ∙ ap (λ (l : List Segment). firstOr (seg (p .Z)) (map (λ (s : Segment). s .seg) l)) f ∙ none) in
+              let bad : ⊥ = omega arith in bad)
           go (loose-one g hg kg ng us oth) =
-              let q : g ≡ sg = sym (e ∙ ap (λ (l : List Segment). firstOr (p .Z) (map (λ (s : Segment). s .seg) l)) us ∙ head g ∙ seg-is p v 0 g) in
-              subst (λ (y : ℕ). Only y) q (record { kept = kg; open! = ng; is-it = us; others = oth })
+              let q : g ≡ seg sg = sym (e ∙ ap (λ (l : List Segment). firstOr (seg (p .Z)) (map (λ (s : Segment). s .seg) l)) us ∙ head g ∙ seg-is p v 0 g) in
+              subst (λ (y : Seg). Only y) q (record { kept = kg; open! = ng; is-it = us; others = oth })
 
-      module _ (sg : ℕ) (hs : sg < p .Z) (o : Only sg) where
+      module _ (sg : Seg) (hs : Named p sg) (o : Only sg) where
         abbrev x : Segment
         x = segmentOf p (seen p k₀) 0 sg
 
@@ -172,10 +176,14 @@ module _ (p : Params) (r : Ranged p) (n : ℕ) (k₀ : Disk) (w : Whole p k₀) 
           pub feet-fit : AllFit p (seen p k₁) (missingFooters p (segmentOf p (seen p k₁) 0 sg))
           feet-fit = subst (λ (y : Segment). AllFit p (seen p k₁) (missingFooters p y)) dropped-same (feet-due .fits)
 
-          pub feet-pointers : (d : ℕ) → d < p .N → (1 + p .S ≤ pointerOf p (k₁ .pointers) d sg) × (pointerOf p (k₁ .pointers) d sg ≤ capacity p)
+          pub feet-pointers : (d : ℕ) → d < p .N → (1 + p .S ≤ pointerOf p (k₁ .pointers) d (zoneOn sg d)) × (pointerOf p (k₁ .pointers) d (zoneOn sg d) ≤ capacity p)
           feet-pointers d hd =
-              let e : pointerAt v d sg ≡ pointerOf p (k₁ .pointers) d sg = zones-pointer p r v (seen p k₁) sg stays d hd ∙ pointer-view p k₁ d sg hd hs refit-whole in
-              (subst (λ (y : ℕ). 1 + p .S ≤ y) e (whole-pointer p r v sh acc sg hs (o .kept) (o .open!) wh d hd), subst (λ (y : ℕ). y ≤ capacity p) e (pointer-ok p v 0 acc d sg hd hs (isIn-empty d)))
+              let low : zoneOn sg d < p .Z = zone-on-lt p sg d hs in
+              let e : pointerAt v d (zoneOn sg d) ≡ pointerOf p (k₁ .pointers) d (zoneOn sg d) =
+              zones-pointer p r v (seen p k₁) sg stays d hd ∙ pointer-view p k₁ d (zoneOn sg d) hd low refit-whole in (
+                subst (λ (y : ℕ). 1 + p .S ≤ y) e (whole-pointer p r v sh acc sg hs (o .kept) (o .open!) wh d hd),
+                subst (λ (y : ℕ). y ≤ capacity p) e (pointer-ok p v 0 acc d (zoneOn sg d) hd low (isIn-empty d)),
+              )
 
           pub refit-feet : (m : Made) (k′ : Disk) → Storing p (m₁ .left) (missingFooters p (segmentOf p (seen p k₁) 0 sg)) k₁ m k′ → Storing p n (restartStores p 0 (segments p (seen p k₀) 0)) k₀ m k′
           refit-feet m k′ s = feet-due .owes m k′ (subst (λ (y : Segment). Storing p (m₁ .left) (missingFooters p y) k₁ m k′) (sym dropped-same) s)
@@ -189,27 +197,32 @@ module _ (p : Params) (r : Ranged p) (n : ℕ) (k₀ : Disk) (w : Whole p k₀) 
               as! : any (isRagged p) (unsealed gs) ≡ true → rewrites p 0 gs ≡ true
               as! q = unfold rewrites in q
 
-          some! : isNil (freeZones p gs) ≡ false
-          some! = sym (ap (λ (b : Bool). b && isNil (freeZones p gs)) due!) ∙ sn .eighth
+          some! : isNil (freeSegs p gs) ≡ false
+          some! = sym (ap (λ (b : Bool). b && isNil (freeSegs p gs)) due!) ∙ sn .eighth
 
           pub serial-left : greatestSerial (segments p (seen p k₀) 0) ≡ lastCount → ⊥
           serial-left = eqb-false (greatestSerial gs) lastCount (sym (ap (λ (b : Bool). b && eqb (greatestSerial gs) lastCount) due!) ∙ sn .sixth)
 
-          module _ (to : ℕ) (et : to ≡ firstOr (p .Z) (freeZones p (segments p (seen p k₀) 0))) where
-            to-free : In to (keep (λ z. not (remains p v 0 z)) (below (p .Z)))
-            to-free = subst (λ (l : List ℕ). In to l) (free-are p r v sh acc) (subst (λ (y : ℕ). In y (freeZones p gs)) (sym et) (first-in (freeZones p gs) (p .Z) some!))
+          module _ (to : Seg) (et : to ≡ firstOr (seg (p .Z)) (freeSegs p (segments p (seen p k₀) 0))) where
+            to-free : In to (keep (λ z. not (remains p v 0 z)) (allSegs p))
+            to-free = subst (λ (l : List Seg). In to l) (free-are p r v sh acc) (subst (λ (y : Seg). In y (freeSegs p gs)) (sym et) (first-in (freeSegs p gs) (seg (p .Z)) some!))
 
-            pub to-low : to < p .Z
-            to-low = below-in (p .Z) to (keep-in (λ z. not (remains p v 0 z)) (below (p .Z)) to to-free .0)
+            to-named : Named p to
+            to-named = segs-in p to (keep-in (λ z. not (remains p v 0 z)) (allSegs p) to to-free .0)
+
+            pub to-low : to .name < p .Z
+            to-low = named-lt p to to-named
 
             gone! : remains p v 0 to ≡ false
-            gone! = not-true (remains p v 0 to) (keep-in (λ z. not (remains p v 0 z)) (below (p .Z)) to to-free .1)
+            gone! = not-true (remains p v 0 to) (keep-in (λ z. not (remains p v 0 z)) (allSegs p) to to-free .1)
 
-            pub to-apart : to ≡ sg → ⊥
-            to-apart e = clash (o .kept) (subst (λ (y : ℕ). remains p v 0 y ≡ false) e gone!)
+            pub to-apart : OtherSeg p to sg
+            to-apart = (to-named, λ e. clash (o .kept) (subst (λ (y : Seg). remains p v 0 y ≡ false) e gone!))
 
-            pub to-empty : (d : ℕ) → d < p .N → pointerOf p (k₁ .pointers) d to ≡ 0
-            to-empty d hd = sym (pointer-view p k₁ d to hd to-low refit-whole) ∙ ap (λ (u : View). pointerAt u d to) seen-dropped ∙ drop-empty p r v sh acc to to-low gone! d hd
+            pub to-empty : (d : ℕ) → d < p .N → pointerOf p (k₁ .pointers) d (zoneOn to d) ≡ 0
+            to-empty d hd =
+                sym (pointer-view p k₁ d (zoneOn to d) hd (zone-on-lt p to d to-named) refit-whole)
+                ∙ ap (λ (u : View). pointerAt u d (zoneOn to d)) seen-dropped ∙ drop-empty p r v sh acc to to-named gone! d hd
 
             pub still-open : sealedIn p (seen p k₁) 0 sg ≡ false
             still-open = sym (zones-sealed p r v (seen p k₁) sg stays) ∙ o .open!
@@ -226,9 +239,9 @@ module _ (p : Params) (r : Ranged p) (n : ℕ) (k₀ : Disk) (w : Whole p k₀) 
 
             module _ (serial : ℕ) (es : serial ≡ suc (greatestSerial (segments p (seen p k₀) 0))) where
               ragged! : mendStores p gs x ≡ rewriteStores p x to serial
-              ragged! = as! ∙ (λ j. rewriteStores p x (sym (et ∙ first-any (p .Z) 0 (freeZones p gs) some!) j) (sym es j))
+              ragged! = as! ∙ (λ j. rewriteStores p x (sym (et ∙ first-any (seg (p .Z)) (seg 0) (freeSegs p gs) some!) j) (sym es j))
                 where
-                  as! : mendStores p gs x ≡ rewriteStores p x (firstOr 0 (freeZones p gs)) (suc (greatestSerial gs))
+                  as! : mendStores p gs x ≡ rewriteStores p x (firstOr (seg 0) (freeSegs p gs)) (suc (greatestSerial gs))
                   as! = unfold mendStores in rw (nw, rg)
 
               moves : Going p n ss k₀ (rewriteStores p x to serial) (m₁ .left) k₁

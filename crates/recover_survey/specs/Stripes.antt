@@ -17,7 +17,7 @@ use Rattle.recover_groups.specs.Chunks.{recs-short, chunks-counts, chunks-some}
 use Rattle.recover_groups.specs.Faulty.{any-swap, recs-fault-groups, recs-fault-is, no-group-fault}
 use Rattle.recover_groups.specs.Groups.{groupLen, basesFrom, groupFault, recsFault, Indexed, segmentIn}
 use Rattle.spec.specs.declared.Params.{Params}
-use Rattle.spec.specs.Drives.{View, viewOf, sealedIn}
+use Rattle.spec.specs.Drives.{View, viewOf, sealedIn, Seg, seg}
 use Rattle.spec.specs.Faults.{stripeFault, badRec, storedBad, decodedBad, addressFault}
 use Rattle.spec.specs.Layout.{isData, Rec}
 use Rattle.spec.specs.Lists.{upFrom, below, any, consIf, keep, tally, greatest, isIn}
@@ -96,7 +96,7 @@ faults-split p gone g =
 
 -- what a group's index says, where no record of the segment is bad
 abbrev pub Shown : Params → List ℕ → List ℕ → Group → List ℕ → Type 0
-Shown p im ps w at = (length ps ≡ pointersLen p) × (w .full ≡ sealedIn p (viewOf p im ps) (w .gone) (w .seg))
+Shown p im ps w at = (length ps ≡ pointersLen p) × (w .full ≡ sealedIn p (viewOf p im ps) (w .gone) (seg (w .seg)))
     × (recsFault p (w .gone) (segmentIn p im ps w) ≡ false → Indexed p (segmentIn p im ps w) (w .base) at)
 
 pub record Tallied (p : Params) (gone : ℕ) (g : Segment) (n : ℕ) (t : Tally) : Type 0 where
@@ -250,28 +250,28 @@ group-fault p gone g base h = go (test (recsFault p gone g))
     go (no! e) = absurd (not-both (groupFault p gone g base) h (no-group-fault p gone g base e))
 
 -- 01, Restart, 3: n drives of m present ones have the stripe's chunk
-module _ (p : Params) (v : View) (gone seg s n m : ℕ) (en : n ≡ length (keep (hasChunk (segmentOf p v gone seg) s) (drivesOf p))) (em : m ≡ length (present p gone)) where
-  pub counts-all : n ≡ m → counts p gone (segmentOf p v gone seg) s ≡ true
-  counts-all e = chunks-counts p v gone seg s ∙ eq-eqb (length (keep (hasChunk (segmentOf p v gone seg) s) (drivesOf p))) (length (present p gone)) (sym en ∙ e ∙ em)
+module _ (p : Params) (v : View) (gone : ℕ) (sgm : Seg) (s n m : ℕ) (en : n ≡ length (keep (hasChunk (segmentOf p v gone sgm) s) (drivesOf p))) (em : m ≡ length (present p gone)) where
+  pub counts-all : n ≡ m → counts p gone (segmentOf p v gone sgm) s ≡ true
+  counts-all e = chunks-counts p v gone sgm s ∙ eq-eqb (length (keep (hasChunk (segmentOf p v gone sgm) s) (drivesOf p))) (length (present p gone)) (sym en ∙ e ∙ em)
 
-  pub counts-few : (n ≡ m → ⊥) → counts p gone (segmentOf p v gone seg) s ≡ false
-  counts-few e = chunks-counts p v gone seg s ∙ ne-eqb (length (keep (hasChunk (segmentOf p v gone seg) s) (drivesOf p))) (length (present p gone)) (λ q. e (en ∙ q ∙ sym em))
+  pub counts-few : (n ≡ m → ⊥) → counts p gone (segmentOf p v gone sgm) s ≡ false
+  counts-few e = chunks-counts p v gone sgm s ∙ ne-eqb (length (keep (hasChunk (segmentOf p v gone sgm) s) (drivesOf p))) (length (present p gone)) (λ q. e (en ∙ q ∙ sym em))
 
-  pub loose-none : n ≡ 0 → isLoose p gone (segmentOf p v gone seg) s ≡ false
+  pub loose-none : n ≡ 0 → isLoose p gone (segmentOf p v gone sgm) s ≡ false
   unfolding isLoose
   loose-none e =
-      ap (λ (b : Bool). b && not (counts p gone (segmentOf p v gone seg) s))
-      (chunks-some p v gone seg s ∙ ap not (eq-eqb (length (keep (hasChunk (segmentOf p v gone seg) s) (drivesOf p))) 0 (sym en ∙ e)))
+      ap (λ (b : Bool). b && not (counts p gone (segmentOf p v gone sgm) s))
+      (chunks-some p v gone sgm s ∙ ap not (eq-eqb (length (keep (hasChunk (segmentOf p v gone sgm) s) (drivesOf p))) 0 (sym en ∙ e)))
 
-  pub loose-some : (n ≡ m → ⊥) → (n ≡ 0 → ⊥) → isLoose p gone (segmentOf p v gone seg) s ≡ true
+  pub loose-some : (n ≡ m → ⊥) → (n ≡ 0 → ⊥) → isLoose p gone (segmentOf p v gone sgm) s ≡ true
   unfolding isLoose
   loose-some e h =
       ap₂ (λ (a b : Bool). a && not b)
-      (chunks-some p v gone seg s ∙ ap not (ne-eqb (length (keep (hasChunk (segmentOf p v gone seg) s) (drivesOf p))) 0 (λ q. h (en ∙ q))))
+      (chunks-some p v gone sgm s ∙ ap not (ne-eqb (length (keep (hasChunk (segmentOf p v gone sgm) s) (drivesOf p))) 0 (λ q. h (en ∙ q))))
       (counts-few e)
 
-  pub loose-counts : counts p gone (segmentOf p v gone seg) s ≡ false → (n ≡ 0 → ⊥) → isLoose p gone (segmentOf p v gone seg) s ≡ true
-  loose-counts e h = loose-some (λ q. absurd (not-both (counts p gone (segmentOf p v gone seg) s) (counts-all q) e)) h
+  pub loose-counts : counts p gone (segmentOf p v gone sgm) s ≡ false → (n ≡ 0 → ⊥) → isLoose p gone (segmentOf p v gone sgm) s ≡ true
+  loose-counts e h = loose-some (λ q. absurd (not-both (counts p gone (segmentOf p v gone sgm) s) (counts-all q) e)) h
 
 -- ---- from group to group
 
@@ -285,9 +285,9 @@ pub groups-left : (p : Params) (gone : ℕ) (g : Segment) (base : ℕ) → 0 < p
     → any (groupFault p gone g) (basesFrom p (base + p .G)) ≡ any (groupFault p gone g) (basesFrom p base)
 groups-left p gone g base h k e = sym (ap (any (groupFault p gone g)) (bases-step p base h k) ∙ any-miss (groupFault p gone g) base (basesFrom p (base + p .G)) e)
 
-pub faults-start : (p : Params) (v : View) (gone seg : ℕ) → 0 < p .G
-    → any (groupFault p gone (segmentOf p v gone seg)) (basesFrom p 0) ≡ recsFault p gone (segmentOf p v gone seg)
-faults-start p v gone seg h = sym (recs-fault-groups p gone (segmentOf p v gone seg) h (recs-short p v gone seg))
+pub faults-start : (p : Params) (v : View) (gone : ℕ) (sgm : Seg) → 0 < p .G
+    → any (groupFault p gone (segmentOf p v gone sgm)) (basesFrom p 0) ≡ recsFault p gone (segmentOf p v gone sgm)
+faults-start p v gone sgm h = sym (recs-fault-groups p gone (segmentOf p v gone sgm) h (recs-short p v gone sgm))
 
 -- none left, and none found
 pub groups-ended : (p : Params) (gone : ℕ) (g : Segment) (base : ℕ) (b : Bool) → 0 < p .G → p .S ≤ base

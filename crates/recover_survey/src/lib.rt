@@ -1,13 +1,13 @@
 // What the records of a segment say: refusal 9, and how many stripes count (01, Refusals; Restart, 3).
 ghost use mathlib.Core.Path.{_≡_};
-ghost use mathlib.Core.Bool.{true, false, not, _&&_};
+ghost use mathlib.Core.Bool.{true, false, _&&_};
 ghost use mathlib.Core.List.{List};
 ghost use Prim.Native.Nat.{ℕ, _+_, _%_, _≤_, _<_};
 ghost use lib.ListN.{length};
-ghost use Rattle.spec.specs.Drives.{viewOf, mkDisk, sealedIn};
+ghost use Rattle.spec.specs.Drives.{viewOf, mkDisk, sealedIn, seg as segNo};
 ghost use Rattle.spec.specs.Layout.{isData};
 ghost use Rattle.spec.specs.Lists.{any, isIn};
-ghost use Rattle.spec.specs.Params.{inRange, imageLen, pointersLen, absent};
+ghost use Rattle.spec.specs.Params.{inRange, imageLen, absent};
 ghost use Rattle.spec.specs.Segments.{segmentOf, counts};
 ghost use Rattle.recover_groups.specs.Groups.{groupLen, groupFault, recsFault, segmentIn, Entered, AllEntered};
 ghost use Rattle.law_views.specs.Views.{Whole};
@@ -192,7 +192,7 @@ fn survey_group(
     requires { ⌜ inRange p ≡ true ⌝ }
     requires { ⌜ Whole p (mkDisk (now image) (now pointers)) ⌝ }
     requires { ⌜ (length (now at) ≡ 2048) × (w .seg < p .Z) × (w .base < p .S) × (w .base % p .G ≡ 0) ⌝ }
-    requires { ⌜ w .full ≡ sealedIn p (viewOf p (now image) (now pointers)) (w .gone) (w .seg) ⌝ }
+    requires { ⌜ w .full ≡ sealedIn p (viewOf p (now image) (now pointers)) (w .gone) (segNo (w .seg)) ⌝ }
     requires { ⌜ (t .counted ≤ w .base) × (t .loose ≤ w .base) ⌝ }
     ensures { λ r. ⌜ (r .counted ≤ w .base + groupLen p (w .base)) × (r .loose ≤ w .base + groupLen p (w .base)) ⌝ }
     ensures { λ r. ⌜ (r .bad ≡ false → (t .bad ≡ false) × (groupFault p (w .gone) (segmentIn p (now (image .entry)) (now (pointers .entry)) w) (w .base) ≡ false)) ⌝ }
@@ -218,8 +218,8 @@ pub fn survey(
 ) -> Tally
     requires { ⌜ inRange p ≡ true ⌝ }
     requires { ⌜ Whole p (mkDisk (now image) (now pointers)) ⌝ }
-    requires { ⌜ (length (now at) ≡ 2048) × (seg < p .Z) × (full ≡ sealedIn p (viewOf p (now image) (now pointers)) gone seg) ⌝ }
-    ensures { λ r. ⌜ Surveyed p gone (segmentOf p (viewOf p (now (image .entry)) (now (pointers .entry))) gone seg) r ⌝ }
+    requires { ⌜ (length (now at) ≡ 2048) × (seg < p .Z) × (full ≡ sealedIn p (viewOf p (now image) (now pointers)) gone (segNo seg)) ⌝ }
+    ensures { λ r. ⌜ Surveyed p gone (segmentOf p (viewOf p (now (image .entry)) (now (pointers .entry))) gone (segNo seg)) r ⌝ }
 {
     let mut t = Tally {
         bad: false,

@@ -10,7 +10,7 @@ use lib.Dec.{leb, ltb, eqb}
 use lib.ListN.{length, getD, drop, set}
 use lib.Seq.{getD-take, getD-drop}
 use Rattle.spec.specs.declared.Params.{Params}
-use Rattle.spec.specs.Drives.{View, viewOf}
+use Rattle.spec.specs.Drives.{View, viewOf, Seg, seg, zoneOn}
 use Rattle.spec.specs.Faults.{storedBad}
 use Rattle.spec.specs.Layout.{compactEntry, Rec, mkRec}
 use Rattle.spec.specs.Lists.{isIn}
@@ -28,18 +28,19 @@ use Rattle.recover_groups.specs.Groups.{groupLen, groupRecs, recsBad, groupFaul
 use Rattle.recover_groups.specs.declared.Group.{Group}
 use Rattle.recover_addresses.specs.Lies.{Ground, seg-clean}
 use Rattle.law_drives.specs.Members.{In, none-in}
-use Rattle.law_drives.specs.Segs.{in-present}
-use Rattle.law_drives.specs.Tables.{remains, rowAt, row-at, length-recs, remaining-in}
+use Rattle.law_drives.specs.Segs.{in-present, remaining-low}
+use Rattle.law_drives.specs.Tables.{remains, rowAt, row-at, length-recs, remaining-in, row-seg}
 use Rattle.law_drives.specs.Tests.{cond-true}
 
-module _ (p : Params) (r : Ranged p) (im ps : List ℕ) (gone : ℕ) (cs : List ℕ) (G : Ground p im ps gone cs) (seg base d : ℕ) (m : In seg (remaining p (viewOf p im ps) gone))
-    (sh : SegmentShown p (viewOf p im ps) gone seg cs)
+module _ (p : Params) (r : Ranged p) (im ps : List ℕ) (gone : ℕ) (cs : List ℕ) (G : Ground p im ps gone cs) (sgm : Seg) (base d : ℕ)
+    (m : In sgm (remaining p (viewOf p im ps) gone))
+    (sh : SegmentShown p (viewOf p im ps) gone sgm cs)
     (hd : d < p .N) (hg : isIn gone d ≡ false) (hb : base < p .S) (hm : base % p .G ≡ 0) where
   abbrev v : View
   v = viewOf p im ps
 
   abbrev all : List Rec
-  all = recsOn (segmentOf p v gone seg) d
+  all = recsOn (segmentOf p v gone sgm) d
 
   abbrev rs : List Rec
   rs = groupRecs p base all
@@ -49,19 +50,18 @@ module _ (p : Params) (r : Ranged p) (im ps : List ℕ) (gone : ℕ) (cs : List 
 
   clean : recsBad p d base rs ≡ false
   clean =
-      none-in (λ e. recsBad p e base (groupRecs p base (recsOn (segmentOf p v gone seg) e))) (present p gone)
-      ((unfold groupFault in no-group-fault p gone (segmentOf p v gone seg) base (seg-clean p v gone seg (G .clean) m))) d (in-present p gone d hd hg)
+      none-in (λ e. recsBad p e base (groupRecs p base (recsOn (segmentOf p v gone sgm) e))) (present p gone)
+      ((unfold groupFault in no-group-fault p gone (segmentOf p v gone sgm) base (seg-clean p v gone sgm (G .clean) m))) d (in-present p gone d hd hg)
 
   short : length rs ≤ groupLen p base
   short = omega (arith, length-group p base all)
 
-  compact-next : (i : ℕ) → compactAt p d seg base + i ≡ compactAt p d seg (base + i)
+  compact-next : (i : ℕ) → compactAt p d (zoneOn sgm d) base + i ≡ compactAt p d (zoneOn sgm d) (base + i)
   unfolding compactAt
-  compact-next i = add-assoc ((d * p .Z + seg) * p .S) base i
+  compact-next i = add-assoc ((d * p .Z + zoneOn sgm d) * p .S) base i
 
-  kept : rowAt p v gone d seg ≡ all
-  unfolding rowAt
-  kept = cond-true (remains p v gone seg) all [] (remaining-in p v gone seg m .1)
+  kept-row : rowAt p v gone d (zoneOn sgm d) ≡ all
+  kept-row = row-seg p v gone d sgm (remaining-low p v gone sgm m) ∙ cond-true (remains p v gone sgm) all [] (remaining-in p v gone sgm m .1)
 
   record-in-group : (i : ℕ) → i < length rs → getD rs i (mkRec 0 0 0) ≡ getD all (base + i) (mkRec 0 0 0)
   unfolding groupRecs
@@ -70,14 +70,14 @@ module _ (p : Params) (r : Ranged p) (im ps : List ℕ) (gone : ℕ) (cs : List 
       getD-take (groupLen p base) (drop base all) i (mkRec 0 0 0) (omega (arith, n, h)) ∙ getD-drop base all i (mkRec 0 0 0)
 
   -- the table's entry of the record at offset i of the group
-  entry : (i : ℕ) → i < length rs → getD cs (compactAt p d seg base + i) 0 ≡ compactEntry p (getD rs i (mkRec 0 0 0) .stripe)
+  entry : (i : ℕ) → i < length rs → getD cs (compactAt p d (zoneOn sgm d) base + i) 0 ≡ compactEntry p (getD rs i (mkRec 0 0 0) .stripe)
   entry i h =
       let n = length-group p base all in
       let o : base + i < length all = omega (arith, n, h) in
-      let s : base + i < p .S = omega (arith, o, length-recs p v gone seg d hd) in
+      let s : base + i < p .S = omega (arith, o, length-recs p v gone sgm d hd) in
       ap (λ (x : ℕ). getD cs x 0) (compact-next i)
       ∙ sh d (base + i) hd s
-      ∙ ap (λ (x : List Rec). getD (compactRow p x) (base + i) 0) kept
+      ∙ ap (λ (x : List Rec). getD (compactRow p x) (base + i) 0) kept-row
       ∙ row-at p all (base + i) o
       ∙ ap (λ (x : Rec). compactEntry p (x .stripe)) (sym (record-in-group i h))
 
@@ -100,7 +100,7 @@ module _ (p : Params) (r : Ranged p) (im ps : List ℕ) (gone : ℕ) (cs : List 
         go (no! e) = absurd (not-both (recsBad p d base rs) (entering-bad p d base rs old at i x h some hb hm short c refl e) clean)
 
     -- it is the number of the stripe in the group
-    entry-stripe : getD cs (compactAt p d seg base + i) 0 ≡ c .stripe - base
+    entry-stripe : getD cs (compactAt p d (zoneOn sgm d) base + i) 0 ≡ c .stripe - base
     entry-stripe =
         let s = c .stripe in
         let y : (leb base s && ltb (s - base) (groupLen p base)) ≡ true = and-left (leb base s && ltb (s - base) (groupLen p base)) (eqb (getD at (256 * d + (s - base)) 0) 0) fresh in
@@ -108,7 +108,7 @@ module _ (p : Params) (r : Ranged p) (im ps : List ℕ) (gone : ℕ) (cs : List 
         let w = ltb-true (s - base) (groupLen p base) (and-right (leb base s) (ltb (s - base) (groupLen p base)) y) in
         entry i h ∙ sym (near p base (s - base) s some hm (omega (arith, w, group-len-le p base)) (omega (arith, u)))
 
-    pub index-entered : Entering p d base rs old (set at (256 * d + getD cs (compactAt p d seg base + i) 0) (i + 1)) (i + 1)
+    pub index-entered : Entering p d base rs old (set at (256 * d + getD cs (compactAt p d (zoneOn sgm d) base + i) 0) (i + 1)) (i + 1)
     index-entered =
         subst (λ (n : ℕ). Entering p d base rs old (set at (256 * d + n) (i + 1)) (i + 1)) (sym entry-stripe)
         (entering-next p d base rs old at i x h some hb hm short c refl (omega (arith, hd, r .drives-high)) (omega (arith, group-len-le p base, r .group-high)) fine fresh)
@@ -124,11 +124,11 @@ compact-entry-within p d z b i hd hz h =
     omega (arith, e, compact-within p d z (b + i) hd hz h)
 
 -- the drive's row is that of its records, the lower ones are the same
-abbrev pub Rowed : Params → List ℕ → List ℕ → ℕ → List ℕ → ℕ → ℕ → ℕ → List ℕ → List ℕ → Type 0
-Rowed p im ps gone cs seg base d old at = Ground p im ps gone cs → In seg (remaining p (viewOf p im ps) gone) → SegmentShown p (viewOf p im ps) gone seg cs
-    → SameBelow d old at × Row p base (groupRecs p base (recsOn (segmentOf p (viewOf p im ps) gone seg) d)) d at
+abbrev pub Rowed : Params → List ℕ → List ℕ → ℕ → List ℕ → Seg → ℕ → ℕ → List ℕ → List ℕ → Type 0
+Rowed p im ps gone cs sgm base d old at = Ground p im ps gone cs → In sgm (remaining p (viewOf p im ps) gone) → SegmentShown p (viewOf p im ps) gone sgm cs
+    → SameBelow d old at × Row p base (groupRecs p base (recsOn (segmentOf p (viewOf p im ps) gone sgm) d)) d at
 
 -- the index of the group is right
 abbrev pub Grouped : Params → List ℕ → List ℕ → List ℕ → Group → List ℕ → Type 0
-Grouped p im ps cs w at = Ground p im ps (w .gone) cs → In (w .seg) (remaining p (viewOf p im ps) (w .gone)) → SegmentShown p (viewOf p im ps) (w .gone) (w .seg) cs
+Grouped p im ps cs w at = Ground p im ps (w .gone) cs → In (seg (w .seg)) (remaining p (viewOf p im ps) (w .gone)) → SegmentShown p (viewOf p im ps) (w .gone) (seg (w .seg)) cs
     → Indexed p (segmentIn p im ps w) (w .base) at

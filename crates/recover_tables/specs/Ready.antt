@@ -11,7 +11,7 @@ use lib.Dec.{eqb}
 use lib.ListN.{length, set, replicate, length-replicate, replicate-append-replicate}
 use Rattle.spec.specs.declared.Params.{Params}
 use Rattle.spec.specs.Bytes.{splice}
-use Rattle.spec.specs.Drives.{View, viewOf, zoneOn}
+use Rattle.spec.specs.Drives.{View, viewOf, zoneOn, Seg, seg}
 use Rattle.spec.specs.Layout.{dataDrive, Rec}
 use Rattle.spec.specs.Lists.{isIn}
 use Rattle.spec.specs.Params.{dataCount, placeOf}
@@ -21,6 +21,7 @@ use Rattle.law_basic.specs.Geometry.{Ranged}
 use Rattle.law_basic.specs.Ranges.{Test, test, and-both}
 use Rattle.law_basic.specs.Ranges.Test.{yes!, no! }
 use Rattle.law_basic.specs.Splice.{splice-nil, splice-all, wrote-one}
+use Rattle.law_basic.specs.Segs.{named-lt}
 use Rattle.recover_groups.specs.declared.Group.{Group}
 use Rattle.recover_groups.specs.Bases.{group-len-le, group-len-fits}
 use Rattle.recover_groups.specs.Chunks.{counts-entered}
@@ -50,8 +51,8 @@ pub record Indexing (p : Params) (im ps : List ℕ) (w : Group) (co at : List �
   pub long : length at ≡ 2048
   pub base-low : w .base < p .S
   pub stripe-in : k < groupLen p (w .base)
-  pub remains : In (w .seg) (remaining p (viewOf p im ps) (w .gone))
-  pub shown : SegmentShown p (viewOf p im ps) (w .gone) (w .seg) co
+  pub remains : In (seg (w .seg)) (remaining p (viewOf p im ps) (w .gone))
+  pub shown : SegmentShown p (viewOf p im ps) (w .gone) (seg (w .seg)) co
 
 -- and stripe k counts
 pub record Standing (p : Params) (im ps : List ℕ) (w : Group) (co at : List ℕ) (k : ℕ) : Type 0 where
@@ -65,7 +66,7 @@ module _ (p : Params) (im ps : List ℕ) (w : Group) (at : List ℕ) (k : ℕ) w
   pub stripe-byte : Ranged p → k < groupLen p (w .base) → k < 256
   stripe-byte r l = omega (arith, group-len-le p (w .base), r .group-high)
 
-  pub standing-counted : (co : List ℕ) → Standing p im ps w co at k → StripeCounts p (viewOf p im ps) (w .gone) co (w .seg) (w .base + k)
+  pub standing-counted : (co : List ℕ) → Standing p im ps w co at k → StripeCounts p (viewOf p im ps) (w .gone) co (seg (w .seg)) (w .base + k)
   standing-counted co s = record {
     remains = s .index .remains;
     stripe-low = group-stripe-below (s .index .base-low) (s .index .stripe-in);
@@ -74,7 +75,7 @@ module _ (p : Params) (im ps : List ℕ) (w : Group) (at : List ℕ) (k : ℕ) w
   }
 
   pub standing-low : (co : List ℕ) → Standing p im ps w co at k → w .seg < p .Z
-  standing-low co s = remaining-low p (viewOf p im ps) (w .gone) (w .seg) (s .index .remains)
+  standing-low co s = named-lt p (seg (w .seg)) (remaining-low p (viewOf p im ps) (w .gone) (seg (w .seg)) (s .index .remains))
 
   pub reading-entered : GroupReads p im ps w at → k < groupLen p (w .base) → counts p (w .gone) (segmentIn p im ps w) (w .base + k) ≡ true → AllEntered p (w .gone) (w .base) at k
   reading-entered q l c = counts-entered p (w .gone) (segmentIn p im ps w) (w .base) at k (q .indexed) l c
@@ -95,7 +96,7 @@ module _ (p : Params) (im ps : List ℕ) (w : Group) (at : List ℕ) (k : ℕ) w
           subst (λ (x : ℕ). x < p .S) (sym (cond-false (isIn (w .gone) d) (w .base + k) (offsetOn g d (w .base + k)) e)) (omega (arith, x .1, group-len-fits p (w .base) (omega arith)))
 
 -- the candidate of a stripe on a drive, from its record and offset
-pub cand-is : (p : Params) (v : View) (gone g s d : ℕ) (r : Rec) (n o q : ℕ) → r ≡ recOf p gone (segmentOf p v gone g) s d → o ≡ offsetOf gone (segmentOf p v gone g) s d
+pub cand-is : (p : Params) (v : View) (gone : ℕ) (g : Seg) (s d : ℕ) (r : Rec) (n o q : ℕ) → r ≡ recOf p gone (segmentOf p v gone g) s d → o ≡ offsetOf gone (segmentOf p v gone g) s d
     → n ≡ segmentOf p v gone g .serial → q ≡ placeOf p d (zoneOn g d) (1 + o)
     → record { address = r .address; stamp = r .stamp; serial = n; drive = d; offset = o; place = q } ≡ candOf p gone (segmentOf p v gone g) s d
 unfolding candOf segmentOf
@@ -104,7 +105,7 @@ cand-is p v gone g s d r n o q er eo en eq =
     λ j. record { address = er j .address; stamp = er j .stamp; serial = en j; drive = d; offset = eo j; place = ep j }
 
 -- it is one of the drives' candidates
-pub cand-there : (p : Params) (v : View) (gone : ℕ) (co : List ℕ) (g s i : ℕ) (c : Cand) → StripeCounts p v gone co g s → i < dataCount p
+pub cand-there : (p : Params) (v : View) (gone : ℕ) (co : List ℕ) (g : Seg) (s i : ℕ) (c : Cand) → StripeCounts p v gone co g s → i < dataCount p
     → c ≡ candOf p gone (segmentOf p v gone g) s (dataDrive p s i) → Near p v gone co c
 cand-there p v gone co g s i c k h e = (
   record {
@@ -120,13 +121,13 @@ cand-there p v gone co g s i c k h e = (
   k .shown,
 )
 
-pub serial-there : (p : Params) (v : View) (gone g n : ℕ) → n ≡ serialOf p v gone g → n ≡ segmentOf p v gone g .serial
+pub serial-there : (p : Params) (v : View) (gone : ℕ) (g : Seg) (n : ℕ) → n ≡ serialOf p v gone g → n ≡ segmentOf p v gone g .serial
 unfolding serialOf
 serial-there p v gone g n e = e ∙ sym (serial-is p v gone g)
 
 -- ---- answers of the code
 
-pub kept-is : (p : Params) (v : View) (gone g : ℕ) (b : Bool) → b ≡ remainsHere p v gone g → b ≡ remains p v gone g
+pub kept-is : (p : Params) (v : View) (gone : ℕ) (g : Seg) (b : Bool) → b ≡ remainsHere p v gone g → b ≡ remains p v gone g
 unfolding remainsHere isLeft remains
 kept-is p v gone g b e = e
 
@@ -160,7 +161,7 @@ fill-all l l′ i h e = e ∙ splice-all l (replicate i 255) (length-replicate {
 
 -- ---- one data position more of a stripe
 
-module _ (p : Params) (v : View) (gone : ℕ) (co : List ℕ) (g s i : ℕ) where
+module _ (p : Params) (v : View) (gone : ℕ) (co : List ℕ) (g : Seg) (s i : ℕ) where
   pub stripe-turn : (tb tb′ tb″ : List ℕ) (m m′ m″ : ℕ) (c : Cand) → c ≡ candOf p gone (segmentOf p v gone g) s (dataDrive p s i)
       → Tells p v gone co tb tb′ (firstCands p gone (segmentOf p v gone g) s i) → m′ ≡ max m (greatestStamp (firstCands p gone (segmentOf p v gone g) s i))
       → Tells p v gone co tb′ tb″ (c ∷ []) → m″ ≡ max m′ (c .stamp)

@@ -1,21 +1,23 @@
 -- The walk over the counted stripes of the remaining segments: the candidates that it tells, in order (01, Restart, 3; The calls, last paragraph). Assumes nothing.
 use mathlib.Core.Path.{_≡_, refl, sym, ap, _∙_, subst}
 use mathlib.Core.List.{List, [], _∷_, _++_, map, append-nil, append-assoc}
-use mathlib.Core.Bool.{true, false}
+use mathlib.Core.Bool.{Bool, true, false}
 use Prim.Native.Nat.{ℕ, _+_, max, _≤_, _<_}
 use native.Mathlib.Nat.{add-assoc, add-zero, zero-add, zero-max, max-zero}
 use native.Mathlib.Decide.{ℕ-discrete}
 use native.Mathlib.Omega.{arith}
 use native.Mathlib.Numerals.{add-one}
-use lib.ListN.{length, replicate, length-append}
+use lib.ListN.{length, getD, replicate, length-append}
 use Rattle.spec.specs.declared.Params.{Params}
-use Rattle.spec.specs.Drives.{View}
+use Rattle.spec.specs.Drives.{View, Seg, seg, zoneOn}
 use Rattle.spec.specs.Layout.{dataDrive, dataDrives}
 use Rattle.spec.specs.Lists.{upFrom, below, keep, flat, greatest}
+use Rattle.spec.specs.Memory.{compactAt}
 use Rattle.spec.specs.Params.{dataCount, addressesLen, compactLen}
 use Rattle.spec.specs.Rank.{Cand}
 use Rattle.spec.specs.Segments.{remaining, Segment, segmentOf, segments, counts, counted, candOf, segmentCands, candidates, addressTable, compactRow, compactTable, greatestStamp}
 use Rattle.law_basic.specs.Ranges.{upFrom-snoc, below-snoc, map-append, map-below-snoc, keep-append, keep-hit, keep-miss, keep-none, length-keep, flat-append, greatest-append}
+use Rattle.law_basic.specs.Segs.{seg-named, named-lt, keep-segs, zone-on-lt, zone-number, by-seg}
 use Rattle.law_drives.specs.Members.{In, map-in, flat-in, flat-map, keep-in, below-in}
 use Rattle.law_drives.specs.Segs.{CandAt}
 use Rattle.law_drives.specs.Tables.{grid-ext, remains, remaining-is, in-remaining, rowAt, compact-is, compact-row-long}
@@ -36,7 +38,7 @@ walkCands p gone g ss = flat (stripeCands p gone g) (keep (counts p gone g) ss)
 
 -- those of the segments gs that remain
 unfoldable pub tourCands : Params → View → ℕ → List ℕ → List Cand
-tourCands p v gone gs = flat (λ g. segmentCands p gone (segmentOf p v gone g)) (keep (remains p v gone) gs)
+tourCands p v gone gs = flat (λ g. segmentCands p gone (segmentOf p v gone (seg g))) (keep (λ g. remains p v gone (seg g)) gs)
 
 -- ---- the greatest stamp
 
@@ -82,7 +84,7 @@ first-all p gone g s = refl
 
 -- ---- the stripes of a segment
 
-pub record Walked (p : Params) (v : View) (gone : ℕ) (co : List ℕ) (g : ℕ) (ss : List ℕ) (tb tb′ : List ℕ) (m m′ n n′ : ℕ) : Type 0 where
+pub record Walked (p : Params) (v : View) (gone : ℕ) (co : List ℕ) (g : Seg) (ss : List ℕ) (tb tb′ : List ℕ) (m m′ n n′ : ℕ) : Type 0 where
   pub tells : Tells p v gone co tb tb′ (walkCands p gone (segmentOf p v gone g) ss)
   pub most : m′ ≡ max m (greatestStamp (walkCands p gone (segmentOf p v gone g) ss))
   pub count : n′ ≡ n + length (keep (counts p gone (segmentOf p v gone g)) ss)
@@ -105,7 +107,7 @@ walk-none : (p : Params) (gone : ℕ) (g : Segment) → walkCands p gone g [] �
 unfolding walkCands flat keep
 walk-none p gone g = refl
 
-module _ (p : Params) (v : View) (gone : ℕ) (co : List ℕ) (g : ℕ) where
+module _ (p : Params) (v : View) (gone : ℕ) (co : List ℕ) (g : Seg) where
   abbrev sg : Segment
   sg = segmentOf p v gone g
 
@@ -168,30 +170,37 @@ module _ (p : Params) (v : View) (gone : ℕ) (co : List ℕ) (g : ℕ) where
 -- the segments below n: their rows of the compact table, their candidates in the address table, and the greatest stamp of these
 pub record Toured (p : Params) (v : View) (gone n : ℕ) (co tb : List ℕ) (m : ℕ) : Type 0 where
   pub long : length co ≡ compactLen p
-  pub shown : (g : ℕ) → g < n → SegmentShown p v gone g co
+  pub shown : (g : ℕ) → g < n → SegmentShown p v gone (seg g) co
   pub table : tb ≡ addressTable p (tourCands p v gone (below n))
   pub most : m ≡ greatestStamp (tourCands p v gone (below n))
 
-tour-next : (p : Params) (v : View) (gone g : ℕ) (l : List Cand) → flat (λ y. segmentCands p gone (segmentOf p v gone y)) (keep (remains p v gone) (g ∷ [])) ≡ l
+-- the candidates of segment number g, and whether it remains
+abbrev candsAt : Params → View → ℕ → ℕ → List Cand
+candsAt p v gone g = segmentCands p gone (segmentOf p v gone (seg g))
+
+abbrev keptAt : Params → View → ℕ → ℕ → Bool
+keptAt p v gone g = remains p v gone (seg g)
+
+tour-next : (p : Params) (v : View) (gone g : ℕ) (l : List Cand) → flat (candsAt p v gone) (keep (keptAt p v gone) (g ∷ [])) ≡ l
     → tourCands p v gone (below (g + 1)) ≡ tourCands p v gone (below g) ++ l
 unfolding tourCands
 tour-next p v gone g l e =
-    ap (λ (x : List ℕ). flat (λ y. segmentCands p gone (segmentOf p v gone y)) (keep (remains p v gone) x)) (below-snoc g)
-    ∙ ap (flat (λ y. segmentCands p gone (segmentOf p v gone y))) (keep-append (remains p v gone) (below g) (g ∷ []))
-    ∙ flat-append (λ y. segmentCands p gone (segmentOf p v gone y)) (keep (remains p v gone) (below g)) (keep (remains p v gone) (g ∷ []))
-    ∙ ap (λ (x : List Cand). flat (λ y. segmentCands p gone (segmentOf p v gone y)) (keep (remains p v gone) (below g)) ++ x) e
+    ap (λ (x : List ℕ). flat (candsAt p v gone) (keep (keptAt p v gone) x)) (below-snoc g)
+    ∙ ap (flat (candsAt p v gone)) (keep-append (keptAt p v gone) (below g) (g ∷ []))
+    ∙ flat-append (candsAt p v gone) (keep (keptAt p v gone) (below g)) (keep (keptAt p v gone) (g ∷ []))
+    ∙ ap (λ (x : List Cand). flat (candsAt p v gone) (keep (keptAt p v gone) (below g)) ++ x) e
 
-tour-hit : (p : Params) (v : View) (gone g : ℕ) → remains p v gone g ≡ true
-    → tourCands p v gone (below (g + 1)) ≡ tourCands p v gone (below g) ++ segmentCands p gone (segmentOf p v gone g)
+tour-hit : (p : Params) (v : View) (gone g : ℕ) → remains p v gone (seg g) ≡ true
+    → tourCands p v gone (below (g + 1)) ≡ tourCands p v gone (below g) ++ segmentCands p gone (segmentOf p v gone (seg g))
 unfolding flat
-tour-hit p v gone g e = tour-next p v gone g (segmentCands p gone (segmentOf p v gone g))
-    (ap (flat (λ y. segmentCands p gone (segmentOf p v gone y))) (keep-hit (remains p v gone) g [] e ∙ ap (λ (l : List ℕ). g ∷ l) (keep-none (remains p v gone)))
-    ∙ append-nil (segmentCands p gone (segmentOf p v gone g)))
+tour-hit p v gone g e = tour-next p v gone g (candsAt p v gone g)
+    (ap (flat (candsAt p v gone)) (keep-hit (keptAt p v gone) g [] e ∙ ap (λ (l : List ℕ). g ∷ l) (keep-none (keptAt p v gone)))
+    ∙ append-nil (candsAt p v gone g))
 
-tour-miss : (p : Params) (v : View) (gone g : ℕ) → remains p v gone g ≡ false → tourCands p v gone (below (g + 1)) ≡ tourCands p v gone (below g)
+tour-miss : (p : Params) (v : View) (gone g : ℕ) → remains p v gone (seg g) ≡ false → tourCands p v gone (below (g + 1)) ≡ tourCands p v gone (below g)
 unfolding flat
 tour-miss p v gone g e =
-    tour-next p v gone g [] (ap (flat (λ y. segmentCands p gone (segmentOf p v gone y))) (keep-miss (remains p v gone) g [] e ∙ keep-none (remains p v gone)))
+    tour-next p v gone g [] (ap (flat (candsAt p v gone)) (keep-miss (keptAt p v gone) g [] e ∙ keep-none (keptAt p v gone)))
     ∙ append-nil (tourCands p v gone (below g))
 
 tour-none : (p : Params) (v : View) (gone : ℕ) → tourCands p v gone (below 0) ≡ []
@@ -199,26 +208,26 @@ unfolding tourCands flat keep below upFrom
 tour-none p v gone = refl
 
 -- a candidate of the segments below n is of one of them
-tour-in : (p : Params) (v : View) (gone n : ℕ) (c : Cand) → n ≤ p .Z → In c (tourCands p v gone (below n)) → (k : CandAt p v gone c) × (k .of < n)
+tour-in : (p : Params) (v : View) (gone n : ℕ) (c : Cand) → n ≤ p .Z → In c (tourCands p v gone (below n)) → (k : CandAt p v gone c) × (k .of .name < n)
 unfolding tourCands segmentCands counted dataDrives
 tour-in p v gone n c h m =
-    let (g, i, j) = flat-in (λ g. flat (λ s. map (candOf p gone (segmentOf p v gone g) s) (map (dataDrive p s) (below (dataCount p)))) (keep (counts p gone (segmentOf p v gone g)) (below (p .S))))
-    (keep (remains p v gone) (below n)) c m in
-    let (a, b) = keep-in (remains p v gone) (below n) g i in
-    let (s, x, y) = flat-in (λ s. map (candOf p gone (segmentOf p v gone g) s) (map (dataDrive p s) (below (dataCount p)))) (keep (counts p gone (segmentOf p v gone g)) (below (p .S))) c j in
-    let (u, w) = keep-in (counts p gone (segmentOf p v gone g)) (below (p .S)) s x in
-    let (d, t, e) = map-in (candOf p gone (segmentOf p v gone g) s) (map (dataDrive p s) (below (dataCount p))) c y in
+    let (g, i, j) = flat-in (candsAt p v gone) (keep (keptAt p v gone) (below n)) c m in
+    let (a, b) = keep-in (keptAt p v gone) (below n) g i in
+    let sg = segmentOf p v gone (seg g) in
+    let (s, x, y) = flat-in (λ s. map (candOf p gone sg s) (map (dataDrive p s) (below (dataCount p)))) (keep (counts p gone sg) (below (p .S))) c j in
+    let (u, w) = keep-in (counts p gone sg) (below (p .S)) s x in
+    let (d, t, e) = map-in (candOf p gone sg s) (map (dataDrive p s) (below (dataCount p))) c y in
     let (q, o, f) = map-in (dataDrive p s) (below (dataCount p)) d t in
     let low = below-in n g a in (
       record {
-        of = g;
+        of = seg g;
         stripe = s;
         position = q;
-        remains = in-remaining p v gone g (omega arith) b;
+        remains = in-remaining p v gone (seg g) (seg-named p g (omega arith)) b;
         stripe-low = below-in (p .S) s u;
         it-counts = w;
         position-low = below-in (dataCount p) q o;
-        it-is = e ∙ ap (candOf p gone (segmentOf p v gone g) s) f;
+        it-is = e ∙ ap (candOf p gone sg s) f;
       },
       low,
     )
@@ -235,24 +244,26 @@ module _ (p : Params) (v : View) (gone : ℕ) where
       none! : 0 ≡ greatestStamp []
       none! = unfold greatestStamp greatest in refl
 
-  module _ (g : ℕ) (hg : g < p .Z) (co co′ tb : List ℕ) (m : ℕ) (t : Toured p v gone g co tb m) (sh : SegmentShown p v gone g co′ × Else p g co co′) where
+  module _ (g : ℕ) (hg : g < p .Z) (co co′ tb : List ℕ) (m : ℕ) (t : Toured p v gone g co tb m) (sh : SegmentShown p v gone (seg g) co′ × Else p (seg g) co co′) where
     -- the rows of the segments below, and of g
-    shown-next : (y : ℕ) → y < g + 1 → SegmentShown p v gone y co′
+    shown-next : (y : ℕ) → y < g + 1 → SegmentShown p v gone (seg y) co′
     shown-next y h = go (ℕ-discrete y g)
       where
-        go : Dec (y ≡ g) → SegmentShown p v gone y co′
-        go (yes e) = subst (λ (n : ℕ). SegmentShown p v gone n co′) (sym e) (sh .0)
-        go (no n) = λ d o hd ho. sh .1 d y o hd (omega arith) ho n ∙ t .shown y (omega arith) d o hd ho
+        go : Dec (y ≡ g) → SegmentShown p v gone (seg y) co′
+        go (yes e) = subst (λ (n : ℕ). SegmentShown p v gone (seg n) co′) (sym e) (sh .0)
+        go (no n) = λ d o hd ho.
+            sh .1 d (zoneOn (seg y) d) o hd (zone-on-lt p (seg y) d (seg-named p y (omega arith))) ho (λ e. n (sym (zone-number y d) ∙ e ∙ zone-number g d))
+            ∙ t .shown y (omega arith) d o hd ho
 
     -- what is told is found again by these
     pub toured-told : Told p v gone co′ tb (tourCands p v gone (below g))
     toured-told = record {
       table = t .table;
-      said = λ c i. let (k, l) = tour-in p v gone g c (omega arith) i in (k, shown-next (k .of) (omega arith));
+      said = λ c i. let (k, l) = tour-in p v gone g c (omega arith) i in (k, shown-next (k .of .name) (omega arith));
     }
 
     module _ (l : length co′ ≡ length co) where
-      pub toured-miss : remains p v gone g ≡ false → Toured p v gone (g + 1) co′ tb m
+      pub toured-miss : remains p v gone (seg g) ≡ false → Toured p v gone (g + 1) co′ tb m
       toured-miss e = record {
         long = l ∙ t .long;
         shown = shown-next;
@@ -260,11 +271,11 @@ module _ (p : Params) (v : View) (gone : ℕ) where
         most = t .most ∙ ap greatestStamp (sym (tour-miss p v gone g e));
       }
 
-      pub toured-hit : (tb′ : List ℕ) (m′ n′ : ℕ) → remains p v gone g ≡ true → Walked p v gone co′ g (below (p .S)) tb tb′ m m′ 0 n′ → Toured p v gone (g + 1) co′ tb′ m′
+      pub toured-hit : (tb′ : List ℕ) (m′ n′ : ℕ) → remains p v gone (seg g) ≡ true → Walked p v gone co′ (seg g) (below (p .S)) tb tb′ m m′ 0 n′ → Toured p v gone (g + 1) co′ tb′ m′
       toured-hit tb′ m′ n′ e a =
-          let w = walked-all p v gone co′ g tb tb′ m m′ n′ a in
+          let w = walked-all p v gone co′ (seg g) tb tb′ m m′ n′ a in
           let xs = tourCands p v gone (below g) in
-          let ys = segmentCands p gone (segmentOf p v gone g) in
+          let ys = segmentCands p gone (segmentOf p v gone (seg g)) in
           record {
             long = l ∙ t .long;
             shown = shown-next;
@@ -275,13 +286,18 @@ module _ (p : Params) (v : View) (gone : ℕ) where
 
   all-cands : tourCands p v gone (below (p .Z)) ≡ candidates p gone (segments p v gone)
   unfolding tourCands candidates segments
-  all-cands = ap (flat (λ g. segmentCands p gone (segmentOf p v gone g))) (sym (remaining-is p v gone)) ∙ sym (flat-map (segmentCands p gone) (segmentOf p v gone) (remaining p v gone))
+  all-cands =
+      let f : Seg → List Cand = λ g. segmentCands p gone (segmentOf p v gone g) in
+      sym (ap (flat f) (remaining-is p v gone ∙ keep-segs p (remains p v gone)) ∙ flat-map f seg (keep (λ g. remains p v gone (seg g)) (below (p .Z))))
+      ∙ sym (flat-map (segmentCands p gone) (segmentOf p v gone) (remaining p v gone))
 
   -- all segments
   pub toured-all : (co tb : List ℕ) (m : ℕ) → 0 < p .S → 0 < p .Z → Toured p v gone (p .Z) co tb m
       → (tb ≡ addressTable p (candidates p gone (segments p v gone))) × (co ≡ compactTable p (segments p v gone)) × (m ≡ greatestStamp (candidates p gone (segments p v gone)))
   toured-all co tb m hs hz t = (
     t .table ∙ ap (addressTable p) all-cands,
-    grid-ext p (λ d z. compactRow p (rowAt p v gone d z)) (compact-row-long p v gone) co (t .long) hs hz (λ d z o hd h ho. t .shown z h d o hd ho) ∙ sym (compact-is p v gone),
+    grid-ext p (λ d z. compactRow p (rowAt p v gone d z)) (compact-row-long p v gone) co (t .long) hs hz
+        (λ d z o hd h ho. by-seg (λ y. getD co (compactAt p d y o) 0 ≡ getD (compactRow p (rowAt p v gone d y)) o 0) p d z h (λ g hg. t .shown (g .name) (named-lt p g hg) d o hd ho))
+        ∙ sym (compact-is p v gone),
     t .most ∙ ap greatestStamp all-cands,
   )

@@ -1,11 +1,11 @@
 // The memory that the drives say: restart's tables and state (01, Restart).
 ghost use mathlib.Core.Path.{_≡_};
-ghost use mathlib.Core.Bool.{Bool, true, false, cond, _&&_};
+ghost use mathlib.Core.Bool.{true, false, cond, _&&_};
 ghost use mathlib.Core.List.{List, [], _∷_};
 ghost use Prim.Native.Nat.{ℕ, _+_, _*_, _%_, max, _≤_, _<_};
 ghost use lib.Dec.{ltb, eqb};
 ghost use lib.ListN.{length, getD, replicate};
-ghost use Rattle.spec.specs.Drives.{viewOf, mkDisk, sealedIn};
+ghost use Rattle.spec.specs.Drives.{viewOf, mkDisk, sealedIn, seg as segNo, zoneOn};
 ghost use Rattle.spec.specs.Lists.{upFrom, below, any, isIn};
 ghost use Rattle.spec.specs.Memory.{mkMemory, idleState, compactAt};
 ghost use Rattle.spec.specs.Params.{inRange, imageLen, pointersLen, addressesLen, compactLen};
@@ -145,7 +145,7 @@ fn load_if(
     requires { ⌜ Indexing p (now image) (now pointers) w (now compact) (now at) k × (t .counted ≤ w .base + k) ⌝ }
     requires { ⌜ Known p (viewOf p (now image) (now pointers)) (w .gone) (now compact) (now addresses) ⌝ }
     ensures { λ r. ⌜
-        Walked p (viewOf p (now (image .entry)) (now (pointers .entry))) (w .gone) (now (compact .entry)) (w .seg) ((w .base + k) ∷ []) (now (addresses .entry))
+        Walked p (viewOf p (now (image .entry)) (now (pointers .entry))) (w .gone) (now (compact .entry)) (segNo (w .seg)) ((w .base + k) ∷ []) (now (addresses .entry))
         (now (addresses .exit)) (t .stamp .0) (r .stamp .0) (t .counted) (r .counted) ⌝ }
 {
     if !recover_groups::counts(p, w.gone, at, k) {
@@ -174,7 +174,7 @@ fn load_if(
 fn entry_at(p: Params, compact: &[u8], w: Group, drive: usize, i: usize) -> usize
     requires { ⌜ inRange p ≡ true ⌝ }
     requires { ⌜ (length (now compact) ≡ compactLen p) × (drive < p .N) × (w .seg < p .Z) × (w .base < p .S) × (i < groupLen p (w .base)) ⌝ }
-    ensures { λ r. ⌜ (r ≡ getD (now (compact .entry)) (compactAt p drive (w .seg) (w .base) + i) 0) × (r < 256) ⌝ }
+    ensures { λ r. ⌜ (r ≡ getD (now (compact .entry)) (compactAt p drive (zoneOn (segNo (w .seg)) drive) (w .base) + i) 0) × (r < 256) ⌝ }
 {
     let zone = disk_shape::zone_on(w.seg, drive);
     let from = disk_shape::compact_at(p, drive, zone, w.base);
@@ -187,7 +187,7 @@ fn index_drive(p: Params, pointers: &[u8], compact: &[u8], w: Group, drive: usiz
     requires { ⌜ (length (now pointers) ≡ pointersLen p) × (length (now compact) ≡ compactLen p) × (length (now at) ≡ 2048) ⌝ }
     requires { ⌜ (drive < p .N) × (w .seg < p .Z) × (w .base < p .S) × (w .base % p .G ≡ 0) × (isIn (w .gone) drive ≡ false) ⌝ }
     requires { ⌜ ((k : ℕ) → k < groupLen p (w .base) → getD (now at) (256 * drive + k) 0 ≡ 0) ⌝ }
-    ensures { λ _. ⌜ ((im : List ℕ) → Rowed p im (now (pointers .entry)) (w .gone) (now (compact .entry)) (w .seg) (w .base) drive (now (at .entry)) (now (at .exit))) ⌝ }
+    ensures { λ _. ⌜ ((im : List ℕ) → Rowed p im (now (pointers .entry)) (w .gone) (now (compact .entry)) (segNo (w .seg)) (w .base) drive (now (at .entry)) (now (at .exit))) ⌝ }
 {
     let n = recover_groups::group_stored(p, pointers, w, drive);
     let mut i = 0;
@@ -203,7 +203,7 @@ fn index_any(p: Params, pointers: &[u8], compact: &[u8], w: Group, drive: usize,
     requires { ⌜ inRange p ≡ true ⌝ }
     requires { ⌜ (length (now pointers) ≡ pointersLen p) × (length (now compact) ≡ compactLen p) × (length (now at) ≡ 2048) ⌝ }
     requires { ⌜ (drive < p .N) × (w .seg < p .Z) × (w .base < p .S) × (w .base % p .G ≡ 0) ⌝ }
-    ensures { λ _. ⌜ ((im : List ℕ) → Rowed p im (now (pointers .entry)) (w .gone) (now (compact .entry)) (w .seg) (w .base) drive (now (at .entry)) (now (at .exit))) ⌝ }
+    ensures { λ _. ⌜ ((im : List ℕ) → Rowed p im (now (pointers .entry)) (w .gone) (now (compact .entry)) (segNo (w .seg)) (w .base) drive (now (at .entry)) (now (at .exit))) ⌝ }
 {
     recover_groups::clear_row(p, at, drive);
     if bits_masks::has_drive(w.gone, drive) {
@@ -244,13 +244,13 @@ fn load_group(
         (length (now at) ≡ 2048)
         × (w .base < p .S)
         × (w .base % p .G ≡ 0)
-        × (w .full ≡ sealedIn p (viewOf p (now image) (now pointers)) (w .gone) (w .seg))
-        × In (w .seg) (remaining p (viewOf p (now image) (now pointers)) (w .gone))
-        × SegmentShown p (viewOf p (now image) (now pointers)) (w .gone) (w .seg) (now compact)
+        × (w .full ≡ sealedIn p (viewOf p (now image) (now pointers)) (w .gone) (segNo (w .seg)))
+        × In (segNo (w .seg)) (remaining p (viewOf p (now image) (now pointers)) (w .gone))
+        × SegmentShown p (viewOf p (now image) (now pointers)) (w .gone) (segNo (w .seg)) (now compact)
         × (t .counted ≤ w .base) ⌝ }
     requires { ⌜ Known p (viewOf p (now image) (now pointers)) (w .gone) (now compact) (now addresses) ⌝ }
     ensures { λ r. ⌜
-        Walked p (viewOf p (now (image .entry)) (now (pointers .entry))) (w .gone) (now (compact .entry)) (w .seg) (upFrom (w .base) (groupLen p (w .base)))
+        Walked p (viewOf p (now (image .entry)) (now (pointers .entry))) (w .gone) (now (compact .entry)) (segNo (w .seg)) (upFrom (w .base) (groupLen p (w .base)))
         (now (addresses .entry)) (now (addresses .exit)) (t .stamp .0) (r .stamp .0) (t .counted) (r .counted) ⌝ }
 {
     index_group(p, pointers, compact, w, at);
@@ -290,10 +290,10 @@ fn load_groups(
 ) -> Loaded
     requires { ⌜ Ground p (now image) (now pointers) gone (now compact) ⌝ }
     requires { ⌜ Serials p (viewOf p (now image) (now pointers)) gone (now serials) ⌝ }
-    requires { ⌜ In seg (remaining p (viewOf p (now image) (now pointers)) gone) × SegmentShown p (viewOf p (now image) (now pointers)) gone seg (now compact) ⌝ }
+    requires { ⌜ In (segNo seg) (remaining p (viewOf p (now image) (now pointers)) gone) × SegmentShown p (viewOf p (now image) (now pointers)) gone (segNo seg) (now compact) ⌝ }
     requires { ⌜ Known p (viewOf p (now image) (now pointers)) gone (now compact) (now addresses) × (length (now at) ≡ 2048) ⌝ }
     ensures { λ r. ⌜
-        Walked p (viewOf p (now (image .entry)) (now (pointers .entry))) gone (now (compact .entry)) seg (below (p .S)) (now (addresses .entry)) (now (addresses .exit))
+        Walked p (viewOf p (now (image .entry)) (now (pointers .entry))) gone (now (compact .entry)) (segNo seg) (below (p .S)) (now (addresses .entry)) (now (addresses .exit))
         (stamp .0) (r .stamp .0) 0 (r .counted) ⌝ }
 {
     let full = disk_zones::is_sealed(p, pointers, gone, seg);
@@ -329,10 +329,10 @@ fn load_segment(
 ) -> Head
     requires { ⌜ Ground p (now image) (now pointers) gone (now compact) ⌝ }
     requires { ⌜ Serials p (viewOf p (now image) (now pointers)) gone (now serials) ⌝ }
-    requires { ⌜ (g < p .Z) × (kept ≡ remains p (viewOf p (now image) (now pointers)) gone g) ⌝ }
+    requires { ⌜ (g < p .Z) × (kept ≡ remains p (viewOf p (now image) (now pointers)) gone (segNo g)) ⌝ }
     requires { ⌜ Toured p (viewOf p (now image) (now pointers)) gone g (now compact) (now addresses) (h .stamp .0) × (length (now at) ≡ 2048) ⌝ }
     ensures { λ r. ⌜ Toured p (viewOf p (now (image .entry)) (now (pointers .entry))) gone (g + 1) (now (compact .exit)) (now (addresses .exit)) (r .stamp .0) ⌝ }
-    ensures { λ r. ⌜ r .next ≡ cond (kept && eqb g opened) (length (counted p gone (segmentOf p (viewOf p (now (image .entry)) (now (pointers .entry))) gone g))) (h .next) ⌝ }
+    ensures { λ r. ⌜ r .next ≡ cond (kept && eqb g opened) (length (counted p gone (segmentOf p (viewOf p (now (image .entry)) (now (pointers .entry))) gone (segNo g)))) (h .next) ⌝ }
 {
     recover_compact::rows(p, image, pointers, compact, gone, kept, g);
     if !kept {
@@ -385,8 +385,8 @@ fn load_segments(
     ensures { λ r. ⌜
         (r .next ≤ p .S)
         × (opened < p .Z
-        → remains p (viewOf p (now (image .entry)) (now (pointers .entry))) gone opened ≡ true
-        → r .next ≡ length (counted p gone (segmentOf p (viewOf p (now (image .entry)) (now (pointers .entry))) gone opened))) ⌝ }
+        → remains p (viewOf p (now (image .entry)) (now (pointers .entry))) gone (segNo opened) ≡ true
+        → r .next ≡ length (counted p gone (segmentOf p (viewOf p (now (image .entry)) (now (pointers .entry))) gone (segNo opened)))) ⌝ }
 {
     let mut h = Head {
         stamp: Stamp(0),
@@ -446,8 +446,8 @@ fn load_tables(
     ensures { λ r. ⌜
         (r .next ≤ p .S)
         × (opened < p .Z
-        → remains p (viewOf p (now (image .entry)) (now (pointers .entry))) gone opened ≡ true
-        → r .next ≡ length (counted p gone (segmentOf p (viewOf p (now (image .entry)) (now (pointers .entry))) gone opened))) ⌝ }
+        → remains p (viewOf p (now (image .entry)) (now (pointers .entry))) gone (segNo opened) ≡ true
+        → r .next ≡ length (counted p gone (segmentOf p (viewOf p (now (image .entry)) (now (pointers .entry))) gone (segNo opened)))) ⌝ }
 {
     clear_table(addresses);
     let mut at = [0u16; 2048];

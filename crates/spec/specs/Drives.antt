@@ -130,28 +130,39 @@ storeAll f (s ∷ ss) d = storeAll f ss (f s d)
 
 -- ---- counts by the pointers alone
 
--- the segments that there are, and the zone of a segment on a drive: today zone g everywhere (02, item 4)
-unfoldable pub segmentNumbers : Params → List ℕ
-segmentNumbers p = below (p .Z)
+-- 01, What a zone holds: a segment, by its name: today the number that its zones have on every drive (02, item 4)
+pub record Seg : Type 0 where
+  pub name : ℕ
+
+abbrev pub seg : ℕ → Seg
+seg n = record { name = n }
+
+-- one segment
+unfoldable pub sameSeg : Seg → Seg → Bool
+sameSeg g h = eqb (g .name) (h .name)
+
+-- 01, What a zone holds: the segments that there may be, rising
+unfoldable pub allSegs : Params → List Seg
+allSegs p = map seg (below (p .Z))
 
 -- 01, What a zone holds: the zone of segment g on drive d
-unfoldable pub zoneOn : ℕ → ℕ → ℕ
-zoneOn g d = g
+unfoldable pub zoneOn : Seg → ℕ → ℕ
+zoneOn g d = g .name
 
 -- and the segment of a place
-unfoldable pub placeSegment : Params → ℕ → ℕ
-placeSegment p q = placeZone p q
+unfoldable pub placeSegment : Params → ℕ → Seg
+placeSegment p q = seg (placeZone p q)
 
 -- 01, Refusals, 8: zones empty on all drives, rising
-unfoldable pub emptyOnAll : Params → View → ℕ → Bool
+unfoldable pub emptyOnAll : Params → View → Seg → Bool
 emptyOnAll p v g = all (λ d. eqb (pointerAt v d (zoneOn g d)) 0) (drivesOf p)
 
 -- 01, Refusals, 8: zones empty on all drives, rising
-unfoldable pub emptyZones : Params → View → List ℕ
-emptyZones p v = keep (emptyOnAll p v) (segmentNumbers p)
+unfoldable pub emptySegs : Params → View → List Seg
+emptySegs p v = keep (emptyOnAll p v) (allSegs p)
 
 -- 01, Restart, 3: all present zones full
-unfoldable pub sealedIn : Params → View → ℕ → ℕ → Bool
+unfoldable pub sealedIn : Params → View → ℕ → Seg → Bool
 sealedIn p v gone g = all (λ d. eqb (pointerAt v d (zoneOn g d)) (capacity p)) (present p gone)
 
 -- ---- records of a zone
@@ -174,7 +185,7 @@ recordIn p true q o = footerRecord p (blocksOf (drop (1 + p .S) (q .blocks))) o
 recordIn p false q o = recordOf (getD (q .blocks) (1 + o) noChunk .spare)
 
 -- record at a data offset of drive d, segment g
-unfoldable pub recordAt : Params → View → ℕ → ℕ → ℕ → ℕ → Rec
+unfoldable pub recordAt : Params → View → ℕ → ℕ → Seg → ℕ → Rec
 recordAt p v gone d g o = recordIn p (sealedIn p v gone g) (zoneAt v d (zoneOn g d)) o
 
 -- 01, What a zone holds: the zone's footer blocks from number i on, n of them, made from its spares
@@ -186,7 +197,7 @@ unfoldable pub zeroSpare : List ℕ
 zeroSpare = replicate spareLen 0
 
 -- the stores of headers, by drive
-unfoldable pub headerStores : Params → ℕ → ℕ → ℕ → List Store
+unfoldable pub headerStores : Params → Seg → ℕ → ℕ → List Store
 headerStores p g serial copied = map (λ d. put d (zoneOn g d) (headerBlock p d (zoneOn g d) serial copied) zeroSpare) (drivesOf p)
 
 -- the stores of footer blocks i, i + 1, ..: n of them
@@ -194,5 +205,5 @@ unfoldable pub footerStores : Params → ℕ → ℕ → Zone → ℕ → ℕ �
 footerStores p d z q i n = map (λ (b : List ℕ). put d z b zeroSpare) (footersOf p q i n)
 
 -- the resets of a segment, by drive
-unfoldable pub resetStores : Params → ℕ → List Store
+unfoldable pub resetStores : Params → Seg → List Store
 resetStores p g = map (λ d. reset d (zoneOn g d)) (drivesOf p)

@@ -13,9 +13,9 @@ use Rattle.spec.specs.Bytes.{beFrom, beOf, toBe, leOf, toLe, part, splic
 use Rattle.spec.specs.Calls.{ninth, ruled, firstRefusal, decided, cutMemory, limited, outcome}
 use Rattle.spec.specs.Closing.{padded, closeChecks, closePlan, closeVerdict}
 use Rattle.spec.specs.Counts.{neverPlace}
-use Rattle.spec.specs.Drives.{noChunk, noZone, stored, View, zoneAt, pointerAt, chunkAt, chunkOf, zoneOf, driveOf, viewOf, putZone, resetZone, setZone}
-use Rattle.spec.specs.Drives.{storeView, pointerByte, pointerOf, setPointer, storeDisk, storeAll, segmentNumbers, zoneOn, placeSegment, emptyOnAll}
-use Rattle.spec.specs.Drives.{emptyZones, sealedIn, dataStored, blocksOf, sparesOf, recordIn, recordAt, footersOf, zeroSpare, headerStores, footerStores}
+use Rattle.spec.specs.Drives.{noChunk, noZone, stored, View, zoneAt, pointerAt, chunkAt, chunkOf, zoneOf, driveOf, viewOf, putZone, resetZone, setZone, Seg, seg, sameSeg}
+use Rattle.spec.specs.Drives.{storeView, pointerByte, pointerOf, setPointer, storeDisk, storeAll, allSegs, zoneOn, placeSegment, emptyOnAll}
+use Rattle.spec.specs.Drives.{emptySegs, sealedIn, dataStored, blocksOf, sparesOf, recordIn, recordAt, footersOf, zeroSpare, headerStores, footerStores}
 use Rattle.spec.specs.Drives.{resetStores}
 use Rattle.spec.specs.Engine.{Call, storeCount, lentBlock, verdict, lentOk, callOn, callDisk, Lent, Left, lentDisk, lentMemory, lentAll, leftBy, callBytes}
 use Rattle.spec.specs.Engine.Call.{write, land, fill, restart}
@@ -42,7 +42,7 @@ use Rattle.spec.specs.Read.{placeFaults, lookup, foundFaults, shown, dec
 use Rattle.spec.specs.Rebuild.{namesMissing, rebuildChecks, rebuiltZone, rebuildStores, rebuildVerdict}
 use Rattle.spec.specs.Reclaim.{placesIn, tableFaults, segmentPlaces, liveIn, flying, victimOf, fewer, fewest, victim, isNone, victimSegment, victimLive}
 use Rattle.spec.specs.Reclaim.{idle, reclaimChecks, clearedRow, cleared, resetPlan, copyPlan, reclaimVerdict}
-use Rattle.spec.specs.Restart.{freeZones, isWhole, isRagged, missingFooters, renumbered, movedPieces, movedOn, movedStripe, movedStripes, rewriteStores}
+use Rattle.spec.specs.Restart.{freeSegs, isWhole, isRagged, missingFooters, renumbered, movedPieces, movedOn, movedStripe, movedStripes, rewriteStores}
 use Rattle.spec.specs.Restart.{dropStores, mendStores, restartStores, openOf, nextOf, restartMemory, uncountedIn, reportOf, namesDrive, rewrites}
 use Rattle.spec.specs.Restart.{restartChecks, restartPlan, restartVerdict}
 use Rattle.spec.specs.Segments.{lowDrive, headerAt, leftBy1, isCopy, remaining, recordsIn, segmentOf, segments, recsOn, offsetOn, hasChunk, counts}
@@ -81,7 +81,7 @@ viewAfter p r = viewOf p (r .lent .image) (r .lent .pointers)
 unfoldable pub stampAt : Params → Left → ℕ → ℕ
 stampAt p r a =
     let q = placeAt (r .lent .addresses) a in
-    let t = recordAt p (viewAfter p r) (stateOf (r .lent .state) .missing) (placeDrive p q) (placeZone p q) (placeBlock p q - 1) .stamp in
+    let t = recordAt p (viewAfter p r) (stateOf (r .lent .state) .missing) (placeDrive p q) (placeSegment p q) (placeBlock p q - 1) .stamp in
     cond (eqb q neverPlace) 0 t
 
 -- a block of one byte over and over
@@ -110,7 +110,7 @@ unfoldable pub m8Calls : List Call
 m8Calls = restart 255 100 ∷ write 0 (blockOf 1) 100 ∷ write 1 (blockOf 2) 100 ∷ land 0 0 9 ∷ land 1 0 9 ∷ []
 
 -- M8: the stripes of segment g that count with none missing, and with drive d missing
-unfoldable pub countedBoth : Params → Left → ℕ → ℕ → List (List ℕ)
+unfoldable pub countedBoth : Params → Left → ℕ → Seg → List (List ℕ)
 countedBoth p r d g = map (λ gone. counted p gone (segmentOf p (viewAfter p r) gone g)) (0 ∷ named d ∷ [])
 
 pub record Examples : Type 0 where
@@ -123,35 +123,35 @@ pub record Examples : Type 0 where
   pub m5 : (map (group (mkParams 3 64 4 5 2 8)) (below 5) ≡ 0 ∷ 0 ∷ 1 ∷ 1 ∷ 2 ∷ []) × (compactEntry (mkParams 3 64 4 5 2 8) 4 ≡ 0)
   pub m6 : (perFooter small ≡ 3) × (footers (mkParams 3 64 4 3 2 6) ≡ 1) × (footers small ≡ 2)
   pub m7 : m7Reads (runs small (fresh small) m7First) ≡ 3 ∷ 3 ∷ blockOf 3
-  pub m8 : countedBoth small (runs small (fresh small) m8Calls) 2 0 ≡ [] ∷ (0 ∷ []) ∷ []
+  pub m8 : countedBoth small (runs small (fresh small) m8Calls) 2 (seg 0) ≡ [] ∷ (0 ∷ []) ∷ []
 
 pub examples-hold : Examples
-unfolding ones onesIn kind values isRefused isRefusedAs isCut finished beFrom beOf toBe leOf toLe part splice xors parity xorAll bytesOf widthsOf fieldAt readField
-    ninth ruled firstRefusal decided cutMemory limited outcome padded closeChecks closePlan closeVerdict noChunk noZone stored zoneAt pointerAt chunkAt
-    chunkOf zoneOf driveOf viewOf putZone resetZone setZone storeView pointerByte pointerOf setPointer storeDisk storeAll segmentNumbers zoneOn
-    placeSegment emptyOnAll emptyZones sealedIn dataStored blocksOf sparesOf recordIn recordAt footersOf zeroSpare headerStores footerStores resetStores
-    storeCount lentBlock verdict lentOk callOn callDisk lentDisk lentMemory lentAll leftBy callBytes pointerFaults sameChunk headerFault serialFault
-    outside twice stripeFault badRec storedBad decodedBad addressFault footersStored sameBlocks footerFaultIn footerFault clashes segmentFault
-    segmentFaults imageChecks slotOf ready waiting completes seals flightRec misplaced overfull entryFaults landFaults serialAt heldCand held landedCand
-    landedCands pointed landChecks sealStores writesIn landStore landPlan landVerdict parityDrive dataDrive dataPosition isData parityPosition dataDrives group
-    inGroupOf groupOffsets compactEntry headerVersion headerTable headerWidths headerLen headerFields headerBlock headerSerial headerCopied recordFields
-    recordBytes recordOf footerBlock footerRecord upFrom below all any isMember consIf keep tally isNil sucUnless indexOf flat total greatest least
-    firstOr sameList padTo pieces zipped powers only isIn slotCount slots cell idleState zeroState stateSections sectionLen sectionAt stateLen numbersAt
-    sectionOf numberOf stateNumbers sectionBytes stateBytes stateOf stripeIn filledIn landedIn isWrite entryIn entriesIn offsetIn openSegment isFree
-    isFull isFilling inFlight freeSlot fillingSlot hasFilling holdsAt holds slotOk stateOk stateFaults setStamp setOpen setClosed beginStripe addEntry
-    landedMask markLanded freeStripe placeAt setPlace compactAt shownAt slotByte slotBlock setSlotBlock setSlotParity between blockSizes parityCount dataCount
-    mostAddresses inRange recordTable recordWidths spareLen perFooter footers capacity unitLen zoneLen driveLen imageLen pointersLen addressesLen compactLen
-    inflightLen placeOf placeBlock placeZone placeDrive placeByte noDrive named drivesOf present absent parityRec parityPiece
-    encodeBlock encodeRec encodePiece decodeBlock decodeRec decodePiece beats better best placeOr
-    candsOf placeFaults lookup foundFaults shown decodeFaults storedAt decodedAt readPiece readAnswer readChecks readVerdict fillVerdict namesMissing
-    rebuildChecks rebuiltZone rebuildStores rebuildVerdict placesIn tableFaults segmentPlaces liveIn flying victimOf fewer fewest victim isNone
-    victimSegment victimLive idle reclaimChecks clearedRow cleared resetPlan copyPlan reclaimVerdict freeZones isWhole isRagged missingFooters
+unfolding ones onesIn kind values isRefused isRefusedAs isCut finished beFrom beOf toBe leOf toLe part splice xors parity xorAll bytesOf widthsOf
+    fieldAt readField ninth ruled firstRefusal decided cutMemory limited outcome padded closeChecks closePlan closeVerdict noChunk noZone stored
+    zoneAt pointerAt chunkAt chunkOf zoneOf driveOf viewOf putZone resetZone setZone storeView pointerByte pointerOf setPointer storeDisk storeAll
+    sameSeg allSegs zoneOn placeSegment emptyOnAll emptySegs sealedIn dataStored blocksOf sparesOf recordIn recordAt footersOf zeroSpare headerStores
+    footerStores resetStores storeCount lentBlock verdict lentOk callOn callDisk lentDisk lentMemory lentAll leftBy callBytes pointerFaults sameChunk
+    headerFault serialFault outside twice stripeFault badRec storedBad decodedBad addressFault footersStored sameBlocks footerFaultIn footerFault
+    clashes segmentFault segmentFaults imageChecks slotOf ready waiting completes seals flightRec misplaced overfull entryFaults landFaults serialAt
+    heldCand held landedCand landedCands pointed landChecks sealStores writesIn landStore landPlan landVerdict parityDrive dataDrive dataPosition
+    isData parityPosition dataDrives group inGroupOf groupOffsets compactEntry headerVersion headerTable headerWidths headerLen headerFields
+    headerBlock headerSerial headerCopied recordFields recordBytes recordOf footerBlock footerRecord upFrom below all any isMember consIf keep tally
+    isNil sucUnless indexOf flat total greatest least firstOr sameList padTo pieces zipped powers only isIn slotCount slots cell idleState zeroState
+    stateSections sectionLen sectionAt stateLen numbersAt sectionOf numberOf stateNumbers sectionBytes stateBytes stateOf stripeIn filledIn landedIn
+    isWrite entryIn entriesIn offsetIn openSegment isFree isFull isFilling inFlight freeSlot fillingSlot hasFilling holdsAt holds slotOk stateOk
+    stateFaults setStamp setOpen setClosed beginStripe addEntry landedMask markLanded freeStripe placeAt setPlace compactAt shownAt slotByte slotBlock
+    setSlotBlock setSlotParity between blockSizes parityCount dataCount mostAddresses inRange recordTable recordWidths spareLen perFooter footers
+    capacity unitLen zoneLen driveLen imageLen pointersLen addressesLen compactLen inflightLen placeOf placeBlock placeZone placeDrive placeByte
+    noDrive named drivesOf present absent parityRec parityPiece encodeBlock encodeRec encodePiece decodeBlock decodeRec decodePiece beats better best
+    placeOr candsOf placeFaults lookup foundFaults shown decodeFaults storedAt decodedAt readPiece readAnswer readChecks readVerdict fillVerdict
+    namesMissing rebuildChecks rebuiltZone rebuildStores rebuildVerdict placesIn tableFaults segmentPlaces liveIn flying victimOf fewer fewest victim
+    isNone victimSegment victimLive idle reclaimChecks clearedRow cleared resetPlan copyPlan reclaimVerdict freeSegs isWhole isRagged missingFooters
     renumbered movedPieces movedOn movedStripe movedStripes rewriteStores dropStores mendStores restartStores openOf nextOf restartMemory uncountedIn
-    reportOf namesDrive rewrites restartChecks restartPlan restartVerdict lowDrive headerAt leftBy1 isCopy remaining recordsIn segmentOf segments recsOn
-    offsetOn hasChunk counts counted uncounted storedPiece pieceOf putPiece storedRec recOf offsetOf candOf segmentCands candidates addressTable
-    compactRow rowOf compactTable greatestStamp greatestSerial unsealed mustOpen opens noStamp noSerial otherGroup mustWait scarce placed openedBy
-    slotFor begunBy sending writeChecks writePlan writeVerdict emptyLent runs fresh viewAfter stampAt blockOf m7First m7Then m7Reads m8Calls
-    stampAndBlock countedBoth
+    reportOf namesDrive rewrites restartChecks restartPlan restartVerdict lowDrive headerAt leftBy1 isCopy remaining recordsIn segmentOf segments
+    recsOn offsetOn hasChunk counts counted uncounted storedPiece pieceOf putPiece storedRec recOf offsetOf candOf segmentCands candidates
+    addressTable compactRow rowOf compactTable greatestStamp greatestSerial unsealed mustOpen opens noStamp noSerial otherGroup mustWait scarce placed
+    openedBy slotFor begunBy sending writeChecks writePlan writeVerdict emptyLent runs fresh viewAfter stampAt blockOf stampAndBlock m7First m7Then
+    m7Reads m8Calls countedBoth
 examples-hold = record {
   box = (refl, refl, refl);
   m1 = (refl, refl, refl);

@@ -8,11 +8,11 @@ use Rattle.spec.specs.declared.Params.{Params}
 use Rattle.spec.specs.Calls.{Check}
 use Rattle.spec.specs.Calls.Check.{zones}
 use Rattle.spec.specs.Counts.{paddingAddress}
-use Rattle.spec.specs.Drives.{Chunk, noChunk, Zone, noZone, View, pointerAt, zoneOn, blocksOf, footersOf, zeroSpare}
+use Rattle.spec.specs.Drives.{Chunk, noChunk, Zone, noZone, View, pointerAt, zoneOn, blocksOf, footersOf, zeroSpare, sameSeg}
 use Rattle.spec.specs.Layout.{isData, inGroupOf, headerBlock, Rec}
 use Rattle.spec.specs.Lists.{below, any, keep, isNil, sameList}
 use Rattle.spec.specs.Params.{footers, capacity, present, absent}
-use Rattle.spec.specs.Segments.{Segment, recsOn, counted, recOf, unsealed}
+use Rattle.spec.specs.Segments.{Segment, recsOn, counted, recOf, unsealed, lowDrive}
 
 -- 01, Refusals, 9: a present drive's write pointer above capacity
 unfoldable pub pointerFaults : Params → View → ℕ → List ℕ
@@ -29,7 +29,7 @@ headerFault p gone g = any (λ d.
 
 -- 01, Refusals, 9: a serial at or below its copied one or used twice
 unfoldable pub serialFault : List Segment → Segment → Bool
-serialFault gs g = leb (g .serial) (g .copied) || any (λ (h : Segment). not (eqb (h .seg) (g .seg)) && eqb (h .serial) (g .serial)) gs
+serialFault gs g = leb (g .serial) (g .copied) || any (λ (h : Segment). not (sameSeg (h .seg) (g .seg)) && eqb (h .serial) (g .serial)) gs
 
 -- 01, Refusals, 9: a stripe number outside its group
 unfoldable pub outside : Params → ℕ → List Rec → Bool
@@ -96,7 +96,7 @@ segmentFault p gone gs g =
 
 -- 01, Refusals, 9: the remaining segments with a fault
 unfoldable pub segmentFaults : Params → ℕ → List Segment → List ℕ
-segmentFaults p gone gs = map (λ (g : Segment). g .seg) (keep (segmentFault p gone gs) gs)
+segmentFaults p gone gs = map (λ (g : Segment). zoneOn (g .seg) (lowDrive p gone)) (keep (segmentFault p gone gs) gs)
 
 -- 01, Refusals, 9: pointers first, then remaining segments
 unfoldable pub imageChecks : Params → View → ℕ → List Segment → List Check

@@ -11,7 +11,7 @@ use Rattle.spec.specs.declared.Answer.the-variants.{Landed}
 use Rattle.spec.specs.Calls.{Check, firstRefusal, Plan, mkPlan, Verdict, decided}
 use Rattle.spec.specs.Calls.Check.{rule, zones}
 use Rattle.spec.specs.Counts.{neverPlace}
-use Rattle.spec.specs.Drives.{View, zoneAt, pointerAt, chunkAt, Store, storeView, zoneOn, placeSegment, recordAt, footerStores}
+use Rattle.spec.specs.Drives.{View, zoneAt, pointerAt, chunkAt, Store, storeView, zoneOn, placeSegment, recordAt, footerStores, Seg}
 use Rattle.spec.specs.Drives.Store.{put}
 use Rattle.spec.specs.Layout.{dataDrive, dataPosition, isData, parityPosition, group, compactEntry, headerSerial, Rec, recordBytes}
 use Rattle.spec.specs.Lists.{Opt, below, any, consIf, tally, indexOf, flat, isIn}
@@ -63,7 +63,7 @@ unfoldable pub misplaced : Params → View → ℕ → ℕ → ℕ → Bool
 misplaced p v d z s = not (between 1 (p .S) (pointerAt v d z) && eqb (group p (pointerAt v d z - 1)) (group p s))
 
 -- 01, Refusals, 9: a zone the call would fill above capacity
-unfoldable pub overfull : Params → View → ℕ → ℕ → Bool
+unfoldable pub overfull : Params → View → ℕ → Seg → Bool
 overfull p v d g = any (λ e. ltb (capacity p) (pointerAt v e (zoneOn g e) + cond (eqb e d) 1 0 + footers p)) (drivesOf p)
 
 -- 01, Refusals, 9: places to be read: of the stripe's addresses, when it completes
@@ -81,12 +81,12 @@ landFaults p v m d s =
     let i = slotOf st s in
     let g = openSegment st in
     let zs = flat (entryFaults p v (m .addresses)) (entriesIn st i) in
-    consIf (misplaced p v d (zoneOn g d) s) g (consIf (seals p st i d && overfull p v d g) g (cond (completes p st i d) zs []))
+    consIf (misplaced p v d (zoneOn g d) s) (zoneOn g d) (consIf (seals p st i d && overfull p v d g) (zoneOn g d) (cond (completes p st i d) zs []))
 
 -- ---- the address table when a stripe completes
 
 -- the serial in drive 0's header of a segment
-unfoldable pub serialAt : View → ℕ → ℕ
+unfoldable pub serialAt : View → Seg → ℕ
 serialAt v g = headerSerial (chunkAt v 0 (zoneOn g 0) 0 .block)
 
 -- 01, The calls: the record that the table holds of an address
@@ -105,7 +105,7 @@ held p v tb a =
     cond (eqb q neverPlace) none c
 
 -- the completed stripe's records, by data position
-unfoldable pub landedCand : Params → View → ℕ → State → ℕ → ℕ → Cand
+unfoldable pub landedCand : Params → View → Seg → State → ℕ → ℕ → Cand
 landedCand p v g st i k =
     let e = entryIn st i k in
     let d = dataDrive p (stripeIn st i) k in
@@ -113,7 +113,7 @@ landedCand p v g st i k =
     record { address = e .address; stamp = e .stamp; serial = serialAt v g; drive = d; offset = o; place = placeOf p d (zoneOn g d) (1 + o) }
 
 -- 01, The calls: all of the stripe's records
-unfoldable pub landedCands : Params → View → ℕ → State → ℕ → List Cand
+unfoldable pub landedCands : Params → View → Seg → State → ℕ → List Cand
 landedCands p v g st i = map (landedCand p v g st i) (below (filledIn st i))
 
 -- 01, The calls: landing uses the rule too; the table's record and all of the stripe's compete at once
@@ -135,7 +135,7 @@ landChecks p long v m d s =
     ∷ zones (stateFaults p st ++ zs) ∷ []
 
 -- 01, Landing: footers on every drive, once the chunk has landed
-unfoldable pub sealStores : Params → View → ℕ → List Store
+unfoldable pub sealStores : Params → View → Seg → List Store
 sealStores p v g = flat (λ d. footerStores p d (zoneOn g d) (zoneAt v d (zoneOn g d)) 0 (footers p)) (drivesOf p)
 
 -- 01, Landing: its writes are acknowledged, and the answer gives their number (copies and padding not counted)

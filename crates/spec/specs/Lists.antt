@@ -83,7 +83,7 @@ least n [] = n
 least n (k ∷ l) = least (min n k) l
 
 -- the first, or n
-unfoldable pub firstOr : ℕ → List ℕ → ℕ
+unfoldable pub firstOr : {A : Type 0} → A → List A → A
 firstOr n [] = n
 firstOr n (k ∷ l) = k
 

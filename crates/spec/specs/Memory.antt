@@ -10,7 +10,7 @@ use Rattle.spec.specs.declared.Params.{Params}
 use Rattle.spec.specs.declared.State.{State}
 use Rattle.spec.specs.Bytes.{beOf, toBe, leOf, toLe, part, splice}
 use Rattle.spec.specs.Counts.{aStamp, aSerial}
-use Rattle.spec.specs.Drives.{View, pointerAt}
+use Rattle.spec.specs.Drives.{View, pointerAt, Seg, seg}
 use Rattle.spec.specs.Layout.{parityDrive, dataDrives, groupOffsets, compactEntry, Rec, mkRec}
 use Rattle.spec.specs.Lists.{below, all, any, consIf, keep, indexOf, flat, total, zipped, only, isIn}
 use Rattle.spec.specs.Params.{parityCount, dataCount}
@@ -161,8 +161,8 @@ unfoldable pub offsetIn : State → ℕ → ℕ → ℕ
 offsetIn st i d = getD (st .offsets) (cell i d) 0
 
 -- 01, Write: the open segment
-unfoldable pub openSegment : State → ℕ
-openSegment st = st .opened - 1
+unfoldable pub openSegment : State → Seg
+openSegment st = seg (st .opened - 1)
 
 -- 01, Write: the eighth is free
 unfoldable pub isFree : State → ℕ → Bool
@@ -225,9 +225,9 @@ setStamp st t =
     (st .addresses) (st .stamps) (st .offsets)
 
 -- 01, Write: the open segment g under serial r, its stripe 0 next
-unfoldable pub setOpen : State → ℕ → ℕ → State
+unfoldable pub setOpen : State → Seg → ℕ → State
 setOpen st g r =
-    mkState (st .live) (st .missing) (st .stamp .0) r (suc g) 0 (st .numbers) (st .filled) (st .writes) (st .landed) (st .addresses)
+    mkState (st .live) (st .missing) (st .stamp .0) r (suc (g .name)) 0 (st .numbers) (st .filled) (st .writes) (st .landed) (st .addresses)
     (st .stamps) (st .offsets)
 
 -- no segment open

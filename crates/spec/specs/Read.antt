@@ -10,7 +10,7 @@ use Rattle.spec.specs.declared.Answer.the-variants.{Part, Never, Lost, F
 use Rattle.spec.specs.Calls.{Check, firstRefusal, mkPlan, Verdict, decided}
 use Rattle.spec.specs.Calls.Check.{rule, zones}
 use Rattle.spec.specs.Counts.{neverPlace}
-use Rattle.spec.specs.Drives.{View, pointerAt, chunkAt, recordAt}
+use Rattle.spec.specs.Drives.{View, pointerAt, chunkAt, recordAt, Seg, zoneOn, placeSegment}
 use Rattle.spec.specs.Layout.{mkRec}
 use Rattle.spec.specs.Lists.{any, consIf, isNil, firstOr, isIn}
 use Rattle.spec.specs.Memory.{Memory, stateFaults, placeAt, shownAt}
@@ -46,29 +46,29 @@ foundFaults p v gone (here q) = placeFaults p v gone q
 foundFaults p v gone (away q) = placeFaults p v gone q
 
 -- 01, What a zone holds: the offsets at which the present drives show a stripe: lowest of each, as a list of lists
-unfoldable pub shown : Params → View → ℕ → List ℕ → ℕ → ℕ → List (List ℕ)
-shown p v gone cs z s = map (λ d. shownAt p v cs d z s) (present p gone)
+unfoldable pub shown : Params → View → ℕ → List ℕ → Seg → ℕ → List (List ℕ)
+shown p v gone cs g s = map (λ d. shownAt p v cs d (zoneOn g d) s) (present p gone)
 
 -- 01, Refusals, 9: a decode whose stripe the table doesn't show on all present drives
 unfoldable pub decodeFaults : Params → View → ℕ → List ℕ → Found → List ℕ
 decodeFaults p v gone cs nowhere = []
 decodeFaults p v gone cs (here q) = []
-decodeFaults p v gone cs (away q) = consIf (any isNil (shown p v gone cs (placeZone p q) (placeBlock p q - 1))) (placeZone p q) []
+decodeFaults p v gone cs (away q) = consIf (any isNil (shown p v gone cs (placeSegment p q) (placeBlock p q - 1))) (placeZone p q) []
 
 -- 01, Read: block and record at a place of a present drive
-unfoldable pub storedAt : Params → View → ℕ → ℕ → ℕ → ℕ → Piece
-storedAt p v gone d z o = mkPiece (chunkAt v d z (1 + o) .block) (recordAt p v gone d z o)
+unfoldable pub storedAt : Params → View → ℕ → ℕ → Seg → ℕ → Piece
+storedAt p v gone d g o = mkPiece (chunkAt v d (zoneOn g d) (1 + o) .block) (recordAt p v gone d g o)
 
 -- 01, Read: block and record of drive d, decoded from the chunks that the table shows
-unfoldable pub decodedAt : Params → View → ℕ → List ℕ → ℕ → ℕ → ℕ → Piece
+unfoldable pub decodedAt : Params → View → ℕ → List ℕ → ℕ → Seg → ℕ → Piece
 unfolding decodePiece
-decodedAt p v gone cs d z s = decodePiece p gone s d (λ e. storedAt p v gone e z (firstOr 0 (shownAt p v cs e z s)))
+decodedAt p v gone cs d g s = decodePiece p gone s d (λ e. storedAt p v gone e g (firstOr 0 (shownAt p v cs e (zoneOn g e) s)))
 
 -- 01, Read: the block, with its record, that an address reads: zeros if never written (02, item 2, takes the stamp from here)
 unfoldable pub readPiece : Params → View → ℕ → List ℕ → Found → Piece
 readPiece p v gone cs nowhere = mkPiece (replicate (p .B) 0) (mkRec 0 0 0)
-readPiece p v gone cs (here q) = storedAt p v gone (placeDrive p q) (placeZone p q) (placeBlock p q - 1)
-readPiece p v gone cs (away q) = decodedAt p v gone cs (placeDrive p q) (placeZone p q) (placeBlock p q - 1)
+readPiece p v gone cs (here q) = storedAt p v gone (placeDrive p q) (placeSegment p q) (placeBlock p q - 1)
+readPiece p v gone cs (away q) = decodedAt p v gone cs (placeDrive p q) (placeSegment p q) (placeBlock p q - 1)
 
 -- 01, Read: the part of the image, never written, or on the missing drive
 unfoldable pub readAnswer : Params → Found → Answer

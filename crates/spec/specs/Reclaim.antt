@@ -11,7 +11,7 @@ use Rattle.spec.specs.Bytes.{splice}
 use Rattle.spec.specs.Calls.{Check, firstRefusal, Plan, mkPlan, Verdict, decided}
 use Rattle.spec.specs.Calls.Check.{rule, zones}
 use Rattle.spec.specs.Counts.{neverPlace, aStamp}
-use Rattle.spec.specs.Drives.{View, chunkAt, segmentNumbers, zoneOn, placeSegment, sealedIn, recordAt, resetStores}
+use Rattle.spec.specs.Drives.{View, chunkAt, allSegs, zoneOn, placeSegment, sealedIn, recordAt, resetStores, Seg, seg}
 use Rattle.spec.specs.Lists.{Opt, below, any, isMember, consIf, keep, isNil, flat, firstOr}
 use Rattle.spec.specs.Lists.Opt.{none, some}
 use Rattle.spec.specs.Memory.{Memory, mkMemory, holds, stateFaults, placeAt, compactAt}
@@ -29,11 +29,11 @@ unfoldable pub tableFaults : Params → List ℕ → List ℕ
 tableFaults p tb = consIf (any (λ q. leb (p .N) (placeDrive p q)) (placesIn p tb)) 0 []
 
 -- 01, Reclaim: the places of segment g's live blocks, by drive, then offset
-unfoldable pub segmentPlaces : Params → ℕ → List ℕ
+unfoldable pub segmentPlaces : Params → Seg → List ℕ
 segmentPlaces p g = flat (λ d. map (placeOf p d (zoneOn g d)) (below (capacity p))) (drivesOf p)
 
 -- 01, Reclaim: the live blocks of segment g
-unfoldable pub liveIn : Params → List ℕ → ℕ → List ℕ
+unfoldable pub liveIn : Params → List ℕ → Seg → List ℕ
 liveIn p qs g = keep (λ q. isMember q qs) (segmentPlaces p g)
 
 -- 01, Reclaim: a live block is in flight while a stripe in flight holds its address with its stamp
@@ -47,11 +47,11 @@ flying p v st q =
 
 -- 01, Reclaim: a sealed segment with its live blocks
 pub record Victim : Type 0 where
-  pub segment : ℕ
+  pub segment : Seg
   pub live : List ℕ
 
 -- 01, Reclaim: segment g with its live blocks
-unfoldable pub victimOf : Params → List ℕ → ℕ → Victim
+unfoldable pub victimOf : Params → List ℕ → Seg → Victim
 victimOf p qs g = record { segment = g; live = liveIn p qs g }
 
 -- 01, Reclaim: the one with fewer, the first on a tie
@@ -68,16 +68,16 @@ fewest a (b ∷ bs) = fewest (fewer a b) bs
 unfoldable pub victim : Params → View → List ℕ → Opt Victim
 victim p v tb =
     let qs = placesIn p tb in
-    fewest none (map (victimOf p qs) (keep (sealedIn p v 0) (segmentNumbers p)))
+    fewest none (map (victimOf p qs) (keep (sealedIn p v 0) (allSegs p)))
 
 -- 01, Refusals, 5: no sealed segment
 unfoldable pub isNone : Opt Victim → Bool
 isNone none = true
 isNone (some w) = false
 
--- 01, Reclaim: the number of the segment taken
-unfoldable pub victimSegment : Opt Victim → ℕ
-victimSegment none = 0
+-- 01, Reclaim: the segment taken
+unfoldable pub victimSegment : Opt Victim → Seg
+victimSegment none = seg 0
 victimSegment (some w) = w .segment
 
 -- 01, Reclaim: its live blocks
@@ -100,21 +100,21 @@ reclaimChecks p long v m w =
     ∷ rule 5 (isNone w || (live && isNil (idle p v st w)))
     ∷ rule 6 (live && noSerial p st) ∷ rule 7 (live && mustWait p st) ∷ rule 8 (live && opens p st && scarce p v 1)
     ∷ zones (stateFaults p st ++ tableFaults p (m .addresses)
-    ++ map (λ q. victimSegment w) (keep (λ q. not (between 1 (p .S) (placeBlock p q))) (victimLive w))) ∷ []
+    ++ map (placeZone p) (keep (λ q. not (between 1 (p .S) (placeBlock p q))) (victimLive w))) ∷ []
 
 -- 01, Reclaim: with none live it resets its zones; the compact table is 0 where no chunk is stored
 unfoldable pub clearedRow : Params → List ℕ → ℕ → ℕ → List ℕ
 clearedRow p cs d z = splice cs (compactAt p d z 0) (replicate (p .S) 0)
 
 -- 01, What a zone holds: the rows of a segment zeroed
-unfoldable pub cleared : Params → ℕ → List ℕ → List ℕ → List ℕ
+unfoldable pub cleared : Params → Seg → List ℕ → List ℕ → List ℕ
 cleared p g [] cs = cs
 cleared p g (d ∷ ds) cs = cleared p g ds (clearedRow p cs d (zoneOn g d))
 
 -- 01, Reclaim: the reset
-unfoldable pub resetPlan : Params → Memory → ℕ → Plan
+unfoldable pub resetPlan : Params → Memory → Seg → Plan
 resetPlan p m g =
-    mkPlan (resetStores p g) (Reset g) (mkMemory (m .state) (m .addresses) (cleared p g (drivesOf p) (m .compact)) (m .inflight)) []
+    mkPlan (resetStores p g) (Reset (zoneOn g 0)) (mkMemory (m .state) (m .addresses) (cleared p g (drivesOf p) (m .compact)) (m .inflight)) []
 
 -- 01, Reclaim: otherwise the first live block not in flight goes into the filling stripe with its old stamp
 unfoldable pub copyPlan : Params → View → Memory → ℕ → Plan

@@ -10,7 +10,7 @@ use Rattle.spec.specs.declared.Answer.the-variants.{Restarted}
 use Rattle.spec.specs.Calls.{Check, firstRefusal, Plan, mkPlan, Verdict, decided}
 use Rattle.spec.specs.Calls.Check.{rule}
 use Rattle.spec.specs.Counts.{lastCount}
-use Rattle.spec.specs.Drives.{noZone, View, Store, storeView, storeAll, segmentNumbers, zoneOn, headerStores, footerStores, resetStores}
+use Rattle.spec.specs.Drives.{noZone, View, Store, storeView, storeAll, allSegs, zoneOn, headerStores, footerStores, resetStores, Seg, seg, sameSeg}
 use Rattle.spec.specs.Faults.{footersStored, imageChecks}
 use Rattle.spec.specs.Layout.{dataPosition, isData, parityPosition, dataDrives, mkRec}
 use Rattle.spec.specs.Lists.{below, any, keep, isNil, flat, total, firstOr, sameList}
@@ -21,9 +21,9 @@ use Rattle.spec.specs.Segments.{Segment, segments, counted, uncounted, s
 
 -- ---- step 4
 
--- the zones whose segment doesn't remain: empty once the dropped ones are reset
-unfoldable pub freeZones : Params → List Segment → List ℕ
-freeZones p gs = keep (λ z. not (any (λ (g : Segment). eqb (g .seg) z) gs)) (segmentNumbers p)
+-- the segments that don't remain: empty once the dropped ones are reset
+unfoldable pub freeSegs : Params → List Segment → List Seg
+freeSegs p gs = keep (λ h. not (any (λ (g : Segment). sameSeg (g .seg) h) gs)) (allSegs p)
 
 -- 01, Restart, 4: all S stripes count
 unfoldable pub isWhole : Params → Segment → Bool
@@ -57,29 +57,29 @@ movedOn p qs k d =
     cond (isData p k d) a b
 
 -- 01, Restart, 4: its stores, by drive
-unfoldable pub movedStripe : Params → Segment → ℕ → ℕ → ℕ → List Store
+unfoldable pub movedStripe : Params → Segment → Seg → ℕ → ℕ → List Store
 movedStripe p g z s k =
     let qs = movedPieces p g s k in
     map (λ d. putPiece d (zoneOn z d) (movedOn p qs k d)) (drivesOf p)
 
 -- the stripes ss, numbered from k
-unfoldable pub movedStripes : Params → Segment → ℕ → List ℕ → ℕ → List Store
+unfoldable pub movedStripes : Params → Segment → Seg → List ℕ → ℕ → List Store
 movedStripes p g z [] k = []
 movedStripes p g z (s ∷ ss) k = movedStripe p g z s k ++ movedStripes p g z ss (suc k)
 
 -- 01, Restart, 4: headers naming the old serial, the counted stripes, then the old zones reset
-unfoldable pub rewriteStores : Params → Segment → ℕ → ℕ → List Store
+unfoldable pub rewriteStores : Params → Segment → Seg → ℕ → List Store
 rewriteStores p g z serial = headerStores p z serial (g .serial) ++ movedStripes p g z (counted p 0 g) 0 ++ resetStores p (g .seg)
 
 -- 01, Restart, 4: dropped segments are reset
 unfoldable pub dropStores : Params → List Segment → List Store
-dropStores p gs = flat (resetStores p) (freeZones p gs)
+dropStores p gs = flat (resetStores p) (freeSegs p gs)
 
 -- 01, Restart, 4: missing footers, or the rewrite
 unfoldable pub mendStores : Params → List Segment → Segment → List Store
 mendStores p gs g =
     let a = missingFooters p g in
-    let b = rewriteStores p g (firstOr 0 (freeZones p gs)) (suc (greatestSerial gs)) in
+    let b = rewriteStores p g (firstOr (seg 0) (freeSegs p gs)) (suc (greatestSerial gs)) in
     let c = cond (isRagged p g) b [] in
     cond (isWhole p g) a c
 
@@ -94,7 +94,7 @@ restartStores p gone gs =
 -- 01, Restart: the memory of what the drives say once the stores are made; the open segment is the unsealed one
 unfoldable pub openOf : List Segment → ℕ
 openOf [] = 0
-openOf (g ∷ gs) = suc (g .seg)
+openOf (g ∷ gs) = suc (g .seg .name)
 
 -- 01, Write: the next stripe number of the open segment
 unfoldable pub nextOf : Params → List Segment → ℕ
@@ -129,7 +129,7 @@ rewrites p gone gs = eqb gone 0 && any (isRagged p) (unsealed gs)
 unfoldable pub restartChecks : Params → Bool → View → ℕ → List Segment → List Check
 restartChecks p long v d gs =
     rule 1 (not (inRange p) || not (namesDrive p d)) ∷ rule 2 (not long) ∷ imageChecks p v (named d) gs
-    ++ (rule 6 (rewrites p (named d) gs && eqb (greatestSerial gs) lastCount) ∷ rule 8 (rewrites p (named d) gs && isNil (freeZones p gs)) ∷ [])
+    ++ (rule 6 (rewrites p (named d) gs && eqb (greatestSerial gs) lastCount) ∷ rule 8 (rewrites p (named d) gs && isNil (freeSegs p gs)) ∷ [])
 
 -- 01, Restart: stores, answer and memory
 unfoldable pub restartPlan : Params → View → ℕ → List Segment → List ℕ → Plan

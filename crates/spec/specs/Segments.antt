@@ -6,7 +6,7 @@ use lib.Dec.{eqb}
 use lib.ListN.{getD}
 use Rattle.spec.specs.declared.Params.{Params}
 use Rattle.spec.specs.Bytes.{toBe}
-use Rattle.spec.specs.Drives.{noChunk, Zone, noZone, View, zoneAt, pointerAt, chunkAt, Store, segmentNumbers, zoneOn, sealedIn, dataStored, recordIn}
+use Rattle.spec.specs.Drives.{noChunk, Zone, noZone, View, zoneAt, pointerAt, chunkAt, Store, allSegs, zoneOn, sealedIn, dataStored, recordIn, Seg, sameSeg}
 use Rattle.spec.specs.Drives.Store.{put}
 use Rattle.spec.specs.Layout.{dataDrives, compactEntry, headerSerial, headerCopied, Rec, mkRec, recordBytes}
 use Rattle.spec.specs.Lists.Opt.{none}
@@ -20,28 +20,28 @@ unfoldable pub lowDrive : Params → ℕ → ℕ
 lowDrive p gone = firstOr 0 (present p gone)
 
 -- 01, Restart, 2: a segment's header on a drive
-unfoldable pub headerAt : View → ℕ → ℕ → List ℕ
+unfoldable pub headerAt : View → ℕ → Seg → List ℕ
 headerAt v d g = chunkAt v d (zoneOn g d) 0 .block
 
 -- 01, Restart, 1: a segment with a zone empty on some present drive is dropped; those left
-unfoldable pub leftBy1 : Params → View → ℕ → List ℕ
-leftBy1 p v gone = keep (λ g. all (λ d. not (eqb (pointerAt v d (zoneOn g d)) 0)) (present p gone)) (segmentNumbers p)
+unfoldable pub leftBy1 : Params → View → ℕ → List Seg
+leftBy1 p v gone = keep (λ g. all (λ d. not (eqb (pointerAt v d (zoneOn g d)) 0)) (present p gone)) (allSegs p)
 
 -- 01, Restart, 2: its copied serial (0 for none) is that of another segment left by 1
-unfoldable pub isCopy : View → ℕ → List ℕ → ℕ → Bool
+unfoldable pub isCopy : View → ℕ → List Seg → Seg → Bool
 isCopy v d left g =
     let c = headerCopied (headerAt v d g) in
-    not (eqb c 0) && any (λ h. not (eqb h g) && eqb (headerSerial (headerAt v d h)) c) left
+    not (eqb c 0) && any (λ h. not (sameSeg h g) && eqb (headerSerial (headerAt v d h)) c) left
 
 -- 01, Restart, 1 and 2: the segments that remain, rising
-unfoldable pub remaining : Params → View → ℕ → List ℕ
+unfoldable pub remaining : Params → View → ℕ → List Seg
 remaining p v gone =
     let left = leftBy1 p v gone in
     keep (λ g. not (isCopy v (lowDrive p gone) left g)) left
 
--- a segment as read: number, serials by the lowest present drive, sealed or not, its zones by drive, and the records of stored chunks by drive
+-- a segment as read: its name, serials by the lowest present drive, sealed or not, its zones by drive, and the records of stored chunks by drive
 pub record Segment : Type 0 where
-  pub seg : ℕ
+  pub seg : Seg
   pub serial : ℕ
   pub copied : ℕ
   pub full : Bool
@@ -53,7 +53,7 @@ unfoldable pub recordsIn : Params → Bool → Zone → List Rec
 recordsIn p w q = map (recordIn p w q) (below (dataStored p q))
 
 -- 01, Restart, 1 to 3: segment g as read
-unfoldable pub segmentOf : Params → View → ℕ → ℕ → Segment
+unfoldable pub segmentOf : Params → View → ℕ → Seg → Segment
 segmentOf p v gone g =
     let b = headerAt v (lowDrive p gone) g in
     let w = sealedIn p v gone g in

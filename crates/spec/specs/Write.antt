@@ -10,7 +10,7 @@ use Rattle.spec.specs.declared.Answer.the-variants.{Sent}
 use Rattle.spec.specs.Calls.{Check, firstRefusal, Plan, mkPlan, Verdict, decided}
 use Rattle.spec.specs.Calls.Check.{rule, zones}
 use Rattle.spec.specs.Counts.{lastCount, aStamp}
-use Rattle.spec.specs.Drives.{View, Store, emptyZones, headerStores}
+use Rattle.spec.specs.Drives.{View, Store, emptySegs, headerStores, seg}
 use Rattle.spec.specs.Layout.{dataDrive, group}
 use Rattle.spec.specs.Lists.{any, isNil, firstOr}
 use Rattle.spec.specs.Memory.{Memory, mkMemory, slotCount, stripeIn, filledIn, isFull, inFlight, freeSlot, fillingSlot, hasFilling, stateFaults}
@@ -46,7 +46,7 @@ mustWait p st =
 
 -- 01, Refusals, 8: n zones empty on all drives, or fewer
 unfoldable pub scarce : Params → View → ℕ → Bool
-scarce p v n = leb (length (emptyZones p v)) n
+scarce p v n = leb (length (emptySegs p v)) n
 
 -- ---- a data position filled
 
@@ -79,7 +79,7 @@ pub record Sending : Type 0 where
 -- 01, Write: the segment that is opened is the lowest zone empty on all drives, its serial the next one
 unfoldable pub openedBy : Params → View → State → State
 openedBy p v st =
-    let st′ = setOpen st (firstOr 0 (emptyZones p v)) (suc (st .serial .0)) in
+    let st′ = setOpen st (firstOr (seg 0) (emptySegs p v)) (suc (st .serial .0)) in
     cond (opens p st) st′ st
 
 -- 01, Write: the next data position of the filling stripe, or the next stripe number in the lowest free eighth
@@ -98,7 +98,7 @@ sending p v st fl a t w b =
     let i = slotFor p st in
     let st₂ = begunBy p st (openedBy p v st) in
     let q = placed p st₂ fl i a t w b in
-    let hs = headerStores p (firstOr 0 (emptyZones p v)) (suc (st .serial .0)) 0 in
+    let hs = headerStores p (firstOr (seg 0) (emptySegs p v)) (suc (st .serial .0)) 0 in
     record {
       stores = cond (opens p st) hs [];
       state = q .state;

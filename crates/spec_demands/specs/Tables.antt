@@ -10,7 +10,7 @@ use Rattle.spec.specs.declared.Answer.{Answer}
 use Rattle.spec.specs.declared.Answer.the-variants.{Landed, Restarted}
 use Rattle.spec.specs.Answers.{kind, values, isRefused, isRefusedAs, isCut, finished}
 use Rattle.spec.specs.Demands.{areBytes, saidAt, NotNinth}
-use Rattle.spec.specs.Drives.{View, Store, storeView, storeAll, zoneOn, sealedIn}
+use Rattle.spec.specs.Drives.{View, Store, storeView, storeAll, zoneOn, sealedIn, Seg}
 use Rattle.spec.specs.Drives.Store.{put}
 use Rattle.spec.specs.Engine.{Call, Lent, lentDisk, callBytes}
 use Rattle.spec.specs.Engine.Call.{write, land, close, reclaim, read, fill, restart, rebuild}
@@ -21,7 +21,7 @@ use Rattle.spec.specs.Lists.{below, all, any, consIf, keep, tally, total}
 use Rattle.spec.specs.Memory.{openSegment}
 use Rattle.spec.specs.Params.{noDrive, named, present}
 use Rattle.spec.specs.Segments.{remaining, Segment, segmentOf, segments, hasChunk, counts, candidates, addressTable, compactTable}
-use Rattle.spec_demands.specs.Engines.{Reply, Engine, onValues, onBytes, viewIn, readsAs}
+use Rattle.spec_demands.specs.Engines.{Reply, Engine, onBytes, viewIn, readsAs}
 use Rattle.spec_demands.specs.Histories.{lentInOrder}
 use Rattle.spec_demands.specs.Latest.{SaidIsLatest}
 use Rattle.spec_demands.specs.Layouts.{Layout}
@@ -76,7 +76,7 @@ pendingIn ws s = tally (λ (w : Pending). eqb (w .stripe) s) ws
 -- ---- what a restart finds
 
 -- 01, Restart: "the number of stripes with some chunk but not counted, in remaining segments": on some present drive and not on every one
-unfoldable pub halfStored : Params → View → ℕ → ℕ → ℕ
+unfoldable pub halfStored : Params → View → ℕ → Seg → ℕ
 halfStored p v gone g =
     let h = hasChunk (segmentOf p v gone g) in
     tally (λ s. any (h s) (present p gone) && not (all (h s) (present p gone))) (below (p .S))
@@ -107,7 +107,7 @@ module _ {W : Type 0} (E : Engine W) where
   -- ---- one call, from w with reply r
 
   -- 01, Write: the open segment
-  unfoldable pub openIn : W → ℕ
+  unfoldable pub openIn : W → Seg
   openIn w = openSegment (E .memory w .state)
 
   -- 01, Landing: the chunk, and, where the segment is sealed with it, the footers
@@ -163,10 +163,6 @@ module _ {W : Type 0} (E : Engine W) where
   abbrev pub AfterRestart : Type 0
   AfterRestart = (p : Params) (w : W) (d n : ℕ) (cs : List Call) → areBytes (E .disk w .image) ≡ true → finished (E .call p w (restart d n) .answer) ≡ true
       → Restarts p w d (E .call p w (restart d n)) × SaysOn p (E .call p w (restart d n) .world) [] (segments p (viewIn E p w) (named d)) cs
-
--- demand 2 with the state as a value: the lower half of the next
-abbrev pub Demand2Values : Type 0
-Demand2Values = AfterRestart onValues
 
 -- demand 2, of the lent bytes: the zone rules in every call, and what a restart and the calls after it leave
 pub record Demand2 : Type 0 where

@@ -1,6 +1,6 @@
 -- `open`: none to open: `opening-none`. Else the lowest empty zone has room (`lowest-room`), and the header stores give `opening-made`. Assumes nothing.
-use Prim.Native.Nat.{ℕ, _+_, _<_}
-use Rattle.spec.specs.Drives.{viewOf, mkDisk, pointerOf, zoneOn, emptyZones}
+use Prim.Native.Nat.{_+_, _<_}
+use Rattle.spec.specs.Drives.{viewOf, mkDisk, pointerOf, zoneOn, emptySegs, Seg, seg}
 use Rattle.spec.specs.Lists.{firstOr}
 use Rattle.spec.specs.Params.{capacity}
 use Rattle.call_filling.specs.Left.{opening-none, opening-made, lowest-room}
@@ -37,14 +37,14 @@ header-stores-requires c κs =
     let a = s .args in
     let e : a .a .opens ≡ true = not-false (a .a .opens) (if1 .left) in
     let l = c .before .before .before .lowest-empty in
-    let g : l .result ≡ firstOr 0 (emptyZones (a .p) (viewOf (a .p) (a .image .now) (a .pointers .now))) = l .ensures .0 (a .image .now) (s .pre .1 .0 .image-long) in (
+    let g : seg (l .result) ≡ firstOr (seg 0) (emptySegs (a .p) (viewOf (a .p) (a .image .now) (a .pointers .now))) = l .ensures .0 (a .image .now) (s .pre .1 .0 .image-long) in (
       s .pre .0,
       (
         s .pre .1 .0,
         (
           l .ensures .1,
           λ d h.
-              subst (λ (x : ℕ). pointerOf (a .p) (a .pointers .now) d (zoneOn x d) < capacity (a .p)) (sym g)
+              subst (λ (x : Seg). pointerOf (a .p) (a .pointers .now) d (zoneOn x d) < capacity (a .p)) (sym g)
               (lowest-room (a .p) (a .image .now) (a .pointers .now) (s .pre .0) (s .pre .1 .0 .image-long) (s .pre .1 .0 .pointers-long) (s .pre .1 .1 .1 .1 e) d h),
         ),
       ),
@@ -73,7 +73,7 @@ returns-2 c =
     let if1 = c .before .before .before .before .before .before .before .before .before .before .if1 in
     let a = s .args in
     let k = mkDisk (a .image .now) (a .pointers .now) in
-    let g : l .result ≡ firstOr 0 (emptyZones (a .p) (seen (a .p) k)) = l .ensures .0 (a .image .now) (s .pre .1 .0 .image-long) in
+    let g : seg (l .result) ≡ firstOr (seg 0) (emptySegs (a .p) (seen (a .p) k)) = l .ensures .0 (a .image .now) (s .pre .1 .0 .image-long) in
     opening-made (a .p) (behind (a .f)) (a .count) k (sym (s .pre .1 .1 .0) ∙ not-false (a .a .opens) (if1 .left)) (l .result) (a .f .serial .0 + 1) g (add-one (a .f .serial .0))
     (m .result) (mkDisk (m .last .1 .0) (m .last .1 .1 .0)) (m .ensures)
 

@@ -1,9 +1,8 @@
 -- `checks`: each return is the refusal of its check behind those that pass; the state is what the bytes say. Assumes nothing.
-use Prim.Native.Nat.{ℕ, _<_}
 use Rattle.mem_rows.specs.declared.Row.{Row}
 use Rattle.law_views.specs.Views.{seen}
 use Rattle.call_land_chunk.specs.Alone.{alone, filled-alone}
-use Rattle.spec.specs.Drives.{Disk, mkDisk}
+use Rattle.spec.specs.Drives.{Disk, mkDisk, Seg, seg}
 use Rattle.spec.specs.Engine.{lentOk}
 use Rattle.spec.specs.Landing.{slotOf, waiting}
 use Rattle.spec.specs.Memory.{Memory, mkMemory, filledIn, stateOf, stateOk}
@@ -12,6 +11,7 @@ use Rattle.call_land.specs.Order.{land-range-fails, land-range-passes, l
 use Rattle.call_land.specs.Order.{land-state-fails, faults-refused, waits-row, faults-seen}
 use Rattle.call_land.specs.Ready.{waits-low, segment-low, filled-low}
 use Rattle.law_basic.specs.Geometry.{ranged, data-count-high}
+use Rattle.law_basic.specs.Segs.{Named, named-lt}
 use Rattle.call_write.specs.Ready.{lent-long}
 use borrow.Author.Needs.{needs}
 use borrow.Author.Tests.{not-true, not-false}
@@ -160,7 +160,7 @@ land-fault-requires c κs =
     let sn = s .pre .0 in
     let g = segment-low (a .p) st eo (omega (arith, r .zones-low)) in
     let e : filledIn (alone (a .seen .row)) 0 ≡ filledIn st (slotOf st (a .stripe)) = ap (λ (x : Row). filledIn (alone x) 0) (sn .row (w .1)) ∙ filled-alone st (slotOf st (a .stripe)) in
-    (er, ((long .1, long .2, w .0), (subst (λ (x : ℕ). x < a .p .Z) (sym (sn .segment)) g, omega (arith, e, f, data-count-high (a .p) r))))
+    (er, ((long .1, long .2, w .0), (named-lt (a .p) (seg (a .seen .segment)) (subst (λ (x : Seg). Named (a .p) x) (sym (sn .segment)) g), omega (arith, e, f, data-count-high (a .p) r))))
 
 zone-check-requires : tie.Need-zone-check-requires
 zone-check-requires c κs = search needs

@@ -1,9 +1,10 @@
 -- `plan`: three ends: no store left is `ends-none`, the chunk stored but others missing `ends-part`, the stripe completed `ends-whole`. Assumes nothing.
 use Prim.Native.Nat.{ℕ, _-_, _≤_, _<_}
-use Rattle.spec.specs.Drives.{Disk, mkDisk, pointerAt, pointerOf, zoneOn}
+use Rattle.spec.specs.Drives.{Disk, mkDisk, pointerAt, pointerOf, zoneOn, Seg, seg}
 use Rattle.spec.specs.Landing.{slotOf, completes}
 use Rattle.spec.specs.Memory.{Memory, mkMemory, filledIn, openSegment}
 use Rattle.spec.specs.declared.Answer.the-variants.{Landed}
+use Rattle.law_basic.specs.Segs.{Named, named-lt}
 use Rattle.call_land.specs.Ends.{row-eight, chunked, complete-ready, ends-none, ends-part, ends-whole}
 use Rattle.call_land.specs.Marked.{changeTo}
 use Rattle.call_land.specs.Plan.{look-done, look-seals, completing-same}
@@ -61,11 +62,11 @@ store-chunk-requires c κs =
     let r = land-ready p k m d s (ch .none!) in
     let w = ch .looks in
     let q = land-pointer-data p k m d s r in
-    let e : openSegment st ≡ a .seen .segment = sym (w .segment) in
+    let e : openSegment st ≡ seg (a .seen .segment) = sym (w .segment) in
     let f : filledIn (alone (a .seen .row)) 0 ≤ 8 = subst (λ (x : Row). filledIn (alone x) 0 ≤ 8) (sym (w .row (r .slot-low))) (row-eight p k m d s r) in
-    let g = subst (λ (x : ℕ). x < p .Z) e (open-low p k m d s r) in
-    let l = subst (λ (x : ℕ). 1 ≤ pointerOf p (k .pointers) d (zoneOn x d)) e (q .0) in
-    let h = subst (λ (x : ℕ). pointerOf p (k .pointers) d (zoneOn x d) ≤ p .S) e (q .1) in
+    let g = named-lt p (seg (a .seen .segment)) (subst (λ (x : Seg). Named p x) e (open-low p k m d s r)) in
+    let l = subst (λ (x : Seg). 1 ≤ pointerOf p (k .pointers) d (zoneOn x d)) e (q .0) in
+    let h = subst (λ (x : Seg). pointerOf p (k .pointers) d (zoneOn x d) ≤ p .S) e (q .1) in
     (r .ranged, (r .whole, ((r .compact-long, r .inflight-long, subst (λ (x : ℕ). x < 8) (sym (w .slot)) (r .slot-low), f), (r .drive-low, g, l, h))))
 
 change-to-requires : tie.Need-change-to-requires
@@ -126,7 +127,7 @@ complete-requires c κs =
     let u = store-chunk .ensures in
     let x = chunked p k m d s r (ch .sized) (a .seen) w (store-chunk .result) k₁ co₁ (u .0) (u .1 .0) (u .1 .1) in
     let f : completes p st (slotOf st s) d ≡ true = sym (look-done p st d s (a .seen) w (r .slot-low)) ∙ not-false (a .seen .done) (if2 .left) in
-    complete-ready p k m d s r (ch .sized) f (store-chunk .result) (a .seen .segment) (a .seen .seals) k₁ (x .0) (w .segment) (look-seals p st d s (a .seen) w (r .slot-low)) (x .1)
+    complete-ready p k m d s r (ch .sized) f (store-chunk .result) (seg (a .seen .segment)) (a .seen .seals) k₁ (x .0) (w .segment) (look-seals p st d s (a .seen) w (r .slot-low)) (x .1)
 
 free-stripe-requires : tie.Need-free-stripe-requires
 free-stripe-requires c κs = search needs

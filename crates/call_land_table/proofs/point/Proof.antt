@@ -1,5 +1,5 @@
 -- `point`: the winners are worked out on the table as it came, then put; that is `pointed` (`winners-are`). Assumes nothing.
-use Rattle.spec.specs.Drives.{View, viewOf}
+use Rattle.spec.specs.Drives.{View, viewOf, seg}
 use Rattle.call_land_table.specs.Winners.{winners-are}
 use Rattle.call_land_chunk.specs.Alone.{alone}
 use borrow.Author.Needs.{needs}
@@ -30,7 +30,7 @@ returns c =
     let put-places = c .before .before .put-places in
     let winners = c .before .before .before .before .winners in
     let v : View = viewOf (a .p) (a .image .now) (a .pointers .now) in
-    put-places .ensures ∙ winners-are (a .p) (alone (a .row)) 0 (winners .result) v (a .addresses .now) (a .segment) (winners .ensures)
+    put-places .ensures ∙ winners-are (a .p) (alone (a .row)) 0 (winners .result) v (a .addresses .now) (seg (a .segment)) (winners .ensures)
 
 pub point-spec : {M : Type 1} → statement M
 point-spec = tie.close (tie.spec serial-at-requires winners-requires put-places-requires same-length returns)

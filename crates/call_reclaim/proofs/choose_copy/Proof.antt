@@ -89,7 +89,7 @@ returns-3 c =
     idle-passes (a .p) v (stateOf (a .bytes .now)) tb w (k .nobody ∙ lt-leb (a .p .Z) (a .seen .segment) (l .1)) (length-some (victimLive w) (subst (λ (x : ℕ). 0 < x) (sym (k .live)) (l .2)))
     (k .none-idle ∙ ne-eqb (a .seen .first .0) neverPlace (if1 .left))
     ∙ ap (λ (x : Opt Answer). orNext x (firstRefusal (zones (badZones (a .p) (stateOf (a .bytes .now)) tb w) ∷ []))) e
-    ∙ zones-odd (a .p) (stateOf (a .bytes .now)) tb w (c .before .has-fault .result) (a .seen .odd) (a .seen .segment) (c .before .has-fault .ensures) (k .odd) (k .segment (l .1))
+    ∙ zones-odd (a .p) (stateOf (a .bytes .now)) tb w (c .before .has-fault .result) (a .seen .odd) (a .seen .segment) (c .before .has-fault .ensures) (k .odd) (k .zoned (l .1))
     ∙ ap (λ (x : Bool). cond x (some (BadZone 0)) (cond (a .seen .odd) (some (BadZone (a .seen .segment))) none)) (c .if2 .taken)
 
 returns-4 : tie.Need-returns-4
@@ -110,7 +110,7 @@ returns-4 c =
     idle-passes (a .p) v (stateOf (a .bytes .now)) tb w (k .nobody ∙ lt-leb (a .p .Z) (a .seen .segment) (l .1)) (length-some (victimLive w) (subst (λ (x : ℕ). 0 < x) (sym (k .live)) (l .2)))
     (k .none-idle ∙ ne-eqb (a .seen .first .0) neverPlace (if1 .left))
     ∙ ap (λ (x : Opt Answer). orNext x (firstRefusal (zones (badZones (a .p) (stateOf (a .bytes .now)) tb w) ∷ []))) e
-    ∙ zones-odd (a .p) (stateOf (a .bytes .now)) tb w (has-fault .result) (a .seen .odd) (a .seen .segment) (has-fault .ensures) (k .odd) (k .segment (l .1))
+    ∙ zones-odd (a .p) (stateOf (a .bytes .now)) tb w (has-fault .result) (a .seen .odd) (a .seen .segment) (has-fault .ensures) (k .odd) (k .zoned (l .1))
     ∙ (let f = c .before .if2 .left in let o = c .if3 .taken in λ j. cond (f j) (some (BadZone 0)) (cond (o j) (some (BadZone (a .seen .segment))) none))
 
 returns-5 : tie.Need-returns-5
@@ -133,7 +133,7 @@ returns-5 c =
     let g = k .found n in (
       idle-passes (a .p) v (stateOf (a .bytes .now)) tb w (k .nobody ∙ lt-leb (a .p .Z) (a .seen .segment) (l .1)) d (k .none-idle ∙ ne-eqb (a .seen .first .0) neverPlace n)
           ∙ ap (λ (x : Opt Answer). orNext x (firstRefusal (zones (badZones (a .p) (stateOf (a .bytes .now)) tb w) ∷ []))) e
-          ∙ zones-odd (a .p) (stateOf (a .bytes .now)) tb w (has-fault .result) (a .seen .odd) (a .seen .segment) (has-fault .ensures) (k .odd) (k .segment (l .1))
+          ∙ zones-odd (a .p) (stateOf (a .bytes .now)) tb w (has-fault .result) (a .seen .odd) (a .seen .segment) (has-fault .ensures) (k .odd) (k .zoned (l .1))
           ∙ (let f = c .before .if2 .left in let o = c .if3 .left in λ j. cond (f j) (some (BadZone 0)) (cond (o j) (some (BadZone (a .seen .segment))) none)),
       d,
       first-found (idle (a .p) v (stateOf (a .bytes .now)) w) neverPlace (a .seen .first .0) (k .first) n,

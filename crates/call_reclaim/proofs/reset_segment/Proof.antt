@@ -1,11 +1,12 @@
 -- `reset_segment`: the stores only reset pointers, so any image will do; cut is `reset-cut`, else the rows are cleared (`reset-done`). Assumes nothing.
-use Rattle.spec.specs.Drives.{mkDisk}
+use Rattle.spec.specs.Drives.{mkDisk, seg}
 use Rattle.spec.specs.Memory.{mkMemory}
 use Rattle.spec.specs.declared.Answer.the-variants.{Reset}
 use Rattle.call_reclaim.specs.Clearing.{reset-cut, reset-done}
+use Rattle.law_basic.specs.Segs.{zone-number}
 use Rattle.mem_rows.specs.Rows.{keptAs}
 use Rattle.mem_rows.specs.declared.Change.{Change}
-use mathlib.Core.Path.{ap, _∙_}
+use mathlib.Core.Path.{sym, ap, _∙_}
 use borrow.Author.Needs.{needs}
 use Rattle.call_reclaim.proofs.reset_segment.Statement.{statement}
 use Rattle.call_reclaim.proofs.reset_segment.Tie as tie
@@ -32,7 +33,7 @@ returns c =
     let if1 = c .before .before .before .before .before .before .before .if1 in
     let r = c .before .before .before .before .before .before .before .before .before .before .reset-stores in
     let a = s .args in
-    λ st im fl e. reset-cut (a .p) (a .count) (a .g) (mkDisk im (a .pointers .now)) (mkDisk im (r .last .1 .0))
+    λ st im fl e. reset-cut (a .p) (a .count) (seg (a .g)) (mkDisk im (a .pointers .now)) (mkDisk im (r .last .1 .0))
     (mkMemory st (a .addresses .now) (a .compact .now) fl) (r .result) (r .ensures im) (s .pre .1 .1) (s .pre .1 .2) (if1 .taken)
     (o .result) (o .last .0) (o .last .1 .0) (ap (λ (x : Change). x .answer) (o .ensures .0)) (o .ensures .1 .0) (o .ensures .1 .1)
 
@@ -54,9 +55,9 @@ returns-2 c =
     let r = c .before .before .before .before .before .before .before .before .reset-stores in
     let clear-rows = c .before .before .before .clear-rows in
     let if1 = c .before .before .before .before .before .if1 in
-    λ st im fl e. reset-done (a .p) (a .count) (a .g) (mkDisk im (a .pointers .now)) (mkDisk im (r .last .1 .0))
+    λ st im fl e. reset-done (a .p) (a .count) (seg (a .g)) (mkDisk im (a .pointers .now)) (mkDisk im (r .last .1 .0))
     (mkMemory st (a .addresses .now) (a .compact .now) fl) (r .result) (r .ensures im) (if1 .left)
-    (c .kept .result) (c .kept .ensures ∙ ap (keptAs (Reset (a .g))) e) (clear-rows .last .1 .0) (clear-rows .ensures)
+    (c .kept .result) (c .kept .ensures ∙ (λ j. keptAs (Reset (sym (zone-number (a .g) 0) j)) (e j))) (clear-rows .last .1 .0) (clear-rows .ensures)
 
 pub reset-segment-spec : {M : Type 1} → statement M
 reset-segment-spec =

@@ -1,8 +1,9 @@
 -- `any_sealed`: some segment from g on is sealed just when any is; a found one ends it, one passed drops off. Assumes nothing.
 use Prim.Native.Nat.{ℕ, _-_, _≤_}
-use Rattle.spec.specs.Drives.{viewOf, sealedIn}
-use Rattle.spec.specs.Lists.{upFrom, below, any}
+use Rattle.spec.specs.Drives.{viewOf, Seg, seg, allSegs, sealedIn}
+use Rattle.spec.specs.Lists.{upFrom, any}
 use Rattle.spec.specs.Params.{imageLen}
+use Rattle.law_basic.specs.Segs.{any-segs}
 use Rattle.law_scans.specs.Scans.{any-found, any-passed, any-ended, any-start}
 use lib.ListN.{length}
 use mathlib.Core.Bool.{Bool}
@@ -16,7 +17,7 @@ use Rattle.call_reclaim_victim.proofs.any_sealed.Tie as tie
 abbrev Inv-loop : tie.InvT-loop
 Inv-loop p pointers g₀ g =
     (g ≤ p .Z) × ((im : List ℕ) → length im ≡ imageLen p
-    → any (sealedIn p (viewOf p im pointers) 0) (upFrom g (p .Z - g)) ≡ any (sealedIn p (viewOf p im pointers) 0) (below (p .Z)))
+    → any (λ k. sealedIn p (viewOf p im pointers) 0 (seg k)) (upFrom g (p .Z - g)) ≡ any (sealedIn p (viewOf p im pointers) 0) (allSegs p))
 
 abbrev μ-loop : tie.MeasureT-loop
 μ-loop p pointers g₀ g = p .Z - g
@@ -24,7 +25,8 @@ abbrev μ-loop : tie.MeasureT-loop
 loop-holds : tie.Need-loop-holds Inv-loop μ-loop
 loop-holds c =
     let a = c .before .args in
-    (omega arith, λ im h. any-start (sealedIn (a .p) (viewOf (a .p) im (a .pointers .now)) 0) (a .p .Z))
+    let s : List ℕ → Seg → Bool = λ im. sealedIn (a .p) (viewOf (a .p) im (a .pointers .now)) 0 in
+    (omega arith, λ im h. any-start (λ k. s im (seg k)) (a .p .Z) ∙ sym (any-segs (a .p) (s im)))
 
 is-sealed-requires : tie.Need-is-sealed-requires Inv-loop μ-loop
 is-sealed-requires c κs =
@@ -35,7 +37,7 @@ returns : tie.Need-returns Inv-loop μ-loop
 returns c =
     let a = c .before .before .before .before .before .before .args in
     let l = c .before .before .before .before .loop in
-    let s : List ℕ → ℕ → Bool = λ im. sealedIn (a .p) (viewOf (a .p) im (a .pointers .now)) 0 in
+    let s : List ℕ → ℕ → Bool = λ im k. sealedIn (a .p) (viewOf (a .p) im (a .pointers .now)) 0 (seg k) in
     let u = c .before .before .if1 .taken in
     λ im h. sym (any-found (s im) (l .g) (a .p .Z) u (sym (c .before .is-sealed .ensures im h) ∙ c .if2 .taken)) ∙ l .inv .1 im h
 
@@ -49,7 +51,7 @@ loop-again : tie.Need-loop-again Inv-loop μ-loop
 loop-again c =
     let a = c .before .before .before .before .before .before .args in
     let l = c .before .before .before .before .loop in
-    let s : List ℕ → ℕ → Bool = λ im. sealedIn (a .p) (viewOf (a .p) im (a .pointers .now)) 0 in
+    let s : List ℕ → ℕ → Bool = λ im k. sealedIn (a .p) (viewOf (a .p) im (a .pointers .now)) 0 (seg k) in
     let u = c .before .before .if1 .taken in
     (omega (arith, u), λ im h. sym (any-passed (s im) (l .g) (a .p .Z) u (sym (c .before .is-sealed .ensures im h) ∙ c .if2 .left)) ∙ l .inv .1 im h)
 
@@ -57,7 +59,7 @@ returns-2 : tie.Need-returns-2 Inv-loop μ-loop
 returns-2 c =
     let a = c .before .before .before .before .args in
     let l = c .before .before .loop in
-    λ im h. sym (any-ended (sealedIn (a .p) (viewOf (a .p) im (a .pointers .now)) 0) (l .g) (a .p .Z) (omega (arith, c .if1 .left))) ∙ l .inv .1 im h
+    λ im h. sym (any-ended (λ k. sealedIn (a .p) (viewOf (a .p) im (a .pointers .now)) 0 (seg k)) (l .g) (a .p .Z) (omega (arith, c .if1 .left))) ∙ l .inv .1 im h
 
 pub any-sealed-spec : {M : Type 1} → statement M
 any-sealed-spec =

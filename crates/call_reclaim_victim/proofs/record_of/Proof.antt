@@ -1,12 +1,13 @@
 -- `record_of`: a block not odd is 1 to S, so its offset is below S, and a place in the image has its drive below N; `record_at` reads it. Assumes nothing.
 use Prim.Native.Nat.{_-_}
 use Rattle.call_reclaim_live.specs.Live.{drive-low}
-use Rattle.spec.specs.Drives.{viewOf, recordAt}
+use Rattle.spec.specs.Drives.{viewOf, seg, recordAt}
 use Rattle.spec.specs.Params.{placeBlock}
 use Rattle.law_basic.specs.Geometry.{between-low, between-high, ranged, place-block, place-zone, place-drive}
+use Rattle.law_basic.specs.Segs.{place-number}
 use Rattle.call_reclaim_victim.specs.Waiting.{data-block}
 use borrow.Author.Needs.{needs}
-use mathlib.Core.Path.{_∙_}
+use mathlib.Core.Path.{sym, ap, _∙_}
 use native.Mathlib.Omega.{arith}
 use Rattle.call_reclaim_victim.proofs.record_of.Statement.{statement}
 use Rattle.call_reclaim_victim.proofs.record_of.Tie as tie
@@ -54,7 +55,7 @@ returns c =
     let p = a .p in
     let v = viewOf p (a .image .now) (a .pointers .now) in
     let ed = c .before .before .before .place-drive .ensures .0 in
-    let ez = c .before .before .place-zone .ensures .0 in
+    let ez = ap seg (c .before .before .place-zone .ensures .0) ∙ sym (place-number p (a .place .0)) in
     let eb = c .before .place-block .ensures .0 in
     c .record-at .ensures ∙ (λ j. recordAt p v 0 (ed j) (ez j) (eb j - 1))
 

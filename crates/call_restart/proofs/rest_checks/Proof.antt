@@ -1,12 +1,11 @@
 -- `rest_checks`: a zone below Z is `segments-fail`; a missing drive or none ragged
 -- `plain-pass`; else `restart-serial-fails`, `restart-zones-fail` or `restart-zones-suffice`. Assumes nothing.
-use Prim.Native.Nat.{ℕ, _≤_, _<_}
 use Rattle.spec.specs.Segments.{segments}
 use Rattle.recover_check.specs.Mends.{no-faults}
 use Rattle.call_restart.specs.Order.{segments-fail, zone-none, gone-plain, here-plain, plain-pass, restart-serial-fails, restart-zones-fail, restart-zones-suffice}
 use borrow.Author.Needs.{needs}
 use borrow.Author.Tests.{not-true, not-false}
-use mathlib.Core.Path.{sym, _∙_, subst}
+use mathlib.Core.Path.{sym, _∙_}
 use native.Mathlib.Omega.{arith}
 use Rattle.call_restart.proofs.rest_checks.Statement.{statement}
 use Rattle.call_restart.proofs.rest_checks.Tie as tie
@@ -73,7 +72,7 @@ returns-5 c =
     (here-plain (args .p) v (args .gone) (args .e) x (zone-none (args .p) v (args .gone) (args .e) x (omega (arith, if1 .left))) (if2 .left)
     ∙ sym (is-ragged .ensures)
     ∙ not-false (is-ragged .result) (if3 .left)) (λ q. if4 .left ((greatest-serial .ensures v (args .gone) kp sr) ∙ q))
-    (subst (λ (y : ℕ). args .p .Z ≤ y) (lowest-free .ensures .1 v (args .gone) kp) (c .if5 .taken))
+    (lowest-free .result) (lowest-free .ensures .1 v (args .gone) kp) (c .if5 .taken)
 
 returns-6 : tie.Need-returns-6
 returns-6 c =
@@ -90,7 +89,7 @@ returns-6 c =
     (here-plain (args .p) v (args .gone) (args .e) x (zone-none (args .p) v (args .gone) (args .e) x (omega (arith, if1 .left))) (if2 .left)
     ∙ sym (is-ragged .ensures)
     ∙ not-false (is-ragged .result) (if3 .left)) (λ q. if4 .left ((greatest-serial .ensures v (args .gone) kp sr) ∙ q))
-    (subst (λ (y : ℕ). y < args .p .Z) (lowest-free .ensures .1 v (args .gone) kp) (omega (arith, c .if5 .left)))
+    (lowest-free .result) (lowest-free .ensures .1 v (args .gone) kp) (omega (arith, c .if5 .left))
 
 pub rest-checks-spec : {M : Type 1} → statement M
 rest-checks-spec =

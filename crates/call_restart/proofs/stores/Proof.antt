@@ -13,10 +13,9 @@ use Rattle.call_restart.specs.Stays.{stays-behind}
 use Rattle.law_views.specs.Views.{seen}
 use Rattle.disk_zones.specs.Made.{Storing, storing-none}
 use borrow.Author.Needs.{needs}
-use borrow.Author.Tests.{not-true, not-false}
 use mathlib.Core.Bool.{false}
 use mathlib.Core.List.{List}
-use mathlib.Core.Path.{_≡_, sym, ap, _∙_, subst}
+use mathlib.Core.Path.{_≡_, sym, _∙_, subst}
 use Rattle.call_restart.proofs.stores.Statement.{statement}
 use Rattle.call_restart.proofs.stores.Tie as tie
 

@@ -1,6 +1,6 @@
 -- `data_count`: N is at least 3 and there are at most two parities, so the subtraction stays above 0; its range is a law. Assumes nothing.
-use mathlib.Core.Path.{_≡_, ap, subst, sym}
-use Prim.Native.Nat.{ℕ, _-_, _≤_}
+use mathlib.Core.Path.{_≡_, ap}
+use Prim.Native.Nat.{ℕ, _-_}
 use native.Mathlib.Omega.{arith}
 use borrow.Author.Needs.{needs}
 use Rattle.spec.specs.Params.{dataCount}

@@ -4,7 +4,7 @@ use Prim.Native.Nat.{ℕ, _+_}
 use native.Mathlib.Omega.{arith}
 use Rattle.spec.specs.Engine.Call.{close}
 use Rattle.spec.specs.Params.{unitLen}
-use Rattle.law_basic.specs.Geometry.{ranged, spare-len, unit-low, unit-high}
+use Rattle.law_basic.specs.Geometry.{ranged, spare-len}
 use Rattle.disk_shape.proofs.unit_len.Statement.{statement}
 use Rattle.disk_shape.proofs.unit_len.Tie as tie
 

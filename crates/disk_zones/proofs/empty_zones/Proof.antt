@@ -1,21 +1,21 @@
 -- `empty_zones`: min(most, n + the empty zones below z) is min(most, all empty zones); an empty zone z - 1 moves to n in its turn.
 -- The loop ends at n = most or at z = 0, and then that minimum is n. Assumes nothing.
 use mathlib.Core.Path.{_≡_, sym, ap, _∙_}
-use mathlib.Core.List.{List}
+use mathlib.Core.Bool.{Bool}
 use Prim.Native.Nat.{ℕ, _+_, _-_, min, _≤_}
 use native.Mathlib.Omega.{arith}
-use lib.ListN.{length}
 use Rattle.spec.specs.Engine.Call.{close}
 use Rattle.spec.specs.Lists.{below, upFrom, keep, tally}
+use Rattle.spec.specs.Drives.{seg}
 use Rattle.law_basic.specs.Ranges.{tally-below-hit, tally-below-miss}
-use Rattle.disk_zones.specs.Empty.{emptyBy, empty-list}
+use Rattle.disk_zones.specs.Empty.{emptyBy, empty-count}
 use Rattle.disk_zones.proofs.empty_zones.Statement.{statement}
 use Rattle.disk_zones.proofs.empty_zones.Tie as tie
 
 abbrev Inv-loop : tie.InvT-loop
 Inv-loop p pointers most n₀ z₀ n z =
     (z ≤ p .Z) × (n ≤ most) × (n + z ≤ p .Z)
-    × (min most (n + tally (emptyBy p pointers) (below z)) ≡ min most (tally (emptyBy p pointers) (below (p .Z))))
+    × (min most (n + tally (λ k. emptyBy p pointers (seg k)) (below z)) ≡ min most (tally (λ k. emptyBy p pointers (seg k)) (below (p .Z))))
 
 abbrev μ-loop : tie.MeasureT-loop
 μ-loop p pointers most n₀ z₀ n z = z
@@ -29,10 +29,10 @@ returns c =
     let a = c .before .before .before .before .args in
     let l = c .before .before .loop in
     let pre = c .before .before .before .before .pre in
-    let f = emptyBy (a .p) (a .pointers .now) in
+    let f : ℕ → Bool = λ k. emptyBy (a .p) (a .pointers .now) (seg k) in
     let e : l .n ≡ min (a .most) (l .n + tally f (below (l .z))) = omega (arith, c .if1 .taken) in
     let long = pre .1 in
-    λ im h. e ∙ l .inv .3 ∙ ap (λ (x : List ℕ). min (a .most) (length x)) (sym (empty-list (a .p) im (a .pointers .now) h long))
+    λ im h. e ∙ l .inv .3 ∙ ap (min (a .most)) (sym (empty-count (a .p) im (a .pointers .now) h long))
 
 sub-z : tie.Need-sub-z Inv-loop μ-loop
 sub-z c = omega arith
@@ -52,7 +52,7 @@ loop-again : tie.Need-loop-again Inv-loop μ-loop
 loop-again c =
     let a = c .before .before .before .before .before .before .args in
     let l = c .before .before .before .before .loop in
-    let f = emptyBy (a .p) (a .pointers .now) in
+    let f : ℕ → Bool = λ k. emptyBy (a .p) (a .pointers .now) (seg k) in
     let z : l .z ≡ l .z - 1 + 1 = omega arith in
     let t : tally f (below (l .z)) ≡ tally f (below (l .z - 1)) + 1 =
     ap (λ (x : ℕ). tally f (below x)) z ∙ tally-below-hit f (l .z - 1) (sym (c .before .is-empty .ensures) ∙ c .if2 .taken) in
@@ -66,7 +66,7 @@ loop-again-2 : tie.Need-loop-again-2 Inv-loop μ-loop
 loop-again-2 c =
     let a = c .before .before .before .before .before .before .args in
     let l = c .before .before .before .before .loop in
-    let f = emptyBy (a .p) (a .pointers .now) in
+    let f : ℕ → Bool = λ k. emptyBy (a .p) (a .pointers .now) (seg k) in
     let z : l .z ≡ l .z - 1 + 1 = omega arith in
     let t : tally f (below (l .z)) ≡ tally f (below (l .z - 1)) =
     ap (λ (x : ℕ). tally f (below x)) z ∙ tally-below-miss f (l .z - 1) (sym (c .before .is-empty .ensures) ∙ c .if2 .left) in
@@ -78,12 +78,12 @@ unfolding tally below upFrom keep
 returns-2 c =
     let a = c .before .before .before .args in
     let l = c .before .loop in
-    let f = emptyBy (a .p) (a .pointers .now) in
+    let f : ℕ → Bool = λ k. emptyBy (a .p) (a .pointers .now) (seg k) in
     let z : l .z ≡ 0 = omega arith in
     let e : l .n ≡ min (a .most) (l .n + tally f (below 0)) = omega (arith, l .inv .1) in
     let k : l .n ≡ min (a .most) (l .n + tally f (below (l .z))) = e ∙ ap (λ (x : ℕ). min (a .most) (l .n + tally f (below x))) (sym z) in
     let long = c .before .before .before .pre .1 in
-    λ im h. k ∙ l .inv .3 ∙ ap (λ (x : List ℕ). min (a .most) (length x)) (sym (empty-list (a .p) im (a .pointers .now) h long))
+    λ im h. k ∙ l .inv .3 ∙ ap (min (a .most)) (sym (empty-count (a .p) im (a .pointers .now) h long))
 
 pub empty-zones-spec : {M : Type 1} → statement M
 empty-zones-spec =

@@ -1,12 +1,13 @@
 -- `cand_at`: the place's drive, segment and offset are those of a counted record; its stamp and the segment's serial make it the one found. Assumes nothing.
-use mathlib.Core.Path.{_≡_, ap, ap₂, _∙_, subst}
+use mathlib.Core.Path.{_≡_, ap, ap₂, _∙_, subst, sym}
 use Prim.Native.Nat.{ℕ, _-_, _≤_}
 use native.Mathlib.Omega.{arith}
 use lib.ListN.{getD}
-use Rattle.spec.specs.Drives.{View, viewOf}
-use Rattle.spec.specs.Params.{placeBlock, placeZone, placeDrive}
+use Rattle.spec.specs.Drives.{View, viewOf, seg, Seg, placeSegment}
+use Rattle.spec.specs.Params.{placeBlock, placeDrive}
 use Rattle.spec.specs.Segments.{segmentOf, recOf}
 use Rattle.law_basic.specs.Geometry.{Ranged, ranged}
+use Rattle.law_basic.specs.Segs.{place-number}
 use Rattle.recover_segments.specs.Remains.{serialOf}
 use Rattle.recover_addresses.specs.Lies.{LiesIn, block-low, place-lies, it-is-found, lies-same}
 use Rattle.recover_addresses.proofs.cand_at.Statement.{statement}
@@ -46,9 +47,9 @@ stamp-at-requires c κs =
       q .0,
       (
         k .0 .stripe,
-        lies-same (a .p) v (a .gone) (a .compact .now) (placeDrive (a .p) (a .place .0)) (placeZone (a .p) (a .place .0)) (placeBlock (a .p) (a .place .0) - 1)
-            (k .0 .stripe) (place-drive .result) (c .before .place-zone .result) (c .place-block .result - 1)
-            (place-drive .ensures .0) (c .before .place-zone .ensures .0) (ap (λ (y : ℕ). y - 1) (c .place-block .ensures .0))
+        lies-same (a .p) v (a .gone) (a .compact .now) (placeDrive (a .p) (a .place .0)) (placeSegment (a .p) (a .place .0)) (placeBlock (a .p) (a .place .0) - 1)
+            (k .0 .stripe) (place-drive .result) (seg (c .before .place-zone .result)) (c .place-block .result - 1)
+            (place-drive .ensures .0) (ap seg (c .before .place-zone .ensures .0) ∙ sym (place-number (a .p) (a .place .0))) (ap (λ (y : ℕ). y - 1) (c .place-block .ensures .0))
             (place-lies (a .p) (ranged (a .p) (q .0 .in-range)) v (a .gone) h (k .0) (a .compact .now) (k .1) (a .place .0) e),
       ),
     )
@@ -79,15 +80,15 @@ returns c =
     let v : View = viewOf (a .p) (a .image .now) (a .pointers .now) in
     let r : Ranged (a .p) = ranged (a .p) (q .0 .in-range) in
     let g = place-zone .result in
-    let eg = place-zone .ensures .0 in
+    let eg : seg g ≡ placeSegment p (a .place .0) = ap seg (place-zone .ensures .0) ∙ sym (place-number p (a .place .0)) in
     let ed = place-drive .ensures .0 in
     let eo : place-block .result - 1 ≡ placeBlock p (a .place .0) - 1 = ap (λ (y : ℕ). y - 1) (place-block .ensures .0) in
     λ h k e x.
-    let l : LiesIn p v (a .gone) (a .compact .now) (place-drive .result) g (place-block .result - 1) (k .0 .stripe) =
-    lies-same p v (a .gone) (a .compact .now) (placeDrive p (a .place .0)) (placeZone p (a .place .0)) (placeBlock p (a .place .0) - 1) (k .0 .stripe) (place-drive .result) g (place-block .result - 1)
-    ed eg eo (place-lies p r v (a .gone) h (k .0) (a .compact .now) (k .1) (a .place .0) e) in
+    let l : LiesIn p v (a .gone) (a .compact .now) (place-drive .result) (seg g) (place-block .result - 1) (k .0 .stripe) =
+    lies-same p v (a .gone) (a .compact .now) (placeDrive p (a .place .0)) (placeSegment p (a .place .0)) (placeBlock p (a .place .0) - 1) (k .0 .stripe)
+    (place-drive .result) (seg g) (place-block .result - 1) ed eg eo (place-lies p r v (a .gone) h (k .0) (a .compact .now) (k .1) (a .place .0) e) in
     it-is-found p r v (a .gone) h (k .0) (a .place .0) (a .address .0) (c .before .stamp-at .result .0) (getD (a .serials .now) g 0) (place-drive .result) (place-block .result - 1) e x ed eo
-    (c .before .stamp-at .ensures (k .0 .stripe) l ∙ ap₂ (λ (y z : ℕ). recOf p (a .gone) (segmentOf p v (a .gone) y) (k .0 .stripe) z .stamp) eg ed)
+    (c .before .stamp-at .ensures (k .0 .stripe) l ∙ ap₂ (λ (y : Seg) (z : ℕ). recOf p (a .gone) (segmentOf p v (a .gone) y) (k .0 .stripe) z .stamp) eg ed)
     (q .1 .0 .1 g (place-zone .ensures .1) ∙ ap (serialOf p v (a .gone)) eg)
 
 pub cand-at-spec : {M : Type 1} → statement M

@@ -5,7 +5,7 @@ use Prim.Native.Nat.{_+_}
 use native.Mathlib.Omega.{arith}
 use lib.ListN.{getD}
 use borrow.Author.Tests.{not-true, not-false}
-use Rattle.spec.specs.Drives.{viewOf}
+use Rattle.spec.specs.Drives.{viewOf, seg}
 use Rattle.spec.specs.Faults.{stripeFault, addressFault}
 use Rattle.spec.specs.Segments.{segmentOf}
 use Rattle.law_basic.specs.Geometry.{ranged}
@@ -26,8 +26,8 @@ shared-slice-read-if1 c =
     let p = a .p in
     let v = viewOf p (a .image .now) (a .pointers .now) in
     let m = h .1 .1 .1 .1 in
-    let y = faulty p v (a .gone) (a .g) in
-    let x = segmentOf p v (a .gone) (a .g) in
+    let y = faulty p v (a .gone) (seg (a .g)) in
+    let x = segmentOf p v (a .gone) (seg (a .g)) in
     let q = h .1 .1 .0 .0 in omega (arith, q, m .0, ranged p (h .0) .zones-high)
 
 returns : tie.Need-returns
@@ -40,10 +40,10 @@ returns c =
     let p = a .p in
     let v = viewOf p (a .image .now) (a .pointers .now) in
     let m = h .1 .1 .1 .1 in
-    let y = faulty p v (a .gone) (a .g) in
-    let x = segmentOf p v (a .gone) (a .g) in
+    let y = faulty p v (a .gone) (seg (a .g)) in
+    let x = segmentOf p v (a .gone) (seg (a .g)) in
     let f : getD (a .kept .now) (a .g) false ≡ false = not-true (getD (a .kept .now) (a .g) false) (if1 .taken) in
-    let z : y ≡ false = faulty-gone p v (a .gone) (a .g) (sym (h .1 .1 .0 .1 (a .g) (m .0)) ∙ f) in
+    let z : y ≡ false = faulty-gone p v (a .gone) (seg (a .g)) (sym (h .1 .1 .0 .1 (a .g) (m .0)) ∙ f) in
     ((λ q. absurd (not-both y q z)), (λ _. seen-gone p v (a .gone) (a .kept .now) (a .g) (a .e) (m .2) f))
 
 is-sealed-requires : tie.Need-is-sealed-requires
@@ -59,8 +59,8 @@ segment-fault-requires c κs =
     let p = a .p in
     let v = viewOf p (a .image .now) (a .pointers .now) in
     let m = h .1 .1 .1 .1 in
-    let y = faulty p v (a .gone) (a .g) in
-    let x = segmentOf p v (a .gone) (a .g) in
+    let y = faulty p v (a .gone) (seg (a .g)) in
+    let x = segmentOf p v (a .gone) (seg (a .g)) in
     (h .0, (h .1 .0, (h .1 .1 .0, (h .1 .1 .1 .0, (m .0, (is-sealed .ensures (a .image .now) (h .1 .0 .image-long)), m .1)))))
 
 exam-bad-requires : tie.Need-exam-bad-requires
@@ -79,10 +79,10 @@ returns-2 c =
     let p = a .p in
     let v = viewOf p (a .image .now) (a .pointers .now) in
     let m = h .1 .1 .1 .1 in
-    let y = faulty p v (a .gone) (a .g) in
-    let x = segmentOf p v (a .gone) (a .g) in
+    let y = faulty p v (a .gone) (seg (a .g)) in
+    let x = segmentOf p v (a .gone) (seg (a .g)) in
     let f : getD (a .kept .now) (a .g) false ≡ true = not-false (getD (a .kept .now) (a .g) false) (if1 .left) in
-    let k = faulty-kept p v (a .gone) (a .g) (sym (h .1 .1 .0 .1 (a .g) (m .0)) ∙ f) in
+    let k = faulty-kept p v (a .gone) (seg (a .g)) (sym (h .1 .1 .0 .1 (a .g) (m .0)) ∙ f) in
     let z : y ≡ true = k ∙ ap (λ (o : Bool). o || (stripeFault p (a .gone) x || addressFault p (a .gone) x)) (sym (segment-fault .ensures) ∙ if2 .taken) in
     ((λ _. exam-bad .ensures), (λ q. absurd (not-both y z q)))
 
@@ -96,8 +96,8 @@ survey-requires c κs =
     let p = a .p in
     let v = viewOf p (a .image .now) (a .pointers .now) in
     let m = h .1 .1 .1 .1 in
-    let y = faulty p v (a .gone) (a .g) in
-    let x = segmentOf p v (a .gone) (a .g) in
+    let y = faulty p v (a .gone) (seg (a .g)) in
+    let x = segmentOf p v (a .gone) (seg (a .g)) in
     (h .0, (h .1 .0, (m .3, m .0, (is-sealed .ensures (a .image .now) (h .1 .0 .image-long)))))
 
 exam-bad-requires-2 : tie.Need-exam-bad-requires-2
@@ -124,10 +124,10 @@ returns-3 c =
     let p = a .p in
     let v = viewOf p (a .image .now) (a .pointers .now) in
     let m = h .1 .1 .1 .1 in
-    let y = faulty p v (a .gone) (a .g) in
-    let x = segmentOf p v (a .gone) (a .g) in
+    let y = faulty p v (a .gone) (seg (a .g)) in
+    let x = segmentOf p v (a .gone) (seg (a .g)) in
     let f : getD (a .kept .now) (a .g) false ≡ true = not-false (getD (a .kept .now) (a .g) false) (if1 .left) in
-    let k = faulty-kept p v (a .gone) (a .g) (sym (h .1 .1 .0 .1 (a .g) (m .0)) ∙ f) in
+    let k = faulty-kept p v (a .gone) (seg (a .g)) (sym (h .1 .1 .0 .1 (a .g) (m .0)) ∙ f) in
     let z : y ≡ true =
     k
     ∙ ap (λ (o : Bool). o || (stripeFault p (a .gone) x || addressFault p (a .gone) x)) (sym (segment-fault .ensures) ∙ if2 .left)
@@ -146,8 +146,8 @@ exam-good-requires c κs =
     let p = a .p in
     let v = viewOf p (a .image .now) (a .pointers .now) in
     let m = h .1 .1 .1 .1 in
-    let y = faulty p v (a .gone) (a .g) in
-    let x = segmentOf p v (a .gone) (a .g) in
+    let y = faulty p v (a .gone) (seg (a .g)) in
+    let x = segmentOf p v (a .gone) (seg (a .g)) in
     let u = survey in
     let d = if3 .left in
     let w = seen-fits p v (a .gone) (a .kept .now) (a .g) (a .e) (m .2) in
@@ -188,10 +188,10 @@ returns-4 c =
     let p = a .p in
     let v = viewOf p (a .image .now) (a .pointers .now) in
     let m = h .1 .1 .1 .1 in
-    let y = faulty p v (a .gone) (a .g) in
-    let x = segmentOf p v (a .gone) (a .g) in
+    let y = faulty p v (a .gone) (seg (a .g)) in
+    let x = segmentOf p v (a .gone) (seg (a .g)) in
     let f : getD (a .kept .now) (a .g) false ≡ true = not-false (getD (a .kept .now) (a .g) false) (if1 .left) in
-    let k = faulty-kept p v (a .gone) (a .g) (sym (h .1 .1 .0 .1 (a .g) (m .0)) ∙ f) in
+    let k = faulty-kept p v (a .gone) (seg (a .g)) (sym (h .1 .1 .0 .1 (a .g) (m .0)) ∙ f) in
     let d = if3 .left in
     let z : y ≡ false = k ∙ ap (λ (o : Bool). o || (stripeFault p (a .gone) x || addressFault p (a .gone) x)) (sym (segment-fault .ensures) ∙ if2 .left) ∙ sym (u .ensures .bad-is) ∙ d in (
       (λ q. absurd (not-both y q z)),

@@ -1,7 +1,7 @@
 -- `segment_fault`: a fault in front decides; then a sealed segment has no other, two unsealed ones are one, and else the footers decide. Assumes nothing.
 use mathlib.Core.Path.{sym, _∙_}
 use native.Mathlib.Omega.{arith}
-use Rattle.spec.specs.Drives.{viewOf}
+use Rattle.spec.specs.Drives.{viewOf, seg}
 use Rattle.spec.specs.Segments.{segmentOf, segments}
 use Rattle.law_basic.specs.Geometry.{ranged}
 use Rattle.recover_check.specs.Faults.{front-bad, front-full, front-many, front-footer}
@@ -17,7 +17,7 @@ front-fault-requires c κs =
     let p = a .p in
     let v = viewOf p (a .image .now) (a .pointers .now) in
     let gs = segments p v (a .gone) in
-    let g = segmentOf p v (a .gone) (a .g) in (
+    let g = segmentOf p v (a .gone) (seg (a .g)) in (
       h .0,
       (
         h .1 .0 .image-long,
@@ -34,7 +34,7 @@ returns c =
     let p = a .p in
     let v = viewOf p (a .image .now) (a .pointers .now) in
     let gs = segments p v (a .gone) in
-    let g = segmentOf p v (a .gone) (a .g) in
+    let g = segmentOf p v (a .gone) (seg (a .g)) in
     front-bad p (a .gone) gs g (sym (c .before .front-fault .ensures (a .pointers .now) (h .1 .0 .pointers-long) (h .1 .1 .0) (h .1 .1 .1 .0)) ∙ c .if1 .taken)
 
 returns-2 : tie.Need-returns-2
@@ -44,10 +44,10 @@ returns-2 c =
     let p = a .p in
     let v = viewOf p (a .image .now) (a .pointers .now) in
     let gs = segments p v (a .gone) in
-    let g = segmentOf p v (a .gone) (a .g) in
+    let g = segmentOf p v (a .gone) (seg (a .g)) in
     front-full p (a .gone) gs g
     (sym (c .before .before .front-fault .ensures (a .pointers .now) (h .1 .0 .pointers-long) (h .1 .1 .0) (h .1 .1 .1 .0)) ∙ c .before .if1 .left)
-    (full-is p v (a .gone) (a .g) ∙ sym (h .1 .1 .1 .1 .1) ∙ c .if2 .taken)
+    (full-is p v (a .gone) (seg (a .g)) ∙ sym (h .1 .1 .1 .1 .1) ∙ c .if2 .taken)
 
 returns-3 : tie.Need-returns-3
 returns-3 c =
@@ -58,9 +58,9 @@ returns-3 c =
     let p = a .p in
     let v = viewOf p (a .image .now) (a .pointers .now) in
     let gs = segments p v (a .gone) in
-    let g = segmentOf p v (a .gone) (a .g) in
+    let g = segmentOf p v (a .gone) (seg (a .g)) in
     front-many p (a .gone) gs g (sym (front-fault .ensures (a .pointers .now) (h .1 .0 .pointers-long) (h .1 .1 .0) (h .1 .1 .1 .0)) ∙ if1 .left)
-    (full-is p v (a .gone) (a .g) ∙ sym (h .1 .1 .1 .1 .1) ∙ c .before .if2 .left) (sym (h .1 .1 .1 .1 .2) ∙ c .if3 .taken)
+    (full-is p v (a .gone) (seg (a .g)) ∙ sym (h .1 .1 .1 .1 .1) ∙ c .before .if2 .left) (sym (h .1 .1 .1 .1 .2) ∙ c .if3 .taken)
 
 footer-fault-requires : tie.Need-footer-fault-requires
 footer-fault-requires c κs = search needs
@@ -75,11 +75,11 @@ returns-4 c =
     let p = a .p in
     let v = viewOf p (a .image .now) (a .pointers .now) in
     let gs = segments p v (a .gone) in
-    let g = segmentOf p v (a .gone) (a .g) in
+    let g = segmentOf p v (a .gone) (seg (a .g)) in
     c .footer-fault .ensures
     ∙ front-footer p (a .gone) gs g
     (sym (front-fault .ensures (a .pointers .now) (h .1 .0 .pointers-long) (h .1 .1 .0) (h .1 .1 .1 .0)) ∙ if1 .left)
-    (full-is p v (a .gone) (a .g) ∙ sym (h .1 .1 .1 .1 .1) ∙ if2 .left) (sym (h .1 .1 .1 .1 .2) ∙ c .before .if3 .left)
+    (full-is p v (a .gone) (seg (a .g)) ∙ sym (h .1 .1 .1 .1 .1) ∙ if2 .left) (sym (h .1 .1 .1 .1 .2) ∙ c .before .if3 .left)
 
 pub segment-fault-spec : {M : Type 1} → statement M
 segment-fault-spec =

@@ -1,5 +1,5 @@
 -- `row`: zeros where the segment is dropped or the drive missing; else the entries of the stored data and zeros up to S, by `row-both`. Assumes nothing.
-use mathlib.Core.Path.{_≡_, sym, ap₂, _∙_}
+use mathlib.Core.Path.{_≡_, sym, ap₂, _∙_, ap}
 use mathlib.Core.Bool.{Bool}
 use mathlib.Core.List.{List, map, _++_}
 use Prim.Native.Nat.{ℕ, _-_}
@@ -8,10 +8,11 @@ use borrow.Author.Needs.{needs}
 use borrow.Author.Tests.{not-true, not-false}
 use lib.ListN.{replicate, length-map}
 use Rattle.spec.specs.Bytes.{splice}
-use Rattle.spec.specs.Drives.{View, viewOf, zoneAt, sealedIn, dataStored}
+use Rattle.spec.specs.Drives.{View, viewOf, zoneAt, sealedIn, dataStored, Seg}
 use Rattle.spec.specs.Lists.{below}
 use Rattle.law_basic.specs.Geometry.{ranged, row-fits}
 use Rattle.law_basic.specs.Ranges.{length-below}
+use Rattle.law_basic.specs.Segs.{segOn, seg-on-number}
 use Rattle.recover_compact.specs.Compacts.{entrySaid, row-dropped, row-missing, row-stored, row-both}
 use Rattle.recover_compact.proofs.row.Statement.{statement}
 use Rattle.recover_compact.proofs.row.Tie as tie
@@ -135,7 +136,8 @@ returns-3 c =
     let v : View = viewOf (a .p) (a .image .now) (a .pointers .now) in
     let n = data-stored .result in
     let en : n ≡ dataStored (a .p) (zoneAt v (a .drive) (a .zone)) = data-stored .ensures .0 (a .image .now) (q .1 .0 .image-long) in
-    let ef : is-sealed .result ≡ sealedIn (a .p) v (a .gone) (a .zone) = is-sealed .ensures (a .image .now) (q .1 .0 .image-long) in
+    let ef : is-sealed .result ≡ sealedIn (a .p) v (a .gone) (segOn (a .drive) (a .zone)) =
+    is-sealed .ensures (a .image .now) (q .1 .0 .image-long) ∙ ap (λ (sg : Seg). sealedIn (a .p) v (a .gone) sg) (sym (seg-on-number (a .drive) (a .zone))) in
     let s : List ℕ = map (entrySaid (a .p) (is-sealed .result) (zoneAt v (a .drive) (a .zone))) (below n) in
     row-both (a .compact .now) (entries .last .1 .1 .0) (clear-part3 .last .0) (compact-at .result) n (a .p .S - n) s
     (omega (arith, compact-at .ensures .0, q .1 .1 .0, data-stored .ensures .1, row-fits (a .p) (a .drive) (a .zone) (q .1 .1 .1) (q .1 .1 .2)))

@@ -7,12 +7,13 @@ use borrow.Author.Tests.{not-true, not-false}
 use native.Mathlib.Omega.{arith}
 use lib.ListN.{length, getD, set}
 use borrow.Author.Needs.{needs}
-use Rattle.spec.specs.Drives.{zoneAt, viewOf, recordIn}
+use Rattle.spec.specs.Drives.{zoneAt, viewOf, recordIn, seg}
 use Rattle.spec.specs.History.{before}
 use Rattle.spec.specs.Layout.{mkRec}
 use Rattle.spec.specs.Segments.{recsOn}
-use Rattle.law_basic.specs.Geometry.{ranged, zone-on-lt}
+use Rattle.law_basic.specs.Geometry.{ranged}
 use Rattle.law_basic.specs.Ranges.{not-both}
+use Rattle.law_basic.specs.Segs.{zone-on-lt, seg-named}
 use Rattle.law_drives.specs.Tests.{cond-true, cond-false}
 use Rattle.recover_groups.specs.Bases.{group-len-le, group-len-fits}
 use Rattle.recover_groups.specs.Chunks.{group-record}
@@ -71,7 +72,7 @@ record-of-requires c κs =
       (
         pre .1 .0 .image-long,
         pre .1 .1 .0 .1,
-        rw (zone-on .ensures) (zone-on-lt (args .p) (args .w .seg) (args .drive) (pre .1 .1 .0 .2)),
+        rw (zone-on .ensures) (zone-on-lt (args .p) (seg (args .w .seg)) (args .drive) (seg-named (args .p) (args .w .seg) (pre .1 .1 .0 .2))),
         (let f = group-len-fits (args .p) (args .w .base) (omega (arith, pre .1 .1 .0 .3)) in omega (
           arith,
           f,
@@ -119,7 +120,7 @@ returns c =
     let r = recVal (record-of .result) in
     let e : r ≡ getD rs i (mkRec 0 0 0) = record-of .ensures ps (pre .1 .0 .pointers-long)
     ∙ (λ j. recordIn p (pre .1 .1 .1 .0 j) (zoneAt v d (zone-on .ensures j)) (w .base + i))
-    ∙ group-record p v (w .gone) (w .seg) (w .base) d i (q .1) (q .5) h in
+    ∙ group-record p v (w .gone) (seg (w .seg)) (w .base) d i (q .1) (q .5) h in
     let g : 0 < p .G = omega (arith, ranged (a .p) (pre .0) .group-low) in
     let b = entering-bad-data p d (w .base) rs (a .at .now) (loop .at) i (loop .inv .1) h g (q .3) (q .4) l r e (sym (c .before .stored-bad .ensures) ∙ c .if1 .taken) in
     (sym (ap not b), (loop .inv .1 .lower, λ t. absurd (not-both false t refl)))
@@ -178,7 +179,7 @@ returns-2 c =
     let r = recVal (record-of .result) in
     let e : r ≡ getD rs i (mkRec 0 0 0) = record-of .ensures ps (pre .1 .0 .pointers-long)
     ∙ (λ j. recordIn p (pre .1 .1 .1 .0 j) (zoneAt v d (zone-on .ensures j)) (w .base + i))
-    ∙ group-record p v (w .gone) (w .seg) (w .base) d i (q .1) (q .5) h in
+    ∙ group-record p v (w .gone) (seg (w .seg)) (w .base) d i (q .1) (q .5) h in
     let g : 0 < p .G = omega (arith, ranged (a .p) (pre .0) .group-low) in
     let t : enter .result ≡ false = not-true (enter .result) (c .if2 .taken) in
     let b = entering-bad p d (w .base) rs (a .at .now) (loop .at) i (loop .inv .1) h g (q .3) (q .4) l r e (sym (enter .ensures .0) ∙ t) in
@@ -218,7 +219,7 @@ loop-again c =
     let r = recVal (record-of .result) in
     let e : r ≡ getD rs i (mkRec 0 0 0) = record-of .ensures ps (pre .1 .0 .pointers-long)
     ∙ (λ j. recordIn p (pre .1 .1 .1 .0 j) (zoneAt v d (zone-on .ensures j)) (w .base + i))
-    ∙ group-record p v (w .gone) (w .seg) (w .base) d i (q .1) (q .5) h in
+    ∙ group-record p v (w .gone) (seg (w .seg)) (w .base) d i (q .1) (q .5) h in
     let g : 0 < p .G = omega (arith, ranged (a .p) (pre .0) .group-low) in
     let t : enter .result ≡ true = not-false (enter .result) (c .if2 .left) in
     let f = group-len-le p (w .base) in

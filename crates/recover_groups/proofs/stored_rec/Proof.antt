@@ -1,9 +1,10 @@
 -- `stored_rec`: an entered chunk's offset lies in the group, below S, and the record read at it is the stripe's, by `record-read`. Assumes nothing.
 use mathlib.Core.Path.{_∙_}
 use native.Mathlib.Omega.{arith}
-use Rattle.spec.specs.Drives.{zoneAt, viewOf, recordIn}
+use Rattle.spec.specs.Drives.{zoneAt, viewOf, recordIn, seg}
 use Rattle.spec.specs.History.{before}
-use Rattle.law_basic.specs.Geometry.{ranged, zone-on-lt}
+use Rattle.law_basic.specs.Geometry.{ranged}
+use Rattle.law_basic.specs.Segs.{zone-on-lt, seg-named}
 use Rattle.recover_groups.specs.Bases.{group-len-le, group-len-fits}
 use Rattle.recover_groups.specs.Pieces.{record-read}
 use borrow.Author.Needs.{needs}
@@ -36,7 +37,7 @@ record-in-requires c κs =
       (
         pre .1 .0 .0,
         pre .1 .0 .4,
-        rw (c .before .zone-on .ensures) (zone-on-lt (args .p) (args .w .seg) (args .drive) (pre .1 .0 .2)),
+        rw (c .before .zone-on .ensures) (zone-on-lt (args .p) (seg (args .w .seg)) (args .drive) (seg-named (args .p) (args .w .seg) (pre .1 .0 .2))),
         omega (arith, f, c .offset-on .ensures .0, pre .1 .1 .0, pre .1 .1 .1),
       ),
     )

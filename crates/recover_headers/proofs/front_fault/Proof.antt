@@ -5,7 +5,7 @@ use native.Mathlib.Omega.{arith}
 use lib.Dec.{leb}
 use lib.ListN.{getD}
 use borrow.Author.Tests.{le-leb, lt-leb}
-use Rattle.spec.specs.Drives.{viewOf}
+use Rattle.spec.specs.Drives.{viewOf, seg}
 use Rattle.spec.specs.Faults.{headerFault, serialFault}
 use Rattle.spec.specs.Layout.{headerCopied}
 use Rattle.spec.specs.Segments.{headerAt, segmentOf, segments}
@@ -44,10 +44,10 @@ returns c =
     let f = c .before .header-fault in
     λ ps long hk hs.
     let v = viewOf p im ps in
-    let x = segmentOf p v gone g in
+    let x = segmentOf p v gone (seg g) in
     let hg = pre .1 .3 in
-    let es : getD (a .serials .now) g 0 ≡ x .serial = hs .1 g hg ∙ sym (seg-serial p v gone g) in
-    let ec : k .result .0 ≡ x .copied = k .ensures ps long ∙ ap (λ (d : ℕ). headerCopied (headerAt v d g)) (low .ensures .0) ∙ sym (copied-is p v gone g) in
+    let es : getD (a .serials .now) g 0 ≡ x .serial = hs .1 g hg ∙ sym (seg-serial p v gone (seg g)) in
+    let ec : k .result .0 ≡ x .copied = k .ensures ps long ∙ ap (λ (d : ℕ). headerCopied (headerAt v d (seg g))) (low .ensures .0) ∙ sym (copied-is p v gone (seg g)) in
     front-header (headerFault p gone x) (serialFault (segments p v gone) x) (sym (f .ensures ps long es ec) ∙ c .if1 .taken)
 
 returns-2 : tie.Need-returns-2
@@ -64,10 +64,10 @@ returns-2 c =
     let g = a .g in
     λ ps long hk hs.
     let v = viewOf p im ps in
-    let x = segmentOf p v gone g in
+    let x = segmentOf p v gone (seg g) in
     let hg = pre .1 .3 in
-    let es : getD (a .serials .now) g 0 ≡ x .serial = hs .1 g hg ∙ sym (seg-serial p v gone g) in
-    let ec : k .result .0 ≡ x .copied = k .ensures ps long ∙ ap (λ (d : ℕ). headerCopied (headerAt v d g)) (low .ensures .0) ∙ sym (copied-is p v gone g) in
+    let es : getD (a .serials .now) g 0 ≡ x .serial = hs .1 g hg ∙ sym (seg-serial p v gone (seg g)) in
+    let ec : k .result .0 ≡ x .copied = k .ensures ps long ∙ ap (λ (d : ℕ). headerCopied (headerAt v d (seg g))) (low .ensures .0) ∙ sym (copied-is p v gone (seg g)) in
     fault-by-left (headerFault p gone x) (serialFault (segments p v gone) x) (leb (getD (a .serials .now) g 0) (x .copied))
     (otherSerial (p .Z) (a .kept .now) (a .serials .now) g (getD (a .serials .now) g 0))
     (sym (f .ensures ps long es ec) ∙ if1 .left) (serial-list p v gone g (a .kept .now) (a .serials .now) hg hk hs)
@@ -90,10 +90,10 @@ returns-3 c =
     let g = a .g in
     λ ps long hk hs.
     let v = viewOf p im ps in
-    let x = segmentOf p v gone g in
+    let x = segmentOf p v gone (seg g) in
     let hg = pre .1 .3 in
-    let es : getD (a .serials .now) g 0 ≡ x .serial = hs .1 g hg ∙ sym (seg-serial p v gone g) in
-    let ec : k .result .0 ≡ x .copied = k .ensures ps long ∙ ap (λ (d : ℕ). headerCopied (headerAt v d g)) (low .ensures .0) ∙ sym (copied-is p v gone g) in
+    let es : getD (a .serials .now) g 0 ≡ x .serial = hs .1 g hg ∙ sym (seg-serial p v gone (seg g)) in
+    let ec : k .result .0 ≡ x .copied = k .ensures ps long ∙ ap (λ (d : ℕ). headerCopied (headerAt v d (seg g))) (low .ensures .0) ∙ sym (copied-is p v gone (seg g)) in
     front-other (headerFault p gone x) (serialFault (segments p v gone) x) (leb (getD (a .serials .now) g 0) (x .copied))
     (otherSerial (p .Z) (a .kept .now) (a .serials .now) g (getD (a .serials .now) g 0)) (c .is-serial-of-other .result)
     (sym (f .ensures ps long es ec) ∙ if1 .left) (serial-list p v gone g (a .kept .now) (a .serials .now) hg hk hs)

@@ -3,14 +3,15 @@ use mathlib.Core.Path.{sym, ap, _∙_, subst}
 use mathlib.Core.List.{[], _∷_}
 use Prim.Native.Nat.{ℕ, _<_}
 use borrow.Author.Needs.{needs}
-use Rattle.spec.specs.Drives.{viewOf, Store, mkDisk, pointerOf, sealedIn, zeroSpare}
+use Rattle.spec.specs.Drives.{viewOf, Store, mkDisk, pointerOf, sealedIn, zeroSpare, seg}
 use Rattle.spec.specs.Drives.Store.{put}
 use Rattle.spec.specs.Engine.Call.{close}
 use Rattle.spec.specs.History.{before}
 use Rattle.spec.specs.Layout.{headerBlock, headerSerial, headerCopied}
 use Rattle.spec.specs.Params.{capacity, named}
 use Rattle.spec.specs.Segments.{lowDrive, headerAt, segmentOf}
-use Rattle.law_basic.specs.Geometry.{ranged, zone-on-lt}
+use Rattle.law_basic.specs.Geometry.{ranged}
+use Rattle.law_basic.specs.Segs.{seg-named, zone-on-lt}
 use Rattle.disk_zones.specs.Made.{Storing}
 use Rattle.recover_reset.specs.Rebuilt.{headStore}
 use Rattle.recover_rebuild.specs.Zone.{head-room, head-store-is, head-cut, head-whole, head-fits, head-good, head-sealed, head-one, rest-made}
@@ -54,9 +55,9 @@ put-header-requires c κs =
         q .1 .0,
         (
           h .1,
-          subst (λ (x : ℕ). x < p .Z) z (zone-on-lt p (a .seg) d (h .2)),
+          subst (λ (x : ℕ). x < p .Z) z (zone-on-lt p (seg (a .seg)) d (seg-named p (a .seg) (h .2))),
           subst (λ (x : ℕ). pointerOf p (a .pointers .now) d x < capacity p) z
-              (head-room p r d (a .seg) (a .count) (h .1) (h .2) k₀ (q .1 .0) (q .1 .1 .1 .1) (h .3)),
+              (head-room p r d (seg (a .seg)) (a .count) (h .1) (seg-named p (a .seg) (h .2)) k₀ (q .1 .0) (q .1 .1 .1 .1) (h .3)),
         ),
       ),
     )
@@ -83,15 +84,15 @@ returns c =
     let v = viewOf p (a .image .now) (a .pointers .now) in
     let k₀ = mkDisk (a .image .now) (a .pointers .now) in
     let lo = low-drive .ensures .0 ∙ ap (lowDrive p) (h .0) in
-    let ea = serial-on .ensures (a .pointers .now) (q .1 .0 .pointers-long) ∙ ap (λ (x : ℕ). headerSerial (headerAt v x (a .seg))) lo in
-    let eb = copied-on .ensures (a .pointers .now) (q .1 .0 .pointers-long) ∙ ap (λ (x : ℕ). headerCopied (headerAt v x (a .seg))) lo in
+    let ea = serial-on .ensures (a .pointers .now) (q .1 .0 .pointers-long) ∙ ap (λ (x : ℕ). headerSerial (headerAt v x (seg (a .seg)))) lo in
+    let eb = copied-on .ensures (a .pointers .now) (q .1 .0 .pointers-long) ∙ ap (λ (x : ℕ). headerCopied (headerAt v x (seg (a .seg)))) lo in
     let m = put-header .result in
     let k = mkDisk (put-header .last .1 .0) (put-header .last .1 .1 .0) in
-    let s : Storing p (a .count) (headStore p d (segmentOf p v (named d) (a .seg)) ∷ []) k₀ m k =
+    let s : Storing p (a .count) (headStore p d (segmentOf p v (named d) (seg (a .seg))) ∷ []) k₀ m k =
     subst (λ (x : Store). Storing p (a .count) (x ∷ []) k₀ m k)
-    (head-store-is p r d (a .seg) (a .count) (h .1) (h .2) k₀ (q .1 .0) (q .1 .1 .1 .1) (h .3) (serial-on .result .0) (copied-on .result .0) ea eb)
+    (head-store-is p r d (seg (a .seg)) (a .count) (h .1) (seg-named p (a .seg) (h .2)) k₀ (q .1 .0) (q .1 .1 .1 .1) (h .3) (serial-on .result .0) (copied-on .result .0) ea eb)
     (subst (λ (z : ℕ). Storing p (a .count) (put d z (headerBlock p d z (serial-on .result .0) (copied-on .result .0)) zeroSpare ∷ []) k₀ m k) (zone-on .ensures) (put-header .ensures)) in
-    head-cut p r d (a .seg) (a .count) (h .1) (h .2) k₀ (q .1 .0) (q .1 .1 .1 .1) (h .3) m k s (c .if1 .taken)
+    head-cut p r d (seg (a .seg)) (a .count) (h .1) (seg-named p (a .seg) (h .2)) k₀ (q .1 .0) (q .1 .1 .1 .1) (h .3) m k s (c .if1 .taken)
 
 rebuild-data-requires : tie.Need-rebuild-data-requires
 rebuild-data-requires c κs =
@@ -111,26 +112,26 @@ rebuild-data-requires c κs =
     let v = viewOf p (a .image .now) (a .pointers .now) in
     let k₀ = mkDisk (a .image .now) (a .pointers .now) in
     let lo = low-drive .ensures .0 ∙ ap (lowDrive p) (h .0) in
-    let ea = serial-on .ensures (a .pointers .now) (q .1 .0 .pointers-long) ∙ ap (λ (x : ℕ). headerSerial (headerAt v x (a .seg))) lo in
-    let eb = copied-on .ensures (a .pointers .now) (q .1 .0 .pointers-long) ∙ ap (λ (x : ℕ). headerCopied (headerAt v x (a .seg))) lo in
+    let ea = serial-on .ensures (a .pointers .now) (q .1 .0 .pointers-long) ∙ ap (λ (x : ℕ). headerSerial (headerAt v x (seg (a .seg)))) lo in
+    let eb = copied-on .ensures (a .pointers .now) (q .1 .0 .pointers-long) ∙ ap (λ (x : ℕ). headerCopied (headerAt v x (seg (a .seg)))) lo in
     let m = put-header .result in
     let k = mkDisk (put-header .last .1 .0) (put-header .last .1 .1 .0) in
-    let s : Storing p (a .count) (headStore p d (segmentOf p v (named d) (a .seg)) ∷ []) k₀ m k =
+    let s : Storing p (a .count) (headStore p d (segmentOf p v (named d) (seg (a .seg))) ∷ []) k₀ m k =
     subst (λ (x : Store). Storing p (a .count) (x ∷ []) k₀ m k)
-    (head-store-is p r d (a .seg) (a .count) (h .1) (h .2) k₀ (q .1 .0) (q .1 .1 .1 .1) (h .3) (serial-on .result .0) (copied-on .result .0) ea eb)
+    (head-store-is p r d (seg (a .seg)) (a .count) (h .1) (seg-named p (a .seg) (h .2)) k₀ (q .1 .0) (q .1 .1 .1 .1) (h .3) (serial-on .result .0) (copied-on .result .0) ea eb)
     (subst (λ (z : ℕ). Storing p (a .count) (put d z (headerBlock p d z (serial-on .result .0) (copied-on .result .0)) zeroSpare ∷ []) k₀ m k) (zone-on .ensures) (put-header .ensures)) in
     let n = if1 .left in
-    let f = is-sealed .ensures (a .image .now) (q .1 .0 .image-long) ∙ ap (λ (x : ℕ). sealedIn p v x (a .seg)) (h .0) in (
+    let f = is-sealed .ensures (a .image .now) (q .1 .0 .image-long) ∙ ap (λ (x : ℕ). sealedIn p v x (seg (a .seg))) (h .0) in (
       q .0,
       (
-        head-whole p r d (a .seg) (a .count) (h .1) (h .2) k₀ (q .1 .0) (q .1 .1 .1 .1) (h .3) m k s n,
+        head-whole p r d (seg (a .seg)) (a .count) (h .1) (seg-named p (a .seg) (h .2)) k₀ (q .1 .0) (q .1 .1 .1 .1) (h .3) m k s n,
         (
-          (h .0, h .1, h .2, head-one p r d (a .seg) (a .count) (h .1) (h .2) k₀ (q .1 .0) (q .1 .1 .1 .1) (h .3) m k s n),
+          (h .0, h .1, h .2, head-one p r d (seg (a .seg)) (a .count) (h .1) (seg-named p (a .seg) (h .2)) k₀ (q .1 .0) (q .1 .1 .1 .1) (h .3) m k s n),
           (
-            head-sealed p r d (a .seg) (a .count) (h .1) (h .2) k₀ (q .1 .0) (q .1 .1 .1 .1) (h .3) m k s n (is-sealed .result) f,
+            head-sealed p r d (seg (a .seg)) (a .count) (h .1) (seg-named p (a .seg) (h .2)) k₀ (q .1 .0) (q .1 .1 .1 .1) (h .3) m k s n (is-sealed .result) f,
             (
-              head-good p r d (a .seg) (a .count) (h .1) (h .2) k₀ (q .1 .0) (q .1 .1 .1 .1) (h .3) m k s n (q .1 .1 .1 .0),
-              head-fits p r d (a .seg) (a .count) (h .1) (h .2) k₀ (q .1 .0) (q .1 .1 .1 .1) (h .3) m k s n,
+              head-good p r d (seg (a .seg)) (a .count) (h .1) (seg-named p (a .seg) (h .2)) k₀ (q .1 .0) (q .1 .1 .1 .1) (h .3) m k s n (q .1 .1 .1 .0),
+              head-fits p r d (seg (a .seg)) (a .count) (h .1) (seg-named p (a .seg) (h .2)) k₀ (q .1 .0) (q .1 .1 .1 .1) (h .3) m k s n,
             ),
           ),
         ),
@@ -167,15 +168,15 @@ returns-2 c =
     let v = viewOf p (a .image .now) (a .pointers .now) in
     let k₀ = mkDisk (a .image .now) (a .pointers .now) in
     let lo = low-drive .ensures .0 ∙ ap (lowDrive p) (h .0) in
-    let ea = serial-on .ensures (a .pointers .now) (q .1 .0 .pointers-long) ∙ ap (λ (x : ℕ). headerSerial (headerAt v x (a .seg))) lo in
-    let eb = copied-on .ensures (a .pointers .now) (q .1 .0 .pointers-long) ∙ ap (λ (x : ℕ). headerCopied (headerAt v x (a .seg))) lo in
+    let ea = serial-on .ensures (a .pointers .now) (q .1 .0 .pointers-long) ∙ ap (λ (x : ℕ). headerSerial (headerAt v x (seg (a .seg)))) lo in
+    let eb = copied-on .ensures (a .pointers .now) (q .1 .0 .pointers-long) ∙ ap (λ (x : ℕ). headerCopied (headerAt v x (seg (a .seg)))) lo in
     let m = put-header .result in
     let k = mkDisk (put-header .last .1 .0) (put-header .last .1 .1 .0) in
-    let s : Storing p (a .count) (headStore p d (segmentOf p v (named d) (a .seg)) ∷ []) k₀ m k =
+    let s : Storing p (a .count) (headStore p d (segmentOf p v (named d) (seg (a .seg))) ∷ []) k₀ m k =
     subst (λ (x : Store). Storing p (a .count) (x ∷ []) k₀ m k)
-    (head-store-is p r d (a .seg) (a .count) (h .1) (h .2) k₀ (q .1 .0) (q .1 .1 .1 .1) (h .3) (serial-on .result .0) (copied-on .result .0) ea eb)
+    (head-store-is p r d (seg (a .seg)) (a .count) (h .1) (seg-named p (a .seg) (h .2)) k₀ (q .1 .0) (q .1 .1 .1 .1) (h .3) (serial-on .result .0) (copied-on .result .0) ea eb)
     (subst (λ (z : ℕ). Storing p (a .count) (put d z (headerBlock p d z (serial-on .result .0) (copied-on .result .0)) zeroSpare ∷ []) k₀ m k) (zone-on .ensures) (put-header .ensures)) in
-    rest-made p r d (a .seg) (a .count) (h .1) (h .2) k₀ (q .1 .0) (q .1 .1 .1 .1) (h .3) m k s (if1 .left) (rebuild-data .result)
+    rest-made p r d (seg (a .seg)) (a .count) (h .1) (seg-named p (a .seg) (h .2)) k₀ (q .1 .0) (q .1 .1 .1 .1) (h .3) m k s (if1 .left) (rebuild-data .result)
     (mkDisk (rebuild-data .last .1 .0) (rebuild-data .last .1 .1 .0)) (rebuild-data .ensures)
 
 pub rebuild-zone-spec : {M : Type 1} → statement M

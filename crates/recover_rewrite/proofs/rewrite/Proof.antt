@@ -1,6 +1,7 @@
 -- `rewrite`: headers, stripes, resets, each cut or made; the headers leave seg as it is, so what was asked of it still holds for the stripes. Assumes nothing.
-use Rattle.spec.specs.Drives.{mkDisk}
+use Rattle.spec.specs.Drives.{mkDisk, seg}
 use Rattle.law_basic.specs.Geometry.{ranged}
+use Rattle.law_basic.specs.Segs.{seg-named}
 use Rattle.recover_rewrite.specs.Rewrite.{rewrite-heads, rewrite-whole, rewrite-sealed, rewrite-good, rewrite-fits, rewrite-moves, rewrite-resets, new-head-room}
 use borrow.Author.Needs.{needs}
 use Rattle.recover_rewrite.proofs.rewrite.Statement.{statement}
@@ -11,7 +12,7 @@ header-stores-requires c κs =
     let entry = c .before .before .before .before in
     let args = entry .args in
     let pre = entry .pre in
-    (pre .0, (pre .1 .0, (pre .1 .1 .0 .1, λ d hd. new-head-room (args .p) (ranged (args .p) (pre .0)) (args .pointers .now) (args .to) d (pre .1 .1 .1 .0 .1 d hd))))
+    (pre .0, (pre .1 .0, (pre .1 .1 .0 .1, λ d hd. new-head-room (args .p) (ranged (args .p) (pre .0)) (args .pointers .now) (seg (args .to)) d (pre .1 .1 .1 .0 .1 d hd))))
 
 same-length : tie.Need-same-length
 same-length c = search needs
@@ -25,7 +26,7 @@ returns c =
     let entry = c .before .before .before .before .before .before .before .before .before .before in
     let args = entry .args in
     let pre = entry .pre in
-    rewrite-heads (args .p) (ranged (args .p) (pre .0)) (args .count) (args .seg) (pre .1 .1 .0 .0) (args .to) (pre .1 .1 .0 .4) (args .serial .0)
+    rewrite-heads (args .p) (ranged (args .p) (pre .0)) (args .count) (seg (args .seg)) (seg-named (args .p) (args .seg) (pre .1 .1 .0 .0)) (seg (args .to)) (pre .1 .1 .0 .4) (args .serial .0)
     (mkDisk (args .image .now) (args .pointers .now)) (pre .1 .0) (pre .1 .1 .1 .1) (args .copied .0) (pre .1 .1 .1 .0 .0) (header-stores .result)
     (mkDisk (header-stores .last .1 .0) (header-stores .last .1 .1 .0)) (header-stores .ensures) (c .if1 .taken)
 
@@ -38,24 +39,24 @@ move-stripes-requires c κs =
     let pre = entry .pre in (
       pre .0,
       (
-        rewrite-whole (args .p) (ranged (args .p) (pre .0)) (args .count) (args .seg) (pre .1 .1 .0 .0) (args .to) (pre .1 .1 .0 .4)
+        rewrite-whole (args .p) (ranged (args .p) (pre .0)) (args .count) (seg (args .seg)) (seg-named (args .p) (args .seg) (pre .1 .1 .0 .0)) (seg (args .to)) (pre .1 .1 .0 .4)
             (args .serial .0) (mkDisk (args .image .now) (args .pointers .now)) (pre .1 .0) (pre .1 .1 .1 .1) (args .copied .0) (pre .1 .1 .1 .0 .0)
             (header-stores .result) (mkDisk (header-stores .last .1 .0) (header-stores .last .1 .1 .0)) (header-stores .ensures) (if1 .left),
         (
           (
             pre .1 .1 .0 .0,
             pre .1 .1 .0 .1,
-            rewrite-sealed (args .p) (ranged (args .p) (pre .0)) (args .count) (args .seg) (pre .1 .1 .0 .0) (args .to) (pre .1 .1 .0 .4)
+            rewrite-sealed (args .p) (ranged (args .p) (pre .0)) (args .count) (seg (args .seg)) (seg-named (args .p) (args .seg) (pre .1 .1 .0 .0)) (seg (args .to)) (pre .1 .1 .0 .4)
                 (args .serial .0) (mkDisk (args .image .now) (args .pointers .now)) (pre .1 .0) (pre .1 .1 .1 .1) (args .copied .0)
                 (pre .1 .1 .1 .0 .0) (header-stores .result) (mkDisk (header-stores .last .1 .0) (header-stores .last .1 .1 .0))
                 (header-stores .ensures) (if1 .left) (pre .1 .1 .0 .2),
-            rewrite-good (args .p) (ranged (args .p) (pre .0)) (args .count) (args .seg) (pre .1 .1 .0 .0) (args .to) (pre .1 .1 .0 .4)
+            rewrite-good (args .p) (ranged (args .p) (pre .0)) (args .count) (seg (args .seg)) (seg-named (args .p) (args .seg) (pre .1 .1 .0 .0)) (seg (args .to)) (pre .1 .1 .0 .4)
                 (args .serial .0) (mkDisk (args .image .now) (args .pointers .now)) (pre .1 .0) (pre .1 .1 .1 .1) (args .copied .0)
                 (pre .1 .1 .1 .0 .0) (header-stores .result) (mkDisk (header-stores .last .1 .0) (header-stores .last .1 .1 .0))
                 (header-stores .ensures) (if1 .left) (pre .1 .1 .0 .3),
             pre .1 .1 .0 .4,
           ),
-          rewrite-fits (args .p) (ranged (args .p) (pre .0)) (args .count) (args .seg) (pre .1 .1 .0 .0) (args .to) (pre .1 .1 .0 .4)
+          rewrite-fits (args .p) (ranged (args .p) (pre .0)) (args .count) (seg (args .seg)) (seg-named (args .p) (args .seg) (pre .1 .1 .0 .0)) (seg (args .to)) (pre .1 .1 .0 .4)
               (args .serial .0) (mkDisk (args .image .now) (args .pointers .now)) (pre .1 .0) (pre .1 .1 .1 .1) (args .copied .0)
               (pre .1 .1 .1 .0 .0) (header-stores .result) (mkDisk (header-stores .last .1 .0) (header-stores .last .1 .1 .0))
               (header-stores .ensures) (if1 .left),
@@ -77,7 +78,7 @@ returns-2 c =
     let entry = c .before .before .before .before .before .before .before .before .before .before .before .before .before .before .before .before .before .before in
     let args = entry .args in
     let pre = entry .pre in
-    rewrite-moves (args .p) (ranged (args .p) (pre .0)) (args .count) (args .seg) (pre .1 .1 .0 .0) (args .to) (pre .1 .1 .0 .4) (args .serial .0)
+    rewrite-moves (args .p) (ranged (args .p) (pre .0)) (args .count) (seg (args .seg)) (seg-named (args .p) (args .seg) (pre .1 .1 .0 .0)) (seg (args .to)) (pre .1 .1 .0 .4) (args .serial .0)
     (mkDisk (args .image .now) (args .pointers .now)) (pre .1 .0) (pre .1 .1 .1 .1) (args .copied .0) (pre .1 .1 .1 .0 .0) (header-stores .result)
     (mkDisk (header-stores .last .1 .0) (header-stores .last .1 .1 .0)) (header-stores .ensures) (if1 .left) (move-stripes .result)
     (mkDisk (move-stripes .last .1 .0) (move-stripes .last .1 .1 .0)) (move-stripes .ensures) (c .if2 .taken)
@@ -101,7 +102,7 @@ returns-3 c =
     let entry = c .before .before .before .before .before .before .before .before .before .before .before .before .before .before .before .before .before .before .before .before .before .before in
     let args = entry .args in
     let pre = entry .pre in
-    rewrite-resets (args .p) (ranged (args .p) (pre .0)) (args .count) (args .seg) (pre .1 .1 .0 .0) (args .to) (pre .1 .1 .0 .4) (args .serial .0)
+    rewrite-resets (args .p) (ranged (args .p) (pre .0)) (args .count) (seg (args .seg)) (seg-named (args .p) (args .seg) (pre .1 .1 .0 .0)) (seg (args .to)) (pre .1 .1 .0 .4) (args .serial .0)
     (mkDisk (args .image .now) (args .pointers .now)) (pre .1 .0) (pre .1 .1 .1 .1) (args .copied .0) (pre .1 .1 .1 .0 .0) (header-stores .result)
     (mkDisk (header-stores .last .1 .0) (header-stores .last .1 .1 .0)) (header-stores .ensures) (if1 .left) (move-stripes .result)
     (mkDisk (move-stripes .last .1 .0) (move-stripes .last .1 .1 .0)) (move-stripes .ensures) (if2 .left) (reset-stores .result)

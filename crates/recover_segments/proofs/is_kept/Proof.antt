@@ -5,7 +5,7 @@ use Prim.Native.Nat.{ℕ}
 use borrow.Author.Tests.{not-true, not-false, eq-eqb, ne-eqb}
 use lib.Dec.{eqb}
 use lib.ListN.{getD}
-use Rattle.spec.specs.Drives.{viewOf}
+use Rattle.spec.specs.Drives.{viewOf, seg}
 use Rattle.spec.specs.History.{before}
 use Rattle.spec.specs.Layout.{headerCopied}
 use Rattle.spec.specs.Segments.{lowDrive, headerAt}
@@ -29,7 +29,7 @@ returns c =
     let O : ℕ → Bool = λ x. otherSerial (p .Z) fl ns (a .g) x in
     λ ps gone h e k s.
     let v = viewOf p im ps in
-    let x = headerCopied (headerAt v (lowDrive p gone) (a .g)) in
+    let x = headerCopied (headerAt v (lowDrive p gone) (seg (a .g))) in
     sym (remains-is p v gone fl ns (a .g) x (pre .1 .2) k s refl ∙ ap (λ (b : Bool). b && not (not (eqb x 0) && O x)) (not-true (getD fl (a .g) false) (c .if1 .taken)))
 
 copied-on-requires : tie.Need-copied-on-requires
@@ -49,7 +49,7 @@ returns-2 c =
     λ ps gone h e k s.
     let v = viewOf p im ps in
     let x = copied-on .result .0 in
-    let y : x ≡ headerCopied (headerAt v (lowDrive p gone) (a .g)) = copied-on .ensures ps h ∙ ap (λ (d : ℕ). headerCopied (headerAt v d (a .g))) e in
+    let y : x ≡ headerCopied (headerAt v (lowDrive p gone) (seg (a .g))) = copied-on .ensures ps h ∙ ap (λ (d : ℕ). headerCopied (headerAt v d (seg (a .g)))) e in
     sym (remains-is p v gone fl ns (a .g) x (pre .1 .2) k s y ∙ (λ j. not-false (getD fl (a .g) false) (if1 .left) j && not (not (eq-eqb x 0 (c .if2 .taken) j) && O x)))
 
 is-serial-of-other-requires : tie.Need-is-serial-of-other-requires
@@ -69,7 +69,7 @@ returns-3 c =
     λ ps gone h e k s.
     let v = viewOf p im ps in
     let x = copied-on .result .0 in
-    let y : x ≡ headerCopied (headerAt v (lowDrive p gone) (a .g)) = copied-on .ensures ps h ∙ ap (λ (d : ℕ). headerCopied (headerAt v d (a .g))) e in
+    let y : x ≡ headerCopied (headerAt v (lowDrive p gone) (seg (a .g))) = copied-on .ensures ps h ∙ ap (λ (d : ℕ). headerCopied (headerAt v d (seg (a .g)))) e in
     ap not (c .is-serial-of-other .ensures)
     ∙ sym (remains-is p v gone fl ns (a .g) x (pre .1 .2) k s y ∙ (λ j. not-false (getD fl (a .g) false) (if1 .left) j && not (not (ne-eqb x 0 (c .before .if2 .left) j) && O x)))
 

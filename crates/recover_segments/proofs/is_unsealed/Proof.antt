@@ -3,7 +3,7 @@ use mathlib.Core.Path.{sym, ap, _∙_}
 use mathlib.Core.Bool.{Bool, false, not, _&&_}
 use borrow.Author.Tests.{not-true, not-false}
 use lib.ListN.{getD}
-use Rattle.spec.specs.Drives.{viewOf, sealedIn}
+use Rattle.spec.specs.Drives.{viewOf, sealedIn, seg}
 use Rattle.spec.specs.History.{before}
 use borrow.Author.Needs.{needs}
 use Rattle.recover_segments.proofs.is_unsealed.Statement.{statement}
@@ -15,7 +15,7 @@ shared-slice-read-if1 c = search needs
 returns : tie.Need-returns
 returns c =
     let args = c .before .before .before .before .args in
-    λ im h. sym (ap (λ (b : Bool). b && not (sealedIn (args .p) (viewOf (args .p) im (args .pointers .now)) (args .gone) (args .g)))
+    λ im h. sym (ap (λ (b : Bool). b && not (sealedIn (args .p) (viewOf (args .p) im (args .pointers .now)) (args .gone) (seg (args .g))))
     (not-true (getD (args .kept .now) (args .g) false) (c .if1 .taken)))
 
 is-sealed-requires : tie.Need-is-sealed-requires
@@ -25,7 +25,7 @@ returns-2 : tie.Need-returns-2
 returns-2 c =
     let args = c .before .before .before .before .before .args in
     λ im h. ap not (c .is-sealed .ensures im h)
-    ∙ sym (ap (λ (b : Bool). b && not (sealedIn (args .p) (viewOf (args .p) im (args .pointers .now)) (args .gone) (args .g)))
+    ∙ sym (ap (λ (b : Bool). b && not (sealedIn (args .p) (viewOf (args .p) im (args .pointers .now)) (args .gone) (seg (args .g))))
     (not-false (getD (args .kept .now) (args .g) false) (c .before .if1 .left)))
 
 pub is-unsealed-spec : {M : Type 1} → statement M

@@ -3,9 +3,9 @@ use mathlib.Core.Path.{sym, ap, _∙_}
 use mathlib.Core.Bool.{Bool, not, _||_}
 use Prim.Native.Nat.{ℕ}
 use lib.Dec.{eqb}
-use Rattle.spec.specs.Drives.{pointerOf, zoneOn}
+use Rattle.spec.specs.Drives.{pointerOf, zoneOn, seg}
 use Rattle.spec.specs.History.{before}
-use Rattle.law_basic.specs.Geometry.{zone-on-lt}
+use Rattle.law_basic.specs.Segs.{zone-on-lt, seg-named}
 use borrow.Author.Needs.{needs}
 use Rattle.recover_segments.proofs.is_used.Statement.{statement}
 use Rattle.recover_segments.proofs.is_used.Tie as tie
@@ -16,7 +16,8 @@ has-drive-requires c κs = search needs
 returns : tie.Need-returns
 returns c =
     let args = c .before .before .before .args in
-    sym (ap (λ (b : Bool). b || (not (eqb (pointerOf (args .p) (args .pointers .now) (args .drive) (zoneOn (args .segment) (args .drive))) 0))) (sym (c .before .has-drive .ensures) ∙ c .if1 .taken))
+    sym (ap (λ (b : Bool). b || (not (eqb (pointerOf (args .p) (args .pointers .now) (args .drive) (zoneOn (seg (args .segment)) (args .drive))) 0)))
+    (sym (c .before .has-drive .ensures) ∙ c .if1 .taken))
 
 zone-on-requires : tie.Need-zone-on-requires
 zone-on-requires c κs = search needs
@@ -26,7 +27,7 @@ pointer-requires c κs =
     let entry = c .before .before .before .before in
     let args = entry .args in
     let pre = entry .pre in
-    (pre .0, (pre .1 .0, pre .1 .1, rw (c .zone-on .ensures) (zone-on-lt (args .p) (args .segment) (args .drive) (pre .1 .2))))
+    (pre .0, (pre .1 .0, pre .1 .1, rw (c .zone-on .ensures) (zone-on-lt (args .p) (seg (args .segment)) (args .drive) (seg-named (args .p) (args .segment) (pre .1 .2)))))
 
 returns-2 : tie.Need-returns-2
 returns-2 c =
@@ -34,7 +35,7 @@ returns-2 c =
     let has-drive = c .before .before .before .has-drive in
     let args = c .before .before .before .before .before .args in
     ap (λ (x : ℕ). not (eqb x 0)) (c .pointer .ensures ∙ ap (pointerOf (args .p) (args .pointers .now) (args .drive)) (c .before .zone-on .ensures))
-    ∙ sym (ap (λ (b : Bool). b || (not (eqb (pointerOf (args .p) (args .pointers .now) (args .drive) (zoneOn (args .segment) (args .drive))) 0)))
+    ∙ sym (ap (λ (b : Bool). b || (not (eqb (pointerOf (args .p) (args .pointers .now) (args .drive) (zoneOn (seg (args .segment)) (args .drive))) 0)))
     (sym (has-drive .ensures) ∙ if1 .left))
 
 pub is-used-spec : {M : Type 1} → statement M

@@ -6,7 +6,8 @@ use native.Mathlib.Omega.{arith}
 use lib.ListN.{getD}
 use Rattle.spec.specs.History.{before}
 use Rattle.spec.specs.Lists.{upFrom, below, keep, firstOr}
-use Rattle.recover_segments.specs.Kept.{lowest-turn, lowest-pass, lowest-end, lowest-start, free-list}
+use Rattle.spec.specs.Drives.{seg}
+use Rattle.recover_segments.specs.Kept.{lowest-turn, lowest-pass, lowest-end, lowest-start, free-first}
 use Rattle.recover_segments.proofs.lowest_free.Statement.{statement}
 use Rattle.recover_segments.proofs.lowest_free.Tie as tie
 
@@ -32,8 +33,8 @@ returns c =
     let loop = c .before .before .before .before .loop in
     let f : ℕ → Bool = λ x. not (getD (a .kept .now) x false) in (
       omega (arith, if1 .taken),
-      λ v gone k. (sym (lowest-turn f (a .p .Z) (loop .z) (a .p .Z) (if1 .taken) (c .if2 .taken)) ∙ loop .inv .1)
-          ∙ ap (firstOr (a .p .Z)) (sym (free-list (a .p) v gone (a .kept .now) k)),
+      λ v gone k. ap seg (sym (lowest-turn f (a .p .Z) (loop .z) (a .p .Z) (if1 .taken) (c .if2 .taken)) ∙ loop .inv .1)
+          ∙ sym (free-first (a .p) v gone (a .p .Z) (a .kept .now) k),
     )
 
 add-z : tie.Need-add-z Inv-loop μ-loop
@@ -55,7 +56,7 @@ returns-2 c =
     let a = c .before .before .before .args in
     let loop = c .before .before .loop in
     let f : ℕ → Bool = λ x. not (getD (a .kept .now) x false) in
-    (omega arith, λ v gone k. (sym (lowest-end f (a .p .Z) (loop .z) (a .p .Z) (omega (arith, c .if1 .left))) ∙ loop .inv .1) ∙ ap (firstOr (a .p .Z)) (sym (free-list (a .p) v gone (a .kept .now) k)))
+    (omega arith, λ v gone k. ap seg (sym (lowest-end f (a .p .Z) (loop .z) (a .p .Z) (omega (arith, c .if1 .left))) ∙ loop .inv .1) ∙ sym (free-first (a .p) v gone (a .p .Z) (a .kept .now) k))
 
 pub lowest-free-spec : {M : Type 1} → statement M
 lowest-free-spec =

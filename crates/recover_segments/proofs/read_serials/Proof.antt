@@ -4,7 +4,7 @@ use mathlib.Core.List.{List}
 use Prim.Native.Nat.{ℕ, _-_, _≤_, _<_}
 use native.Mathlib.Omega.{arith}
 use lib.ListN.{length, getD, length-set}
-use Rattle.spec.specs.Drives.{viewOf}
+use Rattle.spec.specs.Drives.{viewOf, seg}
 use Rattle.spec.specs.Layout.{headerSerial}
 use Rattle.spec.specs.Params.{pointersLen}
 use Rattle.spec.specs.Segments.{headerAt}
@@ -16,7 +16,7 @@ use Rattle.recover_segments.proofs.read_serials.Tie as tie
 
 abbrev Inv-loop : tie.InvT-loop
 Inv-loop p image gone out₀ low g₀ out g =
-    (g ≤ p .Z) × (length out ≡ length out₀) × ((ps : List ℕ) → length ps ≡ pointersLen p → (j : ℕ) → j < g → getD out j 0 ≡ serialOf p (viewOf p image ps) gone j)
+    (g ≤ p .Z) × (length out ≡ length out₀) × ((ps : List ℕ) → length ps ≡ pointersLen p → (j : ℕ) → j < g → getD out j 0 ≡ serialOf p (viewOf p image ps) gone (seg j))
 
 abbrev μ-loop : tie.MeasureT-loop
 μ-loop p image gone out₀ low g₀ out g = p .Z - g
@@ -59,8 +59,8 @@ loop-again c =
     let s = c .serial-on .result .0 in (
       omega (arith, c .before .if1 .taken),
       length-set (l .out) (l .g) s ∙ l .inv .1,
-      λ ps h. set-more (l .out) (l .g) s 0 (serialOf p (viewOf p im ps) (e .args .gone)) (omega (arith, l .inv .1, c .before .if1 .taken, e .pre .1 .1)) (l .inv .2 ps h)
-          (c .serial-on .ensures ps h ∙ ap (λ (d : ℕ). headerSerial (headerAt (viewOf p im ps) d (l .g))) (low-drive .ensures .0)),
+      λ ps h. set-more (l .out) (l .g) s 0 (λ g. serialOf p (viewOf p im ps) (e .args .gone) (seg g)) (omega (arith, l .inv .1, c .before .if1 .taken, e .pre .1 .1)) (l .inv .2 ps h)
+          (c .serial-on .ensures ps h ∙ ap (λ (d : ℕ). headerSerial (headerAt (viewOf p im ps) d (seg (l .g)))) (low-drive .ensures .0)),
     )
 
 same-length : tie.Need-same-length Inv-loop μ-loop

@@ -4,7 +4,7 @@ use mathlib.Core.List.{List}
 use Prim.Native.Nat.{ℕ, _+_, _-_, _*_, _≤_}
 use native.Mathlib.Omega.{arith}
 use lib.ListN.{length, set, length-set}
-use Rattle.spec.specs.Drives.{viewOf}
+use Rattle.spec.specs.Drives.{viewOf, seg}
 use Rattle.spec.specs.Segments.{remaining, recsOn}
 use Rattle.recover_groups.specs.Bases.{group-len-le}
 use Rattle.recover_groups.specs.Entering.{Entering, entering-start}
@@ -20,8 +20,8 @@ use Rattle.recover_tables.proofs.index_drive.Tie as tie
 abbrev Inv-loop : tie.InvT-loop
 Inv-loop p pointers compact w drive at₀ n i₀ at i =
     (i ≤ n) × (length at ≡ 2048)
-    × ((im : List ℕ) → Ground p im pointers (w .gone) compact → In (w .seg) (remaining p (viewOf p im pointers) (w .gone))
-    → SegmentShown p (viewOf p im pointers) (w .gone) (w .seg) compact
+    × ((im : List ℕ) → Ground p im pointers (w .gone) compact → In (seg (w .seg)) (remaining p (viewOf p im pointers) (w .gone))
+    → SegmentShown p (viewOf p im pointers) (w .gone) (seg (w .seg)) compact
     → Entering p drive (w .base) (groupRecs p (w .base) (recsOn (segmentIn p im pointers w) drive)) at₀ at i)
 
 abbrev μ-loop : tie.MeasureT-loop
@@ -106,7 +106,7 @@ loop-again c =
           let rs = groupRecs p (w .base) (recsOn (segmentIn p im ps w) (a .drive)) in
           let n : group-stored .result ≡ length rs = group-stored .ensures .0 im (G .whole .image-long) (h .4) in
           subst (λ (x : ℕ). Entering p (a .drive) (w .base) rs (a .at .now) (set (l .at) (256 * a .drive + x) (l .i + 1)) (l .i + 1)) (sym (c .entry-at .ensures .0))
-          (index-entered p r im ps (w .gone) (a .compact .now) G (w .seg) (w .base) (a .drive) m sh (h .0) (h .4) (h .2) (h .3) (a .at .now) (l .at) (l .i) (l .inv .2 im G m sh)
+          (index-entered p r im ps (w .gone) (a .compact .now) G (seg (w .seg)) (w .base) (a .drive) m sh (h .0) (h .4) (h .2) (h .3) (a .at .now) (l .at) (l .i) (l .inv .2 im G m sh)
           (omega (arith, n, c .before .loop-test .taken))),
     )
 
@@ -130,7 +130,7 @@ returns c =
     λ im G m sh.
     let rs = groupRecs p (w .base) (recsOn (segmentIn p im ps w) (a .drive)) in
     let n : group-stored .result ≡ length rs = group-stored .ensures .0 im (G .whole .image-long) (h .4) in
-    all-entered p r im ps (w .gone) (a .compact .now) G (w .seg) (w .base) (a .drive) m sh (h .0) (h .4) (h .2) (h .3) (a .at .now) (l .at) (l .i) (l .inv .2 im G m sh)
+    all-entered p r im ps (w .gone) (a .compact .now) G (seg (w .seg)) (w .base) (a .drive) m sh (h .0) (h .4) (h .2) (h .3) (a .at .now) (l .at) (l .i) (l .inv .2 im G m sh)
     (omega (arith, n, c .loop-test .left))
 
 pub index-drive-spec : {M : Type 1} → statement M

@@ -5,10 +5,11 @@ use mathlib.Core.Bool.{true, false, _&&_}
 use borrow.Author.Tests.{eq-eqb, ne-eqb, not-true, not-false}
 use lib.Dec.{eqb}
 use lib.ListN.{length}
-use Rattle.spec.specs.Drives.{View, viewOf}
+use Rattle.spec.specs.Drives.{View, viewOf, seg}
 use Rattle.spec.specs.Lists.{below}
 use Rattle.spec.specs.Segments.{segmentOf, counted}
 use Rattle.law_basic.specs.Ranges.{and-both}
+use Rattle.law_basic.specs.Segs.{seg-named}
 use Rattle.law_drives.specs.Tables.{in-remaining}
 use Rattle.law_drives.specs.Tests.{and-false-left, and-false-right, cond-true, cond-false}
 use Rattle.recover_tables.specs.Walk.{tourCands, walked-all, toured-told, toured-miss, toured-hit}
@@ -40,7 +41,8 @@ returns c =
     let t = q .1 .1 .1 .0 in (
       toured-miss (a .p) v (a .gone) (a .g) (q .1 .1 .0 .0) (a .compact .now) (x .last .1 .1 .1 .0) (a .addresses .now) (a .h .stamp .0) t (x .ensures (q .1 .1 .0 .1)) (x .kept .1 .1 .1 .0)
           (sym (q .1 .1 .0 .1) ∙ e),
-      sym (cond-false (a .kept && eqb (a .g) (a .opened)) (length (counted (a .p) (a .gone) (segmentOf (a .p) v (a .gone) (a .g)))) (a .h .next) (and-false-left (a .kept) (eqb (a .g) (a .opened)) e)),
+      sym (cond-false (a .kept && eqb (a .g) (a .opened)) (length (counted (a .p) (a .gone) (segmentOf (a .p) v (a .gone) (seg (a .g))))) (a .h .next)
+          (and-false-left (a .kept) (eqb (a .g) (a .opened)) e)),
     )
 
 load-groups-requires : tie.Need-load-groups-requires
@@ -59,7 +61,7 @@ load-groups-requires c κs =
       (
         q .1 .0,
         (
-          (in-remaining (a .p) v (a .gone) (a .g) (q .1 .1 .0 .0) (sym (q .1 .1 .0 .1) ∙ not-false (a .kept) (if1 .left)), s .0),
+          (in-remaining (a .p) v (a .gone) (seg (a .g)) (seg-named (a .p) (a .g) (q .1 .1 .0 .0)) (sym (q .1 .1 .0 .1) ∙ not-false (a .kept) (if1 .left)), s .0),
           (
             (tourCands (a .p) v (a .gone) (below (a .g)), toured-told (a .p) v (a .gone) (a .g) (q .1 .1 .0 .0) (a .compact .now) co (a .addresses .now) (a .h .stamp .0) (q .1 .1 .1 .0) s),
             q .1 .1 .1 .1,
@@ -104,8 +106,8 @@ returns-2 c =
     let r = w .result in (
       toured-hit (a .p) v (a .gone) (a .g) (q .1 .1 .0 .0) (a .compact .now) co (a .addresses .now) (a .h .stamp .0) (q .1 .1 .1 .0) s (x .kept .1 .1 .1 .0) tb (r .stamp .0) (r .counted)
           (sym (q .1 .1 .0 .1) ∙ e) (w .ensures),
-      walked-all (a .p) v (a .gone) co (a .g) (a .addresses .now) tb (a .h .stamp .0) (r .stamp .0) (r .counted) (w .ensures) .2
-          ∙ sym (cond-true (a .kept && eqb (a .g) (a .opened)) (length (counted (a .p) (a .gone) (segmentOf (a .p) v (a .gone) (a .g)))) (a .h .next)
+      walked-all (a .p) v (a .gone) co (seg (a .g)) (a .addresses .now) tb (a .h .stamp .0) (r .stamp .0) (r .counted) (w .ensures) .2
+          ∙ sym (cond-true (a .kept && eqb (a .g) (a .opened)) (length (counted (a .p) (a .gone) (segmentOf (a .p) v (a .gone) (seg (a .g))))) (a .h .next)
           (and-both (a .kept) (eqb (a .g) (a .opened)) e (eq-eqb (a .g) (a .opened) (if2 .taken)))),
     )
 
@@ -145,7 +147,7 @@ returns-3 c =
     let r = w .result in (
       toured-hit (a .p) v (a .gone) (a .g) (q .1 .1 .0 .0) (a .compact .now) co (a .addresses .now) (a .h .stamp .0) (q .1 .1 .1 .0) s (x .kept .1 .1 .1 .0) tb (r .stamp .0) (r .counted)
           (sym (q .1 .1 .0 .1) ∙ e) (w .ensures),
-      sym (cond-false (a .kept && eqb (a .g) (a .opened)) (length (counted (a .p) (a .gone) (segmentOf (a .p) v (a .gone) (a .g)))) (a .h .next)
+      sym (cond-false (a .kept && eqb (a .g) (a .opened)) (length (counted (a .p) (a .gone) (segmentOf (a .p) v (a .gone) (seg (a .g))))) (a .h .next)
           (and-false-right (a .kept) (eqb (a .g) (a .opened)) (ne-eqb (a .g) (a .opened) (if2 .left)))),
     )
 

@@ -5,7 +5,7 @@ use mathlib.Core.List.{List}
 use Prim.Native.Nat.{ℕ, _+_, _-_, max, _≤_, _<_}
 use native.Mathlib.Omega.{arith}
 use lib.ListN.{length, getD}
-use Rattle.spec.specs.Drives.{View, viewOf}
+use Rattle.spec.specs.Drives.{View, viewOf, seg}
 use Rattle.spec.specs.Layout.{dataDrive}
 use Rattle.spec.specs.Params.{dataCount}
 use Rattle.spec.specs.Rank.{Cand}
@@ -20,13 +20,13 @@ use Rattle.recover_tables.proofs.load_stripe.Statement.{statement}
 use Rattle.recover_tables.proofs.load_stripe.Tie as tie
 
 abbrev Inv-loop : tie.InvT-loop
-Inv-loop p image pointers addresses₀ compact w serials at k seg serial s n most₀ i₀ addresses most i =
+Inv-loop p image pointers addresses₀ compact w serials at k sn serial s n most₀ i₀ addresses most i =
     (i ≤ n) × (length addresses ≡ length addresses₀)
     × Tells p (viewOf p image pointers) (w .gone) compact addresses₀ addresses (firstCands p (w .gone) (segmentIn p image pointers w) (w .base + k) i)
     × (most .0 ≡ max (most₀ .0) (greatestStamp (firstCands p (w .gone) (segmentIn p image pointers w) (w .base + k) i)))
 
 abbrev μ-loop : tie.MeasureT-loop
-μ-loop p image pointers addresses₀ compact w serials at k seg serial s n most₀ i₀ addresses most i = n - i
+μ-loop p image pointers addresses₀ compact w serials at k sn serial s n most₀ i₀ addresses most i = n - i
 
 mul-t20 : tie.Need-mul-t20 Inv-loop μ-loop
 mul-t20 c =
@@ -102,14 +102,14 @@ offer-requires c κs =
     let s = a .w .base + a .k in
     let g : Segment = segmentIn (a .p) (a .image .now) (a .pointers .now) (a .w) in
     let hz = standing-low (a .p) (a .image .now) (a .pointers .now) (a .w) (a .at .now) (a .k) (a .compact .now) st in
-    let es = serial-there (a .p) v (a .w .gone) (a .w .seg) (getD (a .serials .now) (a .w .seg) 0) (q .1 .0 .1 (a .w .seg) hz) in
+    let es = serial-there (a .p) v (a .w .gone) (seg (a .w .seg)) (getD (a .serials .now) (a .w .seg) 0) (q .1 .0 .1 (a .w .seg) hz) in
     let ec : ranked (cand-of .result) ≡ candOf (a .p) (a .w .gone) g s (dataDrive (a .p) s (l .i)) =
     cand-of .ensures (a .pointers .now) (st .index .reads) es ∙ ap (candOf (a .p) (a .w .gone) g s) (data-drive .ensures .0) in (
       q .0,
       (
         q .1 .0,
         (
-          cand-there (a .p) v (a .w .gone) (a .compact .now) (a .w .seg) s (l .i) (ranked (cand-of .result))
+          cand-there (a .p) v (a .w .gone) (a .compact .now) (seg (a .w .seg)) s (l .i) (ranked (cand-of .result))
               (standing-counted (a .p) (a .image .now) (a .pointers .now) (a .w) (a .at .now) (a .k) (a .compact .now) st)
               (subst (λ (x : ℕ). l .i < x) (data-count .ensures .0) (loop-test .taken)) ec,
           tells-known (a .p) v (a .w .gone) (a .compact .now) (a .addresses .now) (l .addresses) (firstCands (a .p) (a .w .gone) g s (l .i)) (l .inv .2) (q .1 .1 .1),
@@ -140,11 +140,11 @@ loop-again c =
     let s = a .w .base + a .k in
     let g : Segment = segmentIn (a .p) (a .image .now) (a .pointers .now) (a .w) in
     let hz = standing-low (a .p) (a .image .now) (a .pointers .now) (a .w) (a .at .now) (a .k) (a .compact .now) st in
-    let es = serial-there (a .p) v (a .w .gone) (a .w .seg) (getD (a .serials .now) (a .w .seg) 0) (q .1 .0 .1 (a .w .seg) hz) in
+    let es = serial-there (a .p) v (a .w .gone) (seg (a .w .seg)) (getD (a .serials .now) (a .w .seg) 0) (q .1 .0 .1 (a .w .seg) hz) in
     let ec : ranked (cand-of .result) ≡ candOf (a .p) (a .w .gone) g s (dataDrive (a .p) s (l .i)) =
     cand-of .ensures (a .pointers .now) (st .index .reads) es ∙ ap (candOf (a .p) (a .w .gone) g s) (data-drive .ensures .0) in
     let t =
-    stripe-turn (a .p) v (a .w .gone) (a .compact .now) (a .w .seg) s (l .i) (a .addresses .now) (l .addresses) (offer .last .1 .1 .1 .0) (a .stamp .0) (l .most .0)
+    stripe-turn (a .p) v (a .w .gone) (a .compact .now) (seg (a .w .seg)) s (l .i) (a .addresses .now) (l .addresses) (offer .last .1 .1 .1 .0) (a .stamp .0) (l .most .0)
     (c .greater .result .0) (ranked (cand-of .result)) ec (l .inv .2) (l .inv .3) (offer .ensures) (c .greater .ensures) in
     (omega (arith, loop-test .taken), offer .kept .1 .1 .1 .0 ∙ l .inv .1, t .0, t .1)
 
