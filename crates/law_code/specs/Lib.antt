@@ -1,3 +1,4 @@
 pub mod Code
 pub mod Chunks
 pub mod Survives
+pub mod Single

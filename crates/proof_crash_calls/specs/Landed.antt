@@ -15,7 +15,7 @@ use Rattle.spec.specs.Drives.{View, zoneAt, pointerAt, Store, storeView, Seg, s
 use Rattle.spec.specs.Drives.Store.{put}
 use Rattle.spec.specs.History.{Send}
 use Rattle.spec.specs.Landing.{slotOf, ready, waiting, completes, seals, flightRec, misplaced, overfull, entryFaults, landFaults, landChecks, landStore}
-use Rattle.spec.specs.Layout.{parityDrive, dataDrive, dataPosition, isData, group, Rec, recordBytes}
+use Rattle.spec.specs.Layout.{parityPosition, parityDrive, dataDrive, dataPosition, isData, group, Rec, recordBytes}
 use Rattle.spec.specs.Lists.Opt.{none}
 use Rattle.spec.specs.Lists.{below, consIf, indexOf, flat, isIn}
 use Rattle.spec.specs.Memory.{Memory, slotCount, slots, stripeIn, filledIn, landedIn, entryIn, entriesIn, offsetIn, openSegment, isFree, isFull, stateOk, slotBlock}
@@ -25,7 +25,8 @@ use Rattle.law_basic.specs.Geometry.{between-low, between-high, Ranged, positio
 use Rattle.law_basic.specs.Ranges.{and-left, and-right, and-fails}
 use Rattle.law_drives.specs.Members.{if-none}
 use Rattle.law_basic.specs.Segs.{Named, seg-named, zone-on-lt}
-use Rattle.law_drives.specs.Tests.{cond-true, cond-false}
+use Rattle.law_code.specs.Chunks.{flight-data, flight-parity}
+use Rattle.law_code.specs.Single.{encode-rec-xor}
 use Rattle.law_drives.specs.Slots.{slot-found}
 use Rattle.law_checks.specs.Passed.{land-passed}
 use Rattle.proof_crash_machine.specs.Facts.{Datum}
@@ -245,10 +246,9 @@ module _ (p : Params) (h : Ranged p) (v : View) (m : Memory) (ss : List Send) (n
       number = let x : entryIn st i k .stripe ≡ stripeIn st i = unfold entryIn in refl in x ∙ A .number
 
       is : flightRec p st i d ≡ entryIn st i k
-      is = unfold flightRec in (
-          ap (λ (x : ℕ). cond (isData p x d) (entryIn st i (dataPosition p x d)) (parityRec x (entriesIn st i))) (A .number)
-          ∙ cond-true (isData p s d) (entryIn st i (dataPosition p s d)) (parityRec s (entriesIn st i)) (ap (isData p s) e ∙ drive-is-data p s k)
-          ∙ ap (entryIn st i) (ap (dataPosition p s) e ∙ position-drive p s k))
+      is =
+          flight-data p st i d (ap (λ (x : ℕ). isData p x d) (A .number) ∙ ap (isData p s) e ∙ drive-is-data p s k)
+          ∙ ap (entryIn st i) (ap (λ (x : ℕ). dataPosition p x d) (A .number) ∙ ap (dataPosition p s) e ∙ position-drive p s k)
 
   chunk-parity : d ≡ parityDrive p s → ChunkIs (flightRec p st i d)
   chunk-parity e = subst ChunkIs (sym is) (record {
@@ -267,9 +267,11 @@ module _ (p : Params) (h : Ranged p) (v : View) (m : Memory) (ss : List Send) (n
           omega (arith, b, land-slot .most)
 
       is : flightRec p st i d ≡ parityRec s (map (entryIn st i) (below (filledIn st i)))
-      is = unfold flightRec entriesIn in (
-          ap (λ (x : ℕ). cond (isData p x d) (entryIn st i (dataPosition p x d)) (parityRec x (map (entryIn st i) (below (filledIn st i))))) (A .number)
-          ∙ cond-false (isData p s d) (entryIn st i (dataPosition p s d)) (parityRec s (map (entryIn st i) (below (filledIn st i)))) (ap (isData p s) e ∙ none))
+      is =
+          flight-parity p st i d (ap (λ (x : ℕ). isData p x d) (A .number) ∙ ap (isData p s) e ∙ none)
+          ∙ encode-rec-xor (parityPosition p (stripeIn st i) d) (stripeIn st i) (entriesIn st i)
+          ∙ ap (λ (x : ℕ). parityRec x (entriesIn st i)) (A .number)
+          ∙ (unfold entriesIn in refl)
         where
           none : isData p s (parityDrive p s) ≡ false
           none = unfold isData in ap not (eqb-self (parityDrive p s))

@@ -16,6 +16,7 @@ use Rattle.law_basic.specs.Geometry.{item-fits, Ranged, slot-within, data-drive
 use Rattle.law_basic.specs.Ranges.{map-below-same, map-map}
 use Rattle.law_basic.specs.Splice.{length-part, length-splice, part-splice, part-splice-below, part-splice-above}
 use Rattle.law_basic.specs.Xor.{AllLong, length-parity, long-below}
+use Rattle.law_code.specs.Single.{encode-block-xor}
 use Rattle.law_views.specs.Pointers.{index-drive, index-zone}
 use Rattle.proof_crash_items.specs.Ranges.{parity-on}
 
@@ -75,13 +76,20 @@ module _ (p : Params) (fl : List ℕ) (long : length fl ≡ inflightLen p) (r : 
   par-long : length (parity (p .B) (map (slotBlock p fl i) (dataDrives p s))) ≡ p .B
   par-long = length-parity (p .B) (map (slotBlock p fl i) (dataDrives p s)) (data-blocks-long p fl long i s il)
 
-  pub slot-parity-other : (j e : ℕ) → j < 8 → e < p .N → (j ≢ i) ⊎ (e ≢ parityDrive p s) → slotBlock p (setSlotParity p fl i s) j e ≡ slotBlock p fl j e
+  parity-laid : setSlotParity p fl i s ≡ setSlotBlock p fl i (parityDrive p s) (parity (p .B) (map (slotBlock p fl i) (dataDrives p s)))
   unfolding setSlotParity
-  slot-parity-other j e jl el n = slot-other p fl long i (parityDrive p s) (parity (p .B) (map (slotBlock p fl i) (dataDrives p s))) il par-lt par-long j e jl el n
+  parity-laid = ap (setSlotBlock p fl i (parityDrive p s)) (encode-block-xor (p .B) 0 (map (slotBlock p fl i) (dataDrives p s)))
+
+  pub slot-parity-other : (j e : ℕ) → j < 8 → e < p .N → (j ≢ i) ⊎ (e ≢ parityDrive p s) → slotBlock p (setSlotParity p fl i s) j e ≡ slotBlock p fl j e
+  slot-parity-other j e jl el n =
+      ap (λ (y : List ℕ). slotBlock p y j e) parity-laid
+      ∙ slot-other p fl long i (parityDrive p s) (parity (p .B) (map (slotBlock p fl i) (dataDrives p s))) il par-lt par-long j e jl el n
 
   pub slot-parity : slotBlock p (setSlotParity p fl i s) i (parityDrive p s) ≡ parity (p .B) (map (slotBlock p (setSlotParity p fl i s) i) (dataDrives p s))
   slot-parity = here ∙ ap (parity (p .B)) (data-blocks-same p fl (setSlotParity p fl i s) i s (λ k l.
       sym (slot-parity-other i (dataDrive p s k) il (data-drive-lt p s k l) (inr (λ e. data-not-parity p s k e)))))
     where
       here : slotBlock p (setSlotParity p fl i s) i (parityDrive p s) ≡ parity (p .B) (map (slotBlock p fl i) (dataDrives p s))
-      here = unfold setSlotParity in slot-same p fl long i (parityDrive p s) (parity (p .B) (map (slotBlock p fl i) (dataDrives p s))) il par-lt par-long
+      here =
+          ap (λ (y : List ℕ). slotBlock p y i (parityDrive p s)) parity-laid
+          ∙ slot-same p fl long i (parityDrive p s) (parity (p .B) (map (slotBlock p fl i) (dataDrives p s))) il par-lt par-long

@@ -25,7 +25,7 @@ use Rattle.spec.specs.Lists.{Opt, any, consIf, isNil, firstOr, isIn}
 use Rattle.spec.specs.Lists.Opt.{none, some}
 use Rattle.spec.specs.Memory.{Memory, stateOk, placeAt, shownAt}
 use Rattle.spec.specs.Params.{between, inRange, capacity, placeOf, placeBlock, placeZone, placeDrive, present}
-use Rattle.spec.specs.Parity.{Piece, parityPiece}
+use Rattle.spec.specs.Parity.{decodePiece, Piece, parityPiece}
 use Rattle.spec.specs.Rank.{Cand, best, placeOr, candsOf}
 use Rattle.spec.specs.Read.{placeFaults, Found, lookup, foundFaults, shown, decodeFaults, storedAt, decodedAt, readPiece, readAnswer, readVerdict, fillVerdict}
 use Rattle.spec.specs.Read.Found.{nowhere, here, away}
@@ -35,6 +35,8 @@ use Rattle.law_basic.specs.Geometry.{between-of, Ranged, capacity-high, zones-a
 use Rattle.law_basic.specs.Ranges.{and-false}
 use Rattle.law_basic.specs.Segs.{Named, zone-on-lt, place-segment-of}
 use Rattle.law_basic.specs.Xor.{length-parity}
+use Rattle.law_code.specs.Chunks.{chunk-decoded}
+use Rattle.law_code.specs.Code.{decode-apart, decode-block-same}
 use Rattle.law_views.specs.Views.{Whole, seen}
 use Rattle.law_calls.specs.Refusals.{state-fine}
 use Rattle.law_drives.specs.Tables.{place-at}
@@ -253,21 +255,16 @@ module _ (p : Params) (r : Ranged p) (g : Ghost) (dk : Disk) (w : Whole p dk) (k
         ∙ sym (ap (λ (y : Piece). y .block) (stored-piece p r g v k m c (f .z) (f .s) d zb l n (chunk-on d l n)))
 
     read-decoded : isIn m (f .d) ≡ true → readPiece p v m (compactTable p (segments p v m)) (away (x .place)) .block ≡ pieceOf p m (G (f .z)) (f .s) (f .d) .block
-    unfolding readPiece decodedAt parityPiece
+    unfolding readPiece decodedAt
     read-decoded e =
-        rw (place-seg, place-b) (
-        ap (λ (s : ℕ). parity (p .B) (map (λ (q : Piece). q .block)
-        (map (λ d. storedAt p v m d (f .z) (firstOr 0 (shownAt p v (compactTable p (segments p v m)) d (zoneOn (f .z) d) s)))
-        (present p m))))
-        (let i : 1 + off - 1 ≡ f .s = omega (arith, off-lost e) in i)
-        ∙ ap (parity (p .B)) (same (present p m) (λ d i. present-has p m d i))
-        ∙ sym (ap (λ (y : Piece). y .block) (piece-lost p r g v k m c (f .z) (f .s) (f .d) e)))
+        rw (place-d, place-seg, place-b)
+        (ap (λ (s : ℕ). decodePiece p m s (f .d) (at s) .block) (let i : 1 + off - 1 ≡ f .s = omega (arith, off-lost e) in i)
+        ∙ ap (λ (q : Piece). q .block) (decode-apart p m (f .s) (f .d) (at (f .s)))
+        ∙ decode-block-same p m (f .s) (f .d) (λ d. at (f .s) d .block) (λ d. storedPiece (G (f .z)) (f .s) d .block) shown-block
+        ∙ sym (ap (λ (q : Piece). q .block) (chunk-decoded p m (G (f .z)) (f .s) (f .d) e ∙ decode-apart p m (f .s) (f .d) (storedPiece (G (f .z)) (f .s)))))
       where
-        same : (l : List ℕ) → ((d : ℕ) → Has d l → (d < p .N) × (isIn m d ≡ false))
-            → map (λ (q : Piece). q .block) (map (λ d. storedAt p v m d (f .z) (firstOr 0 (shownAt p v (compactTable p (segments p v m)) d (zoneOn (f .z) d) (f .s)))) l)
-            ≡ map (λ (q : Piece). q .block) (map (storedPiece (G (f .z)) (f .s)) l)
-        same [] h = refl
-        same (d ∷ l) h = ap₂ (λ (b : List ℕ) (bs : List (List ℕ)). b ∷ bs) (shown-block d (h d (inl refl) .0) (h d (inl refl) .1)) (same l (λ e i. h e (inr i)))
+        at : ℕ → ℕ → Piece
+        at s d = storedAt p v m d (f .z) (firstOr 0 (shownAt p v (compactTable p (segments p v m)) d (zoneOn (f .z) d) s))
 
     no-decode-fault : isIn m (f .d) ≡ true → decodeFaults p v m (compactTable p (segments p v m)) (away (x .place)) ≡ []
     unfolding decodeFaults shown

@@ -17,6 +17,8 @@ use Rattle.spec.specs.Segments.{Segment, recordsIn, segmentOf, recsOn, offsetOn
 use Rattle.law_basic.specs.Geometry.{Ranged}
 use Rattle.law_basic.specs.Segs.{Named, zone-on-lt}
 use Rattle.law_basic.specs.Ranges.{length-below, map-below-same, map-map, getD-map-below}
+use Rattle.law_code.specs.Chunks.{chunk-stored, chunk-decoded}
+use Rattle.law_code.specs.Single.{decode-xor}
 use Rattle.law_drives.specs.Tests.{cond-true, cond-false}
 use Rattle.proof_crash_machine.specs.Exec.{true≢false}
 use Rattle.proof_crash_machine.specs.Facts.{Ghost, Choice, Stripe, Off, Word, word-unique, respell}
@@ -204,12 +206,10 @@ module _ (p : Params) (r : Ranged p) (g : Ghost) (v : View) (k : OnDrives p r g 
   pieceAt z s d = pieceValue (pieceOf p m (segmentOf p v m z) s d)
 
   pub piece-here : (z : Seg) (s d : ℕ) → d < p .N → isIn m d ≡ false → pieceOf p m (G z) s d ≡ storedPiece (G z) s d
-  unfolding pieceOf
-  piece-here z s d l n = cond-false (isIn m d) (parityPiece p s (map (storedPiece (G z) s) (present p m))) (storedPiece (G z) s d) n
+  piece-here z s d l n = chunk-stored p m (G z) s d n
 
   pub piece-lost : (z : Seg) (s d : ℕ) → isIn m d ≡ true → pieceOf p m (G z) s d ≡ parityPiece p s (map (storedPiece (G z) s) (present p m))
-  unfolding pieceOf
-  piece-lost z s d n = cond-true (isIn m d) (parityPiece p s (map (storedPiece (G z) s) (present p m))) (storedPiece (G z) s d) n
+  piece-lost z s d n = chunk-decoded p m (G z) s d n ∙ decode-xor p m s d (storedPiece (G z) s)
 
   here-in : (z : Seg) (s : ℕ) → Named p z → ((d : ℕ) → d < p .N → isIn m d ≡ false → hasChunk (G z) s d ≡ true) → (d : ℕ) → d < p .N → isIn m d ≡ false
       → InI (chunk s (pieceAt z s d)) (itemsIn p v d (z .name))

@@ -14,7 +14,7 @@ use lib.Pow.{pow-pos}
 use Rattle.spec.specs.declared.Params.{Params}
 use Rattle.spec.specs.Bytes.{xorAll}
 use Rattle.spec.specs.Drives.{Zone, stored, View, zoneAt, pointerAt, dataStored, Seg, seg, zoneOn}
-use Rattle.spec.specs.Layout.{parityDrive, dataDrive, dataPosition, isData, dataDrives, Rec, mkRec, recordOf}
+use Rattle.spec.specs.Layout.{parityPosition, parityDrive, dataDrive, dataPosition, isData, dataDrives, Rec, mkRec, recordOf}
 use Rattle.spec.specs.Lists.Opt.{none}
 use Rattle.spec.specs.Lists.{below, all, keep, isIn}
 use Rattle.spec.specs.Params.{dataCount}
@@ -25,6 +25,8 @@ use Rattle.law_basic.specs.Geometry.{Ranged, position-drive, drive-is-data, dat
 use Rattle.law_basic.specs.Ranges.{length-below, map-below-same, map-map, getD-map-below, length-keep}
 use Rattle.law_basic.specs.Segs.{Named, zone-on-lt, zones-differ}
 use Rattle.law_basic.specs.Xor.{length-parity}
+use Rattle.law_code.specs.Chunks.{moved-is-data, moved-is-parity}
+use Rattle.law_code.specs.Single.{encode-xor}
 use Rattle.law_drives.specs.Tests.{cond-true, cond-false}
 use Rattle.proof_crash_machine.specs.Facts.Pair.{alone}
 use Rattle.proof_crash_machine.specs.Facts.{Ghost, Choice, Stripe, Datum, Used, Ragged, Word}
@@ -147,15 +149,10 @@ module _ (p : Params) (r : Ranged p) (g : Ghost) (v : View) (k : SettledOn p r g
         same q = unfold renumbered in refl
 
     on-data : (d : ℕ) → isData p t d ≡ true → d < p .N → movedOn p (movedPieces p G s t) t d ≡ renumbered t (storedPiece G s (dataDrive p s (dataPosition p t d)))
-    unfolding movedOn
-    on-data d e l =
-        cond-true (isData p t d) (getD (movedPieces p G s t) (dataPosition p t d) (mkPiece [] (mkRec 0 0 0))) (parityPiece p t (movedPieces p G s t))
-        e
-        ∙ moved-pieces-at (dataPosition p t d) (position-lt p t d e l)
+    on-data d e l = moved-is-data p (movedPieces p G s t) t d e ∙ moved-pieces-at (dataPosition p t d) (position-lt p t d e l)
 
     on-parity : (d : ℕ) → isData p t d ≡ false → movedOn p (movedPieces p G s t) t d ≡ parityPiece p t (movedPieces p G s t)
-    unfolding movedOn
-    on-parity d e = cond-false (isData p t d) (getD (movedPieces p G s t) (dataPosition p t d) (mkPiece [] (mkRec 0 0 0))) (parityPiece p t (movedPieces p G s t)) e
+    on-parity d e = moved-is-parity p (movedPieces p G s t) t d e ∙ encode-xor p (parityPosition p t d) t (movedPieces p G s t)
 
     moved-wide-at : (q : Piece) → Wide (q .rec) → Wide (renumbered t q .rec)
     unfolding renumbered

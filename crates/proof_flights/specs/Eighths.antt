@@ -32,6 +32,7 @@ use Rattle.proof_crash_calls.specs.Rel.{RowsLong}
 use Rattle.proof_crash_calls.specs.Slots.{data-blocks-same}
 use Rattle.spec_demands.specs.Tables.{Pending}
 use Rattle.law_code.specs.Chunks.{flight-data}
+use Rattle.law_code.specs.Single.{encode-block-xor}
 use Rattle.law_drives.specs.Members.{keep-in, map-cong, below-in}
 use Rattle.law_drives.specs.Tests.{clash, cond-true, cond-false, not-so, eqb-self}
 use Rattle.proof_tables.specs.Run.{Lists}
@@ -89,7 +90,7 @@ position-small p s d = go (test (ltb d (parityDrive p s)))
 
 -- a parity block as the crash theory has it
 encoded : (n : ℕ) (bs : List (List ℕ)) (x : List ℕ) → x ≡ parity n bs → x ≡ encodeBlock n 0 bs
-encoded n bs x e = unfold encodeBlock in e
+encoded n bs x e = e ∙ sym (encode-block-xor n 0 bs)
 
 -- ---- an eighth that stays
 

@@ -25,6 +25,8 @@ use Rattle.law_basic.specs.Ranges.{Test, test, below-none, map-append, map-map,
 use Rattle.law_basic.specs.Ranges.Test.{yes!, no! }
 use Rattle.law_basic.specs.Xor.{xorAll-none, xorAll-snoc}
 use Rattle.law_basic.specs.Segs.{Named, zone-on-lt}
+use Rattle.law_code.specs.Chunks.{rec-here, rec-lost}
+use Rattle.law_code.specs.Single.{decode-rec-xor}
 use Rattle.law_views.specs.Views.{Whole}
 use Rattle.law_drives.specs.Accept.{outside-in}
 use Rattle.recover_compact.specs.Compacts.{SegmentShown}
@@ -156,16 +158,14 @@ module _ (p : Params) (r : Ranged p) (v : View) (gone : ℕ) (cs : List ℕ) (d 
   lies-here e = k .offset-is ∙ cond-false (isIn gone d) s (offsetOn (segmentOf p v gone g) d s) e
 
   pub stamp-away : isIn gone d ≡ true → (t : ℕ) → t ≡ xorAll (map (λ e. storedRec (segmentOf p v gone g) o e .stamp) (present p gone)) → t ≡ recOf p gone (segmentOf p v gone g) s d .stamp
-  unfolding recOf parityRec
+  unfolding parityRec
   stamp-away e t q =
       q ∙ ap (λ (x : ℕ). xorAll (map (λ e. storedRec (segmentOf p v gone g) x e .stamp) (present p gone))) (lies-away e)
       ∙ ap xorAll (sym (map-map (λ (x : Rec). x .stamp) (storedRec (segmentOf p v gone g) s) (present p gone)))
-      ∙ ap (λ (x : Rec). x .stamp) (sym (cond-true (isIn gone d) (parityRec s (map (storedRec (segmentOf p v gone g) s) (present p gone))) (storedRec (segmentOf p v gone g) s d) e))
+      ∙ ap (λ (x : Rec). x .stamp) (sym (rec-lost p gone (segmentOf p v gone g) s d e ∙ decode-rec-xor p gone s d (storedRec (segmentOf p v gone g) s)))
 
   pub stamp-here : isIn gone d ≡ false → (q : Rec) → q ≡ storedRec (segmentOf p v gone g) s d → q .stamp ≡ recOf p gone (segmentOf p v gone g) s d .stamp
-  unfolding recOf
-  stamp-here e q f =
-      ap (λ (x : Rec). x .stamp) (f ∙ sym (cond-false (isIn gone d) (parityRec s (map (storedRec (segmentOf p v gone g) s) (present p gone))) (storedRec (segmentOf p v gone g) s d) e))
+  stamp-here e q f = ap (λ (x : Rec). x .stamp) (f ∙ sym (rec-here p gone (segmentOf p v gone g) s d e))
 
   pub away-counted : isIn gone d ≡ true → StripeCounts p v gone cs g o
   away-counted e = subst (λ (x : ℕ). StripeCounts p v gone cs g x) (sym (lies-away e)) (k .counted)

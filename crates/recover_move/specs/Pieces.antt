@@ -1,7 +1,7 @@
 -- The chunks of a stripe that is moved: its data renumbered, its parity worked out anew (01, Restart, 4). Assumes nothing.
 use Prim.Native.Nat.{ℕ, _+_, _-_, _≤_, _<_}
 use Rattle.spec.specs.Bytes.{xors, parity, xorAll}
-use Rattle.spec.specs.Layout.{dataDrive, dataPosition, isData, dataDrives, Rec, mkRec}
+use Rattle.spec.specs.Layout.{parityPosition, dataDrive, dataPosition, isData, dataDrives, Rec, mkRec}
 use Rattle.spec.specs.Lists.{below}
 use Rattle.spec.specs.Params.{dataCount, imageLen}
 use Rattle.spec.specs.Parity.{Piece, mkPiece, parityRec, parityPiece}
@@ -15,7 +15,8 @@ use Rattle.law_basic.specs.Geometry.{Ranged, data-drive-lt, position-lt}
 use Rattle.law_basic.specs.Mask.{isIn-empty}
 use Rattle.law_basic.specs.Ranges.{below-none, map-below-snoc, map-map, getD-map-below}
 use Rattle.law_basic.specs.Xor.{long-below, parity-none, parity-snoc, xorAll-none, xorAll-below-snoc}
-use Rattle.law_drives.specs.Tests.{cond-true, cond-false}
+use Rattle.law_code.specs.Chunks.{moved-is-data, moved-is-parity}
+use Rattle.law_code.specs.Single.{encode-xor}
 use lib.Bits.{bitXor}
 use lib.ListN.{length, getD, replicate}
 use mathlib.Core.Bool.{true, false}
@@ -42,16 +43,14 @@ module _ (p : Params) (g : Segment) (s n : ℕ) where
 
   -- what a data drive gets
   pub renumbered-data : (d : ℕ) → d < p .N → isData p n d ≡ true → renumbered n (storedPiece g s (dataDrive p s (dataPosition p n d))) ≡ movedOn p (movedPieces p g s n) n d
-  unfolding movedOn
   renumbered-data d hd q =
-      sym (cond-true (isData p n d) (getD (movedPieces p g s n) (dataPosition p n d) (mkPiece [] (mkRec 0 0 0))) (parityPiece p n (movedPieces p g s n)) q
+      sym (moved-is-data p (movedPieces p g s n) n d q
       ∙ ap (λ (l : List Piece). getD l (dataPosition p n d) (mkPiece [] (mkRec 0 0 0))) moved-are
       ∙ getD-map-below (λ i. renumbered n (storedPiece g s (dataDrive p s i))) (dataCount p) (dataPosition p n d) (mkPiece [] (mkRec 0 0 0)) (position-lt p n d q hd))
 
   -- what the parity drive gets
   pub parity-moved : (d : ℕ) → isData p n d ≡ false → parityPiece p n (movedPieces p g s n) ≡ movedOn p (movedPieces p g s n) n d
-  unfolding movedOn
-  parity-moved d q = sym (cond-false (isData p n d) (getD (movedPieces p g s n) (dataPosition p n d) (mkPiece [] (mkRec 0 0 0))) (parityPiece p n (movedPieces p g s n)) q)
+  parity-moved d q = sym (moved-is-parity p (movedPieces p g s n) n d q ∙ encode-xor p (parityPosition p n d) n (movedPieces p g s n))
 
   -- ---- parity: block and record after the first i data chunks
 

@@ -1,6 +1,6 @@
 -- Segments on views that agree but on the missing drives: the same stripes count, and the same chunks are decoded (01, Restart, 3; Rebuild). Assumes nothing.
 use mathlib.Core.Path.{_≡_, sym, ap, _∙_}
-use mathlib.Core.List.{List, [], map}
+use mathlib.Core.List.{List, []}
 use mathlib.Core.Bool.{true}
 use Prim.Native.Nat.{ℕ, _+_}
 use lib.Dec.{eqb}
@@ -10,14 +10,15 @@ use Rattle.spec.specs.Drives.{noChunk, noZone, View, Seg, zoneOn}
 use Rattle.spec.specs.Layout.{Rec, mkRec}
 use Rattle.spec.specs.Lists.{any, indexOf, isIn}
 use Rattle.spec.specs.Params.{present}
-use Rattle.spec.specs.Parity.{mkPiece, parityPiece}
+use Rattle.spec.specs.Parity.{mkPiece}
 use Rattle.spec.specs.Segments.{lowDrive, Segment, segmentOf, recsOn, offsetOn, hasChunk, counts, storedPiece, pieceOf}
 use Rattle.law_basic.specs.Ranges.{all-same}
 use Rattle.law_basic.specs.Segs.{Named, zone-on-lt}
+use Rattle.law_code.specs.Chunks.{chunk-decoded}
+use Rattle.law_code.specs.Code.{decode-same}
 use Rattle.law_drives.specs.Frame.{Agree, core, same-core}
-use Rattle.law_drives.specs.Members.{In, map-cong}
-use Rattle.law_drives.specs.Segs.{present-in, zone-by, seg-is}
-use Rattle.law_drives.specs.Tests.{cond-true}
+use Rattle.law_drives.specs.Members.{In}
+use Rattle.law_drives.specs.Segs.{present-in, in-present, zone-by, seg-is}
 
 module _ (p : Params) (gone : ℕ) (v u : View) (low : In (lowDrive p gone) (present p gone)) (ag : Agree p gone v u) (g : Seg) (hg : Named p g) where
   abbrev x : Segment
@@ -70,8 +71,7 @@ module _ (p : Params) (gone : ℕ) (v u : View) (low : In (lowDrive p gone) (pre
 
   -- the chunk of a missing drive
   pub same-piece : (s d : ℕ) → isIn gone d ≡ true → pieceOf p gone x s d ≡ pieceOf p gone y s d
-  unfolding pieceOf
   same-piece s d q =
-      cond-true (isIn gone d) (parityPiece p s (map (storedPiece x s) (present p gone))) (storedPiece x s d) q
-      ∙ ap (parityPiece p s) (map-cong (storedPiece x s) (storedPiece y s) (present p gone) (same-stored s))
-      ∙ sym (cond-true (isIn gone d) (parityPiece p s (map (storedPiece y s) (present p gone))) (storedPiece y s d) q)
+      chunk-decoded p gone x s d q
+      ∙ decode-same p gone s d (storedPiece x s) (storedPiece y s) (λ e he n. same-stored s e (in-present p gone e he n))
+      ∙ sym (chunk-decoded p gone y s d q)

@@ -1,7 +1,7 @@
 -- The tally of a segment's first stripes, stripe by stripe (01, Restart, 3; Refusals, 9). Assumes nothing.
 use mathlib.Core.Path.{_≡_, refl, sym, ap, ap₂, _∙_}
 use mathlib.Core.List.{List, [], _∷_, _++_, map, append-nil}
-use mathlib.Core.Bool.{Bool, true, false, cond, not, _&&_, _||_}
+use mathlib.Core.Bool.{Bool, true, false, not, _&&_, _||_}
 use Prim.Native.Nat.{ℕ, suc, _+_, min, _≤_, _<_}
 use borrow.Author.Tests.{eq-eqb, ne-eqb}
 use native.Mathlib.Omega.{arith}
@@ -9,8 +9,10 @@ use lib.ListN.{length}
 use Rattle.law_basic.specs.Ranges.{Test, test, not-both, below-snoc, map-append, any-append, any-miss, any-none, any-same, greatest-snoc, keep-below-snoc, tally-below-hit, tally-below-miss}
 use Rattle.law_basic.specs.Ranges.Test.{yes!, no! }
 use Rattle.law_basic.specs.Mask.{isIn-empty}
+use Rattle.law_code.specs.Chunks.{rec-lost}
+use Rattle.law_code.specs.Single.{decode-rec-xor}
 use Rattle.law_scans.specs.Scans.{any-keep}
-use Rattle.spec.specs.Segments.{recOf, Segment, segmentOf, recsOn, hasChunk, counts, counted, uncounted, storedRec}
+use Rattle.spec.specs.Segments.{Segment, segmentOf, recsOn, hasChunk, counts, counted, uncounted, storedRec}
 use Rattle.recover_groups.specs.declared.Group.{Group}
 use Rattle.recover_groups.specs.Bases.{bases-step, bases-end}
 use Rattle.recover_groups.specs.Chunks.{recs-short, chunks-counts, chunks-some}
@@ -66,10 +68,11 @@ any-and f b (a ∷ l) = ap (λ (x : Bool). (f a && b) || x) (any-and f b l) ∙ 
     or-and false y b = refl
 
 decoded-one : (p : Params) (gone : ℕ) (g : Segment) (s : ℕ) → any (λ d. decodedBad p gone g d s) (absent p gone) ≡ lostBad p gone g s
-unfolding decodedBad recOf lostRec lostBad absent
+unfolding decodedBad lostRec lostBad absent
 decoded-one p gone g s =
     any-kept-same (isIn gone) (λ d. decodedBad p gone g d s) (λ d. isData p s d && badRec p (lostRec p gone g s)) (drivesOf p)
-    (λ d e. ap (λ (b : Bool). isData p s d && badRec p (cond b (lostRec p gone g s) (storedRec g s d))) e)
+    (λ d e. ap (λ (q : Rec). isData p s d && badRec p q)
+    (rec-lost p gone g s d e ∙ decode-rec-xor p gone s d (storedRec g s) ∙ sym (decode-rec-xor p gone s 0 (storedRec g s))))
     ∙ any-and (isData p s) (badRec p (lostRec p gone g s)) (keep (isIn gone) (drivesOf p))
 
 -- 01, Refusals, 9: the decoded addresses of all missing drives, by stripe

@@ -50,7 +50,6 @@ seals p st i d = completes p st i d && eqb (st .next) (p .S) && eqb (length (inF
 
 -- 01, What a zone holds: the record of a chunk in flight
 unfoldable pub flightRec : Params → State → ℕ → ℕ → Rec
-unfolding encodeRec parityPosition
 flightRec p st i d =
     let s = stripeIn st i in
     let r = encodeRec (parityPosition p s d) s (entriesIn st i) in

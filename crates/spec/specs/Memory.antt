@@ -302,5 +302,4 @@ setSlotBlock p fl i d b = splice fl (slotByte p i d) b
 
 -- 01, Write: parity is worked out there
 unfoldable pub setSlotParity : Params → List ℕ → ℕ → ℕ → List ℕ
-unfolding encodeBlock
 setSlotParity p fl i s = setSlotBlock p fl i (parityDrive p s) (encodeBlock (p .B) 0 (map (slotBlock p fl i) (dataDrives p s)))

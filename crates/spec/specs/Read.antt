@@ -61,7 +61,6 @@ storedAt p v gone d g o = mkPiece (chunkAt v d (zoneOn g d) (1 + o) .block) (rec
 
 -- 01, Read: block and record of drive d, decoded from the chunks that the table shows
 unfoldable pub decodedAt : Params → View → ℕ → List ℕ → ℕ → Seg → ℕ → Piece
-unfolding decodePiece
 decodedAt p v gone cs d g s = decodePiece p gone s d (λ e. storedAt p v gone e g (firstOr 0 (shownAt p v cs e (zoneOn g e) s)))
 
 -- 01, Read: the block, with its record, that an address reads: zeros if never written (02, item 2, takes the stamp from here)

@@ -50,7 +50,6 @@ movedPieces p g s k = map (λ d. renumbered k (storedPiece g s d)) (dataDrives p
 
 -- 01, Restart, 4: what drive d gets of it
 unfoldable pub movedOn : Params → List Piece → ℕ → ℕ → Piece
-unfolding encodePiece parityPosition
 movedOn p qs k d =
     let a = getD qs (dataPosition p k d) (mkPiece [] (mkRec 0 0 0)) in
     let b = encodePiece p (parityPosition p k d) k qs in

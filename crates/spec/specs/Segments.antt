@@ -105,7 +105,6 @@ storedPiece g s d =
 
 -- 01, Read and Rebuild: the chunk of a counted stripe, stored, or decoded from the present ones
 unfoldable pub pieceOf : Params → ℕ → Segment → ℕ → ℕ → Piece
-unfolding decodePiece
 pieceOf p gone g s d =
     let a = storedPiece g s d in
     let b = decodePiece p gone s d (storedPiece g s) in
@@ -121,7 +120,6 @@ storedRec g s d = getD (recsOn g d) (offsetOn g d s) (mkRec 0 0 0)
 
 -- 01, Restart, 3: its record, stored or decoded
 unfoldable pub recOf : Params → ℕ → Segment → ℕ → ℕ → Rec
-unfolding decodeRec
 recOf p gone g s d =
     let a = storedRec g s d in
     let b = decodeRec p gone s d (storedRec g s) in
