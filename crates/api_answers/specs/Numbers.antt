@@ -55,7 +55,8 @@ module _ (p : Params) (st : State) (d : ℕ) where
   unfolding namesMissing
   names-beyond e h = ap (λ (x : Bool). x && eqb (st .missing) (named d)) (sym (le-ltb d (p .N) h)) ∙ ap (λ (x : Bool). x && namesMissing p st d) (sym e)
 
-  pub names-it : inRange p ≡ true → d < p .N → (gone only′ : ℕ) (r : Bool) → gone ≡ st .missing → only′ ≡ only d → r ≡ eqb gone only′ → r ≡ (inRange p && namesMissing p st d)
+  pub names-it : inRange p ≡ true → d < p .N → (gone only′ : ℕ) (r : Bool) → gone ≡ st .missing → only′ ≡ only d → r ≡ eqb gone only′
+      → r ≡ (inRange p && namesMissing p st d)
   unfolding namesMissing named
   names-it e h gone only′ r f g q =
       q ∙ ap (λ (x : ℕ). eqb x only′) f ∙ ap (eqb (st .missing)) g

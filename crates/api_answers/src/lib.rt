@@ -128,7 +128,8 @@ pub fn good_rebuild(p: Params, state: &[u8], drive: usize) -> bool
 // 01, Store count: a refusal leaves the state's bytes, a cut leaves zeros, else the change is made in them.
 pub fn apply(state: &mut [u8], change: Change) -> Told
     requires { ⌜ length (now state) ≡ stateLen ⌝ }
-    ensures { λ r. ⌜ (r ≡ toldOf (change .answer)) × (now (state .exit) ≡ cond (isRefused (change .answer)) (now (state .entry)) (stateBytes (stateAfter (stateOf (now (state .entry))) change))) ⌝ }
+    ensures { λ r. ⌜ (r ≡ toldOf (change .answer)) × (now (state .exit) ≡ cond (isRefused (change .answer)) (now (state .entry))
+        (stateBytes (stateAfter (stateOf (now (state .entry))) change))) ⌝ }
 {
     let answer = change.answer;
     let r = told_of(answer);

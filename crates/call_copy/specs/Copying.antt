@@ -139,7 +139,8 @@ module _ (p : Params) (k : Disk) (m : Memory) (a t : ℕ) (b : List ℕ) (n : �
       let ss = openStores p k st in
       let l : length ss ≤ n = ltb-false n (length ss) (sym (h .cut) ∙ c) in
       let e : k′ ≡ storeAll (storeDisk p) ss k = h .disk ∙ stores-all (storeDisk p) n ss k l in
-      ap (λ (x : State). mkAfter (Copied (aStamp t) (sentAt (o .next) .row .number) (sentAt (o .next) .drive)) k′ (mkMemory x (m .addresses) (m .compact) (sentAt (o .next) .inflight)) []) copy-state
+      ap (λ (x : State). mkAfter (Copied (aStamp t) (sentAt (o .next) .row .number) (sentAt (o .next) .drive)) k′
+      (mkMemory x (m .addresses) (m .compact) (sentAt (o .next) .inflight)) []) copy-state
       ∙ (λ j. let q = sentAt (h .next j) in
       mkAfter (Copied (aStamp t) (q .row .number) (q .drive)) (e j) (mkMemory (putRow (frontAs st (h .serial j) (h .opened j) (q .next)) at (q .row)) (m .addresses) (m .compact) (q .inflight)) [])
       ∙ ap (λ (q : Sending). mkAfter (Copied (aStamp t) (q .stripe) (q .drive)) (storeAll (storeDisk p) (q .stores) k) (mkMemory (q .state) (m .addresses) (m .compact) (q .inflight)) [])
@@ -169,6 +170,7 @@ module _ (p : Params) (k : Disk) (m : Memory) (a t : ℕ) (b : List ℕ) (n : �
         → afterChange st c (k′ .image) (k′ .pointers) (m .addresses) (m .compact) fl [] ≡ outcome p (storeDisk p) n k m [] (due (sentPlan p (seen p k) m a t b))
     sent-done z q c fl e g =
         (λ j. afterChange st
-        ((e ∙ (λ x. copiedAs (same x) (aimed x) o t (sentRow p (row-is x) (m .inflight) (aimed x .slot) (aimed x .begins) (o .next) a t 0 b))) j) (k′ .image) (k′ .pointers) (m .addresses) (m .compact)
+        ((e ∙ (λ x. copiedAs (same x) (aimed x) o t (sentRow p (row-is x) (m .inflight) (aimed x .slot) (aimed x .begins) (o .next) a t 0 b))) j) (k′ .image) (k′ .pointers) (m .addresses)
+        (m .compact)
         ((g ∙ (λ x. sentRow p (row-is x) (m .inflight) (aimed x .slot) (aimed x .begins) (o .next) a t 0 b .inflight)) j) [])
         ∙ copy-done z q

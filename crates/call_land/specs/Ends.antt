@@ -329,7 +329,8 @@ module _ (p : Params) (k : Disk) (m : Memory) (d s n : ℕ) (none! : landRefusal
 
       abbrev q₀ : Plan
       q₀ = mkPlan (w ∷ ss) (Landed (writesIn (m .state) i₀))
-          (mkMemory (cond b₀ (setClosed (freeStripe st₂ i₀)) (freeStripe st₂ i₀)) (tableOf p (storeView w (seen p k)) g₀ st₂ i₀ (m .addresses)) (shownTable p (seen p k) m d s) (m .inflight)) []
+          (mkMemory (cond b₀ (setClosed (freeStripe st₂ i₀)) (freeStripe st₂ i₀)) (tableOf p (storeView w (seen p k)) g₀ st₂ i₀ (m .addresses)) (shownTable p (seen p k) m d s)
+          (m .inflight)) []
 
       view₁ : seen p k₁ ≡ storeView w (seen p k)
       view₁ = let y = land-ready p k m d s none! in ap (seen p) (store-is p k m d s y) ∙ landed-view p k m d s y
@@ -348,10 +349,12 @@ module _ (p : Params) (k : Disk) (m : Memory) (d s n : ℕ) (none! : landRefusal
             let y = land-ready p k m d s none! in
             let u = f .done (subst (λ (x : List Store). length x ≤ n - 1) (sym stores-are) l) in
             let row₁ = row₁-is p k m d s y sized in
-            let v : a ≡ Landed (writesIn (m .state) i₀) = u .0 ∙ ap (λ (x : Row). Landed (writesIn (alone x) 0)) row₁ ∙ ap Landed (row-writes st₂ i₀ ∙ same-writes p (m .state) i₀ d o₀) in
+            let v : a ≡ Landed (writesIn (m .state) i₀) = u .0 ∙ ap (λ (x : Row). Landed (writesIn (alone x) 0)) row₁
+            ∙ ap Landed (row-writes st₂ i₀ ∙ same-writes p (m .state) i₀ d o₀) in
             let t : tb ≡ tableOf p (storeView w (seen p k)) g₀ st₂ i₀ (m .addresses) =
             u .1 ∙ (λ j. tableOf p (view₁ j) g₀ (alone (row₁ j)) 0 (m .addresses)) ∙ table-is p k m d s y sized (storeView w (seen p k)) in
-            let x = state-landed (m .state) (writesIn (m .state) i₀) i₀ (freeRow w₀) b₀ ∙ changed-freed (m .state) i₀ d o₀ (y .slot-low) d-eight sized (Landed (writesIn (m .state) i₀)) b₀ in
+            let x = state-landed (m .state) (writesIn (m .state) i₀) i₀ (freeRow w₀) b₀
+            ∙ changed-freed (m .state) i₀ d o₀ (y .slot-low) d-eight sized (Landed (writesIn (m .state) i₀)) b₀ in
             (λ j. afterChange (m .state) (e j) (disk-is j .image) (disk-is j .pointers) (t j) (u .2 j) (m .inflight) [])
             ∙ ap (λ (z : Answer). afterChange (m .state) (changeTo z (frontOf (m .state)) i₀ (freeRow w₀) b₀)
             (storeAll (storeDisk p) (take n (w ∷ ss)) k .image) (storeAll (storeDisk p) (take n (w ∷ ss)) k .pointers)

@@ -64,7 +64,8 @@ pub record Completing (p : Params) (n : ℕ) (r : Row) (g : Seg) (b : Bool) (k :
   pub done : length (sealsOf p k g b) ≤ n → (a ≡ Landed (writesIn (alone r) 0)) × (tb′ ≡ tableOf p (seen p k) g (alone r) 0 tb) × (co′ ≡ co)
   pub cut : n < length (sealsOf p k g b) → (a ≡ Cut) × (tb′ ≡ replicate (length tb) 0) × (co′ ≡ replicate (length co) 0)
 
-module _ (p : Params) (n : ℕ) (w : Row) (g : Seg) (b : Bool) (k : Disk) (tb co : List ℕ) (a : Made) (k′ : Disk) (h : Storing p n (sealsOf p k g b) k a k′) (r : Answer) (tb′ co′ : List ℕ) where
+module _ (p : Params) (n : ℕ) (w : Row) (g : Seg) (b : Bool) (k : Disk) (tb co : List ℕ) (a : Made) (k′ : Disk) (h : Storing p n (sealsOf p k g b) k a k′) (r : Answer)
+    (tb′ co′ : List ℕ) where
   pub completing-cut : a .cut ≡ true → r ≡ Cut → tb′ ≡ replicate (length tb) 0 → co′ ≡ replicate (length co) 0 → Completing p n w g b k tb co r k′ tb′ co′
   completing-cut c e f q = record {
     disk = h .disk;
@@ -72,7 +73,8 @@ module _ (p : Params) (n : ℕ) (w : Row) (g : Seg) (b : Bool) (k : Disk) (tb co
     cut = λ l. (e, f, q);
   }
 
-  pub completing-done : a .cut ≡ false → r ≡ Landed (writesIn (alone w) 0) → tb′ ≡ tableOf p (seen p k) g (alone w) 0 tb → co′ ≡ co → Completing p n w g b k tb co r k′ tb′ co′
+  pub completing-done : a .cut ≡ false → r ≡ Landed (writesIn (alone w) 0) → tb′ ≡ tableOf p (seen p k) g (alone w) 0 tb → co′ ≡ co
+      → Completing p n w g b k tb co r k′ tb′ co′
   completing-done c e f q = record {
     disk = h .disk;
     done = λ l. (e, f, q);
@@ -95,7 +97,8 @@ seals-none p n g b k e =
     subst (λ (x : List Store). Storing p n x k (record { left = n; cut = false }) k) (sym (ap (λ (x : Bool). cond x (sealStores p (seen p k) g) []) e)) (storing-none p n k)
 
 -- they are
-pub seals-some : (p : Params) (n : ℕ) (g : Seg) (b : Bool) (k : Disk) (a : Made) (k′ : Disk) → b ≡ true → Storing p n (sealStores p (seen p k) g) k a k′ → Storing p n (sealsOf p k g b) k a k′
+pub seals-some : (p : Params) (n : ℕ) (g : Seg) (b : Bool) (k : Disk) (a : Made) (k′ : Disk) → b ≡ true → Storing p n (sealStores p (seen p k) g) k a k′
+    → Storing p n (sealsOf p k g b) k a k′
 seals-some p n g b k a k′ e h =
     subst (λ (x : List Store). Storing p n x k a k′) (sym (ap (λ (x : Bool). cond x (sealStores p (seen p k) g) []) e)) h
 

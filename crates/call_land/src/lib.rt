@@ -185,7 +185,8 @@ fn store_chunk(
     requires { ⌜ inRange p ≡ true ⌝ }
     requires { ⌜ Whole p (mkDisk (now image) (now pointers)) ⌝ }
     requires { ⌜ (length (now compact) ≡ compactLen p) × (length (now inflight) ≡ inflightLen p) × (i < 8) × (filledIn (alone row) 0 ≤ 8) ⌝ }
-    requires { ⌜ (drive < p .N) × (segment < p .Z) × (1 ≤ pointerOf p (now pointers) drive (zoneOn (seg segment) drive)) × (pointerOf p (now pointers) drive (zoneOn (seg segment) drive) ≤ p .S) ⌝ }
+    requires { ⌜ (drive < p .N) × (segment < p .Z) × (1 ≤ pointerOf p (now pointers) drive (zoneOn (seg segment) drive))
+        × (pointerOf p (now pointers) drive (zoneOn (seg segment) drive) ≤ p .S) ⌝ }
     ensures { λ _. ⌜
         mkDisk (now (image .exit)) (now (pointers .exit))
         ≡ storeDisk p

@@ -212,9 +212,11 @@ module _ (p : Params) (v : View) (tb : List ℕ) (st : State) (i : ℕ) where
 
   faults-step : (k n : ℕ) → k < n → faultsFrom k n ≡ entryFaults p v tb (entryIn st i k) ++ faultsFrom (k + 1) n
   faults-step k n h =
-      ap (λ (x : List ℕ). flat (entryFaults p v tb) (map (entryIn st i) x)) (upFrom-step k n h) ∙ flat-cons (entryFaults p v tb) (entryIn st i k) (map (entryIn st i) (upFrom (k + 1) (n - (k + 1))))
+      ap (λ (x : List ℕ). flat (entryFaults p v tb) (map (entryIn st i) x)) (upFrom-step k n h)
+      ∙ flat-cons (entryFaults p v tb) (entryIn st i k) (map (entryIn st i) (upFrom (k + 1) (n - (k + 1))))
 
-  pub faults-lower : (w z k n : ℕ) → k < n → entryFaults p v tb (entryIn st i k) ≡ consIf (ltb z (p .Z)) z [] → z < w → w ≤ p .Z → least z (faultsFrom (k + 1) n) ≡ least w (faultsFrom k n)
+  pub faults-lower : (w z k n : ℕ) → k < n → entryFaults p v tb (entryIn st i k) ≡ consIf (ltb z (p .Z)) z [] → z < w → w ≤ p .Z
+      → least z (faultsFrom (k + 1) n) ≡ least w (faultsFrom k n)
   faults-lower w z k n h e l g =
       sym (ap (least w) (faults-step k n h ∙ ap (λ (x : List ℕ). x ++ faultsFrom (k + 1) n) e) ∙ least-lower w z (p .Z) (faultsFrom (k + 1) n) l g)
 

@@ -91,7 +91,8 @@ fn entries_fault(p: Params, pointers: &[u8], addresses: &[u8], row: Row, zone: u
     requires { ⌜ inRange p ≡ true ⌝ }
     requires { ⌜ (length (now pointers) ≡ pointersLen p) × (length (now addresses) ≡ addressesLen p) ⌝ }
     requires { ⌜ (filledIn (alone row) 0 ≤ 8) × (zone ≤ p .Z) ⌝ }
-    ensures { λ r. ⌜ ((im : List ℕ) → length im ≡ imageLen p → r ≡ least zone (flat (entryFaults p (viewOf p im (now (pointers .entry))) (now (addresses .entry))) (entriesIn (alone row) 0))) ⌝ }
+    ensures { λ r. ⌜ ((im : List ℕ) → length im ≡ imageLen p
+        → r ≡ least zone (flat (entryFaults p (viewOf p im (now (pointers .entry))) (now (addresses .entry))) (entriesIn (alone row) 0))) ⌝ }
 {
     let n = call_land_chunk::filled_in(row);
     let mut worst = zone;

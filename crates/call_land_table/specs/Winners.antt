@@ -126,7 +126,8 @@ module _ (p : Params) (v : View) (g : Seg) (st : State) (i a : ℕ) where
 
 -- ---- the places that hold, by data position
 
-module _ (p : Params) (st : State) (i : ℕ) (f : ℕ → ℕ) (out : List ℕ) (k : ℕ) (held! : (h : ℕ) → h < k → entryIn st i h .address < p .L → getD out h 0 ≡ f (entryIn st i h .address)) where
+module _ (p : Params) (st : State) (i : ℕ) (f : ℕ → ℕ) (out : List ℕ) (k : ℕ)
+    (held! : (h : ℕ) → h < k → entryIn st i h .address < p .L → getD out h 0 ≡ f (entryIn st i h .address)) where
   -- position k's is put
   pub set-winner : (q : ℕ) → k < length out → q ≡ f (entryIn st i k .address)
       → (h : ℕ) → h < k + 1 → entryIn st i h .address < p .L → getD (set out k q) h 0 ≡ f (entryIn st i h .address)

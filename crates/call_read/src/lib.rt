@@ -200,7 +200,8 @@ fn is_hidden(
     requires { ⌜ inRange p ≡ true ⌝ }
     requires { ⌜ (length (now pointers) ≡ pointersLen p) × (length (now compact) ≡ compactLen p) ⌝ }
     requires { ⌜ (drive < p .N) × (zone < p .Z) × (s < p .S) ⌝ }
-    ensures { λ r. ⌜ ((im : List ℕ) → length im ≡ imageLen p → r ≡ (not (isIn gone drive) && isNil (shownAt p (viewOf p im (now (pointers .entry))) (now (compact .entry)) drive zone s))) ⌝ }
+    ensures { λ r. ⌜ ((im : List ℕ) → length im ≡ imageLen p
+        → r ≡ (not (isIn gone drive) && isNil (shownAt p (viewOf p im (now (pointers .entry))) (now (compact .entry)) drive zone s))) ⌝ }
 {
     if bits_masks::has_drive(gone, drive) {
         return false;

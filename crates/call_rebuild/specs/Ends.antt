@@ -104,5 +104,6 @@ module _ (p : Params) (k : Disk) (m : Memory) (d : ℕ) (rd : RebuildReady p k m
       (all-fit p v (rebuildStores p d (segments p v (named d))) (sized-of p k w) (rebuild-within p r v sh d hd lost) (rebuild-roomy p r v sh d hd lost))
 
 -- no segment of 9 is bad: nothing refuses
-pub rebuild-faultless : (p : Params) (k : Disk) (m : Memory) (d : ℕ) → rebuildFront p k m d ≡ none → segmentFaults p (named d) (segments p (seen p k) (named d)) ≡ [] → rebuildRefusal p k m d ≡ none
+pub rebuild-faultless : (p : Params) (k : Disk) (m : Memory) (d : ℕ) → rebuildFront p k m d ≡ none → segmentFaults p (named d) (segments p (seen p k) (named d)) ≡ []
+    → rebuildRefusal p k m d ≡ none
 rebuild-faultless p k m d e f = rebuild-front-passed p k m d e ∙ zones-pass (segmentFaults p (named d) (segments p (seen p k) (named d))) [] f ∙ none-left

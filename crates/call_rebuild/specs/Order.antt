@@ -68,12 +68,14 @@ module _ (p : Params) (k : Disk) (m : Memory) (d : ℕ) where
     pub rebuild-lengths-fail : lentOk p k m ≡ false → some (Refused 2) ≡ rebuildFront
     unfolding rebuildFront
     rebuild-lengths-fail f =
-        sym (rule-passes 1 (badNumbers p (m .state .missing) d) (rule 2 (not (lentOk p k m)) ∷ zones highPointers ∷ []) e ∙ rule-fails 2 (not (lentOk p k m)) (zones highPointers ∷ []) (ap not f))
+        sym (rule-passes 1 (badNumbers p (m .state .missing) d) (rule 2 (not (lentOk p k m)) ∷ zones highPointers ∷ []) e
+        ∙ rule-fails 2 (not (lentOk p k m)) (zones highPointers ∷ []) (ap not f))
 
     module _ (f : lentOk p k m ≡ true) where
       passed : rebuildFront ≡ firstRefusal (zones highPointers ∷ [])
       passed = unfold rebuildFront in
-          (rule-passes 1 (badNumbers p (m .state .missing) d) (rule 2 (not (lentOk p k m)) ∷ zones highPointers ∷ []) e ∙ rule-passes 2 (not (lentOk p k m)) (zones highPointers ∷ []) (ap not f))
+          (rule-passes 1 (badNumbers p (m .state .missing) d) (rule 2 (not (lentOk p k m)) ∷ zones highPointers ∷ []) e
+          ∙ rule-passes 2 (not (lentOk p k m)) (zones highPointers ∷ []) (ap not f))
 
       range : highPointers ≡ keep (λ z. any (λ y. ltb (capacity p) (pointerAt (seen p k) y z)) (present p (named d))) (below (p .Z))
       range = unfold pointerFaults in refl
@@ -99,7 +101,8 @@ module _ (p : Params) (k : Disk) (m : Memory) (d : ℕ) where
   unfolding rebuildFront
   rebuild-front-refused a e = checks-are ∙ go (badNumbers p (m .state .missing) d) (not (lentOk p k m)) highPointers (segmentFaults p (named d) (segments p (seen p k) (named d))) e
     where
-      go : (b c : Bool) (ps ss : List ℕ) → firstRefusal (rule 1 b ∷ rule 2 c ∷ zones ps ∷ []) ≡ some a → firstRefusal (rule 1 b ∷ rule 2 c ∷ zones ps ∷ zones (cond (isNil ps) ss []) ∷ []) ≡ some a
+      go : (b c : Bool) (ps ss : List ℕ) → firstRefusal (rule 1 b ∷ rule 2 c ∷ zones ps ∷ []) ≡ some a
+          → firstRefusal (rule 1 b ∷ rule 2 c ∷ zones ps ∷ zones (cond (isNil ps) ss []) ∷ []) ≡ some a
       go true c ps ss h = unfold firstRefusal ruled in h
       go false true ps ss h = unfold firstRefusal ruled in h
       go false false (z ∷ ps) ss h = unfold firstRefusal ruled ninth in h

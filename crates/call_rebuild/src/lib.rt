@@ -52,7 +52,8 @@ fn checks(
     state: State,
     drive: usize,
 ) -> Check
-    ensures { λ r. ⌜ checked r ≡ rebuildFront p (mkDisk (now (image .entry)) (now (pointers .entry))) (mkMemory state (now (addresses .entry)) (now (compact .entry)) (now (inflight .entry))) drive ⌝ }
+    ensures { λ r. ⌜ checked r ≡ rebuildFront p (mkDisk (now (image .entry)) (now (pointers .entry)))
+        (mkMemory state (now (addresses .entry)) (now (compact .entry)) (now (inflight .entry))) drive ⌝ }
 {
     if bad_numbers(p, state.missing, drive) {
         return Check::Fail(Answer::Refused(1));

@@ -223,7 +223,8 @@ module _ (p : Params) (v : View) (st : State) (tb : List ℕ) (w : Opt Victim) w
         ∙ ap (λ (l : List ℕ). firstRefusal (zones (stateFaults p st ++ tableFaults p tb ++ map (placeZone p) (keep (isOdd p) l)) ∷ [])) (nil-is (victimLive w) d)
         ∙ ap (λ (l : List ℕ). firstRefusal (zones (stateFaults p st ++ tableFaults p tb ++ map (placeZone p) l) ∷ [])) (keep-none (isOdd p))
       where
-        first-none : orNext (firstRefusal (rule 6 false ∷ rule 7 false ∷ rule 8 false ∷ [])) (firstRefusal (zones (badZones p st tb w) ∷ [])) ≡ firstRefusal (zones (badZones p st tb w) ∷ [])
+        first-none : orNext (firstRefusal (rule 6 false ∷ rule 7 false ∷ rule 8 false ∷ [])) (firstRefusal (zones (badZones p st tb w) ∷ [])) ≡ firstRefusal
+            (zones (badZones p st tb w) ∷ [])
         first-none = ap (λ (r : Opt Answer). orNext r (firstRefusal (zones (badZones p st tb w) ∷ []))) all-pass
 
     module _ (d : isNil (victimLive w) ≡ false) where

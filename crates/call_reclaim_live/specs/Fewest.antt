@@ -49,7 +49,8 @@ unfolding takenAs
 taken-some p tb g h = ap (λ (x : Bool). cond x none (some (victimOf p (placesIn p tb) (seg g)))) (lt-leb (p .Z) g h)
 
 -- a segment's count
-pub count-live : (p : Params) → Ranged p → (tb live : List ℕ) → LiveCounted p tb live (p .N * p .Z * capacity p) → (g : ℕ) → g < p .Z → length (liveIn p (placesIn p tb) (seg g)) ≡ getD live g 0
+pub count-live : (p : Params) → Ranged p → (tb live : List ℕ) → LiveCounted p tb live (p .N * p .Z * capacity p) → (g : ℕ) → g < p .Z
+    → length (liveIn p (placesIn p tb) (seg g)) ≡ getD live g 0
 count-live p r tb live so g h = ap length (live-all p r tb g h) ∙ sym (so g h)
 
 pub pick-fewer : (p : Params) → Ranged p → (tb live : List ℕ) → LiveCounted p tb live (p .N * p .Z * capacity p) → (best g : ℕ) → g < p .Z
@@ -120,7 +121,8 @@ module _ (p : Params) (v : View) (tb : List ℕ) where
 
 -- one turn of the loop
 pub turn-best : (p : Params) → Ranged p → (v : View) (tb live : List ℕ) → LiveCounted p tb live (p .N * p .Z * capacity p) → (best best′ g : ℕ) → g < p .Z
-    → best′ ≡ cond (sealedIn p v 0 (seg g)) (pickOf p live best g) best → onward p v tb (takenAs p tb best) g ≡ victim p v tb → onward p v tb (takenAs p tb best′) (g + 1) ≡ victim p v tb
+    → best′ ≡ cond (sealedIn p v 0 (seg g)) (pickOf p live best g) best → onward p v tb (takenAs p tb best) g ≡ victim p v tb
+    → onward p v tb (takenAs p tb best′) (g + 1) ≡ victim p v tb
 turn-best p r v tb live so best best′ g h e k =
     ap (λ (x : Opt Victim). onward p v tb x (g + 1)) (ap (takenAs p tb) e ∙ go (sealedIn p v 0 (seg g))) ∙ sym (onward-turn p v tb (takenAs p tb best) g h) ∙ k
   where

@@ -151,7 +151,8 @@ module _ (W : ℕ → Victim) (t : ℕ → Bool) where
       go (no! e) r = miss (some a) i n e ∙ r
 
   module _ (g : ℕ) (is : t g ≡ true) (before : (k : ℕ) → k < g → t k ≡ true → size g < size k) where
-    least-finds : (o : Opt Victim) (i n : ℕ) → i ≤ g → g < i + n → Over (size g) o → ((k : ℕ) → g < k → k < i + n → t k ≡ true → size g ≤ size k) → rest o i n ≡ some (W g)
+    least-finds : (o : Opt Victim) (i n : ℕ) → i ≤ g → g < i + n → Over (size g) o → ((k : ℕ) → g < k → k < i + n → t k ≡ true → size g ≤ size k)
+        → rest o i n ≡ some (W g)
     least-finds o i zero low high w h = absurd (let q : ⊥ = omega arith in q)
     least-finds o i (suc n) low high w h = go (test (eqb i g)) (λ u x y. least-finds u (suc i) n x (omega arith) y (λ k a b. h k a (omega arith)))
       where

@@ -326,7 +326,8 @@ only-window tb ms n first end all! step told once h e k = go (decLt 0 first)
         let f : end ≡ all! = omega arith in
         (f, λ q x y. ap (λ (i : ℕ). isMarked ms (q - i)) (sym z) ∙ told q (omega arith) (omega arith))
 
-pub left-marks : (tb ms : List ℕ) (n first all! step : ℕ) → (0 < first → all! ≤ step → (first ≡ all!) × Marks tb n ms 0 all!) → first ≡ all! → all! ≤ step → Marks tb n ms 0 all!
+pub left-marks : (tb ms : List ℕ) (n first all! step : ℕ) → (0 < first → all! ≤ step → (first ≡ all!) × Marks tb n ms 0 all!) → first ≡ all! → all! ≤ step
+    → Marks tb n ms 0 all!
 left-marks tb ms n first all! step once e k = go (decLt 0 first)
   where
     go : Dec (0 < first) → Marks tb n ms 0 all!

@@ -94,7 +94,8 @@ module _ (f : ℕ → Bool) (i : ℕ) where
   pub run-longer : (n m : ℕ) → n ≤ m → length (keep f (upFrom i n)) ≤ length (keep f (upFrom i m))
   run-longer n m h =
       let e : n + (m - n) ≡ m = omega arith in
-      let w : length (keep f (upFrom i m)) ≡ length (keep f (upFrom i n)) + length (keep f (upFrom (i + n) (m - n))) = ap (λ (x : ℕ). length (keep f (upFrom i x))) (sym e) ∙ run-add n (m - n) in
+      let w : length (keep f (upFrom i m)) ≡ length (keep f (upFrom i n)) + length (keep f (upFrom (i + n) (m - n))) = ap (λ (x : ℕ). length (keep f (upFrom i x))) (sym e)
+      ∙ run-add n (m - n) in
       omega (arith, w)
 
 -- ---- a drive more
@@ -123,7 +124,8 @@ module _ (p : Params) (tb : List ℕ) (g : ℕ) where
   unfolding placeOf
   live-below-drive d h =
       let e : (d * p .Z + 0) * capacity p + 0 ≡ d * p .Z * capacity p = add-zero ((d * p .Z + 0) * capacity p) ∙ ap (λ (x : ℕ). x * capacity p) (add-zero (d * p .Z)) in
-      live-longer ((d * p .Z + 0) * capacity p + 0) (p .N * p .Z * capacity p) (subst (λ (x : ℕ). x ≤ p .N * p .Z * capacity p) (sym e) (mul-le-mul-right (capacity p) (mul-le-mul-right (p .Z) h)))
+      live-longer ((d * p .Z + 0) * capacity p + 0) (p .N * p .Z * capacity p)
+      (subst (λ (x : ℕ). x ≤ p .N * p .Z * capacity p) (sym e) (mul-le-mul-right (capacity p) (mul-le-mul-right (p .Z) h)))
 
   module _ (r : Ranged p) (h : g < p .Z) (d : ℕ) where
     abbrev C : ℕ

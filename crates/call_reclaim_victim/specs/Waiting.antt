@@ -55,7 +55,8 @@ else-kept a b n = ap (λ (x : Bool). cond x b a) (ne-eqb a neverPlace n)
 cons-nil : (x : ℕ) (l : List ℕ) → _≡_ {A = List ℕ} (x ∷ l) [] → ⊥
 cons-nil x l e = let q : suc (length l) ≡ 0 = ap length e in omega (arith, q)
 
-first-append : (l : List ℕ) (b : Bool) (q : ℕ) → (firstOr neverPlace l ≡ neverPlace → l ≡ []) → firstOr neverPlace (l ++ consIf (not b) q []) ≡ orElse (firstOr neverPlace l) (cond b neverPlace q)
+first-append : (l : List ℕ) (b : Bool) (q : ℕ) → (firstOr neverPlace l ≡ neverPlace → l ≡ [])
+    → firstOr neverPlace (l ++ consIf (not b) q []) ≡ orElse (firstOr neverPlace l) (cond b neverPlace q)
 unfolding firstOr consIf
 first-append [] true q h = sym (else-first neverPlace neverPlace refl)
 first-append [] false q h = sym (else-first neverPlace q refl)
@@ -282,7 +283,8 @@ module _ (p : Params) (v : View) (st : State) (tb : List ℕ) (g : ℕ) where
 
   module _ (ms : List ℕ) (first hi : ℕ) (told : Marks tb (p .L) ms first hi) where
     -- none marked
-    pub run-skip : (a b : ℕ) (r : Idle) → first ≤ a → a ≤ b → b ≤ hi → ((j : ℕ) → a - first ≤ j → j < b - first → isMarked ms j ≡ false) → IdleBelow p v st tb g a r → IdleBelow p v st tb g b r
+    pub run-skip : (a b : ℕ) (r : Idle) → first ≤ a → a ≤ b → b ≤ hi → ((j : ℕ) → a - first ≤ j → j < b - first → isMarked ms j ≡ false)
+        → IdleBelow p v st tb g a r → IdleBelow p v st tb g b r
     unfolding isLiveIn
     run-skip a b r low mid high miss w = waiting-skip p v st tb g a b r mid (λ q x y.
         ap (λ (z : Bool). eqb (placeZone p q) g && z) (sym (told q (omega arith) (omega arith)) ∙ miss (q - first) (omega arith) (omega arith)) ∙ and-false (eqb (placeZone p q) g)) w

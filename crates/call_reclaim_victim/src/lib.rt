@@ -358,7 +358,8 @@ fn see_block(
 ) -> Seen
     requires { ⌜ inRange p ≡ true ⌝ }
     requires { ⌜ Whole p (mkDisk (now image) (now pointers)) ⌝ }
-    requires { ⌜ (length (now addresses) ≡ addressesLen p) × (drive < p .N) × (g < p .Z) × (at ≡ placeOf p drive g 1) × (o < p .S) × (seen .live < 4294967296) × (length (now bytes) ≡ stateLen) ⌝ }
+    requires { ⌜ (length (now addresses) ≡ addressesLen p) × (drive < p .N) × (g < p .Z) × (at ≡ placeOf p drive g 1) × (o < p .S) × (seen .live < 4294967296)
+        × (length (now bytes) ≡ stateLen) ⌝ }
     ensures { λ r. ⌜ r .live ≤ seen .live + 1 ⌝ }
     ensures { λ r. ⌜ Sees p (viewOf p (now (image .entry)) (now (pointers .entry))) (stateOf (now (bytes .entry))) (now (addresses .entry)) g (at + o) (at + o + 1) seen r ⌝ }
 {

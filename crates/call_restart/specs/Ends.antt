@@ -177,7 +177,8 @@ module _ (p : Params) (r : Ranged p) (gone n : ℕ) (k : Disk) (w : Whole p k) (
                 (subst (λ (u : View). AllGood p u gone) (sym (stores-none (seen p k))) (accepted-fine p (seen p k) gone acc)),
           )
 
-  pub settles-stored : (made : Made) (k′ : Disk) (loose : ℕ) → Storing p n (restartStores p gone (segments p (seen p k) gone)) k made k′ → loose ≡ uncountedIn p gone (segments p (seen p k) gone)
+  pub settles-stored : (made : Made) (k′ : Disk) (loose : ℕ) → Storing p n (restartStores p gone (segments p (seen p k) gone)) k made k′
+      → loose ≡ uncountedIn p gone (segments p (seen p k) gone)
       → Settles p gone n k (record { check = Pass; cut = made .cut; loose = loose }) k′
   settles-stored made k′ loose s el = record {
     first = e;
@@ -187,7 +188,9 @@ module _ (p : Params) (r : Ranged p) (gone n : ℕ) (k : Disk) (w : Whole p k) (
     loose-is = λ q. el;
     whole-is = λ q c. whole-after p r k k′ st w (fit-and-good .0) (storing-all p n st k made k′ s c);
     view-is = λ q c. seen-after p r k k′ st w (fit-and-good .0) (storing-all p n st k made k′ s c);
-    good = λ q c. good-segments p (seen p k′) gone (subst (λ (u : View). AllGood p u gone) (sym (seen-after p r k k′ st w (fit-and-good .0) (storing-all p n st k made k′ s c))) (fit-and-good .1));
+    good =
+        λ q c. good-segments p (seen p k′) gone (subst (λ (u : View). AllGood p u gone) (sym (seen-after p r k k′ st w (fit-and-good .0) (storing-all p n st k made k′ s c)))
+        (fit-and-good .1));
   }
     where
       cut! : madeOf n (length st) .cut ≡ ltb n (length st)
@@ -205,7 +208,8 @@ module _ (p : Params) (k : Disk) (m : Memory) (gone n : ℕ) (t : Taken) (k′ :
     none! : checked (t .check) ≡ none
     none! = ap checked e
 
-    pub ends-restart-cut : t .cut ≡ true → (d : Done) (ad co : List ℕ) → length (m .addresses) ≡ addressesLen p → length (m .compact) ≡ compactLen p → d .answer ≡ Cut → d .state ≡ zeroState
+    pub ends-restart-cut : t .cut ≡ true → (d : Done) (ad co : List ℕ) → length (m .addresses) ≡ addressesLen p → length (m .compact) ≡ compactLen p → d .answer ≡ Cut
+        → d .state ≡ zeroState
         → ad ≡ replicate (length (m .addresses)) 0 → co ≡ replicate (length (m .compact)) 0 → after d (k′ .image) (k′ .pointers) ad co (m .inflight) [] ≡ recovered p k m gone n
     ends-restart-cut c d ad co la lc ea es ead eco =
         (λ j. mkAfter (ea j) (s .disk-is none! j) (mkMemory (es j) (ead j) (eco j) (m .inflight)) [])

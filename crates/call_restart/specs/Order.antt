@@ -171,7 +171,8 @@ pub zone-none : (p : Params) (v : View) (gone : ℕ) (e : Exam) → Examined p g
 zone-none p v gone e x h = let l = zone-le p v gone e x in omega arith
 
 -- 01, Restart, 5: with a drive missing nothing is rewritten
-pub gone-plain : (p : Params) (v : View) (gone : ℕ) (e : Exam) → Examined p gone (segments p v gone) e → e .zone ≡ p .Z → (gone ≡ 0 → ⊥) → rewrites p gone (segments p v gone) ≡ false
+pub gone-plain : (p : Params) (v : View) (gone : ℕ) (e : Exam) → Examined p gone (segments p v gone) e → e .zone ≡ p .Z → (gone ≡ 0 → ⊥)
+    → rewrites p gone (segments p v gone) ≡ false
 gone-plain p v gone e x z n = rewrites-is p v gone e x z ∙ ap (λ (b : Bool). b && raggedBy p e) (ne-eqb gone 0 n)
 
 pub here-plain : (p : Params) (v : View) (gone : ℕ) (e : Exam) → Examined p gone (segments p v gone) e → e .zone ≡ p .Z → gone ≡ 0 → rewrites p gone (segments p v gone) ≡ raggedBy p e

@@ -209,7 +209,8 @@ module _ (p : Params) (r : Ranged p) (v : View) (sh : Shaped p v) (acc : Accepte
     serial-stays = λ y hy. serial-same u y (s y hy .1);
   }
 
-  module _ (g : Seg) (hg : Named p g) (kg : keeps! g ≡ true) (ng : sealedIn p v 0 g ≡ false) (oth : (y : Seg) → Named p y → keeps! y ≡ true → (y ≡ g → ⊥) → sealedIn p v 0 y ≡ true) where
+  module _ (g : Seg) (hg : Named p g) (kg : keeps! g ≡ true) (ng : sealedIn p v 0 g ≡ false)
+      (oth : (y : Seg) → Named p y → keeps! y ≡ true → (y ≡ g → ⊥) → sealedIn p v 0 y ≡ true) where
     abbrev x : Segment
     x = segmentOf p v 0 g
 
@@ -374,7 +375,8 @@ module _ (p : Params) (r : Ranged p) (v : View) (sn : RefitReady p v) where
                   let fit : suc (greatestSerial found) < 256 ^ 8 = (let b = serials-small p r v (sn .shaped) in let c = restart-serial-left in omega arith) in
                   subst (λ (i : Seg). MovedView p v (storeAll storeView mends dropped) i z n) (sym here)
                   (subst (λ (l : List Store). MovedView p v (storeAll storeView l dropped) y z n) (sym e)
-                  (moved-by p r v (sn .shaped) (sn .accepted) y hy ky ny oth z new-place fz fit (tidy! .0) (subst (λ (l : List Store). Tidy p (storeAll storeView l dropped) (tidy! .0)) e (tidy! .1))))
+                  (moved-by p r v (sn .shaped) (sn .accepted) y hy ky ny oth z new-place fz fit (tidy! .0)
+                  (subst (λ (l : List Store). Tidy p (storeAll storeView l dropped) (tidy! .0)) e (tidy! .1))))
                 where
                   as! : mendStores p found (segmentOf p v 0 y) ≡ rewriteStores p (segmentOf p v 0 y) (firstOr (seg 0) (freeSegs p found)) (suc (greatestSerial found))
                   as! = unfold mendStores in rw (w, rg)

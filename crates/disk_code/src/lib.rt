@@ -51,7 +51,8 @@ fn fold_numbers(numbers: &[u64], out: u8, n: usize) -> u64
 fn add_part(src: &[u8], at: &[usize], out: u8, k: usize, block: &mut [u8])
     requires { ⌜ k < length (now at) ⌝ }
     requires { ⌜ (isIn out k ≡ false → getD (now at) k 0 + length (now block) ≤ length (now src)) ⌝ }
-    ensures { λ _. ⌜ now (block .exit) ≡ cond (isIn out k) (now (block .entry)) (xors (now (block .entry)) (part (getD (now (at .entry)) k 0) (length (now (block .entry))) (now (src .entry)))) ⌝ }
+    ensures { λ _. ⌜ now (block .exit) ≡ cond (isIn out k) (now (block .entry))
+        (xors (now (block .entry)) (part (getD (now (at .entry)) k 0) (length (now (block .entry))) (now (src .entry)))) ⌝ }
 {
     if bits_masks::has_drive(out, k) {
         return;

@@ -60,7 +60,8 @@ map-each f g [] h = refl
 map-each f g (a ∷ l) h = ap₂ _∷_ (h .0) (map-each f g l (h .1))
 
 -- the first d entries of an array are as asked, and so is the next that is set
-pub set-next : (P : ℕ → ℕ → Type 0) (l : List ℕ) (d v : ℕ) → d < length l → ((e : ℕ) → e < d → P e (getD l e 0)) → P d v → (e : ℕ) → e < d + 1 → P e (getD (set l d v) e 0)
+pub set-next : (P : ℕ → ℕ → Type 0) (l : List ℕ) (d v : ℕ) → d < length l → ((e : ℕ) → e < d → P e (getD l e 0)) → P d v → (e : ℕ) → e < d + 1
+    → P e (getD (set l d v) e 0)
 set-next P l d v n h q e k = go (ℕ-discrete d e)
   where
     go : Dec (d ≡ e) → P e (getD (set l d v) e 0)

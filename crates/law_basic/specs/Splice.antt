@@ -163,7 +163,8 @@ splice-cons l at b s h =
     let q : at < length l = omega arith in
     let e : at + 1 + length s ≡ at + suc (length s) = omega arith in
     set-append-left (take (at + 1) l) (s ++ drop (at + 1 + length s) l) at b k
-    ∙ ap (λ (x : List ℕ). x ++ (s ++ drop (at + 1 + length s) l)) (ap (λ (n : ℕ). set (take n l) at b) (add-one at) ∙ sym (take-set-lt (suc at) l at b (omega arith)) ∙ take-suc-set l at b q)
+    ∙ ap (λ (x : List ℕ). x ++ (s ++ drop (at + 1 + length s) l))
+    (ap (λ (n : ℕ). set (take n l) at b) (add-one at) ∙ sym (take-set-lt (suc at) l at b (omega arith)) ∙ take-suc-set l at b q)
     ∙ append-assoc (take at l) (b ∷ []) (s ++ drop (at + 1 + length s) l)
     ∙ ap (λ (n : ℕ). take at l ++ (b ∷ (s ++ drop n l))) e
 

@@ -145,7 +145,8 @@ module _ (p : Params) (r : Ranged p) (s : ℕ) where
     number-back F w =
         let x = xorAll (map F (keep (λ e. not (isIn gone e)) (upFrom 0 (p .N)))) in
         let y = xorAll (map F (keep (isIn gone) (upFrom 0 (p .N)))) in
-        let z : bitXor x y ≡ 0 = kept-both F (isIn gone) (upFrom 0 (p .N)) ∙ all-drives F ∙ ap (λ (k : ℕ). bitXor k (xorAll (map F (dataDrives p s)))) w ∙ xor-self (xorAll (map F (dataDrives p s))) in
+        let z : bitXor x y ≡ 0 = kept-both F (isIn gone) (upFrom 0 (p .N)) ∙ all-drives F ∙ ap (λ (k : ℕ). bitXor k (xorAll (map F (dataDrives p s)))) w
+        ∙ xor-self (xorAll (map F (dataDrives p s))) in
         let o : y ≡ F d = ap (λ (l : List ℕ). xorAll (map F l)) (kept-without (isIn gone) 0 (p .N) d (omega arith) (omega (arith, hd)) lost few) ∙ single (F d) in
         sym (xor-zero-r x) ∙ ap (bitXor x) (sym (xor-self y)) ∙ sym (xor-assoc x y y) ∙ ap (λ (k : ℕ). bitXor k y) z ∙ xor-zero-l y ∙ o
       where

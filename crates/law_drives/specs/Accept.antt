@@ -123,7 +123,8 @@ module _ (p : Params) (v : View) (gone : ℕ) (acc : Accepted p v gone) where
       (or-right (leb (x .serial) (x .copied)) (any (λ (z : Segment). not (sameSeg (z .seg) (x .seg)) && eqb (z .serial) (x .serial)) (segments p v gone)) (faults-apart g m .no-serial-fault))
       y (in-map (segmentOf p v gone) (remaining p v gone) h n) in
       let t : not (sameSeg (y .seg) (x .seg)) && eqb (y .serial) (x .serial) ≡ true =
-      and-both (not (sameSeg (y .seg) (x .seg))) (eqb (y .serial) (x .serial)) (ap not (ap₂ sameSeg (seg-is p v gone h) (seg-is p v gone g) ∙ seg-other h g ne)) (eq-eqb (y .serial) (x .serial) e) in
+      and-both (not (sameSeg (y .seg) (x .seg))) (eqb (y .serial) (x .serial)) (ap not (ap₂ sameSeg (seg-is p v gone h) (seg-is p v gone g) ∙ seg-other h g ne))
+      (eq-eqb (y .serial) (x .serial) e) in
       clash t f
 
 -- 01, Refusals, 9: every number in its group

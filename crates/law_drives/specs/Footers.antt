@@ -29,7 +29,8 @@ use Rattle.law_drives.specs.Tests.{and-false-right, cond-true, cond-fals
 use Rattle.law_drives.specs.Zones.{Bytes, SoundChunk, ZoneOk, hits, Room, Within}
 
 -- a list of chunks for each drive, in the zone of one segment
-pub hits-each : (p : Params) (e y : ℕ) (z : ℕ → ℕ) (f : ℕ → List Chunk) → e < p .N → hits e y (flat (λ d. map (putAt d (z d)) (f d)) (drivesOf p)) ≡ cond (eqb (z e) y) (map (putAt e (z e)) (f e)) []
+pub hits-each : (p : Params) (e y : ℕ) (z : ℕ → ℕ) (f : ℕ → List Chunk) → e < p .N
+    → hits e y (flat (λ d. map (putAt d (z d)) (f d)) (drivesOf p)) ≡ cond (eqb (z e) y) (map (putAt e (z e)) (f e)) []
 hits-each p e y z f he =
     hits-flat e y (λ d. map (putAt d (z d)) (f d)) (drivesOf p)
     ∙ as! (flat-cong (λ d. hits e y (map (putAt d (z d)) (f d))) (λ d. cond (eqb d e && eqb (z d) y) (map (putAt d (z d)) (f d)) []) (below (p .N))
@@ -169,5 +170,6 @@ module _ (p : Params) (r : Ranged p) (q : Zone) (k : ZoneOk p q) where
       as! q2 blk (getD-footer p r (sparesIn p q) x spares-long (subst (λ (n : ℕ). x < n) (sym spares-count) h) ∙ spare-at x h)
     where
       as! : (q2 : Zone) → getD (blocksOf (drop (1 + p .S) (q2 .blocks))) (x / perFooter p) [] ≡ footerBlock p (sparesIn p q) (x / perFooter p)
-          → part (spareLen * (x % perFooter p)) spareLen (footerBlock p (sparesIn p q) (x / perFooter p)) ≡ getD (q .blocks) (1 + x) noChunk .spare → recordIn p true q2 x ≡ recordIn p false q x
+          → part (spareLen * (x % perFooter p)) spareLen (footerBlock p (sparesIn p q) (x / perFooter p)) ≡ getD (q .blocks) (1 + x) noChunk .spare
+          → recordIn p true q2 x ≡ recordIn p false q x
       as! q2 a b = unfold recordIn footerRecord in ap recordOf (ap (part (spareLen * (x % perFooter p)) spareLen) a ∙ b)

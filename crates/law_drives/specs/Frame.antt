@@ -122,7 +122,8 @@ module _ (p : Params) (gone : ℕ) (v u : View) (low : In (lowDrive p gone) (pre
           ≡ cond (isIn gone d) [] (recordsIn p (sealedIn p u gone g) (getD (map (λ d. zoneAt u d (zoneOn g d)) (below (p .N))) d noZone))
       go d hd (yes! q) = rw q
       go d hd (no! q) = rw q (ap₂ (λ (x : Bool) (y : Zone). recordsIn p x y) (same-sealed g h)
-          (getD-map-below (λ d. zoneAt v d (zoneOn g d)) (p .N) d noZone hd ∙ ag d (zoneOn g d) hd (zone-on-lt p g d h) q ∙ sym (getD-map-below (λ d. zoneAt u d (zoneOn g d)) (p .N) d noZone hd)))
+          (getD-map-below (λ d. zoneAt v d (zoneOn g d)) (p .N) d noZone hd ∙ ag d (zoneOn g d) hd (zone-on-lt p g d h) q
+          ∙ sym (getD-map-below (λ d. zoneAt u d (zoneOn g d)) (p .N) d noZone hd)))
 
   pub same-core : (g : Seg) → Named p g → core (segmentOf p v gone g) ≡ core (segmentOf p u gone g)
   unfolding core

@@ -79,7 +79,8 @@ module _ (p : Params) (r : Ranged p) (v u : View) (z : Seg) (w : Grows p v u z) 
     together = λ d y hd hy. tog d y hd hy (segs-differ z y);
     copied-less = λ y hy q. subst (λ (x : List ℕ). headerCopied x < headerSerial x) (grows-header y hy) (t .copied-less y hy (grows-used y hy ∙ q));
     serial-known = λ y hy q. subst (λ (x : List ℕ). headerSerial x ≤ s) (grows-header y hy) (t .serial-known y hy (grows-used y hy ∙ q));
-    serial-once = λ x y hx hy a b e. t .serial-once x y hx hy (grows-used x hx ∙ a) (grows-used y hy ∙ b) (ap headerSerial (grows-header x hx) ∙ e ∙ ap headerSerial (sym (grows-header y hy)));
+    serial-once =
+        λ x y hx hy a b e. t .serial-once x y hx hy (grows-used x hx ∙ a) (grows-used y hy ∙ b) (ap headerSerial (grows-header x hx) ∙ e ∙ ap headerSerial (sym (grows-header y hy)));
     no-copy = λ x y hx hy a b e. t .no-copy x y hx hy (grows-used x hx ∙ a) (grows-used y hy ∙ b) (ap headerCopied (grows-header x hx) ∙ e ∙ ap headerSerial (sym (grows-header y hy)));
   }
     where

@@ -66,7 +66,8 @@ module _ (p : Params) (r : Ranged p) (v : View) (sh : Shaped p v) (g : Seg) (rn 
   pub header-block : headerAt u 0 g ≡ headerBlock p 0 (zoneOn g 0) rn cn
   header-block =
       let h0 : 0 < p .N = omega (arith, r .drives-low) in
-      at ∙ ap (λ (q : Zone). getD (q .blocks) 0 noChunk .block) (header-zone 0 h0) ∙ back (zoneAt v 0 (zoneOn g 0)) (as! (em 0 h0)) (sh .zone-ok 0 (zoneOn g 0) h0 (zone-on-lt p g 0 hg) .blocks-long)
+      at ∙ ap (λ (q : Zone). getD (q .blocks) 0 noChunk .block) (header-zone 0 h0)
+      ∙ back (zoneAt v 0 (zoneOn g 0)) (as! (em 0 h0)) (sh .zone-ok 0 (zoneOn g 0) h0 (zone-on-lt p g 0 hg) .blocks-long)
     where
       at : headerAt u 0 g ≡ getD (zoneAt u 0 (zoneOn g 0) .blocks) 0 noChunk .block
       at = unfold headerAt chunkAt in refl

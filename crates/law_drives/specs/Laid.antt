@@ -90,7 +90,8 @@ pub length-footer : (p : Params) → Ranged p → (ss : List (List ℕ)) (i : �
 unfolding footerBlock
 length-footer p r ss i h =
     let l = take (perFooter p) (drop (i * perFooter p) ss) in
-    let e : length (flat (λ (b : List ℕ). b) l) ≡ length l * spareLen = length-rows spareLen l (λ s m. h s (in-drop (i * perFooter p) ss s (in-take (perFooter p) (drop (i * perFooter p) ss) s m))) in
+    let e : length (flat (λ (b : List ℕ). b) l) ≡ length l * spareLen = length-rows spareLen l
+    (λ s m. h s (in-drop (i * perFooter p) ss s (in-take (perFooter p) (drop (i * perFooter p) ss) s m))) in
     let n : length l ≤ perFooter p = subst (λ (x : ℕ). x ≤ perFooter p) (sym (length-take (perFooter p) (drop (i * perFooter p) ss))) (omega arith) in
     let m : length l * spareLen ≤ perFooter p * spareLen = mul-le-mul-right spareLen n in
     let q : perFooter p * spareLen ≤ p .B = per-footer-fits p r in

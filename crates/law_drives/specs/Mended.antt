@@ -42,7 +42,8 @@ module _ (p : Params) (r : Ranged p) (v : View) (sh : Shaped p v) (acc : Accepte
   abbrev va : View
   va = storeAll storeView (dropStores p gs) v
 
-  mended-one : (g : Seg) → Named p g → remains p v 0 g ≡ true → sealedIn p v 0 g ≡ false → ((y : Seg) → Named p y → remains p v 0 y ≡ true → (y ≡ g → ⊥) → sealedIn p v 0 y ≡ true)
+  mended-one : (g : Seg) → Named p g → remains p v 0 g ≡ true → sealedIn p v 0 g ≡ false
+      → ((y : Seg) → Named p y → remains p v 0 y ≡ true → (y ≡ g → ⊥) → sealedIn p v 0 y ≡ true)
       → unsealed gs ≡ segmentOf p v 0 g ∷ []
       → rewrites p 0 gs && eqb (greatestSerial gs) lastCount ≡ false
       → rewrites p 0 gs && isNil (freeSegs p gs) ≡ false

@@ -93,7 +93,8 @@ module _ (p : Params) (r : Ranged p) (v : View) (sh : Shaped p v) (acc : Accepte
   pub mend-none : ((y : Seg) → Named p y → keeps! y ≡ true → sealedIn p v 0 y ≡ true) → Mended p va []
   mend-none f = mended-none p va (greatestSerial gs) (drop-tidy p r v sh acc) (rest-sealed (λ z hz q. sealed-now z hz (kept! z hz q) (f z hz (kept! z hz q))))
 
-  module _ (g : Seg) (hg : Named p g) (kg : keeps! g ≡ true) (ng : sealedIn p v 0 g ≡ false) (oth : (y : Seg) → Named p y → keeps! y ≡ true → (y ≡ g → ⊥) → sealedIn p v 0 y ≡ true) where
+  module _ (g : Seg) (hg : Named p g) (kg : keeps! g ≡ true) (ng : sealedIn p v 0 g ≡ false)
+      (oth : (y : Seg) → Named p y → keeps! y ≡ true → (y ≡ g → ⊥) → sealedIn p v 0 y ≡ true) where
     abbrev x : Segment
     x = segmentOf p v 0 g
 

@@ -150,7 +150,8 @@ puts-new d z (c ∷ cs) q (suc i) h l =
 
 -- ---- room
 
-pub room-puts : (p : Params) (d z n : ℕ) (cs : List Chunk) → n + length cs ≤ capacity p → ((i : ℕ) → i < length cs → SoundChunk p (n + i) (getD cs i noChunk)) → Room p n (map (putAt d z) cs)
+pub room-puts : (p : Params) (d z n : ℕ) (cs : List Chunk) → n + length cs ≤ capacity p → ((i : ℕ) → i < length cs → SoundChunk p (n + i) (getD cs i noChunk))
+    → Room p n (map (putAt d z) cs)
 unfolding putAt
 room-puts p d z n [] h f = tt
 room-puts p d z n (c ∷ cs) h f = (
@@ -182,7 +183,8 @@ data-sound p n b r l h e = record {
   block-bytes = λ x. absurd (⊎-elim (λ y. let z : ⊥ = omega arith in z) (λ y. let z : ⊥ = omega arith in z) x);
 }
 
-pub footer-sound : (p : Params) → Ranged p → (n : ℕ) (ss : List (List ℕ)) (i : ℕ) → Long spareLen ss → ((s : List ℕ) → In s ss → Bytes s) → SoundChunk p n (mkChunk (footerBlock p ss i) zeroSpare)
+pub footer-sound : (p : Params) → Ranged p → (n : ℕ) (ss : List (List ℕ)) (i : ℕ) → Long spareLen ss → ((s : List ℕ) → In s ss → Bytes s)
+    → SoundChunk p n (mkChunk (footerBlock p ss i) zeroSpare)
 footer-sound p r n ss i l b = record {
   block-long = length-footer p r ss i l;
   spare-long = length-zeroSpare;

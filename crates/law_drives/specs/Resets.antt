@@ -42,7 +42,8 @@ module _ (p : Params) (r : Ranged p) (v : View) (sh : Shaped p v) (g : Seg) (hg 
   pub reset-same : (y : Seg) → Named p y → (g ≡ y → ⊥) → SameZones p v u y
   reset-same y hy n d hd =
       sym (zone-after p v d (zoneOn y d) rs (sh .sized) hd (zone-on-lt p y d hy)
-      ∙ ap (λ (l : List Store). storeAll zoneStore l (zoneAt v d (zoneOn y d))) (resets-on p d y g hy hg hd ∙ cond-false (sameSeg g y) (reset d (zoneOn g d) ∷ []) [] (seg-other g y n)) ∙ nothing)
+      ∙ ap (λ (l : List Store). storeAll zoneStore l (zoneAt v d (zoneOn y d))) (resets-on p d y g hy hg hd ∙ cond-false (sameSeg g y) (reset d (zoneOn g d) ∷ []) [] (seg-other g y n))
+      ∙ nothing)
     where
       nothing : storeAll zoneStore [] (zoneAt v d (zoneOn y d)) ≡ zoneAt v d (zoneOn y d)
       nothing = unfold storeAll in refl
@@ -107,6 +108,8 @@ module _ (p : Params) (r : Ranged p) (v : View) (sh : Shaped p v) (g : Seg) (hg 
       low d z hd hz (no n) = subst (λ (x : ℕ). x ≤ capacity p) (zones-pointer p r v u z (reset-same z hz n) d hd) (t .pointer-low d z hd hz)
 
       tog : (d : ℕ) (z : Seg) → d < p .N → Named p z → Dec (g ≡ z) → eqb (pointerAt u d (zoneOn z d)) 0 ≡ eqb (pointerAt u 0 (zoneOn z 0)) 0
-      tog d z hd hz (yes e) = subst (λ (x : Seg). eqb (pointerAt u d (zoneOn x d)) 0 ≡ eqb (pointerAt u 0 (zoneOn x 0)) 0) e (ap (λ (x : ℕ). eqb x 0) (reset-pointers d hd ∙ sym (reset-pointers 0 h0)))
+      tog d z hd hz (yes e) =
+          subst (λ (x : Seg). eqb (pointerAt u d (zoneOn x d)) 0 ≡ eqb (pointerAt u 0 (zoneOn x 0)) 0) e (ap (λ (x : ℕ). eqb x 0) (reset-pointers d hd ∙ sym (reset-pointers 0 h0)))
       tog d z hd hz (no n) =
-          ap (λ (x : ℕ). eqb x 0) (sym (zones-pointer p r v u z (reset-same z hz n) d hd)) ∙ t .together d z hd hz ∙ ap (λ (x : ℕ). eqb x 0) (zones-pointer p r v u z (reset-same z hz n) 0 h0)
+          ap (λ (x : ℕ). eqb x 0) (sym (zones-pointer p r v u z (reset-same z hz n) d hd)) ∙ t .together d z hd hz
+          ∙ ap (λ (x : ℕ). eqb x 0) (zones-pointer p r v u z (reset-same z hz n) 0 h0)

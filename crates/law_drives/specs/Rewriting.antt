@@ -185,7 +185,8 @@ module _ (p : Params) (r : Ranged p) (v : View) (sh : Shaped p v) (acc : Accepte
   unfolding movedChunks
   moved-at e [] k i h = absurd (let bad : ⊥ = omega arith in bad)
   moved-at e (s ∷ ss) k zero h = (s, inl refl, ap (λ (n : ℕ). pieceChunk (on s n e)) (sym (add-zero k)))
-  moved-at e (s ∷ ss) k (suc i) h = let (t, m, q) = moved-at e ss (suc k) i (omega arith) in (t, inr m, q ∙ ap (λ (n : ℕ). pieceChunk (on t n e)) (let z : suc k + i ≡ k + suc i = omega arith in z))
+  moved-at e (s ∷ ss) k (suc i) h =
+      let (t, m, q) = moved-at e ss (suc k) i (omega arith) in (t, inr m, q ∙ ap (λ (n : ℕ). pieceChunk (on t n e)) (let z : suc k + i ≡ k + suc i = omega arith in z))
 
   hits-moved : (e : ℕ) (y : Seg) (ss : List ℕ) (k : ℕ) → e < p .N → Named p y
       → hits e (zoneOn y e) (movedStripes p x z0 ss k) ≡ cond (sameSeg z0 y) (map (putAt e (zoneOn z0 e)) (movedChunks e ss k)) []
@@ -225,7 +226,8 @@ module _ (p : Params) (r : Ranged p) (v : View) (sh : Shaped p v) (acc : Accepte
   lay : ℕ → List Chunk
   lay e = mkChunk (headerBlock p e (zoneOn z0 e) sn (x .serial)) zeroSpare ∷ movedChunks e cs 0
 
-  ts-hits : (e : ℕ) (y : Seg) → e < p .N → Named p y → hits e (zoneOn y e) ts ≡ cond (sameSeg z0 y) (map (putAt e (zoneOn z0 e)) (lay e)) [] ++ cond (sameSeg g y) (reset e (zoneOn g e) ∷ []) []
+  ts-hits : (e : ℕ) (y : Seg) → e < p .N → Named p y → hits e (zoneOn y e) ts ≡ cond (sameSeg z0 y) (map (putAt e (zoneOn z0 e)) (lay e)) [] ++ cond (sameSeg g y)
+      (reset e (zoneOn g e) ∷ []) []
   unfolding lay
   ts-hits e y he hy = as! (hits-append e (zoneOn y e) (headerStores p z0 sn (x .serial) ++ movedStripes p x z0 cs 0) (resetStores p (x .seg))
       ∙ ap₂ _++_ (hits-append e (zoneOn y e) (headerStores p z0 sn (x .serial)) (movedStripes p x z0 cs 0) ∙ ap₂ _++_ (headers-on p e y z0 sn (x .serial) hy hz0 he) (hits-moved e y cs 0 he hy)
@@ -249,16 +251,19 @@ module _ (p : Params) (r : Ranged p) (v : View) (sh : Shaped p v) (acc : Accepte
 
   hits-new : (e : ℕ) → e < p .N → hits e (zoneOn z0 e) ts ≡ map (putAt e (zoneOn z0 e)) (lay e)
   hits-new e he = ts-hits e z0 he hz0
-      ∙ ap₂ _++_ (cond-true (sameSeg z0 z0) (map (putAt e (zoneOn z0 e)) (lay e)) [] (seg-self z0)) (cond-false (sameSeg g z0) (reset e (zoneOn g e) ∷ []) [] (seg-other g z0 (λ q. apart (sym q))))
+      ∙ ap₂ _++_ (cond-true (sameSeg z0 z0) (map (putAt e (zoneOn z0 e)) (lay e)) [] (seg-self z0))
+      (cond-false (sameSeg g z0) (reset e (zoneOn g e) ∷ []) [] (seg-other g z0 (λ q. apart (sym q))))
       ∙ append-nil (map (putAt e (zoneOn z0 e)) (lay e))
 
   hits-old : (e : ℕ) → e < p .N → hits e (zoneOn g e) ts ≡ reset e (zoneOn g e) ∷ []
   hits-old e he =
-      ts-hits e g he hg ∙ ap₂ _++_ (cond-false (sameSeg z0 g) (map (putAt e (zoneOn z0 e)) (lay e)) [] (seg-other z0 g apart)) (cond-true (sameSeg g g) (reset e (zoneOn g e) ∷ []) [] (seg-self g))
+      ts-hits e g he hg ∙ ap₂ _++_ (cond-false (sameSeg z0 g) (map (putAt e (zoneOn z0 e)) (lay e)) [] (seg-other z0 g apart))
+      (cond-true (sameSeg g g) (reset e (zoneOn g e) ∷ []) [] (seg-self g))
 
   hits-else : (e : ℕ) (y : Seg) → e < p .N → Named p y → (z0 ≡ y → ⊥) → (g ≡ y → ⊥) → hits e (zoneOn y e) ts ≡ []
   hits-else e y he hy a b =
-      ts-hits e y he hy ∙ ap₂ _++_ (cond-false (sameSeg z0 y) (map (putAt e (zoneOn z0 e)) (lay e)) [] (seg-other z0 y a)) (cond-false (sameSeg g y) (reset e (zoneOn g e) ∷ []) [] (seg-other g y b))
+      ts-hits e y he hy ∙ ap₂ _++_ (cond-false (sameSeg z0 y) (map (putAt e (zoneOn z0 e)) (lay e)) [] (seg-other z0 y a))
+      (cond-false (sameSeg g y) (reset e (zoneOn g e) ∷ []) [] (seg-other g y b))
 
   lay-count : (e : ℕ) → length (lay e) ≡ 1 + c
   unfolding lay
@@ -548,7 +553,8 @@ module _ (p : Params) (r : Ranged p) (v : View) (sh : Shaped p v) (acc : Accepte
         low d z hd hz (no a) (no b) = subst (λ (n : ℕ). n ≤ capacity p) (zones-pointer p r va vc z (same-else z hz a b) d hd) (drop-tidy p r v sh acc .pointer-low d z hd hz)
 
         tog : (d : ℕ) (z : Seg) → d < p .N → Named p z → Dec (z0 ≡ z) → Dec (g ≡ z) → eqb (pointerAt vc d (zoneOn z d)) 0 ≡ eqb (pointerAt vc 0 (zoneOn z 0)) 0
-        tog d z hd hz (yes a) b = subst (λ (n : Seg). eqb (pointerAt vc d (zoneOn n d)) 0 ≡ eqb (pointerAt vc 0 (zoneOn n 0)) 0) a (ap (λ (n : ℕ). eqb n 0) (new-pointer d hd ∙ sym (new-pointer 0 h0)))
+        tog d z hd hz (yes a) b =
+            subst (λ (n : Seg). eqb (pointerAt vc d (zoneOn n d)) 0 ≡ eqb (pointerAt vc 0 (zoneOn n 0)) 0) a (ap (λ (n : ℕ). eqb n 0) (new-pointer d hd ∙ sym (new-pointer 0 h0)))
         tog d z hd hz (no a) (yes b) =
             subst (λ (n : Seg). eqb (pointerAt vc d (zoneOn n d)) 0 ≡ eqb (pointerAt vc 0 (zoneOn n 0)) 0) b (ap (λ (n : ℕ). eqb n 0) (old-pointer d hd ∙ sym (old-pointer 0 h0)))
         tog d z hd hz (no a) (no b) =

@@ -167,7 +167,8 @@ module _ (p : Params) (v : View) (gone : ℕ) (g : Seg) where
       (λ i k. ne-eqb (getD rs i (mkRec 0 0 0) .stripe) s (λ x. f i k (ap (λ (r : Rec). r .stripe) (sym (a i (omega arith))) ∙ x)))
 
   pub no-chunk : (d s : ℕ) → d < p .N → isIn gone d ≡ false
-      → ((o : ℕ) → o < dataStored p (zoneAt v d (zoneOn g d)) → recordIn p (sealedIn p v gone g) (zoneAt v d (zoneOn g d)) o .stripe ≡ s → ⊥) → hasChunk (segmentOf p v gone g) s d ≡ false
+      → ((o : ℕ) → o < dataStored p (zoneAt v d (zoneOn g d)) → recordIn p (sealedIn p v gone g) (zoneAt v d (zoneOn g d)) o .stripe ≡ s → ⊥)
+      → hasChunk (segmentOf p v gone g) s d ≡ false
   no-chunk d s h q f = not-so (hasChunk (segmentOf p v gone g) s d)
       (λ c. let k = chunk-at d s h q c in f (offsetOn (segmentOf p v gone g) d s) (k .stored-there) (k .its-stripe))
 

@@ -138,7 +138,8 @@ module _ (p : Params) (r : Ranged p) (v : View) (gone : ℕ) (groups : InGroups 
   hz : Named p g
   hz = remaining-low p v gone g hg
 
-  entry-is : (o : ℕ) → o < dataStored p (zoneAt v d (zoneOn g d)) → getD table (compactAt p d (zoneOn g d) o) 0 ≡ compactEntry p (recordIn p (sealedIn p v gone g) (zoneAt v d (zoneOn g d)) o .stripe)
+  entry-is : (o : ℕ) → o < dataStored p (zoneAt v d (zoneOn g d))
+      → getD table (compactAt p d (zoneOn g d) o) 0 ≡ compactEntry p (recordIn p (sealedIn p v gone g) (zoneAt v d (zoneOn g d)) o .stripe)
   entry-is o h =
       let e : rowAt p v gone d (zoneOn g d) ≡ recordsIn p (sealedIn p v gone g) (zoneAt v d (zoneOn g d)) =
       row-seg p v gone d g hz ∙ cond-true (remains p v gone g) (recsOn (segmentOf p v gone g) d) [] (remaining-in p v gone g hg .1) ∙ recs-here p v gone g d hd pr in

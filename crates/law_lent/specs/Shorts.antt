@@ -71,7 +71,8 @@ module _ (p : Params) (k : Disk) (m : Memory) where
       call-refused p (storeDisk p) n k m b (firstRefusal (writeChecks p false v m a b)) (writePlan p v m a b) (shortAnswer (inRange p))
       (short-rules (inRange p) (drop 2 (writeChecks p false v m a b)))
 
-  pub write-keeps : (a : ℕ) (b : List ℕ) (n : ℕ) → isRefused (callDisk p k m (write a b n) .answer) ≡ true → callDisk p k m (write a b n) ≡ mkAfter (callDisk p k m (write a b n) .answer) k m b
+  pub write-keeps : (a : ℕ) (b : List ℕ) (n : ℕ) → isRefused (callDisk p k m (write a b n) .answer) ≡ true
+      → callDisk p k m (write a b n) ≡ mkAfter (callDisk p k m (write a b n) .answer) k m b
   unfolding callDisk callOn storeCount lentBlock verdict writeVerdict writePlan isRefused kind
   write-keeps a b n = refused-keeps p (storeDisk p) n k m b (firstRefusal (writeChecks p (lentOk p k m) v m a b)) (writePlan p v m a b) refl
 

@@ -87,7 +87,8 @@ module _ (p : Params) (r : Ranged p) (q : Zone) (k : ZoneOk p q) (e : q .pointer
         as! blk (getD-footer p r (sparesIn p q) x (spares-long p r q k) (subst (λ (n : ℕ). x < n) (sym (spares-count p r q k)) h) ∙ spare-at p r q k x h)
       where
         as! : getD (blocksOf (drop (1 + p .S) (q2 .blocks))) (x / perFooter p) [] ≡ footerBlock p (sparesIn p q) (x / perFooter p)
-            → part (spareLen * (x % perFooter p)) spareLen (footerBlock p (sparesIn p q) (x / perFooter p)) ≡ getD (q .blocks) (1 + x) noChunk .spare → recordIn p true q2 x ≡ recordIn p false q x
+            → part (spareLen * (x % perFooter p)) spareLen (footerBlock p (sparesIn p q) (x / perFooter p)) ≡ getD (q .blocks) (1 + x) noChunk .spare
+            → recordIn p true q2 x ≡ recordIn p false q x
         as! a b = unfold recordIn footerRecord in ap recordOf (ap (part (spareLen * (x % perFooter p)) spareLen) a ∙ b)
 
     -- and there are as many

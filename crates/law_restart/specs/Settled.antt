@@ -85,7 +85,8 @@ module _ (p : Params) (r : Ranged p) (v : View) (sh : Shaped p v) (acc : Accepte
   fine-none : UsedGood p va
   fine-none y hy q = let k = sym (drop-used p r v sh acc y hy) ∙ q in as-found va y hy k (drop-same p r v sh acc y hy k)
 
-  module _ (g : Seg) (hg : Named p g) (kg : keeps! g ≡ true) (ng : sealedIn p v 0 g ≡ false) (oth : (y : Seg) → Named p y → keeps! y ≡ true → (y ≡ g → ⊥) → sealedIn p v 0 y ≡ true) where
+  module _ (g : Seg) (hg : Named p g) (kg : keeps! g ≡ true) (ng : sealedIn p v 0 g ≡ false)
+      (oth : (y : Seg) → Named p y → keeps! y ≡ true → (y ≡ g → ⊥) → sealedIn p v 0 y ≡ true) where
     abbrev x : Segment
     x = segmentOf p v 0 g
 
@@ -113,7 +114,8 @@ module _ (p : Params) (r : Ranged p) (v : View) (sh : Shaped p v) (acc : Accepte
       same-records : (d : ℕ) → d < p .N → recordsIn p (sealedIn p vb 0 g) (zoneAt vb d (zoneOn g d)) ≡ recordsIn p (sealedIn p v 0 g) (zoneAt v d (zoneOn g d))
       same-records d hd =
           ap₂ (recordsIn p) sealed-b (b-zone p r v sh acc g hg kg ng oth wh d hd)
-          ∙ records-footed p r (zoneAt v d (zoneOn g d)) (sh .zone-ok d (zoneOn g d) hd (zone-on-lt p g d hg)) (has-pointer p r v sh acc g hg kg ng oth wh d hd) (footer-faultless d hd) d (zoneOn g d)
+          ∙ records-footed p r (zoneAt v d (zoneOn g d)) (sh .zone-ok d (zoneOn g d) hd (zone-on-lt p g d hg)) (has-pointer p r v sh acc g hg kg ng oth wh d hd) (footer-faultless d hd) d
+          (zoneOn g d)
           ∙ ap (λ (w : Bool). recordsIn p w (zoneAt v d (zoneOn g d))) (sym ng)
 
       fine-footers : UsedGood p vb

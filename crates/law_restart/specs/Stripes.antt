@@ -113,7 +113,8 @@ good-at p w q d o h e =
     ∙ none-in (storedBad p d) (recordsIn p w q) e (getD (recordsIn p w q) o (mkRec 0 0 0)) (in-getD (recordsIn p w q) o (mkRec 0 0 0) (subst (λ (n : ℕ). o < n) (sym (length-records p w q)) h))
 
 -- a data chunk that is not bad, under another stripe number
-pub moved-good : (p : Params) (d e : ℕ) (y z : Rec) → isData p (y .stripe) d ≡ true → storedBad p d y ≡ false → z .address ≡ y .address → z .stamp ≡ y .stamp → storedBad p e z ≡ false
+pub moved-good : (p : Params) (d e : ℕ) (y z : Rec) → isData p (y .stripe) d ≡ true → storedBad p d y ≡ false → z .address ≡ y .address → z .stamp ≡ y .stamp
+    → storedBad p e z ≡ false
 unfolding storedBad
 moved-good p d e y z i q a t =
     and-false-right (isData p (z .stripe) e) (badRec p z) (same ∙ sym (ap (λ (b : Bool). b && badRec p y) i) ∙ q)

@@ -29,7 +29,8 @@ pub fn lent_ok(
     inflight: &[u8],
 ) -> bool
     requires { ⌜ inRange p ≡ true ⌝ }
-    ensures { λ r. ⌜ ((st : StateOf) → r ≡ lentOk p (mkDisk (now (image .entry)) (now (pointers .entry))) (mkMemory st (now (addresses .entry)) (now (compact .entry)) (now (inflight .entry)))) ⌝ }
+    ensures { λ r. ⌜ ((st : StateOf) → r ≡ lentOk p (mkDisk (now (image .entry)) (now (pointers .entry)))
+        (mkMemory st (now (addresses .entry)) (now (compact .entry)) (now (inflight .entry)))) ⌝ }
 {
     if image.len() != disk_shape::image_len(p) {
         return false;

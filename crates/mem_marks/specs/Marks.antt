@@ -111,7 +111,8 @@ turned tb n ms₀ ms ms′ first end fits so e q low high = go (decLe first t) (
     t = placeAt tb n
 
     more : (b : Bool) → eqb q t ≡ b → (b || (isPointed tb n q || isMarked ms₀ (q - first))) ≡ (isPointed tb (n + 1) q || isMarked ms₀ (q - first))
-    more b f = swap b (isPointed tb n q) (isMarked ms₀ (q - first)) ∙ ap (λ (x : Bool). x || isMarked ms₀ (q - first)) (ap (λ (x : Bool). isPointed tb n q || x) (sym f) ∙ sym (pointed-more tb n q))
+    more b f =
+        swap b (isPointed tb n q) (isMarked ms₀ (q - first)) ∙ ap (λ (x : Bool). x || isMarked ms₀ (q - first)) (ap (λ (x : Bool). isPointed tb n q || x) (sym f) ∙ sym (pointed-more tb n q))
       where
         swap : (x y z : Bool) → (x || (y || z)) ≡ ((y || x) || z)
         swap true true z = refl

@@ -53,7 +53,8 @@ fn mark_place(marks: &mut [u8], first: usize, end: usize, q: usize) -> usize
 // Marks the places of the first n addresses; how many of these have one at end or above.
 fn mark_places(addresses: &[u8], n: usize, marks: &mut [u8], first: usize, end: usize) -> usize
     requires { ⌜ (4 * n ≤ length (now addresses)) × (first ≤ end) × (end - first ≤ 8 * length (now marks)) ⌝ }
-    ensures { λ _. ⌜ ((q : ℕ) → first ≤ q → q < end → isMarked (now (marks .exit)) (q - first) ≡ (isPointed (now (addresses .entry)) n q || isMarked (now (marks .entry)) (q - first))) ⌝ }
+    ensures { λ _. ⌜ ((q : ℕ) → first ≤ q → q < end → isMarked (now (marks .exit)) (q - first) ≡
+        (isPointed (now (addresses .entry)) n q || isMarked (now (marks .entry)) (q - first))) ⌝ }
     ensures { λ r. ⌜ r ≡ countPlaces (now (addresses .entry)) n end 4294967295 ⌝ }
 {
     let mut k = 0;

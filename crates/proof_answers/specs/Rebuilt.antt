@@ -88,7 +88,8 @@ module _ (p : Params) (r : Ranged p) (v : View) (fair : (d z : ℕ) → d < p .N
     -- 01, Rebuild: header, the counted chunks and the footers fill at most the zone
     rebuilt-few : length (rebuiltZone p d x) ≤ capacity p
     rebuilt-few =
-        let a : length (map (putPiece d (zoneOn g d)) pieces) ≡ length (counted p gone x) = length-map pieces (putPiece d (zoneOn g d)) ∙ length-map (counted p gone x) (λ s. pieceOf p gone x s d) in
+        let a : length (map (putPiece d (zoneOn g d)) pieces) ≡ length (counted p gone x) = length-map pieces (putPiece d (zoneOn g d))
+        ∙ length-map (counted p gone x) (λ s. pieceOf p gone x s d) in
         let b = counted-low p gone x in
         let c = end (x .full) in
         let e = length-append (map (putPiece d (zoneOn g d)) pieces) (cond (x .full) feet []) in

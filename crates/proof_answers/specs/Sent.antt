@@ -159,8 +159,10 @@ module _ (p : Params) (r : Ranged p) (v : View) (sized : Sized p v) (fair : (d z
   chunk-hit e y = refl
 
   -- the chunk, then stores of which only those of the open segment matter
-  land-rises : (ts : List Store) → ((e y : ℕ) → e < p .N → y < p .Z → (zoneOn g e ≡ y → ⊥) → hits e y ts ≡ []) → pointerAt v d (zoneOn g d) + 1 + length (hits d (zoneOn g d) ts) ≤ capacity p
-      → ((e : ℕ) → e < p .N → (d ≡ e → ⊥) → Rises p (pointerAt v e (zoneOn g e)) (hits e (zoneOn g e) ts)) → (e y : ℕ) → e < p .N → y < p .Z → Rises p (pointerAt v e y) (hits e y (chunk ∷ ts))
+  land-rises : (ts : List Store) → ((e y : ℕ) → e < p .N → y < p .Z → (zoneOn g e ≡ y → ⊥) → hits e y ts ≡ [])
+      → pointerAt v d (zoneOn g d) + 1 + length (hits d (zoneOn g d) ts) ≤ capacity p
+      → ((e : ℕ) → e < p .N → (d ≡ e → ⊥) → Rises p (pointerAt v e (zoneOn g e)) (hits e (zoneOn g e) ts)) → (e y : ℕ) → e < p .N → y < p .Z
+      → Rises p (pointerAt v e y) (hits e y (chunk ∷ ts))
   land-rises ts off here there e y he hy = go (ℕ-discrete (zoneOn g e) y) (ℕ-discrete d e)
     where
       first : (e y : ℕ) → hits e y (chunk ∷ ts) ≡ consIf (hitsAt e y chunk) chunk (hits e y ts)

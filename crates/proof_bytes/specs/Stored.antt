@@ -39,7 +39,8 @@ use Rattle.law_drives.specs.Image.{bytes-part}
 use Rattle.law_drives.specs.Laid.{bytes-nil, bytes-zeros, bytes-header, bytes-zeroSpare, bytes-record, bytes-footer, in-take, in-drop}
 use Rattle.law_drives.specs.Members.{In, map-in, getD-in, keep-in}
 use Rattle.law_drives.specs.Zones.{Bytes}
-use Rattle.proof_bytes.specs.Images.{bytes-splice, get-map, BytesOfZone, ViewBytes, no-zone-bytes, StoreBytes, StoresBytes, store-view, stores-bytes-none, stores-bytes-cons, stores-bytes-append}
+use Rattle.proof_bytes.specs.Images.{bytes-splice, get-map, BytesOfZone, ViewBytes, no-zone-bytes, StoreBytes, StoresBytes, store-view, stores-bytes-none, stores-bytes-cons}
+use Rattle.proof_bytes.specs.Images.{stores-bytes-append}
 use Rattle.proof_bytes.specs.Images.{stores-cond, stores-map, stores-flat}
 
 -- ---- headers, footers, resets

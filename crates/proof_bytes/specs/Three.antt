@@ -17,7 +17,8 @@ use Rattle.spec.specs.Demands.{areBytes, ReadOk, SameAs, RestartOk, ClaimOf, Al
 use Rattle.spec.specs.Drives.{Disk, mkDisk, pointerByte}
 use Rattle.spec.specs.Engine.{Call, lentBlock, lentOk, callDisk, Lent, Left, lentDisk, lentMemory, callBytes}
 use Rattle.spec.specs.Engine.Call.{read, fill, restart}
-use Rattle.spec.specs.History.{World, mkWorld, Event, callOf, restartOf, inOrder, swapped, before, happens, onlyIf, orderly, restartIn, worldAfter, sentAfter, untrustedAfter, Mark, Hist, marked, step}
+use Rattle.spec.specs.History.{World, mkWorld, Event, callOf, restartOf, inOrder, swapped, before, happens, onlyIf, orderly, restartIn, worldAfter, sentAfter, untrustedAfter, Mark, Hist, marked}
+use Rattle.spec.specs.History.{step}
 use Rattle.spec.specs.History.{began, namesAll, allowed, seenFilled, seenAt}
 use Rattle.spec.specs.History.Event.{calls as calls′, boots as boots′}
 use Rattle.spec.specs.History.Seen.{unwritten, got, failed}

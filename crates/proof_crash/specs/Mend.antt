@@ -101,7 +101,8 @@ module _ (p : Params) (h : Ranged p) (s : Hist) (n : ℕ) (x : Stands p h s n) (
       forgot : Reached p h v₀ (map forget (s .sends)) n (x .g) (x .a) (x .c) (x .m) (x .T)
       forgot = reached-forget p h v₀ (s .sends) n (x .g) (x .a) (x .c) (x .m) (x .T) (x .reached)
 
-  done? : (k : Disk) → Whole p k → Linked p h (seen p k) (withUn (withUn (x .g) (isIn (named d))) (isIn 0)) (x .a) (x .c) ro → Holds p h (hist (mkWorld k (s .world .memory)) (s .sends) 0 (s .mark))
+  done? : (k : Disk) → Whole p k → Linked p h (seen p k) (withUn (withUn (x .g) (isIn (named d))) (isIn 0)) (x .a) (x .c) ro
+      → Holds p h (hist (mkWorld k (s .world .memory)) (s .sends) 0 (s .mark))
   done? k wk l = rests n (record {
     g = withUn (withUn (x .g) (isIn (named d))) (isIn 0);
     a = x .a;
@@ -152,7 +153,8 @@ module _ (p : Params) (h : Ranged p) (s : Hist) (n : ℕ) (x : Stands p h s n) w
   as-it-was : StateQuiet p h (x .g .un) (s .world .memory .state) → (c : Call) → step p s (calls c) ≡ s → Holds p h (step p s (calls c))
   as-it-was q c e = subst (Holds p h) (sym e) (rests n x q)
 
-  rebuild-any : (d : ℕ) → d < p .N → s .world .memory .state .missing ≡ named d → Choice (parOf p h) (x .g .un) (isIn (named d)) → (e c : ℕ) → Holds p h (step p s (calls (rebuild e c)))
+  rebuild-any : (d : ℕ) → d < p .N → s .world .memory .state .missing ≡ named d → Choice (parOf p h) (x .g .un) (isIn (named d)) → (e c : ℕ)
+      → Holds p h (step p s (calls (rebuild e c)))
   rebuild-any d dl is ch e c = go (firstRefusal (decides p long (seen p (s .world .disk)) (s .world .memory) (rebuild e c) .checks)) refl
     where
       go : (o : Opt Answer) → firstRefusal (decides p long (seen p (s .world .disk)) (s .world .memory) (rebuild e c) .checks) ≡ o → Holds p h (step p s (calls (rebuild e c)))

@@ -50,7 +50,8 @@ module _ (p : Params) (h : Ranged p) (s : Hist) (n : ℕ) (x : Stands p h s n) w
   v₀ = seen p (s .world .disk)
 
   -- ---- a drive is named missing
-  module _ (k : Disk) (wk : Whole p k) (mem : Memory) (d c : ℕ) (dl : d < p .N) (same : (e y : ℕ) → e < p .N → isIn (named d) e ≡ false → zoneAt (seen p k) e y ≡ zoneAt (seen p (s .world .disk)) e y)
+  module _ (k : Disk) (wk : Whole p k) (mem : Memory) (d c : ℕ) (dl : d < p .N)
+      (same : (e y : ℕ) → e < p .N → isIn (named d) e ≡ false → zoneAt (seen p k) e y ≡ zoneAt (seen p (s .world .disk)) e y)
       (us : namesAll (s .untrusted) (some d) ≡ true) (ord : inOrder p (mkWorld k mem) d ≡ true) (al : isRefusedAs 6 (callDisk p k mem (restart d c) .answer) ≡ false) where
     choice-missed : Choice (parOf p h) (x .g .un) (isIn (named d))
     choice-missed = named-choice p h (s .untrusted) d (x .g .un) (x .trust) us

@@ -75,7 +75,9 @@ module _ (q : ℕ) (G : ℕ → Val) (base : ℕ → ℕ) (x : ℕ) where
     where
       more : (f n ≡ base x) ⊎ ((d : ℕ) × (d < n) × (d ≢ q) × (G d .addr ≡ x) × (f n ≡ G d .stamp)) → f (suc n) ≡ f n
           → (f (suc n) ≡ base x) ⊎ ((d : ℕ) × (d < suc n) × (d ≢ q) × (G d .addr ≡ x) × (f (suc n) ≡ G d .stamp))
-      more w e = ⊎-elim (λ (k : f n ≡ base x). inl (e ∙ k)) (λ (k : (d : ℕ) × (d < n) × (d ≢ q) × (G d .addr ≡ x) × (f n ≡ G d .stamp)). inr (k .0, omega (arith, k .1), k .2, k .3, e ∙ k .4)) w
+      more w e =
+          ⊎-elim (λ (k : f n ≡ base x). inl (e ∙ k)) (λ (k : (d : ℕ) × (d < n) × (d ≢ q) × (G d .addr ≡ x) × (f n ≡ G d .stamp)). inr
+          (k .0, omega (arith, k .1), k .2, k .3, e ∙ k .4)) w
 
       go : (b : Bool) → hit n ≡ b → Dec (f n ≤ G n .stamp) → (f n ≡ base x) ⊎ ((d : ℕ) × (d < n) × (d ≢ q) × (G d .addr ≡ x) × (f n ≡ G d .stamp))
           → (f (suc n) ≡ base x) ⊎ ((d : ℕ) × (d < suc n) × (d ≢ q) × (G d .addr ≡ x) × (f (suc n) ≡ G d .stamp))

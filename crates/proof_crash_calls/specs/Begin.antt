@@ -136,7 +136,8 @@ module _ (p : Params) (h : Ranged p) (g : Ghost) (v : ItemView) (st : State) (fl
     busy = λ q e. (s, setAt-here (M .fly) s true);
   }
     where
-      once : (j l : ℕ) → j < 8 → l < 8 → (j ≡ i) ⊎ (inUse st j ≡ true) → (l ≡ i) ⊎ (inUse st l ≡ true) → stripeIn (beginStripe st i) j ≡ stripeIn (beginStripe st i) l → j ≡ l
+      once : (j l : ℕ) → j < 8 → l < 8 → (j ≡ i) ⊎ (inUse st j ≡ true) → (l ≡ i) ⊎ (inUse st l ≡ true)
+          → stripeIn (beginStripe st i) j ≡ stripeIn (beginStripe st i) l → j ≡ l
       once j l jl ll (inl a) (inl b) e = a ∙ sym b
       once j l jl ll (inl a) (inr b) e = absurd (let z : ⊥ = omega (arith, older l ll b, sym number ∙ ap (stripeIn (beginStripe st i)) (sym a) ∙ e ∙ numbers l b) in z)
       once j l jl ll (inr a) (inl b) e = absurd (let z : ⊥ = omega (arith, older j jl a, sym (numbers j a) ∙ e ∙ ap (stripeIn (beginStripe st i)) b ∙ number) in z)
@@ -165,7 +166,8 @@ module _ (p : Params) (h : Ranged p) (g : Ghost) (v : ItemView) (st : State) (fl
         filled = omega (arith, S .filled, q .filled);
         write = S .write (q .k) ∙ q .write;
         val =
-            ap (λ (F : ℕ → Val). F (dataDrive p y (q .k))) (setAt-else (M .F) s (unfilled (parOf p h) s) y (let z : y ≢ s = omega (arith, older (q .i) (q .lt) (q .inUse?), q .number) in z)) ∙ q .val;
+            ap (λ (F : ℕ → Val). F (dataDrive p y (q .k))) (setAt-else (M .F) s (unfilled (parOf p h) s) y
+            (let z : y ≢ s = omega (arith, older (q .i) (q .lt) (q .inUse?), q .number) in z)) ∙ q .val;
       }
 
   -- the others as they were

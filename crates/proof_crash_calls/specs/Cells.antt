@@ -118,7 +118,8 @@ module _ (st : State) (L : RowsLong st) (i : ℕ) (il : i < 8) (a t w : ℕ) (kl
   pub add-write-new : w ≡ 1 → isWrite (addEntry st i a t w) i (filledIn st i) ≡ true
   add-write-new e =
       writes-now (filledIn st i) ∙ ap (λ (n : ℕ). isIn (bitOr (getD (st .writes) i 0) n) (filledIn st i)) (ap (λ (n : ℕ). n * only (filledIn st i)) e ∙ one-mul (only (filledIn st i)))
-      ∙ isIn-with (getD (st .writes) i 0) (filledIn st i) (filledIn st i) kl kl ∙ or-1 (eqb (filledIn st i) (filledIn st i)) (isIn (getD (st .writes) i 0) (filledIn st i)) (eqb-self (filledIn st i))
+      ∙ isIn-with (getD (st .writes) i 0) (filledIn st i) (filledIn st i) kl kl
+      ∙ or-1 (eqb (filledIn st i) (filledIn st i)) (isIn (getD (st .writes) i 0) (filledIn st i)) (eqb-self (filledIn st i))
 
 -- ---- a stripe begun
 

@@ -88,7 +88,8 @@ module _ (p : Params) (h : Ranged p) (g : Ghost) (u : View) (k : OnDrives p h g 
   floor-is : (a : ℕ) → (base′ a ≡ g .base a) ⊎ ((j : ℕ) × (j < dataCount p) × (F (dataDrive p s j) .addr ≡ a) × (base′ a ≡ F (dataDrive p s j) .stamp))
   floor-is a = ⊎-elim (λ e. inl e)
       (λ (w : (d : ℕ) × (d < p .N) × (d ≢ parityDrive p s) × (F d .addr ≡ a) × (base′ a ≡ F d .stamp)).
-      ⊎-elim (λ (c : (j : ℕ) × (j < dataCount p) × (w .0 ≡ dataDrive p s j)). inr (c .0, c .1, ap (λ (x : ℕ). F x .addr) (sym (c .2)) ∙ w .3, w .4 ∙ ap (λ (x : ℕ). F x .stamp) (c .2)))
+      ⊎-elim (λ (c : (j : ℕ) × (j < dataCount p) × (w .0 ≡ dataDrive p s j)). inr
+      (c .0, c .1, ap (λ (x : ℕ). F x .addr) (sym (c .2)) ∙ w .3, w .4 ∙ ap (λ (x : ℕ). F x .stamp) (c .2)))
       (λ (c : w .0 ≡ parityDrive p s). absurd (w .2 c)) (drive-cases p s (w .0) (w .1))) (raise-is (parityDrive p s) F (g .base) a (p .N))
 
   -- below a stamp that the old floor and all positions of the address are below
@@ -107,7 +108,8 @@ module _ (p : Params) (h : Ranged p) (g : Ghost) (u : View) (k : OnDrives p h g 
   -- ---- the entries
 
   -- the place of a position
-  new-entry : (j : ℕ) → j < dataCount p → (a : ℕ) → F (dataDrive p s j) .addr ≡ a → base′ a ≤ F (dataDrive p s j) .stamp → Entry p h g′ (itemsIn p u) (landedCand p u z st i j .place) a
+  new-entry : (j : ℕ) → j < dataCount p → (a : ℕ) → F (dataDrive p s j) .addr ≡ a → base′ a ≤ F (dataDrive p s j) .stamp
+      → Entry p h g′ (itemsIn p u) (landedCand p u z st i j .place) a
   new-entry j l a e b = subst (λ (q : ℕ). Entry p h g′ (itemsIn p u) q a) (sym (landed-place j)) (record {
     s = s;
     x = F d;

@@ -82,7 +82,8 @@ module _ (p : Params) (h : Ranged p) (g : Ghost) (v : ItemView) (a : List Val) (
   σ M = mst g v a c (run M)
 
   -- one position padded
-  pad-one : (st : State) (fl : List ℕ) (M : Mem) → Rel p v st fl M → Inv (parOf p h) (σ M) → length fl ≡ inflightLen p → (i : ℕ) → i < 8 → inUse st i ≡ true → filledIn st i < dataCount p
+  pad-one : (st : State) (fl : List ℕ) (M : Mem) → Rel p v st fl M → Inv (parOf p h) (σ M) → length fl ≡ inflightLen p → (i : ℕ) → i < 8 → inUse st i ≡ true
+      → filledIn st i < dataCount p
       → FillWithin p h g v a c st (placed p st fl i paddingAddress 0 0 (replicate (p .B) 0) .state) (placed p st fl i paddingAddress 0 0 (replicate (p .B) 0) .inflight) M
   pad-one st fl M R I long i il u kl = record {
     M′ = flown M s (M .F s) r (M .next) (M .stamp);

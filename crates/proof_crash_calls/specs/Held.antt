@@ -38,7 +38,9 @@ grown-then P v v′ v″ a b = record { fwd = λ e y j i l o. b .fwd e y j i l (
 
 pub grown-put : (P : Par) (v : ItemView) (d z : ℕ) (c : Item) → 0 < length (v d z) → Grown P v (withItem v d z c)
 grown-put P v d z c b = record {
-  fwd = λ e y j t l. each-put v d z c (λ (e y : ℕ) (l : List Item). Off (v e y) j t → Off l j t) (λ q. (omega (arith, q .0, length-snoc (v d z) c), off-left (v d z) c j (q .0) ∙ q .1)) e y (λ q. q);
+  fwd =
+      λ e y j t l. each-put v d z c (λ (e y : ℕ) (l : List Item). Off (v e y) j t → Off l j t)
+      (λ q. (omega (arith, q .0, length-snoc (v d z) c), off-left (v d z) c j (q .0) ∙ q .1)) e y (λ q. q);
   back = λ e y l. Put·len-back v d z c b e y;
 }
 
@@ -121,4 +123,5 @@ pub table-to :
     → TableOk p h g v tb
     → TableOk p h g′ v′ tb
 table-to p h g g′ v v′ tb e f t a l =
-    ⊎-elim (λ (w : (placeAt tb a ≡ neverPlace) × (g .base a ≡ 0)). inl (w .0, ap (λ (b : ℕ → ℕ). b a) e ∙ w .1)) (λ (w : Entry p h g v (placeAt tb a) a). inr (f (placeAt tb a) a w)) (t a l)
+    ⊎-elim (λ (w : (placeAt tb a ≡ neverPlace) × (g .base a ≡ 0)). inl (w .0, ap (λ (b : ℕ → ℕ). b a) e ∙ w .1))
+    (λ (w : Entry p h g v (placeAt tb a) a). inr (f (placeAt tb a) a w)) (t a l)

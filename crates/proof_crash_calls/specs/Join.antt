@@ -89,7 +89,8 @@ sent-refused c a ss e = cond-false (endsRun a) (map forget ss) (ackedBy c a ss +
         (ne-eqb (kind a) 3 (let b : kind a ≢ 3 = omega (arith, refused-kind a e) in b))
         ∙ (unfold consIf in append-nil ss))
     go (land d s n) = unfold ackedBy sentBy in (
-        ap (λ (t : Bool). cond (t && ltb 0 (getD (values a) 0 0)) (map (acknowledge s) ss) ss ++ []) (ne-eqb (kind a) 4 (let b : kind a ≢ 4 = omega (arith, refused-kind a e) in b)) ∙ append-nil ss)
+        ap (λ (t : Bool). cond (t && ltb 0 (getD (values a) 0 0)) (map (acknowledge s) ss) ss ++ []) (ne-eqb (kind a) 4 (let b : kind a ≢ 4 = omega (arith, refused-kind a e) in b))
+        ∙ append-nil ss)
     go (close n) = unfold ackedBy sentBy in append-nil ss
     go (reclaim n) = unfold ackedBy sentBy in append-nil ss
     go (read x) = unfold ackedBy sentBy in append-nil ss

@@ -261,7 +261,8 @@ module _ (p : Params) (h : Ranged p) (v : View) (m : Memory) (ss : List Send) (n
         let b : (eqb (parityDrive p s) d || isIn (landedIn st i) (parityDrive p s)) ≡ true =
         sym (mask-bit p h v₀ st fl M (l .rel) d s i o (A .drive) (A .low) (A .used?) (A .number) oe wide (parityDrive p s) q)
         ∙ mask-full p h v₀ st fl M (l .rel) d s i o (A .drive) (A .low) (A .used?) (A .number) oe wide done′ (parityDrive p s) q in
-        let r : readyAt p s (filledIn st i) (parityDrive p s) ≡ true = ⊎-elim (λ (e : eqb (parityDrive p s) d ≡ true). ap (readyAt p s (filledIn st i)) (eqb-true (parityDrive p s) d e) ∙ A .may)
+        let r : readyAt p s (filledIn st i) (parityDrive p s) ≡ true = ⊎-elim
+        (λ (e : eqb (parityDrive p s) d ≡ true). ap (readyAt p s (filledIn st i)) (eqb-true (parityDrive p s) d e) ∙ A .may)
         (λ (e : isIn (landedIn st i) (parityDrive p s) ≡ true). old q e) (or-either (eqb (parityDrive p s) d) (isIn (landedIn st i) (parityDrive p s)) b) in
         let f : dataCount p ≤ filledIn st i = leb-true (dataCount p) (filledIn st i) (sym (ready-parity p s (filledIn st i)) ∙ r) in
         omega (arith, f, filled-most i (A .low) (A .used?))
@@ -358,7 +359,8 @@ module _ (p : Params) (h : Ranged p) (v : View) (m : Memory) (ss : List Send) (n
             (λ j b q. (b, q, none-waits (let x : writesIn st i ≤ 0 = ltb-false 0 (writesIn st i) e in omega arith) j b q, refl))
 
     -- ---- another stripe begins or is in flight
-    live-done : (M .next ≡ p .S → (j : ℕ) × (j < 8) × (inUse st j ≡ true) × (j ≢ i)) → (x : Live p h (storeAll storeView (w ∷ []) v) st₂ fl tb₂ (landSends p st d s ss) n) × Later (l .g) (x .g)
+    live-done : (M .next ≡ p .S → (j : ℕ) × (j < 8) × (inUse st j ≡ true) × (j ≢ i)) → (x : Live p h (storeAll storeView (w ∷ []) v) st₂ fl tb₂ (landSends p st d s ss) n)
+        × Later (l .g) (x .g)
     unfolding storeAll
     live-done more = live-after p h v (m .state) (m .inflight) (m .addresses) ss n l (w ∷ []) sound₁ g₂ a₂ (l .c) (ended M s) (l .T) st₂ fl tb₂ (landSends p st d s ss) later₂ go₂
         (subst (λ (x : ItemView). Rel p x st₂ fl (ended M s)) (sym landed-items) (ended-rel p h v₀ st fl M (l .rel) d s i o (A .drive) (A .low) (A .used?) (A .number) oe wide done′ more))
@@ -444,7 +446,9 @@ module _ (p : Params) (h : Ranged p) (v : View) (m : Memory) (ss : List Send) (n
       u₃ = storeAll storeView fs u
 
       go₃ : Go (parOf p h) (mst (l .g) v₀ (l .a) (l .c) (run M)) (mst g₂ (itemsIn p u₃) a₂ (l .c) (run (ended M s))) (l .T) (l .T)
-      go₃ = go-then (parOf p h) (mst (l .g) v₀ (l .a) (l .c) (run M)) (mst g₂ (itemsIn p u) a₂ (l .c) (run (ended M s))) (mst g₂ (itemsIn p u₃) a₂ (l .c) (run (ended M s))) (l .T) (l .T) (l .T) go₂
+      go₃ =
+          go-then (parOf p h) (mst (l .g) v₀ (l .a) (l .c) (run M)) (mst g₂ (itemsIn p u) a₂ (l .c) (run (ended M s))) (mst g₂ (itemsIn p u₃) a₂ (l .c) (run (ended M s))) (l .T)
+          (l .T) (l .T) go₂
           (chain-go p h g₂ a₂ (l .c) (run (ended M s)) u fs (l .T) (chain g₂ a₂ (ended M s) .0))
 
       I₃ : Inv (parOf p h) (mst g₂ (itemsIn p u₃) a₂ (l .c) (run (ended M s)))
@@ -459,16 +463,20 @@ module _ (p : Params) (h : Ranged p) (v : View) (m : Memory) (ss : List Send) (n
 
       live-seal : (x : Live p h (storeAll storeView (w ∷ fs) v) (setClosed st₂) fl tb₂ (landSends p st d s ss) n) × Later (l .g) (x .g)
       unfolding storeAll
-      live-seal = live-after p h v (m .state) (m .inflight) (m .addresses) ss n l (w ∷ fs) sound₃ g₂ a₂ (l .c) (shut (ended M s)) (l .T) (setClosed st₂) fl tb₂ (landSends p st d s ss) later₂
-          (go-more (parOf p h) (mst (l .g) v₀ (l .a) (l .c) (run M)) (mst g₂ (itemsIn p u₃) a₂ (l .c) (run (ended M s))) (mst g₂ (itemsIn p u₃) a₂ (l .c) (run (shut (ended M s)))) (l .T) (l .T) go₃
+      live-seal =
+          live-after p h v (m .state) (m .inflight) (m .addresses) ss n l (w ∷ fs) sound₃ g₂ a₂ (l .c) (shut (ended M s)) (l .T) (setClosed st₂) fl tb₂ (landSends p st d s ss) later₂
+          (go-more (parOf p h) (mst (l .g) v₀ (l .a) (l .c) (run M)) (mst g₂ (itemsIn p u₃) a₂ (l .c) (run (ended M s)))
+          (mst g₂ (itemsIn p u₃) a₂ (l .c) (run (shut (ended M s)))) (l .T) (l .T) go₃
           (seal (mst g₂ (itemsIn p u₃) a₂ (l .c) (run (ended M s))) (ended M s) refl none-ragged
           (sealed-idle p h v₀ st fl M (l .rel) d s i o (A .drive) (A .low) (A .used?) (A .number) oe wide done′ lone)))
           (sealed-rel p h v₀ st fl M (l .rel) d s i o (A .drive) (A .low) (A .used?) (A .number) oe wide done′ (itemsIn p u₃) lone)
           logged₂
-          (λ j b q. let k : (j < length ss) × (sendAt ss j .waits ≡ true) × (sendAt ss j .stripe ≢ s) × (sendAt (landSends p st d s ss) j .stripe ≡ sendAt ss j .stripe) = still-waits j b q in
+          (λ j b q. let k : (j < length ss) × (sendAt ss j .waits ≡ true) × (sendAt ss j .stripe ≢ s)
+          × (sendAt (landSends p st d s ss) j .stripe ≡ sendAt ss j .stripe) = still-waits j b q in
           let y : Waiting p st M (l .T .log j) (sendAt ss j .stripe) = l .waits j (k .0) (k .1) .0 in
           absurd (k .2 (sym (y .number) ∙ ap (stripeIn st) (lone (y .i) (y .lt) (y .inUse?)) ∙ A .number)))
-          (omega (arith, l .reached .marked, length₂)) (λ e. l .reached .still (sym length₂ ∙ e)) (table-grown p h g₂ (itemsIn p u) (itemsIn p u₃) tb₂ (chain g₂ a₂ (ended M s) .1 .grew) table₂)
+          (omega (arith, l .reached .marked, length₂)) (λ e. l .reached .still (sym length₂ ∙ e))
+          (table-grown p h g₂ (itemsIn p u) (itemsIn p u₃) tb₂ (chain g₂ a₂ (ended M s) .1 .grew) table₂)
 
   -- ---- the plan
 

@@ -215,7 +215,8 @@ module _ (p : Params) (h : Ranged p) (v : ItemView) (st : State) (fl : List ℕ)
       serial-fits = unfold freeStripe markLanded in R .serial-fits;
       flying = λ j jl q. flying j jl (in-use-before j q);
       slot = λ j jl q. slot j jl (in-use-before j q);
-      once = λ j l jl ll q w x. R .once j l jl ll (in-use-before j q .1) (in-use-before l w .1) (sym (slots-same j (in-use-before j q .0) .number) ∙ x ∙ slots-same l (in-use-before l w .0) .number);
+      once =
+          λ j l jl ll q w x. R .once j l jl ll (in-use-before j q .1) (in-use-before l w .1) (sym (slots-same j (in-use-before j q .0) .number) ∙ x ∙ slots-same l (in-use-before l w .0) .number);
       flies = λ x q. flies x q (ℕ-discrete x s);
       whole = λ q x l w. ends q x l w (ℕ-discrete x s);
       busy = other-flies more;
@@ -225,7 +226,8 @@ module _ (p : Params) (h : Ranged p) (v : ItemView) (st : State) (fl : List ℕ)
         flying j jl (n, q) = ap (setAt (M .fly) s false) (slots-same j n .number) ∙ setAt-else (M .fly) s false (stripeIn st j) (landed-apart j jl q n) ∙ R .flying j jl q
 
         slot : (j : ℕ) → j < 8 → (j ≢ i) × (inUse st j ≡ true) → SlotOf p v′ st₂ fl z j (M .F (stripeIn st₂ j)) (M .ready (stripeIn st₂ j))
-        slot j jl (n, q) = others-landed st₂ j jl q n (slots-same j n) (M .F (stripeIn st₂ j)) (M .ready (stripeIn st₂ j)) (ap (M .F) (slots-same j n .number)) (ap (M .ready) (slots-same j n .number))
+        slot j jl (n, q) =
+            others-landed st₂ j jl q n (slots-same j n) (M .F (stripeIn st₂ j)) (M .ready (stripeIn st₂ j)) (ap (M .F) (slots-same j n .number)) (ap (M .ready) (slots-same j n .number))
 
         flies : (x : ℕ) → setAt (M .fly) s false x ≡ true → Dec (x ≡ s) → (j : ℕ) × (j < 8) × (inUse st₂ j ≡ true) × (stripeIn st₂ j ≡ x)
         flies x q (yes e) = clash q (ap (setAt (M .fly) s false) e ∙ setAt-here (M .fly) s false)

@@ -93,7 +93,8 @@ module _ (p : Params) (h : Ranged p) (v : View) (st : State) (fl tb : List ℕ) 
   -- the stores of a call, all of them
   pub live-after : (ws : List Store) → AllSound p v ws → (g′ : Ghost) (a′ : List Val) (c′ : Bool) (M′ : Mem) (T′ : Track) (st′ : State) (fl′ tb′ : List ℕ) (ss′ : List Send)
       → Later (l .g) g′ → Go (parOf p h) (mst (l .g) (itemsIn p v) (l .a) (l .c) (run (l .M))) (mst g′ (itemsIn p (storeAll storeView ws v)) a′ c′ (run M′)) (l .T) T′
-      → Rel p (itemsIn p (storeAll storeView ws v)) st′ fl′ M′ → Logged p a′ T′ ss′ → Waits p g′ st′ M′ T′ ss′ → n ≤ length ss′ → (length ss′ ≡ n → c′ ≡ false)
+      → Rel p (itemsIn p (storeAll storeView ws v)) st′ fl′ M′ → Logged p a′ T′ ss′ → Waits p g′ st′ M′ T′ ss′ → n ≤ length ss′
+      → (length ss′ ≡ n → c′ ≡ false)
       → TableOk p h g′ (itemsIn p (storeAll storeView ws v)) tb′ → (x : Live p h (storeAll storeView ws v) st′ fl′ tb′ ss′ n) × Later (l .g) (x .g)
   live-after ws sound g′ a′ c′ M′ T′ st′ fl′ tb′ ss′ lt go rel logged waits marked still table = (
     record {

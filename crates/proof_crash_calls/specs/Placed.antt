@@ -179,7 +179,8 @@ module _ (p : Params) (h : Ranged p) (st : State) (L : RowsLong st) (fl : List �
       go (no q) = ap (λ (x : List ℕ). slotBlock p x j e) (part-full q) ∙ slot-other p fl long i d b il dl bl j e jl el one
 
   pub placed-parity : suc k ≡ dataCount p → slotBlock p now i (parityDrive p s) ≡ parity (p .B) (map (slotBlock p now i) (dataDrives p s))
-  placed-parity e = subst (λ (x : List ℕ). slotBlock p x i (parityDrive p s) ≡ parity (p .B) (map (slotBlock p x i) (dataDrives p s))) (sym (parity-placed e)) (slot-parity p first first-long h i s il)
+  placed-parity e =
+      subst (λ (x : List ℕ). slotBlock p x i (parityDrive p s) ≡ parity (p .B) (map (slotBlock p x i) (dataDrives p s))) (sym (parity-placed e)) (slot-parity p first first-long h i s il)
 
   -- ---- the relation
   module _ (v : ItemView) (M : Mem) (U : ℕ → Bool) (R : RelOn p v st fl M U) (u : U i ≡ true) (G : ℕ → Val) (r : ℕ → Bool)
@@ -236,7 +237,8 @@ module _ (p : Params) (h : Ranged p) (st : State) (L : RowsLong st) (fl : List �
       busy = λ o e. (s, setAt-here (M .fly) s true);
     })
       where
-        slot : (j : ℕ) → j < 8 → U j ≡ true → Dec (j ≡ i) → SlotOf p v (addEntry st i a t w) now (M .zone) j (M′ .F (stripeIn (addEntry st i a t w) j)) (M′ .ready (stripeIn (addEntry st i a t w) j))
+        slot : (j : ℕ) → j < 8 → U j ≡ true → Dec (j ≡ i) → SlotOf p v (addEntry st i a t w) now (M .zone) j (M′ .F (stripeIn (addEntry st i a t w) j))
+            (M′ .ready (stripeIn (addEntry st i a t w) j))
         slot j jl q (yes e) = rw (e, add-number st L i il a t w k8 i, setAt-here (M .F) s G, setAt-here (M .ready) s r) slot-placed
         slot j jl q (no e) =
             rw (add-number st L i il a t w k8 j, setAt-else (M .F) s G (stripeIn st j) (filling-apart j jl q e), setAt-else (M .ready) s r (stripeIn st j) (filling-apart j jl q e))
@@ -252,7 +254,8 @@ module _ (p : Params) (h : Ranged p) (st : State) (L : RowsLong st) (fl : List �
         was x = setAt-elim (λ (y : Bool). y ≡ false → M .fly x ≡ false) (M .fly) s true x (λ e q. true≢false (sym q)) (λ e q. q)
 
     -- a write in flight stays one
-    pub placed-waits : (w ≡ 0) ⊎ (w ≡ 1) → ((j : ℕ) → j < 8 → inUse st j ≡ true → U j ≡ true) → (x : Val) (y : ℕ) → Waiting p st M x y → Waiting p (placed p st fl i a t w b .state) M′ x y
+    pub placed-waits : (w ≡ 0) ⊎ (w ≡ 1) → ((j : ℕ) → j < 8 → inUse st j ≡ true → U j ≡ true) → (x : Val) (y : ℕ) → Waiting p st M x y
+        → Waiting p (placed p st fl i a t w b .state) M′ x y
     placed-waits ww cover x y q = rw placed-state (go (ℕ-discrete (q .i) i))
       where
         go : Dec (q .i ≡ i) → Waiting p (addEntry st i a t w) M′ x y
@@ -280,7 +283,8 @@ module _ (p : Params) (h : Ranged p) (st : State) (L : RowsLong st) (fl : List �
               k = q .k;
               filled = omega (arith, S .filled, q .filled);
               write = S .write (q .k) ∙ q .write;
-              val = ap (λ (F : ℕ → Val). F (dataDrive p y (q .k))) (setAt-else (M .F) s G y (λ n. filling-apart (q .i) (q .lt) (cover (q .i) (q .lt) (q .inUse?)) e (q .number ∙ n))) ∙ q .val;
+              val =
+                  ap (λ (F : ℕ → Val). F (dataDrive p y (q .k))) (setAt-else (M .F) s G y (λ n. filling-apart (q .i) (q .lt) (cover (q .i) (q .lt) (q .inUse?)) e (q .number ∙ n))) ∙ q .val;
             }
 
     -- the eighths in use afterwards

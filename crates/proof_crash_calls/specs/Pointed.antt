@@ -29,7 +29,8 @@ use Rattle.proof_crash_items.specs.Member.{Has}
 module _ (p : Params) (tb : List ℕ) (long : length tb ≡ addressesLen p) (a q : ℕ) (al : a < p .L) where
   pub place-set : q < 256 ^ 4 → placeAt (setPlace tb a q) a ≡ q
   unfolding placeAt setPlace
-  place-set b = ap (λ (n : ℕ). beOf (part (4 * a) n (splice tb (4 * a) (toBe 4 q)))) (sym (length-toBe 4 q)) ∙ ap beOf (part-splice tb (4 * a) (toBe 4 q) (set-fits p tb a q long al)) ∙ beOf-toBe 4 q b
+  place-set b =
+      ap (λ (n : ℕ). beOf (part (4 * a) n (splice tb (4 * a) (toBe 4 q)))) (sym (length-toBe 4 q)) ∙ ap beOf (part-splice tb (4 * a) (toBe 4 q) (set-fits p tb a q long al)) ∙ beOf-toBe 4 q b
 
   pub place-other : (b : ℕ) → b < p .L → b ≢ a → placeAt (setPlace tb a q) b ≡ placeAt tb b
   unfolding placeAt setPlace
@@ -78,18 +79,21 @@ module _ (p : Params) (v : View) (tb : List ℕ) (cs : List Cand) where
   unfolding pointed one
   pointed-step c ds t = refl
 
-  pub pointed-none : (ds : List Cand) (t : List ℕ) → length t ≡ addressesLen p → (a : ℕ) → a < p .L → ((c : Cand) → Has c ds → c .address ≢ a) → placeAt (pointed p v tb cs ds t) a ≡ placeAt t a
+  pub pointed-none : (ds : List Cand) (t : List ℕ) → length t ≡ addressesLen p → (a : ℕ) → a < p .L → ((c : Cand) → Has c ds → c .address ≢ a)
+      → placeAt (pointed p v tb cs ds t) a ≡ placeAt t a
   pointed-none [] t e a al n = unfold pointed in refl
   pointed-none (c ∷ ds) t e a al n =
       ap (λ (x : List ℕ). placeAt x a) (pointed-step c ds t) ∙ pointed-none ds (one c t) (one-long c t e) a al (λ d m. n d (inr m)) ∙ one-other c t e a al (n c (inl refl))
 
-  pub pointed-some : (ds : List Cand) (t : List ℕ) → length t ≡ addressesLen p → (a : ℕ) → a < p .L → pointTo a < 256 ^ 4 → (placeAt t a ≡ pointTo a) ⊎ ((c : Cand) × Has c ds × (c .address ≡ a))
+  pub pointed-some : (ds : List Cand) (t : List ℕ) → length t ≡ addressesLen p → (a : ℕ) → a < p .L → pointTo a < 256 ^ 4
+      → (placeAt t a ≡ pointTo a) ⊎ ((c : Cand) × Has c ds × (c .address ≡ a))
       → placeAt (pointed p v tb cs ds t) a ≡ pointTo a
   pointed-some [] t e a al b (inl q) = unfold pointed in q
   pointed-some [] t e a al b (inr (c, m, q)) = absurd m
   pointed-some (c ∷ ds) t e a al b w = ap (λ (x : List ℕ). placeAt x a) (pointed-step c ds t) ∙ pointed-some ds (one c t) (one-long c t e) a al b (go w (ℕ-discrete (c .address) a))
     where
-      go : (placeAt t a ≡ pointTo a) ⊎ ((d : Cand) × Has d (c ∷ ds) × (d .address ≡ a)) → Dec (c .address ≡ a) → (placeAt (one c t) a ≡ pointTo a) ⊎ ((d : Cand) × Has d ds × (d .address ≡ a))
+      go : (placeAt t a ≡ pointTo a) ⊎ ((d : Cand) × Has d (c ∷ ds) × (d .address ≡ a)) → Dec (c .address ≡ a)
+          → (placeAt (one c t) a ≡ pointTo a) ⊎ ((d : Cand) × Has d ds × (d .address ≡ a))
       go w (yes k) = inl (one-same c t e a al k b)
       go (inl q) (no k) = inl (one-other c t e a al k ∙ q)
       go (inr (d, inl m, q)) (no k) = absurd (k (ap (λ (x : Cand). x .address) (sym m) ∙ q))

@@ -118,7 +118,8 @@ shows-more p l l′ K J a s f e (inr y) =
     inr (record { block = y .block; value = y .value; sent = f (y .value) (y .sent); addr = y .addr; stamp = y .stamp ∙ e; long = y .long; is = y .is; shows = y .shows })
 
 -- "and it reads as the finished restart before it did if no block was sent between": σ before the restart, K what it reads, w the world that the one before it left
-pub same-reads : (p : Params) (h : Ranged p) (σ : m-State) (m : Mask) (K : ℕ → ℕ) → Inv (parOf p h) σ → Claim (parOf p h) σ m K → (Beyond (parOf p h) (σ .g .said) m → ⊥) → σ .since ≡ false
+pub same-reads : (p : Params) (h : Ranged p) (σ : m-State) (m : Mask) (K : ℕ → ℕ) → Inv (parOf p h) σ → Claim (parOf p h) σ m K → (Beyond (parOf p h) (σ .g .said) m → ⊥)
+    → σ .since ≡ false
     → (w : World) → MarkShows p (σ .g) w
     → (a : ℕ) → a < p .L → (s : Seen) → Shows p (σ .g .sent) K a s → s ≡ seenAt p w a
 same-reads p h σ m K I c fair still w k a b s x = shows-same p (σ .g .sent) (I .uniq) (λ y m. I .ones y m .0) K (σ .g .last) a s (seenAt p w a) (c .same still fair a) x (k a b)

@@ -221,7 +221,8 @@ module _ (p : Params) (h : Ranged p) (v : View) (m : Memory) (ss : List Send) (n
           (placed p st₂ fl i (r .address) (r .stamp) 0 b .state) (placed p st₂ fl i (r .address) (r .stamp) 0 b .inflight) (m .addresses) ss
           (aim .later)
           (go-then (parOf p h) σ (mst (aim .g′) (itemsIn p v₂) (l .a) (l .c) (run (aim .M₂))) (mst (aim .g′) (itemsIn p v₂) (l .a) (l .c) (run Mt)) (l .T) (l .T) (l .T) (aim .go (l .T))
-          (copied-go p h (aim .g′) (itemsIn p v₂) (l .a) (l .c) st₂ fl (aim .M₂) (aim .U) (aim .rel) inv-aimed-copy fits i (aim .low) (aim .used?) (aim .room) (r .address) (r .stamp) 0 b bl (l .T)
+          (copied-go p h (aim .g′) (itemsIn p v₂) (l .a) (l .c) st₂ fl (aim .M₂) (aim .U) (aim .rel) inv-aimed-copy fits i (aim .low) (aim .used?) (aim .room) (r .address)
+          (r .stamp) 0 b bl (l .T)
           (subst (λ (y : Val). Counted (parOf p h) (aim .g′ .hd) (itemsIn p v₂) (aim .g′ .un) y) same-value (aim .counts (valueOf b r) copied-counts .0))))
           (taken-rel p h (aim .g′) (itemsIn p v₂) (l .a) (l .c) st₂ fl (aim .M₂) (aim .U) (aim .rel) inv-aimed-copy fits i (aim .low) (aim .used?) (aim .room) (r .address) (r .stamp) 0 b bl
           (aim .cover))
@@ -253,7 +254,8 @@ module _ (p : Params) (h : Ranged p) (v : View) (m : Memory) (ss : List Send) (n
       room : scarce p v 1 ≡ false → 2 ≤ length (emptySegs p v)
       room x = leb-false (length (emptySegs p v)) 1 (unfold scarce in x)
 
-  pub reclaim-ok : length (m .inflight) ≡ inflightLen p → (long : Bool) → firstRefusal (reclaimChecks p long v m (victim p v (m .addresses))) ≡ none → CallOk p h (l .g) v (reclaimPlan p v m) ss ss n
+  pub reclaim-ok : length (m .inflight) ≡ inflightLen p → (long : Bool) → firstRefusal (reclaimChecks p long v m (victim p v (m .addresses))) ≡ none
+      → CallOk p h (l .g) v (reclaimPlan p v m) ss ss n
   reclaim-ok fits long e = go (victim p v (m .addresses)) refl (reclaim-passed p long v m (victim p v (m .addresses)) e)
     where
       plan : Opt Victim → Plan

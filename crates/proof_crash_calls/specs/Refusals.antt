@@ -127,7 +127,8 @@ refused-step p s c a e = λ j. record {
 
 -- ---- a restart that isn't in order
 
-out-of-order : (p : Params) (k : Disk) (m : Memory) (d n : ℕ) → inOrder p (mkWorld k m) d ≡ false → (a : Answer) × (firstRefusal (decides p (lentOk p k m) (seen p k) m (restart d n) .checks) ≡ some a)
+out-of-order : (p : Params) (k : Disk) (m : Memory) (d n : ℕ) → inOrder p (mkWorld k m) d ≡ false → (a : Answer)
+    × (firstRefusal (decides p (lentOk p k m) (seen p k) m (restart d n) .checks) ≡ some a)
 out-of-order p k m d n e = go (firstRefusal (decides p (lentOk p k m) (seen p k) m (restart d n) .checks)) refl
   where
     passed : firstRefusal (decides p (lentOk p k m) (seen p k) m (restart d n) .checks) ≡ none → inOrder p (mkWorld k m) d ≡ true

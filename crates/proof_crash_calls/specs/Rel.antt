@@ -50,7 +50,8 @@ abbrev pub SlotOf : Params → ItemView → State → List ℕ → ℕ → ℕ �
 SlotOf p v st fl z i G r = SlotRel p (λ d. v d z) (slotBlock p fl i) (entryIn st i) (offsetIn st i) (stripeIn st i) (filledIn st i) (landedIn st i) G r
 
 -- what changes nothing in an eighth
-pub slot-keep : (p : Params) → Ranged p → (W W′ : ℕ → List Item) (B B′ : ℕ → List ℕ) (E E′ : ℕ → Rec) (O O′ : ℕ → ℕ) (s s′ k k′ m m′ : ℕ) (G : ℕ → Val) (r : ℕ → Bool)
+pub slot-keep : (p : Params) → Ranged p → (W W′ : ℕ → List Item) (B B′ : ℕ → List ℕ) (E E′ : ℕ → Rec) (O O′ : ℕ → ℕ) (s s′ k k′ m m′ : ℕ)
+    (G : ℕ → Val) (r : ℕ → Bool)
     → s′ ≡ s → k′ ≡ k → m′ ≡ m → ((d : ℕ) → d < p .N → B′ d ≡ B d) → ((j : ℕ) → j < 8 → E′ j ≡ E j) → ((d : ℕ) → d < 8 → O′ d ≡ O d)
     → ((d j : ℕ) (i : Item) → d < p .N → Off (W d) j i → Off (W′ d) j i) → ((d : ℕ) (x : Val) → d < p .N → InI (chunk s x) (W′ d) → InI (chunk s x) (W d))
     → SlotRel p W B E O s k m G r → SlotRel p W′ B′ E′ O′ s′ k′ m′ G r

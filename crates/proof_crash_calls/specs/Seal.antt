@@ -45,7 +45,8 @@ use Rattle.proof_crash_calls.specs.Held.{Grown, grown-same, grown-then, 
 pub spares-kept : (p : Params) (q : Zone) (b t : List ℕ) (j : ℕ) → q .pointer ≡ suc (p .S + j) → sparesIn p (putZone b t q) ≡ sparesIn p q
 unfolding putZone
 spares-kept p q b t j e = ap sparesOf (
-    ap (take (p .S)) (ap (λ (n : ℕ). drop 1 (set (q .blocks) n (mkChunk b t))) (e ∙ (let i : suc (p .S + j) ≡ 1 + (p .S + j) = omega arith in i)) ∙ drop-set-add 1 (q .blocks) (p .S + j) (mkChunk b t))
+    ap (take (p .S)) (ap (λ (n : ℕ). drop 1 (set (q .blocks) n (mkChunk b t))) (e ∙ (let i : suc (p .S + j) ≡ 1 + (p .S + j) = omega arith in i))
+    ∙ drop-set-add 1 (q .blocks) (p .S + j) (mkChunk b t))
     ∙ take-set-le (p .S) (drop 1 (q .blocks)) (p .S + j) (mkChunk b t) (omega arith))
 
 -- a zone with every stripe has S data blocks
@@ -197,7 +198,8 @@ module _ (p : Params) (h : Ranged p) (z : Seg) (zl : Named p z) (u₀ : View) (a
     abbrev footRow : ℕ → ℕ → ℕ → List Store
     footRow e j n = map (λ (b : List ℕ). put e (zoneOn z e) b zeroSpare) (map (footerBlock p (sparesIn p (zoneAt u₀ e (zoneOn z e)))) (upFrom j n))
 
-    row-chain : (n e j : ℕ) (u : View) → e < p .N → j + n ≡ footers p → Footed e j u → Chain p h g a c (run M) u (footRow e j n) × Footed e (footers p) (storeAll storeView (footRow e j n) u)
+    row-chain : (n e j : ℕ) (u : View) → e < p .N → j + n ≡ footers p → Footed e j u → Chain p h g a c (run M) u (footRow e j n)
+        × Footed e (footers p) (storeAll storeView (footRow e j n) u)
     unfolding upFrom storeAll
     row-chain zero e j u el q f = (tt, subst (λ (k : ℕ). Footed e k u) (let k : j ≡ footers p = omega arith in k) f)
     row-chain (suc n) e j u el q f =

@@ -98,7 +98,8 @@ module _ (p : Params) (a : List Val) (T : Track) (ss : List Send) (L : Logged p 
       same j (yes l) b = rw (old-log j l, old-send j l) (L .same j l)
       same j (no l) b = rw (last j l b, new-log, new-send) sx
 
-      acks : (j : ℕ) → Dec (j < length ss) → j < length (ss ++ (y ∷ [])) → sendAt (ss ++ (y ∷ [])) j .acked ≡ true → InV (sentTo T x .log j) a × (sentTo T x .pos (sentTo T x .log j .stamp) ≡ j)
+      acks : (j : ℕ) → Dec (j < length ss) → j < length (ss ++ (y ∷ [])) → sendAt (ss ++ (y ∷ [])) j .acked ≡ true → InV (sentTo T x .log j) a
+          × (sentTo T x .pos (sentTo T x .log j .stamp) ≡ j)
       acks j (yes l) b q =
           let k : InV (T .log j) a × (T .pos (T .log j .stamp) ≡ j) = L .acks j l (ap (λ (z : Send). z .acked) (sym (old-send j l)) ∙ q) in
           (rw (old-log j l) (k .0), ap (λ (z : Val). sentTo T x .pos (z .stamp)) (old-log j l) ∙ old-pos (T .log j .stamp) (low (T .log j) (k .0)) ∙ k .1)
@@ -147,7 +148,9 @@ module _ (T : Track) (ss : List Send) (s : ℕ) (a : List Val) where
     where
       more : InV x a ⊎ ((j : ℕ) × (j < n) × (sendAt ss j .waits ≡ true) × (sendAt ss j .stripe ≡ s) × (x ≡ T .log j))
           → InV x a ⊎ ((j : ℕ) × (j < suc n) × (sendAt ss j .waits ≡ true) × (sendAt ss j .stripe ≡ s) × (x ≡ T .log j))
-      more q = ⊎-elim (λ w. inl w) (λ (w : (j : ℕ) × (j < n) × (sendAt ss j .waits ≡ true) × (sendAt ss j .stripe ≡ s) × (x ≡ T .log j)). inr (w .0, omega (arith, w .1), w .2, w .3, w .4)) q
+      more q =
+          ⊎-elim (λ w. inl w) (λ (w : (j : ℕ) × (j < n) × (sendAt ss j .waits ≡ true) × (sendAt ss j .stripe ≡ s) × (x ≡ T .log j)). inr
+          (w .0, omega (arith, w .1), w .2, w .3, w .4)) q
 
       go : (InV x (ackedTo T ss s a n) → InV x a ⊎ ((j : ℕ) × (j < suc n) × (sendAt ss j .waits ≡ true) × (sendAt ss j .stripe ≡ s) × (x ≡ T .log j)))
           → Test (hit n)

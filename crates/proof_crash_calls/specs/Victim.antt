@@ -102,7 +102,8 @@ place-has p tb q i =
 pub has-place : (p : Params) (tb : List ℕ) (a : ℕ) → a < p .L → placeAt tb a ≢ neverPlace → Has (placeAt tb a) (placesIn p tb)
 unfolding placesIn
 has-place p tb a l n =
-    has-keep (λ q. not (eqb q neverPlace)) (placeAt tb a) (map (placeAt tb) (below (p .L))) (has-map (placeAt tb) (below (p .L)) a (has-below a (p .L) l)) (ap not (ne-eqb (placeAt tb a) neverPlace n))
+    has-keep (λ q. not (eqb q neverPlace)) (placeAt tb a) (map (placeAt tb) (below (p .L))) (has-map (placeAt tb) (below (p .L)) a (has-below a (p .L) l))
+    (ap not (ne-eqb (placeAt tb a) neverPlace n))
 
 member-has : (q : ℕ) (l : List ℕ) → isMember q l ≡ true → Has q l
 unfolding isMember
@@ -210,11 +211,13 @@ module _ (p : Params) (h : Ranged p) (v : View) (st : State) (fl tb : List ℕ) 
         where
           -- the address is in range
           sent : a < p .L
-          sent = subst (λ (y : ℕ). y < p .L) xa (⊎-elim (λ (b : x ≡ pads). absurd (let r : ⊥ = omega (arith, pads-stamp x b, xs, e) in r)) (λ (b : InV x (l .g .sent)). inv-victim .ones x b .1)
+          sent =
+              subst (λ (y : ℕ). y < p .L) xa (⊎-elim (λ (b : x ≡ pads). absurd (let r : ⊥ = omega (arith, pads-stamp x b, xs, e) in r)) (λ (b : InV x (l .g .sent)). inv-victim .ones x b .1)
               (inv-victim .facts .parity .sound (l .g .un) (self-none (parOf p h) (l .g .un) none?) (c .z) (c .s) (c .f) (c .st) x (c .dt)))
 
   -- what is left when such a segment is emptied
-  pub table-left : (z : Seg) → liveIn p (placesIn p tb) z ≡ [] → (u : ItemView) → Facts (parOf p h) (l .g) u → ((e y : ℕ) → y ≢ z .name → u e y ≡ itemsIn p v e y) → TableOk p h (l .g) u tb
+  pub table-left : (z : Seg) → liveIn p (placesIn p tb) z ≡ [] → (u : ItemView) → Facts (parOf p h) (l .g) u → ((e y : ℕ) → y ≢ z .name → u e y ≡ itemsIn p v e y)
+      → TableOk p h (l .g) u tb
   table-left z dead u f same a al = ⊎-elim (λ w. inl w)
       (λ (w : Entry p h (l .g) (itemsIn p v) (placeAt tb a) a).
       let n : placeSegment p (placeAt tb a) .name ≢ z .name = λ i. entry-elsewhere z dead a al w (name-once (placeSegment p (placeAt tb a)) z i) in

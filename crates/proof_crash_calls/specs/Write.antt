@@ -63,7 +63,8 @@ module _ (p : Params) (h : Ranged p) (v : View) (m : Memory) (ss : List Send) (n
   unfolding closePlan storeAll
   close-ok fits long e =
       let f : hasFilling p (m .state) ≡ true = close-passed p long v m e .filling in
-      let s : (fillingSlot p (m .state) < 8) × (inUse (m .state) (fillingSlot p (m .state)) ≡ true) × (filledIn (m .state) (fillingSlot p (m .state)) < dataCount p) = filling-slot p (m .state) f in
+      let s : (fillingSlot p (m .state) < 8) × (inUse (m .state) (fillingSlot p (m .state)) ≡ true)
+      × (filledIn (m .state) (fillingSlot p (m .state)) < dataCount p) = filling-slot p (m .state) f in
       record {
         sound = tt;
         done = live-within p h v (m .state) (m .inflight) (m .addresses) ss n l
@@ -205,7 +206,8 @@ module _ (p : Params) (h : Ranged p) (v : View) (m : Memory) (ss : List Send) (n
           l .waits j k (ap (λ (z : Send). z .waits) (sym e) ∙ q) in
           let f : Waiting p (setStamp st₃ t) (stampedMem Mt t) (l .T .log j) (sendAt ss j .stripe) =
           stamp-waits p st₃ Mt t (l .T .log j) (sendAt ss j .stripe)
-          (taken-waits p h (aim .g′) (itemsIn p v₂) (l .a) (l .c) st₂ fl (aim .M₂) (aim .U) (aim .rel) inv-aimed fits i (aim .low) (aim .used?) (aim .room) ad t 1 b (A .block) (aim .cover) (inr refl)
+          (taken-waits p h (aim .g′) (itemsIn p v₂) (l .a) (l .c) st₂ fl (aim .M₂) (aim .U) (aim .rel) inv-aimed fits i (aim .low) (aim .used?) (aim .room) ad t 1 b (A .block)
+          (aim .cover) (inr refl)
           (l .T .log j) (sendAt ss j .stripe) (aim .waits (l .T .log j) (sendAt ss j .stripe) (w .0))) in (
             subst (λ (z : Val). Waiting p (setStamp st₃ t) (stampedMem Mt t) z (sendAt (ss ++ (y ∷ [])) j .stripe)) (sym (old-log′ j k))
                 (subst (λ (z : Send). Waiting p (setStamp st₃ t) (stampedMem Mt t) (l .T .log j) (z .stripe)) (sym e) f),

@@ -96,7 +96,8 @@ parity-of p h s G z =
 
 -- ---- a full eighth
 
-module _ (p : Params) (h : Ranged p) (W : ℕ → List Item) (B : ℕ → List ℕ) (E : ℕ → Rec) (O : ℕ → ℕ) (s k m : ℕ) (G : ℕ → Val) (r : ℕ → Bool) (a : SlotRel p W B E O s k m G r)
+module _ (p : Params) (h : Ranged p) (W : ℕ → List Item) (B : ℕ → List ℕ) (E : ℕ → Rec) (O : ℕ → ℕ) (s k m : ℕ) (G : ℕ → Val) (r : ℕ → Bool)
+    (a : SlotRel p W B E O s k m G r)
     (long : (d : ℕ) → d < p .N → length (B d) ≡ p .B) (full : k ≡ dataCount p) (z : xorN (p .N) G ≡ 𝟘) where
   piece : ℕ → Piece
   piece j = mkPiece (B (dataDrive p s j)) (E j)
@@ -149,7 +150,9 @@ good-fits p h σ M i m t x (inr k) = record { addr = omega (arith, i .ones x k .
 pub parity-wide : (s n : ℕ) (E : ℕ → Rec) → s < 256 ^ 4 → ((j : ℕ) → j < n → (E j .address < 256 ^ 8) × (E j .stamp < 256 ^ 8)) → Wide (parityRec s (map E (below n)))
 unfolding parityRec
 parity-wide s n E sl w = record {
-  address = xorAll-lt 64 (map (λ (r : Rec). r .address) (map E (below n))) (λ i l. subst (λ (x : ℕ). x < 2 ^ 64) (sym (at (λ (r : Rec). r .address) i l)) (w i (low (λ (r : Rec). r .address) i l) .0));
+  address =
+      xorAll-lt 64 (map (λ (r : Rec). r .address) (map E (below n)))
+      (λ i l. subst (λ (x : ℕ). x < 2 ^ 64) (sym (at (λ (r : Rec). r .address) i l)) (w i (low (λ (r : Rec). r .address) i l) .0));
   stamp = xorAll-lt 64 (map (λ (r : Rec). r .stamp) (map E (below n))) (λ i l. subst (λ (x : ℕ). x < 2 ^ 64) (sym (at (λ (r : Rec). r .stamp) i l)) (w i (low (λ (r : Rec). r .stamp) i l) .1));
   stripe = sl;
 }

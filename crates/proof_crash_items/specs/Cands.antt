@@ -248,7 +248,8 @@ module _ (p : Params) (r : Ranged p) (g : Ghost) (v : View) (k : OnDrives p r g 
           let y : (y : Cand) × Has y candsSeen × (y .address ≡ x .addr) × (y .stamp ≡ x .stamp) = of-counted x q in
           let i : Has (y .0) (candsOf (x .addr) candsSeen) = at-address (y .0) (x .addr) (y .1) (y .2) in
           rw (is (x .addr)) (⊎-elim (λ (e : candsOf (x .addr) candsSeen ≡ []). absurd (subst (λ (l : List Cand). Has (y .0) l) e i))
-          (λ (h : (w : Cand) × (best none (candsOf (x .addr) candsSeen) ≡ some w) × Has w (candsOf (x .addr) candsSeen) × ((c : Cand) → Has c (candsOf (x .addr) candsSeen) → c .stamp ≤ w .stamp)).
+          (λ (h : (w : Cand) × (best none (candsOf (x .addr) candsSeen) ≡ some w) × Has w (candsOf (x .addr) candsSeen)
+          × ((c : Cand) → Has c (candsOf (x .addr) candsSeen) → c .stamp ≤ w .stamp)).
           rw (h .1, stamp-some) (omega (arith, h .3 (y .0) i, y .3))) (best-none (candsOf (x .addr) candsSeen)))
 
       some? : (a : ℕ) → (stampOf (best none (candsOf a (candidates p m (segments p v m)))) ≡ 0)

@@ -129,7 +129,8 @@ not-twice (x ∷ rs) h =
     or-both-false (any (λ (q : Rec). eqb (q .stripe) (x .stripe)) rs) (twice rs)
     (none-any (λ (q : Rec). eqb (q .stripe) (x .stripe)) rs (λ q i.
     let w : (j : ℕ) × (j < length rs) × (getD rs j (mkRec 0 0 0) ≡ q) = has-getD rs q (mkRec 0 0 0) i in
-    ne-eqb (q .stripe) (x .stripe) (λ e. let z : suc (w .0) ≡ 0 = h (suc (w .0)) 0 (omega (arith, w .1)) (omega arith) (ap (λ (y : Rec). y .stripe) (w .2) ∙ e) in let n : ⊥ = omega (arith, z) in n)))
+    ne-eqb (q .stripe) (x .stripe) (λ e. let z : suc (w .0) ≡ 0 = h (suc (w .0)) 0 (omega (arith, w .1)) (omega arith) (ap (λ (y : Rec). y .stripe) (w .2) ∙ e) in
+    let n : ⊥ = omega (arith, z) in n)))
     (not-twice rs (λ j k a b e. let z : suc j ≡ suc k = h (suc j) (suc k) (omega arith) (omega arith) e in omega (arith, z)))
 
 same-self : (l : List (List ℕ)) → sameBlocks l l ≡ true
@@ -203,7 +204,8 @@ module _ (p : Params) (r : Ranged p) (g : Ghost) (v : View) (k : OnDrives p r g 
         zeroSpare
         ≡ true) (sym (zones-by p r g v k m c z d l)) (one d l n)))
       where
-        one : (d : ℕ) → d < p .N → isIn m d ≡ false → sameChunk (getD (zoneAt v d (zoneOn z d) .blocks) 0 noChunk) (headerBlock p d (zoneOn (G z .seg) d) (G z .serial) (G z .copied)) zeroSpare ≡ true
+        one : (d : ℕ) → d < p .N → isIn m d ≡ false → sameChunk (getD (zoneAt v d (zoneOn z d) .blocks) 0 noChunk)
+            (headerBlock p d (zoneOn (G z .seg) d) (G z .serial) (G z .copied)) zeroSpare ≡ true
         one d l n =
             let t : g .un d ≡ false = trusted p r g v k m c d l n in
             let a : (headerSerial (headerAt v d z) ≡ g .hd .ser (z .name)) × (headerCopied (headerAt v d z) ≡ g .hd .cop (z .name)) = head-serials p r g v k d z l t b (zone-begun d l n) in
@@ -223,7 +225,8 @@ module _ (p : Params) (r : Ranged p) (g : Ghost) (v : View) (k : OnDrives p r g 
 
             whole : (d : ℕ) → d < p .N → isIn m d ≡ false
                 → blockIn (zoneAt v d (zoneOn z d)) 0 ≡ mkChunk (headerBlock p d (zoneOn z d) (headerSerial (headerAt v d z)) (headerCopied (headerAt v d z))) zeroSpare
-            whole d l n = unfold headerAt chunkAt in zone-bytes p r g v k d z l (trusted p r g v k m c d l n) b .head (subst (λ (x : ℕ). 0 < x) (sym (pointer-is v d (zoneOn z d))) (zone-begun d l n))
+            whole d l n =
+                unfold headerAt chunkAt in zone-bytes p r g v k d z l (trusted p r g v k m c d l n) b .head (subst (λ (x : ℕ). 0 < x) (sym (pointer-is v d (zoneOn z d))) (zone-begun d l n))
 
             chunk-self : (x y : List ℕ) → sameChunk (mkChunk x y) x y ≡ true
             chunk-self x y = unfold sameChunk in and-both (sameList x x) (sameList y y) (sameList-refl x) (sameList-refl y)
@@ -244,7 +247,8 @@ module _ (p : Params) (r : Ranged p) (g : Ghost) (v : View) (k : OnDrives p r g 
         subst (λ (x : List Rec). (outside p 0 x || twice x) ≡ false) (sym (recs-by-spare p r g v k m c z d b l n))
         (or-both-false (outside p 0 (spareRecs p (zoneAt v d (zoneOn z d)))) (twice (spareRecs p (zoneAt v d (zoneOn z d)))) (out d l n) (once d l n)))
       where
-        at : (d o : ℕ) → o < length (spareRecs p (zoneAt v d (zoneOn z d))) → getD (spareRecs p (zoneAt v d (zoneOn z d))) o (mkRec 0 0 0) ≡ recordOf (blockIn (zoneAt v d (zoneOn z d)) (suc o) .spare)
+        at : (d o : ℕ) → o < length (spareRecs p (zoneAt v d (zoneOn z d)))
+            → getD (spareRecs p (zoneAt v d (zoneOn z d))) o (mkRec 0 0 0) ≡ recordOf (blockIn (zoneAt v d (zoneOn z d)) (suc o) .spare)
         at d o w = getD-spareRecs p (zoneAt v d (zoneOn z d)) o (mkRec 0 0 0) (omega (arith, w, length-spareRecs p (zoneAt v d (zoneOn z d))))
 
         out : (d : ℕ) → d < p .N → isIn m d ≡ false → outside p 0 (spareRecs p (zoneAt v d (zoneOn z d))) ≡ false
@@ -302,7 +306,8 @@ module _ (p : Params) (r : Ranged p) (g : Ghost) (v : View) (k : OnDrives p r g 
         subst (λ (y : List Rec). any (storedBad p d) y ≡ false) (sym (recs-by-spare p r g v k m c z d b l n))
         (none-any (storedBad p d) (spareRecs p (zoneAt v d (zoneOn z d))) (λ x i. one d l n x (has-getD (spareRecs p (zoneAt v d (zoneOn z d))) x (mkRec 0 0 0) i))))
       where
-        one : (d : ℕ) → d < p .N → isIn m d ≡ false → (x : Rec) → (j : ℕ) × (j < length (spareRecs p (zoneAt v d (zoneOn z d)))) × (getD (spareRecs p (zoneAt v d (zoneOn z d))) j (mkRec 0 0 0) ≡ x)
+        one : (d : ℕ) → d < p .N → isIn m d ≡ false → (x : Rec) → (j : ℕ) × (j < length (spareRecs p (zoneAt v d (zoneOn z d))))
+            × (getD (spareRecs p (zoneAt v d (zoneOn z d))) j (mkRec 0 0 0) ≡ x)
             → storedBad p d x ≡ false
         one d l n x (j, a, e) =
             let w : j < dataStored p (zoneAt v d (zoneOn z d)) = omega (arith, a, length-spareRecs p (zoneAt v d (zoneOn z d))) in
@@ -430,7 +435,8 @@ module _ (p : Params) (r : Ranged p) (g : Ghost) (v : View) (k : OnDrives p r g 
       each h j = unfold segments in map-has (segmentOf p v m) h (remaining p v m) j
 
       one : (z : Seg) → (R (parOf p r) (g .hd) (itemsIn p v) (isIn m) (z .name) → ⊥) → (h : Segment) → (y : Seg) × Has y (remaining p v m) × (h ≡ G y) → sameSeg (h .seg) z ≡ false
-      one z n h (y, i, e) = rw e (seg-other (G y .seg) z (λ w. n (subst (λ (x : Seg). R (parOf p r) (g .hd) (itemsIn p v) (isIn m) (x .name)) (sym (segment-fields p r g v k m c y .0) ∙ w) (R? y i))))
+      one z n h (y, i, e) =
+          rw e (seg-other (G y .seg) z (λ w. n (subst (λ (x : Seg). R (parOf p r) (g .hd) (itemsIn p v) (isIn m) (x .name)) (sym (segment-fields p r g v k m c y .0) ∙ w) (R? y i))))
 
 -- ---- nothing refuses the restart (but for 6)
 module _ (p : Params) (r : Ranged p) (g : Ghost) (v : View) (k : OnDrives p r g v) (known : (x : Val) → InV x (g .sent) → (0 < x .stamp) × (x .addr < p .L))

@@ -74,5 +74,6 @@ module _ (p : Params) (r : Ranged p) (g : Ghost) (v : View) (k : OnDrives p r g 
         let t : g .un (a .0) ≡ false = trusted p r g v k m c (a .0) (l .0) (l .1) in
         let n : length (itemsIn p v (a .0) (z .name)) ≡ pointerAt v (a .0) (zoneOn z (a .0)) = zone-len p r g v k (a .0) z (l .0) t seg-low in
         let w : pointerAt v (a .0) (zoneOn z (a .0)) ≢ capacity p = eqb-false (pointerAt v (a .0) (zoneOn z (a .0))) (capacity p) (a .2) in
-        let h : pointerAt v (a .0) (zoneOn z (a .0)) ≤ capacity p = subst (λ (x : ℕ). x ≤ capacity p) (pointer-is v (a .0) (zoneOn z (a .0))) (zone-bytes p r g v k (a .0) z (l .0) t seg-low .low) in
+        let h : pointerAt v (a .0) (zoneOn z (a .0)) ≤ capacity p = subst (λ (x : ℕ). x ≤ capacity p) (pointer-is v (a .0) (zoneOn z (a .0)))
+        (zone-bytes p r g v k (a .0) z (l .0) t seg-low .low) in
         (a .0, l, omega (arith, n, begun-on (a .0) (l .0) (l .1)), omega (arith, n, w, h))

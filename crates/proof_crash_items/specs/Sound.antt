@@ -112,7 +112,8 @@ follows-append p v ss ts ms ns a b = record {
 }
 
 -- the items after all stores, and after the first n of them
-pub follows-all : (p : Params) → Ranged p → (v : View) (ss : List Store) (ms : List ItemStore) → Shape p v → Follows p v ss ms → itemsIn p (storeAll storeView ss v) ≡ applyAll (itemsIn p v) ms
+pub follows-all : (p : Params) → Ranged p → (v : View) (ss : List Store) (ms : List ItemStore) → Shape p v → Follows p v ss ms
+    → itemsIn p (storeAll storeView ss v) ≡ applyAll (itemsIn p v) ms
 follows-all p r v ss ms h f = items-stores p v ss h (sounds-fit p r v ss h (f .sound)) ∙ ap (applyAll (itemsIn p v)) (f .items)
 
 pub follows-cut : (p : Params) → Ranged p → (v : View) (ss : List Store) (ms : List ItemStore) (n : ℕ) → Shape p v → Follows p v ss ms

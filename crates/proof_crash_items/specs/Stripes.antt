@@ -156,11 +156,13 @@ module _ (p : Params) (r : Ranged p) (g : Ghost) (v : View) (k : OnDrives p r g 
       (omega (arith, stored-below p (zoneAt v d (zoneOn z d)) (offsetOn (G z) d s) (offset-on z s d b l n e .0) .0, capacity-few p r)) .0
 
   -- the stored chunk is an item of the zone
-  pub stored-in : (z : Seg) (s d : ℕ) → Named p z → d < p .N → isIn m d ≡ false → hasChunk (G z) s d ≡ true → InI (chunk s (pieceValue (storedPiece (G z) s d))) (itemsIn p v d (z .name))
+  pub stored-in : (z : Seg) (s d : ℕ) → Named p z → d < p .N → isIn m d ≡ false → hasChunk (G z) s d ≡ true
+      → InI (chunk s (pieceValue (storedPiece (G z) s d))) (itemsIn p v d (z .name))
   stored-in z s d b l n e =
       let o : ℕ = offsetOn (G z) d s in
       let q : Zone = zoneAt v d (zoneOn z d) in
-      let h : (offsetOn (G z) d s < dataStored p (zoneAt v d (zoneOn z d))) × (recordOf (blockIn (zoneAt v d (zoneOn z d)) (suc (offsetOn (G z) d s)) .spare) .stripe ≡ s) = offset-on z s d b l n e in
+      let h : (offsetOn (G z) d s < dataStored p (zoneAt v d (zoneOn z d)))
+      × (recordOf (blockIn (zoneAt v d (zoneOn z d)) (suc (offsetOn (G z) d s)) .spare) .stripe ≡ s) = offset-on z s d b l n e in
       let i : (o < p .S) × (suc o < q .pointer) = stored-below p q o (h .0) in
       let f : Off (itemsOf p q) (suc o) (chunkItem (blockIn q (suc o))) = chunk-of p q (zone-pointer-low p r g v k d z l (trusted p r g v k m c d l n) b) o (i .0) (i .1) in
       let x : chunkItem (blockIn q (suc o)) ≡ chunk s (pieceValue (storedPiece (G z) s d)) = named-chunk z s d b l n e in
@@ -274,7 +276,8 @@ module _ (p : Params) (r : Ranged p) (g : Ghost) (v : View) (k : OnDrives p r g 
           num d l t i zero o = absurd (chunk-hdr (sym (o .1) ∙ k .facts .zones d (z .name) (l, t) .head (item-some (chunk s (f d)) (itemsIn p v d (z .name)) i)))
           num d l t i (suc j) o = k .facts .zones d (z .name) (l, t) .num j s (f d) o .0
 
-  pub stripe-counted : (z : Seg) (s : ℕ) (f : ℕ → Val) → Stripe (parOf p r) (itemsIn p v) (isIn m) (z .name) s f → Has s (counted p m (G z)) × ((d : ℕ) → d < p .N → pieceAt z s d ≡ f d)
+  pub stripe-counted : (z : Seg) (s : ℕ) (f : ℕ → Val) → Stripe (parOf p r) (itemsIn p v) (isIn m) (z .name) s f → Has s (counted p m (G z))
+      × ((d : ℕ) → d < p .N → pieceAt z s d ≡ f d)
   stripe-counted z s f st =
       let b : Named p z × (s < p .S) = stripe-below z s f st in
       let i : Has s (counted p m (G z)) = has-counted z s (b .1) (λ d l n. in-has-chunk z s d (f d) (b .0) l n (st .on d l n)) in

@@ -36,7 +36,8 @@ use Rattle.proof_crash_items.specs.ZoneBytes.{blockIn}
 
 -- ---- lists of lists of one length
 
-getD-flat-from : (f : ℕ → List ℕ) (w i n k j : ℕ) → ((a : ℕ) → i ≤ a → a < i + n → length (f a) ≡ w) → k < n → j < w → getD (flat f (upFrom i n)) (k * w + j) 0 ≡ getD (f (i + k)) j 0
+getD-flat-from : (f : ℕ → List ℕ) (w i n k j : ℕ) → ((a : ℕ) → i ≤ a → a < i + n → length (f a) ≡ w) → k < n → j < w
+    → getD (flat f (upFrom i n)) (k * w + j) 0 ≡ getD (f (i + k)) j 0
 unfolding flat upFrom
 getD-flat-from f w i zero k j h l b = absurd (let q : ⊥ = omega arith in q)
 getD-flat-from f w i (suc n) zero j h l b =
@@ -63,7 +64,8 @@ unfolding flat
 flat-none-of h t [] n = refl
 flat-none-of h t (y ∷ l) n = ap₂ _++_ (cond-false (t y) (h y) [] (n y (inl refl))) (flat-none-of h t l (λ x i. n x (inr i)))
 
-flat-one-of : {A : Type 0} (h : Seg → List A) (t : Seg → Bool) (z : Seg) (l : List Seg) → Rising (segNames l) → Has z l → t z ≡ true → ((y : Seg) → Has y l → (y ≡ z → ⊥) → t y ≡ false)
+flat-one-of : {A : Type 0} (h : Seg → List A) (t : Seg → Bool) (z : Seg) (l : List Seg) → Rising (segNames l) → Has z l → t z ≡ true
+    → ((y : Seg) → Has y l → (y ≡ z → ⊥) → t y ≡ false)
     → flat (λ y. cond (t y) (h y) []) l ≡ h z
 unfolding flat
 flat-one-of h t z [] r i w n = absurd i
@@ -248,7 +250,8 @@ module _ (p : Params) (r : Ranged p) (g : Ghost) (v : View) (k : OnDrives p r g 
         ∙ eqb-true (getD (compactTable p (segments p v m)) (compactAt p d (zoneOn z d) o) 0) (compactEntry p s)
         (and-right (ltb (1 + o) (pointerAt v d (zoneOn z d))) (eqb (getD (compactTable p (segments p v m)) (compactAt p d (zoneOn z d) o) 0) (compactEntry p s))
         (a .1)) in
-        let u : recordOf (blockIn (zoneAt v d (zoneOn z d)) (suc o) .spare) .stripe ≡ s = same-stripe (recordOf (blockIn (zoneAt v d (zoneOn z d)) (suc o) .spare) .stripe) s (grp-at o w ∙ e .1) t in
+        let u : recordOf (blockIn (zoneAt v d (zoneOn z d)) (suc o) .spare) .stripe ≡ s = same-stripe (recordOf (blockIn (zoneAt v d (zoneOn z d)) (suc o) .spare) .stripe) s
+        (grp-at o w ∙ e .1) t in
         let y : (offsetOn (G z) d s < dataStored p (zoneAt v d (zoneOn z d))) × (recordOf (blockIn (zoneAt v d (zoneOn z d)) (suc (offsetOn (G z) d s)) .spare) .stripe ≡ s) =
         offset-on p r g v k m c z s d b l n h in
         same-off o (offsetOn (G z) d s) w (y .0) (u ∙ sym (y .1))

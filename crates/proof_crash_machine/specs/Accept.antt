@@ -50,7 +50,8 @@ accepted p g v h m c = record {
     pl : Placing p (g .hd) (g .pr) (Used p (g .un) v)
     pl = h .«open» .place
 
-    free : (d : ℕ) → d < p .N → (x : ℕ) → InPair (g .pr) x → (R p (g .hd) v m x → ⊥) → (y : ℕ) × (y < p .Z) × (p .fine d y ≡ true) × ((z : ℕ) → R p (g .hd) v m z → g .hd .zn z d ≢ y)
+    free : (d : ℕ) → d < p .N → (x : ℕ) → InPair (g .pr) x → (R p (g .hd) v m x → ⊥) → (y : ℕ) × (y < p .Z) × (p .fine d y ≡ true)
+        × ((z : ℕ) → R p (g .hd) v m z → g .hd .zn z d ≢ y)
     free d l x i n = (
       g .hd .zn x d,
       pl .put x (inr i) d l .0,
@@ -58,6 +59,7 @@ accepted p g v h m c = record {
       λ z r e. n (subst (λ (t : ℕ). R p (g .hd) v m t) (pl .apart z x (inl (used p g v m z c (r .left))) (inr i) d l e) r),
     )
 
-    both : (d : ℕ) → d < p .N → (w o : ℕ) → g .pr ≡ pair w o → Dec (L p v m o) → (y : ℕ) × (y < p .Z) × (p .fine d y ≡ true) × ((z : ℕ) → R p (g .hd) v m z → g .hd .zn z d ≢ y)
+    both : (d : ℕ) → d < p .N → (w o : ℕ) → g .pr ≡ pair w o → Dec (L p v m o) → (y : ℕ) × (y < p .Z) × (p .fine d y ≡ true)
+        × ((z : ℕ) → R p (g .hd) v m z → g .hd .zn z d ≢ y)
     both d l w o e (yes k) = free d l w (inl (o, e)) (λ r. r .own o k (h .swap .named w o e .1))
     both d l w o e (no k) = free d l o (inr (w, e)) (λ r. k (r .left))

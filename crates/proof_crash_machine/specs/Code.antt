@@ -20,7 +20,8 @@ pub record Code (N P : ℕ) : Type 0 where
   pub keeps : (s : ℕ) (f : ℕ → Val) (d : ℕ) → d < N → par s d ≡ false → enc s f d ≡ f d
   pub same : (s : ℕ) (f h : ℕ → Val) → ((d : ℕ) → d < N → par s d ≡ false → f d ≡ h d) → (d : ℕ) → d < N → enc s f d ≡ enc s h d
   -- THE LAW: with at most P missing, the others determine all
-  pub law : (s : ℕ) (m : Mask) (f h : ℕ → Val) → count N m ≤ P → ((d : ℕ) → d < N → m d ≡ false → f d ≡ enc s h d) → (d : ℕ) → d < N → m d ≡ true → dec s m f d ≡ enc s h d
+  pub law : (s : ℕ) (m : Mask) (f h : ℕ → Val) → count N m ≤ P → ((d : ℕ) → d < N → m d ≡ false → f d ≡ enc s h d) → (d : ℕ) → d < N → m d ≡ true
+      → dec s m f d ≡ enc s h d
 
 -- f is a code word: the stripe with its own data
 abbrev pub WordOf : {N P : ℕ} → Code N P → ℕ → (ℕ → Val) → Type 0
@@ -34,7 +35,8 @@ module _ {N P : ℕ} (c : Code N P) (s : ℕ) where
   word-same f h e w d l = sym (e d l) ∙ w d l ∙ c .same s f h (λ k b q. e k b) d l
 
   -- words that agree on the present drives agree
-  pub unique : (m : Mask) → count N m ≤ P → (f h : ℕ → Val) → WordOf c s f → WordOf c s h → ((d : ℕ) → d < N → m d ≡ false → f d ≡ h d) → (d : ℕ) → d < N → f d ≡ h d
+  pub unique : (m : Mask) → count N m ≤ P → (f h : ℕ → Val) → WordOf c s f → WordOf c s h → ((d : ℕ) → d < N → m d ≡ false → f d ≡ h d) → (d : ℕ) → d < N
+      → f d ≡ h d
   unique m b f h wf wh e d l = ⊎-elim
       (λ (q : m d ≡ true). wf d l ∙ sym (c .law s m f f b (λ k i r. wf k i) d l q) ∙ c .law s m f h b (λ k i r. e k i r ∙ wh k i) d l q ∙ sym (wh d l))
       (λ (q : m d ≡ false). e d l q) (two (m d))
@@ -91,11 +93,13 @@ module _ (N : ℕ) (q : ℕ → ℕ) (on : (s : ℕ) → q s < N) where
       xorN-put N (q s) (xenc s f) (blank (isPar s) f) (on s) (λ d l n. xenc-data s f d (not-par s d n) ∙ sym (blank-out (isPar s) f d (not-par s d n))) (blank-in (isPar s) f (q s) (is-par s))
       ∙ ap (λ (x : Val). x ⊕ xorN N (blank (isPar s) f)) (xenc-par s f (q s) (is-par s)) ∙ ⊕-self (xorN N (blank (isPar s) f))
 
-  pub xdec-law : (s : ℕ) (m : Mask) (f h : ℕ → Val) → count N m ≤ 1 → ((d : ℕ) → d < N → m d ≡ false → f d ≡ xenc s h d) → (d : ℕ) → d < N → m d ≡ true → xdec s m f d ≡ xenc s h d
+  pub xdec-law : (s : ℕ) (m : Mask) (f h : ℕ → Val) → count N m ≤ 1 → ((d : ℕ) → d < N → m d ≡ false → f d ≡ xenc s h d) → (d : ℕ) → d < N → m d ≡ true
+      → xdec s m f d ≡ xenc s h d
   unfolding xdec
   xdec-law s m f h b e d l k =
       ⊕-right (xorN N (blank m f)) (xenc s h d) (xenc s h d)
-      (⊕-comm (xorN N (blank m f)) (xenc s h d) ∙ sym (xorN-put N d (xenc s h) (blank m f) l (λ i a n. sym (rest i a n (two (m i)))) (blank-in m f d k)) ∙ xenc-zero s h ∙ sym (⊕-self (xenc s h d)))
+      (⊕-comm (xorN N (blank m f)) (xenc s h d) ∙ sym (xorN-put N d (xenc s h) (blank m f) l (λ i a n. sym (rest i a n (two (m i)))) (blank-in m f d k)) ∙ xenc-zero s h
+      ∙ sym (⊕-self (xenc s h d)))
     where
       rest : (i : ℕ) → i < N → i ≢ d → (m i ≡ true) ⊎ (m i ≡ false) → blank m f i ≡ xenc s h i
       rest i a n (inl r) = absurd (let w : 2 ≤ count N m = count-two N m i d a l n r k in let j : ⊥ = omega (arith, w, b) in j)

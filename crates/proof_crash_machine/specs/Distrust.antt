@@ -71,7 +71,8 @@ distrust p g v m ch h = distrusted p g v m (g .said) (g .last) (g .base) (g .top
 }) h
 
 -- ---- a restart that names m, not none, has finished: nothing was stored, cur stays, nothing is fresh
-pub finish-missing : (p : Par) (g : Ghost) (v : ItemView) (m : Mask) → (d : ℕ) × (d < p .N) × (m d ≡ true) → Choice p (g .un) m → Facts p g v → (K : ℕ → ℕ) → Reads p (g .hd) v m K
+pub finish-missing : (p : Par) (g : Ghost) (v : ItemView) (m : Mask) → (d : ℕ) × (d < p .N) × (m d ≡ true) → Choice p (g .un) m → Facts p g v → (K : ℕ → ℕ)
+    → Reads p (g .hd) v m K
     → (t : ℕ) → Facts p (finishing g m K t (g .sent)) v
 finish-missing p g v m some ch h K r t = distrusted p g v m m K K t ch (record {
   -- a choice holds those named, and more is excepted: so it is just those

@@ -33,7 +33,8 @@ bare-unused p n z (d, t, b) = let q : ⊥ = omega (arith, b) in q
 bare-stripe : (p : Par) (m : Mask) (f : ℕ → Val) (s z : ℕ) → count (p .N) m ≤ p .P → Stripe p bare m z s f → ⊥
 bare-stripe p m f s z few st = let d : (d : ℕ) × (d < p .N) × (m d ≡ false) = some-present p m few in st .on (d .0) (d .1) (d .2)
 
-module _ (p : Par) (z₁ : ℕ → ℕ) (big : (d : ℕ) → d < p .N → (p .fine d 0 ≡ true) × (0 < p .Z) × (z₁ d < p .Z) × (p .fine d (z₁ d) ≡ true) × (0 ≢ z₁ d)) (some : 0 < p .S) (many : 7 < p .addrs) where
+module _ (p : Par) (z₁ : ℕ → ℕ) (big : (d : ℕ) → d < p .N → (p .fine d 0 ≡ true) × (0 < p .Z) × (z₁ d < p .Z) × (p .fine d (z₁ d) ≡ true) × (0 ≢ z₁ d))
+    (some : 0 < p .S) (many : 7 < p .addrs) where
   abbrev g₁ : Ghost
   g₁ = finishing (withPr (start p .g) alone) (start p .g .un) (λ a. 0) 0 (upTo 0 (start p .g .sent))
 

@@ -216,7 +216,8 @@ module _ (p : Par) (v : ItemView) (m : Mask) (E : ℕ → ℕ) where
   val-lost z s d n = ap (λ (b : Bool). elim b as (λ _. Val) [ true ↦ p .code .dec s m (valueHere z s) d | false ↦ valueHere z s d ]) n
 
   -- decoding gives the code word that the present chunks are part of
-  val-is : (z s : ℕ) (h : ℕ → Val) → count (p .N) m ≤ p .P → Word p s h → ((d : ℕ) → d < p .N → m d ≡ false → valueHere z s d ≡ h d) → (d : ℕ) → d < p .N → valOf z s d ≡ h d
+  val-is : (z s : ℕ) (h : ℕ → Val) → count (p .N) m ≤ p .P → Word p s h → ((d : ℕ) → d < p .N → m d ≡ false → valueHere z s d ≡ h d) → (d : ℕ) → d < p .N
+      → valOf z s d ≡ h d
   val-is z s h few w e d l = ⊎-elim (λ (q : m d ≡ true). val-lost z s d q ∙ p .code .law s m (valueHere z s) h few (λ i b n. e i b n ∙ w i b) d l q ∙ sym (w d l))
       (λ (q : m d ≡ false). val-here z s d q ∙ e d l q) (two (m d))
 
@@ -342,7 +343,8 @@ module _ (p : Par) (g : Ghost) (v : ItemView) (h : Facts p g v) (m : Mask) (c : 
       when-true (remB p v m E (k .z)) (maxN (p .S) (inStripe p v m E (x .addr) (k .z))) (R-rem (k .z) (k .rem)) in
       let b₃ : inSegment p v m E (x .addr) (k .z) ≤ maxN (p .Z) (λ (k : ℕ). inSegment p v m E (x .addr) (E k)) =
       let j : (j : ℕ) × (j < p .Z) × (E j ≡ k .z) = cover (k .z) (k .rem .left) in
-      subst (λ (i : ℕ). inSegment p v m E (x .addr) i ≤ maxN (p .Z) (λ (k : ℕ). inSegment p v m E (x .addr) (E k))) (j .2) (max-le (p .Z) (λ (k : ℕ). inSegment p v m E (x .addr) (E k)) (j .0)
+      subst (λ (i : ℕ). inSegment p v m E (x .addr) i ≤ maxN (p .Z) (λ (k : ℕ). inSegment p v m E (x .addr) (E k))) (j .2)
+      (max-le (p .Z) (λ (k : ℕ). inSegment p v m E (x .addr) (E k)) (j .0)
       (j .1)) in
       let s : valOf p v m E (k .z) (k .s) (k .dt .d) .stamp ≡ x .stamp = ap (λ (i : Val). i .stamp) y in
       omega (arith, a₁, b₁, a₂, b₂, a₃, b₃, s)

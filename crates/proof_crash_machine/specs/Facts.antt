@@ -278,7 +278,8 @@ Stripe-same p v u m z s f e h = record {
 pub R-same : (p : Par) (g : Ghost) (v u : ItemView) (m : Mask) → ((z : ℕ) → Same p v u m z) → ((z : ℕ) → Same p u v m z) → (z : ℕ) → R p (g .hd) v m z → R p (g .hd) u m z
 R-same p g v u m e e′ z h = record { left = L-same p v u m z (e z) (h .left); own = λ o l q. h .own o (L-same p u v m o (e′ o) l) q }
 
-pub Counted-same : (p : Par) (g : Ghost) (v u : ItemView) (m : Mask) → ((z : ℕ) → Same p v u m z) → ((z : ℕ) → Same p u v m z) → (x : Val) → Counted p (g .hd) v m x → Counted p (g .hd) u m x
+pub Counted-same : (p : Par) (g : Ghost) (v u : ItemView) (m : Mask) → ((z : ℕ) → Same p v u m z) → ((z : ℕ) → Same p u v m z) → (x : Val) → Counted p (g .hd) v m x
+    → Counted p (g .hd) u m x
 Counted-same p g v u m e e′ x c = record {
   z = c .z;
   s = c .s;

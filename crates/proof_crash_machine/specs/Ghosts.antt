@@ -25,9 +25,12 @@ solo : (p : Par) (g : Ghost) (v : ItemView) → Facts p g v → ((w o : ℕ) →
 solo p g v h k = record {
   put = λ z i. pl .put z (up z i);
   apart = λ y z i j. pl .apart y z (up y i) (up z j);
-  room = λ d l. ⊎-elim (λ (q : (y : ℕ) × (y < p .Z) × (p .fine d y ≡ true) × ((z : ℕ) → (Used p (g .un) v z) ⊎ (InPair (g .pr) z) → g .hd .zn z d ≢ y)). inl (q .0, q .1, q .2, λ z i. q .3 z (up z i)))
+  room =
+      λ d l. ⊎-elim (λ (q : (y : ℕ) × (y < p .Z) × (p .fine d y ≡ true) × ((z : ℕ) → (Used p (g .un) v z) ⊎ (InPair (g .pr) z) → g .hd .zn z d ≢ y)). inl
+      (q .0, q .1, q .2, λ z i. q .3 z (up z i)))
       (λ (q : (w : ℕ) × (o : ℕ) × (g .pr ≡ pair w o)). inl (⊎-elim
-      (λ (n : Used p (g .un) v (q .0) → ⊥). free d l (q .0) (inl (q .1, q .2)) n) (λ (n : Used p (g .un) v (q .1) → ⊥). free d l (q .1) (inr (q .0, q .2)) n) (k (q .0) (q .1) (q .2)))) (pl .room d l);
+      (λ (n : Used p (g .un) v (q .0) → ⊥). free d l (q .0) (inl (q .1, q .2)) n) (λ (n : Used p (g .un) v (q .1) → ⊥). free d l (q .1) (inr (q .0, q .2)) n) (k (q .0) (q .1) (q .2))))
+      (pl .room d l);
 }
   where
     pl : Placing p (g .hd) (g .pr) (Used p (g .un) v)

@@ -11,7 +11,8 @@ use Rattle.proof_crash_machine.specs.Val.{Val}
 use Rattle.proof_crash_machine.specs.View.{Item, ItemView, InI, withItem, chunk-hdr}
 use Rattle.proof_crash_machine.specs.View.Item.{hdr, chunk}
 use Rattle.proof_crash_machine.specs.Mask.{Mask, count}
-use Rattle.proof_crash_machine.specs.Facts.{Par, None, self-none, InPair, none-few, some-present, Ghost, L, Stripe, Counted, ZoneItems, Used, WholeZone, Swap, Ragged, Open, Content, Facts, used}
+use Rattle.proof_crash_machine.specs.Facts.{Par, None, self-none, InPair, none-few, some-present, Ghost, L, Stripe, Counted, ZoneItems, Used, WholeZone, Swap, Ragged, Open, Content, Facts}
+use Rattle.proof_crash_machine.specs.Facts.{used}
 use Rattle.proof_crash_machine.specs.Facts.Pair.{pair}
 use Rattle.proof_crash_machine.specs.Put
 
@@ -45,7 +46,8 @@ pub record Opening (p : Par) (g : Ghost) (v : ItemView) (d w : ℕ) : Type 0 whe
   pub link : (o : ℕ) → Used p (g .un) v o → o ≢ w → g .hd .cop w ≡ g .hd .ser o → g .pr ≡ pair w o
   pub old : (w′ o : ℕ) → g .pr ≡ pair w′ o → WholeZone p (g .un) v o
   pub lone : (y : ℕ) → Ragged p (g .un) v y → y ≢ w → g .pr ≡ pair w y
-  pub space : (e : ℕ) → e < p .N → ((y : ℕ) × (y < p .Z) × (p .fine e y ≡ true) × (g .hd .zn w e ≢ y) × ((z : ℕ) → (Used p (g .un) v z) ⊎ (InPair (g .pr) z) → z ≢ w → g .hd .zn z e ≢ y))
+  pub space : (e : ℕ) → e < p .N → ((y : ℕ) × (y < p .Z) × (p .fine e y ≡ true) × (g .hd .zn w e ≢ y)
+      × ((z : ℕ) → (Used p (g .un) v z) ⊎ (InPair (g .pr) z) → z ≢ w → g .hd .zn z e ≢ y))
       ⊎ ((x : ℕ) × (o : ℕ) × (g .pr ≡ pair x o))
 
 module _ (p : Par) (g : Ghost) (v : ItemView) (d w : ℕ) (a : Opening p g v d w) where
@@ -163,7 +165,8 @@ module _ (p : Par) (g : Ghost) (v : ItemView) (d w : ℕ) (a : Opening p g v d w
       put₁ y k (yes q) e l = rw q (a .fits e l)
       put₁ y k (no q) e l = h .place .put y (live y q k) e l
 
-      apart₁ : (y z : ℕ) → (Used p (g .un) u y) ⊎ (InPair (g .pr) y) → (Used p (g .un) u z) ⊎ (InPair (g .pr) z) → (e : ℕ) → e < p .N → g .hd .zn y e ≡ g .hd .zn z e → Dec (y ≡ w) → Dec (z ≡ w)
+      apart₁ : (y z : ℕ) → (Used p (g .un) u y) ⊎ (InPair (g .pr) y) → (Used p (g .un) u z) ⊎ (InPair (g .pr) z) → (e : ℕ) → e < p .N
+          → g .hd .zn y e ≡ g .hd .zn z e → Dec (y ≡ w) → Dec (z ≡ w)
           → y ≡ z
       apart₁ y z k j e l q (yes i) (yes i′) = i ∙ sym i′
       apart₁ y z k j e l q (yes i) (no i′) = absurd (a .clear z (live z i′ j) i′ e l (sym q ∙ ap (λ (t : ℕ). g .hd .zn t e) i))

@@ -141,13 +141,15 @@ pub data Step (p : Par) : State → State → Type 0 where
   -- all stripes are complete: a footer block; and the segment is sealed
   footer : (σ : State) (M : Mem) (d z j : ℕ) → σ .mode ≡ run M → d < p .N → 0 < length (σ .v d z) → length (σ .v d z) < p .cap
       → ((s : ℕ) → s < p .S → (x : Val) × InI (chunk s x) (σ .v d z)) → Step p σ (at σ (σ .g) (withItem (σ .v) d z (foot j)) (run M))
-  seal : (σ : State) (M : Mem) → σ .mode ≡ run M → ((y : ℕ) → Ragged p (σ .g .un) (σ .v) y → ⊥) → ((s : ℕ) → M .fly s ≡ false) → Step p σ (at σ (σ .g) (σ .v) (run (shut M)))
+  seal : (σ : State) (M : Mem) → σ .mode ≡ run M → ((y : ℕ) → Ragged p (σ .g .un) (σ .v) y → ⊥) → ((s : ℕ) → M .fly s ≡ false)
+      → Step p σ (at σ (σ .g) (σ .v) (run (shut M)))
   -- a segment without live blocks is reset
   reset-cut : (σ : State) (M : Mem) (z k : ℕ) → σ .mode ≡ run M → Quiet p (σ .g) (σ .v) z → Step p σ (at σ (σ .g) (applyAll (σ .v) (take k (resets z 0 (p .N)))) off)
   reset-done : (σ : State) (M : Mem) (z : ℕ) → σ .mode ≡ run M → Quiet p (σ .g) (σ .v) z → (M .is-open ≡ true → M .zone ≢ z)
       → Step p σ (at σ (σ .g) (applyAll (σ .v) (resets z 0 (p .N))) (run M))
   -- a restart that names the drives m missing, not none, whatever they hold; it reads K
-  missing : (σ : State) (m : Mask) (t : ℕ) (u : ItemView) (K : ℕ → ℕ) → (d : ℕ) × (d < p .N) × (m d ≡ true) → Choice p (σ .g .un) m → ((e y : ℕ) → e < p .N → m e ≡ false → σ .v e y ≡ u e y)
+  missing : (σ : State) (m : Mask) (t : ℕ) (u : ItemView) (K : ℕ → ℕ) → (d : ℕ) × (d < p .N) × (m d ≡ true) → Choice p (σ .g .un) m
+      → ((e y : ℕ) → e < p .N → m e ≡ false → σ .v e y ≡ u e y)
       → Reads p (σ .g .hd) u m K → ((x : Val) → InV x (σ .g .sent) → x .stamp ≤ t)
       → Step p σ (record { g = finishing (σ .g) m K t (σ .g .sent); v = u; acked = σ .acked; since = false; mode = ro })
   -- a restart with none missing, cut while it resets, cut while it rewrites, or finished
@@ -172,7 +174,8 @@ pub data Step (p : Par) : State → State → Type 0 where
       })
   -- nothing to rewrite
   restart-plain : (σ : State) (none : None p (σ .g .un)) (ss : List ItemStore) → Dropping p (σ .g) (σ .v) none ss
-      → ((d z s : ℕ) (x : Val) → d < p .N → Unsealed p (applyAll (σ .v) ss) z → InI (chunk s x) (applyAll (σ .v) ss d z) → (f : ℕ → Val) × Stripe p (applyAll (σ .v) ss) (σ .g .un) z s f × (f d ≡ x))
+      → ((d z s : ℕ) (x : Val) → d < p .N → Unsealed p (applyAll (σ .v) ss) z → InI (chunk s x) (applyAll (σ .v) ss d z) → (f : ℕ → Val)
+      × Stripe p (applyAll (σ .v) ss) (σ .g .un) z s f × (f d ≡ x))
       → (K : ℕ → ℕ) (t : ℕ) → Reads p (σ .g .hd) (applyAll (σ .v) ss) (σ .g .un) K → ((x : Val) → Counted p (σ .g .hd) (applyAll (σ .v) ss) (σ .g .un) x → x .stamp ≤ t)
       → (b : Bool) (z n : ℕ) → n ≤ p .S → ((y : ℕ) → Ragged p (σ .g .un) (applyAll (σ .v) ss) y → (b ≡ true) × (y ≡ z))
       → (b ≡ true → WholeZone p (σ .g .un) (applyAll (σ .v) ss) z) → (b ≡ true → (e s : ℕ) (x : Val) → e < p .N → InI (chunk s x) (applyAll (σ .v) ss e z) → s < n)
@@ -184,7 +187,8 @@ pub data Step (p : Par) : State → State → Type 0 where
       → Step p σ (at σ (withPr (σ .g) alone) (withItem (σ .v) d z (foot j)) off)
   -- rebuild: it starts (perhaps once more) for drives that the last restart named, stores on them, and ends
   rebuild : (σ : State) (m : Mask) → Choice p (σ .g .un) m → (Beyond p (σ .g .said) m → ⊥) → Step p σ (at σ (withUn (σ .g) m) (σ .v) ro)
-  rebuild-store : (σ : State) (u : ItemView) → (d : ℕ) × (d < p .N) × (σ .g .un d ≡ true) → ((e y : ℕ) → e < p .N → σ .g .un e ≡ false → σ .v e y ≡ u e y) → (m : Mode) → (m ≡ ro) ⊎ (m ≡ off)
+  rebuild-store : (σ : State) (u : ItemView) → (d : ℕ) × (d < p .N) × (σ .g .un d ≡ true) → ((e y : ℕ) → e < p .N → σ .g .un e ≡ false → σ .v e y ≡ u e y)
+      → (m : Mode) → (m ≡ ro) ⊎ (m ≡ off)
       → Step p σ (at σ (σ .g) u m)
   rebuild-done : (σ : State) (u : ItemView) (n : Mask) → None p n → (d : ℕ) × (d < p .N) × (σ .g .un d ≡ true) → Rebuilt p (σ .g) (σ .v) u → Step p σ (at σ (withUn (σ .g) n) u ro)
 
@@ -200,7 +204,8 @@ pub record Claim (p : Par) (σ : State) (m : Mask) (K : ℕ → ℕ) : Type 0 wh
   pub same : σ .since ≡ false → (Beyond p (σ .g .said) m → ⊥) → (a : ℕ) → K a ≡ σ .g .last a
 
 -- on drives u that σ's stores led to, under a ghost with σ's history
-pub claim : (p : Par) (σ : State) → Inv p σ → (g : Ghost) (u : ItemView) → Facts p g u → g .sent ≡ σ .g .sent → g .last ≡ σ .g .last → g .base ≡ σ .g .base → g .top ≡ σ .g .top
+pub claim : (p : Par) (σ : State) → Inv p σ → (g : Ghost) (u : ItemView) → Facts p g u → g .sent ≡ σ .g .sent → g .last ≡ σ .g .last → g .base ≡ σ .g .base
+    → g .top ≡ σ .g .top
     → g .said ≡ σ .g .said → (m : Mask) → Choice p (g .un) m → (K : ℕ → ℕ) → Reads p (g .hd) u m K → Claim p σ m K
 claim p σ i g u h es el eb et ed m c K r = record {
   acked = λ x k. omega (arith, base (x .addr), i .acks x k .1);
@@ -223,7 +228,8 @@ module _ (p : Par) (σ : State) (m : Mask) (K : ℕ → ℕ) (c : Claim p σ m K
   acks-cut : ((x : Val) → InV x (σ .acked) → InV x (σ .g .sent)) → (x : Val) → InV x (σ .acked) → (InV x (upTo t (σ .g .sent))) × (x .stamp ≤ K (x .addr))
   acks-cut h x m = (in-upTo t (σ .g .sent) x (h x m) (omega (arith, c .acked x m, b (x .addr))), c .acked x m)
 
-uniq-cut : (t : ℕ) (l : List Val) → ((x y : Val) → InV x l → InV y l → x .stamp ≡ y .stamp → x ≡ y) → (x y : Val) → InV x (upTo t l) → InV y (upTo t l) → x .stamp ≡ y .stamp → x ≡ y
+uniq-cut : (t : ℕ) (l : List Val) → ((x y : Val) → InV x l → InV y l → x .stamp ≡ y .stamp → x ≡ y) → (x y : Val) → InV x (upTo t l) → InV y (upTo t l)
+    → x .stamp ≡ y .stamp → x ≡ y
 uniq-cut t l h x y m k e = h x y (upTo-le t l x m .0) (upTo-le t l y k .0) e
 
 reads-le : (p : Par) (h : Heads) (u : ItemView) (m : Mask) (K : ℕ → ℕ) → Reads p h u m K → (t : ℕ) → ((x : Val) → Counted p h u m x → x .stamp ≤ t) → (a : ℕ) → K a ≤ t
@@ -290,7 +296,8 @@ StepClaim p _ _ (rebuild-store σ u l e m k) = Unit {0}
 StepClaim p _ _ (rebuild-done σ u n l b a) = Unit {0}
 
 -- the drives off m are as they were: so is what is read
-pub reads-same : (p : Par) (g : Ghost) (v u : ItemView) (m : Mask) (K : ℕ → ℕ) → ((e y : ℕ) → e < p .N → m e ≡ false → v e y ≡ u e y) → Reads p (g .hd) u m K → Reads p (g .hd) v m K
+pub reads-same : (p : Par) (g : Ghost) (v u : ItemView) (m : Mask) (K : ℕ → ℕ) → ((e y : ℕ) → e < p .N → m e ≡ false → v e y ≡ u e y) → Reads p (g .hd) u m K
+    → Reads p (g .hd) v m K
 reads-same p g v u m K e r = record {
   most = λ x c. r .most x (Counted-same p g v u m (λ z d l n. e d z l n) (λ z d l n. sym (e d z l n)) x c);
   some = λ a. ⊎-elim (λ k. inl k)
@@ -370,7 +377,8 @@ step-inv p _ _ i (send σ M x s d r e t f al) =
           ≡ x .addr = ap (λ (w : Val). w .addr) q in (omega (arith, z, f), omega (arith, b, al)))
           (λ (q : InV y (σ .g .sent)). i .ones y q) k;
       mode = fill-mem p (σ .g) (σ .v) M m (x ∷ σ .g .sent) s (M .next) (x .stamp) (filledWord p s (M .F s) d x) r (w .0) (w .1) (omega arith) (m .few) (λ y k. inr k)
-          (λ y k. ⊎-elim (λ (q : y ≡ x). let z : y .stamp ≡ x .stamp = ap (λ (w : Val). w .stamp) q in omega arith) (λ (q : InV y (σ .g .sent)). omega (arith, m .stamps y q, f)) k) (omega (arith, f))
+          (λ y k. ⊎-elim (λ (q : y ≡ x). let z : y .stamp ≡ x .stamp = ap (λ (w : Val). w .stamp) q in omega arith) (λ (q : InV y (σ .g .sent)). omega (arith, m .stamps y q, f)) k)
+          (omega (arith, f))
           (Filling.fill p (withSent (σ .g) (x ∷ σ .g .sent)) (σ .v) (M .zone) s (M .F s) (M .ready s)
           (record { mine = w .2 .mine; word = w .2 .word; ok = w .2 .ok; good = λ y k. ⊎-elim (λ q. inl q) (λ (q : InV y (σ .g .sent)). inr (inr q)) (w .2 .good y k) })
           d x (t .drive) (t .data?) (t .free) (t .early) (inr (inl refl)) (inr (omega (arith, m .top, f))) r (t .more));

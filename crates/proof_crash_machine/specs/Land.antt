@@ -53,7 +53,8 @@ module _ (p : Par) (g : Ghost) (v : ItemView) (d z s : ℕ) (F : ℕ → Val) (a
       (λ (w : (e ≡ d) × (y ≡ z) × (chunk t x ≡ i)). absurd (⊎-elim (λ (k : y ≢ z). k (w .1)) (λ (k : t ≢ s). k (chunk-num (w .2))) n))
       (Put.in-back v d z i (chunk t x) e y m)
 
-  stripe-before : (m : Mask) (y t : ℕ) (f : ℕ → Val) → count (p .N) m ≤ p .P → Stripe p u m y t f → (Stripe p v m y t f) ⊎ ((y ≡ z) × (t ≡ s) × ((e : ℕ) → e < p .N → f e ≡ F e))
+  stripe-before : (m : Mask) (y t : ℕ) (f : ℕ → Val) → count (p .N) m ≤ p .P → Stripe p u m y t f
+      → (Stripe p v m y t f) ⊎ ((y ≡ z) × (t ≡ s) × ((e : ℕ) → e < p .N → f e ≡ F e))
   stripe-before m y t f b h = go (ℕ-discrete y z) (ℕ-discrete t s)
     where
       old : (y ≢ z) ⊎ (t ≢ s) → Stripe p v m y t f

@@ -234,7 +234,8 @@ module _ (p : Par) (g : Ghost) (v : ItemView) (M : Mem) (a : MemOk p g v M) wher
         rem = record {
           left = a .begun (r .0);
           own = λ o l q. pair-alone
-              (sym (h .swap .one (M .zone) o (used p g v (g .un) (M .zone) (self-none p (g .un) (a .none)) (a .begun (r .0))) (used p g v (g .un) o (self-none p (g .un) (a .none)) l) q) ∙ a .no-pair);
+              (sym (h .swap .one (M .zone) o (used p g v (g .un) (M .zone) (self-none p (g .un) (a .none)) (a .begun (r .0))) (used p g v (g .un) o (self-none p (g .un) (a .none)) l) q)
+              ∙ a .no-pair);
         };
         st = record {
           on = λ e l n. let w : (y : Val) × InI (chunk s y) (v e (M .zone)) = on e l in

@@ -74,7 +74,8 @@ abbrev pub openMem : Mem → ℕ → ℕ → Mem
 openMem M w r = record { serial = r; is-open = true; zone = w; next = 0; fly = λ s. false; ready = M .ready; F = M .F; stamp = M .stamp }
 
 pub open-mem : (p : Par) (g : Ghost) (v u : ItemView) (w r : ℕ) (M : Mem) → MemOk p g v M → M .serial ≤ r → ((y : ℕ) → Ragged p (g .un) v y → ⊥)
-    → ((e y : ℕ) → y ≢ w → u e y ≡ v e y) → (i k : ℕ) (ζ n : ℕ → ℕ) → ((e : ℕ) → e < p .N → u e w ≡ hdr i k n ∷ []) → MemOk p (naming g w r 0 ζ alone) u (openMem M w r)
+    → ((e y : ℕ) → y ≢ w → u e y ≡ v e y) → (i k : ℕ) (ζ n : ℕ → ℕ) → ((e : ℕ) → e < p .N → u e w ≡ hdr i k n ∷ [])
+    → MemOk p (naming g w r 0 ζ alone) u (openMem M w r)
 open-mem p g v u w r M a up full other i k ζ nn head = record {
   none = a .none;
   no-pair = refl;

@@ -89,9 +89,12 @@ module _ (p : Par) (g : Ghost) (v : ItemView) (w r c : ℕ) (ζ : ℕ → ℕ) (
       put₁ y (inl i) d l = rw (zn′ y (used-not-named y i)) (pl .put y (inl i) d l)
       put₁ y (inr (e, i)) d l = rw (e, zn-w) (fits d l)
 
-      apart₁ : (y z : ℕ) → (Used p (g .un) v y) ⊎ ((y ≡ w) × InPair b w) → (Used p (g .un) v z) ⊎ ((z ≡ w) × InPair b w) → (d : ℕ) → d < p .N → g′ .hd .zn y d ≡ g′ .hd .zn z d → y ≡ z
-      apart₁ y z (inl i) (inl j) d l e = pl .apart y z (inl i) (inl j) d l (ap (λ (f : ℕ → ℕ). f d) (sym (zn′ y (used-not-named y i))) ∙ e ∙ ap (λ (f : ℕ → ℕ). f d) (zn′ z (used-not-named z j)))
-      apart₁ y z (inl i) (inr (q, j)) d l e = absurd (clear y i d l (ap (λ (f : ℕ → ℕ). f d) (sym (zn′ y (used-not-named y i))) ∙ e ∙ ap (λ (t : ℕ). g′ .hd .zn t d) q ∙ ap (λ (f : ℕ → ℕ). f d) zn-w))
+      apart₁ : (y z : ℕ) → (Used p (g .un) v y) ⊎ ((y ≡ w) × InPair b w) → (Used p (g .un) v z) ⊎ ((z ≡ w) × InPair b w) → (d : ℕ) → d < p .N
+          → g′ .hd .zn y d ≡ g′ .hd .zn z d → y ≡ z
+      apart₁ y z (inl i) (inl j) d l e =
+          pl .apart y z (inl i) (inl j) d l (ap (λ (f : ℕ → ℕ). f d) (sym (zn′ y (used-not-named y i))) ∙ e ∙ ap (λ (f : ℕ → ℕ). f d) (zn′ z (used-not-named z j)))
+      apart₁ y z (inl i) (inr (q, j)) d l e =
+          absurd (clear y i d l (ap (λ (f : ℕ → ℕ). f d) (sym (zn′ y (used-not-named y i))) ∙ e ∙ ap (λ (t : ℕ). g′ .hd .zn t d) q ∙ ap (λ (f : ℕ → ℕ). f d) zn-w))
       apart₁ y z (inr (q, i)) (inl j) d l e =
           absurd (clear z j d l (ap (λ (f : ℕ → ℕ). f d) (sym (zn′ z (used-not-named z j))) ∙ sym e ∙ ap (λ (t : ℕ). g′ .hd .zn t d) q ∙ ap (λ (f : ℕ → ℕ). f d) zn-w))
       apart₁ y z (inr (q, i)) (inr (q′, j)) d l e = q ∙ sym q′
@@ -100,10 +103,12 @@ module _ (p : Par) (g : Ghost) (v : ItemView) (w r c : ℕ) (ζ : ℕ → ℕ) (
           → ((y : ℕ) × (y < p .Z) × (p .fine d y ≡ true) × ((z : ℕ) → (Used p (g .un) v z) ⊎ (InPair b z) → g′ .hd .zn z d ≢ y)) ⊎ ((w : ℕ) × (o : ℕ) × (b ≡ pair w o))
       room₁ d l (pair x o) e = inr (x, o, e)
       room₁ d l alone e = ⊎-elim
-          (λ (q : (y : ℕ) × (y < p .Z) × (p .fine d y ≡ true) × ((z : ℕ) → (Used p (g .un) v z) ⊎ (InPair (g .pr) z) → g .hd .zn z d ≢ y)). inl (q .0, q .1, q .2, λ z i k. no z i (q .0) (q .3) k))
+          (λ (q : (y : ℕ) × (y < p .Z) × (p .fine d y ≡ true) × ((z : ℕ) → (Used p (g .un) v z) ⊎ (InPair (g .pr) z) → g .hd .zn z d ≢ y)). inl
+          (q .0, q .1, q .2, λ z i k. no z i (q .0) (q .3) k))
           (λ (q : (x : ℕ) × (o : ℕ) × (g .pr ≡ pair x o)). absurd (pair-alone (sym (q .2) ∙ no-pair))) (pl .room d l)
         where
-          no : (z : ℕ) → (Used p (g .un) v z) ⊎ (InPair b z) → (y : ℕ) → ((z : ℕ) → (Used p (g .un) v z) ⊎ (InPair (g .pr) z) → g .hd .zn z d ≢ y) → g′ .hd .zn z d ≡ y → ⊥
+          no : (z : ℕ) → (Used p (g .un) v z) ⊎ (InPair b z) → (y : ℕ) → ((z : ℕ) → (Used p (g .un) v z) ⊎ (InPair (g .pr) z) → g .hd .zn z d ≢ y)
+              → g′ .hd .zn z d ≡ y → ⊥
           no z (inl i) y f k = f z (inl i) (ap (λ (f : ℕ → ℕ). f d) (sym (zn′ z (used-not-named z i))) ∙ k)
           no z (inr (inl (o, q))) y f k = pair-alone (sym q ∙ e)
           no z (inr (inr (x, q))) y f k = pair-alone (sym q ∙ e)

@@ -82,7 +82,8 @@ sent-order l n x T b e here order = (here′, order′)
     here′ y (inr m) = (omega (arith, old y m, here y m .0), ap (sentTo T x .log) (old y m) ∙ log-old (T .pos (y .stamp)) (here y m .0) ∙ here y m .1)
 
     order′ : (y z : Val) → InV y (x ∷ l) → InV z (x ∷ l) → y .stamp < z .stamp → sentTo T x .pos (y .stamp) < sentTo T x .pos (z .stamp)
-    order′ y z (inl q) (inl r) h = absurd (let i : y .stamp ≡ x .stamp = ap (λ (w : Val). w .stamp) q in let k : z .stamp ≡ x .stamp = ap (λ (w : Val). w .stamp) r in let j : ⊥ = omega arith in j)
+    order′ y z (inl q) (inl r) h =
+        absurd (let i : y .stamp ≡ x .stamp = ap (λ (w : Val). w .stamp) q in let k : z .stamp ≡ x .stamp = ap (λ (w : Val). w .stamp) r in let j : ⊥ = omega arith in j)
     order′ y z (inl q) (inr r) h = absurd (let i : y .stamp ≡ x .stamp = ap (λ (w : Val). w .stamp) q in let j : ⊥ = omega (arith, i, e, b z r, h) in j)
     order′ y z (inr q) (inl r) h = omega (arith, old y q, new z r, here y q .0)
     order′ y z (inr q) (inr r) h = omega (arith, old y q, old z r, order y z q r h)

@@ -126,7 +126,8 @@ module _ (p : Par) (g : Ghost) (n : Mask) (none : None p n) (fair : Beyond p (g 
 
   stripe-to : (m : Mask) (y s : ℕ) (f : ℕ → Val) → R p (g .hd) v U y → Stripe p v U y s f → Stripe p u m y s f
   stripe-to m y s f k st = record {
-    on = λ e l w. ⊎-elim (λ (q : U e ≡ true). a .all e y (l, q) s f k st) (λ (q : U e ≡ false). subst (λ (x : List Item). InI (chunk s (f e)) x) (a .same e y l q) (st .on e l q)) (two (U e));
+    on =
+        λ e l w. ⊎-elim (λ (q : U e ≡ true). a .all e y (l, q) s f k st) (λ (q : U e ≡ false). subst (λ (x : List Item). InI (chunk s (f e)) x) (a .same e y l q) (st .on e l q)) (two (U e));
     word = st .word;
   }
 

@@ -110,7 +110,8 @@ module _ (p : Par) (g : Ghost) (v : ItemView) (π : RPlan p g v) where
   head-column d z (suc j) = Put.off-left (column d z j) (foot j) 0 (omega (arith, length-column d z j)) ∙ head-column d z j
 
   module _ (u : ItemView) (h : Facts p g v) (same : (e y : ℕ) → e < p .N → g .un e ≡ false → v e y ≡ u e y)
-      (full : (d z : ℕ) → Un p g d → R p (g .hd) v (g .un) z → u d z ≡ column d z (π .foots z)) (none : (d z : ℕ) → Un p g d → (R p (g .hd) v (g .un) z → ⊥) → u d z ≡ []) where
+      (full : (d z : ℕ) → Un p g d → R p (g .hd) v (g .un) z → u d z ≡ column d z (π .foots z))
+      (none : (d z : ℕ) → Un p g d → (R p (g .hd) v (g .un) z → ⊥) → u d z ≡ []) where
     -- a zone is empty, or is the column
     two′ : (d y : ℕ) → Un p g d → ((R p (g .hd) v (g .un) y) × (u d y ≡ column d y (π .foots y))) ⊎ (u d y ≡ [])
     two′ d y k = go (decR p g v (g .un) (self p (g .un) (h .lost .few)) (h .swap) y)

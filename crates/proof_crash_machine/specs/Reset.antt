@@ -89,7 +89,8 @@ module _ (v : ItemView) (d z : ℕ) where
     }
 
 -- ---- what of w counts, for some choice, counts with none missing: in w, or in o
-pub moved-counts : (p : Par) (g : Ghost) (v : ItemView) → count (p .N) (g .un) ≤ p .P → Swap p g v → (w o : ℕ) → g .pr ≡ pair w o → Moved p (g .un) v w o → (m : Mask) → Choice p (g .un) m
+pub moved-counts : (p : Par) (g : Ghost) (v : ItemView) → count (p .N) (g .un) ≤ p .P → Swap p g v → (w o : ℕ) → g .pr ≡ pair w o → Moved p (g .un) v w o → (m : Mask)
+    → Choice p (g .un) m
     → (s : ℕ) (f : ℕ → Val) → Stripe p v m w s f → (x : Val) → Datum p s f x → Counted p (g .hd) v (g .un) x
 moved-counts p g v few h w o e b m c s f st x dt = go (decL p v (g .un) o)
   where

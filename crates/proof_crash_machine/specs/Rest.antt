@@ -120,6 +120,7 @@ clean-of p g v h none no-pair rest tidy = record {
   once = λ d z s x y l m k. once-in p g d z (v d z) (h .zones d z (l, none d l)) s x y m k;
 }
   where
-    go : (d z s : ℕ) (x : Val) → d < p .N → InI (chunk s x) (v d z) → Dec ((e : ℕ) → e < p .N → p .cap ≤ length (v e z)) → (f : ℕ → Val) × Stripe p v (g .un) z s f × (f d ≡ x)
+    go : (d z s : ℕ) (x : Val) → d < p .N → InI (chunk s x) (v d z) → Dec ((e : ℕ) → e < p .N → p .cap ≤ length (v e z)) → (f : ℕ → Val) × Stripe p v (g .un) z s f
+        × (f d ≡ x)
     go d z s x l m (yes k) = full-stripe p g v h none z (λ e b. omega (arith, k e b, p .fits)) d s x l m
     go d z s x l m (no k) = tidy d z s x l k m

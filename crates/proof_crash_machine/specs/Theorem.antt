@@ -46,5 +46,6 @@ theorem p = record {
   accepts = λ σ r m c. accepted p (σ .g) (σ .v) (kept-all p (start p) σ r (inv-start p) .facts) m c;
 }
   where
-    now : (σ : State) → Inv p σ → (m : Mask) → Choice p (σ .g .un) m → (E : ℕ → ℕ) → ((z : ℕ) → L p (σ .v) m z → (k : ℕ) × (k < p .Z) × (E k ≡ z)) → Claim p σ m (bestStamp p (σ .v) m E)
+    now : (σ : State) → Inv p σ → (m : Mask) → Choice p (σ .g .un) m → (E : ℕ → ℕ) → ((z : ℕ) → L p (σ .v) m z → (k : ℕ) × (k < p .Z) × (E k ≡ z))
+        → Claim p σ m (bestStamp p (σ .v) m E)
     now σ i m c E cover = claim p σ i (σ .g) (σ .v) (i .facts) refl refl refl refl refl m c (bestStamp p (σ .v) m E) (computed p (σ .g) (σ .v) (i .facts) m c E cover)

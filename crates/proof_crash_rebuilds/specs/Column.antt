@@ -192,7 +192,8 @@ module _ (p : Params) (r : Ranged p) (g₀ : Ghost) (m : ℕ) (few-lost : count 
     chunks-are (suc n) = ap (λ (x : List Item). x ++ (it n ∷ [])) (chunks-are n) ∙ ap (λ (x : List Item). hdr (g .hd .ser (z .name)) (g .hd .cop (z .name)) (g .hd .zn (z .name)) ∷ x) (snoc n)
       where
         snoc : (n : ℕ) → map it (upFrom 0 n) ++ (it n ∷ []) ≡ map it (upFrom 0 (suc n))
-        snoc n = sym (ap (map it) (upFrom-snoc 0 n) ∙ map-append it (upFrom 0 n) ((0 + n) ∷ []) ∙ ap (λ (x : ℕ). map it (upFrom 0 n) ++ (it x ∷ [])) (let e : 0 + n ≡ n = omega arith in e))
+        snoc n =
+            sym (ap (map it) (upFrom-snoc 0 n) ∙ map-append it (upFrom 0 n) ((0 + n) ∷ []) ∙ ap (λ (x : ℕ). map it (upFrom 0 n) ++ (it x ∷ [])) (let e : 0 + n ≡ n = omega arith in e))
 
     column-feet : (j : ℕ) → column (parOf p r) g (itemsIn p v) plan d (z .name) j ≡ chunks (parOf p r) g (itemsIn p v) plan d (z .name) (planCount z) ++ map foot (below j)
     unfolding column plan below upFrom
@@ -202,7 +203,9 @@ module _ (p : Params) (r : Ranged p) (g₀ : Ghost) (m : ℕ) (few-lost : count 
         ∙ ap (λ (x : List Item). chunks (parOf p r) g (itemsIn p v) plan d (z .name) (planCount z) ++ x) (snoc j)
       where
         snoc : (n : ℕ) → map foot (upFrom 0 n) ++ (foot n ∷ []) ≡ map foot (upFrom 0 (suc n))
-        snoc n = sym (ap (map foot) (upFrom-snoc 0 n) ∙ map-append foot (upFrom 0 n) ((0 + n) ∷ []) ∙ ap (λ (x : ℕ). map foot (upFrom 0 n) ++ (foot x ∷ [])) (let e : 0 + n ≡ n = omega arith in e))
+        snoc n =
+            sym (ap (map foot) (upFrom-snoc 0 n) ∙ map-append foot (upFrom 0 n) ((0 + n) ∷ [])
+            ∙ ap (λ (x : ℕ). map foot (upFrom 0 n) ++ (foot x ∷ [])) (let e : 0 + n ≡ n = omega arith in e))
 
     pub column-is : column (parOf p r) g (itemsIn p v) plan d (z .name) (planFeet z) ≡ zoneItems p r g v k m c d z
     column-is =

@@ -64,14 +64,16 @@ puts-at f d (z ∷ l) r x y (inr i) = ap (λ (u : ItemView). u d (y .name)) (app
 
 -- ---- resets of the drive
 
-drive-resets-follow : (p : Params) (d : ℕ) → d < p .N → (l : List ℕ) → ((z : ℕ) → Has z l → z < p .Z) → (v : View) → Follows p v (map (λ z. reset d z) l) (map (λ z. m-reset d (segOn d z .name)) l)
+drive-resets-follow : (p : Params) (d : ℕ) → d < p .N → (l : List ℕ) → ((z : ℕ) → Has z l → z < p .Z) → (v : View)
+    → Follows p v (map (λ z. reset d z) l) (map (λ z. m-reset d (segOn d z .name)) l)
 unfolding storeItems storeItem
 drive-resets-follow p d b [] h v = record { sound = tt; items = refl }
 drive-resets-follow p d b (z ∷ l) h v =
     let a : Follows p (storeView (reset d z) v) (map (λ z. reset d z) l) (map (λ z. m-reset d (segOn d z .name)) l) = drive-resets-follow p d b l (λ e i. h e (inr i)) (storeView (reset d z) v) in
     record { sound = ((b, h z (inl refl)), a .sound); items = ap (λ (x : List ItemStore). m-reset d (segOn d z .name) ∷ x) (a .items) }
 
-reset-step-zero : (p : Params) (d z : ℕ) → d < p .N → z < p .Z → (v : View) → Shape p v → (y : ℕ) → (pointerAt v d y ≡ 0) ⊎ (y ≡ z) → pointerAt (storeView (reset d z) v) d y ≡ 0
+reset-step-zero : (p : Params) (d z : ℕ) → d < p .N → z < p .Z → (v : View) → Shape p v → (y : ℕ) → (pointerAt v d y ≡ 0) ⊎ (y ≡ z)
+    → pointerAt (storeView (reset d z) v) d y ≡ 0
 reset-step-zero p d z l b v s y q = go (ℕ-discrete y z) q
   where
     at : pointerAt (storeView (reset d z) v) d z ≡ 0
@@ -85,7 +87,8 @@ reset-step-zero p d z l b v s y q = go (ℕ-discrete y z) q
     go (no n) (inl w) = other n ∙ w
     go (no n) (inr w) = absurd (n w)
 
-drive-resets-zero : (p : Params) → Ranged p → (d : ℕ) → d < p .N → (l : List ℕ) → ((z : ℕ) → Has z l → z < p .Z) → (v : View) → Shape p v → (y : ℕ) → (pointerAt v d y ≡ 0) ⊎ Has y l
+drive-resets-zero : (p : Params) → Ranged p → (d : ℕ) → d < p .N → (l : List ℕ) → ((z : ℕ) → Has z l → z < p .Z) → (v : View) → Shape p v → (y : ℕ)
+    → (pointerAt v d y ≡ 0) ⊎ Has y l
     → pointerAt (storeAll storeView (map (λ z. reset d z) l) v) d y ≡ 0
 unfolding storeAll
 drive-resets-zero p r d b [] h v s y (inl q) = q
@@ -135,7 +138,8 @@ module _ (p : Params) (r : Ranged p) (v : View) (g : Ghost) (a : List Val) (s : 
   zero₁ z b = drive-resets-zero p r d dl (below (p .Z)) zones-low v (lk .shape) z (inr (has-below z (p .Z) b))
 
   -- segment after segment
-  segs-follow : (l : List Seg) → Rising (segNames l) → ((z : Seg) → Has z l → Has z (remaining p v (named d))) → (w : View) → Shape p w → ((z : Seg) → Has z l → pointerAt w d (zoneOn z d) ≡ 0)
+  segs-follow : (l : List Seg) → Rising (segNames l) → ((z : Seg) → Has z l → Has z (remaining p v (named d))) → (w : View) → Shape p w
+      → ((z : Seg) → Has z l → pointerAt w d (zoneOn z d) ≡ 0)
       → Follows p w (flat (λ z. rebuiltZone p d (segmentOf p v (named d) z)) l) (flat (λ z. puts d (z .name) (zoneItems p r (withUn g (isIn (named d))) v kD (named d) cD d z)) l)
   unfolding flat
   segs-follow [] q h w sh e = follows-nil p w
@@ -184,7 +188,8 @@ module _ (p : Params) (r : Ranged p) (v : View) (g : Ghost) (a : List Val) (s : 
       (subst (λ (k : Segment). Has x (rebuiltZone p d k)) (z .2) (y .2)) in
       inr (zoneOn (z .0) d, w .0, w .1, w .2)) (append-has x (map (λ z. reset d z) (below (p .Z))) (flat (rebuiltZone p d) (map (segmentOf p v (named d)) (remaining p v (named d)))) i)
 
-  stores-other : (l : List Store) (w : View) → Shape p w → AllSound p w l → ((x : Store) → Has x l → OnDrive x) → (e y : ℕ) → e ≢ d → zoneAt (storeAll storeView l w) e y ≡ zoneAt w e y
+  stores-other : (l : List Store) (w : View) → Shape p w → AllSound p w l → ((x : Store) → Has x l → OnDrive x) → (e y : ℕ) → e ≢ d
+      → zoneAt (storeAll storeView l w) e y ≡ zoneAt w e y
   unfolding storeAll
   stores-other [] w sh f h e y n = refl
   stores-other (x ∷ l) w sh f h e y n =

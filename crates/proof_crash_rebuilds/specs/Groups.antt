@@ -84,7 +84,8 @@ module _ (p : Params) (r : Ranged p) (g : Ghost) (v : View) (k : OnDrives p r g 
         let w : suc i ≡ suc j = zone-facts p r g v k d z l (trusted p r g v k m c d l n) .once (suc i) (suc j) (recordOf (blockIn (zoneAt v d (zoneOn z d)) (suc j) .spare) .stripe)
         (valueOf (blockIn (zoneAt v d (zoneOn z d)) (suc i) .block) (recordOf (blockIn (zoneAt v d (zoneOn z d)) (suc i) .spare)))
         (valueOf (blockIn (zoneAt v d (zoneOn z d)) (suc j) .block) (recordOf (blockIn (zoneAt v d (zoneOn z d)) (suc j) .spare)))
-        (subst (λ (s : ℕ). Off (itemsIn p v d (z .name)) (suc i) (chunk s (valueOf (blockIn (zoneAt v d (zoneOn z d)) (suc i) .block) (recordOf (blockIn (zoneAt v d (zoneOn z d)) (suc i) .spare))))) e
+        (subst (λ (s : ℕ). Off (itemsIn p v d (z .name)) (suc i)
+        (chunk s (valueOf (blockIn (zoneAt v d (zoneOn z d)) (suc i) .block) (recordOf (blockIn (zoneAt v d (zoneOn z d)) (suc i) .spare))))) e
         (off i a)) (off j b) in
         omega (arith, w)
 

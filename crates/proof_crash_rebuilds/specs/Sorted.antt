@@ -60,7 +60,8 @@ find-index (suc n) f t = go (ℕ-discrete (f n) t) (find-index n f t)
         two i l (yes w) = λ x. e (ap f (sym w) ∙ x)
         two i l (no w) = q i (omega arith)
 
-pub onto : (n : ℕ) (f : ℕ → ℕ) → ((i : ℕ) → i < n → f i < n) → ((i j : ℕ) → i < n → j < n → f i ≡ f j → i ≡ j) → (t : ℕ) → t < n → (i : ℕ) × (i < n) × (f i ≡ t)
+pub onto : (n : ℕ) (f : ℕ → ℕ) → ((i : ℕ) → i < n → f i < n) → ((i j : ℕ) → i < n → j < n → f i ≡ f j → i ≡ j) → (t : ℕ) → t < n → (i : ℕ) × (i < n)
+    × (f i ≡ t)
 onto n f b inj t l = go (find-index n f t)
   where
     -- with t one more

@@ -174,7 +174,8 @@ module _ (p : Params) (r : Ranged p) (g : Ghost) (v : View) (k : OnDrives p r g 
       item-is : kindItem p d z (zoneAt w d (zoneOn z d)) (piece s .block) (recordBytes (piece s .rec)) kd ≡ chunkIt s
       item-is = unfold kindItem in piece-chunk s
 
-      go : (o : ℕ) → o < suc j → Dec (o ≡ j) → blockIn (putZone (piece s .block) (recordBytes (piece s .rec)) (zoneAt w d (zoneOn z d))) (suc o) .spare ≡ recordBytes (piece (getD cs o 0) .rec)
+      go : (o : ℕ) → o < suc j → Dec (o ≡ j) → blockIn (putZone (piece s .block) (recordBytes (piece s .rec)) (zoneAt w d (zoneOn z d))) (suc o) .spare ≡ recordBytes
+          (piece (getD cs o 0) .rec)
       go o ol (yes q) =
           ap (λ (x : ℕ). blockIn (putZone (piece s .block) (recordBytes (piece s .rec)) (zoneAt w d (zoneOn z d))) x .spare) (ap suc q ∙ sym (pointer-is w d (zoneOn z d) ∙ a .at))
           ∙ ap (λ (x : Chunk). x .spare) (put-new-block p r d (zoneOn z d) (zoneAt w d (zoneOn z d)) (shape-zone p w (a .shape) d (zoneOn z d) dl zl) (piece s .block)
@@ -188,7 +189,8 @@ module _ (p : Params) (r : Ranged p) (g : Ghost) (v : View) (k : OnDrives p r g 
   few-cs : length (counted p (named d) G) ≤ p .S
   few-cs = unfold counted in omega (arith, length-keep (counts p (named d) G) (below (p .S)), length-below (p .S))
 
-  chunks-follow : (ss : List ℕ) (j : ℕ) → ((t : ℕ) → t < length ss → getD ss t 0 ≡ getD (counted p (named d) G) (j + t) 0) → j + length ss ≡ length (counted p (named d) G) → (w : View) → Rows j w
+  chunks-follow : (ss : List ℕ) (j : ℕ) → ((t : ℕ) → t < length ss → getD ss t 0 ≡ getD (counted p (named d) G) (j + t) 0) → j + length ss ≡ length (counted p (named d) G)
+      → (w : View) → Rows j w
       → Follows p w (map (putPiece d (zoneOn z d)) (map piece ss)) (puts d (z .name) (map chunkIt ss))
       × Rows (length (counted p (named d) G)) (storeAll storeView (map (putPiece d (zoneOn z d)) (map piece ss)) w)
   unfolding puts storeAll storeItems
@@ -277,7 +279,8 @@ module _ (p : Params) (r : Ranged p) (g : Ghost) (v : View) (k : OnDrives p r g 
       each o l =
           let ol : o < p .S = omega (arith, l, length-sparesIn p r (zoneAt w d (zoneOn z d)) sz) in
           spare-in p r (zoneAt w d (zoneOn z d)) sz o ol ∙ a .spares o (omega (arith, ol, e))
-          ∙ sym (ap (λ (x : List (List ℕ)). getD x o []) (map-map (λ (q : Piece). recordBytes (q .rec)) piece cs) ∙ getD-map (λ s. recordBytes (piece s .rec)) cs o [] 0 (omega (arith, ol, e)))
+          ∙ sym (ap (λ (x : List (List ℕ)). getD x o []) (map-map (λ (q : Piece). recordBytes (q .rec)) piece cs)
+          ∙ getD-map (λ s. recordBytes (piece s .rec)) cs o [] 0 (omega (arith, ol, e)))
 
   feet-step : (j : ℕ) (w : View) → j < footers p → Feet j w
       → Sound p w (put d (zoneOn z d) (footerBlock p made j) zeroSpare)
@@ -305,7 +308,8 @@ module _ (p : Params) (r : Ranged p) (g : Ghost) (v : View) (k : OnDrives p r g 
           ∙ item-foot p (p .S + j) (mkChunk (footerBlock p made j) zeroSpare) (omega arith) ∙ ap foot (let e : p .S + j - p .S ≡ j = omega arith in e)
 
   full-counts-named : G .full ≡ true → length (counted p (named d) G) ≡ p .S
-  full-counts-named e = ap length (rising-same cs (below (p .S)) (counted-rising p r g v k (named d) c z) (rising-below (p .S)) (λ s h. has-below s (p .S) (counted-has p r g v k (named d) c z s h .0))
+  full-counts-named e =
+      ap length (rising-same cs (below (p .S)) (counted-rising p r g v k (named d) c z) (rising-below (p .S)) (λ s h. has-below s (p .S) (counted-has p r g v k (named d) c z s h .0))
       (λ s h. sealed-counts p r g v k (named d) c z s zb (sym (segment-fields p r g v k (named d) c z .3) ∙ e) (below-has s (p .S) h))) ∙ length-below (p .S)
 
   abbrev fs : List Store

@@ -61,7 +61,8 @@ module _ (p : Params) (r : Ranged p) (v u : View) (g : Ghost) (a : List Val) (s 
   o : (b : Bool) × (z : Seg) × (n : ℕ) × Opened p r (withPr g alone) u b z n
   o = opened-is p r (withPr g alone) u set ord
 
-  tid : (d z s : ℕ) (x : Val) → d < p .N → Unsealed (parOf p r) (itemsIn p u) z → InI (chunk s x) (itemsIn p u d z) → (f : ℕ → Val) × Stripe (parOf p r) (itemsIn p u) (g .un) z s f × (f d ≡ x)
+  tid : (d z s : ℕ) (x : Val) → d < p .N → Unsealed (parOf p r) (itemsIn p u) z → InI (chunk s x) (itemsIn p u d z) → (f : ℕ → Val)
+      × Stripe (parOf p r) (itemsIn p u) (g .un) z s f × (f d ≡ x)
   tid d z = tidy p r (withPr g alone) u set ord d (seg z)
 
   done-reads : Reads (parOf p r) (g .hd) (itemsIn p u) (g .un) (readOn p r (withPr g alone) u set)

@@ -118,7 +118,8 @@ module _ (p : Params) (r : Ranged p) where
       one : zoneAt (storeAll storeView (resetStores p z) v) e (zoneOn y e) ≡ zoneAt v e (zoneOn y e)
       one = unfold resetStores in drops-other p z (h z (inl refl)) (drivesOf p) drives-low v s e y (λ q. n (inl q))
 
-  zeros-all : (l : List Seg) → ((z : Seg) → Has z l → Named p z) → (v : View) → Shape p v → (e y : ℕ) → pointerAt v e y ≡ 0 → pointerAt (storeAll storeView (flat (resetStores p) l) v) e y ≡ 0
+  zeros-all : (l : List Seg) → ((z : Seg) → Has z l → Named p z) → (v : View) → Shape p v → (e y : ℕ) → pointerAt v e y ≡ 0
+      → pointerAt (storeAll storeView (flat (resetStores p) l) v) e y ≡ 0
   unfolding flat storeAll
   zeros-all [] h v s e y q = q
   zeros-all (z ∷ l) h v s e y q =
@@ -164,7 +165,8 @@ module _ (p : Params) (r : Ranged p) where
 
   pub drops-follow : (v u : View) (gone : ℕ) → Follows p u (dropStores p (segments p v gone)) (dropItems p (segments p v gone))
   unfolding dropStores dropItems
-  drops-follow v u gone = follows-flat p (resetStores p) (λ z. map (λ d. m-reset d (z .name)) (drivesOf p)) (freeSegs p (segments p v gone)) (λ x z i. reset-follows p z (free-has v gone z i .0) x) u
+  drops-follow v u gone =
+      follows-flat p (resetStores p) (λ z. map (λ d. m-reset d (z .name)) (drivesOf p)) (freeSegs p (segments p v gone)) (λ x z i. reset-follows p z (free-has v gone z i .0) x) u
 
 -- ---- the machine's Dropping
 

@@ -56,7 +56,8 @@ unfolding keep
 keep-whole f [] e a i = absurd i
 keep-whole {A} f (b ∷ l) e a i = go (f b) refl e i (keep-whole f l)
   where
-    go : (t : Bool) → f b ≡ t → length (consIf t b (keep f l)) ≡ suc (length l) → Has a (b ∷ l) → (length (keep f l) ≡ length l → (a : A) → Has a l → f a ≡ true) → f a ≡ true
+    go : (t : Bool) → f b ≡ t → length (consIf t b (keep f l)) ≡ suc (length l) → Has a (b ∷ l) → (length (keep f l) ≡ length l → (a : A) → Has a l → f a ≡ true)
+        → f a ≡ true
     go true q e (inl w) ih = ap f w ∙ q
     go true q e (inr w) ih = ih (shorter e) a w
       where
@@ -89,7 +90,8 @@ module _ (p : Params) (r : Ranged p) (g₀ : Ghost) (a : List Val) (s : Bool) wh
 
       items′ : itemsIn p (storeView (footStore w d j) w) ≡ withItem (itemsIn p w) d (o .name) (foot j)
       items′ =
-          items-put-kind p r w d o (footerBlock p (sparesIn p (zoneAt w d (zoneOn o d))) j) zeroSpare (k .linked .shape) dl ob (foot-kind w d j e jl) ∙ ap (withItem (itemsIn p w) d (o .name)) is-foot
+          items-put-kind p r w d o (footerBlock p (sparesIn p (zoneAt w d (zoneOn o d))) j) zeroSpare (k .linked .shape) dl ob (foot-kind w d j e jl)
+          ∙ ap (withItem (itemsIn p w) d (o .name)) is-foot
         where
           is-foot : kindItem p d o (zoneAt w d (zoneOn o d)) (footerBlock p (sparesIn p (zoneAt w d (zoneOn o d))) j) zeroSpare (foot-kind w d j e jl) ≡ foot j
           is-foot = unfold kindItem foot-kind in refl

@@ -155,7 +155,8 @@ module _ (p : Params) (r : Ranged p) (v₀ : View) (g₀ : Ghost) (a : List Val)
       pub feet-both :
           Always (CutTo p r g₀ a s) v (missingFooters p (segmentOf p v 0 o))
           × RestartDone p r g₀ a s (storeAll storeView (missingFooters p (segmentOf p v 0 o)) v)
-      feet-both = subst (λ (l : List Store). Always (CutTo p r g₀ a s) v l × RestartDone p r g₀ a s (storeAll storeView l v)) (sym (feet-are p r (withPr g₀ alone) v k o i w)) (feet-cut, feet-done)
+      feet-both =
+          subst (λ (l : List Store). Always (CutTo p r g₀ a s) v l × RestartDone p r g₀ a s (storeAll storeView l v)) (sym (feet-are p r (withPr g₀ alone) v k o i w)) (feet-cut, feet-done)
 
       feet-right : AllSound p v (missingFooters p (segmentOf p v 0 o))
       feet-right = subst (AllSound p v) (sym (feet-are p r (withPr g₀ alone) v k o i w)) (feet-sound p r g₀ a s o ob v (whole-pointers p r (withPr g₀ alone) v k o i w) footing)
@@ -174,7 +175,8 @@ module _ (p : Params) (r : Ranged p) (v₀ : View) (g₀ : Ghost) (a : List Val)
             let zb : Named p z = seg-low p r g₀ v₀ on₀ 0 (zero-choice p r (g₀ .un) none) z j in
             let b : 0 < pointerAt v₀ 0 (zoneOn z 0) = begun-on p r g₀ v₀ on₀ 0 (zero-choice p r (g₀ .un) none) z j 0 d0 (isIn-empty 0) in
             let h : headerSerial (headerAt v₀ 0 z) ≡ g₀ .hd .ser (z .name) = head-serials p r g₀ v₀ on₀ 0 z d0 t zb b .0 in
-            let q : headerSerial (headerAt v₀ 0 z) < 256 ^ 8 = wide z (zone-bytes p r g₀ v₀ on₀ 0 z d0 t zb .serials (subst (λ (x : ℕ). 0 < x) (sym (pointer-is v₀ 0 (zoneOn z 0))) b) .0) in
+            let q : headerSerial (headerAt v₀ 0 z) < 256 ^ 8 = wide z
+            (zone-bytes p r g₀ v₀ on₀ 0 z d0 t zb .serials (subst (λ (x : ℕ). 0 < x) (sym (pointer-is v₀ 0 (zoneOn z 0))) b) .0) in
             subst (λ (x : ℕ). x < 256 ^ 8) (h ∙ sym (serial-ghost p r g₀ v₀ on₀ 0 (zero-choice p r (g₀ .un) none) z j)) q
           where
             wide : (z : Seg) → headerSerial (blockIn (zoneAt v₀ 0 (zoneOn z 0)) 0 .block) < 256 ^ 8 → headerSerial (headerAt v₀ 0 z) < 256 ^ 8

@@ -32,7 +32,8 @@ linked-on p r v g a s m k = record { shape = k .shape; bytes = k .bytes; facts =
 
 -- a step of the machine whose drives are those of u
 pub linked-step : (p : Params) (r : Ranged p) (v u : View) (g g′ : Ghost) (a a′ : List Val) (s s′ : Bool) (m m′ : Mode) (w : ItemView) → Linked p r v g a s m
-    → Step (parOf p r) (stateOn p v g a s m) (record { g = g′; v = w; acked = a′; since = s′; mode = m′ }) → w ≡ itemsIn p u → Shape p u → BytesOk p (g′ .un) u → Linked p r u g′ a′ s′ m′
+    → Step (parOf p r) (stateOn p v g a s m) (record { g = g′; v = w; acked = a′; since = s′; mode = m′ }) → w ≡ itemsIn p u → Shape p u → BytesOk p (g′ .un) u
+    → Linked p r u g′ a′ s′ m′
 linked-step p r v u g g′ a a′ s s′ m m′ w k st e h b = record {
   shape = h;
   bytes = b;

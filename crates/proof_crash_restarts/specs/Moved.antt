@@ -85,7 +85,8 @@ module _ (p : Params) (r : Ranged p) (v : View) (w : Seg) (wb : Named p w) where
 
   -- a row: one store on each drive
   module _ (t : ℕ) (b sp : ℕ → List ℕ) (it : ℕ → Item)
-      (kind : (d : ℕ) (u : View) → d < p .N → At t d u → (k : Kind p d (zoneOn w d) (zoneAt u d (zoneOn w d)) (b d) (sp d)) × (kindItem p d w (zoneAt u d (zoneOn w d)) (b d) (sp d) k ≡ it d)) where
+      (kind : (d : ℕ) (u : View) → d < p .N → At t d u → (k : Kind p d (zoneOn w d) (zoneAt u d (zoneOn w d)) (b d) (sp d))
+      × (kindItem p d w (zoneAt u d (zoneOn w d)) (b d) (sp d) k ≡ it d)) where
     moved-row-step :
         (d : ℕ) (u : View)
         → d < p .N

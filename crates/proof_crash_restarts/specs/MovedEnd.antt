@@ -234,7 +234,8 @@ module _ (p : Params) (r : Ranged p) (v₀ : View) (g₀ : Ghost) (a : List Val)
                 ∙ ap (λ (x : ItemView). x d (o .name)) items-end
                 ∙ rewrite-empty (parOf p r) (withPr g₀ alone) (itemsIn p v) (w .name) (o .name) n π moved-ready (k .rest) (k .on .facts) d (t .0) in
                 let x : 0 < length {A = Item} [] = subst (λ (l : List Item). 0 < length l) y b in let j : ⊥ = omega arith in j
-        go (no q) (yes x) = rw x (counted-is ∙ ap below (sym (ap length counted-is ∙ length-below c)), uncounted-is, subst (λ (y : ℕ). y < p .S) (sym (ap length counted-is ∙ length-below c)) part)
+        go (no q) (yes x) =
+            rw x (counted-is ∙ ap below (sym (ap length counted-is ∙ length-below c)), uncounted-is, subst (λ (y : ℕ). y < p .S) (sym (ap length counted-is ∙ length-below c)) part)
         go (no q) (no x) = absurd (q (same rag))
           where
             same : Ragged (parOf p r) (isIn 0) (itemsIn p u) (z .name) → z ≡ o

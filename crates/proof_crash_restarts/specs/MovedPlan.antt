@@ -94,8 +94,10 @@ pub moved-parity-wide : (p : Params) (t : ℕ) (qs : List Piece) → t < 256 ^ 4
 unfolding parityPiece parityRec
 moved-parity-wide p t qs l h = record {
   address =
-      subst (λ (x : List ℕ). xorAll x < 2 ^ 64) (sym (map-map (λ (x : Rec). x .address) (λ (q : Piece). q .rec) qs)) (xorAll-map-lt 64 (λ (q : Piece). q .rec .address) qs (λ q i. h q i .address));
-  stamp = subst (λ (x : List ℕ). xorAll x < 2 ^ 64) (sym (map-map (λ (x : Rec). x .stamp) (λ (q : Piece). q .rec) qs)) (xorAll-map-lt 64 (λ (q : Piece). q .rec .stamp) qs (λ q i. h q i .stamp));
+      subst (λ (x : List ℕ). xorAll x < 2 ^ 64) (sym (map-map (λ (x : Rec). x .address) (λ (q : Piece). q .rec) qs))
+      (xorAll-map-lt 64 (λ (q : Piece). q .rec .address) qs (λ q i. h q i .address));
+  stamp =
+      subst (λ (x : List ℕ). xorAll x < 2 ^ 64) (sym (map-map (λ (x : Rec). x .stamp) (λ (q : Piece). q .rec) qs)) (xorAll-map-lt 64 (λ (q : Piece). q .rec .stamp) qs (λ q i. h q i .stamp));
   stripe = l;
 }
 

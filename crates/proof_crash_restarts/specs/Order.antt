@@ -22,7 +22,8 @@ rising-same (a ∷ l) [] r q f h = absurd (f a (inl refl))
 rising-same (a ∷ l) (b ∷ k) r q f h = ap₂ (λ (x : ℕ) (y : List ℕ). x ∷ y) first (rising-same l k (r .1) (q .1) fwd bwd)
   where
     first : a ≡ b
-    first = ⊎-elim (λ e. e) (λ (i : Has a k). ⊎-elim (λ (e : b ≡ a). sym e) (λ (j : Has b l). absurd (let w : ⊥ = omega (arith, q .0 a i, r .0 b j) in w)) (h b (inl refl))) (f a (inl refl))
+    first =
+        ⊎-elim (λ e. e) (λ (i : Has a k). ⊎-elim (λ (e : b ≡ a). sym e) (λ (j : Has b l). absurd (let w : ⊥ = omega (arith, q .0 a i, r .0 b j) in w)) (h b (inl refl))) (f a (inl refl))
 
     fwd : (x : ℕ) → Has x l → Has x k
     fwd x i = ⊎-elim (λ (e : x ≡ b). absurd (let w : ⊥ = omega (arith, r .0 x i, e, first) in w)) (λ j. j) (f x (inr i))

@@ -60,7 +60,8 @@ module _ (p : Params) (I : ℕ → View → Type 0) (st : ℕ → Store) (hi : �
   run-sound j zero b w i = tt
   run-sound j (suc n) b w i = (right j w (omega arith) i, run-sound (suc j) n (omega arith) (storeView (st j) w) (step j w (omega arith) i))
 
-module _ (p : Params) (D : ℕ → View → Type 0) (f : ℕ → List Store) (hi : ℕ) (step : (j : ℕ) (w : View) → j < hi → D j w → AllSound p w (f j) × D (suc j) (storeAll storeView (f j) w)) where
+module _ (p : Params) (D : ℕ → View → Type 0) (f : ℕ → List Store) (hi : ℕ)
+    (step : (j : ℕ) (w : View) → j < hi → D j w → AllSound p w (f j) × D (suc j) (storeAll storeView (f j) w)) where
   pub runs-sound : (j n : ℕ) → j + n ≤ hi → (w : View) → D j w → AllSound p w (flat f (upFrom j n))
   unfolding upFrom flat
   runs-sound j zero b w i = tt

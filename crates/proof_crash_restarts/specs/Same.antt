@@ -24,7 +24,8 @@ use Rattle.proof_crash_machine.specs.Mask.{Mask, tf, count}
 use Rattle.proof_crash_items.specs.Named.{low-drive}
 use Rattle.proof_crash_items.specs.Ranges.{parities}
 
-module _ (p : Params) (r : Ranged p) (v u : View) (m : ℕ) (z : Seg) (few : count (p .N) (isIn m) ≤ parities p) (same : (d : ℕ) → d < p .N → zoneAt u d (zoneOn z d) ≡ zoneAt v d (zoneOn z d)) where
+module _ (p : Params) (r : Ranged p) (v u : View) (m : ℕ) (z : Seg) (few : count (p .N) (isIn m) ≤ parities p)
+    (same : (d : ℕ) → d < p .N → zoneAt u d (zoneOn z d) ≡ zoneAt v d (zoneOn z d)) where
   pub pointer-same : (d : ℕ) → d < p .N → pointerAt u d (zoneOn z d) ≡ pointerAt v d (zoneOn z d)
   unfolding pointerAt
   pointer-same d l = ap (λ (q : Zone). q .pointer) (same d l)
@@ -70,5 +71,7 @@ Counted-none-any P h v a b na nb x c = Counted-mask P h v a b x (choice-any P h 
 pub Reads-none-any : (P : Par) (h : Heads) (v : ItemView) (a b : Mask) → None P a → None P b → (K : ℕ → ℕ) → Reads P h v a K → Reads P h v b K
 Reads-none-any P h v a b na nb K r = record {
   most = λ x c. r .most x (Counted-none-any P h v b a nb na x c);
-  some = λ i. ⊎-elim (λ e. inl e) (λ (q : (x : Val) × Counted P h v a x × (x .addr ≡ i) × (x .stamp ≡ K i)). inr (q .0, Counted-none-any P h v a b na nb (q .0) (q .1), q .2, q .3)) (r .some i);
+  some =
+      λ i. ⊎-elim (λ e. inl e) (λ (q : (x : Val) × Counted P h v a x × (x .addr ≡ i) × (x .stamp ≡ K i)). inr (q .0, Counted-none-any P h v a b na nb (q .0) (q .1), q .2, q .3))
+      (r .some i);
 }

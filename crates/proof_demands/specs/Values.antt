@@ -73,7 +73,8 @@ flown-step p k m u ws old f (fill a b) nc = flown-fill p k m u ws old f a b nc
 flown-step p k m u ws old f (restart d n) nc = flown-restart-step p k m ws old d n (λ w. u .base .shaped) f nc
 flown-step p k m u ws old f (rebuild d n) nc = flown-rebuild p k m ws old d n u f nc
 
-call-says : (p : Params) (k : Disk) (m : Memory) (ws : List Pending) (old : List Segment) → Invariant p k m ws old → (c : Call) → CallSays onValues p (mkWorld k m) ws c (callWorld p (mkWorld k m) c)
+call-says : (p : Params) (k : Disk) (m : Memory) (ws : List Pending) (old : List Segment) → Invariant p k m ws old → (c : Call)
+    → CallSays onValues p (mkWorld k m) ws c (callWorld p (mkWorld k m) c)
 unfolding callWorld
 call-says p k m ws old h (write a b n) = tt
 call-says p k m ws old h (land d s n) = λ x e. lands-say p k m ws old d s n (h .runs) (h .flown) x e

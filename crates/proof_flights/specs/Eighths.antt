@@ -145,7 +145,8 @@ module _ (p : Params) (r : Ranged p) (v u : View) (st su : State) (fl fl′ : Li
         ap (waitsOf ws′) (s .number) ∙ kp ∙ o .waits-are
         ∙ map-cong (pendingOf p st fl j) (pendingOf p su fl′ j) (keep (isWrite st j) (below (filledIn st j)))
         (λ k m. let x = below-in (filledIn st j) k (keep-in (isWrite st j) (below (filledIn st j)) k m .0) in sym (sent-same k (omega (arith, o .few))))
-        ∙ ap (map (pendingOf p su fl′ j)) (keep-below-same (isWrite st j) (isWrite su j) (filledIn st j) (λ k h. sym (s .write k)) ∙ ap (λ (n : ℕ). keep (isWrite su j) (below n)) (sym (s .filled)));
+        ∙ ap (map (pendingOf p su fl′ j)) (keep-below-same (isWrite st j) (isWrite su j) (filledIn st j) (λ k h. sym (s .write k))
+        ∙ ap (λ (n : ℕ). keep (isWrite su j) (below n)) (sym (s .filled)));
     unmarked = λ k l h. s .write k ∙ o .unmarked k (subst (λ (n : ℕ). n ≤ k) (s .filled) l) h;
   }
     where

@@ -44,7 +44,8 @@ pub record Flights (p : Params) (v : View) (st : State) (fl : List ℕ) (ws : Li
 
 -- the restart of this run found every counted stripe
 abbrev pub FoundBefore : Params → View → ℕ → List Segment → Type 0
-FoundBefore p v gone old = (g : Seg) (s : ℕ) → Remains p v gone g → s < p .S → counts p gone (segmentOf p v gone g) s ≡ true → foundCounted p gone old (segmentOf p v gone g .serial) s ≡ true
+FoundBefore p v gone old =
+    (g : Seg) (s : ℕ) → Remains p v gone g → s < p .S → counts p gone (segmentOf p v gone g) s ≡ true → foundCounted p gone old (segmentOf p v gone g .serial) s ≡ true
 
 pub record Flown (p : Params) (k : Disk) (m : Memory) (ws : List Pending) (old : List Segment) : Type 0 where
   pub flights : m .state .missing ≡ 0 → Flights p (seen p k) (m .state) (m .inflight) ws

@@ -92,7 +92,8 @@ quiet-refused a q = quiet-kind a (kind a) refl (not-it 2 (omega arith)) (not-it 
 -- ---- nothing changed
 
 -- the same drives, memory and writes, told otherwise
-pub flown-as : (p : Params) (k : Disk) (m : Memory) (ws ws′ : List Pending) (old : List Segment) (x : Disk) (y : Memory) → x ≡ k → y ≡ m → ws ≡ ws′ → Flown p k m ws′ old → Flown p x y ws old
+pub flown-as : (p : Params) (k : Disk) (m : Memory) (ws ws′ : List Pending) (old : List Segment) (x : Disk) (y : Memory) → x ≡ k → y ≡ m → ws ≡ ws′ → Flown p k m ws′ old
+    → Flown p x y ws old
 flown-as p k m ws ws′ old x y ex ey ew f =
     subst (λ (a : Disk). Flown p a y ws old) (sym ex) (subst (λ (a : Memory). Flown p k a ws old) (sym ey) (subst (λ (a : List Pending). Flown p k m a old) (sym ew) f))
 

@@ -448,7 +448,8 @@ lands-say p k m ws old d s n u f x q = go (land-ends p k m u d s n)
         v1 = storeView (put d (zoneOn (openSegment (m .state)) d) (slotBlock p (m .inflight) (slotOf (m .state) s) d) (recordBytes (flightRec p (m .state) (slotOf (m .state) s) d))) (seen p k)
 
         Stored : View → Type 0
-        Stored y = y ≡ storeAll storeView (put d (zoneOn (openSegment (m .state)) d) (slotBlock p (m .inflight) (slotOf (m .state) s) d) (recordBytes (flightRec p (m .state) (slotOf (m .state) s) d))
+        Stored y =
+            y ≡ storeAll storeView (put d (zoneOn (openSegment (m .state)) d) (slotBlock p (m .inflight) (slotOf (m .state) s) d) (recordBytes (flightRec p (m .state) (slotOf (m .state) s) d))
             ∷ cond (sealedIn p y 0 (openSegment (m .state))) (sealStores p v1 (openSegment (m .state))) []) (seen p k)
 
         stored! : callDisk p k m (land d s n) .drives ≡ storeAll (storeDisk p) (landPlan p (seen p k) m d s .stores) k

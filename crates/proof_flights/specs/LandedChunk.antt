@@ -355,7 +355,8 @@ module _ (p : Params) (r : Ranged p) (v : View) (sh : Shaped p v) (st : State) (
             → x < dataStored p (zoneAt v d (zoneOn z d))
         other ne a c y = unfold pointerAt in put-below p (zoneAt v d (zoneOn z d)) (zoneAt v1 d (zoneOn z d)) x a c ne y
 
-        here! : x < dataStored p (zoneAt v1 d (zoneOn z d)) → recordIn p (sealedIn p v1 0 z) (zoneAt v1 d (zoneOn z d)) x .stripe ≡ t → Dec (x ≡ o) → x < dataStored p (zoneAt v d (zoneOn z d))
+        here! : x < dataStored p (zoneAt v1 d (zoneOn z d)) → recordIn p (sealedIn p v1 0 z) (zoneAt v1 d (zoneOn z d)) x .stripe ≡ t → Dec (x ≡ o)
+            → x < dataStored p (zoneAt v d (zoneOn z d))
         here! y w (yes a) = absurd (n (sym w ∙ ap (λ (m : ℕ). recordIn p (sealedIn p v1 0 z) (zoneAt v1 d (zoneOn z d)) m .stripe) a ∙ new-stripe))
         here! y w (no a) = other a (chunk-pointer p r v sh st h so z oz d i hd hi fi rd b lb) (pointer-some p r v sh st h so z oz d i hd hi fi rd b lb) y
 

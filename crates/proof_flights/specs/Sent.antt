@@ -140,7 +140,8 @@ module _ (p : Params) (r : Ranged p) (v : View) (sh : Shaped p v) (st : State) (
       let here : (flies su i || eqb i i) ≡ true = or-true-right (flies su i) (eqb i i) (eq-eqb i i refl) in
       let o₂ = flock-add p r u sw lw fl l xs (λ j. flies su j || eqb j i) i hi here a t w b lb room hw (λ j hj q e. one j hj e (or-cases (flies su j) (eqb j i) q)) o₁ in
       of-flock p u (addEntry sw i a t w) (placed p sw fl i a t w b .inflight) _
-      (flock-busy p u (addEntry sw i a t w) (placed p sw fl i a t w b .inflight) _ (λ j. flies su j || eqb j i) (flies (addEntry sw i a t w)) (λ j hj. busy-now j ∙ flies-add sw lw i hi a t w j) o₂)
+      (flock-busy p u (addEntry sw i a t w) (placed p sw fl i a t w b .inflight) _ (λ j. flies su j || eqb j i) (flies (addEntry sw i a t w))
+      (λ j hj. busy-now j ∙ flies-add sw lw i hi a t w j) o₂)
     where
       one : (j : ℕ) → j < 8 → stripeIn (beginStripe su i) i ≡ stripeIn (beginStripe su i) j → (flies su j ≡ true) ⊎ (eqb j i ≡ true) → j ≡ i
       one j hj e (inr q) = eqb-true j i q

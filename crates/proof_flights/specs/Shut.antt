@@ -56,7 +56,8 @@ module _ (p : Params) (r : Ranged p) (v : View) (ws : List Pending) (i : ℕ) (h
       flock-busy p v sw fl′ ws (flies su) (flies sw) (λ j hj. flies-stay su ls i hi fi paddingAddress 0 0 j)
       (subst (λ (x : List Pending). Flock p v sw fl′ x (flies su)) (none-more ws (freshly p su i paddingAddress 0 b)) o₁)
 
-  paddings-flown : (x : ℕ) (su : State) (fl : List ℕ) → Lists su → length fl ≡ inflightLen p → flies su i ≡ true → filledIn su i + x ≤ dataCount p → Alone su → Flock p v su fl ws (flies su)
+  paddings-flown : (x : ℕ) (su : State) (fl : List ℕ) → Lists su → length fl ≡ inflightLen p → flies su i ≡ true → filledIn su i + x ≤ dataCount p → Alone su
+      → Flock p v su fl ws (flies su)
       → Flock p v (padded p i x su fl .state) (padded p i x su fl .inflight) ws (flies (padded p i x su fl .state))
   unfolding padded placed
   paddings-flown zero su fl ls l fi h al o = o

@@ -101,10 +101,12 @@ laid-zoned p v gone old l g d m hd hq =
         → getD (q .blocks) 0 noChunk ≡ mkChunk (headerBlock p d (zoneOn g d) (segmentOf p v gone g .serial) (segmentOf p v gone g .copied)) zeroSpare
     head! e = unfold chunkAt in e
 
-    group! : (o : ℕ) → (o < dataStored p (zoneAt v d (zoneOn g d)) → inGroupOf p o (recordAt p v gone d g o .stripe) ≡ true) → o < dataStored p q → inGroupOf p o (recordIn p w q o .stripe) ≡ true
+    group! : (o : ℕ) → (o < dataStored p (zoneAt v d (zoneOn g d)) → inGroupOf p o (recordAt p v gone d g o .stripe) ≡ true) → o < dataStored p q
+        → inGroupOf p o (recordIn p w q o .stripe) ≡ true
     group! o f = unfold recordAt in f
 
-    once! : (o i : ℕ) → (o < dataStored p (zoneAt v d (zoneOn g d)) → i < dataStored p (zoneAt v d (zoneOn g d)) → recordAt p v gone d g o .stripe ≡ recordAt p v gone d g i .stripe → o ≡ i)
+    once! : (o i : ℕ) → (o < dataStored p (zoneAt v d (zoneOn g d)) → i < dataStored p (zoneAt v d (zoneOn g d)) → recordAt p v gone d g o .stripe ≡ recordAt p v gone d g i .stripe
+        → o ≡ i)
         → o < dataStored p q → i < dataStored p q → recordIn p w q o .stripe ≡ recordIn p w q i .stripe → o ≡ i
     once! o i f = unfold recordAt in f
 
@@ -172,14 +174,16 @@ twice-once (r ∷ rs) n (suc o) zero h k e = absurd (first-stripe-once r rs (or-
 twice-once (r ∷ rs) n (suc o) (suc i) h k e = ap suc (twice-once rs (or-right (any (λ (q : Rec). eqb (q .stripe) (r .stripe)) rs) (twice rs) n) o i (omega arith) (omega arith) e)
 
 -- an unsealed zone's footers are made from its spares
-pub checked-footers : (p : Params) (q : Zone) → footerFaultIn p q ≡ false → (i : ℕ) → i < footersStored p q → getD (q .blocks) (1 + p .S + i) noChunk .block ≡ footerBlock p (sparesIn p q) i
+pub checked-footers : (p : Params) (q : Zone) → footerFaultIn p q ≡ false → (i : ℕ) → i < footersStored p q
+    → getD (q .blocks) (1 + p .S + i) noChunk .block ≡ footerBlock p (sparesIn p q) i
 checked-footers p q f i h =
     let n = footersStored p q in
     let e : blocksOf (take n (drop (1 + p .S) (q .blocks))) ≡ map (footerBlock p (sparesIn p q)) (upFrom 0 n) =
     same! (same-blocks (blocksOf (take n (drop (1 + p .S) (q .blocks)))) (footersOf p q 0 n) (fault! f)) in
     ap (λ (c : Chunk). c .block) (sym (getD-take n (drop (1 + p .S) (q .blocks)) i noChunk h ∙ getD-drop (1 + p .S) (q .blocks) i noChunk))
     ∙ sym (blocks-at (take n (drop (1 + p .S) (q .blocks))) i) ∙ ap (λ (l : List (List ℕ)). getD l i []) e
-    ∙ getD-map (footerBlock p (sparesIn p q)) (upFrom 0 n) i [] 0 (subst (λ (x : ℕ). i < x) (sym (length-upFrom 0 n)) h) ∙ ap (footerBlock p (sparesIn p q)) (getD-upFrom 0 n i 0 h ∙ zero-add i)
+    ∙ getD-map (footerBlock p (sparesIn p q)) (upFrom 0 n) i [] 0 (subst (λ (x : ℕ). i < x) (sym (length-upFrom 0 n)) h)
+    ∙ ap (footerBlock p (sparesIn p q)) (getD-upFrom 0 n i 0 h ∙ zero-add i)
   where
     fault! : footerFaultIn p q ≡ false → sameBlocks (blocksOf (take (footersStored p q) (drop (1 + p .S) (q .blocks)))) (footersOf p q 0 (footersStored p q)) ≡ true
     fault! x = unfold footerFaultIn in not-false (sameBlocks (blocksOf (take (footersStored p q) (drop (1 + p .S) (q .blocks)))) (footersOf p q 0 (footersStored p q))) x
@@ -221,7 +225,8 @@ module _ (p : Params) (v : View) (gone : ℕ) (acc : Accepted p v gone) where
           let e2 = sameList-true (c .spare) zeroSpare (and-right (sameList (c .block) b) (sameList (c .spare) zeroSpare) e) in
           λ i. mkChunk (e1 i) (e2 i)
 
-  checked-once : (g : Seg) (d o i : ℕ) → In g (remaining p v gone) → d < p .N → isIn gone d ≡ false → o < dataStored p (zoneAt v d (zoneOn g d)) → i < dataStored p (zoneAt v d (zoneOn g d))
+  checked-once : (g : Seg) (d o i : ℕ) → In g (remaining p v gone) → d < p .N → isIn gone d ≡ false → o < dataStored p (zoneAt v d (zoneOn g d))
+      → i < dataStored p (zoneAt v d (zoneOn g d))
       → recordIn p (sealedIn p v gone g) (zoneAt v d (zoneOn g d)) o .stripe ≡ recordIn p (sealedIn p v gone g) (zoneAt v d (zoneOn g d)) i .stripe → o ≡ i
   checked-once g d o i m hd hq h j e =
       let w = sealedIn p v gone g in

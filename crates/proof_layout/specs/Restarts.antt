@@ -332,7 +332,8 @@ module _ (p : Params) (k : Disk) (m : Memory) (d n : ℕ) (shk : Whole p k → S
   laid-first = subst (λ (x : ℕ). Laid p (seen p (a .drives)) x (segments p v (named d))) (sym missing-is) laid-restart
 
 -- a restart in a run, finished or refused
-pub laid-again : (p : Params) (k : Disk) (m : Memory) → Run p k m → (old : List Segment) → Laid p (seen p k) (m .state .missing) old → (d n : ℕ) → isCut (callDisk p k m (restart d n) .answer) ≡ false
+pub laid-again : (p : Params) (k : Disk) (m : Memory) → Run p k m → (old : List Segment) → Laid p (seen p k) (m .state .missing) old → (d n : ℕ)
+    → isCut (callDisk p k m (restart d n) .answer) ≡ false
     → KeepsLaid p (foundAfter p (seen p k) (restart d n) (callDisk p k m (restart d n) .answer) old) (callDisk p k m (restart d n))
 unfolding foundAfter
 laid-again p k m u old l d n nc = go (test (finished (callDisk p k m (restart d n) .answer))) (restart-ends p k m d n)

@@ -66,7 +66,8 @@ opened-laid p r v sh old g s hg em fit l =
     u = storeAll storeView (headerStores p g s 0) v
 
 -- 01, Reclaim: a segment is reset
-pub reset-laid : (p : Params) (r : Ranged p) (v : View) (sh : Shaped p v) (old : List Segment) (g : Seg) (hg : Named p g) → WellLaid p v old → WellLaid p (storeAll storeView (resetStores p g) v) old
+pub reset-laid : (p : Params) (r : Ranged p) (v : View) (sh : Shaped p v) (old : List Segment) (g : Seg) (hg : Named p g) → WellLaid p v old
+    → WellLaid p (storeAll storeView (resetStores p g) v) old
 reset-laid p r v sh old g hg l = all-but p r v (storeAll storeView (resetStores p g) v) old g (reset-same p r v sh g hg) (λ q. absurd (reset-was p r v sh g hg g hg q .0 refl)) l
 
 -- 01, Landing: a chunk

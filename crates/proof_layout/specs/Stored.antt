@@ -108,10 +108,12 @@ module _ (p : Params) (r : Ranged p) (old : List Segment) (serial copied d g : �
       low o l n = data-low p q o (offset-old o l n) .1
 
       grp : (o : ℕ) → o < dataStored p q1 → Dec (1 + o ≡ q .pointer) → inGroupOf p o (recordIn p false q1 o .stripe) ≡ true
-      grp o l (yes e) = subst (λ (x : ℕ). inGroupOf p o x ≡ true) (sym (rec-new o e)) (subst (λ (x : ℕ). inGroupOf p x (rc .stripe) ≡ true) (let y : q .pointer - 1 ≡ o = omega arith in y) grouped)
+      grp o l (yes e) =
+          subst (λ (x : ℕ). inGroupOf p o x ≡ true) (sym (rec-new o e)) (subst (λ (x : ℕ). inGroupOf p x (rc .stripe) ≡ true) (let y : q .pointer - 1 ≡ o = omega arith in y) grouped)
       grp o l (no n) = subst (λ (x : ℕ). inGroupOf p o x ≡ true) (sym (rec-old o (low o l n))) (z .group-is o (offset-old o l n))
 
-      one : (o i : ℕ) → o < dataStored p q1 → i < dataStored p q1 → recordIn p false q1 o .stripe ≡ recordIn p false q1 i .stripe → Dec (1 + o ≡ q .pointer) → Dec (1 + i ≡ q .pointer) → o ≡ i
+      one : (o i : ℕ) → o < dataStored p q1 → i < dataStored p q1 → recordIn p false q1 o .stripe ≡ recordIn p false q1 i .stripe → Dec (1 + o ≡ q .pointer)
+          → Dec (1 + i ≡ q .pointer) → o ≡ i
       one o i l j e (yes a) (yes c) = omega arith
       one o i l j e (yes a) (no c) = absurd (fresh i (low i j c) (sym (rec-old i (low i j c)) ∙ sym e ∙ rec-new o a))
       one o i l j e (no a) (yes c) = absurd (fresh o (low o l a) (sym (rec-old o (low o l a)) ∙ e ∙ rec-new i c))

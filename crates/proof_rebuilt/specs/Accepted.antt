@@ -138,7 +138,8 @@ module _ (p : Params) (v : View) (d : ℕ) (lo : Loss p v d) where
       in-none (λ e. ltb (capacity p) (pointerAt u e z)) (present p 0)
       (λ e j. le-ltb (capacity p) (pointerAt u e z) (subst (λ (n : ℕ). n ≤ capacity p) (sym (pointer-in-zone u e z))
       (each-drive p v d lo {P = λ e. zoneAt u e z .pointer ≤ capacity p} (by-seg (λ n. zoneAt u d n .pointer ≤ capacity p) p d z hz (λ g hg. here g hg (test (remains p v gone g))))
-      (λ e he pr. subst (λ (q : Zone). q .pointer ≤ capacity p) (sym (kept-zone e z he hz pr)) (subst (λ (n : ℕ). n ≤ capacity p) (pointer-in-zone v e z) (pointer-ok p v gone acc e z he hz pr)))
+      (λ e he pr. subst (λ (q : Zone). q .pointer ≤ capacity p) (sym (kept-zone e z he hz pr))
+      (subst (λ (n : ℕ). n ≤ capacity p) (pointer-in-zone v e z) (pointer-ok p v gone acc e z he hz pr)))
       e (present-in p 0 e j .0)))))
     where
       here : (z : Seg) → Named p z → Test (remains p v gone z) → zoneAt u d (zoneOn z d) .pointer ≤ capacity p
@@ -207,7 +208,8 @@ module _ (p : Params) (v : View) (d : ℕ) (lo : Loss p v d) where
         fine b = unfold sameChunk in and-both (sameList b b) (sameList zeroSpare zeroSpare) (sameList-refl b) (sameList-refl zeroSpare)
 
     no-serial-fault : serialFault (segments p u 0) y ≡ false
-    no-serial-fault = serial-fault-head (segments p u 0) y ∙ ap₂ serialFault same-heads (same-head g m) ∙ sym (serial-fault-head (segments p v gone) x) ∙ faults-apart p v gone acc g m .no-serial-fault
+    no-serial-fault =
+        serial-fault-head (segments p u 0) y ∙ ap₂ serialFault same-heads (same-head g m) ∙ sym (serial-fault-head (segments p v gone) x) ∙ faults-apart p v gone acc g m .no-serial-fault
 
     no-clash : clashes (segments p u 0) y ≡ false
     no-clash = head-clash (segments p u 0) y ∙ ap₂ clashes same-heads (same-head g m) ∙ sym (head-clash (segments p v gone) x) ∙ faults-apart p v gone acc g m .no-clash
@@ -258,7 +260,8 @@ module _ (p : Params) (v : View) (d : ℕ) (lo : Loss p v d) where
     no-stripe-fault = none-of (λ e. outside p 0 (recsOn y e) || twice (recsOn y e))
         (ap (λ (l : List Rec). outside p 0 l || twice l) (recs-rebuilt p v d lo g m)
         ∙ or-neither (outside p 0 made) (twice made)
-        (none-outside 0 made (λ i h. let h2 : i < length ss = subst (λ (n : ℕ). i < n) made-long h in ap₂ (λ (a b : ℕ). inGroupOf p a b) (zero-add i) (made-stripe i h2) ∙ counted-in-group i h2))
+        (none-outside 0 made (λ i h. let h2 : i < length ss = subst (λ (n : ℕ). i < n) made-long h in
+        ap₂ (λ (a b : ℕ). inGroupOf p a b) (zero-add i) (made-stripe i h2) ∙ counted-in-group i h2))
         (none-twice made (λ i j a b e.
         let ha : i < length ss = subst (λ (n : ℕ). i < n) made-long a in
         let hb : j < length ss = subst (λ (n : ℕ). j < n) made-long b in

@@ -51,7 +51,8 @@ said-is p r v gone c k =
         ∙ offset-away p r v gone c k t b
     its-stripe! t (no! b) =
         cond-false (isIn gone (c .drive)) (c .offset) (recordIn p (sealedIn p v gone (k .of)) (zoneAt v (c .drive) (zoneOn (k .of) (c .drive))) (c .offset) .stripe) b
-        ∙ ap (λ (o : ℕ). recordIn p (sealedIn p v gone (k .of)) (zoneAt v (c .drive) (zoneOn (k .of) (c .drive))) o .stripe) (offset-here p r v gone c k t b) ∙ its-chunk p r v gone c k t b .its-stripe
+        ∙ ap (λ (o : ℕ). recordIn p (sealedIn p v gone (k .of)) (zoneAt v (c .drive) (zoneOn (k .of) (c .drive))) o .stripe) (offset-here p r v gone c k t b)
+        ∙ its-chunk p r v gone c k t b .its-stripe
 
 module _ (p : Params) (v : View) (d : ℕ) (lo : Loss p v d) where
   abbrev r : Ranged p
@@ -230,7 +231,8 @@ module _ (p : Params) (v : View) (d : ℕ) (lo : Loss p v d) where
 
   -- ---- all candidates
 
-  pair-stripe : (g : Seg) (s : ℕ) → In g (remaining p v gone) → In s (counted p gone (x g)) → Alike Pair (map (candOf p gone (x g) s) (dataDrives p s)) (map (candOf p 0 (y g) s) (dataDrives p s))
+  pair-stripe : (g : Seg) (s : ℕ) → In g (remaining p v gone) → In s (counted p gone (x g))
+      → Alike Pair (map (candOf p gone (x g) s) (dataDrives p s)) (map (candOf p 0 (y g) s) (dataDrives p s))
   unfolding dataDrives
   pair-stripe g s m i =
       let (hs, c) = counted-in p gone (x g) s i in

@@ -208,7 +208,8 @@ module _ (p : Params) (v : View) (d : ℕ) (lo : Loss p v d) (g : Seg) (m : In g
       long : length (recordsIn p w (zoneAt u d (zoneOn g d))) ≡ length ss
       long = length-records p w (zoneAt u d (zoneOn g d)) ∙ n
 
-      each : (j : ℕ) → j < length (recordsIn p w (zoneAt u d (zoneOn g d))) → getD (recordsIn p w (zoneAt u d (zoneOn g d))) j (mkRec 0 0 0) ≡ getD (map (λ s. recOf p gone x s d) ss) j (mkRec 0 0 0)
+      each : (j : ℕ) → j < length (recordsIn p w (zoneAt u d (zoneOn g d)))
+          → getD (recordsIn p w (zoneAt u d (zoneOn g d))) j (mkRec 0 0 0) ≡ getD (map (λ s. recOf p gone x s d) ss) j (mkRec 0 0 0)
       each j h =
           let h2 : j < length ss = subst (λ (k : ℕ). j < k) long h in
           row j (subst (λ (k : ℕ). j < k) (sym n) h2) ∙ record-of j h2 ∙ sym (getD-map (λ s. recOf p gone x s d) ss j (mkRec 0 0 0) 0 h2)

@@ -79,7 +79,8 @@ module _ (p : Params) (v : View) (d : ℕ) (lo : Loss p v d) where
   unfolding rebuiltView
   present-zone-same e z he hz q = sym (rebuild-agrees p r v sh d hd drive-lost e z he hz q)
 
-  zone-by-stores : (z : Seg) → Named p z → zoneAt u d (zoneOn z d) ≡ storeAll zoneStore (cond (remains p v gone z) (rebuiltZone p d (segmentOf p v gone z)) []) (resetZone (zoneAt v d (zoneOn z d)))
+  zone-by-stores : (z : Seg) → Named p z → zoneAt u d (zoneOn z d) ≡ storeAll zoneStore (cond (remains p v gone z) (rebuiltZone p d (segmentOf p v gone z)) [])
+      (resetZone (zoneAt v d (zoneOn z d)))
   unfolding rebuiltView
   zone-by-stores z hz =
       zone-after p v d (zoneOn z d) (rebuildStores p d (segments p v gone)) (sh .sized) hd (zone-on-lt p z d hz)
@@ -93,7 +94,8 @@ module _ (p : Params) (v : View) (d : ℕ) (lo : Loss p v d) where
   pub zone-dropped : (z : Seg) → Named p z → remains p v gone z ≡ false → pointerAt u d (zoneOn z d) ≡ 0
   unfolding pointerAt
   zone-dropped z hz q =
-      ap (λ (y : Zone). y .pointer) (zone-by-stores z hz) ∙ ap (λ (b : Bool). storeAll zoneStore (cond b (rebuiltZone p d (segmentOf p v gone z)) []) (resetZone (zoneAt v d (zoneOn z d))) .pointer) q
+      ap (λ (y : Zone). y .pointer) (zone-by-stores z hz) ∙ ap
+      (λ (b : Bool). storeAll zoneStore (cond b (rebuiltZone p d (segmentOf p v gone z)) []) (resetZone (zoneAt v d (zoneOn z d))) .pointer) q
       ∙ nothing (zoneAt v d (zoneOn z d))
     where
       nothing : (y : Zone) → storeAll zoneStore [] (resetZone y) .pointer ≡ 0

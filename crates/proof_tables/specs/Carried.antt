@@ -132,7 +132,8 @@ stamp-ok p st t s = record {
 
 -- ---- a stripe begins, with its first entry
 
-pub begin-healthy : (p : Params) (r : Ranged p) (v : View) (st : State) (z : Seg) (i a t w : ℕ) → HealthyState p v st → StateOk p st → st .opened ≡ suc (z .name) → i < 8 → flies st i ≡ false
+pub begin-healthy : (p : Params) (r : Ranged p) (v : View) (st : State) (z : Seg) (i a t w : ℕ) → HealthyState p v st → StateOk p st → st .opened ≡ suc (z .name) → i < 8
+    → flies st i ≡ false
     → st .next < p .S
     → ((j : ℕ) → j < 8 → flies st j ≡ true → group p (stripeIn st j) ≡ group p (st .next)) → a < 256 ^ 8 → t < 256 ^ 8
     → HealthyState p v (addEntry (beginStripe st i) i a t w)

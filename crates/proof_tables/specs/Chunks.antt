@@ -414,7 +414,8 @@ module _ (p : Params) (r : Ranged p) (v : View) (sh : Shaped p v) (st : State) (
     where
       away : (e x : ℕ) → e < p .N → isIn (landedIn st1 i) e ≡ false → 1 + x < pointerAt v1 e (zoneOn z e) → spareAt p v1 e (zoneOn z e) x .stripe ≡ s → Dec (d ≡ e) → ⊥
       away e x he q y w (yes a) = clash (subst (λ (m : ℕ). isIn (landedIn st1 i) m ≡ true) a mask-here) q
-      away e x he q y w (no a) = fl .not-there e x he (sym (mask-else e he a) ∙ q) (subst (λ (m : ℕ). 1 + x < m) (pointer-else e he a) y) (ap (λ (m : Rec). m .stripe) (sym (spare-else e x he a)) ∙ w)
+      away e x he q y w (no a) =
+          fl .not-there e x he (sym (mask-else e he a) ∙ q) (subst (λ (m : ℕ). 1 + x < m) (pointer-else e he a) y) (ap (λ (m : Rec). m .stripe) (sym (spare-else e x he a)) ∙ w)
 
       on : (e : ℕ) → e < p .N → isIn (landedIn st1 i) e ≡ true → Dec (d ≡ e) → LandedAt p v1 st1 z i e
       on e he q (yes a) = subst (λ (m : ℕ). LandedAt p v1 st1 z i m) a lands-now
@@ -748,7 +749,8 @@ module _ (p : Params) (r : Ranged p) (v : View) (sh : Shaped p v) (st : State) (
           as! : serialAt v1 z ≡ headerSerial (headerAt v1 0 z)
           as! = unfold serialAt headerAt in refl
 
-      as! : (n dd : ℕ) → dataDrive p (stripeIn st1 i) n ≡ dd → entryIn st1 i n ≡ recOf p 0 seg1 s dd → offsetIn st1 i dd ≡ offsetOf 0 seg1 s dd → landedCand p v1 z st1 i n ≡ candOf p 0 seg1 s dd
+      as! : (n dd : ℕ) → dataDrive p (stripeIn st1 i) n ≡ dd → entryIn st1 i n ≡ recOf p 0 seg1 s dd → offsetIn st1 i dd ≡ offsetOf 0 seg1 s dd
+          → landedCand p v1 z st1 i n ≡ candOf p 0 seg1 s dd
       as! n dd ed e w = unfold landedCand candOf in λ j. record {
         address = e j .address;
         stamp = e j .stamp;
@@ -891,11 +893,13 @@ module _ (p : Params) (r : Ranged p) (v : View) (sh : Shaped p v) (st : State) (
       down c k = ⊎-elim (λ (x : (k .of ≡ z) × (k .stripe ≡ s)). in-right c before! mine (new x)) (λ x. in-left c before! mine (at-cand p v 0 c x)) (cand-down c k)
         where
           new : (k .of ≡ z) × (k .stripe ≡ s) → In c mine
-          new (a, b) = subst (λ (y : Cand). In y mine) (sym (k .it-is ∙ (λ j. candOf p 0 (segmentOf p v1 0 (a j)) (b j) (dataDrive p (b j) (k .position))))) (in-mine (k .position) q (k .position-low))
+          new (a, b) =
+              subst (λ (y : Cand). In y mine) (sym (k .it-is ∙ (λ j. candOf p 0 (segmentOf p v1 0 (a j)) (b j) (dataDrive p (b j) (k .position))))) (in-mine (k .position) q (k .position-low))
 
   -- ---- the compact table
 
-  used! : (u : View) → usedAt u z ≡ true → (s1 : ℕ) → Tidy p u s1 → (e : ℕ) → e < p .N → sealedIn p u 0 z ≡ false → rowAt p u 0 e (zoneOn z e) ≡ recordsIn p false (zoneAt u e (zoneOn z e))
+  used! : (u : View) → usedAt u z ≡ true → (s1 : ℕ) → Tidy p u s1 → (e : ℕ) → e < p .N → sealedIn p u 0 z ≡ false
+      → rowAt p u 0 e (zoneOn z e) ≡ recordsIn p false (zoneAt u e (zoneOn z e))
   used! u q s1 ty e he ns =
       row-seg p u 0 e z hz
       ∙ cond-true (remains p u 0 z) (recsOn (segmentOf p u 0 z) e) [] (remains-used p r u s1 ty z hz ∙ q)
@@ -989,7 +993,8 @@ module _ (p : Params) (r : Ranged p) (v : View) (sh : Shaped p v) (st : State) (
                   ∙ ap (λ (m : Rec). compactEntry p (m .stripe)) (sym (spare-old x l))
                   ∙ sym (ap (λ (m : List Rec). getD (compactRow p m) x 0) (row-after d hd) ∙ entry-at v1 x (short-after d hd) (let q = chunk-pointer in omega arith))
               two (no l) =
-                  ap (λ (m : List Rec). getD (compactRow p m) x 0) (row-before d hd) ∙ row-past p (recordsIn p false (zoneAt v d (zoneOn z d))) x (let q = long! v (short-before d hd) in omega arith)
+                  ap (λ (m : List Rec). getD (compactRow p m) x 0) (row-before d hd)
+                  ∙ row-past p (recordsIn p false (zoneAt v d (zoneOn z d))) x (let q = long! v (short-before d hd) in omega arith)
                   ∙ sym (ap (λ (m : List Rec). getD (compactRow p m) x 0) (row-after d hd)
                   ∙ row-past p (recordsIn p false (zoneAt v1 d (zoneOn z d))) x
                   (let q = long! v1 (short-after d hd) in let w = chunk-pointer in let k = offset-next in omega arith))

@@ -34,7 +34,8 @@ use Rattle.proof_tables.specs.Slots.{add-lists, free-is, some-flies}
 
 -- ---- the in-flight buffer
 
-pub placed-inflight-long : (p : Params) → Ranged p → (st : State) (fl : List ℕ) (i a t w : ℕ) (b : List ℕ) → length fl ≡ inflightLen p → i < 8 → filledIn st i < dataCount p → length b ≡ p .B
+pub placed-inflight-long : (p : Params) → Ranged p → (st : State) (fl : List ℕ) (i a t w : ℕ) (b : List ℕ) → length fl ≡ inflightLen p → i < 8 → filledIn st i < dataCount p
+    → length b ≡ p .B
     → length (placed p st fl i a t w b .inflight) ≡ inflightLen p
 unfolding placed
 placed-inflight-long p r st fl i a t w b l hi f e =

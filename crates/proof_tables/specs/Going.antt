@@ -46,7 +46,8 @@ use Rattle.proof_tables.specs.Sending.{filling-flies, SentOk, sent-ok}
 use Rattle.proof_tables.specs.Slots.{filled-added, some-flies}
 
 -- stores made and a memory that goes with the view after them
-pub well-run : (p : Params) (k : Disk) (ss : List Store) (m : Memory) → inRange p ≡ true → Whole p k → Shaped p (seen p k) → Roomy p (seen p k) ss → ((s : Store) → In s ss → Within p s)
+pub well-run : (p : Params) (k : Disk) (ss : List Store) (m : Memory) → inRange p ≡ true → Whole p k → Shaped p (seen p k) → Roomy p (seen p k) ss
+    → ((s : Store) → In s ss → Within p s)
     → m .state .missing ≡ 0 → StateOk p (m .state) → HealthyState p (storeAll storeView ss (seen p k)) (m .state)
     → m .addresses ≡ addressTable p (candidates p 0 (segments p (storeAll storeView ss (seen p k)) 0))
     → m .compact ≡ compactTable p (segments p (storeAll storeView ss (seen p k)) 0) → length (m .inflight) ≡ inflightLen p
@@ -185,7 +186,8 @@ module _ (p : Params) (k : Disk) (m : Memory) (u : Run p k m) (we : Well p k m) 
       pub pad-long : length fl ≡ inflightLen p
       pub pad-missing : su .missing ≡ st .missing
 
-    padding-ok : (i x : ℕ) (su : State) (fl : List ℕ) → i < 8 → flies su i ≡ true → filledIn su i + x ≤ dataCount p → PadOk su fl → PadOk (padded p i x su fl .state) (padded p i x su fl .inflight)
+    padding-ok : (i x : ℕ) (su : State) (fl : List ℕ) → i < 8 → flies su i ≡ true → filledIn su i + x ≤ dataCount p → PadOk su fl
+        → PadOk (padded p i x su fl .state) (padded p i x su fl .inflight)
     unfolding padded placed
     padding-ok i zero su fl hi fi l o = o
     padding-ok i (suc x) su fl hi fi l o =

@@ -232,7 +232,8 @@ module _ (p : Params) (r : Ranged p) (v : View) (sh : Shaped p v) (s : ℕ) (g :
         offsets-long = l .offsets-long;
       }
 
-      sealed : (z : Seg) → Named p z → (z ≡ g) ⊎ ((g ≡ z → ⊥) × (usedAt v z ≡ true)) → (su .opened ≡ suc (z .name)) ⊎ ((d : ℕ) → d < p .N → pointerAt after d (zoneOn z d) ≡ capacity p)
+      sealed : (z : Seg) → Named p z → (z ≡ g) ⊎ ((g ≡ z → ⊥) × (usedAt v z ≡ true))
+          → (su .opened ≡ suc (z .name)) ⊎ ((d : ℕ) → d < p .N → pointerAt after d (zoneOn z d) ≡ capacity p)
       sealed z hz (inl e) = inl (opened-is ∙ ap (λ (x : Seg). suc (x .name)) (sym e))
       sealed z hz (inr (n, q)) = ⊎-elim (λ x. absurd (nz z x)) (λ x. inr (λ d hd. sym (zones-pointer p r v after z (opened-same-zones z hz n) d hd) ∙ x d hd)) (h .sealed-but z hz q)
 

@@ -27,7 +27,8 @@ use Rattle.law_drives.specs.Tests.{clash}
 -- what the table holds of an address
 pub data EntryHolds (p : Params) (v : View) (tb : List ℕ) (a : ℕ) : Type 0 where
   holds-none : best none (candsOf a (candidates p 0 (segments p v 0))) ≡ none → placeAt tb a ≡ neverPlace → EntryHolds p v tb a
-  holds-some : (c : Cand) → best none (candsOf a (candidates p 0 (segments p v 0))) ≡ some c → CandAt p v 0 c → Spot p v 0 c → c .address ≡ a → placeAt tb a ≡ c .place → EntryHolds p v tb a
+  holds-some : (c : Cand) → best none (candsOf a (candidates p 0 (segments p v 0))) ≡ some c → CandAt p v 0 c → Spot p v 0 c → c .address ≡ a → placeAt tb a ≡ c .place
+      → EntryHolds p v tb a
 
 pub table-holds : (p : Params) (r : Ranged p) (v : View) (tb : List ℕ) → tb ≡ addressTable p (candidates p 0 (segments p v 0)) → (a : ℕ) → a < p .L → EntryHolds p v tb a
 table-holds p r v tb e a h = go (best none (candsOf a cs)) refl

@@ -53,7 +53,8 @@ idle-kept p k m b r u i = record {
 }
 
 -- a refusal that isn't the ninth keeps all
-pub refused-kept : (p : Params) (k : Disk) (m : Memory) (r : After Disk) (a : Answer) → Run p k m → isRefusedAs 9 a ≡ false → r .answer ≡ a → r .drives ≡ k → r .memory ≡ m → Kept p r
+pub refused-kept : (p : Params) (k : Disk) (m : Memory) (r : After Disk) (a : Answer) → Run p k m → isRefusedAs 9 a ≡ false → r .answer ≡ a → r .drives ≡ k → r .memory ≡ m
+    → Kept p r
 refused-kept p k m r a u h e f g = record {
   never-ninth = ap (isRefusedAs 9) e ∙ h;
   runs-on = λ c. subst (λ (x : Disk). Run p x (r .memory)) (sym f) (subst (λ (x : Memory). Run p k x) (sym g) u);

@@ -55,7 +55,8 @@ module _ (p : Params) (v : View) (tb : List ℕ) (cs : List Cand) where
       go (no x) = part-splice-above t (4 * a) (toBe 4 q) (set-fits p t a q l h) (4 * b) 4 (let e = length-toBe 4 q in omega arith) (let f = len in omega arith)
 
   -- what is right stays right
-  next-right : (c : Cand) (t : List ℕ) (a : ℕ) → length t ≡ addressesLen p → a < p .L → (part (4 * a) 4 t ≡ gets a) ⊎ (c .address ≡ a) → part (4 * a) 4 (next p v tb cs c t) ≡ gets a
+  next-right : (c : Cand) (t : List ℕ) (a : ℕ) → length t ≡ addressesLen p → a < p .L → (part (4 * a) 4 t ≡ gets a) ⊎ (c .address ≡ a)
+      → part (4 * a) 4 (next p v tb cs c t) ≡ gets a
   next-right c t a l h w = go (test (ltb (c .address) (p .L))) (ℕ-discrete a (c .address))
     where
       x : ℕ

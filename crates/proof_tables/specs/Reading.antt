@@ -112,7 +112,8 @@ module _ (p : Params) (k : Disk) (m : Memory) (b : Base p k m) where
 
   -- only a block that is found is read
   pub reads-said : (a : ℕ) → a < p .L → seenAt p (mkWorld k m) a ≡ saidAt p v gone a
-  reads-said a h = run-seen-is a h ∙ ap (λ (x : List ℕ). cond (eqb (kind (readAnswer p (place a))) 9) unwritten (got (readPiece p v gone x (place a) .block))) (b .compact-says) ∙ go (winner-found a h)
+  reads-said a h =
+      run-seen-is a h ∙ ap (λ (x : List ℕ). cond (eqb (kind (readAnswer p (place a))) 9) unwritten (got (readPiece p v gone x (place a) .block))) (b .compact-says) ∙ go (winner-found a h)
     where
       cs : List ℕ
       cs = compactTable p (segments p v gone)

@@ -205,7 +205,8 @@ module _ (p : Params) (k : Disk) (m : Memory) (u : Run p k m) (we : Well p k m) 
   checks = reclaimChecks p (lentOk p k m) v m w
 
   -- with none live the segment is reset
-  run-reset : isNone w ≡ false → isNil (victimLive w) ≡ true → (x : Disk) → x ≡ storeAll (storeDisk p) (resetPlan p m (victimSegment w) .stores) k → Run p x (resetPlan p m (victimSegment w) .memory)
+  run-reset : isNone w ≡ false → isNil (victimLive w) ≡ true → (x : Disk) → x ≡ storeAll (storeDisk p) (resetPlan p m (victimSegment w) .stores) k
+      → Run p x (resetPlan p m (victimSegment w) .memory)
   run-reset nn nl x ex =
       let g = victimSegment w in
       let t = victim-taken p v (m .addresses) nn in
@@ -252,7 +253,8 @@ module _ (p : Params) (k : Disk) (m : Memory) (u : Run p k m) (we : Well p k m) 
       let er : recordAt p v 0 d g o ≡ recordIn p (sealedIn p v 0 g) (zoneAt v d (zoneOn g d)) o = record-is d g o in
       let hb : placeBlock p q < capacity p = (let l = t .spot .offset-low in let y = capacity-over p rg in omega arith) in
       let ez : placeZone p q ≡ zoneOn g d = sym (place-segment-zone p q) in
-      let lb : length (chunkAt v d (placeZone p q) (placeBlock p q) .block) ≡ p .B = ap (λ (y : ℕ). length (chunkAt v d y (placeBlock p q) .block)) ez ∙ chunk-long d g (placeBlock p q) hd hg hb in
+      let lb : length (chunkAt v d (placeZone p q) (placeBlock p q) .block) ≡ p .B = ap (λ (y : ℕ). length (chunkAt v d y (placeBlock p q) .block)) ez
+      ∙ chunk-long d g (placeBlock p q) hd hg hb in
       let s = sent-ok p rg v (u .base .shaped) st (we .healthy) so (m .inflight) (buffer-long p k m u we) (rc .address) (rc .stamp) 0 (chunkAt v d (placeZone p q) (placeBlock p q) .block)
       (subst (λ (y : Rec). y .address < 256 ^ 8) (sym er) (low .0)) (subst (λ (y : Rec). y .stamp < 256 ^ 8) (sym er) (low .1)) (omega arith) lb nw ns (λ z. zones-left (sc z)) in
       let e = sending p v st (m .inflight) (rc .address) (rc .stamp) 0 (chunkAt v d (placeZone p q) (placeBlock p q) .block) in

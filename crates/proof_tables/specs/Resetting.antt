@@ -41,7 +41,8 @@ module _ (p : Params) (r : Ranged p) (v : View) (sh : Shaped p v) (g : Seg) (hg 
   u = storeAll storeView (resetStores p g) v
 
   -- none of its records holds: the address table stays
-  pub reset-addresses : (s : ℕ) → Tidy p v s → ((a : ℕ) (c : Cand) (k : CandAt p v 0 c) → a < p .L → best none (candsOf a (candidates p 0 (segments p v 0))) ≡ some c → k .of ≡ g → ⊥)
+  pub reset-addresses : (s : ℕ) → Tidy p v s → ((a : ℕ) (c : Cand) (k : CandAt p v 0 c) → a < p .L → best none (candsOf a (candidates p 0 (segments p v 0))) ≡ some c
+      → k .of ≡ g → ⊥)
       → addressTable p (candidates p 0 (segments p v 0)) ≡ addressTable p (candidates p 0 (segments p u 0))
   reset-addresses s t dead = addresses-cong p xs ys (λ a ha. sym (fewer-best a xs ys (cands-apart p r v s t) sub (win a ha)))
     where
@@ -176,7 +177,8 @@ module _ (p : Params) (r : Ranged p) (g : Seg) (hg : Named p g) where
       go (yes x) = ap (λ (y : ℕ). getD (clearedRow p cs e (zoneOn g e)) (compactAt p y (zoneOn g y) o) 0) x ∙ cleared-here e o cs (h e (inl refl)) ho l
       go (no x) = cleared-else e d (zoneOn g d) o cs (h e (inl refl)) hd (zone-on-lt p g d hg) ho l (λ y. x (y .0)) ∙ q
 
-  becomes-zero : (ds cs : List ℕ) (d o : ℕ) → ((e : ℕ) → In e ds → e < p .N) → In d ds → d < p .N → o < p .S → length cs ≡ compactLen p → getD (cleared p g ds cs) (compactAt p d (zoneOn g d) o) 0 ≡ 0
+  becomes-zero : (ds cs : List ℕ) (d o : ℕ) → ((e : ℕ) → In e ds → e < p .N) → In d ds → d < p .N → o < p .S → length cs ≡ compactLen p
+      → getD (cleared p g ds cs) (compactAt p d (zoneOn g d) o) 0 ≡ 0
   unfolding cleared
   becomes-zero [] cs d o h m hd ho l = absurd m
   becomes-zero (e ∷ ds) cs d o h (inl x) hd ho l = stays-zero ds (clearedRow p cs e (zoneOn g e)) d o (λ y m. h y (inr m)) hd ho (cleared-long e cs (h e (inl refl)) l)
@@ -201,13 +203,15 @@ module _ (p : Params) (r : Ranged p) (g : Seg) (hg : Named p g) where
       in! : (d : ℕ) → d < p .N → In d (drivesOf p)
       in! d h = unfold drivesOf in in-below (p .N) d h
 
-      entry : (d : ℕ) (z : Seg) (o : ℕ) → d < p .N → Named p z → o < p .S → getD (cleared p g (drivesOf p) cs) (compactAt p d (zoneOn z d) o) 0 ≡ getD (compactRow p (rowAt p u 0 d (zoneOn z d))) o 0
+      entry : (d : ℕ) (z : Seg) (o : ℕ) → d < p .N → Named p z → o < p .S
+          → getD (cleared p g (drivesOf p) cs) (compactAt p d (zoneOn z d) o) 0 ≡ getD (compactRow p (rowAt p u 0 d (zoneOn z d))) o 0
       entry d z o hd hz ho = go (segs-differ z g)
         where
           go : Dec (z ≡ g) → getD (cleared p g (drivesOf p) cs) (compactAt p d (zoneOn z d) o) 0 ≡ getD (compactRow p (rowAt p u 0 d (zoneOn z d))) o 0
           go (yes e) =
               ap (λ (x : Seg). getD (cleared p g (drivesOf p) cs) (compactAt p d (zoneOn x d) o) 0) e ∙ becomes-zero (drivesOf p) cs d o low (in! d hd) hd ho (length-compact p v 0)
-              ∙ sym (ap (λ (l : List Rec). getD (compactRow p l) o 0) (rows d z hd hz ∙ cond-true (sameSeg z g) [] (rowAt p v 0 d (zoneOn z d)) (seg-same z g e)) ∙ row-past p [] o (omega arith))
+              ∙ sym (ap (λ (l : List Rec). getD (compactRow p l) o 0) (rows d z hd hz ∙ cond-true (sameSeg z g) [] (rowAt p v 0 d (zoneOn z d)) (seg-same z g e))
+              ∙ row-past p [] o (omega arith))
           go (no n) =
               all-else (drivesOf p) cs d z o low hd hz ho (length-compact p v 0) n ∙ compact-at p v 0 d (zoneOn z d) o hd (zone-on-lt p z d hz) ho
               ∙ ap (λ (l : List Rec). getD (compactRow p l) o 0) (sym (rows d z hd hz ∙ cond-false (sameSeg z g) [] (rowAt p v 0 d (zoneOn z d)) (seg-other z g n)))

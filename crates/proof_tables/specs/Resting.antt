@@ -211,7 +211,8 @@ module _ (p : Params) (r : Ranged p) (v : View) (sh : Shaped p v) (b : ℕ) (t :
     count =
         λ d hd. ap₂ (λ (x y : ℕ). x + y) (s .steady-pointer d hd) (idle-awaits (suc (g .name)) c d)
         ∙ (let e = idle-next (suc (g .name)) c in let x : 1 + c + 0 ≡ suc (su (suc (g .name)) c .next) = omega arith in x);
-    below-next = λ d o hd q. subst (λ (x : ℕ). spareAt p v d (zoneOn g d) o .stripe < x) (sym (idle-next (suc (g .name)) c)) (s .steady-stripes d o hd (let e = s .steady-pointer d hd in omega arith));
+    below-next =
+        λ d o hd q. subst (λ (x : ℕ). spareAt p v d (zoneOn g d) o .stripe < x) (sym (idle-next (suc (g .name)) c)) (s .steady-stripes d o hd (let e = s .steady-pointer d hd in omega arith));
     flight = λ i hi q. clash q (idle-flies (suc (g .name)) c i);
     once = λ i j hi hj x y e. clash x (idle-flies (suc (g .name)) c i);
     goes-on = λ q. absurd (let e = sym (idle-next (suc (g .name)) c) ∙ q in let l = s .steady-few in let bad : ⊥ = omega arith in bad);

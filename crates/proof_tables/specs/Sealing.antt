@@ -153,7 +153,8 @@ module _ (p : Params) (r : Ranged p) (v : View) (sh : Shaped p v) (z : Seg) (hz 
       at : (w : View) (e : ℕ) → pointerAt w e (zoneOn z e) ≡ capacity p → zoneAt w e (zoneOn z e) .pointer ≡ capacity p
       at w e q = unfold pointerAt in q
 
-      go : (q q2 : Zone) → q .pointer ≡ 1 + p .S → q2 .pointer ≡ capacity p → ((x : ℕ) → x < p .S → recordIn p false q x ≡ recordIn p true q2 x) → recordsIn p false q ≡ recordsIn p true q2
+      go : (q q2 : Zone) → q .pointer ≡ 1 + p .S → q2 .pointer ≡ capacity p → ((x : ℕ) → x < p .S → recordIn p false q x ≡ recordIn p true q2 x)
+          → recordsIn p false q ≡ recordsIn p true q2
       go q q2 a b f = unfold recordsIn in
           let n1 : dataStored p q ≡ p .S = (unfold dataStored in (let z : min (q .pointer - 1) (p .S) ≡ p .S = omega arith in z)) in
           let n2 : dataStored p q2 ≡ p .S = (unfold dataStored in (let c = capacity-over p r in let z : min (q2 .pointer - 1) (p .S) ≡ p .S = omega arith in z)) in

@@ -83,7 +83,8 @@ pub record SentOk (p : Params) (v : View) (st su : State) (ss : List Store) (fl 
   pub compact-after : compactTable p (segments p v 0) ≡ compactTable p (segments p (storeAll storeView ss v) 0)
   pub missing-after : su .missing ≡ st .missing
 
-sent-no-stores : (p : Params) (v : View) (st su : State) (fl : List ℕ) → HealthyState p v su → StateOk p su → length fl ≡ inflightLen p → su .missing ≡ st .missing → SentOk p v st su [] fl
+sent-no-stores : (p : Params) (v : View) (st su : State) (fl : List ℕ) → HealthyState p v su → StateOk p su → length fl ≡ inflightLen p → su .missing ≡ st .missing
+    → SentOk p v st su [] fl
 sent-no-stores p v st su fl h so l e = record {
   has-room = λ d z hd hz. none-room d z;
   all-within = λ s m. absurd m;
@@ -184,7 +185,8 @@ module _ (p : Params) (r : Ranged p) (v : View) (sh : Shaped p v) (st : State) (
         let (z, op) = opened-at (st .opened) refl nz in
         let nx : st .next < p .S = (let le = so .next-low in omega arith) in
         let g3 : any (otherGroup p st) (inFlight st) ≡ false = sym (ap (λ (c : Bool). not c && any (otherGroup p st) (inFlight st)) mo) ∙ wait-parts .1 .1 in
-        let gr : (j : ℕ) → j < 8 → flies st j ≡ true → group p (stripeIn st j) ≡ group p (st .next) = λ j hj fj. same-group j (none-in (otherGroup p st) (inFlight st) g3 j (in-flight st j hj fj)) in
+        let gr : (j : ℕ) → j < 8 → flies st j ≡ true → group p (stripeIn st j) ≡ group p (st .next) = λ j hj fj. same-group j
+        (none-in (otherGroup p st) (inFlight st) g3 j (in-flight st j hj fj)) in
         let (k1, k2, k3) = healthy-begun st v z h so op nx (freeSlot st) (aim-free .0) (aim-free .1) gr in
         let su = addEntry (beginStripe st (freeSlot st)) (freeSlot st) a t w in
         subst (λ (x : State). SentOk p v st x (sent .stores) (sent .inflight)) (sym (state-is mo))

@@ -121,7 +121,8 @@ start-lost p k m d sh b hd =
     let em : startPlan p k m d .memory ≡ restartMemory p v gone (m .inflight) = the-memory gs s0 in
     let ek : storeAll (storeDisk p) (startPlan p k m d .stores) k ≡ k = ap (λ (x : List Store). storeAll (storeDisk p) x k) s0 ∙ nothing in
     let (t, s, est) = lost-state p v gone (m .inflight) ns in
-    let st : stateOk p (restartMemory p v gone (m .inflight) .state) ≡ true = ap (stateOk p) est ∙ idle-ok p rg gone t s 0 0 (named-low p rg d hd) (named-ones p rg d hd) (omega arith) (omega arith) in
+    let st : stateOk p (restartMemory p v gone (m .inflight) .state) ≡ true = ap (stateOk p) est
+    ∙ idle-ok p rg gone t s 0 0 (named-low p rg d hd) (named-ones p rg d hd) (omega arith) (omega arith) in
     let mm = memory-missing p v gone (m .inflight) in
     subst (λ (x : Disk). Run p x (startPlan p k m d .memory)) (sym ek)
     (subst (λ (x : Memory). Run p k x) (sym em) (record {

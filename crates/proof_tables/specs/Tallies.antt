@@ -40,7 +40,8 @@ unfolding keep consIf upFrom
 from-more f g i b zero x y h p q = absurd (let z : ⊥ = omega arith in z)
 from-more f g i b (suc n) x y h p q = go (ℕ-discrete b i) (from-more f g i (suc b) n)
   where
-    go : Dec (b ≡ i) → (suc b ≤ i → i < suc b + n → ((j : ℕ) → (j ≡ i → ⊥) → f j ≡ g j) → f i ≡ true → g i ≡ false → length (keep f (upFrom (suc b) n)) ≡ suc (length (keep g (upFrom (suc b) n))))
+    go : Dec (b ≡ i) → (suc b ≤ i → i < suc b + n → ((j : ℕ) → (j ≡ i → ⊥) → f j ≡ g j) → f i ≡ true → g i ≡ false
+        → length (keep f (upFrom (suc b) n)) ≡ suc (length (keep g (upFrom (suc b) n))))
         → length (consIf (f b) b (keep f (upFrom (suc b) n))) ≡ suc (length (consIf (g b) b (keep g (upFrom (suc b) n))))
     go (yes e) ih =
         let t : f b ≡ true = ap f e ∙ p in

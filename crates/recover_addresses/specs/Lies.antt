@@ -68,7 +68,8 @@ counted-segment-low p v gone cs g s k = remaining-low p v gone g (k .remains)
 -- ---- every chunk of what remains sits at an offset of its group
 
 -- a remaining segment has no such fault
-pub seg-clean : (p : Params) (v : View) (gone : ℕ) (g : Seg) → any (recsFault p gone) (segments p v gone) ≡ false → In g (remaining p v gone) → recsFault p gone (segmentOf p v gone g) ≡ false
+pub seg-clean : (p : Params) (v : View) (gone : ℕ) (g : Seg) → any (recsFault p gone) (segments p v gone) ≡ false → In g (remaining p v gone)
+    → recsFault p gone (segmentOf p v gone g) ≡ false
 unfolding segments
 seg-clean p v gone g q m = none-in (recsFault p gone) (map (segmentOf p v gone) (remaining p v gone)) q (segmentOf p v gone g) (in-map (segmentOf p v gone) (remaining p v gone) g m)
 
@@ -89,7 +90,8 @@ no-fault-in-groups p v gone q g d o m hd pr h =
 
 -- ---- the stamp of a chunk that the table shows
 
-module _ (p : Params) (r : Ranged p) (v : View) (gone : ℕ) (cs : List ℕ) (g : Seg) (s : ℕ) (clean : any (recsFault p gone) (segments p v gone) ≡ false) (k : StripeCounts p v gone cs g s) (d : ℕ)
+module _ (p : Params) (r : Ranged p) (v : View) (gone : ℕ) (cs : List ℕ) (g : Seg) (s : ℕ) (clean : any (recsFault p gone) (segments p v gone) ≡ false)
+    (k : StripeCounts p v gone cs g s) (d : ℕ)
     (hd : d < p .N)
     (pr : isIn gone d ≡ false) where
   has-it : hasChunk (segmentOf p v gone g) s d ≡ true
@@ -136,7 +138,8 @@ stamps-turn f gone n t u et eu = eu ∙ go (test (isIn gone n)) ∙ ap (λ (l : 
   where
     go : Test (isIn gone n) → cond (isIn gone n) t (bitXor t (f n)) ≡ xorAll (map f (keep (λ d. not (isIn gone d)) (below n) ++ consIf (not (isIn gone n)) n []))
     go (yes! e) = cond-true (isIn gone n) t (bitXor t (f n)) e ∙ et
-        ∙ ap (λ (l : List ℕ). xorAll (map f l)) (sym (append-nil (keep (λ d. not (isIn gone d)) (below n))) ∙ ap (λ (b : Bool). keep (λ d. not (isIn gone d)) (below n) ++ consIf (not b) n []) (sym e))
+        ∙ ap (λ (l : List ℕ). xorAll (map f l)) (sym (append-nil (keep (λ d. not (isIn gone d)) (below n)))
+        ∙ ap (λ (b : Bool). keep (λ d. not (isIn gone d)) (below n) ++ consIf (not b) n []) (sym e))
     go (no! e) = cond-false (isIn gone n) t (bitXor t (f n)) e ∙ ap (λ (x : ℕ). bitXor x (f n)) et
         ∙ sym (xorAll-snoc (map f (keep (λ d. not (isIn gone d)) (below n))) (f n))
         ∙ ap xorAll (sym (map-append f (keep (λ d. not (isIn gone d)) (below n)) (n ∷ [])))
@@ -157,7 +160,8 @@ module _ (p : Params) (r : Ranged p) (v : View) (gone : ℕ) (cs : List ℕ) (d 
   unfolding offsetOf
   lies-here e = k .offset-is ∙ cond-false (isIn gone d) s (offsetOn (segmentOf p v gone g) d s) e
 
-  pub stamp-away : isIn gone d ≡ true → (t : ℕ) → t ≡ xorAll (map (λ e. storedRec (segmentOf p v gone g) o e .stamp) (present p gone)) → t ≡ recOf p gone (segmentOf p v gone g) s d .stamp
+  pub stamp-away : isIn gone d ≡ true → (t : ℕ) → t ≡ xorAll (map (λ e. storedRec (segmentOf p v gone g) o e .stamp) (present p gone))
+      → t ≡ recOf p gone (segmentOf p v gone g) s d .stamp
   unfolding parityRec
   stamp-away e t q =
       q ∙ ap (λ (x : ℕ). xorAll (map (λ e. storedRec (segmentOf p v gone g) x e .stamp) (present p gone))) (lies-away e)
@@ -227,6 +231,7 @@ add-away b t x e = sym (cond-true b t (bitXor t x) e)
 pub add-here : (b : Bool) (t x y : ℕ) → b ≡ false → y ≡ x → bitXor t y ≡ cond b t (bitXor t x)
 add-here b t x y e q = ap (bitXor t) q ∙ sym (cond-false b t (bitXor t x) e)
 
-pub lies-same : (p : Params) (v : View) (gone : ℕ) (cs : List ℕ) (d : ℕ) (g : Seg) (o s e : ℕ) (h : Seg) (i : ℕ) → e ≡ d → h ≡ g → i ≡ o → LiesIn p v gone cs d g o s → LiesIn p v gone cs e h i s
+pub lies-same : (p : Params) (v : View) (gone : ℕ) (cs : List ℕ) (d : ℕ) (g : Seg) (o s e : ℕ) (h : Seg) (i : ℕ) → e ≡ d → h ≡ g → i ≡ o → LiesIn p v gone cs d g o s
+    → LiesIn p v gone cs e h i s
 lies-same p v gone cs d g o s e h i ed eg eo k =
     subst (λ (x : ℕ). LiesIn p v gone cs x h i s) (sym ed) (subst (λ (x : Seg). LiesIn p v gone cs d x i s) (sym eg) (subst (λ (x : ℕ). LiesIn p v gone cs d g x s) (sym eo) k))

@@ -104,7 +104,8 @@ module _ (p : Params) (r : Ranged p) (v : View) (gone : ℕ) (co tb : List ℕ) 
           let k = t .said c (i .0) in
           let l = spot-low p r v gone c (spot-of p r v gone c (k .0)) in
           let q : placeOr (best none (candsOf a cs)) ≡ c .place = ap placeOr e ∙ (unfold placeOr in refl) in
-          holds-one c e k (i .1) (ap (λ (x : List ℕ). placeAt x a) (t .table) ∙ place-at p cs a h (subst (λ (x : ℕ). x < 256 ^ 4) (sym q) (let z : c .place < 256 ^ 4 = omega arith in z)) ∙ q) l
+          holds-one c e k (i .1) (ap (λ (x : List ℕ). placeAt x a) (t .table)
+          ∙ place-at p cs a h (subst (λ (x : ℕ). x < 256 ^ 4) (sym q) (let z : c .place < 256 ^ 4 = omega arith in z)) ∙ q) l
 
   pub told-placed : (a : ℕ) → a < p .L → (placeAt tb a ≡ neverPlace → ⊥) → HasCand p v gone co a (placeAt tb a)
   told-placed a h n = go (holding a h)

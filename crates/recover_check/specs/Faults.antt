@@ -216,7 +216,8 @@ module _ (p : Params) (v : View) (gone : ℕ) (flags : List Bool) where
       more-loose = ap₂ (λ (x y : ℕ). x + y) (s .loose-is) (u .loose-is good) ∙ sum-hit (λ g. getD flags g false) (λ g. length (uncounted p gone (segmentOf p v gone (seg g)))) n h
 
       -- one that is sealed
-      pub seen-full : sealedIn p v gone (seg n) ≡ true → ExamSays p v gone flags (n + 1) (record { zone = e .zone; loose = e .loose + t .loose; counted = e .counted; top = e .top; part = e .part })
+      pub seen-full : sealedIn p v gone (seg n) ≡ true → ExamSays p v gone flags (n + 1)
+          (record { zone = e .zone; loose = e .loose + t .loose; counted = e .counted; top = e .top; part = e .part })
       unfolding openBy
       seen-full q =
           let k : (getD flags n false && not (sealedIn p v gone (seg n))) ≡ false = λ i. h i && not (q i) in
@@ -243,7 +244,8 @@ module _ (p : Params) (v : View) (gone : ℕ) (flags : List Bool) where
           }
 
   -- all of them
-  pub seen-all : (e : Exam) → Keeps p v gone flags → ExamSays p v gone flags (p .Z) e → e .zone ≡ firstOr (p .Z) (segmentFaults p gone (segments p v gone)) → Examined p gone (segments p v gone) e
+  pub seen-all : (e : Exam) → Keeps p v gone flags → ExamSays p v gone flags (p .Z) e → e .zone ≡ firstOr (p .Z) (segmentFaults p gone (segments p v gone))
+      → Examined p gone (segments p v gone) e
   unfolding summed uncountedIn sumOf openBy
   seen-all e k s z =
       let opens : (w : Segment → ℕ)

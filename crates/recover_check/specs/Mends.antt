@@ -83,7 +83,8 @@ unsealed-at-most-one p gone gs e = go (decLe 2 (length (unsealed gs)))
     go : Dec (2 ≤ length (unsealed gs)) → length (unsealed gs) ≤ 1
     go (no h) = omega arith
     go (yes h) =
-        let f : any (segmentFault p gone gs) gs ≡ false = none-pass (segmentFault p gone gs) gs (map-nil (λ (g : Segment). zoneOn (g .seg) (lowDrive p gone)) (keep (segmentFault p gone gs) gs) e) in
+        let f : any (segmentFault p gone gs) gs ≡ false = none-pass (segmentFault p gone gs) gs
+        (map-nil (λ (g : Segment). zoneOn (g .seg) (lowDrive p gone)) (keep (segmentFault p gone gs) gs) e) in
         let n : any (λ (g : Segment). not (g .full)) gs ≡ false = none-less (λ (g : Segment). not (g .full)) (segmentFault p gone gs) gs
         (unsealed-clash p gone gs (le-leb 2 (length (unsealed gs)) h)) f in
         let z : _≡_ {A = ℕ} (length (unsealed gs)) 0 = ap length (pass-none (λ (g : Segment). not (g .full)) gs n) in

@@ -39,7 +39,8 @@ fn segment_fault(
     requires { ⌜ Whole p (mkDisk (now image) (now pointers)) ⌝ }
     requires { ⌜ Keeps p (viewOf p (now image) (now pointers)) gone (now kept) ⌝ }
     requires { ⌜ Serials p (viewOf p (now image) (now pointers)) gone (now serials) ⌝ }
-    requires { ⌜ (g < p .Z) × (full ≡ sealedIn p (viewOf p (now image) (now pointers)) gone (seg g)) × (many ≡ leb 2 (length (unsealed (segments p (viewOf p (now image) (now pointers)) gone)))) ⌝ }
+    requires { ⌜ (g < p .Z) × (full ≡ sealedIn p (viewOf p (now image) (now pointers)) gone (seg g))
+        × (many ≡ leb 2 (length (unsealed (segments p (viewOf p (now image) (now pointers)) gone)))) ⌝ }
     ensures { λ r. ⌜
         r
         ≡ frontFault p gone (segments p (viewOf p (now (image .entry)) (now (pointers .entry))) gone)

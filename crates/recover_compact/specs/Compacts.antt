@@ -130,7 +130,8 @@ module _ (p : Params) (l l′ : List ℕ) (d z : ℕ) (t : List ℕ) (hd : d < p
       as! (inl a) = unfold compactAt in inl (let b = add-zero ((d * p .Z + z) * p .S) in omega arith)
       as! (inr a) = unfold compactAt in inr (let b = add-zero ((d * p .Z + z) * p .S) in omega arith)
 
-      go : (compactAt p x y o < compactAt p d z 0) ⊎ (compactAt p d z 0 + length t ≤ compactAt p x y o) → getD (splice l (compactAt p d z 0) t) (compactAt p x y o) 0 ≡ getD l (compactAt p x y o) 0
+      go : (compactAt p x y o < compactAt p d z 0) ⊎ (compactAt p d z 0 + length t ≤ compactAt p x y o)
+          → getD (splice l (compactAt p d z 0) t) (compactAt p x y o) 0 ≡ getD l (compactAt p x y o) 0
       go (inl a) = getD-splice-below l (compactAt p d z 0) t fits (compactAt p x y o) a
       go (inr a) = getD-splice-past l (compactAt p d z 0) t fits (compactAt p x y o) a
 

@@ -79,7 +79,8 @@ module _ (p : Params) (gone : ℕ) (v u : View) (low : In (lowDrive p gone) (pre
         subst (λ (x : ℕ). (base ≤ x) × (x < base + groupLen p base)) (same-offset p gone v u low ag g hg d (base + k)) (i .within d k hd hk (same-has p gone v u low ag g hg (base + k) d ∙ t));
   }
 
-  pub group-reads-same : (im ps im′ ps′ : List ℕ) (w : Group) (at : List ℕ) → v ≡ viewOf p im ps → u ≡ viewOf p im′ ps′ → w .gone ≡ gone → seg (w .seg) ≡ g → length ps′ ≡ pointersLen p
+  pub group-reads-same : (im ps im′ ps′ : List ℕ) (w : Group) (at : List ℕ) → v ≡ viewOf p im ps → u ≡ viewOf p im′ ps′ → w .gone ≡ gone → seg (w .seg) ≡ g
+      → length ps′ ≡ pointersLen p
       → GroupReads p im ps w at → GroupReads p im′ ps′ w at
   group-reads-same im ps im′ ps′ w at ev eu ew es l r = record {
     long = l;
@@ -136,7 +137,8 @@ module _ (p : Params) (r : Ranged p) (w : Group) (d n : ℕ) (k₀ : Disk) (la :
 
   pub stripes-fit : AllFit p (seen p x) (lostStores p (w .gone) d now! ((w .base + k) ∷ []))
   stripes-fit =
-      subst (λ (l : List Store). AllFit p (seen p x) l) (sym lost-stripe-same) (going-first p n (groupStores p w d n k₀) k₀ (lostStores p (w .gone) d (groupFound p w d n k₀) ((w .base + k) ∷ []))
+      subst (λ (l : List Store). AllFit p (seen p x) l) (sym lost-stripe-same)
+      (going-first p n (groupStores p w d n k₀) k₀ (lostStores p (w .gone) d (groupFound p w d n k₀) ((w .base + k) ∷ []))
       (lostStores p (w .gone) d (groupFound p w d n k₀) (upFrom (w .base + (k + 1)) (len - (k + 1)))) left x (stripe-step .going))
 
   pub stripes-read : (at : List ℕ) → GroupReads p (k₀ .image) (k₀ .pointers) w at → GroupReads p (x .image) (x .pointers) w at

@@ -42,7 +42,8 @@ pub record Moving (p : Params) (gone n : ℕ) (ss : List Store) (k₀ : Disk) (t
 pub moving-start : (p : Params) (gone n : ℕ) (ss : List Store) (k : Disk) → Whole p k → AllFit p (seen p k) ss → Moving p gone n ss k ss n k
 moving-start p gone n ss k w f = record { going = going-start p n ss k w f; agree = λ d z hd hz q. refl }
 
-pub moving-as : (p : Params) (gone n : ℕ) (ss : List Store) (k₀ : Disk) (ts us : List Store) (left : ℕ) (k : Disk) → ts ≡ us → Moving p gone n ss k₀ ts left k → Moving p gone n ss k₀ us left k
+pub moving-as : (p : Params) (gone n : ℕ) (ss : List Store) (k₀ : Disk) (ts us : List Store) (left : ℕ) (k : Disk) → ts ≡ us → Moving p gone n ss k₀ ts left k
+    → Moving p gone n ss k₀ us left k
 moving-as p gone n ss k₀ ts us left k e g = subst (λ (l : List Store). Moving p gone n ss k₀ l left k) e g
 
 module _ (p : Params) (gone n : ℕ) (ss : List Store) (k₀ : Disk) (ts us : List Store) (left : ℕ) (k : Disk) (m : Made) (k′ : Disk)

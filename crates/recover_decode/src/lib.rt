@@ -67,7 +67,8 @@ fn put_lost(
     requires { ⌜ inRange p ≡ true ⌝ }
     requires { ⌜ Whole p (mkDisk (now image) (now pointers)) ⌝ }
     requires { ⌜ Lacks p (w .gone) drive ⌝ }
-    requires { ⌜ (length (now at) ≡ 2048) × (w .seg < p .Z) × (w .base < p .S) × (k < groupLen p (w .base)) × (pointerOf p (now pointers) drive (zoneOn (segNo (w .seg)) drive) < capacity p) ⌝ }
+    requires { ⌜ (length (now at) ≡ 2048) × (w .seg < p .Z) × (w .base < p .S) × (k < groupLen p (w .base))
+        × (pointerOf p (now pointers) drive (zoneOn (segNo (w .seg)) drive) < capacity p) ⌝ }
     requires { ⌜ GroupReads p (now image) (now pointers) w (now at) ⌝ }
     requires { ⌜ counts p (w .gone) (segmentIn p (now image) (now pointers) w) (w .base + k) ≡ true ⌝ }
     ensures { λ r. ⌜

@@ -35,7 +35,8 @@ unfolding flat keep consIf
 flat-keep q f [] = refl
 flat-keep q f (z ∷ l) = go (q z) (flat-keep q f l)
   where
-    go : (b : Bool) → flat f (keep (λ z. not (q z)) l) ≡ flat (λ z. cond (q z) [] (f z)) l → flat f (consIf (not b) z (keep (λ z. not (q z)) l)) ≡ cond b [] (f z) ++ flat (λ z. cond (q z) [] (f z)) l
+    go : (b : Bool) → flat f (keep (λ z. not (q z)) l) ≡ flat (λ z. cond (q z) [] (f z)) l
+        → flat f (consIf (not b) z (keep (λ z. not (q z)) l)) ≡ cond b [] (f z) ++ flat (λ z. cond (q z) [] (f z)) l
     go true ih = ih
     go false ih = ap (λ (x : List _). f z ++ x) ih
 

@@ -45,7 +45,8 @@ pub fn missing_footers(
 ) -> Made
     requires { ⌜ inRange p ≡ true ⌝ }
     requires { ⌜ Whole p (mkDisk (now image) (now pointers)) ⌝ }
-    requires { ⌜ (segment < p .Z) × ((d : ℕ) → d < p .N → (1 + p .S ≤ pointerOf p (now pointers) d (zoneOn (seg segment) d)) × (pointerOf p (now pointers) d (zoneOn (seg segment) d) ≤ capacity p)) ⌝ }
+    requires { ⌜ (segment < p .Z) × ((d : ℕ) → d < p .N → (1 + p .S ≤ pointerOf p (now pointers) d (zoneOn (seg segment) d))
+        × (pointerOf p (now pointers) d (zoneOn (seg segment) d) ≤ capacity p)) ⌝ }
     requires { ⌜ AllFit p (viewOf p (now image) (now pointers)) (missingFooters p (segmentOf p (viewOf p (now image) (now pointers)) 0 (seg segment))) ⌝ }
     ensures { λ r. ⌜
         Storing p count (missingFooters p (segmentOf p (viewOf p (now (image .entry)) (now (pointers .entry))) 0 (seg segment)))

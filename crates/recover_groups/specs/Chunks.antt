@@ -21,7 +21,8 @@ use Rattle.spec.specs.Segments.{Segment, recordsIn, segmentOf, recsOn, offsetOn
 use Rattle.law_basic.specs.Ranges.{Test, test, not-both, length-below, any-append, length-keep}
 use Rattle.law_basic.specs.Ranges.Test.{yes!, no! }
 use Rattle.law_drives.specs.Counting.{different-few, stripes-different}
-use Rattle.law_drives.specs.Members.{In, map-in, all-in, in-all, none-in, in-none, in-any, keep-cong, keep-all, keep-keep, below-in, in-getD, getD-in, index-below, index-passes, index-first, index-is}
+use Rattle.law_drives.specs.Members.{In, map-in, all-in, in-all, none-in, in-none, in-any, keep-cong, keep-all, keep-keep, below-in, in-getD, getD-in, index-below, index-passes, index-first}
+use Rattle.law_drives.specs.Members.{index-is}
 use Rattle.law_drives.specs.Segs.{present-in, in-present, length-records, record-at, recs-here, recs-gone}
 use Rattle.law_drives.specs.Tests.{and-false-right, or-first, or-right, not-so, same-test, cond-true}
 use Rattle.recover_groups.specs.Bases.{group-len-le, group-of, group-back, base-is, in-group}
@@ -76,7 +77,8 @@ module _ (p : Params) (v : View) (gone : ℕ) (sgm : Seg) where
       go : Dec (d < p .N) → Test (isIn gone d) → length (recsOn sg d) ≤ p .S
       go (yes h) (yes! q) = let e : length (recsOn sg d) ≡ 0 = ap length (recs-gone p v gone sgm d h q) in omega (arith, e)
       go (yes h) (no! q) =
-          let e : length (recsOn sg d) ≡ dataStored p (zoneAt v d (zoneOn sgm d)) = ap length (recs-here p v gone sgm d h q) ∙ length-records p (sealedIn p v gone sgm) (zoneAt v d (zoneOn sgm d)) in
+          let e : length (recsOn sg d) ≡ dataStored p (zoneAt v d (zoneOn sgm d)) = ap length (recs-here p v gone sgm d h q)
+          ∙ length-records p (sealedIn p v gone sgm) (zoneAt v d (zoneOn sgm d)) in
           let m : dataStored p (zoneAt v d (zoneOn sgm d)) ≤ p .S = data-most p (zoneAt v d (zoneOn sgm d)) in
           omega (arith, e, m)
       go (no h) t = let e : length (recsOn sg d) ≡ 0 = ap length (recs-out d (omega arith)) in omega (arith, e)
@@ -150,7 +152,8 @@ module _ (p : Params) (v : View) (gone : ℕ) (sgm : Seg) where
       let t = none-in (λ d. outside p 0 (recsOn sg d) || twice (recsOn sg d)) (present p gone) h d m in
       let o : outside p 0 rs ≡ false = or-first (outside p 0 rs) (twice rs) t in
       let w : twice rs ≡ false = or-right (outside p 0 rs) (twice rs) t in
-      let c : pointerAt v d (zoneOn sgm d) ≡ capacity p = eqb-true (pointerAt v d (zoneOn sgm d)) (capacity p) (all-in (λ d. eqb (pointerAt v d (zoneOn sgm d)) (capacity p)) (present p gone) f d m) in
+      let c : pointerAt v d (zoneOn sgm d) ≡ capacity p = eqb-true (pointerAt v d (zoneOn sgm d)) (capacity p)
+      (all-in (λ d. eqb (pointerAt v d (zoneOn sgm d)) (capacity p)) (present p gone) f d m) in
       let n : length rs ≡ p .S = ap length (recs-here p v gone sgm d hd hp) ∙ length-records p (sealedIn p v gone sgm) (zoneAt v d (zoneOn sgm d)) ∙ full-data p (zoneAt v d (zoneOn sgm d)) c in
       not-false (any (λ (r : Rec). eqb (r .stripe) s) rs) (not-so (not (any (λ (r : Rec). eqb (r .stripe) s) rs)) (λ e.
       let z : any (λ (r : Rec). eqb (r .stripe) s) rs ≡ false = not-true (any (λ (r : Rec). eqb (r .stripe) s) rs) e in
@@ -210,7 +213,8 @@ unfolding any indexOf sucUnless
 index-miss f [] ys h = sym (zero-add (indexOf f ys))
 index-miss {A} f (x ∷ xs) ys h = go (f x) h (index-miss f xs ys)
   where
-    go : (b : Bool) → (b || any f xs) ≡ false → (any f xs ≡ false → indexOf f (xs ++ ys) ≡ length xs + indexOf f ys) → sucUnless b (indexOf f (xs ++ ys)) ≡ suc (length xs) + indexOf f ys
+    go : (b : Bool) → (b || any f xs) ≡ false → (any f xs ≡ false → indexOf f (xs ++ ys) ≡ length xs + indexOf f ys)
+        → sucUnless b (indexOf f (xs ++ ys)) ≡ suc (length xs) + indexOf f ys
     go true h ih = absurd (not-both true refl h)
     go false h ih = let e = ih h in omega (arith, e)
 
@@ -321,7 +325,8 @@ indexed-at p v gone sgm q at g b h rows = record {
         go (no! e) = three (outside p 0 (recsOn (segmentOf p v gone sgm) d)) (twice (recsOn (segmentOf p v gone sgm) d)) (any (storedBad p d) (recsOn (segmentOf p v gone sgm) d))
             (unfold recsFault recsBad in none-in (λ d. recsBad p d 0 (recsOn (segmentOf p v gone sgm) d)) (present p gone) h d (in-present p gone d hd e))
 
-pub indexed-of : (p : Params) (v : View) (gone : ℕ) (sgm : Seg) (base : ℕ) (at : List ℕ) → 0 < p .G → base < p .S → base % p .G ≡ 0 → recsFault p gone (segmentOf p v gone sgm) ≡ false
+pub indexed-of : (p : Params) (v : View) (gone : ℕ) (sgm : Seg) (base : ℕ) (at : List ℕ) → 0 < p .G → base < p .S → base % p .G ≡ 0
+    → recsFault p gone (segmentOf p v gone sgm) ≡ false
     → ((d : ℕ) → d < p .N → Row p base (groupRecs p base (recsOn (segmentOf p v gone sgm) d)) d at) → Indexed p (segmentOf p v gone sgm) base at
 indexed-of p v gone sgm base at g b m h rows =
     let e = base-is p base m in

@@ -140,7 +140,8 @@ module _ (p : Params) (d base : ℕ) (rs : List Rec) (old at : List ℕ) (i : �
         row = λ k hk. next-row d8 len u w en k hk (ℕ-discrete k (r .stripe - base));
       }
     where
-      next-row : d < 8 → groupLen p base ≤ 256 → base ≤ r .stripe → r .stripe - base < groupLen p base → entryOf done (r .stripe) ≡ 0 → (k : ℕ) → k < groupLen p base → Dec (k ≡ r .stripe - base)
+      next-row : d < 8 → groupLen p base ≤ 256 → base ≤ r .stripe → r .stripe - base < groupLen p base → entryOf done (r .stripe) ≡ 0 → (k : ℕ) → k < groupLen p base
+          → Dec (k ≡ r .stripe - base)
           → getD (set at (256 * d + (r .stripe - base)) (i + 1)) (256 * d + k) 0 ≡ entryOf (take (i + 1) rs) (base + k)
       next-row d8 len u w en k hk (yes q) =
           ap (λ (n : ℕ). getD (set at (256 * d + (r .stripe - base)) (i + 1)) (256 * d + n) 0) q

@@ -273,7 +273,8 @@ group-step p d q rs g b l = ap (recsBad p d base) (split-group p base rs b l) �
     go (yes h) =
         let e : ys ≡ [] = drop-of-length-le rs h in
         ap (λ (x : List Rec). recsBad p d base (xs ++ x)) e ∙ ap (recsBad p d base) (append-nil xs)
-        ∙ sym (ap (λ (x : List Rec). recsBad p d base xs || recsBad p d (base + p .G) x) e ∙ ap (λ (x : Bool). recsBad p d base xs || x) (no-recs-bad p d (base + p .G)) ∙ or-no (recsBad p d base xs))
+        ∙ sym (ap (λ (x : List Rec). recsBad p d base xs || recsBad p d (base + p .G) x) e ∙ ap (λ (x : Bool). recsBad p d base xs || x) (no-recs-bad p d (base + p .G))
+        ∙ or-no (recsBad p d base xs))
     go (no h) =
         let w : groupLen p base ≡ p .G = group-len-whole p base (omega arith) in
         let n : length xs ≡ p .G = length-group p base rs ∙ (let m : min (groupLen p base) (length rs - base) ≡ p .G = omega (arith, w) in m) in
@@ -313,7 +314,8 @@ unfolding recsFault groupFault
 recs-fault-groups p gone g h l =
     any-same (λ d. recsBad p d 0 (recsOn g d)) (λ d. any (λ b. recsBad p d b (groupRecs p b (recsOn g d))) (basesFrom p 0)) (present p gone)
     (λ d. let e : 0 * p .G ≡ 0 = omega arith in
-    sym (subst (λ (x : ℕ). any (λ b. recsBad p d b (groupRecs p b (recsOn g d))) (basesFrom p x) ≡ recsBad p d x (drop x (recsOn g d))) e (bad-groups p d (recsOn g d) h (l d) (p .S) 0 (omega arith))))
+    sym (subst (λ (x : ℕ). any (λ b. recsBad p d b (groupRecs p b (recsOn g d))) (basesFrom p x) ≡ recsBad p d x (drop x (recsOn g d))) e
+    (bad-groups p d (recsOn g d) h (l d) (p .S) 0 (omega arith))))
     ∙ any-swap (λ d b. recsBad p d b (groupRecs p b (recsOn g d))) (present p gone) (basesFrom p 0)
 
 pub recs-fault-is : (p : Params) (gone : ℕ) (g : Segment)

@@ -109,7 +109,8 @@ fn enter(p: Params, at: &mut [u16], drive: usize, base: usize, s: usize, v: usiz
 pub fn group_stored(p: Params, pointers: &[u8], w: Group, drive: usize) -> usize
     requires { ⌜ inRange p ≡ true ⌝ }
     requires { ⌜ (length (now pointers) ≡ pointersLen p) × (drive < p .N) × (w .seg < p .Z) × (w .base < p .S) ⌝ }
-    ensures { λ r. ⌜ ((im : List ℕ) → length im ≡ imageLen p → isIn (w .gone) drive ≡ false → r ≡ length (groupRecs p (w .base) (recsOn (segmentIn p im (now (pointers .entry)) w) drive))) ⌝ }
+    ensures { λ r. ⌜ ((im : List ℕ) → length im ≡ imageLen p → isIn (w .gone) drive ≡ false
+        → r ≡ length (groupRecs p (w .base) (recsOn (segmentIn p im (now (pointers .entry)) w) drive))) ⌝ }
     ensures { λ r. ⌜ r ≤ groupLen p (w .base) ⌝ }
 {
     let n = disk_stored::data_stored(p, pointers, drive, disk_shape::zone_on(w.seg, drive));
@@ -373,7 +374,8 @@ pub fn rec_of(p: Params, image: &[u8], w: Group, at: &[u16], drive: usize, k: us
     requires { ⌜ inRange p ≡ true ⌝ }
     requires { ⌜ (length (now image) ≡ imageLen p) × (length (now at) ≡ 2048) × (w .seg < p .Z) × (w .base < p .S) × (drive < p .N) × (k < groupLen p (w .base)) ⌝ }
     requires { ⌜ AllEntered p (w .gone) (w .base) (now at) k ⌝ }
-    ensures { λ r. ⌜ ((ps : List ℕ) → GroupReads p (now (image .entry)) ps w (now (at .entry)) → recVal r ≡ recOf p (w .gone) (segmentIn p (now (image .entry)) ps w) (w .base + k) drive) ⌝ }
+    ensures { λ r. ⌜ ((ps : List ℕ) → GroupReads p (now (image .entry)) ps w (now (at .entry))
+        → recVal r ≡ recOf p (w .gone) (segmentIn p (now (image .entry)) ps w) (w .base + k) drive) ⌝ }
 {
     if bits_masks::has_drive(w.gone, drive) {
         return lost_rec(p, image, w, at, drive, k);
@@ -408,7 +410,8 @@ pub fn xor_block(
     block: &mut [u8],
 )
     requires { ⌜ inRange p ≡ true ⌝ }
-    requires { ⌜ (length (now image) ≡ imageLen p) × (length (now at) ≡ 2048) × (w .seg < p .Z) × (w .base < p .S) × (drive < p .N) × (k < groupLen p (w .base)) × (length (now block) ≡ p .B) ⌝ }
+    requires { ⌜ (length (now image) ≡ imageLen p) × (length (now at) ≡ 2048) × (w .seg < p .Z) × (w .base < p .S) × (drive < p .N) × (k < groupLen p (w .base))
+        × (length (now block) ≡ p .B) ⌝ }
     requires { ⌜ Entered p (w .base) (now at) drive k ⌝ }
     ensures { λ _. ⌜
         ((ps : List ℕ)
@@ -432,9 +435,11 @@ pub fn copy_block(
     block: &mut [u8],
 )
     requires { ⌜ inRange p ≡ true ⌝ }
-    requires { ⌜ (length (now image) ≡ imageLen p) × (length (now at) ≡ 2048) × (w .seg < p .Z) × (w .base < p .S) × (drive < p .N) × (k < groupLen p (w .base)) × (length (now block) ≡ p .B) ⌝ }
+    requires { ⌜ (length (now image) ≡ imageLen p) × (length (now at) ≡ 2048) × (w .seg < p .Z) × (w .base < p .S) × (drive < p .N) × (k < groupLen p (w .base))
+        × (length (now block) ≡ p .B) ⌝ }
     requires { ⌜ Entered p (w .base) (now at) drive k ⌝ }
-    ensures { λ _. ⌜ ((ps : List ℕ) → GroupReads p (now (image .entry)) ps w (now (at .entry)) → now (block .exit) ≡ storedPiece (segmentIn p (now (image .entry)) ps w) (w .base + k) drive .block) ⌝ }
+    ensures { λ _. ⌜ ((ps : List ℕ) → GroupReads p (now (image .entry)) ps w (now (at .entry))
+        → now (block .exit) ≡ storedPiece (segmentIn p (now (image .entry)) ps w) (w .base + k) drive .block) ⌝ }
 {
     let zone = disk_shape::zone_on(w.seg, drive);
     let a = disk_shape::block_byte(p, drive, zone, 1 + offset_on(w, at, drive, k));
@@ -472,7 +477,8 @@ pub fn lost_block(
     block: &mut [u8],
 )
     requires { ⌜ inRange p ≡ true ⌝ }
-    requires { ⌜ (length (now image) ≡ imageLen p) × (length (now at) ≡ 2048) × (w .seg < p .Z) × (w .base < p .S) × (drive < p .N) × (k < groupLen p (w .base)) × (length (now block) ≡ p .B) ⌝ }
+    requires { ⌜ (length (now image) ≡ imageLen p) × (length (now at) ≡ 2048) × (w .seg < p .Z) × (w .base < p .S) × (drive < p .N) × (k < groupLen p (w .base))
+        × (length (now block) ≡ p .B) ⌝ }
     requires { ⌜ AllEntered p (w .gone) (w .base) (now at) k ⌝ }
     ensures { λ _. ⌜
         ((ps : List ℕ)

@@ -97,11 +97,13 @@ pub record Moves (p : Params) (n : ℕ) (ss : List Store) (k₀ : Disk) (sgm : S
 pub moves-start : (p : Params) (n : ℕ) (ss : List Store) (k : Disk) (sgm : Seg) → Whole p k → AllFit p (seen p k) ss → Moves p n ss k sgm ss n k
 moves-start p n ss k sgm w f = record { going = going-start p n ss k w f; same = λ e h. refl }
 
-pub moves-as : (p : Params) (n : ℕ) (ss : List Store) (k₀ : Disk) (sgm : Seg) (ts us : List Store) (left : ℕ) (k : Disk) → ts ≡ us → Moves p n ss k₀ sgm ts left k → Moves p n ss k₀ sgm us left k
+pub moves-as : (p : Params) (n : ℕ) (ss : List Store) (k₀ : Disk) (sgm : Seg) (ts us : List Store) (left : ℕ) (k : Disk) → ts ≡ us → Moves p n ss k₀ sgm ts left k
+    → Moves p n ss k₀ sgm us left k
 moves-as p n ss k₀ sgm ts us left k e g = subst (λ (l : List Store). Moves p n ss k₀ sgm l left k) e g
 
 pub moves-turn : (p : Params) (r : Ranged p) (n : ℕ) (ss : List Store) (k₀ : Disk) (sgm : Seg) → Named p sgm → (ts us : List Store) (left : ℕ) (k : Disk) (m : Made) (k′ : Disk)
-    → Moves p n ss k₀ sgm (ts ++ us) left k → Storing p left ts k m k′ → m .cut ≡ false → ((e : ℕ) → e < p .N → hits e (zoneOn sgm e) ts ≡ []) → Moves p n ss k₀ sgm us (m .left) k′
+    → Moves p n ss k₀ sgm (ts ++ us) left k → Storing p left ts k m k′ → m .cut ≡ false → ((e : ℕ) → e < p .N → hits e (zoneOn sgm e) ts ≡ [])
+    → Moves p n ss k₀ sgm us (m .left) k′
 moves-turn p r n ss k₀ sgm hz ts us left k m k′ g s c q = record {
   going = going-turn p r n ss k₀ ts us left k m k′ (g .going) s c;
   same = λ e he. g .same e he ∙ sym (going-kept p r n ss k₀ ts us left k m k′ (g .going) s c e (zoneOn sgm e) he (zone-on-lt p sgm e hz) (q e he));
@@ -111,7 +113,8 @@ pub moves-cut : (p : Params) (n : ℕ) (ss : List Store) (k₀ : Disk) (sgm : Se
     → Moves p n ss k₀ sgm (ts ++ us) left k → Storing p left ts k m k′ → m .cut ≡ true → Storing p n ss k₀ m k′
 moves-cut p n ss k₀ sgm ts us left k m k′ g s c = owes-cut p n ss k₀ ts us left k m k′ (g .going .owes) s c
 
-pub moves-done : (p : Params) (n : ℕ) (ss : List Store) (k₀ : Disk) (sgm : Seg) (left : ℕ) (k : Disk) → Moves p n ss k₀ sgm [] left k → Storing p n ss k₀ (record { left = left; cut = false }) k
+pub moves-done : (p : Params) (n : ℕ) (ss : List Store) (k₀ : Disk) (sgm : Seg) (left : ℕ) (k : Disk) → Moves p n ss k₀ sgm [] left k
+    → Storing p n ss k₀ (record { left = left; cut = false }) k
 moves-done p n ss k₀ sgm left k g = owes-done p n ss k₀ left k (g .going .owes)
 
 pub moves-first : (p : Params) (n : ℕ) (ss : List Store) (k₀ : Disk) (sgm : Seg) (ts us : List Store) (left : ℕ) (k : Disk) → Moves p n ss k₀ sgm (ts ++ us) left k → AllFit p (seen p k) ts
@@ -162,7 +165,8 @@ module _ (p : Params) (r : Ranged p) (n : ℕ) (k₀ : Disk) (w : Group) (hw : w
   -- those from drive d on are still to be done
   abbrev pub RowMoves : ℕ → ℕ → Disk → Type 0
   RowMoves d left k =
-      Moves p n (movedStripe p (segmentIn p (k₀ .image) (k₀ .pointers) w) z s m) k₀ (seg (w .seg)) (map (movedTo p (segmentIn p (k₀ .image) (k₀ .pointers) w) z s m) (upFrom d (p .N - d))) left k
+      Moves p n (movedStripe p (segmentIn p (k₀ .image) (k₀ .pointers) w) z s m) k₀ (seg (w .seg))
+      (map (movedTo p (segmentIn p (k₀ .image) (k₀ .pointers) w) z s m) (upFrom d (p .N - d))) left k
 
   pub row-moves-start : Whole p k₀ → AllFit p (seen p k₀) (movedStripe p (segmentIn p (k₀ .image) (k₀ .pointers) w) z s m) → RowMoves 0 n k₀
   row-moves-start wh f =
@@ -212,7 +216,8 @@ pub put-moved :
     → mkPiece b q ≡ movedOn p (movedPieces p g s m) m d
     → sp ≡ recordBytes q
     → Storing p n (put d z b sp ∷ []) k made k′ → Storing p n (movedTo p g to s m d ∷ []) k made k′
-put-moved p n g to s m d z b sp q k made k′ ez e es st = subst (λ (l : List Store). Storing p n l k made k′) (ap (λ (x : Store). x ∷ []) (ap₂ (λ (x : ℕ) (y : List ℕ). put d x b y) ez es ∙ as!)) st
+put-moved p n g to s m d z b sp q k made k′ ez e es st =
+    subst (λ (l : List Store). Storing p n l k made k′) (ap (λ (x : Store). x ∷ []) (ap₂ (λ (x : ℕ) (y : List ℕ). put d x b y) ez es ∙ as!)) st
   where
     as! : put d (zoneOn to d) b (recordBytes q) ≡ movedTo p g to s m d
     as! = unfold movedTo putPiece in ap (λ (y : Piece). put d (zoneOn to d) (y .block) (recordBytes (y .rec))) e

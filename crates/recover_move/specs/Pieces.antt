@@ -27,7 +27,8 @@ use native.Mathlib.Omega.{arith}
 -- ---- data
 
 -- a chunk under another stripe number
-pub piece-moved : (g : Segment) (s d n : ℕ) (b : List ℕ) (q : Rec) → b ≡ storedPiece g s d .block → q .address ≡ storedRec g s d .address → q .stamp ≡ storedRec g s d .stamp → q .stripe ≡ n
+pub piece-moved : (g : Segment) (s d n : ℕ) (b : List ℕ) (q : Rec) → b ≡ storedPiece g s d .block → q .address ≡ storedRec g s d .address → q .stamp ≡ storedRec g s d .stamp
+    → q .stripe ≡ n
     → mkPiece b q ≡ renumbered n (storedPiece g s d)
 unfolding renumbered storedPiece storedRec
 piece-moved g s d n b q e a t m = λ j. mkPiece (e j) (mkRec (a j) (t j) (m j))
@@ -118,7 +119,8 @@ module _ (p : Params) (g : Segment) (s n : ℕ) where
 
 -- ---- as the code goes
 
-module _ (p : Params) (r : Ranged p) (im ps : List ℕ) (w : Group) (at : List ℕ) (k n : ℕ) (long : length im ≡ imageLen p) (hs : w .seg < p .Z) (hb : w .base < p .S) (hk : k < groupLen p (w .base))
+module _ (p : Params) (r : Ranged p) (im ps : List ℕ) (w : Group) (at : List ℕ) (k n : ℕ) (long : length im ≡ imageLen p) (hs : w .seg < p .Z) (hb : w .base < p .S)
+    (hk : k < groupLen p (w .base))
     (en : AllEntered p 0 (w .base) at k) (x : GroupReads p im ps w at) where
   abbrev g : Segment
   g = segmentIn p im ps w
@@ -137,7 +139,8 @@ module _ (p : Params) (r : Ranged p) (im ps : List ℕ) (w : Group) (at : List �
   -- one data chunk more in the parity
   pub xored-step : (i D : ℕ) (b b′ : List ℕ) (q q′ y : Rec) → i < dataCount p → D ≡ dataDrive p (w .base + k) i → Xored p (segmentIn p im ps w) (w .base + k) n i b q
       → b′ ≡ xors b (storedPiece (segmentIn p im ps w) (w .base + k) D .block) → y ≡ storedRec (segmentIn p im ps w) (w .base + k) D
-      → q′ .address ≡ bitXor (q .address) (y .address) → q′ .stamp ≡ bitXor (q .stamp) (y .stamp) → q′ .stripe ≡ q .stripe → Xored p (segmentIn p im ps w) (w .base + k) n (i + 1) b′ q′
+      → q′ .address ≡ bitXor (q .address) (y .address) → q′ .stamp ≡ bitXor (q .stamp) (y .stamp) → q′ .stripe ≡ q .stripe
+      → Xored p (segmentIn p im ps w) (w .base + k) n (i + 1) b′ q′
   xored-step i D b b′ q q′ y hi e xi eb ey a t m =
       xored-turn p g (w .base + k) n i b b′ q q′ xi
       (λ j h.

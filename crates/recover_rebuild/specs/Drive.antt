@@ -90,7 +90,8 @@ one-apart p d v flags g e y q = go (getD flags g false)
     go true = rebuilt-apart p d (segmentOf p v (named d) (seg g)) e y (ap (λ (x : Seg). eqb d e && eqb (zoneOn x d) y) (seg-is p v (named d) (seg g)) ∙ q)
     go false = unfold keep in refl
 
-one-stores-same : (p : Params) (r : Ranged p) (d : ℕ) (hd : d < p .N) (v u : View) → Agree p (named d) v u → (flags : List Bool) (g : ℕ) → g < p .Z → oneStores p d v flags g ≡ oneStores p d u flags g
+one-stores-same : (p : Params) (r : Ranged p) (d : ℕ) (hd : d < p .N) (v u : View) → Agree p (named d) v u → (flags : List Bool) (g : ℕ) → g < p .Z
+    → oneStores p d v flags g ≡ oneStores p d u flags g
 unfolding oneStores
 one-stores-same p r d hd v u ag flags g hg =
     ap (λ (l : List Store). cond (getD flags g false) l []) (same-rebuilt p d v u (low-present p r d hd) (named-in p r d hd) ag (seg g) (seg-named p g hg))

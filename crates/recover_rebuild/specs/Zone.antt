@@ -88,7 +88,8 @@ module _ (p : Params) (r : Ranged p) (d : ℕ) (g : Seg) (n : ℕ) (hd : d < p .
         room-now = feet-room p r d g hd hg sg (seg-is p (seen p k₀) (named d) g) k₀ k w chunks-fit made-all one counted-below
 
         -- the footers too
-        pub feet-made : (m′ : Made) (k′ : Disk) → Storing p (m .left) (footerStores p d (zoneOn g d) (zoneAt (seen p k) d (zoneOn g d)) 0 (footers p)) k m′ k′ → Storing p n (lostRest p d sg) k₀ m′ k′
+        pub feet-made : (m′ : Made) (k′ : Disk) → Storing p (m .left) (footerStores p d (zoneOn g d) (zoneAt (seen p k) d (zoneOn g d)) 0 (footers p)) k m′ k′
+            → Storing p n (lostRest p d sg) k₀ m′ k′
         feet-made m′ k′ t =
             let e : footerStores p d (zoneOn g d) (zoneAt (seen p k) d (zoneOn g d)) 0 (footers p) ≡ lostFeet p d sg = as! in
             chunks-stored c .going .owes m′ k′ (subst (λ (l : List Store). Storing p (m .left) l k m′ k′) e t)
@@ -110,12 +111,14 @@ module _ (p : Params) (r : Ranged p) (d : ℕ) (g : Seg) (n : ℕ) (hd : d < p .
     pub head-room : pointerOf p (k₀ .pointers) d (zoneOn g d) < capacity p
     head-room = omega (arith, zero!, capacity-over p r)
 
-    pub head-store-is : (serial copied : ℕ) → serial ≡ headerSerial (headerAt (seen p k₀) (lowDrive p (named d)) g) → copied ≡ headerCopied (headerAt (seen p k₀) (lowDrive p (named d)) g)
+    pub head-store-is : (serial copied : ℕ) → serial ≡ headerSerial (headerAt (seen p k₀) (lowDrive p (named d)) g)
+        → copied ≡ headerCopied (headerAt (seen p k₀) (lowDrive p (named d)) g)
         → put d (zoneOn g d) (headerBlock p d (zoneOn g d) serial copied) zeroSpare ≡ headStore p d sg
     unfolding headStore
     head-store-is serial copied a b =
         λ j. put d (zoneOn (sym (seg-is p (seen p k₀) (named d) g) j) d)
-        (headerBlock p d (zoneOn (sym (seg-is p (seen p k₀) (named d) g) j) d) ((a ∙ sym (serial-is p (seen p k₀) (named d) g)) j) ((b ∙ sym (copied-is p (seen p k₀) (named d) g)) j)) zeroSpare
+        (headerBlock p d (zoneOn (sym (seg-is p (seen p k₀) (named d) g) j) d) ((a ∙ sym (serial-is p (seen p k₀) (named d) g)) j)
+        ((b ∙ sym (copied-is p (seen p k₀) (named d) g)) j)) zeroSpare
 
     module _ (m : Made) (k : Disk) (s : Storing p n (headStore p d sg ∷ []) k₀ m k) where
       pub head-cut : m .cut ≡ true → Storing p n (rebuiltZone p d sg) k₀ m k

@@ -105,7 +105,8 @@ step-none p g to l m k e c = subst (λ (x : List ℕ). StepMoved p g to x m k m 
   number = λ q. sym (add-zero (m .next));
 })
 
-pub step-one : (p : Params) (g : Segment) (to : Seg) (s : ℕ) (l : List ℕ) (m : Moved) (k : Disk) (made : Made) (k′ : Disk) → l ≡ s ∷ [] → Storing p (m .left) (movedStripe p g to s (m .next)) k made k′
+pub step-one : (p : Params) (g : Segment) (to : Seg) (s : ℕ) (l : List ℕ) (m : Moved) (k : Disk) (made : Made) (k′ : Disk) → l ≡ s ∷ []
+    → Storing p (m .left) (movedStripe p g to s (m .next)) k made k′
     → StepMoved p g to l m k (record { next = m .next + 1; left = made .left; cut = made .cut }) k′
 step-one p g to s l m k made k′ e st = subst (λ (x : List ℕ). StepMoved p g to x m k (record { next = m .next + 1; left = made .left; cut = made .cut }) k′) (sym e) (record {
   stored = subst (λ (x : List Store). Storing p (m .left) x k made k′) (sym (moved-one p g to s (m .next))) st;

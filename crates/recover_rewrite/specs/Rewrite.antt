@@ -82,7 +82,8 @@ module _ (p : Params) (r : Ranged p) (n : ℕ) (sgm : Seg) (hz : Named p sgm) (t
       rewrite-good q = subst (λ (y : Segment). recsFault p 0 y ≡ false) found! q
 
       pub rewrite-fits : AllFit p (seen p k₁) (movedStripes p (segmentOf p (seen p k₁) 0 sgm) to (counted p 0 (segmentOf p (seen p k₁) 0 sgm)) 0)
-      rewrite-fits = subst (λ (y : Segment). AllFit p (seen p k₁) (movedStripes p y to (counted p 0 y) 0)) found! (moves-first p n all! k₀ sgm movs (resetStores p sgm) (m₁ .left) k₁ rewrite-headed)
+      rewrite-fits =
+          subst (λ (y : Segment). AllFit p (seen p k₁) (movedStripes p y to (counted p 0 y) 0)) found! (moves-first p n all! k₀ sgm movs (resetStores p sgm) (m₁ .left) k₁ rewrite-headed)
 
       module _ (m₂ : Made) (k₂ : Disk) (s₂ : Storing p (m₁ .left) (movedStripes p (segmentOf p (seen p k₁) 0 sgm) to (counted p 0 (segmentOf p (seen p k₁) 0 sgm)) 0) k₁ m₂ k₂) where
         second : Storing p (m₁ .left) movs k₁ m₂ k₂

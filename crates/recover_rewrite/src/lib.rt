@@ -172,7 +172,8 @@ pub fn rewrite(
         × (sealedIn p (viewOf p (now image) (now pointers)) 0 (segNo seg) ≡ false)
         × (recsFault p 0 (segmentOf p (viewOf p (now image) (now pointers)) 0 (segNo seg)) ≡ false)
         × OtherSeg p (segNo to) (segNo seg) ⌝ }
-    requires { ⌜ (copied .0 ≡ segmentOf p (viewOf p (now image) (now pointers)) 0 (segNo seg) .serial) × ((d : ℕ) → d < p .N → pointerOf p (now pointers) d (zoneOn (segNo to) d) ≡ 0) ⌝ }
+    requires { ⌜ (copied .0 ≡ segmentOf p (viewOf p (now image) (now pointers)) 0 (segNo seg) .serial)
+        × ((d : ℕ) → d < p .N → pointerOf p (now pointers) d (zoneOn (segNo to) d) ≡ 0) ⌝ }
     requires { ⌜ AllFit p (viewOf p (now image) (now pointers)) (rewriteStores p (segmentOf p (viewOf p (now image) (now pointers)) 0 (segNo seg)) (segNo to) (serial .0)) ⌝ }
     ensures { λ r. ⌜
         Storing p count (rewriteStores p (segmentOf p (viewOf p (now (image .entry)) (now (pointers .entry))) 0 (segNo seg)) (segNo to) (serial .0))

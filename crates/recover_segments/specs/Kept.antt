@@ -123,7 +123,8 @@ unfolding leftBy1 isLeft otherSerial serialOf
 other-is p v gone fl ns g c a b =
     any-keep (isLeft p v gone) (λ h. not (sameSeg h (seg g)) && eqb (serialOf p v gone h) c) (allSegs p)
     ∙ any-segs p (λ h. isLeft p v gone h && (not (sameSeg h (seg g)) && eqb (serialOf p v gone h) c))
-    ∙ any-cong (λ h. isLeft p v gone (seg h) && (not (sameSeg (seg h) (seg g)) && eqb (serialOf p v gone (seg h)) c)) (λ h. getD fl h false && (not (eqb h g) && eqb (getD ns h 0) c)) (below (p .Z))
+    ∙ any-cong (λ h. isLeft p v gone (seg h) && (not (sameSeg (seg h) (seg g)) && eqb (serialOf p v gone (seg h)) c)) (λ h. getD fl h false && (not (eqb h g) && eqb (getD ns h 0) c))
+    (below (p .Z))
     (λ h m. λ j. sym (a .1 h (below-in (p .Z) h m)) j && (not (seg-number h g j) && eqb (sym (b .1 h (below-in (p .Z) h m)) j) c))
 
 -- 01, Restart, 1 and 2: whether a segment remains, by the flags and serials

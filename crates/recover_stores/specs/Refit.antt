@@ -154,11 +154,13 @@ module _ (p : Params) (r : Ranged p) (n : ℕ) (k₀ : Disk) (w : Whole p k₀) 
 
         one! : mends ≡ mendStores p gs x
         one! =
-            ap (flat (mendStores p gs)) (o .is-it) ∙ flat-cons (mendStores p gs) x [] ∙ ap (λ (l : List Store). mendStores p gs x ++ l) (flat-none (mendStores p gs)) ∙ append-nil (mendStores p gs x)
+            ap (flat (mendStores p gs)) (o .is-it) ∙ flat-cons (mendStores p gs) x [] ∙ ap (λ (l : List Store). mendStores p gs x ++ l) (flat-none (mendStores p gs))
+            ∙ append-nil (mendStores p gs x)
 
         -- ---- nothing to mend
 
-        pub refit-plain : isWhole p (segmentOf p (seen p k₀) 0 sg) ≡ false → isRagged p (segmentOf p (seen p k₀) 0 sg) ≡ false → Storing p n (restartStores p 0 (segments p (seen p k₀) 0)) k₀ m₁ k₁
+        pub refit-plain : isWhole p (segmentOf p (seen p k₀) 0 sg) ≡ false → isRagged p (segmentOf p (seen p k₀) 0 sg) ≡ false
+            → Storing p n (restartStores p 0 (segments p (seen p k₀) 0)) k₀ m₁ k₁
         refit-plain q z = as-made (one! ∙ plain!)
           where
             plain! : mendStores p gs x ≡ []
@@ -185,7 +187,8 @@ module _ (p : Params) (r : Ranged p) (n : ℕ) (k₀ : Disk) (w : Whole p k₀) 
                 subst (λ (y : ℕ). y ≤ capacity p) e (pointer-ok p v 0 acc d (zoneOn sg d) hd low (isIn-empty d)),
               )
 
-          pub refit-feet : (m : Made) (k′ : Disk) → Storing p (m₁ .left) (missingFooters p (segmentOf p (seen p k₁) 0 sg)) k₁ m k′ → Storing p n (restartStores p 0 (segments p (seen p k₀) 0)) k₀ m k′
+          pub refit-feet : (m : Made) (k′ : Disk) → Storing p (m₁ .left) (missingFooters p (segmentOf p (seen p k₁) 0 sg)) k₁ m k′
+              → Storing p n (restartStores p 0 (segments p (seen p k₀) 0)) k₀ m k′
           refit-feet m k′ s = feet-due .owes m k′ (subst (λ (y : Segment). Storing p (m₁ .left) (missingFooters p y) k₁ m k′) (sym dropped-same) s)
 
         -- ---- the rewrite

@@ -92,7 +92,8 @@ unfolding consIf
 same-gap i [] far many = same-none i
 same-gap i (k ∷ l) far many = gap i k l (far k l refl) (many (omega arith))
   where
-    gap : (i k : ℕ) (l : List ℕ) → suc i ≤ k → suc i + length (k ∷ l) ≤ lastOf (k ∷ l) → sameList (k ∷ l) (upFrom i (length (k ∷ l))) ≡ eqb (max i (lastOf (k ∷ l))) (i + length (k ∷ l))
+    gap : (i k : ℕ) (l : List ℕ) → suc i ≤ k → suc i + length (k ∷ l) ≤ lastOf (k ∷ l)
+        → sameList (k ∷ l) (upFrom i (length (k ∷ l))) ≡ eqb (max i (lastOf (k ∷ l))) (i + length (k ∷ l))
     gap i k l h w = gap-false i k l (ne-eqb k i (λ q. omega arith)) ∙ sym (ne-eqb (max i (lastOf (k ∷ l))) (i + length (k ∷ l)) (λ q. omega arith))
 
 same-from : (f : ℕ → Bool) (i n : ℕ)

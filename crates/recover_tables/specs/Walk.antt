@@ -153,7 +153,8 @@ module _ (p : Params) (v : View) (gone : ℕ) (co : List ℕ) (g : Seg) where
   walked-low ss tb tb′ m m′ n n′ a = omega (arith, a .count, length-keep (counts p gone sg) ss)
 
   -- one stripe more of a group
-  pub walked-turn : (b k : ℕ) (tb tb′ tb″ : List ℕ) (m m′ m″ n n′ n″ : ℕ) → Walked p v gone co g (upFrom b k) tb tb′ m m′ n n′ → Walked p v gone co g ((b + k) ∷ []) tb′ tb″ m′ m″ n′ n″
+  pub walked-turn : (b k : ℕ) (tb tb′ tb″ : List ℕ) (m m′ m″ n n′ n″ : ℕ) → Walked p v gone co g (upFrom b k) tb tb′ m m′ n n′
+      → Walked p v gone co g ((b + k) ∷ []) tb′ tb″ m′ m″ n′ n″
       → Walked p v gone co g (upFrom b (k + 1)) tb tb″ m m″ n n″
   walked-turn b k tb tb′ tb″ m m′ m″ n n′ n″ a c =
       subst (λ (x : List ℕ). Walked p v gone co g x tb tb″ m m″ n n″) (sym (ap (upFrom b) (add-one k) ∙ upFrom-snoc b k))
@@ -271,7 +272,8 @@ module _ (p : Params) (v : View) (gone : ℕ) where
         most = t .most ∙ ap greatestStamp (sym (tour-miss p v gone g e));
       }
 
-      pub toured-hit : (tb′ : List ℕ) (m′ n′ : ℕ) → remains p v gone (seg g) ≡ true → Walked p v gone co′ (seg g) (below (p .S)) tb tb′ m m′ 0 n′ → Toured p v gone (g + 1) co′ tb′ m′
+      pub toured-hit : (tb′ : List ℕ) (m′ n′ : ℕ) → remains p v gone (seg g) ≡ true → Walked p v gone co′ (seg g) (below (p .S)) tb tb′ m m′ 0 n′
+          → Toured p v gone (g + 1) co′ tb′ m′
       toured-hit tb′ m′ n′ e a =
           let w = walked-all p v gone co′ (seg g) tb tb′ m m′ n′ a in
           let xs = tourCands p v gone (below g) in

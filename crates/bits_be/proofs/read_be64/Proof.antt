@@ -32,7 +32,8 @@ add-result c = omega arith
 returns : tie.Need-returns
 returns c =
     let a = c .before .before .before .args in
-    ap₂ (λ (x y : ℕ). x * 4294967296 + y) (c .before .read-be32 .ensures) (c .read-be322 .ensures) ∙ sym (beOf-part-add (a .at) 4 4 (a .src .now) (omega (arith, c .before .before .before .pre)))
+    ap₂ (λ (x y : ℕ). x * 4294967296 + y) (c .before .read-be32 .ensures) (c .read-be322 .ensures)
+    ∙ sym (beOf-part-add (a .at) 4 4 (a .src .now) (omega (arith, c .before .before .before .pre)))
 
 pub read-be64-spec : {M : Type 1} → statement M
 read-be64-spec =

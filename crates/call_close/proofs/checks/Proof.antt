@@ -123,7 +123,8 @@ returns-5 c =
     let st = stateOf (a .bytes .now) in
     let ef : hasFilling (a .p) st ≡ true = sym (slot-is (a .p) st (a .slot) (pre .0)) ∙ sym (is-slot .ensures) ∙ not-false (is-slot .result) (if4 .left) in
     let es : scarce (a .p) (viewOf (a .p) (a .image .now) (a .pointers .now)) 1 ≡ true = sym (scarce′ .ensures (a .image .now) (lent-long (a .p) k m el .0)) ∙ c .before .if5 .taken in
-    c .scarce-checks .ensures ∙ scarce-last (a .p) k m ef es ∙ close-missing-passes (a .p) k m (sym (pre .1) ∙ if3 .left) ∙ close-lengths-pass (a .p) k m el ∙ close-range-passes (a .p) k m er
+    c .scarce-checks .ensures ∙ scarce-last (a .p) k m ef es ∙ close-missing-passes (a .p) k m (sym (pre .1) ∙ if3 .left) ∙ close-lengths-pass (a .p) k m el
+    ∙ close-range-passes (a .p) k m er
 
 state-ok-requires : tie.Need-state-ok-requires
 state-ok-requires c κs =

@@ -14,7 +14,8 @@ use Rattle.call_close.proofs.pad_all.Tie as tie
 
 abbrev Inv-loop : tie.InvT-loop
 Inv-loop p inflight₀ i n next₀ k₀ inflight next k =
-    (k ≤ dataCount p) × (k ≡ next .filled) × (length inflight ≡ length inflight₀) × (paddedRow p i (dataCount p - k) next inflight ≡ paddedRow p i (dataCount p - k₀) next₀ inflight₀)
+    (k ≤ dataCount p) × (k ≡ next .filled) × (length inflight ≡ length inflight₀)
+    × (paddedRow p i (dataCount p - k) next inflight ≡ paddedRow p i (dataCount p - k₀) next₀ inflight₀)
 
 abbrev μ-loop : tie.MeasureT-loop
 μ-loop p inflight₀ i n next₀ k₀ inflight next k = dataCount p - k

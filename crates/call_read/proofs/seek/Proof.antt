@@ -7,7 +7,8 @@ use Rattle.spec.specs.Memory.{Memory, mkMemory, stateOf, stateOk}
 use Rattle.spec.specs.Params.{inRange}
 use Rattle.spec.specs.Read.{lookup, foundFaults}
 use Rattle.mem_lookup.specs.Lies.{foundOf}
-use Rattle.call_read.specs.Order.{foundAt, read-range-fails, read-range-passes, read-lengths-fail, read-block-fails, read-lengths-pass, read-address-fails, read-address-passes, read-state-fails}
+use Rattle.call_read.specs.Order.{foundAt, read-range-fails, read-range-passes, read-lengths-fail, read-block-fails, read-lengths-pass, read-address-fails, read-address-passes}
+use Rattle.call_read.specs.Order.{read-state-fails}
 use Rattle.call_read.specs.Order.{read-state-passes}
 use Rattle.call_read.specs.Sought.{liesAt}
 use Rattle.call_write.specs.Ready.{lent-long}

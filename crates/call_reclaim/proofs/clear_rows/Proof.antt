@@ -16,7 +16,8 @@ use Rattle.call_reclaim.proofs.clear_rows.Statement.{statement}
 use Rattle.call_reclaim.proofs.clear_rows.Tie as tie
 
 abbrev Inv-loop : tie.InvT-loop
-Inv-loop p compact₀ segment d₀ compact d = (d ≤ p .N) × (length compact ≡ length compact₀) × (cleared p (seg segment) (upFrom d (p .N - d)) compact ≡ cleared p (seg segment) (drivesOf p) compact₀)
+Inv-loop p compact₀ segment d₀ compact d =
+    (d ≤ p .N) × (length compact ≡ length compact₀) × (cleared p (seg segment) (upFrom d (p .N - d)) compact ≡ cleared p (seg segment) (drivesOf p) compact₀)
 
 abbrev μ-loop : tie.MeasureT-loop
 μ-loop p compact₀ segment d₀ compact d = p .N - d

@@ -71,7 +71,8 @@ returns-2 c =
     let p = a .p in
     let ps = a .pointers .now in
     let f : ℕ → Bool = λ e. isIn (a .gone) e || eqb (pointerOf p ps e (zoneOn (seg (a .segment)) e)) (capacity p) in
-    λ im h. (sym (all-ended f (l .d) (p .N) (omega (arith, c .if1 .left))) ∙ l .inv .1) ∙ sym (sealed-list p im ps (a .gone) (seg (a .segment)) (seg-named p (a .segment) (pre .1 .1)) h (pre .1 .0))
+    λ im h. (sym (all-ended f (l .d) (p .N) (omega (arith, c .if1 .left))) ∙ l .inv .1)
+    ∙ sym (sealed-list p im ps (a .gone) (seg (a .segment)) (seg-named p (a .segment) (pre .1 .1)) h (pre .1 .0))
 
 pub is-sealed-spec : {M : Type 1} → statement M
 is-sealed-spec =

@@ -15,7 +15,8 @@ Inv-loop marks k end i₀ i = (k ≤ i) × (i ≤ end) × ((j : ℕ) → k ≤ j
 abbrev μ-loop : tie.MeasureT-loop
 μ-loop marks k end i₀ i = end - i
 
-go : (ms : List ℕ) (k i r j : ℕ) → ((j : ℕ) → k ≤ j → j < i → isMarked ms j ≡ false) → ((j : ℕ) → i ≤ j → j < i + r → isMarked ms j ≡ false) → k ≤ j → j < i + r → Dec (j < i) → isMarked ms j ≡ false
+go : (ms : List ℕ) (k i r j : ℕ) → ((j : ℕ) → k ≤ j → j < i → isMarked ms j ≡ false) → ((j : ℕ) → i ≤ j → j < i + r → isMarked ms j ≡ false) → k ≤ j
+    → j < i + r → Dec (j < i) → isMarked ms j ≡ false
 go ms k i r j f g x y (yes h) = f j x h
 go ms k i r j f g x y (no h) = g j (omega arith) y
 

@@ -39,8 +39,11 @@ loop-less c = omega arith
 loop-again : tie.Need-loop-again Inv-loop μ-loop
 loop-again c =
     let a = c .before .before .before .before .args in
-    let l = c .before .before .before .loop in
-    (omega arith, sym (found-miss (λ k. not (isFree (a .state) k) && eqb (stripeIn (a .state) k) (a .stripe)) (l .i) 8 (omega arith) (sym (c .before .is-stripe .ensures) ∙ c .if1 .left)) ∙ l .inv .1)
+    let l = c .before .before .before .loop in (
+      omega arith,
+      sym (found-miss (λ k. not (isFree (a .state) k) && eqb (stripeIn (a .state) k) (a .stripe)) (l .i) 8 (omega arith) (sym (c .before .is-stripe .ensures) ∙ c .if1 .left))
+          ∙ l .inv .1,
+    )
 
 returns-2 : tie.Need-returns-2 Inv-loop μ-loop
 returns-2 c =

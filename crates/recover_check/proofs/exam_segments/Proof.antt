@@ -14,7 +14,8 @@ use Rattle.recover_check.proofs.exam_segments.Tie as tie
 abbrev Inv-loop : tie.InvT-loop
 Inv-loop p image pointers gone kept serials many at₀ e₀ g₀ at e g =
     (g ≤ p .Z) × (length at ≡ length at₀) × ExamSays p (viewOf p image pointers) gone kept g e
-    × (firstOr (p .Z) (keep (λ n. faulty p (viewOf p image pointers) gone (seg n)) (upFrom g (p .Z - g))) ≡ firstOr (p .Z) (keep (λ n. faulty p (viewOf p image pointers) gone (seg n)) (below (p .Z))))
+    × (firstOr (p .Z) (keep (λ n. faulty p (viewOf p image pointers) gone (seg n)) (upFrom g (p .Z - g))) ≡ firstOr (p .Z)
+    (keep (λ n. faulty p (viewOf p image pointers) gone (seg n)) (below (p .Z))))
 
 abbrev μ-loop : tie.MeasureT-loop
 μ-loop p image pointers gone kept serials many at₀ e₀ g₀ at e g = p .Z - g

@@ -137,4 +137,5 @@ returns-2 c =
 
 pub put-groups-with-spec : {M : Type 1} → statement M
 put-groups-with-spec =
-    tie.close (tie.spec Inv-loop μ-loop loop-holds put-group-requires same-length same-length-2 same-length-3 returns add-base loop-less loop-again same-length-4 same-length-5 same-length-6 returns-2)
+    tie.close
+    (tie.spec Inv-loop μ-loop loop-holds put-group-requires same-length same-length-2 same-length-3 returns add-base loop-less loop-again same-length-4 same-length-5 same-length-6 returns-2)

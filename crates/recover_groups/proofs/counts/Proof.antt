@@ -84,7 +84,8 @@ returns-2 c =
     let loop = c .before .before .loop in
     let p = a .p in
     let f : Segment → ℕ → ℕ → Bool = λ g base e. isIn (a .gone) e || hasChunk g (base + a .k) e in
-    λ g base x hk. (sym (all-ended (f g base) (loop .d) (p .N) (omega (arith, c .if1 .left))) ∙ loop .inv .1 g base x hk) ∙ sym (all-keep (hasChunk g (base + a .k)) (isIn (a .gone)) (below (p .N)))
+    λ g base x hk. (sym (all-ended (f g base) (loop .d) (p .N) (omega (arith, c .if1 .left))) ∙ loop .inv .1 g base x hk)
+    ∙ sym (all-keep (hasChunk g (base + a .k)) (isIn (a .gone)) (below (p .N)))
 
 pub counts-spec : {M : Type 1} → statement M
 counts-spec =

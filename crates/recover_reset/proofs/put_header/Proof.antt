@@ -39,8 +39,20 @@ put-header-with-requires c κs =
     let args = entry .args in
     let q = entry .pre in
     let p = args .p in
-    let f : unit-len .result ≤ 4096 + spareLen = omega (arith, unit-len .ensures .0, unit-high p (ranged p (q .0))) in
-    (q .0, (q .1 .0, (q .1 .1 .0, q .1 .1 .1, q .1 .1 .2, length-take-le (unit-len .result) _ (omega (arith, f, spare-len)) ∙ unit-len .ensures .0, ap (λ (n : ℕ). replicate n 0) (sym spare-len))))
+    let f : unit-len .result ≤ 4096 + spareLen = omega (arith, unit-len .ensures .0, unit-high p (ranged p (q .0))) in (
+      q .0,
+      (
+        q .1 .0,
+        (
+          q .1 .1 .0,
+          q .1 .1 .1,
+          q .1 .1 .2,
+          length-take-le (unit-len .result) _ (omega (arith, f, spare-len))
+              ∙ unit-len .ensures .0,
+          ap (λ (n : ℕ). replicate n 0) (sym spare-len),
+        ),
+      ),
+    )
 
 same-length : tie.Need-same-length
 same-length c = search needs

@@ -36,7 +36,8 @@ returns-2 c =
     let a = c .before .before .before .before .before .before .args in
     let l = c .before .before .before .before .loop in
     let f : ℕ → Bool = λ e. isIn (a .gone) e && isData (a .p) (a .s) e in
-    (sym (any-found f (l .d) (a .p .N) (c .before .before .if2 .taken) (sym (c .before .lost-data .ensures) ∙ c .if3 .taken)) ∙ l .inv .1) ∙ sym (absent-any (a .p) (a .gone) (isData (a .p) (a .s)))
+    (sym (any-found f (l .d) (a .p .N) (c .before .before .if2 .taken) (sym (c .before .lost-data .ensures) ∙ c .if3 .taken)) ∙ l .inv .1)
+    ∙ sym (absent-any (a .p) (a .gone) (isData (a .p) (a .s)))
 
 add-d : tie.Need-add-d Inv-loop μ-loop
 add-d c = omega arith

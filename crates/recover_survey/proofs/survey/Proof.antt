@@ -17,7 +17,8 @@ use Rattle.recover_survey.proofs.survey.Tie as tie
 abbrev Inv-loop : tie.InvT-loop
 Inv-loop p image pointers gone sn full at₀ t₀ base₀ at t base =
     (length at ≡ 2048) × (base < p .S + p .G) × (base % p .G ≡ 0) × (t .counted ≤ min base (p .S)) × (t .loose ≤ min base (p .S))
-    × (t .bad ≡ false → any (groupFault p gone (segmentOf p (viewOf p image pointers) gone (seg sn))) (basesFrom p base) ≡ recsFault p gone (segmentOf p (viewOf p image pointers) gone (seg sn)))
+    × (t .bad ≡ false → any (groupFault p gone (segmentOf p (viewOf p image pointers) gone (seg sn))) (basesFrom p base) ≡ recsFault p gone
+    (segmentOf p (viewOf p image pointers) gone (seg sn)))
     × Tallied p gone (segmentOf p (viewOf p image pointers) gone (seg sn)) (min base (p .S)) t
 
 abbrev μ-loop : tie.MeasureT-loop

@@ -51,7 +51,8 @@ returns c =
     let t = a .t in
     let s = w .base + a .k in
     subst (λ (r : Tally). ((r .counted ≤ s + 1) × (r .loose ≤ s + 1) × (r .bad ≡ false → t .bad ≡ false))
-    × ((ps : List ℕ) → Shown p (a .image .now) ps w (a .at .now) → Tallied p (w .gone) (segmentIn p (a .image .now) ps w) s t → Tallied p (w .gone) (segmentIn p (a .image .now) ps w) (s + 1) r))
+    × ((ps : List ℕ) → Shown p (a .image .now) ps w (a .at .now) → Tallied p (w .gone) (segmentIn p (a .image .now) ps w) s t
+    → Tallied p (w .gone) (segmentIn p (a .image .now) ps w) (s + 1) r))
     (sym (c .bad-tally .ensures)) (
       (omega (arith, h .1 .1 .0), omega (arith, h .1 .1 .1), λ q. absurd (not-both true refl q)),
       λ ps sh T. passes-bad p (w .gone) (segmentIn p (a .image .now) ps w) s t T (λ rf.

@@ -55,7 +55,8 @@ place-of-requires c κs =
     let l : c .before .offset-of .result < a .p .S =
     subst (λ (x : ℕ). x < a .p .S) (sym e)
     (offset-fits (a .p) (a .image .now) ps (a .w) (a .at .now) (a .k) (a .drive) (q .1 .0 .3) (q .1 .0 .5) (q .1 .0 .4) rd cn) in
-    let hz : c .zone-on .result < a .p .Z = subst (λ (x : ℕ). x < a .p .Z) (sym (c .zone-on .ensures)) (zone-on-lt (a .p) (seg (a .w .seg)) (a .drive) (seg-named (a .p) (a .w .seg) (q .1 .0 .2))) in
+    let hz : c .zone-on .result < a .p .Z = subst (λ (x : ℕ). x < a .p .Z) (sym (c .zone-on .ensures))
+    (zone-on-lt (a .p) (seg (a .w .seg)) (a .drive) (seg-named (a .p) (a .w .seg) (q .1 .0 .2))) in
     (q .0, (q .1 .0 .4, hz, data-below (a .p) r (1 + c .before .offset-of .result) (omega (arith, l))))
 
 returns : tie.Need-returns
