@@ -121,11 +121,11 @@ static void under_a_millisecond(const char *name, double ours) {
     fflush(stdout);
 }
 
-/* the largest box with one segment open: reclaim refuses and a closing is made, and neither looks at the table */
+/* the largest box with one segment open: reclaim refuses, a closing is made and an empty write closes or does nothing, and none looks at the table */
 static void nothing_sealed(void) {
     static const size_t largest[6] = {8, 64, 1024, 65535, 256, 468378645};
     static const uint8_t block[64];
-    double refused = 1e18, closed = 1e18;
+    double refused = 1e18, closed = 1e18, ended = 1e18, nothing = 1e18;
     size_t small[6] = {8, 64, 4, 4, 2, 28};
     /* the state of a small box with a block sent: the numbers mean the same on a large one */
     full_lend(&box, small);
@@ -144,10 +144,19 @@ static void nothing_sealed(void) {
         t = spent();
         must("close", sorgizhed_close(SORGIZHED_LENT(&box)), SORGIZHED_CLOSED);
         closed = least(closed, spent() - t);
+        memcpy(box.state, state, box.state_length);
+        t = spent();
+        must("empty write", sorgizhed_write(SORGIZHED_LENT(&box), 7, NULL, 0, SORGIZHED_NO_LIMIT), SORGIZHED_CLOSED);
+        ended = least(ended, spent() - t);
+        t = spent();
+        must("empty write", sorgizhed_write(SORGIZHED_LENT(&box), 7, NULL, 0, SORGIZHED_NO_LIMIT), SORGIZHED_NOTHING);
+        nothing = least(nothing, spent() - t);
     }
     printf("  %zu addresses (N %zu, Z %zu, S %zu), nothing sealed\n", box.l, box.n, box.z, box.s);
     under_a_millisecond("reclaim, refused", refused);
     under_a_millisecond("closing", closed);
+    under_a_millisecond("empty write, a stripe filling", ended);
+    under_a_millisecond("empty write, none filling", nothing);
     free(state);
     full_free(&box);
 }

@@ -5,7 +5,6 @@
 #include <string.h>
 
 #include "bytes.h"
-#include "flights.h"
 #include "layout.h"
 
 /* Which stores a flush goes before; a test takes them out one by one. */
@@ -45,6 +44,9 @@ size_t sorgizhed_array_empty_zones(const sorgizhed_array *a) {
 }
 
 /* ---- flushes, and what may be told behind them */
+
+/* the drives of a stripe, as a mask */
+static unsigned all_drives(const sorgizhed_array *a) { return (1u << a->box.n) - 1; }
 
 static int complete(const sorgizhed_array *a, const sorgizhed_flight *f) { return f->used && f->landed == all_drives(a); }
 
@@ -299,15 +301,20 @@ sorgizhed_answer sorgizhed_array_land(sorgizhed_array *a, size_t drive, size_t s
     return carry(a) ? r : failed(a);
 }
 
-sorgizhed_answer sorgizhed_array_close(sorgizhed_array *a) {
-    if (a->over) return failed(a);
-    sorgizhed_answer r = sorgizhed_close(SORGIZHED_LENT(&a->box));
-    if (!sorgizhed_is_result(r)) return r;
+/* a closing's answer: all chunks of the stripe wait */
+static sorgizhed_answer closed(sorgizhed_array *a, sorgizhed_answer r) {
+    if (r.kind != SORGIZHED_CLOSED) return r;
     sorgizhed_flight *f = flight_of(a, (size_t)r.first);
     if (f == NULL) return failed(a);
     f->sent = all_drives(a);
     touched(a, f->stripe);
     return r;
+}
+
+sorgizhed_answer sorgizhed_array_close(sorgizhed_array *a) { return a->over ? failed(a) : closed(a, sorgizhed_close(SORGIZHED_LENT(&a->box))); }
+
+sorgizhed_answer sorgizhed_array_write_nothing(sorgizhed_array *a, uint64_t address) {
+    return a->over ? failed(a) : closed(a, sorgizhed_write(SORGIZHED_LENT(&a->box), address, NULL, 0, SORGIZHED_NO_LIMIT));
 }
 
 sorgizhed_answer sorgizhed_array_reclaim(sorgizhed_array *a) {

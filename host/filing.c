@@ -116,8 +116,9 @@ static int send(box *x, uint64_t address, const uint8_t *block) {
     return r.kind == SORGIZHED_SENT || say(x, "write", r);
 }
 
-static int settle(box *x) {
-    sorgizhed_answer r = sorgizhed_array_settle(&x->array);
+/* a write of no bytes: all before it is acknowledged */
+static int end(box *x, uint64_t address) {
+    sorgizhed_answer r = sorgizhed_array_end(&x->array, address);
     return r.kind == SORGIZHED_DURABLE || say(x, "write", r);
 }
 
@@ -139,7 +140,7 @@ static int put_chain(box *x, const uint8_t *p, size_t length, uint64_t own, cons
         if (!send(x, at, block)) return 0;
         show_progress("put, blocks", count - i, count + 1);
     }
-    return count == 0 || settle(x);
+    return count == 0 || end(x, own);
 }
 
 static int put_index(box *x, uint64_t address, const uint8_t *p, size_t length, uint64_t first) {
@@ -147,7 +148,7 @@ static int put_index(box *x, uint64_t address, const uint8_t *p, size_t length, 
     size_t room = x->files.box.b - INDEX_HEAD;
     put_number(block, 8, INDEX), put_number(block + 8, 8, length), put_number(block + 16, 8, checksum(p, length)), put_number(block + 24, 8, first);
     memcpy(block + INDEX_HEAD, p, length < room ? length : room);
-    return send(x, address, block) && settle(x);
+    return send(x, address, block) && end(x, address);
 }
 
 int put_file(box *x, uint64_t address, const char *name) {

@@ -59,7 +59,7 @@ static int disk_flush(void *handle, uint32_t flags) {
 }
 
 static void disk_cleanup(void) {
-    if (opened && !array.over && array.box.state != NULL) disk_flush(NULL, 0);
+    if (array.writes > 0 && !array.over) disk_flush(NULL, 0);
     if (opened) sorgizhed_array_shut(&array), sorgizhed_files_close(&files);
     free(folder);
 }

@@ -1,8 +1,6 @@
 /* A run of an array: what lands when, and when space is made. */
 #include "sorgizhed_host.h"
 
-#include "flights.h"
-
 static int refused(sorgizhed_answer r, uint64_t number) { return r.kind == SORGIZHED_REFUSED && r.first == number; }
 
 static unsigned waiting(const sorgizhed_flight *f) { return f->used ? f->sent & ~f->landed : 0; }
@@ -36,12 +34,6 @@ static sorgizhed_answer land_all(sorgizhed_array *a) {
     return fine();
 }
 
-static int is_filling(const sorgizhed_array *a) {
-    for (size_t i = 0; i < SORGIZHED_FLIGHTS; i++)
-        if (a->flights[i].used && a->flights[i].sent != all_drives(a)) return 1;
-    return 0;
-}
-
 /* one step of reclaim, with the landings that it waits for; says whether anything came of it */
 static sorgizhed_answer reclaim_step(sorgizhed_array *a, int *progress) {
     sorgizhed_answer r = sorgizhed_array_reclaim(a);
@@ -53,21 +45,23 @@ static sorgizhed_answer reclaim_step(sorgizhed_array *a, int *progress) {
     return idle ? fine() : r;
 }
 
-sorgizhed_answer sorgizhed_array_settle(sorgizhed_array *a) {
+sorgizhed_answer sorgizhed_array_end(sorgizhed_array *a, uint64_t address) {
     for (;;) {
         sorgizhed_answer r = land_all(a);
         if (!sorgizhed_is_result(r)) return r;
-        if (!is_filling(a)) return sorgizhed_array_flush(a);
-        sorgizhed_answer closed = sorgizhed_array_close(a);
-        if (sorgizhed_is_result(closed)) continue;
-        /* with one zone left closing waits for reclaim, whose copies fill the stripe as well */
+        sorgizhed_answer ended = sorgizhed_array_write_nothing(a, address);
+        if (ended.kind == SORGIZHED_NOTHING) return sorgizhed_array_flush(a);
+        if (sorgizhed_is_result(ended)) continue;
+        /* with one zone left it waits for reclaim, whose copies fill the stripe as well */
         int progress = 0;
-        if (!refused(closed, SORGIZHED_NOTHING_TO_DO)) return closed;
+        if (!refused(ended, SORGIZHED_NOTHING_TO_DO)) return ended;
         r = reclaim_step(a, &progress);
         if (!sorgizhed_is_result(r)) return r;
-        if (!progress) return closed;
+        if (!progress) return ended;
     }
 }
+
+sorgizhed_answer sorgizhed_array_settle(sorgizhed_array *a) { return a->missing == SORGIZHED_NO_DRIVE ? sorgizhed_array_end(a, 0) : sorgizhed_array_flush(a); }
 
 sorgizhed_answer sorgizhed_array_room(sorgizhed_array *a, size_t zones) {
     int idle = 0;

@@ -19,6 +19,7 @@ static const char *sentence(uint64_t kind) {
     case SORGIZHED_FILLED: return "filled";
     case SORGIZHED_RESTARTED: return "restarted; stripes that were under way and are not acknowledged: %s";
     case SORGIZHED_REBUILT: return "rebuilt";
+    case SORGIZHED_NOTHING: return "no stripe is filling: nothing is done";
     case SORGIZHED_OPENED: return "opened";
     case SORGIZHED_DURABLE: return "durable; writes acknowledged: %s";
     case SORGIZHED_DRIVE_FAILED: return "drive %s has failed: the run is over, what was acknowledged stands; go on with this drive missing";
@@ -30,7 +31,7 @@ static const char *sentence(uint64_t kind) {
 static const char *refusal(uint64_t number) {
     static const char *const words[] = {"refused by an unknown number", "refused (1): a number is outside its range", "refused (2): a buffer has the wrong length",
                                         "refused (3): a drive is missing, so the array is read-only: replace it first", "refused (4): the address is too high",
-                                        "refused (5): there is nothing of that kind to do",
+                                        "refused (5): there is nothing of that kind to do, or reclaim must go first",
                                         "refused (6): no stamp or serial is left: the array has been written 2^64 times",
                                         "refused (7): stripes in flight must land first", "refused (8): no zone is left: reclaim first"};
     return words[number < sizeof words / sizeof *words ? number : 0];

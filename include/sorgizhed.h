@@ -55,7 +55,7 @@ typedef struct {
                                   other buffers as they came; the run is over, the next call is a restart */
 #define SORGIZHED_SENT 3       /* a write; first: stamp, second: stripe, third: drive */
 #define SORGIZHED_LANDED 4     /* a landing; first: how many writes it acknowledges, 0 while the stripe is not complete */
-#define SORGIZHED_CLOSED 5     /* a closing; first: stripe */
+#define SORGIZHED_CLOSED 5     /* a closing, or a write of no bytes that closed; first: stripe */
 #define SORGIZHED_COPIED 6     /* a reclaim that copied a block; first: its stamp, second: stripe, third: drive */
 #define SORGIZHED_RESET 7      /* a reclaim that freed a segment; first: zone */
 #define SORGIZHED_PART 8       /* a read; first: the byte of the image at which the block of b bytes begins */
@@ -64,15 +64,17 @@ typedef struct {
 #define SORGIZHED_FILLED 11    /* the lent block is filled */
 #define SORGIZHED_RESTARTED 12 /* a restart; first: stripes that had a chunk on some present drive but not on every one: they do not count */
 #define SORGIZHED_REBUILT 13   /* a rebuild */
+#define SORGIZHED_NOTHING 14   /* a write of no bytes where no stripe is filling: accepted, and nothing is done */
 
 /* Refusals, in the order in which they are looked for (restart and rebuild look for 9 before 6 and 8). A refusal changes no byte. */
 #define SORGIZHED_BAD_PARAMETER 1   /* a parameter outside its range; restart: missing neither below n nor 255; rebuild: a drive that the last
                                        restart did not name missing */
-#define SORGIZHED_BAD_LENGTH 2      /* a lent buffer's length differs from what the parameters give */
+#define SORGIZHED_BAD_LENGTH 2      /* a lent buffer's length differs from what the parameters give; a written block's also from 0 */
 #define SORGIZHED_READ_ONLY 3       /* write, landing, closing or reclaim while a drive is missing */
 #define SORGIZHED_BAD_ADDRESS 4     /* address at or above l */
 #define SORGIZHED_NOTHING_TO_DO 5   /* landing: that chunk does not wait; closing: no stripe is filling, or space is so short that reclaim must go
-                                       first; reclaim: no sealed segment, or all live blocks of the one that it takes are in flight */
+                                       first; a write of no bytes: a stripe is filling, and space is so short; reclaim: no sealed segment, or all
+                                       live blocks of the one that it takes are in flight */
 #define SORGIZHED_NO_COUNT_LEFT 6   /* no next stamp, or no next serial where a segment must be opened */
 #define SORGIZHED_WAIT 7            /* a stripe must begin and eight are in flight, or it is in the next group or segment and any is in flight:
                                        land what waits, then try again */
@@ -99,7 +101,7 @@ size_t sorgizhed_state_length(void);
 
 /* ---- The order of a call's stores: a host carries them to the drives in this order (sorgizhed_host.h has functions that do).
  *
- *   write     where it opens a segment: the header of each drive, by drive
+ *   write     where it opens a segment: the header of each drive, by drive; of no bytes: none
  *   land      the chunk; where it completes the segment: the footers, by drive, then by block
  *   close     none
  *   reclaim   a copy that opens a segment: as in a write; a segment that is freed: the reset of each drive's zone, by drive
@@ -117,7 +119,7 @@ size_t sorgizhed_state_length(void);
  *   before a header, a footer or a reset   every drive with an earlier store in another zone (so headers, footers and resets of one call come one drive
  *                                          after the other)
  *   before a chunk                         every drive, where a header, footer or reset is not durable yet, or where something was put into the chunk's
- *                                          stripe (a write, copy or closing) after a landing completed another stripe that is not durable yet
+ *                                          stripe (a write, copy or closing, by whichever call) after a landing completed another stripe that is not durable yet
  *   before the chunks of a rewrite         every drive: then its headers are durable; between these chunks nothing
  *   in a rebuild                           nothing; nobody looks at the drive before it is finished
  *   before a word to anyone                every drive: before a client is told that a write is acknowledged, before a finished restart is used, and
@@ -128,7 +130,12 @@ size_t sorgizhed_state_length(void);
 
 /* Takes the block of b bytes for an address below l. It goes into the in-flight buffer; it is on the drives once its stripe's chunks have
  * landed. Where no segment is open, headers are stored first in the lowest zone that is empty on all drives, one store for each drive.
- * Answers SORGIZHED_SENT with the block's stamp and the stripe and drive that it goes to, SORGIZHED_CUT, or a refusal: 1, 2, 3, 4, 6, 7, 8, 9. */
+ * Answers SORGIZHED_SENT with the block's stamp and the stripe and drive that it goes to, SORGIZHED_CUT, or a refusal: 1, 2, 3, 4, 6, 7, 8, 9.
+ *
+ * A block of length 0 (its pointer may be NULL) is a write of no bytes, with which a scan ends. It closes the filling stripe as sorgizhed_close does; where
+ * none is filling it is accepted and does nothing, whatever is in flight and however few zones are empty. It takes no stamp, stores nothing and changes no
+ * address; its own address is checked all the same, and count does not matter.
+ * Answers SORGIZHED_CLOSED with the stripe, SORGIZHED_NOTHING, or a refusal: 1, 2, 3, 4, 5, 9; 5 only where a stripe is filling. */
 sorgizhed_answer sorgizhed_write(size_t n, size_t b, size_t z, size_t s, size_t g, size_t l,
                                  uint8_t *image, size_t image_length, uint8_t *pointers, size_t pointers_length,
                                  uint8_t *addresses, size_t addresses_length, uint8_t *compact, size_t compact_length,

@@ -83,6 +83,7 @@ void sorgizhed_array_shut(sorgizhed_array *a);
 sorgizhed_answer sorgizhed_array_restart(sorgizhed_array *a, size_t missing);
 sorgizhed_answer sorgizhed_array_rebuild(sorgizhed_array *a, size_t drive);
 sorgizhed_answer sorgizhed_array_write(sorgizhed_array *a, uint64_t address, const uint8_t *block, uint64_t tag);
+sorgizhed_answer sorgizhed_array_write_nothing(sorgizhed_array *a, uint64_t address); /* a write of no bytes */
 sorgizhed_answer sorgizhed_array_land(sorgizhed_array *a, size_t drive, size_t stripe);
 sorgizhed_answer sorgizhed_array_close(sorgizhed_array *a);
 sorgizhed_answer sorgizhed_array_reclaim(sorgizhed_array *a);
@@ -96,7 +97,10 @@ sorgizhed_answer sorgizhed_array_flush(sorgizhed_array *a);
 sorgizhed_answer sorgizhed_array_send(sorgizhed_array *a, uint64_t address, const uint8_t *block, uint64_t tag);
 /* The block that was last sent to the address, landed or not; zeros if none was. Answers SORGIZHED_FILLED or a refusal. */
 sorgizhed_answer sorgizhed_array_get(sorgizhed_array *a, uint64_t address, uint8_t *block);
-/* Closes the filling stripe, lands everything and flushes: all writes are acknowledged. Answers SORGIZHED_DURABLE, or what stands against it. */
+/* The end of a scan: a write of no bytes, with the landings and reclaims that must come first; lands everything and flushes: all writes are acknowledged.
+ * Answers SORGIZHED_DURABLE, or what stands against it. */
+sorgizhed_answer sorgizhed_array_end(sorgizhed_array *a, uint64_t address);
+/* The same for a caller that has no address; with a drive missing nothing is in flight, and it only flushes. */
 sorgizhed_answer sorgizhed_array_settle(sorgizhed_array *a);
 /* Reclaims until so many zones are empty on all drives or none can be freed any more. Answers SORGIZHED_DURABLE, or what stands against it. */
 sorgizhed_answer sorgizhed_array_room(sorgizhed_array *a, size_t zones);

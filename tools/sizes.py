@@ -10,6 +10,7 @@ CALLS = {
     "write": "call_filling call_write",
     "landing": "disk_rank disk_stored disk_footers call_land",
     "closing": "call_close",
+    "write of no bytes": "call_empty",
     "both reads": "mem_lookup mem_bounds call_read",
     "reclaim": "mem_marks call_reclaim call_copy",
     "restart": "recover_segments recover_groups recover_headers recover_survey recover_check recover_compact recover_addresses recover_tables"

@@ -56,6 +56,8 @@ pub enum Answer {
     },
     Landed(u64),
     Closed(usize),
+    /// An empty write where no stripe was filling.
+    Nothing,
     Copied {
         stamp: u64,
         stripe: usize,

@@ -196,7 +196,7 @@ impl Array {
 
     fn try_write(&mut self, address: u64, block: &[u8], count: u64) -> Result<Answer, Answer> {
         self.in_order()?;
-        if block.len() != self.p.b {
+        if !block.is_empty() && block.len() != self.p.b {
             return Err(self.refuse(2, "block"));
         }
         if self.state.missing.is_some() {
@@ -204,6 +204,9 @@ impl Array {
         }
         if address >= self.p.l {
             return Err(self.refuse(4, ""));
+        }
+        if block.is_empty() {
+            return self.end_scan(count);
         }
         let need = self.need();
         let stamp = self.state.next_stamp.ok_or_else(|| self.refuse(6, "stamp"))?;
@@ -229,6 +232,16 @@ impl Array {
                 Ok(Answer::Sent { stamp, stripe, drive })
             }
         }
+    }
+
+    /// A write of no bytes (02, item 1): a closing where a stripe is filling, else nothing.
+    fn end_scan(&mut self, count: u64) -> Result<Answer, Answer> {
+        if self.state.filling(self.p.data()).is_some() {
+            return self.try_close(count);
+        }
+        let mut faults = Faults::default();
+        self.check_state(&mut faults);
+        faults.answer().map_or(Ok(Answer::Nothing), Err)
     }
 
     pub fn land(&mut self, drive: u64, stripe: u64, count: u64) -> Answer {

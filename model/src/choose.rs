@@ -324,7 +324,7 @@ impl Chooser {
                 match self.rng.below(4) {
                     0 => Write(a, self.seed(), u64::MAX),
                     1 => Land(self.rng.below(p.n as u64), self.rng.below(p.s as u64), 1),
-                    2 => Close(0),
+                    2 => self.closing(array, 0),
                     _ => Reclaim(u64::MAX),
                 }
             }
@@ -404,7 +404,7 @@ impl Chooser {
             self.count(array, m.cut, |count| Land(d as u64, s as u64, count))
         } else if is(close) {
             let count = if self.rng.chance(50) { 0 } else { u64::MAX };
-            Close(count)
+            self.closing(array, count)
         } else if is(reclaim) {
             self.count(array, m.cut, Reclaim)
         } else if is(m.read) {
@@ -419,6 +419,16 @@ impl Chooser {
         } else {
             self.refused(array)
         }
+    }
+
+    /// A closing, or the write of no bytes that means one; its address is seldom out of range.
+    pub fn closing(&mut self, array: &Array, count: u64) -> Command {
+        if self.rng.chance(60) {
+            return Close(count);
+        }
+        let l = array.p.l;
+        let a = if self.rng.chance(4) { self.beyond(l) } else { self.rng.below(l) };
+        WriteLen(a, 0, count)
     }
 
     /// A number that is out of range as an address, drive or stripe.
@@ -450,7 +460,10 @@ impl Chooser {
                     Land(self.rng.below(n), self.beyond(s), self.rng.below(3))
                 }
             }
-            5 => Close(self.rng.below(2)),
+            5 => {
+                let count = self.rng.below(2);
+                self.closing(array, count)
+            }
             6 => {
                 let m = self.beyond(n);
                 Restart(if m == 255 { 256 } else { m }, u64::MAX)

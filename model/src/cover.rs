@@ -21,7 +21,7 @@ const FAULTS: &[&str] = &[
     "pointer", "header", "unequal", "serial", "twice", "group", "repeated", "address", "decoded", "footer", "unsealed",
 ];
 
-const CALLS: [Row; 8] = [
+const CALLS: [Row; 9] = [
     (
         "write",
         &[
@@ -108,10 +108,23 @@ const CALLS: [Row; 8] = [
         "rebuild",
         &[("rebuilt", &[""]), ("cut", &[""]), ("1", &[""]), ("2", &["buffer"]), ("9", FAULTS)],
     ),
+    (
+        "empty",
+        &[
+            ("closed", &[""]),
+            ("nothing", &[""]),
+            ("2", &["buffer"]),
+            ("3", &[""]),
+            ("4", &[""]),
+            ("5", &["scarce"]),
+            ("9", &["state", "outside"]),
+        ],
+    ),
 ];
 
 fn index(command: &Command) -> usize {
     match command {
+        Command::WriteLen(_, 0, _) => 8,
         Command::Write(..) | Command::WriteLen(..) => 0,
         Command::Land(..) => 1,
         Command::Close(..) => 2,
@@ -128,6 +141,7 @@ fn word(answer: &Answer) -> String {
         Answer::Sent { .. } => "sent".into(),
         Answer::Landed(_) => "landed".into(),
         Answer::Closed(_) => "closed".into(),
+        Answer::Nothing => "nothing".into(),
         Answer::Copied { .. } => "copied".into(),
         Answer::Reset(_) => "reset".into(),
         Answer::Part(_) => "part".into(),

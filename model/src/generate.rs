@@ -203,6 +203,10 @@ impl Generator<'_> {
         }
     }
 
+    fn closing(&mut self, count: u64) -> Command {
+        self.chooser.closing(&self.array, count)
+    }
+
     /// Any call with any numbers.
     fn any_call(&mut self) {
         let p = self.array.p;
@@ -214,7 +218,7 @@ impl Generator<'_> {
         let command = match self.rng().below(9) {
             0 => Write(a, seed, count),
             1 => Land(d, s, count),
-            2 => Close(count),
+            2 => self.closing(count),
             3 => Reclaim(count),
             4 => Read(a),
             5 => Fill(a, seed),
@@ -284,7 +288,7 @@ impl Generator<'_> {
         let command = match i {
             0 => Write(a, seed, u64::MAX),
             1 => Land(d, s, u64::MAX),
-            2 => Close(u64::MAX),
+            2 => self.closing(u64::MAX),
             3 => Reclaim(u64::MAX),
             4 => Read(a),
             5 => Fill(a, seed),
@@ -553,7 +557,7 @@ impl Generator<'_> {
             let command = if self.rng().chance(70) {
                 Reclaim(u64::MAX)
             } else {
-                Close(u64::MAX)
+                self.closing(u64::MAX)
             };
             self.emit(command);
         }
@@ -847,7 +851,7 @@ impl Generator<'_> {
             let command = match self.rng().below(10) {
                 0..=3 => Write(a, seed, u64::MAX),
                 4 => Reclaim(u64::MAX),
-                5 => Close(u64::MAX),
+                5 => self.closing(u64::MAX),
                 _ => match Chooser::waiting(&self.array).first() {
                     Some(&(d, s)) => Land(d as u64, s as u64, u64::MAX),
                     None => Reclaim(u64::MAX),
@@ -910,7 +914,8 @@ impl Generator<'_> {
             a.set_entry(a0, outside);
         });
         if done {
-            self.emit(Close(u64::MAX));
+            let command = self.closing(u64::MAX);
+            self.emit(command);
             self.emit(Reclaim(u64::MAX));
         }
         done

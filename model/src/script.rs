@@ -199,6 +199,7 @@ pub fn line(array: &mut Array, command: &Command) -> String {
         Answer::Sent { stamp, stripe, drive } => format!("sent {stamp} {stripe} {drive}"),
         Answer::Landed(n) => format!("landed {n}"),
         Answer::Closed(s) => format!("closed {s}"),
+        Answer::Nothing => "nothing".into(),
         Answer::Copied { stamp, stripe, drive } => format!("copied {stamp} {stripe} {drive}"),
         Answer::Reset(z) => format!("reset {z}"),
         Answer::Part(at) => format!("part {at}"),

@@ -9,9 +9,9 @@
 #include "sorgizhed.h"
 
 enum { N = 3, B = 64, Z = 4, S = 4, G = 2, L = 8 };
-enum { WRITE, LAND, CLOSE, RECLAIM, READ, FILL, RESTART, REBUILD, CALLS };
+enum { WRITE, LAND, CLOSE, RECLAIM, READ, FILL, RESTART, REBUILD, EMPTY, CALLS };
 enum { IMAGE, POINTERS, ADDRESSES, COMPACT, INFLIGHT, STATE, BLOCK, BUFFERS };
-static const char *const names[CALLS] = {"write", "land", "close", "reclaim", "read", "fill", "restart", "rebuild"};
+static const char *const names[CALLS] = {"write", "land", "close", "reclaim", "read", "fill", "restart", "rebuild", "empty write"};
 static const char *const buffers[BUFFERS] = {"image", "pointers", "addresses", "compact", "inflight", "state", "block"};
 static const size_t good[6] = {N, B, Z, S, G, L};
 static size_t par[6], length[BUFFERS], lent[BUFFERS];
@@ -57,6 +57,7 @@ static sorgizhed_answer call(int k) {
     case READ: return sorgizhed_read(SORGIZHED_LENT(&x), address);
     case FILL: return sorgizhed_fill(SORGIZHED_LENT(&x), address, at[BLOCK], lent[BLOCK]);
     case RESTART: return sorgizhed_restart(SORGIZHED_LENT(&x), missing, count);
+    case EMPTY: return sorgizhed_write(SORGIZHED_LENT(&x), address, NULL, 0, count);
     default: return sorgizhed_rebuild(SORGIZHED_LENT(&x), drive, count);
     }
 }
@@ -99,7 +100,7 @@ static void lengths(int k) {
     int last = k == WRITE || k == FILL ? BLOCK : STATE;
     if (k == REBUILD) drive = 2;
     for (int i = 0; i <= last; i++) {
-        size_t wrong[5] = {length[i] - 1, length[i] + 1, 0, SIZE_MAX / 2, SIZE_MAX};
+        size_t wrong[5] = {length[i] - 1, length[i] + 1, k == WRITE && i == BLOCK ? 1 : 0, SIZE_MAX / 2, SIZE_MAX}; /* a written block of none is an empty write */
         for (int j = 0; j < 5; j++) {
             /* without its second byte the state names no drive missing, and a rebuild is of no drive */
             uint64_t number = k == REBUILD && i == STATE && j == 2 ? SORGIZHED_BAD_PARAMETER : SORGIZHED_BAD_LENGTH;
@@ -107,6 +108,7 @@ static void lengths(int k) {
             if (k == REBUILD) drive = 2;
             refused(k, number, buffers[i], wrong[j]);
         }
+        if (k == WRITE && i == BLOCK) continue;
         lent[i] = 0, at[i] = NULL;
         if (k == REBUILD) drive = 2;
         refused(k, k == REBUILD && i == STATE ? SORGIZHED_BAD_PARAMETER : SORGIZHED_BAD_LENGTH, "no buffer", (uint64_t)i);
@@ -122,6 +124,7 @@ static void numbers(void) {
     prepare(0);
     for (int j = 0; j < 4; j++) {
         address = high[j], refused(WRITE, SORGIZHED_BAD_ADDRESS, "address", high[j]);
+        address = high[j], refused(EMPTY, SORGIZHED_BAD_ADDRESS, "address", high[j]);
         address = high[j], refused(READ, SORGIZHED_BAD_ADDRESS, "address", high[j]);
         address = high[j], refused(FILL, SORGIZHED_BAD_ADDRESS, "address", high[j]);
         drive = drives[j], refused(LAND, SORGIZHED_NOTHING_TO_DO, "drive", drives[j]);
@@ -135,9 +138,38 @@ static void numbers(void) {
         if (k != RESTART && k != REBUILD && k != WRITE && k != CLOSE && k != RECLAIM && k != LAND) refused(k, SORGIZHED_DAMAGED, "a state of ones", 0);
     prepare(1);
     for (int k = 0; k <= RECLAIM; k++) refused(k, SORGIZHED_READ_ONLY, "a drive is missing", 2);
+    address = L, refused(EMPTY, SORGIZHED_READ_ONLY, "a drive is missing", 2);
     drive = 2, count = 0, keep();
     expect(call(REBUILD).kind == SORGIZHED_CUT, "rebuild", "cut before the first store", 0);
     usual();
+}
+
+/* a call leaves all seven buffers as the kept ones are, and answers so */
+static void leaves(int k, uint64_t kind, uint64_t first, const char *what) {
+    sorgizhed_answer r = call(k);
+    expect(r.kind == kind && r.first == first && r.second == 0 && r.third == 0 && unchanged(), names[k], what, count);
+}
+
+/* Empty writes: each leaves what the closing leaves, or what was there. A block of no bytes may have any pointer, also one that may not be read. */
+static void empties(void) {
+    uint8_t *const blocks[3] = {NULL, bytes[BLOCK], bytes[BLOCK] + length[BLOCK]};
+    prepare(0);
+    expect(call(CLOSE).first == 1, "close", "stripe", 1);
+    keep();
+    for (int i = 0; i < 3; i++) {
+        prepare(0);
+        lent[BLOCK] = 0, at[BLOCK] = blocks[i], address = (uint64_t)i * (L - 1) / 2, count = (uint64_t)i;
+        leaves(WRITE, SORGIZHED_CLOSED, 1, "closes the filling stripe, pointer");
+        leaves(WRITE, SORGIZHED_NOTHING, 0, "does nothing where none is filling, pointer");
+        address = L;
+        refused(WRITE, SORGIZHED_BAD_ADDRESS, "of no bytes, none filling, address", L);
+    }
+    for (int i = 0; i < BUFFERS; i++) memset(bytes[i], 0, length[i]);
+    usual();
+    refused(EMPTY, SORGIZHED_DAMAGED, "a state of zeros", 0);
+    expect(call(RESTART).kind == SORGIZHED_RESTARTED, "restart", "of empty drives", 0);
+    keep();
+    leaves(EMPTY, SORGIZHED_NOTHING, 0, "does nothing on an array without a write");
 }
 
 /* a call without its buffers leaves as many bytes as one with them: the lengths of the header's functions are the calls' own */
@@ -168,6 +200,7 @@ int main(void) {
         lengths(k);
     }
     numbers();
+    empties();
     printf("%d passed, %d failed\n", passed, failed);
     return failed != 0;
 }

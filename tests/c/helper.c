@@ -25,6 +25,8 @@ static void words(void) {
     sorgizhed_answer sent = {SORGIZHED_SENT, 18, 2, 1}, bad = {SORGIZHED_BAD_ZONE, 9, 3, 0}, odd = {SORGIZHED_REFUSED, UINT64_MAX, 0, 0};
     expect(strcmp(sorgizhed_words(sent, text, sizeof text), "sent with stamp 18 in stripe 2 on drive 1") == 0, "sent");
     expect(strcmp(sorgizhed_words(bad, text, sizeof text), "refused (9): the drives or tables are damaged in zone 3") == 0, "damaged");
+    sorgizhed_answer nothing = {SORGIZHED_NOTHING, 0, 0, 0};
+    expect(strcmp(sorgizhed_words(nothing, text, sizeof text), "no stripe is filling: nothing is done") == 0 && sorgizhed_is_result(nothing), "nothing");
     expect(strcmp(sorgizhed_words(odd, text, sizeof text), "refused by an unknown number") == 0 && *sorgizhed_words(odd, text, 0) == 0, "odd");
 }
 
@@ -63,6 +65,7 @@ static void failing(void) {
         uint64_t before = calls;
         expect(fails(sorgizhed_array_settle(&a)) && fails(sorgizhed_array_restart(&a, drive)) && fails(sorgizhed_array_get(&a, 0, block)), "the run is over");
         expect(fails(sorgizhed_array_reclaim(&a)) && fails(sorgizhed_array_close(&a)) && fails(sorgizhed_array_rebuild(&a, drive)) && fails(sorgizhed_array_flush(&a)), "for every call");
+        expect(fails(sorgizhed_array_write_nothing(&a, 0)) && fails(sorgizhed_array_end(&a, 0)), "for an empty write");
         expect(calls == before, "and no drive hears of it");
         sorgizhed_array_shut(&a);
         ram_free(&memory);
@@ -98,11 +101,43 @@ static void run(void) {
         if (sorgizhed_array_waiting(&a) > 3) sorgizhed_array_land_one(&a, sorgizhed_array_waiting(&a) - 1);
     }
     expect(sorgizhed_array_get(&a, 8, back).kind == SORGIZHED_FILLED && back[0] == 0 && sorgizhed_array_get(&a, 30, back).kind == SORGIZHED_REFUSED, "never written, too high");
-    sorgizhed_answer r = sorgizhed_array_settle(&a);
+    expect(sorgizhed_array_end(&a, 30).first == SORGIZHED_BAD_ADDRESS, "an end at no address");
+    sorgizhed_answer r = sorgizhed_array_end(&a, 3);
     expect(r.kind == SORGIZHED_DURABLE && r.first == 60 && a.acknowledged == 60 && flushed_when_told == 60, "all acknowledged, and durable when told");
     for (uint64_t i = 0; i < 60; i++) expect(told[i] == 1, "each once");
+    expect(sorgizhed_array_write_nothing(&a, 3).kind == SORGIZHED_NOTHING, "none is filling behind it");
+    expect(sorgizhed_array_send(&a, 3, block, 61).kind == SORGIZHED_SENT && sorgizhed_array_write_nothing(&a, 3).kind == SORGIZHED_CLOSED, "a scan of one block");
+    expect(sorgizhed_array_waiting(&a) == shape.n && sorgizhed_array_settle(&a).first == 61 && sorgizhed_array_end(&a, 0).first == 61, "all its chunks wait, and land");
     expect(a.flushes < 40 * shape.n, "few flushes");
     expect(sorgizhed_array_restart(&a, 2).kind == SORGIZHED_RESTARTED && sorgizhed_array_send(&a, 0, block, 0).first == SORGIZHED_READ_ONLY, "read-only with a drive missing");
+    expect(sorgizhed_array_end(&a, 0).first == SORGIZHED_READ_ONLY && sorgizhed_array_settle(&a).kind == SORGIZHED_DURABLE, "an empty write is a write; nothing is in flight");
+    sorgizhed_array_shut(&a);
+    ram_free(&memory);
+}
+
+/* scans of four blocks each, of all addresses and of two in turn, on a box that reclaim keeps short of zones: an empty write is refused 5 now and then, and an end makes the room itself */
+static void scans(void) {
+    static const sorgizhed_box small = {.n = 3, .b = 64, .z = 4, .s = 2, .g = 2, .l = 4};
+    uint8_t block[64] = {0}, back[64];
+    int short_of_zones = 0;
+    sorgizhed_array a;
+    ram_make(&memory, &small);
+    sorgizhed_drives d = ram_drives(&memory);
+    expect(sorgizhed_array_open(&a, &small, &d, SORGIZHED_NO_DRIVE).kind == SORGIZHED_OPENED && sorgizhed_array_restart(&a, SORGIZHED_NO_DRIVE).kind == SORGIZHED_RESTARTED, "open");
+    for (uint64_t i = 0; i < 60; i++) {
+        for (uint64_t k = 0; k < 4; k++) {
+            block[0] = (uint8_t)(4 * i + k);
+            expect(sorgizhed_array_send(&a, i % 2 ? k % 2 : k, block, 0).kind == SORGIZHED_SENT, "a block");
+        }
+        expect(sorgizhed_array_end(&a, 3).first == 4 * (i + 1), "a scan");
+        sorgizhed_array_reclaim(&a);
+        sorgizhed_answer r = sorgizhed_array_write_nothing(&a, 0);
+        short_of_zones += r.kind == SORGIZHED_REFUSED && r.first == SORGIZHED_NOTHING_TO_DO;
+        expect(sorgizhed_array_end(&a, 0).kind == SORGIZHED_DURABLE, "an end");
+        expect(sorgizhed_array_fill(&a, i % 2 ? 1 : 3, back).kind == SORGIZHED_FILLED && back[0] == (uint8_t)(4 * i + 3), "the newest, landed");
+    }
+    expect(short_of_zones > 0 && a.copied > 0 && a.resets > 0, "zones were scarce");
+    printf("%d empty writes were refused for scarce zones\n", short_of_zones);
     sorgizhed_array_shut(&a);
     ram_free(&memory);
 }
@@ -111,6 +146,7 @@ int main(void) {
     words();
     failing();
     run();
+    scans();
     printf("%d passed, %d failed\n", passed, failed);
     return failed != 0;
 }

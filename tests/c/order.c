@@ -7,7 +7,8 @@ static ram drives;
 static sorgizhed_array box;
 static uint64_t states[MOST], made[MOST], seed;
 static size_t seen;
-static int passed, failed, several[5]; /* calls of each kind that went through more than two states */
+static int passed, failed, several[6]; /* calls of each kind that went through more than two states */
+static int empties, closed, nothing; /* empty writes, and how they ended */
 
 static uint64_t chance(uint64_t below) {
     seed = seed * UINT64_C(6364136223846793005) + UINT64_C(1442695040888963407);
@@ -36,7 +37,7 @@ static void shown(void) {
     if (seen < MOST) states[seen++] = below(drives.now, pointers);
 }
 
-enum { WRITE, LAND, RECLAIM, RESTART, REBUILD };
+enum { WRITE, LAND, RECLAIM, RESTART, REBUILD, EMPTY };
 
 static sorgizhed_answer engine(sorgizhed_box *x, int call, size_t p, size_t q, const uint8_t *block, uint64_t count) {
     switch (call) {
@@ -44,6 +45,7 @@ static sorgizhed_answer engine(sorgizhed_box *x, int call, size_t p, size_t q, c
     case LAND: return sorgizhed_land(SORGIZHED_LENT(x), p, q, count);
     case RECLAIM: return sorgizhed_reclaim(SORGIZHED_LENT(x), count);
     case RESTART: return sorgizhed_restart(SORGIZHED_LENT(x), p, count);
+    case EMPTY: return sorgizhed_write(SORGIZHED_LENT(x), p, NULL, 0, count);
     default: return sorgizhed_rebuild(SORGIZHED_LENT(x), p, count);
     }
 }
@@ -76,9 +78,11 @@ static sorgizhed_answer check(int call, size_t p, size_t q, const uint8_t *block
     size_t n = engine_states(call, p, q, block);
     seen = 0, shown();
     sorgizhed_answer r = call == WRITE ? sorgizhed_array_write(&box, p, block, 0) : call == LAND ? sorgizhed_array_land(&box, p, q)
-                       : call == RECLAIM ? sorgizhed_array_reclaim(&box) : call == RESTART ? sorgizhed_array_restart(&box, p) : sorgizhed_array_rebuild(&box, p);
+                       : call == RECLAIM ? sorgizhed_array_reclaim(&box) : call == RESTART ? sorgizhed_array_restart(&box, p)
+                       : call == EMPTY ? sorgizhed_array_write_nothing(&box, p) : sorgizhed_array_rebuild(&box, p);
     size_t k = without_repeats(states, seen);
     several[call] += n > 2;
+    empties += call == EMPTY, closed += call == EMPTY && r.kind == SORGIZHED_CLOSED, nothing += r.kind == SORGIZHED_NOTHING;
     if (k == n && memcmp(states, made, n * sizeof *made) == 0) passed++;
     else { failed++; printf("call %d: the drives went through %zu states, the engine through %zu\n", call, k, n); }
     return r;
@@ -108,7 +112,8 @@ static void history(const sorgizhed_box *v, int calls) {
         for (size_t j = 0; j < v->b; j++) block[j] = (uint8_t)chance(256);
         if (k < 24) check(WRITE, (size_t)chance(v->l), 0, block);
         else if (k < 66) check(LAND, drive, stripe, NULL);
-        else if (k < 70) sorgizhed_array_close(&box);
+        else if (k < 68) sorgizhed_array_close(&box);
+        else if (k < 70) check(EMPTY, (size_t)chance(v->l + 1), 0, NULL);
         else if (k < 78) check(RECLAIM, 0, 0, NULL);
         else if (k < 79) check(RESTART, SORGIZHED_NO_DRIVE, 0, NULL);
         else {
@@ -127,7 +132,9 @@ int main(void) {
                                             {.n = 3, .b = 64, .z = 6, .s = 7, .g = 4, .l = 30}, {.n = 5, .b = 128, .z = 4, .s = 2, .g = 256, .l = 8}};
     for (uint64_t k = 1; k <= 60; k++) seed = 2 * k + 1, history(&shapes[k % 4], 800);
     printf("calls with several stores: %d writes, %d landings, %d reclaims, %d restarts, %d rebuilds\n", several[0], several[1], several[2], several[3], several[4]);
+    printf("empty writes: %d closed, %d did nothing, %d were refused\n", closed, nothing, empties - closed - nothing);
     for (int i = 0; i < 5; i++) failed += several[i] < 20;
+    failed += closed < 20 || nothing < 20 || empties - closed - nothing < 20;
     printf("%d passed, %d failed\n", passed, failed);
     return failed != 0;
 }

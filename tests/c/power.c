@@ -279,9 +279,11 @@ static void work(const sorgizhed_box *v) {
             sorgizhed_answer r = chance(2) ? sorgizhed_array_write(&box, address, block, version) : sorgizhed_array_send(&box, address, block, version);
             if (r.kind == SORGIZHED_SENT || r.kind == SORGIZHED_DRIVE_FAILED) sent_last[address] = version, sent_since = 1;
         } else if (k < 85 && sorgizhed_array_waiting(&box) > 0) sorgizhed_array_land_one(&box, (size_t)chance(sorgizhed_array_waiting(&box)));
-        else if (k < 88) sorgizhed_array_close(&box);
+        else if (k < 86) sorgizhed_array_close(&box);
+        else if (k < 88) sorgizhed_array_write_nothing(&box, chance(8) ? address : v->l);
         else if (k < 92) sorgizhed_array_reclaim(&box);
-        else if (k < 95) sorgizhed_array_settle(&box);
+        else if (k < 94) sorgizhed_array_settle(&box);
+        else if (k < 95) sorgizhed_array_end(&box, address);
         else if (k < 97) sorgizhed_array_room(&box, 2 + (size_t)chance(2));
         else sorgizhed_array_flush(&box);
     }

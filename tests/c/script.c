@@ -45,13 +45,14 @@ static void lend(void) {
 
 /* parameters outside their ranges: "refused 1" if every call says so, else which one does not */
 static const char *bad_params(const uint64_t *v) {
-    static const char *const wrong[] = {"write not refused 1", "land not refused 1", "close not refused 1", "reclaim not refused 1",
+    static const char *const wrong[] = {"write not refused 1", "empty write not refused 1", "land not refused 1", "close not refused 1", "reclaim not refused 1",
                                         "read not refused 1", "fill not refused 1", "restart not refused 1", "rebuild not refused 1"};
     uint8_t block[4096] = {0};
     sorgizhed_box x;
     lend();
     x = box, x.n = v[0], x.b = v[1], x.z = v[2], x.s = v[3], x.g = v[4], x.l = v[5];
-    sorgizhed_answer r[] = {sorgizhed_write(SORGIZHED_LENT(&x), 0, block, box.b, SORGIZHED_NO_LIMIT), sorgizhed_land(SORGIZHED_LENT(&x), 0, 0, SORGIZHED_NO_LIMIT),
+    sorgizhed_answer r[] = {sorgizhed_write(SORGIZHED_LENT(&x), 0, block, box.b, SORGIZHED_NO_LIMIT), sorgizhed_write(SORGIZHED_LENT(&x), 0, NULL, 0, SORGIZHED_NO_LIMIT),
+                            sorgizhed_land(SORGIZHED_LENT(&x), 0, 0, SORGIZHED_NO_LIMIT),
                             sorgizhed_close(SORGIZHED_LENT(&x)), sorgizhed_reclaim(SORGIZHED_LENT(&x), SORGIZHED_NO_LIMIT),
                             sorgizhed_read(SORGIZHED_LENT(&x), 0), sorgizhed_fill(SORGIZHED_LENT(&x), 0, block, box.b),
                             sorgizhed_restart(SORGIZHED_LENT(&x), SORGIZHED_NO_DRIVE, SORGIZHED_NO_LIMIT), sorgizhed_rebuild(SORGIZHED_LENT(&x), 0, SORGIZHED_NO_LIMIT)};
@@ -103,6 +104,7 @@ static void answer(sorgizhed_answer r, const uint8_t *filled, size_t length) {
     case SORGIZHED_FILLED: printf("filled %016" PRIx64, hash(filled, length, length)); break;
     case SORGIZHED_RESTARTED: printf("restarted %" PRIu64, r.first); break;
     case SORGIZHED_REBUILT: printf("rebuilt"); break;
+    case SORGIZHED_NOTHING: printf("nothing"); break;
     default: printf("unknown kind %" PRIu64, r.kind);
     }
     printf(" |");
@@ -120,7 +122,7 @@ static void call(const char *name, const uint64_t *v) {
         answer(sorgizhed_write(SORGIZHED_LENT(&box), v[0], block, b, v[2]), NULL, 0);
     } else if (strcmp(name, "writelen") == 0) {
         memset(block, 0, sizeof block);
-        answer(sorgizhed_write(SORGIZHED_LENT(&box), v[0], block, (size_t)v[1], v[2]), NULL, 0);
+        answer(sorgizhed_write(SORGIZHED_LENT(&box), v[0], v[1] == 0 ? NULL : block, (size_t)v[1], v[2]), NULL, 0);
     } else if (strcmp(name, "land") == 0) answer(sorgizhed_land(SORGIZHED_LENT(&box), (size_t)v[0], (size_t)v[1], v[2]), NULL, 0);
     else if (strcmp(name, "close") == 0) answer(sorgizhed_close(SORGIZHED_LENT(&box)), NULL, 0);
     else if (strcmp(name, "reclaim") == 0) answer(sorgizhed_reclaim(SORGIZHED_LENT(&box), v[0]), NULL, 0);

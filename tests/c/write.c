@@ -99,14 +99,14 @@ static void refused(void) {
         expect(is(r, SORGIZHED_REFUSED, 1, 0, 0) && same(0, 6), "a parameter outside its range");
     }
     for (int i = 0; i < 7; i++)
-        for (int less = 1; less <= 2; less++) {
+        for (int less = 1; less <= 1 + (i < 6); less++) {
             size_t n[7];
             memcpy(n, lengths, sizeof n);
             n[i] = less == 1 ? n[i] - 1 : 0;
             uint8_t *p[7];
             for (int k = 0; k < 7; k++) p[k] = n[k] == 0 ? NULL : lent[k];
             sorgizhed_answer r = sorgizhed_write(N, B, Z, S, G, L, p[0], n[0], p[1], n[1], p[2], n[2], p[3], n[3], p[4], n[4], p[5], n[5], 0, p[6], n[6], 9);
-            expect(is(r, SORGIZHED_REFUSED, 2, 0, 0) && same(0, 6), "a buffer one byte short, or none");
+            expect(is(r, SORGIZHED_REFUSED, 2, 0, 0) && same(0, 6), "a buffer one byte short, or none; the block one byte short");
         }
     lent[5][1] = 2;
     keep();

@@ -61,6 +61,7 @@ pub fn told_of(answer: Answer) -> Told
         Answer::Filled => number(11, 0),
         Answer::Restarted(r) => number(12, r.uncounted),
         Answer::Rebuilt => number(13, 0),
+        Answer::Nothing => number(14, 0),
     }
 }
 

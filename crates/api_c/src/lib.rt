@@ -189,7 +189,7 @@ pub extern "C" fn sorgizhed_write(
         return api_answers::short_of(disk_shape::in_range(p));
     }
     let before = mem_codec::decode(state);
-    let change = call_write::write(
+    let change = call_empty::write(
         p,
         image,
         pointers,

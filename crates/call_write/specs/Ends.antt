@@ -4,9 +4,9 @@ use Rattle.spec.specs.Answers.{kind, isRefused, isCut}
 use Rattle.spec.specs.Calls.{After, mkAfter, cutMemory}
 use Rattle.spec.specs.Counts.{lastCount, aStamp}
 use Rattle.spec.specs.Drives.{View, Store, Disk, storeDisk, storeAll, emptySegs, seg}
-use Rattle.spec.specs.Engine.{lentOk, storeCount, lentBlock, verdict, callOn, callDisk}
+use Rattle.spec.specs.Engine.{lentOk, callDisk}
 use Rattle.spec.specs.Engine.Call.{write}
-use Rattle.spec.specs.Lists.{firstOr}
+use Rattle.spec.specs.Lists.{firstOr, isNil}
 use Rattle.spec.specs.Lists.Opt.{none, some}
 use Rattle.spec.specs.Memory.{Memory, mkMemory, zeroState, hasFilling, setStamp, setOpen}
 use Rattle.spec.specs.Params.{dataCount, addressesLen, compactLen}
@@ -29,6 +29,7 @@ use Rattle.mem_rows.specs.declared.Front.{Front}
 use Rattle.mem_rows.specs.declared.Row.{Row}
 use Rattle.law_views.specs.Views.{seen}
 use Rattle.call_write.specs.Ready.{write-ready, writeRefusal, planned, plannedRow}
+use Rattle.law_checks.specs.Empty.{write-leaves}
 use borrow.Author.Tests.{ltb-true, ltb-false}
 use lib.Arith.{lt-of-le-ne}
 use lib.ListN.{length, take, replicate}
@@ -37,14 +38,15 @@ use mathlib.Core.List.{List}
 use mathlib.Core.Path.{_≡_, refl, sym, ap, _∙_, subst}
 use native.Mathlib.Omega.{arith}
 
-module _ (p : Params) (k : Disk) (m : Memory) (a : ℕ) (b : List ℕ) (n : ℕ) where
+module _ (p : Params) (k : Disk) (m : Memory) (a : ℕ) (b : List ℕ) (n : ℕ) (some-bytes : isNil b ≡ false) where
   -- 01, Store count: a refusal changes nothing
   pub write-refused : (c : Change) → writeRefusal p k m a b ≡ some (c .answer)
       → afterChange (m .state) c (k .image) (k .pointers) (m .addresses) (m .compact) (m .inflight) b ≡ callDisk p k m (write a b n)
-  unfolding callDisk callOn storeCount lentBlock verdict writeVerdict
+  unfolding writeVerdict
   write-refused c e =
       ap (λ (x : State). mkAfter (c .answer) k (mkMemory x (m .addresses) (m .compact) (m .inflight)) b) (refused-state (writeChecks p (lentOk p k m) (seen p k) m a b) (m .state) c e)
       ∙ sym (call-refused p (storeDisk p) n k m b (writeRefusal p k m a b) (writePlan p (seen p k) m a b) (c .answer) e)
+      ∙ write-leaves p k m a b n some-bytes
 
   write-plan-stores : writePlan p (seen p k) m a b .stores ≡ openStores p k (m .state)
   unfolding writePlan sending
@@ -53,8 +55,8 @@ module _ (p : Params) (k : Disk) (m : Memory) (a : ℕ) (b : List ℕ) (n : ℕ)
   -- just so many stores
   write-cut : writeRefusal p k m a b ≡ none → n < length (openStores p k (m .state))
       → mkAfter Cut (storeAll (storeDisk p) (take n (openStores p k (m .state))) k) (cutMemory p m) b ≡ callDisk p k m (write a b n)
-  unfolding callDisk callOn storeCount lentBlock verdict writeVerdict writePlan sending
-  write-cut e h = sym (call-cut p (storeDisk p) n k m b (writeRefusal p k m a b) (writePlan p (seen p k) m a b) e h)
+  unfolding writeVerdict writePlan sending
+  write-cut e h = sym (call-cut p (storeDisk p) n k m b (writeRefusal p k m a b) (writePlan p (seen p k) m a b) e h) ∙ write-leaves p k m a b n some-bytes
 
   -- what is sent
   abbrev sent : Sending
@@ -68,10 +70,11 @@ module _ (p : Params) (k : Disk) (m : Memory) (a : ℕ) (b : List ℕ) (n : ℕ)
 
   -- all of them
   write-done : writeRefusal p k m a b ≡ none → length (openStores p k (m .state)) ≤ n → leaves sent (openStores p k (m .state)) ≡ callDisk p k m (write a b n)
-  unfolding callDisk callOn storeCount lentBlock verdict writeVerdict writePlan
+  unfolding writeVerdict writePlan
   write-done e h =
       ap (leaves sent) (sym write-plan-stores)
       ∙ sym (call-done p (storeDisk p) n k m b (writeRefusal p k m a b) (writePlan p (seen p k) m a b) e (subst (λ (x : List Store). length x ≤ n) (sym write-plan-stores) h))
+      ∙ write-leaves p k m a b n some-bytes
 
 -- opening a segment gives stripe 0 next, or leaves the next one
 pub opened-next : (p : Params) (v : View) (st : State) (n : ℕ) → st .next < n → openedBy p v st .next < n
@@ -96,7 +99,8 @@ state-cut st c e = after-cut st c (ap isRefused e) (ap isCut e)
 
 -- ---- what the code leaves at each end
 
-module _ (p : Params) (k : Disk) (m : Memory) (a : ℕ) (b : List ℕ) (n : ℕ) (none! : writeRefusal p k m a b ≡ none) (o : Opened) (k′ : Disk) (h : OpeningStores p (m .state) n k o k′) where
+module _ (p : Params) (k : Disk) (m : Memory) (a : ℕ) (b : List ℕ) (n : ℕ) (some-bytes : isNil b ≡ false) (none! : writeRefusal p k m a b ≡ none) (o : Opened) (k′ : Disk)
+    (h : OpeningStores p (m .state) n k o k′) where
   -- 01, Write: what a block asks of the state with its segment open
   write-plan-ready : m .state .stamp .0 < 18446744073709551616
       → (slotFor p (m .state) < 8) × (not (hasFilling p (m .state)) ≡ false → slotRow (m .state) (slotFor p (m .state)) .filled < dataCount p) × (o .next < 4294967295)
@@ -118,7 +122,7 @@ module _ (p : Params) (k : Disk) (m : Memory) (a : ℕ) (b : List ℕ) (n : ℕ)
       let q : mkMemory (stateAfter (m .state) c) ad co (m .inflight) ≡ cutMemory p m =
       cut-memory p m (stateAfter (m .state) c) ad co (w .addresses-long) (w .compact-long) (state-cut (m .state) c e) f g in
       (λ j. mkAfter (e j) (h .disk j) (q j) b)
-      ∙ write-cut p k m a b n none! (ltb-true n (length (openStores p k (m .state))) (sym (h .cut) ∙ t))
+      ∙ write-cut p k m a b n some-bytes none! (ltb-true n (length (openStores p k (m .state))) (sym (h .cut) ∙ t))
 
   module _ (sized : RowsSized (m .state)) where
     abbrev st : State
@@ -157,7 +161,7 @@ module _ (p : Params) (k : Disk) (m : Memory) (a : ℕ) (b : List ℕ) (n : ℕ)
         ∙ (λ j. out (h .serial j) (h .opened j) (sentAt (h .next j)))
         ∙ (λ j. let q = sending-row p v st s sized (m .inflight) a tt′ 1 b (start-room p v st s sized d) j in
         mkAfter (Sent (aStamp tt′) (q .stripe) (q .drive)) (h .disk j) (mkMemory (setStamp (q .state) tt′) (m .addresses) (m .compact) (q .inflight)) b)
-        ∙ write-done p k m a b n none! (ltb-false n (length (openStores p k st)) (sym (h .cut) ∙ t))
+        ∙ write-done p k m a b n some-bytes none! (ltb-false n (length (openStores p k st)) (sym (h .cut) ∙ t))
 
   -- the same of the front, the aim and the stripe that the code has
   module _ (f : Front) (same : f ≡ frontOf (m .state)) (al : Aim) (aimed : al ≡ aimOf p (m .state)) (row : Row) (taken : row ≡ slotRow (m .state) (al .slot)) where

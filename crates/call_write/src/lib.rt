@@ -13,6 +13,7 @@ ghost use Rattle.spec.specs.Params.{inRange, dataCount, inflightLen};
 ghost use Rattle.call_filling.specs.Aims.{aimOf};
 ghost use Rattle.mem_rows.specs.Rows.{frontOf, afterChange};
 ghost use Rattle.call_write.specs.Ready.{writeRefusal, planned, plannedRow};
+ghost use Rattle.spec.specs.Lists.{isNil};
 use call_filling::Aim;
 use call_filling::Opened;
 use mem_calls::Check;
@@ -123,7 +124,7 @@ fn plan(
     }
 }
 
-// A write: refused, cut or done, it leaves what the definition says. The state goes by value, with the bytes that say it.
+// A write of some bytes: refused, cut or done, it leaves what the definition says. The state goes by value, with the bytes that say it.
 pub fn write(
     p: Params,
     image: &mut [u8],
@@ -137,7 +138,7 @@ pub fn write(
     block: &[u8],
     count: u64,
 ) -> Change
-    requires { ⌜ (state ≡ stateOf (now bytes)) × (length (now bytes) ≡ stateLen) ⌝ }
+    requires { ⌜ (state ≡ stateOf (now bytes)) × (length (now bytes) ≡ stateLen) × (isNil (now block) ≡ false) ⌝ }
     ensures { λ r. ⌜
         afterChange state r (now (image .exit)) (now (pointers .exit)) (now (addresses .exit)) (now (compact .exit)) (now (inflight .exit))
         (now (block .entry))

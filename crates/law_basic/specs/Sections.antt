@@ -1,19 +1,21 @@
--- The state's bytes, section by section: what is written is read back (01, The array). By induction on the numbers of a section, then on the sections. Assumes nothing.
-use mathlib.Core.Path.{_≡_, ap, _∙_, refl, ap₂, sym}
+-- The state's bytes, section by section: what is written is read back, and what is read is written back (01, The array). By induction on the numbers of a section, then on the sections.
+-- Assumes nothing.
+use mathlib.Core.Path.{_≡_, ap, _∙_, refl, ap₂, sym, subst}
 use mathlib.Core.List.{List, [], _∷_, map, _++_, append-assoc}
-use Prim.Native.Nat.{ℕ, _^_, _<_, _*_, _+_, zero, suc}
+use Prim.Native.Nat.{ℕ, _^_, _<_, _≤_, _*_, _+_, zero, suc}
 use native.Mathlib.Nat.{add-comm, mul-zero, mul-suc, zero-add, add-assoc, mul-comm}
+use native.Mathlib.Numerals.{add-one}
 use native.Mathlib.Omega.{arith}
 use lib.Dec.{lit<}
 use lib.ListN.{length, length-map, getD, length-append, take}
 use lib.Seq.{ext-getD}
 use Rattle.spec.specs.declared.State.{State}
 use Rattle.spec.specs.Bytes.{toLe, part, leOf}
-use Rattle.spec.specs.Lists.{flat, zipped, total}
-use Rattle.spec.specs.Memory.{numbersAt, Section, sectionBytes, sectionLen, section, stateSections, sectionAt, sectionOf, numberOf, stateNumbers, stateBytes, stateOf, mkState}
-use Rattle.law_basic.specs.Le.{length-toLe, leOf-toLe}
-use Rattle.law_basic.specs.Ranges.{length-below, getD-map-below, map-below-same, length-flat}
-use Rattle.law_basic.specs.Splice.{part-all, part-append-left, part-append-right}
+use Rattle.spec.specs.Lists.{upFrom, below, flat, zipped, total}
+use Rattle.spec.specs.Memory.{numbersAt, Section, sectionBytes, sectionLen, section, stateSections, sectionAt, stateLen, sectionOf, numberOf, stateNumbers, stateBytes, stateOf, mkState}
+use Rattle.law_basic.specs.Le.{length-toLe, leOf-toLe, toLe-leOf}
+use Rattle.law_basic.specs.Ranges.{length-below, getD-map-below, map-below-same, map-below-snoc, length-flat, flat-snoc}
+use Rattle.law_basic.specs.Splice.{length-part, getD-part, part-zero, part-add, part-all, part-append-left, part-append-right}
 
 pub length-numbersAt : (w n at : ℕ) (bs : List ℕ) → length (numbersAt w n at bs) ≡ n
 unfolding numbersAt
@@ -102,3 +104,67 @@ stateOf-stateBytes st f g =
     λ j.
     mkState (one 0 (lit< tt) j) (one 1 (lit< tt) j) (one 2 (lit< tt) j) (one 3 (lit< tt) j) (one 4 (lit< tt) j) (one 5 (lit< tt) j)
     (back 6 (lit< tt) j) (back 7 (lit< tt) j) (back 8 (lit< tt) j) (back 9 (lit< tt) j) (back 10 (lit< tt) j) (back 11 (lit< tt) j) (back 12 (lit< tt) j)
+
+-- ---- and the other way: what is read is written back
+
+-- the elements are bytes
+abbrev pub AllBytes : List ℕ → Type 0
+AllBytes bs = (k : ℕ) → k < length bs → getD bs k 0 < 256
+
+-- w of them are written back as they stand
+part-bytes : (w at : ℕ) (bs : List ℕ) → AllBytes bs → at + w ≤ length bs → AllBytes (part at w bs)
+part-bytes w at bs f h k q =
+    let e : k < w = omega (arith, length-part at w bs h) in
+    subst (λ (x : ℕ). x < 256) (sym (getD-part at w bs k e)) (f (at + k) (omega arith))
+
+number-again : (w at : ℕ) (bs : List ℕ) → AllBytes bs → at + w ≤ length bs → toLe w (leOf (part at w bs)) ≡ part at w bs
+number-again w at bs f h =
+    ap (λ (x : ℕ). toLe x (leOf (part at w bs))) (sym (length-part at w bs h)) ∙ toLe-leOf (part at w bs) (part-bytes w at bs f h)
+
+numbers-again : (w n at : ℕ) (bs : List ℕ) → AllBytes bs → at + w * n ≤ length bs → flat (toLe w) (numbersAt w n at bs) ≡ part at (w * n) bs
+unfolding numbersAt flat below upFrom
+numbers-again w zero at bs f h = sym (ap (λ (x : ℕ). part at x bs) (mul-zero w) ∙ part-zero at bs)
+numbers-again w (suc n) at bs f h =
+    let e : w * suc n ≡ w * n + w = mul-suc w n in
+    let v : ℕ = leOf (part (at + w * n) w bs) in
+    ap (flat (toLe w)) (ap (λ (k : ℕ). numbersAt w k at bs) (sym (add-one n)) ∙ map-below-snoc (λ (k : ℕ). leOf (part (at + w * k) w bs)) n)
+    ∙ flat-snoc (toLe w) (numbersAt w n at bs) v
+    ∙ ap₂ _++_ (numbers-again w n at bs f (omega arith)) (number-again w (at + w * n) bs f (omega arith))
+    ∙ sym (ap (λ (x : ℕ). part at x bs) e ∙ part-add at (w * n) w bs)
+
+-- the sections read one after the other, from index at
+unfoldable readSections : List Section → ℕ → List ℕ → List (List ℕ)
+readSections [] at bs = []
+readSections (s ∷ ss) at bs = numbersAt (s .width) (s .count) at bs ∷ readSections ss (at + sectionLen s) bs
+
+sections-again : (ss : List Section) (at : ℕ) (bs : List ℕ) → AllBytes bs → at + total (map sectionLen ss) ≤ length bs
+    → sectionsBytes ss (readSections ss at bs) ≡ part at (total (map sectionLen ss)) bs
+unfolding readSections flat zipped total sectionBytes sectionLen
+sections-again [] at bs f h = sym (part-zero at bs)
+sections-again (s ∷ ss) at bs f h =
+    ap₂ _++_ (numbers-again (s .width) (s .count) at bs f (omega arith)) (sections-again ss (at + s .width * s .count) bs f (omega arith))
+    ∙ sym (part-add at (s .width * s .count) (total (map sectionLen ss)) bs)
+
+-- what is read has its counts and fits its widths
+sections-counted : (ss : List Section) (at : ℕ) (bs : List ℕ) → SectionCounts ss (readSections ss at bs)
+unfolding readSections
+sections-counted [] at bs = tt
+sections-counted (s ∷ ss) at bs = (length-numbersAt (s .width) (s .count) at bs, sections-counted ss (at + sectionLen s) bs)
+
+numbers-read : (bs : List ℕ) → readSections stateSections 0 bs ≡ stateNumbers (stateOf bs)
+unfolding readSections stateSections sectionLen stateNumbers stateOf numberOf sectionOf sectionAt total numbersAt below upFrom
+numbers-read bs = refl
+
+pub stateOf-counted : (bs : List ℕ) → SectionCounts stateSections (stateNumbers (stateOf bs))
+stateOf-counted bs = subst (SectionCounts stateSections) (numbers-read bs) (sections-counted stateSections 0 bs)
+
+module _ (bs : List ℕ) (long : length bs ≡ stateLen) (bytes : AllBytes bs) where
+  all-read : 0 + total (map sectionLen stateSections) ≤ length bs
+  unfolding stateLen
+  all-read = omega arith
+
+  -- 01, The array: bytes that are read as a state are that state's bytes
+  pub stateBytes-stateOf : stateBytes (stateOf bs) ≡ bs
+  unfolding stateBytes stateLen
+  stateBytes-stateOf =
+      ap (sectionsBytes stateSections) (sym (numbers-read bs)) ∙ sections-again stateSections 0 bs bytes all-read ∙ part-all (total (map sectionLen stateSections)) bs (omega arith)

@@ -9,9 +9,11 @@ use lib.ListN.{length, take}
 use lib.Dec.{leb}
 use native.Mathlib.Nat.{sub-zero, suc-sub-suc, zero-sub}
 use borrow.Author.Tests.{le-leb, lt-leb}
-use Rattle.spec.specs.Calls.{Plan, mkAfter, cutMemory, limited, outcome}
+use Rattle.spec.specs.Calls.{Plan, decided, mkAfter, cutMemory, limited, outcome}
 use Rattle.spec.specs.Calls.Verdict.{refused, due}
 use Rattle.spec.specs.Drives.{Store, storeAll}
+use Rattle.spec.specs.Lists.{Opt}
+use Rattle.spec.specs.Lists.Opt.{none, some}
 use Rattle.spec.specs.Memory.{Memory}
 use Rattle.spec.specs.declared.Answer.{Answer}
 use Rattle.spec.specs.declared.Answer.the-variants.{Cut}
@@ -67,3 +69,12 @@ pub cut-prefix : {D : Type 0} (p : Params) (f : Store → D → D) (n : ℕ) (d 
     → outcome p f n d m b (due q) ≡ mkAfter Cut (storeAll f (take n (q .stores)) d) (cutMemory p m) b
 unfolding outcome limited
 cut-prefix p f n d m b q h = let e : leb (length (q .stores)) n ≡ false = lt-leb (length (q .stores)) n h in rw e
+
+-- where no store is due the count chooses nothing
+pub no-count : {D : Type 0} (p : Params) (f : Store → D → D) (i n : ℕ) (d : D) (m : Memory) (b : List ℕ) (r : Opt Answer) (q : Plan) → q .stores ≡ []
+    → outcome p f i d m b (decided r q) ≡ outcome p f n d m b (decided r q)
+unfolding decided
+no-count p f i n d m b (some a) q e = refused-same p f i d m b a ∙ sym (refused-same p f n d m b a)
+no-count p f i n d m b none q e =
+    let h : length (q .stores) ≡ 0 = ap length e in
+    done-all p f i d m b q (omega arith) ∙ sym (done-all p f n d m b q (omega arith))

@@ -14,7 +14,7 @@ use Rattle.spec.specs.declared.State.{State}
 use Rattle.spec.specs.Answers.{kind, values, isRefused, isRefusedAs}
 use Rattle.spec.specs.Calls.{Check, ninth, ruled, firstRefusal}
 use Rattle.spec.specs.Calls.Check.{rule, zones}
-use Rattle.spec.specs.Closing.{closeChecks}
+use Rattle.spec.specs.Closing.{closeChecks, emptyChecks, reclaimFirst}
 use Rattle.spec.specs.Counts.{lastCount}
 use Rattle.spec.specs.Drives.{View}
 use Rattle.spec.specs.Faults.{pointerFaults, segmentFaults, imageChecks}
@@ -25,7 +25,7 @@ use Rattle.spec.specs.Memory.{Memory, hasFilling, stateOk, stateFaults}
 use Rattle.spec.specs.Params.{between, inRange, placeBlock, placeZone, named}
 use Rattle.spec.specs.Read.{Found, lookup, foundFaults, decodeFaults, readChecks}
 use Rattle.spec.specs.Rebuild.{namesMissing, rebuildChecks}
-use Rattle.spec.specs.Reclaim.{Victim, tableFaults, victim, isNone, victimLive, idle, reclaimChecks}
+use Rattle.spec.specs.Reclaim.{Victim, tableFaults, isNone, victimLive, idle, reclaimChecks}
 use Rattle.spec.specs.Restart.{namesDrive, rewrites, freeSegs, restartChecks}
 use Rattle.spec.specs.Segments.{Segment, greatestSerial}
 use Rattle.spec.specs.Write.{opens, noStamp, noSerial, mustWait, scarce, writeChecks}
@@ -195,7 +195,7 @@ pub record ClosePassed (p : Params) (long : Bool) (v : View) (m : Memory) : Type
   pub lent : long ≡ true
   pub healthy : m .state .missing ≡ 0
   pub filling : hasFilling p (m .state) ≡ true
-  pub none-idle : (scarce p v 1 && not (isNil (idle p v (m .state) (victim p v (m .addresses))))) ≡ false
+  pub none-idle : reclaimFirst p v m ≡ false
   pub state-fine : stateOk p (m .state) ≡ true
   pub table-fine : cond (scarce p v 1) (tableFaults p (m .addresses)) [] ≡ []
 
@@ -205,7 +205,7 @@ module _ (p : Params) (long : Bool) (v : View) (m : Memory) where
   close-passed e =
       let st = m .state in
       let (c1, (c2, (c3, (c5, (c9, c))))) = passes (closeChecks p long v m) e in
-      let five = or-false (not (hasFilling p st)) (scarce p v 1 && not (isNil (idle p v st (victim p v (m .addresses))))) c5 in
+      let five = or-false (not (hasFilling p st)) (reclaimFirst p v m) c5 in
       let nine = nil-both (stateFaults p st) (cond (scarce p v 1) (tableFaults p (m .addresses)) []) c9 in
       record {
         in-range = not-false (inRange p) c1;
@@ -237,6 +237,57 @@ module _ (p : Params) (long : Bool) (v : View) (m : Memory) where
       )
     where
       either : (t : Bool) → tableFaults p (m .addresses) ≡ [] → cond t (tableFaults p (m .addresses)) [] ≡ []
+      either true e = e
+      either false e = refl
+
+-- ---- the write of no bytes
+
+pub record EmptyPassed (p : Params) (long : Bool) (v : View) (m : Memory) (a : ℕ) : Type 0 where
+  pub in-range : inRange p ≡ true
+  pub lent : long ≡ true
+  pub healthy : m .state .missing ≡ 0
+  pub address-low : a < p .L
+  pub state-fine : stateOk p (m .state) ≡ true
+
+module _ (p : Params) (long : Bool) (v : View) (m : Memory) (a : ℕ) where
+  pub empty-passed : firstRefusal (emptyChecks p long v m a) ≡ none → EmptyPassed p long v m a
+  unfolding emptyChecks
+  empty-passed e =
+      let st = m .state in
+      let few = hasFilling p st && scarce p v 1 in
+      let (c1, (c2, (c3, (c4, (c5, (c9, c)))))) = passes (emptyChecks p long v m a) e in
+      record {
+        in-range = not-false (inRange p) c1;
+        lent = not-false long c2;
+        healthy = none-missing (st .missing) c3;
+        address-low = leb-false (p .L) a c4;
+        state-fine = state-free p st (nil-both (stateFaults p st) (cond few (tableFaults p (m .addresses)) []) c9 .0);
+      }
+
+  pub empty-mild : stateOk p (m .state) ≡ true → (m .state .missing ≡ 0 → tableFaults p (m .addresses) ≡ []) → Mild (emptyChecks p long v m a)
+  unfolding emptyChecks
+  empty-mild ok fine =
+      let st = m .state in
+      let few = hasFilling p st && scarce p v 1 in
+      clear (emptyChecks p long v m a) (
+        refl,
+        λ c1. (
+          refl,
+          λ c2. (
+            refl,
+            λ c3. (
+              refl,
+              λ c4. (
+                refl,
+                λ c5.
+                    (nil-all (stateFaults p st) (cond few (tableFaults p (m .addresses)) []) (state-clear p st ok) (either few (fine (none-missing (st .missing) c3))), tt),
+              ),
+            ),
+          ),
+        ),
+      )
+    where
+      either : (b : Bool) → tableFaults p (m .addresses) ≡ [] → cond b (tableFaults p (m .addresses)) [] ≡ []
       either true e = e
       either false e = refl
 

@@ -7,18 +7,18 @@ use lib.Dec.{eqb}
 use lib.ListN.{length, drop}
 use Rattle.spec.specs.declared.Params.{Params}
 use Rattle.spec.specs.declared.Answer.{Answer}
-use Rattle.spec.specs.declared.Answer.the-variants.{Refused, Filled, Rebuilt}
+use Rattle.spec.specs.declared.Answer.the-variants.{Refused, Filled, Rebuilt, Nothing}
 use Rattle.spec.specs.Answers.{kind, isRefused}
 use Rattle.spec.specs.Calls.{Check, firstRefusal, Plan, mkPlan, mkAfter}
 use Rattle.spec.specs.Calls.Check.{rule, zones}
-use Rattle.spec.specs.Closing.{closeChecks, closePlan, closeVerdict}
+use Rattle.spec.specs.Closing.{closeChecks, closePlan, closeVerdict, emptyChecks, emptyPlan, emptyVerdict}
 use Rattle.spec.specs.Drives.{View, Disk, storeDisk}
 use Rattle.spec.specs.Engine.Call.{write, land, close, reclaim, read, fill, restart, rebuild}
 use Rattle.spec.specs.Engine.{storeCount, lentBlock, verdict, lentOk, callOn, callDisk}
 use Rattle.spec.specs.Landing.{landChecks, landPlan, landVerdict}
 use Rattle.spec.specs.Lists.{Opt, isNil, firstOr}
 use Rattle.spec.specs.Lists.Opt.{some}
-use Rattle.spec.specs.Memory.{Memory, stateFaults}
+use Rattle.spec.specs.Memory.{Memory, hasFilling, stateFaults}
 use Rattle.spec.specs.Params.{inRange, named}
 use Rattle.spec.specs.Read.{Found, lookup, foundFaults, decodeFaults, readPiece, readAnswer, readChecks, readVerdict, fillVerdict}
 use Rattle.spec.specs.Read.Found.{nowhere, here, away}
@@ -55,9 +55,9 @@ read-answer p nowhere = refl
 read-answer p (here q) = refl
 read-answer p (away q) = refl
 
-reclaim-answer : (t : Bool) (a b : Plan) → isRefused (a .answer) ≡ false → isRefused (b .answer) ≡ false → isRefused (cond t a b .answer) ≡ false
-reclaim-answer true a b f g = f
-reclaim-answer false a b f g = g
+either-answer : (t : Bool) (a b : Plan) → isRefused (a .answer) ≡ false → isRefused (b .answer) ≡ false → isRefused (cond t a b .answer) ≡ false
+either-answer true a b f g = f
+either-answer false a b f g = g
 
 module _ (p : Params) (k : Disk) (m : Memory) where
   abbrev v : View
@@ -66,15 +66,21 @@ module _ (p : Params) (k : Disk) (m : Memory) where
   -- ---- write
 
   pub write-short : (a : ℕ) (b : List ℕ) (n : ℕ) → callOn p false k m (write a b n) ≡ mkAfter (shortAnswer (inRange p)) k m b
-  unfolding callOn storeCount lentBlock verdict writeVerdict writeChecks
-  write-short a b n =
-      call-refused p (storeDisk p) n k m b (firstRefusal (writeChecks p false v m a b)) (writePlan p v m a b) (shortAnswer (inRange p))
-      (short-rules (inRange p) (drop 2 (writeChecks p false v m a b)))
+  unfolding callOn storeCount lentBlock verdict writeVerdict writeChecks emptyVerdict emptyChecks
+  write-short a [] n =
+      call-refused p (storeDisk p) n k m [] (firstRefusal (emptyChecks p false v m a)) (emptyPlan p m) (shortAnswer (inRange p))
+      (short-rules (inRange p) (drop 2 (emptyChecks p false v m a)))
+  write-short a (x ∷ b) n =
+      call-refused p (storeDisk p) n k m (x ∷ b) (firstRefusal (writeChecks p false v m a (x ∷ b))) (writePlan p v m a (x ∷ b)) (shortAnswer (inRange p))
+      (short-rules (inRange p) (drop 2 (writeChecks p false v m a (x ∷ b))))
 
   pub write-keeps : (a : ℕ) (b : List ℕ) (n : ℕ) → isRefused (callDisk p k m (write a b n) .answer) ≡ true
       → callDisk p k m (write a b n) ≡ mkAfter (callDisk p k m (write a b n) .answer) k m b
-  unfolding callDisk callOn storeCount lentBlock verdict writeVerdict writePlan isRefused kind
-  write-keeps a b n = refused-keeps p (storeDisk p) n k m b (firstRefusal (writeChecks p (lentOk p k m) v m a b)) (writePlan p v m a b) refl
+  unfolding callDisk callOn storeCount lentBlock verdict writeVerdict writePlan emptyVerdict emptyPlan closePlan isRefused kind
+  write-keeps a [] n =
+      refused-keeps p (storeDisk p) n k m [] (firstRefusal (emptyChecks p (lentOk p k m) v m a)) (emptyPlan p m)
+      (either-answer (hasFilling p (m .state)) (closePlan p m) (mkPlan [] Nothing m []) refl refl)
+  write-keeps a (x ∷ b) n = refused-keeps p (storeDisk p) n k m (x ∷ b) (firstRefusal (writeChecks p (lentOk p k m) v m a (x ∷ b))) (writePlan p v m a (x ∷ b)) refl
 
   -- ---- landing
 
@@ -116,7 +122,7 @@ module _ (p : Params) (k : Disk) (m : Memory) where
 
   due-answer : isRefused (duePlan .answer) ≡ false
   unfolding resetPlan copyPlan isRefused kind
-  due-answer = reclaim-answer (isNil (victimLive w)) (resetPlan p m (victimSegment w)) (copyPlan p v m (firstOr 0 (idle p v (m .state) w))) refl refl
+  due-answer = either-answer (isNil (victimLive w)) (resetPlan p m (victimSegment w)) (copyPlan p v m (firstOr 0 (idle p v (m .state) w))) refl refl
 
   pub reclaim-keeps : (n : ℕ) → isRefused (callDisk p k m (reclaim n) .answer) ≡ true → callDisk p k m (reclaim n) ≡ mkAfter (callDisk p k m (reclaim n) .answer) k m []
   unfolding callDisk callOn storeCount lentBlock verdict reclaimVerdict

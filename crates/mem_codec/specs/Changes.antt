@@ -12,8 +12,8 @@ use Rattle.spec.specs.Bytes.{toLe, splice}
 use Rattle.spec.specs.Lists.{flat, total, zipped}
 use Rattle.spec.specs.Memory.{mkState, slotCount, cell, idleState, zeroState, sectionLen, stateSections, stateLen, stateNumbers, sectionBytes, stateBytes, stateOf}
 use Rattle.spec.specs.declared.State.{State}
-use Rattle.law_basic.specs.Sections.{SectionCounts, sectionsBytes}
-use Rattle.mem_codec.specs.Codec.{stateOf-counted, stateBytes-stateOf, AllBytes, byte-written}
+use Rattle.law_basic.specs.Sections.{SectionCounts, sectionsBytes, stateOf-counted, stateBytes-stateOf, AllBytes}
+use Rattle.mem_codec.specs.Codec.{byte-written}
 use Rattle.mem_codec.specs.Edits.{Edit, edit, EditsFit, made, madeAll, writtenAll, edits-bytes, edits-counted}
 use Rattle.mem_rows.specs.Rows.{RowsSized, RowSized, one-set, putRow, putFront, changed, changed-row}
 use Rattle.mem_rows.specs.declared.Change.{Change}

@@ -1,10 +1,10 @@
 -- The state as bytes: sections of little-endian numbers read and written, over width and count; what is written is read back (01, The array). Assumes nothing.
-use mathlib.Core.Path.{_≡_, refl, sym, ap, ap₂, _∙_, subst}
+use mathlib.Core.Path.{_≡_, refl, sym, ap, ap₂, _∙_}
 use mathlib.Core.List.{map, List, [], _∷_, _++_, append-nil}
-use Prim.Native.Nat.{ℕ, zero, suc, _+_, _*_, _≤_, _<_}
+use Prim.Native.Nat.{ℕ, suc, _+_, _*_, _≤_, _<_}
 use native.Mathlib.Omega.{arith}
 use native.Mathlib.Numerals.{add-one}
-use native.Mathlib.Nat.{add-zero, mul-comm, mul-zero, mul-suc, mod-eq-of-lt}
+use native.Mathlib.Nat.{add-zero, mul-comm, mod-eq-of-lt}
 use lib.Dec.{lit<}
 use lib.ListN.{length, getD, take, drop, set, length-set, drop-of-length-le}
 use lib.Seq.{set-at, append-snoc, drop-cons, length-take-le, take-all}
@@ -12,10 +12,9 @@ use Rattle.spec.specs.Bytes.{leOf, toLe, part, splice}
 use Rattle.spec.specs.Lists.{upFrom, below, flat, total, zipped}
 use Rattle.spec.specs.Memory.{Section, section, stateSections, sectionLen, sectionAt, stateLen, numbersAt, sectionOf, numberOf, stateNumbers, sectionBytes, stateBytes, stateOf, mkState}
 use Rattle.spec.specs.declared.State.{State}
-use Rattle.law_basic.specs.Le.{toLe-leOf}
 use Rattle.law_basic.specs.Ranges.{map-below-snoc, getD-map-below, flat-snoc, length-flat}
 use Rattle.law_basic.specs.Sections.{length-numbersAt, SectionCounts, sectionsBytes, length-section, length-sections}
-use Rattle.law_basic.specs.Splice.{length-part, getD-part, part-zero, part-add, length-splice, part-all, splice-nil, splice-next, splice-all, wrote-one}
+use Rattle.law_basic.specs.Splice.{length-splice, splice-nil, splice-next, splice-all, wrote-one}
 use Rattle.law_basic.specs.Turns.{take-more}
 
 -- ---- a section read: the first i numbers, then what the array held
@@ -149,67 +148,3 @@ unfolding stateBytes stateLen
 state-written l st h g =
     let n : length (sectionsBytes stateSections (stateNumbers st)) ≡ length l = length-sections stateSections (stateNumbers st) g ∙ sym h in
     sections-written l 0 stateSections (stateNumbers st) g (omega arith) ∙ splice-all l (sectionsBytes stateSections (stateNumbers st)) n
-
--- ---- and the other way: what is read is written back
-
--- the elements are bytes
-abbrev pub AllBytes : List ℕ → Type 0
-AllBytes bs = (k : ℕ) → k < length bs → getD bs k 0 < 256
-
--- w of them are written back as they stand
-part-bytes : (w at : ℕ) (bs : List ℕ) → AllBytes bs → at + w ≤ length bs → AllBytes (part at w bs)
-part-bytes w at bs f h k q =
-    let e : k < w = omega (arith, length-part at w bs h) in
-    subst (λ (x : ℕ). x < 256) (sym (getD-part at w bs k e)) (f (at + k) (omega arith))
-
-number-again : (w at : ℕ) (bs : List ℕ) → AllBytes bs → at + w ≤ length bs → toLe w (leOf (part at w bs)) ≡ part at w bs
-number-again w at bs f h =
-    ap (λ (x : ℕ). toLe x (leOf (part at w bs))) (sym (length-part at w bs h)) ∙ toLe-leOf (part at w bs) (part-bytes w at bs f h)
-
-numbers-again : (w n at : ℕ) (bs : List ℕ) → AllBytes bs → at + w * n ≤ length bs → flat (toLe w) (numbersAt w n at bs) ≡ part at (w * n) bs
-unfolding numbersAt flat below upFrom
-numbers-again w zero at bs f h = sym (ap (λ (x : ℕ). part at x bs) (mul-zero w) ∙ part-zero at bs)
-numbers-again w (suc n) at bs f h =
-    let e : w * suc n ≡ w * n + w = mul-suc w n in
-    let v : ℕ = leOf (part (at + w * n) w bs) in
-    ap (flat (toLe w)) (ap (λ (k : ℕ). numbersAt w k at bs) (sym (add-one n)) ∙ map-below-snoc (λ (k : ℕ). leOf (part (at + w * k) w bs)) n)
-    ∙ flat-snoc (toLe w) (numbersAt w n at bs) v
-    ∙ ap₂ _++_ (numbers-again w n at bs f (omega arith)) (number-again w (at + w * n) bs f (omega arith))
-    ∙ sym (ap (λ (x : ℕ). part at x bs) e ∙ part-add at (w * n) w bs)
-
--- the sections read one after the other, from index at
-unfoldable readSections : List Section → ℕ → List ℕ → List (List ℕ)
-readSections [] at bs = []
-readSections (s ∷ ss) at bs = numbersAt (s .width) (s .count) at bs ∷ readSections ss (at + sectionLen s) bs
-
-sections-again : (ss : List Section) (at : ℕ) (bs : List ℕ) → AllBytes bs → at + total (map sectionLen ss) ≤ length bs
-    → sectionsBytes ss (readSections ss at bs) ≡ part at (total (map sectionLen ss)) bs
-unfolding readSections flat zipped total sectionBytes sectionLen
-sections-again [] at bs f h = sym (part-zero at bs)
-sections-again (s ∷ ss) at bs f h =
-    ap₂ _++_ (numbers-again (s .width) (s .count) at bs f (omega arith)) (sections-again ss (at + s .width * s .count) bs f (omega arith))
-    ∙ sym (part-add at (s .width * s .count) (total (map sectionLen ss)) bs)
-
--- what is read has its counts and fits its widths
-sections-counted : (ss : List Section) (at : ℕ) (bs : List ℕ) → SectionCounts ss (readSections ss at bs)
-unfolding readSections
-sections-counted [] at bs = tt
-sections-counted (s ∷ ss) at bs = (length-numbersAt (s .width) (s .count) at bs, sections-counted ss (at + sectionLen s) bs)
-
-numbers-read : (bs : List ℕ) → readSections stateSections 0 bs ≡ stateNumbers (stateOf bs)
-unfolding readSections stateSections sectionLen stateNumbers stateOf numberOf sectionOf sectionAt total numbersAt below upFrom
-numbers-read bs = refl
-
-pub stateOf-counted : (bs : List ℕ) → SectionCounts stateSections (stateNumbers (stateOf bs))
-stateOf-counted bs = subst (SectionCounts stateSections) (numbers-read bs) (sections-counted stateSections 0 bs)
-
-module _ (bs : List ℕ) (long : length bs ≡ stateLen) (bytes : AllBytes bs) where
-  all-read : 0 + total (map sectionLen stateSections) ≤ length bs
-  unfolding stateLen
-  all-read = omega arith
-
-  -- 01, The array: bytes that are read as a state are that state's bytes
-  pub stateBytes-stateOf : stateBytes (stateOf bs) ≡ bs
-  unfolding stateBytes stateLen
-  stateBytes-stateOf =
-      ap (sectionsBytes stateSections) (sym (numbers-read bs)) ∙ sections-again stateSections 0 bs bytes all-read ∙ part-all (total (map sectionLen stateSections)) bs (omega arith)

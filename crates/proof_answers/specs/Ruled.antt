@@ -1,6 +1,6 @@
 -- The NVMe zone rules: the stores that a call's verdict makes due have room, whatever the bytes; a cut call makes the first of them. Assumes nothing.
 use mathlib.Core.Path.{_≡_, refl, sym, ap, _∙_, subst}
-use mathlib.Core.List.{List, []}
+use mathlib.Core.List.{List, [], _∷_}
 use mathlib.Core.Bool.{Bool, true, false, cond, _&&_}
 use mathlib.Core.Logic.{_⊎_, inl, inr}
 use Prim.Native.Nat.{ℕ, suc, _-_, _≤_, _<_}
@@ -202,7 +202,8 @@ module _ (p : Params) (l : Lent) (c : Call) where
 
 pub due-obeys : (p : Params) (l : Lent) (c : Call) → ObeyAll p (lentDisk l) (dueOf (decidedBy p l c))
 unfolding verdict
-due-obeys p l (write a b n) = write-obeys p l (write a b n) a b
+due-obeys p l (write a [] n) = still-obeys p l (write a [] n) (unfold canStore in refl)
+due-obeys p l (write a (x ∷ b) n) = write-obeys p l (write a (x ∷ b) n) a (x ∷ b)
 due-obeys p l (land d s n) = land-obeys p l (land d s n) d s
 due-obeys p l (close n) = still-obeys p l (close n) (unfold canStore in refl)
 due-obeys p l (reclaim n) = reclaim-obeys p l (reclaim n)

@@ -1,5 +1,5 @@
 -- What each call's verdict says: a refusal of the call's numbers, or a plan with the call's result; the store count is no part of it. Assumes nothing.
-use mathlib.Core.Path.{_≡_, refl, sym, ap, _∙_, subst}
+use mathlib.Core.Path.{_≡_, refl, subst}
 use mathlib.Core.List.{List, [], _∷_, _++_}
 use mathlib.Core.Bool.{Bool, true, false, cond, _&&_}
 use mathlib.Core.Logic.{_⊎_, inl, inr}
@@ -10,20 +10,20 @@ use lib.Dec.{leb, eqb}
 use lib.ListN.{length}
 use Rattle.spec.specs.declared.Params.{Params}
 use Rattle.spec.specs.declared.Answer.{Answer}
-use Rattle.spec.specs.declared.Answer.the-variants.{Refused, BadZone, Filled, Rebuilt}
+use Rattle.spec.specs.declared.Answer.the-variants.{Refused, BadZone, Filled, Rebuilt, Nothing}
 use Rattle.spec.specs.Answers.{kind, values, isRefused, isCut}
 use Rattle.spec.specs.Calls.{Check, ninth, ruled, firstRefusal, Plan, mkPlan, Verdict, decided, outcome}
 use Rattle.spec.specs.Calls.Check.{rule, zones}
 use Rattle.spec.specs.Calls.Verdict.{refused, due}
-use Rattle.spec.specs.Closing.{closeChecks, closePlan, closeVerdict}
+use Rattle.spec.specs.Closing.{closeChecks, closePlan, closeVerdict, emptyChecks, emptyPlan, emptyVerdict}
 use Rattle.spec.specs.Drives.{View, Disk, storeDisk, Seg}
 use Rattle.spec.specs.Engine.{Call, storeCount, lentBlock, verdict, callOn}
 use Rattle.spec.specs.Engine.Call.{write, land, close, reclaim, read, fill, restart, rebuild}
 use Rattle.spec.specs.Faults.{imageChecks}
 use Rattle.spec.specs.Landing.{landChecks, landPlan, landVerdict}
-use Rattle.spec.specs.Lists.{Opt, all, any, isMember, isNil, firstOr, least}
-use Rattle.spec.specs.Lists.Opt.{none, some}
-use Rattle.spec.specs.Memory.{Memory, stateFaults}
+use Rattle.spec.specs.Lists.{all, any, isMember, isNil, firstOr, least}
+use Rattle.spec.specs.Lists.Opt.{some}
+use Rattle.spec.specs.Memory.{Memory, hasFilling, stateFaults}
 use Rattle.spec.specs.Params.{named}
 use Rattle.spec.specs.Read.{Found, lookup, foundFaults, decodeFaults, readPiece, readAnswer, readChecks, readVerdict, fillVerdict}
 use Rattle.spec.specs.Read.Found.{nowhere, here, away}
@@ -33,7 +33,7 @@ use Rattle.spec.specs.Restart.{restartChecks, restartPlan, restartVerdict}
 use Rattle.spec.specs.Segments.{segments}
 use Rattle.spec.specs.Write.{writeChecks, writePlan, writeVerdict}
 use Rattle.law_basic.specs.Ranges.{and-left, and-right, member-all}
-use Rattle.law_basic.specs.Stores.{refused-same, done-all}
+use Rattle.law_basic.specs.Stores.{no-count}
 use Rattle.spec_demands.specs.Answering.{refusalsOf, resultsOf, canStore, refusalNumber, withCount}
 use Rattle.law_checks.specs.Checks.{Decided, decide}
 use Rattle.law_checks.specs.Checks.Decided.{stops, goes}
@@ -77,9 +77,21 @@ says-decided c cs q h k s = go (decide cs q)
     go (goes i w) = says-yes q w k s
 
 module _ (p : Params) (long : Bool) (v : View) (m : Memory) where
-  write-says : (a : ℕ) (b : List ℕ) (n : ℕ) → VerdictSays (write a b n) (writeVerdict p long v m a b)
+  none-says : (a n : ℕ) → VerdictSays (write a [] n) (emptyVerdict p long v m a)
+  unfolding emptyVerdict emptyChecks emptyPlan numbersOf all any isMember refusalsOf resultsOf canStore
+  none-says a n = says-decided (write a [] n) (emptyChecks p long v m a) (emptyPlan p m) refl (answers (hasFilling p (m .state))) (inr (stores (hasFilling p (m .state))))
+    where
+      answers : (t : Bool) → isMember (kind (cond t (closePlan p m) (mkPlan [] Nothing m []) .answer)) (resultsOf (write a [] n)) ≡ true
+      answers true = unfold closePlan kind resultsOf isMember any in refl
+      answers false = unfold kind resultsOf isMember any in refl
+
+      stores : (t : Bool) → cond t (closePlan p m) (mkPlan [] Nothing m []) .stores ≡ []
+      stores true = unfold closePlan in refl
+      stores false = refl
+
+  write-says : (a x : ℕ) (b : List ℕ) (n : ℕ) → VerdictSays (write a (x ∷ b) n) (writeVerdict p long v m a (x ∷ b))
   unfolding writeVerdict writeChecks writePlan numbersOf all any isMember refusalsOf resultsOf canStore kind
-  write-says a b n = says-decided (write a b n) (writeChecks p long v m a b) (writePlan p v m a b) refl refl (inl refl)
+  write-says a x b n = says-decided (write a (x ∷ b) n) (writeChecks p long v m a (x ∷ b)) (writePlan p v m a (x ∷ b)) refl refl (inl refl)
 
   land-says : (d s n : ℕ) → VerdictSays (land d s n) (landVerdict p long v m d s)
   unfolding landVerdict landChecks landPlan numbersOf all any isMember refusalsOf resultsOf canStore kind
@@ -138,7 +150,8 @@ module _ (p : Params) (long : Bool) (v : View) (m : Memory) where
 
   pub verdict-says : (c : Call) → VerdictSays c (verdict p long v m c)
   unfolding verdict
-  verdict-says (write a b n) = write-says a b n
+  verdict-says (write a [] n) = none-says a n
+  verdict-says (write a (x ∷ b) n) = write-says a x b n
   verdict-says (land d s n) = land-says d s n
   verdict-says (close n) = close-says n
   verdict-says (reclaim n) = reclaim-says n
@@ -149,18 +162,11 @@ module _ (p : Params) (long : Bool) (v : View) (m : Memory) where
 
 -- ---- the store count chooses only how many stores are made
 
-no-count : (p : Params) (n : ℕ) (k : Disk) (m : Memory) (b : List ℕ) (r : Opt Answer) (q : Plan) → q .stores ≡ []
-    → outcome p (storeDisk p) 0 k m b (decided r q) ≡ outcome p (storeDisk p) n k m b (decided r q)
-unfolding decided
-no-count p n k m b (some a) q e = refused-same p (storeDisk p) 0 k m b a ∙ sym (refused-same p (storeDisk p) n k m b a)
-no-count p n k m b none q e =
-    let h : length (q .stores) ≡ 0 = ap length e in
-    done-all p (storeDisk p) 0 k m b q (omega arith) ∙ sym (done-all p (storeDisk p) n k m b q (omega arith))
-
 pub counted-on : (p : Params) (long : Bool) (k : Disk) (m : Memory) (c : Call) (n : ℕ)
     → callOn p long k m (withCount n c) ≡ outcome p (storeDisk p) n k m (lentBlock c) (verdict p long (seen p k) m c)
 unfolding callOn storeCount lentBlock verdict withCount
-counted-on p long k m (write a b i) n = refl
+counted-on p long k m (write a [] i) n = refl
+counted-on p long k m (write a (x ∷ b) i) n = refl
 counted-on p long k m (land d s i) n = refl
 counted-on p long k m (close i) n = refl
 counted-on p long k m (reclaim i) n = refl
@@ -170,7 +176,7 @@ counted-on p long k m (read a) n = plain
     plain =
         let gone = m .state .missing in
         let f = lookup p gone (m .addresses) a in
-        unfold readVerdict in no-count p n k m [] (firstRefusal (readChecks p long a ++ (zones (stateFaults p (m .state) ++ foundFaults p (seen p k) gone f) ∷ [])))
+        unfold readVerdict in no-count p (storeDisk p) 0 n k m [] (firstRefusal (readChecks p long a ++ (zones (stateFaults p (m .state) ++ foundFaults p (seen p k) gone f) ∷ [])))
         (mkPlan [] (readAnswer p f) m []) refl
 counted-on p long k m (fill a b) n = plain
   where
@@ -179,7 +185,7 @@ counted-on p long k m (fill a b) n = plain
         let v = seen p k in
         let gone = m .state .missing in
         let f = lookup p gone (m .addresses) a in
-        unfold fillVerdict in no-count p n k m b
+        unfold fillVerdict in no-count p (storeDisk p) 0 n k m b
         (firstRefusal (readChecks p (long && eqb (length b) (p .B)) a ++ (zones (stateFaults p (m .state) ++ foundFaults p v gone f) ∷ zones (decodeFaults p v gone (m .compact) f) ∷ [])))
         (mkPlan [] Filled m (readPiece p v gone (m .compact) f .block)) refl
 counted-on p long k m (restart d i) n = refl
@@ -202,7 +208,8 @@ own-count (rebuild d n) = refl
 -- 01, The calls: a call's own result is neither a refusal nor a cut
 results-high : (c : Call) → all (λ n. leb 3 n) (resultsOf c) ≡ true
 unfolding resultsOf all
-results-high (write a b n) = refl
+results-high (write a [] n) = refl
+results-high (write a (x ∷ b) n) = refl
 results-high (land d s n) = refl
 results-high (close n) = refl
 results-high (reclaim n) = refl

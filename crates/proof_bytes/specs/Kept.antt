@@ -1,7 +1,7 @@
 -- Every call, on any lent bytes: the state that it leaves fits, all that it leaves is bytes, and on bytes it does what it does on the decoded state. Assumes nothing.
 use mathlib.Core.Path.{_≡_, refl, sym, ap, _∙_, subst}
-use mathlib.Core.List.{List, []}
-use mathlib.Core.Bool.{Bool, true, false, _&&_}
+use mathlib.Core.List.{List, [], _∷_}
+use mathlib.Core.Bool.{Bool, true, false, _&&_, cond}
 use Prim.Native.Nat.{ℕ}
 use lib.Dec.{leb, eqb}
 use lib.ListN.{length, take}
@@ -9,15 +9,15 @@ use Rattle.spec.specs.Lists.Opt.{none}
 use Rattle.spec.specs.declared.Params.{Params}
 use Rattle.spec.specs.declared.State.{State}
 use Rattle.spec.specs.declared.Answer.{Answer}
-use Rattle.spec.specs.declared.Answer.the-variants.{Cut}
+use Rattle.spec.specs.declared.Answer.the-variants.{Cut, Nothing}
 use Rattle.spec.specs.Answers.{isRefused, finished}
-use Rattle.spec.specs.Calls.{firstRefusal, Verdict, decided, After, mkAfter, cutMemory, limited, outcome}
+use Rattle.spec.specs.Calls.{firstRefusal, Verdict, decided, After, mkAfter, cutMemory, limited, outcome, mkPlan}
 use Rattle.spec.specs.Calls.Verdict.{due}
 use Rattle.spec.specs.Drives.{View, Store, Disk, storeDisk, storeAll}
 use Rattle.spec.specs.Engine.{Call, storeCount, lentBlock, lentOk, callOn, callDisk, Lent, Left, lentDisk, lentMemory, lentAll, leftBy, callBytes}
 use Rattle.spec.specs.Engine.Call.{write, land, close, reclaim, read, fill, restart, rebuild}
 use Rattle.spec.specs.Lists.{firstOr}
-use Rattle.spec.specs.Memory.{Memory, mkMemory, stateLen}
+use Rattle.spec.specs.Memory.{Memory, mkMemory, stateLen, hasFilling}
 use Rattle.spec.specs.Params.{named}
 use Rattle.spec.specs.Read.{lookup}
 use Rattle.spec.specs.Reclaim.{victim, idle}
@@ -42,6 +42,8 @@ use Rattle.proof_bytes.specs.Reads.{LowReads, grounded-reads}
 use Rattle.proof_bytes.specs.Fitted.{write-fits, land-fits, close-fits, reclaim-fits, restart-fits}
 use Rattle.proof_bytes.specs.Images.{ViewBytes, StoresBytes, view-bytes, view-grounded, stores-view, stores-disk}
 use Rattle.proof_bytes.specs.Stored.{PlanBytes, write-bytes, land-bytes, close-bytes, reclaim-bytes, read-bytes, found-bytes, restarts-bytes, rebuilds-bytes}
+use Rattle.spec.specs.Closing.{closePlan, emptyPlan}
+use Rattle.law_checks.specs.Empty.{empty-asks}
 
 -- ---- how a call ends
 
@@ -95,8 +97,13 @@ RestartFits p long v m (rebuild d n) = Unit {0}
 
 plan-fits : (p : Params) (long : Bool) (v : View) (m : Memory) (c : Call) → StateFits (m .state) → LowReads p v → RestartFits p long v m c
     → firstRefusal (decides p long v m c .checks) ≡ none → StateFits (decides p long v m c .plan .memory .state)
-unfolding decides
-plan-fits p long v m (write a b n) f r h q = write-fits p long v m f a b q
+unfolding decides emptyPlan
+plan-fits p long v m (write a [] n) f r h q = go (hasFilling p (m .state)) refl
+  where
+    go : (t : Bool) → hasFilling p (m .state) ≡ t → StateFits (cond t (closePlan p m) (mkPlan [] Nothing m []) .memory .state)
+    go true e = close-fits p long v m f (empty-asks p long v m a e q)
+    go false e = f
+plan-fits p long v m (write a (x ∷ b) n) f r h q = write-fits p long v m f a (x ∷ b) q
 plan-fits p long v m (land d s n) f r h q = land-fits p long v m f d s q
 plan-fits p long v m (close n) f r h q = close-fits p long v m f q
 plan-fits p long v m (reclaim n) f r h q = reclaim-fits p long v m f r (victim p v (m .addresses)) (firstOr 0 (idle p v (m .state) (victim p v (m .addresses)))) q
@@ -132,8 +139,13 @@ finished-fits p long k m d n h t = go (ends p long k m (restart d n))
 -- ---- all that a call leaves is bytes
 
 plan-bytes : (p : Params) (long : Bool) (v : View) (m : Memory) (c : Call) → ViewBytes v → Bytes (m .inflight) → Bytes (lentBlock c) → PlanBytes (decides p long v m c .plan)
-unfolding decides lentBlock
-plan-bytes p long v m (write a b n) h g k = write-bytes p v m h g a b k
+unfolding decides lentBlock emptyPlan
+plan-bytes p long v m (write a [] n) h g k = go (hasFilling p (m .state))
+  where
+    go : (t : Bool) → PlanBytes (cond t (closePlan p m) (mkPlan [] Nothing m []))
+    go true = close-bytes p v m h g
+    go false = read-bytes p v m h g _ [] k
+plan-bytes p long v m (write a (x ∷ b) n) h g k = write-bytes p v m h g a (x ∷ b) k
 plan-bytes p long v m (land d s n) h g k = land-bytes p v m h g d s
 plan-bytes p long v m (close n) h g k = close-bytes p v m h g
 plan-bytes p long v m (reclaim n) h g k = reclaim-bytes p v m h g (victim p v (m .addresses)) (firstOr 0 (idle p v (m .state) (victim p v (m .addresses))))

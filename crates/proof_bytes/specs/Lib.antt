@@ -8,3 +8,4 @@ pub mod Kept
 pub mod Runs
 pub mod Two
 pub mod Three
+pub mod Emptied

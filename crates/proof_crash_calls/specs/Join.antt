@@ -10,12 +10,12 @@ use lib.Dec.{leb, ltb, eqb}
 use lib.ListN.{length, getD, take}
 use Rattle.spec.specs.declared.Params.{Params}
 use Rattle.spec.specs.declared.Answer.{Answer}
-use Rattle.spec.specs.declared.Answer.the-variants.{Cut, Filled, Rebuilt}
+use Rattle.spec.specs.declared.Answer.the-variants.{Cut, Filled, Rebuilt, Nothing}
 use Rattle.spec.specs.Answers.{kind, values, isRefused, isCut, finished}
 use Rattle.spec.specs.Calls.{Check, firstRefusal, Plan, mkPlan, decided, After, mkAfter, cutMemory, limited, outcome}
 use Rattle.spec.specs.Calls.Check.{zones}
 use Rattle.spec.specs.Calls.Verdict.{due}
-use Rattle.spec.specs.Closing.{closeChecks, closePlan, closeVerdict}
+use Rattle.spec.specs.Closing.{closeChecks, closePlan, closeVerdict, emptyChecks, emptyPlan, emptyVerdict}
 use Rattle.spec.specs.Drives.{View, Disk, storeDisk, storeAll}
 use Rattle.spec.specs.Engine.{Call, storeCount, lentBlock, verdict, lentOk, callOn, callDisk}
 use Rattle.spec.specs.Engine.Call.{write, land, close, reclaim, read, fill, restart, rebuild}
@@ -23,7 +23,7 @@ use Rattle.spec.specs.History.{restartOf, Send, mkSend, acknowledge, forget, se
 use Rattle.spec.specs.Landing.{slotOf, completes, landChecks, writesIn, landPlan, landVerdict}
 use Rattle.spec.specs.Lists.{Opt, consIf, isNil, firstOr}
 use Rattle.spec.specs.Lists.Opt.{none, some}
-use Rattle.spec.specs.Memory.{Memory, zeroState, stateFaults}
+use Rattle.spec.specs.Memory.{Memory, zeroState, stateFaults, hasFilling}
 use Rattle.spec.specs.Params.{imageLen, pointersLen, addressesLen, compactLen, inflightLen, named}
 use Rattle.spec.specs.Read.{Found, lookup, foundFaults, decodeFaults, readPiece, readAnswer, readChecks, readVerdict, fillVerdict}
 use Rattle.spec.specs.Read.Found.{nowhere, here, away}
@@ -36,8 +36,9 @@ use Rattle.law_basic.specs.Geometry.{Ranged}
 use Rattle.law_basic.specs.Ranges.{and-left, and-right}
 use Rattle.law_views.specs.Views.{Whole, seen}
 use Rattle.law_calls.specs.Refusals.{refusal-kind, refused-unfinished}
+use Rattle.law_checks.specs.Empty.{empty-asks}
 use Rattle.law_drives.specs.Tests.{cond-false}
-use Rattle.law_checks.specs.Passed.{write-passed, land-passed, close-passed, reclaim-passed, rebuild-passed}
+use Rattle.law_checks.specs.Passed.{write-passed, land-passed, close-passed, reclaim-passed, rebuild-passed, empty-passed}
 use Rattle.proof_crash_machine.specs.Facts.{Ghost}
 use Rattle.proof_crash_items.specs.Member.{or-both-false}
 use Rattle.proof_crash_items.specs.Named.{named-not-zero}
@@ -198,11 +199,16 @@ module _ (p : Params) (h : Ranged p) (k : Disk) (m : Memory) (ss : List Send) (n
   abbrev Goal : Call → Type 0
   Goal c = Next p h (x .live .g) n (callDisk p k m c) (sentAfter c (callDisk p k m c .answer) ss)
 
-  write-next : (a : ℕ) (b : List ℕ) (count : ℕ) → Goal (write a b count)
+  write-next : (a y : ℕ) (more : List ℕ) (count : ℕ) → Goal (write a (y ∷ more) count)
   unfolding callDisk callOn storeCount lentBlock verdict writeVerdict
-  write-next a b count = decided-next (write a b count) count b (writeChecks p long v m a b) (writePlan p v m a b) (ss ++ (mkSend a b (sentStripe p v (m .state)) true false ∷ []))
-      (λ e. write-ok p h v m ss n (x .live) (lent-inflight (fits e)) a b (write-asked p long v m a b e)) uncut open? sent
+  write-next a y more count =
+      decided-next (write a (y ∷ more) count) count (y ∷ more) (writeChecks p long v m a (y ∷ more)) (writePlan p v m a (y ∷ more))
+      (ss ++ (mkSend a (y ∷ more) (sentStripe p v (m .state)) true false ∷ []))
+      (λ e. write-ok p h v m ss n (x .live) (lent-inflight (fits e)) a (y ∷ more) (write-asked p long v m a (y ∷ more) e)) uncut open? sent
     where
+      b : List ℕ
+      b = y ∷ more
+
       fits : firstRefusal (writeChecks p long v m a b) ≡ none → long ≡ true
       fits e = write-passed p long v m a b e .lent
 
@@ -250,6 +256,28 @@ module _ (p : Params) (h : Ranged p) (k : Disk) (m : Memory) (ss : List Send) (n
 
       sent : sentAfter (close count) (closePlan p m .answer) ss ≡ ss
       sent = unfold sentAfter endsRun isCut finished kind closePlan ackedBy sentBy in append-nil ss
+
+  -- 02, item 1: a closing, or nothing
+  empty-next : (a count : ℕ) → Goal (write a [] count)
+  unfolding callDisk callOn storeCount lentBlock verdict emptyVerdict emptyPlan
+  empty-next a count = decided-next (write a [] count) count [] (emptyChecks p long v m a) (emptyPlan p m) ss (λ e. ok e (hasFilling p (m .state)) refl)
+      (uncut (hasFilling p (m .state))) (open? (hasFilling p (m .state))) (sent (hasFilling p (m .state)))
+    where
+      ok : firstRefusal (emptyChecks p long v m a) ≡ none → (t : Bool) → hasFilling p (m .state) ≡ t → CallOk p h (x .live .g) v (cond t (closePlan p m) (mkPlan [] Nothing m [])) ss ss n
+      ok e true f = close-ok p h v m ss n (x .live) (lent-inflight (empty-passed p long v m a e .lent)) long (empty-asks p long v m a f e)
+      ok e false f = same-ok p h v m ss n (x .live) Nothing []
+
+      uncut : (t : Bool) → isCut (cond t (closePlan p m) (mkPlan [] Nothing m []) .answer) ≡ false
+      uncut true = unfold closePlan isCut kind in refl
+      uncut false = unfold isCut kind in refl
+
+      open? : (t : Bool) → finished (cond t (closePlan p m) (mkPlan [] Nothing m []) .answer) ≡ false
+      open? true = unfold closePlan finished kind in refl
+      open? false = unfold finished kind in refl
+
+      sent : (t : Bool) → sentAfter (write a [] count) (cond t (closePlan p m) (mkPlan [] Nothing m []) .answer) ss ≡ ss
+      sent true = unfold sentAfter endsRun isCut finished kind closePlan ackedBy sentBy consIf in append-nil ss
+      sent false = unfold sentAfter endsRun isCut finished kind ackedBy sentBy consIf in append-nil ss
 
   reclaim-next : (count : ℕ) → Goal (reclaim count)
   unfolding callDisk callOn storeCount lentBlock verdict reclaimVerdict reclaimPlan
@@ -366,7 +394,8 @@ module _ (p : Params) (h : Ranged p) (k : Disk) (m : Memory) (ss : List Send) (n
 
   -- every call of a healthy run other than restart
   pub call-next : (c : Call) → restartOf c ≡ none → Next p h (x .live .g) n (callDisk p k m c) (sentAfter c (callDisk p k m c .answer) ss)
-  call-next (write a b count) e = write-next a b count
+  call-next (write a [] count) e = empty-next a count
+  call-next (write a (y ∷ b) count) e = write-next a y b count
   call-next (land d s count) e = land-next d s count
   call-next (close count) e = close-next count
   call-next (reclaim count) e = reclaim-next count

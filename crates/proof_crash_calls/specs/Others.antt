@@ -1,6 +1,6 @@
 -- Calls that change nothing: reads at any time, every call but restart while the power is off, and writes, landings, closings and reclaims while a drive is missing. Assumes nothing.
 use mathlib.Core.Path.{_≡_, refl, sym, ap, _∙_}
-use mathlib.Core.List.{List, [], append-nil}
+use mathlib.Core.List.{List, [], append-nil, _∷_}
 use mathlib.Core.Bool.{Bool, true, false, _&&_}
 use mathlib.Core.Logic.{_≢_}
 use Prim.Native.Nat.{ℕ, _^_, _<_}
@@ -16,7 +16,7 @@ use Rattle.spec.specs.declared.Answer.the-variants.{Filled}
 use Rattle.spec.specs.Answers.{kind, isCut, finished}
 use Rattle.spec.specs.Calls.{firstRefusal, mkPlan, decided, After, mkAfter, limited, outcome}
 use Rattle.spec.specs.Calls.Verdict.{due}
-use Rattle.spec.specs.Closing.{closeChecks}
+use Rattle.spec.specs.Closing.{closeChecks, emptyChecks}
 use Rattle.spec.specs.Drives.{View, Disk, storeDisk, storeAll}
 use Rattle.spec.specs.Engine.{Call, storeCount, lentBlock, lentOk, callOn, callDisk}
 use Rattle.spec.specs.Engine.Call.{write, land, close, reclaim, read, fill, restart, rebuild}
@@ -36,7 +36,7 @@ use Rattle.law_drives.specs.Tests.{clash}
 use Rattle.law_basic.specs.Geometry.{ranged}
 use Rattle.law_views.specs.Views.{seen}
 use Rattle.law_drives.specs.Tests.{not-so}
-use Rattle.law_checks.specs.Passed.{write-passed, land-passed, close-passed, reclaim-passed, read-passed, fill-passed, rebuild-passed}
+use Rattle.law_checks.specs.Passed.{write-passed, land-passed, close-passed, reclaim-passed, read-passed, fill-passed, rebuild-passed, empty-passed}
 use Rattle.proof_crash_machine.specs.Exec.{true≢false}
 use Rattle.proof_crash_items.specs.Named.{named-not-zero}
 use Rattle.proof_crash_calls.specs.Refusals.{Decides, decides, refused-step}
@@ -158,7 +158,8 @@ off-bad p m z q = clash {b = stateOk p (m .state)} q (ap (stateOk p) z ∙ zero-
 
 pub off-refused : (p : Params) (long : Bool) (v : View) (m : Memory) (c : Call) → restartOf c ≡ none → m .state ≡ zeroState → firstRefusal (decides p long v m c .checks) ≡ none → ⊥
 unfolding decides
-off-refused p long v m (write a b n) r z e = off-bad p m z (write-passed p long v m a b e .state-fine)
+off-refused p long v m (write a [] n) r z e = off-bad p m z (empty-passed p long v m a e .state-fine)
+off-refused p long v m (write a (x ∷ b) n) r z e = off-bad p m z (write-passed p long v m a (x ∷ b) e .state-fine)
 off-refused p long v m (land d s n) r z e = off-bad p m z (land-passed p long v m d s e .state-fine)
 off-refused p long v m (close n) r z e = off-bad p m z (close-passed p long v m e .state-fine)
 off-refused p long v m (reclaim n) r z e = off-bad p m z (reclaim-passed p long v m (victim p v (m .addresses)) e .state-fine)
@@ -185,10 +186,14 @@ off-step p s c r z = refused-any p s c (off-refused p (lentOk p (s .world .disk)
 -- ---- a drive is missing: read-only, but for a rebuild
 
 pub missing-step : (p : Params) (s : Hist) (c : Call) → restartOf c ≡ none → ((d n : ℕ) → c ≡ rebuild d n → ⊥) → s .world .memory .state .missing ≢ 0 → step p s (calls c) ≡ s
-missing-step p s (write a b n) r nb z = refused-any p s (write a b n) (λ e. out (unfold decides in e))
+missing-step p s (write a [] n) r nb z = refused-any p s (write a [] n) (λ e. out (unfold decides in e))
   where
-    out : firstRefusal (writeChecks p (lentOk p (s .world .disk) (s .world .memory)) (seen p (s .world .disk)) (s .world .memory) a b) ≡ none → ⊥
-    out e = z (write-passed p (lentOk p (s .world .disk) (s .world .memory)) (seen p (s .world .disk)) (s .world .memory) a b e .healthy)
+    out : firstRefusal (emptyChecks p (lentOk p (s .world .disk) (s .world .memory)) (seen p (s .world .disk)) (s .world .memory) a) ≡ none → ⊥
+    out e = z (empty-passed p (lentOk p (s .world .disk) (s .world .memory)) (seen p (s .world .disk)) (s .world .memory) a e .healthy)
+missing-step p s (write a (x ∷ b) n) r nb z = refused-any p s (write a (x ∷ b) n) (λ e. out (unfold decides in e))
+  where
+    out : firstRefusal (writeChecks p (lentOk p (s .world .disk) (s .world .memory)) (seen p (s .world .disk)) (s .world .memory) a (x ∷ b)) ≡ none → ⊥
+    out e = z (write-passed p (lentOk p (s .world .disk) (s .world .memory)) (seen p (s .world .disk)) (s .world .memory) a (x ∷ b) e .healthy)
 missing-step p s (land d t n) r nb z = refused-any p s (land d t n) (λ e. out (unfold decides in e))
   where
     out : firstRefusal (landChecks p (lentOk p (s .world .disk) (s .world .memory)) (seen p (s .world .disk)) (s .world .memory) d t) ≡ none → ⊥

@@ -12,7 +12,7 @@ use Rattle.spec.specs.declared.Answer.the-variants.{Filled, Rebuilt}
 use Rattle.spec.specs.Answers.{isRefused, isCut, finished}
 use Rattle.spec.specs.Calls.{Check, firstRefusal, Plan, mkPlan, decided, After, mkAfter, outcome}
 use Rattle.spec.specs.Calls.Check.{zones}
-use Rattle.spec.specs.Closing.{closeChecks, closePlan, closeVerdict}
+use Rattle.spec.specs.Closing.{closeChecks, closePlan, closeVerdict, emptyChecks, emptyPlan, emptyVerdict}
 use Rattle.spec.specs.Drives.{View, Disk, storeDisk}
 use Rattle.spec.specs.Engine.{Call, storeCount, lentBlock, verdict, lentOk, callOn, callDisk}
 use Rattle.spec.specs.Engine.Call.{write, land, close, reclaim, read, fill, restart, rebuild}
@@ -46,8 +46,9 @@ pub record Decides (p : Params) (long : Bool) (v : View) (m : Memory) (c : Call)
   pub is : verdict p long v m c ≡ decided (firstRefusal checks) plan
 
 unfoldable pub decides : (p : Params) (long : Bool) (v : View) (m : Memory) (c : Call) → Decides p long v m c
-unfolding verdict writeVerdict landVerdict closeVerdict reclaimVerdict readVerdict fillVerdict restartVerdict rebuildVerdict
-decides p long v m (write a b n) = record { checks = writeChecks p long v m a b; plan = writePlan p v m a b; is = refl }
+unfolding verdict writeVerdict emptyVerdict landVerdict closeVerdict reclaimVerdict readVerdict fillVerdict restartVerdict rebuildVerdict
+decides p long v m (write a [] n) = record { checks = emptyChecks p long v m a; plan = emptyPlan p m; is = refl }
+decides p long v m (write a (x ∷ b) n) = record { checks = writeChecks p long v m a (x ∷ b); plan = writePlan p v m a (x ∷ b); is = refl }
 decides p long v m (land d s n) = record { checks = landChecks p long v m d s; plan = landPlan p v m d s; is = refl }
 decides p long v m (close n) = record { checks = closeChecks p long v m; plan = closePlan p m; is = refl }
 decides p long v m (reclaim n) = record {

@@ -16,7 +16,7 @@ use Rattle.proof_flights.specs.Idled.{flown-read, flown-fill}
 use Rattle.proof_flights.specs.LandedCall.{flown-land, lands-say}
 use Rattle.proof_flights.specs.Reclaimed.{flown-reclaim}
 use Rattle.proof_flights.specs.RestartedCall.{flown-restart, flown-restart-step, flown-rebuild}
-use Rattle.proof_flights.specs.Shut.{flown-close}
+use Rattle.proof_flights.specs.Shut.{flown-close, flown-empty}
 use Rattle.proof_flights.specs.Written.{flown-write}
 use Rattle.proof_rebuilt.specs.Theorem.{rebuilds-say}
 use Rattle.spec_demands.specs.Engines.{callWorld, onValues, viewIn, readsAs}
@@ -28,7 +28,7 @@ use Rattle.proof_tables.specs.Reading.{run-says}
 use Rattle.proof_tables.specs.Run.{Run}
 use Rattle.proof_tables.specs.Theorem.{restart-finished, stepped}
 use Rattle.law_views.specs.Views.{Whole, seen}
-use Rattle.proof_layout.specs.Calls.{KeepsLaid, laid-write, laid-close, laid-read, laid-fill, laid-reclaim, laid-land, laid-rebuild}
+use Rattle.proof_layout.specs.Calls.{KeepsLaid, laid-write, laid-close, laid-empty, laid-read, laid-fill, laid-reclaim, laid-land, laid-rebuild}
 use Rattle.proof_layout.specs.Laid.{Laid, layout-of}
 use Rattle.proof_layout.specs.Restarts.{restarts-say, laid-first, laid-again}
 
@@ -51,7 +51,8 @@ layout-here p k m ws old h = layout-of p (seen p k) (m .state .missing) old (h .
 pub laid-step : (p : Params) (k : Disk) (m : Memory) → Run p k m → (old : List Segment) → Laid p (seen p k) (m .state .missing) old → (c : Call) → isCut (callDisk p k m c .answer) ≡ false
     → KeepsLaid p (foundAfter p (seen p k) c (callDisk p k m c .answer) old) (callDisk p k m c)
 unfolding foundAfter
-laid-step p k m u old l (write a b n) nc = laid-write p k m u old l a b n nc
+laid-step p k m u old l (write a [] n) nc = laid-empty p k m u old l n a nc
+laid-step p k m u old l (write a (x ∷ b) n) nc = laid-write p k m u old l a x b n nc
 laid-step p k m u old l (land d s n) nc = laid-land p k m u old l d s n nc
 laid-step p k m u old l (close n) nc = laid-close p k m u old l n nc
 laid-step p k m u old l (reclaim n) nc = laid-reclaim p k m u old l n nc
@@ -64,7 +65,8 @@ laid-step p k m u old l (rebuild d n) nc = laid-rebuild p k m u old l d n nc
 flown-step : (p : Params) (k : Disk) (m : Memory) → Run p k m → (ws : List Pending) (old : List Segment) → Flown p k m ws old → (c : Call) → isCut (callDisk p k m c .answer) ≡ false
     → Flown p (callDisk p k m c .drives) (callDisk p k m c .memory) (pendingAfter c (callDisk p k m c .answer) ws) (foundAfter p (seen p k) c (callDisk p k m c .answer) old)
 unfolding foundAfter
-flown-step p k m u ws old f (write a b n) nc = flown-write p k m u ws old f a b n nc
+flown-step p k m u ws old f (write a [] n) nc = flown-empty p k m u ws old f n a nc
+flown-step p k m u ws old f (write a (x ∷ b) n) nc = flown-write p k m u ws old f a x b n nc
 flown-step p k m u ws old f (land d s n) nc = flown-land p k m ws old d s n u f nc
 flown-step p k m u ws old f (close n) nc = flown-close p k m u ws old f n nc
 flown-step p k m u ws old f (reclaim n) nc = flown-reclaim p k m u ws old f n nc

@@ -118,7 +118,7 @@ module _ (p : Params) (k : Disk) (m : Memory) (u : Run p k m) (ws : List Pending
   found a = lookup p (m .state .missing) (m .addresses) a
 
   -- no store, and memory as it was
-  idle-flown : (c : Call) (a : Answer) → QuietAnswer a → Flown p (storeAll (storeDisk p) [] k) m (pendingAfter c a ws) old
+  pub idle-flown : (c : Call) (a : Answer) → QuietAnswer a → Flown p (storeAll (storeDisk p) [] k) m (pendingAfter c a ws) old
   unfolding storeAll
   idle-flown c a q = flown-as p k m (pendingAfter c a ws) ws old k m refl refl (pending-quiet c a ws q) f
 

@@ -1,7 +1,7 @@
 -- Closings: each open position of the filling stripe takes padding, as a position that fills. Assumes nothing.
 use mathlib.Core.Path.{_≡_, refl, sym, ap, _∙_, subst}
 use mathlib.Core.List.{List, []}
-use mathlib.Core.Bool.{true, false}
+use mathlib.Core.Bool.{Bool, true, false, cond}
 use mathlib.Core.Logic.{inl}
 use Prim.Native.Nat.{ℕ, zero, suc, _+_, _-_, _≤_, _<_}
 use native.Mathlib.Omega.{arith}
@@ -10,20 +10,21 @@ use Rattle.spec.specs.Lists.Opt.{none}
 use Rattle.spec.specs.declared.Params.{Params}
 use Rattle.spec.specs.declared.State.{State}
 use Rattle.spec.specs.declared.Answer.{Answer}
-use Rattle.spec.specs.declared.Answer.the-variants.{Closed}
+use Rattle.spec.specs.declared.Answer.the-variants.{Closed, Nothing}
 use Rattle.spec.specs.Answers.{kind, isCut}
-use Rattle.spec.specs.Calls.{Check, firstRefusal}
-use Rattle.spec.specs.Closing.{padded, closeChecks, closePlan, closeVerdict}
+use Rattle.spec.specs.Calls.{Check, firstRefusal, mkPlan}
+use Rattle.spec.specs.Closing.{padded, closeChecks, closePlan, closeVerdict, emptyChecks, emptyPlan, emptyVerdict}
 use Rattle.spec.specs.Counts.{paddingAddress}
 use Rattle.spec.specs.Drives.{View, Disk, storeDisk, storeAll}
-use Rattle.spec.specs.Engine.{storeCount, lentBlock, verdict, lentOk, callOn, callDisk}
-use Rattle.spec.specs.Engine.Call.{close}
-use Rattle.spec.specs.Memory.{Memory, mkMemory, stripeIn, filledIn, fillingSlot, addEntry}
+use Rattle.spec.specs.Engine.{Call, storeCount, lentBlock, verdict, lentOk, callOn, callDisk}
+use Rattle.spec.specs.Engine.Call.{write, close}
+use Rattle.spec.specs.Memory.{Memory, mkMemory, stripeIn, filledIn, fillingSlot, hasFilling, addEntry}
 use Rattle.spec.specs.Params.{dataCount, inflightLen}
 use Rattle.spec.specs.Segments.{Segment}
 use Rattle.spec.specs.Write.{placed}
 use Rattle.law_basic.specs.Geometry.{Ranged, ranged}
 use Rattle.spec_demands.specs.Tables.{Pending, pendingAfter}
+use Rattle.law_checks.specs.Empty.{empty-asks}
 use Rattle.law_checks.specs.Passed.{close-passed}
 use Rattle.proof_tables.specs.Filling.{placed-inflight-long}
 use Rattle.proof_tables.specs.Going.{buffer-long}
@@ -36,7 +37,7 @@ use Rattle.law_drives.specs.States.{state-of}
 use Rattle.proof_flights.specs.Eighths.{freshly}
 use Rattle.proof_flights.specs.Flocks.{Flock, open-of, none-more, flock-of, of-flock, flock-busy, flock-add, flies-stay}
 use Rattle.proof_flights.specs.Flown.{Flown}
-use Rattle.proof_flights.specs.Idled.{QuietAnswer, pending-quiet, quiet-kind, flown-as, flown-ended}
+use Rattle.proof_flights.specs.Idled.{QuietAnswer, pending-quiet, quiet-kind, flown-as, flown-ended, idle-flown}
 use Rattle.proof_flights.specs.Written.{well-of, flown-parity-made, flown-of}
 
 -- ---- positions filled with padding
@@ -90,8 +91,9 @@ module _ (p : Params) (k : Disk) (m : Memory) (u : Run p k m) (ws : List Pending
   abbrev checks : List Check
   checks = closeChecks p (lentOk p k m) v m
 
-  closed-flown : firstRefusal checks ≡ none → Flown p (storeAll (storeDisk p) (closePlan p m .stores) k) (closePlan p m .memory) (pendingAfter (close n) (closePlan p m .answer) ws) old
-  closed-flown e =
+  closed-flown : (call : Call) → firstRefusal checks ≡ none → Flown p (storeAll (storeDisk p) (closePlan p m .stores) k) (closePlan p m .memory)
+      (pendingAfter call (closePlan p m .answer) ws) old
+  closed-flown call e =
       let c = close-passed p (lentOk p k m) v m e in
       let rg = ranged p (u .base .ranged) in
       let we = well-of p k m u (c .healthy) in
@@ -105,7 +107,7 @@ module _ (p : Params) (k : Disk) (m : Memory) (u : Run p k m) (ws : List Pending
       (λ j hj fj e. let (z, op) = open-of p v st h i hi fi in h .opens-at z op .once j i hj hi fj fi (sym e))
       (flock-of p v st (m .inflight) ws h so (f .flights (we .none-missing))) in
       flown-as p k (mkMemory (q .state) (m .addresses) (m .compact) (q .inflight)) _ ws old _ _ stores-are memory-is
-      (ap (λ (y : Answer). pendingAfter (close n) y ws) answer-is ∙ pending-quiet (close n) (Closed (stripeIn st i)) ws (quiet-closed (stripeIn st i)))
+      (ap (λ (y : Answer). pendingAfter call y ws) answer-is ∙ pending-quiet call (Closed (stripeIn st i)) ws (quiet-closed (stripeIn st i)))
       (flown-of p k (mkMemory (q .state) (m .addresses) (m .compact) (q .inflight)) ws old v refl (pads-missing p rg v ws i hi x st (m .inflight) ∙ we .none-missing)
       (of-flock p v (q .state) (q .inflight) ws o) (flown-parity-made p k m ws old f (we .none-missing)))
     where
@@ -126,4 +128,25 @@ module _ (p : Params) (k : Disk) (m : Memory) (u : Run p k m) (ws : List Pending
   pub flown-close : isCut (callDisk p k m (close n) .answer) ≡ false
       → Flown p (callDisk p k m (close n) .drives) (callDisk p k m (close n) .memory) (pendingAfter (close n) (callDisk p k m (close n) .answer) ws) old
   unfolding callDisk callOn verdict storeCount lentBlock closeVerdict
-  flown-close nc = flown-ended p k m ws old f (close n) checks (closePlan p m) _ closed-flown nc (outcome-ends p k m checks (closePlan p m) n [])
+  flown-close nc = flown-ended p k m ws old f (close n) checks (closePlan p m) _ (closed-flown (close n)) nc (outcome-ends p k m checks (closePlan p m) n [])
+
+  -- 02, item 1: a closing, or nothing
+  emptied-flown : (a : ℕ) → firstRefusal (emptyChecks p (lentOk p k m) v m a) ≡ none
+      → Flown p (storeAll (storeDisk p) (emptyPlan p m .stores) k) (emptyPlan p m .memory) (pendingAfter (write a [] n) (emptyPlan p m .answer) ws) old
+  unfolding emptyPlan
+  emptied-flown a e = go (hasFilling p (m .state)) refl
+    where
+      quiet-nothing : QuietAnswer Nothing
+      quiet-nothing = quiet-kind Nothing 14 (unfold kind in refl) refl refl refl refl
+
+      go : (t : Bool) → hasFilling p (m .state) ≡ t → Flown p (storeAll (storeDisk p) (cond t (closePlan p m) (mkPlan [] Nothing m []) .stores) k)
+          (cond t (closePlan p m) (mkPlan [] Nothing m []) .memory) (pendingAfter (write a [] n) (cond t (closePlan p m) (mkPlan [] Nothing m []) .answer) ws) old
+      go true h = closed-flown (write a [] n) (empty-asks p (lentOk p k m) v m a h e)
+      go false h = idle-flown p k m u ws old f (write a [] n) Nothing quiet-nothing
+
+  pub flown-empty : (a : ℕ) → isCut (callDisk p k m (write a [] n) .answer) ≡ false
+      → Flown p (callDisk p k m (write a [] n) .drives) (callDisk p k m (write a [] n) .memory) (pendingAfter (write a [] n) (callDisk p k m (write a [] n) .answer) ws) old
+  unfolding callDisk callOn verdict storeCount lentBlock emptyVerdict
+  flown-empty a nc =
+      flown-ended p k m ws old f (write a [] n) (emptyChecks p (lentOk p k m) v m a) (emptyPlan p m) _ (emptied-flown a) nc
+      (outcome-ends p k m (emptyChecks p (lentOk p k m) v m a) (emptyPlan p m) n [])

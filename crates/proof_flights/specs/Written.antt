@@ -1,6 +1,6 @@
 -- Writes: the stripes in flight after one, whatever it answers. Assumes nothing.
 use mathlib.Core.Path.{_≡_, refl, sym, ap, _∙_, subst}
-use mathlib.Core.List.{List}
+use mathlib.Core.List.{List, _∷_}
 use mathlib.Core.Bool.{false, cond}
 use mathlib.Core.Logic.{inr, ⊎-elim}
 use Prim.Native.Nat.{ℕ, suc, _^_, _<_}
@@ -92,7 +92,10 @@ module _ (p : Params) (k : Disk) (m : Memory) (u : Run p k m) (ws : List Pending
   abbrev st : State
   st = m .state
 
-  module _ (a : ℕ) (b : List ℕ) (n : ℕ) where
+  module _ (a x : ℕ) (more : List ℕ) (n : ℕ) where
+    abbrev b : List ℕ
+    b = x ∷ more
+
     abbrev checks : List Check
     checks = writeChecks p (lentOk p k m) v m a b
 

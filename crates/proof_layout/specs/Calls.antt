@@ -11,9 +11,10 @@ use lib.ListN.{length, replicate}
 use Rattle.spec.specs.Lists.Opt.{none}
 use Rattle.spec.specs.declared.Params.{Params}
 use Rattle.spec.specs.declared.State.{State}
-use Rattle.spec.specs.declared.Answer.the-variants.{Rebuilt}
+use Rattle.spec.specs.declared.Answer.{Answer}
+use Rattle.spec.specs.declared.Answer.the-variants.{Rebuilt, Nothing}
 use Rattle.spec.specs.Answers.{isCut}
-use Rattle.spec.specs.Calls.{Check, Plan, mkPlan, After, firstRefusal}
+use Rattle.spec.specs.Calls.{Check, Plan, mkPlan, After, mkAfter, firstRefusal}
 use Rattle.spec.specs.Closing.{padded, closeChecks, closePlan, closeVerdict}
 use Rattle.spec.specs.Counts.{paddingAddress, lastCount}
 use Rattle.spec.specs.Drives.{Zone, View, zoneAt, pointerAt, chunkAt, Store, storeView, Disk, storeDisk, storeAll}
@@ -35,6 +36,8 @@ use Rattle.law_basic.specs.Ranges.{Test, test, and-left, and-right}
 use Rattle.law_basic.specs.Ranges.Test.{yes!, no! }
 use Rattle.law_basic.specs.Stores.{storeAll-append}
 use Rattle.law_basic.specs.Segs.{Named, zone-on-lt}
+use Rattle.law_checks.specs.Empty.{EmptyLeaves, empty-leaves}
+use Rattle.law_checks.specs.Empty.EmptyLeaves.{as-close, as-refusal, as-idle}
 use Rattle.law_checks.specs.Passed.{write-passed, land-passed, close-passed, ReclaimPassed, reclaim-passed, rebuild-passed}
 use Rattle.law_drives.specs.Frame.{Agree, same-remaining, same-sealed, same-core, core}
 use Rattle.law_drives.specs.Headers.{header-roomy, header-within, empty-all}
@@ -185,7 +188,10 @@ module _ (p : Params) (k : Disk) (m : Memory) (u : Run p k m) (old : List Segmen
 
   -- ---- write
 
-  module _ (a : ℕ) (b : List ℕ) (n : ℕ) where
+  module _ (a x : ℕ) (more : List ℕ) (n : ℕ) where
+    abbrev b : List ℕ
+    b = x ∷ more
+
     abbrev wr : After Disk
     wr = callDisk p k m (write a b n)
 
@@ -261,6 +267,21 @@ module _ (p : Params) (k : Disk) (m : Memory) (u : Run p k m) (old : List Segmen
     -- 01, Closing
     pub laid-close : isCut (cl .answer) ≡ false → KeepsLaid p old cl
     laid-close nc = ⊎-elim (λ x. close-lost x nc) (λ x. close-well x nc) (u .mode)
+
+    -- 02, item 1: a write of no bytes is a closing, or all stays
+    pub laid-empty : (a : ℕ) → isCut (callDisk p k m (write a [] n) .answer) ≡ false → KeepsLaid p old (callDisk p k m (write a [] n))
+    laid-empty a nc = go (empty-leaves p k m a n)
+      where
+        r : After Disk
+        r = callDisk p k m (write a [] n)
+
+        stays : (y : Answer) → r ≡ mkAfter y k m [] → KeepsLaid p old r
+        stays y e = same-keeps p k m old r l (ap (λ (t : After Disk). t .drives) e) (ap (λ (t : After Disk). t .memory) e)
+
+        go : EmptyLeaves p k m a n → KeepsLaid p old r
+        go (as-close h low e) = subst (λ (t : After Disk). KeepsLaid p old t) (sym e) (laid-close (ap (λ (t : After Disk). isCut (t .answer)) (sym e) ∙ nc))
+        go (as-refusal y c e) = stays y e
+        go (as-idle c h e) = stays Nothing e
 
   -- ---- reads
 

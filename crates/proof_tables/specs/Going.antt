@@ -115,7 +115,10 @@ module _ (p : Params) (k : Disk) (m : Memory) (u : Run p k m) (we : Well p k m) 
 
   -- ---- write
 
-  module _ (a n : ℕ) (b : List ℕ) where
+  module _ (a n x : ℕ) (more : List ℕ) where
+    abbrev b : List ℕ
+    b = x ∷ more
+
     abbrev checks : List Check
     checks = writeChecks p (lentOk p k m) v m a b
 

@@ -1,6 +1,6 @@
 -- With a drive missing: the restart that names it, the calls that are refused, and its rebuild. Assumes nothing.
 use mathlib.Core.Path.{_≡_, refl, sym, ap, _∙_, subst}
-use mathlib.Core.List.{List, []}
+use mathlib.Core.List.{List, [], _∷_}
 use mathlib.Core.Bool.{true, false}
 use mathlib.Core.Logic.{inl}
 use Prim.Native.Nat.{ℕ, _<_}
@@ -94,9 +94,11 @@ module _ (p : Params) (k : Disk) (m : Memory) (u : Run p k m) (lo : LostDrive p 
       go (ended-done c f g h) = not-healthy (healthy c)
       go (ended-cut c f) = cut-kept p _ f
 
-  pub lost-write : (a : ℕ) (b : List ℕ) (n : ℕ) → Kept p (callDisk p k m (write a b n))
+  pub lost-write : (a x : ℕ) (b : List ℕ) (n : ℕ) → Kept p (callDisk p k m (write a (x ∷ b) n))
   unfolding callDisk callOn verdict storeCount lentBlock writeVerdict
-  lost-write a b n = stopped-kept (writeChecks p (lentOk p k m) v m a b) _ n b (write-mild p (lentOk p k m) v m a b (u .base .state-ok)) (λ e. write-passed p (lentOk p k m) v m a b e .healthy)
+  lost-write a x b n =
+      stopped-kept (writeChecks p (lentOk p k m) v m a (x ∷ b)) _ n (x ∷ b) (write-mild p (lentOk p k m) v m a (x ∷ b) (u .base .state-ok))
+      (λ e. write-passed p (lentOk p k m) v m a (x ∷ b) e .healthy)
 
   pub lost-land : (e s n : ℕ) → Kept p (callDisk p k m (land e s n))
   unfolding callDisk callOn verdict storeCount lentBlock landVerdict

@@ -1,15 +1,16 @@
 -- What holds between calls holds after a finished restart and after every uncut call, and refusal 9 comes from restarts alone. Assumes nothing.
-use mathlib.Core.Path.{_≡_, sym, ap, _∙_, subst}
-use mathlib.Core.List.{List, []}
+use mathlib.Core.Path.{_≡_, refl, sym, ap, _∙_, subst}
+use mathlib.Core.List.{List, [], _∷_}
 use mathlib.Core.Bool.{true, false}
 use mathlib.Core.Logic.{⊎-elim}
 use Prim.Native.Nat.{ℕ, _<_}
 use borrow.Author.Tests.{eq-eqb}
 use Rattle.spec.specs.Lists.Opt.{none}
-use Rattle.spec.specs.declared.Answer.the-variants.{Rebuilt}
+use Rattle.spec.specs.declared.Answer.the-variants.{Rebuilt, Nothing}
+use Rattle.spec.specs.declared.Answer.{Answer}
 use Rattle.spec.specs.declared.Params.{Params}
-use Rattle.spec.specs.Answers.{isRefusedAs, isCut, finished}
-use Rattle.spec.specs.Calls.{Check, firstRefusal, Plan, mkPlan, decided, After, outcome}
+use Rattle.spec.specs.Answers.{kind, isRefused, isRefusedAs, isCut, finished}
+use Rattle.spec.specs.Calls.{Check, firstRefusal, Plan, mkPlan, decided, After, mkAfter, outcome}
 use Rattle.spec.specs.Demands.{NotNinth}
 use Rattle.spec.specs.Drives.{Disk, storeDisk, storeAll}
 use Rattle.spec.specs.Engine.{Call, storeCount, lentBlock, verdict, lentOk, callOn, callDisk}
@@ -18,17 +19,21 @@ use Rattle.spec.specs.History.{restartOf}
 use Rattle.spec.specs.Memory.{Memory}
 use Rattle.spec.specs.Params.{named}
 use Rattle.spec.specs.Rebuild.{rebuildChecks, rebuildStores, rebuildVerdict}
+use Rattle.spec.specs.Reclaim.{tableFaults}
 use Rattle.spec.specs.Restart.{restartVerdict}
-use Rattle.spec.specs.Segments.{segments}
+use Rattle.spec.specs.Segments.{segments, candidates, addressTable}
 use Rattle.law_basic.specs.Geometry.{ranged}
 use Rattle.law_views.specs.Views.{Whole, seen}
 use Rattle.law_calls.specs.Refusals.{refusal-kind, refused-unfinished}
-use Rattle.law_checks.specs.Passed.{rebuild-passed, rebuild-mild}
+use Rattle.law_checks.specs.Empty.{EmptyLeaves, empty-leaves}
+use Rattle.law_checks.specs.Empty.EmptyLeaves.{as-close, as-refusal, as-idle}
+use Rattle.law_checks.specs.Passed.{rebuild-passed, rebuild-mild, empty-mild}
 use Rattle.law_drives.specs.Masks.{named-some}
 use Rattle.law_drives.specs.Tests.{clash}
 use Rattle.law_drives.specs.Zones.{Shaped}
 use Rattle.proof_tables.specs.Going.{well-write, well-close}
 use Rattle.proof_tables.specs.Landings.{well-land}
+use Rattle.proof_tables.specs.Live.{table-clear}
 use Rattle.proof_tables.specs.Losing.{idle-kept, refused-kept, lost-write, lost-land, lost-close, lost-reclaim, lost-rebuild}
 use Rattle.proof_tables.specs.Outcomes.{EndedAs, outcome-ends, cut-unfinished, cut-cut}
 use Rattle.proof_tables.specs.Outcomes.EndedAs.{ended-refused, ended-done, ended-cut}
@@ -107,11 +112,40 @@ restart-step p k m u d n nc = go (restart-ends p k m d n)
         (run-started p k m d (λ w. u .base .shaped) (start-begins p k m d c)))
     go (ended-cut c f) = clash (ap isCut f ∙ cut-cut) nc
 
+close-kept : (p : Params) (k : Disk) (m : Memory) → Run p k m → (n : ℕ) → Kept p (callDisk p k m (close n))
+close-kept p k m u n = ⊎-elim (λ x. lost-close p k m u x n) (λ x. well-close p k m u x n) (u .mode)
+
+-- a write of no bytes: a closing, or all stays
+empty-kept : (p : Params) (k : Disk) (m : Memory) → Run p k m → (a n : ℕ) → Kept p (callDisk p k m (write a [] n))
+empty-kept p k m u a n = go (empty-leaves p k m a n)
+  where
+    r : After Disk
+    r = callDisk p k m (write a [] n)
+
+    stays : (x : Answer) → isRefusedAs 9 x ≡ false → r ≡ mkAfter x k m [] → Kept p r
+    stays x q e =
+        refused-kept p k m r x u q (ap (λ (y : After Disk). y .answer) e) (ap (λ (y : After Disk). y .drives) e) (ap (λ (y : After Disk). y .memory) e)
+
+    nothing-mild : isRefusedAs 9 Nothing ≡ false
+    nothing-mild = unfold isRefusedAs isRefused kind in refl
+
+    table-said : m .state .missing ≡ 0 → tableFaults p (m .addresses) ≡ []
+    table-said z =
+        table-clear p (ranged p (u .base .ranged)) (seen p k) (m .addresses)
+        (u .base .addresses-say ∙ ap (λ (g : ℕ). addressTable p (candidates p g (segments p (seen p k) g))) z)
+
+    go : EmptyLeaves p k m a n → Kept p r
+    go (as-close h l e) = subst (λ (y : After Disk). Kept p y) (sym e) (close-kept p k m u n)
+    go (as-refusal x c e) = stays x (empty-mild p (lentOk p k m) (seen p k) m a (u .base .state-ok) table-said x c) e
+    go (as-idle c h e) = stays Nothing nothing-mild e
+
 pub stepped : (p : Params) (k : Disk) (m : Memory) → Run p k m → (c : Call) → CallKeeps p c (callDisk p k m c)
 unfolding restartOf
-stepped p k m u (write a b n) = kept-step p (callDisk p k m (write a b n)) (⊎-elim (λ x. lost-write p k m u x a b n) (λ x. well-write p k m u x a n b) (u .mode))
+stepped p k m u (write a [] n) = kept-step p (callDisk p k m (write a [] n)) (empty-kept p k m u a n)
+stepped p k m u (write a (x ∷ b) n) =
+    kept-step p (callDisk p k m (write a (x ∷ b) n)) (⊎-elim (λ q. lost-write p k m u q a x b n) (λ q. well-write p k m u q a n x b) (u .mode))
 stepped p k m u (land d s n) = kept-step p (callDisk p k m (land d s n)) (⊎-elim (λ x. lost-land p k m u x d s n) (λ x. well-land p k m u x d s n) (u .mode))
-stepped p k m u (close n) = kept-step p (callDisk p k m (close n)) (⊎-elim (λ x. lost-close p k m u x n) (λ x. well-close p k m u x n) (u .mode))
+stepped p k m u (close n) = kept-step p (callDisk p k m (close n)) (close-kept p k m u n)
 stepped p k m u (reclaim n) = kept-step p (callDisk p k m (reclaim n)) (⊎-elim (λ x. lost-reclaim p k m u x n) (λ x. well-reclaim p k m u x n) (u .mode))
 stepped p k m u (read a) = kept-step p (callDisk p k m (read a)) (idle-kept p k m (u .base) (callDisk p k m (read a)) u (read-idle p k m (u .base) a))
 stepped p k m u (fill a b) = kept-step p (callDisk p k m (fill a b)) (idle-kept p k m (u .base) (callDisk p k m (fill a b)) u (fill-idle p k m (u .base) a b))

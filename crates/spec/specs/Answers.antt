@@ -5,7 +5,7 @@ use Prim.Native.Nat.{ℕ}
 use lib.Dec.{leb, eqb}
 use lib.ListN.{getD}
 use Rattle.spec.specs.declared.Answer.{Answer}
-use Rattle.spec.specs.declared.Answer.the-variants.{Refused, BadZone, Cut, Sent, Landed, Closed, Copied, Reset, Part, Never, Lost, Filled, Restarted, Rebuilt}
+use Rattle.spec.specs.declared.Answer.the-variants.{Refused, BadZone, Cut, Sent, Landed, Closed, Copied, Reset, Part, Never, Lost, Filled, Restarted, Rebuilt, Nothing}
 use Rattle.spec.specs.Segments.{uncounted}
 
 -- the kinds of answer; refusals are told apart by their values
@@ -24,6 +24,7 @@ kind Lost = 10
 kind Filled = 11
 kind (Restarted n) = 12
 kind Rebuilt = 13
+kind Nothing = 14
 
 -- 01: the refusal's number (9 with its zone); stamp, stripe and drive of a write or copy; the number acknowledged; the stripe closed; the
 -- zone reset; the block's offset in the image; the uncounted stripes
@@ -42,6 +43,7 @@ values Lost = []
 values Filled = []
 values (Restarted r) = r .uncounted ∷ []
 values Rebuilt = []
+values Nothing = []
 
 -- refused, with which number
 unfoldable pub isRefused : Answer → Bool

@@ -153,7 +153,7 @@ zoneOn g d = g .name
 unfoldable pub placeSegment : Params → ℕ → Seg
 placeSegment p q = seg (placeZone p q)
 
--- 01, Refusals, 8: zones empty on all drives, rising
+-- 01, Refusals, 8: all its zones are empty
 unfoldable pub emptyOnAll : Params → View → Seg → Bool
 emptyOnAll p v g = all (λ d. eqb (pointerAt v d (zoneOn g d)) 0) (drivesOf p)
 

@@ -1,5 +1,5 @@
 -- Every public call, with its numbers and lent blocks, on the lent bytes (01, The calls). Assumes nothing.
-use mathlib.Core.List.{List, []}
+use mathlib.Core.List.{List, [], _∷_}
 use mathlib.Core.Bool.{Bool, true, false, _&&_}
 use Prim.Native.Nat.{ℕ}
 use lib.Dec.{eqb}
@@ -8,7 +8,7 @@ use Rattle.spec.specs.declared.Params.{Params}
 use Rattle.spec.specs.declared.Answer.{Answer}
 use Rattle.spec.specs.Answers.{isRefused}
 use Rattle.spec.specs.Calls.{Verdict, After, outcome}
-use Rattle.spec.specs.Closing.{closeVerdict}
+use Rattle.spec.specs.Closing.{closeVerdict, emptyVerdict}
 use Rattle.spec.specs.Drives.{View, viewOf, Disk, mkDisk, storeDisk}
 use Rattle.spec.specs.Landing.{landVerdict}
 use Rattle.spec.specs.Memory.{Memory, mkMemory, stateLen, stateBytes, stateOf}
@@ -54,7 +54,8 @@ lentBlock (rebuild d n) = []
 
 -- what a call does on a view, where long says whether the lent buffers have their lengths
 unfoldable pub verdict : Params → Bool → View → Memory → Call → Verdict
-verdict p long v m (write a b n) = writeVerdict p long v m a b
+verdict p long v m (write a [] n) = emptyVerdict p long v m a
+verdict p long v m (write a (x ∷ b) n) = writeVerdict p long v m a (x ∷ b)
 verdict p long v m (land d s n) = landVerdict p long v m d s
 verdict p long v m (close n) = closeVerdict p long v m
 verdict p long v m (reclaim n) = reclaimVerdict p long v m

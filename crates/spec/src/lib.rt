@@ -145,6 +145,7 @@ pub enum Answer {
     Filled,
     Restarted(Report),
     Rebuilt,
+    Nothing,
 }
 
 // 01, The small box: M1 to M8, of the definitions.

@@ -15,9 +15,10 @@ use Rattle.spec.specs.Lists.{isMember}
 use Rattle.spec.specs.Memory.{stateLen}
 use Rattle.spec.specs.Params.{addressesLen, compactLen}
 
--- 01, Refusals: the numbers that the table gives a call
+-- 01, Refusals, and 02, item 1: the numbers that the table gives a call
 unfoldable pub refusalsOf : Call → List ℕ
-refusalsOf (write a b n) = 1 ∷ 2 ∷ 3 ∷ 4 ∷ 6 ∷ 7 ∷ 8 ∷ 9 ∷ []
+refusalsOf (write a [] n) = 1 ∷ 2 ∷ 3 ∷ 4 ∷ 5 ∷ 9 ∷ []
+refusalsOf (write a (x ∷ b) n) = 1 ∷ 2 ∷ 3 ∷ 4 ∷ 6 ∷ 7 ∷ 8 ∷ 9 ∷ []
 refusalsOf (land d s n) = 1 ∷ 2 ∷ 3 ∷ 5 ∷ 9 ∷ []
 refusalsOf (close n) = 1 ∷ 2 ∷ 3 ∷ 5 ∷ 9 ∷ []
 refusalsOf (reclaim n) = 1 ∷ 2 ∷ 3 ∷ 5 ∷ 6 ∷ 7 ∷ 8 ∷ 9 ∷ []
@@ -28,7 +29,8 @@ refusalsOf (rebuild d n) = 1 ∷ 2 ∷ 9 ∷ []
 
 -- 01, The calls: the kinds of a call's own result
 unfoldable pub resultsOf : Call → List ℕ
-resultsOf (write a b n) = 3 ∷ []
+resultsOf (write a [] n) = 5 ∷ 14 ∷ []
+resultsOf (write a (x ∷ b) n) = 3 ∷ []
 resultsOf (land d s n) = 4 ∷ []
 resultsOf (close n) = 5 ∷ []
 resultsOf (reclaim n) = 6 ∷ 7 ∷ []
@@ -39,7 +41,8 @@ resultsOf (rebuild d n) = 13 ∷ []
 
 -- 01, Store count: the calls that can store
 unfoldable pub canStore : Call → Bool
-canStore (write a b n) = true
+canStore (write a [] n) = false
+canStore (write a (x ∷ b) n) = true
 canStore (land d s n) = true
 canStore (close n) = false
 canStore (reclaim n) = true

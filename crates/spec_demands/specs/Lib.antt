@@ -1,5 +1,6 @@
 pub mod Answering
 pub mod Rules
+pub mod EmptyWrites
 pub mod Engines
 pub mod Layouts
 pub mod Histories

@@ -81,6 +81,12 @@ enum-told-5 c = search needs
 number-requires-11 : tie.Need-number-requires-11
 number-requires-11 c κs = search needs
 
+enum-told-6 : tie.Need-enum-told-6
+enum-told-6 c = search needs
+
+number-requires-12 : tie.Need-number-requires-12
+number-requires-12 c κs = search needs
+
 returns : tie.Need-returns
 unfolding kind values
 returns c = c .number .ensures ∙ ap toldOf (sym (c .before .before .answer .given .1))
@@ -137,6 +143,10 @@ returns-14 : tie.Need-returns-14
 unfolding kind values
 returns-14 c = c .number11 .ensures ∙ ap toldOf (sym (c .before .enum-told5 .given .1))
 
+returns-15 : tie.Need-returns-15
+unfolding kind values
+returns-15 c = c .number12 .ensures ∙ ap toldOf (sym (c .before .enum-told6 .given .1))
+
 pub told-of-spec : {M : Type 1} → statement M
 told-of-spec =
     tie.close
@@ -166,6 +176,8 @@ told-of-spec =
     number-requires-10
     enum-told-5
     number-requires-11
+    enum-told-6
+    number-requires-12
     returns
     returns-2
     returns-3
@@ -179,4 +191,5 @@ told-of-spec =
     returns-11
     returns-12
     returns-13
-    returns-14)
+    returns-14
+    returns-15)

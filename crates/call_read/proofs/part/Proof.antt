@@ -9,7 +9,7 @@ use Rattle.spec.specs.Engine.Call.{read}
 use Rattle.spec.specs.Lists.{any, isMember}
 use Rattle.spec.specs.Memory.{mkMemory, stateOf}
 use Rattle.spec.specs.declared.Answer.{Answer}
-use Rattle.spec.specs.declared.Answer.the-variants.{Refused, BadZone, Cut, Sent, Landed, Closed, Copied, Reset, Part, Never, Lost, Filled, Restarted, Rebuilt}
+use Rattle.spec.specs.declared.Answer.the-variants.{Refused, BadZone, Cut, Sent, Landed, Closed, Copied, Reset, Part, Never, Lost, Filled, Restarted, Rebuilt, Nothing}
 use Rattle.spec.proofs.Answer.{the-type}
 use Rattle.law_basic.specs.Ranges.{not-both}
 use Rattle.law_basic.specs.Splice.{part-zero, part-lent}
@@ -102,7 +102,7 @@ one-of (k ∷ l ∷ ks) x (inr h) = or-true (eqb x k) (isMember x (l ∷ ks)) (o
 
 -- an answer of another kind
 abbrev others : List ℕ
-others = 0 ∷ 1 ∷ 2 ∷ 3 ∷ 4 ∷ 5 ∷ 6 ∷ 7 ∷ 9 ∷ 10 ∷ 11 ∷ 12 ∷ 13 ∷ []
+others = 0 ∷ 1 ∷ 2 ∷ 3 ∷ 4 ∷ 5 ∷ 6 ∷ 7 ∷ 9 ∷ 10 ∷ 11 ∷ 12 ∷ 13 ∷ 14 ∷ []
 
 no-part : (r : Answer) → OneOf others (tagOf the-type r) → eqb (kind r) 8 ≡ false
 unfolding kind isMember any
@@ -120,6 +120,7 @@ no-part Lost h = refl
 no-part Filled h = refl
 no-part (Restarted n) h = refl
 no-part Rebuilt h = refl
+no-part Nothing h = refl
 
 returns-2 : tie.Need-returns-2
 returns-2 c =

@@ -102,7 +102,7 @@ returns c =
     let at = c .before .before .before .before in
     let a = s .args in
     let q = c .before .before .c .given in
-    write-refused (a .p) (disk s) (memory s) (a .address .0) (a .block .now) (a .count) (c .kept .result)
+    write-refused (a .p) (disk s) (memory s) (a .address .0) (a .block .now) (a .count) (s .pre .2) (c .kept .result)
     (sym (checked-is (at)) ∙ ap checked (q .1) ∙ ap (λ (x : Change). some (x .answer)) (sym (c .kept .ensures)))
 
 enum-told : tie.Need-enum-told
@@ -172,7 +172,7 @@ returns-2 c =
     let h : OpeningStores (a .p) (a .state) (a .count) (disk s) (o .result) k′ =
     opening-front (a .p) (a .state) (a .count) (disk s) (o .result) k′
     (subst (λ (x : Front). OpeningStores (a .p) (behind x) (a .count) (disk s) (o .result) k′) (front-of .ensures) (o .ensures)) in
-    ends-write-cut (a .p) (disk s) (memory s) (a .address .0) (a .block .now) (a .count) none! (o .result) k′ h (if1 .taken) (q .result) (q .last .0) (q .last .1 .0)
+    ends-write-cut (a .p) (disk s) (memory s) (a .address .0) (a .block .now) (a .count) (s .pre .2) none! (o .result) k′ h (if1 .taken) (q .result) (q .last .0) (q .last .1 .0)
     (ap (λ (x : Change). x .answer) (q .ensures .0)) (q .ensures .1 .0) (q .ensures .1 .1)
 
 row-at-requires : tie.Need-row-at-requires
@@ -224,7 +224,7 @@ plan-requires c κs =
     (subst (λ (x : Front). OpeningStores (a .p) (behind x) (a .count) (disk s) (o .result) k′) (f .ensures) (o .ensures)) in (
       r .ranged,
       (
-        plan-asks (a .p) (disk s) (memory s) (a .address .0) (a .block .now) (a .count) none! (o .result) k′ h (f .result) (f .ensures) (aim-of .result) (aimed (at-18))
+        plan-asks (a .p) (disk s) (memory s) (a .address .0) (a .block .now) (a .count) (s .pre .2) none! (o .result) k′ h (f .result) (f .ensures) (aim-of .result) (aimed (at-18))
             (c .before .row-at .result) (row-is (c .before)) (stamp-fits s),
         (r .inflight-long, r .block-long),
       ),
@@ -269,7 +269,7 @@ returns-3 c =
     let h : OpeningStores (a .p) (a .state) (a .count) (disk s) (o .result) k′ =
     opening-front (a .p) (a .state) (a .count) (disk s) (o .result) k′
     (subst (λ (x : Front). OpeningStores (a .p) (behind x) (a .count) (disk s) (o .result) k′) (f .ensures) (o .ensures)) in
-    ends-plan (a .p) (disk s) (memory s) (a .address .0) (a .block .now) (a .count) none! (o .result) k′ h (f .result) (f .ensures) (aim-of .result) (aimed (at-21))
+    ends-plan (a .p) (disk s) (memory s) (a .address .0) (a .block .now) (a .count) (s .pre .2) none! (o .result) k′ h (f .result) (f .ensures) (aim-of .result) (aimed (at-21))
     (row-at .result) (row-is (at-4)) (sized s) (if1 .left) (q .result) (q .last .1 .0) (q .ensures .0) (q .ensures .1)
 
 pub write-spec : {M : Type 1} → statement M
