@@ -1,4 +1,3 @@
-pub mod Told
 pub mod Hears
 pub mod Numbers
 pub mod Applied

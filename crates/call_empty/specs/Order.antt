@@ -1,7 +1,7 @@
 -- The checks of a write of no bytes one after the other: the first four, then those where no stripe is filling (02, item 1). Assumes nothing.
 use mathlib.Core.Path.{_≡_, refl, sym, ap, _∙_}
-use mathlib.Core.List.{List, [], _∷_, _++_}
-use mathlib.Core.Bool.{true, false, cond, not, _&&_}
+use mathlib.Core.List.{List, [], _∷_}
+use mathlib.Core.Bool.{true, false, not}
 use Prim.Native.Nat.{ℕ, zero, suc, _≤_, _<_}
 use native.Mathlib.Omega.{arith}
 use borrow.Author.Tests.{le-leb, lt-leb, leb-false, eq-eqb, ne-eqb, not-false}
@@ -12,16 +12,15 @@ use Rattle.spec.specs.declared.Answer.{Answer}
 use Rattle.spec.specs.declared.Answer.the-variants.{Refused, BadZone}
 use Rattle.spec.specs.Calls.Check.{rule, zones}
 use Rattle.spec.specs.Calls.{ninth, ruled, firstRefusal, Check}
-use Rattle.spec.specs.Closing.{emptyChecks, reclaimFirst}
+use Rattle.spec.specs.Closing.{emptyChecks}
 use Rattle.spec.specs.Drives.{Disk}
 use Rattle.spec.specs.Engine.{lentOk}
 use Rattle.spec.specs.Lists.{Opt}
 use Rattle.spec.specs.Lists.Opt.{none, some}
 use Rattle.spec.specs.Memory.{Memory, hasFilling, stateOk, stateFaults}
 use Rattle.spec.specs.Params.{inRange}
-use Rattle.spec.specs.Reclaim.{tableFaults}
-use Rattle.spec.specs.Write.{scarce}
 use Rattle.law_views.specs.Views.{seen}
+use Rattle.law_checks.specs.Empty.{idle-refusal}
 use Rattle.law_calls.specs.Refusals.{zone-fails, zones-pass, none-left, state-fault, state-fine, rule-fails, rule-passes, rule-free}
 
 -- ---- the first n of some checks
@@ -35,16 +34,6 @@ first-refuses (suc n) (rule i true ∷ cs) a e = e
 first-refuses (suc n) (rule i false ∷ cs) a e = first-refuses n cs a e
 first-refuses (suc n) (zones [] ∷ cs) a e = first-refuses n cs a e
 first-refuses (suc n) (zones (z ∷ zs) ∷ cs) a e = e
-
--- none does
-pub first-leaves : (n : ℕ) (cs : List Check) → firstRefusal (take n cs) ≡ none → firstRefusal cs ≡ firstRefusal (drop n cs)
-unfolding firstRefusal ruled ninth
-first-leaves zero cs e = refl
-first-leaves (suc n) [] e = refl
-first-leaves (suc n) (rule i true ∷ cs) e = absurd (let z : _≡_ {A = ℕ} 0 1 = cc in let y : ⊥ = omega arith in y)
-first-leaves (suc n) (rule i false ∷ cs) e = first-leaves n cs e
-first-leaves (suc n) (zones [] ∷ cs) e = first-leaves n cs e
-first-leaves (suc n) (zones (z ∷ zs) ∷ cs) e = absurd (let z : _≡_ {A = ℕ} 0 1 = cc in let y : ⊥ = omega arith in y)
 
 -- ---- 01, Refusals, 3 and 4
 
@@ -102,27 +91,24 @@ module _ (p : Params) (k : Disk) (m : Memory) (a : ℕ) where
 
   -- ---- the first four passed
 
-  pub four-passed : emptyFirst 0 ≡ none → (inRange p ≡ true) × (a < p .L)
+  pub four-passed : emptyFirst 0 ≡ none → (inRange p ≡ true) × (a < p .L) × (lentOk p k m ≡ true) × (eqb (m .state .missing) 0 ≡ true)
   unfolding emptyChecks
   four-passed e =
       let q₁ = rule-free 1 (not (inRange p)) (rest 0) e in
       let q₂ = rule-free 2 (not (lentOk p k m)) (rest 1) (q₁ .1) in
       let q₃ = rule-free 3 (not (eqb (m .state .missing) 0)) (rest 2) (q₂ .1) in
-      (not-false (inRange p) (q₁ .0), leb-false (p .L) a (rule-free 4 (leb (p .L) a) (rest 3) (q₃ .1) .0))
+      (not-false (inRange p) (q₁ .0), leb-false (p .L) a (rule-free 4 (leb (p .L) a) (rest 3) (q₃ .1) .0), not-false (lentOk p k m) (q₂ .0), not-false (eqb (m .state .missing) 0) (q₃ .0))
 
   -- and no stripe is filling
   module _ (first : emptyFirst 0 ≡ none) (e : hasFilling p (m .state) ≡ false) where
     -- the state's numbers are left
-    idle-last : firstRefusal (zones (stateFaults p (m .state) ++ []) ∷ []) ≡ emptyRefusal
-    unfolding emptyChecks
+    idle-last : firstRefusal (zones (stateFaults p (m .state)) ∷ []) ≡ emptyRefusal
     idle-last =
-        sym (first-leaves 4 (emptyChecks p (lentOk p k m) (seen p k) m a) first
-        ∙ (λ j. firstRefusal (rule 5 (e j && reclaimFirst p (seen p k) m) ∷ zones (stateFaults p (m .state) ++ cond (e j && scarce p (seen p k) 1) (tableFaults p (m .addresses)) []) ∷ []))
-        ∙ rule-passes 5 false (zones (stateFaults p (m .state) ++ []) ∷ []) refl)
+        let (ranged, low, lent, healthy) = four-passed first in
+        sym (idle-refusal p (lentOk p k m) (seen p k) m a ranged lent healthy (lt-leb (p .L) a low) e)
 
     pub empty-state-fails : stateOk p (m .state) ≡ false → some (BadZone 0) ≡ emptyRefusal
-    empty-state-fails g = sym (zone-fails 0 []) ∙ ap (λ (zs : List ℕ). firstRefusal (zones (zs ++ []) ∷ [])) (sym (state-fault p (m .state) g)) ∙ idle-last
+    empty-state-fails g = sym (zone-fails 0 []) ∙ ap (λ (zs : List ℕ). firstRefusal (zones zs ∷ [])) (sym (state-fault p (m .state) g)) ∙ idle-last
 
     pub empty-state-passes : stateOk p (m .state) ≡ true → none ≡ emptyRefusal
-    empty-state-passes g =
-        sym (zones-pass [] [] refl ∙ none-left) ∙ ap (λ (zs : List ℕ). firstRefusal (zones (zs ++ []) ∷ [])) (sym (state-fine p (m .state) g)) ∙ idle-last
+    empty-state-passes g = sym (zones-pass [] [] refl ∙ none-left) ∙ ap (λ (zs : List ℕ). firstRefusal (zones zs ∷ [])) (sym (state-fine p (m .state) g)) ∙ idle-last

@@ -1,18 +1,18 @@
 -- The write of no bytes (02, item 1): where a stripe is filling and the address is in range it is the closing; else it is refused, or does nothing. Assumes nothing.
 use mathlib.Core.Path.{_≡_, refl, sym, ap, ap₂, _∙_}
-use mathlib.Core.List.{List, [], _∷_, _++_}
-use mathlib.Core.Bool.{Bool, true, false, cond, not, _&&_, _||_}
+use mathlib.Core.List.{List, [], _∷_, append-nil}
+use mathlib.Core.Bool.{Bool, true, false}
 use Prim.Native.Nat.{ℕ, _<_}
 use lib.Dec.{leb, eqb}
 use borrow.Author.Tests.{lt-leb, le-leb}
 use native.Mathlib.Omega.{arith}
 use Rattle.spec.specs.declared.Answer.{Answer}
-use Rattle.spec.specs.declared.Answer.the-variants.{Nothing}
+use Rattle.spec.specs.declared.Answer.the-variants.{Refused, Nothing}
 use Rattle.spec.specs.declared.Params.{Params}
-use Rattle.spec.specs.Calls.{Check, firstRefusal, ruled, mkPlan, Verdict, decided, After, mkAfter, limited, outcome}
-use Rattle.spec.specs.Calls.Check.{rule, zones}
+use Rattle.spec.specs.Calls.{firstRefusal, ruled, mkPlan, Verdict, decided, After, mkAfter, limited, outcome}
+use Rattle.spec.specs.Calls.Check.{zones}
 use Rattle.spec.specs.Calls.Verdict.{refused, due}
-use Rattle.spec.specs.Closing.{closeChecks, closePlan, closeVerdict, emptyChecks, emptyPlan, emptyVerdict, reclaimFirst}
+use Rattle.spec.specs.Closing.{closeChecks, closePlan, closeVerdict, emptyChecks, emptyPlan, emptyVerdict}
 use Rattle.spec.specs.Drives.{View, viewOf, Disk, storeDisk, storeAll}
 use Rattle.spec.specs.Engine.{storeCount, lentBlock, verdict, lentOk, callOn, callDisk}
 use Rattle.spec.specs.Engine.Call.{write, close}
@@ -20,8 +20,7 @@ use Rattle.spec.specs.Lists.{isNil}
 use Rattle.spec.specs.Lists.Opt.{none, some}
 use Rattle.spec.specs.Memory.{Memory, hasFilling, stateFaults}
 use Rattle.spec.specs.Params.{inRange}
-use Rattle.spec.specs.Reclaim.{tableFaults}
-use Rattle.spec.specs.Write.{scarce, writeVerdict}
+use Rattle.spec.specs.Write.{writeVerdict}
 use Rattle.law_basic.specs.Ranges.{Test, test, not-both}
 use Rattle.law_basic.specs.Ranges.Test.{yes!, no! }
 use Rattle.law_checks.specs.Checks.{Decided, decide}
@@ -29,33 +28,22 @@ use Rattle.law_checks.specs.Passed.{EmptyPassed, empty-passed}
 use Rattle.law_checks.specs.Checks.Decided.{stops, goes}
 
 module _ (p : Params) (long : Bool) (v : View) (m : Memory) (a : ℕ) where
-  -- its checks, by whether a stripe is filling and whether the address is out of range
-  emptyBy : Bool → Bool → List Check
-  emptyBy h o =
-      rule 1 (not (inRange p)) ∷ rule 2 (not long) ∷ rule 3 (not (eqb (m .state .missing) 0)) ∷ rule 4 o ∷ rule 5 (h && reclaimFirst p v m)
-      ∷ zones (stateFaults p (m .state) ++ cond (h && scarce p v 1) (tableFaults p (m .addresses)) []) ∷ []
-
-  -- those of a closing, by whether a stripe is filling
-  closeBy : Bool → List Check
-  closeBy h =
-      rule 1 (not (inRange p)) ∷ rule 2 (not long) ∷ rule 3 (not (eqb (m .state .missing) 0)) ∷ rule 5 (not h || reclaimFirst p v m)
-      ∷ zones (stateFaults p (m .state) ++ cond (scarce p v 1) (tableFaults p (m .addresses)) []) ∷ []
-
-  empty-by : emptyChecks p long v m a ≡ emptyBy (hasFilling p (m .state)) (leb (p .L) a)
-  unfolding emptyChecks emptyBy
-  empty-by = refl
-
-  close-by : closeChecks p long v m ≡ closeBy (hasFilling p (m .state))
-  unfolding closeChecks closeBy
-  close-by = refl
-
-  both-by : firstRefusal (emptyBy true false) ≡ firstRefusal (closeBy true)
-  unfolding emptyBy closeBy firstRefusal ruled
-  both-by = refl
-
   -- where a stripe is filling and the address is in range
   same-refusal : hasFilling p (m .state) ≡ true → leb (p .L) a ≡ false → firstRefusal (emptyChecks p long v m a) ≡ firstRefusal (closeChecks p long v m)
-  same-refusal h l = ap firstRefusal (empty-by ∙ ap₂ emptyBy h l) ∙ both-by ∙ sym (ap firstRefusal (close-by ∙ ap closeBy h))
+  unfolding emptyChecks closeChecks firstRefusal ruled
+  same-refusal h l = rw (h, l) refl
+
+  -- 1, 2 and 3 pass
+  module _ (ranged : inRange p ≡ true) (lent : long ≡ true) (healthy : eqb (m .state .missing) 0 ≡ true) where
+    -- the address is out of range
+    pub far-refusal : leb (p .L) a ≡ true → firstRefusal (emptyChecks p long v m a) ≡ some (Refused 4)
+    unfolding emptyChecks firstRefusal ruled
+    far-refusal l = rw (ranged, lent, healthy, l) refl
+
+    -- where none is filling no more than the state is looked at
+    pub idle-refusal : leb (p .L) a ≡ false → hasFilling p (m .state) ≡ false → firstRefusal (emptyChecks p long v m a) ≡ firstRefusal (zones (stateFaults p (m .state)) ∷ [])
+    unfolding emptyChecks firstRefusal ruled
+    idle-refusal l h = rw (ranged, lent, healthy, l, h) (ap (λ (zs : List ℕ). firstRefusal (zones zs ∷ [])) (append-nil (stateFaults p (m .state))))
 
   filling-plan : hasFilling p (m .state) ≡ true → emptyPlan p m ≡ closePlan p m
   unfolding emptyPlan
@@ -69,7 +57,7 @@ module _ (p : Params) (long : Bool) (v : View) (m : Memory) (a : ℕ) where
   pub empty-asks : hasFilling p (m .state) ≡ true → firstRefusal (emptyChecks p long v m a) ≡ none → firstRefusal (closeChecks p long v m) ≡ none
   empty-asks h e = sym (same-refusal h (lt-leb (p .L) a (empty-passed p long v m a e .address-low))) ∙ e
 
-  -- where none is filling no more than the state is looked at
+  -- where none is filling nothing is due
   idle-plan : hasFilling p (m .state) ≡ false → emptyPlan p m ≡ mkPlan [] Nothing m []
   unfolding emptyPlan
   idle-plan h = rw h refl

@@ -190,6 +190,11 @@ module _ (p : Params) (long : Bool) (v : View) (m : Memory) (d s : ℕ) where
 
 -- ---- closing
 
+-- no fault of the state, and none of others that are looked at or not
+all-clear : (p : Params) (st : State) (t : Bool) (zs : List ℕ) → stateOk p st ≡ true → zs ≡ [] → stateFaults p st ++ cond t zs [] ≡ []
+all-clear p st true zs ok e = nil-all (stateFaults p st) zs (state-clear p st ok) e
+all-clear p st false zs ok e = nil-all (stateFaults p st) [] (state-clear p st ok) refl
+
 pub record ClosePassed (p : Params) (long : Bool) (v : View) (m : Memory) : Type 0 where
   pub in-range : inRange p ≡ true
   pub lent : long ≡ true
@@ -229,16 +234,11 @@ module _ (p : Params) (long : Bool) (v : View) (m : Memory) where
             refl,
             λ c3. (
               refl,
-              λ c5.
-                  (nil-all (stateFaults p st) (cond (scarce p v 1) (tableFaults p (m .addresses)) []) (state-clear p st ok) (either (scarce p v 1) (fine (none-missing (st .missing) c3))), tt),
+              λ c5. (all-clear p st (scarce p v 1) (tableFaults p (m .addresses)) ok (fine (none-missing (st .missing) c3)), tt),
             ),
           ),
         ),
       )
-    where
-      either : (t : Bool) → tableFaults p (m .addresses) ≡ [] → cond t (tableFaults p (m .addresses)) [] ≡ []
-      either true e = e
-      either false e = refl
 
 -- ---- the write of no bytes
 
@@ -268,7 +268,6 @@ module _ (p : Params) (long : Bool) (v : View) (m : Memory) (a : ℕ) where
   unfolding emptyChecks
   empty-mild ok fine =
       let st = m .state in
-      let few = hasFilling p st && scarce p v 1 in
       clear (emptyChecks p long v m a) (
         refl,
         λ c1. (
@@ -279,17 +278,12 @@ module _ (p : Params) (long : Bool) (v : View) (m : Memory) (a : ℕ) where
               refl,
               λ c4. (
                 refl,
-                λ c5.
-                    (nil-all (stateFaults p st) (cond few (tableFaults p (m .addresses)) []) (state-clear p st ok) (either few (fine (none-missing (st .missing) c3))), tt),
+                λ c5. (all-clear p st (hasFilling p st && scarce p v 1) (tableFaults p (m .addresses)) ok (fine (none-missing (st .missing) c3)), tt),
               ),
             ),
           ),
         ),
       )
-    where
-      either : (b : Bool) → tableFaults p (m .addresses) ≡ [] → cond b (tableFaults p (m .addresses)) [] ≡ []
-      either true e = e
-      either false e = refl
 
 -- ---- reclaim
 

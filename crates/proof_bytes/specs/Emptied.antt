@@ -1,23 +1,23 @@
 -- The write of no bytes on the lent bytes (02, item 1): it is refused, or a closing, or does nothing, and then the state's bytes come back as they were. Assumes nothing.
 use mathlib.Core.Path.{_≡_, refl, sym, ap, _∙_}
-use mathlib.Core.List.{List, [], _∷_, _++_}
-use mathlib.Core.Bool.{Bool, true, false, cond, not, _&&_}
+use mathlib.Core.List.{List, [], _∷_}
+use mathlib.Core.Bool.{Bool, true, false, _&&_}
 use mathlib.Core.Logic.{_⊎_, inl, inr}
 use Prim.Native.Nat.{ℕ, zero, suc, _≤_, _<_}
 use native.Mathlib.Omega.{arith}
 use borrow.Author.Tests.{lt-leb, le-leb, leb-true, eqb-true, ne-eqb}
-use lib.Dec.{leb, eqb}
+use lib.Dec.{eqb}
 use lib.ListN.{length, getD, replicate}
 use Rattle.spec.specs.declared.Params.{Params}
 use Rattle.spec.specs.declared.State.{State}
 use Rattle.spec.specs.declared.Stamp.{Stamp}
 use Rattle.spec.specs.declared.Answer.{Answer}
-use Rattle.spec.specs.declared.Answer.the-variants.{Refused, Nothing}
+use Rattle.spec.specs.declared.Answer.the-variants.{Refused, BadZone, Nothing}
 use Rattle.spec.specs.Answers.{kind, values, isRefused}
-use Rattle.spec.specs.Calls.{Check, firstRefusal, ruled, ninth, Plan, mkPlan, Verdict, decided, After, mkAfter, outcome}
-use Rattle.spec.specs.Calls.Check.{rule, zones}
+use Rattle.spec.specs.Calls.{firstRefusal, Plan, mkPlan, Verdict, decided, After, mkAfter, outcome}
+use Rattle.spec.specs.Calls.Check.{zones}
 use Rattle.spec.specs.Calls.Verdict.{refused, due}
-use Rattle.spec.specs.Closing.{padded, closeChecks, closePlan, closeVerdict, emptyChecks, emptyPlan, emptyVerdict, reclaimFirst}
+use Rattle.spec.specs.Closing.{padded, closeChecks, closePlan, closeVerdict, emptyChecks, emptyPlan, emptyVerdict}
 use Rattle.spec.specs.Counts.{paddingAddress}
 use Rattle.spec.specs.Demands.{areBytes}
 use Rattle.spec.specs.Drives.{View, Disk, storeDisk, storeAll}
@@ -28,15 +28,14 @@ use Rattle.spec.specs.Lists.{Opt, consIf}
 use Rattle.spec.specs.Lists.Opt.{none, some}
 use Rattle.spec.specs.Memory.{Memory, stateLen, stateBytes, stateOf, hasFilling, stateOk, stateFaults, addEntry}
 use Rattle.spec.specs.Params.{inRange}
-use Rattle.spec.specs.Reclaim.{tableFaults}
-use Rattle.spec.specs.Write.{scarce, placed}
+use Rattle.spec.specs.Write.{placed}
 use Rattle.law_basic.specs.Ranges.{and-left, and-right}
 use Rattle.law_basic.specs.Sections.{stateOf-stateBytes, stateBytes-stateOf}
 use Rattle.law_basic.specs.Stores.{done-all, no-count}
-use Rattle.law_calls.specs.Refusals.{refusal-kind}
+use Rattle.law_calls.specs.Refusals.{refusal-kind, zone-fails, zones-pass, none-left, state-fault, state-fine}
 use Rattle.law_checks.specs.Checks.{Decided, decide}
 use Rattle.law_checks.specs.Checks.Decided.{stops, goes}
-use Rattle.law_checks.specs.Empty.{empty-closes, Emptied, empty-decided}
+use Rattle.law_checks.specs.Empty.{empty-closes, far-refusal, idle-refusal, Emptied, empty-decided}
 use Rattle.law_checks.specs.Empty.Emptied.{as-closing, as-refused, as-nothing}
 use Rattle.law_checks.specs.Passed.{EmptyPassed}
 use Rattle.law_drives.specs.Image.{bytes-of}
@@ -45,20 +44,6 @@ use Rattle.law_views.specs.Views.{seen}
 use Rattle.spec_demands.specs.EmptyWrites.{stateIn, writable, emptyLeft, EmptyWritten, EmptyWrite}
 use Rattle.proof_bytes.specs.Fitted.{close-fits}
 use Rattle.proof_bytes.specs.Sections.{StateFits, fits-stateOf, state-sections-counted, fitting}
-
--- ---- its checks
-
--- 4 is the first that holds
-fourth-first : (x y z o : Bool) (cs : List Check) → x ≡ true → y ≡ true → z ≡ true → o ≡ true
-    → firstRefusal (rule 1 (not x) ∷ rule 2 (not y) ∷ rule 3 (not z) ∷ rule 4 o ∷ cs) ≡ some (Refused 4)
-unfolding firstRefusal ruled
-fourth-first x y z o cs hx hy hz ho = rw (hx, hy, hz, ho) refl
-
--- none holds
-none-holds : (x y z o h r s : Bool) (zs fs : List ℕ) → x ≡ true → y ≡ true → z ≡ true → o ≡ false → h ≡ false → zs ≡ []
-    → firstRefusal (rule 1 (not x) ∷ rule 2 (not y) ∷ rule 3 (not z) ∷ rule 4 o ∷ rule 5 (h && r) ∷ zones (zs ++ cond (h && s) fs []) ∷ []) ≡ none
-unfolding firstRefusal ruled ninth
-none-holds x y z o h r s zs fs hx hy hz ho hh hs = rw (hx, hy, hz, ho, hh, hs) refl
 
 -- padding takes no stamp
 padded-stamp : (p : Params) (i k : ℕ) (st : State) (fl : List ℕ) → padded p i k st fl .state .stamp ≡ st .stamp
@@ -179,34 +164,40 @@ module _ (p : Params) (l : Lent) (a n : ℕ) where
       let xy = and-left (inRange p && long) z w in
       (and-left (inRange p) long xy, and-right (inRange p) long xy, and-right (inRange p && long) z w)
 
+  -- ---- none is filling, or the address is out of range: the first check that holds
+
+  refused-as : (r : Answer) → isRefused r ≡ true → firstRefusal (emptyChecks p long view memory a) ≡ some r → emptyLeft p l a n .answer ≡ r
+  refused-as r k e = ap (λ (y : Left). y .answer) (empty-is ∙ ap (leaves! n) (stops! e) ∙ stopped-left r k)
+    where
+      stops! : firstRefusal (emptyChecks p long view memory a) ≡ some r → emptyVerdict p long view memory a ≡ refused r
+      stops! f = unfold emptyVerdict decided in ap (λ (o : Opt Answer). decided o (emptyPlan p memory)) f
+
+  -- the state's numbers are looked at, and no more
+  idle-first : hasFilling p (stateIn l) ≡ false → a < p .L → writable p l ≡ true
+      → firstRefusal (emptyChecks p long view memory a) ≡ firstRefusal (zones (stateFaults p (memory .state)) ∷ [])
+  idle-first h low w =
+      let (x, y, z) = passed w in
+      idle-refusal p long view memory a x y z (lt-leb (p .L) a low) (sym lent-filling ∙ h)
+
   is-accepted : hasFilling p (stateIn l) ≡ false → a < p .L → writable p l ≡ true → stateOk p (stateIn l) ≡ true → emptyLeft p l a n .answer ≡ Nothing
   is-accepted h low w s = go (empty-decided p long view memory a)
     where
-      ok : stateOk p (stateOf (l .state)) ≡ true
-      ok = unfold stateIn in s
-
-      fine : stateFaults p (memory .state) ≡ []
-      fine = unfold stateFaults lentMemory consIf in (let e = ok in rw e refl)
-
       all-pass : firstRefusal (emptyChecks p long view memory a) ≡ none
-      all-pass =
-          let (x, y, z) = passed w in
-          unfold emptyChecks in none-holds (inRange p) long (eqb (memory .state .missing) 0) (leb (p .L) a) (hasFilling p (memory .state)) (reclaimFirst p view memory) (scarce p view 1)
-          (stateFaults p (memory .state)) (tableFaults p (memory .addresses)) x y z (lt-leb (p .L) a low) (sym lent-filling ∙ h) fine
+      all-pass = idle-first h low w ∙ ap (λ (zs : List ℕ). firstRefusal (zones zs ∷ [])) (state-fine p (memory .state) (unfold stateIn lentMemory in s)) ∙ zones-pass [] [] refl ∙ none-left
 
       go : Emptied p long view memory a → emptyLeft p l a n .answer ≡ Nothing
       go (as-closing f x e) = clash (lent-filling ∙ f) h
       go (as-refused r e f) = let q : none ≡ some r = sym all-pass ∙ e in absurd (let z : _≡_ {A = ℕ} 0 1 = cc in let y : ⊥ = omega arith in y)
       go (as-nothing c f e) = ap (λ (y : Left). y .answer) (empty-is ∙ ap (leaves! n) e ∙ made-left Nothing memory (unfold isRefused kind in refl))
 
+  is-faulty : hasFilling p (stateIn l) ≡ false → a < p .L → writable p l ≡ true → stateOk p (stateIn l) ≡ false → emptyLeft p l a n .answer ≡ BadZone 0
+  is-faulty h low w s = refused-as (BadZone 0) (unfold isRefused kind in refl)
+      (idle-first h low w ∙ ap (λ (zs : List ℕ). firstRefusal (zones zs ∷ [])) (state-fault p (memory .state) (unfold stateIn lentMemory in s)) ∙ zone-fails 0 [])
+
   is-fourth : p .L ≤ a → writable p l ≡ true → emptyLeft p l a n .answer ≡ Refused 4
   is-fourth h w =
       let (x, y, z) = passed w in
-      ap (λ (y : Left). y .answer) (empty-is ∙ ap (leaves! n) (four x y z) ∙ stopped-left (Refused 4) (unfold isRefused kind in refl))
-    where
-      four : inRange p ≡ true → long ≡ true → eqb (memory .state .missing) 0 ≡ true → emptyVerdict p long view memory a ≡ refused (Refused 4)
-      four x y z = unfold emptyVerdict emptyChecks decided in
-          ap (λ (o : Opt Answer). decided o (emptyPlan p memory)) (fourth-first (inRange p) long (eqb (memory .state .missing) 0) (leb (p .L) a) _ x y z (le-leb (p .L) a h))
+      refused-as (Refused 4) (unfold isRefused kind in refl) (far-refusal p long view memory a x y z (le-leb (p .L) a h))
 
   is-stopped : p .L ≤ a → (isRefused (emptyLeft p l a n .answer) ≡ true) × (emptyLeft p l a n .lent ≡ l)
   is-stopped h = go empty-ends
@@ -278,6 +269,7 @@ module _ (p : Params) (l : Lent) (a n : ℕ) where
   written-empty = record {
     closes = is-closing;
     accepts = is-accepted;
+    faults = is-faulty;
     idles = is-idle;
     stops = is-stopped;
     stops-fourth = is-fourth;

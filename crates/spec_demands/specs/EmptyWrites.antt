@@ -8,7 +8,7 @@ use lib.Dec.{eqb}
 use lib.ListN.{length}
 use Rattle.spec.specs.declared.Params.{Params}
 use Rattle.spec.specs.declared.State.{State}
-use Rattle.spec.specs.declared.Answer.the-variants.{Refused, Nothing}
+use Rattle.spec.specs.declared.Answer.the-variants.{Refused, BadZone, Nothing}
 use Rattle.spec.specs.Answers.{isRefused}
 use Rattle.spec.specs.Demands.{areBytes}
 use Rattle.spec.specs.Engine.{lentOk, Lent, Left, lentDisk, lentMemory, callBytes}
@@ -35,6 +35,8 @@ pub record EmptyWritten (p : Params) (l : Lent) (a n : ℕ) : Type 0 where
   pub closes : hasFilling p (stateIn l) ≡ true → a < p .L → (k : ℕ) → emptyLeft p l a n ≡ callBytes p l (close k)
   -- "else accept": whatever is in flight, however few zones are empty
   pub accepts : hasFilling p (stateIn l) ≡ false → a < p .L → writable p l ≡ true → stateOk p (stateIn l) ≡ true → emptyLeft p l a n .answer ≡ Nothing
+  -- and a state that no call left is refused 9, as by every call (01, Refusals, 9)
+  pub faults : hasFilling p (stateIn l) ≡ false → a < p .L → writable p l ≡ true → stateOk p (stateIn l) ≡ false → emptyLeft p l a n .answer ≡ BadZone 0
   -- "and do nothing": all bytes are as they came
   pub idles : hasFilling p (stateIn l) ≡ false → areBytes (l .state) ≡ true
       → (emptyLeft p l a n .lent ≡ l) × ((emptyLeft p l a n .answer ≡ Nothing) ⊎ (isRefused (emptyLeft p l a n .answer) ≡ true))

@@ -1,1 +1,0 @@
--- A refusal as the host hears it (01, Refusals; Which form to use where). Assumes nothing.
