@@ -106,23 +106,43 @@ static void fill(void) {
     free(a);
 }
 
+static void same_stamp(sorgizhed_answer r, uint64_t stamp) {
+    if (sorgizhed_stamp(r) != stamp) { fprintf(stderr, "read: kind %d and another stamp than plain C's\n", (int)r.kind); exit(1); }
+}
+
+/* the time of a read that answers so */
+static double first_read(uint64_t kind) {
+    double least_time = 1e18;
+    size_t count = box.l < 100 ? 20000 : 4000;
+    for (size_t turn = 0; turn < 10; turn++) {
+        double t = now();
+        for (size_t i = 0; i < count; i++) must("read", sorgizhed_read(SORGIZHED_LENT(&box), i % box.l), kind);
+        least_time = least(least_time, (now() - t) / (double)count);
+    }
+    return least_time;
+}
+
 static void reads(const char *name, const size_t v[6]) {
-    double ours = 1e18, plain = 1e18, healthy = 1e18, copy = 1e18;
+    double ours = 1e18, plain = 1e18, healthy, never, copy[2] = {1e18, 1e18}; /* without and with the stamp */
     uint8_t block[4096];
     char text[80];
     size_t c, n = 0, gone = 1;
+    uint64_t stamps = 0;
     lend(v);
+    empty();
+    never = first_read(SORGIZHED_NEVER);
     fill();
     c = box.image_length / (box.n * box.z * (box.b + 20));
+    healthy = first_read(SORGIZHED_PART);
     for (size_t turn = 0; turn < 10; turn++) {
         size_t count = box.l < 100 ? 20000 : 4000;
-        double t = now();
-        for (size_t i = 0; i < count; i++) must("read", sorgizhed_read(SORGIZHED_LENT(&box), i % box.l), SORGIZHED_PART);
-        healthy = least(healthy, (now() - t) / (double)count);
-        t = now();
-        for (size_t i = 0; i < count; i++) plain_copy(block, box.image + random_below(box.l) * (box.b + 20), box.b);
-        copy = least(copy, (now() - t) / (double)count);
+        for (int stamp = 0; stamp < 2; stamp++) {
+            double t = now();
+            for (size_t i = 0; i < count; i++) stamps += plain_read(&box, i % box.l, stamp, block);
+            copy[stamp] = least(copy[stamp], (now() - t) / (double)count);
+        }
     }
+    for (size_t i = 0; i < box.l; i++) same_stamp(sorgizhed_read(SORGIZHED_LENT(&box), i), plain_read(&box, i, 1, block));
     restart(gone);
     uint64_t *lost = room(box.l * sizeof *lost);
     for (size_t i = 0; i < box.l; i++)
@@ -136,13 +156,14 @@ static void reads(const char *name, const size_t v[6]) {
         for (size_t i = 0; i < count; i++) {
             const uint8_t *e = box.addresses + 4 * lost[i % n];
             uint32_t q = (uint32_t)e[0] << 24 | (uint32_t)e[1] << 16 | (uint32_t)e[2] << 8 | e[3];
-            plain_decode(&box, q / c % box.z, q % c - 1, gone, block);
+            stamps += plain_decode(&box, q / c % box.z, q % c - 1, gone, block);
         }
         plain = least(plain, (now() - t) / (double)count);
     }
     free(lost);
-    snprintf(text, sizeof text, "%s: healthy read (C: copy of a block)", name);
-    line(text, healthy, copy, 0);
+    snprintf(text, sizeof text, "%s: healthy read (C: copy, stamp)", name);
+    line(text, healthy, copy[1], 0);
+    printf("  %-44s %12.0f ns %12.0f ns%s\n", "no stamp (ours: never written; C: copy)", never, copy[0], stamps == 0 ? " " : "");
     snprintf(text, sizeof text, "%s: degraded read", name);
     line(text, ours, plain, is_small() ? 0 : 0.9);
 }

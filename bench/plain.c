@@ -20,8 +20,6 @@ static void xor_into(uint8_t *restrict to, const uint8_t *restrict from, size_t 
     for (size_t i = 0; i < n; i++) to[i] ^= from[i];
 }
 
-void plain_copy(uint8_t *to, const uint8_t *from, size_t n) { memcpy(to, from, n); }
-
 static void put_record(uint8_t *p, uint64_t address, uint64_t stamp, uint32_t stripe) {
     put64(p, address), put64(p + 8, stamp), put32(p + 16, stripe);
 }
@@ -52,8 +50,33 @@ void plain_stripe(sorgizhed_box *x, size_t zone, size_t stripe, uint64_t stamp, 
     put_record(unit(x, parity, zone, 1 + stripe) + b, a, t, (uint32_t)stripe);
 }
 
-/* a lost block from the others, each at the offset that the compact table shows */
-void plain_decode(const sorgizhed_box *x, size_t zone, size_t stripe, size_t gone, uint8_t *block) {
+/* whether all zones of a segment, but for a missing drive's, are full */
+static int is_full(const sorgizhed_box *x, size_t c, size_t zone, size_t gone) {
+    for (size_t d = 0; d < x->n; d++)
+        if (d != gone && get32(x->pointers + 4 * (d * x->z + zone)) != c) return 0;
+    return 1;
+}
+
+/* the record of an offset in the zone whose header has this place: by footer in a full segment, else by spare */
+static const uint8_t *record(const sorgizhed_box *x, int full, size_t header, size_t o) {
+    size_t per = x->b / 20, unit = x->b + 20;
+    return full ? x->image + (header + 1 + x->s + o / per) * unit + 20 * (o % per) : x->image + (header + 1 + o) * unit + x->b;
+}
+
+/* the block that the table points at and, where it is asked for, its stamp */
+uint64_t plain_read(const sorgizhed_box *x, size_t address, int stamp, uint8_t *block) {
+    uint32_t q = get32(x->addresses + 4 * address);
+    memcpy(block, x->image + q * (x->b + 20), x->b);
+    if (!stamp) return 0;
+    uint32_t c = (uint32_t)capacity(x), zone = q / c;
+    return get64(record(x, is_full(x, c, zone % (uint32_t)x->z, SORGIZHED_NO_DRIVE), zone * c, q % c - 1) + 8);
+}
+
+/* a lost block and its stamp from the others, each at the offset that the compact table shows */
+uint64_t plain_decode(const sorgizhed_box *x, size_t zone, size_t stripe, size_t gone, uint8_t *block) {
+    size_t c = capacity(x);
+    int full = is_full(x, c, zone, gone);
+    uint64_t stamp = 0;
     memset(block, 0, x->b);
     for (size_t d = 0; d < x->n; d++) {
         if (d == gone) continue;
@@ -61,7 +84,9 @@ void plain_decode(const sorgizhed_box *x, size_t zone, size_t stripe, size_t gon
         size_t o = stripe / x->g * x->g;
         while (row[o] != (uint8_t)(stripe % x->g)) o++;
         xor_into(block, unit(x, d, zone, 1 + o), x->b);
+        stamp ^= get64(record(x, full, (d * x->z + zone) * c, o) + 8);
     }
+    return stamp;
 }
 
 /* a drive from the others: blocks and records of every stripe, headers and footers copied */

@@ -288,7 +288,7 @@ sorgizhed_answer sorgizhed_array_write(sorgizhed_array *a, uint64_t address, con
     sorgizhed_flight *f = chunk_sent(a, r);
     if (f == NULL) return failed(a);
     memcpy(kept_block(a, f, f->writes), block, a->box.b);
-    f->address[f->writes] = address, f->tag[f->writes++] = tag, a->writes++;
+    f->address[f->writes] = address, f->stamp[f->writes] = sorgizhed_stamp(r), f->tag[f->writes++] = tag, a->writes++;
     return r;
 }
 
@@ -336,16 +336,16 @@ sorgizhed_answer sorgizhed_array_fill(sorgizhed_array *a, uint64_t address, uint
 
 sorgizhed_answer sorgizhed_array_get(sorgizhed_array *a, uint64_t address, uint8_t *block) {
     const sorgizhed_flight *newest = NULL;
+    uint64_t stamp = 0;
     size_t at = 0;
     for (size_t i = 0; i < SORGIZHED_FLIGHTS; i++) {
         const sorgizhed_flight *f = &a->flights[i];
         for (size_t k = 0; f->used && k < f->writes; k++)
-            if (f->address[k] == address && (newest == NULL || f->stripe >= newest->stripe)) newest = f, at = k;
+            if (f->address[k] == address && f->stamp[k] > stamp) newest = f, at = k, stamp = f->stamp[k];
     }
-    sorgizhed_answer filled = {SORGIZHED_FILLED, 0, 0, 0};
     if (newest == NULL || a->over) return sorgizhed_array_fill(a, address, block);
     memcpy(block, kept_block(a, newest, at), a->box.b);
-    return filled;
+    return plain(SORGIZHED_FILLED, stamp);
 }
 
 sorgizhed_answer sorgizhed_array_flush(sorgizhed_array *a) {

@@ -154,6 +154,7 @@ static void check_tables(survey *s) {
         const winner *w = &s->best[i];
         uint64_t place = w->stamp == 0 ? UINT32_MAX : (w->drive * v->z + w->zone) * sorgizhed_array_capacity(s->a) + 1 + w->offset;
         if (number_at(v->addresses + 4 * i, 4) != place) fault(s, "address %zu: the table does not point at the newest block on the drives", i);
+        else if (sorgizhed_stamp(sorgizhed_read(SORGIZHED_LENT(v), i)) != w->stamp) fault(s, "address %zu: a read does not give the stamp of its block", i);
     }
     for (size_t i = 0; i < v->compact_length; i++)
         if (v->compact[i] != s->compact[i]) fault(s, "drive %zu, zone %zu, offset %zu: the compact table is not as the drive says", i / v->s / v->z, i / v->s % v->z, i % v->s);

@@ -162,7 +162,8 @@ int put_file(box *x, uint64_t address, const char *name) {
     int ok = address_free(x, address, user) && (more_blocks(x, length) == 0 || find_users(x, more_blocks(x, length), user));
     ok = ok && put_chain(x, p, length, address, user, &first) && put_index(x, address, p, length, first);
     free(user), free(p);
-    if (ok) printf("%zu bytes in %zu blocks at address %" PRIu64 ", acknowledged\n", length, more_blocks(x, length) + 1, address);
+    if (ok) printf("%zu bytes in %zu blocks at address %" PRIu64 ", acknowledged with stamp %" PRIu64 "\n", length, more_blocks(x, length) + 1, address,
+                   sorgizhed_stamp(sorgizhed_array_read(&x->array, address)));
     return ok;
 }
 
@@ -196,6 +197,7 @@ int get_file(box *x, uint64_t address) {
     int ok = read_chain(x, number_at(block + 24, 8), p + head, (size_t)length - head) && checksum(p, (size_t)length) == number_at(block + 16, 8);
     if (!ok) fprintf(stderr, "the file at address %" PRIu64 " is not whole: other blocks were written over its own\n", address);
     else if (fwrite(p, 1, (size_t)length, stdout) != length) { fprintf(stderr, "standard output: %s\n", strerror(errno)); ok = 0; }
+    else fprintf(stderr, "the file at address %" PRIu64 " has stamp %" PRIu64 "\n", address, sorgizhed_stamp(r)); /* its index block's, sent last */
     free(p);
     return ok;
 }

@@ -17,14 +17,14 @@ static const char usage[] =
     "       box --help | --version\n"
     "  create [DRIVES BLOCK ZONES STRIPES GROUP ADDRESSES]   a new array (without numbers: 4 drives, blocks of 4096, 16 zones of 64 stripes)\n"
     "  put ADDRESS FILE       stores a file under ADDRESS, whole or not at all; returns once it is acknowledged\n"
-    "  get ADDRESS            writes the file of ADDRESS to standard output\n"
+    "  get ADDRESS            writes the file of ADDRESS to standard output, and its stamp to standard error: the greater of two is newer\n"
     "  status [--json]        what the array holds\n"
     "  check                  reads everything and holds it against everything else: headers, footers, parity, tables\n"
     "  lose DRIVE             takes a drive away\n"
     "  replace DRIVE          puts an empty drive in its place and rebuilds it\n"
     "  reclaim                frees zones while any can be freed\n"
     "  soak SECONDS [DIARY [FIRST]]   writes at random from address FIRST on; DIARY gets a line for each write that is acknowledged\n"
-    "  verify DIARY           reads everything that the diary says was acknowledged\n";
+    "  verify DIARY           reads everything that the diary says was acknowledged, and compares the stamps with the order of the writes\n";
 
 /* a number from 0 to most */
 static int number(const char *what, const char *text, uint64_t most, uint64_t *out) {
@@ -111,10 +111,17 @@ static int begin(box *x, const char *folder) {
 
 /* ---- status */
 
-static uint64_t addresses_written(box *x) {
-    uint64_t written = 0;
-    for (size_t i = 0; i < x->files.box.l; i++) written += sorgizhed_array_read(&x->array, i).kind != SORGIZHED_NEVER;
-    return written;
+/* how many addresses are written, and the newest of their blocks; stamp 0: none is */
+typedef struct { uint64_t written, address, stamp; } holdings;
+
+static holdings held(box *x) {
+    holdings h = {0, 0, 0};
+    for (size_t i = 0; i < x->files.box.l; i++) {
+        sorgizhed_answer r = sorgizhed_array_read(&x->array, i);
+        h.written += r.kind != SORGIZHED_NEVER;
+        if (sorgizhed_stamp(r) > h.stamp) h.address = i, h.stamp = sorgizhed_stamp(r);
+    }
+    return h;
 }
 
 static void pointers_of(const box *x, size_t drive, const char *between) {
@@ -123,8 +130,11 @@ static void pointers_of(const box *x, size_t drive, const char *between) {
 
 static int status(box *x) {
     const sorgizhed_box *v = &x->files.box;
+    holdings h = held(x);
     printf("%zu drives of %zu zones, %zu stripes a zone in groups of %zu, blocks of %zu bytes\n", v->n, v->z, v->s, v->g, v->b);
-    printf("%" PRIu64 " of %zu addresses written\n", addresses_written(x), v->l);
+    printf("%" PRIu64 " of %zu addresses written", h.written, v->l);
+    if (h.stamp > 0) printf("; the newest block has stamp %" PRIu64 ", at address %" PRIu64, h.stamp, h.address);
+    printf("\n");
     printf("%zu of %zu zones empty on all drives\n", sorgizhed_array_empty_zones(&x->array), v->z);
     if (x->files.missing == SORGIZHED_NO_DRIVE) printf("all drives present\n");
     else printf("drive %zu is missing: the array is read-only until 'replace %zu'\n", x->files.missing, x->files.missing);
@@ -139,8 +149,12 @@ static int status(box *x) {
 
 static int status_json(box *x) {
     const sorgizhed_box *v = &x->files.box;
+    holdings h = held(x);
     printf("{\"drives\": %zu, \"block\": %zu, \"zones\": %zu, \"stripes\": %zu, \"group\": %zu, \"addresses\": %zu, ", v->n, v->b, v->z, v->s, v->g, v->l);
-    printf("\"written\": %" PRIu64 ", \"empty_zones\": %zu, \"capacity\": %zu, ", addresses_written(x), sorgizhed_array_empty_zones(&x->array), sorgizhed_array_capacity(&x->array));
+    printf("\"written\": %" PRIu64 ", \"newest_stamp\": %" PRIu64 ", ", h.written, h.stamp);
+    if (h.stamp == 0) printf("\"newest_address\": null, ");
+    else printf("\"newest_address\": %" PRIu64 ", ", h.address);
+    printf("\"empty_zones\": %zu, \"capacity\": %zu, ", sorgizhed_array_empty_zones(&x->array), sorgizhed_array_capacity(&x->array));
     if (x->files.missing == SORGIZHED_NO_DRIVE) printf("\"missing\": null, \"pointers\": [");
     else printf("\"missing\": %zu, \"pointers\": [", x->files.missing);
     for (size_t d = 0; d < v->n; d++) {

@@ -78,15 +78,17 @@ int soak(box *x, uint64_t seconds, const char *name, uint64_t first) {
 
 /* ---- verify */
 
-/* the version that an address reads, 0 if it was never written; what lies there must be a block that soak wrote */
-static int read_version(box *x, uint64_t address, uint64_t *version) {
+typedef struct { uint64_t stamp, version; } seen;
+
+/* stamp and version that an address reads, 0 if it was never written; what lies there must be a block that soak wrote */
+static int read_version(box *x, uint64_t address, seen *out) {
     uint8_t block[4096], want[4096];
-    *version = 0;
+    out->stamp = out->version = 0;
     if (sorgizhed_array_read(&x->array, address).kind == SORGIZHED_NEVER) return 1;
     sorgizhed_answer r = sorgizhed_array_fill(&x->array, address, block);
     if (r.kind != SORGIZHED_FILLED) return say(x, "read", r);
-    *version = number_at(block + 16, 8);
-    scan_block(x, address, *version, want);
+    out->stamp = sorgizhed_stamp(r), out->version = number_at(block + 16, 8);
+    scan_block(x, address, out->version, want);
     if (memcmp(block, want, x->files.box.b) == 0) return 1;
     fprintf(stderr, "address %" PRIu64 " holds a block that was never written there\n", address);
     return 0;
@@ -116,25 +118,44 @@ static int read_diary(const box *x, const char *name, uint64_t *newest, uint64_t
     return !bad;
 }
 
+static int by_stamp(const void *p, const void *q) {
+    const seen *a = p, *b = q;
+    return a->stamp < b->stamp ? -1 : a->stamp > b->stamp;
+}
+
+/* of any two blocks the one with the greater stamp was sent later, so its version is the greater one */
+static int in_order(seen *blocks, size_t n) {
+    qsort(blocks, n, sizeof *blocks, by_stamp);
+    for (size_t i = 1; i < n; i++)
+        if (blocks[i].stamp == blocks[i - 1].stamp || blocks[i].version <= blocks[i - 1].version) {
+            fprintf(stderr, "WRONG STAMP: version %" PRIu64 " has stamp %" PRIu64 ", and %" PRIu64 " has %" PRIu64 "\n", blocks[i - 1].version, blocks[i - 1].stamp, blocks[i].version, blocks[i].stamp);
+            return 0;
+        }
+    return 1;
+}
+
 /* every address reads the newest version that the diary says was acknowledged, or a newer one */
-static int hold_against(box *x, const uint64_t *newest, uint64_t lines) {
-    uint64_t kept = 0, lost = 0, version;
+static int hold_against(box *x, const uint64_t *newest, uint64_t lines, seen *blocks) {
+    uint64_t kept = 0, lost = 0;
     for (uint64_t i = 0; i < x->files.box.l; i++) {
+        seen *s = &blocks[kept];
         if (newest[i] == 0) continue;
-        if (!read_version(x, i, &version)) return 0;
+        if (!read_version(x, i, s)) return 0;
         show_progress("verify, addresses", i, x->files.box.l);
-        if (version >= newest[i]) { kept++; continue; }
+        if (s->version >= newest[i]) { kept++; continue; }
         lost++;
-        fprintf(stderr, "LOST: address %" PRIu64 " reads version %" PRIu64 ", and %" PRIu64 " was acknowledged\n", i, version, newest[i]);
+        fprintf(stderr, "LOST: address %" PRIu64 " reads version %" PRIu64 ", and %" PRIu64 " was acknowledged\n", i, s->version, newest[i]);
     }
     printf("%" PRIu64 " acknowledged writes in the diary; %" PRIu64 " addresses read their newest, %" PRIu64 " lost\n", lines, kept, lost);
-    return lost == 0;
+    return in_order(blocks, (size_t)kept) && lost == 0;
 }
 
 int verify(box *x, const char *name) {
     uint64_t lines, *newest = calloc(x->files.box.l, sizeof *newest);
-    if (newest == NULL) { fprintf(stderr, "not enough memory\n"); return 0; }
-    int ok = read_diary(x, name, newest, &lines) && hold_against(x, newest, lines);
-    free(newest);
+    seen *blocks = calloc(x->files.box.l, sizeof *blocks);
+    int ok = newest != NULL && blocks != NULL;
+    if (!ok) fprintf(stderr, "not enough memory\n");
+    ok = ok && read_diary(x, name, newest, &lines) && hold_against(x, newest, lines, blocks);
+    free(newest), free(blocks);
     return ok;
 }

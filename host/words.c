@@ -5,18 +5,18 @@
 #include <stdio.h>
 
 /* what the numbers of an answer stand for: each %s is one of them, in their order */
-static const char *sentence(uint64_t kind) {
-    switch (kind) {
+static const char *sentence(sorgizhed_answer r) {
+    switch (r.kind) {
     case SORGIZHED_CUT: return "cut at the store count";
     case SORGIZHED_SENT: return "sent with stamp %s in stripe %s on drive %s";
     case SORGIZHED_LANDED: return "landed; writes acknowledged: %s";
     case SORGIZHED_CLOSED: return "stripe %s is closed";
     case SORGIZHED_COPIED: return "copied with stamp %s into stripe %s on drive %s";
     case SORGIZHED_RESET: return "zone %s is freed";
-    case SORGIZHED_PART: return "the block begins at byte %s of the image";
+    case SORGIZHED_PART: return "the block begins at byte %s of the image, with stamp %s";
     case SORGIZHED_NEVER: return "never written";
-    case SORGIZHED_LOST: return "on the missing drive";
-    case SORGIZHED_FILLED: return "filled";
+    case SORGIZHED_LOST: return "on the missing drive, with stamp %s";
+    case SORGIZHED_FILLED: return r.first == 0 ? "never written: filled with zeros" : "filled with stamp %s";
     case SORGIZHED_RESTARTED: return "restarted; stripes that were under way and are not acknowledged: %s";
     case SORGIZHED_REBUILT: return "rebuilt";
     case SORGIZHED_NOTHING: return "no stripe is filling: nothing is done";
@@ -45,7 +45,7 @@ const char *sorgizhed_words(sorgizhed_answer r, char *out, size_t room) {
     if (r.kind == SORGIZHED_REFUSED) snprintf(out, room, "%s", refusal(r.first));
     else if (r.kind == SORGIZHED_BAD_ZONE) snprintf(out, room, "refused (9): the drives or tables are damaged in zone %s", number[1]);
     else {
-        const char *p = sentence(r.kind);
+        const char *p = sentence(r);
         size_t used = 0;
         for (int k = 0; *p != 0 && used + 1 < room; p++) {
             if (p[0] == '%' && k < 3) { int n = snprintf(out + used, room - used, "%s", number[k++]); used += (size_t)n; p++; }

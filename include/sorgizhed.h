@@ -58,13 +58,22 @@ typedef struct {
 #define SORGIZHED_CLOSED 5     /* a closing, or a write of no bytes that closed; first: stripe */
 #define SORGIZHED_COPIED 6     /* a reclaim that copied a block; first: its stamp, second: stripe, third: drive */
 #define SORGIZHED_RESET 7      /* a reclaim that freed a segment; first: zone */
-#define SORGIZHED_PART 8       /* a read; first: the byte of the image at which the block of b bytes begins */
-#define SORGIZHED_NEVER 9      /* a read of an address that was never written */
-#define SORGIZHED_LOST 10      /* a read of a block on the missing drive: sorgizhed_fill decodes it */
-#define SORGIZHED_FILLED 11    /* the lent block is filled */
+#define SORGIZHED_PART 8       /* a read; first: the byte of the image at which the block of b bytes begins, second: the block's stamp */
+#define SORGIZHED_NEVER 9      /* a read of an address that was never written; first: 0, the stamp of what was never written */
+#define SORGIZHED_LOST 10      /* a read of a block on the missing drive: sorgizhed_fill decodes it; first: its stamp */
+#define SORGIZHED_FILLED 11    /* the lent block is filled; first: the block's stamp, 0 if the address was never written */
 #define SORGIZHED_RESTARTED 12 /* a restart; first: stripes that had a chunk on some present drive but not on every one: they do not count */
 #define SORGIZHED_REBUILT 13   /* a rebuild */
 #define SORGIZHED_NOTHING 14   /* a write of no bytes where no stripe is filling: accepted, and nothing is done */
+
+/* The stamp of what was sent, copied or read: of two blocks that are read, the one with the greater stamp was sent later. 0 if never written, and for all other answers. */
+static inline uint64_t sorgizhed_stamp(sorgizhed_answer r) {
+    switch (r.kind) {
+    case SORGIZHED_SENT: case SORGIZHED_COPIED: case SORGIZHED_NEVER: case SORGIZHED_LOST: case SORGIZHED_FILLED: return r.first;
+    case SORGIZHED_PART: return r.second;
+    default: return 0;
+    }
+}
 
 /* Refusals, in the order in which they are looked for (restart and rebuild look for 9 before 6 and 8). A refusal changes no byte. */
 #define SORGIZHED_BAD_PARAMETER 1   /* a parameter outside its range; restart: missing neither below n nor 255; rebuild: a drive that the last
@@ -168,8 +177,9 @@ sorgizhed_answer sorgizhed_reclaim(size_t n, size_t b, size_t z, size_t s, size_
                                    uint8_t *inflight, size_t inflight_length, uint8_t *state, size_t state_length,
                                    uint64_t count);
 
-/* Says where the block of an address lies. Changes nothing.
- * Answers SORGIZHED_PART with its place in the image, SORGIZHED_NEVER, SORGIZHED_LOST, or a refusal: 1, 2, 4, 9. */
+/* Says where the block of an address lies, and its stamp: the one with which it was sent. Changes nothing. The stamp of a block on the missing drive is decoded, so
+ * where its stripe cannot be decoded the call is refused 9, as sorgizhed_fill is.
+ * Answers SORGIZHED_PART with its place in the image and its stamp, SORGIZHED_NEVER, SORGIZHED_LOST with its stamp, or a refusal: 1, 2, 4, 9. */
 sorgizhed_answer sorgizhed_read(size_t n, size_t b, size_t z, size_t s, size_t g, size_t l,
                                 const uint8_t *image, size_t image_length, const uint8_t *pointers, size_t pointers_length,
                                 const uint8_t *addresses, size_t addresses_length, const uint8_t *compact, size_t compact_length,
@@ -178,7 +188,7 @@ sorgizhed_answer sorgizhed_read(size_t n, size_t b, size_t z, size_t s, size_t g
 
 /* Fills the lent block of b bytes: with zeros if the address was never written, with a copy of the block, or with the block decoded from the other
  * drives if its drive is missing. Changes nothing else.
- * Answers SORGIZHED_FILLED, or a refusal: 1, 2, 4, 9. */
+ * Answers SORGIZHED_FILLED with the block's stamp, or a refusal: 1, 2, 4, 9. */
 sorgizhed_answer sorgizhed_fill(size_t n, size_t b, size_t z, size_t s, size_t g, size_t l,
                                 const uint8_t *image, size_t image_length, const uint8_t *pointers, size_t pointers_length,
                                 const uint8_t *addresses, size_t addresses_length, const uint8_t *compact, size_t compact_length,

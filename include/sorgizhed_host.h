@@ -35,12 +35,12 @@ typedef struct {
 /* stripes in flight, and stripes that are complete while a flush is due */
 #define SORGIZHED_FLIGHTS 16
 
-/* a stripe: which chunks wait or have landed (masks of drives), and the writes that it acknowledges, with their tags */
+/* a stripe: which chunks wait or have landed (masks of drives), and the writes that it acknowledges, with their stamps and tags */
 typedef struct {
     int used;
     size_t stripe, writes;
     unsigned sent, landed;
-    uint64_t address[7], tag[7];
+    uint64_t address[7], stamp[7], tag[7];
 } sorgizhed_flight;
 
 typedef struct {
@@ -95,7 +95,7 @@ sorgizhed_answer sorgizhed_array_flush(sorgizhed_array *a);
 
 /* A write, with the landings and reclaims that must come first. Answers SORGIZHED_SENT, or what stands against it. */
 sorgizhed_answer sorgizhed_array_send(sorgizhed_array *a, uint64_t address, const uint8_t *block, uint64_t tag);
-/* The block that was last sent to the address, landed or not; zeros if none was. Answers SORGIZHED_FILLED or a refusal. */
+/* The block that was last sent to the address, landed or not; zeros if none was. Answers SORGIZHED_FILLED with that block's stamp, or a refusal. */
 sorgizhed_answer sorgizhed_array_get(sorgizhed_array *a, uint64_t address, uint8_t *block);
 /* The end of a scan: a write of no bytes, with the landings and reclaims that must come first; lands everything and flushes: all writes are acknowledged.
  * Answers SORGIZHED_DURABLE, or what stands against it. */

@@ -64,10 +64,13 @@ pub enum Answer {
         drive: usize,
     },
     Reset(usize),
-    Part(usize),
+    /// Where the block lies in the image, and the stamp of its record.
+    Part(usize, u64),
     Never,
-    Lost,
-    Filled,
+    /// On the missing drive, with the decoded stamp.
+    Lost(u64),
+    /// With the stamp; 0 if never written.
+    Filled(u64),
     Restarted(u64),
     Rebuilt,
     Cut,

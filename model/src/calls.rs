@@ -26,6 +26,15 @@ pub struct Chosen {
     pub odd: bool,
 }
 
+/// What the lookup of an address gives (02, item 2).
+#[derive(Default)]
+struct Found {
+    lost: bool,
+    /// The stored chunks whose sum it is, each by drive, zone and offset: the block's own, or on the missing drive the others of its stripe; none if never written.
+    from: Vec<(usize, usize, usize)>,
+    stamp: u64,
+}
+
 impl Chosen {
     /// Some live block is not in flight.
     pub fn waiting(&self) -> bool {
@@ -441,8 +450,8 @@ impl Array {
         Ok(Answer::Closed(flight.stripe))
     }
 
-    /// Checks of both reads; then the place, none for never written.
-    fn look_up(&self, address: u64) -> Result<Option<(usize, usize, usize)>, Answer> {
+    /// Checks of both reads, and what they pass on.
+    fn look_up(&self, address: u64) -> Result<Found, Answer> {
         if address >= self.p.l {
             return Err(self.refuse(4, ""));
         }
@@ -452,22 +461,44 @@ impl Array {
         if place != NEVER {
             self.check_place(place, &mut faults);
         }
-        match faults.answer() {
-            Some(bad) => Err(bad),
-            None => Ok(if place == NEVER { None } else { self.p.split(place) }),
+        if let Some(bad) = faults.answer() {
+            return Err(bad);
         }
+        if place == NEVER {
+            self.note.set("never");
+            return Ok(Found::default());
+        }
+        let (d, z, block) = self.p.split(place).expect("a place that passed its checks");
+        let lost = Some(d) == self.state.missing;
+        let from = if lost {
+            (0..self.p.n)
+                .filter(|&e| e != d)
+                .map(|e| Some((e, z, self.shown(e, z, block - 1)?)))
+                .collect::<Option<Vec<_>>>()
+                .ok_or(Answer::Bad(z, "decode"))?
+        } else {
+            vec![(d, z, block - 1)]
+        };
+        let sealed = self.is_sealed(z, self.state.missing);
+        self.note.set(match (lost, sealed) {
+            (false, false) => "spare",
+            (false, true) => "footer",
+            (true, false) => "decoded spare",
+            (true, true) => "decoded footer",
+        });
+        let stamp = from.iter().fold(0, |x, &(e, z, o)| x ^ self.record(e, z, o, sealed).stamp);
+        Ok(Found { lost, from, stamp })
     }
 
     /// First read call.
     pub fn read(&self, address: u64) -> Answer {
-        if let Err(a) = self.in_order() {
-            return a;
-        }
-        match self.look_up(address) {
+        match self.in_order().and_then(|_| self.look_up(address)) {
             Err(a) => a,
-            Ok(None) => Answer::Never,
-            Ok(Some((d, _, _))) if Some(d) == self.state.missing => Answer::Lost,
-            Ok(Some((d, z, block))) => Answer::Part(self.at(d, z, block)),
+            Ok(Found { lost: true, stamp, .. }) => Answer::Lost(stamp),
+            Ok(found) => match found.from.first() {
+                None => Answer::Never,
+                Some(&(d, z, o)) => Answer::Part(self.at(d, z, 1 + o), found.stamp),
+            },
         }
     }
 
@@ -483,20 +514,12 @@ impl Array {
         if out.len() != self.p.b {
             return Err(self.refuse(2, "block"));
         }
-        match self.look_up(address)? {
-            None => out.fill(0),
-            Some((d, z, block)) if Some(d) == self.state.missing => {
-                let s = block - 1;
-                let mut decoded = vec![0; self.p.b];
-                for e in (0..self.p.n).filter(|&e| e != d) {
-                    let offset = self.shown(e, z, s).ok_or(Answer::Bad(z, "decode"))?;
-                    xor_into(&mut decoded, self.block(e, z, 1 + offset));
-                }
-                out.copy_from_slice(&decoded);
-            }
-            Some((d, z, block)) => out.copy_from_slice(self.block(d, z, block)),
+        let found = self.look_up(address)?;
+        out.fill(0);
+        for &(e, z, o) in &found.from {
+            xor_into(out, self.block(e, z, 1 + o));
         }
-        Ok(Answer::Filled)
+        Ok(Answer::Filled(found.stamp))
     }
 
     pub fn reclaim(&mut self, count: u64) -> Answer {

@@ -349,7 +349,7 @@ impl Generator<'_> {
         if self.array.p.n == 0 {
             return;
         }
-        let done = match self.rng().below(32) {
+        let done = match self.rng().below(35) {
             0 | 1 => self.change_pointer(),
             2 => self.change_pointers_of_zone(),
             3 | 4 => self.change_header(),
@@ -372,6 +372,7 @@ impl Generator<'_> {
             25 | 26 => self.change_serials(),
             27 | 28 => self.twin(),
             29 | 30 => self.odd_footers(),
+            31 | 32 => self.stamp_read(),
             _ => self.decode_hidden(),
         };
         if !done {
@@ -1091,14 +1092,77 @@ impl Generator<'_> {
         done
     }
 
+    /// Some drive is missing, if need be from here on.
+    fn lose(&mut self) -> Option<usize> {
+        if self.array.state.missing.is_none() {
+            let n = self.array.p.n as u64;
+            let d = self.rng().below(n);
+            self.emit(Restart(d, 0));
+        }
+        self.array.state.missing
+    }
+
+    fn both_reads(&mut self, a: u64) {
+        self.emit(Read(a));
+        let seed = self.chooser.seed();
+        self.emit(Fill(a, seed));
+    }
+
+    /// A written block whose spare and footer tell unlike stamps, or another address; its segment sealed or not, by one pointer; both reads of it.
+    fn stamp_read(&mut self) -> bool {
+        let p = self.array.p;
+        if self.rng().chance(50) {
+            self.lose();
+        }
+        let missing = self.array.state.missing;
+        let mut written = vec![];
+        for a in 0..p.l {
+            match p.split(self.array.entry(a)) {
+                Some((d, z, k)) if (1..=p.s).contains(&k) => written.push((a, d, z, k - 1)),
+                _ => {}
+            }
+        }
+        if self.array.state.out_of_range() || written.is_empty() {
+            return false;
+        }
+        let lost: Vec<_> = written.iter().copied().filter(|w| Some(w.1) == missing).collect();
+        let from = if lost.is_empty() || self.rng().chance(50) { written } else { lost };
+        let (a, d, z, offset) = *self.rng().pick(&from);
+        // On the missing drive, the record of another chunk of the stripe.
+        let e = if Some(d) == missing {
+            (d + 1 + self.rng().index(p.n - 1)) % p.n
+        } else {
+            d
+        };
+        let at = if e == d { Some(offset) } else { self.array.shown(e, z, offset) };
+        let Some(at) = at else { return false };
+        let mut r = self.array.record(e, z, at, self.array.is_sealed(z, missing));
+        r.stamp = if self.rng().chance(50) { r.stamp ^ 1 } else { self.rng().next() };
+        if self.rng().chance(20) {
+            r.address = self.rng().below(p.l);
+        }
+        let which = self.rng().below(3);
+        let f = self.rng().index(p.n);
+        let to = if self.rng().chance(50) {
+            p.cap
+        } else {
+            self.some_pointer(self.array.pointer(f, z))
+        };
+        let with_pointer = self.rng().chance(40);
+        let done = self.forge(|x| {
+            set_record(x, e, z, at, &r, which);
+            if with_pointer {
+                x.set_pointer(f, z, to);
+            }
+        });
+        self.both_reads(a);
+        done
+    }
+
     /// A decode whose stripe the compact table doesn't show.
     fn decode_hidden(&mut self) -> bool {
         let p = self.array.p;
-        if self.array.state.missing.is_none() {
-            let d = self.rng().below(p.n as u64);
-            self.emit(Restart(d, 0));
-        }
-        let Some(m) = self.array.state.missing else { return false };
+        let Some(m) = self.lose() else { return false };
         let lost: Vec<u64> = (0..p.l)
             .filter(|&a| {
                 p.split(self.array.entry(a))
@@ -1123,9 +1187,7 @@ impl Generator<'_> {
             }
             _ => x.set_entry(a, p.place(m, z, 1 + (block + 1) % p.s)),
         });
-        self.emit(Read(a));
-        let seed = self.chooser.seed();
-        self.emit(Fill(a, seed));
+        self.both_reads(a);
         done
     }
 }

@@ -28,6 +28,8 @@ fn number(bytes: &[u8]) -> u64 {
 pub struct Says {
     pub addresses: Vec<u8>,
     pub compact: Vec<u8>,
+    /// By address: the stamp of the record that holds; 0 if there is none.
+    pub stamps: Vec<u64>,
     /// Stripes with some chunk but not counted.
     pub uncounted: u64,
 }
@@ -104,12 +106,15 @@ pub fn says(p: &Params, image: &[u8], pointers: &[u8], missing: Option<usize>) -
     // The holder of each address comes last.
     candidates.sort_by(|a, b| (a.stamp, a.serial, b.drive, b.offset).cmp(&(b.stamp, b.serial, a.drive, a.offset)));
     let mut addresses = vec![0xff; 4 * p.l as usize];
+    let mut stamps = vec![0; p.l as usize];
     for c in candidates {
         addresses[4 * c.address as usize..][..4].copy_from_slice(&c.place.to_be_bytes());
+        stamps[c.address as usize] = c.stamp;
     }
     Says {
         addresses,
         compact,
+        stamps,
         uncounted,
     }
 }

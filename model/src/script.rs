@@ -202,12 +202,12 @@ pub fn line(array: &mut Array, command: &Command) -> String {
         Answer::Nothing => "nothing".into(),
         Answer::Copied { stamp, stripe, drive } => format!("copied {stamp} {stripe} {drive}"),
         Answer::Reset(z) => format!("reset {z}"),
-        Answer::Part(at) => format!("part {at}"),
-        Answer::Never => "never".into(),
-        Answer::Lost => "lost".into(),
-        Answer::Filled => {
+        Answer::Part(at, stamp) => format!("part {at} {stamp}"),
+        Answer::Never => "never 0".into(),
+        Answer::Lost(stamp) => format!("lost {stamp}"),
+        Answer::Filled(stamp) => {
             let lent = filled.unwrap_or_default();
-            format!("filled {:016x}", hash(&lent, lent.len() as u64))
+            format!("filled {:016x} {stamp}", hash(&lent, lent.len() as u64))
         }
         Answer::Restarted(n) => format!("restarted {n}"),
         Answer::Rebuilt => "rebuilt".into(),

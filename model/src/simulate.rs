@@ -10,11 +10,15 @@ use crate::script::{block, run, Outcome};
 use std::panic::{catch_unwind, AssertUnwindSafe};
 use std::time::{Duration, Instant};
 
-/// What a finished restart reads at each address: the number of the send, or none for never written.
-type Reading = Vec<Option<usize>>;
+/// What is read at an address: the number of the send, and the stamp; or none for never written.
+type Seen = Option<(usize, u64)>;
+
+/// What a finished restart reads at each address.
+type Reading = Vec<Seen>;
 
 struct Send {
     seed: u64,
+    stamp: u64,
     prefix: u64,
 }
 
@@ -60,52 +64,60 @@ impl Host {
         }
     }
 
-    fn send_of(&self, p: &Params, a: usize, bytes: &[u8]) -> Option<usize> {
+    /// The block as it was sent, and the stamp with which it was.
+    fn send_of(&self, p: &Params, a: usize, bytes: &[u8], stamp: u64) -> Result<usize, String> {
         let first = prefix(bytes);
-        let found = self.sent_at[a].iter().rev().find(|&&i| self.sends[i].prefix == first)?;
-        (block(self.sends[*found].seed, p.b) == bytes).then_some(*found)
+        let found = self.sent_at[a].iter().rev().find(|&&i| self.sends[i].prefix == first);
+        match found {
+            Some(&i) if block(self.sends[i].seed, p.b) == bytes => match self.sends[i].stamp {
+                sent if sent == stamp => Ok(i),
+                sent => Err(format!("address {a}: reads stamp {stamp}, the block was sent with {sent}")),
+            },
+            _ => Err(format!("address {a}: reads a block never sent there")),
+        }
     }
 
     /// The two read calls at one address.
-    fn read(&self, array: &Array, a: usize) -> Result<Option<usize>, String> {
+    fn read(&self, array: &Array, a: usize) -> Result<Seen, String> {
         let p = &array.p;
         let mut bytes = vec![0x5a; p.b];
         let first = array.read(a as u64);
-        if array.fill(a as u64, &mut bytes) != Answer::Filled {
+        let Answer::Filled(filled) = array.fill(a as u64, &mut bytes) else {
             return Err(format!("address {a}: the second read is refused"));
-        }
-        match first {
+        };
+        let stamp = match first {
             Answer::Never => {
-                if bytes.iter().any(|&b| b != 0) {
+                if bytes.iter().any(|&b| b != 0) || filled != 0 {
                     return Err(format!("address {a}: never written, but not zeros"));
                 }
                 return Ok(None);
             }
-            Answer::Part(at) => {
+            Answer::Part(at, stamp) => {
                 if array.image[at..at + p.b] != bytes {
                     return Err(format!("address {a}: the two reads differ"));
                 }
+                stamp
             }
-            Answer::Lost => {}
+            Answer::Lost(stamp) => stamp,
             other => return Err(format!("address {a}: the first read answers {other:?}")),
+        };
+        if stamp != filled {
+            return Err(format!("address {a}: the two reads give the stamps {stamp} and {filled}"));
         }
-        match self.send_of(p, a, &bytes) {
-            None => Err(format!("address {a}: reads a block never sent there")),
-            found => Ok(found),
-        }
+        self.send_of(p, a, &bytes, stamp).map(|i| Some((i, stamp)))
     }
 
     /// No earlier than the latest acknowledged.
-    fn floor(&self, a: usize, found: Option<usize>) -> Result<(), String> {
+    fn floor(&self, a: usize, found: Seen) -> Result<(), String> {
         match (found, self.acknowledged[a]) {
             (None, Some(_)) => Err(format!("address {a}: never written, but acknowledged")),
-            (Some(i), Some(k)) if i < k => Err(format!("address {a}: reads send {i}, but {k} was acknowledged")),
+            (Some((i, _)), Some(k)) if i < k => Err(format!("address {a}: reads send {i}, but {k} was acknowledged")),
             _ => Ok(()),
         }
     }
 
     /// Demand 3 after a finished restart; `before` is what the finished restart before it read, where nothing was sent between.
-    fn check(&self, array: &Array, before: &dyn Fn(usize) -> Option<Option<usize>>) -> Result<Reading, String> {
+    fn check(&self, array: &Array, before: &dyn Fn(usize) -> Option<Seen>) -> Result<Reading, String> {
         let mut reading = vec![];
         for a in 0..array.p.l as usize {
             let found = self.read(array, a)?;
@@ -123,7 +135,7 @@ impl Host {
     }
 
     /// What must be read again: the last finished restart's reading where nothing was sent since.
-    fn before(&self) -> impl Fn(usize) -> Option<Option<usize>> + '_ {
+    fn before(&self) -> impl Fn(usize) -> Option<Seen> + '_ {
         move |a| match &self.last {
             Some(last) if !self.since[a] => Some(last[a]),
             _ => None,
@@ -131,7 +143,16 @@ impl Host {
     }
 }
 
-/// Demand 2: the tables in memory are what the drives say.
+/// The stamp that the first read gives.
+fn stamp_of(answer: Answer) -> Option<u64> {
+    match answer {
+        Answer::Never => Some(0),
+        Answer::Part(_, stamp) | Answer::Lost(stamp) => Some(stamp),
+        _ => None,
+    }
+}
+
+/// Demand 2: the tables in memory, and the stamps that they lead to, are what the drives say.
 fn check_tables(array: &Array) -> Result<(), String> {
     let says = oracle::says(&array.p, &array.image, &array.pointers, array.state.missing);
     if says.addresses != array.addresses {
@@ -139,6 +160,14 @@ fn check_tables(array: &Array) -> Result<(), String> {
     }
     if says.compact != array.compact {
         return Err("the compact table is not what the drives say".into());
+    }
+    for (a, &stamp) in says.stamps.iter().enumerate() {
+        let first = array.read(a as u64);
+        if stamp_of(first) != Some(stamp) {
+            return Err(format!(
+                "address {a}: the first read answers {first:?}, the drives say stamp {stamp}"
+            ));
+        }
     }
     Ok(())
 }
@@ -254,10 +283,11 @@ impl History<'_> {
                 self.counts.cuts += 1;
                 host.stripes.clear();
             }
-            (Write(a, seed, _), Answer::Sent { stripe, drive, .. }) => {
+            (Write(a, seed, _), Answer::Sent { stamp, stripe, drive }) => {
                 let i = host.sends.len();
                 host.sends.push(Send {
                     seed,
+                    stamp,
                     prefix: prefix(&block(seed, p.b)),
                 });
                 host.sent_at[a as usize].push(i);
@@ -304,7 +334,7 @@ impl History<'_> {
                 host.last = Some(reading);
                 host.since.fill(false);
             }
-            (Fill(a, _), Answer::Filled) => {
+            (Fill(a, _), Answer::Filled(_)) => {
                 let found = host.read(&self.array, a as usize)?;
                 host.floor(a as usize, found)?;
             }

@@ -172,6 +172,61 @@ static void empties(void) {
     leaves(EMPTY, SORGIZHED_NOTHING, 0, "does nothing on an array without a write");
 }
 
+/* a read answers so and changes nothing but the block that the second one fills */
+static void reads(int k, uint64_t at_address, uint64_t kind, uint64_t first, uint64_t second, const char *what) {
+    address = at_address, keep();
+    sorgizhed_answer r = call(k);
+    if (k == FILL) memcpy(bytes[BLOCK], kept[BLOCK], length[BLOCK]);
+    expect(r.kind == kind && r.first == first && r.second == second && r.third == 0 && unchanged(), names[k], what, at_address);
+    expect(sorgizhed_stamp(r) == (kind == SORGIZHED_PART ? second : kind == SORGIZHED_BAD_ZONE ? 0 : first), names[k], "its stamp", at_address);
+    usual();
+}
+
+/* both reads of an address: the part and stamp, or lost with the stamp */
+static void stamped(uint64_t a, uint64_t part, uint64_t stamp, const char *what) {
+    if (part == 0) reads(READ, a, stamp == 0 ? SORGIZHED_NEVER : SORGIZHED_LOST, stamp, 0, what);
+    else reads(READ, a, SORGIZHED_PART, part, stamp, what);
+    reads(FILL, a, SORGIZHED_FILLED, stamp, 0, what);
+}
+
+/* Stamps of reads: of blocks by their spare and, once the segment is sealed, by its footer; decoded; and where they can't be. */
+static void stamps(void) {
+    enum { UNIT = B + 20, ZONE = 7 * UNIT, DRIVE = Z * ZONE, SPARE_STAMP = UNIT + B + 15, FOOTER_STAMP = 5 * UNIT + 15 };
+    prepare(0);
+    /* address 1 on drive 0 and 2 on drive 1 are landed with 1 and 2; address 1 is in flight with 3 */
+    stamped(0, 0, 0, "never written");
+    stamped(1, UNIT, 1, "by its spare, and not what is in flight");
+    stamped(2, DRIVE + UNIT, 2, "by its spare");
+    bytes[IMAGE][SPARE_STAMP] = 200, bytes[IMAGE][SPARE_STAMP - 7] = 1, bytes[IMAGE][SPARE_STAMP - 8] = 5;
+    stamped(1, UNIT, (UINT64_C(1) << 56) + 200, "as the spare has it, whatever its address");
+    bytes[IMAGE][SPARE_STAMP] = 1, bytes[IMAGE][SPARE_STAMP - 7] = 0, bytes[IMAGE][SPARE_STAMP - 8] = 1;
+    expect(call(CLOSE).kind == SORGIZHED_CLOSED, "close", "stripe", 1);
+    for (stripe = 1; stripe < S; stripe++) {
+        for (address = 3; stripe > 1 && address < 5; address++) expect(call(WRITE).kind == SORGIZHED_SENT, "write", "address", address);
+        for (drive = 0; drive < N; drive++) expect(call(LAND).kind == SORGIZHED_LANDED, "land", "drive", drive);
+    }
+    usual();
+    stamped(1, 2 * UNIT, 3, "the newer one, in a sealed segment");
+    stamped(4, DRIVE + 4 * UNIT, 7, "its newer one");
+    bytes[IMAGE][DRIVE + SPARE_STAMP] = 99;
+    stamped(2, DRIVE + UNIT, 2, "by the footer of a sealed segment");
+    bytes[IMAGE][DRIVE + FOOTER_STAMP] = 98;
+    stamped(2, DRIVE + UNIT, 98, "as the footer has it");
+    bytes[POINTERS][4 * 2 * Z + 3] = 6;
+    stamped(2, DRIVE + UNIT, 99, "by the spare where a zone of the segment is not full");
+    bytes[POINTERS][4 * 2 * Z + 3] = 7, bytes[IMAGE][DRIVE + SPARE_STAMP] = bytes[IMAGE][DRIVE + FOOTER_STAMP] = 2;
+    missing = 1;
+    expect(call(RESTART).kind == SORGIZHED_RESTARTED, "restart", "without drive", 1);
+    usual();
+    memset(bytes[IMAGE] + DRIVE, 0xee, DRIVE), memset(bytes[POINTERS] + 4 * Z, 0xee, 4 * Z);
+    stamped(2, 0, 2, "decoded");
+    stamped(1, 2 * UNIT, 3, "of a present drive");
+    bytes[COMPACT][0] = 1;
+    reads(READ, 2, SORGIZHED_BAD_ZONE, 9, 0, "of a stripe that the table does not show");
+    reads(FILL, 2, SORGIZHED_BAD_ZONE, 9, 0, "of a stripe that the table does not show");
+    stamped(1, 2 * UNIT, 3, "of a present drive");
+}
+
 /* a call without its buffers leaves as many bytes as one with them: the lengths of the header's functions are the calls' own */
 static void functions(void) {
     expect(sorgizhed_state_length() == SORGIZHED_STATE_LENGTH, "length", "state", 0);
@@ -201,6 +256,7 @@ int main(void) {
     }
     numbers();
     empties();
+    stamps();
     printf("%d passed, %d failed\n", passed, failed);
     return failed != 0;
 }

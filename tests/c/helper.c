@@ -27,6 +27,13 @@ static void words(void) {
     expect(strcmp(sorgizhed_words(bad, text, sizeof text), "refused (9): the drives or tables are damaged in zone 3") == 0, "damaged");
     sorgizhed_answer nothing = {SORGIZHED_NOTHING, 0, 0, 0};
     expect(strcmp(sorgizhed_words(nothing, text, sizeof text), "no stripe is filling: nothing is done") == 0 && sorgizhed_is_result(nothing), "nothing");
+    static const struct { sorgizhed_answer r; uint64_t stamp; const char *words; } reads[] = {
+        {{SORGIZHED_PART, 84, 18, 0}, 18, "the block begins at byte 84 of the image, with stamp 18"}, {{SORGIZHED_NEVER, 0, 0, 0}, 0, "never written"},
+        {{SORGIZHED_LOST, 18, 0, 0}, 18, "on the missing drive, with stamp 18"}, {{SORGIZHED_FILLED, 18, 0, 0}, 18, "filled with stamp 18"}, {{SORGIZHED_FILLED, 0, 0, 0}, 0, "never written: filled with zeros"},
+        {{SORGIZHED_COPIED, 18, 2, 1}, 18, "copied with stamp 18 into stripe 2 on drive 1"}, {{SORGIZHED_LANDED, 2, 0, 0}, 0, "landed; writes acknowledged: 2"}};
+    for (size_t i = 0; i < sizeof reads / sizeof *reads; i++)
+        expect(strcmp(sorgizhed_words(reads[i].r, text, sizeof text), reads[i].words) == 0 && sorgizhed_stamp(reads[i].r) == reads[i].stamp, reads[i].words);
+    expect(sorgizhed_stamp(sent) == 18 && sorgizhed_stamp(bad) == 0, "the stamp of an answer");
     expect(strcmp(sorgizhed_words(odd, text, sizeof text), "refused by an unknown number") == 0 && *sorgizhed_words(odd, text, 0) == 0, "odd");
 }
 
@@ -94,22 +101,30 @@ static void run(void) {
     sorgizhed_array_shut(&a);
     expect(sorgizhed_array_open(&a, &shape, &d, SORGIZHED_NO_DRIVE).kind == SORGIZHED_OPENED && sorgizhed_array_restart(&a, SORGIZHED_NO_DRIVE).kind == SORGIZHED_RESTARTED, "open");
     a.told = note, a.told_who = &a;
+    uint64_t stamp[7] = {0};
     for (uint64_t i = 0; i < 60; i++) {
         block[0] = (uint8_t)i;
-        expect(sorgizhed_array_send(&a, i % 7, block, i).kind == SORGIZHED_SENT, "send");
-        expect(sorgizhed_array_get(&a, i % 7, back).kind == SORGIZHED_FILLED && back[0] == (uint8_t)i, "the newest, landed or not");
+        sorgizhed_answer s = sorgizhed_array_send(&a, i % 7, block, i), g = sorgizhed_array_get(&a, i % 7, back);
+        expect(s.kind == SORGIZHED_SENT && sorgizhed_stamp(s) == i + 1, "send");
+        expect(g.kind == SORGIZHED_FILLED && back[0] == (uint8_t)i && sorgizhed_stamp(g) == sorgizhed_stamp(s), "the newest, landed or not, with the stamp of its send");
+        expect(sorgizhed_stamp(sorgizhed_array_read(&a, i % 7)) <= sorgizhed_stamp(g), "what has landed is no newer");
+        stamp[i % 7] = sorgizhed_stamp(s);
         if (sorgizhed_array_waiting(&a) > 3) sorgizhed_array_land_one(&a, sorgizhed_array_waiting(&a) - 1);
     }
-    expect(sorgizhed_array_get(&a, 8, back).kind == SORGIZHED_FILLED && back[0] == 0 && sorgizhed_array_get(&a, 30, back).kind == SORGIZHED_REFUSED, "never written, too high");
+    sorgizhed_answer never = sorgizhed_array_get(&a, 8, back);
+    expect(never.kind == SORGIZHED_FILLED && back[0] == 0 && never.first == 0 && sorgizhed_array_get(&a, 30, back).kind == SORGIZHED_REFUSED, "never written, too high");
     expect(sorgizhed_array_end(&a, 30).first == SORGIZHED_BAD_ADDRESS, "an end at no address");
     sorgizhed_answer r = sorgizhed_array_end(&a, 3);
     expect(r.kind == SORGIZHED_DURABLE && r.first == 60 && a.acknowledged == 60 && flushed_when_told == 60, "all acknowledged, and durable when told");
     for (uint64_t i = 0; i < 60; i++) expect(told[i] == 1, "each once");
+    for (uint64_t i = 0; i < 7; i++)
+        expect(sorgizhed_stamp(sorgizhed_array_read(&a, i)) == stamp[i] && sorgizhed_stamp(sorgizhed_array_get(&a, i, back)) == stamp[i], "its stamp, once it has landed");
     expect(sorgizhed_array_write_nothing(&a, 3).kind == SORGIZHED_NOTHING, "none is filling behind it");
     expect(sorgizhed_array_send(&a, 3, block, 61).kind == SORGIZHED_SENT && sorgizhed_array_write_nothing(&a, 3).kind == SORGIZHED_CLOSED, "a scan of one block");
     expect(sorgizhed_array_waiting(&a) == shape.n && sorgizhed_array_settle(&a).first == 61 && sorgizhed_array_end(&a, 0).first == 61, "all its chunks wait, and land");
     expect(a.flushes < 40 * shape.n, "few flushes");
     expect(sorgizhed_array_restart(&a, 2).kind == SORGIZHED_RESTARTED && sorgizhed_array_send(&a, 0, block, 0).first == SORGIZHED_READ_ONLY, "read-only with a drive missing");
+    for (uint64_t i = 0; i < 7; i++) expect(sorgizhed_stamp(sorgizhed_array_read(&a, i)) == (i == 3 ? 61 : stamp[i]), "its stamp, with a drive missing");
     expect(sorgizhed_array_end(&a, 0).first == SORGIZHED_READ_ONLY && sorgizhed_array_settle(&a).kind == SORGIZHED_DURABLE, "an empty write is a write; nothing is in flight");
     sorgizhed_array_shut(&a);
     ram_free(&memory);
@@ -125,16 +140,21 @@ static void scans(void) {
     sorgizhed_drives d = ram_drives(&memory);
     expect(sorgizhed_array_open(&a, &small, &d, SORGIZHED_NO_DRIVE).kind == SORGIZHED_OPENED && sorgizhed_array_restart(&a, SORGIZHED_NO_DRIVE).kind == SORGIZHED_RESTARTED, "open");
     for (uint64_t i = 0; i < 60; i++) {
+        uint64_t sent = 0;
         for (uint64_t k = 0; k < 4; k++) {
             block[0] = (uint8_t)(4 * i + k);
-            expect(sorgizhed_array_send(&a, i % 2 ? k % 2 : k, block, 0).kind == SORGIZHED_SENT, "a block");
+            sorgizhed_answer r = sorgizhed_array_send(&a, i % 2 ? k % 2 : k, block, 0);
+            expect(r.kind == SORGIZHED_SENT, "a block");
+            sent = sorgizhed_stamp(r);
         }
         expect(sorgizhed_array_end(&a, 3).first == 4 * (i + 1), "a scan");
         sorgizhed_array_reclaim(&a);
         sorgizhed_answer r = sorgizhed_array_write_nothing(&a, 0);
         short_of_zones += r.kind == SORGIZHED_REFUSED && r.first == SORGIZHED_NOTHING_TO_DO;
         expect(sorgizhed_array_end(&a, 0).kind == SORGIZHED_DURABLE, "an end");
-        expect(sorgizhed_array_fill(&a, i % 2 ? 1 : 3, back).kind == SORGIZHED_FILLED && back[0] == (uint8_t)(4 * i + 3), "the newest, landed");
+        r = sorgizhed_array_fill(&a, i % 2 ? 1 : 3, back);
+        expect(r.kind == SORGIZHED_FILLED && back[0] == (uint8_t)(4 * i + 3) && sorgizhed_stamp(r) == sent, "the newest, landed, with its stamp");
+        for (uint64_t k = 0; k < 4; k++) expect(sorgizhed_stamp(sorgizhed_array_read(&a, k)) <= sent, "copies keep their stamps");
     }
     expect(short_of_zones > 0 && a.copied > 0 && a.resets > 0, "zones were scarce");
     printf("%d empty writes were refused for scarce zones\n", short_of_zones);

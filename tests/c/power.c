@@ -1,6 +1,6 @@
 /* Power cuts. An array works on drives with a volatile cache; at random points the power is cut, and of what was not flushed a random part lasts. Each
- * time a restart must not be refused, and must read at every address a block that was sent there, no earlier than the newest that was told acknowledged,
- * and what the finished restart before it read if nothing was sent between. Drives are lost and rebuilt too.
+ * time a restart must not be refused, and must read at every address a block that was sent there, with the stamp of that send, no earlier than the newest that
+ * was told acknowledged, and what the finished restart before it read if nothing was sent between. Drives are lost and rebuilt too.
  *
  *     power CUTS           drives in memory: zone by zone a first part lasts
  *     power CUTS FOLDER    drives as files in FOLDER (which must not be there): any sectors of 512 bytes last that were not synchronized
@@ -34,7 +34,7 @@ static int traced_renameat(int from, const char *old, int to, const char *new);
 #undef renameat
 
 enum { SYNC = 32 }; /* taken out: the file's own synchronizing */
-enum { MOST_ADDRESSES = 64 };
+enum { MOST_ADDRESSES = 64, MOST_SENDS = 1 << 20 };
 
 static uint64_t seed;
 
@@ -172,7 +172,8 @@ static const char *folder; /* NULL: drives in memory */
 static sorgizhed_array box;
 static size_t missing;
 static uint64_t version, acknowledged[MOST_ADDRESSES], read_last[MOST_ADDRESSES], sent_last[MOST_ADDRESSES], told_in_all;
-static int sent_since, cuts, restarts_cut, rebuilds_cut, lost, refused_restarts;
+static uint64_t stamp_of[MOST_SENDS]; /* by version; 0: not sent */
+static int sent_since, cuts, restarts_cut, rebuilds_cut, lost, refused_restarts, stamps_read;
 
 static void scan(uint64_t address, uint64_t number, size_t b, uint8_t *out) {
     uint64_t x = address * UINT64_C(0x9e3779b97f4a7c15) ^ number;
@@ -225,12 +226,14 @@ static void look(const sorgizhed_box *v) {
     uint8_t block[4096], want[4096];
     for (uint64_t i = 0; i < v->l; i++) {
         uint64_t had = 0;
-        if (sorgizhed_array_read(&box, i).kind != SORGIZHED_NEVER) {
-            if (sorgizhed_array_fill(&box, i, block).kind != SORGIZHED_FILLED) { lost++; continue; }
+        sorgizhed_answer first = sorgizhed_array_read(&box, i), second = sorgizhed_array_fill(&box, i, block);
+        if (second.kind != SORGIZHED_FILLED || sorgizhed_stamp(first) != sorgizhed_stamp(second)) { lost++; continue; }
+        if (first.kind != SORGIZHED_NEVER) {
             had = number_at(block + 8, 8);
             scan(i, had, v->b, want);
-            if (memcmp(block, want, v->b) != 0) { lost++; continue; }
-        }
+            if (memcmp(block, want, v->b) != 0 || had >= MOST_SENDS || sorgizhed_stamp(first) != stamp_of[had]) { lost++; continue; }
+            stamps_read++;
+        } else if (sorgizhed_stamp(first) != 0) lost++;
         if (had < acknowledged[i] || had > sent_last[i] || (!sent_since && had != read_last[i])) lost++;
         read_last[i] = had;
     }
@@ -275,8 +278,10 @@ static void work(const sorgizhed_box *v) {
     while (!box.over) {
         uint64_t k = chance(100), address = chance(chance(3) ? v->l / 2 + 1 : v->l);
         if (k < 60) {
-            scan(address, ++version, v->b, block);
+            if (++version == MOST_SENDS) { puts("too many writes"); exit(2); }
+            scan(address, version, v->b, block);
             sorgizhed_answer r = chance(2) ? sorgizhed_array_write(&box, address, block, version) : sorgizhed_array_send(&box, address, block, version);
+            stamp_of[version] = sorgizhed_stamp(r);
             if (r.kind == SORGIZHED_SENT || r.kind == SORGIZHED_DRIVE_FAILED) sent_last[address] = version, sent_since = 1;
         } else if (k < 85 && sorgizhed_array_waiting(&box) > 0) sorgizhed_array_land_one(&box, (size_t)chance(sorgizhed_array_waiting(&box)));
         else if (k < 86) sorgizhed_array_close(&box);
@@ -305,13 +310,13 @@ static void end(void) {
     sorgizhed_files_close(&files);
 }
 
-/* arrays one after the other until so many cuts are made; how many blocks were lost and restarts refused, the first of them if it is enough */
+/* arrays one after the other until so many cuts are made or a block is lost; how many blocks were lost and restarts refused, the first of them if it is enough */
 static int trial(int most, int taken_out, int first) {
     static const sorgizhed_box shapes[] = {{.n = 3, .b = 64, .z = 4, .s = 4, .g = 2, .l = 8}, {.n = 4, .b = 512, .z = 6, .s = 5, .g = 1, .l = 24},
                                            {.n = 3, .b = 128, .z = 5, .s = 24, .g = 24, .l = 40}, {.n = 5, .b = 1024, .z = 5, .s = 3, .g = 3, .l = 16},
                                            {.n = 3, .b = 512, .z = 9, .s = 6, .g = 4, .l = 60}};
-    without = taken_out, cuts = restarts_cut = rebuilds_cut = lost = refused_restarts = 0, told_in_all = 0;
-    for (uint64_t k = 1; cuts < most && !(first && lost + refused_restarts); k++) {
+    without = taken_out, cuts = restarts_cut = rebuilds_cut = lost = refused_restarts = stamps_read = 0, told_in_all = 0;
+    for (uint64_t k = 1; cuts < most && lost == 0 && !(first && refused_restarts); k++) {
         const sorgizhed_box *v = &shapes[k % 5];
         seed = 2 * k + 1;
         begin(v);
@@ -333,8 +338,9 @@ int main(int n, char **words) {
     if (most <= 0 || n > 3) { fputs("usage: power CUTS [FOLDER]\n", stderr); return 2; }
     folder = n > 2 ? words[2] : NULL;
     failed += trial(most, 0, 0), passed += cuts;
-    printf("%d power cuts, %d in restarts, %d in rebuilds; %" PRIu64 " writes acknowledged, %d lost, %d restarts refused\n", cuts, restarts_cut, rebuilds_cut, told_in_all, lost,
-           refused_restarts);
+    printf("%d power cuts, %d in restarts, %d in rebuilds; %" PRIu64 " writes acknowledged, %d lost, %d restarts refused; %d blocks read with the stamp of their send\n", cuts, restarts_cut,
+           rebuilds_cut, told_in_all, lost, refused_restarts, stamps_read);
+    failed += stamps_read < most;
     for (size_t i = 0; i < sizeof out / sizeof *out; i++) {
         if (out[i].in_files != (folder != NULL)) continue;
         int broken = trial(20000, out[i].kinds, 1); /* to its first failure */

@@ -98,10 +98,10 @@ static void answer(sorgizhed_answer r, const uint8_t *filled, size_t length) {
     case SORGIZHED_CLOSED: printf("closed %" PRIu64, r.first); break;
     case SORGIZHED_COPIED: printf("copied %" PRIu64 " %" PRIu64 " %" PRIu64, r.first, r.second, r.third); break;
     case SORGIZHED_RESET: printf("reset %" PRIu64, r.first); break;
-    case SORGIZHED_PART: printf("part %" PRIu64, r.first); break;
-    case SORGIZHED_NEVER: printf("never"); break;
-    case SORGIZHED_LOST: printf("lost"); break;
-    case SORGIZHED_FILLED: printf("filled %016" PRIx64, hash(filled, length, length)); break;
+    case SORGIZHED_PART: printf("part %" PRIu64 " %" PRIu64, r.first, r.second); break;
+    case SORGIZHED_NEVER: printf("never %" PRIu64, r.first); break;
+    case SORGIZHED_LOST: printf("lost %" PRIu64, r.first); break;
+    case SORGIZHED_FILLED: printf("filled %016" PRIx64 " %" PRIu64, hash(filled, length, length), r.first); break;
     case SORGIZHED_RESTARTED: printf("restarted %" PRIu64, r.first); break;
     case SORGIZHED_REBUILT: printf("rebuilt"); break;
     case SORGIZHED_NOTHING: printf("nothing"); break;

@@ -104,7 +104,7 @@ pub fn copy_block(
         (due (copyPlan p (viewOf p (now (image .entry)) (now (pointers .entry)))
         (mkMemory (stateOf (now (bytes .entry))) (now (addresses .entry)) (now (compact .entry)) (now (inflight .entry))) (q .0))) ⌝ }
 {
-    let r = call_reclaim_victim::record_of(p, image, pointers, q);
+    let r = disk_stored::place_record(p, image, pointers, 0, q);
     let address = r.address;
     let stamp = r.stamp;
     let mut block = [0u8; 4096];

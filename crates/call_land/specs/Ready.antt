@@ -1,11 +1,11 @@
 -- What is so where no check of a landing holds (01, Landing; Refusals). Assumes nothing.
 use mathlib.Core.Path.{_≡_, sym, ap, _∙_, subst}
 use mathlib.Core.List.{List, [], _∷_, map}
-use mathlib.Core.Bool.{Bool, true, false, cond, not, _&&_, _||_}
+use mathlib.Core.Bool.{Bool, true, false, cond, _&&_}
 use Prim.Native.Nat.{ℕ, zero, suc, _+_, _-_, _^_, _≤_, _<_}
 use lib.Arith.{lt-of-le-ne}
 use native.Mathlib.Decide.{decLt, ℕ-discrete}
-use borrow.Author.Tests.{leb-true, leb-false, ltb-true, ltb-false, not-false}
+use borrow.Author.Tests.{leb-true, ltb-true, ltb-false, not-false}
 use native.Mathlib.Omega.{arith}
 use lib.Dec.{leb, ltb, eqb}
 use lib.ListN.{length, getD, set, List·getD-eq-default}
@@ -18,20 +18,19 @@ use Rattle.spec.specs.Drives.{View, pointerAt, Disk, pointerOf, zoneOn, Seg}
 use Rattle.spec.specs.Engine.{lentOk}
 use Rattle.spec.specs.Landing.{slotOf, ready as isReady, waiting, completes, seals, misplaced, overfull, entryFaults, landFaults, landChecks}
 use Rattle.spec.specs.Layout.{group, Rec}
-use Rattle.spec.specs.Lists.{Opt, upFrom, below, all, any, consIf, flat, isIn}
+use Rattle.spec.specs.Lists.{Opt, upFrom, below, all, any, consIf, flat}
 use Rattle.spec.specs.Lists.Opt.{none}
 use Rattle.spec.specs.Memory.{Memory, slotCount, slots, cell, stripeIn, filledIn, landedIn, entryIn, entriesIn, offsetIn, openSegment, slotOk, stateOk, markLanded, placeAt}
-use Rattle.spec.specs.Params.{between, parityCount, dataCount, inRange, footers, capacity, addressesLen, compactLen, inflightLen, placeBlock, placeZone, placeDrive, drivesOf}
-use Rattle.spec.specs.Read.{placeFaults}
+use Rattle.spec.specs.Params.{between, parityCount, dataCount, inRange, footers, capacity, addressesLen, compactLen, inflightLen, drivesOf}
 use Rattle.law_basic.specs.Geometry.{between-low, between-high, ranged as rangedIn}
-use Rattle.law_basic.specs.Ranges.{Test, test, and-left, and-right, all-getD, all-in-below, or-false, any-false}
-use Rattle.law_basic.specs.Ranges.Test.{yes!, no! }
+use Rattle.law_basic.specs.Ranges.{and-left, and-right, all-getD, all-in-below, any-false}
 use Rattle.law_basic.specs.Segs.{Named, seg-named, zone-on-lt}
 use Rattle.law_views.specs.Views.{Whole, pointer-view, seen}
 use Rattle.law_drives.specs.Members.{if-none}
 use Rattle.law_checks.specs.Passed.{nil-both, land-passed}
 use Rattle.call_land_faults.specs.Lowest.{entry-placed}
-use Rattle.call_land_table.specs.Winners.{IsData, Sane, EntriesSane}
+use Rattle.call_land_table.specs.Winners.{Sane, EntriesSane}
+use Rattle.disk_stored.specs.Places.{place-free}
 use Rattle.call_write.specs.Ready.{lent-long}
 
 -- 01, Refusals: the first check of a landing that holds, on what it is lent
@@ -137,33 +136,8 @@ flat-nothing-at {A} f g i (suc n) k e h l =
     go (yes q) a b = ap (λ (x : ℕ). f (g x)) (sym q) ∙ a
     go (no q) a b = b (lt-of-le-ne h q)
 
--- 01, Refusals, 9: a place that can be read is one of a data block
-place-data : (p : Params) (v : View) (q : ℕ) → placeFaults p v 0 q ≡ [] → IsData p q
-unfolding placeFaults
-place-data p v q e = go (test (leb (p .N) (placeDrive p q)))
-  where
-    d : ℕ
-    d = placeDrive p q
-
-    b : ℕ
-    b = placeBlock p q
-
-    bad : Bool
-    bad = not (between 1 (p .S) b) || (not (isIn 0 d) && leb (pointerAt v d (placeZone p q)) b)
-
-    go : Test (leb (p .N) d) → IsData p q
-    go (yes! t) =
-        absurd (let f : cond {A = List ℕ} true (0 ∷ []) (consIf bad (placeZone p q) [])
-        ≡ [] = subst (λ (x : Bool). cond {A = List ℕ} x (0 ∷ []) (consIf bad (placeZone p q) []) ≡ []) t e in let z : _≡_ {A = ℕ} 1 0 = ap length
-        f in let w : ⊥ = omega arith in w)
-    go (no! t) =
-        let f : consIf bad (placeZone p q) [] ≡ [] = subst (λ (x : Bool). cond {A = List ℕ} x (0 ∷ []) (consIf bad (placeZone p q) []) ≡ []) t e in
-        let h = if-none bad (placeZone p q) [] f in
-        let c = not-false (between 1 (p .S) b) (or-false (not (between 1 (p .S) b)) (not (isIn 0 d) && leb (pointerAt v d (placeZone p q)) b) (h .0) .0) in
-        (leb-false (p .N) d t, between-low 1 (p .S) b c, between-high 1 (p .S) b c)
-
 entry-sane : (p : Params) (v : View) (tb : List ℕ) (e : Rec) → entryFaults p v tb e ≡ [] → e .address < p .L → Sane p (placeAt tb (e .address))
-entry-sane p v tb e f h n = place-data p v (placeAt tb (e .address)) (sym (entry-placed p v tb e h n) ∙ f)
+entry-sane p v tb e f h n = place-free p v 0 (placeAt tb (e .address)) (sym (entry-placed p v tb e h n) ∙ f)
 
 module _ (p : Params) (k : Disk) (m : Memory) (d s : ℕ) (r : LandReady p k m d s) where
   abbrev slot : ℕ

@@ -17,17 +17,13 @@ use Rattle.spec.specs.Drives.{View, Seg}
 use Rattle.spec.specs.Landing.{held, landedCand, landedCands, pointed}
 use Rattle.spec.specs.Lists.{Opt, upFrom, below, keep}
 use Rattle.spec.specs.Memory.{filledIn, entryIn, placeAt, setPlace}
-use Rattle.spec.specs.Params.{placeBlock, placeDrive}
 use Rattle.spec.specs.Rank.{Cand, better, best, placeOr, candsOf}
+use Rattle.disk_stored.specs.Places.{DataPlace}
 use Rattle.law_basic.specs.Ranges.{upFrom-step, upFrom-end, below-start, keep-hit, keep-miss}
-
--- 01, Refusals, 9: a place of a data block
-abbrev pub IsData : Params → ℕ → Type 0
-IsData p q = (placeDrive p q < p .N) × (1 ≤ placeBlock p q) × (placeBlock p q ≤ p .S)
 
 -- never written, or a place of a data block
 abbrev pub Sane : Params → ℕ → Type 0
-Sane p q = (q ≡ neverPlace → ⊥) → IsData p q
+Sane p q = (q ≡ neverPlace → ⊥) → DataPlace p q
 
 -- 01, Refusals, 9: the places that the table holds of the stripe's addresses can be read
 abbrev pub EntriesSane : Params → State → ℕ → List ℕ → Type 0

@@ -4,14 +4,15 @@ ghost use mathlib.Core.Bool.{true};
 ghost use mathlib.Core.List.{List, _∷_};
 ghost use Prim.Native.Nat.{ℕ, _≤_, _<_};
 ghost use lib.ListN.{length, getD};
-ghost use Rattle.spec.specs.Drives.{View, viewOf, mkDisk, seg};
+ghost use Rattle.spec.specs.Drives.{View, viewOf, mkDisk, placeRecord, seg};
 ghost use Rattle.spec.specs.Landing.{serialAt, heldCand, held, landedCand, landedCands, pointed};
 ghost use Rattle.spec.specs.Lists.{below};
 ghost use Rattle.spec.specs.Memory.{filledIn, entryIn, offsetIn, placeAt};
 ghost use Rattle.spec.specs.Params.{inRange, dataCount, imageLen, pointersLen, addressesLen};
 ghost use Rattle.spec.specs.Rank.{Cand as CandOf, best, candsOf};
-ghost use Rattle.call_land_table.specs.Winners.{Sane, IsData, EntriesSane, winnerOf, putWinners};
+ghost use Rattle.call_land_table.specs.Winners.{Sane, EntriesSane, winnerOf, putWinners};
 ghost use Rattle.disk_rank.specs.Ranked.{ranked, rankedBest};
+ghost use Rattle.disk_stored.specs.Places.{DataPlace};
 ghost use Rattle.law_views.specs.Views.{Whole};
 ghost use Rattle.call_land_chunk.specs.Alone.{alone};
 use disk_rank::Best;
@@ -37,15 +38,15 @@ fn serial_at(p: Params, image: &[u8], segment: usize) -> Serial
 fn held_cand(p: Params, image: &[u8], pointers: &[u8], address: Address, place: Place) -> Cand
     requires { ⌜ inRange p ≡ true ⌝ }
     requires { ⌜ Whole p (mkDisk (now image) (now pointers)) ⌝ }
-    requires { ⌜ IsData p (place .0) ⌝ }
-    ensures { λ r. ⌜ ranked r ≡ heldCand p (viewOf p (now (image .entry)) (now (pointers .entry))) (address .0) (place .0) ⌝ }
+    requires { ⌜ DataPlace p (place .0) ⌝ }
+    ensures { λ r. ⌜ ranked r ≡ heldCand p (viewOf p (now (image .entry)) (now (pointers .entry))) (address .0)
+        (placeRecord p (viewOf p (now (image .entry)) (now (pointers .entry))) 0 (place .0) .stamp) (place .0) ⌝ }
 {
-    let drive = disk_shape::place_drive(p, place);
-    let segment = disk_shape::place_zone(p, place);
-    let offset = disk_shape::place_block(p, place) - 1;
-    let r = disk_stored::record_at(p, image, pointers, 0, drive, segment, offset);
+    let r = disk_stored::place_record(p, image, pointers, 0, place);
     let stamp = r.stamp;
-    let serial = serial_at(p, image, segment);
+    let serial = serial_at(p, image, disk_shape::place_zone(p, place));
+    let drive = disk_shape::place_drive(p, place);
+    let offset = disk_shape::place_block(p, place) - 1;
     Cand {
         address,
         stamp,

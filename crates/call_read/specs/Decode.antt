@@ -1,106 +1,102 @@
 -- Decoding from the chunks that the table shows (01, Read; Refusals, 9). Assumes nothing.
-use Rattle.spec.specs.Layout.{group, compactEntry}
-use Rattle.mem_lookup.specs.Shown.{shows, shown-list}
-use mathlib.Core.Path.{_≡_, refl, sym, ap, _∙_, subst}
-use mathlib.Core.List.{List, [], _∷_, map}
+use mathlib.Core.Path.{_≡_, refl, sym, ap, _∙_}
+use mathlib.Core.List.{List, [], _∷_}
 use mathlib.Core.Bool.{Bool, true, false, not, _&&_}
-use Prim.Native.Nat.{ℕ, _+_, _<_, _*_, _-_}
-use borrow.Author.Tests.{ltb-true}
+use Prim.Native.Nat.{ℕ, _+_, _-_, _≤_, _<_}
+use borrow.Author.Tests.{eqb-false}
 use native.Mathlib.Omega.{arith}
-use lib.Dec.{eqb, ltb}
+use lib.Dec.{eqb}
 use lib.ListN.{length, getD}
 use Rattle.spec.specs.declared.Params.{Params}
 use Rattle.spec.specs.Bytes.{part}
-use Rattle.spec.specs.Drives.{View, chunkAt, Disk, pointerOf, zoneOn, seg}
-use Rattle.spec.specs.Lists.{upFrom, below, any, keep, isNil, firstOr, isIn}
-use Rattle.spec.specs.Memory.{shownAt, compactAt}
-use Rattle.spec.specs.Params.{inRange, capacity, placeOf, placeByte, drivesOf, present}
-use Rattle.spec.specs.Parity.{Piece, decodeBlock, decodePiece}
+use Rattle.spec.specs.Drives.{View, viewOf, mkDisk, zoneAt, chunkAt, zoneOn, placeSegment, sealedIn, recordIn, recordAt, Seg}
+use Rattle.spec.specs.Layout.{Rec}
+use Rattle.spec.specs.Lists.{below, any, isNil, firstOr, isIn}
+use Rattle.spec.specs.Memory.{shownAt}
+use Rattle.spec.specs.Params.{inRange, unitLen, imageLen, pointersLen, placeOf, placeBlock, placeDrive, placeByte, drivesOf, present}
+use Rattle.spec.specs.Parity.{Piece, decodePiece}
 use Rattle.spec.specs.Read.{shown, storedAt, decodedAt}
-use Rattle.law_basic.specs.Geometry.{data-below, ranged}
-use Rattle.law_basic.specs.Ranges.{not-both, first-passes, and-left, any-map, any-false, map-same}
-use Rattle.law_basic.specs.Segs.{zone-number}
-use Rattle.law_code.specs.Code.{decode-apart, decode-block-same}
-use Rattle.law_views.specs.Views.{block-view, Whole, seen}
+use Rattle.law_basic.specs.Geometry.{ranged, data-below}
+use Rattle.law_basic.specs.Ranges.{not-both, any-map, any-false, any-upFrom-same}
+use Rattle.law_basic.specs.Segs.{Named, zone-on-lt}
+use Rattle.law_code.specs.Code.{decode-same}
+use Rattle.law_views.specs.Views.{block-view}
 use Rattle.law_scans.specs.Scans.{any-keep}
 
--- 01, Read: the block of the chunk that the table shows on a drive
-unfoldable pub shownBlock : Params → View → List ℕ → ℕ → ℕ → ℕ → List ℕ
-shownBlock p v cs z s d = chunkAt v d z (1 + firstOr 0 (shownAt p v cs d z s)) .block
-
--- 01, Read: the present drives below d
-abbrev pub drivesBefore : ℕ → ℕ → List ℕ
-drivesBefore gone d = keep (λ e. not (isIn gone e)) (below d)
-
--- by number
-pub decoded-is : (p : Params) (v : View) (gone : ℕ) (cs : List ℕ) (d z s : ℕ) → decodedAt p v gone cs d (seg z) s .block ≡ decodeBlock p gone s d (shownBlock p v cs z s)
-decoded-is p v gone cs d z s = ap (λ (q : Piece). q .block) (as! ∙ decode-apart p gone s d at) ∙ decode-block-same p gone s d (λ e. at e .block) (shownBlock p v cs z s) (λ e l n. block! e)
-  where
-    at : ℕ → Piece
-    at e = storedAt p v gone e (seg z) (firstOr 0 (shownAt p v cs e (zoneOn (seg z) e) s))
-
-    as! : decodedAt p v gone cs d (seg z) s ≡ decodePiece p gone s d at
-    as! = unfold decodedAt in refl
-
-    block! : (e : ℕ) → at e .block ≡ shownBlock p v cs z s e
-    block! e = unfold storedAt shownBlock in ap (λ (x : ℕ). chunkAt v e x (1 + firstOr 0 (shownAt p v cs e x s)) .block) (zone-number z e)
-
 -- 01, Refusals, 9: a drive that is present and does not show the stripe
-abbrev pub hides : Params → View → ℕ → List ℕ → ℕ → ℕ → ℕ → Bool
-hides p v gone cs z s d = not (isIn gone d) && isNil (shownAt p v cs d z s)
+abbrev pub hides : Params → View → ℕ → List ℕ → Seg → ℕ → ℕ → Bool
+hides p v gone cs g s d = not (isIn gone d) && isNil (shownAt p v cs d (zoneOn g d) s)
 
--- by number
-pub hidden-any : (p : Params) (v : View) (gone : ℕ) (cs : List ℕ) (z s : ℕ) → any (hides p v gone cs z s) (below (p .N)) ≡ any isNil (shown p v gone cs (seg z) s)
-unfolding shown present drivesOf
-hidden-any p v gone cs z s =
-    let e : shown p v gone cs (seg z) s ≡ map (λ d. shownAt p v cs d z s) (drivesBefore gone (p .N)) =
-    map-same (λ d. shownAt p v cs d (zoneOn (seg z) d) s) (λ d. shownAt p v cs d z s) (drivesBefore gone (p .N)) (λ d. ap (λ (x : ℕ). shownAt p v cs d x s) (zone-number z d)) in
-    sym (ap (any isNil) e ∙ any-map isNil (λ d. shownAt p v cs d z s) (drivesBefore gone (p .N)) ∙ any-keep (λ d. not (isIn gone d)) (λ d. isNil (shownAt p v cs d z s)) (below (p .N)))
+-- 01, What a zone holds: o is the data offset at which the table shows the stripe on drive d, S where it doesn't; any below S on a missing drive
+pub record ShownOn (p : Params) (v : View) (gone : ℕ) (cs : List ℕ) (g : Seg) (s d o : ℕ) : Type 0 where
+  pub low : o ≤ p .S
+  pub hidden : eqb o (p .S) ≡ hides p v gone cs g s d
+  pub first : isIn gone d ≡ false → o ≡ firstOr (p .S) (shownAt p v cs d (zoneOn g d) s)
 
-none-true-below : (f : ℕ → Bool) (n k : ℕ) → any f (below n) ≡ false → k < n → f k ≡ false
-unfolding below
-none-true-below f n k e h = any-false f 0 n k e (omega arith) (omega arith)
+-- by drive
+abbrev pub ShownBy : Params → View → ℕ → List ℕ → Seg → ℕ → List ℕ → Type 0
+ShownBy p v gone cs g s at = (d : ℕ) → d < p .N → ShownOn p v gone cs g s d (getD at d 0)
 
--- a present drive shows the stripe
-pub shown-on : (p : Params) (v : View) (gone : ℕ) (cs : List ℕ) (z s d : ℕ) → any isNil (shown p v gone cs (seg z) s) ≡ false → d < p .N → isIn gone d ≡ false
-    → isNil (shownAt p v cs d z s) ≡ false
-shown-on p v gone cs z s d e h g =
-    sym (ap (λ (x : Bool). not x && isNil (shownAt p v cs d z s)) g) ∙ none-true-below (hides p v gone cs z s) (p .N) d (hidden-any p v gone cs z s ∙ e) h
+-- 01, Refusals, 9: some present drive does not show the stripe, by the offsets
+abbrev pub anyHidden : Params → List ℕ → Bool
+anyHidden p at = any (λ d. eqb (getD at d 0) (p .S)) (below (p .N))
+
+-- the offsets are data offsets
+pub record OffsetsLow (p : Params) (at : List ℕ) : Type 0 where
+  pub long : length at ≡ 8
+  pub low : (d : ℕ) → d < p .N → getD at d 0 < p .S
+
+-- 01, Read: block and record of the missing drive at place q, decoded from the chunks at these offsets
+abbrev pub pieceFrom : Params → View → ℕ → ℕ → List ℕ → Piece
+pieceFrom p v gone q at = decodePiece p gone (placeBlock p q - 1) (placeDrive p q) (λ e. storedAt p v gone e (placeSegment p q) (getD at e 0))
 
 first-same : (S : ℕ) (l : List ℕ) → isNil l ≡ false → firstOr S l ≡ firstOr 0 l
 unfolding firstOr isNil
 first-same S [] e = absurd (not-both true refl e)
 first-same S (a ∷ l) e = refl
 
-not-nil-long : (l : List ℕ) → isNil l ≡ false → 0 < length l
-unfolding isNil
-not-nil-long [] e = absurd (not-both true refl e)
-not-nil-long (a ∷ l) e = omega arith
+module _ (p : Params) (v : View) (gone : ℕ) (cs : List ℕ) (g : Seg) (s : ℕ) (at : List ℕ) (h : ShownBy p v gone cs g s at) where
+  -- 01, Refusals, 9: the offsets say whether a present drive does not show the stripe
+  pub hidden-any : anyHidden p at ≡ any isNil (shown p v gone cs g s)
+  unfolding shown present drivesOf below
+  hidden-any =
+      any-upFrom-same (λ d. eqb (getD at d 0) (p .S)) (hides p v gone cs g s) 0 (p .N) (λ d a b. h d (omega arith) .hidden)
+      ∙ sym (any-map isNil (λ d. shownAt p v cs d (zoneOn g d) s) (present p gone)
+      ∙ any-keep (λ d. not (isIn gone d)) (λ d. isNil (shownAt p v cs d (zoneOn g d) s)) (below (p .N)))
 
--- its chunk by the image's bytes
-module _ (p : Params) (k : Disk) (cs : List ℕ) (z s d : ℕ) (ok : inRange p ≡ true) (w : Whole p k) (hd : d < p .N) (hz : z < p .Z)
-    (nil : isNil (shownAt p (seen p k) cs d z s) ≡ false) where
-  shown-offset-low : firstOr 0 (shownAt p (seen p k) cs d z s) < p .S
-  unfolding shows
-  shown-offset-low =
-      let n = pointerOf p (k .pointers) d z in
-      let i = group p s * p .G in
-      let f = shows p n cs d z s in
-      let e : keep f (upFrom i (i + p .G - i)) ≡ shownAt p (seen p k) cs d z s = shown-list p (k .image) (k .pointers) cs d z s n i hd hz (w .image-long) (w .pointers-long) refl refl in
-      let q = first-passes f i (i + p .G - i) (subst (λ (x : List ℕ). 0 < length x) (sym e) (not-nil-long (shownAt p (seen p k) cs d z s) nil)) in
-      let o = firstOr 0 (shownAt p (seen p k) cs d z s) in
-      let t : f o ≡ true = ap (λ (x : List ℕ). f (firstOr 0 x)) (sym e) ∙ q .0 in
-      ltb-true o (p .S) (and-left (ltb o (p .S)) (ltb (1 + o) n && eqb (getD cs (compactAt p d z o) 0) (compactEntry p s)) t)
+  module _ (none! : anyHidden p at ≡ false) where
+    unhidden : (d : ℕ) → d < p .N → eqb (getD at d 0) (p .S) ≡ false
+    unfolding below
+    unhidden d l = any-false (λ d. eqb (getD at d 0) (p .S)) 0 (p .N) d none! (omega arith) (omega arith)
 
-  -- o is the offset, as the search gives it
-  module _ (o : ℕ) (e : o ≡ firstOr (p .S) (shownAt p (seen p k) cs d z s)) where
-    offset-shown : o ≡ firstOr 0 (shownAt p (seen p k) cs d z s)
-    offset-shown = e ∙ first-same (p .S) (shownAt p (seen p k) cs d z s) nil
+    pub data-offsets : length at ≡ 8 → OffsetsLow p at
+    data-offsets e = record { long = e; low = λ d l. let n = eqb-false (getD at d 0) (p .S) (unhidden d l) in omega (arith, n, h d l .low) }
 
-    block-in-zone : 1 + o < capacity p
-    block-in-zone = data-below p (ranged p ok) (1 + o) (omega (arith, offset-shown, shown-offset-low))
+    shows-it : (d : ℕ) → d < p .N → isIn gone d ≡ false → isNil (shownAt p v cs d (zoneOn g d) s) ≡ false
+    shows-it d l n = sym (ap (λ (x : Bool). not x && isNil (shownAt p v cs d (zoneOn g d) s)) n) ∙ sym (h d l .hidden) ∙ unhidden d l
 
-    pub shown-bytes : shownBlock p (seen p k) cs z s d ≡ part (placeByte p (placeOf p d z (1 + o))) (p .B) (k .image)
-    unfolding shownBlock
-    shown-bytes =
-        ap (λ (x : ℕ). chunkAt (seen p k) d z (1 + x) .block) (sym offset-shown) ∙ block-view p k d z hd hz w (1 + o) block-in-zone
+    -- 01, Read: the chunks at these offsets are those that the table shows
+    pub decodes-from : (d : ℕ) → decodedAt p v gone cs d g s ≡ decodePiece p gone s d (λ e. storedAt p v gone e g (getD at e 0))
+    unfolding decodedAt
+    decodes-from d = decode-same p gone s d _ _ (λ e l n. ap (storedAt p v gone e g)
+        (sym (h e l .first n ∙ first-same (p .S) (shownAt p v cs e (zoneOn g e) s) (shows-it e l n))))
+
+-- 01, Restart, 3: the record by footer or spare, as the segment is sealed
+pub record-as-sealed : (p : Params) (v : View) (gone d : ℕ) (g : Seg) (o : ℕ) (full : Bool) → full ≡ sealedIn p v gone g → (r : Rec)
+    → r ≡ recordIn p full (zoneAt v d (zoneOn g d)) o → r ≡ recordAt p v gone d g o
+unfolding recordAt
+record-as-sealed p v gone d g o full e r q = q ∙ ap (λ (x : Bool). recordIn p x (zoneAt v d (zoneOn g d)) o) e
+
+-- drive d's block at data offset o of segment g begins at byte y of the image
+abbrev pub BlockAt : Params → List ℕ → Seg → ℕ → ℕ → ℕ → Type 0
+BlockAt p im g d o y =
+    (y + p .B ≤ imageLen p) × ((ps : List ℕ) → length ps ≡ pointersLen p → chunkAt (viewOf p im ps) d (zoneOn g d) (1 + o) .block ≡ part y (p .B) im)
+
+pub block-begins : (p : Params) (im : List ℕ) (g : Seg) (d o y : ℕ) → inRange p ≡ true → length im ≡ imageLen p → d < p .N → Named p g → o < p .S
+    → (z : ℕ) → z ≡ zoneOn g d → y ≡ placeByte p (placeOf p d z (1 + o)) → y + unitLen p ≤ imageLen p → BlockAt p im g d o y
+unfolding unitLen
+block-begins p im g d o y ok h hd hg ho z ez ey l = (
+  omega (arith, l),
+  λ ps k. block-view p (mkDisk im ps) d (zoneOn g d) hd (zone-on-lt p g d hg) (record { image-long = h; pointers-long = k }) (1 + o) (data-below p (ranged p ok) (1 + o) (omega arith))
+      ∙ sym (ap (λ (x : ℕ). part x (p .B) im) (ey ∙ ap (λ (x : ℕ). placeByte p (placeOf p d x (1 + o))) ez)),
+)

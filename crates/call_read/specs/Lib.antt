@@ -1,7 +1,7 @@
+pub mod Decode
+pub mod Placed
 pub mod Order
 pub mod Ready
-pub mod Decode
-pub mod Fill
+pub mod Sought
 pub mod Part
 pub mod Ends
-pub mod Sought

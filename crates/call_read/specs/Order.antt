@@ -1,5 +1,5 @@
 -- The checks of both reads one after the other: each refuses, or leaves it to the next (01, Refusals). Assumes nothing.
-use mathlib.Core.Path.{_≡_, sym, ap, _∙_}
+use mathlib.Core.Path.{_≡_, refl, sym, ap, _∙_}
 use mathlib.Core.List.{List, [], _∷_, _++_}
 use mathlib.Core.Bool.{Bool, true, false, not, _&&_}
 use Prim.Native.Nat.{ℕ, suc, _≤_, _<_}
@@ -15,21 +15,20 @@ use Rattle.spec.specs.Drives.{Disk}
 use Rattle.spec.specs.Engine.{lentOk}
 use Rattle.spec.specs.Lists.{Opt}
 use Rattle.spec.specs.Lists.Opt.{some}
-use Rattle.spec.specs.Memory.{Memory, stateOk, stateFaults}
+use Rattle.spec.specs.Memory.{Memory, stateOk}
 use Rattle.spec.specs.Params.{inRange}
-use Rattle.spec.specs.Read.{Found, lookup, foundFaults, readChecks}
+use Rattle.spec.specs.Read.{Found, lies, foundFaults, decodeFaults, readChecks}
 use Rattle.law_views.specs.Views.{seen}
-use Rattle.law_calls.specs.Refusals.{rule-fails, rule-passes, state-fault, state-fine, least-zero}
+use Rattle.law_calls.specs.Refusals.{rule-fails, rule-passes, zone-fails, zones-pass, state-fault, state-fine, least-zero}
 
 module _ (p : Params) (k : Disk) (m : Memory) (a n : ℕ) where
   -- 01, Read: where the address lies
   abbrev pub foundAt : Found
-  foundAt = lookup p (m .state .missing) (m .addresses) a
+  foundAt = lies p (m .state .missing) (m .addresses) a
 
   -- 01, Refusals: the checks that both reads have; n is the lent block's length
   abbrev pub bothChecks : List Check
-  bothChecks =
-      readChecks p (lentOk p k m && eqb n (p .B)) a ++ (zones (stateFaults p (m .state) ++ foundFaults p (seen p k) (m .state .missing) foundAt) ∷ [])
+  bothChecks = readChecks p (lentOk p k m && eqb n (p .B)) (seen p k) m a
 
   -- 01, Refusals: the first of them that holds
   abbrev pub readRefusal : Opt Answer
@@ -75,8 +74,16 @@ module _ (p : Params) (k : Disk) (m : Memory) (a n : ℕ) where
   unfolding readChecks firstRefusal ninth
   read-state-fails e =
       let zs = foundFaults p (seen p k) (m .state .missing) foundAt in
-      sym (ap (λ (x : List ℕ). firstRefusal (zones (x ++ zs) ∷ [])) (state-fault p (m .state) e) ∙ ap (λ (x : ℕ). some (BadZone x)) (least-zero zs))
+      sym (ap (λ (x : List ℕ). firstRefusal (zones (x ++ zs) ∷ rest 3)) (state-fault p (m .state) e) ∙ ap (λ (x : ℕ). some (BadZone x)) (least-zero zs))
 
-  pub read-state-passes : stateOk p (m .state) ≡ true → (zs : List ℕ) → foundFaults p (seen p k) (m .state .missing) foundAt ≡ zs → firstRefusal (zones zs ∷ []) ≡ readFrom 3
+  read-state-passes : stateOk p (m .state) ≡ true → (zs : List ℕ) → foundFaults p (seen p k) (m .state .missing) foundAt ≡ zs → firstRefusal (zones zs ∷ rest 3) ≡ readFrom 3
   unfolding readChecks
-  read-state-passes e zs f = sym (λ j. firstRefusal (zones (state-fine p (m .state) e j ++ f j) ∷ []))
+  read-state-passes e zs f = sym (λ j. firstRefusal (zones (state-fine p (m .state) e j ++ f j) ∷ rest 3))
+
+  pub read-place-fails : stateOk p (m .state) ≡ true → (z : ℕ) → foundFaults p (seen p k) (m .state .missing) foundAt ≡ z ∷ [] → some (BadZone z) ≡ readFrom 3
+  read-place-fails e z f = sym (zone-fails z (rest 3)) ∙ read-state-passes e (z ∷ []) f
+
+  pub read-place-passes : stateOk p (m .state) ≡ true → foundFaults p (seen p k) (m .state .missing) foundAt ≡ []
+      → firstRefusal (zones (decodeFaults p (seen p k) (m .state .missing) (m .compact) foundAt) ∷ []) ≡ readFrom 3
+  unfolding readChecks
+  read-place-passes e f = sym (zones-pass [] (rest 3) refl) ∙ read-state-passes e [] f

@@ -8,6 +8,7 @@ use lib.Dec.{leb, eqb}
 use lib.ListN.{getD}
 use Rattle.spec.specs.Host.{partAt, partLen}
 use Rattle.spec.specs.declared.Params.{Params}
+use Rattle.spec.specs.declared.Stamp.{Stamp}
 use Rattle.spec.specs.declared.Answer.{Answer}
 use Rattle.spec.specs.declared.Answer.the-variants.{Refused, BadZone, Part}
 use Rattle.spec.specs.Answers.{kind, values}
@@ -17,9 +18,9 @@ use Rattle.spec.specs.Lists.Opt.{some}
 use Rattle.spec.specs.Lists.{least}
 use Rattle.law_basic.specs.Ranges.{not-both}
 
-pub part-here : (p : Params) (n : ℕ) → (partAt (Part n) ≡ n) × (partLen p (Part n) ≡ p .B)
+pub part-here : (p : Params) (n : ℕ) (t : Stamp) → (partAt (Part n t) ≡ n) × (partLen p (Part n t) ≡ p .B)
 unfolding partAt partLen kind values
-part-here p n = (refl, refl)
+part-here p n t = (refl, refl)
 
 pub part-none : (p : Params) (r : Answer) → eqb (kind r) 8 ≡ false → (0 ≡ partAt r) × (0 ≡ partLen p r)
 unfolding partAt partLen
@@ -34,6 +35,6 @@ refusal-kind-low (rule n false ∷ cs) r e = refusal-kind-low cs r e
 refusal-kind-low (zones [] ∷ cs) r e = refusal-kind-low cs r e
 refusal-kind-low (zones (z ∷ zs) ∷ cs) r e = let q : BadZone (least z zs) ≡ r = cc in ap (λ (x : Answer). leb (kind x) 1) (sym q)
 
-pub part-not-refused : (cs : List Check) (at : ℕ) → firstRefusal cs ≡ some (Part at) → ⊥
+pub part-not-refused : (cs : List Check) (at : ℕ) (t : Stamp) → firstRefusal cs ≡ some (Part at t) → ⊥
 unfolding kind
-part-not-refused cs at e = not-both (leb (kind (Part at)) 1) (refusal-kind-low cs (Part at) e) refl
+part-not-refused cs at t e = not-both (leb (kind (Part at t)) 1) (refusal-kind-low cs (Part at t) e) refl

@@ -1,38 +1,44 @@
 // The two read calls (01, Read). They change neither drives nor memory, and take the state as its bytes: what they ask of it, they read there.
 ghost use mathlib.Core.Path.{_≡_};
-ghost use mathlib.Core.Bool.{true, false, _&&_, not};
-ghost use mathlib.Core.List.{List, [], _∷_};
-ghost use Prim.Native.Nat.{ℕ, _+_, _-_, _≤_, _<_};
+ghost use mathlib.Core.Bool.{true, false};
+ghost use mathlib.Core.List.{List, []};
+ghost use Prim.Native.Nat.{ℕ, _+_, _<_};
 ghost use lib.Dec.{ltb};
-ghost use lib.ListN.{length};
+ghost use lib.ListN.{length, getD};
 ghost use Rattle.spec.specs.Bytes.{part};
-ghost use Rattle.spec.specs.Calls.{firstRefusal, mkAfter};
-ghost use Rattle.spec.specs.Calls.Check.{zones};
-ghost use Rattle.spec.specs.Drives.{viewOf, mkDisk, seg};
+ghost use Rattle.spec.specs.Calls.{mkAfter};
+ghost use Rattle.spec.specs.Drives.{viewOf, mkDisk, zoneAt, chunkAt, zoneOn, recordIn, recordAt, seg};
 ghost use Rattle.spec.specs.Engine.{callDisk};
 ghost use Rattle.spec.specs.Engine.Call.{read, fill};
-ghost use Rattle.spec.specs.Lists.{any, consIf, isNil, isIn};
-ghost use Rattle.spec.specs.Memory.{mkMemory, stateLen, stateOf, shownAt};
+ghost use Rattle.spec.specs.Lists.{consIf, isIn};
+ghost use Rattle.spec.specs.Memory.{mkMemory, stateLen, stateOf};
 ghost use Rattle.spec.specs.Params.{inRange, imageLen, pointersLen, compactLen, placeByte};
+ghost use Rattle.spec.specs.Parity.{decodeBlock, decodeRec};
 ghost use Rattle.spec.specs.Read.Found.{away};
-ghost use Rattle.spec.specs.Read.{lookup, foundFaults, shown, decodedAt, readAnswer};
-ghost use Rattle.mem_lookup.specs.Lies.{foundOf};
-ghost use Rattle.call_read.specs.Decode.{shownBlock};
-ghost use Rattle.call_read.specs.Order.{readRefusal};
+ghost use Rattle.spec.specs.Read.{lies, foundFaults};
 ghost use Rattle.spec.specs.Host.{PartOf, partAt, partLen};
-ghost use Rattle.call_read.specs.Sought.{refusedBy, liesAt};
-ghost use Rattle.call_read.specs.Fill.{mkFill, filling, PlaceOk, placedAt};
+ghost use Rattle.disk_records.specs.Record.{recVal};
+ghost use Rattle.disk_stored.specs.Places.{DataPlace};
+ghost use Rattle.mem_lookup.specs.Lies.{foundOf};
+ghost use Rattle.call_read.specs.Decode.{ShownOn, ShownBy, OffsetsLow, anyHidden, pieceFrom};
+ghost use Rattle.call_read.specs.Order.{readRefusal};
+ghost use Rattle.call_read.specs.Placed.{placedAt};
+ghost use Rattle.call_read.specs.Sought.{refusedBy, Gives, Seeks};
 ghost use Rattle.law_views.specs.Views.{Whole};
+use disk_records::Record;
 use mem_lookup::Found;
 use spec::Address;
 use spec::Answer;
 use spec::Params;
 use spec::Place;
+use spec::Stamp;
 
-// 01, Refusals; Read: a refusal, or where the address lies.
+// 01, Refusals; Read: a refusal, or where the address lies, with the stamp.
 pub enum Sought {
     Bad(Answer),
-    Lies(Found),
+    Never,
+    Here(Place, Stamp),
+    Away(Place, Stamp),
 }
 
 // 01, Refusals, 9: the bad zone of a place to be read; Z where there is none.
@@ -48,18 +54,214 @@ fn found_fault(p: Params, pointers: &[u8], gone: u8, f: Found) -> usize
     }
 }
 
-// 01, Refusals, 9: a place is refused where the number is one of a zone.
-fn judged(p: Params, zone: usize, f: Found) -> Sought
-    ensures { λ r. ⌜ refusedBy r ≡ firstRefusal (zones (consIf (ltb zone (p .Z)) zone []) ∷ []) ⌝ }
-    ensures { λ r. ⌜ liesAt r (foundOf f) ⌝ }
+// ---- decoding
+
+// 01, What a zone holds: the data offset at which the table shows the stripe on a drive, S where it doesn't; 0 for a missing drive.
+fn shown_on(
+    p: Params,
+    pointers: &[u8],
+    gone: u8,
+    compact: &[u8],
+    drive: usize,
+    segment: usize,
+    s: usize,
+) -> usize
+    requires { ⌜ inRange p ≡ true ⌝ }
+    requires { ⌜ (length (now pointers) ≡ pointersLen p) × (length (now compact) ≡ compactLen p) ⌝ }
+    requires { ⌜ (drive < p .N) × (segment < p .Z) × (s < p .S) ⌝ }
+    ensures { λ r. ⌜ ((im : List ℕ) → length im ≡ imageLen p → ShownOn p (viewOf p im (now (pointers .entry))) gone (now (compact .entry)) (seg segment) s drive r) ⌝ }
 {
-    if zone < p.Z {
-        return Sought::Bad(Answer::BadZone(zone as u64));
+    if bits_masks::has_drive(gone, drive) {
+        return 0;
     }
-    Sought::Lies(f)
+    let zone = disk_shape::zone_on(segment, drive);
+    mem_lookup::shown_at(p, pointers, compact, drive, zone, s)
 }
 
-// 01, Refusals: the checks of both reads, in order, and then where the address lies; len is the lent block's length, B for the first call, which has none.
+// By drive.
+fn shown_offsets(
+    p: Params,
+    pointers: &[u8],
+    gone: u8,
+    compact: &[u8],
+    segment: usize,
+    s: usize,
+    at: &mut [usize],
+)
+    requires { ⌜ inRange p ≡ true ⌝ }
+    requires { ⌜ (length (now pointers) ≡ pointersLen p) × (length (now compact) ≡ compactLen p) × (length (now at) ≡ 8) ⌝ }
+    requires { ⌜ (segment < p .Z) × (s < p .S) ⌝ }
+    ensures { λ _. ⌜
+        ((im : List ℕ)
+        → length im ≡ imageLen p
+        → ShownBy p (viewOf p im (now (pointers .entry))) gone (now (compact .entry)) (seg segment) s (now (at .exit))) ⌝ }
+{
+    let mut d = 0;
+    while d < p.N {
+        at[d] = shown_on(p, pointers, gone, compact, d, segment, s);
+        d += 1;
+    }
+}
+
+// 01, Refusals, 9: whether some present drive does not show the stripe.
+fn any_hidden(p: Params, at: &[usize]) -> bool
+    requires { ⌜ (inRange p ≡ true) × (length (now at) ≡ 8) ⌝ }
+    ensures { λ r. ⌜ r ≡ anyHidden p (now (at .entry)) ⌝ }
+{
+    let mut d = 0;
+    while d < p.N {
+        if at[d] == p.S {
+            return true;
+        }
+        d += 1;
+    }
+    false
+}
+
+// 01, Restart, 3: the record at a data offset; full: the segment is sealed. Of a missing drive nothing is read.
+fn record_on(
+    p: Params,
+    image: &[u8],
+    gone: u8,
+    full: bool,
+    drive: usize,
+    segment: usize,
+    o: usize,
+) -> Record
+    requires { ⌜ inRange p ≡ true ⌝ }
+    requires { ⌜ (length (now image) ≡ imageLen p) × (drive < p .N) × (segment < p .Z) × (o < p .S) ⌝ }
+    ensures { λ r. ⌜
+        ((ps : List ℕ)
+        → length ps ≡ pointersLen p
+        → isIn gone drive ≡ false
+        → recVal r ≡ recordIn p full (zoneAt (viewOf p (now (image .entry)) ps) drive (zoneOn (seg segment) drive)) o) ⌝ }
+{
+    if bits_masks::has_drive(gone, drive) {
+        return Record {
+            address: Address(0),
+            stamp: Stamp(0),
+            stripe: 0,
+        };
+    }
+    let zone = disk_shape::zone_on(segment, drive);
+    disk_stored::record_in(p, image, full, drive, zone, o)
+}
+
+// 01, Read: the record of a missing drive, decoded from those at the data offsets.
+fn decode_record(
+    p: Params,
+    image: &[u8],
+    pointers: &[u8],
+    gone: u8,
+    drive: usize,
+    segment: usize,
+    s: usize,
+    at: &[usize],
+) -> Record
+    requires { ⌜ inRange p ≡ true ⌝ }
+    requires { ⌜ Whole p (mkDisk (now image) (now pointers)) ⌝ }
+    requires { ⌜ (drive < p .N) × (segment < p .Z) × (s < p .S) × OffsetsLow p (now at) ⌝ }
+    ensures { λ r. ⌜ recVal r ≡ decodeRec p gone s drive (λ e. recordAt p (viewOf p (now (image .entry)) (now (pointers .entry))) gone e (seg segment) (getD (now (at .entry)) e 0)) ⌝ }
+{
+    let full = disk_zones::is_sealed(p, pointers, gone, segment);
+    let mut addresses = [0u64; 8];
+    let mut stamps = [0u64; 8];
+    let mut d = 0;
+    while d < p.N {
+        let r = record_on(p, image, gone, full, d, segment, at[d]);
+        addresses[d] = r.address.0;
+        stamps[d] = r.stamp.0;
+        d += 1;
+    }
+    disk_code::decode_record(p, &addresses, &stamps, gone, s as u32, drive)
+}
+
+// 01, Read: the block of a missing drive, decoded from those at the data offsets.
+fn decode_block(
+    p: Params,
+    image: &[u8],
+    gone: u8,
+    drive: usize,
+    segment: usize,
+    s: usize,
+    at: &[usize],
+    block: &mut [u8],
+)
+    requires { ⌜ inRange p ≡ true ⌝ }
+    requires { ⌜ (length (now image) ≡ imageLen p) × (length (now block) ≡ p .B) × (drive < p .N) × (segment < p .Z) × OffsetsLow p (now at) ⌝ }
+    ensures { λ _. ⌜
+        ((ps : List ℕ)
+        → length ps ≡ pointersLen p
+        → now (block .exit) ≡ decodeBlock p gone s drive
+        (λ e. chunkAt (viewOf p (now (image .entry)) ps) e (zoneOn (seg segment) e) (1 + getD (now (at .entry)) e 0) .block)) ⌝ }
+{
+    let mut bytes = [0usize; 8];
+    let mut d = 0;
+    while d < p.N {
+        let zone = disk_shape::zone_on(segment, d);
+        bytes[d] = disk_shape::block_byte(p, d, zone, 1 + at[d]);
+        d += 1;
+    }
+    disk_code::decode_block(p, image, &bytes, gone, s, drive, block);
+}
+
+// ---- the checks of both reads, in order
+
+// 01, Read: a place on the missing drive: its stamp, or refused for its zone where some present drive does not show the stripe. The offsets at
+// which the table shows it are left in at.
+fn seek_lost(
+    p: Params,
+    image: &[u8],
+    pointers: &[u8],
+    gone: u8,
+    compact: &[u8],
+    q: Place,
+    at: &mut [usize],
+) -> Sought
+    requires { ⌜ inRange p ≡ true ⌝ }
+    requires { ⌜ Whole p (mkDisk (now image) (now pointers)) ⌝ }
+    requires { ⌜ (length (now compact) ≡ compactLen p) × (length (now at) ≡ 8) × DataPlace p (q .0) ⌝ }
+    ensures { λ r. ⌜ Seeks p (viewOf p (now (image .entry)) (now (pointers .entry))) gone (now (compact .entry)) (away (q .0)) r (now (at .exit)) ⌝ }
+{
+    let zone = disk_shape::place_zone(p, q);
+    let s = disk_shape::place_block(p, q) - 1;
+    shown_offsets(p, pointers, gone, compact, zone, s, at);
+    if any_hidden(p, at) {
+        return Sought::Bad(Answer::BadZone(zone as u64));
+    }
+    let drive = disk_shape::place_drive(p, q);
+    let r = decode_record(p, image, pointers, gone, drive, zone, s, at);
+    let stamp = r.stamp;
+    Sought::Away(q, stamp)
+}
+
+// 01, Read: the stamp of what lies there: by footer or spare, or decoded.
+fn seek_found(
+    p: Params,
+    image: &[u8],
+    pointers: &[u8],
+    gone: u8,
+    compact: &[u8],
+    f: Found,
+    at: &mut [usize],
+) -> Sought
+    requires { ⌜ inRange p ≡ true ⌝ }
+    requires { ⌜ Whole p (mkDisk (now image) (now pointers)) ⌝ }
+    requires { ⌜ (length (now compact) ≡ compactLen p) × (length (now at) ≡ 8) × placedAt p (foundOf f) ⌝ }
+    ensures { λ r. ⌜ Seeks p (viewOf p (now (image .entry)) (now (pointers .entry))) gone (now (compact .entry)) (foundOf f) r (now (at .exit)) ⌝ }
+{
+    match f {
+        Found::Nowhere => Sought::Never,
+        Found::Here(q) => {
+            let r = disk_stored::place_record(p, image, pointers, gone, q);
+            let stamp = r.stamp;
+            Sought::Here(q, stamp)
+        }
+        Found::Away(q) => seek_lost(p, image, pointers, gone, compact, q, at),
+    }
+}
+
+// 01, Refusals: the checks, and then what the lookup gives; len is the lent block's length, B for the first call, which has none.
 fn seek(
     p: Params,
     image: &[u8],
@@ -70,13 +272,16 @@ fn seek(
     state: &[u8],
     address: Address,
     len: usize,
+    at: &mut [usize],
 ) -> Sought
-    requires { ⌜ length (now state) ≡ stateLen ⌝ }
+    requires { ⌜ (length (now state) ≡ stateLen) × (length (now at) ≡ 8) ⌝ }
     ensures { λ r. ⌜
         refusedBy r
         ≡ readRefusal p (mkDisk (now (image .entry)) (now (pointers .entry)))
         (mkMemory (stateOf (now (state .entry))) (now (addresses .entry)) (now (compact .entry)) (now (inflight .entry))) (address .0) len ⌝ }
-    ensures { λ r. ⌜ liesAt r (lookup p (stateOf (now (state .entry)) .missing) (now (addresses .entry)) (address .0)) ⌝ }
+    ensures { λ r. ⌜
+        Gives p (viewOf p (now (image .entry)) (now (pointers .entry))) (stateOf (now (state .entry)) .missing) (now (compact .entry))
+        (lies p (stateOf (now (state .entry)) .missing) (now (addresses .entry)) (address .0)) r (now (at .exit)) ⌝ }
 {
     if !disk_shape::in_range(p) {
         return Sought::Bad(Answer::Refused(1));
@@ -94,22 +299,15 @@ fn seek(
         return Sought::Bad(Answer::BadZone(0));
     }
     let gone = mem_bounds::missing(state);
-    let f = mem_lookup::lookup(p, gone, addresses, address.0 as usize);
+    let f = mem_lookup::lies(p, gone, addresses, address.0 as usize);
     let zone = found_fault(p, pointers, gone, f);
-    judged(p, zone, f)
+    if zone < p.Z {
+        return Sought::Bad(Answer::BadZone(zone as u64));
+    }
+    seek_found(p, image, pointers, gone, compact, f, at)
 }
 
-// 01, Read: the part of the image, never written, or on the missing drive.
-fn answer_of(p: Params, f: Found) -> Answer
-    requires { ⌜ inRange p ≡ true ⌝ }
-    ensures { λ r. ⌜ r ≡ readAnswer p (foundOf f) ⌝ }
-{
-    match f {
-        Found::Nowhere => Answer::Never,
-        Found::Here(q) => Answer::Part(disk_shape::place_byte(p, q) as u64),
-        Found::Away(_) => Answer::Lost,
-    }
-}
+// ---- the two calls
 
 // The first read: its answer, a part of the image by its byte offset.
 pub fn find(
@@ -130,6 +328,7 @@ pub fn find(
         (mkMemory (stateOf (now (state .entry))) (now (addresses .entry)) (now (compact .entry)) (now (inflight .entry))) (read (address .0)) ⌝ }
 {
     let b = p.B;
+    let mut at = [0usize; 8];
     let sought = seek(
         p,
         image,
@@ -140,10 +339,13 @@ pub fn find(
         state,
         address,
         b,
+        &mut at,
     );
     match sought {
         Sought::Bad(answer) => answer,
-        Sought::Lies(f) => answer_of(p, f),
+        Sought::Never => Answer::Never,
+        Sought::Here(q, t) => Answer::Part(disk_shape::place_byte(p, q) as u64, t),
+        Sought::Away(_, t) => Answer::Lost(t),
     }
 }
 
@@ -177,7 +379,7 @@ pub fn part<'a>(
         state,
         address,
     );
-    if let Answer::Part(at) = answer {
+    if let Answer::Part(at, _) = answer {
         let a = at as usize;
         let e = a + p.B;
         return &image[a..e];
@@ -185,132 +387,10 @@ pub fn part<'a>(
     &image[..0]
 }
 
-// ---- decoding
-
-// Whether the table does not show the stripe on a present drive.
-fn is_hidden(
-    p: Params,
-    pointers: &[u8],
-    gone: u8,
-    compact: &[u8],
-    drive: usize,
-    zone: usize,
-    s: usize,
-) -> bool
-    requires { ⌜ inRange p ≡ true ⌝ }
-    requires { ⌜ (length (now pointers) ≡ pointersLen p) × (length (now compact) ≡ compactLen p) ⌝ }
-    requires { ⌜ (drive < p .N) × (zone < p .Z) × (s < p .S) ⌝ }
-    ensures { λ r. ⌜ ((im : List ℕ) → length im ≡ imageLen p
-        → r ≡ (not (isIn gone drive) && isNil (shownAt p (viewOf p im (now (pointers .entry))) (now (compact .entry)) drive zone s))) ⌝ }
-{
-    if bits_masks::has_drive(gone, drive) {
-        return false;
-    }
-    mem_lookup::shown_at(p, pointers, compact, drive, zone, s) == p.S
-}
-
-// 01, Refusals, 9: whether some present drive does not show the stripe.
-fn any_hidden(p: Params, pointers: &[u8], gone: u8, compact: &[u8], zone: usize, s: usize) -> bool
-    requires { ⌜ inRange p ≡ true ⌝ }
-    requires { ⌜ (length (now pointers) ≡ pointersLen p) × (length (now compact) ≡ compactLen p) ⌝ }
-    requires { ⌜ (zone < p .Z) × (s < p .S) ⌝ }
-    ensures { λ r. ⌜ ((im : List ℕ) → length im ≡ imageLen p → r ≡ any isNil (shown p (viewOf p im (now (pointers .entry))) gone (now (compact .entry)) (seg zone) s)) ⌝ }
-{
-    let mut d = 0;
-    while d < p.N {
-        if is_hidden(p, pointers, gone, compact, d, zone, s) {
-            return true;
-        }
-        d += 1;
-    }
-    false
-}
-
-// Byte offset of the block that the table shows on a drive; 0 for a missing one.
-fn shown_byte(
-    p: Params,
-    pointers: &[u8],
-    gone: u8,
-    compact: &[u8],
-    drive: usize,
-    zone: usize,
-    s: usize,
-) -> usize
-    requires { ⌜ inRange p ≡ true ⌝ }
-    requires { ⌜ (length (now pointers) ≡ pointersLen p) × (length (now compact) ≡ compactLen p) ⌝ }
-    requires { ⌜ (drive < p .N) × (zone < p .Z) × (s < p .S) ⌝ }
-    ensures { λ r. ⌜ (isIn gone drive ≡ false → r + p .B ≤ imageLen p) ⌝ }
-    ensures { λ r. ⌜
-        ((im : List ℕ)
-        → length im ≡ imageLen p
-        → isIn gone drive ≡ false
-        → isNil (shownAt p (viewOf p im (now (pointers .entry))) (now (compact .entry)) drive zone s) ≡ false
-        → shownBlock p (viewOf p im (now (pointers .entry))) (now (compact .entry)) zone s drive ≡ part r (p .B) im) ⌝ }
-{
-    if bits_masks::has_drive(gone, drive) {
-        return 0;
-    }
-    let o = mem_lookup::shown_at(p, pointers, compact, drive, zone, s);
-    disk_shape::block_byte(p, drive, zone, 1 + o)
-}
-
-// 01, Read: the block of a missing drive, decoded from the chunks that the table shows.
-fn decode(
-    p: Params,
-    image: &[u8],
-    pointers: &[u8],
-    gone: u8,
-    compact: &[u8],
-    drive: usize,
-    zone: usize,
-    s: usize,
-    block: &mut [u8],
-)
-    requires { ⌜ inRange p ≡ true ⌝ }
-    requires { ⌜ Whole p (mkDisk (now image) (now pointers)) ⌝ }
-    requires { ⌜ (length (now compact) ≡ compactLen p) × (length (now block) ≡ p .B) ⌝ }
-    requires { ⌜ (drive < p .N) × (zone < p .Z) × (s < p .S) ⌝ }
-    requires { ⌜ any isNil (shown p (viewOf p (now image) (now pointers)) gone (now compact) (seg zone) s) ≡ false ⌝ }
-    ensures { λ _. ⌜ now (block .exit) ≡ decodedAt p (viewOf p (now (image .entry)) (now (pointers .entry))) gone (now (compact .entry)) drive (seg zone) s .block ⌝ }
-{
-    let mut at = [0usize; 8];
-    let mut d = 0;
-    while d < p.N {
-        at[d] = shown_byte(p, pointers, gone, compact, d, zone, s);
-        d += 1;
-    }
-    disk_code::decode_block(p, image, &at, gone, s, drive, block);
-}
-
-// The second read of a place on the missing drive: decoded, or refused for its zone.
-fn fill_lost(
-    p: Params,
-    image: &[u8],
-    pointers: &[u8],
-    gone: u8,
-    compact: &[u8],
-    q: Place,
-    block: &mut [u8],
-) -> Answer
-    requires { ⌜ inRange p ≡ true ⌝ }
-    requires { ⌜ Whole p (mkDisk (now image) (now pointers)) ⌝ }
-    requires { ⌜ (length (now compact) ≡ compactLen p) × (length (now block) ≡ p .B) × PlaceOk p (q .0) ⌝ }
-    ensures { λ r. ⌜ mkFill r (now (block .exit)) ≡ filling p (viewOf p (now (image .entry)) (now (pointers .entry))) gone (now (compact .entry)) (away (q .0)) (now (block .entry)) ⌝ }
-{
-    let zone = disk_shape::place_zone(p, q);
-    let s = disk_shape::place_block(p, q) - 1;
-    if any_hidden(p, pointers, gone, compact, zone, s) {
-        return Answer::BadZone(zone as u64);
-    }
-    let drive = disk_shape::place_drive(p, q);
-    decode(p, image, pointers, gone, compact, drive, zone, s, block);
-    Answer::Filled
-}
-
 // The second read of a place on a present drive: a copy.
 fn fill_here(p: Params, image: &[u8], q: Place, block: &mut [u8])
     requires { ⌜ inRange p ≡ true ⌝ }
-    requires { ⌜ (length (now image) ≡ imageLen p) × (length (now block) ≡ p .B) × PlaceOk p (q .0) ⌝ }
+    requires { ⌜ (length (now image) ≡ imageLen p) × (length (now block) ≡ p .B) × DataPlace p (q .0) ⌝ }
     ensures { λ _. ⌜ now (block .exit) ≡ part (placeByte p (q .0)) (p .B) (now (image .entry)) ⌝ }
 {
     let at = disk_shape::place_byte(p, q);
@@ -318,32 +398,16 @@ fn fill_here(p: Params, image: &[u8], q: Place, block: &mut [u8])
     disk_blocks::copy(block, &image[at..end]);
 }
 
-// 01, Read: zeros, a copy or the decoded block.
-fn fill_found(
-    p: Params,
-    image: &[u8],
-    pointers: &[u8],
-    gone: u8,
-    compact: &[u8],
-    f: Found,
-    block: &mut [u8],
-) -> Answer
+// The second read of a place on the missing drive: decoded from the blocks at the data offsets.
+fn fill_lost(p: Params, image: &[u8], gone: u8, q: Place, at: &[usize], block: &mut [u8])
     requires { ⌜ inRange p ≡ true ⌝ }
-    requires { ⌜ Whole p (mkDisk (now image) (now pointers)) ⌝ }
-    requires { ⌜ (length (now compact) ≡ compactLen p) × (length (now block) ≡ p .B) × placedAt p (foundOf f) ⌝ }
-    ensures { λ r. ⌜ mkFill r (now (block .exit)) ≡ filling p (viewOf p (now (image .entry)) (now (pointers .entry))) gone (now (compact .entry)) (foundOf f) (now (block .entry)) ⌝ }
+    requires { ⌜ (length (now image) ≡ imageLen p) × (length (now block) ≡ p .B) × DataPlace p (q .0) × OffsetsLow p (now at) ⌝ }
+    ensures { λ _. ⌜ ((ps : List ℕ) → length ps ≡ pointersLen p → now (block .exit) ≡ pieceFrom p (viewOf p (now (image .entry)) ps) gone (q .0) (now (at .entry)) .block) ⌝ }
 {
-    match f {
-        Found::Nowhere => {
-            disk_blocks::clear(block);
-            Answer::Filled
-        }
-        Found::Here(q) => {
-            fill_here(p, image, q, block);
-            Answer::Filled
-        }
-        Found::Away(q) => fill_lost(p, image, pointers, gone, compact, q, block),
-    }
+    let zone = disk_shape::place_zone(p, q);
+    let s = disk_shape::place_block(p, q) - 1;
+    let drive = disk_shape::place_drive(p, q);
+    decode_block(p, image, gone, drive, zone, s, at, block);
 }
 
 // The second read, into a lent block.
@@ -367,6 +431,7 @@ pub fn fill(
         (fill (address .0) (now (block .entry))) ⌝ }
 {
     let n = block.len();
+    let mut at = [0usize; 8];
     let sought = seek(
         p,
         image,
@@ -377,12 +442,22 @@ pub fn fill(
         state,
         address,
         n,
+        &mut at,
     );
     match sought {
         Sought::Bad(answer) => answer,
-        Sought::Lies(f) => {
+        Sought::Never => {
+            disk_blocks::clear(block);
+            Answer::Filled(Stamp(0))
+        }
+        Sought::Here(q, t) => {
+            fill_here(p, image, q, block);
+            Answer::Filled(t)
+        }
+        Sought::Away(q, stamp) => {
             let gone = mem_bounds::missing(state);
-            fill_found(p, image, pointers, gone, compact, f, block)
+            fill_lost(p, image, gone, q, &at, block);
+            Answer::Filled(stamp)
         }
     }
 }

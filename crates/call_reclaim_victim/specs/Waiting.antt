@@ -1,17 +1,19 @@
 -- The first live block that is not in flight, place after place (01, Reclaim). Assumes nothing.
-use Prim.Native.Nat.{ℕ, zero, suc, _+_, _-_, _≤_, _<_}
-use Rattle.call_reclaim_live.specs.Live.{isLiveIn, liveBelow, keep-nobody, keep-twice, live-more, keep-single, live-split}
+use Prim.Native.Nat.{ℕ, zero, suc, _+_, _-_, _*_, _≤_, _<_}
+use Rattle.call_reclaim_live.specs.Live.{drive-low, isLiveIn, liveBelow, keep-nobody, keep-twice, live-more, keep-single, live-split}
 use Rattle.spec.specs.Counts.{neverPlace}
-use Rattle.spec.specs.Drives.{View, placeSegment, recordAt}
+use Rattle.spec.specs.Drives.{View, placeRecord}
 use Rattle.spec.specs.Layout.{Rec}
 use Rattle.spec.specs.Lists.{upFrom, below, all, any, consIf, keep, isNil, firstOr}
 use Rattle.spec.specs.Memory.{holds}
-use Rattle.spec.specs.Params.{between, placeBlock, placeZone, placeDrive}
+use Rattle.spec.specs.Params.{between, inRange, capacity, placeBlock, placeZone}
 use Rattle.spec.specs.Reclaim.{flying}
 use Rattle.spec.specs.declared.Params.{Params}
 use Rattle.spec.specs.declared.State.{State}
 use Rattle.law_basic.specs.Ranges.{Test, test, and-left, and-both, not-both, any-append, keep-append}
 use Rattle.law_basic.specs.Ranges.Test.{yes!, no! }
+use Rattle.law_basic.specs.Geometry.{ranged}
+use Rattle.disk_stored.specs.Places.{DataPlace, data-place}
 use Rattle.mem_marks.specs.Marks.{isMarked, isPointed, Marks}
 use Rattle.call_reclaim_victim.specs.declared.Idle.{Idle}
 use borrow.Author.Tests.{le-leb, lt-leb, lt-ltb, le-ltb, eq-eqb, ne-eqb, eqb-true, eqb-false, not-true, not-false}
@@ -217,28 +219,26 @@ pub data-block : (p : Params) (q : ℕ) → isOdd p q ≡ false → between 1 (p
 unfolding isOdd
 data-block p q e = not-false (between 1 (p .S) (placeBlock p q)) e
 
+pub data-there : (p : Params) (q : ℕ) → inRange p ≡ true → q < p .N * p .Z * capacity p → isOdd p q ≡ false → DataPlace p q
+data-there p q ok h e = data-place p q (drive-low p (ranged p ok) q h) (data-block p q e)
+
 pub odd-block : (p : Params) (q : ℕ) → isOdd p q ≡ true → between 1 (p .S) (placeBlock p q) ≡ false
 unfolding isOdd
 odd-block p q e = not-true (between 1 (p .S) (placeBlock p q)) e
 
 -- 01, Reclaim: a data block, by its record
-pub flying-is : (p : Params) (v : View) (st : State) (q : ℕ) (r : Rec) → isOdd p q ≡ false → r ≡ recordAt p v 0 (placeDrive p q) (placeSegment p q) (placeBlock p q - 1)
+pub flying-is : (p : Params) (v : View) (st : State) (q : ℕ) (r : Rec) → isOdd p q ≡ false → r ≡ placeRecord p v 0 q
     → holds st (r .address) (r .stamp) ≡ flying p v st q
 unfolding flying
 flying-is p v st q r o e =
     let f : ℕ → Bool = λ b. between 1 (p .S) b in
     (λ j. holds st (e j .address) (e j .stamp))
-    ∙ ap (λ (x : Bool). x
-    && holds st (recordAt p v 0 (placeDrive p q) (placeSegment p q) (placeBlock p q - 1) .address)
-    (recordAt p v 0 (placeDrive p q) (placeSegment p q) (placeBlock p q - 1) .stamp)) (sym (data-block p q o))
+    ∙ ap (λ (x : Bool). x && holds st (placeRecord p v 0 q .address) (placeRecord p v 0 q .stamp)) (sym (data-block p q o))
 
 module _ (p : Params) (v : View) (st : State) (i : Idle) (q : ℕ) where
   not-flying : isOdd p q ≡ true → flying p v st q ≡ false
   unfolding flying
-  not-flying o =
-      ap (λ (x : Bool). x
-      && holds st (recordAt p v 0 (placeDrive p q) (placeSegment p q) (placeBlock p q - 1) .address)
-      (recordAt p v 0 (placeDrive p q) (placeSegment p q) (placeBlock p q - 1) .stamp)) (odd-block p q o)
+  not-flying o = ap (λ (x : Bool). x && holds st (placeRecord p v 0 q .address) (placeRecord p v 0 q .stamp)) (odd-block p q o)
 
   same-odd : isOdd p q ≡ false → i .odd ≡ (i .odd || isOdd p q)
   same-odd o = sym (ap (λ (x : Bool). i .odd || x) o ∙ or-false (i .odd))

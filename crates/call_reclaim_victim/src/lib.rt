@@ -6,18 +6,16 @@ ghost use Prim.Native.Nat.{ℕ, _+_, _-_, _*_, _≤_, _<_};
 ghost use lib.Dec.{eqb};
 ghost use lib.ListN.{length};
 ghost use Rattle.spec.specs.Counts.{neverPlace};
-ghost use Rattle.spec.specs.Drives.{viewOf, mkDisk, allSegs, placeSegment, recordAt, sealedIn};
+ghost use Rattle.spec.specs.Drives.{viewOf, mkDisk, allSegs, sealedIn};
 ghost use Rattle.spec.specs.Lists.{consIf, any};
 ghost use Rattle.spec.specs.Memory.{stateLen, stateOf};
-ghost use Rattle.spec.specs.Params.{inRange, capacity, imageLen, pointersLen, addressesLen, placeOf, placeBlock, placeZone, placeDrive};
+ghost use Rattle.spec.specs.Params.{inRange, capacity, imageLen, pointersLen, addressesLen, placeOf, placeZone};
 ghost use Rattle.spec.specs.Reclaim.{tableFaults, flying};
-ghost use Rattle.disk_records.specs.Record.{recVal};
 ghost use Rattle.mem_marks.specs.Marks.{Marks};
 ghost use Rattle.call_reclaim_victim.specs.Looked.{Looked};
 ghost use Rattle.call_reclaim_victim.specs.Vouched.{Vouched, Sees, chosenOf};
 ghost use Rattle.call_reclaim_victim.specs.Waiting.{isOdd, orElse, IdleStepped, IdleBelow};
 ghost use Rattle.law_views.specs.Views.{Whole};
-use disk_records::Record;
 use spec::Params;
 use spec::Place;
 
@@ -41,19 +39,6 @@ fn is_odd(p: Params, place: Place) -> bool
     p.S < block
 }
 
-// The record of the data block at a place.
-pub fn record_of(p: Params, image: &[u8], pointers: &[u8], place: Place) -> Record
-    requires { ⌜ inRange p ≡ true ⌝ }
-    requires { ⌜ Whole p (mkDisk (now image) (now pointers)) ⌝ }
-    requires { ⌜ (place .0 < p .N * p .Z * capacity p) × (isOdd p (place .0) ≡ false) ⌝ }
-    ensures { λ r. ⌜ recVal r ≡ recordAt p (viewOf p (now (image .entry)) (now (pointers .entry))) 0 (placeDrive p (place .0)) (placeSegment p (place .0)) (placeBlock p (place .0) - 1) ⌝ }
-{
-    let drive = disk_shape::place_drive(p, place);
-    let zone = disk_shape::place_zone(p, place);
-    let offset = disk_shape::place_block(p, place) - 1;
-    disk_stored::record_at(p, image, pointers, 0, drive, zone, offset)
-}
-
 // 01, Reclaim: a data block is in flight while a stripe in flight holds its address with its stamp.
 fn is_flying(p: Params, image: &[u8], pointers: &[u8], bytes: &[u8], place: Place) -> bool
     requires { ⌜ inRange p ≡ true ⌝ }
@@ -61,7 +46,7 @@ fn is_flying(p: Params, image: &[u8], pointers: &[u8], bytes: &[u8], place: Plac
     requires { ⌜ (place .0 < p .N * p .Z * capacity p) × (isOdd p (place .0) ≡ false) × (length (now bytes) ≡ stateLen) ⌝ }
     ensures { λ r. ⌜ r ≡ flying p (viewOf p (now (image .entry)) (now (pointers .entry))) (stateOf (now (bytes .entry))) (place .0) ⌝ }
 {
-    let r = record_of(p, image, pointers, place);
+    let r = disk_stored::place_record(p, image, pointers, 0, place);
     let address = r.address;
     let stamp = r.stamp;
     mem_state::holds(bytes, address, stamp)

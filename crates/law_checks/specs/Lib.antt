@@ -1,3 +1,4 @@
 pub mod Checks
 pub mod Passed
 pub mod Empty
+pub mod Reads

@@ -3,7 +3,7 @@ use mathlib.Core.Path.{_≡_, refl, sym, ap, ap₂, _∙_, subst}
 use mathlib.Core.List.{List, [], _∷_, _++_, map}
 use mathlib.Core.Bool.{Bool, true, false, cond, not, _&&_, _||_}
 use Prim.Native.Nat.{ℕ, suc, _<_}
-use borrow.Author.Tests.{lt-leb, eq-eqb, leb-false, ltb-true, eqb-true, not-false}
+use borrow.Author.Tests.{lt-leb, leb-false, ltb-true, eqb-true, not-false}
 use native.Mathlib.Omega.{arith}
 use lib.Dec.{ltb, eqb}
 use lib.ListN.{length}
@@ -23,13 +23,13 @@ use Rattle.spec.specs.Lists.{Opt, keep, isNil}
 use Rattle.spec.specs.Lists.Opt.{none, some}
 use Rattle.spec.specs.Memory.{Memory, hasFilling, stateOk, stateFaults}
 use Rattle.spec.specs.Params.{between, inRange, placeBlock, placeZone, named}
-use Rattle.spec.specs.Read.{Found, lookup, foundFaults, decodeFaults, readChecks}
+use Rattle.spec.specs.Read.{Found, lies, foundFaults, decodeFaults, readChecks}
 use Rattle.spec.specs.Rebuild.{namesMissing, rebuildChecks}
 use Rattle.spec.specs.Reclaim.{Victim, tableFaults, isNone, victimLive, idle, reclaimChecks}
 use Rattle.spec.specs.Restart.{namesDrive, rewrites, freeSegs, restartChecks}
 use Rattle.spec.specs.Segments.{Segment, greatestSerial}
 use Rattle.spec.specs.Write.{opens, noStamp, noSerial, mustWait, scarce, writeChecks}
-use Rattle.law_basic.specs.Ranges.{or-false, and-left, and-right, and-both, not-both}
+use Rattle.law_basic.specs.Ranges.{or-false, and-left, and-right, not-both}
 use Rattle.law_calls.specs.Refusals.{state-fine as state-clear, state-free}
 use Rattle.law_checks.specs.Checks.{Mild}
 
@@ -361,20 +361,10 @@ module _ (p : Params) (long : Bool) (v : View) (m : Memory) (w : Opt Victim) whe
         ),
       )
 
--- ---- the two reads
+-- ---- the two reads: one list of checks, with the lent block's length among the lengths of the second
 
 abbrev pub foundIn : Params → Memory → ℕ → Found
-foundIn p m a = lookup p (m .state .missing) (m .addresses) a
-
--- all checks of the first read
-abbrev pub readList : Params → Bool → View → Memory → ℕ → List Check
-readList p long v m a = readChecks p long a ++ (zones (stateFaults p (m .state) ++ foundFaults p v (m .state .missing) (foundIn p m a)) ∷ [])
-
--- and of the second
-abbrev pub fillList : Params → Bool → View → Memory → ℕ → List ℕ → List Check
-fillList p long v m a b =
-    readChecks p (long && eqb (length b) (p .B)) a
-    ++ (zones (stateFaults p (m .state) ++ foundFaults p v (m .state .missing) (foundIn p m a)) ∷ zones (decodeFaults p v (m .state .missing) (m .compact) (foundIn p m a)) ∷ [])
+foundIn p m a = lies p (m .state .missing) (m .addresses) a
 
 pub record ReadPassed (p : Params) (long : Bool) (v : View) (m : Memory) (a : ℕ) : Type 0 where
   pub in-range : inRange p ≡ true
@@ -382,16 +372,20 @@ pub record ReadPassed (p : Params) (long : Bool) (v : View) (m : Memory) (a : �
   pub address-low : a < p .L
   pub state-fine : stateOk p (m .state) ≡ true
   pub place-fine : foundFaults p v (m .state .missing) (foundIn p m a) ≡ []
+  pub decodes : decodeFaults p v (m .state .missing) (m .compact) (foundIn p m a) ≡ []
 
 module _ (p : Params) (long : Bool) (v : View) (m : Memory) (a : ℕ) where
   abbrev place-faults : List ℕ
   place-faults = foundFaults p v (m .state .missing) (foundIn p m a)
 
-  pub read-passed : firstRefusal (readList p long v m a) ≡ none → ReadPassed p long v m a
+  abbrev decode-faults : List ℕ
+  decode-faults = decodeFaults p v (m .state .missing) (m .compact) (foundIn p m a)
+
+  pub read-passed : firstRefusal (readChecks p long v m a) ≡ none → ReadPassed p long v m a
   unfolding readChecks
   read-passed e =
       let st = m .state in
-      let (c1, (c2, (c4, (c9, c)))) = passes (readList p long v m a) e in
+      let (c1, (c2, (c4, (c9, (c10, c))))) = passes (readChecks p long v m a) e in
       let nine = nil-both (stateFaults p st) place-faults c9 in
       record {
         in-range = not-false (inRange p) c1;
@@ -399,69 +393,19 @@ module _ (p : Params) (long : Bool) (v : View) (m : Memory) (a : ℕ) where
         address-low = leb-false (p .L) a c4;
         state-fine = state-free p st (nine .0);
         place-fine = nine .1;
-      }
-
-  pub read-goes : ReadPassed p long v m a → firstRefusal (readList p long v m a) ≡ none
-  unfolding readChecks
-  read-goes c =
-      let nine = nil-all (stateFaults p (m .state)) place-faults (state-clear p (m .state) (c .state-fine)) (c .place-fine) in
-      none-refused (readList p long v m a) (ap not (c .in-range), (ap not (c .lent), (lt-leb (p .L) a (c .address-low), (nine, tt))))
-
-  pub read-mild : stateOk p (m .state) ≡ true → (a < p .L → place-faults ≡ []) → Mild (readList p long v m a)
-  unfolding readChecks
-  read-mild ok fine =
-      clear (readList p long v m a) (
-        refl,
-        λ c1. (
-          refl,
-          λ c2. (
-            refl,
-            λ c4.
-                (nil-all (stateFaults p (m .state)) place-faults (state-clear p (m .state) ok) (fine (leb-false (p .L) a c4)), tt),
-          ),
-        ),
-      )
-
-pub record FillPassed (p : Params) (long : Bool) (v : View) (m : Memory) (a : ℕ) (b : List ℕ) : Type 0 where
-  pub in-range : inRange p ≡ true
-  pub lent : long ≡ true
-  pub block-long : length b ≡ p .B
-  pub address-low : a < p .L
-  pub state-fine : stateOk p (m .state) ≡ true
-  pub place-fine : foundFaults p v (m .state .missing) (foundIn p m a) ≡ []
-  pub decodes : decodeFaults p v (m .state .missing) (m .compact) (foundIn p m a) ≡ []
-
-module _ (p : Params) (long : Bool) (v : View) (m : Memory) (a : ℕ) (b : List ℕ) where
-  pub fill-passed : firstRefusal (fillList p long v m a b) ≡ none → FillPassed p long v m a b
-  unfolding readChecks
-  fill-passed e =
-      let st = m .state in
-      let fits = eqb (length b) (p .B) in
-      let (c1, (c2, (c4, (c9, (c10, c))))) = passes (fillList p long v m a b) e in
-      let two = not-false (long && fits) c2 in
-      let nine = nil-both (stateFaults p st) (foundFaults p v (st .missing) (foundIn p m a)) c9 in
-      record {
-        in-range = not-false (inRange p) c1;
-        lent = and-left long fits two;
-        block-long = eqb-true (length b) (p .B) (and-right long fits two);
-        address-low = leb-false (p .L) a c4;
-        state-fine = state-free p st (nine .0);
-        place-fine = nine .1;
         decodes = c10;
       }
 
-  pub fill-goes : FillPassed p long v m a b → firstRefusal (fillList p long v m a b) ≡ none
+  pub read-goes : ReadPassed p long v m a → firstRefusal (readChecks p long v m a) ≡ none
   unfolding readChecks
-  fill-goes c =
-      let two = and-both long (eqb (length b) (p .B)) (c .lent) (eq-eqb (length b) (p .B) (c .block-long)) in
-      let nine = nil-all (stateFaults p (m .state)) (foundFaults p v (m .state .missing) (foundIn p m a)) (state-clear p (m .state) (c .state-fine)) (c .place-fine) in
-      none-refused (fillList p long v m a b) (ap not (c .in-range), (ap not two, (lt-leb (p .L) a (c .address-low), (nine, (c .decodes, tt)))))
+  read-goes c =
+      let nine = nil-all (stateFaults p (m .state)) place-faults (state-clear p (m .state) (c .state-fine)) (c .place-fine) in
+      none-refused (readChecks p long v m a) (ap not (c .in-range), (ap not (c .lent), (lt-leb (p .L) a (c .address-low), (nine, (c .decodes, tt)))))
 
-  pub fill-mild : stateOk p (m .state) ≡ true → (a < p .L → foundFaults p v (m .state .missing) (foundIn p m a) ≡ [])
-      → (a < p .L → decodeFaults p v (m .state .missing) (m .compact) (foundIn p m a) ≡ []) → Mild (fillList p long v m a b)
+  pub read-mild : stateOk p (m .state) ≡ true → (a < p .L → place-faults ≡ []) → (a < p .L → decode-faults ≡ []) → Mild (readChecks p long v m a)
   unfolding readChecks
-  fill-mild ok fine decodes =
-      clear (fillList p long v m a b) (
+  read-mild ok fine decodes =
+      clear (readChecks p long v m a) (
         refl,
         λ c1. (
           refl,
@@ -469,7 +413,7 @@ module _ (p : Params) (long : Bool) (v : View) (m : Memory) (a : ℕ) (b : List 
             refl,
             λ c4.
                 let low = leb-false (p .L) a c4 in
-                (nil-all (stateFaults p (m .state)) (foundFaults p v (m .state .missing) (foundIn p m a)) (state-clear p (m .state) ok) (fine low), (decodes low, tt)),
+                (nil-all (stateFaults p (m .state)) place-faults (state-clear p (m .state) ok) (fine low), (decodes low, tt)),
           ),
         ),
       )

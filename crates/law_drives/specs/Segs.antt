@@ -8,12 +8,13 @@ use native.Mathlib.Omega.{arith}
 use lib.Dec.{eqb}
 use lib.ListN.{length, getD, length-map}
 use Rattle.spec.specs.declared.Params.{Params}
-use Rattle.spec.specs.Drives.{Zone, noZone, View, zoneAt, pointerAt, allSegs, zoneOn, sealedIn, dataStored, recordIn, Seg, seg, sameSeg}
+use Rattle.spec.specs.Drives.{noChunk, Zone, noZone, View, zoneAt, pointerAt, chunkAt, allSegs, zoneOn, sealedIn, dataStored, recordIn, recordAt, Seg, seg, sameSeg}
 use Rattle.spec.specs.Layout.{dataDrive, dataDrives, headerSerial, headerCopied, Rec, mkRec}
 use Rattle.spec.specs.Lists.{below, all, any, keep, indexOf, isIn}
 use Rattle.spec.specs.Params.{dataCount, drivesOf, present}
-use Rattle.spec.specs.Parity.{Piece}
+use Rattle.spec.specs.Parity.{Piece, mkPiece}
 use Rattle.spec.specs.Rank.{Cand}
+use Rattle.spec.specs.Read.{storedAt}
 use Rattle.spec.specs.Segments.{lowDrive, headerAt, leftBy1, isCopy, remaining, Segment, recordsIn, segmentOf, segments, recsOn, offsetOn, hasChunk, counts}
 use Rattle.spec.specs.Segments.{counted, storedRec, candOf, segmentCands, candidates, storedPiece, pieceOf, recOf}
 use Rattle.law_basic.specs.Ranges.{Test, test, length-below, getD-map-below}
@@ -136,6 +137,13 @@ module _ (p : Params) (v : View) (gone : ℕ) (g : Seg) where
         its-record = a o b;
         first = λ i k x. eqb-false (getD rs i (mkRec 0 0 0) .stripe) s (index-first f rs (mkRec 0 0 0) i k) (ap (λ (r : Rec). r .stripe) (a i (omega arith)) ∙ x);
       }
+
+  -- what is read at its offset is the chunk
+  pub stored-at : (d s : ℕ) → d < p .N → isIn gone d ≡ false → hasChunk (segmentOf p v gone g) s d ≡ true
+      → storedAt p v gone d g (offsetOn (segmentOf p v gone g) d s) ≡ storedPiece (segmentOf p v gone g) s d
+  unfolding storedAt chunkAt recordAt storedPiece storedRec
+  stored-at d s h q c =
+      ap₂ mkPiece (ap (λ (z : Zone). getD (z .blocks) (1 + offsetOn (segmentOf p v gone g) d s) noChunk .block) (sym (zone-by d h))) (sym (chunk-at d s h q c .its-record))
 
   -- a chunk of the stripe gives one
   pub has-chunk : (d s o : ℕ) → d < p .N → isIn gone d ≡ false → o < dataStored p (zoneAt v d (zoneOn g d))

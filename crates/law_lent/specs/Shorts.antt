@@ -1,16 +1,16 @@
 -- Calls that are lent a buffer of another length, and refusals that change nothing, call by call (01, Refusals, 1 and 2; Store count). Assumes nothing.
 use mathlib.Core.Path.{_≡_, refl, ap, _∙_}
-use mathlib.Core.List.{List, [], _∷_, _++_}
+use mathlib.Core.List.{List, [], _∷_}
 use mathlib.Core.Bool.{Bool, true, false, cond, not, _&&_, _||_}
 use Prim.Native.Nat.{ℕ}
 use lib.Dec.{eqb}
 use lib.ListN.{length, drop}
 use Rattle.spec.specs.declared.Params.{Params}
 use Rattle.spec.specs.declared.Answer.{Answer}
-use Rattle.spec.specs.declared.Answer.the-variants.{Refused, Filled, Rebuilt, Nothing}
+use Rattle.spec.specs.declared.Answer.the-variants.{Refused, Rebuilt, Nothing}
 use Rattle.spec.specs.Answers.{kind, isRefused}
 use Rattle.spec.specs.Calls.{Check, firstRefusal, Plan, mkPlan, mkAfter}
-use Rattle.spec.specs.Calls.Check.{rule, zones}
+use Rattle.spec.specs.Calls.Check.{rule}
 use Rattle.spec.specs.Closing.{closeChecks, closePlan, closeVerdict, emptyChecks, emptyPlan, emptyVerdict}
 use Rattle.spec.specs.Drives.{View, Disk, storeDisk}
 use Rattle.spec.specs.Engine.Call.{write, land, close, reclaim, read, fill, restart, rebuild}
@@ -18,9 +18,9 @@ use Rattle.spec.specs.Engine.{storeCount, lentBlock, verdict, lentOk, callOn, c
 use Rattle.spec.specs.Landing.{landChecks, landPlan, landVerdict}
 use Rattle.spec.specs.Lists.{Opt, isNil, firstOr}
 use Rattle.spec.specs.Lists.Opt.{some}
-use Rattle.spec.specs.Memory.{Memory, hasFilling, stateFaults}
+use Rattle.spec.specs.Memory.{Memory, hasFilling}
 use Rattle.spec.specs.Params.{inRange, named}
-use Rattle.spec.specs.Read.{Found, lookup, foundFaults, decodeFaults, readPiece, readAnswer, readChecks, readVerdict, fillVerdict}
+use Rattle.spec.specs.Read.{Found, lookup, readAnswer, readChecks, readPlan, readVerdict, fillPlan, fillVerdict}
 use Rattle.spec.specs.Read.Found.{nowhere, here, away}
 use Rattle.spec.specs.Rebuild.{namesMissing, rebuildChecks, rebuildStores, rebuildVerdict}
 use Rattle.spec.specs.Reclaim.{Victim, victim, victimSegment, victimLive, idle, reclaimChecks, resetPlan, copyPlan, reclaimVerdict}
@@ -49,11 +49,11 @@ not-and true b = refl
 not-and false b = refl
 
 -- what is due answers with no refusal
-read-answer : (p : Params) (f : Found) → isRefused (readAnswer p f) ≡ false
+read-answer : (p : Params) (t : ℕ) (f : Found) → isRefused (readAnswer p t f) ≡ false
 unfolding isRefused kind readAnswer
-read-answer p nowhere = refl
-read-answer p (here q) = refl
-read-answer p (away q) = refl
+read-answer p t nowhere = refl
+read-answer p t (here q) = refl
+read-answer p t (away q) = refl
 
 either-answer : (t : Bool) (a b : Plan) → isRefused (a .answer) ≡ false → isRefused (b .answer) ≡ false → isRefused (cond t a b .answer) ≡ false
 either-answer true a b f g = f
@@ -133,37 +133,24 @@ module _ (p : Params) (k : Disk) (m : Memory) where
   pub read-short : (a : ℕ) → callOn p false k m (read a) ≡ mkAfter (shortAnswer (inRange p)) k m []
   unfolding callOn storeCount lentBlock verdict readVerdict readChecks
   read-short a =
-      call-refused p (storeDisk p) 0 k m []
-      (firstRefusal (readChecks p false a ++ (zones (stateFaults p (m .state) ++ foundFaults p v (m .state .missing) (lookup p (m .state .missing) (m .addresses) a)) ∷ [])))
-      (mkPlan [] (readAnswer p (lookup p (m .state .missing) (m .addresses) a)) m []) (shortAnswer (inRange p))
-      (short-rules (inRange p) (drop 2 (readChecks p false a ++ (zones (stateFaults p (m .state) ++ foundFaults p v (m .state .missing) (lookup p (m .state .missing) (m .addresses) a)) ∷ []))))
+      call-refused p (storeDisk p) 0 k m [] (firstRefusal (readChecks p false v m a)) (readPlan p v m a) (shortAnswer (inRange p))
+      (short-rules (inRange p) (drop 2 (readChecks p false v m a)))
 
   pub read-keeps : (a : ℕ) → isRefused (callDisk p k m (read a) .answer) ≡ true → callDisk p k m (read a) ≡ mkAfter (callDisk p k m (read a) .answer) k m []
-  unfolding callDisk callOn storeCount lentBlock verdict readVerdict
+  unfolding callDisk callOn storeCount lentBlock verdict readVerdict readPlan
   read-keeps a =
-      let f = lookup p (m .state .missing) (m .addresses) a in
-      refused-keeps p (storeDisk p) 0 k m []
-      (firstRefusal (readChecks p (lentOk p k m) a ++ (zones (stateFaults p (m .state) ++ foundFaults p v (m .state .missing) f) ∷ [])))
-      (mkPlan [] (readAnswer p f) m []) (read-answer p f)
-
-  abbrev fillRules : Bool → ℕ → List ℕ → List Check
-  fillRules long a b =
-      let gone = m .state .missing in
-      let f = lookup p gone (m .addresses) a in
-      readChecks p (long && eqb (length b) (p .B)) a ++ (zones (stateFaults p (m .state) ++ foundFaults p v gone f) ∷ zones (decodeFaults p v gone (m .compact) f) ∷ [])
-
-  abbrev fillPlan : ℕ → Plan
-  fillPlan a = mkPlan [] Filled m (readPiece p v (m .state .missing) (m .compact) (lookup p (m .state .missing) (m .addresses) a) .block)
+      let l = lookup p v (m .state .missing) (m .compact) (m .addresses) a in
+      refused-keeps p (storeDisk p) 0 k m [] (firstRefusal (readChecks p (lentOk p k m) v m a)) (readPlan p v m a) (read-answer p (l .stamp) (l .found))
 
   pub fill-short : (a : ℕ) (b : List ℕ) → callOn p false k m (fill a b) ≡ mkAfter (shortAnswer (inRange p)) k m b
   unfolding callOn storeCount lentBlock verdict fillVerdict readChecks
   fill-short a b =
-      call-refused p (storeDisk p) 0 k m b (firstRefusal (fillRules false a b)) (fillPlan a) (shortAnswer (inRange p))
-      (short-rules (inRange p) (drop 2 (fillRules false a b)))
+      call-refused p (storeDisk p) 0 k m b (firstRefusal (readChecks p (false && eqb (length b) (p .B)) v m a)) (fillPlan p v m a) (shortAnswer (inRange p))
+      (short-rules (inRange p) (drop 2 (readChecks p false v m a)))
 
   pub fill-keeps : (a : ℕ) (b : List ℕ) → isRefused (callDisk p k m (fill a b) .answer) ≡ true → callDisk p k m (fill a b) ≡ mkAfter (callDisk p k m (fill a b) .answer) k m b
-  unfolding callDisk callOn storeCount lentBlock verdict fillVerdict isRefused kind
-  fill-keeps a b = refused-keeps p (storeDisk p) 0 k m b (firstRefusal (fillRules (lentOk p k m) a b)) (fillPlan a) refl
+  unfolding callDisk callOn storeCount lentBlock verdict fillVerdict fillPlan isRefused kind
+  fill-keeps a b = refused-keeps p (storeDisk p) 0 k m b (firstRefusal (readChecks p (lentOk p k m && eqb (length b) (p .B)) v m a)) (fillPlan p v m a) refl
 
   -- ---- restart and rebuild: 1 has more conditions
 

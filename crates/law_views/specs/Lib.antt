@@ -1,2 +1,3 @@
 pub mod Views
 pub mod Pointers
+pub mod Looked

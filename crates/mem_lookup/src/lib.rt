@@ -12,7 +12,7 @@ ghost use Rattle.spec.specs.Drives.{viewOf, pointerOf};
 ghost use Rattle.spec.specs.Lists.{consIf, isNil, firstOr};
 ghost use Rattle.spec.specs.Memory.{shownAt};
 ghost use Rattle.spec.specs.Params.{inRange, imageLen, pointersLen, addressesLen, compactLen};
-ghost use Rattle.spec.specs.Read.{placeFaults, lookup};
+ghost use Rattle.spec.specs.Read.{placeFaults, lies};
 ghost use Rattle.mem_lookup.specs.Lies.{foundOf};
 ghost use Rattle.mem_lookup.specs.Places.{isBad};
 use mem_calls::Check;
@@ -28,10 +28,10 @@ pub enum Found {
 }
 
 // 01, Read: where the table says that address a lies.
-pub fn lookup(p: Params, gone: u8, addresses: &[u8], a: usize) -> Found
+pub fn lies(p: Params, gone: u8, addresses: &[u8], a: usize) -> Found
     requires { ⌜ inRange p ≡ true ⌝ }
     requires { ⌜ (length (now addresses) ≡ addressesLen p) × (a < p .L) ⌝ }
-    ensures { λ r. ⌜ foundOf r ≡ lookup p gone (now (addresses .entry)) a ⌝ }
+    ensures { λ r. ⌜ foundOf r ≡ lies p gone (now (addresses .entry)) a ⌝ }
 {
     let q = mem_tables::place_at(addresses, a);
     if q.0 == Place::NEVER.0 {

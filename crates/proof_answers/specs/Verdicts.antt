@@ -1,6 +1,6 @@
 -- What each call's verdict says: a refusal of the call's numbers, or a plan with the call's result; the store count is no part of it. Assumes nothing.
 use mathlib.Core.Path.{_≡_, refl, subst}
-use mathlib.Core.List.{List, [], _∷_, _++_}
+use mathlib.Core.List.{List, [], _∷_}
 use mathlib.Core.Bool.{Bool, true, false, cond, _&&_}
 use mathlib.Core.Logic.{_⊎_, inl, inr}
 use Prim.Native.Nat.{ℕ, _≤_}
@@ -10,7 +10,7 @@ use lib.Dec.{leb, eqb}
 use lib.ListN.{length}
 use Rattle.spec.specs.declared.Params.{Params}
 use Rattle.spec.specs.declared.Answer.{Answer}
-use Rattle.spec.specs.declared.Answer.the-variants.{Refused, BadZone, Filled, Rebuilt, Nothing}
+use Rattle.spec.specs.declared.Answer.the-variants.{Refused, BadZone, Rebuilt, Nothing}
 use Rattle.spec.specs.Answers.{kind, values, isRefused, isCut}
 use Rattle.spec.specs.Calls.{Check, ninth, ruled, firstRefusal, Plan, mkPlan, Verdict, decided, outcome}
 use Rattle.spec.specs.Calls.Check.{rule, zones}
@@ -23,9 +23,9 @@ use Rattle.spec.specs.Faults.{imageChecks}
 use Rattle.spec.specs.Landing.{landChecks, landPlan, landVerdict}
 use Rattle.spec.specs.Lists.{all, any, isMember, isNil, firstOr, least}
 use Rattle.spec.specs.Lists.Opt.{some}
-use Rattle.spec.specs.Memory.{Memory, hasFilling, stateFaults}
+use Rattle.spec.specs.Memory.{Memory, hasFilling}
 use Rattle.spec.specs.Params.{named}
-use Rattle.spec.specs.Read.{Found, lookup, foundFaults, decodeFaults, readPiece, readAnswer, readChecks, readVerdict, fillVerdict}
+use Rattle.spec.specs.Read.{Found, lookup, readAnswer, readChecks, readVerdict, fillVerdict, readPlan, fillPlan}
 use Rattle.spec.specs.Read.Found.{nowhere, here, away}
 use Rattle.spec.specs.Rebuild.{rebuildChecks, rebuildStores, rebuildVerdict}
 use Rattle.spec.specs.Reclaim.{victim, victimSegment, victimLive, idle, reclaimChecks, resetPlan, copyPlan, reclaimVerdict}
@@ -115,26 +115,19 @@ module _ (p : Params) (long : Bool) (v : View) (m : Memory) where
       either false g q = unfold copyPlan kind resultsOf isMember any in refl
 
   read-says : (a : ℕ) → VerdictSays (read a) (readVerdict p long v m a)
-  unfolding readVerdict readChecks numbersOf all any isMember refusalsOf resultsOf canStore
+  unfolding readVerdict readChecks readPlan numbersOf all any isMember refusalsOf resultsOf canStore
   read-says a =
-      let gone = m .state .missing in
-      let f = lookup p gone (m .addresses) a in
-      says-decided (read a) (readChecks p long a ++ (zones (stateFaults p (m .state) ++ foundFaults p v gone f) ∷ [])) (mkPlan [] (readAnswer p f) m []) refl
-      (found f) (inr refl)
+      let l = lookup p v (m .state .missing) (m .compact) (m .addresses) a in
+      says-decided (read a) (readChecks p long v m a) (readPlan p v m a) refl (found (l .stamp) (l .found)) (inr refl)
     where
-      found : (f : Found) → isMember (kind (readAnswer p f)) (resultsOf (read a)) ≡ true
-      found nowhere = unfold readAnswer kind resultsOf isMember any in refl
-      found (here q) = unfold readAnswer kind resultsOf isMember any in refl
-      found (away q) = unfold readAnswer kind resultsOf isMember any in refl
+      found : (t : ℕ) (f : Found) → isMember (kind (readAnswer p t f)) (resultsOf (read a)) ≡ true
+      found t nowhere = unfold readAnswer kind resultsOf isMember any in refl
+      found t (here q) = unfold readAnswer kind resultsOf isMember any in refl
+      found t (away q) = unfold readAnswer kind resultsOf isMember any in refl
 
   fill-says : (a : ℕ) (b : List ℕ) → VerdictSays (fill a b) (fillVerdict p long v m a b)
-  unfolding fillVerdict readChecks numbersOf all any isMember refusalsOf resultsOf canStore kind
-  fill-says a b =
-      let gone = m .state .missing in
-      let f = lookup p gone (m .addresses) a in
-      says-decided (fill a b)
-      (readChecks p (long && eqb (length b) (p .B)) a ++ (zones (stateFaults p (m .state) ++ foundFaults p v gone f) ∷ zones (decodeFaults p v gone (m .compact) f) ∷ []))
-      (mkPlan [] Filled m (readPiece p v gone (m .compact) f .block)) refl refl (inr refl)
+  unfolding fillVerdict readChecks fillPlan numbersOf all any isMember refusalsOf resultsOf canStore kind
+  fill-says a b = says-decided (fill a b) (readChecks p (long && eqb (length b) (p .B)) v m a) (fillPlan p v m a) refl refl (inr refl)
 
   restart-says : (d n : ℕ) → VerdictSays (restart d n) (restartVerdict p long v m d)
   unfolding restartVerdict restartChecks imageChecks restartPlan numbersOf all any isMember refusalsOf resultsOf canStore kind
@@ -173,21 +166,11 @@ counted-on p long k m (reclaim i) n = refl
 counted-on p long k m (read a) n = plain
   where
     plain : outcome p (storeDisk p) 0 k m [] (readVerdict p long (seen p k) m a) ≡ outcome p (storeDisk p) n k m [] (readVerdict p long (seen p k) m a)
-    plain =
-        let gone = m .state .missing in
-        let f = lookup p gone (m .addresses) a in
-        unfold readVerdict in no-count p (storeDisk p) 0 n k m [] (firstRefusal (readChecks p long a ++ (zones (stateFaults p (m .state) ++ foundFaults p (seen p k) gone f) ∷ [])))
-        (mkPlan [] (readAnswer p f) m []) refl
+    plain = unfold readVerdict readPlan in no-count p (storeDisk p) 0 n k m [] (firstRefusal (readChecks p long (seen p k) m a)) (readPlan p (seen p k) m a) refl
 counted-on p long k m (fill a b) n = plain
   where
     plain : outcome p (storeDisk p) 0 k m b (fillVerdict p long (seen p k) m a b) ≡ outcome p (storeDisk p) n k m b (fillVerdict p long (seen p k) m a b)
-    plain =
-        let v = seen p k in
-        let gone = m .state .missing in
-        let f = lookup p gone (m .addresses) a in
-        unfold fillVerdict in no-count p (storeDisk p) 0 n k m b
-        (firstRefusal (readChecks p (long && eqb (length b) (p .B)) a ++ (zones (stateFaults p (m .state) ++ foundFaults p v gone f) ∷ zones (decodeFaults p v gone (m .compact) f) ∷ [])))
-        (mkPlan [] Filled m (readPiece p v gone (m .compact) f .block)) refl
+    plain = unfold fillVerdict fillPlan in no-count p (storeDisk p) 0 n k m b (firstRefusal (readChecks p (long && eqb (length b) (p .B)) (seen p k) m a)) (fillPlan p (seen p k) m a) refl
 counted-on p long k m (restart d i) n = refl
 counted-on p long k m (rebuild d i) n = refl
 

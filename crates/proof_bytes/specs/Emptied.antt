@@ -238,7 +238,7 @@ module _ (p : Params) (l : Lent) (a n : ℕ) where
   empty-unsent = go empty-ends
     where
       sent : Answer → List Send
-      sent r = consIf (eqb (kind r) 3) (mkSend a [] (getD (values r) 1 0) true false) []
+      sent r = consIf (eqb (kind r) 3) (mkSend a (getD (values r) 0 0) [] (getD (values r) 1 0) true false) []
 
       refused-sent : (r : Answer) → isRefused r ≡ true → sent r ≡ []
       refused-sent r h = unfold isRefused in

@@ -19,7 +19,7 @@ use Rattle.spec.specs.Engine.Call.{write, land, close, reclaim, read, fill, res
 use Rattle.spec.specs.Lists.{firstOr}
 use Rattle.spec.specs.Memory.{Memory, mkMemory, stateLen, hasFilling}
 use Rattle.spec.specs.Params.{named}
-use Rattle.spec.specs.Read.{lookup}
+use Rattle.spec.specs.Read.{lies, lookup, readPlan, fillPlan}
 use Rattle.spec.specs.Reclaim.{victim, idle}
 use Rattle.spec.specs.Restart.{restartStores, restartChecks, restartPlan}
 use Rattle.spec.specs.Segments.{segments}
@@ -97,7 +97,7 @@ RestartFits p long v m (rebuild d n) = Unit {0}
 
 plan-fits : (p : Params) (long : Bool) (v : View) (m : Memory) (c : Call) → StateFits (m .state) → LowReads p v → RestartFits p long v m c
     → firstRefusal (decides p long v m c .checks) ≡ none → StateFits (decides p long v m c .plan .memory .state)
-unfolding decides emptyPlan
+unfolding decides emptyPlan readPlan fillPlan
 plan-fits p long v m (write a [] n) f r h q = go (hasFilling p (m .state)) refl
   where
     go : (t : Bool) → hasFilling p (m .state) ≡ t → StateFits (cond t (closePlan p m) (mkPlan [] Nothing m []) .memory .state)
@@ -139,7 +139,7 @@ finished-fits p long k m d n h t = go (ends p long k m (restart d n))
 -- ---- all that a call leaves is bytes
 
 plan-bytes : (p : Params) (long : Bool) (v : View) (m : Memory) (c : Call) → ViewBytes v → Bytes (m .inflight) → Bytes (lentBlock c) → PlanBytes (decides p long v m c .plan)
-unfolding decides lentBlock emptyPlan
+unfolding decides lentBlock emptyPlan readPlan fillPlan lookup
 plan-bytes p long v m (write a [] n) h g k = go (hasFilling p (m .state))
   where
     go : (t : Bool) → PlanBytes (cond t (closePlan p m) (mkPlan [] Nothing m []))
@@ -150,7 +150,7 @@ plan-bytes p long v m (land d s n) h g k = land-bytes p v m h g d s
 plan-bytes p long v m (close n) h g k = close-bytes p v m h g
 plan-bytes p long v m (reclaim n) h g k = reclaim-bytes p v m h g (victim p v (m .addresses)) (firstOr 0 (idle p v (m .state) (victim p v (m .addresses))))
 plan-bytes p long v m (read a) h g k = read-bytes p v m h g _ [] k
-plan-bytes p long v m (fill a b) h g k = read-bytes p v m h g _ _ (found-bytes p v m h g (m .state .missing) (m .compact) (lookup p (m .state .missing) (m .addresses) a))
+plan-bytes p long v m (fill a b) h g k = read-bytes p v m h g _ _ (found-bytes p v m h g (m .state .missing) (m .compact) (lies p (m .state .missing) (m .addresses) a))
 plan-bytes p long v m (restart d n) h g k = restarts-bytes p v m h g d
 plan-bytes p long v m (rebuild d n) h g k = rebuilds-bytes p v m h g d
 

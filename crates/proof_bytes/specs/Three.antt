@@ -10,7 +10,7 @@ use lib.ListN.{length, replicate, length-replicate}
 use Rattle.spec.specs.declared.Params.{Params}
 use Rattle.spec.specs.declared.State.{State}
 use Rattle.spec.specs.declared.Answer.{Answer}
-use Rattle.spec.specs.Answers.{kind, isRefused, isRefusedAs, finished}
+use Rattle.spec.specs.Answers.{isRefused, isRefusedAs, finished}
 use Rattle.spec.specs.Bytes.{splice}
 use Rattle.spec.specs.Calls.{After}
 use Rattle.spec.specs.Demands.{areBytes, ReadOk, SameAs, RestartOk, ClaimOf, Allowed, Claims}
@@ -19,9 +19,8 @@ use Rattle.spec.specs.Engine.{Call, lentBlock, lentOk, callDisk, Lent, Left, le
 use Rattle.spec.specs.Engine.Call.{read, fill, restart}
 use Rattle.spec.specs.History.{World, mkWorld, Event, callOf, restartOf, inOrder, swapped, before, happens, onlyIf, orderly, restartIn, worldAfter, sentAfter, untrustedAfter, Mark, Hist, marked}
 use Rattle.spec.specs.History.{step}
-use Rattle.spec.specs.History.{began, namesAll, allowed, seenFilled, seenAt}
+use Rattle.spec.specs.History.{began, namesAll, allowed, seenBy, seenAt}
 use Rattle.spec.specs.History.Event.{calls as calls′, boots as boots′}
-use Rattle.spec.specs.History.Seen.{unwritten, got, failed}
 use Rattle.spec.specs.Lists.{Opt, consIf}
 use Rattle.spec.specs.Lists.Opt.{none, some}
 use Rattle.spec.specs.Memory.{mkMemory, stateLen}
@@ -62,10 +61,9 @@ module _ (p : Params) (l : Lent) (g : GoodBytes l) (c : Call) (b : Bytes (lentBl
   good-on = record { bytes = call-bytes p l c (g .bytes) b .0; long = state-long p l c (g .long) lent-call-fits }
 
 seen-same : (p : Params) (l : Lent) → GoodBytes l → (a : ℕ) → readsAs onBytes p l a ≡ seenAt p (worldOf l) a
-unfolding readsAs callLent seenAt seenFilled
+unfolding readsAs callLent seenAt
 seen-same p l g a =
-    ap₂ (λ (r s : After Disk). cond (eqb (kind (s .answer)) 9) unwritten (cond (eqb (kind (r .answer)) 11) (got (r .block)) failed))
-    (good-same p l g (fill a (replicate (p .B) 0)) fill!) (good-same p l g (read a) read!)
+    ap₂ (λ (r s : After Disk). seenBy (r .answer) (s .answer) (s .block)) (good-same p l g (read a) read!) (good-same p l g (fill a (replicate (p .B) 0)) fill!)
   where
     fill! : Bytes (lentBlock (fill a (replicate (p .B) 0)))
     fill! = unfold lentBlock in bytes-zeros (p .B)

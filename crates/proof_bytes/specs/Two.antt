@@ -1,10 +1,9 @@
 -- Demand 2 on the lent bytes, from demand 2 with the state as a value: in a run each call on bytes is the call on the decoded state. Assumes nothing.
 use mathlib.Core.Path.{_≡_, refl, sym, ap, ap₂, _∙_, subst}
 use mathlib.Core.List.{List, [], _∷_}
-use mathlib.Core.Bool.{Bool, true, false, cond, _&&_}
+use mathlib.Core.Bool.{Bool, true, false, _&&_}
 use Prim.Native.Nat.{ℕ}
 use native.Mathlib.Decide.{ℕ-discrete}
-use lib.Dec.{eqb}
 use lib.ListN.{length, replicate}
 use Rattle.spec.specs.declared.Params.{Params}
 use Rattle.spec.specs.Answers.{kind, values, isRefused, isRefusedAs, isCut, finished}
@@ -13,8 +12,7 @@ use Rattle.spec.specs.Demands.{NotNinth}
 use Rattle.spec.specs.Drives.{Disk}
 use Rattle.spec.specs.Engine.{Call, lentOk, callOn, callDisk, Lent, Left, lentDisk, lentMemory, callBytes}
 use Rattle.spec.specs.Engine.Call.{write, land, close, reclaim, read, fill, restart, rebuild}
-use Rattle.spec.specs.History.{World, mkWorld, restartOf}
-use Rattle.spec.specs.History.Seen.{unwritten, got, failed}
+use Rattle.spec.specs.History.{World, mkWorld, restartOf, seenBy}
 use Rattle.spec.specs.Memory.{stateLen}
 use Rattle.spec.specs.Params.{inRange, noDrive, named}
 use Rattle.spec.specs.Restart.{namesDrive}
@@ -90,8 +88,7 @@ module _ (p : Params) (l : Lent) (g : BytesRun p l) where
 
   world-reads-same : (a : ℕ) → readsAs onBytes p l a ≡ readsAs onValues p (worldOf l) a
   unfolding readsAs
-  world-reads-same a = ap₂ (λ (r s : Reply World). cond (eqb (kind (s .answer)) 9) unwritten (cond (eqb (kind (r .answer)) 11) (got (r .block)) failed))
-      (going-same (fill a (replicate (p .B) 0))) (going-same (read a))
+  world-reads-same a = ap₂ (λ (r s : Reply World). seenBy (r .answer) (s .answer) (s .block)) (going-same (read a)) (going-same (fill a (replicate (p .B) 0)))
 
   says-same : Says onValues p (worldOf l) → Says onBytes p l
   unfolding viewIn

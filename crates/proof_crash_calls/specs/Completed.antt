@@ -3,15 +3,15 @@ use mathlib.Core.Path.{_≡_, refl, sym, ap, _∙_, subst}
 use mathlib.Core.List.{List, []}
 use mathlib.Core.Bool.{true}
 use mathlib.Core.Logic.{_⊎_, inl, inr, ⊎-elim, _≢_}
-use Prim.Native.Nat.{ℕ, suc, _+_, _-_, _^_, _≤_, _<_}
-use borrow.Author.Tests.{eq-eqb, ne-eqb, eqb-true, eqb-false}
+use Prim.Native.Nat.{ℕ, suc, _+_, _^_, _≤_, _<_}
+use borrow.Author.Tests.{eq-eqb, eqb-true, eqb-false}
 use native.Mathlib.Omega.{arith}
 use lib.Dec.{eqb}
 use lib.ListN.{length}
 use Rattle.spec.specs.declared.Params.{Params}
 use Rattle.spec.specs.declared.State.{State}
 use Rattle.spec.specs.Counts.{neverPlace}
-use Rattle.spec.specs.Drives.{View, Seg, zoneOn, placeSegment, recordAt}
+use Rattle.spec.specs.Drives.{View, Seg, zoneOn, placeSegment, placeRecord}
 use Rattle.spec.specs.Landing.{heldCand, held, landedCand, landedCands, pointed}
 use Rattle.spec.specs.Layout.{parityDrive, dataDrive}
 use Rattle.spec.specs.Lists.{Opt, below, any}
@@ -23,7 +23,7 @@ use Rattle.law_basic.specs.Geometry.{Ranged, place-block, place-zone, place-dri
 use Rattle.law_basic.specs.Ranges.{Test, test}
 use Rattle.law_basic.specs.Ranges.Test.{yes!, no! }
 use Rattle.law_basic.specs.Segs.{Named, zone-on-lt, place-segment-of}
-use Rattle.law_drives.specs.Tests.{cond-true, cond-false}
+use Rattle.law_views.specs.Looked.{held-none, held-some}
 use Rattle.proof_crash_machine.specs.Facts.{Ghost, Counted, Off, None}
 use Rattle.proof_crash_machine.specs.Ghosts.{withBase}
 use Rattle.proof_crash_machine.specs.Val.{Val}
@@ -231,36 +231,35 @@ module _ (p : Params) (h : Ranged p) (g : Ghost) (u : View) (k : OnDrives p h g 
             by-position (r .0) (ap (λ (x : Opt Cand). best x (candsOf a cs)) empty ∙ r .1) (r .2) (floor-low a (r .0 .stamp) (omega (arith, b)) (r .3))) (best-none (candsOf a cs))
           where
             empty : held p u tb a ≡ none
-            empty = unfold held in cond-true (eqb (placeAt tb a) neverPlace) none (some (heldCand p u a (placeAt tb a))) (eq-eqb (placeAt tb a) neverPlace n)
+            empty = held-none p tb a (placeAt tb a) refl u n
 
         -- written before: the older record, or a position
         over : Entry p h g (itemsIn p u) (placeAt tb a) a → ((placeAt tb′ a ≡ neverPlace) × (base′ a ≡ 0)) ⊎ Entry p h g′ (itemsIn p u) (placeAt tb′ a) a
-        over x = go (best-some (heldCand p u a (placeAt tb a)) (candsOf a cs))
+        over x = go (best-some old (candsOf a cs))
           where
             low : placeAt tb a < neverPlace
             low = entry-low p h g u k none? (placeAt tb a) a x
 
-            there : held p u tb a ≡ some (heldCand p u a (placeAt tb a))
-            there = unfold held in cond-false (eqb (placeAt tb a) neverPlace) none (some (heldCand p u a (placeAt tb a))) (ne-eqb (placeAt tb a) neverPlace (omega (arith, low)))
+            old : Cand
+            old = heldCand p u a (placeRecord p u 0 (placeAt tb a) .stamp) (placeAt tb a)
 
-            its-stamp : heldCand p u a (placeAt tb a) .stamp ≡ x .x .stamp
-            its-stamp =
-                (let e : heldCand p u a (placeAt tb a) .stamp
-                ≡ recordAt p u 0 (placeDrive p (placeAt tb a)) (placeSegment p (placeAt tb a)) (placeBlock p (placeAt tb a) - 1) .stamp = unfold
-                heldCand in refl in e)
-                ∙ entry-stamp p h g u k none? (placeAt tb a) a x
+            there : held p u tb a ≡ some old
+            there = held-some p tb a (placeAt tb a) refl u (omega (arith, low))
 
-            its-place : heldCand p u a (placeAt tb a) .place ≡ placeAt tb a
+            its-stamp : old .stamp ≡ x .x .stamp
+            its-stamp = unfold heldCand in entry-stamp p h g u k none? (placeAt tb a) a x
+
+            its-place : old .place ≡ placeAt tb a
             its-place = unfold heldCand in refl
 
             go :
                 (w : Cand)
-                × (best (some (heldCand p u a (placeAt tb a))) (candsOf a cs) ≡ some w)
-                × ((w ≡ heldCand p u a (placeAt tb a)) ⊎ Has w (candsOf a cs))
-                × (heldCand p u a (placeAt tb a) .stamp ≤ w .stamp)
+                × (best (some old) (candsOf a cs) ≡ some w)
+                × ((w ≡ old) ⊎ Has w (candsOf a cs))
+                × (old .stamp ≤ w .stamp)
                 × ((c : Cand) → Has c (candsOf a cs) → c .stamp ≤ w .stamp) → ((placeAt tb′ a ≡ neverPlace) × (base′ a ≡ 0)) ⊎ Entry p h g′ (itemsIn p u) (placeAt tb′ a) a
             go (w, e, r, b, m) = ⊎-elim
-                (λ (q : w ≡ heldCand p u a (placeAt tb a)). won w (ap (λ (y : Opt Cand). best y (candsOf a cs)) there ∙ e)
+                (λ (q : w ≡ old). won w (ap (λ (y : Opt Cand). best y (candsOf a cs)) there ∙ e)
                 (subst (λ (y : ℕ). Entry p h g′ (itemsIn p u) y a) (sym (ap (λ (y : Cand). y .place) q ∙ its-place))
                 (old-entry (placeAt tb a) a x (subst (λ (y : ℕ). base′ a ≤ y) (ap (λ (y : Cand). y .stamp) q ∙ its-stamp) floor))))
                 (λ (q : Has w (candsOf a cs)). by-position w (ap (λ (y : Opt Cand). best y (candsOf a cs)) there ∙ e) q floor) r

@@ -7,7 +7,7 @@ use native.Mathlib.Omega.{arith}
 use lib.ListN.{length, getD}
 use Rattle.spec.specs.declared.Params.{Params}
 use Rattle.spec.specs.Counts.{neverPlace}
-use Rattle.spec.specs.Drives.{noChunk, Zone, View, zoneAt, chunkAt, Seg, zoneOn, placeSegment, recordAt}
+use Rattle.spec.specs.Drives.{noChunk, Zone, View, zoneAt, chunkAt, Seg, zoneOn, placeSegment, recordAt, placeRecord}
 use Rattle.spec.specs.Layout.{recordOf}
 use Rattle.spec.specs.Params.{capacity, placeBlock, placeZone, placeDrive}
 use Rattle.law_basic.specs.Geometry.{Ranged, place-again, place-lt}
@@ -56,15 +56,15 @@ module _ (p : Params) (h : Ranged p) (g : Ghost) (v : View) (k : OnDrives p h g 
   entry-low = omega (arith, place-again p q, place-lt p dd (placeZone p q) (placeBlock p q) (e .drive) (e .zone) entry-within, places-many p h)
 
   -- the block and the record there
-  pub entry-value : valueOf (chunkAt v (placeDrive p q) (placeZone p q) (placeBlock p q) .block) (recordAt p v 0 (placeDrive p q) (placeSegment p q) (placeBlock p q - 1)) ≡ e .x
+  pub entry-value : valueOf (chunkAt v (placeDrive p q) (placeZone p q) (placeBlock p q) .block) (placeRecord p v 0 q) ≡ e .x
   unfolding chunkAt
   entry-value =
       ap₂ valueOf (ap₂ (λ (y n : ℕ). getD (zoneAt v dd y .blocks) n noChunk .block) (sym (place-segment-zone p q)) (entry-found .1))
       (ap (recordAt p v 0 dd zz) (let i : placeBlock p q - 1 ≡ entry-found .0 = omega (arith, entry-found .1) in i)
       ∙ record-of-spare p h g v k none? dd zz (entry-found .0) (e .drive) named (entry-found .2)) ∙ entry-found .5
 
-  pub entry-stamp : recordAt p v 0 (placeDrive p q) (placeSegment p q) (placeBlock p q - 1) .stamp ≡ e .x .stamp
-  entry-stamp = sym (value-stamp (chunkAt v dd (placeZone p q) (placeBlock p q) .block) (recordAt p v 0 dd zz (placeBlock p q - 1))) ∙ ap (λ (y : Val). y .stamp) entry-value
+  pub entry-stamp : placeRecord p v 0 q .stamp ≡ e .x .stamp
+  entry-stamp = sym (value-stamp (chunkAt v dd (placeZone p q) (placeBlock p q) .block) (placeRecord p v 0 q)) ∙ ap (λ (y : Val). y .stamp) entry-value
 
   pub entry-long : length (chunkAt v (placeDrive p q) (placeZone p q) (placeBlock p q) .block) ≡ p .B
   entry-long = k .shape .long dd (placeZone p q) (placeBlock p q) (e .drive) (e .zone) entry-within .0

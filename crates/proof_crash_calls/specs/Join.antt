@@ -3,17 +3,16 @@ use mathlib.Core.Path.{_≡_, refl, sym, ap, _∙_, subst}
 use mathlib.Core.List.{List, [], _∷_, _++_, map, append-nil}
 use mathlib.Core.Bool.{Bool, true, false, cond, _&&_}
 use mathlib.Core.Logic.{_≢_}
-use Prim.Native.Nat.{ℕ, _≤_}
+use Prim.Native.Nat.{ℕ, suc, _≤_}
 use borrow.Author.Tests.{eq-eqb, ne-eqb, leb-true, eqb-true}
 use native.Mathlib.Omega.{arith}
 use lib.Dec.{leb, ltb, eqb}
 use lib.ListN.{length, getD, take}
 use Rattle.spec.specs.declared.Params.{Params}
 use Rattle.spec.specs.declared.Answer.{Answer}
-use Rattle.spec.specs.declared.Answer.the-variants.{Cut, Filled, Rebuilt, Nothing}
+use Rattle.spec.specs.declared.Answer.the-variants.{Cut, Rebuilt, Nothing}
 use Rattle.spec.specs.Answers.{kind, values, isRefused, isCut, finished}
 use Rattle.spec.specs.Calls.{Check, firstRefusal, Plan, mkPlan, decided, After, mkAfter, cutMemory, limited, outcome}
-use Rattle.spec.specs.Calls.Check.{zones}
 use Rattle.spec.specs.Calls.Verdict.{due}
 use Rattle.spec.specs.Closing.{closeChecks, closePlan, closeVerdict, emptyChecks, emptyPlan, emptyVerdict}
 use Rattle.spec.specs.Drives.{View, Disk, storeDisk, storeAll}
@@ -23,9 +22,9 @@ use Rattle.spec.specs.History.{restartOf, Send, mkSend, acknowledge, forget, se
 use Rattle.spec.specs.Landing.{slotOf, completes, landChecks, writesIn, landPlan, landVerdict}
 use Rattle.spec.specs.Lists.{Opt, consIf, isNil, firstOr}
 use Rattle.spec.specs.Lists.Opt.{none, some}
-use Rattle.spec.specs.Memory.{Memory, zeroState, stateFaults, hasFilling}
+use Rattle.spec.specs.Memory.{Memory, zeroState, hasFilling}
 use Rattle.spec.specs.Params.{imageLen, pointersLen, addressesLen, compactLen, inflightLen, named}
-use Rattle.spec.specs.Read.{Found, lookup, foundFaults, decodeFaults, readPiece, readAnswer, readChecks, readVerdict, fillVerdict}
+use Rattle.spec.specs.Read.{Found, Lookup, lookup, readAnswer, readChecks, readPlan, readVerdict, fillPlan, fillVerdict}
 use Rattle.spec.specs.Read.Found.{nowhere, here, away}
 use Rattle.spec.specs.Rebuild.{rebuildChecks, rebuildStores, rebuildVerdict}
 use Rattle.spec.specs.Reclaim.{Victim, victim, victimSegment, victimLive, idle, reclaimChecks, resetPlan, copyPlan, reclaimVerdict}
@@ -86,7 +85,7 @@ sent-refused c a ss e = cond-false (endsRun a) (map forget ss) (ackedBy c a ss +
   where
     go : (c : Call) → ackedBy c a ss ++ sentBy c a ≡ ss
     go (write x y n) = unfold ackedBy sentBy in (
-        ap (λ (t : Bool). ss ++ consIf t (mkSend x y (getD (values a) 1 0) true false) [])
+        ap (λ (t : Bool). ss ++ consIf t (mkSend x (getD (values a) 0 0) y (getD (values a) 1 0) true false) [])
         (ne-eqb (kind a) 3 (let b : kind a ≢ 3 = omega (arith, refused-kind a e) in b))
         ∙ (unfold consIf in append-nil ss))
     go (land d s n) = unfold ackedBy sentBy in (
@@ -98,6 +97,30 @@ sent-refused c a ss e = cond-false (endsRun a) (map forget ss) (ackedBy c a ss +
     go (fill x y) = unfold ackedBy sentBy in append-nil ss
     go (restart d n) = unfold ackedBy sentBy in append-nil ss
     go (rebuild d n) = unfold ackedBy sentBy in append-nil ss
+
+-- ---- reads
+
+-- the run goes on, and nothing is sent
+pub record GoesOn (c : Call) (r : Answer) : Type 0 where
+  pub uncut : isCut r ≡ false
+  pub open? : finished r ≡ false
+  pub sent : (ss : List Send) → sentAfter c r ss ≡ ss
+
+pub read-goes-on : (p : Params) (v : View) (m : Memory) (a : ℕ) → GoesOn (read a) (readPlan p v m a .answer)
+unfolding readPlan
+read-goes-on p v m a = go (looked .stamp) (looked .found)
+  where
+    looked : Lookup
+    looked = lookup p v (m .state .missing) (m .compact) (m .addresses) a
+
+    go : (t : ℕ) (f : Found) → GoesOn (read a) (readAnswer p t f)
+    go t nowhere = unfold readAnswer sentAfter endsRun isCut finished kind ackedBy sentBy in record { uncut = refl; open? = refl; sent = append-nil }
+    go t (here q) = unfold readAnswer sentAfter endsRun isCut finished kind ackedBy sentBy in record { uncut = refl; open? = refl; sent = append-nil }
+    go t (away q) = unfold readAnswer sentAfter endsRun isCut finished kind ackedBy sentBy in record { uncut = refl; open? = refl; sent = append-nil }
+
+pub fill-goes-on : (p : Params) (v : View) (m : Memory) (a : ℕ) (b : List ℕ) → GoesOn (fill a b) (fillPlan p v m a .answer)
+unfolding fillPlan sentAfter endsRun isCut finished kind ackedBy sentBy
+fill-goes-on p v m a b = record { uncut = refl; open? = refl; sent = append-nil }
 
 -- the run is over
 pub sent-cut : (c : Call) (ss : List Send) → sentAfter c Cut ss ≡ map forget ss
@@ -203,7 +226,7 @@ module _ (p : Params) (h : Ranged p) (k : Disk) (m : Memory) (ss : List Send) (n
   unfolding callDisk callOn storeCount lentBlock verdict writeVerdict
   write-next a y more count =
       decided-next (write a (y ∷ more) count) count (y ∷ more) (writeChecks p long v m a (y ∷ more)) (writePlan p v m a (y ∷ more))
-      (ss ++ (mkSend a (y ∷ more) (sentStripe p v (m .state)) true false ∷ []))
+      (ss ++ (mkSend a (suc (m .state .stamp .0)) (y ∷ more) (sentStripe p v (m .state)) true false ∷ []))
       (λ e. write-ok p h v m ss n (x .live) (lent-inflight (fits e)) a (y ∷ more) (write-asked p long v m a (y ∷ more) e)) uncut open? sent
     where
       b : List ℕ
@@ -218,7 +241,7 @@ module _ (p : Params) (h : Ranged p) (k : Disk) (m : Memory) (ss : List Send) (n
       open? : finished (writePlan p v m a b .answer) ≡ false
       open? = unfold writePlan finished kind in refl
 
-      sent : sentAfter (write a b count) (writePlan p v m a b .answer) ss ≡ ss ++ (mkSend a b (sentStripe p v (m .state)) true false ∷ [])
+      sent : sentAfter (write a b count) (writePlan p v m a b .answer) ss ≡ ss ++ (mkSend a (suc (m .state .stamp .0)) b (sentStripe p v (m .state)) true false ∷ [])
       sent = unfold sentAfter endsRun isCut finished kind writePlan ackedBy sentBy consIf values sending sentStripe in refl
 
   land-next : (d s count : ℕ) → Goal (land d s count)
@@ -313,48 +336,20 @@ module _ (p : Params) (h : Ranged p) (k : Disk) (m : Memory) (ss : List Send) (n
           go false = unfold copyPlan sentAfter endsRun isCut finished kind ackedBy sentBy in append-nil ss
 
   read-next : (a : ℕ) → Goal (read a)
-  unfolding callDisk callOn storeCount lentBlock verdict readVerdict
-  read-next a = decided-next (read a) 0 [] (readChecks p long a ++ (zones (stateFaults p (m .state) ++ foundFaults p v (m .state .missing) f) ∷ [])) (mkPlan [] (readAnswer p f) m []) ss
-      (λ e. same-ok p h v m ss n (x .live) (readAnswer p f) []) (uncut f) (open? f) (sent f)
+  unfolding callDisk callOn storeCount lentBlock verdict readVerdict readPlan
+  read-next a = decided-next (read a) 0 [] (readChecks p long v m a) (readPlan p v m a) ss (λ e. same-ok p h v m ss n (x .live) (readPlan p v m a .answer) []) (q .uncut) (q .open?) (q .sent ss)
     where
-      f : Found
-      f = lookup p (m .state .missing) (m .addresses) a
-
-      uncut : (f : Found) → isCut (readAnswer p f) ≡ false
-      uncut nowhere = unfold readAnswer isCut kind in refl
-      uncut (here q) = unfold readAnswer isCut kind in refl
-      uncut (away q) = unfold readAnswer isCut kind in refl
-
-      open? : (f : Found) → finished (readAnswer p f) ≡ false
-      open? nowhere = unfold readAnswer finished kind in refl
-      open? (here q) = unfold readAnswer finished kind in refl
-      open? (away q) = unfold readAnswer finished kind in refl
-
-      sent : (f : Found) → sentAfter (read a) (readAnswer p f) ss ≡ ss
-      sent nowhere = unfold readAnswer sentAfter endsRun isCut finished kind ackedBy sentBy in append-nil ss
-      sent (here q) = unfold readAnswer sentAfter endsRun isCut finished kind ackedBy sentBy in append-nil ss
-      sent (away q) = unfold readAnswer sentAfter endsRun isCut finished kind ackedBy sentBy in append-nil ss
+      q : GoesOn (read a) (readPlan p v m a .answer)
+      q = read-goes-on p v m a
 
   fill-next : (a : ℕ) (b : List ℕ) → Goal (fill a b)
-  unfolding callDisk callOn storeCount lentBlock verdict fillVerdict
+  unfolding callDisk callOn storeCount lentBlock verdict fillVerdict fillPlan
   fill-next a b =
-      decided-next (fill a b) 0 b (readChecks p (long && eqb (length b) (p .B)) a ++
-      (zones (stateFaults p (m .state) ++ foundFaults p v (m .state .missing) f) ∷ zones (decodeFaults p v (m .state .missing) (m .compact) f) ∷
-      []))
-      (mkPlan [] Filled m (readPiece p v (m .state .missing) (m .compact) f .block)) ss
-      (λ e. same-ok p h v m ss n (x .live) Filled (readPiece p v (m .state .missing) (m .compact) f .block)) uncut open? sent
+      decided-next (fill a b) 0 b (readChecks p (long && eqb (length b) (p .B)) v m a) (fillPlan p v m a) ss
+      (λ e. same-ok p h v m ss n (x .live) (fillPlan p v m a .answer) (fillPlan p v m a .block)) (q .uncut) (q .open?) (q .sent ss)
     where
-      f : Found
-      f = lookup p (m .state .missing) (m .addresses) a
-
-      uncut : isCut Filled ≡ false
-      uncut = unfold isCut kind in refl
-
-      open? : finished Filled ≡ false
-      open? = unfold finished kind in refl
-
-      sent : sentAfter (fill a b) Filled ss ≡ ss
-      sent = unfold sentAfter endsRun isCut finished kind ackedBy sentBy in append-nil ss
+      q : GoesOn (fill a b) (fillPlan p v m a .answer)
+      q = fill-goes-on p v m a b
 
   -- a rebuild is refused: no drive is missing
   no-rebuild : (d : ℕ) → firstRefusal (rebuildChecks p long v m d (segments p v (named d))) ≡ none → ⊥

@@ -1,6 +1,6 @@
 -- Calls that change nothing: reads at any time, every call but restart while the power is off, and writes, landings, closings and reclaims while a drive is missing. Assumes nothing.
 use mathlib.Core.Path.{_≡_, refl, sym, ap, _∙_}
-use mathlib.Core.List.{List, [], append-nil, _∷_}
+use mathlib.Core.List.{List, [], _∷_}
 use mathlib.Core.Bool.{Bool, true, false, _&&_}
 use mathlib.Core.Logic.{_≢_}
 use Prim.Native.Nat.{ℕ, _^_, _<_}
@@ -12,23 +12,21 @@ use lib.Count.{ones}
 use Rattle.spec.specs.declared.Params.{Params}
 use Rattle.spec.specs.declared.State.{State}
 use Rattle.spec.specs.declared.Answer.{Answer}
-use Rattle.spec.specs.declared.Answer.the-variants.{Filled}
-use Rattle.spec.specs.Answers.{kind, isCut, finished}
+use Rattle.spec.specs.Answers.{finished}
 use Rattle.spec.specs.Calls.{firstRefusal, mkPlan, decided, After, mkAfter, limited, outcome}
 use Rattle.spec.specs.Calls.Verdict.{due}
 use Rattle.spec.specs.Closing.{closeChecks, emptyChecks}
 use Rattle.spec.specs.Drives.{View, Disk, storeDisk, storeAll}
 use Rattle.spec.specs.Engine.{Call, storeCount, lentBlock, lentOk, callOn, callDisk}
 use Rattle.spec.specs.Engine.Call.{write, land, close, reclaim, read, fill, restart, rebuild}
-use Rattle.spec.specs.History.{World, mkWorld, callOf, restartOf, before, happens, worldAfter, sentBy, ackedBy, endsRun, sentAfter, untrustedAfter, Mark, Hist, marked, step}
+use Rattle.spec.specs.History.{World, mkWorld, callOf, restartOf, before, happens, worldAfter, sentAfter, untrustedAfter, Mark, Hist, marked, step}
 use Rattle.spec.specs.History.Event.{calls}
 use Rattle.spec.specs.Landing.{landChecks}
 use Rattle.spec.specs.Lists.{Opt, all}
 use Rattle.spec.specs.Lists.Opt.{none, some}
 use Rattle.spec.specs.Memory.{Memory, slots, idleState, zeroState, slotOk, stateOk}
 use Rattle.spec.specs.Params.{inRange, named}
-use Rattle.spec.specs.Read.{Found, lookup, readAnswer}
-use Rattle.spec.specs.Read.Found.{nowhere, here, away}
+use Rattle.spec.specs.Read.{readPlan, fillPlan}
 use Rattle.spec.specs.Reclaim.{victim, reclaimChecks}
 use Rattle.spec.specs.Segments.{segments}
 use Rattle.spec.specs.Write.{writeChecks}
@@ -36,9 +34,10 @@ use Rattle.law_drives.specs.Tests.{clash}
 use Rattle.law_basic.specs.Geometry.{ranged}
 use Rattle.law_views.specs.Views.{seen}
 use Rattle.law_drives.specs.Tests.{not-so}
-use Rattle.law_checks.specs.Passed.{write-passed, land-passed, close-passed, reclaim-passed, read-passed, fill-passed, rebuild-passed, empty-passed}
+use Rattle.law_checks.specs.Passed.{write-passed, land-passed, close-passed, reclaim-passed, read-passed, rebuild-passed, empty-passed}
 use Rattle.proof_crash_machine.specs.Exec.{true≢false}
 use Rattle.proof_crash_items.specs.Named.{named-not-zero}
+use Rattle.proof_crash_calls.specs.Join.{GoesOn, read-goes-on, fill-goes-on}
 use Rattle.proof_crash_calls.specs.Refusals.{Decides, decides, refused-step}
 
 -- ---- refused calls, whatever their answer
@@ -76,68 +75,39 @@ nothing-due : (p : Params) (k : Disk) (m : Memory) (n : ℕ) (b : List ℕ) (a :
 unfolding outcome
 nothing-due p k m n b a c = ap (λ (t : Bool). limited t p (storeDisk p) n k m b (mkPlan [] a m c)) (le-leb 0 n (omega arith)) ∙ (unfold limited storeAll in refl)
 
-pub read-step : (p : Params) (s : Hist) (a : ℕ) → step p s (calls (read a)) ≡ s
-read-step p s a = go (firstRefusal (D .checks)) refl
+-- a call that is refused, or whose plan stores nothing, keeps memory and sends nothing
+unchanged-step : (p : Params) (s : Hist) (c : Call) (r : Answer) (b : List ℕ)
+    → decides p (lentOk p (s .world .disk) (s .world .memory)) (seen p (s .world .disk)) (s .world .memory) c .plan ≡ mkPlan [] r (s .world .memory) b
+    → GoesOn c r → untrustedAfter c r (s .untrusted) ≡ s .untrusted → step p s (calls c) ≡ s
+unchanged-step p s c r b plan-is q u = go (firstRefusal (D .checks)) refl
   where
-    D : Decides p (lentOk p (s .world .disk) (s .world .memory)) (seen p (s .world .disk)) (s .world .memory) (read a)
-    D = decides p (lentOk p (s .world .disk) (s .world .memory)) (seen p (s .world .disk)) (s .world .memory) (read a)
+    D : Decides p (lentOk p (s .world .disk) (s .world .memory)) (seen p (s .world .disk)) (s .world .memory) c
+    D = decides p (lentOk p (s .world .disk) (s .world .memory)) (seen p (s .world .disk)) (s .world .memory) c
 
-    f : Found
-    f = lookup p (s .world .memory .state .missing) (s .world .memory .addresses) a
-
-    sent : (f : Found) → sentAfter (read a) (readAnswer p f) (s .sends) ≡ s .sends
-    sent nowhere = unfold readAnswer sentAfter endsRun isCut finished kind ackedBy sentBy in append-nil (s .sends)
-    sent (here q) = unfold readAnswer sentAfter endsRun isCut finished kind ackedBy sentBy in append-nil (s .sends)
-    sent (away q) = unfold readAnswer sentAfter endsRun isCut finished kind ackedBy sentBy in append-nil (s .sends)
-
-    open? : (f : Found) → finished (readAnswer p f) ≡ false
-    open? nowhere = unfold readAnswer finished kind in refl
-    open? (here q) = unfold readAnswer finished kind in refl
-    open? (away q) = unfold readAnswer finished kind in refl
-
-    go : (o : Opt Answer) → firstRefusal (D .checks) ≡ o → step p s (calls (read a)) ≡ s
-    go (some x) e = refused-step p s (read a) x e
-    go none e = hist-unchanged p s (read a) (readAnswer p f) [] is (sent f) (unfold untrustedAfter in refl) (open? f)
+    go : (o : Opt Answer) → firstRefusal (D .checks) ≡ o → step p s (calls c) ≡ s
+    go (some x) e = refused-step p s c x e
+    go none e = hist-unchanged p s c r b is (q .sent (s .sends)) u (q .open?)
       where
-        plan-is : D .plan ≡ mkPlan [] (readAnswer p f) (s .world .memory) []
-        plan-is = unfold decides in refl
-
-        due-is : decided none (D .plan) ≡ due (mkPlan [] (readAnswer p f) (s .world .memory) [])
+        due-is : decided none (D .plan) ≡ due (mkPlan [] r (s .world .memory) b)
         due-is = ap (decided none) plan-is ∙ (unfold decided in refl)
 
-        is : callDisk p (s .world .disk) (s .world .memory) (read a) ≡ mkAfter (readAnswer p f) (s .world .disk) (s .world .memory) []
+        is : callDisk p (s .world .disk) (s .world .memory) c ≡ mkAfter r (s .world .disk) (s .world .memory) b
         is =
-            unfold callDisk callOn in (ap (outcome p (storeDisk p) (storeCount (read a)) (s .world .disk) (s .world .memory) (lentBlock (read a)))
+            unfold callDisk callOn in (ap (outcome p (storeDisk p) (storeCount c) (s .world .disk) (s .world .memory) (lentBlock c))
             (D .is ∙ ap (λ (o : Opt Answer). decided o (D .plan)) e ∙ due-is)
-            ∙ nothing-due p (s .world .disk) (s .world .memory) (storeCount (read a)) (lentBlock (read a)) (readAnswer p f) [])
+            ∙ nothing-due p (s .world .disk) (s .world .memory) (storeCount c) (lentBlock c) r b)
+
+pub read-step : (p : Params) (s : Hist) (a : ℕ) → step p s (calls (read a)) ≡ s
+unfolding decides readPlan untrustedAfter
+read-step p s a =
+    let q = readPlan p (seen p (s .world .disk)) (s .world .memory) a in
+    unchanged-step p s (read a) (q .answer) [] refl (read-goes-on p (seen p (s .world .disk)) (s .world .memory) a) refl
 
 pub fill-step : (p : Params) (s : Hist) (a : ℕ) (b : List ℕ) → step p s (calls (fill a b)) ≡ s
-fill-step p s a b = go (firstRefusal (D .checks)) refl
-  where
-    D : Decides p (lentOk p (s .world .disk) (s .world .memory)) (seen p (s .world .disk)) (s .world .memory) (fill a b)
-    D = decides p (lentOk p (s .world .disk) (s .world .memory)) (seen p (s .world .disk)) (s .world .memory) (fill a b)
-
-    sent : sentAfter (fill a b) Filled (s .sends) ≡ s .sends
-    sent = unfold sentAfter endsRun isCut finished kind ackedBy sentBy in append-nil (s .sends)
-
-    open? : finished Filled ≡ false
-    open? = unfold finished kind in refl
-
-    go : (o : Opt Answer) → firstRefusal (D .checks) ≡ o → step p s (calls (fill a b)) ≡ s
-    go (some x) e = refused-step p s (fill a b) x e
-    go none e = hist-unchanged p s (fill a b) Filled (D .plan .block) is sent (unfold untrustedAfter in refl) open?
-      where
-        plan-is : D .plan ≡ mkPlan [] Filled (s .world .memory) (D .plan .block)
-        plan-is = unfold decides in refl
-
-        due-is : decided none (D .plan) ≡ due (mkPlan [] Filled (s .world .memory) (D .plan .block))
-        due-is = ap (decided none) plan-is ∙ (unfold decided in refl)
-
-        is : callDisk p (s .world .disk) (s .world .memory) (fill a b) ≡ mkAfter Filled (s .world .disk) (s .world .memory) (D .plan .block)
-        is =
-            unfold callDisk callOn in (ap (outcome p (storeDisk p) (storeCount (fill a b)) (s .world .disk) (s .world .memory) (lentBlock (fill a b)))
-            (D .is ∙ ap (λ (o : Opt Answer). decided o (D .plan)) e ∙ due-is)
-            ∙ nothing-due p (s .world .disk) (s .world .memory) (storeCount (fill a b)) (lentBlock (fill a b)) Filled (D .plan .block))
+unfolding decides fillPlan untrustedAfter
+fill-step p s a b =
+    let q = fillPlan p (seen p (s .world .disk)) (s .world .memory) a in
+    unchanged-step p s (fill a b) (q .answer) (q .block) refl (fill-goes-on p (seen p (s .world .disk)) (s .world .memory) a b) refl
 
 -- ---- the power is off: the state is all zeros
 
@@ -164,7 +134,7 @@ off-refused p long v m (land d s n) r z e = off-bad p m z (land-passed p long v 
 off-refused p long v m (close n) r z e = off-bad p m z (close-passed p long v m e .state-fine)
 off-refused p long v m (reclaim n) r z e = off-bad p m z (reclaim-passed p long v m (victim p v (m .addresses)) e .state-fine)
 off-refused p long v m (read a) r z e = off-bad p m z (read-passed p long v m a e .state-fine)
-off-refused p long v m (fill a b) r z e = off-bad p m z (fill-passed p long v m a b e .state-fine)
+off-refused p long v m (fill a b) r z e = off-bad p m z (read-passed p (long && eqb (length b) (p .B)) v m a e .state-fine)
 off-refused p long v m (restart d n) r z e = absurd (let x : _≡_ {A = ℕ} 0 1 = boot r in let q : ⊥ = omega arith in q)
   where
     boot : restartOf (restart d n) ≡ none → _≡_ {A = ℕ} 0 1

@@ -10,7 +10,7 @@ use lib.Dec.{eqb}
 use lib.ListN.{getD}
 use Rattle.spec.specs.declared.Params.{Params}
 use Rattle.spec.specs.Counts.{neverPlace}
-use Rattle.spec.specs.Drives.{noChunk, Zone, View, zoneAt, chunkAt, Seg, zoneOn, placeSegment, sealedIn, recordIn, recordAt}
+use Rattle.spec.specs.Drives.{noChunk, Zone, View, zoneAt, chunkAt, Seg, zoneOn, placeSegment, sealedIn, recordIn, recordAt, placeRecord}
 use Rattle.spec.specs.Layout.{recordOf}
 use Rattle.spec.specs.Lists.Opt.{none, some}
 use Rattle.spec.specs.Lists.{isIn}
@@ -154,8 +154,8 @@ module _ (p : Params) (h : Ranged p) (g : Ghost) (v : View) (k : OnDrives p h g 
       pub low : x .place < neverPlace
       pub again : placeOf p (placeDrive p (x .place)) (placeZone p (x .place)) (placeBlock p (x .place)) ≡ x .place
 
-    pub lies : Lies
-    lies = record {
+    pub cand-lies : Lies
+    cand-lies = record {
       drive = subst (λ (n : ℕ). n < p .N) (sym place-d) (from .drv);
       zone = subst (λ (n : ℕ). n < p .Z) (sym place-z) its-zone-low;
       block-low = omega (arith, place-b);
@@ -168,7 +168,7 @@ module _ (p : Params) (h : Ranged p) (g : Ghost) (v : View) (k : OnDrives p h g 
     abbrev pub valueAt : Val
     valueAt =
         valueOf (chunkAt v (placeDrive p (x .place)) (placeZone p (x .place)) (placeBlock p (x .place)) .block)
-        (recordAt p v 0 (placeDrive p (x .place)) (placeSegment p (x .place)) (placeBlock p (x .place) - 1))
+        (placeRecord p v 0 (x .place))
 
     value-here : valueAt ≡ valueOf (blockIn (zoneAt v (from .d) its-zone) (suc o) .block) (recordOf (blockIn (zoneAt v (from .d) its-zone) (suc o) .spare))
     value-here =
@@ -289,7 +289,7 @@ module _ (p : Params) (h : Ranged p) (g : Ghost) (v : View) (k : OnDrives p h g 
         is = ap placeOr e ∙ (unfold placeOr in refl)
 
         small : placeOr (best none (candsOf a said)) < 256 ^ 4
-        small = omega (arith, is, lies w i .low)
+        small = omega (arith, is, cand-lies w i .low)
 
     -- so its entries are as they should be, at the end of a restart
     pub table-said : (a : List Val) (b : Bool) (m : Mode) → Inv (parOf p h) (mst g (itemsIn p v) a b m) → TableOk p h g (itemsIn p v) tb
@@ -303,8 +303,8 @@ module _ (p : Params) (h : Ranged p) (g : Ghost) (v : View) (k : OnDrives p h g 
         inr (subst (λ (y : ℕ). Entry p h g (itemsIn p v) y a) (sym (table-best a al (q .0) (q .1) (q .2))) (record {
           s = item-at (q .0) (q .2) .0;
           x = valueAt (q .0) (q .2);
-          drive = lies (q .0) (q .2) .drive;
-          zone = lies (q .0) (q .2) .zone;
+          drive = cand-lies (q .0) (q .2) .drive;
+          zone = cand-lies (q .0) (q .2) .zone;
           at = item-at (q .0) (q .2) .1;
           counts = counted-at (q .0) (q .2) .0;
           same = counted-at (q .0) (q .2) .1;

@@ -1,5 +1,5 @@
 -- From the machine's claim and the log: what a finished restart reads is as demand 3 says. Assumes nothing.
-use mathlib.Core.Path.{_≡_, sym, ap, _∙_, subst}
+use mathlib.Core.Path.{_≡_, sym, ap, ap₂, _∙_, subst}
 use mathlib.Core.List.{List}
 use mathlib.Core.Bool.{true, false}
 use mathlib.Core.Logic.{_⊎_, inl, inr}
@@ -31,7 +31,7 @@ pub record ShowsBlock (p : Params) (l : List Val) (k a : ℕ) (s : Seen) : Type 
   pub stamp : value .stamp ≡ k
   pub long : length block ≡ p .B
   pub is : value .blk ≡ (λ i. getD block i 0)
-  pub shows : s ≡ got block
+  pub shows : s ≡ got block k
 
 -- s is what is read at a where the greatest stamp is K a: 0 means never written
 abbrev pub Shows : Params → List Val → (ℕ → ℕ) → ℕ → Seen → Type 0
@@ -63,8 +63,15 @@ module _ (p : Params) (h : Ranged p) (σ : m-State) (T : Track) (m : Mask) (K : 
       × (T .log j .stamp ≤ K a)
       × (0 < T .log j .stamp) = acked-low j l f q in let z : ⊥ = omega (arith, e, k .2, k .3) in z)
 
-  block-ok : (s : Seen) → (y : ShowsBlock p (σ .g .sent) (K a) a s) → ReadOk ss a (got (y .block))
-  block-ok s y = (i, il, sym (L .same i il .addr) ∙ ap (λ (w : Val). w .addr) here ∙ y .addr, blocks, later)
+  block-ok : (s : Seen) → (y : ShowsBlock p (σ .g .sent) (K a) a s) → ReadOk ss a (got (y .block) (K a))
+  block-ok s y = (
+    i,
+    il,
+    sym (L .same i il .addr) ∙ ap (λ (w : Val). w .addr) here ∙ y .addr,
+    blocks,
+    sym (L .same i il .stamp) ∙ ap (λ (w : Val). w .stamp) here ∙ y .stamp,
+    later,
+  )
     where
       at : (T .pos (y .value .stamp) < T .clock) × (T .log (T .pos (y .value .stamp)) ≡ y .value)
       at = tr .here (y .value) (y .sent)
@@ -106,7 +113,7 @@ shows-same p l one pos K J a s t e (inl (x, f)) (inr y) = absurd (let z : ⊥ = 
 shows-same p l one pos K J a s t e (inr x) (inl (y, g)) = absurd (let z : ⊥ = omega (arith, y, e, x .stamp, pos (x .value) (x .sent)) in z)
 shows-same p l one pos K J a s t e (inr x) (inr y) =
     let v : x .value ≡ y .value = one (x .value) (y .value) (x .sent) (y .sent) (x .stamp ∙ e ∙ sym (y .stamp)) in
-    x .shows ∙ ap got (same-block (x .block) (y .block) (x .long ∙ sym (y .long)) (sym (x .is) ∙ ap (λ (w : Val). w .blk) v ∙ y .is)) ∙ sym (y .shows)
+    x .shows ∙ ap₂ got (same-block (x .block) (y .block) (x .long ∙ sym (y .long)) (sym (x .is) ∙ ap (λ (w : Val). w .blk) v ∙ y .is)) e ∙ sym (y .shows)
 
 -- what the last finished restart read, in terms of the ghost
 abbrev pub MarkShows : Params → Ghost → World → Type 0
@@ -115,7 +122,7 @@ MarkShows p g w = (a : ℕ) → a < p .L → Shows p (g .sent) (g .last) a (seen
 pub shows-more : (p : Params) (l l′ : List Val) (K J : ℕ → ℕ) (a : ℕ) (s : Seen) → ((x : Val) → InV x l → InV x l′) → K a ≡ J a → Shows p l K a s → Shows p l′ J a s
 shows-more p l l′ K J a s f e (inl (x, y)) = inl (sym e ∙ x, y)
 shows-more p l l′ K J a s f e (inr y) =
-    inr (record { block = y .block; value = y .value; sent = f (y .value) (y .sent); addr = y .addr; stamp = y .stamp ∙ e; long = y .long; is = y .is; shows = y .shows })
+    inr (record { block = y .block; value = y .value; sent = f (y .value) (y .sent); addr = y .addr; stamp = y .stamp ∙ e; long = y .long; is = y .is; shows = y .shows ∙ ap (got (y .block)) e })
 
 -- "and it reads as the finished restart before it did if no block was sent between": σ before the restart, K what it reads, w the world that the one before it left
 pub same-reads : (p : Params) (h : Ranged p) (σ : m-State) (m : Mask) (K : ℕ → ℕ) → Inv (parOf p h) σ → Claim (parOf p h) σ m K → (Beyond (parOf p h) (σ .g .said) m → ⊥)

@@ -3,7 +3,7 @@ use mathlib.Core.Path.{_≡_, refl, sym, ap, ap₂, _∙_, subst}
 use mathlib.Core.List.{List, [], _∷_, map}
 use mathlib.Core.Bool.{Bool, true, false, cond, not}
 use mathlib.Core.Logic.{inl, ⊎-elim, _≢_}
-use Prim.Native.Nat.{ℕ, zero, suc, _+_, _-_, _≤_, _<_}
+use Prim.Native.Nat.{ℕ, zero, suc, _+_, _≤_, _<_}
 use borrow.Author.Tests.{leb-false}
 use native.Mathlib.Omega.{arith}
 use lib.ListN.{length, take}
@@ -12,7 +12,7 @@ use Rattle.spec.specs.declared.State.{State}
 use Rattle.spec.specs.Calls.{firstRefusal, Plan}
 use Rattle.spec.specs.Counts.{neverPlace}
 use Rattle.spec.specs.Demands.{sendAt}
-use Rattle.spec.specs.Drives.{View, pointerAt, chunkAt, storeView, storeAll, Seg, zoneOn, placeSegment, emptySegs, recordAt, resetStores}
+use Rattle.spec.specs.Drives.{View, pointerAt, chunkAt, storeView, storeAll, Seg, zoneOn, emptySegs, placeRecord, resetStores}
 use Rattle.spec.specs.Drives.Store.{reset}
 use Rattle.spec.specs.History.{Send}
 use Rattle.spec.specs.Layout.{Rec, mkRec}
@@ -180,7 +180,7 @@ module _ (p : Params) (h : Ranged p) (v : View) (m : Memory) (ss : List Send) (n
     b = chunkAt v (placeDrive p q) (placeZone p q) (placeBlock p q) .block
 
     abbrev r : Rec
-    r = recordAt p v 0 (placeDrive p q) (placeSegment p q) (placeBlock p q - 1)
+    r = placeRecord p v 0 q
 
     bl : length b ≡ p .B
     bl = entry-long p h (l .g) v k none? q (copied-entry .0) (copied-entry .1)

@@ -1,6 +1,6 @@
 -- A refused call, and a restart that isn't in order, leave a history as it is. Assumes nothing.
 use mathlib.Core.Path.{_≡_, refl, sym, ap, _∙_}
-use mathlib.Core.List.{List, [], _∷_, _++_}
+use mathlib.Core.List.{List, [], _∷_}
 use mathlib.Core.Bool.{Bool, true, false, cond, _&&_}
 use Prim.Native.Nat.{ℕ}
 use lib.Dec.{eqb}
@@ -8,10 +8,9 @@ use lib.ListN.{length}
 use Rattle.spec.specs.Lists.Opt.{none}
 use Rattle.spec.specs.declared.Params.{Params}
 use Rattle.spec.specs.declared.Answer.{Answer}
-use Rattle.spec.specs.declared.Answer.the-variants.{Filled, Rebuilt}
+use Rattle.spec.specs.declared.Answer.the-variants.{Rebuilt}
 use Rattle.spec.specs.Answers.{isRefused, isCut, finished}
 use Rattle.spec.specs.Calls.{Check, firstRefusal, Plan, mkPlan, decided, After, mkAfter, outcome}
-use Rattle.spec.specs.Calls.Check.{zones}
 use Rattle.spec.specs.Closing.{closeChecks, closePlan, closeVerdict, emptyChecks, emptyPlan, emptyVerdict}
 use Rattle.spec.specs.Drives.{View, Disk, storeDisk}
 use Rattle.spec.specs.Engine.{Call, storeCount, lentBlock, verdict, lentOk, callOn, callDisk}
@@ -21,9 +20,9 @@ use Rattle.spec.specs.History.Event.{calls, boots}
 use Rattle.spec.specs.Landing.{landChecks, landPlan, landVerdict}
 use Rattle.spec.specs.Lists.{Opt, isNil, firstOr}
 use Rattle.spec.specs.Lists.Opt.{some}
-use Rattle.spec.specs.Memory.{Memory, stateFaults}
+use Rattle.spec.specs.Memory.{Memory}
 use Rattle.spec.specs.Params.{inRange, named}
-use Rattle.spec.specs.Read.{lookup, foundFaults, decodeFaults, readPiece, readAnswer, readChecks, readVerdict, fillVerdict}
+use Rattle.spec.specs.Read.{readChecks, readPlan, readVerdict, fillPlan, fillVerdict}
 use Rattle.spec.specs.Rebuild.{rebuildChecks, rebuildStores, rebuildVerdict}
 use Rattle.spec.specs.Reclaim.{victim, victimSegment, victimLive, idle, reclaimChecks, resetPlan, copyPlan, reclaimVerdict}
 use Rattle.spec.specs.Restart.{namesDrive, restartChecks, restartPlan, restartVerdict}
@@ -57,18 +56,8 @@ decides p long v m (reclaim n) = record {
       cond (isNil (victimLive (victim p v (m .addresses)))) (resetPlan p m (victimSegment (victim p v (m .addresses)))) (copyPlan p v m (firstOr 0 (idle p v (m .state) (victim p v (m .addresses)))));
   is = refl;
 }
-decides p long v m (read a) = record {
-  checks = readChecks p long a ++ (zones (stateFaults p (m .state) ++ foundFaults p v (m .state .missing) (lookup p (m .state .missing) (m .addresses) a)) ∷ []);
-  plan = mkPlan [] (readAnswer p (lookup p (m .state .missing) (m .addresses) a)) m [];
-  is = refl;
-}
-decides p long v m (fill a b) = record {
-  checks = readChecks p (long && eqb (length b) (p .B)) a
-      ++ (zones (stateFaults p (m .state) ++ foundFaults p v (m .state .missing) (lookup p (m .state .missing) (m .addresses) a)) ∷ zones
-      (decodeFaults p v (m .state .missing) (m .compact) (lookup p (m .state .missing) (m .addresses) a)) ∷ []);
-  plan = mkPlan [] Filled m (readPiece p v (m .state .missing) (m .compact) (lookup p (m .state .missing) (m .addresses) a) .block);
-  is = refl;
-}
+decides p long v m (read a) = record { checks = readChecks p long v m a; plan = readPlan p v m a; is = refl }
+decides p long v m (fill a b) = record { checks = readChecks p (long && eqb (length b) (p .B)) v m a; plan = fillPlan p v m a; is = refl }
 decides p long v m (restart d n) = record { checks = restartChecks p long v d (segments p v (named d)); plan = restartPlan p v d (segments p v (named d)) (m .inflight); is = refl }
 decides p long v m (rebuild d n) = record { checks = rebuildChecks p long v m d (segments p v (named d)); plan = mkPlan (rebuildStores p d (segments p v (named d))) Rebuilt m []; is = refl }
 

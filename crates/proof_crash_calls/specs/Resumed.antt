@@ -10,7 +10,7 @@ use Rattle.spec.specs.declared.Params.{Params}
 use Rattle.spec.specs.Drives.{View, Disk}
 use Rattle.spec.specs.Engine.{lentOk}
 use Rattle.spec.specs.History.{mkWorld, Send, forget, seenAt}
-use Rattle.spec.specs.History.Seen.{unwritten}
+use Rattle.spec.specs.History.Seen.{unwritten, got}
 use Rattle.spec.specs.Memory.{Memory}
 use Rattle.spec.specs.Params.{inRange}
 use Rattle.spec.specs.Lists.{isIn}
@@ -72,7 +72,7 @@ shows-read p h g dk w k known m c mem t h₁ h₂ a l = ⊎-elim
       stamp = y .stamp;
       long = y .long;
       is = y .is;
-      shows = y .shows;
+      shows = y .shows ∙ ap (got (y .block)) (y .stamp);
     })) (seen-is p h g dk w k known m c mem t h₁ h₂ a l)
   where
     sent? : (y : Val) → Counted (parOf p h) (g .hd) (itemsIn p (seen p dk)) (isIn m) y → y .addr < p .L → InV y (g .sent)

@@ -42,11 +42,16 @@ value-blk b r = refl
 
 -- ---- the log
 
--- x is the block that y sent
+-- x is the block that y sent, with its stamp
 pub record SameSend (p : Params) (x : Val) (y : Send) : Type 0 where
   pub addr : x .addr ≡ y .address
+  pub stamp : x .stamp ≡ y .stamp
   pub blk : x .blk ≡ (λ i. getD (y .block) i 0)
   pub long : length (y .block) ≡ p .B
+
+-- whether it waits or is acknowledged
+same-send : (p : Params) (x : Val) (y : Send) (w k : Bool) → SameSend p x y → SameSend p x (mkSend (y .address) (y .stamp) (y .block) (y .stripe) w k)
+same-send p x y w k h = record { addr = h .addr; stamp = h .stamp; blk = h .blk; long = h .long }
 
 -- the log has the sends in order; what is acknowledged is so for the machine, and stands in the log where it was sent
 pub record Logged (p : Params) (a : List Val) (T : Track) (ss : List Send) : Type 0 where
@@ -67,10 +72,10 @@ module _ (p : Params) (a : List Val) (T : Track) (ss : List Send) (L : Logged p 
   length-sent = length-append ss (y ∷ []) ∙ (let e : length ss + 1 ≡ suc (length ss) = omega arith in e)
 
   pub old-send : (j : ℕ) → j < length ss → sendAt (ss ++ (y ∷ [])) j ≡ sendAt ss j
-  old-send j l = List·getD-append ss (y ∷ []) (mkSend 0 [] 0 false false) j l
+  old-send j l = List·getD-append ss (y ∷ []) (mkSend 0 0 [] 0 false false) j l
 
   pub new-send : sendAt (ss ++ (y ∷ [])) (length ss) ≡ y
-  new-send = getD-append-seam ss y [] (mkSend 0 [] 0 false false)
+  new-send = getD-append-seam ss y [] (mkSend 0 0 [] 0 false false)
 
   pub old-log : (j : ℕ) → j < length ss → sentTo T x .log j ≡ T .log j
   old-log j l = setAt-else (T .log) (T .clock) x j (let n : j ≢ T .clock = omega (arith, L .count) in n)
@@ -111,13 +116,13 @@ pub length-forget : (ss : List Send) → length (map forget ss) ≡ length ss
 length-forget ss = length-map ss forget
 
 send-map : (f : Send → Send) (ss : List Send) (j : ℕ) → j < length ss → sendAt (map f ss) j ≡ f (sendAt ss j)
-send-map f ss j l = getD-map f ss j (mkSend 0 [] 0 false false) (mkSend 0 [] 0 false false) l
+send-map f ss j l = getD-map f ss j (mkSend 0 0 [] 0 false false) (mkSend 0 0 [] 0 false false) l
 
 pub forget-logged : (p : Params) (a : List Val) (T : Track) (ss : List Send) → Logged p a T ss → Logged p a T (map forget ss)
 unfolding forget
 forget-logged p a T ss L = record {
   count = L .count ∙ sym (length-forget ss);
-  same = λ j l. let b : j < length ss = omega (arith, l, length-forget ss) in rw (send-map forget ss j b) (record { addr = L .same j b .addr; blk = L .same j b .blk; long = L .same j b .long });
+  same = λ j l. let b : j < length ss = omega (arith, l, length-forget ss) in rw (send-map forget ss j b) (same-send p (T .log j) (sendAt ss j) false (sendAt ss j .acked) (L .same j b));
   acks = λ j l q. let b : j < length ss = omega (arith, l, length-forget ss) in L .acks j b (ap (λ (z : Send). z .acked) (sym (send-map forget ss j b)) ∙ q);
 }
 
@@ -195,13 +200,13 @@ module _ (T : Track) (ss : List Send) (s : ℕ) (a : List Val) where
           more false m = m
 
   -- what `acknowledge` does to a send
-  pub ack-hit : (y : Send) → (y .waits && eqb (y .stripe) s) ≡ true → acknowledge s y ≡ mkSend (y .address) (y .block) (y .stripe) false true
+  pub ack-hit : (y : Send) → (y .waits && eqb (y .stripe) s) ≡ true → acknowledge s y ≡ mkSend (y .address) (y .stamp) (y .block) (y .stripe) false true
   unfolding acknowledge
-  ack-hit y e = cond-true (y .waits && eqb (y .stripe) s) (mkSend (y .address) (y .block) (y .stripe) false true) y e
+  ack-hit y e = cond-true (y .waits && eqb (y .stripe) s) (mkSend (y .address) (y .stamp) (y .block) (y .stripe) false true) y e
 
   pub ack-miss : (y : Send) → (y .waits && eqb (y .stripe) s) ≡ false → acknowledge s y ≡ y
   unfolding acknowledge
-  ack-miss y e = cond-false (y .waits && eqb (y .stripe) s) (mkSend (y .address) (y .block) (y .stripe) false true) y e
+  ack-miss y e = cond-false (y .waits && eqb (y .stripe) s) (mkSend (y .address) (y .stamp) (y .block) (y .stripe) false true) y e
 
   pub ack-logged : (p : Params) → Logged p a T ss → ((j : ℕ) → j < length ss → sendAt ss j .waits ≡ true → sendAt ss j .stripe ≡ s → T .pos (T .log j .stamp) ≡ j)
       → Logged p (ackedTo T ss s a (length ss)) T (map (acknowledge s) ss)
@@ -212,7 +217,7 @@ module _ (T : Track) (ss : List Send) (s : ℕ) (a : List Val) where
   }
     where
       same : (j : ℕ) → j < length ss → Test (hit j) → SameSend p (T .log j) (acknowledge s (sendAt ss j))
-      same j b (yes! e) = rw (ack-hit (sendAt ss j) e) (record { addr = L .same j b .addr; blk = L .same j b .blk; long = L .same j b .long })
+      same j b (yes! e) = rw (ack-hit (sendAt ss j) e) (same-send p (T .log j) (sendAt ss j) false true (L .same j b))
       same j b (no! e) = rw (ack-miss (sendAt ss j) e) (L .same j b)
 
       acks : (j : ℕ) → j < length ss → Test (hit j) → acknowledge s (sendAt ss j) .acked ≡ true → InV (T .log j) (ackedTo T ss s a (length ss)) × (T .pos (T .log j .stamp) ≡ j)

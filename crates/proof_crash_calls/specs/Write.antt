@@ -150,7 +150,7 @@ module _ (p : Params) (h : Ranged p) (v : View) (m : Memory) (ss : List Send) (n
   x = valueOf b (mkRec ad (suc (m .state .stamp .0)) (stripeIn (begunBy p (m .state) (openedBy p v (m .state))) (slotFor p (m .state))))
 
   abbrev y : Send
-  y = mkSend ad b (stripeIn (begunBy p (m .state) (openedBy p v (m .state))) (slotFor p (m .state))) true false
+  y = mkSend ad (suc (m .state .stamp .0)) b (stripeIn (begunBy p (m .state) (openedBy p v (m .state))) (slotFor p (m .state))) true false
 
   stamp-now : l .M .stamp ≡ m .state .stamp .0
   stamp-now = l .rel .stamp
@@ -178,7 +178,7 @@ module _ (p : Params) (h : Ranged p) (v : View) (m : Memory) (ss : List Send) (n
 
   -- ---- the log
   same : SameSend p x y
-  same = record { addr = value-addr b (mkRec ad t s); blk = value-blk b (mkRec ad t s); long = A .block }
+  same = record { addr = value-addr b (mkRec ad t s); stamp = value-stamp b (mkRec ad t s); blk = value-blk b (mkRec ad t s); long = A .block }
 
   up : l .M .stamp < x .stamp
   up = let e : x .stamp ≡ t = value-stamp b (mkRec ad t s) in omega (arith, e, stamp-now)
@@ -236,7 +236,7 @@ module _ (p : Params) (h : Ranged p) (v : View) (m : Memory) (ss : List Send) (n
   table-sent = table-to p h (l .g) (withSent (aim .g′) (x ∷ aim .g′ .sent)) (itemsIn p v) (itemsIn p v₂) (m .addresses) (aim .base)
       (λ q a e. entry-sent p h (aim .g′) (x ∷ aim .g′ .sent) (itemsIn p v₂) q a (target-entries p h (l .g) v (l .a) (l .c) (m .state) (m .inflight) (l .M) ws st₂ i aim q a e)) (l .table)
 
-  pub write-ok : CallOk p h (l .g) v (writePlan p v m ad b) ss (ss ++ (mkSend ad b (sentStripe p v (m .state)) true false ∷ [])) n
+  pub write-ok : CallOk p h (l .g) v (writePlan p v m ad b) ss (ss ++ (mkSend ad (suc (m .state .stamp .0)) b (sentStripe p v (m .state)) true false ∷ [])) n
   unfolding writePlan sending sendStores sentStripe
   write-ok = record {
     sound = aim .sound;

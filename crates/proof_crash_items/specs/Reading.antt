@@ -3,23 +3,18 @@ use mathlib.Core.Path.{_≡_, refl, sym, ap, ap₂, _∙_, subst}
 use mathlib.Core.List.{List, [], _∷_, map}
 use mathlib.Core.Bool.{Bool, true, false, cond, not, _&&_, _||_}
 use mathlib.Core.Logic.{_⊎_, inl, inr, ⊎-elim}
-use Prim.Native.Nat.{ℕ, suc, _+_, _-_, _*_, _^_, _≤_, _<_}
+use Prim.Native.Nat.{ℕ, _+_, _-_, _*_, _^_, _≤_, _<_}
 use native.Mathlib.Nat.{mul-le-mul}
-use borrow.Author.Tests.{lt-leb, eq-eqb, ne-eqb}
+use borrow.Author.Tests.{lt-leb}
 use native.Mathlib.Omega.{arith}
-use lib.Dec.{leb, eqb}
-use lib.ListN.{length, getD, replicate, length-replicate}
+use lib.Dec.{leb}
+use lib.ListN.{length, getD}
 use Rattle.spec.specs.declared.Params.{Params}
-use Rattle.spec.specs.declared.Answer.{Answer}
-use Rattle.spec.specs.declared.Answer.the-variants.{Filled}
-use Rattle.spec.specs.Answers.{kind}
 use Rattle.spec.specs.Bytes.{parity}
-use Rattle.spec.specs.Calls.{mkPlan, decided, limited, outcome}
 use Rattle.spec.specs.Counts.{neverPlace}
-use Rattle.spec.specs.Drives.{noChunk, View, zoneAt, pointerAt, chunkAt, Disk, storeDisk, Seg, zoneOn, placeSegment}
-use Rattle.spec.specs.Engine.Call.{read, fill}
-use Rattle.spec.specs.Engine.{storeCount, lentBlock, verdict, lentOk, callOn, callDisk}
-use Rattle.spec.specs.History.{mkWorld, seenFilled, seenAt}
+use Rattle.spec.specs.Drives.{View, zoneAt, pointerAt, Disk, Seg, zoneOn, placeSegment}
+use Rattle.spec.specs.Engine.{lentOk}
+use Rattle.spec.specs.History.{mkWorld, Seen, seenAt}
 use Rattle.spec.specs.History.Seen.{unwritten, got}
 use Rattle.spec.specs.Lists.{Opt, any, consIf, isNil, firstOr, isIn}
 use Rattle.spec.specs.Lists.Opt.{none, some}
@@ -27,18 +22,21 @@ use Rattle.spec.specs.Memory.{Memory, stateOk, placeAt, shownAt}
 use Rattle.spec.specs.Params.{between, inRange, capacity, placeOf, placeBlock, placeZone, placeDrive, present}
 use Rattle.spec.specs.Parity.{decodePiece, Piece, parityPiece}
 use Rattle.spec.specs.Rank.{Cand, best, placeOr, candsOf}
-use Rattle.spec.specs.Read.{placeFaults, Found, lookup, foundFaults, shown, decodeFaults, storedAt, decodedAt, readPiece, readAnswer, readVerdict, fillVerdict}
+use Rattle.spec.specs.Read.{placeFaults, Found, foundFaults, shown, decodeFaults, storedAt, decodedAt, readPiece}
 use Rattle.spec.specs.Read.Found.{nowhere, here, away}
 use Rattle.spec.specs.Segments.{Segment, segmentOf, segments, offsetOn, hasChunk, counts, storedPiece, pieceOf, offsetOf, candOf, candidates, addressTable, compactTable}
-use Rattle.law_checks.specs.Passed.{read-goes, fill-goes}
+use Rattle.law_checks.specs.Passed.{foundIn, ReadPassed}
+use Rattle.law_checks.specs.Reads.{seen-never, seen-here, seen-away}
 use Rattle.law_basic.specs.Geometry.{between-of, Ranged, capacity-high, zones-all, addresses-all, place-block, place-zone, place-drive, place-lt}
 use Rattle.law_basic.specs.Ranges.{and-false}
 use Rattle.law_basic.specs.Segs.{Named, zone-on-lt, place-segment-of}
 use Rattle.law_basic.specs.Xor.{length-parity}
 use Rattle.law_code.specs.Chunks.{chunk-decoded}
-use Rattle.law_code.specs.Code.{decode-apart, decode-block-same}
+use Rattle.law_code.specs.Code.{decode-same}
+use Rattle.law_views.specs.Looked.{found-nowhere, found-some}
 use Rattle.law_views.specs.Views.{Whole, seen}
 use Rattle.law_calls.specs.Refusals.{state-fine}
+use Rattle.law_drives.specs.Segs.{stored-at}
 use Rattle.law_drives.specs.Tables.{place-at}
 use Rattle.law_drives.specs.Tests.{cond-true, cond-false}
 use Rattle.proof_crash_machine.specs.Exec.{true≢false}
@@ -50,7 +48,7 @@ use Rattle.proof_crash_items.specs.Member.{Has, or-both-false, and-false
 use Rattle.proof_crash_items.specs.Named.{present-has}
 use Rattle.proof_crash_items.specs.Ranges.{capacity-few, parOf}
 use Rattle.proof_crash_items.specs.Segs.{OnDrives, remaining-has}
-use Rattle.proof_crash_items.specs.Stripes.{stored-below, pointer-is, offset-on, stored-piece, stored-block-long, counted-has, pieceAt, piece-here, piece-lost}
+use Rattle.proof_crash_items.specs.Stripes.{stored-below, pointer-is, offset-on, stored-block-long, counted-has, pieceAt, piece-here, piece-lost}
 use Rattle.proof_crash_items.specs.Table.{shown-offset, shown-some}
 use Rattle.proof_crash_items.specs.Values.{pieceValue, blocks-of-long, pieces-long}
 
@@ -60,70 +58,6 @@ pub record Tabled (p : Params) (v : View) (m : ℕ) (mem : Memory) : Type 0 wher
   pub compact : mem .compact ≡ compactTable p (segments p v m)
   pub missing : mem .state .missing ≡ m
   pub ok : stateOk p (mem .state) ≡ true
-
--- ---- the calls, where nothing is wrong
-
-module _ (p : Params) (dk : Disk) (mem : Memory) (a : ℕ) (h₁ : inRange p ≡ true) (h₂ : lentOk p dk mem ≡ true) (h₄ : a < p .L) (h₉ : stateOk p (mem .state) ≡ true) where
-  abbrev f : Found
-  f = lookup p (mem .state .missing) (mem .addresses) a
-
-  module _ (fine : foundFaults p (seen p dk) (mem .state .missing) f ≡ []) where
-    pub read-call : callDisk p dk mem (read a) .answer ≡ readAnswer p f
-    unfolding callDisk callOn verdict readVerdict storeCount outcome limited decided
-    read-call =
-        ap (λ (x : Opt Answer). outcome p (storeDisk p) 0 dk mem (lentBlock (read a)) (decided x (mkPlan [] (readAnswer p f) mem [])) .answer)
-        (read-goes p (lentOk p dk mem) (seen p dk) mem a (record { in-range = h₁; lent = h₂; address-low = h₄; state-fine = h₉; place-fine = fine }))
-
-    module _ (decodes : decodeFaults p (seen p dk) (mem .state .missing) (mem .compact) f ≡ []) where
-      pub fill-call : seenFilled (callDisk p dk mem (fill a (replicate (p .B) 0))) ≡ got (readPiece p (seen p dk) (mem .state .missing) (mem .compact) f .block)
-      unfolding callDisk callOn verdict fillVerdict storeCount outcome limited decided seenFilled kind
-      fill-call =
-          ap (λ (x : Opt Answer). seenFilled (outcome p (storeDisk p) 0 dk mem (lentBlock (fill a (replicate (p .B) 0)))
-          (decided x (mkPlan [] Filled mem (readPiece p (seen p dk) (mem .state .missing) (mem .compact) f .block)))))
-          (fill-goes p (lentOk p dk mem) (seen p dk) mem a (replicate (p .B) 0) (record {
-            in-range = h₁;
-            lent = h₂;
-            block-long = length-replicate {A = ℕ} (p .B) 0;
-            address-low = h₄;
-            state-fine = h₉;
-            place-fine = fine;
-            decodes = decodes;
-          }))
-
-  -- never written
-  pub seen-never : lookup p (mem .state .missing) (mem .addresses) a ≡ nowhere → seenAt p (mkWorld dk mem) a ≡ unwritten
-  unfolding seenAt kind readAnswer
-  seen-never e = ap (λ (x : Answer). cond (eqb (kind x) 9) unwritten (seenFilled (callDisk p dk mem (fill a (replicate (p .B) 0))))) (read-call fine ∙ ap (readAnswer p) e)
-    where
-      fine : foundFaults p (seen p dk) (mem .state .missing) (lookup p (mem .state .missing) (mem .addresses) a) ≡ []
-      fine = unfold foundFaults in ap (foundFaults p (seen p dk) (mem .state .missing)) e
-
-  pub seen-here : (q : ℕ) → lookup p (mem .state .missing) (mem .addresses) a ≡ here q → placeFaults p (seen p dk) (mem .state .missing) q ≡ []
-      → seenAt p (mkWorld dk mem) a ≡ got (readPiece p (seen p dk) (mem .state .missing) (mem .compact) (here q) .block)
-  unfolding seenAt kind readAnswer
-  seen-here q e h =
-      ap (λ (x : Answer). cond (eqb (kind x) 9) unwritten (seenFilled (callDisk p dk mem (fill a (replicate (p .B) 0))))) (read-call fine ∙ ap (readAnswer p) e)
-      ∙ fill-call fine decodes ∙ ap (λ (x : Found). got (readPiece p (seen p dk) (mem .state .missing) (mem .compact) x .block)) e
-    where
-      fine : foundFaults p (seen p dk) (mem .state .missing) (lookup p (mem .state .missing) (mem .addresses) a) ≡ []
-      fine = unfold foundFaults in (ap (foundFaults p (seen p dk) (mem .state .missing)) e ∙ h)
-
-      decodes : decodeFaults p (seen p dk) (mem .state .missing) (mem .compact) (lookup p (mem .state .missing) (mem .addresses) a) ≡ []
-      decodes = unfold decodeFaults in ap (decodeFaults p (seen p dk) (mem .state .missing) (mem .compact)) e
-
-  pub seen-away : (q : ℕ) → lookup p (mem .state .missing) (mem .addresses) a ≡ away q → placeFaults p (seen p dk) (mem .state .missing) q ≡ []
-      → decodeFaults p (seen p dk) (mem .state .missing) (mem .compact) (away q) ≡ []
-      → seenAt p (mkWorld dk mem) a ≡ got (readPiece p (seen p dk) (mem .state .missing) (mem .compact) (away q) .block)
-  unfolding seenAt kind readAnswer
-  seen-away q e h h′ =
-      ap (λ (x : Answer). cond (eqb (kind x) 9) unwritten (seenFilled (callDisk p dk mem (fill a (replicate (p .B) 0))))) (read-call fine ∙ ap (readAnswer p) e)
-      ∙ fill-call fine decodes ∙ ap (λ (x : Found). got (readPiece p (seen p dk) (mem .state .missing) (mem .compact) x .block)) e
-    where
-      fine : foundFaults p (seen p dk) (mem .state .missing) (lookup p (mem .state .missing) (mem .addresses) a) ≡ []
-      fine = unfold foundFaults in (ap (foundFaults p (seen p dk) (mem .state .missing)) e ∙ h)
-
-      decodes : decodeFaults p (seen p dk) (mem .state .missing) (mem .compact) (lookup p (mem .state .missing) (mem .addresses) a) ≡ []
-      decodes = ap (decodeFaults p (seen p dk) (mem .state .missing) (mem .compact)) e ∙ h′
 
 -- ---- the place of a record
 
@@ -143,6 +77,18 @@ module _ (p : Params) (r : Ranged p) (g : Ghost) (dk : Disk) (w : Whole p dk) (k
 
   abbrev cands : List Cand
   cands = candidates p m (segments p v m)
+
+  -- no check of a read holds where the address lies at a place with no fault
+  no-check-holds : (a : ℕ) → a < p .L → (f : Found) → foundIn p mem a ≡ f → foundFaults p v m f ≡ [] → decodeFaults p v m (compactTable p (segments p v m)) f ≡ []
+      → ReadPassed p (lentOk p dk mem) v mem a
+  no-check-holds a l f e fine decodes = record {
+    in-range = h₁;
+    lent = h₂;
+    address-low = l;
+    state-fine = t .ok;
+    place-fine = ap₂ (foundFaults p v) (t .missing) e ∙ fine;
+    decodes = (λ j. decodeFaults p v (t .missing j) (t .compact j) (e j)) ∙ decodes;
+  }
 
   -- where a record's piece lies
   module _ (x : Cand) (f : From p r g v k m c x) where
@@ -236,32 +182,28 @@ module _ (p : Params) (r : Ranged p) (g : Ghost) (dk : Disk) (w : Whole p dk) (k
                   (offset-on p r g v k m c (f .z) (f .s) (f .d) zb (f .drv) n (chunk-on (f .d) (f .drv) n) .0) .1,
             )))
 
-    -- the block that is read is the piece's
-    read-stored : isIn m (f .d) ≡ false → readPiece p v m (compactTable p (segments p v m)) (here (x .place)) .block ≡ pieceOf p m (G (f .z)) (f .s) (f .d) .block
-    unfolding readPiece storedAt chunkAt
+    -- what is read is the piece
+    read-stored : isIn m (f .d) ≡ false → readPiece p v m (compactTable p (segments p v m)) (here (x .place)) ≡ pieceOf p m (G (f .z)) (f .s) (f .d)
+    unfolding readPiece
     read-stored n =
         rw (place-d, place-seg, place-b) (
-        ap (λ (i : ℕ). getD (zoneAt v (f .d) its-zone .blocks) i noChunk .block) (let e : 1 + (1 + off - 1) ≡ suc (offsetOn (G (f .z)) (f .d) (f .s)) = omega (arith, offset-read n) in e)
-        ∙ sym (ap (λ (y : Piece). y .block) (stored-piece p r g v k m c (f .z) (f .s) (f .d) zb (f .drv) n (chunk-on (f .d) (f .drv) n)))
-        ∙ sym (ap (λ (y : Piece). y .block) (piece-here p r g v k m c (f .z) (f .s) (f .d) (f .drv) n)))
+        ap (storedAt p v m (f .d) (f .z)) (let e : 1 + off - 1 ≡ offsetOn (G (f .z)) (f .d) (f .s) = omega (arith, offset-read n) in e)
+        ∙ stored-at p v m (f .z) (f .d) (f .s) (f .drv) n (chunk-on (f .d) (f .drv) n)
+        ∙ sym (piece-here p r g v k m c (f .z) (f .s) (f .d) (f .drv) n))
 
-    shown-block : (d : ℕ) → d < p .N → isIn m d ≡ false
-        → storedAt p v m d (f .z) (firstOr 0 (shownAt p v (compactTable p (segments p v m)) d (zoneOn (f .z) d) (f .s))) .block ≡ storedPiece (G (f .z)) (f .s) d .block
-    unfolding storedAt chunkAt
-    shown-block d l n =
-        ap (λ (i : ℕ). getD (zoneAt v d (zoneOn (f .z) d) .blocks) i noChunk .block)
-        (ap (λ (i : ℕ). 1 + i) (shown-offset p r g v k m c (f .z) (f .s) d (f .rem) l n (chunk-on d l n))
-        ∙ (let e : 1 + offsetOn (G (f .z)) d (f .s) ≡ suc (offsetOn (G (f .z)) d (f .s)) = omega arith in e))
-        ∙ sym (ap (λ (y : Piece). y .block) (stored-piece p r g v k m c (f .z) (f .s) d zb l n (chunk-on d l n)))
+    shown-piece : (d : ℕ) → d < p .N → isIn m d ≡ false
+        → storedAt p v m d (f .z) (firstOr 0 (shownAt p v (compactTable p (segments p v m)) d (zoneOn (f .z) d) (f .s))) ≡ storedPiece (G (f .z)) (f .s) d
+    shown-piece d l n =
+        ap (storedAt p v m d (f .z)) (shown-offset p r g v k m c (f .z) (f .s) d (f .rem) l n (chunk-on d l n))
+        ∙ stored-at p v m (f .z) d (f .s) l n (chunk-on d l n)
 
-    read-decoded : isIn m (f .d) ≡ true → readPiece p v m (compactTable p (segments p v m)) (away (x .place)) .block ≡ pieceOf p m (G (f .z)) (f .s) (f .d) .block
+    read-decoded : isIn m (f .d) ≡ true → readPiece p v m (compactTable p (segments p v m)) (away (x .place)) ≡ pieceOf p m (G (f .z)) (f .s) (f .d)
     unfolding readPiece decodedAt
     read-decoded e =
         rw (place-d, place-seg, place-b)
-        (ap (λ (s : ℕ). decodePiece p m s (f .d) (at s) .block) (let i : 1 + off - 1 ≡ f .s = omega (arith, off-lost e) in i)
-        ∙ ap (λ (q : Piece). q .block) (decode-apart p m (f .s) (f .d) (at (f .s)))
-        ∙ decode-block-same p m (f .s) (f .d) (λ d. at (f .s) d .block) (λ d. storedPiece (G (f .z)) (f .s) d .block) shown-block
-        ∙ sym (ap (λ (q : Piece). q .block) (chunk-decoded p m (G (f .z)) (f .s) (f .d) e ∙ decode-apart p m (f .s) (f .d) (storedPiece (G (f .z)) (f .s)))))
+        (ap (λ (s : ℕ). decodePiece p m s (f .d) (at s)) (let i : 1 + off - 1 ≡ f .s = omega (arith, off-lost e) in i)
+        ∙ decode-same p m (f .s) (f .d) (at (f .s)) (storedPiece (G (f .z)) (f .s)) shown-piece
+        ∙ sym (chunk-decoded p m (G (f .z)) (f .s) (f .d) e))
       where
         at : ℕ → ℕ → Piece
         at s d = storedAt p v m d (f .z) (firstOr 0 (shownAt p v (compactTable p (segments p v m)) d (zoneOn (f .z) d) s))
@@ -304,7 +246,8 @@ module _ (p : Params) (r : Ranged p) (g : Ghost) (dk : Disk) (w : Whole p dk) (k
                 (λ d i. stored-block-long p r g v k m c (f .z) (f .s) d zb (present-has p m d i .0) (present-has p m d i .1) (chunk-on d (present-has p m d i .0) (present-has p m d i .1)))))
 
     -- ---- what the calls give
-    pub seen-record : (a : ℕ) → a < p .L → best none (candsOf a cands) ≡ some x → seenAt p (mkWorld dk mem) a ≡ got (pieceOf p m (G (f .z)) (f .s) (f .d) .block)
+    pub seen-record : (a : ℕ) → a < p .L → best none (candsOf a cands) ≡ some x
+        → seenAt p (mkWorld dk mem) a ≡ got (pieceOf p m (G (f .z)) (f .s) (f .d) .block) (pieceOf p m (G (f .z)) (f .s) (f .d) .rec .stamp)
     seen-record a l e = go (isIn m (f .d)) refl
       where
         entry : placeAt (mem .addresses) a ≡ x .place
@@ -312,37 +255,40 @@ module _ (p : Params) (r : Ranged p) (g : Ghost) (dk : Disk) (w : Whole p dk) (k
             ∙ place-at p cands a l (subst (λ (y : Opt Cand). placeOr y < 256 ^ 4) (sym e) (unfold placeOr in omega (arith, place-low)))
             ∙ (unfold placeOr in ap placeOr e)
 
-        found : (b : Bool) → isIn m (f .d) ≡ b → lookup p (mem .state .missing) (mem .addresses) a ≡ cond b (away (x .place)) (here (x .place))
-        found b q = unfold lookup in (
-            ap₂ (λ (n i : ℕ). cond (eqb i neverPlace) nowhere (cond (isIn n (placeDrive p i)) (away i) (here i))) (t .missing) entry
-            ∙ cond-false (eqb (x .place) neverPlace) nowhere (cond (isIn m (placeDrive p (x .place))) (away (x .place)) (here (x .place)))
-            (ne-eqb (x .place) neverPlace (omega (arith, place-low)))
-            ∙ ap (λ (y : Bool). cond y (away (x .place)) (here (x .place))) (ap (isIn m) place-d ∙ q))
+        found : (b : Bool) → isIn m (f .d) ≡ b → foundIn p mem a ≡ cond b (away (x .place)) (here (x .place))
+        found b q =
+            found-some p (mem .addresses) a (x .place) entry (mem .state .missing) (omega (arith, place-low))
+            ∙ ap (λ (y : Bool). cond y (away (x .place)) (here (x .place))) (ap₂ isIn (t .missing) place-d ∙ q)
 
-        go : (y : Bool) → isIn m (f .d) ≡ y → seenAt p (mkWorld dk mem) a ≡ got (pieceOf p m (G (f .z)) (f .s) (f .d) .block)
+        seen-piece : Piece → Seen
+        seen-piece y = got (y .block) (y .rec .stamp)
+
+        fine-here : foundFaults p v m (here (x .place)) ≡ []
+        fine-here = unfold foundFaults in no-place-fault
+
+        fine-away : foundFaults p v m (away (x .place)) ≡ []
+        fine-away = unfold foundFaults in no-place-fault
+
+        go : (y : Bool) → isIn m (f .d) ≡ y → seenAt p (mkWorld dk mem) a ≡ seen-piece (pieceOf p m (G (f .z)) (f .s) (f .d))
         go false n =
-            seen-here p dk mem a h₁ h₂ l (t .ok) (x .place) (found false n) (ap (λ (i : ℕ). placeFaults p v i (x .place)) (t .missing) ∙ no-place-fault)
-            ∙ ap got (ap₂ (λ (i : ℕ) (cs : List ℕ). readPiece p v i cs (here (x .place)) .block) (t .missing) (t .compact) ∙ read-stored n)
+            seen-here p dk mem a (no-check-holds a l (here (x .place)) (found false n) fine-here (unfold decodeFaults in refl)) (x .place) (found false n)
+            ∙ ap seen-piece (ap₂ (λ (i : ℕ) (cs : List ℕ). readPiece p v i cs (here (x .place))) (t .missing) (t .compact) ∙ read-stored n)
         go true n =
-            seen-away p dk mem a h₁ h₂ l (t .ok) (x .place) (found true n)
-            (ap (λ (i : ℕ). placeFaults p v i (x .place)) (t .missing) ∙ no-place-fault)
-            (ap₂ (λ (i : ℕ) (cs : List ℕ). decodeFaults p v i cs (away (x .place))) (t .missing) (t .compact) ∙ no-decode-fault n)
-            ∙ ap got (ap₂ (λ (i : ℕ) (cs : List ℕ). readPiece p v i cs (away (x .place)) .block) (t .missing) (t .compact) ∙ read-decoded n)
+            seen-away p dk mem a (no-check-holds a l (away (x .place)) (found true n) fine-away (no-decode-fault n)) (x .place) (found true n)
+            ∙ ap seen-piece (ap₂ (λ (i : ℕ) (cs : List ℕ). readPiece p v i cs (away (x .place))) (t .missing) (t .compact) ∙ read-decoded n)
 
   pub seen-nothing : (a : ℕ) → a < p .L → best none (candsOf a cands) ≡ none → seenAt p (mkWorld dk mem) a ≡ unwritten
-  seen-nothing a l e = seen-never p dk mem a h₁ h₂ l (t .ok) found
+  seen-nothing a l e = seen-never p dk mem a (no-check-holds a l nowhere found (unfold foundFaults in refl) (unfold decodeFaults in refl)) found
     where
       entry : placeAt (mem .addresses) a ≡ neverPlace
       entry = ap (λ (tb : List ℕ). placeAt tb a) (t .addresses)
           ∙ place-at p cands a l (subst (λ (y : Opt Cand). placeOr y < 256 ^ 4) (sym e) (unfold placeOr in omega arith))
           ∙ (unfold placeOr in ap placeOr e)
 
-      found : lookup p (mem .state .missing) (mem .addresses) a ≡ nowhere
-      found = unfold lookup in (
-          ap (λ (i : ℕ). cond (eqb i neverPlace) nowhere (cond (isIn (mem .state .missing) (placeDrive p i)) (away i) (here i))) entry
-          ∙ cond-true (eqb neverPlace neverPlace) nowhere (cond (isIn (mem .state .missing) (placeDrive p neverPlace)) (away neverPlace) (here neverPlace)) (eq-eqb neverPlace neverPlace refl))
+      found : foundIn p mem a ≡ nowhere
+      found = found-nowhere p (mem .addresses) a neverPlace entry (mem .state .missing) refl
 
-  -- what a read gives at an address: nothing, and no stamp counts; or the block of the greatest counted stamp
+  -- what a read gives at an address: nothing, and no stamp counts; or the block of the greatest counted stamp, with it
   pub record ReadsBlock (a : ℕ) : Type 0 where
     pub block : List ℕ
     pub value : Val
@@ -350,7 +296,7 @@ module _ (p : Params) (r : Ranged p) (g : Ghost) (dk : Disk) (w : Whole p dk) (k
     pub addr : value .addr ≡ a
     pub stamp : value .stamp ≡ stampRead p r g v k m c a
     pub given : 0 < value .stamp
-    pub shows : seenAt p (mkWorld dk mem) a ≡ got block
+    pub shows : seenAt p (mkWorld dk mem) a ≡ got block (value .stamp)
     pub long : length block ≡ p .B
     pub is : value .blk ≡ (λ i. getD block i 0)
 
@@ -368,7 +314,7 @@ module _ (p : Params) (r : Ranged p) (g : Ghost) (dk : Disk) (w : Whole p dk) (k
         addr = y .1 ∙ h .3;
         stamp = y .2 ∙ sym (stamp-of (h .0) (h .1));
         given = positive (pieceAt p r g v k m c (f .z) (f .s) (f .d)) (y .0) (subst (λ (i : ℕ). i < p .L) (sym (y .1 ∙ h .3)) l);
-        shows = seen-record (h .0) f a l (same ∙ h .1);
+        shows = unfold pieceAt pieceValue valueOf in seen-record (h .0) f a l (same ∙ h .1);
         long = piece-long (h .0) f;
         is = unfold pieceAt pieceValue valueOf in refl;
       })) (winner p r g v k m c a)

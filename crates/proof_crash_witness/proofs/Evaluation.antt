@@ -2,7 +2,7 @@
 -- Written by tools/witness.py.
 use Prim.Native.Nat.{ℕ}
 use lib.Count.{ones, onesIn}
-use Rattle.spec.specs.Answers.{kind, values, isRefused, isRefusedAs, isCut, finished}
+use Rattle.spec.specs.Answers.{kind, values, isRefused, isRefusedAs, stampTold, isCut, finished}
 use Rattle.spec.specs.Bytes.{beFrom, beOf, toBe, leOf, toLe, part, splice, xors, parity, xorAll, bytesOf, widthsOf, fieldAt, readField}
 use Rattle.spec.specs.Calls.{ninth, ruled, firstRefusal, decided, cutMemory, limited, outcome}
 use Rattle.spec.specs.Closing.{padded, closeChecks, closePlan, closeVerdict, emptyChecks, emptyPlan, emptyVerdict}
@@ -16,11 +16,10 @@ use Rattle.spec.specs.Examples.{blockOf}
 use Rattle.spec.specs.Faults.{pointerFaults, sameChunk, headerFault, serialFault, outside, twice, stripeFault, badRec, storedBad, decodedBad}
 use Rattle.spec.specs.Faults.{addressFault, footersStored, sameBlocks, footerFaultIn, footerFault, clashes, segmentFault, segmentFaults, imageChecks}
 use Rattle.spec.specs.History.{callOf, restartOf, inOrder, swapped, before, happens, onlyIf, orderly, restartIn, worldAfter, acknowledge, forget}
-use Rattle.spec.specs.History.{sentBy, ackedBy, endsRun, sentAfter, untrustedAfter, marked, step, emptyDisk, began, namesAll, allowed, seenFilled}
-use Rattle.spec.specs.History.{seenAt}
+use Rattle.spec.specs.History.{sentBy, ackedBy, endsRun, sentAfter, untrustedAfter, marked, step, emptyDisk, began, namesAll, allowed, seenBy, seenAt}
 use Rattle.spec.specs.Host.{partAt, partLen}
 use Rattle.spec.specs.Landing.{slotOf, ready, waiting, completes, seals, flightRec, misplaced, overfull, entryFaults, landFaults, serialAt, heldCand}
-use Rattle.spec.specs.Landing.{held, landedCand, landedCands, pointed, landChecks, sealStores, writesIn, landStore, landPlan, landVerdict}
+use Rattle.spec.specs.Landing.{heldBy, held, landedCand, landedCands, pointed, landChecks, sealStores, writesIn, landStore, landPlan, landVerdict}
 use Rattle.spec.specs.Layout.{parityDrive, dataDrive, dataPosition, isData, parityPosition, dataDrives, group, inGroupOf, groupOffsets, compactEntry}
 use Rattle.spec.specs.Layout.{headerVersion, headerTable, headerWidths, headerLen, headerFields, headerBlock, headerSerial, headerCopied}
 use Rattle.spec.specs.Layout.{recordFields, recordBytes, recordOf, footerBlock, footerRecord}
@@ -36,8 +35,8 @@ use Rattle.spec.specs.Params.{footers, capacity, unitLen, zoneLen, driveLen, im
 use Rattle.spec.specs.Params.{placeBlock, placeZone, placeDrive, placeByte, noDrive, named, drivesOf, present, absent}
 use Rattle.spec.specs.Parity.{parityRec, parityPiece, encodeBlock, encodeRec, encodePiece, decodeBlock, decodeRec, decodePiece}
 use Rattle.spec.specs.Rank.{beats, better, best, placeOr, candsOf}
-use Rattle.spec.specs.Read.{placeFaults, lookup, foundFaults, shown, decodeFaults, storedAt, decodedAt, readPiece, readAnswer, readChecks}
-use Rattle.spec.specs.Read.{readVerdict, fillVerdict}
+use Rattle.spec.specs.Read.{placeFaults, lies, foundFaults, shown, decodeFaults, storedAt, decodedAt, readPiece, lookup, readAnswer, readChecks}
+use Rattle.spec.specs.Read.{readPlan, readVerdict, fillPlan, fillVerdict}
 use Rattle.spec.specs.Rebuild.{namesMissing, rebuildChecks, rebuiltZone, rebuildStores, rebuildVerdict}
 use Rattle.spec.specs.Reclaim.{placesIn, tableFaults, segmentPlaces, liveIn, flying, victimOf, fewer, fewest, victim, isNone, victimSegment}
 use Rattle.spec.specs.Reclaim.{victimLive, idle, reclaimChecks, clearedRow, cleared, resetPlan, copyPlan, reclaimVerdict}
@@ -57,16 +56,16 @@ use Rattle.proof_crash_witness.proofs.Numbers.{markFrom, bit, isOne, se
 use Rattle.proof_crash_witness.proofs.Told.{start, heard, tell}
 
 unfoldable pub evaluated : ℕ
-unfolding ones onesIn kind values isRefused isRefusedAs isCut finished beFrom beOf toBe leOf toLe part splice xors parity xorAll bytesOf widthsOf
-    fieldAt readField ninth ruled firstRefusal decided cutMemory limited outcome padded closeChecks closePlan closeVerdict emptyChecks emptyPlan
-    emptyVerdict areBytes saidBlock saidAt noChunk noZone stored zoneAt pointerAt chunkAt chunkOf zoneOf driveOf viewOf putZone resetZone setZone
-    storeView pointerByte pointerOf setPointer storeDisk storeAll sameSeg allSegs zoneOn placeSegment emptyOnAll emptySegs sealedIn dataStored
+unfolding ones onesIn kind values isRefused isRefusedAs stampTold isCut finished beFrom beOf toBe leOf toLe part splice xors parity xorAll bytesOf
+    widthsOf fieldAt readField ninth ruled firstRefusal decided cutMemory limited outcome padded closeChecks closePlan closeVerdict emptyChecks
+    emptyPlan emptyVerdict areBytes saidBlock saidAt noChunk noZone stored zoneAt pointerAt chunkAt chunkOf zoneOf driveOf viewOf putZone resetZone
+    setZone storeView pointerByte pointerOf setPointer storeDisk storeAll sameSeg allSegs zoneOn placeSegment emptyOnAll emptySegs sealedIn dataStored
     blocksOf sparesOf recordIn recordAt footersOf zeroSpare headerStores footerStores resetStores storeCount lentBlock verdict lentOk callOn callDisk
     lentDisk lentMemory lentAll leftBy callBytes blockOf pointerFaults sameChunk headerFault serialFault outside twice stripeFault badRec storedBad
     decodedBad addressFault footersStored sameBlocks footerFaultIn footerFault clashes segmentFault segmentFaults imageChecks callOf restartOf inOrder
     swapped before happens onlyIf orderly restartIn worldAfter acknowledge forget sentBy ackedBy endsRun sentAfter untrustedAfter marked step
-    emptyDisk began namesAll allowed seenFilled seenAt partAt partLen slotOf ready waiting completes seals flightRec misplaced overfull entryFaults
-    landFaults serialAt heldCand held landedCand landedCands pointed landChecks sealStores writesIn landStore landPlan landVerdict parityDrive
+    emptyDisk began namesAll allowed seenBy seenAt partAt partLen slotOf ready waiting completes seals flightRec misplaced overfull entryFaults
+    landFaults serialAt heldCand heldBy held landedCand landedCands pointed landChecks sealStores writesIn landStore landPlan landVerdict parityDrive
     dataDrive dataPosition isData parityPosition dataDrives group inGroupOf groupOffsets compactEntry headerVersion headerTable headerWidths headerLen
     headerFields headerBlock headerSerial headerCopied recordFields recordBytes recordOf footerBlock footerRecord upFrom below all any isMember consIf
     keep tally isNil sucUnless indexOf flat total greatest least firstOr sameList padTo pieces zipped powers only isIn slotCount slots cell idleState
@@ -76,13 +75,13 @@ unfolding ones onesIn kind values isRefused isRefusedAs isCut finished beFrom be
     slotBlock setSlotBlock setSlotParity between blockSizes parityCount dataCount mostAddresses inRange recordTable recordWidths spareLen perFooter
     footers capacity unitLen zoneLen driveLen imageLen pointersLen addressesLen compactLen inflightLen placeOf placeBlock placeZone placeDrive
     placeByte noDrive named drivesOf present absent parityRec parityPiece encodeBlock encodeRec encodePiece decodeBlock decodeRec decodePiece beats
-    better best placeOr candsOf placeFaults lookup foundFaults shown decodeFaults storedAt decodedAt readPiece readAnswer readChecks readVerdict
-    fillVerdict namesMissing rebuildChecks rebuiltZone rebuildStores rebuildVerdict placesIn tableFaults segmentPlaces liveIn flying victimOf fewer
-    fewest victim isNone victimSegment victimLive idle reclaimChecks clearedRow cleared resetPlan copyPlan reclaimVerdict freeSegs isWhole isRagged
-    missingFooters renumbered movedPieces movedOn movedStripe movedStripes rewriteStores dropStores mendStores restartStores openOf nextOf
-    restartMemory uncountedIn reportOf namesDrive rewrites restartChecks restartPlan restartVerdict lowDrive headerAt leftBy1 isCopy remaining
-    recordsIn segmentOf segments recsOn offsetOn hasChunk counts counted uncounted storedPiece pieceOf putPiece storedRec recOf offsetOf candOf
-    segmentCands candidates addressTable compactRow rowOf compactTable greatestStamp greatestSerial unsealed mustOpen opens noStamp noSerial
+    better best placeOr candsOf placeFaults lies foundFaults shown decodeFaults storedAt decodedAt readPiece lookup readAnswer readChecks readPlan
+    readVerdict fillPlan fillVerdict namesMissing rebuildChecks rebuiltZone rebuildStores rebuildVerdict placesIn tableFaults segmentPlaces liveIn
+    flying victimOf fewer fewest victim isNone victimSegment victimLive idle reclaimChecks clearedRow cleared resetPlan copyPlan reclaimVerdict
+    freeSegs isWhole isRagged missingFooters renumbered movedPieces movedOn movedStripe movedStripes rewriteStores dropStores mendStores restartStores
+    openOf nextOf restartMemory uncountedIn reportOf namesDrive rewrites restartChecks restartPlan restartVerdict lowDrive headerAt leftBy1 isCopy
+    remaining recordsIn segmentOf segments recsOn offsetOn hasChunk counts counted uncounted storedPiece pieceOf putPiece storedRec recOf offsetOf
+    candOf segmentCands candidates addressTable compactRow rowOf compactTable greatestStamp greatestSerial unsealed mustOpen opens noStamp noSerial
     otherGroup mustWait scarce placed openedBy slotFor begunBy sending writeChecks writePlan writeVerdict answerNumbers seenNumbers restartReads
     answersOf readsOf readAs anyBytes anyMemory boot bootWithout disk firstUse moved sealed driveLost driveBack overwritten reclaimed movedAgain
     eventsIn answersIn readsIn table history packFrom unpack unpackAll packed unpacked joined parted firm soft worldLists stateFrom worldFrom

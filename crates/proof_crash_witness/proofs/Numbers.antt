@@ -182,20 +182,20 @@ isOne-bit false = refl
 
 -- a send in two lists
 unfoldable pub sendLists : Send → List (List ℕ)
-sendLists s = s .block ∷ (s .address ∷ s .stripe ∷ bit (s .waits) ∷ bit (s .acked) ∷ []) ∷ []
+sendLists s = s .block ∷ (s .address ∷ s .stamp ∷ s .stripe ∷ bit (s .waits) ∷ bit (s .acked) ∷ []) ∷ []
 
 -- sends from their lists
 unfoldable pub sendsFrom : List (List ℕ) → List Send
 sendsFrom [] = []
 sendsFrom (b ∷ []) = []
-sendsFrom (b ∷ l ∷ ls) = mkSend (getD l 0 0) b (getD l 1 0) (isOne (getD l 2 0)) (isOne (getD l 3 0)) ∷ sendsFrom ls
+sendsFrom (b ∷ l ∷ ls) = mkSend (getD l 0 0) (getD l 1 0) b (getD l 2 0) (isOne (getD l 3 0)) (isOne (getD l 4 0)) ∷ sendsFrom ls
 
 -- nothing is lost of the sends
 sendsFrom-sendLists : (ss : List Send) → sendsFrom (flat sendLists ss) ≡ ss
 unfolding sendsFrom sendLists flat
 sendsFrom-sendLists [] = refl
 sendsFrom-sendLists (s ∷ ss) = λ i.
-    mkSend (s .address) (s .block) (s .stripe) (isOne-bit (s .waits) i) (isOne-bit (s .acked) i) ∷ sendsFrom-sendLists ss i
+    mkSend (s .address) (s .stamp) (s .block) (s .stripe) (isOne-bit (s .waits) i) (isOne-bit (s .acked) i) ∷ sendsFrom-sendLists ss i
 
 -- answers, reads, sends, the world, the mark
 unfoldable pub toldLists : Told → List (List ℕ)

@@ -13,10 +13,10 @@ use Rattle.spec.specs.Lists.{below}
 unfoldable pub answerNumbers : Answer → List ℕ
 answerNumbers r = kind r ∷ values r
 
--- what an address reads: 0 for never written, 1 and the block's bytes, 2 where no block is read
+-- what an address reads: 0 for never written; 1, the stamp and the block's bytes; 2 where no block is read
 unfoldable pub seenNumbers : Seen → List ℕ
 seenNumbers unwritten = 0 ∷ []
-seenNumbers (got b) = 1 ∷ b
+seenNumbers (got b t) = 1 ∷ t ∷ b
 seenNumbers failed = 2 ∷ []
 
 -- what the addresses 0 to L - 1 read after a finished restart; nothing of any other event

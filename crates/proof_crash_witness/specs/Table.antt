@@ -7,14 +7,14 @@ use Rattle.spec.specs.Engine.Call.{write, land, close, reclaim, read, fill, res
 use Rattle.spec.specs.Examples.{small, blockOf}
 use Rattle.spec.specs.History.{Event}
 use Rattle.spec.specs.History.Event.{calls, boots}
-use Rattle.spec.specs.Lists.{flat}
+use Rattle.spec.specs.Lists.{flat, zipped}
 use Rattle.spec.specs.Memory.{Memory, mkMemory, mkState, zeroState}
 use Rattle.spec.specs.Params.{driveLen, imageLen, pointersLen, addressesLen, compactLen, inflightLen}
 
 -- ---- lines of the table
 
-infixl 70 _gives_ _reading_
--- an event, the kind and values of its answer, and, after a finished restart, what each address reads: 0 for never written, 1 and the block
+infixl 70 _gives_ _reading_stamped_
+-- an event, the kind and values of its answer, and, after a finished restart, what each address reads: 0 for never written; 1, the stamp and the block
 pub record Line : Type 0 where
   pub event : Event
   pub answer : List ℕ
@@ -24,14 +24,14 @@ pub record Line : Type 0 where
 abbrev pub _gives_ : Event → List ℕ → Line
 e gives a = record { event = e; answer = a; reads = [] }
 
--- what is read, by the byte that the block has throughout; 0 for never written
-unfoldable pub readAs : ℕ → List ℕ
-readAs zero = 0 ∷ []
-readAs (suc b) = 1 ∷ blockOf (suc b)
+-- what is read, by the byte that the block has throughout, and its stamp; 0 for never written
+unfoldable pub readAs : ℕ → ℕ → List ℕ
+readAs zero t = 0 ∷ []
+readAs (suc b) t = 1 ∷ t ∷ blockOf (suc b)
 
 -- address by address
-abbrev pub _reading_ : Line → List ℕ → Line
-l reading bs = record { event = l .event; answer = l .answer; reads = map readAs bs }
+abbrev pub _reading_stamped_ : Line → List ℕ → List ℕ → Line
+l reading bs stamped ts = record { event = l .event; answer = l .answer; reads = zipped readAs bs ts }
 
 -- ---- the numbers of the answers
 
@@ -63,17 +63,17 @@ copied t s d = 6 ∷ t ∷ s ∷ d ∷ []
 abbrev pub wasReset : ℕ → List ℕ
 wasReset z = 7 ∷ z ∷ []
 
--- the block's offset in the image
-abbrev pub found : ℕ → List ℕ
-found n = 8 ∷ n ∷ []
+-- the block's offset in the image, and its stamp
+abbrev pub found : ℕ → ℕ → List ℕ
+found n t = 8 ∷ n ∷ t ∷ []
 
--- on the missing drive
-abbrev pub lost : List ℕ
-lost = 10 ∷ []
+-- on the missing drive: the decoded stamp
+abbrev pub lost : ℕ → List ℕ
+lost t = 10 ∷ t ∷ []
 
--- the lent block holds it
-abbrev pub filled : List ℕ
-filled = 11 ∷ []
+-- the lent block holds it: its stamp
+abbrev pub filled : ℕ → List ℕ
+filled t = 11 ∷ t ∷ []
 
 -- how many stripes had some chunk and did not count
 abbrev pub restarted : ℕ → List ℕ
@@ -114,7 +114,7 @@ disk = mkDisk (anyBytes (imageLen small) 1) (replicate (pointersLen small) 0)
 -- first use; the later stripe completes first; a landing is cut before its store
 unfoldable pub firstUse : List Line
 firstUse =
-    boot 100 2 gives restarted 0 reading (0 ∷ 0 ∷ 0 ∷ 0 ∷ 0 ∷ 0 ∷ 0 ∷ 0 ∷ [])
+    boot 100 2 gives restarted 0 reading (0 ∷ 0 ∷ 0 ∷ 0 ∷ 0 ∷ 0 ∷ 0 ∷ 0 ∷ []) stamped (0 ∷ 0 ∷ 0 ∷ 0 ∷ 0 ∷ 0 ∷ 0 ∷ 0 ∷ [])
     ∷ calls (write 0 (blockOf 10) 9) gives sent 1 0 0
     ∷ calls (write 1 (blockOf 11) 9) gives sent 2 0 1
     ∷ calls (write 2 (blockOf 12) 9) gives sent 3 1 0
@@ -134,7 +134,7 @@ firstUse =
 unfoldable pub moved : List Line
 moved =
     boot 14 3 gives cut
-    ∷ boot 100 4 gives restarted 1 reading (13 ∷ 0 ∷ 12 ∷ 0 ∷ 0 ∷ 0 ∷ 0 ∷ 0 ∷ [])
+    ∷ boot 100 4 gives restarted 1 reading (13 ∷ 0 ∷ 12 ∷ 0 ∷ 0 ∷ 0 ∷ 0 ∷ 0 ∷ []) stamped (4 ∷ 0 ∷ 3 ∷ 0 ∷ 0 ∷ 0 ∷ 0 ∷ 0 ∷ [])
     ∷ calls (write 1 (blockOf 14) 9) gives sent 5 1 0
     ∷ calls (write 3 (blockOf 15) 9) gives sent 6 1 2
     ∷ calls (land 2 1 9) gives landed 0
@@ -155,8 +155,8 @@ sealed =
     ∷ calls (land 1 2 9) gives landed 0
     ∷ calls (land 0 2 9) gives landed 0
     ∷ calls (land 2 2 4) gives cut
-    ∷ boot 100 5 gives restarted 0 reading (13 ∷ 14 ∷ 12 ∷ 15 ∷ 16 ∷ 17 ∷ 18 ∷ 0 ∷ [])
-    ∷ calls (restart 255 100) gives restarted 0 reading (13 ∷ 14 ∷ 12 ∷ 15 ∷ 16 ∷ 17 ∷ 18 ∷ 0 ∷ [])
+    ∷ boot 100 5 gives restarted 0 reading (13 ∷ 14 ∷ 12 ∷ 15 ∷ 16 ∷ 17 ∷ 18 ∷ 0 ∷ []) stamped (4 ∷ 5 ∷ 3 ∷ 6 ∷ 7 ∷ 8 ∷ 9 ∷ 0 ∷ [])
+    ∷ calls (restart 255 100) gives restarted 0 reading (13 ∷ 14 ∷ 12 ∷ 15 ∷ 16 ∷ 17 ∷ 18 ∷ 0 ∷ []) stamped (4 ∷ 5 ∷ 3 ∷ 6 ∷ 7 ∷ 8 ∷ 9 ∷ 0 ∷ [])
     ∷ []
 
 -- drive 0 is lost before its chunk lands: the stripe counts without it, and reads decode
@@ -166,11 +166,11 @@ driveLost =
     ∷ calls (write 0 (blockOf 20) 9) gives sent 11 0 1
     ∷ calls (land 1 0 9) gives landed 0
     ∷ calls (land 2 0 9) gives landed 0
-    ∷ bootWithout 0 6 gives restarted 0 reading (20 ∷ 14 ∷ 12 ∷ 15 ∷ 16 ∷ 17 ∷ 18 ∷ 19 ∷ [])
-    ∷ calls (read 7) gives lost
-    ∷ calls (fill 7 (blockOf 255)) gives filled
-    ∷ calls (read 0) gives found 2436
-    ∷ calls (fill 0 (blockOf 255)) gives filled
+    ∷ bootWithout 0 6 gives restarted 0 reading (20 ∷ 14 ∷ 12 ∷ 15 ∷ 16 ∷ 17 ∷ 18 ∷ 19 ∷ []) stamped (11 ∷ 5 ∷ 3 ∷ 6 ∷ 7 ∷ 8 ∷ 9 ∷ 10 ∷ [])
+    ∷ calls (read 7) gives lost 10
+    ∷ calls (fill 7 (blockOf 255)) gives filled 10
+    ∷ calls (read 0) gives found 2436 11
+    ∷ calls (fill 0 (blockOf 255)) gives filled 11
     ∷ calls (read 8) gives refused 4
     ∷ calls (write 1 (blockOf 21) 9) gives refused 3
     ∷ calls (land 0 0 9) gives refused 3
@@ -183,13 +183,13 @@ driveLost =
 unfoldable pub driveBack : List Line
 driveBack =
     calls (rebuild 0 9) gives cut
-    ∷ bootWithout 0 7 gives restarted 0 reading (20 ∷ 14 ∷ 12 ∷ 15 ∷ 16 ∷ 17 ∷ 18 ∷ 19 ∷ [])
+    ∷ bootWithout 0 7 gives restarted 0 reading (20 ∷ 14 ∷ 12 ∷ 15 ∷ 16 ∷ 17 ∷ 18 ∷ 19 ∷ []) stamped (11 ∷ 5 ∷ 3 ∷ 6 ∷ 7 ∷ 8 ∷ 9 ∷ 10 ∷ [])
     ∷ calls (rebuild 0 100) gives rebuilt
     ∷ calls (write 1 (blockOf 21) 9) gives refused 3
     ∷ calls (rebuild 0 6) gives cut
-    ∷ bootWithout 0 8 gives restarted 0 reading (20 ∷ 14 ∷ 12 ∷ 15 ∷ 16 ∷ 17 ∷ 18 ∷ 19 ∷ [])
+    ∷ bootWithout 0 8 gives restarted 0 reading (20 ∷ 14 ∷ 12 ∷ 15 ∷ 16 ∷ 17 ∷ 18 ∷ 19 ∷ []) stamped (11 ∷ 5 ∷ 3 ∷ 6 ∷ 7 ∷ 8 ∷ 9 ∷ 10 ∷ [])
     ∷ calls (rebuild 0 100) gives rebuilt
-    ∷ boot 100 9 gives restarted 0 reading (20 ∷ 14 ∷ 12 ∷ 15 ∷ 16 ∷ 17 ∷ 18 ∷ 19 ∷ [])
+    ∷ boot 100 9 gives restarted 0 reading (20 ∷ 14 ∷ 12 ∷ 15 ∷ 16 ∷ 17 ∷ 18 ∷ 19 ∷ []) stamped (11 ∷ 5 ∷ 3 ∷ 6 ∷ 7 ∷ 8 ∷ 9 ∷ 10 ∷ [])
     ∷ []
 
 -- overwrites seal the second segment; a third one can't be opened by a write
@@ -230,7 +230,7 @@ reclaimed =
     ∷ calls (land 1 1 9) gives landed 0
     ∷ calls (land 2 1 9) gives landed 0
     ∷ calls (reclaim 9) gives wasReset 1
-    ∷ calls (read 4) gives found 3612
+    ∷ calls (read 4) gives found 3612 7
     ∷ []
 
 -- writes that never land; the restart moves the copies, is cut while it resets the old zones, and the last one finishes
@@ -240,7 +240,7 @@ movedAgain =
     ∷ calls (write 4 (blockOf 27) 9) gives sent 18 2 2
     ∷ calls (land 0 2 9) gives landed 0
     ∷ boot 16 10 gives cut
-    ∷ boot 100 11 gives restarted 0 reading (24 ∷ 25 ∷ 22 ∷ 23 ∷ 16 ∷ 17 ∷ 18 ∷ 19 ∷ [])
+    ∷ boot 100 11 gives restarted 0 reading (24 ∷ 25 ∷ 22 ∷ 23 ∷ 16 ∷ 17 ∷ 18 ∷ 19 ∷ []) stamped (15 ∷ 16 ∷ 13 ∷ 14 ∷ 7 ∷ 8 ∷ 9 ∷ 10 ∷ [])
     ∷ []
 
 -- ---- the whole table

@@ -7,7 +7,7 @@ use Rattle.spec.specs.Answers.{isCut}
 use Rattle.spec.specs.Drives.{Disk}
 use Rattle.spec.specs.Engine.{Call, callDisk}
 use Rattle.spec.specs.Engine.Call.{write, land, close, reclaim, read, fill, restart, rebuild}
-use Rattle.spec.specs.History.{mkWorld, seenFilled, seenAt}
+use Rattle.spec.specs.History.{mkWorld, seenAt}
 use Rattle.spec.specs.Memory.{Memory}
 use Rattle.spec.specs.Params.{named}
 use Rattle.spec.specs.Segments.{Segment, segments}
@@ -40,7 +40,7 @@ pub record Invariant (p : Params) (k : Disk) (m : Memory) (ws : List Pending) (o
 
 -- tables and reads, as the engine over values gives them
 pub says-here : (p : Params) (k : Disk) (m : Memory) → Run p k m → Says onValues p (mkWorld k m)
-unfolding viewIn readsAs callWorld seenAt seenFilled
+unfolding viewIn readsAs callWorld seenAt
 says-here p k m u = let s = run-says p k m (u .base) in record { addresses-say = s .addresses-say; compact-says = s .compact-says; reads-say = s .reads-say }
 
 layout-here : (p : Params) (k : Disk) (m : Memory) (ws : List Pending) (old : List Segment) → Invariant p k m ws old → Layout p (viewIn onValues p (mkWorld k m)) (m .state .missing) old

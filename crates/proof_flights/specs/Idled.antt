@@ -6,24 +6,24 @@ use Prim.Native.Nat.{ℕ, _≤_}
 use native.Mathlib.Omega.{arith}
 use borrow.Author.Tests.{ne-eqb, leb-true}
 use lib.Dec.{leb, ltb, eqb}
-use lib.ListN.{getD}
+use lib.ListN.{getD, length}
 use Rattle.spec.specs.Lists.Opt.{none}
 use Rattle.spec.specs.declared.Params.{Params}
 use Rattle.spec.specs.declared.Answer.{Answer}
 use Rattle.spec.specs.declared.Answer.the-variants.{Filled}
 use Rattle.spec.specs.Answers.{kind, values, isRefused, isCut, finished}
-use Rattle.spec.specs.Calls.{Check, Plan, mkPlan, After, firstRefusal}
+use Rattle.spec.specs.Calls.{Check, Plan, After, firstRefusal}
+use Rattle.spec.specs.Counts.{aStamp}
 use Rattle.spec.specs.Drives.{Disk, storeDisk, storeAll}
 use Rattle.spec.specs.Engine.{Call, storeCount, lentBlock, verdict, lentOk, callOn, callDisk}
 use Rattle.spec.specs.Engine.Call.{write, land, close, reclaim, read, fill, restart, rebuild}
 use Rattle.spec.specs.History.{endsRun}
 use Rattle.spec.specs.Lists.{consIf, keep}
 use Rattle.spec.specs.Memory.{Memory}
-use Rattle.spec.specs.Read.{Found, lookup, readPiece, readAnswer, readVerdict, fillVerdict}
+use Rattle.spec.specs.Read.{Found, lookup, readAnswer, readVerdict, fillVerdict, Lookup, readChecks, readPlan, fillPlan}
 use Rattle.spec.specs.Read.Found.{nowhere, here, away}
 use Rattle.spec.specs.Segments.{Segment}
 use Rattle.spec_demands.specs.Tables.{Pending, pendingBy, stillPending, pendingAfter}
-use Rattle.law_checks.specs.Passed.{readList, fillList}
 use Rattle.law_drives.specs.Tests.{clash, cond-false, and-false-left, or-neither}
 use Rattle.proof_tables.specs.Outcomes.{EndedAs, outcome-ends, cut-cut}
 use Rattle.proof_tables.specs.Outcomes.EndedAs.{ended-refused, ended-done, ended-cut}
@@ -114,42 +114,37 @@ flown-ended p k m ws old f c cs q r done nc (ended-cut h x) = clash (ap isCut x 
 -- ---- the reads
 
 module _ (p : Params) (k : Disk) (m : Memory) (u : Run p k m) (ws : List Pending) (old : List Segment) (f : Flown p k m ws old) where
-  abbrev found : ℕ → Found
-  found a = lookup p (m .state .missing) (m .addresses) a
+  abbrev looked : ℕ → Lookup
+  looked a = lookup p (seen p k) (m .state .missing) (m .compact) (m .addresses) a
 
   -- no store, and memory as it was
   pub idle-flown : (c : Call) (a : Answer) → QuietAnswer a → Flown p (storeAll (storeDisk p) [] k) m (pendingAfter c a ws) old
   unfolding storeAll
   idle-flown c a q = flown-as p k m (pendingAfter c a ws) ws old k m refl refl (pending-quiet c a ws q) f
 
-  quiet-read : (x : Found) → QuietAnswer (readAnswer p x)
+  quiet-read : (t : ℕ) (x : Found) → QuietAnswer (readAnswer p t x)
   unfolding readAnswer kind
-  quiet-read nowhere = quiet-kind (readAnswer p nowhere) 9 refl refl refl refl refl
-  quiet-read (here q) = quiet-kind (readAnswer p (here q)) 8 refl refl refl refl refl
-  quiet-read (away q) = quiet-kind (readAnswer p (away q)) 10 refl refl refl refl refl
+  quiet-read t nowhere = quiet-kind (readAnswer p t nowhere) 9 refl refl refl refl refl
+  quiet-read t (here q) = quiet-kind (readAnswer p t (here q)) 8 refl refl refl refl refl
+  quiet-read t (away q) = quiet-kind (readAnswer p t (away q)) 10 refl refl refl refl refl
 
-  quiet-filled : QuietAnswer Filled
+  quiet-filled : (t : ℕ) → QuietAnswer (Filled (aStamp t))
   unfolding kind
-  quiet-filled = quiet-kind Filled 11 refl refl refl refl refl
+  quiet-filled t = quiet-kind (Filled (aStamp t)) 11 refl refl refl refl refl
 
   pub flown-read : (a : ℕ) → isCut (callDisk p k m (read a) .answer) ≡ false
       → Flown p (callDisk p k m (read a) .drives) (callDisk p k m (read a) .memory) (pendingAfter (read a) (callDisk p k m (read a) .answer) ws) old
-  unfolding callDisk callOn verdict storeCount lentBlock readVerdict
-  flown-read a nc = flown-ended p k m ws old f (read a) cs q _ (λ h. idle-flown (read a) (readAnswer p (found a)) (quiet-read (found a))) nc (outcome-ends p k m cs q 0 [])
-    where
-      cs : List Check
-      cs = readList p (lentOk p k m) (seen p k) m a
-
-      q : Plan
-      q = mkPlan [] (readAnswer p (found a)) m []
+  unfolding callDisk callOn verdict storeCount lentBlock readVerdict readPlan
+  flown-read a nc =
+      let l = looked a in
+      let cs = readChecks p (lentOk p k m) (seen p k) m a in
+      flown-ended p k m ws old f (read a) cs (readPlan p (seen p k) m a) _ (λ h. idle-flown (read a) (readAnswer p (l .stamp) (l .found)) (quiet-read (l .stamp) (l .found))) nc
+      (outcome-ends p k m cs (readPlan p (seen p k) m a) 0 [])
 
   pub flown-fill : (a : ℕ) (b : List ℕ) → isCut (callDisk p k m (fill a b) .answer) ≡ false
       → Flown p (callDisk p k m (fill a b) .drives) (callDisk p k m (fill a b) .memory) (pendingAfter (fill a b) (callDisk p k m (fill a b) .answer) ws) old
-  unfolding callDisk callOn verdict storeCount lentBlock fillVerdict
-  flown-fill a b nc = flown-ended p k m ws old f (fill a b) cs q _ (λ h. idle-flown (fill a b) Filled quiet-filled) nc (outcome-ends p k m cs q 0 b)
-    where
-      cs : List Check
-      cs = fillList p (lentOk p k m) (seen p k) m a b
-
-      q : Plan
-      q = mkPlan [] Filled m (readPiece p (seen p k) (m .state .missing) (m .compact) (found a) .block)
+  unfolding callDisk callOn verdict storeCount lentBlock fillVerdict fillPlan
+  flown-fill a b nc =
+      let cs = readChecks p (lentOk p k m && eqb (length b) (p .B)) (seen p k) m a in
+      flown-ended p k m ws old f (fill a b) cs (fillPlan p (seen p k) m a) _ (λ h. idle-flown (fill a b) (Filled (aStamp (looked a .stamp))) (quiet-filled (looked a .stamp))) nc
+      (outcome-ends p k m cs (fillPlan p (seen p k) m a) 0 b)

@@ -1,5 +1,5 @@
 -- What a read gives, in plain terms: the best of a list is beaten by none of it, and its place leads back to its stripe. Assumes nothing.
-use mathlib.Core.Path.{_≡_, refl, sym, ap, ap₂, _∙_, subst}
+use mathlib.Core.Path.{_≡_, refl, sym, ap, _∙_, subst}
 use mathlib.Core.List.{List, [], _∷_}
 use mathlib.Core.Bool.{false, cond}
 use mathlib.Core.Logic.{inl, inr}
@@ -7,13 +7,13 @@ use Prim.Native.Nat.{ℕ}
 use native.Mathlib.Omega.{arith}
 use Rattle.spec.specs.declared.Params.{Params}
 use Rattle.spec.specs.Demands.{saidBlock, saidAt}
-use Rattle.spec.specs.Drives.{View, zoneAt, zoneOn, placeSegment, sealedIn, recordIn, recordAt, Seg}
+use Rattle.spec.specs.Drives.{View}
 use Rattle.spec.specs.History.Seen.{unwritten, got}
 use Rattle.spec.specs.Layout.{dataDrive, dataPosition}
-use Rattle.spec.specs.Lists.{Opt, isIn}
+use Rattle.spec.specs.Lists.{Opt}
 use Rattle.spec.specs.Lists.Opt.{none, some}
 use Rattle.spec.specs.Rank.{Cand, beats, better, best, candsOf}
-use Rattle.spec.specs.Segments.{remaining, segmentOf, segments, offsetOn, pieceOf, candOf, candidates}
+use Rattle.spec.specs.Segments.{remaining, segmentOf, segments, pieceOf, candOf, candidates}
 use Rattle.law_basic.specs.Geometry.{Ranged, ranged, drive-is-data, data-drive-lt, drive-position, position-lt}
 use Rattle.law_basic.specs.Ranges.{Test, test}
 use Rattle.law_basic.specs.Ranges.Test.{yes!, no! }
@@ -22,9 +22,9 @@ use Rattle.spec_demands.specs.Latest.Latest.{never, latest}
 use Rattle.law_drives.specs.Best.{Tied, best-in, some-is}
 use Rattle.law_drives.specs.Members.{In}
 use Rattle.law_drives.specs.Segs.{CandAt, cand-at, at-cand, is-seg, seg-in}
-use Rattle.law_drives.specs.Spots.{Spot, spot-of, cand-segment}
+use Rattle.law_drives.specs.Spots.{spot-of}
 use Rattle.law_drives.specs.Tests.{clash, not-so, cond-true, cond-false}
-use Rattle.proof_tables.specs.Base.{offset-here, offset-away, its-chunk}
+use Rattle.proof_tables.specs.Base.{said-is}
 use Rattle.proof_tables.specs.Ranks.{Beats, beats-yes, yes-beats, beats-trans, beats-self, tied-of, of-at}
 use Rattle.proof_tables.specs.Ranks.Beats.{by-stamp, by-serial, by-drive, by-offset}
 
@@ -127,33 +127,12 @@ module _ (p : Params) (v : View) (gone a : ℕ) where
     of-address = e;
   }
 
-  -- the block that a read gives is that of the record's stripe and drive
+  -- what a read gives is block and stamp of the record's stripe and drive
   block-of : (r : Ranged p) (c : Cand) (k : CandAt p v gone c)
-      → saidBlock p v gone (some c) ≡ got (pieceOf p gone (segmentOf p v gone (k .of)) (k .stripe) (dataDrive p (k .stripe) (k .position)) .block)
+      → saidBlock p v gone (some c) ≡ got (pieceOf p gone (segmentOf p v gone (k .of)) (k .stripe) (dataDrive p (k .stripe) (k .position)) .block) (c .stamp)
   block-of r c k =
-      let t = spot-of p r v gone c k in
-      let d = c .drive in
-      let zone! : placeSegment p (c .place) ≡ k .of = cand-segment p r v gone c k t in
-      as! ∙ ap₂ (λ (g : Seg) (s : ℕ). got (pieceOf p gone (segmentOf p v gone g) s (c .drive) .block)) zone!
-      (ap (λ (g : Seg). cond (isIn gone d) (c .offset) (recordAt p v gone d g (c .offset) .stripe)) zone! ∙ stripe! t (test (isIn gone d)))
-      ∙ ap (λ (e : ℕ). got (pieceOf p gone (segmentOf p v gone (k .of)) (k .stripe) e .block)) drive!
-    where
-      drive! : c .drive ≡ dataDrive p (k .stripe) (k .position)
-      drive! = unfold candOf in ap (λ (x : Cand). x .drive) (k .it-is)
-
-      as! : saidBlock p v gone (some c)
-          ≡ got (pieceOf p gone (segmentOf p v gone (placeSegment p (c .place)))
-          (cond (isIn gone (c .drive)) (c .offset) (recordAt p v gone (c .drive) (placeSegment p (c .place)) (c .offset) .stripe)) (c .drive) .block)
-      as! = unfold saidBlock in refl
-
-      stripe! : Spot p v gone c → Test (isIn gone (c .drive)) → cond (isIn gone (c .drive)) (c .offset) (recordAt p v gone (c .drive) (k .of) (c .offset) .stripe) ≡ k .stripe
-      stripe! t (yes! q) = cond-true (isIn gone (c .drive)) (c .offset) (recordAt p v gone (c .drive) (k .of) (c .offset) .stripe) q ∙ offset-away p r v gone c k t q
-      stripe! t (no! q) = cond-false (isIn gone (c .drive)) (c .offset) (recordAt p v gone (c .drive) (k .of) (c .offset) .stripe) q
-          ∙ ap (λ (o : ℕ). recordAt p v gone (c .drive) (k .of) o .stripe) (offset-here p r v gone c k t q) ∙ there (its-chunk p r v gone c k t q .its-stripe)
-        where
-          there : recordIn p (sealedIn p v gone (k .of)) (zoneAt v (c .drive) (zoneOn (k .of) (c .drive))) (offsetOn (segmentOf p v gone (k .of)) (c .drive) (k .stripe)) .stripe ≡ k .stripe
-              → recordAt p v gone (c .drive) (k .of) (offsetOn (segmentOf p v gone (k .of)) (c .drive) (k .stripe)) .stripe ≡ k .stripe
-          there e = unfold recordAt in e
+      said-is p r v gone c k (spot-of p r v gone c k)
+      ∙ ap (λ (e : ℕ). got (pieceOf p gone (segmentOf p v gone (k .of)) (k .stripe) e .block) (c .stamp)) (unfold candOf in ap (λ (x : Cand). x .drive) (k .it-is))
 
   said-latest : Ranged p → Latest p v gone a (best none (candsOf a said)) (saidAt p v gone a)
   unfolding in-recorded

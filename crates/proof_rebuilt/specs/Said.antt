@@ -1,13 +1,13 @@
 -- After a rebuild each address reads with none missing as it did with the drive missing: the candidates are alike one for one, and so is the one that holds. Assumes nothing.
 use mathlib.Core.Path.{_≡_, refl, sym, ap, ap₂, _∙_, subst}
 use mathlib.Core.List.{List, map}
-use mathlib.Core.Bool.{true, false, cond}
+use mathlib.Core.Bool.{true, false}
 use Prim.Native.Nat.{ℕ, _<_}
 use native.Mathlib.Decide.{ℕ-discrete}
 use lib.Dec.{ltb}
 use Rattle.spec.specs.declared.Params.{Params}
 use Rattle.spec.specs.Demands.{saidBlock, saidAt}
-use Rattle.spec.specs.Drives.{View, zoneAt, zoneOn, sealedIn, recordIn, recordAt, Seg}
+use Rattle.spec.specs.Drives.{View, Seg}
 use Rattle.spec.specs.History.Seen.{got}
 use Rattle.spec.specs.Layout.{dataDrive, dataDrives, Rec}
 use Rattle.spec.specs.Lists.{Opt, below, flat, isIn}
@@ -18,41 +18,19 @@ use Rattle.spec.specs.Rank.{Cand, beats, best, candsOf}
 use Rattle.spec.specs.Segments.{remaining, Segment, segmentOf, segments, offsetOn, counts, counted, pieceOf, offsetOf, candOf, segmentCands, candidates}
 use Rattle.law_basic.specs.Geometry.{Ranged, data-drive-lt}
 use Rattle.law_basic.specs.Mask.{isIn-empty}
-use Rattle.law_basic.specs.Ranges.{Test, test}
-use Rattle.law_basic.specs.Ranges.Test.{yes!, no! }
 use Rattle.law_basic.specs.Segs.{segs-differ}
 use Rattle.law_drives.specs.Accept.{Accepted, serials-differ}
 use Rattle.law_drives.specs.Members.{In, map-in, flat-map, below-in}
 use Rattle.law_drives.specs.Rebuilding.{counted-in}
 use Rattle.law_drives.specs.Segs.{CandAt}
-use Rattle.law_drives.specs.Spots.{Spot, spot-of, cand-segment}
+use Rattle.law_drives.specs.Spots.{spot-of}
 use Rattle.law_drives.specs.Tests.{cond-true, cond-false}
-use Rattle.proof_tables.specs.Base.{offset-here, offset-away, its-chunk}
+use Rattle.proof_tables.specs.Base.{said-is}
 use Rattle.proof_rebuilt.specs.Accepted.{rebuilt-remaining}
 use Rattle.proof_rebuilt.specs.Alike.{Alike, AlikeOr, alike-map, alike-flat, alike-best, beats-same}
 use Rattle.proof_rebuilt.specs.Numbers.{rank-order}
 use Rattle.proof_rebuilt.specs.Segment.{rebuilt-serial, rebuilt-counts, same-counted, offset-other, offset-rebuilt, rebuilt-piece-same, same-rec}
 use Rattle.proof_rebuilt.specs.Zone.{rebuiltView, Loss, drive-lost, other-here}
-
--- what is said of a candidate is its piece
-said-is : (p : Params) → Ranged p → (v : View) (gone : ℕ) (c : Cand) (k : CandAt p v gone c)
-    → saidBlock p v gone (some c) ≡ got (pieceOf p gone (segmentOf p v gone (k .of)) (k .stripe) (c .drive) .block)
-unfolding saidBlock recordAt
-said-is p r v gone c k =
-    let t : Spot p v gone c = spot-of p r v gone c k in
-    let stripe : Seg → ℕ = λ g. cond (isIn gone (c .drive)) (c .offset) (recordIn p (sealedIn p v gone g) (zoneAt v (c .drive) (zoneOn g (c .drive))) (c .offset) .stripe) in
-    ap (λ (g : Seg). got (pieceOf p gone (segmentOf p v gone g) (stripe g) (c .drive) .block)) (cand-segment p r v gone c k t)
-    ∙ ap (λ (s : ℕ). got (pieceOf p gone (segmentOf p v gone (k .of)) s (c .drive) .block)) (its-stripe! t (test (isIn gone (c .drive))))
-  where
-    its-stripe! : Spot p v gone c → Test (isIn gone (c .drive))
-        → cond (isIn gone (c .drive)) (c .offset) (recordIn p (sealedIn p v gone (k .of)) (zoneAt v (c .drive) (zoneOn (k .of) (c .drive))) (c .offset) .stripe) ≡ k .stripe
-    its-stripe! t (yes! b) =
-        cond-true (isIn gone (c .drive)) (c .offset) (recordIn p (sealedIn p v gone (k .of)) (zoneAt v (c .drive) (zoneOn (k .of) (c .drive))) (c .offset) .stripe) b
-        ∙ offset-away p r v gone c k t b
-    its-stripe! t (no! b) =
-        cond-false (isIn gone (c .drive)) (c .offset) (recordIn p (sealedIn p v gone (k .of)) (zoneAt v (c .drive) (zoneOn (k .of) (c .drive))) (c .offset) .stripe) b
-        ∙ ap (λ (o : ℕ). recordIn p (sealedIn p v gone (k .of)) (zoneAt v (c .drive) (zoneOn (k .of) (c .drive))) o .stripe) (offset-here p r v gone c k t b)
-        ∙ its-chunk p r v gone c k t b .its-stripe
 
 module _ (p : Params) (v : View) (d : ℕ) (lo : Loss p v d) where
   abbrev r : Ranged p
@@ -206,9 +184,10 @@ module _ (p : Params) (v : View) (d : ℕ) (lo : Loss p v d) where
     pair-said : saidBlock p u 0 (some e) ≡ saidBlock p v gone (some c)
     unfolding old-at new-at
     pair-said =
-        said-is p r u 0 e new-at ∙ ap (λ (z : ℕ). got (pieceOf p 0 (y (k .of)) (k .stripe) z .block)) new-drive
-        ∙ ap (λ (q : Piece). got (q .block)) (rebuilt-piece-same p v d lo (k .of) (k .remains) (k .stripe) drive (k .stripe-low) (k .it-counts) drive-low)
-        ∙ sym (said-is p r v gone c old-at ∙ ap (λ (z : ℕ). got (pieceOf p gone (x (k .of)) (k .stripe) z .block)) old-drive)
+        said-is p r u 0 e new-at (spot-of p r u 0 e new-at)
+        ∙ ap₂ (λ (z t : ℕ). got (pieceOf p 0 (y (k .of)) (k .stripe) z .block) t) new-drive (sym pair-stamp)
+        ∙ ap (λ (q : Piece). got (q .block) (c .stamp)) (rebuilt-piece-same p v d lo (k .of) (k .remains) (k .stripe) drive (k .stripe-low) (k .it-counts) drive-low)
+        ∙ sym (said-is p r v gone c old-at (spot-of p r v gone c old-at) ∙ ap (λ (z : ℕ). got (pieceOf p gone (x (k .of)) (k .stripe) z .block) (c .stamp)) old-drive)
 
   -- the rule tells two pairs alike
   pair-beats : (c e b f : Cand) → Pair c e → Pair b f → beats c b ≡ beats e f

@@ -6,7 +6,7 @@ use mathlib.Core.Logic.{_⊎_, inl, inr, ⊎-elim}
 use Prim.Native.Nat.{ℕ, zero, suc, _+_, _-_, _*_, _/_, _%_, _^_, _≤_, _<_}
 use native.Mathlib.Nat.{suc-mul, le-of-eq}
 use native.Mathlib.Decide.{decLt, ℕ-discrete}
-use borrow.Author.Tests.{eq-eqb, ne-eqb, ltb-true, eqb-true, not-true}
+use borrow.Author.Tests.{ne-eqb, ltb-true, eqb-true, not-true}
 use native.Mathlib.Omega.{arith}
 use lib.Dec.{ltb, eqb}
 use lib.ListN.{length, getD, set, length-set}
@@ -16,8 +16,7 @@ use lib.Count.{ones}
 use lib.Arith.{digits-div, digits-mod}
 use Rattle.spec.specs.declared.Params.{Params}
 use Rattle.spec.specs.declared.State.{State}
-use Rattle.spec.specs.Counts.{neverPlace}
-use Rattle.spec.specs.Drives.{Chunk, mkChunk, noChunk, Zone, View, zoneAt, pointerAt, chunkAt, Store, putZone, storeView, zoneOn, sealedIn, dataStored, recordIn, recordAt}
+use Rattle.spec.specs.Drives.{Chunk, mkChunk, noChunk, Zone, View, zoneAt, pointerAt, chunkAt, Store, putZone, storeView, zoneOn, sealedIn, dataStored, recordIn, recordAt, placeRecord}
 use Rattle.spec.specs.Drives.Store.{put}
 use Rattle.spec.specs.Landing.{ready, completes, flightRec, serialAt, heldCand, held, landedCand, landedCands, pointed}
 use Rattle.spec.specs.Layout.{dataDrive, dataPosition, isData, group, compactEntry, headerSerial, Rec, mkRec, recordBytes, recordOf}
@@ -36,6 +35,7 @@ use Rattle.law_basic.specs.Ranges.{Test, test, and-left, and-right, and-both}
 use Rattle.law_basic.specs.Ranges.Test.{yes!, no! }
 use Rattle.law_basic.specs.Segs.{seg-other, segs-differ, Named, zone-on-lt, name-once, zone-same, zone-once, by-seg}
 use Rattle.law_code.specs.Chunks.{rec-here, flight-data, flight-stripe}
+use Rattle.law_views.specs.Looked.{held-none, held-some}
 use Rattle.law_views.specs.Pointers.{index-drive, index-zone}
 use Rattle.law_views.specs.Views.{blocks-long}
 use Rattle.law_drives.specs.Growing.{Grows, grows-used, grows-header, grows-tidy, grows-remaining}
@@ -820,18 +820,9 @@ module _ (p : Params) (r : Ranged p) (v : View) (sh : Shaped p v) (st : State) (
   held-is tb e a ha = go (table-holds p r v tb e a ha)
     where
       go : EntryHolds p v tb a → held p v1 tb a ≡ best none (candsOf a before!)
-      go (holds-none b q) = none! q ∙ sym b
+      go (holds-none b q) = held-none p tb a (placeAt tb a) refl v1 q ∙ sym b
+      go (holds-some c b k t ea q) = held-some p tb a (c .place) q v1 (λ x. let l = spot-low p r v 0 c t in let bad : ⊥ = omega arith in bad) ∙ ap some cand! ∙ sym b
         where
-          none! : placeAt tb a ≡ neverPlace → held p v1 tb a ≡ none
-          none! q = unfold held in cond-true (eqb (placeAt tb a) neverPlace) none (some (heldCand p v1 a (placeAt tb a))) (eq-eqb (placeAt tb a) neverPlace q)
-      go (holds-some c b k t ea q) = some! q (spot-low p r v 0 c t) ∙ ap some (cand!) ∙ sym b
-        where
-          some! : placeAt tb a ≡ c .place → c .place < neverPlace → held p v1 tb a ≡ some (heldCand p v1 a (c .place))
-          some! q l =
-              unfold held in (cond-false (eqb (placeAt tb a) neverPlace) none (some (heldCand p v1 a (placeAt tb a)))
-              (ne-eqb (placeAt tb a) neverPlace (λ x. let bad : ⊥ = omega arith in bad))
-              ∙ ap (λ (x : ℕ). some (heldCand p v1 a x)) q)
-
           ed : placeDrive p (c .place) ≡ c .drive
           ed = spot-drive p r v 0 c t
 
@@ -866,7 +857,7 @@ module _ (p : Params) (r : Ranged p) (v : View) (sh : Shaped p v) (st : State) (
           serial! : headerSerial (headerAt v1 0 (k .of)) ≡ c .serial
           serial! = ap headerSerial (sym (grows-header p r v v1 z chunk-grows (k .of) hk)) ∙ sym (its-serial p r v s0 t0 c k)
 
-          cand! : heldCand p v1 a (c .place) ≡ c
+          cand! : heldCand p v1 a (placeRecord p v1 0 (c .place) .stamp) (c .place) ≡ c
           cand! = unfold heldCand recordAt serialAt in λ j. record {
             address = sym ea j;
             stamp = ((λ l. recordIn p (sealedIn p v1 0 (ez l)) (zoneAt v1 (ed l) (zoneOn (ez l) (ed l))) (eb l) .stamp) ∙ stamp!) j;

@@ -1,27 +1,29 @@
 -- The read calls on the lent bytes: they change nothing, are never refused 9, and give what the drives say. Assumes nothing.
 use mathlib.Core.Path.{_≡_, refl, sym, ap, _∙_, subst}
 use mathlib.Core.List.{List, []}
-use mathlib.Core.Bool.{false, cond}
+use mathlib.Core.Bool.{Bool, false, _&&_}
 use Prim.Native.Nat.{ℕ, _<_}
 use lib.Dec.{eqb, leb·zero}
-use lib.ListN.{length, replicate, length-replicate}
+use lib.ListN.{length}
 use Rattle.spec.specs.declared.Answer.{Answer}
 use Rattle.spec.specs.declared.Answer.the-variants.{Filled}
 use Rattle.spec.specs.declared.Params.{Params}
 use Rattle.spec.specs.Answers.{kind, isRefused, isRefusedAs}
 use Rattle.spec.specs.Calls.{Check, firstRefusal, Plan, mkPlan, Verdict, decided, After, mkAfter, limited, outcome}
 use Rattle.spec.specs.Calls.Verdict.{refused, due}
+use Rattle.spec.specs.Counts.{aStamp}
 use Rattle.spec.specs.Demands.{saidBlock, saidAt}
 use Rattle.spec.specs.Drives.{View, Store, Disk, storeDisk, storeAll}
 use Rattle.spec.specs.Engine.{storeCount, lentBlock, verdict, lentOk, callOn, callDisk}
 use Rattle.spec.specs.Engine.Call.{read, fill}
-use Rattle.spec.specs.History.{mkWorld, seenFilled, seenAt}
-use Rattle.spec.specs.History.Seen.{unwritten, got}
+use Rattle.spec.specs.History.{mkWorld, seenAt}
+use Rattle.spec.specs.History.Seen.{got}
 use Rattle.spec.specs.Lists.{Opt}
-use Rattle.spec.specs.Lists.Opt.{none}
+use Rattle.spec.specs.Lists.Opt.{none, some}
 use Rattle.spec.specs.Memory.{Memory}
+use Rattle.spec.specs.Parity.{Piece}
 use Rattle.spec.specs.Rank.{Cand, best, candsOf}
-use Rattle.spec.specs.Read.{Found, lookup, foundFaults, decodeFaults, readPiece, readAnswer, readVerdict, fillVerdict}
+use Rattle.spec.specs.Read.{Found, foundFaults, decodeFaults, readPiece, readAnswer, readVerdict, fillVerdict, lies, lookup, readChecks, readPlan, fillPlan}
 use Rattle.spec.specs.Read.Found.{nowhere, here, away}
 use Rattle.spec.specs.Segments.{segments, candidates, compactTable, addressTable}
 use Rattle.law_basic.specs.Geometry.{Ranged, ranged}
@@ -31,8 +33,9 @@ use Rattle.law_calls.specs.Refusals.{state-fine}
 use Rattle.law_checks.specs.Checks.{Decided, decide}
 use Rattle.law_checks.specs.Checks.{Mild}
 use Rattle.law_checks.specs.Checks.Decided.{stops, goes}
-use Rattle.law_checks.specs.Passed.{readList, fillList, read-goes, read-mild, fill-goes, fill-mild}
-use Rattle.proof_tables.specs.Base.{Base, FindsAt, lookup-finds, found-clear, said-here, said-away, decodes-clear}
+use Rattle.law_checks.specs.Passed.{ReadPassed, read-mild}
+use Rattle.law_checks.specs.Reads.{pieceIn, seen-never, seen-here, seen-away}
+use Rattle.proof_tables.specs.Base.{Base, FindsAt, found-clear, decodes-clear, lies-found, read-here, read-away, said-read}
 use Rattle.proof_tables.specs.Base.FindsAt.{finds-none, finds-here, finds-away}
 
 -- a call that is decided: refused it leaves all; due, and with no store, it leaves the drives
@@ -55,7 +58,11 @@ module _ (p : Params) (k : Disk) (m : Memory) (b : Base p k m) where
   gone = m .state .missing
 
   abbrev place : ℕ → Found
-  place a = lookup p gone (m .addresses) a
+  place a = lies p gone (m .addresses) a
+
+  -- block and record that both reads find
+  abbrev piece : ℕ → Piece
+  piece a = readPiece p v gone (m .compact) (place a)
 
   abbrev winner : ℕ → Opt Cand
   winner a = best none (candsOf a (candidates p gone (segments p v gone)))
@@ -64,7 +71,7 @@ module _ (p : Params) (k : Disk) (m : Memory) (b : Base p k m) where
   rg = ranged p (b .ranged)
 
   pub winner-found : (a : ℕ) → a < p .L → FindsAt p v gone (winner a) (place a)
-  winner-found a h = subst (λ (x : List ℕ). FindsAt p v gone (winner a) (lookup p gone x a)) (sym (b .addresses-say)) (lookup-finds p rg v gone a h)
+  winner-found a h = subst (λ (x : List ℕ). FindsAt p v gone (winner a) (lies p gone x a)) (sym (b .addresses-say)) (lies-found p rg v gone a h)
 
   found-ok : (a : ℕ) → a < p .L → foundFaults p v gone (place a) ≡ []
   found-ok a h = found-clear p rg v gone (winner a) (place a) (winner-found a h)
@@ -72,70 +79,49 @@ module _ (p : Params) (k : Disk) (m : Memory) (b : Base p k m) where
   decode-ok : (a : ℕ) → a < p .L → decodeFaults p v gone (m .compact) (place a) ≡ []
   decode-ok a h = ap (λ (x : List ℕ). decodeFaults p v gone x (place a)) (b .compact-says) ∙ decodes-clear p rg v gone (winner a) (place a) (b .decodes) (winner-found a h)
 
-  -- ---- the first read
+  both-reads-pass : (a : ℕ) → a < p .L → ReadPassed p (lentOk p k m) v m a
+  both-reads-pass a h = record { in-range = b .ranged; lent = b .lent; address-low = h; state-fine = b .state-ok; place-fine = found-ok a h; decodes = decode-ok a h }
 
-  read-verdict : (a : ℕ) → a < p .L → readVerdict p (lentOk p k m) v m a ≡ due (mkPlan [] (readAnswer p (place a)) m [])
-  unfolding readVerdict decided
-  read-verdict a h =
-      ap (λ (x : Opt Answer). decided x (mkPlan [] (readAnswer p (place a)) m []))
-      (read-goes p (lentOk p k m) v m a (record { in-range = b .ranged; lent = b .lent; address-low = h; state-fine = b .state-ok; place-fine = found-ok a h }))
-
-  pub read-after : (a : ℕ) → a < p .L → callDisk p k m (read a) ≡ mkAfter (readAnswer p (place a)) k m []
-  unfolding callDisk callOn verdict storeCount lentBlock
-  read-after a h = ap (outcome p (storeDisk p) 0 k m []) (read-verdict a h) ∙ left-idle p (storeDisk p) 0 k m m [] [] (readAnswer p (place a))
-
-  -- ---- the second
-
-  fill-verdict : (a : ℕ) (l : List ℕ) → a < p .L → length l ≡ p .B → fillVerdict p (lentOk p k m) v m a l ≡ due (mkPlan [] Filled m (readPiece p v gone (m .compact) (place a) .block))
-  unfolding fillVerdict decided
-  fill-verdict a l h e =
-      ap (λ (x : Opt Answer). decided x (mkPlan [] Filled m (readPiece p v gone (m .compact) (place a) .block)))
-      (fill-goes p (lentOk p k m) v m a l (record {
-        in-range = b .ranged;
-        lent = b .lent;
-        block-long = e;
-        address-low = h;
-        state-fine = b .state-ok;
-        place-fine = found-ok a h;
-        decodes = decode-ok a h;
-      }))
-
-  pub fill-after : (a : ℕ) (l : List ℕ) → a < p .L → length l ≡ p .B → callDisk p k m (fill a l) ≡ mkAfter Filled k m (readPiece p v gone (m .compact) (place a) .block)
-  unfolding callDisk callOn verdict storeCount lentBlock
-  fill-after a l h e = ap (outcome p (storeDisk p) 0 k m l) (fill-verdict a l h e) ∙ left-idle p (storeDisk p) 0 k m m l (readPiece p v gone (m .compact) (place a) .block) Filled
-
-  -- ---- what they give is what the drives say
-
-  run-seen-is : (a : ℕ) → a < p .L → seenAt p (mkWorld k m) a ≡ cond (eqb (kind (readAnswer p (place a))) 9) unwritten (got (readPiece p v gone (m .compact) (place a) .block))
-  unfolding seenAt seenFilled kind
-  run-seen-is a h = rw (read-after a h, fill-after a (replicate (p .B) 0) h (length-replicate (p .B) 0))
+  -- ---- what the two reads give is what the drives say
 
   -- only a block that is found is read
   pub reads-said : (a : ℕ) → a < p .L → seenAt p (mkWorld k m) a ≡ saidAt p v gone a
-  reads-said a h =
-      run-seen-is a h ∙ ap (λ (x : List ℕ). cond (eqb (kind (readAnswer p (place a))) 9) unwritten (got (readPiece p v gone x (place a) .block))) (b .compact-says) ∙ go (winner-found a h)
+  reads-said a h = go (winner-found a h)
     where
       cs : List ℕ
       cs = compactTable p (segments p v gone)
 
-      go :
-          FindsAt p v gone (winner a) (place a)
-          → cond (eqb (kind (readAnswer p (place a))) 9) unwritten (got (readPiece p v gone (compactTable p (segments p v gone)) (place a) .block)) ≡
-          saidAt p v gone a
-      go (finds-none e q) = unfold readAnswer kind saidAt saidBlock in rw (q, e)
-      go (finds-here c e i t x q) = unfold readAnswer kind saidAt in rw (q, e) (sym (said-here p rg v gone c i t x))
-      go (finds-away c e i t x q) = unfold readAnswer kind saidAt in rw (q, e) (sym (said-away p rg v gone c i t (b .decodes (c .drive) x) x))
+      said! : (o : Opt Cand) → winner a ≡ o → saidBlock p v gone o ≡ saidAt p v gone a
+      said! o e = unfold saidAt in ap (saidBlock p v gone) (sym e)
+
+      -- by the table that the drives say
+      shown! : (f : Found) → got (pieceIn p k m f .block) (pieceIn p k m f .rec .stamp) ≡ got (readPiece p v gone cs f .block) (readPiece p v gone cs f .rec .stamp)
+      shown! f = ap (λ (x : List ℕ). got (readPiece p v gone x f .block) (readPiece p v gone x f .rec .stamp)) (b .compact-says)
+
+      go : FindsAt p v gone (winner a) (place a) → seenAt p (mkWorld k m) a ≡ saidAt p v gone a
+      go (finds-none e q) = seen-never p k m a (both-reads-pass a h) q ∙ (unfold saidBlock in said! none e)
+      go (finds-here c e i t x q) =
+          let y = readPiece p v gone cs (here (c .place)) in
+          seen-here p k m a (both-reads-pass a h) (c .place) q ∙ shown! (here (c .place)) ∙ said-read p rg v gone c i t y (read-here p rg v gone c i t cs x) ∙ said! (some c) e
+      go (finds-away c e i t x q) =
+          let y = readPiece p v gone cs (away (c .place)) in
+          seen-away p k m a (both-reads-pass a h) (c .place) q ∙ shown! (away (c .place))
+          ∙ said-read p rg v gone c i t y (read-away p rg v gone c i t (b .decodes (c .drive) x) x) ∙ said! (some c) e
 
   pub run-says : RunSays p k m
   run-says = record { addresses-say = b .addresses-say; compact-says = b .compact-says; reads-say = reads-said }
 
   -- ---- reads of any address
 
-  answer-mild : (f : Found) → isRefusedAs 9 (readAnswer p f) ≡ false
+  answer-mild : (t : ℕ) (f : Found) → isRefusedAs 9 (readAnswer p t f) ≡ false
   unfolding readAnswer isRefusedAs isRefused kind
-  answer-mild nowhere = refl
-  answer-mild (here q) = refl
-  answer-mild (away q) = refl
+  answer-mild t nowhere = refl
+  answer-mild t (here q) = refl
+  answer-mild t (away q) = refl
+
+  -- no check of a read gives 9
+  calls-mild : (long : Bool) (a : ℕ) → Mild (readChecks p long v m a)
+  calls-mild long a = read-mild p long v m a (b .state-ok) (found-ok a) (decode-ok a)
 
   pub record Idle (r : After Disk) : Type 0 where
     pub mild : isRefusedAs 9 (r .answer) ≡ false
@@ -150,39 +136,28 @@ module _ (p : Params) (k : Disk) (m : Memory) (b : Base p k m) where
   idle-due n l l′ a w h e = subst (λ (x : After Disk). Idle x) (sym (ap (outcome p (storeDisk p) n k m l) e ∙ left-idle p (storeDisk p) n k m m l l′ a))
       (record { mild = h; same-drives = refl; same-memory = refl })
 
+  idle-decided : (l l′ : List ℕ) (x : Answer) (cs : List Check) (q : Plan) → Mild cs → isRefusedAs 9 x ≡ false → q ≡ mkPlan [] x m l′
+      → Idle (outcome p (storeDisk p) 0 k m l (decided (firstRefusal cs) q))
+  idle-decided l l′ x cs q cl h e = go (decide cs q)
+    where
+      go : Decided cs q (decided (firstRefusal cs) q) → Idle (outcome p (storeDisk p) 0 k m l (decided (firstRefusal cs) q))
+      go (stops y f w) = idle-refused 0 l y (decided (firstRefusal cs) q) (cl y f) w
+      go (goes f w) = idle-due 0 l l′ x (decided (firstRefusal cs) q) h (w ∙ ap due e)
+
+  first-plan : (a : ℕ) → readPlan p v m a ≡ mkPlan [] (readAnswer p (piece a .rec .stamp) (place a)) m []
+  unfolding readPlan lookup
+  first-plan a = refl
+
+  second-plan : (a : ℕ) → fillPlan p v m a ≡ mkPlan [] (Filled (aStamp (piece a .rec .stamp))) m (piece a .block)
+  unfolding fillPlan lookup
+  second-plan a = refl
+
   pub read-idle : (a : ℕ) → Idle (callDisk p k m (read a))
   unfolding callDisk callOn verdict storeCount lentBlock readVerdict
-  read-idle a = go (decide cs q)
-    where
-      cs : List Check
-      cs = readList p (lentOk p k m) v m a
-
-      q : Plan
-      q = mkPlan [] (readAnswer p (place a)) m []
-
-      cl : Mild cs
-      cl = read-mild p (lentOk p k m) v m a (b .state-ok) (found-ok a)
-
-      go : Decided cs q (decided (firstRefusal cs) q) → Idle (outcome p (storeDisk p) 0 k m [] (decided (firstRefusal cs) q))
-      go (stops x e w) = idle-refused 0 [] x (decided (firstRefusal cs) q) (cl x e) w
-      go (goes e w) = idle-due 0 [] [] (readAnswer p (place a)) (decided (firstRefusal cs) q) (answer-mild (place a)) w
+  read-idle a = idle-decided [] [] (readAnswer p (piece a .rec .stamp) (place a)) (readChecks p (lentOk p k m) v m a) (readPlan p v m a) (calls-mild (lentOk p k m) a)
+      (answer-mild (piece a .rec .stamp) (place a)) (first-plan a)
 
   pub fill-idle : (a : ℕ) (l : List ℕ) → Idle (callDisk p k m (fill a l))
   unfolding callDisk callOn verdict storeCount lentBlock fillVerdict
-  fill-idle a l = go (decide cs q)
-    where
-      cs : List Check
-      cs = fillList p (lentOk p k m) v m a l
-
-      q : Plan
-      q = mkPlan [] Filled m (readPiece p v gone (m .compact) (place a) .block)
-
-      cl : Mild cs
-      cl = fill-mild p (lentOk p k m) v m a l (b .state-ok) (found-ok a) (decode-ok a)
-
-      mild-filled : isRefusedAs 9 Filled ≡ false
-      mild-filled = unfold isRefusedAs isRefused kind in refl
-
-      go : Decided cs q (decided (firstRefusal cs) q) → Idle (outcome p (storeDisk p) 0 k m l (decided (firstRefusal cs) q))
-      go (stops x e w) = idle-refused 0 l x (decided (firstRefusal cs) q) (cl x e) w
-      go (goes e w) = idle-due 0 l (readPiece p v gone (m .compact) (place a) .block) Filled (decided (firstRefusal cs) q) mild-filled w
+  fill-idle a l = idle-decided l (piece a .block) (Filled (aStamp (piece a .rec .stamp))) (readChecks p (lentOk p k m && eqb (length l) (p .B)) v m a) (fillPlan p v m a)
+      (calls-mild (lentOk p k m && eqb (length l) (p .B)) a) (unfold isRefusedAs isRefused kind in refl) (second-plan a)

@@ -20,16 +20,18 @@ use Rattle.spec.specs.Segments.{segmentOf, segments, pieceOf, candidates
 -- ---- demand 3
 
 abbrev pub sendAt : List Send → ℕ → Send
-sendAt ss i = getD ss i (mkSend 0 [] 0 false false)
+sendAt ss i = getD ss i (mkSend 0 0 [] 0 false false)
 
 -- nothing is acknowledged at address a from the send with index i on
 abbrev pub NoneAckedFrom : List Send → ℕ → ℕ → Type 0
 NoneAckedFrom ss a i = (j : ℕ) → i ≤ j → j < length ss → sendAt ss j .address ≡ a → sendAt ss j .acked ≡ false
 
--- "a block sent there before it, no earlier than the latest-sent acknowledged one, or, only where none was acknowledged, 'never written'"
+-- "a block sent there before it, no earlier than the latest-sent acknowledged one, or, only where none was acknowledged, 'never written'"; 02, item 2:
+-- "with the block, the stamp with which it was sent"
 abbrev pub ReadOk : List Send → ℕ → Seen → Type 0
 ReadOk ss a unwritten = NoneAckedFrom ss a 0
-ReadOk ss a (got b) = (i : ℕ) × (i < length ss) × (sendAt ss i .address ≡ a) × (sendAt ss i .block ≡ b) × NoneAckedFrom ss a (suc i)
+ReadOk ss a (got b t) =
+    (i : ℕ) × (i < length ss) × (sendAt ss i .address ≡ a) × (sendAt ss i .block ≡ b) × (sendAt ss i .stamp ≡ t) × NoneAckedFrom ss a (suc i)
 ReadOk ss a failed = ⊥
 
 -- "and it reads as the finished restart before it did if no block was sent between"
@@ -74,13 +76,13 @@ Demand3Values = (p : Params) → inRange p ≡ true → (k : Disk) → emptyDisk
 unfoldable pub areBytes : List ℕ → Bool
 areBytes l = all (λ b. ltb b 256) l
 
--- the block of a record that counts: stored, or decoded from the present drives
+-- the block of a record that counts: stored, or decoded from the present drives; 02, item 2: and its stamp
 unfoldable pub saidBlock : Params → View → ℕ → Opt Cand → Seen
 saidBlock p v gone none = unwritten
 saidBlock p v gone (some c) =
     let g = placeSegment p (c .place) in
     let s = cond (isIn gone (c .drive)) (c .offset) (recordAt p v gone (c .drive) g (c .offset) .stripe) in
-    got (pieceOf p gone (segmentOf p v gone g) s (c .drive) .block)
+    got (pieceOf p gone (segmentOf p v gone g) s (c .drive) .block) (c .stamp)
 
 -- "from those bytes alone, a read gives the latest-sent block among whole stripes": the record that holds among those of counted stripes
 unfoldable pub saidAt : Params → View → ℕ → ℕ → Seen

@@ -8,7 +8,7 @@ use Rattle.spec.specs.declared.Params.{Params}
 use Rattle.spec.specs.Bytes.{beOf, toBe, part, splice}
 use Rattle.spec.specs.Layout.{headerBlock, Rec, recordOf, footerBlock, footerRecord}
 use Rattle.spec.specs.Lists.{upFrom, below, all, keep, pieces, zipped}
-use Rattle.spec.specs.Params.{spareLen, capacity, unitLen, zoneLen, driveLen, placeOf, placeZone, placeByte, drivesOf, present}
+use Rattle.spec.specs.Params.{spareLen, capacity, unitLen, zoneLen, driveLen, placeOf, placeBlock, placeZone, placeDrive, placeByte, drivesOf, present}
 
 -- a block with its spare
 pub record Chunk : Type 0 where
@@ -187,6 +187,10 @@ recordIn p false q o = recordOf (getD (q .blocks) (1 + o) noChunk .spare)
 -- record at a data offset of drive d, segment g
 unfoldable pub recordAt : Params → View → ℕ → ℕ → Seg → ℕ → Rec
 recordAt p v gone d g o = recordIn p (sealedIn p v gone g) (zoneAt v d (zoneOn g d)) o
+
+-- 01, Restart, 3: the record at a place of a present drive
+abbrev pub placeRecord : Params → View → ℕ → ℕ → Rec
+placeRecord p v gone q = recordAt p v gone (placeDrive p q) (placeSegment p q) (placeBlock p q - 1)
 
 -- 01, What a zone holds: the zone's footer blocks from number i on, n of them, made from its spares
 unfoldable pub footersOf : Params → Zone → ℕ → ℕ → List (List ℕ)

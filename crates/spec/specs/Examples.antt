@@ -1,27 +1,25 @@
 -- M1 to M8 as one statement of the definitions (01, The small box). Assumes nothing.
 use mathlib.Core.Path.{_≡_, refl}
 use mathlib.Core.List.{List, [], _∷_, map}
-use mathlib.Core.Bool.{true, false, cond}
-use Prim.Native.Nat.{ℕ, _-_}
-use lib.Dec.{eqb}
+use mathlib.Core.Bool.{true, false}
+use Prim.Native.Nat.{ℕ}
 use lib.ListN.{replicate}
 use lib.Count.{ones, onesIn}
 use Rattle.spec.specs.declared.Params.{Params}
 use Rattle.spec.specs.declared.Answer.the-variants.{Refused, Cut}
-use Rattle.spec.specs.Answers.{kind, values, isRefused, isRefusedAs, isCut, finished}
+use Rattle.spec.specs.Answers.{kind, values, stampTold, isRefused, isRefusedAs, isCut, finished}
 use Rattle.spec.specs.Bytes.{beFrom, beOf, toBe, leOf, toLe, part, splice, xors, parity, xorAll, bytesOf, widthsOf, fieldAt, readField}
 use Rattle.spec.specs.Calls.{ninth, ruled, firstRefusal, decided, cutMemory, limited, outcome}
 use Rattle.spec.specs.Closing.{padded, closeChecks, closePlan, closeVerdict}
-use Rattle.spec.specs.Counts.{neverPlace}
 use Rattle.spec.specs.Drives.{noChunk, noZone, stored, View, zoneAt, pointerAt, chunkAt, chunkOf, zoneOf, driveOf, viewOf, putZone, resetZone, setZone, Seg, seg, sameSeg}
 use Rattle.spec.specs.Drives.{storeView, pointerByte, pointerOf, setPointer, storeDisk, storeAll, allSegs, zoneOn, placeSegment, emptyOnAll}
 use Rattle.spec.specs.Drives.{emptySegs, sealedIn, dataStored, blocksOf, sparesOf, recordIn, recordAt, footersOf, zeroSpare, headerStores, footerStores}
 use Rattle.spec.specs.Drives.{resetStores}
 use Rattle.spec.specs.Engine.{Call, storeCount, lentBlock, verdict, lentOk, callOn, callDisk, Lent, Left, lentDisk, lentMemory, lentAll, leftBy, callBytes}
-use Rattle.spec.specs.Engine.Call.{write, land, fill, restart}
+use Rattle.spec.specs.Engine.Call.{write, land, read, fill, restart}
 use Rattle.spec.specs.Faults.{pointerFaults, sameChunk, headerFault, serialFault, outside, twice, stripeFault, badRec, storedBad, decodedBad}
 use Rattle.spec.specs.Faults.{addressFault, footersStored, sameBlocks, footerFaultIn, footerFault, clashes, segmentFault, segmentFaults, imageChecks}
-use Rattle.spec.specs.Landing.{slotOf, ready, waiting, completes, seals, flightRec, misplaced, overfull, entryFaults, landFaults, serialAt, heldCand}
+use Rattle.spec.specs.Landing.{slotOf, ready, waiting, completes, seals, flightRec, misplaced, overfull, entryFaults, landFaults, serialAt, heldCand, heldBy}
 use Rattle.spec.specs.Landing.{held, landedCand, landedCands, pointed, landChecks, sealStores, writesIn, landStore, landPlan, landVerdict}
 use Rattle.spec.specs.Layout.{parityDrive, dataDrive, dataPosition, isData, parityPosition, dataDrives, group, inGroupOf, groupOffsets, compactEntry, headerVersion}
 use Rattle.spec.specs.Layout.{headerTable, headerWidths, headerLen, headerFields, headerBlock, headerSerial, headerCopied, mkRec, recordFields, recordBytes}
@@ -38,7 +36,7 @@ use Rattle.spec.specs.Params.{capacity, unitLen, zoneLen, driveLen, imag
 use Rattle.spec.specs.Params.{placeDrive, placeByte, noDrive, named, drivesOf, present, absent}
 use Rattle.spec.specs.Parity.{parityRec, parityPiece, encodeBlock, encodeRec, encodePiece, decodeBlock, decodeRec, decodePiece}
 use Rattle.spec.specs.Rank.{beats, better, best, placeOr, candsOf}
-use Rattle.spec.specs.Read.{placeFaults, lookup, foundFaults, shown, decodeFaults, storedAt, decodedAt, readPiece, readAnswer, readChecks, readVerdict, fillVerdict}
+use Rattle.spec.specs.Read.{placeFaults, lies, lookup, foundFaults, shown, decodeFaults, storedAt, decodedAt, readPiece, readAnswer, readChecks, readPlan, readVerdict, fillPlan, fillVerdict}
 use Rattle.spec.specs.Rebuild.{namesMissing, rebuildChecks, rebuiltZone, rebuildStores, rebuildVerdict}
 use Rattle.spec.specs.Reclaim.{placesIn, tableFaults, segmentPlaces, liveIn, flying, victimOf, fewer, fewest, victim, isNone, victimSegment, victimLive}
 use Rattle.spec.specs.Reclaim.{idle, reclaimChecks, clearedRow, cleared, resetPlan, copyPlan, reclaimVerdict}
@@ -77,20 +75,19 @@ fresh p = record { answer = Cut; lent = emptyLent p; block = [] }
 unfoldable pub viewAfter : Params → Left → View
 viewAfter p r = viewOf p (r .lent .image) (r .lent .pointers)
 
--- the stamp of the record that a read of address a finds; 0 if never written
-unfoldable pub stampAt : Params → Left → ℕ → ℕ
-stampAt p r a =
-    let q = placeAt (r .lent .addresses) a in
-    let t = recordAt p (viewAfter p r) (stateOf (r .lent .state) .missing) (placeDrive p q) (placeSegment p q) (placeBlock p q - 1) .stamp in
-    cond (eqb q neverPlace) 0 t
-
 -- a block of one byte over and over
 unfoldable pub blockOf : ℕ → List ℕ
 blockOf b = replicate 64 b
 
--- M7: the stamp that a read of address a finds, and the block that the second read fills
+-- M7: the stamp that the first read of address a passes on
+unfoldable pub stampAt : Params → Left → ℕ → ℕ
+stampAt p r a = stampTold (callBytes p (r .lent) (read a) .answer)
+
+-- M7: the stamp that the second read passes on, and the block that it fills
 unfoldable pub stampAndBlock : Params → Left → ℕ → List ℕ
-stampAndBlock p r a = stampAt p r a ∷ callBytes p (r .lent) (fill a (blockOf 0)) .block
+stampAndBlock p r a =
+    let x = callBytes p (r .lent) (fill a (blockOf 0)) in
+    stampTold (x .answer) ∷ x .block
 
 -- M7: address 0 in stripe 0 with stamp 1 and in stripe 1 with stamp 3; stripe 1 completes first
 unfoldable pub m7First : List Call
@@ -126,14 +123,14 @@ pub record Examples : Type 0 where
   pub m8 : countedBoth small (runs small (fresh small) m8Calls) 2 (seg 0) ≡ [] ∷ (0 ∷ []) ∷ []
 
 pub examples-hold : Examples
-unfolding ones onesIn kind values isRefused isRefusedAs isCut finished beFrom beOf toBe leOf toLe part splice xors parity xorAll bytesOf widthsOf
+unfolding ones onesIn kind values stampTold isRefused isRefusedAs isCut finished beFrom beOf toBe leOf toLe part splice xors parity xorAll bytesOf widthsOf
     fieldAt readField ninth ruled firstRefusal decided cutMemory limited outcome padded closeChecks closePlan closeVerdict noChunk noZone stored
     zoneAt pointerAt chunkAt chunkOf zoneOf driveOf viewOf putZone resetZone setZone storeView pointerByte pointerOf setPointer storeDisk storeAll
     sameSeg allSegs zoneOn placeSegment emptyOnAll emptySegs sealedIn dataStored blocksOf sparesOf recordIn recordAt footersOf zeroSpare headerStores
     footerStores resetStores storeCount lentBlock verdict lentOk callOn callDisk lentDisk lentMemory lentAll leftBy callBytes pointerFaults sameChunk
     headerFault serialFault outside twice stripeFault badRec storedBad decodedBad addressFault footersStored sameBlocks footerFaultIn footerFault
     clashes segmentFault segmentFaults imageChecks slotOf ready waiting completes seals flightRec misplaced overfull entryFaults landFaults serialAt
-    heldCand held landedCand landedCands pointed landChecks sealStores writesIn landStore landPlan landVerdict parityDrive dataDrive dataPosition
+    heldCand heldBy held landedCand landedCands pointed landChecks sealStores writesIn landStore landPlan landVerdict parityDrive dataDrive dataPosition
     isData parityPosition dataDrives group inGroupOf groupOffsets compactEntry headerVersion headerTable headerWidths headerLen headerFields
     headerBlock headerSerial headerCopied recordFields recordBytes recordOf footerBlock footerRecord upFrom below all any isMember consIf keep tally
     isNil sucUnless indexOf flat total greatest least firstOr sameList padTo pieces zipped powers only isIn slotCount slots cell idleState zeroState
@@ -143,7 +140,8 @@ unfolding ones onesIn kind values isRefused isRefusedAs isCut finished beFrom be
     setSlotBlock setSlotParity between blockSizes parityCount dataCount mostAddresses inRange recordTable recordWidths spareLen perFooter footers
     capacity unitLen zoneLen driveLen imageLen pointersLen addressesLen compactLen inflightLen placeOf placeBlock placeZone placeDrive placeByte
     noDrive named drivesOf present absent parityRec parityPiece encodeBlock encodeRec encodePiece decodeBlock decodeRec decodePiece beats better best
-    placeOr candsOf placeFaults lookup foundFaults shown decodeFaults storedAt decodedAt readPiece readAnswer readChecks readVerdict fillVerdict
+    placeOr candsOf placeFaults lies lookup foundFaults shown decodeFaults storedAt decodedAt readPiece readAnswer readChecks readPlan
+    readVerdict fillPlan fillVerdict
     namesMissing rebuildChecks rebuiltZone rebuildStores rebuildVerdict placesIn tableFaults segmentPlaces liveIn flying victimOf fewer fewest victim
     isNone victimSegment victimLive idle reclaimChecks clearedRow cleared resetPlan copyPlan reclaimVerdict freeSegs isWhole isRagged missingFooters
     renumbered movedPieces movedOn movedStripe movedStripes rewriteStores dropStores mendStores restartStores openOf nextOf restartMemory uncountedIn

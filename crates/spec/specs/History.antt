@@ -6,7 +6,7 @@ use lib.Dec.{ltb, eqb}
 use lib.ListN.{length, getD, replicate}
 use Rattle.spec.specs.declared.Params.{Params}
 use Rattle.spec.specs.declared.Answer.{Answer}
-use Rattle.spec.specs.Answers.{kind, values, isRefused, isRefusedAs, isCut, finished}
+use Rattle.spec.specs.Answers.{kind, values, stampTold, isRefused, isRefusedAs, isCut, finished}
 use Rattle.spec.specs.Bytes.{splice}
 use Rattle.spec.specs.Calls.{After}
 use Rattle.spec.specs.Drives.{Disk, mkDisk, pointerByte}
@@ -92,29 +92,30 @@ worldAfter p w (boots d n m im ps) r = cond (inOrder p (mkWorld (w .disk) m) d) 
 
 -- ---- what was sent
 
--- 01, How tightly, 4: a write that answers with a stamp sends its block
+-- 01, How tightly, 4: a write that answers with a stamp sends its block; 02, item 2: with that stamp
 -- waits: its run goes on and its stripe isn't complete; acked: acknowledged
 pub record Send : Type 0 where
   pub address : ℕ
+  pub stamp : ℕ
   pub block : List ℕ
   pub stripe : ℕ
   pub waits : Bool
   pub acked : Bool
 
-abbrev pub mkSend : ℕ → List ℕ → ℕ → Bool → Bool → Send
-mkSend a b s w k = record { address = a; block = b; stripe = s; waits = w; acked = k }
+abbrev pub mkSend : ℕ → ℕ → List ℕ → ℕ → Bool → Bool → Send
+mkSend a t b s w k = record { address = a; stamp = t; block = b; stripe = s; waits = w; acked = k }
 
 -- 01, Landing: the stripe is complete, its writes are acknowledged
 unfoldable pub acknowledge : ℕ → Send → Send
-acknowledge s x = cond (x .waits && eqb (x .stripe) s) (mkSend (x .address) (x .block) (x .stripe) false true) x
+acknowledge s x = cond (x .waits && eqb (x .stripe) s) (mkSend (x .address) (x .stamp) (x .block) (x .stripe) false true) x
 
 -- 01, Store count: the run is over: what waits is never acknowledged
 unfoldable pub forget : Send → Send
-forget x = mkSend (x .address) (x .block) (x .stripe) false (x .acked)
+forget x = mkSend (x .address) (x .stamp) (x .block) (x .stripe) false (x .acked)
 
 -- a write's block is sent where the answer is a stamp
 unfoldable pub sentBy : Call → Answer → List Send
-sentBy (write a b n) r = consIf (eqb (kind r) 3) (mkSend a b (getD (values r) 1 0) true false) []
+sentBy (write a b n) r = consIf (eqb (kind r) 3) (mkSend a (getD (values r) 0 0) b (getD (values r) 1 0) true false) []
 sentBy (land d s n) r = []
 sentBy (close n) r = []
 sentBy (reclaim n) r = []
@@ -212,18 +213,22 @@ allowed p h e = not (isRefusedAs 6 (happens p (h .world) e .answer)) && namesAll
 
 -- ---- what a finished restart reads
 
--- 01, How tightly, 4: what an address reads
+-- 01, How tightly, 4: what an address reads: never written, or a block; 02, item 2: and its stamp
 pub data Seen : Type 0 where
   unwritten : Seen
-  got : List ℕ → Seen
+  got : List ℕ → ℕ → Seen
   failed : Seen
 
--- 01, How tightly, 4: the block that the second read fills
-unfoldable pub seenFilled : After Disk → Seen
-seenFilled r = cond (eqb (kind (r .answer)) 11) (got (r .block)) failed
+-- 01, How tightly, 4: "never written" where the first read call says so (r), else the block that the second fills (s, b); 02, item 2: with the stamp,
+-- which both pass on: neither is refused, and they tell the same
+unfoldable pub seenBy : Answer → Answer → List ℕ → Seen
+seenBy r s b =
+    let x = cond (eqb (kind s) 11) (got b (stampTold s)) failed in
+    let y = cond (eqb (kind r) 9) unwritten x in
+    cond (not (isRefused r) && eqb (stampTold r) (stampTold s)) y failed
 
--- 01, How tightly, 4: "never written" where the first read call says so, else the block that the second fills
+-- 01, How tightly, 4: what the two reads give
 unfoldable pub seenAt : Params → World → ℕ → Seen
 seenAt p w a =
-    let x = seenFilled (callDisk p (w .disk) (w .memory) (fill a (replicate (p .B) 0))) in
-    cond (eqb (kind (callDisk p (w .disk) (w .memory) (read a) .answer)) 9) unwritten x
+    let s = callDisk p (w .disk) (w .memory) (fill a (replicate (p .B) 0)) in
+    seenBy (callDisk p (w .disk) (w .memory) (read a) .answer) (s .answer) (s .block)

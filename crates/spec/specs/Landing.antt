@@ -11,7 +11,7 @@ use Rattle.spec.specs.declared.Answer.the-variants.{Landed}
 use Rattle.spec.specs.Calls.{Check, firstRefusal, Plan, mkPlan, Verdict, decided}
 use Rattle.spec.specs.Calls.Check.{rule, zones}
 use Rattle.spec.specs.Counts.{neverPlace}
-use Rattle.spec.specs.Drives.{View, zoneAt, pointerAt, chunkAt, Store, storeView, zoneOn, placeSegment, recordAt, footerStores, Seg}
+use Rattle.spec.specs.Drives.{View, zoneAt, pointerAt, chunkAt, Store, storeView, zoneOn, placeSegment, footerStores, Seg}
 use Rattle.spec.specs.Drives.Store.{put}
 use Rattle.spec.specs.Layout.{dataDrive, dataPosition, isData, parityPosition, group, compactEntry, headerSerial, Rec, recordBytes}
 use Rattle.spec.specs.Lists.{Opt, below, any, consIf, tally, indexOf, flat, isIn}
@@ -22,7 +22,8 @@ use Rattle.spec.specs.Memory.{slotBlock}
 use Rattle.spec.specs.Params.{between, inRange, footers, capacity, placeOf, placeBlock, placeDrive, drivesOf}
 use Rattle.spec.specs.Parity.{encodeRec}
 use Rattle.spec.specs.Rank.{Cand, best, placeOr, candsOf}
-use Rattle.spec.specs.Read.{placeFaults}
+use Rattle.spec.specs.Read.{Found, placeFaults, lookup}
+use Rattle.spec.specs.Read.Found.{nowhere, here, away}
 
 -- 01, Landing: the eighth of a stripe in flight; 8 if it isn't
 unfoldable pub slotOf : State → ℕ → ℕ
@@ -88,20 +89,23 @@ landFaults p v m d s =
 unfoldable pub serialAt : View → Seg → ℕ
 serialAt v g = headerSerial (chunkAt v 0 (zoneOn g 0) 0 .block)
 
--- 01, The calls: the record that the table holds of an address
-unfoldable pub heldCand : Params → View → ℕ → ℕ → Cand
-heldCand p v a q =
-    let d = placeDrive p q in
+-- 01, The calls: the record of stamp t that the table holds of an address at place q
+unfoldable pub heldCand : Params → View → ℕ → ℕ → ℕ → Cand
+heldCand p v a t q =
     let g = placeSegment p q in
-    let o = placeBlock p q - 1 in
-    record { address = a; stamp = recordAt p v 0 d g o .stamp; serial = serialAt v g; drive = d; offset = o; place = q }
+    record { address = a; stamp = t; serial = serialAt v g; drive = placeDrive p q; offset = placeBlock p q - 1; place = q }
 
 -- 01, The calls: none where the address was never written
+unfoldable pub heldBy : Params → View → ℕ → ℕ → Found → Opt Cand
+heldBy p v a t nowhere = none
+heldBy p v a t (here q) = some (heldCand p v a t q)
+heldBy p v a t (away q) = some (heldCand p v a t q)
+
+-- 01, The calls: what the lookup gives of an address (02, item 2); no drive is missing, so nothing is decoded
 unfoldable pub held : Params → View → List ℕ → ℕ → Opt Cand
 held p v tb a =
-    let q = placeAt tb a in
-    let c = some (heldCand p v a q) in
-    cond (eqb q neverPlace) none c
+    let l = lookup p v 0 [] tb a in
+    heldBy p v a (l .stamp) (l .found)
 
 -- the completed stripe's records, by data position
 unfoldable pub landedCand : Params → View → Seg → State → ℕ → ℕ → Cand

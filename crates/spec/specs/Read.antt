@@ -7,9 +7,9 @@ use lib.ListN.{length, replicate}
 use Rattle.spec.specs.declared.Params.{Params}
 use Rattle.spec.specs.declared.Answer.{Answer}
 use Rattle.spec.specs.declared.Answer.the-variants.{Part, Never, Lost, Filled}
-use Rattle.spec.specs.Calls.{Check, firstRefusal, mkPlan, Verdict, decided}
+use Rattle.spec.specs.Calls.{Check, firstRefusal, Plan, mkPlan, Verdict, decided}
 use Rattle.spec.specs.Calls.Check.{rule, zones}
-use Rattle.spec.specs.Counts.{neverPlace}
+use Rattle.spec.specs.Counts.{neverPlace, aStamp}
 use Rattle.spec.specs.Drives.{View, pointerAt, chunkAt, recordAt, Seg, zoneOn, placeSegment}
 use Rattle.spec.specs.Layout.{mkRec}
 use Rattle.spec.specs.Lists.{any, consIf, isNil, firstOr, isIn}
@@ -33,8 +33,8 @@ pub data Found : Type 0 where
   away : ℕ → Found
 
 -- 01, Read: where the table says that it lies
-unfoldable pub lookup : Params → ℕ → List ℕ → ℕ → Found
-lookup p gone tb a =
+unfoldable pub lies : Params → ℕ → List ℕ → ℕ → Found
+lies p gone tb a =
     let q = placeAt tb a in
     let r = cond (isIn gone (placeDrive p q)) (away q) (here q) in
     cond (eqb q neverPlace) nowhere r
@@ -63,38 +63,56 @@ storedAt p v gone d g o = mkPiece (chunkAt v d (zoneOn g d) (1 + o) .block) (rec
 unfoldable pub decodedAt : Params → View → ℕ → List ℕ → ℕ → Seg → ℕ → Piece
 decodedAt p v gone cs d g s = decodePiece p gone s d (λ e. storedAt p v gone e g (firstOr 0 (shownAt p v cs e (zoneOn g e) s)))
 
--- 01, Read: the block, with its record, that an address reads: zeros if never written (02, item 2, takes the stamp from here)
+-- 01, Read: the block, with its record, that an address reads: zeros if never written
 unfoldable pub readPiece : Params → View → ℕ → List ℕ → Found → Piece
 readPiece p v gone cs nowhere = mkPiece (replicate (p .B) 0) (mkRec 0 0 0)
 readPiece p v gone cs (here q) = storedAt p v gone (placeDrive p q) (placeSegment p q) (placeBlock p q - 1)
 readPiece p v gone cs (away q) = decodedAt p v gone cs (placeDrive p q) (placeSegment p q) (placeBlock p q - 1)
 
--- 01, Read: the part of the image, never written, or on the missing drive
-unfoldable pub readAnswer : Params → Found → Answer
-readAnswer p nowhere = Never
-readAnswer p (here q) = Part (placeByte p q)
-readAnswer p (away q) = Lost
+-- 02, item 2: what the lookup of an address gives: where it lies, and the stamp of its record
+pub record Lookup : Type 0 where
+  pub found : Found
+  pub stamp : ℕ
 
--- 01, Refusals: the checks of both reads, up to 9
-unfoldable pub readChecks : Params → Bool → ℕ → List Check
-readChecks p long a = rule 1 (not (inRange p)) ∷ rule 2 (not long) ∷ rule 4 (leb (p .L) a) ∷ []
+-- 02, item 2: the stamp by footer or spare, as in restart; on the missing drive decoded; 0 if never written
+unfoldable pub lookup : Params → View → ℕ → List ℕ → List ℕ → ℕ → Lookup
+lookup p v gone cs tb a =
+    let f = lies p gone tb a in
+    record { found = f; stamp = readPiece p v gone cs f .rec .stamp }
+
+-- 01, Read: the part of the image, never written, or on the missing drive; 02, item 2: with the stamp
+unfoldable pub readAnswer : Params → ℕ → Found → Answer
+readAnswer p t nowhere = Never
+readAnswer p t (here q) = Part (placeByte p q) (aStamp t)
+readAnswer p t (away q) = Lost (aStamp t)
+
+-- 01, Refusals: the checks of both reads; 02, item 2: the first one's stamp needs the decode too
+unfoldable pub readChecks : Params → Bool → View → Memory → ℕ → List Check
+readChecks p long v m a =
+    let st = m .state in
+    let gone = st .missing in
+    let f = lies p gone (m .addresses) a in
+    rule 1 (not (inRange p)) ∷ rule 2 (not long) ∷ rule 4 (leb (p .L) a)
+    ∷ zones (stateFaults p st ++ foundFaults p v gone f) ∷ zones (decodeFaults p v gone (m .compact) f) ∷ []
+
+-- 01, Read: what the first call gives
+unfoldable pub readPlan : Params → View → Memory → ℕ → Plan
+readPlan p v m a =
+    let l = lookup p v (m .state .missing) (m .compact) (m .addresses) a in
+    mkPlan [] (readAnswer p (l .stamp) (l .found)) m []
 
 -- 01, Read: the first call
 unfoldable pub readVerdict : Params → Bool → View → Memory → ℕ → Verdict
-readVerdict p long v m a =
-    let st = m .state in
-    let gone = st .missing in
-    let f = lookup p gone (m .addresses) a in
-    decided (firstRefusal (readChecks p long a ++ (zones (stateFaults p st ++ foundFaults p v gone f) ∷ []))) (mkPlan [] (readAnswer p f) m [])
+readVerdict p long v m a = decided (firstRefusal (readChecks p long v m a)) (readPlan p v m a)
+
+-- 01, Read: what the second call gives
+unfoldable pub fillPlan : Params → View → Memory → ℕ → Plan
+fillPlan p v m a =
+    let gone = m .state .missing in
+    let cs = m .compact in
+    let l = lookup p v gone cs (m .addresses) a in
+    mkPlan [] (Filled (aStamp (l .stamp))) m (readPiece p v gone cs (l .found) .block)
 
 -- 01, Read: the second call, on a lent block
 unfoldable pub fillVerdict : Params → Bool → View → Memory → ℕ → List ℕ → Verdict
-fillVerdict p long v m a b =
-    let st = m .state in
-    let gone = st .missing in
-    let cs = m .compact in
-    let f = lookup p gone (m .addresses) a in
-    let ok = firstRefusal (readChecks p (long && eqb (length b) (p .B)) a
-    ++ (zones (stateFaults p st ++ foundFaults p v gone f) ∷ zones (decodeFaults p v gone cs f) ∷ [])) in
-    let q = mkPlan [] Filled m (readPiece p v gone cs f .block) in
-    decided ok q
+fillVerdict p long v m a b = decided (firstRefusal (readChecks p (long && eqb (length b) (p .B)) v m a)) (fillPlan p v m a)

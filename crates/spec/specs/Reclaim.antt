@@ -1,7 +1,7 @@
 -- Reclaim (01, Reclaim). Assumes nothing.
 use mathlib.Core.List.{List, [], _∷_, _++_, map}
 use mathlib.Core.Bool.{Bool, true, false, cond, not, _&&_, _||_}
-use Prim.Native.Nat.{ℕ, _-_}
+use Prim.Native.Nat.{ℕ}
 use lib.Dec.{leb, ltb, eqb}
 use lib.ListN.{length, replicate}
 use Rattle.spec.specs.declared.Params.{Params}
@@ -11,7 +11,7 @@ use Rattle.spec.specs.Bytes.{splice}
 use Rattle.spec.specs.Calls.{Check, firstRefusal, Plan, mkPlan, Verdict, decided}
 use Rattle.spec.specs.Calls.Check.{rule, zones}
 use Rattle.spec.specs.Counts.{neverPlace, aStamp}
-use Rattle.spec.specs.Drives.{View, chunkAt, allSegs, zoneOn, placeSegment, sealedIn, recordAt, resetStores, Seg, seg}
+use Rattle.spec.specs.Drives.{View, chunkAt, allSegs, zoneOn, sealedIn, placeRecord, resetStores, Seg, seg}
 use Rattle.spec.specs.Lists.{Opt, below, any, isMember, consIf, keep, isNil, flat, firstOr}
 use Rattle.spec.specs.Lists.Opt.{none, some}
 use Rattle.spec.specs.Memory.{Memory, mkMemory, holds, stateFaults, placeAt, compactAt}
@@ -39,7 +39,7 @@ liveIn p qs g = keep (λ q. isMember q qs) (segmentPlaces p g)
 -- 01, Reclaim: a live block is in flight while a stripe in flight holds its address with its stamp
 unfoldable pub flying : Params → View → State → ℕ → Bool
 flying p v st q =
-    let r = recordAt p v 0 (placeDrive p q) (placeSegment p q) (placeBlock p q - 1) in
+    let r = placeRecord p v 0 q in
     let w = holds st (r .address) (r .stamp) in
     between 1 (p .S) (placeBlock p q) && w
 
@@ -119,10 +119,8 @@ resetPlan p m g =
 -- 01, Reclaim: otherwise the first live block not in flight goes into the filling stripe with its old stamp
 unfoldable pub copyPlan : Params → View → Memory → ℕ → Plan
 copyPlan p v m q =
-    let d = placeDrive p q in
-    let g = placeSegment p q in
-    let r = recordAt p v 0 d g (placeBlock p q - 1) in
-    let w = sending p v (m .state) (m .inflight) (r .address) (r .stamp) 0 (chunkAt v d (placeZone p q) (placeBlock p q) .block) in
+    let r = placeRecord p v 0 q in
+    let w = sending p v (m .state) (m .inflight) (r .address) (r .stamp) 0 (chunkAt v (placeDrive p q) (placeZone p q) (placeBlock p q) .block) in
     mkPlan (w .stores) (Copied (aStamp (r .stamp)) (w .stripe) (w .drive)) (mkMemory (w .state) (m .addresses) (m .compact) (w .inflight)) []
 
 -- 01, Reclaim: the call

@@ -1,17 +1,13 @@
 -- How a list of calls is run: with the state as a value, or on the lent bytes alone, as C runs it. Assumes nothing.
 use mathlib.Core.List.{List}
-use mathlib.Core.Bool.{cond}
 use Prim.Native.Nat.{ℕ}
-use lib.Dec.{eqb}
 use lib.ListN.{replicate}
 use Rattle.spec.specs.declared.Params.{Params}
 use Rattle.spec.specs.declared.Answer.{Answer}
-use Rattle.spec.specs.Answers.{kind}
 use Rattle.spec.specs.Drives.{View, viewOf, Disk}
 use Rattle.spec.specs.Engine.{Call, callDisk, Lent, lentDisk, lentMemory, callBytes}
 use Rattle.spec.specs.Engine.Call.{read, fill}
-use Rattle.spec.specs.History.{World, mkWorld, Seen}
-use Rattle.spec.specs.History.Seen.{unwritten, got, failed}
+use Rattle.spec.specs.History.{World, mkWorld, Seen, seenBy}
 use Rattle.spec.specs.Memory.{Memory}
 
 -- what a call gives: its answer, what it leaves, and the lent block
@@ -49,9 +45,8 @@ module _ {W : Type 0} (E : Engine W) where
   unfoldable pub viewIn : Params → W → View
   viewIn p w = viewOf p (E .disk w .image) (E .disk w .pointers)
 
-  -- 01, How tightly, 4: "never written" where the first read call says so, else the block that the second fills
+  -- 01, How tightly, 4: what the two reads give
   unfoldable pub readsAs : Params → W → ℕ → Seen
   readsAs p w a =
-      let r = E .call p w (fill a (replicate (p .B) 0)) in
-      let x = cond (eqb (kind (r .answer)) 11) (got (r .block)) failed in
-      cond (eqb (kind (E .call p w (read a) .answer)) 9) unwritten x
+      let s = E .call p w (fill a (replicate (p .B) 0)) in
+      seenBy (E .call p w (read a) .answer) (s .answer) (s .block)

@@ -28,11 +28,12 @@ pub record Recorded (p : Params) (v : View) (gone a : ℕ) (c : Cand) : Type 0 w
   pub it-is : c ≡ candOf p gone (segmentOf p v gone segment) stripe drive
   pub of-address : c .address ≡ a
 
--- demand 2: x is what address a must read, o the record that holds: there is no such record, or one that no other beats, and x is its block, stored or decoded
+-- demand 2: x is what address a must read, o the record that holds: there is no such record, or one that no other beats, and x is its block, stored or
+-- decoded, and its stamp (02, item 2)
 pub data Latest (p : Params) (v : View) (gone a : ℕ) (o : Opt Cand) (x : Seen) : Type 0 where
   never : ((c : Cand) → Recorded p v gone a c → ⊥) → o ≡ none → x ≡ unwritten → Latest p v gone a o x
   latest : (c : Cand) (k : Recorded p v gone a c) → ((e : Cand) → Recorded p v gone a e → beats e c ≡ false) → o ≡ some c
-      → x ≡ got (pieceOf p gone (segmentOf p v gone (k .segment)) (k .stripe) (k .drive) .block) → Latest p v gone a o x
+      → x ≡ got (pieceOf p gone (segmentOf p v gone (k .segment)) (k .stripe) (k .drive) .block) (c .stamp) → Latest p v gone a o x
 
 -- demand 2: of every view and missing drives, at every address
 abbrev pub SaidIsLatest : Type 0

@@ -170,7 +170,7 @@ pub record Demand2 : Type 0 where
   pub zone-rules : ZoneRules
   -- 01, How tightly, 2: no restart "that refuses all images": empty drives are accepted
   pub accepts : (p : Params) (l : Lent) (d n : ℕ) → lentInOrder p l d ≡ true → emptyDisk p (lentDisk l) ≡ true → isRefused (callBytes p l (restart d n) .answer) ≡ false
-  -- "From those bytes alone, a read gives the latest-sent block among whole stripes": what `saidAt` gives is that
+  -- "From those bytes alone, a read gives the latest-sent block among whole stripes": what `saidAt` gives is that; 02, item 2: with its stamp
   pub latest : SaidIsLatest
   -- "and after a restart and every call on what it left, none of them cut, the tables in memory equal what the drives say"
   pub after-restart : AfterRestart onBytes

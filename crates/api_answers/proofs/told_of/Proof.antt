@@ -48,44 +48,41 @@ number-requires-5 c κs = search needs
 enum-known-answer-8 : tie.Need-enum-known-answer-8
 enum-known-answer-8 c = search needs
 
-number-requires-6 : tie.Need-number-requires-6
-number-requires-6 c κs = search needs
-
 enum-told-2 : tie.Need-enum-told-2
 enum-told-2 c = search needs
 
-number-requires-7 : tie.Need-number-requires-7
-number-requires-7 c κs = search needs
-
-enum-told-3 : tie.Need-enum-told-3
-enum-told-3 c = search needs
-
-number-requires-8 : tie.Need-number-requires-8
-number-requires-8 c κs = search needs
-
-enum-told-4 : tie.Need-enum-told-4
-enum-told-4 c = search needs
-
-number-requires-9 : tie.Need-number-requires-9
-number-requires-9 c κs = search needs
+number-requires-6 : tie.Need-number-requires-6
+number-requires-6 c κs = search needs
 
 enum-known-answer-9 : tie.Need-enum-known-answer-9
 enum-known-answer-9 c = search needs
 
+number-requires-7 : tie.Need-number-requires-7
+number-requires-7 c κs = search needs
+
+enum-known-answer-10 : tie.Need-enum-known-answer-10
+enum-known-answer-10 c = search needs
+
+number-requires-8 : tie.Need-number-requires-8
+number-requires-8 c κs = search needs
+
+enum-known-answer-11 : tie.Need-enum-known-answer-11
+enum-known-answer-11 c = search needs
+
+number-requires-9 : tie.Need-number-requires-9
+number-requires-9 c κs = search needs
+
+enum-told-3 : tie.Need-enum-told-3
+enum-told-3 c = search needs
+
 number-requires-10 : tie.Need-number-requires-10
 number-requires-10 c κs = search needs
 
-enum-told-5 : tie.Need-enum-told-5
-enum-told-5 c = search needs
+enum-told-4 : tie.Need-enum-told-4
+enum-told-4 c = search needs
 
 number-requires-11 : tie.Need-number-requires-11
 number-requires-11 c κs = search needs
-
-enum-told-6 : tie.Need-enum-told-6
-enum-told-6 c = search needs
-
-number-requires-12 : tie.Need-number-requires-12
-number-requires-12 c κs = search needs
 
 returns : tie.Need-returns
 unfolding kind values
@@ -121,31 +118,31 @@ returns-8 c = c .number5 .ensures ∙ ap toldOf (sym (c .before .before .answer7
 
 returns-9 : tie.Need-returns-9
 unfolding kind values
-returns-9 c = c .number6 .ensures ∙ ap toldOf (sym (c .before .before .answer8 .given .1))
+returns-9 c = ap toldOf (sym (c .before .answer8 .given .1))
 
 returns-10 : tie.Need-returns-10
 unfolding kind values
-returns-10 c = c .number7 .ensures ∙ ap toldOf (sym (c .before .enum-told2 .given .1))
+returns-10 c = c .number6 .ensures ∙ ap toldOf (sym (c .before .enum-told2 .given .1))
 
 returns-11 : tie.Need-returns-11
 unfolding kind values
-returns-11 c = c .number8 .ensures ∙ ap toldOf (sym (c .before .enum-told3 .given .1))
+returns-11 c = c .number7 .ensures ∙ ap toldOf (sym (c .before .before .answer9 .given .1))
 
 returns-12 : tie.Need-returns-12
 unfolding kind values
-returns-12 c = c .number9 .ensures ∙ ap toldOf (sym (c .before .enum-told4 .given .1))
+returns-12 c = c .number8 .ensures ∙ ap toldOf (sym (c .before .before .answer10 .given .1))
 
 returns-13 : tie.Need-returns-13
 unfolding kind values
-returns-13 c = c .number10 .ensures ∙ ap toldOf (sym (c .before .before .answer9 .given .1))
+returns-13 c = c .number9 .ensures ∙ ap toldOf (sym (c .before .before .answer11 .given .1))
 
 returns-14 : tie.Need-returns-14
 unfolding kind values
-returns-14 c = c .number11 .ensures ∙ ap toldOf (sym (c .before .enum-told5 .given .1))
+returns-14 c = c .number10 .ensures ∙ ap toldOf (sym (c .before .enum-told3 .given .1))
 
 returns-15 : tie.Need-returns-15
 unfolding kind values
-returns-15 c = c .number12 .ensures ∙ ap toldOf (sym (c .before .enum-told6 .given .1))
+returns-15 c = c .number11 .ensures ∙ ap toldOf (sym (c .before .enum-told4 .given .1))
 
 pub told-of-spec : {M : Type 1} → statement M
 told-of-spec =
@@ -165,19 +162,18 @@ told-of-spec =
     enum-known-answer-7
     number-requires-5
     enum-known-answer-8
-    number-requires-6
     enum-told-2
-    number-requires-7
-    enum-told-3
-    number-requires-8
-    enum-told-4
-    number-requires-9
+    number-requires-6
     enum-known-answer-9
+    number-requires-7
+    enum-known-answer-10
+    number-requires-8
+    enum-known-answer-11
+    number-requires-9
+    enum-told-3
     number-requires-10
-    enum-told-5
+    enum-told-4
     number-requires-11
-    enum-told-6
-    number-requires-12
     returns
     returns-2
     returns-3

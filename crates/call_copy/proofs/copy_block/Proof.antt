@@ -8,6 +8,7 @@ use Rattle.spec.specs.Layout.{Rec}
 use Rattle.spec.specs.Memory.{Memory, mkMemory, stateOf}
 use Rattle.law_basic.specs.Geometry.{ranged}
 use Rattle.call_copy.specs.Copying.{copy-sent, block-at}
+use Rattle.call_reclaim_victim.specs.Waiting.{data-there}
 use borrow.Author.Needs.{needs}
 use lib.ListN.{length, take, replicate, length-replicate}
 use lib.Seq.{length-take-le}
@@ -21,11 +22,12 @@ use Rattle.call_copy.proofs.copy_block.Tie as tie
 buffer-long : length {A = ℕ} (replicate 4096 0) ≡ 4096
 buffer-long = length-replicate {A = ℕ} 4096 0
 
-record-of-requires : tie.Need-record-of-requires
-record-of-requires c κs =
+place-record-requires : tie.Need-place-record-requires
+place-record-requires c κs =
+    let a = c .before .before .before .before .before .before .before .before .args in
     let pre = c .before .before .before .before .before .before .before .before .pre in
     let w = pre .0 in
-    (w .in-range, (w .whole, pre .1 .1))
+    (w .in-range, (w .whole, data-there (a .p) (a .q .0) (w .in-range) (pre .1 .1 .0) (pre .1 .1 .1)))
 
 slice-aggregate-take-block : tie.Need-slice-aggregate-take-block
 slice-aggregate-take-block c = search needs
@@ -86,7 +88,7 @@ returns c =
     .before .before .before .before .before .before .before .before .before .before .before .before .before .before .before .args in
     let r =
     at
-    .before .before .before .before .before .before .record-of in
+    .before .before .before .before .before .before .place-record in
     let pre =
     at
     .before .before .before .before .before .before .before .before .before .before .before .before .before .before .before .pre in
@@ -104,7 +106,7 @@ pub copy-block-spec : {M : Type 1} → statement M
 copy-block-spec =
     tie.close
     (tie.spec
-    record-of-requires
+    place-record-requires
     slice-aggregate-take-block
     take-block-requires
     array-share-prefix-block

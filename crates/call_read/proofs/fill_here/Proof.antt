@@ -3,7 +3,7 @@ use Prim.Native.Nat.{ℕ}
 use Rattle.spec.specs.Bytes.{part}
 use Rattle.spec.specs.Params.{unitLen}
 use Rattle.law_basic.specs.Splice.{part-lent}
-use Rattle.call_read.specs.Fill.{place-in-image}
+use Rattle.call_read.specs.Placed.{place-in-image}
 use borrow.Author.Needs.{needs}
 use mathlib.Core.Path.{ap, _∙_}
 use native.Mathlib.Omega.{arith}

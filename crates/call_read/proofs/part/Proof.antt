@@ -56,7 +56,7 @@ within :
 within c =
     let a = c .before .before .before .before .before .before .before .before .before .args in
     part-within (a .p) (mkDisk (a .image .now) (a .pointers .now))
-    (mkMemory (stateOf (a .state .now)) (a .addresses .now) (a .compact .now) (a .inflight .now)) (a .address .0) (c .answer .given .0 .0)
+    (mkMemory (stateOf (a .state .now)) (a .addresses .now) (a .compact .now) (a .inflight .now)) (a .address .0) (c .answer .given .0 .0) (c .answer .given .0 .1 .0)
     (sym (answered (c .before .before)) ∙ c .answer .given .1)
 
 add-e : tie.Need-add-e
@@ -78,8 +78,8 @@ returns c =
     let at′ = c .before .before .before .before .before in
     let at = answer .given .0 .0 in
     let e = sym (answered (at′)) ∙ answer .given .1 in
-    let e₁ = ap partAt e ∙ part-here (a .p) at .0 in
-    let e₂ = ap (partLen (a .p)) e ∙ part-here (a .p) at .1 in
+    let e₁ = ap partAt e ∙ part-here (a .p) at (answer .given .0 .1 .0) .0 in
+    let e₂ = ap (partLen (a .p)) e ∙ part-here (a .p) at (answer .given .0 .1 .0) .1 in
     record {
       bytes = part-lent at (a .p .B) (a .image .now) ∙ (λ j. part (sym e₁ j) (sym e₂ j) (a .image .now));
       object = refl;
@@ -114,10 +114,10 @@ no-part (Landed n) h = refl
 no-part (Closed s) h = refl
 no-part (Copied t s d) h = refl
 no-part (Reset z) h = refl
-no-part (Part n) h = absurd (not-both (isMember 8 others) (one-of others 8 h) refl)
+no-part (Part n t) h = absurd (not-both (isMember 8 others) (one-of others 8 h) refl)
 no-part Never h = refl
-no-part Lost h = refl
-no-part Filled h = refl
+no-part (Lost t) h = refl
+no-part (Filled t) h = refl
 no-part (Restarted n) h = refl
 no-part Rebuilt h = refl
 no-part Nothing h = refl

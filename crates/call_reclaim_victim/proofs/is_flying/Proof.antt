@@ -2,16 +2,17 @@
 use Rattle.spec.specs.Drives.{viewOf}
 use Rattle.spec.specs.Memory.{holds, stateOf}
 use Rattle.disk_records.specs.Record.{recVal}
-use Rattle.call_reclaim_victim.specs.Waiting.{flying-is}
+use Rattle.call_reclaim_victim.specs.Waiting.{flying-is, data-there}
 use borrow.Author.Needs.{needs}
 use mathlib.Core.Path.{_∙_}
 use Rattle.call_reclaim_victim.proofs.is_flying.Statement.{statement}
 use Rattle.call_reclaim_victim.proofs.is_flying.Tie as tie
 
-record-of-requires : tie.Need-record-of-requires
-record-of-requires c κs =
+place-record-requires : tie.Need-place-record-requires
+place-record-requires c κs =
+    let a = c .before .before .before .args in
     let pre = c .before .before .before .pre in
-    (pre .0, (pre .1 .0, (pre .1 .1 .0, pre .1 .1 .1)))
+    (pre .0, (pre .1 .0, data-there (a .p) (a .place .0) (pre .0) (pre .1 .1 .0) (pre .1 .1 .1)))
 
 holds-requires : tie.Need-holds-requires
 holds-requires c κs = search needs
@@ -19,10 +20,10 @@ holds-requires c κs = search needs
 returns : tie.Need-returns
 returns c =
     let a = c .before .before .before .before .before .before .before .args in
-    let record-of = c .before .before .before .record-of in
+    let place-record = c .before .before .before .place-record in
     let pre = c .before .before .before .before .before .before .before .pre in
     let v = viewOf (a .p) (a .image .now) (a .pointers .now) in
-    c .holds .ensures ∙ flying-is (a .p) v (stateOf (a .bytes .now)) (a .place .0) (recVal (record-of .result)) (pre .1 .1 .1) (record-of .ensures)
+    c .holds .ensures ∙ flying-is (a .p) v (stateOf (a .bytes .now)) (a .place .0) (recVal (place-record .result)) (pre .1 .1 .1) (place-record .ensures)
 
 pub is-flying-spec : {M : Type 1} → statement M
-is-flying-spec = tie.close (tie.spec record-of-requires holds-requires returns)
+is-flying-spec = tie.close (tie.spec place-record-requires holds-requires returns)
