@@ -17,7 +17,7 @@ use Rattle.spec.specs.Read.{foundFaults}
 use Rattle.law_basic.specs.Geometry.{ranged}
 use Rattle.law_basic.specs.Ranges.{and-left, and-right}
 use Rattle.law_views.specs.Views.{Whole, seen}
-use Rattle.law_checks.specs.Passed.{ReadPassed, read-passed}
+use Rattle.law_checks.specs.Passed.{ReadPassed, passed-too, read-passed}
 use Rattle.call_write.specs.Ready.{lent-long}
 
 pub record ReadReady (p : Params) (k : Disk) (m : Memory) (a n : ℕ) : Type 0 where
@@ -32,15 +32,9 @@ pub record ReadReady (p : Params) (k : Disk) (m : Memory) (a n : ℕ) : Type 0 w
 -- 01, Refusals: no check of a read holds, whatever block is lent
 pub ready-passed : (p : Params) (k : Disk) (m : Memory) (a n : ℕ) → readRefusal p k m a n ≡ none → ReadPassed p (lentOk p k m) (seen p k) m a
 ready-passed p k m a n e =
-    let c = read-passed p (lentOk p k m && eqb n (p .B)) (seen p k) m a e in
-    record {
-      in-range = c .in-range;
-      lent = and-left (lentOk p k m) (eqb n (p .B)) (c .lent);
-      address-low = c .address-low;
-      state-fine = c .state-fine;
-      place-fine = c .place-fine;
-      decodes = c .decodes;
-    }
+    let long = lentOk p k m && eqb n (p .B) in
+    let c = read-passed p long (seen p k) m a e in
+    passed-too p long (lentOk p k m) (seen p k) m a (and-left (lentOk p k m) (eqb n (p .B)) (c .lent)) c
 
 pub read-ready : (p : Params) (k : Disk) (m : Memory) (a n : ℕ) → readRefusal p k m a n ≡ none → ReadReady p k m a n
 read-ready p k m a n e =

@@ -374,6 +374,17 @@ pub record ReadPassed (p : Params) (long : Bool) (v : View) (m : Memory) (a : �
   pub place-fine : foundFaults p v (m .state .missing) (foundIn p m a) ≡ []
   pub decodes : decodeFaults p v (m .state .missing) (m .compact) (foundIn p m a) ≡ []
 
+-- whichever lengths are looked at, as long as they are right
+pub passed-too : (p : Params) (long also : Bool) (v : View) (m : Memory) (a : ℕ) → also ≡ true → ReadPassed p long v m a → ReadPassed p also v m a
+passed-too p long also v m a e c = record {
+  in-range = c .in-range;
+  lent = e;
+  address-low = c .address-low;
+  state-fine = c .state-fine;
+  place-fine = c .place-fine;
+  decodes = c .decodes;
+}
+
 module _ (p : Params) (long : Bool) (v : View) (m : Memory) (a : ℕ) where
   abbrev place-faults : List ℕ
   place-faults = foundFaults p v (m .state .missing) (foundIn p m a)

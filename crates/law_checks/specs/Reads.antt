@@ -25,7 +25,7 @@ use Rattle.law_basic.specs.Ranges.{and-both}
 use Rattle.law_basic.specs.Stores.{stores-nil}
 use Rattle.law_calls.specs.Refusals.{call-done}
 use Rattle.law_views.specs.Views.{seen}
-use Rattle.law_checks.specs.Passed.{foundIn, ReadPassed, read-goes}
+use Rattle.law_checks.specs.Passed.{foundIn, ReadPassed, passed-too, read-goes}
 
 -- block and record that the reads find at f
 abbrev pub pieceIn : Params → Disk → Memory → Found → Piece
@@ -51,14 +51,8 @@ module _ (p : Params) (k : Disk) (m : Memory) (a : ℕ) (c : ReadPassed p (lentO
   fill-after l e =
       let long = lentOk p k m && eqb (length l) (p .B) in
       call-done p (storeDisk p) 0 k m l (firstRefusal (readChecks p long (seen p k) m a)) (fillPlan p (seen p k) m a)
-      (read-goes p long (seen p k) m a (record {
-        in-range = c .in-range;
-        lent = and-both (lentOk p k m) (eqb (length l) (p .B)) (c .lent) (eq-eqb (length l) (p .B) e);
-        address-low = c .address-low;
-        state-fine = c .state-fine;
-        place-fine = c .place-fine;
-        decodes = c .decodes;
-      })) (omega arith)
+      (read-goes p long (seen p k) m a (passed-too p (lentOk p k m) long (seen p k) m a
+      (and-both (lentOk p k m) (eqb (length l) (p .B)) (c .lent) (eq-eqb (length l) (p .B) e)) c)) (omega arith)
       ∙ ap (λ (x : Disk). mkAfter (Filled (aStamp (piece .rec .stamp))) x m (piece .block)) (stores-nil (storeDisk p) 0 k)
 
   seen-found : seenAt p (mkWorld k m) a ≡ shownBoth p piece (foundIn p m a)
