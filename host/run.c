@@ -40,7 +40,8 @@ static sorgizhed_answer reclaim_step(sorgizhed_array *a, int *progress) {
     *progress = 1;
     if (sorgizhed_is_result(r)) return r;
     int idle = refused(r, SORGIZHED_WAIT) || refused(r, SORGIZHED_NOTHING_TO_DO);
-    if (idle && sorgizhed_array_waiting(a) > 0) return land_all(a);
+    /* full, with something in flight: a landing may seal the open segment, or leave the one that is taken without a live block */
+    if ((idle || refused(r, SORGIZHED_NO_ZONE_LEFT)) && sorgizhed_array_waiting(a) > 0) return land_all(a);
     *progress = 0;
     return idle ? fine() : r;
 }

@@ -75,7 +75,7 @@ static inline uint64_t sorgizhed_stamp(sorgizhed_answer r) {
     }
 }
 
-/* Refusals, in the order in which they are looked for (restart and rebuild look for 9 before 6 and 8). A refusal changes no byte. */
+/* Refusals, in the order in which they are looked for, but 8 before 7 (and restart and rebuild look for 9 before 6 and 8). A refusal changes no byte. */
 #define SORGIZHED_BAD_PARAMETER 1   /* a parameter outside its range; restart: missing neither below n nor 255; rebuild: a drive that the last
                                        restart did not name missing */
 #define SORGIZHED_BAD_LENGTH 2      /* a lent buffer's length differs from what the parameters give; a written block's also from 0 */
@@ -87,7 +87,9 @@ static inline uint64_t sorgizhed_stamp(sorgizhed_answer r) {
 #define SORGIZHED_NO_COUNT_LEFT 6   /* no next stamp, or no next serial where a segment must be opened */
 #define SORGIZHED_WAIT 7            /* a stripe must begin and eight are in flight, or it is in the next group or segment and any is in flight:
                                        land what waits, then try again */
-#define SORGIZHED_NO_ZONE_LEFT 8    /* too few zones are empty on all drives: reclaim */
+#define SORGIZHED_NO_ZONE_LEFT 8    /* too few zones are empty on all drives. A write: no landing empties a zone, so reclaim, also where stripes are in
+                                       flight, land what reclaim waits for, and try again. Reclaim: land what is in flight, if anything is, and try
+                                       again */
 #define SORGIZHED_DAMAGED 9         /* state out of range, or drives or tables not as the engine left them; comes as SORGIZHED_BAD_ZONE */
 
 /* The number that names no drive. */
@@ -139,7 +141,7 @@ size_t sorgizhed_state_length(void);
 
 /* Takes the block of b bytes for an address below l. It goes into the in-flight buffer; it is on the drives once its stripe's chunks have
  * landed. Where no segment is open, headers are stored first in the lowest zone that is empty on all drives, one store for each drive.
- * Answers SORGIZHED_SENT with the block's stamp and the stripe and drive that it goes to, SORGIZHED_CUT, or a refusal: 1, 2, 3, 4, 6, 7, 8, 9.
+ * Answers SORGIZHED_SENT with the block's stamp and the stripe and drive that it goes to, SORGIZHED_CUT, or a refusal: 1, 2, 3, 4, 6, 8, 7, 9.
  *
  * A block of length 0 (its pointer may be NULL) is a write of no bytes, with which a scan ends. It closes the filling stripe as sorgizhed_close does; where
  * none is filling it is accepted and does nothing, whatever is in flight and however few zones are empty. It takes no stamp, stores nothing and changes no
@@ -170,7 +172,7 @@ sorgizhed_answer sorgizhed_close(size_t n, size_t b, size_t z, size_t s, size_t 
 
 /* One step towards an empty zone: takes the sealed segment with fewest live blocks; copies its first live block that is not in flight into the
  * filling stripe (which then lands as after a write), or, where none is live, resets its zones.
- * Answers SORGIZHED_COPIED, SORGIZHED_RESET, SORGIZHED_CUT, or a refusal: 1, 2, 3, 5, 6, 7, 8, 9. */
+ * Answers SORGIZHED_COPIED, SORGIZHED_RESET, SORGIZHED_CUT, or a refusal: 1, 2, 3, 5, 6, 8, 7, 9. */
 sorgizhed_answer sorgizhed_reclaim(size_t n, size_t b, size_t z, size_t s, size_t g, size_t l,
                                    uint8_t *image, size_t image_length, uint8_t *pointers, size_t pointers_length,
                                    uint8_t *addresses, size_t addresses_length, uint8_t *compact, size_t compact_length,

@@ -9,11 +9,12 @@ lines = ["-- Where a declaration says `unfolding evaluated`, every definition th
          "-- Written by tools/witness.py.", "use Prim.Native.Nat.{ℕ}", "use lib.Count.{ones, onesIn}"]
 names = ["ones", "onesIn"]
 homes = [(f, "Rattle.spec.specs") for f in sorted(Path("crates/spec/specs").glob("*.antt"))]
+homes += [(Path("crates/spec_demands/specs/%s.antt" % m), "Rattle.spec_demands.specs") for m in ("Engines", "FullFirst")]
 homes += [(f, "Rattle.proof_crash_witness.specs") for f in sorted((WITNESS / "specs").glob("*.antt"))]
 homes += [(f, "Rattle.proof_crash_witness.proofs") for f in sorted((WITNESS / "proofs").glob("*.antt")) if f != OUT]
 for f, home in homes:
-    # of the worked examples only the blocks
-    found = ["blockOf"] if f.stem == "Examples" else re.findall(r"^unfoldable pub (\S+)", f.read_text(), re.M)
+    # of the worked examples only how calls are run, and the blocks
+    found = ["emptyLent", "runs", "fresh", "blockOf"] if f.stem == "Examples" else re.findall(r"^ *unfoldable pub (\S+)", f.read_text(), re.M)
     if found:
         lines += ["use %s.%s.{%s}" % (home, f.stem, part.rstrip(",")) for part in textwrap.wrap(", ".join(found), 120)]
         names += found

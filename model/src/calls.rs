@@ -222,12 +222,19 @@ impl Array {
         if let Some(why) = self.no_serial(need) {
             return Err(self.refuse(6, why));
         }
-        if let Some(why) = self.too_many(need) {
-            return Err(self.refuse(7, why));
-        }
         let empty = self.empty_zones();
+        let wait = self.too_many(need);
         if empty <= 1 || need == Need::Segment && empty <= 2 {
-            return Err(self.refuse(8, if empty <= 1 { "one" } else { "two" }));
+            let why = match (empty <= 1, wait.is_some()) {
+                (true, false) => "one",
+                (true, true) => "one before 7",
+                (false, false) => "two",
+                (false, true) => "two before 7",
+            };
+            return Err(self.refuse(8, why));
+        }
+        if let Some(why) = wait {
+            return Err(self.refuse(7, why));
         }
         let mut faults = Faults::default();
         self.check_state(&mut faults);
@@ -543,11 +550,12 @@ impl Array {
             if let Some(why) = self.no_serial(need) {
                 return Err(self.refuse(6, why));
             }
-            if let Some(why) = self.too_many(need) {
-                return Err(self.refuse(7, why));
-            }
+            let wait = self.too_many(need);
             if need == Need::Segment && self.empty_zones() <= 1 {
-                return Err(self.refuse(8, ""));
+                return Err(self.refuse(8, if wait.is_some() { "before 7" } else { "" }));
+            }
+            if let Some(why) = wait {
+                return Err(self.refuse(7, why));
             }
         }
         let mut faults = Faults::default();

@@ -349,7 +349,7 @@ impl Generator<'_> {
         if self.array.p.n == 0 {
             return;
         }
-        let done = match self.rng().below(35) {
+        let done = match self.rng().below(36) {
             0 | 1 => self.change_pointer(),
             2 => self.change_pointers_of_zone(),
             3 | 4 => self.change_header(),
@@ -363,7 +363,7 @@ impl Generator<'_> {
             15 => self.junk(),
             16 => self.last_stamp(),
             17 | 18 => self.last_serial(),
-            19 => self.scarce_zones(),
+            19 | 35 => self.scarce_zones(),
             20 => self.forge_segment(),
             21 => self.no_zone_left(),
             22 => self.rebuild_on_change(),
@@ -872,15 +872,39 @@ impl Generator<'_> {
         }
     }
 
+    /// Writes until the open segment is full and its last stripes are in flight, as far as zones and calls last.
+    fn fill_segment(&mut self) {
+        let l = self.array.p.l;
+        for _ in 0..200 {
+            let need = self.array.need();
+            let waiting = Chooser::waiting(&self.array);
+            let command = match waiting.first() {
+                Some(_) if need == Need::Segment => return,
+                Some(&(d, s)) if self.array.too_many(need).is_some() => Land(d as u64, s as u64, u64::MAX),
+                _ => Write(self.rng().below(l), self.chooser.seed(), u64::MAX),
+            };
+            if let Some(Answer::Refused(_)) = self.emit(command) {
+                return;
+            }
+        }
+    }
+
     fn scarce_zones(&mut self) -> bool {
         let keep = self.rng().index(3);
-        // Land what waits first, so that a segment may have to be opened.
-        if self.healthy() && self.rng().chance(60) {
-            if self.rng().chance(50) {
-                self.emit(Close(u64::MAX));
-            }
-            for (d, s) in Chooser::waiting(&self.array) {
-                self.emit(Land(d as u64, s as u64, u64::MAX));
+        if self.healthy() {
+            match self.rng().below(10) {
+                // 7 and 8 together.
+                0..=2 => self.fill_segment(),
+                // Land what waits first, so that a segment may have to be opened.
+                3..=7 => {
+                    if self.rng().chance(50) {
+                        self.emit(Close(u64::MAX));
+                    }
+                    for (d, s) in Chooser::waiting(&self.array) {
+                        self.emit(Land(d as u64, s as u64, u64::MAX));
+                    }
+                }
+                _ => {}
             }
         }
         let done = self.forge(|a| Self::take_zones(a, keep));

@@ -162,11 +162,49 @@ static void scans(void) {
     ram_free(&memory);
 }
 
+/* a box that is full while the last stripes of a segment are in flight: a write is refused 8, not 7, and a send makes the room itself; so does sorgizhed_array_room where reclaim is refused 8 */
+static void full(void) {
+    static const sorgizhed_box small = {.n = 3, .b = 64, .z = 4, .s = 4, .g = 2, .l = 8};
+    uint8_t block[64] = {0};
+    int crowded = 0, waits = 0;
+    sorgizhed_array a;
+    ram_make(&memory, &small);
+    sorgizhed_drives d = ram_drives(&memory);
+    expect(sorgizhed_array_open(&a, &small, &d, SORGIZHED_NO_DRIVE).kind == SORGIZHED_OPENED && sorgizhed_array_restart(&a, SORGIZHED_NO_DRIVE).kind == SORGIZHED_RESTARTED, "open");
+    for (uint64_t i = 0; i < 400; i++) {
+        sorgizhed_answer r = sorgizhed_array_write(&a, i % 8, block, 0);
+        if (r.kind == SORGIZHED_REFUSED) {
+            int flies = sorgizhed_array_waiting(&a) > 0;
+            crowded += flies && r.first == SORGIZHED_NO_ZONE_LEFT;
+            waits += flies && r.first == SORGIZHED_WAIT;
+            r = sorgizhed_array_send(&a, i % 8, block, 0);
+        }
+        expect(r.kind == SORGIZHED_SENT, "a write on a box that is full now and then");
+    }
+    expect(crowded > 20 && waits > 20, "refused 8 and 7 with something in flight");
+    printf("%d writes were refused 8 and %d refused 7 with something in flight\n", crowded, waits);
+    sorgizhed_array_shut(&a);
+    ram_free(&memory);
+
+    /* the first segment is sealed, the second full, its last group in flight; the host is told that zone 3 is in use */
+    ram_make(&memory, &small);
+    d = ram_drives(&memory);
+    expect(sorgizhed_array_open(&a, &small, &d, SORGIZHED_NO_DRIVE).kind == SORGIZHED_OPENED && sorgizhed_array_restart(&a, SORGIZHED_NO_DRIVE).kind == SORGIZHED_RESTARTED, "open");
+    for (uint64_t i = 0; i < 16; i++) expect(sorgizhed_array_send(&a, i % 8, block, 0).kind == SORGIZHED_SENT, "two segments");
+    a.box.pointers[4 * 3 + 3] = 1;
+    sorgizhed_answer r = sorgizhed_array_reclaim(&a);
+    expect(r.kind == SORGIZHED_REFUSED && r.first == SORGIZHED_NO_ZONE_LEFT && sorgizhed_array_waiting(&a) > 0, "a copy refused 8 with something in flight");
+    expect(sorgizhed_array_room(&a, 2).kind == SORGIZHED_DURABLE && a.resets > 0, "what is in flight lands, and a segment comes free");
+    sorgizhed_array_shut(&a);
+    ram_free(&memory);
+}
+
 int main(void) {
     words();
     failing();
     run();
     scans();
+    full();
     printf("%d passed, %d failed\n", passed, failed);
     return failed != 0;
 }

@@ -8,14 +8,14 @@ use Rattle.spec.specs.Lists.{Opt, all, any, consIf, keep, isNil, least, firstOr
 use Rattle.spec.specs.Lists.Opt.{none, some}
 use Rattle.spec.specs.Memory.{Memory, stateOk, stateFaults}
 use Rattle.spec.specs.Params.{inRange, capacity, placeZone}
-use Rattle.spec.specs.Reclaim.{tableFaults, Victim, victim, isNone, victimSegment, victimLive, idle, reclaimChecks}
-use Rattle.spec.specs.Write.{opens, noSerial, mustWait, scarce}
+use Rattle.spec.specs.Reclaim.{tableFaults, Victim, victim, isNone, victimSegment, victimLive, idle, mustCopy, copyWaits, copyFull, reclaimChecksIn, copyOrder, reclaimChecks}
+use Rattle.spec.specs.Write.{opens, noSerial, mustWait, scarce, roomRules}
 use Rattle.spec.specs.declared.Answer.{Answer}
 use Rattle.spec.specs.declared.Answer.the-variants.{Refused, BadZone}
 use Rattle.spec.specs.declared.Params.{Params}
 use Rattle.spec.specs.declared.State.{State}
 use Rattle.law_basic.specs.Ranges.{and-left, and-right, keep-none, nil-is}
-use Rattle.law_calls.specs.Refusals.{zones-pass, none-left, state-fault, state-fine, rule-fails, rule-passes, least-zero}
+use Rattle.law_calls.specs.Refusals.{orNext, refusal-append, zones-pass, none-left, state-fault, state-fine, rule-fails, rule-passes, least-zero}
 use Rattle.call_reclaim.specs.declared.Choice.{Choice}
 use Rattle.call_reclaim.specs.declared.Choice.the-variants.{Refuse, Clear, Copy}
 use Rattle.call_reclaim_victim.specs.Waiting.{isOdd}
@@ -34,7 +34,7 @@ reclaimRefusal p k m = firstRefusal (reclaimChecks p (lentOk p k m) (seen p k) m
 
 -- 01, Refusals, 6 to 8, of a copy
 unfoldable pub copyRules : Params → View → State → List Check
-copyRules p v st = rule 6 (noSerial p st) ∷ rule 7 (mustWait p st) ∷ rule 8 (opens p st && scarce p v 1) ∷ []
+copyRules p v st = rule 6 (noSerial p st) ∷ roomRules copyOrder (mustWait p st) (opens p st && scarce p v 1)
 
 -- 01, Refusals, 9: the bad zones of reclaim
 unfoldable pub badZones : Params → State → List ℕ → Opt Victim → List ℕ
@@ -43,10 +43,8 @@ badZones p st tb w = stateFaults p st ++ tableFaults p tb ++ map (placeZone p) (
 -- the checks from 5 on
 unfoldable pub laterChecks : Params → View → State → List ℕ → Opt Victim → List Check
 laterChecks p v st tb w =
-    let live = not (isNil (victimLive w)) in
-    rule 5 (isNone w || (live && isNil (idle p v st w)))
-    ∷ rule 6 (live && noSerial p st) ∷ rule 7 (live && mustWait p st) ∷ rule 8 (live && opens p st && scarce p v 1)
-    ∷ zones (badZones p st tb w) ∷ []
+    rule 5 (isNone w || (mustCopy w && isNil (idle p v st w))) ∷ rule 6 (mustCopy w && noSerial p st)
+    ∷ roomRules copyOrder (copyWaits p st w) (copyFull p v st w) ++ (zones (badZones p st tb w) ∷ [])
 
 -- what the code chooses, where r is the first refusal and w the segment: refuses so, resets it, or copies the first of its live blocks not in flight
 abbrev pub Chose : Params → View → State → Opt Victim → Opt Answer → Choice → Type 0
@@ -69,32 +67,32 @@ module _ (p : Params) (k : Disk) (m : Memory) where
   rest i = drop (suc i) (reclaimChecks p (lentOk p k m) (seen p k) m taken)
 
   pub reclaim-range-fails : inRange p ≡ false → reclaimFrom 0 ≡ some (Refused 1)
-  unfolding reclaimChecks
+  unfolding reclaimChecksIn
   reclaim-range-fails e = rule-fails 1 (not (inRange p)) (rest 0) (ap not e)
 
   pub reclaim-range-passes : inRange p ≡ true → reclaimFrom 0 ≡ reclaimFrom 1
-  unfolding reclaimChecks
+  unfolding reclaimChecksIn
   reclaim-range-passes e = rule-passes 1 (not (inRange p)) (rest 0) (ap not e)
 
   pub reclaim-lengths-fail : lentOk p k m ≡ false → reclaimFrom 1 ≡ some (Refused 2)
-  unfolding reclaimChecks
+  unfolding reclaimChecksIn
   reclaim-lengths-fail e = rule-fails 2 (not (lentOk p k m)) (rest 1) (ap not e)
 
   pub reclaim-lengths-pass : lentOk p k m ≡ true → reclaimFrom 1 ≡ reclaimFrom 2
-  unfolding reclaimChecks
+  unfolding reclaimChecksIn
   reclaim-lengths-pass e = rule-passes 2 (not (lentOk p k m)) (rest 1) (ap not e)
 
   pub reclaim-missing-fails : (m .state .missing ≡ 0 → ⊥) → reclaimFrom 2 ≡ some (Refused 3)
-  unfolding reclaimChecks
+  unfolding reclaimChecksIn
   reclaim-missing-fails f = rule-fails 3 (not (eqb (m .state .missing) 0)) (rest 2) (ap not (ne-eqb (m .state .missing) 0 f))
 
   pub reclaim-missing-passes : m .state .missing ≡ 0 → reclaimFrom 2 ≡ reclaimFrom 3
-  unfolding reclaimChecks
+  unfolding reclaimChecksIn
   reclaim-missing-passes f = rule-passes 3 (not (eqb (m .state .missing) 0)) (rest 2) (ap not (eq-eqb (m .state .missing) 0 f))
 
   -- the rest
   pub from-later : reclaimFrom 3 ≡ firstRefusal (laterChecks p (seen p k) (m .state) (m .addresses) taken)
-  unfolding reclaimChecks laterChecks badZones isOdd
+  unfolding reclaimChecksIn laterChecks badZones isOdd
   from-later = refl
 
 -- the first three pass
@@ -107,25 +105,21 @@ front-passes p k m e f g = reclaim-range-passes p k m e ∙ reclaim-lengths-pass
 module _ (p : Params) (v : View) (st : State) where
   pub rules-serial : noSerial p st ≡ true → some (Refused 6) ≡ firstRefusal (copyRules p v st)
   unfolding copyRules firstRefusal ruled
-  rules-serial a = sym (λ j. firstRefusal (rule 6 (a j) ∷ rule 7 (mustWait p st) ∷ rule 8 (opens p st && scarce p v 1) ∷ []))
+  rules-serial a = sym (λ j. firstRefusal (rule 6 (a j) ∷ roomRules copyOrder (mustWait p st) (opens p st && scarce p v 1)))
 
   module _ (a : noSerial p st ≡ false) where
-    pub rules-wait : mustWait p st ≡ true → some (Refused 7) ≡ firstRefusal (copyRules p v st)
+    pub rules-full : (opens p st && scarce p v 1) ≡ true → some (Refused 8) ≡ firstRefusal (copyRules p v st)
     unfolding copyRules firstRefusal ruled
-    rules-wait b = sym (λ j. firstRefusal (rule 6 (a j) ∷ rule 7 (b j) ∷ rule 8 (opens p st && scarce p v 1) ∷ []))
+    rules-full f = sym (λ j. firstRefusal (rule 6 (a j) ∷ roomRules copyOrder (mustWait p st) (f j)))
 
-    module _ (b : mustWait p st ≡ false) where
-      pub rules-open : opens p st ≡ false → none ≡ firstRefusal (copyRules p v st)
+    module _ (f : (opens p st && scarce p v 1) ≡ false) where
+      pub rules-wait : mustWait p st ≡ true → some (Refused 7) ≡ firstRefusal (copyRules p v st)
       unfolding copyRules firstRefusal ruled
-      rules-open o = sym (λ j. firstRefusal (rule 6 (a j) ∷ rule 7 (b j) ∷ rule 8 (o j && scarce p v 1) ∷ []))
+      rules-wait b = sym (λ j. firstRefusal (rule 6 (a j) ∷ roomRules copyOrder (b j) (f j)))
 
-      pub rules-scarce : opens p st ≡ true → scarce p v 1 ≡ true → some (Refused 8) ≡ firstRefusal (copyRules p v st)
+      pub rules-pass : mustWait p st ≡ false → none ≡ firstRefusal (copyRules p v st)
       unfolding copyRules firstRefusal ruled
-      rules-scarce o c = sym (λ j. firstRefusal (rule 6 (a j) ∷ rule 7 (b j) ∷ rule 8 (o j && c j) ∷ []))
-
-      pub rules-pass : opens p st ≡ true → scarce p v 1 ≡ false → none ≡ firstRefusal (copyRules p v st)
-      unfolding copyRules firstRefusal ruled
-      rules-pass o c = sym (λ j. firstRefusal (rule 6 (a j) ∷ rule 7 (b j) ∷ rule 8 (o j && c j) ∷ []))
+      rules-pass b = sym (λ j. firstRefusal (rule 6 (a j) ∷ roomRules copyOrder (b j) (f j)))
 
 -- ---- bad zones
 
@@ -181,22 +175,6 @@ odd-zones f g l = go (keep f l) ∙ ap (λ (x : Bool). cond x (some (BadZone g))
 
 -- ---- from 5 on
 
-all-pass : firstRefusal (rule 6 false ∷ rule 7 false ∷ rule 8 false ∷ []) ≡ none
-unfolding firstRefusal ruled
-all-pass = refl
-
--- the first of two refusals
-abbrev pub orNext : Opt Answer → Opt Answer → Opt Answer
-orNext none r = r
-orNext (some a) r = some a
-
-three : (a b c : Bool) (cs : List Check) → firstRefusal (rule 6 a ∷ rule 7 b ∷ rule 8 c ∷ cs) ≡ orNext (firstRefusal (rule 6 a ∷ rule 7 b ∷ rule 8 c ∷ [])) (firstRefusal cs)
-unfolding firstRefusal ruled
-three true b c cs = refl
-three false true c cs = refl
-three false false true cs = refl
-three false false false cs = refl
-
 module _ (p : Params) (v : View) (st : State) (tb : List ℕ) (w : Opt Victim) where
   abbrev pub later : Opt Answer
   later = firstRefusal (laterChecks p v st tb w)
@@ -217,15 +195,13 @@ module _ (p : Params) (v : View) (st : State) (tb : List ℕ) (w : Opt Victim) w
         let z : List ℕ = badZones p st tb w in
         let n : not (isNil (victimLive w)) ≡ false = ap not d in
         rule-passes 5 (isNone w || (not (isNil (victimLive w)) && isNil (idle p v st w))) more (λ j. e j || (n j && isNil (idle p v st w)))
-        ∙ (λ j. firstRefusal (rule 6 (n j && noSerial p st) ∷ rule 7 (n j && mustWait p st) ∷ rule 8 (n j && opens p st && scarce p v 1) ∷ zones (badZones p st tb w) ∷ []))
-        ∙ three false false false (zones (badZones p st tb w) ∷ [])
-        ∙ first-none
+        ∙ (λ j. firstRefusal (rule 6 (n j && noSerial p st) ∷ roomRules copyOrder (n j && mustWait p st) (n j && opens p st && scarce p v 1) ++ (zones (badZones p st tb w) ∷ [])))
+        ∙ none-hold
         ∙ ap (λ (l : List ℕ). firstRefusal (zones (stateFaults p st ++ tableFaults p tb ++ map (placeZone p) (keep (isOdd p) l)) ∷ [])) (nil-is (victimLive w) d)
         ∙ ap (λ (l : List ℕ). firstRefusal (zones (stateFaults p st ++ tableFaults p tb ++ map (placeZone p) l) ∷ [])) (keep-none (isOdd p))
       where
-        first-none : orNext (firstRefusal (rule 6 false ∷ rule 7 false ∷ rule 8 false ∷ [])) (firstRefusal (zones (badZones p st tb w) ∷ [])) ≡ firstRefusal
-            (zones (badZones p st tb w) ∷ [])
-        first-none = ap (λ (r : Opt Answer). orNext r (firstRefusal (zones (badZones p st tb w) ∷ []))) all-pass
+        none-hold : firstRefusal (rule 6 false ∷ rule 8 false ∷ rule 7 false ∷ zones (badZones p st tb w) ∷ []) ≡ firstRefusal (zones (badZones p st tb w) ∷ [])
+        none-hold = unfold firstRefusal ruled in refl
 
     module _ (d : isNil (victimLive w) ≡ false) where
       alive : not (isNil (victimLive w)) ≡ true
@@ -241,8 +217,9 @@ module _ (p : Params) (v : View) (st : State) (tb : List ℕ) (w : Opt Victim) w
       unfolding laterChecks copyRules
       idle-passes f =
           rule-passes 5 (isNone w || (not (isNil (victimLive w)) && isNil (idle p v st w))) more (λ j. e j || (alive j && f j))
-          ∙ (λ j. firstRefusal (rule 6 (alive j && noSerial p st) ∷ rule 7 (alive j && mustWait p st) ∷ rule 8 (alive j && opens p st && scarce p v 1) ∷ zones (badZones p st tb w) ∷ []))
-          ∙ three (noSerial p st) (mustWait p st) (opens p st && scarce p v 1) (zones (badZones p st tb w) ∷ [])
+          ∙ (λ j. firstRefusal (rule 6 (alive j && noSerial p st)
+          ∷ roomRules copyOrder (alive j && mustWait p st) (alive j && opens p st && scarce p v 1) ++ (zones (badZones p st tb w) ∷ [])))
+          ∙ refusal-append (copyRules p v st) (zones (badZones p st tb w) ∷ [])
 
 -- the zones, once neither state nor table is at fault
 pub zones-odd : (p : Params) (st : State) (tb : List ℕ) (w : Opt Victim) (fault odd : Bool) (g : ℕ)

@@ -10,7 +10,7 @@ use Rattle.spec.specs.Lists.{Opt, isNil, firstOr}
 use Rattle.spec.specs.Lists.Opt.{none, some}
 use Rattle.spec.specs.Memory.{Memory, mkMemory}
 use Rattle.spec.specs.Params.{inRange, addressesLen, compactLen, inflightLen}
-use Rattle.spec.specs.Reclaim.{Victim, victim, victimSegment, victimLive, idle, reclaimChecks, resetPlan, copyPlan, reclaimVerdict}
+use Rattle.spec.specs.Reclaim.{Victim, victim, victimSegment, victimLive, idle, reclaimChecks, resetPlan, copyPlan, reclaimVerdictIn}
 use Rattle.spec.specs.Write.{opens, noSerial, scarce}
 use Rattle.spec.specs.declared.Params.{Params}
 use Rattle.spec.specs.declared.State.{State}
@@ -89,7 +89,7 @@ module _ (p : Params) (k : Disk) (m : Memory) (n : ℕ) where
   -- 01, Store count: a refusal changes nothing
   pub reclaim-refused : (c : Change) → reclaimRefusal p k m ≡ some (c .answer)
       → afterChange (m .state) c (k .image) (k .pointers) (m .addresses) (m .compact) (m .inflight) [] ≡ callDisk p k m (reclaim n)
-  unfolding callDisk callOn storeCount lentBlock verdict reclaimVerdict
+  unfolding callDisk callOn storeCount lentBlock verdict reclaimVerdictIn
   reclaim-refused c e =
       ap (λ (x : State). mkAfter (c .answer) k (mkMemory x (m .addresses) (m .compact) (m .inflight)) []) (refused-state (reclaimChecks p (lentOk p k m) (seen p k) m w!) (m .state) c e)
       ∙ sym (call-refused p (storeDisk p) n k m [] (reclaimRefusal p k m) both (c .answer) e)
@@ -97,13 +97,13 @@ module _ (p : Params) (k : Disk) (m : Memory) (n : ℕ) where
   -- 01, Reclaim: with none live it resets its zones
   pub reclaim-clear : (g : Seg) → reclaimRefusal p k m ≡ none → isNil (victimLive w!) ≡ true → victimSegment w! ≡ g
       → outcome p (storeDisk p) n k m [] (due (resetPlan p m g)) ≡ callDisk p k m (reclaim n)
-  unfolding callDisk callOn storeCount lentBlock verdict reclaimVerdict decided
+  unfolding callDisk callOn storeCount lentBlock verdict reclaimVerdictIn decided
   reclaim-clear g e d s =
       sym ((λ j. outcome p (storeDisk p) n k m [] (decided (e j) (cond (d j) (resetPlan p m (s j)) (copyPlan p (seen p k) m (firstOr 0 (idle p (seen p k) (m .state) w!)))))))
 
   -- 01, Reclaim: otherwise it copies a block
   pub reclaim-copy : (q : ℕ) → reclaimRefusal p k m ≡ none → isNil (victimLive w!) ≡ false → firstOr 0 (idle p (seen p k) (m .state) w!) ≡ q
       → outcome p (storeDisk p) n k m [] (due (copyPlan p (seen p k) m q)) ≡ callDisk p k m (reclaim n)
-  unfolding callDisk callOn storeCount lentBlock verdict reclaimVerdict decided
+  unfolding callDisk callOn storeCount lentBlock verdict reclaimVerdictIn decided
   reclaim-copy q e d s =
       sym ((λ j. outcome p (storeDisk p) n k m [] (decided (e j) (cond (d j) (resetPlan p m (victimSegment w!)) (copyPlan p (seen p k) m (s j))))))

@@ -1,6 +1,6 @@
 // Reclaim (01, Reclaim).
 ghost use mathlib.Core.Path.{_≡_};
-ghost use mathlib.Core.Bool.{true, cond};
+ghost use mathlib.Core.Bool.{true, cond, _&&_};
 ghost use mathlib.Core.List.{List, [], _∷_, _++_};
 ghost use Prim.Native.Nat.{ℕ, _<_};
 ghost use lib.ListN.{length};
@@ -17,6 +17,7 @@ ghost use Rattle.spec.specs.Lists.Opt.{some};
 ghost use Rattle.spec.specs.Memory.{mkMemory, stateFaults, stateLen, stateOf};
 ghost use Rattle.spec.specs.Params.{inRange, imageLen, pointersLen, addressesLen, compactLen, drivesOf};
 ghost use Rattle.spec.specs.Reclaim.{tableFaults, victim, cleared, resetPlan};
+ghost use Rattle.spec.specs.Write.{scarce};
 ghost use Rattle.call_reclaim.specs.Choosing.{copyRules, laterChecks, Chose, reclaimRefusal};
 ghost use Rattle.call_filling.specs.Aims.{aimOf};
 ghost use Rattle.mem_rows.specs.Rows.{frontOf, behind, afterChange};
@@ -35,7 +36,19 @@ use spec::State;
 
 // ---- checks
 
-// 01, Refusals, 6 to 8, of a copy; f, a: the front of the state and where a block goes.
+// 01, Refusals, 8, of a copy: too few zones are empty.
+fn copy_full(p: Params, pointers: &[u8], a: Aim) -> bool
+    requires { ⌜ inRange p ≡ true ⌝ }
+    requires { ⌜ length (now pointers) ≡ pointersLen p ⌝ }
+    ensures { λ r. ⌜ ((im : List ℕ) → length im ≡ imageLen p → r ≡ (a .opens && scarce p (viewOf p im (now (pointers .entry))) 1)) ⌝ }
+{
+    if !a.opens {
+        return false;
+    }
+    call_filling::scarce(p, pointers, 1)
+}
+
+// 01, Refusals, 6 to 8, of a copy; 02, item 3: full before waiting. f, a: the front of the state and where a block goes.
 fn copy_rules(p: Params, pointers: &[u8], f: Front, a: Aim) -> Check
     requires { ⌜ inRange p ≡ true ⌝ }
     requires { ⌜ (length (now pointers) ≡ pointersLen p) × (a ≡ aimOf p (behind f)) ⌝ }
@@ -48,14 +61,13 @@ fn copy_rules(p: Params, pointers: &[u8], f: Front, a: Aim) -> Check
     if call_filling::no_serial(f, a) {
         return Check::Fail(Answer::Refused(6));
     }
-    if call_filling::must_wait(p, f, a) {
-        return Check::Fail(Answer::Refused(7));
-    }
-    if !a.opens {
-        return Check::Pass;
-    }
-    if call_filling::scarce(p, pointers, 1) {
+    let full = copy_full(p, pointers, a);
+    let wait = call_filling::must_wait(p, f, a);
+    if full {
         return Check::Fail(Answer::Refused(8));
+    }
+    if wait {
+        return Check::Fail(Answer::Refused(7));
     }
     Check::Pass
 }

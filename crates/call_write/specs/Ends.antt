@@ -10,7 +10,7 @@ use Rattle.spec.specs.Lists.{firstOr, isNil}
 use Rattle.spec.specs.Lists.Opt.{none, some}
 use Rattle.spec.specs.Memory.{Memory, mkMemory, zeroState, hasFilling, setStamp, setOpen}
 use Rattle.spec.specs.Params.{dataCount, addressesLen, compactLen}
-use Rattle.spec.specs.Write.{opens, Sending, openedBy, slotFor, sending, writeChecks, writePlan, writeVerdict}
+use Rattle.spec.specs.Write.{opens, Sending, openedBy, slotFor, sending, writeChecks, writePlan, writeVerdictIn}
 use Rattle.spec.specs.declared.Answer.the-variants.{Cut, Sent}
 use Rattle.spec.specs.declared.Params.{Params}
 use Rattle.spec.specs.declared.State.{State}
@@ -42,7 +42,7 @@ module _ (p : Params) (k : Disk) (m : Memory) (a : ℕ) (b : List ℕ) (n : ℕ)
   -- 01, Store count: a refusal changes nothing
   pub write-refused : (c : Change) → writeRefusal p k m a b ≡ some (c .answer)
       → afterChange (m .state) c (k .image) (k .pointers) (m .addresses) (m .compact) (m .inflight) b ≡ callDisk p k m (write a b n)
-  unfolding writeVerdict
+  unfolding writeVerdictIn
   write-refused c e =
       ap (λ (x : State). mkAfter (c .answer) k (mkMemory x (m .addresses) (m .compact) (m .inflight)) b) (refused-state (writeChecks p (lentOk p k m) (seen p k) m a b) (m .state) c e)
       ∙ sym (call-refused p (storeDisk p) n k m b (writeRefusal p k m a b) (writePlan p (seen p k) m a b) (c .answer) e)
@@ -55,7 +55,7 @@ module _ (p : Params) (k : Disk) (m : Memory) (a : ℕ) (b : List ℕ) (n : ℕ)
   -- just so many stores
   write-cut : writeRefusal p k m a b ≡ none → n < length (openStores p k (m .state))
       → mkAfter Cut (storeAll (storeDisk p) (take n (openStores p k (m .state))) k) (cutMemory p m) b ≡ callDisk p k m (write a b n)
-  unfolding writeVerdict writePlan sending
+  unfolding writeVerdictIn writePlan sending
   write-cut e h = sym (call-cut p (storeDisk p) n k m b (writeRefusal p k m a b) (writePlan p (seen p k) m a b) e h) ∙ write-leaves p k m a b n some-bytes
 
   -- what is sent
@@ -70,7 +70,7 @@ module _ (p : Params) (k : Disk) (m : Memory) (a : ℕ) (b : List ℕ) (n : ℕ)
 
   -- all of them
   write-done : writeRefusal p k m a b ≡ none → length (openStores p k (m .state)) ≤ n → leaves sent (openStores p k (m .state)) ≡ callDisk p k m (write a b n)
-  unfolding writeVerdict writePlan
+  unfolding writeVerdictIn writePlan
   write-done e h =
       ap (leaves sent) (sym write-plan-stores)
       ∙ sym (call-done p (storeDisk p) n k m b (writeRefusal p k m a b) (writePlan p (seen p k) m a b) e (subst (λ (x : List Store). length x ≤ n) (sym write-plan-stores) h))

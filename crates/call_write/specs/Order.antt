@@ -8,7 +8,7 @@ use Rattle.spec.specs.Lists.{Opt}
 use Rattle.spec.specs.Lists.Opt.{none, some}
 use Rattle.spec.specs.Memory.{Memory, stateOk}
 use Rattle.spec.specs.Params.{inRange}
-use Rattle.spec.specs.Write.{opens, noStamp, noSerial, mustWait, scarce, writeChecks}
+use Rattle.spec.specs.Write.{noStamp, noSerial, mustWait, writeFull, writeChecks, writeChecksIn}
 use Rattle.spec.specs.declared.Answer.{Answer}
 use Rattle.spec.specs.declared.Answer.the-variants.{Refused, BadZone}
 use Rattle.spec.specs.declared.Params.{Params}
@@ -17,7 +17,7 @@ use Rattle.law_views.specs.Views.{seen}
 use borrow.Author.Tests.{le-leb, lt-leb, eq-eqb, ne-eqb}
 use lib.Dec.{leb, eqb}
 use lib.ListN.{length, drop}
-use mathlib.Core.Bool.{Bool, true, false, cond, not, _||_}
+use mathlib.Core.Bool.{Bool, true, false, not, _||_}
 use mathlib.Core.List.{List, [], _∷_}
 use mathlib.Core.Path.{_≡_, refl, sym, ap, _∙_}
 
@@ -31,73 +31,73 @@ module _ (p : Params) (k : Disk) (m : Memory) (a : ℕ) (b : List ℕ) where
   rest i = drop (suc i) (writeChecks p (lentOk p k m) (seen p k) m a b)
 
   pub write-range-fails : inRange p ≡ false → some (Refused 1) ≡ writeFrom 0
-  unfolding writeChecks
+  unfolding writeChecksIn
   write-range-fails e = sym (rule-fails 1 (not (inRange p)) (rest 0) (ap not e))
 
   pub write-range-passes : inRange p ≡ true → writeFrom 1 ≡ writeFrom 0
-  unfolding writeChecks
+  unfolding writeChecksIn
   write-range-passes e = sym (rule-passes 1 (not (inRange p)) (rest 0) (ap not e))
 
   pub write-lengths-fail : lentOk p k m ≡ false → some (Refused 2) ≡ writeFrom 1
-  unfolding writeChecks
+  unfolding writeChecksIn
   write-lengths-fail e = sym (rule-fails 2 (not (lentOk p k m) || not (eqb (length b) (p .B))) (rest 1) (ap (λ (x : Bool). not x || not (eqb (length b) (p .B))) e))
 
   pub write-block-fails : lentOk p k m ≡ true → (length b ≡ p .B → ⊥) → some (Refused 2) ≡ writeFrom 1
-  unfolding writeChecks
+  unfolding writeChecksIn
   write-block-fails e f = sym (rule-fails 2 (not (lentOk p k m) || not (eqb (length b) (p .B))) (rest 1) (λ j. not (e j) || not (ne-eqb (length b) (p .B) f j)))
 
   pub write-lengths-pass : lentOk p k m ≡ true → length b ≡ p .B → writeFrom 2 ≡ writeFrom 1
-  unfolding writeChecks
+  unfolding writeChecksIn
   write-lengths-pass e f = sym (rule-passes 2 (not (lentOk p k m) || not (eqb (length b) (p .B))) (rest 1) (λ j. not (e j) || not (eq-eqb (length b) (p .B) f j)))
 
   pub write-missing-fails : (m .state .missing ≡ 0 → ⊥) → some (Refused 3) ≡ writeFrom 2
-  unfolding writeChecks
+  unfolding writeChecksIn
   write-missing-fails f = sym (rule-fails 3 (not (eqb (m .state .missing) 0)) (rest 2) (ap not (ne-eqb (m .state .missing) 0 f)))
 
   pub write-missing-passes : m .state .missing ≡ 0 → writeFrom 3 ≡ writeFrom 2
-  unfolding writeChecks
+  unfolding writeChecksIn
   write-missing-passes f = sym (rule-passes 3 (not (eqb (m .state .missing) 0)) (rest 2) (ap not (eq-eqb (m .state .missing) 0 f)))
 
   pub write-address-fails : p .L ≤ a → some (Refused 4) ≡ writeFrom 3
-  unfolding writeChecks
+  unfolding writeChecksIn
   write-address-fails h = sym (rule-fails 4 (leb (p .L) a) (rest 3) (le-leb (p .L) a h))
 
   pub write-address-passes : a < p .L → writeFrom 4 ≡ writeFrom 3
-  unfolding writeChecks
+  unfolding writeChecksIn
   write-address-passes h = sym (rule-passes 4 (leb (p .L) a) (rest 3) (lt-leb (p .L) a h))
 
   pub stamp-fails : noStamp (m .state) ≡ true → some (Refused 6) ≡ writeFrom 4
-  unfolding writeChecks
+  unfolding writeChecksIn
   stamp-fails e = sym (rule-fails 6 (noStamp (m .state) || noSerial p (m .state)) (rest 4) (ap (λ (x : Bool). x || noSerial p (m .state)) e))
 
   pub write-serial-fails : noStamp (m .state) ≡ false → noSerial p (m .state) ≡ true → some (Refused 6) ≡ writeFrom 4
-  unfolding writeChecks
+  unfolding writeChecksIn
   write-serial-fails e f = sym (rule-fails 6 (noStamp (m .state) || noSerial p (m .state)) (rest 4) (λ j. e j || f j))
 
   pub counts-pass : noStamp (m .state) ≡ false → noSerial p (m .state) ≡ false → writeFrom 5 ≡ writeFrom 4
-  unfolding writeChecks
+  unfolding writeChecksIn
   counts-pass e f = sym (rule-passes 6 (noStamp (m .state) || noSerial p (m .state)) (rest 4) (λ j. e j || f j))
 
-  pub wait-fails : mustWait p (m .state) ≡ true → some (Refused 7) ≡ writeFrom 5
-  unfolding writeChecks
-  wait-fails e = sym (rule-fails 7 (mustWait p (m .state)) (rest 5) e)
+  pub write-zones-fail : writeFull p (seen p k) (m .state) ≡ true → some (Refused 8) ≡ writeFrom 5
+  unfolding writeChecksIn
+  write-zones-fail e = sym (rule-fails 8 (writeFull p (seen p k) (m .state)) (rest 5) e)
 
-  pub wait-passes : mustWait p (m .state) ≡ false → writeFrom 6 ≡ writeFrom 5
-  unfolding writeChecks
-  wait-passes e = sym (rule-passes 7 (mustWait p (m .state)) (rest 5) e)
+  pub write-zones-suffice : writeFull p (seen p k) (m .state) ≡ false → writeFrom 6 ≡ writeFrom 5
+  unfolding writeChecksIn
+  write-zones-suffice e = sym (rule-passes 8 (writeFull p (seen p k) (m .state)) (rest 5) e)
 
-  pub write-zones-fail : scarce p (seen p k) (cond (opens p (m .state)) 2 1) ≡ true → some (Refused 8) ≡ writeFrom 6
-  unfolding writeChecks
-  write-zones-fail e = sym (rule-fails 8 (scarce p (seen p k) (cond (opens p (m .state)) 2 1)) (rest 6) e)
+  pub wait-fails : mustWait p (m .state) ≡ true → some (Refused 7) ≡ writeFrom 6
+  unfolding writeChecksIn
+  wait-fails e = sym (rule-fails 7 (mustWait p (m .state)) (rest 6) e)
 
-  pub write-zones-suffice : scarce p (seen p k) (cond (opens p (m .state)) 2 1) ≡ false → writeFrom 7 ≡ writeFrom 6
-  unfolding writeChecks
-  write-zones-suffice e = sym (rule-passes 8 (scarce p (seen p k) (cond (opens p (m .state)) 2 1)) (rest 6) e)
+  pub wait-passes : mustWait p (m .state) ≡ false → writeFrom 7 ≡ writeFrom 6
+  unfolding writeChecksIn
+  wait-passes e = sym (rule-passes 7 (mustWait p (m .state)) (rest 6) e)
 
   pub write-state-fails : stateOk p (m .state) ≡ false → some (BadZone 0) ≡ writeFrom 7
-  unfolding writeChecks
+  unfolding writeChecksIn
   write-state-fails e = sym (ap (λ (zs : List ℕ). firstRefusal (zones zs ∷ [])) (state-fault p (m .state) e) ∙ zone-fails 0 [])
 
   pub write-state-passes : stateOk p (m .state) ≡ true → none ≡ writeFrom 7
-  unfolding writeChecks
+  unfolding writeChecksIn
   write-state-passes e = sym (ap (λ (zs : List ℕ). firstRefusal (zones zs ∷ [])) (state-fine p (m .state) e) ∙ zones-pass [] [] refl ∙ none-left)

@@ -1,7 +1,8 @@
 // The write call (01, Write).
 ghost use mathlib.Core.Path.{_≡_};
 ghost use mathlib.Core.Bool.{true, false, cond};
-ghost use Prim.Native.Nat.{_<_};
+ghost use mathlib.Core.List.{List};
+ghost use Prim.Native.Nat.{ℕ, _<_};
 ghost use lib.ListN.{length};
 ghost use Rattle.mem_calls.specs.Left.{checked};
 ghost use Rattle.spec.specs.Counts.{lastCount};
@@ -9,9 +10,10 @@ ghost use Rattle.spec.specs.Drives.{mkDisk};
 ghost use Rattle.spec.specs.Engine.{callDisk};
 ghost use Rattle.spec.specs.Engine.Call.{write};
 ghost use Rattle.spec.specs.Memory.{mkMemory, stateLen, stateOf};
-ghost use Rattle.spec.specs.Params.{inRange, dataCount, inflightLen};
+ghost use Rattle.spec.specs.Params.{inRange, dataCount, imageLen, pointersLen, inflightLen};
 ghost use Rattle.call_filling.specs.Aims.{aimOf};
 ghost use Rattle.mem_rows.specs.Rows.{frontOf, afterChange};
+ghost use Rattle.call_write.specs.Order.{writeFrom};
 ghost use Rattle.call_write.specs.Ready.{writeRefusal, planned, plannedRow};
 ghost use Rattle.spec.specs.Lists.{isNil};
 use call_filling::Aim;
@@ -36,7 +38,37 @@ fn reserve(a: Aim) -> usize
     1
 }
 
-// 01, Refusals: the checks of a write, in order. The ranges of the state are looked at in its bytes.
+// 01, Refusals, 6 to 9, of a write; 02, item 3: full before waiting. The ranges of the state are looked at in its bytes.
+fn room_checks(p: Params, pointers: &[u8], bytes: &[u8], f: Front, a: Aim) -> Check
+    requires { ⌜ inRange p ≡ true ⌝ }
+    requires { ⌜ (length (now pointers) ≡ pointersLen p) × (f ≡ frontOf (stateOf (now bytes))) × (a ≡ aimOf p (stateOf (now bytes))) × (length (now bytes) ≡ stateLen) ⌝ }
+    ensures { λ r. ⌜
+        ((im ad co fl b : List ℕ) (x : ℕ)
+        → length im ≡ imageLen p
+        → checked r ≡ writeFrom p (mkDisk im (now (pointers .entry))) (mkMemory (stateOf (now (bytes .entry))) ad co fl) x b 4) ⌝ }
+{
+    if call_filling::no_stamp(f) {
+        return Check::Fail(Answer::Refused(6));
+    }
+    if call_filling::no_serial(f, a) {
+        return Check::Fail(Answer::Refused(6));
+    }
+    let n = reserve(a);
+    let full = call_filling::scarce(p, pointers, n);
+    let wait = call_filling::must_wait(p, f, a);
+    if full {
+        return Check::Fail(Answer::Refused(8));
+    }
+    if wait {
+        return Check::Fail(Answer::Refused(7));
+    }
+    if !mem_bounds::state_ok(p, bytes) {
+        return Check::Fail(Answer::BadZone(0));
+    }
+    Check::Pass
+}
+
+// 01, Refusals: the checks of a write, in order.
 fn checks(
     p: Params,
     image: &[u8],
@@ -73,23 +105,7 @@ fn checks(
     if p.L as u64 <= address.0 {
         return Check::Fail(Answer::Refused(4));
     }
-    if call_filling::no_stamp(f) {
-        return Check::Fail(Answer::Refused(6));
-    }
-    if call_filling::no_serial(f, a) {
-        return Check::Fail(Answer::Refused(6));
-    }
-    if call_filling::must_wait(p, f, a) {
-        return Check::Fail(Answer::Refused(7));
-    }
-    let n = reserve(a);
-    if call_filling::scarce(p, pointers, n) {
-        return Check::Fail(Answer::Refused(8));
-    }
-    if !mem_bounds::state_ok(p, bytes) {
-        return Check::Fail(Answer::BadZone(0));
-    }
-    Check::Pass
+    room_checks(p, pointers, bytes, f, a)
 }
 
 // 01, Write: the block takes the next stamp; a segment is open for it.

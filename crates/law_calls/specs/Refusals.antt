@@ -14,7 +14,7 @@ use Rattle.spec.specs.Params.{parityCount}
 use Rattle.law_basic.specs.Stores.{stores-all, refused-same, done-all, cut-prefix}
 use lib.ListN.{length, take}
 use mathlib.Core.Bool.{Bool, true, false, not, _&&_}
-use mathlib.Core.List.{List, [], _∷_}
+use mathlib.Core.List.{List, [], _∷_, _++_}
 use mathlib.Core.Path.{_≡_, refl, sym, ap, _∙_, subst}
 use borrow.Author.Tests.{leb-true, ne-eqb}
 use native.Mathlib.Omega.{arith}
@@ -43,6 +43,20 @@ zones-pass zs cs e = ap (λ (x : List ℕ). ninth x (firstRefusal cs)) e
 pub none-left : firstRefusal [] ≡ none
 unfolding firstRefusal
 none-left = refl
+
+-- the first of two refusals
+abbrev pub orNext : Opt Answer → Opt Answer → Opt Answer
+orNext none r = r
+orNext (some a) r = some a
+
+-- checks after checks
+pub refusal-append : (xs cs : List Check) → firstRefusal (xs ++ cs) ≡ orNext (firstRefusal xs) (firstRefusal cs)
+unfolding firstRefusal ruled ninth
+refusal-append [] cs = refl
+refusal-append (rule n true ∷ xs) cs = refl
+refusal-append (rule n false ∷ xs) cs = refusal-append xs cs
+refusal-append (zones [] ∷ xs) cs = refusal-append xs cs
+refusal-append (zones (z ∷ zs) ∷ xs) cs = refl
 
 -- what is so where no check holds
 

@@ -25,12 +25,13 @@ use Rattle.spec.specs.Memory.{Memory, hasFilling, stateOk, stateFaults}
 use Rattle.spec.specs.Params.{between, inRange, placeBlock, placeZone, named}
 use Rattle.spec.specs.Read.{Found, lies, foundFaults, decodeFaults, readChecks}
 use Rattle.spec.specs.Rebuild.{namesMissing, rebuildChecks}
-use Rattle.spec.specs.Reclaim.{Victim, tableFaults, isNone, victimLive, idle, reclaimChecks}
+use Rattle.spec.specs.Reclaim.{Victim, tableFaults, isNone, victimLive, idle, mustCopy, copyWaits, copyFull, reclaimBefore, reclaimChecksIn, copyOrder, reclaimChecks}
 use Rattle.spec.specs.Restart.{namesDrive, rewrites, freeSegs, restartChecks}
 use Rattle.spec.specs.Segments.{Segment, greatestSerial}
-use Rattle.spec.specs.Write.{opens, noStamp, noSerial, mustWait, scarce, writeChecks}
+use Rattle.spec.specs.Write.{opens, noStamp, noSerial, mustWait, scarce, CheckOrder, roomRules, writeFull, writeBefore, writeChecksIn, writeOrder, writeChecks}
+use Rattle.spec.specs.Write.CheckOrder.{fullFirst, waitFirst}
 use Rattle.law_basic.specs.Ranges.{or-false, and-left, and-right, not-both}
-use Rattle.law_calls.specs.Refusals.{state-fine as state-clear, state-free}
+use Rattle.law_calls.specs.Refusals.{orNext, refusal-append, state-fine as state-clear, state-free}
 use Rattle.law_checks.specs.Checks.{Mild}
 
 -- ---- lists of checks
@@ -81,6 +82,35 @@ clear (rule n false ∷ cs) c a q = clear cs (c .1 refl) a q
 clear (zones [] ∷ cs) c a q = clear cs (c .1) a q
 clear (zones (z ∷ zs) ∷ cs) c a q = let e = c .0 in absurd (let x : _≡_ {A = ℕ} 0 1 = cc in let y : ⊥ = omega arith in y)
 
+-- ---- 7 and 8, in either order
+
+neither-refuses : (r s : Opt Answer) → orNext r s ≡ none → (r ≡ none) × (s ≡ none)
+neither-refuses none s e = (refl, e)
+neither-refuses (some a) s e = some-none e
+
+rooms-pass : (o : CheckOrder) (wait full : Bool) → firstRefusal (roomRules o wait full) ≡ none → (wait ≡ false) × (full ≡ false)
+unfolding firstRefusal ruled
+rooms-pass o false false e = (refl, refl)
+rooms-pass fullFirst true false e = some-none e
+rooms-pass fullFirst false true e = some-none e
+rooms-pass fullFirst true true e = some-none e
+rooms-pass waitFirst true false e = some-none e
+rooms-pass waitFirst false true e = some-none e
+rooms-pass waitFirst true true e = some-none e
+
+-- no check holds: none before, neither 7 nor 8, none behind
+room-passes : (o : CheckOrder) (before cs : List Check) (wait full : Bool) → firstRefusal (before ++ roomRules o wait full ++ cs) ≡ none
+    → Passes before × (wait ≡ false) × (full ≡ false) × Passes cs
+room-passes o before cs wait full e =
+    let (r, c) = neither-refuses _ _ (sym (refusal-append (before ++ roomRules o wait full) cs) ∙ e) in
+    let (b, w) = neither-refuses _ _ (sym (refusal-append before (roomRules o wait full)) ∙ r) in
+    let (c7, c8) = rooms-pass o wait full w in
+    (passes before b, c7, c8, passes cs c)
+
+room-clear : (o : CheckOrder) (wait full : Bool) (cs : List Check) → Clear cs → Clear (roomRules o wait full ++ cs)
+room-clear fullFirst wait full cs c = (refl, λ c8. (refl, λ c7. c))
+room-clear waitFirst wait full cs c = (refl, λ c7. (refl, λ c8. c))
+
 -- ---- tests
 
 -- a test that is asked only where something lives
@@ -119,10 +149,10 @@ pub record WritePassed (p : Params) (long : Bool) (v : View) (m : Memory) (a : �
 
 module _ (p : Params) (long : Bool) (v : View) (m : Memory) (a : ℕ) (b : List ℕ) where
   pub write-passed : firstRefusal (writeChecks p long v m a b) ≡ none → WritePassed p long v m a b
-  unfolding writeChecks
+  unfolding writeChecksIn
   write-passed e =
       let st = m .state in
-      let (c1, (c2, (c3, (c4, (c6, (c7, (c8, (c9, c)))))))) = passes (writeChecks p long v m a b) e in
+      let ((c1, (c2, (c3, (c4, (c6, before))))), c7, c8, (c9, c)) = room-passes writeOrder (writeBefore p long m a b) (zones (stateFaults p st) ∷ []) (mustWait p st) (writeFull p v st) e in
       let two = or-false (not long) (not (eqb (length b) (p .B))) c2 in
       let six = or-false (noStamp st) (noSerial p st) c6 in
       record {
@@ -139,9 +169,11 @@ module _ (p : Params) (long : Bool) (v : View) (m : Memory) (a : ℕ) (b : List 
       }
 
   pub write-mild : stateOk p (m .state) ≡ true → Mild (writeChecks p long v m a b)
-  unfolding writeChecks
+  unfolding writeChecksIn
   write-mild ok =
-      clear (writeChecks p long v m a b) (refl, λ c1. (refl, λ c2. (refl, λ c3. (refl, λ c4. (refl, λ c6. (refl, λ c7. (refl, λ c8. (state-clear p (m .state) ok, tt))))))))
+      let st = m .state in
+      clear (writeChecks p long v m a b)
+      (refl, λ c1. (refl, λ c2. (refl, λ c3. (refl, λ c4. (refl, λ c6. room-clear writeOrder (mustWait p st) (writeFull p v st) (zones (stateFaults p st) ∷ []) (state-clear p st ok, tt))))))
 
 -- ---- landing
 
@@ -306,12 +338,13 @@ pub record ReclaimPassed (p : Params) (long : Bool) (v : View) (m : Memory) (w :
 
 module _ (p : Params) (long : Bool) (v : View) (m : Memory) (w : Opt Victim) where
   pub reclaim-passed : firstRefusal (reclaimChecks p long v m w) ≡ none → ReclaimPassed p long v m w
-  unfolding reclaimChecks
+  unfolding reclaimChecksIn
   reclaim-passed e =
       let st = m .state in
       let dead = isNil (victimLive w) in
       let ts = tableFaults p (m .addresses) in
-      let (c1, (c2, (c3, (c5, (c6, (c7, (c8, (c9, c)))))))) = passes (reclaimChecks p long v m w) e in
+      let zs = stateFaults p st ++ ts ++ strayFaults p w in
+      let ((c1, (c2, (c3, (c5, (c6, before))))), c7, c8, (c9, c)) = room-passes copyOrder (reclaimBefore p long v m w) (zones zs ∷ []) (copyWaits p st w) (copyFull p v st w) e in
       let five = or-false (isNone w) (not dead && isNil (idle p v st w)) c5 in
       let nine = nil-both (stateFaults p st ++ ts) (strayFaults p w) c9 in
       let state = nil-both (stateFaults p st) ts (nine .0) in
@@ -331,10 +364,11 @@ module _ (p : Params) (long : Bool) (v : View) (m : Memory) (w : Opt Victim) whe
 
   pub reclaim-mild : stateOk p (m .state) ≡ true → (m .state .missing ≡ 0 → tableFaults p (m .addresses) ≡ [])
       → (m .state .missing ≡ 0 → isNone w ≡ false → strayFaults p w ≡ []) → Mild (reclaimChecks p long v m w)
-  unfolding reclaimChecks
+  unfolding reclaimChecksIn
   reclaim-mild ok table live =
       let st = m .state in
       let ts = tableFaults p (m .addresses) in
+      let zs = stateFaults p st ++ ts ++ strayFaults p w in
       clear (reclaimChecks p long v m w) (
         refl,
         λ c1. (
@@ -345,16 +379,11 @@ module _ (p : Params) (long : Bool) (v : View) (m : Memory) (w : Opt Victim) whe
               refl,
               λ c5. (
                 refl,
-                λ c6. (
-                  refl,
-                  λ c7. (
-                    refl,
-                    λ c8.
-                        let h = none-missing (st .missing) c3 in
-                        let five = or-false (isNone w) (not (isNil (victimLive w)) && isNil (idle p v st w)) c5 in
-                        (nil-all (stateFaults p st ++ ts) (strayFaults p w) (nil-all (stateFaults p st) ts (state-clear p st ok) (table h)) (live h (five .0)), tt),
-                  ),
-                ),
+                λ c6.
+                    let h = none-missing (st .missing) c3 in
+                    let five = or-false (isNone w) (mustCopy w && isNil (idle p v st w)) c5 in
+                    let fine = nil-all (stateFaults p st ++ ts) (strayFaults p w) (nil-all (stateFaults p st) ts (state-clear p st ok) (table h)) (live h (five .0)) in
+                    room-clear copyOrder (copyWaits p st w) (copyFull p v st w) (zones zs ∷ []) (fine, tt),
               ),
             ),
           ),

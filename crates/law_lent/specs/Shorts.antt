@@ -23,10 +23,10 @@ use Rattle.spec.specs.Params.{inRange, named}
 use Rattle.spec.specs.Read.{Found, lookup, readAnswer, readChecks, readPlan, readVerdict, fillPlan, fillVerdict}
 use Rattle.spec.specs.Read.Found.{nowhere, here, away}
 use Rattle.spec.specs.Rebuild.{namesMissing, rebuildChecks, rebuildStores, rebuildVerdict}
-use Rattle.spec.specs.Reclaim.{Victim, victim, victimSegment, victimLive, idle, reclaimChecks, resetPlan, copyPlan, reclaimVerdict}
+use Rattle.spec.specs.Reclaim.{Victim, victim, victimSegment, victimLive, idle, reclaimChecks, reclaimChecksIn, resetPlan, copyPlan, reclaimVerdictIn}
 use Rattle.spec.specs.Restart.{namesDrive, restartChecks, restartPlan, restartVerdict}
 use Rattle.spec.specs.Segments.{Segment, segments}
-use Rattle.spec.specs.Write.{writeChecks, writePlan, writeVerdict}
+use Rattle.spec.specs.Write.{writeChecks, writeChecksIn, writePlan, writeVerdictIn}
 use Rattle.law_calls.specs.Refusals.{rule-fails, rule-passes, call-refused}
 use Rattle.law_views.specs.Views.{seen}
 use Rattle.law_lent.specs.Hosts.{refused-keeps}
@@ -66,7 +66,7 @@ module _ (p : Params) (k : Disk) (m : Memory) where
   -- ---- write
 
   pub write-short : (a : ℕ) (b : List ℕ) (n : ℕ) → callOn p false k m (write a b n) ≡ mkAfter (shortAnswer (inRange p)) k m b
-  unfolding callOn storeCount lentBlock verdict writeVerdict writeChecks emptyVerdict emptyChecks
+  unfolding callOn storeCount lentBlock verdict writeVerdictIn writeChecksIn emptyVerdict emptyChecks
   write-short a [] n =
       call-refused p (storeDisk p) n k m [] (firstRefusal (emptyChecks p false v m a)) (emptyPlan p m) (shortAnswer (inRange p))
       (short-rules (inRange p) (drop 2 (emptyChecks p false v m a)))
@@ -76,7 +76,7 @@ module _ (p : Params) (k : Disk) (m : Memory) where
 
   pub write-keeps : (a : ℕ) (b : List ℕ) (n : ℕ) → isRefused (callDisk p k m (write a b n) .answer) ≡ true
       → callDisk p k m (write a b n) ≡ mkAfter (callDisk p k m (write a b n) .answer) k m b
-  unfolding callDisk callOn storeCount lentBlock verdict writeVerdict writePlan emptyVerdict emptyPlan closePlan isRefused kind
+  unfolding callDisk callOn storeCount lentBlock verdict writeVerdictIn writePlan emptyVerdict emptyPlan closePlan isRefused kind
   write-keeps a [] n =
       refused-keeps p (storeDisk p) n k m [] (firstRefusal (emptyChecks p (lentOk p k m) v m a)) (emptyPlan p m)
       (either-answer (hasFilling p (m .state)) (closePlan p m) (mkPlan [] Nothing m []) refl refl)
@@ -115,7 +115,7 @@ module _ (p : Params) (k : Disk) (m : Memory) where
   duePlan = cond (isNil (victimLive w)) (resetPlan p m (victimSegment w)) (copyPlan p v m (firstOr 0 (idle p v (m .state) w)))
 
   pub reclaim-short : (n : ℕ) → callOn p false k m (reclaim n) ≡ mkAfter (shortAnswer (inRange p)) k m []
-  unfolding callOn storeCount lentBlock verdict reclaimVerdict reclaimChecks
+  unfolding callOn storeCount lentBlock verdict reclaimVerdictIn reclaimChecksIn
   reclaim-short n =
       call-refused p (storeDisk p) n k m [] (firstRefusal (reclaimChecks p false v m w)) duePlan (shortAnswer (inRange p))
       (short-rules (inRange p) (drop 2 (reclaimChecks p false v m w)))
@@ -125,7 +125,7 @@ module _ (p : Params) (k : Disk) (m : Memory) where
   due-answer = either-answer (isNil (victimLive w)) (resetPlan p m (victimSegment w)) (copyPlan p v m (firstOr 0 (idle p v (m .state) w))) refl refl
 
   pub reclaim-keeps : (n : ℕ) → isRefused (callDisk p k m (reclaim n) .answer) ≡ true → callDisk p k m (reclaim n) ≡ mkAfter (callDisk p k m (reclaim n) .answer) k m []
-  unfolding callDisk callOn storeCount lentBlock verdict reclaimVerdict
+  unfolding callDisk callOn storeCount lentBlock verdict reclaimVerdictIn
   reclaim-keeps n = refused-keeps p (storeDisk p) n k m [] (firstRefusal (reclaimChecks p (lentOk p k m) v m w)) duePlan due-answer
 
   -- ---- the two reads

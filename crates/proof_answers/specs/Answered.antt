@@ -1,14 +1,13 @@
 -- Demand 1: from the verdict of a call, what it leaves for every store count; then the call with its own. Assumes nothing.
 use mathlib.Core.Path.{_≡_, refl, sym, ap, _∙_, subst}
 use mathlib.Core.List.{List, []}
-use mathlib.Core.Bool.{Bool, true, false, _&&_}
+use mathlib.Core.Bool.{Bool, true, false}
 use mathlib.Core.Logic.{_⊎_, inl, inr}
 use Prim.Native.Nat.{ℕ, _≤_, _<_}
 use borrow.Author.Tests.{ne-eqb, leb-true}
 use native.Mathlib.Decide.{decLe}
 use native.Mathlib.Nat.{le-refl}
 use native.Mathlib.Omega.{arith}
-use lib.Dec.{eqb}
 use lib.ListN.{length, take, replicate}
 use Rattle.spec.specs.declared.Params.{Params}
 use Rattle.spec.specs.declared.Answer.{Answer}
@@ -18,7 +17,7 @@ use Rattle.spec.specs.Bytes.{toLe}
 use Rattle.spec.specs.Calls.{Plan, Verdict, After, mkAfter, cutMemory, outcome}
 use Rattle.spec.specs.Calls.Verdict.{refused, due}
 use Rattle.spec.specs.Drives.{Store, Disk, storeDisk, storeAll}
-use Rattle.spec.specs.Engine.{Call, storeCount, lentBlock, verdict, lentOk, Lent, Left, lentDisk, lentMemory, lentAll, leftBy, callBytes}
+use Rattle.spec.specs.Engine.{Call, storeCount, lentBlock, verdict, Lent, Left, lentDisk, lentMemory, lentAll, leftBy, lentLong, callBytes}
 use Rattle.spec.specs.Lists.{flat, total, isMember, zipped}
 use Rattle.spec.specs.Memory.{Memory, idleState, zeroState, stateSections, sectionLen, stateLen, stateNumbers, sectionBytes, stateBytes}
 use Rattle.law_basic.specs.Stores.{refused-same, done-all, cut-prefix}
@@ -48,7 +47,7 @@ module _ (p : Params) (l : Lent) (c : Call) where
 
   -- 01, Refusals, 2: the lengths of all six buffers
   abbrev pub long : Bool
-  long = lentOk p disk memory && eqb (length (l .state)) stateLen
+  long = lentLong p l
 
   abbrev pub decidedBy : Verdict
   decidedBy = verdict p long (seen p disk) memory c

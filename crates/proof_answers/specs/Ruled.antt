@@ -22,10 +22,10 @@ use Rattle.spec.specs.Lists.{Opt, isNil, firstOr}
 use Rattle.spec.specs.Memory.{Memory, stateLen}
 use Rattle.spec.specs.Params.{inRange, placeBlock, placeZone, placeDrive, named}
 use Rattle.spec.specs.Rebuild.{rebuildChecks, rebuildStores, rebuildVerdict}
-use Rattle.spec.specs.Reclaim.{Victim, victim, isNone, victimSegment, victimLive, idle, reclaimChecks, resetPlan, copyPlan, reclaimVerdict}
+use Rattle.spec.specs.Reclaim.{Victim, victim, isNone, victimSegment, victimLive, idle, reclaimChecks, resetPlan, copyPlan, reclaimVerdict, reclaimVerdictIn}
 use Rattle.spec.specs.Restart.{freeSegs, restartStores, rewrites, restartChecks, restartPlan, restartVerdict}
 use Rattle.spec.specs.Segments.{segments}
-use Rattle.spec.specs.Write.{opens, scarce, writeChecks, writePlan, writeVerdict}
+use Rattle.spec.specs.Write.{opens, scarce, writeChecks, writePlan, writeVerdict, writeVerdictIn}
 use Rattle.law_basic.specs.Geometry.{Ranged, ranged}
 use Rattle.law_basic.specs.Ranges.{Test, test, and-left}
 use Rattle.law_basic.specs.Ranges.Test.{yes!, no! }
@@ -107,7 +107,7 @@ module _ (p : Params) (l : Lent) (c : Call) where
   -- ---- call by call
 
   write-obeys : (a : ℕ) (b : List ℕ) → ObeyAll p k (dueOf (writeVerdict p lo v m a b))
-  unfolding writeVerdict
+  unfolding writeVerdictIn
   write-obeys a b = obeys-of (writeChecks p lo v m a b) (writePlan p v m a b) go
     where
       go : firstRefusal (writeChecks p lo v m a b) ≡ none → ObeyAll p k (writePlan p v m a b .stores)
@@ -139,7 +139,7 @@ module _ (p : Params) (l : Lent) (c : Call) where
   copying = copyPlan p v m (firstOr 0 (idle p v (m .state) taking))
 
   reclaim-obeys : ObeyAll p k (dueOf (reclaimVerdict p lo v m))
-  unfolding reclaimVerdict
+  unfolding reclaimVerdictIn
   reclaim-obeys = obeys-of (reclaimChecks p lo v m taking) (cond (isNil (victimLive taking)) resetting copying) go
     where
       reset-able : RuledReady → isNone taking ≡ false → Able p v (resetting .stores)

@@ -28,10 +28,10 @@ use Rattle.spec.specs.Params.{named}
 use Rattle.spec.specs.Read.{Found, lookup, readAnswer, readChecks, readVerdict, fillVerdict, readPlan, fillPlan}
 use Rattle.spec.specs.Read.Found.{nowhere, here, away}
 use Rattle.spec.specs.Rebuild.{rebuildChecks, rebuildStores, rebuildVerdict}
-use Rattle.spec.specs.Reclaim.{victim, victimSegment, victimLive, idle, reclaimChecks, resetPlan, copyPlan, reclaimVerdict}
+use Rattle.spec.specs.Reclaim.{victim, victimSegment, victimLive, idle, reclaimChecks, reclaimChecksIn, resetPlan, copyPlan, reclaimVerdict, reclaimVerdictIn}
 use Rattle.spec.specs.Restart.{restartChecks, restartPlan, restartVerdict}
 use Rattle.spec.specs.Segments.{segments}
-use Rattle.spec.specs.Write.{writeChecks, writePlan, writeVerdict}
+use Rattle.spec.specs.Write.{writeChecks, writeChecksIn, writePlan, writeVerdict, writeVerdictIn}
 use Rattle.law_basic.specs.Ranges.{and-left, and-right, member-all}
 use Rattle.law_basic.specs.Stores.{no-count}
 use Rattle.spec_demands.specs.Answering.{refusalsOf, resultsOf, canStore, refusalNumber, withCount}
@@ -90,7 +90,7 @@ module _ (p : Params) (long : Bool) (v : View) (m : Memory) where
       stores false = refl
 
   write-says : (a x : ℕ) (b : List ℕ) (n : ℕ) → VerdictSays (write a (x ∷ b) n) (writeVerdict p long v m a (x ∷ b))
-  unfolding writeVerdict writeChecks writePlan numbersOf all any isMember refusalsOf resultsOf canStore kind
+  unfolding writeVerdictIn writeChecksIn writePlan numbersOf all any isMember refusalsOf resultsOf canStore kind
   write-says a x b n = says-decided (write a (x ∷ b) n) (writeChecks p long v m a (x ∷ b)) (writePlan p v m a (x ∷ b)) refl refl (inl refl)
 
   land-says : (d s n : ℕ) → VerdictSays (land d s n) (landVerdict p long v m d s)
@@ -102,7 +102,7 @@ module _ (p : Params) (long : Bool) (v : View) (m : Memory) where
   close-says n = says-decided (close n) (closeChecks p long v m) (closePlan p m) refl refl (inr refl)
 
   reclaim-says : (n : ℕ) → VerdictSays (reclaim n) (reclaimVerdict p long v m)
-  unfolding reclaimVerdict reclaimChecks numbersOf all any isMember refusalsOf resultsOf canStore
+  unfolding reclaimVerdictIn reclaimChecksIn numbersOf all any isMember refusalsOf resultsOf canStore
   reclaim-says n =
       let w = victim p v (m .addresses) in
       let a = resetPlan p m (victimSegment w) in

@@ -21,7 +21,7 @@ use Rattle.spec.specs.Closing.{padded, closeChecks, closePlan, closeVerdict, em
 use Rattle.spec.specs.Counts.{paddingAddress}
 use Rattle.spec.specs.Demands.{areBytes}
 use Rattle.spec.specs.Drives.{View, Disk, storeDisk, storeAll}
-use Rattle.spec.specs.Engine.{storeCount, lentBlock, verdict, lentOk, callOn, Lent, Left, lentDisk, lentMemory, lentAll, leftBy, callBytes}
+use Rattle.spec.specs.Engine.{storeCount, lentBlock, verdict, lentOk, callOn, Lent, Left, lentDisk, lentMemory, lentAll, leftBy, lentLong, leftAs, callBytes}
 use Rattle.spec.specs.Engine.Call.{write, close}
 use Rattle.spec.specs.History.{Send, mkSend, sentBy}
 use Rattle.spec.specs.Lists.{Opt, consIf}
@@ -60,14 +60,14 @@ module _ (p : Params) (l : Lent) (a n : ℕ) where
   memory = lentMemory l
 
   abbrev long : Bool
-  long = lentOk p disk memory && eqb (length (l .state)) stateLen
+  long = lentLong p l
 
   abbrev view : View
   view = seen p disk
 
   -- what a verdict leaves, told k
   abbrev leaves! : ℕ → Verdict → Left
-  leaves! k w = let r = outcome p (storeDisk p) k disk memory [] w in leftBy l r (isRefused (r .answer))
+  leaves! k w = leftAs l (outcome p (storeDisk p) k disk memory [] w)
 
   empty-is : emptyLeft p l a n ≡ leaves! n (emptyVerdict p long view memory a)
   unfolding emptyLeft callBytes callOn storeCount lentBlock verdict

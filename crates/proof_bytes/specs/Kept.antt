@@ -1,9 +1,9 @@
 -- Every call, on any lent bytes: the state that it leaves fits, all that it leaves is bytes, and on bytes it does what it does on the decoded state. Assumes nothing.
 use mathlib.Core.Path.{_≡_, refl, sym, ap, _∙_, subst}
 use mathlib.Core.List.{List, [], _∷_}
-use mathlib.Core.Bool.{Bool, true, false, _&&_, cond}
+use mathlib.Core.Bool.{Bool, true, false, cond}
 use Prim.Native.Nat.{ℕ}
-use lib.Dec.{leb, eqb}
+use lib.Dec.{leb}
 use lib.ListN.{length, take}
 use Rattle.spec.specs.Lists.Opt.{none}
 use Rattle.spec.specs.declared.Params.{Params}
@@ -14,7 +14,7 @@ use Rattle.spec.specs.Answers.{isRefused, finished}
 use Rattle.spec.specs.Calls.{firstRefusal, Verdict, decided, After, mkAfter, cutMemory, limited, outcome, mkPlan}
 use Rattle.spec.specs.Calls.Verdict.{due}
 use Rattle.spec.specs.Drives.{View, Store, Disk, storeDisk, storeAll}
-use Rattle.spec.specs.Engine.{Call, storeCount, lentBlock, lentOk, callOn, callDisk, Lent, Left, lentDisk, lentMemory, lentAll, leftBy, callBytes}
+use Rattle.spec.specs.Engine.{Call, storeCount, lentBlock, lentOk, callOn, callDisk, Lent, Left, lentDisk, lentMemory, lentAll, leftBy, lentLong, callBytes}
 use Rattle.spec.specs.Engine.Call.{write, land, close, reclaim, read, fill, restart, rebuild}
 use Rattle.spec.specs.Lists.{firstOr}
 use Rattle.spec.specs.Memory.{Memory, mkMemory, stateLen, hasFilling}
@@ -225,7 +225,7 @@ module _ (p : Params) (l : Lent) (c : Call) (h : LentBytes l) (b : Bytes (lentBl
   call-bytes = go (isRefused (r .answer)) (on-bytes p long (lentDisk l) (lentMemory l) c (h .image-bytes) (h .inflight-bytes) b)
     where
       long : Bool
-      long = lentOk p (lentDisk l) (lentMemory l) && eqb (length (l .state)) stateLen
+      long = lentLong p l
 
       r : After Disk
       r = callOn p long (lentDisk l) (lentMemory l) c

@@ -9,3 +9,4 @@ pub mod Runs
 pub mod Two
 pub mod Three
 pub mod Emptied
+pub mod Reordered

@@ -27,9 +27,9 @@ use Rattle.spec.specs.Params.{imageLen, pointersLen, addressesLen, compactLen, 
 use Rattle.spec.specs.Read.{Found, Lookup, lookup, readAnswer, readChecks, readPlan, readVerdict, fillPlan, fillVerdict}
 use Rattle.spec.specs.Read.Found.{nowhere, here, away}
 use Rattle.spec.specs.Rebuild.{rebuildChecks, rebuildStores, rebuildVerdict}
-use Rattle.spec.specs.Reclaim.{Victim, victim, victimSegment, victimLive, idle, reclaimChecks, resetPlan, copyPlan, reclaimVerdict}
+use Rattle.spec.specs.Reclaim.{Victim, victim, victimSegment, victimLive, idle, reclaimChecks, resetPlan, copyPlan, reclaimVerdictIn}
 use Rattle.spec.specs.Segments.{segments}
-use Rattle.spec.specs.Write.{sending, writeChecks, writePlan, writeVerdict}
+use Rattle.spec.specs.Write.{sending, writeChecks, writePlan, writeVerdictIn}
 use Rattle.law_drives.specs.Tests.{clash}
 use Rattle.law_basic.specs.Geometry.{Ranged}
 use Rattle.law_basic.specs.Ranges.{and-left, and-right}
@@ -223,7 +223,7 @@ module _ (p : Params) (h : Ranged p) (k : Disk) (m : Memory) (ss : List Send) (n
   Goal c = Next p h (x .live .g) n (callDisk p k m c) (sentAfter c (callDisk p k m c .answer) ss)
 
   write-next : (a y : ℕ) (more : List ℕ) (count : ℕ) → Goal (write a (y ∷ more) count)
-  unfolding callDisk callOn storeCount lentBlock verdict writeVerdict
+  unfolding callDisk callOn storeCount lentBlock verdict writeVerdictIn
   write-next a y more count =
       decided-next (write a (y ∷ more) count) count (y ∷ more) (writeChecks p long v m a (y ∷ more)) (writePlan p v m a (y ∷ more))
       (ss ++ (mkSend a (suc (m .state .stamp .0)) (y ∷ more) (sentStripe p v (m .state)) true false ∷ []))
@@ -303,7 +303,7 @@ module _ (p : Params) (h : Ranged p) (k : Disk) (m : Memory) (ss : List Send) (n
       sent false = unfold sentAfter endsRun isCut finished kind ackedBy sentBy consIf in append-nil ss
 
   reclaim-next : (count : ℕ) → Goal (reclaim count)
-  unfolding callDisk callOn storeCount lentBlock verdict reclaimVerdict reclaimPlan
+  unfolding callDisk callOn storeCount lentBlock verdict reclaimVerdictIn reclaimPlan
   reclaim-next count =
       decided-next (reclaim count) count [] (reclaimChecks p long v m (victim p v (m .addresses))) (reclaimPlan p v m) ss
       (λ e. reclaim-ok p h v m ss n (x .live) (lent-inflight (fits e)) long e) uncut open? sent

@@ -24,10 +24,10 @@ use Rattle.spec.specs.Memory.{Memory}
 use Rattle.spec.specs.Params.{inRange, named}
 use Rattle.spec.specs.Read.{readChecks, readPlan, readVerdict, fillPlan, fillVerdict}
 use Rattle.spec.specs.Rebuild.{rebuildChecks, rebuildStores, rebuildVerdict}
-use Rattle.spec.specs.Reclaim.{victim, victimSegment, victimLive, idle, reclaimChecks, resetPlan, copyPlan, reclaimVerdict}
+use Rattle.spec.specs.Reclaim.{victim, victimSegment, victimLive, idle, reclaimChecks, resetPlan, copyPlan, reclaimVerdictIn}
 use Rattle.spec.specs.Restart.{namesDrive, restartChecks, restartPlan, restartVerdict}
 use Rattle.spec.specs.Segments.{segments}
-use Rattle.spec.specs.Write.{writeChecks, writePlan, writeVerdict}
+use Rattle.spec.specs.Write.{writeChecks, writePlan, writeVerdictIn}
 use Rattle.law_drives.specs.Tests.{clash}
 use Rattle.law_basic.specs.Ranges.{and-both}
 use Rattle.law_views.specs.Views.{seen}
@@ -45,7 +45,7 @@ pub record Decides (p : Params) (long : Bool) (v : View) (m : Memory) (c : Call)
   pub is : verdict p long v m c ≡ decided (firstRefusal checks) plan
 
 unfoldable pub decides : (p : Params) (long : Bool) (v : View) (m : Memory) (c : Call) → Decides p long v m c
-unfolding verdict writeVerdict emptyVerdict landVerdict closeVerdict reclaimVerdict readVerdict fillVerdict restartVerdict rebuildVerdict
+unfolding verdict writeVerdictIn emptyVerdict landVerdict closeVerdict reclaimVerdictIn readVerdict fillVerdict restartVerdict rebuildVerdict
 decides p long v m (write a [] n) = record { checks = emptyChecks p long v m a; plan = emptyPlan p m; is = refl }
 decides p long v m (write a (x ∷ b) n) = record { checks = writeChecks p long v m a (x ∷ b); plan = writePlan p v m a (x ∷ b); is = refl }
 decides p long v m (land d s n) = record { checks = landChecks p long v m d s; plan = landPlan p v m d s; is = refl }

@@ -12,7 +12,7 @@ use Rattle.spec.specs.Drives.{storeView, pointerByte, pointerOf, setPointer, st
 use Rattle.spec.specs.Drives.{emptySegs, sealedIn, dataStored, blocksOf, sparesOf, recordIn, recordAt, footersOf, zeroSpare, headerStores}
 use Rattle.spec.specs.Drives.{footerStores, resetStores}
 use Rattle.spec.specs.Engine.{storeCount, lentBlock, verdict, lentOk, callOn, callDisk, lentDisk, lentMemory, lentAll, leftBy, callBytes}
-use Rattle.spec.specs.Examples.{blockOf}
+use Rattle.spec.specs.Examples.{emptyLent, runs, fresh, blockOf}
 use Rattle.spec.specs.Faults.{pointerFaults, sameChunk, headerFault, serialFault, outside, twice, stripeFault, badRec, storedBad, decodedBad}
 use Rattle.spec.specs.Faults.{addressFault, footersStored, sameBlocks, footerFaultIn, footerFault, clashes, segmentFault, segmentFaults, imageChecks}
 use Rattle.spec.specs.History.{callOf, restartOf, inOrder, swapped, before, happens, onlyIf, orderly, restartIn, worldAfter, acknowledge, forget}
@@ -39,7 +39,7 @@ use Rattle.spec.specs.Read.{placeFaults, lies, foundFaults, shown, decodeFaults
 use Rattle.spec.specs.Read.{readPlan, readVerdict, fillPlan, fillVerdict}
 use Rattle.spec.specs.Rebuild.{namesMissing, rebuildChecks, rebuiltZone, rebuildStores, rebuildVerdict}
 use Rattle.spec.specs.Reclaim.{placesIn, tableFaults, segmentPlaces, liveIn, flying, victimOf, fewer, fewest, victim, isNone, victimSegment}
-use Rattle.spec.specs.Reclaim.{victimLive, idle, reclaimChecks, clearedRow, cleared, resetPlan, copyPlan, reclaimVerdict}
+use Rattle.spec.specs.Reclaim.{victimLive, idle, reclaimChecksIn, clearedRow, cleared, resetPlan, copyPlan, reclaimVerdictIn}
 use Rattle.spec.specs.Restart.{freeSegs, isWhole, isRagged, missingFooters, renumbered, movedPieces, movedOn, movedStripe, movedStripes, rewriteStores}
 use Rattle.spec.specs.Restart.{dropStores, mendStores, restartStores, openOf, nextOf, restartMemory, uncountedIn, reportOf, namesDrive, rewrites}
 use Rattle.spec.specs.Restart.{restartChecks, restartPlan, restartVerdict}
@@ -47,7 +47,10 @@ use Rattle.spec.specs.Segments.{lowDrive, headerAt, leftBy1, isCopy, remaining,
 use Rattle.spec.specs.Segments.{counted, uncounted, storedPiece, pieceOf, putPiece, storedRec, recOf, offsetOf, candOf, segmentCands, candidates}
 use Rattle.spec.specs.Segments.{addressTable, compactRow, rowOf, compactTable, greatestStamp, greatestSerial, unsealed}
 use Rattle.spec.specs.Write.{mustOpen, opens, noStamp, noSerial, otherGroup, mustWait, scarce, placed, openedBy, slotFor, begunBy, sending}
-use Rattle.spec.specs.Write.{writeChecks, writePlan, writeVerdict}
+use Rattle.spec.specs.Write.{writeChecksIn, writePlan, writeVerdictIn}
+use Rattle.spec_demands.specs.Engines.{callWorld, callLent, viewIn, readsAs}
+use Rattle.spec_demands.specs.FullFirst.{verdictIn, callIn, unrefused, bothHold, crowded, refusedAs}
+use Rattle.proof_crash_witness.specs.Crowded.{stripeFor, stripeLands, groupFrom, filling, lentThen}
 use Rattle.proof_crash_witness.specs.Observed.{answerNumbers, seenNumbers, restartReads, answersOf, readsOf}
 use Rattle.proof_crash_witness.specs.Table.{readAs, anyBytes, anyMemory, boot, bootWithout, disk, firstUse, moved, sealed, driveLost, driveBack, overwritten}
 use Rattle.proof_crash_witness.specs.Table.{reclaimed, movedAgain, eventsIn, answersIn, readsIn, table, history}
@@ -61,29 +64,30 @@ unfolding ones onesIn kind values isRefused isRefusedAs stampTold isCut finished
     emptyPlan emptyVerdict areBytes saidBlock saidAt noChunk noZone stored zoneAt pointerAt chunkAt chunkOf zoneOf driveOf viewOf putZone resetZone
     setZone storeView pointerByte pointerOf setPointer storeDisk storeAll sameSeg allSegs zoneOn placeSegment emptyOnAll emptySegs sealedIn dataStored
     blocksOf sparesOf recordIn recordAt footersOf zeroSpare headerStores footerStores resetStores storeCount lentBlock verdict lentOk callOn callDisk
-    lentDisk lentMemory lentAll leftBy callBytes blockOf pointerFaults sameChunk headerFault serialFault outside twice stripeFault badRec storedBad
-    decodedBad addressFault footersStored sameBlocks footerFaultIn footerFault clashes segmentFault segmentFaults imageChecks callOf restartOf inOrder
-    swapped before happens onlyIf orderly restartIn worldAfter acknowledge forget sentBy ackedBy endsRun sentAfter untrustedAfter marked step
-    emptyDisk began namesAll allowed seenBy seenAt partAt partLen slotOf ready waiting completes seals flightRec misplaced overfull entryFaults
-    landFaults serialAt heldCand heldBy held landedCand landedCands pointed landChecks sealStores writesIn landStore landPlan landVerdict parityDrive
-    dataDrive dataPosition isData parityPosition dataDrives group inGroupOf groupOffsets compactEntry headerVersion headerTable headerWidths headerLen
-    headerFields headerBlock headerSerial headerCopied recordFields recordBytes recordOf footerBlock footerRecord upFrom below all any isMember consIf
-    keep tally isNil sucUnless indexOf flat total greatest least firstOr sameList padTo pieces zipped powers only isIn slotCount slots cell idleState
-    zeroState stateSections sectionLen sectionAt stateLen numbersAt sectionOf numberOf stateNumbers sectionBytes stateBytes stateOf stripeIn filledIn
-    landedIn isWrite entryIn entriesIn offsetIn openSegment isFree isFull isFilling inFlight freeSlot fillingSlot hasFilling holdsAt holds slotOk
-    stateOk stateFaults setStamp setOpen setClosed beginStripe addEntry landedMask markLanded freeStripe placeAt setPlace compactAt shownAt slotByte
-    slotBlock setSlotBlock setSlotParity between blockSizes parityCount dataCount mostAddresses inRange recordTable recordWidths spareLen perFooter
-    footers capacity unitLen zoneLen driveLen imageLen pointersLen addressesLen compactLen inflightLen placeOf placeBlock placeZone placeDrive
-    placeByte noDrive named drivesOf present absent parityRec parityPiece encodeBlock encodeRec encodePiece decodeBlock decodeRec decodePiece beats
-    better best placeOr candsOf placeFaults lies foundFaults shown decodeFaults storedAt decodedAt readPiece lookup readAnswer readChecks readPlan
-    readVerdict fillPlan fillVerdict namesMissing rebuildChecks rebuiltZone rebuildStores rebuildVerdict placesIn tableFaults segmentPlaces liveIn
-    flying victimOf fewer fewest victim isNone victimSegment victimLive idle reclaimChecks clearedRow cleared resetPlan copyPlan reclaimVerdict
-    freeSegs isWhole isRagged missingFooters renumbered movedPieces movedOn movedStripe movedStripes rewriteStores dropStores mendStores restartStores
-    openOf nextOf restartMemory uncountedIn reportOf namesDrive rewrites restartChecks restartPlan restartVerdict lowDrive headerAt leftBy1 isCopy
-    remaining recordsIn segmentOf segments recsOn offsetOn hasChunk counts counted uncounted storedPiece pieceOf putPiece storedRec recOf offsetOf
-    candOf segmentCands candidates addressTable compactRow rowOf compactTable greatestStamp greatestSerial unsealed mustOpen opens noStamp noSerial
-    otherGroup mustWait scarce placed openedBy slotFor begunBy sending writeChecks writePlan writeVerdict answerNumbers seenNumbers restartReads
-    answersOf readsOf readAs anyBytes anyMemory boot bootWithout disk firstUse moved sealed driveLost driveBack overwritten reclaimed movedAgain
-    eventsIn answersIn readsIn table history packFrom unpack unpackAll packed unpacked joined parted firm soft worldLists stateFrom worldFrom
-    markLists markFrom bit isOne sendLists sendsFrom toldLists toldIn toldNumbers toldOf toldFrom start heard tell
+    lentDisk lentMemory lentAll leftBy callBytes emptyLent runs fresh blockOf pointerFaults sameChunk headerFault serialFault outside twice
+    stripeFault badRec storedBad decodedBad addressFault footersStored sameBlocks footerFaultIn footerFault clashes segmentFault segmentFaults
+    imageChecks callOf restartOf inOrder swapped before happens onlyIf orderly restartIn worldAfter acknowledge forget sentBy ackedBy endsRun
+    sentAfter untrustedAfter marked step emptyDisk began namesAll allowed seenBy seenAt partAt partLen slotOf ready waiting completes seals flightRec
+    misplaced overfull entryFaults landFaults serialAt heldCand heldBy held landedCand landedCands pointed landChecks sealStores writesIn landStore
+    landPlan landVerdict parityDrive dataDrive dataPosition isData parityPosition dataDrives group inGroupOf groupOffsets compactEntry headerVersion
+    headerTable headerWidths headerLen headerFields headerBlock headerSerial headerCopied recordFields recordBytes recordOf footerBlock footerRecord
+    upFrom below all any isMember consIf keep tally isNil sucUnless indexOf flat total greatest least firstOr sameList padTo pieces zipped powers only
+    isIn slotCount slots cell idleState zeroState stateSections sectionLen sectionAt stateLen numbersAt sectionOf numberOf stateNumbers sectionBytes
+    stateBytes stateOf stripeIn filledIn landedIn isWrite entryIn entriesIn offsetIn openSegment isFree isFull isFilling inFlight freeSlot fillingSlot
+    hasFilling holdsAt holds slotOk stateOk stateFaults setStamp setOpen setClosed beginStripe addEntry landedMask markLanded freeStripe placeAt
+    setPlace compactAt shownAt slotByte slotBlock setSlotBlock setSlotParity between blockSizes parityCount dataCount mostAddresses inRange
+    recordTable recordWidths spareLen perFooter footers capacity unitLen zoneLen driveLen imageLen pointersLen addressesLen compactLen inflightLen
+    placeOf placeBlock placeZone placeDrive placeByte noDrive named drivesOf present absent parityRec parityPiece encodeBlock encodeRec encodePiece
+    decodeBlock decodeRec decodePiece beats better best placeOr candsOf placeFaults lies foundFaults shown decodeFaults storedAt decodedAt readPiece
+    lookup readAnswer readChecks readPlan readVerdict fillPlan fillVerdict namesMissing rebuildChecks rebuiltZone rebuildStores rebuildVerdict
+    placesIn tableFaults segmentPlaces liveIn flying victimOf fewer fewest victim isNone victimSegment victimLive idle reclaimChecksIn clearedRow
+    cleared resetPlan copyPlan reclaimVerdictIn freeSegs isWhole isRagged missingFooters renumbered movedPieces movedOn movedStripe movedStripes
+    rewriteStores dropStores mendStores restartStores openOf nextOf restartMemory uncountedIn reportOf namesDrive rewrites restartChecks restartPlan
+    restartVerdict lowDrive headerAt leftBy1 isCopy remaining recordsIn segmentOf segments recsOn offsetOn hasChunk counts counted uncounted
+    storedPiece pieceOf putPiece storedRec recOf offsetOf candOf segmentCands candidates addressTable compactRow rowOf compactTable greatestStamp
+    greatestSerial unsealed mustOpen opens noStamp noSerial otherGroup mustWait scarce placed openedBy slotFor begunBy sending writeChecksIn writePlan
+    writeVerdictIn callWorld callLent viewIn readsAs verdictIn callIn unrefused bothHold crowded refusedAs stripeFor stripeLands groupFrom filling
+    lentThen answerNumbers seenNumbers restartReads answersOf readsOf readAs anyBytes anyMemory boot bootWithout disk firstUse moved sealed driveLost
+    driveBack overwritten reclaimed movedAgain eventsIn answersIn readsIn table history packFrom unpack unpackAll packed unpacked joined parted firm
+    soft worldLists stateFrom worldFrom markLists markFrom bit isOne sendLists sendsFrom toldLists toldIn toldNumbers toldOf toldFrom start heard tell
 evaluated = 0

@@ -1,3 +1,4 @@
 pub mod Observed
 pub mod Table
 pub mod Witness
+pub mod Crowded

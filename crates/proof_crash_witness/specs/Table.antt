@@ -192,7 +192,7 @@ driveBack =
     ∷ boot 100 9 gives restarted 0 reading (20 ∷ 14 ∷ 12 ∷ 15 ∷ 16 ∷ 17 ∷ 18 ∷ 19 ∷ []) stamped (11 ∷ 5 ∷ 3 ∷ 6 ∷ 7 ∷ 8 ∷ 9 ∷ 10 ∷ [])
     ∷ []
 
--- overwrites seal the second segment; a third one can't be opened by a write
+-- overwrites seal the second segment; a write can't open a third one, and is refused 8 for it while the last stripes are in flight too (02, item 3)
 unfoldable pub overwritten : List Line
 overwritten =
     calls (write 1 (blockOf 21) 9) gives sent 12 1 0
@@ -204,6 +204,7 @@ overwritten =
     ∷ calls (write 0 (blockOf 24) 9) gives sent 15 2 2
     ∷ calls (write 1 (blockOf 25) 9) gives sent 16 3 0
     ∷ calls (close 9) gives closed 3
+    ∷ calls (write 7 (blockOf 26) 9) gives refused 8
     ∷ calls (land 0 3 9) gives landed 0
     ∷ calls (land 1 3 9) gives landed 0
     ∷ calls (land 2 3 9) gives landed 1
@@ -257,7 +258,7 @@ answersIn ls = map (λ (l : Line). l .answer) ls
 unfoldable pub readsIn : List Line → List (List ℕ)
 readsIn ls = flat (λ (l : Line). l .reads) ls
 
--- 92 events, nine finished restarts among them
+-- 93 events, nine finished restarts among them
 unfoldable pub table : List Line
 table = firstUse ++ (moved ++ (sealed ++ (driveLost ++ (driveBack ++ (overwritten ++ (reclaimed ++ movedAgain))))))
 

@@ -22,7 +22,7 @@ use Rattle.spec.specs.Lists.{Opt, keep, isNil, firstOr}
 use Rattle.spec.specs.Reclaim.{placesIn, liveIn, flying, Victim, victim, isNone, victimSegment, victimLive}
 use Rattle.spec.specs.Memory.{Memory, mkMemory, openSegment}
 use Rattle.spec.specs.Params.{capacity, placeBlock, placeZone, placeDrive, drivesOf}
-use Rattle.spec.specs.Reclaim.{idle, reclaimChecks, cleared, resetPlan, copyPlan, reclaimVerdict}
+use Rattle.spec.specs.Reclaim.{idle, reclaimChecks, cleared, resetPlan, copyPlan, reclaimVerdictIn}
 use Rattle.spec.specs.Segments.{Segment, segmentOf, counts}
 use Rattle.spec.specs.Write.{opens, noSerial, mustWait, scarce, Sending, sending}
 use Rattle.law_basic.specs.Geometry.{Ranged, ranged}
@@ -251,5 +251,5 @@ module _ (p : Params) (k : Disk) (m : Memory) (u : Run p k m) (ws : List Pending
 
   pub flown-reclaim : isCut (callDisk p k m (reclaim n) .answer) ≡ false
       → Flown p (callDisk p k m (reclaim n) .drives) (callDisk p k m (reclaim n) .memory) (pendingAfter (reclaim n) (callDisk p k m (reclaim n) .answer) ws) old
-  unfolding callDisk callOn verdict storeCount lentBlock reclaimVerdict
+  unfolding callDisk callOn verdict storeCount lentBlock reclaimVerdictIn
   flown-reclaim nc = flown-ended p k m ws old f (reclaim n) checks plan _ done nc (outcome-ends p k m checks plan n [])

@@ -23,7 +23,7 @@ use Rattle.spec.specs.Engine.Call.{write}
 use Rattle.spec.specs.History.{endsRun}
 use Rattle.spec.specs.Memory.{Memory, mkMemory, openSegment, setStamp}
 use Rattle.spec.specs.Segments.{Segment}
-use Rattle.spec.specs.Write.{opens, noStamp, Sending, sending, writeChecks, writePlan, writeVerdict}
+use Rattle.spec.specs.Write.{opens, noStamp, Sending, sending, writeChecks, writePlan, writeVerdictIn}
 use Rattle.law_basic.specs.Geometry.{Ranged, ranged}
 use Rattle.proof_crash_calls.specs.Cells.{stamp-same}
 use Rattle.spec_demands.specs.Layouts.{ParityMade}
@@ -158,5 +158,5 @@ module _ (p : Params) (k : Disk) (m : Memory) (u : Run p k m) (ws : List Pending
 
     pub flown-write : isCut (callDisk p k m (write a b n) .answer) ≡ false
         → Flown p (callDisk p k m (write a b n) .drives) (callDisk p k m (write a b n) .memory) (pendingAfter (write a b n) (callDisk p k m (write a b n) .answer) ws) old
-    unfolding callDisk callOn verdict storeCount lentBlock writeVerdict
+    unfolding callDisk callOn verdict storeCount lentBlock writeVerdictIn
     flown-write nc = flown-ended p k m ws old f (write a b n) checks (writePlan p v m a b) _ written-flown nc (outcome-ends p k m checks (writePlan p v m a b) n b)

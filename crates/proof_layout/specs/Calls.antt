@@ -28,9 +28,9 @@ use Rattle.spec.specs.Lists.{Opt, isNil, firstOr}
 use Rattle.spec.specs.Memory.{Memory, filledIn, openSegment, freeSlot, fillingSlot, hasFilling, inFlight, setStamp, setOpen, setClosed, beginStripe, addEntry, markLanded, freeStripe, slotBlock}
 use Rattle.spec.specs.Params.{dataCount, inRange, placeBlock, placeZone, placeDrive, named, present}
 use Rattle.spec.specs.Rebuild.{rebuildChecks, rebuildStores, rebuildVerdict}
-use Rattle.spec.specs.Reclaim.{Victim, victim, victimSegment, victimLive, idle, reclaimChecks, resetPlan, copyPlan, reclaimVerdict}
+use Rattle.spec.specs.Reclaim.{Victim, victim, victimSegment, victimLive, idle, reclaimChecks, resetPlan, copyPlan, reclaimVerdictIn}
 use Rattle.spec.specs.Segments.{lowDrive, remaining, Segment, segmentOf, segments}
-use Rattle.spec.specs.Write.{opens, noSerial, scarce, placed, sending, openedBy, begunBy, writeChecks, writePlan, writeVerdict}
+use Rattle.spec.specs.Write.{opens, noSerial, scarce, placed, sending, openedBy, begunBy, writeChecks, writePlan, writeVerdictIn}
 use Rattle.law_basic.specs.Geometry.{Ranged, ranged}
 use Rattle.law_basic.specs.Ranges.{Test, test, and-left, and-right}
 use Rattle.law_basic.specs.Ranges.Test.{yes!, no! }
@@ -196,7 +196,7 @@ module _ (p : Params) (k : Disk) (m : Memory) (u : Run p k m) (old : List Segmen
     wr = callDisk p k m (write a b n)
 
     write-ends : EndedAs p k m (writeChecks p (lentOk p k m) v m a b) (writePlan p v m a b) wr
-    unfolding callDisk callOn verdict storeCount lentBlock writeVerdict
+    unfolding callDisk callOn verdict storeCount lentBlock writeVerdictIn
     write-ends = outcome-ends p k m (writeChecks p (lentOk p k m) v m a b) (writePlan p v m a b) n b
 
     write-well : Well p k m → isCut (wr .answer) ≡ false → KeepsLaid p old wr
@@ -310,7 +310,7 @@ module _ (p : Params) (k : Disk) (m : Memory) (u : Run p k m) (old : List Segmen
     rplan = cond (isNil (victimLive w)) (resetPlan p m (victimSegment w)) (copyPlan p v m place)
 
     reclaim-ends : EndedAs p k m (reclaimChecks p (lentOk p k m) v m w) rplan rc
-    unfolding callDisk callOn verdict storeCount lentBlock reclaimVerdict
+    unfolding callDisk callOn verdict storeCount lentBlock reclaimVerdictIn
     reclaim-ends = outcome-ends p k m (reclaimChecks p (lentOk p k m) v m w) rplan n []
 
     reclaim-well : Well p k m → isCut (rc .answer) ≡ false → KeepsLaid p old rc

@@ -22,7 +22,7 @@ use Rattle.spec.specs.Lists.{keep, isNil, isIn}
 use Rattle.spec.specs.Memory.{Memory, mkMemory, filledIn, fillingSlot, hasFilling, setStamp, addEntry}
 use Rattle.spec.specs.Params.{dataCount, inRange, inflightLen}
 use Rattle.spec.specs.Segments.{segments, candidates, addressTable, compactTable}
-use Rattle.spec.specs.Write.{opens, noStamp, scarce, placed, sending, writeChecks, writePlan, writeVerdict}
+use Rattle.spec.specs.Write.{opens, noStamp, scarce, placed, sending, writeChecks, writePlan, writeVerdictIn}
 use Rattle.law_basic.specs.Be.{be-room}
 use Rattle.law_basic.specs.Geometry.{Ranged, ranged, addresses-all}
 use Rattle.law_basic.specs.Mask.{isIn-empty}
@@ -161,7 +161,7 @@ module _ (p : Params) (k : Disk) (m : Memory) (u : Run p k m) (we : Well p k m) 
         missing-same s t = unfold setStamp in refl
 
     pub well-write : Kept p (callDisk p k m (write a b n))
-    unfolding callDisk callOn verdict storeCount lentBlock writeVerdict
+    unfolding callDisk callOn verdict storeCount lentBlock writeVerdictIn
     well-write = go (outcome-ends p k m checks (writePlan p v m a b) n b)
       where
         mild-sent : isRefusedAs 9 (writePlan p v m a b .answer) ≡ false

@@ -21,9 +21,9 @@ use Rattle.spec.specs.Landing.{landChecks, landVerdict}
 use Rattle.spec.specs.Memory.{Memory}
 use Rattle.spec.specs.Params.{named, present}
 use Rattle.spec.specs.Rebuild.{rebuildChecks, rebuildStores, rebuildVerdict}
-use Rattle.spec.specs.Reclaim.{reclaimChecks, reclaimVerdict, victim}
+use Rattle.spec.specs.Reclaim.{reclaimChecks, reclaimVerdictIn, victim}
 use Rattle.spec.specs.Segments.{lowDrive, segments, candidates, addressTable, compactTable}
-use Rattle.spec.specs.Write.{writeChecks, writeVerdict}
+use Rattle.spec.specs.Write.{writeChecks, writeVerdictIn}
 use Rattle.law_basic.specs.Geometry.{Ranged, ranged}
 use Rattle.law_views.specs.Views.{seen, view-stores, whole-stores}
 use Rattle.law_drives.specs.Accept.{Accepted, in-groups}
@@ -95,7 +95,7 @@ module _ (p : Params) (k : Disk) (m : Memory) (u : Run p k m) (lo : LostDrive p 
       go (ended-cut c f) = cut-kept p _ f
 
   pub lost-write : (a x : ℕ) (b : List ℕ) (n : ℕ) → Kept p (callDisk p k m (write a (x ∷ b) n))
-  unfolding callDisk callOn verdict storeCount lentBlock writeVerdict
+  unfolding callDisk callOn verdict storeCount lentBlock writeVerdictIn
   lost-write a x b n =
       stopped-kept (writeChecks p (lentOk p k m) v m a (x ∷ b)) _ n (x ∷ b) (write-mild p (lentOk p k m) v m a (x ∷ b) (u .base .state-ok))
       (λ e. write-passed p (lentOk p k m) v m a (x ∷ b) e .healthy)
@@ -111,7 +111,7 @@ module _ (p : Params) (k : Disk) (m : Memory) (u : Run p k m) (lo : LostDrive p 
   lost-close n = stopped-kept (closeChecks p (lentOk p k m) v m) _ n [] (close-mild p (lentOk p k m) v m (u .base .state-ok) (λ z. not-healthy z)) (λ c. close-passed p (lentOk p k m) v m c .healthy)
 
   pub lost-reclaim : (n : ℕ) → Kept p (callDisk p k m (reclaim n))
-  unfolding callDisk callOn verdict storeCount lentBlock reclaimVerdict
+  unfolding callDisk callOn verdict storeCount lentBlock reclaimVerdictIn
   lost-reclaim n =
       let w = victim p v (m .addresses) in
       stopped-kept (reclaimChecks p (lentOk p k m) v m w) _ n [] (reclaim-mild p (lentOk p k m) v m w (u .base .state-ok) (λ z. not-healthy z) (λ z t. not-healthy z))

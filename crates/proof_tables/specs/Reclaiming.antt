@@ -22,7 +22,7 @@ use Rattle.spec.specs.Memory.{Memory, mkMemory}
 use Rattle.spec.specs.Params.{between, capacity, placeOf, placeBlock, placeZone, placeDrive, drivesOf}
 use Rattle.spec.specs.Rank.{Cand, best, candsOf}
 use Rattle.spec.specs.Reclaim.{placesIn, segmentPlaces, liveIn, flying, Victim, victimOf, fewer, fewest, victim, isNone, victimSegment}
-use Rattle.spec.specs.Reclaim.{victimLive, idle, reclaimChecks, cleared, resetPlan, copyPlan, reclaimVerdict}
+use Rattle.spec.specs.Reclaim.{victimLive, idle, reclaimChecks, cleared, resetPlan, copyPlan, reclaimVerdictIn}
 use Rattle.spec.specs.Segments.{Segment, segmentOf, segments, storedRec, recOf, candOf, candidates, addressTable}
 use Rattle.spec.specs.Write.{opens, noSerial, mustWait, scarce, sending}
 use Rattle.spec.specs.Drives.{Seg}
@@ -316,7 +316,7 @@ module _ (p : Params) (k : Disk) (m : Memory) (u : Run p k m) (we : Well p k m) 
           (run-copied (c .taken) lv (c .some-idle q) (c .serial-left q) (c .no-wait q) (c .room q) x (ex ∙ ap (λ (y : Plan). storeAll (storeDisk p) (y .stores) k) e))
 
   pub well-reclaim : (n : ℕ) → Kept p (callDisk p k m (reclaim n))
-  unfolding callDisk callOn verdict storeCount lentBlock reclaimVerdict
+  unfolding callDisk callOn verdict storeCount lentBlock reclaimVerdictIn
   well-reclaim n = go (outcome-ends p k m checks plan n [])
     where
       mild-plan : (b : Bool) (g : Seg) (q : ℕ) → isRefusedAs 9 (cond b (resetPlan p m g) (copyPlan p v m q) .answer) ≡ false

@@ -70,11 +70,15 @@ lentOk p k m =
     eqb (length (k .image)) (imageLen p) && eqb (length (k .pointers)) (pointersLen p) && eqb (length (m .addresses)) (addressesLen p)
     && eqb (length (m .compact)) (compactLen p) && eqb (length (m .inflight)) (inflightLen p)
 
+-- 01, The calls: what a call leaves on the lent bytes, where x is its verdict
+abbrev pub carryOut : Params → Disk → Memory → Call → Verdict → After Disk
+carryOut p k m c x = outcome p (storeDisk p) (storeCount c) k m (lentBlock c) x
+
 -- 01, The calls: a call on the lent bytes, its state as a value
 unfoldable pub callOn : Params → Bool → Disk → Memory → Call → After Disk
 callOn p long k m c =
     let v = viewOf p (k .image) (k .pointers) in
-    outcome p (storeDisk p) (storeCount c) k m (lentBlock c) (verdict p long v m c)
+    carryOut p k m c (verdict p long v m c)
 
 -- 01, The calls: the same, with the lengths checked
 unfoldable pub callDisk : Params → Disk → Memory → Call → After Disk
@@ -115,9 +119,14 @@ unfoldable pub leftBy : Lent → After Disk → Bool → Left
 leftBy l r true = record { answer = r .answer; lent = l; block = r .block }
 leftBy l r false = record { answer = r .answer; lent = lentAll (r .drives) (r .memory) (stateBytes (r .memory .state)); block = r .block }
 
+-- 01, Refusals, 2: the lengths of all that is lent
+abbrev pub lentLong : Params → Lent → Bool
+lentLong p l = lentOk p (lentDisk l) (lentMemory l) && eqb (length (l .state)) stateLen
+
+-- what is left of the lent bytes, where r is what the call leaves with its state as a value
+abbrev pub leftAs : Lent → After Disk → Left
+leftAs l r = leftBy l r (isRefused (r .answer))
+
 -- 01, The array: a call of the host, on bytes alone; a refusal leaves the state's bytes too
 unfoldable pub callBytes : Params → Lent → Call → Left
-callBytes p l c =
-    let long = lentOk p (lentDisk l) (lentMemory l) && eqb (length (l .state)) stateLen in
-    let r = callOn p long (lentDisk l) (lentMemory l) c in
-    leftBy l r (isRefused (r .answer))
+callBytes p l c = leftAs l (callOn p (lentLong p l) (lentDisk l) (lentMemory l) c)

@@ -39,14 +39,14 @@ use Rattle.spec.specs.Rank.{beats, better, best, placeOr, candsOf}
 use Rattle.spec.specs.Read.{placeFaults, lies, lookup, foundFaults, shown, decodeFaults, storedAt, decodedAt, readPiece, readAnswer, readChecks, readPlan, readVerdict, fillPlan, fillVerdict}
 use Rattle.spec.specs.Rebuild.{namesMissing, rebuildChecks, rebuiltZone, rebuildStores, rebuildVerdict}
 use Rattle.spec.specs.Reclaim.{placesIn, tableFaults, segmentPlaces, liveIn, flying, victimOf, fewer, fewest, victim, isNone, victimSegment, victimLive}
-use Rattle.spec.specs.Reclaim.{idle, reclaimChecks, clearedRow, cleared, resetPlan, copyPlan, reclaimVerdict}
+use Rattle.spec.specs.Reclaim.{idle, reclaimChecksIn, clearedRow, cleared, resetPlan, copyPlan, reclaimVerdictIn}
 use Rattle.spec.specs.Restart.{freeSegs, isWhole, isRagged, missingFooters, renumbered, movedPieces, movedOn, movedStripe, movedStripes, rewriteStores}
 use Rattle.spec.specs.Restart.{dropStores, mendStores, restartStores, openOf, nextOf, restartMemory, uncountedIn, reportOf, namesDrive, rewrites}
 use Rattle.spec.specs.Restart.{restartChecks, restartPlan, restartVerdict}
 use Rattle.spec.specs.Segments.{lowDrive, headerAt, leftBy1, isCopy, remaining, recordsIn, segmentOf, segments, recsOn, offsetOn, hasChunk, counts}
 use Rattle.spec.specs.Segments.{counted, uncounted, storedPiece, pieceOf, putPiece, storedRec, recOf, offsetOf, candOf, segmentCands, candidates}
 use Rattle.spec.specs.Segments.{addressTable, compactRow, rowOf, compactTable, greatestStamp, greatestSerial, unsealed}
-use Rattle.spec.specs.Write.{mustOpen, opens, noStamp, noSerial, otherGroup, mustWait, scarce, placed, openedBy, slotFor, begunBy, sending, writeChecks, writePlan, writeVerdict}
+use Rattle.spec.specs.Write.{mustOpen, opens, noStamp, noSerial, otherGroup, mustWait, scarce, placed, openedBy, slotFor, begunBy, sending, writeChecksIn, writePlan, writeVerdictIn}
 
 -- 01: the small box, and variants of it
 abbrev pub small : Params
@@ -143,12 +143,12 @@ unfolding ones onesIn kind values stampTold isRefused isRefusedAs isCut finished
     placeOr candsOf placeFaults lies lookup foundFaults shown decodeFaults storedAt decodedAt readPiece readAnswer readChecks readPlan
     readVerdict fillPlan fillVerdict
     namesMissing rebuildChecks rebuiltZone rebuildStores rebuildVerdict placesIn tableFaults segmentPlaces liveIn flying victimOf fewer fewest victim
-    isNone victimSegment victimLive idle reclaimChecks clearedRow cleared resetPlan copyPlan reclaimVerdict freeSegs isWhole isRagged missingFooters
+    isNone victimSegment victimLive idle reclaimChecksIn clearedRow cleared resetPlan copyPlan reclaimVerdictIn freeSegs isWhole isRagged missingFooters
     renumbered movedPieces movedOn movedStripe movedStripes rewriteStores dropStores mendStores restartStores openOf nextOf restartMemory uncountedIn
     reportOf namesDrive rewrites restartChecks restartPlan restartVerdict lowDrive headerAt leftBy1 isCopy remaining recordsIn segmentOf segments
     recsOn offsetOn hasChunk counts counted uncounted storedPiece pieceOf putPiece storedRec recOf offsetOf candOf segmentCands candidates
     addressTable compactRow rowOf compactTable greatestStamp greatestSerial unsealed mustOpen opens noStamp noSerial otherGroup mustWait scarce placed
-    openedBy slotFor begunBy sending writeChecks writePlan writeVerdict emptyLent runs fresh viewAfter stampAt blockOf stampAndBlock m7First m7Then
+    openedBy slotFor begunBy sending writeChecksIn writePlan writeVerdictIn emptyLent runs fresh viewAfter stampAt blockOf stampAndBlock m7First m7Then
     m7Reads m8Calls countedBoth
 examples-hold = record {
   box = (refl, refl, refl);

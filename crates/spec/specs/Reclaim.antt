@@ -16,7 +16,8 @@ use Rattle.spec.specs.Lists.{Opt, below, any, isMember, consIf, keep, is
 use Rattle.spec.specs.Lists.Opt.{none, some}
 use Rattle.spec.specs.Memory.{Memory, mkMemory, holds, stateFaults, placeAt, compactAt}
 use Rattle.spec.specs.Params.{between, inRange, capacity, placeOf, placeBlock, placeZone, placeDrive, drivesOf}
-use Rattle.spec.specs.Write.{opens, noSerial, mustWait, scarce, sending}
+use Rattle.spec.specs.Write.{opens, noSerial, mustWait, scarce, CheckOrder, roomRules, sending}
+use Rattle.spec.specs.Write.CheckOrder.{fullFirst}
 
 -- ---- live blocks
 
@@ -91,16 +92,40 @@ idle p v st w = keep (λ q. not (flying p v st q)) (victimLive w)
 
 -- ---- reclaim
 
--- 01, Refusals: the checks of reclaim
-unfoldable pub reclaimChecks : Params → Bool → View → Memory → Opt Victim → List Check
-reclaimChecks p long v m w =
+-- 01, Reclaim: with a live block, reclaim is a copy
+abbrev pub mustCopy : Opt Victim → Bool
+mustCopy w = not (isNil (victimLive w))
+
+-- 01, Refusals, 7: a copy must wait
+abbrev pub copyWaits : Params → State → Opt Victim → Bool
+copyWaits p st w = mustCopy w && mustWait p st
+
+-- 01, Refusals, 8: too few zones are empty for a copy
+abbrev pub copyFull : Params → View → State → Opt Victim → Bool
+copyFull p v st w = mustCopy w && opens p st && scarce p v 1
+
+-- 01, Refusals: what reclaim checks before 7 and 8
+abbrev pub reclaimBefore : Params → Bool → View → Memory → Opt Victim → List Check
+reclaimBefore p long v m w =
     let st = m .state in
-    let live = not (isNil (victimLive w)) in
     rule 1 (not (inRange p)) ∷ rule 2 (not long) ∷ rule 3 (not (eqb (st .missing) 0))
-    ∷ rule 5 (isNone w || (live && isNil (idle p v st w)))
-    ∷ rule 6 (live && noSerial p st) ∷ rule 7 (live && mustWait p st) ∷ rule 8 (live && opens p st && scarce p v 1)
-    ∷ zones (stateFaults p st ++ tableFaults p (m .addresses)
-    ++ map (placeZone p) (keep (λ q. not (between 1 (p .S) (placeBlock p q))) (victimLive w))) ∷ []
+    ∷ rule 5 (isNone w || (mustCopy w && isNil (idle p v st w))) ∷ rule 6 (mustCopy w && noSerial p st) ∷ []
+
+-- 01, Refusals: the checks of reclaim, 7 and 8 in order o
+unfoldable pub reclaimChecksIn : CheckOrder → Params → Bool → View → Memory → Opt Victim → List Check
+reclaimChecksIn o p long v m w =
+    let st = m .state in
+    reclaimBefore p long v m w ++ roomRules o (copyWaits p st w) (copyFull p v st w)
+    ++ (zones (stateFaults p st ++ tableFaults p (m .addresses)
+    ++ map (placeZone p) (keep (λ q. not (between 1 (p .S) (placeBlock p q))) (victimLive w))) ∷ [])
+
+-- 02, item 3: full before waiting, in a copy
+abbrev pub copyOrder : CheckOrder
+copyOrder = fullFirst
+
+-- 01, Refusals: the checks of reclaim
+abbrev pub reclaimChecks : Params → Bool → View → Memory → Opt Victim → List Check
+reclaimChecks p long v m w = reclaimChecksIn copyOrder p long v m w
 
 -- 01, Reclaim: with none live it resets its zones; the compact table is 0 where no chunk is stored
 unfoldable pub clearedRow : Params → List ℕ → ℕ → ℕ → List ℕ
@@ -123,11 +148,15 @@ copyPlan p v m q =
     let w = sending p v (m .state) (m .inflight) (r .address) (r .stamp) 0 (chunkAt v (placeDrive p q) (placeZone p q) (placeBlock p q) .block) in
     mkPlan (w .stores) (Copied (aStamp (r .stamp)) (w .stripe) (w .drive)) (mkMemory (w .state) (m .addresses) (m .compact) (w .inflight)) []
 
--- 01, Reclaim: the call
-unfoldable pub reclaimVerdict : Params → Bool → View → Memory → Verdict
-reclaimVerdict p long v m =
+-- 01, Reclaim: the call, 7 and 8 in order o
+unfoldable pub reclaimVerdictIn : CheckOrder → Params → Bool → View → Memory → Verdict
+reclaimVerdictIn o p long v m =
     let w = victim p v (m .addresses) in
     let a = resetPlan p m (victimSegment w) in
     let b = copyPlan p v m (firstOr 0 (idle p v (m .state) w)) in
     let q = cond (isNil (victimLive w)) a b in
-    decided (firstRefusal (reclaimChecks p long v m w)) q
+    decided (firstRefusal (reclaimChecksIn o p long v m w)) q
+
+-- 01, Reclaim: the call
+abbrev pub reclaimVerdict : Params → Bool → View → Memory → Verdict
+reclaimVerdict p long v m = reclaimVerdictIn copyOrder p long v m

@@ -1,5 +1,5 @@
 -- The write call, and what it shares with a copy and with closing (01, Write). Assumes nothing.
-use mathlib.Core.List.{List, [], _∷_}
+use mathlib.Core.List.{List, [], _∷_, _++_}
 use mathlib.Core.Bool.{Bool, cond, not, _&&_, _||_}
 use Prim.Native.Nat.{ℕ, suc}
 use lib.Dec.{leb, eqb}
@@ -47,6 +47,16 @@ mustWait p st =
 -- 01, Refusals, 8: n zones empty on all drives, or fewer
 unfoldable pub scarce : Params → View → ℕ → Bool
 scarce p v n = leb (length (emptySegs p v)) n
+
+-- 02, item 3: which of 7 and 8 is checked first; 01 has waiting first
+pub data CheckOrder : Type 0 where
+  fullFirst : CheckOrder
+  waitFirst : CheckOrder
+
+-- 01, Refusals, 7 and 8, in order o
+abbrev pub roomRules : CheckOrder → Bool → Bool → List Check
+roomRules fullFirst wait full = rule 8 full ∷ rule 7 wait ∷ []
+roomRules waitFirst wait full = rule 7 wait ∷ rule 8 full ∷ []
 
 -- ---- a data position filled
 
@@ -107,12 +117,30 @@ sending p v st fl a t w b =
       drive = q .drive;
     }
 
--- 01, Refusals: the checks of a write
-unfoldable pub writeChecks : Params → Bool → View → Memory → ℕ → List ℕ → List Check
-writeChecks p long v m a b =
+-- 01, Refusals, 8: too few zones are empty for a write
+abbrev pub writeFull : Params → View → State → Bool
+writeFull p v st = scarce p v (cond (opens p st) 2 1)
+
+-- 01, Refusals: what a write checks before 7 and 8
+abbrev pub writeBefore : Params → Bool → Memory → ℕ → List ℕ → List Check
+writeBefore p long m a b =
     let st = m .state in
     rule 1 (not (inRange p)) ∷ rule 2 (not long || not (eqb (length b) (p .B))) ∷ rule 3 (not (eqb (st .missing) 0)) ∷ rule 4 (leb (p .L) a)
-    ∷ rule 6 (noStamp st || noSerial p st) ∷ rule 7 (mustWait p st) ∷ rule 8 (scarce p v (cond (opens p st) 2 1)) ∷ zones (stateFaults p st) ∷ []
+    ∷ rule 6 (noStamp st || noSerial p st) ∷ []
+
+-- 01, Refusals: the checks of a write, 7 and 8 in order o
+unfoldable pub writeChecksIn : CheckOrder → Params → Bool → View → Memory → ℕ → List ℕ → List Check
+writeChecksIn o p long v m a b =
+    let st = m .state in
+    writeBefore p long m a b ++ roomRules o (mustWait p st) (writeFull p v st) ++ (zones (stateFaults p st) ∷ [])
+
+-- 02, item 3: full before waiting, in a write
+abbrev pub writeOrder : CheckOrder
+writeOrder = fullFirst
+
+-- 01, Refusals: the checks of a write
+abbrev pub writeChecks : Params → Bool → View → Memory → ℕ → List ℕ → List Check
+writeChecks p long v m a b = writeChecksIn writeOrder p long v m a b
 
 -- 01, Write: the block takes the next stamp
 unfoldable pub writePlan : Params → View → Memory → ℕ → List ℕ → Plan
@@ -122,8 +150,12 @@ writePlan p v m a b =
     let q = sending p v st (m .inflight) a t 1 b in
     mkPlan (q .stores) (Sent (aStamp t) (q .stripe) (q .drive)) (mkMemory (setStamp (q .state) t) (m .addresses) (m .compact) (q .inflight)) b
 
--- 01, Write: the call
-unfoldable pub writeVerdict : Params → Bool → View → Memory → ℕ → List ℕ → Verdict
-writeVerdict p long v m a b =
+-- 01, Write: the call, 7 and 8 in order o
+unfoldable pub writeVerdictIn : CheckOrder → Params → Bool → View → Memory → ℕ → List ℕ → Verdict
+writeVerdictIn o p long v m a b =
     let q = writePlan p v m a b in
-    decided (firstRefusal (writeChecks p long v m a b)) q
+    decided (firstRefusal (writeChecksIn o p long v m a b)) q
+
+-- 01, Write: the call
+abbrev pub writeVerdict : Params → Bool → View → Memory → ℕ → List ℕ → Verdict
+writeVerdict p long v m a b = writeVerdictIn writeOrder p long v m a b

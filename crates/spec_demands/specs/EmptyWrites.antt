@@ -5,16 +5,15 @@ use mathlib.Core.Bool.{Bool, true, false, _&&_}
 use mathlib.Core.Logic.{_⊎_}
 use Prim.Native.Nat.{ℕ, _≤_, _<_}
 use lib.Dec.{eqb}
-use lib.ListN.{length}
 use Rattle.spec.specs.declared.Params.{Params}
 use Rattle.spec.specs.declared.State.{State}
 use Rattle.spec.specs.declared.Answer.the-variants.{Refused, BadZone, Nothing}
 use Rattle.spec.specs.Answers.{isRefused}
 use Rattle.spec.specs.Demands.{areBytes}
-use Rattle.spec.specs.Engine.{lentOk, Lent, Left, lentDisk, lentMemory, callBytes}
+use Rattle.spec.specs.Engine.{Lent, Left, lentDisk, lentLong, callBytes}
 use Rattle.spec.specs.Engine.Call.{write, close}
 use Rattle.spec.specs.History.{sentBy}
-use Rattle.spec.specs.Memory.{stateLen, stateOf, hasFilling, stateOk}
+use Rattle.spec.specs.Memory.{stateOf, hasFilling, stateOk}
 use Rattle.spec.specs.Params.{inRange}
 
 -- the state that the lent bytes say
@@ -23,7 +22,7 @@ stateIn l = stateOf (l .state)
 
 -- 01, Refusals, 1 to 3: parameters and lengths are in order, and no drive is missing
 unfoldable pub writable : Params → Lent → Bool
-writable p l = inRange p && (lentOk p (lentDisk l) (lentMemory l) && eqb (length (l .state)) stateLen) && eqb (stateIn l .missing) 0
+writable p l = inRange p && lentLong p l && eqb (stateIn l .missing) 0
 
 -- 02, item 1: what the write leaves
 unfoldable pub emptyLeft : Params → Lent → ℕ → ℕ → Left

@@ -2,6 +2,7 @@ pub mod Answering
 pub mod Rules
 pub mod EmptyWrites
 pub mod Engines
+pub mod FullFirst
 pub mod Layouts
 pub mod Histories
 pub mod Tables

@@ -12,7 +12,8 @@ use Rattle.spec.specs.Memory.{stateOf}
 use Rattle.spec.specs.Reclaim.{Victim, victim, victimLive, idle}
 use Rattle.spec.specs.declared.Answer.{Answer}
 use Rattle.spec.specs.declared.Answer.the-variants.{BadZone}
-use Rattle.call_reclaim.specs.Choosing.{copyRules, badZones, orNext, zones-odd, length-some, first-found, idle-fails, idle-passes}
+use Rattle.call_reclaim.specs.Choosing.{copyRules, badZones, zones-odd, length-some, first-found, idle-fails, idle-passes}
+use Rattle.law_calls.specs.Refusals.{orNext}
 use Rattle.call_filling.specs.Aims.{front-aim}
 use Rattle.law_views.specs.Views.{seen}
 use borrow.Author.Needs.{needs}

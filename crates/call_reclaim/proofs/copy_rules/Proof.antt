@@ -1,13 +1,17 @@
 -- `copy_rules`: what is asked of the front and the aim is so of any state with that front; then the three rules. Assumes nothing.
 use Rattle.spec.specs.Drives.{viewOf}
-use Rattle.spec.specs.Write.{opens, noSerial, mustWait}
+use Rattle.spec.specs.Params.{imageLen}
+use Rattle.spec.specs.Write.{opens, noSerial, mustWait, scarce}
 use Rattle.spec.specs.declared.State.{State}
 use Rattle.call_filling.specs.Aims.{front-aim, front-serial, front-wait}
 use Rattle.call_filling.specs.declared.Aim.{Aim}
-use Rattle.call_reclaim.specs.Choosing.{rules-serial, rules-wait, rules-open, rules-scarce, rules-pass}
+use Rattle.call_reclaim.specs.Choosing.{rules-serial, rules-full, rules-wait, rules-pass}
 use Rattle.mem_rows.specs.Rows.{frontOf}
 use borrow.Author.Needs.{needs}
-use borrow.Author.Tests.{not-true, not-false}
+use lib.ListN.{length}
+use Prim.Native.Nat.{ℕ}
+use mathlib.Core.Bool.{false, _&&_}
+use mathlib.Core.List.{List}
 use mathlib.Core.Path.{_≡_, sym, ap, _∙_}
 use Rattle.call_reclaim.proofs.copy_rules.Statement.{statement}
 use Rattle.call_reclaim.proofs.copy_rules.Tie as tie
@@ -19,15 +23,26 @@ serial-is c st e =
     let a = s .args in
     sym (front-serial (a .p) st (a .f) e (a .a) (s .pre .1 .1 ∙ front-aim (a .p) st (a .f) e)) ∙ sym (c .no-serial .ensures)
 
-wait-is : (c : tie.After-must-wait) (st : State) → c .before .before .before .before .args .f ≡ frontOf st → mustWait (c .before .before .before .before .args .p) st ≡ c .must-wait .result
-wait-is c st e =
-    let a = c .before .before .before .before .args in
-    sym (front-wait (a .p) st (a .f) e) ∙ sym (c .must-wait .ensures)
+module _ (c : tie.After-must-wait) (st : State) where
+  abbrev begun : tie.Start
+  begun = c .before .before .before .before .before
 
-opens-is : (c : tie.Start) (st : State) → c .args .f ≡ frontOf st → opens (c .args .p) st ≡ c .args .a .opens
-opens-is c st e =
-    let a = c .args in
-    ap (λ (x : Aim). x .opens) (sym (c .pre .1 .1 ∙ front-aim (a .p) st (a .f) e))
+  module _ (e : begun .args .f ≡ frontOf st) where
+    -- 6 does not hold
+    counted : noSerial (begun .args .p) st ≡ false
+    counted =
+        let if1 = c .before .before in
+        serial-is (if1 .before) st e ∙ if1 .if1 .left
+
+    full-is : (im : List ℕ) → length im ≡ imageLen (begun .args .p)
+        → (opens (begun .args .p) st && scarce (begun .args .p) (viewOf (begun .args .p) im (begun .args .pointers .now)) 1) ≡ c .before .copy-full .result
+    full-is im h =
+        let a = begun .args in
+        ap (λ (x : Aim). x .opens && scarce (a .p) (viewOf (a .p) im (a .pointers .now)) 1) (sym (begun .pre .1 .1 ∙ front-aim (a .p) st (a .f) e))
+        ∙ sym (c .before .copy-full .ensures im h)
+
+    wait-is : mustWait (begun .args .p) st ≡ c .must-wait .result
+    wait-is = sym (front-wait (begun .args .p) st (begun .args .f) e) ∙ sym (c .must-wait .ensures)
 
 no-serial-requires : tie.Need-no-serial-requires
 no-serial-requires c κs = search needs
@@ -37,53 +52,33 @@ returns c =
     let a = c .before .before .before .args in
     λ st im e h. rules-serial (a .p) (viewOf (a .p) im (a .pointers .now)) st (serial-is (c .before) st e ∙ c .if1 .taken)
 
+copy-full-requires : tie.Need-copy-full-requires
+copy-full-requires c κs =
+    let pre = c .before .before .before .pre in
+    (pre .0, pre .1 .0)
+
 must-wait-requires : tie.Need-must-wait-requires
 must-wait-requires c κs =
-    let pre = c .before .before .before .pre in
+    let pre = c .before .before .before .before .pre in
     (pre .0, pre .1 .1)
 
 returns-2 : tie.Need-returns-2
-returns-2 c =
-    let a = c .before .before .before .before .before .args in
-    λ st im e h. rules-wait (a .p) (viewOf (a .p) im (a .pointers .now)) st (serial-is (c .before .before .before) st e ∙ c .before .before .if1 .left) (wait-is (c .before) st e ∙ c .if2 .taken)
+returns-2 c = λ st im e h.
+    let w = c .before in
+    let a = begun w st .args in
+    rules-full (a .p) (viewOf (a .p) im (a .pointers .now)) st (counted w st e) (full-is w st e im h ∙ c .if2 .taken)
 
 returns-3 : tie.Need-returns-3
-returns-3 c =
-    let s = c .before .before .before .before .before .before .before in
-    let a = s .args in
-    let if2 = c .before .before .if2 in
-    let at-3 = c .before .before .before in
-    let if1 = c .before .before .before .before .if1 in
-    let at-5 = c .before .before .before .before .before in
-    λ st im e h. rules-open (a .p) (viewOf (a .p) im (a .pointers .now)) st (serial-is (at-5) st e ∙ if1 .left) (wait-is (at-3) st e ∙ if2 .left)
-    (opens-is s st e ∙ not-true (a .a .opens) (c .if3 .taken))
-
-scarce-requires : tie.Need-scarce-requires
-scarce-requires c κs = search needs
+returns-3 c = λ st im e h.
+    let w = c .before .before in
+    let a = begun w st .args in
+    rules-wait (a .p) (viewOf (a .p) im (a .pointers .now)) st (counted w st e) (full-is w st e im h ∙ c .before .if2 .left) (wait-is w st e ∙ c .if3 .taken)
 
 returns-4 : tie.Need-returns-4
-returns-4 c =
-    let s = c .before .before .before .before .before .before .before .before .before in
-    let a = s .args in
-    let if3 = c .before .before .if3 in
-    let if2 = c .before .before .before .before .if2 in
-    let at-5 = c .before .before .before .before .before in
-    let if1 = c .before .before .before .before .before .before .if1 in
-    let at-7 = c .before .before .before .before .before .before .before in
-    λ st im e h. rules-scarce (a .p) (viewOf (a .p) im (a .pointers .now)) st (serial-is (at-7) st e ∙ if1 .left) (wait-is (at-5) st e ∙ if2 .left)
-    (opens-is s st e ∙ not-false (a .a .opens) (if3 .left)) (sym (c .before .scarce .ensures im h) ∙ c .if4 .taken)
-
-returns-5 : tie.Need-returns-5
-returns-5 c =
-    let s = c .before .before .before .before .before .before .before .before .before in
-    let a = s .args in
-    let if3 = c .before .before .if3 in
-    let if2 = c .before .before .before .before .if2 in
-    let at-5 = c .before .before .before .before .before in
-    let if1 = c .before .before .before .before .before .before .if1 in
-    let at-7 = c .before .before .before .before .before .before .before in
-    λ st im e h. rules-pass (a .p) (viewOf (a .p) im (a .pointers .now)) st (serial-is (at-7) st e ∙ if1 .left) (wait-is (at-5) st e ∙ if2 .left)
-    (opens-is s st e ∙ not-false (a .a .opens) (if3 .left)) (sym (c .before .scarce .ensures im h) ∙ c .if4 .left)
+returns-4 c = λ st im e h.
+    let w = c .before .before in
+    let a = begun w st .args in
+    rules-pass (a .p) (viewOf (a .p) im (a .pointers .now)) st (counted w st e) (full-is w st e im h ∙ c .before .if2 .left) (wait-is w st e ∙ c .if3 .left)
 
 pub copy-rules-spec : {M : Type 1} → statement M
 copy-rules-spec =
@@ -91,9 +86,8 @@ copy-rules-spec =
     (tie.spec
     no-serial-requires
     returns
+    copy-full-requires
     must-wait-requires
     returns-2
     returns-3
-    scarce-requires
-    returns-4
-    returns-5)
+    returns-4)
