@@ -182,41 +182,44 @@ module _ (p : Params) (v : View) (st : State) (tb : List ℕ) (w : Opt Victim) w
   abbrev more : List Check
   more = drop 1 (laterChecks p v st tb w)
 
+  -- 01, Refusals, 5, of reclaim
+  abbrev idles : Bool
+  idles = isNone w || (mustCopy w && isNil (idle p v st w))
+
   -- no sealed segment
   pub nobody-fails : isNone w ≡ true → later ≡ some (Refused 5)
   unfolding laterChecks
-  nobody-fails e = rule-fails 5 (isNone w || (not (isNil (victimLive w)) && isNil (idle p v st w))) more (ap (λ (x : Bool). x || (not (isNil (victimLive w)) && isNil (idle p v st w))) e)
+  nobody-fails e = rule-fails 5 idles more (ap (λ (x : Bool). x || (mustCopy w && isNil (idle p v st w))) e)
 
   module _ (e : isNone w ≡ false) where
     -- none live
     pub dead-checks : isNil (victimLive w) ≡ true → later ≡ firstRefusal (zones (stateFaults p st ++ tableFaults p tb ++ []) ∷ [])
     unfolding laterChecks badZones
     dead-checks d =
-        let z : List ℕ = badZones p st tb w in
-        let n : not (isNil (victimLive w)) ≡ false = ap not d in
-        rule-passes 5 (isNone w || (not (isNil (victimLive w)) && isNil (idle p v st w))) more (λ j. e j || (n j && isNil (idle p v st w)))
+        let n : mustCopy w ≡ false = ap not d in
+        rule-passes 5 idles more (λ j. e j || (n j && isNil (idle p v st w)))
         ∙ (λ j. firstRefusal (rule 6 (n j && noSerial p st) ∷ roomRules copyOrder (n j && mustWait p st) (n j && opens p st && scarce p v 1) ++ (zones (badZones p st tb w) ∷ [])))
         ∙ none-hold
         ∙ ap (λ (l : List ℕ). firstRefusal (zones (stateFaults p st ++ tableFaults p tb ++ map (placeZone p) (keep (isOdd p) l)) ∷ [])) (nil-is (victimLive w) d)
         ∙ ap (λ (l : List ℕ). firstRefusal (zones (stateFaults p st ++ tableFaults p tb ++ map (placeZone p) l) ∷ [])) (keep-none (isOdd p))
       where
-        none-hold : firstRefusal (rule 6 false ∷ rule 8 false ∷ rule 7 false ∷ zones (badZones p st tb w) ∷ []) ≡ firstRefusal (zones (badZones p st tb w) ∷ [])
+        none-hold : firstRefusal (rule 6 false ∷ roomRules copyOrder false false ++ (zones (badZones p st tb w) ∷ [])) ≡ firstRefusal (zones (badZones p st tb w) ∷ [])
         none-hold = unfold firstRefusal ruled in refl
 
     module _ (d : isNil (victimLive w) ≡ false) where
-      alive : not (isNil (victimLive w)) ≡ true
+      alive : mustCopy w ≡ true
       alive = ap not d
 
       -- all in flight
       pub idle-fails : isNil (idle p v st w) ≡ true → later ≡ some (Refused 5)
       unfolding laterChecks
-      idle-fails f = rule-fails 5 (isNone w || (not (isNil (victimLive w)) && isNil (idle p v st w))) more (λ j. e j || (alive j && f j))
+      idle-fails f = rule-fails 5 idles more (λ j. e j || (alive j && f j))
 
       -- some not
       pub idle-passes : isNil (idle p v st w) ≡ false → later ≡ orNext (firstRefusal (copyRules p v st)) (firstRefusal (zones (badZones p st tb w) ∷ []))
       unfolding laterChecks copyRules
       idle-passes f =
-          rule-passes 5 (isNone w || (not (isNil (victimLive w)) && isNil (idle p v st w))) more (λ j. e j || (alive j && f j))
+          rule-passes 5 idles more (λ j. e j || (alive j && f j))
           ∙ (λ j. firstRefusal (rule 6 (alive j && noSerial p st)
           ∷ roomRules copyOrder (alive j && mustWait p st) (alive j && opens p st && scarce p v 1) ++ (zones (badZones p st tb w) ∷ [])))
           ∙ refusal-append (copyRules p v st) (zones (badZones p st tb w) ∷ [])

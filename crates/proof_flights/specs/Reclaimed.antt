@@ -1,7 +1,7 @@
 -- Reclaim: a copy is a block sent that nobody waits for, and a reset takes a sealed segment away, which no stripe in flight is in. Assumes nothing.
 use mathlib.Core.Path.{_≡_, refl, sym, ap, _∙_, subst}
 use mathlib.Core.List.{List, []}
-use mathlib.Core.Bool.{Bool, true, false, cond, not}
+use mathlib.Core.Bool.{true, false, cond, not}
 use mathlib.Core.Logic.{_⊎_, inl}
 use Prim.Native.Nat.{ℕ, zero, suc, _+_, _-_, _^_, _<_}
 use native.Mathlib.Omega.{arith}
@@ -114,9 +114,6 @@ module _ (p : Params) (k : Disk) (m : Memory) (u : Run p k m) (ws : List Pending
 
   abbrev w : Opt Victim
   w = victim p v (m .addresses)
-
-  abbrev live : Bool
-  live = not (isNil (victimLive w))
 
   abbrev plan : Plan
   plan = cond (isNil (victimLive w)) (resetPlan p m (victimSegment w)) (copyPlan p v m (firstOr 0 (idle p v st w)))

@@ -300,9 +300,6 @@ module _ (p : Params) (k : Disk) (m : Memory) (u : Run p k m) (old : List Segmen
     abbrev w : Opt Victim
     w = victim p v (m .addresses)
 
-    abbrev live : Bool
-    live = not (isNil (victimLive w))
-
     abbrev place : ℕ
     place = firstOr 0 (idle p v st w)
 

@@ -168,9 +168,6 @@ module _ (p : Params) (k : Disk) (m : Memory) (u : Run p k m) (we : Well p k m) 
   abbrev w : Opt Victim
   w = victim p v (m .addresses)
 
-  abbrev live : Bool
-  live = not (isNil (victimLive w))
-
   abbrev plan : Plan
   plan = cond (isNil (victimLive w)) (resetPlan p m (victimSegment w)) (copyPlan p v m (firstOr 0 (idle p v st w)))
 
@@ -231,9 +228,9 @@ module _ (p : Params) (k : Disk) (m : Memory) (u : Run p k m) (we : Well p k m) 
       memory-is g = unfold resetPlan in refl
 
   -- else a live block is copied
-  run-copied : isNone w ≡ false → live ≡ true → isNil (idle p v st w) ≡ false → noSerial p st ≡ false → mustWait p st ≡ false → (opens p st ≡ true → scarce p v 1 ≡ false)
+  run-copied : isNone w ≡ false → isNil (idle p v st w) ≡ false → noSerial p st ≡ false → mustWait p st ≡ false → (opens p st ≡ true → scarce p v 1 ≡ false)
       → (x : Disk) → x ≡ storeAll (storeDisk p) (copyPlan p v m (firstOr 0 (idle p v st w)) .stores) k → Run p x (copyPlan p v m (firstOr 0 (idle p v st w)) .memory)
-  run-copied nn lv ni ns nw sc x ex =
+  run-copied nn ni ns nw sc x ex =
       let q = firstOr 0 (idle p v st w) in
       let i : In q (victimLive w) = idle-live q (first-in (idle p v st w) 0 ni) in
       let t = live-pointed q nn i in
@@ -311,9 +308,8 @@ module _ (p : Params) (k : Disk) (m : Memory) (u : Run p k m) (we : Well p k m) 
           subst (λ (y : Plan). Run p x (y .memory)) (sym e) (run-reset (c .taken) q x (ex ∙ ap (λ (y : Plan). storeAll (storeDisk p) (y .stores) k) e))
       go (no! q) =
           let e : plan ≡ copyPlan p v m (firstOr 0 (idle p v st w)) = cond-false (isNil (victimLive w)) (resetPlan p m (victimSegment w)) (copyPlan p v m (firstOr 0 (idle p v st w))) q in
-          let lv : live ≡ true = ap not q in
           subst (λ (y : Plan). Run p x (y .memory)) (sym e)
-          (run-copied (c .taken) lv (c .some-idle q) (c .serial-left q) (c .no-wait q) (c .room q) x (ex ∙ ap (λ (y : Plan). storeAll (storeDisk p) (y .stores) k) e))
+          (run-copied (c .taken) (c .some-idle q) (c .serial-left q) (c .no-wait q) (c .room q) x (ex ∙ ap (λ (y : Plan). storeAll (storeDisk p) (y .stores) k) e))
 
   pub well-reclaim : (n : ℕ) → Kept p (callDisk p k m (reclaim n))
   unfolding callDisk callOn verdict storeCount lentBlock reclaimVerdictIn
