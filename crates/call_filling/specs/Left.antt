@@ -1,6 +1,6 @@
 -- What the functions leave, put together as the definitions have it (01, Write). Assumes nothing.
 use Prim.Native.Nat.{ℕ, suc, _+_, min, _≤_, _<_}
-use Rattle.spec.specs.Drives.{View, viewOf, Store, Disk, pointerOf, storeDisk, storeAll, zoneOn, emptySegs, headerStores, Seg, seg}
+use Rattle.spec.specs.Drives.{View, viewOf, Store, Disk, pointerOf, storeDisk, storeAll, zoneOn, emptySegs, headerStores, noSeg}
 use Rattle.spec.specs.Lists.{firstOr}
 use Rattle.spec.specs.Counts.{aSerial}
 use Rattle.spec.specs.Memory.{filledIn, isFree, isFull, isFilling, hasFilling, setOpen}
@@ -28,10 +28,11 @@ use mathlib.Core.Path.{_≡_, refl, sym, ap, ap₂, _∙_}
 use native.Mathlib.Numerals.{add-one}
 use native.Mathlib.Decide.{decLe}
 use native.Mathlib.Omega.{arith}
+use Rattle.spec.specs.declared.Seg.{Seg}
 
 -- the stores of the headers, where a segment is opened
 abbrev pub openStores : Params → Disk → State → List Store
-openStores p k st = cond (opens p st) (headerStores p (firstOr (seg 0) (emptySegs p (seen p k))) (suc (st .serial .0)) 0) []
+openStores p k st = cond (opens p st) (headerStores p (firstOr noSeg (emptySegs p (seen p k))) (suc (st .serial .0)) 0) []
 
 -- 01, Write; Store count: the first n of the headers' stores are made on the bytes k, which are then k′; r says whether more were due, and
 -- has the numbers in front with the segment open if not
@@ -61,7 +62,7 @@ module _ (p : Params) (st : State) (n : ℕ) (k : Disk) where
   pub opening-none : opens p st ≡ false → OpeningStores p st n k (openedAs false (st .serial .0) (st .opened) (st .next)) k
   unfolding openedBy
   opening-none e =
-      let g = firstOr (seg 0) (emptySegs p (seen p k)) in
+      let g = firstOr noSeg (emptySegs p (seen p k)) in
       let hs = headerStores p g (suc (st .serial .0)) 0 in
       let q : openStores p k st ≡ [] = ap (λ (x : Bool). cond x hs []) e in
       let o : st ≡ cond (opens p st) (setOpen st g (suc (st .serial .0))) st = sym (ap (λ (x : Bool). cond x (setOpen st g (suc (st .serial .0))) st) e) in
@@ -73,23 +74,23 @@ module _ (p : Params) (st : State) (n : ℕ) (k : Disk) where
         next = ap (λ (x : State). x .next) o;
       }
 
-  module _ (e : opens p st ≡ true) (g s : ℕ) (lowest : seg g ≡ firstOr (seg 0) (emptySegs p (seen p k))) (next : s ≡ suc (st .serial .0)) where
-    stores-are : headerStores p (seg g) s 0 ≡ openStores p k st
+  module _ (e : opens p st ≡ true) (g : Seg) (s : ℕ) (lowest : g ≡ firstOr noSeg (emptySegs p (seen p k))) (next : s ≡ suc (st .serial .0)) where
+    stores-are : headerStores p g s 0 ≡ openStores p k st
     stores-are =
         ap₂ (λ (x : Seg) (y : ℕ). headerStores p x y 0) lowest next
-        ∙ ap (λ (x : Bool). cond x (headerStores p (firstOr (seg 0) (emptySegs p (seen p k))) (suc (st .serial .0)) 0) []) (sym e)
+        ∙ ap (λ (x : Bool). cond x (headerStores p (firstOr noSeg (emptySegs p (seen p k))) (suc (st .serial .0)) 0) []) (sym e)
 
     -- made, or cut
-    pub opening-made : (r : Made) (k′ : Disk) → Storing p n (headerStores p (seg g) s 0) k r k′ → OpeningStores p st n k (openedAs (r .cut) s (g + 1) 0) k′
+    pub opening-made : (r : Made) (k′ : Disk) → (z : ℕ) → z ≡ zoneOn g 0 → Storing p n (headerStores p g s 0) k r k′ → OpeningStores p st n k (openedAs (r .cut) s (z + 1) 0) k′
     unfolding madeOf openedBy setOpen
-    opening-made r k′ h =
-        let o : setOpen st (seg g) s ≡ openedBy p (seen p k) st =
-        ap₂ (setOpen st) lowest next ∙ ap (λ (x : Bool). cond x (setOpen st (firstOr (seg 0) (emptySegs p (seen p k))) (suc (st .serial .0))) st) (sym e) in
+    opening-made r k′ z q h =
+        let o : setOpen st g s ≡ openedBy p (seen p k) st =
+        ap₂ (setOpen st) lowest next ∙ ap (λ (x : Bool). cond x (setOpen st (firstOr noSeg (emptySegs p (seen p k))) (suc (st .serial .0))) st) (sym e) in
         record {
           cut = ap (λ (x : Made). x .cut) (h .made) ∙ ap (λ (x : List Store). ltb n (length x)) stores-are;
           disk = h .disk ∙ ap (λ (x : List Store). storeAll (storeDisk p) (take n x) k) stores-are;
           serial = ap (λ (x : State). x .serial .0) o;
-          opened = add-one g ∙ ap (λ (x : State). x .opened) o;
+          opened = add-one z ∙ ap suc q ∙ ap (λ (x : State). x .opened) o;
           next = ap (λ (x : State). x .next) o;
         }
 
@@ -105,7 +106,7 @@ opening-front p st n k r k′ h = record {
 }
   where
     g : Seg
-    g = firstOr (seg 0) (emptySegs p (seen p k))
+    g = firstOr noSeg (emptySegs p (seen p k))
 
     same : (b : Bool) → let x = cond b (setOpen (behind (frontOf st)) g (suc (st .serial .0))) (behind (frontOf st)) in let y = cond b (setOpen st g (suc (st .serial .0))) st in
         (x .serial .0 ≡ y .serial .0) × (x .opened ≡ y .opened) × (x .next ≡ y .next)
@@ -123,8 +124,8 @@ scarce-count p v n = go (decLe (length (emptySegs p v)) n)
 
 -- the lowest empty zone has room for a header on every drive
 pub lowest-room : (p : Params) (im ps : List ℕ) → inRange p ≡ true → length im ≡ imageLen p → length ps ≡ pointersLen p → 0 < length (emptySegs p (viewOf p im ps))
-    → (d : ℕ) → d < p .N → pointerOf p ps d (zoneOn (firstOr (seg 0) (emptySegs p (viewOf p im ps))) d) < capacity p
+    → (d : ℕ) → d < p .N → pointerOf p ps d (zoneOn (firstOr noSeg (emptySegs p (viewOf p im ps))) d) < capacity p
 lowest-room p im ps ok hi hp h d hd =
-    let g = firstOr (seg 0) (emptySegs p (viewOf p im ps)) in
+    let g = firstOr noSeg (emptySegs p (viewOf p im ps)) in
     let z : pointerOf p ps d (zoneOn g d) ≡ 0 = empty-pointer p ps g d (lowest-is-empty p im ps hi hp h .0) hd in
     omega (arith, z, capacity-low p (ranged p ok))

@@ -270,10 +270,11 @@ pub fn open(
     let g = disk_zones::lowest_empty(p, pointers);
     let serial = Serial(old.0 + 1);
     let made = disk_zones::header_stores(p, image, pointers, g, serial, Serial(0), count);
+    let zone = disk_shape::zone_on(p, g, 0);
     Opened {
         cut: made.cut,
         serial,
-        opened: (g + 1) as u32,
+        opened: (zone + 1) as u32,
         next: 0,
     }
 }

@@ -13,7 +13,7 @@ use Rattle.spec.specs.declared.State.{State}
 use Rattle.spec.specs.declared.Answer.{Answer}
 use Rattle.spec.specs.declared.Answer.the-variants.{Cut, Landed}
 use Rattle.spec.specs.Calls.{Plan, mkPlan, mkAfter, cutMemory}
-use Rattle.spec.specs.Drives.{View, pointerAt, Store, storeView, Disk, pointerOf, setPointer, storeDisk, storeAll, zoneOn, Seg, seg}
+use Rattle.spec.specs.Drives.{View, pointerAt, Store, storeView, Disk, pointerOf, setPointer, storeDisk, storeAll, zoneOn}
 use Rattle.spec.specs.Drives.Store.{put}
 use Rattle.spec.specs.Engine.Call.{land}
 use Rattle.spec.specs.Engine.{lentOk, storeCount, lentBlock, verdict, callOn, callDisk}
@@ -28,7 +28,7 @@ use Rattle.law_basic.specs.Fields.{length-record}
 use Rattle.law_basic.specs.Geometry.{ranged, data-count-high, data-drive-lt, capacity-high, data-below, slot-within}
 use Rattle.law_basic.specs.Splice.{length-part}
 use Rattle.law_basic.specs.Stores.{stores-cons, stores-zero, stores-nil}
-use Rattle.law_basic.specs.Segs.{named-lt, zone-on-lt}
+use Rattle.law_basic.specs.Segs.{named-zones-low, zone-on-lt}
 use Rattle.law_calls.specs.Refusals.{call-refused, call-done, call-cut, refusal-kind}
 use Rattle.law_views.specs.Pointers.{pointer-set, pointer-other-drive}
 use Rattle.law_views.specs.Views.{Whole, pointer-view, view-put, whole-put, seen}
@@ -43,6 +43,7 @@ use Rattle.call_land.specs.declared.Look.{Look}
 use Rattle.call_land.specs.Marked.{changeTo, row-marked, changed-marked, changed-freed}
 use Rattle.call_write.specs.Ends.{cut-memory, state-cut}
 use Rattle.call_land.specs.Plan.{Looks, sealsOf, tableOf, Completing, Complete, same-filled, same-writes, landedState, shownTable, plan-part, plan-whole}
+use Rattle.spec.specs.declared.Seg.{Seg}
 
 -- ---- the state after the change
 
@@ -84,10 +85,10 @@ module _ (p : Params) (k : Disk) (m : Memory) (d s : ℕ) (r : LandReady p k m d
   i = slotOf (m .state) s
 
   abbrev g : Seg
-  g = openSegment (m .state)
+  g = openSegment p (m .state)
 
   abbrev z : ℕ
-  z = zoneOn (openSegment (m .state)) d
+  z = zoneOn (openSegment p (m .state)) d
 
   abbrev b : List ℕ
   b = slotBlock p (m .inflight) i d
@@ -103,14 +104,14 @@ module _ (p : Params) (k : Disk) (m : Memory) (d s : ℕ) (r : LandReady p k m d
   spare-long = length-record (flightRec p (m .state) i d)
 
   -- the pointer by the bytes, and that it has room
-  pub at-pointer : pointerOf p (k .pointers) d (zoneOn (openSegment (m .state)) d) ≡ pointerAt (seen p k) d (zoneOn (openSegment (m .state)) d)
+  pub at-pointer : pointerOf p (k .pointers) d (zoneOn (openSegment p (m .state)) d) ≡ pointerAt (seen p k) d (zoneOn (openSegment p (m .state)) d)
   at-pointer = sym (pointer-view p k d z (r .drive-low) (open-zone-low p k m d s r) (r .whole))
 
-  pub pointer-room : pointerOf p (k .pointers) d (zoneOn (openSegment (m .state)) d) < capacity p
+  pub pointer-room : pointerOf p (k .pointers) d (zoneOn (openSegment p (m .state)) d) < capacity p
   pointer-room = data-below p (ranged p (r .ranged)) (pointerOf p (k .pointers) d z) (land-pointer-data p k m d s r .1)
 
   abbrev pub after! : Disk
-  after! = storeDisk p (put d (zoneOn (openSegment (m .state)) d) (slotBlock p (m .inflight) (slotOf (m .state) s) d) (recordBytes (flightRec p (m .state) (slotOf (m .state) s) d))) k
+  after! = storeDisk p (put d (zoneOn (openSegment p (m .state)) d) (slotBlock p (m .inflight) (slotOf (m .state) s) d) (recordBytes (flightRec p (m .state) (slotOf (m .state) s) d))) k
 
   room! : pointerAt (seen p k) d z < capacity p
   room! = omega (arith, at-pointer, pointer-room)
@@ -127,7 +128,7 @@ module _ (p : Params) (k : Disk) (m : Memory) (d s : ℕ) (r : LandReady p k m d
   store-is = refl
 
   -- 01, Refusals, 9: room for the footers once it is made
-  pub room-after : seals p (m .state) (slotOf (m .state) s) d ≡ true → (e : ℕ) → e < p .N → pointerOf p (after! .pointers) e (zoneOn (openSegment (m .state)) e) + footers p ≤ capacity p
+  pub room-after : seals p (m .state) (slotOf (m .state) s) d ≡ true → (e : ℕ) → e < p .N → pointerOf p (after! .pointers) e (zoneOn (openSegment p (m .state)) e) + footers p ≤ capacity p
   room-after u e he =
       let f = land-feet-room p k m d s r u e he in
       subst (λ (x : List ℕ). pointerOf p x e (zoneOn g e) + footers p ≤ capacity p) (sym (put-pointers p d z b t k)) (go (ℕ-discrete e d) f)
@@ -186,15 +187,14 @@ module _ (p : Params) (k : Disk) (m : Memory) (d s : ℕ) (r : LandReady p k m d
 
   module _ (sized : RowsSized (m .state)) where
     -- what the store, the table's entry and the mark come to
-    pub chunked : (l : Look) → Looks p (m .state) d s l → (w : Row) (k′ : Disk) (co : List ℕ)
-        → k′ ≡ storeDisk p (put d (zoneOn (seg (l .segment)) d) (slotBlock p (m .inflight) (l .slot) d) (recordBytes (flightRec p (alone (l .row)) 0 d))) k
-        → co ≡ set (m .compact) (compactAt p d (zoneOn (seg (l .segment)) d) (pointerOf p (k .pointers) d (zoneOn (seg (l .segment)) d) - 1)) (compactEntry p s)
-        → w ≡ markRow (l .row) d (pointerOf p (k .pointers) d (zoneOn (seg (l .segment)) d) - 1)
-        → (w ≡ markRow (slotRow (m .state) (slotOf (m .state) s)) d (pointerAt (seen p k) d (zoneOn (openSegment (m .state)) d) - 1))
+    pub chunked : (l : Look) → Looks p (m .state) d s l → (g′ : Seg) → g′ ≡ openSegment p (m .state) → (w : Row) (k′ : Disk) (co : List ℕ)
+        → k′ ≡ storeDisk p (put d (zoneOn g′ d) (slotBlock p (m .inflight) (l .slot) d) (recordBytes (flightRec p (alone (l .row)) 0 d))) k
+        → co ≡ set (m .compact) (compactAt p d (zoneOn g′ d) (pointerOf p (k .pointers) d (zoneOn g′ d) - 1)) (compactEntry p s)
+        → w ≡ markRow (l .row) d (pointerOf p (k .pointers) d (zoneOn g′ d) - 1)
+        → (w ≡ markRow (slotRow (m .state) (slotOf (m .state) s)) d (pointerAt (seen p k) d (zoneOn (openSegment p (m .state)) d) - 1))
         × (k′ ≡ storeDisk p (landStore p (seen p k) m d s) k) × (co ≡ shownTable p (seen p k) m d s)
-    chunked l x w k′ co f h q =
-        let e = x .row (r .slot-low) in
-        let u = x .segment in (
+    chunked l x g′ u w k′ co f h q =
+        let e = x .row (r .slot-low) in (
           q ∙ (λ j. markRow (e j) d (pointerOf p (k .pointers) d (zoneOn (u j) d) - 1)) ∙ ap (λ (y : ℕ). markRow (slotRow (m .state) i) d (y - 1)) at-pointer,
           f ∙ (λ j. storeDisk p (put d (zoneOn (u j) d) (slotBlock p (m .inflight) (x .slot j) d) (recordBytes (flightRec p (alone (e j)) 0 d))) k)
               ∙ ap (λ (y : Rec). storeDisk p (put d z b (recordBytes y)) k) row-flight ∙ sym store-is,
@@ -219,7 +219,7 @@ module _ (p : Params) (k : Disk) (m : Memory) (d s : ℕ) (r : LandReady p k m d
 
     -- what completing asks
     pub complete-ready : completes p (m .state) (slotOf (m .state) s) d ≡ true → (w : Row) (g′ : Seg) (b′ : Bool) (k′ : Disk)
-        → w ≡ markRow (slotRow (m .state) (slotOf (m .state) s)) d (pointerAt (seen p k) d (zoneOn (openSegment (m .state)) d) - 1) → g′ ≡ openSegment (m .state)
+        → w ≡ markRow (slotRow (m .state) (slotOf (m .state) s)) d (pointerAt (seen p k) d (zoneOn (openSegment p (m .state)) d) - 1) → g′ ≡ openSegment p (m .state)
         → b′ ≡ seals p (m .state) (slotOf (m .state) s) d → k′ ≡ storeDisk p (landStore p (seen p k) m d s) k → Complete p (m .addresses) w g′ b′ k′
     complete-ready c w g′ b′ k′ ew eg eb ek =
         subst (λ (x : Disk). Complete p (m .addresses) w g′ b′ x) (sym (ek ∙ store-is))
@@ -235,15 +235,15 @@ module _ (p : Params) (k : Disk) (m : Memory) (d s : ℕ) (r : LandReady p k m d
                   subst (λ (x : ℕ). x ≤ dataCount p) (sym (filled-alone st₁ i)) filled₁,
                   λ e he. subst (λ (x : ℕ). x < p .S) (sym (row-offset st₁ i e (omega (arith, he, ranged p (r .ranged) .drives-high)))) (offsets-low p (m .state) (r .fine) i d o e o-low),
                 ),
-                (named-lt p g (open-low p k m d s r), λ l e he. room-after (sym eb ∙ l) e he),
+                (named-zones-low p 0 g (open-low p k m d s r), λ l e he. room-after (sym eb ∙ l) e he),
               ),
             ),
           ),
         )))
 
     -- the table, by the row and by the state
-    pub table-is : (v : View) → tableOf p v (openSegment (m .state)) (alone (slotRow (landedState p (seen p k) m d s) (slotOf (m .state) s))) 0 (m .addresses)
-        ≡ tableOf p v (openSegment (m .state)) (landedState p (seen p k) m d s) (slotOf (m .state) s) (m .addresses)
+    pub table-is : (v : View) → tableOf p v (openSegment p (m .state)) (alone (slotRow (landedState p (seen p k) m d s) (slotOf (m .state) s))) 0 (m .addresses)
+        ≡ tableOf p v (openSegment p (m .state)) (landedState p (seen p k) m d s) (slotOf (m .state) s) (m .addresses)
     table-is v =
         let q = row-cands st₁ i p v g filled₁-eight (λ x h. omega (arith, data-drive-lt p (stripeIn st₁ i) x (omega (arith, h, filled₁)), ranged p (r .ranged) .drives-high)) in
         λ j. pointed p v (m .addresses) (q j) (q j) (m .addresses)
@@ -256,6 +256,10 @@ pub record Chosen (p : Params) (k : Disk) (tb co fl : List ℕ) (d s : ℕ) (l :
   pub front : f ≡ frontOf st
   pub looks : Looks p st d s l
   pub none! : landRefusal p k (mkMemory st tb co fl) d s ≡ none
+
+-- the front has the number of its open segment
+pub chosen-opened : {p : Params} {k : Disk} {tb co fl : List ℕ} {d s : ℕ} {l : Look} {f : Front} {st : State} → Chosen p k tb co fl d s l f st → st .opened ≡ f .opened
+chosen-opened c = sym (ap (λ (x : Front). x .opened) (c .front))
 
 module _ (p : Params) (k : Disk) (m : Memory) (d s n : ℕ) (none! : landRefusal p k m d s ≡ none) where
   -- the number is 0: cut before the chunk
@@ -278,7 +282,7 @@ module _ (p : Params) (k : Disk) (m : Memory) (d s n : ℕ) (none! : landRefusal
     i₀ = slotOf (m .state) s
 
     abbrev o₀ : ℕ
-    o₀ = pointerAt (seen p k) d (zoneOn (openSegment (m .state)) d) - 1
+    o₀ = pointerAt (seen p k) d (zoneOn (openSegment p (m .state)) d) - 1
 
     abbrev w₀ : Row
     w₀ = markRow (slotRow (m .state) i₀) d o₀
@@ -289,7 +293,7 @@ module _ (p : Params) (k : Disk) (m : Memory) (d s n : ℕ) (none! : landRefusal
     -- the chunk is stored, the stripe is not complete
     pub ends-part : 0 < n → completes p (m .state) (slotOf (m .state) s) d ≡ false → (c : Change) (k′ : Disk) (co : List ℕ)
         → c ≡ changeTo (Landed 0) (frontOf (m .state)) (slotOf (m .state) s)
-        (markRow (slotRow (m .state) (slotOf (m .state) s)) d (pointerAt (seen p k) d (zoneOn (openSegment (m .state)) d) - 1)) false
+        (markRow (slotRow (m .state) (slotOf (m .state) s)) d (pointerAt (seen p k) d (zoneOn (openSegment p (m .state)) d) - 1)) false
         → k′ ≡ storeDisk p (landStore p (seen p k) m d s) k
         → co ≡ shownTable p (seen p k) m d s
         → afterChange (m .state) c (k′ .image) (k′ .pointers) (m .addresses) co (m .inflight) [] ≡ callDisk p k m (land d s n)
@@ -307,7 +311,7 @@ module _ (p : Params) (k : Disk) (m : Memory) (d s n : ℕ) (none! : landRefusal
     module _ (h : 0 < n) (c : completes p (m .state) (slotOf (m .state) s) d ≡ true) (a : Answer) (r : Change) (k′ : Disk) (tb co : List ℕ)
         (e : r
         ≡ changeTo a (frontOf (m .state)) (slotOf (m .state) s)
-        (freeRow (markRow (slotRow (m .state) (slotOf (m .state) s)) d (pointerAt (seen p k) d (zoneOn (openSegment (m .state)) d) - 1)))
+        (freeRow (markRow (slotRow (m .state) (slotOf (m .state) s)) d (pointerAt (seen p k) d (zoneOn (openSegment p (m .state)) d) - 1)))
         (seals p (m .state) (slotOf (m .state) s) d)) where
       abbrev w : Store
       w = landStore p (seen p k) m d s
@@ -316,7 +320,7 @@ module _ (p : Params) (k : Disk) (m : Memory) (d s n : ℕ) (none! : landRefusal
       b₀ = seals p (m .state) i₀ d
 
       abbrev g₀ : Seg
-      g₀ = openSegment (m .state)
+      g₀ = openSegment p (m .state)
 
       abbrev st₂ : State
       st₂ = landedState p (seen p k) m d s
@@ -369,7 +373,7 @@ module _ (p : Params) (k : Disk) (m : Memory) (d s n : ℕ) (none! : landRefusal
             let u = f .cut (subst (λ (x : List Store). n - 1 < length x) (sym stores-are) l) in
             let y = land-ready p k m d s none! in
             let ra : r .answer ≡ Cut = ap (λ (x : Change). x .answer) e ∙ u .0 in
-            let lc : length (shownTable p (seen p k) m d s) ≡ length (m .compact) = length-set (m .compact) (compactAt p d (zoneOn (openSegment (m .state)) d) o₀) (compactEntry p s) in
+            let lc : length (shownTable p (seen p k) m d s) ≡ length (m .compact) = length-set (m .compact) (compactAt p d (zoneOn (openSegment p (m .state)) d) o₀) (compactEntry p s) in
             let q : mkMemory (stateAfter (m .state) r) tb co (m .inflight) ≡ cutMemory p m =
             cut-memory p m (stateAfter (m .state) r) tb co (y .addresses-long) (y .compact-long) (state-cut (m .state) r ra) (u .1)
             (u .2 ∙ ap (λ (x : ℕ). replicate x 0) lc) in

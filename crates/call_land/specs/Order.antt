@@ -13,7 +13,7 @@ use Rattle.spec.specs.declared.Answer.{Answer}
 use Rattle.spec.specs.declared.Answer.the-variants.{Refused, BadZone}
 use Rattle.spec.specs.Calls.Check.{zones}
 use Rattle.spec.specs.Calls.{Check, ninth, firstRefusal}
-use Rattle.spec.specs.Drives.{View, Disk, Seg, seg}
+use Rattle.spec.specs.Drives.{View, Disk}
 use Rattle.spec.specs.Engine.{lentOk}
 use Rattle.spec.specs.Landing.{slotOf, ready, waiting, landFaults, landChecks}
 use Rattle.spec.specs.Lists.{Opt, consIf, least}
@@ -32,6 +32,7 @@ use Rattle.mem_rows.specs.Rows.{slotRow}
 use Rattle.call_land_chunk.specs.Alone.{alone, row-ready, row-entries}
 use Rattle.call_land.specs.declared.Look.{Look}
 use Rattle.call_land.specs.Plan.{Looks, look-done, look-seals}
+use Rattle.spec.specs.declared.Seg.{Seg}
 
 -- 01, Refusals, 5: what the row says of the chunk
 pub waits-row : (p : Params) (st : State) (d s : ℕ) (l : Look) → Looks p st d s l → (ltb d (p .N) && ltb (l .slot) slotCount && ready p (alone (l .row)) 0 d) ≡ waiting p st d s
@@ -63,13 +64,14 @@ waits-row p st d s l w = go (test (ltb (slotOf st s) slotCount))
 
 -- 01, Refusals, 9: the bad zones by the row are those of the definition
 pub faults-seen : (p : Params) (v : View) (m : Memory) (d s : ℕ) (l : Look) → Looks p (m .state) d s l → slotOf (m .state) s < 8 → filledIn (m .state) (slotOf (m .state) s) ≤ dataCount p
-    → inRange p ≡ true → least (p .Z) (faultsOf p v (m .addresses) (entriesIn (alone (l .row)) 0) d (seg (l .segment)) s (l .done) (l .seals)) ≡ least (p .Z) (landFaults p v m d s)
-faults-seen p v m d s l w h f ok =
+    → inRange p ≡ true → (g : Seg) → g ≡ openSegment p (m .state)
+    → least (p .Z) (faultsOf p v (m .addresses) (entriesIn (alone (l .row)) 0) d g s (l .done) (l .seals)) ≡ least (p .Z) (landFaults p v m d s)
+faults-seen p v m d s l w h f ok g q =
     let st = m .state in
     let i = slotOf st s in
     let e = w .row h in
     let es : entriesIn (alone (l .row)) 0 ≡ entriesIn st i = ap (λ (x : Row). entriesIn (alone x) 0) e ∙ row-entries st i (omega (arith, f, data-count-high p (ranged p ok))) in
-    ap (λ (g : Seg). least (p .Z) (faultsOf p v (m .addresses) (entriesIn (alone (l .row)) 0) d g s (l .done) (l .seals))) (w .segment)
+    ap (λ (x : Seg). least (p .Z) (faultsOf p v (m .addresses) (entriesIn (alone (l .row)) 0) d x s (l .done) (l .seals))) q
     ∙ ap (least (p .Z)) (land-faults-are p v m d s (entriesIn (alone (l .row)) 0) (l .done) (l .seals) es (look-done p st d s l w h) (look-seals p st d s l w h))
 
 module _ (p : Params) (k : Disk) (m : Memory) (d s : ℕ) where
@@ -120,7 +122,7 @@ module _ (p : Params) (k : Disk) (m : Memory) (d s : ℕ) where
       sym (ap (λ (x : List ℕ). firstRefusal (zones (x ++ zs) ∷ [])) (state-fault p (m .state) e) ∙ ap (λ (x : ℕ). some (BadZone x)) (least-zero zs))
 
   -- the last check, by the lowest bad zone
-  pub faults-refused : stateOk p (m .state) ≡ true → inRange p ≡ true → Named p (openSegment (m .state)) → (z : ℕ) → z ≡ least (p .Z) (landFaults p (seen p k) m d s)
+  pub faults-refused : stateOk p (m .state) ≡ true → inRange p ≡ true → Named p (openSegment p (m .state)) → (z : ℕ) → z ≡ least (p .Z) (landFaults p (seen p k) m d s)
       → firstRefusal (zones (consIf (ltb z (p .Z)) z []) ∷ []) ≡ landFrom 4
   unfolding landChecks
   faults-refused e ok h z q =

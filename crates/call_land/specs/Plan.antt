@@ -11,13 +11,14 @@ use Rattle.spec.specs.declared.State.{State}
 use Rattle.spec.specs.declared.Answer.{Answer}
 use Rattle.spec.specs.declared.Answer.the-variants.{Cut, Landed}
 use Rattle.spec.specs.Calls.{mkPlan}
-use Rattle.spec.specs.Drives.{View, pointerAt, Store, storeView, Disk, pointerOf, storeDisk, storeAll, zoneOn, Seg, seg}
+use Rattle.spec.specs.Drives.{View, pointerAt, Store, storeView, Disk, pointerOf, storeDisk, storeAll, zoneOn}
 use Rattle.spec.specs.Landing.{slotOf, completes, seals, landedCands, pointed, sealStores, writesIn, landStore, landPlan}
 use Rattle.spec.specs.Layout.{compactEntry}
 use Rattle.spec.specs.Memory.{Memory, mkMemory, filledIn, isWrite, offsetIn, openSegment, inFlight, setClosed, markLanded, freeStripe, compactAt}
 use Rattle.spec.specs.Rank.{Cand}
 use Rattle.spec.specs.Params.{dataCount, inRange, footers, capacity, addressesLen}
 use Rattle.call_land_table.specs.Winners.{EntriesSane}
+use Rattle.law_basic.specs.Segs.{ZonesLow}
 use Rattle.law_views.specs.Views.{Whole, seen}
 use Rattle.disk_zones.specs.declared.Made.{Made}
 use Rattle.disk_zones.specs.Made.{Storing, storing-cut, storing-done, storing-none}
@@ -25,12 +26,12 @@ use Rattle.mem_rows.specs.declared.Row.{Row}
 use Rattle.mem_rows.specs.Rows.{slotRow}
 use Rattle.call_land_chunk.specs.Alone.{alone, row-completes}
 use Rattle.call_land.specs.declared.Look.{Look}
+use Rattle.spec.specs.declared.Seg.{Seg}
 
 -- what a landing asks of the state, asked once
 pub record Looks (p : Params) (st : State) (d s : ℕ) (l : Look) : Type 0 where
   pub slot : l .slot ≡ slotOf st s
   pub row : slotOf st s < 8 → l .row ≡ slotRow st (slotOf st s)
-  pub segment : seg (l .segment) ≡ openSegment st
   pub done : l .done ≡ completes p (alone (l .row)) 0 d
   pub seals : l .seals ≡ (l .done && eqb (st .next) (p .S) && eqb (length (inFlight st)) 1)
 
@@ -56,7 +57,7 @@ abbrev pub Complete : Params → List ℕ → Row → Seg → Bool → Disk → 
 Complete p tb r g b k =
     (inRange p ≡ true) × (Whole p k × (((length tb ≡ addressesLen p) × EntriesSane p (alone r) 0 tb)
     × (((filledIn (alone r) 0 ≤ dataCount p) × ((d : ℕ) → d < p .N → offsetIn (alone r) 0 d < p .S))
-    × ((g .name < p .Z) × (b ≡ true → (d : ℕ) → d < p .N → pointerOf p (k .pointers) d (zoneOn g d) + footers p ≤ capacity p)))))
+    × (ZonesLow p 0 g × (b ≡ true → (d : ℕ) → d < p .N → pointerOf p (k .pointers) d (zoneOn g d) + footers p ≤ capacity p)))))
 
 -- 01, Landing; Store count: the stripe of row r completes in segment g on the bytes k, with the tables tb and co, under the number n
 pub record Completing (p : Params) (n : ℕ) (r : Row) (g : Seg) (b : Bool) (k : Disk) (tb co : List ℕ) (a : Answer) (k′ : Disk) (tb′ co′ : List ℕ) : Type 0 where
@@ -105,7 +106,7 @@ seals-some p n g b k a k′ e h =
 -- ---- a chunk marked as landed
 
 module _ (p : Params) (st : State) (i d o : ℕ) where
-  pub same-open : openSegment (markLanded st i d o) ≡ openSegment st
+  pub same-open : openSegment p (markLanded st i d o) ≡ openSegment p st
   unfolding markLanded openSegment
   same-open = refl
 
@@ -127,26 +128,26 @@ module _ (p : Params) (v : View) (m : Memory) (d s : ℕ) where
   i = slotOf st s
 
   abbrev z : ℕ
-  z = zoneOn (openSegment st) d
+  z = zoneOn (openSegment p st) d
 
   -- the state with the chunk landed, the compact table with its entry
   abbrev pub landedState : State
-  landedState = markLanded (m .state) (slotOf (m .state) s) d (pointerAt v d (zoneOn (openSegment (m .state)) d) - 1)
+  landedState = markLanded (m .state) (slotOf (m .state) s) d (pointerAt v d (zoneOn (openSegment p (m .state)) d) - 1)
 
   abbrev pub shownTable : List ℕ
-  shownTable = set (m .compact) (compactAt p d (zoneOn (openSegment (m .state)) d) (pointerAt v d (zoneOn (openSegment (m .state)) d) - 1)) (compactEntry p s)
+  shownTable = set (m .compact) (compactAt p d (zoneOn (openSegment p (m .state)) d) (pointerAt v d (zoneOn (openSegment p (m .state)) d) - 1)) (compactEntry p s)
 
   abbrev v′ : View
   v′ = storeView (landStore p v m d s) v
 
   abbrev cs : List Cand
-  cs = landedCands p v′ (openSegment st) landedState i
+  cs = landedCands p v′ (openSegment p st) landedState i
 
   abbrev tb′ : List ℕ
   tb′ = pointed p v′ (m .addresses) cs cs (m .addresses)
 
   abbrev ss : List Store
-  ss = sealStores p v′ (openSegment st)
+  ss = sealStores p v′ (openSegment p st)
 
   abbrev st₂ : State
   st₂ = freeStripe landedState i
@@ -160,10 +161,10 @@ module _ (p : Params) (v : View) (m : Memory) (d s : ℕ) where
       (mkMemory (cond (l j) (setClosed (cond (e j) st₂ landedState)) (cond (e j) st₂ landedState)) (cond (e j) tb′ (m .addresses)) shownTable (m .inflight)) []
 
   pub plan-whole : completes p (m .state) (slotOf (m .state) s) d ≡ true
-      → landPlan p v m d s ≡ mkPlan (landStore p v m d s ∷ cond (seals p (m .state) (slotOf (m .state) s) d) (sealStores p (storeView (landStore p v m d s) v) (openSegment (m .state))) [])
+      → landPlan p v m d s ≡ mkPlan (landStore p v m d s ∷ cond (seals p (m .state) (slotOf (m .state) s) d) (sealStores p (storeView (landStore p v m d s) v) (openSegment p (m .state))) [])
       (Landed (writesIn (m .state) (slotOf (m .state) s)))
       (mkMemory (cond (seals p (m .state) (slotOf (m .state) s) d) (setClosed (freeStripe landedState (slotOf (m .state) s))) (freeStripe landedState (slotOf (m .state) s)))
-      (tableOf p (storeView (landStore p v m d s) v) (openSegment (m .state)) landedState (slotOf (m .state) s) (m .addresses)) shownTable (m .inflight)) []
+      (tableOf p (storeView (landStore p v m d s) v) (openSegment p (m .state)) landedState (slotOf (m .state) s) (m .addresses)) shownTable (m .inflight)) []
   unfolding landPlan
   plan-whole e =
       let b = seals p st i d in

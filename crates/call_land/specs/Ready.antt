@@ -14,7 +14,7 @@ use Rattle.spec.specs.declared.Params.{Params}
 use Rattle.spec.specs.declared.State.{State}
 use Rattle.spec.specs.declared.Answer.{Answer}
 use Rattle.spec.specs.Calls.{firstRefusal}
-use Rattle.spec.specs.Drives.{View, pointerAt, Disk, pointerOf, zoneOn, Seg}
+use Rattle.spec.specs.Drives.{View, pointerAt, Disk, pointerOf, zoneOn}
 use Rattle.spec.specs.Engine.{lentOk}
 use Rattle.spec.specs.Landing.{slotOf, ready as isReady, waiting, completes, seals, misplaced, overfull, entryFaults, landFaults, landChecks}
 use Rattle.spec.specs.Layout.{group, Rec}
@@ -32,6 +32,7 @@ use Rattle.call_land_faults.specs.Lowest.{entry-placed}
 use Rattle.call_land_table.specs.Winners.{Sane, EntriesSane}
 use Rattle.disk_stored.specs.Places.{place-free}
 use Rattle.call_write.specs.Ready.{lent-long}
+use Rattle.spec.specs.declared.Seg.{Seg}
 
 -- 01, Refusals: the first check of a landing that holds, on what it is lent
 abbrev pub landRefusal : Params → Disk → Memory → ℕ → ℕ → Opt Answer
@@ -91,9 +92,12 @@ module _ (p : Params) (st : State) (fine : stateOk p st ≡ true) where
       let h₂ = and-left (lives && a) b h₁ in
       (and-right lives a h₂, and-right (lives && a && b) c h, and-right (lives && a && b && c) d fine)
 
-  pub segment-low : 0 < p .Z → Named p (openSegment st)
+  pub opened-low : st .opened ≤ p .Z
+  opened-low = leb-true (st .opened) (p .Z) (state-ok-parts .0)
+
+  pub segment-low : 0 < p .Z → Named p (openSegment p st)
   unfolding openSegment
-  segment-low h = seg-named p (st .opened - 1) (omega (arith, leb-true (st .opened) (p .Z) (state-ok-parts .0)))
+  segment-low h = seg-named p (st .opened - 1) (omega (arith, opened-low))
 
   pub filled-low : (i : ℕ) → i < 8 → filledIn st i ≤ dataCount p
   unfolding slots slotCount slotOk
@@ -144,7 +148,7 @@ module _ (p : Params) (k : Disk) (m : Memory) (d s : ℕ) (r : LandReady p k m d
   slot = slotOf (m .state) s
 
   abbrev segment : Seg
-  segment = openSegment (m .state)
+  segment = openSegment p (m .state)
 
   abbrev entries : List ℕ
   entries = flat (entryFaults p (seen p k) (m .addresses)) (entriesIn (m .state) slot)
@@ -159,17 +163,17 @@ module _ (p : Params) (k : Disk) (m : Memory) (d s : ℕ) (r : LandReady p k m d
       let y = if-none b (zoneOn segment d) ws (x .1) in
       (x .0, y .0, y .1)
 
-  pub open-low : Named p (openSegment (m .state))
+  pub open-low : Named p (openSegment p (m .state))
   open-low = segment-low p (m .state) (r .fine) (omega (arith, rangedIn p (r .ranged) .zones-low))
 
-  pub open-zone-low : zoneOn (openSegment (m .state)) d < p .Z
+  pub open-zone-low : zoneOn (openSegment p (m .state)) d < p .Z
   open-zone-low = zone-on-lt p segment d open-low
 
   pub slot-filled : filledIn (m .state) (slotOf (m .state) s) ≤ dataCount p
   slot-filled = filled-low p (m .state) (r .fine) slot (r .slot-low)
 
   -- 01, Refusals, 9: the pointer is at a data block
-  pub land-pointer-data : (1 ≤ pointerOf p (k .pointers) d (zoneOn (openSegment (m .state)) d)) × (pointerOf p (k .pointers) d (zoneOn (openSegment (m .state)) d) ≤ p .S)
+  pub land-pointer-data : (1 ≤ pointerOf p (k .pointers) d (zoneOn (openSegment p (m .state)) d)) × (pointerOf p (k .pointers) d (zoneOn (openSegment p (m .state)) d) ≤ p .S)
   unfolding misplaced
   land-pointer-data =
       let n = pointerAt (seen p k) d (zoneOn segment d) in
@@ -187,7 +191,7 @@ module _ (p : Params) (k : Disk) (m : Memory) (d s : ℕ) (r : LandReady p k m d
 
   -- 01, Refusals, 9: room for the footers on every drive, once the chunk is stored
   pub land-feet-room : seals p (m .state) (slotOf (m .state) s) d ≡ true → (e : ℕ) → e < p .N
-      → pointerOf p (k .pointers) e (zoneOn (openSegment (m .state)) e) + cond (eqb e d) 1 0 + footers p ≤ capacity p
+      → pointerOf p (k .pointers) e (zoneOn (openSegment p (m .state)) e) + cond (eqb e d) 1 0 + footers p ≤ capacity p
   unfolding overfull drivesOf below
   land-feet-room c e he =
       let f : ℕ → Bool = λ x. ltb (capacity p) (pointerAt (seen p k) x (zoneOn segment x) + cond (eqb x d) 1 0 + footers p) in

@@ -7,7 +7,7 @@ ghost use lib.ListN.{length, set, replicate};
 ghost use Rattle.mem_calls.specs.Left.{checked};
 ghost use Rattle.spec.specs.declared.Answer.the-variants.{Cut};
 ghost use Rattle.spec.specs.declared.State.{State as StateOf};
-ghost use Rattle.spec.specs.Drives.{mkDisk, pointerOf, storeDisk, zoneOn, seg};
+ghost use Rattle.spec.specs.Drives.{mkDisk, pointerOf, storeDisk, zoneOn};
 ghost use Rattle.spec.specs.Drives.Store.{put};
 ghost use Rattle.spec.specs.Engine.{callDisk};
 ghost use Rattle.spec.specs.Engine.Call.{land};
@@ -21,6 +21,7 @@ ghost use Rattle.call_land.specs.Plan.{Looks, sealsOf, Completing};
 ghost use Rattle.call_land.specs.Ready.{landRefusal};
 ghost use Rattle.call_land_table.specs.Winners.{EntriesSane};
 ghost use Rattle.mem_rows.specs.Rows.{afterChange};
+ghost use Rattle.law_basic.specs.Segs.{ZonesLow};
 ghost use Rattle.law_views.specs.Views.{Whole};
 ghost use Rattle.call_land_chunk.specs.Alone.{alone, markRow};
 ghost use Rattle.disk_zones.specs.Made.{Storing};
@@ -31,13 +32,13 @@ use mem_rows::Front;
 use mem_rows::Row;
 use spec::Answer;
 use spec::Params;
+use spec::Seg;
 use spec::State;
 
-// What a landing asks of the state, once: the stripe's eighth (8: not in flight) and its row, the open segment, whether the chunk completes the stripe, and
-// whether it seals the segment.
+// What a landing asks of the state, once: the stripe's eighth (8: not in flight) and its row, whether the chunk completes the stripe, and whether it seals
+// the segment.
 pub struct Look {
     pub slot: usize,
-    pub segment: usize,
     pub done: bool,
     pub seals: bool,
     pub row: Row,
@@ -60,20 +61,18 @@ fn look_at(p: Params, state: State, bytes: &[u8], drive: usize, stripe: usize) -
 {
     let slot = mem_state::slot_of(state, stripe);
     let row = mem_codec::row_at(bytes, within(slot));
-    let segment = mem_state::open_segment(state);
     let done = call_land_chunk::completes(p, row, drive);
     let flying = mem_state::in_flight(state);
     let seals = call_land_chunk::is_last(p, done, state.next, flying);
     Look {
         slot,
-        segment,
         done,
         seals,
         row,
     }
 }
 
-// 01, Refusals: the checks of a landing, in order. The ranges of the state are looked at in its bytes.
+// 01, Refusals: the checks of a landing, in order. The ranges of the state are looked at in its bytes, before its open segment is used.
 fn checks(
     p: Params,
     image: &[u8],
@@ -83,12 +82,13 @@ fn checks(
     inflight: &[u8],
     bytes: &[u8],
     missing: u8,
+    opened: u32,
     seen: Look,
     drive: usize,
     stripe: usize,
 ) -> Check
     requires { ⌜ Looks p (stateOf (now bytes)) drive stripe seen ⌝ }
-    requires { ⌜ (missing ≡ stateOf (now bytes) .missing) × (length (now bytes) ≡ stateLen) ⌝ }
+    requires { ⌜ (missing ≡ stateOf (now bytes) .missing) × (length (now bytes) ≡ stateLen) × (opened ≡ stateOf (now bytes) .opened) ⌝ }
     ensures { λ r. ⌜
         checked r
         ≡ landRefusal p (mkDisk (now (image .entry)) (now (pointers .entry)))
@@ -110,13 +110,14 @@ fn checks(
     if !mem_bounds::state_ok(p, bytes) {
         return Check::Fail(Answer::BadZone(0));
     }
+    let segment = mem_state::open_segment(p, opened);
     let z = call_land_faults::land_fault(
         p,
         pointers,
         addresses,
         row,
         drive,
-        seen.segment,
+        segment,
         stripe,
         seen.done,
         seen.seals,
@@ -178,28 +179,28 @@ fn store_chunk(
     inflight: &[u8],
     row: Row,
     i: usize,
-    segment: usize,
+    segment: Seg,
     drive: usize,
     stripe: usize,
 ) -> Row
     requires { ⌜ inRange p ≡ true ⌝ }
     requires { ⌜ Whole p (mkDisk (now image) (now pointers)) ⌝ }
     requires { ⌜ (length (now compact) ≡ compactLen p) × (length (now inflight) ≡ inflightLen p) × (i < 8) × (filledIn (alone row) 0 ≤ 8) ⌝ }
-    requires { ⌜ (drive < p .N) × (segment < p .Z) × (1 ≤ pointerOf p (now pointers) drive (zoneOn (seg segment) drive))
-        × (pointerOf p (now pointers) drive (zoneOn (seg segment) drive) ≤ p .S) ⌝ }
+    requires { ⌜ (drive < p .N) × ZonesLow p 0 segment × (1 ≤ pointerOf p (now pointers) drive (zoneOn segment drive))
+        × (pointerOf p (now pointers) drive (zoneOn segment drive) ≤ p .S) ⌝ }
     ensures { λ _. ⌜
         mkDisk (now (image .exit)) (now (pointers .exit))
         ≡ storeDisk p
-        (put drive (zoneOn (seg segment) drive) (slotBlock p (now (inflight .entry)) i drive) (recordBytes (flightRec p (alone row) 0 drive)))
+        (put drive (zoneOn segment drive) (slotBlock p (now (inflight .entry)) i drive) (recordBytes (flightRec p (alone row) 0 drive)))
         (mkDisk (now (image .entry)) (now (pointers .entry))) ⌝ }
     ensures { λ r. ⌜
         (now (compact .exit)
         ≡ set (now (compact .entry))
-        (compactAt p drive (zoneOn (seg segment) drive) (pointerOf p (now (pointers .entry)) drive (zoneOn (seg segment) drive) - 1))
+        (compactAt p drive (zoneOn segment drive) (pointerOf p (now (pointers .entry)) drive (zoneOn segment drive) - 1))
         (compactEntry p stripe))
-        × (r ≡ markRow row drive (pointerOf p (now (pointers .entry)) drive (zoneOn (seg segment) drive) - 1)) ⌝ }
+        × (r ≡ markRow row drive (pointerOf p (now (pointers .entry)) drive (zoneOn segment drive) - 1)) ⌝ }
 {
-    let zone = disk_shape::zone_on(segment, drive);
+    let zone = disk_shape::zone_on(p, segment, drive);
     let offset = disk_zones::pointer(p, pointers, drive, zone) as usize - 1;
     put_chunk(p, image, pointers, inflight, row, i, drive, zone);
     show_chunk(p, compact, drive, zone, offset, stripe);
@@ -211,15 +212,15 @@ fn seal(
     p: Params,
     image: &mut [u8],
     pointers: &mut [u8],
-    segment: usize,
+    segment: Seg,
     seals: bool,
     count: u64,
 ) -> Made
     requires { ⌜ inRange p ≡ true ⌝ }
     requires { ⌜ Whole p (mkDisk (now image) (now pointers)) ⌝ }
-    requires { ⌜ (segment < p .Z) × (seals ≡ true → (d : ℕ) → d < p .N → pointerOf p (now pointers) d (zoneOn (seg segment) d) + footers p ≤ capacity p) ⌝ }
+    requires { ⌜ ZonesLow p 0 segment × (seals ≡ true → (d : ℕ) → d < p .N → pointerOf p (now pointers) d (zoneOn segment d) + footers p ≤ capacity p) ⌝ }
     ensures { λ r. ⌜
-        Storing p count (sealsOf p (mkDisk (now (image .entry)) (now (pointers .entry))) (seg segment) seals)
+        Storing p count (sealsOf p (mkDisk (now (image .entry)) (now (pointers .entry))) segment seals)
         (mkDisk (now (image .entry)) (now (pointers .entry))) r (mkDisk (now (image .exit)) (now (pointers .exit))) ⌝ }
 {
     if !seals {
@@ -248,7 +249,7 @@ fn complete(
     addresses: &mut [u8],
     compact: &mut [u8],
     row: Row,
-    segment: usize,
+    segment: Seg,
     seals: bool,
     count: u64,
 ) -> Answer
@@ -256,9 +257,9 @@ fn complete(
     requires { ⌜ Whole p (mkDisk (now image) (now pointers)) ⌝ }
     requires { ⌜ (length (now addresses) ≡ addressesLen p) × EntriesSane p (alone row) 0 (now addresses) ⌝ }
     requires { ⌜ (filledIn (alone row) 0 ≤ dataCount p) × ((d : ℕ) → d < p .N → offsetIn (alone row) 0 d < p .S) ⌝ }
-    requires { ⌜ (segment < p .Z) × (seals ≡ true → (d : ℕ) → d < p .N → pointerOf p (now pointers) d (zoneOn (seg segment) d) + footers p ≤ capacity p) ⌝ }
+    requires { ⌜ ZonesLow p 0 segment × (seals ≡ true → (d : ℕ) → d < p .N → pointerOf p (now pointers) d (zoneOn segment d) + footers p ≤ capacity p) ⌝ }
     ensures { λ r. ⌜
-        Completing p count row (seg segment) seals (mkDisk (now (image .entry)) (now (pointers .entry))) (now (addresses .entry)) (now (compact .entry)) r
+        Completing p count row segment seals (mkDisk (now (image .entry)) (now (pointers .entry))) (now (addresses .entry)) (now (compact .entry)) r
         (mkDisk (now (image .exit)) (now (pointers .exit))) (now (addresses .exit)) (now (compact .exit)) ⌝ }
 {
     call_land_table::point(p, image, pointers, addresses, segment, row);
@@ -321,7 +322,7 @@ fn plan(
         return mem_rows::kept(answer, front);
     }
     let i = seen.slot;
-    let segment = seen.segment;
+    let segment = mem_state::open_segment(p, front.opened);
     let row = seen.row;
     let marked = store_chunk(
         p,
@@ -390,6 +391,7 @@ pub fn land(
         inflight,
         bytes,
         state.missing,
+        state.opened,
         seen,
         drive,
         stripe,

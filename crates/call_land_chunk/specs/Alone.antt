@@ -9,7 +9,7 @@ use lib.Bits.{bitOr}
 use Rattle.spec.specs.declared.Params.{Params}
 use Rattle.spec.specs.declared.State.{State}
 use Rattle.spec.specs.Bytes.{part}
-use Rattle.spec.specs.Drives.{Seg, View, zoneOn}
+use Rattle.spec.specs.Drives.{View, zoneOn}
 use Rattle.spec.specs.Landing.{ready, completes, flightRec, serialAt, landedCand, landedCands, writesIn}
 use Rattle.spec.specs.Layout.{mkRec, dataPosition, dataDrive, isData, parityPosition}
 use Rattle.spec.specs.Lists.{below, only}
@@ -20,6 +20,7 @@ use Rattle.law_basic.specs.Ranges.{map-below-same}
 use Rattle.law_basic.specs.Splice.{getD-part}
 use Rattle.mem_rows.specs.declared.Row.{Row}
 use Rattle.mem_rows.specs.Rows.{slotRow}
+use Rattle.spec.specs.declared.Seg.{Seg}
 
 -- 01, Write: the state whose first eighth is the row, and which has no other
 unfoldable pub alone : Row → State
@@ -127,7 +128,7 @@ module _ (st : State) (i : ℕ) where
       let e = entry-alone k h in
       let q : dataDrive p (stripeIn me 0) k ≡ d = ap (λ (x : ℕ). dataDrive p x k) stripe-is in
       let o : offsetIn me 0 (dataDrive p (stripeIn me 0) k) ≡ offsetIn st i d = ap (offsetIn me 0) q ∙ row-offset d l in
-      λ j. record { address = e j .address; stamp = e j .stamp; serial = serialAt v g; drive = q j; offset = o j; place = placeOf p (q j) (zoneOn g (q j)) (1 + o j) }
+      λ j. record { address = e j .address; stamp = e j .stamp; serial = serialAt p v g; drive = q j; offset = o j; place = placeOf p (q j) (zoneOn g (q j)) (1 + o j) }
     where
       stripe-is : stripeIn (alone (slotRow st i)) 0 ≡ stripeIn st i
       stripe-is = unfold alone slotRow stripeIn in refl

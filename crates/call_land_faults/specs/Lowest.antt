@@ -13,7 +13,7 @@ use Rattle.spec.specs.declared.State.{State}
 use Rattle.spec.specs.Calls.Check.{zones}
 use Rattle.spec.specs.Calls.{ninth, firstRefusal}
 use Rattle.spec.specs.Counts.{neverPlace}
-use Rattle.spec.specs.Drives.{View, pointerAt, viewOf, mkDisk, pointerOf, zoneOn, Seg}
+use Rattle.spec.specs.Drives.{View, pointerAt, viewOf, mkDisk, pointerOf, zoneOn}
 use Rattle.spec.specs.Landing.{slotOf, completes, seals, misplaced, overfull, entryFaults, landFaults}
 use Rattle.spec.specs.Layout.{group, Rec}
 use Rattle.spec.specs.Lists.Opt.{none}
@@ -24,7 +24,8 @@ use Rattle.spec.specs.Read.{placeFaults}
 use Rattle.law_views.specs.Views.{pointer-view}
 use Rattle.law_basic.specs.Geometry.{Ranged}
 use Rattle.law_basic.specs.Ranges.{and-left, and-both, upFrom-step, upFrom-end, below-start, all-append, all-hit, all-none, flat-none, flat-cons, any-upFrom-same}
-use Rattle.law_basic.specs.Segs.{Named, zone-on-lt}
+use Rattle.law_basic.specs.Segs.{Named, zone-on-lt, ZonesLow, low-here}
+use Rattle.spec.specs.declared.Seg.{Seg}
 
 -- ---- the least of a list, from a start
 
@@ -111,12 +112,12 @@ module _ (p : Params) (r : Ranged p) (v : View) where
       low-cond (p .Z) (ltb (e .address) (p .L)) (cond (eqb q neverPlace) [] zs) []
       (low-cond (p .Z) (eqb q neverPlace) [] zs (low-none (p .Z)) (low-place 0 q)) (low-none (p .Z))
 
-  pub low-faults : (m : Memory) (d s : ℕ) → Named p (openSegment (m .state)) → all (λ z. ltb z (p .Z)) (landFaults p v m d s) ≡ true
+  pub low-faults : (m : Memory) (d s : ℕ) → Named p (openSegment p (m .state)) → all (λ z. ltb z (p .Z)) (landFaults p v m d s) ≡ true
   unfolding landFaults
   low-faults m d s h =
       let st = m .state in
       let i = slotOf st s in
-      let g = openSegment st in
+      let g = openSegment p st in
       let zs = flat (entryFaults p v (m .addresses)) (entriesIn st i) in
       let ws : List ℕ = cond (completes p st i d) zs [] in
       let z = zoneOn g d in
@@ -132,12 +133,12 @@ unfoldable pub overBy : Params → List ℕ → ℕ → Seg → ℕ → Bool
 overBy p ps d g e = ltb (capacity p) (pointerOf p ps e (zoneOn g e) + cond (eqb e d) 1 0 + footers p)
 
 module _ (p : Params) (im ps : List ℕ) (h : length im ≡ imageLen p) (g : length ps ≡ pointersLen p) where
-  pub over-view : (d : ℕ) (k : Seg) → Named p k → any (overBy p ps d k) (below (p .N)) ≡ overfull p (viewOf p im ps) d k
+  pub over-view : (d : ℕ) (k : Seg) → ZonesLow p 0 k → any (overBy p ps d k) (below (p .N)) ≡ overfull p (viewOf p im ps) d k
   unfolding overfull drivesOf below overBy
   over-view d k hk =
       any-upFrom-same (overBy p ps d k) (λ e. ltb (capacity p) (pointerAt (viewOf p im ps) e (zoneOn k e) + cond (eqb e d) 1 0 + footers p)) 0 (p .N)
       (λ e _ he. ap (λ (x : ℕ). ltb (capacity p) (x + cond (eqb e d) 1 0 + footers p))
-      (sym (pointer-view p (mkDisk im ps) e (zoneOn k e) (omega arith) (zone-on-lt p k e hk) (record { image-long = h; pointers-long = g }))))
+      (sym (pointer-view p (mkDisk im ps) e (zoneOn k e) (omega arith) (low-here p k e hk (omega arith)) (record { image-long = h; pointers-long = g }))))
 
   -- the pointer is not at a data block of the stripe's group
   module _ (d z s : ℕ) (hd : d < p .N) (hz : z < p .Z) where
@@ -261,10 +262,10 @@ faultsOf p v tb es d g s b c =
 -- 01, Refusals, 9: they are those of the definition
 pub land-faults-are : (p : Params) (v : View) (m : Memory) (d s : ℕ) (es : List Rec) (b c : Bool) → es ≡ entriesIn (m .state) (slotOf (m .state) s)
     → b ≡ completes p (m .state) (slotOf (m .state) s) d → c ≡ seals p (m .state) (slotOf (m .state) s) d
-    → faultsOf p v (m .addresses) es d (openSegment (m .state)) s b c ≡ landFaults p v m d s
+    → faultsOf p v (m .addresses) es d (openSegment p (m .state)) s b c ≡ landFaults p v m d s
 unfolding faultsOf landFaults
 land-faults-are p v m d s es b c e f h =
-    let g = openSegment (m .state) in
+    let g = openSegment p (m .state) in
     let z = zoneOn g d in
     λ j. consIf (misplaced p v d z s) z (consIf (h j && overfull p v d g) z (cond (f j) (flat (entryFaults p v (m .addresses)) (e j)) []))
 

@@ -5,18 +5,20 @@ ghost use mathlib.Core.List.{List, []};
 ghost use Prim.Native.Nat.{ℕ, _≤_, _<_};
 ghost use lib.Dec.{ltb};
 ghost use lib.ListN.{length};
-ghost use Rattle.spec.specs.Drives.{viewOf, zoneOn, seg};
+ghost use Rattle.spec.specs.Drives.{viewOf, zoneOn};
 ghost use Rattle.spec.specs.Landing.{misplaced, overfull, entryFaults};
 ghost use Rattle.spec.specs.Layout.{Rec};
 ghost use Rattle.spec.specs.Lists.{consIf, least, flat};
 ghost use Rattle.spec.specs.Memory.{filledIn, entriesIn};
 ghost use Rattle.spec.specs.Params.{inRange, imageLen, pointersLen, addressesLen};
+ghost use Rattle.law_basic.specs.Segs.{ZonesLow};
 ghost use Rattle.call_land_faults.specs.Lowest.{overBy, faultsOf};
 ghost use Rattle.call_land_chunk.specs.Alone.{alone};
 use mem_rows::Row;
 use spec::Address;
 use spec::Params;
 use spec::Place;
+use spec::Seg;
 
 // 01, Refusals, 9: the pointer is not at a data block of the stripe's group.
 fn misplaced(p: Params, pointers: &[u8], d: usize, zone: usize, stripe: usize) -> bool
@@ -35,12 +37,12 @@ fn misplaced(p: Params, pointers: &[u8], d: usize, zone: usize, stripe: usize) -
 }
 
 // Drive e's zone of the segment has no room for its footers, once the chunk is on drive d.
-fn no_room(p: Params, pointers: &[u8], d: usize, segment: usize, e: usize) -> bool
+fn no_room(p: Params, pointers: &[u8], d: usize, segment: Seg, e: usize) -> bool
     requires { ⌜ inRange p ≡ true ⌝ }
-    requires { ⌜ (length (now pointers) ≡ pointersLen p) × (e < p .N) × (segment < p .Z) ⌝ }
-    ensures { λ r. ⌜ r ≡ overBy p (now (pointers .entry)) d (seg segment) e ⌝ }
+    requires { ⌜ (length (now pointers) ≡ pointersLen p) × (e < p .N) × ZonesLow p 0 segment ⌝ }
+    ensures { λ r. ⌜ r ≡ overBy p (now (pointers .entry)) d segment e ⌝ }
 {
-    let zone = disk_shape::zone_on(segment, e);
+    let zone = disk_shape::zone_on(p, segment, e);
     let n = disk_zones::pointer(p, pointers, e, zone) as usize;
     let f = disk_shape::footers(p);
     let most = disk_shape::capacity(p);
@@ -51,10 +53,10 @@ fn no_room(p: Params, pointers: &[u8], d: usize, segment: usize, e: usize) -> bo
 }
 
 // 01, Refusals, 9: a zone that the footers would fill above capacity.
-fn overfull(p: Params, pointers: &[u8], d: usize, segment: usize) -> bool
+fn overfull(p: Params, pointers: &[u8], d: usize, segment: Seg) -> bool
     requires { ⌜ inRange p ≡ true ⌝ }
-    requires { ⌜ (length (now pointers) ≡ pointersLen p) × (segment < p .Z) ⌝ }
-    ensures { λ r. ⌜ ((im : List ℕ) → length im ≡ imageLen p → r ≡ overfull p (viewOf p im (now (pointers .entry))) d (seg segment)) ⌝ }
+    requires { ⌜ (length (now pointers) ≡ pointersLen p) × ZonesLow p 0 segment ⌝ }
+    ensures { λ r. ⌜ ((im : List ℕ) → length im ≡ imageLen p → r ≡ overfull p (viewOf p im (now (pointers .entry))) d segment) ⌝ }
 {
     let mut e = 0;
     while e < p.N {
@@ -114,19 +116,19 @@ fn segment_fault(
     pointers: &[u8],
     seals: bool,
     d: usize,
-    segment: usize,
+    segment: Seg,
     stripe: usize,
 ) -> usize
     requires { ⌜ inRange p ≡ true ⌝ }
-    requires { ⌜ (length (now pointers) ≡ pointersLen p) × (d < p .N) × (segment < p .Z) ⌝ }
+    requires { ⌜ (length (now pointers) ≡ pointersLen p) × (d < p .N) × ZonesLow p 0 segment ⌝ }
     ensures { λ r. ⌜
         ((im : List ℕ)
         → length im ≡ imageLen p
-        → r ≡ least (p .Z) (consIf (misplaced p (viewOf p im (now (pointers .entry))) d (zoneOn (seg segment) d) stripe) (zoneOn (seg segment) d)
-        (consIf (seals && overfull p (viewOf p im (now (pointers .entry))) d (seg segment)) (zoneOn (seg segment) d) []))) ⌝ }
+        → r ≡ least (p .Z) (consIf (misplaced p (viewOf p im (now (pointers .entry))) d (zoneOn segment d) stripe) (zoneOn segment d)
+        (consIf (seals && overfull p (viewOf p im (now (pointers .entry))) d segment) (zoneOn segment d) []))) ⌝ }
     ensures { λ r. ⌜ r ≤ p .Z ⌝ }
 {
-    let zone = disk_shape::zone_on(segment, d);
+    let zone = disk_shape::zone_on(p, segment, d);
     if misplaced(p, pointers, d, zone, stripe) {
         return zone;
     }
@@ -147,19 +149,19 @@ pub fn land_fault(
     addresses: &[u8],
     row: Row,
     d: usize,
-    segment: usize,
+    segment: Seg,
     stripe: usize,
     done: bool,
     seals: bool,
 ) -> usize
     requires { ⌜ inRange p ≡ true ⌝ }
     requires { ⌜ (length (now pointers) ≡ pointersLen p) × (length (now addresses) ≡ addressesLen p) × (d < p .N) ⌝ }
-    requires { ⌜ (segment < p .Z) × (filledIn (alone row) 0 ≤ 8) ⌝ }
+    requires { ⌜ ZonesLow p 0 segment × (filledIn (alone row) 0 ≤ 8) ⌝ }
     ensures { λ r. ⌜
         ((im : List ℕ)
         → length im ≡ imageLen p
         → r ≡ least (p .Z)
-        (faultsOf p (viewOf p im (now (pointers .entry))) (now (addresses .entry)) (entriesIn (alone row) 0) d (seg segment) stripe done seals)) ⌝ }
+        (faultsOf p (viewOf p im (now (pointers .entry))) (now (addresses .entry)) (entriesIn (alone row) 0) d segment stripe done seals)) ⌝ }
 {
     let z = segment_fault(p, pointers, seals, d, segment, stripe);
     if !done {

@@ -8,7 +8,7 @@ use lib.ListN.{length, getD, take, drop, set, length-map}
 use lib.Seq.{getD-set-other}
 use Rattle.spec.specs.declared.Params.{Params}
 use Rattle.spec.specs.Drives.{Chunk, noChunk, Zone, noZone, View, zoneAt, pointerAt, chunkAt, Store, putZone, setZone, storeView, Disk, pointerOf, storeDisk}
-use Rattle.spec.specs.Drives.{storeAll, Seg, zoneOn, sparesOf, footersOf, zeroSpare, footerStores}
+use Rattle.spec.specs.Drives.{storeAll, zoneOn, sparesOf, footersOf, zeroSpare, footerStores}
 use Rattle.spec.specs.Drives.Store.{put}
 use Rattle.spec.specs.Landing.{sealStores}
 use Rattle.spec.specs.Layout.{footerBlock}
@@ -19,13 +19,14 @@ use Rattle.law_basic.specs.Geometry.{Ranged, capacity-high, block-within}
 use Rattle.law_basic.specs.Ranges.{length-upFrom, upFrom-add, below-none, flat-append, flat-none, flat-below-snoc}
 use Rattle.law_basic.specs.Splice.{length-part}
 use Rattle.law_basic.specs.Xor.{AllLong, long-upFrom}
-use Rattle.law_basic.specs.Segs.{Named, zone-on-lt}
+use Rattle.law_basic.specs.Segs.{ZonesLow, low-here}
 use Rattle.law_views.specs.Pointers.{pointer-set}
 use Rattle.law_views.specs.Views.{Whole, pointer-view, blocks-long, spare-view, view-put, whole-put, seen}
 use Rattle.disk_zones.specs.declared.Made.{Made}
 use Rattle.disk_zones.specs.Made.{Storing, storing-all, storing-stop, storing-join, storing-none, put-pointers}
 use Rattle.law_drives.specs.Laid.{Long, in-take, in-drop, length-footer}
 use Rattle.law_drives.specs.Members.{map-in, getD-in}
+use Rattle.spec.specs.declared.Seg.{Seg}
 
 -- ---- blocks in a row into one zone
 
@@ -114,12 +115,12 @@ module _ (p : Params) (k₀ : Disk) (g : Seg) (number : ℕ) where
       let e : d ≡ p .N = omega (arith, s .within) in
       subst (λ (x : ℕ). Storing p number (flat feet (below x)) k₀ (record { left = left; cut = false }) k) e (s .made)
 
-module _ (p : Params) (k₀ : Disk) (g : Seg) (number d left : ℕ) (k : Disk) (s : Sealing p k₀ g number d left k) (hd : d < p .N) (hg : Named p g) where
+module _ (p : Params) (k₀ : Disk) (g : Seg) (number d left : ℕ) (k : Disk) (s : Sealing p k₀ g number d left k) (hd : d < p .N) (hg : ZonesLow p 0 g) where
   -- a pointer that waits is as it came
   pub sealing-room : Whole p k₀ → pointerOf p (k₀ .pointers) d (zoneOn g d) + footers p ≤ capacity p → pointerOf p (k .pointers) d (zoneOn g d) + footers p ≤ capacity p
   unfolding pointerAt
   sealing-room w₀ room =
-      let hz = zone-on-lt p g d hg in
+      let hz = low-here p g d hg hd in
       let a = pointer-view p k d (zoneOn g d) hd hz (s .whole) in
       let b = pointer-view p k₀ d (zoneOn g d) hd hz w₀ in
       let e : zoneAt (seen p k) d (zoneOn g d) .pointer ≡ zoneAt (seen p k₀) d (zoneOn g d) .pointer = ap (λ (q : Zone). q .pointer) (s .rest d (omega arith) hd) in
@@ -137,7 +138,7 @@ module _ (p : Params) (k₀ : Disk) (g : Seg) (number d left : ℕ) (k : Disk) (
 
     pub sealing-turn : Ranged p → pointerOf p (k .pointers) d (zoneOn g d) + footers p ≤ capacity p → m .cut ≡ false → Sealing p k₀ g number (d + 1) (m .left) k′
     sealing-turn r room e =
-        let hz = zone-on-lt p g d hg in
+        let hz = low-here p g d hg hd in
         let a : k′ ≡ storeAll (storeDisk p) (feet p k₀ g number d) k = storing-all p left (feet p k₀ g number d) k m k′ as-came e in
         let f = footers-leave p r k (s .whole) d (zoneOn g d) hd hz (zoneAt (seen p k₀) d (zoneOn g d)) (footers p) (sym (s .rest d (omega arith) hd)) room in
         record {

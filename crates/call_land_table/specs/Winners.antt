@@ -13,13 +13,14 @@ use native.Mathlib.Decide.{ℕ-discrete}
 use Rattle.spec.specs.declared.Params.{Params}
 use Rattle.spec.specs.declared.State.{State}
 use Rattle.spec.specs.Counts.{neverPlace}
-use Rattle.spec.specs.Drives.{View, Seg}
+use Rattle.spec.specs.Drives.{View}
 use Rattle.spec.specs.Landing.{held, landedCand, landedCands, pointed}
 use Rattle.spec.specs.Lists.{Opt, upFrom, below, keep}
 use Rattle.spec.specs.Memory.{filledIn, entryIn, placeAt, setPlace}
 use Rattle.spec.specs.Rank.{Cand, better, best, placeOr, candsOf}
 use Rattle.disk_stored.specs.Places.{DataPlace}
 use Rattle.law_basic.specs.Ranges.{upFrom-step, upFrom-end, below-start, keep-hit, keep-miss}
+use Rattle.spec.specs.declared.Seg.{Seg}
 
 -- never written, or a place of a data block
 abbrev pub Sane : Params → ℕ → Type 0

@@ -4,7 +4,7 @@ ghost use mathlib.Core.Bool.{true};
 ghost use mathlib.Core.List.{List, _∷_};
 ghost use Prim.Native.Nat.{ℕ, _≤_, _<_};
 ghost use lib.ListN.{length, getD};
-ghost use Rattle.spec.specs.Drives.{View, viewOf, mkDisk, placeRecord, seg};
+ghost use Rattle.spec.specs.Drives.{View, viewOf, mkDisk, placeRecord, zoneOn};
 ghost use Rattle.spec.specs.Landing.{serialAt, heldCand, held, landedCand, landedCands, pointed};
 ghost use Rattle.spec.specs.Lists.{below};
 ghost use Rattle.spec.specs.Memory.{filledIn, entryIn, offsetIn, placeAt};
@@ -13,6 +13,7 @@ ghost use Rattle.spec.specs.Rank.{Cand as CandOf, best, candsOf};
 ghost use Rattle.call_land_table.specs.Winners.{Sane, EntriesSane, winnerOf, putWinners};
 ghost use Rattle.disk_rank.specs.Ranked.{ranked, rankedBest};
 ghost use Rattle.disk_stored.specs.Places.{DataPlace};
+ghost use Rattle.law_basic.specs.Segs.{ZonesLow};
 ghost use Rattle.law_views.specs.Views.{Whole};
 ghost use Rattle.call_land_chunk.specs.Alone.{alone};
 use disk_rank::Best;
@@ -21,17 +22,18 @@ use mem_rows::Row;
 use spec::Address;
 use spec::Params;
 use spec::Place;
+use spec::Seg;
 use spec::Serial;
 
 // The serial in drive 0's header of a segment.
-fn serial_at(p: Params, image: &[u8], segment: usize) -> Serial
+fn serial_at(p: Params, image: &[u8], segment: Seg) -> Serial
     requires { ⌜ inRange p ≡ true ⌝ }
-    requires { ⌜ (length (now image) ≡ imageLen p) × (segment < p .Z) ⌝ }
-    ensures { λ r. ⌜ ((ps : List ℕ) → length ps ≡ pointersLen p → r .0 ≡ serialAt (viewOf p (now (image .entry)) ps) (seg segment)) ⌝ }
+    requires { ⌜ (length (now image) ≡ imageLen p) × (zoneOn segment 0 < p .Z) ⌝ }
+    ensures { λ r. ⌜ ((ps : List ℕ) → length ps ≡ pointersLen p → r .0 ≡ serialAt p (viewOf p (now (image .entry)) ps) segment) ⌝ }
 {
-    let a = disk_shape::block_byte(p, 0, disk_shape::zone_on(segment, 0), 0);
+    let a = disk_shape::block_byte(p, 0, disk_shape::zone_on(p, segment, 0), 0);
     let e = a + p.B;
-    disk_records::header_serial(&image[a..e])
+    disk_records::header_serial(p, &image[a..e])
 }
 
 // The record at a place that the table holds of an address.
@@ -44,7 +46,8 @@ fn held_cand(p: Params, image: &[u8], pointers: &[u8], address: Address, place: 
 {
     let r = disk_stored::place_record(p, image, pointers, 0, place);
     let stamp = r.stamp;
-    let serial = serial_at(p, image, disk_shape::place_zone(p, place));
+    let segment = disk_shape::across(p, disk_shape::place_zone(p, place));
+    let serial = serial_at(p, image, segment);
     let drive = disk_shape::place_drive(p, place);
     let offset = disk_shape::place_block(p, place) - 1;
     Cand {
@@ -72,17 +75,17 @@ fn held(p: Params, image: &[u8], pointers: &[u8], addresses: &[u8], address: Add
 }
 
 // The completed stripe's record of data position k, in a segment with this serial.
-fn landed_cand(p: Params, segment: usize, serial: Serial, row: Row, k: usize) -> Cand
+fn landed_cand(p: Params, segment: Seg, serial: Serial, row: Row, k: usize) -> Cand
     requires { ⌜ inRange p ≡ true ⌝ }
-    requires { ⌜ (segment < p .Z) × (k < dataCount p) × ((d : ℕ) → d < p .N → offsetIn (alone row) 0 d < p .S) ⌝ }
-    ensures { λ r. ⌜ ((v : View) → serial .0 ≡ serialAt v (seg segment) → ranked r ≡ landedCand p v (seg segment) (alone row) 0 k) ⌝ }
+    requires { ⌜ ZonesLow p 0 segment × (k < dataCount p) × ((d : ℕ) → d < p .N → offsetIn (alone row) 0 d < p .S) ⌝ }
+    ensures { λ r. ⌜ ((v : View) → serial .0 ≡ serialAt p v segment → ranked r ≡ landedCand p v segment (alone row) 0 k) ⌝ }
 {
     let e = call_land_chunk::entry(row, k);
     let address = e.address;
     let stamp = e.stamp;
     let drive = disk_shape::data_drive(p, e.stripe as usize, k);
     let offset = call_land_chunk::offset_in(row, drive);
-    let zone = disk_shape::zone_on(segment, drive);
+    let zone = disk_shape::zone_on(p, segment, drive);
     let place = disk_shape::place_of(p, drive, zone, 1 + offset);
     Cand {
         address,
@@ -97,7 +100,7 @@ fn landed_cand(p: Params, segment: usize, serial: Serial, row: Row, k: usize) ->
 // One more record of the stripe competes, if it is of the address.
 fn compete(
     p: Params,
-    segment: usize,
+    segment: Seg,
     serial: Serial,
     row: Row,
     k: usize,
@@ -105,11 +108,11 @@ fn compete(
     b: Best,
 ) -> Best
     requires { ⌜ inRange p ≡ true ⌝ }
-    requires { ⌜ (segment < p .Z) × (k < dataCount p) × ((d : ℕ) → d < p .N → offsetIn (alone row) 0 d < p .S) ⌝ }
+    requires { ⌜ ZonesLow p 0 segment × (k < dataCount p) × ((d : ℕ) → d < p .N → offsetIn (alone row) 0 d < p .S) ⌝ }
     ensures { λ r. ⌜
         ((v : View) (cs : List CandOf)
-        → serial .0 ≡ serialAt v (seg segment)
-        → best (rankedBest r) (candsOf (address .0) cs) ≡ best (rankedBest b) (candsOf (address .0) (landedCand p v (seg segment) (alone row) 0 k ∷ cs))) ⌝ }
+        → serial .0 ≡ serialAt p v segment
+        → best (rankedBest r) (candsOf (address .0) cs) ≡ best (rankedBest b) (candsOf (address .0) (landedCand p v segment (alone row) 0 k ∷ cs))) ⌝ }
 {
     let e = call_land_chunk::entry(row, k);
     if e.address.0 != address.0 {
@@ -125,7 +128,7 @@ fn winner(
     image: &[u8],
     pointers: &[u8],
     addresses: &[u8],
-    segment: usize,
+    segment: Seg,
     serial: Serial,
     row: Row,
     address: Address,
@@ -133,12 +136,12 @@ fn winner(
     requires { ⌜ inRange p ≡ true ⌝ }
     requires { ⌜ Whole p (mkDisk (now image) (now pointers)) ⌝ }
     requires { ⌜ (length (now addresses) ≡ addressesLen p) × (address .0 < p .L) × Sane p (placeAt (now addresses) (address .0)) ⌝ }
-    requires { ⌜ (segment < p .Z) × (filledIn (alone row) 0 ≤ dataCount p) × ((d : ℕ) → d < p .N → offsetIn (alone row) 0 d < p .S) ⌝ }
-    requires { ⌜ serial .0 ≡ serialAt (viewOf p (now image) (now pointers)) (seg segment) ⌝ }
+    requires { ⌜ ZonesLow p 0 segment × (filledIn (alone row) 0 ≤ dataCount p) × ((d : ℕ) → d < p .N → offsetIn (alone row) 0 d < p .S) ⌝ }
+    requires { ⌜ serial .0 ≡ serialAt p (viewOf p (now image) (now pointers)) segment ⌝ }
     ensures { λ r. ⌜
         r .0
         ≡ winnerOf p (viewOf p (now (image .entry)) (now (pointers .entry))) (now (addresses .entry))
-        (landedCands p (viewOf p (now (image .entry)) (now (pointers .entry))) (seg segment) (alone row) 0) (address .0) ⌝ }
+        (landedCands p (viewOf p (now (image .entry)) (now (pointers .entry))) segment (alone row) 0) (address .0) ⌝ }
 {
     let n = call_land_chunk::filled_in(row);
     let mut b = held(p, image, pointers, addresses, address);
@@ -156,21 +159,21 @@ fn winners(
     image: &[u8],
     pointers: &[u8],
     addresses: &[u8],
-    segment: usize,
+    segment: Seg,
     serial: Serial,
     row: Row,
 ) -> [u32; 8]
     requires { ⌜ inRange p ≡ true ⌝ }
     requires { ⌜ Whole p (mkDisk (now image) (now pointers)) ⌝ }
     requires { ⌜ (length (now addresses) ≡ addressesLen p) × EntriesSane p (alone row) 0 (now addresses) ⌝ }
-    requires { ⌜ (segment < p .Z) × (filledIn (alone row) 0 ≤ dataCount p) × ((d : ℕ) → d < p .N → offsetIn (alone row) 0 d < p .S) ⌝ }
-    requires { ⌜ serial .0 ≡ serialAt (viewOf p (now image) (now pointers)) (seg segment) ⌝ }
+    requires { ⌜ ZonesLow p 0 segment × (filledIn (alone row) 0 ≤ dataCount p) × ((d : ℕ) → d < p .N → offsetIn (alone row) 0 d < p .S) ⌝ }
+    requires { ⌜ serial .0 ≡ serialAt p (viewOf p (now image) (now pointers)) segment ⌝ }
     ensures { λ r. ⌜
         ((k : ℕ)
         → k < filledIn (alone row) 0
         → entryIn (alone row) 0 k .address < p .L
         → getD r k 0 ≡ winnerOf p (viewOf p (now (image .entry)) (now (pointers .entry))) (now (addresses .entry))
-        (landedCands p (viewOf p (now (image .entry)) (now (pointers .entry))) (seg segment) (alone row) 0) (entryIn (alone row) 0 k .address)) ⌝ }
+        (landedCands p (viewOf p (now (image .entry)) (now (pointers .entry))) segment (alone row) 0) (entryIn (alone row) 0 k .address)) ⌝ }
 {
     let n = call_land_chunk::filled_in(row);
     let mut out = [0u32; 8];
@@ -206,23 +209,16 @@ fn put_places(p: Params, addresses: &mut [u8], row: Row, places: [u32; 8])
 }
 
 // 01, Landing: the stripe is complete: the table points at what holds. The serial of its segment is read once.
-pub fn point(
-    p: Params,
-    image: &[u8],
-    pointers: &[u8],
-    addresses: &mut [u8],
-    segment: usize,
-    row: Row,
-)
+pub fn point(p: Params, image: &[u8], pointers: &[u8], addresses: &mut [u8], segment: Seg, row: Row)
     requires { ⌜ inRange p ≡ true ⌝ }
     requires { ⌜ Whole p (mkDisk (now image) (now pointers)) ⌝ }
     requires { ⌜ (length (now addresses) ≡ addressesLen p) × EntriesSane p (alone row) 0 (now addresses) ⌝ }
-    requires { ⌜ (segment < p .Z) × (filledIn (alone row) 0 ≤ dataCount p) × ((d : ℕ) → d < p .N → offsetIn (alone row) 0 d < p .S) ⌝ }
+    requires { ⌜ ZonesLow p 0 segment × (filledIn (alone row) 0 ≤ dataCount p) × ((d : ℕ) → d < p .N → offsetIn (alone row) 0 d < p .S) ⌝ }
     ensures { λ _. ⌜
         now (addresses .exit)
         ≡ pointed p (viewOf p (now (image .entry)) (now (pointers .entry))) (now (addresses .entry))
-        (landedCands p (viewOf p (now (image .entry)) (now (pointers .entry))) (seg segment) (alone row) 0)
-        (landedCands p (viewOf p (now (image .entry)) (now (pointers .entry))) (seg segment) (alone row) 0) (now (addresses .entry)) ⌝ }
+        (landedCands p (viewOf p (now (image .entry)) (now (pointers .entry))) segment (alone row) 0)
+        (landedCands p (viewOf p (now (image .entry)) (now (pointers .entry))) segment (alone row) 0) (now (addresses .entry)) ⌝ }
 {
     let serial = serial_at(p, image, segment);
     let places = winners(p, image, pointers, addresses, segment, serial, row);

@@ -9,7 +9,7 @@ use lib.Dec.{eqb}
 use lib.ListN.{length, getD}
 use Rattle.spec.specs.declared.Params.{Params}
 use Rattle.spec.specs.Bytes.{part}
-use Rattle.spec.specs.Drives.{View, viewOf, mkDisk, zoneAt, chunkAt, zoneOn, placeSegment, sealedIn, recordIn, recordAt, Seg}
+use Rattle.spec.specs.Drives.{View, viewOf, mkDisk, zoneAt, chunkAt, zoneOn, placeSegment, sealedIn, recordIn, recordAt}
 use Rattle.spec.specs.Layout.{Rec}
 use Rattle.spec.specs.Lists.{below, any, isNil, firstOr, isIn}
 use Rattle.spec.specs.Memory.{shownAt}
@@ -18,10 +18,10 @@ use Rattle.spec.specs.Parity.{Piece, decodePiece}
 use Rattle.spec.specs.Read.{shown, storedAt, decodedAt}
 use Rattle.law_basic.specs.Geometry.{ranged, data-below}
 use Rattle.law_basic.specs.Ranges.{not-both, any-map, any-false, any-upFrom-same}
-use Rattle.law_basic.specs.Segs.{Named, zone-on-lt}
 use Rattle.law_code.specs.Code.{decode-same}
 use Rattle.law_views.specs.Views.{block-view}
 use Rattle.law_scans.specs.Scans.{any-keep}
+use Rattle.spec.specs.declared.Seg.{Seg}
 
 -- 01, Refusals, 9: a drive that is present and does not show the stripe
 abbrev pub hides : Params → View → ℕ → List ℕ → Seg → ℕ → ℕ → Bool
@@ -92,11 +92,11 @@ abbrev pub BlockAt : Params → List ℕ → Seg → ℕ → ℕ → ℕ → Typ
 BlockAt p im g d o y =
     (y + p .B ≤ imageLen p) × ((ps : List ℕ) → length ps ≡ pointersLen p → chunkAt (viewOf p im ps) d (zoneOn g d) (1 + o) .block ≡ part y (p .B) im)
 
-pub block-begins : (p : Params) (im : List ℕ) (g : Seg) (d o y : ℕ) → inRange p ≡ true → length im ≡ imageLen p → d < p .N → Named p g → o < p .S
+pub block-begins : (p : Params) (im : List ℕ) (g : Seg) (d o y : ℕ) → inRange p ≡ true → length im ≡ imageLen p → d < p .N → zoneOn g d < p .Z → o < p .S
     → (z : ℕ) → z ≡ zoneOn g d → y ≡ placeByte p (placeOf p d z (1 + o)) → y + unitLen p ≤ imageLen p → BlockAt p im g d o y
 unfolding unitLen
 block-begins p im g d o y ok h hd hg ho z ez ey l = (
   omega (arith, l),
-  λ ps k. block-view p (mkDisk im ps) d (zoneOn g d) hd (zone-on-lt p g d hg) (record { image-long = h; pointers-long = k }) (1 + o) (data-below p (ranged p ok) (1 + o) (omega arith))
+  λ ps k. block-view p (mkDisk im ps) d (zoneOn g d) hd hg (record { image-long = h; pointers-long = k }) (1 + o) (data-below p (ranged p ok) (1 + o) (omega arith))
       ∙ sym (ap (λ (x : ℕ). part x (p .B) im) (ey ∙ ap (λ (x : ℕ). placeByte p (placeOf p d x (1 + o))) ez)),
 )

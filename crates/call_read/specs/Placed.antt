@@ -50,4 +50,4 @@ module _ (p : Params) (q : ℕ) (ok : inRange p ≡ true) (h : DataPlace p q) wh
       let z = placeZone p q in
       let t : 1 + (placeBlock p q - 1) ≡ placeBlock p q = omega (arith, h .block-low) in
       ap (λ (y : ℕ). part (placeByte p y) (p .B) (k .image)) (sym (place-again p q)) ∙ sym (block-view p k d z (h .drive-low) zone-low w (placeBlock p q) block-in)
-      ∙ ap₂ (λ (x y : ℕ). chunkAt (seen p k) d x y .block) (sym (place-segment-zone p q)) (sym t)
+      ∙ ap₂ (λ (x y : ℕ). chunkAt (seen p k) d x y .block) (sym (place-segment-zone p q (h .drive-low))) (sym t)

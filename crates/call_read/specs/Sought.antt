@@ -10,7 +10,7 @@ use Rattle.spec.specs.declared.Answer.{Answer}
 use Rattle.spec.specs.declared.Answer.the-variants.{BadZone}
 use Rattle.spec.specs.Calls.{firstRefusal}
 use Rattle.spec.specs.Calls.Check.{zones}
-use Rattle.spec.specs.Drives.{View, chunkAt, zoneOn, placeSegment, recordAt, placeRecord, Seg, seg}
+use Rattle.spec.specs.Drives.{View, chunkAt, zoneOn, placeSegment, recordAt, placeRecord}
 use Rattle.spec.specs.Layout.{Rec}
 use Rattle.spec.specs.Lists.{Opt, consIf}
 use Rattle.spec.specs.Lists.Opt.{none, some}
@@ -20,12 +20,12 @@ use Rattle.spec.specs.Read.{Found, storedAt, decodeFaults, readPiece}
 use Rattle.spec.specs.Read.Found.{nowhere, here, away}
 use Rattle.disk_records.specs.Record.{recVal}
 use Rattle.disk_records.specs.declared.Record.{Record}
-use Rattle.law_basic.specs.Segs.{place-number}
 use Rattle.law_calls.specs.Refusals.{zone-fails, zones-pass, none-left}
 use Rattle.law_code.specs.Code.{decode-apart}
 use Rattle.call_read.specs.Decode.{ShownBy, OffsetsLow, anyHidden, pieceFrom, hidden-any, data-offsets, decodes-from}
 use Rattle.call_read.specs.declared.Sought.{Sought}
 use Rattle.call_read.specs.declared.Sought.the-variants.{Bad, Never, Here, Away}
+use Rattle.spec.specs.declared.Seg.{Seg}
 
 -- 01, Refusals: the first refusal, if there is one
 abbrev pub refusedBy : Sought → Opt Answer
@@ -59,43 +59,40 @@ module _ (p : Params) (v : View) (gone : ℕ) (cs : List ℕ) (at : List ℕ) wh
   unfolding decodeFaults readPiece storedAt
   seeks-here q r e = (nothing-hidden, (refl, ap (λ (x : Rec). x .stamp) e))
 
-  -- 01, Read: a place on the missing drive, of drive d, zone z and stripe s
-  module _ (q : Place) (d z s : ℕ) (ed : d ≡ placeDrive p (q .0)) (ez : z ≡ placeZone p (q .0)) (es : s ≡ placeBlock p (q .0) - 1) where
-    segment-is : seg z ≡ placeSegment p (q .0)
-    segment-is = ap seg ez ∙ sym (place-number p (q .0))
-
-    pub lost-piece-block : decodeBlock p gone s d (λ e. chunkAt v e (zoneOn (seg z) e) (1 + getD at e 0) .block) ≡ pieceFrom p v gone (q .0) at .block
+  -- 01, Read: a place on the missing drive, of drive d, segment g and stripe s
+  module _ (q : Place) (d : ℕ) (g : Seg) (s : ℕ) (ed : d ≡ placeDrive p (q .0)) (eg : g ≡ placeSegment p (q .0)) (es : s ≡ placeBlock p (q .0) - 1) where
+    pub lost-piece-block : decodeBlock p gone s d (λ e. chunkAt v e (zoneOn g e) (1 + getD at e 0) .block) ≡ pieceFrom p v gone (q .0) at .block
     unfolding storedAt
     lost-piece-block =
-        (λ j. decodeBlock p gone (es j) (ed j) (λ e. storedAt p v gone e (segment-is j) (getD at e 0) .block))
+        (λ j. decodeBlock p gone (es j) (ed j) (λ e. storedAt p v gone e (eg j) (getD at e 0) .block))
         ∙ sym (ap (λ (x : Piece). x .block) (decode-apart p gone (placeBlock p (q .0) - 1) (placeDrive p (q .0)) (λ e. storedAt p v gone e (placeSegment p (q .0)) (getD at e 0))))
 
-    lost-piece-record : decodeRec p gone s d (λ e. recordAt p v gone e (seg z) (getD at e 0)) ≡ pieceFrom p v gone (q .0) at .rec
+    lost-piece-record : decodeRec p gone s d (λ e. recordAt p v gone e g (getD at e 0)) ≡ pieceFrom p v gone (q .0) at .rec
     unfolding storedAt
     lost-piece-record =
-        (λ j. decodeRec p gone (es j) (ed j) (λ e. storedAt p v gone e (segment-is j) (getD at e 0) .rec))
+        (λ j. decodeRec p gone (es j) (ed j) (λ e. storedAt p v gone e (eg j) (getD at e 0) .rec))
         ∙ sym (ap (λ (x : Piece). x .rec) (decode-apart p gone (placeBlock p (q .0) - 1) (placeDrive p (q .0)) (λ e. storedAt p v gone e (placeSegment p (q .0)) (getD at e 0))))
 
-    module _ (h : ShownBy p v gone cs (seg z) s at) where
+    module _ (h : ShownBy p v gone cs g s at) where
       shown-at-place : ShownBy p v gone cs (placeSegment p (q .0)) (placeBlock p (q .0) - 1) at
-      shown-at-place = subst (λ (x : ℕ). ShownBy p v gone cs (placeSegment p (q .0)) x at) es (subst (λ (x : Seg). ShownBy p v gone cs x s at) segment-is h)
+      shown-at-place = subst (λ (x : ℕ). ShownBy p v gone cs (placeSegment p (q .0)) x at) es (subst (λ (x : Seg). ShownBy p v gone cs x s at) eg h)
 
-      lost-faults : (b : Bool) → anyHidden p at ≡ b → decodeFaults p v gone cs (away (q .0)) ≡ consIf b z []
+      lost-faults : (z : ℕ) → z ≡ placeZone p (q .0) → (b : Bool) → anyHidden p at ≡ b → decodeFaults p v gone cs (away (q .0)) ≡ consIf b z []
       unfolding decodeFaults
-      lost-faults b e =
+      lost-faults z ez b e =
           ap₂ (λ (x : Bool) (y : ℕ). consIf x y []) (sym (hidden-any p v gone cs (placeSegment p (q .0)) (placeBlock p (q .0) - 1) at shown-at-place) ∙ e) (sym ez)
 
-      pub seeks-hidden : anyHidden p at ≡ true → Seeks p v gone cs (away (q .0)) (Bad (BadZone z)) at
+      pub seeks-hidden : (z : ℕ) → z ≡ placeZone p (q .0) → anyHidden p at ≡ true → Seeks p v gone cs (away (q .0)) (Bad (BadZone z)) at
       unfolding consIf
-      seeks-hidden e = (sym (ap (λ (x : List ℕ). firstRefusal (zones x ∷ [])) (lost-faults true e) ∙ zone-fails z []), tt)
+      seeks-hidden z ez e = (sym (ap (λ (x : List ℕ). firstRefusal (zones x ∷ [])) (lost-faults z ez true e) ∙ zone-fails z []), tt)
 
       -- 02, item 2: the stamp decoded
-      pub seeks-shown : anyHidden p at ≡ false → length at ≡ 8 → (r : Record) → recVal r ≡ decodeRec p gone s d (λ e. recordAt p v gone e (seg z) (getD at e 0))
+      pub seeks-shown : anyHidden p at ≡ false → length at ≡ 8 → (r : Record) → recVal r ≡ decodeRec p gone s d (λ e. recordAt p v gone e g (getD at e 0))
           → Seeks p v gone cs (away (q .0)) (Away q (r .stamp)) at
       unfolding consIf readPiece
       seeks-shown e n r f =
           let w = decodes-from p v gone cs (placeSegment p (q .0)) (placeBlock p (q .0) - 1) at shown-at-place e (placeDrive p (q .0)) in (
-            nothing-hidden ∙ sym (ap (λ (x : List ℕ). firstRefusal (zones x ∷ [])) (lost-faults false e)),
+            nothing-hidden ∙ sym (ap (λ (x : List ℕ). firstRefusal (zones x ∷ [])) (lost-faults (placeZone p (q .0)) refl false e)),
             (
               refl,
               ap (λ (x : Rec). x .stamp) (f ∙ lost-piece-record ∙ sym (ap (λ (x : Piece). x .rec) w)),

@@ -7,7 +7,7 @@ ghost use lib.Dec.{ltb};
 ghost use lib.ListN.{length, getD};
 ghost use Rattle.spec.specs.Bytes.{part};
 ghost use Rattle.spec.specs.Calls.{mkAfter};
-ghost use Rattle.spec.specs.Drives.{viewOf, mkDisk, zoneAt, chunkAt, zoneOn, recordIn, recordAt, seg};
+ghost use Rattle.spec.specs.Drives.{viewOf, mkDisk, zoneAt, chunkAt, zoneOn, recordIn, recordAt};
 ghost use Rattle.spec.specs.Engine.{callDisk};
 ghost use Rattle.spec.specs.Engine.Call.{read, fill};
 ghost use Rattle.spec.specs.Lists.{consIf, isIn};
@@ -25,12 +25,14 @@ ghost use Rattle.call_read.specs.Order.{readRefusal};
 ghost use Rattle.call_read.specs.Placed.{placedAt};
 ghost use Rattle.call_read.specs.Sought.{refusedBy, Gives, Seeks};
 ghost use Rattle.law_views.specs.Views.{Whole};
+ghost use Rattle.law_basic.specs.Segs.{ZonesLow};
 use disk_records::Record;
 use mem_lookup::Found;
 use spec::Address;
 use spec::Answer;
 use spec::Params;
 use spec::Place;
+use spec::Seg;
 use spec::Stamp;
 
 // 01, Refusals; Read: a refusal, or where the address lies, with the stamp.
@@ -63,18 +65,18 @@ fn shown_on(
     gone: u8,
     compact: &[u8],
     drive: usize,
-    segment: usize,
+    segment: Seg,
     s: usize,
 ) -> usize
     requires { ⌜ inRange p ≡ true ⌝ }
     requires { ⌜ (length (now pointers) ≡ pointersLen p) × (length (now compact) ≡ compactLen p) ⌝ }
-    requires { ⌜ (drive < p .N) × (segment < p .Z) × (s < p .S) ⌝ }
-    ensures { λ r. ⌜ ((im : List ℕ) → length im ≡ imageLen p → ShownOn p (viewOf p im (now (pointers .entry))) gone (now (compact .entry)) (seg segment) s drive r) ⌝ }
+    requires { ⌜ (drive < p .N) × ZonesLow p gone segment × (s < p .S) ⌝ }
+    ensures { λ r. ⌜ ((im : List ℕ) → length im ≡ imageLen p → ShownOn p (viewOf p im (now (pointers .entry))) gone (now (compact .entry)) segment s drive r) ⌝ }
 {
     if bits_masks::has_drive(gone, drive) {
         return 0;
     }
-    let zone = disk_shape::zone_on(segment, drive);
+    let zone = disk_shape::zone_on(p, segment, drive);
     mem_lookup::shown_at(p, pointers, compact, drive, zone, s)
 }
 
@@ -84,17 +86,17 @@ fn shown_offsets(
     pointers: &[u8],
     gone: u8,
     compact: &[u8],
-    segment: usize,
+    segment: Seg,
     s: usize,
     at: &mut [usize],
 )
     requires { ⌜ inRange p ≡ true ⌝ }
     requires { ⌜ (length (now pointers) ≡ pointersLen p) × (length (now compact) ≡ compactLen p) × (length (now at) ≡ 8) ⌝ }
-    requires { ⌜ (segment < p .Z) × (s < p .S) ⌝ }
+    requires { ⌜ ZonesLow p gone segment × (s < p .S) ⌝ }
     ensures { λ _. ⌜
         ((im : List ℕ)
         → length im ≡ imageLen p
-        → ShownBy p (viewOf p im (now (pointers .entry))) gone (now (compact .entry)) (seg segment) s (now (at .exit))) ⌝ }
+        → ShownBy p (viewOf p im (now (pointers .entry))) gone (now (compact .entry)) segment s (now (at .exit))) ⌝ }
 {
     let mut d = 0;
     while d < p.N {
@@ -125,16 +127,16 @@ fn record_on(
     gone: u8,
     full: bool,
     drive: usize,
-    segment: usize,
+    segment: Seg,
     o: usize,
 ) -> Record
     requires { ⌜ inRange p ≡ true ⌝ }
-    requires { ⌜ (length (now image) ≡ imageLen p) × (drive < p .N) × (segment < p .Z) × (o < p .S) ⌝ }
+    requires { ⌜ (length (now image) ≡ imageLen p) × (drive < p .N) × ZonesLow p gone segment × (o < p .S) ⌝ }
     ensures { λ r. ⌜
         ((ps : List ℕ)
         → length ps ≡ pointersLen p
         → isIn gone drive ≡ false
-        → recVal r ≡ recordIn p full (zoneAt (viewOf p (now (image .entry)) ps) drive (zoneOn (seg segment) drive)) o) ⌝ }
+        → recVal r ≡ recordIn p full (zoneAt (viewOf p (now (image .entry)) ps) drive (zoneOn segment drive)) o) ⌝ }
 {
     if bits_masks::has_drive(gone, drive) {
         return Record {
@@ -143,7 +145,7 @@ fn record_on(
             stripe: 0,
         };
     }
-    let zone = disk_shape::zone_on(segment, drive);
+    let zone = disk_shape::zone_on(p, segment, drive);
     disk_stored::record_in(p, image, full, drive, zone, o)
 }
 
@@ -154,14 +156,14 @@ fn decode_record(
     pointers: &[u8],
     gone: u8,
     drive: usize,
-    segment: usize,
+    segment: Seg,
     s: usize,
     at: &[usize],
 ) -> Record
     requires { ⌜ inRange p ≡ true ⌝ }
     requires { ⌜ Whole p (mkDisk (now image) (now pointers)) ⌝ }
-    requires { ⌜ (drive < p .N) × (segment < p .Z) × (s < p .S) × OffsetsLow p (now at) ⌝ }
-    ensures { λ r. ⌜ recVal r ≡ decodeRec p gone s drive (λ e. recordAt p (viewOf p (now (image .entry)) (now (pointers .entry))) gone e (seg segment) (getD (now (at .entry)) e 0)) ⌝ }
+    requires { ⌜ (drive < p .N) × ZonesLow p gone segment × (s < p .S) × OffsetsLow p (now at) ⌝ }
+    ensures { λ r. ⌜ recVal r ≡ decodeRec p gone s drive (λ e. recordAt p (viewOf p (now (image .entry)) (now (pointers .entry))) gone e segment (getD (now (at .entry)) e 0)) ⌝ }
 {
     let full = disk_zones::is_sealed(p, pointers, gone, segment);
     let mut addresses = [0u64; 8];
@@ -182,23 +184,23 @@ fn decode_block(
     image: &[u8],
     gone: u8,
     drive: usize,
-    segment: usize,
+    segment: Seg,
     s: usize,
     at: &[usize],
     block: &mut [u8],
 )
     requires { ⌜ inRange p ≡ true ⌝ }
-    requires { ⌜ (length (now image) ≡ imageLen p) × (length (now block) ≡ p .B) × (drive < p .N) × (segment < p .Z) × OffsetsLow p (now at) ⌝ }
+    requires { ⌜ (length (now image) ≡ imageLen p) × (length (now block) ≡ p .B) × (drive < p .N) × ZonesLow p 0 segment × OffsetsLow p (now at) ⌝ }
     ensures { λ _. ⌜
         ((ps : List ℕ)
         → length ps ≡ pointersLen p
         → now (block .exit) ≡ decodeBlock p gone s drive
-        (λ e. chunkAt (viewOf p (now (image .entry)) ps) e (zoneOn (seg segment) e) (1 + getD (now (at .entry)) e 0) .block)) ⌝ }
+        (λ e. chunkAt (viewOf p (now (image .entry)) ps) e (zoneOn segment e) (1 + getD (now (at .entry)) e 0) .block)) ⌝ }
 {
     let mut bytes = [0usize; 8];
     let mut d = 0;
     while d < p.N {
-        let zone = disk_shape::zone_on(segment, d);
+        let zone = disk_shape::zone_on(p, segment, d);
         bytes[d] = disk_shape::block_byte(p, d, zone, 1 + at[d]);
         d += 1;
     }
@@ -225,12 +227,13 @@ fn seek_lost(
 {
     let zone = disk_shape::place_zone(p, q);
     let s = disk_shape::place_block(p, q) - 1;
-    shown_offsets(p, pointers, gone, compact, zone, s, at);
+    let segment = disk_shape::across(p, zone);
+    shown_offsets(p, pointers, gone, compact, segment, s, at);
     if any_hidden(p, at) {
         return Sought::Bad(Answer::BadZone(zone as u64));
     }
     let drive = disk_shape::place_drive(p, q);
-    let r = decode_record(p, image, pointers, gone, drive, zone, s, at);
+    let r = decode_record(p, image, pointers, gone, drive, segment, s, at);
     let stamp = r.stamp;
     Sought::Away(q, stamp)
 }
@@ -407,7 +410,8 @@ fn fill_lost(p: Params, image: &[u8], gone: u8, q: Place, at: &[usize], block: &
     let zone = disk_shape::place_zone(p, q);
     let s = disk_shape::place_block(p, q) - 1;
     let drive = disk_shape::place_drive(p, q);
-    decode_block(p, image, gone, drive, zone, s, at, block);
+    let segment = disk_shape::across(p, zone);
+    decode_block(p, image, gone, drive, segment, s, at, block);
 }
 
 // The second read, into a lent block.

@@ -8,7 +8,7 @@ use Rattle.spec.specs.declared.Params.{Params}
 use Rattle.spec.specs.declared.Answer.{Answer}
 use Rattle.spec.specs.declared.Answer.the-variants.{Cut, Rebuilt}
 use Rattle.spec.specs.Calls.{firstRefusal, Plan, mkPlan, mkAfter, cutMemory}
-use Rattle.spec.specs.Drives.{Store, Disk, storeDisk, storeAll, Seg, seg}
+use Rattle.spec.specs.Drives.{Store, Disk, storeDisk, storeAll, across}
 use Rattle.spec.specs.Engine.Call.{rebuild}
 use Rattle.spec.specs.Engine.{storeCount, lentBlock, verdict, lentOk, callOn, callDisk}
 use Rattle.spec.specs.Faults.{segmentFaults}
@@ -38,6 +38,7 @@ use Rattle.recover_segments.specs.Kept.{remaining-keep}
 use Rattle.call_write.specs.Ends.{cut-memory}
 use Rattle.call_rebuild.specs.Order.{rebuildRefusal, RebuildReady, rebuildFront, rebuild-front-passed}
 use Rattle.recover_rebuild.specs.Drive.{driveStores, drive-stores-are, GoodRecs}
+use Rattle.spec.specs.declared.Seg.{Seg}
 
 module _ (p : Params) (k : Disk) (m : Memory) (d n : ℕ) where
   abbrev pub left! : List Segment
@@ -84,12 +85,12 @@ module _ (p : Params) (k : Disk) (m : Memory) (d : ℕ) (rd : RebuildReady p k m
   good-recs g hg f =
       let v = seen p k in
       let a : Accepted p v (named d) = record { pointers-ok = rd .pointers-ok; segments-ok = none! } in
-      let on : ℕ → Bool = λ h. remainsHere p v (named d) (seg h) in
-      let i : In (seg g) (remaining p v (named d)) =
-      subst (λ (l : List Seg). In (seg g) l) (sym (remaining-keep p v (named d)))
-      (in-map seg (keep on (below (p .Z))) g (in-keep on (below (p .Z)) g (in-below (p .Z) g hg) (sym (kp .1 g hg) ∙ f))) in
-      let o = faults-apart p v (named d) a (seg g) i in
-      no-recs-fault p (named d) (segmentOf p v (named d) (seg g)) (o .no-stripe-fault) (o .no-address-fault)
+      let on : ℕ → Bool = λ h. remainsHere p v (named d) (across p h) in
+      let i : In (across p g) (remaining p v (named d)) =
+      subst (λ (l : List Seg). In (across p g) l) (sym (remaining-keep p v (named d)))
+      (in-map (across p) (keep on (below (p .Z))) g (in-keep on (below (p .Z)) g (in-below (p .Z) g hg) (sym (kp .1 g hg) ∙ f))) in
+      let o = faults-apart p v (named d) a (across p g) i in
+      no-recs-fault p (named d) (segmentOf p v (named d) (across p g)) (o .no-stripe-fault) (o .no-address-fault)
 
   -- the stores fit
   pub stores-fit : ((i : ℕ) → getD (k .image) i 0 < 256) → AllFit p (seen p k) (driveStores p d (seen p k) flags)

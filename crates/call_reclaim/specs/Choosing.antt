@@ -2,7 +2,7 @@
 use Prim.Native.Nat.{ℕ, suc, _*_, min, _<_}
 use Rattle.spec.specs.Calls.{Check, ninth, ruled, firstRefusal}
 use Rattle.spec.specs.Calls.Check.{rule, zones}
-use Rattle.spec.specs.Drives.{View, Disk, seg}
+use Rattle.spec.specs.Drives.{View, Disk, across}
 use Rattle.spec.specs.Engine.{lentOk}
 use Rattle.spec.specs.Lists.{Opt, all, any, consIf, keep, isNil, least, firstOr}
 use Rattle.spec.specs.Lists.Opt.{none, some}
@@ -49,7 +49,7 @@ laterChecks p v st tb w =
 -- what the code chooses, where r is the first refusal and w the segment: refuses so, resets it, or copies the first of its live blocks not in flight
 abbrev pub Chose : Params → View → State → Opt Victim → Opt Answer → Choice → Type 0
 Chose p v st w r (Refuse a) = r ≡ some a
-Chose p v st w r (Clear g) = (r ≡ none) × (isNil (victimLive w) ≡ true) × (victimSegment w ≡ seg g) × (g < p .Z)
+Chose p v st w r (Clear g) = (r ≡ none) × (isNil (victimLive w) ≡ true) × (victimSegment w ≡ across p g) × (g < p .Z)
 Chose p v st w r (Copy q) = (r ≡ none) × (isNil (victimLive w) ≡ false) × (firstOr 0 (idle p v st w) ≡ q .0) × (q .0 < p .N * p .Z * capacity p) × (isOdd p (q .0) ≡ false)
 
 -- ---- the first checks

@@ -4,7 +4,7 @@ use Rattle.spec.specs.Answers.{kind, isRefused, isCut}
 use Rattle.spec.specs.Bytes.{splice}
 use Rattle.spec.specs.Calls.{mkAfter, cutMemory, outcome}
 use Rattle.spec.specs.Calls.Verdict.{due}
-use Rattle.spec.specs.Drives.{Disk, storeDisk, zoneOn, resetStores, Seg}
+use Rattle.spec.specs.Drives.{Disk, storeDisk, zoneOn, resetStores}
 use Rattle.spec.specs.Lists.{upFrom}
 use Rattle.spec.specs.Memory.{Memory, mkMemory, compactAt}
 use Rattle.spec.specs.Params.{addressesLen, compactLen, drivesOf}
@@ -22,6 +22,7 @@ use lib.ListN.{length, replicate}
 use mathlib.Core.Bool.{true, false}
 use mathlib.Core.List.{List, []}
 use mathlib.Core.Path.{_≡_, refl, sym, ap, _∙_}
+use Rattle.spec.specs.declared.Seg.{Seg}
 
 module _ (p : Params) (g : Seg) where
   pub cleared-start : (cs : List ℕ) → cleared p g (upFrom 0 (p .N - 0)) cs ≡ cleared p g (drivesOf p) cs

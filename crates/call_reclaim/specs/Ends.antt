@@ -3,7 +3,7 @@ use Prim.Native.Nat.{ℕ, _<_}
 use Rattle.spec.specs.Calls.{Plan, decided, mkAfter, outcome}
 use Rattle.spec.specs.Calls.Verdict.{due}
 use Rattle.spec.specs.Counts.{lastCount}
-use Rattle.spec.specs.Drives.{View, Disk, storeDisk, emptySegs, Seg}
+use Rattle.spec.specs.Drives.{View, Disk, storeDisk, emptySegs}
 use Rattle.spec.specs.Engine.{storeCount, lentBlock, verdict, lentOk, callOn, callDisk}
 use Rattle.spec.specs.Engine.Call.{reclaim}
 use Rattle.spec.specs.Lists.{Opt, isNil, firstOr}
@@ -31,6 +31,7 @@ use mathlib.Core.Bool.{true, false, cond, _&&_}
 use mathlib.Core.List.{[]}
 use mathlib.Core.Path.{_≡_, sym, ap, _∙_}
 use native.Mathlib.Omega.{arith}
+use Rattle.spec.specs.declared.Seg.{Seg}
 
 -- 01, Refusals, 8: not scarce
 one-left : (p : Params) (v : View) → scarce p v 1 ≡ false → 0 < length (emptySegs p v)

@@ -10,7 +10,7 @@ ghost use Rattle.spec.specs.declared.State.{State as StateOf};
 ghost use Rattle.spec.specs.Calls.{firstRefusal, outcome};
 ghost use Rattle.spec.specs.Calls.Check.{zones};
 ghost use Rattle.spec.specs.Calls.Verdict.{due};
-ghost use Rattle.spec.specs.Drives.{viewOf, mkDisk, storeDisk, seg};
+ghost use Rattle.spec.specs.Drives.{viewOf, mkDisk, storeDisk, across};
 ghost use Rattle.spec.specs.Engine.{callDisk};
 ghost use Rattle.spec.specs.Engine.Call.{reclaim};
 ghost use Rattle.spec.specs.Lists.Opt.{some};
@@ -24,6 +24,7 @@ ghost use Rattle.mem_rows.specs.Rows.{frontOf, behind, afterChange};
 ghost use Rattle.call_reclaim_victim.specs.Looked.{Looked};
 ghost use Rattle.call_reclaim_victim.specs.Outside.{isOutside};
 ghost use Rattle.law_views.specs.Views.{Whole};
+ghost use Rattle.law_basic.specs.Segs.{ZonesLow};
 use call_filling::Aim;
 use call_reclaim_victim::Chosen;
 use mem_calls::Check;
@@ -32,6 +33,7 @@ use mem_rows::Front;
 use spec::Answer;
 use spec::Params;
 use spec::Place;
+use spec::Seg;
 use spec::State;
 
 // ---- checks
@@ -178,14 +180,14 @@ fn choose(
 // ---- with none live
 
 // 01, What a zone holds: the compact table is 0 where no chunk is stored.
-fn clear_rows(p: Params, compact: &mut [u8], segment: usize)
+fn clear_rows(p: Params, compact: &mut [u8], segment: Seg)
     requires { ⌜ inRange p ≡ true ⌝ }
-    requires { ⌜ (length (now compact) ≡ compactLen p) × (segment < p .Z) ⌝ }
-    ensures { λ _. ⌜ now (compact .exit) ≡ cleared p (seg segment) (drivesOf p) (now (compact .entry)) ⌝ }
+    requires { ⌜ (length (now compact) ≡ compactLen p) × ZonesLow p 0 segment ⌝ }
+    ensures { λ _. ⌜ now (compact .exit) ≡ cleared p segment (drivesOf p) (now (compact .entry)) ⌝ }
 {
     let mut d = 0;
     while d < p.N {
-        let zone = disk_shape::zone_on(segment, d);
+        let zone = disk_shape::zone_on(p, segment, d);
         let at = disk_shape::compact_at(p, d, zone, 0);
         disk_blocks::clear_part(compact, at, p.S);
         d += 1;
@@ -209,13 +211,14 @@ fn reset_segment(
         → f ≡ frontOf st
         → afterChange st r im (now (pointers .exit)) (now (addresses .exit)) (now (compact .exit)) fl [] ≡ outcome p (storeDisk p) count
         (mkDisk im (now (pointers .entry))) (mkMemory st (now (addresses .entry)) (now (compact .entry)) fl) []
-        (due (resetPlan p (mkMemory st (now (addresses .entry)) (now (compact .entry)) fl) (seg g)))) ⌝ }
+        (due (resetPlan p (mkMemory st (now (addresses .entry)) (now (compact .entry)) fl) (across p g)))) ⌝ }
 {
-    let made = disk_zones::reset_stores(p, pointers, g, count);
+    let segment = disk_shape::across(p, g);
+    let made = disk_zones::reset_stores(p, pointers, segment, count);
     if made.cut {
         return call_filling::cut(addresses, compact, f);
     }
-    clear_rows(p, compact, g);
+    clear_rows(p, compact, segment);
     mem_rows::kept(Answer::Reset(g as u64), f)
 }
 

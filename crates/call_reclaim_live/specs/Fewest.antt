@@ -1,7 +1,7 @@
 -- The sealed segment with fewest live blocks, by the counts (01, Reclaim). Assumes nothing.
 use Prim.Native.Nat.{ℕ, _+_, _-_, _*_, _≤_, _<_}
 use Rattle.call_reclaim_live.specs.Live.{LiveCounted, live-all}
-use Rattle.spec.specs.Drives.{View, sealedIn, Seg, seg}
+use Rattle.spec.specs.Drives.{View, sealedIn, across}
 use Rattle.spec.specs.Lists.{Opt, upFrom, below, keep}
 use Rattle.spec.specs.Lists.Opt.{none, some}
 use Rattle.spec.specs.Params.{capacity}
@@ -19,10 +19,11 @@ use mathlib.Core.List.{List, _∷_, map}
 use mathlib.Core.Path.{_≡_, refl, sym, ap, _∙_}
 use native.Mathlib.Decide.{decLe}
 use native.Mathlib.Omega.{arith}
+use Rattle.spec.specs.declared.Seg.{Seg}
 
 -- the segment of a number below Z, with its live blocks; none for Z
 unfoldable pub takenAs : Params → List ℕ → ℕ → Opt Victim
-takenAs p tb g = cond (leb (p .Z) g) none (some (victimOf p (placesIn p tb) (seg g)))
+takenAs p tb g = cond (leb (p .Z) g) none (some (victimOf p (placesIn p tb) (across p g)))
 
 -- 01, Reclaim: of two segments the one with fewer live blocks, the first on a tie; g, where there is no best
 unfoldable pub pickOf : Params → List ℕ → ℕ → ℕ → ℕ
@@ -42,24 +43,24 @@ pick-old p live best g h l = (λ j. cond (lt-leb (p .Z) best h j) g (cond (le-lt
 
 pub taken-none : (p : Params) (tb : List ℕ) (g : ℕ) → p .Z ≤ g → takenAs p tb g ≡ none
 unfolding takenAs
-taken-none p tb g h = ap (λ (x : Bool). cond x none (some (victimOf p (placesIn p tb) (seg g)))) (le-leb (p .Z) g h)
+taken-none p tb g h = ap (λ (x : Bool). cond x none (some (victimOf p (placesIn p tb) (across p g)))) (le-leb (p .Z) g h)
 
-pub taken-some : (p : Params) (tb : List ℕ) (g : ℕ) → g < p .Z → takenAs p tb g ≡ some (victimOf p (placesIn p tb) (seg g))
+pub taken-some : (p : Params) (tb : List ℕ) (g : ℕ) → g < p .Z → takenAs p tb g ≡ some (victimOf p (placesIn p tb) (across p g))
 unfolding takenAs
-taken-some p tb g h = ap (λ (x : Bool). cond x none (some (victimOf p (placesIn p tb) (seg g)))) (lt-leb (p .Z) g h)
+taken-some p tb g h = ap (λ (x : Bool). cond x none (some (victimOf p (placesIn p tb) (across p g)))) (lt-leb (p .Z) g h)
 
 -- a segment's count
 pub count-live : (p : Params) → Ranged p → (tb live : List ℕ) → LiveCounted p tb live (p .N * p .Z * capacity p) → (g : ℕ) → g < p .Z
-    → length (liveIn p (placesIn p tb) (seg g)) ≡ getD live g 0
+    → length (liveIn p (placesIn p tb) (across p g)) ≡ getD live g 0
 count-live p r tb live so g h = ap length (live-all p r tb g h) ∙ sym (so g h)
 
 pub pick-fewer : (p : Params) → Ranged p → (tb live : List ℕ) → LiveCounted p tb live (p .N * p .Z * capacity p) → (best g : ℕ) → g < p .Z
-    → takenAs p tb (pickOf p live best g) ≡ fewer (takenAs p tb best) (victimOf p (placesIn p tb) (seg g))
+    → takenAs p tb (pickOf p live best g) ≡ fewer (takenAs p tb best) (victimOf p (placesIn p tb) (across p g))
 unfolding pickOf fewer victimOf
 pick-fewer p r tb live so best g h = go (decLe (p .Z) best)
   where
     W : ℕ → Victim
-    W a = victimOf p (placesIn p tb) (seg a)
+    W a = victimOf p (placesIn p tb) (across p a)
 
     sizes : (a : ℕ) → a < p .Z → length (W a .live) ≡ getD live a 0
     sizes a l = count-live p r tb live so a l
@@ -83,17 +84,17 @@ pick-fewer p r tb live so best g h = go (decLe (p .Z) best)
 
 module _ (p : Params) (v : View) (tb : List ℕ) where
   abbrev W : ℕ → Victim
-  W k = victimOf p (placesIn p tb) (seg k)
+  W k = victimOf p (placesIn p tb) (across p k)
 
   abbrev s : ℕ → Bool
-  s k = sealedIn p v 0 (seg k)
+  s k = sealedIn p v 0 (across p k)
 
   -- the segments by number
   pub victim-number : victim p v tb ≡ fewest none (map W (keep s (below (p .Z))))
   unfolding victim
   victim-number =
       let of : Seg → Victim = victimOf p (placesIn p tb) in
-      ap (λ (l : List Seg). fewest none (map of l)) (keep-segs p (sealedIn p v 0)) ∙ ap (fewest none) (map-map of seg (keep s (below (p .Z))))
+      ap (λ (l : List Seg). fewest none (map of l)) (keep-segs p (sealedIn p v 0)) ∙ ap (fewest none) (map-map of (across p) (keep s (below (p .Z))))
 
   abbrev pub onward : Opt Victim → ℕ → Opt Victim
   onward a g = fewest a (map W (keep s (upFrom g (p .Z - g))))
@@ -121,11 +122,11 @@ module _ (p : Params) (v : View) (tb : List ℕ) where
 
 -- one turn of the loop
 pub turn-best : (p : Params) → Ranged p → (v : View) (tb live : List ℕ) → LiveCounted p tb live (p .N * p .Z * capacity p) → (best best′ g : ℕ) → g < p .Z
-    → best′ ≡ cond (sealedIn p v 0 (seg g)) (pickOf p live best g) best → onward p v tb (takenAs p tb best) g ≡ victim p v tb
+    → best′ ≡ cond (sealedIn p v 0 (across p g)) (pickOf p live best g) best → onward p v tb (takenAs p tb best) g ≡ victim p v tb
     → onward p v tb (takenAs p tb best′) (g + 1) ≡ victim p v tb
 turn-best p r v tb live so best best′ g h e k =
-    ap (λ (x : Opt Victim). onward p v tb x (g + 1)) (ap (takenAs p tb) e ∙ go (sealedIn p v 0 (seg g))) ∙ sym (onward-turn p v tb (takenAs p tb best) g h) ∙ k
+    ap (λ (x : Opt Victim). onward p v tb x (g + 1)) (ap (takenAs p tb) e ∙ go (sealedIn p v 0 (across p g))) ∙ sym (onward-turn p v tb (takenAs p tb best) g h) ∙ k
   where
-    go : (b : Bool) → takenAs p tb (cond b (pickOf p live best g) best) ≡ cond b (fewer (takenAs p tb best) (victimOf p (placesIn p tb) (seg g))) (takenAs p tb best)
+    go : (b : Bool) → takenAs p tb (cond b (pickOf p live best g) best) ≡ cond b (fewer (takenAs p tb best) (victimOf p (placesIn p tb) (across p g))) (takenAs p tb best)
     go true = pick-fewer p r tb live so best g h
     go false = refl

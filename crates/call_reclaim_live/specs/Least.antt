@@ -1,7 +1,7 @@
 -- The lowest sealed segment with the least count, and when it is the one that reclaim takes (01, Reclaim). Assumes nothing.
 use Prim.Native.Nat.{ℕ, zero, suc, _+_, _≤_, _<_}
 use Rattle.call_reclaim_live.specs.Fewest.{victim-number, takenAs, taken-some, pickOf, pick-new, pick-less, pick-old}
-use Rattle.spec.specs.Drives.{View, sealedIn, seg}
+use Rattle.spec.specs.Drives.{View, sealedIn, across}
 use Rattle.spec.specs.Lists.{Opt, upFrom, below, keep}
 use Rattle.spec.specs.Lists.Opt.{none, some}
 use Rattle.spec.specs.Reclaim.{placesIn, Victim, victimOf, fewer, fewest, victim}
@@ -21,14 +21,14 @@ use native.Mathlib.Omega.{arith}
 -- best is the lowest of the sealed segments below n with the least count; not below Z where none is sealed
 pub record Least (p : Params) (v : View) (live : List ℕ) (n best : ℕ) : Type 0 where
   pub early : best < p .Z → best < n
-  pub taken : best < p .Z → sealedIn p v 0 (seg best) ≡ true
-  pub least : best < p .Z → (k : ℕ) → k < n → sealedIn p v 0 (seg k) ≡ true → getD live best 0 ≤ getD live k 0
-  pub first : best < p .Z → (k : ℕ) → k < best → sealedIn p v 0 (seg k) ≡ true → getD live best 0 < getD live k 0
-  pub nobody : p .Z ≤ best → (k : ℕ) → k < n → sealedIn p v 0 (seg k) ≡ true → ⊥
+  pub taken : best < p .Z → sealedIn p v 0 (across p best) ≡ true
+  pub least : best < p .Z → (k : ℕ) → k < n → sealedIn p v 0 (across p k) ≡ true → getD live best 0 ≤ getD live k 0
+  pub first : best < p .Z → (k : ℕ) → k < best → sealedIn p v 0 (across p k) ≡ true → getD live best 0 < getD live k 0
+  pub nobody : p .Z ≤ best → (k : ℕ) → k < n → sealedIn p v 0 (across p k) ≡ true → ⊥
 
 module _ (p : Params) (v : View) (live : List ℕ) where
   abbrev s : ℕ → Bool
-  s k = sealedIn p v 0 (seg k)
+  s k = sealedIn p v 0 (across p k)
 
   abbrev at : ℕ → ℕ
   at k = getD live k 0
@@ -172,13 +172,14 @@ module _ (W : ℕ → Victim) (t : ℕ → Bool) where
             other (no! f) = miss o i n f ∙ r o (omega (arith, l)) w
 
 -- 01, Reclaim: a sealed segment with fewer live blocks than those below it, and no more than those above
-pub victim-least : (p : Params) (v : View) (tb : List ℕ) (g : ℕ) → g < p .Z → sealedIn p v 0 (seg g) ≡ true
-    → ((k : ℕ) → k < g → sealedIn p v 0 (seg k) ≡ true → length (victimOf p (placesIn p tb) (seg g) .live) < length (victimOf p (placesIn p tb) (seg k) .live))
-    → ((k : ℕ) → g < k → k < p .Z → sealedIn p v 0 (seg k) ≡ true → length (victimOf p (placesIn p tb) (seg g) .live) ≤ length (victimOf p (placesIn p tb) (seg k) .live))
+pub victim-least : (p : Params) (v : View) (tb : List ℕ) (g : ℕ) → g < p .Z → sealedIn p v 0 (across p g) ≡ true
+    → ((k : ℕ) → k < g → sealedIn p v 0 (across p k) ≡ true → length (victimOf p (placesIn p tb) (across p g) .live) < length (victimOf p (placesIn p tb) (across p k) .live))
+    → ((k : ℕ) → g < k → k < p .Z → sealedIn p v 0 (across p k) ≡ true
+    → length (victimOf p (placesIn p tb) (across p g) .live) ≤ length (victimOf p (placesIn p tb) (across p k) .live))
     → victim p v tb ≡ takenAs p tb g
 unfolding below
 victim-least p v tb g h is before after =
     victim-number p v tb
-    ∙ least-finds (λ k. victimOf p (placesIn p tb) (seg k)) (λ k. sealedIn p v 0 (seg k)) g is before none 0 (p .Z) (omega arith) (omega (arith, h)) over-none
+    ∙ least-finds (λ k. victimOf p (placesIn p tb) (across p k)) (λ k. sealedIn p v 0 (across p k)) g is before none 0 (p .Z) (omega arith) (omega (arith, h)) over-none
     (λ k a b q. after k a (omega (arith, b)) q)
     ∙ sym (taken-some p tb g h)

@@ -1,7 +1,6 @@
 -- Live blocks by ascending place, and their count by segment (01, Reclaim). Assumes nothing.
 use Prim.Native.Nat.{ℕ, zero, suc, _+_, _-_, _*_, _/_, _%_, _^_, min, max, _≤_, _<_}
 use Rattle.spec.specs.Counts.{neverPlace}
-use Rattle.spec.specs.Drives.{seg}
 use Rattle.spec.specs.History.{step}
 use Rattle.spec.specs.Lists.{upFrom, below, isMember, consIf, keep, flat}
 use Rattle.spec.specs.Memory.{placeAt}
@@ -12,7 +11,6 @@ use Rattle.law_basic.specs.Geometry.{prod-le, Ranged, capacity-low, capacity-hi
 use Rattle.law_basic.specs.Ranges.{Test, test, upFrom-add, below-none, length-below, any-same, keep-append, keep-none, keep-below-same, length-keep, flat-none}
 use Rattle.law_basic.specs.Ranges.{flat-below-snoc, keep-below-snoc, any-map, below-split}
 use Rattle.law_basic.specs.Ranges.Test.{yes!, no! }
-use Rattle.law_basic.specs.Segs.{zone-number}
 use Rattle.mem_marks.specs.Marks.{isMarked, isPointed, Marks, shifted}
 use Rattle.law_scans.specs.Scans.{any-keep}
 use borrow.Author.Tests.{eq-eqb, ne-eqb, eqb-true, eqb-false}
@@ -27,6 +25,8 @@ use native.Mathlib.Decide.{decLt}
 use native.Mathlib.Nat.{mod-lt, add-zero, suc-mul, zero-mul, add-mul, div-add-mod', zero-mod, zero-div, one-mul, le-div-iff-mul-le, div-lt-iff-lt-mul}
 use native.Mathlib.Numerals.{add-one}
 use native.Mathlib.Omega.{arith}
+use Rattle.spec.specs.Drives.{across, zoneOn}
+use Rattle.law_basic.specs.Segs.{across-zone}
 
 -- 01, Reclaim: q is a live block of segment g
 unfoldable pub isLiveIn : Params → List ℕ → ℕ → ℕ → Bool
@@ -181,24 +181,26 @@ module _ (p : Params) (r : Ranged p) where
       ∙ ap (λ (x : ℕ). upFrom x C) (let w : a * C + g * C ≡ (a + g) * C + 0 = omega arith in w)
       ∙ sym (map-upFrom (λ b. (a + g) * C + b) ((a + g) * C) 0 C (λ b. refl))
 
-  segment-drives : (g n : ℕ) → g < p .Z → flat (λ d. map (placeOf p d g) (below C)) (below n) ≡ keep (λ q. eqb (placeZone p q) g) (below (n * p .Z * C))
-  segment-drives g zero h =
+  segment-drives : (g n : ℕ) → g < p .Z → n ≤ p .N
+      → flat (λ d. map (placeOf p d (zoneOn (across p g) d)) (below C)) (below n) ≡ keep (λ q. eqb (placeZone p q) g) (below (n * p .Z * C))
+  segment-drives g zero h k =
+      let F : ℕ → List ℕ = λ d. map (placeOf p d (zoneOn (across p g) d)) (below C) in
       let f : ℕ → Bool = λ q. eqb (placeZone p q) g in
       let e : 0 * p .Z * C ≡ 0 = ap (λ (x : ℕ). x * C) (zero-mul (p .Z)) ∙ zero-mul C in
-      ap (flat (λ d. map (placeOf p d g) (below C))) below-none ∙ flat-none (λ d. map (placeOf p d g) (below C))
+      ap (flat F) below-none ∙ flat-none F
       ∙ sym (ap (λ (x : ℕ). keep f (below x)) e ∙ ap (keep f) below-none ∙ keep-none f)
-  segment-drives g (suc n) h =
-      let F : ℕ → List ℕ = λ d. map (placeOf p d g) (below C) in
+  segment-drives g (suc n) h k =
+      let F : ℕ → List ℕ = λ d. map (placeOf p d (zoneOn (across p g) d)) (below C) in
       let f : ℕ → Bool = λ q. eqb (placeZone p q) g in
       let e : suc n * p .Z * C ≡ n * p .Z * C + p .Z * C = ap (λ (x : ℕ). x * C) (suc-mul n (p .Z)) ∙ add-mul (n * p .Z) (p .Z) C in
       ap (λ (x : ℕ). flat F (below x)) (sym (add-one n)) ∙ flat-below-snoc F n
-      ∙ ap₂ _++_ (segment-drives g n h) (sym (places-more g n h))
+      ∙ ap₂ _++_ (segment-drives g n h (omega arith)) (ap (λ (z : ℕ). map (placeOf p n z) (below C)) (across-zone p g n (omega arith)) ∙ sym (places-more g n h))
       ∙ sym (ap (λ (x : ℕ). keep f (below x)) e ∙ ap (keep f) (below-split (n * p .Z * C) (p .Z * C)) ∙ keep-append f (below (n * p .Z * C)) (upFrom (n * p .Z * C) (p .Z * C)))
 
   -- 01, Reclaim: the places of a segment
-  pub segment-places : (g : ℕ) → g < p .Z → segmentPlaces p (seg g) ≡ keep (λ q. eqb (placeZone p q) g) (below (p .N * p .Z * C))
+  pub segment-places : (g : ℕ) → g < p .Z → segmentPlaces p (across p g) ≡ keep (λ q. eqb (placeZone p q) g) (below (p .N * p .Z * C))
   unfolding segmentPlaces drivesOf
-  segment-places g h = (λ j. flat (λ d. map (placeOf p d (zone-number g d j)) (below C)) (below (p .N))) ∙ segment-drives g (p .N) h
+  segment-places g h = segment-drives g (p .N) h (omega arith)
 
 -- ---- the table's places
 
@@ -217,7 +219,7 @@ member-places p tb q h =
     go k (no! e) = ap (λ (x : Bool). not (eqb k neverPlace) && x) e ∙ and-false (not (eqb k neverPlace)) ∙ sym e
 
 -- 01, Reclaim: a segment's live blocks, in rising order of place
-pub live-all : (p : Params) → Ranged p → (tb : List ℕ) (g : ℕ) → g < p .Z → liveIn p (placesIn p tb) (seg g) ≡ liveBelow p tb g (p .N * p .Z * capacity p)
+pub live-all : (p : Params) → Ranged p → (tb : List ℕ) (g : ℕ) → g < p .Z → liveIn p (placesIn p tb) (across p g) ≡ liveBelow p tb g (p .N * p .Z * capacity p)
 unfolding liveIn liveBelow isLiveIn
 live-all p r tb g h =
     let all! = p .N * p .Z * capacity p in

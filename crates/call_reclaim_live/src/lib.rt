@@ -8,7 +8,7 @@ ghost use lib.ListN.{length, getD};
 ghost use Rattle.call_reclaim_live.specs.Fewest.{pickOf, takenAs};
 ghost use Rattle.call_reclaim_live.specs.Least.{Least};
 ghost use Rattle.call_reclaim_live.specs.Live.{LiveCounted};
-ghost use Rattle.spec.specs.Drives.{viewOf, sealedIn, seg};
+ghost use Rattle.spec.specs.Drives.{viewOf, sealedIn, across};
 ghost use Rattle.spec.specs.Params.{inRange, capacity, imageLen, pointersLen, addressesLen};
 ghost use Rattle.spec.specs.Reclaim.{victim};
 ghost use Rattle.mem_marks.specs.Marks.{Marks};
@@ -99,9 +99,10 @@ pub fn count_windows(p: Params, addresses: &[u8], marks: &mut [u8], live: &mut [
 fn better(p: Params, pointers: &[u8], live: &[usize], best: usize, g: usize) -> usize
     requires { ⌜ inRange p ≡ true ⌝ }
     requires { ⌜ (length (now pointers) ≡ pointersLen p) × (g < p .Z) × (p .Z ≤ length (now live)) ⌝ }
-    ensures { λ r. ⌜ ((im : List ℕ) → length im ≡ imageLen p → r ≡ cond (sealedIn p (viewOf p im (now (pointers .entry))) 0 (seg g)) (pickOf p (now (live .entry)) best g) best) ⌝ }
+    ensures { λ r. ⌜ ((im : List ℕ) → length im ≡ imageLen p → r ≡ cond (sealedIn p (viewOf p im (now (pointers .entry))) 0 (across p g)) (pickOf p (now (live .entry)) best g) best) ⌝ }
 {
-    if !disk_zones::is_sealed(p, pointers, 0, g) {
+    let segment = disk_shape::across(p, g);
+    if !disk_zones::is_sealed(p, pointers, 0, segment) {
         return best;
     }
     if p.Z <= best {

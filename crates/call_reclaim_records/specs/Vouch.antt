@@ -2,7 +2,7 @@
 -- of all. Run by run, zone by zone, drive by drive. Assumes nothing.
 use Prim.Native.Nat.{ℕ, zero, suc, _+_, _-_, _*_, _≤_, _<_}
 use Rattle.call_reclaim_live.specs.Live.{isLiveIn, liveBelow, live-split}
-use Rattle.spec.specs.Drives.{View, sealedIn, seg}
+use Rattle.spec.specs.Drives.{View, sealedIn, across}
 use Rattle.spec.specs.Lists.{upFrom, below, any, consIf, keep}
 use Rattle.spec.specs.Memory.{placeAt}
 use Rattle.spec.specs.Params.{capacity, unitLen, placeOf, placeZone, placeByte}
@@ -31,7 +31,7 @@ pointedFrom tb l q n = keep (isPointed tb l) (upFrom q n)
 -- 01, Reclaim: a sealed segment k other than best has n live blocks at least, and more where it is lower
 abbrev pub Enough : Params → View → List ℕ → ℕ → ℕ → ℕ → Type 0
 Enough p v tb best n k =
-    sealedIn p v 0 (seg k) ≡ true → (k < best → n < length (liveBelow p tb k (p .N * p .Z * capacity p))) × (best < k → n ≤ length (liveBelow p tb k (p .N * p .Z * capacity p)))
+    sealedIn p v 0 (across p k) ≡ true → (k < best → n < length (liveBelow p tb k (p .N * p .Z * capacity p))) × (best < k → n ≤ length (liveBelow p tb k (p .N * p .Z * capacity p)))
 
 -- what holds of all below n and of n
 pub below-more : (P : ℕ → Type 0) (n : ℕ) → ((k : ℕ) → k < n → P k) → P n → (k : ℕ) → k < n + 1 → P k

@@ -143,7 +143,8 @@ fn is_enough(
     if g == best {
         return true;
     }
-    if !disk_zones::is_sealed(p, pointers, 0, g) {
+    let segment = disk_shape::across(p, g);
+    if !disk_zones::is_sealed(p, pointers, 0, segment) {
         return true;
     }
     let need = needed(best, n, g);

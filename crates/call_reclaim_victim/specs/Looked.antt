@@ -3,7 +3,7 @@ use Prim.Native.Nat.{ℕ, _*_, _≤_, _<_}
 use Rattle.call_reclaim_live.specs.Fewest.{takenAs, taken-none, taken-some}
 use Rattle.call_reclaim_live.specs.Live.{liveBelow, live-all, places-high}
 use Rattle.spec.specs.Counts.{neverPlace}
-use Rattle.spec.specs.Drives.{View, Seg, seg, allSegs, placeSegment, sealedIn}
+use Rattle.spec.specs.Drives.{View, allSegs, placeSegment, sealedIn, across}
 use Rattle.spec.specs.Lists.{Opt, all, any, keep, isNil, firstOr}
 use Rattle.spec.specs.Lists.Opt.{none, some}
 use Rattle.spec.specs.Params.{capacity, placeZone}
@@ -24,12 +24,13 @@ use mathlib.Core.Path.{_≡_, sym, ap, _∙_, subst}
 use native.Mathlib.Omega.{arith}
 use Rattle.law_basic.specs.Ranges.{pass-none}
 use Rattle.law_basic.specs.Segs.{place-number}
+use Rattle.spec.specs.declared.Seg.{Seg}
 
 -- what r says of the segment that reclaim takes, with the drives v, the address table tb and the state st
 pub record Looked (p : Params) (v : View) (tb : List ℕ) (st : State) (r : Chosen) : Type 0 where
   -- no segment is sealed just if the number is not below Z
   pub nobody : isNone (victim p v tb) ≡ leb (p .Z) (r .segment)
-  pub segment : r .segment < p .Z → victimSegment (victim p v tb) ≡ seg (r .segment)
+  pub segment : r .segment < p .Z → victimSegment (victim p v tb) ≡ across p (r .segment)
   -- how many live blocks it has; 0 where there is no such segment
   pub live : length (victimLive (victim p v tb)) ≡ r .live
   -- the first that is not in flight, or never written if there is none
@@ -42,7 +43,7 @@ pub record Looked (p : Params) (v : View) (tb : List ℕ) (st : State) (r : Chos
   pub zoned : r .segment < p .Z → all (λ q. eqb (placeZone p q) (r .segment)) (victimLive (victim p v tb)) ≡ true
   -- the first one not in flight, where there is one, is a block of the image in that segment
   pub found : (r .first .0 ≡ neverPlace → ⊥)
-      → (r .segment < p .Z) × (r .first .0 < p .N * p .Z * capacity p) × (placeSegment p (r .first .0) ≡ seg (r .segment))
+      → (r .segment < p .Z) × (r .first .0 < p .N * p .Z * capacity p) × (placeSegment p (r .first .0) ≡ across p (r .segment))
       × (r .odd ≡ false → isOdd p (r .first .0) ≡ false)
   -- some place of the table lies outside the image; not looked at where no segment is sealed
   pub outside : r .segment < p .Z → r .outside ≡ isOutside p tb
@@ -71,7 +72,7 @@ module _ (p : Params) (v : View) (tb : List ℕ) (st : State) (g : ℕ) (taken :
     abbrev all! : ℕ
     all! = p .N * p .Z * capacity p
 
-    is-some : victim p v tb ≡ some (victimOf p (placesIn p tb) (seg g))
+    is-some : victim p v tb ≡ some (victimOf p (placesIn p tb) (across p g))
     is-some = taken ∙ taken-some p tb g h
 
     its-live : victimLive (victim p v tb) ≡ liveBelow p tb g all!
@@ -92,7 +93,7 @@ module _ (p : Params) (v : View) (tb : List ℕ) (st : State) (g : ℕ) (taken :
         let e : firstOr neverPlace (keep f l) ≡ r .first .0 = sym (wait .first) ∙ sym ef in
         record {
           nobody = ap isNone is-some ∙ sym (lt-leb (p .Z) (r .segment) (omega (arith, es, h)));
-          segment = λ _. ap victimSegment is-some ∙ ap seg (sym es);
+          segment = λ _. ap victimSegment is-some ∙ ap (across p) (sym es);
           live = ap length its-live ∙ so ∙ sym el;
           first = ap (firstOr neverPlace) its-idle ∙ e;
           none-idle = ap isNil its-idle ∙ nil-first (keep f l) (waiting-nil p v st tb g all! (omega (arith, places-high p rg))) ∙ ap (λ (x : ℕ). eqb x neverPlace) e;
@@ -103,7 +104,7 @@ module _ (p : Params) (v : View) (tb : List ℕ) (st : State) (g : ℕ) (taken :
               let z : placeZone p (r .first .0) ≡ g = ap (placeZone p) (sym e) ∙ t .1 in (
                 omega (arith, es, h),
                 subst (λ (x : ℕ). x < all!) e (t .0),
-                place-number p (r .first .0) ∙ ap seg (z ∙ sym es),
+                place-number p (r .first .0) ∙ ap (across p) (z ∙ sym es),
                 λ o. subst (λ (x : ℕ). isOdd p x ≡ false) e (t .2 (sym (wait .odd) ∙ sym eo ∙ o)),
               );
           outside = λ _. ex;

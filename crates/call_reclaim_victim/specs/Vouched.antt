@@ -5,7 +5,7 @@ use Rattle.call_reclaim_live.specs.Fewest.{takenAs}
 use Rattle.call_reclaim_live.specs.Least.{Least, victim-least}
 use Rattle.call_reclaim_live.specs.Live.{isLiveIn, liveBelow, live-all, live-split, live-more}
 use Rattle.spec.specs.Counts.{neverPlace}
-use Rattle.spec.specs.Drives.{View, sealedIn, seg}
+use Rattle.spec.specs.Drives.{View, sealedIn, across}
 use Rattle.spec.specs.Lists.{any, upFrom, keep, firstOr}
 use Rattle.spec.specs.Memory.{placeAt}
 use Rattle.spec.specs.Params.{between, capacity, placeOf, placeBlock, placeZone}
@@ -119,9 +119,9 @@ module _ (p : Params) (v : View) (tb : List ℕ) (st : State) (g : ℕ) (rg : Ra
   all! = p .N * p .Z * capacity p
 
   -- all its live blocks are seen, and the others have enough
-  module _ (s : Seen) (w : Vouched p v st tb g all! s) (is : sealedIn p v 0 (seg g) ≡ true) (long : length (liveBelow p tb g all!) ≤ s .live)
+  module _ (s : Seen) (w : Vouched p v st tb g all! s) (is : sealedIn p v 0 (across p g) ≡ true) (long : length (liveBelow p tb g all!) ≤ s .live)
       (others : (k : ℕ) → k < p .Z → Enough p v tb g (s .live) k) where
-    size : (k : ℕ) → k < p .Z → length (victimOf p (placesIn p tb) (seg k) .live) ≡ length (liveBelow p tb k all!)
+    size : (k : ℕ) → k < p .Z → length (victimOf p (placesIn p tb) (across p k) .live) ≡ length (liveBelow p tb k all!)
     unfolding victimOf
     size k l = ap length (live-all p rg tb k l)
 

@@ -530,7 +530,8 @@ fn any_sealed(p: Params, pointers: &[u8]) -> bool
 {
     let mut g = 0;
     while g < p.Z {
-        if disk_zones::is_sealed(p, pointers, 0, g) {
+        let segment = disk_shape::across(p, g);
+        if disk_zones::is_sealed(p, pointers, 0, segment) {
             return true;
         }
         g += 1;

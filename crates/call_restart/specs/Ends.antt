@@ -5,7 +5,7 @@ use Rattle.spec.specs.Host.{after}
 use Rattle.mem_calls.specs.declared.Check.the-variants.{Pass, Fail}
 use Rattle.spec.specs.declared.Done.{Done}
 use Rattle.spec.specs.Calls.{firstRefusal, Plan, mkPlan, decided, After, mkAfter, cutMemory, outcome}
-use Rattle.spec.specs.Drives.{View, Store, storeView, Disk, storeDisk, storeAll, Seg}
+use Rattle.spec.specs.Drives.{View, Store, storeView, Disk, storeDisk, storeAll}
 use Rattle.spec.specs.Engine.{storeCount, lentBlock, verdict, lentOk, callOn, callDisk}
 use Rattle.spec.specs.Engine.Call.{restart}
 use Rattle.spec.specs.Faults.{pointerFaults, stripeFault, storedBad}
@@ -46,6 +46,7 @@ use mathlib.Core.List.{List, [], _++_, map}
 use mathlib.Core.Path.{_≡_, refl, sym, ap, _∙_, subst}
 use native.Mathlib.Decide.{ℕ-discrete}
 use Rattle.law_checks.specs.Passed.{some-none}
+use Rattle.spec.specs.declared.Seg.{Seg}
 
 -- 01, Restart: what is due, by the missing drives
 unfoldable pub restartDue : Params → View → ℕ → List Segment → List ℕ → Plan

@@ -3,7 +3,7 @@ use Prim.Native.Nat.{ℕ, _≤_, _<_}
 use Rattle.spec.specs.Calls.{Check, ninth, ruled, firstRefusal}
 use Rattle.spec.specs.Calls.Check.{rule, zones}
 use Rattle.spec.specs.Counts.{lastCount}
-use Rattle.spec.specs.Drives.{View, pointerAt, allSegs, Seg, seg, sameSeg}
+use Rattle.spec.specs.Drives.{View, pointerAt, across, allSegs, sameSeg}
 use Rattle.spec.specs.Faults.{pointerFaults, segmentFaults, imageChecks}
 use Rattle.spec.specs.Lists.{only, below, any, keep, isNil, firstOr}
 use Rattle.spec.specs.Lists.Opt.{none, some}
@@ -18,7 +18,7 @@ use Rattle.recover_check.specs.Mends.{names-zone, zone-le, rewrites-is}
 use Rattle.recover_check.specs.declared.Exam.{Exam}
 use Rattle.recover_headers.specs.Lowest.{low-none, low-named, low-le}
 use Rattle.law_basic.specs.Ranges.{and-both}
-use Rattle.law_basic.specs.Segs.{Named, named-lt}
+use Rattle.law_basic.specs.Segs.{Named, number-lt, across-once}
 use Rattle.law_calls.specs.Refusals.{none-left, rule-fails, rule-passes, zones-pass, rule-free, zones-free}
 use Rattle.law_drives.specs.Members.{In, keep-in}
 use Rattle.law_drives.specs.Segs.{segs-in}
@@ -30,6 +30,7 @@ use mathlib.Core.List.{List, [], _∷_}
 use mathlib.Core.Logic.{inl}
 use mathlib.Core.Path.{_≡_, refl, sym, ap, ap₂, _∙_, subst}
 use native.Mathlib.Omega.{arith}
+use Rattle.spec.specs.declared.Seg.{Seg}
 
 -- 01, Refusals: 1, 2 and the write pointers of 9
 unfoldable pub frontChecks : Params → Bool → View → ℕ → List Check
@@ -204,20 +205,20 @@ module _ (p : Params) (gone : ℕ) (gs : List Segment) where
         fine6 : six ≡ false
         fine6 = and-false-right (rewrites p gone gs) (eqb (greatestSerial gs) lastCount) (ne-eqb (greatestSerial gs) lastCount h)
 
-        pub restart-zones-fail : (z : ℕ) → seg z ≡ firstOr (seg (p .Z)) (freeSegs p gs) → p .Z ≤ z → some (Refused 8) ≡ firstRefusal (restChecks p gone gs)
-        restart-zones-fail z e high =
+        pub restart-zones-fail : 0 < p .N → (z : ℕ) → across p z ≡ firstOr (across p (p .Z)) (freeSegs p gs) → p .Z ≤ z → some (Refused 8) ≡ firstRefusal (restChecks p gone gs)
+        restart-zones-fail h0 z e high =
             sym (restart-rest-passed
             ∙ rule-passes 6 six (rule 8 eight ∷ []) fine6
             ∙ rule-fails 8 eight []
             (and-both (rewrites p gone gs) (isNil (freeSegs p gs)) q (empty (freeSegs p gs) (λ g m. free-named g m) e)))
           where
-            empty : (l : List Seg) → ((g : Seg) → In g l → Named p g) → seg z ≡ firstOr (seg (p .Z)) l → isNil l ≡ true
+            empty : (l : List Seg) → ((g : Seg) → In g l → Named p g) → across p z ≡ firstOr (across p (p .Z)) l → isNil l ≡ true
             empty [] f e = unfold isNil in refl
             empty (g ∷ l) f e = absurd (
-                let low : z < p .Z = named-lt p (seg z) (subst (λ (y : Seg). Named p y) (sym (as! e)) (f g (inl refl))) in
+                let low : z < p .Z = number-lt p h0 z (subst (λ (y : Seg). Named p y) (sym (as! e)) (f g (inl refl))) in
                 let bad : ⊥ = omega (arith, low, high) in bad)
               where
-                as! : seg z ≡ firstOr (seg (p .Z)) (g ∷ l) → seg z ≡ g
+                as! : across p z ≡ firstOr (across p (p .Z)) (g ∷ l) → across p z ≡ g
                 as! e = unfold firstOr in e
 
             free-named : (g : Seg) → In g (freeSegs p gs) → Named p g
@@ -226,15 +227,15 @@ module _ (p : Params) (gone : ℕ) (gs : List Segment) where
                 as! : In g (freeSegs p gs) → Named p g
                 as! m = unfold freeSegs in segs-in p g (keep-in (λ h. not (any (λ (x : Segment). sameSeg (x .seg) h) gs)) (allSegs p) g m .0)
 
-        pub restart-zones-suffice : (z : ℕ) → seg z ≡ firstOr (seg (p .Z)) (freeSegs p gs) → z < p .Z → none ≡ firstRefusal (restChecks p gone gs)
-        restart-zones-suffice z e l =
+        pub restart-zones-suffice : 0 < p .N → (z : ℕ) → across p z ≡ firstOr (across p (p .Z)) (freeSegs p gs) → z < p .Z → none ≡ firstRefusal (restChecks p gone gs)
+        restart-zones-suffice h0 z e l =
             sym (restart-rest-passed ∙ rule-passes 6 six (rule 8 eight ∷ []) fine6
             ∙ rule-passes 8 eight [] (and-false-right (rewrites p gone gs) (isNil (freeSegs p gs)) (some! (freeSegs p gs) e)) ∙ none-left)
           where
-            some! : (l : List Seg) → seg z ≡ firstOr (seg (p .Z)) l → isNil l ≡ false
-            some! [] e = absurd (let last : z ≡ p .Z = ap (λ (y : Seg). y .name) (as! e) in let bad : ⊥ = omega arith in bad)
+            some! : (l : List Seg) → across p z ≡ firstOr (across p (p .Z)) l → isNil l ≡ false
+            some! [] e = absurd (let last : z ≡ p .Z = across-once p z (p .Z) h0 (as! e) in let bad : ⊥ = omega arith in bad)
               where
-                as! : seg z ≡ firstOr (seg (p .Z)) [] → seg z ≡ seg (p .Z)
+                as! : across p z ≡ firstOr (across p (p .Z)) [] → across p z ≡ across p (p .Z)
                 as! e = unfold firstOr in e
             some! (g ∷ l) e = unfold isNil in refl
 

@@ -1,8 +1,8 @@
 -- Which segments remain behind a restart's stores, and their serials: as found, but for a rewritten segment, which goes to its new place (01, Restart, 4). Assumes nothing.
 use Prim.Native.Nat.{ℕ, suc, _^_, _<_}
 use Rattle.spec.specs.Counts.{lastCount}
-use Rattle.spec.specs.Drives.{Chunk, noChunk, Zone, View, zoneAt, pointerAt, chunkAt, Store, resetZone, storeView, Disk, storeAll}
-use Rattle.spec.specs.Drives.{allSegs, zoneOn, sealedIn, zeroSpare, headerStores, resetStores, Seg, seg}
+use Rattle.spec.specs.Drives.{Chunk, noChunk, Zone, View, zoneAt, pointerAt, chunkAt, Store, resetZone, storeView, Disk, storeAll, noSeg, zonesIn}
+use Rattle.spec.specs.Drives.{allSegs, zoneOn, sealedIn, zeroSpare, headerStores, resetStores, across}
 use Rattle.spec.specs.Drives.Store.{put, reset}
 use Rattle.spec.specs.Layout.{headerBlock, headerSerial, recordBytes}
 use Rattle.spec.specs.Lists.{any, keep, isNil, flat, firstOr}
@@ -13,7 +13,7 @@ use Rattle.spec.specs.declared.Params.{Params}
 use Rattle.law_basic.specs.Geometry.{Ranged}
 use Rattle.law_basic.specs.Ranges.{Test, test, flat-none, flat-cons}
 use Rattle.law_basic.specs.Ranges.Test.{yes!, no! }
-use Rattle.law_basic.specs.Segs.{seg-other, segs-differ, Named, seg-named, named-lt, zone-on-lt, zone-same}
+use Rattle.law_basic.specs.Segs.{seg-other, segs-differ, across-once, Named, number-lt, seg-named, zone-on-lt, zone-same}
 use Rattle.law_basic.specs.Stores.{storeAll-append}
 use Rattle.recover_segments.specs.Remains.{remainsHere, isLeft, serialOf, Keeps, Serials}
 use Rattle.recover_stores.specs.Refit.{RefitReady}
@@ -50,6 +50,7 @@ use mathlib.Core.Logic.{inl, inr, ⊎-elim}
 use mathlib.Core.Path.{_≡_, refl, sym, ap, _∙_, subst}
 use native.Mathlib.Decide.{ℕ-discrete}
 use native.Mathlib.Omega.{arith}
+use Rattle.spec.specs.declared.Seg.{Seg}
 
 -- ---- resets keep the bytes
 
@@ -89,23 +90,24 @@ unfolding dropStores
 drop-resets p gs d y s m h = let (g, i, j) = flat-in (resetStores p) (freeSegs p gs) s m in segment-resets p g s j
 
 -- a put on another segment's zone
-put-apart : (p : Params) (y z : Seg) (s : Store) (d : ℕ) (b c : List ℕ) → Named p y → Named p z → (z ≡ y → ⊥) → s ≡ put d (zoneOn z d) b c → hitsAt 0 (zoneOn y 0) s ≡ false
-put-apart p y z s d b c hy hz n e =
+put-apart : (p : Params) (y z : Seg) (s : Store) (d : ℕ) (b c : List ℕ) → 0 < p .N → Named p y → Named p z → (z ≡ y → ⊥) → s ≡ put d (zoneOn z d) b c
+    → hitsAt 0 (zoneOn y 0) s ≡ false
+put-apart p y z s d b c h0 hy hz n e =
     ap (hitsAt 0 (zoneOn y 0)) e
-    ∙ (unfold hitsAt in (on-drive (zoneOn z) d 0 (zoneOn y 0) ∙ and-false-right (eqb d 0) (eqb (zoneOn z 0) (zoneOn y 0)) (zone-same p z y 0 hz hy ∙ seg-other z y n)))
+    ∙ (unfold hitsAt in (on-drive (zoneOn z) d 0 (zoneOn y 0) ∙ and-false-right (eqb d 0) (eqb (zoneOn z 0) (zoneOn y 0)) (zone-same p z y 0 h0 hz hy ∙ seg-other z y n)))
 
 -- the rewrite resets the old segment's zones and stores nothing there
-move-resets : (p : Params) (x : Segment) (z : Seg) (n : ℕ) (y : Seg) → Named p z → Named p y → (z ≡ y → ⊥) → Resets 0 (zoneOn y 0) (rewriteStores p x z n)
+move-resets : (p : Params) (x : Segment) (z : Seg) (n : ℕ) (y : Seg) → 0 < p .N → Named p z → Named p y → (z ≡ y → ⊥) → Resets 0 (zoneOn y 0) (rewriteStores p x z n)
 unfolding rewriteStores
-move-resets p x z n y hz hy a s m h =
+move-resets p x z n y h0 hz hy a s m h =
     ⊎-elim (λ i. ⊎-elim (λ j. absurd (clash h (header! j))) (λ j. absurd (clash h (moved! (counted p 0 x) 0 j)))
     (in-append s (headerStores p z n (x .serial)) (movedStripes p x z (counted p 0 x) 0) i))
     (λ i. segment-resets p (x .seg) s i) (in-append s (headerStores p z n (x .serial) ++ movedStripes p x z (counted p 0 x) 0) (resetStores p (x .seg)) m)
   where
     header! : In s (headerStores p z n (x .serial)) → hitsAt 0 (zoneOn y 0) s ≡ false
     header! j =
-        let (d, i, e) = map-in (λ d. put d (zoneOn z d) (headerBlock p d (zoneOn z d) n (x .serial)) zeroSpare) (drivesOf p) s ((unfold headerStores in j)) in
-        put-apart p y z s d (headerBlock p d (zoneOn z d) n (x .serial)) zeroSpare hy hz a e
+        let (d, i, e) = map-in (λ d. put d (zoneOn z d) (headerBlock p d (zonesIn p z) n (x .serial)) zeroSpare) (drivesOf p) s ((unfold headerStores in j)) in
+        put-apart p y z s d (headerBlock p d (zonesIn p z) n (x .serial)) zeroSpare h0 hy hz a e
 
     moved! : (ss : List ℕ) (k : ℕ) → In s (movedStripes p x z ss k) → hitsAt 0 (zoneOn y 0) s ≡ false
     moved! [] k j = absurd ((unfold movedStripes in j))
@@ -115,7 +117,7 @@ move-resets p x z n y hz hy a s m h =
         one i =
             let qs = movedPieces p x t k in
             let (d, w, e) = map-in (λ d. putPiece d (zoneOn z d) (movedOn p qs k d)) (drivesOf p) s ((unfold movedStripe in i)) in
-            put-apart p y z s d (movedOn p qs k d .block) (recordBytes (movedOn p qs k d .rec)) hy hz a (e ∙ (unfold putPiece in refl))
+            put-apart p y z s d (movedOn p qs k d .block) (recordBytes (movedOn p qs k d .rec)) h0 hy hz a (e ∙ (unfold putPiece in refl))
 
 -- ---- the two ends
 
@@ -135,38 +137,38 @@ pub record MovedView (p : Params) (v u : View) (g z : Seg) (n : ℕ) : Type 0 wh
   pub serials-stay : (y : Seg) → Named p y → (y ≡ z → ⊥) → serialOf p u 0 y ≡ serialOf p v 0 y
 
 pub keeps-stays : (p : Params) (v u : View) (fl : List Bool) → Stays p v u → Keeps p v 0 fl → Keeps p u 0 fl
-keeps-stays p v u fl s k = (k .0, λ y hy. k .1 y hy ∙ sym (s .kept-stays (seg y) (seg-named p y hy)))
+keeps-stays p v u fl s k = (k .0, λ y hy. k .1 y hy ∙ sym (s .kept-stays (across p y) (seg-named p y hy)))
 
 pub serials-stays : (p : Params) (v u : View) (ns : List ℕ) → Stays p v u → Serials p v 0 ns → Serials p u 0 ns
-serials-stays p v u ns s k = (k .0, λ y hy. k .1 y hy ∙ sym (s .serial-stays (seg y) (seg-named p y hy)))
+serials-stays p v u ns s k = (k .0, λ y hy. k .1 y hy ∙ sym (s .serial-stays (across p y) (seg-named p y hy)))
 
 -- the arrays, changed in place
-pub keeps-moved : (p : Params) (v u : View) (g z n : ℕ) (fl : List Bool) → MovedView p v u (seg g) (seg z) n → Keeps p v 0 fl → Keeps p u 0 (set (set fl g false) z true)
-keeps-moved p v u g z n fl m k = (omega (arith, k .0, long), λ y hy. go y hy (ℕ-discrete y z) (ℕ-discrete y g))
+pub keeps-moved : (p : Params) (v u : View) (g z n : ℕ) (fl : List Bool) → 0 < p .N → MovedView p v u (across p g) (across p z) n → Keeps p v 0 fl → Keeps p u 0 (set (set fl g false) z true)
+keeps-moved p v u g z n fl h0 m k = (omega (arith, k .0, long), λ y hy. go y hy (ℕ-discrete y z) (ℕ-discrete y g))
   where
     long : length (set (set fl g false) z true) ≡ length fl
     long = length-set (set fl g false) z true ∙ length-set fl g false
 
-    go : (y : ℕ) → y < p .Z → Dec (y ≡ z) → Dec (y ≡ g) → getD (set (set fl g false) z true) y false ≡ remainsHere p u 0 (seg y)
+    go : (y : ℕ) → y < p .Z → Dec (y ≡ z) → Dec (y ≡ g) → getD (set (set fl g false) z true) y false ≡ remainsHere p u 0 (across p y)
     go y hy (yes e) w =
         ap (λ (i : ℕ). getD (set (set fl g false) z true) i false) e
-        ∙ getD-set-same (set fl g false) z true false (omega (arith, named-lt p (seg z) (m .new-low), k .0, length-set fl g false))
-        ∙ sym (m .new-remains) ∙ ap (λ (i : ℕ). remainsHere p u 0 (seg i)) (sym e)
+        ∙ getD-set-same (set fl g false) z true false (omega (arith, number-lt p h0 z (m .new-low), k .0, length-set fl g false))
+        ∙ sym (m .new-remains) ∙ ap (λ (i : ℕ). remainsHere p u 0 (across p i)) (sym e)
     go y hy (no a) (yes e) =
         getD-set-other (set fl g false) z y true false a ∙ ap (λ (i : ℕ). getD (set fl g false) i false) e
-        ∙ getD-set-same fl g false false (omega (arith, named-lt p (seg g) (m .old-low), k .0)) ∙ sym (m .old-drops) ∙ ap (λ (i : ℕ). remainsHere p u 0 (seg i)) (sym e)
+        ∙ getD-set-same fl g false false (omega (arith, number-lt p h0 g (m .old-low), k .0)) ∙ sym (m .old-drops) ∙ ap (λ (i : ℕ). remainsHere p u 0 (across p i)) (sym e)
     go y hy (no a) (no b) =
         getD-set-other (set fl g false) z y true false a ∙ getD-set-other fl g y false false b ∙ k .1 y hy
-        ∙ sym (m .others-stay (seg y) (seg-named p y hy) (λ e. b (ap (λ (i : Seg). i .name) e)) (λ e. a (ap (λ (i : Seg). i .name) e)))
+        ∙ sym (m .others-stay (across p y) (seg-named p y hy) (λ e. b (across-once p y g h0 e)) (λ e. a (across-once p y z h0 e)))
 
-pub serials-moved : (p : Params) (v u : View) (g : Seg) (z n : ℕ) (ns : List ℕ) → MovedView p v u g (seg z) n → Serials p v 0 ns → Serials p u 0 (set ns z n)
-serials-moved p v u g z n ns m k = (omega (arith, k .0, length-set ns z n), λ y hy. go y hy (ℕ-discrete y z))
+pub serials-moved : (p : Params) (v u : View) (g : Seg) (z n : ℕ) (ns : List ℕ) → 0 < p .N → MovedView p v u g (across p z) n → Serials p v 0 ns → Serials p u 0 (set ns z n)
+serials-moved p v u g z n ns h0 m k = (omega (arith, k .0, length-set ns z n), λ y hy. go y hy (ℕ-discrete y z))
   where
-    go : (y : ℕ) → y < p .Z → Dec (y ≡ z) → getD (set ns z n) y 0 ≡ serialOf p u 0 (seg y)
+    go : (y : ℕ) → y < p .Z → Dec (y ≡ z) → getD (set ns z n) y 0 ≡ serialOf p u 0 (across p y)
     go y hy (yes e) =
-        ap (λ (i : ℕ). getD (set ns z n) i 0) e ∙ getD-set-same ns z n 0 (omega (arith, named-lt p (seg z) (m .new-low), k .0))
-        ∙ sym (m .new-serial) ∙ ap (λ (i : ℕ). serialOf p u 0 (seg i)) (sym e)
-    go y hy (no a) = getD-set-other ns z y n 0 a ∙ k .1 y hy ∙ sym (m .serials-stay (seg y) (seg-named p y hy) (λ e. a (ap (λ (i : Seg). i .name) e)))
+        ap (λ (i : ℕ). getD (set ns z n) i 0) e ∙ getD-set-same ns z n 0 (omega (arith, number-lt p h0 z (m .new-low), k .0))
+        ∙ sym (m .new-serial) ∙ ap (λ (i : ℕ). serialOf p u 0 (across p i)) (sym e)
+    go y hy (no a) = getD-set-other ns z y n 0 a ∙ k .1 y hy ∙ sym (m .serials-stay (across p y) (seg-named p y hy) (λ e. a (across-once p y z h0 e)))
 
 -- ---- what the stores leave
 
@@ -197,11 +199,11 @@ module _ (p : Params) (r : Ranged p) (v : View) (sh : Shaped p v) (acc : Accepte
   same-none : Same va
   same-none y hy = (drop-used p r v sh acc y hy, head-a y hy)
 
-  serial-by : (u : View) (y : Seg) → serialOf p u 0 y ≡ headerSerial (headerAt u 0 y)
-  serial-by u y = unfold serialOf in ap (λ (d : ℕ). headerSerial (headerAt u d y)) (low-first p r)
+  serial-by : (u : View) (y : Seg) → serialOf p u 0 y ≡ headerSerial p (headerAt u 0 y)
+  serial-by u y = unfold serialOf in ap (λ (d : ℕ). headerSerial p (headerAt u d y)) (low-first p r)
 
   serial-same : (u : View) (y : Seg) → headerAt u 0 y ≡ headerAt v 0 y → serialOf p u 0 y ≡ serialOf p v 0 y
-  serial-same u y e = serial-by u y ∙ ap headerSerial e ∙ sym (serial-by v y)
+  serial-same u y e = serial-by u y ∙ ap (headerSerial p) e ∙ sym (serial-by v y)
 
   stays-by : (u : View) (b : ℕ) → Tidy p u b → Same u → Stays p v u
   stays-by u b t s = record {
@@ -248,9 +250,9 @@ module _ (p : Params) (r : Ranged p) (v : View) (sh : Shaped p v) (acc : Accepte
 
       head-c : (y : Seg) → Named p y → (y ≡ z0 → ⊥) → headerAt vc 0 y ≡ headerAt v 0 y
       head-c y hy n = head-stays p r va (rewriteStores p x z0 (suc (greatestSerial gs))) y (shaped-a p r v sh acc .sized) hy
-          (move-resets p x z0 (suc (greatestSerial gs)) y hz0 hy (λ e. n (sym e))) ∙ head-a y hy
+          (move-resets p x z0 (suc (greatestSerial gs)) y h0 hz0 hy (λ e. n (sym e))) ∙ head-a y hy
 
-      head-new : headerAt vc 0 z0 ≡ headerBlock p 0 (zoneOn z0 0) (suc (greatestSerial gs)) (x .serial)
+      head-new : headerAt vc 0 z0 ≡ headerBlock p 0 (zonesIn p z0) (suc (greatestSerial gs)) (x .serial)
       unfolding headerAt chunkAt
       head-new = ap (λ (c : Chunk). c .block) (new-header p r v sh acc g hg kg ng oth z0 hz0 fz fit 0 h0)
 
@@ -261,7 +263,7 @@ module _ (p : Params) (r : Ranged p) (v : View) (sh : Shaped p v) (acc : Accepte
         old-drops = by g hg ∙ ap not (eq-eqb (pointerAt vc 0 (zoneOn g 0)) 0 (old-pointer p r v sh acc g hg kg ng oth z0 hz0 fz fit 0 h0));
         new-remains = by z0 hz0
             ∙ ap not (ne-eqb (pointerAt vc 0 (zoneOn z0 0)) 0 (λ z. let a = new-pointer p r v sh acc g hg kg ng oth z0 hz0 fz fit 0 h0 in let bad : ⊥ = omega arith in bad));
-        new-serial = serial-by vc z0 ∙ ap headerSerial head-new ∙ header-serial p 0 (zoneOn z0 0) (suc (greatestSerial gs)) (x .serial) fit;
+        new-serial = serial-by vc z0 ∙ ap (headerSerial p) head-new ∙ header-serial p 0 (zonesIn p z0) (suc (greatestSerial gs)) (x .serial) fit;
         others-stay = λ y hy a b. by y hy
             ∙ sym (zones-used p r va vc y (same-else p r v sh acc g hg kg ng oth z0 hz0 fz fit y hy (λ e. b (sym e)) (λ e. a (sym e))))
             ∙ drop-used p r v sh acc y hy ∙ sym (remain-is p v y);
@@ -337,11 +339,11 @@ module _ (p : Params) (r : Ranged p) (v : View) (sn : RefitReady p v) where
     pub restart-serial-left : greatestSerial (segments p v 0) ≡ lastCount → ⊥
     restart-serial-left = eqb-false (greatestSerial found) lastCount (sym (ap (λ (b : Bool). b && eqb (greatestSerial found) lastCount) due) ∙ sn .sixth)
 
-    module _ (g z : Seg) (eg : g ≡ firstOr (seg (p .Z)) (map (λ (s : Segment). s .seg) (unsealed (segments p v 0)))) (ez : z ≡ firstOr (seg (p .Z)) (freeSegs p (segments p v 0))) where
+    module _ (g z : Seg) (eg : g ≡ firstOr (across p (p .Z)) (map (λ (s : Segment). s .seg) (unsealed (segments p v 0)))) (ez : z ≡ firstOr (across p (p .Z)) (freeSegs p (segments p v 0))) where
       free! : In z (keep (λ y. not (remains p v 0 y)) (allSegs p))
       free! =
           subst (λ (l : List Seg). In z l) (free-are p r v (sn .shaped) (sn .accepted))
-          (subst (λ (y : Seg). In y (freeSegs p found)) (sym ez) (first-in (freeSegs p found) (seg (p .Z)) some!))
+          (subst (λ (y : Seg). In y (freeSegs p found)) (sym ez) (first-in (freeSegs p found) (across p (p .Z)) some!))
 
       pub new-place : Named p z
       new-place = segs-in p z (keep-in (λ y. not (remains p v 0 y)) (allSegs p) z free! .0)
@@ -357,9 +359,9 @@ module _ (p : Params) (r : Ranged p) (v : View) (sn : RefitReady p v) where
           go (loose-one y hy ky ny us oth) = which (test (isWhole p (segmentOf p v 0 y)))
             where
               here : g ≡ y
-              here = eg ∙ ap (λ (l : List Segment). firstOr (seg (p .Z)) (map (λ (s : Segment). s .seg) l)) us ∙ head ∙ seg-is p v 0 y
+              here = eg ∙ ap (λ (l : List Segment). firstOr (across p (p .Z)) (map (λ (s : Segment). s .seg) l)) us ∙ head ∙ seg-is p v 0 y
                 where
-                  head : firstOr (seg (p .Z)) (map (λ (s : Segment). s .seg) (segmentOf p v 0 y ∷ [])) ≡ segmentOf p v 0 y .seg
+                  head : firstOr (across p (p .Z)) (map (λ (s : Segment). s .seg) (segmentOf p v 0 y ∷ [])) ≡ segmentOf p v 0 y .seg
                   head = unfold firstOr in refl
 
               rg : isRagged p (segmentOf p v 0 y) ≡ true
@@ -370,7 +372,7 @@ module _ (p : Params) (r : Ranged p) (v : View) (sn : RefitReady p v) where
               which (no! w) =
                   let n = suc (greatestSerial found) in
                   let e : mends ≡ rewriteStores p (segmentOf p v 0 y) z n =
-                  one! y us ∙ as! ∙ ap (λ (i : Seg). rewriteStores p (segmentOf p v 0 y) i n) (sym (ez ∙ first-any (seg (p .Z)) (seg 0) (freeSegs p found) some!)) in
+                  one! y us ∙ as! ∙ ap (λ (i : Seg). rewriteStores p (segmentOf p v 0 y) i n) (sym (ez ∙ first-any (across p (p .Z)) noSeg (freeSegs p found) some!)) in
                   let fz : remains p v 0 z ≡ false = not-true (remains p v 0 z) (keep-in (λ y. not (remains p v 0 y)) (allSegs p) z free! .1) in
                   let fit : suc (greatestSerial found) < 256 ^ 8 = (let b = serials-small p r v (sn .shaped) in let c = restart-serial-left in omega arith) in
                   subst (λ (i : Seg). MovedView p v (storeAll storeView mends dropped) i z n) (sym here)
@@ -378,7 +380,7 @@ module _ (p : Params) (r : Ranged p) (v : View) (sn : RefitReady p v) where
                   (moved-by p r v (sn .shaped) (sn .accepted) y hy ky ny oth z new-place fz fit (tidy! .0)
                   (subst (λ (l : List Store). Tidy p (storeAll storeView l dropped) (tidy! .0)) e (tidy! .1))))
                 where
-                  as! : mendStores p found (segmentOf p v 0 y) ≡ rewriteStores p (segmentOf p v 0 y) (firstOr (seg 0) (freeSegs p found)) (suc (greatestSerial found))
+                  as! : mendStores p found (segmentOf p v 0 y) ≡ rewriteStores p (segmentOf p v 0 y) (firstOr noSeg (freeSegs p found)) (suc (greatestSerial found))
                   as! = unfold mendStores in rw (w, rg)
 
 -- ---- of drives in bytes

@@ -3,7 +3,7 @@ use Prim.Native.Nat.{ℕ, suc, _≤_, _<_}
 use Rattle.spec.specs.Answers.{kind, isRefused, isCut}
 use Rattle.spec.specs.Calls.{After, mkAfter, cutMemory}
 use Rattle.spec.specs.Counts.{lastCount, aStamp}
-use Rattle.spec.specs.Drives.{View, Store, Disk, storeDisk, storeAll, emptySegs, seg}
+use Rattle.spec.specs.Drives.{View, Store, Disk, storeDisk, storeAll, emptySegs, noSeg}
 use Rattle.spec.specs.Engine.{lentOk, callDisk}
 use Rattle.spec.specs.Engine.Call.{write}
 use Rattle.spec.specs.Lists.{firstOr, isNil}
@@ -81,7 +81,7 @@ pub opened-next : (p : Params) (v : View) (st : State) (n : ℕ) → st .next < 
 unfolding openedBy setOpen
 opened-next p v st n h = go (opens p st)
   where
-    go : (c : Bool) → cond c (setOpen st (firstOr (seg 0) (emptySegs p v)) (suc (st .serial .0))) st .next < n
+    go : (c : Bool) → cond c (setOpen st (firstOr noSeg (emptySegs p v)) (suc (st .serial .0))) st .next < n
     go true = omega arith
     go false = h
 

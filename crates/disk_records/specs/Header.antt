@@ -81,14 +81,14 @@ module _ (ws vs l₀ : List ℕ) (e : length vs ≡ length ws) where
 
 -- ---- the header on zeros
 
-pub header-written : (p : Params) → Ranged p → (d z r c : ℕ) (l : List ℕ)
-    → l ≡ splice (replicate (unitLen p) 0) 0 (bytesOf (headerFields p d z r c)) → l ≡ headerBlock p d z r c ++ zeroSpare
+pub header-written : (p : Params) → Ranged p → (d : ℕ) (zs : List ℕ) (r c : ℕ) (l : List ℕ)
+    → l ≡ splice (replicate (unitLen p) 0) 0 (bytesOf (headerFields p d zs r c)) → l ≡ headerBlock p d zs r c ++ zeroSpare
 unfolding headerBlock padTo zeroSpare unitLen
-header-written p h d z r c l e =
+header-written p h d zs r c l e =
     let n = p .B + spareLen in
-    let bs = bytesOf (headerFields p d z r c) in
+    let bs = bytesOf (headerFields p d zs r c) in
     let k = length bs in
-    let q : n ≡ k + (p .B - k + spareLen) = omega (arith, header-long p d z r c, header-fits p h) in
+    let q : n ≡ k + (p .B - k + spareLen) = omega (arith, header-long p d zs r c, header-fits p h) in
     let z₁ : drop {A = ℕ} k (replicate n 0) ≡ replicate (p .B - k + spareLen) 0 = ap (λ (i : ℕ). drop k (replicate i 0)) q ∙ drop-replicate k (p .B - k + spareLen) in
     e ∙ splice-zero (replicate n 0) bs ∙ ap (λ (x : List ℕ). bs ++ x) (z₁ ∙ sym (replicate-append-replicate (p .B - k) spareLen 0))
     ∙ sym (append-assoc bs (replicate (p .B - k) 0) (replicate spareLen 0))

@@ -2,10 +2,10 @@
 ghost use mathlib.Core.Path.{_≡_};
 ghost use mathlib.Core.Bool.{true};
 ghost use mathlib.Core.List.{_++_};
-ghost use Prim.Native.Nat.{_≤_};
+ghost use Prim.Native.Nat.{_≤_, _<_};
 ghost use lib.ListN.{length};
 ghost use Rattle.spec.specs.Bytes.{field, bytesOf, splice};
-ghost use Rattle.spec.specs.Drives.{chunkOf, zeroSpare};
+ghost use Rattle.spec.specs.Drives.{chunkOf, zonesIn, zeroSpare};
 ghost use Rattle.spec.specs.Faults.{sameChunk};
 ghost use Rattle.spec.specs.Layout.{headerLen, headerBlock, headerSerial, headerCopied, recordBytes, recordOf};
 ghost use Rattle.spec.specs.Lists.{total, zipped};
@@ -13,6 +13,7 @@ ghost use Rattle.spec.specs.Params.{inRange, spareLen, unitLen};
 ghost use Rattle.disk_records.specs.Record.{recVal};
 use spec::Address;
 use spec::Params;
+use spec::Seg;
 use spec::Serial;
 use spec::Stamp;
 
@@ -56,13 +57,14 @@ pub fn write_header(
     dst: &mut [u8],
     p: Params,
     drive: usize,
-    zone: usize,
+    segment: Seg,
     serial: Serial,
     copied: Serial,
 )
-    requires { ⌜ (inRange p ≡ true) × (length (now dst) ≡ unitLen p) ⌝ }
-    ensures { λ _. ⌜ now (dst .exit) ≡ headerBlock p drive zone (serial .0) (copied .0) ++ zeroSpare ⌝ }
+    requires { ⌜ (inRange p ≡ true) × (length (now dst) ≡ unitLen p) × (drive < p .N) ⌝ }
+    ensures { λ _. ⌜ now (dst .exit) ≡ headerBlock p drive (zonesIn p segment) (serial .0) (copied .0) ++ zeroSpare ⌝ }
 {
+    let zone = disk_shape::zone_on(p, segment, drive);
     let values = [
         HEADER as u64,
         VERSION,
@@ -86,15 +88,15 @@ fn matches_header(
     scratch: &mut [u8],
     p: Params,
     drive: usize,
-    zone: usize,
+    segment: Seg,
     serial: Serial,
     copied: Serial,
 ) -> bool
-    requires { ⌜ (inRange p ≡ true) × (length (now src) ≡ unitLen p) × (unitLen p ≤ length (now scratch)) ⌝ }
-    ensures { λ r. ⌜ r ≡ sameChunk (chunkOf p (now (src .entry))) (headerBlock p drive zone (serial .0) (copied .0)) zeroSpare ⌝ }
+    requires { ⌜ (inRange p ≡ true) × (length (now src) ≡ unitLen p) × (unitLen p ≤ length (now scratch)) × (drive < p .N) ⌝ }
+    ensures { λ r. ⌜ r ≡ sameChunk (chunkOf p (now (src .entry))) (headerBlock p drive (zonesIn p segment) (serial .0) (copied .0)) zeroSpare ⌝ }
 {
     let n = disk_shape::unit_len(p);
-    write_header(&mut scratch[..n], p, drive, zone, serial, copied);
+    write_header(&mut scratch[..n], p, drive, segment, serial, copied);
     disk_blocks::same(src, &scratch[..n])
 }
 
@@ -103,15 +105,15 @@ fn is_small_header(
     src: &[u8],
     p: Params,
     drive: usize,
-    zone: usize,
+    segment: Seg,
     serial: Serial,
     copied: Serial,
 ) -> bool
-    requires { ⌜ (inRange p ≡ true) × (length (now src) ≡ unitLen p) × (p .B ≤ 256) ⌝ }
-    ensures { λ r. ⌜ r ≡ sameChunk (chunkOf p (now (src .entry))) (headerBlock p drive zone (serial .0) (copied .0)) zeroSpare ⌝ }
+    requires { ⌜ (inRange p ≡ true) × (length (now src) ≡ unitLen p) × (p .B ≤ 256) × (drive < p .N) ⌝ }
+    ensures { λ r. ⌜ r ≡ sameChunk (chunkOf p (now (src .entry))) (headerBlock p drive (zonesIn p segment) (serial .0) (copied .0)) zeroSpare ⌝ }
 {
     let mut scratch = [0u8; SMALL];
-    matches_header(src, &mut scratch, p, drive, zone, serial, copied)
+    matches_header(src, &mut scratch, p, drive, segment, serial, copied)
 }
 
 // The same for blocks of any length.
@@ -119,15 +121,15 @@ fn is_long_header(
     src: &[u8],
     p: Params,
     drive: usize,
-    zone: usize,
+    segment: Seg,
     serial: Serial,
     copied: Serial,
 ) -> bool
-    requires { ⌜ (inRange p ≡ true) × (length (now src) ≡ unitLen p) ⌝ }
-    ensures { λ r. ⌜ r ≡ sameChunk (chunkOf p (now (src .entry))) (headerBlock p drive zone (serial .0) (copied .0)) zeroSpare ⌝ }
+    requires { ⌜ (inRange p ≡ true) × (length (now src) ≡ unitLen p) × (drive < p .N) ⌝ }
+    ensures { λ r. ⌜ r ≡ sameChunk (chunkOf p (now (src .entry))) (headerBlock p drive (zonesIn p segment) (serial .0) (copied .0)) zeroSpare ⌝ }
 {
     let mut scratch = [0u8; disk_shape::UNIT];
-    matches_header(src, &mut scratch, p, drive, zone, serial, copied)
+    matches_header(src, &mut scratch, p, drive, segment, serial, copied)
 }
 
 // Whether a block with its spare is that header.
@@ -135,30 +137,30 @@ pub fn is_header(
     src: &[u8],
     p: Params,
     drive: usize,
-    zone: usize,
+    segment: Seg,
     serial: Serial,
     copied: Serial,
 ) -> bool
-    requires { ⌜ (inRange p ≡ true) × (length (now src) ≡ unitLen p) ⌝ }
-    ensures { λ r. ⌜ r ≡ sameChunk (chunkOf p (now (src .entry))) (headerBlock p drive zone (serial .0) (copied .0)) zeroSpare ⌝ }
+    requires { ⌜ (inRange p ≡ true) × (length (now src) ≡ unitLen p) × (drive < p .N) ⌝ }
+    ensures { λ r. ⌜ r ≡ sameChunk (chunkOf p (now (src .entry))) (headerBlock p drive (zonesIn p segment) (serial .0) (copied .0)) zeroSpare ⌝ }
 {
     if p.B <= 256 {
-        return is_small_header(src, p, drive, zone, serial, copied);
+        return is_small_header(src, p, drive, segment, serial, copied);
     }
-    is_long_header(src, p, drive, zone, serial, copied)
+    is_long_header(src, p, drive, segment, serial, copied)
 }
 
 // The serials of a header block.
-pub fn header_serial(src: &[u8]) -> Serial
-    requires { ⌜ headerLen ≤ length (now src) ⌝ }
-    ensures { λ r. ⌜ r .0 ≡ headerSerial (now (src .entry)) ⌝ }
+pub fn header_serial(p: Params, src: &[u8]) -> Serial
+    requires { ⌜ headerLen p ≤ length (now src) ⌝ }
+    ensures { λ r. ⌜ r .0 ≡ headerSerial p (now (src .entry)) ⌝ }
 {
     Serial(bits_be::read_be64(src, SERIAL_AT))
 }
 
-pub fn header_copied(src: &[u8]) -> Serial
-    requires { ⌜ headerLen ≤ length (now src) ⌝ }
-    ensures { λ r. ⌜ r .0 ≡ headerCopied (now (src .entry)) ⌝ }
+pub fn header_copied(p: Params, src: &[u8]) -> Serial
+    requires { ⌜ headerLen p ≤ length (now src) ⌝ }
+    ensures { λ r. ⌜ r .0 ≡ headerCopied p (now (src .entry)) ⌝ }
 {
     Serial(bits_be::read_be64(src, COPIED_AT))
 }

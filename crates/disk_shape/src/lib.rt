@@ -6,10 +6,11 @@ ghost use Rattle.spec.specs.Lists.{isMember};
 ghost use Rattle.spec.specs.Params.{between, blockSizes, inRange, parityCount, dataCount, spareLen, perFooter, footers, capacity, unitLen, imageLen, pointersLen};
 ghost use Rattle.spec.specs.Params.{addressesLen, compactLen, inflightLen, placeOf, placeBlock, placeZone, placeDrive, placeByte};
 ghost use Rattle.spec.specs.Layout.{parityDrive, dataDrive, dataPosition, isData, group, compactEntry};
-ghost use Rattle.spec.specs.Drives.{pointerByte, zoneOn, seg};
+ghost use Rattle.spec.specs.Drives.{pointerByte, across, zoneOn};
 ghost use Rattle.spec.specs.Memory.{compactAt, slotByte};
 use spec::Params;
 use spec::Place;
+use spec::Seg;
 
 // 01, What a zone holds: where the fields of a record begin, and its length and so a spare's. Headers are laid out in disk_records.
 pub const ADDRESS_AT: usize = 0;
@@ -308,9 +309,27 @@ pub fn slot_byte(p: Params, slot: usize, drive: usize) -> usize
     (slot * p.N + drive) * p.B
 }
 
-// The zone of a segment on a drive.
-pub fn zone_on(segment: usize, drive: usize) -> usize
-    ensures { λ r. ⌜ r ≡ zoneOn (seg segment) drive ⌝ }
+// The segment with one zone number on every drive.
+pub fn across(p: Params, zone: usize) -> Seg
+    requires { ⌜ inRange p ≡ true ⌝ }
+    requires { ⌜ zone < p .Z ⌝ }
+    ensures { λ r. ⌜ r ≡ across p zone ⌝ }
 {
-    segment
+    let mut zones = [0u32; 8];
+    let mut d = 0;
+    while d < p.N {
+        zones[d] = zone as u32;
+        d += 1;
+    }
+    Seg { zones }
+}
+
+// The zone of a segment on a drive.
+pub fn zone_on(p: Params, segment: Seg, drive: usize) -> usize
+    requires { ⌜ inRange p ≡ true ⌝ }
+    requires { ⌜ drive < p .N ⌝ }
+    ensures { λ r. ⌜ r ≡ zoneOn segment drive ⌝ }
+{
+    let zones = segment.zones;
+    zones[drive] as usize
 }

@@ -4,16 +4,18 @@ ghost use mathlib.Core.Bool.{true};
 ghost use mathlib.Core.List.{List};
 ghost use Prim.Native.Nat.{ℕ, _+_, _≤_, _<_};
 ghost use lib.ListN.{length};
-ghost use Rattle.spec.specs.Drives.{viewOf, mkDisk, zoneAt, dataStored, recordIn, recordAt, placeRecord, seg};
+ghost use Rattle.spec.specs.Drives.{viewOf, mkDisk, zoneAt, dataStored, recordIn, recordAt, placeRecord, zoneOn};
 ghost use Rattle.spec.specs.Faults.{footersStored};
 ghost use Rattle.spec.specs.Params.{inRange, spareLen, perFooter, footers, capacity, unitLen, imageLen, pointersLen, placeOf, placeByte};
 ghost use Rattle.disk_records.specs.Record.{recVal};
 ghost use Rattle.law_views.specs.Views.{Whole};
 ghost use Rattle.disk_stored.specs.Stored.{recordByte, firstByte, together};
 ghost use Rattle.disk_stored.specs.Places.{DataPlace};
+ghost use Rattle.law_basic.specs.Segs.{ZonesLow};
 use disk_records::Record;
 use spec::Params;
 use spec::Place;
+use spec::Seg;
 
 // The byte at which a block begins, given the records of a footer block. It is disk_shape::block_byte, divided in 32 bits, which is quicker.
 fn begins(p: Params, per: u32, drive: usize, zone: usize, block: usize) -> usize
@@ -134,16 +136,16 @@ fn record_at(
     pointers: &[u8],
     gone: u8,
     drive: usize,
-    segment: usize,
+    segment: Seg,
     offset: usize,
 ) -> Record
     requires { ⌜ inRange p ≡ true ⌝ }
     requires { ⌜ Whole p (mkDisk (now image) (now pointers)) ⌝ }
-    requires { ⌜ (drive < p .N) × (segment < p .Z) × (offset < p .S) ⌝ }
-    ensures { λ r. ⌜ recVal r ≡ recordAt p (viewOf p (now (image .entry)) (now (pointers .entry))) gone drive (seg segment) offset ⌝ }
+    requires { ⌜ (drive < p .N) × ZonesLow p gone segment × (offset < p .S) × (zoneOn segment drive < p .Z) ⌝ }
+    ensures { λ r. ⌜ recVal r ≡ recordAt p (viewOf p (now (image .entry)) (now (pointers .entry))) gone drive segment offset ⌝ }
 {
     let full = disk_zones::is_sealed(p, pointers, gone, segment);
-    let zone = disk_shape::zone_on(segment, drive);
+    let zone = disk_shape::zone_on(p, segment, drive);
     record_in(p, image, full, drive, zone, offset)
 }
 
@@ -155,7 +157,7 @@ pub fn place_record(p: Params, image: &[u8], pointers: &[u8], gone: u8, place: P
     ensures { λ r. ⌜ recVal r ≡ placeRecord p (viewOf p (now (image .entry)) (now (pointers .entry))) gone (place .0) ⌝ }
 {
     let drive = disk_shape::place_drive(p, place);
-    let segment = disk_shape::place_zone(p, place);
+    let segment = disk_shape::across(p, disk_shape::place_zone(p, place));
     let offset = disk_shape::place_block(p, place) - 1;
     record_at(p, image, pointers, gone, drive, segment, offset)
 }

@@ -10,7 +10,7 @@ use lib.Dec.{ltb}
 use native.Mathlib.Nat.{add-zero, sub-zero}
 use borrow.Author.Tests.{ltb-true, ltb-false, lt-ltb, le-ltb}
 use Rattle.spec.specs.Bytes.{splice}
-use Rattle.spec.specs.Drives.{Store, Disk, mkDisk, pointerOf, setPointer, storeDisk, storeAll, zoneOn, zeroSpare, Seg}
+use Rattle.spec.specs.Drives.{Store, Disk, mkDisk, pointerOf, setPointer, storeDisk, storeAll, zoneOn, zeroSpare, zonesIn}
 use Rattle.spec.specs.Drives.Store.{put, reset}
 use Rattle.spec.specs.Layout.{headerBlock}
 use Rattle.spec.specs.Lists.{upFrom, below}
@@ -21,6 +21,7 @@ use Rattle.law_basic.specs.Geometry.{Ranged}
 use Rattle.law_basic.specs.Ranges.{upFrom-step, upFrom-end, below-start, length-below}
 use Rattle.law_basic.specs.Stores.{stores-append, stores-cons, stores-zero, stores-nil, stores-all}
 use Rattle.disk_zones.specs.declared.Made.{Made}
+use Rattle.spec.specs.declared.Seg.{Seg}
 
 -- of k stores due under the number n: what is left of it, and whether it was too small
 unfoldable pub madeOf : ℕ → ℕ → Made
@@ -176,13 +177,13 @@ reset-disk p d z im ps ps′ e = ap (mkDisk im) e
 -- ---- the stores of a segment, drive by drive
 
 unfoldable pub headerStore : Params → Seg → ℕ → ℕ → ℕ → Store
-headerStore p g serial copied d = put d (zoneOn g d) (headerBlock p d (zoneOn g d) serial copied) zeroSpare
+headerStore p g serial copied d = put d (zoneOn g d) (headerBlock p d (zonesIn p g) serial copied) zeroSpare
 
 unfoldable pub resetStore : Seg → ℕ → Store
 resetStore g d = reset d (zoneOn g d)
 
 -- a header with its spare fills a block's place
-pub header-unit : (p : Params) → Ranged p → (d z r c : ℕ) → length (headerBlock p d z r c ++ zeroSpare) ≡ unitLen p
+pub header-unit : (p : Params) → Ranged p → (d : ℕ) (zs : List ℕ) (r c : ℕ) → length (headerBlock p d zs r c ++ zeroSpare) ≡ unitLen p
 unfolding unitLen
-header-unit p h d z r c =
-    length-append (headerBlock p d z r c) zeroSpare ∙ ap₂ _+_ (header-block-long p h d z r c) length-zeroSpare
+header-unit p h d zs r c =
+    length-append (headerBlock p d zs r c) zeroSpare ∙ ap₂ _+_ (header-block-long p h d zs r c) length-zeroSpare

@@ -5,7 +5,7 @@ ghost use mathlib.Core.List.{List, [], _∷_};
 ghost use Prim.Native.Nat.{ℕ, _+_, _<_, min};
 ghost use lib.Dec.{eqb};
 ghost use lib.ListN.{length};
-ghost use Rattle.spec.specs.Drives.{viewOf, mkDisk, pointerOf, setPointer, storeDisk, zoneOn, emptySegs, sealedIn, zeroSpare, headerStores, resetStores, seg};
+ghost use Rattle.spec.specs.Drives.{viewOf, mkDisk, pointerOf, setPointer, storeDisk, zoneOn, emptySegs, sealedIn, zeroSpare, headerStores, resetStores, noSeg, zonesIn};
 ghost use Rattle.spec.specs.Drives.Store.{put};
 ghost use Rattle.spec.specs.Layout.{headerBlock};
 ghost use Rattle.spec.specs.Lists.{firstOr, isIn};
@@ -13,7 +13,9 @@ ghost use Rattle.spec.specs.Params.{inRange, spareLen, capacity, imageLen, poin
 ghost use Rattle.law_views.specs.Views.{Whole};
 ghost use Rattle.disk_zones.specs.Empty.{emptyBy};
 ghost use Rattle.disk_zones.specs.Made.{Storing};
+ghost use Rattle.law_basic.specs.Segs.{ZonesLow};
 use spec::Params;
+use spec::Seg;
 use spec::Serial;
 
 // 01, Store count: what is left of the number, and whether it was too small.
@@ -75,13 +77,14 @@ pub fn reset(p: Params, pointers: &mut [u8], drive: usize, zone: usize)
     set_pointer(p, pointers, drive, zone, 0);
 }
 
-// The store of a header, written in its place.
+// The store of a segment's header in a zone, written in its place.
 fn put_header(
     p: Params,
     image: &mut [u8],
     pointers: &mut [u8],
     drive: usize,
     zone: usize,
+    segment: Seg,
     serial: Serial,
     copied: Serial,
 )
@@ -90,13 +93,13 @@ fn put_header(
     requires { ⌜ (drive < p .N) × (zone < p .Z) × (pointerOf p (now pointers) drive zone < capacity p) ⌝ }
     ensures { λ _. ⌜
         mkDisk (now (image .exit)) (now (pointers .exit))
-        ≡ storeDisk p (put drive zone (headerBlock p drive zone (serial .0) (copied .0)) zeroSpare)
+        ≡ storeDisk p (put drive zone (headerBlock p drive (zonesIn p segment) (serial .0) (copied .0)) zeroSpare)
         (mkDisk (now (image .entry)) (now (pointers .entry))) ⌝ }
 {
     let n = pointer(p, pointers, drive, zone);
     let at = disk_shape::block_byte(p, drive, zone, n as usize);
     let end = at + disk_shape::unit_len(p);
-    disk_records::write_header(&mut image[at..end], p, drive, zone, serial, copied);
+    disk_records::write_header(&mut image[at..end], p, drive, segment, serial, copied);
     set_pointer(p, pointers, drive, zone, n + 1);
 }
 
@@ -134,15 +137,15 @@ pub fn header_stores(
     p: Params,
     image: &mut [u8],
     pointers: &mut [u8],
-    segment: usize,
+    segment: Seg,
     serial: Serial,
     copied: Serial,
     count: u64,
 ) -> Made
     requires { ⌜ inRange p ≡ true ⌝ }
     requires { ⌜ Whole p (mkDisk (now image) (now pointers)) ⌝ }
-    requires { ⌜ (segment < p .Z) × ((d : ℕ) → d < p .N → pointerOf p (now pointers) d (zoneOn (seg segment) d) < capacity p) ⌝ }
-    ensures { λ r. ⌜ Storing p count (headerStores p (seg segment) (serial .0) (copied .0)) (mkDisk (now (image .entry)) (now (pointers .entry))) r
+    requires { ⌜ ZonesLow p 0 segment × ((d : ℕ) → d < p .N → pointerOf p (now pointers) d (zoneOn segment d) < capacity p) ⌝ }
+    ensures { λ r. ⌜ Storing p count (headerStores p segment (serial .0) (copied .0)) (mkDisk (now (image .entry)) (now (pointers .entry))) r
         (mkDisk (now (image .exit)) (now (pointers .exit))) ⌝ }
 {
     let mut left = count;
@@ -151,8 +154,8 @@ pub fn header_stores(
         if left == 0 {
             return Made { left: 0, cut: true };
         }
-        let zone = disk_shape::zone_on(segment, d);
-        put_header(p, image, pointers, d, zone, serial, copied);
+        let zone = disk_shape::zone_on(p, segment, d);
+        put_header(p, image, pointers, d, zone, segment, serial, copied);
         left -= 1;
         d += 1;
     }
@@ -160,10 +163,10 @@ pub fn header_stores(
 }
 
 // The resets of a segment, by drive, under a store count; the image is left as it is.
-pub fn reset_stores(p: Params, pointers: &mut [u8], segment: usize, count: u64) -> Made
+pub fn reset_stores(p: Params, pointers: &mut [u8], segment: Seg, count: u64) -> Made
     requires { ⌜ inRange p ≡ true ⌝ }
-    requires { ⌜ (length (now pointers) ≡ pointersLen p) × (segment < p .Z) ⌝ }
-    ensures { λ r. ⌜ ((im : List ℕ) → Storing p count (resetStores p (seg segment)) (mkDisk im (now (pointers .entry))) r (mkDisk im (now (pointers .exit)))) ⌝ }
+    requires { ⌜ (length (now pointers) ≡ pointersLen p) × ZonesLow p 0 segment ⌝ }
+    ensures { λ r. ⌜ ((im : List ℕ) → Storing p count (resetStores p segment) (mkDisk im (now (pointers .entry))) r (mkDisk im (now (pointers .exit)))) ⌝ }
 {
     let mut left = count;
     let mut d = 0;
@@ -171,7 +174,7 @@ pub fn reset_stores(p: Params, pointers: &mut [u8], segment: usize, count: u64) 
         if left == 0 {
             return Made { left: 0, cut: true };
         }
-        let zone = disk_shape::zone_on(segment, d);
+        let zone = disk_shape::zone_on(p, segment, d);
         reset(p, pointers, d, zone);
         left -= 1;
         d += 1;
@@ -180,14 +183,14 @@ pub fn reset_stores(p: Params, pointers: &mut [u8], segment: usize, count: u64) 
 }
 
 // Whether a segment's zones are empty on all drives.
-pub fn is_empty(p: Params, pointers: &[u8], segment: usize) -> bool
+pub fn is_empty(p: Params, pointers: &[u8], segment: Seg) -> bool
     requires { ⌜ inRange p ≡ true ⌝ }
-    requires { ⌜ (length (now pointers) ≡ pointersLen p) × (segment < p .Z) ⌝ }
-    ensures { λ r. ⌜ r ≡ emptyBy p (now (pointers .entry)) (seg segment) ⌝ }
+    requires { ⌜ (length (now pointers) ≡ pointersLen p) × ZonesLow p 0 segment ⌝ }
+    ensures { λ r. ⌜ r ≡ emptyBy p (now (pointers .entry)) segment ⌝ }
 {
     let mut d = 0;
     while d < p.N {
-        let zone = disk_shape::zone_on(segment, d);
+        let zone = disk_shape::zone_on(p, segment, d);
         if pointer(p, pointers, d, zone) != 0 {
             return false;
         }
@@ -209,48 +212,49 @@ pub fn empty_zones(p: Params, pointers: &[u8], most: usize) -> usize
             return n;
         }
         z -= 1;
-        if is_empty(p, pointers, z) {
+        if is_empty(p, pointers, disk_shape::across(p, z)) {
             n += 1;
         }
     }
     n
 }
 
-// 01, Write: the lowest zone empty on all drives; 0 if there is none.
-pub fn lowest_empty(p: Params, pointers: &[u8]) -> usize
+// 01, Write: the segment of the lowest zone empty on all drives; none if there is none.
+pub fn lowest_empty(p: Params, pointers: &[u8]) -> Seg
     requires { ⌜ inRange p ≡ true ⌝ }
     requires { ⌜ length (now pointers) ≡ pointersLen p ⌝ }
-    ensures { λ r. ⌜ ((im : List ℕ) → length im ≡ imageLen p → seg r ≡ firstOr (seg 0) (emptySegs p (viewOf p im (now (pointers .entry))))) ⌝ }
-    ensures { λ r. ⌜ r < p .Z ⌝ }
+    ensures { λ r. ⌜ ((im : List ℕ) → length im ≡ imageLen p → r ≡ firstOr noSeg (emptySegs p (viewOf p im (now (pointers .entry))))) ⌝ }
+    ensures { λ r. ⌜ ZonesLow p 0 r ⌝ }
 {
     let mut z = 0;
     while z < p.Z {
-        if is_empty(p, pointers, z) {
-            return z;
+        let segment = disk_shape::across(p, z);
+        if is_empty(p, pointers, segment) {
+            return segment;
         }
         z += 1;
     }
-    0
+    Seg { zones: [0; 8] }
 }
 
 // Whether a drive is missing or its zone of a segment is full.
-fn is_full(p: Params, pointers: &[u8], gone: u8, segment: usize, drive: usize) -> bool
+fn is_full(p: Params, pointers: &[u8], gone: u8, segment: Seg, drive: usize) -> bool
     requires { ⌜ inRange p ≡ true ⌝ }
-    requires { ⌜ (length (now pointers) ≡ pointersLen p) × (drive < p .N) × (segment < p .Z) ⌝ }
-    ensures { λ r. ⌜ r ≡ (isIn gone drive || eqb (pointerOf p (now (pointers .entry)) drive (zoneOn (seg segment) drive)) (capacity p)) ⌝ }
+    requires { ⌜ (length (now pointers) ≡ pointersLen p) × (drive < p .N) × ZonesLow p gone segment ⌝ }
+    ensures { λ r. ⌜ r ≡ (isIn gone drive || eqb (pointerOf p (now (pointers .entry)) drive (zoneOn segment drive)) (capacity p)) ⌝ }
 {
     if bits_masks::has_drive(gone, drive) {
         return true;
     }
-    let zone = disk_shape::zone_on(segment, drive);
+    let zone = disk_shape::zone_on(p, segment, drive);
     pointer(p, pointers, drive, zone) as usize == disk_shape::capacity(p)
 }
 
 // 01, Restart, 3: whether all present zones of a segment are full.
-pub fn is_sealed(p: Params, pointers: &[u8], gone: u8, segment: usize) -> bool
+pub fn is_sealed(p: Params, pointers: &[u8], gone: u8, segment: Seg) -> bool
     requires { ⌜ inRange p ≡ true ⌝ }
-    requires { ⌜ (length (now pointers) ≡ pointersLen p) × (segment < p .Z) ⌝ }
-    ensures { λ r. ⌜ ((im : List ℕ) → length im ≡ imageLen p → r ≡ sealedIn p (viewOf p im (now (pointers .entry))) gone (seg segment)) ⌝ }
+    requires { ⌜ (length (now pointers) ≡ pointersLen p) × ZonesLow p gone segment ⌝ }
+    ensures { λ r. ⌜ ((im : List ℕ) → length im ≡ imageLen p → r ≡ sealedIn p (viewOf p im (now (pointers .entry))) gone segment) ⌝ }
 {
     let mut d = 0;
     while d < p.N {

@@ -87,15 +87,15 @@ pub length-zeroSpare : length zeroSpare ≡ spareLen
 unfolding zeroSpare
 length-zeroSpare = length-replicate spareLen 0
 
-pub header-long : (p : Params) (d z r c : ℕ) → length (bytesOf (headerFields p d z r c)) ≡ headerLen
+pub header-long : (p : Params) (d : ℕ) (zs : List ℕ) (r c : ℕ) → length (bytesOf (headerFields p d zs r c)) ≡ headerLen p
 unfolding headerFields headerTable headerLen headerWidths widthsOf
-header-long p d z r c = length-bytesOf (headerFields p d z r c)
+header-long p d zs r c = length-bytesOf (headerFields p d zs r c)
 
 -- a block has room for it
-pub header-fits : (p : Params) → Ranged p → headerLen ≤ p .B
+pub header-fits : (p : Params) → Ranged p → headerLen p ≤ p .B
 unfolding headerLen headerWidths headerTable widthsOf total
 header-fits p r = omega (arith, r .block-low)
 
-pub header-block-long : (p : Params) → Ranged p → (d z r c : ℕ) → length (headerBlock p d z r c) ≡ p .B
+pub header-block-long : (p : Params) → Ranged p → (d : ℕ) (zs : List ℕ) (r c : ℕ) → length (headerBlock p d zs r c) ≡ p .B
 unfolding headerBlock
-header-block-long p h d z r c = length-padTo (p .B) (bytesOf (headerFields p d z r c)) (omega (arith, header-long p d z r c, header-fits p h))
+header-block-long p h d zs r c = length-padTo (p .B) (bytesOf (headerFields p d zs r c)) (omega (arith, header-long p d zs r c, header-fits p h))

@@ -278,16 +278,6 @@ all-keep-same q f g i (suc n) h = go (q i) (h i (omega arith) (omega arith)) (al
     go true e r = ap₂ (λ (x y : Bool). x && y) e r
     go false e r = r
 
-pub any-keep-same : (q f g : ℕ → Bool) (i n : ℕ) → ((k : ℕ) → i ≤ k → k < i + n → f k ≡ g k) → any f (keep q (upFrom i n)) ≡ any g (keep q (upFrom i n))
-unfolding keep upFrom consIf any
-any-keep-same q f g i zero h = refl
-any-keep-same q f g i (suc n) h = go (q i) (h i (omega arith) (omega arith)) (any-keep-same q f g (suc i) n (λ k a b. h k (omega arith) (omega arith)))
-  where
-    go : (b : Bool) → f i ≡ g i → any f (keep q (upFrom (suc i) n)) ≡ any g (keep q (upFrom (suc i) n))
-        → any f (consIf b i (keep q (upFrom (suc i) n))) ≡ any g (consIf b i (keep q (upFrom (suc i) n)))
-    go true e r = ap₂ (λ (x y : Bool). x || y) e r
-    go false e r = r
-
 pub length-keep : {A : Type 0} (f : A → Bool) (l : List A) → length (keep f l) ≤ length l
 unfolding keep consIf
 length-keep f [] = omega arith
@@ -511,6 +501,19 @@ module _ (f : ℕ → Bool) (i n : ℕ) where
   pub first-end : n ≤ i → firstOr 0 (keep f (upFrom i (n - i))) ≡ 0
   unfolding firstOr
   first-end h = ap (firstOr 0) (ap (keep f) (upFrom-end i n h) ∙ keep-none f)
+
+-- what the lowest that passes stands for, in the same three cases
+module _ {A : Type 0} (h : ℕ → A) (a : A) (f : ℕ → Bool) (i n : ℕ) where
+  pub made-turn : i < n → f i ≡ true → firstOr a (map h (keep f (upFrom i (n - i)))) ≡ h i
+  unfolding firstOr
+  made-turn k e = ap (λ (l : List ℕ). firstOr a (map h l)) (ap (keep f) (upFrom-step i n k) ∙ keep-hit f i (upFrom (i + 1) (n - (i + 1))) e)
+
+  pub made-pass : i < n → f i ≡ false → firstOr a (map h (keep f (upFrom i (n - i)))) ≡ firstOr a (map h (keep f (upFrom (i + 1) (n - (i + 1)))))
+  made-pass k e = ap (λ (l : List ℕ). firstOr a (map h l)) (ap (keep f) (upFrom-step i n k) ∙ keep-miss f i (upFrom (i + 1) (n - (i + 1))) e)
+
+  pub made-end : n ≤ i → firstOr a (map h (keep f (upFrom i (n - i)))) ≡ a
+  unfolding firstOr
+  made-end k = ap (λ (l : List ℕ). firstOr a (map h l)) (ap (keep f) (upFrom-end i n k) ∙ keep-none f)
 
 -- the lowest of those that pass is one of them
 pub first-passes : (f : ℕ → Bool) (i n : ℕ) → 0 < length (keep f (upFrom i n))

@@ -9,7 +9,7 @@ use native.Mathlib.Omega.{arith}
 use lib.Dec.{leb, ltb, eqb}
 use lib.ListN.{length, getD}
 use Rattle.spec.specs.declared.Params.{Params}
-use Rattle.spec.specs.Drives.{View, zoneAt, pointerAt, sealedIn, Seg, sameSeg, zoneOn}
+use Rattle.spec.specs.Drives.{View, zoneAt, pointerAt, sealedIn, sameSeg, zoneOn}
 use Rattle.spec.specs.Faults.{pointerFaults, headerFault, serialFault, outside, twice, stripeFault, addressFault, footerFault, clashes, segmentFault, segmentFaults, sameBlocks}
 use Rattle.spec.specs.Layout.{inGroupOf, Rec, mkRec}
 use Rattle.spec.specs.Lists.{below, any, keep, isIn, sameList}
@@ -21,6 +21,7 @@ use Rattle.law_drives.specs.Members.{In, in-map, none-in, keep-nil-in, i
 use Rattle.law_drives.specs.Segs.{in-present, length-records, record-at, recs-here, seg-is}
 use Rattle.law_drives.specs.Spots.{InGroups}
 use Rattle.law_drives.specs.Tests.{clash, or-first, or-right, or-neither, false-true}
+use Rattle.spec.specs.declared.Seg.{Seg}
 
 -- nothing is wrong on the drives
 pub record Accepted (p : Params) (v : View) (gone : ℕ) : Type 0 where

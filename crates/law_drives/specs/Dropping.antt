@@ -7,7 +7,7 @@ use borrow.Author.Tests.{eq-eqb, ne-eqb, eqb-false, not-true}
 use native.Mathlib.Omega.{arith}
 use lib.Dec.{eqb}
 use Rattle.spec.specs.declared.Params.{Params}
-use Rattle.spec.specs.Drives.{Zone, View, zoneAt, pointerAt, Store, resetZone, storeView, storeAll, allSegs, zoneOn, resetStores, Seg, sameSeg}
+use Rattle.spec.specs.Drives.{Zone, View, zoneAt, pointerAt, Store, resetZone, storeView, storeAll, allSegs, zoneOn, resetStores, sameSeg, seg}
 use Rattle.spec.specs.Drives.Store.{reset}
 use Rattle.spec.specs.Layout.{headerSerial, headerCopied}
 use Rattle.spec.specs.Lists.{all, any, keep, flat, greatest}
@@ -30,6 +30,7 @@ use Rattle.law_drives.specs.Tables.{remains, in-remaining, remaining-in,
 use Rattle.law_drives.specs.Tests.{clash, same-test, cond-true, cond-false}
 use Rattle.law_drives.specs.Tidy.{usedAt, Tidy}
 use Rattle.law_drives.specs.Zones.{Shaped, zoneStore, hits, zone-after, Room, Within, reset-pointer, Roomy}
+use Rattle.spec.specs.declared.Seg.{Seg}
 
 module _ (p : Params) (r : Ranged p) (v : View) (sh : Shaped p v) (acc : Accepted p v 0) where
   abbrev gs : List Segment
@@ -73,7 +74,7 @@ module _ (p : Params) (r : Ranged p) (v : View) (sh : Shaped p v) (acc : Accepte
   drop-hits e y he hy = as! (hits-flat e (zoneOn y e) (resetStores p) (freeSegs p gs)
       ∙ flat-cong (λ g. hits e (zoneOn y e) (resetStores p g)) (λ g. cond (sameSeg g y) (reset e (zoneOn g e) ∷ []) []) (freeSegs p gs) (λ g m. resets-on p e y g hy (free-low g m) he)
       ∙ ap (flat (λ g. cond (sameSeg g y) (reset e (zoneOn g e) ∷ []) [])) free-are
-      ∙ seg-one p (λ z. not (keeps! z)) (λ g. reset e (zoneOn g e) ∷ []) y hy)
+      ∙ seg-one p (λ z. not (keeps! z)) (λ g. reset e (zoneOn g e) ∷ []) y (omega arith) hy)
     where
       as! : hits e (zoneOn y e) (flat (resetStores p) (freeSegs p gs)) ≡ cond (not (keeps! y)) (reset e (zoneOn y e) ∷ []) []
           → hits e (zoneOn y e) ds ≡ cond (not (keeps! y)) (reset e (zoneOn y e) ∷ []) []
@@ -104,7 +105,7 @@ module _ (p : Params) (r : Ranged p) (v : View) (sh : Shaped p v) (acc : Accepte
       as! e = unfold pointerAt in e
 
   pub drop-roomy : Roomy p v ds
-  drop-roomy d z hd hz = by-seg (λ x. Room p (pointerAt v d x) (hits d x ds)) p d z hz
+  drop-roomy d z hd hz = by-seg (λ x. Room p (pointerAt v d x) (hits d x ds)) p d z hd hz
       (λ y hy. subst (λ (l : List Store). Room p (pointerAt v d (zoneOn y d)) l) (sym (drop-hits d y hd hy)) (go y (not (keeps! y))))
     where
       go : (y : Seg) (c : Bool) → Room p (pointerAt v d (zoneOn y d)) (cond c (reset d (zoneOn y d) ∷ []) [])
@@ -126,7 +127,7 @@ module _ (p : Params) (r : Ranged p) (v : View) (sh : Shaped p v) (acc : Accepte
       (all-in (λ d. not (eqb (pointerAt v d (zoneOn y d)) 0)) (present p 0) (left! q) d (present-all p d hd)))
     where
       left! : keeps! y ≡ true → all (λ d. not (eqb (pointerAt v d (zoneOn y d)) 0)) (present p 0) ≡ true
-      left! q = unfold remains in and-left (all (λ d. not (eqb (pointerAt v d (zoneOn y d)) 0)) (present p 0)) (not (isCopy v (lowDrive p 0) (leftBy1 p v 0) y)) q
+      left! q = unfold remains in and-left (all (λ d. not (eqb (pointerAt v d (zoneOn y d)) 0)) (present p 0)) (not (isCopy p v (lowDrive p 0) (leftBy1 p v 0) y)) q
 
   pub drop-used : (y : Seg) → Named p y → usedAt va y ≡ keeps! y
   drop-used y hy = go (test (keeps! y))
@@ -138,19 +139,19 @@ module _ (p : Params) (r : Ranged p) (v : View) (sh : Shaped p v) (acc : Accepte
   -- ---- serials
 
   abbrev ser : Seg → ℕ
-  ser y = headerSerial (headerAt v 0 y)
+  ser y = headerSerial p (headerAt v 0 y)
 
   abbrev cop : Seg → ℕ
-  cop y = headerCopied (headerAt v 0 y)
+  cop y = headerCopied p (headerAt v 0 y)
 
   in-rem : (y : Seg) → Named p y → keeps! y ≡ true → In y (remaining p v 0)
   in-rem y hy q = in-remaining p v 0 y hy q
 
   ser-is : (y : Seg) → segmentOf p v 0 y .serial ≡ ser y
-  ser-is y = serial-is p v 0 y ∙ ap (λ (x : ℕ). headerSerial (headerAt v x y)) (low-first p r)
+  ser-is y = serial-is p v 0 y ∙ ap (λ (x : ℕ). headerSerial p (headerAt v x y)) (low-first p r)
 
   cop-is : (y : Seg) → segmentOf p v 0 y .copied ≡ cop y
-  cop-is y = copied-is p v 0 y ∙ ap (λ (x : ℕ). headerCopied (headerAt v x y)) (low-first p r)
+  cop-is y = copied-is p v 0 y ∙ ap (λ (x : ℕ). headerCopied p (headerAt v x y)) (low-first p r)
 
   pub kept-less : (y : Seg) → Named p y → keeps! y ≡ true → cop y < ser y
   kept-less y hy q = let a = copied-low p v 0 acc y (in-rem y hy q) in let e = ser-is y in let f = cop-is y in omega arith
@@ -186,13 +187,13 @@ module _ (p : Params) (r : Ranged p) (v : View) (sh : Shaped p v) (acc : Accepte
           as! : In z (keep (λ g. all (λ d. not (eqb (pointerAt v d (zoneOn g d)) 0)) (present p 0)) (allSegs p)) → In z (leftBy1 p v 0)
           as! m = unfold leftBy1 in m
 
-      not-copy : isCopy v (lowDrive p 0) (leftBy1 p v 0) y ≡ false
-      not-copy = not-true (isCopy v (lowDrive p 0) (leftBy1 p v 0) y) (right! a)
+      not-copy : isCopy p v (lowDrive p 0) (leftBy1 p v 0) y ≡ false
+      not-copy = not-true (isCopy p v (lowDrive p 0) (leftBy1 p v 0) y) (right! a)
         where
-          right! : keeps! y ≡ true → not (isCopy v (lowDrive p 0) (leftBy1 p v 0) y) ≡ true
-          right! q = unfold remains in and-right (all (λ d. not (eqb (pointerAt v d (zoneOn y d)) 0)) (present p 0)) (not (isCopy v (lowDrive p 0) (leftBy1 p v 0) y)) q
+          right! : keeps! y ≡ true → not (isCopy p v (lowDrive p 0) (leftBy1 p v 0) y) ≡ true
+          right! q = unfold remains in and-right (all (λ d. not (eqb (pointerAt v d (zoneOn y d)) 0)) (present p 0)) (not (isCopy p v (lowDrive p 0) (leftBy1 p v 0) y)) q
 
-      copy! : (z ≡ y → ⊥) → isCopy v 0 (leftBy1 p v 0) y ≡ true
+      copy! : (z ≡ y → ⊥) → isCopy p v 0 (leftBy1 p v 0) y ≡ true
       copy! n = unfold isCopy in and-both (not (eqb (cop y) 0)) (any (λ h. not (sameSeg h y) && eqb (ser h) (cop y)) (leftBy1 p v 0))
           (ap not (ne-eqb (cop y) 0 (λ x. let c = kept-less z hz b in let bad : ⊥ = omega arith in bad)))
           (in-any (λ h. not (sameSeg h y) && eqb (ser h) (cop y)) (leftBy1 p v 0) z left-in
@@ -200,7 +201,7 @@ module _ (p : Params) (r : Ranged p) (v : View) (sh : Shaped p v) (acc : Accepte
 
       go : Dec (z ≡ y) → ⊥
       go (yes x) = let c = kept-less y hy a in let f : ser z ≡ ser y = ap ser x in let bad : ⊥ = omega arith in bad
-      go (no n) = clash (copy! n) (subst (λ (x : ℕ). isCopy v x (leftBy1 p v 0) y ≡ false) (low-first p r) not-copy)
+      go (no n) = clash (copy! n) (subst (λ (x : ℕ). isCopy p v x (leftBy1 p v 0) y ≡ false) (low-first p r) not-copy)
 
   -- ---- the view is tidy
 
@@ -214,16 +215,16 @@ module _ (p : Params) (r : Ranged p) (v : View) (sh : Shaped p v) (acc : Accepte
   drop-tidy = record {
     pointer-low = λ d z hd hz. low d z hd hz (test (keeps! z));
     together = λ d z hd hz. tog d z hd hz (test (keeps! z));
-    copied-less = λ z hz q. let k = used-kept z hz q in subst (λ (x : List ℕ). headerCopied x < headerSerial x) (hdr z hz k) (kept-less z hz k);
-    serial-known = λ z hz q. let k = used-kept z hz q in subst (λ (x : List ℕ). headerSerial x ≤ greatestSerial gs) (hdr z hz k) (kept-known z hz k);
+    copied-less = λ z hz q. let k = used-kept z hz q in subst (λ (x : List ℕ). headerCopied p x < headerSerial p x) (hdr z hz k) (kept-less z hz k);
+    serial-known = λ z hz q. let k = used-kept z hz q in subst (λ (x : List ℕ). headerSerial p x ≤ greatestSerial gs) (hdr z hz k) (kept-known z hz k);
     serial-once = λ y z hy hz a b e.
         let k = used-kept y hy a in
         let l = used-kept z hz b in
-        kept-once y z hy hz k l (ap headerSerial (hdr y hy k) ∙ e ∙ ap headerSerial (sym (hdr z hz l)));
+        kept-once y z hy hz k l (ap (headerSerial p) (hdr y hy k) ∙ e ∙ ap (headerSerial p) (sym (hdr z hz l)));
     no-copy = λ y z hy hz a b e.
         let k = used-kept y hy a in
         let l = used-kept z hz b in
-        kept-no-copy y z hy hz k l (ap headerCopied (hdr y hy k) ∙ e ∙ ap headerSerial (sym (hdr z hz l)));
+        kept-no-copy y z hy hz k l (ap (headerCopied p) (hdr y hy k) ∙ e ∙ ap (headerSerial p) (sym (hdr z hz l)));
   }
     where
       low : (d : ℕ) (z : Seg) → d < p .N → Named p z → Test (keeps! z) → pointerAt va d (zoneOn z d) ≤ capacity p

@@ -10,7 +10,7 @@ use lib.ListN.{length, getD, take, drop, length-take, length-drop, length-map}
 use lib.Seq.{getD-take, getD-drop}
 use Rattle.spec.specs.declared.Params.{Params}
 use Rattle.spec.specs.Bytes.{part}
-use Rattle.spec.specs.Drives.{Chunk, mkChunk, noChunk, Zone, Store, blocksOf, sparesOf, recordIn, footersOf, zeroSpare, footerStores, Seg, sameSeg, zoneOn}
+use Rattle.spec.specs.Drives.{Chunk, mkChunk, noChunk, Zone, Store, blocksOf, sparesOf, recordIn, footersOf, zeroSpare, footerStores, sameSeg, zoneOn}
 use Rattle.spec.specs.Drives.Store.{put}
 use Rattle.spec.specs.Layout.{recordOf, footerBlock, footerRecord}
 use Rattle.spec.specs.Lists.{upFrom, below, flat}
@@ -27,6 +27,7 @@ use Rattle.law_drives.specs.Range.{capacity-is, capacity-over}
 use Rattle.law_drives.specs.Records.{blocks-at, spares-at}
 use Rattle.law_drives.specs.Tests.{and-false-right, cond-true, cond-false}
 use Rattle.law_drives.specs.Zones.{Bytes, SoundChunk, ZoneOk, hits, Room, Within}
+use Rattle.spec.specs.declared.Seg.{Seg}
 
 -- a list of chunks for each drive, in the zone of one segment
 pub hits-each : (p : Params) (e y : ℕ) (z : ℕ → ℕ) (f : ℕ → List Chunk) → e < p .N
@@ -61,7 +62,7 @@ hits-each p e y z f he =
 -- on a zone of a segment
 pub each-on : (p : Params) (e : ℕ) (y g : Seg) (f : ℕ → List Chunk) → Named p y → Named p g → e < p .N
     → hits e (zoneOn y e) (flat (λ d. map (putAt d (zoneOn g d)) (f d)) (drivesOf p)) ≡ cond (sameSeg g y) (map (putAt e (zoneOn g e)) (f e)) []
-each-on p e y g f hy hg he = hits-each p e (zoneOn y e) (zoneOn g) f he ∙ ap (λ (b : Bool). cond b (map (putAt e (zoneOn g e)) (f e)) []) (zone-same p g y e hg hy)
+each-on p e y g f hy hg he = hits-each p e (zoneOn y e) (zoneOn g) f he ∙ ap (λ (b : Bool). cond b (map (putAt e (zoneOn g e)) (f e)) []) (zone-same p g y e he hg hy)
 
 pub within-each : (p : Params) (z : Seg) (f : ℕ → List Chunk) → Named p z → (s : Store) → In s (flat (λ d. map (putAt d (zoneOn z d)) (f d)) (drivesOf p)) → Within p s
 within-each p z f hz s m =

@@ -6,7 +6,7 @@ use Prim.Native.Nat.{ℕ, _<_}
 use lib.Dec.{leb, ltb, eqb}
 use lib.ListN.{length, getD, length-map}
 use Rattle.spec.specs.declared.Params.{Params}
-use Rattle.spec.specs.Drives.{noChunk, Zone, noZone, View, zoneAt, pointerAt, chunkAt, allSegs, zoneOn, sealedIn, zeroSpare, Seg, sameSeg}
+use Rattle.spec.specs.Drives.{noChunk, Zone, noZone, View, zoneAt, pointerAt, chunkAt, allSegs, zoneOn, sealedIn, zeroSpare, sameSeg, seg, zonesIn}
 use Rattle.spec.specs.Faults.{pointerFaults, sameChunk, headerFault, serialFault, stripeFault, decodedBad, addressFault, footerFaultIn, footerFault, clashes, segmentFault, segmentFaults}
 use Rattle.spec.specs.Layout.{headerBlock, headerSerial, headerCopied}
 use Rattle.spec.specs.Lists.{below, all, any, keep, flat, isIn}
@@ -19,6 +19,7 @@ use Rattle.law_basic.specs.Segs.{Named, zone-on-lt}
 use Rattle.law_drives.specs.Accept.{Accepted, segment-ok}
 use Rattle.law_drives.specs.Members.{In, keep-in, all-cong, any-cong, keep-cong, map-cong, flat-cong, keep-nothing, flat-map, below-in}
 use Rattle.law_drives.specs.Segs.{present-in, remaining-low, zone-by, seg-is, serial-is, copied-is, full-is, segs-in}
+use Rattle.spec.specs.declared.Seg.{Seg}
 
 abbrev pub Agree : Params → ℕ → View → View → Type 0
 Agree p gone v u = (d z : ℕ) → d < p .N → z < p .Z → isIn gone d ≡ false → zoneAt v d z ≡ zoneAt u d z
@@ -88,21 +89,21 @@ module _ (p : Params) (gone : ℕ) (v u : View) (low : In (lowDrive p gone) (pre
   unfolding leftBy1
   left-low g m = segs-in p g (keep-in (λ g. all (λ d. not (eqb (pointerAt v d (zoneOn g d)) 0)) (present p gone)) (allSegs p) g m .0)
 
-  same-copy : (g : Seg) → Named p g → isCopy v (lowDrive p gone) (leftBy1 p v gone) g ≡ isCopy u (lowDrive p gone) (leftBy1 p v gone) g
+  same-copy : (g : Seg) → Named p g → isCopy p v (lowDrive p gone) (leftBy1 p v gone) g ≡ isCopy p u (lowDrive p gone) (leftBy1 p v gone) g
   unfolding isCopy
   same-copy g h =
       let l = lowDrive p gone in
-      ap₂ (λ (x : List ℕ) (y : List ℕ → Bool). not (eqb (headerCopied x) 0) && y x) (same-header g h)
-      (λ i x. any-cong (λ h. not (sameSeg h g) && eqb (headerSerial (headerAt v l h)) (headerCopied x)) (λ h. not (sameSeg h g) && eqb (headerSerial (headerAt u l h)) (headerCopied x))
+      ap₂ (λ (x : List ℕ) (y : List ℕ → Bool). not (eqb (headerCopied p x) 0) && y x) (same-header g h)
+      (λ i x. any-cong (λ h. not (sameSeg h g) && eqb (headerSerial p (headerAt v l h)) (headerCopied p x)) (λ h. not (sameSeg h g) && eqb (headerSerial p (headerAt u l h)) (headerCopied p x))
       (leftBy1 p v gone)
-      (λ h m. ap (λ (y : List ℕ). not (sameSeg h g) && eqb (headerSerial y) (headerCopied x)) (same-header h (left-low h m))) i)
+      (λ h m. ap (λ (y : List ℕ). not (sameSeg h g) && eqb (headerSerial p y) (headerCopied p x)) (same-header h (left-low h m))) i)
 
   pub same-remaining : remaining p v gone ≡ remaining p u gone
   unfolding remaining
   same-remaining =
-      keep-cong (λ g. not (isCopy v (lowDrive p gone) (leftBy1 p v gone) g)) (λ g. not (isCopy u (lowDrive p gone) (leftBy1 p v gone) g))
+      keep-cong (λ g. not (isCopy p v (lowDrive p gone) (leftBy1 p v gone) g)) (λ g. not (isCopy p u (lowDrive p gone) (leftBy1 p v gone) g))
       (leftBy1 p v gone) (λ g m. ap not (same-copy g (left-low g m)))
-      ∙ ap (λ (x : List Seg). keep (λ g. not (isCopy u (lowDrive p gone) x g)) x) same-left
+      ∙ ap (λ (x : List Seg). keep (λ g. not (isCopy p u (lowDrive p gone) x g)) x) same-left
 
   pub same-sealed : (g : Seg) → Named p g → sealedIn p v gone g ≡ sealedIn p u gone g
   unfolding sealedIn
@@ -129,8 +130,8 @@ module _ (p : Params) (gone : ℕ) (v u : View) (low : In (lowDrive p gone) (pre
   unfolding core
   same-core g h = λ i. record {
     seg = (seg-is p v gone g ∙ sym (seg-is p u gone g)) i;
-    serial = (serial-is p v gone g ∙ ap headerSerial (same-header g h) ∙ sym (serial-is p u gone g)) i;
-    copied = (copied-is p v gone g ∙ ap headerCopied (same-header g h) ∙ sym (copied-is p u gone g)) i;
+    serial = (serial-is p v gone g ∙ ap (headerSerial p) (same-header g h) ∙ sym (serial-is p u gone g)) i;
+    copied = (copied-is p v gone g ∙ ap (headerCopied p) (same-header g h) ∙ sym (copied-is p u gone g)) i;
     full = (full-is p v gone g ∙ same-sealed g h ∙ sym (full-is p u gone g)) i;
     zonesBy = [];
     recs = same-recs g h i;
@@ -159,12 +160,12 @@ module _ (p : Params) (gone : ℕ) (v u : View) (low : In (lowDrive p gone) (pre
   unfolding headerFault core
   same-header-fault g h =
       any-cong (λ d. not (sameChunk (getD (getD (segmentOf p v gone g .zonesBy) d noZone .blocks) 0 noChunk)
-      (headerBlock p d (zoneOn (segmentOf p v gone g .seg) d) (segmentOf p v gone g .serial) (segmentOf p v gone g .copied)) zeroSpare))
+      (headerBlock p d (zonesIn p (segmentOf p v gone g .seg)) (segmentOf p v gone g .serial) (segmentOf p v gone g .copied)) zeroSpare))
       (λ d. not (sameChunk (getD (getD (segmentOf p u gone g .zonesBy) d noZone .blocks) 0 noChunk)
-      (headerBlock p d (zoneOn (segmentOf p u gone g .seg) d) (segmentOf p u gone g .serial) (segmentOf p u gone g .copied)) zeroSpare))
+      (headerBlock p d (zonesIn p (segmentOf p u gone g .seg)) (segmentOf p u gone g .serial) (segmentOf p u gone g .copied)) zeroSpare))
       (present p gone)
       (λ d m. ap₂ (λ (x : Zone) (y : Segment). not
-      (sameChunk (getD (x .blocks) 0 noChunk) (headerBlock p d (zoneOn (y .seg) d) (y .serial) (y .copied)) zeroSpare)) (same-zone-by g d h m)
+      (sameChunk (getD (x .blocks) 0 noChunk) (headerBlock p d (zonesIn p (y .seg)) (y .serial) (y .copied)) zeroSpare)) (same-zone-by g d h m)
       (same-core g h))
 
   same-footer-fault : (g : Seg) → Named p g → footerFault p gone (segmentOf p v gone g) ≡ footerFault p gone (segmentOf p u gone g)

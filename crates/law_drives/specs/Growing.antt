@@ -8,7 +8,7 @@ use native.Mathlib.Omega.{arith}
 use lib.Dec.{eqb}
 use lib.ListN.{getD}
 use Rattle.spec.specs.declared.Params.{Params}
-use Rattle.spec.specs.Drives.{noZone, View, zoneAt, pointerAt, zoneOn, sealedIn, Seg, allSegs}
+use Rattle.spec.specs.Drives.{noZone, View, zoneAt, pointerAt, zoneOn, sealedIn, allSegs, seg}
 use Rattle.spec.specs.Layout.{headerSerial, headerCopied, Rec}
 use Rattle.spec.specs.Lists.{below, flat, isIn}
 use Rattle.spec.specs.Params.{capacity, drivesOf}
@@ -22,6 +22,7 @@ use Rattle.law_drives.specs.Segs.{remaining-low, seg-is, serial-is, copi
 use Rattle.law_drives.specs.Settled.{low-first, remains-used, SameZones, zones-header, zones-pointer, zones-used, zones-segment}
 use Rattle.law_drives.specs.Tables.{remains, remaining-is}
 use Rattle.law_drives.specs.Tidy.{usedAt, Tidy}
+use Rattle.spec.specs.declared.Seg.{Seg}
 
 -- a segment without its zones, sealed or not: what the tables see of it
 unfoldable pub slim : Segment → Segment
@@ -77,11 +78,12 @@ module _ (p : Params) (r : Ranged p) (v u : View) (z : Seg) (w : Grows p v u z) 
   grows-tidy s t = record {
     pointer-low = λ d y hd hy. low d y hd hy (segs-differ z y);
     together = λ d y hd hy. tog d y hd hy (segs-differ z y);
-    copied-less = λ y hy q. subst (λ (x : List ℕ). headerCopied x < headerSerial x) (grows-header y hy) (t .copied-less y hy (grows-used y hy ∙ q));
-    serial-known = λ y hy q. subst (λ (x : List ℕ). headerSerial x ≤ s) (grows-header y hy) (t .serial-known y hy (grows-used y hy ∙ q));
+    copied-less = λ y hy q. subst (λ (x : List ℕ). headerCopied p x < headerSerial p x) (grows-header y hy) (t .copied-less y hy (grows-used y hy ∙ q));
+    serial-known = λ y hy q. subst (λ (x : List ℕ). headerSerial p x ≤ s) (grows-header y hy) (t .serial-known y hy (grows-used y hy ∙ q));
     serial-once =
-        λ x y hx hy a b e. t .serial-once x y hx hy (grows-used x hx ∙ a) (grows-used y hy ∙ b) (ap headerSerial (grows-header x hx) ∙ e ∙ ap headerSerial (sym (grows-header y hy)));
-    no-copy = λ x y hx hy a b e. t .no-copy x y hx hy (grows-used x hx ∙ a) (grows-used y hy ∙ b) (ap headerCopied (grows-header x hx) ∙ e ∙ ap headerSerial (sym (grows-header y hy)));
+        λ x y hx hy a b e. t .serial-once x y hx hy (grows-used x hx ∙ a) (grows-used y hy ∙ b) (ap (headerSerial p) (grows-header x hx) ∙ e ∙ ap (headerSerial p) (sym (grows-header y hy)));
+    no-copy =
+        λ x y hx hy a b e. t .no-copy x y hx hy (grows-used x hx ∙ a) (grows-used y hy ∙ b) (ap (headerCopied p) (grows-header x hx) ∙ e ∙ ap (headerSerial p) (sym (grows-header y hy)));
   }
     where
       low : (d : ℕ) (y : Seg) → d < p .N → Named p y → Dec (z ≡ y) → pointerAt u d (zoneOn y d) ≤ capacity p
@@ -130,8 +132,8 @@ module _ (p : Params) (r : Ranged p) (v u : View) (z : Seg) (w : Grows p v u z) 
         here! : slim (segmentOf p v 0 z) ≡ slim (segmentOf p u 0 z)
         here! = unfold slim in λ i. record {
           seg = (seg-is p v 0 z ∙ sym (seg-is p u 0 z)) i;
-          serial = (serial-is p v 0 z ∙ ap headerSerial low-header ∙ sym (serial-is p u 0 z)) i;
-          copied = (copied-is p v 0 z ∙ ap headerCopied low-header ∙ sym (copied-is p u 0 z)) i;
+          serial = (serial-is p v 0 z ∙ ap (headerSerial p) low-header ∙ sym (serial-is p u 0 z)) i;
+          copied = (copied-is p v 0 z ∙ ap (headerCopied p) low-header ∙ sym (copied-is p u 0 z)) i;
           full = false;
           zonesBy = [];
           recs = recs-same i;

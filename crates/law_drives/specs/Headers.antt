@@ -9,13 +9,13 @@ use lib.Dec.{eqb}
 use lib.ListN.{length, getD, set}
 use lib.Seq.{getD-set-same}
 use Rattle.spec.specs.declared.Params.{Params}
-use Rattle.spec.specs.Drives.{Chunk, mkChunk, noChunk, Zone, View, zoneAt, pointerAt, chunkAt, Store, putZone, storeView, storeAll, zoneOn, zeroSpare, headerStores, emptyOnAll}
+use Rattle.spec.specs.Drives.{Chunk, mkChunk, noChunk, Zone, View, zoneAt, pointerAt, chunkAt, Store, putZone, storeView, storeAll, zoneOn, zeroSpare, headerStores, emptyOnAll, zonesIn}
 use Rattle.spec.specs.Drives.Store.{put}
 use Rattle.spec.specs.Layout.{headerBlock}
 use Rattle.spec.specs.Lists.{below}
 use Rattle.spec.specs.Params.{capacity, drivesOf}
 use Rattle.spec.specs.Segments.{headerAt}
-use Rattle.spec.specs.Drives.{Seg, sameSeg}
+use Rattle.spec.specs.Drives.{sameSeg}
 use Rattle.law_basic.specs.Geometry.{Ranged}
 use Rattle.law_basic.specs.Segs.{seg-other, seg-self, segs-differ, Named, zone-on-lt, by-seg}
 use Rattle.law_views.specs.Views.{blocks-long}
@@ -24,6 +24,7 @@ use Rattle.law_drives.specs.Puts.{header-sound, headers-on}
 use Rattle.law_drives.specs.Range.{capacity-over}
 use Rattle.law_drives.specs.Tests.{cond-true, cond-false}
 use Rattle.law_drives.specs.Zones.{Shaped, zoneStore, hits, zone-after, Room, Within, put-pointer, Roomy}
+use Rattle.spec.specs.declared.Seg.{Seg}
 
 -- zones behind headers
 module _ (p : Params) (r : Ranged p) (v : View) (sh : Shaped p v) (g : Seg) (rn cn : ℕ) (hg : Named p g) (em : (d : ℕ) → d < p .N → pointerAt v d (zoneOn g d) ≡ 0) where
@@ -33,14 +34,14 @@ module _ (p : Params) (r : Ranged p) (v : View) (sh : Shaped p v) (g : Seg) (rn 
   abbrev u : View
   u = storeAll storeView hs v
 
-  pub header-zone : (d : ℕ) → d < p .N → zoneAt u d (zoneOn g d) ≡ putZone (headerBlock p d (zoneOn g d) rn cn) zeroSpare (zoneAt v d (zoneOn g d))
+  pub header-zone : (d : ℕ) → d < p .N → zoneAt u d (zoneOn g d) ≡ putZone (headerBlock p d (zonesIn p g) rn cn) zeroSpare (zoneAt v d (zoneOn g d))
   header-zone d hd =
       zone-after p v d (zoneOn g d) hs (sh .sized) hd (zone-on-lt p g d hg)
       ∙ ap (λ (l : List Store). storeAll zoneStore l (zoneAt v d (zoneOn g d)))
-      (headers-on p d g g rn cn hg hg hd ∙ cond-true (sameSeg g g) (put d (zoneOn g d) (headerBlock p d (zoneOn g d) rn cn) zeroSpare ∷ []) [] (seg-self g))
+      (headers-on p d g g rn cn hg hg hd ∙ cond-true (sameSeg g g) (put d (zoneOn g d) (headerBlock p d (zonesIn p g) rn cn) zeroSpare ∷ []) [] (seg-self g))
       ∙ once
     where
-      once : storeAll zoneStore (put d (zoneOn g d) (headerBlock p d (zoneOn g d) rn cn) zeroSpare ∷ []) (zoneAt v d (zoneOn g d)) ≡ putZone (headerBlock p d (zoneOn g d) rn cn) zeroSpare
+      once : storeAll zoneStore (put d (zoneOn g d) (headerBlock p d (zonesIn p g) rn cn) zeroSpare ∷ []) (zoneAt v d (zoneOn g d)) ≡ putZone (headerBlock p d (zonesIn p g) rn cn) zeroSpare
           (zoneAt v d (zoneOn g d))
       once = unfold storeAll zoneStore in refl
 
@@ -48,14 +49,14 @@ module _ (p : Params) (r : Ranged p) (v : View) (sh : Shaped p v) (g : Seg) (rn 
   header-other d y hd hy n =
       zone-after p v d (zoneOn y d) hs (sh .sized) hd (zone-on-lt p y d hy)
       ∙ ap (λ (l : List Store). storeAll zoneStore l (zoneAt v d (zoneOn y d)))
-      (headers-on p d y g rn cn hy hg hd ∙ cond-false (sameSeg g y) (put d (zoneOn g d) (headerBlock p d (zoneOn g d) rn cn) zeroSpare ∷ []) [] (seg-other g y n))
+      (headers-on p d y g rn cn hy hg hd ∙ cond-false (sameSeg g y) (put d (zoneOn g d) (headerBlock p d (zonesIn p g) rn cn) zeroSpare ∷ []) [] (seg-other g y n))
       ∙ nothing
     where
       nothing : storeAll zoneStore [] (zoneAt v d (zoneOn y d)) ≡ zoneAt v d (zoneOn y d)
       nothing = unfold storeAll in refl
 
   pub header-pointer : (d : ℕ) → d < p .N → pointerAt u d (zoneOn g d) ≡ 1
-  header-pointer d hd = at (ap (λ (q : Zone). q .pointer) (header-zone d hd) ∙ put-pointer (headerBlock p d (zoneOn g d) rn cn) zeroSpare (zoneAt v d (zoneOn g d)) ∙ ap suc (as! (em d hd)))
+  header-pointer d hd = at (ap (λ (q : Zone). q .pointer) (header-zone d hd) ∙ put-pointer (headerBlock p d (zonesIn p g) rn cn) zeroSpare (zoneAt v d (zoneOn g d)) ∙ ap suc (as! (em d hd)))
     where
       at : zoneAt u d (zoneOn g d) .pointer ≡ 1 → pointerAt u d (zoneOn g d) ≡ 1
       at e = unfold pointerAt in e
@@ -63,7 +64,7 @@ module _ (p : Params) (r : Ranged p) (v : View) (sh : Shaped p v) (g : Seg) (rn 
       as! : pointerAt v d (zoneOn g d) ≡ 0 → zoneAt v d (zoneOn g d) .pointer ≡ 0
       as! e = unfold pointerAt in e
 
-  pub header-block : headerAt u 0 g ≡ headerBlock p 0 (zoneOn g 0) rn cn
+  pub header-block : headerAt u 0 g ≡ headerBlock p 0 (zonesIn p g) rn cn
   header-block =
       let h0 : 0 < p .N = omega (arith, r .drives-low) in
       at ∙ ap (λ (q : Zone). getD (q .blocks) 0 noChunk .block) (header-zone 0 h0)
@@ -76,31 +77,31 @@ module _ (p : Params) (r : Ranged p) (v : View) (sh : Shaped p v) (g : Seg) (rn 
       as! e = unfold pointerAt in e
 
       back : (q : Zone) → q .pointer ≡ 0 → length (q .blocks) ≡ capacity p
-          → getD (putZone (headerBlock p 0 (zoneOn g 0) rn cn) zeroSpare q .blocks) 0 noChunk .block ≡ headerBlock p 0 (zoneOn g 0) rn cn
-      back q e l = unfold putZone in (ap (λ (x : ℕ). getD (set (q .blocks) x (mkChunk (headerBlock p 0 (zoneOn g 0) rn cn) zeroSpare)) 0 noChunk .block) e
-          ∙ ap (λ (c : Chunk). c .block) (getD-set-same (q .blocks) 0 (mkChunk (headerBlock p 0 (zoneOn g 0) rn cn) zeroSpare) noChunk (let c = capacity-over p r in omega arith)))
+          → getD (putZone (headerBlock p 0 (zonesIn p g) rn cn) zeroSpare q .blocks) 0 noChunk .block ≡ headerBlock p 0 (zonesIn p g) rn cn
+      back q e l = unfold putZone in (ap (λ (x : ℕ). getD (set (q .blocks) x (mkChunk (headerBlock p 0 (zonesIn p g) rn cn) zeroSpare)) 0 noChunk .block) e
+          ∙ ap (λ (c : Chunk). c .block) (getD-set-same (q .blocks) 0 (mkChunk (headerBlock p 0 (zonesIn p g) rn cn) zeroSpare) noChunk (let c = capacity-over p r in omega arith)))
 
   pub header-roomy : Roomy p v hs
-  header-roomy d z hd hz = by-seg (λ x. Room p (pointerAt v d x) (hits d x hs)) p d z hz (λ y hy. go y hy (segs-differ g y))
+  header-roomy d z hd hz = by-seg (λ x. Room p (pointerAt v d x) (hits d x hs)) p d z hd hz (λ y hy. go y hy (segs-differ g y))
     where
       go : (y : Seg) → Named p y → Dec (g ≡ y) → Room p (pointerAt v d (zoneOn y d)) (hits d (zoneOn y d) hs)
       go y hy (no n) = subst (λ (l : List Store). Room p (pointerAt v d (zoneOn y d)) l)
-          (sym (headers-on p d y g rn cn hy hg hd ∙ cond-false (sameSeg g y) (put d (zoneOn g d) (headerBlock p d (zoneOn g d) rn cn) zeroSpare ∷ []) [] (seg-other g y n))) tt
+          (sym (headers-on p d y g rn cn hy hg hd ∙ cond-false (sameSeg g y) (put d (zoneOn g d) (headerBlock p d (zonesIn p g) rn cn) zeroSpare ∷ []) [] (seg-other g y n))) tt
       go y hy (yes e) = subst (λ (x : Seg). Room p (pointerAt v d (zoneOn x d)) (hits d (zoneOn x d) hs)) e
           (subst (λ (l : List Store). Room p (pointerAt v d (zoneOn g d)) l)
-          (sym (headers-on p d g g rn cn hg hg hd ∙ cond-true (sameSeg g g) (put d (zoneOn g d) (headerBlock p d (zoneOn g d) rn cn) zeroSpare ∷ []) [] (seg-self g)))
-          (subst (λ (x : ℕ). Room p x (put d (zoneOn g d) (headerBlock p d (zoneOn g d) rn cn) zeroSpare ∷ [])) (sym (em d hd))
-          (record { room = let c = capacity-over p r in omega arith; fine = header-sound p r d (zoneOn g d) rn cn }, tt)))
+          (sym (headers-on p d g g rn cn hg hg hd ∙ cond-true (sameSeg g g) (put d (zoneOn g d) (headerBlock p d (zonesIn p g) rn cn) zeroSpare ∷ []) [] (seg-self g)))
+          (subst (λ (x : ℕ). Room p x (put d (zoneOn g d) (headerBlock p d (zonesIn p g) rn cn) zeroSpare ∷ [])) (sym (em d hd))
+          (record { room = let c = capacity-over p r in omega arith; fine = header-sound p r d (zonesIn p g) rn cn }, tt)))
 
   pub header-within : (s : Store) → In s hs → Within p s
   header-within s m = go (as! m)
     where
-      as! : In s hs → In s (map (λ d. put d (zoneOn g d) (headerBlock p d (zoneOn g d) rn cn) zeroSpare) (below (p .N)))
+      as! : In s hs → In s (map (λ d. put d (zoneOn g d) (headerBlock p d (zonesIn p g) rn cn) zeroSpare) (below (p .N)))
       as! m = unfold headerStores drivesOf in m
 
-      go : In s (map (λ d. put d (zoneOn g d) (headerBlock p d (zoneOn g d) rn cn) zeroSpare) (below (p .N))) → Within p s
+      go : In s (map (λ d. put d (zoneOn g d) (headerBlock p d (zonesIn p g) rn cn) zeroSpare) (below (p .N))) → Within p s
       go m =
-          let (d, i, e) = map-in (λ d. put d (zoneOn g d) (headerBlock p d (zoneOn g d) rn cn) zeroSpare) (below (p .N)) s m in
+          let (d, i, e) = map-in (λ d. put d (zoneOn g d) (headerBlock p d (zonesIn p g) rn cn) zeroSpare) (below (p .N)) s m in
           subst (λ (x : Store). Within p x) (sym e) (below-in (p .N) d i, zone-on-lt p g d hg)
 
 pub empty-all : (p : Params) (v : View) (g : Seg) → emptyOnAll p v g ≡ true → (d : ℕ) → d < p .N → pointerAt v d (zoneOn g d) ≡ 0

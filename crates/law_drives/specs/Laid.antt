@@ -56,9 +56,9 @@ beOf-low l h = beOf-lt l (λ k x. h k)
 
 -- ---- lengths
 
-pub bytes-header : (p : Params) (d z r c : ℕ) → Bytes (headerBlock p d z r c)
+pub bytes-header : (p : Params) (d : ℕ) (zs : List ℕ) (r c : ℕ) → Bytes (headerBlock p d zs r c)
 unfolding headerBlock
-bytes-header p d z r c = bytes-pad (p .B) (bytesOf (headerFields p d z r c)) (bytes-fields (headerFields p d z r c))
+bytes-header p d zs r c = bytes-pad (p .B) (bytesOf (headerFields p d zs r c)) (bytes-fields (headerFields p d zs r c))
 
 pub bytes-zeroSpare : Bytes zeroSpare
 unfolding zeroSpare
@@ -109,17 +109,17 @@ bytes-footer p ss i h = bytes-pad (p .B) (flat (λ (b : List ℕ). b) (take (per
 
 -- ---- fields are read back
 
-pub header-serial : (p : Params) (d z r c : ℕ) → r < 256 ^ 8 → headerSerial (headerBlock p d z r c) ≡ r
+pub header-serial : (p : Params) (d : ℕ) (zs : List ℕ) (r c : ℕ) → r < 256 ^ 8 → headerSerial p (headerBlock p d zs r c) ≡ r
 unfolding headerSerial headerBlock padTo headerFields headerWidths headerTable widthsOf
-header-serial p d z r c h =
-    let fs = headerFields p d z r c in
-    readField-bytesOf fs serialField (replicate (p .B - length (bytesOf fs)) 0) (lit< tt) h
+header-serial p d zs r c h =
+    let fs = headerFields p d zs r c in
+    readField-bytesOf fs (serialField p) (replicate (p .B - length (bytesOf fs)) 0) (lit< tt) h
 
-pub header-copied : (p : Params) (d z r c : ℕ) → c < 256 ^ 8 → headerCopied (headerBlock p d z r c) ≡ c
+pub header-copied : (p : Params) (d : ℕ) (zs : List ℕ) (r c : ℕ) → c < 256 ^ 8 → headerCopied p (headerBlock p d zs r c) ≡ c
 unfolding headerCopied headerBlock padTo headerFields headerWidths headerTable widthsOf
-header-copied p d z r c h =
-    let fs = headerFields p d z r c in
-    readField-bytesOf fs copiedField (replicate (p .B - length (bytesOf fs)) 0) (lit< tt) h
+header-copied p d zs r c h =
+    let fs = headerFields p d zs r c in
+    readField-bytesOf fs (copiedField p) (replicate (p .B - length (bytesOf fs)) 0) (lit< tt) h
 
 record-field : (r : Rec) (i : ℕ) → i < length (recordFields r) → getD (recordFields r) i noField .value < 256 ^ getD (recordFields r) i noField .width
     → readField recordWidths i (recordBytes r) ≡ getD (recordFields r) i noField .value
@@ -155,13 +155,13 @@ field-low ws i l h =
     let b = beOf-low q (bytes-part (fieldAt ws i) (getD ws i 0) l h) in
     omega arith
 
-pub serial-low : (l : List ℕ) → Bytes l → headerSerial l < 256 ^ 8
+pub serial-low : (p : Params) (l : List ℕ) → Bytes l → headerSerial p l < 256 ^ 8
 unfolding headerSerial headerWidths headerTable widthsOf
-serial-low l h = field-low headerWidths serialField l h
+serial-low p l h = field-low (headerWidths p) (serialField p) l h
 
-pub copied-word-low : (l : List ℕ) → Bytes l → headerCopied l < 256 ^ 8
+pub copied-word-low : (p : Params) (l : List ℕ) → Bytes l → headerCopied p l < 256 ^ 8
 unfolding headerCopied headerWidths headerTable widthsOf
-copied-word-low l h = field-low headerWidths copiedField l h
+copied-word-low p l h = field-low (headerWidths p) (copiedField p) l h
 
 pub address-low : (l : List ℕ) → Bytes l → recordOf l .address < 256 ^ 8
 unfolding recordOf recordWidths recordTable widthsOf

@@ -10,7 +10,7 @@ use lib.Dec.{eqb, lit<}
 use lib.ListN.{getD}
 use Rattle.spec.specs.declared.Params.{Params}
 use Rattle.spec.specs.Counts.{lastCount}
-use Rattle.spec.specs.Drives.{noChunk, View, zoneAt, chunkAt, Store, storeView, storeAll, zoneOn, sealedIn, Seg, seg, allSegs}
+use Rattle.spec.specs.Drives.{noChunk, View, zoneAt, chunkAt, Store, storeView, storeAll, zoneOn, sealedIn, allSegs, noSeg}
 use Rattle.spec.specs.Layout.{headerSerial}
 use Rattle.spec.specs.Lists.{any, keep, isNil, flat, greatest, firstOr}
 use Rattle.spec.specs.Restart.{freeSegs, isWhole, isRagged, missingFooters, rewriteStores, dropStores, mendStores, rewrites}
@@ -33,6 +33,7 @@ use Rattle.law_drives.specs.Tables.{remains}
 use Rattle.law_drives.specs.Unsealed.{Loose, loose}
 use Rattle.law_drives.specs.Unsealed.Loose.{loose-none, loose-one}
 use Rattle.law_drives.specs.Zones.{Bytes, Shaped}
+use Rattle.spec.specs.declared.Seg.{Seg}
 
 -- what is stored behind the resets, in each case
 module _ (p : Params) (r : Ranged p) (v : View) (sh : Shaped p v) (acc : Accepted p v 0) where
@@ -63,7 +64,7 @@ module _ (p : Params) (r : Ranged p) (v : View) (sh : Shaped p v) (acc : Accepte
       ragged! :
           isWhole p (segmentOf p v 0 g) ≡ false
           → isRagged p (segmentOf p v 0 g) ≡ true
-          → mendStores p gs (segmentOf p v 0 g) ≡ rewriteStores p (segmentOf p v 0 g) (firstOr (seg 0) (freeSegs p gs)) (suc (greatestSerial gs))
+          → mendStores p gs (segmentOf p v 0 g) ≡ rewriteStores p (segmentOf p v 0 g) (firstOr noSeg (freeSegs p gs)) (suc (greatestSerial gs))
       ragged! q w = unfold mendStores in rw (q, w)
 
       rewrites! : isRagged p (segmentOf p v 0 g) ≡ true → rewrites p 0 gs ≡ true
@@ -76,8 +77,8 @@ module _ (p : Params) (r : Ranged p) (v : View) (sh : Shaped p v) (acc : Accepte
           let rw! = rewrites! w in
           let n6 : eqb (greatestSerial gs) lastCount ≡ false = sym (ap (λ (b : Bool). b && eqb (greatestSerial gs) lastCount) rw!) ∙ c6 in
           let n8 : isNil (freeSegs p gs) ≡ false = sym (ap (λ (b : Bool). b && isNil (freeSegs p gs)) rw!) ∙ c8 in
-          let z0 = firstOr (seg 0) (freeSegs p gs) in
-          let m : In z0 (keep (λ z. not (remains p v 0 z)) (allSegs p)) = subst (λ (l : List Seg). In z0 l) (free-are p r v sh acc) (first-in (freeSegs p gs) (seg 0) n8) in
+          let z0 = firstOr noSeg (freeSegs p gs) in
+          let m : In z0 (keep (λ z. not (remains p v 0 z)) (allSegs p)) = subst (λ (l : List Seg). In z0 l) (free-are p r v sh acc) (first-in (freeSegs p gs) noSeg n8) in
           let (i, f) = keep-in (λ z. not (remains p v 0 z)) (allSegs p) z0 m in
           let ne : ¬ (greatestSerial gs ≡ lastCount) = eqb-false (greatestSerial gs) lastCount n6 in
           subst (λ (l : List Store). Mended p va l) (sym (ragged! q w))
@@ -109,8 +110,8 @@ serials-small p r v sh = as! (greatest-low (256 ^ 8) (map (λ (g : Segment). g .
     (λ n m.
     let (x, i, e) = map-in (λ (g : Segment). g .serial) (segments p v 0) n m in
     let (z, j, f) = map-in (segmentOf p v 0) (remaining p v 0) x (bs! x i) in
-    subst (λ (k : ℕ). k < 256 ^ 8) (sym (e ∙ ap (λ (y : Segment). y .serial) f ∙ serial-is p v 0 z ∙ ap (λ (k : ℕ). headerSerial (headerAt v k z)) (low-first p r)))
-    (serial-low (headerAt v 0 z) (cs! z (sh .zone-ok 0 (zoneOn z 0) (omega (arith, r .drives-low)) (zone-on-lt p z 0 (remaining-low p v 0 z j)) .sound 0
+    subst (λ (k : ℕ). k < 256 ^ 8) (sym (e ∙ ap (λ (y : Segment). y .serial) f ∙ serial-is p v 0 z ∙ ap (λ (k : ℕ). headerSerial p (headerAt v k z)) (low-first p r)))
+    (serial-low p (headerAt v 0 z) (cs! z (sh .zone-ok 0 (zoneOn z 0) (omega (arith, r .drives-low)) (zone-on-lt p z 0 (remaining-low p v 0 z j)) .sound 0
     (let c = capacity-over p r in omega arith) .block-bytes (inl refl))))))
   where
     as! : greatest (map (λ (g : Segment). g .serial) (segments p v 0)) < 256 ^ 8 → greatestSerial (segments p v 0) < 256 ^ 8

@@ -7,7 +7,7 @@ use native.Mathlib.Nat.{le-of-eq}
 use native.Mathlib.Omega.{arith}
 use lib.ListN.{length, getD}
 use Rattle.spec.specs.declared.Params.{Params}
-use Rattle.spec.specs.Drives.{Chunk, noChunk, Zone, noZone, View, zoneAt, pointerAt, chunkAt, Store, storeView, storeAll, zoneOn, sealedIn, recordIn, footerStores, Seg}
+use Rattle.spec.specs.Drives.{Chunk, noChunk, Zone, noZone, View, zoneAt, pointerAt, chunkAt, Store, storeView, storeAll, zoneOn, sealedIn, recordIn, footerStores}
 use Rattle.spec.specs.Faults.{footersStored}
 use Rattle.spec.specs.Lists.{below, flat}
 use Rattle.spec.specs.Lists.Opt.{some}
@@ -35,6 +35,7 @@ use Rattle.law_drives.specs.Tests.{cond-true, cond-false}
 use Rattle.law_drives.specs.Tidy.{usedAt, Tidy}
 use Rattle.law_drives.specs.Unsealed.{whole-pointer, tidy-steady}
 use Rattle.law_drives.specs.Zones.{Shaped, zoneStore, hits, zone-after, Room, Within, Roomy, shaped-after}
+use Rattle.spec.specs.declared.Seg.{Seg}
 
 -- what the stores behind the resets leave
 pub record Mended (p : Params) (v : View) (ts : List Store) : Type 0 where
@@ -178,7 +179,7 @@ module _ (p : Params) (r : Ranged p) (v : View) (sh : Shaped p v) (acc : Accepte
           as! q = unfold pointerAt in q
 
       b-roomy : Roomy p va ts
-      b-roomy d k hd hk = by-seg (λ n. Room p (pointerAt va d n) (hits d n ts)) p d k hk
+      b-roomy d k hd hk = by-seg (λ n. Room p (pointerAt va d n) (hits d n ts)) p d k hd hk
           (λ y hy. subst (λ (l : List Store). Room p (pointerAt va d (zoneOn y d)) l) (sym (ap (hits d (zoneOn y d)) lack-is ∙ each-on p d y g lack hy hg hd)) (go y (segs-differ g y)))
         where
           fit : Room p (pointerAt va d (zoneOn g d)) (map (putAt d (zoneOn g d)) (lack d))

@@ -11,7 +11,7 @@ use native.Mathlib.Omega.{arith}
 use lib.Dec.{eqb}
 use lib.ListN.{length, getD, length-map}
 use Rattle.spec.specs.declared.Params.{Params}
-use Rattle.spec.specs.Drives.{Chunk, mkChunk, noChunk, Zone, View, zoneAt, pointerAt, Store, storeView, storeAll, zoneOn, zeroSpare, Seg}
+use Rattle.spec.specs.Drives.{Chunk, mkChunk, noChunk, Zone, View, zoneAt, pointerAt, Store, storeView, storeAll, zoneOn, zeroSpare, zonesIn}
 use Rattle.spec.specs.Drives.Store.{put, reset}
 use Rattle.spec.specs.Layout.{headerBlock, Rec, mkRec, recordBytes, footerBlock}
 use Rattle.spec.specs.Lists.{below, flat, isIn}
@@ -35,6 +35,7 @@ use Rattle.law_drives.specs.Spots.{counts-in}
 use Rattle.law_drives.specs.Tables.{remains, remaining-is, seg-row}
 use Rattle.law_drives.specs.Tests.{clash, and-false-left, cond-false, eqb-self}
 use Rattle.law_drives.specs.Zones.{Bytes, SoundChunk, Shaped, hitsAt, zoneStore, hits, zone-after, Room, Within, Roomy}
+use Rattle.spec.specs.declared.Seg.{Seg}
 
 pub counted-low : (p : Params) (gone : ℕ) (g : Segment) → length (counted p gone g) ≤ p .S
 unfolding counted
@@ -89,11 +90,11 @@ module _ (p : Params) (r : Ranged p) (v : View) (sh : Shaped p v) where
     length-lost : length (map pieceChunk lostPieces) ≡ length (counted p gone x)
     length-lost = length-map lostPieces pieceChunk ∙ length-map (counted p gone x) (λ s. pieceOf p gone x s d)
 
-    header-room : Room p 0 (map (putAt d (zoneOn g d)) (mkChunk (headerBlock p d (zoneOn g d) (x .serial) (x .copied)) zeroSpare ∷ []))
-    header-room = room-puts p d (zoneOn g d) 0 (mkChunk (headerBlock p d (zoneOn g d) (x .serial) (x .copied)) zeroSpare ∷ []) (omega (arith, capacity-over p r)) one
+    header-room : Room p 0 (map (putAt d (zoneOn g d)) (mkChunk (headerBlock p d (zonesIn p g) (x .serial) (x .copied)) zeroSpare ∷ []))
+    header-room = room-puts p d (zoneOn g d) 0 (mkChunk (headerBlock p d (zonesIn p g) (x .serial) (x .copied)) zeroSpare ∷ []) (omega (arith, capacity-over p r)) one
       where
-        one : (i : ℕ) → i < 1 → SoundChunk p (0 + i) (getD (mkChunk (headerBlock p d (zoneOn g d) (x .serial) (x .copied)) zeroSpare ∷ []) i noChunk)
-        one zero h = header-sound p r d (zoneOn g d) (x .serial) (x .copied)
+        one : (i : ℕ) → i < 1 → SoundChunk p (0 + i) (getD (mkChunk (headerBlock p d (zonesIn p g) (x .serial) (x .copied)) zeroSpare ∷ []) i noChunk)
+        one zero h = header-sound p r d (zonesIn p g) (x .serial) (x .copied)
         one (suc i) h = absurd (let z : ⊥ = omega arith in z)
 
     pieces-room : Room p 1 (map (putAt d (zoneOn g d)) (map pieceChunk lostPieces))
@@ -123,12 +124,13 @@ module _ (p : Params) (r : Ranged p) (v : View) (sh : Shaped p v) where
     lostEnd = cond (x .full) lostFooters []
 
     unfoldable pub rebuilt-chunks : List Chunk
-    rebuilt-chunks = mkChunk (headerBlock p d (zoneOn g d) (x .serial) (x .copied)) zeroSpare ∷ (map pieceChunk lostPieces ++ lostEnd)
+    rebuilt-chunks = mkChunk (headerBlock p d (zonesIn p g) (x .serial) (x .copied)) zeroSpare ∷ (map pieceChunk lostPieces ++ lostEnd)
 
     pub rebuilt-room : Room p 0 (map (putAt d (zoneOn g d)) rebuilt-chunks)
     unfolding rebuilt-chunks
     rebuilt-room =
-        room-append p d (zoneOn g d) 0 (mkChunk (headerBlock p d (zoneOn g d) (x .serial) (x .copied)) zeroSpare ∷ []) (map (putAt d (zoneOn g d)) (map pieceChunk lostPieces ++ lostEnd)) header-room
+        room-append p d (zoneOn g d) 0 (mkChunk (headerBlock p d (zonesIn p g) (x .serial) (x .copied)) zeroSpare ∷ [])
+        (map (putAt d (zoneOn g d)) (map pieceChunk lostPieces ++ lostEnd)) header-room
         (subst (λ (y : List Store). Room p 1 y) (sym (map-append (putAt d (zoneOn g d)) (map pieceChunk lostPieces) lostEnd))
         (room-append p d (zoneOn g d) 1 (map pieceChunk lostPieces) (map (putAt d (zoneOn g d)) lostEnd) pieces-room (end (x .full))))
       where
@@ -146,14 +148,14 @@ module _ (p : Params) (r : Ranged p) (v : View) (sh : Shaped p v) where
       let qs = map (λ s. pieceOf p gone x s d) (counted p gone x) in
       let ss = map (λ (q : Piece). recordBytes (q .rec)) qs in
       let z = zoneOn g d in
-      ap (λ (k : Seg). let y = zoneOn k d in put d y (headerBlock p d y (x .serial) (x .copied)) zeroSpare ∷
+      ap (λ (k : Seg). let y = zoneOn k d in put d y (headerBlock p d (zonesIn p k) (x .serial) (x .copied)) zeroSpare ∷
       (map (putPiece d y) qs ++ cond (x .full) (map (λ i. put d y (footerBlock p ss i) zeroSpare) (below (footers p))) []))
       (seg-is p v gone g)
-      ∙ ap₂ (λ (y k : List Store). put d (zoneOn g d) (headerBlock p d (zoneOn g d) (x .serial) (x .copied)) zeroSpare ∷ (y ++ k)) (put-pieces d (zoneOn g d) qs) (end d z ss (x .full))
-      ∙ first d z (headerBlock p d (zoneOn g d) (x .serial) (x .copied))
+      ∙ ap₂ (λ (y k : List Store). put d (zoneOn g d) (headerBlock p d (zonesIn p g) (x .serial) (x .copied)) zeroSpare ∷ (y ++ k)) (put-pieces d (zoneOn g d) qs) (end d z ss (x .full))
+      ∙ first d z (headerBlock p d (zonesIn p g) (x .serial) (x .copied))
       (map (putAt d (zoneOn g d)) (map pieceChunk qs) ++ map (putAt d (zoneOn g d))
       (cond (x .full) (map (λ i. mkChunk (footerBlock p ss i) zeroSpare) (below (footers p))) []))
-      ∙ ap (λ (y : List Store). putAt d (zoneOn g d) (mkChunk (headerBlock p d (zoneOn g d) (x .serial) (x .copied)) zeroSpare) ∷ y)
+      ∙ ap (λ (y : List Store). putAt d (zoneOn g d) (mkChunk (headerBlock p d (zonesIn p g) (x .serial) (x .copied)) zeroSpare) ∷ y)
       (sym (map-append (putAt d (zoneOn g d)) (map pieceChunk qs) (cond (x .full) (map (λ i. mkChunk (footerBlock p ss i) zeroSpare) (below (footers p))) [])))
     where
       first : (d g : ℕ) (b : List ℕ) (l : List Store) → (put d g b zeroSpare ∷ l) ≡ (putAt d g (mkChunk b zeroSpare) ∷ l)
@@ -201,7 +203,7 @@ module _ (p : Params) (r : Ranged p) (v : View) (sh : Shaped p v) where
         ∙ flat-cong (λ g. hits d y (rebuiltZone p d (segmentOf p v (named d) g))) (λ g. cond (eqb (zoneOn g d) y) (rebuiltZone p d (segmentOf p v (named d) g)) []) (remaining p v (named d))
         (λ g m. zone-hits d y g (remaining-low p v (named d) g m) ∙ ap (λ (b : Bool). cond (b && eqb (zoneOn g d) y) (rebuiltZone p d (segmentOf p v (named d) g)) []) (eqb-self d))
         ∙ ap (flat (λ g. cond (eqb (zoneOn g d) y) (rebuiltZone p d (segmentOf p v (named d) g)) [])) (remaining-is p v (named d))
-        ∙ seg-row p (remains p v (named d)) (λ g. rebuiltZone p d (segmentOf p v (named d) g)) d z hz)
+        ∙ seg-row p (remains p v (named d)) (λ g. rebuiltZone p d (segmentOf p v (named d) g)) d z hd hz)
 
     hits-off : (e z : ℕ) → eqb d e ≡ false → hits e z stores ≡ []
     unfolding rebuildStores segments
@@ -229,7 +231,7 @@ module _ (p : Params) (r : Ranged p) (v : View) (sh : Shaped p v) where
         go : Dec (d ≡ e) → Room p (pointerAt v e z) (hits e z stores)
         go (no n) = subst (λ (l : List Store). Room p (pointerAt v e z) l) (sym (hits-off e z (ne-eqb d e n))) tt
         go (yes n) = subst (λ (x : ℕ). Room p (pointerAt v x z) (hits x z stores)) n
-            (by-seg (λ x. Room p (pointerAt v d x) (hits d x stores)) p d z hz
+            (by-seg (λ x. Room p (pointerAt v d x) (hits d x stores)) p d z hd hz
             (λ g hg. subst (λ (l : List Store). Room p (pointerAt v d (zoneOn g d)) l) (sym (hits-here g hg)) (zone-room g hg (remains p v (named d) g))))
 
     pub rebuild-within : (s : Store) → In s stores → Within p s

@@ -7,7 +7,7 @@ use borrow.Author.Tests.{eq-eqb}
 use native.Mathlib.Omega.{arith}
 use lib.Dec.{eqb}
 use Rattle.spec.specs.declared.Params.{Params}
-use Rattle.spec.specs.Drives.{Zone, View, zoneAt, pointerAt, Store, resetZone, storeView, storeAll, zoneOn, resetStores, Seg, sameSeg}
+use Rattle.spec.specs.Drives.{Zone, View, zoneAt, pointerAt, Store, resetZone, storeView, storeAll, zoneOn, resetStores, sameSeg}
 use Rattle.spec.specs.Drives.Store.{reset}
 use Rattle.spec.specs.Layout.{headerSerial, headerCopied}
 use Rattle.spec.specs.Lists.{below}
@@ -23,6 +23,7 @@ use Rattle.law_drives.specs.Settled.{SameZones, zones-header, zones-poin
 use Rattle.law_drives.specs.Tests.{clash, cond-true, cond-false}
 use Rattle.law_drives.specs.Tidy.{usedAt, Tidy}
 use Rattle.law_drives.specs.Zones.{Shaped, zoneStore, hits, zone-after, Room, Within, reset-pointer, Roomy}
+use Rattle.spec.specs.declared.Seg.{Seg}
 
 module _ (p : Params) (r : Ranged p) (v : View) (sh : Shaped p v) (g : Seg) (hg : Named p g) where
   abbrev rs : List Store
@@ -85,16 +86,16 @@ module _ (p : Params) (r : Ranged p) (v : View) (sh : Shaped p v) (g : Seg) (hg 
   reset-tidy s t = record {
     pointer-low = λ d z hd hz. low d z hd hz (segs-differ g z);
     together = λ d z hd hz. tog d z hd hz (segs-differ g z);
-    copied-less = λ z hz q. let (n, w) = reset-was z hz q in subst (λ (x : List ℕ). headerCopied x < headerSerial x) (hdr z hz n) (t .copied-less z hz w);
-    serial-known = λ z hz q. let (n, w) = reset-was z hz q in subst (λ (x : List ℕ). headerSerial x ≤ s) (hdr z hz n) (t .serial-known z hz w);
+    copied-less = λ z hz q. let (n, w) = reset-was z hz q in subst (λ (x : List ℕ). headerCopied p x < headerSerial p x) (hdr z hz n) (t .copied-less z hz w);
+    serial-known = λ z hz q. let (n, w) = reset-was z hz q in subst (λ (x : List ℕ). headerSerial p x ≤ s) (hdr z hz n) (t .serial-known z hz w);
     serial-once = λ y z hy hz a b e.
         let (n, w) = reset-was y hy a in
         let (n′, w′) = reset-was z hz b in
-        t .serial-once y z hy hz w w′ (ap headerSerial (hdr y hy n) ∙ e ∙ ap headerSerial (sym (hdr z hz n′)));
+        t .serial-once y z hy hz w w′ (ap (headerSerial p) (hdr y hy n) ∙ e ∙ ap (headerSerial p) (sym (hdr z hz n′)));
     no-copy = λ y z hy hz a b e.
         let (n, w) = reset-was y hy a in
         let (n′, w′) = reset-was z hz b in
-        t .no-copy y z hy hz w w′ (ap headerCopied (hdr y hy n) ∙ e ∙ ap headerSerial (sym (hdr z hz n′)));
+        t .no-copy y z hy hz w w′ (ap (headerCopied p) (hdr y hy n) ∙ e ∙ ap (headerSerial p) (sym (hdr z hz n′)));
   }
     where
       h0 : 0 < p .N

@@ -11,8 +11,8 @@ use native.Mathlib.Omega.{arith}
 use lib.Dec.{ltb, eqb}
 use lib.ListN.{length, getD, length-map}
 use Rattle.spec.specs.declared.Params.{Params}
-use Rattle.spec.specs.Drives.{Chunk, mkChunk, noChunk, Zone, View, zoneAt, pointerAt, chunkAt, Store, resetZone, storeView, storeAll, zoneOn, sealedIn}
-use Rattle.spec.specs.Drives.{dataStored, recordIn, zeroSpare, headerStores, resetStores, Seg, sameSeg}
+use Rattle.spec.specs.Drives.{Chunk, mkChunk, noChunk, Zone, View, zoneAt, pointerAt, chunkAt, Store, resetZone, storeView, storeAll, zoneOn, sealedIn, zonesIn}
+use Rattle.spec.specs.Drives.{dataStored, recordIn, zeroSpare, headerStores, resetStores, sameSeg}
 use Rattle.spec.specs.Drives.Store.{put, reset}
 use Rattle.spec.specs.Layout.{dataDrive, dataPosition, isData, parityPosition, dataDrives, headerBlock, headerSerial, headerCopied, Rec, mkRec, recordBytes, recordOf}
 use Rattle.spec.specs.Lists.{upFrom, below, all, consIf, keep}
@@ -49,6 +49,7 @@ use Rattle.law_drives.specs.Tests.{clash, not-so, cond-true, cond-false,
 use Rattle.law_drives.specs.Tidy.{spareAt, usedAt, Tidy}
 use Rattle.law_drives.specs.Zones.{SoundChunk, Shaped, hitsAt, zoneStore, hits, zone-after, Room, Within, reset-pointer, Roomy}
 use Rattle.law_drives.specs.Puts.{resets-on, headers-on}
+use Rattle.spec.specs.declared.Seg.{Seg}
 
 keep-firsts : (c i n : ℕ) → i ≤ c → c ≤ i + n → keep (λ s. ltb s c) (upFrom i n) ≡ upFrom i (c - i)
 unfolding keep consIf upFrom
@@ -198,7 +199,7 @@ module _ (p : Params) (r : Ranged p) (v : View) (sh : Shaped p v) (acc : Accepte
   hits-moved e y (s ∷ ss) k he hy =
       hits-append e (zoneOn y e) (movedStripe p x z0 s k) (movedStripes p x z0 ss (suc k))
       ∙ ap₂ _++_ (one ∙ hits-drives p e (zoneOn y e) (zoneOn z0) (λ d. putPiece d (zoneOn z0 d) (on s k d)) hit he
-      ∙ ap (λ (b : Bool). cond b (putPiece e (zoneOn z0 e) (on s k e) ∷ []) []) (zone-same p z0 y e hz0 hy))
+      ∙ ap (λ (b : Bool). cond b (putPiece e (zoneOn z0 e) (on s k e) ∷ []) []) (zone-same p z0 y e he hz0 hy))
       (hits-moved e y ss (suc k) he hy)
       ∙ join (sameSeg z0 y)
     where
@@ -224,7 +225,7 @@ module _ (p : Params) (r : Ranged p) (v : View) (sh : Shaped p v) (acc : Accepte
   vc = storeAll storeView ts va
 
   lay : ℕ → List Chunk
-  lay e = mkChunk (headerBlock p e (zoneOn z0 e) sn (x .serial)) zeroSpare ∷ movedChunks e cs 0
+  lay e = mkChunk (headerBlock p e (zonesIn p z0) sn (x .serial)) zeroSpare ∷ movedChunks e cs 0
 
   ts-hits : (e : ℕ) (y : Seg) → e < p .N → Named p y → hits e (zoneOn y e) ts ≡ cond (sameSeg z0 y) (map (putAt e (zoneOn z0 e)) (lay e)) [] ++ cond (sameSeg g y)
       (reset e (zoneOn g e) ∷ []) []
@@ -236,16 +237,16 @@ module _ (p : Params) (r : Ranged p) (v : View) (sh : Shaped p v) (acc : Accepte
     where
       as! :
           hits e (zoneOn y e) ((headerStores p z0 sn (x .serial) ++ movedStripes p x z0 cs 0) ++ resetStores p (x .seg))
-          ≡ cond (sameSeg z0 y) (map (putAt e (zoneOn z0 e)) (mkChunk (headerBlock p e (zoneOn z0 e) sn (x .serial)) zeroSpare ∷ movedChunks e cs 0)) [] ++ cond (sameSeg g y)
+          ≡ cond (sameSeg z0 y) (map (putAt e (zoneOn z0 e)) (mkChunk (headerBlock p e (zonesIn p z0) sn (x .serial)) zeroSpare ∷ movedChunks e cs 0)) [] ++ cond (sameSeg g y)
           (reset e (zoneOn g e) ∷ []) []
-          → hits e (zoneOn y e) ts ≡ cond (sameSeg z0 y) (map (putAt e (zoneOn z0 e)) (mkChunk (headerBlock p e (zoneOn z0 e) sn (x .serial)) zeroSpare ∷ movedChunks e cs 0)) [] ++ cond
+          → hits e (zoneOn y e) ts ≡ cond (sameSeg z0 y) (map (putAt e (zoneOn z0 e)) (mkChunk (headerBlock p e (zonesIn p z0) sn (x .serial)) zeroSpare ∷ movedChunks e cs 0)) [] ++ cond
           (sameSeg g y) (reset e (zoneOn g e) ∷ []) []
       as! q = unfold rewriteStores in q
 
       join :
           (b : Bool)
-          → cond b (put e (zoneOn z0 e) (headerBlock p e (zoneOn z0 e) sn (x .serial)) zeroSpare ∷ []) [] ++ cond b (map (putAt e (zoneOn z0 e)) (movedChunks e cs 0)) [] ≡ cond b
-          (map (putAt e (zoneOn z0 e)) (mkChunk (headerBlock p e (zoneOn z0 e) sn (x .serial)) zeroSpare ∷ movedChunks e cs 0)) []
+          → cond b (put e (zoneOn z0 e) (headerBlock p e (zonesIn p z0) sn (x .serial)) zeroSpare ∷ []) [] ++ cond b (map (putAt e (zoneOn z0 e)) (movedChunks e cs 0)) [] ≡ cond b
+          (map (putAt e (zoneOn z0 e)) (mkChunk (headerBlock p e (zonesIn p z0) sn (x .serial)) zeroSpare ∷ movedChunks e cs 0)) []
       join true = unfold putAt in refl
       join false = refl
 
@@ -295,7 +296,7 @@ module _ (p : Params) (r : Ranged p) (v : View) (sh : Shaped p v) (acc : Accepte
       go zero h = first!
         where
           first! : SoundChunk p 0 (getD (lay e) 0 noChunk)
-          first! = unfold lay in header-sound p r e (zoneOn z0 e) sn (x .serial)
+          first! = unfold lay in header-sound p r e (zonesIn p z0) sn (x .serial)
       go (suc i) h =
           let l : i < c = (let a = lay-count e in omega arith) in
           let (b, q, f, lb, st) = lay-at e i he l in
@@ -304,7 +305,7 @@ module _ (p : Params) (r : Ranged p) (v : View) (sh : Shaped p v) (acc : Accepte
           (subst (λ (y : Chunk). SoundChunk p (suc i) y) (sym f) (data-sound p (suc i) b q (omega arith) (let k = c-low in omega arith) lb))
 
   rewrite-roomy : Roomy p va ts
-  rewrite-roomy e k he hk = by-seg (λ n. Room p (pointerAt va e n) (hits e n ts)) p e k hk (λ y hy. go y hy (segs-differ z0 y) (segs-differ g y))
+  rewrite-roomy e k he hk = by-seg (λ n. Room p (pointerAt va e n) (hits e n ts)) p e k he hk (λ y hy. go y hy (segs-differ z0 y) (segs-differ g y))
     where
       go : (y : Seg) → Named p y → Dec (z0 ≡ y) → Dec (g ≡ y) → Room p (pointerAt va e (zoneOn y e)) (hits e (zoneOn y e) ts)
       go y hy (yes a) b =
@@ -430,19 +431,19 @@ module _ (p : Params) (r : Ranged p) (v : View) (sh : Shaped p v) (acc : Accepte
       as! s w = unfold recordIn pieceChunk in ap (λ (y : Chunk). recordOf (y .spare)) w
 
   -- its header, on each drive
-  pub new-header : (e : ℕ) → e < p .N → getD (zoneAt vc e (zoneOn z0 e) .blocks) 0 noChunk ≡ mkChunk (headerBlock p e (zoneOn z0 e) sn (x .serial)) zeroSpare
+  pub new-header : (e : ℕ) → e < p .N → getD (zoneAt vc e (zoneOn z0 e) .blocks) 0 noChunk ≡ mkChunk (headerBlock p e (zonesIn p z0) sn (x .serial)) zeroSpare
   new-header e he = new-block e 0 he (let a = lay-count e in omega arith) ∙ first!
     where
-      first! : getD (lay e) 0 noChunk ≡ mkChunk (headerBlock p e (zoneOn z0 e) sn (x .serial)) zeroSpare
+      first! : getD (lay e) 0 noChunk ≡ mkChunk (headerBlock p e (zonesIn p z0) sn (x .serial)) zeroSpare
       first! = unfold lay in refl
 
-  new-head : headerAt vc 0 z0 ≡ headerBlock p 0 (zoneOn z0 0) sn (x .serial)
+  new-head : headerAt vc 0 z0 ≡ headerBlock p 0 (zonesIn p z0) sn (x .serial)
   new-head = as! (ap (λ (y : Chunk). y .block) (new-block 0 0 h0 (let a = lay-count 0 in omega arith)) ∙ first!)
     where
-      first! : getD (lay 0) 0 noChunk .block ≡ headerBlock p 0 (zoneOn z0 0) sn (x .serial)
+      first! : getD (lay 0) 0 noChunk .block ≡ headerBlock p 0 (zonesIn p z0) sn (x .serial)
       first! = unfold lay in refl
 
-      as! : getD (zoneAt vc 0 (zoneOn z0 0) .blocks) 0 noChunk .block ≡ headerBlock p 0 (zoneOn z0 0) sn (x .serial) → headerAt vc 0 z0 ≡ headerBlock p 0 (zoneOn z0 0) sn (x .serial)
+      as! : getD (zoneAt vc 0 (zoneOn z0 0) .blocks) 0 noChunk .block ≡ headerBlock p 0 (zonesIn p z0) sn (x .serial) → headerAt vc 0 z0 ≡ headerBlock p 0 (zonesIn p z0) sn (x .serial)
       as! e = unfold headerAt chunkAt in e
 
   -- ---- the new segment is steady
@@ -524,18 +525,19 @@ module _ (p : Params) (r : Ranged p) (v : View) (sh : Shaped p v) (acc : Accepte
     hdr! : (y : Seg) → Named p y → keeps! y ≡ true → (z0 ≡ y → ⊥) → (g ≡ y → ⊥) → headerAt v 0 y ≡ headerAt vc 0 y
     hdr! y hy k a b = zones-header p r v va y (drop-same p r v sh acc y hy k) ∙ zones-header p r va vc y (same-else y hy a b)
 
-    serial-new : headerSerial (headerAt vc 0 z0) ≡ sn
-    serial-new = ap headerSerial new-head ∙ header-serial p 0 (zoneOn z0 0) sn (x .serial) fit
+    serial-new : headerSerial p (headerAt vc 0 z0) ≡ sn
+    serial-new = ap (headerSerial p) new-head ∙ header-serial p 0 (zonesIn p z0) sn (x .serial) fit
 
-    serial-g : x .serial ≡ headerSerial (headerAt v 0 g)
-    serial-g = serial-is p v 0 g ∙ ap (λ (n : ℕ). headerSerial (headerAt v n g)) (low-first p r)
+    serial-g : x .serial ≡ headerSerial p (headerAt v 0 g)
+    serial-g = serial-is p v 0 g ∙ ap (λ (n : ℕ). headerSerial p (headerAt v n g)) (low-first p r)
 
-    serial-g-low : headerSerial (headerAt v 0 g) < sn
+    serial-g-low : headerSerial p (headerAt v 0 g) < sn
     serial-g-low = let a = kept-known p r v sh acc g hg kg in omega arith
 
-    copied-new : headerCopied (headerAt vc 0 z0) ≡ headerSerial (headerAt v 0 g)
+    copied-new : headerCopied p (headerAt vc 0 z0) ≡ headerSerial p (headerAt v 0 g)
     copied-new =
-        ap headerCopied new-head ∙ header-copied p 0 (zoneOn z0 0) sn (x .serial) (subst (λ (n : ℕ). n < 256 ^ 8) (sym serial-g) (let a = serial-g-low in let b = fit in omega arith)) ∙ serial-g
+        let low : headerSerial p (headerAt v 0 g) < 256 ^ 8 = let a = serial-g-low in let b = fit in omega arith in
+        ap (headerCopied p) new-head ∙ header-copied p 0 (zonesIn p z0) sn (x .serial) (subst (λ (n : ℕ). n < 256 ^ 8) (sym serial-g) low) ∙ serial-g
 
     rewrite-tidy : Tidy p vc sn
     rewrite-tidy = record {
@@ -562,53 +564,54 @@ module _ (p : Params) (r : Ranged p) (v : View) (sh : Shaped p v) (acc : Accepte
             ∙ drop-tidy p r v sh acc .together d z hd hz
             ∙ ap (λ (n : ℕ). eqb n 0) (zones-pointer p r va vc z (same-else z hz a b) 0 h0)
 
-        less : (z : Seg) → Named p z → (z ≡ z0) ⊎ ((keeps! z ≡ true) × ((z0 ≡ z → ⊥) × (g ≡ z → ⊥))) → headerCopied (headerAt vc 0 z) < headerSerial (headerAt vc 0 z)
+        less : (z : Seg) → Named p z → (z ≡ z0) ⊎ ((keeps! z ≡ true) × ((z0 ≡ z → ⊥) × (g ≡ z → ⊥))) → headerCopied p (headerAt vc 0 z) < headerSerial p (headerAt vc 0 z)
         less z hz (inl e) =
-            subst (λ (n : Seg). headerCopied (headerAt vc 0 n) < headerSerial (headerAt vc 0 n)) (sym e) (let a = serial-new in let b = copied-new in let d = serial-g-low in omega arith)
-        less z hz (inr (k, (a, b))) = subst (λ (l : List ℕ). headerCopied l < headerSerial l) (hdr! z hz k a b) (kept-less p r v sh acc z hz k)
+            subst (λ (n : Seg). headerCopied p (headerAt vc 0 n) < headerSerial p (headerAt vc 0 n)) (sym e) (let a = serial-new in let b = copied-new in let d = serial-g-low in omega arith)
+        less z hz (inr (k, (a, b))) = subst (λ (l : List ℕ). headerCopied p l < headerSerial p l) (hdr! z hz k a b) (kept-less p r v sh acc z hz k)
 
-        known : (z : Seg) → Named p z → (z ≡ z0) ⊎ ((keeps! z ≡ true) × ((z0 ≡ z → ⊥) × (g ≡ z → ⊥))) → headerSerial (headerAt vc 0 z) ≤ sn
-        known z hz (inl e) = subst (λ (n : Seg). headerSerial (headerAt vc 0 n) ≤ sn) (sym e) (le-of-eq serial-new)
-        known z hz (inr (k, (a, b))) = subst (λ (l : List ℕ). headerSerial l ≤ sn) (hdr! z hz k a b) (let d = kept-known p r v sh acc z hz k in omega arith)
+        known : (z : Seg) → Named p z → (z ≡ z0) ⊎ ((keeps! z ≡ true) × ((z0 ≡ z → ⊥) × (g ≡ z → ⊥))) → headerSerial p (headerAt vc 0 z) ≤ sn
+        known z hz (inl e) = subst (λ (n : Seg). headerSerial p (headerAt vc 0 n) ≤ sn) (sym e) (le-of-eq serial-new)
+        known z hz (inr (k, (a, b))) = subst (λ (l : List ℕ). headerSerial p l ≤ sn) (hdr! z hz k a b) (let d = kept-known p r v sh acc z hz k in omega arith)
 
-        old-low : (z : Seg) → Named p z → keeps! z ≡ true → (z0 ≡ z → ⊥) → (g ≡ z → ⊥) → headerSerial (headerAt vc 0 z) ≤ greatestSerial gs
-        old-low z hz k a b = subst (λ (l : List ℕ). headerSerial l ≤ greatestSerial gs) (hdr! z hz k a b) (kept-known p r v sh acc z hz k)
+        old-low : (z : Seg) → Named p z → keeps! z ≡ true → (z0 ≡ z → ⊥) → (g ≡ z → ⊥) → headerSerial p (headerAt vc 0 z) ≤ greatestSerial gs
+        old-low z hz k a b = subst (λ (l : List ℕ). headerSerial p l ≤ greatestSerial gs) (hdr! z hz k a b) (kept-known p r v sh acc z hz k)
 
-        new-is : (y : Seg) → y ≡ z0 → headerSerial (headerAt vc 0 y) ≡ sn
-        new-is y e = ap (λ (n : Seg). headerSerial (headerAt vc 0 n)) e ∙ serial-new
+        new-is : (y : Seg) → y ≡ z0 → headerSerial p (headerAt vc 0 y) ≡ sn
+        new-is y e = ap (λ (n : Seg). headerSerial p (headerAt vc 0 n)) e ∙ serial-new
 
         once :
             (y z : Seg)
             → Named p y
             → Named p z
-            → headerSerial (headerAt vc 0 y) ≡ headerSerial (headerAt vc 0 z)
+            → headerSerial p (headerAt vc 0 y) ≡ headerSerial p (headerAt vc 0 z)
             → (y ≡ z0) ⊎ ((keeps! y ≡ true) × ((z0 ≡ y → ⊥) × (g ≡ y → ⊥)))
             → (z ≡ z0) ⊎ ((keeps! z ≡ true) × ((z0 ≡ z → ⊥) × (g ≡ z → ⊥)))
             → y ≡ z
         once y z hy hz e (inl a) (inl b) = a ∙ sym b
         once y z hy hz e (inl a) (inr (k, (m, n))) = absurd (let w = new-is y a in let l = old-low z hz k m n in let bad : ⊥ = omega arith in bad)
         once y z hy hz e (inr (k, (m, n))) (inl b) = absurd (let w = new-is z b in let l = old-low y hy k m n in let bad : ⊥ = omega arith in bad)
-        once y z hy hz e (inr (k, (m, n))) (inr (k2, (m2, n2))) = kept-once p r v sh acc y z hy hz k k2 (ap headerSerial (hdr! y hy k m n) ∙ e ∙ ap headerSerial (sym (hdr! z hz k2 m2 n2)))
+        once y z hy hz e (inr (k, (m, n))) (inr (k2, (m2, n2))) = kept-once p r v sh acc y z hy hz k k2 (ap (headerSerial p) (hdr! y hy k m n) ∙ e ∙ ap (headerSerial p) (sym (hdr! z hz k2 m2 n2)))
 
         nc :
             (y z : Seg)
             → Named p y
             → Named p z
-            → headerCopied (headerAt vc 0 y) ≡ headerSerial (headerAt vc 0 z)
+            → headerCopied p (headerAt vc 0 y) ≡ headerSerial p (headerAt vc 0 z)
             → (y ≡ z0) ⊎ ((keeps! y ≡ true) × ((z0 ≡ y → ⊥) × (g ≡ y → ⊥)))
             → (z ≡ z0) ⊎ ((keeps! z ≡ true) × ((z0 ≡ z → ⊥) × (g ≡ z → ⊥)))
             → ⊥
         nc y z hy hz e (inl a) (inl b) =
             let w = new-is z b in
-            let f : headerCopied (headerAt vc 0 y) ≡ headerSerial (headerAt v 0 g) = ap (λ (n : Seg). headerCopied (headerAt vc 0 n)) a ∙ copied-new in
+            let f : headerCopied p (headerAt vc 0 y) ≡ headerSerial p (headerAt v 0 g) = ap (λ (n : Seg). headerCopied p (headerAt vc 0 n)) a ∙ copied-new in
             let d = serial-g-low in
             let bad : ⊥ = omega arith in bad
         nc y z hy hz e (inl a) (inr (k, (m, n))) =
-            let f : headerSerial (headerAt v 0 g) ≡ headerSerial (headerAt v 0 z) = sym (ap (λ (n : Seg). headerCopied (headerAt vc 0 n)) a ∙ copied-new) ∙ e
-            ∙ ap headerSerial (sym (hdr! z hz k m n)) in
+            let f : headerSerial p (headerAt v 0 g) ≡ headerSerial p (headerAt v 0 z) = sym (ap (λ (n : Seg). headerCopied p (headerAt vc 0 n)) a ∙ copied-new) ∙ e
+            ∙ ap (headerSerial p) (sym (hdr! z hz k m n)) in
             n (kept-once p r v sh acc g z hg hz kg k f)
         nc y z hy hz e (inr (k, (m, n))) (inl b) = let w = new-is z b in let l = less y hy (inr (k, (m, n))) in let d = old-low y hy k m n in let bad : ⊥ = omega arith in bad
-        nc y z hy hz e (inr (k, (m, n))) (inr (k2, (m2, n2))) = kept-no-copy p r v sh acc y z hy hz k k2 (ap headerCopied (hdr! y hy k m n) ∙ e ∙ ap headerSerial (sym (hdr! z hz k2 m2 n2)))
+        nc y z hy hz e (inr (k, (m, n))) (inr (k2, (m2, n2))) =
+            kept-no-copy p r v sh acc y z hy hz k k2 (ap (headerCopied p) (hdr! y hy k m n) ∙ e ∙ ap (headerSerial p) (sym (hdr! z hz k2 m2 n2)))
 
     pub mend-rewrite : Mended p va ts
     mend-rewrite = record {

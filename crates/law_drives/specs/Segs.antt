@@ -8,7 +8,7 @@ use native.Mathlib.Omega.{arith}
 use lib.Dec.{eqb}
 use lib.ListN.{length, getD, length-map}
 use Rattle.spec.specs.declared.Params.{Params}
-use Rattle.spec.specs.Drives.{noChunk, Zone, noZone, View, zoneAt, pointerAt, chunkAt, allSegs, zoneOn, sealedIn, dataStored, recordIn, recordAt, Seg, seg, sameSeg}
+use Rattle.spec.specs.Drives.{noChunk, Zone, noZone, View, zoneAt, pointerAt, chunkAt, allSegs, zoneOn, sealedIn, dataStored, recordIn, recordAt, sameSeg, across}
 use Rattle.spec.specs.Layout.{dataDrive, dataDrives, headerSerial, headerCopied, Rec, mkRec}
 use Rattle.spec.specs.Lists.{below, all, any, keep, indexOf, isIn}
 use Rattle.spec.specs.Params.{dataCount, drivesOf, present}
@@ -18,12 +18,13 @@ use Rattle.spec.specs.Read.{storedAt}
 use Rattle.spec.specs.Segments.{lowDrive, headerAt, leftBy1, isCopy, remaining, Segment, recordsIn, segmentOf, segments, recsOn, offsetOn, hasChunk, counts}
 use Rattle.spec.specs.Segments.{counted, storedRec, candOf, segmentCands, candidates, storedPiece, pieceOf, recOf}
 use Rattle.law_basic.specs.Ranges.{Test, test, length-below, getD-map-below}
-use Rattle.law_basic.specs.Segs.{Named, seg-named, named-lt, segs-are, seg-true, seg-self}
+use Rattle.law_basic.specs.Segs.{Named, seg-named, named-number, segs-are, seg-true, seg-self}
 use Rattle.law_basic.specs.Ranges.Test.{yes!, no! }
 use Rattle.law_code.specs.Chunks.{chunk-stored, chunk-decoded, rec-here, rec-lost}
 use Rattle.law_code.specs.Code.{decode-apart, decode-rec-same}
 use Rattle.law_drives.specs.Members.{In, in-map, map-in, in-flat, flat-in, in-keep, keep-in, in-any, in-below, below-in, in-getD, index-below, index-passes, index-first, index-is, any-in}
 use Rattle.law_drives.specs.Tests.{not-so, cond-true, cond-false}
+use Rattle.spec.specs.declared.Seg.{Seg}
 
 -- ---- drives that are present
 
@@ -38,10 +39,14 @@ in-present p gone d h q = in-keep (λ d. not (isIn gone d)) (below (p .N)) d (in
 -- ---- the segments that there may be
 
 pub segs-in : (p : Params) (g : Seg) → In g (allSegs p) → Named p g
-segs-in p g m = let (n, i, e) = map-in seg (below (p .Z)) g (subst (λ (l : List Seg). In g l) (segs-are p) m) in subst (λ (x : Seg). Named p x) (sym e) (seg-named p n (below-in (p .Z) n i))
+segs-in p g m =
+    let (n, i, e) = map-in (across p) (below (p .Z)) g (subst (λ (l : List Seg). In g l) (segs-are p) m) in
+    subst (λ (x : Seg). Named p x) (sym e) (seg-named p n (below-in (p .Z) n i))
 
 pub in-segs : (p : Params) (g : Seg) → Named p g → In g (allSegs p)
-in-segs p g h = subst (λ (l : List Seg). In g l) (sym (segs-are p)) (in-map seg (below (p .Z)) (g .name) (in-below (p .Z) (g .name) (named-lt p g h)))
+in-segs p g h =
+    let (n, k, e) = named-number p g h in
+    subst (λ (l : List Seg). In g l) (sym (segs-are p)) (subst (λ (x : Seg). In x (map (across p) (below (p .Z)))) (sym e) (in-map (across p) (below (p .Z)) n (in-below (p .Z) n k)))
 
 pub is-seg : (g : Seg) (l : List Seg) → any (sameSeg g) l ≡ true → In g l
 is-seg g l q = let (k, m, e) = any-in (sameSeg g) l q in subst (λ (x : Seg). In x l) (sym (seg-true g k e)) m
@@ -54,7 +59,7 @@ seg-in g l m = in-any (sameSeg g) l g m (seg-self g)
 pub remaining-low : (p : Params) (v : View) (gone : ℕ) (g : Seg) → In g (remaining p v gone) → Named p g
 unfolding remaining leftBy1
 remaining-low p v gone g m =
-    let (i, q) = keep-in (λ g. not (isCopy v (lowDrive p gone) (leftBy1 p v gone) g)) (leftBy1 p v gone) g m in
+    let (i, q) = keep-in (λ g. not (isCopy p v (lowDrive p gone) (leftBy1 p v gone) g)) (leftBy1 p v gone) g m in
     let (j, r) = keep-in (λ g. all (λ d. not (eqb (pointerAt v d (zoneOn g d)) 0)) (present p gone)) (allSegs p) g i in
     segs-in p g j
 
@@ -99,11 +104,11 @@ module _ (p : Params) (v : View) (gone : ℕ) (g : Seg) where
   unfolding segmentOf
   seg-is = refl
 
-  pub serial-is : segmentOf p v gone g .serial ≡ headerSerial (headerAt v (lowDrive p gone) g)
+  pub serial-is : segmentOf p v gone g .serial ≡ headerSerial p (headerAt v (lowDrive p gone) g)
   unfolding segmentOf
   serial-is = refl
 
-  pub copied-is : segmentOf p v gone g .copied ≡ headerCopied (headerAt v (lowDrive p gone) g)
+  pub copied-is : segmentOf p v gone g .copied ≡ headerCopied p (headerAt v (lowDrive p gone) g)
   unfolding segmentOf
   copied-is = refl
 

@@ -8,7 +8,7 @@ use native.Mathlib.Omega.{arith}
 use lib.Dec.{eqb}
 use lib.ListN.{getD}
 use Rattle.spec.specs.declared.Params.{Params}
-use Rattle.spec.specs.Drives.{noChunk, Zone, noZone, View, zoneAt, pointerAt, chunkAt, zoneOn, sealedIn, recordIn, Seg, sameSeg, allSegs}
+use Rattle.spec.specs.Drives.{noChunk, Zone, noZone, View, zoneAt, pointerAt, chunkAt, zoneOn, sealedIn, recordIn, sameSeg, allSegs, seg}
 use Rattle.spec.specs.Layout.{dataDrive, dataPosition, headerSerial, headerCopied}
 use Rattle.spec.specs.Lists.{upFrom, below, all, any, firstOr, isIn}
 use Rattle.spec.specs.Params.{capacity, drivesOf, present}
@@ -25,6 +25,7 @@ use Rattle.law_drives.specs.Spots.{counts-in}
 use Rattle.law_drives.specs.Tables.{remains, in-remaining, remaining-in, rowAt, row-seg}
 use Rattle.law_drives.specs.Tests.{and-false-right, same-test, cond-false}
 use Rattle.law_drives.specs.Tidy.{usedAt, Tidy}
+use Rattle.spec.specs.declared.Seg.{Seg}
 
 pub present-all : (p : Params) (d : ℕ) → d < p .N → In d (present p 0)
 present-all p d h = in-present p 0 d h (isIn-empty d)
@@ -51,25 +52,25 @@ module _ (p : Params) (r : Ranged p) (v : View) (serial : ℕ) (t : Tidy p v ser
       let (i, q) = keep-in (λ g. all (λ d. not (eqb (pointerAt v d (zoneOn g d)) 0)) (present p 0)) (allSegs p) g m in
       (segs-in p g i, all-in (λ d. not (eqb (pointerAt v d (zoneOn g d)) 0)) (present p 0) q 0 (present-all p 0 zero-low))
 
-  no-copies : (g : Seg) → Named p g → usedAt v g ≡ true → isCopy v (lowDrive p 0) (leftBy1 p v 0) g ≡ false
+  no-copies : (g : Seg) → Named p g → usedAt v g ≡ true → isCopy p v (lowDrive p 0) (leftBy1 p v 0) g ≡ false
   unfolding isCopy
   no-copies g hg q =
       let l = lowDrive p 0 in
-      and-false-right (not (eqb (headerCopied (headerAt v l g)) 0)) (any (λ h. not (sameSeg h g) && eqb (headerSerial (headerAt v l h)) (headerCopied (headerAt v l g))) (leftBy1 p v 0))
-      (in-none (λ h. not (sameSeg h g) && eqb (headerSerial (headerAt v l h)) (headerCopied (headerAt v l g))) (leftBy1 p v 0)
+      and-false-right (not (eqb (headerCopied p (headerAt v l g)) 0)) (any (λ h. not (sameSeg h g) && eqb (headerSerial p (headerAt v l h)) (headerCopied p (headerAt v l g))) (leftBy1 p v 0))
+      (in-none (λ h. not (sameSeg h g) && eqb (headerSerial p (headerAt v l h)) (headerCopied p (headerAt v l g))) (leftBy1 p v 0)
       (λ h m.
       let (hh, u) = left-used h m in
-      and-false-right (not (sameSeg h g)) (eqb (headerSerial (headerAt v l h)) (headerCopied (headerAt v l g)))
-      (ne-eqb (headerSerial (headerAt v l h)) (headerCopied (headerAt v l g))
-      (λ e. t .no-copy g h hg hh q u (sym (subst (λ (x : ℕ). headerSerial (headerAt v x h) ≡ headerCopied (headerAt v x g)) (low-first p r) e))))))
+      and-false-right (not (sameSeg h g)) (eqb (headerSerial p (headerAt v l h)) (headerCopied p (headerAt v l g)))
+      (ne-eqb (headerSerial p (headerAt v l h)) (headerCopied p (headerAt v l g))
+      (λ e. t .no-copy g h hg hh q u (sym (subst (λ (x : ℕ). headerSerial p (headerAt v x h) ≡ headerCopied p (headerAt v x g)) (low-first p r) e))))))
 
   pub remains-used : (g : Seg) → Named p g → remains p v 0 g ≡ usedAt v g
   unfolding remains
-  remains-used g hg = same-test (all (λ d. not (eqb (pointerAt v d (zoneOn g d)) 0)) (present p 0) && not (isCopy v (lowDrive p 0) (leftBy1 p v 0) g)) (usedAt v g)
+  remains-used g hg = same-test (all (λ d. not (eqb (pointerAt v d (zoneOn g d)) 0)) (present p 0) && not (isCopy p v (lowDrive p 0) (leftBy1 p v 0) g)) (usedAt v g)
       (λ q. all-in (λ d. not (eqb (pointerAt v d (zoneOn g d)) 0)) (present p 0)
-      (and-left (all (λ d. not (eqb (pointerAt v d (zoneOn g d)) 0)) (present p 0)) (not (isCopy v (lowDrive p 0) (leftBy1 p v 0) g)) q) 0
+      (and-left (all (λ d. not (eqb (pointerAt v d (zoneOn g d)) 0)) (present p 0)) (not (isCopy p v (lowDrive p 0) (leftBy1 p v 0) g)) q) 0
       (present-all p 0 zero-low))
-      (λ q. and-both (all (λ d. not (eqb (pointerAt v d (zoneOn g d)) 0)) (present p 0)) (not (isCopy v (lowDrive p 0) (leftBy1 p v 0) g))
+      (λ q. and-both (all (λ d. not (eqb (pointerAt v d (zoneOn g d)) 0)) (present p 0)) (not (isCopy p v (lowDrive p 0) (leftBy1 p v 0) g))
       (in-all (λ d. not (eqb (pointerAt v d (zoneOn g d)) 0)) (present p 0) (λ d m. used-all d g (present-in p 0 d m .0) hg q)) (ap not (no-copies g hg q)))
 
   pub used-remains : (g : Seg) → Named p g → usedAt v g ≡ true → In g (remaining p v 0)
@@ -80,8 +81,8 @@ module _ (p : Params) (r : Ranged p) (v : View) (serial : ℕ) (t : Tidy p v ser
 
   -- ---- candidates
 
-  pub serial-of : (g : Seg) → segmentOf p v 0 g .serial ≡ headerSerial (headerAt v 0 g)
-  serial-of g = serial-is p v 0 g ∙ ap (λ (x : ℕ). headerSerial (headerAt v x g)) (low-first p r)
+  pub serial-of : (g : Seg) → segmentOf p v 0 g .serial ≡ headerSerial p (headerAt v 0 g)
+  serial-of g = serial-is p v 0 g ∙ ap (λ (x : ℕ). headerSerial p (headerAt v x g)) (low-first p r)
 
   module _ (c : Cand) (k : CandAt p v 0 c) where
     pub its-drive : c .drive ≡ dataDrive p (k .stripe) (k .position)
@@ -91,7 +92,7 @@ module _ (p : Params) (r : Ranged p) (v : View) (serial : ℕ) (t : Tidy p v ser
     pub its-drive-low : c .drive < p .N
     its-drive-low = subst (λ (x : ℕ). x < p .N) (sym its-drive) (data-drive-lt p (k .stripe) (k .position) (k .position-low))
 
-    pub its-serial : c .serial ≡ headerSerial (headerAt v 0 (k .of))
+    pub its-serial : c .serial ≡ headerSerial p (headerAt v 0 (k .of))
     unfolding candOf
     its-serial = ap (λ (x : Cand). x .serial) (k .it-is) ∙ serial-of (k .of)
 
@@ -160,8 +161,8 @@ module _ (p : Params) (r : Ranged p) (v u : View) (g : Seg) (sm : SameZones p v 
       (below (p .N)) (λ d m. sm d (below-in (p .N) d m)) in
       λ i. record {
         seg = g;
-        serial = headerSerial (hd i);
-        copied = headerCopied (hd i);
+        serial = headerSerial p (hd i);
+        copied = headerCopied p (hd i);
         full = zones-sealed i;
         zonesBy = zs i;
         recs = map (λ d. cond (isIn 0 d) [] (recordsIn p (zones-sealed i) (getD (zs i) d noZone))) (below (p .N));
@@ -183,12 +184,12 @@ cand-goes p r v u s t c k sm q =
     }
 
 -- the row of a zone that is the same in both
-pub row-goes : (p : Params) (r : Ranged p) (v u : View) (s s′ : ℕ) → Tidy p v s → Tidy p u s′ → (d : ℕ) (g : Seg) → Named p g → SameZones p v u g
+pub row-goes : (p : Params) (r : Ranged p) (v u : View) (s s′ : ℕ) → Tidy p v s → Tidy p u s′ → (d : ℕ) (g : Seg) → d < p .N → Named p g → SameZones p v u g
     → rowAt p v 0 d (zoneOn g d) ≡ rowAt p u 0 d (zoneOn g d)
-row-goes p r v u s s′ t t′ d g hg sm =
-    row-seg p v 0 d g hg
+row-goes p r v u s s′ t t′ d g hd hg sm =
+    row-seg p v 0 d g hd hg
     ∙ ap₂ (λ (x : Bool) (y : Segment). cond x (recsOn y d) []) (remains-used p r v s t g hg ∙ zones-used p r v u g sm ∙ sym (remains-used p r u s′ t′ g hg)) (zones-segment p r v u g sm)
-    ∙ sym (row-seg p u 0 d g hg)
+    ∙ sym (row-seg p u 0 d g hd hg)
 
 pub sealed-full : (p : Params) (v : View) (g : Seg) → sealedIn p v 0 g ≡ true → (d : ℕ) → d < p .N → pointerAt v d (zoneOn g d) ≡ capacity p
 sealed-full p v g q d h = eqb-true (pointerAt v d (zoneOn g d)) (capacity p) (all-in (λ d. eqb (pointerAt v d (zoneOn g d)) (capacity p)) (present p 0) (as! q) d (present-all p d h))

@@ -12,7 +12,7 @@ use lib.ListN.{length, getD}
 use lib.Arith.{digits-div}
 use Rattle.spec.specs.declared.Params.{Params}
 use Rattle.spec.specs.Counts.{neverPlace}
-use Rattle.spec.specs.Drives.{View, zoneAt, pointerAt, zoneOn, sealedIn, dataStored, recordIn, Seg, placeSegment}
+use Rattle.spec.specs.Drives.{View, zoneAt, pointerAt, zoneOn, sealedIn, dataStored, recordIn, placeSegment}
 use Rattle.spec.specs.Layout.{dataDrive, group, inGroupOf, groupOffsets, compactEntry, Rec, mkRec}
 use Rattle.spec.specs.Lists.{upFrom, consIf, keep, isNil, firstOr, isIn}
 use Rattle.spec.specs.Memory.{compactAt, shownAt}
@@ -30,6 +30,7 @@ use Rattle.law_drives.specs.Range.{capacity-over, place-low}
 use Rattle.law_drives.specs.Segs.{in-present, remaining-low, length-records, record-at, data-low, low-data, recs-here, seg-is, chunk-at, CandAt}
 use Rattle.law_drives.specs.Tables.{row-at, remains, remaining-in, rowAt, compact-at, row-seg}
 use Rattle.law_drives.specs.Tests.{true-false, not-so, cond-true}
+use Rattle.spec.specs.declared.Seg.{Seg}
 
 -- ---- the spot of a candidate
 
@@ -142,7 +143,7 @@ module _ (p : Params) (r : Ranged p) (v : View) (gone : ℕ) (groups : InGroups 
       → getD table (compactAt p d (zoneOn g d) o) 0 ≡ compactEntry p (recordIn p (sealedIn p v gone g) (zoneAt v d (zoneOn g d)) o .stripe)
   entry-is o h =
       let e : rowAt p v gone d (zoneOn g d) ≡ recordsIn p (sealedIn p v gone g) (zoneAt v d (zoneOn g d)) =
-      row-seg p v gone d g hz ∙ cond-true (remains p v gone g) (recsOn (segmentOf p v gone g) d) [] (remaining-in p v gone g hg .1) ∙ recs-here p v gone g d hd pr in
+      row-seg p v gone d g hd hz ∙ cond-true (remains p v gone g) (recsOn (segmentOf p v gone g) d) [] (remaining-in p v gone g hg .1) ∙ recs-here p v gone g d hd pr in
       let l : length (rowAt p v gone d (zoneOn g d)) ≡ dataStored p (zoneAt v d (zoneOn g d)) = ap length e ∙ length-records p (sealedIn p v gone g) (zoneAt v d (zoneOn g d)) in
       compact-at p v gone d (zoneOn g d) o hd (zone-on-lt p g d hz) (data-low p (zoneAt v d (zoneOn g d)) o h .0)
       ∙ row-at p (rowAt p v gone d (zoneOn g d)) o (subst (λ (x : ℕ). o < x) (sym l) h)
@@ -219,4 +220,4 @@ module _ (p : Params) (r : Ranged p) (v : View) (gone : ℕ) where
 
     pub cand-segment : placeSegment p (c .place) ≡ k .of
     cand-segment = ap (placeSegment p) cand-place
-        ∙ place-segment-of p (k .of) (c .drive) (1 + c .offset) (remaining-low p v gone (k .of) (k .remains)) (omega (arith, capacity-over p r, t .offset-low))
+        ∙ place-segment-of p (k .of) (c .drive) (1 + c .offset) (t .drive-low) (remaining-low p v gone (k .of) (k .remains)) (omega (arith, capacity-over p r, t .offset-low))

@@ -4,11 +4,12 @@ use mathlib.Core.Bool.{true}
 use Prim.Native.Nat.{ℕ, _+_, _<_}
 use lib.ListN.{length}
 use Rattle.spec.specs.declared.Params.{Params}
-use Rattle.spec.specs.Drives.{View, pointerAt, Seg, zoneOn}
+use Rattle.spec.specs.Drives.{View, pointerAt, zoneOn}
 use Rattle.spec.specs.Params.{capacity}
 use Rattle.spec.specs.Segments.{segmentOf, counted}
 use Rattle.law_basic.specs.Segs.{Named}
 use Rattle.law_drives.specs.Tidy.{spareAt, usedAt}
+use Rattle.spec.specs.declared.Seg.{Seg}
 
 -- an open segment with its stripes 0 to c - 1 on every drive, and nothing else
 pub record Steady (p : Params) (v : View) (g : Seg) (c : ℕ) : Type 0 where

@@ -14,7 +14,7 @@ use lib.Seq.{getD-append-add, ext-getD}
 use lib.Arith.{digits-lt}
 use Rattle.spec.specs.declared.Params.{Params}
 use Rattle.spec.specs.Bytes.{beOf, toBe, part}
-use Rattle.spec.specs.Drives.{View, zoneAt, pointerAt, allSegs, zoneOn, sealedIn, dataStored, Seg, seg, sameSeg}
+use Rattle.spec.specs.Drives.{View, zoneAt, pointerAt, allSegs, zoneOn, sealedIn, dataStored, sameSeg, across}
 use Rattle.spec.specs.Layout.{compactEntry, Rec, mkRec}
 use Rattle.spec.specs.Lists.{Opt, upFrom, below, all, consIf, keep, flat, padTo, isIn}
 use Rattle.spec.specs.Lists.Opt.{none}
@@ -26,10 +26,11 @@ use Rattle.law_basic.specs.Be.{length-toBe, beOf-toBe}
 use Rattle.law_basic.specs.Ranges.{Test, test, length-below, getD-map}
 use Rattle.law_basic.specs.Ranges.Test.{yes!, no! }
 use Rattle.law_basic.specs.Splice.{length-part, getD-part}
-use Rattle.law_basic.specs.Segs.{seg-number, Named, named-lt, segOn, seg-on-named, seg-on-zone, zone-same, keep-segs, seg-on-is, by-seg}
+use Rattle.law_basic.specs.Segs.{seg-number, Named, named-number, segOn, seg-on-named, seg-on-zone, zone-same, keep-segs, seg-on-is, by-seg}
 use Rattle.law_drives.specs.Members.{In, in-keep, keep-in, flat-cong, flat-nothing, keep-keep, flat-map, from-in, below-in}
 use Rattle.law_drives.specs.Segs.{length-records, recs-here, recs-gone, seg-is, in-segs, segs-in}
 use Rattle.law_drives.specs.Tests.{cond-true, cond-false}
+use Rattle.spec.specs.declared.Seg.{Seg}
 
 -- ---- rows of equal length
 
@@ -194,11 +195,11 @@ grid-cong p f g h = flat-cong (λ d. flat (λ z. f d z) (below (p .Z))) (λ d. f
 -- ---- which segments remain, as a test
 
 unfoldable pub remains : Params → View → ℕ → Seg → Bool
-remains p v gone g = all (λ d. not (eqb (pointerAt v d (zoneOn g d)) 0)) (present p gone) && not (isCopy v (lowDrive p gone) (leftBy1 p v gone) g)
+remains p v gone g = all (λ d. not (eqb (pointerAt v d (zoneOn g d)) 0)) (present p gone) && not (isCopy p v (lowDrive p gone) (leftBy1 p v gone) g)
 
 pub remaining-is : (p : Params) (v : View) (gone : ℕ) → remaining p v gone ≡ keep (remains p v gone) (allSegs p)
 unfolding remaining leftBy1 remains
-remaining-is p v gone = keep-keep (λ g. not (isCopy v (lowDrive p gone) (leftBy1 p v gone) g)) (λ g. all (λ d. not (eqb (pointerAt v d (zoneOn g d)) 0)) (present p gone)) (allSegs p)
+remaining-is p v gone = keep-keep (λ g. not (isCopy p v (lowDrive p gone) (leftBy1 p v gone) g)) (λ g. all (λ d. not (eqb (pointerAt v d (zoneOn g d)) 0)) (present p gone)) (allSegs p)
 
 pub in-remaining : (p : Params) (v : View) (gone : ℕ) (g : Seg) → Named p g → remains p v gone g ≡ true → In g (remaining p v gone)
 in-remaining p v gone g h q = subst (λ (x : List Seg). In g x) (sym (remaining-is p v gone)) (in-keep (remains p v gone) (allSegs p) g (in-segs p g h) q)
@@ -234,37 +235,44 @@ the-row {B} h f z i (suc n) a b = go (ℕ-discrete i z) (test (h i)) (the-row h 
         rw q (ap (λ (x : List B). x ++ flat (λ g. cond (eqb g z) (f g) []) (keep h (upFrom (suc i) n))) (cond-false (eqb i z) (f i) [] (ne-eqb i z e)) ∙ ih (omega arith) (omega arith))
     go (no e) (no! q) ih = rw q (ih (omega arith) (omega arith))
 
--- one segment, by its name and by its zone
-pub seg-one : {B : Type 0} (p : Params) (h : Seg → Bool) (f : Seg → List B) (g : Seg) → Named p g
+-- one segment, by itself and by its zone
+pub seg-one : {B : Type 0} (p : Params) (h : Seg → Bool) (f : Seg → List B) (g : Seg) → 0 < p .N → Named p g
     → flat (λ (x : Seg). cond (sameSeg x g) (f x) []) (keep h (allSegs p)) ≡ cond (h g) (f g) []
-seg-one {B} p h f g hg =
-    let n = g .name in
-    let row : Seg → List B = λ (x : Seg). cond (sameSeg x g) (f x) [] in
-    ap (flat row) (keep-segs p h)
-    ∙ flat-map row seg (keep (λ i. h (seg i)) (below (p .Z)))
-    ∙ flat-cong (λ i. row (seg i)) (λ i. cond (eqb i n) (f (seg i)) []) (keep (λ i. h (seg i)) (below (p .Z))) (λ i m. ap (λ (b : Bool). cond b (f (seg i)) []) (seg-number i n))
-    ∙ (unfold below in the-row (λ i. h (seg i)) (λ i. f (seg i)) n 0 (p .Z) (omega arith) (omega (arith, named-lt p g hg)))
+seg-one {B} p h f g k hg = let (n, l, e) = named-number p g hg in subst At (sym e) (by-number n l)
+  where
+    At : Seg → Type 0
+    At y = flat (λ (x : Seg). cond (sameSeg x y) (f x) []) (keep h (allSegs p)) ≡ cond (h y) (f y) []
 
-pub seg-row : {B : Type 0} (p : Params) (h : Seg → Bool) (f : Seg → List B) (d : ℕ) (g : Seg) → Named p g
+    by-number : (n : ℕ) → n < p .Z → At (across p n)
+    by-number n l =
+        let row : Seg → List B = λ (x : Seg). cond (sameSeg x (across p n)) (f x) [] in
+        let is = keep (λ i. h (across p i)) (below (p .Z)) in
+        ap (flat row) (keep-segs p h)
+        ∙ flat-map row (across p) is
+        ∙ flat-cong (λ i. row (across p i)) (λ i. cond (eqb i n) (f (across p i)) []) is (λ i m. ap (λ (b : Bool). cond b (f (across p i)) []) (seg-number p i n k))
+        ∙ (unfold below in the-row (λ i. h (across p i)) (λ i. f (across p i)) n 0 (p .Z) (omega arith) (omega arith))
+
+pub seg-row : {B : Type 0} (p : Params) (h : Seg → Bool) (f : Seg → List B) (d : ℕ) (g : Seg) → d < p .N → Named p g
     → flat (λ (x : Seg). cond (eqb (zoneOn x d) (zoneOn g d)) (f x) []) (keep h (allSegs p)) ≡ cond (h g) (f g) []
-seg-row p h f d g hg =
+seg-row p h f d g k hg =
     flat-cong (λ (x : Seg). cond (eqb (zoneOn x d) (zoneOn g d)) (f x) []) (λ (x : Seg). cond (sameSeg x g) (f x) []) (keep h (allSegs p))
-    (λ x m. ap (λ (b : Bool). cond b (f x) []) (zone-same p x g d (segs-in p x (keep-in h (allSegs p) x m .0)) hg))
-    ∙ seg-one p h f g hg
+    (λ x m. ap (λ (b : Bool). cond b (f x) []) (zone-same p x g d k (segs-in p x (keep-in h (allSegs p) x m .0)) hg))
+    ∙ seg-one p h f g (omega arith) hg
 
-pub row-on : (p : Params) (v : View) (gone d : ℕ) (g : Seg) → Named p g → rowOf p (segments p v gone) d (zoneOn g d) ≡ cond (remains p v gone g) (recsOn (segmentOf p v gone g) d) []
+pub row-on : (p : Params) (v : View) (gone d : ℕ) (g : Seg) → d < p .N → Named p g
+    → rowOf p (segments p v gone) d (zoneOn g d) ≡ cond (remains p v gone g) (recsOn (segmentOf p v gone g) d) []
 unfolding rowOf segments
-row-on p v gone d g h =
+row-on p v gone d g k h =
     flat-map (λ (x : Segment). cond (eqb (zoneOn (x .seg) d) (zoneOn g d)) (recsOn x d) []) (segmentOf p v gone) (remaining p v gone)
     ∙ flat-cong (λ x. cond (eqb (zoneOn (segmentOf p v gone x .seg) d) (zoneOn g d)) (recsOn (segmentOf p v gone x) d) [])
     (λ x. cond (eqb (zoneOn x d) (zoneOn g d)) (recsOn (segmentOf p v gone x) d) []) (remaining p v gone)
     (λ x m. ap (λ (y : Seg). cond (eqb (zoneOn y d) (zoneOn g d)) (recsOn (segmentOf p v gone x) d) []) (seg-is p v gone x))
     ∙ ap (flat (λ x. cond (eqb (zoneOn x d) (zoneOn g d)) (recsOn (segmentOf p v gone x) d) [])) (remaining-is p v gone)
-    ∙ seg-row p (remains p v gone) (λ x. recsOn (segmentOf p v gone x) d) d g h
+    ∙ seg-row p (remains p v gone) (λ x. recsOn (segmentOf p v gone x) d) d g k h
 
-pub row-is : (p : Params) (v : View) (gone d z : ℕ) → z < p .Z
-    → rowOf p (segments p v gone) d z ≡ cond (remains p v gone (segOn d z)) (recsOn (segmentOf p v gone (segOn d z)) d) []
-row-is p v gone d z h = ap (rowOf p (segments p v gone) d) (sym (seg-on-zone d z)) ∙ row-on p v gone d (segOn d z) (seg-on-named p d z h)
+pub row-is : (p : Params) (v : View) (gone d z : ℕ) → d < p .N → z < p .Z
+    → rowOf p (segments p v gone) d z ≡ cond (remains p v gone (segOn p d z)) (recsOn (segmentOf p v gone (segOn p d z)) d) []
+row-is p v gone d z k h = ap (rowOf p (segments p v gone) d) (sym (seg-on-zone p d z k)) ∙ row-on p v gone d (segOn p d z) k (seg-on-named p d z h)
 
 pub length-recs : (p : Params) (v : View) (gone : ℕ) (g : Seg) (d : ℕ) → d < p .N → length (recsOn (segmentOf p v gone g) d) ≤ p .S
 unfolding dataStored
@@ -276,21 +284,21 @@ length-recs p v gone g d h = go (test (isIn gone d))
 
 -- the compact table, by rows
 unfoldable pub rowAt : Params → View → ℕ → ℕ → ℕ → List Rec
-rowAt p v gone d z = cond (remains p v gone (segOn d z)) (recsOn (segmentOf p v gone (segOn d z)) d) []
+rowAt p v gone d z = cond (remains p v gone (segOn p d z)) (recsOn (segmentOf p v gone (segOn p d z)) d) []
 
 pub row-low : (p : Params) (v : View) (gone d z : ℕ) → d < p .N → length (rowAt p v gone d z) ≤ p .S
 unfolding rowAt
-row-low p v gone d z h = go (test (remains p v gone (segOn d z)))
+row-low p v gone d z h = go (test (remains p v gone (segOn p d z)))
   where
-    go : Test (remains p v gone (segOn d z)) → length (cond (remains p v gone (segOn d z)) (recsOn (segmentOf p v gone (segOn d z)) d) []) ≤ p .S
-    go (yes! q) = rw q (length-recs p v gone (segOn d z) d h)
+    go : Test (remains p v gone (segOn p d z)) → length (cond (remains p v gone (segOn p d z)) (recsOn (segmentOf p v gone (segOn p d z)) d) []) ≤ p .S
+    go (yes! q) = rw q (length-recs p v gone (segOn p d z) d h)
     go (no! q) = rw q (omega arith)
 
 pub compact-is : (p : Params) (v : View) (gone : ℕ) → compactTable p (segments p v gone) ≡ gridOf p (λ d z. compactRow p (rowAt p v gone d z))
 unfolding compactTable drivesOf gridOf rowAt
 compact-is p v gone = flat-cong (λ d. flat (λ z. compactRow p (rowOf p (segments p v gone) d z)) (below (p .Z))) (λ d. flat (λ z. compactRow p (rowAt p v gone d z)) (below (p .Z))) (below (p .N))
     (λ d m. flat-cong (λ z. compactRow p (rowOf p (segments p v gone) d z)) (λ z. compactRow p (rowAt p v gone d z)) (below (p .Z))
-    (λ z n. ap (compactRow p) (row-is p v gone d z (below-in (p .Z) z n))))
+    (λ z n. ap (compactRow p) (row-is p v gone d z (below-in (p .N) d m) (below-in (p .Z) z n))))
 
 pub compact-row-long : (p : Params) (v : View) (gone d z : ℕ) → d < p .N → z < p .Z → length (compactRow p (rowAt p v gone d z)) ≡ p .S
 compact-row-long p v gone d z hd hz = row-long p (rowAt p v gone d z) (row-low p v gone d z hd)
@@ -303,9 +311,10 @@ pub compact-at : (p : Params) (v : View) (gone d z o : ℕ) → d < p .N → z <
 compact-at p v gone d z o hd hz ho =
     ap (λ (x : List ℕ). getD x (compactAt p d z o) 0) (compact-is p v gone) ∙ grid-at p (λ d z. compactRow p (rowAt p v gone d z)) (compact-row-long p v gone) d z o hd hz ho
 
-pub row-seg : (p : Params) (v : View) (gone d : ℕ) (g : Seg) → Named p g → rowAt p v gone d (zoneOn g d) ≡ cond (remains p v gone g) (recsOn (segmentOf p v gone g) d) []
+pub row-seg : (p : Params) (v : View) (gone d : ℕ) (g : Seg) → d < p .N → Named p g
+    → rowAt p v gone d (zoneOn g d) ≡ cond (remains p v gone g) (recsOn (segmentOf p v gone g) d) []
 unfolding rowAt
-row-seg p v gone d g h = ap (λ (x : Seg). cond (remains p v gone x) (recsOn (segmentOf p v gone x) d) []) (seg-on-is p g d h)
+row-seg p v gone d g k h = ap (λ (x : Seg). cond (remains p v gone x) (recsOn (segmentOf p v gone x) d) []) (seg-on-is p g d k h)
 
 -- the compact table is the same where the rows of the segments are
 pub compact-rows : (p : Params) (v u : View) (gone : ℕ) → ((d : ℕ) (g : Seg) → d < p .N → Named p g → rowAt p v gone d (zoneOn g d) ≡ rowAt p u gone d (zoneOn g d))
@@ -313,5 +322,5 @@ pub compact-rows : (p : Params) (v u : View) (gone : ℕ) → ((d : ℕ) (g : Se
 compact-rows p v u gone f =
     compact-is p v gone
     ∙ grid-cong p (λ d z. compactRow p (rowAt p v gone d z)) (λ d z. compactRow p (rowAt p u gone d z))
-    (λ d z hd hz. ap (compactRow p) (by-seg (λ x. rowAt p v gone d x ≡ rowAt p u gone d x) p d z hz (λ g hg. f d g hd hg)))
+    (λ d z hd hz. ap (compactRow p) (by-seg (λ x. rowAt p v gone d x ≡ rowAt p u gone d x) p d z hd hz (λ g hg. f d g hd hg)))
     ∙ sym (compact-is p u gone)

@@ -9,7 +9,7 @@ use native.Mathlib.Omega.{arith}
 use lib.Dec.{leb, ltb, eqb}
 use lib.ListN.{length, getD, length-map}
 use Rattle.spec.specs.declared.Params.{Params}
-use Rattle.spec.specs.Drives.{View, zoneAt, pointerAt, sealedIn, dataStored, recordIn, Seg, zoneOn}
+use Rattle.spec.specs.Drives.{View, zoneAt, pointerAt, sealedIn, dataStored, recordIn, zoneOn}
 use Rattle.spec.specs.Faults.{twice, clashes}
 use Rattle.spec.specs.Layout.{group, inGroupOf, Rec, mkRec}
 use Rattle.spec.specs.Lists.{below, any, consIf, keep, isNil, sameList}
@@ -33,6 +33,7 @@ use Rattle.law_drives.specs.Tables.{remains, in-remaining, remaining-in}
 use Rattle.law_drives.specs.Tests.{clash, or-first, or-right}
 use Rattle.law_drives.specs.Tidy.{spareAt, usedAt}
 use Rattle.law_drives.specs.Zones.{Shaped}
+use Rattle.spec.specs.declared.Seg.{Seg}
 
 -- all are kept
 pub keep-full : {A : Type 0} (f : A → Bool) (l : List A) → length (keep f l) ≡ length l → (a : A) → In a l → f a ≡ true

@@ -1,7 +1,7 @@
 -- A restart's stores fit, and behind them no remaining segment has a bad stripe number or a bad data address (01, Restart, 4; Refusals, 9). Assumes nothing.
 use Prim.Native.Nat.{ℕ, suc, _+_, _^_, _<_}
 use Rattle.spec.specs.Counts.{lastCount}
-use Rattle.spec.specs.Drives.{noChunk, noZone, View, zoneAt, pointerAt, Store, storeView, storeAll, zoneOn, sealedIn, dataStored, recordIn, seg, Seg, allSegs}
+use Rattle.spec.specs.Drives.{noChunk, noZone, View, zoneAt, pointerAt, Store, storeView, storeAll, zoneOn, sealedIn, dataStored, recordIn, allSegs, noSeg}
 use Rattle.spec.specs.Faults.{outside, twice, stripeFault, storedBad, footerFaultIn, footerFault}
 use Rattle.spec.specs.Layout.{dataDrive, dataPosition, isData, Rec, mkRec, recordBytes, recordOf}
 use Rattle.spec.specs.Lists.{all, any, keep, isNil, flat, firstOr}
@@ -45,6 +45,7 @@ use mathlib.Core.List.{List, [], _∷_, _++_, append-nil}
 use mathlib.Core.Logic.{_⊎_, inl, inr}
 use mathlib.Core.Path.{_≡_, refl, sym, ap, ap₂, _∙_, subst}
 use native.Mathlib.Omega.{arith}
+use Rattle.spec.specs.declared.Seg.{Seg}
 
 -- what loading the memory asks for: no bad stripe number, and no bad data address stored
 abbrev pub GoodSegment : Params → ℕ → Segment → Type 0
@@ -229,7 +230,7 @@ module _ (p : Params) (r : Ranged p) (v : View) (sh : Shaped p v) (acc : Accepte
       ragged! :
           isWhole p (segmentOf p v 0 g) ≡ false
           → isRagged p (segmentOf p v 0 g) ≡ true
-          → mendStores p gs (segmentOf p v 0 g) ≡ rewriteStores p (segmentOf p v 0 g) (firstOr (seg 0) (freeSegs p gs)) (suc (greatestSerial gs))
+          → mendStores p gs (segmentOf p v 0 g) ≡ rewriteStores p (segmentOf p v 0 g) (firstOr noSeg (freeSegs p gs)) (suc (greatestSerial gs))
       ragged! q w = unfold mendStores in rw (q, w)
 
       rewrites! : isRagged p (segmentOf p v 0 g) ≡ true → rewrites p 0 gs ≡ true
@@ -242,8 +243,8 @@ module _ (p : Params) (r : Ranged p) (v : View) (sh : Shaped p v) (acc : Accepte
           let rw! = rewrites! w in
           let n6 : eqb (greatestSerial gs) lastCount ≡ false = sym (ap (λ (b : Bool). b && eqb (greatestSerial gs) lastCount) rw!) ∙ c6 in
           let n8 : isNil (freeSegs p gs) ≡ false = sym (ap (λ (b : Bool). b && isNil (freeSegs p gs)) rw!) ∙ c8 in
-          let z0 = firstOr (seg 0) (freeSegs p gs) in
-          let m : In z0 (keep (λ z. not (remains p v 0 z)) (allSegs p)) = subst (λ (l : List Seg). In z0 l) (free-are p r v sh acc) (first-in (freeSegs p gs) (seg 0) n8) in
+          let z0 = firstOr noSeg (freeSegs p gs) in
+          let m : In z0 (keep (λ z. not (remains p v 0 z)) (allSegs p)) = subst (λ (l : List Seg). In z0 l) (free-are p r v sh acc) (first-in (freeSegs p gs) noSeg n8) in
           let (i, f) = keep-in (λ z. not (remains p v 0 z)) (allSegs p) z0 m in
           let ne : ¬ (greatestSerial gs ≡ lastCount) = eqb-false (greatestSerial gs) lastCount n6 in
           subst (λ (l : List Store). UsedGood p (storeAll storeView l va)) (sym (ragged! q w))

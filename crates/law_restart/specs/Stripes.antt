@@ -1,7 +1,7 @@
 -- When no stripe number of a segment is outside its group or twice in a zone (01, Refusals, 9). Assumes nothing.
 use Prim.Native.Nat.{ℕ, suc, _<_}
 use Rattle.spec.specs.Counts.{paddingAddress}
-use Rattle.spec.specs.Drives.{Zone, View, zoneAt, sealedIn, dataStored, recordIn, Seg, zoneOn}
+use Rattle.spec.specs.Drives.{Zone, View, zoneAt, sealedIn, dataStored, recordIn, zoneOn}
 use Rattle.spec.specs.Faults.{outside, twice, stripeFault, badRec, storedBad, decodedBad, addressFault}
 use Rattle.spec.specs.Layout.{isData, group, inGroupOf, Rec, mkRec}
 use Rattle.spec.specs.Lists.{any, isIn}
@@ -21,6 +21,7 @@ use mathlib.Core.Path.{_≡_, refl, sym, ap, ap₂, _∙_, subst}
 use native.Mathlib.Nat.{zero-add}
 use native.Mathlib.Omega.{arith}
 use Rattle.law_drives.specs.Accept.{outside-none}
+use Rattle.spec.specs.declared.Seg.{Seg}
 
 -- 01, Refusals, 9: no number twice
 pub twice-none : (rs : List Rec) → ((i j : ℕ) → i < j → j < length rs → getD rs j (mkRec 0 0 0) .stripe ≡ getD rs i (mkRec 0 0 0) .stripe → ⊥) → twice rs ≡ false

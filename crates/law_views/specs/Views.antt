@@ -1,7 +1,7 @@
 -- The view of the bytes after a store is the store applied to the view (01, The array). Assumes nothing.
 use mathlib.Core.Path.{_≡_, refl, sym, ap, ap₂, _∙_, subst}
 use mathlib.Core.List.{map, List, [], _∷_, _++_}
-use mathlib.Core.Bool.{not}
+use mathlib.Core.Bool.{Bool, _||_}
 use Prim.Native.Nat.{ℕ, zero, suc, _+_, _*_, _^_, _≤_, _<_}
 use native.Mathlib.Omega.{arith}
 use lib.Seq.{take-append-seam, drop-append-seam, take-at, drop-at}
@@ -11,16 +11,18 @@ use native.Mathlib.Nat.{zero-add, suc-add, zero-mul, suc-mul, mul-comm, add-mul,
 use Rattle.spec.specs.Bytes.{beOf, toBe, part, splice}
 use Rattle.spec.specs.Drives.{Chunk, mkChunk, noChunk, Zone, mkZone, noZone, View, zoneAt, pointerAt, chunkAt, chunkOf, zoneOf, driveOf, viewOf, Store}
 use Rattle.spec.specs.Drives.{putZone, resetZone, setZone, storeView, Disk, pointerByte, pointerOf, setPointer, storeDisk, storeAll, allSegs, zoneOn}
-use Rattle.spec.specs.Drives.{emptyOnAll, emptySegs, sealedIn, Seg}
+use Rattle.spec.specs.Drives.{emptyOnAll, emptySegs, sealedIn}
 use Rattle.spec.specs.Drives.Store.{put, reset}
 use Rattle.spec.specs.Lists.{below, all, keep, pieces, zipped, isIn}
 use Rattle.spec.specs.Params.{spareLen, capacity, unitLen, zoneLen, driveLen, imageLen, pointersLen, placeOf, placeByte, drivesOf, present}
 use Rattle.spec.specs.declared.Params.{Params}
 use Rattle.law_basic.specs.Be.{length-toBe, beOf-toBe}
 use Rattle.law_basic.specs.Geometry.{item-fits, block-within}
-use Rattle.law_basic.specs.Ranges.{getD-map, map-set, all-below-same, all-keep-same, length-pieces, getD-pieces, zipped-set, getD-zipped}
+use Rattle.law_basic.specs.Ranges.{Test, test, getD-map, map-set, all-below-same, all-keep, length-pieces, getD-pieces, zipped-set, getD-zipped}
 use Rattle.law_basic.specs.Splice.{length-part, length-splice, part-add, part-part, splice-nil, splice-zero, splice-all, splice-cons-suc}
-use Rattle.law_basic.specs.Segs.{Named, zone-on-lt, keep-segs-same}
+use Rattle.law_basic.specs.Ranges.Test.{yes!, no! }
+use Rattle.law_basic.specs.Segs.{Named, zone-on-lt, ZonesLow, low-zone, keep-segs-same}
+use Rattle.spec.specs.declared.Seg.{Seg}
 
 -- ---- splices and pieces
 
@@ -412,12 +414,23 @@ empty-view p k g hg w =
     all-below-same (λ d. eqb (pointerAt (seen p k) d (zoneOn g d)) 0) (λ d. eqb (pointerOf p (k .pointers) d (zoneOn g d)) 0) (p .N)
     (λ d hd. ap (λ (x : ℕ). eqb x 0) (pointer-view p k d (zoneOn g d) hd (zone-on-lt p g d hg) w))
 
-pub sealed-view : (p : Params) (k : Disk) (gone : ℕ) (g : Seg) → Named p g → Whole p k
+pub sealed-view : (p : Params) (k : Disk) (gone : ℕ) (g : Seg) → ZonesLow p gone g → Whole p k
     → sealedIn p (seen p k) gone g ≡ all (λ d. eqb (pointerOf p (k .pointers) d (zoneOn g d)) (capacity p)) (present p gone)
-unfolding sealedIn present drivesOf below
+unfolding sealedIn present drivesOf
 sealed-view p k gone g hg w =
-    all-keep-same (λ d. not (isIn gone d)) (λ d. eqb (pointerAt (seen p k) d (zoneOn g d)) (capacity p)) (λ d. eqb (pointerOf p (k .pointers) d (zoneOn g d)) (capacity p)) 0 (p .N)
-    (λ d _ hd. ap (λ (x : ℕ). eqb x (capacity p)) (pointer-view p k d (zoneOn g d) (omega arith) (zone-on-lt p g d hg) w))
+    all-keep f (isIn gone) (below (p .N))
+    ∙ all-below-same (λ d. isIn gone d || f d) (λ d. isIn gone d || h d) (p .N) (λ d hd. go d hd (test (isIn gone d)))
+    ∙ sym (all-keep h (isIn gone) (below (p .N)))
+  where
+    f : ℕ → Bool
+    f d = eqb (pointerAt (seen p k) d (zoneOn g d)) (capacity p)
+
+    h : ℕ → Bool
+    h d = eqb (pointerOf p (k .pointers) d (zoneOn g d)) (capacity p)
+
+    go : (d : ℕ) → d < p .N → Test (isIn gone d) → (isIn gone d || f d) ≡ (isIn gone d || h d)
+    go d hd (yes! q) = rw q refl
+    go d hd (no! q) = ap (λ (x : ℕ). isIn gone d || eqb x (capacity p)) (pointer-view p k d (zoneOn g d) hd (low-zone p gone g d hg hd q) w)
 
 pub empty-zones-view : (p : Params) (k : Disk) → Whole p k
     → emptySegs p (seen p k) ≡ keep (λ g. all (λ d. eqb (pointerOf p (k .pointers) d (zoneOn g d)) 0) (drivesOf p)) (allSegs p)

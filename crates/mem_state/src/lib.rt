@@ -1,15 +1,19 @@
 // The state between calls: questions to it and to its bytes, and states with nothing in flight (01, Write; Landing; Reclaim). Each function
 // equals the definition that its contract names.
 ghost use mathlib.Core.Path.{_≡_};
-ghost use mathlib.Core.Bool.{not, _&&_};
-ghost use Prim.Native.Nat.{_<_};
+ghost use mathlib.Core.Bool.{true, not, _&&_};
+ghost use Prim.Native.Nat.{_≤_, _<_};
 ghost use lib.Dec.{eqb};
 ghost use lib.ListN.{length};
 ghost use Rattle.mem_state.specs.Flights.{hasAt, heldIn};
 ghost use Rattle.spec.specs.Memory.{stripeIn, openSegment, isFree, inFlight, holds, idleState, zeroState, stateLen, stateOf};
 ghost use Rattle.spec.specs.Landing.{slotOf};
-ghost use Rattle.spec.specs.Drives.{seg};
+ghost use Rattle.spec.specs.Params.{inRange};
+ghost use Rattle.spec.specs.declared.State.{State as StateOf};
+ghost use Rattle.law_basic.specs.Segs.{ZonesLow};
 use spec::Address;
+use spec::Params;
+use spec::Seg;
 use spec::Serial;
 use spec::Stamp;
 use spec::State;
@@ -86,15 +90,17 @@ pub fn slot_of(state: State, stripe: usize) -> usize
     8
 }
 
-// The open segment; 0 if there is none.
-pub fn open_segment(state: State) -> usize
-    ensures { λ r. ⌜ seg r ≡ openSegment state ⌝ }
+// The open segment of a state with this number; the first where none is open.
+pub fn open_segment(p: Params, opened: u32) -> Seg
+    requires { ⌜ inRange p ≡ true ⌝ }
+    requires { ⌜ opened ≤ p .Z ⌝ }
+    ensures { λ r. ⌜ ((st : StateOf) → st .opened ≡ opened → r ≡ openSegment p st) ⌝ }
+    ensures { λ r. ⌜ ZonesLow p 0 r ⌝ }
 {
-    let g = whole(state.opened);
-    if g == 0 {
-        return 0;
+    if opened == 0 {
+        return disk_shape::across(p, 0);
     }
-    g - 1
+    disk_shape::across(p, whole(opened - 1))
 }
 
 // ---- questions to the state's bytes

@@ -8,7 +8,7 @@ use native.Mathlib.Omega.{arith}
 use lib.ListN.{length, getD, take, drop, set, length-set, length-map}
 use lib.Seq.{getD-set-same, getD-set-other}
 use Rattle.spec.specs.declared.Params.{Params}
-use Rattle.spec.specs.Drives.{Chunk, mkChunk, noChunk, Zone, View, zoneAt, chunkAt, Store, putZone, Disk, zoneOn, zeroSpare, sparesOf, footerStores, headerStores, resetStores}
+use Rattle.spec.specs.Drives.{Chunk, mkChunk, noChunk, Zone, View, zoneAt, chunkAt, Store, putZone, Disk, zoneOn, zeroSpare, sparesOf, footerStores, headerStores, resetStores, zonesIn}
 use Rattle.spec.specs.Drives.Store.{put, reset}
 use Rattle.spec.specs.Layout.{dataDrive, dataDrives, dataPosition, isData, parityPosition, headerBlock, mkRec, footerBlock}
 use Rattle.spec.specs.Lists.{upFrom, below, isIn}
@@ -16,7 +16,6 @@ use Rattle.spec.specs.Params.{dataCount, spareLen, capacity, unitLen, placeOf, 
 use Rattle.spec.specs.Parity.{Piece, mkPiece, encodePiece}
 use Rattle.spec.specs.Restart.{renumbered, movedPieces, movedOn}
 use Rattle.spec.specs.Segments.{Segment, segmentOf, offsetOn, hasChunk, counts, storedPiece, pieceOf, putPiece}
-use Rattle.spec.specs.Drives.{Seg}
 use Rattle.law_basic.specs.Fields.{length-record, length-zeroSpare, header-block-long}
 use Rattle.law_basic.specs.Geometry.{Ranged, block-within, data-drive-lt, position-lt}
 use Rattle.law_basic.specs.Mask.{isIn-empty}
@@ -36,6 +35,7 @@ use Rattle.law_drives.specs.Segs.{data-low, zone-by, chunk-at}
 use Rattle.law_drives.specs.Spots.{counts-in}
 use Rattle.law_views.specs.Views.{Whole, blocks-long, block-view, spare-view, seen}
 use Rattle.proof_answers.specs.Rising.{Proper}
+use Rattle.spec.specs.declared.Seg.{Seg}
 
 -- ---- zones
 
@@ -99,14 +99,14 @@ module _ (p : Params) (r : Ranged p) where
   unfolding drivesOf
   listed-drive-low d m = below-in (p .N) d m
 
-  pub header-proper : (d z s c : ℕ) → d < p .N → z < p .Z → Proper p (put d z (headerBlock p d z s c) zeroSpare)
-  header-proper d z s c hd hz = (hd, hz, header-block-long p r d z s c, length-zeroSpare)
+  pub header-proper : (d z : ℕ) (zs : List ℕ) (s c : ℕ) → d < p .N → z < p .Z → Proper p (put d z (headerBlock p d zs s c) zeroSpare)
+  header-proper d z zs s c hd hz = (hd, hz, header-block-long p r d zs s c, length-zeroSpare)
 
   pub headers-proper : (z : Seg) (sn c : ℕ) → Named p z → (s : Store) → In s (headerStores p z sn c) → Proper p s
   unfolding headerStores
   headers-proper z sn c hz s m =
-      let (d, i, e) = map-in (λ d. put d (zoneOn z d) (headerBlock p d (zoneOn z d) sn c) zeroSpare) (drivesOf p) s m in
-      subst (λ (x : Store). Proper p x) (sym e) (header-proper d (zoneOn z d) sn c (listed-drive-low d i) (zone-on-lt p z d hz))
+      let (d, i, e) = map-in (λ d. put d (zoneOn z d) (headerBlock p d (zonesIn p z) sn c) zeroSpare) (drivesOf p) s m in
+      subst (λ (x : Store). Proper p x) (sym e) (header-proper d (zoneOn z d) (zonesIn p z) sn c (listed-drive-low d i) (zone-on-lt p z d hz))
 
   pub resets-proper : (z : Seg) → Named p z → (s : Store) → In s (resetStores p z) → Proper p s
   unfolding resetStores

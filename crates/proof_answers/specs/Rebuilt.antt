@@ -10,7 +10,7 @@ use native.Mathlib.Omega.{arith}
 use lib.Dec.{eqb}
 use lib.ListN.{length, length-append, length-map}
 use Rattle.spec.specs.declared.Params.{Params}
-use Rattle.spec.specs.Drives.{View, zoneAt, pointerAt, Store, zoneOn, zeroSpare, Seg}
+use Rattle.spec.specs.Drives.{View, zoneAt, pointerAt, Store, zoneOn, zeroSpare, zonesIn}
 use Rattle.spec.specs.Drives.Store.{put, reset}
 use Rattle.spec.specs.Layout.{headerBlock, recordBytes, footerBlock}
 use Rattle.spec.specs.Lists.{below, flat, isIn}
@@ -35,6 +35,7 @@ use Rattle.law_drives.specs.Tests.{and-false-left, cond-false, eqb-self}
 use Rattle.law_drives.specs.Zones.{hitsAt, hits}
 use Rattle.proof_answers.specs.Lengths.{Fair, header-proper, footer-proper, lost-piece-long, piece-proper}
 use Rattle.proof_answers.specs.Rising.{Rises, rises-few, Proper, Able}
+use Rattle.spec.specs.declared.Seg.{Seg}
 
 -- a store in zone z of drive d
 unfoldable isAt : ℕ → ℕ → Store → Type 0
@@ -77,12 +78,12 @@ module _ (p : Params) (r : Ranged p) (v : View) (fair : (d z : ℕ) → d < p .N
     feet = map (λ i. put d (zoneOn g d) (footerBlock p spares i) zeroSpare) (below (footers p))
 
     abbrev ours : List Store
-    ours = put d (zoneOn g d) (headerBlock p d (zoneOn g d) (x .serial) (x .copied)) zeroSpare ∷ (map (putPiece d (zoneOn g d)) pieces ++ cond (x .full) feet [])
+    ours = put d (zoneOn g d) (headerBlock p d (zonesIn p g) (x .serial) (x .copied)) zeroSpare ∷ (map (putPiece d (zoneOn g d)) pieces ++ cond (x .full) feet [])
 
     rebuilt-is : rebuiltZone p d x ≡ ours
     unfolding rebuiltZone
     rebuilt-is =
-        ap (λ (k : Seg). let y = zoneOn k d in put d y (headerBlock p d y (x .serial) (x .copied)) zeroSpare
+        ap (λ (k : Seg). let y = zoneOn k d in put d y (headerBlock p d (zonesIn p k) (x .serial) (x .copied)) zeroSpare
         ∷ (map (putPiece d y) pieces ++ cond (x .full) (map (λ i. put d y (footerBlock p spares i) zeroSpare) (below (footers p))) [])) (seg-is p v gone g)
 
     -- 01, Rebuild: header, the counted chunks and the footers fill at most the zone
@@ -140,8 +141,8 @@ module _ (p : Params) (r : Ranged p) (v : View) (fair : (d z : ℕ) → d < p .N
 
         go : In s ours → Proper p s × isAt d (zoneOn g d) s
         go (inl e) =
-            let b = headerBlock p d (zoneOn g d) (x .serial) (x .copied) in
-            as! (put d (zoneOn g d) b zeroSpare) e (header-proper p r d (zoneOn g d) (x .serial) (x .copied) hd (zone-on-lt p g d hg), put-is-at d (zoneOn g d) b zeroSpare)
+            let b = headerBlock p d (zonesIn p g) (x .serial) (x .copied) in
+            as! (put d (zoneOn g d) b zeroSpare) e (header-proper p r d (zoneOn g d) (zonesIn p g) (x .serial) (x .copied) hd (zone-on-lt p g d hg), put-is-at d (zoneOn g d) b zeroSpare)
         go (inr n) = rest (in-append s (map (putPiece d (zoneOn g d)) pieces) (cond (x .full) feet []) n)
 
     rebuilt-hits : (e y : ℕ) → hits e y (rebuiltZone p d x) ≡ cond (eqb d e && eqb (zoneOn g d) y) (rebuiltZone p d x) []
@@ -175,7 +176,7 @@ module _ (p : Params) (r : Ranged p) (v : View) (fair : (d z : ℕ) → d < p .N
       ∙ ap₂ _++_ (keep-map (hitsAt d y) (λ z. reset d z) (below (p .Z)) ∙ ap (map (λ z. reset d z)) (keep-one-below (λ z. hitsAt d y (reset d z)) y (p .Z) hit (zone-on-lt p k d hk)))
       (puts-hits d y ∙ flat-cong (λ g. cond (eqb d d && eqb (zoneOn g d) y) (zone g) []) (λ g. cond (eqb (zoneOn g d) y) (zone g) []) (remaining p v gone)
       (λ g m. ap (λ (b : Bool). cond (b && eqb (zoneOn g d) y) (zone g) []) (eqb-self d))
-      ∙ ap (flat (λ g. cond (eqb (zoneOn g d) y) (zone g) [])) (remaining-is p v gone) ∙ seg-row p (remains p v gone) zone d k hk)
+      ∙ ap (flat (λ g. cond (eqb (zoneOn g d) y) (zone g) [])) (remaining-is p v gone) ∙ seg-row p (remains p v gone) zone d k hd hk)
     where
       hit : (z : ℕ) → hitsAt d (zoneOn k d) (reset d z) ≡ eqb z (zoneOn k d)
       hit z = unfold hitsAt in rw (eqb-self d)
@@ -214,5 +215,5 @@ module _ (p : Params) (r : Ranged p) (v : View) (fair : (d z : ℕ) → d < p .N
       go : (e y : ℕ) → y < p .Z → Dec (d ≡ e) → Rises p (pointerAt v e y) (hits e y (rebuildStores p d (segments p v gone)))
       go e y hy (no n) = subst (λ (l : List Store). Rises p (pointerAt v e y) l) (sym (off-hits e y (ne-eqb d e n))) tt
       go e y hy (yes n) = subst (λ (x : ℕ). Rises p (pointerAt v x y) (hits x y (rebuildStores p d (segments p v gone)))) n
-          (by-seg (λ x. Rises p (pointerAt v d x) (hits d x (rebuildStores p d (segments p v gone)))) p d y hy
+          (by-seg (λ x. Rises p (pointerAt v d x) (hits d x (rebuildStores p d (segments p v gone)))) p d y hd hy
           (λ k hk. subst (λ (l : List Store). Rises p (pointerAt v d (zoneOn k d)) l) (sym (here-hits k hk)) (few k hk (remains p v gone k))))

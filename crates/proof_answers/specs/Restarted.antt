@@ -9,7 +9,7 @@ use native.Mathlib.Omega.{arith}
 use lib.Dec.{leb}
 use lib.ListN.{length, getD, length-append, length-map}
 use Rattle.spec.specs.declared.Params.{Params}
-use Rattle.spec.specs.Drives.{Chunk, Zone, noZone, View, zoneAt, pointerAt, Store, allSegs, zoneOn, zeroSpare, headerStores, footerStores, resetStores, seg, Seg, sameSeg}
+use Rattle.spec.specs.Drives.{Chunk, Zone, noZone, View, zoneAt, pointerAt, Store, allSegs, zoneOn, zeroSpare, headerStores, footerStores, resetStores, sameSeg, noSeg, zonesIn}
 use Rattle.spec.specs.Drives.Store.{put, reset}
 use Rattle.spec.specs.Faults.{footersStored, clashes}
 use Rattle.spec.specs.Layout.{headerBlock}
@@ -34,6 +34,7 @@ use Rattle.law_drives.specs.Zones.{hitsAt, hits}
 use Rattle.law_drives.specs.Tables.{seg-one}
 use Rattle.proof_answers.specs.Lengths.{Fair, headers-proper, resets-proper, footers-proper, footer-chunks-count, moved-piece-long, piece-proper}
 use Rattle.proof_answers.specs.Rising.{Rises, rises-few, Proper, Able}
+use Rattle.spec.specs.declared.Seg.{Seg}
 
 module _ (p : Params) (r : Ranged p) (v : View) (fair : (d z : ℕ) → d < p .N → z < p .Z → Fair p (zoneAt v d z)) where
   abbrev gs : List Segment
@@ -55,7 +56,7 @@ module _ (p : Params) (r : Ranged p) (v : View) (fair : (d z : ℕ) → d < p .N
       hits-flat e (zoneOn y e) (resetStores p) (keep free (allSegs p))
       ∙ flat-cong (λ g. hits e (zoneOn y e) (resetStores p g)) (λ g. cond (sameSeg g y) (reset e (zoneOn g e) ∷ []) []) (keep free (allSegs p))
       (λ g m. resets-on p e y g hy (segs-in p g (keep-in free (allSegs p) g m .0)) he)
-      ∙ seg-one p free (λ g. reset e (zoneOn g e) ∷ []) y hy
+      ∙ seg-one p free (λ g. reset e (zoneOn g e) ∷ []) y (omega arith) hy
 
   drop-proper : (s : Store) → In s (dropStores p gs) → Proper p s
   unfolding dropStores
@@ -71,7 +72,7 @@ module _ (p : Params) (r : Ranged p) (v : View) (fair : (d z : ℕ) → d < p .N
       each s (inr i) = f s i
 
       up : (e y : ℕ) → e < p .N → y < p .Z → Rises p (pointerAt v e y) (hits e y (dropStores p gs ++ ts))
-      up e z he hz = by-seg (λ x. Rises p (pointerAt v e x) (hits e x (dropStores p gs ++ ts))) p e z hz
+      up e z he hz = by-seg (λ x. Rises p (pointerAt v e x) (hits e x (dropStores p gs ++ ts))) p e z he hz
           (λ y hy. subst (λ (l : List Store). Rises p (pointerAt v e (zoneOn y e)) l) (sym (hits-append e (zoneOn y e) (dropStores p gs) ts)) (go y hy (test (free y))))
         where
           go : (y : Seg) → Named p y → Test (free y) → Rises p (pointerAt v e (zoneOn y e)) (hits e (zoneOn y e) (dropStores p gs) ++ hits e (zoneOn y e) ts)
@@ -173,7 +174,7 @@ module _ (p : Params) (r : Ranged p) (v : View) (fair : (d z : ℕ) → d < p .N
           let f : ℕ → Store = λ d. putPiece d (zoneOn z d) (movedOn p (movedPieces p x s k) k d) in
           hits-append e (zoneOn y e) (movedStripe p x z s k) (movedStripes p x z ss (suc k))
           ∙ ap₂ _++_ (ap (hits e (zoneOn y e)) (moved-stripe-is s k) ∙ hits-drives p e (zoneOn y e) (zoneOn z) f (λ d. unfold putPiece hitsAt in refl) he
-          ∙ ap (λ (b : Bool). cond b (f e ∷ []) []) (zone-same p z y e hz hy)) (moved-hits e y ss (suc k) he hy)
+          ∙ ap (λ (b : Bool). cond b (f e ∷ []) []) (zone-same p z y e he hz hy)) (moved-hits e y ss (suc k) he hy)
           ∙ join (sameSeg z y) (f e)
         where
           join : (b : Bool) (t : Store) → cond b (t ∷ []) [] ++ cond b (movedTo e ss (suc k)) [] ≡ cond b (t ∷ movedTo e ss (suc k)) []
@@ -209,7 +210,7 @@ module _ (p : Params) (r : Ranged p) (v : View) (fair : (d z : ℕ) → d < p .N
       old = resetStores p (x .seg)
 
       abbrev head : ℕ → Store
-      head e = put e (zoneOn z e) (headerBlock p e (zoneOn z e) sn (x .serial)) zeroSpare
+      head e = put e (zoneOn z e) (headerBlock p e (zonesIn p z) sn (x .serial)) zeroSpare
 
       rewrite-is : rewriteStores p x z sn ≡ (heads ++ moved) ++ old
       unfolding rewriteStores
@@ -284,11 +285,11 @@ module _ (p : Params) (r : Ranged p) (v : View) (fair : (d z : ℕ) → d < p .N
         nothing = drop-able [] (λ s m. absurd m) (λ e y he hy q. unfold keep in tt) (λ e y he hy q. unfold keep in tt)
 
         go : (b : Bool) → Test (isRagged p x)
-            → Able p v (dropStores p gs ++ cond b (missingFooters p x) (cond (isRagged p x) (rewriteStores p x (firstOr (seg 0) (freeSegs p gs)) (suc (greatestSerial gs))) []))
+            → Able p v (dropStores p gs ++ cond b (missingFooters p x) (cond (isRagged p x) (rewriteStores p x (firstOr noSeg (freeSegs p gs)) (suc (greatestSerial gs))) []))
         go true t = footers-able acc
         go false (yes! q) =
-            let (hz, fz) = free-in (firstOr (seg 0) (freeSegs p gs)) (first-in (freeSegs p gs) (seg 0) (h q)) in
-            rw q (rewrite-able (firstOr (seg 0) (freeSegs p gs)) (suc (greatestSerial gs)) hz fz)
+            let (hz, fz) = free-in (firstOr noSeg (freeSegs p gs)) (first-in (freeSegs p gs) noSeg (h q)) in
+            rw q (rewrite-able (firstOr noSeg (freeSegs p gs)) (suc (greatestSerial gs)) hz fz)
         go false (no! q) = rw q nothing
 
   -- ---- all of them

@@ -19,13 +19,13 @@ use Rattle.spec.specs.Lists.{below, any, consIf, keep, isNil, flat, firstOr}
 use Rattle.spec.specs.Memory.{Memory, slotCount, entriesIn, openSegment, slotBlock, slotByte}
 use Rattle.spec.specs.Params.{between, footers, capacity, inflightLen, drivesOf}
 use Rattle.spec.specs.Write.{opens, sending}
-use Rattle.spec.specs.Drives.{seg, Seg}
+use Rattle.spec.specs.Drives.{noSeg, zonesIn}
 use Rattle.law_basic.specs.Fields.{length-record}
 use Rattle.law_basic.specs.Geometry.{Ranged, between-low, between-high, slot-within}
 use Rattle.law_basic.specs.Ranges.{Test, test, and-left, and-right, and-both}
 use Rattle.law_basic.specs.Ranges.Test.{yes!, no! }
 use Rattle.law_basic.specs.Splice.{length-part}
-use Rattle.law_basic.specs.Segs.{Named, zone-on-lt, zone-named}
+use Rattle.law_basic.specs.Segs.{Named, seg-named, zone-on-lt, across-zone}
 use Rattle.law_drives.specs.Footers.{hits-each, footerChunks, footer-puts}
 use Rattle.law_drives.specs.Members.{In, flat-in, keep-in, all-in, none-in, flat-cong, in-below, below-in, first-in}
 use Rattle.law_drives.specs.Puts.{putAt, hits-resets, hits-headers, on-drive}
@@ -35,6 +35,7 @@ use Rattle.law_drives.specs.Zones.{Sized, hitsAt, zoneStore, hits, zone-stored}
 use Rattle.law_drives.specs.Segs.{segs-in}
 use Rattle.proof_answers.specs.Lengths.{Fair, put-fair, headers-proper, resets-proper, footers-proper, footer-chunks-count}
 use Rattle.proof_answers.specs.Rising.{Rises, rises-few, Proper, Able, able-none}
+use Rattle.spec.specs.declared.Seg.{Seg}
 
 -- ---- resets of a segment
 
@@ -66,15 +67,15 @@ headers-able p r v z sn c hz e = record {
   rises = λ d y hd hy. subst (λ (l : List Store). Rises p (pointerAt v d y) l) (sym (hits-headers p d y z sn c hd)) (go d y hd (ℕ-discrete (zoneOn z d) y));
 }
   where
-    go : (d y : ℕ) → d < p .N → Dec (zoneOn z d ≡ y) → Rises p (pointerAt v d y) (cond (eqb (zoneOn z d) y) (put d (zoneOn z d) (headerBlock p d (zoneOn z d) sn c) zeroSpare ∷ []) [])
+    go : (d y : ℕ) → d < p .N → Dec (zoneOn z d ≡ y) → Rises p (pointerAt v d y) (cond (eqb (zoneOn z d) y) (put d (zoneOn z d) (headerBlock p d (zonesIn p z) sn c) zeroSpare ∷ []) [])
     go d y hd (yes q) =
         let n : pointerAt v d y ≡ 0 = ap (λ (x : ℕ). pointerAt v d x) (sym q) ∙ e d hd in
         subst (λ (l : List Store). Rises p (pointerAt v d y) l)
-        (sym (cond-true (eqb (zoneOn z d) y) (put d (zoneOn z d) (headerBlock p d (zoneOn z d) sn c) zeroSpare ∷ []) [] (eq-eqb (zoneOn z d) y q)))
+        (sym (cond-true (eqb (zoneOn z d) y) (put d (zoneOn z d) (headerBlock p d (zonesIn p z) sn c) zeroSpare ∷ []) [] (eq-eqb (zoneOn z d) y q)))
         (omega (arith, capacity-over p r), tt)
     go d y hd (no q) =
         subst (λ (l : List Store). Rises p (pointerAt v d y) l)
-        (sym (cond-false (eqb (zoneOn z d) y) (put d (zoneOn z d) (headerBlock p d (zoneOn z d) sn c) zeroSpare ∷ []) [] (ne-eqb (zoneOn z d) y q))) tt
+        (sym (cond-false (eqb (zoneOn z d) y) (put d (zoneOn z d) (headerBlock p d (zonesIn p z) sn c) zeroSpare ∷ []) [] (ne-eqb (zoneOn z d) y q))) tt
 
 -- 01, Write: a block sent stores headers where it opens a segment
 pub sending-able : (p : Params) (r : Ranged p) (v : View) (st : State) (fl : List ℕ) (a t w : ℕ) (b : List ℕ)
@@ -82,10 +83,10 @@ pub sending-able : (p : Params) (r : Ranged p) (v : View) (st : State) (fl : Lis
 unfolding sending
 sending-able p r v st fl a t w b h = go (test (opens p st))
   where
-    go : Test (opens p st) → Able p v (cond (opens p st) (headerStores p (firstOr (seg 0) (emptySegs p v)) (suc (st .serial .0)) 0) [])
+    go : Test (opens p st) → Able p v (cond (opens p st) (headerStores p (firstOr noSeg (emptySegs p v)) (suc (st .serial .0)) 0) [])
     go (yes! q) =
-        let (hz, e) = empty-zone p v (firstOr (seg 0) (emptySegs p v)) (first-in (emptySegs p v) (seg 0) (h q)) in
-        rw q (headers-able p r v (firstOr (seg 0) (emptySegs p v)) (suc (st .serial .0)) 0 hz e)
+        let (hz, e) = empty-zone p v (firstOr noSeg (emptySegs p v)) (first-in (emptySegs p v) noSeg (h q)) in
+        rw q (headers-able p r v (firstOr noSeg (emptySegs p v)) (suc (st .serial .0)) 0 hz e)
     go (no! q) = rw q (able-none p v)
 
 -- ---- a landing
@@ -96,6 +97,11 @@ unfolding consIf
 not-put true a l e = absurd (let x : _≡_ {A = ℕ} 0 1 = cc in let y : ⊥ = omega arith in y)
 not-put false a l e = (refl, e)
 
+-- the open segment is one of those that there may be, where its zone on a drive is one
+open-in-array : (p : Params) (st : State) (d : ℕ) → d < p .N → zoneOn (openSegment p st) d < p .Z → Named p (openSegment p st)
+unfolding openSegment
+open-in-array p st d k h = seg-named p (st .opened - 1) (subst (λ (x : ℕ). x < p .Z) (across-zone p (st .opened - 1) d k) h)
+
 module _ (p : Params) (r : Ranged p) (v : View) (sized : Sized p v) (fair : (d z : ℕ) → d < p .N → z < p .Z → Fair p (zoneAt v d z)) (m : Memory)
     (lent : length (m .inflight) ≡ inflightLen p) (d s : ℕ) (waits : waiting p (m .state) d s ≡ true) (none : landFaults p v m d s ≡ []) where
   abbrev st : State
@@ -105,7 +111,7 @@ module _ (p : Params) (r : Ranged p) (v : View) (sized : Sized p v) (fair : (d z
   i = slotOf st s
 
   abbrev g : Seg
-  g = openSegment st
+  g = openSegment p st
 
   abbrev pub chunk : Store
   chunk = put d (zoneOn g d) (slotBlock p (m .inflight) i d) (recordBytes (flightRec p st i d))
@@ -137,7 +143,7 @@ module _ (p : Params) (r : Ranged p) (v : View) (sized : Sized p v) (fair : (d z
 
   -- 01, Write: the open segment is one of the array
   open-low : Named p g
-  open-low = zone-named p g d (go (decLt (zoneOn g d) (p .Z)))
+  open-low = open-in-array p st d (land-waits-low .0) (go (decLt (zoneOn g d) (p .Z)))
     where
       outside : p .Z ≤ zoneOn g d → pointerAt v d (zoneOn g d) ≡ 0
       outside h = unfold pointerAt zoneAt noZone in

@@ -16,7 +16,7 @@ use Rattle.spec.specs.Calls.{Check, ninth, ruled, firstRefusal, Plan, mkPlan, V
 use Rattle.spec.specs.Calls.Check.{rule, zones}
 use Rattle.spec.specs.Calls.Verdict.{refused, due}
 use Rattle.spec.specs.Closing.{closeChecks, closePlan, closeVerdict, emptyChecks, emptyPlan, emptyVerdict}
-use Rattle.spec.specs.Drives.{View, Disk, storeDisk, Seg}
+use Rattle.spec.specs.Drives.{View, Disk, storeDisk}
 use Rattle.spec.specs.Engine.{Call, storeCount, lentBlock, verdict, callOn}
 use Rattle.spec.specs.Engine.Call.{write, land, close, reclaim, read, fill, restart, rebuild}
 use Rattle.spec.specs.Faults.{imageChecks}
@@ -39,6 +39,7 @@ use Rattle.law_checks.specs.Checks.{Decided, decide}
 use Rattle.law_checks.specs.Checks.Decided.{stops, goes}
 use Rattle.law_views.specs.Views.{seen}
 use Rattle.law_calls.specs.Refusals.{refusal-kind}
+use Rattle.spec.specs.declared.Seg.{Seg}
 
 -- ---- numbers of refusals
 

@@ -8,12 +8,13 @@ use lib.Bits.{or-lt}
 use lib.Dec.{lit<}
 use lib.ListN.{getD, set, replicate, length-set, length-replicate}
 use Rattle.spec.specs.declared.State.{State}
-use Rattle.spec.specs.Drives.{Seg}
 use Rattle.spec.specs.Lists.{only}
 use Rattle.spec.specs.Memory.{stateSections, cell, idleState, zeroState, filledIn, landedIn, setStamp, setOpen, setClosed, beginStripe, addEntry, landedMask, markLanded, freeStripe}
 use Rattle.law_basic.specs.Mask.{only-lt}
 use Rattle.law_drives.specs.Tables.{zero-at}
 use Rattle.proof_bytes.specs.Sections.{limit, limit-pos, LowList, StateFits}
+use Rattle.spec.specs.declared.Seg.{Seg}
+use Rattle.spec.specs.Drives.{zoneOn}
 
 -- ---- lists of numbers
 
@@ -56,7 +57,7 @@ module _ (st : State) (f : StateFits st) where
     offsets-fit = f .offsets-fit;
   }
 
-  pub fits-open : (g : Seg) (r : ℕ) → suc (g .name) < limit 4 → r < limit 3 → StateFits (setOpen st g r)
+  pub fits-open : (g : Seg) (r : ℕ) → suc (zoneOn g 0) < limit 4 → r < limit 3 → StateFits (setOpen st g r)
   unfolding setOpen
   fits-open g r h k = record {
     live-fits = f .live-fits;

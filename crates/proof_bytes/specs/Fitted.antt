@@ -15,7 +15,7 @@ use Rattle.spec.specs.declared.Params.{Params}
 use Rattle.spec.specs.declared.State.{State}
 use Rattle.spec.specs.Closing.{padded, closeChecks, closePlan}
 use Rattle.spec.specs.Counts.{paddingAddress, lastCount}
-use Rattle.spec.specs.Drives.{View, pointerAt, storeView, storeAll, Seg, seg, allSegs, emptyOnAll, emptySegs, zoneOn, recordAt}
+use Rattle.spec.specs.Drives.{View, pointerAt, storeView, storeAll, allSegs, emptyOnAll, emptySegs, zoneOn, recordAt, noSeg}
 use Rattle.spec.specs.Landing.{slotOf, completes, seals, misplaced, overfull, entryFaults, landFaults, landChecks, landPlan}
 use Rattle.spec.specs.Layout.{group}
 use Rattle.spec.specs.Lists.{Opt, below, isNil, firstOr, consIf, flat}
@@ -30,7 +30,7 @@ use Rattle.law_basic.specs.Geometry.{between-high, Ranged, ranged, addresses-al
 use Rattle.law_basic.specs.Mask.{only-lt}
 use Rattle.law_basic.specs.Ranges.{Test, test, and-left, length-below, length-keep}
 use Rattle.law_basic.specs.Ranges.Test.{yes!, no! }
-use Rattle.law_basic.specs.Segs.{Named, named-lt, seg-named}
+use Rattle.law_basic.specs.Segs.{Named, zone-on-lt, low-here, none-zones-low}
 use Rattle.law_checks.specs.Passed.{write-passed, land-passed, close-passed, ReclaimPassed, reclaim-passed, restart-passed}
 use Rattle.law_drives.specs.Members.{In, map-in, keep-in, first-in}
 use Rattle.law_drives.specs.Segs.{remaining-low, seg-is, segs-in}
@@ -39,6 +39,7 @@ use Rattle.law_drives.specs.States.{StateOk, state-of}
 use Rattle.proof_bytes.specs.Sections.{limit, limit-pos, StateFits}
 use Rattle.proof_bytes.specs.Changes.{low-set, set-le, fits-stamp, fits-open, fits-closed, fits-begin, fits-add, fits-mark, fits-free, fits-idle}
 use Rattle.proof_bytes.specs.Reads.{LowReads, stamps-low, serials-low}
+use Rattle.spec.specs.declared.Seg.{Seg}
 
 -- ---- what a state in range bounds
 
@@ -61,23 +62,23 @@ module _ (p : Params) (st : State) (f : StateFits st) (r : Ranged p) (so : State
 
 -- ---- a block sent
 
-first-empty-low : (p : Params) (v : View) → 4 ≤ p .Z → Named p (firstOr (seg 0) (emptySegs p v))
+first-empty-low : (p : Params) (v : View) → Ranged p → zoneOn (firstOr noSeg (emptySegs p v)) 0 < p .Z
 unfolding isNil
-first-empty-low p v h = go (test (isNil (emptySegs p v)))
+first-empty-low p v r = go (test (isNil (emptySegs p v)))
   where
-    inside : In (firstOr (seg 0) (emptySegs p v)) (emptySegs p v) → Named p (firstOr (seg 0) (emptySegs p v))
-    inside m = segs-in p (firstOr (seg 0) (emptySegs p v)) (of! (firstOr (seg 0) (emptySegs p v)) m)
+    inside : In (firstOr noSeg (emptySegs p v)) (emptySegs p v) → zoneOn (firstOr noSeg (emptySegs p v)) 0 < p .Z
+    inside m = zone-on-lt p (firstOr noSeg (emptySegs p v)) 0 (segs-in p (firstOr noSeg (emptySegs p v)) (of! (firstOr noSeg (emptySegs p v)) m))
       where
         of! : (g : Seg) → In g (emptySegs p v) → In g (allSegs p)
         of! g m = unfold emptySegs in keep-in (emptyOnAll p v) (allSegs p) g m .0
 
-    nothing : (l : List Seg) → isNil l ≡ true → Named p (firstOr (seg 0) l)
-    nothing [] q = unfold firstOr in seg-named p 0 (omega arith)
+    nothing : (l : List Seg) → isNil l ≡ true → zoneOn (firstOr noSeg l) 0 < p .Z
+    nothing [] q = unfold firstOr in low-here p noSeg 0 (none-zones-low p 0 (omega (arith, r .zones-low))) (omega (arith, r .drives-low))
     nothing (a ∷ l) q = clash q refl
 
-    go : Test (isNil (emptySegs p v)) → Named p (firstOr (seg 0) (emptySegs p v))
+    go : Test (isNil (emptySegs p v)) → zoneOn (firstOr noSeg (emptySegs p v)) 0 < p .Z
     go (yes! q) = nothing (emptySegs p v) q
-    go (no! q) = inside (first-in (emptySegs p v) (seg 0) q)
+    go (no! q) = inside (first-in (emptySegs p v) noSeg q)
 
 module _ (p : Params) (r : Ranged p) (v : View) (st : State) (f : StateFits st) (m : Small st) (serial : opens p st ≡ true → suc (st .serial .0) < limit 3) where
   opened-fits : StateFits (openedBy p v st) × Small (openedBy p v st)
@@ -85,12 +86,12 @@ module _ (p : Params) (r : Ranged p) (v : View) (st : State) (f : StateFits st) 
   opened-fits = go (test (opens p st))
     where
       st′ : State
-      st′ = setOpen st (firstOr (seg 0) (emptySegs p v)) (suc (st .serial .0))
+      st′ = setOpen st (firstOr noSeg (emptySegs p v)) (suc (st .serial .0))
 
       go : Test (opens p st) → StateFits (cond (opens p st) st′ st) × Small (cond (opens p st) st′ st)
       go (yes! q) = subst (λ (b : Bool). StateFits (cond b st′ st) × Small (cond b st′ st)) (sym q) (
-        fits-open st f (firstOr (seg 0) (emptySegs p v)) (suc (st .serial .0))
-            (let a = named-lt p (firstOr (seg 0) (emptySegs p v)) (first-empty-low p v (r .zones-low)) in let b = r .zones-high in omega arith) (serial q),
+        fits-open st f (firstOr noSeg (emptySegs p v)) (suc (st .serial .0))
+            (let a = first-empty-low p v r in let b = r .zones-high in omega arith) (serial q),
         record { filled-small = m .filled-small; next-small = omega arith },
       )
       go (no! q) = subst (λ (b : Bool). StateFits (cond b st′ st) × Small (cond b st′ st)) (sym q) (f, m)
@@ -175,17 +176,17 @@ module _ (p : Params) (long : Bool) (v : View) (m : Memory) (f : StateFits (m .s
       let c = land-passed p long v m d s e in
       let r = ranged p (c .in-range) in
       let i = slotOf st s in
-      let g = openSegment st in
+      let g = openSegment p st in
       let o = pointerAt v d (zoneOn g d) - 1 in
       let st₁ = markLanded st i d o in
       let f₁ = fits-mark st f i d o (placed-low d g s r (off (c .chunk-fine))) in
       go (completes p st i d) (seals p st i d) st₁ i f₁
     where
-      off : landFaults p v m d s ≡ [] → misplaced p v d (zoneOn (openSegment st) d) s ≡ false
-      off q = unfold landFaults in consIf-nil (misplaced p v d (zoneOn (openSegment st) d) s) (zoneOn (openSegment st) d) _ (of! q)
+      off : landFaults p v m d s ≡ [] → misplaced p v d (zoneOn (openSegment p st) d) s ≡ false
+      off q = unfold landFaults in consIf-nil (misplaced p v d (zoneOn (openSegment p st) d) s) (zoneOn (openSegment p st) d) _ (of! q)
         where
-          of! : landFaults p v m d s ≡ [] → consIf (misplaced p v d (zoneOn (openSegment st) d) s) (zoneOn (openSegment st) d)
-              (consIf (seals p st (slotOf st s) d && overfull p v d (openSegment st)) (zoneOn (openSegment st) d)
+          of! : landFaults p v m d s ≡ [] → consIf (misplaced p v d (zoneOn (openSegment p st) d) s) (zoneOn (openSegment p st) d)
+              (consIf (seals p st (slotOf st s) d && overfull p v d (openSegment p st)) (zoneOn (openSegment p st) d)
               (cond (completes p st (slotOf st s) d) (flat (entryFaults p v (m .addresses)) (entriesIn st (slotOf st s))) [])) ≡ []
           of! q = unfold landFaults in q
 
@@ -274,7 +275,7 @@ idle-fits p r v d fl ht hs =
 
     low-open : (l : List Segment) → ((x : Segment) → In x l → Named p (x .seg)) → openOf l < limit 4
     low-open [] i = lit< tt
-    low-open (g ∷ gs) i = let a = named-lt p (g .seg) (i g (inl refl)) in let b = r .zones-high in omega arith
+    low-open (g ∷ gs) i = let a = zone-on-lt p (g .seg) 0 (i g (inl refl)) in let b = r .zones-high in omega arith
 
     low-next : (l : List Segment) → nextOf p l < limit 5
     low-next [] = lit< tt

@@ -11,7 +11,7 @@ use lib.ListN.{length, getD, drop, List·getD-eq-default}
 use lib.Seq.{getD-drop}
 use Rattle.spec.specs.declared.Params.{Params}
 use Rattle.spec.specs.Bytes.{part}
-use Rattle.spec.specs.Drives.{Chunk, noChunk, Zone, noZone, View, zoneAt, chunkAt, Seg, zoneOn, sealedIn, dataStored, blocksOf, recordIn}
+use Rattle.spec.specs.Drives.{Chunk, noChunk, Zone, noZone, View, zoneAt, chunkAt, zoneOn, sealedIn, dataStored, blocksOf, recordIn}
 use Rattle.spec.specs.Layout.{dataDrive, headerSerial, Rec, mkRec, recordOf, footerRecord}
 use Rattle.spec.specs.Lists.{below, isIn}
 use Rattle.spec.specs.Params.{capacity, spareLen, perFooter}
@@ -29,6 +29,7 @@ use Rattle.law_drives.specs.Members.{In, map-in, in-getD}
 use Rattle.law_drives.specs.Records.{blocks-at}
 use Rattle.law_drives.specs.Segs.{recs-on, serial-is, cand-at}
 use Rattle.law_drives.specs.Zones.{Bytes, Plain, ZoneOk, Shaped}
+use Rattle.spec.specs.declared.Seg.{Seg}
 
 -- address and stamp are of 8 bytes
 abbrev pub LowRec : Rec → Type 0
@@ -37,7 +38,7 @@ LowRec r = (r .address < 256 ^ 8) × (r .stamp < 256 ^ 8)
 -- every record and every serial is
 pub record LowReads (p : Params) (v : View) : Type 0 where
   pub records-low : (w : Bool) (d z o : ℕ) → LowRec (recordIn p w (zoneAt v d z) o)
-  pub headers-low : (d : ℕ) (g : Seg) → headerSerial (headerAt v d g) < 256 ^ 8
+  pub headers-low : (d : ℕ) (g : Seg) → headerSerial p (headerAt v d g) < 256 ^ 8
 
 -- ---- from bytes in spares, headers and footers
 
@@ -61,9 +62,9 @@ module _ (p : Params) (v : View) (h : Grounded p v) where
       (bytes-part (spareLen * (o % perFooter p)) spareLen (getD (blocksOf (drop (1 + p .S) q)) j []) b)
   record-low-at false d z o = low-record (getD (zoneAt v d z .blocks) (1 + o) noChunk .spare) (h d z (1 + o) .0)
 
-  header-at : (d : ℕ) (g : Seg) → headerSerial (headerAt v d g) < 256 ^ 8
+  header-at : (d : ℕ) (g : Seg) → headerSerial p (headerAt v d g) < 256 ^ 8
   unfolding headerAt chunkAt
-  header-at d g = serial-low (getD (zoneAt v d (zoneOn g d) .blocks) 0 noChunk .block) (h d (zoneOn g d) 0 .1 (inl refl))
+  header-at d g = serial-low p (getD (zoneAt v d (zoneOn g d) .blocks) 0 noChunk .block) (h d (zoneOn g d) 0 .1 (inl refl))
 
   pub grounded-reads : LowReads p v
   grounded-reads = record { records-low = record-low-at; headers-low = header-at }

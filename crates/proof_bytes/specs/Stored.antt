@@ -13,7 +13,7 @@ use Rattle.spec.specs.declared.Answer.the-variants.{Rebuilt}
 use Rattle.spec.specs.Calls.{Plan, mkPlan}
 use Rattle.spec.specs.Closing.{padded, closePlan}
 use Rattle.spec.specs.Counts.{paddingAddress}
-use Rattle.spec.specs.Drives.{Chunk, noChunk, Zone, noZone, View, zoneAt, chunkAt, storeView, Seg, seg, zoneOn, placeSegment, sparesOf, footersOf, zeroSpare, headerStores, footerStores}
+use Rattle.spec.specs.Drives.{Chunk, noChunk, Zone, noZone, View, zoneAt, chunkAt, storeView, zoneOn, placeSegment, sparesOf, footersOf, zeroSpare, headerStores, footerStores, noSeg, zonesIn}
 use Rattle.spec.specs.Drives.{resetStores, emptySegs}
 use Rattle.spec.specs.Drives.Store.{put, reset}
 use Rattle.spec.specs.Landing.{slotOf, seals, flightRec, sealStores, landStore, landPlan}
@@ -42,13 +42,14 @@ use Rattle.law_drives.specs.Zones.{Bytes}
 use Rattle.proof_bytes.specs.Images.{bytes-splice, get-map, BytesOfZone, ViewBytes, no-zone-bytes, StoreBytes, StoresBytes, store-view, stores-bytes-none, stores-bytes-cons}
 use Rattle.proof_bytes.specs.Images.{stores-bytes-append}
 use Rattle.proof_bytes.specs.Images.{stores-cond, stores-map, stores-flat}
+use Rattle.spec.specs.declared.Seg.{Seg}
 
 -- ---- headers, footers, resets
 
 headers-bytes : (p : Params) (g : Seg) (serial copied : ℕ) → StoresBytes (headerStores p g serial copied)
 unfolding headerStores
-headers-bytes p g serial copied = stores-map (λ d. put d (zoneOn g d) (headerBlock p d (zoneOn g d) serial copied) zeroSpare) (drivesOf p)
-    (λ d m. (bytes-header p d (zoneOn g d) serial copied, bytes-zeroSpare))
+headers-bytes p g serial copied = stores-map (λ d. put d (zoneOn g d) (headerBlock p d (zonesIn p g) serial copied) zeroSpare) (drivesOf p)
+    (λ d m. (bytes-header p d (zonesIn p g) serial copied, bytes-zeroSpare))
 
 resets-bytes : (p : Params) (g : Seg) → StoresBytes (resetStores p g)
 unfolding resetStores
@@ -150,9 +151,9 @@ module _ (p : Params) (g : Segment) (h : SegBytes g) where
   mend-bytes : (gs : List Segment) → StoresBytes (mendStores p gs g)
   unfolding mendStores
   mend-bytes gs =
-      stores-cond (isWhole p g) (missingFooters p g) (cond (isRagged p g) (rewriteStores p g (firstOr (seg 0) (freeSegs p gs)) (suc (greatestSerial gs))) []) missing-bytes
-      (stores-cond (isRagged p g) (rewriteStores p g (firstOr (seg 0) (freeSegs p gs)) (suc (greatestSerial gs))) []
-      (rewrite-bytes (firstOr (seg 0) (freeSegs p gs)) (suc (greatestSerial gs))) stores-bytes-none)
+      stores-cond (isWhole p g) (missingFooters p g) (cond (isRagged p g) (rewriteStores p g (firstOr noSeg (freeSegs p gs)) (suc (greatestSerial gs))) []) missing-bytes
+      (stores-cond (isRagged p g) (rewriteStores p g (firstOr noSeg (freeSegs p gs)) (suc (greatestSerial gs))) []
+      (rewrite-bytes (firstOr noSeg (freeSegs p gs)) (suc (greatestSerial gs))) stores-bytes-none)
 
 pub restart-bytes : (p : Params) (gone : ℕ) (gs : List Segment) → ((g : Segment) → In g gs → SegBytes g) → StoresBytes (restartStores p gone gs)
 unfolding restartStores dropStores unsealed
@@ -173,8 +174,9 @@ rebuilt-bytes p d g h =
     let z = zoneOn (g .seg) d in
     let qs = map (λ s. pieceOf p (named d) g s d) (counted p (named d) g) in
     let fs = map (λ i. put d z (footerBlock p (map (λ (q : Piece). recordBytes (q .rec)) qs) i) zeroSpare) (below (footers p)) in
-    stores-bytes-append (put d z (headerBlock p d z (g .serial) (g .copied)) zeroSpare ∷ map (putPiece d z) qs) (cond (g .full) fs [])
-    (stores-bytes-cons (put d z (headerBlock p d z (g .serial) (g .copied)) zeroSpare) (map (putPiece d z) qs) (bytes-header p d z (g .serial) (g .copied), bytes-zeroSpare)
+    let zs = zonesIn p (g .seg) in
+    stores-bytes-append (put d z (headerBlock p d zs (g .serial) (g .copied)) zeroSpare ∷ map (putPiece d z) qs) (cond (g .full) fs [])
+    (stores-bytes-cons (put d z (headerBlock p d zs (g .serial) (g .copied)) zeroSpare) (map (putPiece d z) qs) (bytes-header p d zs (g .serial) (g .copied), bytes-zeroSpare)
     (stores-map (putPiece d z) qs
     (λ q m. let (s, i, e) = map-in (λ s. pieceOf p (named d) g s d) (counted p (named d) g) q m in
     put-piece d z q (subst (λ (y : Piece). Bytes (y .block)) (sym e) (pieces-bytes p (named d) g s d h)))))
@@ -199,8 +201,8 @@ unfolding landPlan
 landing-bytes p v m d s h g =
     let st = m .state in
     let w = landStore p v m d s in
-    stores-bytes-cons w (cond (seals p st (slotOf st s) d) (sealStores p (storeView w v) (openSegment st)) []) one
-    (stores-cond (seals p st (slotOf st s) d) (sealStores p (storeView w v) (openSegment st)) [] (seal (storeView w v) (openSegment st) (store-view v w h one)) stores-bytes-none)
+    stores-bytes-cons w (cond (seals p st (slotOf st s) d) (sealStores p (storeView w v) (openSegment p st)) []) one
+    (stores-cond (seals p st (slotOf st s) d) (sealStores p (storeView w v) (openSegment p st)) [] (seal (storeView w v) (openSegment p st) (store-view v w h one)) stores-bytes-none)
   where
     one : StoreBytes (landStore p v m d s)
     one = unfold landStore slotBlock in (bytes-part (slotByte p (slotOf (m .state) s) d) (p .B) (m .inflight) g, bytes-record (flightRec p (m .state) (slotOf (m .state) s) d))
@@ -230,8 +232,8 @@ module _ (p : Params) (v : View) (st : State) (fl : List ℕ) (a t w : ℕ) (b :
   sending-bytes : StoresBytes (sending p v st fl a t w b .stores)
   unfolding sending
   sending-bytes =
-      stores-cond (opens p st) (headerStores p (firstOr (seg 0) (emptySegs p v)) (suc (st .serial .0)) 0) []
-      (headers-bytes p (firstOr (seg 0) (emptySegs p v)) (suc (st .serial .0)) 0) stores-bytes-none
+      stores-cond (opens p st) (headerStores p (firstOr noSeg (emptySegs p v)) (suc (st .serial .0)) 0) []
+      (headers-bytes p (firstOr noSeg (emptySegs p v)) (suc (st .serial .0)) 0) stores-bytes-none
 
 padded-bytes : (p : Params) (i k : ℕ) (st : State) (fl : List ℕ) → Bytes fl → Bytes (padded p i k st fl .inflight)
 unfolding padded

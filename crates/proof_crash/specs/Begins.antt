@@ -9,7 +9,7 @@ use native.Mathlib.Omega.{arith}
 use lib.Dec.{eqb}
 use lib.ListN.{length}
 use Rattle.spec.specs.declared.Params.{Params}
-use Rattle.spec.specs.Drives.{View, Seg}
+use Rattle.spec.specs.Drives.{View, zoneOn}
 use Rattle.spec.specs.History.{Send, forget}
 use Rattle.spec.specs.Memory.{idleState}
 use Rattle.spec.specs.Restart.{openOf, nextOf, restartMemory}
@@ -37,6 +37,7 @@ use Rattle.proof_crash_calls.specs.Restarted.{stamps-fit, serials-fit, Finds}
 use Rattle.proof_crash_calls.specs.Rested.{rest-rel}
 use Rattle.proof_crash_calls.specs.Resumed.{reached-to, reached-forget}
 use Rattle.proof_crash_calls.specs.Sends.{length-forget, forget-waits}
+use Rattle.spec.specs.declared.Seg.{Seg}
 
 opened-finds : (p : Params) (h : Ranged p) (g : Ghost) (u : View) (b : Bool) (z : Seg) (n : ℕ) → Opened p h g u b z n → Finds p u b z n
 opened-finds p h g u b z n o =
@@ -70,12 +71,12 @@ module _ (p : Params) (h : Ranged p) (v : View) (ss : List Send) (n : ℕ) (g : 
   us = unsealed (segments p u 0)
 
   abbrev M : Mem
-  M = restMem (D .b) (D .z .name) (D .n) t sr
+  M = restMem (D .b) (zoneOn (D .z) 0) (D .n) t sr
 
   reached₁ : Reached p h u (map forget ss) (length ss) doneGhost a false (run M) T
-  reached₁ = subst (λ (t : ℕ). Reached p h u (map forget ss) (length ss) doneGhost a false (run (restMem (D .b) (D .z .name) (D .n) t (greatestSerial (segments p u 0)))) T) top-is
-      (subst (λ (t : ℕ). Reached p h u (map forget ss) (length ss) doneGhost a false (run (restMem (D .b) (D .z .name) (D .n) (stampTop p u) t)) T) serial-top-is
-      (reached-to p h v (map forget ss) n g a c m T (reached-forget p h v ss n g a c m T r) u doneGhost false (run (restMem (D .b) (D .z .name) (D .n) (stampTop p u) (serialTop p u))) (length ss)
+  reached₁ = subst (λ (t : ℕ). Reached p h u (map forget ss) (length ss) doneGhost a false (run (restMem (D .b) (zoneOn (D .z) 0) (D .n) t (greatestSerial (segments p u 0)))) T) top-is
+      (subst (λ (t : ℕ). Reached p h u (map forget ss) (length ss) doneGhost a false (run (restMem (D .b) (zoneOn (D .z) 0) (D .n) (stampTop p u) t)) T) serial-top-is
+      (reached-to p h v (map forget ss) n g a c m T (reached-forget p h v ss n g a c m T r) u doneGhost false (run (restMem (D .b) (zoneOn (D .z) 0) (D .n) (stampTop p u) (serialTop p u))) (length ss)
       (D .linked .inv) (D .linked .shape) (D .linked .bytes) fewer? (omega (arith, length-forget ss)) (λ e. refl)))
 
   f : Finds p u (D .b) (D .z) (D .n)
@@ -89,15 +90,15 @@ module _ (p : Params) (h : Ranged p) (v : View) (ss : List Send) (n : ℕ) (g : 
 
   begun-open-is : D .b ≡ not (eqb (openOf us) 0)
   begun-open-is = ⊎-elim
-      (λ (q : (D .b ≡ true) × (openOf us ≡ suc (D .z .name)) × (nextOf p us ≡ D .n)). q .0 ∙ sym (ap not (ne-eqb (openOf us) 0 (omega (arith, q .1)))))
+      (λ (q : (D .b ≡ true) × (openOf us ≡ suc (zoneOn (D .z) 0)) × (nextOf p us ≡ D .n)). q .0 ∙ sym (ap not (ne-eqb (openOf us) 0 (omega (arith, q .1)))))
       (λ (q : (D .b ≡ false) × (openOf us ≡ 0)). q .0 ∙ sym (ap not (eq-eqb (openOf us) 0 (q .1)))) (f .is)
 
-  begun-open-as : D .b ≡ true → (openOf us ≡ suc (D .z .name)) × (D .n ≡ nextOf p us)
-  begun-open-as e = ⊎-elim (λ (q : (D .b ≡ true) × (openOf us ≡ suc (D .z .name)) × (nextOf p us ≡ D .n)). (q .1, sym (q .2)))
+  begun-open-as : D .b ≡ true → (openOf us ≡ suc (zoneOn (D .z) 0)) × (D .n ≡ nextOf p us)
+  begun-open-as e = ⊎-elim (λ (q : (D .b ≡ true) × (openOf us ≡ suc (zoneOn (D .z) 0)) × (nextOf p us ≡ D .n)). (q .1, sym (q .2)))
       (λ (q : (D .b ≡ false) × (openOf us ≡ 0)). clash e (q .0)) (f .is)
 
   rel? : Rel p (itemsIn p u) (idleState 1 0 t sr (openOf us) (nextOf p us)) fl M
-  rel? = rest-rel p (itemsIn p u) fl 1 t sr (openOf us) (nextOf p us) (D .b) (D .z .name) (D .n) (stamps-fit p h doneGhost u on none?) (serials-fit p h doneGhost u on none?)
+  rel? = rest-rel p (itemsIn p u) fl 1 t sr (openOf us) (nextOf p us) (D .b) (zoneOn (D .z) 0) (D .n) (stamps-fit p h doneGhost u on none?) (serials-fit p h doneGhost u on none?)
       begun-open-is (λ e. begun-open-as e .0) (λ e. begun-open-as e .1) (λ e q. let w : ⊥ = omega (arith, f .less e, q) in w) (f .full)
 
   table? : TableOk p h doneGhost (itemsIn p u) (addressTable p (candidates p 0 (segments p u 0)))

@@ -7,7 +7,7 @@ use borrow.Author.Tests.{eq-eqb}
 use native.Mathlib.Omega.{arith}
 use lib.Dec.{eqb}
 use Rattle.spec.specs.declared.Params.{Params}
-use Rattle.spec.specs.Drives.{View, pointerAt, Disk, Seg, allSegs, zoneOn}
+use Rattle.spec.specs.Drives.{View, pointerAt, Disk, allSegs, zoneOn}
 use Rattle.spec.specs.History.{emptyDisk}
 use Rattle.spec.specs.Lists.{below, all, keep, flat, greatest, isIn}
 use Rattle.spec.specs.Memory.{idleState}
@@ -22,6 +22,7 @@ use Rattle.law_drives.specs.Tests.{clash, not-so}
 use Rattle.proof_crash_items.specs.Member.{Has, has-keep, keep-nil, has-below, all-has}
 use Rattle.proof_crash_items.specs.Segs.{segs-has}
 use Rattle.proof_crash_items.specs.Start.{start-pointer}
+use Rattle.spec.specs.declared.Seg.{Seg}
 
 module _ (p : Params) (h : Ranged p) (k : Disk) (e : emptyDisk p k ≡ true) (fl : List ℕ) where
   abbrev v : View
@@ -39,7 +40,7 @@ module _ (p : Params) (h : Ranged p) (k : Disk) (e : emptyDisk p k ≡ true) (fl
 
   none-segments : segments p v 0 ≡ []
   unfolding segments remaining
-  none-segments = ap (λ (l : List Seg). map (segmentOf p v 0) (keep (λ g. not (isCopy v (lowDrive p 0) l g)) l)) none-left ∙ (unfold keep in refl)
+  none-segments = ap (λ (l : List Seg). map (segmentOf p v 0) (keep (λ g. not (isCopy p v (lowDrive p 0) l g)) l)) none-left ∙ (unfold keep in refl)
 
   state-is : restartMemory p v 0 fl .state ≡ idleState 1 0 0 0 0 0
   unfolding restartMemory

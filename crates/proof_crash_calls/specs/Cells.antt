@@ -10,7 +10,6 @@ use lib.ListN.{getD, length-set}
 use lib.Seq.{getD-set-same, getD-set-other}
 use lib.Bits.{bitOr, or-zero-r}
 use Rattle.spec.specs.declared.State.{State}
-use Rattle.spec.specs.Drives.{Seg}
 use Rattle.spec.specs.Layout.{mkRec}
 use Rattle.spec.specs.Lists.{only, isIn}
 use Rattle.spec.specs.Memory.{cell, stripeIn, filledIn, landedIn, isWrite, entryIn, offsetIn, isFree, setStamp, setOpen, setClosed, beginStripe, addEntry, landedMask, markLanded, freeStripe}
@@ -19,6 +18,7 @@ use Rattle.law_drives.specs.Slots.{cell-low}
 use Rattle.proof_crash_machine.specs.Exec.{or-1, or-2}
 use Rattle.proof_crash_calls.specs.Base.{eqb-self}
 use Rattle.proof_crash_calls.specs.Rel.{RowsLong, inUse}
+use Rattle.spec.specs.declared.Seg.{Seg}
 
 pub record SameSlot (st st′ : State) (j : ℕ) : Type 0 where
   pub number : stripeIn st′ j ≡ stripeIn st j

@@ -11,7 +11,7 @@ use lib.ListN.{length}
 use Rattle.spec.specs.declared.Params.{Params}
 use Rattle.spec.specs.declared.State.{State}
 use Rattle.spec.specs.Counts.{neverPlace}
-use Rattle.spec.specs.Drives.{View, Seg, zoneOn, placeSegment, placeRecord}
+use Rattle.spec.specs.Drives.{View, zoneOn, placeSegment, placeRecord}
 use Rattle.spec.specs.Landing.{heldCand, held, landedCand, landedCands, pointed}
 use Rattle.spec.specs.Layout.{parityDrive, dataDrive}
 use Rattle.spec.specs.Lists.{Opt, below, any}
@@ -40,13 +40,14 @@ use Rattle.proof_crash_calls.specs.Entries.{entry-low, entry-stamp}
 use Rattle.proof_crash_calls.specs.Held.{Grown, Entry, TableOk, entry-to, table-grown}
 use Rattle.proof_crash_calls.specs.Placed.{drive-cases}
 use Rattle.proof_crash_calls.specs.Pointed.{pointTo, pointed-none, pointed-some, best-some}
+use Rattle.spec.specs.declared.Seg.{Seg}
 
 module _ (p : Params) (h : Ranged p) (g : Ghost) (u : View) (k : OnDrives p h g u) (none? : None (parOf p h) (g .un)) (v : ItemView)
     (gr : Grown (parOf p h) v (itemsIn p u)) (tb : List ℕ) (long : length tb ≡ addressesLen p)
     (T : TableOk p h g v tb) (st : State) (i : ℕ) (z : Seg) (s : ℕ) (F : ℕ → Val) (zl : Named p z) (full : filledIn st i ≡ dataCount p) (number : stripeIn st i ≡ s)
     (ent : (j : ℕ) → j < dataCount p → (F (dataDrive p s j) .addr ≡ entryIn st i j .address) × (F (dataDrive p s j) .stamp ≡ entryIn st i j .stamp))
-    (on : (d : ℕ) → d < p .N → Off (itemsIn p u d (z .name)) (suc (offsetIn st i d)) (chunk s (F d)))
-    (cnt : (d : ℕ) → d < p .N → d ≢ parityDrive p s → (c : Counted (parOf p h) (g .hd) (itemsIn p u) (g .un) (F d)) × (c .z ≡ z .name)) where
+    (on : (d : ℕ) → d < p .N → Off (itemsIn p u d (zoneOn z 0)) (suc (offsetIn st i d)) (chunk s (F d)))
+    (cnt : (d : ℕ) → d < p .N → d ≢ parityDrive p s → (c : Counted (parOf p h) (g .hd) (itemsIn p u) (g .un) (F d)) × (c .z ≡ zoneOn z 0)) where
   abbrev cs : List Cand
   cs = landedCands p u z st i
 
@@ -115,11 +116,11 @@ module _ (p : Params) (h : Ranged p) (g : Ghost) (u : View) (k : OnDrives p h g 
     x = F d;
     drive = subst (λ (y : ℕ). y < p .N) (sym place-d) dl;
     zone = subst (λ (y : ℕ). y < p .Z) (sym place-z) zone-low;
-    at = subst (λ (y : ℕ). Off (itemsIn p u (placeDrive p (placeOf p d (zoneOn z d) (1 + o))) (placeSegment p (placeOf p d (zoneOn z d) (1 + o)) .name)) y (chunk s (F d))) (sym place-b)
-        (subst (λ (y : ℕ). Off (itemsIn p u y (placeSegment p (placeOf p d (zoneOn z d) (1 + o)) .name)) (suc o) (chunk s (F d))) (sym place-d)
-        (subst (λ (y : Seg). Off (itemsIn p u d (y .name)) (suc o) (chunk s (F d))) (sym place-seg) (on d dl)));
+    at = subst (λ (y : ℕ). Off (itemsIn p u (placeDrive p (placeOf p d (zoneOn z d) (1 + o))) (zoneOn (placeSegment p (placeOf p d (zoneOn z d) (1 + o))) 0)) y (chunk s (F d))) (sym place-b)
+        (subst (λ (y : ℕ). Off (itemsIn p u y (zoneOn (placeSegment p (placeOf p d (zoneOn z d) (1 + o))) 0)) (suc o) (chunk s (F d))) (sym place-d)
+        (subst (λ (y : Seg). Off (itemsIn p u d (zoneOn y 0)) (suc o) (chunk s (F d))) (sym place-seg) (on d dl)));
     counts = cnt d dl (λ q. data-not-parity p s j q) .0;
-    same = cnt d dl (λ q. data-not-parity p s j q) .1 ∙ sym (ap (λ (y : Seg). y .name) place-seg);
+    same = cnt d dl (λ q. data-not-parity p s j q) .1 ∙ sym (ap (λ (y : Seg). zoneOn y 0) place-seg);
     addr = e;
     floor = b;
   })
@@ -146,7 +147,7 @@ module _ (p : Params) (h : Ranged p) (g : Ghost) (u : View) (k : OnDrives p h g 
       place-z = place-zone p d (zoneOn z d) (1 + o) zone-low within
 
       place-seg : placeSegment p (placeOf p d (zoneOn z d) (1 + o)) ≡ z
-      place-seg = place-segment-of p z d (1 + o) zl within
+      place-seg = place-segment-of p z d (1 + o) dl zl within
 
       place-b : placeBlock p (placeOf p d (zoneOn z d) (1 + o)) ≡ suc o
       place-b = place-block p d (zoneOn z d) (1 + o) within ∙ (let w : 1 + o ≡ suc o = omega arith in w)

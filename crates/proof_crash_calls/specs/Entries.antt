@@ -7,7 +7,7 @@ use native.Mathlib.Omega.{arith}
 use lib.ListN.{length, getD}
 use Rattle.spec.specs.declared.Params.{Params}
 use Rattle.spec.specs.Counts.{neverPlace}
-use Rattle.spec.specs.Drives.{noChunk, Zone, View, zoneAt, chunkAt, Seg, zoneOn, placeSegment, recordAt, placeRecord}
+use Rattle.spec.specs.Drives.{noChunk, Zone, View, zoneAt, chunkAt, zoneOn, placeSegment, recordAt, placeRecord}
 use Rattle.spec.specs.Layout.{recordOf}
 use Rattle.spec.specs.Params.{capacity, placeBlock, placeZone, placeDrive}
 use Rattle.law_basic.specs.Geometry.{Ranged, place-again, place-lt}
@@ -23,6 +23,7 @@ use Rattle.proof_crash_items.specs.Segs.{OnDrives, zone-pointer-low}
 use Rattle.proof_crash_calls.specs.Held.{Entry}
 use Rattle.proof_crash_calls.specs.Places.{record-of-spare}
 use Rattle.proof_crash_calls.specs.Sends.{value-stamp}
+use Rattle.spec.specs.declared.Seg.{Seg}
 
 module _ (p : Params) (h : Ranged p) (g : Ghost) (v : View) (k : OnDrives p h g v) (none? : None (parOf p h) (g .un)) (q a : ℕ) (e : Entry p h g (itemsIn p v) q a) where
   abbrev dd : ℕ
@@ -44,7 +45,7 @@ module _ (p : Params) (h : Ranged p) (g : Ghost) (v : View) (k : OnDrives p h g 
       × (valueOf (getD (zone .blocks) (suc o) noChunk .block) (recordOf (getD (zone .blocks) (suc o) noChunk .spare)) ≡ e .x)
   entry-found =
       of-chunk p zone (zone-pointer-low p h g v k dd zz (e .drive) trust named) (placeBlock p q) (e .s) (e .x)
-      (subst (λ (l : List Item). Off l (placeBlock p q) (chunk (e .s) (e .x))) (items-in p v dd zz) (e .at))
+      (subst (λ (l : List Item). Off l (placeBlock p q) (chunk (e .s) (e .x))) (items-in p v dd zz (omega (arith, e .drive)) named) (e .at))
 
   pub entry-block : (1 ≤ placeBlock p q) × (placeBlock p q ≤ p .S)
   entry-block = (omega (arith, entry-found .1), omega (arith, entry-found .1, entry-found .2))
@@ -59,7 +60,7 @@ module _ (p : Params) (h : Ranged p) (g : Ghost) (v : View) (k : OnDrives p h g 
   pub entry-value : valueOf (chunkAt v (placeDrive p q) (placeZone p q) (placeBlock p q) .block) (placeRecord p v 0 q) ≡ e .x
   unfolding chunkAt
   entry-value =
-      ap₂ valueOf (ap₂ (λ (y n : ℕ). getD (zoneAt v dd y .blocks) n noChunk .block) (sym (place-segment-zone p q)) (entry-found .1))
+      ap₂ valueOf (ap₂ (λ (y n : ℕ). getD (zoneAt v dd y .blocks) n noChunk .block) (sym (place-segment-zone p q (e .drive))) (entry-found .1))
       (ap (recordAt p v 0 dd zz) (let i : placeBlock p q - 1 ≡ entry-found .0 = omega (arith, entry-found .1) in i)
       ∙ record-of-spare p h g v k none? dd zz (entry-found .0) (e .drive) named (entry-found .2)) ∙ entry-found .5
 

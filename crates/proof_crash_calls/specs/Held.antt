@@ -7,7 +7,7 @@ use native.Mathlib.Omega.{arith}
 use lib.ListN.{length, getD}
 use Rattle.spec.specs.declared.Params.{Params}
 use Rattle.spec.specs.Counts.{neverPlace}
-use Rattle.spec.specs.Drives.{placeSegment}
+use Rattle.spec.specs.Drives.{placeSegment, zoneOn}
 use Rattle.spec.specs.Memory.{placeAt}
 use Rattle.spec.specs.Params.{placeBlock, placeZone, placeDrive}
 use Rattle.law_basic.specs.Geometry.{Ranged}
@@ -89,9 +89,9 @@ pub record Entry (p : Params) (h : Ranged p) (g : Ghost) (v : ItemView) (q a : �
   pub x : Val
   pub drive : placeDrive p q < p .N
   pub zone : placeZone p q < p .Z
-  pub at : Off (v (placeDrive p q) (placeSegment p q .name)) (placeBlock p q) (chunk s x)
+  pub at : Off (v (placeDrive p q) (zoneOn (placeSegment p q) 0)) (placeBlock p q) (chunk s x)
   pub counts : Counted (parOf p h) (g .hd) v (g .un) x
-  pub same : counts .z ≡ placeSegment p q .name
+  pub same : counts .z ≡ zoneOn (placeSegment p q) 0
   pub addr : x .addr ≡ a
   pub floor : g .base a ≤ x .stamp
 
@@ -100,8 +100,8 @@ TableOk p h g v tb = (a : ℕ) → a < p .L → ((placeAt tb a ≡ neverPlace) �
 
 -- elsewhere
 pub entry-to : (p : Params) (h : Ranged p) (g g′ : Ghost) (v v′ : ItemView) (q a : ℕ) (e : Entry p h g v q a)
-    → Off (v′ (placeDrive p q) (placeSegment p q .name)) (placeBlock p q) (chunk (e .s) (e .x))
-    → (c : Counted (parOf p h) (g′ .hd) v′ (g′ .un) (e .x)) → c .z ≡ placeSegment p q .name → g′ .base a ≤ e .x .stamp → Entry p h g′ v′ q a
+    → Off (v′ (placeDrive p q) (zoneOn (placeSegment p q) 0)) (placeBlock p q) (chunk (e .s) (e .x))
+    → (c : Counted (parOf p h) (g′ .hd) v′ (g′ .un) (e .x)) → c .z ≡ zoneOn (placeSegment p q) 0 → g′ .base a ≤ e .x .stamp → Entry p h g′ v′ q a
 entry-to p h g g′ v v′ q a e o c z b = record { s = e .s; x = e .x; drive = e .drive; zone = e .zone; at = o; counts = c; same = z; addr = e .addr; floor = b }
 
 -- only what was sent changes
@@ -109,7 +109,7 @@ pub entry-sent : (p : Params) (h : Ranged p) (g : Ghost) (l : List Val) (v : Ite
 entry-sent p h g l v q a e = record { s = e .s; x = e .x; drive = e .drive; zone = e .zone; at = e .at; counts = e .counts; same = e .same; addr = e .addr; floor = e .floor }
 
 pub entry-grown : (p : Params) (h : Ranged p) (g : Ghost) (v v′ : ItemView) → Grown (parOf p h) v v′ → (q a : ℕ) → Entry p h g v q a → Entry p h g v′ q a
-entry-grown p h g v v′ r q a e = entry-to p h g g v v′ q a e (r .fwd (placeDrive p q) (placeSegment p q .name) (placeBlock p q) (chunk (e .s) (e .x)) (e .drive) (e .at))
+entry-grown p h g v v′ r q a e = entry-to p h g g v v′ q a e (r .fwd (placeDrive p q) (zoneOn (placeSegment p q) 0) (placeBlock p q) (chunk (e .s) (e .x)) (e .drive) (e .at))
     (counted-grown (parOf p h) (g .hd) v v′ r (g .un) (e .x) (e .counts)) (e .same) (e .floor)
 
 pub table-grown : (p : Params) (h : Ranged p) (g : Ghost) (v v′ : ItemView) (tb : List ℕ) → Grown (parOf p h) v v′ → TableOk p h g v tb → TableOk p h g v′ tb

@@ -14,7 +14,7 @@ use Rattle.spec.specs.declared.Params.{Params}
 use Rattle.spec.specs.declared.State.{State}
 use Rattle.spec.specs.Calls.{Plan}
 use Rattle.spec.specs.Demands.{sendAt}
-use Rattle.spec.specs.Drives.{Zone, View, zoneAt, pointerAt, Store, putZone, storeView, storeAll, Seg, seg, zoneOn}
+use Rattle.spec.specs.Drives.{Zone, View, zoneAt, pointerAt, Store, putZone, storeView, storeAll, zoneOn, across}
 use Rattle.spec.specs.History.{Send, acknowledge, forget}
 use Rattle.spec.specs.Landing.{slotOf, completes, seals, flightRec, landedCands, pointed, sealStores, writesIn, landStore, landPlan}
 use Rattle.spec.specs.Layout.{parityDrive, dataDrive, Rec, recordBytes}
@@ -44,7 +44,7 @@ use Rattle.proof_crash_machine.specs.Filling.{shut}
 use Rattle.proof_crash_items.specs.Items.{valueOf, itemsIn, items-in, length-of}
 use Rattle.proof_crash_items.specs.Member.{Has, has-keep, has-upFrom, has-below}
 use Rattle.proof_crash_items.specs.Ranges.{capacity-few, parity-on, parOf, apart-code}
-use Rattle.proof_crash_items.specs.Segs.{OnDrives}
+use Rattle.proof_crash_items.specs.Segs.{OnDrives, number-self}
 use Rattle.proof_crash_items.specs.Shape.{Shape, zone-set-at, zone-set-else, shape-store}
 use Rattle.proof_crash_items.specs.Sound.{AllSound, sound-fits, bytes-store}
 use Rattle.proof_crash_calls.specs.Ack.{ackBase, ack-go}
@@ -56,12 +56,14 @@ use Rattle.proof_crash_calls.specs.Go.{mst, Later, later-same, Go, go-th
 use Rattle.proof_crash_calls.specs.Held.{Grown, grown-put, TableOk, table-grown}
 use Rattle.proof_crash_calls.specs.LandRel.{mask-bit, bit-on, landed-rel, landed-waits, mask-full, all-on, ended-rel, ended-waits, sealed-rel, sealed-idle}
 use Rattle.proof_crash_calls.specs.Landed.{LandAsked, land-flies, land-flight, land-open, land-zone, zone-in, land-held, landPut, land-store-is, land-sound, landView, land-items, land-step}
-use Rattle.proof_crash_calls.specs.Live.{Live, Stopped, CallOk, live-inv, live-none, live-trust, live-len, live-after, live-cut}
+use Rattle.proof_crash_calls.specs.Live.{Live, Stopped, CallOk, live-inv, live-none, live-trust, live-after, live-cut, live-number-len}
 use Rattle.proof_crash_calls.specs.Placed.{ready-parity}
 use Rattle.proof_crash_calls.specs.Rel.{readyAt, inUse, Rel, Waiting}
 use Rattle.proof_crash_calls.specs.Seal.{all-stripes, Footed, seal-chain, footed-full}
 use Rattle.proof_crash_calls.specs.Sending.{slots-ok}
 use Rattle.proof_crash_calls.specs.Sends.{value-addr, value-stamp, Logged, length-ack, ackedTo, acked-old, ack-logged, ack-waits}
+use Rattle.spec.specs.declared.Seg.{Seg}
+use Rattle.proof_crash_calls.specs.Landed.{zone-below}
 
 -- what is left of a plan where its parts are known
 pub call-as : (p : Params) (h : Ranged p) (g₀ : Ghost) (v : View) (q : Plan) (ws : List Store) (st : State) (fl tb : List ℕ) (ss ss′ ss″ : List Send) (n : ℕ)
@@ -133,7 +135,7 @@ module _ (p : Params) (h : Ranged p) (v : View) (m : Memory) (ss : List Send) (n
   M = l .M
 
   abbrev z : Seg
-  z = seg (l .M .zone)
+  z = across p (l .M .zone)
 
   abbrev v₀ : ItemView
   v₀ = itemsIn p v
@@ -145,7 +147,7 @@ module _ (p : Params) (h : Ranged p) (v : View) (m : Memory) (ss : List Send) (n
   w = landPut p h v m ss n l fits d s A
 
   abbrev o : ℕ
-  o = pointerAt v d (zoneOn (seg (l .M .zone)) d) - 1
+  o = pointerAt v d (zoneOn (across p (l .M .zone)) d) - 1
 
   inv-land : Inv (parOf p h) (mst (l .g) (itemsIn p v) (l .a) (l .c) (run (l .M)))
   inv-land = live-inv p h v (m .state) (m .inflight) (m .addresses) ss n l
@@ -153,14 +155,20 @@ module _ (p : Params) (h : Ranged p) (v : View) (m : Memory) (ss : List Send) (n
   zin : Named p z
   zin = zone-in p h v m ss n l fits d s A
 
-  landed-items : itemsIn p u ≡ withItem v₀ d (z .name) (chunk s (M .F s d))
+  -- its number
+  zone-number : zoneOn z 0 ≡ M .zone
+  zone-number = number-self p h (M .zone)
+
+  landed-items : itemsIn p u ≡ withItem v₀ d (M .zone) (chunk s (M .F s d))
   landed-items = land-items p h v m ss n l fits d s A
 
   from : 1 ≤ pointerAt v d (zoneOn z d)
   from = subst (λ (x : Seg). 1 ≤ pointerAt v d (zoneOn x d)) (land-zone p h v m ss n l fits d s A) (A .from)
 
-  oe : suc o ≡ length (v₀ d (z .name))
-  oe = let e : length (v₀ d (z .name)) ≡ pointerAt v d (zoneOn z d) = live-len p h v (m .state) (m .inflight) (m .addresses) ss n l d z (A .drive) zin in omega (arith, e, from)
+  oe : suc o ≡ length (v₀ d (M .zone))
+  oe = let e : length (v₀ d (M .zone)) ≡ pointerAt v d (zoneOn z d) =
+      live-number-len p h v (m .state) (m .inflight) (m .addresses) ss n l d (M .zone) (A .drive) (zone-below p h v m ss n l fits d s A) in
+      omega (arith, e, from)
 
   wide : landedIn st i < 2 ^ p .N
   wide = slots-ok p st (A .ok) i (A .low) .1
@@ -170,10 +178,10 @@ module _ (p : Params) (h : Ranged p) (v : View) (m : Memory) (ss : List Send) (n
 
   -- the state with the bit set
   abbrev st₁ : State
-  st₁ = markLanded (m .state) (slotOf (m .state) s) d (pointerAt v d (zoneOn (seg (l .M .zone)) d) - 1)
+  st₁ = markLanded (m .state) (slotOf (m .state) s) d (pointerAt v d (zoneOn (across p (l .M .zone)) d) - 1)
 
   -- ---- the plan's parts
-  plan-o : pointerAt v d (zoneOn (openSegment st) d) - 1 ≡ o
+  plan-o : pointerAt v d (zoneOn (openSegment p st) d) - 1 ≡ o
   plan-o = ap (λ (x : Seg). pointerAt v d (zoneOn x d) - 1) (land-zone p h v m ss n l fits d s A)
 
   -- all but the footers
@@ -202,7 +210,7 @@ module _ (p : Params) (h : Ranged p) (v : View) (m : Memory) (ss : List Send) (n
   drives-u = record { shape = shape-u; bytes = λ x b e. bytes-store p h v w (l .reached .shape) (land-sound p h v m ss n l fits d s A) x (l .reached .bytes x b e); facts = I₁ .facts }
 
   grew-u : Grown (parOf p h) v₀ (itemsIn p u)
-  grew-u = subst (λ (x : ItemView). Grown (parOf p h) v₀ x) (sym landed-items) (grown-put (parOf p h) v₀ d (z .name) (chunk s (M .F s d)) (omega (arith, oe)))
+  grew-u = subst (λ (x : ItemView). Grown (parOf p h) v₀ x) (sym landed-items) (grown-put (parOf p h) v₀ d (M .zone) (chunk s (M .F s d)) (omega (arith, oe)))
 
   -- ---- not complete
 
@@ -224,11 +232,11 @@ module _ (p : Params) (h : Ranged p) (v : View) (m : Memory) (ss : List Send) (n
     abbrev st₂ : State
     st₂ = freeStripe st₁ i
 
-    all-on-u : (e : ℕ) → e < p .N → (x : Val) × InI (chunk s x) (itemsIn p u e (z .name))
+    all-on-u : (e : ℕ) → e < p .N → (x : Val) × InI (chunk s x) (itemsIn p u e (M .zone))
     all-on-u e el =
-        let k : (x : Val) × InI (chunk s x) (withItem v₀ d (z .name) (chunk s (M .F s d)) e (z .name)) =
+        let k : (x : Val) × InI (chunk s x) (withItem v₀ d (M .zone) (chunk s (M .F s d)) e (M .zone)) =
         all-on p h v₀ st fl M (l .rel) d s i o (A .drive) (A .low) (A .used?) (A .number) oe wide done′ e el in
-        (k .0, subst (λ (x : ItemView). InI (chunk s (k .0)) (x e (z .name))) (sym landed-items) (k .1))
+        (k .0, subst (λ (x : ItemView). InI (chunk s (k .0)) (x e (M .zone))) (sym landed-items) (k .1))
 
     abbrev g₂ : Ghost
     g₂ = withBase (l .g) (ackBase p h (l .g) (itemsIn p u) (l .a) (l .c) M (l .T) ss st s (land-flies p h v m ss n l fits d s A) all-on-u (l .waits) filled-most)
@@ -249,8 +257,8 @@ module _ (p : Params) (h : Ranged p) (v : View) (m : Memory) (ss : List Send) (n
     abbrev tb₂ : List ℕ
     tb₂ = pointed p u (m .addresses) (landedCands p u z st₁ i) (landedCands p u z st₁ i) (m .addresses)
 
-    bits : (e : ℕ) → e < p .N → Off (itemsIn p u e (z .name)) (suc (offsetIn st₁ i e)) (chunk s (M .F s e))
-    bits e el = subst (λ (x : ItemView). Off (x e (z .name)) (suc (offsetIn st₁ i e)) (chunk s (M .F s e))) (sym landed-items)
+    bits : (e : ℕ) → e < p .N → Off (itemsIn p u e (M .zone)) (suc (offsetIn st₁ i e)) (chunk s (M .F s e))
+    bits e el = subst (λ (x : ItemView). Off (x e (M .zone)) (suc (offsetIn st₁ i e)) (chunk s (M .F s e))) (sym landed-items)
         (bit-on p h v₀ st fl M (l .rel) d s i o (A .drive) (A .low) (A .used?) (A .number) oe wide e el
         (mask-full p h v₀ st fl M (l .rel) d s i o (A .drive) (A .low) (A .used?) (A .number) oe wide done′ e el))
 
@@ -279,32 +287,34 @@ module _ (p : Params) (h : Ranged p) (v : View) (m : Memory) (ss : List Send) (n
           ap (λ (x : Val). x .stamp) e ∙ value-stamp (slotBlock p fl i (dataDrive p s j)) (entryIn st i j) ∙ ap (λ (x : Rec). x .stamp) (sym f),
         )
 
-    landed-counts : (e : ℕ) → e < p .N → e ≢ parityDrive p s → (c : Counted (parOf p h) (l .g .hd) (itemsIn p u) (l .g .un) (M .F s e)) × (c .z ≡ z .name)
+    landed-counts : (e : ℕ) → e < p .N → e ≢ parityDrive p s → (c : Counted (parOf p h) (l .g .hd) (itemsIn p u) (l .g .un) (M .F s e)) × (c .z ≡ M .zone)
     landed-counts e el np = (
       record {
-        z = z .name;
+        z = M .zone;
         s = s;
         f = M .F s;
         rem = record {
           left = left;
           own =
-              λ x k q. pair-alone (sym (I₁ .facts .swap .one (z .name) x (used (parOf p h) (l .g) (itemsIn p u) (l .g .un) (z .name) (self-none (parOf p h) (l .g .un) none?) left)
+              λ x k q. pair-alone (sym (I₁ .facts .swap .one (M .zone) x (used (parOf p h) (l .g) (itemsIn p u) (l .g .un) (M .zone) (self-none (parOf p h) (l .g .un) none?) left)
               (used (parOf p h) (l .g) (itemsIn p u) (l .g .un) x (self-none (parOf p h) (l .g .un) none?) k) q)
               ∙ I₁ .mode .no-pair);
         };
-        st = record { on = λ x b k. off-in (itemsIn p u x (z .name)) (suc (offsetIn st₁ i x)) (chunk s (M .F s x)) (bits x b); word = land-flight p h v m ss n l fits d s A .2 .word };
+        st = record { on = λ x b k. off-in (itemsIn p u x (M .zone)) (suc (offsetIn st₁ i x)) (chunk s (M .F s x)) (bits x b); word = land-flight p h v m ss n l fits d s A .2 .word };
         dt = record { d = e; lt = el; data? = apart-code p h s e np; val = refl };
       },
       refl,
     )
       where
-        left : L (parOf p h) (itemsIn p u) (l .g .un) (z .name)
+        left : L (parOf p h) (itemsIn p u) (l .g .un) (M .zone)
         left = I₁ .mode .begun (land-open p h v m ss n l fits d s A)
 
     table₂ : TableOk p h g₂ (itemsIn p u) tb₂
     table₂ = table-done p h (l .g) u drives-u none? v₀ grew-u (m .addresses) whole-table (l .table) st₁ i z s (M .F s) zin
         (land-filled st (l .rel .long) i d o (A .low) (omega (arith, A .drive, h .drives-high)) i ∙ filled-all)
-        (land-number st (l .rel .long) i d o (A .low) (omega (arith, A .drive, h .drives-high)) i ∙ A .number) entries bits landed-counts
+        (land-number st (l .rel .long) i d o (A .low) (omega (arith, A .drive, h .drives-high)) i ∙ A .number) entries
+        (λ e el. subst (λ (y : ℕ). Off (itemsIn p u e y) (suc (offsetIn st₁ i e)) (chunk s (M .F s e))) (sym zone-number) (bits e el))
+        (λ e el np. (landed-counts e el np .0, landed-counts e el np .1 ∙ sym zone-number))
 
     -- ---- the sends
     -- where nothing is counted, none of this stripe waits
@@ -403,8 +413,9 @@ module _ (p : Params) (h : Ranged p) (v : View) (m : Memory) (ss : List Send) (n
               let f : _≡_ {A = ℕ} (cond (eqb x d) 1 0) 0 = cond-false (eqb x d) 1 0 (ne-eqb x d e) in
               omega (arith, k, f)
 
-      len-u : (x : ℕ) → x < p .N → length (itemsIn p u x (z .name)) ≡ pointerAt u x (zoneOn z x)
-      len-u x b = ap length (items-in p u x z) ∙ length-of p (zoneAt u x (zoneOn z x)) low-u ∙ (unfold pointerAt in refl)
+      len-u : (x : ℕ) → x < p .N → length (itemsIn p u x (M .zone)) ≡ pointerAt u x (zoneOn z x)
+      len-u x b = ap (λ (y : ℕ). length (itemsIn p u x y)) (sym zone-number) ∙ ap length (items-in p u x z (omega arith) zin)
+          ∙ length-of p (zoneAt u x (zoneOn z x)) low-u ∙ (unfold pointerAt in refl)
         where
           low-u : zoneAt u x (zoneOn z x) .pointer ≤ length (zoneAt u x (zoneOn z x) .blocks)
           low-u =
@@ -412,28 +423,31 @@ module _ (p : Params) (h : Ranged p) (v : View) (m : Memory) (ss : List Send) (n
               omega (arith, k, room-u x b, capacity-few p h, shape-u .blocks x (zoneOn z x) b (zone-on-lt p z x zin))
 
       -- every stripe is on every drive
-      every : (x : ℕ) → x < p .N → (t : ℕ) → t < p .S → (y : Val) × InI (chunk t y) (itemsIn p u x (z .name))
+      every : (x : ℕ) → x < p .N → (t : ℕ) → t < p .S → (y : Val) × InI (chunk t y) (itemsIn p u x (M .zone))
       every x b t tl = go (ℕ-discrete t s)
         where
-          go : Dec (t ≡ s) → (y : Val) × InI (chunk t y) (itemsIn p u x (z .name))
-          go (yes e) = let k : (y : Val) × InI (chunk s y) (itemsIn p u x (z .name)) = all-on-u x b in (k .0, subst (λ (r : ℕ). InI (chunk r (k .0)) (itemsIn p u x (z .name))) (sym e) (k .1))
+          go : Dec (t ≡ s) → (y : Val) × InI (chunk t y) (itemsIn p u x (M .zone))
+          go (yes e) = let k : (y : Val) × InI (chunk s y) (itemsIn p u x (M .zone)) = all-on-u x b in (k .0, subst (λ (r : ℕ). InI (chunk r (k .0)) (itemsIn p u x (M .zone))) (sym e) (k .1))
           go (no e) =
               let f : M .fly t ≡ false = sym (setAt-else (M .fly) s false t e) ∙ sealed-idle p h v₀ st fl M (l .rel) d s i o (A .drive) (A .low) (A .used?) (A .number) oe wide done′ lone t in
-              let k : (y : Val) × InI (chunk t y) (v₀ x (z .name)) = l .rel .whole (land-open p h v m ss n l fits d s A) t (omega (arith, tl, ends)) f x b in
-              (k .0, subst (λ (r : ItemView). InI (chunk t (k .0)) (r x (z .name))) (sym landed-items) (in-fwd v₀ d (z .name) (chunk s (M .F s d)) (chunk t (k .0)) x (z .name) (k .1)))
+              let k : (y : Val) × InI (chunk t y) (v₀ x (M .zone)) = l .rel .whole (land-open p h v m ss n l fits d s A) t (omega (arith, tl, ends)) f x b in
+              (k .0, subst (λ (r : ItemView). InI (chunk t (k .0)) (r x (M .zone))) (sym landed-items) (in-fwd v₀ d (M .zone) (chunk s (M .F s d)) (chunk t (k .0)) x (M .zone) (k .1)))
+
+      every-seg : (x : ℕ) → x < p .N → (t : ℕ) → t < p .S → (y : Val) × InI (chunk t y) (itemsIn p u x (zoneOn z 0))
+      every-seg x b t tl = subst (λ (r : ℕ). (y : Val) × InI (chunk t y) (itemsIn p u x r)) (sym zone-number) (every x b t tl)
 
       at-end : (x : ℕ) → x < p .N → pointerAt u x (zoneOn z x) ≡ suc (p .S)
       at-end x b =
-          let k : p .S < length (itemsIn p u x (z .name)) =
-          all-stripes (parOf p h) (l .g) x (z .name) (itemsIn p u x (z .name)) (I₁ .facts .zones x (z .name) (b, live-trust p h v (m .state) (m .inflight) (m .addresses) ss n l x b))
+          let k : p .S < length (itemsIn p u x (M .zone)) =
+          all-stripes (parOf p h) (l .g) x (M .zone) (itemsIn p u x (M .zone)) (I₁ .facts .zones x (M .zone) (b, live-trust p h v (m .state) (m .inflight) (m .addresses) ss n l x b))
           (I₁ .mode .begun (land-open p h v m ss n l fits d s A) x b (live-trust p h v (m .state) (m .inflight) (m .addresses) ss n l x b)) (every x b) in
           omega (arith, k, len-u x b, landed-pointer x b, room-u x b)
 
       abbrev fs : List Store
       fs = sealStores p u z
 
-      chain : (g : Ghost) (a : List Val) (N : Mem) → Chain p h g a (l .c) (run N) u fs × Footed p h z zin u at-end every (p .N) 0 (storeAll storeView fs u)
-      chain g a N = seal-chain p h z zin u at-end every g a (l .c) N shape-u
+      chain : (g : Ghost) (a : List Val) (N : Mem) → Chain p h g a (l .c) (run N) u fs × Footed p h z zin u at-end every-seg (p .N) 0 (storeAll storeView fs u)
+      chain g a N = seal-chain p h z zin u at-end every-seg g a (l .c) N shape-u
 
       sound₃ : AllSound p v (w ∷ fs)
       sound₃ = (land-sound p h v m ss n l fits d s A, chain-sound p h (l .g) (l .a) (l .c) (run M) u fs (chain (l .g) (l .a) M .0))
@@ -456,9 +470,9 @@ module _ (p : Params) (h : Ranged p) (v : View) (m : Memory) (ss : List Send) (n
 
       none-ragged : (y : ℕ) → Ragged (parOf p h) (g₂ .un) (itemsIn p u₃) y → ⊥
       none-ragged y (x, t, a, b) =
-          let e : y ≡ z .name = I₃ .mode .lone y (x, t, a, b) .1 in
-          let k : length (itemsIn p u₃ x (z .name)) ≡ capacity p = footed-full p h z zin u at-end every g₂ a₂ (l .c) (ended M s) u₃ (chain g₂ a₂ (ended M s) .1) x (t .0) in
-          let f : length (itemsIn p u₃ x y) ≡ length (itemsIn p u₃ x (z .name)) = ap (λ (q : ℕ). length (itemsIn p u₃ x q)) e in
+          let e : y ≡ zoneOn z 0 = I₃ .mode .lone y (x, t, a, b) .1 ∙ sym zone-number in
+          let k : length (itemsIn p u₃ x (zoneOn z 0)) ≡ capacity p = footed-full p h z zin u at-end every-seg g₂ a₂ (l .c) (ended M s) u₃ (chain g₂ a₂ (ended M s) .1) x (t .0) in
+          let f : length (itemsIn p u₃ x y) ≡ length (itemsIn p u₃ x (zoneOn z 0)) = ap (λ (q : ℕ). length (itemsIn p u₃ x q)) e in
           let q : ⊥ = omega (arith, b, k, f) in q
 
       live-seal : (x : Live p h (storeAll storeView (w ∷ fs) v) (setClosed st₂) fl tb₂ (landSends p st d s ss) n) × Later (l .g) (x .g)
@@ -483,18 +497,18 @@ module _ (p : Params) (h : Ranged p) (v : View) (m : Memory) (ss : List Send) (n
   abbrev q : Plan
   q = landPlan p v m d s
 
-  same-seg : openSegment st ≡ z
+  same-seg : openSegment p st ≡ z
   same-seg = land-zone p h v m ss n l fits d s A
 
-  land-plan-stores : q .stores ≡ landStore p v m d s ∷ cond (seals p st i d) (sealStores p (storeView (landStore p v m d s) v) (openSegment st)) []
+  land-plan-stores : q .stores ≡ landStore p v m d s ∷ cond (seals p st i d) (sealStores p (storeView (landStore p v m d s) v) (openSegment p st)) []
   unfolding landPlan
   land-plan-stores = refl
 
   plan-state :
       q .memory .state
-      ≡ cond (seals p st i d) (setClosed (cond (completes p st i d) (freeStripe (markLanded st i d (pointerAt v d (zoneOn (openSegment st) d) - 1)) i)
-      (markLanded st i d (pointerAt v d (zoneOn (openSegment st) d) - 1))))
-      (cond (completes p st i d) (freeStripe (markLanded st i d (pointerAt v d (zoneOn (openSegment st) d) - 1)) i) (markLanded st i d (pointerAt v d (zoneOn (openSegment st) d) - 1)))
+      ≡ cond (seals p st i d) (setClosed (cond (completes p st i d) (freeStripe (markLanded st i d (pointerAt v d (zoneOn (openSegment p st) d) - 1)) i)
+      (markLanded st i d (pointerAt v d (zoneOn (openSegment p st) d) - 1))))
+      (cond (completes p st i d) (freeStripe (markLanded st i d (pointerAt v d (zoneOn (openSegment p st) d) - 1)) i) (markLanded st i d (pointerAt v d (zoneOn (openSegment p st) d) - 1)))
   unfolding landPlan
   plan-state = refl
 
@@ -503,59 +517,59 @@ module _ (p : Params) (h : Ranged p) (v : View) (m : Memory) (ss : List Send) (n
   plan-inflight = refl
 
   plan-addresses : q .memory .addresses ≡ cond (completes p st i d) (pointed p (storeView (landStore p v m d s) v) (m .addresses)
-      (landedCands p (storeView (landStore p v m d s) v) (openSegment st) (markLanded st i d (pointerAt v d (zoneOn (openSegment st) d) - 1)) i)
-      (landedCands p (storeView (landStore p v m d s) v) (openSegment st) (markLanded st i d (pointerAt v d (zoneOn (openSegment st) d) - 1)) i) (m .addresses)) (m .addresses)
+      (landedCands p (storeView (landStore p v m d s) v) (openSegment p st) (markLanded st i d (pointerAt v d (zoneOn (openSegment p st) d) - 1)) i)
+      (landedCands p (storeView (landStore p v m d s) v) (openSegment p st) (markLanded st i d (pointerAt v d (zoneOn (openSegment p st) d) - 1)) i) (m .addresses)) (m .addresses)
   unfolding landPlan
   plan-addresses = refl
 
   addresses-same : completes p st i d ≡ false → q .memory .addresses ≡ m .addresses
   addresses-same e = plan-addresses ∙ cond-false (completes p st i d) (pointed p (storeView (landStore p v m d s) v) (m .addresses)
-      (landedCands p (storeView (landStore p v m d s) v) (openSegment st) (markLanded st i d (pointerAt v d (zoneOn (openSegment st) d) - 1)) i)
-      (landedCands p (storeView (landStore p v m d s) v) (openSegment st) (markLanded st i d (pointerAt v d (zoneOn (openSegment st) d) - 1)) i) (m .addresses)) (m .addresses) e
+      (landedCands p (storeView (landStore p v m d s) v) (openSegment p st) (markLanded st i d (pointerAt v d (zoneOn (openSegment p st) d) - 1)) i)
+      (landedCands p (storeView (landStore p v m d s) v) (openSegment p st) (markLanded st i d (pointerAt v d (zoneOn (openSegment p st) d) - 1)) i) (m .addresses)) (m .addresses) e
 
   addresses-done : completes p st i d ≡ true → q .memory .addresses ≡ pointed p u (m .addresses) (landedCands p u z st₁ i) (landedCands p u z st₁ i) (m .addresses)
   addresses-done e = plan-addresses ∙ cond-true (completes p st i d) (pointed p (storeView (landStore p v m d s) v) (m .addresses)
-      (landedCands p (storeView (landStore p v m d s) v) (openSegment st) (markLanded st i d (pointerAt v d (zoneOn (openSegment st) d) - 1)) i)
-      (landedCands p (storeView (landStore p v m d s) v) (openSegment st) (markLanded st i d (pointerAt v d (zoneOn (openSegment st) d) - 1)) i) (m .addresses)) (m .addresses) e
+      (landedCands p (storeView (landStore p v m d s) v) (openSegment p st) (markLanded st i d (pointerAt v d (zoneOn (openSegment p st) d) - 1)) i)
+      (landedCands p (storeView (landStore p v m d s) v) (openSegment p st) (markLanded st i d (pointerAt v d (zoneOn (openSegment p st) d) - 1)) i) (m .addresses)) (m .addresses) e
       ∙ (λ j. pointed p (storeView (land-store-is p h v m ss n l fits d s A j) v) (m .addresses)
       (landedCands p (storeView (land-store-is p h v m ss n l fits d s A j) v) (same-seg j) (markLanded st i d (plan-o j)) i)
       (landedCands p (storeView (land-store-is p h v m ss n l fits d s A j) v) (same-seg j) (markLanded st i d (plan-o j)) i) (m .addresses))
 
   stores-one : seals p st i d ≡ false → q .stores ≡ w ∷ []
   stores-one e = land-plan-stores ∙ ap₂ (λ (x : Store) (y : List Store). x ∷ y) (land-store-is p h v m ss n l fits d s A)
-      (cond-false (seals p st i d) (sealStores p (storeView (landStore p v m d s) v) (openSegment st)) [] e)
+      (cond-false (seals p st i d) (sealStores p (storeView (landStore p v m d s) v) (openSegment p st)) [] e)
 
   stores-all-of : seals p st i d ≡ true → q .stores ≡ w ∷ sealStores p u z
   stores-all-of e = land-plan-stores ∙ ap₂ (λ (x : Store) (y : List Store). x ∷ y) (land-store-is p h v m ss n l fits d s A)
-      (cond-true (seals p st i d) (sealStores p (storeView (landStore p v m d s) v) (openSegment st)) [] e
+      (cond-true (seals p st i d) (sealStores p (storeView (landStore p v m d s) v) (openSegment p st)) [] e
       ∙ ap₂ (λ (x : Store) (y : Seg). sealStores p (storeView x v) y) (land-store-is p h v m ss n l fits d s A) same-seg)
 
   state-part : completes p st i d ≡ false → seals p st i d ≡ false → q .memory .state ≡ st₁
   state-part e f = plan-state
       ∙ cond-false (seals p st i d) (setClosed (cond (completes p st i d)
-      (freeStripe (markLanded st i d (pointerAt v d (zoneOn (openSegment st) d) - 1)) i)
-      (markLanded st i d (pointerAt v d (zoneOn (openSegment st) d) - 1))))
-      (cond (completes p st i d) (freeStripe (markLanded st i d (pointerAt v d (zoneOn (openSegment st) d) - 1)) i) (markLanded st i d (pointerAt v d (zoneOn (openSegment st) d) - 1))) f
-      ∙ cond-false (completes p st i d) (freeStripe (markLanded st i d (pointerAt v d (zoneOn (openSegment st) d) - 1)) i) (markLanded st i d (pointerAt v d (zoneOn (openSegment st) d) - 1)) e
+      (freeStripe (markLanded st i d (pointerAt v d (zoneOn (openSegment p st) d) - 1)) i)
+      (markLanded st i d (pointerAt v d (zoneOn (openSegment p st) d) - 1))))
+      (cond (completes p st i d) (freeStripe (markLanded st i d (pointerAt v d (zoneOn (openSegment p st) d) - 1)) i) (markLanded st i d (pointerAt v d (zoneOn (openSegment p st) d) - 1))) f
+      ∙ cond-false (completes p st i d) (freeStripe (markLanded st i d (pointerAt v d (zoneOn (openSegment p st) d) - 1)) i) (markLanded st i d (pointerAt v d (zoneOn (openSegment p st) d) - 1)) e
       ∙ ap (markLanded st i d) plan-o
 
   land-state : completes p st i d ≡ true → seals p st i d ≡ false → q .memory .state ≡ freeStripe st₁ i
   land-state e f = plan-state
       ∙ cond-false (seals p st i d) (setClosed (cond (completes p st i d)
-      (freeStripe (markLanded st i d (pointerAt v d (zoneOn (openSegment st) d) - 1)) i)
-      (markLanded st i d (pointerAt v d (zoneOn (openSegment st) d) - 1))))
-      (cond (completes p st i d) (freeStripe (markLanded st i d (pointerAt v d (zoneOn (openSegment st) d) - 1)) i) (markLanded st i d (pointerAt v d (zoneOn (openSegment st) d) - 1))) f
-      ∙ cond-true (completes p st i d) (freeStripe (markLanded st i d (pointerAt v d (zoneOn (openSegment st) d) - 1)) i) (markLanded st i d (pointerAt v d (zoneOn (openSegment st) d) - 1)) e
+      (freeStripe (markLanded st i d (pointerAt v d (zoneOn (openSegment p st) d) - 1)) i)
+      (markLanded st i d (pointerAt v d (zoneOn (openSegment p st) d) - 1))))
+      (cond (completes p st i d) (freeStripe (markLanded st i d (pointerAt v d (zoneOn (openSegment p st) d) - 1)) i) (markLanded st i d (pointerAt v d (zoneOn (openSegment p st) d) - 1))) f
+      ∙ cond-true (completes p st i d) (freeStripe (markLanded st i d (pointerAt v d (zoneOn (openSegment p st) d) - 1)) i) (markLanded st i d (pointerAt v d (zoneOn (openSegment p st) d) - 1)) e
       ∙ ap (λ (x : ℕ). freeStripe (markLanded st i d x) i) plan-o
 
   state-sealed : completes p st i d ≡ true → seals p st i d ≡ true → q .memory .state ≡ setClosed (freeStripe st₁ i)
   state-sealed e f = plan-state
       ∙ cond-true (seals p st i d) (setClosed (cond (completes p st i d)
-      (freeStripe (markLanded st i d (pointerAt v d (zoneOn (openSegment st) d) - 1)) i)
-      (markLanded st i d (pointerAt v d (zoneOn (openSegment st) d) - 1))))
-      (cond (completes p st i d) (freeStripe (markLanded st i d (pointerAt v d (zoneOn (openSegment st) d) - 1)) i) (markLanded st i d (pointerAt v d (zoneOn (openSegment st) d) - 1))) f
-      ∙ ap setClosed (cond-true (completes p st i d) (freeStripe (markLanded st i d (pointerAt v d (zoneOn (openSegment st) d) - 1)) i)
-      (markLanded st i d (pointerAt v d (zoneOn (openSegment st) d) - 1)) e
+      (freeStripe (markLanded st i d (pointerAt v d (zoneOn (openSegment p st) d) - 1)) i)
+      (markLanded st i d (pointerAt v d (zoneOn (openSegment p st) d) - 1))))
+      (cond (completes p st i d) (freeStripe (markLanded st i d (pointerAt v d (zoneOn (openSegment p st) d) - 1)) i) (markLanded st i d (pointerAt v d (zoneOn (openSegment p st) d) - 1))) f
+      ∙ ap setClosed (cond-true (completes p st i d) (freeStripe (markLanded st i d (pointerAt v d (zoneOn (openSegment p st) d) - 1)) i)
+      (markLanded st i d (pointerAt v d (zoneOn (openSegment p st) d) - 1)) e
       ∙ ap (λ (x : ℕ). freeStripe (markLanded st i d x) i) plan-o)
 
   -- ---- which of the three

@@ -1,5 +1,5 @@
 -- A landing: its checks, and its chunk as the machine's step. Assumes nothing.
-use mathlib.Core.Path.{_≡_, refl, sym, ap, ap₂, _∙_, subst}
+use mathlib.Core.Path.{_≡_, refl, sym, ap, _∙_, subst}
 use mathlib.Core.List.{List, [], map}
 use mathlib.Core.Bool.{Bool, true, false, cond, not, _&&_}
 use mathlib.Core.Logic.{⊎-elim}
@@ -11,7 +11,7 @@ use lib.ListN.{length}
 use Rattle.spec.specs.declared.Params.{Params}
 use Rattle.spec.specs.declared.State.{State}
 use Rattle.spec.specs.Calls.{firstRefusal}
-use Rattle.spec.specs.Drives.{View, zoneAt, pointerAt, Store, storeView, Seg, seg, zoneOn}
+use Rattle.spec.specs.Drives.{View, zoneAt, pointerAt, Store, storeView, zoneOn, across}
 use Rattle.spec.specs.Drives.Store.{put}
 use Rattle.spec.specs.History.{Send}
 use Rattle.spec.specs.Landing.{slotOf, ready, waiting, completes, seals, flightRec, misplaced, overfull, entryFaults, landFaults, landChecks, landStore}
@@ -24,7 +24,7 @@ use Rattle.spec.specs.Parity.{parityRec}
 use Rattle.law_basic.specs.Geometry.{between-low, between-high, Ranged, position-drive, drive-is-data, data-drive-lt}
 use Rattle.law_basic.specs.Ranges.{and-left, and-right, and-fails}
 use Rattle.law_drives.specs.Members.{if-none}
-use Rattle.law_basic.specs.Segs.{Named, seg-named, zone-on-lt}
+use Rattle.law_basic.specs.Segs.{Named, seg-named}
 use Rattle.law_code.specs.Chunks.{flight-data, flight-parity}
 use Rattle.law_code.specs.Single.{encode-rec-xor}
 use Rattle.law_drives.specs.Slots.{slot-found}
@@ -43,18 +43,20 @@ use Rattle.proof_crash_items.specs.Codec.{Wide}
 use Rattle.proof_crash_items.specs.Items.{valueOf, itemsIn, storeItem, items-store}
 use Rattle.proof_crash_items.specs.Member.{has-below, any-false-in}
 use Rattle.proof_crash_items.specs.Ranges.{parOf, data-code, code-word}
-use Rattle.proof_crash_items.specs.Sound.{Sound, sound-fits, store-put}
+use Rattle.proof_crash_items.specs.Sound.{Sound, sound-fits, store-put, sound-put}
 use Rattle.proof_crash_items.specs.ZoneBytes.{Kind, kindItem}
 use Rattle.proof_crash_items.specs.ZoneBytes.Kind.{datum}
 use Rattle.proof_crash_calls.specs.Base.{eqb-self, slot-any}
 use Rattle.proof_crash_calls.specs.Go.{mst, Go, go-step, go-view}
-use Rattle.proof_crash_calls.specs.Live.{Live, live-inv, live-len}
+use Rattle.proof_crash_calls.specs.Live.{Live, live-inv, live-number-len}
 use Rattle.proof_crash_calls.specs.Placed.{ready-data, ready-parity, drive-cases}
 use Rattle.proof_crash_calls.specs.Rel.{readyAt, SlotOf, inUse}
 use Rattle.proof_crash_calls.specs.Sending.{opened-low, slots-ok}
 use Rattle.proof_crash_calls.specs.Sends.{value-addr, value-stamp}
 use Rattle.proof_crash_calls.specs.Slots.{inflight-block-long}
 use Rattle.proof_crash_calls.specs.Xored.{parity-is, Fits8, good-fits, parity-wide}
+use Rattle.spec.specs.declared.Seg.{Seg}
+use Rattle.proof_crash_items.specs.Segs.{number-self}
 
 -- what a landing's checks say
 pub record LandAsked (p : Params) (v : View) (st : State) (d s : ℕ) : Type 0 where
@@ -65,10 +67,10 @@ pub record LandAsked (p : Params) (v : View) (st : State) (d s : ℕ) : Type 0 w
   pub fresh : isIn (landedIn st (slotOf st s)) d ≡ false
   pub may : readyAt p s (filledIn st (slotOf st s)) d ≡ true
   pub ok : stateOk p st ≡ true
-  pub from : 1 ≤ pointerAt v d (zoneOn (openSegment st) d)
-  pub to : pointerAt v d (zoneOn (openSegment st) d) ≤ p .S
-  pub group? : group p (pointerAt v d (zoneOn (openSegment st) d) - 1) ≡ group p s
-  pub room : seals p st (slotOf st s) d ≡ true → (e : ℕ) → e < p .N → pointerAt v e (zoneOn (openSegment st) e) + cond (eqb e d) 1 0 + footers p ≤ capacity p
+  pub from : 1 ≤ pointerAt v d (zoneOn (openSegment p st) d)
+  pub to : pointerAt v d (zoneOn (openSegment p st) d) ≤ p .S
+  pub group? : group p (pointerAt v d (zoneOn (openSegment p st) d) - 1) ≡ group p s
+  pub room : seals p st (slotOf st s) d ≡ true → (e : ℕ) → e < p .N → pointerAt v e (zoneOn (openSegment p st) e) + cond (eqb e d) 1 0 + footers p ≤ capacity p
 
 slot-of : (st : State) (s : ℕ) → slotOf st s < 8 → (inUse st (slotOf st s) ≡ true) × (stripeIn st (slotOf st s) ≡ s)
 unfolding slotOf inUse
@@ -111,9 +113,9 @@ land-asked p long v m d s e =
     let i : slotOf st s < 8 = ltb-true (slotOf st s) 8 (and-right (ltb d (p .N)) (ltb (slotOf st s) 8) x) in
     let r : (isIn (landedIn st (slotOf st s)) d ≡ false) × (readyAt p (stripeIn st (slotOf st s)) (filledIn st (slotOf st s)) d ≡ true) =
     ready-parts p st (slotOf st s) d (and-right (ltb d (p .N) && ltb (slotOf st s) 8) (ready p st (slotOf st s) d) w) in
-    let g : (misplaced p v d (zoneOn (openSegment st) d) s ≡ false) × ((seals p st (slotOf st s) d && overfull p v d (openSegment st)) ≡ false) = faults (c .chunk-fine) in
-    let z : (1 ≤ pointerAt v d (zoneOn (openSegment st) d)) × (pointerAt v d (zoneOn (openSegment st) d) ≤ p .S) × (group p (pointerAt v d (zoneOn (openSegment st) d) - 1) ≡ group p s) =
-    placed-well p v d (zoneOn (openSegment st) d) s (g .0) in
+    let g : (misplaced p v d (zoneOn (openSegment p st) d) s ≡ false) × ((seals p st (slotOf st s) d && overfull p v d (openSegment p st)) ≡ false) = faults (c .chunk-fine) in
+    let z : (1 ≤ pointerAt v d (zoneOn (openSegment p st) d)) × (pointerAt v d (zoneOn (openSegment p st) d) ≤ p .S) × (group p (pointerAt v d (zoneOn (openSegment p st) d) - 1) ≡ group p s) =
+    placed-well p v d (zoneOn (openSegment p st) d) s (g .0) in
     let o : (inUse st (slotOf st s) ≡ true) × (stripeIn st (slotOf st s) ≡ s) = slot-of st s i in
     record {
       drive = ltb-true d (p .N) (and-left (ltb d (p .N)) (ltb (slotOf st s) 8) x);
@@ -126,21 +128,21 @@ land-asked p long v m d s e =
       from = z .0;
       to = z .1;
       group? = z .2;
-      room = λ t. room-of p v d (openSegment st) (and-fails (seals p st (slotOf st s) d) (overfull p v d (openSegment st)) (g .1) t);
+      room = λ t. room-of p v d (openSegment p st) (and-fails (seals p st (slotOf st s) d) (overfull p v d (openSegment p st)) (g .1) t);
     }
   where
     waits : waiting p (m .state) d s ≡ true → ((ltb d (p .N) && ltb (slotOf (m .state) s) 8) && ready p (m .state) (slotOf (m .state) s) d) ≡ true
     waits x = unfold waiting slotCount in x
 
     faults : landFaults p v m d s ≡ []
-        → (misplaced p v d (zoneOn (openSegment (m .state)) d) s ≡ false) × ((seals p (m .state) (slotOf (m .state) s) d && overfull p v d (openSegment (m .state))) ≡ false)
+        → (misplaced p v d (zoneOn (openSegment p (m .state)) d) s ≡ false) × ((seals p (m .state) (slotOf (m .state) s) d && overfull p v d (openSegment p (m .state))) ≡ false)
     faults x = unfold landFaults in
         let zs : List ℕ = cond (completes p (m .state) (slotOf (m .state) s) d) (flat (entryFaults p v (m .addresses)) (entriesIn (m .state) (slotOf (m .state) s))) [] in
-        let a : (misplaced p v d (zoneOn (openSegment (m .state)) d) s ≡ false)
-        × (consIf (seals p (m .state) (slotOf (m .state) s) d && overfull p v d (openSegment (m .state))) (zoneOn (openSegment (m .state)) d) zs ≡ []) =
-        if-none (misplaced p v d (zoneOn (openSegment (m .state)) d) s) (zoneOn (openSegment (m .state)) d)
-        (consIf (seals p (m .state) (slotOf (m .state) s) d && overfull p v d (openSegment (m .state))) (zoneOn (openSegment (m .state)) d) zs) x in
-        (a .0, if-none (seals p (m .state) (slotOf (m .state) s) d && overfull p v d (openSegment (m .state))) (zoneOn (openSegment (m .state)) d) zs (a .1) .0)
+        let a : (misplaced p v d (zoneOn (openSegment p (m .state)) d) s ≡ false)
+        × (consIf (seals p (m .state) (slotOf (m .state) s) d && overfull p v d (openSegment p (m .state))) (zoneOn (openSegment p (m .state)) d) zs ≡ []) =
+        if-none (misplaced p v d (zoneOn (openSegment p (m .state)) d) s) (zoneOn (openSegment p (m .state)) d)
+        (consIf (seals p (m .state) (slotOf (m .state) s) d && overfull p v d (openSegment p (m .state))) (zoneOn (openSegment p (m .state)) d) zs) x in
+        (a .0, if-none (seals p (m .state) (slotOf (m .state) s) d && overfull p v d (openSegment p (m .state))) (zoneOn (openSegment p (m .state)) d) zs (a .1) .0)
 
 -- ---- the chunk
 
@@ -159,14 +161,14 @@ module _ (p : Params) (h : Ranged p) (v : View) (m : Memory) (ss : List Send) (n
   M = l .M
 
   abbrev z : Seg
-  z = seg (l .M .zone)
+  z = across p (l .M .zone)
 
   inv-landed : Inv (parOf p h) (mst (l .g) (itemsIn p v) (l .a) (l .c) (run (l .M)))
   inv-landed = live-inv p h v (m .state) (m .inflight) (m .addresses) ss n l
 
   -- the stripe of the eighth is s
   pub land-slot : SlotOf p (itemsIn p v) (m .state) (m .inflight) (l .M .zone) (slotOf (m .state) s) (l .M .F s) (l .M .ready s)
-  land-slot = subst (λ (x : ℕ). SlotOf p (itemsIn p v) st fl (z .name) i (M .F x) (M .ready x)) (A .number) (l .rel .slot i (A .low) (A .used?))
+  land-slot = subst (λ (x : ℕ). SlotOf p (itemsIn p v) st fl (l .M .zone) i (M .F x) (M .ready x)) (A .number) (l .rel .slot i (A .low) (A .used?))
 
   pub land-flies : l .M .fly s ≡ true
   land-flies = subst (λ (x : ℕ). M .fly x ≡ true) (A .number) (l .rel .flying i (A .low) (A .used?))
@@ -177,12 +179,15 @@ module _ (p : Params) (h : Ranged p) (v : View) (m : Memory) (ss : List Send) (n
   pub land-open : l .M .is-open ≡ true
   land-open = land-flight .0
 
-  pub land-zone : openSegment (m .state) ≡ seg (l .M .zone)
+  pub land-zone : openSegment p (m .state) ≡ across p (l .M .zone)
   unfolding openSegment
-  land-zone = ap seg (let e : m .state .opened ≡ suc (l .M .zone) = l .rel .zone land-open in let i : m .state .opened - 1 ≡ l .M .zone = omega arith in i)
+  land-zone = ap (across p) (let e : m .state .opened ≡ suc (l .M .zone) = l .rel .zone land-open in let i : m .state .opened - 1 ≡ l .M .zone = omega arith in i)
 
-  pub zone-in : Named p (seg (l .M .zone))
-  zone-in = seg-named p (l .M .zone) (omega (arith, l .rel .zone land-open, opened-low p st (A .ok)))
+  pub zone-below : l .M .zone < p .Z
+  zone-below = omega (arith, l .rel .zone land-open, opened-low p st (A .ok))
+
+  pub zone-in : Named p (across p (l .M .zone))
+  zone-in = seg-named p (l .M .zone) zone-below
 
   from : 1 ≤ pointerAt v d (zoneOn z d)
   from = subst (λ (x : Seg). 1 ≤ pointerAt v d (zoneOn x d)) land-zone (A .from)
@@ -254,7 +259,7 @@ module _ (p : Params) (h : Ranged p) (v : View) (m : Memory) (ss : List Send) (n
   chunk-parity e = subst ChunkIs (sym is) (record {
     val = ap (λ (x : ℕ). valueOf (slotBlock p fl i x) (parityRec s (map (entryIn st i) (below (filledIn st i))))) e
         ∙ subst (λ (x : ℕ). valueOf (slotBlock p fl i (parityDrive p x)) (parityRec x (map (entryIn st i) (below (filledIn st i)))) ≡ M .F s (parityDrive p x)) (A .number)
-        (parity-is p h (λ e. itemsIn p v e (z .name)) (slotBlock p fl i) (entryIn st i) (offsetIn st i) (stripeIn st i) (filledIn st i) (landedIn st i) (M .F s) (M .ready s) land-slot
+        (parity-is p h (λ e. itemsIn p v e (l .M .zone)) (slotBlock p fl i) (entryIn st i) (offsetIn st i) (stripeIn st i) (filledIn st i) (landedIn st i) (M .F s) (M .ready s) land-slot
         (λ x b. inflight-block-long p fl fits i x (A .low) b) full (code-word p h s (M .F s) (land-flight .2 .word)))
         ∙ ap (M .F s) (sym e);
     stripe = unfold parityRec in refl;
@@ -283,30 +288,30 @@ module _ (p : Params) (h : Ranged p) (v : View) (m : Memory) (ss : List Send) (n
 
   -- what is put, and where
   abbrev pub landPut : Store
-  landPut = put d (zoneOn (seg (l .M .zone)) d) (slotBlock p (m .inflight) (slotOf (m .state) s) d) (recordBytes (flightRec p (m .state) (slotOf (m .state) s) d))
+  landPut = put d (zoneOn (across p (l .M .zone)) d) (slotBlock p (m .inflight) (slotOf (m .state) s) d) (recordBytes (flightRec p (m .state) (slotOf (m .state) s) d))
 
   pub land-store-is : landStore p v m d s ≡ landPut
   unfolding landStore
   land-store-is = ap (λ (x : Seg). put d (zoneOn x d) (slotBlock p fl i d) (recordBytes (flightRec p st i d))) land-zone
 
   abbrev at-o : ℕ
-  at-o = pointerAt v d (zoneOn (seg (l .M .zone)) d) - 1
+  at-o = pointerAt v d (zoneOn (across p (l .M .zone)) d) - 1
 
-  landed-kind : Kind p d (zoneOn z d) (zoneAt v d (zoneOn z d)) (slotBlock p fl i d) (recordBytes (flightRec p st i d))
+  landed-kind : Kind p d z (zoneAt v d (zoneOn z d)) (slotBlock p fl i d) (recordBytes (flightRec p st i d))
   landed-kind = datum at-o (slotBlock p fl i d) (flightRec p st i d) at (let b : at-o < p .S = omega (arith, from, to) in b) (inflight-block-long p fl fits i d (A .low) (A .drive)) (chunk-is .wide)
     where
       at : zoneAt v d (zoneOn z d) .pointer ≡ suc at-o
       at = unfold pointerAt in (let e : pointerAt v d (zoneOn z d) ≡ suc (pointerAt v d (zoneOn z d) - 1) = omega (arith, from) in e)
 
   pub land-sound : Sound p v landPut
-  land-sound = (A .drive, zone-on-lt p z d zone-in, landed-kind)
+  land-sound = sound-put p v d z (slotBlock p fl i d) (recordBytes (flightRec p st i d)) (A .drive) zone-in landed-kind
 
-  landed-item : storeItem p v landPut ≡ m-put d (z .name) (chunk s (M .F s d))
+  landed-item : storeItem p v landPut ≡ m-put d (l .M .zone) (chunk s (M .F s d))
   unfolding landed-kind
-  landed-item = store-put p v d z (slotBlock p fl i d) (recordBytes (flightRec p st i d)) zone-in landed-kind ∙ same
+  landed-item = store-put p v d z (slotBlock p fl i d) (recordBytes (flightRec p st i d)) (A .drive) zone-in landed-kind ∙ same
     where
-      same : m-put d (z .name) (kindItem p d z (zoneAt v d (zoneOn z d)) (slotBlock p fl i d) (recordBytes (flightRec p st i d)) landed-kind) ≡ m-put d (z .name) (chunk s (M .F s d))
-      same = unfold kindItem in ap₂ (λ (x : ℕ) (y : Val). m-put d (z .name) (chunk x y)) (chunk-is .stripe) (chunk-is .val)
+      same : m-put d (zoneOn z 0) (kindItem p d z (zoneAt v d (zoneOn z d)) (slotBlock p fl i d) (recordBytes (flightRec p st i d)) landed-kind) ≡ m-put d (l .M .zone) (chunk s (M .F s d))
+      same = unfold kindItem in λ j. m-put d (number-self p h (l .M .zone) j) (chunk (chunk-is .stripe j) (chunk-is .val j))
 
   -- the drives afterwards
   abbrev pub landView : View
@@ -315,16 +320,16 @@ module _ (p : Params) (h : Ranged p) (v : View) (m : Memory) (ss : List Send) (n
   pub land-items : itemsIn p landView ≡ withItem (itemsIn p v) d (l .M .zone) (chunk s (l .M .F s d))
   land-items = items-store p v landPut (l .reached .shape) (sound-fits p h v landPut (l .reached .shape) land-sound) ∙ ap (apply (itemsIn p v)) landed-item ∙ (unfold apply in refl)
 
-  landed-length : length (itemsIn p v d (z .name)) ≡ pointerAt v d (zoneOn z d)
-  landed-length = live-len p h v (m .state) (m .inflight) (m .addresses) ss n l d z (A .drive) zone-in
+  landed-length : length (itemsIn p v d (l .M .zone)) ≡ pointerAt v d (zoneOn z d)
+  landed-length = live-number-len p h v (m .state) (m .inflight) (m .addresses) ss n l d (l .M .zone) (A .drive) zone-below
 
   pub land-step : (T : Track) → Go (parOf p h) (mst (l .g) (itemsIn p v) (l .a) (l .c) (run (l .M))) (mst (l .g) (itemsIn p landView) (l .a) (l .c) (run (l .M))) T T
   land-step T =
-      go-view (parOf p h) (mst (l .g) (itemsIn p v) (l .a) (l .c) (run (l .M))) (l .g) (withItem (itemsIn p v) d (z .name) (chunk s (M .F s d)))
+      go-view (parOf p h) (mst (l .g) (itemsIn p v) (l .a) (l .c) (run (l .M))) (l .g) (withItem (itemsIn p v) d (l .M .zone) (chunk s (M .F s d)))
       (itemsIn p landView) (l .a) (l .c) (run (l .M)) T T (sym land-items)
-      (go-step (parOf p h) (mst (l .g) (itemsIn p v) (l .a) (l .c) (run (l .M))) (mst (l .g) (withItem (itemsIn p v) d (z .name) (chunk s (M .F s d))) (l .a) (l .c) (run (l .M))) T
+      (go-step (parOf p h) (mst (l .g) (itemsIn p v) (l .a) (l .c) (run (l .M))) (mst (l .g) (withItem (itemsIn p v) d (l .M .zone) (chunk s (M .F s d))) (l .a) (l .c) (run (l .M))) T
       (m-land (mst (l .g) (itemsIn p v) (l .a) (l .c) (run (l .M))) M d s refl (A .drive) land-flies
-      (λ x k. land-slot .out d (A .drive) (A .fresh) x (subst (λ (y : ℕ). InI (chunk y x) (itemsIn p v d (z .name))) (sym (A .number)) k)) may
+      (λ x k. land-slot .out d (A .drive) (A .fresh) x (subst (λ (y : ℕ). InI (chunk y x) (itemsIn p v d (l .M .zone))) (sym (A .number)) k)) may
       (λ k e. let f : pointerAt v d (zoneOn z d) ≡ suc k = sym landed-length ∙ e in
       let o : pointerAt v d (zoneOn z d) - 1 ≡ k = omega (arith, f) in
       (omega (arith, f, to), sym (ap (λ (x : Seg). group p (pointerAt v d (zoneOn x d) - 1)) (sym land-zone) ∙ A .group?) ∙ ap (group p) o))))

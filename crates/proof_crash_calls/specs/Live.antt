@@ -9,10 +9,10 @@ use Rattle.spec.specs.declared.Params.{Params}
 use Rattle.spec.specs.declared.State.{State}
 use Rattle.spec.specs.Calls.{Plan}
 use Rattle.spec.specs.Demands.{sendAt}
-use Rattle.spec.specs.Drives.{View, pointerAt, Store, storeView, storeAll, Seg, zoneOn}
+use Rattle.spec.specs.Drives.{View, pointerAt, Store, storeView, storeAll, zoneOn, across}
 use Rattle.spec.specs.History.{Send, forget}
 use Rattle.law_basic.specs.Geometry.{Ranged}
-use Rattle.law_basic.specs.Segs.{Named}
+use Rattle.law_basic.specs.Segs.{Named, seg-named}
 use Rattle.proof_crash_machine.specs.Facts.{Ghost, InV, None}
 use Rattle.proof_crash_machine.specs.History.{Mode, State as m-State, Inv}
 use Rattle.proof_crash_machine.specs.History.Mode.{off, run}
@@ -22,7 +22,7 @@ use Rattle.proof_crash_machine.specs.Val.{Val}
 use Rattle.proof_crash_machine.specs.Mask.{Mask}
 use Rattle.proof_crash_items.specs.Items.{itemsIn}
 use Rattle.proof_crash_items.specs.Ranges.{parOf}
-use Rattle.proof_crash_items.specs.Segs.{OnDrives, zone-len}
+use Rattle.proof_crash_items.specs.Segs.{OnDrives, zone-len, number-self}
 use Rattle.proof_crash_items.specs.Shape.{Shape, shape-stores}
 use Rattle.proof_crash_items.specs.Sound.{AllSound, BytesOk, sounds-fit, bytes-stores, sound-take}
 use Rattle.proof_crash_calls.specs.Fill.{FillWithin}
@@ -30,6 +30,7 @@ use Rattle.proof_crash_calls.specs.Go.{mst, Later, later-same, Go, go-in
 use Rattle.proof_crash_calls.specs.Held.{TableOk}
 use Rattle.proof_crash_calls.specs.Rel.{Rel, Waiting}
 use Rattle.proof_crash_calls.specs.Sends.{Logged, Waits, length-forget, forget-logged, forget-waits}
+use Rattle.spec.specs.declared.Seg.{Seg}
 
 -- drives v, blocks sent ss, of which n before the last finished restart ended; mode m of the machine
 pub record Reached (p : Params) (h : Ranged p) (v : View) (ss : List Send) (n : ℕ) (g : Ghost) (a : List Val) (c : Bool) (m : Mode) (T : Track) : Type 0 where
@@ -87,8 +88,12 @@ module _ (p : Params) (h : Ranged p) (v : View) (st : State) (fl tb : List ℕ) 
   pub live-trust : (d : ℕ) → d < p .N → l .g .un d ≡ false
   live-trust d b = live-none d b
 
-  pub live-len : (d : ℕ) (z : Seg) → d < p .N → Named p z → length (itemsIn p v d (z .name)) ≡ pointerAt v d (zoneOn z d)
+  pub live-len : (d : ℕ) (z : Seg) → d < p .N → Named p z → length (itemsIn p v d (zoneOn z 0)) ≡ pointerAt v d (zoneOn z d)
   live-len d z b k = zone-len p h (l .g) v live-drives d z b (live-trust d b) k
+
+  -- by number
+  pub live-number-len : (d y : ℕ) → d < p .N → y < p .Z → length (itemsIn p v d y) ≡ pointerAt v d (zoneOn (across p y) d)
+  live-number-len d y b k = ap (λ (x : ℕ). length (itemsIn p v d x)) (sym (number-self p h y)) ∙ live-len d (across p y) b (seg-named p y k)
 
   -- the stores of a call, all of them
   pub live-after : (ws : List Store) → AllSound p v ws → (g′ : Ghost) (a′ : List Val) (c′ : Bool) (M′ : Mem) (T′ : Track) (st′ : State) (fl′ tb′ : List ℕ) (ss′ : List Send)

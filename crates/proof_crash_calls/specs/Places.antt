@@ -10,7 +10,7 @@ use lib.Dec.{eqb}
 use lib.ListN.{getD}
 use Rattle.spec.specs.declared.Params.{Params}
 use Rattle.spec.specs.Counts.{neverPlace}
-use Rattle.spec.specs.Drives.{noChunk, Zone, View, zoneAt, chunkAt, Seg, zoneOn, placeSegment, sealedIn, recordIn, recordAt, placeRecord}
+use Rattle.spec.specs.Drives.{noChunk, Zone, View, zoneAt, chunkAt, zoneOn, placeSegment, sealedIn, recordIn, recordAt, placeRecord}
 use Rattle.spec.specs.Layout.{recordOf}
 use Rattle.spec.specs.Lists.Opt.{none, some}
 use Rattle.spec.specs.Lists.{isIn}
@@ -45,6 +45,7 @@ use Rattle.proof_crash_calls.specs.Go.{mst}
 use Rattle.proof_crash_calls.specs.Held.{Entry, TableOk}
 use Rattle.proof_crash_calls.specs.LandRel.{off-here}
 use Rattle.proof_crash_calls.specs.Sends.{value-stamp}
+use Rattle.spec.specs.declared.Seg.{Seg}
 
 -- counted with none missing, by any two masks without a drive
 abbrev pub counted-none : (P : Par) (hd : Heads) (v : ItemView) (m n : Mask) → None P m → None P n → (x : Val) → Counted P hd v m x → Counted P hd v n x
@@ -90,7 +91,7 @@ module _ (p : Params) (h : Ranged p) (g : Ghost) (v : View) (k : OnDrives p h g 
 
       go : (t : Bool) → sealedIn p v 0 z ≡ t → recordIn p t (zoneAt v d (zoneOn z d)) o ≡ recordOf (blockIn (zoneAt v d (zoneOn z d)) (suc o) .spare)
       go false e = spare
-      go true e = by-footer p h d (zoneOn z d) (zoneAt v d (zoneOn z d)) zone-shape (zone-bytes p h g v k d z l (not-untrusted d l) b) (full e) o ol ∙ spare
+      go true e = by-footer p h d z (zoneAt v d (zoneOn z d)) zone-shape (zone-bytes p h g v k d z l (not-untrusted d l) b) (full e) o ol ∙ spare
 
   -- ---- a record that counts
 
@@ -140,7 +141,7 @@ module _ (p : Params) (h : Ranged p) (g : Ghost) (v : View) (k : OnDrives p h g 
     place-z = ap (placeZone p) place ∙ place-zone p (from .d) its-zone (1 + o) its-zone-low b-low
 
     place-seg : placeSegment p (x .place) ≡ from .z
-    place-seg = ap (placeSegment p) place ∙ place-segment-of p (from .z) (from .d) (1 + o) zb b-low
+    place-seg = ap (placeSegment p) place ∙ place-segment-of p (from .z) (from .d) (1 + o) (from .drv) zb b-low
 
     place-b : placeBlock p (x .place) ≡ suc o
     place-b = ap (placeBlock p) place ∙ place-block p (from .d) its-zone (1 + o) b-low ∙ (let e : 1 + o ≡ suc o = omega arith in e)
@@ -191,7 +192,7 @@ module _ (p : Params) (h : Ranged p) (g : Ghost) (v : View) (k : OnDrives p h g 
 
     counts-here : Counted (parOf p h) (g .hd) (itemsIn p v) (isIn 0) (pieceAt p h g v k 0 choice-none (from .z) (from .s) (from .d))
     counts-here = record {
-      z = from .z .name;
+      z = zoneOn (from .z) 0;
       s = from .s;
       f = pieceAt p h g v k 0 choice-none (from .z) (from .s);
       rem = remaining-has p h g v k 0 choice-none (from .z) (from .rem) .1;
@@ -200,11 +201,11 @@ module _ (p : Params) (h : Ranged p) (g : Ghost) (v : View) (k : OnDrives p h g 
     }
 
     -- it counts, in the segment of its place
-    pub counted-at : (q : Counted (parOf p h) (g .hd) (itemsIn p v) (g .un) valueAt) × (q .z ≡ placeSegment p (x .place) .name)
+    pub counted-at : (q : Counted (parOf p h) (g .hd) (itemsIn p v) (g .un) valueAt) × (q .z ≡ zoneOn (placeSegment p (x .place)) 0)
     unfolding counts-here
-    counted-at = subst (λ (y : Val). (q : Counted (parOf p h) (g .hd) (itemsIn p v) (g .un) y) × (q .z ≡ placeSegment p (x .place) .name)) (sym value-is) (
+    counted-at = subst (λ (y : Val). (q : Counted (parOf p h) (g .hd) (itemsIn p v) (g .un) y) × (q .z ≡ zoneOn (placeSegment p (x .place)) 0)) (sym value-is) (
       counted-none (parOf p h) (g .hd) (itemsIn p v) (isIn 0) (g .un) (none-out p h) none? (pieceAt p h g v k 0 choice-none (from .z) (from .s) (from .d)) counts-here,
-      sym (ap (λ (y : Seg). y .name) place-seg),
+      sym (ap (λ (y : Seg). zoneOn y 0) place-seg),
     )
 
     pub value-address : valueAt .addr ≡ x .address
@@ -223,13 +224,13 @@ module _ (p : Params) (h : Ranged p) (g : Ghost) (v : View) (k : OnDrives p h g 
         (zone-bytes p h g v k (from .d) (from .z) (from .drv) (not-untrusted (from .d) (from .drv)) zb .wide o (o-low .0) (o-low .1) .stamp)
 
     -- the item there
-    pub item-at : (t : ℕ) × Off (itemsIn p v (placeDrive p (x .place)) (placeSegment p (x .place) .name)) (placeBlock p (x .place)) (chunk t valueAt)
+    pub item-at : (t : ℕ) × Off (itemsIn p v (placeDrive p (x .place)) (zoneOn (placeSegment p (x .place)) 0)) (placeBlock p (x .place)) (chunk t valueAt)
     item-at = (
       n,
-      subst (λ (y : ℕ). Off (itemsIn p v y (placeSegment p (x .place) .name)) (placeBlock p (x .place)) (chunk n valueAt)) (sym place-d)
-          (subst (λ (y : Seg). Off (itemsIn p v (from .d) (y .name)) (placeBlock p (x .place)) (chunk n valueAt)) (sym place-seg) (subst
-          (λ (y : ℕ). Off (itemsIn p v (from .d) (from .z .name)) y (chunk n valueAt)) (sym place-b)
-          (subst (λ (y : Val). Off (itemsIn p v (from .d) (from .z .name)) (suc o) (chunk n y)) (sym value-here) there))),
+      subst (λ (y : ℕ). Off (itemsIn p v y (zoneOn (placeSegment p (x .place)) 0)) (placeBlock p (x .place)) (chunk n valueAt)) (sym place-d)
+          (subst (λ (y : Seg). Off (itemsIn p v (from .d) (zoneOn y 0)) (placeBlock p (x .place)) (chunk n valueAt)) (sym place-seg) (subst
+          (λ (y : ℕ). Off (itemsIn p v (from .d) (zoneOn (from .z) 0)) y (chunk n valueAt)) (sym place-b)
+          (subst (λ (y : Val). Off (itemsIn p v (from .d) (zoneOn (from .z) 0)) (suc o) (chunk n y)) (sym value-here) there))),
     )
       where
         q : Zone
@@ -239,13 +240,13 @@ module _ (p : Params) (h : Ranged p) (g : Ghost) (v : View) (k : OnDrives p h g 
         n = recordOf (blockIn (zoneAt v (from .d) its-zone) (suc o) .spare) .stripe
 
         there :
-            Off (itemsIn p v (from .d) (from .z .name)) (suc o)
+            Off (itemsIn p v (from .d) (zoneOn (from .z) 0)) (suc o)
             (chunk n
             (valueOf (blockIn (zoneAt v (from .d) its-zone) (suc o) .block) (recordOf (blockIn (zoneAt v (from .d) its-zone) (suc o) .spare))))
         there =
             subst (λ (l : List Item). Off l (suc o) (chunk n
             (valueOf (blockIn (zoneAt v (from .d) its-zone) (suc o) .block) (recordOf (blockIn (zoneAt v (from .d) its-zone) (suc o) .spare)))))
-            (sym (items-in p v (from .d) (from .z)))
+            (sym (items-in p v (from .d) (from .z) (omega (arith, from .drv)) zb))
             (unfold chunkItem in chunk-of p (zoneAt v (from .d) its-zone) (zone-pointer-low p h g v k (from .d) (from .z) (from .drv) (not-untrusted (from .d) (from .drv)) zb) o (o-low .0)
             (o-low .1))
 

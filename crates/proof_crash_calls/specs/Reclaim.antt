@@ -12,7 +12,7 @@ use Rattle.spec.specs.declared.State.{State}
 use Rattle.spec.specs.Calls.{firstRefusal, Plan}
 use Rattle.spec.specs.Counts.{neverPlace}
 use Rattle.spec.specs.Demands.{sendAt}
-use Rattle.spec.specs.Drives.{View, pointerAt, chunkAt, storeView, storeAll, Seg, zoneOn, emptySegs, placeRecord, resetStores}
+use Rattle.spec.specs.Drives.{View, pointerAt, chunkAt, storeView, storeAll, zoneOn, emptySegs, placeRecord, resetStores}
 use Rattle.spec.specs.Drives.Store.{reset}
 use Rattle.spec.specs.History.{Send}
 use Rattle.spec.specs.Layout.{Rec, mkRec}
@@ -53,21 +53,22 @@ use Rattle.proof_crash_calls.specs.Rel.{slot-keep, Rel, Waiting}
 use Rattle.proof_crash_calls.specs.Sending.{Asked, Target, sendStores, target, target-entries}
 use Rattle.proof_crash_calls.specs.Take.{takenMem, taken-rel, taken-waits, copied-go}
 use Rattle.proof_crash_calls.specs.Victim.{VictimIs, victim-is, place-has, live-has, open-unsealed, quiet, table-left}
+use Rattle.spec.specs.declared.Seg.{Seg}
 
 -- ---- the resets are the machine's
 
-zone-resets-follow : (p : Params) (z : Seg) → Named p z → (n d : ℕ) (v : View) → d + n ≤ p .N → Follows p v (map (λ e. reset e (zoneOn z e)) (upFrom d n)) (resets (z .name) d n)
+zone-resets-follow : (p : Params) (z : Seg) → Named p z → (n d : ℕ) (v : View) → d + n ≤ p .N → Follows p v (map (λ e. reset e (zoneOn z e)) (upFrom d n)) (resets (zoneOn z 0) d n)
 unfolding upFrom resets storeItems
 zone-resets-follow p z zl zero d v b = record { sound = tt; items = refl }
 zone-resets-follow p z zl (suc n) d v b =
-    let r : Follows p (storeView (reset d (zoneOn z d)) v) (map (λ e. reset e (zoneOn z e)) (upFrom (suc d) n)) (resets (z .name) (suc d) n) =
+    let r : Follows p (storeView (reset d (zoneOn z d)) v) (map (λ e. reset e (zoneOn z e)) (upFrom (suc d) n)) (resets (zoneOn z 0) (suc d) n) =
     zone-resets-follow p z zl n (suc d) (storeView (reset d (zoneOn z d)) v) (omega arith) in
     record {
       sound = ((omega arith, zone-on-lt p z d zl), r .sound);
-      items = ap₂ (λ (x : ItemStore) (y : List ItemStore). x ∷ y) (store-reset p v d z zl) (r .items);
+      items = ap₂ (λ (x : ItemStore) (y : List ItemStore). x ∷ y) (store-reset p v d z (omega arith) zl) (r .items);
     }
 
-pub reset-follow : (p : Params) (v : View) (z : Seg) → Named p z → Follows p v (resetStores p z) (resets (z .name) 0 (p .N))
+pub reset-follow : (p : Params) (v : View) (z : Seg) → Named p z → Follows p v (resetStores p z) (resets (zoneOn z 0) 0 (p .N))
 unfolding resetStores drivesOf below
 reset-follow p v z zl = zone-resets-follow p z zl (p .N) 0 v (omega arith)
 
@@ -128,36 +129,36 @@ module _ (p : Params) (h : Ranged p) (v : View) (m : Memory) (ss : List Send) (n
   reset-call-ok z zl full dead ok = record {
     sound = follow .sound;
     done = live-after p h v st fl (m .addresses) ss n l (resetStores p z) (follow .sound) (l .g) (l .a) (l .c) (l .M) (l .T) st fl (m .addresses) ss (later-same (l .g))
-        (go-view (parOf p h) σ (l .g) (applyAll (itemsIn p v) (resets (z .name) 0 (p .N))) u (l .a) (l .c) (run (l .M)) (l .T) (l .T) (sym items)
-        (go-step (parOf p h) σ (mst (l .g) (applyAll (itemsIn p v) (resets (z .name) 0 (p .N))) (l .a) (l .c) (run (l .M))) (l .T) (reset-done σ (l .M) (z .name) refl silent apart)))
+        (go-view (parOf p h) σ (l .g) (applyAll (itemsIn p v) (resets (zoneOn z 0) 0 (p .N))) u (l .a) (l .c) (run (l .M)) (l .T) (l .T) (sym items)
+        (go-step (parOf p h) σ (mst (l .g) (applyAll (itemsIn p v) (resets (zoneOn z 0) 0 (p .N))) (l .a) (l .c) (run (l .M))) (l .T) (reset-done σ (l .M) (zoneOn z 0) refl silent apart)))
         (emptied-rel p h (l .g) (itemsIn p v) u st fl (l .M) (inv-reclaim .mode) (l .rel)
-        (λ o e. ap (λ (x : ItemView). x e (l .M .zone)) items ∙ resets-other (itemsIn p v) (z .name) 0 (p .N) e (l .M .zone) (apart o)))
+        (λ o e. ap (λ (x : ItemView). x e (l .M .zone)) items ∙ resets-other (itemsIn p v) (zoneOn z 0) 0 (p .N) e (l .M .zone) (apart o)))
         (l .reached .logged) (l .waits) (l .reached .marked) (l .reached .still)
-        (table-left p h v st fl (m .addresses) ss n l ok z dead u facts-u
-        (λ e y b. ap (λ (x : ItemView). x e y) items ∙ resets-other (itemsIn p v) (z .name) 0 (p .N) e y b));
+        (table-left p h v st fl (m .addresses) ss n l ok z zl dead u facts-u
+        (λ e y b. ap (λ (x : ItemView). x e y) items ∙ resets-other (itemsIn p v) (zoneOn z 0) 0 (p .N) e y b));
     cut = λ k. live-cut p h v st fl (m .addresses) ss n l (resetStores p z) (follow .sound) k (l .g) (later-same (l .g))
-        (go-view (parOf p h) σ (l .g) (applyAll (itemsIn p v) (take k (resets (z .name) 0 (p .N)))) (itemsIn p (storeAll storeView (take k (resetStores p z)) v)) (l .a) (l .c) off (l .T) (l .T)
-        (sym (follows-cut p h v (resetStores p z) (resets (z .name) 0 (p .N)) k (l .reached .shape) follow))
-        (go-step (parOf p h) σ (mst (l .g) (applyAll (itemsIn p v) (take k (resets (z .name) 0 (p .N)))) (l .a) (l .c) off) (l .T) (reset-cut σ (l .M) (z .name) k refl silent)));
+        (go-view (parOf p h) σ (l .g) (applyAll (itemsIn p v) (take k (resets (zoneOn z 0) 0 (p .N)))) (itemsIn p (storeAll storeView (take k (resetStores p z)) v)) (l .a) (l .c) off (l .T) (l .T)
+        (sym (follows-cut p h v (resetStores p z) (resets (zoneOn z 0) 0 (p .N)) k (l .reached .shape) follow))
+        (go-step (parOf p h) σ (mst (l .g) (applyAll (itemsIn p v) (take k (resets (zoneOn z 0) 0 (p .N)))) (l .a) (l .c) off) (l .T) (reset-cut σ (l .M) (zoneOn z 0) k refl silent)));
   }
     where
-      follow : Follows p v (resetStores p z) (resets (z .name) 0 (p .N))
+      follow : Follows p v (resetStores p z) (resets (zoneOn z 0) 0 (p .N))
       follow = reset-follow p v z zl
 
       u : ItemView
       u = itemsIn p (storeAll storeView (resetStores p z) v)
 
-      items : u ≡ applyAll (itemsIn p v) (resets (z .name) 0 (p .N))
-      items = follows-all p h v (resetStores p z) (resets (z .name) 0 (p .N)) (l .reached .shape) follow
+      items : u ≡ applyAll (itemsIn p v) (resets (zoneOn z 0) 0 (p .N))
+      items = follows-all p h v (resetStores p z) (resets (zoneOn z 0) 0 (p .N)) (l .reached .shape) follow
 
-      silent : Quiet (parOf p h) (l .g) (itemsIn p v) (z .name)
-      silent = quiet p h v st fl (m .addresses) ss n l ok z dead
+      silent : Quiet (parOf p h) (l .g) (itemsIn p v) (zoneOn z 0)
+      silent = quiet p h v st fl (m .addresses) ss n l ok z zl dead
 
       facts-u : Facts (parOf p h) (l .g) u
       facts-u =
-          subst (Facts (parOf p h) (l .g)) (sym items) (reclaimed-end (parOf p h) (l .g) (z .name) (inv-reclaim .mode .none) (inv-reclaim .mode .no-pair) (itemsIn p v) (inv-reclaim .facts) silent)
+          subst (Facts (parOf p h) (l .g)) (sym items) (reclaimed-end (parOf p h) (l .g) (zoneOn z 0) (inv-reclaim .mode .none) (inv-reclaim .mode .no-pair) (itemsIn p v) (inv-reclaim .facts) silent)
 
-      apart : l .M .is-open ≡ true → l .M .zone ≢ z .name
+      apart : l .M .is-open ≡ true → l .M .zone ≢ zoneOn z 0
       apart = open-unsealed p h v st fl (m .addresses) ss n l ok z zl full
 
   -- ---- copy

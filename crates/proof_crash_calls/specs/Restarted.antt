@@ -6,7 +6,7 @@ use mathlib.Core.Logic.{_⊎_, ⊎-elim}
 use Prim.Native.Nat.{ℕ, suc, _^_, _<_}
 use native.Mathlib.Omega.{arith}
 use Rattle.spec.specs.declared.Params.{Params}
-use Rattle.spec.specs.Drives.{View, zoneAt, pointerAt, chunkAt, Seg, zoneOn}
+use Rattle.spec.specs.Drives.{View, zoneAt, pointerAt, chunkAt, zoneOn}
 use Rattle.spec.specs.Layout.{headerSerial}
 use Rattle.spec.specs.Lists.{greatest}
 use Rattle.spec.specs.Rank.{Cand}
@@ -28,6 +28,7 @@ use Rattle.proof_crash_items.specs.Stripes.{pointer-is}
 use Rattle.proof_crash_items.specs.ZoneBytes.{blockIn}
 use Rattle.proof_crash_items.specs.Ranges.{parOf}
 use Rattle.proof_crash_calls.specs.Places.{cand-stamp-low}
+use Rattle.spec.specs.declared.Seg.{Seg}
 
 module _ (p : Params) (h : Ranged p) (g : Ghost) (v : View) (k : OnDrives p h g v) (none? : None (parOf p h) (g .un)) where
   -- ---- stamps and serials take 8 bytes
@@ -47,11 +48,11 @@ module _ (p : Params) (h : Ranged p) (g : Ghost) (v : View) (k : OnDrives p h g 
       let t : g .un 0 ≡ false = none? 0 d0 in
       let zb : Named p z = remaining-has p h g v k 0 (zero-choice p h (g .un) none?) z i .0 in
       let b : 0 < pointerAt v 0 (zoneOn z 0) = begun-on p h g v k 0 (zero-choice p h (g .un) none?) z i 0 d0 (isIn-empty 0) in
-      let e : headerSerial (headerAt v 0 z) ≡ g .hd .ser (z .name) = head-serials p h g v k 0 z d0 t zb b .0 in
-      let q : headerSerial (headerAt v 0 z) < 256 ^ 8 = low? z (zone-bytes p h g v k 0 z d0 t zb .serials (subst (λ (x : ℕ). 0 < x) (sym (pointer-is v 0 (zoneOn z 0))) b) .0) in
+      let e : headerSerial p (headerAt v 0 z) ≡ g .hd .ser (zoneOn z 0) = head-serials p h g v k 0 z d0 t zb b .0 in
+      let q : headerSerial p (headerAt v 0 z) < 256 ^ 8 = low? z (zone-bytes p h g v k 0 z d0 t zb .serials (subst (λ (x : ℕ). 0 < x) (sym (pointer-is v 0 (zoneOn z 0))) b) .0) in
       subst (λ (x : ℕ). x < 256 ^ 8) (e ∙ sym (serial-ghost p h g v k 0 (zero-choice p h (g .un) none?) z i)) q
     where
-      low? : (z : Seg) → headerSerial (blockIn (zoneAt v 0 (zoneOn z 0)) 0 .block) < 256 ^ 8 → headerSerial (headerAt v 0 z) < 256 ^ 8
+      low? : (z : Seg) → headerSerial p (blockIn (zoneAt v 0 (zoneOn z 0)) 0 .block) < 256 ^ 8 → headerSerial p (headerAt v 0 z) < 256 ^ 8
       low? z l = unfold headerAt chunkAt in l
 
   pub serials-fit : greatestSerial (segments p v 0) < 256 ^ 8
@@ -70,6 +71,6 @@ module _ (p : Params) (h : Ranged p) (g : Ghost) (v : View) (k : OnDrives p h g 
 
 -- what a healthy restart finds open: b, segment z and next stripe n; if open, the stripes below n are on all drives, and they are not all S
 pub record Finds (p : Params) (v : View) (b : Bool) (z : Seg) (n : ℕ) : Type 0 where
-  pub is : ((b ≡ true) × (openOf (unsealed (segments p v 0)) ≡ suc (z .name)) × (nextOf p (unsealed (segments p v 0)) ≡ n)) ⊎ ((b ≡ false) × (openOf (unsealed (segments p v 0)) ≡ 0))
+  pub is : ((b ≡ true) × (openOf (unsealed (segments p v 0)) ≡ suc (zoneOn z 0)) × (nextOf p (unsealed (segments p v 0)) ≡ n)) ⊎ ((b ≡ false) × (openOf (unsealed (segments p v 0)) ≡ 0))
   pub less : b ≡ true → n < p .S
-  pub full : b ≡ true → (s : ℕ) → s < n → (d : ℕ) → d < p .N → (x : Val) × InI (chunk s x) (itemsIn p v d (z .name))
+  pub full : b ≡ true → (s : ℕ) → s < n → (d : ℕ) → d < p .N → (x : Val) × InI (chunk s x) (itemsIn p v d (zoneOn z 0))

@@ -9,7 +9,7 @@ use native.Mathlib.Omega.{arith}
 use lib.ListN.{length, getD, take, drop, set}
 use lib.Seq.{take-set-le, drop-set-add}
 use Rattle.spec.specs.declared.Params.{Params}
-use Rattle.spec.specs.Drives.{mkChunk, Zone, View, zoneAt, pointerAt, Store, putZone, storeView, storeAll, Seg, zoneOn, sparesOf, footersOf, zeroSpare, footerStores}
+use Rattle.spec.specs.Drives.{mkChunk, Zone, View, zoneAt, pointerAt, Store, putZone, storeView, storeAll, zoneOn, sparesOf, footersOf, zeroSpare, footerStores}
 use Rattle.spec.specs.Drives.Store.{put}
 use Rattle.spec.specs.Landing.{sealStores}
 use Rattle.spec.specs.Layout.{footerBlock}
@@ -35,11 +35,12 @@ use Rattle.proof_crash_machine.specs.View.ItemStore.{put as m-put}
 use Rattle.proof_crash_items.specs.Items.{itemAt, itemsOf, itemsIn, items-in, item-foot, length-of, storeItem, items-store}
 use Rattle.proof_crash_items.specs.Ranges.{parOf}
 use Rattle.proof_crash_items.specs.Shape.{Shape, zone-set-at, zone-set-else, shape-store}
-use Rattle.proof_crash_items.specs.Sound.{Sound, sound-fits}
+use Rattle.proof_crash_items.specs.Sound.{Sound, sound-fits, sound-put}
 use Rattle.proof_crash_items.specs.ZoneBytes.{sparesIn, Kind}
 use Rattle.proof_crash_items.specs.ZoneBytes.Kind.{footer}
 use Rattle.proof_crash_calls.specs.Go.{mst, Go, go-step, go-view, Chain, chain-append}
 use Rattle.proof_crash_calls.specs.Held.{Grown, grown-same, grown-then, grown-put}
+use Rattle.spec.specs.declared.Seg.{Seg}
 
 -- a footer changes no spare
 pub spares-kept : (p : Params) (q : Zone) (b t : List ℕ) (j : ℕ) → q .pointer ≡ suc (p .S + j) → sparesIn p (putZone b t q) ≡ sparesIn p q
@@ -83,14 +84,14 @@ module _ (P : Par) (g : Ghost) (d z : ℕ) (l : List Item) (f : ZoneItems P g d 
 -- ---- the footers
 
 module _ (p : Params) (h : Ranged p) (z : Seg) (zl : Named p z) (u₀ : View) (at₀ : (x : ℕ) → x < p .N → pointerAt u₀ x (zoneOn z x) ≡ suc (p .S))
-    (on₀ : (x : ℕ) → x < p .N → (s : ℕ) → s < p .S → (y : Val) × InI (chunk s y) (itemsIn p u₀ x (z .name))) where
+    (on₀ : (x : ℕ) → x < p .N → (s : ℕ) → s < p .S → (y : Val) × InI (chunk s y) (itemsIn p u₀ x (zoneOn z 0))) where
   -- drives below e have their footers, e has j of them, the others are as in u₀
   pub record Footed (e j : ℕ) (u : View) : Type 0 where
     pub shape : Shape p u
     pub done : (x : ℕ) → x < e → pointerAt u x (zoneOn z x) ≡ capacity p
     pub to : e < p .N → pointerAt u e (zoneOn z e) ≡ suc (p .S + j)
     pub spares : e < p .N → sparesIn p (zoneAt u e (zoneOn z e)) ≡ sparesIn p (zoneAt u₀ e (zoneOn z e))
-    pub has : e < p .N → (s : ℕ) → s < p .S → (y : Val) × InI (chunk s y) (itemsIn p u e (z .name))
+    pub has : e < p .N → (s : ℕ) → s < p .S → (y : Val) × InI (chunk s y) (itemsIn p u e (zoneOn z 0))
     pub later : (x : ℕ) → e < x → x < p .N → zoneAt u x (zoneOn z x) ≡ zoneAt u₀ x (zoneOn z x)
     pub grew : Grown (parOf p h) (itemsIn p u₀) (itemsIn p u)
 
@@ -117,7 +118,7 @@ module _ (p : Params) (h : Ranged p) (z : Seg) (zl : Named p z) (u₀ : View) (a
     spares = λ l. ap (sparesIn p) (f .later (suc e) (omega arith) l);
     has =
         λ l s b. subst (λ (x : List Item). (y : Val) × InI (chunk s y) x)
-        (sym (items-in p u (suc e) z ∙ ap (itemsOf p) (f .later (suc e) (omega arith) l) ∙ sym (items-in p u₀ (suc e) z))) (on₀ (suc e) l s b);
+        (sym (items-in p u (suc e) z (omega arith) zl ∙ ap (itemsOf p) (f .later (suc e) (omega arith) l) ∙ sym (items-in p u₀ (suc e) z (omega arith) zl))) (on₀ (suc e) l s b);
     later = λ x a l. f .later x (omega arith) l;
     grew = f .grew;
   }
@@ -145,11 +146,11 @@ module _ (p : Params) (h : Ranged p) (z : Seg) (zl : Named p z) (u₀ : View) (a
       ptr : q .pointer ≡ suc (p .S + j)
       ptr = unfold pointerAt in f .to el
 
-      seal-foot-kind : Kind p e (zoneOn z e) (zoneAt u e (zoneOn z e)) (footerBlock p (sparesIn p (zoneAt u₀ e (zoneOn z e))) j) zeroSpare
-      seal-foot-kind = subst (λ (ss : List (List ℕ)). Kind p e (zoneOn z e) (zoneAt u e (zoneOn z e)) (footerBlock p ss j) zeroSpare) (f .spares el) (footer j ptr jl)
+      seal-foot-kind : Kind p e z (zoneAt u e (zoneOn z e)) (footerBlock p (sparesIn p (zoneAt u₀ e (zoneOn z e))) j) zeroSpare
+      seal-foot-kind = subst (λ (ss : List (List ℕ)). Kind p e z (zoneAt u e (zoneOn z e)) (footerBlock p ss j) zeroSpare) (f .spares el) (footer j ptr jl)
 
       pub foot-sound : Sound p u (footPut e j)
-      foot-sound = (el, zone-on-lt p z e zl, seal-foot-kind)
+      foot-sound = sound-put p u e z b zeroSpare el zl seal-foot-kind
 
       fits : Fits p u (footPut e j)
       fits = sound-fits p h u (footPut e j) (f .shape) foot-sound
@@ -157,23 +158,23 @@ module _ (p : Params) (h : Ranged p) (z : Seg) (zl : Named p z) (u₀ : View) (a
       foot-low : q .pointer ≤ length (q .blocks)
       foot-low = unfold capacity in omega (arith, ptr, jl, f .shape .blocks e (zoneOn z e) el (zone-on-lt p z e zl))
 
-      seal-length : length (itemsIn p u e (z .name)) ≡ suc (p .S + j)
-      seal-length = ap length (items-in p u e z) ∙ length-of p (zoneAt u e (zoneOn z e)) foot-low ∙ ptr
+      seal-length : length (itemsIn p u e (zoneOn z 0)) ≡ suc (p .S + j)
+      seal-length = ap length (items-in p u e z (omega arith) zl) ∙ length-of p (zoneAt u e (zoneOn z e)) foot-low ∙ ptr
 
-      foot-item : storeItem p u (footPut e j) ≡ m-put e (z .name) (foot j)
-      foot-item = (unfold storeItem pointerAt in ap₂ (λ (x : Seg) (t : Item). m-put e (x .name) t) (seg-on-is p z e zl) at)
+      foot-item : storeItem p u (footPut e j) ≡ m-put e (zoneOn z 0) (foot j)
+      foot-item = (unfold storeItem pointerAt in ap₂ (λ (x : Seg) (t : Item). m-put e (zoneOn x 0) t) (seg-on-is p z e el zl) at)
         where
           at : itemAt p (zoneAt u e (zoneOn z e) .pointer) (mkChunk (footerBlock p (sparesIn p (zoneAt u₀ e (zoneOn z e))) j) zeroSpare) ≡ foot j
           at = ap (λ (n : ℕ). itemAt p n (mkChunk (footerBlock p (sparesIn p (zoneAt u₀ e (zoneOn z e))) j) zeroSpare)) ptr
               ∙ item-foot p (p .S + j) (mkChunk (footerBlock p (sparesIn p (zoneAt u₀ e (zoneOn z e))) j) zeroSpare) (omega arith) ∙ ap foot (let k : p .S + j - p .S ≡ j = omega arith in k)
 
-      foot-items : itemsIn p (storeView (footPut e j) u) ≡ withItem (itemsIn p u) e (z .name) (foot j)
+      foot-items : itemsIn p (storeView (footPut e j) u) ≡ withItem (itemsIn p u) e (zoneOn z 0) (foot j)
       foot-items = items-store p u (footPut e j) (f .shape) fits ∙ ap (apply (itemsIn p u)) foot-item ∙ (unfold apply in refl)
 
       pub foot-go : (T : Track) → Go (parOf p h) (mst g (itemsIn p u) a c (run M)) (mst g (itemsIn p (storeView (footPut e j) u)) a c (run M)) T T
-      foot-go T = go-view (parOf p h) (σ u) g (withItem (itemsIn p u) e (z .name) (foot j)) (itemsIn p (storeView (footPut e j) u)) a c (run M) T T (sym foot-items)
-          (go-step (parOf p h) (σ u) (mst g (withItem (itemsIn p u) e (z .name) (foot j)) a c (run M)) T
-          (m-footer (σ u) M e (z .name) j refl el (omega (arith, seal-length)) (unfold capacity in omega (arith, seal-length, jl)) (f .has el)))
+      foot-go T = go-view (parOf p h) (σ u) g (withItem (itemsIn p u) e (zoneOn z 0) (foot j)) (itemsIn p (storeView (footPut e j) u)) a c (run M) T T (sym foot-items)
+          (go-step (parOf p h) (σ u) (mst g (withItem (itemsIn p u) e (zoneOn z 0) (foot j)) a c (run M)) T
+          (m-footer (σ u) M e (zoneOn z 0) j refl el (omega (arith, seal-length)) (unfold capacity in omega (arith, seal-length, jl)) (f .has el)))
 
       now : zoneAt (storeView (footPut e j) u) e (zoneOn z e) ≡ putZone b zeroSpare q
       now = unfold storeView in zone-set-at p u (f .shape) e (zoneOn z e) (putZone b zeroSpare (zoneAt u e (zoneOn z e))) el (zone-on-lt p z e zl)
@@ -187,11 +188,11 @@ module _ (p : Params) (h : Ranged p) (z : Seg) (zl : Named p z) (u₀ : View) (a
         done = λ x l. unfold pointerAt in (ap (λ (y : Zone). y .pointer) (foot-zone-other x (let n : x ≢ e = omega arith in n)) ∙ (unfold pointerAt in f .done x l));
         to = λ l. unfold pointerAt in (ap (λ (y : Zone). y .pointer) now ∙ (unfold putZone in (ap suc ptr ∙ (let k : suc (suc (p .S + j)) ≡ suc (p .S + suc j) = omega arith in k))));
         spares = λ l. ap (sparesIn p) now ∙ spares-kept p q b zeroSpare j ptr ∙ f .spares l;
-        has = λ l s k. let w : (y : Val) × InI (chunk s y) (itemsIn p u e (z .name)) = f .has l s k in
-            (w .0, subst (λ (x : ItemView). InI (chunk s (w .0)) (x e (z .name))) (sym foot-items) (in-fwd (itemsIn p u) e (z .name) (foot j) (chunk s (w .0)) e (z .name) (w .1)));
+        has = λ l s k. let w : (y : Val) × InI (chunk s y) (itemsIn p u e (zoneOn z 0)) = f .has l s k in
+            (w .0, subst (λ (x : ItemView). InI (chunk s (w .0)) (x e (zoneOn z 0))) (sym foot-items) (in-fwd (itemsIn p u) e (zoneOn z 0) (foot j) (chunk s (w .0)) e (zoneOn z 0) (w .1)));
         later = λ x l k. foot-zone-other x (let n : x ≢ e = omega arith in n) ∙ f .later x l k;
         grew = grown-then (parOf p h) (itemsIn p u₀) (itemsIn p u) (itemsIn p (storeView (footPut e j) u)) (f .grew)
-            (subst (λ (x : ItemView). Grown (parOf p h) (itemsIn p u) x) (sym foot-items) (grown-put (parOf p h) (itemsIn p u) e (z .name) (foot j) (omega (arith, seal-length))));
+            (subst (λ (x : ItemView). Grown (parOf p h) (itemsIn p u) x) (sym foot-items) (grown-put (parOf p h) (itemsIn p u) e (zoneOn z 0) (foot j) (omega (arith, seal-length))));
       }
 
     -- the footers of one drive
@@ -228,8 +229,9 @@ module _ (p : Params) (h : Ranged p) (z : Seg) (zl : Named p z) (u₀ : View) (a
     seal-chain sh = drives-chain (p .N) 0 u₀ (omega arith) (footed-start sh)
 
     -- every zone is full
-    pub footed-full : (u : View) → Footed (p .N) 0 u → (x : ℕ) → x < p .N → length (itemsIn p u x (z .name)) ≡ capacity p
-    footed-full u f x l = ap length (items-in p u x z) ∙ length-of p (zoneAt u x (zoneOn z x)) (omega (arith, full, f .shape .blocks x (zoneOn z x) l (zone-on-lt p z x zl))) ∙ full
+    pub footed-full : (u : View) → Footed (p .N) 0 u → (x : ℕ) → x < p .N → length (itemsIn p u x (zoneOn z 0)) ≡ capacity p
+    footed-full u f x l = ap length (items-in p u x z (omega arith) zl)
+        ∙ length-of p (zoneAt u x (zoneOn z x)) (omega (arith, full, f .shape .blocks x (zoneOn z x) l (zone-on-lt p z x zl))) ∙ full
       where
         full : zoneAt u x (zoneOn z x) .pointer ≡ capacity p
         full = unfold pointerAt in f .done x l

@@ -12,7 +12,7 @@ use lib.Seq.{take-nil}
 use lib.Count.{ones}
 use Rattle.spec.specs.declared.Params.{Params}
 use Rattle.spec.specs.declared.State.{State}
-use Rattle.spec.specs.Drives.{View, Store, storeView, storeAll, headerStores, Seg, seg, zoneOn, placeSegment, emptySegs}
+use Rattle.spec.specs.Drives.{View, Store, storeView, storeAll, headerStores, zoneOn, placeSegment, emptySegs, noSeg}
 use Rattle.spec.specs.Lists.{all, any, keep, isNil, indexOf, firstOr}
 use Rattle.spec.specs.Memory.{slotCount, slots, stripeIn, filledIn, landedIn, isFree, isFull, isFilling, inFlight, freeSlot, fillingSlot, hasFilling, slotOk, stateOk, setOpen, beginStripe}
 use Rattle.spec.specs.Params.{dataCount, placeBlock, placeDrive}
@@ -48,6 +48,7 @@ use Rattle.proof_crash_calls.specs.Go.{mst, Later, later-same, Go, go-no
 use Rattle.proof_crash_calls.specs.Held.{counted-kept, Entry, entry-to}
 use Rattle.proof_crash_calls.specs.Opened.{lowest-none, open-sound, open-go, open-cut-go, open-other, open-rel, open-waits}
 use Rattle.proof_crash_calls.specs.Rel.{inUse, free-unused, RelOn, Rel, Waiting}
+use Rattle.spec.specs.declared.Seg.{Seg}
 
 -- what the call's checks say
 pub record Asked (p : Params) (v : View) (st : State) : Type 0 where
@@ -207,22 +208,22 @@ module _ (p : Params) (h : Ranged p) (g : Ghost) (v : View) (a : List Val) (c : 
     (I : Inv (parOf p h) (mst g (itemsIn p v) a c (run M))) (on : OnDrives p h g v) (shut? : M .is-open ≡ false) (two : 2 ≤ length (emptySegs p v)) (fits : suc (M .serial) < 256 ^ 8)
     (idle : (i : ℕ) → i < 8 → inUse st i ≡ false) (i : ℕ) (il : i < 8) where
   abbrev w : Seg
-  w = firstOr (seg 0) (emptySegs p v)
+  w = firstOr noSeg (emptySegs p v)
 
   abbrev hs : List Store
-  hs = headerStores p (firstOr (seg 0) (emptySegs p v)) (suc (M .serial)) 0
+  hs = headerStores p (firstOr noSeg (emptySegs p v)) (suc (M .serial)) 0
 
   abbrev v₁ : View
-  v₁ = storeAll storeView (headerStores p (firstOr (seg 0) (emptySegs p v)) (suc (M .serial)) 0) v
+  v₁ = storeAll storeView (headerStores p (firstOr noSeg (emptySegs p v)) (suc (M .serial)) 0) v
 
   abbrev st₁ : State
-  st₁ = setOpen st (firstOr (seg 0) (emptySegs p v)) (suc (M .serial))
+  st₁ = setOpen st (firstOr noSeg (emptySegs p v)) (suc (M .serial))
 
   abbrev M₁ : Mem
-  M₁ = openMem M (firstOr (seg 0) (emptySegs p v) .name) (suc (M .serial))
+  M₁ = openMem M (zoneOn (firstOr noSeg (emptySegs p v)) 0) (suc (M .serial))
 
   abbrev g₁ : Ghost
-  g₁ = naming g (firstOr (seg 0) (emptySegs p v) .name) (suc (M .serial)) 0 (zoneOn (firstOr (seg 0) (emptySegs p v))) alone
+  g₁ = naming g (zoneOn (firstOr noSeg (emptySegs p v)) 0) (suc (M .serial)) 0 (zoneOn (firstOr noSeg (emptySegs p v))) alone
 
   go₁ : (T : Track) → Go (parOf p h) (mst g (itemsIn p v) a c (run M)) (mst g₁ (itemsIn p v₁) a c (run M₁)) T T
   go₁ = open-go p h g v a c M on two shut? fits
@@ -236,17 +237,17 @@ module _ (p : Params) (h : Ranged p) (g : Ghost) (v : View) (a : List Val) (c : 
   free₁ : inUse st₁ i ≡ false
   free₁ = same-used st st₁ i (open-same st w (suc (M .serial)) i) ∙ idle i il
 
-  open-items-other : (e y : ℕ) → y ≢ w .name → itemsIn p v₁ e y ≡ itemsIn p v e y
+  open-items-other : (e y : ℕ) → y ≢ zoneOn w 0 → itemsIn p v₁ e y ≡ itemsIn p v e y
   open-items-other = open-other p h g v a c M on two shut? fits I
 
   -- w was empty
-  used-apart : (e y j : ℕ) (t : Item) → e < p .N → Off (itemsIn p v e y) j t → y ≢ w .name
-  used-apart e y j t l o q = let z : ⊥ = omega (arith, o .0, ap (λ (x : ℕ). length (itemsIn p v e x)) q, ap length (lowest-none p v two e l)) in z
+  used-apart : (e y j : ℕ) (t : Item) → e < p .N → Off (itemsIn p v e y) j t → y ≢ zoneOn w 0
+  used-apart e y j t l o q = let z : ⊥ = omega (arith, o .0, ap (λ (x : ℕ). length (itemsIn p v e x)) q, ap length (lowest-none p h v two e l)) in z
 
   opened-counts : (x : Val) (q : Counted (parOf p h) (g .hd) (itemsIn p v) (g .un) x) → (c : Counted (parOf p h) (g₁ .hd) (itemsIn p v₁) (g₁ .un) x) × (c .z ≡ q .z)
   opened-counts x q = (counted-kept (parOf p h) g g₁ (itemsIn p v) (itemsIn p v₁) (inv₁ .facts) (inv₁ .mode .no-pair) refl x q (λ d l. open-items-other d (q .z) apart), refl)
     where
-      apart : q .z ≢ w .name
+      apart : q .z ≢ zoneOn w 0
       apart = let b : 0 < length (itemsIn p v 0 (q .z)) = q .rem .left 0 (omega (arith, h .drives-low)) (I .mode .none 0 (omega (arith, h .drives-low))) in
           used-apart 0 (q .z) 0 (getD (itemsIn p v 0 (q .z)) 0 (foot 0)) (omega (arith, h .drives-low)) (b, refl)
 
@@ -277,23 +278,23 @@ module _ (p : Params) (h : Ranged p) (g : Ghost) (v : View) (a : List Val) (c : 
 
 -- the stores of a block sent
 unfoldable pub sendStores : Params → View → State → List Store
-sendStores p v st = cond (opens p st) (headerStores p (firstOr (seg 0) (emptySegs p v)) (suc (st .serial .0)) 0) []
+sendStores p v st = cond (opens p st) (headerStores p (firstOr noSeg (emptySegs p v)) (suc (st .serial .0)) 0) []
 
 no-opening-stores : (p : Params) (v : View) (st : State) → opens p st ≡ false → sendStores p v st ≡ []
 unfolding sendStores
-no-opening-stores p v st e = cond-false (opens p st) (headerStores p (firstOr (seg 0) (emptySegs p v)) (suc (st .serial .0)) 0) [] e
+no-opening-stores p v st e = cond-false (opens p st) (headerStores p (firstOr noSeg (emptySegs p v)) (suc (st .serial .0)) 0) [] e
 
-stores-some : (p : Params) (v : View) (st : State) → opens p st ≡ true → sendStores p v st ≡ headerStores p (firstOr (seg 0) (emptySegs p v)) (suc (st .serial .0)) 0
+stores-some : (p : Params) (v : View) (st : State) → opens p st ≡ true → sendStores p v st ≡ headerStores p (firstOr noSeg (emptySegs p v)) (suc (st .serial .0)) 0
 unfolding sendStores
-stores-some p v st e = cond-true (opens p st) (headerStores p (firstOr (seg 0) (emptySegs p v)) (suc (st .serial .0)) 0) [] e
+stores-some p v st e = cond-true (opens p st) (headerStores p (firstOr noSeg (emptySegs p v)) (suc (st .serial .0)) 0) [] e
 
 opened-old : (p : Params) (v : View) (st : State) → opens p st ≡ false → openedBy p v st ≡ st
 unfolding openedBy
-opened-old p v st e = cond-false (opens p st) (setOpen st (firstOr (seg 0) (emptySegs p v)) (suc (st .serial .0))) st e
+opened-old p v st e = cond-false (opens p st) (setOpen st (firstOr noSeg (emptySegs p v)) (suc (st .serial .0))) st e
 
-opened-new : (p : Params) (v : View) (st : State) → opens p st ≡ true → openedBy p v st ≡ setOpen st (firstOr (seg 0) (emptySegs p v)) (suc (st .serial .0))
+opened-new : (p : Params) (v : View) (st : State) → opens p st ≡ true → openedBy p v st ≡ setOpen st (firstOr noSeg (emptySegs p v)) (suc (st .serial .0))
 unfolding openedBy
-opened-new p v st e = cond-true (opens p st) (setOpen st (firstOr (seg 0) (emptySegs p v)) (suc (st .serial .0))) st e
+opened-new p v st e = cond-true (opens p st) (setOpen st (firstOr noSeg (emptySegs p v)) (suc (st .serial .0))) st e
 
 begun-old : (p : Params) (st st₁ : State) → hasFilling p st ≡ true → begunBy p st st₁ ≡ st
 unfolding begunBy
@@ -340,11 +341,11 @@ module _ (p : Params) (h : Ranged p) (g : Ghost) (v : View) (a : List Val) (c : 
     -- a segment must be opened: none is open, since nothing is in flight
     opens-now :
         mustOpen p st ≡ true
-        → Target p h g v a c st fl M (headerStores p (firstOr (seg 0) (emptySegs p v)) (suc (st .serial .0)) 0)
-        (beginStripe (setOpen st (firstOr (seg 0) (emptySegs p v)) (suc (st .serial .0))) (freeSlot st)) (freeSlot st)
+        → Target p h g v a c st fl M (headerStores p (firstOr noSeg (emptySegs p v)) (suc (st .serial .0)) 0)
+        (beginStripe (setOpen st (firstOr noSeg (emptySegs p v)) (suc (st .serial .0))) (freeSlot st)) (freeSlot st)
     opens-now e =
-        subst (λ (n : ℕ). Target p h g v a c st fl M (headerStores p (firstOr (seg 0) (emptySegs p v)) (suc n) 0)
-        (beginStripe (setOpen st (firstOr (seg 0) (emptySegs p v)) (suc n)) (freeSlot st)) (freeSlot st)) (R .serial)
+        subst (λ (n : ℕ). Target p h g v a c st fl M (headerStores p (firstOr noSeg (emptySegs p v)) (suc n) 0)
+        (beginStripe (setOpen st (firstOr noSeg (emptySegs p v)) (suc n)) (freeSlot st)) (freeSlot st)) (R .serial)
         (target-open p h g v a c st fl M R I on shut? (A .room op) (omega (arith, R .serial, R .serial-fits, last)) idle (freeSlot st) (free .0))
       where
         op : opens p st ≡ true
@@ -383,8 +384,8 @@ module _ (p : Params) (h : Ranged p) (g : Ghost) (v : View) (a : List Val) (c : 
           (target-filling p h g v a c st fl M R I on e)
       go (no! e) (yes! m) =
           let o : opens p st ≡ true = unfold opens in and-both (not (hasFilling p st)) (mustOpen p st) (ap not e) m in
-          target-as p h g v a c st fl M (sendStores p v st) (headerStores p (firstOr (seg 0) (emptySegs p v)) (suc (st .serial .0)) 0)
-          (begunBy p st (openedBy p v st)) (beginStripe (setOpen st (firstOr (seg 0) (emptySegs p v)) (suc (st .serial .0))) (freeSlot st)) (slotFor p st) (freeSlot st)
+          target-as p h g v a c st fl M (sendStores p v st) (headerStores p (firstOr noSeg (emptySegs p v)) (suc (st .serial .0)) 0)
+          (begunBy p st (openedBy p v st)) (beginStripe (setOpen st (firstOr noSeg (emptySegs p v)) (suc (st .serial .0))) (freeSlot st)) (slotFor p st) (freeSlot st)
           (stores-some p v st o) (begun-new p st (openedBy p v st) e ∙ ap (λ (x : State). beginStripe x (freeSlot st)) (opened-new p v st o)) (slot-free p st e) (opens-now e m)
       go (no! e) (no! m) =
           let o : opens p st ≡ false = unfold opens in and-false (not (hasFilling p st)) (mustOpen p st) m in
@@ -397,5 +398,5 @@ pub target-entries :
     (i : ℕ) (t : Target p h g v a c st fl M ss st₂ i)
     → (q b : ℕ) → Entry p h g (itemsIn p v) q b → Entry p h (t .g′) (itemsIn p (storeAll storeView ss v)) q b
 target-entries p h g v a c st fl M ss st₂ i t q b e = entry-to p h g (t .g′) (itemsIn p v) (itemsIn p (storeAll storeView ss v)) q b e
-    (t .kept (placeDrive p q) (placeSegment p q .name) (placeBlock p q) (chunk (e .s) (e .x)) (e .drive) (e .at)) (t .counts (e .x) (e .counts) .0) (t .counts (e .x) (e .counts) .1 ∙ e .same)
+    (t .kept (placeDrive p q) (zoneOn (placeSegment p q) 0) (placeBlock p q) (chunk (e .s) (e .x)) (e .drive) (e .at)) (t .counts (e .x) (e .counts) .0) (t .counts (e .x) (e .counts) .1 ∙ e .same)
     (subst (λ (f : ℕ → ℕ). f b ≤ e .x .stamp) (sym (t .base)) (e .floor))

@@ -12,7 +12,7 @@ use lib.ListN.{length}
 use Rattle.spec.specs.declared.Params.{Params}
 use Rattle.spec.specs.declared.State.{State}
 use Rattle.spec.specs.Counts.{neverPlace}
-use Rattle.spec.specs.Drives.{View, pointerAt, Seg, allSegs, zoneOn, placeSegment, sealedIn}
+use Rattle.spec.specs.Drives.{View, pointerAt, allSegs, zoneOn, placeSegment, sealedIn}
 use Rattle.spec.specs.History.{Send}
 use Rattle.spec.specs.Lists.{Opt, below, all, any, isMember, keep, flat, isIn}
 use Rattle.spec.specs.Lists.Opt.{none, some}
@@ -23,7 +23,7 @@ use Rattle.law_basic.specs.Geometry.{Ranged, place-again}
 use Rattle.law_basic.specs.Mask.{isIn-empty, ones-all}
 use Rattle.law_basic.specs.Ranges.{Test, test}
 use Rattle.law_basic.specs.Ranges.Test.{yes!, no! }
-use Rattle.law_basic.specs.Segs.{name-once, Named, place-segment-zone}
+use Rattle.law_basic.specs.Segs.{Named, place-segment-zone, place-segment-named}
 use Rattle.law_drives.specs.Best.{fewer-is}
 use Rattle.law_drives.specs.Tests.{clash}
 use Rattle.proof_crash_machine.specs.Facts.{InV, Counted, Off, Facts, None, self-none}
@@ -37,7 +37,7 @@ use Rattle.proof_crash_machine.specs.View.Item.{chunk}
 use Rattle.proof_crash_items.specs.Items.{itemsIn}
 use Rattle.proof_crash_items.specs.Member.{Has, keep-has, has-keep, below-has, has-below, all-has, has-all, any-has, has-any, any-false-in, has-flat, map-has, has-map}
 use Rattle.proof_crash_items.specs.Ranges.{capacity-few, parOf}
-use Rattle.proof_crash_items.specs.Segs.{OnDrives, segs-has}
+use Rattle.proof_crash_items.specs.Segs.{OnDrives, segs-has, number-once}
 use Rattle.proof_crash_calls.specs.Base.{eqb-self}
 use Rattle.proof_crash_calls.specs.Entries.{entry-within, entry-low}
 use Rattle.proof_crash_calls.specs.Go.{mst}
@@ -45,6 +45,7 @@ use Rattle.proof_crash_calls.specs.Held.{counted-kept, Entry, TableOk, e
 use Rattle.proof_crash_calls.specs.Live.{Live, live-inv, live-none, live-drives, live-trust, live-len}
 use Rattle.proof_crash_calls.specs.Rel.{SlotOf, inUse}
 use Rattle.proof_crash_calls.specs.Sending.{slots-ok}
+use Rattle.spec.specs.declared.Seg.{Seg}
 
 -- ---- which segment
 
@@ -142,7 +143,7 @@ module _ (p : Params) (h : Ranged p) (v : View) (st : State) (fl tb : List ℕ) 
   inv-victim : Inv (parOf p h) (mst (l .g) (itemsIn p v) (l .a) (l .c) (run (l .M)))
   inv-victim = live-inv p h v st fl tb ss n l
 
-  pub open-unsealed : (z : Seg) → Named p z → ((d : ℕ) → d < p .N → pointerAt v d (zoneOn z d) ≡ capacity p) → l .M .is-open ≡ true → l .M .zone ≢ z .name
+  pub open-unsealed : (z : Seg) → Named p z → ((d : ℕ) → d < p .N → pointerAt v d (zoneOn z d) ≡ capacity p) → l .M .is-open ≡ true → l .M .zone ≢ zoneOn z 0
   open-unsealed z zl full o e =
       absurd (slot .out (lost .0) (lost .1) (lost .2) (there (lost .0) (lost .1) s₀ (omega (arith, low)) .0) (subst
       (λ (x : ℕ). InI (chunk x (there (lost .0) (lost .1) s₀ (omega (arith, low)) .0)) (itemsIn p v (lost .0) (M .zone))) (sym (w .3))
@@ -192,22 +193,28 @@ module _ (p : Params) (h : Ranged p) (v : View) (st : State) (fl tb : List ℕ) 
       let m : Has (placeAt tb a) (placesIn p tb) = has-place p tb a al (let f : placeAt tb a ≢ neverPlace = omega (arith, entry-low p h (l .g) v k none? (placeAt tb a) a e) in f) in
       let f : placeAt tb a ≡ placeOf p (placeDrive p (placeAt tb a)) (zoneOn z (placeDrive p (placeAt tb a))) (placeBlock p (placeAt tb a)) =
       sym (place-again p (placeAt tb a)) ∙ ap (λ (x : ℕ). placeOf p (placeDrive p (placeAt tb a)) x (placeBlock p (placeAt tb a)))
-      (sym (place-segment-zone p (placeAt tb a)) ∙ ap (λ (x : Seg). zoneOn x (placeDrive p (placeAt tb a))) y) in
+      (sym (place-segment-zone p (placeAt tb a) (e .drive)) ∙ ap (λ (x : Seg). zoneOn x (placeDrive p (placeAt tb a))) y) in
       let u : Has (placeOf p (placeDrive p (placeAt tb a)) (zoneOn z (placeDrive p (placeAt tb a))) (placeBlock p (placeAt tb a))) (liveIn p (placesIn p tb) z) =
       has-live p (placesIn p tb) z (placeDrive p (placeAt tb a)) (placeBlock p (placeAt tb a)) (e .drive)
       (entry-within p h (l .g) v k none? (placeAt tb a) a e) (subst (λ (x : ℕ). Has x (placesIn p tb)) f m) in
       subst (λ (x : List ℕ). Has (placeOf p (placeDrive p (placeAt tb a)) (zoneOn z (placeDrive p (placeAt tb a))) (placeBlock p (placeAt tb a))) x) dead u
 
-  pub quiet : (z : Seg) → liveIn p (placesIn p tb) z ≡ [] → Quiet (parOf p h) (l .g) (itemsIn p v) (z .name)
-  quiet z dead a = go (ℕ-discrete (l .g .base a) 0) (inv-victim .facts .content .floor a)
+  pub quiet : (z : Seg) → Named p z → liveIn p (placesIn p tb) z ≡ [] → Quiet (parOf p h) (l .g) (itemsIn p v) (zoneOn z 0)
+  quiet z zl dead a = go (ℕ-discrete (l .g .base a) 0) (inv-victim .facts .content .floor a)
     where
       go : Dec (l .g .base a ≡ 0) → (l .g .base a ≡ 0) ⊎ ((x : Val) × Counted (parOf p h) (l .g .hd) (itemsIn p v) (l .g .un) x × (x .addr ≡ a) × (l .g .base a ≤ x .stamp))
-          → (l .g .base a ≡ 0) ⊎ ((x : Val) × (c : Counted (parOf p h) (l .g .hd) (itemsIn p v) (l .g .un) x) × (c .z ≢ z .name) × (x .addr ≡ a) × (l .g .base a ≤ x .stamp))
+          → (l .g .base a ≡ 0) ⊎ ((x : Val) × (c : Counted (parOf p h) (l .g .hd) (itemsIn p v) (l .g .un) x) × (c .z ≢ zoneOn z 0) × (x .addr ≡ a) × (l .g .base a ≤ x .stamp))
       go (yes e) f = inl e
       go (no e) (inl f) = inl f
       go (no e) (inr (x, c, xa, xs)) = ⊎-elim (λ (w : (placeAt tb a ≡ neverPlace) × (l .g .base a ≡ 0)). inl (w .1))
-          (λ (w : Entry p h (l .g) (itemsIn p v) (placeAt tb a) a). inr
-          (w .x, w .counts, (λ b. entry-elsewhere z dead a sent w (name-once (placeSegment p (placeAt tb a)) z (sym (w .same) ∙ b))), w .addr, w .floor)) (l .table a sent)
+          (λ (w : Entry p h (l .g) (itemsIn p v) (placeAt tb a) a). inr (
+            w .x,
+            w .counts,
+            (λ b. entry-elsewhere z dead a sent w
+                (number-once p h (placeSegment p (placeAt tb a)) z (place-segment-named p (placeAt tb a) (w .zone)) zl (sym (w .same) ∙ b))),
+            w .addr,
+            w .floor,
+          )) (l .table a sent)
         where
           -- the address is in range
           sent : a < p .L
@@ -216,12 +223,13 @@ module _ (p : Params) (h : Ranged p) (v : View) (st : State) (fl tb : List ℕ) 
               (inv-victim .facts .parity .sound (l .g .un) (self-none (parOf p h) (l .g .un) none?) (c .z) (c .s) (c .f) (c .st) x (c .dt)))
 
   -- what is left when such a segment is emptied
-  pub table-left : (z : Seg) → liveIn p (placesIn p tb) z ≡ [] → (u : ItemView) → Facts (parOf p h) (l .g) u → ((e y : ℕ) → y ≢ z .name → u e y ≡ itemsIn p v e y)
+  pub table-left : (z : Seg) → Named p z → liveIn p (placesIn p tb) z ≡ [] → (u : ItemView) → Facts (parOf p h) (l .g) u → ((e y : ℕ) → y ≢ zoneOn z 0 → u e y ≡ itemsIn p v e y)
       → TableOk p h (l .g) u tb
-  table-left z dead u f same a al = ⊎-elim (λ w. inl w)
+  table-left z zl dead u f same a al = ⊎-elim (λ w. inl w)
       (λ (w : Entry p h (l .g) (itemsIn p v) (placeAt tb a) a).
-      let n : placeSegment p (placeAt tb a) .name ≢ z .name = λ i. entry-elsewhere z dead a al w (name-once (placeSegment p (placeAt tb a)) z i) in
+      let n : zoneOn (placeSegment p (placeAt tb a)) 0 ≢ zoneOn z 0 = λ i. entry-elsewhere z dead a al w
+      (number-once p h (placeSegment p (placeAt tb a)) z (place-segment-named p (placeAt tb a) (w .zone)) zl i) in
       inr (entry-to p h (l .g) (l .g) (itemsIn p v) u (placeAt tb a) a w
-      (subst (λ (x : List Item). Off x (placeBlock p (placeAt tb a)) (chunk (w .s) (w .x))) (sym (same (placeDrive p (placeAt tb a)) (placeSegment p (placeAt tb a) .name) n)) (w .at))
+      (subst (λ (x : List Item). Off x (placeBlock p (placeAt tb a)) (chunk (w .s) (w .x))) (sym (same (placeDrive p (placeAt tb a)) (zoneOn (placeSegment p (placeAt tb a)) 0) n)) (w .at))
       (counted-kept (parOf p h) (l .g) (l .g) (itemsIn p v) u f (inv-victim .mode .no-pair) refl (w .x) (w .counts)
       (λ d b. same d (w .counts .z) (λ q. n (sym (w .same) ∙ q)))) (w .same) (w .floor))) (l .table a al)

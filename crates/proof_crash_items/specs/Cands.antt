@@ -8,7 +8,7 @@ use borrow.Author.Tests.{eq-eqb, ltb-true, ltb-false, eqb-true}
 use native.Mathlib.Omega.{arith}
 use lib.Dec.{ltb, eqb}
 use Rattle.spec.specs.declared.Params.{Params}
-use Rattle.spec.specs.Drives.{View, Seg, seg}
+use Rattle.spec.specs.Drives.{View, across, zoneOn}
 use Rattle.spec.specs.Layout.{dataDrive, dataPosition, isData, dataDrives, Rec}
 use Rattle.spec.specs.Lists.{Opt, below, flat, greatest, isIn}
 use Rattle.spec.specs.Lists.Opt.{none, some}
@@ -26,9 +26,10 @@ use Rattle.proof_crash_machine.specs.Val.{Val}
 use Rattle.proof_crash_items.specs.Items.{valueOf, itemsIn}
 use Rattle.proof_crash_items.specs.Member.{Has, keep-has, has-keep, below-has, has-below, flat-has, has-flat, map-has, has-map, greatest-most}
 use Rattle.proof_crash_items.specs.Ranges.{parOf, data-code, code-data}
-use Rattle.proof_crash_items.specs.Segs.{OnDrives, has-remaining, remaining-has}
-use Rattle.proof_crash_items.specs.Stripes.{pieceAt, counted-stripe, stripe-counted}
+use Rattle.proof_crash_items.specs.Segs.{OnDrives, number-remaining, remaining-has}
+use Rattle.proof_crash_items.specs.Stripes.{pieceAt, counted-stripe, number-counted}
 use Rattle.proof_crash_items.specs.Values.{pieceValue}
+use Rattle.spec.specs.declared.Seg.{Seg}
 
 -- ---- which record holds
 
@@ -174,9 +175,9 @@ module _ (p : Params) (r : Ranged p) (g : Ghost) (v : View) (k : OnDrives p r g 
       → Counted (parOf p r) (g .hd) (itemsIn p v) (isIn m) (pieceAt p r g v k m c (f .z) (f .s) (f .d)) × (pieceAt p r g v k m c (f .z) (f .s) (f .d) .addr ≡ x .address)
       × (pieceAt p r g v k m c (f .z) (f .s) (f .d) .stamp ≡ x .stamp)
   cand-counted x f =
-      let b : Named p (f .z) × R (parOf p r) (g .hd) (itemsIn p v) (isIn m) (f .z .name) = remaining-has p r g v k m c (f .z) (f .rem) in (
+      let b : Named p (f .z) × R (parOf p r) (g .hd) (itemsIn p v) (isIn m) (zoneOn (f .z) 0) = remaining-has p r g v k m c (f .z) (f .rem) in (
         record {
-          z = f .z .name;
+          z = zoneOn (f .z) 0;
           s = f .s;
           f = pieceAt p r g v k m c (f .z) (f .s);
           rem = b .1;
@@ -192,13 +193,13 @@ module _ (p : Params) (r : Ranged p) (g : Ghost) (v : View) (k : OnDrives p r g 
 
   pub of-counted : (x : Val) → Counted (parOf p r) (g .hd) (itemsIn p v) (isIn m) x → (y : Cand) × Has y candsSeen × (y .address ≡ x .addr) × (y .stamp ≡ x .stamp)
   of-counted x q =
-      let e : Has (q .s) (counted p m (G (seg (q .z)))) × ((d : ℕ) → d < p .N → pieceAt p r g v k m c (seg (q .z)) (q .s) d ≡ q .f d) =
-      stripe-counted p r g v k m c (seg (q .z)) (q .s) (q .f) (q .st) in
-      let w : pieceAt p r g v k m c (seg (q .z)) (q .s) (q .dt .d) ≡ x = e .1 (q .dt .d) (q .dt .lt) ∙ q .dt .val in (
-        candOf p m (G (seg (q .z))) (q .s) (q .dt .d),
-        has-cand (seg (q .z)) (q .s) (q .dt .d) (has-remaining p r g v k m c (seg (q .z)) (q .rem)) (e .0) (q .dt .lt) (code-data p r (q .s) (q .dt .d) (q .dt .data?)),
-        cand-value (seg (q .z)) (q .s) (q .dt .d) .0 ∙ ap (λ (y : Val). y .addr) w,
-        cand-value (seg (q .z)) (q .s) (q .dt .d) .1 ∙ ap (λ (y : Val). y .stamp) w,
+      let e : Has (q .s) (counted p m (G (across p (q .z)))) × ((d : ℕ) → d < p .N → pieceAt p r g v k m c (across p (q .z)) (q .s) d ≡ q .f d) =
+      number-counted p r g v k m c (q .z) (q .s) (q .f) (q .st) in
+      let w : pieceAt p r g v k m c (across p (q .z)) (q .s) (q .dt .d) ≡ x = e .1 (q .dt .d) (q .dt .lt) ∙ q .dt .val in (
+        candOf p m (G (across p (q .z))) (q .s) (q .dt .d),
+        has-cand (across p (q .z)) (q .s) (q .dt .d) (number-remaining p r g v k m c (q .z) (q .rem)) (e .0) (q .dt .lt) (code-data p r (q .s) (q .dt .d) (q .dt .data?)),
+        cand-value (across p (q .z)) (q .s) (q .dt .d) .0 ∙ ap (λ (y : Val). y .addr) w,
+        cand-value (across p (q .z)) (q .s) (q .dt .d) .1 ∙ ap (λ (y : Val). y .stamp) w,
       )
 
   -- ---- the greatest stamps

@@ -12,7 +12,7 @@ use lib.ListN.{length, getD}
 use Rattle.spec.specs.declared.Params.{Params}
 use Rattle.spec.specs.Bytes.{parity}
 use Rattle.spec.specs.Counts.{neverPlace}
-use Rattle.spec.specs.Drives.{View, zoneAt, pointerAt, Disk, Seg, zoneOn, placeSegment}
+use Rattle.spec.specs.Drives.{View, zoneAt, pointerAt, Disk, zoneOn, placeSegment}
 use Rattle.spec.specs.Engine.{lentOk}
 use Rattle.spec.specs.History.{mkWorld, Seen, seenAt}
 use Rattle.spec.specs.History.Seen.{unwritten, got}
@@ -51,6 +51,7 @@ use Rattle.proof_crash_items.specs.Segs.{OnDrives, remaining-has}
 use Rattle.proof_crash_items.specs.Stripes.{stored-below, pointer-is, offset-on, stored-block-long, counted-has, pieceAt, piece-here, piece-lost}
 use Rattle.proof_crash_items.specs.Table.{shown-offset, shown-some}
 use Rattle.proof_crash_items.specs.Values.{pieceValue, blocks-of-long, pieces-long}
+use Rattle.spec.specs.declared.Seg.{Seg}
 
 -- memory whose tables are what the drives say, m missing
 pub record Tabled (p : Params) (v : View) (m : ℕ) (mem : Memory) : Type 0 where
@@ -141,7 +142,7 @@ module _ (p : Params) (r : Ranged p) (g : Ghost) (dk : Disk) (w : Whole p dk) (k
     place-z = ap (placeZone p) place-is ∙ place-zone p (f .d) its-zone (1 + off) its-zone-low block-few
 
     place-seg : placeSegment p (x .place) ≡ f .z
-    place-seg = ap (placeSegment p) place-is ∙ place-segment-of p (f .z) (f .d) (1 + off) zb block-few
+    place-seg = ap (placeSegment p) place-is ∙ place-segment-of p (f .z) (f .d) (1 + off) (f .drv) zb block-few
 
     place-b : placeBlock p (x .place) ≡ 1 + off
     place-b = ap (placeBlock p) place-is ∙ place-block p (f .d) its-zone (1 + off) block-few

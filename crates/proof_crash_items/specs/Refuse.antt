@@ -12,7 +12,7 @@ use lib.Seq.{getD-take, getD-drop, ext-getD, length-take-le}
 use Rattle.spec.specs.declared.Params.{Params}
 use Rattle.spec.specs.Calls.{firstRefusal}
 use Rattle.spec.specs.Counts.{paddingAddress, lastCount}
-use Rattle.spec.specs.Drives.{Chunk, mkChunk, noChunk, Zone, noZone, View, zoneAt, pointerAt, chunkAt, Seg, seg, sameSeg, allSegs, zoneOn, dataStored, blocksOf, footersOf, zeroSpare}
+use Rattle.spec.specs.Drives.{Chunk, mkChunk, noChunk, Zone, noZone, View, zoneAt, pointerAt, chunkAt, sameSeg, allSegs, zoneOn, dataStored, blocksOf, footersOf, zeroSpare, zonesIn, across}
 use Rattle.spec.specs.Faults.{pointerFaults, sameChunk, headerFault, serialFault, outside, twice, stripeFault, badRec, storedBad, decodedBad, addressFault}
 use Rattle.spec.specs.Faults.{footersStored, sameBlocks, footerFaultIn, footerFault, clashes, segmentFault, segmentFaults}
 use Rattle.spec.specs.Layout.{isData, group, inGroupOf, headerBlock, headerSerial, headerCopied, Rec, mkRec, recordOf, footerBlock}
@@ -24,7 +24,7 @@ use Rattle.spec.specs.Segments.{lowDrive, headerAt, leftBy1, isCopy, remaining,
 use Rattle.law_checks.specs.Passed.{restart-goes}
 use Rattle.law_basic.specs.Geometry.{Ranged, addresses-all}
 use Rattle.law_basic.specs.Ranges.{and-both, length-upFrom, getD-upFrom, getD-map, sameList-refl, and-false, keep-map}
-use Rattle.law_basic.specs.Segs.{seg-same, seg-other, segs-differ, name-once, Named, keep-segs, zone-on-lt, segOn, seg-on-named, seg-on-zone}
+use Rattle.law_basic.specs.Segs.{seg-same, seg-other, segs-differ, across-zone, Named, keep-segs, zone-on-lt, segOn, seg-on-named, seg-on-zone}
 use Rattle.law_drives.specs.Accept.{outside-none}
 use Rattle.law_drives.specs.Records.{blocks-at}
 use Rattle.law_drives.specs.Segs.{piece-rec}
@@ -35,16 +35,17 @@ use Rattle.proof_crash_machine.specs.Put.{off-in}
 use Rattle.proof_crash_machine.specs.Val.{Val, pads}
 use Rattle.proof_crash_machine.specs.View.{Item}
 use Rattle.proof_crash_machine.specs.View.Item.{chunk}
-use Rattle.proof_crash_items.specs.Items.{valueOf, chunkItem, itemsIn, items-in, chunk-of}
+use Rattle.proof_crash_items.specs.Items.{valueOf, chunkItem, itemsIn, items-in, chunk-of, across-is}
 use Rattle.proof_crash_items.specs.Member.{Has, or-both-false, and-false-1, keep-has, has-keep, keep-nil, upFrom-has, below-has, none-any, map-has, has-map, has-getD, isNil-has}
 use Rattle.proof_crash_items.specs.Named.{has-absent, none-present}
 use Rattle.proof_crash_items.specs.Ranges.{parOf, data-code}
 use Rattle.proof_crash_items.specs.SegFacts.{segment-fields, seg-low, seg-R, begun-on, serial-ghost, copied-ghost, seg-used, ragged-of}
-use Rattle.proof_crash_items.specs.Segs.{OnDrives, zone-bytes, zone-pointer-low, zone-facts, head-serials, trusted, low-serials, used-zones, has-segs}
+use Rattle.proof_crash_items.specs.Segs.{OnDrives, zone-bytes, zone-pointer-low, zone-facts, head-serials, trusted, low-serials, used-zones, has-segs, number-once}
 use Rattle.proof_crash_items.specs.Shape.{ZoneShape, shape-zone}
 use Rattle.proof_crash_items.specs.Stripes.{spareRecs, length-spareRecs, getD-spareRecs, stored-below, pointer-is, zones-by, recs-by-spare, pieceAt, counted-stripe}
 use Rattle.proof_crash_items.specs.Values.{pieceValue}
 use Rattle.proof_crash_items.specs.ZoneBytes.{sparesIn, blockIn, ZoneBytes}
+use Rattle.spec.specs.declared.Seg.{Seg}
 
 -- ---- rising lists
 
@@ -70,46 +71,47 @@ pub rising-below : (n : ℕ) → Rising (below n)
 unfolding below
 rising-below n = rising-upFrom 0 n
 
--- ---- segments, rising by their names
+-- ---- segments, rising by their numbers
 
-abbrev pub segNames : List Seg → List ℕ
-segNames l = map (λ (z : Seg). z .name) l
+abbrev pub segNumbers : List Seg → List ℕ
+segNumbers l = map (λ (z : Seg). zoneOn z 0) l
 
-pub names-segs : (l : List ℕ) → segNames (map seg l) ≡ l
-names-segs [] = refl
-names-segs (n ∷ l) = ap (λ (x : List ℕ). n ∷ x) (names-segs l)
+pub numbers-segs : (p : Params) → 0 < p .N → (l : List ℕ) → segNumbers (map (across p) l) ≡ l
+numbers-segs p k [] = refl
+numbers-segs p k (n ∷ l) = ap₂ (λ (x : ℕ) (y : List ℕ). x ∷ y) (across-zone p n 0 k) (numbers-segs p k l)
 
-pub segs-names : (l : List Seg) → map seg (segNames l) ≡ l
-segs-names [] = refl
-segs-names (z ∷ l) = ap (λ (x : List Seg). z ∷ x) (segs-names l)
+pub segs-numbers : (p : Params) → 0 < p .N → (l : List Seg) → ((z : Seg) → Has z l → Named p z) → map (across p) (segNumbers l) ≡ l
+segs-numbers p k [] h = refl
+segs-numbers p k (z ∷ l) h = ap₂ (λ (x : Seg) (y : List Seg). x ∷ y) (across-is p z k (h z (inl refl))) (segs-numbers p k l (λ y i. h y (inr i)))
 
 -- of segments that rise the first is none of the others
-pub rising-apart : (z : Seg) (l : List Seg) → Rising (segNames (z ∷ l)) → (y : Seg) → Has y l → y ≡ z → ⊥
+pub rising-apart : (z : Seg) (l : List Seg) → Rising (segNumbers (z ∷ l)) → (y : Seg) → Has y l → y ≡ z → ⊥
 rising-apart z l r y i e =
-    let b : z .name < y .name = r .0 (y .name) (has-map (λ (x : Seg). x .name) l y i) in
-    let o : y .name ≡ z .name = ap (λ (x : Seg). x .name) e in
+    let b : zoneOn z 0 < zoneOn y 0 = r .0 (zoneOn y 0) (has-map (λ (x : Seg). zoneOn x 0) l y i) in
+    let o : zoneOn y 0 ≡ zoneOn z 0 = ap (λ (x : Seg). zoneOn x 0) e in
     let j : ⊥ = omega (arith, b, o) in j
 
-pub remaining-rising : (p : Params) (v : View) (gone : ℕ) → Rising (segNames (remaining p v gone))
+pub remaining-rising : (p : Params) → Ranged p → (v : View) (gone : ℕ) → Rising (segNumbers (remaining p v gone))
 unfolding remaining leftBy1
-remaining-rising p v gone =
-    subst (λ (l : List Seg). Rising (segNames l)) (sym are)
-    (subst Rising (sym (names-segs ns)) (rising-keep (λ n. own (seg n)) (keep (λ n. left (seg n)) (below (p .Z))) (rising-keep (λ n. left (seg n)) (below (p .Z)) (rising-below (p .Z)))))
+remaining-rising p r v gone =
+    subst (λ (l : List Seg). Rising (segNumbers l)) (sym are)
+    (subst Rising (sym (numbers-segs p (omega (arith, r .drives-low)) ns))
+    (rising-keep (λ n. own (across p n)) (keep (λ n. left (across p n)) (below (p .Z))) (rising-keep (λ n. left (across p n)) (below (p .Z)) (rising-below (p .Z)))))
   where
     left : Seg → Bool
     left z = all (λ d. not (eqb (pointerAt v d (zoneOn z d)) 0)) (present p gone)
 
     own : Seg → Bool
-    own z = not (isCopy v (lowDrive p gone) (leftBy1 p v gone) z)
+    own z = not (isCopy p v (lowDrive p gone) (leftBy1 p v gone) z)
 
     ns : List ℕ
-    ns = keep (λ n. own (seg n)) (keep (λ n. left (seg n)) (below (p .Z)))
+    ns = keep (λ n. own (across p n)) (keep (λ n. left (across p n)) (below (p .Z)))
 
-    are : keep own (keep left (allSegs p)) ≡ map seg ns
-    are = ap (keep own) (keep-segs p left) ∙ keep-map own seg (keep (λ n. left (seg n)) (below (p .Z)))
+    are : keep own (keep left (allSegs p)) ≡ map (across p) ns
+    are = ap (keep own) (keep-segs p left) ∙ keep-map own (across p) (keep (λ n. left (across p n)) (below (p .Z)))
 
 -- at most one passes
-one-kept-at-most : (f : Seg → Bool) (l : List Seg) → Rising (segNames l) → ((a b : Seg) → Has a l → Has b l → f a ≡ true → f b ≡ true → a ≡ b) → length (keep f l) ≤ 1
+one-kept-at-most : (f : Seg → Bool) (l : List Seg) → Rising (segNumbers l) → ((a b : Seg) → Has a l → Has b l → f a ≡ true → f b ≡ true → a ≡ b) → length (keep f l) ≤ 1
 unfolding keep
 one-kept-at-most f [] h e = omega arith
 one-kept-at-most f (a ∷ l) h e = go (f a) refl (one-kept-at-most f l (h .1) (λ x y i j. e x y (inr i) (inr j)))
@@ -142,7 +144,7 @@ blocks-same : (a b : List (List ℕ)) → a ≡ b → sameBlocks a b ≡ true
 blocks-same a b e = subst (λ (x : List (List ℕ)). sameBlocks a x ≡ true) e (same-self a)
 
 -- the footers stored in a zone are made from its spares
-footers-made : (p : Params) → Ranged p → (d z : ℕ) (q : Zone) → ZoneShape p q → ZoneBytes p d z q → footerFaultIn p q ≡ false
+footers-made : (p : Params) → Ranged p → (d : ℕ) (z : Seg) (q : Zone) → ZoneShape p q → ZoneBytes p d z q → footerFaultIn p q ≡ false
 unfolding footerFaultIn
 footers-made p r d z q s f = ap not (blocks-same (blocksOf (take (footersStored p q) (drop (1 + p .S) (q .blocks)))) (footersOf p q 0 (footersStored p q)) same)
   where
@@ -189,7 +191,7 @@ module _ (p : Params) (r : Ranged p) (g : Ghost) (v : View) (k : OnDrives p r g 
     b : Named p z
     b = seg-low p r g v k m c z i
 
-    R? : R (parOf p r) (g .hd) (itemsIn p v) (isIn m) (z .name)
+    R? : R (parOf p r) (g .hd) (itemsIn p v) (isIn m) (zoneOn z 0)
     R? = seg-R p r g v k m c z i
 
     zone-begun : (d : ℕ) → d < p .N → isIn m d ≡ false → 0 < pointerAt v d (zoneOn z d)
@@ -199,32 +201,30 @@ module _ (p : Params) (r : Ranged p) (g : Ghost) (v : View) (k : OnDrives p r g 
     header-fine : headerFault p m (G z) ≡ false
     unfolding headerFault
     header-fine = none-present p m
-        (λ d. not (sameChunk (getD (getD (G z .zonesBy) d noZone .blocks) 0 noChunk) (headerBlock p d (zoneOn (G z .seg) d) (G z .serial) (G z .copied)) zeroSpare)) (λ d l n.
-        ap not (subst (λ (q : Zone). sameChunk (getD (q .blocks) 0 noChunk) (headerBlock p d (zoneOn (G z .seg) d) (G z .serial) (G z .copied))
+        (λ d. not (sameChunk (getD (getD (G z .zonesBy) d noZone .blocks) 0 noChunk) (headerBlock p d (zonesIn p (G z .seg)) (G z .serial) (G z .copied)) zeroSpare)) (λ d l n.
+        ap not (subst (λ (q : Zone). sameChunk (getD (q .blocks) 0 noChunk) (headerBlock p d (zonesIn p (G z .seg)) (G z .serial) (G z .copied))
         zeroSpare
         ≡ true) (sym (zones-by p r g v k m c z d l)) (one d l n)))
       where
         one : (d : ℕ) → d < p .N → isIn m d ≡ false → sameChunk (getD (zoneAt v d (zoneOn z d) .blocks) 0 noChunk)
-            (headerBlock p d (zoneOn (G z .seg) d) (G z .serial) (G z .copied)) zeroSpare ≡ true
+            (headerBlock p d (zonesIn p (G z .seg)) (G z .serial) (G z .copied)) zeroSpare ≡ true
         one d l n =
             let t : g .un d ≡ false = trusted p r g v k m c d l n in
-            let a : (headerSerial (headerAt v d z) ≡ g .hd .ser (z .name)) × (headerCopied (headerAt v d z) ≡ g .hd .cop (z .name)) = head-serials p r g v k d z l t b (zone-begun d l n) in
-            let w : (headerSerial (headerAt v (lowDrive p m) z) ≡ g .hd .ser (z .name)) × (headerCopied (headerAt v (lowDrive p m) z) ≡ g .hd .cop (z .name)) =
-            low-serials p r g v k m c z (R? .left) in
-            let h : blockIn (zoneAt v d (zoneOn z d)) 0 ≡ mkChunk (headerBlock p d (zoneOn z d) (headerSerial (headerAt v d z)) (headerCopied (headerAt v d z))) zeroSpare = whole d l n in
-            let e : mkChunk (headerBlock p d (zoneOn z d) (headerSerial (headerAt v d z)) (headerCopied (headerAt v d z))) zeroSpare
-            ≡ mkChunk (headerBlock p d (zoneOn (G z .seg) d) (G z .serial) (G z .copied)) zeroSpare =
-            ap₂ (λ (x y : ℕ). mkChunk (headerBlock p d (zoneOn z d) x y) zeroSpare) (a .0 ∙ sym (w .0) ∙ sym (segment-fields p r g v k m c z .1))
+            let a : (headerSerial p (headerAt v d z) ≡ g .hd .ser (zoneOn z 0)) × (headerCopied p (headerAt v d z) ≡ g .hd .cop (zoneOn z 0)) =
+            head-serials p r g v k d z l t b (zone-begun d l n) in
+            let w : (headerSerial p (headerAt v (lowDrive p m) z) ≡ g .hd .ser (zoneOn z 0)) × (headerCopied p (headerAt v (lowDrive p m) z) ≡ g .hd .cop (zoneOn z 0)) =
+            low-serials p r g v k m c z b (R? .left) in
+            let h : blockIn (zoneAt v d (zoneOn z d)) 0 ≡ mkChunk (headerBlock p d (zonesIn p z) (headerSerial p (headerAt v d z)) (headerCopied p (headerAt v d z))) zeroSpare = whole d l n in
+            let e : mkChunk (headerBlock p d (zonesIn p z) (headerSerial p (headerAt v d z)) (headerCopied p (headerAt v d z))) zeroSpare
+            ≡ mkChunk (headerBlock p d (zonesIn p (G z .seg)) (G z .serial) (G z .copied)) zeroSpare =
+            ap₂ (λ (x y : ℕ). mkChunk (headerBlock p d (zonesIn p z) x y) zeroSpare) (a .0 ∙ sym (w .0) ∙ sym (segment-fields p r g v k m c z .1))
             (a .1 ∙ sym (w .1) ∙ sym (segment-fields p r g v k m c z .2))
-            ∙ ap (λ (x : ℕ). mkChunk (headerBlock p d x (G z .serial) (G z .copied)) zeroSpare) (sym (on d)) in
-            subst (λ (x : Chunk). sameChunk x (headerBlock p d (zoneOn (G z .seg) d) (G z .serial) (G z .copied)) zeroSpare ≡ true) (sym (h ∙ e))
-            (chunk-self (headerBlock p d (zoneOn (G z .seg) d) (G z .serial) (G z .copied)) zeroSpare)
+            ∙ ap (λ (x : Seg). mkChunk (headerBlock p d (zonesIn p x) (G z .serial) (G z .copied)) zeroSpare) (sym (segment-fields p r g v k m c z .0)) in
+            subst (λ (x : Chunk). sameChunk x (headerBlock p d (zonesIn p (G z .seg)) (G z .serial) (G z .copied)) zeroSpare ≡ true) (sym (h ∙ e))
+            (chunk-self (headerBlock p d (zonesIn p (G z .seg)) (G z .serial) (G z .copied)) zeroSpare)
           where
-            on : (d : ℕ) → zoneOn (G z .seg) d ≡ zoneOn z d
-            on d = ap (λ (x : Seg). zoneOn x d) (segment-fields p r g v k m c z .0)
-
             whole : (d : ℕ) → d < p .N → isIn m d ≡ false
-                → blockIn (zoneAt v d (zoneOn z d)) 0 ≡ mkChunk (headerBlock p d (zoneOn z d) (headerSerial (headerAt v d z)) (headerCopied (headerAt v d z))) zeroSpare
+                → blockIn (zoneAt v d (zoneOn z d)) 0 ≡ mkChunk (headerBlock p d (zonesIn p z) (headerSerial p (headerAt v d z)) (headerCopied p (headerAt v d z))) zeroSpare
             whole d l n =
                 unfold headerAt chunkAt in zone-bytes p r g v k d z l (trusted p r g v k m c d l n) b .head (subst (λ (x : ℕ). 0 < x) (sym (pointer-is v d (zoneOn z d))) (zone-begun d l n))
 
@@ -233,13 +233,13 @@ module _ (p : Params) (r : Ranged p) (g : Ghost) (v : View) (k : OnDrives p r g 
 
     -- ---- stripe numbers
     off-rec : (d o : ℕ) → d < p .N → isIn m d ≡ false → o < dataStored p (zoneAt v d (zoneOn z d))
-        → Off (itemsIn p v d (z .name)) (suc o) (chunk (recordOf (blockIn (zoneAt v d (zoneOn z d)) (suc o) .spare) .stripe)
+        → Off (itemsIn p v d (zoneOn z 0)) (suc o) (chunk (recordOf (blockIn (zoneAt v d (zoneOn z d)) (suc o) .spare) .stripe)
         (valueOf (blockIn (zoneAt v d (zoneOn z d)) (suc o) .block) (recordOf (blockIn (zoneAt v d (zoneOn z d)) (suc o) .spare))))
     off-rec d o l n w =
         let s : (o < p .S) × (suc o < zoneAt v d (zoneOn z d) .pointer) = stored-below p (zoneAt v d (zoneOn z d)) o w in
         subst (λ (y : List Item). Off y (suc o) (chunk (recordOf (blockIn (zoneAt v d (zoneOn z d)) (suc o) .spare) .stripe)
         (valueOf (blockIn (zoneAt v d (zoneOn z d)) (suc o) .block) (recordOf (blockIn (zoneAt v d (zoneOn z d)) (suc o) .spare)))))
-        (sym (items-in p v d z)) (unfold chunkItem in chunk-of p (zoneAt v d (zoneOn z d)) (zone-pointer-low p r g v k d z l (trusted p r g v k m c d l n) b) o (s .0) (s .1))
+        (sym (items-in p v d z (omega arith) b)) (unfold chunkItem in chunk-of p (zoneAt v d (zoneOn z d)) (zone-pointer-low p r g v k d z l (trusted p r g v k m c d l n) b) o (s .0) (s .1))
 
     stripes-fine : stripeFault p m (G z) ≡ false
     unfolding stripeFault
@@ -273,7 +273,7 @@ module _ (p : Params) (r : Ranged p) (g : Ghost) (v : View) (k : OnDrives p r g 
             let w : suc i ≡ suc j = zone-facts p r g v k d z l (trusted p r g v k m c d l n) .once (suc i) (suc j) (recordOf (blockIn (zoneAt v d (zoneOn z d)) (suc j) .spare) .stripe)
             (valueOf (blockIn (zoneAt v d (zoneOn z d)) (suc i) .block) (recordOf (blockIn (zoneAt v d (zoneOn z d)) (suc i) .spare)))
             (valueOf (blockIn (zoneAt v d (zoneOn z d)) (suc j) .block) (recordOf (blockIn (zoneAt v d (zoneOn z d)) (suc j) .spare)))
-            (subst (λ (s : ℕ). Off (itemsIn p v d (z .name)) (suc i)
+            (subst (λ (s : ℕ). Off (itemsIn p v d (zoneOn z 0)) (suc i)
             (chunk s (valueOf (blockIn (zoneAt v d (zoneOn z d)) (suc i) .block) (recordOf (blockIn (zoneAt v d (zoneOn z d)) (suc i) .spare))))) q
             (off-rec d i l n ia)) (off-rec d j l n ja) in
             omega (arith, w))
@@ -312,16 +312,16 @@ module _ (p : Params) (r : Ranged p) (g : Ghost) (v : View) (k : OnDrives p r g 
         one d l n x (j, a, e) =
             let w : j < dataStored p (zoneAt v d (zoneOn z d)) = omega (arith, a, length-spareRecs p (zoneAt v d (zoneOn z d))) in
             let q : recordOf (blockIn (zoneAt v d (zoneOn z d)) (suc j) .spare) ≡ x = sym (getD-spareRecs p (zoneAt v d (zoneOn z d)) j (mkRec 0 0 0) w) ∙ e in
-            let f : Off (itemsIn p v d (z .name)) (suc j) (chunk (x .stripe) (valueOf (blockIn (zoneAt v d (zoneOn z d)) (suc j) .block) x)) =
-            subst (λ (y : Rec). Off (itemsIn p v d (z .name)) (suc j) (chunk (y .stripe) (valueOf (blockIn (zoneAt v d (zoneOn z d)) (suc j) .block) y))) q (off-rec d j l n w) in
+            let f : Off (itemsIn p v d (zoneOn z 0)) (suc j) (chunk (x .stripe) (valueOf (blockIn (zoneAt v d (zoneOn z d)) (suc j) .block) x)) =
+            subst (λ (y : Rec). Off (itemsIn p v d (zoneOn z 0)) (suc j) (chunk (y .stripe) (valueOf (blockIn (zoneAt v d (zoneOn z d)) (suc j) .block) y))) q (off-rec d j l n w) in
             case (isData p (x .stripe) d) refl f
           where
-            case : (t : Bool) → isData p (x .stripe) d ≡ t → Off (itemsIn p v d (z .name)) (suc j) (chunk (x .stripe) (valueOf (blockIn (zoneAt v d (zoneOn z d)) (suc j) .block) x))
+            case : (t : Bool) → isData p (x .stripe) d ≡ t → Off (itemsIn p v d (zoneOn z 0)) (suc j) (chunk (x .stripe) (valueOf (blockIn (zoneAt v d (zoneOn z d)) (suc j) .block) x))
                 → storedBad p d x ≡ false
             case false e f = unfold storedBad in and-false-1 (isData p (x .stripe) d) (badRec p x) e
             case true e f = unfold storedBad in and-false (isData p (x .stripe) d) (badRec p x) (good-rec (blockIn (zoneAt v d (zoneOn z d)) (suc j) .block) x
                 (zone-facts p r g v k d z l (trusted p r g v k m c d l n) .origin (x .stripe) (valueOf (blockIn (zoneAt v d (zoneOn z d)) (suc j) .block) x)
-                (off-in (itemsIn p v d (z .name)) (suc j) (chunk (x .stripe) (valueOf (blockIn (zoneAt v d (zoneOn z d)) (suc j) .block) x)) f) (data-code p r (x .stripe) d e)))
+                (off-in (itemsIn p v d (zoneOn z 0)) (suc j) (chunk (x .stripe) (valueOf (blockIn (zoneAt v d (zoneOn z d)) (suc j) .block) x)) f) (data-code p r (x .stripe) d e)))
 
     decoded-fine : any (λ d. any (decodedBad p m (G z) d) (counted p m (G z))) (absent p m) ≡ false
     decoded-fine = none-any (λ d. any (decodedBad p m (G z) d) (counted p m (G z))) (absent p m) (λ d j.
@@ -334,7 +334,7 @@ module _ (p : Params) (r : Ranged p) (g : Ghost) (v : View) (k : OnDrives p r g 
           where
             good : (d : ℕ) → d < p .N → (s : ℕ) → Has s (counted p m (G z)) → isData p s d ≡ true → Good g (valueOf (pieceOf p m (G z) s d .block) (pieceOf p m (G z) s d .rec))
             good d l s i e =
-                unfold pieceAt pieceValue in k .facts .parity .sound (isIn m) c (z .name) s (pieceAt p r g v k m c z s) (counted-stripe p r g v k m c z s b i) (pieceAt p r g v k m c z s d)
+                unfold pieceAt pieceValue in k .facts .parity .sound (isIn m) c (zoneOn z 0) s (pieceAt p r g v k m c z s) (counted-stripe p r g v k m c z s b i) (pieceAt p r g v k m c z s d)
                 (record { d = d; lt = l; data? = data-code p r s d e; val = refl })
 
     addresses-fine : addressFault p m (G z) ≡ false
@@ -349,13 +349,13 @@ module _ (p : Params) (r : Ranged p) (g : Ghost) (v : View) (k : OnDrives p r g 
     footers-fine = and-false (not (G z .full)) (any (λ d. footerFaultIn p (getD (G z .zonesBy) d noZone)) (present p m))
         (none-present p m (λ d. footerFaultIn p (getD (G z .zonesBy) d noZone)) (λ d l n.
         ap (footerFaultIn p) (zones-by p r g v k m c z d l)
-        ∙ footers-made p r d (zoneOn z d) (zoneAt v d (zoneOn z d)) (shape-zone p v (k .shape) d (zoneOn z d) l (zone-on-lt p z d b)) (zone-bytes p r g v k d z l (trusted p r g v k m c d l n) b)))
+        ∙ footers-made p r d z (zoneAt v d (zoneOn z d)) (shape-zone p v (k .shape) d (zoneOn z d) l (zone-on-lt p z d b)) (zone-bytes p r g v k d z l (trusted p r g v k m c d l n) b)))
 
   -- ---- serials
   serials-fine : (z : Seg) → Has z (remaining p v m) → serialFault (segments p v m) (G z) ≡ false
   unfolding serialFault segments
   serials-fine z i = or-both-false (leb (G z .serial) (G z .copied)) (any test? (map (segmentOf p v m) (remaining p v m)))
-      (lt-leb (G z .serial) (G z .copied) (omega (arith, serial-ghost p r g v k m c z i, copied-ghost p r g v k m c z i, k .facts .swap .below (z .name) (seg-used p r g v k m c z i))))
+      (lt-leb (G z .serial) (G z .copied) (omega (arith, serial-ghost p r g v k m c z i, copied-ghost p r g v k m c z i, k .facts .swap .below (zoneOn z 0) (seg-used p r g v k m c z i))))
       (none-any test? (map (segmentOf p v m) (remaining p v m)) (λ h j. one h (map-has (segmentOf p v m) h (remaining p v m) j)))
     where
       test? : Segment → Bool
@@ -369,7 +369,8 @@ module _ (p : Params) (r : Ranged p) (g : Ghost) (v : View) (k : OnDrives p r g 
               and-false-1 (not (sameSeg (G y .seg) (G z .seg))) (eqb (G y .serial) (G z .serial))
               (ap not (seg-same (G y .seg) (G z .seg) (segment-fields p r g v k m c y .0 ∙ q ∙ sym (segment-fields p r g v k m c z .0))))
           go (no q) = and-false (not (sameSeg (G y .seg) (G z .seg))) (eqb (G y .serial) (G z .serial)) (ne-eqb (G y .serial) (G z .serial) (λ w.
-              q (name-once y z (k .facts .swap .serials (y .name) (z .name) (seg-used p r g v k m c y j) (seg-used p r g v k m c z i)
+              q (number-once p r y z (seg-low p r g v k m c y j) (seg-low p r g v k m c z i)
+              (k .facts .swap .serials (zoneOn y 0) (zoneOn z 0) (seg-used p r g v k m c y j) (seg-used p r g v k m c z i)
               (sym (serial-ghost p r g v k m c y j) ∙ w ∙ serial-ghost p r g v k m c z i)))))
 
   -- ---- one unsealed segment
@@ -378,8 +379,9 @@ module _ (p : Params) (r : Ranged p) (g : Ghost) (v : View) (k : OnDrives p r g 
   one-unsealed =
       let e : keep (λ (g : Segment). not (g .full)) (map (segmentOf p v m) (remaining p v m)) ≡ map (segmentOf p v m) (keep (λ z. not (G z .full)) (remaining p v m)) =
       keep-map (λ (g : Segment). not (g .full)) (segmentOf p v m) (remaining p v m) in
-      let n : length (keep (λ z. not (G z .full)) (remaining p v m)) ≤ 1 = one-kept-at-most (λ z. not (G z .full)) (remaining p v m) (remaining-rising p v m) (λ y z i j a b.
-      name-once y z (accepted (parOf p r) g (itemsIn p v) (k .facts) (isIn m) c .one (y .name) (z .name) (R? y i) (R? z j) (ragged-of p r g v k m c y i (not-true (G y .full) a))
+      let n : length (keep (λ z. not (G z .full)) (remaining p v m)) ≤ 1 = one-kept-at-most (λ z. not (G z .full)) (remaining p v m) (remaining-rising p r v m) (λ y z i j a b.
+      number-once p r y z (seg-low p r g v k m c y i) (seg-low p r g v k m c z j)
+      (accepted (parOf p r) g (itemsIn p v) (k .facts) (isIn m) c .one (zoneOn y 0) (zoneOn z 0) (R? y i) (R? z j) (ragged-of p r g v k m c y i (not-true (G y .full) a))
       (ragged-of p r g v k m c z j (not-true (G z .full) b)))) in
       omega (arith, n, ap length e ∙ length-map (keep (λ z. not (G z .full)) (remaining p v m)) (segmentOf p v m))
 
@@ -415,28 +417,30 @@ module _ (p : Params) (r : Ranged p) (g : Ghost) (v : View) (k : OnDrives p r g 
   pub free-seg : isNil (freeSegs p (segments p v m)) ≡ false
   unfolding freeSegs
   free-seg =
-      let a : (z : Seg) × Named p z × (R (parOf p r) (g .hd) (itemsIn p v) (isIn m) (z .name) → ⊥) = room in
+      let a : (z : Seg) × Named p z × (R (parOf p r) (g .hd) (itemsIn p v) (isIn m) (zoneOn z 0) → ⊥) = room in
       isNil-has (keep (λ z. not (any (λ (g : Segment). sameSeg (g .seg) z) (segments p v m))) (allSegs p)) (a .0)
       (has-keep (λ z. not (any (λ (g : Segment). sameSeg (g .seg) z) (segments p v m))) (a .0) (allSegs p) (has-segs p (a .0) (a .1))
       (ap not (none-any (λ (g : Segment). sameSeg (g .seg) (a .0)) (segments p v m) (λ h j. one (a .0) (a .2) h (each h j)))))
     where
       -- the segment of a zone of the first drive that no remaining segment has
-      room : (z : Seg) × Named p z × (R (parOf p r) (g .hd) (itemsIn p v) (isIn m) (z .name) → ⊥)
+      room : (z : Seg) × Named p z × (R (parOf p r) (g .hd) (itemsIn p v) (isIn m) (zoneOn z 0) → ⊥)
       room =
           let a : (y : ℕ) × (y < p .Z) × (true ≡ true) × ((n : ℕ) → R (parOf p r) (g .hd) (itemsIn p v) (isIn m) n → g .hd .zn n 0 ≢ y) =
           accepted (parOf p r) g (itemsIn p v) (k .facts) (isIn m) c .room 0 (omega (arith, r .drives-low)) in
-          let z : Seg = segOn 0 (a .0) in (
+          let z : Seg = segOn p 0 (a .0) in
+          let b : Named p z = seg-on-named p 0 (a .0) (a .1) in (
             z,
-            seg-on-named p 0 (a .0) (a .1),
-            λ q. a .3 (z .name) q (ap (λ (f : ℕ → ℕ). f 0) (used-zones p r g v k z (used (parOf p r) g (itemsIn p v) (isIn m) (z .name) c (q .left))) ∙ seg-on-zone 0 (a .0)),
+            b,
+            λ q. a .3 (zoneOn z 0) q (ap (λ (f : ℕ → ℕ). f 0) (used-zones p r g v k z b (used (parOf p r) g (itemsIn p v) (isIn m) (zoneOn z 0) c (q .left)))
+                ∙ seg-on-zone p 0 (a .0) (omega (arith, r .drives-low))),
           )
 
       each : (h : Segment) → Has h (segments p v m) → (y : Seg) × Has y (remaining p v m) × (h ≡ G y)
       each h j = unfold segments in map-has (segmentOf p v m) h (remaining p v m) j
 
-      one : (z : Seg) → (R (parOf p r) (g .hd) (itemsIn p v) (isIn m) (z .name) → ⊥) → (h : Segment) → (y : Seg) × Has y (remaining p v m) × (h ≡ G y) → sameSeg (h .seg) z ≡ false
+      one : (z : Seg) → (R (parOf p r) (g .hd) (itemsIn p v) (isIn m) (zoneOn z 0) → ⊥) → (h : Segment) → (y : Seg) × Has y (remaining p v m) × (h ≡ G y) → sameSeg (h .seg) z ≡ false
       one z n h (y, i, e) =
-          rw e (seg-other (G y .seg) z (λ w. n (subst (λ (x : Seg). R (parOf p r) (g .hd) (itemsIn p v) (isIn m) (x .name)) (sym (segment-fields p r g v k m c y .0) ∙ w) (R? y i))))
+          rw e (seg-other (G y .seg) z (λ w. n (subst (λ (x : Seg). R (parOf p r) (g .hd) (itemsIn p v) (isIn m) (zoneOn x 0)) (sym (segment-fields p r g v k m c y .0) ∙ w) (R? y i))))
 
 -- ---- nothing refuses the restart (but for 6)
 module _ (p : Params) (r : Ranged p) (g : Ghost) (v : View) (k : OnDrives p r g v) (known : (x : Val) → InV x (g .sent) → (0 < x .stamp) × (x .addr < p .L))

@@ -12,7 +12,7 @@ use lib.ListN.{length}
 use lib.Count.{ones, onesIn}
 use lib.Pow.{pow-lt, pow-pos}
 use Rattle.spec.specs.declared.Params.{Params}
-use Rattle.spec.specs.Drives.{View, Disk, Seg}
+use Rattle.spec.specs.Drives.{View, Disk}
 use Rattle.spec.specs.Engine.{lentOk}
 use Rattle.spec.specs.Lists.{below, keep, powers, only, isIn}
 use Rattle.spec.specs.Memory.{idleState, filledIn}
@@ -22,7 +22,7 @@ use Rattle.spec.specs.Segments.{remaining, Segment, segmentOf, segments, counts
 use Rattle.law_basic.specs.Geometry.{Ranged}
 use Rattle.law_basic.specs.Mask.{only-pow}
 use Rattle.law_basic.specs.Ranges.{and-both, length-below, length-keep}
-use Rattle.law_basic.specs.Segs.{Named, named-lt}
+use Rattle.law_basic.specs.Segs.{Named, zone-on-lt}
 use Rattle.law_views.specs.Views.{Whole}
 use Rattle.law_drives.specs.States.{idle-ok}
 use Rattle.law_drives.specs.Tables.{zero-at, length-addresses}
@@ -34,6 +34,7 @@ use Rattle.proof_crash_items.specs.Ranges.{parOf}
 use Rattle.proof_crash_items.specs.Reading.{Tabled}
 use Rattle.proof_crash_items.specs.Segs.{OnDrives, remaining-has}
 use Rattle.proof_crash_items.specs.Table.{compact-length}
+use Rattle.spec.specs.declared.Seg.{Seg}
 
 -- ---- an idle state
 
@@ -102,7 +103,7 @@ module _ (p : Params) (r : Ranged p) (g : Ghost) (v : View) (k : OnDrives p r g 
     where
       go : (l : List Segment) → ((q : Segment) → Has q l → Named p (q .seg)) → openOf l ≤ p .Z
       go [] h = unfold openOf in omega arith
-      go (q ∷ l) h = unfold openOf in named-lt p (q .seg) (h q (inl refl))
+      go (q ∷ l) h = unfold openOf in zone-on-lt p (q .seg) 0 (h q (inl refl))
 
   next-low : nextOf p us ≤ p .S
   next-low = go us

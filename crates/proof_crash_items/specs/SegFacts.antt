@@ -9,7 +9,7 @@ use native.Mathlib.Omega.{arith}
 use lib.Dec.{eqb}
 use lib.ListN.{length}
 use Rattle.spec.specs.declared.Params.{Params}
-use Rattle.spec.specs.Drives.{View, pointerAt, Seg, zoneOn, sealedIn}
+use Rattle.spec.specs.Drives.{View, pointerAt, zoneOn, sealedIn}
 use Rattle.spec.specs.Layout.{headerSerial, headerCopied}
 use Rattle.spec.specs.Lists.{all, isIn}
 use Rattle.spec.specs.Params.{capacity, present}
@@ -24,6 +24,7 @@ use Rattle.proof_crash_items.specs.Named.{present-has}
 use Rattle.proof_crash_items.specs.Ranges.{parOf}
 use Rattle.proof_crash_items.specs.Segs.{OnDrives, zone-bytes, zone-len, trusted, low-serials, remaining-has}
 use Rattle.proof_crash_items.specs.Stripes.{pointer-is}
+use Rattle.spec.specs.declared.Seg.{Seg}
 
 pub all-false : {A : Type 0} (f : A → Bool) (l : List A) → all f l ≡ false → (a : A) × Has a l × (f a ≡ false)
 unfolding all
@@ -40,8 +41,8 @@ module _ (p : Params) (r : Ranged p) (g : Ghost) (v : View) (k : OnDrives p r g 
 
   pub segment-fields :
       (z : Seg)
-      → (G z .seg ≡ z) × (G z .serial ≡ headerSerial (headerAt v (lowDrive p m) z)) ×
-      (G z .copied ≡ headerCopied (headerAt v (lowDrive p m) z)) × (G z .full ≡ sealedIn p v m z)
+      → (G z .seg ≡ z) × (G z .serial ≡ headerSerial p (headerAt v (lowDrive p m) z)) ×
+      (G z .copied ≡ headerCopied p (headerAt v (lowDrive p m) z)) × (G z .full ≡ sealedIn p v m z)
   unfolding segmentOf
   segment-fields z = (refl, refl, refl, refl)
 
@@ -49,30 +50,30 @@ module _ (p : Params) (r : Ranged p) (g : Ghost) (v : View) (k : OnDrives p r g 
     pub seg-low : Named p z
     seg-low = remaining-has p r g v k m c z i .0
 
-    pub seg-R : R (parOf p r) (g .hd) (itemsIn p v) (isIn m) (z .name)
+    pub seg-R : R (parOf p r) (g .hd) (itemsIn p v) (isIn m) (zoneOn z 0)
     seg-R = remaining-has p r g v k m c z i .1
 
     pub begun-on : (d : ℕ) → d < p .N → isIn m d ≡ false → 0 < pointerAt v d (zoneOn z d)
     begun-on d l n = omega (arith, seg-R .left d l n, zone-len p r g v k d z l (trusted p r g v k m c d l n) seg-low)
 
-    pub serial-ghost : G z .serial ≡ g .hd .ser (z .name)
-    serial-ghost = segment-fields z .1 ∙ low-serials p r g v k m c z (seg-R .left) .0
+    pub serial-ghost : G z .serial ≡ g .hd .ser (zoneOn z 0)
+    serial-ghost = segment-fields z .1 ∙ low-serials p r g v k m c z seg-low (seg-R .left) .0
 
-    pub copied-ghost : G z .copied ≡ g .hd .cop (z .name)
-    copied-ghost = segment-fields z .2 ∙ low-serials p r g v k m c z (seg-R .left) .1
+    pub copied-ghost : G z .copied ≡ g .hd .cop (zoneOn z 0)
+    copied-ghost = segment-fields z .2 ∙ low-serials p r g v k m c z seg-low (seg-R .left) .1
 
-    pub seg-used : Used (parOf p r) (g .un) (itemsIn p v) (z .name)
-    seg-used = used (parOf p r) g (itemsIn p v) (isIn m) (z .name) c (seg-R .left)
+    pub seg-used : Used (parOf p r) (g .un) (itemsIn p v) (zoneOn z 0)
+    seg-used = used (parOf p r) g (itemsIn p v) (isIn m) (zoneOn z 0) c (seg-R .left)
 
     -- an unsealed one is ragged
-    pub ragged-of : G z .full ≡ false → Ragged (parOf p r) (isIn m) (itemsIn p v) (z .name)
+    pub ragged-of : G z .full ≡ false → Ragged (parOf p r) (isIn m) (itemsIn p v) (zoneOn z 0)
     unfolding sealedIn
     ragged-of e =
         let a : (d : ℕ) × Has d (present p m) × (eqb (pointerAt v d (zoneOn z d)) (capacity p) ≡ false) =
         all-false (λ d. eqb (pointerAt v d (zoneOn z d)) (capacity p)) (present p m) (sym (segment-fields z .3) ∙ e) in
         let l : (a .0 < p .N) × (isIn m (a .0) ≡ false) = present-has p m (a .0) (a .1) in
         let t : g .un (a .0) ≡ false = trusted p r g v k m c (a .0) (l .0) (l .1) in
-        let n : length (itemsIn p v (a .0) (z .name)) ≡ pointerAt v (a .0) (zoneOn z (a .0)) = zone-len p r g v k (a .0) z (l .0) t seg-low in
+        let n : length (itemsIn p v (a .0) (zoneOn z 0)) ≡ pointerAt v (a .0) (zoneOn z (a .0)) = zone-len p r g v k (a .0) z (l .0) t seg-low in
         let w : pointerAt v (a .0) (zoneOn z (a .0)) ≢ capacity p = eqb-false (pointerAt v (a .0) (zoneOn z (a .0))) (capacity p) (a .2) in
         let h : pointerAt v (a .0) (zoneOn z (a .0)) ≤ capacity p = subst (λ (x : ℕ). x ≤ capacity p) (pointer-is v (a .0) (zoneOn z (a .0)))
         (zone-bytes p r g v k (a .0) z (l .0) t seg-low .low) in

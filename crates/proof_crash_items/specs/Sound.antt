@@ -1,5 +1,5 @@
 -- Lists of stores of the right kinds: they fit, keep the byte facts, and are the machine's stores. Assumes nothing.
-use mathlib.Core.Path.{_≡_, refl, ap, ap₂, _∙_, subst}
+use mathlib.Core.Path.{_≡_, refl, sym, ap, ap₂, _∙_, subst}
 use mathlib.Core.List.{List, [], _∷_, _++_, map}
 use mathlib.Core.Logic.{inl}
 use mathlib.Core.Bool.{false}
@@ -8,12 +8,12 @@ use native.Mathlib.Decide.{ℕ-discrete}
 use native.Mathlib.Omega.{arith}
 use lib.ListN.{length, take}
 use Rattle.spec.specs.declared.Params.{Params}
-use Rattle.spec.specs.Drives.{mkChunk, Zone, View, zoneAt, pointerAt, Store, putZone, resetZone, setZone, storeView, storeAll, Seg, zoneOn}
+use Rattle.spec.specs.Drives.{mkChunk, Zone, View, zoneAt, pointerAt, Store, putZone, resetZone, setZone, storeView, storeAll, zoneOn}
 use Rattle.spec.specs.Drives.Store.{put, reset}
 use Rattle.spec.specs.Lists.{upFrom}
 use Rattle.spec.specs.Params.{spareLen, capacity}
 use Rattle.law_basic.specs.Geometry.{Ranged}
-use Rattle.law_basic.specs.Segs.{Named, zone-on-lt, seg-on-is}
+use Rattle.law_basic.specs.Segs.{Named, zone-on-lt, segOn, seg-on-is}
 use Rattle.law_views.specs.Views.{Fits, AllFit}
 use Rattle.proof_crash_machine.specs.Mask.{Mask}
 use Rattle.proof_crash_machine.specs.Steps.{list}
@@ -22,10 +22,11 @@ use Rattle.proof_crash_machine.specs.View.ItemStore.{put as m-put, reset as m-r
 use Rattle.proof_crash_items.specs.Items.{itemAt, itemsIn, items-put, storeItem, storeItems, items-stores, append-stores, items-cut}
 use Rattle.proof_crash_items.specs.Shape.{Shape, zone-set-else, set-elim, shape-zone, shape-store}
 use Rattle.proof_crash_items.specs.ZoneBytes.{ZoneBytes, Kind, kind-fits, kindItem, kind-item, bytes-reset, bytes-put}
+use Rattle.spec.specs.declared.Seg.{Seg}
 
 -- a store of the right kind for the drives as they are
 abbrev pub Sound : Params → View → Store → Type 0
-Sound p v (put d z b t) = (d < p .N) × (z < p .Z) × Kind p d z (zoneAt v d z) b t
+Sound p v (put d z b t) = (d < p .N) × (z < p .Z) × Kind p d (segOn p d z) (zoneAt v d z) b t
 Sound p v (reset d z) = (d < p .N) × (z < p .Z)
 
 abbrev pub AllSound : Params → View → List Store → Type 0
@@ -34,7 +35,7 @@ AllSound p v (s ∷ ss) = Sound p v s × AllSound p (storeView s v) ss
 
 -- byte facts of a drive, and of the trusted ones
 abbrev pub BytesOn : Params → View → ℕ → Type 0
-BytesOn p v d = (z : ℕ) → z < p .Z → ZoneBytes p d z (zoneAt v d z)
+BytesOn p v d = (z : ℕ) → z < p .Z → ZoneBytes p d (segOn p d z) (zoneAt v d z)
 
 abbrev pub BytesOk : Params → Mask → View → Type 0
 BytesOk p un v = (d : ℕ) → d < p .N → un d ≡ false → BytesOn p v d
@@ -42,7 +43,7 @@ BytesOk p un v = (d : ℕ) → d < p .N → un d ≡ false → BytesOn p v d
 pub sound-fits : (p : Params) → Ranged p → (v : View) (s : Store) → Shape p v → Sound p v s → Fits p v s
 unfolding pointerAt
 sound-fits p r v (put d z b t) h (l, k, q) =
-    let f : (zoneAt v d z .pointer < capacity p) × (length b ≡ p .B) × (length t ≡ spareLen) = kind-fits p r (zoneAt v d z) (shape-zone p v h d z l k) d z b t q in
+    let f : (zoneAt v d z .pointer < capacity p) × (length b ≡ p .B) × (length t ≡ spareLen) = kind-fits p r (zoneAt v d z) (shape-zone p v h d z l k) d (segOn p d z) b t q in
     (l, k, f .0, f .1, f .2)
 sound-fits p r v (reset d z) h f = f
 
@@ -57,12 +58,12 @@ pub bytes-store : (p : Params) → Ranged p → (v : View) (s : Store) → Shape
 unfolding storeView
 bytes-store p r v (put d z b t) h (l, k, q) e f y m = go (ℕ-discrete e d)
   where
-    go : Dec (e ≡ d) → ZoneBytes p e y (zoneAt (setZone v d z (putZone b t (zoneAt v d z))) e y)
+    go : Dec (e ≡ d) → ZoneBytes p e (segOn p e y) (zoneAt (setZone v d z (putZone b t (zoneAt v d z))) e y)
     go (no n) = rw (zone-set-else p v h d z (putZone b t (zoneAt v d z)) l e y (inl n)) (f y m)
-    go (yes n) = set-elim p v h (λ (i j : ℕ) (x : Zone). ZoneBytes p i j x) d z (putZone b t (zoneAt v d z)) l k
-        (bytes-put p r d z (zoneAt v d z) (shape-zone p v h d z l k) b t q (subst (λ (i : ℕ). BytesOn p v i) n f z k)) e y (f y m)
+    go (yes n) = set-elim p v h (λ (i j : ℕ) (x : Zone). ZoneBytes p i (segOn p i j) x) d z (putZone b t (zoneAt v d z)) l k
+        (bytes-put p r d (segOn p d z) (zoneAt v d z) (shape-zone p v h d z l k) b t q (subst (λ (i : ℕ). BytesOn p v i) n f z k)) e y (f y m)
 bytes-store p r v (reset d z) h (l, k) e f y m =
-    set-elim p v h (λ (i j : ℕ) (x : Zone). ZoneBytes p i j x) d z (resetZone (zoneAt v d z)) l k (bytes-reset p d z (zoneAt v d z)) e y (f y m)
+    set-elim p v h (λ (i j : ℕ) (x : Zone). ZoneBytes p i (segOn p i j) x) d z (resetZone (zoneAt v d z)) l k (bytes-reset p d (segOn p d z) (zoneAt v d z)) e y (f y m)
 
 pub bytes-stores : (p : Params) → Ranged p → (v : View) (ss : List Store) → Shape p v → AllSound p v ss → (e : ℕ) → BytesOn p v e → BytesOn p (storeAll storeView ss v) e
 unfolding storeAll
@@ -121,23 +122,26 @@ pub follows-cut : (p : Params) → Ranged p → (v : View) (ss : List Store) (ms
 follows-cut p r v ss ms n h f = items-cut p v ss n h (sounds-fit p r v ss h (f .sound)) ∙ ap (λ (l : List ItemStore). applyAll (itemsIn p v) (take n l)) (f .items)
 
 -- one store, in a segment's zone
-pub store-put : (p : Params) (v : View) (d : ℕ) (g : Seg) (b t : List ℕ) → Named p g → (k : Kind p d (zoneOn g d) (zoneAt v d (zoneOn g d)) b t)
-    → storeItem p v (put d (zoneOn g d) b t) ≡ m-put d (g .name) (kindItem p d g (zoneAt v d (zoneOn g d)) b t k)
-unfolding storeItem pointerAt
-store-put p v d g b t m k = ap₂ (λ (x : Seg) (i : Item). m-put d (x .name) i) (seg-on-is p g d m) (kind-item p d g (zoneAt v d (zoneOn g d)) b t m k)
+pub sound-put : (p : Params) (v : View) (d : ℕ) (g : Seg) (b t : List ℕ) → d < p .N → Named p g → Kind p d g (zoneAt v d (zoneOn g d)) b t → Sound p v (put d (zoneOn g d) b t)
+sound-put p v d g b t l m k = (l, zone-on-lt p g d m, subst (λ (x : Seg). Kind p d x (zoneAt v d (zoneOn g d)) b t) (sym (seg-on-is p g d l m)) k)
 
-pub store-reset : (p : Params) (v : View) (d : ℕ) (g : Seg) → Named p g → storeItem p v (reset d (zoneOn g d)) ≡ m-reset d (g .name)
+pub store-put : (p : Params) (v : View) (d : ℕ) (g : Seg) (b t : List ℕ) → d < p .N → Named p g → (k : Kind p d g (zoneAt v d (zoneOn g d)) b t)
+    → storeItem p v (put d (zoneOn g d) b t) ≡ m-put d (zoneOn g 0) (kindItem p d g (zoneAt v d (zoneOn g d)) b t k)
+unfolding storeItem pointerAt
+store-put p v d g b t l m k = ap₂ (λ (x : Seg) (i : Item). m-put d (zoneOn x 0) i) (seg-on-is p g d l m) (kind-item p d g (zoneAt v d (zoneOn g d)) b t l m k)
+
+pub store-reset : (p : Params) (v : View) (d : ℕ) (g : Seg) → d < p .N → Named p g → storeItem p v (reset d (zoneOn g d)) ≡ m-reset d (zoneOn g 0)
 unfolding storeItem
-store-reset p v d g m = ap (λ (x : Seg). m-reset d (x .name)) (seg-on-is p g d m)
+store-reset p v d g l m = ap (λ (x : Seg). m-reset d (zoneOn x 0)) (seg-on-is p g d l m)
 
 pub items-put-kind : (p : Params) → Ranged p → (v : View) (d : ℕ) (g : Seg) (b t : List ℕ) → Shape p v → d < p .N → Named p g
-    → (k : Kind p d (zoneOn g d) (zoneAt v d (zoneOn g d)) b t)
-    → itemsIn p (storeView (put d (zoneOn g d) b t) v) ≡ withItem (itemsIn p v) d (g .name) (kindItem p d g (zoneAt v d (zoneOn g d)) b t k)
+    → (k : Kind p d g (zoneAt v d (zoneOn g d)) b t)
+    → itemsIn p (storeView (put d (zoneOn g d) b t) v) ≡ withItem (itemsIn p v) d (zoneOn g 0) (kindItem p d g (zoneAt v d (zoneOn g d)) b t k)
 items-put-kind p r v d g b t h l m k =
     let y : zoneOn g d < p .Z = zone-on-lt p g d m in
-    items-put p v h d (zoneOn g d) b t l y (sound-fits p r v (put d (zoneOn g d) b t) h (l, y, k) .2)
-    ∙ ap₂ (λ (x : Seg) (i : Item). withItem (itemsIn p v) d (x .name) i) (seg-on-is p g d m)
-    (ap (λ (n : ℕ). itemAt p n (mkChunk b t)) (pointer-at-is v d (zoneOn g d)) ∙ kind-item p d g (zoneAt v d (zoneOn g d)) b t m k)
+    items-put p v h d (zoneOn g d) b t l y (sound-fits p r v (put d (zoneOn g d) b t) h (sound-put p v d g b t l m k) .2)
+    ∙ ap₂ (λ (x : Seg) (i : Item). withItem (itemsIn p v) d (zoneOn x 0) i) (seg-on-is p g d l m)
+    (ap (λ (n : ℕ). itemAt p n (mkChunk b t)) (pointer-at-is v d (zoneOn g d)) ∙ kind-item p d g (zoneAt v d (zoneOn g d)) b t l m k)
   where
     pointer-at-is : (v : View) (d z : ℕ) → pointerAt v d z ≡ zoneAt v d z .pointer
     pointer-at-is v d z = unfold pointerAt in refl

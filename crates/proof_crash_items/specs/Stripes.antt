@@ -8,14 +8,14 @@ use native.Mathlib.Omega.{arith}
 use lib.Dec.{eqb}
 use lib.ListN.{length, getD, length-map}
 use Rattle.spec.specs.declared.Params.{Params}
-use Rattle.spec.specs.Drives.{noChunk, Zone, noZone, View, zoneAt, pointerAt, Seg, zoneOn, sealedIn, dataStored, recordIn}
+use Rattle.spec.specs.Drives.{noChunk, Zone, noZone, View, zoneAt, pointerAt, zoneOn, sealedIn, dataStored, recordIn, across}
 use Rattle.spec.specs.Layout.{Rec, mkRec, recordOf}
 use Rattle.spec.specs.Lists.{below, all, any, keep, sucUnless, indexOf, isIn}
 use Rattle.spec.specs.Params.{capacity, drivesOf, present}
 use Rattle.spec.specs.Parity.{Piece, mkPiece, parityPiece}
 use Rattle.spec.specs.Segments.{Segment, recordsIn, segmentOf, recsOn, offsetOn, hasChunk, counts, counted, storedPiece, pieceOf, storedRec}
 use Rattle.law_basic.specs.Geometry.{Ranged}
-use Rattle.law_basic.specs.Segs.{Named, zone-on-lt}
+use Rattle.law_basic.specs.Segs.{Named, zone-on-lt, seg-named}
 use Rattle.law_basic.specs.Ranges.{length-below, map-below-same, map-map, getD-map-below}
 use Rattle.law_code.specs.Chunks.{chunk-stored, chunk-decoded}
 use Rattle.law_code.specs.Single.{decode-xor}
@@ -32,10 +32,11 @@ use Rattle.proof_crash_items.specs.Items.{valueOf, chunkItem, itemsOf, i
 use Rattle.proof_crash_items.specs.Member.{Has, keep-has, has-keep, below-has, has-below, has-any, has-map}
 use Rattle.proof_crash_items.specs.Named.{present-has, all-present, all-on-present}
 use Rattle.proof_crash_items.specs.Ranges.{capacity-few, parOf, codeOf, code-lost}
-use Rattle.proof_crash_items.specs.Segs.{OnDrives, zone-bytes, zone-pointer-low, trusted, used-below}
+use Rattle.proof_crash_items.specs.Segs.{OnDrives, zone-bytes, zone-pointer-low, trusted, used-below, number-self}
 use Rattle.proof_crash_items.specs.Shape.{shape-zone}
 use Rattle.proof_crash_items.specs.Values.{pieceValue, xorL, pieces-long, parity-value, onlyWhere, only-there, only-else, xor-below}
 use Rattle.proof_crash_items.specs.ZoneBytes.{blockIn, by-footer}
+use Rattle.spec.specs.declared.Seg.{Seg}
 
 -- ---- what a zone's spares say
 
@@ -91,7 +92,7 @@ module _ (p : Params) (r : Ranged p) (g : Ghost) (v : View) (k : OnDrives p r g 
   record-by-spare : (z : Seg) (d o : ℕ) (w : Bool) → sealedIn p v m z ≡ w → Named p z → d < p .N → isIn m d ≡ false → o < p .S
       → recordIn p w (zoneAt v d (zoneOn z d)) o ≡ recordOf (blockIn (zoneAt v d (zoneOn z d)) (suc o) .spare)
   record-by-spare z d o true e b l n s =
-      by-footer p r d (zoneOn z d) (zoneAt v d (zoneOn z d)) (shape-zone p v (k .shape) d (zoneOn z d) l (zone-on-lt p z d b)) (zone-bytes p r g v k d z l (trusted p r g v k m c d l n) b)
+      by-footer p r d z (zoneAt v d (zoneOn z d)) (shape-zone p v (k .shape) d (zoneOn z d) l (zone-on-lt p z d b)) (zone-bytes p r g v k d z l (trusted p r g v k m c d l n) b)
       (pointer-is v d (zoneOn z d) ∙ sealed-at-capacity z d e l n) o s
       ∙ by-spare-false
     where
@@ -157,7 +158,7 @@ module _ (p : Params) (r : Ranged p) (g : Ghost) (v : View) (k : OnDrives p r g 
 
   -- the stored chunk is an item of the zone
   pub stored-in : (z : Seg) (s d : ℕ) → Named p z → d < p .N → isIn m d ≡ false → hasChunk (G z) s d ≡ true
-      → InI (chunk s (pieceValue (storedPiece (G z) s d))) (itemsIn p v d (z .name))
+      → InI (chunk s (pieceValue (storedPiece (G z) s d))) (itemsIn p v d (zoneOn z 0))
   stored-in z s d b l n e =
       let o : ℕ = offsetOn (G z) d s in
       let q : Zone = zoneAt v d (zoneOn z d) in
@@ -166,7 +167,7 @@ module _ (p : Params) (r : Ranged p) (g : Ghost) (v : View) (k : OnDrives p r g 
       let i : (o < p .S) × (suc o < q .pointer) = stored-below p q o (h .0) in
       let f : Off (itemsOf p q) (suc o) (chunkItem (blockIn q (suc o))) = chunk-of p q (zone-pointer-low p r g v k d z l (trusted p r g v k m c d l n) b) o (i .0) (i .1) in
       let x : chunkItem (blockIn q (suc o)) ≡ chunk s (pieceValue (storedPiece (G z) s d)) = named-chunk z s d b l n e in
-      subst (λ (y : List Item). InI (chunk s (pieceValue (storedPiece (G z) s d))) y) (sym (items-in p v d z))
+      subst (λ (y : List Item). InI (chunk s (pieceValue (storedPiece (G z) s d))) y) (sym (items-in p v d z (omega arith) b))
       (subst (λ (y : Item). InI y (itemsOf p q)) x (off-in (itemsOf p q) (suc o) (chunkItem (blockIn q (suc o))) f))
     where
       named-chunk : (z : Seg) (s d : ℕ) → Named p z → d < p .N → isIn m d ≡ false → hasChunk (G z) s d ≡ true
@@ -175,11 +176,11 @@ module _ (p : Params) (r : Ranged p) (g : Ghost) (v : View) (k : OnDrives p r g 
           ap₂ chunk (offset-on z s d b l n e .1) (ap (λ (q : Piece). valueOf (q .block) (q .rec)) (sym (stored-piece z s d b l n e)))
 
   -- and an item is a stored chunk
-  pub in-has-chunk : (z : Seg) (s d : ℕ) (x : Val) → Named p z → d < p .N → isIn m d ≡ false → InI (chunk s x) (itemsIn p v d (z .name)) → hasChunk (G z) s d ≡ true
+  pub in-has-chunk : (z : Seg) (s d : ℕ) (x : Val) → Named p z → d < p .N → isIn m d ≡ false → InI (chunk s x) (itemsIn p v d (zoneOn z 0)) → hasChunk (G z) s d ≡ true
   unfolding hasChunk
   in-has-chunk z s d x b l n i =
       let q : Zone = zoneAt v d (zoneOn z d) in
-      let j : (j : ℕ) × Off (itemsOf p q) j (chunk s x) = in-off (chunk s x) (itemsOf p q) (subst (λ (y : List Item). InI (chunk s x) y) (items-in p v d z) i) in
+      let j : (j : ℕ) × Off (itemsOf p q) j (chunk s x) = in-off (chunk s x) (itemsOf p q) (subst (λ (y : List Item). InI (chunk s x) y) (items-in p v d z (omega arith) b) i) in
       let f : (o : ℕ) × (j .0 ≡ suc o) × (o < p .S) × (suc o < q .pointer) × (recordOf (getD (q .blocks) (suc o) noChunk .spare) .stripe ≡ s)
       × (valueOf (getD (q .blocks) (suc o) noChunk .block) (recordOf (getD (q .blocks) (suc o) noChunk .spare)) ≡ x) =
       of-chunk p q (zone-pointer-low p r g v k d z l (trusted p r g v k m c d l n) b) (j .0) s x (j .1) in
@@ -214,9 +215,9 @@ module _ (p : Params) (r : Ranged p) (g : Ghost) (v : View) (k : OnDrives p r g 
   piece-lost z s d n = chunk-decoded p m (G z) s d n ∙ decode-xor p m s d (storedPiece (G z) s)
 
   here-in : (z : Seg) (s : ℕ) → Named p z → ((d : ℕ) → d < p .N → isIn m d ≡ false → hasChunk (G z) s d ≡ true) → (d : ℕ) → d < p .N → isIn m d ≡ false
-      → InI (chunk s (pieceAt z s d)) (itemsIn p v d (z .name))
+      → InI (chunk s (pieceAt z s d)) (itemsIn p v d (zoneOn z 0))
   unfolding pieceAt
-  here-in z s b h d l n = subst (λ (x : Piece). InI (chunk s (pieceValue x)) (itemsIn p v d (z .name))) (sym (piece-here z s d l n)) (stored-in z s d b l n (h d l n))
+  here-in z s b h d l n = subst (λ (x : Piece). InI (chunk s (pieceValue x)) (itemsIn p v d (zoneOn z 0))) (sym (piece-here z s d l n)) (stored-in z s d b l n (h d l n))
 
   abbrev P : ℕ → Bool
   P d = not (isIn m d)
@@ -240,14 +241,14 @@ module _ (p : Params) (r : Ranged p) (g : Ghost) (v : View) (k : OnDrives p r g 
       at e false q = only-there P (F z s) e (ap not q) ∙ sym (cond-false (isIn m e) 𝟘 (F z s e) q)
 
   -- it is a word with the stored ones
-  pub counted-stripe : (z : Seg) (s : ℕ) → Named p z → Has s (counted p m (G z)) → Stripe (parOf p r) (itemsIn p v) (isIn m) (z .name) s (pieceAt z s)
+  pub counted-stripe : (z : Seg) (s : ℕ) → Named p z → Has s (counted p m (G z)) → Stripe (parOf p r) (itemsIn p v) (isIn m) (zoneOn z 0) s (pieceAt z s)
   counted-stripe z s b i = record { on = here; word = respell (parOf p r) s (w .0) (pieceAt z s) (λ d l. sym (all d l (isIn m d) refl)) (w .1) }
     where
-      here : (d : ℕ) → d < p .N → isIn m d ≡ false → InI (chunk s (pieceAt z s d)) (itemsIn p v d (z .name))
+      here : (d : ℕ) → d < p .N → isIn m d ≡ false → InI (chunk s (pieceAt z s d)) (itemsIn p v d (zoneOn z 0))
       here = here-in z s b (counted-has z s i .1)
 
       w : (h : ℕ → Val) × Word (parOf p r) s h × ((d : ℕ) → d < p .N → isIn m d ≡ false → pieceAt z s d ≡ h d)
-      w = k .facts .parity .whole (isIn m) c (z .name) s (pieceAt z s) here
+      w = k .facts .parity .whole (isIn m) c (zoneOn z 0) s (pieceAt z s) here
 
       stored-is : (d : ℕ) → d < p .N → isIn m d ≡ false → F z s d ≡ w .0 d
       stored-is d l n = sym here-is ∙ w .2 d l n
@@ -261,28 +262,34 @@ module _ (p : Params) (r : Ranged p) (g : Ghost) (v : View) (k : OnDrives p r g 
           piece-decoded z s d b n (counted-has z s i .1)
           ∙ codeOf p r .law s (isIn m) (F z s) (w .0) (c .0) (λ e q a. stored-is e q a ∙ w .1 e q) d l n ∙ sym (w .1 d l)
 
-  pub stripe-below : (z : Seg) (s : ℕ) (f : ℕ → Val) → Stripe (parOf p r) (itemsIn p v) (isIn m) (z .name) s f → Named p z × (s < p .S)
-  stripe-below z s f st = go (some-present (parOf p r) (isIn m) (c .0))
+  pub stripe-below : (n s : ℕ) (f : ℕ → Val) → Stripe (parOf p r) (itemsIn p v) (isIn m) n s f → (n < p .Z) × (s < p .S)
+  stripe-below y s f st = go (some-present (parOf p r) (isIn m) (c .0))
     where
-      go : (d : ℕ) × (d < p .N) × (isIn m d ≡ false) → Named p z × (s < p .S)
+      go : (d : ℕ) × (d < p .N) × (isIn m d ≡ false) → (y < p .Z) × (s < p .S)
       go (d, l, n) =
           let t : g .un d ≡ false = trusted p r g v k m c d l n in
-          let i : InI (chunk s (f d)) (itemsIn p v d (z .name)) = st .on d l n in
-          let b : Named p z = used-below p r g v k z (d, (l, t), item-some (chunk s (f d)) (itemsIn p v d (z .name)) i) in
-          let j : (j : ℕ) × Off (itemsIn p v d (z .name)) j (chunk s (f d)) = in-off (chunk s (f d)) (itemsIn p v d (z .name)) i in
+          let i : InI (chunk s (f d)) (itemsIn p v d y) = st .on d l n in
+          let b : y < p .Z = used-below p r g v k y (d, (l, t), item-some (chunk s (f d)) (itemsIn p v d y) i) in
+          let j : (j : ℕ) × Off (itemsIn p v d y) j (chunk s (f d)) = in-off (chunk s (f d)) (itemsIn p v d y) i in
           (b, num d l t i (j .0) (j .1))
         where
-          num : (d : ℕ) → d < p .N → g .un d ≡ false → InI (chunk s (f d)) (itemsIn p v d (z .name)) → (j : ℕ) → Off (itemsIn p v d (z .name)) j (chunk s (f d)) → s < p .S
-          num d l t i zero o = absurd (chunk-hdr (sym (o .1) ∙ k .facts .zones d (z .name) (l, t) .head (item-some (chunk s (f d)) (itemsIn p v d (z .name)) i)))
-          num d l t i (suc j) o = k .facts .zones d (z .name) (l, t) .num j s (f d) o .0
+          num : (d : ℕ) → d < p .N → g .un d ≡ false → InI (chunk s (f d)) (itemsIn p v d y) → (j : ℕ) → Off (itemsIn p v d y) j (chunk s (f d)) → s < p .S
+          num d l t i zero o = absurd (chunk-hdr (sym (o .1) ∙ k .facts .zones d y (l, t) .head (item-some (chunk s (f d)) (itemsIn p v d y) i)))
+          num d l t i (suc j) o = k .facts .zones d y (l, t) .num j s (f d) o .0
 
-  pub stripe-counted : (z : Seg) (s : ℕ) (f : ℕ → Val) → Stripe (parOf p r) (itemsIn p v) (isIn m) (z .name) s f → Has s (counted p m (G z))
+  pub stripe-counted : (z : Seg) (s : ℕ) (f : ℕ → Val) → Named p z → Stripe (parOf p r) (itemsIn p v) (isIn m) (zoneOn z 0) s f → Has s (counted p m (G z))
       × ((d : ℕ) → d < p .N → pieceAt z s d ≡ f d)
-  stripe-counted z s f st =
-      let b : Named p z × (s < p .S) = stripe-below z s f st in
-      let i : Has s (counted p m (G z)) = has-counted z s (b .1) (λ d l n. in-has-chunk z s d (f d) (b .0) l n (st .on d l n)) in
-      let st′ : Stripe (parOf p r) (itemsIn p v) (isIn m) (z .name) s (pieceAt z s) = counted-stripe z s (b .0) i in (
+  stripe-counted z s f b st =
+      let i : Has s (counted p m (G z)) = has-counted z s (stripe-below (zoneOn z 0) s f st .1) (λ d l n. in-has-chunk z s d (f d) b l n (st .on d l n)) in
+      let st′ : Stripe (parOf p r) (itemsIn p v) (isIn m) (zoneOn z 0) s (pieceAt z s) = counted-stripe z s b i in (
         i,
         word-unique (parOf p r) s (isIn m) (c .0) (pieceAt z s) f (st′ .word) (st .word) (λ d l n.
-            once-in (parOf p r) g d (z .name) (itemsIn p v d (z .name)) (k .facts .zones d (z .name) (l, trusted p r g v k m c d l n)) s (pieceAt z s d) (f d) (st′ .on d l n) (st .on d l n)),
+            once-in (parOf p r) g d (zoneOn z 0) (itemsIn p v d (zoneOn z 0)) (k .facts .zones d (zoneOn z 0) (l, trusted p r g v k m c d l n)) s
+            (pieceAt z s d) (f d) (st′ .on d l n) (st .on d l n)),
       )
+
+  -- by number
+  pub number-counted : (n s : ℕ) (f : ℕ → Val) → Stripe (parOf p r) (itemsIn p v) (isIn m) n s f → Has s (counted p m (G (across p n)))
+      × ((d : ℕ) → d < p .N → pieceAt (across p n) s d ≡ f d)
+  number-counted n s f st =
+      stripe-counted (across p n) s f (seg-named p n (stripe-below n s f st .0)) (subst (λ (x : ℕ). Stripe (parOf p r) (itemsIn p v) (isIn m) x s f) (sym (number-self p r n)) st)

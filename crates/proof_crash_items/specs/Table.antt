@@ -12,7 +12,7 @@ use lib.ListN.{length, getD, replicate, List·getD-append, length-map}
 use lib.Seq.{getD-append-add}
 use lib.Arith.{digits-div, digits-lt}
 use Rattle.spec.specs.declared.Params.{Params}
-use Rattle.spec.specs.Drives.{Zone, View, zoneAt, pointerAt, Seg, zoneOn, dataStored}
+use Rattle.spec.specs.Drives.{Zone, View, zoneAt, pointerAt, zoneOn, dataStored}
 use Rattle.spec.specs.Layout.{group, groupOffsets, compactEntry, Rec, mkRec, recordOf}
 use Rattle.spec.specs.Lists.{upFrom, below, isNil, flat, firstOr, padTo, isIn}
 use Rattle.spec.specs.Memory.{compactAt, shownAt}
@@ -29,10 +29,11 @@ use Rattle.proof_crash_machine.specs.View.Item.{chunk}
 use Rattle.proof_crash_items.specs.Items.{valueOf, chunkItem, itemsIn, items-in, chunk-of}
 use Rattle.proof_crash_items.specs.Member.{Has, keep-has, has-keep, upFrom-has, has-upFrom, isNil-has, firstOr-has}
 use Rattle.proof_crash_items.specs.Ranges.{parOf}
-use Rattle.proof_crash_items.specs.Refuse.{Rising, segNames, rising-apart, remaining-rising}
+use Rattle.proof_crash_items.specs.Refuse.{Rising, segNumbers, rising-apart, remaining-rising}
 use Rattle.proof_crash_items.specs.Segs.{OnDrives, zone-pointer-low, zone-facts, trusted, remaining-has, in-segs?}
 use Rattle.proof_crash_items.specs.Stripes.{spareRecs, length-spareRecs, getD-spareRecs, stored-below, below-stored, pointer-is, recs-by-spare, recs-missing, offset-on}
 use Rattle.proof_crash_items.specs.ZoneBytes.{blockIn}
+use Rattle.spec.specs.declared.Seg.{Seg}
 
 -- ---- lists of lists of one length
 
@@ -64,7 +65,7 @@ unfolding flat
 flat-none-of h t [] n = refl
 flat-none-of h t (y ∷ l) n = ap₂ _++_ (cond-false (t y) (h y) [] (n y (inl refl))) (flat-none-of h t l (λ x i. n x (inr i)))
 
-flat-one-of : {A : Type 0} (h : Seg → List A) (t : Seg → Bool) (z : Seg) (l : List Seg) → Rising (segNames l) → Has z l → t z ≡ true
+flat-one-of : {A : Type 0} (h : Seg → List A) (t : Seg → Bool) (z : Seg) (l : List Seg) → Rising (segNumbers l) → Has z l → t z ≡ true
     → ((y : Seg) → Has y l → (y ≡ z → ⊥) → t y ≡ false)
     → flat (λ y. cond (t y) (h y) []) l ≡ h z
 unfolding flat
@@ -94,14 +95,14 @@ module _ (p : Params) (r : Ranged p) (g : Ghost) (v : View) (k : OnDrives p r g 
   row-flat d z = flat-mapped (λ (g : Segment). cond (eqb (zoneOn (g .seg) d) z) (recsOn g d) []) (segmentOf p v m) (remaining p v m)
 
   -- no other segment has it
-  not-at : (d : ℕ) (z : Seg) → Named p z → (y : Seg) → Has y (remaining p v m) → (y ≡ z → ⊥) → at? d (zoneOn z d) y ≡ false
-  not-at d z b y i n = zone-same p y z d (remaining-has p r g v k m c y i .0) b ∙ seg-other y z n
+  not-at : (d : ℕ) (z : Seg) → d < p .N → Named p z → (y : Seg) → Has y (remaining p v m) → (y ≡ z → ⊥) → at? d (zoneOn z d) y ≡ false
+  not-at d z l b y i n = zone-same p y z d l (remaining-has p r g v k m c y i .0) b ∙ seg-other y z n
 
-  pub row-remaining : (d : ℕ) (z : Seg) → Has z (remaining p v m) → rowOf p (segments p v m) d (zoneOn z d) ≡ recsOn (G z) d
-  row-remaining d z i =
+  pub row-remaining : (d : ℕ) (z : Seg) → d < p .N → Has z (remaining p v m) → rowOf p (segments p v m) d (zoneOn z d) ≡ recsOn (G z) d
+  row-remaining d z l i =
       let b : Named p z = remaining-has p r g v k m c z i .0 in
       row-flat d (zoneOn z d)
-      ∙ flat-one-of (λ y. recsOn (segmentOf p v m y) d) (at? d (zoneOn z d)) z (remaining p v m) (remaining-rising p v m) i (eq-eqb (zoneOn z d) (zoneOn z d) refl) (not-at d z b)
+      ∙ flat-one-of (λ y. recsOn (segmentOf p v m y) d) (at? d (zoneOn z d)) z (remaining p v m) (remaining-rising p r v m) i (eq-eqb (zoneOn z d) (zoneOn z d) refl) (not-at d z l b)
 
   recs-few : (z : Seg) (d : ℕ) → Named p z → d < p .N → length (recsOn (G z) d) ≤ p .S
   recs-few z d b l = go (isIn m d) refl
@@ -115,13 +116,13 @@ module _ (p : Params) (r : Ranged p) (g : Ghost) (v : View) (k : OnDrives p r g 
           few-stored q = unfold dataStored in omega arith
 
   row-few : (d z : ℕ) → d < p .N → z < p .Z → length (rowOf p (segments p v m) d z) ≤ p .S
-  row-few d z l b = by-seg (λ (x : ℕ). length (rowOf p (segments p v m) d x) ≤ p .S) p d z b (λ y k. go y k (in-segs? y (remaining p v m)))
+  row-few d z l b = by-seg (λ (x : ℕ). length (rowOf p (segments p v m) d x) ≤ p .S) p d z l b (λ y k. go y k (in-segs? y (remaining p v m)))
     where
       go : (z : Seg) → Named p z → Dec (Has z (remaining p v m)) → length (rowOf p (segments p v m) d (zoneOn z d)) ≤ p .S
-      go z b (yes i) = subst (λ (x : List Rec). length x ≤ p .S) (sym (row-remaining d z i)) (recs-few z d b l)
+      go z b (yes i) = subst (λ (x : List Rec). length x ≤ p .S) (sym (row-remaining d z l i)) (recs-few z d b l)
       go z b (no n) = subst (λ (x : List Rec). length x ≤ p .S)
           (sym (row-flat d (zoneOn z d) ∙ flat-none-of (λ y. recsOn (segmentOf p v m y) d) (at? d (zoneOn z d)) (remaining p v m)
-          (λ y i. not-at d z b y i (λ e. n (subst (λ (x : Seg). Has x (remaining p v m)) e i)))))
+          (λ y i. not-at d z l b y i (λ e. n (subst (λ (x : Seg). Has x (remaining p v m)) e i)))))
           (omega arith)
 
   table-row-long : (d z : ℕ) → d < p .N → z < p .Z → length (compactRow p (rowOf p (segments p v m) d z)) ≡ p .S
@@ -157,7 +158,7 @@ module _ (p : Params) (r : Ranged p) (g : Ghost) (v : View) (k : OnDrives p r g 
       let b : Named p z = remaining-has p r g v k m c z i .0 in
       let rs : List Rec = recsOn (G z) d in
       compact-entry d (zoneOn z d) o l (zone-on-lt p z d b) (stored-below p (zoneAt v d (zoneOn z d)) o w .0)
-      ∙ ap (λ (x : List Rec). getD (compactRow p x) o 0) (row-remaining d z i ∙ recs-by-spare p r g v k m c z d b l n)
+      ∙ ap (λ (x : List Rec). getD (compactRow p x) o 0) (row-remaining d z l i ∙ recs-by-spare p r g v k m c z d b l n)
       ∙ row-entry (spareRecs p (zoneAt v d (zoneOn z d))) o (omega (arith, w, length-spareRecs p (zoneAt v d (zoneOn z d))))
       ∙ ap (λ (x : Rec). compactEntry p (x .stripe)) (getD-spareRecs p (zoneAt v d (zoneOn z d)) o (mkRec 0 0 0) w)
     where
@@ -199,13 +200,13 @@ module _ (p : Params) (r : Ranged p) (g : Ghost) (v : View) (k : OnDrives p r g 
     at-off :
         (o : ℕ)
         → o < dataStored p (zoneAt v d (zoneOn z d))
-        → Off (itemsIn p v d (z .name)) (suc o) (chunk (recordOf (blockIn (zoneAt v d (zoneOn z d)) (suc o) .spare) .stripe)
+        → Off (itemsIn p v d (zoneOn z 0)) (suc o) (chunk (recordOf (blockIn (zoneAt v d (zoneOn z d)) (suc o) .spare) .stripe)
         (valueOf (blockIn (zoneAt v d (zoneOn z d)) (suc o) .block) (recordOf (blockIn (zoneAt v d (zoneOn z d)) (suc o) .spare))))
     at-off o w =
         let j : (o < p .S) × (suc o < zoneAt v d (zoneOn z d) .pointer) = stored-below p (zoneAt v d (zoneOn z d)) o w in
         subst (λ (y : List Item). Off y (suc o) (chunk (recordOf (blockIn (zoneAt v d (zoneOn z d)) (suc o) .spare) .stripe)
         (valueOf (blockIn (zoneAt v d (zoneOn z d)) (suc o) .block) (recordOf (blockIn (zoneAt v d (zoneOn z d)) (suc o) .spare)))))
-        (sym (items-in p v d z)) (unfold chunkItem in chunk-of p (zoneAt v d (zoneOn z d)) (zone-pointer-low p r g v k d z l (trusted p r g v k m c d l n) b) o (j .0) (j .1))
+        (sym (items-in p v d z (omega arith) b)) (unfold chunkItem in chunk-of p (zoneAt v d (zoneOn z d)) (zone-pointer-low p r g v k d z l (trusted p r g v k m c d l n) b) o (j .0) (j .1))
 
     grp-at : (o : ℕ) → o < dataStored p (zoneAt v d (zoneOn z d)) → group p (recordOf (blockIn (zoneAt v d (zoneOn z d)) (suc o) .spare) .stripe) ≡ group p o
     grp-at o w = zone-facts p r g v k d z l (trusted p r g v k m c d l n) .num o (recordOf (blockIn (zoneAt v d (zoneOn z d)) (suc o) .spare) .stripe)
@@ -217,7 +218,7 @@ module _ (p : Params) (r : Ranged p) (g : Ghost) (v : View) (k : OnDrives p r g 
         let w : suc o ≡ suc j = zone-facts p r g v k d z l (trusted p r g v k m c d l n) .once (suc o) (suc j) (recordOf (blockIn (zoneAt v d (zoneOn z d)) (suc j) .spare) .stripe)
         (valueOf (blockIn (zoneAt v d (zoneOn z d)) (suc o) .block) (recordOf (blockIn (zoneAt v d (zoneOn z d)) (suc o) .spare)))
         (valueOf (blockIn (zoneAt v d (zoneOn z d)) (suc j) .block) (recordOf (blockIn (zoneAt v d (zoneOn z d)) (suc j) .spare)))
-        (subst (λ (s : ℕ). Off (itemsIn p v d (z .name)) (suc o)
+        (subst (λ (s : ℕ). Off (itemsIn p v d (zoneOn z 0)) (suc o)
         (chunk s (valueOf (blockIn (zoneAt v d (zoneOn z d)) (suc o) .block) (recordOf (blockIn (zoneAt v d (zoneOn z d)) (suc o) .spare))))) e (at-off o a))
         (at-off j a′) in
         omega (arith, w)

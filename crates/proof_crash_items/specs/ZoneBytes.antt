@@ -9,7 +9,7 @@ use lib.ListN.{length, getD, take, drop, set, length-drop, length-map}
 use lib.Seq.{getD-take, getD-drop, take-set-le, getD-set-same, getD-set-other, drop-set-add, length-take-le}
 use Rattle.spec.specs.declared.Params.{Params}
 use Rattle.spec.specs.Bytes.{part}
-use Rattle.spec.specs.Drives.{Chunk, mkChunk, noChunk, Zone, putZone, resetZone, blocksOf, sparesOf, recordIn, zeroSpare, Seg, zoneOn}
+use Rattle.spec.specs.Drives.{Chunk, mkChunk, noChunk, Zone, putZone, resetZone, blocksOf, sparesOf, recordIn, zeroSpare, zoneOn, zonesIn}
 use Rattle.spec.specs.Layout.{headerBlock, headerSerial, headerCopied, Rec, recordBytes, recordOf, footerBlock, footerRecord}
 use Rattle.spec.specs.Params.{spareLen, perFooter, footers, capacity}
 use Rattle.law_basic.specs.Fields.{length-record, length-zeroSpare, header-block-long}
@@ -24,6 +24,7 @@ use Rattle.proof_crash_items.specs.Codec.{Wide, record-bytes, footer-len
 use Rattle.proof_crash_items.specs.Items.{valueOf, chunkItem, itemAt, item-data, item-foot}
 use Rattle.proof_crash_items.specs.Ranges.{capacity-few}
 use Rattle.proof_crash_items.specs.Shape.{ZoneShape}
+use Rattle.spec.specs.declared.Seg.{Seg}
 
 -- the spares of a zone's data blocks
 abbrev pub sparesIn : Params → Zone → List (List ℕ)
@@ -32,19 +33,19 @@ sparesIn p q = sparesOf (take (p .S) (drop 1 (q .blocks)))
 abbrev pub blockIn : Zone → ℕ → Chunk
 blockIn q k = getD (q .blocks) k noChunk
 
--- D1, D2 and D6 in full, of one trusted zone
-pub record ZoneBytes (p : Params) (d z : ℕ) (q : Zone) : Type 0 where
+-- D1, D2 and D6 in full, of one trusted zone: that of segment g on drive d
+pub record ZoneBytes (p : Params) (d : ℕ) (g : Seg) (q : Zone) : Type 0 where
   pub low : q .pointer ≤ capacity p
-  pub head : 0 < q .pointer → blockIn q 0 ≡ mkChunk (headerBlock p d z (headerSerial (blockIn q 0 .block)) (headerCopied (blockIn q 0 .block))) zeroSpare
-  pub serials : 0 < q .pointer → (headerSerial (blockIn q 0 .block) < 256 ^ 8) × (headerCopied (blockIn q 0 .block) < 256 ^ 8)
+  pub head : 0 < q .pointer → blockIn q 0 ≡ mkChunk (headerBlock p d (zonesIn p g) (headerSerial p (blockIn q 0 .block)) (headerCopied p (blockIn q 0 .block))) zeroSpare
+  pub serials : 0 < q .pointer → (headerSerial p (blockIn q 0 .block) < 256 ^ 8) × (headerCopied p (blockIn q 0 .block) < 256 ^ 8)
   pub wide : (o : ℕ) → o < p .S → suc o < q .pointer → Wide (recordOf (blockIn q (suc o) .spare))
   pub feet : (j : ℕ) → suc (p .S + j) < q .pointer → blockIn q (suc (p .S + j)) ≡ mkChunk (footerBlock p (sparesIn p q) j) zeroSpare
 
 -- the kinds of put, by the pointer
-pub data Kind (p : Params) (d z : ℕ) (q : Zone) : List ℕ → List ℕ → Type 0 where
-  header : (ser cop : ℕ) → q .pointer ≡ 0 → d < 256 ^ 1 → z < 256 ^ 4 → ser < 256 ^ 8 → cop < 256 ^ 8 → Kind p d z q (headerBlock p d z ser cop) zeroSpare
-  datum : (o : ℕ) (b : List ℕ) (r : Rec) → q .pointer ≡ suc o → o < p .S → length b ≡ p .B → Wide r → Kind p d z q b (recordBytes r)
-  footer : (j : ℕ) → q .pointer ≡ suc (p .S + j) → j < footers p → Kind p d z q (footerBlock p (sparesIn p q) j) zeroSpare
+pub data Kind (p : Params) (d : ℕ) (g : Seg) (q : Zone) : List ℕ → List ℕ → Type 0 where
+  header : (ser cop : ℕ) → q .pointer ≡ 0 → d < 256 ^ 1 → zoneOn g d < 256 ^ 4 → ser < 256 ^ 8 → cop < 256 ^ 8 → Kind p d g q (headerBlock p d (zonesIn p g) ser cop) zeroSpare
+  datum : (o : ℕ) (b : List ℕ) (r : Rec) → q .pointer ≡ suc o → o < p .S → length b ≡ p .B → Wide r → Kind p d g q b (recordBytes r)
+  footer : (j : ℕ) → q .pointer ≡ suc (p .S + j) → j < footers p → Kind p d g q (footerBlock p (sparesIn p q) j) zeroSpare
 
 -- ---- spares
 
@@ -77,35 +78,36 @@ module _ (p : Params) (h : Ranged p) (q : Zone) (s : ZoneShape p q) where
       ap length (sym (spares-at (take (p .S) (drop 1 (q .blocks))) k) ∙ spare-in k b) ∙ s .long (suc k) (omega (arith, b, capacity-few p h)) .1)
 
   -- ---- the lengths of what is put, and the room for it
-  pub kind-fits : (d z : ℕ) (b t : List ℕ) → Kind p d z q b t → (q .pointer < capacity p) × (length b ≡ p .B) × (length t ≡ spareLen)
-  kind-fits d z _ _ (header ser cop e x y a c) = (omega (arith, e, capacity-few p h), header-block-long p h d z ser cop, length-zeroSpare)
-  kind-fits d z _ _ (datum o b r e l lb w) = (omega (arith, e, l, capacity-few p h), lb, length-record r)
-  kind-fits d z _ _ (footer j e l) = unfold capacity in (omega (arith, e, l), footer-length p h (sparesIn p q) all-spares-long j, length-zeroSpare)
+  pub kind-fits : (d : ℕ) (g : Seg) (b t : List ℕ) → Kind p d g q b t → (q .pointer < capacity p) × (length b ≡ p .B) × (length t ≡ spareLen)
+  kind-fits d g _ _ (header ser cop e x y a c) = (omega (arith, e, capacity-few p h), header-block-long p h d (zonesIn p g) ser cop, length-zeroSpare)
+  kind-fits d g _ _ (datum o b r e l lb w) = (omega (arith, e, l, capacity-few p h), lb, length-record r)
+  kind-fits d g _ _ (footer j e l) = unfold capacity in (omega (arith, e, l), footer-length p h (sparesIn p q) all-spares-long j, length-zeroSpare)
 
 -- ---- what is put, as an item
 
-unfoldable pub kindItem : (p : Params) (d : ℕ) (g : Seg) (q : Zone) (b t : List ℕ) → Kind p d (zoneOn g d) q b t → Item
+unfoldable pub kindItem : (p : Params) (d : ℕ) (g : Seg) (q : Zone) (b t : List ℕ) → Kind p d g q b t → Item
 kindItem p d g q _ _ (header ser cop e x y a c) = hdr ser cop (zoneOn g)
 kindItem p d g q _ _ (datum o b r e l lb w) = chunk (r .stripe) (valueOf b r)
 kindItem p d g q _ _ (footer j e l) = foot j
 
-pub kind-item : (p : Params) (d : ℕ) (g : Seg) (q : Zone) (b t : List ℕ) → Named p g → (k : Kind p d (zoneOn g d) q b t) → itemAt p (q .pointer) (mkChunk b t) ≡ kindItem p d g q b t k
+pub kind-item : (p : Params) (d : ℕ) (g : Seg) (q : Zone) (b t : List ℕ) → d < p .N → Named p g → (k : Kind p d g q b t)
+    → itemAt p (q .pointer) (mkChunk b t) ≡ kindItem p d g q b t k
 unfolding kindItem
-kind-item p d g q _ _ m (header ser cop e x y a c) =
-    ap (λ (n : ℕ). itemAt p n (mkChunk (headerBlock p d (zoneOn g d) ser cop) zeroSpare)) e
-    ∙ (unfold itemAt in λ j. hdr (header-serial p d (zoneOn g d) ser cop a j) (header-copied p d (zoneOn g d) ser cop c j) (header-zones p d g ser cop m x y j))
-kind-item p d g q _ _ m (datum o b r e l lb w) =
+kind-item p d g q _ _ dl m (header ser cop e x y a c) =
+    ap (λ (n : ℕ). itemAt p n (mkChunk (headerBlock p d (zonesIn p g) ser cop) zeroSpare)) e
+    ∙ (unfold itemAt in λ j. hdr (header-serial p d (zonesIn p g) ser cop a j) (header-copied p d (zonesIn p g) ser cop c j) (header-zones p d g ser cop dl m x y j))
+kind-item p d g q _ _ dl m (datum o b r e l lb w) =
     ap (λ (n : ℕ). itemAt p n (mkChunk b (recordBytes r))) e ∙ item-data p o (mkChunk b (recordBytes r)) l
     ∙ (unfold chunkItem in ap (λ (x : Rec). chunk (x .stripe) (valueOf b x)) (record-bytes r w))
-kind-item p d g q _ _ m (footer j e l) =
+kind-item p d g q _ _ dl m (footer j e l) =
     ap (λ (n : ℕ). itemAt p n (mkChunk (footerBlock p (sparesIn p q) j) zeroSpare)) e
     ∙ item-foot p (p .S + j) (mkChunk (footerBlock p (sparesIn p q) j) zeroSpare) (omega arith) ∙ ap foot (let e : p .S + j - p .S ≡ j = omega arith in e)
 
 -- ---- the facts are kept
 
-pub bytes-reset : (p : Params) (d z : ℕ) (q : Zone) → ZoneBytes p d z (resetZone q)
+pub bytes-reset : (p : Params) (d : ℕ) (g : Seg) (q : Zone) → ZoneBytes p d g (resetZone q)
 unfolding resetZone
-bytes-reset p d z q = record {
+bytes-reset p d g q = record {
   low = omega arith;
   head = λ l. absurd (let j : ⊥ = omega arith in j);
   serials = λ l. absurd (let j : ⊥ = omega arith in j);
@@ -113,8 +115,8 @@ bytes-reset p d z q = record {
   feet = λ j b. absurd (let i : ⊥ = omega arith in i);
 }
 
-pub bytes-empty : (p : Params) (d z : ℕ) (q : Zone) → q .pointer ≡ 0 → ZoneBytes p d z q
-bytes-empty p d z q e = record {
+pub bytes-empty : (p : Params) (d : ℕ) (g : Seg) (q : Zone) → q .pointer ≡ 0 → ZoneBytes p d g q
+bytes-empty p d g q e = record {
   low = omega arith;
   head = λ l. absurd (let j : ⊥ = omega arith in j);
   serials = λ l. absurd (let j : ⊥ = omega arith in j);
@@ -122,7 +124,7 @@ bytes-empty p d z q e = record {
   feet = λ j b. absurd (let i : ⊥ = omega arith in i);
 }
 
-module _ (p : Params) (h : Ranged p) (d z : ℕ) (q : Zone) (s : ZoneShape p q) where
+module _ (p : Params) (h : Ranged p) (d : ℕ) (g : Seg) (q : Zone) (s : ZoneShape p q) where
   -- below the pointer nothing changes
   pub old-block : (b t : List ℕ) (k : ℕ) → k < q .pointer → blockIn (putZone b t q) k ≡ blockIn q k
   unfolding putZone
@@ -144,26 +146,29 @@ module _ (p : Params) (h : Ranged p) (d z : ℕ) (q : Zone) (s : ZoneShape p q) 
   pointer-put b t = refl
 
   -- the head is as it was, in a zone that isn't empty
-  head-kept : (b t : List ℕ) → 0 < q .pointer → ZoneBytes p d z q
-      → (blockIn (putZone b t q) 0 ≡ mkChunk (headerBlock p d z (headerSerial (blockIn (putZone b t q) 0 .block)) (headerCopied (blockIn (putZone b t q) 0 .block))) zeroSpare)
-      × ((headerSerial (blockIn (putZone b t q) 0 .block) < 256 ^ 8) × (headerCopied (blockIn (putZone b t q) 0 .block) < 256 ^ 8))
+  head-kept : (b t : List ℕ) → 0 < q .pointer → ZoneBytes p d g q
+      → (blockIn (putZone b t q) 0 ≡ mkChunk (headerBlock p d (zonesIn p g) (headerSerial p (blockIn (putZone b t q) 0 .block)) (headerCopied p (blockIn (putZone b t q) 0 .block))) zeroSpare)
+      × ((headerSerial p (blockIn (putZone b t q) 0 .block) < 256 ^ 8) × (headerCopied p (blockIn (putZone b t q) 0 .block) < 256 ^ 8))
   head-kept b t l f = rw (old-block b t 0 l) (f .head l, f .serials l)
 
-  pub bytes-put : (b t : List ℕ) → Kind p d z q b t → ZoneBytes p d z q → ZoneBytes p d z (putZone b t q)
+  pub bytes-put : (b t : List ℕ) → Kind p d g q b t → ZoneBytes p d g q → ZoneBytes p d g (putZone b t q)
   bytes-put _ _ (header ser cop e x y a c) f = record {
-    low = omega (arith, e, pointer-put (headerBlock p d z ser cop) zeroSpare, capacity-few p h);
+    low = omega (arith, e, pointer-put (headerBlock p d (zonesIn p g) ser cop) zeroSpare, capacity-few p h);
     head =
-        λ l. rw new (let m : mkChunk (headerBlock p d z ser cop) zeroSpare
-        ≡ mkChunk (headerBlock p d z (headerSerial (headerBlock p d z ser cop)) (headerCopied (headerBlock p d z ser cop))) zeroSpare =
-        ap₂ (λ (x y : ℕ). mkChunk (headerBlock p d z x y) zeroSpare) (sym (header-serial p d z ser cop a)) (sym (header-copied p d z ser cop c)) in m);
-    serials = λ l. rw new (subst (λ (n : ℕ). n < 256 ^ 8) (sym (header-serial p d z ser cop a)) a, subst (λ (n : ℕ). n < 256 ^ 8) (sym (header-copied p d z ser cop c)) c);
-    wide = λ o l k. absurd (let j : ⊥ = omega (arith, k, pointer-put (headerBlock p d z ser cop) zeroSpare, e) in j);
-    feet = λ j k. absurd (let i : ⊥ = omega (arith, k, pointer-put (headerBlock p d z ser cop) zeroSpare, e) in i);
+        λ l. rw new (let m : mkChunk (headerBlock p d (zonesIn p g) ser cop) zeroSpare
+        ≡ mkChunk (headerBlock p d (zonesIn p g) (headerSerial p (headerBlock p d (zonesIn p g) ser cop)) (headerCopied p (headerBlock p d (zonesIn p g) ser cop))) zeroSpare =
+        ap₂ (λ (x y : ℕ). mkChunk (headerBlock p d (zonesIn p g) x y) zeroSpare) (sym (header-serial p d (zonesIn p g) ser cop a)) (sym (header-copied p d (zonesIn p g) ser cop c)) in m);
+    serials = λ l. rw new (
+      subst (λ (n : ℕ). n < 256 ^ 8) (sym (header-serial p d (zonesIn p g) ser cop a)) a,
+      subst (λ (n : ℕ). n < 256 ^ 8) (sym (header-copied p d (zonesIn p g) ser cop c)) c,
+    );
+    wide = λ o l k. absurd (let j : ⊥ = omega (arith, k, pointer-put (headerBlock p d (zonesIn p g) ser cop) zeroSpare, e) in j);
+    feet = λ j k. absurd (let i : ⊥ = omega (arith, k, pointer-put (headerBlock p d (zonesIn p g) ser cop) zeroSpare, e) in i);
   }
     where
-      new : blockIn (putZone (headerBlock p d z ser cop) zeroSpare q) 0 ≡ mkChunk (headerBlock p d z ser cop) zeroSpare
-      new = subst (λ (n : ℕ). blockIn (putZone (headerBlock p d z ser cop) zeroSpare q) n ≡ mkChunk (headerBlock p d z ser cop) zeroSpare) e
-          (put-new-block (headerBlock p d z ser cop) zeroSpare (omega (arith, e, capacity-few p h)))
+      new : blockIn (putZone (headerBlock p d (zonesIn p g) ser cop) zeroSpare q) 0 ≡ mkChunk (headerBlock p d (zonesIn p g) ser cop) zeroSpare
+      new = subst (λ (n : ℕ). blockIn (putZone (headerBlock p d (zonesIn p g) ser cop) zeroSpare q) n ≡ mkChunk (headerBlock p d (zonesIn p g) ser cop) zeroSpare) e
+          (put-new-block (headerBlock p d (zonesIn p g) ser cop) zeroSpare (omega (arith, e, capacity-few p h)))
   bytes-put _ _ (datum o b r e l lb w) f = record {
     low = omega (arith, e, l, pointer-put b (recordBytes r), capacity-few p h);
     head = λ k. head-kept b (recordBytes r) (omega arith) f .0;
@@ -203,7 +208,7 @@ module _ (p : Params) (h : Ranged p) (d z : ℕ) (q : Zone) (s : ZoneShape p q) 
           old-block b zeroSpare (suc (p .S + i)) a ∙ f .feet i a ∙ ap (λ (ss : List (List ℕ)). mkChunk (footerBlock p ss i) zeroSpare) (sym same)
 
   -- ---- in a full zone what the footer says is what the spares say
-  pub by-footer : ZoneBytes p d z q → q .pointer ≡ capacity p → (o : ℕ) → o < p .S → recordIn p true q o ≡ recordIn p false q o
+  pub by-footer : ZoneBytes p d g q → q .pointer ≡ capacity p → (o : ℕ) → o < p .S → recordIn p true q o ≡ recordIn p false q o
   unfolding recordIn footerRecord capacity
   by-footer f e o l =
       let k : o / perFooter p < footers p = footer-of p h o l in

@@ -7,7 +7,7 @@ use Prim.Native.Nat.{ℕ, zero, suc, _+_, _≤_, _<_}
 use native.Mathlib.Omega.{arith}
 use lib.ListN.{length, getD}
 use Rattle.spec.specs.declared.Params.{Params}
-use Rattle.spec.specs.Drives.{View, Seg, seg, sameSeg}
+use Rattle.spec.specs.Drives.{View, sameSeg, across, zoneOn}
 use Rattle.spec.specs.Layout.{group}
 use Rattle.spec.specs.Lists.{upFrom, below, any, isIn}
 use Rattle.spec.specs.Params.{footers, capacity}
@@ -28,12 +28,13 @@ use Rattle.proof_crash_items.specs.Member.{Has, below-has, has-below, any-has, 
 use Rattle.proof_crash_items.specs.Ranges.{capacity-few, parOf, parities}
 use Rattle.proof_crash_items.specs.Refuse.{rising-below}
 use Rattle.proof_crash_items.specs.SegFacts.{segment-fields, seg-low, ragged-of}
-use Rattle.proof_crash_items.specs.Segs.{OnDrives, has-remaining}
+use Rattle.proof_crash_items.specs.Segs.{OnDrives, number-self, number-remaining}
 use Rattle.proof_crash_items.specs.Stripes.{counted-has, pieceAt, counted-stripe, stripe-counted}
 use Rattle.proof_crash_restarts.specs.Order.{rising-same}
 use Rattle.proof_crash_rebuilds.specs.Groups.{counted-rising, counted-group, sealed-counts}
 use Rattle.proof_crash_rebuilds.specs.Sorted.{rising-one}
 use Rattle.proof_crash_rebuilds.specs.Zones.{zoneItems}
+use Rattle.spec.specs.declared.Seg.{Seg}
 
 map-tail : {B : Type 0} (f : ℕ → B) (a : ℕ) (l : List ℕ) (i n : ℕ) → map (λ j. f (getD (a ∷ l) j 0)) (upFrom (suc i) n) ≡ map (λ j. f (getD l j 0)) (upFrom i n)
 unfolding upFrom
@@ -121,25 +122,28 @@ module _ (p : Params) (r : Ranged p) (g₀ : Ghost) (m : ℕ) (few-lost : count 
 
   pub plan : RPlan (parOf p r) g (itemsIn p v)
   plan = record {
-    c = λ n. planCount (seg n);
-    src = λ n j. getD (counted p m (segmentOf p v m (seg n))) j 0;
-    E = λ n j e. pieceAt p r g v k m c (seg n) (getD (counted p m (segmentOf p v m (seg n))) j 0) e;
-    foots = λ n. planFeet (seg n);
-    st = λ n rr j l. st? (seg n) (has-remaining p r g v k m c (seg n) rr) j l;
-    every = λ n s f rr q. every? (seg n) s f (has-remaining p r g v k m c (seg n) rr) q;
-    inj = λ n i j a b e. inj? (seg n) i j a b e (cases (seg n));
-    grp = λ n j l. grp? (seg n) j l (cases (seg n));
-    sealed = λ n b s l. sealed? (seg n) b s l (cases (seg n));
-    room = λ n. room? (seg n) (cases (seg n));
-    ragged = λ n rr b. ragged? (seg n) (has-remaining p r g v k m c (seg n) rr) b (cases (seg n));
+    c = λ n. planCount (across p n);
+    src = λ n j. getD (counted p m (segmentOf p v m (across p n))) j 0;
+    E = λ n j e. pieceAt p r g v k m c (across p n) (getD (counted p m (segmentOf p v m (across p n))) j 0) e;
+    foots = λ n. planFeet (across p n);
+    st = λ n rr j l. subst (λ (y : ℕ). Stripe (parOf p r) (itemsIn p v) (isIn m) y (src (across p n) j) (λ e. pieceAt p r g v k m c (across p n) (src (across p n) j) e)) (number-self p r n)
+        (st? (across p n) (number-remaining p r g v k m c n rr) j l);
+    every = λ n s f rr q. every? (across p n) s f (number-remaining p r g v k m c n rr)
+        (subst (λ (y : ℕ). Stripe (parOf p r) (itemsIn p v) (isIn m) y s f) (sym (number-self p r n)) q);
+    inj = λ n i j a b e. inj? (across p n) i j a b e (cases (across p n));
+    grp = λ n j l. grp? (across p n) j l (cases (across p n));
+    sealed = λ n b s l. sealed? (across p n) b s l (cases (across p n));
+    room = λ n. room? (across p n) (cases (across p n));
+    ragged = λ n rr b. subst (Ragged (parOf p r) (isIn m) (itemsIn p v)) (number-self p r n)
+        (ragged? (across p n) (number-remaining p r g v k m c n rr) b (cases (across p n)));
   }
     where
-      st? : (z : Seg) → Has z rem → (j : ℕ) → j < planCount z → Stripe (parOf p r) (itemsIn p v) (isIn m) (z .name) (src z j) (λ e. pieceAt p r g v k m c z (src z j) e)
+      st? : (z : Seg) → Has z rem → (j : ℕ) → j < planCount z → Stripe (parOf p r) (itemsIn p v) (isIn m) (zoneOn z 0) (src z j) (λ e. pieceAt p r g v k m c z (src z j) e)
       st? z i j l = counted-stripe p r g v k m c z (src z j) (remaining-zone-low z i) (getD-has (counted p m (G z)) j 0 (omega (arith, l, count-here z i)))
 
-      every? : (z : Seg) (s : ℕ) (f : ℕ → Val) → Has z rem → Stripe (parOf p r) (itemsIn p v) (isIn m) (z .name) s f → (j : ℕ) × (j < planCount z) × (src z j ≡ s)
+      every? : (z : Seg) (s : ℕ) (f : ℕ → Val) → Has z rem → Stripe (parOf p r) (itemsIn p v) (isIn m) (zoneOn z 0) s f → (j : ℕ) × (j < planCount z) × (src z j ≡ s)
       every? z s f i q =
-          let a : (j : ℕ) × (j < length (counted p m (G z))) × (src z j ≡ s) = has-getD (counted p m (G z)) s 0 (stripe-counted p r g v k m c z s f q .0) in
+          let a : (j : ℕ) × (j < length (counted p m (G z))) × (src z j ≡ s) = has-getD (counted p m (G z)) s 0 (stripe-counted p r g v k m c z s f (remaining-zone-low z i) q .0) in
           (a .0, omega (arith, a .1, count-here z i), a .2)
 
       inj? : (z : Seg) (i j : ℕ) → i < planCount z → j < planCount z → src z i ≡ src z j → Cases z → i ≡ j
@@ -164,55 +168,58 @@ module _ (p : Params) (r : Ranged p) (g₀ : Ghost) (m : ℕ) (few-lost : count 
       room? z (inr (h, q, inl (f, w))) = omega (arith, q, w, counted-within z, capacity-few p r)
       room? z (inr (h, q, inr (f, w))) = unfold capacity in omega (arith, q, w, counted-within z)
 
-      ragged? : (z : Seg) → Has z rem → suc (planCount z + planFeet z) < capacity p → Cases z → Ragged (parOf p r) (isIn m) (itemsIn p v) (z .name)
+      ragged? : (z : Seg) → Has z rem → suc (planCount z + planFeet z) < capacity p → Cases z → Ragged (parOf p r) (isIn m) (itemsIn p v) (zoneOn z 0)
       ragged? z i b (inl (q, w)) = go (G z .full) refl
         where
-          go : (t : Bool) → G z .full ≡ t → Ragged (parOf p r) (isIn m) (itemsIn p v) (z .name)
+          go : (t : Bool) → G z .full ≡ t → Ragged (parOf p r) (isIn m) (itemsIn p v) (zoneOn z 0)
           go false f = ragged-of p r g v k m c z i f
           go true f = absurd (let x : length (counted p m (G z)) ≡ p .S = full-counts z (remaining-zone-low z i) f in let y : ⊥ = omega (arith, x, q, count-here z i, r .stripes-low) in y)
       ragged? z i b (inr (h, q, inl (f, w))) = ragged-of p r g v k m c z i f
       ragged? z i b (inr (h, q, inr (f, w))) =
           absurd (unfold capacity in (let x : length (counted p m (G z)) ≡ p .S = full-counts z (remaining-zone-low z i) f in let y : ⊥ = omega (arith, x, q, w, b) in y))
 
-  plan-foots : (z : Seg) → plan .foots (z .name) ≡ planFeet z
+  plan-foots : (n : ℕ) → plan .foots n ≡ planFeet (across p n)
   unfolding plan
-  plan-foots z = refl
+  plan-foots n = refl
 
-  -- ---- the machine's columns
-  module _ (d : ℕ) (z : Seg) (i : Has z (remaining p v m)) where
+  -- ---- the machine's columns, by number
+  module _ (d n : ℕ) (i : Has (across p n) (remaining p v m)) where
+    abbrev z : Seg
+    z = across p n
+
     abbrev cs : List ℕ
-    cs = counted p m (G z)
+    cs = counted p m (G (across p n))
 
     abbrev it : ℕ → Item
-    it j = chunk (src z j) (pieceAt p r g v k m c z (src z j) d)
+    it j = chunk (src (across p n) j) (pieceAt p r g v k m c (across p n) (src (across p n) j) d)
 
-    chunks-are : (n : ℕ) → chunks (parOf p r) g (itemsIn p v) plan d (z .name) n ≡ hdr (g .hd .ser (z .name)) (g .hd .cop (z .name)) (g .hd .zn (z .name)) ∷ map it (below n)
+    chunks-are : (j : ℕ) → chunks (parOf p r) g (itemsIn p v) plan d n j ≡ hdr (g .hd .ser n) (g .hd .cop n) (g .hd .zn n) ∷ map it (below j)
     unfolding chunks plan below upFrom
     chunks-are zero = refl
-    chunks-are (suc n) = ap (λ (x : List Item). x ++ (it n ∷ [])) (chunks-are n) ∙ ap (λ (x : List Item). hdr (g .hd .ser (z .name)) (g .hd .cop (z .name)) (g .hd .zn (z .name)) ∷ x) (snoc n)
+    chunks-are (suc j) = ap (λ (x : List Item). x ++ (it j ∷ [])) (chunks-are j) ∙ ap (λ (x : List Item). hdr (g .hd .ser n) (g .hd .cop n) (g .hd .zn n) ∷ x) (snoc j)
       where
         snoc : (n : ℕ) → map it (upFrom 0 n) ++ (it n ∷ []) ≡ map it (upFrom 0 (suc n))
         snoc n =
             sym (ap (map it) (upFrom-snoc 0 n) ∙ map-append it (upFrom 0 n) ((0 + n) ∷ []) ∙ ap (λ (x : ℕ). map it (upFrom 0 n) ++ (it x ∷ [])) (let e : 0 + n ≡ n = omega arith in e))
 
-    column-feet : (j : ℕ) → column (parOf p r) g (itemsIn p v) plan d (z .name) j ≡ chunks (parOf p r) g (itemsIn p v) plan d (z .name) (planCount z) ++ map foot (below j)
+    column-feet : (j : ℕ) → column (parOf p r) g (itemsIn p v) plan d n j ≡ chunks (parOf p r) g (itemsIn p v) plan d n (planCount (across p n)) ++ map foot (below j)
     unfolding column plan below upFrom
-    column-feet zero = sym (append-nil (chunks (parOf p r) g (itemsIn p v) plan d (z .name) (planCount z)))
+    column-feet zero = sym (append-nil (chunks (parOf p r) g (itemsIn p v) plan d n (planCount z)))
     column-feet (suc j) =
-        ap (λ (x : List Item). x ++ (foot j ∷ [])) (column-feet j) ∙ append-assoc (chunks (parOf p r) g (itemsIn p v) plan d (z .name) (planCount z)) (map foot (upFrom 0 j)) (foot j ∷ [])
-        ∙ ap (λ (x : List Item). chunks (parOf p r) g (itemsIn p v) plan d (z .name) (planCount z) ++ x) (snoc j)
+        ap (λ (x : List Item). x ++ (foot j ∷ [])) (column-feet j) ∙ append-assoc (chunks (parOf p r) g (itemsIn p v) plan d n (planCount z)) (map foot (upFrom 0 j)) (foot j ∷ [])
+        ∙ ap (λ (x : List Item). chunks (parOf p r) g (itemsIn p v) plan d n (planCount z) ++ x) (snoc j)
       where
         snoc : (n : ℕ) → map foot (upFrom 0 n) ++ (foot n ∷ []) ≡ map foot (upFrom 0 (suc n))
         snoc n =
             sym (ap (map foot) (upFrom-snoc 0 n) ∙ map-append foot (upFrom 0 n) ((0 + n) ∷ [])
             ∙ ap (λ (x : ℕ). map foot (upFrom 0 n) ++ (foot x ∷ [])) (let e : 0 + n ≡ n = omega arith in e))
 
-    pub column-is : column (parOf p r) g (itemsIn p v) plan d (z .name) (planFeet z) ≡ zoneItems p r g v k m c d z
+    pub column-is : column (parOf p r) g (itemsIn p v) plan d n (planFeet (across p n)) ≡ zoneItems p r g v k m c d (across p n)
     column-is =
         column-feet (planFeet z)
-        ∙ ap₂ (λ (x y : List Item). x ++ y) (ap (chunks (parOf p r) g (itemsIn p v) plan d (z .name)) (count-here z i)
+        ∙ ap₂ (λ (x y : List Item). x ++ y) (ap (chunks (parOf p r) g (itemsIn p v) plan d n) (count-here z i)
         ∙ chunks-are (length cs)
-        ∙ ap (λ (x : List Item). hdr (g .hd .ser (z .name)) (g .hd .cop (z .name)) (g .hd .zn (z .name)) ∷ x)
+        ∙ ap₂ (λ (t : ℕ) (x : List Item). hdr (g .hd .ser t) (g .hd .cop t) (g .hd .zn t) ∷ x) (sym (number-self p r n))
         (map-index (λ s. chunk s (pieceAt p r g v k m c z s d)) cs))
         (ap (λ (n : ℕ). map foot (below n)) (feet-here z i) ∙ feet-cond (G z .full))
         ∙ (unfold zoneItems in refl)
@@ -221,5 +228,5 @@ module _ (p : Params) (r : Ranged p) (g₀ : Ghost) (m : ℕ) (few-lost : count 
         feet-cond true = refl
         feet-cond false = unfold below upFrom in refl
 
-    pub column-foots : column (parOf p r) g (itemsIn p v) plan d (z .name) (plan .foots (z .name)) ≡ zoneItems p r g v k m c d z
-    column-foots = ap (column (parOf p r) g (itemsIn p v) plan d (z .name)) (plan-foots z) ∙ column-is
+    pub column-foots : column (parOf p r) g (itemsIn p v) plan d n (plan .foots n) ≡ zoneItems p r g v k m c d (across p n)
+    column-foots = ap (column (parOf p r) g (itemsIn p v) plan d n) (plan-foots n) ∙ column-is

@@ -4,17 +4,18 @@ use mathlib.Core.List.{List, [], _∷_, _++_, map}
 use mathlib.Core.Bool.{Bool, false, true}
 use mathlib.Core.Logic.{_⊎_, inl, inr, ⊎-elim, _≢_}
 use Prim.Native.Nat.{ℕ, zero, suc, _<_}
-use native.Mathlib.Decide.{ℕ-discrete}
+use native.Mathlib.Decide.{ℕ-discrete, decLt}
+use native.Mathlib.Omega.{arith}
 use lib.ListN.{take}
 use Rattle.spec.specs.declared.Params.{Params}
-use Rattle.spec.specs.Drives.{Zone, stored, View, zoneAt, pointerAt, Store, putZone, resetZone, storeView, storeAll, Seg, seg, zoneOn}
+use Rattle.spec.specs.Drives.{Zone, stored, View, zoneAt, pointerAt, Store, putZone, resetZone, storeView, storeAll, zoneOn, across}
 use Rattle.spec.specs.Drives.Store.{put, reset}
 use Rattle.spec.specs.Lists.{below, flat, isIn}
 use Rattle.spec.specs.Params.{named}
 use Rattle.spec.specs.Rebuild.{rebuiltZone, rebuildStores}
 use Rattle.spec.specs.Segments.{remaining, Segment, segmentOf, segments}
 use Rattle.law_basic.specs.Geometry.{Ranged}
-use Rattle.law_basic.specs.Segs.{name-once, Named, zone-on-lt, segOn, named?, zones-differ}
+use Rattle.law_basic.specs.Segs.{zone-on-lt, segOn, zones-differ, seg-named}
 use Rattle.law_basic.specs.Stores.{storeAll-append}
 use Rattle.proof_crash_machine.specs.Facts.{Ghost, Choice, R, self}
 use Rattle.proof_crash_machine.specs.History.{Mode}
@@ -26,12 +27,12 @@ use Rattle.proof_crash_machine.specs.Steps.{applyAll-append}
 use Rattle.proof_crash_machine.specs.Val.{Val}
 use Rattle.proof_crash_machine.specs.View.{Item, ItemView, ItemStore, applyAll}
 use Rattle.proof_crash_machine.specs.View.ItemStore.{reset as m-reset}
-use Rattle.proof_crash_items.specs.Items.{itemsFrom, itemsOf, itemsIn, items-in, storeItem, storeItems, outside-nothing}
-use Rattle.proof_crash_items.specs.Member.{Has, append-has, below-has, has-below, flat-has, map-has}
+use Rattle.proof_crash_items.specs.Items.{itemsFrom, itemsOf, itemsIn, storeItem, storeItems, outside-nothing}
+use Rattle.proof_crash_items.specs.Member.{Has, append-has, below-has, has-below, flat-has, map-has, has-map}
 use Rattle.proof_crash_items.specs.Ranges.{parOf}
-use Rattle.proof_crash_items.specs.Refuse.{Rising, segNames, rising-apart, remaining-rising}
+use Rattle.proof_crash_items.specs.Refuse.{Rising, segNumbers, rising-apart, remaining-rising}
 use Rattle.proof_crash_items.specs.SegFacts.{seg-low, seg-R}
-use Rattle.proof_crash_items.specs.Segs.{OnDrives, has-remaining}
+use Rattle.proof_crash_items.specs.Segs.{OnDrives, number-self, number-remaining, left-below}
 use Rattle.proof_crash_items.specs.Shape.{Shape, zone-set-at, zone-set-else, shape-store}
 use Rattle.proof_crash_items.specs.Sound.{AllSound, BytesOn, BytesOk, sound-fits, bytes-stores, sound-take, sound-drop, Follows, follows-nil, follows-append, follows-all}
 use Rattle.proof_crash_items.specs.Stripes.{pointer-is}
@@ -43,34 +44,42 @@ use Rattle.proof_crash_restarts.specs.Missing.{missing-on}
 use Rattle.proof_crash_restarts.specs.Order.{pointer-zone}
 use Rattle.proof_crash_rebuilds.specs.Column.{plan, column-foots}
 use Rattle.proof_crash_rebuilds.specs.Zones.{on-other, zoneItems, zone-follows, zone-on}
+use Rattle.spec.specs.declared.Seg.{Seg}
 
 -- ---- the machine's runs of puts
 
-puts-elsewhere : (f : Seg → List Item) (d : ℕ) (l : List Seg) (x : ItemView) (y : Seg) → (Has y l → ⊥) → applyAll x (flat (λ z. puts d (z .name) (f z)) l) d (y .name) ≡ x d (y .name)
+puts-elsewhere : (f : Seg → List Item) (d : ℕ) (l : List Seg) (x : ItemView) (n : ℕ) → (Has n (segNumbers l) → ⊥) → applyAll x (flat (λ z. puts d (zoneOn z 0) (f z)) l) d n ≡ x d n
 unfolding flat applyAll
-puts-elsewhere f d [] x y n = refl
-puts-elsewhere f d (z ∷ l) x y n = ap (λ (u : ItemView). u d (y .name)) (applyAll-append x (puts d (z .name) (f z)) (flat (λ z. puts d (z .name) (f z)) l))
-    ∙ puts-elsewhere f d l (applyAll x (puts d (z .name) (f z))) y (λ i. n (inr i)) ∙ puts-other x d (z .name) (f z) d (y .name) (λ e. n (inl (name-once y z e)))
+puts-elsewhere f d [] x n h = refl
+puts-elsewhere f d (z ∷ l) x n h = ap (λ (u : ItemView). u d n) (applyAll-append x (puts d (zoneOn z 0) (f z)) (flat (λ z. puts d (zoneOn z 0) (f z)) l))
+    ∙ puts-elsewhere f d l (applyAll x (puts d (zoneOn z 0) (f z))) n (λ i. h (inr i)) ∙ puts-other x d (zoneOn z 0) (f z) d n (λ e. h (inl e))
 
-puts-at : (f : Seg → List Item) (d : ℕ) (l : List Seg) → Rising (segNames l) → (x : ItemView) (y : Seg) → Has y l
-    → applyAll x (flat (λ z. puts d (z .name) (f z)) l) d (y .name) ≡ x d (y .name) ++ f y
+puts-at : (f : Seg → List Item) (d : ℕ) (l : List Seg) → Rising (segNumbers l) → (x : ItemView) (y : Seg) → Has y l
+    → applyAll x (flat (λ z. puts d (zoneOn z 0) (f z)) l) d (zoneOn y 0) ≡ x d (zoneOn y 0) ++ f y
 unfolding flat applyAll
 puts-at f d [] r x y i = absurd i
-puts-at f d (z ∷ l) r x y (inl e) = ap (λ (u : ItemView). u d (y .name)) (applyAll-append x (puts d (z .name) (f z)) (flat (λ z. puts d (z .name) (f z)) l))
-    ∙ puts-elsewhere f d l (applyAll x (puts d (z .name) (f z))) y (λ i. rising-apart z l r y i e) ∙ rw e (puts-here x d (z .name) (f z))
-puts-at f d (z ∷ l) r x y (inr i) = ap (λ (u : ItemView). u d (y .name)) (applyAll-append x (puts d (z .name) (f z)) (flat (λ z. puts d (z .name) (f z)) l))
-    ∙ puts-at f d l (r .1) (applyAll x (puts d (z .name) (f z))) y i
-    ∙ ap (λ (q : List Item). q ++ f y) (puts-other x d (z .name) (f z) d (y .name) (λ e. rising-apart z l r y i (name-once y z e)))
+puts-at f d (z ∷ l) r x y (inl e) = ap (λ (u : ItemView). u d (zoneOn y 0)) (applyAll-append x (puts d (zoneOn z 0) (f z)) (flat (λ z. puts d (zoneOn z 0) (f z)) l))
+    ∙ puts-elsewhere f d l (applyAll x (puts d (zoneOn z 0) (f z))) (zoneOn y 0) none ∙ rw e (puts-here x d (zoneOn z 0) (f z))
+  where
+    none : Has (zoneOn y 0) (segNumbers l) → ⊥
+    none i = let q : zoneOn y 0 ≡ zoneOn z 0 = ap (λ (x : Seg). zoneOn x 0) e in let w : ⊥ = omega (arith, r .0 (zoneOn y 0) i, q) in w
+puts-at f d (z ∷ l) r x y (inr i) = ap (λ (u : ItemView). u d (zoneOn y 0)) (applyAll-append x (puts d (zoneOn z 0) (f z)) (flat (λ z. puts d (zoneOn z 0) (f z)) l))
+    ∙ puts-at f d l (r .1) (applyAll x (puts d (zoneOn z 0) (f z))) y i
+    ∙ ap (λ (q : List Item). q ++ f y) (puts-other x d (zoneOn z 0) (f z) d (zoneOn y 0) other)
+  where
+    other : zoneOn y 0 ≢ zoneOn z 0
+    other e = let w : ⊥ = omega (arith, r .0 (zoneOn y 0) (has-map (λ (x : Seg). zoneOn x 0) l y i), e) in w
 
 -- ---- resets of the drive
 
 drive-resets-follow : (p : Params) (d : ℕ) → d < p .N → (l : List ℕ) → ((z : ℕ) → Has z l → z < p .Z) → (v : View)
-    → Follows p v (map (λ z. reset d z) l) (map (λ z. m-reset d (segOn d z .name)) l)
+    → Follows p v (map (λ z. reset d z) l) (map (λ z. m-reset d (zoneOn (segOn p d z) 0)) l)
 unfolding storeItems storeItem
 drive-resets-follow p d b [] h v = record { sound = tt; items = refl }
 drive-resets-follow p d b (z ∷ l) h v =
-    let a : Follows p (storeView (reset d z) v) (map (λ z. reset d z) l) (map (λ z. m-reset d (segOn d z .name)) l) = drive-resets-follow p d b l (λ e i. h e (inr i)) (storeView (reset d z) v) in
-    record { sound = ((b, h z (inl refl)), a .sound); items = ap (λ (x : List ItemStore). m-reset d (segOn d z .name) ∷ x) (a .items) }
+    let a : Follows p (storeView (reset d z) v) (map (λ z. reset d z) l) (map (λ z. m-reset d (zoneOn (segOn p d z) 0)) l) =
+    drive-resets-follow p d b l (λ e i. h e (inr i)) (storeView (reset d z) v) in
+    record { sound = ((b, h z (inl refl)), a .sound); items = ap (λ (x : List ItemStore). m-reset d (zoneOn (segOn p d z) 0) ∷ x) (a .items) }
 
 reset-step-zero : (p : Params) (d z : ℕ) → d < p .N → z < p .Z → (v : View) → Shape p v → (y : ℕ) → (pointerAt v d y ≡ 0) ⊎ (y ≡ z)
     → pointerAt (storeView (reset d z) v) d y ≡ 0
@@ -128,37 +137,38 @@ module _ (p : Params) (r : Ranged p) (v : View) (g : Ghost) (a : List Val) (s : 
   zones-low : (z : ℕ) → Has z (below (p .Z)) → z < p .Z
   zones-low z i = below-has z (p .Z) i
 
-  first : Follows p v (map (λ z. reset d z) (below (p .Z))) (map (λ z. m-reset d (segOn d z .name)) (below (p .Z)))
+  first : Follows p v (map (λ z. reset d z) (below (p .Z))) (map (λ z. m-reset d (zoneOn (segOn p d z) 0)) (below (p .Z)))
   first = drive-resets-follow p d dl (below (p .Z)) zones-low v
 
   shape₁ : Shape p v₁
-  shape₁ = shape-after p r v (map (λ z. reset d z) (below (p .Z))) (map (λ z. m-reset d (segOn d z .name)) (below (p .Z))) (lk .shape) first
+  shape₁ = shape-after p r v (map (λ z. reset d z) (below (p .Z))) (map (λ z. m-reset d (zoneOn (segOn p d z) 0)) (below (p .Z))) (lk .shape) first
 
   zero₁ : (z : ℕ) → z < p .Z → pointerAt v₁ d z ≡ 0
   zero₁ z b = drive-resets-zero p r d dl (below (p .Z)) zones-low v (lk .shape) z (inr (has-below z (p .Z) b))
 
   -- segment after segment
-  segs-follow : (l : List Seg) → Rising (segNames l) → ((z : Seg) → Has z l → Has z (remaining p v (named d))) → (w : View) → Shape p w
+  segs-follow : (l : List Seg) → Rising (segNumbers l) → ((z : Seg) → Has z l → Has z (remaining p v (named d))) → (w : View) → Shape p w
       → ((z : Seg) → Has z l → pointerAt w d (zoneOn z d) ≡ 0)
-      → Follows p w (flat (λ z. rebuiltZone p d (segmentOf p v (named d) z)) l) (flat (λ z. puts d (z .name) (zoneItems p r (withUn g (isIn (named d))) v kD (named d) cD d z)) l)
+      → Follows p w (flat (λ z. rebuiltZone p d (segmentOf p v (named d) z)) l) (flat (λ z. puts d (zoneOn z 0) (zoneItems p r (withUn g (isIn (named d))) v kD (named d) cD d z)) l)
   unfolding flat
   segs-follow [] q h w sh e = follows-nil p w
   segs-follow (z ∷ l) q h w sh e =
-      let f : Follows p w (rebuiltZone p d (segmentOf p v (named d) z)) (puts d (z .name) (zoneItems p r (withUn g (isIn (named d))) v kD (named d) cD d z)) =
+      let f : Follows p w (rebuiltZone p d (segmentOf p v (named d) z)) (puts d (zoneOn z 0) (zoneItems p r (withUn g (isIn (named d))) v kD (named d) cD d z)) =
       zone-follows p r (withUn g (isIn (named d))) v kD d cD dl z (h z (inl refl)) w sh (e z (inl refl)) in
       let sh′ : Shape p (storeAll storeView (rebuiltZone p d (segmentOf p v (named d) z)) w) =
-      shape-after p r w (rebuiltZone p d (segmentOf p v (named d) z)) (puts d (z .name) (zoneItems p r (withUn g (isIn (named d))) v kD (named d) cD d z)) sh f in
+      shape-after p r w (rebuiltZone p d (segmentOf p v (named d) z)) (puts d (zoneOn z 0) (zoneItems p r (withUn g (isIn (named d))) v kD (named d) cD d z)) sh f in
       follows-append p w (rebuiltZone p d (segmentOf p v (named d) z)) (flat (λ z. rebuiltZone p d (segmentOf p v (named d) z)) l)
-      (puts d (z .name) (zoneItems p r (withUn g (isIn (named d))) v kD (named d) cD d z)) (flat (λ z. puts d (z .name) (zoneItems p r (withUn g (isIn (named d))) v kD (named d) cD d z)) l) f
+      (puts d (zoneOn z 0) (zoneItems p r (withUn g (isIn (named d))) v kD (named d) cD d z)) (flat (λ z. puts d (zoneOn z 0) (zoneItems p r (withUn g (isIn (named d))) v kD (named d) cD d z)) l) f
       (segs-follow l (q .1) (λ y i. h y (inr i)) (storeAll storeView (rebuiltZone p d (segmentOf p v (named d) z)) w) sh′ (λ y i.
       pointer-zone (storeAll storeView (rebuiltZone p d (segmentOf p v (named d) z)) w) w d (zoneOn y d)
       (on-other p r d (zoneOn z d) (rebuiltZone p d (segmentOf p v (named d) z)) w sh (f .sound)
       (zone-on p r (withUn g (isIn (named d))) v kD d cD dl z (h z (inl refl))) dl d (zoneOn y d)
-      (inr (zones-differ p y z d (seg-low p r (withUn g (isIn (named d))) v kD (named d) cD z (h z (inl refl))) (rising-apart z l q y i))))
+      (inr (zones-differ p y z d dl (seg-low p r (withUn g (isIn (named d))) v kD (named d) cD y (h y (inr i)))
+      (seg-low p r (withUn g (isIn (named d))) v kD (named d) cD z (h z (inl refl))) (rising-apart z l q y i))))
       ∙ e y (inr i)))
 
   abbrev ms : List ItemStore
-  ms = map (λ z. m-reset d (segOn d z .name)) (below (p .Z)) ++ flat (λ z. puts d (z .name) (zoneItems p r (withUn g (isIn (named d))) v kD (named d) cD d z)) (remaining p v (named d))
+  ms = map (λ z. m-reset d (zoneOn (segOn p d z) 0)) (below (p .Z)) ++ flat (λ z. puts d (zoneOn z 0) (zoneItems p r (withUn g (isIn (named d))) v kD (named d) cD d z)) (remaining p v (named d))
 
   abbrev ss : List Store
   ss = rebuildStores p d (segments p v (named d))
@@ -167,9 +177,9 @@ module _ (p : Params) (r : Ranged p) (v : View) (g : Ghost) (a : List Val) (s : 
   unfolding rebuildStores segments
   rebuild-follows = subst (λ (x : List Store). Follows p v (map (λ z. reset d z) (below (p .Z)) ++ x) ms) (sym (flat-mapped (rebuiltZone p d) (segmentOf p v (named d)) (remaining p v (named d))))
       (follows-append p v (map (λ z. reset d z) (below (p .Z))) (flat (λ z. rebuiltZone p d (segmentOf p v (named d) z)) (remaining p v (named d)))
-      (map (λ z. m-reset d (segOn d z .name)) (below (p .Z))) (flat (λ z. puts d (z .name) (zoneItems p r (withUn g (isIn (named d))) v kD (named d) cD d z)) (remaining p v (named d)))
+      (map (λ z. m-reset d (zoneOn (segOn p d z) 0)) (below (p .Z))) (flat (λ z. puts d (zoneOn z 0) (zoneItems p r (withUn g (isIn (named d))) v kD (named d) cD d z)) (remaining p v (named d)))
       first
-      (segs-follow (remaining p v (named d)) (remaining-rising p v (named d)) (λ z i. i) v₁ shape₁
+      (segs-follow (remaining p v (named d)) (remaining-rising p r v (named d)) (λ z i. i) v₁ shape₁
       (λ z i. zero₁ (zoneOn z d) (zone-on-lt p z d (seg-low p r (withUn g (isIn (named d))) v kD (named d) cD z i)))))
 
   -- ---- the other drives are untouched
@@ -212,10 +222,8 @@ module _ (p : Params) (r : Ranged p) (v : View) (g : Ghost) (a : List Val) (s : 
       (shape-cut p r v ss ms (lk .shape) rebuild-follows n) (bytes-cut p r v ss ms (lk .shape) rebuild-follows (isIn (named d)) n (kD .bytes))
     where
       items-same : (e y : ℕ) → e ≢ d → itemsIn p v e y ≡ itemsIn p (storeAll storeView (take n ss) v) e y
-      items-same e y q =
-          items-in p v e (seg y)
-          ∙ ap (itemsOf p) (sym (stores-other (take n ss) v (lk .shape) (sound-take p v ss n (rebuild-follows .sound)) (λ x i. stores-on-drive x (has-take n ss x i)) e (zoneOn (seg y) e) q))
-          ∙ sym (items-in p (storeAll storeView (take n ss) v) e (seg y))
+      items-same e y q = unfold itemsIn in
+          ap (itemsOf p) (sym (stores-other (take n ss) v (lk .shape) (sound-take p v ss n (rebuild-follows .sound)) (λ x i. stores-on-drive x (has-take n ss x i)) e (zoneOn (across p y) e) q))
 
   -- ---- the end
   abbrev u : View
@@ -225,53 +233,62 @@ module _ (p : Params) (r : Ranged p) (v : View) (g : Ghost) (a : List Val) (s : 
   shape-u = shape-after p r v ss ms (lk .shape) rebuild-follows
 
   items-u : itemsIn p u
-      ≡ applyAll (applyAll (itemsIn p v) (map (λ z. m-reset d (segOn d z .name)) (below (p .Z)))) (flat (λ z. puts d (z .name) (zoneItems p r (withUn g (isIn (named d))) v kD (named d) cD d z))
-      (remaining p v (named d)))
+      ≡ applyAll (applyAll (itemsIn p v) (map (λ z. m-reset d (zoneOn (segOn p d z) 0)) (below (p .Z))))
+      (flat (λ z. puts d (zoneOn z 0) (zoneItems p r (withUn g (isIn (named d))) v kD (named d) cD d z)) (remaining p v (named d)))
   items-u =
       follows-all p r v ss ms (lk .shape) rebuild-follows
-      ∙ applyAll-append (itemsIn p v) (map (λ z. m-reset d (segOn d z .name)) (below (p .Z)))
-      (flat (λ z. puts d (z .name) (zoneItems p r (withUn g (isIn (named d))) v kD (named d) cD d z)) (remaining p v (named d)))
+      ∙ applyAll-append (itemsIn p v) (map (λ z. m-reset d (zoneOn (segOn p d z) 0)) (below (p .Z)))
+      (flat (λ z. puts d (zoneOn z 0) (zoneItems p r (withUn g (isIn (named d))) v kD (named d) cD d z)) (remaining p v (named d)))
 
-  drive-emptied : (z : Seg) → Named p z → applyAll (itemsIn p v) (map (λ z. m-reset d (segOn d z .name)) (below (p .Z))) d (z .name) ≡ []
-  drive-emptied z b =
-      ap (λ (x : ItemView). x d (z .name)) (sym (follows-all p r v (map (λ z. reset d z) (below (p .Z))) (map (λ z. m-reset d (segOn d z .name)) (below (p .Z))) (lk .shape) first))
-      ∙ items-in p v₁ d z ∙ none-stored (zoneAt v₁ d (zoneOn z d)) (pointer-is v₁ d (zoneOn z d) ∙ zero₁ (zoneOn z d) (zone-on-lt p z d b))
+  drive-emptied : (n : ℕ) → n < p .Z → applyAll (itemsIn p v) (map (λ z. m-reset d (zoneOn (segOn p d z) 0)) (below (p .Z))) d n ≡ []
+  drive-emptied n b =
+      ap (λ (x : ItemView). x d n) (sym (follows-all p r v (map (λ z. reset d z) (below (p .Z))) (map (λ z. m-reset d (zoneOn (segOn p d z) 0)) (below (p .Z))) (lk .shape) first))
+      ∙ (unfold itemsIn in none-stored (zoneAt v₁ d (zoneOn (across p n) d))
+      (pointer-is v₁ d (zoneOn (across p n) d) ∙ zero₁ (zoneOn (across p n) d) (zone-on-lt p (across p n) d (seg-named p n b))))
     where
       none-stored : (q : Zone) → q .pointer ≡ 0 → itemsOf p q ≡ []
       none-stored q e = unfold itemsOf stored in (ap (λ (n : ℕ). itemsFrom p 0 (take n (q .blocks))) e ∙ (unfold itemsFrom in refl))
 
   full-u :
-      (z : Seg)
-      → R (parOf p r) (g .hd) (itemsIn p v) (isIn (named d)) (z .name)
-      → itemsIn p u d (z .name)
-      ≡ column (parOf p r) (withUn g (isIn (named d))) (itemsIn p v) (plan p r g (named d) (ch .0) v kD) d (z .name) (plan p r g (named d) (ch .0) v kD .foots (z .name))
-  full-u z rr =
-      let i : Has z (remaining p v (named d)) = has-remaining p r (withUn g (isIn (named d))) v kD (named d) cD z rr in
-      ap (λ (x : ItemView). x d (z .name)) items-u
-      ∙ puts-at (zoneItems p r (withUn g (isIn (named d))) v kD (named d) cD d) d (remaining p v (named d)) (remaining-rising p v (named d))
-      (applyAll (itemsIn p v) (map (λ z. m-reset d (segOn d z .name)) (below (p .Z)))) z i
-      ∙ ap (λ (x : List Item). x ++ zoneItems p r (withUn g (isIn (named d))) v kD (named d) cD d z) (drive-emptied z (seg-low p r (withUn g (isIn (named d))) v kD (named d) cD z i))
-      ∙ sym (column-foots p r g (named d) (ch .0) v kD d z i)
+      (n : ℕ)
+      → R (parOf p r) (g .hd) (itemsIn p v) (isIn (named d)) n
+      → itemsIn p u d n
+      ≡ column (parOf p r) (withUn g (isIn (named d))) (itemsIn p v) (plan p r g (named d) (ch .0) v kD) d n (plan p r g (named d) (ch .0) v kD .foots n)
+  full-u n rr =
+      let z : Seg = across p n in
+      let i : Has z (remaining p v (named d)) = number-remaining p r (withUn g (isIn (named d))) v kD (named d) cD n rr in
+      let f : Seg → List Item = zoneItems p r (withUn g (isIn (named d))) v kD (named d) cD d in
+      let x : ItemView = applyAll (itemsIn p v) (map (λ z. m-reset d (zoneOn (segOn p d z) 0)) (below (p .Z))) in
+      let w : n < p .Z = left-below p r (withUn g (isIn (named d))) v kD (named d) cD n (rr .left) in
+      ap (λ (x : ItemView). x d n) items-u
+      ∙ subst (λ (t : ℕ). applyAll x (flat (λ z. puts d (zoneOn z 0) (f z)) (remaining p v (named d))) d t ≡ x d t ++ f z) (number-self p r n)
+      (puts-at f d (remaining p v (named d)) (remaining-rising p r v (named d)) x z i)
+      ∙ ap (λ (x : List Item). x ++ f z) (drive-emptied n w)
+      ∙ sym (column-foots p r g (named d) (ch .0) v kD d n i)
 
-  none-u : (z : Seg) → (R (parOf p r) (g .hd) (itemsIn p v) (isIn (named d)) (z .name) → ⊥) → itemsIn p u d (z .name) ≡ []
-  none-u z n = go (named? p z)
+  none-u : (n : ℕ) → (R (parOf p r) (g .hd) (itemsIn p v) (isIn (named d)) n → ⊥) → itemsIn p u d n ≡ []
+  none-u n h = go (decLt n (p .Z))
     where
-      go : Dec (Named p z) → itemsIn p u d (z .name) ≡ []
-      go (no b) = outside-nothing p u shape-u d z (λ x y. b y)
-      go (yes b) = ap (λ (x : ItemView). x d (z .name)) items-u
+      gone : Has n (segNumbers (remaining p v (named d))) → ⊥
+      gone i =
+          let z : (z : Seg) × Has z (remaining p v (named d)) × (n ≡ zoneOn z 0) = map-has (λ (z : Seg). zoneOn z 0) n (remaining p v (named d)) i in
+          h (subst (R (parOf p r) (g .hd) (itemsIn p v) (isIn (named d))) (sym (z .2)) (seg-R p r (withUn g (isIn (named d))) v kD (named d) cD (z .0) (z .1)))
+
+      go : Dec (n < p .Z) → itemsIn p u d n ≡ []
+      go (no b) = outside-nothing p u shape-u d n (λ x y. b y)
+      go (yes b) = ap (λ (x : ItemView). x d n) items-u
           ∙ puts-elsewhere (zoneItems p r (withUn g (isIn (named d))) v kD (named d) cD d) d (remaining p v (named d))
-          (applyAll (itemsIn p v) (map (λ z. m-reset d (segOn d z .name)) (below (p .Z)))) z (λ i. n (seg-R p r (withUn g (isIn (named d))) v kD (named d) cD z i))
-          ∙ drive-emptied z b
+          (applyAll (itemsIn p v) (map (λ z. m-reset d (zoneOn (segOn p d z) 0)) (below (p .Z)))) n gone
+          ∙ drive-emptied n b
 
   same-u : (e y : ℕ) → e < p .N → isIn (named d) e ≡ false → itemsIn p v e y ≡ itemsIn p u e y
-  same-u e y l n =
-      items-in p v e (seg y)
-      ∙ ap (itemsOf p) (sym (stores-other ss v (lk .shape) (rebuild-follows .sound) stores-on-drive e (zoneOn (seg y) e) (named-out p r d e l n))) ∙ sym (items-in p u e (seg y))
+  unfolding itemsIn
+  same-u e y l n = ap (itemsOf p) (sym (stores-other ss v (lk .shape) (rebuild-follows .sound) stores-on-drive e (zoneOn (across p y) e) (named-out p r d e l n)))
 
   rebuilt? : m-Rebuilt (parOf p r) (withUn g (isIn (named d))) (itemsIn p v) (itemsIn p u)
   rebuilt? = column-stored (parOf p r) (withUn g (isIn (named d))) (itemsIn p v) π (itemsIn p u) (kD .facts) same-u
-      (λ e z i rr. subst (λ (x : ℕ). itemsIn p u x z ≡ column (parOf p r) gD (itemsIn p v) π x z (π .foots z)) (sym (named-only p r d e (i .0) (i .1))) (full-u (seg z) rr))
-      (λ e z i n. subst (λ (x : ℕ). itemsIn p u x z ≡ []) (sym (named-only p r d e (i .0) (i .1))) (none-u (seg z) n))
+      (λ e z i rr. subst (λ (x : ℕ). itemsIn p u x z ≡ column (parOf p r) gD (itemsIn p v) π x z (π .foots z)) (sym (named-only p r d e (i .0) (i .1))) (full-u z rr))
+      (λ e z i n. subst (λ (x : ℕ). itemsIn p u x z ≡ []) (sym (named-only p r d e (i .0) (i .1))) (none-u z n))
     where
       π : RPlan (parOf p r) gD (itemsIn p v)
       π = plan p r g (named d) (ch .0) v kD
@@ -300,7 +317,8 @@ module _ (p : Params) (r : Ranged p) (v : View) (g : Ghost) (a : List Val) (s : 
               tail-sound l w f = sound-drop p w l (flat (rebuiltZone p d) (segments p v (named d))) f
 
           drive : BytesOn p u d
-          drive = subst (λ (x : View). BytesOn p x d) (sym split) (bytes-stores p r v₁ ts shape₁ second d (λ z b. bytes-empty p d z (zoneAt v₁ d z) (pointer-is v₁ d z ∙ zero₁ z b)))
+          drive = subst (λ (x : View). BytesOn p x d) (sym split)
+              (bytes-stores p r v₁ ts shape₁ second d (λ z b. bytes-empty p d (segOn p d z) (zoneAt v₁ d z) (pointer-is v₁ d z ∙ zero₁ z b)))
             where
               split : u ≡ storeAll storeView ts v₁
               split = unfold rebuildStores in storeAll-append storeView (map (λ z. reset d z) (below (p .Z))) (flat (rebuiltZone p d) (segments p v (named d))) v

@@ -9,7 +9,7 @@ use native.Mathlib.Omega.{arith}
 use lib.ListN.{length, getD}
 use lib.Arith.{digits-div}
 use Rattle.spec.specs.declared.Params.{Params}
-use Rattle.spec.specs.Drives.{View, zoneAt, Seg, zoneOn, sealedIn, dataStored}
+use Rattle.spec.specs.Drives.{View, zoneAt, zoneOn, sealedIn, dataStored}
 use Rattle.spec.specs.Layout.{group, recordOf}
 use Rattle.spec.specs.Lists.{below, isIn}
 use Rattle.spec.specs.Params.{capacity}
@@ -31,6 +31,7 @@ use Rattle.proof_crash_items.specs.Segs.{OnDrives, zone-pointer-low, zone-len, 
 use Rattle.proof_crash_items.specs.Stripes.{stored-below, sealed-at-capacity, offset-on, in-has-chunk, counted-has, has-counted}
 use Rattle.proof_crash_items.specs.ZoneBytes.{blockIn}
 use Rattle.proof_crash_rebuilds.specs.Sorted.{rising-index, rising-least, onto}
+use Rattle.spec.specs.declared.Seg.{Seg}
 
 module _ (p : Params) (r : Ranged p) (g : Ghost) (v : View) (k : OnDrives p r g v) (m : ℕ) (c : Choice (parOf p r) (g .un) (isIn m)) where
   abbrev G : Seg → Segment
@@ -62,13 +63,13 @@ module _ (p : Params) (r : Ranged p) (g : Ghost) (v : View) (k : OnDrives p r g 
     off :
         (o : ℕ)
         → o < dataStored p (zoneAt v d (zoneOn z d))
-        → Off (itemsIn p v d (z .name)) (suc o) (chunk (recordOf (blockIn (zoneAt v d (zoneOn z d)) (suc o) .spare) .stripe)
+        → Off (itemsIn p v d (zoneOn z 0)) (suc o) (chunk (recordOf (blockIn (zoneAt v d (zoneOn z d)) (suc o) .spare) .stripe)
         (valueOf (blockIn (zoneAt v d (zoneOn z d)) (suc o) .block) (recordOf (blockIn (zoneAt v d (zoneOn z d)) (suc o) .spare))))
     off o w =
         let j : (o < p .S) × (suc o < zoneAt v d (zoneOn z d) .pointer) = stored-below p (zoneAt v d (zoneOn z d)) o w in
         subst (λ (y : List Item). Off y (suc o) (chunk (recordOf (blockIn (zoneAt v d (zoneOn z d)) (suc o) .spare) .stripe)
         (valueOf (blockIn (zoneAt v d (zoneOn z d)) (suc o) .block) (recordOf (blockIn (zoneAt v d (zoneOn z d)) (suc o) .spare)))))
-        (sym (items-in p v d z)) (unfold chunkItem in chunk-of p (zoneAt v d (zoneOn z d)) (zone-pointer-low p r g v k d z l (trusted p r g v k m c d l n) zb) o (j .0) (j .1))
+        (sym (items-in p v d z (omega arith) zb)) (unfold chunkItem in chunk-of p (zoneAt v d (zoneOn z d)) (zone-pointer-low p r g v k d z l (trusted p r g v k m c d l n) zb) o (j .0) (j .1))
 
     fact :
         (o : ℕ)
@@ -84,7 +85,7 @@ module _ (p : Params) (r : Ranged p) (g : Ghost) (v : View) (k : OnDrives p r g 
         let w : suc i ≡ suc j = zone-facts p r g v k d z l (trusted p r g v k m c d l n) .once (suc i) (suc j) (recordOf (blockIn (zoneAt v d (zoneOn z d)) (suc j) .spare) .stripe)
         (valueOf (blockIn (zoneAt v d (zoneOn z d)) (suc i) .block) (recordOf (blockIn (zoneAt v d (zoneOn z d)) (suc i) .spare)))
         (valueOf (blockIn (zoneAt v d (zoneOn z d)) (suc j) .block) (recordOf (blockIn (zoneAt v d (zoneOn z d)) (suc j) .spare)))
-        (subst (λ (s : ℕ). Off (itemsIn p v d (z .name)) (suc i)
+        (subst (λ (s : ℕ). Off (itemsIn p v d (zoneOn z 0)) (suc i)
         (chunk s (valueOf (blockIn (zoneAt v d (zoneOn z d)) (suc i) .block) (recordOf (blockIn (zoneAt v d (zoneOn z d)) (suc i) .spare))))) e
         (off i a)) (off j b) in
         omega (arith, w)
@@ -113,8 +114,8 @@ module _ (p : Params) (r : Ranged p) (g : Ghost) (v : View) (k : OnDrives p r g 
         in-has-chunk p r g v k m c z t d
         (valueOf (blockIn (zoneAt v d (zoneOn z d)) (suc (q * p .G + a .0)) .block) (recordOf (blockIn (zoneAt v d (zoneOn z d)) (suc (q * p .G + a .0)) .spare))) zb l n
         (subst (λ (s : ℕ). InI (chunk s (valueOf (blockIn (zoneAt v d (zoneOn z d)) (suc (q * p .G + a .0)) .block) (recordOf (blockIn (zoneAt v d (zoneOn z d)) (suc (q * p .G + a .0)) .spare))))
-        (itemsIn p v d (z .name))) u
-        (off-in (itemsIn p v d (z .name)) (suc (q * p .G + a .0))
+        (itemsIn p v d (zoneOn z 0))) u
+        (off-in (itemsIn p v d (zoneOn z 0)) (suc (q * p .G + a .0))
         (chunk (recordOf (blockIn (zoneAt v d (zoneOn z d)) (suc (q * p .G + a .0)) .spare) .stripe)
         (valueOf (blockIn (zoneAt v d (zoneOn z d)) (suc (q * p .G + a .0)) .block) (recordOf (blockIn (zoneAt v d (zoneOn z d)) (suc (q * p .G + a .0)) .spare))))
         (off (q * p .G + a .0) (inside (a .0) (a .1)))))
@@ -175,6 +176,6 @@ module _ (p : Params) (r : Ranged p) (g : Ghost) (v : View) (k : OnDrives p r g 
   pub sealed-counts : (z : Seg) (s : ℕ) → Named p z → sealedIn p v m z ≡ true → s < p .S → Has s (counted p m (G z))
   sealed-counts z s zb e sl = has-counted p r g v k m c z s sl (λ d l n.
       let t : g .un d ≡ false = trusted p r g v k m c d l n in
-      let b : length (itemsIn p v d (z .name)) ≡ capacity p = zone-len p r g v k d z l t zb ∙ sealed-at-capacity p r g v k m c z d e l n in
-      let x : (x : Val) × InI (chunk s x) (itemsIn p v d (z .name)) = zone-facts p r g v k d z l t .sealed (omega (arith, b, capacity-few p r)) s sl in
+      let b : length (itemsIn p v d (zoneOn z 0)) ≡ capacity p = zone-len p r g v k d z l t zb ∙ sealed-at-capacity p r g v k m c z d e l n in
+      let x : (x : Val) × InI (chunk s x) (itemsIn p v d (zoneOn z 0)) = zone-facts p r g v k d z l t .sealed (omega (arith, b, capacity-few p r)) s sl in
       in-has-chunk p r g v k m c z s d (x .0) zb l n (x .1))

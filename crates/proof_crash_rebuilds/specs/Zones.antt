@@ -9,7 +9,7 @@ use native.Mathlib.Omega.{arith}
 use lib.ListN.{length, getD, length-map}
 use lib.Seq.{ext-getD}
 use Rattle.spec.specs.declared.Params.{Params}
-use Rattle.spec.specs.Drives.{Chunk, mkChunk, Zone, View, zoneAt, pointerAt, chunkAt, Store, putZone, storeView, storeAll, Seg, zoneOn, dataStored, zeroSpare}
+use Rattle.spec.specs.Drives.{Chunk, mkChunk, Zone, View, zoneAt, pointerAt, chunkAt, Store, putZone, storeView, storeAll, zoneOn, dataStored, zeroSpare, zonesIn}
 use Rattle.spec.specs.Drives.Store.{put}
 use Rattle.spec.specs.Layout.{headerBlock, headerSerial, headerCopied, recordBytes, recordOf, footerBlock}
 use Rattle.spec.specs.Lists.{upFrom, below, isIn}
@@ -37,13 +37,14 @@ use Rattle.proof_crash_items.specs.Refuse.{rising-below}
 use Rattle.proof_crash_items.specs.SegFacts.{segment-fields, seg-low, begun-on, serial-ghost, copied-ghost, seg-used}
 use Rattle.proof_crash_items.specs.Segs.{OnDrives, zone-bytes, trusted, used-zones}
 use Rattle.proof_crash_items.specs.Shape.{Shape, zone-set-else, ZoneShape, shape-zone, shape-store, put-at, put-pointer-at}
-use Rattle.proof_crash_items.specs.Sound.{Sound, AllSound, sound-fits, Follows, follows-nil, follows-cons, follows-append, store-put, follows-list}
+use Rattle.proof_crash_items.specs.Sound.{Sound, AllSound, sound-fits, Follows, follows-nil, follows-cons, follows-append, store-put, follows-list, sound-put}
 use Rattle.proof_crash_items.specs.Stripes.{stored-below, pointer-is, offset-on, stored-piece, stored-block-long, counted-has, pieceAt, piece-lost}
 use Rattle.proof_crash_items.specs.Values.{pieceValue, blocks-of-long, pieces-long}
 use Rattle.proof_crash_items.specs.ZoneBytes.{sparesIn, blockIn, Kind, length-sparesIn, spare-in, kindItem, kind-item, old-block, put-new-block, old-spares}
 use Rattle.proof_crash_restarts.specs.MovedPlan.{moved-parity-wide}
 use Rattle.proof_crash_restarts.specs.Order.{rising-same}
 use Rattle.proof_crash_rebuilds.specs.Groups.{counted-rising, sealed-counts}
+use Rattle.spec.specs.declared.Seg.{Seg}
 
 pub puts-append : (d z : ℕ) (a b : List Item) → puts d z (a ++ b) ≡ puts d z a ++ puts d z b
 unfolding puts
@@ -82,7 +83,7 @@ on-other p r d z (s ∷ ss) v h f a l e y n =
 -- what segment z gets on drive d, where the drives m are missing
 unfoldable pub zoneItems : (p : Params) (r : Ranged p) (g : Ghost) (v : View) (k : OnDrives p r g v) (m : ℕ) (c : Choice (parOf p r) (g .un) (isIn m)) → ℕ → Seg → List Item
 zoneItems p r g v k m c d z =
-    hdr (g .hd .ser (z .name)) (g .hd .cop (z .name)) (g .hd .zn (z .name)) ∷ (map (λ s. chunk s (pieceAt p r g v k m c z s d)) (counted p m (segmentOf p v m z)) ++ cond
+    hdr (g .hd .ser (zoneOn z 0)) (g .hd .cop (zoneOn z 0)) (g .hd .zn (zoneOn z 0)) ∷ (map (λ s. chunk s (pieceAt p r g v k m c z s d)) (counted p m (segmentOf p v m z)) ++ cond
     (segmentOf p v m z .full) (map foot (below (footers p))) [])
 
 module _ (p : Params) (r : Ranged p) (g : Ghost) (v : View) (k : OnDrives p r g v) (d : ℕ) (c : Choice (parOf p r) (g .un) (isIn (named d))) (dl : d < p .N) (z : Seg)
@@ -152,13 +153,13 @@ module _ (p : Params) (r : Ranged p) (g : Ghost) (v : View) (k : OnDrives p r g 
     pub spares : (o : ℕ) → o < j → blockIn (zoneAt w d (zoneOn z d)) (suc o) .spare ≡ recordBytes (piece (getD cs o 0) .rec)
 
   rebuilt-row-step : (s j : ℕ) (w : View) → Has s cs → j < p .S → s ≡ getD cs j 0 → Rows j w
-      → Sound p w (putPiece d (zoneOn z d) (piece s)) × (storeItem p w (putPiece d (zoneOn z d) (piece s)) ≡ m-put d (z .name) (chunkIt s))
+      → Sound p w (putPiece d (zoneOn z d) (piece s)) × (storeItem p w (putPiece d (zoneOn z d) (piece s)) ≡ m-put d (zoneOn z 0) (chunkIt s))
       × Rows (suc j) (storeView (putPiece d (zoneOn z d) (piece s)) w)
   unfolding putPiece
   rebuilt-row-step s j w h jl e a =
-      let so : Sound p w (put d (zoneOn z d) (piece s .block) (recordBytes (piece s .rec))) = (dl, zl, kd) in (
+      let so : Sound p w (put d (zoneOn z d) (piece s .block) (recordBytes (piece s .rec))) = sound-put p w d z (piece s .block) (recordBytes (piece s .rec)) dl zb kd in (
         so,
-        store-put p w d z (piece s .block) (recordBytes (piece s .rec)) zb kd ∙ ap (m-put d (z .name)) item-is,
+        store-put p w d z (piece s .block) (recordBytes (piece s .rec)) dl zb kd ∙ ap (m-put d (zoneOn z 0)) item-is,
         record {
           shape =
               shape-store p w (put d (zoneOn z d) (piece s .block) (recordBytes (piece s .rec))) (a .shape)
@@ -168,7 +169,7 @@ module _ (p : Params) (r : Ranged p) (g : Ghost) (v : View) (k : OnDrives p r g 
         },
       )
     where
-      kd : Kind p d (zoneOn z d) (zoneAt w d (zoneOn z d)) (piece s .block) (recordBytes (piece s .rec))
+      kd : Kind p d z (zoneAt w d (zoneOn z d)) (piece s .block) (recordBytes (piece s .rec))
       kd = datum j (piece s .block) (piece s .rec) (pointer-is w d (zoneOn z d) ∙ a .at) jl (piece-length s h) (piece-fits s h)
 
       item-is : kindItem p d z (zoneAt w d (zoneOn z d)) (piece s .block) (recordBytes (piece s .rec)) kd ≡ chunkIt s
@@ -178,11 +179,11 @@ module _ (p : Params) (r : Ranged p) (g : Ghost) (v : View) (k : OnDrives p r g 
           (piece (getD cs o 0) .rec)
       go o ol (yes q) =
           ap (λ (x : ℕ). blockIn (putZone (piece s .block) (recordBytes (piece s .rec)) (zoneAt w d (zoneOn z d))) x .spare) (ap suc q ∙ sym (pointer-is w d (zoneOn z d) ∙ a .at))
-          ∙ ap (λ (x : Chunk). x .spare) (put-new-block p r d (zoneOn z d) (zoneAt w d (zoneOn z d)) (shape-zone p w (a .shape) d (zoneOn z d) dl zl) (piece s .block)
+          ∙ ap (λ (x : Chunk). x .spare) (put-new-block p r d z (zoneAt w d (zoneOn z d)) (shape-zone p w (a .shape) d (zoneOn z d) dl zl) (piece s .block)
           (recordBytes (piece s .rec)) (omega (arith, pointer-is w d (zoneOn z d) ∙ a .at, jl, capacity-few p r)))
           ∙ ap (λ (x : ℕ). recordBytes (piece x .rec)) (e ∙ ap (λ (x : ℕ). getD cs x 0) (sym q))
       go o ol (no q) =
-          ap (λ (x : Chunk). x .spare) (old-block p r d (zoneOn z d) (zoneAt w d (zoneOn z d)) (shape-zone p w (a .shape) d (zoneOn z d) dl zl) (piece s .block)
+          ap (λ (x : Chunk). x .spare) (old-block p r d z (zoneAt w d (zoneOn z d)) (shape-zone p w (a .shape) d (zoneOn z d) dl zl) (piece s .block)
           (recordBytes (piece s .rec)) (suc o) (omega (arith, pointer-is w d (zoneOn z d) ∙ a .at, q, ol)))
           ∙ a .spares o (omega arith)
 
@@ -191,17 +192,17 @@ module _ (p : Params) (r : Ranged p) (g : Ghost) (v : View) (k : OnDrives p r g 
 
   chunks-follow : (ss : List ℕ) (j : ℕ) → ((t : ℕ) → t < length ss → getD ss t 0 ≡ getD (counted p (named d) G) (j + t) 0) → j + length ss ≡ length (counted p (named d) G)
       → (w : View) → Rows j w
-      → Follows p w (map (putPiece d (zoneOn z d)) (map piece ss)) (puts d (z .name) (map chunkIt ss))
+      → Follows p w (map (putPiece d (zoneOn z d)) (map piece ss)) (puts d (zoneOn z 0) (map chunkIt ss))
       × Rows (length (counted p (named d) G)) (storeAll storeView (map (putPiece d (zoneOn z d)) (map piece ss)) w)
   unfolding puts storeAll storeItems
   chunks-follow [] j h e w a = (record { sound = tt; items = refl }, subst (λ (x : ℕ). Rows x w) (let q : j ≡ length cs = omega (arith, e) in q) a)
   chunks-follow (s ∷ ss) j h e w a =
       let q : s ≡ getD cs j 0 = h 0 (omega arith) ∙ ap (λ (x : ℕ). getD cs x 0) (let q : j + 0 ≡ j = omega arith in q) in
       let jl : j < length cs = omega (arith, e) in
-      let one : Sound p w (putPiece d (zoneOn z d) (piece s)) × (storeItem p w (putPiece d (zoneOn z d) (piece s)) ≡ m-put d (z .name) (chunkIt s))
+      let one : Sound p w (putPiece d (zoneOn z d) (piece s)) × (storeItem p w (putPiece d (zoneOn z d) (piece s)) ≡ m-put d (zoneOn z 0) (chunkIt s))
       × Rows (suc j) (storeView (putPiece d (zoneOn z d) (piece s)) w) =
       rebuilt-row-step s j w (subst (λ (x : ℕ). Has x cs) (sym q) (getD-has cs j 0 jl)) (omega (arith, jl, few-cs)) q a in
-      let more : Follows p (storeView (putPiece d (zoneOn z d) (piece s)) w) (map (putPiece d (zoneOn z d)) (map piece ss)) (puts d (z .name) (map chunkIt ss))
+      let more : Follows p (storeView (putPiece d (zoneOn z d) (piece s)) w) (map (putPiece d (zoneOn z d)) (map piece ss)) (puts d (zoneOn z 0) (map chunkIt ss))
       × Rows (length cs) (storeAll storeView (map (putPiece d (zoneOn z d)) (map piece ss)) (storeView (putPiece d (zoneOn z d) (piece s)) w)) =
       chunks-follow ss (suc j) (λ t l. h (suc t) (omega arith) ∙ ap (λ (x : ℕ). getD cs x 0) (let q : j + suc t ≡ suc j + t = omega arith in q))
       (omega (arith, e)) (storeView (putPiece d (zoneOn z d) (piece s)) w) (one .2) in
@@ -209,46 +210,48 @@ module _ (p : Params) (r : Ranged p) (g : Ghost) (v : View) (k : OnDrives p r g 
 
   -- ---- header
   abbrev hItem : Item
-  hItem = hdr (g .hd .ser (z .name)) (g .hd .cop (z .name)) (g .hd .zn (z .name))
+  hItem = hdr (g .hd .ser (zoneOn z 0)) (g .hd .cop (zoneOn z 0)) (g .hd .zn (zoneOn z 0))
 
   wide-heads : (G .serial < 256 ^ 8) × (G .copied < 256 ^ 8)
   wide-heads =
       let e : (lowDrive p (named d) < p .N) × (isIn (named d) (lowDrive p (named d)) ≡ false) = low-drive p (named d) r (c .0) in
       let t : g .un (lowDrive p (named d)) ≡ false = trusted p r g v k (named d) c (lowDrive p (named d)) (e .0) (e .1) in
       let b : 0 < pointerAt v (lowDrive p (named d)) (zoneOn z (lowDrive p (named d))) = begun-on p r g v k (named d) c z i (lowDrive p (named d)) (e .0) (e .1) in
-      let q : (headerSerial (blockIn (zoneAt v (lowDrive p (named d)) (zoneOn z (lowDrive p (named d)))) 0 .block) < 256 ^ 8)
-      × (headerCopied (blockIn (zoneAt v (lowDrive p (named d)) (zoneOn z (lowDrive p (named d)))) 0 .block) < 256 ^ 8) =
+      let q : (headerSerial p (blockIn (zoneAt v (lowDrive p (named d)) (zoneOn z (lowDrive p (named d)))) 0 .block) < 256 ^ 8)
+      × (headerCopied p (blockIn (zoneAt v (lowDrive p (named d)) (zoneOn z (lowDrive p (named d)))) 0 .block) < 256 ^ 8) =
       zone-bytes p r g v k (lowDrive p (named d)) z (e .0) t zb .serials (subst (λ (x : ℕ). 0 < x) (sym (pointer-is v (lowDrive p (named d)) (zoneOn z (lowDrive p (named d))))) b) in
       reveal q
     where
       reveal :
-          (headerSerial (blockIn (zoneAt v (lowDrive p (named d)) (zoneOn z (lowDrive p (named d)))) 0 .block) < 256 ^ 8) ×
-          (headerCopied (blockIn (zoneAt v (lowDrive p (named d)) (zoneOn z (lowDrive p (named d)))) 0 .block) < 256 ^ 8)
+          (headerSerial p (blockIn (zoneAt v (lowDrive p (named d)) (zoneOn z (lowDrive p (named d)))) 0 .block) < 256 ^ 8) ×
+          (headerCopied p (blockIn (zoneAt v (lowDrive p (named d)) (zoneOn z (lowDrive p (named d)))) 0 .block) < 256 ^ 8)
           → (G .serial < 256 ^ 8) × (G .copied < 256 ^ 8)
       reveal q = unfold segmentOf headerAt chunkAt in q
 
   header-step : (w : View) → Shape p w → pointerAt w d (zoneOn z d) ≡ 0
-      → Sound p w (put d (zoneOn z d) (headerBlock p d (zoneOn z d) (G .serial) (G .copied)) zeroSpare)
-      × (storeItem p w (put d (zoneOn z d) (headerBlock p d (zoneOn z d) (G .serial) (G .copied)) zeroSpare) ≡ m-put d (z .name) hItem)
-      × Rows 0 (storeView (put d (zoneOn z d) (headerBlock p d (zoneOn z d) (G .serial) (G .copied)) zeroSpare) w)
+      → Sound p w (put d (zoneOn z d) (headerBlock p d (zonesIn p z) (G .serial) (G .copied)) zeroSpare)
+      × (storeItem p w (put d (zoneOn z d) (headerBlock p d (zonesIn p z) (G .serial) (G .copied)) zeroSpare) ≡ m-put d (zoneOn z 0) hItem)
+      × Rows 0 (storeView (put d (zoneOn z d) (headerBlock p d (zonesIn p z) (G .serial) (G .copied)) zeroSpare) w)
   header-step w h e =
-      let so : Sound p w (put d (zoneOn z d) (headerBlock p d (zoneOn z d) (G .serial) (G .copied)) zeroSpare) = (dl, zl, kd) in (
+      let so : Sound p w (put d (zoneOn z d) (headerBlock p d (zonesIn p z) (G .serial) (G .copied)) zeroSpare) =
+      sound-put p w d z (headerBlock p d (zonesIn p z) (G .serial) (G .copied)) zeroSpare dl zb kd in (
         so,
-        store-put p w d z (headerBlock p d (zoneOn z d) (G .serial) (G .copied)) zeroSpare zb kd ∙ ap (m-put d (z .name)) item-is,
+        store-put p w d z (headerBlock p d (zonesIn p z) (G .serial) (G .copied)) zeroSpare dl zb kd ∙ ap (m-put d (zoneOn z 0)) item-is,
         record {
           shape =
-              shape-store p w (put d (zoneOn z d) (headerBlock p d (zoneOn z d) (G .serial) (G .copied)) zeroSpare) h
-              (sound-fits p r w (put d (zoneOn z d) (headerBlock p d (zoneOn z d) (G .serial) (G .copied)) zeroSpare) h so);
-          at = put-pointer-at p w h d (zoneOn z d) (headerBlock p d (zoneOn z d) (G .serial) (G .copied)) zeroSpare dl zl ∙ ap suc e;
+              shape-store p w (put d (zoneOn z d) (headerBlock p d (zonesIn p z) (G .serial) (G .copied)) zeroSpare) h
+              (sound-fits p r w (put d (zoneOn z d) (headerBlock p d (zonesIn p z) (G .serial) (G .copied)) zeroSpare) h so);
+          at = put-pointer-at p w h d (zoneOn z d) (headerBlock p d (zonesIn p z) (G .serial) (G .copied)) zeroSpare dl zl ∙ ap suc e;
           spares = λ o l. absurd (let q : ⊥ = omega arith in q);
         },
       )
     where
-      kd : Kind p d (zoneOn z d) (zoneAt w d (zoneOn z d)) (headerBlock p d (zoneOn z d) (G .serial) (G .copied)) zeroSpare
+      kd : Kind p d z (zoneAt w d (zoneOn z d)) (headerBlock p d (zonesIn p z) (G .serial) (G .copied)) zeroSpare
       kd = header (G .serial) (G .copied) (pointer-is w d (zoneOn z d) ∙ e) (omega (arith, dl, r .drives-high)) (omega (arith, zl, r .zones-high)) (wide-heads .0) (wide-heads .1)
 
-      item-is : kindItem p d z (zoneAt w d (zoneOn z d)) (headerBlock p d (zoneOn z d) (G .serial) (G .copied)) zeroSpare kd ≡ hItem
-      item-is = unfold kindItem in λ j. hdr (serial-ghost p r g v k (named d) c z i j) (copied-ghost p r g v k (named d) c z i j) (sym (used-zones p r g v k z (seg-used p r g v k (named d) c z i)) j)
+      item-is : kindItem p d z (zoneAt w d (zoneOn z d)) (headerBlock p d (zonesIn p z) (G .serial) (G .copied)) zeroSpare kd ≡ hItem
+      item-is = unfold kindItem in λ j. hdr (serial-ghost p r g v k (named d) c z i j) (copied-ghost p r g v k (named d) c z i j)
+          (sym (used-zones p r g v k z zb (seg-used p r g v k (named d) c z i)) j)
 
   -- ---- footers
   abbrev made : List (List ℕ)
@@ -284,26 +287,26 @@ module _ (p : Params) (r : Ranged p) (g : Ghost) (v : View) (k : OnDrives p r g 
 
   feet-step : (j : ℕ) (w : View) → j < footers p → Feet j w
       → Sound p w (put d (zoneOn z d) (footerBlock p made j) zeroSpare)
-      × (storeItem p w (put d (zoneOn z d) (footerBlock p made j) zeroSpare) ≡ m-put d (z .name) (foot j))
+      × (storeItem p w (put d (zoneOn z d) (footerBlock p made j) zeroSpare) ≡ m-put d (zoneOn z 0) (foot j))
       × Feet (suc j) (storeView (put d (zoneOn z d) (footerBlock p made j) zeroSpare) w)
   feet-step j w l a =
-      let so : Sound p w (put d (zoneOn z d) (footerBlock p made j) zeroSpare) = (dl, zl, kd) in (
+      let so : Sound p w (put d (zoneOn z d) (footerBlock p made j) zeroSpare) = sound-put p w d z (footerBlock p made j) zeroSpare dl zb kd in (
         so,
-        store-put p w d z (footerBlock p made j) zeroSpare zb kd ∙ ap (m-put d (z .name)) item-is,
+        store-put p w d z (footerBlock p made j) zeroSpare dl zb kd ∙ ap (m-put d (zoneOn z 0)) item-is,
         record {
           shape = shape-store p w (put d (zoneOn z d) (footerBlock p made j) zeroSpare) (a .shape) (sound-fits p r w (put d (zoneOn z d) (footerBlock p made j) zeroSpare) (a .shape) so);
           at = put-pointer-at p w (a .shape) d (zoneOn z d) (footerBlock p made j) zeroSpare dl zl ∙ ap suc (a .at) ∙ (let q : suc (suc (p .S + j)) ≡ suc (p .S + suc j) = omega arith in q);
           spares = ap (sparesIn p) (put-at p w (a .shape) d (zoneOn z d) (footerBlock p made j) zeroSpare dl zl)
-              ∙ old-spares p r d (zoneOn z d) (zoneAt w d (zoneOn z d)) (shape-zone p w (a .shape) d (zoneOn z d) dl zl) (footerBlock p made j) zeroSpare j (pointer-is w d (zoneOn z d) ∙ a .at)
+              ∙ old-spares p r d z (zoneAt w d (zoneOn z d)) (shape-zone p w (a .shape) d (zoneOn z d) dl zl) (footerBlock p made j) zeroSpare j (pointer-is w d (zoneOn z d) ∙ a .at)
               ∙ a .spares;
         },
       )
     where
-      kd : Kind p d (zoneOn z d) (zoneAt w d (zoneOn z d)) (footerBlock p made j) zeroSpare
-      kd = subst (λ (ss : List (List ℕ)). Kind p d (zoneOn z d) (zoneAt w d (zoneOn z d)) (footerBlock p ss j) zeroSpare) (a .spares) (footer j (pointer-is w d (zoneOn z d) ∙ a .at) l)
+      kd : Kind p d z (zoneAt w d (zoneOn z d)) (footerBlock p made j) zeroSpare
+      kd = subst (λ (ss : List (List ℕ)). Kind p d z (zoneAt w d (zoneOn z d)) (footerBlock p ss j) zeroSpare) (a .spares) (footer j (pointer-is w d (zoneOn z d) ∙ a .at) l)
 
       item-is : kindItem p d z (zoneAt w d (zoneOn z d)) (footerBlock p made j) zeroSpare kd ≡ foot j
-      item-is = sym (kind-item p d z (zoneAt w d (zoneOn z d)) (footerBlock p made j) zeroSpare zb kd)
+      item-is = sym (kind-item p d z (zoneAt w d (zoneOn z d)) (footerBlock p made j) zeroSpare dl zb kd)
           ∙ ap (λ (x : ℕ). itemAt p x (mkChunk (footerBlock p made j) zeroSpare)) (pointer-is w d (zoneOn z d) ∙ a .at)
           ∙ item-foot p (p .S + j) (mkChunk (footerBlock p made j) zeroSpare) (omega arith) ∙ ap foot (let e : p .S + j - p .S ≡ j = omega arith in e)
 
@@ -316,44 +319,43 @@ module _ (p : Params) (r : Ranged p) (g : Ghost) (v : View) (k : OnDrives p r g 
   fs = map (λ j. put d (zoneOn z d) (footerBlock p made j) zeroSpare) (below (footers p))
 
   abbrev hs : Store
-  hs = put d (zoneOn z d) (headerBlock p d (zoneOn z d) (G .serial) (G .copied)) zeroSpare
+  hs = put d (zoneOn z d) (headerBlock p d (zonesIn p z) (G .serial) (G .copied)) zeroSpare
 
-  feet-follow : (b : Bool) → G .full ≡ b → (w : View) → Rows (length (counted p (named d) G)) w → Follows p w (cond b fs []) (puts d (z .name) (cond b (map foot (below (footers p))) []))
+  feet-follow : (b : Bool) → G .full ≡ b → (w : View) → Rows (length (counted p (named d) G)) w → Follows p w (cond b fs []) (puts d (zoneOn z 0) (cond b (map foot (below (footers p))) []))
   unfolding below
-  feet-follow true e w a = subst (Follows p w (map (λ j. put d (zoneOn z d) (footerBlock p made j) zeroSpare) (upFrom 0 (footers p)))) (sym (puts-list d (z .name) foot 0 (footers p)))
-      (follows-list p Feet (λ j. put d (zoneOn z d) (footerBlock p made j) zeroSpare) (λ j. m-put d (z .name) (foot j)) (footers p) feet-step 0 (footers p) (omega arith) w
+  feet-follow true e w a = subst (Follows p w (map (λ j. put d (zoneOn z d) (footerBlock p made j) zeroSpare) (upFrom 0 (footers p)))) (sym (puts-list d (zoneOn z 0) foot 0 (footers p)))
+      (follows-list p Feet (λ j. put d (zoneOn z d) (footerBlock p made j) zeroSpare) (λ j. m-put d (zoneOn z 0) (foot j)) (footers p) feet-step 0 (footers p) (omega arith) w
       (feet-begin (full-counts-named e) w a))
   feet-follow false e w a = unfold puts in follows-nil p w
 
   rebuilt-zone-is : rebuiltZone p d G ≡ hs ∷ (map (putPiece d (zoneOn z d)) (map piece cs) ++ cond (G .full) fs [])
   unfolding rebuiltZone
   rebuilt-zone-is =
-      ap (λ (x : ℕ). put d x (headerBlock p d x (G .serial) (G .copied)) zeroSpare ∷
-      (map (putPiece d x) (map piece cs) ++ cond (G .full) (map (λ j. put d x (footerBlock p made j) zeroSpare) (below (footers p))) [])) seg-z
-    where
-      seg-z : zoneOn (G .seg) d ≡ zoneOn z d
-      seg-z = ap (λ (x : Seg). zoneOn x d) (segment-fields p r g v k (named d) c z .0)
+      ap (λ (x : Seg). put d (zoneOn x d) (headerBlock p d (zonesIn p x) (G .serial) (G .copied)) zeroSpare ∷
+      (map (putPiece d (zoneOn x d)) (map piece cs) ++ cond (G .full) (map (λ j. put d (zoneOn x d) (footerBlock p made j) zeroSpare) (below (footers p))) []))
+      (segment-fields p r g v k (named d) c z .0)
 
-  pub zone-follows : (w : View) → Shape p w → pointerAt w d (zoneOn z d) ≡ 0 → Follows p w (rebuiltZone p d G) (puts d (z .name) (zoneItems p r g v k (named d) c d z))
+  pub zone-follows : (w : View) → Shape p w → pointerAt w d (zoneOn z d) ≡ 0 → Follows p w (rebuiltZone p d G) (puts d (zoneOn z 0) (zoneItems p r g v k (named d) c d z))
   zone-follows w h e =
-      subst (λ (x : List Store). Follows p w x (puts d (z .name) (zoneItems p r g v k (named d) c d z))) (sym rebuilt-zone-is) (subst
+      subst (λ (x : List Store). Follows p w x (puts d (zoneOn z 0) (zoneItems p r g v k (named d) c d z))) (sym rebuilt-zone-is) (subst
       (Follows p w (hs ∷ (map (putPiece d (zoneOn z d)) (map piece cs) ++ cond (G .full) fs []))) (sym items-are)
-      (follows-cons p w hs (map (putPiece d (zoneOn z d)) (map piece cs) ++ cond (G .full) fs []) (m-put d (z .name) hItem)
-      (puts d (z .name) (map chunkIt cs) ++ puts d (z .name) (cond (G .full) (map foot (below (footers p))) [])) (a .0) (a .1)
-      (follows-append p (storeView hs w) (map (putPiece d (zoneOn z d)) (map piece cs)) (cond (G .full) fs []) (puts d (z .name) (map chunkIt cs))
-      (puts d (z .name) (cond (G .full) (map foot (below (footers p))) [])) (b .0)
+      (follows-cons p w hs (map (putPiece d (zoneOn z d)) (map piece cs) ++ cond (G .full) fs []) (m-put d (zoneOn z 0) hItem)
+      (puts d (zoneOn z 0) (map chunkIt cs) ++ puts d (zoneOn z 0) (cond (G .full) (map foot (below (footers p))) [])) (a .0) (a .1)
+      (follows-append p (storeView hs w) (map (putPiece d (zoneOn z d)) (map piece cs)) (cond (G .full) fs []) (puts d (zoneOn z 0) (map chunkIt cs))
+      (puts d (zoneOn z 0) (cond (G .full) (map foot (below (footers p))) [])) (b .0)
       (feet-follow (G .full) refl (storeAll storeView (map (putPiece d (zoneOn z d)) (map piece cs)) (storeView hs w)) (b .1)))))
     where
-      a : Sound p w hs × (storeItem p w hs ≡ m-put d (z .name) hItem) × Rows 0 (storeView hs w)
+      a : Sound p w hs × (storeItem p w hs ≡ m-put d (zoneOn z 0) hItem) × Rows 0 (storeView hs w)
       a = header-step w h e
 
-      b : Follows p (storeView hs w) (map (putPiece d (zoneOn z d)) (map piece cs)) (puts d (z .name) (map chunkIt cs))
+      b : Follows p (storeView hs w) (map (putPiece d (zoneOn z d)) (map piece cs)) (puts d (zoneOn z 0) (map chunkIt cs))
           × Rows (length cs) (storeAll storeView (map (putPiece d (zoneOn z d)) (map piece cs)) (storeView hs w))
       b = chunks-follow cs 0 (λ t l. ap (λ (x : ℕ). getD cs x 0) (let q : t ≡ 0 + t = omega arith in q)) (omega arith) (storeView hs w) (a .2)
 
-      items-are : puts d (z .name) (zoneItems p r g v k (named d) c d z)
-          ≡ m-put d (z .name) hItem ∷ (puts d (z .name) (map chunkIt cs) ++ puts d (z .name) (cond (G .full) (map foot (below (footers p))) []))
-      items-are = unfold zoneItems puts in ap (λ (l : List ItemStore). m-put d (z .name) hItem ∷ l) (puts-append d (z .name) (map chunkIt cs) (cond (G .full) (map foot (below (footers p))) []))
+      items-are : puts d (zoneOn z 0) (zoneItems p r g v k (named d) c d z)
+          ≡ m-put d (zoneOn z 0) hItem ∷ (puts d (zoneOn z 0) (map chunkIt cs) ++ puts d (zoneOn z 0) (cond (G .full) (map foot (below (footers p))) []))
+      items-are = unfold zoneItems puts in
+          ap (λ (l : List ItemStore). m-put d (zoneOn z 0) hItem ∷ l) (puts-append d (zoneOn z 0) (map chunkIt cs) (cond (G .full) (map foot (below (footers p))) []))
 
   -- all of it on its zone of drive d
   pub zone-on : AllOn d (zoneOn z d) (rebuiltZone p d G)
@@ -367,7 +369,7 @@ module _ (p : Params) (r : Ranged p) (g : Ghost) (v : View) (k : OnDrives p r g 
       feet-on false q = absurd q
 
       go : Has s (hs ∷ (map (putPiece d (zoneOn z d)) (map piece cs) ++ cond (G .full) fs [])) → (x : List ℕ) × (t : List ℕ) × (s ≡ put d (zoneOn z d) x t)
-      go (inl e) = (headerBlock p d (zoneOn z d) (G .serial) (G .copied), zeroSpare, e)
+      go (inl e) = (headerBlock p d (zonesIn p z) (G .serial) (G .copied), zeroSpare, e)
       go (inr q) =
           ⊎-elim (λ (y : Has s (map (putPiece d (zoneOn z d)) (map piece cs))). chunk-on y) (λ (y : Has s (cond (G .full) fs [])). feet-on (G .full) y)
           (append-has s (map (putPiece d (zoneOn z d)) (map piece cs)) (cond (G .full) fs []) q)

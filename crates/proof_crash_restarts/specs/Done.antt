@@ -5,7 +5,7 @@ use mathlib.Core.Bool.{Bool, true, false}
 use Prim.Native.Nat.{ℕ, _≤_, _<_}
 use lib.ListN.{set}
 use Rattle.spec.specs.declared.Params.{Params}
-use Rattle.spec.specs.Drives.{View, Seg, seg}
+use Rattle.spec.specs.Drives.{View, zoneOn}
 use Rattle.spec.specs.Lists.Opt.{none}
 use Rattle.spec.specs.Segments.{segments, candidates, greatestStamp, greatestSerial}
 use Rattle.law_basic.specs.Geometry.{Ranged}
@@ -27,6 +27,7 @@ use Rattle.proof_crash_items.specs.Ranges.{parOf}
 use Rattle.proof_crash_restarts.specs.Ends.{InOrder, Opened, none-choice, tidy, opened-is, ends-reads, ends-stamps, ends-serials}
 use Rattle.proof_crash_restarts.specs.Link.{stateOn, Linked, linked-step, SameHistory}
 use Rattle.proof_crash_restarts.specs.Rest.{SettledOn}
+use Rattle.spec.specs.declared.Seg.{Seg}
 
 unfoldable pub stampTop : Params → View → ℕ
 stampTop p v = greatestStamp (candidates p 0 (segments p v 0))
@@ -46,7 +47,8 @@ pub record RestartDone (p : Params) (r : Ranged p) (g : Ghost) (a : List Val) (s
   pub z : Seg
   pub n : ℕ
   pub opened : Opened p r g′ u b z n
-  pub linked : Linked p r u (finishing g′ (g′ .un) (readOn p r g′ u set) (stampTop p u) (upTo (stampTop p u) (g′ .sent))) a false (run (restMem b (z .name) n (stampTop p u) (serialTop p u)))
+  pub linked : Linked p r u (finishing g′ (g′ .un) (readOn p r g′ u set) (stampTop p u) (upTo (stampTop p u) (g′ .sent))) a false
+      (run (restMem b (zoneOn z 0) n (stampTop p u) (serialTop p u)))
   -- what is claimed of it, for the history before it
   pub acked : (x : Val) → InV x a → x .stamp ≤ readOn p r g′ u set (x .addr)
   pub sent : (i : ℕ) → 0 < readOn p r g′ u set i → (x : Val) × InV x (g .sent) × (x .addr ≡ i) × (x .stamp ≡ readOn p r g′ u set i)
@@ -63,7 +65,7 @@ module _ (p : Params) (r : Ranged p) (v u : View) (g : Ghost) (a : List Val) (s 
 
   tid : (d z s : ℕ) (x : Val) → d < p .N → Unsealed (parOf p r) (itemsIn p u) z → InI (chunk s x) (itemsIn p u d z) → (f : ℕ → Val)
       × Stripe (parOf p r) (itemsIn p u) (g .un) z s f × (f d ≡ x)
-  tid d z = tidy p r (withPr g alone) u set ord d (seg z)
+  tid = tidy p r (withPr g alone) u set ord
 
   done-reads : Reads (parOf p r) (g .hd) (itemsIn p u) (g .un) (readOn p r (withPr g alone) u set)
   done-reads = unfold readOn in ends-reads p r (withPr g alone) u set
@@ -79,24 +81,24 @@ module _ (p : Params) (r : Ranged p) (v u : View) (g : Ghost) (a : List Val) (s 
     v = itemsIn p u;
     acked = a;
     since = false;
-    mode = run (restMem (o .0) (o .1 .name) (o .2) (stampTop p u) (serialTop p u));
+    mode = run (restMem (o .0) (zoneOn (o .1) 0) (o .2) (stampTop p u) (serialTop p u));
   })
   done-step = subst (λ (w : ItemView).
       ((d z s : ℕ) (x : Val) → d < p .N → Unsealed (parOf p r) w z → InI (chunk s x) (w d z) → (f : ℕ → Val) × Stripe (parOf p r) w (g .un) z s f × (f d ≡ x))
       → Reads (parOf p r) (g .hd) w (g .un) (readOn p r (withPr g alone) u set)
       → ((x : Val) → Counted (parOf p r) (g .hd) w (g .un) x → x .stamp ≤ stampTop p u)
-      → ((y : ℕ) → Ragged (parOf p r) (g .un) w y → (o .0 ≡ true) × (y ≡ o .1 .name))
-      → (o .0 ≡ true → WholeZone (parOf p r) (g .un) w (o .1 .name))
-      → (o .0 ≡ true → (e s : ℕ) (x : Val) → e < p .N → InI (chunk s x) (w e (o .1 .name)) → s < o .2)
+      → ((y : ℕ) → Ragged (parOf p r) (g .un) w y → (o .0 ≡ true) × (y ≡ zoneOn (o .1) 0))
+      → (o .0 ≡ true → WholeZone (parOf p r) (g .un) w (zoneOn (o .1) 0))
+      → (o .0 ≡ true → (e s : ℕ) (x : Val) → e < p .N → InI (chunk s x) (w e (zoneOn (o .1) 0)) → s < o .2)
       → ((y : ℕ) → Used (parOf p r) (g .un) w y → g .hd .ser y ≤ serialTop p u)
       → Step (parOf p r) (stateOn p v g a s m) (record {
         g = finishing (withPr g alone) (g .un) (readOn p r (withPr g alone) u set) (stampTop p u) (upTo (stampTop p u) (g .sent));
         v = w;
         acked = a;
         since = false;
-        mode = run (restMem (o .0) (o .1 .name) (o .2) (stampTop p u) (serialTop p u));
+        mode = run (restMem (o .0) (zoneOn (o .1) 0) (o .2) (stampTop p u) (serialTop p u));
       })) e
-      (λ t rd up rg wh bl sr. restart-plain (stateOn p v g a s m) none ms d t (readOn p r (withPr g alone) u set) (stampTop p u) rd up (o .0) (o .1 .name) (o .2) (o .3 .few) rg wh bl
+      (λ t rd up rg wh bl sr. restart-plain (stateOn p v g a s m) none ms d t (readOn p r (withPr g alone) u set) (stampTop p u) rd up (o .0) (zoneOn (o .1) 0) (o .2) (o .3 .few) rg wh bl
       (serialTop p u) sr)
       tid done-reads done-stamps (o .3 .lone) (o .3 .whole) (o .3 .low) done-serials
 
@@ -114,7 +116,7 @@ module _ (p : Params) (r : Ranged p) (v u : View) (g : Ghost) (a : List Val) (s 
     n = o .2;
     opened = o .3;
     linked = linked-step p r v u g (finishing (withPr g alone) (g .un) (readOn p r (withPr g alone) u set) (stampTop p u) (upTo (stampTop p u) (g .sent))) a a s false m
-        (run (restMem (o .0) (o .1 .name) (o .2) (stampTop p u) (serialTop p u))) (itemsIn p u) k done-step refl (set .on .shape) (set .on .bytes);
+        (run (restMem (o .0) (zoneOn (o .1) 0) (o .2) (stampTop p u) (serialTop p u))) (itemsIn p u) k done-step refl (set .on .shape) (set .on .bytes);
     acked = done-claim .acked;
     sent = done-claim .sent;
     floor = done-claim .floor;

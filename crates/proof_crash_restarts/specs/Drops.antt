@@ -6,7 +6,7 @@ use mathlib.Core.Logic.{inl, inr, _≢_}
 use Prim.Native.Nat.{ℕ, _<_}
 use lib.ListN.{length}
 use Rattle.spec.specs.declared.Params.{Params}
-use Rattle.spec.specs.Drives.{Zone, View, zoneAt, pointerAt, resetZone, storeView, storeAll, Seg, seg, sameSeg, allSegs, zoneOn, resetStores}
+use Rattle.spec.specs.Drives.{Zone, View, zoneAt, pointerAt, resetZone, storeView, storeAll, sameSeg, allSegs, zoneOn, resetStores, across}
 use Rattle.spec.specs.Drives.Store.{reset}
 use Rattle.spec.specs.Lists.Opt.{none}
 use Rattle.spec.specs.Lists.{any, flat, isIn}
@@ -14,12 +14,12 @@ use Rattle.spec.specs.Params.{drivesOf}
 use Rattle.spec.specs.Restart.{dropStores, freeSegs}
 use Rattle.spec.specs.Segments.{remaining, Segment, segmentOf, segments}
 use Rattle.law_basic.specs.Geometry.{Ranged}
-use Rattle.law_basic.specs.Segs.{seg-same, seg-other, Named, zone-on-lt, other-zone}
+use Rattle.law_basic.specs.Segs.{seg-same, seg-other, Named, zone-on-lt, other-zone, seg-named}
 use Rattle.law_basic.specs.Stores.{storeAll-append}
 use Rattle.law_drives.specs.Segs.{seg-is}
 use Rattle.proof_crash_machine.specs.Drop.{DropOf}
 use Rattle.proof_crash_machine.specs.Exec.{not-2}
-use Rattle.proof_crash_machine.specs.Facts.{Ghost, None}
+use Rattle.proof_crash_machine.specs.Facts.{R, Ghost, None}
 use Rattle.proof_crash_machine.specs.History.{Dropping}
 use Rattle.proof_crash_machine.specs.Rest.{InS, Dropped}
 use Rattle.proof_crash_machine.specs.View.{ItemStore, AllS}
@@ -27,46 +27,47 @@ use Rattle.proof_crash_machine.specs.View.ItemStore.{reset as m-reset}
 use Rattle.proof_crash_items.specs.Items.{itemsIn, storeItems}
 use Rattle.proof_crash_items.specs.Member.{Has, keep-has, has-keep, below-has, has-below, has-any, none-any, flat-has, has-flat, map-has, has-map}
 use Rattle.proof_crash_items.specs.Ranges.{parOf}
-use Rattle.proof_crash_items.specs.Segs.{OnDrives, has-segs, segs-has, has-remaining, remaining-has, used-below}
+use Rattle.proof_crash_items.specs.Segs.{OnDrives, has-segs, segs-has, has-remaining, remaining-has, used-below, number-self}
 use Rattle.proof_crash_items.specs.Shape.{Shape, zone-set-at, zone-set-else, set-elim, shape-store, shape-stores}
 use Rattle.proof_crash_items.specs.Sound.{sounds-fit, Follows, store-reset}
 use Rattle.proof_crash_items.specs.Named.{zero-choice, none-out}
 use Rattle.proof_crash_restarts.specs.Order.{all-S, in-S, follows-flat}
 use Rattle.proof_crash_restarts.specs.Same.{R-none-any}
+use Rattle.spec.specs.declared.Seg.{Seg}
 
 unfoldable pub dropItems : Params → List Segment → List ItemStore
-dropItems p gs = flat (λ z. map (λ d. m-reset d (z .name)) (drivesOf p)) (freeSegs p gs)
+dropItems p gs = flat (λ z. map (λ d. m-reset d (zoneOn z 0)) (drivesOf p)) (freeSegs p gs)
 
 -- resets on one segment follow, whatever the drives hold
 resets-follow : (p : Params) (z : Seg) → Named p z → (l : List ℕ) → ((d : ℕ) → Has d l → d < p .N) → (v : View)
-    → Follows p v (map (λ d. reset d (zoneOn z d)) l) (map (λ d. m-reset d (z .name)) l)
+    → Follows p v (map (λ d. reset d (zoneOn z d)) l) (map (λ d. m-reset d (zoneOn z 0)) l)
 unfolding storeItems
 resets-follow p z b [] h v = record { sound = tt; items = refl }
 resets-follow p z b (d ∷ l) h v =
-    let a : Follows p (storeView (reset d (zoneOn z d)) v) (map (λ d. reset d (zoneOn z d)) l) (map (λ d. m-reset d (z .name)) l) =
+    let a : Follows p (storeView (reset d (zoneOn z d)) v) (map (λ d. reset d (zoneOn z d)) l) (map (λ d. m-reset d (zoneOn z 0)) l) =
     resets-follow p z b l (λ e i. h e (inr i)) (storeView (reset d (zoneOn z d)) v) in
     record {
       sound = ((h d (inl refl), zone-on-lt p z d b), a .sound);
-      items = ap₂ (λ (x : ItemStore) (y : List ItemStore). x ∷ y) (store-reset p v d z b) (a .items);
+      items = ap₂ (λ (x : ItemStore) (y : List ItemStore). x ∷ y) (store-reset p v d z (h d (inl refl)) b) (a .items);
     }
 
-pub reset-follows : (p : Params) (z : Seg) → Named p z → (v : View) → Follows p v (resetStores p z) (map (λ d. m-reset d (z .name)) (drivesOf p))
+pub reset-follows : (p : Params) (z : Seg) → Named p z → (v : View) → Follows p v (resetStores p z) (map (λ d. m-reset d (zoneOn z 0)) (drivesOf p))
 unfolding resetStores
 reset-follows p z b v = resets-follow p z b (drivesOf p) (λ d i. (unfold drivesOf in below-has d (p .N) i)) v
 
 -- ---- what resets leave
 
 -- zones of other segments
-pub drops-other : (p : Params) (z : Seg) → Named p z → (l : List ℕ) → ((d : ℕ) → Has d l → d < p .N) → (v : View) → Shape p v → (e : ℕ) (y : Seg) → y ≢ z
+pub drops-other : (p : Params) (z : Seg) → Named p z → (l : List ℕ) → ((d : ℕ) → Has d l → d < p .N) → (v : View) → Shape p v → (e : ℕ) (y : Seg) → Named p y → y ≢ z
     → zoneAt (storeAll storeView (map (λ d. reset d (zoneOn z d)) l) v) e (zoneOn y e) ≡ zoneAt v e (zoneOn y e)
 unfolding storeAll
-drops-other p z b [] h v s e y n = refl
-drops-other p z b (d ∷ l) h v s e y n =
-    drops-other p z b l (λ e i. h e (inr i)) (storeView (reset d (zoneOn z d)) v) (shape-store p v (reset d (zoneOn z d)) s (h d (inl refl), zone-on-lt p z d b)) e y n
+drops-other p z b [] h v s e y c n = refl
+drops-other p z b (d ∷ l) h v s e y c n =
+    drops-other p z b l (λ e i. h e (inr i)) (storeView (reset d (zoneOn z d)) v) (shape-store p v (reset d (zoneOn z d)) s (h d (inl refl), zone-on-lt p z d b)) e y c n
     ∙ one
   where
     one : zoneAt (storeView (reset d (zoneOn z d)) v) e (zoneOn y e) ≡ zoneAt v e (zoneOn y e)
-    one = unfold storeView in zone-set-else p v s d (zoneOn z d) (resetZone (zoneAt v d (zoneOn z d))) (h d (inl refl)) e (zoneOn y e) (other-zone p y z e d b (inr n))
+    one = unfold storeView in zone-set-else p v s d (zoneOn z d) (resetZone (zoneAt v d (zoneOn z d))) (h d (inl refl)) e (zoneOn y e) (other-zone p y z e d (h d (inl refl)) c b (inr n))
 
 -- pointers that are 0 stay 0
 zero-kept : (p : Params) (z d : ℕ) → z < p .Z → d < p .N → (v : View) → Shape p v → (e y : ℕ) → pointerAt v e y ≡ 0 → pointerAt (storeView (reset d z) v) e y ≡ 0
@@ -106,17 +107,17 @@ module _ (p : Params) (r : Ranged p) where
   shape-resets : (z : Seg) → Named p z → (v : View) → Shape p v → Shape p (storeAll storeView (resetStores p z) v)
   shape-resets z b v s = shape-stores p v (resetStores p z) s (sounds-fit p r v (resetStores p z) s (reset-follows p z b v .sound))
 
-  pub all-other : (l : List Seg) → ((z : Seg) → Has z l → Named p z) → (v : View) → Shape p v → (e : ℕ) (y : Seg) → (Has y l → ⊥)
+  pub all-other : (l : List Seg) → ((z : Seg) → Has z l → Named p z) → (v : View) → Shape p v → (e : ℕ) (y : Seg) → Named p y → (Has y l → ⊥)
       → zoneAt (storeAll storeView (flat (resetStores p) l) v) e (zoneOn y e) ≡ zoneAt v e (zoneOn y e)
   unfolding flat storeAll
-  all-other [] h v s e y n = refl
-  all-other (z ∷ l) h v s e y n =
+  all-other [] h v s e y c n = refl
+  all-other (z ∷ l) h v s e y c n =
       ap (λ (x : View). zoneAt x e (zoneOn y e)) (storeAll-append storeView (resetStores p z) (flat (resetStores p) l) v)
-      ∙ all-other l (λ x i. h x (inr i)) (storeAll storeView (resetStores p z) v) (shape-resets z (h z (inl refl)) v s) e y (λ i. n (inr i))
+      ∙ all-other l (λ x i. h x (inr i)) (storeAll storeView (resetStores p z) v) (shape-resets z (h z (inl refl)) v s) e y c (λ i. n (inr i))
       ∙ one
     where
       one : zoneAt (storeAll storeView (resetStores p z) v) e (zoneOn y e) ≡ zoneAt v e (zoneOn y e)
-      one = unfold resetStores in drops-other p z (h z (inl refl)) (drivesOf p) drives-low v s e y (λ q. n (inl q))
+      one = unfold resetStores in drops-other p z (h z (inl refl)) (drivesOf p) drives-low v s e y c (λ q. n (inl q))
 
   zeros-all : (l : List Seg) → ((z : Seg) → Has z l → Named p z) → (v : View) → Shape p v → (e y : ℕ) → pointerAt v e y ≡ 0
       → pointerAt (storeAll storeView (flat (resetStores p) l) v) e y ≡ 0
@@ -166,7 +167,7 @@ module _ (p : Params) (r : Ranged p) where
   pub drops-follow : (v u : View) (gone : ℕ) → Follows p u (dropStores p (segments p v gone)) (dropItems p (segments p v gone))
   unfolding dropStores dropItems
   drops-follow v u gone =
-      follows-flat p (resetStores p) (λ z. map (λ d. m-reset d (z .name)) (drivesOf p)) (freeSegs p (segments p v gone)) (λ x z i. reset-follows p z (free-has v gone z i .0) x) u
+      follows-flat p (resetStores p) (λ z. map (λ d. m-reset d (zoneOn z 0)) (drivesOf p)) (freeSegs p (segments p v gone)) (λ x z i. reset-follows p z (free-has v gone z i .0) x) u
 
 -- ---- the machine's Dropping
 
@@ -174,28 +175,30 @@ module _ (p : Params) (r : Ranged p) (g : Ghost) (v : View) (k : OnDrives p r g 
   far : None (parOf p r) (isIn 0)
   far = none-out p r
 
-  gone-of : (z : Seg) → (Has z (remaining p v 0) → ⊥) → Dropped (parOf p r) g (itemsIn p v) (z .name)
-  gone-of z n q = n (has-remaining p r g v k 0 (zero-choice p r (g .un) none) z (R-none-any (parOf p r) (g .hd) (itemsIn p v) (g .un) (isIn 0) none far (z .name) q))
+  gone-of : (z : Seg) → Named p z → (Has z (remaining p v 0) → ⊥) → Dropped (parOf p r) g (itemsIn p v) (zoneOn z 0)
+  gone-of z b n q = n (has-remaining p r g v k 0 (zero-choice p r (g .un) none) z b (R-none-any (parOf p r) (g .hd) (itemsIn p v) (g .un) (isIn 0) none far (zoneOn z 0) q))
 
-  of-gone : (z : Seg) → Dropped (parOf p r) g (itemsIn p v) (z .name) → Has z (remaining p v 0) → ⊥
-  of-gone z q i = q (R-none-any (parOf p r) (g .hd) (itemsIn p v) (isIn 0) (g .un) far none (z .name) (remaining-has p r g v k 0 (zero-choice p r (g .un) none) z i .1))
+  of-gone : (n : ℕ) → Dropped (parOf p r) g (itemsIn p v) n → Has (across p n) (remaining p v 0) → ⊥
+  of-gone n q i = q (R-none-any (parOf p r) (g .hd) (itemsIn p v) (isIn 0) (g .un) far none n
+      (subst (R (parOf p r) (g .hd) (itemsIn p v) (isIn 0)) (number-self p r n) (remaining-has p r g v k 0 (zero-choice p r (g .un) none) (across p n) i .1)))
 
   pub dropping : Dropping (parOf p r) g (itemsIn p v) none (dropItems p (segments p v 0))
   unfolding dropItems
   dropping = record { are = are; every = every }
     where
       ms : List ItemStore
-      ms = flat (λ z. map (λ d. m-reset d (z .name)) (drivesOf p)) (freeSegs p (segments p v 0))
+      ms = flat (λ z. map (λ d. m-reset d (zoneOn z 0)) (drivesOf p)) (freeSegs p (segments p v 0))
 
-      are : AllS (DropOf (parOf p r) g none (Dropped (parOf p r) g (itemsIn p v))) (flat (λ z. map (λ d. m-reset d (z .name)) (drivesOf p)) (freeSegs p (segments p v 0)))
+      are : AllS (DropOf (parOf p r) g none (Dropped (parOf p r) g (itemsIn p v))) (flat (λ z. map (λ d. m-reset d (zoneOn z 0)) (drivesOf p)) (freeSegs p (segments p v 0)))
       are = all-S (DropOf (parOf p r) g none (Dropped (parOf p r) g (itemsIn p v))) ms (λ s i.
-          let a : (z : Seg) × Has z (freeSegs p (segments p v 0)) × Has s (map (λ d. m-reset d (z .name)) (drivesOf p)) =
-          flat-has (λ z. map (λ d. m-reset d (z .name)) (drivesOf p)) s (freeSegs p (segments p v 0)) i in
-          let b : (d : ℕ) × Has d (drivesOf p) × (s ≡ m-reset d (a .0 .name)) = map-has (λ d. m-reset d (a .0 .name)) s (drivesOf p) (a .2) in
-          (b .0, a .0 .name, drives-low p r (b .0) (b .1), gone-of (a .0) (free-has p r v 0 (a .0) (a .1) .1), b .2))
+          let a : (z : Seg) × Has z (freeSegs p (segments p v 0)) × Has s (map (λ d. m-reset d (zoneOn z 0)) (drivesOf p)) =
+          flat-has (λ z. map (λ d. m-reset d (zoneOn z 0)) (drivesOf p)) s (freeSegs p (segments p v 0)) i in
+          let b : (d : ℕ) × Has d (drivesOf p) × (s ≡ m-reset d (zoneOn (a .0) 0)) = map-has (λ d. m-reset d (zoneOn (a .0) 0)) s (drivesOf p) (a .2) in
+          (b .0, zoneOn (a .0) 0, drives-low p r (b .0) (b .1), gone-of (a .0) (free-has p r v 0 (a .0) (a .1) .0) (free-has p r v 0 (a .0) (a .1) .1), b .2))
 
       every : (n : ℕ) → Dropped (parOf p r) g (itemsIn p v) n → (d : ℕ) → d < p .N → 0 < length (itemsIn p v d n)
-          → InS (m-reset d n) (flat (λ z. map (λ d. m-reset d (z .name)) (drivesOf p)) (freeSegs p (segments p v 0)))
-      every n q d l u = in-S (m-reset d n) ms (has-flat (λ z. map (λ d. m-reset d (z .name)) (drivesOf p)) (m-reset d n) (freeSegs p (segments p v 0)) (seg n)
-          (has-free p r v 0 (seg n) (used-below p r g v k (seg n) (d, (l, none d l), u)) (of-gone (seg n) q))
-          (has-map (λ d. m-reset d n) (drivesOf p) d (unfold drivesOf in has-below d (p .N) l)))
+          → InS (m-reset d n) (flat (λ z. map (λ d. m-reset d (zoneOn z 0)) (drivesOf p)) (freeSegs p (segments p v 0)))
+      every n q d l u = in-S (m-reset d n) ms (has-flat (λ z. map (λ d. m-reset d (zoneOn z 0)) (drivesOf p)) (m-reset d n) (freeSegs p (segments p v 0)) (across p n)
+          (has-free p r v 0 (across p n) (seg-named p n (used-below p r g v k n (d, (l, none d l), u))) (of-gone n q))
+          (subst (λ (y : ℕ). Has (m-reset d y) (map (λ d. m-reset d (zoneOn (across p n) 0)) (drivesOf p))) (number-self p r n)
+          (has-map (λ d. m-reset d (zoneOn (across p n) 0)) (drivesOf p) d (unfold drivesOf in has-below d (p .N) l))))

@@ -10,7 +10,7 @@ use native.Mathlib.Omega.{arith}
 use lib.Dec.{eqb}
 use lib.ListN.{length, getD, set}
 use Rattle.spec.specs.declared.Params.{Params}
-use Rattle.spec.specs.Drives.{Zone, noZone, View, zoneAt, pointerAt, Store, putZone, storeView, storeAll, Seg, zoneOn, sealedIn, dataStored, footersOf, zeroSpare, footerStores}
+use Rattle.spec.specs.Drives.{Zone, noZone, View, zoneAt, pointerAt, Store, putZone, storeView, storeAll, zoneOn, sealedIn, dataStored, footersOf, zeroSpare, footerStores}
 use Rattle.spec.specs.Drives.Store.{put}
 use Rattle.spec.specs.Faults.{footersStored}
 use Rattle.spec.specs.Layout.{recordOf, footerBlock}
@@ -40,7 +40,7 @@ use Rattle.proof_crash_items.specs.Named.{all-on-present, zero-few}
 use Rattle.proof_crash_items.specs.Ranges.{parOf}
 use Rattle.proof_crash_items.specs.Segs.{zone-bytes, zone-len}
 use Rattle.proof_crash_items.specs.Shape.{Shape, zone-set-at, zone-set-else, shape-zone, shape-store}
-use Rattle.proof_crash_items.specs.Sound.{Sound, AllSound, sound-fits, bytes-store, items-put-kind}
+use Rattle.proof_crash_items.specs.Sound.{Sound, AllSound, sound-fits, bytes-store, items-put-kind, sound-put}
 use Rattle.proof_crash_items.specs.Stripes.{pointer-is, offset-on, counted-has, pieceAt, counted-stripe}
 use Rattle.proof_crash_items.specs.ZoneBytes.{sparesIn, blockIn, Kind, kindItem, old-spares}
 use Rattle.proof_crash_restarts.specs.Ends.{InOrder, none-choice, full-sealed, one-of}
@@ -49,6 +49,7 @@ use Rattle.proof_crash_restarts.specs.Order.{flat-same, pointer-zone}
 use Rattle.proof_crash_restarts.specs.Rest.{SettledOn, far-off, settled-remains, settled-used}
 use Rattle.proof_crash_restarts.specs.Runs.{Always, run-always, run-end, runs-always, runs-end, run-sound, runs-sound}
 use Rattle.proof_crash_restarts.specs.Same.{segment-same}
+use Rattle.spec.specs.declared.Seg.{Seg}
 
 -- all pass where none is left out
 keep-whole : {A : Type 0} (f : A → Bool) (l : List A) → length (keep f l) ≡ length l → (a : A) → Has a l → f a ≡ true
@@ -73,7 +74,7 @@ module _ (p : Params) (r : Ranged p) (g₀ : Ghost) (a : List Val) (s : Bool) wh
   pub record Footing (o : Seg) (w : View) : Type 0 where
     pub linked : Linked p r w (withPr g₀ alone) a s off
     pub set : SettledOn p r (withPr g₀ alone) w
-    pub stripes : (d t : ℕ) → d < p .N → t < p .S → (x : Val) × InI (chunk t x) (itemsIn p w d (o .name))
+    pub stripes : (d t : ℕ) → d < p .N → t < p .S → (x : Val) × InI (chunk t x) (itemsIn p w d (zoneOn o 0))
 
   module _ (o : Seg) (ob : Named p o) where
     -- footer j of o on drive d, made from the spares there
@@ -81,22 +82,22 @@ module _ (p : Params) (r : Ranged p) (g₀ : Ghost) (a : List Val) (s : Bool) wh
     footStore w d j = put d (zoneOn o d) (footerBlock p (sparesIn p (zoneAt w d (zoneOn o d))) j) zeroSpare
 
     foot-kind : (w : View) (d j : ℕ) → pointerAt w d (zoneOn o d) ≡ suc (p .S + j) → j < footers p
-        → Kind p d (zoneOn o d) (zoneAt w d (zoneOn o d)) (footerBlock p (sparesIn p (zoneAt w d (zoneOn o d))) j) zeroSpare
+        → Kind p d o (zoneAt w d (zoneOn o d)) (footerBlock p (sparesIn p (zoneAt w d (zoneOn o d))) j) zeroSpare
     foot-kind w d j e l = footer j (pointer-is w d (zoneOn o d) ∙ e) l
 
     module _ (w : View) (d j : ℕ) (k : Footing o w) (dl : d < p .N) (e : pointerAt w d (zoneOn o d) ≡ suc (p .S + j)) (jl : j < footers p) where
       sound : Sound p w (footStore w d j)
-      sound = (dl, zone-on-lt p o d ob, foot-kind w d j e jl)
+      sound = sound-put p w d o (footerBlock p (sparesIn p (zoneAt w d (zoneOn o d))) j) zeroSpare dl ob (foot-kind w d j e jl)
 
-      items′ : itemsIn p (storeView (footStore w d j) w) ≡ withItem (itemsIn p w) d (o .name) (foot j)
+      items′ : itemsIn p (storeView (footStore w d j) w) ≡ withItem (itemsIn p w) d (zoneOn o 0) (foot j)
       items′ =
           items-put-kind p r w d o (footerBlock p (sparesIn p (zoneAt w d (zoneOn o d))) j) zeroSpare (k .linked .shape) dl ob (foot-kind w d j e jl)
-          ∙ ap (withItem (itemsIn p w) d (o .name)) is-foot
+          ∙ ap (withItem (itemsIn p w) d (zoneOn o 0)) is-foot
         where
           is-foot : kindItem p d o (zoneAt w d (zoneOn o d)) (footerBlock p (sparesIn p (zoneAt w d (zoneOn o d))) j) zeroSpare (foot-kind w d j e jl) ≡ foot j
           is-foot = unfold kindItem foot-kind in refl
 
-      foot-length : length (itemsIn p w d (o .name)) ≡ suc (p .S + j)
+      foot-length : length (itemsIn p w d (zoneOn o 0)) ≡ suc (p .S + j)
       foot-length = zone-len p r (withPr g₀ alone) w (k .set .on) d o dl (k .set .none d dl) ob ∙ e
 
       shape′ : Shape p (storeView (footStore w d j) w)
@@ -107,8 +108,8 @@ module _ (p : Params) (r : Ranged p) (g₀ : Ghost) (a : List Val) (s : Bool) wh
       linked′ : Linked p r (storeView (footStore w d j) w) (withPr g₀ alone) a s off
       linked′ =
           linked-step p r w (storeView (footStore w d j) w) (withPr g₀ alone) (withPr g₀ alone) a a s
-          s off off (withItem (itemsIn p w) d (o .name) (foot j)) (k .linked)
-          (restart-footer (stateOn p w (withPr g₀ alone) a s off) d (o .name) j (k .set .none) (k .set .rest) dl (omega (arith, foot-length)) (unfold capacity in omega (arith, foot-length, jl))
+          s off off (withItem (itemsIn p w) d (zoneOn o 0) (foot j)) (k .linked)
+          (restart-footer (stateOn p w (withPr g₀ alone) a s off) d (zoneOn o 0) j (k .set .none) (k .set .rest) dl (omega (arith, foot-length)) (unfold capacity in omega (arith, foot-length, jl))
           (λ t l. k .stripes d t dl l))
           (sym items′) shape′ (λ e l n. bytes-store p r w (footStore w d j) (k .linked .shape) sound e (k .linked .bytes e l n))
 
@@ -120,11 +121,11 @@ module _ (p : Params) (r : Ranged p) (g₀ : Ghost) (a : List Val) (s : Bool) wh
           none = k .set .none;
           no-pair = refl;
           rest = subst (λ (u : ItemView). (z : ℕ) → Used (parOf p r) (g₀ .un) u z → R (parOf p r) (g₀ .hd) u (g₀ .un) z) (sym items′)
-              (λ z u. Put·R-fwd (itemsIn p w) d (o .name) (foot j) (omega (arith, foot-length)) (parOf p r) (withPr g₀ alone) (g₀ .un) z
-              (k .set .rest z (Put·Used-back (itemsIn p w) d (o .name) (foot j) (omega (arith, foot-length)) (parOf p r) (withPr g₀ alone) z u)));
+              (λ z u. Put·R-fwd (itemsIn p w) d (zoneOn o 0) (foot j) (omega (arith, foot-length)) (parOf p r) (withPr g₀ alone) (g₀ .un) z
+              (k .set .rest z (Put·Used-back (itemsIn p w) d (zoneOn o 0) (foot j) (omega (arith, foot-length)) (parOf p r) (withPr g₀ alone) z u)));
         };
-        stripes = subst (λ (u : ItemView). (d t : ℕ) → d < p .N → t < p .S → (x : Val) × InI (chunk t x) (u d (o .name))) (sym items′)
-            (λ e t l b. (k .stripes e t l b .0, in-fwd (itemsIn p w) d (o .name) (foot j) (chunk t (k .stripes e t l b .0)) e (o .name) (k .stripes e t l b .1)));
+        stripes = subst (λ (u : ItemView). (d t : ℕ) → d < p .N → t < p .S → (x : Val) × InI (chunk t x) (u d (zoneOn o 0))) (sym items′)
+            (λ e t l b. (k .stripes e t l b .0, in-fwd (itemsIn p w) d (zoneOn o 0) (foot j) (chunk t (k .stripes e t l b .0)) e (zoneOn o 0) (k .stripes e t l b .1)));
       }
 
       -- what the store changes
@@ -140,13 +141,13 @@ module _ (p : Params) (r : Ranged p) (g₀ : Ghost) (a : List Val) (s : Bool) wh
       foot-spares =
           ap (sparesIn p) (zone-set-at p w (k .linked .shape) d (zoneOn o d) (putZone (footerBlock p (sparesIn p (zoneAt w d (zoneOn o d))) j) zeroSpare (zoneAt w d (zoneOn o d))) dl
           (zone-on-lt p o d ob))
-          ∙ old-spares p r d (zoneOn o d) (zoneAt w d (zoneOn o d)) (shape-zone p w (k .linked .shape) d (zoneOn o d) dl (zone-on-lt p o d ob))
+          ∙ old-spares p r d o (zoneAt w d (zoneOn o d)) (shape-zone p w (k .linked .shape) d (zoneOn o d) dl (zone-on-lt p o d ob))
           (footerBlock p (sparesIn p (zoneAt w d (zoneOn o d))) j) zeroSpare j (pointer-is w d (zoneOn o d) ∙ e)
 
-      pub foot-other : (e : ℕ) (y : Seg) → (e ≢ d) ⊎ (y ≡ o → ⊥) → zoneAt (storeView (footStore w d j) w) e (zoneOn y e) ≡ zoneAt w e (zoneOn y e)
+      pub foot-other : (e : ℕ) (y : Seg) → Named p y → (e ≢ d) ⊎ (y ≡ o → ⊥) → zoneAt (storeView (footStore w d j) w) e (zoneOn y e) ≡ zoneAt w e (zoneOn y e)
       unfolding storeView
-      foot-other e y n = zone-set-else p w (k .linked .shape) d (zoneOn o d) (putZone (footerBlock p (sparesIn p (zoneAt w d (zoneOn o d))) j) zeroSpare (zoneAt w d (zoneOn o d))) dl e (zoneOn y e)
-          (other-zone p y o e d ob n)
+      foot-other e y c n = zone-set-else p w (k .linked .shape) d (zoneOn o d) (putZone (footerBlock p (sparesIn p (zoneAt w d (zoneOn o d))) j) zeroSpare (zoneAt w d (zoneOn o d))) dl e (zoneOn y e)
+          (other-zone p y o e d dl c ob n)
 
     -- ---- one drive, then all
     module _ (v : View) where
@@ -158,7 +159,7 @@ module _ (p : Params) (r : Ranged p) (g₀ : Ghost) (a : List Val) (s : Bool) wh
         pub foot : Footing o w
         pub done : (e : ℕ) → e < d → e < p .N → pointerAt w e (zoneOn o e) ≡ capacity p
         pub left : (e : ℕ) → d ≤ e → zoneAt w e (zoneOn o e) ≡ zoneAt v e (zoneOn o e)
-        pub other : (e : ℕ) (y : Seg) → (y ≡ o → ⊥) → zoneAt w e (zoneOn y e) ≡ zoneAt v e (zoneOn y e)
+        pub other : (e : ℕ) (y : Seg) → Named p y → (y ≡ o → ⊥) → zoneAt w e (zoneOn y e) ≡ zoneAt v e (zoneOn y e)
 
       -- within drive d
       pub record FootWithin (d j : ℕ) (w : View) : Type 0 where
@@ -167,7 +168,7 @@ module _ (p : Params) (r : Ranged p) (g₀ : Ghost) (a : List Val) (s : Bool) wh
         pub spares : sparesIn p (zoneAt w d (zoneOn o d)) ≡ sparesIn p (zoneAt v d (zoneOn o d))
         pub done : (e : ℕ) → e < d → e < p .N → pointerAt w e (zoneOn o e) ≡ capacity p
         pub left : (e : ℕ) → d < e → zoneAt w e (zoneOn o e) ≡ zoneAt v e (zoneOn o e)
-        pub other : (e : ℕ) (y : Seg) → (y ≡ o → ⊥) → zoneAt w e (zoneOn y e) ≡ zoneAt v e (zoneOn y e)
+        pub other : (e : ℕ) (y : Seg) → Named p y → (y ≡ o → ⊥) → zoneAt w e (zoneOn y e) ≡ zoneAt v e (zoneOn y e)
 
       within-step : (d j : ℕ) (w : View) → d < p .N → j < footers p → FootWithin d j w → FootWithin d (suc j) (storeView (footStore v d j) w)
       unfolding pointerAt
@@ -175,9 +176,9 @@ module _ (p : Params) (r : Ranged p) (g₀ : Ghost) (a : List Val) (s : Bool) wh
         foot = foot-step w d j (k .foot) dl (k .at) jl;
         at = foot-pointer w d j (k .foot) dl (k .at) jl;
         spares = foot-spares w d j (k .foot) dl (k .at) jl ∙ k .spares;
-        done = λ e b l. ap (λ (q : Zone). q .pointer) (foot-other w d j (k .foot) dl (k .at) jl e o (inl (omega arith))) ∙ k .done e b l;
-        left = λ e b. foot-other w d j (k .foot) dl (k .at) jl e o (inl (omega arith)) ∙ k .left e b;
-        other = λ e y n. foot-other w d j (k .foot) dl (k .at) jl e y (inr n) ∙ k .other e y n;
+        done = λ e b l. ap (λ (q : Zone). q .pointer) (foot-other w d j (k .foot) dl (k .at) jl e o ob (inl (omega arith))) ∙ k .done e b l;
+        left = λ e b. foot-other w d j (k .foot) dl (k .at) jl e o ob (inl (omega arith)) ∙ k .left e b;
+        other = λ e y c n. foot-other w d j (k .foot) dl (k .at) jl e y c (inr n) ∙ k .other e y c n;
       })
 
       stored-few : (q : Zone) → footersStored p q ≤ footers p
@@ -238,7 +239,7 @@ module _ (p : Params) (r : Ranged p) (g₀ : Ghost) (a : List Val) (s : Bool) wh
       unfolding below
       feet-sound starts k =
           runs-sound p Upto feetOn (p .N) (drive-sound starts) 0 (p .N) (omega arith) v
-          (record { foot = k; done = λ e b l. absurd (let q : ⊥ = omega arith in q); left = λ e b. refl; other = λ e y n. refl })
+          (record { foot = k; done = λ e b l. absurd (let q : ⊥ = omega arith in q); left = λ e b. refl; other = λ e y c n. refl })
 
       pub feet-all : ((d : ℕ) → d < p .N → pointerAt v d (zoneOn o d) ≡ suc (p .S + footersStored p (zoneAt v d (zoneOn o d)))) → Footing o v
           → Always (Footing o) v (flat feetOn (below (p .N))) × Upto (p .N) (storeAll storeView (flat feetOn (below (p .N))) v)
@@ -249,7 +250,7 @@ module _ (p : Params) (r : Ranged p) (g₀ : Ghost) (a : List Val) (s : Bool) wh
       )
         where
           first : Upto 0 v
-          first = record { foot = k; done = λ e b l. absurd (let q : ⊥ = omega arith in q); left = λ e b. refl; other = λ e y n. refl }
+          first = record { foot = k; done = λ e b l. absurd (let q : ⊥ = omega arith in q); left = λ e b. refl; other = λ e y c n. refl }
 
 -- ---- a whole segment
 
@@ -269,9 +270,9 @@ module _ (p : Params) (r : Ranged p) (g : Ghost) (v : View) (k : SettledOn p r g
           long : length (keep (counts p 0 G) (below (p .S))) ≡ p .S
           long = unfold isWhole counted in eqb-true (length (keep (counts p 0 G) (below (p .S)))) (p .S) w
 
-  pub whole-stripes : (d t : ℕ) → d < p .N → t < p .S → (x : Val) × InI (chunk t x) (itemsIn p v d (o .name))
+  pub whole-stripes : (d t : ℕ) → d < p .N → t < p .S → (x : Val) × InI (chunk t x) (itemsIn p v d (zoneOn o 0))
   whole-stripes d t l b =
-      let st : Stripe (parOf p r) (itemsIn p v) (isIn 0) (o .name) t (pieceAt p r g v (k .on) 0 (none-choice p r g v k) o t) =
+      let st : Stripe (parOf p r) (itemsIn p v) (isIn 0) (zoneOn o 0) t (pieceAt p r g v (k .on) 0 (none-choice p r g v k) o t) =
       counted-stripe p r g v (k .on) 0 (none-choice p r g v k) o t ob (all-count t b) in
       (pieceAt p r g v (k .on) 0 (none-choice p r g v k) o t d, st .on d l (far-off p r g v k d l))
 
@@ -330,13 +331,14 @@ module _ (p : Params) (r : Ranged p) (g₀ : Ghost) (a : List Val) (s : Bool) (v
           sealed : sealedIn p u 0 o ≡ true
           sealed = unfold sealedIn in all-on-present p 0 (λ d. eqb (pointerAt u d (zoneOn o d)) (capacity p)) (λ d l n. eq-eqb (pointerAt u d (zoneOn o d)) (capacity p) (q .done d l l))
       go (no w) =
-          let same : (d : ℕ) → d < p .N → zoneAt u d (zoneOn z d) ≡ zoneAt v d (zoneOn z d) = λ d l. q .other d z w in
-          let used? : Named p z × Used (parOf p r) (g₀ .un) (itemsIn p u) (z .name) = settled-used p r (withPr g₀ alone) u set z j in
-          let j′ : Has z (remaining p v 0) = settled-remains p r (withPr g₀ alone) v k z (
+          let used? : Named p z × Used (parOf p r) (g₀ .un) (itemsIn p u) (zoneOn z 0) = settled-used p r (withPr g₀ alone) u set z j in
+          let same : (d : ℕ) → d < p .N → zoneAt u d (zoneOn z d) ≡ zoneAt v d (zoneOn z d) = λ d l. q .other d z (used? .0) w in
+          let d0 : 0 < p .N = omega (arith, r .drives-low) in
+          let j′ : Has z (remaining p v 0) = settled-remains p r (withPr g₀ alone) v k z (used? .0) (
             used? .1 .0,
             used? .1 .1,
             subst (λ (x : List Item). 0 < length x)
-                (items-in p u (used? .1 .0) z ∙ ap (itemsOf p) (same (used? .1 .0) (used? .1 .1 .0)) ∙ sym (items-in p v (used? .1 .0) z))
+                (items-in p u (used? .1 .0) z d0 (used? .0) ∙ ap (itemsOf p) (same (used? .1 .0) (used? .1 .1 .0)) ∙ sym (items-in p v (used? .1 .0) z d0 (used? .0)))
                 (used? .1 .2),
           ) in
           w (one-of p r (withPr g₀ alone) v k z o j′ i (ap (λ (x : Segment). x .full) (sym (segment-same p r v u 0 z (zero-few p r) same)) ∙ e) un)

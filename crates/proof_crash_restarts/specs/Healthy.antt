@@ -11,7 +11,7 @@ use lib.ListN.{length, take, set}
 use lib.Count.{ones}
 use Rattle.spec.specs.declared.Params.{Params}
 use Rattle.spec.specs.Counts.{lastCount}
-use Rattle.spec.specs.Drives.{View, zoneAt, pointerAt, chunkAt, Store, storeView, storeAll, Seg, seg, zoneOn, zeroSpare}
+use Rattle.spec.specs.Drives.{View, zoneAt, pointerAt, chunkAt, Store, storeView, storeAll, zoneOn, zeroSpare, noSeg}
 use Rattle.spec.specs.Drives.Store.{put}
 use Rattle.spec.specs.Faults.{footersStored}
 use Rattle.spec.specs.Layout.{headerSerial, footerBlock}
@@ -54,6 +54,7 @@ use Rattle.proof_crash_restarts.specs.MovedEnd.{drops-cut, moved-cut, mo
 use Rattle.proof_crash_restarts.specs.Rest.{SettledOn, settled-used, dropped-items, after-settled, kept-zone-after, free-after, remaining-same, segments-same}
 use Rattle.proof_crash_restarts.specs.Runs.{Always, always-append}
 use Rattle.proof_crash_restarts.specs.Same.{segment-same}
+use Rattle.spec.specs.declared.Seg.{Seg}
 
 -- a segment that isn't whole has fewer than S counted stripes
 few-left : (p : Params) (q : Segment) → isWhole p q ≡ false → length (counted p 0 q) < p .S
@@ -162,8 +163,8 @@ module _ (p : Params) (r : Ranged p) (v₀ : View) (g₀ : Ghost) (a : List Val)
       feet-right = subst (AllSound p v) (sym (feet-are p r (withPr g₀ alone) v k o i w)) (feet-sound p r g₀ a s o ob v (whole-pointers p r (withPr g₀ alone) v k o i w) footing)
 
     -- ---- a rewrite
-    free? : Has (firstOr (seg 0) (freeSegs p gs)) (freeSegs p gs)
-    free? = firstOr-has (seg 0) (freeSegs p gs) (free-seg p r g₀ v₀ on₀ (λ x q. lk .inv .ones x q) 0 (zero-choice p r (g₀ .un) none))
+    free? : Has (firstOr noSeg (freeSegs p gs)) (freeSegs p gs)
+    free? = firstOr-has noSeg (freeSegs p gs) (free-seg p r g₀ v₀ on₀ (λ x q. lk .inv .ones x q) 0 (zero-choice p r (g₀ .un) none))
 
     wide-serials : greatestSerial gs < 256 ^ 8
     wide-serials = unfold greatestSerial segments in go (greatest-some (map (λ (g : Segment). g .serial) (map (segmentOf p v₀ 0) (remaining p v₀ 0))))
@@ -174,12 +175,12 @@ module _ (p : Params) (r : Ranged p) (v₀ : View) (g₀ : Ghost) (a : List Val)
             let t : g₀ .un 0 ≡ false = none 0 d0 in
             let zb : Named p z = seg-low p r g₀ v₀ on₀ 0 (zero-choice p r (g₀ .un) none) z j in
             let b : 0 < pointerAt v₀ 0 (zoneOn z 0) = begun-on p r g₀ v₀ on₀ 0 (zero-choice p r (g₀ .un) none) z j 0 d0 (isIn-empty 0) in
-            let h : headerSerial (headerAt v₀ 0 z) ≡ g₀ .hd .ser (z .name) = head-serials p r g₀ v₀ on₀ 0 z d0 t zb b .0 in
-            let q : headerSerial (headerAt v₀ 0 z) < 256 ^ 8 = wide z
+            let h : headerSerial p (headerAt v₀ 0 z) ≡ g₀ .hd .ser (zoneOn z 0) = head-serials p r g₀ v₀ on₀ 0 z d0 t zb b .0 in
+            let q : headerSerial p (headerAt v₀ 0 z) < 256 ^ 8 = wide z
             (zone-bytes p r g₀ v₀ on₀ 0 z d0 t zb .serials (subst (λ (x : ℕ). 0 < x) (sym (pointer-is v₀ 0 (zoneOn z 0))) b) .0) in
             subst (λ (x : ℕ). x < 256 ^ 8) (h ∙ sym (serial-ghost p r g₀ v₀ on₀ 0 (zero-choice p r (g₀ .un) none) z j)) q
           where
-            wide : (z : Seg) → headerSerial (blockIn (zoneAt v₀ 0 (zoneOn z 0)) 0 .block) < 256 ^ 8 → headerSerial (headerAt v₀ 0 z) < 256 ^ 8
+            wide : (z : Seg) → headerSerial p (blockIn (zoneAt v₀ 0 (zoneOn z 0)) 0 .block) < 256 ^ 8 → headerSerial p (headerAt v₀ 0 z) < 256 ^ 8
             wide z l = unfold headerAt chunkAt in l
 
         go : (greatest (map (λ (g : Segment). g .serial) (map (segmentOf p v₀ 0) (remaining p v₀ 0))) ≡ 0)
@@ -222,11 +223,11 @@ module _ (p : Params) (r : Ranged p) (v₀ : View) (g₀ : Ghost) (a : List Val)
       top : serialTop p v < suc (greatestSerial gs)
       top = unfold serialTop in (let e : greatestSerial (segments p v 0) ≡ greatestSerial gs = ap greatestSerial same-gs in omega (arith, e))
 
-      empty? : (e : ℕ) → e < p .N → pointerAt v e (zoneOn (firstOr (seg 0) (freeSegs p gs)) e) ≡ 0
-      empty? e l = free-after p r g₀ v₀ on₀ none e (firstOr (seg 0) (freeSegs p gs)) l free?
+      empty? : (e : ℕ) → e < p .N → pointerAt v e (zoneOn (firstOr noSeg (freeSegs p gs)) e) ≡ 0
+      empty? e l = free-after p r g₀ v₀ on₀ none e (firstOr noSeg (freeSegs p gs)) l free?
 
-      wb : Named p (firstOr (seg 0) (freeSegs p gs))
-      wb = free-has p r v₀ 0 (firstOr (seg 0) (freeSegs p gs)) free? .0
+      wb : Named p (firstOr noSeg (freeSegs p gs))
+      wb = free-has p r v₀ 0 (firstOr noSeg (freeSegs p gs)) free? .0
 
       unfull : length (counted p 0 (segmentOf p v 0 o)) < p .S
       unfull = not-whole (segmentOf p v 0 o) (go (isWhole p (segmentOf p v 0 o)) refl (ap (isRagged p) same-G ∙ rag))
@@ -251,15 +252,15 @@ module _ (p : Params) (r : Ranged p) (v₀ : View) (g₀ : Ghost) (a : List Val)
                   ≡ true
               reveal q = unfold isRagged in q
 
-      pub moved-both : Always (CutTo p r g₀ a s) v (rewriteStores p (segmentOf p v 0 o) (firstOr (seg 0) (freeSegs p gs)) (suc (greatestSerial gs)))
-          × RestartDone p r g₀ a s (storeAll storeView (rewriteStores p (segmentOf p v 0 o) (firstOr (seg 0) (freeSegs p gs)) (suc (greatestSerial gs))) v)
+      pub moved-both : Always (CutTo p r g₀ a s) v (rewriteStores p (segmentOf p v 0 o) (firstOr noSeg (freeSegs p gs)) (suc (greatestSerial gs)))
+          × RestartDone p r g₀ a s (storeAll storeView (rewriteStores p (segmentOf p v 0 o) (firstOr noSeg (freeSegs p gs)) (suc (greatestSerial gs))) v)
       moved-both = (
-        moved-cut p r v₀ g₀ a s m lk none o i un (firstOr (seg 0) (freeSegs p gs)) wb empty? (suc (greatestSerial gs)) next-low top unfull,
-        moved-done p r v₀ g₀ a s m lk none o i un (firstOr (seg 0) (freeSegs p gs)) wb empty? (suc (greatestSerial gs)) next-low top unfull,
+        moved-cut p r v₀ g₀ a s m lk none o i un (firstOr noSeg (freeSegs p gs)) wb empty? (suc (greatestSerial gs)) next-low top unfull,
+        moved-done p r v₀ g₀ a s m lk none o i un (firstOr noSeg (freeSegs p gs)) wb empty? (suc (greatestSerial gs)) next-low top unfull,
       )
 
-      moved-right : AllSound p v (rewriteStores p (segmentOf p v 0 o) (firstOr (seg 0) (freeSegs p gs)) (suc (greatestSerial gs)))
-      moved-right = rewrite-follows p r (withPr g₀ alone) v k o i (firstOr (seg 0) (freeSegs p gs)) wb empty? (suc (greatestSerial gs)) next-low .sound
+      moved-right : AllSound p v (rewriteStores p (segmentOf p v 0 o) (firstOr noSeg (freeSegs p gs)) (suc (greatestSerial gs)))
+      moved-right = rewrite-follows p r (withPr g₀ alone) v k o i (firstOr noSeg (freeSegs p gs)) wb empty? (suc (greatestSerial gs)) next-low .sound
 
     -- ---- what mending o comes to
     abbrev Both : List Store → Type 0
@@ -310,10 +311,10 @@ module _ (p : Params) (r : Ranged p) (v₀ : View) (g₀ : Ghost) (a : List Val)
         is : (b c : Bool) → isWhole p (segmentOf p v 0 o) ≡ b → isRagged p (segmentOf p v 0 o) ≡ c
             → mendStores p gs (segmentOf p v 0 o)
             ≡ cond b (missingFooters p (segmentOf p v 0 o))
-            (cond c (rewriteStores p (segmentOf p v 0 o) (firstOr (seg 0) (freeSegs p gs)) (suc (greatestSerial gs))) [])
+            (cond c (rewriteStores p (segmentOf p v 0 o) (firstOr noSeg (freeSegs p gs)) (suc (greatestSerial gs))) [])
         is b c e f =
             unfold mendStores in ap₂ (λ (x y : Bool). cond x (missingFooters p (segmentOf p v 0 o))
-            (cond y (rewriteStores p (segmentOf p v 0 o) (firstOr (seg 0) (freeSegs p gs)) (suc (greatestSerial gs))) [])) e f
+            (cond y (rewriteStores p (segmentOf p v 0 o) (firstOr noSeg (freeSegs p gs)) (suc (greatestSerial gs))) [])) e f
 
         go :
             (b : Bool)
@@ -331,10 +332,10 @@ module _ (p : Params) (r : Ranged p) (v₀ : View) (g₀ : Ghost) (a : List Val)
         is : (b c : Bool) → isWhole p (segmentOf p v 0 o) ≡ b → isRagged p (segmentOf p v 0 o) ≡ c
             → mendStores p gs (segmentOf p v 0 o)
             ≡ cond b (missingFooters p (segmentOf p v 0 o))
-            (cond c (rewriteStores p (segmentOf p v 0 o) (firstOr (seg 0) (freeSegs p gs)) (suc (greatestSerial gs))) [])
+            (cond c (rewriteStores p (segmentOf p v 0 o) (firstOr noSeg (freeSegs p gs)) (suc (greatestSerial gs))) [])
         is b c e f =
             unfold mendStores in ap₂ (λ (x y : Bool). cond x (missingFooters p (segmentOf p v 0 o))
-            (cond y (rewriteStores p (segmentOf p v 0 o) (firstOr (seg 0) (freeSegs p gs)) (suc (greatestSerial gs))) [])) e f
+            (cond y (rewriteStores p (segmentOf p v 0 o) (firstOr noSeg (freeSegs p gs)) (suc (greatestSerial gs))) [])) e f
 
         go : (b : Bool) → isWhole p (segmentOf p v 0 o) ≡ b → (c : Bool) → isRagged p (segmentOf p v 0 o) ≡ c → Both (mendStores p gs (segmentOf p v 0 o))
         go true e c f = subst Both (sym (is true c e f)) (feet-both e)

@@ -1,12 +1,12 @@
 -- A restart that names drives missing, whatever they hold. Assumes nothing.
-use mathlib.Core.Path.{_≡_, refl, sym, ap, _∙_, subst}
+use mathlib.Core.Path.{_≡_, refl, sym, ap, subst}
 use mathlib.Core.List.{List, [], _∷_}
 use mathlib.Core.Bool.{Bool, false, true}
 use mathlib.Core.Logic.{inl, inr}
 use Prim.Native.Nat.{ℕ, max, _≤_, _<_}
 use native.Mathlib.Omega.{arith}
 use Rattle.spec.specs.declared.Params.{Params}
-use Rattle.spec.specs.Drives.{Zone, View, zoneAt, seg, zoneOn}
+use Rattle.spec.specs.Drives.{Zone, View, zoneAt, zoneOn, across}
 use Rattle.spec.specs.Lists.{isIn}
 use Rattle.law_basic.specs.Geometry.{Ranged}
 use Rattle.proof_crash_machine.specs.Distrust.{distrust}
@@ -19,12 +19,13 @@ use Rattle.proof_crash_machine.specs.Rebuild.{withUn}
 use Rattle.proof_crash_machine.specs.Val.{Val}
 use Rattle.proof_crash_machine.specs.Untrusted.{untrusted}
 use Rattle.proof_crash_items.specs.Cands.{stampRead, reads}
-use Rattle.proof_crash_items.specs.Items.{itemsOf, itemsIn, items-in}
+use Rattle.proof_crash_items.specs.Items.{itemsOf, itemsIn}
 use Rattle.proof_crash_items.specs.Ranges.{parOf}
 use Rattle.proof_crash_items.specs.Segs.{OnDrives, trusted}
 use Rattle.proof_crash_items.specs.Shape.{Shape}
 use Rattle.proof_crash_items.specs.ZoneBytes.{ZoneBytes}
 use Rattle.proof_crash_restarts.specs.Link.{stateOn, Linked, linked-on, linked-step}
+use Rattle.law_basic.specs.Segs.{segOn}
 
 -- no stamp in the list is greater
 pub stampsTop : List Val → ℕ
@@ -41,13 +42,14 @@ module _ (p : Params) (r : Ranged p) (v u : View) (g : Ghost) (a : List Val) (s 
     (m : ℕ) (lost : (d : ℕ) × (d < p .N) × (isIn m d ≡ true)) (ch : Choice (parOf p r) (g .un) (isIn m))
     (sh : Shape p u) (same : (e y : ℕ) → e < p .N → isIn m e ≡ false → zoneAt u e y ≡ zoneAt v e y) where
   items-same : (e y : ℕ) → e < p .N → isIn m e ≡ false → itemsIn p v e y ≡ itemsIn p u e y
-  items-same e y l n = items-in p v e (seg y) ∙ ap (itemsOf p) (sym (same e (zoneOn (seg y) e) l n)) ∙ sym (items-in p u e (seg y))
+  unfolding itemsIn
+  items-same e y l n = ap (itemsOf p) (sym (same e (zoneOn (across p y) e) l n))
 
   -- the drives as this restart sees them
   pub missing-on : OnDrives p r (withUn g (isIn m)) u
   missing-on = record {
     shape = sh;
-    bytes = λ d l n z b. subst (λ (q : Zone). ZoneBytes p d z q) (sym (same d z l n)) (lk .bytes d l (trusted p r g v (linked-on p r v g a s mo lk) m ch d l n) z b);
+    bytes = λ d l n z b. subst (λ (q : Zone). ZoneBytes p d (segOn p d z) q) (sym (same d z l n)) (lk .bytes d l (trusted p r g v (linked-on p r v g a s mo lk) m ch d l n) z b);
     facts = untrusted (parOf p r) (withUn g (isIn m)) (itemsIn p v) (itemsIn p u) items-same (distrust (parOf p r) g (itemsIn p v) (isIn m) ch (lk .inv .facts));
   }
 

@@ -9,7 +9,7 @@ use native.Mathlib.Omega.{arith}
 use lib.ListN.{length, getD}
 use Rattle.spec.specs.declared.Params.{Params}
 use Rattle.spec.specs.Answers.{kind}
-use Rattle.spec.specs.Drives.{Zone, View, zoneAt, pointerAt, chunkAt, putZone, storeView, storeAll, Seg, zoneOn, zeroSpare, headerStores, resetStores}
+use Rattle.spec.specs.Drives.{Zone, View, zoneAt, pointerAt, chunkAt, putZone, storeView, storeAll, zoneOn, zeroSpare, headerStores, resetStores, zonesIn}
 use Rattle.spec.specs.Drives.Store.{put}
 use Rattle.spec.specs.Layout.{headerBlock, headerSerial, recordBytes}
 use Rattle.spec.specs.Lists.{upFrom, below}
@@ -36,7 +36,7 @@ use Rattle.proof_crash_items.specs.Ranges.{parOf}
 use Rattle.proof_crash_items.specs.SegFacts.{begun-on, serial-ghost}
 use Rattle.proof_crash_items.specs.Segs.{zone-bytes, head-serials}
 use Rattle.proof_crash_items.specs.Shape.{Shape, zone-set-at, zone-set-else, shape-store}
-use Rattle.proof_crash_items.specs.Sound.{Sound, sound-fits, Follows, follows-nil, follows-append, store-put, follows-list, follows-end}
+use Rattle.proof_crash_items.specs.Sound.{Sound, sound-fits, Follows, follows-nil, follows-append, store-put, follows-list, follows-end, sound-put}
 use Rattle.proof_crash_items.specs.Stripes.{pointer-is}
 use Rattle.proof_crash_items.specs.Values.{pieceValue, value-same}
 use Rattle.proof_crash_items.specs.ZoneBytes.{blockIn, Kind, kindItem}
@@ -46,6 +46,7 @@ use Rattle.proof_crash_restarts.specs.Ends.{none-choice}
 use Rattle.proof_crash_restarts.specs.MovedPlan.{moved-wide, moved-value-long, moved-rec-stripe, plan-few, plan-F, plan-F-is, planOf}
 use Rattle.proof_crash_restarts.specs.Order.{pointer-zone}
 use Rattle.proof_crash_restarts.specs.Rest.{SettledOn, far-off, settled-used}
+use Rattle.spec.specs.declared.Seg.{Seg}
 
 pub list-map : (f : ℕ → ItemStore) (j n : ℕ) → list f j n ≡ map f (upFrom j n)
 unfolding list upFrom
@@ -58,18 +59,18 @@ module _ (p : Params) (r : Ranged p) (v : View) (w : Seg) (wb : Named p w) where
     pub shape : Shape p u
     pub done : (e : ℕ) → e < p .N → e < d → pointerAt u e (zoneOn w e) ≡ suc t
     pub left : (e : ℕ) → e < p .N → d ≤ e → pointerAt u e (zoneOn w e) ≡ t
-    pub other : (e : ℕ) (y : Seg) → (y ≡ w → ⊥) → zoneAt u e (zoneOn y e) ≡ zoneAt v e (zoneOn y e)
+    pub other : (e : ℕ) (y : Seg) → Named p y → (y ≡ w → ⊥) → zoneAt u e (zoneOn y e) ≡ zoneAt v e (zoneOn y e)
 
-  pub at-next : (t d : ℕ) (u : View) (b sp : List ℕ) → d < p .N → At t d u → Kind p d (zoneOn w d) (zoneAt u d (zoneOn w d)) b sp → At t (suc d) (storeView (put d (zoneOn w d) b sp) u)
+  pub at-next : (t d : ℕ) (u : View) (b sp : List ℕ) → d < p .N → At t d u → Kind p d w (zoneAt u d (zoneOn w d)) b sp → At t (suc d) (storeView (put d (zoneOn w d) b sp) u)
   at-next t d u b sp l a k = record {
-    shape = shape-store p u (put d (zoneOn w d) b sp) (a .shape) (sound-fits p r u (put d (zoneOn w d) b sp) (a .shape) (l, zone-on-lt p w d wb, k));
+    shape = shape-store p u (put d (zoneOn w d) b sp) (a .shape) (sound-fits p r u (put d (zoneOn w d) b sp) (a .shape) (sound-put p u d w b sp l wb k));
     done = λ e el eb. go e el eb (ℕ-discrete e d);
-    left = λ e el eb. pointer-zone (storeView (put d (zoneOn w d) b sp) u) u e (zoneOn w e) (other e w (inl (omega arith))) ∙ a .left e el (omega arith);
-    other = λ e y n. other e y (inr n) ∙ a .other e y n;
+    left = λ e el eb. pointer-zone (storeView (put d (zoneOn w d) b sp) u) u e (zoneOn w e) (other e w wb (inl (omega arith))) ∙ a .left e el (omega arith);
+    other = λ e y c n. other e y c (inr n) ∙ a .other e y c n;
   }
     where
-      other : (e : ℕ) (y : Seg) → (e ≢ d) ⊎ (y ≡ w → ⊥) → zoneAt (storeView (put d (zoneOn w d) b sp) u) e (zoneOn y e) ≡ zoneAt u e (zoneOn y e)
-      other e y n = unfold storeView in zone-set-else p u (a .shape) d (zoneOn w d) (putZone b sp (zoneAt u d (zoneOn w d))) l e (zoneOn y e) (other-zone p y w e d wb n)
+      other : (e : ℕ) (y : Seg) → Named p y → (e ≢ d) ⊎ (y ≡ w → ⊥) → zoneAt (storeView (put d (zoneOn w d) b sp) u) e (zoneOn y e) ≡ zoneAt u e (zoneOn y e)
+      other e y c n = unfold storeView in zone-set-else p u (a .shape) d (zoneOn w d) (putZone b sp (zoneAt u d (zoneOn w d))) l e (zoneOn y e) (other-zone p y w e d l c wb n)
 
       here : pointerAt (storeView (put d (zoneOn w d) b sp) u) d (zoneOn w d) ≡ suc (pointerAt u d (zoneOn w d))
       here =
@@ -78,32 +79,32 @@ module _ (p : Params) (r : Ranged p) (v : View) (w : Seg) (wb : Named p w) where
 
       go : (e : ℕ) → e < p .N → e < suc d → Dec (e ≡ d) → pointerAt (storeView (put d (zoneOn w d) b sp) u) e (zoneOn w e) ≡ suc t
       go e el eb (yes q) = ap (λ (x : ℕ). pointerAt (storeView (put d (zoneOn w d) b sp) u) x (zoneOn w x)) q ∙ here ∙ ap suc (a .left d l (omega arith))
-      go e el eb (no q) = pointer-zone (storeView (put d (zoneOn w d) b sp) u) u e (zoneOn w e) (other e w (inl q)) ∙ a .done e el (omega arith)
+      go e el eb (no q) = pointer-zone (storeView (put d (zoneOn w d) b sp) u) u e (zoneOn w e) (other e w wb (inl q)) ∙ a .done e el (omega arith)
 
   pub moved-turn : (t : ℕ) (u : View) → At t (p .N) u → At (suc t) 0 u
   moved-turn t u a = record { shape = a .shape; done = λ e l b. absurd (let q : ⊥ = omega arith in q); left = λ e l b. a .done e l l; other = a .other }
 
   -- a row: one store on each drive
   module _ (t : ℕ) (b sp : ℕ → List ℕ) (it : ℕ → Item)
-      (kind : (d : ℕ) (u : View) → d < p .N → At t d u → (k : Kind p d (zoneOn w d) (zoneAt u d (zoneOn w d)) (b d) (sp d))
+      (kind : (d : ℕ) (u : View) → d < p .N → At t d u → (k : Kind p d w (zoneAt u d (zoneOn w d)) (b d) (sp d))
       × (kindItem p d w (zoneAt u d (zoneOn w d)) (b d) (sp d) k ≡ it d)) where
     moved-row-step :
         (d : ℕ) (u : View)
         → d < p .N
         → At t d u
-        → Sound p u (put d (zoneOn w d) (b d) (sp d)) × (storeItem p u (put d (zoneOn w d) (b d) (sp d)) ≡ m-put d (w .name) (it d)) × At t (suc d)
+        → Sound p u (put d (zoneOn w d) (b d) (sp d)) × (storeItem p u (put d (zoneOn w d) (b d) (sp d)) ≡ m-put d (zoneOn w 0) (it d)) × At t (suc d)
         (storeView (put d (zoneOn w d) (b d) (sp d)) u)
     moved-row-step d u l a =
-        let k : (k : Kind p d (zoneOn w d) (zoneAt u d (zoneOn w d)) (b d) (sp d)) × (kindItem p d w (zoneAt u d (zoneOn w d)) (b d) (sp d) k ≡ it d) = kind d u l a in
-        ((l, zone-on-lt p w d wb, k .0), store-put p u d w (b d) (sp d) wb (k .0) ∙ ap (m-put d (w .name)) (k .1), at-next t d u (b d) (sp d) l a (k .0))
+        let k : (k : Kind p d w (zoneAt u d (zoneOn w d)) (b d) (sp d)) × (kindItem p d w (zoneAt u d (zoneOn w d)) (b d) (sp d) k ≡ it d) = kind d u l a in
+        (sound-put p u d w (b d) (sp d) l wb (k .0), store-put p u d w (b d) (sp d) l wb (k .0) ∙ ap (m-put d (zoneOn w 0)) (k .1), at-next t d u (b d) (sp d) l a (k .0))
 
     pub row-follows : (u : View) → At t 0 u
-        → Follows p u (map (λ d. put d (zoneOn w d) (b d) (sp d)) (upFrom 0 (p .N))) (list (λ d. m-put d (w .name) (it d)) 0 (p .N))
+        → Follows p u (map (λ d. put d (zoneOn w d) (b d) (sp d)) (upFrom 0 (p .N))) (list (λ d. m-put d (zoneOn w 0) (it d)) 0 (p .N))
         × At (suc t) 0 (storeAll storeView (map (λ d. put d (zoneOn w d) (b d) (sp d)) (upFrom 0 (p .N))) u)
     row-follows u a = (
-      follows-list p (At t) (λ d. put d (zoneOn w d) (b d) (sp d)) (λ d. m-put d (w .name) (it d)) (p .N) moved-row-step 0 (p .N) (omega arith) u a,
+      follows-list p (At t) (λ d. put d (zoneOn w d) (b d) (sp d)) (λ d. m-put d (zoneOn w 0) (it d)) (p .N) moved-row-step 0 (p .N) (omega arith) u a,
       moved-turn t (storeAll storeView (map (λ d. put d (zoneOn w d) (b d) (sp d)) (upFrom 0 (p .N))) u)
-          (follows-end p (At t) (λ d. put d (zoneOn w d) (b d) (sp d)) (λ d. m-put d (w .name) (it d)) (p .N) moved-row-step 0 (p .N) (p .N) (omega arith) (omega arith) u a),
+          (follows-end p (At t) (λ d. put d (zoneOn w d) (b d) (sp d)) (λ d. m-put d (zoneOn w 0) (it d)) (p .N) moved-row-step 0 (p .N) (p .N) (omega arith) (omega arith) u a),
     )
 
 module _ (p : Params) (r : Ranged p) (g : Ghost) (v : View) (k : SettledOn p r g v) (o : Seg) (i : Has o (remaining p v 0)) (w : Seg) (wb : Named p w)
@@ -112,7 +113,7 @@ module _ (p : Params) (r : Ranged p) (g : Ghost) (v : View) (k : SettledOn p r g
   G = segmentOf p v 0 o
 
   abbrev gM : Ghost
-  gM = naming g (w .name) n (g .hd .ser (o .name)) (zoneOn w) (pair (w .name) (o .name))
+  gM = naming g (zoneOn w 0) n (g .hd .ser (zoneOn o 0)) (zoneOn w) (pair (zoneOn w 0) (zoneOn o 0))
 
   abbrev π : MovePlan (parOf p r)
   π = planOf p r g v k o i
@@ -120,7 +121,7 @@ module _ (p : Params) (r : Ranged p) (g : Ghost) (v : View) (k : SettledOn p r g
   ob : Named p o
   ob = settled-used p r g v k o i .0
 
-  old-serial : G .serial ≡ g .hd .ser (o .name)
+  old-serial : G .serial ≡ g .hd .ser (zoneOn o 0)
   old-serial = serial-ghost p r g v (k .on) 0 (none-choice p r g v k) o i
 
   -- it is a serial that the header's bytes hold
@@ -129,28 +130,28 @@ module _ (p : Params) (r : Ranged p) (g : Ghost) (v : View) (k : SettledOn p r g
       let d0 : 0 < p .N = omega (arith, r .drives-low) in
       let t : g .un 0 ≡ false = k .none 0 d0 in
       let b : 0 < pointerAt v 0 (zoneOn o 0) = begun-on p r g v (k .on) 0 (none-choice p r g v k) o i 0 d0 (far-off p r g v k 0 d0) in
-      let h : headerSerial (headerAt v 0 o) ≡ g .hd .ser (o .name) = head-serials p r g v (k .on) 0 o d0 t ob b .0 in
-      let q : headerSerial (headerAt v 0 o) < 256 ^ 8 = wide (zone-bytes p r g v (k .on) 0 o d0 t ob .serials (subst (λ (x : ℕ). 0 < x) (sym (pointer-is v 0 (zoneOn o 0))) b) .0) in
+      let h : headerSerial p (headerAt v 0 o) ≡ g .hd .ser (zoneOn o 0) = head-serials p r g v (k .on) 0 o d0 t ob b .0 in
+      let q : headerSerial p (headerAt v 0 o) < 256 ^ 8 = wide (zone-bytes p r g v (k .on) 0 o d0 t ob .serials (subst (λ (x : ℕ). 0 < x) (sym (pointer-is v 0 (zoneOn o 0))) b) .0) in
       subst (λ (x : ℕ). x < 256 ^ 8) (h ∙ sym old-serial) q
     where
-      wide : headerSerial (blockIn (zoneAt v 0 (zoneOn o 0)) 0 .block) < 256 ^ 8 → headerSerial (headerAt v 0 o) < 256 ^ 8
+      wide : headerSerial p (blockIn (zoneAt v 0 (zoneOn o 0)) 0 .block) < 256 ^ 8 → headerSerial p (headerAt v 0 o) < 256 ^ 8
       wide l = unfold headerAt chunkAt in l
 
   first : At p r v w wb 0 0 v
-  first = record { shape = k .on .shape; done = λ e l b. absurd (let q : ⊥ = omega arith in q); left = λ e l b. empty e l; other = λ e y n. refl }
+  first = record { shape = k .on .shape; done = λ e l b. absurd (let q : ⊥ = omega arith in q); left = λ e l b. empty e l; other = λ e y c n. refl }
 
   -- ---- headers
-  header-is : (d : ℕ) → hdr n (G .serial) (zoneOn w) ≡ m-item (parOf p r) gM (w .name) (o .name) π 0 d
+  header-is : (d : ℕ) → hdr n (G .serial) (zoneOn w) ≡ m-item (parOf p r) gM (zoneOn w 0) (zoneOn o 0) π 0 d
   header-is d =
-      unfold m-item in λ j. hdr (sym (setN-same (g .hd .ser) (w .name) n) j) (sym (setN-same (g .hd .cop) (w .name) (g .hd .ser (o .name)) ∙ sym old-serial) j)
-      (sym (setN-same (g .hd .zn) (w .name) (zoneOn w)) j)
+      unfold m-item in λ j. hdr (sym (setN-same (g .hd .ser) (zoneOn w 0) n) j) (sym (setN-same (g .hd .cop) (zoneOn w 0) (g .hd .ser (zoneOn o 0)) ∙ sym old-serial) j)
+      (sym (setN-same (g .hd .zn) (zoneOn w 0) (zoneOn w)) j)
 
   abbrev row : ℕ → ℕ → ItemStore
-  row j d = st (parOf p r) gM (w .name) (o .name) π j d
+  row j d = st (parOf p r) gM (zoneOn w 0) (zoneOn o 0) π j d
 
   moved-headers-follow : Follows p v (headerStores p w n (G .serial)) (list (row 0) 0 (p .N)) × At p r v w wb 1 0 (storeAll storeView (headerStores p w n (G .serial)) v)
   unfolding headerStores drivesOf below st
-  moved-headers-follow = row-follows p r v w wb 0 (λ d. headerBlock p d (zoneOn w d) n (G .serial)) (λ d. zeroSpare) (λ d. m-item (parOf p r) gM (w .name) (o .name) π 0 d)
+  moved-headers-follow = row-follows p r v w wb 0 (λ d. headerBlock p d (zonesIn p w) n (G .serial)) (λ d. zeroSpare) (λ d. m-item (parOf p r) gM (zoneOn w 0) (zoneOn o 0) π 0 d)
       (λ d u l a. (
         header n (G .serial) (pointer-is u d (zoneOn w d) ∙ a .left d l (omega arith)) (omega (arith, l, r .drives-high)) (omega (arith, zone-on-lt p w d wb, r .zones-high)) nl old-wide,
         (unfold kindItem in header-is d),
@@ -161,14 +162,14 @@ module _ (p : Params) (r : Ranged p) (g : Ghost) (v : View) (k : SettledOn p r g
   cs = counted p 0 G
 
   moved-item-is : (j d : ℕ) (q : Piece) → q .rec .stripe ≡ j → pieceValue q ≡ plan-F p r g v k o i j d
-      → chunk (q .rec .stripe) (valueOf (q .block) (q .rec)) ≡ m-item (parOf p r) gM (w .name) (o .name) π (suc j) d
+      → chunk (q .rec .stripe) (valueOf (q .block) (q .rec)) ≡ m-item (parOf p r) gM (zoneOn w 0) (zoneOn o 0) π (suc j) d
   moved-item-is j d q e f = unfold m-item in ap₂ chunk e (sym (value-same (q .block) (q .rec)) ∙ f)
 
   stripe-follow : (s j : ℕ) → Has s (counted p 0 G) → j < p .S → s ≡ getD (counted p 0 G) j 0 → (u : View) → At p r v w wb (suc j) 0 u
       → Follows p u (movedStripe p G w s j) (list (row (suc j)) 0 (p .N)) × At p r v w wb (suc (suc j)) 0 (storeAll storeView (movedStripe p G w s j) u)
   unfolding movedStripe putPiece drivesOf below st
   stripe-follow s j h jl e u a = row-follows p r v w wb (suc j) (λ d. movedOn p (movedPieces p G s j) j d .block) (λ d. recordBytes (movedOn p (movedPieces p G s j) j d .rec))
-      (λ d. m-item (parOf p r) gM (w .name) (o .name) π (suc j) d)
+      (λ d. m-item (parOf p r) gM (zoneOn w 0) (zoneOn o 0) π (suc j) d)
       (λ d x l b. (
         datum j (movedOn p (movedPieces p G s j) j d .block) (movedOn p (movedPieces p G s j) j d .rec) (pointer-is x d (zoneOn w d) ∙ b .left d l (omega arith)) jl
             (moved-value-long p r g v k o i s j h jl d l) (moved-wide p r g v k o i s j h jl d l),
@@ -199,19 +200,19 @@ module _ (p : Params) (r : Ranged p) (g : Ghost) (v : View) (k : SettledOn p r g
       )
 
   -- ---- the rewrite
-  resets-follow′ : (u : View) → Follows p u (resetStores p (G .seg)) (drops (parOf p r) gM (w .name) (o .name) π)
+  resets-follow′ : (u : View) → Follows p u (resetStores p (G .seg)) (drops (parOf p r) gM (zoneOn w 0) (zoneOn o 0) π)
   unfolding drops drivesOf below
-  resets-follow′ u = subst (λ (x : Seg). Follows p u (resetStores p x) (list (λ d. m-reset d (o .name)) 0 (p .N))) (sym (seg-is p v 0 o))
-      (subst (Follows p u (resetStores p o)) (sym (list-map (λ d. m-reset d (o .name)) 0 (p .N))) (reset-follows p o ob u))
+  resets-follow′ u = subst (λ (x : Seg). Follows p u (resetStores p x) (list (λ d. m-reset d (zoneOn o 0)) 0 (p .N))) (sym (seg-is p v 0 o))
+      (subst (Follows p u (resetStores p o)) (sym (list-map (λ d. m-reset d (zoneOn o 0)) 0 (p .N))) (reset-follows p o ob u))
 
-  pub rewrite-follows : Follows p v (rewriteStores p G w n) (copies (parOf p r) gM (w .name) (o .name) π ++ drops (parOf p r) gM (w .name) (o .name) π)
+  pub rewrite-follows : Follows p v (rewriteStores p G w n) (copies (parOf p r) gM (zoneOn w 0) (zoneOn o 0) π ++ drops (parOf p r) gM (zoneOn w 0) (zoneOn o 0) π)
   unfolding rewriteStores copies rows
   rewrite-follows =
       let a : Follows p v (headerStores p w n (G .serial)) (list (row 0) 0 (p .N)) × At p r v w wb 1 0 (storeAll storeView (headerStores p w n (G .serial)) v) = moved-headers-follow in
       let v₁ : View = storeAll storeView (headerStores p w n (G .serial)) v in
       let b : Follows p v₁ (movedStripes p G w (counted p 0 G) 0) (rows row (p .N) 1 (length cs)) = moved? v₁ (a .1) in
       follows-append p v (headerStores p w n (G .serial) ++ movedStripes p G w (counted p 0 G) 0) (resetStores p (G .seg))
-      (list (row 0) 0 (p .N) ++ rows row (p .N) 1 (length cs)) (drops (parOf p r) gM (w .name) (o .name) π)
+      (list (row 0) 0 (p .N) ++ rows row (p .N) 1 (length cs)) (drops (parOf p r) gM (zoneOn w 0) (zoneOn o 0) π)
       (follows-append p v (headerStores p w n (G .serial)) (movedStripes p G w (counted p 0 G) 0) (list (row 0) 0 (p .N)) (rows row (p .N) 1 (length cs)) (a .0) b)
       (resets-follow′ (storeAll storeView (headerStores p w n (G .serial) ++ movedStripes p G w (counted p 0 G) 0) v))
     where

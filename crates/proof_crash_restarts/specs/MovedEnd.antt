@@ -8,7 +8,7 @@ use native.Mathlib.Omega.{arith}
 use lib.ListN.{length, take, set}
 use Rattle.spec.specs.declared.Params.{Params}
 use Rattle.spec.specs.Bytes.{part}
-use Rattle.spec.specs.Drives.{View, pointerAt, Store, storeView, storeAll, Seg, zoneOn}
+use Rattle.spec.specs.Drives.{View, pointerAt, Store, storeView, storeAll, zoneOn}
 use Rattle.spec.specs.Lists.Opt.{none}
 use Rattle.spec.specs.Lists.{below, any, isIn}
 use Rattle.spec.specs.Params.{capacity, present}
@@ -16,7 +16,7 @@ use Rattle.spec.specs.Restart.{rewriteStores, dropStores}
 use Rattle.spec.specs.Segments.{remaining, Segment, segmentOf, segments, hasChunk, counts, counted, uncounted, storedPiece}
 use Rattle.law_basic.specs.Geometry.{Ranged}
 use Rattle.law_basic.specs.Ranges.{length-below, and-false}
-use Rattle.law_basic.specs.Segs.{segs-differ, name-once, Named}
+use Rattle.law_basic.specs.Segs.{segs-differ, Named}
 use Rattle.proof_crash_machine.specs.Facts.Pair.{alone, pair}
 use Rattle.proof_crash_machine.specs.Facts.{Ghost, Choice, R, Counted, Used, WholeZone, Ragged, Facts, used, None, none-fair, self-none}
 use Rattle.proof_crash_machine.specs.Finish.{Reads, upTo, finishing, Clean}
@@ -38,8 +38,8 @@ use Rattle.proof_crash_items.specs.Member.{Has, and-false-1, keep-has, keep-nil
 use Rattle.proof_crash_items.specs.Named.{present-has}
 use Rattle.proof_crash_items.specs.Ranges.{parOf}
 use Rattle.proof_crash_items.specs.Refuse.{Rising, rising-keep, rising-below}
-use Rattle.proof_crash_items.specs.SegFacts.{ragged-of}
-use Rattle.proof_crash_items.specs.Segs.{OnDrives}
+use Rattle.proof_crash_items.specs.SegFacts.{ragged-of, seg-low}
+use Rattle.proof_crash_items.specs.Segs.{OnDrives, number-once}
 use Rattle.proof_crash_items.specs.Sound.{Follows, follows-all, follows-cut}
 use Rattle.proof_crash_items.specs.Stripes.{stored-in, in-has-chunk, has-counted, pieceAt, counted-stripe}
 use Rattle.proof_crash_items.specs.Values.{pieceValue}
@@ -50,8 +50,9 @@ use Rattle.proof_crash_restarts.specs.Link.{stateOn, Linked, linked-on, 
 use Rattle.proof_crash_restarts.specs.Moved.{rewrite-follows}
 use Rattle.proof_crash_restarts.specs.MovedPlan.{plan-few, planOf, plan-ready}
 use Rattle.proof_crash_restarts.specs.Order.{rising-same}
-use Rattle.proof_crash_restarts.specs.Rest.{SettledOn, far-off, dropped-items, after-settled}
+use Rattle.proof_crash_restarts.specs.Rest.{SettledOn, far-off, dropped-items, after-settled, settled-used}
 use Rattle.proof_crash_restarts.specs.Runs.{Always}
+use Rattle.spec.specs.declared.Seg.{Seg}
 
 module _ (p : Params) (r : Ranged p) (v₀ : View) (g₀ : Ghost) (a : List Val) (s : Bool) (m : Mode) (lk : Linked p r v₀ g₀ a s m) (none : None (parOf p r) (g₀ .un)) where
   abbrev on₀ : OnDrives p r g₀ v₀
@@ -91,21 +92,21 @@ module _ (p : Params) (r : Ranged p) (v₀ : View) (g₀ : Ghost) (a : List Val)
     π = planOf p r (withPr g₀ alone) v k o i
 
     abbrev gM : Ghost
-    gM = naming (withPr g₀ alone) (w .name) n (g₀ .hd .ser (o .name)) (zoneOn w) (pair (w .name) (o .name))
+    gM = naming (withPr g₀ alone) (zoneOn w 0) n (g₀ .hd .ser (zoneOn o 0)) (zoneOn w) (pair (zoneOn w 0) (zoneOn o 0))
 
     abbrev ss : List Store
     ss = rewriteStores p (segmentOf p v 0 o) w n
 
     abbrev tail : List ItemStore
-    tail = copies (parOf p r) gM (w .name) (o .name) π ++ drops (parOf p r) gM (w .name) (o .name) π
+    tail = copies (parOf p r) gM (zoneOn w 0) (zoneOn o 0) π ++ drops (parOf p r) gM (zoneOn w 0) (zoneOn o 0) π
 
     follow : Follows p v ss tail
     follow = rewrite-follows p r (withPr g₀ alone) v k o i w wb empty n nl
 
-    abbrev moved-ready : Ready (parOf p r) (withPr g₀ alone) (itemsIn p v) (w .name) (o .name) n π
+    abbrev moved-ready : Ready (parOf p r) (withPr g₀ alone) (itemsIn p v) (zoneOn w 0) (zoneOn o 0) n π
     moved-ready = plan-ready p r (withPr g₀ alone) v k o i w un wb empty n top (itemsIn p v) refl refl
 
-    abbrev ready₀ : Ready (parOf p r) (withPr g₀ alone) (applyAll (itemsIn p v₀) ms) (w .name) (o .name) n π
+    abbrev ready₀ : Ready (parOf p r) (withPr g₀ alone) (applyAll (itemsIn p v₀) ms) (zoneOn w 0) (zoneOn o 0) n π
     ready₀ = plan-ready p r (withPr g₀ alone) v k o i w un wb empty n top (applyAll (itemsIn p v₀) ms) (dropped-items p r g₀ v₀ on₀ none) refl
 
     -- cut while it rewrites
@@ -114,7 +115,7 @@ module _ (p : Params) (r : Ranged p) (v₀ : View) (g₀ : Ghost) (a : List Val)
       g′ = gM;
       same = record { un = refl; said = refl; sent = refl; last = refl; base = refl; top = refl };
       linked = linked-step p r v₀ (storeAll storeView (take j ss) v) g₀ gM a a s s m off (applyAll (applyAll (itemsIn p v₀) ms) (take j tail)) lk
-          (restart-cut₂ (stateOn p v₀ g₀ a s m) j none ms (dropping p r g₀ v₀ on₀ none) (w .name) (o .name) n π ready₀)
+          (restart-cut₂ (stateOn p v₀ g₀ a s m) j none ms (dropping p r g₀ v₀ on₀ none) (zoneOn w 0) (zoneOn o 0) n π ready₀)
           (ap (λ (u : ItemView). applyAll u (take j tail)) (sym (dropped-items p r g₀ v₀ on₀ none)) ∙ sym (follows-cut p r v ss tail j (k .on .shape) follow))
           (shape-cut p r v ss tail (k .on .shape) follow j) (bytes-cut p r v ss tail (k .on .shape) follow (g₀ .un) j (k .on .bytes));
     }
@@ -130,10 +131,10 @@ module _ (p : Params) (r : Ranged p) (v₀ : View) (g₀ : Ghost) (a : List Val)
     gE = withPr gM alone
 
     facts-end : Facts (parOf p r) gE (applyAll (itemsIn p v) tail)
-    facts-end = rewrite-end (parOf p r) (withPr g₀ alone) (itemsIn p v) (w .name) (o .name) n π moved-ready (k .rest) (k .on .facts)
+    facts-end = rewrite-end (parOf p r) (withPr g₀ alone) (itemsIn p v) (zoneOn w 0) (zoneOn o 0) n π moved-ready (k .rest) (k .on .facts)
 
     clean-end : Clean (parOf p r) gE (applyAll (itemsIn p v) tail)
-    clean-end = rewrite-clean (parOf p r) (withPr g₀ alone) (itemsIn p v) (w .name) (o .name) n π moved-ready (k .rest) (k .on .facts)
+    clean-end = rewrite-clean (parOf p r) (withPr g₀ alone) (itemsIn p v) (zoneOn w 0) (zoneOn o 0) n π moved-ready (k .rest) (k .on .facts)
 
     rest-end : (z : ℕ) → Used (parOf p r) (g₀ .un) (applyAll (itemsIn p v) tail) z → R (parOf p r) (gE .hd) (applyAll (itemsIn p v) tail) (g₀ .un) z
     rest-end z q = record {
@@ -156,16 +157,16 @@ module _ (p : Params) (r : Ranged p) (v₀ : View) (g₀ : Ghost) (a : List Val)
     abbrev c : ℕ
     c = length (counted p 0 (segmentOf p v 0 o))
 
-    low-end : (d t : ℕ) (x : Val) → d < p .N → InI (chunk t x) (itemsIn p u d (w .name)) → t < c
+    low-end : (d t : ℕ) (x : Val) → d < p .N → InI (chunk t x) (itemsIn p u d (zoneOn w 0)) → t < c
     low-end d t x l q =
-        rewrite-low (parOf p r) (withPr g₀ alone) (itemsIn p v) (w .name) (o .name) n π moved-ready (k .rest) (k .on .facts) d t x l
-        (subst (λ (y : ItemView). InI (chunk t x) (y d (w .name))) items-end q)
+        rewrite-low (parOf p r) (withPr g₀ alone) (itemsIn p v) (zoneOn w 0) (zoneOn o 0) n π moved-ready (k .rest) (k .on .facts) d t x l
+        (subst (λ (y : ItemView). InI (chunk t x) (y d (zoneOn w 0))) items-end q)
 
-    has-end : (d t : ℕ) → d < p .N → t < c → (x : Val) × InI (chunk t x) (itemsIn p u d (w .name))
+    has-end : (d t : ℕ) → d < p .N → t < c → (x : Val) × InI (chunk t x) (itemsIn p u d (zoneOn w 0))
     has-end d t l b = (
       π .F t d,
-      subst (λ (y : ItemView). InI (chunk t (π .F t d)) (y d (w .name))) (sym items-end)
-          (rewrite-has (parOf p r) (withPr g₀ alone) (itemsIn p v) (w .name) (o .name) n π moved-ready (k .rest) (k .on .facts) d t l b),
+      subst (λ (y : ItemView). InI (chunk t (π .F t d)) (y d (zoneOn w 0))) (sym items-end)
+          (rewrite-has (parOf p r) (withPr g₀ alone) (itemsIn p v) (zoneOn w 0) (zoneOn o 0) n π moved-ready (k .rest) (k .on .facts) d t l b),
     )
 
     choice-end : Choice (parOf p r) (gE .un) (isIn 0)
@@ -220,37 +221,43 @@ module _ (p : Params) (r : Ranged p) (v₀ : View) (g₀ : Ghost) (a : List Val)
         G : Segment
         G = segmentOf p u 0 z
 
-        rag : Ragged (parOf p r) (isIn 0) (itemsIn p u) (z .name)
+        zb : Named p z
+        zb = seg-low p r gE u (set-end .on) 0 choice-end z j
+
+        ob : Named p o
+        ob = settled-used p r (withPr g₀ alone) v k o i .0
+
+        rag : Ragged (parOf p r) (isIn 0) (itemsIn p u) (zoneOn z 0)
         rag = ragged-of p r gE u (set-end .on) 0 choice-end z j e
 
         go : Dec (z ≡ o) → Dec (z ≡ w) → (counted p 0 (segmentOf p u 0 z) ≡ below (length (counted p 0 (segmentOf p u 0 z))))
             × (uncounted p 0 (segmentOf p u 0 z) ≡ []) × (length (counted p 0 (segmentOf p u 0 z)) < p .S)
         go (yes q) x = absurd (gone rag)
           where
-            gone : Ragged (parOf p r) (isIn 0) (itemsIn p u) (z .name) → ⊥
+            gone : Ragged (parOf p r) (isIn 0) (itemsIn p u) (zoneOn z 0) → ⊥
             gone (d, t, b, f) =
-                let y : itemsIn p u d (z .name) ≡ [] =
-                ap (λ (x : Seg). itemsIn p u d (x .name)) q
-                ∙ ap (λ (x : ItemView). x d (o .name)) items-end
-                ∙ rewrite-empty (parOf p r) (withPr g₀ alone) (itemsIn p v) (w .name) (o .name) n π moved-ready (k .rest) (k .on .facts) d (t .0) in
+                let y : itemsIn p u d (zoneOn z 0) ≡ [] =
+                ap (λ (x : Seg). itemsIn p u d (zoneOn x 0)) q
+                ∙ ap (λ (x : ItemView). x d (zoneOn o 0)) items-end
+                ∙ rewrite-empty (parOf p r) (withPr g₀ alone) (itemsIn p v) (zoneOn w 0) (zoneOn o 0) n π moved-ready (k .rest) (k .on .facts) d (t .0) in
                 let x : 0 < length {A = Item} [] = subst (λ (l : List Item). 0 < length l) y b in let j : ⊥ = omega arith in j
         go (no q) (yes x) =
             rw x (counted-is ∙ ap below (sym (ap length counted-is ∙ length-below c)), uncounted-is, subst (λ (y : ℕ). y < p .S) (sym (ap length counted-is ∙ length-below c)) part)
         go (no q) (no x) = absurd (q (same rag))
           where
-            same : Ragged (parOf p r) (isIn 0) (itemsIn p u) (z .name) → z ≡ o
+            same : Ragged (parOf p r) (isIn 0) (itemsIn p u) (zoneOn z 0) → z ≡ o
             same (d, t, b, f) =
-                let y : itemsIn p u d (z .name) ≡ itemsIn p v d (z .name) =
-                ap (λ (x : ItemView). x d (z .name)) items-end
-                ∙ rewrite-others (parOf p r) (withPr g₀ alone) (itemsIn p v) (w .name) (o .name) n π moved-ready (k .rest) (k .on .facts) d (z .name) (λ e. q (name-once z o e))
-                (λ e. x (name-once z w e)) in
+                let y : itemsIn p u d (zoneOn z 0) ≡ itemsIn p v d (zoneOn z 0) =
+                ap (λ (x : ItemView). x d (zoneOn z 0)) items-end
+                ∙ rewrite-others (parOf p r) (withPr g₀ alone) (itemsIn p v) (zoneOn w 0) (zoneOn o 0) n π moved-ready (k .rest) (k .on .facts) d (zoneOn z 0)
+                (λ e. q (number-once p r z o zb ob e)) (λ e. x (number-once p r z w zb wb e)) in
                 one (d, (t .0, none d (t .0)), subst (λ (l : List Item). 0 < length l) y b, subst (λ (l : List Item). length l < capacity p) y f) (moved-ready .ragged)
               where
-                one : Ragged (parOf p r) (g₀ .un) (itemsIn p v) (z .name) → Ragged (parOf p r) (g₀ .un) (itemsIn p v) (o .name) → z ≡ o
+                one : Ragged (parOf p r) (g₀ .un) (itemsIn p v) (zoneOn z 0) → Ragged (parOf p r) (g₀ .un) (itemsIn p v) (zoneOn o 0) → z ≡ o
                 one b f =
-                    name-once z o (⊎-elim (λ y. y) (λ y. absurd
-                    (⊎-elim (λ (h : alone ≡ pair (z .name) (o .name)). pair-alone (sym h)) (λ (h : alone ≡ pair (o .name) (z .name)). pair-alone (sym h)) y))
-                    (k .on .facts .«open» .ragged (z .name) (o .name) b f))
+                    number-once p r z o zb ob (⊎-elim (λ y. y) (λ y. absurd
+                    (⊎-elim (λ (h : alone ≡ pair (zoneOn z 0) (zoneOn o 0)). pair-alone (sym h)) (λ (h : alone ≡ pair (zoneOn o 0) (zoneOn z 0)). pair-alone (sym h)) y))
+                    (k .on .facts .«open» .ragged (zoneOn z 0) (zoneOn o 0) b f))
 
     -- ---- the machine's step
     whole-items : applyAll (itemsIn p v₀) (ms ++ tail) ≡ itemsIn p u
@@ -273,24 +280,24 @@ module _ (p : Params) (r : Ranged p) (v₀ : View) (g₀ : Ghost) (a : List Val)
       v = itemsIn p u;
       acked = a;
       since = false;
-      mode = run (restMem (op .0) (op .1 .name) (op .2) (stampTop p u) (serialTop p u));
+      mode = run (restMem (op .0) (zoneOn (op .1) 0) (op .2) (stampTop p u) (serialTop p u));
     })
     moved-end-step = subst (λ (x : ItemView).
         Reads (parOf p r) (gE .hd) x (g₀ .un) (readOn p r gE u set-end)
         → ((y : Val) → Counted (parOf p r) (gE .hd) x (g₀ .un) y → y .stamp ≤ stampTop p u)
-        → ((y : ℕ) → Ragged (parOf p r) (g₀ .un) x y → (op .0 ≡ true) × (y ≡ op .1 .name))
-        → (op .0 ≡ true → WholeZone (parOf p r) (g₀ .un) x (op .1 .name))
-        → (op .0 ≡ true → (e t : ℕ) (y : Val) → e < p .N → InI (chunk t y) (x e (op .1 .name)) → t < op .2)
+        → ((y : ℕ) → Ragged (parOf p r) (g₀ .un) x y → (op .0 ≡ true) × (y ≡ zoneOn (op .1) 0))
+        → (op .0 ≡ true → WholeZone (parOf p r) (g₀ .un) x (zoneOn (op .1) 0))
+        → (op .0 ≡ true → (e t : ℕ) (y : Val) → e < p .N → InI (chunk t y) (x e (zoneOn (op .1) 0)) → t < op .2)
         → ((y : ℕ) → Used (parOf p r) (g₀ .un) x y → gE .hd .ser y ≤ serialTop p u)
         → Step (parOf p r) (stateOn p v₀ g₀ a s m) (record {
           g = finishing gE (g₀ .un) (readOn p r gE u set-end) (stampTop p u) (upTo (stampTop p u) (g₀ .sent));
           v = x;
           acked = a;
           since = false;
-          mode = run (restMem (op .0) (op .1 .name) (op .2) (stampTop p u) (serialTop p u));
+          mode = run (restMem (op .0) (zoneOn (op .1) 0) (op .2) (stampTop p u) (serialTop p u));
         })) whole-items
-        (λ rd up rg wh bl sr. m-restart (stateOn p v₀ g₀ a s m) none ms (dropping p r g₀ v₀ on₀ none) (w .name) (o .name) n π ready₀ (readOn p r gE u set-end)
-        (stampTop p u) rd up (op .0) (op .1 .name) (op .2) (op .3 .few) rg wh bl (serialTop p u) sr)
+        (λ rd up rg wh bl sr. m-restart (stateOn p v₀ g₀ a s m) none ms (dropping p r g₀ v₀ on₀ none) (zoneOn w 0) (zoneOn o 0) n π ready₀ (readOn p r gE u set-end)
+        (stampTop p u) rd up (op .0) (zoneOn (op .1) 0) (op .2) (op .3 .few) rg wh bl (serialTop p u) sr)
         moved-end-reads moved-end-stamps (op .3 .lone) (op .3 .whole) (op .3 .low) moved-end-serials
 
     cl : Claim (parOf p r) (stateOn p v₀ g₀ a s m) (g₀ .un) (readOn p r gE u set-end)
@@ -308,7 +315,7 @@ module _ (p : Params) (r : Ranged p) (v₀ : View) (g₀ : Ghost) (a : List Val)
       n = op .2;
       opened = op .3;
       linked = linked-step p r v₀ u g₀ (finishing gE (g₀ .un) (readOn p r gE u set-end) (stampTop p u) (upTo (stampTop p u) (g₀ .sent))) a a s false m
-          (run (restMem (op .0) (op .1 .name) (op .2) (stampTop p u) (serialTop p u))) (itemsIn p u) lk moved-end-step refl (set-end .on .shape) (set-end .on .bytes);
+          (run (restMem (op .0) (zoneOn (op .1) 0) (op .2) (stampTop p u) (serialTop p u))) (itemsIn p u) lk moved-end-step refl (set-end .on .shape) (set-end .on .bytes);
       acked = cl .acked;
       sent = cl .sent;
       floor = cl .floor;

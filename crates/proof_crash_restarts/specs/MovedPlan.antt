@@ -13,7 +13,7 @@ use lib.Bits.{xor-lt}
 use lib.Pow.{pow-pos}
 use Rattle.spec.specs.declared.Params.{Params}
 use Rattle.spec.specs.Bytes.{xorAll}
-use Rattle.spec.specs.Drives.{Zone, stored, View, zoneAt, pointerAt, dataStored, Seg, seg, zoneOn}
+use Rattle.spec.specs.Drives.{Zone, stored, View, zoneAt, pointerAt, dataStored, zoneOn, across}
 use Rattle.spec.specs.Layout.{parityPosition, parityDrive, dataDrive, dataPosition, isData, dataDrives, Rec, mkRec, recordOf}
 use Rattle.spec.specs.Lists.Opt.{none}
 use Rattle.spec.specs.Lists.{below, all, keep, isIn}
@@ -23,7 +23,7 @@ use Rattle.spec.specs.Restart.{renumbered, movedPieces, movedOn}
 use Rattle.spec.specs.Segments.{remaining, Segment, segmentOf, offsetOn, hasChunk, counts, counted, storedPiece}
 use Rattle.law_basic.specs.Geometry.{Ranged, position-drive, drive-is-data, data-drive-lt, drive-position, position-lt}
 use Rattle.law_basic.specs.Ranges.{length-below, map-below-same, map-map, getD-map-below, length-keep}
-use Rattle.law_basic.specs.Segs.{Named, zone-on-lt, zones-differ}
+use Rattle.law_basic.specs.Segs.{Named, zone-on-lt, zones-differ, seg-named}
 use Rattle.law_basic.specs.Xor.{length-parity}
 use Rattle.law_code.specs.Chunks.{moved-is-data, moved-is-parity}
 use Rattle.law_code.specs.Single.{encode-xor}
@@ -41,7 +41,7 @@ use Rattle.proof_crash_items.specs.Member.{Has, keep-has, has-keep, below-has, 
 use Rattle.proof_crash_items.specs.Ranges.{parity-on, parOf, code-data, data-code, word-code}
 use Rattle.proof_crash_items.specs.Refuse.{Rising, rising-keep, rising-below}
 use Rattle.proof_crash_items.specs.SegFacts.{ragged-of}
-use Rattle.proof_crash_items.specs.Segs.{zone-bytes, used-zones}
+use Rattle.proof_crash_items.specs.Segs.{zone-bytes, number-self, number-zones, used-below}
 use Rattle.proof_crash_items.specs.Stripes.{stored-below, pointer-is, offset-on, stored-piece, stored-block-long, counted-has, pieceAt, piece-here, counted-stripe, stripe-counted}
 use Rattle.proof_crash_items.specs.Values.{pieceValue, xorL, PiecesLong, blocks-of-long, pieces-long, parity-value, onlyWhere, only-there, only-else, xor-below}
 use Rattle.proof_crash_items.specs.ZoneBytes.{blockIn}
@@ -50,6 +50,7 @@ use Rattle.proof_crash_restarts.specs.Ends.{none-choice, ends-serials}
 use Rattle.proof_crash_restarts.specs.Order.{rising-same}
 use Rattle.proof_crash_restarts.specs.Rest.{SettledOn, far-off, settled-used}
 use Rattle.proof_crash_restarts.specs.Same.{Stripe-none-any}
+use Rattle.spec.specs.declared.Seg.{Seg}
 
 rising-map : (f : ℕ → ℕ) → ((i j : ℕ) → i < j → f i < f j) → (l : List ℕ) → Rising l → Rising (map f l)
 rising-map f h [] r = tt
@@ -309,17 +310,17 @@ module _ (p : Params) (r : Ranged p) (g : Ghost) (v : View) (k : SettledOn p r g
   }
 
   -- ---- the plan copies just what counts
-  pub plan-stripe : (j : ℕ) → j < length (counted p 0 G) → Stripe (parOf p r) (itemsIn p v) (g .un) (o .name) (getD (counted p 0 G) j 0) (plan-E j)
+  pub plan-stripe : (j : ℕ) → j < length (counted p 0 G) → Stripe (parOf p r) (itemsIn p v) (g .un) (zoneOn o 0) (getD (counted p 0 G) j 0) (plan-E j)
   unfolding plan-E
-  plan-stripe j l = Stripe-none-any (parOf p r) (g .hd) (itemsIn p v) (isIn 0) (g .un) (far-off p r g v k) (k .none) (o .name) (getD cs j 0) (pieceAt p r g v (k .on) 0 ch o (getD cs j 0))
+  plan-stripe j l = Stripe-none-any (parOf p r) (g .hd) (itemsIn p v) (isIn 0) (g .un) (far-off p r g v k) (k .none) (zoneOn o 0) (getD cs j 0) (pieceAt p r g v (k .on) 0 ch o (getD cs j 0))
       (counted-stripe p r g v (k .on) 0 ch o (getD cs j 0) ob (plan-src j l))
 
-  pub plan-all : (s : ℕ) (f : ℕ → Val) (x : Val) → Stripe (parOf p r) (itemsIn p v) (g .un) (o .name) s f → Datum (parOf p r) s f x
+  pub plan-all : (s : ℕ) (f : ℕ → Val) (x : Val) → Stripe (parOf p r) (itemsIn p v) (g .un) (zoneOn o 0) s f → Datum (parOf p r) s f x
       → (j : ℕ) × (j < length (counted p 0 G)) × Datum (parOf p r) (getD (counted p 0 G) j 0) (plan-E j) x
   unfolding plan-E
   plan-all s f x st dt =
-      let st′ : Stripe (parOf p r) (itemsIn p v) (isIn 0) (o .name) s f = Stripe-none-any (parOf p r) (g .hd) (itemsIn p v) (g .un) (isIn 0) (k .none) (far-off p r g v k) (o .name) s f st in
-      let q : Has s (counted p 0 G) × ((d : ℕ) → d < p .N → pieceAt p r g v (k .on) 0 ch o s d ≡ f d) = stripe-counted p r g v (k .on) 0 ch o s f st′ in
+      let st′ : Stripe (parOf p r) (itemsIn p v) (isIn 0) (zoneOn o 0) s f = Stripe-none-any (parOf p r) (g .hd) (itemsIn p v) (g .un) (isIn 0) (k .none) (far-off p r g v k) (zoneOn o 0) s f st in
+      let q : Has s (counted p 0 G) × ((d : ℕ) → d < p .N → pieceAt p r g v (k .on) 0 ch o s d ≡ f d) = stripe-counted p r g v (k .on) 0 ch o s f ob st′ in
       let j : (j : ℕ) × (j < length cs) × (getD cs j 0 ≡ s) = has-getD cs s 0 (q .0) in (
         j .0,
         j .1,
@@ -329,14 +330,14 @@ module _ (p : Params) (r : Ranged p) (g : Ghost) (v : View) (k : SettledOn p r g
 
   -- ---- the machine is ready
   module _ (w : Seg) (un : segmentOf p v 0 o .full ≡ false) (wb : Named p w) (empty : (e : ℕ) → e < p .N → pointerAt v e (zoneOn w e) ≡ 0) (n : ℕ) (top : serialTop p v < n) where
-    pub ready-ragged : Ragged (parOf p r) (g .un) (itemsIn p v) (o .name)
+    pub ready-ragged : Ragged (parOf p r) (g .un) (itemsIn p v) (zoneOn o 0)
     ready-ragged = rag (ragged-of p r g v (k .on) 0 ch o i un)
       where
-        rag : Ragged (parOf p r) (isIn 0) (itemsIn p v) (o .name) → Ragged (parOf p r) (g .un) (itemsIn p v) (o .name)
+        rag : Ragged (parOf p r) (isIn 0) (itemsIn p v) (zoneOn o 0) → Ragged (parOf p r) (g .un) (itemsIn p v) (zoneOn o 0)
         rag (d, t, a, b) = (d, (t .0, k .none d (t .0)), a, b)
 
-    pub ready-empty : (e : ℕ) → e < p .N → itemsIn p v e (w .name) ≡ []
-    ready-empty e l = items-in p v e w ∙ none-stored (zoneAt v e (zoneOn w e)) (pointer-is v e (zoneOn w e) ∙ empty e l)
+    pub ready-empty : (e : ℕ) → e < p .N → itemsIn p v e (zoneOn w 0) ≡ []
+    ready-empty e l = items-in p v e w (omega arith) wb ∙ none-stored (zoneAt v e (zoneOn w e)) (pointer-is v e (zoneOn w e) ∙ empty e l)
       where
         none-stored : (q : Zone) → q .pointer ≡ 0 → itemsOf p q ≡ []
         none-stored q e = unfold itemsOf stored in (ap (λ (n : ℕ). itemsFrom p 0 (take n (q .blocks))) e ∙ (unfold itemsFrom in refl))
@@ -349,25 +350,27 @@ module _ (p : Params) (r : Ranged p) (g : Ghost) (v : View) (k : SettledOn p r g
 
     -- w's zones are no other segment's
     pub ready-clear : (y : ℕ) → Used (parOf p r) (g .un) (itemsIn p v) y → (d : ℕ) → d < p .N → g .hd .zn y d ≢ zoneOn w d
-    ready-clear y (e, t, b) d l q = zones-differ p (seg y) w d wb other (sym (ap (λ (f : ℕ → ℕ). f d) (used-zones p r g v (k .on) (seg y) (e, t, b))) ∙ q)
+    ready-clear y (e, t, b) d l q = zones-differ p (across p y) w d l (seg-named p y (used-below p r g v (k .on) y (e, t, b))) wb other
+        (sym (ap (λ (f : ℕ → ℕ). f d) (number-zones p r g v (k .on) y (e, t, b))) ∙ q)
       where
-        other : seg y ≡ w → ⊥
+        other : across p y ≡ w → ⊥
         other i =
-            let z : length (itemsIn p v e y) ≡ 0 = ap (λ (x : Seg). length (itemsIn p v e (x .name))) i ∙ ap length (ready-empty e (t .0)) in
+            let n : y ≡ zoneOn w 0 = sym (number-self p r y) ∙ ap (λ (x : Seg). zoneOn x 0) i in
+            let z : length (itemsIn p v e y) ≡ 0 = ap (λ (x : ℕ). length (itemsIn p v e x)) n ∙ ap length (ready-empty e (t .0)) in
             let j : ⊥ = omega (arith, z, b) in j
 
     -- on drives u that hold what v does
-    abbrev pub plan-ready : (u : ItemView) → itemsIn p v ≡ u → g .pr ≡ alone → Ready (parOf p r) g u (w .name) (o .name) n planOf
+    abbrev pub plan-ready : (u : ItemView) → itemsIn p v ≡ u → g .pr ≡ alone → Ready (parOf p r) g u (zoneOn w 0) (zoneOn o 0) n planOf
     plan-ready u same alone? = record {
       none = k .none;
       no-pair = alone?;
-      ragged = subst (λ (x : ItemView). Ragged (parOf p r) (g .un) x (o .name)) same ready-ragged;
+      ragged = subst (λ (x : ItemView). Ragged (parOf p r) (g .un) x (zoneOn o 0)) same ready-ragged;
       zs = zoneOn w;
       fits = λ d l. (zone-on-lt p w d wb, refl);
       clear = subst (λ (x : ItemView). (y : ℕ) → Used (parOf p r) (g .un) x y → (d : ℕ) → d < p .N → g .hd .zn y d ≢ zoneOn w d) same ready-clear;
-      empty = subst (λ (x : ItemView). (e : ℕ) → e < p .N → x e (w .name) ≡ []) same ready-empty;
+      empty = subst (λ (x : ItemView). (e : ℕ) → e < p .N → x e (zoneOn w 0) ≡ []) same ready-empty;
       newest = subst (λ (x : ItemView). (y : ℕ) → Used (parOf p r) (g .un) x y → g .hd .ser y < n) same ready-newest;
-      src = subst (λ (x : ItemView). (j : ℕ) → j < length (counted p 0 G) → Stripe (parOf p r) x (g .un) (o .name) (getD (counted p 0 G) j 0) (plan-E j)) same plan-stripe;
-      all = subst (λ (x : ItemView). (s : ℕ) (f : ℕ → Val) (y : Val) → Stripe (parOf p r) x (g .un) (o .name) s f → Datum (parOf p r) s f y
+      src = subst (λ (x : ItemView). (j : ℕ) → j < length (counted p 0 G) → Stripe (parOf p r) x (g .un) (zoneOn o 0) (getD (counted p 0 G) j 0) (plan-E j)) same plan-stripe;
+      all = subst (λ (x : ItemView). (s : ℕ) (f : ℕ → Val) (y : Val) → Stripe (parOf p r) x (g .un) (zoneOn o 0) s f → Datum (parOf p r) s f y
           → (j : ℕ) × (j < length (counted p 0 G)) × Datum (parOf p r) (getD (counted p 0 G) j 0) (plan-E j) y) same plan-all;
     }

@@ -2,17 +2,19 @@
 use mathlib.Core.Path.{_≡_, refl, sym, ap, ap₂, _∙_, subst}
 use mathlib.Core.List.{List, [], _∷_, _++_, map}
 use mathlib.Core.Logic.{inl, inr, ⊎-elim}
-use Prim.Native.Nat.{ℕ}
+use Prim.Native.Nat.{ℕ, _<_}
 use native.Mathlib.Omega.{arith}
 use Rattle.spec.specs.declared.Params.{Params}
-use Rattle.spec.specs.Drives.{Zone, View, zoneAt, pointerAt, Store, storeView, storeAll, Seg, seg}
+use Rattle.spec.specs.Drives.{Zone, View, zoneAt, pointerAt, Store, storeView, storeAll, zoneOn, across}
 use Rattle.spec.specs.Lists.{flat}
+use Rattle.law_basic.specs.Segs.{Named}
 use Rattle.proof_crash_machine.specs.Memory.{Ok}
 use Rattle.proof_crash_machine.specs.Rest.{InS}
 use Rattle.proof_crash_machine.specs.View.{ItemStore, AllS}
 use Rattle.proof_crash_items.specs.Member.{Has, map-has, has-map}
-use Rattle.proof_crash_items.specs.Refuse.{Rising, segNames, segs-names}
+use Rattle.proof_crash_items.specs.Refuse.{Rising, segNumbers, segs-numbers}
 use Rattle.proof_crash_items.specs.Sound.{Follows, follows-nil, follows-append}
+use Rattle.spec.specs.declared.Seg.{Seg}
 
 -- equal elements, equal lists
 pub rising-same : (l k : List ℕ) → Rising l → Rising k → ((a : ℕ) → Has a l → Has a k) → ((a : ℕ) → Has a k → Has a l) → l ≡ k
@@ -31,14 +33,16 @@ rising-same (a ∷ l) (b ∷ k) r q f h = ap₂ (λ (x : ℕ) (y : List ℕ). x 
     bwd : (x : ℕ) → Has x k → Has x l
     bwd x i = ⊎-elim (λ (e : x ≡ a). absurd (let w : ⊥ = omega (arith, q .0 x i, e, first) in w)) (λ j. j) (h x (inr i))
 
--- segments too, by their names
-pub segs-same : (l k : List Seg) → Rising (segNames l) → Rising (segNames k) → ((z : Seg) → Has z l → Has z k) → ((z : Seg) → Has z k → Has z l) → l ≡ k
-segs-same l k r q f h = sym (segs-names l) ∙ ap (map seg) (rising-same (segNames l) (segNames k) r q (into l k f) (into k l h)) ∙ segs-names k
+-- segments too, by their numbers
+pub segs-same : (p : Params) → 0 < p .N → (l k : List Seg) → ((z : Seg) → Has z l → Named p z) → Rising (segNumbers l) → Rising (segNumbers k) → ((z : Seg) → Has z l → Has z k)
+    → ((z : Seg) → Has z k → Has z l) → l ≡ k
+segs-same p c l k b r q f h =
+    sym (segs-numbers p c l b) ∙ ap (map (across p)) (rising-same (segNumbers l) (segNumbers k) r q (into l k f) (into k l h)) ∙ segs-numbers p c k (λ z i. b z (h z i))
   where
-    into : (l k : List Seg) → ((z : Seg) → Has z l → Has z k) → (n : ℕ) → Has n (segNames l) → Has n (segNames k)
+    into : (l k : List Seg) → ((z : Seg) → Has z l → Has z k) → (n : ℕ) → Has n (segNumbers l) → Has n (segNumbers k)
     into l k f n i =
-        let z : (z : Seg) × Has z l × (n ≡ z .name) = map-has (λ (z : Seg). z .name) n l i in
-        subst (λ (x : ℕ). Has x (segNames k)) (sym (z .2)) (has-map (λ (z : Seg). z .name) k (z .0) (f (z .0) (z .1)))
+        let z : (z : Seg) × Has z l × (n ≡ zoneOn z 0) = map-has (λ (z : Seg). zoneOn z 0) n l i in
+        subst (λ (x : ℕ). Has x (segNumbers k)) (sym (z .2)) (has-map (λ (z : Seg). zoneOn z 0) k (z .0) (f (z .0) (z .1)))
 
 -- ---- lists of stores
 

@@ -6,7 +6,7 @@ use Prim.Native.Nat.{ℕ, _<_}
 use native.Mathlib.Omega.{arith}
 use lib.ListN.{length}
 use Rattle.spec.specs.declared.Params.{Params}
-use Rattle.spec.specs.Drives.{View, zoneAt, pointerAt, storeView, storeAll, Seg, zoneOn}
+use Rattle.spec.specs.Drives.{View, zoneAt, pointerAt, storeView, storeAll, zoneOn, across}
 use Rattle.spec.specs.Lists.Opt.{none}
 use Rattle.spec.specs.Restart.{dropStores, freeSegs}
 use Rattle.spec.specs.Segments.{remaining, Segment, segmentOf, segments}
@@ -24,13 +24,15 @@ use Rattle.proof_crash_items.specs.Items.{itemsOf, itemsIn, items-in}
 use Rattle.proof_crash_items.specs.Member.{Has}
 use Rattle.proof_crash_items.specs.Ranges.{parOf}
 use Rattle.proof_crash_items.specs.Refuse.{remaining-rising}
-use Rattle.proof_crash_items.specs.Segs.{OnDrives, zone-len, in-segs?, has-remaining, remaining-has}
+use Rattle.proof_crash_items.specs.Segs.{OnDrives, zone-len, in-segs?, has-remaining, remaining-has, number-remaining}
 use Rattle.proof_crash_items.specs.Sound.{Follows, follows-all}
 use Rattle.proof_crash_items.specs.Named.{zero-choice, none-out, zero-few}
 use Rattle.proof_crash_restarts.specs.Drops.{dropItems, all-other, all-zero, free-has, has-free, drops-follow, dropping}
 use Rattle.proof_crash_restarts.specs.Link.{shape-after, bytes-after}
 use Rattle.proof_crash_restarts.specs.Order.{segs-same}
 use Rattle.proof_crash_restarts.specs.Same.{segment-same, R-none-any}
+use Rattle.spec.specs.declared.Seg.{Seg}
+use Rattle.proof_crash_items.specs.SegFacts.{seg-low}
 
 -- drives with the facts, none missing, no pair, where all that is used remains
 pub record SettledOn (p : Params) (r : Ranged p) (g : Ghost) (v : View) : Type 0 where
@@ -43,14 +45,18 @@ module _ (p : Params) (r : Ranged p) (g : Ghost) (v : View) (k : SettledOn p r g
   pub far-off : None (parOf p r) (isIn 0)
   far-off = none-out p r
 
-  pub settled-remains : (z : Seg) → Used (parOf p r) (g .un) (itemsIn p v) (z .name) → Has z (remaining p v 0)
-  settled-remains z u =
-      has-remaining p r g v (k .on) 0 (zero-choice p r (g .un) (k .none)) z (R-none-any (parOf p r) (g .hd) (itemsIn p v) (g .un) (isIn 0) (k .none) far-off (z .name) (k .rest (z .name) u))
+  pub settled-remains : (z : Seg) → Named p z → Used (parOf p r) (g .un) (itemsIn p v) (zoneOn z 0) → Has z (remaining p v 0)
+  settled-remains z b u =
+      has-remaining p r g v (k .on) 0 (zero-choice p r (g .un) (k .none)) z b (R-none-any (parOf p r) (g .hd) (itemsIn p v) (g .un) (isIn 0) (k .none) far-off (zoneOn z 0) (k .rest (zoneOn z 0) u))
 
-  pub settled-used : (z : Seg) → Has z (remaining p v 0) → Named p z × Used (parOf p r) (g .un) (itemsIn p v) (z .name)
+  -- by number
+  pub number-remains : (n : ℕ) → Used (parOf p r) (g .un) (itemsIn p v) n → Has (across p n) (remaining p v 0)
+  number-remains n u = number-remaining p r g v (k .on) 0 (zero-choice p r (g .un) (k .none)) n (R-none-any (parOf p r) (g .hd) (itemsIn p v) (g .un) (isIn 0) (k .none) far-off n (k .rest n u))
+
+  pub settled-used : (z : Seg) → Has z (remaining p v 0) → Named p z × Used (parOf p r) (g .un) (itemsIn p v) (zoneOn z 0)
   settled-used z i =
-      let a : Named p z × R (parOf p r) (g .hd) (itemsIn p v) (isIn 0) (z .name) = remaining-has p r g v (k .on) 0 (zero-choice p r (g .un) (k .none)) z i in
-      (a .0, used (parOf p r) g (itemsIn p v) (isIn 0) (z .name) (zero-choice p r (g .un) (k .none)) (a .1 .left))
+      let a : Named p z × R (parOf p r) (g .hd) (itemsIn p v) (isIn 0) (zoneOn z 0) = remaining-has p r g v (k .on) 0 (zero-choice p r (g .un) (k .none)) z i in
+      (a .0, used (parOf p r) g (itemsIn p v) (isIn 0) (zoneOn z 0) (zero-choice p r (g .un) (k .none)) (a .1 .left))
 
 module _ (p : Params) (r : Ranged p) (g : Ghost) (v : View) (k : OnDrives p r g v) (none : None (parOf p r) (g .un)) where
   abbrev v₁ : View
@@ -86,7 +92,7 @@ module _ (p : Params) (r : Ranged p) (g : Ghost) (v : View) (k : OnDrives p r g 
   -- zones of segments that remain are untouched, those of the others are empty
   pub kept-zone-after : (d : ℕ) (z : Seg) → Has z (remaining p v 0) → zoneAt v₁ d (zoneOn z d) ≡ zoneAt v d (zoneOn z d)
   unfolding dropStores
-  kept-zone-after d z i = all-other p r (freeSegs p (segments p v 0)) low-free v (k .shape) d z (λ j. free-has p r v 0 z j .1 i)
+  kept-zone-after d z i = all-other p r (freeSegs p (segments p v 0)) low-free v (k .shape) d z (seg-low p r g v k 0 (zero-choice p r (g .un) none) z i) (λ j. free-has p r v 0 z j .1 i)
 
   pub free-after : (d : ℕ) (z : Seg) → d < p .N → Has z (freeSegs p (segments p v 0)) → pointerAt v₁ d (zoneOn z d) ≡ 0
   unfolding dropStores
@@ -94,32 +100,37 @@ module _ (p : Params) (r : Ranged p) (g : Ghost) (v : View) (k : OnDrives p r g 
 
   -- the same segments remain
   same-fwd : (z : Seg) → Has z (remaining p v 0) → Has z (remaining p v₁ 0)
-  same-fwd z i = settled-remains p r (withPr g alone) v₁ after-settled z (0, (omega (arith, r .drives-low), none 0 (omega (arith, r .drives-low))), begun)
+  same-fwd z i = settled-remains p r (withPr g alone) v₁ after-settled z (a .0) (0, (omega (arith, r .drives-low), none 0 (omega (arith, r .drives-low))), begun)
     where
-      a : Named p z × R (parOf p r) (g .hd) (itemsIn p v) (isIn 0) (z .name)
+      a : Named p z × R (parOf p r) (g .hd) (itemsIn p v) (isIn 0) (zoneOn z 0)
       a = remaining-has p r g v k 0 (zero-choice p r (g .un) none) z i
 
-      begun : 0 < length (itemsIn p v₁ 0 (z .name))
-      begun = subst (λ (x : List Item). 0 < length x) (items-in p v 0 z ∙ ap (itemsOf p) (sym (kept-zone-after 0 z i)) ∙ sym (items-in p v₁ 0 z))
+      d0 : 0 < p .N
+      d0 = omega (arith, r .drives-low)
+
+      begun : 0 < length (itemsIn p v₁ 0 (zoneOn z 0))
+      begun = subst (λ (x : List Item). 0 < length x) (items-in p v 0 z d0 (a .0) ∙ ap (itemsOf p) (sym (kept-zone-after 0 z i)) ∙ sym (items-in p v₁ 0 z d0 (a .0)))
           (a .1 .left 0 (omega (arith, r .drives-low)) (isIn-empty 0))
 
   same-bwd : (z : Seg) → Has z (remaining p v₁ 0) → Has z (remaining p v 0)
   same-bwd z i = go (in-segs? z (remaining p v 0))
     where
-      a : Named p z × R (parOf p r) (g .hd) (itemsIn p v₁) (isIn 0) (z .name)
+      a : Named p z × R (parOf p r) (g .hd) (itemsIn p v₁) (isIn 0) (zoneOn z 0)
       a = remaining-has p r (withPr g alone) v₁ (after-settled .on) 0 (zero-choice p r (g .un) none) z i
 
       go : Dec (Has z (remaining p v 0)) → Has z (remaining p v 0)
       go (yes q) = q
       go (no q) =
           let f : pointerAt v₁ 0 (zoneOn z 0) ≡ 0 = free-after 0 z (omega (arith, r .drives-low)) (has-free p r v 0 z (a .0) q) in
-          let n : length (itemsIn p v₁ 0 (z .name)) ≡ pointerAt v₁ 0 (zoneOn z 0) =
+          let n : length (itemsIn p v₁ 0 (zoneOn z 0)) ≡ pointerAt v₁ 0 (zoneOn z 0) =
           zone-len p r (withPr g alone) v₁ (after-settled .on) 0 z (omega (arith, r .drives-low)) (none 0 (omega (arith, r .drives-low)))
           (a .0) in
           absurd (let w : ⊥ = omega (arith, f, n, a .1 .left 0 (omega (arith, r .drives-low)) (isIn-empty 0)) in w)
 
   pub remaining-same : remaining p v₁ 0 ≡ remaining p v 0
-  remaining-same = segs-same (remaining p v₁ 0) (remaining p v 0) (remaining-rising p v₁ 0) (remaining-rising p v 0) same-bwd same-fwd
+  remaining-same = segs-same p (omega (arith, r .drives-low)) (remaining p v₁ 0) (remaining p v 0)
+      (λ z i. seg-low p r (withPr g alone) v₁ (after-settled .on) 0 (zero-choice p r (g .un) none) z i)
+      (remaining-rising p r v₁ 0) (remaining-rising p r v 0) same-bwd same-fwd
 
   map-has-same : (l : List Seg) → ((z : Seg) → Has z l → Has z (remaining p v 0)) → map (segmentOf p v₁ 0) l ≡ map (segmentOf p v 0) l
   map-has-same [] h = refl

@@ -8,7 +8,7 @@ use native.Mathlib.Omega.{arith}
 use lib.Dec.{eqb}
 use lib.ListN.{getD}
 use Rattle.spec.specs.declared.Params.{Params}
-use Rattle.spec.specs.Drives.{noChunk, Zone, noZone, View, zoneAt, pointerAt, chunkAt, Seg, zoneOn, sealedIn}
+use Rattle.spec.specs.Drives.{noChunk, Zone, noZone, View, zoneAt, pointerAt, chunkAt, zoneOn, sealedIn, seg}
 use Rattle.spec.specs.Layout.{headerSerial, headerCopied}
 use Rattle.spec.specs.Lists.Opt.{some}
 use Rattle.spec.specs.Lists.{below, isIn}
@@ -23,6 +23,7 @@ use Rattle.proof_crash_machine.specs.View.{ItemView}
 use Rattle.proof_crash_machine.specs.Mask.{Mask, tf, count}
 use Rattle.proof_crash_items.specs.Named.{low-drive}
 use Rattle.proof_crash_items.specs.Ranges.{parities}
+use Rattle.spec.specs.declared.Seg.{Seg}
 
 module _ (p : Params) (r : Ranged p) (v u : View) (m : ℕ) (z : Seg) (few : count (p .N) (isIn m) ≤ parities p)
     (same : (d : ℕ) → d < p .N → zoneAt u d (zoneOn z d) ≡ zoneAt v d (zoneOn z d)) where
@@ -46,8 +47,8 @@ module _ (p : Params) (r : Ranged p) (v u : View) (m : ℕ) (z : Seg) (few : cou
   unfolding segmentOf drivesOf
   segment-same = λ j. record {
     seg = z;
-    serial = headerSerial (header-same j);
-    copied = headerCopied (header-same j);
+    serial = headerSerial p (header-same j);
+    copied = headerCopied p (header-same j);
     full = sealed-same j;
     zonesBy = zones-same j;
     recs = map (λ d. cond (isIn m d) [] (recordsIn p (sealed-same j) (getD (zones-same j) d noZone))) (below (p .N));

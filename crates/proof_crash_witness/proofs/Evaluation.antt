@@ -8,9 +8,9 @@ use Rattle.spec.specs.Calls.{ninth, ruled, firstRefusal, decided, cutMemory, li
 use Rattle.spec.specs.Closing.{padded, closeChecks, closePlan, closeVerdict, emptyChecks, emptyPlan, emptyVerdict}
 use Rattle.spec.specs.Demands.{areBytes, saidBlock, saidAt}
 use Rattle.spec.specs.Drives.{noChunk, noZone, stored, zoneAt, pointerAt, chunkAt, chunkOf, zoneOf, driveOf, viewOf, putZone, resetZone, setZone}
-use Rattle.spec.specs.Drives.{storeView, pointerByte, pointerOf, setPointer, storeDisk, storeAll, sameSeg, allSegs, zoneOn, placeSegment, emptyOnAll}
-use Rattle.spec.specs.Drives.{emptySegs, sealedIn, dataStored, blocksOf, sparesOf, recordIn, recordAt, footersOf, zeroSpare, headerStores}
-use Rattle.spec.specs.Drives.{footerStores, resetStores}
+use Rattle.spec.specs.Drives.{storeView, pointerByte, pointerOf, setPointer, storeDisk, storeAll, noSeg, sameSeg, across, allSegs, zoneOn, zonesIn}
+use Rattle.spec.specs.Drives.{placeSegment, emptyOnAll, emptySegs, sealedIn, dataStored, blocksOf, sparesOf, recordIn, recordAt, footersOf, zeroSpare}
+use Rattle.spec.specs.Drives.{headerStores, footerStores, resetStores}
 use Rattle.spec.specs.Engine.{storeCount, lentBlock, verdict, lentOk, callOn, callDisk, lentDisk, lentMemory, lentAll, leftBy, callBytes}
 use Rattle.spec.specs.Examples.{emptyLent, runs, fresh, blockOf}
 use Rattle.spec.specs.Faults.{pointerFaults, sameChunk, headerFault, serialFault, outside, twice, stripeFault, badRec, storedBad, decodedBad}
@@ -62,32 +62,33 @@ unfoldable pub evaluated : ℕ
 unfolding ones onesIn kind values isRefused isRefusedAs stampTold isCut finished beFrom beOf toBe leOf toLe part splice xors parity xorAll bytesOf
     widthsOf fieldAt readField ninth ruled firstRefusal decided cutMemory limited outcome padded closeChecks closePlan closeVerdict emptyChecks
     emptyPlan emptyVerdict areBytes saidBlock saidAt noChunk noZone stored zoneAt pointerAt chunkAt chunkOf zoneOf driveOf viewOf putZone resetZone
-    setZone storeView pointerByte pointerOf setPointer storeDisk storeAll sameSeg allSegs zoneOn placeSegment emptyOnAll emptySegs sealedIn dataStored
-    blocksOf sparesOf recordIn recordAt footersOf zeroSpare headerStores footerStores resetStores storeCount lentBlock verdict lentOk callOn callDisk
-    lentDisk lentMemory lentAll leftBy callBytes emptyLent runs fresh blockOf pointerFaults sameChunk headerFault serialFault outside twice
-    stripeFault badRec storedBad decodedBad addressFault footersStored sameBlocks footerFaultIn footerFault clashes segmentFault segmentFaults
-    imageChecks callOf restartOf inOrder swapped before happens onlyIf orderly restartIn worldAfter acknowledge forget sentBy ackedBy endsRun
-    sentAfter untrustedAfter marked step emptyDisk began namesAll allowed seenBy seenAt partAt partLen slotOf ready waiting completes seals flightRec
-    misplaced overfull entryFaults landFaults serialAt heldCand heldBy held landedCand landedCands pointed landChecks sealStores writesIn landStore
-    landPlan landVerdict parityDrive dataDrive dataPosition isData parityPosition dataDrives group inGroupOf groupOffsets compactEntry headerVersion
-    headerTable headerWidths headerLen headerFields headerBlock headerSerial headerCopied recordFields recordBytes recordOf footerBlock footerRecord
-    upFrom below all any isMember consIf keep tally isNil sucUnless indexOf flat total greatest least firstOr sameList padTo pieces zipped powers only
-    isIn slotCount slots cell idleState zeroState stateSections sectionLen sectionAt stateLen numbersAt sectionOf numberOf stateNumbers sectionBytes
-    stateBytes stateOf stripeIn filledIn landedIn isWrite entryIn entriesIn offsetIn openSegment isFree isFull isFilling inFlight freeSlot fillingSlot
-    hasFilling holdsAt holds slotOk stateOk stateFaults setStamp setOpen setClosed beginStripe addEntry landedMask markLanded freeStripe placeAt
-    setPlace compactAt shownAt slotByte slotBlock setSlotBlock setSlotParity between blockSizes parityCount dataCount mostAddresses inRange
-    recordTable recordWidths spareLen perFooter footers capacity unitLen zoneLen driveLen imageLen pointersLen addressesLen compactLen inflightLen
-    placeOf placeBlock placeZone placeDrive placeByte noDrive named drivesOf present absent parityRec parityPiece encodeBlock encodeRec encodePiece
-    decodeBlock decodeRec decodePiece beats better best placeOr candsOf placeFaults lies foundFaults shown decodeFaults storedAt decodedAt readPiece
-    lookup readAnswer readChecks readPlan readVerdict fillPlan fillVerdict namesMissing rebuildChecks rebuiltZone rebuildStores rebuildVerdict
-    placesIn tableFaults segmentPlaces liveIn flying victimOf fewer fewest victim isNone victimSegment victimLive idle reclaimChecksIn clearedRow
-    cleared resetPlan copyPlan reclaimVerdictIn freeSegs isWhole isRagged missingFooters renumbered movedPieces movedOn movedStripe movedStripes
-    rewriteStores dropStores mendStores restartStores openOf nextOf restartMemory uncountedIn reportOf namesDrive rewrites restartChecks restartPlan
-    restartVerdict lowDrive headerAt leftBy1 isCopy remaining recordsIn segmentOf segments recsOn offsetOn hasChunk counts counted uncounted
-    storedPiece pieceOf putPiece storedRec recOf offsetOf candOf segmentCands candidates addressTable compactRow rowOf compactTable greatestStamp
-    greatestSerial unsealed mustOpen opens noStamp noSerial otherGroup mustWait scarce placed openedBy slotFor begunBy sending writeChecksIn writePlan
-    writeVerdictIn callWorld callLent viewIn readsAs verdictIn callIn unrefused bothHold crowded refusedAs stripeFor stripeLands groupFrom filling
-    lentThen answerNumbers seenNumbers restartReads answersOf readsOf readAs anyBytes anyMemory boot bootWithout disk firstUse moved sealed driveLost
-    driveBack overwritten reclaimed movedAgain eventsIn answersIn readsIn table history packFrom unpack unpackAll packed unpacked joined parted firm
-    soft worldLists stateFrom worldFrom markLists markFrom bit isOne sendLists sendsFrom toldLists toldIn toldNumbers toldOf toldFrom start heard tell
+    setZone storeView pointerByte pointerOf setPointer storeDisk storeAll noSeg sameSeg across allSegs zoneOn zonesIn placeSegment emptyOnAll
+    emptySegs sealedIn dataStored blocksOf sparesOf recordIn recordAt footersOf zeroSpare headerStores footerStores resetStores storeCount lentBlock
+    verdict lentOk callOn callDisk lentDisk lentMemory lentAll leftBy callBytes emptyLent runs fresh blockOf pointerFaults sameChunk headerFault
+    serialFault outside twice stripeFault badRec storedBad decodedBad addressFault footersStored sameBlocks footerFaultIn footerFault clashes
+    segmentFault segmentFaults imageChecks callOf restartOf inOrder swapped before happens onlyIf orderly restartIn worldAfter acknowledge forget
+    sentBy ackedBy endsRun sentAfter untrustedAfter marked step emptyDisk began namesAll allowed seenBy seenAt partAt partLen slotOf ready waiting
+    completes seals flightRec misplaced overfull entryFaults landFaults serialAt heldCand heldBy held landedCand landedCands pointed landChecks
+    sealStores writesIn landStore landPlan landVerdict parityDrive dataDrive dataPosition isData parityPosition dataDrives group inGroupOf
+    groupOffsets compactEntry headerVersion headerTable headerWidths headerLen headerFields headerBlock headerSerial headerCopied recordFields
+    recordBytes recordOf footerBlock footerRecord upFrom below all any isMember consIf keep tally isNil sucUnless indexOf flat total greatest least
+    firstOr sameList padTo pieces zipped powers only isIn slotCount slots cell idleState zeroState stateSections sectionLen sectionAt stateLen
+    numbersAt sectionOf numberOf stateNumbers sectionBytes stateBytes stateOf stripeIn filledIn landedIn isWrite entryIn entriesIn offsetIn
+    openSegment isFree isFull isFilling inFlight freeSlot fillingSlot hasFilling holdsAt holds slotOk stateOk stateFaults setStamp setOpen setClosed
+    beginStripe addEntry landedMask markLanded freeStripe placeAt setPlace compactAt shownAt slotByte slotBlock setSlotBlock setSlotParity between
+    blockSizes parityCount dataCount mostAddresses inRange recordTable recordWidths spareLen perFooter footers capacity unitLen zoneLen driveLen
+    imageLen pointersLen addressesLen compactLen inflightLen placeOf placeBlock placeZone placeDrive placeByte noDrive named drivesOf present absent
+    parityRec parityPiece encodeBlock encodeRec encodePiece decodeBlock decodeRec decodePiece beats better best placeOr candsOf placeFaults lies
+    foundFaults shown decodeFaults storedAt decodedAt readPiece lookup readAnswer readChecks readPlan readVerdict fillPlan fillVerdict namesMissing
+    rebuildChecks rebuiltZone rebuildStores rebuildVerdict placesIn tableFaults segmentPlaces liveIn flying victimOf fewer fewest victim isNone
+    victimSegment victimLive idle reclaimChecksIn clearedRow cleared resetPlan copyPlan reclaimVerdictIn freeSegs isWhole isRagged missingFooters
+    renumbered movedPieces movedOn movedStripe movedStripes rewriteStores dropStores mendStores restartStores openOf nextOf restartMemory uncountedIn
+    reportOf namesDrive rewrites restartChecks restartPlan restartVerdict lowDrive headerAt leftBy1 isCopy remaining recordsIn segmentOf segments
+    recsOn offsetOn hasChunk counts counted uncounted storedPiece pieceOf putPiece storedRec recOf offsetOf candOf segmentCands candidates
+    addressTable compactRow rowOf compactTable greatestStamp greatestSerial unsealed mustOpen opens noStamp noSerial otherGroup mustWait scarce placed
+    openedBy slotFor begunBy sending writeChecksIn writePlan writeVerdictIn callWorld callLent viewIn readsAs verdictIn callIn unrefused bothHold
+    crowded refusedAs stripeFor stripeLands groupFrom filling lentThen answerNumbers seenNumbers restartReads answersOf readsOf readAs anyBytes
+    anyMemory boot bootWithout disk firstUse moved sealed driveLost driveBack overwritten reclaimed movedAgain eventsIn answersIn readsIn table
+    history packFrom unpack unpackAll packed unpacked joined parted firm soft worldLists stateFrom worldFrom markLists markFrom bit isOne sendLists
+    sendsFrom toldLists toldIn toldNumbers toldOf toldFrom start heard tell
 evaluated = 0

@@ -14,7 +14,7 @@ use Rattle.spec.specs.Answers.{kind, isRefused}
 use Rattle.spec.specs.Calls.{After, firstRefusal}
 use Rattle.spec.specs.Counts.{lastCount}
 use Rattle.spec.specs.Lists.Opt.{none, some}
-use Rattle.spec.specs.Drives.{View, pointerAt, Disk, Seg, zoneOn, allSegs}
+use Rattle.spec.specs.Drives.{View, pointerAt, Disk, zoneOn, allSegs}
 use Rattle.spec.specs.Engine.{lentOk, callDisk, Lent, Left, lentDisk, lentMemory, leftBy, callBytes}
 use Rattle.spec.specs.Engine.Call.{restart}
 use Rattle.spec.specs.Faults.{pointerFaults, segmentFault, segmentFaults}
@@ -39,6 +39,7 @@ use Rattle.proof_tables.specs.Outcomes.{EndedAs}
 use Rattle.proof_tables.specs.Outcomes.EndedAs.{ended-refused, ended-done, ended-cut}
 use Rattle.proof_tables.specs.Starting.{startChecks, startPlan}
 use Rattle.proof_tables.specs.Theorem.{restart-ends}
+use Rattle.spec.specs.declared.Seg.{Seg}
 
 module _ (p : Params) (rg : inRange p ≡ true) (k : Disk) (e : emptyDisk p k ≡ true) (d : ℕ) where
   abbrev r : Ranged p
@@ -71,7 +72,7 @@ module _ (p : Params) (rg : inRange p ≡ true) (k : Disk) (e : emptyDisk p k �
 
   none-remains : segments p v (named d) ≡ []
   unfolding segments remaining
-  none-remains = ap (λ (l : List Seg). map (segmentOf p v (named d)) (keep (λ g. not (isCopy v (lowDrive p (named d)) l g)) l)) none-left ∙ (unfold keep in refl)
+  none-remains = ap (λ (l : List Seg). map (segmentOf p v (named d)) (keep (λ g. not (isCopy p v (lowDrive p (named d)) l g)) l)) none-left ∙ (unfold keep in refl)
 
   no-pointer : pointerFaults p v (named d) ≡ []
   unfolding pointerFaults

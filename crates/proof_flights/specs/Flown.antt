@@ -7,7 +7,7 @@ use lib.Dec.{eqb}
 use lib.ListN.{length, getD}
 use Rattle.spec.specs.declared.Params.{Params}
 use Rattle.spec.specs.declared.State.{State}
-use Rattle.spec.specs.Drives.{mkChunk, View, chunkAt, Disk, Seg, zoneOn}
+use Rattle.spec.specs.Drives.{mkChunk, View, chunkAt, Disk, zoneOn}
 use Rattle.spec.specs.Landing.{flightRec}
 use Rattle.spec.specs.Layout.{parityDrive, dataDrive, dataDrives, recordBytes}
 use Rattle.spec.specs.Lists.{below, keep, isIn}
@@ -18,6 +18,7 @@ use Rattle.spec_demands.specs.Layouts.{Remains, foundCounted, ParityMade}
 use Rattle.spec_demands.specs.Tables.{Pending, noPending}
 use Rattle.proof_tables.specs.Run.{flies}
 use Rattle.law_views.specs.Views.{seen}
+use Rattle.spec.specs.declared.Seg.{Seg}
 
 -- data position k of eighth i, as the write that filled it sent it
 unfoldable pub pendingOf : Params → State → List ℕ → ℕ → ℕ → Pending
@@ -29,7 +30,7 @@ pendingOf p st fl i k =
 pub record Flights (p : Params) (v : View) (st : State) (fl : List ℕ) (ws : List Pending) : Type 0 where
   -- a chunk that has landed is what its eighth holds
   pub landed-is : (i d : ℕ) → i < 8 → flies st i ≡ true → d < p .N → isIn (landedIn st i) d ≡ true
-      → chunkAt v d (zoneOn (openSegment st) d) (1 + offsetIn st i d) ≡ mkChunk (slotBlock p fl i d) (recordBytes (flightRec p st i d))
+      → chunkAt v d (zoneOn (openSegment p st) d) (1 + offsetIn st i d) ≡ mkChunk (slotBlock p fl i d) (recordBytes (flightRec p st i d))
   -- parity has landed only of a full stripe
   pub parity-full : (i : ℕ) → i < 8 → flies st i ≡ true → isIn (landedIn st i) (parityDrive p (stripeIn st i)) ≡ true → isFull p st i ≡ true
   -- and it is worked out once the stripe is full

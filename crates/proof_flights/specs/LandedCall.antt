@@ -15,7 +15,7 @@ use Rattle.spec.specs.declared.Answer.{Answer}
 use Rattle.spec.specs.declared.Answer.the-variants.{Landed, Cut}
 use Rattle.spec.specs.Answers.{kind, values, isRefused, isCut, finished}
 use Rattle.spec.specs.Calls.{Plan, firstRefusal}
-use Rattle.spec.specs.Drives.{View, pointerAt, Store, storeView, Disk, storeDisk, storeAll, Seg, zoneOn, sealedIn}
+use Rattle.spec.specs.Drives.{View, pointerAt, Store, storeView, Disk, storeDisk, storeAll, zoneOn, sealedIn}
 use Rattle.spec.specs.Drives.Store.{put}
 use Rattle.spec.specs.Engine.Call.{land}
 use Rattle.spec.specs.Engine.{storeCount, lentBlock, verdict, lentOk, callOn, callDisk}
@@ -55,6 +55,7 @@ use Rattle.proof_flights.specs.Idled.{flown-ended}
 use Rattle.proof_flights.specs.Written.{well-of, run-seen-after, flown-parity-made, flown-of}
 use Rattle.proof_flights.specs.LandedChunk.{flies1, stripe1, chunk-flights, chunk-parities}
 use Rattle.proof_flights.specs.LandedFree.{elsewhere, elsewhere-all, free-flights, seal-parities, seal-counts}
+use Rattle.spec.specs.declared.Seg.{Seg}
 
 -- ---- the writes that wait after an answer
 
@@ -76,7 +77,7 @@ module _ (p : Params) (k : Disk) (m : Memory) (u : Run p k m) (d s : ℕ) where
   i = slotOf st s
 
   abbrev z : Seg
-  z = openSegment st
+  z = openSegment p st
 
   abbrev plan : Plan
   plan = landPlan p v m d s
@@ -109,7 +110,7 @@ module _ (p : Params) (k : Disk) (m : Memory) (u : Run p k m) (d s : ℕ) where
     he = we .healthy
 
     w : LandWaits p v st d s
-    w = land-waits p v st d s he wt
+    w = land-waits p v st d s he so wt
 
     abbrev b : List ℕ
     b = slotBlock p fl i d
@@ -126,7 +127,7 @@ module _ (p : Params) (k : Disk) (m : Memory) (u : Run p k m) (d s : ℕ) where
     abbrev fi : flies st i ≡ true
     fi = w .slot-flies
 
-    abbrev oz : st .opened ≡ suc (z .name)
+    abbrev oz : st .opened ≡ suc (zoneOn z 0)
     oz = w .slot-opened
 
     abbrev store : Store
@@ -145,12 +146,12 @@ module _ (p : Params) (k : Disk) (m : Memory) (u : Run p k m) (d s : ℕ) where
     v2 = storeAll storeView (sealStores p v1 z) v1
 
     hz : Named p z
-    hz = he .opens-at z oz .opened-zone
+    hz = w .slot-named
 
     -- ---- the view after it
 
     roomy1 : Roomy p v (store ∷ [])
-    roomy1 = chunk-roomy p rg v sh st he so z oz d i hd hi fi (w .slot-ready) b lb
+    roomy1 = chunk-roomy p rg v sh st he so z hz oz d i hd hi fi (w .slot-ready) b lb
 
     within1 : (x : Store) → In x (store ∷ []) → Within p x
     within1 x (inl e) = subst (λ (y : Store). Within p y) (sym e) (hd, zone-on-lt p z d hz)
@@ -180,7 +181,7 @@ module _ (p : Params) (k : Disk) (m : Memory) (u : Run p k m) (d s : ℕ) where
         (and-left x y q1, (eqb-true (st .next) (p .S) (and-right x y q1), eqb-true (length (inFlight st)) 1 (and-right (x && y) t sl)))
 
     pointers-full : seals p st i d ≡ true → (e : ℕ) → e < p .N → pointerAt v1 e (zoneOn z e) ≡ 1 + p .S
-    pointers-full sl = let (q, (nx, one)) = seal-parts sl in all-behind p rg v sh st he so z oz d i hd hi fi (w .slot-ready) b lb q nx one
+    pointers-full sl = let (q, (nx, one)) = seal-parts sl in all-behind p rg v sh st he so z hz oz d i hd hi fi (w .slot-ready) b lb q nx one
 
     pub view-sealed : seals p st i d ≡ true → seen p (storeAll (storeDisk p) (plan .stores) k) ≡ v2
     view-sealed q =
@@ -215,17 +216,17 @@ module _ (p : Params) (k : Disk) (m : Memory) (u : Run p k m) (d s : ℕ) where
       pm = flown-parity-made p k m ws old f none
 
       pm1 : ParityMade p v1 0 old
-      pm1 = λ g t. chunk-parities p rg v sh st he so oz d i hd hi fi (w .slot-ready) fl lb ws F old pm g t
+      pm1 = λ g t. chunk-parities p rg v sh st he so hz oz d i hd hi fi (w .slot-ready) fl lb ws F old pm g t
 
       F1 : Flights p v1 st1 fl ws
-      F1 = chunk-flights p rg v sh st he so oz d i hd hi fi (w .slot-ready) fl lb ws F
+      F1 = chunk-flights p rg v sh st he so hz oz d i hd hi fi (w .slot-ready) fl lb ws F
 
       F2 : Flights p v1 st2 fl (elsewhere s ws)
       F2 =
-          let op = chunk-open p rg v sh st he so z oz d i hd hi fi (w .slot-ready) b lb in
-          let fs = flies1 p rg v sh st he so oz d i hd hi fi (w .slot-ready) fl lb in
-          subst (λ (n : ℕ). Flights p v1 st2 fl (elsewhere n ws)) (stripe1 p rg v sh st he so oz d i hd hi fi (w .slot-ready) fl lb i ∙ w .slot-stripe)
-          (free-flights p v1 st1 (chunk-healthy p rg v sh st he so z oz d i hd hi fi (w .slot-ready) b lb .lists) i hi (fs i ∙ fi)
+          let op = chunk-open p rg v sh st he so z hz oz d i hd hi fi (w .slot-ready) b lb in
+          let fs = flies1 p rg v sh st he so hz oz d i hd hi fi (w .slot-ready) fl lb in
+          subst (λ (n : ℕ). Flights p v1 st2 fl (elsewhere n ws)) (stripe1 p rg v sh st he so hz oz d i hd hi fi (w .slot-ready) fl lb i ∙ w .slot-stripe)
+          (free-flights p v1 st1 (chunk-healthy p rg v sh st he so z hz oz d i hd hi fi (w .slot-ready) b lb .lists) i hi (fs i ∙ fi)
           (λ j hj fj e. op .once j i hj hi (sym (fs j) ∙ fj) fi e) fl ws F1)
 
       -- nothing flies in a segment that is sealed
@@ -240,7 +241,7 @@ module _ (p : Params) (k : Disk) (m : Memory) (u : Run p k m) (d s : ℕ) where
       }
         where
           left : (j : ℕ) → j < 8 → flies st2 j ≡ false
-          left j hj = last-flight p rg v sh st he so z oz d i hd hi fi (w .slot-ready) b lb (seal-parts sl .1 .1) j hj
+          left j hj = last-flight p rg v sh st he so z hz oz d i hd hi fi (w .slot-ready) b lb (seal-parts sl .1 .1) j hj
 
           none! : (j : ℕ) → j < 8 → flies (setClosed st2) j ≡ false
           none! j hj = unfold setClosed isFree filledIn in left j hj
@@ -278,7 +279,7 @@ module _ (p : Params) (k : Disk) (m : Memory) (u : Run p k m) (d s : ℕ) where
           go (no! q) t = make v1 st1 ws (view-open (not-sealed q)) (state-open q) kept1 F1 pm1 (cond-false (completes p st i d) (elsewhere s ws) ws q)
           go (yes! q) (no! ns) = make v1 st2 (elsewhere s ws) (view-open ns) (state-freed q ns) kept2 F2 pm1 (cond-true (completes p st i d) (elsewhere s ws) ws q)
           go (yes! q) (yes! sl) = make v2 (setClosed st2) (elsewhere s ws) (view-sealed sl) (state-closed q sl) kept3 (F3 sl)
-              (seal-parities p rg v1 sh1 z hz (pointers-full sl) (st .serial .0) (chunk-tidy p rg v sh st he so z oz d i hd hi fi (w .slot-ready) b lb) old pm1)
+              (seal-parities p rg v1 sh1 z hz (pointers-full sl) (st .serial .0) (chunk-tidy p rg v sh st he so z hz oz d i hd hi fi (w .slot-ready) b lb) old pm1)
               (cond-true (completes p st i d) (elsewhere s ws) ws q)
 
       -- the writes of the stripe
@@ -320,7 +321,7 @@ module _ (p : Params) (k : Disk) (m : Memory) (u : Run p k m) (d s : ℕ) where
       sealed-is = go (test (seals p st i d))
         where
           go : Test (seals p st i d) → sealedIn p after 0 z ≡ seals p st i d
-          go (no! q) = ap (λ (x : View). sealedIn p x 0 z) (view-open q) ∙ open-after p rg v sh st he so z oz d i hd hi fi (w .slot-ready) b lb ∙ sym q
+          go (no! q) = ap (λ (x : View). sealedIn p x 0 z) (view-open q) ∙ open-after p rg v sh st he so z hz oz d i hd hi fi (w .slot-ready) b lb ∙ sym q
           go (yes! q) = ap (λ (x : View). sealedIn p x 0 z) (view-sealed q) ∙ seal-sealed p rg v1 sh1 z hz (pointers-full q) ∙ sym q
 
       view-after : after ≡ storeAll storeView (store ∷ cond (sealedIn p after 0 z) (sealStores p v1 z) []) v
@@ -344,11 +345,11 @@ module _ (p : Params) (k : Disk) (m : Memory) (u : Run p k m) (d s : ℕ) where
           at-view x e = (λ j. counts p 0 (segmentOf p (e j) 0 z) (sym (w .slot-stripe) j))
 
           now : completes p st i d ≡ true → counts p 0 (segmentOf p v1 0 z) (stripeIn st i) ≡ true
-          now q = counts-now p rg v sh st he so z oz d i hd hi fi (w .slot-ready) b lb q
+          now q = counts-now p rg v sh st he so z hz oz d i hd hi fi (w .slot-ready) b lb q
 
           go : Test (completes p st i d) → Test (seals p st i d) → counts p 0 (segmentOf p after 0 z) s ≡ completes p st i d
           go (no! q) t = at-view v1 (view-open (not-so (seals p st i d) (λ sl. clash (seal-parts sl .0) q)))
-              ∙ not-so (counts p 0 (segmentOf p v1 0 z) (stripeIn st i)) (uncounted-yet p rg v sh st he so z oz d i hd hi fi (w .slot-ready) b lb q) ∙ sym q
+              ∙ not-so (counts p 0 (segmentOf p v1 0 z) (stripeIn st i)) (uncounted-yet p rg v sh st he so z hz oz d i hd hi fi (w .slot-ready) b lb q) ∙ sym q
           go (yes! q) (no! ns) = at-view v1 (view-open ns) ∙ now q ∙ sym q
           go (yes! q) (yes! sl) = at-view v2 (view-sealed sl) ∙ seal-counts p rg v1 sh1 z hz (pointers-full sl) (stripeIn st i) (now q) ∙ sym q
 
@@ -445,23 +446,23 @@ lands-say p k m ws old d s n u f x q = go (land-ends p k m u d s n)
         }
       where
         v1 : View
-        v1 = storeView (put d (zoneOn (openSegment (m .state)) d) (slotBlock p (m .inflight) (slotOf (m .state) s) d) (recordBytes (flightRec p (m .state) (slotOf (m .state) s) d))) (seen p k)
+        v1 = storeView (put d (zoneOn (openSegment p (m .state)) d) (slotBlock p (m .inflight) (slotOf (m .state) s) d) (recordBytes (flightRec p (m .state) (slotOf (m .state) s) d))) (seen p k)
 
         Stored : View → Type 0
         Stored y =
-            y ≡ storeAll storeView (put d (zoneOn (openSegment (m .state)) d) (slotBlock p (m .inflight) (slotOf (m .state) s) d) (recordBytes (flightRec p (m .state) (slotOf (m .state) s) d))
-            ∷ cond (sealedIn p y 0 (openSegment (m .state))) (sealStores p v1 (openSegment (m .state))) []) (seen p k)
+            y ≡ storeAll storeView (put d (zoneOn (openSegment p (m .state)) d) (slotBlock p (m .inflight) (slotOf (m .state) s) d) (recordBytes (flightRec p (m .state) (slotOf (m .state) s) d))
+            ∷ cond (sealedIn p y 0 (openSegment p (m .state))) (sealStores p v1 (openSegment p (m .state))) []) (seen p k)
 
         stored! : callDisk p k m (land d s n) .drives ≡ storeAll (storeDisk p) (landPlan p (seen p k) m d s .stores) k
             → Stored (seen p (storeAll (storeDisk p) (landPlan p (seen p k) m d s .stores) k))
             → viewIn onValues p (callWorld p (mkWorld k m) (land d s n) .world)
-            ≡ storeAll storeView (landingStores onValues p (mkWorld k m) (put d (zoneOn (openIn onValues (mkWorld k m)) d) (slotBlock p (m .inflight) (slotOf (m .state) s) d)
+            ≡ storeAll storeView (landingStores onValues p (mkWorld k m) (put d (zoneOn (openIn onValues p (mkWorld k m)) d) (slotBlock p (m .inflight) (slotOf (m .state) s) d)
             (recordBytes (flightRec p (m .state) (slotOf (m .state) s) d)))
-            (sealedIn p (viewIn onValues p (callWorld p (mkWorld k m) (land d s n) .world)) 0 (openIn onValues (mkWorld k m)))) (viewIn onValues p (mkWorld k m))
+            (sealedIn p (viewIn onValues p (callWorld p (mkWorld k m) (land d s n) .world)) 0 (openIn onValues p (mkWorld k m)))) (viewIn onValues p (mkWorld k m))
         stored! e h = unfold viewIn callWorld landingStores openIn in (subst (λ (y : Disk). Stored (seen p y)) (sym e) h)
 
         acknowledges! : callDisk p k m (land d s n) .drives ≡ storeAll (storeDisk p) (landPlan p (seen p k) m d s .stores) k
-            → x ≡ cond (counts p 0 (segmentOf p (seen p (storeAll (storeDisk p) (landPlan p (seen p k) m d s .stores) k)) 0 (openSegment (m .state))) s) (pendingIn ws s) 0
-            → x ≡ cond (counts p 0 (segmentOf p (viewIn onValues p (callWorld p (mkWorld k m) (land d s n) .world)) 0 (openIn onValues (mkWorld k m))) s) (pendingIn ws s) 0
+            → x ≡ cond (counts p 0 (segmentOf p (seen p (storeAll (storeDisk p) (landPlan p (seen p k) m d s .stores) k)) 0 (openSegment p (m .state))) s) (pendingIn ws s) 0
+            → x ≡ cond (counts p 0 (segmentOf p (viewIn onValues p (callWorld p (mkWorld k m) (land d s n) .world)) 0 (openIn onValues p (mkWorld k m))) s) (pendingIn ws s) 0
         acknowledges! e h = unfold viewIn callWorld openIn in
-            (subst (λ (y : Disk). x ≡ cond (counts p 0 (segmentOf p (seen p y) 0 (openSegment (m .state))) s) (pendingIn ws s) 0) (sym e) h)
+            (subst (λ (y : Disk). x ≡ cond (counts p 0 (segmentOf p (seen p y) 0 (openSegment p (m .state))) s) (pendingIn ws s) 0) (sym e) h)

@@ -13,7 +13,7 @@ use lib.ListN.{length, getD}
 use lib.Seq.{getD-set-same, getD-set-other}
 use Rattle.spec.specs.declared.Params.{Params}
 use Rattle.spec.specs.declared.State.{State}
-use Rattle.spec.specs.Drives.{Chunk, mkChunk, noChunk, Zone, View, zoneAt, pointerAt, chunkAt, putZone, storeView, Seg, zoneOn, sealedIn, dataStored, recordIn}
+use Rattle.spec.specs.Drives.{Chunk, mkChunk, noChunk, Zone, View, zoneAt, pointerAt, chunkAt, putZone, storeView, zoneOn, sealedIn, dataStored, recordIn}
 use Rattle.spec.specs.Drives.Store.{put}
 use Rattle.spec.specs.Landing.{ready, completes, flightRec}
 use Rattle.spec.specs.Layout.{parityDrive, dataDrive, dataPosition, isData, parityPosition, dataDrives, Rec, recordBytes, recordOf}
@@ -47,6 +47,7 @@ use Rattle.proof_tables.specs.Slots.{mark-landed-other, mark-offset, mark-offse
 use Rattle.proof_flights.specs.Flown.{pendingOf, Flights}
 use Rattle.proof_flights.specs.LandedPieces.{piece-parts, Extends, extends-piece, extends-back, data-drives-in, parity-grows}
 use Rattle.proof_flights.specs.Pieces.{ParityAt}
+use Rattle.spec.specs.declared.Seg.{Seg}
 
 -- ---- one block stored
 
@@ -103,10 +104,11 @@ module _ (p : Params) (r : Ranged p) (v : View) (st : State) (z : Seg) (i : ℕ)
 
 -- ---- the chunk
 
-module _ (p : Params) (r : Ranged p) (v : View) (sh : Shaped p v) (st : State) (h : HealthyState p v st) (so : StateOk p st) (oz : st .opened ≡ suc (openSegment st .name))
+module _ (p : Params) (r : Ranged p) (v : View) (sh : Shaped p v) (st : State) (h : HealthyState p v st) (so : StateOk p st)
+    (hz : Named p (openSegment p st)) (oz : st .opened ≡ suc (zoneOn (openSegment p st) 0))
     (d i : ℕ) (hd : d < p .N) (hi : i < 8) (fi : flies st i ≡ true) (rd : ready p st i d ≡ true) (fl : List ℕ) (lb : length (slotBlock p fl i d) ≡ p .B) where
   abbrev z : Seg
-  z = openSegment st
+  z = openSegment p st
 
   abbrev s : ℕ
   s = stripeIn st i
@@ -129,9 +131,6 @@ module _ (p : Params) (r : Ranged p) (v : View) (sh : Shaped p v) (st : State) (
   abbrev seg1 : Segment
   seg1 = segmentOf p v1 0 z
 
-  hz : Named p z
-  hz = h .opens-at z oz .opened-zone
-
   d8 : d < 8
   d8 = omega (arith, r .drives-high)
 
@@ -144,18 +143,18 @@ module _ (p : Params) (r : Ranged p) (v : View) (sh : Shaped p v) (st : State) (
 
       go : Dec (d ≡ e) → getD (zoneAt v1 e (zoneOn z e) .blocks) x noChunk ≡ getD (zoneAt v e (zoneOn z e) .blocks) x noChunk
       go (yes q) = subst (λ (y : ℕ). getD (zoneAt v1 y (zoneOn z y) .blocks) x noChunk ≡ getD (zoneAt v y (zoneOn z y) .blocks) x noChunk) q
-          (ap (λ (y : Zone). getD (y .blocks) x noChunk) (chunk-zone p r v sh st h so z oz d i hd hi fi rd b lb)
+          (ap (λ (y : Zone). getD (y .blocks) x noChunk) (chunk-zone p r v sh st h so z hz oz d i hd hi fi rd b lb)
           ∙ put-old b (recordBytes (flightRec p st i d)) (zoneAt v d (zoneOn z d)) x (as! (subst (λ (y : ℕ). x < pointerAt v y (zoneOn z y)) (sym q) l)))
-      go (no n) = ap (λ (y : Zone). getD (y .blocks) x noChunk) (chunk-other p r v sh st h so z oz d i hd hi fi rd b lb e z he hz (inl n))
+      go (no n) = ap (λ (y : Zone). getD (y .blocks) x noChunk) (chunk-other p r v sh st h so z hz oz d i hd hi fi rd b lb e z he hz (inl n))
 
   -- the new one
   chunk-new : getD (zoneAt v1 d (zoneOn z d) .blocks) (1 + o) noChunk ≡ mkChunk b (recordBytes (flightRec p st i d))
   chunk-new =
-      let a = pointer-some p r v sh st h so z oz d i hd hi fi rd b lb in
-      let c = pointer-data p r v sh st h so z oz d i hd hi fi rd b lb in
+      let a = pointer-some p r v sh st h so z hz oz d i hd hi fi rd b lb in
+      let c = pointer-data p r v sh st h so z hz oz d i hd hi fi rd b lb in
       let e : 1 + o ≡ pointerAt v d (zoneOn z d) = omega arith in
       ap (λ (n : ℕ). getD (zoneAt v1 d (zoneOn z d) .blocks) n noChunk) (e ∙ at!)
-      ∙ ap (λ (y : Zone). getD (y .blocks) (zoneAt v d (zoneOn z d) .pointer) noChunk) (chunk-zone p r v sh st h so z oz d i hd hi fi rd b lb)
+      ∙ ap (λ (y : Zone). getD (y .blocks) (zoneAt v d (zoneOn z d) .pointer) noChunk) (chunk-zone p r v sh st h so z hz oz d i hd hi fi rd b lb)
       ∙ put-new b (recordBytes (flightRec p st i d)) (zoneAt v d (zoneOn z d))
       (subst (λ (n : ℕ). zoneAt v d (zoneOn z d) .pointer < n) (sym (sh .zone-ok d (zoneOn z d) hd (zone-on-lt p z d hz) .blocks-long))
       (let k = capacity-over p r in let f = at! in omega arith))
@@ -177,7 +176,7 @@ module _ (p : Params) (r : Ranged p) (v : View) (sh : Shaped p v) (st : State) (
   pub stripe1 : (j : ℕ) → stripeIn st1 j ≡ stripeIn st j
   stripe1 j = unfold stripeIn markLanded in refl
 
-  open1 : openSegment st1 ≡ z
+  open1 : openSegment p st1 ≡ z
   open1 = unfold openSegment markLanded in refl
 
   -- landed now: the new one, or landed before
@@ -191,7 +190,7 @@ module _ (p : Params) (r : Ranged p) (v : View) (sh : Shaped p v) (st : State) (
       go (yes x) (no n) = inr (
         inr n,
         ap (λ (m : ℕ). isIn (landedIn st m) e) x
-            ∙ sym (mask-now p r v sh st h so z oz d i hd hi fi rd b lb e he ∙ ap (λ (t : Bool). t || isIn (landedIn st i) e) (ne-eqb e d n))
+            ∙ sym (mask-now p r v sh st h so z hz oz d i hd hi fi rd b lb e he ∙ ap (λ (t : Bool). t || isIn (landedIn st i) e) (ne-eqb e d n))
             ∙ ap (λ (m : ℕ). isIn (landedIn st1 m) e) (sym x) ∙ q,
       )
 
@@ -209,7 +208,7 @@ module _ (p : Params) (r : Ranged p) (v : View) (sh : Shaped p v) (st : State) (
         before! : isIn (landedIn st j) e ≡ true → getD (zoneAt v e (zoneOn z e) .blocks) (1 + offsetIn st j e) noChunk ≡ mkChunk (slotBlock p fl j e) (recordBytes (flightRec p st j e))
         before! y = as! (F .landed-is j e hj fj he y)
           where
-            as! : chunkAt v e (zoneOn (openSegment st) e) (1 + offsetIn st j e) ≡ mkChunk (slotBlock p fl j e) (recordBytes (flightRec p st j e))
+            as! : chunkAt v e (zoneOn (openSegment p st) e) (1 + offsetIn st j e) ≡ mkChunk (slotBlock p fl j e) (recordBytes (flightRec p st j e))
                 → getD (zoneAt v e (zoneOn z e) .blocks) (1 + offsetIn st j e) noChunk ≡ mkChunk (slotBlock p fl j e) (recordBytes (flightRec p st j e))
             as! x = unfold chunkAt in x
 
@@ -218,7 +217,7 @@ module _ (p : Params) (r : Ranged p) (v : View) (sh : Shaped p v) (st : State) (
         there! n y =
             let e8 : e < 8 = omega (arith, r .drives-high) in
             ap (λ (m : ℕ). getD (zoneAt v1 e (zoneOn z e) .blocks) (1 + m) noChunk) (mark-offset-other st (h .lists) i hi d o d8 j e (cells-differ i j d e d8 e8 n))
-            ∙ chunk-kept e (1 + offsetIn st j e) he (h .opens-at z oz .flight j hj fj .lands e he y .lies) ∙ before! y
+            ∙ chunk-kept e (1 + offsetIn st j e) he (h .opens-at z hz oz .flight j hj fj .lands e he y .lies) ∙ before! y
 
     -- what is known of the flights after the chunk
     pub chunk-flights : Flights p v1 st1 fl ws
@@ -232,7 +231,7 @@ module _ (p : Params) (r : Ranged p) (v : View) (sh : Shaped p v) (st : State) (
     }
       where
         at! : (j e : ℕ) → getD (zoneAt v1 e (zoneOn z e) .blocks) (1 + offsetIn st1 j e) noChunk ≡ mkChunk (slotBlock p fl j e) (recordBytes (flightRec p st j e))
-            → chunkAt v1 e (zoneOn (openSegment st1) e) (1 + offsetIn st1 j e) ≡ mkChunk (slotBlock p fl j e) (recordBytes (flightRec p st1 j e))
+            → chunkAt v1 e (zoneOn (openSegment p st1) e) (1 + offsetIn st1 j e) ≡ mkChunk (slotBlock p fl j e) (recordBytes (flightRec p st1 j e))
         at! j e x = unfold chunkAt in
             (ap (λ (n : Seg). getD (zoneAt v1 e (zoneOn n e) .blocks) (1 + offsetIn st1 j e) noChunk) open1 ∙ x ∙ ap (λ (y : Rec). mkChunk (slotBlock p fl j e) (recordBytes y)) (sym (rec1 j e)))
 
@@ -277,10 +276,10 @@ module _ (p : Params) (r : Ranged p) (v : View) (sh : Shaped p v) (st : State) (
         ∙ flight-entries p r v st z i f0 filled s-low))
       where
         f0 : SlotFlies p v st z i
-        f0 = h .opens-at z oz .flight i hi fi
+        f0 = h .opens-at z hz oz .flight i hi fi
 
         filled : filledIn st i ≡ dataCount p
-        filled = as! (all-filled p r v sh st h so z oz d i hd hi fi rd b lb q)
+        filled = as! (all-filled p r v sh st h so z hz oz d i hd hi fi rd b lb q)
           where
             as! : filledIn st1 i ≡ dataCount p → filledIn st i ≡ dataCount p
             as! e = unfold filledIn markLanded in e
@@ -299,8 +298,8 @@ module _ (p : Params) (r : Ranged p) (v : View) (sh : Shaped p v) (st : State) (
 
         piece : (e : ℕ) → e < p .N → storedPiece seg1 s e ≡ mkPiece (slotBlock p fl i e) (flightRec p st i e)
         piece e he =
-            let on = all-landed p r v sh st h so z oz d i hd hi fi rd b lb q e he in
-            let (c, (eo, er)) = landed-chunk p r v sh st h so z oz d i hd hi fi rd b lb e he on in
+            let on = all-landed p r v sh st h so z hz oz d i hd hi fi rd b lb q e he in
+            let (c, (eo, er)) = landed-chunk p r v sh st h so z hz oz d i hd hi fi rd b lb e he on in
             let ch = landed! i e hi fi he on in
             piece-parts p v1 0 z s e he
             ∙ ap₂ mkPiece (ap (λ (n : ℕ). getD (zoneAt v1 e (zoneOn z e) .blocks) (1 + n) noChunk .block) eo ∙ ap (λ (y : Chunk). y .block) ch)
@@ -312,9 +311,9 @@ module _ (p : Params) (r : Ranged p) (v : View) (sh : Shaped p v) (st : State) (
     chunk-extends e he = record {
       more = more! (pointers e he);
       same-record = λ x l.
-          ap (λ (t : Bool). recordIn p t (zoneAt v1 e (zoneOn z e)) x) (open-after p r v sh st h so z oz d i hd hi fi rd b lb)
+          ap (λ (t : Bool). recordIn p t (zoneAt v1 e (zoneOn z e)) x) (open-after p r v sh st h so z hz oz d i hd hi fi rd b lb)
           ∙ spare! x (ap (λ (c : Chunk). recordOf (c .spare)) (chunk-kept e (1 + x) he (lies x l)))
-          ∙ ap (λ (t : Bool). recordIn p t (zoneAt v e (zoneOn z e)) x) (sym (open-before p r v sh st h so z oz d i hd hi fi rd b lb));
+          ∙ ap (λ (t : Bool). recordIn p t (zoneAt v e (zoneOn z e)) x) (sym (open-before p r v sh st h so z hz oz d i hd hi fi rd b lb));
       same-block = λ x l. ap (λ (c : Chunk). c .block) (chunk-kept e (1 + x) he (lies x l));
     }
       where
@@ -322,8 +321,8 @@ module _ (p : Params) (r : Ranged p) (v : View) (sh : Shaped p v) (st : State) (
         pointers e he = go (ℕ-discrete d e)
           where
             go : Dec (d ≡ e) → pointerAt v e (zoneOn z e) ≤ pointerAt v1 e (zoneOn z e)
-            go (yes q) = subst (λ (x : ℕ). pointerAt v x (zoneOn z x) ≤ pointerAt v1 x (zoneOn z x)) q (let a = chunk-pointer p r v sh st h so z oz d i hd hi fi rd b lb in omega arith)
-            go (no n) = le-of-eq (sym (pointer-else p r v sh st h so z oz d i hd hi fi rd b lb e he n))
+            go (yes q) = subst (λ (x : ℕ). pointerAt v x (zoneOn z x) ≤ pointerAt v1 x (zoneOn z x)) q (let a = chunk-pointer p r v sh st h so z hz oz d i hd hi fi rd b lb in omega arith)
+            go (no n) = le-of-eq (sym (pointer-else p r v sh st h so z hz oz d i hd hi fi rd b lb e he n))
 
         more! : pointerAt v e (zoneOn z e) ≤ pointerAt v1 e (zoneOn z e) → dataStored p (zoneAt v e (zoneOn z e)) ≤ dataStored p (zoneAt v1 e (zoneOn z e))
         more! l = unfold pointerAt dataStored in omega arith
@@ -341,14 +340,14 @@ module _ (p : Params) (r : Ranged p) (v : View) (sh : Shaped p v) (st : State) (
     was-there t n e he x l q = go (ℕ-discrete d e)
       where
         op : OpenZone p v1 st1 (flies st) z
-        op = chunk-open p r v sh st h so z oz d i hd hi fi rd b lb
+        op = chunk-open p r v sh st h so z hz oz d i hd hi fi rd b lb
 
         on : isIn (landedIn st1 i) d ≡ true
-        on = mask-now p r v sh st h so z oz d i hd hi fi rd b lb d hd ∙ or-true-left (eqb d d) (isIn (landedIn st i) d) (eqb-self d)
+        on = mask-now p r v sh st h so z hz oz d i hd hi fi rd b lb d hd ∙ or-true-left (eqb d d) (isIn (landedIn st i) d) (eqb-self d)
 
         new-stripe : recordIn p (sealedIn p v1 0 z) (zoneAt v1 d (zoneOn z d)) o .stripe ≡ s
         new-stripe =
-            ap (λ (w : Bool). recordIn p w (zoneAt v1 d (zoneOn z d)) o .stripe) (open-after p r v sh st h so z oz d i hd hi fi rd b lb)
+            ap (λ (w : Bool). recordIn p w (zoneAt v1 d (zoneOn z d)) o .stripe) (open-after p r v sh st h so z hz oz d i hd hi fi rd b lb)
             ∙ ap (λ (y : ℕ). recordIn p false (zoneAt v1 d (zoneOn z d)) y .stripe) (sym (mark-offset st (h .lists) i hi d o d8)) ∙ op .flight i hi fi .lands d hd on .of-stripe ∙ stripe1 i
 
         other : (x ≡ o → ⊥) → pointerAt v1 d (zoneOn z d) ≡ suc (pointerAt v d (zoneOn z d)) → 1 ≤ pointerAt v d (zoneOn z d) → x < dataStored p (zoneAt v1 d (zoneOn z d))
@@ -358,21 +357,21 @@ module _ (p : Params) (r : Ranged p) (v : View) (sh : Shaped p v) (st : State) (
         here! : x < dataStored p (zoneAt v1 d (zoneOn z d)) → recordIn p (sealedIn p v1 0 z) (zoneAt v1 d (zoneOn z d)) x .stripe ≡ t → Dec (x ≡ o)
             → x < dataStored p (zoneAt v d (zoneOn z d))
         here! y w (yes a) = absurd (n (sym w ∙ ap (λ (m : ℕ). recordIn p (sealedIn p v1 0 z) (zoneAt v1 d (zoneOn z d)) m .stripe) a ∙ new-stripe))
-        here! y w (no a) = other a (chunk-pointer p r v sh st h so z oz d i hd hi fi rd b lb) (pointer-some p r v sh st h so z oz d i hd hi fi rd b lb) y
+        here! y w (no a) = other a (chunk-pointer p r v sh st h so z hz oz d i hd hi fi rd b lb) (pointer-some p r v sh st h so z hz oz d i hd hi fi rd b lb) y
 
         go : Dec (d ≡ e) → x < dataStored p (zoneAt v e (zoneOn z e))
-        go (no a) = subst (λ (y : Zone). x < dataStored p y) (chunk-other p r v sh st h so z oz d i hd hi fi rd b lb e z he hz (inl a)) l
+        go (no a) = subst (λ (y : Zone). x < dataStored p y) (chunk-other p r v sh st h so z hz oz d i hd hi fi rd b lb e z he hz (inl a)) l
         go (yes a) = subst (λ (m : ℕ). x < dataStored p (zoneAt v m (zoneOn z m))) a
             (here! (subst (λ (m : ℕ). x < dataStored p (zoneAt v1 m (zoneOn z m))) (sym a) l)
             (subst (λ (m : ℕ). recordIn p (sealedIn p v1 0 z) (zoneAt v1 m (zoneOn z m)) x .stripe ≡ t) (sym a) q) (ℕ-discrete x o))
 
     pub chunk-parities : (old : List Segment) → ParityMade p v 0 old → ParityMade p v1 0 old
-    chunk-parities old pm = parity-grows p r v v1 z (chunk-grows p r v sh st h so z oz d i hd hi fi rd b lb) (st .serial .0) (h .tidy) old pm
+    chunk-parities old pm = parity-grows p r v v1 z (chunk-grows p r v sh st h so z hz oz d i hd hi fi rd b lb) (st .serial .0) (h .tidy) old pm
         (λ t ht c. go t c (ℕ-discrete t s) (test (completes p st i d)))
       where
         go : (t : ℕ) → counts p 0 seg1 t ≡ true → Dec (t ≡ s) → Test (completes p st i d)
             → ((counts p 0 seg0 t ≡ true) × ((e : ℕ) → e < p .N → storedPiece seg0 t e ≡ storedPiece seg1 t e)) ⊎ ParityAt p seg1 t
-        go t c (yes e) (no! q) = absurd (uncounted-yet p r v sh st h so z oz d i hd hi fi rd b lb q (subst (λ (x : ℕ). counts p 0 seg1 x ≡ true) e c))
+        go t c (yes e) (no! q) = absurd (uncounted-yet p r v sh st h so z hz oz d i hd hi fi rd b lb q (subst (λ (x : ℕ). counts p 0 seg1 x ≡ true) e c))
         go t c (yes e) (yes! q) = inr (subst (λ (x : ℕ). ParityAt p seg1 x) (sym e) (made-now q))
         go t c (no n) y = inl (
           as! (in-all (hasChunk seg0 t) (present p 0) (λ e m. had e (present-in p 0 e m .0))),

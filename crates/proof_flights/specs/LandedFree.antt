@@ -11,7 +11,7 @@ use lib.Dec.{eqb}
 use lib.ListN.{length, getD}
 use Rattle.spec.specs.declared.Params.{Params}
 use Rattle.spec.specs.declared.State.{State}
-use Rattle.spec.specs.Drives.{Chunk, mkChunk, noChunk, Zone, View, zoneAt, pointerAt, chunkAt, storeView, storeAll, Seg, zoneOn, sealedIn, dataStored}
+use Rattle.spec.specs.Drives.{Chunk, mkChunk, noChunk, Zone, View, zoneAt, pointerAt, chunkAt, storeView, storeAll, zoneOn, sealedIn, dataStored}
 use Rattle.spec.specs.Landing.{flightRec, sealStores}
 use Rattle.spec.specs.Layout.{parityDrive, dataPosition, isData, parityPosition, dataDrives, Rec, mkRec, recordBytes}
 use Rattle.spec.specs.Lists.{below, keep, isIn}
@@ -40,6 +40,7 @@ use Rattle.proof_tables.specs.Sealing.{seal-zone, seal-pointer, seal-grows, sea
 use Rattle.proof_tables.specs.Slots.{filled-freed, free-filled-other, none-flies}
 use Rattle.proof_flights.specs.Flown.{pendingOf, Flights}
 use Rattle.proof_flights.specs.LandedPieces.{Extends, extends-counts, extends-piece, extends-sym, parity-grows}
+use Rattle.spec.specs.declared.Seg.{Seg}
 
 -- ---- an eighth is freed
 
@@ -128,8 +129,8 @@ module _ (p : Params) (v : View) (st : State) (ls : Lists st) (i : ℕ) (hi : i 
       landed! : (j e : ℕ) → isIn (landedIn st2 j) e ≡ true → isIn (landedIn st j) e ≡ true
       landed! j e q = unfold landedIn freeStripe in q
 
-      at! : (j e : ℕ) → (j ≡ i → ⊥) → chunkAt v e (zoneOn (openSegment st) e) (1 + offsetIn st j e) ≡ mkChunk (slotBlock p fl j e) (recordBytes (flightRec p st j e))
-          → chunkAt v e (zoneOn (openSegment st2) e) (1 + offsetIn st2 j e) ≡ mkChunk (slotBlock p fl j e) (recordBytes (flightRec p st2 j e))
+      at! : (j e : ℕ) → (j ≡ i → ⊥) → chunkAt v e (zoneOn (openSegment p st) e) (1 + offsetIn st j e) ≡ mkChunk (slotBlock p fl j e) (recordBytes (flightRec p st j e))
+          → chunkAt v e (zoneOn (openSegment p st2) e) (1 + offsetIn st2 j e) ≡ mkChunk (slotBlock p fl j e) (recordBytes (flightRec p st2 j e))
       at! j e n x = unfold offsetIn openSegment freeStripe in (x ∙ ap (λ (y : Rec). mkChunk (slotBlock p fl j e) (recordBytes y)) (sym (rec2 j e n)))
 
       bit! : (j : ℕ) → isIn (landedIn st2 j) (parityDrive p (stripeIn st2 j)) ≡ true → isIn (landedIn st j) (parityDrive p (stripeIn st j)) ≡ true

@@ -7,7 +7,7 @@ use Prim.Native.Nat.{ℕ, _+_, _≤_, _<_}
 use native.Mathlib.Omega.{arith}
 use lib.ListN.{getD}
 use Rattle.spec.specs.declared.Params.{Params}
-use Rattle.spec.specs.Drives.{noChunk, Zone, View, zoneAt, Seg, sameSeg, zoneOn, sealedIn, dataStored, recordIn}
+use Rattle.spec.specs.Drives.{noChunk, Zone, View, zoneAt, sameSeg, zoneOn, sealedIn, dataStored, recordIn}
 use Rattle.spec.specs.Layout.{dataDrive, dataDrives, headerSerial, Rec}
 use Rattle.spec.specs.Lists.{below, all, any, isIn}
 use Rattle.spec.specs.Params.{dataCount, present}
@@ -23,6 +23,7 @@ use Rattle.law_drives.specs.Settled.{serial-of, zones-segment}
 use Rattle.law_drives.specs.Spots.{counts-in}
 use Rattle.law_drives.specs.Tidy.{Tidy}
 use Rattle.proof_flights.specs.Pieces.{ParityAt, SameStripe, parity-from}
+use Rattle.spec.specs.declared.Seg.{Seg}
 
 -- a piece is the block and the record at the stripe's offset, whatever is missing
 pub piece-parts : (p : Params) (v : View) (gone : ℕ) (g : Seg) (s e : ℕ) → e < p .N
@@ -126,7 +127,7 @@ parity-grows p r v u z w n ti old pm f = parity-from p r v u 0 old pm (λ g s rm
     back g rm = ap (any (sameSeg g)) (grows-remaining p r v u z w n ti) ∙ rm
 
     serial! : segmentOf p v 0 z .serial ≡ segmentOf p u 0 z .serial
-    serial! = serial-of p r v n ti z ∙ ap headerSerial (w .same-head) ∙ sym (serial-of p r u n (grows-tidy p r v u z w n ti) z)
+    serial! = serial-of p r v n ti z ∙ ap (headerSerial p) (w .same-head) ∙ sym (serial-of p r u n (grows-tidy p r v u z w n ti) z)
 
     go : (g : Seg) (s : ℕ) → Remains p u 0 g → s < p .S → counts p 0 (segmentOf p u 0 g) s ≡ true → Dec (z ≡ g) → Was g s ⊎ ParityAt p (segmentOf p u 0 g) s
     go g s rm hs c (no q) =

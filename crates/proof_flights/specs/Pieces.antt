@@ -7,7 +7,7 @@ use Prim.Native.Nat.{ℕ, _+_, _<_}
 use native.Mathlib.Omega.{arith}
 use lib.ListN.{getD}
 use Rattle.spec.specs.declared.Params.{Params}
-use Rattle.spec.specs.Drives.{noChunk, Zone, noZone, View, zoneAt, chunkAt, Seg, zoneOn, sealedIn, dataStored, recordIn, recordAt}
+use Rattle.spec.specs.Drives.{noChunk, Zone, noZone, View, zoneAt, chunkAt, zoneOn, sealedIn, dataStored, recordIn, recordAt}
 use Rattle.spec.specs.Layout.{parityDrive, dataDrive, dataDrives}
 use Rattle.spec.specs.Lists.{below}
 use Rattle.spec.specs.Params.{dataCount}
@@ -23,6 +23,7 @@ use Rattle.law_drives.specs.Segs.{is-seg, seg-in, zone-by, chunk-at}
 use Rattle.law_drives.specs.Settled.{used-remains, remains-is-used, SameZones, zones-segment}
 use Rattle.law_drives.specs.Spots.{counts-in}
 use Rattle.law_drives.specs.Tidy.{usedAt, Tidy}
+use Rattle.spec.specs.declared.Seg.{Seg}
 
 -- ---- the same zones, the same pieces
 

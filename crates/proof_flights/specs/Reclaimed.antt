@@ -14,7 +14,7 @@ use Rattle.spec.specs.declared.Answer.the-variants.{Copied, Reset}
 use Rattle.spec.specs.Answers.{kind, isCut}
 use Rattle.spec.specs.Calls.{Check, Plan, firstRefusal}
 use Rattle.spec.specs.Counts.{aStamp}
-use Rattle.spec.specs.Drives.{noChunk, Zone, View, zoneAt, pointerAt, chunkAt, Store, storeView, Disk, storeDisk, storeAll, Seg, seg, zoneOn, placeSegment, sealedIn, recordIn, recordAt, resetStores}
+use Rattle.spec.specs.Drives.{noChunk, Zone, View, zoneAt, pointerAt, chunkAt, Store, storeView, Disk, storeDisk, storeAll, zoneOn, placeSegment, sealedIn, recordIn, recordAt, resetStores}
 use Rattle.spec.specs.Engine.{storeCount, lentBlock, verdict, lentOk, callOn, callDisk}
 use Rattle.spec.specs.Engine.Call.{reclaim}
 use Rattle.spec.specs.Layout.{Rec}
@@ -46,6 +46,7 @@ use Rattle.law_drives.specs.Zones.{Shaped}
 use Rattle.proof_tables.specs.Bounds.{open-short}
 use Rattle.proof_tables.specs.Going.{address-table, buffer-long}
 use Rattle.proof_tables.specs.Live.{Pointed, places-pointed}
+use Rattle.proof_tables.specs.Opened.{open-segment-is}
 use Rattle.proof_tables.specs.Outcomes.{outcome-ends}
 use Rattle.proof_tables.specs.Reclaiming.{victim-taken, live-in}
 use Rattle.proof_tables.specs.Run.{flies, HealthyState, Well, Run}
@@ -58,6 +59,7 @@ use Rattle.proof_flights.specs.Idled.{QuietAnswer, pending-quiet, quiet-
 use Rattle.proof_flights.specs.Pieces.{parity-zones, remains-of-used, used-of-remains}
 use Rattle.proof_flights.specs.Sent.{leaves-sent}
 use Rattle.proof_flights.specs.Written.{well-of, run-seen-after, flown-parity-made, flown-of}
+use Rattle.spec.specs.declared.Seg.{Seg}
 
 -- ---- a sealed segment is reset
 
@@ -67,10 +69,10 @@ module _ (p : Params) (r : Ranged p) (v : View) (sh : Shaped p v) (g : Seg) (hg 
   after = storeAll storeView (resetStores p g) v
 
   -- it isn't the open one
-  not-open : (z : Seg) → st .opened ≡ suc (z .name) → g ≡ z → ⊥
-  not-open z e q =
+  not-open : (z : Seg) → Named p z → st .opened ≡ suc (zoneOn z 0) → g ≡ z → ⊥
+  not-open z hz e q =
       let h0 : 0 < p .N = omega (arith, r .drives-low) in
-      let x = open-short p r v st z so (h .opens-at z e) 0 h0 in
+      let x = open-short p r v st z so (h .opens-at z hz e) 0 h0 in
       let y : pointerAt v 0 (zoneOn z 0) ≡ capacity p = ap (λ (x : Seg). pointerAt v 0 (zoneOn x 0)) (sym q) ∙ full 0 h0 in
       let bad : ⊥ = omega arith in bad
 
@@ -81,17 +83,15 @@ module _ (p : Params) (r : Ranged p) (v : View) (sh : Shaped p v) (g : Seg) (hg 
       same j = record { number = refl; filled = refl; landed = refl; entry = λ k l. refl; offset = λ d l. refl; write = λ k. refl }
 
       stays : (j d b : ℕ) → j < 8 → flies st j ≡ true → d < p .N → (n : ℕ) → st .opened ≡ n
-          → chunkAt after d (zoneOn (openSegment st) d) b ≡ chunkAt v d (zoneOn (openSegment st) d) b
+          → chunkAt after d (zoneOn (openSegment p st) d) b ≡ chunkAt v d (zoneOn (openSegment p st) d) b
       stays j d b hj fj hd zero e = clash fj (h .shut e j hj)
       stays j d b hj fj hd (suc n) e =
-          subst (λ (x : Seg). chunkAt after d (zoneOn x d) b ≡ chunkAt v d (zoneOn x d) b) (sym (open-is e))
-          (chunk-same (sym (reset-same p r v sh g hg (seg n) (h .opens-at (seg n) e .opened-zone) (not-open (seg n) e) d hd)))
+          let z = openSegment p st in
+          let (hz, oz) = open-segment-is p st n (omega arith) so e in
+          chunk-same z (sym (reset-same p r v sh g hg z hz (not-open z hz oz) d hd))
         where
-          open-is : st .opened ≡ suc n → openSegment st ≡ seg n
-          open-is e = unfold openSegment in ap seg (let x : st .opened - 1 ≡ n = omega arith in x)
-
-          chunk-same : zoneAt after d (zoneOn (seg n) d) ≡ zoneAt v d (zoneOn (seg n) d) → chunkAt after d (zoneOn (seg n) d) b ≡ chunkAt v d (zoneOn (seg n) d) b
-          chunk-same q = unfold chunkAt in ap (λ (x : Zone). getD (x .blocks) b noChunk) q
+          chunk-same : (z : Seg) → zoneAt after d (zoneOn z d) ≡ zoneAt v d (zoneOn z d) → chunkAt after d (zoneOn z d) b ≡ chunkAt v d (zoneOn z d) b
+          chunk-same z q = unfold chunkAt in ap (λ (x : Zone). getD (x .blocks) b noChunk) q
 
   pub parity-reset : (old : List Segment) → ParityMade p v 0 old → ParityMade p after 0 old
   parity-reset old pm = parity-zones p r v after old pm (λ y rm. go y rm)
@@ -189,7 +189,7 @@ module _ (p : Params) (k : Disk) (m : Memory) (u : Run p k m) (ws : List Pending
       let er = record-is d g o in
       let hb : placeBlock p q < capacity p = (let l = t .spot .offset-low in let y = capacity-over p rg in omega arith) in
       let lb : length (chunkAt v d (placeZone p q) (placeBlock p q) .block) ≡ p .B =
-      ap (λ (y : ℕ). length (chunkAt v d y (placeBlock p q) .block)) (sym (place-segment-zone p q)) ∙ chunk-long d g (placeBlock p q) hd hg hb in
+      ap (λ (y : ℕ). length (chunkAt v d y (placeBlock p q) .block)) (sym (place-segment-zone p q hd)) ∙ chunk-long d g (placeBlock p q) hd hg hb in
       let sh = u .base .shaped in
       let bu = buffer-long p k m u we in
       let b = chunkAt v d (placeZone p q) (placeBlock p q) .block in

@@ -12,7 +12,7 @@ use Rattle.spec.specs.declared.Answer.the-variants.{Rebuilt}
 use Rattle.spec.specs.Answers.{kind, isRefused, isCut, finished}
 use Rattle.spec.specs.Calls.{Plan, mkPlan, After, firstRefusal}
 use Rattle.spec.specs.Counts.{lastCount}
-use Rattle.spec.specs.Drives.{View, Store, storeView, Disk, storeDisk, storeAll, Seg, sameSeg}
+use Rattle.spec.specs.Drives.{View, Store, storeView, Disk, storeDisk, storeAll, sameSeg}
 use Rattle.spec.specs.Engine.Call.{restart, rebuild}
 use Rattle.spec.specs.Engine.{storeCount, lentBlock, verdict, lentOk, callOn, callDisk}
 use Rattle.spec.specs.History.{endsRun}
@@ -55,6 +55,7 @@ use Rattle.proof_flights.specs.Flown.{Flights, FoundBefore, Flown}
 use Rattle.proof_flights.specs.Idled.{quiet-refused, flown-still, flown-ended}
 use Rattle.proof_flights.specs.Written.{run-seen-after, flown-of}
 use Rattle.proof_flights.specs.RestartedViews.{counted-found, settles-parities, settles-mended}
+use Rattle.spec.specs.declared.Seg.{Seg}
 
 -- ---- a drive is missing
 

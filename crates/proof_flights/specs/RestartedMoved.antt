@@ -8,7 +8,7 @@ use native.Mathlib.Omega.{arith}
 use lib.Dec.{eqb}
 use lib.ListN.{length, getD}
 use Rattle.spec.specs.declared.Params.{Params}
-use Rattle.spec.specs.Drives.{Chunk, mkChunk, noChunk, Zone, View, zoneAt, pointerAt, Store, storeView, storeAll, zoneOn, Seg, sameSeg, sealedIn, dataStored}
+use Rattle.spec.specs.Drives.{Chunk, mkChunk, noChunk, Zone, View, zoneAt, pointerAt, Store, storeView, storeAll, zoneOn, sameSeg, sealedIn, dataStored, zonesIn}
 use Rattle.spec.specs.Drives.{recordIn, zeroSpare, headerStores, resetStores}
 use Rattle.spec.specs.Drives.Store.{put, reset}
 use Rattle.spec.specs.Layout.{parityDrive, dataDrive, dataPosition, isData, parityPosition, dataDrives, headerBlock, Rec, mkRec, recordBytes, recordOf}
@@ -42,6 +42,7 @@ use Rattle.law_drives.specs.Tests.{clash, cond-true, cond-false, cond-same, eqb
 use Rattle.law_drives.specs.Zones.{Shaped, hitsAt, zoneStore, hits, zone-after}
 use Rattle.proof_flights.specs.LandedPieces.{piece-parts}
 use Rattle.proof_flights.specs.Pieces.{ParityAt}
+use Rattle.spec.specs.declared.Seg.{Seg}
 
 -- ---- one stripe moved
 
@@ -194,19 +195,19 @@ module _ (p : Params) (r : Ranged p) (v : View) (sh : Shaped p v) (acc : Accepte
   apart e = clash kg (subst (λ (y : Seg). remains p v 0 y ≡ false) e fz)
 
   lay : ℕ → List Chunk
-  lay e = mkChunk (headerBlock p e (zoneOn z0 e) sn (x .serial)) zeroSpare ∷ chunksOn p x e cs 0
+  lay e = mkChunk (headerBlock p e (zonesIn p z0) sn (x .serial)) zeroSpare ∷ chunksOn p x e cs 0
 
   new-hits : (e : ℕ) → e < p .N → hits e (zoneOn z0 e) ts ≡ map (putAt e (zoneOn z0 e)) (lay e)
   new-hits e he = as! (hits-append e (zoneOn z0 e) (headerStores p z0 sn (x .serial) ++ movedStripes p x z0 cs 0) (resetStores p (x .seg))
       ∙ ap₂ _++_ (hits-append e (zoneOn z0 e) (headerStores p z0 sn (x .serial)) (movedStripes p x z0 cs 0)
       ∙ ap₂ _++_ (hits-headers p e (zoneOn z0 e) z0 sn (x .serial) he
-      ∙ cond-true (eqb (zoneOn z0 e) (zoneOn z0 e)) (put e (zoneOn z0 e) (headerBlock p e (zoneOn z0 e) sn (x .serial)) zeroSpare ∷ []) [] (eqb-self (zoneOn z0 e)))
+      ∙ cond-true (eqb (zoneOn z0 e) (zoneOn z0 e)) (put e (zoneOn z0 e) (headerBlock p e (zonesIn p z0) sn (x .serial)) zeroSpare ∷ []) [] (eqb-self (zoneOn z0 e)))
       (stripes-moved-hits p x z0 e (zoneOn z0 e) cs 0 he ∙ cond-true (eqb (zoneOn z0 e) (zoneOn z0 e)) (map (putAt e (zoneOn z0 e)) (chunksOn p x e cs 0)) [] (eqb-self (zoneOn z0 e))) ∙ first!)
       (ap (λ (n : Seg). hits e (zoneOn z0 e) (resetStores p n)) (seg-is p v 0 g) ∙ resets-on p e z0 g hz0 hg he
       ∙ cond-false (sameSeg g z0) (reset e (zoneOn g e) ∷ []) [] (seg-other g z0 (λ q. apart (sym q))))
       ∙ append-nil (map (putAt e (zoneOn z0 e)) (lay e)))
     where
-      first! : (put e (zoneOn z0 e) (headerBlock p e (zoneOn z0 e) sn (x .serial)) zeroSpare ∷ []) ++ map (putAt e (zoneOn z0 e)) (chunksOn p x e cs 0) ≡ map (putAt e (zoneOn z0 e)) (lay e)
+      first! : (put e (zoneOn z0 e) (headerBlock p e (zonesIn p z0) sn (x .serial)) zeroSpare ∷ []) ++ map (putAt e (zoneOn z0 e)) (chunksOn p x e cs 0) ≡ map (putAt e (zoneOn z0 e)) (lay e)
       first! = unfold lay putAt in refl
 
       as! : hits e (zoneOn z0 e) ((headerStores p z0 sn (x .serial) ++ movedStripes p x z0 cs 0) ++ resetStores p (x .seg)) ≡ map (putAt e (zoneOn z0 e)) (lay e)

@@ -11,7 +11,7 @@ use lib.Dec.{eqb}
 use lib.ListN.{length, getD}
 use Rattle.spec.specs.declared.Params.{Params}
 use Rattle.spec.specs.Counts.{lastCount}
-use Rattle.spec.specs.Drives.{Chunk, noChunk, Zone, View, zoneAt, chunkAt, Store, storeView, storeAll, Seg, zoneOn, sealedIn, seg, allSegs}
+use Rattle.spec.specs.Drives.{Chunk, noChunk, Zone, View, zoneAt, chunkAt, Store, storeView, storeAll, zoneOn, sealedIn, allSegs, noSeg}
 use Rattle.spec.specs.Layout.{headerSerial}
 use Rattle.spec.specs.Lists.{below, any, keep, isNil, flat, firstOr}
 use Rattle.spec.specs.Restart.{freeSegs, isWhole, isRagged, missingFooters, rewriteStores, dropStores, mendStores, rewrites}
@@ -38,6 +38,7 @@ use Rattle.law_drives.specs.Unsealed.Loose.{loose-none, loose-one}
 use Rattle.law_drives.specs.Zones.{Shaped}
 use Rattle.proof_flights.specs.Pieces.{ParityAt}
 use Rattle.proof_flights.specs.RestartedMoved.{rewritten-made}
+use Rattle.spec.specs.declared.Seg.{Seg}
 
 -- a counted stripe of a view is found in it
 pub counted-found : (p : Params) (v : View) (gone : ℕ) (g : Seg) (s : ℕ) → Remains p v gone g → counts p gone (segmentOf p v gone g) s ≡ true
@@ -108,8 +109,8 @@ module _ (p : Params) (r : Ranged p) (v : View) (sh : Shaped p v) (acc : Accepte
 
       serial! : segmentOf p vb 0 g .serial ≡ x .serial
       serial! =
-          serial-is p vb 0 g ∙ ap (λ (d : ℕ). headerSerial (headerAt vb d g)) (low-first p r) ∙ ap headerSerial head
-          ∙ sym (serial-is p v 0 g ∙ ap (λ (d : ℕ). headerSerial (headerAt v d g)) (low-first p r))
+          serial-is p vb 0 g ∙ ap (λ (d : ℕ). headerSerial p (headerAt vb d g)) (low-first p r) ∙ ap (headerSerial p) head
+          ∙ sym (serial-is p v 0 g ∙ ap (λ (d : ℕ). headerSerial p (headerAt v d g)) (low-first p r))
 
       settles-footers : SettlesCounted vb
       settles-footers y s hy q hs c = go (segs-differ g y)
@@ -151,7 +152,7 @@ module _ (p : Params) (r : Ranged p) (v : View) (sh : Shaped p v) (acc : Accepte
           plain! : isWhole p x ≡ false → isRagged p x ≡ false → mendStores p gs x ≡ []
           plain! q w = unfold mendStores in rw (q, w)
 
-          ragged! : isWhole p x ≡ false → isRagged p x ≡ true → mendStores p gs x ≡ rewriteStores p x (firstOr (seg 0) (freeSegs p gs)) (suc (greatestSerial gs))
+          ragged! : isWhole p x ≡ false → isRagged p x ≡ true → mendStores p gs x ≡ rewriteStores p x (firstOr noSeg (freeSegs p gs)) (suc (greatestSerial gs))
           ragged! q w = unfold mendStores in rw (q, w)
 
           rewrites! : isRagged p x ≡ true → rewrites p 0 gs ≡ true
@@ -164,8 +165,8 @@ module _ (p : Params) (r : Ranged p) (v : View) (sh : Shaped p v) (acc : Accepte
               let rw! = rewrites! w in
               let n6 : eqb (greatestSerial gs) lastCount ≡ false = sym (ap (λ (b : Bool). b && eqb (greatestSerial gs) lastCount) rw!) ∙ c6 in
               let n8 : isNil (freeSegs p gs) ≡ false = sym (ap (λ (b : Bool). b && isNil (freeSegs p gs)) rw!) ∙ c8 in
-              let z0 = firstOr (seg 0) (freeSegs p gs) in
-              let m : In z0 (keep (λ z. not (remains p v 0 z)) (allSegs p)) = subst (λ (l : List Seg). In z0 l) (free-are p r v sh acc) (first-in (freeSegs p gs) (seg 0) n8) in
+              let z0 = firstOr noSeg (freeSegs p gs) in
+              let m : In z0 (keep (λ z. not (remains p v 0 z)) (allSegs p)) = subst (λ (l : List Seg). In z0 l) (free-are p r v sh acc) (first-in (freeSegs p gs) noSeg n8) in
               let (i, f) = keep-in (λ z. not (remains p v 0 z)) (allSegs p) z0 m in
               let ne : ¬ (greatestSerial gs ≡ lastCount) = eqb-false (greatestSerial gs) lastCount n6 in
               subst (λ (l : List Store). After l) (sym (ragged! q w))

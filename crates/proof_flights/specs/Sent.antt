@@ -12,7 +12,7 @@ use lib.ListN.{length}
 use Rattle.spec.specs.declared.Params.{Params}
 use Rattle.spec.specs.declared.State.{State}
 use Rattle.spec.specs.Counts.{lastCount}
-use Rattle.spec.specs.Drives.{Zone, View, zoneAt, pointerAt, Store, storeView, storeAll, Seg, seg, allSegs, zoneOn, emptyOnAll, emptySegs, dataStored, headerStores}
+use Rattle.spec.specs.Drives.{Zone, View, zoneAt, pointerAt, Store, storeView, storeAll, allSegs, zoneOn, emptyOnAll, emptySegs, dataStored, headerStores, noSeg}
 use Rattle.spec.specs.Layout.{dataDrive}
 use Rattle.spec.specs.Lists.{any, isNil, firstOr}
 use Rattle.spec.specs.Memory.{slotCount, stripeIn, filledIn, isFree, inFlight, freeSlot, fillingSlot, hasFilling, setOpen, beginStripe, addEntry}
@@ -40,6 +40,7 @@ use Rattle.proof_flights.specs.Eighths.{freshly, plus}
 use Rattle.proof_flights.specs.Flocks.{Flock, open-of, flock-of, of-flock, flock-busy, flock-bare, bare-flock, flock-begin, flock-add, flies-add, flies-stay}
 use Rattle.proof_flights.specs.Flown.{Flights}
 use Rattle.proof_flights.specs.Pieces.{bare-counts, parity-zones, remains-of-used, used-of-remains}
+use Rattle.spec.specs.declared.Seg.{Seg}
 
 -- ---- a segment is opened: parity stays right
 
@@ -119,8 +120,8 @@ module _ (p : Params) (r : Ranged p) (v : View) (sh : Shaped p v) (st : State) (
   fills q =
       let (hi, fi, room) = filling-flies p st q in
       let i = fillingSlot p st in
-      let (z, e) = open-of p v st h i hi fi in
-      let o = flock-add p r v st (h .lists) fl l ws (flies st) i hi fi a t w b lb room hw (λ j hj fj x. h .opens-at z e .once j i hj hi fj fi (sym x)) flock in
+      let (z, hz, e) = open-of p v st (omega (arith, r .drives-low)) h so i hi fi in
+      let o = flock-add p r v st (h .lists) fl l ws (flies st) i hi fi a t w b lb room hw (λ j hj fj x. h .opens-at z hz e .once j i hj hi fj fi (sym x)) flock in
       subst (λ (x : Sending). Leaves x) (sym (sent-is q))
       (unstored st i (of-flock p v (addEntry st i a t w) (placed p st fl i a t w b .inflight) _
       (flock-busy p v (addEntry st i a t w) (placed p st fl i a t w b .inflight) _ (flies st) (flies (addEntry st i a t w)) (λ j hj. flies-stay st (h .lists) i hi fi a t w j) o)))
@@ -189,7 +190,8 @@ module _ (p : Params) (r : Ranged p) (v : View) (sh : Shaped p v) (st : State) (
     begins-stripe mo =
         subst (λ (x : Sending). Leaves x) (sym (sent-is mo))
         (unstored (beginStripe st (freeSlot st)) (freeSlot st)
-        (flown-begun v st ws (h .lists) (freeSlot st) (send-slot-free .0) (send-slot-free .1) (λ j hj fj. let (z, e) = open-of p v st h j hj fj in h .opens-at z e .flight j hj fj .begun) flock))
+        (flown-begun v st ws (h .lists) (freeSlot st) (send-slot-free .0) (send-slot-free .1)
+        (λ j hj fj. let (z, hz, e) = open-of p v st (omega (arith, r .drives-low)) h so j hj fj in h .opens-at z hz e .flight j hj fj .begun) flock))
       where
         sent-is : mustOpen p st ≡ false → sent ≡ sentAs [] (beginStripe st (freeSlot st)) (freeSlot st)
         sent-is mo = unfold sending slotFor begunBy openedBy opens placed in rw (nf, mo)
@@ -197,7 +199,7 @@ module _ (p : Params) (r : Ranged p) (v : View) (sh : Shaped p v) (st : State) (
     -- the first stripe of a segment that is opened: nothing is in flight
     begins-segment : mustOpen p st ≡ true → noSerial p st ≡ false → isNil (emptySegs p v) ≡ false → Leaves sent
     begins-segment mo ns ne =
-        let g = firstOr (seg 0) (emptySegs p v) in
+        let g = firstOr noSeg (emptySegs p v) in
         let s = st .serial .0 in
         let (hg, eg) = first-empty in
         let em = empty-all p v g eg in
@@ -211,8 +213,8 @@ module _ (p : Params) (r : Ranged p) (v : View) (sh : Shaped p v) (st : State) (
           parity-headed p r v sh st h old g hg em serial-next pm,
         )
       where
-        first-empty : Named p (firstOr (seg 0) (emptySegs p v)) × (emptyOnAll p v (firstOr (seg 0) (emptySegs p v)) ≡ true)
-        first-empty = parts (firstOr (seg 0) (emptySegs p v)) (first-in (emptySegs p v) (seg 0) ne)
+        first-empty : Named p (firstOr noSeg (emptySegs p v)) × (emptyOnAll p v (firstOr noSeg (emptySegs p v)) ≡ true)
+        first-empty = parts (firstOr noSeg (emptySegs p v)) (first-in (emptySegs p v) noSeg ne)
           where
             parts : (g : Seg) → In g (emptySegs p v) → Named p g × (emptyOnAll p v g ≡ true)
             parts g m = unfold emptySegs in (let (i, q) = keep-in (emptyOnAll p v) (allSegs p) g m in (segs-in p g i, q))
@@ -245,8 +247,8 @@ module _ (p : Params) (r : Ranged p) (v : View) (sh : Shaped p v) (st : State) (
           offsets-long = l .offsets-long;
         }
 
-        sent-is : mustOpen p st ≡ true → sent ≡ sentAs (headerStores p (firstOr (seg 0) (emptySegs p v)) (suc (st .serial .0)) 0)
-            (beginStripe (setOpen st (firstOr (seg 0) (emptySegs p v)) (suc (st .serial .0))) (freeSlot st)) (freeSlot st)
+        sent-is : mustOpen p st ≡ true → sent ≡ sentAs (headerStores p (firstOr noSeg (emptySegs p v)) (suc (st .serial .0)) 0)
+            (beginStripe (setOpen st (firstOr noSeg (emptySegs p v)) (suc (st .serial .0))) (freeSlot st)) (freeSlot st)
         sent-is mo = unfold sending slotFor begunBy openedBy opens placed in rw (nf, mo)
 
   -- all three

@@ -104,7 +104,7 @@ module _ (p : Params) (k : Disk) (m : Memory) (u : Run p k m) (ws : List Pending
       let q = padded p i x st (m .inflight) in
       let h = we .healthy in
       let o = paddings-flown p rg v ws i hi x st (m .inflight) (h .lists) (buffer-long p k m u we) fi (omega arith)
-      (λ j hj fj e. let (z, op) = open-of p v st h i hi fi in h .opens-at z op .once j i hj hi fj fi (sym e))
+      (λ j hj fj e. let (z, hz, op) = open-of p v st (omega (arith, rg .drives-low)) h so i hi fi in h .opens-at z hz op .once j i hj hi fj fi (sym e))
       (flock-of p v st (m .inflight) ws h so (f .flights (we .none-missing))) in
       flown-as p k (mkMemory (q .state) (m .addresses) (m .compact) (q .inflight)) _ ws old _ _ stores-are memory-is
       (ap (λ (y : Answer). pendingAfter call y ws) answer-is ∙ pending-quiet call (Closed (stripeIn st i)) ws (quiet-closed (stripeIn st i)))

@@ -80,7 +80,7 @@ flights-stamp : (p : Params) → Ranged p → (v : View) (st : State) (fl : List
 flights-stamp p r v st fl ws t h so f =
     of-flock p v (setStamp st t) fl ws (flock-same p r v v st (setStamp st t) fl ws (λ j. stamp-same st t j) (λ j d b hj fj hd. same-open d b) (flock-of p v st fl ws h so f))
   where
-    same-open : (d b : ℕ) → chunkAt v d (zoneOn (openSegment (setStamp st t)) d) b ≡ chunkAt v d (zoneOn (openSegment st) d) b
+    same-open : (d b : ℕ) → chunkAt v d (zoneOn (openSegment p (setStamp st t)) d) b ≡ chunkAt v d (zoneOn (openSegment p st) d) b
     same-open d b = unfold setStamp openSegment in refl
 
 -- ---- write

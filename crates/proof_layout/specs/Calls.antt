@@ -17,8 +17,8 @@ use Rattle.spec.specs.Answers.{isCut}
 use Rattle.spec.specs.Calls.{Check, Plan, mkPlan, After, mkAfter, firstRefusal}
 use Rattle.spec.specs.Closing.{padded, closeChecks, closePlan, closeVerdict}
 use Rattle.spec.specs.Counts.{paddingAddress, lastCount}
-use Rattle.spec.specs.Drives.{Zone, View, zoneAt, pointerAt, chunkAt, Store, storeView, Disk, storeDisk, storeAll}
-use Rattle.spec.specs.Drives.{allSegs, zoneOn, placeSegment, emptyOnAll, emptySegs, sealedIn, recordAt, headerStores, resetStores, seg, Seg}
+use Rattle.spec.specs.Drives.{Zone, View, zoneAt, pointerAt, chunkAt, Store, storeView, Disk, storeDisk, storeAll, noSeg}
+use Rattle.spec.specs.Drives.{allSegs, zoneOn, placeSegment, emptyOnAll, emptySegs, sealedIn, recordAt, headerStores, resetStores}
 use Rattle.spec.specs.Drives.Store.{put}
 use Rattle.spec.specs.Engine.{storeCount, lentBlock, verdict, lentOk, callOn, callDisk}
 use Rattle.spec.specs.Engine.Call.{write, land, close, reclaim, read, fill, rebuild}
@@ -67,6 +67,7 @@ use Rattle.law_drives.specs.Slots.{block-long! }
 use Rattle.law_drives.specs.States.{StateOk, state-of}
 use Rattle.proof_layout.specs.Laid.{Laid, ZoneLaid, Zoned, WellLaid, laid-zoned, laid-accepted, laid-tidy, tidy-laid}
 use Rattle.proof_layout.specs.Segments.{opened-laid, reset-laid, chunk-laid, seal-laid}
+use Rattle.spec.specs.declared.Seg.{Seg}
 
 -- ---- what a call leaves
 
@@ -124,7 +125,7 @@ module _ (p : Params) (k : Disk) (m : Memory) (u : Run p k m) (old : List Segmen
   -- ---- a block sent
 
   abbrev headers : List Store
-  headers = headerStores p (firstOr (seg 0) (emptySegs p v)) (suc (st .serial .0)) 0
+  headers = headerStores p (firstOr noSeg (emptySegs p v)) (suc (st .serial .0)) 0
 
   sending-stores : (fl : List ℕ) (a t w : ℕ) (b : List ℕ) → sending p v st fl a t w b .stores ≡ cond (opens p st) headers []
   sending-stores fl a t w b = unfold sending in refl
@@ -132,12 +133,12 @@ module _ (p : Params) (k : Disk) (m : Memory) (u : Run p k m) (old : List Segmen
   sending-missing : (fl : List ℕ) (a t w : ℕ) (b : List ℕ) → sending p v st fl a t w b .state .missing ≡ st .missing
   sending-missing fl a t w b = as! (begun (hasFilling p st) (opens p st))
     where
-      begun : (x y : Bool) → cond x st (beginStripe (cond y (setOpen st (firstOr (seg 0) (emptySegs p v)) (suc (st .serial .0))) st) (freeSlot st)) .missing ≡ st .missing
+      begun : (x y : Bool) → cond x st (beginStripe (cond y (setOpen st (firstOr noSeg (emptySegs p v)) (suc (st .serial .0))) st) (freeSlot st)) .missing ≡ st .missing
       begun true y = refl
       begun false true = unfold beginStripe setOpen in refl
       begun false false = unfold beginStripe in refl
 
-      as! : cond (hasFilling p st) st (beginStripe (cond (opens p st) (setOpen st (firstOr (seg 0) (emptySegs p v)) (suc (st .serial .0))) st) (freeSlot st)) .missing ≡ st .missing
+      as! : cond (hasFilling p st) st (beginStripe (cond (opens p st) (setOpen st (firstOr noSeg (emptySegs p v)) (suc (st .serial .0))) st) (freeSlot st)) .missing ≡ st .missing
           → sending p v st fl a t w b .state .missing ≡ st .missing
       as! e = unfold sending placed addEntry begunBy openedBy in e
 
@@ -164,8 +165,8 @@ module _ (p : Params) (k : Disk) (m : Memory) (u : Run p k m) (old : List Segmen
       go (no! q) = subst (λ (x : List Store). Sent x) (sym (cond-false (opens p st) headers [] q))
           (roomy-none p v, λ s i. absurd i, subst (λ (x : View). WellLaid p x old) (sym (stores-none v)) (well-laid we))
       go (yes! q) = subst (λ (x : List Store). Sent x) (sym (cond-true (opens p st) headers [] q)) (
-          let g = firstOr (seg 0) (emptySegs p v) in
-          let (hg, eg) = parts g (first-in (emptySegs p v) (seg 0) (ne q)) in
+          let g = firstOr noSeg (emptySegs p v) in
+          let (hg, eg) = parts g (first-in (emptySegs p v) noSeg (ne q)) in
           let em = empty-all p v g eg in
           let s = suc (st .serial .0) in (
             header-roomy p rg v sh g s 0 hg em,
@@ -376,7 +377,7 @@ module _ (p : Params) (k : Disk) (m : Memory) (u : Run p k m) (old : List Segmen
     land-ended = outcome-ends p k m (landChecks p (lentOk p k m) v m d s) (landPlan p v m d s) n []
 
     land-missing : landPlan p v m d s .memory .state .missing ≡ st .missing
-    land-missing = unfold landPlan in go (seals p st (slotOf st s) d) (completes p st (slotOf st s) d) (slotOf st s) (pointerAt v d (zoneOn (openSegment st) d) - 1)
+    land-missing = unfold landPlan in go (seals p st (slotOf st s) d) (completes p st (slotOf st s) d) (slotOf st s) (pointerAt v d (zoneOn (openSegment p st) d) - 1)
       where
         go : (x y : Bool) (i o : ℕ) → cond x (setClosed (cond y (freeStripe (markLanded st i d o) i) (markLanded st i d o)))
             (cond y (freeStripe (markLanded st i d o) i) (markLanded st i d o)) .missing ≡ st .missing
@@ -392,7 +393,7 @@ module _ (p : Params) (k : Disk) (m : Memory) (u : Run p k m) (old : List Segmen
         i = slotOf st s
 
         z : Seg
-        z = openSegment st
+        z = openSegment p st
 
         sh : Shaped p v
         sh = u .base .shaped
@@ -443,10 +444,10 @@ module _ (p : Params) (k : Disk) (m : Memory) (u : Run p k m) (old : List Segmen
             v1 = storeView store v
 
             hz : Named p z
-            hz = he .opens-at z (x .slot-opened) .opened-zone
+            hz = x .slot-named
 
             ro : Roomy p v (store ∷ [])
-            ro = chunk-roomy p rg v sh st he so z (x .slot-opened) d i hd (x .slot-ok) (x .slot-flies) (x .slot-ready) b lb
+            ro = chunk-roomy p rg v sh st he so z hz (x .slot-opened) d i hd (x .slot-ok) (x .slot-flies) (x .slot-ready) b lb
 
             wi : (y : Store) → In y (store ∷ []) → Within p y
             wi y (inl e) = subst (λ (a : Store). Within p a) (sym e) (hd, zone-on-lt p z d hz)
@@ -456,7 +457,8 @@ module _ (p : Params) (k : Disk) (m : Memory) (u : Run p k m) (old : List Segmen
             used! y f = ap not (ne-eqb (pointerAt y 0 (zoneOn z 0)) 0 (λ e. let a = f 0 (omega (arith, rg .drives-low)) in let bad : ⊥ = omega arith in bad))
 
             wl : WellLaid p v1 old
-            wl = chunk-laid p rg v sh st he so z (x .slot-opened) d i hd (x .slot-ok) (x .slot-flies) (x .slot-ready) b lb old (used! v (he .opens-at z (x .slot-opened) .has-header)) (well-laid we)
+            wl = chunk-laid p rg v sh st he so z hz (x .slot-opened) d i hd (x .slot-ok) (x .slot-flies) (x .slot-ready) b lb old
+                (used! v (he .opens-at z hz (x .slot-opened) .has-header)) (well-laid we)
 
             mz : ld .memory .state .missing ≡ 0
             mz = ap (λ (y : Memory). y .state .missing) h ∙ land-missing ∙ we .none-missing
@@ -468,17 +470,17 @@ module _ (p : Params) (k : Disk) (m : Memory) (u : Run p k m) (old : List Segmen
                 let (cm, nx, fl) = seal-parts q in
                 let ss = sealStores p v1 z in
                 let sh1 : Shaped p v1 = subst (λ (y : View). Shaped p y) one-store (shaped-after p v (store ∷ []) sh ro) in
-                let behind = all-behind p rg v sh st he so z (x .slot-opened) d i hd (x .slot-ok) (x .slot-flies) (x .slot-ready) b lb cm nx fl in
+                let behind = all-behind p rg v sh st he so z hz (x .slot-opened) d i hd (x .slot-ok) (x .slot-flies) (x .slot-ready) b lb cm nx fl in
                 done-keeps p k m old ld ((store ∷ []) ++ ss) u (stepped p k m u (land d s n) .1 nc) (g ∙ ap (λ (y : List Store). storeAll (storeDisk p) y k) (seal-stores q)) mz
                 (roomy-append p v (store ∷ []) ss (sh .sized) ro (subst (λ (y : View). Roomy p y ss) (sym one-store) (seal-roomy p rg v1 sh1 z hz behind)))
                 (within-append p (store ∷ []) ss wi (seal-within p rg v1 sh1 z hz behind))
                 (subst (λ (y : View). WellLaid p y old) (sym (storeAll-append storeView (store ∷ []) ss v ∙ ap (storeAll storeView ss) one-store))
                 (seal-laid p rg v1 sh1 old z hz behind (used! v1 (λ e l. let a = behind e l in omega arith))
-                (open-after p rg v sh st he so z (x .slot-opened) d i hd (x .slot-ok) (x .slot-flies) (x .slot-ready) b lb) wl))
+                (open-after p rg v sh st he so z hz (x .slot-opened) d i hd (x .slot-ok) (x .slot-flies) (x .slot-ready) b lb) wl))
 
         go : EndedAs p k m (landChecks p (lentOk p k m) v m d s) (landPlan p v m d s) ld → KeepsLaid p old ld
         go (ended-refused x e f g h) = same-keeps p k m old ld l g h
-        go (ended-done c f g h) = done (test (seals p st (slotOf st s) d)) (land-waits p v st d s he (parts c)) g h
+        go (ended-done c f g h) = done (test (seals p st (slotOf st s) d)) (land-waits p v st d s he so (parts c)) g h
         go (ended-cut c f) = clash (ap isCut f ∙ cut-cut) nc
 
     land-lost : LostDrive p k m → isCut (ld .answer) ≡ false → KeepsLaid p old ld
@@ -522,10 +524,10 @@ module _ (p : Params) (k : Disk) (m : Memory) (u : Run p k m) (old : List Segmen
         let j : In g (remaining p v gone) = subst (λ (x : List Seg). In g x) (sym (same-remaining p gone v v2 low ag)) i in
         let hg = remaining-low p v gone g j in
         let c = same-core p gone v v2 low ag g hg in
-        subst (λ (x : Zone). ZoneLaid p old (sealedIn p v2 gone g) (segmentOf p v2 gone g .serial) (segmentOf p v2 gone g .copied) d (zoneOn g d) x) (ag d (zoneOn g d) hd (zone-on-lt p g d hg) hq)
-        (subst (λ (x : ℕ). ZoneLaid p old (sealedIn p v2 gone g) (segmentOf p v2 gone g .serial) x d (zoneOn g d) (zoneAt v d (zoneOn g d))) (copied! g c)
-        (subst (λ (x : ℕ). ZoneLaid p old (sealedIn p v2 gone g) x (segmentOf p v gone g .copied) d (zoneOn g d) (zoneAt v d (zoneOn g d))) (serial! g c)
-        (subst (λ (x : Bool). ZoneLaid p old x (segmentOf p v gone g .serial) (segmentOf p v gone g .copied) d (zoneOn g d) (zoneAt v d (zoneOn g d))) (same-sealed p gone v v2 low ag g hg)
+        subst (λ (x : Zone). ZoneLaid p old (sealedIn p v2 gone g) (segmentOf p v2 gone g .serial) (segmentOf p v2 gone g .copied) d g x) (ag d (zoneOn g d) hd (zone-on-lt p g d hg) hq)
+        (subst (λ (x : ℕ). ZoneLaid p old (sealedIn p v2 gone g) (segmentOf p v2 gone g .serial) x d g (zoneAt v d (zoneOn g d))) (copied! g c)
+        (subst (λ (x : ℕ). ZoneLaid p old (sealedIn p v2 gone g) x (segmentOf p v gone g .copied) d g (zoneAt v d (zoneOn g d))) (serial! g c)
+        (subst (λ (x : Bool). ZoneLaid p old x (segmentOf p v gone g .serial) (segmentOf p v gone g .copied) d g (zoneAt v d (zoneOn g d))) (same-sealed p gone v v2 low ag g hg)
         (laid-zoned p v gone old l g d j hd hq))))
       where
         serial! : (g : Seg) → core (segmentOf p v (st .missing) g) ≡ core (segmentOf p v2 (st .missing) g) → segmentOf p v (st .missing) g .serial ≡ segmentOf p v2 (st .missing) g .serial

@@ -16,7 +16,6 @@ use Rattle.spec.specs.Layout.{inGroupOf, headerBlock, headerSerial, headerCopie
 use Rattle.spec.specs.Lists.{upFrom, any, sameList, isIn}
 use Rattle.spec.specs.Params.{capacity, present}
 use Rattle.spec.specs.Segments.{headerAt, remaining, Segment, recordsIn, segmentOf, segments}
-use Rattle.spec.specs.Drives.{Seg}
 use Rattle.law_basic.specs.Geometry.{Ranged}
 use Rattle.law_basic.specs.Mask.{isIn-empty}
 use Rattle.law_basic.specs.Ranges.{Test, test, and-left, and-right, and-both, length-upFrom, getD-upFrom, getD-map, sameList-true}
@@ -31,12 +30,14 @@ use Rattle.law_drives.specs.Segs.{in-present, length-records, record-at, zone-b
 use Rattle.law_drives.specs.Settled.{low-first, used-remains, remains-is-used, serial-of, SameZones, zones-sealed, zones-header}
 use Rattle.law_drives.specs.Tests.{clash, or-first, or-right, eqb-self}
 use Rattle.law_drives.specs.Tidy.{usedAt, Tidy}
+use Rattle.spec.specs.declared.Seg.{Seg}
+use Rattle.spec.specs.Drives.{seg, zonesIn}
 
 -- 01, What a zone holds: all of the layout but the parity
 pub record Laid (p : Params) (v : View) (gone : ℕ) (old : List Segment) : Type 0 where
   pub pointer-low : (d z : ℕ) → Here p gone d → z < p .Z → pointerAt v d z ≤ capacity p
   pub header-stands : (g : Seg) (d : ℕ) → Remains p v gone g → Here p gone d
-      → chunkAt v d (zoneOn g d) 0 ≡ mkChunk (headerBlock p d (zoneOn g d) (segmentOf p v gone g .serial) (segmentOf p v gone g .copied)) zeroSpare
+      → chunkAt v d (zoneOn g d) 0 ≡ mkChunk (headerBlock p d (zonesIn p g) (segmentOf p v gone g .serial) (segmentOf p v gone g .copied)) zeroSpare
   pub serial-above : (g : Seg) → Remains p v gone g → segmentOf p v gone g .copied < segmentOf p v gone g .serial
   pub serial-once : (g h : Seg) → Remains p v gone g → Remains p v gone h → segmentOf p v gone g .serial ≡ segmentOf p v gone h .serial → g ≡ h
   pub in-group : (g : Seg) (d o : ℕ) → Remains p v gone g → Here p gone d → o < dataStored p (zoneAt v d (zoneOn g d))
@@ -62,8 +63,8 @@ layout-of p v gone old l m = record {
 -- ---- one zone
 
 -- 01, What a zone holds: zone q of drive d and segment g, whose records are read by footer where w holds
-pub record ZoneLaid (p : Params) (old : List Segment) (w : Bool) (serial copied d g : ℕ) (q : Zone) : Type 0 where
-  pub header-is : getD (q .blocks) 0 noChunk ≡ mkChunk (headerBlock p d g serial copied) zeroSpare
+pub record ZoneLaid (p : Params) (old : List Segment) (w : Bool) (serial copied d : ℕ) (g : Seg) (q : Zone) : Type 0 where
+  pub header-is : getD (q .blocks) 0 noChunk ≡ mkChunk (headerBlock p d (zonesIn p g) serial copied) zeroSpare
   pub group-is : (o : ℕ) → o < dataStored p q → inGroupOf p o (recordIn p w q o .stripe) ≡ true
   pub once-is : (o i : ℕ) → o < dataStored p q → i < dataStored p q → recordIn p w q o .stripe ≡ recordIn p w q i .stripe → o ≡ i
   pub footer-is : foundSealed old serial ≡ false → (i : ℕ) → i < footersStored p q → getD (q .blocks) (1 + p .S + i) noChunk .block ≡ footerBlock p (sparesIn p q) i
@@ -71,11 +72,11 @@ pub record ZoneLaid (p : Params) (old : List Segment) (w : Bool) (serial copied 
 -- every zone of what remains
 abbrev pub Zoned : Params → View → ℕ → List Segment → Type 0
 Zoned p v gone old = (g : Seg) (d : ℕ) → In g (remaining p v gone) → d < p .N → isIn gone d ≡ false
-    → ZoneLaid p old (sealedIn p v gone g) (segmentOf p v gone g .serial) (segmentOf p v gone g .copied) d (zoneOn g d) (zoneAt v d (zoneOn g d))
+    → ZoneLaid p old (sealedIn p v gone g) (segmentOf p v gone g .serial) (segmentOf p v gone g .copied) d g (zoneAt v d (zoneOn g d))
 
 -- a segment with none missing, by its header on drive 0
 abbrev pub SegLaid : Params → View → List Segment → Seg → Type 0
-SegLaid p v old z = (d : ℕ) → d < p .N → ZoneLaid p old (sealedIn p v 0 z) (headerSerial (headerAt v 0 z)) (headerCopied (headerAt v 0 z)) d (zoneOn z d) (zoneAt v d (zoneOn z d))
+SegLaid p v old z = (d : ℕ) → d < p .N → ZoneLaid p old (sealedIn p v 0 z) (headerSerial p (headerAt v 0 z)) (headerCopied p (headerAt v 0 z)) d z (zoneAt v d (zoneOn z d))
 
 -- every used segment
 abbrev pub WellLaid : Params → View → List Segment → Type 0
@@ -97,8 +98,8 @@ laid-zoned p v gone old l g d m hd hq =
     q : Zone
     q = zoneAt v d (zoneOn g d)
 
-    head! : chunkAt v d (zoneOn g d) 0 ≡ mkChunk (headerBlock p d (zoneOn g d) (segmentOf p v gone g .serial) (segmentOf p v gone g .copied)) zeroSpare
-        → getD (q .blocks) 0 noChunk ≡ mkChunk (headerBlock p d (zoneOn g d) (segmentOf p v gone g .serial) (segmentOf p v gone g .copied)) zeroSpare
+    head! : chunkAt v d (zoneOn g d) 0 ≡ mkChunk (headerBlock p d (zonesIn p g) (segmentOf p v gone g .serial) (segmentOf p v gone g .copied)) zeroSpare
+        → getD (q .blocks) 0 noChunk ≡ mkChunk (headerBlock p d (zonesIn p g) (segmentOf p v gone g .serial) (segmentOf p v gone g .copied)) zeroSpare
     head! e = unfold chunkAt in e
 
     group! : (o : ℕ) → (o < dataStored p (zoneAt v d (zoneOn g d)) → inGroupOf p o (recordAt p v gone d g o .stripe) ≡ true) → o < dataStored p q
@@ -137,11 +138,11 @@ zoned-laid p v gone old low above once z = record {
     q g d = zoneAt v d (zoneOn g d)
 
     at : (g : Seg) (d : ℕ) → Remains p v gone g → Here p gone d
-        → ZoneLaid p old (sealedIn p v gone g) (segmentOf p v gone g .serial) (segmentOf p v gone g .copied) d (zoneOn g d) (zoneAt v d (zoneOn g d))
+        → ZoneLaid p old (sealedIn p v gone g) (segmentOf p v gone g .serial) (segmentOf p v gone g .copied) d g (zoneAt v d (zoneOn g d))
     at g d m k = z g d (is-seg g (remaining p v gone) m) (k .0) (k .1)
 
-    head! : (g : Seg) (d : ℕ) → getD (q g d .blocks) 0 noChunk ≡ mkChunk (headerBlock p d (zoneOn g d) (segmentOf p v gone g .serial) (segmentOf p v gone g .copied)) zeroSpare
-        → chunkAt v d (zoneOn g d) 0 ≡ mkChunk (headerBlock p d (zoneOn g d) (segmentOf p v gone g .serial) (segmentOf p v gone g .copied)) zeroSpare
+    head! : (g : Seg) (d : ℕ) → getD (q g d .blocks) 0 noChunk ≡ mkChunk (headerBlock p d (zonesIn p g) (segmentOf p v gone g .serial) (segmentOf p v gone g .copied)) zeroSpare
+        → chunkAt v d (zoneOn g d) 0 ≡ mkChunk (headerBlock p d (zonesIn p g) (segmentOf p v gone g .serial) (segmentOf p v gone g .copied)) zeroSpare
     head! g d e = unfold chunkAt in e
 
     group! : (g : Seg) (d o : ℕ) → (o < dataStored p (q g d) → inGroupOf p o (recordIn p (w g) (q g d) o .stripe) ≡ true)
@@ -194,33 +195,33 @@ checked-footers p q f i h =
 module _ (p : Params) (v : View) (gone : ℕ) (acc : Accepted p v gone) where
   -- 01, Refusals, 9: the header
   checked-header : (g : Seg) (d : ℕ) → In g (remaining p v gone) → d < p .N → isIn gone d ≡ false
-      → getD (zoneAt v d (zoneOn g d) .blocks) 0 noChunk ≡ mkChunk (headerBlock p d (zoneOn g d) (segmentOf p v gone g .serial) (segmentOf p v gone g .copied)) zeroSpare
-  checked-header g d m hd hq = chunk! (zone! (not-false (same (getD (x .zonesBy) d noZone) (zoneOn (x .seg) d))
+      → getD (zoneAt v d (zoneOn g d) .blocks) 0 noChunk ≡ mkChunk (headerBlock p d (zonesIn p g) (segmentOf p v gone g .serial) (segmentOf p v gone g .copied)) zeroSpare
+  checked-header g d m hd hq = chunk! (zone! (not-false (same (getD (x .zonesBy) d noZone) (zonesIn p (x .seg)))
       (none-in fault (present p gone) (as! (faults-apart p v gone acc g m .no-header-fault)) d (in-present p gone d hd hq))))
     where
       x : Segment
       x = segmentOf p v gone g
 
-      same : Zone → ℕ → Bool
+      same : Zone → List ℕ → Bool
       same q y = sameChunk (getD (q .blocks) 0 noChunk) (headerBlock p d y (segmentOf p v gone g .serial) (segmentOf p v gone g .copied)) zeroSpare
 
       fault : ℕ → Bool
       fault e = not (sameChunk (getD (getD (segmentOf p v gone g .zonesBy) e noZone .blocks) 0 noChunk)
-          (headerBlock p e (zoneOn (segmentOf p v gone g .seg) e) (segmentOf p v gone g .serial) (segmentOf p v gone g .copied)) zeroSpare)
+          (headerBlock p e (zonesIn p (segmentOf p v gone g .seg)) (segmentOf p v gone g .serial) (segmentOf p v gone g .copied)) zeroSpare)
 
       as! : headerFault p gone (segmentOf p v gone g) ≡ false → any fault (present p gone) ≡ false
       as! e = unfold headerFault in e
 
-      zone! : same (getD (x .zonesBy) d noZone) (zoneOn (x .seg) d) ≡ true → same (zoneAt v d (zoneOn g d)) (zoneOn g d) ≡ true
+      zone! : same (getD (x .zonesBy) d noZone) (zonesIn p (x .seg)) ≡ true → same (zoneAt v d (zoneOn g d)) (zonesIn p g) ≡ true
       zone! e =
-          subst (λ (q : Zone). same q (zoneOn g d) ≡ true) (zone-by p v gone g d hd)
-          (subst (λ (y : Seg). same (getD (segmentOf p v gone g .zonesBy) d noZone) (zoneOn y d) ≡ true) (seg-is p v gone g) e)
+          subst (λ (q : Zone). same q (zonesIn p g) ≡ true) (zone-by p v gone g d hd)
+          (subst (λ (y : Seg). same (getD (segmentOf p v gone g .zonesBy) d noZone) (zonesIn p y) ≡ true) (seg-is p v gone g) e)
 
-      chunk! : same (zoneAt v d (zoneOn g d)) (zoneOn g d) ≡ true
-          → getD (zoneAt v d (zoneOn g d) .blocks) 0 noChunk ≡ mkChunk (headerBlock p d (zoneOn g d) (segmentOf p v gone g .serial) (segmentOf p v gone g .copied)) zeroSpare
+      chunk! : same (zoneAt v d (zoneOn g d)) (zonesIn p g) ≡ true
+          → getD (zoneAt v d (zoneOn g d) .blocks) 0 noChunk ≡ mkChunk (headerBlock p d (zonesIn p g) (segmentOf p v gone g .serial) (segmentOf p v gone g .copied)) zeroSpare
       chunk! e = unfold sameChunk in
           let c = getD (zoneAt v d (zoneOn g d) .blocks) 0 noChunk in
-          let b = headerBlock p d (zoneOn g d) (segmentOf p v gone g .serial) (segmentOf p v gone g .copied) in
+          let b = headerBlock p d (zonesIn p g) (segmentOf p v gone g .serial) (segmentOf p v gone g .copied) in
           let e1 = sameList-true (c .block) b (and-left (sameList (c .block) b) (sameList (c .spare) zeroSpare) e) in
           let e2 = sameList-true (c .spare) zeroSpare (and-right (sameList (c .block) b) (sameList (c .spare) zeroSpare) e) in
           λ i. mkChunk (e1 i) (e2 i)
@@ -285,14 +286,14 @@ module _ (p : Params) (v : View) (gone : ℕ) (acc : Accepted p v gone) where
 -- ---- with none missing
 
 module _ (p : Params) (r : Ranged p) (v : View) (s : ℕ) (t : Tidy p v s) (old : List Segment) where
-  copied-of : (g : Seg) → segmentOf p v 0 g .copied ≡ headerCopied (headerAt v 0 g)
-  copied-of g = copied-is p v 0 g ∙ ap (λ (x : ℕ). headerCopied (headerAt v x g)) (low-first p r)
+  copied-of : (g : Seg) → segmentOf p v 0 g .copied ≡ headerCopied p (headerAt v 0 g)
+  copied-of g = copied-is p v 0 g ∙ ap (λ (x : ℕ). headerCopied p (headerAt v x g)) (low-first p r)
 
   pub laid-tidy : WellLaid p v old → Laid p v 0 old
-  laid-tidy f = zoned-laid p v 0 old (λ d y hd hy hq. by-seg (λ x. pointerAt v d x ≤ capacity p) p d y hy (λ g hg. t .pointer-low d g hd hg)) above once
+  laid-tidy f = zoned-laid p v 0 old (λ d y hd hy hq. by-seg (λ x. pointerAt v d x ≤ capacity p) p d y hd hy (λ g hg. t .pointer-low d g hd hg)) above once
       (λ g d m hd hq. let (hg, u) = remains-is-used p r v s t g m in
-      subst (λ (x : ℕ). ZoneLaid p old (sealedIn p v 0 g) x (segmentOf p v 0 g .copied) d (zoneOn g d) (zoneAt v d (zoneOn g d))) (sym (serial-of p r v s t g))
-      (subst (λ (x : ℕ). ZoneLaid p old (sealedIn p v 0 g) (headerSerial (headerAt v 0 g)) x d (zoneOn g d) (zoneAt v d (zoneOn g d))) (sym (copied-of g)) (f g hg u d hd)))
+      subst (λ (x : ℕ). ZoneLaid p old (sealedIn p v 0 g) x (segmentOf p v 0 g .copied) d g (zoneAt v d (zoneOn g d))) (sym (serial-of p r v s t g))
+      (subst (λ (x : ℕ). ZoneLaid p old (sealedIn p v 0 g) (headerSerial p (headerAt v 0 g)) x d g (zoneAt v d (zoneOn g d))) (sym (copied-of g)) (f g hg u d hd)))
     where
       above : (g : Seg) → In g (remaining p v 0) → segmentOf p v 0 g .copied < segmentOf p v 0 g .serial
       above g m = let (hg, u) = remains-is-used p r v s t g m in let a = serial-of p r v s t g in let b = copied-of g in let c = t .copied-less g hg u in omega arith
@@ -305,13 +306,13 @@ module _ (p : Params) (r : Ranged p) (v : View) (s : ℕ) (t : Tidy p v s) (old 
 
   pub tidy-laid : Laid p v 0 old → WellLaid p v old
   tidy-laid l z hz u d hd =
-      subst (λ (x : ℕ). ZoneLaid p old (sealedIn p v 0 z) x (headerCopied (headerAt v 0 z)) d (zoneOn z d) (zoneAt v d (zoneOn z d))) (serial-of p r v s t z)
-      (subst (λ (x : ℕ). ZoneLaid p old (sealedIn p v 0 z) (segmentOf p v 0 z .serial) x d (zoneOn z d) (zoneAt v d (zoneOn z d))) (copied-of z)
+      subst (λ (x : ℕ). ZoneLaid p old (sealedIn p v 0 z) x (headerCopied p (headerAt v 0 z)) d z (zoneAt v d (zoneOn z d))) (serial-of p r v s t z)
+      (subst (λ (x : ℕ). ZoneLaid p old (sealedIn p v 0 z) (segmentOf p v 0 z .serial) x d z (zoneAt v d (zoneOn z d))) (copied-of z)
       (laid-zoned p v 0 old l z d (used-remains p r v s t z hz u) hd (isIn-empty d)))
 
 -- a segment whose zones are the same
 pub laid-same : (p : Params) (r : Ranged p) (v u : View) (old : List Segment) (z : Seg) → SameZones p v u z → SegLaid p v old z → SegLaid p u old z
 laid-same p r v u old z sm f d hd =
-    subst (λ (q : Zone). ZoneLaid p old (sealedIn p u 0 z) (headerSerial (headerAt u 0 z)) (headerCopied (headerAt u 0 z)) d (zoneOn z d) q) (sm d hd)
-    (subst (λ (b : List ℕ). ZoneLaid p old (sealedIn p u 0 z) (headerSerial b) (headerCopied b) d (zoneOn z d) (zoneAt v d (zoneOn z d))) (zones-header p r v u z sm)
-    (subst (λ (w : Bool). ZoneLaid p old w (headerSerial (headerAt v 0 z)) (headerCopied (headerAt v 0 z)) d (zoneOn z d) (zoneAt v d (zoneOn z d))) (zones-sealed p r v u z sm) (f d hd)))
+    subst (λ (q : Zone). ZoneLaid p old (sealedIn p u 0 z) (headerSerial p (headerAt u 0 z)) (headerCopied p (headerAt u 0 z)) d z q) (sm d hd)
+    (subst (λ (b : List ℕ). ZoneLaid p old (sealedIn p u 0 z) (headerSerial p b) (headerCopied p b) d z (zoneAt v d (zoneOn z d))) (zones-header p r v u z sm)
+    (subst (λ (w : Bool). ZoneLaid p old w (headerSerial p (headerAt v 0 z)) (headerCopied p (headerAt v 0 z)) d z (zoneAt v d (zoneOn z d))) (zones-sealed p r v u z sm) (f d hd)))

@@ -13,7 +13,7 @@ use Rattle.spec.specs.declared.Answer.the-variants.{Restarted}
 use Rattle.spec.specs.Answers.{kind, isCut, finished}
 use Rattle.spec.specs.Calls.{After}
 use Rattle.spec.specs.Counts.{lastCount}
-use Rattle.spec.specs.Drives.{Chunk, noChunk, Zone, View, zoneAt, pointerAt, chunkAt, Store, storeView, Disk, storeDisk, storeAll, zoneOn, sealedIn, Seg, allSegs, seg}
+use Rattle.spec.specs.Drives.{Chunk, noChunk, Zone, View, zoneAt, pointerAt, chunkAt, Store, storeView, Disk, storeDisk, storeAll, zoneOn, sealedIn, allSegs, seg, noSeg, zonesIn}
 use Rattle.spec.specs.Engine.{callDisk}
 use Rattle.spec.specs.Engine.Call.{restart}
 use Rattle.spec.specs.Faults.{footersStored}
@@ -64,6 +64,7 @@ use Rattle.proof_layout.specs.Calls.{KeepsLaid, same-keeps, stored-view,
 use Rattle.proof_layout.specs.Laid.{Laid, ZoneLaid, SegLaid, WellLaid, open-footers, checked-footers, accepted-zoned, laid-accepted, laid-tidy, laid-same}
 use Rattle.proof_layout.specs.Segments.{all-but}
 use Rattle.proof_layout.specs.Stored.{plain-laid, mend-laid}
+use Rattle.spec.specs.declared.Seg.{Seg}
 
 -- ---- the answer
 
@@ -110,9 +111,9 @@ module _ (p : Params) (r : Ranged p) (v : View) (sh : Shaped p v) (acc : Accepte
   -- a segment that remains, as accepted
   kept-seg : (y : Seg) → Named p y → remains p v 0 y ≡ true → SegLaid p v gs y
   kept-seg y hy q d hd =
-      subst (λ (x : ℕ). ZoneLaid p gs (sealedIn p v 0 y) (headerSerial (headerAt v x y)) (headerCopied (headerAt v x y)) d (zoneOn y d) (zoneAt v d (zoneOn y d))) (low-first p r)
-      (subst (λ (x : ℕ). ZoneLaid p gs (sealedIn p v 0 y) (headerSerial (headerAt v (lowDrive p 0) y)) x d (zoneOn y d) (zoneAt v d (zoneOn y d))) (copied-is p v 0 y)
-      (subst (λ (x : ℕ). ZoneLaid p gs (sealedIn p v 0 y) x (segmentOf p v 0 y .copied) d (zoneOn y d) (zoneAt v d (zoneOn y d))) (serial-is p v 0 y)
+      subst (λ (x : ℕ). ZoneLaid p gs (sealedIn p v 0 y) (headerSerial p (headerAt v x y)) (headerCopied p (headerAt v x y)) d y (zoneAt v d (zoneOn y d))) (low-first p r)
+      (subst (λ (x : ℕ). ZoneLaid p gs (sealedIn p v 0 y) (headerSerial p (headerAt v (lowDrive p 0) y)) x d y (zoneAt v d (zoneOn y d))) (copied-is p v 0 y)
+      (subst (λ (x : ℕ). ZoneLaid p gs (sealedIn p v 0 y) x (segmentOf p v 0 y .copied) d y (zoneAt v d (zoneOn y d))) (serial-is p v 0 y)
       (accepted-zoned p v 0 acc y d (in-remaining p v 0 y hy q) hd (isIn-empty d))))
 
   -- what doesn't remain is reset
@@ -153,13 +154,13 @@ module _ (p : Params) (r : Ranged p) (v : View) (sh : Shaped p v) (acc : Accepte
         seg d hd =
             let q = zoneAt v d (zoneOn g d) in
             let i = footersStored p q in
-            let sn = headerSerial (headerAt v 0 g) in
-            let cn = headerCopied (headerAt v 0 g) in
-            let z : ZoneLaid p gs false sn cn d (zoneOn g d) q = subst (λ (w : Bool). ZoneLaid p gs w sn cn d (zoneOn g d) q) ng (kept-seg g hg kg d hd) in
-            subst (λ (c : List ℕ). ZoneLaid p gs (sealedIn p vb 0 g) (headerSerial c) (headerCopied c) d (zoneOn g d) (zoneAt vb d (zoneOn g d))) head
-            (subst (λ (w : Bool). ZoneLaid p gs w sn cn d (zoneOn g d) (zoneAt vb d (zoneOn g d))) (sym sealed-now)
-            (subst (λ (y : Zone). ZoneLaid p gs true sn cn d (zoneOn g d) y) (sym (b-zone p r v sh acc g hg kg ng oth wh d hd))
-            (mend-laid p r d (zoneOn g d) q (sh .zone-ok d (zoneOn g d) hd (zone-on-lt p g d hg)) i (have-few p r v sh acc g hg kg ng oth wh d) (has-pointer p r v sh acc g hg kg ng oth wh d hd)
+            let sn = headerSerial p (headerAt v 0 g) in
+            let cn = headerCopied p (headerAt v 0 g) in
+            let z : ZoneLaid p gs false sn cn d g q = subst (λ (w : Bool). ZoneLaid p gs w sn cn d g q) ng (kept-seg g hg kg d hd) in
+            subst (λ (c : List ℕ). ZoneLaid p gs (sealedIn p vb 0 g) (headerSerial p c) (headerCopied p c) d g (zoneAt vb d (zoneOn g d))) head
+            (subst (λ (w : Bool). ZoneLaid p gs w sn cn d g (zoneAt vb d (zoneOn g d))) (sym sealed-now)
+            (subst (λ (y : Zone). ZoneLaid p gs true sn cn d g y) (sym (b-zone p r v sh acc g hg kg ng oth wh d hd))
+            (mend-laid p r d g q (sh .zone-ok d (zoneOn g d) hd (zone-on-lt p g d hg)) i (have-few p r v sh acc g hg kg ng oth wh d) (has-pointer p r v sh acc g hg kg ng oth wh d hd)
             (λ j l. checked-footers p q (open-footers p v 0 acc g d (in-remaining p v 0 g hg kg) hd (isIn-empty d) ng) j l) gs sn cn z)))
 
     -- the rewrite
@@ -175,12 +176,12 @@ module _ (p : Params) (r : Ranged p) (v : View) (sh : Shaped p v) (acc : Accepte
 
         serial-low : x .serial < 256 ^ 8
         serial-low = let a = kept-known p r v sh acc g hg kg in
-            let e : x .serial ≡ headerSerial (headerAt v 0 g) = serial-is p v 0 g ∙ ap (λ (y : ℕ). headerSerial (headerAt v y g)) (low-first p r) in omega arith
+            let e : x .serial ≡ headerSerial p (headerAt v 0 g) = serial-is p v 0 g ∙ ap (λ (y : ℕ). headerSerial p (headerAt v y g)) (low-first p r) in omega arith
 
-        head : headerAt vc 0 z0 ≡ headerBlock p 0 (zoneOn z0 0) sn (x .serial)
+        head : headerAt vc 0 z0 ≡ headerBlock p 0 (zonesIn p z0) sn (x .serial)
         head = as! (ap (λ (c : Chunk). c .block) (new-header p r v sh acc g hg kg ng oth z0 hz0 fz fit 0 h0))
           where
-            as! : getD (zoneAt vc 0 (zoneOn z0 0) .blocks) 0 noChunk .block ≡ headerBlock p 0 (zoneOn z0 0) sn (x .serial) → headerAt vc 0 z0 ≡ headerBlock p 0 (zoneOn z0 0) sn (x .serial)
+            as! : getD (zoneAt vc 0 (zoneOn z0 0) .blocks) 0 noChunk .block ≡ headerBlock p 0 (zonesIn p z0) sn (x .serial) → headerAt vc 0 z0 ≡ headerBlock p 0 (zonesIn p z0) sn (x .serial)
             as! e = unfold headerAt chunkAt in e
 
         new-ptr : (d : ℕ) → d < p .N → zoneAt vc d (zoneOn z0 d) .pointer ≡ 1 + length (counted p 0 x)
@@ -195,12 +196,12 @@ module _ (p : Params) (r : Ranged p) (v : View) (sh : Shaped p v) (acc : Accepte
             let c = length (counted p 0 x) in
             let ep = new-ptr d hd in
             let cl = counted-low p 0 x in
-            subst (λ (b : List ℕ). ZoneLaid p gs (sealedIn p vc 0 z0) (headerSerial b) (headerCopied b) d (zoneOn z0 d) qz) (sym head)
-            (subst (λ (a : ℕ). ZoneLaid p gs (sealedIn p vc 0 z0) a (headerCopied (headerBlock p 0 (zoneOn z0 0) sn (x .serial))) d (zoneOn z0 d) qz)
-            (sym (header-serial p 0 (zoneOn z0 0) sn (x .serial) fit))
-            (subst (λ (a : ℕ). ZoneLaid p gs (sealedIn p vc 0 z0) sn a d (zoneOn z0 d) qz) (sym (header-copied p 0 (zoneOn z0 0) sn (x .serial) serial-low))
-            (subst (λ (w : Bool). ZoneLaid p gs w sn (x .serial) d (zoneOn z0 d) qz) (sym (open-now p r v sh acc g hg kg ng oth z0 hz0 fz fit nw))
-            (plain-laid p gs sn (x .serial) d (zoneOn z0 d) qz (new-header p r v sh acc g hg kg ng oth z0 hz0 fz fit d hd) (omega arith)
+            subst (λ (b : List ℕ). ZoneLaid p gs (sealedIn p vc 0 z0) (headerSerial p b) (headerCopied p b) d z0 qz) (sym head)
+            (subst (λ (a : ℕ). ZoneLaid p gs (sealedIn p vc 0 z0) a (headerCopied p (headerBlock p 0 (zonesIn p z0) sn (x .serial))) d z0 qz)
+            (sym (header-serial p 0 (zonesIn p z0) sn (x .serial) fit))
+            (subst (λ (a : ℕ). ZoneLaid p gs (sealedIn p vc 0 z0) sn a d z0 qz) (sym (header-copied p 0 (zonesIn p z0) sn (x .serial) serial-low))
+            (subst (λ (w : Bool). ZoneLaid p gs w sn (x .serial) d z0 qz) (sym (open-now p r v sh acc g hg kg ng oth z0 hz0 fz fit nw))
+            (plain-laid p gs sn (x .serial) d z0 qz (new-header p r v sh acc g hg kg ng oth z0 hz0 fz fit d hd) (omega arith)
             (λ o l. new-stripe p r v sh acc g hg kg ng oth z0 hz0 fz fit d o hd (let a = data-low p qz o l .1 in omega arith))))))
 
         go : Dec (z0 ≡ y) → Dec (g ≡ y) → SegLaid p vc gs y
@@ -220,7 +221,7 @@ module _ (p : Params) (r : Ranged p) (v : View) (sh : Shaped p v) (acc : Accepte
         plain! : isWhole p x ≡ false → isRagged p x ≡ false → mendStores p gs x ≡ []
         plain! q w = unfold mendStores in rw (q, w)
 
-        ragged! : isWhole p x ≡ false → isRagged p x ≡ true → mendStores p gs x ≡ rewriteStores p x (firstOr (seg 0) (freeSegs p gs)) (suc (greatestSerial gs))
+        ragged! : isWhole p x ≡ false → isRagged p x ≡ true → mendStores p gs x ≡ rewriteStores p x (firstOr noSeg (freeSegs p gs)) (suc (greatestSerial gs))
         ragged! q w = unfold mendStores in rw (q, w)
 
         rewrites! : isRagged p x ≡ true → rewrites p 0 gs ≡ true
@@ -233,8 +234,8 @@ module _ (p : Params) (r : Ranged p) (v : View) (sh : Shaped p v) (acc : Accepte
             let rw! = rewrites! w in
             let n6 : eqb (greatestSerial gs) lastCount ≡ false = sym (ap (λ (b : Bool). b && eqb (greatestSerial gs) lastCount) rw!) ∙ c6 in
             let n8 : isNil (freeSegs p gs) ≡ false = sym (ap (λ (b : Bool). b && isNil (freeSegs p gs)) rw!) ∙ c8 in
-            let z0 = firstOr (seg 0) (freeSegs p gs) in
-            let i : In z0 (keep (λ z. not (remains p v 0 z)) (allSegs p)) = subst (λ (l : List Seg). In z0 l) (free-are p r v sh acc) (first-in (freeSegs p gs) (seg 0) n8) in
+            let z0 = firstOr noSeg (freeSegs p gs) in
+            let i : In z0 (keep (λ z. not (remains p v 0 z)) (allSegs p)) = subst (λ (l : List Seg). In z0 l) (free-are p r v sh acc) (first-in (freeSegs p gs) noSeg n8) in
             let (j, f) = keep-in (λ z. not (remains p v 0 z)) (allSegs p) z0 i in
             let ne : ¬ (greatestSerial gs ≡ lastCount) = eqb-false (greatestSerial gs) lastCount n6 in
             subst (λ (l : List Store). WellLaid p (storeAll storeView l va) gs) (sym (ragged! q w))

@@ -12,7 +12,7 @@ use lib.Dec.{ltb, eqb, lit<}
 use lib.ListN.{length}
 use Rattle.spec.specs.declared.Params.{Params}
 use Rattle.spec.specs.declared.State.{State}
-use Rattle.spec.specs.Drives.{Zone, View, zoneAt, pointerAt, putZone, storeView, storeAll, sealedIn, headerStores, resetStores, Seg, zoneOn}
+use Rattle.spec.specs.Drives.{Zone, View, zoneAt, pointerAt, putZone, storeView, storeAll, sealedIn, headerStores, resetStores, zoneOn, zonesIn}
 use Rattle.spec.specs.Drives.Store.{put}
 use Rattle.spec.specs.Landing.{ready, flightRec, sealStores}
 use Rattle.spec.specs.Layout.{group, inGroupOf, headerBlock, headerSerial, headerCopied, recordBytes}
@@ -36,6 +36,7 @@ use Rattle.proof_tables.specs.Run.{flies, HealthyState}
 use Rattle.proof_tables.specs.Sealing.{seal-zone, seal-other, seal-grows, seal-sealed}
 use Rattle.proof_layout.specs.Laid.{ZoneLaid, SegLaid, WellLaid, laid-same}
 use Rattle.proof_layout.specs.Stored.{head-laid, put-laid, mend-laid}
+use Rattle.spec.specs.declared.Seg.{Seg}
 
 -- the zone by itself
 zone-pointer : (v : View) (d z n : ℕ) → pointerAt v d z ≡ n → zoneAt v d z .pointer ≡ n
@@ -56,11 +57,11 @@ pub opened-laid : (p : Params) (r : Ranged p) (v : View) (sh : Shaped p v) (old 
     → WellLaid p v old → WellLaid p (storeAll storeView (headerStores p g s 0) v) old
 opened-laid p r v sh old g s hg em fit l =
     all-but p r v u old g (λ y hy n d hd. sym (header-other p r v sh g s 0 hg em d y hd hy n)) (λ q d hd.
-    subst (λ (b : List ℕ). ZoneLaid p old (sealedIn p u 0 g) (headerSerial b) (headerCopied b) d (zoneOn g d) (zoneAt u d (zoneOn g d))) (sym (header-block p r v sh g s 0 hg em))
-    (subst (λ (x : ℕ). ZoneLaid p old (sealedIn p u 0 g) x (headerCopied (headerBlock p 0 (zoneOn g 0) s 0)) d (zoneOn g d) (zoneAt u d (zoneOn g d))) (sym (header-serial p 0 (zoneOn g 0) s 0 fit))
-    (subst (λ (x : ℕ). ZoneLaid p old (sealedIn p u 0 g) s x d (zoneOn g d) (zoneAt u d (zoneOn g d))) (sym (header-copied p 0 (zoneOn g 0) s 0 (lit< tt)))
-    (subst (λ (x : Zone). ZoneLaid p old (sealedIn p u 0 g) s 0 d (zoneOn g d) x) (sym (header-zone p r v sh g s 0 hg em d hd))
-    (head-laid p r old (sealedIn p u 0 g) s 0 d (zoneOn g d) (zoneAt v d (zoneOn g d)) (sh .zone-ok d (zoneOn g d) hd (zone-on-lt p g d hg)) (zone-pointer v d (zoneOn g d) 0 (em d hd))))))) l
+    subst (λ (b : List ℕ). ZoneLaid p old (sealedIn p u 0 g) (headerSerial p b) (headerCopied p b) d g (zoneAt u d (zoneOn g d))) (sym (header-block p r v sh g s 0 hg em))
+    (subst (λ (x : ℕ). ZoneLaid p old (sealedIn p u 0 g) x (headerCopied p (headerBlock p 0 (zonesIn p g) s 0)) d g (zoneAt u d (zoneOn g d))) (sym (header-serial p 0 (zonesIn p g) s 0 fit))
+    (subst (λ (x : ℕ). ZoneLaid p old (sealedIn p u 0 g) s x d g (zoneAt u d (zoneOn g d))) (sym (header-copied p 0 (zonesIn p g) s 0 (lit< tt)))
+    (subst (λ (x : Zone). ZoneLaid p old (sealedIn p u 0 g) s 0 d g x) (sym (header-zone p r v sh g s 0 hg em d hd))
+    (head-laid p r old (sealedIn p u 0 g) s 0 d g (zoneAt v d (zoneOn g d)) (sh .zone-ok d (zoneOn g d) hd (zone-on-lt p g d hg)) (zone-pointer v d (zoneOn g d) 0 (em d hd))))))) l
   where
     u : View
     u = storeAll storeView (headerStores p g s 0) v
@@ -71,7 +72,7 @@ pub reset-laid : (p : Params) (r : Ranged p) (v : View) (sh : Shaped p v) (old :
 reset-laid p r v sh old g hg l = all-but p r v (storeAll storeView (resetStores p g) v) old g (reset-same p r v sh g hg) (λ q. absurd (reset-was p r v sh g hg g hg q .0 refl)) l
 
 -- 01, Landing: a chunk
-module _ (p : Params) (r : Ranged p) (v : View) (sh : Shaped p v) (st : State) (h : HealthyState p v st) (so : StateOk p st) (z : Seg) (oz : st .opened ≡ suc (z .name))
+module _ (p : Params) (r : Ranged p) (v : View) (sh : Shaped p v) (st : State) (h : HealthyState p v st) (so : StateOk p st) (z : Seg) (hz : Named p z) (oz : st .opened ≡ suc (zoneOn z 0))
     (d i : ℕ) (hd : d < p .N) (hi : i < 8) (fi : flies st i ≡ true) (rd : ready p st i d ≡ true) (b : List ℕ) (lb : length b ≡ p .B) (old : List Segment) where
   abbrev s : ℕ
   s = stripeIn st i
@@ -79,53 +80,51 @@ module _ (p : Params) (r : Ranged p) (v : View) (sh : Shaped p v) (st : State) (
   abbrev v1 : View
   v1 = storeView (put d (zoneOn z d) b (recordBytes (flightRec p st i d))) v
 
-  hz : Named p z
-  hz = h .opens-at z oz .opened-zone
-
   pointer-of-zone : zoneAt v d (zoneOn z d) .pointer ≡ pointerAt v d (zoneOn z d)
   pointer-of-zone = zone-pointer v d (zoneOn z d) (pointerAt v d (zoneOn z d)) refl
 
   stripe! : flightRec p st i d .stripe ≡ s
-  stripe! = stripe-of p r v sh st h so z oz d i hd hi fi rd b lb
+  stripe! = stripe-of p r v sh st h so z hz oz d i hd hi fi rd b lb
 
   in-its-group : inGroupOf p (pointerAt v d (zoneOn z d) - 1) s ≡ true
   in-its-group = unfold inGroupOf in and-both (ltb s (p .S)) (eqb (group p s) (group p (pointerAt v d (zoneOn z d) - 1))) (lt-ltb s (p .S) (so .slots-ok i hi .stripe-ok))
-      (eq-eqb (group p s) (group p (pointerAt v d (zoneOn z d) - 1)) (sym (offset-group p r v sh st h so z oz d i hd hi fi rd b lb)))
+      (eq-eqb (group p s) (group p (pointerAt v d (zoneOn z d) - 1)) (sym (offset-group p r v sh st h so z hz oz d i hd hi fi rd b lb)))
 
   chunk-seg : SegLaid p v old z → SegLaid p v1 old z
   chunk-seg f e he =
-      subst (λ (c : List ℕ). ZoneLaid p old (sealedIn p v1 0 z) (headerSerial c) (headerCopied c) e (zoneOn z e) (zoneAt v1 e (zoneOn z e)))
-      (chunk-grows p r v sh st h so z oz d i hd hi fi rd b lb .same-head)
-      (subst (λ (w : Bool). ZoneLaid p old w (headerSerial (headerAt v 0 z)) (headerCopied (headerAt v 0 z)) e (zoneOn z e) (zoneAt v1 e (zoneOn z e)))
-      (sym (open-after p r v sh st h so z oz d i hd hi fi rd b lb))
-      (go (ℕ-discrete d e) (subst (λ (w : Bool). ZoneLaid p old w (headerSerial (headerAt v 0 z)) (headerCopied (headerAt v 0 z)) e (zoneOn z e) (zoneAt v e (zoneOn z e)))
-      (open-before p r v sh st h so z oz d i hd hi fi rd b lb) (f e he))))
+      subst (λ (c : List ℕ). ZoneLaid p old (sealedIn p v1 0 z) (headerSerial p c) (headerCopied p c) e z (zoneAt v1 e (zoneOn z e)))
+      (chunk-grows p r v sh st h so z hz oz d i hd hi fi rd b lb .same-head)
+      (subst (λ (w : Bool). ZoneLaid p old w (headerSerial p (headerAt v 0 z)) (headerCopied p (headerAt v 0 z)) e z (zoneAt v1 e (zoneOn z e)))
+      (sym (open-after p r v sh st h so z hz oz d i hd hi fi rd b lb))
+      (go (ℕ-discrete d e) (subst (λ (w : Bool). ZoneLaid p old w (headerSerial p (headerAt v 0 z)) (headerCopied p (headerAt v 0 z)) e z (zoneAt v e (zoneOn z e)))
+      (open-before p r v sh st h so z hz oz d i hd hi fi rd b lb) (f e he))))
     where
       sn : ℕ
-      sn = headerSerial (headerAt v 0 z)
+      sn = headerSerial p (headerAt v 0 z)
 
       cn : ℕ
-      cn = headerCopied (headerAt v 0 z)
+      cn = headerCopied p (headerAt v 0 z)
 
-      here : ZoneLaid p old false sn cn d (zoneOn z d) (zoneAt v d (zoneOn z d)) → ZoneLaid p old false sn cn d (zoneOn z d) (putZone b (recordBytes (flightRec p st i d)) (zoneAt v d (zoneOn z d)))
+      here : ZoneLaid p old false sn cn d z (zoneAt v d (zoneOn z d)) → ZoneLaid p old false sn cn d z (putZone b (recordBytes (flightRec p st i d)) (zoneAt v d (zoneOn z d)))
       here x =
-          let a = pointer-some p r v sh st h so z oz d i hd hi fi rd b lb in
-          let c = pointer-data p r v sh st h so z oz d i hd hi fi rd b lb in
+          let a = pointer-some p r v sh st h so z hz oz d i hd hi fi rd b lb in
+          let c = pointer-data p r v sh st h so z hz oz d i hd hi fi rd b lb in
           let y = pointer-of-zone in
-          put-laid p r old sn cn d (zoneOn z d) (zoneAt v d (zoneOn z d)) b (flightRec p st i d) (sh .zone-ok d (zoneOn z d) hd (zone-on-lt p z d hz)) (omega arith) (omega arith)
+          put-laid p r old sn cn d z (zoneAt v d (zoneOn z d)) b (flightRec p st i d) (sh .zone-ok d (zoneOn z d) hd (zone-on-lt p z d hz)) (omega arith) (omega arith)
           (subst (λ (n : ℕ). n < p .S) (sym stripe!) (so .slots-ok i hi .stripe-ok))
           (subst (λ (n : ℕ). inGroupOf p (n - 1) (flightRec p st i d .stripe) ≡ true) (sym pointer-of-zone)
           (subst (λ (n : ℕ). inGroupOf p (pointerAt v d (zoneOn z d) - 1) n ≡ true) (sym stripe!) in-its-group))
-          (λ o l q. h .opens-at z oz .flight i hi fi .not-there d o hd (not-landed p r v sh st h so z oz d i hd hi fi rd b lb) (subst (λ (n : ℕ). 1 + o < n) pointer-of-zone l) (q ∙ stripe!)) x
+          (λ o l q. h .opens-at z hz oz .flight i hi fi .not-there d o hd (not-landed p r v sh st h so z hz oz d i hd hi fi rd b lb)
+          (subst (λ (n : ℕ). 1 + o < n) pointer-of-zone l) (q ∙ stripe!)) x
 
-      go : Dec (d ≡ e) → ZoneLaid p old false sn cn e (zoneOn z e) (zoneAt v e (zoneOn z e)) → ZoneLaid p old false sn cn e (zoneOn z e) (zoneAt v1 e (zoneOn z e))
-      go (yes q) x = subst (λ (n : ℕ). ZoneLaid p old false sn cn n (zoneOn z n) (zoneAt v1 n (zoneOn z n))) q
-          (subst (λ (y : Zone). ZoneLaid p old false sn cn d (zoneOn z d) y) (sym (chunk-zone p r v sh st h so z oz d i hd hi fi rd b lb))
-          (here (subst (λ (n : ℕ). ZoneLaid p old false sn cn n (zoneOn z n) (zoneAt v n (zoneOn z n))) (sym q) x)))
-      go (no n) x = subst (λ (y : Zone). ZoneLaid p old false sn cn e (zoneOn z e) y) (sym (chunk-other p r v sh st h so z oz d i hd hi fi rd b lb e z he hz (inl n))) x
+      go : Dec (d ≡ e) → ZoneLaid p old false sn cn e z (zoneAt v e (zoneOn z e)) → ZoneLaid p old false sn cn e z (zoneAt v1 e (zoneOn z e))
+      go (yes q) x = subst (λ (n : ℕ). ZoneLaid p old false sn cn n z (zoneAt v1 n (zoneOn z n))) q
+          (subst (λ (y : Zone). ZoneLaid p old false sn cn d z y) (sym (chunk-zone p r v sh st h so z hz oz d i hd hi fi rd b lb))
+          (here (subst (λ (n : ℕ). ZoneLaid p old false sn cn n z (zoneAt v n (zoneOn z n))) (sym q) x)))
+      go (no n) x = subst (λ (y : Zone). ZoneLaid p old false sn cn e z y) (sym (chunk-other p r v sh st h so z hz oz d i hd hi fi rd b lb e z he hz (inl n))) x
 
   pub chunk-laid : usedAt v z ≡ true → WellLaid p v old → WellLaid p v1 old
-  chunk-laid us l = all-but p r v v1 old z (λ y hy n e he. sym (chunk-other p r v sh st h so z oz d i hd hi fi rd b lb e y he hy (inr n))) (λ q. chunk-seg (l z hz us)) l
+  chunk-laid us l = all-but p r v v1 old z (λ y hy n e he. sym (chunk-other p r v sh st h so z hz oz d i hd hi fi rd b lb e y he hy (inr n))) (λ q. chunk-seg (l z hz us)) l
 
 -- 01, Landing: a segment is sealed
 pub seal-laid : (p : Params) (r : Ranged p) (v : View) (sh : Shaped p v) (old : List Segment) (z : Seg) (hz : Named p z) (behind : (e : ℕ) → e < p .N → pointerAt v e (zoneOn z e) ≡ 1 + p .S)
@@ -138,14 +137,14 @@ seal-laid p r v sh old z hz behind us ns l = all-but p r v u old z (seal-other p
     seg : SegLaid p v old z → SegLaid p (storeAll storeView (sealStores p v z) v) old z
     seg f e he =
         let q = zoneAt v e (zoneOn z e) in
-        let sn = headerSerial (headerAt v 0 z) in
-        let cn = headerCopied (headerAt v 0 z) in
-        let m : ZoneLaid p old true sn cn e (zoneOn z e) (putAll e (zoneOn z e) (footerChunks p q 0 (footers p - 0)) q) =
-        mend-laid p r e (zoneOn z e) q (sh .zone-ok e (zoneOn z e) he (zone-on-lt p z e hz)) 0 (omega arith)
+        let sn = headerSerial p (headerAt v 0 z) in
+        let cn = headerCopied p (headerAt v 0 z) in
+        let m : ZoneLaid p old true sn cn e z (putAll e (zoneOn z e) (footerChunks p q 0 (footers p - 0)) q) =
+        mend-laid p r e z q (sh .zone-ok e (zoneOn z e) he (zone-on-lt p z e hz)) 0 (omega arith)
         (zone-pointer v e (zoneOn z e) (1 + p .S) (behind e he) ∙ (let y : 1 + p .S ≡ 1 + p .S + 0 = omega arith in y))
         (λ j k. absurd (let bad : ⊥ = omega arith in bad)) old sn cn
-        (subst (λ (w : Bool). ZoneLaid p old w sn cn e (zoneOn z e) q) ns (f e he)) in
-        subst (λ (c : List ℕ). ZoneLaid p old (sealedIn p u 0 z) (headerSerial c) (headerCopied c) e (zoneOn z e) (zoneAt u e (zoneOn z e))) (seal-grows p r v sh z hz behind .same-head)
-        (subst (λ (w : Bool). ZoneLaid p old w sn cn e (zoneOn z e) (zoneAt u e (zoneOn z e))) (sym (seal-sealed p r v sh z hz behind))
-        (subst (λ (y : Zone). ZoneLaid p old true sn cn e (zoneOn z e) y) (sym (seal-zone p r v sh z hz behind e he))
-        (subst (λ (n : ℕ). ZoneLaid p old true sn cn e (zoneOn z e) (putAll e (zoneOn z e) (footerChunks p q 0 n) q)) (sub-zero (footers p)) m)))
+        (subst (λ (w : Bool). ZoneLaid p old w sn cn e z q) ns (f e he)) in
+        subst (λ (c : List ℕ). ZoneLaid p old (sealedIn p u 0 z) (headerSerial p c) (headerCopied p c) e z (zoneAt u e (zoneOn z e))) (seal-grows p r v sh z hz behind .same-head)
+        (subst (λ (w : Bool). ZoneLaid p old w sn cn e z (zoneAt u e (zoneOn z e))) (sym (seal-sealed p r v sh z hz behind))
+        (subst (λ (y : Zone). ZoneLaid p old true sn cn e z y) (sym (seal-zone p r v sh z hz behind e he))
+        (subst (λ (n : ℕ). ZoneLaid p old true sn cn e z (putAll e (zoneOn z e) (footerChunks p q 0 n) q)) (sub-zero (footers p)) m)))

@@ -12,7 +12,7 @@ use lib.ListN.{length, getD, set, drop}
 use lib.Seq.{ext-getD, getD-set-same, getD-set-other, getD-drop}
 use Rattle.spec.specs.declared.Params.{Params}
 use Rattle.spec.specs.Bytes.{part}
-use Rattle.spec.specs.Drives.{Chunk, mkChunk, noChunk, Zone, putZone, dataStored, blocksOf, recordIn, zeroSpare}
+use Rattle.spec.specs.Drives.{Chunk, mkChunk, noChunk, Zone, putZone, dataStored, blocksOf, recordIn, zeroSpare, zonesIn, zoneOn}
 use Rattle.spec.specs.Faults.{footersStored}
 use Rattle.spec.specs.Layout.{group, inGroupOf, headerBlock, Rec, recordBytes, recordOf, footerBlock, footerRecord}
 use Rattle.spec.specs.Params.{spareLen, perFooter, footers, capacity}
@@ -27,6 +27,7 @@ use Rattle.law_drives.specs.Records.{blocks-at}
 use Rattle.law_drives.specs.Segs.{data-low, low-data}
 use Rattle.law_drives.specs.Zones.{ZoneOk, room-ok}
 use Rattle.proof_layout.specs.Laid.{ZoneLaid}
+use Rattle.spec.specs.declared.Seg.{Seg}
 
 -- no footers behind the data, or before them
 no-footers : (p : Params) (q : Zone) → q .pointer ≤ 1 + p .S → (i : ℕ) → i < footersStored p q → ⊥
@@ -37,7 +38,7 @@ pub own-group : (p : Params) (o : ℕ) → o < p .S → inGroupOf p o o ≡ true
 own-group p o h = unfold inGroupOf in and-both (ltb o (p .S)) (eqb (group p o) (group p o)) (lt-ltb o (p .S) h) (eq-eqb (group p o) (group p o) refl)
 
 -- a zone whose chunks are stripes 0, 1, .. in order, without footers
-pub plain-laid : (p : Params) (old : List Segment) (serial copied d g : ℕ) (q : Zone) → getD (q .blocks) 0 noChunk ≡ mkChunk (headerBlock p d g serial copied) zeroSpare
+pub plain-laid : (p : Params) (old : List Segment) (serial copied d : ℕ) (g : Seg) (q : Zone) → getD (q .blocks) 0 noChunk ≡ mkChunk (headerBlock p d (zonesIn p g) serial copied) zeroSpare
     → q .pointer ≤ 1 + p .S → ((o : ℕ) → o < dataStored p q → recordIn p false q o .stripe ≡ o) → ZoneLaid p old false serial copied d g q
 plain-laid p old serial copied d g q e h f = record {
   header-is = e;
@@ -47,11 +48,11 @@ plain-laid p old serial copied d g q e h f = record {
 }
 
 -- 01, Write: a header in an empty zone
-pub head-laid : (p : Params) (r : Ranged p) (old : List Segment) (w : Bool) (serial copied d g : ℕ) (q : Zone) → ZoneOk p q → q .pointer ≡ 0
-    → ZoneLaid p old w serial copied d g (putZone (headerBlock p d g serial copied) zeroSpare q)
+pub head-laid : (p : Params) (r : Ranged p) (old : List Segment) (w : Bool) (serial copied d : ℕ) (g : Seg) (q : Zone) → ZoneOk p q → q .pointer ≡ 0
+    → ZoneLaid p old w serial copied d g (putZone (headerBlock p d (zonesIn p g) serial copied) zeroSpare q)
 unfolding putZone
 head-laid p r old w serial copied d g q k e =
-    let c = mkChunk (headerBlock p d g serial copied) zeroSpare in
+    let c = mkChunk (headerBlock p d (zonesIn p g) serial copied) zeroSpare in
     record {
       header-is = ap (λ (n : ℕ). getD (set (q .blocks) n c) 0 noChunk) e ∙ getD-set-same (q .blocks) 0 c noChunk (let l = k .blocks-long in let x = capacity-over p r in omega arith);
       group-is = λ o l. absurd (none! (suc (q .pointer)) o (ap suc e) l);
@@ -59,14 +60,14 @@ head-laid p r old w serial copied d g q k e =
       footer-is = λ n i l. absurd (few! (suc (q .pointer)) i (ap suc e) l);
     }
   where
-    none! : (n o : ℕ) → n ≡ 1 → o < dataStored p (record { pointer = n; blocks = set (q .blocks) (q .pointer) (mkChunk (headerBlock p d g serial copied) zeroSpare) }) → ⊥
+    none! : (n o : ℕ) → n ≡ 1 → o < dataStored p (record { pointer = n; blocks = set (q .blocks) (q .pointer) (mkChunk (headerBlock p d (zonesIn p g) serial copied) zeroSpare) }) → ⊥
     none! n o x l = unfold dataStored in omega arith
 
-    few! : (n i : ℕ) → n ≡ 1 → i < footersStored p (record { pointer = n; blocks = set (q .blocks) (q .pointer) (mkChunk (headerBlock p d g serial copied) zeroSpare) }) → ⊥
+    few! : (n i : ℕ) → n ≡ 1 → i < footersStored p (record { pointer = n; blocks = set (q .blocks) (q .pointer) (mkChunk (headerBlock p d (zonesIn p g) serial copied) zeroSpare) }) → ⊥
     few! n i x l = unfold footersStored in omega arith
 
 -- 01, Landing: a chunk at the next offset of its group, of a stripe that isn't in the zone
-module _ (p : Params) (r : Ranged p) (old : List Segment) (serial copied d g : ℕ) (q : Zone) (b : List ℕ) (rc : Rec) (k : ZoneOk p q) (some : 1 ≤ q .pointer) (room : q .pointer ≤ p .S)
+module _ (p : Params) (r : Ranged p) (old : List Segment) (serial copied d : ℕ) (g : Seg) (q : Zone) (b : List ℕ) (rc : Rec) (k : ZoneOk p q) (some : 1 ≤ q .pointer) (room : q .pointer ≤ p .S)
     (fits : rc .stripe < p .S) (grouped : inGroupOf p (q .pointer - 1) (rc .stripe) ≡ true) (fresh : (o : ℕ) → 1 + o < q .pointer → recordIn p false q o .stripe ≡ rc .stripe → ⊥) where
   abbrev q1 : Zone
   q1 = putZone b (recordBytes rc) q
@@ -136,25 +137,25 @@ read-footers p r q q2 k f x h =
     as! a b = unfold recordIn footerRecord in ap recordOf (ap (part (spareLen * (x % perFooter p)) spareLen) a ∙ b)
 
 -- 01, Landing and Restart, 4: the footers from number i on, behind those that are there
-module _ (p : Params) (r : Ranged p) (d g : ℕ) (q : Zone) (k : ZoneOk p q) (i : ℕ) (few : i ≤ footers p) (at : q .pointer ≡ 1 + p .S + i)
+module _ (p : Params) (r : Ranged p) (d : ℕ) (g : Seg) (q : Zone) (k : ZoneOk p q) (i : ℕ) (few : i ≤ footers p) (at : q .pointer ≡ 1 + p .S + i)
     (have : (j : ℕ) → j < i → getD (q .blocks) (1 + p .S + j) noChunk .block ≡ footerBlock p (sparesIn p q) j) where
   abbrev cs : List Chunk
   cs = footerChunks p q i (footers p - i)
 
   abbrev q2 : Zone
-  q2 = putAll d g cs q
+  q2 = putAll d (zoneOn g d) cs q
 
   count2 : length cs ≡ footers p - i
   count2 = footers-count p r q k i (footers p - i)
 
   point2 : q2 .pointer ≡ capacity p
-  point2 = puts-pointer d g cs q ∙ (let c = capacity-is p r in let a = at in let e = count2 in let x : q .pointer + length cs ≡ capacity p = omega arith in x)
+  point2 = puts-pointer d (zoneOn g d) cs q ∙ (let c = capacity-is p r in let a = at in let e = count2 in let x : q .pointer + length cs ≡ capacity p = omega arith in x)
 
   ok2 : ZoneOk p q2
-  ok2 = room-ok p _ q (footer-rooms p r q k d g i (footers p - i) (let c = capacity-is p r in let a = at in omega arith)) k
+  ok2 = room-ok p _ q (footer-rooms p r q k d (zoneOn g d) i (footers p - i) (let c = capacity-is p r in let a = at in omega arith)) k
 
   old2 : (x : ℕ) → x < q .pointer → getD (q2 .blocks) x noChunk ≡ getD (q .blocks) x noChunk
-  old2 x l = puts-old d g cs q x l
+  old2 x l = puts-old d (zoneOn g d) cs q x l
 
   spares2 : sparesIn p q2 ≡ sparesIn p q
   spares2 = ext-getD [] (sparesIn p q2) (sparesIn p q) (spares-count p r q2 ok2 ∙ sym (spares-count p r q k))
@@ -171,7 +172,7 @@ module _ (p : Params) (r : Ranged p) (d g : ℕ) (q : Zone) (k : ZoneOk p q) (i 
           let e : 1 + p .S + j ≡ q .pointer + x = (let a = at in omega arith) in
           let hx : x < footers p - i = omega arith in
           ap (λ (c : Chunk). c .block) (ap (λ (y : ℕ). getD (q2 .blocks) y noChunk) e
-          ∙ puts-new d g cs q x (let c = count2 in omega arith) (let c = count2 in let a = at in let l = k .blocks-long in let y = capacity-is p r in omega arith)
+          ∙ puts-new d (zoneOn g d) cs q x (let c = count2 in omega arith) (let c = count2 in let a = at in let l = k .blocks-long in let y = capacity-is p r in omega arith)
           ∙ footer-chunk p r q k i (footers p - i) x hx)
           ∙ ap (footerBlock p (sparesIn p q)) (let z : i + (j - i) ≡ j = omega arith in z)
 

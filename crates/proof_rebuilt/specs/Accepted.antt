@@ -9,7 +9,7 @@ use native.Mathlib.Omega.{arith}
 use lib.Dec.{leb, ltb, eqb}
 use lib.ListN.{length, getD, length-map}
 use Rattle.spec.specs.declared.Params.{Params}
-use Rattle.spec.specs.Drives.{mkChunk, noChunk, Zone, noZone, View, zoneAt, pointerAt, zoneOn, blocksOf, footersOf, zeroSpare, Seg, sameSeg, allSegs}
+use Rattle.spec.specs.Drives.{mkChunk, noChunk, Zone, noZone, View, zoneAt, pointerAt, zoneOn, blocksOf, footersOf, zeroSpare, sameSeg, allSegs, seg, zonesIn}
 use Rattle.spec.specs.Faults.{pointerFaults, sameChunk, headerFault, serialFault, outside, twice, stripeFault, badRec, storedBad, decodedBad, addressFault, footersStored, sameBlocks, footerFaultIn}
 use Rattle.spec.specs.Faults.{footerFault, clashes, segmentFault, segmentFaults}
 use Rattle.spec.specs.Layout.{isData, group, inGroupOf, headerBlock, headerSerial, headerCopied, Rec, mkRec}
@@ -33,6 +33,7 @@ use Rattle.proof_rebuilt.specs.Groups.{rank-group}
 use Rattle.proof_rebuilt.specs.Numbers.{rank-of}
 use Rattle.proof_rebuilt.specs.Segment.{decoded-stripe, rebuilt-seg-full, recs-rebuilt, recs-other, header-of, head-serial, head-copied, rebuilt-serial, rebuilt-copied}
 use Rattle.proof_rebuilt.specs.Zone.{rebuiltView, Loss, drive-lost, each-drive, present-zone-same, zone-dropped, rebuilt-low, rebuilt-open, rebuilt-some}
+use Rattle.spec.specs.declared.Seg.{Seg}
 
 module _ (p : Params) (v : View) (d : ℕ) (lo : Loss p v d) where
   abbrev r : Ranged p
@@ -73,10 +74,10 @@ module _ (p : Params) (v : View) (d : ℕ) (lo : Loss p v d) where
       let hz = segs-in p z i in
       in-remaining p v gone z hz (filled-remains z hz (all-in (filled u z) (present p 0) q d (present-all p d hd)))
 
-  remaining-left : (z : Seg) → In z (remaining p v gone) → In z (leftBy1 p v gone) × (isCopy v (lowDrive p gone) (leftBy1 p v gone) z ≡ false)
+  remaining-left : (z : Seg) → In z (remaining p v gone) → In z (leftBy1 p v gone) × (isCopy p v (lowDrive p gone) (leftBy1 p v gone) z ≡ false)
   unfolding remaining
   remaining-left z m =
-      let f : Seg → Bool = isCopy v (lowDrive p gone) (leftBy1 p v gone) in
+      let f : Seg → Bool = isCopy p v (lowDrive p gone) (leftBy1 p v gone) in
       let (i, q) = keep-in (λ g. not (f g)) (leftBy1 p v gone) z m in (i, not-true (f z) q)
 
   pointer-in-zone : (t : View) (e z : ℕ) → pointerAt t e z ≡ zoneAt t e z .pointer
@@ -95,23 +96,23 @@ module _ (p : Params) (v : View) (d : ℕ) (lo : Loss p v d) where
       e (present-in p 0 e i .0))
     where
       was : remains p v gone z ≡ true → all (filled v z) (present p gone) ≡ true
-      was rm = unfold remains in and-left (all (filled v z) (present p gone)) (not (isCopy v (lowDrive p gone) (leftBy1 p v gone) z)) rm
+      was rm = unfold remains in and-left (all (filled v z) (present p gone)) (not (isCopy p v (lowDrive p gone) (leftBy1 p v gone) z)) rm
 
   -- its copied serial names no other
-  no-copy : (z : Seg) → In z (remaining p v gone) → isCopy u (lowDrive p 0) (leftBy1 p u 0) z ≡ false
+  no-copy : (z : Seg) → In z (remaining p v gone) → isCopy p u (lowDrive p 0) (leftBy1 p u 0) z ≡ false
   unfolding isCopy
-  no-copy z m = not-so (isCopy u (lowDrive p 0) (leftBy1 p u 0) z) (λ q.
+  no-copy z m = not-so (isCopy p u (lowDrive p 0) (leftBy1 p u 0) z) (λ q.
       let l = lowDrive p 0 in
       let k = lowDrive p gone in
-      let cu = headerCopied (headerAt u l z) in
-      let cv = headerCopied (headerAt v k z) in
-      let fu : Seg → Bool = λ h. not (sameSeg h z) && eqb (headerSerial (headerAt u l h)) cu in
-      let fv : Seg → Bool = λ h. not (sameSeg h z) && eqb (headerSerial (headerAt v k h)) cv in
-      let ec : cu ≡ cv = ap (λ (e : ℕ). headerCopied (headerAt u e z)) (low-first p r) ∙ head-copied p v d lo z m ∙ copied-is p v gone z in
+      let cu = headerCopied p (headerAt u l z) in
+      let cv = headerCopied p (headerAt v k z) in
+      let fu : Seg → Bool = λ h. not (sameSeg h z) && eqb (headerSerial p (headerAt u l h)) cu in
+      let fv : Seg → Bool = λ h. not (sameSeg h z) && eqb (headerSerial p (headerAt v k h)) cv in
+      let ec : cu ≡ cv = ap (λ (e : ℕ). headerCopied p (headerAt u e z)) (low-first p r) ∙ head-copied p v d lo z m ∙ copied-is p v gone z in
       let (h, i, t) = any-in fu (leftBy1 p u 0) (and-right (not (eqb cu 0)) (any fu (leftBy1 p u 0)) q) in
       let n = left-remains h i in
-      let es : headerSerial (headerAt u l h) ≡ headerSerial (headerAt v k h) =
-      ap (λ (e : ℕ). headerSerial (headerAt u e h)) (low-first p r) ∙ head-serial p v d lo h n ∙ serial-is p v gone h in
+      let es : headerSerial p (headerAt u l h) ≡ headerSerial p (headerAt v k h) =
+      ap (λ (e : ℕ). headerSerial p (headerAt u e h)) (low-first p r) ∙ head-serial p v d lo h n ∙ serial-is p v gone h in
       clash (and-both (not (eqb cv 0)) (any fv (leftBy1 p v gone)) (ap (λ (c : ℕ). not (eqb c 0)) (sym ec) ∙ and-left (not (eqb cu 0)) (any fu (leftBy1 p u 0)) q)
       (in-any fv (leftBy1 p v gone) h (remaining-left h n .0) (ap₂ (λ (a b : ℕ). not (sameSeg h z) && eqb a b) (sym es) (sym ec) ∙ t)))
       (remaining-left z m .1))
@@ -123,10 +124,10 @@ module _ (p : Params) (v : View) (d : ℕ) (lo : Loss p v d) where
       same z hz = same-test (remains p u 0 z) (remains p v gone z) (λ q. filled-remains z hz (here q)) (λ q. back (in-remaining p v gone z hz q))
         where
           here : remains p u 0 z ≡ true → filled u z d ≡ true
-          here q = unfold remains in (all-in (filled u z) (present p 0) (and-left (all (filled u z) (present p 0)) (not (isCopy u (lowDrive p 0) (leftBy1 p u 0) z)) q) d (present-all p d hd))
+          here q = unfold remains in (all-in (filled u z) (present p 0) (and-left (all (filled u z) (present p 0)) (not (isCopy p u (lowDrive p 0) (leftBy1 p u 0) z)) q) d (present-all p d hd))
 
           back : In z (remaining p v gone) → remains p u 0 z ≡ true
-          back m = unfold remains in and-both (all (filled u z) (present p 0)) (not (isCopy u (lowDrive p 0) (leftBy1 p u 0) z)) (filled-all z m) (ap not (no-copy z m))
+          back m = unfold remains in and-both (all (filled u z) (present p 0)) (not (isCopy p u (lowDrive p 0) (leftBy1 p u 0) z)) (filled-all z m) (ap not (no-copy z m))
 
   -- ---- pointers
 
@@ -137,7 +138,7 @@ module _ (p : Params) (v : View) (d : ℕ) (lo : Loss p v d) where
       let hz = below-in (p .Z) z i in
       in-none (λ e. ltb (capacity p) (pointerAt u e z)) (present p 0)
       (λ e j. le-ltb (capacity p) (pointerAt u e z) (subst (λ (n : ℕ). n ≤ capacity p) (sym (pointer-in-zone u e z))
-      (each-drive p v d lo {P = λ e. zoneAt u e z .pointer ≤ capacity p} (by-seg (λ n. zoneAt u d n .pointer ≤ capacity p) p d z hz (λ g hg. here g hg (test (remains p v gone g))))
+      (each-drive p v d lo {P = λ e. zoneAt u e z .pointer ≤ capacity p} (by-seg (λ n. zoneAt u d n .pointer ≤ capacity p) p d z hd hz (λ g hg. here g hg (test (remains p v gone g))))
       (λ e he pr. subst (λ (q : Zone). q .pointer ≤ capacity p) (sym (kept-zone e z he hz pr))
       (subst (λ (n : ℕ). n ≤ capacity p) (pointer-in-zone v e z) (pointer-ok p v gone acc e z he hz pr)))
       e (present-in p 0 e j .0)))))
@@ -196,12 +197,12 @@ module _ (p : Params) (v : View) (d : ℕ) (lo : Loss p v d) where
 
     no-header-fault : headerFault p 0 y ≡ false
     unfolding headerFault
-    no-header-fault = in-none (λ e. not (sameChunk (getD (getD (y .zonesBy) e noZone .blocks) 0 noChunk) (headerBlock p e (zoneOn (y .seg) e) (y .serial) (y .copied)) zeroSpare)) (present p 0)
+    no-header-fault = in-none (λ e. not (sameChunk (getD (getD (y .zonesBy) e noZone .blocks) 0 noChunk) (headerBlock p e (zonesIn p (y .seg)) (y .serial) (y .copied)) zeroSpare)) (present p 0)
         (λ e i.
         let he = present-in p 0 e i .0 in
-        let t : sameChunk (getD (getD (y .zonesBy) e noZone .blocks) 0 noChunk) (headerBlock p e (zoneOn (y .seg) e) (y .serial) (y .copied)) zeroSpare ≡ true =
+        let t : sameChunk (getD (getD (y .zonesBy) e noZone .blocks) 0 noChunk) (headerBlock p e (zonesIn p (y .seg)) (y .serial) (y .copied)) zeroSpare ≡ true =
         rw (zone-by p u 0 g e he, header-of p v d lo g m e he, seg-is p u 0 g, rebuilt-serial p v d lo g m, rebuilt-copied p v d lo g m)
-        (fine (headerBlock p e (zoneOn g e) (x .serial) (x .copied))) in
+        (fine (headerBlock p e (zonesIn p g) (x .serial) (x .copied))) in
         ap not t)
       where
         fine : (b : List ℕ) → sameChunk (mkChunk b zeroSpare) b zeroSpare ≡ true

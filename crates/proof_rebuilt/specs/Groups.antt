@@ -11,7 +11,7 @@ use lib.ListN.{length, getD, take, length-map}
 use lib.Seq.{length-take-le, getD-take}
 use lib.Arith.{digits-div}
 use Rattle.spec.specs.declared.Params.{Params}
-use Rattle.spec.specs.Drives.{Zone, View, zoneAt, pointerAt, zoneOn, sealedIn, dataStored, recordIn, Seg}
+use Rattle.spec.specs.Drives.{Zone, View, zoneAt, pointerAt, zoneOn, sealedIn, dataStored, recordIn}
 use Rattle.spec.specs.Layout.{group, inGroupOf, Rec, mkRec}
 use Rattle.spec.specs.Lists.{below, tally, isIn}
 use Rattle.spec.specs.Params.{capacity, present}
@@ -25,6 +25,7 @@ use Rattle.law_drives.specs.Range.{capacity-is}
 use Rattle.law_drives.specs.Segs.{present-in, in-present, length-records, record-at, chunk-at, has-chunk}
 use Rattle.law_drives.specs.Spots.{counts-in}
 use Rattle.proof_rebuilt.specs.Numbers.{rank-high, different-take, all-there}
+use Rattle.spec.specs.declared.Seg.{Seg}
 
 module _ (p : Params) (r : Ranged p) (v : View) (gone : ℕ) (acc : Accepted p v gone) (g : Seg) (m : In g (remaining p v gone)) where
   abbrev x : Segment

@@ -7,7 +7,7 @@ use native.Mathlib.Decide.{ℕ-discrete}
 use lib.Dec.{ltb}
 use Rattle.spec.specs.declared.Params.{Params}
 use Rattle.spec.specs.Demands.{saidBlock, saidAt}
-use Rattle.spec.specs.Drives.{View, Seg}
+use Rattle.spec.specs.Drives.{View}
 use Rattle.spec.specs.History.Seen.{got}
 use Rattle.spec.specs.Layout.{dataDrive, dataDrives, Rec}
 use Rattle.spec.specs.Lists.{Opt, below, flat, isIn}
@@ -31,6 +31,7 @@ use Rattle.proof_rebuilt.specs.Alike.{Alike, AlikeOr, alike-map, alike-f
 use Rattle.proof_rebuilt.specs.Numbers.{rank-order}
 use Rattle.proof_rebuilt.specs.Segment.{rebuilt-serial, rebuilt-counts, same-counted, offset-other, offset-rebuilt, rebuilt-piece-same, same-rec}
 use Rattle.proof_rebuilt.specs.Zone.{rebuiltView, Loss, drive-lost, other-here}
+use Rattle.spec.specs.declared.Seg.{Seg}
 
 module _ (p : Params) (v : View) (d : ℕ) (lo : Loss p v d) where
   abbrev r : Ranged p

@@ -12,7 +12,7 @@ use lib.ListN.{length, getD, drop, length-map}
 use lib.Seq.{ext-getD, getD-drop}
 use Rattle.spec.specs.declared.Params.{Params}
 use Rattle.spec.specs.Bytes.{part}
-use Rattle.spec.specs.Drives.{Chunk, mkChunk, noChunk, Zone, noZone, View, zoneAt, pointerAt, chunkAt, zoneOn, sealedIn, dataStored, blocksOf, recordIn, zeroSpare, Seg}
+use Rattle.spec.specs.Drives.{Chunk, mkChunk, noChunk, Zone, noZone, View, zoneAt, pointerAt, chunkAt, zoneOn, sealedIn, dataStored, blocksOf, recordIn, zeroSpare, seg, zonesIn}
 use Rattle.spec.specs.Faults.{sameChunk, headerFault}
 use Rattle.spec.specs.Layout.{headerBlock, headerSerial, headerCopied, Rec, mkRec, recordBytes, recordOf, footerBlock, footerRecord}
 use Rattle.spec.specs.Lists.{below, any, indexOf, sameList, tally, isIn}
@@ -42,6 +42,7 @@ use Rattle.law_drives.specs.Zones.{Bytes}
 use Rattle.proof_rebuilt.specs.Groups.{sealed-all}
 use Rattle.proof_rebuilt.specs.Numbers.{rank-low, rank-at, rank-of}
 use Rattle.proof_rebuilt.specs.Zone.{rebuiltView, Loss, drive-lost, each-drive, present-zone-same, rebuilt-full, rebuilt-header, rebuilt-piece, rebuilt-foot, rebuilt-stored}
+use Rattle.spec.specs.declared.Seg.{Seg}
 
 -- ---- records that are read back
 
@@ -222,19 +223,19 @@ module _ (p : Params) (v : View) (d : ℕ) (lo : Loss p v d) (g : Seg) (m : In g
 
   -- ---- headers
 
-  pub header-of : (e : ℕ) → e < p .N → getD (zoneAt u e (zoneOn g e) .blocks) 0 noChunk ≡ mkChunk (headerBlock p e (zoneOn g e) (x .serial) (x .copied)) zeroSpare
-  header-of e he = each-drive p v d lo {P = λ e. getD (zoneAt u e (zoneOn g e) .blocks) 0 noChunk ≡ mkChunk (headerBlock p e (zoneOn g e) (x .serial) (x .copied)) zeroSpare}
+  pub header-of : (e : ℕ) → e < p .N → getD (zoneAt u e (zoneOn g e) .blocks) 0 noChunk ≡ mkChunk (headerBlock p e (zonesIn p g) (x .serial) (x .copied)) zeroSpare
+  header-of e he = each-drive p v d lo {P = λ e. getD (zoneAt u e (zoneOn g e) .blocks) 0 noChunk ≡ mkChunk (headerBlock p e (zonesIn p g) (x .serial) (x .copied)) zeroSpare}
       (rebuilt-header p v d lo g hg rm) (λ e he pr. ap (λ (q : Zone). getD (q .blocks) 0 noChunk) (kept-zone-here e he pr) ∙ there e he pr) e he
     where
-      there : (e : ℕ) → e < p .N → isIn gone e ≡ false → getD (zoneAt v e (zoneOn g e) .blocks) 0 noChunk ≡ mkChunk (headerBlock p e (zoneOn g e) (x .serial) (x .copied)) zeroSpare
+      there : (e : ℕ) → e < p .N → isIn gone e ≡ false → getD (zoneAt v e (zoneOn g e) .blocks) 0 noChunk ≡ mkChunk (headerBlock p e (zonesIn p g) (x .serial) (x .copied)) zeroSpare
       there e he pr = go
         where
           c : Chunk
           c = getD (getD (x .zonesBy) e noZone .blocks) 0 noChunk
 
-          fine : sameChunk c (headerBlock p e (zoneOn (x .seg) e) (x .serial) (x .copied)) zeroSpare ≡ true
-          fine = unfold headerFault in (not-false (sameChunk c (headerBlock p e (zoneOn (x .seg) e) (x .serial) (x .copied)) zeroSpare)
-              (none-in (λ e. not (sameChunk (getD (getD (x .zonesBy) e noZone .blocks) 0 noChunk) (headerBlock p e (zoneOn (x .seg) e) (x .serial) (x .copied)) zeroSpare)) (present p gone)
+          fine : sameChunk c (headerBlock p e (zonesIn p (x .seg)) (x .serial) (x .copied)) zeroSpare ≡ true
+          fine = unfold headerFault in (not-false (sameChunk c (headerBlock p e (zonesIn p (x .seg)) (x .serial) (x .copied)) zeroSpare)
+              (none-in (λ e. not (sameChunk (getD (getD (x .zonesBy) e noZone .blocks) 0 noChunk) (headerBlock p e (zonesIn p (x .seg)) (x .serial) (x .copied)) zeroSpare)) (present p gone)
               (faults-apart p v gone acc g m .no-header-fault) e (in-present p gone e he pr)))
 
           same! : (c : Chunk) (b s : List ℕ) → sameChunk c b s ≡ true → c ≡ mkChunk b s
@@ -243,13 +244,13 @@ module _ (p : Params) (v : View) (d : ℕ) (lo : Loss p v d) (g : Seg) (m : In g
               let e2 = sameList-true (c .spare) s (and-right (sameList (c .block) b) (sameList (c .spare) s) q) in
               λ i. record { block = e1 i; spare = e2 i })
 
-          seg! : zoneOn (x .seg) e ≡ zoneOn g e
-          seg! = ap (λ (y : Seg). zoneOn y e) (seg-is p v gone g)
+          seg! : zonesIn p (x .seg) ≡ zonesIn p g
+          seg! = ap (zonesIn p) (seg-is p v gone g)
 
-          go : getD (zoneAt v e (zoneOn g e) .blocks) 0 noChunk ≡ mkChunk (headerBlock p e (zoneOn g e) (x .serial) (x .copied)) zeroSpare
+          go : getD (zoneAt v e (zoneOn g e) .blocks) 0 noChunk ≡ mkChunk (headerBlock p e (zonesIn p g) (x .serial) (x .copied)) zeroSpare
           go = ap (λ (q : Zone). getD (q .blocks) 0 noChunk) (sym (zone-by p v gone g e he))
-              ∙ same! c (headerBlock p e (zoneOn (x .seg) e) (x .serial) (x .copied)) zeroSpare fine
-              ∙ ap (λ (z : ℕ). mkChunk (headerBlock p e z (x .serial) (x .copied)) zeroSpare) seg!
+              ∙ same! c (headerBlock p e (zonesIn p (x .seg)) (x .serial) (x .copied)) zeroSpare fine
+              ∙ ap (λ (zs : List ℕ). mkChunk (headerBlock p e zs (x .serial) (x .copied)) zeroSpare) seg!
 
   header-bytes : Bytes (headerAt v (lowDrive p gone) g)
   unfolding headerAt chunkAt
@@ -259,24 +260,24 @@ module _ (p : Params) (v : View) (d : ℕ) (lo : Loss p v d) (g : Seg) (m : In g
 
   header-serials-low : (x .serial < 256 ^ 8) × (x .copied < 256 ^ 8)
   header-serials-low = (
-    subst (λ (n : ℕ). n < 256 ^ 8) (sym (serial-is p v gone g)) (serial-low (headerAt v (lowDrive p gone) g) header-bytes),
-    subst (λ (n : ℕ). n < 256 ^ 8) (sym (copied-is p v gone g)) (copied-word-low (headerAt v (lowDrive p gone) g) header-bytes),
+    subst (λ (n : ℕ). n < 256 ^ 8) (sym (serial-is p v gone g)) (serial-low p (headerAt v (lowDrive p gone) g) header-bytes),
+    subst (λ (n : ℕ). n < 256 ^ 8) (sym (copied-is p v gone g)) (copied-word-low p (headerAt v (lowDrive p gone) g) header-bytes),
   )
 
   -- drive 0's header, read back
-  pub head-serial : headerSerial (headerAt u 0 g) ≡ x .serial
+  pub head-serial : headerSerial p (headerAt u 0 g) ≡ x .serial
   unfolding headerAt chunkAt
-  head-serial = ap (λ (c : Chunk). headerSerial (c .block)) (header-of 0 (omega (arith, r .drives-low))) ∙ header-serial p 0 (zoneOn g 0) (x .serial) (x .copied) (header-serials-low .0)
+  head-serial = ap (λ (c : Chunk). headerSerial p (c .block)) (header-of 0 (omega (arith, r .drives-low))) ∙ header-serial p 0 (zonesIn p g) (x .serial) (x .copied) (header-serials-low .0)
 
-  pub head-copied : headerCopied (headerAt u 0 g) ≡ x .copied
+  pub head-copied : headerCopied p (headerAt u 0 g) ≡ x .copied
   unfolding headerAt chunkAt
-  head-copied = ap (λ (c : Chunk). headerCopied (c .block)) (header-of 0 (omega (arith, r .drives-low))) ∙ header-copied p 0 (zoneOn g 0) (x .serial) (x .copied) (header-serials-low .1)
+  head-copied = ap (λ (c : Chunk). headerCopied p (c .block)) (header-of 0 (omega (arith, r .drives-low))) ∙ header-copied p 0 (zonesIn p g) (x .serial) (x .copied) (header-serials-low .1)
 
   pub rebuilt-serial : y .serial ≡ x .serial
-  rebuilt-serial = serial-is p u 0 g ∙ ap (λ (e : ℕ). headerSerial (headerAt u e g)) (low-first p r) ∙ head-serial
+  rebuilt-serial = serial-is p u 0 g ∙ ap (λ (e : ℕ). headerSerial p (headerAt u e g)) (low-first p r) ∙ head-serial
 
   pub rebuilt-copied : y .copied ≡ x .copied
-  rebuilt-copied = copied-is p u 0 g ∙ ap (λ (e : ℕ). headerCopied (headerAt u e g)) (low-first p r) ∙ head-copied
+  rebuilt-copied = copied-is p u 0 g ∙ ap (λ (e : ℕ). headerCopied p (headerAt u e g)) (low-first p r) ∙ head-copied
 
   -- ---- stripes that count
 

@@ -10,7 +10,7 @@ use native.Mathlib.Omega.{arith}
 use lib.ListN.{length, getD, length-append, length-map, List·getD-append}
 use lib.Seq.{getD-append-add}
 use Rattle.spec.specs.declared.Params.{Params}
-use Rattle.spec.specs.Drives.{Chunk, mkChunk, noChunk, Zone, View, zoneAt, pointerAt, Store, resetZone, storeView, storeAll, dataStored, zeroSpare, Seg, zoneOn}
+use Rattle.spec.specs.Drives.{Chunk, mkChunk, noChunk, Zone, View, zoneAt, pointerAt, Store, resetZone, storeView, storeAll, dataStored, zeroSpare, zoneOn, zonesIn}
 use Rattle.spec.specs.Drives.Store.{reset}
 use Rattle.spec.specs.Layout.{headerBlock, mkRec, recordBytes, footerBlock}
 use Rattle.spec.specs.Lists.{below, isIn}
@@ -31,6 +31,7 @@ use Rattle.law_drives.specs.Segs.{full-is}
 use Rattle.law_drives.specs.Tables.{remains, in-remaining}
 use Rattle.law_drives.specs.Zones.{Shaped, zoneStore, zone-after}
 use Rattle.proof_rebuilt.specs.Groups.{sealed-all}
+use Rattle.spec.specs.declared.Seg.{Seg}
 
 -- the view that a rebuild of drive d leaves
 unfoldable pub rebuiltView : Params → View → ℕ → View
@@ -124,7 +125,7 @@ module _ (p : Params) (v : View) (d : ℕ) (lo : Loss p v d) where
     feet = map (λ i. mkChunk (footerBlock p sparesLost i) zeroSpare) (below (footers p))
 
     abbrev first : Chunk
-    first = mkChunk (headerBlock p d (zoneOn g d) (x .serial) (x .copied)) zeroSpare
+    first = mkChunk (headerBlock p d (zonesIn p g) (x .serial) (x .copied)) zeroSpare
 
     zone-chunks-are : (b : Bool) → x .full ≡ b → chunks ≡ first ∷ (map pieceChunk pieces ++ cond b feet [])
     unfolding rebuilt-chunks
@@ -196,7 +197,7 @@ module _ (p : Params) (v : View) (d : ℕ) (lo : Loss p v d) where
         go b e = let a = pointer-long in let c = zone-chunks-long b e in omega arith
 
     -- its blocks
-    pub rebuilt-header : getD (zoneAt u d (zoneOn g d) .blocks) 0 noChunk ≡ mkChunk (headerBlock p d (zoneOn g d) (x .serial) (x .copied)) zeroSpare
+    pub rebuilt-header : getD (zoneAt u d (zoneOn g d) .blocks) 0 noChunk ≡ mkChunk (headerBlock p d (zonesIn p g) (x .serial) (x .copied)) zeroSpare
     rebuilt-header =
         let a = zone-chunks-long (x .full) refl in
         rebuilt-chunk 0 (omega arith) ∙ ap (λ (l : List Chunk). getD l 0 noChunk) (zone-chunks-are (x .full) refl)

@@ -8,7 +8,7 @@ use lib.Dec.{lit<}
 use Rattle.spec.specs.declared.Params.{Params}
 use Rattle.spec.specs.Counts.{neverPlace}
 use Rattle.spec.specs.Demands.{saidBlock}
-use Rattle.spec.specs.Drives.{View, zoneAt, Disk, zoneOn, sealedIn, recordIn, recordAt, Seg}
+use Rattle.spec.specs.Drives.{View, zoneAt, Disk, zoneOn, sealedIn, recordIn, recordAt}
 use Rattle.spec.specs.Engine.{lentOk}
 use Rattle.spec.specs.History.Seen.{got}
 use Rattle.spec.specs.Layout.{Rec}
@@ -35,6 +35,7 @@ use Rattle.law_drives.specs.Spots.{Spot, counts-in, spot-of, spot-block, spot-d
 use Rattle.law_drives.specs.Tables.{place-at, remains}
 use Rattle.law_drives.specs.Tests.{cond-true, cond-false}
 use Rattle.law_drives.specs.Zones.{Shaped}
+use Rattle.spec.specs.declared.Seg.{Seg}
 
 -- every chunk of what remains sits at an offset of its group, where a drive is missing
 abbrev pub Decodes : Params → View → ℕ → Type 0

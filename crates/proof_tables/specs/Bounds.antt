@@ -5,7 +5,7 @@ use Prim.Native.Nat.{ℕ, _+_, _*_, _≤_, _<_}
 use native.Mathlib.Omega.{arith}
 use Rattle.spec.specs.declared.Params.{Params}
 use Rattle.spec.specs.declared.State.{State}
-use Rattle.spec.specs.Drives.{Zone, View, pointerAt, recordIn, Seg, zoneOn}
+use Rattle.spec.specs.Drives.{Zone, View, pointerAt, recordIn, zoneOn}
 use Rattle.spec.specs.Layout.{group, Rec}
 use Rattle.spec.specs.Lists.{tally}
 use Rattle.spec.specs.Memory.{slots, stripeIn, offsetIn}
@@ -16,6 +16,7 @@ use Rattle.law_drives.specs.Settled.{SameZones}
 use Rattle.law_drives.specs.States.{StateOk}
 use Rattle.law_drives.specs.Tidy.{spareAt}
 use Rattle.proof_tables.specs.Run.{flies, awaits, SlotFlies, OpenZone}
+use Rattle.spec.specs.declared.Seg.{Seg}
 
 -- ---- the open segment, where its zones are the same
 

@@ -28,12 +28,12 @@ use Rattle.spec.specs.Rank.{Cand, best, candsOf}
 use Rattle.spec.specs.Read.Found.{away}
 use Rattle.spec.specs.Segments.{headerAt, remaining, Segment, recordsIn, segmentOf, segments, recsOn, offsetOn, hasChunk, counts, storedRec, recOf, offsetOf}
 use Rattle.spec.specs.Segments.{candOf, candidates, addressTable, compactRow, compactTable}
-use Rattle.spec.specs.Drives.{Seg, placeSegment}
+use Rattle.spec.specs.Drives.{placeSegment}
 use Rattle.law_basic.specs.Geometry.{Ranged, compact-within, position-drive, drive-is-data, data-drive-lt, data-count-low}
 use Rattle.law_basic.specs.Mask.{isIn-empty, isIn-with}
 use Rattle.law_basic.specs.Ranges.{Test, test, and-left, and-right, and-both}
 use Rattle.law_basic.specs.Ranges.Test.{yes!, no! }
-use Rattle.law_basic.specs.Segs.{seg-other, segs-differ, Named, zone-on-lt, name-once, zone-same, zone-once, by-seg}
+use Rattle.law_basic.specs.Segs.{seg-other, segs-differ, Named, zone-on-lt, zone-same, zone-once, by-seg}
 use Rattle.law_code.specs.Chunks.{rec-here, flight-data, flight-stripe}
 use Rattle.law_views.specs.Looked.{held-none, held-some}
 use Rattle.law_views.specs.Pointers.{index-drive, index-zone}
@@ -63,25 +63,27 @@ use Rattle.proof_tables.specs.Reclaiming.{cand-record}
 use Rattle.proof_tables.specs.Run.{flies, awaits, LandedAt, SlotFlies, OpenZone, Lists, HealthyState}
 use Rattle.proof_tables.specs.Slots.{cell-same, mark-landed, mark-landed-other, mark-offset, mark-offset-other, mark-lists, filled-freed, free-filled-other, free-lists, free-is, none-flies}
 use Rattle.proof_tables.specs.Tallies.{tally-cong, tally-none, tally-some, none-tally, tally-more}
+use Rattle.spec.specs.declared.Seg.{Seg}
 
 -- two eighths apart
 pub cells-differ : (i j d e : ℕ) → d < 8 → e < 8 → (j ≡ i → ⊥) ⊎ (e ≡ d → ⊥) → cell j e ≡ cell i d → ⊥
 cells-differ i j d e hd he (inl n) q = n (cell-same j i e d he hd q .0)
 cells-differ i j d e hd he (inr n) q = n (cell-same j i e d he hd q .1)
 
-module _ (p : Params) (r : Ranged p) (v : View) (sh : Shaped p v) (st : State) (h : HealthyState p v st) (so : StateOk p st) (z : Seg) (oz : st .opened ≡ suc (z .name))
+module _ (p : Params) (r : Ranged p) (v : View) (sh : Shaped p v) (st : State) (h : HealthyState p v st) (so : StateOk p st) (z : Seg) (hz : Named p z) (oz : st .opened ≡ suc (zoneOn z 0))
     (d i : ℕ) (hd : d < p .N) (hi : i < 8) (fi : flies st i ≡ true) (rd : ready p st i d ≡ true) (b : List ℕ) (lb : length b ≡ p .B) where
   abbrev s : ℕ
   s = stripeIn st i
 
   abbrev op : OpenZone p v st (flies st) z
-  op = h .opens-at z oz
-
-  hz : Named p z
-  hz = op .opened-zone
+  op = h .opens-at z hz oz
 
   fl : SlotFlies p v st z i
   fl = op .flight i hi fi
+
+  -- one segment is open
+  open-once : (y : Seg) → Named p y → st .opened ≡ suc (zoneOn y 0) → z ≡ y
+  open-once y hy q = zone-once p z y 0 (omega (arith, r .drives-low)) hz hy (let a : suc (zoneOn z 0) ≡ suc (zoneOn y 0) = sym oz ∙ q in omega arith)
 
   -- ---- the pointer
 
@@ -174,7 +176,7 @@ module _ (p : Params) (r : Ranged p) (v : View) (sh : Shaped p v) (st : State) (
     where
       miss : (d ≡ e → ⊥) ⊎ (z ≡ y → ⊥) → hitsAt e (zoneOn y e) store ≡ false
       miss (inl x) = unfold hitsAt in and-false-left (eqb d e) (eqb (zoneOn z d) (zoneOn y e)) (ne-eqb d e x)
-      miss (inr x) = unfold hitsAt in (on-drive (zoneOn z) d e (zoneOn y e) ∙ and-false-right (eqb d e) (eqb (zoneOn z e) (zoneOn y e)) (zone-same p z y e hz hy ∙ seg-other z y x))
+      miss (inr x) = unfold hitsAt in (on-drive (zoneOn z) d e (zoneOn y e) ∙ and-false-right (eqb d e) (eqb (zoneOn z e) (zoneOn y e)) (zone-same p z y e he hz hy ∙ seg-other z y x))
 
   pub chunk-pointer : pointerAt v1 d (zoneOn z d) ≡ suc (pointerAt v d (zoneOn z d))
   chunk-pointer = as! (ap (λ (q : Zone). q .pointer) chunk-zone ∙ put-pointer b (recordBytes rc) (zoneAt v d (zoneOn z d)))
@@ -581,7 +583,7 @@ module _ (p : Params) (r : Ranged p) (v : View) (sh : Shaped p v) (st : State) (
       as! e = unfold counts in e
 
   serial-same! : seg0 .serial ≡ seg1 .serial
-  serial-same! = serial-of p r v s0 t0 z ∙ ap headerSerial (chunk-grows .same-head) ∙ sym (serial-of p r v1 s0 chunk-tidy z)
+  serial-same! = serial-of p r v s0 t0 z ∙ ap (headerSerial p) (chunk-grows .same-head) ∙ sym (serial-of p r v1 s0 chunk-tidy z)
 
   cand-eq : (t e : ℕ) → KeepsChunk t e → candOf p 0 seg0 t e ≡ candOf p 0 seg1 t e
   cand-eq t e k = as! (rec-is seg0 ∙ k .same-record! ∙ sym (rec-is seg1)) (off-is seg0 ∙ k .same-offset! ∙ sym (off-is seg1))
@@ -743,10 +745,10 @@ module _ (p : Params) (r : Ranged p) (v : View) (sh : Shaped p v) (st : State) (
       off-is : (e : ℕ) → offsetOf 0 seg1 s e ≡ offsetOn seg1 e s
       off-is e = unfold offsetOf in cond-false (isIn 0 e) s (offsetOn seg1 e s) (isIn-empty e)
 
-      serial-now : serialAt v1 z ≡ seg1 .serial
+      serial-now : serialAt p v1 z ≡ seg1 .serial
       serial-now = as! ∙ sym (serial-of p r v1 s0 chunk-tidy z)
         where
-          as! : serialAt v1 z ≡ headerSerial (headerAt v1 0 z)
+          as! : serialAt p v1 z ≡ headerSerial p (headerAt v1 0 z)
           as! = unfold serialAt headerAt in refl
 
       as! : (n dd : ℕ) → dataDrive p (stripeIn st1 i) n ≡ dd → entryIn st1 i n ≡ recOf p 0 seg1 s dd → offsetIn st1 i dd ≡ offsetOf 0 seg1 s dd
@@ -854,23 +856,23 @@ module _ (p : Params) (r : Ranged p) (v : View) (sh : Shaped p v) (st : State) (
                   (t .visible (isIn-empty (c .drive))))
                   ∙ sym (unsealed-by-spare v (c .drive) (c .offset) open-before)))
 
-          serial! : headerSerial (headerAt v1 0 (k .of)) ≡ c .serial
-          serial! = ap headerSerial (sym (grows-header p r v v1 z chunk-grows (k .of) hk)) ∙ sym (its-serial p r v s0 t0 c k)
+          serial! : headerSerial p (headerAt v1 0 (k .of)) ≡ c .serial
+          serial! = ap (headerSerial p) (sym (grows-header p r v v1 z chunk-grows (k .of) hk)) ∙ sym (its-serial p r v s0 t0 c k)
 
           cand! : heldCand p v1 a (placeRecord p v1 0 (c .place) .stamp) (c .place) ≡ c
           cand! = unfold heldCand recordAt serialAt in λ j. record {
             address = sym ea j;
             stamp = ((λ l. recordIn p (sealedIn p v1 0 (ez l)) (zoneAt v1 (ed l) (zoneOn (ez l) (ed l))) (eb l) .stamp) ∙ stamp!) j;
-            serial = (ap (λ (x : Seg). headerSerial (chunkAt v1 0 (zoneOn x 0) 0 .block)) ez ∙ head!) j;
+            serial = (ap (λ (x : Seg). headerSerial p (chunkAt v1 0 (zoneOn x 0) 0 .block)) ez ∙ head!) j;
             drive = ed j;
             offset = eb j;
             place = c .place;
           }
             where
-              head! : headerSerial (chunkAt v1 0 (zoneOn (k .of) 0) 0 .block) ≡ c .serial
+              head! : headerSerial p (chunkAt v1 0 (zoneOn (k .of) 0) 0 .block) ≡ c .serial
               head! = as! serial!
                 where
-                  as! : headerSerial (headerAt v1 0 (k .of)) ≡ c .serial → headerSerial (chunkAt v1 0 (zoneOn (k .of) 0) 0 .block) ≡ c .serial
+                  as! : headerSerial p (headerAt v1 0 (k .of)) ≡ c .serial → headerSerial p (chunkAt v1 0 (zoneOn (k .of) 0) 0 .block) ≡ c .serial
                   as! e = unfold headerAt in e
 
   pub addresses-land : completes p st i d ≡ true → (tb : List ℕ) → tb ≡ addressTable p before! → pointed p v1 tb mine mine tb ≡ addressTable p after!
@@ -892,7 +894,7 @@ module _ (p : Params) (r : Ranged p) (v : View) (sh : Shaped p v) (st : State) (
   used! : (u : View) → usedAt u z ≡ true → (s1 : ℕ) → Tidy p u s1 → (e : ℕ) → e < p .N → sealedIn p u 0 z ≡ false
       → rowAt p u 0 e (zoneOn z e) ≡ recordsIn p false (zoneAt u e (zoneOn z e))
   used! u q s1 ty e he ns =
-      row-seg p u 0 e z hz
+      row-seg p u 0 e z he hz
       ∙ cond-true (remains p u 0 z) (recsOn (segmentOf p u 0 z) e) [] (remains-used p r u s1 ty z hz ∙ q)
       ∙ recs-here p u 0 z e he (isIn-empty e)
       ∙ ap (λ (w : Bool). recordsIn p w (zoneAt u e (zoneOn z e))) ns
@@ -923,7 +925,7 @@ module _ (p : Params) (r : Ranged p) (v : View) (sh : Shaped p v) (st : State) (
       grid-ext p (λ e y. compactRow p (rowAt p v1 0 e y)) (compact-row-long p v1 0) (set cs (compactAt p d (zoneOn z d) o) (compactEntry p s))
       (length-set cs (compactAt p d (zoneOn z d) o) (compactEntry p s) ∙ length-compact p v 0)
       (r .stripes-low) (let a = r .zones-low in omega arith)
-      (λ e k x he hk hx. by-seg (λ n. getD (set cs (compactAt p d (zoneOn z d) o) (compactEntry p s)) (compactAt p e n x) 0 ≡ getD (compactRow p (rowAt p v1 0 e n)) x 0) p e k hk
+      (λ e k x he hk hx. by-seg (λ n. getD (set cs (compactAt p d (zoneOn z d) o) (compactEntry p s)) (compactAt p e n x) 0 ≡ getD (compactRow p (rowAt p v1 0 e n)) x 0) p e k he hk
       (λ y hy. entry e y x he hy hx))
       ∙ sym (compact-is p v1 0)
     where
@@ -936,8 +938,8 @@ module _ (p : Params) (r : Ranged p) (v : View) (sh : Shaped p v) (st : State) (
       base : (e y x : ℕ) → compactAt p e y x ≡ (e * p .Z + y) * p .S + x
       base e y x = unfold compactAt in refl
 
-      cells : (e : ℕ) (y : Seg) (x : ℕ) → Named p y → x < p .S → compactAt p e (zoneOn y e) x ≡ compactAt p d (zoneOn z d) o → (e ≡ d) × ((y ≡ z) × (x ≡ o))
-      cells e y x hy hx q =
+      cells : (e : ℕ) (y : Seg) (x : ℕ) → e < p .N → Named p y → x < p .S → compactAt p e (zoneOn y e) x ≡ compactAt p d (zoneOn z d) o → (e ≡ d) × ((y ≡ z) × (x ≡ o))
+      cells e y x he hy hx q =
           let ye = zoneOn y e in
           let zd = zoneOn z d in
           let hye = zone-on-lt p y e hy in
@@ -946,7 +948,7 @@ module _ (p : Params) (r : Ranged p) (v : View) (sh : Shaped p v) (st : State) (
           let a : e * p .Z + ye ≡ d * p .Z + zd = sym (digits-div (e * p .Z + ye) hx) ∙ ap (λ (n : ℕ). n / p .S) f ∙ digits-div (d * p .Z + zd) os in
           let c : x ≡ o = sym (digits-mod (e * p .Z + ye) hx) ∙ ap (λ (n : ℕ). n % p .S) f ∙ digits-mod (d * p .Z + zd) os in
           let w : e ≡ d = index-drive (p .Z) e ye d zd hye hzd a in
-          (w, (zone-once p y z e hy hz (index-zone (p .Z) e ye d zd hye hzd a ∙ ap (zoneOn z) (sym w)), c))
+          (w, (zone-once p y z e he hy hz (index-zone (p .Z) e ye d zd hye hzd a ∙ ap (zoneOn z) (sym w)), c))
 
       entry : (e : ℕ) (y : Seg) (x : ℕ) → e < p .N → Named p y → x < p .S
           → getD (set cs (compactAt p d (zoneOn z d) o) (compactEntry p s)) (compactAt p e (zoneOn y e) x) 0 ≡ getD (compactRow p (rowAt p v1 0 e (zoneOn y e))) x 0
@@ -959,9 +961,9 @@ module _ (p : Params) (r : Ranged p) (v : View) (sh : Shaped p v) (st : State) (
           go : Dec (z ≡ y) → Dec (d ≡ e) → Dec (x ≡ o) → getD (set cs (compactAt p d (zoneOn z d) o) (compactEntry p s)) (compactAt p e (zoneOn y e) x) 0 ≡ getD
               (compactRow p (rowAt p v1 0 e (zoneOn y e))) x 0
           go (no n) b c =
-              else! (λ q. n (sym (cells e y x hy hx q .1 .0))) ∙ ap (λ (l : List Rec). getD (compactRow p l) x 0) (row-goes p r v v1 s0 s0 t0 chunk-tidy e y hy (chunk-grows .others y hy n))
+              else! (λ q. n (sym (cells e y x he hy hx q .1 .0))) ∙ ap (λ (l : List Rec). getD (compactRow p l) x 0) (row-goes p r v v1 s0 s0 t0 chunk-tidy e y he hy (chunk-grows .others y hy n))
           go (yes a) (no n) c =
-              else! (λ q. n (sym (cells e y x hy hx q .0)))
+              else! (λ q. n (sym (cells e y x he hy hx q .0)))
               ∙ subst (λ (m : Seg). getD (compactRow p (rowAt p v 0 e (zoneOn m e))) x 0 ≡ getD (compactRow p (rowAt p v1 0 e (zoneOn m e))) x 0) a
               (ap (λ (l : List Rec). getD (compactRow p l) x 0) (row-before e he ∙ ap (recordsIn p false) (sym (chunk-other e z he hz (inl n))) ∙ sym (row-after e he)))
           go (yes a) (yes b) (yes c) =
@@ -973,7 +975,7 @@ module _ (p : Params) (r : Ranged p) (v : View) (sh : Shaped p v) (st : State) (
               ∙ ap (λ (m : Rec). compactEntry p (m .stripe)) (spare-new o offset-next)
               ∙ ap (compactEntry p) read-stripe)
           go (yes a) (yes b) (no n) =
-              else! (λ q. n (cells e y x hy hx q .1 .1))
+              else! (λ q. n (cells e y x he hy hx q .1 .1))
               ∙ (λ j. getD (compactRow p (rowAt p v 0 (sym b j) (zoneOn (sym a j) (sym b j)))) x 0)
               ∙ two (decLt (1 + x) (pointerAt v d (zoneOn z d)))
               ∙ (λ j. getD (compactRow p (rowAt p v1 0 (b j) (zoneOn (a j) (b j)))) x 0)
@@ -1037,10 +1039,10 @@ module _ (p : Params) (r : Ranged p) (v : View) (sh : Shaped p v) (st : State) (
               (let a = pointer-data in let c = pointer-some in omega arith))
           go (no n) = subst (λ (x : ℕ). x < p .S) (sym (getD-set-other (st .offsets) (cell i d) j o 0 n)) (so .offsets-low j)
 
-  opened-mark : st1 .opened ≡ suc (z .name)
+  opened-mark : st1 .opened ≡ suc (zoneOn z 0)
   opened-mark = as! oz
     where
-      as! : st .opened ≡ suc (z .name) → st1 .opened ≡ suc (z .name)
+      as! : st .opened ≡ suc (zoneOn z 0) → st1 .opened ≡ suc (zoneOn z 0)
       as! e = unfold markLanded in e
 
   -- segments but this one are as they were
@@ -1049,7 +1051,7 @@ module _ (p : Params) (r : Ranged p) (v : View) (sh : Shaped p v) (st : State) (
     where
       go : Dec (z ≡ y) → (y ≡ z) ⊎ ((e : ℕ) → e < p .N → pointerAt v1 e (zoneOn y e) ≡ capacity p)
       go (yes e) = inl (sym e)
-      go (no n) = ⊎-elim (λ x. inl (let a : suc (z .name) ≡ suc (y .name) = sym oz ∙ x in name-once y z (omega arith)))
+      go (no n) = ⊎-elim (λ x. inl (sym (open-once y hy x)))
           (λ x. inr (λ e he. sym (zones-pointer p r v v1 y (chunk-grows .others y hy n) e he) ∙ x e he)) (h .sealed-but y hy (grows-used p r v v1 z chunk-grows y hy ∙ q))
 
   ls1 : Lists st1
@@ -1059,10 +1061,10 @@ module _ (p : Params) (r : Ranged p) (v : View) (sh : Shaped p v) (st : State) (
   pub chunk-healthy : HealthyState p v1 st1
   chunk-healthy = record {
     tidy = subst (λ (x : ℕ). Tidy p v1 x) (sym serial1) chunk-tidy;
-    sealed-but = λ y hy q. ⊎-elim (λ e. inl (opened-mark ∙ ap (λ (x : Seg). suc (x .name)) (sym e))) (λ x. inr x) (sealed1 y hy q);
-    opens-at = λ y q. subst (λ (x : Seg). OpenZone p v1 st1 (flies st1) x) (let a : suc (z .name) ≡ suc (y .name) = sym opened-mark ∙ q in name-once z y (omega arith))
+    sealed-but = λ y hy q. ⊎-elim (λ e. inl (opened-mark ∙ ap (λ (x : Seg). suc (zoneOn x 0)) (sym e))) (λ x. inr x) (sealed1 y hy q);
+    opens-at = λ y hy q. subst (λ (x : Seg). OpenZone p v1 st1 (flies st1) x) (open-once y hy (oz ∙ sym opened-mark ∙ q))
         (busy-same p v1 st1 (flies st) (flies st1) z (λ j hj. flies1 j) chunk-open);
-    shut = λ q. absurd (let a : suc (z .name) ≡ 0 = sym opened-mark ∙ q in let bad : ⊥ = omega arith in bad);
+    shut = λ q. absurd (let a : suc (zoneOn z 0) ≡ 0 = sym opened-mark ∙ q in let bad : ⊥ = omega arith in bad);
     serial-fits = subst (λ (x : ℕ). x < 256 ^ 8) (sym serial1) (h .serial-fits);
     stamp-fits = subst (λ (x : ℕ). x < 256 ^ 8) (sym stamp1) (h .stamp-fits);
     lists = ls1;
@@ -1217,9 +1219,9 @@ module _ (p : Params) (r : Ranged p) (v : View) (sh : Shaped p v) (st : State) (
   pub freed-healthy : completes p st i d ≡ true → (st .next ≡ p .S → length (inFlight st) ≡ 1 → ⊥) → HealthyState p v1 st2
   freed-healthy q ns = record {
     tidy = subst (λ (x : ℕ). Tidy p v1 x) (sym serial2) chunk-tidy;
-    sealed-but = λ y hy x. ⊎-elim (λ e. inl (opened2 ∙ ap (λ (x : Seg). suc (x .name)) (sym e))) (λ w. inr w) (sealed1 y hy x);
-    opens-at = λ y x. subst (λ (m : Seg). OpenZone p v1 st2 (flies st2) m) (let a : suc (z .name) ≡ suc (y .name) = sym opened2 ∙ x in name-once z y (omega arith)) (freed-open q ns);
-    shut = λ x. absurd (let a : suc (z .name) ≡ 0 = sym opened2 ∙ x in let bad : ⊥ = omega arith in bad);
+    sealed-but = λ y hy x. ⊎-elim (λ e. inl (opened2 ∙ ap (λ (x : Seg). suc (zoneOn x 0)) (sym e))) (λ w. inr w) (sealed1 y hy x);
+    opens-at = λ y hy x. subst (λ (m : Seg). OpenZone p v1 st2 (flies st2) m) (open-once y hy (oz ∙ sym opened2 ∙ x)) (freed-open q ns);
+    shut = λ x. absurd (let a : suc (zoneOn z 0) ≡ 0 = sym opened2 ∙ x in let bad : ⊥ = omega arith in bad);
     serial-fits = subst (λ (x : ℕ). x < 256 ^ 8) (sym serial2) (h .serial-fits);
     stamp-fits = subst (λ (x : ℕ). x < 256 ^ 8) (sym stamp2) (h .stamp-fits);
     lists = free-lists st1 ls1 i hi;
@@ -1231,10 +1233,10 @@ module _ (p : Params) (r : Ranged p) (v : View) (sh : Shaped p v) (st : State) (
       stamp2 : st2 .stamp .0 ≡ st .stamp .0
       stamp2 = unfold freeStripe markLanded in refl
 
-      opened2 : st2 .opened ≡ suc (z .name)
+      opened2 : st2 .opened ≡ suc (zoneOn z 0)
       opened2 = as! oz
         where
-          as! : st .opened ≡ suc (z .name) → st2 .opened ≡ suc (z .name)
+          as! : st .opened ≡ suc (zoneOn z 0) → st2 .opened ≡ suc (zoneOn z 0)
           as! e = unfold freeStripe markLanded in e
 
   -- with the last stripe of the segment complete, every zone has its S chunks

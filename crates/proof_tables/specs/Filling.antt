@@ -150,9 +150,9 @@ pub fill-healthy :
     → HealthyState p v (addEntry st i a t w)
 fill-healthy p r v st i a t w h so hi fi f ha ht = record {
   tidy = subst (λ (x : ℕ). Tidy p v x) (sym serial-same) (h .tidy);
-  sealed-but = λ z hz q. subst (λ (x : ℕ). (x ≡ suc (z .name)) ⊎ ((d : ℕ) → d < p .N → pointerAt v d (zoneOn z d) ≡ capacity p)) (sym opened-same) (h .sealed-but z hz q);
-  opens-at = λ z q. busy-same p v (addEntry st i a t w) (flies st) (flies (addEntry st i a t w)) z flies-same
-      (add-open p r v st (h .lists) (flies st) z i a t w hi fi f ha ht (h .opens-at z (sym opened-same ∙ q)) (λ j hj. so .slots-ok j hj .filled-ok));
+  sealed-but = λ z hz q. subst (λ (x : ℕ). (x ≡ suc (zoneOn z 0)) ⊎ ((d : ℕ) → d < p .N → pointerAt v d (zoneOn z d) ≡ capacity p)) (sym opened-same) (h .sealed-but z hz q);
+  opens-at = λ z hz q. busy-same p v (addEntry st i a t w) (flies st) (flies (addEntry st i a t w)) z flies-same
+      (add-open p r v st (h .lists) (flies st) z i a t w hi fi f ha ht (h .opens-at z hz (sym opened-same ∙ q)) (λ j hj. so .slots-ok j hj .filled-ok));
   shut = λ q. clash fi (h .shut (sym opened-same ∙ q) i hi);
   serial-fits = subst (λ (x : ℕ). x < 256 ^ 8) (sym serial-same) (h .serial-fits);
   stamp-fits = subst (λ (x : ℕ). x < 256 ^ 8) (sym stamp-same) (h .stamp-fits);

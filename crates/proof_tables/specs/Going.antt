@@ -15,7 +15,7 @@ use Rattle.spec.specs.Answers.{kind, isRefused, isRefusedAs}
 use Rattle.spec.specs.Calls.{Check, firstRefusal, decided, outcome}
 use Rattle.spec.specs.Closing.{padded, closeChecks, closePlan, closeVerdict}
 use Rattle.spec.specs.Counts.{paddingAddress, lastCount}
-use Rattle.spec.specs.Drives.{View, pointerAt, Store, storeView, Disk, storeDisk, storeAll, emptySegs, Seg}
+use Rattle.spec.specs.Drives.{View, pointerAt, Store, storeView, Disk, storeDisk, storeAll, emptySegs}
 use Rattle.spec.specs.Engine.{storeCount, lentBlock, verdict, lentOk, callOn, callDisk}
 use Rattle.spec.specs.Engine.Call.{write, close}
 use Rattle.spec.specs.Lists.{keep, isNil, isIn}
@@ -44,6 +44,7 @@ use Rattle.proof_tables.specs.Outcomes.EndedAs.{ended-refused, ended-don
 use Rattle.proof_tables.specs.Run.{flies, HealthyState, Well, Run, Kept}
 use Rattle.proof_tables.specs.Sending.{filling-flies, SentOk, sent-ok}
 use Rattle.proof_tables.specs.Slots.{filled-added, some-flies}
+use Rattle.spec.specs.declared.Seg.{Seg}
 
 -- stores made and a memory that goes with the view after them
 pub well-run : (p : Params) (k : Disk) (ss : List Store) (m : Memory) → inRange p ≡ true → Whole p k → Shaped p (seen p k) → Roomy p (seen p k) ss

@@ -9,7 +9,7 @@ use native.Mathlib.Omega.{arith}
 use lib.Dec.{eqb, lit<}
 use Rattle.spec.specs.declared.Params.{Params}
 use Rattle.spec.specs.declared.State.{State}
-use Rattle.spec.specs.Drives.{Zone, View, zoneAt, pointerAt, storeView, storeAll, sealedIn, dataStored, recordIn, headerStores, Seg, zoneOn}
+use Rattle.spec.specs.Drives.{Zone, View, zoneAt, pointerAt, storeView, storeAll, sealedIn, dataStored, recordIn, headerStores, zoneOn, zonesIn}
 use Rattle.spec.specs.Layout.{headerSerial, headerCopied, Rec}
 use Rattle.spec.specs.Lists.{upFrom, below, tally, isIn}
 use Rattle.spec.specs.Lists.Opt.{none}
@@ -19,7 +19,7 @@ use Rattle.spec.specs.Rank.{Cand, best, candsOf}
 use Rattle.spec.specs.Segments.{headerAt, recordsIn, segmentOf, segments, recsOn, candidates, addressTable, compactTable}
 use Rattle.law_basic.specs.Geometry.{Ranged}
 use Rattle.law_basic.specs.Mask.{isIn-empty}
-use Rattle.law_basic.specs.Segs.{segs-differ, Named, name-once}
+use Rattle.law_basic.specs.Segs.{segs-differ, Named, zone-once}
 use Rattle.law_drives.specs.Headers.{header-other, header-pointer, header-block}
 use Rattle.law_drives.specs.Laid.{header-serial, header-copied}
 use Rattle.law_drives.specs.Members.{In}
@@ -34,6 +34,7 @@ use Rattle.law_drives.specs.Zones.{Shaped}
 use Rattle.proof_tables.specs.Ranks.{same-best}
 use Rattle.proof_tables.specs.Run.{flies, awaits, OpenZone, Lists, HealthyState}
 use Rattle.proof_tables.specs.Tallies.{tally-none}
+use Rattle.spec.specs.declared.Seg.{Seg}
 
 -- ---- the segment that a write opens
 
@@ -51,11 +52,11 @@ module _ (p : Params) (r : Ranged p) (v : View) (sh : Shaped p v) (s : ℕ) (g :
   unused : usedAt v g ≡ false
   unused = ap not (eq-eqb (pointerAt v 0 (zoneOn g 0)) 0 (em 0 h0))
 
-  head-serial : headerSerial (headerAt after 0 g) ≡ suc s
-  head-serial = ap headerSerial (header-block p r v sh g (suc s) 0 hg em) ∙ header-serial p 0 (zoneOn g 0) (suc s) 0 fit
+  head-serial : headerSerial p (headerAt after 0 g) ≡ suc s
+  head-serial = ap (headerSerial p) (header-block p r v sh g (suc s) 0 hg em) ∙ header-serial p 0 (zonesIn p g) (suc s) 0 fit
 
-  head-copied : headerCopied (headerAt after 0 g) ≡ 0
-  head-copied = ap headerCopied (header-block p r v sh g (suc s) 0 hg em) ∙ header-copied p 0 (zoneOn g 0) (suc s) 0 (lit< tt)
+  head-copied : headerCopied p (headerAt after 0 g) ≡ 0
+  head-copied = ap (headerCopied p) (header-block p r v sh g (suc s) 0 hg em) ∙ header-copied p 0 (zonesIn p g) (suc s) 0 (lit< tt)
 
   -- a used segment is the new one or was used
   used-before-open : (y : Seg) → Named p y → usedAt after y ≡ true → (y ≡ g) ⊎ ((g ≡ y → ⊥) × (usedAt v y ≡ true))
@@ -89,39 +90,39 @@ module _ (p : Params) (r : Ranged p) (v : View) (sh : Shaped p v) (s : ℕ) (g :
           ap (λ (x : ℕ). eqb x 0) (sym (zones-pointer p r v after z (opened-same-zones z hz n) d hd)) ∙ t .together d z hd hz
           ∙ ap (λ (x : ℕ). eqb x 0) (zones-pointer p r v after z (opened-same-zones z hz n) 0 h0)
 
-      less : (z : Seg) → Named p z → (z ≡ g) ⊎ ((g ≡ z → ⊥) × (usedAt v z ≡ true)) → headerCopied (headerAt after 0 z) < headerSerial (headerAt after 0 z)
-      less z hz (inl e) = subst (λ (x : Seg). headerCopied (headerAt after 0 x) < headerSerial (headerAt after 0 x)) (sym e) (let a = head-serial in let b = head-copied in omega arith)
-      less z hz (inr (n, q)) = subst (λ (x : List ℕ). headerCopied x < headerSerial x) (hdr-same z hz n) (t .copied-less z hz q)
+      less : (z : Seg) → Named p z → (z ≡ g) ⊎ ((g ≡ z → ⊥) × (usedAt v z ≡ true)) → headerCopied p (headerAt after 0 z) < headerSerial p (headerAt after 0 z)
+      less z hz (inl e) = subst (λ (x : Seg). headerCopied p (headerAt after 0 x) < headerSerial p (headerAt after 0 x)) (sym e) (let a = head-serial in let b = head-copied in omega arith)
+      less z hz (inr (n, q)) = subst (λ (x : List ℕ). headerCopied p x < headerSerial p x) (hdr-same z hz n) (t .copied-less z hz q)
 
-      known : (z : Seg) → Named p z → (z ≡ g) ⊎ ((g ≡ z → ⊥) × (usedAt v z ≡ true)) → headerSerial (headerAt after 0 z) ≤ suc s
-      known z hz (inl e) = subst (λ (x : Seg). headerSerial (headerAt after 0 x) ≤ suc s) (sym e) (let a = head-serial in omega arith)
-      known z hz (inr (n, q)) = subst (λ (x : List ℕ). headerSerial x ≤ suc s) (hdr-same z hz n) (let a = t .serial-known z hz q in omega arith)
+      known : (z : Seg) → Named p z → (z ≡ g) ⊎ ((g ≡ z → ⊥) × (usedAt v z ≡ true)) → headerSerial p (headerAt after 0 z) ≤ suc s
+      known z hz (inl e) = subst (λ (x : Seg). headerSerial p (headerAt after 0 x) ≤ suc s) (sym e) (let a = head-serial in omega arith)
+      known z hz (inr (n, q)) = subst (λ (x : List ℕ). headerSerial p x ≤ suc s) (hdr-same z hz n) (let a = t .serial-known z hz q in omega arith)
 
-      old-low : (z : Seg) → Named p z → (g ≡ z → ⊥) → usedAt v z ≡ true → headerSerial (headerAt after 0 z) ≤ s
-      old-low z hz n q = subst (λ (x : List ℕ). headerSerial x ≤ s) (hdr-same z hz n) (t .serial-known z hz q)
+      old-low : (z : Seg) → Named p z → (g ≡ z → ⊥) → usedAt v z ≡ true → headerSerial p (headerAt after 0 z) ≤ s
+      old-low z hz n q = subst (λ (x : List ℕ). headerSerial p x ≤ s) (hdr-same z hz n) (t .serial-known z hz q)
 
-      new-is : (y : Seg) → y ≡ g → headerSerial (headerAt after 0 y) ≡ suc s
-      new-is y e = ap (λ (x : Seg). headerSerial (headerAt after 0 x)) e ∙ head-serial
+      new-is : (y : Seg) → y ≡ g → headerSerial p (headerAt after 0 y) ≡ suc s
+      new-is y e = ap (λ (x : Seg). headerSerial p (headerAt after 0 x)) e ∙ head-serial
 
-      one : (y z : Seg) → Named p y → Named p z → headerSerial (headerAt after 0 y) ≡ headerSerial (headerAt after 0 z)
+      one : (y z : Seg) → Named p y → Named p z → headerSerial p (headerAt after 0 y) ≡ headerSerial p (headerAt after 0 z)
           → (y ≡ g) ⊎ ((g ≡ y → ⊥) × (usedAt v y ≡ true)) → (z ≡ g) ⊎ ((g ≡ z → ⊥) × (usedAt v z ≡ true)) → y ≡ z
       one y z hy hz e (inl a) (inl b) = a ∙ sym b
       one y z hy hz e (inl a) (inr (n, q)) = absurd (let x = old-low z hz n q in let w = new-is y a in let bad : ⊥ = omega arith in bad)
       one y z hy hz e (inr (n, q)) (inl b) = absurd (let x = old-low y hy n q in let w = new-is z b in let bad : ⊥ = omega arith in bad)
-      one y z hy hz e (inr (n, q)) (inr (m, w)) = t .serial-once y z hy hz q w (ap headerSerial (hdr-same y hy n) ∙ e ∙ ap headerSerial (sym (hdr-same z hz m)))
+      one y z hy hz e (inr (n, q)) (inr (m, w)) = t .serial-once y z hy hz q w (ap (headerSerial p) (hdr-same y hy n) ∙ e ∙ ap (headerSerial p) (sym (hdr-same z hz m)))
 
-      nc : (y z : Seg) → Named p y → Named p z → headerCopied (headerAt after 0 y) ≡ headerSerial (headerAt after 0 z)
+      nc : (y z : Seg) → Named p y → Named p z → headerCopied p (headerAt after 0 y) ≡ headerSerial p (headerAt after 0 z)
           → (y ≡ g) ⊎ ((g ≡ y → ⊥) × (usedAt v y ≡ true)) → (z ≡ g) ⊎ ((g ≡ z → ⊥) × (usedAt v z ≡ true)) → ⊥
       nc y z hy hz e (inl a) c =
           let x = less z hz c in
-          let w : headerCopied (headerAt after 0 y) ≡ 0 = ap (λ (x : Seg). headerCopied (headerAt after 0 x)) a ∙ head-copied in
+          let w : headerCopied p (headerAt after 0 y) ≡ 0 = ap (λ (x : Seg). headerCopied p (headerAt after 0 x)) a ∙ head-copied in
           let bad : ⊥ = omega arith in bad
       nc y z hy hz e (inr (n, q)) (inl b) =
           let x = less y hy (inr (n, q)) in
           let l = old-low y hy n q in
           let w = new-is z b in
           let bad : ⊥ = omega arith in bad
-      nc y z hy hz e (inr (n, q)) (inr (m, w)) = t .no-copy y z hy hz q w (ap headerCopied (hdr-same y hy n) ∙ e ∙ ap headerSerial (sym (hdr-same z hz m)))
+      nc y z hy hz e (inr (n, q)) (inr (m, w)) = t .no-copy y z hy hz q w (ap (headerCopied p) (hdr-same y hy n) ∙ e ∙ ap (headerSerial p) (sym (hdr-same z hz m)))
 
   -- ---- the new segment has no chunk
 
@@ -168,7 +169,7 @@ module _ (p : Params) (r : Ranged p) (v : View) (sh : Shaped p v) (s : ℕ) (g :
   head-rows d y hd hy = go (segs-differ g y)
     where
       empty-before : rowAt p v 0 d (zoneOn g d) ≡ []
-      empty-before = row-seg p v 0 d g hg ∙ cond-false (remains p v 0 g) (recsOn (segmentOf p v 0 g) d) [] (remains-used p r v s t g hg ∙ unused)
+      empty-before = row-seg p v 0 d g hd hg ∙ cond-false (remains p v 0 g) (recsOn (segmentOf p v 0 g) d) [] (remains-used p r v s t g hg ∙ unused)
 
       empty-recs : recsOn (segmentOf p after 0 g) d ≡ []
       empty-recs = recs-here p after 0 g d hd (isIn-empty d) ∙ go (sealedIn p after 0 g) (zoneAt after d (zoneOn g d)) (no-data d hd)
@@ -177,11 +178,11 @@ module _ (p : Params) (r : Ranged p) (v : View) (sh : Shaped p v) (s : ℕ) (g :
           go w q e = unfold recordsIn in (ap (λ (n : ℕ). map (recordIn p w q) (below n)) e ∙ (unfold below upFrom in refl))
 
       empty-after : rowAt p after 0 d (zoneOn g d) ≡ []
-      empty-after = row-seg p after 0 d g hg ∙ ap (λ (l : List Rec). cond (remains p after 0 g) l []) empty-recs ∙ cond-same (remains p after 0 g) []
+      empty-after = row-seg p after 0 d g hd hg ∙ ap (λ (l : List Rec). cond (remains p after 0 g) l []) empty-recs ∙ cond-same (remains p after 0 g) []
 
       go : Dec (g ≡ y) → rowAt p v 0 d (zoneOn y d) ≡ rowAt p after 0 d (zoneOn y d)
       go (yes e) = subst (λ (x : Seg). rowAt p v 0 d (zoneOn x d) ≡ rowAt p after 0 d (zoneOn x d)) e (empty-before ∙ sym empty-after)
-      go (no n) = row-goes p r v after s (suc s) t head-tidy d y hy (opened-same-zones y hy n)
+      go (no n) = row-goes p r v after s (suc s) t head-tidy d y hd hy (opened-same-zones y hy n)
 
   pub head-addresses : addressTable p (candidates p 0 (segments p v 0)) ≡ addressTable p (candidates p 0 (segments p after 0))
   head-addresses = addresses-cong p (candidates p 0 (segments p v 0)) (candidates p 0 (segments p after 0)) (λ a h. head-cands a)
@@ -191,13 +192,14 @@ module _ (p : Params) (r : Ranged p) (v : View) (sh : Shaped p v) (s : ℕ) (g :
 
   -- ---- what holds
 
-  pub head-healthy : (st : State) → HealthyState p v st → st .serial .0 ≡ s → ((z : Seg) → st .opened ≡ suc (z .name) → ⊥) → ((i : ℕ) → i < 8 → flies st i ≡ false)
+  pub head-healthy : (st : State) → HealthyState p v st → st .serial .0 ≡ s → ((z : Seg) → Named p z → st .opened ≡ suc (zoneOn z 0) → ⊥)
+      → ((i : ℕ) → i < 8 → flies st i ≡ false)
       → HealthyState p after (setOpen st g (suc s))
   head-healthy st h es nz nf = record {
     tidy = subst (λ (x : ℕ). Tidy p after x) (sym serial-is!) head-tidy;
     sealed-but = λ z hz q. sealed z hz (used-before-open z hz q);
-    opens-at = λ z q. at z (sym opened-is ∙ q);
-    shut = λ q. absurd (let x : suc (g .name) ≡ 0 = sym opened-is ∙ q in let y : ⊥ = omega arith in y);
+    opens-at = λ z hz q. at z hz (sym opened-is ∙ q);
+    shut = λ q. absurd (let x : suc (zoneOn g 0) ≡ 0 = sym opened-is ∙ q in let y : ⊥ = omega arith in y);
     serial-fits = subst (λ (x : ℕ). x < 256 ^ 8) (sym serial-is!) fit;
     stamp-fits = subst (λ (x : ℕ). x < 256 ^ 8) (sym stamp-is) (h .stamp-fits);
     lists = lists-same (h .lists);
@@ -212,7 +214,7 @@ module _ (p : Params) (r : Ranged p) (v : View) (sh : Shaped p v) (s : ℕ) (g :
       stamp-is : su .stamp .0 ≡ st .stamp .0
       stamp-is = unfold setOpen in refl
 
-      opened-is : su .opened ≡ suc (g .name)
+      opened-is : su .opened ≡ suc (zoneOn g 0)
       opened-is = unfold setOpen in refl
 
       next-is : su .next ≡ 0
@@ -233,9 +235,9 @@ module _ (p : Params) (r : Ranged p) (v : View) (sh : Shaped p v) (s : ℕ) (g :
       }
 
       sealed : (z : Seg) → Named p z → (z ≡ g) ⊎ ((g ≡ z → ⊥) × (usedAt v z ≡ true))
-          → (su .opened ≡ suc (z .name)) ⊎ ((d : ℕ) → d < p .N → pointerAt after d (zoneOn z d) ≡ capacity p)
-      sealed z hz (inl e) = inl (opened-is ∙ ap (λ (x : Seg). suc (x .name)) (sym e))
-      sealed z hz (inr (n, q)) = ⊎-elim (λ x. absurd (nz z x)) (λ x. inr (λ d hd. sym (zones-pointer p r v after z (opened-same-zones z hz n) d hd) ∙ x d hd)) (h .sealed-but z hz q)
+          → (su .opened ≡ suc (zoneOn z 0)) ⊎ ((d : ℕ) → d < p .N → pointerAt after d (zoneOn z d) ≡ capacity p)
+      sealed z hz (inl e) = inl (opened-is ∙ ap (λ (x : Seg). suc (zoneOn x 0)) (sym e))
+      sealed z hz (inr (n, q)) = ⊎-elim (λ x. absurd (nz z hz x)) (λ x. inr (λ d hd. sym (zones-pointer p r v after z (opened-same-zones z hz n) d hd) ∙ x d hd)) (h .sealed-but z hz q)
 
       none : (d : ℕ) → tally (awaits su (flies su) d) slots ≡ 0
       none d = tally-none (awaits su (flies su) d) slots (λ i m. and-false-left (flies su i) (not (isIn (landedIn su i) d)) (flies-is i ∙ nf i (slots-in i m)))
@@ -254,5 +256,5 @@ module _ (p : Params) (r : Ranged p) (v : View) (sh : Shaped p v) (s : ℕ) (g :
         goes-on = λ q. absurd (let e = sym next-is ∙ q in let l = r .stripes-low in let z : ⊥ = omega arith in z);
       }
 
-      at : (z : Seg) → suc (g .name) ≡ suc (z .name) → OpenZone p after su (flies su) z
-      at z q = subst (λ (x : Seg). OpenZone p after su (flies su) x) (name-once g z (omega arith)) new
+      at : (z : Seg) → Named p z → suc (zoneOn g 0) ≡ suc (zoneOn z 0) → OpenZone p after su (flies su) z
+      at z hz q = subst (λ (x : Seg). OpenZone p after su (flies su) x) (zone-once p g z 0 h0 hg hz (omega arith)) new

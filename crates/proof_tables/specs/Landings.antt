@@ -14,7 +14,7 @@ use Rattle.spec.specs.declared.State.{State}
 use Rattle.spec.specs.Answers.{kind, isRefused, isRefusedAs}
 use Rattle.spec.specs.Calls.{Check, firstRefusal, Plan, decided, outcome}
 use Rattle.spec.specs.Counts.{neverPlace}
-use Rattle.spec.specs.Drives.{View, pointerAt, Store, storeView, Disk, storeDisk, storeAll, zoneOn, Seg}
+use Rattle.spec.specs.Drives.{View, pointerAt, Store, storeView, Disk, storeDisk, storeAll, zoneOn}
 use Rattle.spec.specs.Drives.Store.{put}
 use Rattle.spec.specs.Engine.{storeCount, lentBlock, verdict, lentOk, callOn, callDisk}
 use Rattle.spec.specs.Engine.Call.{land}
@@ -54,9 +54,11 @@ use Rattle.proof_tables.specs.Live.EntryHolds.{holds-none, holds-some}
 use Rattle.proof_tables.specs.Losing.{refused-kept, cut-kept}
 use Rattle.proof_tables.specs.Outcomes.{EndedAs, outcome-ends}
 use Rattle.proof_tables.specs.Outcomes.EndedAs.{ended-refused, ended-done, ended-cut}
+use Rattle.proof_tables.specs.Opened.{open-segment-is}
 use Rattle.proof_tables.specs.Run.{flies, Lists, HealthyState, Well, Run, Kept}
 use Rattle.proof_tables.specs.Sealing.{seal-pointer, seal-roomy, seal-within, seal-grows, seal-records}
 use Rattle.proof_tables.specs.Slots.{free-lists}
+use Rattle.spec.specs.declared.Seg.{Seg}
 
 -- ---- the eighth of a stripe
 
@@ -92,13 +94,15 @@ pub record LandWaits (p : Params) (v : View) (st : State) (d s : ℕ) : Type 0 w
   pub slot-flies : flies st (slotOf st s) ≡ true
   pub slot-stripe : stripeIn st (slotOf st s) ≡ s
   pub slot-ready : ready p st (slotOf st s) d ≡ true
-  pub slot-opened : st .opened ≡ suc (openSegment st .name)
+  pub slot-named : Named p (openSegment p st)
+  pub slot-opened : st .opened ≡ suc (zoneOn (openSegment p st) 0)
 
-pub land-waits : (p : Params) (v : View) (st : State) (d s : ℕ) → HealthyState p v st → waiting p st d s ≡ true → LandWaits p v st d s
-land-waits p v st d s h q =
+pub land-waits : (p : Params) (v : View) (st : State) (d s : ℕ) → HealthyState p v st → StateOk p st → waiting p st d s ≡ true → LandWaits p v st d s
+land-waits p v st d s h so q =
     let (a, (b, c)) = parts q in
     let (f, e) = slot-of-stripe st s b in
-    record { drive-ok = a; slot-ok = b; slot-flies = f; slot-stripe = e; slot-ready = c; slot-opened = opened! (st .opened) refl b f }
+    let (n, o) = opened! (st .opened) refl a b f in
+    record { drive-ok = a; slot-ok = b; slot-flies = f; slot-stripe = e; slot-ready = c; slot-named = n; slot-opened = o }
   where
     parts : waiting p st d s ≡ true → (d < p .N) × ((slotOf st s < 8) × (ready p st (slotOf st s) d ≡ true))
     parts q = unfold waiting slotCount in
@@ -108,9 +112,10 @@ land-waits p v st d s h q =
         let q1 : x && y ≡ true = and-left (x && y) z q in
         (ltb-true d (p .N) (and-left x y q1), (ltb-true (slotOf st s) 8 (and-right x y q1), and-right (x && y) z q))
 
-    opened! : (o : ℕ) → st .opened ≡ o → slotOf st s < 8 → flies st (slotOf st s) ≡ true → st .opened ≡ suc (openSegment st .name)
-    opened! zero e b f = clash f (h .shut e (slotOf st s) b)
-    opened! (suc n) e b f = unfold openSegment in omega arith
+    opened! : (o : ℕ) → st .opened ≡ o → d < p .N → slotOf st s < 8 → flies st (slotOf st s) ≡ true
+        → Named p (openSegment p st) × (st .opened ≡ suc (zoneOn (openSegment p st) 0))
+    opened! zero e a b f = clash f (h .shut e (slotOf st s) b)
+    opened! (suc n) e a b f = open-segment-is p st n (omega arith) so e
 
 -- ---- the call
 
@@ -125,7 +130,7 @@ module _ (p : Params) (k : Disk) (m : Memory) (u : Run p k m) (we : Well p k m) 
   i = slotOf st s
 
   abbrev z : Seg
-  z = openSegment st
+  z = openSegment p st
 
   rg : Ranged p
   rg = ranged p (u .base .ranged)
@@ -161,7 +166,10 @@ module _ (p : Params) (k : Disk) (m : Memory) (u : Run p k m) (we : Well p k m) 
     abbrev rd : ready p st i d ≡ true
     rd = w .slot-ready
 
-    abbrev oz : st .opened ≡ suc (z .name)
+    abbrev hz : Named p z
+    hz = w .slot-named
+
+    abbrev oz : st .opened ≡ suc (zoneOn z 0)
     oz = w .slot-opened
 
     abbrev store : Store
@@ -180,9 +188,9 @@ module _ (p : Params) (k : Disk) (m : Memory) (u : Run p k m) (we : Well p k m) 
 
     never-misplaced : misplaced p v d (zoneOn z d) s ≡ false
     never-misplaced = as! (
-        let a = pointer-some p rg v sh st he so z oz d i hd hi fi rd b lb in
-        let c = pointer-data p rg v sh st he so z oz d i hd hi fi rd b lb in
-        let e = offset-group p rg v sh st he so z oz d i hd hi fi rd b lb in
+        let a = pointer-some p rg v sh st he so z hz oz d i hd hi fi rd b lb in
+        let c = pointer-data p rg v sh st he so z hz oz d i hd hi fi rd b lb in
+        let e = offset-group p rg v sh st he so z hz oz d i hd hi fi rd b lb in
         and-both (between 1 (p .S) (pointerAt v d (zoneOn z d))) (eqb (group p (pointerAt v d (zoneOn z d) - 1)) (group p s)) (between-of 1 (p .S) (pointerAt v d (zoneOn z d)) a c)
         (eq-eqb (group p (pointerAt v d (zoneOn z d) - 1)) (group p s) (e ∙ ap (group p) (w .slot-stripe))))
       where
@@ -199,13 +207,13 @@ module _ (p : Params) (k : Disk) (m : Memory) (u : Run p k m) (we : Well p k m) 
 
         fits : (e : ℕ) → e < p .N → Dec (e ≡ d) → pointerAt v e (zoneOn z e) + cond (eqb e d) 1 0 + footers p ≤ capacity p
         fits e h (yes x) =
-            let c = pointer-data p rg v sh st he so z oz d i hd hi fi rd b lb in
+            let c = pointer-data p rg v sh st he so z hz oz d i hd hi fi rd b lb in
             let y : pointerAt v e (zoneOn z e) ≡ pointerAt v d (zoneOn z d) = ap (λ (n : ℕ). pointerAt v n (zoneOn z n)) x in
             let n : _≡_ {A = ℕ} (cond (eqb e d) 1 0) 1 = cond-true (eqb e d) 1 0 (eq-eqb e d x) in
             let l = capacity-is p rg in
             omega arith
         fits e h (no x) =
-            let c = he .opens-at z oz .count e h in
+            let c = he .opens-at z hz oz .count e h in
             let q = so .next-low in
             let n : _≡_ {A = ℕ} (cond (eqb e d) 1 0) 0 = cond-false (eqb e d) 1 0 (ne-eqb e d x) in
             let l = capacity-is p rg in
@@ -258,13 +266,13 @@ module _ (p : Params) (k : Disk) (m : Memory) (u : Run p k m) (we : Well p k m) 
     compact-now =
         ap (λ (l : List ℕ). set l (compactAt p d (zoneOn z d) o) (compactEntry p s)) (compact-table p k m u we)
         ∙ ap (λ (x : ℕ). set (compactTable p (segments p v 0)) (compactAt p d (zoneOn z d) o) (compactEntry p x)) (sym (w .slot-stripe))
-        ∙ compact-lands p rg v sh st he so z oz d i hd hi fi rd b lb
+        ∙ compact-lands p rg v sh st he so z hz oz d i hd hi fi rd b lb
 
     one-store : storeAll storeView (store ∷ []) v ≡ v1
     one-store = unfold storeAll in refl
 
     store-within : (x : Store) → In x (store ∷ []) → Within p x
-    store-within x (inl e) = subst (λ (y : Store). Within p y) (sym e) (hd, zone-on-lt p z d (he .opens-at z oz .opened-zone))
+    store-within x (inl e) = subst (λ (y : Store). Within p y) (sym e) (hd, zone-on-lt p z d hz)
     store-within x (inr n) = absurd n
 
     -- the memory after a chunk
@@ -272,7 +280,7 @@ module _ (p : Params) (k : Disk) (m : Memory) (u : Run p k m) (we : Well p k m) 
         → Run p (storeAll (storeDisk p) (store ∷ []) k) (mkMemory su tb new-compact (m .inflight))
     chunk-run su tb e sk hk t =
         well-run p k (store ∷ []) (mkMemory su tb new-compact (m .inflight)) (u .base .ranged) (whole-of p k m (u .base .lent)) sh
-        (chunk-roomy p rg v sh st he so z oz d i hd hi fi rd b lb) store-within
+        (chunk-roomy p rg v sh st he so z hz oz d i hd hi fi rd b lb) store-within
         (e ∙ we .none-missing) sk (subst (λ (x : View). HealthyState p x su) (sym one-store) hk)
         (t ∙ ap (λ (x : View). addressTable p (candidates p 0 (segments p x 0))) (sym one-store))
         (compact-now ∙ ap (λ (x : View). compactTable p (segments p x 0)) (sym one-store)) (buffer-long p k m u we)
@@ -289,9 +297,9 @@ module _ (p : Params) (k : Disk) (m : Memory) (u : Run p k m) (we : Well p k m) 
     lands-chunk q =
         subst (λ (x : List Store). Run p (storeAll (storeDisk p) x k) (plan .memory)) (sym (stores-is q))
         (subst (λ (x : Memory). Run p (storeAll (storeDisk p) (store ∷ []) k) x) (sym (memory-is q))
-        (chunk-run st1 (m .addresses) (chunk-missing p rg v sh st he so z oz d i hd hi fi rd b lb)
-        (chunk-state p rg v sh st he so z oz d i hd hi fi rd b lb) (chunk-healthy p rg v sh st he so z oz d i hd hi fi rd b lb)
-        (land-table-said ∙ addresses-stay p rg v sh st he so z oz d i hd hi fi rd b lb q)))
+        (chunk-run st1 (m .addresses) (chunk-missing p rg v sh st he so z hz oz d i hd hi fi rd b lb)
+        (chunk-state p rg v sh st he so z hz oz d i hd hi fi rd b lb) (chunk-healthy p rg v sh st he so z hz oz d i hd hi fi rd b lb)
+        (land-table-said ∙ addresses-stay p rg v sh st he so z hz oz d i hd hi fi rd b lb q)))
       where
         stores-is : completes p st i d ≡ false → plan .stores ≡ store ∷ []
         stores-is q = unfold landPlan landStore seals in rw q
@@ -306,15 +314,15 @@ module _ (p : Params) (k : Disk) (m : Memory) (u : Run p k m) (we : Well p k m) 
     free-missing = unfold freeStripe markLanded in refl
 
     addresses-now : completes p st i d ≡ true → new-addresses ≡ addressTable p (candidates p 0 (segments p v1 0))
-    addresses-now q = addresses-land p rg v sh st he so z oz d i hd hi fi rd b lb q (m .addresses) land-table-said
+    addresses-now q = addresses-land p rg v sh st he so z hz oz d i hd hi fi rd b lb q (m .addresses) land-table-said
 
     -- it completes its stripe, and others are to come
     lands-stripe : completes p st i d ≡ true → seals p st i d ≡ false → Run p (storeAll (storeDisk p) (plan .stores) k) (plan .memory)
     lands-stripe q ns =
         subst (λ (x : List Store). Run p (storeAll (storeDisk p) x k) (plan .memory)) (sym (stores-is ns))
         (subst (λ (x : Memory). Run p (storeAll (storeDisk p) (store ∷ []) k) x) (sym (memory-is q ns))
-        (chunk-run st2 new-addresses free-missing (freed-state p rg v sh st he so z oz d i hd hi fi rd b lb)
-        (freed-healthy p rg v sh st he so z oz d i hd hi fi rd b lb q (λ x y. not-last x y)) (addresses-now q)))
+        (chunk-run st2 new-addresses free-missing (freed-state p rg v sh st he so z hz oz d i hd hi fi rd b lb)
+        (freed-healthy p rg v sh st he so z hz oz d i hd hi fi rd b lb q (λ x y. not-last x y)) (addresses-now q)))
       where
         stores-is : seals p st i d ≡ false → plan .stores ≡ store ∷ []
         stores-is ns = unfold landPlan landStore in rw ns
@@ -334,22 +342,21 @@ module _ (p : Params) (k : Disk) (m : Memory) (u : Run p k m) (we : Well p k m) 
     lands-segment : seals p st i d ≡ true → Run p (storeAll (storeDisk p) (plan .stores) k) (plan .memory)
     lands-segment sl =
         let (q, (nx, one)) = parts sl in
-        let hz = he .opens-at z oz .opened-zone in
-        let behind = all-behind p rg v sh st he so z oz d i hd hi fi rd b lb q nx one in
-        let sh1 : Shaped p v1 = subst (λ (x : View). Shaped p x) one-store (shaped-after p v (store ∷ []) sh (chunk-roomy p rg v sh st he so z oz d i hd hi fi rd b lb)) in
+        let behind = all-behind p rg v sh st he so z hz oz d i hd hi fi rd b lb q nx one in
+        let sh1 : Shaped p v1 = subst (λ (x : View). Shaped p x) one-store (shaped-after p v (store ∷ []) sh (chunk-roomy p rg v sh st he so z hz oz d i hd hi fi rd b lb)) in
         let ss = sealStores p v1 z in
         let v2 = storeAll storeView ss v1 in
-        let t1 = chunk-tidy p rg v sh st he so z oz d i hd hi fi rd b lb in
+        let t1 = chunk-tidy p rg v sh st he so z hz oz d i hd hi fi rd b lb in
         let gr = seal-grows p rg v1 sh1 z hz behind in
         let recs = seal-records p rg v1 sh1 z hz behind in
         let s0 = st .serial .0 in
         let ev : storeAll storeView ((store ∷ []) ++ ss) v ≡ v2 = storeAll-append storeView (store ∷ []) ss v ∙ ap (storeAll storeView ss) one-store in
         let su = setClosed st2 in
-        let none! : (j : ℕ) → j < 8 → flies su j ≡ false = λ j hj. closed-flies j ∙ last-flight p rg v sh st he so z oz d i hd hi fi rd b lb one j hj in
+        let none! : (j : ℕ) → j < 8 → flies su j ≡ false = λ j hj. closed-flies j ∙ last-flight p rg v sh st he so z hz oz d i hd hi fi rd b lb one j hj in
         let hk : HealthyState p v2 su = record {
           tidy = subst (λ (x : ℕ). Tidy p v2 x) (sym closed-serial) (grows-tidy p rg v1 v2 z gr s0 t1);
           sealed-but = λ y hy x. inr (sealed! y hy v2 x gr (segs-differ z y) (seal-pointer p rg v1 sh1 z hz behind));
-          opens-at = λ y x. absurd (let a = sym closed-opened ∙ x in let bad : ⊥ = omega arith in bad);
+          opens-at = λ y hy x. absurd (let a = sym closed-opened ∙ x in let bad : ⊥ = omega arith in bad);
           shut = λ x j hj. none! j hj;
           serial-fits = subst (λ (x : ℕ). x < 256 ^ 8) (sym closed-serial) (he .serial-fits);
           stamp-fits = subst (λ (x : ℕ). x < 256 ^ 8) (sym closed-stamp) (he .stamp-fits);
@@ -358,10 +365,10 @@ module _ (p : Params) (k : Disk) (m : Memory) (u : Run p k m) (we : Well p k m) 
         subst (λ (x : List Store). Run p (storeAll (storeDisk p) x k) (plan .memory)) (sym (stores-is sl))
         (subst (λ (x : Memory). Run p (storeAll (storeDisk p) ((store ∷ []) ++ ss) k) x) (sym (memory-is q sl))
         (well-run p k ((store ∷ []) ++ ss) (mkMemory su new-addresses new-compact (m .inflight)) (u .base .ranged) (whole-of p k m (u .base .lent)) sh
-        (roomy-append p v (store ∷ []) ss (sh .sized) (chunk-roomy p rg v sh st he so z oz d i hd hi fi rd b lb)
+        (roomy-append p v (store ∷ []) ss (sh .sized) (chunk-roomy p rg v sh st he so z hz oz d i hd hi fi rd b lb)
         (subst (λ (x : View). Roomy p x ss) (sym one-store) (seal-roomy p rg v1 sh1 z hz behind)))
         (within-append p (store ∷ []) ss store-within (seal-within p rg v1 sh1 z hz behind))
-        (closed-missing ∙ we .none-missing) (closed-ok (freed-state p rg v sh st he so z oz d i hd hi fi rd b lb)) (subst (λ (x : View). HealthyState p x su) (sym ev) hk)
+        (closed-missing ∙ we .none-missing) (closed-ok (freed-state p rg v sh st he so z hz oz d i hd hi fi rd b lb)) (subst (λ (x : View). HealthyState p x su) (sym ev) hk)
         (addresses-now q ∙ ap (addressTable p) (grows-candidates p rg v1 v2 z gr s0 t1 recs) ∙ ap (λ (x : View). addressTable p (candidates p 0 (segments p x 0))) (sym ev))
         (compact-now ∙ grows-compact p rg v1 v2 z gr s0 t1 recs ∙ ap (λ (x : View). compactTable p (segments p x 0)) (sym ev))
         (buffer-long p k m u we)))
@@ -390,7 +397,7 @@ module _ (p : Params) (k : Disk) (m : Memory) (u : Run p k m) (we : Well p k m) 
         closed-flies j = unfold setClosed isFree filledIn in refl
 
         freed-healthy-lists : Lists st2
-        freed-healthy-lists = free-lists st1 (chunk-healthy p rg v sh st he so z oz d i hd hi fi rd b lb .lists) i hi
+        freed-healthy-lists = free-lists st1 (chunk-healthy p rg v sh st he so z hz oz d i hd hi fi rd b lb .lists) i hi
 
         closed-lists : Lists st2 → Lists (setClosed st2)
         closed-lists l = unfold setClosed in record {
@@ -428,7 +435,7 @@ module _ (p : Params) (k : Disk) (m : Memory) (u : Run p k m) (we : Well p k m) 
             → pointerAt v2 e (zoneOn y e) ≡ capacity p
         sealed! y hy v2 x gr (yes a) f e h = subst (λ (n : Seg). pointerAt v2 e (zoneOn n e) ≡ capacity p) a (f e h)
         sealed! y hy v2 x gr (no n) f e h = ⊎-elim (λ a. absurd (n (sym a))) (λ a. sym (zones-pointer p rg v1 v2 y (gr .others y hy n) e h) ∙ a e h)
-            (sealed1 p rg v sh st he so z oz d i hd hi fi rd b lb y hy (grows-used p rg v1 v2 z gr y hy ∙ x))
+            (sealed1 p rg v sh st he so z hz oz d i hd hi fi rd b lb y hy (grows-used p rg v1 v2 z gr y hy ∙ x))
 
         stores-is : seals p st i d ≡ true → plan .stores ≡ (store ∷ []) ++ sealStores p v1 z
         stores-is sl = unfold landPlan landStore in rw sl
@@ -455,7 +462,7 @@ module _ (p : Params) (k : Disk) (m : Memory) (u : Run p k m) (we : Well p k m) 
       mild-landed = unfold landPlan isRefusedAs isRefused kind in refl
 
       waits! : waiting p st d s ≡ true → LandWaits p v st d s
-      waits! q = land-waits p v st d s he q
+      waits! q = land-waits p v st d s he so q
 
       go :
           EndedAs p k m checks (landPlan p v m d s) (outcome p (storeDisk p) n k m [] (decided (firstRefusal checks) (landPlan p v m d s)))

@@ -2,7 +2,7 @@
 use mathlib.Core.Path.{_≡_, refl, sym, ap, ap₂, _∙_, subst}
 use mathlib.Core.Bool.{Bool, true, false, not, _&&_, _||_}
 use mathlib.Core.Logic.{_⊎_, inl, inr}
-use Prim.Native.Nat.{ℕ, suc, _+_, _*_, _/_, _%_, _^_, _≤_, _<_}
+use Prim.Native.Nat.{ℕ, suc, _+_, _-_, _*_, _/_, _%_, _^_, _≤_, _<_}
 use native.Mathlib.Nat.{div-add-mod', mod-lt, suc-mul}
 use native.Mathlib.Decide.{decLt, ℕ-discrete}
 use borrow.Author.Tests.{ne-eqb}
@@ -10,17 +10,18 @@ use native.Mathlib.Omega.{arith}
 use lib.Dec.{eqb}
 use Rattle.spec.specs.declared.Params.{Params}
 use Rattle.spec.specs.declared.State.{State}
-use Rattle.spec.specs.Drives.{View, pointerAt, Seg, zoneOn}
+use Rattle.spec.specs.Drives.{View, pointerAt, zoneOn}
 use Rattle.spec.specs.Layout.{dataPosition, isData, group, Rec}
 use Rattle.spec.specs.Lists.{any, tally, isIn}
-use Rattle.spec.specs.Memory.{slots, cell, stripeIn, filledIn, landedIn, entryIn, beginStripe, addEntry}
+use Rattle.spec.specs.Memory.{slots, cell, stripeIn, filledIn, landedIn, entryIn, openSegment, beginStripe, addEntry}
 use Rattle.spec.specs.Params.{dataCount}
 use Rattle.law_basic.specs.Geometry.{Ranged, data-count-high}
 use Rattle.law_basic.specs.Mask.{isIn-empty}
 use Rattle.law_basic.specs.Ranges.{Test, test, and-both}
 use Rattle.law_basic.specs.Ranges.Test.{yes!, no! }
+use Rattle.law_basic.specs.Segs.{Named, seg-named, across-zone}
 use Rattle.law_drives.specs.Members.{none-in, any-in}
-use Rattle.law_drives.specs.States.{in-slots, slots-in}
+use Rattle.law_drives.specs.States.{StateOk, in-slots, slots-in}
 use Rattle.law_drives.specs.Tests.{clash, and-false-left, or-true-right, eqb-self}
 use Rattle.law_drives.specs.Tidy.{spareAt}
 use Rattle.proof_tables.specs.Run.{awaits, LandedAt, SlotFlies, OpenZone, Lists}
@@ -28,6 +29,16 @@ use Rattle.proof_tables.specs.Slots.{cell-same, number-begun, begin-numb
 use Rattle.proof_tables.specs.Slots.{begin-entry-other, begin-offset, filled-added, add-filled-other, number-added, landed-added, offset-added, entry-added}
 use Rattle.proof_tables.specs.Slots.{add-entry-other}
 use Rattle.proof_tables.specs.Tallies.{tally-cong, tally-none, tally-some, tally-more}
+use Rattle.spec.specs.declared.Seg.{Seg}
+
+-- a segment is open: it is one of those that there may be, and the state's number is its zone on drive 0
+pub open-segment-is : (p : Params) (st : State) (n : ℕ) → 0 < p .N → StateOk p st → st .opened ≡ suc n
+    → Named p (openSegment p st) × (st .opened ≡ suc (zoneOn (openSegment p st) 0))
+unfolding openSegment
+open-segment-is p st n h0 so e =
+    let k : st .opened - 1 < p .Z = (let l = so .opened-low in omega arith) in
+    let f = across-zone p (st .opened - 1) 0 h0 in
+    (seg-named p (st .opened - 1) k, omega arith)
 
 -- the eighths in use, told otherwise
 pub busy-same : (p : Params) (v : View) (st : State) (busy busy′ : ℕ → Bool) (z : Seg) → ((i : ℕ) → i < 8 → busy i ≡ busy′ i) → OpenZone p v st busy z → OpenZone p v st busy′ z
@@ -191,8 +202,8 @@ module _ (p : Params) (r : Ranged p) (v : View) (st : State) (ls : Lists st) (bu
       (and-false-left (busy i) (not (isIn (landedIn st i) d)) bi)
 
   -- with nothing in flight the pointers are behind the stripes begun
-  low-here : (d : ℕ) → d < p .N → group p (st .next) * p .G < pointerAt v d (zoneOn z d)
-  low-here d hd = go (test (any busy slots))
+  group-begins : (d : ℕ) → d < p .N → group p (st .next) * p .G < pointerAt v d (zoneOn z d)
+  group-begins d hd = go (test (any busy slots))
     where
       go : Test (any busy slots) → group p (st .next) * p .G < pointerAt v d (zoneOn z d)
       go (yes! q) =
@@ -210,7 +221,7 @@ module _ (p : Params) (r : Ranged p) (v : View) (st : State) (ls : Lists st) (bu
       let en = number-begun st ls i hi in
       record {
         begun = subst (λ (x : ℕ). x < su .next) (sym en) (subst (λ (x : ℕ). st .next < x) (sym next-su) (omega arith));
-        group-low = subst (λ (x : ℕ). (d : ℕ) → d < p .N → group p x * p .G < pointerAt v d (zoneOn z d)) (sym en) low-here;
+        group-low = subst (λ (x : ℕ). (d : ℕ) → d < p .N → group p x * p .G < pointerAt v d (zoneOn z d)) (sym en) group-begins;
         group-high = subst (λ (x : ℕ). su .next ≤ suc (group p x) * p .G) (sym en) (subst (λ (x : ℕ). x ≤ suc (group p (st .next)) * p .G) (sym next-su) (group-over p r (st .next)));
         not-there = λ d e hd q x y. let l = o .below-next d e hd x in let s = y ∙ en in let bad : ⊥ = omega arith in bad;
         lands = λ d hd q. clash q (ap (λ (x : ℕ). isIn x d) (landed-begun st ls i hi) ∙ isIn-empty d);

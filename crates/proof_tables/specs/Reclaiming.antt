@@ -25,7 +25,6 @@ use Rattle.spec.specs.Reclaim.{placesIn, segmentPlaces, liveIn, flying, Victim,
 use Rattle.spec.specs.Reclaim.{victimLive, idle, reclaimChecks, cleared, resetPlan, copyPlan, reclaimVerdictIn}
 use Rattle.spec.specs.Segments.{Segment, segmentOf, segments, storedRec, recOf, candOf, candidates, addressTable}
 use Rattle.spec.specs.Write.{opens, noSerial, mustWait, scarce, sending}
-use Rattle.spec.specs.Drives.{Seg}
 use Rattle.law_basic.specs.Geometry.{between-of, Ranged, ranged}
 use Rattle.law_basic.specs.Mask.{isIn-empty}
 use Rattle.law_basic.specs.Ranges.{Test, test, nil-is}
@@ -55,6 +54,7 @@ use Rattle.proof_tables.specs.Outcomes.EndedAs.{ended-refused, ended-don
 use Rattle.proof_tables.specs.Resetting.{reset-addresses, reset-rows, reset-healthy, cleared-is}
 use Rattle.proof_tables.specs.Run.{Well, Run, Kept}
 use Rattle.proof_tables.specs.Sending.{sent-ok}
+use Rattle.spec.specs.declared.Seg.{Seg}
 
 -- ---- the segment that it takes
 
@@ -249,7 +249,7 @@ module _ (p : Params) (k : Disk) (m : Memory) (u : Run p k m) (we : Well p k m) 
       let low = record-low p (zoneAt v d (zoneOn g d)) (u .base .shaped .zone-ok d (zoneOn g d) hd (zone-on-lt p g d hg)) (sealedIn p v 0 g) o in
       let er : recordAt p v 0 d g o ≡ recordIn p (sealedIn p v 0 g) (zoneAt v d (zoneOn g d)) o = record-is d g o in
       let hb : placeBlock p q < capacity p = (let l = t .spot .offset-low in let y = capacity-over p rg in omega arith) in
-      let ez : placeZone p q ≡ zoneOn g d = sym (place-segment-zone p q) in
+      let ez : placeZone p q ≡ zoneOn g d = sym (place-segment-zone p q hd) in
       let lb : length (chunkAt v d (placeZone p q) (placeBlock p q) .block) ≡ p .B = ap (λ (y : ℕ). length (chunkAt v d y (placeBlock p q) .block)) ez
       ∙ chunk-long d g (placeBlock p q) hd hg hb in
       let s = sent-ok p rg v (u .base .shaped) st (we .healthy) so (m .inflight) (buffer-long p k m u we) (rc .address) (rc .stamp) 0 (chunkAt v d (placeZone p q) (placeBlock p q) .block)

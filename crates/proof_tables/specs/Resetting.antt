@@ -10,7 +10,7 @@ use lib.ListN.{length, getD, replicate, length-replicate}
 use Rattle.spec.specs.declared.Params.{Params}
 use Rattle.spec.specs.declared.State.{State}
 use Rattle.spec.specs.Bytes.{splice}
-use Rattle.spec.specs.Drives.{View, pointerAt, storeView, storeAll, zoneOn, resetStores, Seg, sameSeg}
+use Rattle.spec.specs.Drives.{View, pointerAt, storeView, storeAll, zoneOn, resetStores, sameSeg}
 use Rattle.spec.specs.Layout.{Rec}
 use Rattle.spec.specs.Lists.Opt.{none, some}
 use Rattle.spec.specs.Memory.{compactAt}
@@ -35,6 +35,7 @@ use Rattle.law_drives.specs.Zones.{Shaped}
 use Rattle.proof_tables.specs.Bounds.{open-view, open-short}
 use Rattle.proof_tables.specs.Ranks.{fewer-best}
 use Rattle.proof_tables.specs.Run.{flies, HealthyState}
+use Rattle.spec.specs.declared.Seg.{Seg}
 
 module _ (p : Params) (r : Ranged p) (v : View) (sh : Shaped p v) (g : Seg) (hg : Named p g) where
   abbrev u : View
@@ -73,12 +74,12 @@ module _ (p : Params) (r : Ranged p) (v : View) (sh : Shaped p v) (g : Seg) (hg 
   reset-rows s t d y hd hy = go (segs-differ g y)
     where
       empty : rowAt p u 0 d (zoneOn g d) ≡ []
-      empty = row-seg p u 0 d g hg ∙ cond-false (remains p u 0 g) (recsOn (segmentOf p u 0 g) d) [] (remains-used p r u s (reset-tidy p r v sh g hg s t) g hg ∙ unused-after p r v sh g hg)
+      empty = row-seg p u 0 d g hd hg ∙ cond-false (remains p u 0 g) (recsOn (segmentOf p u 0 g) d) [] (remains-used p r u s (reset-tidy p r v sh g hg s t) g hg ∙ unused-after p r v sh g hg)
 
       go : Dec (g ≡ y) → rowAt p u 0 d (zoneOn y d) ≡ cond (sameSeg y g) [] (rowAt p v 0 d (zoneOn y d))
       go (yes e) = ap (λ (x : Seg). rowAt p u 0 d (zoneOn x d)) (sym e) ∙ empty ∙ sym (cond-true (sameSeg y g) [] (rowAt p v 0 d (zoneOn y d)) (seg-same y g (sym e)))
       go (no n) =
-          sym (row-goes p r v u s s t (reset-tidy p r v sh g hg s t) d y hy (reset-same p r v sh g hg y hy n))
+          sym (row-goes p r v u s s t (reset-tidy p r v sh g hg s t) d y hd hy (reset-same p r v sh g hg y hy n))
           ∙ sym (cond-false (sameSeg y g) [] (rowAt p v 0 d (zoneOn y d)) (seg-other y g (λ e. n (sym e))))
 
   -- the state needs no change
@@ -88,8 +89,8 @@ module _ (p : Params) (r : Ranged p) (v : View) (sh : Shaped p v) (g : Seg) (hg 
     sealed-but = λ z hz q.
         let (n, w) = reset-was p r v sh g hg z hz q in
         ⊎-elim (λ x. inl x) (λ x. inr (λ d hd. sym (zones-pointer p r v u z (reset-same p r v sh g hg z hz n) d hd) ∙ x d hd)) (h .sealed-but z hz w);
-    opens-at = λ z q.
-        let o = h .opens-at z q in
+    opens-at = λ z hz q.
+        let o = h .opens-at z hz q in
         let n : g ≡ z → ⊥ =
         λ e. (let h0 : 0 < p .N = omega (arith, r .drives-low) in let x = open-short p r v st z so o 0 h0 in let y = full 0 h0
         ∙ refl in let w : pointerAt v 0 (zoneOn z 0) ≡ capacity p = subst (λ (a : Seg). pointerAt v 0 (zoneOn a 0) ≡ capacity p) e y in let bad : ⊥ = omega arith in
@@ -164,7 +165,7 @@ module _ (p : Params) (r : Ranged p) (g : Seg) (hg : Named p g) where
   all-else [] cs d z o h hd hz ho l n = refl
   all-else (e ∷ ds) cs d z o h hd hz ho l n =
       all-else ds (clearedRow p cs e (zoneOn g e)) d z o (λ x m. h x (inr m)) hd hz ho (cleared-long e cs (h e (inl refl)) l) n
-      ∙ cleared-else e d (zoneOn z d) o cs (h e (inl refl)) hd (zone-on-lt p z d hz) ho l (λ q. n (zone-once p z g d hz hg (q .1 ∙ ap (zoneOn g) (sym (q .0)))))
+      ∙ cleared-else e d (zoneOn z d) o cs (h e (inl refl)) hd (zone-on-lt p z d hz) ho l (λ q. n (zone-once p z g d hd hz hg (q .1 ∙ ap (zoneOn g) (sym (q .0)))))
 
   -- a row that is zero stays so, and that of a drive of the list becomes so
   stays-zero : (ds cs : List ℕ) (d o : ℕ) → ((e : ℕ) → In e ds → e < p .N) → d < p .N → o < p .S → length cs ≡ compactLen p → getD cs (compactAt p d (zoneOn g d) o) 0 ≡ 0
@@ -191,7 +192,7 @@ module _ (p : Params) (r : Ranged p) (g : Seg) (hg : Named p g) where
   cleared-is v u rows =
       grid-ext p (λ d z. compactRow p (rowAt p u 0 d z)) (compact-row-long p u 0) (cleared p g (drivesOf p) cs)
       (clearings-long (drivesOf p) cs low (length-compact p v 0)) (r .stripes-low) (let z = r .zones-low in omega arith)
-      (λ d z o hd hz ho. by-seg (λ x. getD (cleared p g (drivesOf p) cs) (compactAt p d x o) 0 ≡ getD (compactRow p (rowAt p u 0 d x)) o 0) p d z hz (λ y hy. entry d y o hd hy ho))
+      (λ d z o hd hz ho. by-seg (λ x. getD (cleared p g (drivesOf p) cs) (compactAt p d x o) 0 ≡ getD (compactRow p (rowAt p u 0 d x)) o 0) p d z hd hz (λ y hy. entry d y o hd hy ho))
       ∙ sym (compact-is p u 0)
     where
       cs : List ℕ

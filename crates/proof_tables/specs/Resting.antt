@@ -12,7 +12,7 @@ use lib.Count.{ones, ones-ones}
 use lib.Pow.{pow-pos}
 use Rattle.spec.specs.declared.Params.{Params}
 use Rattle.spec.specs.declared.State.{State}
-use Rattle.spec.specs.Drives.{noChunk, View, zoneAt, pointerAt, chunkAt, zoneOn, sealedIn, Seg, sameSeg, allSegs}
+use Rattle.spec.specs.Drives.{noChunk, View, zoneAt, pointerAt, chunkAt, zoneOn, sealedIn, sameSeg, allSegs}
 use Rattle.spec.specs.Layout.{headerSerial}
 use Rattle.spec.specs.Lists.{all, keep, tally, greatest, isIn}
 use Rattle.spec.specs.Memory.{slots, idleState, filledIn, landedIn, stateOk}
@@ -23,7 +23,7 @@ use Rattle.spec.specs.Segments.{headerAt, remaining, Segment, segmentOf, segmen
 use Rattle.law_basic.specs.Geometry.{Ranged}
 use Rattle.law_basic.specs.Ranges.{Test, test, and-both, keep-map}
 use Rattle.law_basic.specs.Ranges.Test.{yes!, no! }
-use Rattle.law_basic.specs.Segs.{seg-other, seg-self, segs-differ, Named, zone-on-lt, name-once, named-lt}
+use Rattle.law_basic.specs.Segs.{seg-other, seg-self, segs-differ, Named, zone-on-lt, zone-once}
 use Rattle.law_drives.specs.Counting.{in-greatest, greatest-low}
 use Rattle.law_drives.specs.Laid.{serial-low}
 use Rattle.law_drives.specs.Members.{In, in-map, map-in, in-all, keep-cong, keep-nothing, keep-keep}
@@ -43,6 +43,7 @@ use Rattle.proof_tables.specs.Reclaiming.{cand-record}
 use Rattle.proof_tables.specs.Run.{flies, awaits, OpenZone, Lists, HealthyState}
 use Rattle.proof_tables.specs.Slots.{none-flies}
 use Rattle.proof_tables.specs.Tallies.{tally-none}
+use Rattle.spec.specs.declared.Seg.{Seg}
 
 module _ (p : Params) (r : Ranged p) (v : View) (sh : Shaped p v) (b : ℕ) (t : Tidy p v b) where
   abbrev gs : List Segment
@@ -55,8 +56,8 @@ module _ (p : Params) (r : Ranged p) (v : View) (sh : Shaped p v) (b : ℕ) (t :
   h0 = omega (arith, r .drives-low)
 
   -- the greatest serial is one of those that are used
-  serial-in : (z : Seg) → Named p z → usedAt v z ≡ true → headerSerial (headerAt v 0 z) ≤ serial
-  serial-in z hz q = as! (in-greatest (headerSerial (headerAt v 0 z)) (map (λ (g : Segment). g .serial) gs)
+  serial-in : (z : Seg) → Named p z → usedAt v z ≡ true → headerSerial p (headerAt v 0 z) ≤ serial
+  serial-in z hz q = as! (in-greatest (headerSerial p (headerAt v 0 z)) (map (λ (g : Segment). g .serial) gs)
       (subst (λ (n : ℕ). In n (map (λ (g : Segment). g .serial) gs)) (serial-of p r v b t z) (in-map (λ (g : Segment). g .serial) gs (segmentOf p v 0 z) seg-in)))
     where
       seg-in : In (segmentOf p v 0 z) gs
@@ -65,7 +66,7 @@ module _ (p : Params) (r : Ranged p) (v : View) (sh : Shaped p v) (b : ℕ) (t :
           cs! : In (segmentOf p v 0 z) (map (segmentOf p v 0) (remaining p v 0)) → In (segmentOf p v 0 z) gs
           cs! m = unfold segments in m
 
-      as! : headerSerial (headerAt v 0 z) ≤ greatest (map (λ (g : Segment). g .serial) gs) → headerSerial (headerAt v 0 z) ≤ serial
+      as! : headerSerial p (headerAt v 0 z) ≤ greatest (map (λ (g : Segment). g .serial) gs) → headerSerial p (headerAt v 0 z) ≤ serial
       as! x = unfold greatestSerial in x
 
   seg-is-used : (x : Segment) → In x gs → (z : Seg) × (Named p z) × (usedAt v z ≡ true) × (x ≡ segmentOf p v 0 z)
@@ -88,7 +89,7 @@ module _ (p : Params) (r : Ranged p) (v : View) (sh : Shaped p v) (b : ℕ) (t :
       (λ n m.
       let (x, i, e) = map-in (λ (g : Segment). g .serial) gs n m in
       let (z, hz, q, f) = seg-is-used x i in
-      subst (λ (k : ℕ). k < 256 ^ 8) (sym (e ∙ ap (λ (y : Segment). y .serial) f ∙ serial-of p r v b t z)) (serial-low (headerAt v 0 z) (header-in-bytes z hz))))
+      subst (λ (k : ℕ). k < 256 ^ 8) (sym (e ∙ ap (λ (y : Segment). y .serial) f ∙ serial-of p r v b t z)) (serial-low p (headerAt v 0 z) (header-in-bytes z hz))))
     where
       as! : greatest (map (λ (g : Segment). g .serial) gs) < 256 ^ 8 → serial < 256 ^ 8
       as! x = unfold greatestSerial in x
@@ -152,7 +153,7 @@ module _ (p : Params) (r : Ranged p) (v : View) (sh : Shaped p v) (b : ℕ) (t :
   unsealed-steady g c s f = unsealed-are ∙ ap (map (segmentOf p v 0))
       (keep-cong (λ y. usedAt v y && not (sealedIn p v 0 y)) (λ y. sameSeg y g) (allSegs p)
       (λ y m. go y (segs-in p y m) (segs-differ y g) (test (usedAt v y)))
-      ∙ keep-one-seg p (λ y. sameSeg y g) g (λ y. refl) (s .steady-low))
+      ∙ keep-one-seg p (λ y. sameSeg y g) g (λ y. refl) h0 (s .steady-low))
     where
       go : (y : Seg) → Named p y → Dec (y ≡ g) → Test (usedAt v y) → usedAt v y && not (sealedIn p v 0 y) ≡ sameSeg y g
       go y hy (yes e) q =
@@ -196,7 +197,7 @@ module _ (p : Params) (r : Ranged p) (v : View) (sh : Shaped p v) (b : ℕ) (t :
   sealed-healthy f = record {
     tidy = subst (λ (x : ℕ). Tidy p v x) (sym (idle-serial 0 0)) tidy-now;
     sealed-but = λ z hz q. inr (f z hz q);
-    opens-at = λ z q. absurd (let x = sym (idle-opened 0 0) ∙ q in let bad : ⊥ = omega arith in bad);
+    opens-at = λ z hz q. absurd (let x = sym (idle-opened 0 0) ∙ q in let bad : ⊥ = omega arith in bad);
     shut = λ q i hi. idle-flies 0 0 i;
     serial-fits = subst (λ (x : ℕ). x < 256 ^ 8) (sym (idle-serial 0 0)) serial-bound;
     stamp-fits = subst (λ (x : ℕ). x < 256 ^ 8) (sym (idle-stamp 0 0)) stamp-bound;
@@ -204,35 +205,35 @@ module _ (p : Params) (r : Ranged p) (v : View) (sh : Shaped p v) (b : ℕ) (t :
   }
 
   -- the one that is steady is open
-  steady-open : (g : Seg) (c : ℕ) → Steady p v g c → OpenZone p v (su (suc (g .name)) c) (flies (su (suc (g .name)) c)) g
+  steady-open : (g : Seg) (c : ℕ) → Steady p v g c → OpenZone p v (su (suc (zoneOn g 0)) c) (flies (su (suc (zoneOn g 0)) c)) g
   steady-open g c s = record {
     opened-zone = s .steady-low;
     has-header = λ d hd. let e = s .steady-pointer d hd in omega arith;
     count =
-        λ d hd. ap₂ (λ (x y : ℕ). x + y) (s .steady-pointer d hd) (idle-awaits (suc (g .name)) c d)
-        ∙ (let e = idle-next (suc (g .name)) c in let x : 1 + c + 0 ≡ suc (su (suc (g .name)) c .next) = omega arith in x);
+        λ d hd. ap₂ (λ (x y : ℕ). x + y) (s .steady-pointer d hd) (idle-awaits (suc (zoneOn g 0)) c d)
+        ∙ (let e = idle-next (suc (zoneOn g 0)) c in let x : 1 + c + 0 ≡ suc (su (suc (zoneOn g 0)) c .next) = omega arith in x);
     below-next =
-        λ d o hd q. subst (λ (x : ℕ). spareAt p v d (zoneOn g d) o .stripe < x) (sym (idle-next (suc (g .name)) c)) (s .steady-stripes d o hd (let e = s .steady-pointer d hd in omega arith));
-    flight = λ i hi q. clash q (idle-flies (suc (g .name)) c i);
-    once = λ i j hi hj x y e. clash x (idle-flies (suc (g .name)) c i);
-    goes-on = λ q. absurd (let e = sym (idle-next (suc (g .name)) c) ∙ q in let l = s .steady-few in let bad : ⊥ = omega arith in bad);
+        λ d o hd q. subst (λ (x : ℕ). spareAt p v d (zoneOn g d) o .stripe < x) (sym (idle-next (suc (zoneOn g 0)) c)) (s .steady-stripes d o hd (let e = s .steady-pointer d hd in omega arith));
+    flight = λ i hi q. clash q (idle-flies (suc (zoneOn g 0)) c i);
+    once = λ i j hi hj x y e. clash x (idle-flies (suc (zoneOn g 0)) c i);
+    goes-on = λ q. absurd (let e = sym (idle-next (suc (zoneOn g 0)) c) ∙ q in let l = s .steady-few in let bad : ⊥ = omega arith in bad);
   }
 
-  open-healthy : (g : Seg) (c : ℕ) → Steady p v g c → ((z : Seg) → Named p z → usedAt v z ≡ true → (z ≡ g → ⊥) → SealedAll p v z) → HealthyState p v (su (suc (g .name)) c)
+  open-healthy : (g : Seg) (c : ℕ) → Steady p v g c → ((z : Seg) → Named p z → usedAt v z ≡ true → (z ≡ g → ⊥) → SealedAll p v z) → HealthyState p v (su (suc (zoneOn g 0)) c)
   open-healthy g c s f = record {
-    tidy = subst (λ (x : ℕ). Tidy p v x) (sym (idle-serial (suc (g .name)) c)) tidy-now;
+    tidy = subst (λ (x : ℕ). Tidy p v x) (sym (idle-serial (suc (zoneOn g 0)) c)) tidy-now;
     sealed-but = λ z hz q. go z hz q (segs-differ z g);
     opens-at =
-        λ z q. subst (λ (x : Seg). OpenZone p v (su (suc (g .name)) c) (flies (su (suc (g .name)) c)) x)
-        (let e : suc (g .name) ≡ suc (z .name) = sym (idle-opened (suc (g .name)) c) ∙ q in name-once g z (omega arith)) (steady-open g c s);
-    shut = λ q. absurd (let x = sym (idle-opened (suc (g .name)) c) ∙ q in let bad : ⊥ = omega arith in bad);
-    serial-fits = subst (λ (x : ℕ). x < 256 ^ 8) (sym (idle-serial (suc (g .name)) c)) serial-bound;
-    stamp-fits = subst (λ (x : ℕ). x < 256 ^ 8) (sym (idle-stamp (suc (g .name)) c)) stamp-bound;
-    lists = idle-lists (suc (g .name)) c;
+        λ z hz q. subst (λ (x : Seg). OpenZone p v (su (suc (zoneOn g 0)) c) (flies (su (suc (zoneOn g 0)) c)) x)
+        (let e : suc (zoneOn g 0) ≡ suc (zoneOn z 0) = sym (idle-opened (suc (zoneOn g 0)) c) ∙ q in zone-once p g z 0 h0 (s .steady-low) hz (omega arith)) (steady-open g c s);
+    shut = λ q. absurd (let x = sym (idle-opened (suc (zoneOn g 0)) c) ∙ q in let bad : ⊥ = omega arith in bad);
+    serial-fits = subst (λ (x : ℕ). x < 256 ^ 8) (sym (idle-serial (suc (zoneOn g 0)) c)) serial-bound;
+    stamp-fits = subst (λ (x : ℕ). x < 256 ^ 8) (sym (idle-stamp (suc (zoneOn g 0)) c)) stamp-bound;
+    lists = idle-lists (suc (zoneOn g 0)) c;
   }
     where
-      go : (z : Seg) → Named p z → usedAt v z ≡ true → Dec (z ≡ g) → (su (suc (g .name)) c .opened ≡ suc (z .name)) ⊎ SealedAll p v z
-      go z hz q (yes e) = inl (idle-opened (suc (g .name)) c ∙ ap (λ (x : Seg). suc (x .name)) (sym e))
+      go : (z : Seg) → Named p z → usedAt v z ≡ true → Dec (z ≡ g) → (su (suc (zoneOn g 0)) c .opened ≡ suc (zoneOn z 0)) ⊎ SealedAll p v z
+      go z hz q (yes e) = inl (idle-opened (suc (zoneOn g 0)) c ∙ ap (λ (x : Seg). suc (zoneOn x 0)) (sym e))
       go z hz q (no n) = inr (f z hz q n)
 
   -- ---- the memory that a restart makes of such a view
@@ -256,13 +257,13 @@ module _ (p : Params) (r : Ranged p) (v : View) (sh : Shaped p v) (b : ℕ) (t :
       le-of-eq-ones : ones 0 ≤ 1
       le-of-eq-ones = let e = ones-ones 0 in omega arith
   rest-healthy (rest-open g c s f) fl =
-      let e : restartMemory p v 0 fl .state ≡ su (suc (g .name)) c = memory-state (segmentOf p v 0 g ∷ []) (unsealed-steady g c s f) fl ∙ one!
-      ∙ ap₂ su (ap (λ (x : Seg). suc (x .name)) (seg-is p v 0 g)) (s .steady-count) in (
+      let e : restartMemory p v 0 fl .state ≡ su (suc (zoneOn g 0)) c = memory-state (segmentOf p v 0 g ∷ []) (unsealed-steady g c s f) fl ∙ one!
+      ∙ ap₂ su (ap (λ (x : Seg). suc (zoneOn x 0)) (seg-is p v 0 g)) (s .steady-count) in (
         subst (λ (x : State). HealthyState p v x) (sym e) (open-healthy g c s f),
         ap (stateOk p) e
-            ∙ idle-ok p r 0 (greatestStamp (candidates p 0 gs)) serial (suc (g .name)) c (pow-pos (p .N)) (let e = ones-ones 0 in omega arith) (named-lt p g (s .steady-low))
+            ∙ idle-ok p r 0 (greatestStamp (candidates p 0 gs)) serial (suc (zoneOn g 0)) c (pow-pos (p .N)) (let e = ones-ones 0 in omega arith) (zone-on-lt p g 0 (s .steady-low))
             (let l = s .steady-few in omega arith),
       )
     where
-      one! : su (openOf (segmentOf p v 0 g ∷ [])) (nextOf p (segmentOf p v 0 g ∷ [])) ≡ su (suc (segmentOf p v 0 g .seg .name)) (length (counted p 0 (segmentOf p v 0 g)))
+      one! : su (openOf (segmentOf p v 0 g ∷ [])) (nextOf p (segmentOf p v 0 g ∷ [])) ≡ su (suc (zoneOn (segmentOf p v 0 g .seg) 0)) (length (counted p 0 (segmentOf p v 0 g)))
       one! = unfold openOf nextOf in refl

@@ -8,7 +8,7 @@ use Rattle.spec.specs.declared.Params.{Params}
 use Rattle.spec.specs.declared.State.{State}
 use Rattle.spec.specs.Answers.{isRefusedAs, isCut}
 use Rattle.spec.specs.Calls.{After}
-use Rattle.spec.specs.Drives.{View, pointerAt, Disk, Seg, zoneOn}
+use Rattle.spec.specs.Drives.{View, pointerAt, Disk, zoneOn}
 use Rattle.spec.specs.Layout.{dataPosition, isData, group}
 use Rattle.spec.specs.Lists.{tally, isIn}
 use Rattle.spec.specs.Memory.{Memory, slots, stripeIn, filledIn, landedIn, entryIn, offsetIn, isFree}
@@ -18,6 +18,7 @@ use Rattle.law_drives.specs.Accept.{Accepted}
 use Rattle.law_drives.specs.Tidy.{spareAt, usedAt, Tidy}
 use Rattle.law_basic.specs.Segs.{Named}
 use Rattle.proof_tables.specs.Base.{Base}
+use Rattle.spec.specs.declared.Seg.{Seg}
 
 -- ---- one drive is missing: nothing is wrong on the others
 
@@ -73,8 +74,8 @@ pub record Lists (st : State) : Type 0 where
 
 pub record HealthyState (p : Params) (v : View) (st : State) : Type 0 where
   pub tidy : Tidy p v (st .serial .0)
-  pub sealed-but : (z : Seg) → Named p z → usedAt v z ≡ true → (st .opened ≡ suc (z .name)) ⊎ ((d : ℕ) → d < p .N → pointerAt v d (zoneOn z d) ≡ capacity p)
-  pub opens-at : (z : Seg) → st .opened ≡ suc (z .name) → OpenZone p v st (flies st) z
+  pub sealed-but : (z : Seg) → Named p z → usedAt v z ≡ true → (st .opened ≡ suc (zoneOn z 0)) ⊎ ((d : ℕ) → d < p .N → pointerAt v d (zoneOn z d) ≡ capacity p)
+  pub opens-at : (z : Seg) → Named p z → st .opened ≡ suc (zoneOn z 0) → OpenZone p v st (flies st) z
   pub shut : st .opened ≡ 0 → (i : ℕ) → i < 8 → flies st i ≡ false
   pub serial-fits : st .serial .0 < 256 ^ 8
   pub stamp-fits : st .stamp .0 < 256 ^ 8

@@ -14,7 +14,7 @@ use Rattle.spec.specs.Landing.{sealStores}
 use Rattle.spec.specs.Lists.{below, all, flat}
 use Rattle.spec.specs.Params.{footers, capacity, drivesOf, present}
 use Rattle.spec.specs.Segments.{headerAt, recordsIn}
-use Rattle.spec.specs.Drives.{Seg, sameSeg}
+use Rattle.spec.specs.Drives.{sameSeg}
 use Rattle.law_basic.specs.Geometry.{Ranged}
 use Rattle.law_basic.specs.Segs.{seg-same, seg-other, seg-self, segs-differ, Named, zone-on-lt, by-seg}
 use Rattle.law_drives.specs.Footers.{within-each, footerChunks, footer-puts, footers-count, footer-rooms, footer-records, each-on}
@@ -26,6 +26,7 @@ use Rattle.law_drives.specs.Segs.{present-in}
 use Rattle.law_drives.specs.Settled.{SameZones, sealed-full}
 use Rattle.law_drives.specs.Tests.{not-so, cond-true, cond-false}
 use Rattle.law_drives.specs.Zones.{Shaped, zoneStore, hits, zone-after, Room, Within, Roomy}
+use Rattle.spec.specs.declared.Seg.{Seg}
 
 -- ---- a segment sealed on every drive
 
@@ -83,7 +84,7 @@ module _ (p : Params) (r : Ranged p) (v : View) (sh : Shaped p v) (z : Seg) (hz 
 
   pub seal-roomy : Roomy p v ss
   unfolding ft
-  seal-roomy e k he hk = by-seg (λ n. Room p (pointerAt v e n) (hits e n ss)) p e k hk
+  seal-roomy e k he hk = by-seg (λ n. Room p (pointerAt v e n) (hits e n ss)) p e k he hk
       (λ y hy. subst (λ (l : List Store). Room p (pointerAt v e (zoneOn y e)) l) (sym (ap (hits e (zoneOn y e)) seal-stores-are ∙ each-on p e y z ft hy hz he)) (go y (segs-differ z y)))
     where
       fit : Room p (pointerAt v e (zoneOn z e)) (map (putAt e (zoneOn z e)) (ft e))

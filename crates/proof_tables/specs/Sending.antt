@@ -11,11 +11,11 @@ use lib.ListN.{length}
 use Rattle.spec.specs.declared.Params.{Params}
 use Rattle.spec.specs.declared.State.{State}
 use Rattle.spec.specs.Counts.{lastCount}
-use Rattle.spec.specs.Drives.{View, pointerAt, Store, storeView, storeAll, allSegs, emptyOnAll, emptySegs, headerStores, seg, Seg}
+use Rattle.spec.specs.Drives.{View, pointerAt, Store, storeView, storeAll, allSegs, emptyOnAll, emptySegs, headerStores, noSeg, zoneOn}
 use Rattle.spec.specs.Layout.{group}
 use Rattle.spec.specs.Lists.{below, any, keep, tally, isNil, indexOf, firstOr}
 use Rattle.spec.specs.Lists.Opt.{none}
-use Rattle.spec.specs.Memory.{slotCount, slots, stripeIn, filledIn, landedIn, isFree, isFull, isFilling, inFlight, freeSlot, fillingSlot, hasFilling, setOpen, beginStripe, addEntry}
+use Rattle.spec.specs.Memory.{slotCount, slots, stripeIn, filledIn, landedIn, isFree, isFull, isFilling, inFlight, freeSlot, fillingSlot, hasFilling, setOpen, openSegment, beginStripe, addEntry}
 use Rattle.spec.specs.Params.{dataCount, inflightLen}
 use Rattle.spec.specs.Segments.{segments, candidates, addressTable, compactTable}
 use Rattle.spec.specs.Write.{mustOpen, opens, noSerial, otherGroup, mustWait, placed, Sending, openedBy, slotFor, begunBy, sending, scarce}
@@ -23,7 +23,7 @@ use Rattle.law_basic.specs.Be.{be-room}
 use Rattle.law_basic.specs.Geometry.{Ranged, data-count-low}
 use Rattle.law_basic.specs.Ranges.{Test, test, and-left, and-right, length-below}
 use Rattle.law_basic.specs.Ranges.Test.{yes!, no! }
-use Rattle.law_basic.specs.Segs.{Named, named-lt}
+use Rattle.law_basic.specs.Segs.{Named, zone-on-lt}
 use Rattle.law_drives.specs.Headers.{header-roomy, header-within, empty-all}
 use Rattle.law_drives.specs.Members.{In, in-keep, keep-in, none-in, in-any, first-in, in-some}
 use Rattle.law_drives.specs.Slots.{slot-found}
@@ -34,9 +34,11 @@ use Rattle.law_drives.specs.Segs.{segs-in}
 use Rattle.proof_tables.specs.Carried.{begin-healthy}
 use Rattle.proof_tables.specs.Filling.{placed-inflight-long, add-ok, begin-ok, fill-healthy}
 use Rattle.proof_tables.specs.Heading.{head-addresses, head-compact, head-healthy}
+use Rattle.proof_tables.specs.Opened.{open-segment-is}
 use Rattle.proof_tables.specs.Run.{flies, HealthyState}
 use Rattle.proof_tables.specs.Slots.{filled-begun, begin-lists}
 use Rattle.proof_tables.specs.Tallies.{tally-none, some-out}
+use Rattle.spec.specs.declared.Seg.{Seg}
 
 -- ---- eighths found by a search
 
@@ -138,7 +140,7 @@ module _ (p : Params) (r : Ranged p) (v : View) (sh : Shaped p v) (st : State) (
       missing-is i = unfold addEntry in refl
 
   -- the next stripe number, in a state su whose open zone is known
-  healthy-begun : (su : State) (u : View) (z : Seg) → HealthyState p u su → StateOk p su → su .opened ≡ suc (z .name) → su .next < p .S → (i : ℕ) → i < 8 → flies su i ≡ false
+  healthy-begun : (su : State) (u : View) (z : Seg) → HealthyState p u su → StateOk p su → su .opened ≡ suc (zoneOn z 0) → su .next < p .S → (i : ℕ) → i < 8 → flies su i ≡ false
       → ((j : ℕ) → j < 8 → flies su j ≡ true → group p (stripeIn su j) ≡ group p (su .next))
       → HealthyState p u (addEntry (beginStripe su i) i a t w) × StateOk p (addEntry (beginStripe su i) i a t w) × (length (placed p (beginStripe su i) fl i a t w b .inflight) ≡ inflightLen p)
   healthy-begun su u z k ko op nx i hi fi gr =
@@ -201,9 +203,9 @@ module _ (p : Params) (r : Ranged p) (v : View) (sh : Shaped p v) (st : State) (
               eqb-false (st .next) (p .S) (or-right (eqb (st .opened) 0) (eqb (st .next) (p .S)) q),
             )
 
-        opened-at : (o : ℕ) → st .opened ≡ o → (st .opened ≡ 0 → ⊥) → (z : Seg) × (st .opened ≡ suc (z .name))
+        opened-at : (o : ℕ) → st .opened ≡ o → (st .opened ≡ 0 → ⊥) → (z : Seg) × (st .opened ≡ suc (zoneOn z 0))
         opened-at zero e n = absurd (n e)
-        opened-at (suc n) e k = (seg n, e)
+        opened-at (suc n) e k = (openSegment p st, open-segment-is p st n (omega (arith, r .drives-low)) so e .1)
 
         same-group : (j : ℕ) → otherGroup p st j ≡ false → group p (stripeIn st j) ≡ group p (st .next)
         same-group j q = unfold otherGroup in eqb-true (group p (stripeIn st j)) (group p (st .next)) (not-false (eqb (group p (stripeIn st j)) (group p (st .next))) q)
@@ -224,13 +226,13 @@ module _ (p : Params) (r : Ranged p) (v : View) (sh : Shaped p v) (st : State) (
     begins-segment : mustOpen p st ≡ true → noSerial p st ≡ false → isNil (emptySegs p v) ≡ false → SentOk p v st (sent .state) (sent .stores) (sent .inflight)
     unfolding i
     begins-segment mo ns ne =
-        let g = firstOr (seg 0) (emptySegs p v) in
+        let g = firstOr noSeg (emptySegs p v) in
         let s = st .serial .0 in
         let (hg, eg) = first-empty in
         let em = empty-all p v g eg in
         let fit : suc s < 256 ^ 8 = serial-next in
         let none : (j : ℕ) → j < 8 → flies st j ≡ false = λ j hj. nothing-flies j hj in
-        let shut! : (z : Seg) → st .opened ≡ suc (z .name) → ⊥ = not-open in
+        let shut! : (z : Seg) → Named p z → st .opened ≡ suc (zoneOn z 0) → ⊥ = not-open in
         let su = setOpen st g (suc s) in
         let u = storeAll storeView (headerStores p g (suc s) 0) v in
         let ku = head-healthy p r v sh s g (h .tidy) hg em fit st h refl shut! none in
@@ -254,10 +256,10 @@ module _ (p : Params) (r : Ranged p) (v : View) (sh : Shaped p v) (st : State) (
           missing-after = missing-is g (suc s) (freeSlot st);
         })))
       where
-        first-empty : Named p (firstOr (seg 0) (emptySegs p v)) × (emptyOnAll p v (firstOr (seg 0) (emptySegs p v)) ≡ true)
+        first-empty : Named p (firstOr noSeg (emptySegs p v)) × (emptyOnAll p v (firstOr noSeg (emptySegs p v)) ≡ true)
         first-empty =
-            let m : In (firstOr (seg 0) (emptySegs p v)) (emptySegs p v) = first-in (emptySegs p v) (seg 0) ne in
-            parts (firstOr (seg 0) (emptySegs p v)) m
+            let m : In (firstOr noSeg (emptySegs p v)) (emptySegs p v) = first-in (emptySegs p v) noSeg ne in
+            parts (firstOr noSeg (emptySegs p v)) m
           where
             parts : (g : Seg) → In g (emptySegs p v) → (Named p g) × (emptyOnAll p v g ≡ true)
             parts g m = unfold emptySegs in (let (i, q) = keep-in (emptyOnAll p v) (allSegs p) g m in (segs-in p g i, q))
@@ -276,9 +278,9 @@ module _ (p : Params) (r : Ranged p) (v : View) (sh : Shaped p v) (st : State) (
             let x : not (isNil (inFlight st)) ≡ false = sym (ap (λ (c : Bool). c && not (isNil (inFlight st))) mo) ∙ wait-parts .1 .0 in
             clash (ap not (in-some (inFlight st) j (in-flight st j hj q))) x)
 
-        not-open : (z : Seg) → st .opened ≡ suc (z .name) → ⊥
-        not-open z e =
-            let o = h .opens-at z e in
+        not-open : (z : Seg) → Named p z → st .opened ≡ suc (zoneOn z 0) → ⊥
+        not-open z hz e =
+            let o = h .opens-at z hz e in
             ⊎-elim (λ x. let y = eqb-true (st .opened) 0 x in let bad : ⊥ = omega arith in bad)
             (λ x. let y = o .goes-on (eqb-true (st .next) (p .S) x) in let k = tally-none (flies st) slots (λ j m. nothing-flies j (slots-in j m)) in let bad : ⊥ = omega arith in bad) (must mo)
           where
@@ -290,14 +292,14 @@ module _ (p : Params) (r : Ranged p) (v : View) (sh : Shaped p v) (st : State) (
           live-is = so .live-is;
           missing-low = so .missing-low;
           missing-few = so .missing-few;
-          opened-low = named-lt p g hg;
+          opened-low = zone-on-lt p g 0 hg;
           next-low = omega arith;
           slots-ok =
               λ i h. record { stripe-ok = so .slots-ok i h .stripe-ok; filled-ok = so .slots-ok i h .filled-ok; writes-ok = so .slots-ok i h .writes-ok; landed-ok = so .slots-ok i h .landed-ok };
           offsets-low = so .offsets-low;
         }
 
-        opened-is : (g : Seg) (x : ℕ) → setOpen st g x .opened ≡ suc (g .name)
+        opened-is : (g : Seg) (x : ℕ) → setOpen st g x .opened ≡ suc (zoneOn g 0)
         opened-is g x = unfold setOpen in refl
 
         next-is : (g : Seg) (x : ℕ) → setOpen st g x .next ≡ 0
@@ -309,13 +311,13 @@ module _ (p : Params) (r : Ranged p) (v : View) (sh : Shaped p v) (st : State) (
         missing-is : (g : Seg) (x i : ℕ) → addEntry (beginStripe (setOpen st g x) i) i a t w .missing ≡ st .missing
         missing-is g x i = unfold addEntry beginStripe setOpen in refl
 
-        state-is : mustOpen p st ≡ true → sent .state ≡ addEntry (beginStripe (setOpen st (firstOr (seg 0) (emptySegs p v)) (suc (st .serial .0))) (freeSlot st)) (freeSlot st) a t w
+        state-is : mustOpen p st ≡ true → sent .state ≡ addEntry (beginStripe (setOpen st (firstOr noSeg (emptySegs p v)) (suc (st .serial .0))) (freeSlot st)) (freeSlot st) a t w
         state-is mo = unfold sending slotFor begunBy openedBy opens placed in rw (nf, mo)
 
-        stores-is : mustOpen p st ≡ true → sent .stores ≡ headerStores p (firstOr (seg 0) (emptySegs p v)) (suc (st .serial .0)) 0
+        stores-is : mustOpen p st ≡ true → sent .stores ≡ headerStores p (firstOr noSeg (emptySegs p v)) (suc (st .serial .0)) 0
         stores-is mo = unfold sending opens in rw (nf, mo)
 
-        inflight-is : mustOpen p st ≡ true → sent .inflight ≡ placed p (beginStripe (setOpen st (firstOr (seg 0) (emptySegs p v)) (suc (st .serial .0))) (freeSlot st)) fl
+        inflight-is : mustOpen p st ≡ true → sent .inflight ≡ placed p (beginStripe (setOpen st (firstOr noSeg (emptySegs p v)) (suc (st .serial .0))) (freeSlot st)) fl
             (freeSlot st) a t w b .inflight
         inflight-is mo = unfold sending slotFor begunBy openedBy opens in rw (nf, mo)
 

@@ -11,7 +11,7 @@ use lib.ListN.{length, getD}
 use lib.Bits.{bitXor}
 use Rattle.spec.specs.declared.Params.{Params}
 use Rattle.spec.specs.Bytes.{xorAll}
-use Rattle.spec.specs.Drives.{View, zoneAt, pointerAt, viewOf, mkDisk, zoneOn, sealedIn, dataStored, recordIn, Seg, placeSegment}
+use Rattle.spec.specs.Drives.{View, zoneAt, pointerAt, viewOf, mkDisk, zoneOn, sealedIn, dataStored, recordIn, placeSegment}
 use Rattle.spec.specs.Faults.{outside, twice, storedBad}
 use Rattle.spec.specs.Layout.{dataDrive, group, inGroupOf, groupOffsets, compactEntry, headerSerial, Rec, mkRec}
 use Rattle.spec.specs.Lists.{upFrom, below, any, consIf, keep, firstOr, isIn}
@@ -37,6 +37,7 @@ use Rattle.law_drives.specs.Segs.{in-present, remaining-low, length-records, re
 use Rattle.law_drives.specs.Spots.{counts-in, spot-of, spot-block, spot-drive, InGroups, shown-first, cand-segment}
 use Rattle.law_drives.specs.Tables.{compact-at}
 use Rattle.law_drives.specs.Tests.{or-first, cond-true, cond-false}
+use Rattle.spec.specs.declared.Seg.{Seg}
 
 -- what the walk over the records rests on: buffers of their lengths, and records in order
 pub record Ground (p : Params) (im ps : List ℕ) (gone : ℕ) (cs : List ℕ) : Type 0 where
@@ -218,7 +219,7 @@ module _ (p : Params) (r : Ranged p) (v : View) (gone : ℕ) (h : Cand) (k : Can
       let es : t ≡ h .stamp =
       et ∙ ap₂ (λ (x : Seg) (y : ℕ). recOf p gone (segmentOf p v gone x) (k .stripe) y .stamp) ez (ap (placeDrive p) (sym eq) ∙ is-drive ∙ cand-on-drive)
       ∙ sym (ap (λ (x : Cand). x .stamp) (k .it-is)) in
-      let er : n ≡ h .serial = en ∙ ap (λ (x : Seg). headerSerial (headerAt v (lowDrive p gone) x)) ez ∙ sym (serial-is p v gone (k .of)) ∙ sym (ap (λ (x : Cand). x .serial) (k .it-is)) in
+      let er : n ≡ h .serial = en ∙ ap (λ (x : Seg). headerSerial p (headerAt v (lowDrive p gone) x)) ez ∙ sym (serial-is p v gone (k .of)) ∙ sym (ap (λ (x : Cand). x .serial) (k .it-is)) in
       let ed′ : d ≡ h .drive = ed ∙ ap (placeDrive p) (sym eq) ∙ is-drive in
       let eo′ : o ≡ h .offset = eo ∙ ap (λ (x : ℕ). placeBlock p x - 1) (sym eq) ∙ is-offset in
       λ j. record { address = sym ea j; stamp = es j; serial = er j; drive = ed′ j; offset = eo′ j; place = sym eq j }

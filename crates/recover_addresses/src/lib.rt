@@ -5,7 +5,7 @@ ghost use mathlib.Core.List.{[], _∷_, map};
 ghost use Prim.Native.Nat.{ℕ, _<_};
 ghost use lib.Bits.{bitXor};
 ghost use Rattle.spec.specs.Bytes.{xorAll};
-ghost use Rattle.spec.specs.Drives.{viewOf, sealedIn, seg};
+ghost use Rattle.spec.specs.Drives.{viewOf, sealedIn};
 ghost use Rattle.spec.specs.Lists.{isIn};
 ghost use Rattle.spec.specs.Params.{present};
 ghost use Rattle.spec.specs.Segments.{segmentOf, storedRec, recOf};
@@ -17,6 +17,7 @@ use disk_rank::Cand;
 use spec::Address;
 use spec::Params;
 use spec::Place;
+use spec::Seg;
 use spec::Serial;
 use spec::Stamp;
 
@@ -29,21 +30,21 @@ fn add_stamp(
     gone: u8,
     full: bool,
     drive: usize,
-    segment: usize,
+    segment: Seg,
     s: usize,
     t: Stamp,
 ) -> Stamp
     requires { ⌜ Ground p (now image) (now pointers) gone (now compact) ⌝ }
     requires { ⌜
         (drive < p .N)
-        × StripeCounts p (viewOf p (now image) (now pointers)) gone (now compact) (seg segment) s
-        × (full ≡ sealedIn p (viewOf p (now image) (now pointers)) gone (seg segment)) ⌝ }
-    ensures { λ r. ⌜ r .0 ≡ cond (isIn gone drive) (t .0) (bitXor (t .0) (storedRec (segmentOf p (viewOf p (now (image .entry)) (now (pointers .entry))) gone (seg segment)) s drive .stamp)) ⌝ }
+        × StripeCounts p (viewOf p (now image) (now pointers)) gone (now compact) segment s
+        × (full ≡ sealedIn p (viewOf p (now image) (now pointers)) gone segment) ⌝ }
+    ensures { λ r. ⌜ r .0 ≡ cond (isIn gone drive) (t .0) (bitXor (t .0) (storedRec (segmentOf p (viewOf p (now (image .entry)) (now (pointers .entry))) gone segment) s drive .stamp)) ⌝ }
 {
     if bits_masks::has_drive(gone, drive) {
         return t;
     }
-    let zone = disk_shape::zone_on(segment, drive);
+    let zone = disk_shape::zone_on(p, segment, drive);
     let o = mem_lookup::shown_at(p, pointers, compact, drive, zone, s);
     let r = disk_stored::record_in(p, image, full, drive, zone, o);
     Stamp(t.0 ^ r.stamp.0)
@@ -57,12 +58,12 @@ fn lost_stamp(
     compact: &[u8],
     gone: u8,
     full: bool,
-    segment: usize,
+    segment: Seg,
     s: usize,
 ) -> Stamp
     requires { ⌜ Ground p (now image) (now pointers) gone (now compact) ⌝ }
-    requires { ⌜ StripeCounts p (viewOf p (now image) (now pointers)) gone (now compact) (seg segment) s × (full ≡ sealedIn p (viewOf p (now image) (now pointers)) gone (seg segment)) ⌝ }
-    ensures { λ r. ⌜ r .0 ≡ xorAll (map (λ d. storedRec (segmentOf p (viewOf p (now (image .entry)) (now (pointers .entry))) gone (seg segment)) s d .stamp) (present p gone)) ⌝ }
+    requires { ⌜ StripeCounts p (viewOf p (now image) (now pointers)) gone (now compact) segment s × (full ≡ sealedIn p (viewOf p (now image) (now pointers)) gone segment) ⌝ }
+    ensures { λ r. ⌜ r .0 ≡ xorAll (map (λ d. storedRec (segmentOf p (viewOf p (now (image .entry)) (now (pointers .entry))) gone segment) s d .stamp) (present p gone)) ⌝ }
 {
     let mut t = Stamp(0);
     let mut d = 0;
@@ -81,21 +82,21 @@ fn stamp_at(
     compact: &[u8],
     gone: u8,
     drive: usize,
-    segment: usize,
+    segment: Seg,
     offset: usize,
 ) -> Stamp
     requires { ⌜ Ground p (now image) (now pointers) gone (now compact) ⌝ }
-    requires { ⌜ Somewhere p (viewOf p (now image) (now pointers)) gone (now compact) drive (seg segment) offset ⌝ }
+    requires { ⌜ Somewhere p (viewOf p (now image) (now pointers)) gone (now compact) drive segment offset ⌝ }
     ensures { λ r. ⌜
         ((s : ℕ)
-        → LiesIn p (viewOf p (now (image .entry)) (now (pointers .entry))) gone (now (compact .entry)) drive (seg segment) offset s
-        → r .0 ≡ recOf p gone (segmentOf p (viewOf p (now (image .entry)) (now (pointers .entry))) gone (seg segment)) s drive .stamp) ⌝ }
+        → LiesIn p (viewOf p (now (image .entry)) (now (pointers .entry))) gone (now (compact .entry)) drive segment offset s
+        → r .0 ≡ recOf p gone (segmentOf p (viewOf p (now (image .entry)) (now (pointers .entry))) gone segment) s drive .stamp) ⌝ }
 {
     let full = disk_zones::is_sealed(p, pointers, gone, segment);
     if bits_masks::has_drive(gone, drive) {
         return lost_stamp(p, image, pointers, compact, gone, full, segment, offset);
     }
-    let zone = disk_shape::zone_on(segment, drive);
+    let zone = disk_shape::zone_on(p, segment, drive);
     let r = disk_stored::record_in(p, image, full, drive, zone, offset);
     r.stamp
 }
@@ -117,13 +118,14 @@ fn cand_at(
     ensures { λ r. ⌜ IsCandAt p (viewOf p (now (image .entry)) (now (pointers .entry))) gone (now (compact .entry)) (address .0) (place .0) (ranked r) ⌝ }
 {
     let drive = disk_shape::place_drive(p, place);
-    let segment = disk_shape::place_zone(p, place);
+    let zone = disk_shape::place_zone(p, place);
     let offset = disk_shape::place_block(p, place) - 1;
+    let segment = disk_shape::across(p, zone);
     let stamp = stamp_at(p, image, pointers, compact, gone, drive, segment, offset);
     Cand {
         address,
         stamp,
-        serial: Serial(serials[segment]),
+        serial: Serial(serials[zone]),
         drive,
         offset,
         place,

@@ -7,18 +7,20 @@ use native.Mathlib.Nat.{add-zero, zero-add, suc-mul}
 use native.Mathlib.Omega.{arith}
 use lib.Dec.{leb, eqb, lit≤}
 use lib.ListN.{length, getD}
-use Rattle.law_drives.specs.Members.{keep-keep}
+use Rattle.law_drives.specs.Members.{In, keep-keep}
+use Rattle.law_drives.specs.Segs.{present-in}
+use mathlib.Core.Logic.{inl}
 use Rattle.law_basic.specs.Geometry.{prod-le, ranged}
 use Rattle.law_basic.specs.Ranges.{Test, test, length-below, map-append, map-map, keep-below-same, length-keep, total-append, keep-below-snoc, keep-map}
 use Rattle.law_basic.specs.Ranges.Test.{yes!, no! }
-use Rattle.law_basic.specs.Segs.{zone-number}
+use Rattle.law_basic.specs.Segs.{across-zone}
 use Rattle.recover_segments.specs.Kept.{segments-keep, unsealed-list}
 use Rattle.recover_segments.specs.Remains.{remainsHere, Keeps}
 use Rattle.recover_survey.specs.declared.Tally.{Tally}
 use Rattle.recover_survey.specs.Tops.{topOf, Surveyed, last-le}
 use Rattle.spec.specs.declared.Params.{Params}
 use Rattle.spec.specs.Bytes.{part}
-use Rattle.spec.specs.Drives.{noZone, View, zoneOn, sealedIn, Seg, seg}
+use Rattle.spec.specs.Drives.{noZone, View, zoneOn, sealedIn, across}
 use Rattle.spec.specs.Faults.{headerFault, serialFault, stripeFault, addressFault, footerFaultIn, footerFault, clashes, segmentFault, segmentFaults}
 use Rattle.spec.specs.Lists.{upFrom, below, any, consIf, keep, total, firstOr}
 use Rattle.spec.specs.Params.{inRange, present}
@@ -27,14 +29,16 @@ use Rattle.spec.specs.Segments.{lowDrive, Segment, segmentOf, segments, hasChun
 use Rattle.spec.specs.Write.{opens}
 use Rattle.law_drives.specs.Rebuilding.{counted-low}
 use Rattle.recover_check.specs.declared.Exam.{Exam}
+use Rattle.spec.specs.declared.Seg.{Seg}
 
 -- the sum of a number of each segment
 unfoldable pub summed : (Segment → ℕ) → List Segment → ℕ
 summed f gs = total (map f gs)
 
 -- 01, Refusals, 9: the lowest bad zone, or Z; where none is bad: the uncounted stripes of all segments, and what the unsealed one holds (all 0 if there is none):
--- how many stripes count, the last of them + 1, the uncounted ones
+-- how many stripes count, the last of them + 1, the uncounted ones. There is a drive: by it zones are named
 pub record Examined (p : Params) (gone : ℕ) (gs : List Segment) (e : Exam) : Type 0 where
+  pub drives : 0 < p .N
   pub zone-is : e .zone ≡ firstOr (p .Z) (segmentFaults p gone gs)
   pub loose-is : e .zone ≡ p .Z → e .loose ≡ uncountedIn p gone gs
   pub counted-is : e .zone ≡ p .Z → e .counted ≡ summed (λ (g : Segment). length (counted p gone g)) (unsealed gs)
@@ -51,22 +55,31 @@ raggedBy p e = not (eqb (e .counted) (p .S)) && (not (eqb (e .top) (e .counted))
 unfoldable pub faulty : Params → View → ℕ → Seg → Bool
 faulty p v gone g = remainsHere p v gone g && segmentFault p gone (segments p v gone) (segmentOf p v gone g)
 
--- the zones of segments as read, on a drive, are their numbers
-zones-by-number : (p : Params) (v : View) (gone d : ℕ) (l : List ℕ) → map (λ (s : Segment). zoneOn (s .seg) d) (map (λ g. segmentOf p v gone (seg g)) l) ≡ l
-unfolding segmentOf
-zones-by-number p v gone d [] = refl
-zones-by-number p v gone d (g ∷ l) = ap₂ (λ (x : ℕ) (r : List ℕ). x ∷ r) (zone-number g d) (zones-by-number p v gone d l)
+-- the lowest present drive is one, or the first where none is present
+low-drive-lt : (p : Params) (gone : ℕ) → 0 < p .N → lowDrive p gone < p .N
+unfolding lowDrive
+low-drive-lt p gone h = go (present p gone) (λ d m. present-in p gone d m .0)
+  where
+    go : (l : List ℕ) → ((d : ℕ) → In d l → d < p .N) → firstOr 0 l < p .N
+    go [] q = unfold firstOr in h
+    go (d ∷ l) q = unfold firstOr in q d (inl refl)
 
-pub faults-list : (p : Params) (v : View) (gone : ℕ) → segmentFaults p gone (segments p v gone) ≡ keep (λ n. faulty p v gone (seg n)) (below (p .Z))
+-- the zones of segments as read, on a drive, are their numbers
+zones-by-number : (p : Params) (v : View) (gone d : ℕ) (l : List ℕ) → d < p .N → map (λ (s : Segment). zoneOn (s .seg) d) (map (λ g. segmentOf p v gone (across p g)) l) ≡ l
+unfolding segmentOf
+zones-by-number p v gone d [] hd = refl
+zones-by-number p v gone d (g ∷ l) hd = ap₂ (λ (x : ℕ) (r : List ℕ). x ∷ r) (across-zone p g d hd) (zones-by-number p v gone d l hd)
+
+pub faults-list : (p : Params) (v : View) (gone : ℕ) → 0 < p .N → segmentFaults p gone (segments p v gone) ≡ keep (λ n. faulty p v gone (across p n)) (below (p .Z))
 unfolding segmentFaults faulty
-faults-list p v gone =
+faults-list p v gone h =
     let gs = segments p v gone in
-    let on : ℕ → Bool = λ n. remainsHere p v gone (seg n) in
-    let bad : ℕ → Bool = λ n. segmentFault p gone gs (segmentOf p v gone (seg n)) in
+    let on : ℕ → Bool = λ n. remainsHere p v gone (across p n) in
+    let bad : ℕ → Bool = λ n. segmentFault p gone gs (segmentOf p v gone (across p n)) in
     let z : Segment → ℕ = λ s. zoneOn (s .seg) (lowDrive p gone) in
     ap (λ (l : List Segment). map z (keep (segmentFault p gone gs) l)) (segments-keep p v gone)
-    ∙ ap (map z) (keep-map (segmentFault p gone gs) (λ n. segmentOf p v gone (seg n)) (keep on (below (p .Z))))
-    ∙ zones-by-number p v gone (lowDrive p gone) (keep bad (keep on (below (p .Z))))
+    ∙ ap (map z) (keep-map (segmentFault p gone gs) (λ n. segmentOf p v gone (across p n)) (keep on (below (p .Z))))
+    ∙ zones-by-number p v gone (lowDrive p gone) (keep bad (keep on (below (p .Z)))) (low-drive-lt p gone h)
     ∙ keep-keep bad on (below (p .Z))
 
 -- ---- one segment: header, serials, then footers and clashes; then the records
@@ -157,14 +170,14 @@ sum-le f w b n h = sum-from f w b 0 n h
 
 -- 01, Restart, 4: segment g remains, by the flags, and is unsealed
 unfoldable pub openBy : Params → View → ℕ → List Bool → ℕ → Bool
-openBy p v gone flags g = getD flags g false && not (sealedIn p v gone (seg g))
+openBy p v gone flags g = getD flags g false && not (sealedIn p v gone (across p g))
 
 pub record ExamSays (p : Params) (v : View) (gone : ℕ) (flags : List Bool) (n : ℕ) (e : Exam) : Type 0 where
   pub zone-is : e .zone ≡ p .Z
-  pub loose-is : e .loose ≡ sumOf (λ g. getD flags g false) (λ g. length (uncounted p gone (segmentOf p v gone (seg g)))) n
-  pub counted-is : e .counted ≡ sumOf (openBy p v gone flags) (λ g. length (counted p gone (segmentOf p v gone (seg g)))) n
-  pub top-is : e .top ≡ sumOf (openBy p v gone flags) (λ g. topOf p gone (segmentOf p v gone (seg g))) n
-  pub part-is : e .part ≡ sumOf (openBy p v gone flags) (λ g. length (uncounted p gone (segmentOf p v gone (seg g)))) n
+  pub loose-is : e .loose ≡ sumOf (λ g. getD flags g false) (λ g. length (uncounted p gone (segmentOf p v gone (across p g)))) n
+  pub counted-is : e .counted ≡ sumOf (openBy p v gone flags) (λ g. length (counted p gone (segmentOf p v gone (across p g)))) n
+  pub top-is : e .top ≡ sumOf (openBy p v gone flags) (λ g. topOf p gone (segmentOf p v gone (across p g))) n
+  pub part-is : e .part ≡ sumOf (openBy p v gone flags) (λ g. length (uncounted p gone (segmentOf p v gone (across p g)))) n
 
 kept-most : (f : ℕ → Bool) (n : ℕ) → length (keep f (below n)) ≤ n
 kept-most f n = omega (arith, length-keep f (below n), length-below n)
@@ -182,92 +195,110 @@ module _ (p : Params) (v : View) (gone : ℕ) (flags : List Bool) where
   pub seen-none : ExamSays p v gone flags 0 (record { zone = p .Z; loose = 0; counted = 0; top = 0; part = 0 })
   seen-none = record {
     zone-is = refl;
-    loose-is = sym (sum-none (λ g. getD flags g false) (λ g. length (uncounted p gone (segmentOf p v gone (seg g)))));
-    counted-is = sym (sum-none (openBy p v gone flags) (λ g. length (counted p gone (segmentOf p v gone (seg g)))));
-    top-is = sym (sum-none (openBy p v gone flags) (λ g. topOf p gone (segmentOf p v gone (seg g))));
-    part-is = sym (sum-none (openBy p v gone flags) (λ g. length (uncounted p gone (segmentOf p v gone (seg g)))));
+    loose-is = sym (sum-none (λ g. getD flags g false) (λ g. length (uncounted p gone (segmentOf p v gone (across p g)))));
+    counted-is = sym (sum-none (openBy p v gone flags) (λ g. length (counted p gone (segmentOf p v gone (across p g)))));
+    top-is = sym (sum-none (openBy p v gone flags) (λ g. topOf p gone (segmentOf p v gone (across p g))));
+    part-is = sym (sum-none (openBy p v gone flags) (λ g. length (uncounted p gone (segmentOf p v gone (across p g)))));
   }
 
   module _ (n : ℕ) (e : Exam) (s : ExamSays p v gone flags n e) where
     -- the sums fit
     pub seen-fits : (e .loose ≤ n * p .S) × (e .counted ≤ n * p .S) × (e .top ≤ n * p .S) × (e .part ≤ n * p .S)
     seen-fits = (
-      omega (arith, s .loose-is, sum-le (λ g. getD flags g false) (λ g. length (uncounted p gone (segmentOf p v gone (seg g)))) (p .S) n (λ g. uncounted-most p gone (segmentOf p v gone (seg g)))),
-      omega (arith, s .counted-is, sum-le (openBy p v gone flags) (λ g. length (counted p gone (segmentOf p v gone (seg g)))) (p .S) n (λ g. counted-low p gone (segmentOf p v gone (seg g)))),
-      omega (arith, s .top-is, sum-le (openBy p v gone flags) (λ g. topOf p gone (segmentOf p v gone (seg g))) (p .S) n (λ g. top-most p gone (segmentOf p v gone (seg g)))),
-      omega (arith, s .part-is, sum-le (openBy p v gone flags) (λ g. length (uncounted p gone (segmentOf p v gone (seg g)))) (p .S) n (λ g. uncounted-most p gone (segmentOf p v gone (seg g)))),
+      omega (
+        arith,
+        s .loose-is,
+        sum-le (λ g. getD flags g false) (λ g. length (uncounted p gone (segmentOf p v gone (across p g)))) (p .S) n (λ g. uncounted-most p gone (segmentOf p v gone (across p g))),
+      ),
+      omega (
+        arith,
+        s .counted-is,
+        sum-le (openBy p v gone flags) (λ g. length (counted p gone (segmentOf p v gone (across p g)))) (p .S) n (λ g. counted-low p gone (segmentOf p v gone (across p g))),
+      ),
+      omega (
+        arith,
+        s .top-is,
+        sum-le (openBy p v gone flags) (λ g. topOf p gone (segmentOf p v gone (across p g))) (p .S) n (λ g. top-most p gone (segmentOf p v gone (across p g))),
+      ),
+      omega (
+        arith,
+        s .part-is,
+        sum-le (openBy p v gone flags) (λ g. length (uncounted p gone (segmentOf p v gone (across p g)))) (p .S) n (λ g. uncounted-most p gone (segmentOf p v gone (across p g))),
+      ),
     )
 
     -- a segment that doesn't remain
     pub seen-gone : getD flags n false ≡ false → ExamSays p v gone flags (n + 1) e
     unfolding openBy
     seen-gone h =
-        let k : (getD flags n false && not (sealedIn p v gone (seg n))) ≡ false = ap (λ (b : Bool). b && not (sealedIn p v gone (seg n))) h in
+        let k : (getD flags n false && not (sealedIn p v gone (across p n))) ≡ false = ap (λ (b : Bool). b && not (sealedIn p v gone (across p n))) h in
         record {
           zone-is = s .zone-is;
-          loose-is = s .loose-is ∙ sum-miss (λ g. getD flags g false) (λ g. length (uncounted p gone (segmentOf p v gone (seg g)))) n h;
-          counted-is = s .counted-is ∙ sum-miss (openBy p v gone flags) (λ g. length (counted p gone (segmentOf p v gone (seg g)))) n k;
-          top-is = s .top-is ∙ sum-miss (openBy p v gone flags) (λ g. topOf p gone (segmentOf p v gone (seg g))) n k;
-          part-is = s .part-is ∙ sum-miss (openBy p v gone flags) (λ g. length (uncounted p gone (segmentOf p v gone (seg g)))) n k;
+          loose-is = s .loose-is ∙ sum-miss (λ g. getD flags g false) (λ g. length (uncounted p gone (segmentOf p v gone (across p g)))) n h;
+          counted-is = s .counted-is ∙ sum-miss (openBy p v gone flags) (λ g. length (counted p gone (segmentOf p v gone (across p g)))) n k;
+          top-is = s .top-is ∙ sum-miss (openBy p v gone flags) (λ g. topOf p gone (segmentOf p v gone (across p g))) n k;
+          part-is = s .part-is ∙ sum-miss (openBy p v gone flags) (λ g. length (uncounted p gone (segmentOf p v gone (across p g)))) n k;
         }
 
-    module _ (t : Tally) (u : Surveyed p gone (segmentOf p v gone (seg n)) t) (good : t .bad ≡ false) (h : getD flags n false ≡ true) where
-      more-loose : e .loose + t .loose ≡ sumOf (λ g. getD flags g false) (λ g. length (uncounted p gone (segmentOf p v gone (seg g)))) (n + 1)
-      more-loose = ap₂ (λ (x y : ℕ). x + y) (s .loose-is) (u .loose-is good) ∙ sum-hit (λ g. getD flags g false) (λ g. length (uncounted p gone (segmentOf p v gone (seg g)))) n h
+    module _ (t : Tally) (u : Surveyed p gone (segmentOf p v gone (across p n)) t) (good : t .bad ≡ false) (h : getD flags n false ≡ true) where
+      more-loose : e .loose + t .loose ≡ sumOf (λ g. getD flags g false) (λ g. length (uncounted p gone (segmentOf p v gone (across p g)))) (n + 1)
+      more-loose = ap₂ (λ (x y : ℕ). x + y) (s .loose-is) (u .loose-is good) ∙ sum-hit (λ g. getD flags g false) (λ g. length (uncounted p gone (segmentOf p v gone (across p g)))) n h
 
       -- one that is sealed
-      pub seen-full : sealedIn p v gone (seg n) ≡ true → ExamSays p v gone flags (n + 1)
+      pub seen-full : sealedIn p v gone (across p n) ≡ true → ExamSays p v gone flags (n + 1)
           (record { zone = e .zone; loose = e .loose + t .loose; counted = e .counted; top = e .top; part = e .part })
       unfolding openBy
       seen-full q =
-          let k : (getD flags n false && not (sealedIn p v gone (seg n))) ≡ false = λ i. h i && not (q i) in
+          let k : (getD flags n false && not (sealedIn p v gone (across p n))) ≡ false = λ i. h i && not (q i) in
           record {
             zone-is = s .zone-is;
             loose-is = more-loose;
-            counted-is = s .counted-is ∙ sum-miss (openBy p v gone flags) (λ g. length (counted p gone (segmentOf p v gone (seg g)))) n k;
-            top-is = s .top-is ∙ sum-miss (openBy p v gone flags) (λ g. topOf p gone (segmentOf p v gone (seg g))) n k;
-            part-is = s .part-is ∙ sum-miss (openBy p v gone flags) (λ g. length (uncounted p gone (segmentOf p v gone (seg g)))) n k;
+            counted-is = s .counted-is ∙ sum-miss (openBy p v gone flags) (λ g. length (counted p gone (segmentOf p v gone (across p g)))) n k;
+            top-is = s .top-is ∙ sum-miss (openBy p v gone flags) (λ g. topOf p gone (segmentOf p v gone (across p g))) n k;
+            part-is = s .part-is ∙ sum-miss (openBy p v gone flags) (λ g. length (uncounted p gone (segmentOf p v gone (across p g)))) n k;
           }
 
       -- one that is unsealed
-      pub seen-open : sealedIn p v gone (seg n) ≡ false
+      pub seen-open : sealedIn p v gone (across p n) ≡ false
           → ExamSays p v gone flags (n + 1) (record { zone = e .zone; loose = e .loose + t .loose; counted = e .counted + t .counted; top = e .top + t .top; part = e .part + t .loose })
       unfolding openBy
       seen-open q =
-          let k : (getD flags n false && not (sealedIn p v gone (seg n))) ≡ true = λ i. h i && not (q i) in
+          let k : (getD flags n false && not (sealedIn p v gone (across p n))) ≡ true = λ i. h i && not (q i) in
           record {
             zone-is = s .zone-is;
             loose-is = more-loose;
-            counted-is = ap₂ (λ (x y : ℕ). x + y) (s .counted-is) (u .counted-is good) ∙ sum-hit (openBy p v gone flags) (λ g. length (counted p gone (segmentOf p v gone (seg g)))) n k;
-            top-is = ap₂ (λ (x y : ℕ). x + y) (s .top-is) (u .top-is good) ∙ sum-hit (openBy p v gone flags) (λ g. topOf p gone (segmentOf p v gone (seg g))) n k;
-            part-is = ap₂ (λ (x y : ℕ). x + y) (s .part-is) (u .loose-is good) ∙ sum-hit (openBy p v gone flags) (λ g. length (uncounted p gone (segmentOf p v gone (seg g)))) n k;
+            counted-is = ap₂ (λ (x y : ℕ). x + y) (s .counted-is) (u .counted-is good) ∙ sum-hit (openBy p v gone flags) (λ g. length (counted p gone (segmentOf p v gone (across p g)))) n k;
+            top-is = ap₂ (λ (x y : ℕ). x + y) (s .top-is) (u .top-is good) ∙ sum-hit (openBy p v gone flags) (λ g. topOf p gone (segmentOf p v gone (across p g))) n k;
+            part-is = ap₂ (λ (x y : ℕ). x + y) (s .part-is) (u .loose-is good) ∙ sum-hit (openBy p v gone flags) (λ g. length (uncounted p gone (segmentOf p v gone (across p g)))) n k;
           }
 
   -- all of them
-  pub seen-all : (e : Exam) → Keeps p v gone flags → ExamSays p v gone flags (p .Z) e → e .zone ≡ firstOr (p .Z) (segmentFaults p gone (segments p v gone))
+  pub seen-all : (e : Exam) → 0 < p .N → Keeps p v gone flags → ExamSays p v gone flags (p .Z) e → e .zone ≡ firstOr (p .Z) (segmentFaults p gone (segments p v gone))
       → Examined p gone (segments p v gone) e
   unfolding summed uncountedIn sumOf openBy
-  seen-all e k s z =
+  seen-all e n k s z =
       let opens : (w : Segment → ℕ)
-      → total (map (λ g. w (segmentOf p v gone (seg g))) (keep (λ g. getD flags g false && not (sealedIn p v gone (seg g))) (below (p .Z)))) ≡ total
+      → total (map (λ g. w (segmentOf p v gone (across p g))) (keep (λ g. getD flags g false && not (sealedIn p v gone (across p g))) (below (p .Z)))) ≡ total
       (map w (unsealed (segments p v gone))) =
       λ w. sym (ap (λ (l : List Segment). total (map w l)) (unsealed-list p v gone flags k)
-      ∙ ap total (map-map w (λ g. segmentOf p v gone (seg g)) (keep (λ g. getD flags g false && not (sealedIn p v gone (seg g))) (below (p .Z))))) in
+      ∙ ap total (map-map w (λ g. segmentOf p v gone (across p g)) (keep (λ g. getD flags g false && not (sealedIn p v gone (across p g))) (below (p .Z))))) in
       record {
+        drives = n;
         zone-is = z;
         loose-is = λ _. s .loose-is
-            ∙ ap (λ (l : List ℕ). total (map (λ g. length (uncounted p gone (segmentOf p v gone (seg g)))) l))
-            (keep-below-same (λ g. getD flags g false) (λ g. remainsHere p v gone (seg g)) (p .Z) (k .1))
+            ∙ ap (λ (l : List ℕ). total (map (λ g. length (uncounted p gone (segmentOf p v gone (across p g)))) l))
+            (keep-below-same (λ g. getD flags g false) (λ g. remainsHere p v gone (across p g)) (p .Z) (k .1))
             ∙ sym (ap (λ (l : List Segment). total (map (λ (g : Segment). length (uncounted p gone g)) l)) (segments-keep p v gone)
-            ∙ ap total (map-map (λ (g : Segment). length (uncounted p gone g)) (λ g. segmentOf p v gone (seg g)) (keep (λ g. remainsHere p v gone (seg g)) (below (p .Z)))));
+            ∙ ap total (map-map (λ (g : Segment). length (uncounted p gone g)) (λ g. segmentOf p v gone (across p g)) (keep (λ g. remainsHere p v gone (across p g)) (below (p .Z)))));
         counted-is = λ _. s .counted-is ∙ opens (λ (g : Segment). length (counted p gone g));
         top-is = λ _. s .top-is ∙ opens (topOf p gone);
         part-is = λ _. s .part-is ∙ opens (λ (g : Segment). length (uncounted p gone g));
       }
 
   -- a bad one
-  pub seen-bad : (e : Exam) → e .zone < p .Z → e .zone ≡ firstOr (p .Z) (segmentFaults p gone (segments p v gone)) → Examined p gone (segments p v gone) e
-  seen-bad e h z = record {
+  pub seen-bad : (e : Exam) → 0 < p .N → e .zone < p .Z → e .zone ≡ firstOr (p .Z) (segmentFaults p gone (segments p v gone)) → Examined p gone (segments p v gone) e
+  seen-bad e n h z = record {
+    drives = n;
     zone-is = z;
     loose-is = λ q. absurd (let r : ⊥ = omega arith in r);
     counted-is = λ q. absurd (let r : ⊥ = omega arith in r);
@@ -292,7 +323,7 @@ added-open b e t q = ap (λ (x : Bool). added x e t) q
 -- ---- one segment
 
 module _ (p : Params) (v : View) (gone : ℕ) (flags : List Bool) (n : ℕ) (e : Exam) (s : ExamSays p v gone flags n e) where
-  pub seen-added : (b : Bool) (t : Tally) → Surveyed p gone (segmentOf p v gone (seg n)) t → t .bad ≡ false → getD flags n false ≡ true → b ≡ sealedIn p v gone (seg n)
+  pub seen-added : (b : Bool) (t : Tally) → Surveyed p gone (segmentOf p v gone (across p n)) t → t .bad ≡ false → getD flags n false ≡ true → b ≡ sealedIn p v gone (across p n)
       → ExamSays p v gone flags (n + 1) (added b e t)
   unfolding added
   seen-added true t u good h q = seen-full p v gone flags n e s t u good h (sym q)
@@ -310,19 +341,19 @@ faulty-gone p v gone g e = ap (λ (b : Bool). b && segmentFault p gone (segments
 
 -- ---- the loop's two ways on
 
-module _ (p : Params) (v : View) (gone : ℕ) (flags : List Bool) (n : ℕ) (r : Exam) (bad : faulty p v gone (seg n) ≡ true → r .zone ≡ n)
-    (good : faulty p v gone (seg n) ≡ false → ExamSays p v gone flags (n + 1) r) where
-  pub stops : r .zone < p .Z → (faulty p v gone (seg n) ≡ true) × (r .zone ≡ n)
-  stops h = go (test (faulty p v gone (seg n)))
+module _ (p : Params) (v : View) (gone : ℕ) (flags : List Bool) (n : ℕ) (r : Exam) (bad : faulty p v gone (across p n) ≡ true → r .zone ≡ n)
+    (good : faulty p v gone (across p n) ≡ false → ExamSays p v gone flags (n + 1) r) where
+  pub stops : r .zone < p .Z → (faulty p v gone (across p n) ≡ true) × (r .zone ≡ n)
+  stops h = go (test (faulty p v gone (across p n)))
     where
-      go : Test (faulty p v gone (seg n)) → (faulty p v gone (seg n) ≡ true) × (r .zone ≡ n)
+      go : Test (faulty p v gone (across p n)) → (faulty p v gone (across p n) ≡ true) × (r .zone ≡ n)
       go (yes! e) = (e, bad e)
       go (no! e) = absurd (let z : r .zone ≡ p .Z = good e .zone-is in let q : ⊥ = omega (arith, z, h) in q)
 
-  pub goes : n < p .Z → p .Z ≤ r .zone → (faulty p v gone (seg n) ≡ false) × ExamSays p v gone flags (n + 1) r
-  goes k h = go (test (faulty p v gone (seg n)))
+  pub goes : n < p .Z → p .Z ≤ r .zone → (faulty p v gone (across p n) ≡ false) × ExamSays p v gone flags (n + 1) r
+  goes k h = go (test (faulty p v gone (across p n)))
     where
-      go : Test (faulty p v gone (seg n)) → (faulty p v gone (seg n) ≡ false) × ExamSays p v gone flags (n + 1) r
+      go : Test (faulty p v gone (across p n)) → (faulty p v gone (across p n) ≡ false) × ExamSays p v gone flags (n + 1) r
       go (yes! e) = absurd (let z : r .zone ≡ n = bad e in let q : ⊥ = omega (arith, z, h, k) in q)
       go (no! e) = (e, good e)
 

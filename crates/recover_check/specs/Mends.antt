@@ -19,7 +19,7 @@ use Rattle.spec.specs.declared.Answer.the-variants.{BadZone}
 use Rattle.spec.specs.Bytes.{part}
 use Rattle.spec.specs.Calls.{Check, firstRefusal}
 use Rattle.spec.specs.Calls.Check.{zones}
-use Rattle.spec.specs.Drives.{View, zoneOn, seg}
+use Rattle.spec.specs.Drives.{View, zoneOn, across}
 use Rattle.spec.specs.Faults.{headerFault, serialFault, stripeFault, addressFault, footerFault, clashes, segmentFault, segmentFaults}
 use Rattle.spec.specs.Lists.Opt.{some}
 use Rattle.spec.specs.Lists.{below, any, consIf, keep, isNil, total, sameList}
@@ -32,17 +32,18 @@ use Rattle.recover_check.specs.Faults.{summed, Examined, raggedBy, fault
 
 -- 01, Refusals, 9: zone Z says that no segment has a fault
 pub no-faults : (p : Params) (v : View) (gone : ℕ) (e : Exam) → Examined p gone (segments p v gone) e → e .zone ≡ p .Z → segmentFaults p gone (segments p v gone) ≡ []
-no-faults p v gone e x z = low-none (λ n. faulty p v gone (seg n)) (p .Z) (segmentFaults p gone (segments p v gone)) (faults-list p v gone) (sym (x .zone-is) ∙ z)
+no-faults p v gone e x z = low-none (λ n. faulty p v gone (across p n)) (p .Z) (segmentFaults p gone (segments p v gone)) (faults-list p v gone (x .drives)) (sym (x .zone-is) ∙ z)
 
 -- and a lower one that it is the zone that 9 names
 pub names-zone : (p : Params) (v : View) (gone : ℕ) (e : Exam) (cs : List Check) → Examined p gone (segments p v gone) e → e .zone < p .Z
     → firstRefusal (zones (segmentFaults p gone (segments p v gone)) ∷ cs) ≡ some (BadZone (e .zone))
 names-zone p v gone e cs x h =
-    low-named (λ n. faulty p v gone (seg n)) (p .Z) (segmentFaults p gone (segments p v gone)) (faults-list p v gone) cs (subst (λ (n : ℕ). n < p .Z) (x .zone-is) h)
+    low-named (λ n. faulty p v gone (across p n)) (p .Z) (segmentFaults p gone (segments p v gone)) (faults-list p v gone (x .drives)) cs (subst (λ (n : ℕ). n < p .Z) (x .zone-is) h)
     ∙ ap (λ (n : ℕ). some (BadZone n)) (sym (x .zone-is))
 
 pub zone-le : (p : Params) (v : View) (gone : ℕ) (e : Exam) → Examined p gone (segments p v gone) e → e .zone ≤ p .Z
-zone-le p v gone e x = subst (λ (n : ℕ). n ≤ p .Z) (sym (x .zone-is)) (low-le (λ n. faulty p v gone (seg n)) (p .Z) (segmentFaults p gone (segments p v gone)) (faults-list p v gone))
+zone-le p v gone e x =
+    subst (λ (n : ℕ). n ≤ p .Z) (sym (x .zone-is)) (low-le (λ n. faulty p v gone (across p n)) (p .Z) (segmentFaults p gone (segments p v gone)) (faults-list p v gone (x .drives)))
 
 -- ---- two unsealed segments clash
 

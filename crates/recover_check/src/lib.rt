@@ -4,7 +4,7 @@ ghost use mathlib.Core.Bool.{true, false};
 ghost use Prim.Native.Nat.{_+_, _<_};
 ghost use lib.Dec.{leb};
 ghost use lib.ListN.{length};
-ghost use Rattle.spec.specs.Drives.{viewOf, mkDisk, sealedIn, seg};
+ghost use Rattle.spec.specs.Drives.{viewOf, mkDisk, sealedIn, across};
 ghost use Rattle.spec.specs.Params.{inRange};
 ghost use Rattle.spec.specs.Segments.{segmentOf, segments, unsealed};
 ghost use Rattle.recover_segments.specs.Remains.{Keeps, Serials};
@@ -39,12 +39,12 @@ fn segment_fault(
     requires { ⌜ Whole p (mkDisk (now image) (now pointers)) ⌝ }
     requires { ⌜ Keeps p (viewOf p (now image) (now pointers)) gone (now kept) ⌝ }
     requires { ⌜ Serials p (viewOf p (now image) (now pointers)) gone (now serials) ⌝ }
-    requires { ⌜ (g < p .Z) × (full ≡ sealedIn p (viewOf p (now image) (now pointers)) gone (seg g))
+    requires { ⌜ (g < p .Z) × (full ≡ sealedIn p (viewOf p (now image) (now pointers)) gone (across p g))
         × (many ≡ leb 2 (length (unsealed (segments p (viewOf p (now image) (now pointers)) gone)))) ⌝ }
     ensures { λ r. ⌜
         r
         ≡ frontFault p gone (segments p (viewOf p (now (image .entry)) (now (pointers .entry))) gone)
-        (segmentOf p (viewOf p (now (image .entry)) (now (pointers .entry))) gone (seg g)) ⌝ }
+        (segmentOf p (viewOf p (now (image .entry)) (now (pointers .entry))) gone (across p g)) ⌝ }
 {
     if recover_headers::front_fault(p, image, gone, kept, serials, g) {
         return true;
@@ -55,7 +55,7 @@ fn segment_fault(
     if many {
         return true;
     }
-    recover_headers::footer_fault(p, image, pointers, gone, g)
+    recover_headers::footer_fault(p, image, pointers, gone, disk_shape::across(p, g))
 }
 
 // The zone is bad.
@@ -118,19 +118,20 @@ fn exam_segment(
         × (many ≡ leb 2 (length (unsealed (segments p (viewOf p (now image) (now pointers)) gone))))
         × ExamSays p (viewOf p (now image) (now pointers)) gone (now kept) g e
         × (length (now at) ≡ 2048) ⌝ }
-    ensures { λ r. ⌜ (faulty p (viewOf p (now (image .entry)) (now (pointers .entry))) gone (seg g) ≡ true → r .zone ≡ g) ⌝ }
+    ensures { λ r. ⌜ (faulty p (viewOf p (now (image .entry)) (now (pointers .entry))) gone (across p g) ≡ true → r .zone ≡ g) ⌝ }
     ensures { λ r. ⌜
-        (faulty p (viewOf p (now (image .entry)) (now (pointers .entry))) gone (seg g) ≡ false
+        (faulty p (viewOf p (now (image .entry)) (now (pointers .entry))) gone (across p g) ≡ false
         → ExamSays p (viewOf p (now (image .entry)) (now (pointers .entry))) gone (now (kept .entry)) (g + 1) r) ⌝ }
 {
     if !kept[g] {
         return e;
     }
-    let full = disk_zones::is_sealed(p, pointers, gone, g);
+    let segment = disk_shape::across(p, g);
+    let full = disk_zones::is_sealed(p, pointers, gone, segment);
     if segment_fault(p, image, pointers, gone, kept, serials, g, full, many) {
         return exam_bad(e, g);
     }
-    let t = recover_survey::survey(p, image, pointers, gone, g, full, at);
+    let t = recover_survey::survey(p, image, pointers, gone, segment, full, at);
     if t.bad {
         return exam_bad(e, g);
     }

@@ -11,7 +11,7 @@ use lib.Arith.{digits-div, digits-mod}
 use lib.ListN.{length, getD, set, replicate, length-replicate, length-map}
 use Rattle.spec.specs.declared.Params.{Params}
 use Rattle.spec.specs.Bytes.{splice}
-use Rattle.spec.specs.Drives.{Zone, View, zoneAt, sealedIn, dataStored, recordIn, Seg, zoneOn}
+use Rattle.spec.specs.Drives.{Zone, View, zoneAt, sealedIn, dataStored, recordIn, zoneOn}
 use Rattle.spec.specs.Layout.{compactEntry, Rec}
 use Rattle.spec.specs.Lists.{below, padTo, isIn}
 use Rattle.spec.specs.Memory.{compactAt}
@@ -20,26 +20,27 @@ use Rattle.spec.specs.Segments.{recordsIn, segmentOf, recsOn, compactRow}
 use Rattle.law_basic.specs.Geometry.{item-fits, row-fits}
 use Rattle.law_basic.specs.Ranges.{below-none, length-below, map-below-snoc, map-map}
 use Rattle.law_basic.specs.Splice.{splice-nil, wrote-one, splice-next, getD-splice-below, getD-splice-in, getD-splice-past}
-use Rattle.law_basic.specs.Segs.{Named, zone-on-lt, segOn, seg-on-zone}
+use Rattle.law_basic.specs.Segs.{Named, zone-on-lt}
 use Rattle.law_drives.specs.Segs.{recs-here, recs-gone}
-use Rattle.law_drives.specs.Tables.{remains, rowAt, compact-row-long}
+use Rattle.law_drives.specs.Tables.{remains, rowAt, row-seg, compact-row-long}
 use Rattle.law_drives.specs.Tests.{cond-true, cond-false}
+use Rattle.spec.specs.declared.Seg.{Seg}
 
 -- 01, What a zone holds: the entry of a data offset
 unfoldable pub entrySaid : Params → Bool → Zone → ℕ → ℕ
 entrySaid p w q o = compactEntry p (recordIn p w q o .stripe)
 
--- 01, What a zone holds: the row of a zone; w: its segment remains
-unfoldable pub rowBytes : Params → View → ℕ → Bool → ℕ → ℕ → List ℕ
-rowBytes p v gone w d z = compactRow p (cond w (recsOn (segmentOf p v gone (segOn d z)) d) [])
+-- 01, What a zone holds: the row of a segment's zone; w: the segment remains
+unfoldable pub rowBytes : Params → View → ℕ → Bool → ℕ → Seg → List ℕ
+rowBytes p v gone w d g = compactRow p (cond w (recsOn (segmentOf p v gone g) d) [])
 
 -- the row of a zone as the drives say it
 unfoldable pub rowSaid : Params → View → ℕ → ℕ → ℕ → List ℕ
 rowSaid p v gone d z = compactRow p (rowAt p v gone d z)
 
-pub row-said : (p : Params) (v : View) (gone d z : ℕ) (w : Bool) → w ≡ remains p v gone (segOn d z) → rowBytes p v gone w d z ≡ rowSaid p v gone d z
-unfolding rowBytes rowSaid rowAt
-row-said p v gone d z w e = ap (λ (b : Bool). compactRow p (cond b (recsOn (segmentOf p v gone (segOn d z)) d) [])) e
+pub row-said : (p : Params) (v : View) (gone d : ℕ) (g : Seg) (w : Bool) → d < p .N → Named p g → w ≡ remains p v gone g → rowBytes p v gone w d g ≡ rowSaid p v gone d (zoneOn g d)
+unfolding rowBytes rowSaid
+row-said p v gone d g w k h e = ap (λ (b : Bool). compactRow p (cond b (recsOn (segmentOf p v gone g) d) [])) e ∙ ap (compactRow p) (sym (row-seg p v gone d g k h))
 
 -- ---- a row
 
@@ -47,27 +48,26 @@ pub no-row : (p : Params) (rs : List Rec) → rs ≡ [] → compactRow p rs ≡ 
 unfolding compactRow padTo
 no-row p rs e = ap (compactRow p) e ∙ ap (λ (n : ℕ). replicate n 0) (sub-zero (p .S))
 
-pub row-dropped : (p : Params) (v : View) (gone d z : ℕ) (w : Bool) → w ≡ false → rowBytes p v gone w d z ≡ replicate (p .S) 0
+pub row-dropped : (p : Params) (v : View) (gone d : ℕ) (g : Seg) (w : Bool) → w ≡ false → rowBytes p v gone w d g ≡ replicate (p .S) 0
 unfolding rowBytes
-row-dropped p v gone d z w e = no-row p (cond w (recsOn (segmentOf p v gone (segOn d z)) d) []) (cond-false w (recsOn (segmentOf p v gone (segOn d z)) d) [] e)
+row-dropped p v gone d g w e = no-row p (cond w (recsOn (segmentOf p v gone g) d) []) (cond-false w (recsOn (segmentOf p v gone g) d) [] e)
 
-pub row-missing : (p : Params) (v : View) (gone d z : ℕ) (w : Bool) → d < p .N → w ≡ true → isIn gone d ≡ true → rowBytes p v gone w d z ≡ replicate (p .S) 0
+pub row-missing : (p : Params) (v : View) (gone d : ℕ) (g : Seg) (w : Bool) → d < p .N → w ≡ true → isIn gone d ≡ true → rowBytes p v gone w d g ≡ replicate (p .S) 0
 unfolding rowBytes
-row-missing p v gone d z w h e i =
-    no-row p (cond w (recsOn (segmentOf p v gone (segOn d z)) d) []) (cond-true w (recsOn (segmentOf p v gone (segOn d z)) d) [] e ∙ recs-gone p v gone (segOn d z) d h i)
+row-missing p v gone d g w h e i =
+    no-row p (cond w (recsOn (segmentOf p v gone g) d) []) (cond-true w (recsOn (segmentOf p v gone g) d) [] e ∙ recs-gone p v gone g d h i)
 
-pub row-stored : (p : Params) (v : View) (gone d z : ℕ) (w : Bool) → d < p .N → w ≡ true → isIn gone d ≡ false
-    → rowBytes p v gone w d z
-    ≡ map (entrySaid p (sealedIn p v gone (segOn d z)) (zoneAt v d z)) (below (dataStored p (zoneAt v d z))) ++ replicate (p .S - dataStored p (zoneAt v d z)) 0
+pub row-stored : (p : Params) (v : View) (gone d : ℕ) (g : Seg) (w : Bool) → d < p .N → w ≡ true → isIn gone d ≡ false
+    → rowBytes p v gone w d g
+    ≡ map (entrySaid p (sealedIn p v gone g) (zoneAt v d (zoneOn g d))) (below (dataStored p (zoneAt v d (zoneOn g d)))) ++ replicate (p .S - dataStored p (zoneAt v d (zoneOn g d))) 0
 unfolding rowBytes compactRow padTo entrySaid recordsIn
-row-stored p v gone d z w h e i =
-    let g = segOn d z in
+row-stored p v gone d g w h e i =
     let k = sealedIn p v gone g in
-    let q = zoneAt v d z in
+    let q = zoneAt v d (zoneOn g d) in
     let f : Rec → ℕ = λ (r : Rec). compactEntry p (r .stripe) in
     let l : length (map f (map (recordIn p k q) (below (dataStored p q)))) ≡ dataStored p q =
     length-map (map (recordIn p k q) (below (dataStored p q))) f ∙ length-map (below (dataStored p q)) (recordIn p k q) ∙ length-below (dataStored p q) in
-    ap (compactRow p) (cond-true w (recsOn (segmentOf p v gone g) d) [] e ∙ recs-here p v gone g d h i ∙ ap (λ (y : ℕ). recordsIn p k (zoneAt v d y)) (seg-on-zone d z))
+    ap (compactRow p) (cond-true w (recsOn (segmentOf p v gone g) d) [] e ∙ recs-here p v gone g d h i)
     ∙ ap₂ (λ (x : List ℕ) (n : ℕ). x ++ replicate (p .S - n) 0) (map-map f (recordIn p k q) (below (dataStored p q))) l
 
 pub length-row : (p : Params) (v : View) (gone d z : ℕ) → d < p .N → z < p .Z → length (rowSaid p v gone d z) ≡ p .S

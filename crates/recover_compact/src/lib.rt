@@ -5,15 +5,17 @@ ghost use mathlib.Core.List.{List, map};
 ghost use Prim.Native.Nat.{ℕ, _+_, _%_, _≤_, _<_};
 ghost use lib.ListN.{length};
 ghost use Rattle.spec.specs.Bytes.{splice};
-ghost use Rattle.spec.specs.Drives.{seg as segNo, viewOf, mkDisk, zoneAt};
+ghost use Rattle.spec.specs.Drives.{viewOf, mkDisk, zoneAt, zoneOn};
 ghost use Rattle.spec.specs.Layout.{compactEntry};
 ghost use Rattle.spec.specs.Lists.{below};
 ghost use Rattle.spec.specs.Memory.{compactAt};
 ghost use Rattle.spec.specs.Params.{inRange, imageLen, pointersLen, compactLen};
+ghost use Rattle.law_basic.specs.Segs.{Named, ZonesLow};
 ghost use Rattle.law_drives.specs.Tables.{remains};
 ghost use Rattle.law_views.specs.Views.{Whole};
 ghost use Rattle.recover_compact.specs.Compacts.{entrySaid, rowBytes, SegmentShown, Else};
 use spec::Params;
+use spec::Seg;
 
 // The first stripe of a group at or behind base, still at or below offset o.
 fn base_at(p: Params, base: usize, o: usize) -> usize
@@ -72,7 +74,7 @@ fn entries(
     }
 }
 
-// 01, What a zone holds: the row of a zone; zeros where the drive is missing or the segment dropped.
+// 01, What a zone holds: the row of a segment's zone; zeros where the drive is missing or the segment dropped.
 fn row(
     p: Params,
     image: &[u8],
@@ -81,13 +83,16 @@ fn row(
     gone: u8,
     kept: bool,
     drive: usize,
-    zone: usize,
+    segment: Seg,
 )
     requires { ⌜ inRange p ≡ true ⌝ }
     requires { ⌜ Whole p (mkDisk (now image) (now pointers)) ⌝ }
-    requires { ⌜ (length (now compact) ≡ compactLen p) × (drive < p .N) × (zone < p .Z) ⌝ }
-    ensures { λ _. ⌜ now (compact .exit) ≡ splice (now (compact .entry)) (compactAt p drive zone 0) (rowBytes p (viewOf p (now (image .entry)) (now (pointers .entry))) gone kept drive zone) ⌝ }
+    requires { ⌜ (length (now compact) ≡ compactLen p) × (drive < p .N) × ZonesLow p gone segment × (zoneOn segment drive < p .Z) ⌝ }
+    ensures { λ _. ⌜
+        now (compact .exit)
+        ≡ splice (now (compact .entry)) (compactAt p drive (zoneOn segment drive) 0) (rowBytes p (viewOf p (now (image .entry)) (now (pointers .entry))) gone kept drive segment) ⌝ }
 {
+    let zone = disk_shape::zone_on(p, segment, drive);
     let at = disk_shape::compact_at(p, drive, zone, 0);
     if !kept {
         disk_blocks::clear_part(compact, at, p.S);
@@ -97,7 +102,7 @@ fn row(
         disk_blocks::clear_part(compact, at, p.S);
         return;
     }
-    let full = disk_zones::is_sealed(p, pointers, gone, zone);
+    let full = disk_zones::is_sealed(p, pointers, gone, segment);
     let n = disk_stored::data_stored(p, pointers, drive, zone);
     entries(p, image, compact, full, drive, zone, at, n);
     disk_blocks::clear_part(compact, at + n, p.S - n);
@@ -111,14 +116,14 @@ pub fn rows(
     compact: &mut [u8],
     gone: u8,
     kept: bool,
-    seg: usize,
+    seg: Seg,
 )
     requires { ⌜ inRange p ≡ true ⌝ }
     requires { ⌜ Whole p (mkDisk (now image) (now pointers)) ⌝ }
-    requires { ⌜ (length (now compact) ≡ compactLen p) × (seg < p .Z) ⌝ }
+    requires { ⌜ (length (now compact) ≡ compactLen p) × Named p seg ⌝ }
     ensures { λ _. ⌜
-        (kept ≡ remains p (viewOf p (now (image .entry)) (now (pointers .entry))) gone (segNo seg)
-        → SegmentShown p (viewOf p (now (image .entry)) (now (pointers .entry))) gone (segNo seg) (now (compact .exit)) × Else p (segNo seg) (now (compact .entry)) (now (compact .exit))) ⌝ }
+        (kept ≡ remains p (viewOf p (now (image .entry)) (now (pointers .entry))) gone seg
+        → SegmentShown p (viewOf p (now (image .entry)) (now (pointers .entry))) gone seg (now (compact .exit)) × Else p seg (now (compact .entry)) (now (compact .exit))) ⌝ }
 {
     let mut d = 0;
     while d < p.N {

@@ -7,7 +7,7 @@ use native.Mathlib.Nat.{zero-mod, add-mod-right}
 use native.Mathlib.Omega.{arith}
 use lib.ListN.{length}
 use Rattle.spec.specs.declared.Params.{Params}
-use Rattle.spec.specs.Drives.{View, pointerAt, viewOf, Store, Disk, pointerOf, zoneOn, sealedIn, Seg, seg}
+use Rattle.spec.specs.Drives.{View, pointerAt, viewOf, Store, Disk, pointerOf, zoneOn, sealedIn}
 use Rattle.spec.specs.Drives.Store.{put}
 use Rattle.spec.specs.Layout.{Rec, recordBytes}
 use Rattle.spec.specs.Lists.{upFrom, below, isIn}
@@ -16,7 +16,7 @@ use Rattle.spec.specs.Parity.{Piece, decodeBlock, decodeRec}
 use Rattle.spec.specs.Segments.{lowDrive, Segment, segmentOf, recsOn, counts, storedPiece, pieceOf, putPiece, storedRec}
 use Rattle.law_basic.specs.Geometry.{Ranged}
 use Rattle.law_basic.specs.Ranges.{upFrom-end, below-start, any-same}
-use Rattle.law_basic.specs.Segs.{Named, seg-named, zone-on-lt}
+use Rattle.law_basic.specs.Segs.{Named}
 use Rattle.law_code.specs.Chunks.{chunk-decoded, rec-lost}
 use Rattle.law_code.specs.Code.{decode-apart}
 use Rattle.law_views.specs.Views.{Whole, pointer-view, AllFit, seen}
@@ -32,6 +32,7 @@ use Rattle.recover_groups.specs.Bases.{stripes-step}
 use Rattle.recover_groups.specs.Groups.{groupLen, recsBad, recsFault, Indexed, segmentIn, GroupReads}
 use Rattle.recover_reset.specs.Same.{same-recs-on, same-has, same-offset}
 use Rattle.recover_decode.specs.Moving.{Lacks, OnDrive, Moving, moving-start, moving-as, moving-cut, moving-turn, moving-done, drive-apart}
+use Rattle.spec.specs.declared.Seg.{Seg}
 
 pub lost-on : (p : Params) (gone d : ℕ) (g : Segment) (ss : List ℕ) → OnDrive d (lostStores p gone d g ss)
 lost-on p gone d g ss e y q = lost-apart p gone d g ss e y (drive-apart d e (zoneOn (g .seg) d) y q)
@@ -49,14 +50,14 @@ lost-store-is p v gone sgm d s b q lost eb eq =
     λ j. put d (zoneOn (sym (seg-is p v gone sgm) j) d) (f j) (recordBytes (h j))
 
 -- room for one
-pub lost-room : (p : Params) (gone d : ℕ) (k : Disk) (sgm : Seg) (s : ℕ) → Whole p k → d < p .N → Named p sgm → counts p gone (segmentOf p (seen p k) gone sgm) s ≡ true
+pub lost-room : (p : Params) (gone d : ℕ) (k : Disk) (sgm : Seg) (s : ℕ) → Whole p k → d < p .N → zoneOn sgm d < p .Z → counts p gone (segmentOf p (seen p k) gone sgm) s ≡ true
     → AllFit p (seen p k) (lostStores p gone d (segmentOf p (seen p k) gone sgm) (s ∷ [])) → pointerOf p (k .pointers) d (zoneOn sgm d) < capacity p
 lost-room p gone d k sgm s w hd hz c f =
     let v = seen p k in
     let sg = segmentOf p v gone sgm in
     let a : AllFit p v (put d (zoneOn (sg .seg) d) (pieceOf p gone sg s d .block) (recordBytes (pieceOf p gone sg s d .rec)) ∷ []) =
     subst (λ (l : List Store). AllFit p v l) (lost-hit p gone d sg s c ∙ ap (λ (x : Store). x ∷ []) as!) f in
-    subst (λ (x : ℕ). x < capacity p) (pointer-view p k d (zoneOn sgm d) hd (zone-on-lt p sgm d hz) w)
+    subst (λ (x : ℕ). x < capacity p) (pointer-view p k d (zoneOn sgm d) hd hz w)
     (subst (λ (x : Seg). pointerAt v d (zoneOn x d) < capacity p) (seg-is p v gone sgm) (a .0 .2))
   where
     as! : lostStore p gone d (segmentOf p (seen p k) gone sgm) s
@@ -79,7 +80,7 @@ module _ (p : Params) (gone : ℕ) (v u : View) (low : In (lowDrive p gone) (pre
         subst (λ (x : ℕ). (base ≤ x) × (x < base + groupLen p base)) (same-offset p gone v u low ag g hg d (base + k)) (i .within d k hd hk (same-has p gone v u low ag g hg (base + k) d ∙ t));
   }
 
-  pub group-reads-same : (im ps im′ ps′ : List ℕ) (w : Group) (at : List ℕ) → v ≡ viewOf p im ps → u ≡ viewOf p im′ ps′ → w .gone ≡ gone → seg (w .seg) ≡ g
+  pub group-reads-same : (im ps im′ ps′ : List ℕ) (w : Group) (at : List ℕ) → v ≡ viewOf p im ps → u ≡ viewOf p im′ ps′ → w .gone ≡ gone → w .seg ≡ g
       → length ps′ ≡ pointersLen p
       → GroupReads p im ps w at → GroupReads p im′ ps′ w at
   group-reads-same im ps im′ ps′ w at ev eu ew es l r = record {
@@ -118,7 +119,7 @@ module _ (p : Params) (w : Group) (d n : ℕ) (k₀ : Disk) where
       (moving-as p (w .gone) n groupStores k₀ (lostStores p (w .gone) d groupFound (upFrom (w .base + k) (groupLen p (w .base) - k))) [] left x
       (lost-end p (w .gone) d groupFound (w .base) k (groupLen p (w .base)) h) (s .moving))
 
-module _ (p : Params) (r : Ranged p) (w : Group) (d n : ℕ) (k₀ : Disk) (la : Lacks p (w .gone) d) (hz : w .seg < p .Z) (k left : ℕ) (x : Disk) (s : Stripes p w d n k₀ k left x)
+module _ (p : Params) (r : Ranged p) (w : Group) (d n : ℕ) (k₀ : Disk) (la : Lacks p (w .gone) d) (hz : Named p (w .seg)) (k left : ℕ) (x : Disk) (s : Stripes p w d n k₀ k left x)
     (h : k < groupLen p (w .base)) where
   abbrev now! : Segment
   now! = segmentIn p (x .image) (x .pointers) w
@@ -133,7 +134,7 @@ module _ (p : Params) (r : Ranged p) (w : Group) (d n : ℕ) (k₀ : Disk) (la :
       (lost-step p (w .gone) d (groupFound p w d n k₀) (w .base) k len h) (s .moving)
 
   lost-stripe-same : lostStores p (w .gone) d now! ((w .base + k) ∷ []) ≡ lostStores p (w .gone) d (groupFound p w d n k₀) ((w .base + k) ∷ [])
-  lost-stripe-same = sym (same-lost p (w .gone) (seen p k₀) (seen p x) (la .low) (s .moving .agree) (seg (w .seg)) (seg-named p (w .seg) hz) d (la .lost) ((w .base + k) ∷ []))
+  lost-stripe-same = sym (same-lost p (w .gone) (seen p k₀) (seen p x) (la .low) (s .moving .agree) (w .seg) hz d (la .lost) ((w .base + k) ∷ []))
 
   pub stripes-fit : AllFit p (seen p x) (lostStores p (w .gone) d now! ((w .base + k) ∷ []))
   stripes-fit =
@@ -143,7 +144,7 @@ module _ (p : Params) (r : Ranged p) (w : Group) (d n : ℕ) (k₀ : Disk) (la :
 
   pub stripes-read : (at : List ℕ) → GroupReads p (k₀ .image) (k₀ .pointers) w at → GroupReads p (x .image) (x .pointers) w at
   stripes-read at rd =
-      group-reads-same p (w .gone) (seen p k₀) (seen p x) (la .low) (s .moving .agree) (seg (w .seg)) (seg-named p (w .seg) hz) (k₀ .image) (k₀ .pointers) (x .image)
+      group-reads-same p (w .gone) (seen p k₀) (seen p x) (la .low) (s .moving .agree) (w .seg) hz (k₀ .image) (k₀ .pointers) (x .image)
       (x .pointers) w at refl refl refl refl
       (s .moving .going .whole .pointers-long) rd
 

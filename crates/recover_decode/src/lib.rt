@@ -5,10 +5,11 @@ ghost use mathlib.Core.List.{[], _∷_};
 ghost use Prim.Native.Nat.{_+_, _%_, _<_};
 ghost use lib.ListN.{length};
 ghost use Rattle.recover_decode.specs.Moving.{Lacks};
-ghost use Rattle.spec.specs.Drives.{viewOf, mkDisk, pointerOf, zoneOn, sealedIn, seg as segNo};
+ghost use Rattle.spec.specs.Drives.{viewOf, mkDisk, pointerOf, zoneOn, sealedIn};
 ghost use Rattle.spec.specs.Lists.{upFrom, below};
 ghost use Rattle.spec.specs.Params.{inRange, capacity};
 ghost use Rattle.spec.specs.Segments.{segmentOf, counts};
+ghost use Rattle.law_basic.specs.Segs.{Named, ZonesLow};
 ghost use Rattle.recover_groups.specs.Groups.{groupLen, recsFault, segmentIn, GroupReads};
 ghost use Rattle.recover_reset.specs.Lost.{lostStore, lostStores};
 ghost use Rattle.law_views.specs.Views.{Whole, AllFit};
@@ -16,6 +17,7 @@ ghost use Rattle.disk_zones.specs.Made.{Storing};
 use disk_zones::Made;
 use recover_groups::Group;
 use spec::Params;
+use spec::Seg;
 
 // 01, Rebuild: the chunk of counted stripe k of the group, under a store count; block is room for it.
 fn put_lost_with(
@@ -35,10 +37,11 @@ fn put_lost_with(
     requires { ⌜
         (length (now block) ≡ p .B)
         × (length (now at) ≡ 2048)
-        × (w .seg < p .Z)
+        × ZonesLow p (w .gone) (w .seg)
         × (w .base < p .S)
         × (k < groupLen p (w .base))
-        × (pointerOf p (now pointers) drive (zoneOn (segNo (w .seg)) drive) < capacity p) ⌝ }
+        × (pointerOf p (now pointers) drive (zoneOn (w .seg) drive) < capacity p)
+        × (zoneOn (w .seg) drive < p .Z) ⌝ }
     requires { ⌜ GroupReads p (now image) (now pointers) w (now at) ⌝ }
     requires { ⌜ counts p (w .gone) (segmentIn p (now image) (now pointers) w) (w .base + k) ≡ true ⌝ }
     ensures { λ r. ⌜
@@ -49,7 +52,7 @@ fn put_lost_with(
     let q = recover_groups::lost_rec(p, image, w, at, drive, k);
     let mut spare = [0u8; disk_shape::SPARE];
     disk_records::write_record(&mut spare, q);
-    let zone = disk_shape::zone_on(w.seg, drive);
+    let zone = disk_shape::zone_on(p, w.seg, drive);
     disk_zones::put_limited(p, image, pointers, drive, zone, block, &spare, count)
 }
 
@@ -67,8 +70,9 @@ fn put_lost(
     requires { ⌜ inRange p ≡ true ⌝ }
     requires { ⌜ Whole p (mkDisk (now image) (now pointers)) ⌝ }
     requires { ⌜ Lacks p (w .gone) drive ⌝ }
-    requires { ⌜ (length (now at) ≡ 2048) × (w .seg < p .Z) × (w .base < p .S) × (k < groupLen p (w .base))
-        × (pointerOf p (now pointers) drive (zoneOn (segNo (w .seg)) drive) < capacity p) ⌝ }
+    requires { ⌜ (length (now at) ≡ 2048) × ZonesLow p (w .gone) (w .seg) × (w .base < p .S) × (k < groupLen p (w .base))
+        × (pointerOf p (now pointers) drive (zoneOn (w .seg) drive) < capacity p)
+        × (zoneOn (w .seg) drive < p .Z) ⌝ }
     requires { ⌜ GroupReads p (now image) (now pointers) w (now at) ⌝ }
     requires { ⌜ counts p (w .gone) (segmentIn p (now image) (now pointers) w) (w .base + k) ≡ true ⌝ }
     ensures { λ r. ⌜
@@ -94,7 +98,8 @@ fn put_if(
     requires { ⌜ inRange p ≡ true ⌝ }
     requires { ⌜ Whole p (mkDisk (now image) (now pointers)) ⌝ }
     requires { ⌜ Lacks p (w .gone) drive ⌝ }
-    requires { ⌜ (length (now at) ≡ 2048) × (w .seg < p .Z) × (w .base < p .S) × (k < groupLen p (w .base)) ⌝ }
+    requires { ⌜ (length (now at) ≡ 2048) × ZonesLow p (w .gone) (w .seg) × (w .base < p .S) × (k < groupLen p (w .base))
+        × (zoneOn (w .seg) drive < p .Z) ⌝ }
     requires { ⌜ GroupReads p (now image) (now pointers) w (now at) ⌝ }
     requires { ⌜ AllFit p (viewOf p (now image) (now pointers)) (lostStores p (w .gone) drive (segmentIn p (now image) (now pointers) w) ((w .base + k) ∷ [])) ⌝ }
     ensures { λ r. ⌜
@@ -123,8 +128,8 @@ fn put_group(
     requires { ⌜ inRange p ≡ true ⌝ }
     requires { ⌜ Whole p (mkDisk (now image) (now pointers)) ⌝ }
     requires { ⌜ Lacks p (w .gone) drive ⌝ }
-    requires { ⌜ (length (now at) ≡ 2048) × (w .seg < p .Z) × (w .base < p .S) × (w .base % p .G ≡ 0) ⌝ }
-    requires { ⌜ w .full ≡ sealedIn p (viewOf p (now image) (now pointers)) (w .gone) (segNo (w .seg)) ⌝ }
+    requires { ⌜ (length (now at) ≡ 2048) × Named p (w .seg) × (w .base < p .S) × (w .base % p .G ≡ 0) × (zoneOn (w .seg) drive < p .Z) ⌝ }
+    requires { ⌜ w .full ≡ sealedIn p (viewOf p (now image) (now pointers)) (w .gone) (w .seg) ⌝ }
     requires { ⌜ recsFault p (w .gone) (segmentIn p (now image) (now pointers) w) ≡ false ⌝ }
     requires { ⌜ AllFit p (viewOf p (now image) (now pointers)) (lostStores p (w .gone) drive (segmentIn p (now image) (now pointers) w) (upFrom (w .base) (groupLen p (w .base)))) ⌝ }
     ensures { λ r. ⌜
@@ -154,7 +159,7 @@ fn put_groups_with(
     pointers: &mut [u8],
     at: &mut [u16],
     gone: u8,
-    seg: usize,
+    seg: Seg,
     full: bool,
     drive: usize,
     count: u64,
@@ -162,12 +167,12 @@ fn put_groups_with(
     requires { ⌜ inRange p ≡ true ⌝ }
     requires { ⌜ Whole p (mkDisk (now image) (now pointers)) ⌝ }
     requires { ⌜ Lacks p gone drive ⌝ }
-    requires { ⌜ (length (now at) ≡ 2048) × (seg < p .Z) ⌝ }
-    requires { ⌜ full ≡ sealedIn p (viewOf p (now image) (now pointers)) gone (segNo seg) ⌝ }
-    requires { ⌜ recsFault p gone (segmentOf p (viewOf p (now image) (now pointers)) gone (segNo seg)) ≡ false ⌝ }
-    requires { ⌜ AllFit p (viewOf p (now image) (now pointers)) (lostStores p gone drive (segmentOf p (viewOf p (now image) (now pointers)) gone (segNo seg)) (below (p .S))) ⌝ }
+    requires { ⌜ (length (now at) ≡ 2048) × Named p seg × (zoneOn seg drive < p .Z) ⌝ }
+    requires { ⌜ full ≡ sealedIn p (viewOf p (now image) (now pointers)) gone seg ⌝ }
+    requires { ⌜ recsFault p gone (segmentOf p (viewOf p (now image) (now pointers)) gone seg) ≡ false ⌝ }
+    requires { ⌜ AllFit p (viewOf p (now image) (now pointers)) (lostStores p gone drive (segmentOf p (viewOf p (now image) (now pointers)) gone seg) (below (p .S))) ⌝ }
     ensures { λ r. ⌜
-        Storing p count (lostStores p gone drive (segmentOf p (viewOf p (now (image .entry)) (now (pointers .entry))) gone (segNo seg)) (below (p .S)))
+        Storing p count (lostStores p gone drive (segmentOf p (viewOf p (now (image .entry)) (now (pointers .entry))) gone seg) (below (p .S)))
         (mkDisk (now (image .entry)) (now (pointers .entry))) r (mkDisk (now (image .exit)) (now (pointers .exit))) ⌝ }
 {
     let mut left = count;
@@ -195,7 +200,7 @@ pub fn put_groups(
     image: &mut [u8],
     pointers: &mut [u8],
     gone: u8,
-    seg: usize,
+    seg: Seg,
     full: bool,
     drive: usize,
     count: u64,
@@ -203,12 +208,12 @@ pub fn put_groups(
     requires { ⌜ inRange p ≡ true ⌝ }
     requires { ⌜ Whole p (mkDisk (now image) (now pointers)) ⌝ }
     requires { ⌜ Lacks p gone drive ⌝ }
-    requires { ⌜ seg < p .Z ⌝ }
-    requires { ⌜ full ≡ sealedIn p (viewOf p (now image) (now pointers)) gone (segNo seg) ⌝ }
-    requires { ⌜ recsFault p gone (segmentOf p (viewOf p (now image) (now pointers)) gone (segNo seg)) ≡ false ⌝ }
-    requires { ⌜ AllFit p (viewOf p (now image) (now pointers)) (lostStores p gone drive (segmentOf p (viewOf p (now image) (now pointers)) gone (segNo seg)) (below (p .S))) ⌝ }
+    requires { ⌜ Named p seg × (zoneOn seg drive < p .Z) ⌝ }
+    requires { ⌜ full ≡ sealedIn p (viewOf p (now image) (now pointers)) gone seg ⌝ }
+    requires { ⌜ recsFault p gone (segmentOf p (viewOf p (now image) (now pointers)) gone seg) ≡ false ⌝ }
+    requires { ⌜ AllFit p (viewOf p (now image) (now pointers)) (lostStores p gone drive (segmentOf p (viewOf p (now image) (now pointers)) gone seg) (below (p .S))) ⌝ }
     ensures { λ r. ⌜
-        Storing p count (lostStores p gone drive (segmentOf p (viewOf p (now (image .entry)) (now (pointers .entry))) gone (segNo seg)) (below (p .S)))
+        Storing p count (lostStores p gone drive (segmentOf p (viewOf p (now (image .entry)) (now (pointers .entry))) gone seg) (below (p .S)))
         (mkDisk (now (image .entry)) (now (pointers .entry))) r (mkDisk (now (image .exit)) (now (pointers .exit))) ⌝ }
 {
     let mut at = [0u16; 2048];

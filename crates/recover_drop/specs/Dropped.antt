@@ -1,6 +1,6 @@
 -- The resets of the segments that do not remain, by flags (01, Restart, 4). Assumes nothing.
 use Prim.Native.Nat.{ℕ, _<_}
-use Rattle.spec.specs.Drives.{Store, resetStores, seg, sameSeg}
+use Rattle.spec.specs.Drives.{Store, resetStores, sameSeg, across}
 use Rattle.spec.specs.Lists.{below, any, consIf, keep, flat}
 use Rattle.spec.specs.Restart.{freeSegs, dropStores}
 use Rattle.spec.specs.Segments.{Segment}
@@ -15,7 +15,7 @@ use mathlib.Core.Path.{_≡_, refl, sym, ap, _∙_}
 
 -- segment g, if it is not flagged
 unfoldable pub droppedOne : Params → List Bool → ℕ → List Store
-droppedOne p flags g = cond (getD flags g false) [] (resetStores p (seg g))
+droppedOne p flags g = cond (getD flags g false) [] (resetStores p (across p g))
 
 -- 01, Restart, 4: dropped segments are reset; the flags say which remain
 unfoldable pub droppedBy : Params → List Bool → List Store
@@ -23,11 +23,11 @@ droppedBy p flags = flat (droppedOne p flags) (below (p .Z))
 
 pub one-kept : (p : Params) (flags : List Bool) (g : ℕ) → getD flags g false ≡ true → droppedOne p flags g ≡ []
 unfolding droppedOne
-one-kept p flags g e = ap (λ (b : Bool). cond b [] (resetStores p (seg g))) e
+one-kept p flags g e = ap (λ (b : Bool). cond b [] (resetStores p (across p g))) e
 
-pub one-dropped : (p : Params) (flags : List Bool) (g : ℕ) → getD flags g false ≡ false → droppedOne p flags g ≡ resetStores p (seg g)
+pub one-dropped : (p : Params) (flags : List Bool) (g : ℕ) → getD flags g false ≡ false → droppedOne p flags g ≡ resetStores p (across p g)
 unfolding droppedOne
-one-dropped p flags g e = ap (λ (b : Bool). cond b [] (resetStores p (seg g))) e
+one-dropped p flags g e = ap (λ (b : Bool). cond b [] (resetStores p (across p g))) e
 
 -- those that fail a test, one after the other
 flat-keep : {A : Type 0} (q : ℕ → Bool) (f : ℕ → List A) (l : List ℕ) → flat f (keep (λ z. not (q z)) l) ≡ flat (λ z. cond (q z) [] (f z)) l
@@ -41,11 +41,11 @@ flat-keep q f (z ∷ l) = go (q z) (flat-keep q f l)
     go false ih = ap (λ (x : List _). f z ++ x) ih
 
 -- flags that say which segments remain
-pub dropped-are : (p : Params) (gs : List Segment) (flags : List Bool) → ((g : ℕ) → g < p .Z → getD flags g false ≡ any (λ (x : Segment). sameSeg (x .seg) (seg g)) gs)
+pub dropped-are : (p : Params) (gs : List Segment) (flags : List Bool) → ((g : ℕ) → g < p .Z → getD flags g false ≡ any (λ (x : Segment). sameSeg (x .seg) (across p g)) gs)
     → droppedBy p flags ≡ dropStores p gs
 unfolding droppedBy droppedOne dropStores freeSegs
 dropped-are p gs flags h =
-    let free : ℕ → Bool = λ z. not (any (λ (x : Segment). sameSeg (x .seg) (seg z)) gs) in
-    sym (flat-keep (λ g. getD flags g false) (λ g. resetStores p (seg g)) (below (p .Z)))
-    ∙ ap (flat (λ g. resetStores p (seg g))) (keep-below-same (λ g. not (getD flags g false)) free (p .Z) (λ g hg. ap not (h g hg)))
-    ∙ sym (ap (flat (resetStores p)) (keep-segs p (λ z. not (any (λ (x : Segment). sameSeg (x .seg) z) gs))) ∙ flat-map (resetStores p) seg (keep free (below (p .Z))))
+    let free : ℕ → Bool = λ z. not (any (λ (x : Segment). sameSeg (x .seg) (across p z)) gs) in
+    sym (flat-keep (λ g. getD flags g false) (λ g. resetStores p (across p g)) (below (p .Z)))
+    ∙ ap (flat (λ g. resetStores p (across p g))) (keep-below-same (λ g. not (getD flags g false)) free (p .Z) (λ g hg. ap not (h g hg)))
+    ∙ sym (ap (flat (resetStores p)) (keep-segs p (λ z. not (any (λ (x : Segment). sameSeg (x .seg) z) gs))) ∙ flat-map (resetStores p) (across p) (keep free (below (p .Z))))

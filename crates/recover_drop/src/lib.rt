@@ -12,18 +12,18 @@ use disk_zones::Made;
 use spec::Params;
 
 // One segment: reset, if it does not remain.
-fn drop_one(p: Params, pointers: &mut [u8], kept: &[bool], segment: usize, count: u64) -> Made
+fn drop_one(p: Params, pointers: &mut [u8], kept: &[bool], g: usize, count: u64) -> Made
     requires { ⌜ inRange p ≡ true ⌝ }
-    requires { ⌜ (length (now pointers) ≡ pointersLen p) × (p .Z ≤ length (now kept)) × (segment < p .Z) ⌝ }
-    ensures { λ r. ⌜ ((im : List ℕ) → Storing p count (droppedOne p (now (kept .entry)) segment) (mkDisk im (now (pointers .entry))) r (mkDisk im (now (pointers .exit)))) ⌝ }
+    requires { ⌜ (length (now pointers) ≡ pointersLen p) × (p .Z ≤ length (now kept)) × (g < p .Z) ⌝ }
+    ensures { λ r. ⌜ ((im : List ℕ) → Storing p count (droppedOne p (now (kept .entry)) g) (mkDisk im (now (pointers .entry))) r (mkDisk im (now (pointers .exit)))) ⌝ }
 {
-    if kept[segment] {
+    if kept[g] {
         return Made {
             left: count,
             cut: false,
         };
     }
-    disk_zones::reset_stores(p, pointers, segment, count)
+    disk_zones::reset_stores(p, pointers, disk_shape::across(p, g), count)
 }
 
 // 01, Restart, 4: the segments that do not remain are reset, under a store count; the image is left as it is.

@@ -1,6 +1,6 @@
 -- Missing footers, drive by drive (01, Restart, 4). Assumes nothing.
 use Prim.Native.Nat.{ℕ, _+_, _-_, _≤_, _<_}
-use Rattle.spec.specs.Drives.{Zone, noZone, View, zoneAt, pointerAt, Store, Disk, pointerOf, zoneOn, footerStores, Seg}
+use Rattle.spec.specs.Drives.{Zone, noZone, View, zoneAt, pointerAt, Store, Disk, pointerOf, zoneOn, footerStores}
 use Rattle.spec.specs.Faults.{footersStored}
 use Rattle.spec.specs.Lists.{upFrom, below, flat}
 use Rattle.spec.specs.Params.{footers, capacity, drivesOf}
@@ -9,7 +9,6 @@ use Rattle.spec.specs.Segments.{Segment, segmentOf}
 use Rattle.spec.specs.declared.Params.{Params}
 use Rattle.recover_drop.specs.Going.{owes-cut, owes-done, Going, going-start, going-as, going-turn, going-kept, flat-step, flat-end, flat-start}
 use Rattle.law_basic.specs.Geometry.{Ranged}
-use Rattle.law_basic.specs.Segs.{Named, zone-on-lt}
 use Rattle.law_drives.specs.Footers.{footerChunks, footer-puts}
 use Rattle.law_drives.specs.Puts.{putAt, hits-puts}
 use Rattle.law_drives.specs.Segs.{zone-by, seg-is}
@@ -25,6 +24,8 @@ use mathlib.Core.Bool.{Bool, true, false, _&&_}
 use mathlib.Core.List.{List, [], _++_, map}
 use mathlib.Core.Path.{_≡_, refl, sym, ap, ap₂, _∙_, subst}
 use native.Mathlib.Omega.{arith}
+use Rattle.spec.specs.declared.Seg.{Seg}
+use Rattle.law_basic.specs.Segs.{ZonesLow, low-here}
 
 -- 01, Restart, 4: the footers that drive d lacks
 unfoldable pub missingOn : Params → Segment → ℕ → List Store
@@ -82,7 +83,7 @@ pub record FeetUpto (p : Params) (n : ℕ) (sg : Seg) (k₀ : Disk) (d left : �
   pub same : (e : ℕ) → d ≤ e → e < p .N → zoneAt (seen p k) e (zoneOn sg e) ≡ zoneAt (seen p k₀) e (zoneOn sg e)
   pub going : Going p n (missingFooters p (footFound p k₀ sg)) k₀ (flat (missingOn p (footFound p k₀ sg)) (upFrom d (p .N - d))) left k
 
-module _ (p : Params) (r : Ranged p) (n : ℕ) (sg : Seg) (hz : Named p sg) (k₀ : Disk) where
+module _ (p : Params) (r : Ranged p) (n : ℕ) (sg : Seg) (hz : ZonesLow p 0 sg) (k₀ : Disk) where
   abbrev ss : List Store
   ss = missingFooters p (footFound p k₀ sg)
 
@@ -99,7 +100,7 @@ module _ (p : Params) (r : Ranged p) (n : ℕ) (sg : Seg) (hz : Named p sg) (k�
   module _ (d left : ℕ) (k : Disk) (g : FeetUpto p n sg k₀ d left k) where
     -- the pointers of the drives to come
     pub feet-pointer : (e : ℕ) → d ≤ e → e < p .N → Whole p k₀ → pointerOf p (k .pointers) e (zoneOn sg e) ≡ pointerOf p (k₀ .pointers) e (zoneOn sg e)
-    feet-pointer e h l w = sym (pointer-view p k e (zoneOn sg e) l (zone-on-lt p sg e hz) (g .going .whole)) ∙ as! ∙ pointer-view p k₀ e (zoneOn sg e) l (zone-on-lt p sg e hz) w
+    feet-pointer e h l w = sym (pointer-view p k e (zoneOn sg e) l (low-here p sg e hz l) (g .going .whole)) ∙ as! ∙ pointer-view p k₀ e (zoneOn sg e) l (low-here p sg e hz l) w
       where
         as! : pointerAt (seen p k) e (zoneOn sg e) ≡ pointerAt (seen p k₀) e (zoneOn sg e)
         as! = unfold pointerAt in ap (λ (q : Zone). q .pointer) (g .same e h l)
@@ -127,7 +128,7 @@ module _ (p : Params) (r : Ranged p) (n : ℕ) (sg : Seg) (hz : Named p sg) (k�
       feet-turn c = record {
         up-to = omega arith;
         same =
-            λ e h j. going-kept p r n ss k₀ (each d) rest left k m k′ drive-feet-step this c e (zoneOn sg e) j (zone-on-lt p sg e hz) (apart e (λ q. let bad : ⊥ = omega arith in bad))
+            λ e h j. going-kept p r n ss k₀ (each d) rest left k m k′ drive-feet-step this c e (zoneOn sg e) j (low-here p sg e hz j) (apart e (λ q. let bad : ⊥ = omega arith in bad))
             ∙ g .same e (omega arith) j;
         going = going-turn p r n ss k₀ (each d) rest left k m k′ drive-feet-step this c;
       }

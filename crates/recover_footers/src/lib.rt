@@ -2,15 +2,17 @@
 ghost use mathlib.Core.Path.{_≡_};
 ghost use mathlib.Core.Bool.{true};
 ghost use Prim.Native.Nat.{ℕ, _+_, _-_, _≤_, _<_};
-ghost use Rattle.spec.specs.Drives.{viewOf, zoneAt, mkDisk, pointerOf, footerStores, seg, zoneOn};
+ghost use Rattle.spec.specs.Drives.{viewOf, zoneAt, mkDisk, pointerOf, footerStores, zoneOn};
 ghost use Rattle.spec.specs.Faults.{footersStored};
 ghost use Rattle.spec.specs.Params.{inRange, footers, capacity};
 ghost use Rattle.spec.specs.Restart.{missingFooters};
 ghost use Rattle.spec.specs.Segments.{segmentOf};
 ghost use Rattle.law_views.specs.Views.{Whole, AllFit};
 ghost use Rattle.disk_zones.specs.Made.{Storing};
+ghost use Rattle.law_basic.specs.Segs.{ZonesLow};
 use disk_zones::Made;
 use spec::Params;
+use spec::Seg;
 
 // 01, Restart, 4: the footers that a drive lacks.
 fn missing_on(
@@ -40,22 +42,29 @@ pub fn missing_footers(
     p: Params,
     image: &mut [u8],
     pointers: &mut [u8],
-    segment: usize,
+    segment: Seg,
     count: u64,
 ) -> Made
     requires { ⌜ inRange p ≡ true ⌝ }
     requires { ⌜ Whole p (mkDisk (now image) (now pointers)) ⌝ }
-    requires { ⌜ (segment < p .Z) × ((d : ℕ) → d < p .N → (1 + p .S ≤ pointerOf p (now pointers) d (zoneOn (seg segment) d))
-        × (pointerOf p (now pointers) d (zoneOn (seg segment) d) ≤ capacity p)) ⌝ }
-    requires { ⌜ AllFit p (viewOf p (now image) (now pointers)) (missingFooters p (segmentOf p (viewOf p (now image) (now pointers)) 0 (seg segment))) ⌝ }
+    requires { ⌜ ZonesLow p 0 segment × ((d : ℕ) → d < p .N → (1 + p .S ≤ pointerOf p (now pointers) d (zoneOn segment d))
+        × (pointerOf p (now pointers) d (zoneOn segment d) ≤ capacity p)) ⌝ }
+    requires { ⌜ AllFit p (viewOf p (now image) (now pointers)) (missingFooters p (segmentOf p (viewOf p (now image) (now pointers)) 0 segment)) ⌝ }
     ensures { λ r. ⌜
-        Storing p count (missingFooters p (segmentOf p (viewOf p (now (image .entry)) (now (pointers .entry))) 0 (seg segment)))
+        Storing p count (missingFooters p (segmentOf p (viewOf p (now (image .entry)) (now (pointers .entry))) 0 segment))
         (mkDisk (now (image .entry)) (now (pointers .entry))) r (mkDisk (now (image .exit)) (now (pointers .exit))) ⌝ }
 {
     let mut left = count;
     let mut d = 0;
     while d < p.N {
-        let made = missing_on(p, image, pointers, d, disk_shape::zone_on(segment, d), left);
+        let made = missing_on(
+            p,
+            image,
+            pointers,
+            d,
+            disk_shape::zone_on(p, segment, d),
+            left,
+        );
         if made.cut {
             return made;
         }

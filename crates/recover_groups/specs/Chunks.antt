@@ -12,7 +12,7 @@ use lib.Dec.{leb, ltb, eqb}
 use lib.ListN.{List·getD-eq-default, length-map, length, getD, take, drop, drop-of-length-le}
 use lib.Seq.{getD-take, getD-drop}
 use Rattle.spec.specs.declared.Params.{Params}
-use Rattle.spec.specs.Drives.{Zone, noZone, View, zoneAt, pointerAt, zoneOn, sealedIn, dataStored, recordIn, Seg}
+use Rattle.spec.specs.Drives.{Zone, noZone, View, zoneAt, pointerAt, zoneOn, sealedIn, dataStored, recordIn}
 use Rattle.spec.specs.Faults.{outside, twice, stripeFault, storedBad}
 use Rattle.spec.specs.Layout.{inGroupOf, Rec, mkRec}
 use Rattle.spec.specs.Lists.{below, all, any, consIf, keep, sucUnless, indexOf, isIn}
@@ -28,6 +28,7 @@ use Rattle.law_drives.specs.Tests.{and-false-right, or-first, or-right, not-so,
 use Rattle.recover_groups.specs.Bases.{group-len-le, group-of, group-back, base-is, in-group}
 use Rattle.recover_groups.specs.Faulty.{stripe-group, length-group}
 use Rattle.recover_groups.specs.Groups.{groupLen, groupRecs, recsBad, recsFault, Indexed, Entered, AllEntered, entryOf, Row}
+use Rattle.spec.specs.declared.Seg.{Seg}
 
 -- ---- how many have a chunk
 

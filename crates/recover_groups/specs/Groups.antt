@@ -6,7 +6,7 @@ use Prim.Native.Nat.{ℕ, _+_, _-_, _*_, _/_, min, _≤_, _<_}
 use lib.Dec.{eqb}
 use lib.ListN.{length, getD, take, drop}
 use Rattle.spec.specs.declared.Params.{Params}
-use Rattle.spec.specs.Drives.{viewOf, sealedIn, seg}
+use Rattle.spec.specs.Drives.{viewOf, sealedIn}
 use Rattle.spec.specs.Faults.{outside, twice, storedBad}
 use Rattle.spec.specs.Layout.{Rec}
 use Rattle.spec.specs.Lists.{below, any, indexOf, isIn}
@@ -59,12 +59,12 @@ AllEntered p gone base at k = (d : ℕ) → d < p .N → isIn gone d ≡ false �
 
 -- the segment of a group, as image and pointers show it
 abbrev pub segmentIn : Params → List ℕ → List ℕ → Group → Segment
-segmentIn p im ps w = segmentOf p (viewOf p im ps) (w .gone) (seg (w .seg))
+segmentIn p im ps w = segmentOf p (viewOf p im ps) (w .gone) (w .seg)
 
 -- the group is as image and pointers show it, and the index is the group's
 pub record GroupReads (p : Params) (im ps : List ℕ) (w : Group) (at : List ℕ) : Type 0 where
   pub long : length ps ≡ pointersLen p
-  pub full-right : w .full ≡ sealedIn p (viewOf p im ps) (w .gone) (seg (w .seg))
+  pub full-right : w .full ≡ sealedIn p (viewOf p im ps) (w .gone) (w .seg)
   pub indexed : Indexed p (segmentIn p im ps w) (w .base) at
 
 -- the entry of stripe s, of the records of its group: the index of its record + 1, or 0

@@ -7,7 +7,7 @@ ghost use lib.Bits.{bitXor};
 ghost use lib.Dec.{eqb};
 ghost use lib.ListN.{length, getD, set};
 ghost use Rattle.spec.specs.Bytes.{part, xors};
-ghost use Rattle.spec.specs.Drives.{viewOf, mkDisk, sealedIn, zoneAt, recordIn, seg};
+ghost use Rattle.spec.specs.Drives.{viewOf, mkDisk, sealedIn, zoneAt, recordIn, zoneOn};
 ghost use Rattle.spec.specs.Faults.{badRec, storedBad};
 ghost use Rattle.spec.specs.declared.Params.{Params};
 ghost use Rattle.spec.specs.Lists.{keep, isIn};
@@ -18,15 +18,17 @@ ghost use Rattle.disk_records.specs.Record.{recVal};
 ghost use Rattle.law_views.specs.Views.{Whole};
 ghost use Rattle.recover_groups.specs.Groups.{groupLen, groupRecs, recsBad, groupFault, recsFault, Indexed, Entered, AllEntered, segmentIn, GroupReads, Row, SameBelow};
 ghost use Rattle.recover_groups.specs.Entering.{isNew};
+ghost use Rattle.law_basic.specs.Segs.{ZonesLow};
 use disk_records::Record;
 use spec::Address;
 use spec::Params;
+use spec::Seg;
 use spec::Stamp;
 
 // A group of a segment as read: the missing drives, the segment, sealed or not, the group's first stripe.
 pub struct Group {
     pub gone: u8,
-    pub seg: usize,
+    pub seg: Seg,
     pub full: bool,
     pub base: usize,
 }
@@ -108,12 +110,12 @@ fn enter(p: Params, at: &mut [u16], drive: usize, base: usize, s: usize, v: usiz
 // How many data blocks of the group lie below the drive's pointer.
 pub fn group_stored(p: Params, pointers: &[u8], w: Group, drive: usize) -> usize
     requires { ⌜ inRange p ≡ true ⌝ }
-    requires { ⌜ (length (now pointers) ≡ pointersLen p) × (drive < p .N) × (w .seg < p .Z) × (w .base < p .S) ⌝ }
+    requires { ⌜ (length (now pointers) ≡ pointersLen p) × (drive < p .N) × (zoneOn (w .seg) drive < p .Z) × (w .base < p .S) ⌝ }
     ensures { λ r. ⌜ ((im : List ℕ) → length im ≡ imageLen p → isIn (w .gone) drive ≡ false
         → r ≡ length (groupRecs p (w .base) (recsOn (segmentIn p im (now (pointers .entry)) w) drive))) ⌝ }
     ensures { λ r. ⌜ r ≤ groupLen p (w .base) ⌝ }
 {
-    let n = disk_stored::data_stored(p, pointers, drive, disk_shape::zone_on(w.seg, drive));
+    let n = disk_stored::data_stored(p, pointers, drive, disk_shape::zone_on(p, w.seg, drive));
     let len = group_len(p, w.base);
     if n < w.base {
         return 0;
@@ -155,8 +157,8 @@ fn index_drive(
 ) -> bool
     requires { ⌜ inRange p ≡ true ⌝ }
     requires { ⌜ Whole p (mkDisk (now image) (now pointers)) ⌝ }
-    requires { ⌜ (length (now at) ≡ 2048) × (drive < p .N) × (w .seg < p .Z) × (w .base < p .S) × (w .base % p .G ≡ 0) × (isIn (w .gone) drive ≡ false) ⌝ }
-    requires { ⌜ w .full ≡ sealedIn p (viewOf p (now image) (now pointers)) (w .gone) (seg (w .seg)) ⌝ }
+    requires { ⌜ (length (now at) ≡ 2048) × (drive < p .N) × ZonesLow p (w .gone) (w .seg) × (w .base < p .S) × (w .base % p .G ≡ 0) × (isIn (w .gone) drive ≡ false) ⌝ }
+    requires { ⌜ w .full ≡ sealedIn p (viewOf p (now image) (now pointers)) (w .gone) (w .seg) ⌝ }
     requires { ⌜ ((k : ℕ) → k < groupLen p (w .base) → getD (now at) (256 * drive + k) 0 ≡ 0) ⌝ }
     ensures { λ r. ⌜ r ≡ not (recsBad p drive (w .base) (groupRecs p (w .base) (recsOn (segmentIn p (now (image .entry)) (now (pointers .entry)) w) drive))) ⌝ }
     ensures { λ _. ⌜ SameBelow drive (now (at .entry)) (now (at .exit)) ⌝ }
@@ -164,7 +166,7 @@ fn index_drive(
 {
     let n = group_stored(p, pointers, w, drive);
     let base = w.base;
-    let zone = disk_shape::zone_on(w.seg, drive);
+    let zone = disk_shape::zone_on(p, w.seg, drive);
     let mut i = 0;
     while i < n {
         let r = record_of(p, image, w.full, drive, zone, base + i);
@@ -190,8 +192,8 @@ fn index_any(
 ) -> bool
     requires { ⌜ inRange p ≡ true ⌝ }
     requires { ⌜ Whole p (mkDisk (now image) (now pointers)) ⌝ }
-    requires { ⌜ (length (now at) ≡ 2048) × (drive < p .N) × (w .seg < p .Z) × (w .base < p .S) × (w .base % p .G ≡ 0) ⌝ }
-    requires { ⌜ w .full ≡ sealedIn p (viewOf p (now image) (now pointers)) (w .gone) (seg (w .seg)) ⌝ }
+    requires { ⌜ (length (now at) ≡ 2048) × (drive < p .N) × ZonesLow p (w .gone) (w .seg) × (w .base < p .S) × (w .base % p .G ≡ 0) ⌝ }
+    requires { ⌜ w .full ≡ sealedIn p (viewOf p (now image) (now pointers)) (w .gone) (w .seg) ⌝ }
     ensures { λ r. ⌜ r ≡ (isIn (w .gone) drive || not (recsBad p drive (w .base) (groupRecs p (w .base) (recsOn (segmentIn p (now (image .entry)) (now (pointers .entry)) w) drive)))) ⌝ }
     ensures { λ _. ⌜ SameBelow drive (now (at .entry)) (now (at .exit)) ⌝ }
     ensures { λ r. ⌜ (r ≡ true → Row p (w .base) (groupRecs p (w .base) (recsOn (segmentIn p (now (image .entry)) (now (pointers .entry)) w) drive)) drive (now (at .exit))) ⌝ }
@@ -207,8 +209,8 @@ fn index_any(
 pub fn index_group(p: Params, image: &[u8], pointers: &[u8], w: Group, at: &mut [u16]) -> bool
     requires { ⌜ inRange p ≡ true ⌝ }
     requires { ⌜ Whole p (mkDisk (now image) (now pointers)) ⌝ }
-    requires { ⌜ (length (now at) ≡ 2048) × (w .seg < p .Z) × (w .base < p .S) × (w .base % p .G ≡ 0) ⌝ }
-    requires { ⌜ w .full ≡ sealedIn p (viewOf p (now image) (now pointers)) (w .gone) (seg (w .seg)) ⌝ }
+    requires { ⌜ (length (now at) ≡ 2048) × ZonesLow p (w .gone) (w .seg) × (w .base < p .S) × (w .base % p .G ≡ 0) ⌝ }
+    requires { ⌜ w .full ≡ sealedIn p (viewOf p (now image) (now pointers)) (w .gone) (w .seg) ⌝ }
     ensures { λ r. ⌜ r ≡ not (groupFault p (w .gone) (segmentIn p (now (image .entry)) (now (pointers .entry)) w) (w .base)) ⌝ }
     ensures { λ _. ⌜
         (recsFault p (w .gone) (segmentIn p (now (image .entry)) (now (pointers .entry)) w) ≡ false
@@ -306,18 +308,18 @@ pub fn offset_of(w: Group, at: &[u16], drive: usize, k: usize) -> usize
 // The record of the stripe's chunk on a drive that has it.
 pub fn stored_rec(p: Params, image: &[u8], w: Group, at: &[u16], drive: usize, k: usize) -> Record
     requires { ⌜ inRange p ≡ true ⌝ }
-    requires { ⌜ (length (now image) ≡ imageLen p) × (length (now at) ≡ 2048) × (w .seg < p .Z) × (w .base < p .S) × (drive < p .N) × (k < groupLen p (w .base)) ⌝ }
+    requires { ⌜ (length (now image) ≡ imageLen p) × (length (now at) ≡ 2048) × (zoneOn (w .seg) drive < p .Z) × (w .base < p .S) × (drive < p .N) × (k < groupLen p (w .base)) ⌝ }
     requires { ⌜ Entered p (w .base) (now at) drive k ⌝ }
     ensures { λ r. ⌜ ((ps : List ℕ) → GroupReads p (now (image .entry)) ps w (now (at .entry)) → recVal r ≡ storedRec (segmentIn p (now (image .entry)) ps w) (w .base + k) drive) ⌝ }
 {
-    let zone = disk_shape::zone_on(w.seg, drive);
+    let zone = disk_shape::zone_on(p, w.seg, drive);
     disk_stored::record_in(p, image, w.full, drive, zone, offset_on(w, at, drive, k))
 }
 
 // The same; zeros for a missing drive.
 fn present_rec(p: Params, image: &[u8], w: Group, at: &[u16], drive: usize, k: usize) -> Record
     requires { ⌜ inRange p ≡ true ⌝ }
-    requires { ⌜ (length (now image) ≡ imageLen p) × (length (now at) ≡ 2048) × (w .seg < p .Z) × (w .base < p .S) × (drive < p .N) × (k < groupLen p (w .base)) ⌝ }
+    requires { ⌜ (length (now image) ≡ imageLen p) × (length (now at) ≡ 2048) × ZonesLow p (w .gone) (w .seg) × (w .base < p .S) × (drive < p .N) × (k < groupLen p (w .base)) ⌝ }
     requires { ⌜ AllEntered p (w .gone) (w .base) (now at) k ⌝ }
     ensures { λ r. ⌜
         ((ps : List ℕ)
@@ -338,7 +340,7 @@ fn present_rec(p: Params, image: &[u8], w: Group, at: &[u16], drive: usize, k: u
 // 01, Read and Rebuild: the record that a missing drive has of a counted stripe, decoded from the present drives' ones.
 pub fn lost_rec(p: Params, image: &[u8], w: Group, at: &[u16], drive: usize, k: usize) -> Record
     requires { ⌜ inRange p ≡ true ⌝ }
-    requires { ⌜ (length (now image) ≡ imageLen p) × (length (now at) ≡ 2048) × (w .seg < p .Z) × (w .base < p .S) × (drive < p .N) × (k < groupLen p (w .base)) ⌝ }
+    requires { ⌜ (length (now image) ≡ imageLen p) × (length (now at) ≡ 2048) × ZonesLow p (w .gone) (w .seg) × (w .base < p .S) × (drive < p .N) × (k < groupLen p (w .base)) ⌝ }
     requires { ⌜ AllEntered p (w .gone) (w .base) (now at) k ⌝ }
     ensures { λ r. ⌜
         ((ps : List ℕ)
@@ -372,7 +374,7 @@ pub fn xor_rec(r: Record, q: Record) -> Record
 // 01, Restart, 3: the record of a counted stripe on a drive, stored or decoded.
 pub fn rec_of(p: Params, image: &[u8], w: Group, at: &[u16], drive: usize, k: usize) -> Record
     requires { ⌜ inRange p ≡ true ⌝ }
-    requires { ⌜ (length (now image) ≡ imageLen p) × (length (now at) ≡ 2048) × (w .seg < p .Z) × (w .base < p .S) × (drive < p .N) × (k < groupLen p (w .base)) ⌝ }
+    requires { ⌜ (length (now image) ≡ imageLen p) × (length (now at) ≡ 2048) × ZonesLow p (w .gone) (w .seg) × (w .base < p .S) × (drive < p .N) × (k < groupLen p (w .base)) ⌝ }
     requires { ⌜ AllEntered p (w .gone) (w .base) (now at) k ⌝ }
     ensures { λ r. ⌜ ((ps : List ℕ) → GroupReads p (now (image .entry)) ps w (now (at .entry))
         → recVal r ≡ recOf p (w .gone) (segmentIn p (now (image .entry)) ps w) (w .base + k) drive) ⌝ }
@@ -386,7 +388,7 @@ pub fn rec_of(p: Params, image: &[u8], w: Group, at: &[u16], drive: usize, k: us
 // Byte offset of the block of the stripe's chunk on a drive that has it.
 pub fn block_at(p: Params, w: Group, at: &[u16], drive: usize, k: usize) -> usize
     requires { ⌜ inRange p ≡ true ⌝ }
-    requires { ⌜ (length (now at) ≡ 2048) × (w .seg < p .Z) × (w .base < p .S) × (drive < p .N) × (k < groupLen p (w .base)) ⌝ }
+    requires { ⌜ (length (now at) ≡ 2048) × (zoneOn (w .seg) drive < p .Z) × (w .base < p .S) × (drive < p .N) × (k < groupLen p (w .base)) ⌝ }
     requires { ⌜ Entered p (w .base) (now at) drive k ⌝ }
     ensures { λ r. ⌜ r + p .B ≤ imageLen p ⌝ }
     ensures { λ r. ⌜
@@ -395,7 +397,7 @@ pub fn block_at(p: Params, w: Group, at: &[u16], drive: usize, k: usize) -> usiz
         → GroupReads p im ps w (now (at .entry))
         → storedPiece (segmentIn p im ps w) (w .base + k) drive .block ≡ part r (p .B) im) ⌝ }
 {
-    let zone = disk_shape::zone_on(w.seg, drive);
+    let zone = disk_shape::zone_on(p, w.seg, drive);
     disk_shape::block_byte(p, drive, zone, 1 + offset_on(w, at, drive, k))
 }
 
@@ -410,7 +412,7 @@ pub fn xor_block(
     block: &mut [u8],
 )
     requires { ⌜ inRange p ≡ true ⌝ }
-    requires { ⌜ (length (now image) ≡ imageLen p) × (length (now at) ≡ 2048) × (w .seg < p .Z) × (w .base < p .S) × (drive < p .N) × (k < groupLen p (w .base))
+    requires { ⌜ (length (now image) ≡ imageLen p) × (length (now at) ≡ 2048) × (zoneOn (w .seg) drive < p .Z) × (w .base < p .S) × (drive < p .N) × (k < groupLen p (w .base))
         × (length (now block) ≡ p .B) ⌝ }
     requires { ⌜ Entered p (w .base) (now at) drive k ⌝ }
     ensures { λ _. ⌜
@@ -418,7 +420,7 @@ pub fn xor_block(
         → GroupReads p (now (image .entry)) ps w (now (at .entry))
         → now (block .exit) ≡ xors (now (block .entry)) (storedPiece (segmentIn p (now (image .entry)) ps w) (w .base + k) drive .block)) ⌝ }
 {
-    let zone = disk_shape::zone_on(w.seg, drive);
+    let zone = disk_shape::zone_on(p, w.seg, drive);
     let a = disk_shape::block_byte(p, drive, zone, 1 + offset_on(w, at, drive, k));
     let e = a + p.B;
     disk_blocks::xor_into(block, &image[a..e]);
@@ -435,13 +437,13 @@ pub fn copy_block(
     block: &mut [u8],
 )
     requires { ⌜ inRange p ≡ true ⌝ }
-    requires { ⌜ (length (now image) ≡ imageLen p) × (length (now at) ≡ 2048) × (w .seg < p .Z) × (w .base < p .S) × (drive < p .N) × (k < groupLen p (w .base))
+    requires { ⌜ (length (now image) ≡ imageLen p) × (length (now at) ≡ 2048) × (zoneOn (w .seg) drive < p .Z) × (w .base < p .S) × (drive < p .N) × (k < groupLen p (w .base))
         × (length (now block) ≡ p .B) ⌝ }
     requires { ⌜ Entered p (w .base) (now at) drive k ⌝ }
     ensures { λ _. ⌜ ((ps : List ℕ) → GroupReads p (now (image .entry)) ps w (now (at .entry))
         → now (block .exit) ≡ storedPiece (segmentIn p (now (image .entry)) ps w) (w .base + k) drive .block) ⌝ }
 {
-    let zone = disk_shape::zone_on(w.seg, drive);
+    let zone = disk_shape::zone_on(p, w.seg, drive);
     let a = disk_shape::block_byte(p, drive, zone, 1 + offset_on(w, at, drive, k));
     let e = a + p.B;
     disk_blocks::copy(block, &image[a..e]);
@@ -450,7 +452,7 @@ pub fn copy_block(
 // Byte offset of the block of the stripe's chunk on a drive; 0 for a missing one.
 fn present_block(p: Params, w: Group, at: &[u16], drive: usize, k: usize) -> usize
     requires { ⌜ inRange p ≡ true ⌝ }
-    requires { ⌜ (length (now at) ≡ 2048) × (w .seg < p .Z) × (w .base < p .S) × (drive < p .N) × (k < groupLen p (w .base)) ⌝ }
+    requires { ⌜ (length (now at) ≡ 2048) × ZonesLow p (w .gone) (w .seg) × (w .base < p .S) × (drive < p .N) × (k < groupLen p (w .base)) ⌝ }
     requires { ⌜ AllEntered p (w .gone) (w .base) (now at) k ⌝ }
     ensures { λ r. ⌜ (isIn (w .gone) drive ≡ false → r + p .B ≤ imageLen p) ⌝ }
     ensures { λ r. ⌜
@@ -477,7 +479,7 @@ pub fn lost_block(
     block: &mut [u8],
 )
     requires { ⌜ inRange p ≡ true ⌝ }
-    requires { ⌜ (length (now image) ≡ imageLen p) × (length (now at) ≡ 2048) × (w .seg < p .Z) × (w .base < p .S) × (drive < p .N) × (k < groupLen p (w .base))
+    requires { ⌜ (length (now image) ≡ imageLen p) × (length (now at) ≡ 2048) × ZonesLow p (w .gone) (w .seg) × (w .base < p .S) × (drive < p .N) × (k < groupLen p (w .base))
         × (length (now block) ≡ p .B) ⌝ }
     requires { ⌜ AllEntered p (w .gone) (w .base) (now at) k ⌝ }
     ensures { λ _. ⌜

@@ -5,7 +5,7 @@ ghost use mathlib.Core.List.{List};
 ghost use Prim.Native.Nat.{ℕ, _+_, _≤_, _<_};
 ghost use lib.Dec.{ltb};
 ghost use lib.ListN.{length, getD};
-ghost use Rattle.spec.specs.Drives.{noZone, viewOf, zoneAt, mkDisk, pointerOf, zoneOn, seg};
+ghost use Rattle.spec.specs.Drives.{noZone, viewOf, zoneAt, mkDisk, pointerOf, zoneOn, across};
 ghost use Rattle.spec.specs.Faults.{pointerFaults, headerFault, serialFault, footerFaultIn};
 ghost use Rattle.spec.specs.Lists.{firstOr, any, isIn};
 ghost use Rattle.spec.specs.Params.{inRange, footers, capacity, imageLen, pointersLen, present};
@@ -13,7 +13,9 @@ ghost use Rattle.spec.specs.Segments.{segmentOf, segments};
 ghost use Rattle.recover_segments.specs.Remains.{Keeps, Serials};
 ghost use Rattle.law_views.specs.Views.{Whole};
 ghost use Rattle.recover_headers.specs.Fronts.{aboveBy, headerOff, footerOff};
+ghost use Rattle.law_basic.specs.Segs.{ZonesLow};
 use spec::Params;
+use spec::Seg;
 use spec::Serial;
 
 // ---- pointers
@@ -71,21 +73,21 @@ fn header_differs(
     image: &[u8],
     gone: u8,
     drive: usize,
-    segment: usize,
+    segment: Seg,
     serial: Serial,
     copied: Serial,
 ) -> bool
     requires { ⌜ inRange p ≡ true ⌝ }
-    requires { ⌜ (length (now image) ≡ imageLen p) × (drive < p .N) × (segment < p .Z) ⌝ }
-    ensures { λ r. ⌜ r ≡ (not (isIn gone drive) && headerOff p (now (image .entry)) (seg segment) (serial .0) (copied .0) drive) ⌝ }
+    requires { ⌜ (length (now image) ≡ imageLen p) × (drive < p .N) × ZonesLow p gone segment ⌝ }
+    ensures { λ r. ⌜ r ≡ (not (isIn gone drive) && headerOff p (now (image .entry)) segment (serial .0) (copied .0) drive) ⌝ }
 {
     if bits_masks::has_drive(gone, drive) {
         return false;
     }
-    let zone = disk_shape::zone_on(segment, drive);
+    let zone = disk_shape::zone_on(p, segment, drive);
     let a = disk_shape::block_byte(p, drive, zone, 0);
     let e = a + disk_shape::unit_len(p);
-    !disk_records::is_header(&image[a..e], p, drive, zone, serial, copied)
+    !disk_records::is_header(&image[a..e], p, drive, segment, serial, copied)
 }
 
 // 01, Refusals, 9: some present drive's header is not as it should be; the serials are those of the lowest present drive's.
@@ -93,18 +95,18 @@ fn header_fault(
     p: Params,
     image: &[u8],
     gone: u8,
-    segment: usize,
+    segment: Seg,
     serial: Serial,
     copied: Serial,
 ) -> bool
     requires { ⌜ inRange p ≡ true ⌝ }
-    requires { ⌜ (length (now image) ≡ imageLen p) × (segment < p .Z) ⌝ }
+    requires { ⌜ (length (now image) ≡ imageLen p) × ZonesLow p gone segment ⌝ }
     ensures { λ r. ⌜
         ((ps : List ℕ)
         → length ps ≡ pointersLen p
-        → serial .0 ≡ segmentOf p (viewOf p (now (image .entry)) ps) gone (seg segment) .serial
-        → copied .0 ≡ segmentOf p (viewOf p (now (image .entry)) ps) gone (seg segment) .copied
-        → r ≡ headerFault p gone (segmentOf p (viewOf p (now (image .entry)) ps) gone (seg segment))) ⌝ }
+        → serial .0 ≡ segmentOf p (viewOf p (now (image .entry)) ps) gone segment .serial
+        → copied .0 ≡ segmentOf p (viewOf p (now (image .entry)) ps) gone segment .copied
+        → r ≡ headerFault p gone (segmentOf p (viewOf p (now (image .entry)) ps) gone segment)) ⌝ }
 {
     let mut d = 0;
     while d < p.N {
@@ -132,13 +134,14 @@ pub fn front_fault(
         → length ps ≡ pointersLen p
         → Keeps p (viewOf p (now (image .entry)) ps) gone (now (kept .entry))
         → Serials p (viewOf p (now (image .entry)) ps) gone (now (serials .entry))
-        → r ≡ (headerFault p gone (segmentOf p (viewOf p (now (image .entry)) ps) gone (seg g))
-        || serialFault (segments p (viewOf p (now (image .entry)) ps) gone) (segmentOf p (viewOf p (now (image .entry)) ps) gone (seg g)))) ⌝ }
+        → r ≡ (headerFault p gone (segmentOf p (viewOf p (now (image .entry)) ps) gone (across p g))
+        || serialFault (segments p (viewOf p (now (image .entry)) ps) gone) (segmentOf p (viewOf p (now (image .entry)) ps) gone (across p g)))) ⌝ }
 {
     let serial = Serial(serials[g]);
     let low = recover_segments::low_drive(p, gone);
-    let copied = recover_segments::copied_on(p, image, low, g);
-    if header_fault(p, image, gone, g, serial, copied) {
+    let segment = disk_shape::across(p, g);
+    let copied = recover_segments::copied_on(p, image, low, segment);
+    if header_fault(p, image, gone, segment, serial, copied) {
         return true;
     }
     if serial.0 <= copied.0 {
@@ -204,26 +207,26 @@ fn drive_footer_fault(
     pointers: &[u8],
     gone: u8,
     drive: usize,
-    segment: usize,
+    segment: Seg,
 ) -> bool
     requires { ⌜ inRange p ≡ true ⌝ }
     requires { ⌜ Whole p (mkDisk (now image) (now pointers)) ⌝ }
-    requires { ⌜ (drive < p .N) × (segment < p .Z) ⌝ }
-    ensures { λ r. ⌜ r ≡ (not (isIn gone drive) && footerFaultIn p (zoneAt (viewOf p (now (image .entry)) (now (pointers .entry))) drive (zoneOn (seg segment) drive))) ⌝ }
+    requires { ⌜ (drive < p .N) × ZonesLow p gone segment ⌝ }
+    ensures { λ r. ⌜ r ≡ (not (isIn gone drive) && footerFaultIn p (zoneAt (viewOf p (now (image .entry)) (now (pointers .entry))) drive (zoneOn segment drive))) ⌝ }
 {
     if bits_masks::has_drive(gone, drive) {
         return false;
     }
-    let zone = disk_shape::zone_on(segment, drive);
+    let zone = disk_shape::zone_on(p, segment, drive);
     zone_footer_fault(p, image, pointers, drive, zone)
 }
 
 // 01, Refusals, 9: a stored footer block of a present zone of the segment is not made from its spares.
-pub fn footer_fault(p: Params, image: &[u8], pointers: &[u8], gone: u8, segment: usize) -> bool
+pub fn footer_fault(p: Params, image: &[u8], pointers: &[u8], gone: u8, segment: Seg) -> bool
     requires { ⌜ inRange p ≡ true ⌝ }
     requires { ⌜ Whole p (mkDisk (now image) (now pointers)) ⌝ }
-    requires { ⌜ segment < p .Z ⌝ }
-    ensures { λ r. ⌜ r ≡ any (λ d. footerFaultIn p (getD (segmentOf p (viewOf p (now (image .entry)) (now (pointers .entry))) gone (seg segment) .zonesBy) d noZone)) (present p gone) ⌝ }
+    requires { ⌜ ZonesLow p gone segment ⌝ }
+    ensures { λ r. ⌜ r ≡ any (λ d. footerFaultIn p (getD (segmentOf p (viewOf p (now (image .entry)) (now (pointers .entry))) gone segment .zonesBy) d noZone)) (present p gone) ⌝ }
 {
     let mut d = 0;
     while d < p.N {

@@ -1,6 +1,6 @@
 -- Counted stripes are moved into another segment: the stores that are left to do fit, and the segment that is read stays (01, Restart, 4). Assumes nothing.
 use Prim.Native.Nat.{ℕ, suc, _+_, _-_, _≤_, _<_}
-use Rattle.spec.specs.Drives.{zoneAt, Store, Disk, pointerOf, zoneOn, sealedIn, Seg, seg}
+use Rattle.spec.specs.Drives.{zoneAt, Store, Disk, pointerOf, zoneOn, sealedIn}
 use Rattle.spec.specs.Drives.Store.{put}
 use Rattle.spec.specs.Layout.{Rec, recordBytes}
 use Rattle.spec.specs.Lists.{upFrom, below}
@@ -14,7 +14,7 @@ use Rattle.recover_groups.specs.Groups.{groupLen, Indexed, segmentIn, GroupRead
 use Rattle.recover_groups.specs.declared.Group.{Group}
 use Rattle.law_basic.specs.Geometry.{Ranged}
 use Rattle.law_basic.specs.Ranges.{upFrom-step, upFrom-end, below-start, keep-miss, keep-none}
-use Rattle.law_basic.specs.Segs.{seg-other, Named, seg-named, zone-on-lt, zone-same, OtherSeg}
+use Rattle.law_basic.specs.Segs.{seg-other, Named, zone-on-lt, zone-same, OtherSeg}
 use Rattle.law_drives.specs.Puts.{hits-append, hits-drives, on-drive}
 use Rattle.law_drives.specs.Settled.{zones-sealed, zones-segment}
 use Rattle.law_drives.specs.Tests.{and-false-right, cond-false}
@@ -29,6 +29,7 @@ use mathlib.Core.List.{List, [], _∷_, _++_, map, append-nil, append-assoc}
 use mathlib.Core.Path.{_≡_, refl, sym, ap, ap₂, _∙_, subst}
 use native.Mathlib.Nat.{add-zero}
 use native.Mathlib.Omega.{arith}
+use Rattle.spec.specs.declared.Seg.{Seg}
 
 -- ---- the stores of moved stripes
 
@@ -67,7 +68,7 @@ pub stripe-misses : (p : Params) (g : Segment) (z : Seg) (s n e : ℕ) (y : Seg)
 unfolding movedStripe
 stripe-misses p g z s n e y he hz hy ne =
     hits-drives p e (zoneOn y e) (zoneOn z) (λ d. putPiece d (zoneOn z d) (movedOn p (movedPieces p g s n) n d)) hit he
-    ∙ cond-false (eqb (zoneOn z e) (zoneOn y e)) (putPiece e (zoneOn z e) (movedOn p (movedPieces p g s n) n e) ∷ []) [] (zone-same p z y e hz hy ∙ seg-other z y ne)
+    ∙ cond-false (eqb (zoneOn z e) (zoneOn y e)) (putPiece e (zoneOn z e) (movedOn p (movedPieces p g s n) n e) ∷ []) [] (zone-same p z y e he hz hy ∙ seg-other z y ne)
   where
     hit : (d : ℕ) → hitsAt e (zoneOn y e) (putPiece d (zoneOn z d) (movedOn p (movedPieces p g s n) n d)) ≡ (eqb d e && eqb (zoneOn z d) (zoneOn y e))
     hit d = unfold putPiece hitsAt in refl
@@ -79,14 +80,15 @@ moved-misses p g z (s ∷ ss) n e y he hz hy ne =
     ap (hits e (zoneOn y e)) (moved-cons p g z s ss n) ∙ hits-append e (zoneOn y e) (movedStripe p g z s n) (movedStripes p g z ss (suc n))
     ∙ ap₂ _++_ (stripe-misses p g z s n e y he hz hy ne) (moved-misses p g z ss (suc n) e y he hz hy ne)
 
-pub one-misses : (p : Params) (g : Segment) (z : Seg) (s n d e : ℕ) (y : Seg) → Named p z → Named p y → (z ≡ y → ⊥) → hits e (zoneOn y e) (movedTo p g z s n d ∷ []) ≡ []
+pub one-misses : (p : Params) (g : Segment) (z : Seg) (s n d e : ℕ) (y : Seg) → e < p .N → Named p z → Named p y → (z ≡ y → ⊥)
+    → hits e (zoneOn y e) (movedTo p g z s n d ∷ []) ≡ []
 unfolding movedTo
-one-misses p g z s n d e y hz hy ne =
+one-misses p g z s n d e y he hz hy ne =
     keep-miss (hitsAt e (zoneOn y e)) (putPiece d (zoneOn z d) (movedOn p (movedPieces p g s n) n d)) [] miss ∙ keep-none (hitsAt e (zoneOn y e))
   where
     miss : hitsAt e (zoneOn y e) (putPiece d (zoneOn z d) (movedOn p (movedPieces p g s n) n d)) ≡ false
     miss = unfold putPiece hitsAt in
-        (on-drive (zoneOn z) d e (zoneOn y e) ∙ and-false-right (eqb d e) (eqb (zoneOn z e) (zoneOn y e)) (zone-same p z y e hz hy ∙ seg-other z y ne))
+        (on-drive (zoneOn z) d e (zoneOn y e) ∙ and-false-right (eqb d e) (eqb (zoneOn z e) (zoneOn y e)) (zone-same p z y e he hz hy ∙ seg-other z y ne))
 
 -- ---- the segment that is read stays
 
@@ -127,7 +129,7 @@ module _ (p : Params) (r : Ranged p) (n : ℕ) (ss : List Store) (k₀ : Disk) (
   pub moves-sealed : sealedIn p (seen p k₀) 0 sgm ≡ sealedIn p (seen p k) 0 sgm
   moves-sealed = zones-sealed p r (seen p k₀) (seen p k) sgm (g .same)
 
-  module _ (w : Group) (ng : w .gone ≡ 0) (ws : seg (w .seg) ≡ sgm) where
+  module _ (w : Group) (ng : w .gone ≡ 0) (ws : w .seg ≡ sgm) where
     pub moves-in : segmentIn p (k₀ .image) (k₀ .pointers) w ≡ segmentIn p (k .image) (k .pointers) w
     moves-in = (λ j. segmentOf p (seen p k₀) (ng j) (ws j)) ∙ moves-found ∙ sym (λ j. segmentOf p (seen p k) (ng j) (ws j))
 
@@ -144,7 +146,7 @@ module _ (p : Params) (r : Ranged p) (n : ℕ) (ss : List Store) (k₀ : Disk) (
 -- stripe i of the group: numbers in range
 pub record MovesShown (p : Params) (w : Group) (at : List ℕ) (i : ℕ) : Type 0 where
   pub at-long : length at ≡ 2048
-  pub seg-low : w .seg < p .Z
+  pub seg-low : Named p (w .seg)
   pub base-low : w .base < p .S
   pub in-group : i < groupLen p (w .base)
   pub none-gone : w .gone ≡ 0
@@ -155,7 +157,7 @@ shown-low p w at i h = omega (arith, h .base-low, h .in-group)
 
 -- ---- one stripe, drive by drive
 
-module _ (p : Params) (r : Ranged p) (n : ℕ) (k₀ : Disk) (w : Group) (hw : w .seg < p .Z) (ng : w .gone ≡ 0) (z : Seg) (s m : ℕ) (ne : OtherSeg p z (seg (w .seg))) where
+module _ (p : Params) (r : Ranged p) (n : ℕ) (k₀ : Disk) (w : Group) (hw : Named p (w .seg)) (ng : w .gone ≡ 0) (z : Seg) (s m : ℕ) (ne : OtherSeg p z (w .seg)) where
   abbrev x : Segment
   x = segmentIn p (k₀ .image) (k₀ .pointers) w
 
@@ -165,30 +167,30 @@ module _ (p : Params) (r : Ranged p) (n : ℕ) (k₀ : Disk) (w : Group) (hw : w
   -- those from drive d on are still to be done
   abbrev pub RowMoves : ℕ → ℕ → Disk → Type 0
   RowMoves d left k =
-      Moves p n (movedStripe p (segmentIn p (k₀ .image) (k₀ .pointers) w) z s m) k₀ (seg (w .seg))
+      Moves p n (movedStripe p (segmentIn p (k₀ .image) (k₀ .pointers) w) z s m) k₀ (w .seg)
       (map (movedTo p (segmentIn p (k₀ .image) (k₀ .pointers) w) z s m) (upFrom d (p .N - d))) left k
 
   pub row-moves-start : Whole p k₀ → AllFit p (seen p k₀) (movedStripe p (segmentIn p (k₀ .image) (k₀ .pointers) w) z s m) → RowMoves 0 n k₀
   row-moves-start wh f =
-      moves-as p n (movedStripe p x z s m) k₀ (seg (w .seg)) (movedStripe p x z s m) (map each (upFrom 0 (p .N - 0))) n k₀ (stripe-are p x z s m ∙ ap (map each) (below-start (p .N)))
-      (moves-start p n (movedStripe p x z s m) k₀ (seg (w .seg)) wh f)
+      moves-as p n (movedStripe p x z s m) k₀ (w .seg) (movedStripe p x z s m) (map each (upFrom 0 (p .N - 0))) n k₀ (stripe-are p x z s m ∙ ap (map each) (below-start (p .N)))
+      (moves-start p n (movedStripe p x z s m) k₀ (w .seg) wh f)
 
   module _ (d left : ℕ) (k : Disk) (g : RowMoves d left k) where
     pub row-done : p .N ≤ d → Storing p n (movedStripe p x z s m) k₀ (record { left = left; cut = false }) k
     row-done h =
-        moves-done p n (movedStripe p x z s m) k₀ (seg (w .seg)) left k
-        (moves-as p n (movedStripe p x z s m) k₀ (seg (w .seg)) (map each (upFrom d (p .N - d))) [] left k (ap (map each) (upFrom-end d (p .N) h)) g)
+        moves-done p n (movedStripe p x z s m) k₀ (w .seg) left k
+        (moves-as p n (movedStripe p x z s m) k₀ (w .seg) (map each (upFrom d (p .N - d))) [] left k (ap (map each) (upFrom-end d (p .N) h)) g)
 
     module _ (l : d < p .N) where
       abbrev rest : List Store
       rest = map each (upFrom (d + 1) (p .N - (d + 1)))
 
-      drive-piece-step : Moves p n (movedStripe p x z s m) k₀ (seg (w .seg)) ((each d ∷ []) ++ rest) left k
-      drive-piece-step = moves-as p n (movedStripe p x z s m) k₀ (seg (w .seg)) (map each (upFrom d (p .N - d))) ((each d ∷ []) ++ rest) left k (ap (map each) (upFrom-step d (p .N) l)) g
+      drive-piece-step : Moves p n (movedStripe p x z s m) k₀ (w .seg) ((each d ∷ []) ++ rest) left k
+      drive-piece-step = moves-as p n (movedStripe p x z s m) k₀ (w .seg) (map each (upFrom d (p .N - d))) ((each d ∷ []) ++ rest) left k (ap (map each) (upFrom-step d (p .N) l)) g
 
       -- the zone has room
       pub row-room : pointerOf p (k .pointers) d (zoneOn z d) < capacity p
-      row-room = as! (moves-first p n (movedStripe p x z s m) k₀ (seg (w .seg)) (each d ∷ []) rest left k drive-piece-step)
+      row-room = as! (moves-first p n (movedStripe p x z s m) k₀ (w .seg) (each d ∷ []) rest left k drive-piece-step)
         where
           as! : AllFit p (seen p k) (each d ∷ []) → pointerOf p (k .pointers) d (zoneOn z d) < capacity p
           as! f = unfold movedTo putPiece in subst (λ (y : ℕ). y < capacity p) (pointer-view p k d (zoneOn z d) (f .0 .0) (f .0 .1) (g .going .whole)) (f .0 .2)
@@ -197,15 +199,15 @@ module _ (p : Params) (r : Ranged p) (n : ℕ) (k₀ : Disk) (w : Group) (hw : w
         piece-stored : Storing p left (each d ∷ []) k made k′
         piece-stored =
             subst (λ (y : Segment). Storing p left (movedTo p y z s m d ∷ []) k made k′)
-            (sym (moves-in p r n (movedStripe p x z s m) k₀ (seg (w .seg)) (map each (upFrom d (p .N - d))) left k g w ng refl)) st
+            (sym (moves-in p r n (movedStripe p x z s m) k₀ (w .seg) (map each (upFrom d (p .N - d))) left k g w ng refl)) st
 
         pub row-cut : made .cut ≡ true → Storing p n (movedStripe p x z s m) k₀ made k′
-        row-cut c = moves-cut p n (movedStripe p x z s m) k₀ (seg (w .seg)) (each d ∷ []) rest left k made k′ drive-piece-step piece-stored c
+        row-cut c = moves-cut p n (movedStripe p x z s m) k₀ (w .seg) (each d ∷ []) rest left k made k′ drive-piece-step piece-stored c
 
         pub row-turn : made .cut ≡ false → RowMoves (d + 1) (made .left) k′
         row-turn c =
-            moves-turn p r n (movedStripe p x z s m) k₀ (seg (w .seg)) (seg-named p (w .seg) hw) (each d ∷ []) rest left k made k′ drive-piece-step piece-stored c
-            (λ e he. one-misses p x z s m d e (seg (w .seg)) (ne .0) (seg-named p (w .seg) hw) (ne .1))
+            moves-turn p r n (movedStripe p x z s m) k₀ (w .seg) hw (each d ∷ []) rest left k made k′ drive-piece-step piece-stored c
+            (λ e he. one-misses p x z s m d e (w .seg) he (ne .0) hw (ne .1))
 
 -- ---- one chunk
 

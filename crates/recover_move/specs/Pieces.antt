@@ -14,6 +14,7 @@ use Rattle.recover_groups.specs.declared.Group.{Group}
 use Rattle.law_basic.specs.Geometry.{Ranged, data-drive-lt, position-lt}
 use Rattle.law_basic.specs.Mask.{isIn-empty}
 use Rattle.law_basic.specs.Ranges.{below-none, map-below-snoc, map-map, getD-map-below}
+use Rattle.law_basic.specs.Segs.{Named, zone-on-lt}
 use Rattle.law_basic.specs.Xor.{long-below, parity-none, parity-snoc, xorAll-none, xorAll-below-snoc}
 use Rattle.law_code.specs.Chunks.{moved-is-data, moved-is-parity}
 use Rattle.law_code.specs.Single.{encode-xor}
@@ -119,7 +120,7 @@ module _ (p : Params) (g : Segment) (s n : ℕ) where
 
 -- ---- as the code goes
 
-module _ (p : Params) (r : Ranged p) (im ps : List ℕ) (w : Group) (at : List ℕ) (k n : ℕ) (long : length im ≡ imageLen p) (hs : w .seg < p .Z) (hb : w .base < p .S)
+module _ (p : Params) (r : Ranged p) (im ps : List ℕ) (w : Group) (at : List ℕ) (k n : ℕ) (long : length im ≡ imageLen p) (hs : Named p (w .seg)) (hb : w .base < p .S)
     (hk : k < groupLen p (w .base))
     (en : AllEntered p 0 (w .base) at k) (x : GroupReads p im ps w at) where
   abbrev g : Segment
@@ -145,7 +146,8 @@ module _ (p : Params) (r : Ranged p) (im ps : List ℕ) (w : Group) (at : List �
       xored-turn p g (w .base + k) n i b b′ q q′ xi
       (λ j h.
       let hd : dataDrive p (w .base + k) j < p .N = data-drive-lt p (w .base + k) j (omega arith) in
-      piece-block-long p im ps w at r long x hs hb k hk (dataDrive p (w .base + k) j) hd (en (dataDrive p (w .base + k) j) hd (isIn-empty (dataDrive p (w .base + k) j))))
+      let D = dataDrive p (w .base + k) j in
+      piece-block-long p im ps w at r long x hb k hk D hd (zone-on-lt p (w .seg) D hs) (en D hd (isIn-empty D)))
       (eb ∙ ap (λ (d : ℕ). xors b (storedPiece g (w .base + k) d .block)) e)
       (a ∙ ap (λ (z : Rec). bitXor (q .address) (z .address)) (ey ∙ ap (storedRec g (w .base + k)) e))
       (t ∙ ap (λ (z : Rec). bitXor (q .stamp) (z .stamp)) (ey ∙ ap (storedRec g (w .base + k)) e))

@@ -4,7 +4,7 @@ ghost use mathlib.Core.Bool.{true};
 ghost use mathlib.Core.List.{List, [], _∷_};
 ghost use Prim.Native.Nat.{ℕ, _+_, _<_};
 ghost use lib.ListN.{length};
-ghost use Rattle.spec.specs.Drives.{viewOf, mkDisk, pointerOf, zoneOn, seg};
+ghost use Rattle.spec.specs.Drives.{viewOf, mkDisk, pointerOf, zoneOn};
 ghost use Rattle.spec.specs.Layout.{dataDrive};
 ghost use Rattle.spec.specs.Params.{inRange, dataCount, capacity, imageLen};
 ghost use Rattle.spec.specs.Parity.{mkPiece, parityPiece};
@@ -15,12 +15,13 @@ ghost use Rattle.law_views.specs.Views.{Whole, AllFit};
 ghost use Rattle.recover_groups.specs.Groups.{AllEntered, segmentIn, GroupReads};
 ghost use Rattle.recover_move.specs.Moves.{MovesShown, movedTo};
 ghost use Rattle.disk_zones.specs.Made.{Storing};
-ghost use Rattle.law_basic.specs.Segs.{OtherSeg};
+ghost use Rattle.law_basic.specs.Segs.{OtherSeg, ZonesLow};
 use disk_records::Record;
 use disk_zones::Made;
 use recover_groups::Group;
 use spec::Address;
 use spec::Params;
+use spec::Seg;
 use spec::Stamp;
 
 // 01, Restart, 4: position i of stripe k of the group, under stripe number s: the block in the lent one, and the record.
@@ -126,7 +127,7 @@ fn move_with(
     w: Group,
     at: &[u16],
     k: usize,
-    to: usize,
+    to: Seg,
     s: usize,
     drive: usize,
     block: &mut [u8],
@@ -137,15 +138,15 @@ fn move_with(
     requires { ⌜ MovesShown p w (now at) k ⌝ }
     requires { ⌜ AllEntered p 0 (w .base) (now at) k ⌝ }
     requires { ⌜ GroupReads p (now image) (now pointers) w (now at) ⌝ }
-    requires { ⌜ (drive < p .N) × (to < p .Z) × (s < 65536) × (length (now block) ≡ p .B) × (pointerOf p (now pointers) drive (zoneOn (seg to) drive) < capacity p) ⌝ }
+    requires { ⌜ (drive < p .N) × (zoneOn to drive < p .Z) × (s < 65536) × (length (now block) ≡ p .B) × (pointerOf p (now pointers) drive (zoneOn to drive) < capacity p) ⌝ }
     ensures { λ r. ⌜
-        Storing p count (movedTo p (segmentIn p (now (image .entry)) (now (pointers .entry)) w) (seg to) (w .base + k) s drive ∷ [])
+        Storing p count (movedTo p (segmentIn p (now (image .entry)) (now (pointers .entry)) w) to (w .base + k) s drive ∷ [])
         (mkDisk (now (image .entry)) (now (pointers .entry))) r (mkDisk (now (image .exit)) (now (pointers .exit))) ⌝ }
 {
     let mut spare = [0u8; disk_shape::SPARE];
     let r = moved_chunk(p, image, w, at, k, s, drive, block);
     disk_records::write_record(&mut spare, r);
-    let zone = disk_shape::zone_on(to, drive);
+    let zone = disk_shape::zone_on(p, to, drive);
     disk_zones::put_limited(p, image, pointers, drive, zone, block, &spare, count)
 }
 
@@ -157,7 +158,7 @@ fn move_chunk(
     w: Group,
     at: &[u16],
     k: usize,
-    to: usize,
+    to: Seg,
     s: usize,
     drive: usize,
     count: u64,
@@ -167,9 +168,9 @@ fn move_chunk(
     requires { ⌜ MovesShown p w (now at) k ⌝ }
     requires { ⌜ AllEntered p 0 (w .base) (now at) k ⌝ }
     requires { ⌜ GroupReads p (now image) (now pointers) w (now at) ⌝ }
-    requires { ⌜ (drive < p .N) × (to < p .Z) × (s < 65536) × (pointerOf p (now pointers) drive (zoneOn (seg to) drive) < capacity p) ⌝ }
+    requires { ⌜ (drive < p .N) × (zoneOn to drive < p .Z) × (s < 65536) × (pointerOf p (now pointers) drive (zoneOn to drive) < capacity p) ⌝ }
     ensures { λ r. ⌜
-        Storing p count (movedTo p (segmentIn p (now (image .entry)) (now (pointers .entry)) w) (seg to) (w .base + k) s drive ∷ [])
+        Storing p count (movedTo p (segmentIn p (now (image .entry)) (now (pointers .entry)) w) to (w .base + k) s drive ∷ [])
         (mkDisk (now (image .entry)) (now (pointers .entry))) r (mkDisk (now (image .exit)) (now (pointers .exit))) ⌝ }
 {
     let mut block = [0u8; 4096];
@@ -197,7 +198,7 @@ pub fn move_stripe(
     w: Group,
     at: &[u16],
     k: usize,
-    to: usize,
+    to: Seg,
     s: usize,
     count: u64,
 ) -> Made
@@ -206,10 +207,10 @@ pub fn move_stripe(
     requires { ⌜ MovesShown p w (now at) k ⌝ }
     requires { ⌜ AllEntered p 0 (w .base) (now at) k ⌝ }
     requires { ⌜ GroupReads p (now image) (now pointers) w (now at) ⌝ }
-    requires { ⌜ (to < p .Z) × (s < 65536) × OtherSeg p (seg to) (seg (w .seg)) ⌝ }
-    requires { ⌜ AllFit p (viewOf p (now image) (now pointers)) (movedStripe p (segmentIn p (now image) (now pointers) w) (seg to) (w .base + k) s) ⌝ }
+    requires { ⌜ ZonesLow p 0 to × (s < 65536) × OtherSeg p to (w .seg) ⌝ }
+    requires { ⌜ AllFit p (viewOf p (now image) (now pointers)) (movedStripe p (segmentIn p (now image) (now pointers) w) to (w .base + k) s) ⌝ }
     ensures { λ r. ⌜
-        Storing p count (movedStripe p (segmentIn p (now (image .entry)) (now (pointers .entry)) w) (seg to) (w .base + k) s)
+        Storing p count (movedStripe p (segmentIn p (now (image .entry)) (now (pointers .entry)) w) to (w .base + k) s)
         (mkDisk (now (image .entry)) (now (pointers .entry))) r (mkDisk (now (image .exit)) (now (pointers .exit))) ⌝ }
 {
     let mut left = count;

@@ -8,7 +8,7 @@ use native.Mathlib.Omega.{arith}
 use lib.Dec.{eqb}
 use lib.ListN.{getD}
 use Rattle.spec.specs.declared.Params.{Params}
-use Rattle.spec.specs.Drives.{Zone, View, zoneAt, pointerAt, Store, Disk, pointerOf, storeAll, zoneOn, Seg, seg}
+use Rattle.spec.specs.Drives.{Zone, View, zoneAt, pointerAt, Store, Disk, pointerOf, storeAll, zoneOn, across}
 use Rattle.spec.specs.Drives.Store.{reset}
 use Rattle.spec.specs.Lists.{upFrom, below, consIf, keep, flat}
 use Rattle.spec.specs.Params.{named}
@@ -36,10 +36,11 @@ use Rattle.recover_segments.specs.Kept.{segments-keep}
 use Rattle.recover_reset.specs.Rebuilt.{rebuilt-apart, same-rebuilt}
 use Rattle.recover_decode.specs.Group.{same-recs-fault}
 use Rattle.recover_decode.specs.Moving.{OnDrive, Moving, moving-start, moving-as, moving-cut, moving-turn, moving-done, drive-apart}
+use Rattle.spec.specs.declared.Seg.{Seg}
 
 -- 01, Rebuild: the stores of segment g, if it is flagged
 unfoldable pub oneStores : Params → ℕ → View → List Bool → ℕ → List Store
-oneStores p d v flags g = cond (getD flags g false) (rebuiltZone p d (segmentOf p v (named d) (seg g))) []
+oneStores p d v flags g = cond (getD flags g false) (rebuiltZone p d (segmentOf p v (named d) (across p g))) []
 
 -- 01, Rebuild: those of each flagged segment
 unfoldable pub zonesStores : Params → ℕ → View → List Bool → List Store
@@ -68,33 +69,33 @@ unfolding driveStores driveResets zonesStores oneStores rebuildStores
 drive-stores-are p d v flags h =
     let gone = named d in
     ap (λ (l : List Store). map (λ z. reset d z) (below (p .Z)) ++ l)
-    (flat-cong (λ g. cond (getD flags g false) (rebuiltZone p d (segmentOf p v gone (seg g))) [])
-    (λ g. cond (remainsHere p v gone (seg g)) (rebuiltZone p d (segmentOf p v gone (seg g))) []) (below (p .Z))
-    (λ g m. ap (λ (b : Bool). cond b (rebuiltZone p d (segmentOf p v gone (seg g))) []) (h .1 g (below-in (p .Z) g m)))
-    ∙ sym (flat-kept (λ g. remainsHere p v gone (seg g)) (λ g. rebuiltZone p d (segmentOf p v gone (seg g))) (below (p .Z)))
-    ∙ sym (flat-map (rebuiltZone p d) (λ g. segmentOf p v gone (seg g)) (keep (λ g. remainsHere p v gone (seg g)) (below (p .Z))))
+    (flat-cong (λ g. cond (getD flags g false) (rebuiltZone p d (segmentOf p v gone (across p g))) [])
+    (λ g. cond (remainsHere p v gone (across p g)) (rebuiltZone p d (segmentOf p v gone (across p g))) []) (below (p .Z))
+    (λ g m. ap (λ (b : Bool). cond b (rebuiltZone p d (segmentOf p v gone (across p g))) []) (h .1 g (below-in (p .Z) g m)))
+    ∙ sym (flat-kept (λ g. remainsHere p v gone (across p g)) (λ g. rebuiltZone p d (segmentOf p v gone (across p g))) (below (p .Z)))
+    ∙ sym (flat-map (rebuiltZone p d) (λ g. segmentOf p v gone (across p g)) (keep (λ g. remainsHere p v gone (across p g)) (below (p .Z))))
     ∙ ap (flat (rebuiltZone p d)) (sym (segments-keep p v gone)))
 
 -- ---- one segment
 
 pub one-stores-are : (p : Params) (d : ℕ) (v : View) (flags : List Bool) (g : ℕ) (b : Bool) → b ≡ getD flags g false
-    → cond b (rebuiltZone p d (segmentOf p v (named d) (seg g))) [] ≡ oneStores p d v flags g
+    → cond b (rebuiltZone p d (segmentOf p v (named d) (across p g))) [] ≡ oneStores p d v flags g
 unfolding oneStores
-one-stores-are p d v flags g b e = ap (λ (x : Bool). cond x (rebuiltZone p d (segmentOf p v (named d) (seg g))) []) e
+one-stores-are p d v flags g b e = ap (λ (x : Bool). cond x (rebuiltZone p d (segmentOf p v (named d) (across p g))) []) e
 
-one-apart : (p : Params) (d : ℕ) (v : View) (flags : List Bool) (g e y : ℕ) → (eqb d e && eqb (zoneOn (seg g) d) y) ≡ false → hits e y (oneStores p d v flags g) ≡ []
+one-apart : (p : Params) (d : ℕ) (v : View) (flags : List Bool) (g e y : ℕ) → (eqb d e && eqb (zoneOn (across p g) d) y) ≡ false → hits e y (oneStores p d v flags g) ≡ []
 unfolding oneStores
 one-apart p d v flags g e y q = go (getD flags g false)
   where
-    go : (b : Bool) → hits e y (cond b (rebuiltZone p d (segmentOf p v (named d) (seg g))) []) ≡ []
-    go true = rebuilt-apart p d (segmentOf p v (named d) (seg g)) e y (ap (λ (x : Seg). eqb d e && eqb (zoneOn x d) y) (seg-is p v (named d) (seg g)) ∙ q)
+    go : (b : Bool) → hits e y (cond b (rebuiltZone p d (segmentOf p v (named d) (across p g))) []) ≡ []
+    go true = rebuilt-apart p d (segmentOf p v (named d) (across p g)) e y (ap (λ (x : Seg). eqb d e && eqb (zoneOn x d) y) (seg-is p v (named d) (across p g)) ∙ q)
     go false = unfold keep in refl
 
 one-stores-same : (p : Params) (r : Ranged p) (d : ℕ) (hd : d < p .N) (v u : View) → Agree p (named d) v u → (flags : List Bool) (g : ℕ) → g < p .Z
     → oneStores p d v flags g ≡ oneStores p d u flags g
 unfolding oneStores
 one-stores-same p r d hd v u ag flags g hg =
-    ap (λ (l : List Store). cond (getD flags g false) l []) (same-rebuilt p d v u (low-present p r d hd) (named-in p r d hd) ag (seg g) (seg-named p g hg))
+    ap (λ (l : List Store). cond (getD flags g false) l []) (same-rebuilt p d v u (low-present p r d hd) (named-in p r d hd) ag (across p g) (seg-named p g hg))
 
 pub same-zones : (p : Params) (r : Ranged p) (d : ℕ) (hd : d < p .N) (v u : View) → Agree p (named d) v u → (flags : List Bool) → zonesStores p d v flags ≡ zonesStores p d u flags
 unfolding zonesStores
@@ -104,11 +105,11 @@ same-zones p r d hd v u ag flags = flat-cong (oneStores p d v flags) (oneStores 
 
 -- no record of a flagged segment is bad
 abbrev pub GoodRecs : Params → ℕ → View → List Bool → Type 0
-GoodRecs p d v flags = (g : ℕ) → g < p .Z → getD flags g false ≡ true → recsFault p (named d) (segmentOf p v (named d) (seg g)) ≡ false
+GoodRecs p d v flags = (g : ℕ) → g < p .Z → getD flags g false ≡ true → recsFault p (named d) (segmentOf p v (named d) (across p g)) ≡ false
 
 -- the drive's zones of the segments from number g on are empty
 abbrev pub ZonesEmptyFrom : Params → ℕ → ℕ → List ℕ → Type 0
-ZonesEmptyFrom p d g ps = (h : ℕ) → g ≤ h → h < p .Z → pointerOf p ps d (zoneOn (seg h) d) ≡ 0
+ZonesEmptyFrom p d g ps = (h : ℕ) → g ≤ h → h < p .Z → pointerOf p ps d (zoneOn (across p h) d) ≡ 0
 
 module _ (p : Params) (d n : ℕ) (flags : List Bool) (k₀ : Disk) where
   -- those from segment g on are left
@@ -149,17 +150,17 @@ module _ (p : Params) (r : Ranged p) (d n : ℕ) (hd : d < p .N) (flags : List B
   zone-step =
       moving-as p (named d) n whole! k₀ (flat (oneStores p d (seen p k₀) flags) (upFrom g (p .Z - g))) (ours ++ rest) left k (flat-step (oneStores p d (seen p k₀) flags) g (p .Z) hg) (s .moving)
 
-  zone-stores-same : (b : Bool) → b ≡ getD flags g false → cond b (rebuiltZone p d (segmentOf p (seen p k) (named d) (seg g))) [] ≡ ours
+  zone-stores-same : (b : Bool) → b ≡ getD flags g false → cond b (rebuiltZone p d (segmentOf p (seen p k) (named d) (across p g))) [] ≡ ours
   zone-stores-same b e = one-stores-are p d (seen p k) flags g b e ∙ sym (one-stores-same p r d hd (seen p k₀) (seen p k) (s .moving .agree) flags g hg)
 
   module _ (b : Bool) (e : b ≡ getD flags g false) where
-    pub zones-fit : AllFit p (seen p k) (cond b (rebuiltZone p d (segmentOf p (seen p k) (named d) (seg g))) [])
+    pub zones-fit : AllFit p (seen p k) (cond b (rebuiltZone p d (segmentOf p (seen p k) (named d) (across p g))) [])
     zones-fit = subst (λ (l : List Store). AllFit p (seen p k) l) (sym (zone-stores-same b e)) (going-first p n whole! k₀ ours rest left k (zone-step .going))
 
-    pub zones-good : GoodRecs p d (seen p k₀) flags → b ≡ true → recsFault p (named d) (segmentOf p (seen p k) (named d) (seg g)) ≡ false
-    zones-good h t = sym (same-recs-fault p (named d) (seen p k₀) (seen p k) (low-present p r d hd) (s .moving .agree) (seg g) (seg-named p g hg)) ∙ h g hg (sym e ∙ t)
+    pub zones-good : GoodRecs p d (seen p k₀) flags → b ≡ true → recsFault p (named d) (segmentOf p (seen p k) (named d) (across p g)) ≡ false
+    zones-good h t = sym (same-recs-fault p (named d) (seen p k₀) (seen p k) (low-present p r d hd) (s .moving .agree) (across p g) (seg-named p g hg)) ∙ h g hg (sym e ∙ t)
 
-    module _ (m : Made) (k′ : Disk) (t : Storing p left (cond b (rebuiltZone p d (segmentOf p (seen p k) (named d) (seg g))) []) k m k′) where
+    module _ (m : Made) (k′ : Disk) (t : Storing p left (cond b (rebuiltZone p d (segmentOf p (seen p k) (named d) (across p g))) []) k m k′) where
       this : Storing p left ours k m k′
       this = subst (λ (l : List Store). Storing p left l k m k′) (zone-stores-same b e) t
 
@@ -167,28 +168,28 @@ module _ (p : Params) (r : Ranged p) (d n : ℕ) (hd : d < p .N) (flags : List B
       zones-cut c = moving-cut p (named d) n whole! k₀ ours rest left k m k′ zone-step this c
 
       on : OnDrive d ours
-      on e y q = one-apart p d (seen p k₀) flags g e y (drive-apart d e (zoneOn (seg g) d) y q)
+      on e y q = one-apart p d (seen p k₀) flags g e y (drive-apart d e (zoneOn (across p g) d) y q)
 
       pub zones-turn : m .cut ≡ false → Zones p d n flags k₀ (g + 1) (m .left) k′
       zones-turn c = record {
         upto = omega arith;
         moving = next;
         empty = λ h gh hh.
-            let z : ℕ = zoneOn (seg h) d in
-            let low : z < p .Z = zone-on-lt p (seg h) d (seg-named p h hh) in
+            let z : ℕ = zoneOn (across p h) d in
+            let low : z < p .Z = zone-on-lt p (across p h) d (seg-named p h hh) in
             sym (pointer-view p k′ d z hd low (next .going .whole)) ∙ as! h gh hh low ∙ pointer-view p k d z hd low (s .moving .going .whole) ∙ s .empty h (omega arith) hh;
       }
         where
           next : Moving p (named d) n whole! k₀ rest (m .left) k′
           next = moving-turn p (named d) n whole! k₀ ours rest left k m k′ zone-step this r d (named-in p r d hd) on c
 
-          other : (h : ℕ) → g + 1 ≤ h → h < p .Z → eqb (zoneOn (seg g) d) (zoneOn (seg h) d) ≡ false
-          other h gh hh = zone-same p (seg g) (seg h) d (seg-named p g hg) (seg-named p h hh) ∙ seg-number g h ∙ ne-eqb g h (λ q. let x : ⊥ = omega arith in x)
+          other : (h : ℕ) → g + 1 ≤ h → h < p .Z → eqb (zoneOn (across p g) d) (zoneOn (across p h) d) ≡ false
+          other h gh hh = zone-same p (across p g) (across p h) d hd (seg-named p g hg) (seg-named p h hh) ∙ seg-number p g h (omega arith) ∙ ne-eqb g h (λ q. let x : ⊥ = omega arith in x)
 
-          as! : (h : ℕ) → g + 1 ≤ h → h < p .Z → zoneOn (seg h) d < p .Z → pointerAt (seen p k′) d (zoneOn (seg h) d) ≡ pointerAt (seen p k) d (zoneOn (seg h) d)
+          as! : (h : ℕ) → g + 1 ≤ h → h < p .Z → zoneOn (across p h) d < p .Z → pointerAt (seen p k′) d (zoneOn (across p h) d) ≡ pointerAt (seen p k) d (zoneOn (across p h) d)
           as! h gh hh low = unfold pointerAt in ap (λ (q : Zone). q .pointer)
-              (going-kept p r n whole! k₀ ours rest left k m k′ (zone-step .going) this c d (zoneOn (seg h) d) hd low
-              (one-apart p d (seen p k₀) flags g d (zoneOn (seg h) d) (and-false-right (eqb d d) (eqb (zoneOn (seg g) d) (zoneOn (seg h) d)) (other h gh hh))))
+              (going-kept p r n whole! k₀ ours rest left k m k′ (zone-step .going) this c d (zoneOn (across p h) d) hd low
+              (one-apart p d (seen p k₀) flags g d (zoneOn (across p h) d) (and-false-right (eqb d d) (eqb (zoneOn (across p g) d) (zoneOn (across p h) d)) (other h gh hh))))
 
 -- ---- the resets first
 
@@ -235,11 +236,11 @@ module _ (p : Params) (r : Ranged p) (d n : ℕ) (hd : d < p .N) (flags : List B
     resets-fit = subst (λ (l : List Store). AllFit p (seen p k) l) zones-stores-same (empty! .going .fits)
 
     pub resets-good : GoodRecs p d (seen p k₀) flags → GoodRecs p d (seen p k) flags
-    resets-good h g hg f = sym (same-recs-fault p (named d) (seen p k₀) (seen p k) (low-present p r d hd) (empty! .agree) (seg g) (seg-named p g hg)) ∙ h g hg f
+    resets-good h g hg f = sym (same-recs-fault p (named d) (seen p k₀) (seen p k) (low-present p r d hd) (empty! .agree) (across p g) (seg-named p g hg)) ∙ h g hg f
 
     -- every zone of the drive is empty
     pub drive-resets-empty : ZonesEmptyFrom p d 0 (k .pointers)
-    drive-resets-empty h _ hh = empty-zone (zoneOn (seg h) d) (zone-on-lt p (seg h) d (seg-named p h hh))
+    drive-resets-empty h _ hh = empty-zone (zoneOn (across p h) d) (zone-on-lt p (across p h) d (seg-named p h hh))
       where
         zone! : (z : ℕ) → z < p .Z → zoneAt (seen p k) d z ≡ storeAll zoneStore (reset d z ∷ []) (zoneAt (seen p k₀) d z)
         zone! z hz =

@@ -5,7 +5,7 @@ use mathlib.Core.Bool.{Bool, true, false}
 use Prim.Native.Nat.{ℕ, suc, _+_, _≤_, _<_}
 use native.Mathlib.Omega.{arith}
 use Rattle.spec.specs.declared.Params.{Params}
-use Rattle.spec.specs.Drives.{zoneAt, Store, Disk, pointerOf, storeDisk, storeAll, zoneOn, sealedIn, zeroSpare, footerStores, Seg}
+use Rattle.spec.specs.Drives.{zoneAt, Store, Disk, pointerOf, storeDisk, storeAll, zoneOn, sealedIn, zeroSpare, footerStores, zonesIn}
 use Rattle.spec.specs.Drives.Store.{put}
 use Rattle.spec.specs.Faults.{stripeFault, storedBad}
 use Rattle.spec.specs.Layout.{headerBlock, headerSerial, headerCopied, footerBlock}
@@ -32,6 +32,7 @@ use Rattle.recover_reset.specs.Lost.{lostStores}
 use Rattle.recover_reset.specs.Rebuilt.{headStore, lostSpares, lostFeet, lostRest, rebuilt-parts, head-apart, same-rest, feet-room, lost-feet-are}
 use Rattle.recover_decode.specs.Group.{lost-on, same-recs-fault}
 use Rattle.recover_decode.specs.Moving.{OnDrive, Moving, moving-start, moving-as, moving-cut, moving-turn, moving-done, drive-apart}
+use Rattle.spec.specs.declared.Seg.{Seg}
 
 module _ (p : Params) (r : Ranged p) (d : ℕ) (g : Seg) (n : ℕ) (hd : d < p .N) (hg : Named p g) (k₀ : Disk) (w : Whole p k₀) where
   abbrev sg : Segment
@@ -111,13 +112,13 @@ module _ (p : Params) (r : Ranged p) (d : ℕ) (g : Seg) (n : ℕ) (hd : d < p .
     pub head-room : pointerOf p (k₀ .pointers) d (zoneOn g d) < capacity p
     head-room = omega (arith, zero!, capacity-over p r)
 
-    pub head-store-is : (serial copied : ℕ) → serial ≡ headerSerial (headerAt (seen p k₀) (lowDrive p (named d)) g)
-        → copied ≡ headerCopied (headerAt (seen p k₀) (lowDrive p (named d)) g)
-        → put d (zoneOn g d) (headerBlock p d (zoneOn g d) serial copied) zeroSpare ≡ headStore p d sg
+    pub head-store-is : (serial copied : ℕ) → serial ≡ headerSerial p (headerAt (seen p k₀) (lowDrive p (named d)) g)
+        → copied ≡ headerCopied p (headerAt (seen p k₀) (lowDrive p (named d)) g)
+        → put d (zoneOn g d) (headerBlock p d (zonesIn p g) serial copied) zeroSpare ≡ headStore p d sg
     unfolding headStore
     head-store-is serial copied a b =
         λ j. put d (zoneOn (sym (seg-is p (seen p k₀) (named d) g) j) d)
-        (headerBlock p d (zoneOn (sym (seg-is p (seen p k₀) (named d) g) j) d) ((a ∙ sym (serial-is p (seen p k₀) (named d) g)) j)
+        (headerBlock p d (zonesIn p (sym (seg-is p (seen p k₀) (named d) g) j)) ((a ∙ sym (serial-is p (seen p k₀) (named d) g)) j)
         ((b ∙ sym (copied-is p (seen p k₀) (named d) g)) j)) zeroSpare
 
     module _ (m : Made) (k : Disk) (s : Storing p n (headStore p d sg ∷ []) k₀ m k) where
@@ -151,12 +152,12 @@ module _ (p : Params) (r : Ranged p) (d : ℕ) (g : Seg) (n : ℕ) (hd : d < p .
         head-one =
             let z : ℕ = zoneOn g d in
             ap (λ (x : Disk). pointerOf p (x .pointers) d z) (storing-all p n (headStore p d sg ∷ []) k₀ m k s c ∙ as!)
-            ∙ ap (λ (x : List ℕ). pointerOf p x d z) (put-pointers p d z (headerBlock p d z (sg .serial) (sg .copied)) zeroSpare k₀)
+            ∙ ap (λ (x : List ℕ). pointerOf p x d z) (put-pointers p d z (headerBlock p d (zonesIn p g) (sg .serial) (sg .copied)) zeroSpare k₀)
             ∙ pointer-set p (k₀ .pointers) d z (suc (pointerOf p (k₀ .pointers) d z)) hd (zone-on-lt p g d hg) (w .pointers-long) (omega (arith, zero!)) ∙ ap suc zero!
           where
-            as! : storeAll (storeDisk p) (headStore p d sg ∷ []) k₀ ≡ storeDisk p (put d (zoneOn g d) (headerBlock p d (zoneOn g d) (sg .serial) (sg .copied)) zeroSpare) k₀
+            as! : storeAll (storeDisk p) (headStore p d sg ∷ []) k₀ ≡ storeDisk p (put d (zoneOn g d) (headerBlock p d (zonesIn p g) (sg .serial) (sg .copied)) zeroSpare) k₀
             as! = unfold storeAll headStore in
-                ap (λ (x : Seg). storeDisk p (put d (zoneOn x d) (headerBlock p d (zoneOn x d) (sg .serial) (sg .copied)) zeroSpare) k₀) (seg-is p (seen p k₀) (named d) g)
+                ap (λ (x : Seg). storeDisk p (put d (zoneOn x d) (headerBlock p d (zonesIn p x) (sg .serial) (sg .copied)) zeroSpare) k₀) (seg-is p (seen p k₀) (named d) g)
 
         pub rest-made : (m′ : Made) (k′ : Disk) → Storing p (m .left) (lostRest p d sg′) k m′ k′ → Storing p n (rebuiltZone p d sg) k₀ m′ k′
         rest-made m′ k′ t = zone-headed .going .owes m′ k′ (subst (λ (l : List Store). Storing p (m .left) l k m′ k′) (sym same-now) t)

@@ -4,10 +4,11 @@ ghost use mathlib.Core.Bool.{true, false, cond};
 ghost use mathlib.Core.List.{[]};
 ghost use Prim.Native.Nat.{_≤_, _<_};
 ghost use lib.ListN.{length};
-ghost use Rattle.spec.specs.Drives.{viewOf, mkDisk, pointerOf, zoneOn, sealedIn, seg as segNo};
+ghost use Rattle.spec.specs.Drives.{viewOf, mkDisk, pointerOf, zoneOn, sealedIn};
 ghost use Rattle.spec.specs.Params.{inRange, named};
 ghost use Rattle.spec.specs.Rebuild.{rebuiltZone};
 ghost use Rattle.spec.specs.Segments.{segmentOf};
+ghost use Rattle.law_basic.specs.Segs.{Named};
 ghost use Rattle.recover_groups.specs.Groups.{recsFault};
 ghost use Rattle.recover_reset.specs.Rebuilt.{lostRest};
 ghost use Rattle.recover_rebuild.specs.Drive.{zonesStores, driveStores, GoodRecs, ZonesEmptyFrom};
@@ -15,6 +16,7 @@ ghost use Rattle.law_views.specs.Views.{Whole, AllFit};
 ghost use Rattle.disk_zones.specs.Made.{Storing};
 use disk_zones::Made;
 use spec::Params;
+use spec::Seg;
 
 // 01, Rebuild: behind the header: the chunks, and the footers if the survivors' zones are full. Then all S stripes count, and their records
 // are the drive's own spares.
@@ -23,19 +25,19 @@ fn rebuild_data(
     image: &mut [u8],
     pointers: &mut [u8],
     gone: u8,
-    seg: usize,
+    seg: Seg,
     full: bool,
     drive: usize,
     count: u64,
 ) -> Made
     requires { ⌜ inRange p ≡ true ⌝ }
     requires { ⌜ Whole p (mkDisk (now image) (now pointers)) ⌝ }
-    requires { ⌜ (gone ≡ named drive) × (drive < p .N) × (seg < p .Z) × (pointerOf p (now pointers) drive (zoneOn (segNo seg) drive) ≡ 1) ⌝ }
-    requires { ⌜ full ≡ sealedIn p (viewOf p (now image) (now pointers)) (named drive) (segNo seg) ⌝ }
-    requires { ⌜ recsFault p (named drive) (segmentOf p (viewOf p (now image) (now pointers)) (named drive) (segNo seg)) ≡ false ⌝ }
-    requires { ⌜ AllFit p (viewOf p (now image) (now pointers)) (lostRest p drive (segmentOf p (viewOf p (now image) (now pointers)) (named drive) (segNo seg))) ⌝ }
+    requires { ⌜ (gone ≡ named drive) × (drive < p .N) × Named p seg × (pointerOf p (now pointers) drive (zoneOn seg drive) ≡ 1) × (zoneOn seg drive < p .Z) ⌝ }
+    requires { ⌜ full ≡ sealedIn p (viewOf p (now image) (now pointers)) (named drive) seg ⌝ }
+    requires { ⌜ recsFault p (named drive) (segmentOf p (viewOf p (now image) (now pointers)) (named drive) seg) ≡ false ⌝ }
+    requires { ⌜ AllFit p (viewOf p (now image) (now pointers)) (lostRest p drive (segmentOf p (viewOf p (now image) (now pointers)) (named drive) seg)) ⌝ }
     ensures { λ r. ⌜
-        Storing p count (lostRest p drive (segmentOf p (viewOf p (now (image .entry)) (now (pointers .entry))) (named drive) (segNo seg)))
+        Storing p count (lostRest p drive (segmentOf p (viewOf p (now (image .entry)) (now (pointers .entry))) (named drive) seg))
         (mkDisk (now (image .entry)) (now (pointers .entry))) r (mkDisk (now (image .exit)) (now (pointers .exit))) ⌝ }
 {
     let made = recover_decode::put_groups(p, image, pointers, gone, seg, full, drive, count);
@@ -45,7 +47,7 @@ fn rebuild_data(
     if !full {
         return made;
     }
-    let zone = disk_shape::zone_on(seg, drive);
+    let zone = disk_shape::zone_on(p, seg, drive);
     let n = disk_shape::footers(p);
     disk_footers::footer_stores(p, image, pointers, drive, zone, 0, n, made.left)
 }
@@ -56,25 +58,24 @@ fn rebuild_zone(
     image: &mut [u8],
     pointers: &mut [u8],
     gone: u8,
-    seg: usize,
+    seg: Seg,
     drive: usize,
     count: u64,
 ) -> Made
     requires { ⌜ inRange p ≡ true ⌝ }
     requires { ⌜ Whole p (mkDisk (now image) (now pointers)) ⌝ }
-    requires { ⌜ (gone ≡ named drive) × (drive < p .N) × (seg < p .Z) × (pointerOf p (now pointers) drive (zoneOn (segNo seg) drive) ≡ 0) ⌝ }
-    requires { ⌜ recsFault p (named drive) (segmentOf p (viewOf p (now image) (now pointers)) (named drive) (segNo seg)) ≡ false ⌝ }
-    requires { ⌜ AllFit p (viewOf p (now image) (now pointers)) (rebuiltZone p drive (segmentOf p (viewOf p (now image) (now pointers)) (named drive) (segNo seg))) ⌝ }
+    requires { ⌜ (gone ≡ named drive) × (drive < p .N) × Named p seg × (pointerOf p (now pointers) drive (zoneOn seg drive) ≡ 0) × (zoneOn seg drive < p .Z) ⌝ }
+    requires { ⌜ recsFault p (named drive) (segmentOf p (viewOf p (now image) (now pointers)) (named drive) seg) ≡ false ⌝ }
+    requires { ⌜ AllFit p (viewOf p (now image) (now pointers)) (rebuiltZone p drive (segmentOf p (viewOf p (now image) (now pointers)) (named drive) seg)) ⌝ }
     ensures { λ r. ⌜
-        Storing p count (rebuiltZone p drive (segmentOf p (viewOf p (now (image .entry)) (now (pointers .entry))) (named drive) (segNo seg)))
+        Storing p count (rebuiltZone p drive (segmentOf p (viewOf p (now (image .entry)) (now (pointers .entry))) (named drive) seg))
         (mkDisk (now (image .entry)) (now (pointers .entry))) r (mkDisk (now (image .exit)) (now (pointers .exit))) ⌝ }
 {
     let low = recover_segments::low_drive(p, gone);
     let serial = recover_segments::serial_on(p, image, low, seg);
     let copied = recover_segments::copied_on(p, image, low, seg);
     let full = disk_zones::is_sealed(p, pointers, gone, seg);
-    let zone = disk_shape::zone_on(seg, drive);
-    let made = recover_reset::put_header(p, image, pointers, drive, zone, serial, copied, count);
+    let made = recover_reset::put_header(p, image, pointers, drive, seg, serial, copied, count);
     if made.cut {
         return made;
     }
@@ -88,17 +89,17 @@ fn rebuild_if(
     pointers: &mut [u8],
     gone: u8,
     kept: bool,
-    seg: usize,
+    seg: Seg,
     drive: usize,
     count: u64,
 ) -> Made
     requires { ⌜ inRange p ≡ true ⌝ }
     requires { ⌜ Whole p (mkDisk (now image) (now pointers)) ⌝ }
-    requires { ⌜ (gone ≡ named drive) × (drive < p .N) × (seg < p .Z) × (pointerOf p (now pointers) drive (zoneOn (segNo seg) drive) ≡ 0) ⌝ }
-    requires { ⌜ (kept ≡ true → recsFault p (named drive) (segmentOf p (viewOf p (now image) (now pointers)) (named drive) (segNo seg)) ≡ false) ⌝ }
-    requires { ⌜ AllFit p (viewOf p (now image) (now pointers)) (cond kept (rebuiltZone p drive (segmentOf p (viewOf p (now image) (now pointers)) (named drive) (segNo seg))) []) ⌝ }
+    requires { ⌜ (gone ≡ named drive) × (drive < p .N) × Named p seg × (pointerOf p (now pointers) drive (zoneOn seg drive) ≡ 0) × (zoneOn seg drive < p .Z) ⌝ }
+    requires { ⌜ (kept ≡ true → recsFault p (named drive) (segmentOf p (viewOf p (now image) (now pointers)) (named drive) seg) ≡ false) ⌝ }
+    requires { ⌜ AllFit p (viewOf p (now image) (now pointers)) (cond kept (rebuiltZone p drive (segmentOf p (viewOf p (now image) (now pointers)) (named drive) seg)) []) ⌝ }
     ensures { λ r. ⌜
-        Storing p count (cond kept (rebuiltZone p drive (segmentOf p (viewOf p (now (image .entry)) (now (pointers .entry))) (named drive) (segNo seg))) [])
+        Storing p count (cond kept (rebuiltZone p drive (segmentOf p (viewOf p (now (image .entry)) (now (pointers .entry))) (named drive) seg)) [])
         (mkDisk (now (image .entry)) (now (pointers .entry))) r (mkDisk (now (image .exit)) (now (pointers .exit))) ⌝ }
 {
     if !kept {
@@ -133,7 +134,8 @@ fn rebuild_zones(
     let mut left = count;
     let mut g = 0;
     while g < p.Z {
-        let made = rebuild_if(p, image, pointers, gone, kept[g], g, drive, left);
+        let segment = disk_shape::across(p, g);
+        let made = rebuild_if(p, image, pointers, gone, kept[g], segment, drive, left);
         if made.cut {
             return made;
         }

@@ -7,7 +7,7 @@ use native.Mathlib.Nat.{add-zero, sub-zero}
 use native.Mathlib.Omega.{arith}
 use lib.Dec.{eqb}
 use Rattle.spec.specs.declared.Params.{Params}
-use Rattle.spec.specs.Drives.{Chunk, View, Store, zoneOn, Seg}
+use Rattle.spec.specs.Drives.{Chunk, View, Store, zoneOn}
 use Rattle.spec.specs.Lists.{upFrom, keep, isIn}
 use Rattle.spec.specs.Params.{present}
 use Rattle.spec.specs.Parity.{Piece}
@@ -21,6 +21,7 @@ use Rattle.law_drives.specs.Rebuilding.{pieceChunk, put-pieces}
 use Rattle.law_drives.specs.Tests.{cond-false}
 use Rattle.law_drives.specs.Zones.{hits}
 use Rattle.recover_reset.specs.Same.{same-seg, same-counts, same-piece}
+use Rattle.spec.specs.declared.Seg.{Seg}
 
 -- 01, Rebuild: the store of stripe s's chunk
 unfoldable pub lostStore : Params → ℕ → ℕ → Segment → ℕ → Store

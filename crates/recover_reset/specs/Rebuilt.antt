@@ -9,7 +9,7 @@ use lib.Dec.{eqb}
 use lib.ListN.{length, getD, take, drop, length-take, length-drop, length-map}
 use lib.Seq.{getD-take, getD-drop, ext-getD}
 use Rattle.spec.specs.declared.Params.{Params}
-use Rattle.spec.specs.Drives.{Chunk, mkChunk, noChunk, Zone, View, zoneAt, pointerAt, Store, Disk, pointerOf, storeDisk, storeAll, zoneOn, sparesOf, footersOf, zeroSpare, footerStores}
+use Rattle.spec.specs.Drives.{Chunk, mkChunk, noChunk, Zone, View, zoneAt, pointerAt, Store, Disk, pointerOf, storeDisk, storeAll, zoneOn, sparesOf, footersOf, zeroSpare, footerStores, zonesIn}
 use Rattle.spec.specs.Drives.Store.{put}
 use Rattle.spec.specs.Layout.{headerBlock, mkRec, recordBytes, footerBlock}
 use Rattle.spec.specs.Lists.{upFrom, below, consIf, keep, isIn}
@@ -17,7 +17,6 @@ use Rattle.spec.specs.Params.{footers, capacity, named, present}
 use Rattle.spec.specs.Parity.{Piece, mkPiece}
 use Rattle.spec.specs.Rebuild.{rebuiltZone}
 use Rattle.spec.specs.Segments.{lowDrive, Segment, segmentOf, counts, counted, pieceOf, putPiece}
-use Rattle.spec.specs.Drives.{Seg}
 use Rattle.law_basic.specs.Geometry.{Ranged}
 use Rattle.law_basic.specs.Ranges.{and-both, length-below, map-same, map-map, getD-map}
 use Rattle.law_basic.specs.Segs.{Named, zone-on-lt}
@@ -33,10 +32,11 @@ use Rattle.law_drives.specs.Zones.{hitsAt, zoneStore, hits, zone-after}
 use Rattle.law_restart.specs.Frames.{seen-after, whole-after}
 use Rattle.recover_reset.specs.Lost.{lostStore, lostStores, lost-puts, lost-apart, same-lost}
 use Rattle.recover_reset.specs.Same.{same-seg, same-serial, same-copied, same-full, same-counts, same-piece}
+use Rattle.spec.specs.declared.Seg.{Seg}
 
 -- 01, Rebuild: the store of the header
 unfoldable pub headStore : Params → ℕ → Segment → Store
-headStore p d g = put d (zoneOn (g .seg) d) (headerBlock p d (zoneOn (g .seg) d) (g .serial) (g .copied)) zeroSpare
+headStore p d g = put d (zoneOn (g .seg) d) (headerBlock p d (zonesIn p (g .seg)) (g .serial) (g .copied)) zeroSpare
 
 -- the records of the drive's chunks
 unfoldable pub lostSpares : Params → ℕ → Segment → List (List ℕ)
@@ -55,7 +55,7 @@ unfolding rebuiltZone headStore lostRest lostStores lostStore lostFeet lostSpare
 rebuilt-parts p d g =
     let cs = keep (counts p (named d) g) (below (p .S)) in
     let z = zoneOn (g .seg) d in
-    ap (λ (l : List Store). put d z (headerBlock p d z (g .serial) (g .copied)) zeroSpare ∷
+    ap (λ (l : List Store). put d z (headerBlock p d (zonesIn p (g .seg)) (g .serial) (g .copied)) zeroSpare ∷
     (l ++ cond (g .full) (map (λ i. put d z (footerBlock p (lostSpares p d g) i) zeroSpare) (below (footers p))) []))
     (map-map (putPiece d z) (λ s. pieceOf p (named d) g s d) cs)
 
@@ -105,8 +105,8 @@ module _ (p : Params) (d : ℕ) (v u : View) (low : In (lowDrive p (named d)) (p
 
   same-head : headStore p d x ≡ headStore p d y
   unfolding headStore
-  same-head = λ j. let z = zoneOn (same-seg p (named d) v u low ag g hg j) d in
-      put d z (headerBlock p d z (same-serial p (named d) v u low ag g hg j) (same-copied p (named d) v u low ag g hg j)) zeroSpare
+  same-head = λ j. let h = same-seg p (named d) v u low ag g hg j in
+      put d (zoneOn h d) (headerBlock p d (zonesIn p h) (same-serial p (named d) v u low ag g hg j) (same-copied p (named d) v u low ag g hg j)) zeroSpare
 
   same-spares : lostSpares p d x ≡ lostSpares p d y
   unfolding lostSpares counted

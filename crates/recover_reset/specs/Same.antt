@@ -6,7 +6,7 @@ use Prim.Native.Nat.{ℕ, _+_}
 use lib.Dec.{eqb}
 use lib.ListN.{getD}
 use Rattle.spec.specs.declared.Params.{Params}
-use Rattle.spec.specs.Drives.{noChunk, noZone, View, Seg, zoneOn}
+use Rattle.spec.specs.Drives.{noChunk, noZone, View, zoneOn}
 use Rattle.spec.specs.Layout.{Rec, mkRec}
 use Rattle.spec.specs.Lists.{any, indexOf, isIn}
 use Rattle.spec.specs.Params.{present}
@@ -19,6 +19,7 @@ use Rattle.law_code.specs.Code.{decode-same}
 use Rattle.law_drives.specs.Frame.{Agree, core, same-core}
 use Rattle.law_drives.specs.Members.{In}
 use Rattle.law_drives.specs.Segs.{present-in, in-present, zone-by, seg-is}
+use Rattle.spec.specs.declared.Seg.{Seg}
 
 module _ (p : Params) (gone : ℕ) (v u : View) (low : In (lowDrive p gone) (present p gone)) (ag : Agree p gone v u) (g : Seg) (hg : Named p g) where
   abbrev x : Segment

@@ -4,7 +4,7 @@ ghost use mathlib.Core.Bool.{true};
 ghost use mathlib.Core.List.{List, [], _∷_, map};
 ghost use Prim.Native.Nat.{ℕ, _<_};
 ghost use lib.ListN.{length};
-ghost use Rattle.spec.specs.Drives.{mkDisk, pointerOf, zeroSpare};
+ghost use Rattle.spec.specs.Drives.{mkDisk, pointerOf, zeroSpare, zonesIn, zoneOn};
 ghost use Rattle.spec.specs.Drives.Store.{put, reset};
 ghost use Rattle.spec.specs.Layout.{headerBlock};
 ghost use Rattle.spec.specs.Lists.{below};
@@ -13,6 +13,7 @@ ghost use Rattle.law_views.specs.Views.{Whole};
 ghost use Rattle.disk_zones.specs.Made.{Storing};
 use disk_zones::Made;
 use spec::Params;
+use spec::Seg;
 use spec::Serial;
 
 // 01, Rebuild: resets the named drive, under a store count; the image is left as it is.
@@ -34,7 +35,7 @@ pub fn reset_drive(p: Params, pointers: &mut [u8], drive: usize, count: u64) -> 
     Made { left, cut: false }
 }
 
-// 01, Rebuild: the header of the drive's zone, under a store count; unit is room for a header with its spare, spare is all zero.
+// 01, Rebuild: the header of a segment in the drive's zone, under a store count; unit is room for a header with its spare, spare is all zero.
 fn put_header_with(
     p: Params,
     image: &mut [u8],
@@ -43,6 +44,7 @@ fn put_header_with(
     spare: &[u8],
     drive: usize,
     zone: usize,
+    segment: Seg,
     serial: Serial,
     copied: Serial,
     count: u64,
@@ -51,10 +53,10 @@ fn put_header_with(
     requires { ⌜ Whole p (mkDisk (now image) (now pointers)) ⌝ }
     requires { ⌜ (drive < p .N) × (zone < p .Z) × (pointerOf p (now pointers) drive zone < capacity p) × (length (now unit) ≡ unitLen p) × (now spare ≡ zeroSpare) ⌝ }
     ensures { λ r. ⌜
-        Storing p count (put drive zone (headerBlock p drive zone (serial .0) (copied .0)) zeroSpare ∷ [])
+        Storing p count (put drive zone (headerBlock p drive (zonesIn p segment) (serial .0) (copied .0)) zeroSpare ∷ [])
         (mkDisk (now (image .entry)) (now (pointers .entry))) r (mkDisk (now (image .exit)) (now (pointers .exit))) ⌝ }
 {
-    disk_records::write_header(unit, p, drive, zone, serial, copied);
+    disk_records::write_header(unit, p, drive, segment, serial, copied);
     let b = p.B;
     disk_zones::put_limited(p, image, pointers, drive, zone, &unit[..b], spare, count)
 }
@@ -65,18 +67,19 @@ pub fn put_header(
     image: &mut [u8],
     pointers: &mut [u8],
     drive: usize,
-    zone: usize,
+    segment: Seg,
     serial: Serial,
     copied: Serial,
     count: u64,
 ) -> Made
     requires { ⌜ inRange p ≡ true ⌝ }
     requires { ⌜ Whole p (mkDisk (now image) (now pointers)) ⌝ }
-    requires { ⌜ (drive < p .N) × (zone < p .Z) × (pointerOf p (now pointers) drive zone < capacity p) ⌝ }
+    requires { ⌜ (drive < p .N) × (zoneOn segment drive < p .Z) × (pointerOf p (now pointers) drive (zoneOn segment drive) < capacity p) ⌝ }
     ensures { λ r. ⌜
-        Storing p count (put drive zone (headerBlock p drive zone (serial .0) (copied .0)) zeroSpare ∷ [])
+        Storing p count (put drive (zoneOn segment drive) (headerBlock p drive (zonesIn p segment) (serial .0) (copied .0)) zeroSpare ∷ [])
         (mkDisk (now (image .entry)) (now (pointers .entry))) r (mkDisk (now (image .exit)) (now (pointers .exit))) ⌝ }
 {
+    let zone = disk_shape::zone_on(p, segment, drive);
     let mut unit = [0u8; disk_shape::UNIT];
     let spare = [0u8; disk_shape::SPARE];
     let n = disk_shape::unit_len(p);
@@ -88,6 +91,7 @@ pub fn put_header(
         &spare,
         drive,
         zone,
+        segment,
         serial,
         copied,
         count,

@@ -1,6 +1,6 @@
 -- The counted stripes that are still to be moved, numbered on (01, Restart, 4). Assumes nothing.
 use Prim.Native.Nat.{ℕ, suc, _+_, _-_, _*_, _%_, _≤_, _<_}
-use Rattle.spec.specs.Drives.{View, Store, Disk, sealedIn, Seg, seg}
+use Rattle.spec.specs.Drives.{View, Store, Disk, sealedIn}
 use Rattle.spec.specs.Lists.{upFrom, consIf, keep}
 use Rattle.spec.specs.Restart.{movedStripe, movedStripes}
 use Rattle.spec.specs.Segments.{Segment, counts, counted}
@@ -25,6 +25,7 @@ use mathlib.Core.List.{List, [], _∷_, _++_}
 use mathlib.Core.Path.{_≡_, refl, sym, ap, ap₂, _∙_, subst}
 use native.Mathlib.Nat.{add-zero, zero-mul, sub-zero}
 use native.Mathlib.Omega.{arith}
+use Rattle.spec.specs.declared.Seg.{Seg}
 
 -- stripe s, if it counts
 unfoldable pub itself : Params → Segment → ℕ → List ℕ
@@ -173,18 +174,18 @@ from-start p g b n = ap₂ (countedFrom p g) (sym (add-zero b)) (sym (sub-zero n
 
 -- the segment that is read stays
 module _ (p : Params) (r : Ranged p) (w : Group) (ng : w .gone ≡ 0) (to : Seg) (m₀ : Moved) (k₀ : Disk) (L T : List ℕ) (m : Moved) (k : Disk)
-    (u : MovedUpto p (segmentIn p (k₀ .image) (k₀ .pointers) w) to (seg (w .seg)) m₀ k₀ L T m k) where
+    (u : MovedUpto p (segmentIn p (k₀ .image) (k₀ .pointers) w) to (w .seg) m₀ k₀ L T m k) where
   abbrev g₀ : Segment
   g₀ = segmentIn p (k₀ .image) (k₀ .pointers) w
 
   pub upto-in : segmentIn p (k₀ .image) (k₀ .pointers) w ≡ segmentIn p (k .image) (k .pointers) w
-  upto-in = moves-in p r (m₀ .left) (movedStripes p g₀ to L (m₀ .next)) k₀ (seg (w .seg)) (movedStripes p g₀ to T (m .next)) (m .left) k (u .moves) w ng refl
+  upto-in = moves-in p r (m₀ .left) (movedStripes p g₀ to L (m₀ .next)) k₀ (w .seg) (movedStripes p g₀ to T (m .next)) (m .left) k (u .moves) w ng refl
 
-  pub upto-sealed : sealedIn p (seen p k₀) 0 (seg (w .seg)) ≡ sealedIn p (seen p k) 0 (seg (w .seg))
-  upto-sealed = moves-sealed p r (m₀ .left) (movedStripes p g₀ to L (m₀ .next)) k₀ (seg (w .seg)) (movedStripes p g₀ to T (m .next)) (m .left) k (u .moves)
+  pub upto-sealed : sealedIn p (seen p k₀) 0 (w .seg) ≡ sealedIn p (seen p k) 0 (w .seg)
+  upto-sealed = moves-sealed p r (m₀ .left) (movedStripes p g₀ to L (m₀ .next)) k₀ (w .seg) (movedStripes p g₀ to T (m .next)) (m .left) k (u .moves)
 
   pub upto-reads : (at : List ℕ) → GroupReads p (k₀ .image) (k₀ .pointers) w at → GroupReads p (k .image) (k .pointers) w at
-  upto-reads at x = moves-reads p r (m₀ .left) (movedStripes p g₀ to L (m₀ .next)) k₀ (seg (w .seg)) (movedStripes p g₀ to T (m .next)) (m .left) k (u .moves) w ng refl at x
+  upto-reads at x = moves-reads p r (m₀ .left) (movedStripes p g₀ to L (m₀ .next)) k₀ (w .seg) (movedStripes p g₀ to T (m .next)) (m .left) k (u .moves) w ng refl at x
 
   pub upto-step : (l : Segment → List ℕ) (m′ : Moved) (k′ : Disk) → StepMoved p (segmentIn p (k .image) (k .pointers) w) to (l (segmentIn p (k .image) (k .pointers) w)) m k m′ k′
       → StepMoved p (segmentIn p (k₀ .image) (k₀ .pointers) w) to (l (segmentIn p (k₀ .image) (k₀ .pointers) w)) m k m′ k′
@@ -195,7 +196,7 @@ module _ (p : Params) (r : Ranged p) (w : Group) (ng : w .gone ≡ 0) (to : Seg)
   upto-fits l n f = subst (λ (g : Segment). AllFit p (seen p k) (movedStripes p g to (l g) n)) upto-in f
 
 -- a group of a segment with no drive missing, read by its spares
-abbrev pub groupAt : ℕ → ℕ → Group
+abbrev pub groupAt : Seg → ℕ → Group
 groupAt s b = record { gone = 0; seg = s; full = false; base = b }
 
 -- nothing is moved yet

@@ -1,6 +1,6 @@
 -- The rewrite: headers, counted stripes, resets, done or cut at each (01, Restart, 4). Assumes nothing.
 use Prim.Native.Nat.{ℕ, _<_}
-use Rattle.spec.specs.Drives.{Store, Disk, pointerOf, zoneOn, sealedIn, zeroSpare, headerStores, resetStores, Seg, sameSeg}
+use Rattle.spec.specs.Drives.{Store, Disk, pointerOf, zoneOn, sealedIn, zeroSpare, headerStores, resetStores, sameSeg, zonesIn}
 use Rattle.spec.specs.Drives.Store.{put}
 use Rattle.spec.specs.Layout.{headerBlock}
 use Rattle.spec.specs.Params.{capacity}
@@ -22,6 +22,7 @@ use mathlib.Core.Bool.{true, false}
 use mathlib.Core.List.{List, [], _∷_, _++_, append-assoc}
 use mathlib.Core.Path.{_≡_, refl, sym, ap, _∙_, subst}
 use native.Mathlib.Omega.{arith}
+use Rattle.spec.specs.declared.Seg.{Seg}
 
 module _ (p : Params) (r : Ranged p) (n : ℕ) (sgm : Seg) (hz : Named p sgm) (to : Seg) (ne : OtherSeg p to sgm) (serial : ℕ) (k₀ : Disk) where
   abbrev x : Segment
@@ -52,7 +53,7 @@ module _ (p : Params) (r : Ranged p) (n : ℕ) (sgm : Seg) (hz : Named p sgm) (t
   head-misses : (e : ℕ) → e < p .N → hits e (zoneOn sgm e) heads ≡ []
   head-misses e he =
       headers-on p e sgm to serial (x .serial) hz (ne .0) he
-      ∙ cond-false (sameSeg to sgm) (put e (zoneOn to e) (headerBlock p e (zoneOn to e) serial (x .serial)) zeroSpare ∷ []) [] (seg-other to sgm (ne .1))
+      ∙ cond-false (sameSeg to sgm) (put e (zoneOn to e) (headerBlock p e (zonesIn p to) serial (x .serial)) zeroSpare ∷ []) [] (seg-other to sgm (ne .1))
 
   module _ (w : Whole p k₀) (f : AllFit p (seen p k₀) (rewriteStores p (segmentOf p (seen p k₀) 0 sgm) to serial)) (copied : ℕ)
       (ec : copied ≡ segmentOf p (seen p k₀) 0 sgm .serial) (m₁ : Made) (k₁ : Disk)

@@ -3,7 +3,7 @@ ghost use mathlib.Core.Path.{_≡_};
 ghost use mathlib.Core.Bool.{true, false};
 ghost use Prim.Native.Nat.{ℕ, _+_, _%_, _≤_, _<_};
 ghost use lib.ListN.{length};
-ghost use Rattle.spec.specs.Drives.{viewOf, mkDisk, pointerOf, sealedIn, seg as segNo, zoneOn};
+ghost use Rattle.spec.specs.Drives.{viewOf, mkDisk, pointerOf, sealedIn, zoneOn};
 ghost use Rattle.spec.specs.Params.{inRange};
 ghost use Rattle.spec.specs.Restart.{movedStripes, rewriteStores};
 ghost use Rattle.spec.specs.Segments.{segmentOf, counted};
@@ -12,10 +12,11 @@ ghost use Rattle.recover_move.specs.Moves.{MovesShown};
 ghost use Rattle.recover_rewrite.specs.Due.{itself, countedFrom, StepMoved};
 ghost use Rattle.law_views.specs.Views.{Whole, AllFit};
 ghost use Rattle.disk_zones.specs.Made.{Storing};
-ghost use Rattle.law_basic.specs.Segs.{OtherSeg};
+ghost use Rattle.law_basic.specs.Segs.{OtherSeg, Named, ZonesLow};
 use disk_zones::Made;
 use recover_groups::Group;
 use spec::Params;
+use spec::Seg;
 use spec::Serial;
 
 // The number that the next stripe takes, and what is left of the store count.
@@ -33,19 +34,19 @@ fn move_if(
     w: Group,
     at: &[u16],
     k: usize,
-    to: usize,
+    to: Seg,
     m: Moved,
 ) -> Moved
     requires { ⌜ inRange p ≡ true ⌝ }
     requires { ⌜ Whole p (mkDisk (now image) (now pointers)) ⌝ }
     requires { ⌜ MovesShown p w (now at) k ⌝ }
     requires { ⌜ GroupReads p (now image) (now pointers) w (now at) ⌝ }
-    requires { ⌜ (to < p .Z) × (m .next ≤ w .base + k) × (m .cut ≡ false) × OtherSeg p (segNo to) (segNo (w .seg)) ⌝ }
+    requires { ⌜ ZonesLow p 0 to × (m .next ≤ w .base + k) × (m .cut ≡ false) × OtherSeg p to (w .seg) ⌝ }
     requires { ⌜
         AllFit p (viewOf p (now image) (now pointers))
-        (movedStripes p (segmentIn p (now image) (now pointers) w) (segNo to) (itself p (segmentIn p (now image) (now pointers) w) (w .base + k)) (m .next)) ⌝ }
+        (movedStripes p (segmentIn p (now image) (now pointers) w) to (itself p (segmentIn p (now image) (now pointers) w) (w .base + k)) (m .next)) ⌝ }
     ensures { λ r. ⌜
-        StepMoved p (segmentIn p (now (image .entry)) (now (pointers .entry)) w) (segNo to)
+        StepMoved p (segmentIn p (now (image .entry)) (now (pointers .entry)) w) to
         (itself p (segmentIn p (now (image .entry)) (now (pointers .entry)) w) (w .base + k)) m
         (mkDisk (now (image .entry)) (now (pointers .entry))) r (mkDisk (now (image .exit)) (now (pointers .exit))) ⌝ }
 {
@@ -67,20 +68,20 @@ fn move_group(
     pointers: &mut [u8],
     w: Group,
     at: &mut [u16],
-    to: usize,
+    to: Seg,
     m: Moved,
 ) -> Moved
     requires { ⌜ inRange p ≡ true ⌝ }
     requires { ⌜ Whole p (mkDisk (now image) (now pointers)) ⌝ }
-    requires { ⌜ (length (now at) ≡ 2048) × (w .seg < p .Z) × (w .base < p .S) × (w .base % p .G ≡ 0) × (w .gone ≡ 0) ⌝ }
-    requires { ⌜ (w .full ≡ sealedIn p (viewOf p (now image) (now pointers)) (w .gone) (segNo (w .seg))) × (recsFault p (w .gone) (segmentIn p (now image) (now pointers) w) ≡ false) ⌝ }
-    requires { ⌜ (to < p .Z) × (m .next ≤ w .base) × (m .cut ≡ false) × OtherSeg p (segNo to) (segNo (w .seg)) ⌝ }
+    requires { ⌜ (length (now at) ≡ 2048) × Named p (w .seg) × (w .base < p .S) × (w .base % p .G ≡ 0) × (w .gone ≡ 0) ⌝ }
+    requires { ⌜ (w .full ≡ sealedIn p (viewOf p (now image) (now pointers)) (w .gone) (w .seg)) × (recsFault p (w .gone) (segmentIn p (now image) (now pointers) w) ≡ false) ⌝ }
+    requires { ⌜ ZonesLow p 0 to × (m .next ≤ w .base) × (m .cut ≡ false) × OtherSeg p to (w .seg) ⌝ }
     requires { ⌜
         AllFit p (viewOf p (now image) (now pointers))
-        (movedStripes p (segmentIn p (now image) (now pointers) w) (segNo to)
+        (movedStripes p (segmentIn p (now image) (now pointers) w) to
         (countedFrom p (segmentIn p (now image) (now pointers) w) (w .base) (groupLen p (w .base))) (m .next)) ⌝ }
     ensures { λ r. ⌜
-        StepMoved p (segmentIn p (now (image .entry)) (now (pointers .entry)) w) (segNo to)
+        StepMoved p (segmentIn p (now (image .entry)) (now (pointers .entry)) w) to
         (countedFrom p (segmentIn p (now (image .entry)) (now (pointers .entry)) w) (w .base) (groupLen p (w .base))) m
         (mkDisk (now (image .entry)) (now (pointers .entry))) r (mkDisk (now (image .exit)) (now (pointers .exit))) ⌝ }
 {
@@ -103,25 +104,25 @@ fn move_stripes(
     p: Params,
     image: &mut [u8],
     pointers: &mut [u8],
-    seg: usize,
-    to: usize,
+    seg: Seg,
+    to: Seg,
     count: u64,
 ) -> Made
     requires { ⌜ inRange p ≡ true ⌝ }
     requires { ⌜ Whole p (mkDisk (now image) (now pointers)) ⌝ }
     requires { ⌜
-        (seg < p .Z)
-        × (to < p .Z)
-        × (sealedIn p (viewOf p (now image) (now pointers)) 0 (segNo seg) ≡ false)
-        × (recsFault p 0 (segmentOf p (viewOf p (now image) (now pointers)) 0 (segNo seg)) ≡ false)
-        × OtherSeg p (segNo to) (segNo seg) ⌝ }
+        Named p seg
+        × ZonesLow p 0 to
+        × (sealedIn p (viewOf p (now image) (now pointers)) 0 seg ≡ false)
+        × (recsFault p 0 (segmentOf p (viewOf p (now image) (now pointers)) 0 seg) ≡ false)
+        × OtherSeg p to seg ⌝ }
     requires { ⌜
         AllFit p (viewOf p (now image) (now pointers))
-        (movedStripes p (segmentOf p (viewOf p (now image) (now pointers)) 0 (segNo seg)) (segNo to)
-        (counted p 0 (segmentOf p (viewOf p (now image) (now pointers)) 0 (segNo seg))) 0) ⌝ }
+        (movedStripes p (segmentOf p (viewOf p (now image) (now pointers)) 0 seg) to
+        (counted p 0 (segmentOf p (viewOf p (now image) (now pointers)) 0 seg)) 0) ⌝ }
     ensures { λ r. ⌜
-        Storing p count (movedStripes p (segmentOf p (viewOf p (now (image .entry)) (now (pointers .entry))) 0 (segNo seg)) (segNo to)
-        (counted p 0 (segmentOf p (viewOf p (now (image .entry)) (now (pointers .entry))) 0 (segNo seg))) 0)
+        Storing p count (movedStripes p (segmentOf p (viewOf p (now (image .entry)) (now (pointers .entry))) 0 seg) to
+        (counted p 0 (segmentOf p (viewOf p (now (image .entry)) (now (pointers .entry))) 0 seg)) 0)
         (mkDisk (now (image .entry)) (now (pointers .entry))) r (mkDisk (now (image .exit)) (now (pointers .exit))) ⌝ }
 {
     let mut at = [0u16; 2048];
@@ -158,8 +159,8 @@ pub fn rewrite(
     p: Params,
     image: &mut [u8],
     pointers: &mut [u8],
-    seg: usize,
-    to: usize,
+    seg: Seg,
+    to: Seg,
     serial: Serial,
     copied: Serial,
     count: u64,
@@ -167,16 +168,16 @@ pub fn rewrite(
     requires { ⌜ inRange p ≡ true ⌝ }
     requires { ⌜ Whole p (mkDisk (now image) (now pointers)) ⌝ }
     requires { ⌜
-        (seg < p .Z)
-        × (to < p .Z)
-        × (sealedIn p (viewOf p (now image) (now pointers)) 0 (segNo seg) ≡ false)
-        × (recsFault p 0 (segmentOf p (viewOf p (now image) (now pointers)) 0 (segNo seg)) ≡ false)
-        × OtherSeg p (segNo to) (segNo seg) ⌝ }
-    requires { ⌜ (copied .0 ≡ segmentOf p (viewOf p (now image) (now pointers)) 0 (segNo seg) .serial)
-        × ((d : ℕ) → d < p .N → pointerOf p (now pointers) d (zoneOn (segNo to) d) ≡ 0) ⌝ }
-    requires { ⌜ AllFit p (viewOf p (now image) (now pointers)) (rewriteStores p (segmentOf p (viewOf p (now image) (now pointers)) 0 (segNo seg)) (segNo to) (serial .0)) ⌝ }
+        Named p seg
+        × ZonesLow p 0 to
+        × (sealedIn p (viewOf p (now image) (now pointers)) 0 seg ≡ false)
+        × (recsFault p 0 (segmentOf p (viewOf p (now image) (now pointers)) 0 seg) ≡ false)
+        × OtherSeg p to seg ⌝ }
+    requires { ⌜ (copied .0 ≡ segmentOf p (viewOf p (now image) (now pointers)) 0 seg .serial)
+        × ((d : ℕ) → d < p .N → pointerOf p (now pointers) d (zoneOn to d) ≡ 0) ⌝ }
+    requires { ⌜ AllFit p (viewOf p (now image) (now pointers)) (rewriteStores p (segmentOf p (viewOf p (now image) (now pointers)) 0 seg) to (serial .0)) ⌝ }
     ensures { λ r. ⌜
-        Storing p count (rewriteStores p (segmentOf p (viewOf p (now (image .entry)) (now (pointers .entry))) 0 (segNo seg)) (segNo to) (serial .0))
+        Storing p count (rewriteStores p (segmentOf p (viewOf p (now (image .entry)) (now (pointers .entry))) 0 seg) to (serial .0))
         (mkDisk (now (image .entry)) (now (pointers .entry))) r (mkDisk (now (image .exit)) (now (pointers .exit))) ⌝ }
 {
     let made = disk_zones::header_stores(p, image, pointers, to, serial, copied, count);

@@ -4,14 +4,13 @@ use mathlib.Core.List.{List, [], _∷_, _++_, map, append-nil}
 use mathlib.Core.Bool.{Bool, true, false, cond, not, _&&_, _||_}
 use Prim.Native.Nat.{ℕ, _+_, _-_, max, _≤_, _<_}
 use native.Mathlib.Decide.{ℕ-discrete}
-use borrow.Author.Tests.{eq-eqb, eqb-true}
 use native.Mathlib.Omega.{arith}
 use lib.Dec.{eqb}
 use lib.ListN.{length-map, length, getD, set}
 use lib.Seq.{getD-set-same, getD-set-other}
 use Rattle.spec.specs.declared.Params.{Params}
 use Rattle.spec.specs.Bytes.{part}
-use Rattle.spec.specs.Drives.{View, pointerAt, viewOf, mkDisk, pointerOf, allSegs, zoneOn, sealedIn, Seg, seg, sameSeg}
+use Rattle.spec.specs.Drives.{View, pointerAt, viewOf, mkDisk, pointerOf, allSegs, zoneOn, sealedIn, sameSeg, across}
 use Rattle.spec.specs.Layout.{headerSerial, headerCopied}
 use Rattle.spec.specs.Lists.{upFrom, below, all, any, consIf, keep, greatest, firstOr, isIn}
 use Rattle.spec.specs.Params.{unitLen, imageLen, pointersLen, placeOf, placeByte, drivesOf, present}
@@ -19,15 +18,16 @@ use Rattle.spec.specs.Restart.{freeSegs}
 use Rattle.spec.specs.Segments.{lowDrive, headerAt, leftBy1, isCopy, remaining, Segment, segmentOf, segments, greatestSerial, unsealed}
 use Rattle.law_basic.specs.Geometry.{Ranged, capacity-low}
 use Rattle.law_basic.specs.Ranges.{Test, test, and-both, upFrom-step, upFrom-end, below-start, map-append, map-map, keep-hit, keep-miss, keep-none, keep-below-same}
-use Rattle.law_basic.specs.Ranges.{all-keep-same, any-same, greatest-snoc, all-keep, keep-below-snoc, keep-map}
+use Rattle.law_basic.specs.Ranges.{all-keep-same, greatest-snoc, all-keep, keep-below-snoc, keep-map}
 use Rattle.law_basic.specs.Ranges.Test.{yes!, no! }
-use Rattle.law_basic.specs.Segs.{seg-number, Named, zone-on-lt, keep-segs, any-segs, first-seg}
+use Rattle.law_basic.specs.Segs.{seg-number, seg-self, seg-true, Named, zone-on-lt, keep-segs, any-segs, first-across}
 use Rattle.law_views.specs.Views.{pointer-view, block-view}
 use Rattle.law_scans.specs.Scans.{any-keep}
 use Rattle.law_drives.specs.Frame.{any-mapped}
 use Rattle.law_drives.specs.Members.{keep-in, in-none, in-any, any-cong, map-cong, keep-keep, in-below, below-in}
 use Rattle.law_drives.specs.Tests.{and-false-right}
 use Rattle.recover_segments.specs.Remains.{isLeft, remainsHere, serialOf, LeftFlags, Keeps, Serials, otherSerial}
+use Rattle.spec.specs.declared.Seg.{Seg}
 
 -- ---- lists
 
@@ -56,17 +56,17 @@ set-more {A} l i x d f h s e j k = go (ℕ-discrete j i)
     go (yes q) = ap (λ (m : ℕ). getD (set l i x) m d) q ∙ getD-set-same l i x d h ∙ e ∙ ap f (sym q)
     go (no q) = getD-set-other l i j x d q ∙ s j (omega arith)
 
--- one number of a range
-any-one : (f : ℕ → Bool) (n z : ℕ) → z < n → any (λ g. f g && eqb g z) (below n) ≡ f z
-any-one f n z h = go (test (f z))
+-- one number of a range, among those like it
+any-one : (f like : ℕ → Bool) (n z : ℕ) → z < n → like z ≡ true → ((g : ℕ) → like g ≡ true → f g ≡ f z) → any (λ g. f g && like g) (below n) ≡ f z
+any-one f like n z h s k = go (test (f z))
   where
-    go : Test (f z) → any (λ g. f g && eqb g z) (below n) ≡ f z
-    go (yes! e) = in-any (λ g. f g && eqb g z) (below n) z (in-below n z h) (and-both (f z) (eqb z z) e (eq-eqb z z refl)) ∙ sym e
-    go (no! e) = in-none (λ g. f g && eqb g z) (below n) (λ g m. miss g (test (eqb g z))) ∙ sym e
+    go : Test (f z) → any (λ g. f g && like g) (below n) ≡ f z
+    go (yes! e) = in-any (λ g. f g && like g) (below n) z (in-below n z h) (and-both (f z) (like z) e s) ∙ sym e
+    go (no! e) = in-none (λ g. f g && like g) (below n) (λ g m. miss g (test (like g))) ∙ sym e
       where
-        miss : (g : ℕ) → Test (eqb g z) → (f g && eqb g z) ≡ false
-        miss g (yes! q) = ap (λ (b : Bool). b && eqb g z) (ap f (eqb-true g z q) ∙ e)
-        miss g (no! q) = and-false-right (f g) (eqb g z) q
+        miss : (g : ℕ) → Test (like g) → (f g && like g) ≡ false
+        miss g (yes! q) = ap (λ (b : Bool). b && like g) (k g q ∙ e)
+        miss g (no! q) = and-false-right (f g) (like g) q
 
 -- ---- headers and pointers, by the bytes
 
@@ -75,10 +75,10 @@ unfolding unitLen
 block-in-unit p = omega arith
 
 module _ (p : Params) (im ps : List ℕ) (h : length im ≡ imageLen p) (k : length ps ≡ pointersLen p) (r : Ranged p) where
-  pub header-bytes : (d : ℕ) (g : Seg) → d < p .N → Named p g → headerAt (viewOf p im ps) d g ≡ part (placeByte p (placeOf p d (zoneOn g d) 0)) (p .B) im
+  pub header-bytes : (d : ℕ) (g : Seg) → d < p .N → zoneOn g d < p .Z → headerAt (viewOf p im ps) d g ≡ part (placeByte p (placeOf p d (zoneOn g d) 0)) (p .B) im
   unfolding headerAt
   header-bytes d g hd hg =
-      block-view p (mkDisk im ps) d (zoneOn g d) hd (zone-on-lt p g d hg) (record { image-long = h; pointers-long = k }) 0 (let x = capacity-low p r in omega (arith, x))
+      block-view p (mkDisk im ps) d (zoneOn g d) hd hg (record { image-long = h; pointers-long = k }) 0 (let x = capacity-low p r in omega (arith, x))
 
   pub left-bytes : (gone : ℕ) (g : Seg) → Named p g
       → isLeft p (viewOf p im ps) gone g ≡ all (λ d. isIn gone d || not (eqb (pointerOf p ps d (zoneOn g d)) 0)) (below (p .N))
@@ -90,57 +90,57 @@ module _ (p : Params) (im ps : List ℕ) (h : length im ≡ imageLen p) (k : len
 
 -- ---- the segments that remain, by number
 
-pub remaining-keep : (p : Params) (v : View) (gone : ℕ) → remaining p v gone ≡ map seg (keep (λ g. remainsHere p v gone (seg g)) (below (p .Z)))
+pub remaining-keep : (p : Params) (v : View) (gone : ℕ) → remaining p v gone ≡ map (across p) (keep (λ g. remainsHere p v gone (across p g)) (below (p .Z)))
 unfolding remaining leftBy1 remainsHere isLeft
 remaining-keep p v gone =
-    keep-keep (λ g. not (isCopy v (lowDrive p gone) (leftBy1 p v gone) g)) (isLeft p v gone) (allSegs p) ∙ keep-segs p (remainsHere p v gone)
+    keep-keep (λ g. not (isCopy p v (lowDrive p gone) (leftBy1 p v gone) g)) (isLeft p v gone) (allSegs p) ∙ keep-segs p (remainsHere p v gone)
 
-pub segments-keep : (p : Params) (v : View) (gone : ℕ) → segments p v gone ≡ map (λ g. segmentOf p v gone (seg g)) (keep (λ g. remainsHere p v gone (seg g)) (below (p .Z)))
+pub segments-keep : (p : Params) (v : View) (gone : ℕ) → segments p v gone ≡ map (λ g. segmentOf p v gone (across p g)) (keep (λ g. remainsHere p v gone (across p g)) (below (p .Z)))
 unfolding segments
-segments-keep p v gone = ap (map (segmentOf p v gone)) (remaining-keep p v gone) ∙ map-map (segmentOf p v gone) seg (keep (λ g. remainsHere p v gone (seg g)) (below (p .Z)))
+segments-keep p v gone = ap (map (segmentOf p v gone)) (remaining-keep p v gone) ∙ map-map (segmentOf p v gone) (across p) (keep (λ g. remainsHere p v gone (across p g)) (below (p .Z)))
 
 -- the segments of segments as read
-pub segs-of : (p : Params) (v : View) (gone : ℕ) (l : List ℕ) → map (λ (s : Segment). s .seg) (map (λ g. segmentOf p v gone (seg g)) l) ≡ map seg l
+pub segs-of : (p : Params) (v : View) (gone : ℕ) (l : List ℕ) → map (λ (s : Segment). s .seg) (map (λ g. segmentOf p v gone (across p g)) l) ≡ map (across p) l
 unfolding segmentOf
 segs-of p v gone [] = refl
-segs-of p v gone (g ∷ l) = ap (λ (x : List Seg). seg g ∷ x) (segs-of p v gone l)
+segs-of p v gone (g ∷ l) = ap (λ (x : List Seg). across p g ∷ x) (segs-of p v gone l)
 
 -- a segment is among them
-pub is-segment : (p : Params) (v : View) (gone z : ℕ) → z < p .Z → any (λ (s : Segment). sameSeg (s .seg) (seg z)) (segments p v gone) ≡ remainsHere p v gone (seg z)
+pub is-segment : (p : Params) (v : View) (gone z : ℕ) → z < p .Z → any (λ (s : Segment). sameSeg (s .seg) (across p z)) (segments p v gone) ≡ remainsHere p v gone (across p z)
 unfolding segmentOf
 is-segment p v gone z h =
-    let on : ℕ → Bool = λ g. remainsHere p v gone (seg g) in
-    ap (any (λ (s : Segment). sameSeg (s .seg) (seg z))) (segments-keep p v gone)
-    ∙ any-mapped (λ (s : Segment). sameSeg (s .seg) (seg z)) (λ g. segmentOf p v gone (seg g)) (keep on (below (p .Z)))
-    ∙ any-same (λ g. sameSeg (seg g) (seg z)) (λ g. eqb g z) (keep on (below (p .Z))) (λ g. seg-number g z)
-    ∙ any-keep on (λ g. eqb g z) (below (p .Z))
-    ∙ any-one on (p .Z) z h
+    let on : ℕ → Bool = λ g. remainsHere p v gone (across p g) in
+    ap (any (λ (s : Segment). sameSeg (s .seg) (across p z))) (segments-keep p v gone)
+    ∙ any-mapped (λ (s : Segment). sameSeg (s .seg) (across p z)) (λ g. segmentOf p v gone (across p g)) (keep on (below (p .Z)))
+    ∙ any-keep on (λ g. sameSeg (across p g) (across p z)) (below (p .Z))
+    ∙ any-one on (λ g. sameSeg (across p g) (across p z)) (p .Z) z h (seg-self (across p z)) (λ g q. ap (remainsHere p v gone) (seg-true (across p g) (across p z) q))
 
 -- 01, Restart, 2: another segment left by 1 has serial c
-other-is : (p : Params) (v : View) (gone : ℕ) (fl : List Bool) (ns : List ℕ) (g c : ℕ) → LeftFlags p v gone fl → Serials p v gone ns
-    → any (λ h. not (sameSeg h (seg g)) && eqb (headerSerial (headerAt v (lowDrive p gone) h)) c) (leftBy1 p v gone) ≡ otherSerial (p .Z) fl ns g c
+other-is : (p : Params) (v : View) (gone : ℕ) (fl : List Bool) (ns : List ℕ) (g c : ℕ) → 0 < p .N → LeftFlags p v gone fl → Serials p v gone ns
+    → any (λ h. not (sameSeg h (across p g)) && eqb (headerSerial p (headerAt v (lowDrive p gone) h)) c) (leftBy1 p v gone) ≡ otherSerial (p .Z) fl ns g c
 unfolding leftBy1 isLeft otherSerial serialOf
-other-is p v gone fl ns g c a b =
-    any-keep (isLeft p v gone) (λ h. not (sameSeg h (seg g)) && eqb (serialOf p v gone h) c) (allSegs p)
-    ∙ any-segs p (λ h. isLeft p v gone h && (not (sameSeg h (seg g)) && eqb (serialOf p v gone h) c))
-    ∙ any-cong (λ h. isLeft p v gone (seg h) && (not (sameSeg (seg h) (seg g)) && eqb (serialOf p v gone (seg h)) c)) (λ h. getD fl h false && (not (eqb h g) && eqb (getD ns h 0) c))
-    (below (p .Z))
-    (λ h m. λ j. sym (a .1 h (below-in (p .Z) h m)) j && (not (seg-number h g j) && eqb (sym (b .1 h (below-in (p .Z) h m)) j) c))
+other-is p v gone fl ns g c n a b =
+    any-keep (isLeft p v gone) (λ h. not (sameSeg h (across p g)) && eqb (serialOf p v gone h) c) (allSegs p)
+    ∙ any-segs p (λ h. isLeft p v gone h && (not (sameSeg h (across p g)) && eqb (serialOf p v gone h) c))
+    ∙ any-cong (λ h. isLeft p v gone (across p h) && (not (sameSeg (across p h) (across p g)) && eqb (serialOf p v gone (across p h)) c))
+    (λ h. getD fl h false && (not (eqb h g) && eqb (getD ns h 0) c)) (below (p .Z))
+    (λ h m. λ j. sym (a .1 h (below-in (p .Z) h m)) j && (not (seg-number p h g n j) && eqb (sym (b .1 h (below-in (p .Z) h m)) j) c))
 
 -- 01, Restart, 1 and 2: whether a segment remains, by the flags and serials
-pub remains-is : (p : Params) (v : View) (gone : ℕ) (fl : List Bool) (ns : List ℕ) (g c : ℕ) → g < p .Z → LeftFlags p v gone fl → Serials p v gone ns
-    → c ≡ headerCopied (headerAt v (lowDrive p gone) (seg g)) → remainsHere p v gone (seg g) ≡ (getD fl g false && not (not (eqb c 0) && otherSerial (p .Z) fl ns g c))
+pub remains-is : (p : Params) (v : View) (gone : ℕ) (fl : List Bool) (ns : List ℕ) (g c : ℕ) → 0 < p .N → g < p .Z → LeftFlags p v gone fl → Serials p v gone ns
+    → c ≡ headerCopied p (headerAt v (lowDrive p gone) (across p g)) → remainsHere p v gone (across p g) ≡ (getD fl g false && not (not (eqb c 0) && otherSerial (p .Z) fl ns g c))
 unfolding remainsHere isCopy
-remains-is p v gone fl ns g c h a b e =
+remains-is p v gone fl ns g c n h a b e =
     λ j. sym (a .1 g h) j
     && not (not (eqb (sym e j) 0)
-    && (ap (λ (x : ℕ). any (λ h. not (sameSeg h (seg g)) && eqb (headerSerial (headerAt v (lowDrive p gone) h)) x) (leftBy1 p v gone)) (sym e)
-    ∙ other-is p v gone fl ns g c a b) j)
+    && (ap (λ (x : ℕ). any (λ h. not (sameSeg h (across p g)) && eqb (headerSerial p (headerAt v (lowDrive p gone) h)) x) (leftBy1 p v gone)) (sym e)
+    ∙ other-is p v gone fl ns g c n a b) j)
 
 -- ---- what the flags say of all
 
-flags-keep : (p : Params) (v : View) (gone : ℕ) (fl : List Bool) → Keeps p v gone fl → keep (λ g. remainsHere p v gone (seg g)) (below (p .Z)) ≡ keep (λ g. getD fl g false) (below (p .Z))
-flags-keep p v gone fl a = keep-below-same (λ g. remainsHere p v gone (seg g)) (λ g. getD fl g false) (p .Z) (λ g h. sym (a .1 g h))
+flags-keep : (p : Params) (v : View) (gone : ℕ) (fl : List Bool) → Keeps p v gone fl
+    → keep (λ g. remainsHere p v gone (across p g)) (below (p .Z)) ≡ keep (λ g. getD fl g false) (below (p .Z))
+flags-keep p v gone fl a = keep-below-same (λ g. remainsHere p v gone (across p g)) (λ g. getD fl g false) (p .Z) (λ g h. sym (a .1 g h))
 
 -- the greatest of the flagged among the first n
 unfoldable pub greatestIn : ℕ → List Bool → List ℕ → ℕ
@@ -170,46 +170,47 @@ pub greatest-all : (p : Params) (v : View) (gone : ℕ) (fl : List Bool) (ns : L
 unfolding greatestIn greatestSerial segmentOf serialOf
 greatest-all p v gone fl ns a b =
     let on : ℕ → Bool = λ g. getD fl g false in
-    let q : map (λ (s : Segment). s .serial) (segments p v gone) ≡ map (λ g. serialOf p v gone (seg g)) (keep on (below (p .Z))) =
+    let q : map (λ (s : Segment). s .serial) (segments p v gone) ≡ map (λ g. serialOf p v gone (across p g)) (keep on (below (p .Z))) =
     ap (map (λ (s : Segment). s .serial)) (segments-keep p v gone)
-    ∙ map-map (λ (s : Segment). s .serial) (λ g. segmentOf p v gone (seg g)) (keep (λ g. remainsHere p v gone (seg g)) (below (p .Z)))
-    ∙ ap (map (λ g. serialOf p v gone (seg g))) (flags-keep p v gone fl a) in
-    ap greatest (map-cong (λ g. getD ns g 0) (λ g. serialOf p v gone (seg g)) (keep on (below (p .Z))) (λ g m. b .1 g (below-in (p .Z) g (keep-in on (below (p .Z)) g m .0))) ∙ sym q)
+    ∙ map-map (λ (s : Segment). s .serial) (λ g. segmentOf p v gone (across p g)) (keep (λ g. remainsHere p v gone (across p g)) (below (p .Z)))
+    ∙ ap (map (λ g. serialOf p v gone (across p g))) (flags-keep p v gone fl a) in
+    ap greatest (map-cong (λ g. getD ns g 0) (λ g. serialOf p v gone (across p g)) (keep on (below (p .Z))) (λ g m. b .1 g (below-in (p .Z) g (keep-in on (below (p .Z)) g m .0))) ∙ sym q)
 
 -- 01, Restart, 4: the zones whose segment doesn't remain
 pub free-list : (p : Params) (v : View) (gone : ℕ) (fl : List Bool) → Keeps p v gone fl
-    → freeSegs p (segments p v gone) ≡ map seg (keep (λ z. not (getD fl z false)) (below (p .Z)))
+    → freeSegs p (segments p v gone) ≡ map (across p) (keep (λ z. not (getD fl z false)) (below (p .Z)))
 unfolding freeSegs
 free-list p v gone fl a =
     keep-segs p (λ z. not (any (λ (s : Segment). sameSeg (s .seg) z) (segments p v gone)))
-    ∙ ap (map seg) (keep-below-same (λ z. not (any (λ (s : Segment). sameSeg (s .seg) (seg z)) (segments p v gone))) (λ z. not (getD fl z false)) (p .Z)
+    ∙ ap (map (across p)) (keep-below-same (λ z. not (any (λ (s : Segment). sameSeg (s .seg) (across p z)) (segments p v gone))) (λ z. not (getD fl z false)) (p .Z)
     (λ z h. ap not (is-segment p v gone z h ∙ sym (a .1 z h))))
 
 -- the first of them
 pub free-first : (p : Params) (v : View) (gone n : ℕ) (fl : List Bool) → Keeps p v gone fl
-    → firstOr (seg n) (freeSegs p (segments p v gone)) ≡ seg (firstOr n (keep (λ z. not (getD fl z false)) (below (p .Z))))
-free-first p v gone n fl a = ap (firstOr (seg n)) (free-list p v gone fl a) ∙ first-seg n (keep (λ z. not (getD fl z false)) (below (p .Z)))
+    → firstOr (across p n) (freeSegs p (segments p v gone)) ≡ across p (firstOr n (keep (λ z. not (getD fl z false)) (below (p .Z))))
+free-first p v gone n fl a = ap (firstOr (across p n)) (free-list p v gone fl a) ∙ first-across p n (keep (λ z. not (getD fl z false)) (below (p .Z)))
 
 -- 01, Restart, 4: the unsealed segments
 pub unsealed-list : (p : Params) (v : View) (gone : ℕ) (fl : List Bool) → Keeps p v gone fl
-    → unsealed (segments p v gone) ≡ map (λ g. segmentOf p v gone (seg g)) (keep (λ g. getD fl g false && not (sealedIn p v gone (seg g))) (below (p .Z)))
+    → unsealed (segments p v gone) ≡ map (λ g. segmentOf p v gone (across p g)) (keep (λ g. getD fl g false && not (sealedIn p v gone (across p g))) (below (p .Z)))
 unfolding unsealed segmentOf
 unsealed-list p v gone fl a =
-    ap (keep (λ (s : Segment). not (s .full))) (segments-keep p v gone ∙ ap (map (λ g. segmentOf p v gone (seg g))) (flags-keep p v gone fl a))
-    ∙ keep-map (λ (s : Segment). not (s .full)) (λ g. segmentOf p v gone (seg g)) (keep (λ g. getD fl g false) (below (p .Z)))
-    ∙ ap (map (λ g. segmentOf p v gone (seg g))) (keep-keep (λ g. not (sealedIn p v gone (seg g))) (λ g. getD fl g false) (below (p .Z)))
+    ap (keep (λ (s : Segment). not (s .full))) (segments-keep p v gone ∙ ap (map (λ g. segmentOf p v gone (across p g))) (flags-keep p v gone fl a))
+    ∙ keep-map (λ (s : Segment). not (s .full)) (λ g. segmentOf p v gone (across p g)) (keep (λ g. getD fl g false) (below (p .Z)))
+    ∙ ap (map (λ g. segmentOf p v gone (across p g))) (keep-keep (λ g. not (sealedIn p v gone (across p g))) (λ g. getD fl g false) (below (p .Z)))
 
 pub unsealed-segs : (p : Params) (v : View) (gone : ℕ) (fl : List Bool) → Keeps p v gone fl
-    → map (λ (s : Segment). s .seg) (unsealed (segments p v gone)) ≡ map seg (keep (λ g. getD fl g false && not (sealedIn p v gone (seg g))) (below (p .Z)))
+    → map (λ (s : Segment). s .seg) (unsealed (segments p v gone)) ≡ map (across p) (keep (λ g. getD fl g false && not (sealedIn p v gone (across p g))) (below (p .Z)))
 unsealed-segs p v gone fl a =
-    ap (map (λ (s : Segment). s .seg)) (unsealed-list p v gone fl a) ∙ segs-of p v gone (keep (λ g. getD fl g false && not (sealedIn p v gone (seg g))) (below (p .Z)))
+    ap (map (λ (s : Segment). s .seg)) (unsealed-list p v gone fl a) ∙ segs-of p v gone (keep (λ g. getD fl g false && not (sealedIn p v gone (across p g))) (below (p .Z)))
 
 pub unsealed-first : (p : Params) (v : View) (gone n : ℕ) (fl : List Bool) → Keeps p v gone fl
-    → firstOr (seg n) (map (λ (s : Segment). s .seg) (unsealed (segments p v gone))) ≡ seg (firstOr n (keep (λ g. getD fl g false && not (sealedIn p v gone (seg g))) (below (p .Z))))
+    → firstOr (across p n) (map (λ (s : Segment). s .seg) (unsealed (segments p v gone)))
+    ≡ across p (firstOr n (keep (λ g. getD fl g false && not (sealedIn p v gone (across p g))) (below (p .Z))))
 unsealed-first p v gone n fl a =
-    ap (firstOr (seg n)) (unsealed-segs p v gone fl a) ∙ first-seg n (keep (λ g. getD fl g false && not (sealedIn p v gone (seg g))) (below (p .Z)))
+    ap (firstOr (across p n)) (unsealed-segs p v gone fl a) ∙ first-across p n (keep (λ g. getD fl g false && not (sealedIn p v gone (across p g))) (below (p .Z)))
 
 pub unsealed-length : (p : Params) (v : View) (gone : ℕ) (fl : List Bool) → Keeps p v gone fl
-    → length (unsealed (segments p v gone)) ≡ length (keep (λ g. getD fl g false && not (sealedIn p v gone (seg g))) (below (p .Z)))
+    → length (unsealed (segments p v gone)) ≡ length (keep (λ g. getD fl g false && not (sealedIn p v gone (across p g))) (below (p .Z)))
 unsealed-length p v gone fl a =
-    ap length (unsealed-list p v gone fl a) ∙ length-map (keep (λ g. getD fl g false && not (sealedIn p v gone (seg g))) (below (p .Z))) (λ g. segmentOf p v gone (seg g))
+    ap length (unsealed-list p v gone fl a) ∙ length-map (keep (λ g. getD fl g false && not (sealedIn p v gone (across p g))) (below (p .Z))) (λ g. segmentOf p v gone (across p g))

@@ -5,7 +5,7 @@ ghost use mathlib.Core.List.{List, map};
 ghost use Prim.Native.Nat.{ℕ, _≤_, _<_, max};
 ghost use lib.Dec.{eqb};
 ghost use lib.ListN.{length, getD};
-ghost use Rattle.spec.specs.Drives.{View, viewOf, mkDisk, pointerOf, zoneOn, sealedIn, seg};
+ghost use Rattle.spec.specs.Drives.{View, viewOf, mkDisk, pointerOf, zoneOn, sealedIn, across};
 ghost use Rattle.spec.specs.Layout.{headerSerial, headerCopied};
 ghost use Rattle.spec.specs.Lists.{firstOr, isIn};
 ghost use Rattle.spec.specs.Params.{inRange, imageLen, pointersLen};
@@ -14,6 +14,7 @@ ghost use Rattle.spec.specs.Segments.{Segment, lowDrive, headerAt, segments, gr
 ghost use Rattle.law_views.specs.Views.{Whole};
 ghost use Rattle.recover_segments.specs.Remains.{Keeping, isLeft, remainsHere, otherSerial, LeftFlags, Keeps, Serials};
 use spec::Params;
+use spec::Seg;
 use spec::Serial;
 
 // ---- headers
@@ -34,25 +35,25 @@ pub fn low_drive(p: Params, gone: u8) -> usize
 }
 
 // The serial in a segment's header on a drive.
-pub fn serial_on(p: Params, image: &[u8], drive: usize, segment: usize) -> Serial
+pub fn serial_on(p: Params, image: &[u8], drive: usize, segment: Seg) -> Serial
     requires { ⌜ inRange p ≡ true ⌝ }
-    requires { ⌜ (length (now image) ≡ imageLen p) × (drive < p .N) × (segment < p .Z) ⌝ }
-    ensures { λ r. ⌜ ((ps : List ℕ) → length ps ≡ pointersLen p → r .0 ≡ headerSerial (headerAt (viewOf p (now (image .entry)) ps) drive (seg segment))) ⌝ }
+    requires { ⌜ (length (now image) ≡ imageLen p) × (drive < p .N) × (zoneOn segment drive < p .Z) ⌝ }
+    ensures { λ r. ⌜ ((ps : List ℕ) → length ps ≡ pointersLen p → r .0 ≡ headerSerial p (headerAt (viewOf p (now (image .entry)) ps) drive segment)) ⌝ }
 {
-    let a = disk_shape::block_byte(p, drive, disk_shape::zone_on(segment, drive), 0);
+    let a = disk_shape::block_byte(p, drive, disk_shape::zone_on(p, segment, drive), 0);
     let e = a + p.B;
-    disk_records::header_serial(&image[a..e])
+    disk_records::header_serial(p, &image[a..e])
 }
 
 // The copied serial there.
-pub fn copied_on(p: Params, image: &[u8], drive: usize, segment: usize) -> Serial
+pub fn copied_on(p: Params, image: &[u8], drive: usize, segment: Seg) -> Serial
     requires { ⌜ inRange p ≡ true ⌝ }
-    requires { ⌜ (length (now image) ≡ imageLen p) × (drive < p .N) × (segment < p .Z) ⌝ }
-    ensures { λ r. ⌜ ((ps : List ℕ) → length ps ≡ pointersLen p → r .0 ≡ headerCopied (headerAt (viewOf p (now (image .entry)) ps) drive (seg segment))) ⌝ }
+    requires { ⌜ (length (now image) ≡ imageLen p) × (drive < p .N) × (zoneOn segment drive < p .Z) ⌝ }
+    ensures { λ r. ⌜ ((ps : List ℕ) → length ps ≡ pointersLen p → r .0 ≡ headerCopied p (headerAt (viewOf p (now (image .entry)) ps) drive segment)) ⌝ }
 {
-    let a = disk_shape::block_byte(p, drive, disk_shape::zone_on(segment, drive), 0);
+    let a = disk_shape::block_byte(p, drive, disk_shape::zone_on(p, segment, drive), 0);
     let e = a + p.B;
-    disk_records::header_copied(&image[a..e])
+    disk_records::header_copied(p, &image[a..e])
 }
 
 // The serials in the headers of the lowest present drive, by segment, as the bytes stand.
@@ -64,7 +65,7 @@ fn read_serials(p: Params, image: &[u8], gone: u8, out: &mut [u64])
     let low = low_drive(p, gone);
     let mut g = 0;
     while g < p.Z {
-        let s = serial_on(p, image, low, g);
+        let s = serial_on(p, image, low, disk_shape::across(p, g));
         out[g] = s.0;
         g += 1;
     }
@@ -73,22 +74,23 @@ fn read_serials(p: Params, image: &[u8], gone: u8, out: &mut [u64])
 // ---- the segments that remain
 
 // A drive is missing, or its zone of the segment is not empty.
-fn is_used(p: Params, pointers: &[u8], gone: u8, drive: usize, segment: usize) -> bool
+fn is_used(p: Params, pointers: &[u8], gone: u8, drive: usize, g: usize) -> bool
     requires { ⌜ inRange p ≡ true ⌝ }
-    requires { ⌜ (length (now pointers) ≡ pointersLen p) × (drive < p .N) × (segment < p .Z) ⌝ }
-    ensures { λ r. ⌜ r ≡ (isIn gone drive || not (eqb (pointerOf p (now (pointers .entry)) drive (zoneOn (seg segment) drive)) 0)) ⌝ }
+    requires { ⌜ (length (now pointers) ≡ pointersLen p) × (drive < p .N) × (g < p .Z) ⌝ }
+    ensures { λ r. ⌜ r ≡ (isIn gone drive || not (eqb (pointerOf p (now (pointers .entry)) drive (zoneOn (across p g) drive)) 0)) ⌝ }
 {
     if bits_masks::has_drive(gone, drive) {
         return true;
     }
-    disk_zones::pointer(p, pointers, drive, disk_shape::zone_on(segment, drive)) != 0
+    let segment = disk_shape::across(p, g);
+    disk_zones::pointer(p, pointers, drive, disk_shape::zone_on(p, segment, drive)) != 0
 }
 
 // 01, Restart, 1: no present drive's zone of the segment is empty.
 fn is_left(p: Params, pointers: &[u8], gone: u8, g: usize) -> bool
     requires { ⌜ inRange p ≡ true ⌝ }
     requires { ⌜ (length (now pointers) ≡ pointersLen p) × (g < p .Z) ⌝ }
-    ensures { λ r. ⌜ ((im : List ℕ) → length im ≡ imageLen p → r ≡ isLeft p (viewOf p im (now (pointers .entry))) gone (seg g)) ⌝ }
+    ensures { λ r. ⌜ ((im : List ℕ) → length im ≡ imageLen p → r ≡ isLeft p (viewOf p im (now (pointers .entry))) gone (across p g)) ⌝ }
 {
     let mut d = 0;
     while d < p.N {
@@ -151,12 +153,12 @@ fn is_kept(p: Params, image: &[u8], low: usize, flags: &[bool], serials: &[u64],
         → low ≡ lowDrive p gone
         → LeftFlags p (viewOf p (now (image .entry)) ps) gone (now (flags .entry))
         → Serials p (viewOf p (now (image .entry)) ps) gone (now (serials .entry))
-        → r ≡ remainsHere p (viewOf p (now (image .entry)) ps) gone (seg g)) ⌝ }
+        → r ≡ remainsHere p (viewOf p (now (image .entry)) ps) gone (across p g)) ⌝ }
 {
     if !flags[g] {
         return false;
     }
-    let c = copied_on(p, image, low, g);
+    let c = copied_on(p, image, low, disk_shape::across(p, g));
     if c.0 == 0 {
         return true;
     }
@@ -231,7 +233,7 @@ pub fn greatest_serial(p: Params, kept: &[bool], serials: &[u64]) -> Serial
 pub fn lowest_free(p: Params, kept: &[bool]) -> usize
     requires { ⌜ p .Z ≤ length (now kept) ⌝ }
     ensures { λ r. ⌜ r ≤ p .Z ⌝ }
-    ensures { λ r. ⌜ ((v : View) (gone : ℕ) → Keeps p v gone (now (kept .entry)) → seg r ≡ firstOr (seg (p .Z)) (freeSegs p (segments p v gone))) ⌝ }
+    ensures { λ r. ⌜ ((v : View) (gone : ℕ) → Keeps p v gone (now (kept .entry)) → across p r ≡ firstOr (across p (p .Z)) (freeSegs p (segments p v gone))) ⌝ }
 {
     let mut z = 0;
     while z < p.Z {
@@ -247,12 +249,12 @@ pub fn lowest_free(p: Params, kept: &[bool]) -> usize
 pub fn is_unsealed(p: Params, pointers: &[u8], gone: u8, kept: &[bool], g: usize) -> bool
     requires { ⌜ inRange p ≡ true ⌝ }
     requires { ⌜ (length (now pointers) ≡ pointersLen p) × (p .Z ≤ length (now kept)) × (g < p .Z) ⌝ }
-    ensures { λ r. ⌜ ((im : List ℕ) → length im ≡ imageLen p → r ≡ (getD (now (kept .entry)) g false && not (sealedIn p (viewOf p im (now (pointers .entry))) gone (seg g)))) ⌝ }
+    ensures { λ r. ⌜ ((im : List ℕ) → length im ≡ imageLen p → r ≡ (getD (now (kept .entry)) g false && not (sealedIn p (viewOf p im (now (pointers .entry))) gone (across p g)))) ⌝ }
 {
     if !kept[g] {
         return false;
     }
-    !disk_zones::is_sealed(p, pointers, gone, g)
+    !disk_zones::is_sealed(p, pointers, gone, disk_shape::across(p, g))
 }
 
 // 01, Restart, 4: the lowest unsealed segment; Z if there is none.
@@ -264,7 +266,7 @@ pub fn first_unsealed(p: Params, pointers: &[u8], gone: u8, kept: &[bool]) -> us
         ((im : List ℕ)
         → length im ≡ imageLen p
         → Keeps p (viewOf p im (now (pointers .entry))) gone (now (kept .entry))
-        → seg r ≡ firstOr (seg (p .Z)) (map (λ (s : Segment). s .seg) (unsealed (segments p (viewOf p im (now (pointers .entry))) gone)))) ⌝ }
+        → across p r ≡ firstOr (across p (p .Z)) (map (λ (s : Segment). s .seg) (unsealed (segments p (viewOf p im (now (pointers .entry))) gone)))) ⌝ }
 {
     let mut g = 0;
     while g < p.Z {

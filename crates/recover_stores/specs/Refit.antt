@@ -1,7 +1,7 @@
 -- A healthy restart's stores: resets, then missing footers or the rewrite (01, Restart, 4). Assumes nothing.
 use Prim.Native.Nat.{ℕ, suc, _+_, _≤_, _<_}
 use Rattle.spec.specs.Counts.{lastCount}
-use Rattle.spec.specs.Drives.{View, pointerAt, Store, storeView, Disk, pointerOf, storeAll, allSegs, zoneOn, sealedIn, Seg, seg}
+use Rattle.spec.specs.Drives.{View, pointerAt, Store, storeView, Disk, pointerOf, storeAll, allSegs, zoneOn, sealedIn, noSeg, across}
 use Rattle.spec.specs.Lists.{any, keep, isNil, flat, firstOr}
 use Rattle.spec.specs.Params.{capacity}
 use Rattle.spec.specs.Restart.{freeSegs, isWhole, isRagged, missingFooters, rewriteStores, dropStores, mendStores, restartStores, rewrites}
@@ -14,7 +14,7 @@ use Rattle.recover_groups.specs.Groups.{recsFault}
 use Rattle.law_basic.specs.Geometry.{Ranged}
 use Rattle.law_basic.specs.Mask.{isIn-empty}
 use Rattle.law_basic.specs.Ranges.{flat-none, flat-cons}
-use Rattle.law_basic.specs.Segs.{Named, named-lt, OtherSeg, zone-on-lt}
+use Rattle.law_basic.specs.Segs.{across-once, Named, number-lt, OtherSeg, zone-on-lt, ZonesLow, named-zones-low}
 use Rattle.recover_segments.specs.Kept.{is-segment}
 use Rattle.recover_segments.specs.Remains.{serialOf, Keeps}
 use Rattle.law_restart.specs.Frames.{seen-after}
@@ -39,6 +39,7 @@ use mathlib.Core.List.{List, [], _∷_, _++_, map, append-nil}
 use mathlib.Core.Logic.{inl}
 use mathlib.Core.Path.{_≡_, refl, sym, ap, _∙_, subst}
 use native.Mathlib.Omega.{arith}
+use Rattle.spec.specs.declared.Seg.{Seg}
 
 -- where no check of a restart that names no drive holds
 pub record RefitReady (p : Params) (v : View) : Type 0 where
@@ -69,6 +70,10 @@ module _ (p : Params) (r : Ranged p) (n : ℕ) (k₀ : Disk) (w : Whole p k₀) 
 
   acc : Accepted p v 0
   acc = sn .accepted
+
+  -- there is a drive
+  drives : 0 < p .N
+  drives = omega (arith, r .drives-low)
 
   drops : droppedBy p fl ≡ dropStores p gs
   drops = dropped-are p gs fl (λ g hg. kp .1 g hg ∙ sym (is-segment p v 0 g hg))
@@ -102,7 +107,7 @@ module _ (p : Params) (r : Ranged p) (n : ℕ) (k₀ : Disk) (w : Whole p k₀) 
 
       pub refit-none :
           (sg : ℕ)
-          → seg sg ≡ firstOr (seg (p .Z)) (map (λ (s : Segment). s .seg) (unsealed (segments p (seen p k₀) 0)))
+          → across p sg ≡ firstOr (across p (p .Z)) (map (λ (s : Segment). s .seg) (unsealed (segments p (seen p k₀) 0)))
           → p .Z ≤ sg
           → Storing p n (restartStores p 0 (segments p (seen p k₀) 0)) k₀ m₁ k₁
       refit-none sg e h = go (loose p r v sh acc)
@@ -110,11 +115,11 @@ module _ (p : Params) (r : Ranged p) (n : ℕ) (k₀ : Disk) (w : Whole p k₀) 
           go : Loose p v → Storing p n ss k₀ m₁ k₁
           go (loose-none f o) = as-made (ap (flat (mendStores p gs)) f ∙ flat-none (mendStores p gs))
           go (loose-one g hg kg ng us oth) = absurd (
-              let q : seg sg ≡ g = e ∙ ap (λ (l : List Segment). firstOr (seg (p .Z)) (map (λ (s : Segment). s .seg) l)) us ∙ head g ∙ seg-is p v 0 g in
-              let low : sg < p .Z = named-lt p (seg sg) (subst (λ (y : Seg). Named p y) (sym q) hg) in
+              let q : across p sg ≡ g = e ∙ ap (λ (l : List Segment). firstOr (across p (p .Z)) (map (λ (s : Segment). s .seg) l)) us ∙ head g ∙ seg-is p v 0 g in
+              let low : sg < p .Z = number-lt p drives sg (subst (λ (y : Seg). Named p y) (sym q) hg) in
               let bad : ⊥ = omega (arith, low, h) in bad)
             where
-              head : (g : Seg) → firstOr (seg (p .Z)) (map (λ (s : Segment). s .seg) (segmentOf p v 0 g ∷ [])) ≡ segmentOf p v 0 g .seg
+              head : (g : Seg) → firstOr (across p (p .Z)) (map (λ (s : Segment). s .seg) (segmentOf p v 0 g ∷ [])) ≡ segmentOf p v 0 g .seg
               head g = unfold firstOr in refl
 
       -- ---- the unsealed segment
@@ -125,21 +130,21 @@ module _ (p : Params) (r : Ranged p) (n : ℕ) (k₀ : Disk) (w : Whole p k₀) 
         pub is-it : unsealed (segments p (seen p k₀) 0) ≡ segmentOf p (seen p k₀) 0 sg ∷ []
         pub others : (y : Seg) → Named p y → remains p (seen p k₀) 0 y ≡ true → (y ≡ sg → ⊥) → sealedIn p (seen p k₀) 0 y ≡ true
 
-      pub only-unsealed : (sg : ℕ) → seg sg ≡ firstOr (seg (p .Z)) (map (λ (s : Segment). s .seg) (unsealed (segments p (seen p k₀) 0))) → sg < p .Z → Only (seg sg)
+      pub only-unsealed : (sg : ℕ) → across p sg ≡ firstOr (across p (p .Z)) (map (λ (s : Segment). s .seg) (unsealed (segments p (seen p k₀) 0))) → sg < p .Z → Only (across p sg)
       only-unsealed sg e h = go (loose p r v sh acc)
         where
-          none : firstOr (seg (p .Z)) (map (λ (s : Segment). s .seg) []) ≡ seg (p .Z)
+          none : firstOr (across p (p .Z)) (map (λ (s : Segment). s .seg) []) ≡ across p (p .Z)
           none = unfold firstOr in refl
 
-          head : (g : Seg) → firstOr (seg (p .Z)) (map (λ (s : Segment). s .seg) (segmentOf p v 0 g ∷ [])) ≡ segmentOf p v 0 g .seg
+          head : (g : Seg) → firstOr (across p (p .Z)) (map (λ (s : Segment). s .seg) (segmentOf p v 0 g ∷ [])) ≡ segmentOf p v 0 g .seg
           head g = unfold firstOr in refl
 
-          go : Loose p v → Only (seg sg)
+          go : Loose p v → Only (across p sg)
           go (loose-none f o) = absurd (
-              let q : sg ≡ p .Z = ap (λ (y : Seg). y .name) (e ∙ ap (λ (l : List Segment). firstOr (seg (p .Z)) (map (λ (s : Segment). s .seg) l)) f ∙ none) in
+              let q : sg ≡ p .Z = across-once p sg (p .Z) drives (e ∙ ap (λ (l : List Segment). firstOr (across p (p .Z)) (map (λ (s : Segment). s .seg) l)) f ∙ none) in
               let bad : ⊥ = omega arith in bad)
           go (loose-one g hg kg ng us oth) =
-              let q : g ≡ seg sg = sym (e ∙ ap (λ (l : List Segment). firstOr (seg (p .Z)) (map (λ (s : Segment). s .seg) l)) us ∙ head g ∙ seg-is p v 0 g) in
+              let q : g ≡ across p sg = sym (e ∙ ap (λ (l : List Segment). firstOr (across p (p .Z)) (map (λ (s : Segment). s .seg) l)) us ∙ head g ∙ seg-is p v 0 g) in
               subst (λ (y : Seg). Only y) q (record { kept = kg; open! = ng; is-it = us; others = oth })
 
       module _ (sg : Seg) (hs : Named p sg) (o : Only sg) where
@@ -206,15 +211,18 @@ module _ (p : Params) (r : Ranged p) (n : ℕ) (k₀ : Disk) (w : Whole p k₀) 
           pub serial-left : greatestSerial (segments p (seen p k₀) 0) ≡ lastCount → ⊥
           serial-left = eqb-false (greatestSerial gs) lastCount (sym (ap (λ (b : Bool). b && eqb (greatestSerial gs) lastCount) due!) ∙ sn .sixth)
 
-          module _ (to : Seg) (et : to ≡ firstOr (seg (p .Z)) (freeSegs p (segments p (seen p k₀) 0))) where
+          module _ (to : Seg) (et : to ≡ firstOr (across p (p .Z)) (freeSegs p (segments p (seen p k₀) 0))) where
             to-free : In to (keep (λ z. not (remains p v 0 z)) (allSegs p))
-            to-free = subst (λ (l : List Seg). In to l) (free-are p r v sh acc) (subst (λ (y : Seg). In y (freeSegs p gs)) (sym et) (first-in (freeSegs p gs) (seg (p .Z)) some!))
+            to-free = subst (λ (l : List Seg). In to l) (free-are p r v sh acc) (subst (λ (y : Seg). In y (freeSegs p gs)) (sym et) (first-in (freeSegs p gs) (across p (p .Z)) some!))
 
             to-named : Named p to
             to-named = segs-in p to (keep-in (λ z. not (remains p v 0 z)) (allSegs p) to to-free .0)
 
-            pub to-low : to .name < p .Z
-            to-low = named-lt p to to-named
+            pub to-low : ZonesLow p 0 to
+            to-low = named-zones-low p 0 to to-named
+
+            pub to-number : (i : ℕ) → to ≡ across p i → i < p .Z
+            to-number i e = number-lt p drives i (subst (λ (y : Seg). Named p y) e to-named)
 
             gone! : remains p v 0 to ≡ false
             gone! = not-true (remains p v 0 to) (keep-in (λ z. not (remains p v 0 z)) (allSegs p) to to-free .1)
@@ -242,9 +250,9 @@ module _ (p : Params) (r : Ranged p) (n : ℕ) (k₀ : Disk) (w : Whole p k₀) 
 
             module _ (serial : ℕ) (es : serial ≡ suc (greatestSerial (segments p (seen p k₀) 0))) where
               ragged! : mendStores p gs x ≡ rewriteStores p x to serial
-              ragged! = as! ∙ (λ j. rewriteStores p x (sym (et ∙ first-any (seg (p .Z)) (seg 0) (freeSegs p gs) some!) j) (sym es j))
+              ragged! = as! ∙ (λ j. rewriteStores p x (sym (et ∙ first-any (across p (p .Z)) noSeg (freeSegs p gs) some!) j) (sym es j))
                 where
-                  as! : mendStores p gs x ≡ rewriteStores p x (firstOr (seg 0) (freeSegs p gs)) (suc (greatestSerial gs))
+                  as! : mendStores p gs x ≡ rewriteStores p x (firstOr noSeg (freeSegs p gs)) (suc (greatestSerial gs))
                   as! = unfold mendStores in rw (nw, rg)
 
               moves : Going p n ss k₀ (rewriteStores p x to serial) (m₁ .left) k₁

@@ -34,23 +34,25 @@ pub fn healthy_stores(
         Storing p count (restartStores p 0 (segments p (viewOf p (now (image .entry)) (now (pointers .entry))) 0))
         (mkDisk (now (image .entry)) (now (pointers .entry))) r (mkDisk (now (image .exit)) (now (pointers .exit))) ⌝ }
 {
-    let seg = recover_segments::first_unsealed(p, pointers, 0, kept);
+    let g = recover_segments::first_unsealed(p, pointers, 0, kept);
     let made = recover_drop::drop_stores(p, pointers, kept, count);
     if made.cut {
         return made;
     }
-    if p.Z <= seg {
+    if p.Z <= g {
         return made;
     }
+    let segment = disk_shape::across(p, g);
     if whole {
-        return recover_footers::missing_footers(p, image, pointers, seg, made.left);
+        return recover_footers::missing_footers(p, image, pointers, segment, made.left);
     }
     if !ragged {
         return made;
     }
-    let to = recover_segments::lowest_free(p, kept);
+    let free = recover_segments::lowest_free(p, kept);
+    let to = disk_shape::across(p, free);
     let most = recover_segments::greatest_serial(p, kept, serials);
     let serial = Serial(most.0 + 1);
-    let copied = Serial(serials[seg]);
-    recover_rewrite::rewrite(p, image, pointers, seg, to, serial, copied, made.left)
+    let copied = Serial(serials[g]);
+    recover_rewrite::rewrite(p, image, pointers, segment, to, serial, copied, made.left)
 }

@@ -19,7 +19,7 @@ use Rattle.recover_groups.specs.Chunks.{recs-short, chunks-counts, chunks-some}
 use Rattle.recover_groups.specs.Faulty.{any-swap, recs-fault-groups, recs-fault-is, no-group-fault}
 use Rattle.recover_groups.specs.Groups.{groupLen, basesFrom, groupFault, recsFault, Indexed, segmentIn}
 use Rattle.spec.specs.declared.Params.{Params}
-use Rattle.spec.specs.Drives.{View, viewOf, sealedIn, Seg, seg}
+use Rattle.spec.specs.Drives.{View, viewOf, sealedIn}
 use Rattle.spec.specs.Faults.{stripeFault, badRec, storedBad, decodedBad, addressFault}
 use Rattle.spec.specs.Layout.{isData, Rec}
 use Rattle.spec.specs.Lists.{upFrom, below, any, consIf, keep, tally, greatest, isIn}
@@ -28,6 +28,7 @@ use Rattle.spec.specs.Parity.{decodeRec}
 use Rattle.recover_survey.specs.declared.Tally.{Tally}
 use Rattle.law_drives.specs.Members.{keep-nothing}
 use Rattle.recover_survey.specs.Tops.{lastOf, topOf, Surveyed, last-le}
+use Rattle.spec.specs.declared.Seg.{Seg}
 
 -- ---- decoded addresses, by stripe
 
@@ -99,7 +100,7 @@ faults-split p gone g =
 
 -- what a group's index says, where no record of the segment is bad
 abbrev pub Shown : Params → List ℕ → List ℕ → Group → List ℕ → Type 0
-Shown p im ps w at = (length ps ≡ pointersLen p) × (w .full ≡ sealedIn p (viewOf p im ps) (w .gone) (seg (w .seg)))
+Shown p im ps w at = (length ps ≡ pointersLen p) × (w .full ≡ sealedIn p (viewOf p im ps) (w .gone) (w .seg))
     × (recsFault p (w .gone) (segmentIn p im ps w) ≡ false → Indexed p (segmentIn p im ps w) (w .base) at)
 
 pub record Tallied (p : Params) (gone : ℕ) (g : Segment) (n : ℕ) (t : Tally) : Type 0 where

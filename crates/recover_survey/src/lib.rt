@@ -4,7 +4,7 @@ ghost use mathlib.Core.Bool.{true, false, _&&_};
 ghost use mathlib.Core.List.{List};
 ghost use Prim.Native.Nat.{ℕ, _+_, _%_, _≤_, _<_};
 ghost use lib.ListN.{length};
-ghost use Rattle.spec.specs.Drives.{viewOf, mkDisk, sealedIn, seg as segNo};
+ghost use Rattle.spec.specs.Drives.{viewOf, mkDisk, sealedIn};
 ghost use Rattle.spec.specs.Layout.{isData};
 ghost use Rattle.spec.specs.Lists.{any, isIn};
 ghost use Rattle.spec.specs.Params.{inRange, imageLen, absent};
@@ -13,8 +13,10 @@ ghost use Rattle.recover_groups.specs.Groups.{groupLen, groupFault, recsFault, 
 ghost use Rattle.law_views.specs.Views.{Whole};
 ghost use Rattle.recover_survey.specs.Stripes.{lostBad, worse, Tallied, Shown};
 ghost use Rattle.recover_survey.specs.Tops.{Surveyed};
+ghost use Rattle.law_basic.specs.Segs.{ZonesLow};
 use recover_groups::Group;
 use spec::Params;
+use spec::Seg;
 
 // bad: a stripe number or an address is bad; counted: how many stripes count; top: the last of them + 1; loose: stripes with some chunk that don't count.
 pub struct Tally {
@@ -93,7 +95,7 @@ fn is_all_entered(p: Params, w: Group, at: &[u16], k: usize) -> bool
 // 01, Refusals, 9: a decoded address of counted stripe k of the group is bad.
 fn lost_bad(p: Params, image: &[u8], w: Group, at: &[u16], k: usize) -> bool
     requires { ⌜ inRange p ≡ true ⌝ }
-    requires { ⌜ (length (now image) ≡ imageLen p) × (length (now at) ≡ 2048) × (w .seg < p .Z) × (w .base < p .S) × (k < groupLen p (w .base)) ⌝ }
+    requires { ⌜ (length (now image) ≡ imageLen p) × (length (now at) ≡ 2048) × ZonesLow p (w .gone) (w .seg) × (w .base < p .S) × (k < groupLen p (w .base)) ⌝ }
     ensures { λ r. ⌜
         ((ps : List ℕ)
         → Shown p (now (image .entry)) ps w (now (at .entry))
@@ -127,7 +129,7 @@ fn bad_tally(t: Tally) -> Tally
 // One stripe: number k of the group.
 fn survey_stripe(p: Params, image: &[u8], w: Group, at: &[u16], k: usize, t: Tally) -> Tally
     requires { ⌜ inRange p ≡ true ⌝ }
-    requires { ⌜ (length (now image) ≡ imageLen p) × (length (now at) ≡ 2048) × (w .seg < p .Z) × (w .base < p .S) × (k < groupLen p (w .base)) ⌝ }
+    requires { ⌜ (length (now image) ≡ imageLen p) × (length (now at) ≡ 2048) × ZonesLow p (w .gone) (w .seg) × (w .base < p .S) × (k < groupLen p (w .base)) ⌝ }
     requires { ⌜ (t .counted ≤ w .base + k) × (t .loose ≤ w .base + k) ⌝ }
     ensures { λ r. ⌜ (r .counted ≤ w .base + k + 1) × (r .loose ≤ w .base + k + 1) × (r .bad ≡ false → t .bad ≡ false) ⌝ }
     ensures { λ r. ⌜
@@ -161,7 +163,7 @@ fn survey_stripe(p: Params, image: &[u8], w: Group, at: &[u16], k: usize, t: Tal
 // The stripes of one group.
 fn survey_stripes(p: Params, image: &[u8], w: Group, at: &[u16], t: Tally) -> Tally
     requires { ⌜ inRange p ≡ true ⌝ }
-    requires { ⌜ (length (now image) ≡ imageLen p) × (length (now at) ≡ 2048) × (w .seg < p .Z) × (w .base < p .S) ⌝ }
+    requires { ⌜ (length (now image) ≡ imageLen p) × (length (now at) ≡ 2048) × ZonesLow p (w .gone) (w .seg) × (w .base < p .S) ⌝ }
     requires { ⌜ (t .counted ≤ w .base) × (t .loose ≤ w .base) ⌝ }
     ensures { λ r. ⌜ (r .counted ≤ w .base + groupLen p (w .base)) × (r .loose ≤ w .base + groupLen p (w .base)) × (r .bad ≡ false → t .bad ≡ false) ⌝ }
     ensures { λ r. ⌜
@@ -191,8 +193,8 @@ fn survey_group(
 ) -> Tally
     requires { ⌜ inRange p ≡ true ⌝ }
     requires { ⌜ Whole p (mkDisk (now image) (now pointers)) ⌝ }
-    requires { ⌜ (length (now at) ≡ 2048) × (w .seg < p .Z) × (w .base < p .S) × (w .base % p .G ≡ 0) ⌝ }
-    requires { ⌜ w .full ≡ sealedIn p (viewOf p (now image) (now pointers)) (w .gone) (segNo (w .seg)) ⌝ }
+    requires { ⌜ (length (now at) ≡ 2048) × ZonesLow p (w .gone) (w .seg) × (w .base < p .S) × (w .base % p .G ≡ 0) ⌝ }
+    requires { ⌜ w .full ≡ sealedIn p (viewOf p (now image) (now pointers)) (w .gone) (w .seg) ⌝ }
     requires { ⌜ (t .counted ≤ w .base) × (t .loose ≤ w .base) ⌝ }
     ensures { λ r. ⌜ (r .counted ≤ w .base + groupLen p (w .base)) × (r .loose ≤ w .base + groupLen p (w .base)) ⌝ }
     ensures { λ r. ⌜ (r .bad ≡ false → (t .bad ≡ false) × (groupFault p (w .gone) (segmentIn p (now (image .entry)) (now (pointers .entry)) w) (w .base) ≡ false)) ⌝ }
@@ -212,14 +214,14 @@ pub fn survey(
     image: &[u8],
     pointers: &[u8],
     gone: u8,
-    seg: usize,
+    seg: Seg,
     full: bool,
     at: &mut [u16],
 ) -> Tally
     requires { ⌜ inRange p ≡ true ⌝ }
     requires { ⌜ Whole p (mkDisk (now image) (now pointers)) ⌝ }
-    requires { ⌜ (length (now at) ≡ 2048) × (seg < p .Z) × (full ≡ sealedIn p (viewOf p (now image) (now pointers)) gone (segNo seg)) ⌝ }
-    ensures { λ r. ⌜ Surveyed p gone (segmentOf p (viewOf p (now (image .entry)) (now (pointers .entry))) gone (segNo seg)) r ⌝ }
+    requires { ⌜ (length (now at) ≡ 2048) × ZonesLow p gone seg × (full ≡ sealedIn p (viewOf p (now image) (now pointers)) gone seg) ⌝ }
+    ensures { λ r. ⌜ Surveyed p gone (segmentOf p (viewOf p (now (image .entry)) (now (pointers .entry))) gone seg) r ⌝ }
 {
     let mut t = Tally {
         bad: false,

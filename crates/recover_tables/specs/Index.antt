@@ -10,7 +10,7 @@ use lib.Dec.{leb, ltb, eqb}
 use lib.ListN.{length, getD, drop, set}
 use lib.Seq.{getD-take, getD-drop}
 use Rattle.spec.specs.declared.Params.{Params}
-use Rattle.spec.specs.Drives.{View, viewOf, Seg, seg, zoneOn}
+use Rattle.spec.specs.Drives.{View, viewOf, zoneOn}
 use Rattle.spec.specs.Faults.{storedBad}
 use Rattle.spec.specs.Layout.{compactEntry, Rec, mkRec}
 use Rattle.spec.specs.Lists.{isIn}
@@ -31,6 +31,7 @@ use Rattle.law_drives.specs.Members.{In, none-in}
 use Rattle.law_drives.specs.Segs.{in-present, remaining-low}
 use Rattle.law_drives.specs.Tables.{remains, rowAt, row-at, length-recs, remaining-in, row-seg}
 use Rattle.law_drives.specs.Tests.{cond-true}
+use Rattle.spec.specs.declared.Seg.{Seg}
 
 module _ (p : Params) (r : Ranged p) (im ps : List ℕ) (gone : ℕ) (cs : List ℕ) (G : Ground p im ps gone cs) (sgm : Seg) (base d : ℕ)
     (m : In sgm (remaining p (viewOf p im ps) gone))
@@ -61,7 +62,7 @@ module _ (p : Params) (r : Ranged p) (im ps : List ℕ) (gone : ℕ) (cs : List 
   compact-next i = add-assoc ((d * p .Z + zoneOn sgm d) * p .S) base i
 
   kept-row : rowAt p v gone d (zoneOn sgm d) ≡ all
-  kept-row = row-seg p v gone d sgm (remaining-low p v gone sgm m) ∙ cond-true (remains p v gone sgm) all [] (remaining-in p v gone sgm m .1)
+  kept-row = row-seg p v gone d sgm hd (remaining-low p v gone sgm m) ∙ cond-true (remains p v gone sgm) all [] (remaining-in p v gone sgm m .1)
 
   record-in-group : (i : ℕ) → i < length rs → getD rs i (mkRec 0 0 0) ≡ getD all (base + i) (mkRec 0 0 0)
   unfolding groupRecs
@@ -130,5 +131,5 @@ Rowed p im ps gone cs sgm base d old at = Ground p im ps gone cs → In sgm (rem
 
 -- the index of the group is right
 abbrev pub Grouped : Params → List ℕ → List ℕ → List ℕ → Group → List ℕ → Type 0
-Grouped p im ps cs w at = Ground p im ps (w .gone) cs → In (seg (w .seg)) (remaining p (viewOf p im ps) (w .gone)) → SegmentShown p (viewOf p im ps) (w .gone) (seg (w .seg)) cs
+Grouped p im ps cs w at = Ground p im ps (w .gone) cs → In (w .seg) (remaining p (viewOf p im ps) (w .gone)) → SegmentShown p (viewOf p im ps) (w .gone) (w .seg) cs
     → Indexed p (segmentIn p im ps w) (w .base) at

@@ -11,7 +11,7 @@ use lib.Dec.{eqb}
 use lib.ListN.{length, set, replicate, length-replicate, replicate-append-replicate}
 use Rattle.spec.specs.declared.Params.{Params}
 use Rattle.spec.specs.Bytes.{splice}
-use Rattle.spec.specs.Drives.{View, viewOf, zoneOn, Seg, seg}
+use Rattle.spec.specs.Drives.{View, viewOf, zoneOn}
 use Rattle.spec.specs.Layout.{dataDrive, Rec}
 use Rattle.spec.specs.Lists.{isIn}
 use Rattle.spec.specs.Params.{dataCount, placeOf}
@@ -21,7 +21,6 @@ use Rattle.law_basic.specs.Geometry.{Ranged}
 use Rattle.law_basic.specs.Ranges.{Test, test, and-both}
 use Rattle.law_basic.specs.Ranges.Test.{yes!, no! }
 use Rattle.law_basic.specs.Splice.{splice-nil, splice-all, wrote-one}
-use Rattle.law_basic.specs.Segs.{named-lt}
 use Rattle.recover_groups.specs.declared.Group.{Group}
 use Rattle.recover_groups.specs.Bases.{group-len-le, group-len-fits}
 use Rattle.recover_groups.specs.Chunks.{counts-entered}
@@ -36,6 +35,8 @@ use Rattle.law_drives.specs.Spots.{counts-in}
 use Rattle.law_drives.specs.Tables.{remains}
 use Rattle.law_drives.specs.Tests.{and-false-right, cond-true, cond-false}
 use Rattle.recover_tables.specs.Walk.{firstCands, most-append, most-one, tells-join, first-more}
+use Rattle.spec.specs.declared.Seg.{Seg}
+use Rattle.law_basic.specs.Segs.{Named}
 
 -- no group begins behind the most stripes of a segment and the most of a group
 abbrev pub lastBase : ℕ
@@ -51,8 +52,8 @@ pub record Indexing (p : Params) (im ps : List ℕ) (w : Group) (co at : List �
   pub long : length at ≡ 2048
   pub base-low : w .base < p .S
   pub stripe-in : k < groupLen p (w .base)
-  pub remains : In (seg (w .seg)) (remaining p (viewOf p im ps) (w .gone))
-  pub shown : SegmentShown p (viewOf p im ps) (w .gone) (seg (w .seg)) co
+  pub remains : In (w .seg) (remaining p (viewOf p im ps) (w .gone))
+  pub shown : SegmentShown p (viewOf p im ps) (w .gone) (w .seg) co
 
 -- and stripe k counts
 pub record Standing (p : Params) (im ps : List ℕ) (w : Group) (co at : List ℕ) (k : ℕ) : Type 0 where
@@ -66,7 +67,7 @@ module _ (p : Params) (im ps : List ℕ) (w : Group) (at : List ℕ) (k : ℕ) w
   pub stripe-byte : Ranged p → k < groupLen p (w .base) → k < 256
   stripe-byte r l = omega (arith, group-len-le p (w .base), r .group-high)
 
-  pub standing-counted : (co : List ℕ) → Standing p im ps w co at k → StripeCounts p (viewOf p im ps) (w .gone) co (seg (w .seg)) (w .base + k)
+  pub standing-counted : (co : List ℕ) → Standing p im ps w co at k → StripeCounts p (viewOf p im ps) (w .gone) co (w .seg) (w .base + k)
   standing-counted co s = record {
     remains = s .index .remains;
     stripe-low = group-stripe-below (s .index .base-low) (s .index .stripe-in);
@@ -74,8 +75,8 @@ module _ (p : Params) (im ps : List ℕ) (w : Group) (at : List ℕ) (k : ℕ) w
     shown = s .index .shown;
   }
 
-  pub standing-low : (co : List ℕ) → Standing p im ps w co at k → w .seg < p .Z
-  standing-low co s = named-lt p (seg (w .seg)) (remaining-low p (viewOf p im ps) (w .gone) (seg (w .seg)) (s .index .remains))
+  pub standing-low : (co : List ℕ) → Standing p im ps w co at k → Named p (w .seg)
+  standing-low co s = remaining-low p (viewOf p im ps) (w .gone) (w .seg) (s .index .remains)
 
   pub reading-entered : GroupReads p im ps w at → k < groupLen p (w .base) → counts p (w .gone) (segmentIn p im ps w) (w .base + k) ≡ true → AllEntered p (w .gone) (w .base) at k
   reading-entered q l c = counts-entered p (w .gone) (segmentIn p im ps w) (w .base) at k (q .indexed) l c

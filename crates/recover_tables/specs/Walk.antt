@@ -9,7 +9,7 @@ use native.Mathlib.Omega.{arith}
 use native.Mathlib.Numerals.{add-one}
 use lib.ListN.{length, getD, replicate, length-append}
 use Rattle.spec.specs.declared.Params.{Params}
-use Rattle.spec.specs.Drives.{View, Seg, seg, zoneOn}
+use Rattle.spec.specs.Drives.{View, zoneOn, across}
 use Rattle.spec.specs.Layout.{dataDrive, dataDrives}
 use Rattle.spec.specs.Lists.{upFrom, below, keep, flat, greatest}
 use Rattle.spec.specs.Memory.{compactAt}
@@ -17,12 +17,13 @@ use Rattle.spec.specs.Params.{dataCount, addressesLen, compactLen}
 use Rattle.spec.specs.Rank.{Cand}
 use Rattle.spec.specs.Segments.{remaining, Segment, segmentOf, segments, counts, counted, candOf, segmentCands, candidates, addressTable, compactRow, compactTable, greatestStamp}
 use Rattle.law_basic.specs.Ranges.{upFrom-snoc, below-snoc, map-append, map-below-snoc, keep-append, keep-hit, keep-miss, keep-none, length-keep, flat-append, greatest-append}
-use Rattle.law_basic.specs.Segs.{seg-named, named-lt, keep-segs, zone-on-lt, zone-number, by-seg}
+use Rattle.law_basic.specs.Segs.{seg-named, keep-segs, zone-on-lt, by-seg, named-number, across-zone}
 use Rattle.law_drives.specs.Members.{In, map-in, flat-in, flat-map, keep-in, below-in}
 use Rattle.law_drives.specs.Segs.{CandAt}
 use Rattle.law_drives.specs.Tables.{grid-ext, remains, remaining-is, in-remaining, rowAt, compact-is, compact-row-long}
 use Rattle.recover_addresses.specs.Told.{Told, Known, Tells, nothing-told}
 use Rattle.recover_compact.specs.Compacts.{SegmentShown, Else}
+use Rattle.spec.specs.declared.Seg.{Seg}
 
 -- 01, The calls: the candidates of a stripe
 unfoldable pub stripeCands : Params → ℕ → Segment → ℕ → List Cand
@@ -38,7 +39,7 @@ walkCands p gone g ss = flat (stripeCands p gone g) (keep (counts p gone g) ss)
 
 -- those of the segments gs that remain
 unfoldable pub tourCands : Params → View → ℕ → List ℕ → List Cand
-tourCands p v gone gs = flat (λ g. segmentCands p gone (segmentOf p v gone (seg g))) (keep (λ g. remains p v gone (seg g)) gs)
+tourCands p v gone gs = flat (λ g. segmentCands p gone (segmentOf p v gone (across p g))) (keep (λ g. remains p v gone (across p g)) gs)
 
 -- ---- the greatest stamp
 
@@ -69,9 +70,9 @@ module _ (p : Params) (v : View) (gone : ℕ) (co : List ℕ) where
 
 -- ---- a stripe, data position by data position
 
-pub first-none : (p : Params) (gone : ℕ) (g : Segment) (s : ℕ) → firstCands p gone g s 0 ≡ []
+pub first-cands-none : (p : Params) (gone : ℕ) (g : Segment) (s : ℕ) → firstCands p gone g s 0 ≡ []
 unfolding firstCands below upFrom
-first-none p gone g s = refl
+first-cands-none p gone g s = refl
 
 pub first-more : (p : Params) (gone : ℕ) (g : Segment) (s n : ℕ) → firstCands p gone g s (n + 1) ≡ firstCands p gone g s n ++ (candOf p gone g s (dataDrive p s n) ∷ [])
 unfolding firstCands
@@ -171,16 +172,16 @@ module _ (p : Params) (v : View) (gone : ℕ) (co : List ℕ) (g : Seg) where
 -- the segments below n: their rows of the compact table, their candidates in the address table, and the greatest stamp of these
 pub record Toured (p : Params) (v : View) (gone n : ℕ) (co tb : List ℕ) (m : ℕ) : Type 0 where
   pub long : length co ≡ compactLen p
-  pub shown : (g : ℕ) → g < n → SegmentShown p v gone (seg g) co
+  pub shown : (g : ℕ) → g < n → SegmentShown p v gone (across p g) co
   pub table : tb ≡ addressTable p (tourCands p v gone (below n))
   pub most : m ≡ greatestStamp (tourCands p v gone (below n))
 
 -- the candidates of segment number g, and whether it remains
 abbrev candsAt : Params → View → ℕ → ℕ → List Cand
-candsAt p v gone g = segmentCands p gone (segmentOf p v gone (seg g))
+candsAt p v gone g = segmentCands p gone (segmentOf p v gone (across p g))
 
 abbrev keptAt : Params → View → ℕ → ℕ → Bool
-keptAt p v gone g = remains p v gone (seg g)
+keptAt p v gone g = remains p v gone (across p g)
 
 tour-next : (p : Params) (v : View) (gone g : ℕ) (l : List Cand) → flat (candsAt p v gone) (keep (keptAt p v gone) (g ∷ [])) ≡ l
     → tourCands p v gone (below (g + 1)) ≡ tourCands p v gone (below g) ++ l
@@ -191,14 +192,14 @@ tour-next p v gone g l e =
     ∙ flat-append (candsAt p v gone) (keep (keptAt p v gone) (below g)) (keep (keptAt p v gone) (g ∷ []))
     ∙ ap (λ (x : List Cand). flat (candsAt p v gone) (keep (keptAt p v gone) (below g)) ++ x) e
 
-tour-hit : (p : Params) (v : View) (gone g : ℕ) → remains p v gone (seg g) ≡ true
-    → tourCands p v gone (below (g + 1)) ≡ tourCands p v gone (below g) ++ segmentCands p gone (segmentOf p v gone (seg g))
+tour-hit : (p : Params) (v : View) (gone g : ℕ) → remains p v gone (across p g) ≡ true
+    → tourCands p v gone (below (g + 1)) ≡ tourCands p v gone (below g) ++ segmentCands p gone (segmentOf p v gone (across p g))
 unfolding flat
 tour-hit p v gone g e = tour-next p v gone g (candsAt p v gone g)
     (ap (flat (candsAt p v gone)) (keep-hit (keptAt p v gone) g [] e ∙ ap (λ (l : List ℕ). g ∷ l) (keep-none (keptAt p v gone)))
     ∙ append-nil (candsAt p v gone g))
 
-tour-miss : (p : Params) (v : View) (gone g : ℕ) → remains p v gone (seg g) ≡ false → tourCands p v gone (below (g + 1)) ≡ tourCands p v gone (below g)
+tour-miss : (p : Params) (v : View) (gone g : ℕ) → remains p v gone (across p g) ≡ false → tourCands p v gone (below (g + 1)) ≡ tourCands p v gone (below g)
 unfolding flat
 tour-miss p v gone g e =
     tour-next p v gone g [] (ap (flat (candsAt p v gone)) (keep-miss (keptAt p v gone) g [] e ∙ keep-none (keptAt p v gone)))
@@ -209,28 +210,30 @@ unfolding tourCands flat keep below upFrom
 tour-none p v gone = refl
 
 -- a candidate of the segments below n is of one of them
-tour-in : (p : Params) (v : View) (gone n : ℕ) (c : Cand) → n ≤ p .Z → In c (tourCands p v gone (below n)) → (k : CandAt p v gone c) × (k .of .name < n)
+tour-in : (p : Params) (v : View) (gone n : ℕ) (c : Cand) → n ≤ p .Z → In c (tourCands p v gone (below n)) → (k : CandAt p v gone c) × (i : ℕ) × (i < n) × (k .of ≡ across p i)
 unfolding tourCands segmentCands counted dataDrives
 tour-in p v gone n c h m =
     let (g, i, j) = flat-in (candsAt p v gone) (keep (keptAt p v gone) (below n)) c m in
     let (a, b) = keep-in (keptAt p v gone) (below n) g i in
-    let sg = segmentOf p v gone (seg g) in
+    let sg = segmentOf p v gone (across p g) in
     let (s, x, y) = flat-in (λ s. map (candOf p gone sg s) (map (dataDrive p s) (below (dataCount p)))) (keep (counts p gone sg) (below (p .S))) c j in
     let (u, w) = keep-in (counts p gone sg) (below (p .S)) s x in
     let (d, t, e) = map-in (candOf p gone sg s) (map (dataDrive p s) (below (dataCount p))) c y in
     let (q, o, f) = map-in (dataDrive p s) (below (dataCount p)) d t in
     let low = below-in n g a in (
       record {
-        of = seg g;
+        of = across p g;
         stripe = s;
         position = q;
-        remains = in-remaining p v gone (seg g) (seg-named p g (omega arith)) b;
+        remains = in-remaining p v gone (across p g) (seg-named p g (omega arith)) b;
         stripe-low = below-in (p .S) s u;
         it-counts = w;
         position-low = below-in (dataCount p) q o;
         it-is = e ∙ ap (candOf p gone sg s) f;
       },
+      g,
       low,
+      refl,
     )
 
 module _ (p : Params) (v : View) (gone : ℕ) where
@@ -245,26 +248,26 @@ module _ (p : Params) (v : View) (gone : ℕ) where
       none! : 0 ≡ greatestStamp []
       none! = unfold greatestStamp greatest in refl
 
-  module _ (g : ℕ) (hg : g < p .Z) (co co′ tb : List ℕ) (m : ℕ) (t : Toured p v gone g co tb m) (sh : SegmentShown p v gone (seg g) co′ × Else p (seg g) co co′) where
+  module _ (g : ℕ) (hg : g < p .Z) (co co′ tb : List ℕ) (m : ℕ) (t : Toured p v gone g co tb m) (sh : SegmentShown p v gone (across p g) co′ × Else p (across p g) co co′) where
     -- the rows of the segments below, and of g
-    shown-next : (y : ℕ) → y < g + 1 → SegmentShown p v gone (seg y) co′
+    shown-next : (y : ℕ) → y < g + 1 → SegmentShown p v gone (across p y) co′
     shown-next y h = go (ℕ-discrete y g)
       where
-        go : Dec (y ≡ g) → SegmentShown p v gone (seg y) co′
-        go (yes e) = subst (λ (n : ℕ). SegmentShown p v gone (seg n) co′) (sym e) (sh .0)
+        go : Dec (y ≡ g) → SegmentShown p v gone (across p y) co′
+        go (yes e) = subst (λ (n : ℕ). SegmentShown p v gone (across p n) co′) (sym e) (sh .0)
         go (no n) = λ d o hd ho.
-            sh .1 d (zoneOn (seg y) d) o hd (zone-on-lt p (seg y) d (seg-named p y (omega arith))) ho (λ e. n (sym (zone-number y d) ∙ e ∙ zone-number g d))
+            sh .1 d (zoneOn (across p y) d) o hd (zone-on-lt p (across p y) d (seg-named p y (omega arith))) ho (λ e. n (sym (across-zone p y d hd) ∙ e ∙ across-zone p g d hd))
             ∙ t .shown y (omega arith) d o hd ho
 
     -- what is told is found again by these
     pub toured-told : Told p v gone co′ tb (tourCands p v gone (below g))
     toured-told = record {
       table = t .table;
-      said = λ c i. let (k, l) = tour-in p v gone g c (omega arith) i in (k, shown-next (k .of .name) (omega arith));
+      said = λ c j. let (k, i, l, e) = tour-in p v gone g c (omega arith) j in (k, subst (λ (y : Seg). SegmentShown p v gone y co′) (sym e) (shown-next i (omega arith)));
     }
 
     module _ (l : length co′ ≡ length co) where
-      pub toured-miss : remains p v gone (seg g) ≡ false → Toured p v gone (g + 1) co′ tb m
+      pub toured-miss : remains p v gone (across p g) ≡ false → Toured p v gone (g + 1) co′ tb m
       toured-miss e = record {
         long = l ∙ t .long;
         shown = shown-next;
@@ -272,12 +275,12 @@ module _ (p : Params) (v : View) (gone : ℕ) where
         most = t .most ∙ ap greatestStamp (sym (tour-miss p v gone g e));
       }
 
-      pub toured-hit : (tb′ : List ℕ) (m′ n′ : ℕ) → remains p v gone (seg g) ≡ true → Walked p v gone co′ (seg g) (below (p .S)) tb tb′ m m′ 0 n′
+      pub toured-hit : (tb′ : List ℕ) (m′ n′ : ℕ) → remains p v gone (across p g) ≡ true → Walked p v gone co′ (across p g) (below (p .S)) tb tb′ m m′ 0 n′
           → Toured p v gone (g + 1) co′ tb′ m′
       toured-hit tb′ m′ n′ e a =
-          let w = walked-all p v gone co′ (seg g) tb tb′ m m′ n′ a in
+          let w = walked-all p v gone co′ (across p g) tb tb′ m m′ n′ a in
           let xs = tourCands p v gone (below g) in
-          let ys = segmentCands p gone (segmentOf p v gone (seg g)) in
+          let ys = segmentCands p gone (segmentOf p v gone (across p g)) in
           record {
             long = l ∙ t .long;
             shown = shown-next;
@@ -290,7 +293,7 @@ module _ (p : Params) (v : View) (gone : ℕ) where
   unfolding tourCands candidates segments
   all-cands =
       let f : Seg → List Cand = λ g. segmentCands p gone (segmentOf p v gone g) in
-      sym (ap (flat f) (remaining-is p v gone ∙ keep-segs p (remains p v gone)) ∙ flat-map f seg (keep (λ g. remains p v gone (seg g)) (below (p .Z))))
+      sym (ap (flat f) (remaining-is p v gone ∙ keep-segs p (remains p v gone)) ∙ flat-map f (across p) (keep (λ g. remains p v gone (across p g)) (below (p .Z))))
       ∙ sym (flat-map (segmentCands p gone) (segmentOf p v gone) (remaining p v gone))
 
   -- all segments
@@ -299,7 +302,9 @@ module _ (p : Params) (v : View) (gone : ℕ) where
   toured-all co tb m hs hz t = (
     t .table ∙ ap (addressTable p) all-cands,
     grid-ext p (λ d z. compactRow p (rowAt p v gone d z)) (compact-row-long p v gone) co (t .long) hs hz
-        (λ d z o hd h ho. by-seg (λ y. getD co (compactAt p d y o) 0 ≡ getD (compactRow p (rowAt p v gone d y)) o 0) p d z h (λ g hg. t .shown (g .name) (named-lt p g hg) d o hd ho))
+        (λ d z o hd h ho. by-seg (λ y. getD co (compactAt p d y o) 0 ≡ getD (compactRow p (rowAt p v gone d y)) o 0) p d z hd h (λ g hg.
+        let (n, l, e) = named-number p g hg in
+        subst (λ (x : Seg). getD co (compactAt p d (zoneOn x d) o) 0 ≡ getD (compactRow p (rowAt p v gone d (zoneOn x d))) o 0) (sym e) (t .shown n l d o hd ho)))
         ∙ sym (compact-is p v gone),
     t .most ∙ ap greatestStamp all-cands,
   )

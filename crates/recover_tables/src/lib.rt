@@ -5,7 +5,7 @@ ghost use mathlib.Core.List.{List, [], _∷_};
 ghost use Prim.Native.Nat.{ℕ, _+_, _*_, _%_, max, _≤_, _<_};
 ghost use lib.Dec.{ltb, eqb};
 ghost use lib.ListN.{length, getD, replicate};
-ghost use Rattle.spec.specs.Drives.{viewOf, mkDisk, sealedIn, seg as segNo, zoneOn};
+ghost use Rattle.spec.specs.Drives.{viewOf, mkDisk, sealedIn, across, zoneOn};
 ghost use Rattle.spec.specs.Lists.{upFrom, below, any, isIn};
 ghost use Rattle.spec.specs.Memory.{mkMemory, idleState, compactAt};
 ghost use Rattle.spec.specs.Params.{inRange, imageLen, pointersLen, addressesLen, compactLen};
@@ -24,9 +24,11 @@ ghost use Rattle.recover_tables.specs.Head.{SaidTables};
 ghost use Rattle.recover_tables.specs.Index.{Rowed, Grouped};
 ghost use Rattle.recover_tables.specs.Ready.{ReadsStripe, Indexing, Standing};
 ghost use Rattle.recover_tables.specs.Walk.{stripeCands, Walked, Toured};
+ghost use Rattle.law_basic.specs.Segs.{ZonesLow};
 use disk_rank::Cand;
 use recover_groups::Group;
 use spec::Params;
+use spec::Seg;
 use spec::Serial;
 use spec::Stamp;
 use spec::State;
@@ -64,7 +66,8 @@ fn cand_of(
     k: usize,
 ) -> Cand
     requires { ⌜ inRange p ≡ true ⌝ }
-    requires { ⌜ (length (now image) ≡ imageLen p) × (length (now at) ≡ 2048) × (w .seg < p .Z) × (w .base < p .S) × (drive < p .N) × (k < groupLen p (w .base)) ⌝ }
+    requires { ⌜ (length (now image) ≡ imageLen p) × (length (now at) ≡ 2048) × ZonesLow p (w .gone) (w .seg) × (w .base < p .S) × (drive < p .N) × (k < groupLen p (w .base))
+        × (zoneOn (w .seg) drive < p .Z) ⌝ }
     requires { ⌜ ReadsStripe p (now image) w (now at) k ⌝ }
     ensures { λ r. ⌜
         ((ps : List ℕ)
@@ -74,7 +77,7 @@ fn cand_of(
 {
     let r = recover_groups::rec_of(p, image, w, at, drive, k);
     let offset = recover_groups::offset_of(w, at, drive, k);
-    let zone = disk_shape::zone_on(w.seg, drive);
+    let zone = disk_shape::zone_on(p, w.seg, drive);
     let place = disk_shape::place_of(p, drive, zone, 1 + offset);
     let address = r.address;
     let stamp = r.stamp;
@@ -97,12 +100,13 @@ fn load_stripe(
     compact: &[u8],
     w: Group,
     serials: &[u64],
+    serial: Serial,
     at: &[u16],
     k: usize,
     stamp: Stamp,
 ) -> Stamp
     requires { ⌜ Ground p (now image) (now pointers) (w .gone) (now compact) ⌝ }
-    requires { ⌜ Serials p (viewOf p (now image) (now pointers)) (w .gone) (now serials) ⌝ }
+    requires { ⌜ Serials p (viewOf p (now image) (now pointers)) (w .gone) (now serials) × (serial .0 ≡ segmentIn p (now image) (now pointers) w .serial) ⌝ }
     requires { ⌜ Standing p (now image) (now pointers) w (now compact) (now at) k ⌝ }
     requires { ⌜ Known p (viewOf p (now image) (now pointers)) (w .gone) (now compact) (now addresses) ⌝ }
     ensures { λ _. ⌜
@@ -110,8 +114,6 @@ fn load_stripe(
         (stripeCands p (w .gone) (segmentIn p (now (image .entry)) (now (pointers .entry)) w) (w .base + k)) ⌝ }
     ensures { λ r. ⌜ r .0 ≡ max (stamp .0) (greatestStamp (stripeCands p (w .gone) (segmentIn p (now (image .entry)) (now (pointers .entry)) w) (w .base + k))) ⌝ }
 {
-    let seg = w.seg;
-    let serial = Serial(serials[seg]);
     let s = w.base + k;
     let n = disk_shape::data_count(p);
     let mut most = stamp;
@@ -136,16 +138,17 @@ fn load_if(
     compact: &[u8],
     w: Group,
     serials: &[u64],
+    serial: Serial,
     at: &[u16],
     k: usize,
     t: Loaded,
 ) -> Loaded
     requires { ⌜ Ground p (now image) (now pointers) (w .gone) (now compact) ⌝ }
-    requires { ⌜ Serials p (viewOf p (now image) (now pointers)) (w .gone) (now serials) ⌝ }
+    requires { ⌜ Serials p (viewOf p (now image) (now pointers)) (w .gone) (now serials) × (serial .0 ≡ segmentIn p (now image) (now pointers) w .serial) ⌝ }
     requires { ⌜ Indexing p (now image) (now pointers) w (now compact) (now at) k × (t .counted ≤ w .base + k) ⌝ }
     requires { ⌜ Known p (viewOf p (now image) (now pointers)) (w .gone) (now compact) (now addresses) ⌝ }
     ensures { λ r. ⌜
-        Walked p (viewOf p (now (image .entry)) (now (pointers .entry))) (w .gone) (now (compact .entry)) (segNo (w .seg)) ((w .base + k) ∷ []) (now (addresses .entry))
+        Walked p (viewOf p (now (image .entry)) (now (pointers .entry))) (w .gone) (now (compact .entry)) (w .seg) ((w .base + k) ∷ []) (now (addresses .entry))
         (now (addresses .exit)) (t .stamp .0) (r .stamp .0) (t .counted) (r .counted) ⌝ }
 {
     if !recover_groups::counts(p, w.gone, at, k) {
@@ -160,6 +163,7 @@ fn load_if(
         compact,
         w,
         serials,
+        serial,
         at,
         k,
         most,
@@ -173,10 +177,10 @@ fn load_if(
 // What the compact table holds of data offset i of a group on a drive.
 fn entry_at(p: Params, compact: &[u8], w: Group, drive: usize, i: usize) -> usize
     requires { ⌜ inRange p ≡ true ⌝ }
-    requires { ⌜ (length (now compact) ≡ compactLen p) × (drive < p .N) × (w .seg < p .Z) × (w .base < p .S) × (i < groupLen p (w .base)) ⌝ }
-    ensures { λ r. ⌜ (r ≡ getD (now (compact .entry)) (compactAt p drive (zoneOn (segNo (w .seg)) drive) (w .base) + i) 0) × (r < 256) ⌝ }
+    requires { ⌜ (length (now compact) ≡ compactLen p) × (drive < p .N) × (zoneOn (w .seg) drive < p .Z) × (w .base < p .S) × (i < groupLen p (w .base)) ⌝ }
+    ensures { λ r. ⌜ (r ≡ getD (now (compact .entry)) (compactAt p drive (zoneOn (w .seg) drive) (w .base) + i) 0) × (r < 256) ⌝ }
 {
-    let zone = disk_shape::zone_on(w.seg, drive);
+    let zone = disk_shape::zone_on(p, w.seg, drive);
     let from = disk_shape::compact_at(p, drive, zone, w.base);
     compact[from + i] as usize
 }
@@ -185,9 +189,9 @@ fn entry_at(p: Params, compact: &[u8], w: Group, drive: usize, i: usize) -> usiz
 fn index_drive(p: Params, pointers: &[u8], compact: &[u8], w: Group, drive: usize, at: &mut [u16])
     requires { ⌜ inRange p ≡ true ⌝ }
     requires { ⌜ (length (now pointers) ≡ pointersLen p) × (length (now compact) ≡ compactLen p) × (length (now at) ≡ 2048) ⌝ }
-    requires { ⌜ (drive < p .N) × (w .seg < p .Z) × (w .base < p .S) × (w .base % p .G ≡ 0) × (isIn (w .gone) drive ≡ false) ⌝ }
+    requires { ⌜ (drive < p .N) × ZonesLow p (w .gone) (w .seg) × (w .base < p .S) × (w .base % p .G ≡ 0) × (isIn (w .gone) drive ≡ false) ⌝ }
     requires { ⌜ ((k : ℕ) → k < groupLen p (w .base) → getD (now at) (256 * drive + k) 0 ≡ 0) ⌝ }
-    ensures { λ _. ⌜ ((im : List ℕ) → Rowed p im (now (pointers .entry)) (w .gone) (now (compact .entry)) (segNo (w .seg)) (w .base) drive (now (at .entry)) (now (at .exit))) ⌝ }
+    ensures { λ _. ⌜ ((im : List ℕ) → Rowed p im (now (pointers .entry)) (w .gone) (now (compact .entry)) (w .seg) (w .base) drive (now (at .entry)) (now (at .exit))) ⌝ }
 {
     let n = recover_groups::group_stored(p, pointers, w, drive);
     let mut i = 0;
@@ -202,8 +206,8 @@ fn index_drive(p: Params, pointers: &[u8], compact: &[u8], w: Group, drive: usiz
 fn index_any(p: Params, pointers: &[u8], compact: &[u8], w: Group, drive: usize, at: &mut [u16])
     requires { ⌜ inRange p ≡ true ⌝ }
     requires { ⌜ (length (now pointers) ≡ pointersLen p) × (length (now compact) ≡ compactLen p) × (length (now at) ≡ 2048) ⌝ }
-    requires { ⌜ (drive < p .N) × (w .seg < p .Z) × (w .base < p .S) × (w .base % p .G ≡ 0) ⌝ }
-    ensures { λ _. ⌜ ((im : List ℕ) → Rowed p im (now (pointers .entry)) (w .gone) (now (compact .entry)) (segNo (w .seg)) (w .base) drive (now (at .entry)) (now (at .exit))) ⌝ }
+    requires { ⌜ (drive < p .N) × ZonesLow p (w .gone) (w .seg) × (w .base < p .S) × (w .base % p .G ≡ 0) ⌝ }
+    ensures { λ _. ⌜ ((im : List ℕ) → Rowed p im (now (pointers .entry)) (w .gone) (now (compact .entry)) (w .seg) (w .base) drive (now (at .entry)) (now (at .exit))) ⌝ }
 {
     recover_groups::clear_row(p, at, drive);
     if bits_masks::has_drive(w.gone, drive) {
@@ -216,7 +220,7 @@ fn index_any(p: Params, pointers: &[u8], compact: &[u8], w: Group, drive: usize,
 fn index_group(p: Params, pointers: &[u8], compact: &[u8], w: Group, at: &mut [u16])
     requires { ⌜ inRange p ≡ true ⌝ }
     requires { ⌜ (length (now pointers) ≡ pointersLen p) × (length (now compact) ≡ compactLen p) × (length (now at) ≡ 2048) ⌝ }
-    requires { ⌜ (w .seg < p .Z) × (w .base < p .S) × (w .base % p .G ≡ 0) ⌝ }
+    requires { ⌜ ZonesLow p (w .gone) (w .seg) × (w .base < p .S) × (w .base % p .G ≡ 0) ⌝ }
     ensures { λ _. ⌜ ((im : List ℕ) → Grouped p im (now (pointers .entry)) (now (compact .entry)) w (now (at .exit))) ⌝ }
 {
     let mut d = 0;
@@ -235,22 +239,23 @@ fn load_group(
     compact: &[u8],
     w: Group,
     serials: &[u64],
+    serial: Serial,
     at: &mut [u16],
     t: Loaded,
 ) -> Loaded
     requires { ⌜ Ground p (now image) (now pointers) (w .gone) (now compact) ⌝ }
-    requires { ⌜ Serials p (viewOf p (now image) (now pointers)) (w .gone) (now serials) ⌝ }
+    requires { ⌜ Serials p (viewOf p (now image) (now pointers)) (w .gone) (now serials) × (serial .0 ≡ segmentIn p (now image) (now pointers) w .serial) ⌝ }
     requires { ⌜
         (length (now at) ≡ 2048)
         × (w .base < p .S)
         × (w .base % p .G ≡ 0)
-        × (w .full ≡ sealedIn p (viewOf p (now image) (now pointers)) (w .gone) (segNo (w .seg)))
-        × In (segNo (w .seg)) (remaining p (viewOf p (now image) (now pointers)) (w .gone))
-        × SegmentShown p (viewOf p (now image) (now pointers)) (w .gone) (segNo (w .seg)) (now compact)
+        × (w .full ≡ sealedIn p (viewOf p (now image) (now pointers)) (w .gone) (w .seg))
+        × In (w .seg) (remaining p (viewOf p (now image) (now pointers)) (w .gone))
+        × SegmentShown p (viewOf p (now image) (now pointers)) (w .gone) (w .seg) (now compact)
         × (t .counted ≤ w .base) ⌝ }
     requires { ⌜ Known p (viewOf p (now image) (now pointers)) (w .gone) (now compact) (now addresses) ⌝ }
     ensures { λ r. ⌜
-        Walked p (viewOf p (now (image .entry)) (now (pointers .entry))) (w .gone) (now (compact .entry)) (segNo (w .seg)) (upFrom (w .base) (groupLen p (w .base)))
+        Walked p (viewOf p (now (image .entry)) (now (pointers .entry))) (w .gone) (now (compact .entry)) (w .seg) (upFrom (w .base) (groupLen p (w .base)))
         (now (addresses .entry)) (now (addresses .exit)) (t .stamp .0) (r .stamp .0) (t .counted) (r .counted) ⌝ }
 {
     index_group(p, pointers, compact, w, at);
@@ -266,6 +271,7 @@ fn load_group(
             compact,
             w,
             serials,
+            serial,
             at,
             k,
             next,
@@ -284,16 +290,17 @@ fn load_groups(
     compact: &[u8],
     gone: u8,
     serials: &[u64],
-    seg: usize,
+    serial: Serial,
+    seg: Seg,
     at: &mut [u16],
     stamp: Stamp,
 ) -> Loaded
     requires { ⌜ Ground p (now image) (now pointers) gone (now compact) ⌝ }
-    requires { ⌜ Serials p (viewOf p (now image) (now pointers)) gone (now serials) ⌝ }
-    requires { ⌜ In (segNo seg) (remaining p (viewOf p (now image) (now pointers)) gone) × SegmentShown p (viewOf p (now image) (now pointers)) gone (segNo seg) (now compact) ⌝ }
+    requires { ⌜ Serials p (viewOf p (now image) (now pointers)) gone (now serials) × (serial .0 ≡ segmentOf p (viewOf p (now image) (now pointers)) gone seg .serial) ⌝ }
+    requires { ⌜ In seg (remaining p (viewOf p (now image) (now pointers)) gone) × SegmentShown p (viewOf p (now image) (now pointers)) gone seg (now compact) ⌝ }
     requires { ⌜ Known p (viewOf p (now image) (now pointers)) gone (now compact) (now addresses) × (length (now at) ≡ 2048) ⌝ }
     ensures { λ r. ⌜
-        Walked p (viewOf p (now (image .entry)) (now (pointers .entry))) gone (now (compact .entry)) (segNo seg) (below (p .S)) (now (addresses .entry)) (now (addresses .exit))
+        Walked p (viewOf p (now (image .entry)) (now (pointers .entry))) gone (now (compact .entry)) seg (below (p .S)) (now (addresses .entry)) (now (addresses .exit))
         (stamp .0) (r .stamp .0) 0 (r .counted) ⌝ }
 {
     let full = disk_zones::is_sealed(p, pointers, gone, seg);
@@ -306,7 +313,18 @@ fn load_groups(
             full,
             base,
         };
-        t = load_group(p, image, pointers, addresses, compact, w, serials, at, t);
+        t = load_group(
+            p,
+            image,
+            pointers,
+            addresses,
+            compact,
+            w,
+            serials,
+            serial,
+            at,
+            t,
+        );
         base += p.G;
     }
     t
@@ -329,16 +347,18 @@ fn load_segment(
 ) -> Head
     requires { ⌜ Ground p (now image) (now pointers) gone (now compact) ⌝ }
     requires { ⌜ Serials p (viewOf p (now image) (now pointers)) gone (now serials) ⌝ }
-    requires { ⌜ (g < p .Z) × (kept ≡ remains p (viewOf p (now image) (now pointers)) gone (segNo g)) ⌝ }
+    requires { ⌜ (g < p .Z) × (kept ≡ remains p (viewOf p (now image) (now pointers)) gone (across p g)) ⌝ }
     requires { ⌜ Toured p (viewOf p (now image) (now pointers)) gone g (now compact) (now addresses) (h .stamp .0) × (length (now at) ≡ 2048) ⌝ }
     ensures { λ r. ⌜ Toured p (viewOf p (now (image .entry)) (now (pointers .entry))) gone (g + 1) (now (compact .exit)) (now (addresses .exit)) (r .stamp .0) ⌝ }
-    ensures { λ r. ⌜ r .next ≡ cond (kept && eqb g opened) (length (counted p gone (segmentOf p (viewOf p (now (image .entry)) (now (pointers .entry))) gone (segNo g)))) (h .next) ⌝ }
+    ensures { λ r. ⌜ r .next ≡ cond (kept && eqb g opened) (length (counted p gone (segmentOf p (viewOf p (now (image .entry)) (now (pointers .entry))) gone (across p g)))) (h .next) ⌝ }
 {
-    recover_compact::rows(p, image, pointers, compact, gone, kept, g);
+    let segment = disk_shape::across(p, g);
+    recover_compact::rows(p, image, pointers, compact, gone, kept, segment);
     if !kept {
         return h;
     }
     let most = h.stamp;
+    let serial = Serial(serials[g]);
     let t = load_groups(
         p,
         image,
@@ -347,7 +367,8 @@ fn load_segment(
         compact,
         gone,
         serials,
-        g,
+        serial,
+        segment,
         at,
         most,
     );
@@ -385,8 +406,8 @@ fn load_segments(
     ensures { λ r. ⌜
         (r .next ≤ p .S)
         × (opened < p .Z
-        → remains p (viewOf p (now (image .entry)) (now (pointers .entry))) gone (segNo opened) ≡ true
-        → r .next ≡ length (counted p gone (segmentOf p (viewOf p (now (image .entry)) (now (pointers .entry))) gone (segNo opened)))) ⌝ }
+        → remains p (viewOf p (now (image .entry)) (now (pointers .entry))) gone (across p opened) ≡ true
+        → r .next ≡ length (counted p gone (segmentOf p (viewOf p (now (image .entry)) (now (pointers .entry))) gone (across p opened)))) ⌝ }
 {
     let mut h = Head {
         stamp: Stamp(0),
@@ -446,8 +467,8 @@ fn load_tables(
     ensures { λ r. ⌜
         (r .next ≤ p .S)
         × (opened < p .Z
-        → remains p (viewOf p (now (image .entry)) (now (pointers .entry))) gone (segNo opened) ≡ true
-        → r .next ≡ length (counted p gone (segmentOf p (viewOf p (now (image .entry)) (now (pointers .entry))) gone (segNo opened)))) ⌝ }
+        → remains p (viewOf p (now (image .entry)) (now (pointers .entry))) gone (across p opened) ≡ true
+        → r .next ≡ length (counted p gone (segmentOf p (viewOf p (now (image .entry)) (now (pointers .entry))) gone (across p opened)))) ⌝ }
 {
     clear_table(addresses);
     let mut at = [0u16; 2048];

@@ -5,9 +5,10 @@ use Prim.Native.Nat.{ℕ, suc, _+_, _-_, _*_, min}
 use lib.Dec.{eqb}
 use lib.ListN.{getD, take, drop, set, replicate}
 use Rattle.spec.specs.declared.Params.{Params}
+use Rattle.spec.specs.declared.Seg.{Seg}
 use Rattle.spec.specs.Bytes.{beOf, toBe, part, splice}
 use Rattle.spec.specs.Layout.{headerBlock, Rec, recordOf, footerBlock, footerRecord}
-use Rattle.spec.specs.Lists.{upFrom, below, all, keep, pieces, zipped}
+use Rattle.spec.specs.Lists.{upFrom, below, all, keep, sameList, padTo, pieces, zipped}
 use Rattle.spec.specs.Params.{spareLen, capacity, unitLen, zoneLen, driveLen, placeOf, placeBlock, placeZone, placeDrive, placeByte, drivesOf, present}
 
 -- a block with its spare
@@ -130,28 +131,37 @@ storeAll f (s ∷ ss) d = storeAll f ss (f s d)
 
 -- ---- counts by the pointers alone
 
--- 01, What a zone holds: a segment, by its name: today the number that its zones have on every drive (02, item 4)
-pub record Seg : Type 0 where
-  pub name : ℕ
+-- 01, What a zone holds: a segment, by its zones on the drives
+abbrev pub seg : List ℕ → Seg
+seg zs = record { zones = zs }
 
-abbrev pub seg : ℕ → Seg
-seg n = record { name = n }
+-- no segment
+unfoldable pub noSeg : Seg
+noSeg = seg (replicate 8 0)
 
 -- one segment
 unfoldable pub sameSeg : Seg → Seg → Bool
-sameSeg g h = eqb (g .name) (h .name)
+sameSeg g h = sameList (g .zones) (h .zones)
+
+-- 01, What a zone holds: segment z is zone z of every drive; today all are so (02, item 4)
+unfoldable pub across : Params → ℕ → Seg
+across p z = seg (padTo 8 (replicate (p .N) z))
 
 -- 01, What a zone holds: the segments that there may be, rising
 unfoldable pub allSegs : Params → List Seg
-allSegs p = map seg (below (p .Z))
+allSegs p = map (across p) (below (p .Z))
 
 -- 01, What a zone holds: the zone of segment g on drive d
 unfoldable pub zoneOn : Seg → ℕ → ℕ
-zoneOn g d = g .name
+zoneOn g d = getD (g .zones) d 0
+
+-- its zones, by drive
+unfoldable pub zonesIn : Params → Seg → List ℕ
+zonesIn p g = map (zoneOn g) (drivesOf p)
 
 -- and the segment of a place
 unfoldable pub placeSegment : Params → ℕ → Seg
-placeSegment p q = seg (placeZone p q)
+placeSegment p q = across p (placeZone p q)
 
 -- 01, Refusals, 8: all its zones are empty
 unfoldable pub emptyOnAll : Params → View → Seg → Bool
@@ -202,7 +212,7 @@ zeroSpare = replicate spareLen 0
 
 -- the stores of headers, by drive
 unfoldable pub headerStores : Params → Seg → ℕ → ℕ → List Store
-headerStores p g serial copied = map (λ d. put d (zoneOn g d) (headerBlock p d (zoneOn g d) serial copied) zeroSpare) (drivesOf p)
+headerStores p g serial copied = map (λ d. put d (zoneOn g d) (headerBlock p d (zonesIn p g) serial copied) zeroSpare) (drivesOf p)
 
 -- the stores of footer blocks i, i + 1, ..: n of them
 unfoldable pub footerStores : Params → ℕ → ℕ → Zone → ℕ → ℕ → List Store

@@ -11,10 +11,10 @@ use Rattle.spec.specs.Answers.{kind, values, stampTold, isRefused, isRef
 use Rattle.spec.specs.Bytes.{beFrom, beOf, toBe, leOf, toLe, part, splice, xors, parity, xorAll, bytesOf, widthsOf, fieldAt, readField}
 use Rattle.spec.specs.Calls.{ninth, ruled, firstRefusal, decided, cutMemory, limited, outcome}
 use Rattle.spec.specs.Closing.{padded, closeChecks, closePlan, closeVerdict}
-use Rattle.spec.specs.Drives.{noChunk, noZone, stored, View, zoneAt, pointerAt, chunkAt, chunkOf, zoneOf, driveOf, viewOf, putZone, resetZone, setZone, Seg, seg, sameSeg}
+use Rattle.spec.specs.Drives.{noChunk, noZone, stored, View, zoneAt, pointerAt, chunkAt, chunkOf, zoneOf, driveOf, viewOf, putZone, resetZone, setZone, sameSeg, across}
 use Rattle.spec.specs.Drives.{storeView, pointerByte, pointerOf, setPointer, storeDisk, storeAll, allSegs, zoneOn, placeSegment, emptyOnAll}
 use Rattle.spec.specs.Drives.{emptySegs, sealedIn, dataStored, blocksOf, sparesOf, recordIn, recordAt, footersOf, zeroSpare, headerStores, footerStores}
-use Rattle.spec.specs.Drives.{resetStores}
+use Rattle.spec.specs.Drives.{resetStores, noSeg, zonesIn}
 use Rattle.spec.specs.Engine.{Call, storeCount, lentBlock, verdict, lentOk, callOn, callDisk, Lent, Left, lentDisk, lentMemory, lentAll, leftBy, callBytes}
 use Rattle.spec.specs.Engine.Call.{write, land, read, fill, restart}
 use Rattle.spec.specs.Faults.{pointerFaults, sameChunk, headerFault, serialFault, outside, twice, stripeFault, badRec, storedBad, decodedBad}
@@ -47,6 +47,7 @@ use Rattle.spec.specs.Segments.{lowDrive, headerAt, leftBy1, isCopy, rem
 use Rattle.spec.specs.Segments.{counted, uncounted, storedPiece, pieceOf, putPiece, storedRec, recOf, offsetOf, candOf, segmentCands, candidates}
 use Rattle.spec.specs.Segments.{addressTable, compactRow, rowOf, compactTable, greatestStamp, greatestSerial, unsealed}
 use Rattle.spec.specs.Write.{mustOpen, opens, noStamp, noSerial, otherGroup, mustWait, scarce, placed, openedBy, slotFor, begunBy, sending, writeChecksIn, writePlan, writeVerdictIn}
+use Rattle.spec.specs.declared.Seg.{Seg}
 
 -- 01: the small box, and variants of it
 abbrev pub small : Params
@@ -120,36 +121,35 @@ pub record Examples : Type 0 where
   pub m5 : (map (group (mkParams 3 64 4 5 2 8)) (below 5) ≡ 0 ∷ 0 ∷ 1 ∷ 1 ∷ 2 ∷ []) × (compactEntry (mkParams 3 64 4 5 2 8) 4 ≡ 0)
   pub m6 : (perFooter small ≡ 3) × (footers (mkParams 3 64 4 3 2 6) ≡ 1) × (footers small ≡ 2)
   pub m7 : m7Reads (runs small (fresh small) m7First) ≡ 3 ∷ 3 ∷ blockOf 3
-  pub m8 : countedBoth small (runs small (fresh small) m8Calls) 2 (seg 0) ≡ [] ∷ (0 ∷ []) ∷ []
+  pub m8 : countedBoth small (runs small (fresh small) m8Calls) 2 (across small 0) ≡ [] ∷ (0 ∷ []) ∷ []
 
 pub examples-hold : Examples
-unfolding ones onesIn kind values stampTold isRefused isRefusedAs isCut finished beFrom beOf toBe leOf toLe part splice xors parity xorAll bytesOf widthsOf
-    fieldAt readField ninth ruled firstRefusal decided cutMemory limited outcome padded closeChecks closePlan closeVerdict noChunk noZone stored
-    zoneAt pointerAt chunkAt chunkOf zoneOf driveOf viewOf putZone resetZone setZone storeView pointerByte pointerOf setPointer storeDisk storeAll
-    sameSeg allSegs zoneOn placeSegment emptyOnAll emptySegs sealedIn dataStored blocksOf sparesOf recordIn recordAt footersOf zeroSpare headerStores
-    footerStores resetStores storeCount lentBlock verdict lentOk callOn callDisk lentDisk lentMemory lentAll leftBy callBytes pointerFaults sameChunk
-    headerFault serialFault outside twice stripeFault badRec storedBad decodedBad addressFault footersStored sameBlocks footerFaultIn footerFault
-    clashes segmentFault segmentFaults imageChecks slotOf ready waiting completes seals flightRec misplaced overfull entryFaults landFaults serialAt
-    heldCand heldBy held landedCand landedCands pointed landChecks sealStores writesIn landStore landPlan landVerdict parityDrive dataDrive dataPosition
-    isData parityPosition dataDrives group inGroupOf groupOffsets compactEntry headerVersion headerTable headerWidths headerLen headerFields
-    headerBlock headerSerial headerCopied recordFields recordBytes recordOf footerBlock footerRecord upFrom below all any isMember consIf keep tally
-    isNil sucUnless indexOf flat total greatest least firstOr sameList padTo pieces zipped powers only isIn slotCount slots cell idleState zeroState
-    stateSections sectionLen sectionAt stateLen numbersAt sectionOf numberOf stateNumbers sectionBytes stateBytes stateOf stripeIn filledIn landedIn
-    isWrite entryIn entriesIn offsetIn openSegment isFree isFull isFilling inFlight freeSlot fillingSlot hasFilling holdsAt holds slotOk stateOk
-    stateFaults setStamp setOpen setClosed beginStripe addEntry landedMask markLanded freeStripe placeAt setPlace compactAt shownAt slotByte slotBlock
-    setSlotBlock setSlotParity between blockSizes parityCount dataCount mostAddresses inRange recordTable recordWidths spareLen perFooter footers
-    capacity unitLen zoneLen driveLen imageLen pointersLen addressesLen compactLen inflightLen placeOf placeBlock placeZone placeDrive placeByte
-    noDrive named drivesOf present absent parityRec parityPiece encodeBlock encodeRec encodePiece decodeBlock decodeRec decodePiece beats better best
-    placeOr candsOf placeFaults lies lookup foundFaults shown decodeFaults storedAt decodedAt readPiece readAnswer readChecks readPlan
-    readVerdict fillPlan fillVerdict
-    namesMissing rebuildChecks rebuiltZone rebuildStores rebuildVerdict placesIn tableFaults segmentPlaces liveIn flying victimOf fewer fewest victim
-    isNone victimSegment victimLive idle reclaimChecksIn clearedRow cleared resetPlan copyPlan reclaimVerdictIn freeSegs isWhole isRagged missingFooters
-    renumbered movedPieces movedOn movedStripe movedStripes rewriteStores dropStores mendStores restartStores openOf nextOf restartMemory uncountedIn
-    reportOf namesDrive rewrites restartChecks restartPlan restartVerdict lowDrive headerAt leftBy1 isCopy remaining recordsIn segmentOf segments
-    recsOn offsetOn hasChunk counts counted uncounted storedPiece pieceOf putPiece storedRec recOf offsetOf candOf segmentCands candidates
-    addressTable compactRow rowOf compactTable greatestStamp greatestSerial unsealed mustOpen opens noStamp noSerial otherGroup mustWait scarce placed
-    openedBy slotFor begunBy sending writeChecksIn writePlan writeVerdictIn emptyLent runs fresh viewAfter stampAt blockOf stampAndBlock m7First m7Then
-    m7Reads m8Calls countedBoth
+unfolding ones onesIn kind values isRefused isRefusedAs stampTold isCut finished beFrom beOf toBe leOf toLe part splice xors parity xorAll bytesOf
+    widthsOf fieldAt readField ninth ruled firstRefusal decided cutMemory limited outcome padded closeChecks closePlan closeVerdict noChunk noZone
+    stored zoneAt pointerAt chunkAt chunkOf zoneOf driveOf viewOf putZone resetZone setZone storeView pointerByte pointerOf setPointer storeDisk
+    storeAll noSeg sameSeg across allSegs zoneOn zonesIn placeSegment emptyOnAll emptySegs sealedIn dataStored blocksOf sparesOf recordIn recordAt
+    footersOf zeroSpare headerStores footerStores resetStores storeCount lentBlock verdict lentOk callOn callDisk lentDisk lentMemory lentAll leftBy
+    callBytes pointerFaults sameChunk headerFault serialFault outside twice stripeFault badRec storedBad decodedBad addressFault footersStored
+    sameBlocks footerFaultIn footerFault clashes segmentFault segmentFaults imageChecks slotOf ready waiting completes seals flightRec misplaced
+    overfull entryFaults landFaults serialAt heldCand heldBy held landedCand landedCands pointed landChecks sealStores writesIn landStore landPlan
+    landVerdict parityDrive dataDrive dataPosition isData parityPosition dataDrives group inGroupOf groupOffsets compactEntry headerVersion
+    headerTable headerWidths headerLen headerFields headerBlock headerSerial headerCopied recordFields recordBytes recordOf footerBlock footerRecord
+    upFrom below all any isMember consIf keep tally isNil sucUnless indexOf flat total greatest least firstOr sameList padTo pieces zipped powers only
+    isIn slotCount slots cell idleState zeroState stateSections sectionLen sectionAt stateLen numbersAt sectionOf numberOf stateNumbers sectionBytes
+    stateBytes stateOf stripeIn filledIn landedIn isWrite entryIn entriesIn offsetIn openSegment isFree isFull isFilling inFlight freeSlot fillingSlot
+    hasFilling holdsAt holds slotOk stateOk stateFaults setStamp setOpen setClosed beginStripe addEntry landedMask markLanded freeStripe placeAt
+    setPlace compactAt shownAt slotByte slotBlock setSlotBlock setSlotParity between blockSizes parityCount dataCount mostAddresses inRange
+    recordTable recordWidths spareLen perFooter footers capacity unitLen zoneLen driveLen imageLen pointersLen addressesLen compactLen inflightLen
+    placeOf placeBlock placeZone placeDrive placeByte noDrive named drivesOf present absent parityRec parityPiece encodeBlock encodeRec encodePiece
+    decodeBlock decodeRec decodePiece beats better best placeOr candsOf placeFaults lies foundFaults shown decodeFaults storedAt decodedAt readPiece
+    lookup readAnswer readChecks readPlan readVerdict fillPlan fillVerdict namesMissing rebuildChecks rebuiltZone rebuildStores rebuildVerdict
+    placesIn tableFaults segmentPlaces liveIn flying victimOf fewer fewest victim isNone victimSegment victimLive idle reclaimChecksIn clearedRow
+    cleared resetPlan copyPlan reclaimVerdictIn freeSegs isWhole isRagged missingFooters renumbered movedPieces movedOn movedStripe movedStripes
+    rewriteStores dropStores mendStores restartStores openOf nextOf restartMemory uncountedIn reportOf namesDrive rewrites restartChecks restartPlan
+    restartVerdict lowDrive headerAt leftBy1 isCopy remaining recordsIn segmentOf segments recsOn offsetOn hasChunk counts counted uncounted
+    storedPiece pieceOf putPiece storedRec recOf offsetOf candOf segmentCands candidates addressTable compactRow rowOf compactTable greatestStamp
+    greatestSerial unsealed mustOpen opens noStamp noSerial otherGroup mustWait scarce placed openedBy slotFor begunBy sending writeChecksIn writePlan
+    writeVerdictIn emptyLent runs fresh viewAfter blockOf stampAt stampAndBlock m7First m7Then m7Reads m8Calls countedBoth
 examples-hold = record {
   box = (refl, refl, refl);
   m1 = (refl, refl, refl);

@@ -8,7 +8,7 @@ use Rattle.spec.specs.declared.Params.{Params}
 use Rattle.spec.specs.Calls.{Check}
 use Rattle.spec.specs.Calls.Check.{zones}
 use Rattle.spec.specs.Counts.{paddingAddress}
-use Rattle.spec.specs.Drives.{Chunk, noChunk, Zone, noZone, View, pointerAt, zoneOn, blocksOf, footersOf, zeroSpare, sameSeg}
+use Rattle.spec.specs.Drives.{Chunk, noChunk, Zone, noZone, View, pointerAt, zoneOn, blocksOf, footersOf, zeroSpare, sameSeg, zonesIn}
 use Rattle.spec.specs.Layout.{isData, inGroupOf, headerBlock, Rec}
 use Rattle.spec.specs.Lists.{below, any, keep, isNil, sameList}
 use Rattle.spec.specs.Params.{footers, capacity, present, absent}
@@ -25,7 +25,7 @@ sameChunk c b s = sameList (c .block) b && sameList (c .spare) s
 -- 01, Refusals, 9: a header not as above or, drive byte apart, unequal between drives
 unfoldable pub headerFault : Params → ℕ → Segment → Bool
 headerFault p gone g = any (λ d.
-    not (sameChunk (getD (getD (g .zonesBy) d noZone .blocks) 0 noChunk) (headerBlock p d (zoneOn (g .seg) d) (g .serial) (g .copied)) zeroSpare)) (present p gone)
+    not (sameChunk (getD (getD (g .zonesBy) d noZone .blocks) 0 noChunk) (headerBlock p d (zonesIn p (g .seg)) (g .serial) (g .copied)) zeroSpare)) (present p gone)
 
 -- 01, Refusals, 9: a serial at or below its copied one or used twice
 unfoldable pub serialFault : List Segment → Segment → Bool

@@ -11,7 +11,7 @@ use Rattle.spec.specs.declared.Answer.the-variants.{Landed}
 use Rattle.spec.specs.Calls.{Check, firstRefusal, Plan, mkPlan, Verdict, decided}
 use Rattle.spec.specs.Calls.Check.{rule, zones}
 use Rattle.spec.specs.Counts.{neverPlace}
-use Rattle.spec.specs.Drives.{View, zoneAt, pointerAt, chunkAt, Store, storeView, zoneOn, placeSegment, footerStores, Seg}
+use Rattle.spec.specs.Drives.{View, zoneAt, pointerAt, chunkAt, Store, storeView, zoneOn, placeSegment, footerStores}
 use Rattle.spec.specs.Drives.Store.{put}
 use Rattle.spec.specs.Layout.{dataDrive, dataPosition, isData, parityPosition, group, compactEntry, headerSerial, Rec, recordBytes}
 use Rattle.spec.specs.Lists.{Opt, below, any, consIf, tally, indexOf, flat, isIn}
@@ -24,6 +24,7 @@ use Rattle.spec.specs.Parity.{encodeRec}
 use Rattle.spec.specs.Rank.{Cand, best, placeOr, candsOf}
 use Rattle.spec.specs.Read.{Found, placeFaults, lookup}
 use Rattle.spec.specs.Read.Found.{nowhere, here, away}
+use Rattle.spec.specs.declared.Seg.{Seg}
 
 -- 01, Landing: the eighth of a stripe in flight; 8 if it isn't
 unfoldable pub slotOf : State → ℕ → ℕ
@@ -79,21 +80,21 @@ unfoldable pub landFaults : Params → View → Memory → ℕ → ℕ → List 
 landFaults p v m d s =
     let st = m .state in
     let i = slotOf st s in
-    let g = openSegment st in
+    let g = openSegment p st in
     let zs = flat (entryFaults p v (m .addresses)) (entriesIn st i) in
     consIf (misplaced p v d (zoneOn g d) s) (zoneOn g d) (consIf (seals p st i d && overfull p v d g) (zoneOn g d) (cond (completes p st i d) zs []))
 
 -- ---- the address table when a stripe completes
 
 -- the serial in drive 0's header of a segment
-unfoldable pub serialAt : View → Seg → ℕ
-serialAt v g = headerSerial (chunkAt v 0 (zoneOn g 0) 0 .block)
+unfoldable pub serialAt : Params → View → Seg → ℕ
+serialAt p v g = headerSerial p (chunkAt v 0 (zoneOn g 0) 0 .block)
 
 -- 01, The calls: the record of stamp t that the table holds of an address at place q
 unfoldable pub heldCand : Params → View → ℕ → ℕ → ℕ → Cand
 heldCand p v a t q =
     let g = placeSegment p q in
-    record { address = a; stamp = t; serial = serialAt v g; drive = placeDrive p q; offset = placeBlock p q - 1; place = q }
+    record { address = a; stamp = t; serial = serialAt p v g; drive = placeDrive p q; offset = placeBlock p q - 1; place = q }
 
 -- 01, The calls: none where the address was never written
 unfoldable pub heldBy : Params → View → ℕ → ℕ → Found → Opt Cand
@@ -113,7 +114,7 @@ landedCand p v g st i k =
     let e = entryIn st i k in
     let d = dataDrive p (stripeIn st i) k in
     let o = offsetIn st i d in
-    record { address = e .address; stamp = e .stamp; serial = serialAt v g; drive = d; offset = o; place = placeOf p d (zoneOn g d) (1 + o) }
+    record { address = e .address; stamp = e .stamp; serial = serialAt p v g; drive = d; offset = o; place = placeOf p d (zoneOn g d) (1 + o) }
 
 -- 01, The calls: all of the stripe's records
 unfoldable pub landedCands : Params → View → Seg → State → ℕ → List Cand
@@ -150,14 +151,14 @@ unfoldable pub landStore : Params → View → Memory → ℕ → ℕ → Store
 landStore p v m d s =
     let st = m .state in
     let i = slotOf st s in
-    put d (zoneOn (openSegment st) d) (slotBlock p (m .inflight) i d) (recordBytes (flightRec p st i d))
+    put d (zoneOn (openSegment p st) d) (slotBlock p (m .inflight) i d) (recordBytes (flightRec p st i d))
 
 -- 01, Landing: the chunk, on completion the table, at the end of a segment the footers
 unfoldable pub landPlan : Params → View → Memory → ℕ → ℕ → Plan
 landPlan p v m d s =
     let st = m .state in
     let i = slotOf st s in
-    let g = openSegment st in
+    let g = openSegment p st in
     let z = zoneOn g d in
     let o = pointerAt v d z - 1 in
     let w = landStore p v m d s in

@@ -7,7 +7,7 @@ use lib.ListN.{getD, take, drop}
 use Rattle.spec.specs.declared.Params.{Params}
 use Rattle.spec.specs.Bytes.{part, Field, field, bytesOf, widthsOf, readField}
 use Rattle.spec.specs.Lists.{upFrom, below, keep, flat, total, padTo}
-use Rattle.spec.specs.Params.{mkParams, dataCount, recordTable, addressField, stampField, stripeField, recordWidths, spareLen, perFooter}
+use Rattle.spec.specs.Params.{dataCount, recordTable, addressField, stampField, stripeField, recordWidths, spareLen, perFooter}
 
 -- 01, What a zone holds: the drive of stripe s's parity
 unfoldable pub parityDrive : Params → ℕ → ℕ
@@ -54,44 +54,45 @@ unfoldable pub headerVersion : ℕ
 headerVersion = 1
 
 -- 01, What a zone holds: the table of a header: width and number of each field, the first its own length
-unfoldable pub headerTable : ℕ → Params → ℕ → ℕ → ℕ → ℕ → List Field
-headerTable long p d z serial copied =
-    field 2 long ∷ field 1 headerVersion ∷ field 1 (p .N) ∷ field 1 d ∷ field 2 (p .B) ∷ field 2 (p .G) ∷ field 4 (p .S) ∷ field 4 z ∷ field 8 (p .L)
-    ∷ field 8 serial ∷ field 8 copied ∷ []
+-- (zs: the segment's zones by drive; today a header bears the one of its own drive; 02, item 4)
+unfoldable pub headerTable : ℕ → Params → ℕ → List ℕ → ℕ → ℕ → List Field
+headerTable long p d zs serial copied =
+    field 2 long ∷ field 1 headerVersion ∷ field 1 (p .N) ∷ field 1 d ∷ field 2 (p .B) ∷ field 2 (p .G) ∷ field 4 (p .S) ∷ field 4 (getD zs d 0)
+    ∷ field 8 (p .L) ∷ field 8 serial ∷ field 8 copied ∷ []
 
 -- the fields that are read back, by name: their index in the table
 abbrev pub zoneField : ℕ
 zoneField = 7
 
-abbrev pub serialField : ℕ
-serialField = 9
+abbrev pub serialField : Params → ℕ
+serialField p = 9
 
-abbrev pub copiedField : ℕ
-copiedField = 10
+abbrev pub copiedField : Params → ℕ
+copiedField p = 10
 
 -- 01, What a zone holds: the widths, whatever the numbers are
-unfoldable pub headerWidths : List ℕ
-headerWidths = widthsOf (headerTable 0 (mkParams 0 0 0 0 0 0) 0 0 0 0)
+unfoldable pub headerWidths : Params → List ℕ
+headerWidths p = widthsOf (headerTable 0 p 0 [] 0 0)
 
 -- 01, What a zone holds: the header in bytes
-unfoldable pub headerLen : ℕ
-headerLen = total headerWidths
+unfoldable pub headerLen : Params → ℕ
+headerLen p = total (headerWidths p)
 
 -- 01, What a zone holds: the header's fields
-unfoldable pub headerFields : Params → ℕ → ℕ → ℕ → ℕ → List Field
-headerFields p d z serial copied = headerTable headerLen p d z serial copied
+unfoldable pub headerFields : Params → ℕ → List ℕ → ℕ → ℕ → List Field
+headerFields p d zs serial copied = headerTable (headerLen p) p d zs serial copied
 
--- 01, What a zone holds: the header block
-unfoldable pub headerBlock : Params → ℕ → ℕ → ℕ → ℕ → List ℕ
-headerBlock p d z serial copied = padTo (p .B) (bytesOf (headerFields p d z serial copied))
+-- 01, What a zone holds: the header block on drive d of the segment with these zones
+unfoldable pub headerBlock : Params → ℕ → List ℕ → ℕ → ℕ → List ℕ
+headerBlock p d zs serial copied = padTo (p .B) (bytesOf (headerFields p d zs serial copied))
 
--- a header's serial and copied serial
-unfoldable pub headerSerial : List ℕ → ℕ
-headerSerial b = readField headerWidths serialField b
+-- 01, What a zone holds: the serial in a header
+unfoldable pub headerSerial : Params → List ℕ → ℕ
+headerSerial p b = readField (headerWidths p) (serialField p) b
 
 -- 01, What a zone holds: the copied serial in a header
-unfoldable pub headerCopied : List ℕ → ℕ
-headerCopied b = readField headerWidths copiedField b
+unfoldable pub headerCopied : Params → List ℕ → ℕ
+headerCopied p b = readField (headerWidths p) (copiedField p) b
 
 -- 01, What a zone holds: the record of a data block
 pub record Rec : Type 0 where

@@ -10,11 +10,12 @@ use Rattle.spec.specs.declared.Params.{Params}
 use Rattle.spec.specs.declared.State.{State}
 use Rattle.spec.specs.Bytes.{beOf, toBe, leOf, toLe, part, splice}
 use Rattle.spec.specs.Counts.{aStamp, aSerial}
-use Rattle.spec.specs.Drives.{View, pointerAt, Seg, seg}
+use Rattle.spec.specs.Drives.{View, pointerAt, across, zoneOn}
 use Rattle.spec.specs.Layout.{parityDrive, dataDrives, groupOffsets, compactEntry, Rec, mkRec}
 use Rattle.spec.specs.Lists.{below, all, any, consIf, keep, indexOf, flat, total, zipped, only, isIn}
 use Rattle.spec.specs.Params.{parityCount, dataCount}
 use Rattle.spec.specs.Parity.{encodeBlock}
+use Rattle.spec.specs.declared.Seg.{Seg}
 
 -- 01, The calls: what a call is lent beside image and pointers
 pub record Memory : Type 0 where
@@ -161,8 +162,8 @@ unfoldable pub offsetIn : State → ℕ → ℕ → ℕ
 offsetIn st i d = getD (st .offsets) (cell i d) 0
 
 -- 01, Write: the open segment
-unfoldable pub openSegment : State → Seg
-openSegment st = seg (st .opened - 1)
+unfoldable pub openSegment : Params → State → Seg
+openSegment p st = across p (st .opened - 1)
 
 -- 01, Write: the eighth is free
 unfoldable pub isFree : State → ℕ → Bool
@@ -227,7 +228,7 @@ setStamp st t =
 -- 01, Write: the open segment g under serial r, its stripe 0 next
 unfoldable pub setOpen : State → Seg → ℕ → State
 setOpen st g r =
-    mkState (st .live) (st .missing) (st .stamp .0) r (suc (g .name)) 0 (st .numbers) (st .filled) (st .writes) (st .landed) (st .addresses)
+    mkState (st .live) (st .missing) (st .stamp .0) r (suc (zoneOn g 0)) 0 (st .numbers) (st .filled) (st .writes) (st .landed) (st .addresses)
     (st .stamps) (st .offsets)
 
 -- no segment open

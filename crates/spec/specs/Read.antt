@@ -10,12 +10,13 @@ use Rattle.spec.specs.declared.Answer.the-variants.{Part, Never, Lost, F
 use Rattle.spec.specs.Calls.{Check, firstRefusal, Plan, mkPlan, Verdict, decided}
 use Rattle.spec.specs.Calls.Check.{rule, zones}
 use Rattle.spec.specs.Counts.{neverPlace, aStamp}
-use Rattle.spec.specs.Drives.{View, pointerAt, chunkAt, recordAt, Seg, zoneOn, placeSegment}
+use Rattle.spec.specs.Drives.{View, pointerAt, chunkAt, recordAt, zoneOn, placeSegment}
 use Rattle.spec.specs.Layout.{mkRec}
 use Rattle.spec.specs.Lists.{any, consIf, isNil, firstOr, isIn}
 use Rattle.spec.specs.Memory.{Memory, stateFaults, placeAt, shownAt}
 use Rattle.spec.specs.Params.{between, inRange, placeBlock, placeZone, placeDrive, placeByte, present}
 use Rattle.spec.specs.Parity.{Piece, mkPiece, decodePiece}
+use Rattle.spec.specs.declared.Seg.{Seg}
 
 -- 01, Refusals, 9: a place to be read: not a data block, or on a present drive not below its zone's pointer; outside the image names zone 0
 unfoldable pub placeFaults : Params → View → ℕ → ℕ → List ℕ

@@ -8,7 +8,7 @@ use Rattle.spec.specs.declared.State.{State}
 use Rattle.spec.specs.declared.Answer.the-variants.{Rebuilt}
 use Rattle.spec.specs.Calls.{Check, firstRefusal, mkPlan, Verdict, decided}
 use Rattle.spec.specs.Calls.Check.{rule}
-use Rattle.spec.specs.Drives.{View, Store, zoneOn, zeroSpare}
+use Rattle.spec.specs.Drives.{View, Store, zoneOn, zeroSpare, zonesIn}
 use Rattle.spec.specs.Drives.Store.{put, reset}
 use Rattle.spec.specs.Faults.{imageChecks}
 use Rattle.spec.specs.Layout.{headerBlock, recordBytes, footerBlock}
@@ -33,7 +33,7 @@ rebuiltZone p d g =
     let z = zoneOn (g .seg) d in
     let qs = map (λ s. pieceOf p (named d) g s d) (counted p (named d) g) in
     let fs = map (λ i. put d z (footerBlock p (map (λ (q : Piece). recordBytes (q .rec)) qs) i) zeroSpare) (below (footers p)) in
-    put d z (headerBlock p d z (g .serial) (g .copied)) zeroSpare ∷ map (putPiece d z) qs ++ cond (g .full) fs []
+    put d z (headerBlock p d (zonesIn p (g .seg)) (g .serial) (g .copied)) zeroSpare ∷ map (putPiece d z) qs ++ cond (g .full) fs []
 
 -- 01, Rebuild: resets the named drive, then each remaining segment
 unfoldable pub rebuildStores : Params → ℕ → List Segment → List Store

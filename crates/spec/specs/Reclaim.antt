@@ -11,13 +11,14 @@ use Rattle.spec.specs.Bytes.{splice}
 use Rattle.spec.specs.Calls.{Check, firstRefusal, Plan, mkPlan, Verdict, decided}
 use Rattle.spec.specs.Calls.Check.{rule, zones}
 use Rattle.spec.specs.Counts.{neverPlace, aStamp}
-use Rattle.spec.specs.Drives.{View, chunkAt, allSegs, zoneOn, sealedIn, placeRecord, resetStores, Seg, seg}
+use Rattle.spec.specs.Drives.{View, chunkAt, allSegs, zoneOn, sealedIn, placeRecord, resetStores, noSeg}
 use Rattle.spec.specs.Lists.{Opt, below, any, isMember, consIf, keep, isNil, flat, firstOr}
 use Rattle.spec.specs.Lists.Opt.{none, some}
 use Rattle.spec.specs.Memory.{Memory, mkMemory, holds, stateFaults, placeAt, compactAt}
 use Rattle.spec.specs.Params.{between, inRange, capacity, placeOf, placeBlock, placeZone, placeDrive, drivesOf}
 use Rattle.spec.specs.Write.{opens, noSerial, mustWait, scarce, CheckOrder, roomRules, sending}
 use Rattle.spec.specs.Write.CheckOrder.{fullFirst}
+use Rattle.spec.specs.declared.Seg.{Seg}
 
 -- ---- live blocks
 
@@ -78,7 +79,7 @@ isNone (some w) = false
 
 -- 01, Reclaim: the segment taken
 unfoldable pub victimSegment : Opt Victim → Seg
-victimSegment none = seg 0
+victimSegment none = noSeg
 victimSegment (some w) = w .segment
 
 -- 01, Reclaim: its live blocks

@@ -10,7 +10,7 @@ use Rattle.spec.specs.declared.Answer.the-variants.{Restarted}
 use Rattle.spec.specs.Calls.{Check, firstRefusal, Plan, mkPlan, Verdict, decided}
 use Rattle.spec.specs.Calls.Check.{rule}
 use Rattle.spec.specs.Counts.{lastCount}
-use Rattle.spec.specs.Drives.{noZone, View, Store, storeView, storeAll, allSegs, zoneOn, headerStores, footerStores, resetStores, Seg, seg, sameSeg}
+use Rattle.spec.specs.Drives.{noZone, View, Store, storeView, storeAll, allSegs, zoneOn, headerStores, footerStores, resetStores, sameSeg, noSeg}
 use Rattle.spec.specs.Faults.{footersStored, imageChecks}
 use Rattle.spec.specs.Layout.{dataPosition, isData, parityPosition, dataDrives, mkRec}
 use Rattle.spec.specs.Lists.{below, any, keep, isNil, flat, total, firstOr, sameList}
@@ -18,6 +18,7 @@ use Rattle.spec.specs.Memory.{Memory, mkMemory, idleState}
 use Rattle.spec.specs.Params.{inRange, footers, noDrive, named, drivesOf}
 use Rattle.spec.specs.Parity.{Piece, mkPiece, encodePiece}
 use Rattle.spec.specs.Segments.{Segment, segments, counted, uncounted, storedPiece, putPiece, candidates, addressTable, compactTable, greatestStamp, greatestSerial, unsealed}
+use Rattle.spec.specs.declared.Seg.{Seg}
 
 -- ---- step 4
 
@@ -78,7 +79,7 @@ dropStores p gs = flat (resetStores p) (freeSegs p gs)
 unfoldable pub mendStores : Params → List Segment → Segment → List Store
 mendStores p gs g =
     let a = missingFooters p g in
-    let b = rewriteStores p g (firstOr (seg 0) (freeSegs p gs)) (suc (greatestSerial gs)) in
+    let b = rewriteStores p g (firstOr noSeg (freeSegs p gs)) (suc (greatestSerial gs)) in
     let c = cond (isRagged p g) b [] in
     cond (isWhole p g) a c
 
@@ -93,7 +94,7 @@ restartStores p gone gs =
 -- 01, Restart: the memory of what the drives say once the stores are made; the open segment is the unsealed one
 unfoldable pub openOf : List Segment → ℕ
 openOf [] = 0
-openOf (g ∷ gs) = suc (g .seg .name)
+openOf (g ∷ gs) = suc (zoneOn (g .seg) 0)
 
 -- 01, Write: the next stripe number of the open segment
 unfoldable pub nextOf : Params → List Segment → ℕ

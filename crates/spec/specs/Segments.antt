@@ -6,7 +6,7 @@ use lib.Dec.{eqb}
 use lib.ListN.{getD}
 use Rattle.spec.specs.declared.Params.{Params}
 use Rattle.spec.specs.Bytes.{toBe}
-use Rattle.spec.specs.Drives.{noChunk, Zone, noZone, View, zoneAt, pointerAt, chunkAt, Store, allSegs, zoneOn, sealedIn, dataStored, recordIn, Seg, sameSeg}
+use Rattle.spec.specs.Drives.{noChunk, Zone, noZone, View, zoneAt, pointerAt, chunkAt, Store, allSegs, zoneOn, sealedIn, dataStored, recordIn, sameSeg}
 use Rattle.spec.specs.Drives.Store.{put}
 use Rattle.spec.specs.Layout.{dataDrives, compactEntry, headerSerial, headerCopied, Rec, mkRec, recordBytes}
 use Rattle.spec.specs.Lists.Opt.{none}
@@ -14,6 +14,7 @@ use Rattle.spec.specs.Lists.{below, all, any, keep, indexOf, flat, great
 use Rattle.spec.specs.Params.{placeOf, drivesOf, present}
 use Rattle.spec.specs.Parity.{Piece, mkPiece, decodeRec, decodePiece}
 use Rattle.spec.specs.Rank.{Cand, best, placeOr, candsOf}
+use Rattle.spec.specs.declared.Seg.{Seg}
 
 -- 01, Restart, 2: the headers on the lowest present drive
 unfoldable pub lowDrive : Params → ℕ → ℕ
@@ -28,16 +29,16 @@ unfoldable pub leftBy1 : Params → View → ℕ → List Seg
 leftBy1 p v gone = keep (λ g. all (λ d. not (eqb (pointerAt v d (zoneOn g d)) 0)) (present p gone)) (allSegs p)
 
 -- 01, Restart, 2: its copied serial (0 for none) is that of another segment left by 1
-unfoldable pub isCopy : View → ℕ → List Seg → Seg → Bool
-isCopy v d left g =
-    let c = headerCopied (headerAt v d g) in
-    not (eqb c 0) && any (λ h. not (sameSeg h g) && eqb (headerSerial (headerAt v d h)) c) left
+unfoldable pub isCopy : Params → View → ℕ → List Seg → Seg → Bool
+isCopy p v d left g =
+    let c = headerCopied p (headerAt v d g) in
+    not (eqb c 0) && any (λ h. not (sameSeg h g) && eqb (headerSerial p (headerAt v d h)) c) left
 
 -- 01, Restart, 1 and 2: the segments that remain, rising
 unfoldable pub remaining : Params → View → ℕ → List Seg
 remaining p v gone =
     let left = leftBy1 p v gone in
-    keep (λ g. not (isCopy v (lowDrive p gone) left g)) left
+    keep (λ g. not (isCopy p v (lowDrive p gone) left g)) left
 
 -- a segment as read: its name, serials by the lowest present drive, sealed or not, its zones by drive, and the records of stored chunks by drive
 pub record Segment : Type 0 where
@@ -60,8 +61,8 @@ segmentOf p v gone g =
     let qs = map (λ d. zoneAt v d (zoneOn g d)) (drivesOf p) in
     record {
       seg = g;
-      serial = headerSerial b;
-      copied = headerCopied b;
+      serial = headerSerial p b;
+      copied = headerCopied p b;
       full = w;
       zonesBy = qs;
       recs = map (λ d. cond (isIn gone d) [] (recordsIn p w (getD qs d noZone))) (drivesOf p);

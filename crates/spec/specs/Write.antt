@@ -10,7 +10,7 @@ use Rattle.spec.specs.declared.Answer.the-variants.{Sent}
 use Rattle.spec.specs.Calls.{Check, firstRefusal, Plan, mkPlan, Verdict, decided}
 use Rattle.spec.specs.Calls.Check.{rule, zones}
 use Rattle.spec.specs.Counts.{lastCount, aStamp}
-use Rattle.spec.specs.Drives.{View, Store, emptySegs, headerStores, seg}
+use Rattle.spec.specs.Drives.{View, Store, emptySegs, headerStores, noSeg}
 use Rattle.spec.specs.Layout.{dataDrive, group}
 use Rattle.spec.specs.Lists.{any, isNil, firstOr}
 use Rattle.spec.specs.Memory.{Memory, mkMemory, slotCount, stripeIn, filledIn, isFull, inFlight, freeSlot, fillingSlot, hasFilling, stateFaults}
@@ -89,7 +89,7 @@ pub record Sending : Type 0 where
 -- 01, Write: the segment that is opened is the lowest zone empty on all drives, its serial the next one
 unfoldable pub openedBy : Params → View → State → State
 openedBy p v st =
-    let st′ = setOpen st (firstOr (seg 0) (emptySegs p v)) (suc (st .serial .0)) in
+    let st′ = setOpen st (firstOr noSeg (emptySegs p v)) (suc (st .serial .0)) in
     cond (opens p st) st′ st
 
 -- 01, Write: the next data position of the filling stripe, or the next stripe number in the lowest free eighth
@@ -108,7 +108,7 @@ sending p v st fl a t w b =
     let i = slotFor p st in
     let st₂ = begunBy p st (openedBy p v st) in
     let q = placed p st₂ fl i a t w b in
-    let hs = headerStores p (firstOr (seg 0) (emptySegs p v)) (suc (st .serial .0)) 0 in
+    let hs = headerStores p (firstOr noSeg (emptySegs p v)) (suc (st .serial .0)) 0 in
     record {
       stores = cond (opens p st) hs [];
       state = q .state;

@@ -104,6 +104,11 @@ impl Serial {
     }
 }
 
+// 01, What a zone holds: a segment, by the zone that it has on each drive; 0 where there is no such drive.
+pub struct Seg {
+    pub zones: [u32; 8],
+}
+
 // 01, Write: the state between calls; all zeros is the state that a cut leaves. live: 1 after a finished restart; missing: a mask of
 // drives; stamp, serial: the last given out; opened: the open segment + 1, or 0; next: its next stripe number. For each of the eight stripes in flight: its number, how many data positions are filled
 // (0: the eighth is free), which of them are writes (a mask), which drives have it (a mask), and, eight to a stripe, the addresses and

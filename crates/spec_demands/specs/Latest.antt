@@ -4,7 +4,7 @@ use mathlib.Core.Bool.{true, false}
 use Prim.Native.Nat.{ℕ, _<_}
 use Rattle.spec.specs.declared.Params.{Params}
 use Rattle.spec.specs.Demands.{saidAt}
-use Rattle.spec.specs.Drives.{View, Seg}
+use Rattle.spec.specs.Drives.{View}
 use Rattle.spec.specs.History.{Seen}
 use Rattle.spec.specs.History.Seen.{unwritten, got}
 use Rattle.spec.specs.Layout.{isData}
@@ -14,6 +14,7 @@ use Rattle.spec.specs.Params.{inRange}
 use Rattle.spec.specs.Rank.{Cand, beats, best, candsOf}
 use Rattle.spec.specs.Segments.{segmentOf, segments, counts, pieceOf, candOf, candidates}
 use Rattle.spec_demands.specs.Layouts.{Remains}
+use Rattle.spec.specs.declared.Seg.{Seg}
 
 -- 01, The calls: c is a record of address a, of a data drive of a counted stripe of a remaining segment
 pub record Recorded (p : Params) (v : View) (gone a : ℕ) (c : Cand) : Type 0 where

@@ -6,13 +6,14 @@ use Prim.Native.Nat.{ℕ, _+_, _≤_, _<_}
 use lib.Dec.{eqb}
 use lib.ListN.{take, drop}
 use Rattle.spec.specs.declared.Params.{Params}
-use Rattle.spec.specs.Drives.{mkChunk, View, zoneAt, pointerAt, chunkAt, zoneOn, dataStored, sparesOf, recordAt, zeroSpare, Seg, sameSeg}
+use Rattle.spec.specs.Drives.{mkChunk, View, zoneAt, pointerAt, chunkAt, zoneOn, dataStored, sparesOf, recordAt, zeroSpare, sameSeg, zonesIn}
 use Rattle.spec.specs.Faults.{footersStored}
 use Rattle.spec.specs.Layout.{parityDrive, dataDrives, inGroupOf, headerBlock, footerBlock}
 use Rattle.spec.specs.Lists.{any, isIn}
 use Rattle.spec.specs.Params.{capacity}
 use Rattle.spec.specs.Parity.{encodePiece}
 use Rattle.spec.specs.Segments.{remaining, Segment, segmentOf, counts, storedPiece}
+use Rattle.spec.specs.declared.Seg.{Seg}
 
 -- a drive that is present
 abbrev pub Here : Params → ℕ → ℕ → Type 0
@@ -42,7 +43,7 @@ pub record Layout (p : Params) (v : View) (gone : ℕ) (old : List Segment) : Ty
   pub pointer-low : (d z : ℕ) → Here p gone d → z < p .Z → pointerAt v d z ≤ capacity p
   -- 01, What a zone holds: the header, byte by byte, its spare all zero, with the same serials on every drive
   pub header-stands : (g : Seg) (d : ℕ) → Remains p v gone g → Here p gone d
-      → chunkAt v d (zoneOn g d) 0 ≡ mkChunk (headerBlock p d (zoneOn g d) (segmentOf p v gone g .serial) (segmentOf p v gone g .copied)) zeroSpare
+      → chunkAt v d (zoneOn g d) 0 ≡ mkChunk (headerBlock p d (zonesIn p g) (segmentOf p v gone g .serial) (segmentOf p v gone g .copied)) zeroSpare
   -- 01, What a zone holds: serials rise above the copied ones, and none is used twice
   pub serial-above : (g : Seg) → Remains p v gone g → segmentOf p v gone g .copied < segmentOf p v gone g .serial
   pub serial-once : (g h : Seg) → Remains p v gone g → Remains p v gone h → segmentOf p v gone g .serial ≡ segmentOf p v gone h .serial → g ≡ h

@@ -10,7 +10,7 @@ use Rattle.spec.specs.declared.Answer.{Answer}
 use Rattle.spec.specs.declared.Answer.the-variants.{Landed, Restarted}
 use Rattle.spec.specs.Answers.{kind, values, isRefused, isRefusedAs, isCut, finished}
 use Rattle.spec.specs.Demands.{areBytes, saidAt, NotNinth}
-use Rattle.spec.specs.Drives.{View, Store, storeView, storeAll, zoneOn, sealedIn, Seg}
+use Rattle.spec.specs.Drives.{View, Store, storeView, storeAll, zoneOn, sealedIn}
 use Rattle.spec.specs.Drives.Store.{put}
 use Rattle.spec.specs.Engine.{Call, Lent, lentDisk, callBytes}
 use Rattle.spec.specs.Engine.Call.{write, land, close, reclaim, read, fill, restart, rebuild}
@@ -26,6 +26,7 @@ use Rattle.spec_demands.specs.Histories.{lentInOrder}
 use Rattle.spec_demands.specs.Latest.{SaidIsLatest}
 use Rattle.spec_demands.specs.Layouts.{Layout}
 use Rattle.spec_demands.specs.Rules.{ZoneRules}
+use Rattle.spec.specs.declared.Seg.{Seg}
 
 -- ---- what was sent in this run and is not acknowledged
 
@@ -107,12 +108,12 @@ module _ {W : Type 0} (E : Engine W) where
   -- ---- one call, from w with reply r
 
   -- 01, Write: the open segment
-  unfoldable pub openIn : W → Seg
-  openIn w = openSegment (E .memory w .state)
+  unfoldable pub openIn : Params → W → Seg
+  openIn p w = openSegment p (E .memory w .state)
 
   -- 01, Landing: the chunk, and, where the segment is sealed with it, the footers
   unfoldable pub landingStores : Params → W → Store → Bool → List Store
-  landingStores p w c sealed = c ∷ cond sealed (sealStores p (storeView c (viewIn E p w)) (openIn w)) []
+  landingStores p w c sealed = c ∷ cond sealed (sealStores p (storeView c (viewIn E p w)) (openIn p w)) []
 
   -- 01, Landing: one chunk more on that drive, with what was sent; acknowledged just where the stripe now counts
   pub record Lands (p : Params) (w : W) (ws : List Pending) (d s : ℕ) (r : Reply W) (n : ℕ) : Type 0 where
@@ -120,11 +121,11 @@ module _ {W : Type 0} (E : Engine W) where
     pub rec : Rec
     -- the chunk, with the footers where it seals the segment, and nothing else
     pub stored : viewIn E p (r .world)
-        ≡ storeAll storeView (landingStores p w (put d (zoneOn (openIn w) d) block (recordBytes rec)) (sealedIn p (viewIn E p (r .world)) 0 (openIn w))) (viewIn E p w)
+        ≡ storeAll storeView (landingStores p w (put d (zoneOn (openIn p w) d) block (recordBytes rec)) (sealedIn p (viewIn E p (r .world)) 0 (openIn p w))) (viewIn E p w)
     pub numbered : rec .stripe ≡ s
     pub sent : (i : ℕ) → i < length ws → getD ws i noPending .stripe ≡ s → getD ws i noPending .drive ≡ d
         → (block ≡ getD ws i noPending .block) × (rec .address ≡ getD ws i noPending .address) × (rec .stamp ≡ getD ws i noPending .stamp)
-    pub acknowledges : n ≡ cond (counts p 0 (segmentOf p (viewIn E p (r .world)) 0 (openIn w)) s) (pendingIn ws s) 0
+    pub acknowledges : n ≡ cond (counts p 0 (segmentOf p (viewIn E p (r .world)) 0 (openIn p w)) s) (pendingIn ws s) 0
 
   -- 01, Restart: the answer, and the drive under which the tables are read
   pub record Restarts (p : Params) (w : W) (d : ℕ) (r : Reply W) : Type 0 where

@@ -1,10 +1,11 @@
 -- `open`: none to open: `opening-none`. Else the lowest empty zone has room (`lowest-room`), and the header stores give `opening-made`. Assumes nothing.
 use Prim.Native.Nat.{_+_, _<_}
-use Rattle.spec.specs.Drives.{viewOf, mkDisk, pointerOf, zoneOn, emptySegs, Seg, seg}
+use Rattle.spec.specs.Drives.{viewOf, mkDisk, pointerOf, zoneOn, emptySegs, noSeg}
 use Rattle.spec.specs.Lists.{firstOr}
 use Rattle.spec.specs.Params.{capacity}
 use Rattle.call_filling.specs.Left.{opening-none, opening-made, lowest-room}
 use Rattle.law_basic.specs.Geometry.{ranged}
+use Rattle.law_basic.specs.Segs.{low-here}
 use Rattle.mem_rows.specs.Rows.{behind}
 use Rattle.law_views.specs.Views.{seen}
 use borrow.Author.Tests.{not-true, not-false}
@@ -15,6 +16,7 @@ use native.Mathlib.Omega.{arith}
 use borrow.Author.Needs.{needs}
 use Rattle.call_filling.proofs.open.Statement.{statement}
 use Rattle.call_filling.proofs.open.Tie as tie
+use Rattle.spec.specs.declared.Seg.{Seg}
 
 returns : tie.Need-returns
 returns c =
@@ -25,8 +27,8 @@ returns c =
 lowest-empty-requires : tie.Need-lowest-empty-requires
 lowest-empty-requires c κs = search needs
 
-add-t14 : tie.Need-add-t14
-add-t14 c =
+add-t15 : tie.Need-add-t15
+add-t15 c =
     let s = c .before .before .before .before .before .before .before .before in
     omega (arith, s .pre .1 .1 .1 .0 (not-false (s .args .a .opens) (c .before .before .before .if1 .left)))
 
@@ -37,7 +39,7 @@ header-stores-requires c κs =
     let a = s .args in
     let e : a .a .opens ≡ true = not-false (a .a .opens) (if1 .left) in
     let l = c .before .before .before .lowest-empty in
-    let g : seg (l .result) ≡ firstOr (seg 0) (emptySegs (a .p) (viewOf (a .p) (a .image .now) (a .pointers .now))) = l .ensures .0 (a .image .now) (s .pre .1 .0 .image-long) in (
+    let g : l .result ≡ firstOr noSeg (emptySegs (a .p) (viewOf (a .p) (a .image .now) (a .pointers .now))) = l .ensures .0 (a .image .now) (s .pre .1 .0 .image-long) in (
       s .pre .0,
       (
         s .pre .1 .0,
@@ -50,14 +52,30 @@ header-stores-requires c κs =
       ),
     )
 
-add-t20 : tie.Need-add-t20
-add-t20 c = search needs
-
-cast-t21 : tie.Need-cast-t21
-cast-t21 c =
+zone-on-requires : tie.Need-zone-on-requires
+zone-on-requires c κs =
     let s = c .before .before .before .before .before .before .before .before .before .before .before .before .before .before .before in
-    let lowest-empty = c .before .before .before .before .before .before .before .before .lowest-empty in
-    omega (arith, lowest-empty .ensures .1, ranged (s .args .p) (s .pre .0) .zones-high)
+    (s .pre .0, omega (arith, ranged (s .args .p) (s .pre .0) .drives-low))
+
+abbrev start : tie.After-zone-on → tie.Start
+start c = c .before .before .before .before .before .before .before .before .before .before .before .before .before .before .before .before
+
+-- its zone on drive 0 is one of Z
+zone-low : (c : tie.After-zone-on) → c .zone-on .result < start c .args .p .Z
+zone-low c =
+    let s = start c in
+    let g = c .before .before .before .before .before .before .before .before .before .lowest-empty in
+    omega (arith, c .zone-on .ensures, low-here (s .args .p) (g .result) 0 (g .ensures .1) (omega (arith, ranged (s .args .p) (s .pre .0) .drives-low)))
+
+add-t21 : tie.Need-add-t21
+add-t21 c =
+    let s = start c in
+    omega (arith, zone-low c, ranged (s .args .p) (s .pre .0) .zones-high)
+
+cast-t22 : tie.Need-cast-t22
+cast-t22 c =
+    let s = start c in
+    omega (arith, zone-low c, ranged (s .args .p) (s .pre .0) .zones-high)
 
 same-length : tie.Need-same-length
 same-length c = search needs
@@ -67,15 +85,15 @@ same-length-2 c = search needs
 
 returns-2 : tie.Need-returns-2
 returns-2 c =
-    let s = c .before .before .before .before .before .before .before .before .before .before .before .before .before .before .before in
-    let m = c .before .before .before .before .header-stores in
-    let l = c .before .before .before .before .before .before .before .before .lowest-empty in
-    let if1 = c .before .before .before .before .before .before .before .before .before .before .if1 in
+    let s = start c in
+    let m = c .before .before .before .before .before .header-stores in
+    let l = c .before .before .before .before .before .before .before .before .before .lowest-empty in
+    let if1 = c .before .before .before .before .before .before .before .before .before .before .before .if1 in
     let a = s .args in
     let k = mkDisk (a .image .now) (a .pointers .now) in
-    let g : seg (l .result) ≡ firstOr (seg 0) (emptySegs (a .p) (seen (a .p) k)) = l .ensures .0 (a .image .now) (s .pre .1 .0 .image-long) in
+    let g : l .result ≡ firstOr noSeg (emptySegs (a .p) (seen (a .p) k)) = l .ensures .0 (a .image .now) (s .pre .1 .0 .image-long) in
     opening-made (a .p) (behind (a .f)) (a .count) k (sym (s .pre .1 .1 .0) ∙ not-false (a .a .opens) (if1 .left)) (l .result) (a .f .serial .0 + 1) g (add-one (a .f .serial .0))
-    (m .result) (mkDisk (m .last .1 .0) (m .last .1 .1 .0)) (m .ensures)
+    (m .result) (mkDisk (m .last .1 .0) (m .last .1 .1 .0)) (c .zone-on .result) (c .zone-on .ensures) (m .ensures)
 
 pub open-spec : {M : Type 1} → statement M
 open-spec =
@@ -83,10 +101,11 @@ open-spec =
     (tie.spec
     returns
     lowest-empty-requires
-    add-t14
+    add-t15
     header-stores-requires
-    add-t20
-    cast-t21
+    zone-on-requires
+    add-t21
+    cast-t22
     same-length
     same-length-2
     returns-2)

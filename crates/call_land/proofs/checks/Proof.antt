@@ -1,17 +1,17 @@
 -- `checks`: each return is the refusal of its check behind those that pass; the state is what the bytes say. Assumes nothing.
+use Prim.Native.Nat.{ℕ, _≤_}
 use Rattle.mem_rows.specs.declared.Row.{Row}
 use Rattle.law_views.specs.Views.{seen}
 use Rattle.call_land_chunk.specs.Alone.{alone, filled-alone}
-use Rattle.spec.specs.Drives.{Disk, mkDisk, Seg, seg}
+use Rattle.spec.specs.Drives.{Disk, mkDisk}
 use Rattle.spec.specs.Engine.{lentOk}
 use Rattle.spec.specs.Landing.{slotOf, waiting}
 use Rattle.spec.specs.Memory.{Memory, mkMemory, filledIn, stateOf, stateOk}
 use Rattle.spec.specs.Params.{inRange}
 use Rattle.call_land.specs.Order.{land-range-fails, land-range-passes, land-lengths-fail, land-lengths-pass, land-missing-fails, land-missing-passes, waiting-fails, waiting-passes}
 use Rattle.call_land.specs.Order.{land-state-fails, faults-refused, waits-row, faults-seen}
-use Rattle.call_land.specs.Ready.{waits-low, segment-low, filled-low}
+use Rattle.call_land.specs.Ready.{waits-low, opened-low, segment-low, filled-low}
 use Rattle.law_basic.specs.Geometry.{ranged, data-count-high}
-use Rattle.law_basic.specs.Segs.{Named, named-lt}
 use Rattle.call_write.specs.Ready.{lent-long}
 use borrow.Author.Needs.{needs}
 use borrow.Author.Tests.{not-true, not-false}
@@ -135,16 +135,27 @@ returns-5 c =
     ∙ land-lengths-pass (a .p) k m (a .drive) (a .stripe) el
     ∙ land-range-passes (a .p) k m (a .drive) (a .stripe) er
 
+open-segment-requires : tie.Need-open-segment-requires
+open-segment-requires c κs =
+    let s = c .before .before .before .before .before .before .before .before .before .before .before .before .before .before .before .before in
+    let in-range = c .before .before .before .before .before .before .before .before .before .in-range in
+    let if1 = c .before .before .before .before .before .before .before .before .if1 in
+    let a = s .args in
+    let st = stateOf (a .bytes .now) in
+    let er : inRange (a .p) ≡ true = sym (in-range .ensures) ∙ not-false (in-range .result) (if1 .left) in
+    let eo : stateOk (a .p) st ≡ true = sym (c .before .state-ok .ensures) ∙ not-false (c .before .state-ok .result) (c .if5 .left) in
+    (er, subst (λ (x : ℕ). x ≤ a .p .Z) (sym (s .pre .1 .2)) (opened-low (a .p) st eo))
+
 land-fault-requires : tie.Need-land-fault-requires
 land-fault-requires c κs =
-    let s = c .before .before .before .before .before .before .before .before .before .before .before .before .before .before .before .before in
-    let if4 = c .before .before .if4 in
-    let at = c .before .before .before in
-    let waiting′ = c .before .before .before .waiting in
-    let if2 = c .before .before .before .before .before .before .if2 in
-    let lent-ok = c .before .before .before .before .before .before .before .lent-ok in
-    let if1 = c .before .before .before .before .before .before .before .before .if1 in
-    let in-range = c .before .before .before .before .before .before .before .before .before .in-range in
+    let s = c .before .before .before .before .before .before .before .before .before .before .before .before .before .before .before .before .before in
+    let if4 = c .before .before .before .if4 in
+    let at = c .before .before .before .before in
+    let waiting′ = c .before .before .before .before .waiting in
+    let if2 = c .before .before .before .before .before .before .before .if2 in
+    let lent-ok = c .before .before .before .before .before .before .before .before .lent-ok in
+    let if1 = c .before .before .before .before .before .before .before .before .before .if1 in
+    let in-range = c .before .before .before .before .before .before .before .before .before .before .in-range in
     let a = s .args in
     let st = stateOf (a .bytes .now) in
     let k : Disk = mkDisk (a .image .now) (a .pointers .now) in
@@ -152,32 +163,32 @@ land-fault-requires c κs =
     let er : inRange (a .p) ≡ true = sym (in-range .ensures) ∙ not-false (in-range .result) (if1 .left) in
     let el : lentOk (a .p) k m ≡ true = sym (lent-ok .ensures st) ∙ not-false (lent-ok .result) (if2 .left) in
     let ew : waiting (a .p) st (a .drive) (a .stripe) ≡ true = sym (waits-is (at)) ∙ not-false (waiting′ .result) (if4 .left) in
-    let eo : stateOk (a .p) st ≡ true = sym (c .before .state-ok .ensures) ∙ not-false (c .before .state-ok .result) (c .if5 .left) in
+    let eo : stateOk (a .p) st ≡ true = sym (c .before .before .state-ok .ensures) ∙ not-false (c .before .before .state-ok .result) (c .before .if5 .left) in
     let r = ranged (a .p) er in
     let long = lent-long (a .p) k m el in
     let w = waits-low (a .p) st (a .drive) (a .stripe) ew in
     let f = filled-low (a .p) st eo (slotOf st (a .stripe)) (w .1) in
     let sn = s .pre .0 in
-    let g = segment-low (a .p) st eo (omega (arith, r .zones-low)) in
     let e : filledIn (alone (a .seen .row)) 0 ≡ filledIn st (slotOf st (a .stripe)) = ap (λ (x : Row). filledIn (alone x) 0) (sn .row (w .1)) ∙ filled-alone st (slotOf st (a .stripe)) in
-    (er, ((long .1, long .2, w .0), (named-lt (a .p) (seg (a .seen .segment)) (subst (λ (x : Seg). Named (a .p) x) (sym (sn .segment)) g), omega (arith, e, f, data-count-high (a .p) r))))
+    (er, ((long .1, long .2, w .0), (c .open-segment .ensures .1, omega (arith, e, f, data-count-high (a .p) r))))
 
 zone-check-requires : tie.Need-zone-check-requires
 zone-check-requires c κs = search needs
 
 returns-6 : tie.Need-returns-6
 returns-6 c =
-    let s = c .before .before .before .before .before .before .before .before .before .before .before .before .before .before .before .before .before .before in
-    let if5 = c .before .before .if5 in
-    let state-ok = c .before .before .before .state-ok in
-    let if4 = c .before .before .before .before .if4 in
-    let at = c .before .before .before .before .before in
-    let waiting′ = c .before .before .before .before .before .waiting in
-    let if3 = c .before .before .before .before .before .before .before .if3 in
-    let if2 = c .before .before .before .before .before .before .before .before .if2 in
-    let lent-ok = c .before .before .before .before .before .before .before .before .before .lent-ok in
-    let if1 = c .before .before .before .before .before .before .before .before .before .before .if1 in
-    let in-range = c .before .before .before .before .before .before .before .before .before .before .before .in-range in
+    let s = c .before .before .before .before .before .before .before .before .before .before .before .before .before .before .before .before .before .before .before in
+    let open-segment = c .before .before .open-segment in
+    let if5 = c .before .before .before .if5 in
+    let state-ok = c .before .before .before .before .state-ok in
+    let if4 = c .before .before .before .before .before .if4 in
+    let at = c .before .before .before .before .before .before in
+    let waiting′ = c .before .before .before .before .before .before .waiting in
+    let if3 = c .before .before .before .before .before .before .before .before .if3 in
+    let if2 = c .before .before .before .before .before .before .before .before .before .if2 in
+    let lent-ok = c .before .before .before .before .before .before .before .before .before .before .lent-ok in
+    let if1 = c .before .before .before .before .before .before .before .before .before .before .before .if1 in
+    let in-range = c .before .before .before .before .before .before .before .before .before .before .before .before .in-range in
     let a = s .args in
     let st = stateOf (a .bytes .now) in
     let k : Disk = mkDisk (a .image .now) (a .pointers .now) in
@@ -192,7 +203,8 @@ returns-6 c =
     ∙ faults-refused (a .p) k m (a .drive) (a .stripe) eo er (segment-low (a .p) st eo (omega (arith, r .zones-low))) (c .before .land-fault .result)
     (c .before .land-fault .ensures (a .image .now) (long .0)
     ∙ faults-seen (a .p) (seen (a .p) k) m (a .drive) (a .stripe) (a .seen) (s .pre .0) (waits-low (a .p) st (a .drive) (a .stripe) ew .1)
-    (filled-low (a .p) st eo (slotOf st (a .stripe)) (waits-low (a .p) st (a .drive) (a .stripe) ew .1)) er)
+    (filled-low (a .p) st eo (slotOf st (a .stripe)) (waits-low (a .p) st (a .drive) (a .stripe) ew .1)) er
+    (open-segment .result) (open-segment .ensures .0 st (sym (s .pre .1 .2))))
     ∙ waiting-passes (a .p) k m (a .drive) (a .stripe) ew
     ∙ land-missing-passes (a .p) k m (a .drive) (a .stripe) (sym (s .pre .1 .0) ∙ if3 .left)
     ∙ land-lengths-pass (a .p) k m (a .drive) (a .stripe) el
@@ -211,6 +223,7 @@ checks-spec =
     returns-4
     state-ok-requires
     returns-5
+    open-segment-requires
     land-fault-requires
     zone-check-requires
     returns-6)

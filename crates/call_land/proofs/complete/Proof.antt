@@ -1,6 +1,6 @@
 -- `complete`: the table is `point`'s, the stores `seal`'s; a cut is `completing-cut`, none `completing-done` with the writes counted. Assumes nothing.
 use Prim.Native.Nat.{ℕ}
-use Rattle.spec.specs.Drives.{Disk, mkDisk, seg}
+use Rattle.spec.specs.Drives.{Disk, mkDisk}
 use Rattle.spec.specs.declared.Answer.the-variants.{Landed}
 use Rattle.call_land.specs.Plan.{completing-cut, completing-done}
 use borrow.Author.Needs.{needs}
@@ -48,7 +48,7 @@ returns c =
     let k : Disk = mkDisk (a .image .now) (a .pointers .now) in
     let k′ : Disk = mkDisk (seal .last .1 .0) (seal .last .1 .1 .0) in
     let u = cut .ensures in
-    completing-cut (a .p) (a .count) (a .row) (seg (a .segment)) (a .seals) k (a .addresses .now) (a .compact .now) (seal .result) k′ (seal .ensures) (cut .result) (cut .last .0) (cut .last .1 .0)
+    completing-cut (a .p) (a .count) (a .row) (a .segment) (a .seals) k (a .addresses .now) (a .compact .now) (seal .result) k′ (seal .ensures) (cut .result) (cut .last .0) (cut .last .1 .0)
     (if1 .taken) (u .0) (u .1 ∙ ap (λ (x : ℕ). replicate x 0) (point .kept .1 .1 .1 .0)) (u .2)
 
 writes-in-requires : tie.Need-writes-in-requires
@@ -70,7 +70,7 @@ returns-2 c =
     let point = c .before .before .before .before .before .before .before .before .before .before .before .point in
     let k : Disk = mkDisk (a .image .now) (a .pointers .now) in
     let k′ : Disk = mkDisk (seal .last .1 .0) (seal .last .1 .1 .0) in
-    completing-done (a .p) (a .count) (a .row) (seg (a .segment)) (a .seals) k (a .addresses .now) (a .compact .now) (seal .result) k′ (seal .ensures)
+    completing-done (a .p) (a .count) (a .row) (a .segment) (a .seals) k (a .addresses .now) (a .compact .now) (seal .result) k′ (seal .ensures)
     (Landed (c .writes-in .result)) (point .last .1 .1 .1 .0) (a .compact .now)
     (c .before .if1 .left) (ap Landed (c .writes-in .ensures)) (point .ensures) refl
 

@@ -31,7 +31,7 @@ checks-requires c κs =
     let l = c .before .before .before .before .before .look-at in
     let a = s .args in
     let e = s .pre .0 in
-    (subst (λ (x : State). Looks (a .p) x (a .drive) (a .stripe) (l .result)) e (l .ensures), (ap (λ (x : State). x .missing) e, s .pre .1))
+    (subst (λ (x : State). Looks (a .p) x (a .drive) (a .stripe) (l .result)) e (l .ensures), (ap (λ (x : State). x .missing) e, s .pre .1, ap (λ (x : State). x .opened) e))
 
 -- the refusal is that of the state
 abbrev start : tie.After-checks → tie.Start

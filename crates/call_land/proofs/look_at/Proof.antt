@@ -18,9 +18,6 @@ within-requires c κs = search needs
 row-at-requires : tie.Need-row-at-requires
 row-at-requires c κs = (c .before .before .before .pre .1, c .within .ensures .0)
 
-open-segment-requires : tie.Need-open-segment-requires
-open-segment-requires c κs = search needs
-
 completes-requires : tie.Need-completes-requires
 completes-requires c κs = search needs
 
@@ -32,22 +29,20 @@ is-last-requires c κs = search needs
 
 returns : tie.Need-returns
 returns c =
-    let s = c .before .before .before .before .before .before .before .before in
+    let s = c .before .before .before .before .before .before .before in
     let completes = c .before .before .completes in
-    let open-segment = c .before .before .before .open-segment in
-    let row-at = c .before .before .before .before .row-at in
-    let within = c .before .before .before .before .before .within in
-    let slot-of = c .before .before .before .before .before .before .slot-of in
+    let row-at = c .before .before .before .row-at in
+    let within = c .before .before .before .before .within in
+    let slot-of = c .before .before .before .before .before .slot-of in
     let a = s .args in
     let e = slot-of .ensures in
     let d = completes .result in
     record {
       slot = e;
       row = λ h. row-at .ensures ∙ ap (λ (x : State). slotRow x (within .result)) (sym (s .pre .0)) ∙ ap (slotRow (a .state)) (within .ensures .1 (subst (λ (x : ℕ). x < 8) (sym e) h) ∙ e);
-      segment = open-segment .ensures;
       done = completes .ensures;
       seals = c .is-last .ensures ∙ ap (λ (x : ℕ). d && eqb (a .state .next) (a .p .S) && eqb x 1) (c .before .in-flight .ensures);
     }
 
 pub look-at-spec : {M : Type 1} → statement M
-look-at-spec = tie.close (tie.spec slot-of-requires within-requires row-at-requires open-segment-requires completes-requires in-flight-requires is-last-requires returns)
+look-at-spec = tie.close (tie.spec slot-of-requires within-requires row-at-requires completes-requires in-flight-requires is-last-requires returns)

@@ -1,13 +1,13 @@
 -- `store_chunk`: the pointer is 1 to S, so the offset below it is below S and the zone has room; store, table entry and mark follow in turn. Assumes nothing.
 use Prim.Native.Nat.{ℕ, _-_, _<_}
-use Rattle.spec.specs.Drives.{Disk, mkDisk, pointerOf, storeDisk, zoneOn, seg}
+use Rattle.spec.specs.Drives.{Disk, mkDisk, pointerOf, storeDisk, zoneOn}
 use Rattle.spec.specs.Drives.Store.{put}
 use Rattle.spec.specs.Landing.{flightRec}
 use Rattle.spec.specs.Layout.{compactEntry, recordBytes}
 use Rattle.spec.specs.Memory.{compactAt, slotBlock}
 use Rattle.spec.specs.Params.{capacity}
 use Rattle.law_basic.specs.Geometry.{ranged, data-below}
-use Rattle.law_basic.specs.Segs.{seg-named, zone-on-lt}
+use Rattle.law_basic.specs.Segs.{low-here}
 use Rattle.call_land_chunk.specs.Alone.{alone, markRow}
 use borrow.Author.Needs.{needs}
 use lib.ListN.{set}
@@ -17,17 +17,19 @@ use Rattle.call_land.proofs.store_chunk.Statement.{statement}
 use Rattle.call_land.proofs.store_chunk.Tie as tie
 
 zone-on-requires : tie.Need-zone-on-requires
-zone-on-requires c κs = search needs
+zone-on-requires c κs =
+    let q = c .before .before .before .before .pre in
+    (q .0, q .1 .1 .1 .0)
 
 -- the zone
-zone-is : (c : tie.After-zone-on) → c .zone-on .result ≡ zoneOn (seg (c .before .before .before .before .before .args .segment)) (c .before .before .before .before .before .args .drive)
+zone-is : (c : tie.After-zone-on) → c .zone-on .result ≡ zoneOn (c .before .before .before .before .before .args .segment) (c .before .before .before .before .before .args .drive)
 zone-is c = c .zone-on .ensures
 
 zone-low : (c : tie.After-zone-on) → c .zone-on .result < c .before .before .before .before .before .args .p .Z
 zone-low c =
     let a = c .before .before .before .before .before .args in
     let pre = c .before .before .before .before .before .pre in
-    omega (arith, zone-is c, zone-on-lt (a .p) (seg (a .segment)) (a .drive) (seg-named (a .p) (a .segment) (pre .1 .1 .1 .1)))
+    omega (arith, zone-is c, low-here (a .p) (a .segment) (a .drive) (pre .1 .1 .1 .1) (pre .1 .1 .1 .0))
 
 pointer-requires : tie.Need-pointer-requires
 pointer-requires c κs =
@@ -40,7 +42,7 @@ pointer-is :
     → c .pointer .result ≡ pointerOf (c .before .before .before .before .before .before .before .args .p)
     (c .before .before .before .before .before .before .before .args .pointers .now)
     (c .before .before .before .before .before .before .before .args .drive)
-    (zoneOn (seg (c .before .before .before .before .before .before .before .args .segment))
+    (zoneOn (c .before .before .before .before .before .before .before .args .segment)
     (c .before .before .before .before .before .before .before .args .drive))
 pointer-is c =
     let a = c .before .before .before .before .before .before .before .args in

@@ -1,6 +1,6 @@
 -- `land_fault`: a stripe left incomplete has only the segment's faults (`faults-part`), a completed one also its entries' (`faults-whole`). Assumes nothing.
 use Prim.Native.Nat.{ℕ}
-use Rattle.spec.specs.Drives.{View, viewOf, seg}
+use Rattle.spec.specs.Drives.{View, viewOf}
 use Rattle.spec.specs.Landing.{entryFaults}
 use Rattle.spec.specs.Layout.{Rec}
 use Rattle.spec.specs.Lists.{least, flat}
@@ -24,8 +24,8 @@ returns c im h =
     let a = c .before .before .before .before .args in
     let v : View = viewOf (a .p) im (a .pointers .now) in
     let es : List Rec = entriesIn (alone (a .row)) 0 in
-    c .before .segment-fault .ensures .0 im h ∙ faults-part (a .p) v (a .addresses .now) es (a .d) (seg (a .segment)) (a .stripe) (a .seals)
-    ∙ ap (λ (x : Bool). least (a .p .Z) (faultsOf (a .p) v (a .addresses .now) es (a .d) (seg (a .segment)) (a .stripe) x (a .seals))) (sym (not-true (a .done) (c .if1 .taken)))
+    c .before .segment-fault .ensures .0 im h ∙ faults-part (a .p) v (a .addresses .now) es (a .d) (a .segment) (a .stripe) (a .seals)
+    ∙ ap (λ (x : Bool). least (a .p .Z) (faultsOf (a .p) v (a .addresses .now) es (a .d) (a .segment) (a .stripe) x (a .seals))) (sym (not-true (a .done) (c .if1 .taken)))
 
 entries-fault-requires : tie.Need-entries-fault-requires
 entries-fault-requires c κs =
@@ -38,8 +38,8 @@ returns-2 c im h =
     let v : View = viewOf (a .p) im (a .pointers .now) in
     let es : List Rec = entriesIn (alone (a .row)) 0 in
     c .entries-fault .ensures im h ∙ ap (λ (x : ℕ). least x (flat (entryFaults (a .p) v (a .addresses .now)) es)) (c .before .before .segment-fault .ensures .0 im h)
-    ∙ faults-whole (a .p) v (a .addresses .now) es (a .d) (seg (a .segment)) (a .stripe) (a .seals)
-    ∙ ap (λ (x : Bool). least (a .p .Z) (faultsOf (a .p) v (a .addresses .now) es (a .d) (seg (a .segment)) (a .stripe) x (a .seals))) (sym (not-false (a .done) (c .before .if1 .left)))
+    ∙ faults-whole (a .p) v (a .addresses .now) es (a .d) (a .segment) (a .stripe) (a .seals)
+    ∙ ap (λ (x : Bool). least (a .p .Z) (faultsOf (a .p) v (a .addresses .now) es (a .d) (a .segment) (a .stripe) x (a .seals))) (sym (not-false (a .done) (c .before .if1 .left)))
 
 pub land-fault-spec : {M : Type 1} → statement M
 land-fault-spec = tie.close (tie.spec segment-fault-requires returns entries-fault-requires returns-2)

@@ -1,8 +1,8 @@
 -- `no_room`: pointer, footers and capacity are those of `overBy`, whose one block more is added just where e is d. Assumes nothing.
 use Prim.Native.Nat.{_+_}
-use Rattle.spec.specs.Drives.{pointerOf, zoneOn, seg}
+use Rattle.spec.specs.Drives.{pointerOf, zoneOn}
 use Rattle.spec.specs.Params.{footers, capacity}
-use Rattle.law_basic.specs.Segs.{seg-named, zone-on-lt}
+use Rattle.law_basic.specs.Segs.{low-here}
 use Rattle.call_land_faults.specs.Lowest.{overBy}
 use borrow.Author.Needs.{needs}
 use borrow.Author.Tests.{eq-eqb, ne-eqb}
@@ -20,7 +20,7 @@ pointer-requires : tie.Need-pointer-requires
 pointer-requires c κs =
     let a = c .before .before .args in
     let q = c .before .before .pre in
-    (q .0, (q .1 .0, q .1 .1, omega (arith, c .zone-on .ensures, zone-on-lt (a .p) (seg (a .segment)) (a .e) (seg-named (a .p) (a .segment) (q .1 .2)))))
+    (q .0, (q .1 .0, q .1 .1, omega (arith, c .zone-on .ensures, low-here (a .p) (a .segment) (a .e) (q .1 .2) (q .1 .1))))
 
 cast-n : tie.Need-cast-n
 cast-n c = search needs
@@ -45,7 +45,7 @@ returns c =
     let pointer = c .before .before .before .pointer in
     let zone-on = c .before .before .before .before .zone-on in
     let p = a .p in
-    let n : pointer .result ≡ pointerOf p (a .pointers .now) (a .e) (zoneOn (seg (a .segment)) (a .e)) = pointer .ensures ∙ ap (pointerOf p (a .pointers .now) (a .e)) (zone-on .ensures) in
+    let n : pointer .result ≡ pointerOf p (a .pointers .now) (a .e) (zoneOn (a .segment) (a .e)) = pointer .ensures ∙ ap (pointerOf p (a .pointers .now) (a .e)) (zone-on .ensures) in
     let b : true ≡ eqb (a .e) (a .d) = sym (eq-eqb (a .e) (a .d) (c .if1 .taken)) in
     let f : footers′ .result ≡ footers p = footers′ .ensures .0 in
     let m : c .before .capacity .result ≡ capacity p = c .before .capacity .ensures .0 in
@@ -64,7 +64,7 @@ returns-2 c =
     let p = a .p in
     let x = pointer .result in
     let y = footers′ .result in
-    let n : x ≡ pointerOf p (a .pointers .now) (a .e) (zoneOn (seg (a .segment)) (a .e)) = pointer .ensures ∙ ap (pointerOf p (a .pointers .now) (a .e)) (zone-on .ensures) in
+    let n : x ≡ pointerOf p (a .pointers .now) (a .e) (zoneOn (a .segment) (a .e)) = pointer .ensures ∙ ap (pointerOf p (a .pointers .now) (a .e)) (zone-on .ensures) in
     let b : false ≡ eqb (a .e) (a .d) = sym (ne-eqb (a .e) (a .d) (c .if1 .left)) in
     let f : y ≡ footers p = footers′ .ensures .0 in
     let m : c .before .capacity .result ≡ capacity p = c .before .capacity .ensures .0 in

@@ -1,8 +1,6 @@
 -- `overfull`: some zone from drive e on is overfull just when any drive's is; a found one ends it, one passed drops off. Assumes nothing.
 use Prim.Native.Nat.{_-_, _≤_}
 use Rattle.spec.specs.Lists.{upFrom, below, any}
-use Rattle.law_basic.specs.Segs.{seg-named}
-use Rattle.spec.specs.Drives.{seg}
 use Rattle.call_land_faults.specs.Lowest.{overBy, over-view}
 use Rattle.law_scans.specs.Scans.{any-found, any-passed, any-ended, any-start}
 use mathlib.Core.Path.{_≡_, sym, _∙_}
@@ -11,7 +9,7 @@ use Rattle.call_land_faults.proofs.overfull.Statement.{statement}
 use Rattle.call_land_faults.proofs.overfull.Tie as tie
 
 abbrev Inv-loop : tie.InvT-loop
-Inv-loop p pointers d segment e₀ e = (e ≤ p .N) × (any (overBy p pointers d (seg segment)) (upFrom e (p .N - e)) ≡ any (overBy p pointers d (seg segment)) (below (p .N)))
+Inv-loop p pointers d segment e₀ e = (e ≤ p .N) × (any (overBy p pointers d segment) (upFrom e (p .N - e)) ≡ any (overBy p pointers d segment) (below (p .N)))
 
 abbrev μ-loop : tie.MeasureT-loop
 μ-loop p pointers d segment e₀ e = p .N - e
@@ -19,7 +17,7 @@ abbrev μ-loop : tie.MeasureT-loop
 loop-holds : tie.Need-loop-holds Inv-loop μ-loop
 loop-holds c =
     let a = c .before .args in
-    (omega arith, any-start (overBy (a .p) (a .pointers .now) (a .d) (seg (a .segment))) (a .p .N))
+    (omega arith, any-start (overBy (a .p) (a .pointers .now) (a .d) (a .segment)) (a .p .N))
 
 no-room-requires : tie.Need-no-room-requires Inv-loop μ-loop
 no-room-requires c κs =
@@ -33,8 +31,8 @@ returns c im h =
     let l = c .before .before .before .before .loop in
     let pre = c .before .before .before .before .before .before .pre in
     let q = pre .1 in
-    sym (any-found (overBy (a .p) (a .pointers .now) (a .d) (seg (a .segment))) (l .e) (a .p .N) (omega (arith, if1 .taken)) (sym (c .before .no-room .ensures) ∙ c .if2 .taken))
-    ∙ l .inv .1 ∙ over-view (a .p) im (a .pointers .now) h (q .0) (a .d) (seg (a .segment)) (seg-named (a .p) (a .segment) (q .1))
+    sym (any-found (overBy (a .p) (a .pointers .now) (a .d) (a .segment)) (l .e) (a .p .N) (omega (arith, if1 .taken)) (sym (c .before .no-room .ensures) ∙ c .if2 .taken))
+    ∙ l .inv .1 ∙ over-view (a .p) im (a .pointers .now) h (q .0) (a .d) (a .segment) (q .1)
 
 add-e : tie.Need-add-e Inv-loop μ-loop
 add-e c = omega arith
@@ -48,7 +46,7 @@ loop-again c =
     let l = c .before .before .before .before .loop in
     let if1 = c .before .before .if1 in (
       omega (arith, if1 .taken),
-      sym (any-passed (overBy (a .p) (a .pointers .now) (a .d) (seg (a .segment))) (l .e) (a .p .N) (omega (arith, if1 .taken))
+      sym (any-passed (overBy (a .p) (a .pointers .now) (a .d) (a .segment)) (l .e) (a .p .N) (omega (arith, if1 .taken))
           (sym (c .before .no-room .ensures) ∙ c .if2 .left))
           ∙ l .inv .1,
     )
@@ -59,8 +57,8 @@ returns-2 c im h =
     let pre = c .before .before .before .before .pre in
     let q = pre .1 in
     let l = c .before .before .loop in
-    sym (any-ended (overBy (a .p) (a .pointers .now) (a .d) (seg (a .segment))) (l .e) (a .p .N) (omega (arith, c .if1 .left)))
-    ∙ l .inv .1 ∙ over-view (a .p) im (a .pointers .now) h (q .0) (a .d) (seg (a .segment)) (seg-named (a .p) (a .segment) (q .1))
+    sym (any-ended (overBy (a .p) (a .pointers .now) (a .d) (a .segment)) (l .e) (a .p .N) (omega (arith, c .if1 .left)))
+    ∙ l .inv .1 ∙ over-view (a .p) im (a .pointers .now) h (q .0) (a .d) (a .segment) (q .1)
 
 pub overfull-spec : {M : Type 1} → statement M
 overfull-spec =

@@ -1,9 +1,9 @@
 -- `segment_fault`: `segment-bad` for a misplaced chunk, `segment-full` for footers without room, else `land-segment-fine`; all are at most Z. Assumes nothing.
 use Prim.Native.Nat.{ℕ}
-use Rattle.spec.specs.Drives.{View, viewOf, zoneOn, seg}
+use Rattle.spec.specs.Drives.{View, viewOf, zoneOn}
 use Rattle.spec.specs.Landing.{misplaced, overfull}
 use Rattle.spec.specs.Lists.{least, consIf}
-use Rattle.law_basic.specs.Segs.{seg-named, zone-on-lt}
+use Rattle.law_basic.specs.Segs.{low-here}
 use Rattle.call_land_faults.specs.Lowest.{segment-bad, segment-full, land-segment-fine}
 use borrow.Author.Needs.{needs}
 use borrow.Author.Tests.{not-true, not-false}
@@ -21,16 +21,16 @@ misplaced-requires : tie.Need-misplaced-requires
 misplaced-requires c κs =
     let a = c .before .before .args in
     let q = c .before .before .pre in
-    (q .0, (q .1 .0, q .1 .1, omega (arith, c .zone-on .ensures, zone-on-lt (a .p) (seg (a .segment)) (a .d) (seg-named (a .p) (a .segment) (q .1 .2)))))
+    (q .0, (q .1 .0, q .1 .1, omega (arith, c .zone-on .ensures, low-here (a .p) (a .segment) (a .d) (q .1 .2) (q .1 .1))))
 
 returns : tie.Need-returns
 returns c =
     let a = c .before .before .before .before .args in
     let pre = c .before .before .before .before .pre in
     let p = a .p in
-    let g = seg (a .segment) in
+    let g = a .segment in
     let z = zoneOn g (a .d) in
-    let hz = zone-on-lt p g (a .d) (seg-named p (a .segment) (pre .1 .2)) in (
+    let hz = low-here p g (a .d) (pre .1 .2) (pre .1 .1) in (
       λ im h.
           let v : View = viewOf p im (a .pointers .now) in
           let b : Bool = a .seals && overfull p v (a .d) g in
@@ -49,9 +49,9 @@ returns-2 c =
     let zone-on = c .before .before .before .zone-on in
     let pre = c .before .before .before .before .before .pre in
     let p = a .p in
-    let g = seg (a .segment) in
+    let g = a .segment in
     let z = zoneOn g (a .d) in
-    let hz = zone-on-lt p g (a .d) (seg-named p (a .segment) (pre .1 .2)) in (
+    let hz = low-here p g (a .d) (pre .1 .2) (pre .1 .1) in (
       λ im h.
           let v : View = viewOf p im (a .pointers .now) in
           let m : false ≡ misplaced p v (a .d) z (a .stripe) =
@@ -75,9 +75,9 @@ returns-3 c =
     let zone-on = c .before .before .before .before .before .zone-on in
     let pre = c .before .before .before .before .before .before .before .pre in
     let p = a .p in
-    let g = seg (a .segment) in
+    let g = a .segment in
     let z = zoneOn g (a .d) in
-    let hz = zone-on-lt p g (a .d) (seg-named p (a .segment) (pre .1 .2)) in (
+    let hz = low-here p g (a .d) (pre .1 .2) (pre .1 .1) in (
       λ im h.
           let v : View = viewOf p im (a .pointers .now) in
           let m : false ≡ misplaced p v (a .d) z (a .stripe) = sym (if1 .left) ∙ misplaced′ .ensures im h ∙ ap (λ (x : ℕ). misplaced p v (a .d) x (a .stripe)) (zone-on .ensures) in
@@ -96,9 +96,9 @@ returns-4 c =
     let zone-on = c .before .before .before .before .before .zone-on in
     let pre = c .before .before .before .before .before .before .before .pre in
     let p = a .p in
-    let g = seg (a .segment) in
+    let g = a .segment in
     let z = zoneOn g (a .d) in
-    let hz = zone-on-lt p g (a .d) (seg-named p (a .segment) (pre .1 .2)) in (
+    let hz = low-here p g (a .d) (pre .1 .2) (pre .1 .1) in (
       λ im h.
           let v : View = viewOf p im (a .pointers .now) in
           let m : false ≡ misplaced p v (a .d) z (a .stripe) = sym (if1 .left) ∙ misplaced′ .ensures im h ∙ ap (λ (x : ℕ). misplaced p v (a .d) x (a .stripe)) (zone-on .ensures) in

@@ -1,9 +1,9 @@
 -- `seal_stores`: after d drives their footers are stored and left is the count less these; the next zone is untouched, so its room is there. Assumes nothing.
 use Prim.Native.Nat.{ℕ, _+_, _-_, _≤_}
-use Rattle.spec.specs.Drives.{Disk, mkDisk, zoneAt, zoneOn, pointerOf, footerStores, seg}
+use Rattle.spec.specs.Drives.{Disk, mkDisk, zoneAt, zoneOn, pointerOf, footerStores}
 use Rattle.spec.specs.Params.{footers, capacity}
 use Rattle.law_basic.specs.Geometry.{ranged}
-use Rattle.law_basic.specs.Segs.{seg-named, zone-on-lt}
+use Rattle.law_basic.specs.Segs.{low-here}
 use Rattle.call_land_seal.specs.Feet.{Sealing, sealing-start, sealing-done, sealing-room, sealing-turn, sealing-cut}
 use Rattle.law_views.specs.Views.{seen}
 use Rattle.disk_zones.specs.Made.{Storing}
@@ -13,7 +13,7 @@ use Rattle.call_land_seal.proofs.seal_stores.Statement.{statement}
 use Rattle.call_land_seal.proofs.seal_stores.Tie as tie
 
 abbrev Inv-loop : tie.InvT-loop
-Inv-loop p image₀ pointers₀ segment count n left₀ d₀ image pointers left d = (n ≡ footers p) × Sealing p (mkDisk image₀ pointers₀) (seg segment) count d left (mkDisk image pointers)
+Inv-loop p image₀ pointers₀ segment count n left₀ d₀ image pointers left d = (n ≡ footers p) × Sealing p (mkDisk image₀ pointers₀) segment count d left (mkDisk image pointers)
 
 abbrev μ-loop : tie.MeasureT-loop
 μ-loop p image₀ pointers₀ segment count n left₀ d₀ image pointers left d = p .N - d
@@ -24,17 +24,17 @@ footers-requires c κs = c .before .before .pre .0
 loop-holds : tie.Need-loop-holds Inv-loop μ-loop
 loop-holds c =
     let a = c .before .before .before .args in
-    (c .footers .ensures .0, sealing-start (a .p) (mkDisk (a .image .now) (a .pointers .now)) (seg (a .segment)) (a .count) (c .before .before .before .pre .1 .0))
+    (c .footers .ensures .0, sealing-start (a .p) (mkDisk (a .image .now) (a .pointers .now)) (a .segment) (a .count) (c .before .before .before .pre .1 .0))
 
 zone-on-requires : tie.Need-zone-on-requires Inv-loop μ-loop
-zone-on-requires c κs = tt
+zone-on-requires c κs = (c .before .before .before .before .before .before .pre .0, c .if1 .taken)
 
 -- the room that is left on the drive
 room :
     (c : tie.After-footer-stores-arg2 Inv-loop μ-loop)
     → pointerOf (c .before .before .before .before .before .before .before .before .before .args .p)
     (c .before .before .before .before .before .loop .pointers) (c .before .before .before .before .before .loop .d)
-    (zoneOn (seg (c .before .before .before .before .before .before .before .before .before .args .segment))
+    (zoneOn (c .before .before .before .before .before .before .before .before .before .args .segment)
     (c .before .before .before .before .before .loop .d)) + footers
     (c .before .before .before .before .before .before .before .before .before .args .p) ≤ capacity
     (c .before .before .before .before .before .before .before .before .before .args .p)
@@ -44,8 +44,8 @@ room c =
     let if1 = c .before .before .before .if1 in
     let pre = c .before .before .before .before .before .before .before .before .before .pre in
     let q = pre .1 in
-    sealing-room (a .p) (mkDisk (a .image .now) (a .pointers .now)) (seg (a .segment)) (a .count) (l .d) (l .left) (mkDisk (l .image) (l .pointers))
-    (l .inv .1) (if1 .taken) (seg-named (a .p) (a .segment) (q .1 .0)) (q .0) (q .1 .1 (l .d) (if1 .taken))
+    sealing-room (a .p) (mkDisk (a .image .now) (a .pointers .now)) (a .segment) (a .count) (l .d) (l .left) (mkDisk (l .image) (l .pointers))
+    (l .inv .1) (if1 .taken) (q .1 .0) (q .0) (q .1 .1 (l .d) (if1 .taken))
 
 footer-stores-requires : tie.Need-footer-stores-requires Inv-loop μ-loop
 footer-stores-requires c κs =
@@ -59,7 +59,7 @@ footer-stores-requires c κs =
     let z = zone-on .ensures in
     let n : footers′ .result ≡ footers p = footers′ .ensures .0 in
     let h : pointerOf p (l .pointers) (l .d) (zone-on .result) + footers p ≤ capacity p = subst (λ (x : ℕ). pointerOf p (l .pointers) (l .d) x + footers p ≤ capacity p) (sym z) (room c) in
-    (q .0, (l .inv .1 .whole, (if1 .taken, omega (arith, z, zone-on-lt p (seg (a .segment)) (l .d) (seg-named p (a .segment) (q .1 .1 .0))), omega (arith, n), omega (arith, n, h))))
+    (q .0, (l .inv .1 .whole, (if1 .taken, omega (arith, z, low-here p (a .segment) (l .d) (q .1 .1 .0) (if1 .taken)), omega (arith, n), omega (arith, n, h))))
 
 -- what the call leaves, with the zone and the number named
 left-by : (c : tie.After-slice-known4 Inv-loop μ-loop)
@@ -67,13 +67,13 @@ left-by : (c : tie.After-slice-known4 Inv-loop μ-loop)
     (c .before .before .before .before .before .before .before .before .before .before .loop .left)
     (footerStores (c .before .before .before .before .before .before .before .before .before .before .before .before .before .before .args .p)
     (c .before .before .before .before .before .before .before .before .before .before .loop .d)
-    (zoneOn (seg (c .before .before .before .before .before .before .before .before .before .before .before .before .before .before .args .segment))
+    (zoneOn (c .before .before .before .before .before .before .before .before .before .before .before .before .before .before .args .segment)
     (c .before .before .before .before .before .before .before .before .before .before .loop .d))
     (zoneAt (seen (c .before .before .before .before .before .before .before .before .before .before .before .before .before .before .args .p)
     (mkDisk (c .before .before .before .before .before .before .before .before .before .before .loop .image)
     (c .before .before .before .before .before .before .before .before .before .before .loop .pointers)))
     (c .before .before .before .before .before .before .before .before .before .before .loop .d)
-    (zoneOn (seg (c .before .before .before .before .before .before .before .before .before .before .before .before .before .before .args .segment))
+    (zoneOn (c .before .before .before .before .before .before .before .before .before .before .before .before .before .before .args .segment)
     (c .before .before .before .before .before .before .before .before .before .before .loop .d))) 0
     (footers (c .before .before .before .before .before .before .before .before .before .before .before .before .before .before .args .p)))
     (mkDisk (c .before .before .before .before .before .before .before .before .before .before .loop .image)
@@ -90,7 +90,7 @@ left-by c =
     let k : Disk = mkDisk (l .image) (l .pointers) in
     let k′ : Disk = mkDisk (footer-stores .last .1 .0) (footer-stores .last .1 .1 .0) in
     let r = footer-stores .result in
-    let g = zoneOn (seg (a .segment)) (l .d) in
+    let g = zoneOn (a .segment) (l .d) in
     subst (λ (x : ℕ). Storing p (l .left) (footerStores p (l .d) g (zoneAt (seen p k) (l .d) g) 0 x) k r k′) (footers′ .ensures .0)
     (subst (λ (x : ℕ). Storing p (l .left) (footerStores p (l .d) x (zoneAt (seen p k) (l .d) x) 0 (footers′ .result)) k r k′) (zone-on .ensures) (footer-stores .ensures))
 
@@ -116,8 +116,8 @@ returns c =
     let if1 = c .before .before .before .before .before .before .before .before .before .if1 in
     let pre = c .before .before .before .before .before .before .before .before .before .before .before .before .before .before .before .pre in
     let q = pre .1 in
-    sealing-cut (a .p) (mkDisk (a .image .now) (a .pointers .now)) (seg (a .segment)) (a .count) (l .d) (l .left) (mkDisk (l .image) (l .pointers))
-    (l .inv .1) (if1 .taken) (seg-named (a .p) (a .segment) (q .1 .0)) (footer-stores .result) (mkDisk (footer-stores .last .1 .0) (footer-stores .last .1 .1 .0))
+    sealing-cut (a .p) (mkDisk (a .image .now) (a .pointers .now)) (a .segment) (a .count) (l .d) (l .left) (mkDisk (l .image) (l .pointers))
+    (l .inv .1) (if1 .taken) (q .1 .0) (footer-stores .result) (mkDisk (footer-stores .last .1 .0) (footer-stores .last .1 .1 .0))
     (left-by (c .before)) (c .if2 .taken)
 
 add-d : tie.Need-add-d Inv-loop μ-loop
@@ -136,8 +136,8 @@ loop-again c =
     let pre = c .before .before .before .before .before .before .before .before .before .before .before .before .before .before .before .pre in
     let q = pre .1 in (
       l .inv .0,
-      sealing-turn (a .p) (mkDisk (a .image .now) (a .pointers .now)) (seg (a .segment)) (a .count) (l .d) (l .left) (mkDisk (l .image) (l .pointers))
-          (l .inv .1) (if1 .taken) (seg-named (a .p) (a .segment) (q .1 .0)) (footer-stores .result) (mkDisk (footer-stores .last .1 .0) (footer-stores .last .1 .1 .0))
+      sealing-turn (a .p) (mkDisk (a .image .now) (a .pointers .now)) (a .segment) (a .count) (l .d) (l .left) (mkDisk (l .image) (l .pointers))
+          (l .inv .1) (if1 .taken) (q .1 .0) (footer-stores .result) (mkDisk (footer-stores .last .1 .0) (footer-stores .last .1 .1 .0))
           (left-by (c .before)) (ranged (a .p) (pre .0)) (room (at)) (c .if2 .left),
     )
 
@@ -155,7 +155,7 @@ returns-2 : tie.Need-returns-2 Inv-loop μ-loop
 returns-2 c =
     let a = c .before .before .before .before .before .before .args in
     let l = c .before .before .loop in
-    sealing-done (a .p) (mkDisk (a .image .now) (a .pointers .now)) (seg (a .segment)) (a .count) (l .d) (l .left) (mkDisk (l .image) (l .pointers)) (l .inv .1) (omega (arith, c .if1 .left))
+    sealing-done (a .p) (mkDisk (a .image .now) (a .pointers .now)) (a .segment) (a .count) (l .d) (l .left) (mkDisk (l .image) (l .pointers)) (l .inv .1) (omega (arith, c .if1 .left))
 
 pub seal-stores-spec : {M : Type 1} → statement M
 seal-stores-spec =

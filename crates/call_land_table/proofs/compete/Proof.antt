@@ -3,7 +3,6 @@ use Rattle.spec.specs.Landing.{landedCand}
 use Rattle.spec.specs.Layout.{Rec}
 use Rattle.spec.specs.Rank.{better}
 use Rattle.law_basic.specs.Geometry.{ranged, data-count-high}
-use Rattle.spec.specs.Drives.{seg}
 use Rattle.call_land_table.specs.Winners.{other-address, best-same-address}
 use Rattle.disk_rank.specs.Ranked.{rankedBest}
 use Rattle.call_land_chunk.specs.Alone.{alone}
@@ -21,7 +20,7 @@ unfolding landedCand
 returns c v cs h =
     let a = c .before .before .before .before .args in
     let e = ap (λ (r : Rec). r .address) (c .before .before .before .entry .ensures) in
-    other-address (a .address .0) (rankedBest (a .b)) (landedCand (a .p) v (seg (a .segment)) (alone (a .row)) 0 (a .k)) cs (λ f. c .if1 .taken (e ∙ f))
+    other-address (a .address .0) (rankedBest (a .b)) (landedCand (a .p) v (a .segment) (alone (a .row)) 0 (a .k)) cs (λ f. c .if1 .taken (e ∙ f))
 
 landed-cand-requires : tie.Need-landed-cand-requires
 landed-cand-requires c κs = search needs
@@ -35,7 +34,7 @@ returns-2 c v cs h =
     let a = c .before .before .before .before .before .before .args in
     let entry = c .before .before .before .before .before .entry in
     let e = ap (λ (r : Rec). r .address) (entry .ensures) in
-    best-same-address (a .address .0) (rankedBest (a .b)) (rankedBest (c .better .result)) (landedCand (a .p) v (seg (a .segment)) (alone (a .row)) 0 (a .k)) cs
+    best-same-address (a .address .0) (rankedBest (a .b)) (rankedBest (c .better .result)) (landedCand (a .p) v (a .segment) (alone (a .row)) 0 (a .k)) cs
     (sym e ∙ c .before .before .if1 .left) (c .better .ensures ∙ ap (better (rankedBest (a .b))) (c .before .landed-cand .ensures v h))
 
 pub compete-spec : {M : Type 1} → statement M

@@ -1,12 +1,12 @@
 -- `landed_cand`: field by field: entry k, its data drive, and the offset there, which is below S and so a place of the segment. Assumes nothing.
 use Prim.Native.Nat.{ℕ, _+_, _<_}
-use Rattle.spec.specs.Drives.{zoneOn, seg}
+use Rattle.spec.specs.Drives.{zoneOn}
 use Rattle.spec.specs.Landing.{landedCand}
 use Rattle.spec.specs.Layout.{Rec, dataDrive}
 use Rattle.spec.specs.Memory.{stripeIn, entryIn, offsetIn}
 use Rattle.spec.specs.Params.{placeOf}
 use Rattle.law_basic.specs.Geometry.{ranged, data-count-high, data-below}
-use Rattle.law_basic.specs.Segs.{seg-named, zone-on-lt}
+use Rattle.law_basic.specs.Segs.{low-here}
 use Rattle.call_land_chunk.specs.Alone.{alone}
 use borrow.Author.Needs.{needs}
 use mathlib.Core.Path.{_≡_, ap, _∙_, subst, sym}
@@ -30,7 +30,7 @@ offset-in-requires c κs =
     omega (arith, c .data-drive .ensures .1, ranged (args .p) (q .0) .drives-high)
 
 zone-on-requires : tie.Need-zone-on-requires
-zone-on-requires c κs = search needs
+zone-on-requires c κs = (c .before .before .before .before .before .before .pre .0, c .before .data-drive .ensures .1)
 
 -- the offset is one of a data block
 low : (c : tie.After-zone-on) → c .before .offset-in .result < c .before .before .before .before .before .before .before .args .p .S
@@ -54,7 +54,7 @@ place-of-requires c κs =
     let data-drive = c .before .before .data-drive in
     let args = c .before .before .before .before .before .before .before .args in
     let p = args .p in
-    let z = zone-on-lt p (seg (args .segment)) (data-drive .result) (seg-named p (args .segment) (q .1 .0)) in
+    let z = low-here p (args .segment) (data-drive .result) (q .1 .0) (data-drive .ensures .1) in
     (q .0, (data-drive .ensures .1, omega (arith, c .zone-on .ensures, z), data-below p (ranged p (q .0)) (1 + c .before .offset-in .result) (omega (arith, low c))))
 
 returns : tie.Need-returns
@@ -73,8 +73,8 @@ returns c v h =
     let f : n ≡ s = ap (λ (r : Rec). r .stripe) e in
     let d : data-drive .result ≡ dataDrive p s (a .k) = data-drive .ensures .0 ∙ ap (λ (x : ℕ). dataDrive p x (a .k)) f in
     let o : offset-in .result ≡ offsetIn st i (dataDrive p s (a .k)) = offset-in .ensures ∙ ap (offsetIn st i) d in
-    let z : c .before .zone-on .result ≡ zoneOn (seg (a .segment)) (dataDrive p s (a .k)) = c .before .zone-on .ensures ∙ ap (zoneOn (seg (a .segment))) d in
-    let w : c .place-of .result .0 ≡ placeOf p (dataDrive p s (a .k)) (zoneOn (seg (a .segment)) (dataDrive p s (a .k))) (1 + offsetIn st i (dataDrive p s (a .k))) =
+    let z : c .before .zone-on .result ≡ zoneOn (a .segment) (dataDrive p s (a .k)) = c .before .zone-on .ensures ∙ ap (zoneOn (a .segment)) d in
+    let w : c .place-of .result .0 ≡ placeOf p (dataDrive p s (a .k)) (zoneOn (a .segment) (dataDrive p s (a .k))) (1 + offsetIn st i (dataDrive p s (a .k))) =
     c .place-of .ensures .0 ∙ (λ j. placeOf p (d j) (z j) (1 + o j)) in
     λ j. record { address = e j .address; stamp = e j .stamp; serial = h j; drive = d j; offset = o j; place = w j }
 

@@ -1,13 +1,12 @@
 -- `serial_at`: the part lent is the first block of drive 0's zone as the view has it; a block has room for the header, as the serial needs. Assumes nothing.
 use Prim.Native.Nat.{ℕ, _≤_}
-use Rattle.spec.specs.Drives.{mkDisk, zoneOn, seg}
+use Rattle.spec.specs.Drives.{mkDisk, zoneOn}
 use Rattle.spec.specs.Landing.{serialAt}
 use Rattle.spec.specs.Layout.{headerLen, headerSerial}
 use Rattle.spec.specs.Params.{unitLen, placeOf, placeByte}
 use Rattle.law_basic.specs.Fields.{header-fits}
 use Rattle.law_basic.specs.Geometry.{ranged, capacity-low}
 use Rattle.law_basic.specs.Splice.{length-part, part-lent}
-use Rattle.law_basic.specs.Segs.{seg-named, zone-on-lt}
 use Rattle.law_views.specs.Views.{block-view}
 use borrow.Author.Needs.{needs}
 use lib.ListN.{length}
@@ -19,7 +18,9 @@ use Rattle.call_land_table.proofs.serial_at.Statement.{statement}
 use Rattle.call_land_table.proofs.serial_at.Tie as tie
 
 zone-on-requires : tie.Need-zone-on-requires
-zone-on-requires c κs = search needs
+zone-on-requires c κs =
+    let pre = c .before .pre in
+    (pre .0, omega (arith, ranged (c .before .args .p) (pre .0) .drives-low))
 
 block-byte-requires : tie.Need-block-byte-requires
 block-byte-requires c κs =
@@ -27,7 +28,7 @@ block-byte-requires c κs =
     let args = c .before .before .args in
     let p = args .p in
     let r = ranged p (q .0) in
-    (q .0, (omega (arith, r .drives-low), omega (arith, c .zone-on .ensures, zone-on-lt p (seg (args .segment)) 0 (seg-named p (args .segment) (q .1 .1))), omega (arith, capacity-low p r)))
+    (q .0, (omega (arith, r .drives-low), omega (arith, c .zone-on .ensures, q .1 .1), omega (arith, capacity-low p r)))
 
 add-e : tie.Need-add-e
 add-e c =
@@ -56,7 +57,7 @@ header-serial-requires c κs =
     let pre = c .before .before .before .before .before .pre in
     let t = block-byte .result in
     let l : length (part t (a .p .B) (a .image .now)) ≡ a .p .B = length-part t (a .p .B) (a .image .now) (omega (arith, block-byte .ensures .1, pre .1 .0)) in
-    subst (λ (x : List ℕ). headerLen ≤ length x) (sym (part-lent t (a .p .B) (a .image .now))) (omega (arith, l, header-fits (a .p) (ranged (a .p) (pre .0))))
+    subst (λ (x : List ℕ). headerLen (a .p) ≤ length x) (sym (part-lent t (a .p .B) (a .image .now))) (omega (arith, l, header-fits (a .p) (ranged (a .p) (pre .0))))
 
 returns : tie.Need-returns
 unfolding serialAt
@@ -67,14 +68,14 @@ returns c ps h =
     let zone-on = c .before .before .before .before .zone-on in
     let p = a .p in
     let im = a .image .now in
-    let g = seg (a .segment) in
+    let g = a .segment in
     let r = ranged p (q .0) in
     let t = block-byte .result in
     let z : zone-on .result ≡ zoneOn g 0 = zone-on .ensures in
     let e : t ≡ placeByte p (placeOf p 0 (zoneOn g 0) 0) = block-byte .ensures .0 ∙ ap (λ (x : ℕ). placeByte p (placeOf p 0 x 0)) z in
     c .header-serial .ensures
-    ∙ ap headerSerial (part-lent t (p .B) im ∙ ap (λ (x : ℕ). part x (p .B) im) e
-    ∙ sym (block-view p (mkDisk im ps) 0 (zoneOn g 0) (omega (arith, r .drives-low)) (zone-on-lt p g 0 (seg-named p (a .segment) (q .1 .1)))
+    ∙ ap (headerSerial p) (part-lent t (p .B) im ∙ ap (λ (x : ℕ). part x (p .B) im) e
+    ∙ sym (block-view p (mkDisk im ps) 0 (zoneOn g 0) (omega (arith, r .drives-low)) (q .1 .1)
     (record { image-long = q .1 .0; pointers-long = h }) 0 (omega (arith, capacity-low p r))))
 
 pub serial-at-spec : {M : Type 1} → statement M

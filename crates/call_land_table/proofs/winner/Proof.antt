@@ -1,6 +1,6 @@
 -- `winner`: the best of b and positions k on is the best of the table's and all; a turn lets position k compete (`winner-turn`). Assumes nothing.
 use Prim.Native.Nat.{_-_, _≤_}
-use Rattle.spec.specs.Drives.{View, viewOf, seg}
+use Rattle.spec.specs.Drives.{View, viewOf}
 use Rattle.spec.specs.Landing.{held, landedCand, landedCands}
 use Rattle.spec.specs.Lists.{upFrom, Opt}
 use Rattle.spec.specs.Memory.{filledIn}
@@ -18,8 +18,8 @@ use Rattle.call_land_table.proofs.winner.Tie as tie
 abbrev Inv-loop : tie.InvT-loop
 Inv-loop p image pointers addresses segment serial row address n b₀ k₀ b k =
     (n ≡ filledIn (alone row) 0) × (k ≤ n)
-    × (best (rankedBest b) (candsOf (address .0) (map (landedCand p (viewOf p image pointers) (seg segment) (alone row) 0) (upFrom k (n - k))))
-    ≡ best (held p (viewOf p image pointers) addresses (address .0)) (candsOf (address .0) (landedCands p (viewOf p image pointers) (seg segment) (alone row) 0)))
+    × (best (rankedBest b) (candsOf (address .0) (map (landedCand p (viewOf p image pointers) segment (alone row) 0) (upFrom k (n - k))))
+    ≡ best (held p (viewOf p image pointers) addresses (address .0)) (candsOf (address .0) (landedCands p (viewOf p image pointers) segment (alone row) 0)))
 
 abbrev μ-loop : tie.MeasureT-loop
 μ-loop p image pointers addresses segment serial row address n b₀ k₀ b k = n - k
@@ -39,8 +39,8 @@ loop-holds c =
     let e = c .before .filled-in .ensures in (
       e,
       omega arith,
-      rest-first (a .p) v (seg (a .segment)) (alone (a .row)) 0 (a .address .0) (rankedBest (c .held .result)) (c .before .filled-in .result) e
-          ∙ ap (λ (x : Opt Cand). best x (candsOf (a .address .0) (landedCands (a .p) v (seg (a .segment)) (alone (a .row)) 0))) (c .held .ensures),
+      rest-first (a .p) v (a .segment) (alone (a .row)) 0 (a .address .0) (rankedBest (c .held .result)) (c .before .filled-in .result) e
+          ∙ ap (λ (x : Opt Cand). best x (candsOf (a .address .0) (landedCands (a .p) v (a .segment) (alone (a .row)) 0))) (c .held .ensures),
     )
 
 compete-requires : tie.Need-compete-requires Inv-loop μ-loop
@@ -64,7 +64,7 @@ loop-again c =
     let n = filled-in .result in (
       l .inv .0,
       omega arith,
-      winner-turn (a .p) v (seg (a .segment)) (alone (a .row)) 0 (a .address .0) (rankedBest (l .b)) (rankedBest (c .compete .result)) (l .k) n (omega (arith, c .before .loop-test .taken))
+      winner-turn (a .p) v (a .segment) (alone (a .row)) 0 (a .address .0) (rankedBest (l .b)) (rankedBest (c .compete .result)) (l .k) n (omega (arith, c .before .loop-test .taken))
           (λ cs. c .compete .ensures v cs (pre .1 .1 .1 .1)) ∙ l .inv .2,
     )
 
@@ -79,7 +79,7 @@ returns c =
     let v : View = viewOf (a .p) (a .image .now) (a .pointers .now) in
     let n = filled-in .result in
     c .place-or .ensures
-    ∙ ap placeOr (sym (rest-last (a .p) v (seg (a .segment)) (alone (a .row)) 0 (a .address .0) (rankedBest (l .b)) (l .k) n (omega (arith, c .before .loop-test .left))) ∙ l .inv .2)
+    ∙ ap placeOr (sym (rest-last (a .p) v (a .segment) (alone (a .row)) 0 (a .address .0) (rankedBest (l .b)) (l .k) n (omega (arith, c .before .loop-test .left))) ∙ l .inv .2)
 
 pub winner-spec : {M : Type 1} → statement M
 winner-spec =

@@ -1,7 +1,7 @@
 -- `winners`: the first k places are the winners of addresses below L; a turn sets the next one (`set-winner`) or leaves one not below L. Assumes nothing.
 use Rattle.call_land_chunk.specs.Alone.{alone}
 use Prim.Native.Nat.{ℕ, _+_, _-_, _≤_, _<_}
-use Rattle.spec.specs.Drives.{View, viewOf, seg}
+use Rattle.spec.specs.Drives.{View, viewOf}
 use Rattle.spec.specs.Landing.{landedCands}
 use Rattle.spec.specs.Layout.{Rec}
 use Rattle.spec.specs.Memory.{filledIn, entryIn, placeAt}
@@ -19,7 +19,7 @@ abbrev Inv-loop : tie.InvT-loop
 Inv-loop p image pointers addresses segment serial row n out₀ k₀ out k =
     (n ≡ filledIn (alone row) 0) × (k ≤ n) × (length out ≡ 8)
     × ((h : ℕ) → h < k → entryIn (alone row) 0 h .address < p .L
-    → getD out h 0 ≡ winnerOf p (viewOf p image pointers) addresses (landedCands p (viewOf p image pointers) (seg segment) (alone row) 0) (entryIn (alone row) 0 h .address))
+    → getD out h 0 ≡ winnerOf p (viewOf p image pointers) addresses (landedCands p (viewOf p image pointers) segment (alone row) 0) (entryIn (alone row) 0 h .address))
 
 abbrev μ-loop : tie.MeasureT-loop
 μ-loop p image pointers addresses segment serial row n out₀ k₀ out k = n - k
@@ -84,7 +84,7 @@ loop-again c =
     let i : ℕ = 0 in
     let k = l .k in
     let v : View = viewOf p (a .image .now) (a .pointers .now) in
-    let f : ℕ → ℕ = winnerOf p v (a .addresses .now) (landedCands p v (seg (a .segment)) st i) in
+    let f : ℕ → ℕ = winnerOf p v (a .addresses .now) (landedCands p v (a .segment) st i) in
     let m : k < 8 = low (at) in
     let e : entry .result .address .0 ≡ entryIn st i k .address = ap (λ (r : Rec). r .address) (entry .ensures) in
     let g : length (c .if1 .out) ≡ 8 = ⊎-elim (λ w. ap length (w .2) ∙ length-set (l .out) k (w .1 .result .0) ∙ l .inv .2) (λ w. ap length (w .1) ∙ l .inv .2) (c .if1 .came) in

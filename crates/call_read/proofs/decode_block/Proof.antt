@@ -5,18 +5,18 @@ use native.Mathlib.Omega.{arith}
 use borrow.Author.Needs.{needs}
 use lib.ListN.{length, getD, length-set}
 use Rattle.spec.specs.Bytes.{part}
-use Rattle.spec.specs.Drives.{viewOf, chunkAt, zoneOn, seg}
+use Rattle.spec.specs.Drives.{viewOf, chunkAt, zoneOn}
 use Rattle.law_basic.specs.Each.{set-next}
 use Rattle.law_basic.specs.Geometry.{ranged, data-below}
-use Rattle.law_basic.specs.Segs.{zone-on-lt, seg-named}
 use Rattle.law_code.specs.Code.{decode-block-same}
 use Rattle.call_read.specs.Decode.{BlockAt, block-begins}
 use Rattle.call_read.proofs.decode_block.Statement.{statement}
 use Rattle.call_read.proofs.decode_block.Tie as tie
+use Rattle.law_basic.specs.Segs.{low-here}
 
 abbrev Inv-loop : tie.InvT-loop
 Inv-loop p image gone drive segment s at block bytes₀ d₀ bytes d =
-    (d ≤ p .N) × (length bytes ≡ 8) × ((e : ℕ) → e < d → BlockAt p image (seg segment) e (getD at e 0) (getD bytes e 0))
+    (d ≤ p .N) × (length bytes ≡ 8) × ((e : ℕ) → e < d → BlockAt p image segment e (getD at e 0) (getD bytes e 0))
 
 abbrev μ-loop : tie.MeasureT-loop
 μ-loop p image gone drive segment s at block bytes₀ d₀ bytes d = p .N - d
@@ -55,7 +55,7 @@ block-byte-requires c κs =
       o .pre .0,
       (
         c .before .before .if1 .taken,
-        rw (c .before .zone-on .ensures) (zone-on-lt (a .p) (seg (a .segment)) (c .before .before .before .before .loop .d) (seg-named (a .p) (a .segment) (o .pre .1 .3))),
+        rw (c .before .zone-on .ensures) (low-here (a .p) (a .segment) (c .before .before .before .before .loop .d) (o .pre .1 .3) (c .before .before .if1 .taken)),
         data-below (a .p) (ranged (a .p) (o .pre .0)) _ (omega (arith, low c)),
       ),
     )
@@ -86,10 +86,10 @@ loop-again c =
     let high = ranged (a .p) (o .pre .0) .drives-high in (
       omega (arith, t),
       length-set (l .bytes) (l .d) (c .block-byte .result) ∙ l .inv .1,
-      set-next (λ e y. BlockAt (a .p) (a .image .now) (seg (a .segment)) e (getD (a .at .now) e 0) y) (l .bytes) (l .d) (c .block-byte .result)
+      set-next (λ e y. BlockAt (a .p) (a .image .now) (a .segment) e (getD (a .at .now) e 0) y) (l .bytes) (l .d) (c .block-byte .result)
           (omega (arith, t, high, l .inv .1)) (l .inv .2)
-          (block-begins (a .p) (a .image .now) (seg (a .segment)) (l .d) (getD (a .at .now) (l .d) 0) (c .block-byte .result) (o .pre .0) (o .pre .1 .0) t
-          (seg-named (a .p) (a .segment) (o .pre .1 .3)) (low (c .before)) (zone .result) (zone .ensures) (c .block-byte .ensures .0) (c .block-byte .ensures .1)),
+          (block-begins (a .p) (a .image .now) (a .segment) (l .d) (getD (a .at .now) (l .d) 0) (c .block-byte .result) (o .pre .0) (o .pre .1 .0) t
+          (low-here (a .p) (a .segment) (l .d) (o .pre .1 .3) t) (low (c .before)) (zone .result) (zone .ensures) (c .block-byte .ensures .0) (c .block-byte .ensures .1)),
     )
 
 slice-aggregate-decode-block : tie.Need-slice-aggregate-decode-block Inv-loop μ-loop
@@ -114,7 +114,7 @@ returns c =
     let e : l .d ≡ p .N = omega (arith, c .before .before .before .before .before .if1 .left, l .inv .0) in
     λ ps h. c .before .before .decode-block .ensures
     ∙ decode-block-same p (a .gone) (a .s) (a .drive) (λ k. part (getD (l .bytes) k 0) (p .B) (a .image .now))
-    (λ k. chunkAt (viewOf p (a .image .now) ps) k (zoneOn (seg (a .segment)) k) (1 + getD (a .at .now) k 0) .block) (λ k i n. sym (l .inv .2 k (omega (arith, i, e)) .1 ps h))
+    (λ k. chunkAt (viewOf p (a .image .now) ps) k (zoneOn (a .segment) k) (1 + getD (a .at .now) k 0) .block) (λ k i n. sym (l .inv .2 k (omega (arith, i, e)) .1 ps h))
 
 pub decode-block-spec : {M : Type 1} → statement M
 decode-block-spec =

@@ -5,7 +5,7 @@ use Prim.Native.Nat.{ℕ, _-_, _≤_, _<_}
 use native.Mathlib.Omega.{arith}
 use borrow.Author.Needs.{needs}
 use lib.ListN.{length, getD, length-set}
-use Rattle.spec.specs.Drives.{viewOf, recordAt, seg}
+use Rattle.spec.specs.Drives.{viewOf, recordAt}
 use Rattle.spec.specs.Layout.{Rec, mkRec}
 use Rattle.spec.specs.Lists.{isIn}
 use Rattle.law_basic.specs.Each.{set-next}
@@ -20,8 +20,8 @@ Inv-loop p image pointers gone drive segment s at full addresses₀ stamps₀ d�
     (d ≤ p .N)
     × (length addresses ≡ 8)
     × (length stamps ≡ 8)
-    × ((e : ℕ) → e < d → isIn gone e ≡ false → getD addresses e 0 ≡ recordAt p (viewOf p image pointers) gone e (seg segment) (getD at e 0) .address)
-    × ((e : ℕ) → e < d → isIn gone e ≡ false → getD stamps e 0 ≡ recordAt p (viewOf p image pointers) gone e (seg segment) (getD at e 0) .stamp)
+    × ((e : ℕ) → e < d → isIn gone e ≡ false → getD addresses e 0 ≡ recordAt p (viewOf p image pointers) gone e segment (getD at e 0) .address)
+    × ((e : ℕ) → e < d → isIn gone e ≡ false → getD stamps e 0 ≡ recordAt p (viewOf p image pointers) gone e segment (getD at e 0) .stamp)
 
 abbrev μ-loop : tie.MeasureT-loop
 μ-loop p image pointers gone drive segment s at full addresses₀ stamps₀ d₀ addresses stamps d = p .N - d
@@ -86,9 +86,9 @@ loop-again c =
     let high = ranged (a .p) (o .pre .0) .drives-high in
     let r = c .record-on .result in
     let v = viewOf (a .p) (a .image .now) (a .pointers .now) in
-    let at : ℕ → Rec = λ e. recordAt (a .p) v (a .gone) e (seg (a .segment)) (getD (a .at .now) e 0) in
+    let at : ℕ → Rec = λ e. recordAt (a .p) v (a .gone) e (a .segment) (getD (a .at .now) e 0) in
     let same : isIn (a .gone) (l .d) ≡ false → mkRec (r .address .0) (r .stamp .0) (r .stripe) ≡ at (l .d) =
-    λ n. record-as-sealed (a .p) v (a .gone) (l .d) (seg (a .segment)) (getD (a .at .now) (l .d) 0) (sealed .result) (sealed .ensures (a .image .now) (w .image-long))
+    λ n. record-as-sealed (a .p) v (a .gone) (l .d) (a .segment) (getD (a .at .now) (l .d) 0) (sealed .result) (sealed .ensures (a .image .now) (w .image-long))
     _ (c .record-on .ensures (a .pointers .now) (w .pointers-long) n) in (
       omega (arith, t),
       length-set (l .addresses) (l .d) (r .address .0) ∙ l .inv .1,
@@ -124,7 +124,7 @@ returns c =
     let e : l .d ≡ a .p .N = omega (arith, c .before .before .before .if1 .left, l .inv .0) in
     c .decode-record .ensures
     ∙ decode-rec-same (a .p) (a .gone) (a .s) (a .drive) (λ k. mkRec (getD (l .addresses) k 0) (getD (l .stamps) k 0) (a .s))
-    (λ k. recordAt (a .p) v (a .gone) k (seg (a .segment)) (getD (a .at .now) k 0)) (λ k h n. (l .inv .3 k (omega (arith, h, e)) n, l .inv .4 k (omega (arith, h, e)) n))
+    (λ k. recordAt (a .p) v (a .gone) k (a .segment) (getD (a .at .now) k 0)) (λ k h n. (l .inv .3 k (omega (arith, h, e)) n, l .inv .4 k (omega (arith, h, e)) n))
 
 pub decode-record-spec : {M : Type 1} → statement M
 decode-record-spec =

@@ -1,14 +1,14 @@
 -- `record_on`: of a missing drive nothing is asked; else `record_in` reads the record in the segment's zone there. Assumes nothing.
 use mathlib.Core.Path.{_≡_, sym, ap, _∙_}
-use mathlib.Core.Bool.{true}
+use mathlib.Core.Bool.{true, false}
 use Prim.Native.Nat.{ℕ}
 use borrow.Author.Needs.{needs}
-use Rattle.spec.specs.Drives.{viewOf, zoneAt, recordIn, seg}
+use Rattle.spec.specs.Drives.{viewOf, zoneAt, recordIn}
 use Rattle.spec.specs.Lists.{isIn}
 use Rattle.law_basic.specs.Ranges.{not-both}
-use Rattle.law_basic.specs.Segs.{zone-on-lt, seg-named}
 use Rattle.call_read.proofs.record_on.Statement.{statement}
 use Rattle.call_read.proofs.record_on.Tie as tie
+use Rattle.law_basic.specs.Segs.{low-zone}
 
 has-drive-requires : tie.Need-has-drive-requires
 has-drive-requires c κs = search needs
@@ -26,7 +26,8 @@ record-in-requires : tie.Need-record-in-requires
 record-in-requires c κs =
     let a = c .before .before .before .before .args in
     let q = c .before .before .before .before .pre in
-    (q .0, (q .1 .0, q .1 .1, rw (c .zone-on .ensures) (zone-on-lt (a .p) (seg (a .segment)) (a .drive) (seg-named (a .p) (a .segment) (q .1 .2))), q .1 .3))
+    let n : isIn (a .gone) (a .drive) ≡ false = sym (c .before .before .has-drive .ensures) ∙ c .before .if1 .left in
+    (q .0, (q .1 .0, q .1 .1, rw (c .zone-on .ensures) (low-zone (a .p) (a .gone) (a .segment) (a .drive) (q .1 .2) (q .1 .1) n), q .1 .3))
 
 returns-2 : tie.Need-returns-2
 returns-2 c =

@@ -4,7 +4,7 @@ use Prim.Native.Nat.{ℕ, _-_, _≤_, _<_}
 use mathlib.Core.List.{List}
 use native.Mathlib.Omega.{arith}
 use lib.ListN.{length, getD, length-set}
-use Rattle.spec.specs.Drives.{viewOf, seg}
+use Rattle.spec.specs.Drives.{viewOf}
 use Rattle.spec.specs.Params.{imageLen}
 use Rattle.law_basic.specs.Each.{set-next}
 use Rattle.law_basic.specs.Geometry.{ranged}
@@ -16,7 +16,7 @@ abbrev Inv-loop : tie.InvT-loop
 Inv-loop p pointers gone compact segment s at₀ d₀ at d =
     (d ≤ p .N)
     × (length at ≡ length at₀)
-    × ((e : ℕ) → e < d → (im : List ℕ) → length im ≡ imageLen p → ShownOn p (viewOf p im pointers) gone compact (seg segment) s e (getD at e 0))
+    × ((e : ℕ) → e < d → (im : List ℕ) → length im ≡ imageLen p → ShownOn p (viewOf p im pointers) gone compact segment s e (getD at e 0))
 
 abbrev μ-loop : tie.MeasureT-loop
 μ-loop p pointers gone compact segment s at₀ d₀ at d = p .N - d
@@ -54,7 +54,7 @@ loop-again c =
     let d = ranged (a .p) (o .pre .0) .drives-high in (
       omega (arith, t),
       length-set (l .at) (l .d) (c .shown-on .result) ∙ l .inv .1,
-      set-next (λ e y. (im : List ℕ) → length im ≡ imageLen (a .p) → ShownOn (a .p) (viewOf (a .p) im (a .pointers .now)) (a .gone) (a .compact .now) (seg (a .segment)) (a .s) e y)
+      set-next (λ e y. (im : List ℕ) → length im ≡ imageLen (a .p) → ShownOn (a .p) (viewOf (a .p) im (a .pointers .now)) (a .gone) (a .compact .now) (a .segment) (a .s) e y)
           (l .at) (l .d) (c .shown-on .result) (omega (arith, t, d, l .inv .1, o .pre .1 .0 .2)) (l .inv .2) (c .shown-on .ensures),
     )
 

@@ -5,14 +5,14 @@ use Prim.Native.Nat.{ℕ}
 use native.Mathlib.Omega.{arith}
 use borrow.Author.Needs.{needs}
 use borrow.Author.Tests.{ne-eqb}
-use Rattle.spec.specs.Drives.{viewOf, zoneOn, seg}
+use Rattle.spec.specs.Drives.{viewOf, zoneOn}
 use Rattle.spec.specs.Lists.{isNil, firstOr, isIn}
 use Rattle.spec.specs.Memory.{shownAt}
 use Rattle.law_basic.specs.Geometry.{ranged}
 use Rattle.law_basic.specs.Ranges.{not-both}
-use Rattle.law_basic.specs.Segs.{zone-on-lt, seg-named}
 use Rattle.call_read.proofs.shown_on.Statement.{statement}
 use Rattle.call_read.proofs.shown_on.Tie as tie
+use Rattle.law_basic.specs.Segs.{low-zone}
 
 has-drive-requires : tie.Need-has-drive-requires
 has-drive-requires c κs = search needs
@@ -26,7 +26,7 @@ returns c =
     λ im h. record {
       low = omega arith;
       hidden = ne-eqb 0 (a .p .S) (λ e. let w : ⊥ = omega (arith, e, r .stripes-low) in w)
-          ∙ sym (ap (λ (x : Bool). not x && isNil (shownAt (a .p) (viewOf (a .p) im (a .pointers .now)) (a .compact .now) (a .drive) (zoneOn (seg (a .segment)) (a .drive)) (a .s))) t);
+          ∙ sym (ap (λ (x : Bool). not x && isNil (shownAt (a .p) (viewOf (a .p) im (a .pointers .now)) (a .compact .now) (a .drive) (zoneOn (a .segment) (a .drive)) (a .s))) t);
       first = λ e. absurd (not-both (isIn (a .gone) (a .drive)) t e);
     }
 
@@ -37,7 +37,8 @@ shown-at-requires : tie.Need-shown-at-requires
 shown-at-requires c κs =
     let a = c .before .before .before .before .before .args in
     let q = c .before .before .before .before .before .pre in
-    (q .0, (q .1 .0, (q .1 .1 .0, rw (c .zone-on .ensures) (zone-on-lt (a .p) (seg (a .segment)) (a .drive) (seg-named (a .p) (a .segment) (q .1 .1 .1))), q .1 .1 .2)))
+    let n : isIn (a .gone) (a .drive) ≡ false = sym (c .before .before .has-drive .ensures) ∙ c .before .if1 .left in
+    (q .0, (q .1 .0, (q .1 .1 .0, rw (c .zone-on .ensures) (low-zone (a .p) (a .gone) (a .segment) (a .drive) (q .1 .1 .1) (q .1 .1 .0) n), q .1 .1 .2)))
 
 returns-2 : tie.Need-returns-2
 returns-2 c =
@@ -49,7 +50,7 @@ returns-2 c =
     record {
       low = c .shown-at .ensures .1 .1;
       hidden = c .shown-at .ensures .1 .0 im h ∙ ap (λ (x : ℕ). isNil (shownAt (a .p) v (a .compact .now) (a .drive) x (a .s))) z
-          ∙ sym (ap (λ (x : Bool). not x && isNil (shownAt (a .p) v (a .compact .now) (a .drive) (zoneOn (seg (a .segment)) (a .drive)) (a .s))) n);
+          ∙ sym (ap (λ (x : Bool). not x && isNil (shownAt (a .p) v (a .compact .now) (a .drive) (zoneOn (a .segment) (a .drive)) (a .s))) n);
       first = λ e. c .shown-at .ensures .0 im h ∙ ap (λ (x : ℕ). firstOr (a .p .S) (shownAt (a .p) v (a .compact .now) (a .drive) x (a .s))) z;
     }
 

@@ -2,7 +2,7 @@
 -- `reclaim-clear`, one to copy `reclaim-copy`. Assumes nothing.
 use Rattle.spec.specs.Calls.{outcome}
 use Rattle.spec.specs.Calls.Verdict.{due}
-use Rattle.spec.specs.Drives.{View, viewOf, Disk, mkDisk, storeDisk, seg}
+use Rattle.spec.specs.Drives.{View, viewOf, Disk, mkDisk, storeDisk, across}
 use Rattle.spec.specs.Lists.Opt.{some}
 use Rattle.spec.specs.Memory.{Memory, mkMemory, stateOf}
 use Rattle.spec.specs.Reclaim.{victim, copyPlan}
@@ -152,7 +152,7 @@ returns-2 c =
     let a = s .args in
     let h = chosen (at-13) _ (q .1) in
     r .ensures (a .state) (a .image .now) (a .inflight .now) (at-20 .front-of .ensures)
-    ∙ reclaim-clear (a .p) (disk s) (memory s (a .state)) (a .count) (seg (q .0 .0)) (h .0) (h .1) (h .2)
+    ∙ reclaim-clear (a .p) (disk s) (memory s (a .state)) (a .count) (across (a .p) (q .0 .0)) (h .0) (h .1) (h .2)
 
 same-length-11 : tie.Need-same-length-11
 same-length-11 c = search needs

@@ -1,9 +1,9 @@
 -- The numbers read before the stores name the segments that `moves-view` speaks of; behind all stores the view is as it says, and keeps-moved and serials-moved change the arrays.
-use Prim.Native.Nat.{ℕ, suc, _+_}
-use Rattle.spec.specs.Drives.{View, Disk, mkDisk, seg}
+use Prim.Native.Nat.{ℕ, suc, _+_, _<_}
+use Rattle.spec.specs.Drives.{View, Disk, mkDisk, across}
 use Rattle.spec.specs.Segments.{segments, greatestSerial}
 use Rattle.law_basic.specs.Geometry.{ranged}
-use Rattle.law_basic.specs.Segs.{named-lt}
+use Rattle.law_basic.specs.Segs.{number-lt}
 use Rattle.law_drives.specs.Mended.{serials-small}
 use Rattle.call_restart.specs.Stays.{MovedView, keeps-moved, serials-moved, restart-serial-left, moves-view, view-behind}
 use Rattle.law_views.specs.Views.{seen}
@@ -50,9 +50,9 @@ slice-write-kept c =
     let v : View = seen (a .p) (mkDisk (a .image .now) (a .pointers .now)) in
     let g = first-unsealed in
     let z = lowest-free in
-    let m = moves-view (a .p) (ranged (a .p) (q .0)) v (q .1 .1 .1 .0 .0) (q .1 .1 .1 .0 .1) (seg (g .result)) (seg (z .result))
+    let m = moves-view (a .p) (ranged (a .p) (q .0)) v (q .1 .1 .1 .0 .0) (q .1 .1 .1 .0 .1) (across (a .p) (g .result)) (across (a .p) (z .result))
     (g .ensures .1 (a .image .now) (q .1 .0 .image-long) (f .0)) (z .ensures .1 v 0 (f .0)) in
-    omega (arith, named-lt (a .p) (seg (g .result)) (m .old-low), f .0 .0)
+    omega (arith, number-lt (a .p) (omega (arith, ranged (a .p) (q .0) .drives-low)) (g .result) (m .old-low), f .0 .0)
 
 slice-write-kept-2 : tie.Need-slice-write-kept-2
 slice-write-kept-2 c =
@@ -67,9 +67,9 @@ slice-write-kept-2 c =
     let v : View = seen (a .p) (mkDisk (a .image .now) (a .pointers .now)) in
     let g = first-unsealed in
     let z = lowest-free in
-    let m = moves-view (a .p) (ranged (a .p) (q .0)) v (q .1 .1 .1 .0 .0) (q .1 .1 .1 .0 .1) (seg (g .result)) (seg (z .result))
+    let m = moves-view (a .p) (ranged (a .p) (q .0)) v (q .1 .1 .1 .0 .0) (q .1 .1 .1 .0 .1) (across (a .p) (g .result)) (across (a .p) (z .result))
     (g .ensures .1 (a .image .now) (q .1 .0 .image-long) (f .0)) (z .ensures .1 v 0 (f .0)) in
-    omega (arith, named-lt (a .p) (seg (z .result)) (m .new-low), f .0 .0, length-set (a .kept .now) (g .result) false)
+    omega (arith, number-lt (a .p) (omega (arith, ranged (a .p) (q .0) .drives-low)) (z .result) (m .new-low), f .0 .0, length-set (a .kept .now) (g .result) false)
 
 add-serials : tie.Need-add-serials
 add-serials c =
@@ -99,9 +99,9 @@ mul-serials c =
     let v : View = seen (a .p) (mkDisk (a .image .now) (a .pointers .now)) in
     let g = first-unsealed in
     let z = lowest-free in
-    let m = moves-view (a .p) (ranged (a .p) (q .0)) v (q .1 .1 .1 .0 .0) (q .1 .1 .1 .0 .1) (seg (g .result)) (seg (z .result))
+    let m = moves-view (a .p) (ranged (a .p) (q .0)) v (q .1 .1 .1 .0 .0) (q .1 .1 .1 .0 .1) (across (a .p) (g .result)) (across (a .p) (z .result))
     (g .ensures .1 (a .image .now) (q .1 .0 .image-long) (f .0)) (z .ensures .1 v 0 (f .0)) in
-    omega (arith, named-lt (a .p) (seg (z .result)) (m .new-low), ranged (a .p) (q .0) .zones-high)
+    omega (arith, number-lt (a .p) (omega (arith, ranged (a .p) (q .0) .drives-low)) (z .result) (m .new-low), ranged (a .p) (q .0) .zones-high)
 
 slice-write-serials : tie.Need-slice-write-serials
 slice-write-serials c =
@@ -116,9 +116,9 @@ slice-write-serials c =
     let v : View = seen (a .p) (mkDisk (a .image .now) (a .pointers .now)) in
     let g = first-unsealed in
     let z = lowest-free in
-    let m = moves-view (a .p) (ranged (a .p) (q .0)) v (q .1 .1 .1 .0 .0) (q .1 .1 .1 .0 .1) (seg (g .result)) (seg (z .result))
+    let m = moves-view (a .p) (ranged (a .p) (q .0)) v (q .1 .1 .1 .0 .0) (q .1 .1 .1 .0 .1) (across (a .p) (g .result)) (across (a .p) (z .result))
     (g .ensures .1 (a .image .now) (q .1 .0 .image-long) (f .0)) (z .ensures .1 v 0 (f .0)) in
-    omega (arith, named-lt (a .p) (seg (z .result)) (m .new-low), f .1 .0)
+    omega (arith, number-lt (a .p) (omega (arith, ranged (a .p) (q .0) .drives-low)) (z .result) (m .new-low), f .1 .0)
 
 same-length : tie.Need-same-length
 same-length c =
@@ -160,24 +160,25 @@ returns c =
     let f = q .1 .1 .0 in
     let p = a .p in
     let r = ranged p (q .0) in
+    let h0 : 0 < p .N = omega (arith, r .drives-low) in
     let k : Disk = mkDisk (a .image .now) (a .pointers .now) in
     let v : View = seen p k in
     let g = first-unsealed in
     let z = lowest-free in
     let x = healthy-stores in
     let k′ : Disk = mkDisk (x .last .1 .0) (x .last .1 .1 .0) in
-    let m = moves-view p r v (q .1 .1 .1 .0 .0) (q .1 .1 .1 .0 .1) (seg (g .result)) (seg (z .result))
+    let m = moves-view p r v (q .1 .1 .1 .0 .0) (q .1 .1 .1 .0 .1) (across p (g .result)) (across p (z .result))
     (g .ensures .1 (a .image .now) (q .1 .0 .image-long) (f .0)) (z .ensures .1 v 0 (f .0)) in
     let n : suc (greatestSerial (segments p v 0)) ≡ greatest-serial .result .0 + 1 =
     sym (add-one (greatestSerial (segments p v 0))) ∙ ap (λ (i : ℕ). i + 1) (sym (greatest-serial .ensures v 0 (f .0) (f .1))) in (
       x .ensures,
       λ c.
           let e = view-behind p r (a .count) k (q .1 .0) (q .1 .1 .1 .0 .0) (x .result) k′ (x .ensures) c in
-          let u : MovedView p v (seen p k′) (seg (g .result)) (seg (z .result)) (greatest-serial .result .0 + 1) =
-          subst (λ (i : ℕ). MovedView p v (seen p k′) (seg (g .result)) (seg (z .result)) i) n
-          (subst (λ (y : View). MovedView p v y (seg (g .result)) (seg (z .result)) (suc (greatestSerial (segments p v 0)))) (sym e) m) in (
-            keeps-moved p v (seen p k′) (g .result) (z .result) (greatest-serial .result .0 + 1) (a .kept .now) u (f .0),
-            serials-moved p v (seen p k′) (seg (g .result)) (z .result) (greatest-serial .result .0 + 1) (a .serials .now) u (f .1),
+          let u : MovedView p v (seen p k′) (across p (g .result)) (across p (z .result)) (greatest-serial .result .0 + 1) =
+          subst (λ (i : ℕ). MovedView p v (seen p k′) (across p (g .result)) (across p (z .result)) i) n
+          (subst (λ (y : View). MovedView p v y (across p (g .result)) (across p (z .result)) (suc (greatestSerial (segments p v 0)))) (sym e) m) in (
+            keeps-moved p v (seen p k′) (g .result) (z .result) (greatest-serial .result .0 + 1) (a .kept .now) h0 u (f .0),
+            serials-moved p v (seen p k′) (across p (g .result)) (z .result) (greatest-serial .result .0 + 1) (a .serials .now) h0 u (f .1),
           ),
     )
 

@@ -72,7 +72,7 @@ returns-5 c =
     (here-plain (args .p) v (args .gone) (args .e) x (zone-none (args .p) v (args .gone) (args .e) x (omega (arith, if1 .left))) (if2 .left)
     ∙ sym (is-ragged .ensures)
     ∙ not-false (is-ragged .result) (if3 .left)) (λ q. if4 .left ((greatest-serial .ensures v (args .gone) kp sr) ∙ q))
-    (lowest-free .result) (lowest-free .ensures .1 v (args .gone) kp) (c .if5 .taken)
+    (x .drives) (lowest-free .result) (lowest-free .ensures .1 v (args .gone) kp) (c .if5 .taken)
 
 returns-6 : tie.Need-returns-6
 returns-6 c =
@@ -89,7 +89,7 @@ returns-6 c =
     (here-plain (args .p) v (args .gone) (args .e) x (zone-none (args .p) v (args .gone) (args .e) x (omega (arith, if1 .left))) (if2 .left)
     ∙ sym (is-ragged .ensures)
     ∙ not-false (is-ragged .result) (if3 .left)) (λ q. if4 .left ((greatest-serial .ensures v (args .gone) kp sr) ∙ q))
-    (lowest-free .result) (lowest-free .ensures .1 v (args .gone) kp) (omega (arith, c .if5 .left))
+    (x .drives) (lowest-free .result) (lowest-free .ensures .1 v (args .gone) kp) (omega (arith, c .if5 .left))
 
 pub rest-checks-spec : {M : Type 1} → statement M
 rest-checks-spec =

@@ -13,7 +13,7 @@ matches-header-requires : tie.Need-matches-header-requires
 matches-header-requires c κs =
     let args = c .before .before .args in
     let pre = c .before .before .pre in
-    (pre .0, pre .1, omega (arith, unit-high (args .p) (ranged (args .p) (pre .0)), spare-len))
+    (pre .0, pre .1, omega (arith, unit-high (args .p) (ranged (args .p) (pre .0)), spare-len), pre .2)
 
 returns : tie.Need-returns
 returns c = search needs

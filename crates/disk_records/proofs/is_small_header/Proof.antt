@@ -18,7 +18,7 @@ slice-aggregate-matches-header c = search needs
 matches-header-requires : tie.Need-matches-header-requires
 matches-header-requires c κs =
     let h = c .before .before .pre in
-    (h .0, h .1, omega (arith, small (c .before .before .args .p) (h .2), spare-len))
+    (h .0, h .1, omega (arith, small (c .before .before .args .p) (h .2), spare-len), h .3)
 
 returns : tie.Need-returns
 returns c = search needs

@@ -5,7 +5,7 @@ use native.Mathlib.Omega.{arith}
 use borrow.Author.Needs.{needs}
 use lib.Seq.{length-take-le, take-at}
 use lib.ListN.{length, take, drop}
-use Rattle.spec.specs.Drives.{zeroSpare}
+use Rattle.spec.specs.Drives.{zeroSpare, zonesIn}
 use Rattle.spec.specs.Engine.Call.{close}
 use Rattle.spec.specs.Layout.{headerBlock}
 use Rattle.spec.specs.Lists.{sameList}
@@ -39,7 +39,7 @@ write-header-requires c κs =
     let s = a .scratch .now in
     let n = c .before .unit-len .result in
     let t : length (take n s) ≡ n = length-take-le n s (omega (arith, c .before .unit-len .ensures .0, h .2)) in
-    (h .0, t ∙ c .before .unit-len .ensures .0)
+    (h .0, t ∙ c .before .unit-len .ensures .0, h .3)
 
 slice-reshare-prefix-same : tie.Need-slice-reshare-prefix-same
 slice-reshare-prefix-same c = search needs
@@ -78,10 +78,10 @@ returns c =
     let w = write-header .last .0 in
     let k : length w ≡ n = write-header .kept .0 ∙ t in
     let e : take n (w ++ drop n s) ≡ w = take-at w (drop n s) n k in
-    let b = headerBlock p (a .drive) (a .zone) (a .serial .0) (a .copied .0) in
+    let b = headerBlock p (a .drive) (zonesIn p (a .segment)) (a .serial .0) (a .copied .0) in
     let r = ranged p (h .0) in
     c .same .ensures ∙ ap (sameList (a .src .now)) (e ∙ write-header .ensures)
-    ∙ same-unit p (a .src .now) b zeroSpare (h .1) (header-block-long p r (a .drive) (a .zone) (a .serial .0) (a .copied .0))
+    ∙ same-unit p (a .src .now) b zeroSpare (h .1) (header-block-long p r (a .drive) (zonesIn p (a .segment)) (a .serial .0) (a .copied .0))
 
 pub matches-header-spec : {M : Type 1} → statement M
 matches-header-spec =

@@ -3,8 +3,7 @@ use mathlib.Core.Path.{ap₂, _∙_}
 use mathlib.Core.Bool.{Bool}
 use Prim.Native.Nat.{ℕ}
 use borrow.Author.Needs.{needs}
-use Rattle.spec.specs.Drives.{viewOf, zoneAt, recordIn, recordAt, seg}
-use Rattle.law_basic.specs.Segs.{zone-on-lt, seg-named}
+use Rattle.spec.specs.Drives.{viewOf, zoneAt, recordIn, recordAt}
 use Rattle.disk_stored.proofs.record_at.Statement.{statement}
 use Rattle.disk_stored.proofs.record_at.Tie as tie
 
@@ -20,7 +19,7 @@ record-in-requires c κs =
     let pre = c .before .before .before .before .pre in
     let h = pre .1 .1 in
     let w = pre .1 .0 in
-    (pre .0, (w .image-long, h .0, rw (c .zone-on .ensures) (zone-on-lt (a .p) (seg (a .segment)) (a .drive) (seg-named (a .p) (a .segment) (h .1))), h .2))
+    (pre .0, (w .image-long, h .0, rw (c .zone-on .ensures) (h .3), h .2))
 
 returns : tie.Need-returns
 unfolding recordAt

@@ -4,23 +4,23 @@ use mathlib.Core.Path.{_≡_, refl, ap, _∙_}
 use Prim.Native.Nat.{ℕ, suc, _-_, _≤_, _<_}
 use native.Mathlib.Omega.{arith}
 use lib.ListN.{length}
-use Rattle.spec.specs.Drives.{Disk, mkDisk, pointerOf, setPointer, storeDisk, zoneOn, zeroSpare, headerStores, seg}
+use Rattle.spec.specs.Drives.{Disk, mkDisk, pointerOf, setPointer, storeDisk, zoneOn, zeroSpare, headerStores, zonesIn}
 use Rattle.spec.specs.Drives.Store.{put}
 use Rattle.spec.specs.Engine.Call.{close}
 use Rattle.spec.specs.Layout.{headerBlock}
 use Rattle.spec.specs.Params.{capacity, pointersLen, drivesOf}
-use Rattle.law_basic.specs.Segs.{zone-on-lt, seg-named}
 use Rattle.law_views.specs.Pointers.{pointer-other-drive}
 use Rattle.disk_zones.specs.Made.{StoresLeft, rest-start, rest-turn, rest-cut, rest-done, put-pointers, headerStore}
 use Rattle.disk_zones.proofs.header_stores.Statement.{statement}
 use Rattle.disk_zones.proofs.header_stores.Tie as tie
+use Rattle.law_basic.specs.Segs.{low-here}
 
 abbrev Inv-loop : tie.InvT-loop
 Inv-loop p image₀ pointers₀ segment serial copied count left₀ d₀ image pointers left d =
     (length image ≡ length image₀)
     × (length pointers ≡ length pointers₀)
-    × ((e : ℕ) → d ≤ e → e < p .N → pointerOf p pointers e (zoneOn (seg segment) e) < capacity p)
-    × StoresLeft p (headerStore p (seg segment) (serial .0) (copied .0)) (p .N) count (mkDisk image₀ pointers₀) d left (mkDisk image pointers)
+    × ((e : ℕ) → d ≤ e → e < p .N → pointerOf p pointers e (zoneOn segment e) < capacity p)
+    × StoresLeft p (headerStore p segment (serial .0) (copied .0)) (p .N) count (mkDisk image₀ pointers₀) d left (mkDisk image pointers)
 
 abbrev μ-loop : tie.MeasureT-loop
 μ-loop p image₀ pointers₀ segment serial copied count left₀ d₀ image pointers left d = p .N - d
@@ -31,7 +31,7 @@ loop-holds c =
       refl,
       refl,
       (λ e _ h. c .before .before .pre .1 .1 .1 e h),
-      rest-start (a .p) (headerStore (a .p) (seg (a .segment)) (a .serial .0) (a .copied .0)) (a .p .N) (a .count)
+      rest-start (a .p) (headerStore (a .p) (a .segment) (a .serial .0) (a .copied .0)) (a .p .N) (a .count)
           (mkDisk (a .image .now) (a .pointers .now)),
     )
 
@@ -52,11 +52,13 @@ returns c =
     let g = pre .1 .1 in
     let k₀ = mkDisk (a .image .now) (a .pointers .now) in
     let k = mkDisk (l .image) (l .pointers) in
-    let f = headerStore p (seg (a .segment)) (a .serial .0) (a .copied .0) in
+    let f = headerStore p (a .segment) (a .serial .0) (a .copied .0) in
     rest-cut p f (p .N) (a .count) k₀ (l .d) (l .left) k (l .inv .3) (omega (arith, c .before .if1 .taken)) (c .if2 .taken)
 
 zone-on-requires : tie.Need-zone-on-requires Inv-loop μ-loop
-zone-on-requires c κs = tt
+zone-on-requires c κs =
+    let pre = c .before .before .before .before .before .before .pre in
+    (pre .0, c .before .if1 .taken)
 
 put-header-requires : tie.Need-put-header-requires Inv-loop μ-loop
 put-header-requires c κs =
@@ -70,12 +72,12 @@ put-header-requires c κs =
     let g = pre .1 .1 in
     let k₀ = mkDisk (a .image .now) (a .pointers .now) in
     let k = mkDisk (l .image) (l .pointers) in
-    let f = headerStore p (seg (a .segment)) (a .serial .0) (a .copied .0) in
+    let f = headerStore p (a .segment) (a .serial .0) (a .copied .0) in
     let z = zone-on .ensures in (
       pre .0,
       (
         record { image-long = l .inv .0 ∙ w .image-long; pointers-long = l .inv .1 ∙ w .pointers-long },
-        (if1 .taken, rw z (zone-on-lt p (seg (a .segment)) (l .d) (seg-named p (a .segment) (g .0))), rw z (l .inv .2 (l .d) (omega arith) (if1 .taken))),
+        (if1 .taken, rw z (low-here p (a .segment) (l .d) (g .0) (if1 .taken)), rw z (l .inv .2 (l .d) (omega arith) (if1 .taken))),
       ),
     )
 
@@ -103,22 +105,22 @@ loop-again c =
     let g = pre .1 .1 in
     let k₀ = mkDisk (a .image .now) (a .pointers .now) in
     let k = mkDisk (l .image) (l .pointers) in
-    let f = headerStore p (seg (a .segment)) (a .serial .0) (a .copied .0) in
+    let f = headerStore p (a .segment) (a .serial .0) (a .copied .0) in
     let z = zone-on .ensures in
     let q = l .d in
-    let b = headerBlock p q (zone-on .result) (a .serial .0) (a .copied .0) in
+    let b = headerBlock p q (zonesIn p (a .segment)) (a .serial .0) (a .copied .0) in
     let k′ = mkDisk (put-header .last .1 .0) (put-header .last .1 .1 .0) in
-    let s : k′ ≡ storeDisk p (f q) k = put-header .ensures ∙ ap (λ (x : ℕ). storeDisk p (put q x (headerBlock p q x (a .serial .0) (a .copied .0)) zeroSpare) k) z in
+    let s : k′ ≡ storeDisk p (f q) k = put-header .ensures ∙ ap (λ (x : ℕ). storeDisk p (put q x (headerBlock p q (zonesIn p (a .segment)) (a .serial .0) (a .copied .0)) zeroSpare) k) z in
     let ps : put-header .last .1 .1 .0 ≡ setPointer p (l .pointers) q (zone-on .result) (suc (pointerOf p (l .pointers) q (zone-on .result))) =
     ap (λ (x : Disk). x .pointers) (put-header .ensures) ∙ put-pointers p q (zone-on .result) b zeroSpare k in
     let long : length (l .pointers) ≡ pointersLen p = l .inv .1 ∙ w .pointers-long in
-    let zl : zone-on .result < p .Z = rw z (zone-on-lt p (seg (a .segment)) q (seg-named p (a .segment) (g .0))) in (
+    let zl : zone-on .result < p .Z = rw z (low-here p (a .segment) q (g .0) (if1 .taken)) in (
       put-header .kept .1 .0 ∙ l .inv .0,
       put-header .kept .1 .1 .0 ∙ l .inv .1,
       (λ e h j.
           let o =
           pointer-other-drive p (l .pointers) q (zone-on .result) (suc (pointerOf p (l .pointers) q (zone-on .result))) (if1 .taken) zl long e
-          (zoneOn (seg (a .segment)) e) j (zone-on-lt p (seg (a .segment)) e (seg-named p (a .segment) (g .0))) (λ r. let x : ⊥ = omega arith in x) in
+          (zoneOn (a .segment) e) j (low-here p (a .segment) e (g .0) j) (λ r. let x : ⊥ = omega arith in x) in
           rw (ps, o) (l .inv .2 e (omega arith) j)),
       rest-turn p f (p .N) (a .count) k₀ q (l .left) k k′ (l .inv .3) (if1 .taken) (omega (arith, if2 .left)) s,
     )
@@ -140,7 +142,7 @@ returns-2 c =
     let g = pre .1 .1 in
     let k₀ = mkDisk (a .image .now) (a .pointers .now) in
     let k = mkDisk (l .image) (l .pointers) in
-    let f = headerStore p (seg (a .segment)) (a .serial .0) (a .copied .0) in
+    let f = headerStore p (a .segment) (a .serial .0) (a .copied .0) in
     rest-done p f (p .N) (a .count) k₀ (l .d) (l .left) k (l .inv .3) (omega (arith, c .if1 .left))
 
 pub header-stores-spec : {M : Type 1} → statement M

@@ -3,12 +3,12 @@ use mathlib.Core.Path.{sym, ap, ap₂, _∙_}
 use mathlib.Core.Bool.{Bool, _||_}
 use borrow.Author.Needs.{needs}
 use lib.Dec.{eqb}
-use Rattle.spec.specs.Drives.{pointerOf, zoneOn, seg}
+use Rattle.spec.specs.Drives.{pointerOf, zoneOn}
 use Rattle.spec.specs.Engine.Call.{close}
 use Rattle.spec.specs.Params.{capacity}
-use Rattle.law_basic.specs.Segs.{zone-on-lt, seg-named}
 use Rattle.disk_zones.proofs.is_full.Statement.{statement}
 use Rattle.disk_zones.proofs.is_full.Tie as tie
+use Rattle.law_basic.specs.Segs.{low-zone}
 
 has-drive-requires : tie.Need-has-drive-requires
 has-drive-requires c κs = search needs
@@ -16,7 +16,7 @@ has-drive-requires c κs = search needs
 returns : tie.Need-returns
 returns c =
     let a = c .before .before .before .args in
-    sym (ap (λ (b : Bool). b || eqb (pointerOf (a .p) (a .pointers .now) (a .drive) (zoneOn (seg (a .segment)) (a .drive))) (capacity (a .p))) (sym (c .before .has-drive .ensures) ∙ c .if1 .taken))
+    sym (ap (λ (b : Bool). b || eqb (pointerOf (a .p) (a .pointers .now) (a .drive) (zoneOn (a .segment) (a .drive))) (capacity (a .p))) (sym (c .before .has-drive .ensures) ∙ c .if1 .taken))
 
 zone-on-requires : tie.Need-zone-on-requires
 zone-on-requires c κs = search needs
@@ -25,7 +25,8 @@ pointer-requires : tie.Need-pointer-requires
 pointer-requires c κs =
     let a = c .before .before .before .before .args in
     let pre = c .before .before .before .before .pre in
-    (pre .0, (pre .1 .0, pre .1 .1, rw (c .zone-on .ensures) (zone-on-lt (a .p) (seg (a .segment)) (a .drive) (seg-named (a .p) (a .segment) (pre .1 .2)))))
+    let here = sym (c .before .before .has-drive .ensures) ∙ c .before .if1 .left in
+    (pre .0, (pre .1 .0, pre .1 .1, rw (c .zone-on .ensures) (low-zone (a .p) (a .gone) (a .segment) (a .drive) (pre .1 .2) (pre .1 .1) here)))
 
 cast-result : tie.Need-cast-result
 cast-result c = search needs
@@ -41,7 +42,7 @@ returns-2 c =
     let has-drive = c .before .before .before .before .has-drive in
     let q = pointerOf (a .p) (a .pointers .now) (a .drive) in
     ap₂ eqb (c .before .pointer .ensures ∙ ap q (zone-on .ensures)) (c .capacity .ensures .0)
-    ∙ sym (ap (λ (b : Bool). b || eqb (q (zoneOn (seg (a .segment)) (a .drive))) (capacity (a .p))) (sym (has-drive .ensures) ∙ if1 .left))
+    ∙ sym (ap (λ (b : Bool). b || eqb (q (zoneOn (a .segment) (a .drive))) (capacity (a .p))) (sym (has-drive .ensures) ∙ if1 .left))
 
 pub is-full-spec : {M : Type 1} → statement M
 is-full-spec =

@@ -6,7 +6,7 @@ use native.Mathlib.Omega.{arith}
 use borrow.Author.Needs.{needs}
 use lib.ListN.{length, take, drop}
 use Rattle.spec.specs.Bytes.{splice}
-use Rattle.spec.specs.Drives.{pointerOf, setPointer, zeroSpare}
+use Rattle.spec.specs.Drives.{pointerOf, setPointer, zeroSpare, zonesIn}
 use Rattle.spec.specs.Engine.Call.{close}
 use Rattle.spec.specs.Layout.{headerBlock}
 use Rattle.spec.specs.Params.{placeOf, placeByte}
@@ -80,12 +80,12 @@ returns c =
     let at : block-byte .result ≡ placeByte p (placeOf p (a .drive) (a .zone) (pointerOf p (a .pointers .now) (a .drive) (a .zone))) =
     block-byte .ensures .0 ∙ ap (λ (x : ℕ). placeByte p (placeOf p (a .drive) (a .zone) x)) (pointer′ .ensures) in
     let im = a .image .now in
-    let b = headerBlock p (a .drive) (a .zone) (a .serial .0) (a .copied .0) in
+    let b = headerBlock p (a .drive) (zonesIn p (a .segment)) (a .serial .0) (a .copied .0) in
     let t = block-byte .result in
     let u = unit-len .result in
     let l : length (write-header .last .0) ≡ u =
     ap length (write-header .ensures)
-    ∙ header-unit p r (a .drive) (a .zone) (a .serial .0) (a .copied .0)
+    ∙ header-unit p r (a .drive) (zonesIn p (a .segment)) (a .serial .0) (a .copied .0)
     ∙ sym (unit-len .ensures .0) in
     put-disk p (a .drive) (a .zone) b zeroSpare im (a .pointers .now) (take t im ++ (write-header .last .0 ++ drop (t + u - t) (drop t im))) (set-pointer .last .1 .0)
     (splice-lent t u im (write-header .last .0) l ∙ ap₂ (splice im) at (write-header .ensures))

@@ -5,18 +5,18 @@ use mathlib.Core.List.{List}
 use Prim.Native.Nat.{ℕ, _-_}
 use native.Mathlib.Omega.{arith}
 use lib.ListN.{length}
-use Rattle.spec.specs.Drives.{mkDisk, storeDisk, resetStores, seg}
+use Rattle.spec.specs.Drives.{mkDisk, storeDisk, resetStores}
 use Rattle.spec.specs.Drives.Store.{reset}
 use Rattle.spec.specs.Engine.Call.{close}
 use Rattle.spec.specs.Params.{drivesOf}
-use Rattle.law_basic.specs.Segs.{zone-on-lt, seg-named}
 use Rattle.disk_zones.specs.Made.{StoresLeft, rest-start, rest-turn, rest-cut, rest-done, reset-disk, resetStore}
 use Rattle.disk_zones.proofs.reset_stores.Statement.{statement}
 use Rattle.disk_zones.proofs.reset_stores.Tie as tie
+use Rattle.law_basic.specs.Segs.{low-here}
 
 abbrev Inv-loop : tie.InvT-loop
 Inv-loop p pointers₀ segment count left₀ d₀ pointers left d =
-    (length pointers ≡ length pointers₀) × ((im : List ℕ) → StoresLeft p (resetStore (seg segment)) (p .N) count (mkDisk im pointers₀) d left (mkDisk im pointers))
+    (length pointers ≡ length pointers₀) × ((im : List ℕ) → StoresLeft p (resetStore segment) (p .N) count (mkDisk im pointers₀) d left (mkDisk im pointers))
 
 abbrev μ-loop : tie.MeasureT-loop
 μ-loop p pointers₀ segment count left₀ d₀ pointers left d = p .N - d
@@ -24,7 +24,7 @@ abbrev μ-loop : tie.MeasureT-loop
 loop-holds : tie.Need-loop-holds Inv-loop μ-loop
 loop-holds c =
     let a = c .before .args in
-    (refl, (λ im. rest-start (a .p) (resetStore (seg (a .segment))) (a .p .N) (a .count) (mkDisk im (a .pointers .now))))
+    (refl, (λ im. rest-start (a .p) (resetStore (a .segment)) (a .p .N) (a .count) (mkDisk im (a .pointers .now))))
 
 same-length : tie.Need-same-length Inv-loop μ-loop
 same-length c = c .before .before .before .loop .inv .0
@@ -37,11 +37,13 @@ returns c =
     let p = a .p in
     let l = c .before .before .before .loop in
     let g = pre .1 in
-    let f = resetStore (seg (a .segment)) in
+    let f = resetStore (a .segment) in
     λ im. rest-cut p f (p .N) (a .count) (mkDisk im (a .pointers .now)) (l .d) (l .left) (mkDisk im (l .pointers)) (l .inv .1 im) (omega (arith, c .before .if1 .taken)) (c .if2 .taken)
 
 zone-on-requires : tie.Need-zone-on-requires Inv-loop μ-loop
-zone-on-requires c κs = tt
+zone-on-requires c κs =
+    let pre = c .before .before .before .before .before .pre in
+    (pre .0, c .before .if1 .taken)
 
 reset-requires : tie.Need-reset-requires Inv-loop μ-loop
 reset-requires c κs =
@@ -51,8 +53,8 @@ reset-requires c κs =
     let pre = c .before .before .before .before .before .before .before .pre in
     let p = a .p in
     let g = pre .1 in
-    let f = resetStore (seg (a .segment)) in
-    (pre .0, (l .inv .0 ∙ g .0, if1 .taken, rw (c .before .zone-on .ensures) (zone-on-lt p (seg (a .segment)) (l .d) (seg-named p (a .segment) (g .1)))))
+    let f = resetStore (a .segment) in
+    (pre .0, (l .inv .0 ∙ g .0, if1 .taken, rw (c .before .zone-on .ensures) (low-here p (a .segment) (l .d) (g .1) (if1 .taken))))
 
 sub-left : tie.Need-sub-left Inv-loop μ-loop
 sub-left c = omega arith
@@ -75,7 +77,7 @@ loop-again c =
     let pre = c .before .before .before .before .before .before .before .before .before .before .pre in
     let p = a .p in
     let g = pre .1 in
-    let f = resetStore (seg (a .segment)) in
+    let f = resetStore (a .segment) in
     let q = l .d in (
       reset′ .kept .1 .0 ∙ l .inv .0,
       (λ im.
@@ -94,7 +96,7 @@ returns-2 c =
     let p = a .p in
     let l = c .before .before .loop in
     let g = pre .1 in
-    let f = resetStore (seg (a .segment)) in
+    let f = resetStore (a .segment) in
     λ im. rest-done p f (p .N) (a .count) (mkDisk im (a .pointers .now)) (l .d) (l .left) (mkDisk im (l .pointers)) (l .inv .1 im) (omega (arith, c .if1 .left))
 
 pub reset-stores-spec : {M : Type 1} → statement M

@@ -1,21 +1,28 @@
 -- `exam_segments`: e is what was seen of the segments below g, none at fault; the first at fault ends it by its number, and at Z all are seen. Assumes nothing.
 use mathlib.Core.Path.{_≡_, refl, sym, ap, _∙_, subst}
-use mathlib.Core.Bool.{Bool}
-use Prim.Native.Nat.{ℕ, _-_, _≤_}
+use mathlib.Core.Bool.{Bool, true}
+use Prim.Native.Nat.{ℕ, _-_, _≤_, _<_}
 use native.Mathlib.Omega.{arith}
 use lib.ListN.{length}
-use Rattle.spec.specs.Drives.{viewOf, seg}
+use Rattle.spec.specs.Drives.{viewOf, across}
 use Rattle.spec.specs.Lists.{upFrom, below, keep, firstOr}
+use Rattle.spec.specs.Params.{inRange}
+use Rattle.spec.specs.declared.Params.{Params}
+use Rattle.law_basic.specs.Geometry.{ranged}
 use Rattle.recover_segments.specs.Kept.{lowest-turn, lowest-pass, lowest-end, lowest-start}
 use Rattle.recover_check.specs.Faults.{faulty, ExamSays, faults-list, seen-none, seen-all, seen-bad, stops, goes}
 use Rattle.recover_check.proofs.exam_segments.Statement.{statement}
 use Rattle.recover_check.proofs.exam_segments.Tie as tie
 
+-- there is a drive
+drives : (p : Params) → inRange p ≡ true → 0 < p .N
+drives p h = omega (arith, ranged p h .drives-low)
+
 abbrev Inv-loop : tie.InvT-loop
 Inv-loop p image pointers gone kept serials many at₀ e₀ g₀ at e g =
     (g ≤ p .Z) × (length at ≡ length at₀) × ExamSays p (viewOf p image pointers) gone kept g e
-    × (firstOr (p .Z) (keep (λ n. faulty p (viewOf p image pointers) gone (seg n)) (upFrom g (p .Z - g))) ≡ firstOr (p .Z)
-    (keep (λ n. faulty p (viewOf p image pointers) gone (seg n)) (below (p .Z))))
+    × (firstOr (p .Z) (keep (λ n. faulty p (viewOf p image pointers) gone (across p n)) (upFrom g (p .Z - g))) ≡ firstOr (p .Z)
+    (keep (λ n. faulty p (viewOf p image pointers) gone (across p n)) (below (p .Z))))
 
 abbrev μ-loop : tie.MeasureT-loop
 μ-loop p image pointers gone kept serials many at₀ e₀ g₀ at e g = p .Z - g
@@ -28,7 +35,7 @@ loop-holds c =
     let h = pre in
     let p = a .p in
     let v = viewOf p (a .image .now) (a .pointers .now) in
-    let f : ℕ → Bool = λ n. faulty p v (a .gone) (seg n) in
+    let f : ℕ → Bool = λ n. faulty p v (a .gone) (across p n) in
     (omega arith, refl, seen-none p v (a .gone) (a .kept .now), lowest-start f (p .Z) (p .Z))
 
 exam-segment-requires : tie.Need-exam-segment-requires Inv-loop μ-loop
@@ -41,7 +48,7 @@ exam-segment-requires c κs =
     let h = pre in
     let p = a .p in
     let v = viewOf p (a .image .now) (a .pointers .now) in
-    let f : ℕ → Bool = λ n. faulty p v (a .gone) (seg n) in
+    let f : ℕ → Bool = λ n. faulty p v (a .gone) (across p n) in
     (h .0, (h .1 .0, (h .1 .1 .0, (h .1 .1 .1 .0, (if1 .taken, h .1 .1 .1 .1 .0, loop .inv .2, loop .inv .1 ∙ h .1 .1 .1 .1 .1)))))
 
 same-length : tie.Need-same-length Inv-loop μ-loop
@@ -64,11 +71,11 @@ returns c =
     let h = pre in
     let p = a .p in
     let v = viewOf p (a .image .now) (a .pointers .now) in
-    let f : ℕ → Bool = λ n. faulty p v (a .gone) (seg n) in
+    let f : ℕ → Bool = λ n. faulty p v (a .gone) (across p n) in
     let k = if1 .taken in
     let w = stops p v (a .gone) (a .kept .now) (l .g) (r .result) (r .ensures .0) (r .ensures .1) (if2 .taken) in
-    seen-bad p v (a .gone) (a .kept .now) (r .result) (if2 .taken)
-    (w .1 ∙ sym (lowest-turn f (p .Z) (l .g) (p .Z) k (w .0)) ∙ l .inv .3 ∙ ap (firstOr (p .Z)) (sym (faults-list p v (a .gone))))
+    seen-bad p v (a .gone) (a .kept .now) (r .result) (drives p (h .0)) (if2 .taken)
+    (w .1 ∙ sym (lowest-turn f (p .Z) (l .g) (p .Z) k (w .0)) ∙ l .inv .3 ∙ ap (firstOr (p .Z)) (sym (faults-list p v (a .gone) (drives p (h .0)))))
 
 add-g : tie.Need-add-g Inv-loop μ-loop
 add-g c = omega arith
@@ -92,7 +99,7 @@ loop-again c =
     let h = pre in
     let p = a .p in
     let v = viewOf p (a .image .now) (a .pointers .now) in
-    let f : ℕ → Bool = λ n. faulty p v (a .gone) (seg n) in
+    let f : ℕ → Bool = λ n. faulty p v (a .gone) (across p n) in
     let k = if1 .taken in
     let w = goes p v (a .gone) (a .kept .now) (l .g) (r .result) (r .ensures .0) (r .ensures .1) k (omega (arith, if2 .left)) in
     (omega (arith, k), exam-segment .kept .1 .1 .1 .1 .1 .1 .1 .1 .0 ∙ l .inv .1, w .1, sym (lowest-pass f (p .Z) (l .g) (p .Z) k (w .0)) ∙ l .inv .3)
@@ -112,12 +119,12 @@ returns-2 c =
     let h = pre in
     let p = a .p in
     let v = viewOf p (a .image .now) (a .pointers .now) in
-    let f : ℕ → Bool = λ n. faulty p v (a .gone) (seg n) in
+    let f : ℕ → Bool = λ n. faulty p v (a .gone) (across p n) in
     let l = loop in
     let k : l .g ≡ p .Z = omega (arith, l .inv .0, if1 .left) in
     let s = subst (λ (n : ℕ). ExamSays p v (a .gone) (a .kept .now) n (l .e)) k (l .inv .2) in
-    seen-all p v (a .gone) (a .kept .now) (l .e) (h .1 .1 .0) s
-    (s .zone-is ∙ sym (lowest-end f (p .Z) (l .g) (p .Z) (omega (arith, k))) ∙ l .inv .3 ∙ ap (firstOr (p .Z)) (sym (faults-list p v (a .gone))))
+    seen-all p v (a .gone) (a .kept .now) (l .e) (drives p (h .0)) (h .1 .1 .0) s
+    (s .zone-is ∙ sym (lowest-end f (p .Z) (l .g) (p .Z) (omega (arith, k))) ∙ l .inv .3 ∙ ap (firstOr (p .Z)) (sym (faults-list p v (a .gone) (drives p (h .0)))))
 
 pub exam-segments-spec : {M : Type 1} → statement M
 exam-segments-spec =

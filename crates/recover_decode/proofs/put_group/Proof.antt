@@ -10,6 +10,7 @@ use Rattle.recover_groups.specs.Groups.{groupLen, GroupReads}
 use Rattle.recover_decode.specs.Group.{Stripes, stripes-start, stripes-done, stripes-fit, stripes-read, stripes-cut, stripes-turn}
 use Rattle.recover_decode.proofs.put_group.Statement.{statement}
 use Rattle.recover_decode.proofs.put_group.Tie as tie
+use Rattle.law_basic.specs.Segs.{named-zones-low}
 
 abbrev Inv-loop : tie.InvT-loop
 Inv-loop p image₀ pointers₀ w at drive count len left₀ k₀ image pointers left k = Stripes p w drive count (mkDisk image₀ pointers₀) k left (mkDisk image pointers)
@@ -19,8 +20,10 @@ abbrev μ-loop : tie.MeasureT-loop
 
 index-group-requires : tie.Need-index-group-requires Inv-loop μ-loop
 index-group-requires c κs =
+    let a = c .before .before .before .before .before .before .args in
     let q = c .before .before .before .before .before .before .pre in
-    (q .0, (q .1 .0, (q .1 .1 .1 .0, q .1 .1 .1 .1 .0)))
+    let h = q .1 .1 .1 .0 in
+    (q .0, (q .1 .0, ((h .0, named-zones-low (a .p) (a .w .gone) (a .w .seg) (h .1), h .2, h .3), q .1 .1 .1 .1 .0)))
 
 group-len-requires : tie.Need-group-len-requires Inv-loop μ-loop
 group-len-requires c κs =
@@ -54,7 +57,7 @@ put-if-requires c κs =
         (
           q .1 .1 .0,
           (
-            (index-group .kept .1 .1 .1 .1 .0 ∙ h .0, h .1, h .2, k),
+            (index-group .kept .1 .1 .1 .1 .0 ∙ h .0, named-zones-low (a .p) (a .w .gone) (a .w .seg) (h .1), h .2, k, h .4),
             (
               stripes-read (a .p) r (a .w) (a .drive) (a .count) d (q .1 .1 .0) (h .1) (l .k) (l .left) x (l .inv) k (index-group .last .1 .1 .1 .1 .0) rd,
               stripes-fit (a .p) r (a .w) (a .drive) (a .count) d (q .1 .1 .0) (h .1) (l .k) (l .left) x (l .inv) k,

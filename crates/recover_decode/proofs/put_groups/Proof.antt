@@ -12,7 +12,7 @@ slice-aggregate-put-groups-with c = search needs
 put-groups-with-requires : tie.Need-put-groups-with-requires
 put-groups-with-requires c κs =
     let q = c .before .before .before .before .before .pre in
-    (q .0, (q .1 .0, (q .1 .1 .0, ((refl, q .1 .1 .1 .0), q .1 .1 .1 .1))))
+    (q .0, (q .1 .0, (q .1 .1 .0, ((refl, q .1 .1 .1 .0 .0, q .1 .1 .1 .0 .1), q .1 .1 .1 .1))))
 
 same-length : tie.Need-same-length
 same-length c = search needs

@@ -3,18 +3,17 @@ use mathlib.Core.Path.{_≡_, refl, sym, _∙_}
 use Prim.Native.Nat.{_-_}
 use native.Mathlib.Omega.{arith}
 use lib.ListN.{length}
-use Rattle.spec.specs.Drives.{mkDisk, seg}
+use Rattle.spec.specs.Drives.{mkDisk}
 use Rattle.spec.specs.Engine.Call.{close}
 use Rattle.spec.specs.History.{before}
 use Rattle.law_basic.specs.Geometry.{ranged}
-use Rattle.law_basic.specs.Segs.{seg-named}
 use Rattle.recover_decode.specs.Group.{Groups, groups-start, groups-done, groups-fit, groups-full, groups-sound, groups-cut, groups-turn}
 use Rattle.recover_decode.proofs.put_groups_with.Statement.{statement}
 use Rattle.recover_decode.proofs.put_groups_with.Tie as tie
 
 abbrev Inv-loop : tie.InvT-loop
 Inv-loop p image₀ pointers₀ at₀ gone sn full drive count left₀ base₀ image pointers at left base =
-    (length at ≡ length at₀) × Groups p gone (seg sn) drive count (mkDisk image₀ pointers₀) base left (mkDisk image pointers)
+    (length at ≡ length at₀) × Groups p gone sn drive count (mkDisk image₀ pointers₀) base left (mkDisk image pointers)
 
 abbrev μ-loop : tie.MeasureT-loop
 μ-loop p image₀ pointers₀ at₀ gone sn full drive count left₀ base₀ image pointers at left base = p .S - base
@@ -23,7 +22,7 @@ loop-holds : tie.Need-loop-holds Inv-loop μ-loop
 loop-holds c =
     let a = c .before .before .before .args in
     let q = c .before .before .before .pre in
-    (refl, groups-start (a .p) (a .gone) (seg (a .seg)) (a .drive) (a .count) (mkDisk (a .image .now) (a .pointers .now)) (ranged (a .p) (q .0)) (q .1 .0) (q .1 .1 .1 .1 .1 .1))
+    (refl, groups-start (a .p) (a .gone) (a .seg) (a .drive) (a .count) (mkDisk (a .image .now) (a .pointers .now)) (ranged (a .p) (q .0)) (q .1 .0) (q .1 .1 .1 .1 .1 .1))
 
 put-group-requires : tie.Need-put-group-requires Inv-loop μ-loop
 put-group-requires c κs =
@@ -38,15 +37,15 @@ put-group-requires c κs =
         (
           q .1 .1 .0,
           (
-            (l .inv .0 ∙ q .1 .1 .1 .0 .0, q .1 .1 .1 .0 .1, h, l .inv .1 .first),
+            (l .inv .0 ∙ q .1 .1 .1 .0 .0, q .1 .1 .1 .0 .1, h, l .inv .1 .first, q .1 .1 .1 .0 .2),
             (
-              groups-full (a .p) (ranged (a .p) (q .0)) (a .gone) (seg (a .seg)) (a .drive) (a .count) (mkDisk (a .image .now) (a .pointers .now))
-                  (q .1 .1 .0) (seg-named (a .p) (a .seg) (q .1 .1 .1 .0 .1)) (l .base) (l .left) (mkDisk (l .image) (l .pointers)) (l .inv .1) h (a .full) (q .1 .1 .1 .1 .0),
+              groups-full (a .p) (ranged (a .p) (q .0)) (a .gone) (a .seg) (a .drive) (a .count) (mkDisk (a .image .now) (a .pointers .now))
+                  (q .1 .1 .0) (q .1 .1 .1 .0 .1) (l .base) (l .left) (mkDisk (l .image) (l .pointers)) (l .inv .1) h (a .full) (q .1 .1 .1 .1 .0),
               (
-                groups-sound (a .p) (ranged (a .p) (q .0)) (a .gone) (seg (a .seg)) (a .drive) (a .count) (mkDisk (a .image .now) (a .pointers .now))
-                    (q .1 .1 .0) (seg-named (a .p) (a .seg) (q .1 .1 .1 .0 .1)) (l .base) (l .left) (mkDisk (l .image) (l .pointers)) (l .inv .1) h (q .1 .1 .1 .1 .1 .0),
-                groups-fit (a .p) (ranged (a .p) (q .0)) (a .gone) (seg (a .seg)) (a .drive) (a .count) (mkDisk (a .image .now) (a .pointers .now))
-                    (q .1 .1 .0) (seg-named (a .p) (a .seg) (q .1 .1 .1 .0 .1)) (l .base) (l .left) (mkDisk (l .image) (l .pointers)) (l .inv .1) h,
+                groups-sound (a .p) (ranged (a .p) (q .0)) (a .gone) (a .seg) (a .drive) (a .count) (mkDisk (a .image .now) (a .pointers .now))
+                    (q .1 .1 .0) (q .1 .1 .1 .0 .1) (l .base) (l .left) (mkDisk (l .image) (l .pointers)) (l .inv .1) h (q .1 .1 .1 .1 .1 .0),
+                groups-fit (a .p) (ranged (a .p) (q .0)) (a .gone) (a .seg) (a .drive) (a .count) (mkDisk (a .image .now) (a .pointers .now))
+                    (q .1 .1 .0) (q .1 .1 .1 .0 .1) (l .base) (l .left) (mkDisk (l .image) (l .pointers)) (l .inv .1) h,
               ),
             ),
           ),
@@ -81,8 +80,8 @@ returns c =
     let l = c .before .before .before .before .before .before .before .before .before .before .before .before .before .loop in
     let put-group = c .before .before .before .before .before .before .before .put-group in
     let if1 = c .before .before .before .before .before .before .before .before .before .before .before .if1 in
-    groups-cut (a .p) (ranged (a .p) (q .0)) (a .gone) (seg (a .seg)) (a .drive) (a .count) (mkDisk (a .image .now) (a .pointers .now)) (q .1 .1 .0)
-    (seg-named (a .p) (a .seg) (q .1 .1 .1 .0 .1)) (l .base) (l .left) (mkDisk (l .image) (l .pointers)) (l .inv .1) (if1 .taken) (put-group .result)
+    groups-cut (a .p) (ranged (a .p) (q .0)) (a .gone) (a .seg) (a .drive) (a .count) (mkDisk (a .image .now) (a .pointers .now)) (q .1 .1 .0)
+    (q .1 .1 .1 .0 .1) (l .base) (l .left) (mkDisk (l .image) (l .pointers)) (l .inv .1) (if1 .taken) (put-group .result)
     (mkDisk (put-group .last .1 .0) (put-group .last .1 .1 .0)) (put-group .ensures) (c .if2 .taken)
 
 add-base : tie.Need-add-base Inv-loop μ-loop
@@ -110,8 +109,8 @@ loop-again c =
     let if1 = c .before .before .before .before .before .before .before .before .before .before .before .before .if1 in (
       put-group .kept .1 .1 .1 .1 .0
           ∙ l .inv .0,
-      groups-turn (a .p) (ranged (a .p) (q .0)) (a .gone) (seg (a .seg)) (a .drive) (a .count) (mkDisk (a .image .now) (a .pointers .now))
-          (q .1 .1 .0) (seg-named (a .p) (a .seg) (q .1 .1 .1 .0 .1)) (l .base) (l .left) (mkDisk (l .image) (l .pointers)) (l .inv .1) (if1 .taken) (put-group .result)
+      groups-turn (a .p) (ranged (a .p) (q .0)) (a .gone) (a .seg) (a .drive) (a .count) (mkDisk (a .image .now) (a .pointers .now))
+          (q .1 .1 .0) (q .1 .1 .1 .0 .1) (l .base) (l .left) (mkDisk (l .image) (l .pointers)) (l .inv .1) (if1 .taken) (put-group .result)
           (mkDisk (put-group .last .1 .0) (put-group .last .1 .1 .0)) (put-group .ensures) (c .before .if2 .left),
     )
 
@@ -132,7 +131,7 @@ returns-2 : tie.Need-returns-2 Inv-loop μ-loop
 returns-2 c =
     let a = c .before .before .before .before .before .before .args in
     let l = c .before .before .loop in
-    groups-done (a .p) (a .gone) (seg (a .seg)) (a .drive) (a .count) (mkDisk (a .image .now) (a .pointers .now)) (l .base) (l .left)
+    groups-done (a .p) (a .gone) (a .seg) (a .drive) (a .count) (mkDisk (a .image .now) (a .pointers .now)) (l .base) (l .left)
     (mkDisk (l .image) (l .pointers)) (l .inv .1) (omega (arith, c .if1 .left))
 
 pub put-groups-with-spec : {M : Type 1} → statement M

@@ -6,12 +6,11 @@ use Prim.Native.Nat.{_+_, _<_}
 use borrow.Author.Tests.{not-true, not-false}
 use borrow.Author.Needs.{needs}
 use native.Mathlib.Omega.{arith}
-use Rattle.spec.specs.Drives.{Store, mkDisk, seg}
+use Rattle.spec.specs.Drives.{Store, mkDisk}
 use Rattle.spec.specs.Engine.Call.{close}
 use Rattle.spec.specs.History.{before}
 use Rattle.spec.specs.Segments.{counts}
 use Rattle.law_basic.specs.Geometry.{ranged}
-use Rattle.law_basic.specs.Segs.{seg-named}
 use Rattle.disk_zones.specs.Made.{Storing, storing-none}
 use Rattle.recover_groups.specs.Bases.{group-len-le}
 use Rattle.recover_groups.specs.Groups.{segmentIn}
@@ -79,8 +78,9 @@ put-lost-requires c κs =
               h .1,
               h .2,
               h .3,
-              lost-room (a .p) (a .w .gone) (a .drive) k (seg (a .w .seg)) (a .w .base + a .k) (q .1 .0) (q .1 .1 .0 .drive-low)
-                  (seg-named (a .p) (a .w .seg) (h .1)) (it-counts c) (q .1 .1 .1 .1 .1),
+              lost-room (a .p) (a .w .gone) (a .drive) k (a .w .seg) (a .w .base + a .k) (q .1 .0) (q .1 .1 .0 .drive-low)
+                  (h .4) (it-counts c) (q .1 .1 .1 .1 .1),
+              h .4,
             ),
             (q .1 .1 .1 .1 .0, it-counts c),
           ),

@@ -39,7 +39,7 @@ put-lost-with-requires c κs =
     let r = ranged p (q .0) in
     let h = q .1 .1 .1 .0 in
     let s : List ℕ = replicate 4096 0 in
-    (q .0, (q .1 .0, (q .1 .1 .0, ((length-take-le (p .B) s (r .block-high), h .0, h .1, h .2, h .3, h .4), q .1 .1 .1 .1))))
+    (q .0, (q .1 .0, (q .1 .1 .0, ((length-take-le (p .B) s (r .block-high), h .0, h .1, h .2, h .3, h .4, h .5), q .1 .1 .1 .1))))
 
 same-length : tie.Need-same-length
 same-length c = search needs

@@ -4,13 +4,12 @@ use mathlib.Core.Path.{sym, _∙_, subst}
 use mathlib.Core.List.{List, [], _∷_}
 use Prim.Native.Nat.{ℕ, _+_, _<_}
 use borrow.Author.Needs.{needs}
-use Rattle.spec.specs.Drives.{viewOf, Store, mkDisk, pointerOf, seg}
+use Rattle.spec.specs.Drives.{viewOf, Store, mkDisk, pointerOf}
 use Rattle.spec.specs.Drives.Store.{put}
 use Rattle.spec.specs.Engine.Call.{close}
 use Rattle.spec.specs.History.{before}
 use Rattle.spec.specs.Layout.{recordBytes}
 use Rattle.spec.specs.Params.{capacity}
-use Rattle.law_basic.specs.Segs.{zone-on-lt, seg-named}
 use Rattle.law_basic.specs.Geometry.{spare-len}
 use Rattle.disk_zones.specs.Made.{Storing}
 use Rattle.recover_groups.specs.Chunks.{counts-entered}
@@ -51,7 +50,9 @@ write-record-requires : tie.Need-write-record-requires
 write-record-requires c κs = sym spare-len
 
 zone-on-requires : tie.Need-zone-on-requires
-zone-on-requires c κs = tt
+zone-on-requires c κs =
+    let q = c .before .before .before .before .before .before .before .before .before .before .before .before .before .before .pre in
+    (q .0, q .1 .1 .0 .drive-low)
 
 slice-aggregate-put-limited : tie.Need-slice-aggregate-put-limited
 slice-aggregate-put-limited c = search needs
@@ -71,7 +72,7 @@ put-limited-requires c κs =
         (
           (
             q .1 .1 .0 .drive-low,
-            subst (λ (x : ℕ). x < a .p .Z) (sym z) (zone-on-lt (a .p) (seg (a .w .seg)) (a .drive) (seg-named (a .p) (a .w .seg) (h .2))),
+            subst (λ (x : ℕ). x < a .p .Z) (sym z) (h .6),
             subst (λ (x : ℕ). pointerOf (a .p) (a .pointers .now) (a .drive) x < capacity (a .p)) (sym z) (h .5),
           ),
           (lost-block .kept .1 .1 .1 .1 .1 .1 .0 ∙ h .0, write-record .kept .0 ∙ sym spare-len),
@@ -109,7 +110,7 @@ returns c =
     let b = lost-block .ensures (a .pointers .now) rd in
     let x = lost-rec .ensures (a .pointers .now) rd in
     let e =
-    lost-store-is (a .p) (viewOf (a .p) (a .image .now) (a .pointers .now)) (a .w .gone) (seg (a .w .seg)) (a .drive) (a .w .base + a .k)
+    lost-store-is (a .p) (viewOf (a .p) (a .image .now) (a .pointers .now)) (a .w .gone) (a .w .seg) (a .drive) (a .w .base + a .k)
     (lost-block .last .1 .1 .1 .1 .1 .1 .0) (recVal (lost-rec .result)) (q .1 .1 .0 .lost) b x in
     subst (λ (s : Store). Storing (a .p) (a .count) (s ∷ []) k m k′) e
     (subst (λ (z : ℕ). Storing (a .p) (a .count) (put (a .drive) z (lost-block .last .1 .1 .1 .1 .1 .1 .0) (recordBytes (recVal (lost-rec .result))) ∷ []) k m k′) (zone-on .ensures)

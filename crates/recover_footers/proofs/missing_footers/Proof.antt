@@ -1,18 +1,18 @@
 -- `missing_footers`: what is owed are the footers of the drives from d on, whose zones are as found; a turn pays those of d, or is cut. Assumes nothing.
 use Prim.Native.Nat.{_-_}
-use Rattle.spec.specs.Drives.{mkDisk, seg}
+use Rattle.spec.specs.Drives.{mkDisk}
 use Rattle.law_basic.specs.Geometry.{ranged}
-use Rattle.law_basic.specs.Segs.{seg-named, zone-on-lt}
 use Rattle.recover_footers.specs.Feet.{FeetUpto, feet-start, feet-pointer, feet-done, feet-cut, feet-turn}
 use lib.ListN.{length}
 use mathlib.Core.Path.{_≡_, refl, _∙_}
 use native.Mathlib.Omega.{arith}
 use Rattle.recover_footers.proofs.missing_footers.Statement.{statement}
 use Rattle.recover_footers.proofs.missing_footers.Tie as tie
+use Rattle.law_basic.specs.Segs.{low-here}
 
 abbrev Inv-loop : tie.InvT-loop
 Inv-loop p image₀ pointers₀ segment count left₀ d₀ image pointers left d =
-    (length image ≡ length image₀) × (length pointers ≡ length pointers₀) × FeetUpto p count (seg segment) (mkDisk image₀ pointers₀) d left (mkDisk image pointers)
+    (length image ≡ length image₀) × (length pointers ≡ length pointers₀) × FeetUpto p count segment (mkDisk image₀ pointers₀) d left (mkDisk image pointers)
 
 abbrev μ-loop : tie.MeasureT-loop
 μ-loop p image₀ pointers₀ segment count left₀ d₀ image pointers left d = p .N - d
@@ -23,12 +23,12 @@ loop-holds c =
     let pre = c .before .before .pre in (
       refl,
       refl,
-      feet-start (args .p) (ranged (args .p) (pre .0)) (args .count) (seg (args .segment)) (seg-named (args .p) (args .segment) (pre .1 .1 .0 .0))
+      feet-start (args .p) (ranged (args .p) (pre .0)) (args .count) (args .segment) (pre .1 .1 .0 .0)
           (mkDisk (args .image .now) (args .pointers .now)) (pre .1 .0) (pre .1 .1 .1),
     )
 
 zone-on-requires : tie.Need-zone-on-requires Inv-loop μ-loop
-zone-on-requires c κs = tt
+zone-on-requires c κs = (c .before .before .before .before .before .before .before .pre .0, c .before .before .if1 .taken)
 
 missing-on-requires : tie.Need-missing-on-requires Inv-loop μ-loop
 missing-on-requires c κs =
@@ -38,11 +38,11 @@ missing-on-requires c κs =
     let pre = c .before .before .before .before .before .before .before .before .pre in
     let k = (mkDisk (a .image .now) (a .pointers .now)) in
     let hz = pre .1 .1 .0 .0 in
-    let e = feet-pointer (a .p) (ranged (a .p) (pre .0)) (a .count) (seg (a .segment)) (seg-named (a .p) (a .segment) hz) k (l .d) (l .left) (mkDisk (l .image) (l .pointers)) (l .inv .2) (l .d)
+    let e = feet-pointer (a .p) (ranged (a .p) (pre .0)) (a .count) (a .segment) hz k (l .d) (l .left) (mkDisk (l .image) (l .pointers)) (l .inv .2) (l .d)
     (omega arith) (if1 .taken) (pre .1 .0) in
     let z = c .zone-on .ensures in
     let b = pre .1 .1 .0 .1 (l .d) (if1 .taken) in
-    (pre .0, (l .inv .2 .going .whole, (if1 .taken, rw z (zone-on-lt (a .p) (seg (a .segment)) (l .d) (seg-named (a .p) (a .segment) hz)), rw (z, e) (b .0), rw (z, e) (b .1))))
+    (pre .0, (l .inv .2 .going .whole, (if1 .taken, rw z (low-here (a .p) (a .segment) (l .d) hz (if1 .taken)), rw (z, e) (b .0), rw (z, e) (b .1))))
 
 same-length : tie.Need-same-length Inv-loop μ-loop
 same-length c =
@@ -64,7 +64,7 @@ returns c =
     let zone-on = c .before .before .before .before .before .before .zone-on in
     let if1 = c .before .before .before .before .before .before .before .before .before .if1 in
     let pre = c .before .before .before .before .before .before .before .before .before .before .before .before .before .before .pre in
-    feet-cut (a .p) (ranged (a .p) (pre .0)) (a .count) (seg (a .segment)) (seg-named (a .p) (a .segment) (pre .1 .1 .0 .0)) (mkDisk (a .image .now) (a .pointers .now)) (l .d) (l .left)
+    feet-cut (a .p) (ranged (a .p) (pre .0)) (a .count) (a .segment) (pre .1 .1 .0 .0) (mkDisk (a .image .now) (a .pointers .now)) (l .d) (l .left)
     (mkDisk (l .image) (l .pointers)) (l .inv .2) (if1 .taken) (zone-on .result) (zone-on .ensures) (missing-on .result)
     (mkDisk (missing-on .last .1 .0) (missing-on .last .1 .1 .0)) (missing-on .ensures) (c .if2 .taken)
 
@@ -84,7 +84,7 @@ loop-again c =
     let pre = c .before .before .before .before .before .before .before .before .before .before .before .before .before .before .pre in (
       missing-on .kept .1 .0 ∙ l .inv .0,
       missing-on .kept .1 .1 .0 ∙ l .inv .1,
-      feet-turn (a .p) (ranged (a .p) (pre .0)) (a .count) (seg (a .segment)) (seg-named (a .p) (a .segment) (pre .1 .1 .0 .0)) (mkDisk (a .image .now) (a .pointers .now)) (l .d) (l .left)
+      feet-turn (a .p) (ranged (a .p) (pre .0)) (a .count) (a .segment) (pre .1 .1 .0 .0) (mkDisk (a .image .now) (a .pointers .now)) (l .d) (l .left)
           (mkDisk (l .image) (l .pointers)) (l .inv .2) (if1 .taken) (zone-on .result) (zone-on .ensures) (missing-on .result)
           (mkDisk (missing-on .last .1 .0) (missing-on .last .1 .1 .0)) (missing-on .ensures) (c .if2 .left),
     )
@@ -100,7 +100,7 @@ returns-2 c =
     let a = c .before .before .before .before .before .args in
     let l = c .before .before .loop in
     let pre = c .before .before .before .before .before .pre in
-    feet-done (a .p) (ranged (a .p) (pre .0)) (a .count) (seg (a .segment)) (seg-named (a .p) (a .segment) (pre .1 .1 .0 .0)) (mkDisk (a .image .now) (a .pointers .now)) (l .d) (l .left)
+    feet-done (a .p) (ranged (a .p) (pre .0)) (a .count) (a .segment) (pre .1 .1 .0 .0) (mkDisk (a .image .now) (a .pointers .now)) (l .d) (l .left)
     (mkDisk (l .image) (l .pointers)) (l .inv .2) (omega (arith, c .if1 .left))
 
 pub missing-footers-spec : {M : Type 1} → statement M

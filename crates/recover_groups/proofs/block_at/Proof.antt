@@ -2,19 +2,18 @@
 use mathlib.Core.Path.{sym, ap, _∙_}
 use Prim.Native.Nat.{ℕ, _+_}
 use native.Mathlib.Omega.{arith}
-use borrow.Author.Needs.{needs}
 use Rattle.spec.specs.Bytes.{part}
-use Rattle.spec.specs.Drives.{seg}
 use Rattle.spec.specs.Params.{unitLen, placeOf, placeByte}
 use Rattle.law_basic.specs.Geometry.{ranged, data-below}
-use Rattle.law_basic.specs.Segs.{zone-on-lt, seg-named}
 use Rattle.recover_groups.specs.Bases.{group-len-le, group-len-fits}
 use Rattle.recover_groups.specs.Pieces.{block-read}
 use Rattle.recover_groups.proofs.block_at.Statement.{statement}
 use Rattle.recover_groups.proofs.block_at.Tie as tie
 
 zone-on-requires : tie.Need-zone-on-requires
-zone-on-requires c κs = search needs
+zone-on-requires c κs =
+    let pre = c .before .pre in
+    (pre .0, pre .1 .0 .3)
 
 offset-on-requires : tie.Need-offset-on-requires
 offset-on-requires c κs =
@@ -43,7 +42,7 @@ block-byte-requires c κs =
       pre .0,
       (
         pre .1 .0 .3,
-        rw (c .before .zone-on .ensures) (zone-on-lt (args .p) (seg (args .w .seg)) (args .drive) (seg-named (args .p) (args .w .seg) (pre .1 .0 .1))),
+        rw (c .before .zone-on .ensures) (pre .1 .0 .1),
         data-below (args .p) (ranged (args .p) (pre .0)) (1 + c .offset-on .result) (omega (arith, f, c .offset-on .ensures .0, pre .1 .1 .0, pre .1 .1 .1)),
       ),
     )
@@ -58,7 +57,7 @@ returns c =
     let p = a .p in (
       omega (arith, c .block-byte .ensures .1),
       λ im ps h x.
-          block-read p im ps (a .w) (a .at .now) (ranged p (pre .0)) h x (pre .1 .0 .1) (pre .1 .0 .2) (a .k) (pre .1 .0 .4) (a .drive) (pre .1 .0 .3) (pre .1 .1 .0)
+          block-read p im ps (a .w) (a .at .now) (ranged p (pre .0)) h x (pre .1 .0 .2) (a .k) (pre .1 .0 .4) (a .drive) (pre .1 .0 .3) (pre .1 .0 .1) (pre .1 .1 .0)
           ∙ sym (ap (λ (t : ℕ). part t (p .B) im) (c .block-byte .ensures .0 ∙ (λ j. placeByte p (placeOf p (a .drive) (zone-on .ensures j) (1 + offset-on .ensures .0 j))))),
     )
 

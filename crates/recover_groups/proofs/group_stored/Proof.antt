@@ -2,22 +2,22 @@
 use mathlib.Core.Path.{ap, _∙_}
 use Prim.Native.Nat.{ℕ}
 use native.Mathlib.Omega.{arith}
-use Rattle.spec.specs.Drives.{zoneAt, viewOf, dataStored, seg}
+use Rattle.spec.specs.Drives.{zoneAt, viewOf, dataStored}
 use Rattle.spec.specs.History.{before}
-use Rattle.law_basic.specs.Segs.{zone-on-lt, seg-named}
 use Rattle.recover_groups.specs.Chunks.{group-stored-is}
 use borrow.Author.Needs.{needs}
 use Rattle.recover_groups.proofs.group_stored.Statement.{statement}
 use Rattle.recover_groups.proofs.group_stored.Tie as tie
 
 zone-on-requires : tie.Need-zone-on-requires
-zone-on-requires c κs = search needs
+zone-on-requires c κs =
+    let pre = c .before .pre in
+    (pre .0, pre .1 .1)
 
 data-stored-requires : tie.Need-data-stored-requires
 data-stored-requires c κs =
-    let args = c .before .before .args in
     let pre = c .before .before .pre in
-    (pre .0, (pre .1 .0, pre .1 .1, rw (c .zone-on .ensures) (zone-on-lt (args .p) (seg (args .w .seg)) (args .drive) (seg-named (args .p) (args .w .seg) (pre .1 .2)))))
+    (pre .0, (pre .1 .0, pre .1 .1, rw (c .zone-on .ensures) (pre .1 .2)))
 
 group-len-requires : tie.Need-group-len-requires
 group-len-requires c κs = search needs
@@ -32,7 +32,7 @@ returns c =
     let w = a .w in (
       (λ im h q. let e =
           (data-stored .ensures .0 im h ∙ ap (λ (z : ℕ). dataStored p (zoneAt (viewOf p im (a .pointers .now)) (a .drive) z)) (zone-on .ensures)) in
-          let f = group-stored-is p (viewOf p im (a .pointers .now)) (w .gone) (seg (w .seg)) (w .base) (a .drive) (pre .1 .1) q in omega
+          let f = group-stored-is p (viewOf p im (a .pointers .now)) (w .gone) (w .seg) (w .base) (a .drive) (pre .1 .1) q in omega
           (arith, e, f, c .if1 .taken)),
       omega arith,
     )
@@ -49,7 +49,7 @@ returns-2 c =
     let w = a .w in (
       (λ im h q. let e =
           (data-stored .ensures .0 im h ∙ ap (λ (z : ℕ). dataStored p (zoneAt (viewOf p im (a .pointers .now)) (a .drive) z)) (zone-on .ensures)) in
-          let f = group-stored-is p (viewOf p im (a .pointers .now)) (w .gone) (seg (w .seg)) (w .base) (a .drive) (pre .1 .1) q in omega
+          let f = group-stored-is p (viewOf p im (a .pointers .now)) (w .gone) (w .seg) (w .base) (a .drive) (pre .1 .1) q in omega
           (arith, e, f, if1 .left, c .if2 .taken, group-len .ensures .0)),
       omega (arith, group-len .ensures .0),
     )
@@ -66,7 +66,7 @@ returns-3 c =
     let w = a .w in (
       (λ im h q. let e =
           (data-stored .ensures .0 im h ∙ ap (λ (z : ℕ). dataStored p (zoneAt (viewOf p im (a .pointers .now)) (a .drive) z)) (zone-on .ensures)) in
-          let f = group-stored-is p (viewOf p im (a .pointers .now)) (w .gone) (seg (w .seg)) (w .base) (a .drive) (pre .1 .1) q in omega
+          let f = group-stored-is p (viewOf p im (a .pointers .now)) (w .gone) (w .seg) (w .base) (a .drive) (pre .1 .1) q in omega
           (arith, e, f, if1 .left, c .if2 .left, group-len .ensures .0)),
       omega (arith, group-len .ensures .0, c .if2 .left),
     )

@@ -3,7 +3,7 @@ use mathlib.Core.Path.{sym, ap, _∙_}
 use mathlib.Core.Bool.{Bool, not, _||_}
 use Prim.Native.Nat.{_+_}
 use native.Mathlib.Omega.{arith}
-use Rattle.spec.specs.Drives.{viewOf, seg}
+use Rattle.spec.specs.Drives.{viewOf}
 use Rattle.spec.specs.History.{before}
 use Rattle.spec.specs.Segments.{recsOn}
 use Rattle.law_views.specs.Pointers.{index-drive}
@@ -45,7 +45,7 @@ returns c =
       (
         clear-row .ensures .1,
         λ t k hk. clear-row .ensures .0 k (omega (arith, f, hk))
-            ∙ sym (missing-entry p v (w .gone) (seg (w .seg)) (w .base) d (w .base + k) (q .1) (sym (c .before .has-drive .ensures) ∙ c .if1 .taken)),
+            ∙ sym (missing-entry p v (w .gone) (w .seg) (w .base) d (w .base + k) (q .1) (sym (c .before .has-drive .ensures) ∙ c .if1 .taken)),
       ),
     )
 

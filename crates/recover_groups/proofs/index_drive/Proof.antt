@@ -7,13 +7,12 @@ use borrow.Author.Tests.{not-true, not-false}
 use native.Mathlib.Omega.{arith}
 use lib.ListN.{length, getD, set}
 use borrow.Author.Needs.{needs}
-use Rattle.spec.specs.Drives.{zoneAt, viewOf, recordIn, seg}
+use Rattle.spec.specs.Drives.{zoneAt, viewOf, recordIn}
 use Rattle.spec.specs.History.{before}
 use Rattle.spec.specs.Layout.{mkRec}
 use Rattle.spec.specs.Segments.{recsOn}
 use Rattle.law_basic.specs.Geometry.{ranged}
 use Rattle.law_basic.specs.Ranges.{not-both}
-use Rattle.law_basic.specs.Segs.{zone-on-lt, seg-named}
 use Rattle.law_drives.specs.Tests.{cond-true, cond-false}
 use Rattle.recover_groups.specs.Bases.{group-len-le, group-len-fits}
 use Rattle.recover_groups.specs.Chunks.{group-record}
@@ -22,6 +21,7 @@ use Rattle.recover_groups.specs.Groups.{groupLen, groupRecs, segmentIn}
 use Rattle.disk_records.specs.Record.{recVal}
 use Rattle.recover_groups.proofs.index_drive.Statement.{statement}
 use Rattle.recover_groups.proofs.index_drive.Tie as tie
+use Rattle.law_basic.specs.Segs.{low-zone}
 
 abbrev Inv-loop : tie.InvT-loop
 Inv-loop p image pointers w drive at₀ n base zone i₀ at i = (i ≤ n) × Entering p drive (w .base) (groupRecs p (w .base) (recsOn (segmentIn p image pointers w) drive)) at₀ at i
@@ -31,11 +31,15 @@ abbrev μ-loop : tie.MeasureT-loop
 
 group-stored-requires : tie.Need-group-stored-requires Inv-loop μ-loop
 group-stored-requires c κs =
+    let args = c .before .before .before .args in
     let pre = c .before .before .before .pre in
-    (pre .0, (pre .1 .0 .pointers-long, pre .1 .1 .0 .1, pre .1 .1 .0 .2, pre .1 .1 .0 .3))
+    let q = pre .1 .1 .0 in
+    (pre .0, (pre .1 .0 .pointers-long, q .1, low-zone (args .p) (args .w .gone) (args .w .seg) (args .drive) (q .2) (q .1) (q .5), q .3))
 
 zone-on-requires : tie.Need-zone-on-requires Inv-loop μ-loop
-zone-on-requires c κs = tt
+zone-on-requires c κs =
+    let pre = c .before .before .before .before .pre in
+    (pre .0, pre .1 .1 .0 .1)
 
 loop-holds : tie.Need-loop-holds Inv-loop μ-loop
 loop-holds c =
@@ -72,7 +76,7 @@ record-of-requires c κs =
       (
         pre .1 .0 .image-long,
         pre .1 .1 .0 .1,
-        rw (zone-on .ensures) (zone-on-lt (args .p) (seg (args .w .seg)) (args .drive) (seg-named (args .p) (args .w .seg) (pre .1 .1 .0 .2))),
+        rw (zone-on .ensures) (low-zone (args .p) (args .w .gone) (args .w .seg) (args .drive) (pre .1 .1 .0 .2) (pre .1 .1 .0 .1) (pre .1 .1 .0 .5)),
         (let f = group-len-fits (args .p) (args .w .base) (omega (arith, pre .1 .1 .0 .3)) in omega (
           arith,
           f,
@@ -120,7 +124,7 @@ returns c =
     let r = recVal (record-of .result) in
     let e : r ≡ getD rs i (mkRec 0 0 0) = record-of .ensures ps (pre .1 .0 .pointers-long)
     ∙ (λ j. recordIn p (pre .1 .1 .1 .0 j) (zoneAt v d (zone-on .ensures j)) (w .base + i))
-    ∙ group-record p v (w .gone) (seg (w .seg)) (w .base) d i (q .1) (q .5) h in
+    ∙ group-record p v (w .gone) (w .seg) (w .base) d i (q .1) (q .5) h in
     let g : 0 < p .G = omega (arith, ranged (a .p) (pre .0) .group-low) in
     let b = entering-bad-data p d (w .base) rs (a .at .now) (loop .at) i (loop .inv .1) h g (q .3) (q .4) l r e (sym (c .before .stored-bad .ensures) ∙ c .if1 .taken) in
     (sym (ap not b), (loop .inv .1 .lower, λ t. absurd (not-both false t refl)))
@@ -179,7 +183,7 @@ returns-2 c =
     let r = recVal (record-of .result) in
     let e : r ≡ getD rs i (mkRec 0 0 0) = record-of .ensures ps (pre .1 .0 .pointers-long)
     ∙ (λ j. recordIn p (pre .1 .1 .1 .0 j) (zoneAt v d (zone-on .ensures j)) (w .base + i))
-    ∙ group-record p v (w .gone) (seg (w .seg)) (w .base) d i (q .1) (q .5) h in
+    ∙ group-record p v (w .gone) (w .seg) (w .base) d i (q .1) (q .5) h in
     let g : 0 < p .G = omega (arith, ranged (a .p) (pre .0) .group-low) in
     let t : enter .result ≡ false = not-true (enter .result) (c .if2 .taken) in
     let b = entering-bad p d (w .base) rs (a .at .now) (loop .at) i (loop .inv .1) h g (q .3) (q .4) l r e (sym (enter .ensures .0) ∙ t) in
@@ -219,7 +223,7 @@ loop-again c =
     let r = recVal (record-of .result) in
     let e : r ≡ getD rs i (mkRec 0 0 0) = record-of .ensures ps (pre .1 .0 .pointers-long)
     ∙ (λ j. recordIn p (pre .1 .1 .1 .0 j) (zoneAt v d (zone-on .ensures j)) (w .base + i))
-    ∙ group-record p v (w .gone) (seg (w .seg)) (w .base) d i (q .1) (q .5) h in
+    ∙ group-record p v (w .gone) (w .seg) (w .base) d i (q .1) (q .5) h in
     let g : 0 < p .G = omega (arith, ranged (a .p) (pre .0) .group-low) in
     let t : enter .result ≡ true = not-false (enter .result) (c .if2 .left) in
     let f = group-len-le p (w .base) in

@@ -5,7 +5,7 @@ use Prim.Native.Nat.{ℕ, _-_, _≤_, _<_}
 use borrow.Author.Tests.{not-false}
 use native.Mathlib.Omega.{arith}
 use lib.ListN.{length}
-use Rattle.spec.specs.Drives.{viewOf, seg}
+use Rattle.spec.specs.Drives.{viewOf}
 use Rattle.spec.specs.History.{before}
 use Rattle.spec.specs.Lists.{upFrom, below, any, isIn}
 use Rattle.spec.specs.Segments.{recsOn}
@@ -134,7 +134,7 @@ returns-2 c =
     let F = driveBad p (w .gone) g (w .base) in
     let b : groupFault p (w .gone) g (w .base) ≡ false = fault-list p (w .gone) g (w .base) ∙ sym (loop .inv .3) ∙ any-ended F (loop .d) (p .N) (omega (arith, c .if1 .left)) in (
       sym (ap not b),
-      λ h. indexed-of p v (w .gone) (seg (w .seg)) (w .base) (loop .at) (omega (arith, ranged (a .p) (pre .0) .group-low)) (q .2) (q .3) h
+      λ h. indexed-of p v (w .gone) (w .seg) (w .base) (loop .at) (omega (arith, ranged (a .p) (pre .0) .group-low)) (q .2) (q .3) h
           (λ e he. loop .inv .2 e (omega (arith, he, c .if1 .left))),
     )
 

@@ -6,6 +6,7 @@ use Rattle.spec.specs.Lists.{isIn}
 use Rattle.law_basic.specs.Ranges.{not-both}
 use Rattle.recover_groups.proofs.present_rec.Statement.{statement}
 use Rattle.recover_groups.proofs.present_rec.Tie as tie
+use Rattle.law_basic.specs.Segs.{low-zone}
 
 has-drive-requires : tie.Need-has-drive-requires
 has-drive-requires c κs = search needs
@@ -20,7 +21,9 @@ stored-rec-requires : tie.Need-stored-rec-requires
 stored-rec-requires c κs =
     let a = c .before .before .before .before .args in
     let pre = c .before .before .before .before .pre in
-    (pre .0, (pre .1 .0, pre .1 .1 (a .drive) (pre .1 .0 .4) (sym (c .before .has-drive .ensures) ∙ c .if1 .left)))
+    let q = pre .1 .0 in
+    let here = sym (c .before .has-drive .ensures) ∙ c .if1 .left in
+    (pre .0, ((q .0, q .1, low-zone (a .p) (a .w .gone) (a .w .seg) (a .drive) (q .2) (q .4) here, q .3, q .4, q .5), pre .1 .1 (a .drive) (q .4) here))
 
 returns-2 : tie.Need-returns-2
 returns-2 c = λ ps x e. c .stored-rec .ensures ps x

@@ -7,6 +7,7 @@ use Rattle.recover_groups.specs.Groups.{segmentIn}
 use borrow.Author.Needs.{needs}
 use Rattle.recover_groups.proofs.rec_of.Statement.{statement}
 use Rattle.recover_groups.proofs.rec_of.Tie as tie
+use Rattle.law_basic.specs.Segs.{low-zone}
 
 has-drive-requires : tie.Need-has-drive-requires
 has-drive-requires c κs = search needs
@@ -29,7 +30,9 @@ stored-rec-requires c κs =
     let entry = c .before .before .before .before in
     let args = entry .args in
     let pre = entry .pre in
-    (pre .0, (pre .1 .0, pre .1 .1 (args .drive) (pre .1 .0 .4) (sym (c .before .has-drive .ensures) ∙ c .if1 .left)))
+    let q = pre .1 .0 in
+    let here = sym (c .before .has-drive .ensures) ∙ c .if1 .left in
+    (pre .0, ((q .0, q .1, low-zone (args .p) (args .w .gone) (args .w .seg) (args .drive) (q .2) (q .4) here, q .3, q .4, q .5), pre .1 .1 (args .drive) (q .4) here))
 
 returns-2 : tie.Need-returns-2
 returns-2 c =

@@ -1,18 +1,18 @@
 -- `stored_rec`: an entered chunk's offset lies in the group, below S, and the record read at it is the stripe's, by `record-read`. Assumes nothing.
 use mathlib.Core.Path.{_∙_}
 use native.Mathlib.Omega.{arith}
-use Rattle.spec.specs.Drives.{zoneAt, viewOf, recordIn, seg}
+use Rattle.spec.specs.Drives.{zoneAt, viewOf, recordIn}
 use Rattle.spec.specs.History.{before}
 use Rattle.law_basic.specs.Geometry.{ranged}
-use Rattle.law_basic.specs.Segs.{zone-on-lt, seg-named}
 use Rattle.recover_groups.specs.Bases.{group-len-le, group-len-fits}
 use Rattle.recover_groups.specs.Pieces.{record-read}
-use borrow.Author.Needs.{needs}
 use Rattle.recover_groups.proofs.stored_rec.Statement.{statement}
 use Rattle.recover_groups.proofs.stored_rec.Tie as tie
 
 zone-on-requires : tie.Need-zone-on-requires
-zone-on-requires c κs = search needs
+zone-on-requires c κs =
+    let pre = c .before .before .pre in
+    (pre .0, pre .1 .0 .4)
 
 offset-on-requires : tie.Need-offset-on-requires
 offset-on-requires c κs =
@@ -37,7 +37,7 @@ record-in-requires c κs =
       (
         pre .1 .0 .0,
         pre .1 .0 .4,
-        rw (c .before .zone-on .ensures) (zone-on-lt (args .p) (seg (args .w .seg)) (args .drive) (seg-named (args .p) (args .w .seg) (pre .1 .0 .2))),
+        rw (c .before .zone-on .ensures) (pre .1 .0 .2),
         omega (arith, f, c .offset-on .ensures .0, pre .1 .1 .0, pre .1 .1 .1),
       ),
     )
@@ -52,7 +52,7 @@ returns c =
     let im = a .image .now in
     λ ps x. c .record-in .ensures ps (x .long)
     ∙ (λ j. recordIn p (w .full) (zoneAt (viewOf p im ps) (a .drive) (zone-on .ensures j)) (c .before .offset-on .ensures .0 j))
-    ∙ record-read p im ps w (a .at .now) (ranged (a .p) (pre .0)) (pre .1 .0 .0) x (pre .1 .0 .2) (pre .1 .0 .3) (a .k) (pre .1 .0 .5) (a .drive) (pre .1 .0 .4) (pre .1 .1 .0)
+    ∙ record-read p im ps w (a .at .now) (ranged (a .p) (pre .0)) (pre .1 .0 .0) x (pre .1 .0 .3) (a .k) (pre .1 .0 .5) (a .drive) (pre .1 .0 .4) (pre .1 .1 .0)
 
 pub stored-rec-spec : {M : Type 1} → statement M
 stored-rec-spec =

@@ -5,10 +5,8 @@ use native.Mathlib.Omega.{arith}
 use Rattle.spec.specs.Bytes.{part, xors}
 use Rattle.spec.specs.History.{before}
 use Rattle.spec.specs.Params.{unitLen, placeOf, placeByte}
-use Rattle.spec.specs.Drives.{seg}
 use Rattle.law_basic.specs.Geometry.{ranged, data-below}
 use Rattle.law_basic.specs.Splice.{part-lent}
-use Rattle.law_basic.specs.Segs.{zone-on-lt, seg-named}
 use Rattle.recover_groups.specs.Bases.{group-len-le, group-len-fits}
 use Rattle.recover_groups.specs.Pieces.{block-read}
 use borrow.Author.Needs.{needs}
@@ -16,7 +14,9 @@ use Rattle.recover_groups.proofs.xor_block.Statement.{statement}
 use Rattle.recover_groups.proofs.xor_block.Tie as tie
 
 zone-on-requires : tie.Need-zone-on-requires
-zone-on-requires c κs = search needs
+zone-on-requires c κs =
+    let pre = c .before .before .before .pre in
+    (pre .0, pre .1 .0 .4)
 
 offset-on-requires : tie.Need-offset-on-requires
 offset-on-requires c κs =
@@ -47,7 +47,7 @@ block-byte-requires c κs =
       pre .0,
       (
         pre .1 .0 .4,
-        rw (c .before .zone-on .ensures) (zone-on-lt (args .p) (seg (args .w .seg)) (args .drive) (seg-named (args .p) (args .w .seg) (pre .1 .0 .2))),
+        rw (c .before .zone-on .ensures) (pre .1 .0 .2),
         data-below (args .p) (ranged (args .p) (pre .0)) (1 + c .offset-on .result)
             (omega (arith, f, c .offset-on .ensures .0, pre .1 .1 .0, pre .1 .1 .1)),
       ),
@@ -87,7 +87,7 @@ returns c =
     let im = a .image .now in
     λ ps x. xor-into .ensures ∙ ap (xors (a .block .now)) (part-lent (block-byte .result) (p .B) im
     ∙ ap (λ (t : ℕ). part t (p .B) im) (block-byte .ensures .0 ∙ (λ j. placeByte p (placeOf p (a .drive) (zone-on .ensures j) (1 + offset-on .ensures .0 j))))
-    ∙ sym (block-read p im ps w (a .at .now) (ranged (a .p) (pre .0)) (pre .1 .0 .0) x (pre .1 .0 .2) (pre .1 .0 .3) (a .k) (pre .1 .0 .5) (a .drive) (pre .1 .0 .4) (pre .1 .1 .0)))
+    ∙ sym (block-read p im ps w (a .at .now) (ranged (a .p) (pre .0)) (pre .1 .0 .0) x (pre .1 .0 .3) (a .k) (pre .1 .0 .5) (a .drive) (pre .1 .0 .4) (pre .1 .0 .2) (pre .1 .1 .0)))
 
 pub xor-block-spec : {M : Type 1} → statement M
 xor-block-spec =

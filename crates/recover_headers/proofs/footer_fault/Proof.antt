@@ -5,7 +5,7 @@ use Prim.Native.Nat.{ℕ, _-_, _≤_}
 use native.Mathlib.Omega.{arith}
 use Rattle.spec.specs.Lists.{upFrom, below, any, isIn}
 use Rattle.law_scans.specs.Scans.{any-found, any-passed, any-ended, any-start}
-use Rattle.spec.specs.Drives.{viewOf, zoneAt, zoneOn, seg}
+use Rattle.spec.specs.Drives.{viewOf, zoneAt, zoneOn}
 use Rattle.spec.specs.Faults.{footerFaultIn}
 use Rattle.recover_headers.specs.Fronts.{footer-list}
 use Rattle.recover_headers.proofs.footer_fault.Statement.{statement}
@@ -14,8 +14,8 @@ use Rattle.recover_headers.proofs.footer_fault.Tie as tie
 abbrev Inv-loop : tie.InvT-loop
 Inv-loop p image pointers gone segment d₀ d =
     (d ≤ p .N)
-    × (any (λ e. not (isIn gone e) && footerFaultIn p (zoneAt (viewOf p image pointers) e (zoneOn (seg segment) e))) (upFrom d (p .N - d))
-    ≡ any (λ e. not (isIn gone e) && footerFaultIn p (zoneAt (viewOf p image pointers) e (zoneOn (seg segment) e))) (below (p .N)))
+    × (any (λ e. not (isIn gone e) && footerFaultIn p (zoneAt (viewOf p image pointers) e (zoneOn segment e))) (upFrom d (p .N - d))
+    ≡ any (λ e. not (isIn gone e) && footerFaultIn p (zoneAt (viewOf p image pointers) e (zoneOn segment e))) (below (p .N)))
 
 abbrev μ-loop : tie.MeasureT-loop
 μ-loop p image pointers gone segment d₀ d = p .N - d
@@ -23,7 +23,7 @@ abbrev μ-loop : tie.MeasureT-loop
 loop-holds : tie.Need-loop-holds Inv-loop μ-loop
 loop-holds c =
     let a = c .before .before .args in
-    (omega arith, any-start (λ e. not (isIn (a .gone) e) && footerFaultIn (a .p) (zoneAt (viewOf (a .p) (a .image .now) (a .pointers .now)) e (zoneOn (seg (a .segment)) e))) (a .p .N))
+    (omega arith, any-start (λ e. not (isIn (a .gone) e) && footerFaultIn (a .p) (zoneAt (viewOf (a .p) (a .image .now) (a .pointers .now)) e (zoneOn (a .segment) e))) (a .p .N))
 
 drive-footer-fault-requires : tie.Need-drive-footer-fault-requires Inv-loop μ-loop
 drive-footer-fault-requires c κs =
@@ -37,9 +37,9 @@ returns c =
     let l = c .before .before .before .before .loop in
     let if1 = c .before .before .if1 in
     let pre = c .before .before .before .before .before .before .before .pre in
-    let f : ℕ → Bool = λ e. not (isIn (a .gone) e) && footerFaultIn (a .p) (zoneAt (viewOf (a .p) (a .image .now) (a .pointers .now)) e (zoneOn (seg (a .segment)) e)) in
+    let f : ℕ → Bool = λ e. not (isIn (a .gone) e) && footerFaultIn (a .p) (zoneAt (viewOf (a .p) (a .image .now) (a .pointers .now)) e (zoneOn (a .segment) e)) in
     (sym (any-found f (l .d) (a .p .N) (if1 .taken) (sym (c .before .drive-footer-fault .ensures) ∙ c .if2 .taken)) ∙ l .inv .1)
-    ∙ sym (footer-list (a .p) (a .image .now) (a .pointers .now) (pre .1 .0 .image-long) (pre .1 .0 .pointers-long) (a .gone) (seg (a .segment)))
+    ∙ sym (footer-list (a .p) (a .image .now) (a .pointers .now) (pre .1 .0 .image-long) (pre .1 .0 .pointers-long) (a .gone) (a .segment))
 
 add-d : tie.Need-add-d Inv-loop μ-loop
 add-d c = omega arith
@@ -52,7 +52,7 @@ loop-again c =
     let a = c .before .before .before .before .before .before .before .args in
     let l = c .before .before .before .before .loop in
     let if1 = c .before .before .if1 in
-    let f : ℕ → Bool = λ e. not (isIn (a .gone) e) && footerFaultIn (a .p) (zoneAt (viewOf (a .p) (a .image .now) (a .pointers .now)) e (zoneOn (seg (a .segment)) e)) in
+    let f : ℕ → Bool = λ e. not (isIn (a .gone) e) && footerFaultIn (a .p) (zoneAt (viewOf (a .p) (a .image .now) (a .pointers .now)) e (zoneOn (a .segment) e)) in
     (omega (arith, if1 .taken), sym (any-passed f (l .d) (a .p .N) (if1 .taken) (sym (c .before .drive-footer-fault .ensures) ∙ c .if2 .left)) ∙ l .inv .1)
 
 returns-2 : tie.Need-returns-2 Inv-loop μ-loop
@@ -60,9 +60,9 @@ returns-2 c =
     let a = c .before .before .before .before .before .args in
     let l = c .before .before .loop in
     let pre = c .before .before .before .before .before .pre in
-    let f : ℕ → Bool = λ e. not (isIn (a .gone) e) && footerFaultIn (a .p) (zoneAt (viewOf (a .p) (a .image .now) (a .pointers .now)) e (zoneOn (seg (a .segment)) e)) in
+    let f : ℕ → Bool = λ e. not (isIn (a .gone) e) && footerFaultIn (a .p) (zoneAt (viewOf (a .p) (a .image .now) (a .pointers .now)) e (zoneOn (a .segment) e)) in
     (sym (any-ended f (l .d) (a .p .N) (omega (arith, c .if1 .left))) ∙ l .inv .1)
-    ∙ sym (footer-list (a .p) (a .image .now) (a .pointers .now) (pre .1 .0 .image-long) (pre .1 .0 .pointers-long) (a .gone) (seg (a .segment)))
+    ∙ sym (footer-list (a .p) (a .image .now) (a .pointers .now) (pre .1 .0 .image-long) (pre .1 .0 .pointers-long) (a .gone) (a .segment))
 
 pub footer-fault-spec : {M : Type 1} → statement M
 footer-fault-spec =

@@ -4,9 +4,7 @@ use mathlib.Core.Bool.{Bool, not, _&&_}
 use Prim.Native.Nat.{ℕ, _-_, _≤_}
 use native.Mathlib.Omega.{arith}
 use Rattle.spec.specs.Lists.{upFrom, below, any, isIn}
-use Rattle.spec.specs.Drives.{seg}
 use Rattle.law_scans.specs.Scans.{any-found, any-passed, any-ended, any-start}
-use Rattle.law_basic.specs.Segs.{seg-named}
 use Rattle.recover_headers.specs.Fronts.{headerOff, header-list}
 use Rattle.recover_headers.proofs.header_fault.Statement.{statement}
 use Rattle.recover_headers.proofs.header_fault.Tie as tie
@@ -14,8 +12,8 @@ use Rattle.recover_headers.proofs.header_fault.Tie as tie
 abbrev Inv-loop : tie.InvT-loop
 Inv-loop p image gone segment serial copied d₀ d =
     (d ≤ p .N)
-    × (any (λ e. not (isIn gone e) && headerOff p image (seg segment) (serial .0) (copied .0) e) (upFrom d (p .N - d))
-    ≡ any (λ e. not (isIn gone e) && headerOff p image (seg segment) (serial .0) (copied .0) e) (below (p .N)))
+    × (any (λ e. not (isIn gone e) && headerOff p image segment (serial .0) (copied .0) e) (upFrom d (p .N - d))
+    ≡ any (λ e. not (isIn gone e) && headerOff p image segment (serial .0) (copied .0) e) (below (p .N)))
 
 abbrev μ-loop : tie.MeasureT-loop
 μ-loop p image gone segment serial copied d₀ d = p .N - d
@@ -23,7 +21,7 @@ abbrev μ-loop : tie.MeasureT-loop
 loop-holds : tie.Need-loop-holds Inv-loop μ-loop
 loop-holds c =
     let a = c .before .args in
-    (omega arith, any-start (λ e. not (isIn (a .gone) e) && headerOff (a .p) (a .image .now) (seg (a .segment)) ((a .serial) .0) ((a .copied) .0) e) (a .p .N))
+    (omega arith, any-start (λ e. not (isIn (a .gone) e) && headerOff (a .p) (a .image .now) (a .segment) ((a .serial) .0) ((a .copied) .0) e) (a .p .N))
 
 header-differs-requires : tie.Need-header-differs-requires Inv-loop μ-loop
 header-differs-requires c κs =
@@ -37,9 +35,9 @@ returns c =
     let l = c .before .before .before .before .loop in
     let if1 = c .before .before .if1 in
     let pre = c .before .before .before .before .before .before .pre in
-    let f : ℕ → Bool = λ e. not (isIn (a .gone) e) && headerOff (a .p) (a .image .now) (seg (a .segment)) ((a .serial) .0) ((a .copied) .0) e in
+    let f : ℕ → Bool = λ e. not (isIn (a .gone) e) && headerOff (a .p) (a .image .now) (a .segment) ((a .serial) .0) ((a .copied) .0) e in
     λ ps long es ec. (sym (any-found f (l .d) (a .p .N) (if1 .taken) (sym (c .before .header-differs .ensures) ∙ c .if2 .taken)) ∙ l .inv .1)
-    ∙ sym (header-list (a .p) (a .image .now) ps (pre .1 .0) long (a .gone) (seg (a .segment)) (a .serial .0) (a .copied .0) (pre .0) (seg-named (a .p) (a .segment) (pre .1 .1)) es ec)
+    ∙ sym (header-list (a .p) (a .image .now) ps (pre .1 .0) long (a .gone) (a .segment) (a .serial .0) (a .copied .0) (pre .0) (pre .1 .1) es ec)
 
 add-d : tie.Need-add-d Inv-loop μ-loop
 add-d c = omega arith
@@ -52,7 +50,7 @@ loop-again c =
     let a = c .before .before .before .before .before .before .args in
     let l = c .before .before .before .before .loop in
     let if1 = c .before .before .if1 in
-    let f : ℕ → Bool = λ e. not (isIn (a .gone) e) && headerOff (a .p) (a .image .now) (seg (a .segment)) ((a .serial) .0) ((a .copied) .0) e in
+    let f : ℕ → Bool = λ e. not (isIn (a .gone) e) && headerOff (a .p) (a .image .now) (a .segment) ((a .serial) .0) ((a .copied) .0) e in
     (omega (arith, if1 .taken), sym (any-passed f (l .d) (a .p .N) (if1 .taken) (sym (c .before .header-differs .ensures) ∙ c .if2 .left)) ∙ l .inv .1)
 
 returns-2 : tie.Need-returns-2 Inv-loop μ-loop
@@ -60,9 +58,9 @@ returns-2 c =
     let a = c .before .before .before .before .args in
     let l = c .before .before .loop in
     let pre = c .before .before .before .before .pre in
-    let f : ℕ → Bool = λ e. not (isIn (a .gone) e) && headerOff (a .p) (a .image .now) (seg (a .segment)) ((a .serial) .0) ((a .copied) .0) e in
+    let f : ℕ → Bool = λ e. not (isIn (a .gone) e) && headerOff (a .p) (a .image .now) (a .segment) ((a .serial) .0) ((a .copied) .0) e in
     λ ps long es ec. (sym (any-ended f (l .d) (a .p .N) (omega (arith, c .if1 .left))) ∙ l .inv .1)
-    ∙ sym (header-list (a .p) (a .image .now) ps (pre .1 .0) long (a .gone) (seg (a .segment)) (a .serial .0) (a .copied .0) (pre .0) (seg-named (a .p) (a .segment) (pre .1 .1)) es ec)
+    ∙ sym (header-list (a .p) (a .image .now) ps (pre .1 .0) long (a .gone) (a .segment) (a .serial .0) (a .copied .0) (pre .0) (pre .1 .1) es ec)
 
 pub header-fault-spec : {M : Type 1} → statement M
 header-fault-spec =

@@ -1,6 +1,6 @@
 -- `move_stripe`: what is owed are the chunks of the drives from d on; to is not the segment, which stays as it is; one turn pays d, or is cut. Assumes nothing.
 use Prim.Native.Nat.{_+_, _-_}
-use Rattle.spec.specs.Drives.{mkDisk, seg}
+use Rattle.spec.specs.Drives.{mkDisk}
 use Rattle.spec.specs.Lists.{upFrom}
 use Rattle.spec.specs.Restart.{movedStripe}
 use Rattle.recover_groups.specs.Groups.{segmentIn}
@@ -12,13 +12,14 @@ use mathlib.Core.Path.{_≡_, refl, _∙_}
 use native.Mathlib.Omega.{arith}
 use Rattle.recover_move.proofs.move_stripe.Statement.{statement}
 use Rattle.recover_move.proofs.move_stripe.Tie as tie
+use Rattle.law_basic.specs.Segs.{low-here}
 
 abbrev Inv-loop : tie.InvT-loop
 Inv-loop p image₀ pointers₀ w at k to s count left₀ d₀ image pointers left d =
     (length image ≡ length image₀)
     × (length pointers ≡ length pointers₀)
-    × Moves p count (movedStripe p (segmentIn p image₀ pointers₀ w) (seg to) (w .base + k) s) (mkDisk image₀ pointers₀) (seg (w .seg))
-    (map (movedTo p (segmentIn p image₀ pointers₀ w) (seg to) (w .base + k) s) (upFrom d (p .N - d))) left (mkDisk image pointers)
+    × Moves p count (movedStripe p (segmentIn p image₀ pointers₀ w) to (w .base + k) s) (mkDisk image₀ pointers₀) (w .seg)
+    (map (movedTo p (segmentIn p image₀ pointers₀ w) to (w .base + k) s) (upFrom d (p .N - d))) left (mkDisk image pointers)
 
 abbrev μ-loop : tie.MeasureT-loop
 μ-loop p image₀ pointers₀ w at k to s count left₀ d₀ image pointers left d = p .N - d
@@ -31,7 +32,7 @@ loop-holds c =
       refl,
       refl,
       row-moves-start (args .p) (ranged (args .p) (pre .0)) (args .count) (mkDisk (args .image .now) (args .pointers .now)) (args .w)
-          (pre .1 .1 .0 .seg-low) (pre .1 .1 .0 .none-gone) (seg (args .to)) (args .w .base + args .k) (args .s) (pre .1 .1 .1 .1 .1 .0 .2) (pre .1 .0)
+          (pre .1 .1 .0 .seg-low) (pre .1 .1 .0 .none-gone) (args .to) (args .w .base + args .k) (args .s) (pre .1 .1 .1 .1 .1 .0 .2) (pre .1 .0)
           (pre .1 .1 .1 .1 .1 .1),
     )
 
@@ -50,17 +51,17 @@ move-chunk-requires c κs =
             pre .1 .1 .1 .0,
             (
               moves-reads (a .p) (ranged (a .p) (pre .0)) (a .count)
-                  (movedStripe (a .p) (segmentIn (a .p) (a .image .now) (a .pointers .now) (a .w)) (seg (a .to)) (a .w .base + a .k) (a .s))
-                  (mkDisk (a .image .now) (a .pointers .now)) (seg (a .w .seg))
-                  (map (movedTo (a .p) (segmentIn (a .p) (a .image .now) (a .pointers .now) (a .w)) (seg (a .to)) (a .w .base + a .k) (a .s))
+                  (movedStripe (a .p) (segmentIn (a .p) (a .image .now) (a .pointers .now) (a .w)) (a .to) (a .w .base + a .k) (a .s))
+                  (mkDisk (a .image .now) (a .pointers .now)) (a .w .seg)
+                  (map (movedTo (a .p) (segmentIn (a .p) (a .image .now) (a .pointers .now) (a .w)) (a .to) (a .w .base + a .k) (a .s))
                   (upFrom (loop .d) (a .p .N - loop .d))) (loop .left) (mkDisk (loop .image) (loop .pointers)) (loop .inv .2) (a .w)
                   (pre .1 .1 .0 .none-gone) refl (a .at .now) (pre .1 .1 .1 .1 .0),
               (
                 if1 .taken,
-                pre .1 .1 .1 .1 .1 .0 .0,
+                low-here (a .p) (a .to) (loop .d) (pre .1 .1 .1 .1 .1 .0 .0) (if1 .taken),
                 pre .1 .1 .1 .1 .1 .0 .1,
                 row-room (a .p) (ranged (a .p) (pre .0)) (a .count) (mkDisk (a .image .now) (a .pointers .now)) (a .w) (pre .1 .1 .0 .seg-low)
-                    (pre .1 .1 .0 .none-gone) (seg (a .to)) (a .w .base + a .k) (a .s) (pre .1 .1 .1 .1 .1 .0 .2) (loop .d) (loop .left)
+                    (pre .1 .1 .0 .none-gone) (a .to) (a .w .base + a .k) (a .s) (pre .1 .1 .1 .1 .1 .0 .2) (loop .d) (loop .left)
                     (mkDisk (loop .image) (loop .pointers)) (loop .inv .2) (if1 .taken),
               ),
             ),
@@ -90,7 +91,7 @@ returns c =
     let args = entry .args in
     let pre = entry .pre in
     row-cut (args .p) (ranged (args .p) (pre .0)) (args .count) (mkDisk (args .image .now) (args .pointers .now)) (args .w) (pre .1 .1 .0 .seg-low)
-    (pre .1 .1 .0 .none-gone) (seg (args .to)) (args .w .base + args .k) (args .s) (pre .1 .1 .1 .1 .1 .0 .2) (loop .d) (loop .left)
+    (pre .1 .1 .0 .none-gone) (args .to) (args .w .base + args .k) (args .s) (pre .1 .1 .1 .1 .1 .0 .2) (loop .d) (loop .left)
     (mkDisk (loop .image) (loop .pointers)) (loop .inv .2) (if1 .taken) (move-chunk .result)
     (mkDisk (move-chunk .last .1 .0) (move-chunk .last .1 .1 .0)) (move-chunk .ensures) (c .if2 .taken)
 
@@ -113,7 +114,7 @@ loop-again c =
       move-chunk .kept .1 .1 .0
           ∙ loop .inv .1,
       row-turn (args .p) (ranged (args .p) (pre .0)) (args .count) (mkDisk (args .image .now) (args .pointers .now)) (args .w)
-          (pre .1 .1 .0 .seg-low) (pre .1 .1 .0 .none-gone) (seg (args .to)) (args .w .base + args .k) (args .s) (pre .1 .1 .1 .1 .1 .0 .2) (loop .d)
+          (pre .1 .1 .0 .seg-low) (pre .1 .1 .0 .none-gone) (args .to) (args .w .base + args .k) (args .s) (pre .1 .1 .1 .1 .1 .0 .2) (loop .d)
           (loop .left) (mkDisk (loop .image) (loop .pointers)) (loop .inv .2) (if1 .taken) (move-chunk .result)
           (mkDisk (move-chunk .last .1 .0) (move-chunk .last .1 .1 .0)) (move-chunk .ensures) (c .if2 .left),
     )
@@ -131,7 +132,7 @@ returns-2 c =
     let args = entry .args in
     let pre = entry .pre in
     row-done (args .p) (ranged (args .p) (pre .0)) (args .count) (mkDisk (args .image .now) (args .pointers .now)) (args .w) (pre .1 .1 .0 .seg-low)
-    (pre .1 .1 .0 .none-gone) (seg (args .to)) (args .w .base + args .k) (args .s) (pre .1 .1 .1 .1 .1 .0 .2) (loop .d) (loop .left)
+    (pre .1 .1 .0 .none-gone) (args .to) (args .w .base + args .k) (args .s) (pre .1 .1 .1 .1 .1 .0 .2) (loop .d) (loop .left)
     (mkDisk (loop .image) (loop .pointers)) (loop .inv .2) (omega (arith, c .if1 .left))
 
 pub move-stripe-spec : {M : Type 1} → statement M

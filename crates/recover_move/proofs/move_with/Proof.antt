@@ -1,8 +1,7 @@
 -- `move_with`: block and record of the moved chunk, the record as a spare, make the one store, by `put-moved`. Assumes nothing.
 use Prim.Native.Nat.{_+_}
-use Rattle.spec.specs.Drives.{mkDisk, zoneOn, seg}
+use Rattle.spec.specs.Drives.{mkDisk, zoneOn}
 use Rattle.recover_groups.specs.Groups.{segmentIn}
-use Rattle.law_basic.specs.Segs.{zone-on-lt, seg-named}
 use Rattle.law_basic.specs.Geometry.{spare-len}
 use Rattle.recover_move.specs.Moves.{put-moved}
 use Rattle.law_basic.specs.Fields.{length-record}
@@ -25,7 +24,9 @@ write-record-requires : tie.Need-write-record-requires
 write-record-requires c κs = sym spare-len
 
 zone-on-requires : tie.Need-zone-on-requires
-zone-on-requires c κs = search needs
+zone-on-requires c κs =
+    let pre = c .before .before .before .before .before .before .before .before .before .before .before .before .pre in
+    (pre .0, pre .1 .1 .1 .1 .1 .0)
 
 slice-aggregate-put-limited : tie.Need-slice-aggregate-put-limited
 slice-aggregate-put-limited c = search needs
@@ -38,12 +39,12 @@ put-limited-requires c κs =
     let entry = c .before .before .before .before .before .before .before .before .before .before .before .before .before .before .before .before .before in
     let args = entry .args in
     let pre = entry .pre in
-    let z : zone-on .result ≡ zoneOn (seg (args .to)) (args .drive) = zone-on .ensures in (
+    let z : zone-on .result ≡ zoneOn (args .to) (args .drive) = zone-on .ensures in (
       pre .0,
       (
         pre .1 .0,
         (
-          (pre .1 .1 .1 .1 .1 .0, rw z (zone-on-lt (args .p) (seg (args .to)) (args .drive) (seg-named (args .p) (args .to) (pre .1 .1 .1 .1 .1 .1))), rw z (pre .1 .1 .1 .1 .1 .4)),
+          (pre .1 .1 .1 .1 .1 .0, rw z (pre .1 .1 .1 .1 .1 .1), rw z (pre .1 .1 .1 .1 .1 .4)),
           (
             moved-chunk .kept .1 .1 .1 .1 .1 .1 .1 .0
                 ∙ pre .1 .1 .1 .1 .1 .3,
@@ -71,7 +72,7 @@ returns c =
     let write-record = c .before .before .before .before .before .before .before .before .before .before .before .write-record in
     let moved-chunk = c .before .before .before .before .before .before .before .before .before .before .before .before .before .before .before .moved-chunk in
     let pre = c .before .before .before .before .before .before .before .before .before .before .before .before .before .before .before .before .before .before .before .before .before .before .pre in
-    put-moved (a .p) (a .count) (segmentIn (a .p) (a .image .now) (a .pointers .now) (a .w)) (seg (a .to)) (a .w .base + a .k) (a .s) (a .drive)
+    put-moved (a .p) (a .count) (segmentIn (a .p) (a .image .now) (a .pointers .now) (a .w)) (a .to) (a .w .base + a .k) (a .s) (a .drive)
     (zone-on .result) (moved-chunk .last .1 .1 .1 .1 .1 .1 .1 .0) (write-record .last .0) (recVal (moved-chunk .result))
     (mkDisk (a .image .now) (a .pointers .now)) (put-limited .result) (mkDisk (put-limited .last .1 .0) (put-limited .last .1 .1 .0))
     (zone-on .ensures) (moved-chunk .ensures (a .pointers .now) (pre .1 .1 .1 .1 .0)) (write-record .ensures) (put-limited .ensures)

@@ -10,6 +10,7 @@ use mathlib.Core.Path.{refl}
 use native.Mathlib.Omega.{arith}
 use Rattle.recover_move.proofs.moved_data.Statement.{statement}
 use Rattle.recover_move.proofs.moved_data.Tie as tie
+use Rattle.law_basic.specs.Segs.{zone-on-lt}
 
 add-data-drive : tie.Need-add-data-drive
 add-data-drive c =
@@ -23,13 +24,14 @@ data-drive-requires c κs = search needs
 
 copy-block-requires : tie.Need-copy-block-requires
 copy-block-requires c κs =
+    let args = c .before .before .before .before .before .before .args in
     let pre = c .before .before .before .before .before .before .pre in (
       pre .0,
       (
         (
           pre .1 .1 .1 .0,
           pre .1 .0 .at-long,
-          pre .1 .0 .seg-low,
+          zone-on-lt (args .p) (args .w .seg) (c .before .data-drive .result) (pre .1 .0 .seg-low),
           pre .1 .0 .base-low,
           c .before .data-drive .ensures .1,
           pre .1 .0 .in-group,
@@ -42,10 +44,18 @@ copy-block-requires c κs =
 stored-rec-requires : tie.Need-stored-rec-requires
 stored-rec-requires c κs =
     let data-drive = c .before .before .before .before .data-drive in
+    let args = c .before .before .before .before .before .before .before .before .before .args in
     let pre = c .before .before .before .before .before .before .before .before .before .pre in (
       pre .0,
       (
-        (pre .1 .1 .1 .0, pre .1 .0 .at-long, pre .1 .0 .seg-low, pre .1 .0 .base-low, data-drive .ensures .1, pre .1 .0 .in-group),
+        (
+          pre .1 .1 .1 .0,
+          pre .1 .0 .at-long,
+          zone-on-lt (args .p) (args .w .seg) (data-drive .result) (pre .1 .0 .seg-low),
+          pre .1 .0 .base-low,
+          data-drive .ensures .1,
+          pre .1 .0 .in-group,
+        ),
         pre .1 .1 .0 (data-drive .result) (data-drive .ensures .1) (isIn-empty (data-drive .result)),
       ),
     )

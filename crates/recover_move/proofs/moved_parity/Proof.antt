@@ -14,6 +14,7 @@ use mathlib.Core.Path.{_≡_, refl, ap, _∙_, subst}
 use native.Mathlib.Omega.{arith}
 use Rattle.recover_move.proofs.moved_parity.Statement.{statement}
 use Rattle.recover_move.proofs.moved_parity.Tie as tie
+use Rattle.law_basic.specs.Segs.{zone-on-lt}
 
 abbrev Inv-loop : tie.InvT-loop
 Inv-loop p image w at k s block₀ r₀ i₀ block r i =
@@ -65,13 +66,14 @@ xor-block-requires : tie.Need-xor-block-requires Inv-loop μ-loop
 xor-block-requires c κs =
     let loop = c .before .before .before .before .before .loop in
     let clear = c .before .before .before .before .before .before .before .before .clear in
+    let args = c .before .before .before .before .before .before .before .before .before .before .before .before .before .args in
     let pre = c .before .before .before .before .before .before .before .before .before .before .before .before .before .pre in (
       pre .0,
       (
         (
           pre .1 .1 .1 .0,
           pre .1 .0 .at-long,
-          pre .1 .0 .seg-low,
+          zone-on-lt (args .p) (args .w .seg) (c .before .data-drive .result) (pre .1 .0 .seg-low),
           pre .1 .0 .base-low,
           c .before .data-drive .ensures .1,
           pre .1 .0 .in-group,
@@ -86,10 +88,18 @@ xor-block-requires c κs =
 stored-rec-requires : tie.Need-stored-rec-requires Inv-loop μ-loop
 stored-rec-requires c κs =
     let data-drive = c .before .before .before .before .data-drive in
+    let args = c .before .before .before .before .before .before .before .before .before .before .before .before .before .before .before .before .args in
     let pre = c .before .before .before .before .before .before .before .before .before .before .before .before .before .before .before .before .pre in (
       pre .0,
       (
-        (pre .1 .1 .1 .0, pre .1 .0 .at-long, pre .1 .0 .seg-low, pre .1 .0 .base-low, data-drive .ensures .1, pre .1 .0 .in-group),
+        (
+          pre .1 .1 .1 .0,
+          pre .1 .0 .at-long,
+          zone-on-lt (args .p) (args .w .seg) (data-drive .result) (pre .1 .0 .seg-low),
+          pre .1 .0 .base-low,
+          data-drive .ensures .1,
+          pre .1 .0 .in-group,
+        ),
         pre .1 .1 .0 (data-drive .result) (data-drive .ensures .1) (isIn-empty (data-drive .result)),
       ),
     )

@@ -5,14 +5,13 @@ use Prim.Native.Nat.{ℕ, _+_, _≤_, _<_}
 use borrow.Author.Tests.{not-true, not-false}
 use borrow.Author.Needs.{needs}
 use native.Mathlib.Omega.{arith}
-use Rattle.spec.specs.Drives.{zoneAt, viewOf, mkDisk, pointerOf, sealedIn, footerStores, seg}
+use Rattle.spec.specs.Drives.{zoneAt, viewOf, mkDisk, pointerOf, sealedIn, footerStores}
 use Rattle.spec.specs.Engine.Call.{close}
 use Rattle.spec.specs.History.{before}
 use Rattle.spec.specs.Lists.{below}
 use Rattle.spec.specs.Params.{footers, capacity, named}
 use Rattle.spec.specs.Segments.{segmentOf}
 use Rattle.law_basic.specs.Geometry.{ranged}
-use Rattle.law_basic.specs.Segs.{seg-named, zone-on-lt}
 use Rattle.law_views.specs.Views.{AllFit}
 use Rattle.disk_zones.specs.Made.{Storing}
 use Rattle.recover_groups.specs.Groups.{recsFault}
@@ -38,13 +37,13 @@ put-groups-requires c κs =
         (
           subst (λ (x : ℕ). Lacks p x d) e (lacks-named p r d (h .1)),
           (
-            h .2,
+            (h .2, h .4),
             (
-              q .1 .1 .1 .0 ∙ ap (λ (x : ℕ). sealedIn p v x (seg (a .seg))) e,
+              q .1 .1 .1 .0 ∙ ap (λ (x : ℕ). sealedIn p v x (a .seg)) e,
               (
-                ap (λ (x : ℕ). recsFault p x (segmentOf p v x (seg (a .seg)))) (h .0) ∙ q .1 .1 .1 .1 .0,
-                subst (λ (x : ℕ). AllFit p v (lostStores p x d (segmentOf p v x (seg (a .seg))) (below (p .S)))) e
-                    (chunks-fit p r d (seg (a .seg)) (a .count) (h .1) (seg-named p (a .seg) (h .2)) (mkDisk (a .image .now) (a .pointers .now)) (q .1 .0) (q .1 .1 .1 .1 .1)),
+                ap (λ (x : ℕ). recsFault p x (segmentOf p v x (a .seg))) (h .0) ∙ q .1 .1 .1 .1 .0,
+                subst (λ (x : ℕ). AllFit p v (lostStores p x d (segmentOf p v x (a .seg)) (below (p .S)))) e
+                    (chunks-fit p r d (a .seg) (a .count) (h .1) (h .2) (mkDisk (a .image .now) (a .pointers .now)) (q .1 .0) (q .1 .1 .1 .1 .1)),
               ),
             ),
           ),
@@ -71,9 +70,9 @@ returns c =
     let k₀ = mkDisk (a .image .now) (a .pointers .now) in
     let m = put-groups .result in
     let k = mkDisk (put-groups .last .1 .0) (put-groups .last .1 .1 .0) in
-    let s : Storing p (a .count) (lostStores p (named d) d (segmentOf p v (named d) (seg (a .seg))) (below (p .S))) k₀ m k =
-    subst (λ (x : ℕ). Storing p (a .count) (lostStores p x d (segmentOf p v x (seg (a .seg))) (below (p .S))) k₀ m k) (h .0) (put-groups .ensures) in
-    chunks-cut p r d (seg (a .seg)) (a .count) (h .1) (seg-named p (a .seg) (h .2)) k₀ (q .1 .0) (q .1 .1 .1 .1 .1) m k s (c .if1 .taken)
+    let s : Storing p (a .count) (lostStores p (named d) d (segmentOf p v (named d) (a .seg)) (below (p .S))) k₀ m k =
+    subst (λ (x : ℕ). Storing p (a .count) (lostStores p x d (segmentOf p v x (a .seg)) (below (p .S))) k₀ m k) (h .0) (put-groups .ensures) in
+    chunks-cut p r d (a .seg) (a .count) (h .1) (h .2) k₀ (q .1 .0) (q .1 .1 .1 .1 .1) m k s (c .if1 .taken)
 
 same-length-3 : tie.Need-same-length-3
 same-length-3 c = search needs
@@ -94,13 +93,15 @@ returns-2 c =
     let k₀ = mkDisk (a .image .now) (a .pointers .now) in
     let m = put-groups .result in
     let k = mkDisk (put-groups .last .1 .0) (put-groups .last .1 .1 .0) in
-    let s : Storing p (a .count) (lostStores p (named d) d (segmentOf p v (named d) (seg (a .seg))) (below (p .S))) k₀ m k =
-    subst (λ (x : ℕ). Storing p (a .count) (lostStores p x d (segmentOf p v x (seg (a .seg))) (below (p .S))) k₀ m k) (h .0) (put-groups .ensures) in
-    chunks-only p r d (seg (a .seg)) (a .count) (h .1) (seg-named p (a .seg) (h .2)) k₀ (q .1 .0) (q .1 .1 .1 .1 .1) m k s (c .before .if1 .left)
+    let s : Storing p (a .count) (lostStores p (named d) d (segmentOf p v (named d) (a .seg)) (below (p .S))) k₀ m k =
+    subst (λ (x : ℕ). Storing p (a .count) (lostStores p x d (segmentOf p v x (a .seg)) (below (p .S))) k₀ m k) (h .0) (put-groups .ensures) in
+    chunks-only p r d (a .seg) (a .count) (h .1) (h .2) k₀ (q .1 .0) (q .1 .1 .1 .1 .1) m k s (c .before .if1 .left)
     (sym (q .1 .1 .1 .0) ∙ not-true (a .full) (c .if2 .taken))
 
 zone-on-requires : tie.Need-zone-on-requires
-zone-on-requires c κs = tt
+zone-on-requires c κs =
+    let q = c .before .before .before .before .before .before .before .before .before .before .before .pre in
+    (q .0, q .1 .1 .0 .1)
 
 footers-requires : tie.Need-footers-requires
 footers-requires c κs =
@@ -124,18 +125,18 @@ footer-stores-requires c κs =
     let k₀ = mkDisk (a .image .now) (a .pointers .now) in
     let m = put-groups .result in
     let k = mkDisk (put-groups .last .1 .0) (put-groups .last .1 .1 .0) in
-    let s : Storing p (a .count) (lostStores p (named d) d (segmentOf p v (named d) (seg (a .seg))) (below (p .S))) k₀ m k =
-    subst (λ (x : ℕ). Storing p (a .count) (lostStores p x d (segmentOf p v x (seg (a .seg))) (below (p .S))) k₀ m k) (h .0) (put-groups .ensures) in
-    let f : sealedIn p v (named d) (seg (a .seg)) ≡ true = sym (q .1 .1 .1 .0) ∙ not-false (a .full) (if2 .left) in
+    let s : Storing p (a .count) (lostStores p (named d) d (segmentOf p v (named d) (a .seg)) (below (p .S))) k₀ m k =
+    subst (λ (x : ℕ). Storing p (a .count) (lostStores p x d (segmentOf p v x (a .seg)) (below (p .S))) k₀ m k) (h .0) (put-groups .ensures) in
+    let f : sealedIn p v (named d) (a .seg) ≡ true = sym (q .1 .1 .1 .0) ∙ not-false (a .full) (if2 .left) in
     let n = footers′ .ensures .0 in
     let z = zone-on .ensures in
-    let t = room-now p r d (seg (a .seg)) (a .count) (h .1) (seg-named p (a .seg) (h .2)) k₀ (q .1 .0) (q .1 .1 .1 .1 .1) m k s (if1 .left) f (q .1 .1 .1 .1 .0) (q .0) (h .3) in (
+    let t = room-now p r d (a .seg) (a .count) (h .1) (h .2) k₀ (q .1 .0) (q .1 .1 .1 .1 .1) m k s (if1 .left) f (q .1 .1 .1 .1 .0) (q .0) (h .3) in (
       q .0,
       (
-        whole-now p r d (seg (a .seg)) (a .count) (h .1) (seg-named p (a .seg) (h .2)) k₀ (q .1 .0) (q .1 .1 .1 .1 .1) m k s (if1 .left) f (q .1 .1 .1 .1 .0) (q .0) (h .3),
+        whole-now p r d (a .seg) (a .count) (h .1) (h .2) k₀ (q .1 .0) (q .1 .1 .1 .1 .1) m k s (if1 .left) f (q .1 .1 .1 .1 .0) (q .0) (h .3),
         (
           h .1,
-          subst (λ (x : ℕ). x < p .Z) (sym z) (zone-on-lt p (seg (a .seg)) d (seg-named p (a .seg) (h .2))),
+          subst (λ (x : ℕ). x < p .Z) (sym z) (h .4),
           omega (arith, n),
           subst (λ (x : ℕ). pointerOf p (k .pointers) d x + footers′ .result ≤ capacity p) (sym z) (omega (arith, t, n)),
         ),
@@ -166,12 +167,12 @@ returns-3 c =
     let k₀ = mkDisk (a .image .now) (a .pointers .now) in
     let m = put-groups .result in
     let k = mkDisk (put-groups .last .1 .0) (put-groups .last .1 .1 .0) in
-    let s : Storing p (a .count) (lostStores p (named d) d (segmentOf p v (named d) (seg (a .seg))) (below (p .S))) k₀ m k =
-    subst (λ (x : ℕ). Storing p (a .count) (lostStores p x d (segmentOf p v x (seg (a .seg))) (below (p .S))) k₀ m k) (h .0) (put-groups .ensures) in
-    let f : sealedIn p v (named d) (seg (a .seg)) ≡ true = sym (q .1 .1 .1 .0) ∙ not-false (a .full) (if2 .left) in
+    let s : Storing p (a .count) (lostStores p (named d) d (segmentOf p v (named d) (a .seg)) (below (p .S))) k₀ m k =
+    subst (λ (x : ℕ). Storing p (a .count) (lostStores p x d (segmentOf p v x (a .seg)) (below (p .S))) k₀ m k) (h .0) (put-groups .ensures) in
+    let f : sealedIn p v (named d) (a .seg) ≡ true = sym (q .1 .1 .1 .0) ∙ not-false (a .full) (if2 .left) in
     let k′ = mkDisk (footer-stores .last .1 .0) (footer-stores .last .1 .1 .0) in
     let m′ = footer-stores .result in
-    feet-made p r d (seg (a .seg)) (a .count) (h .1) (seg-named p (a .seg) (h .2)) k₀ (q .1 .0) (q .1 .1 .1 .1 .1) m k s (if1 .left) f (q .1 .1 .1 .1 .0) (q .0) (h .3) m′ k′
+    feet-made p r d (a .seg) (a .count) (h .1) (h .2) k₀ (q .1 .0) (q .1 .1 .1 .1 .1) m k s (if1 .left) f (q .1 .1 .1 .1 .0) (q .0) (h .3) m′ k′
     (subst (λ (x : ℕ). Storing p (m .left) (footerStores p d x (zoneAt (viewOf p (k .image) (k .pointers)) d x) 0 (footers p)) k m′ k′) (zone-on .ensures)
     (subst (λ (x : ℕ). Storing p (m .left) (footerStores p d (zone-on .result) (zoneAt (viewOf p (k .image) (k .pointers)) d (zone-on .result)) 0 x) k
     m′ k′) (footers′ .ensures .0) (footer-stores .ensures)))

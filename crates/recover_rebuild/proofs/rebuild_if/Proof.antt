@@ -4,7 +4,7 @@ use mathlib.Core.List.{List, []}
 use mathlib.Core.Bool.{true, false}
 use borrow.Author.Tests.{not-true, not-false}
 use borrow.Author.Needs.{needs}
-use Rattle.spec.specs.Drives.{viewOf, Store, mkDisk, seg}
+use Rattle.spec.specs.Drives.{viewOf, Store, mkDisk}
 use Rattle.spec.specs.Engine.Call.{close}
 use Rattle.spec.specs.History.{before}
 use Rattle.spec.specs.Params.{named}
@@ -24,7 +24,7 @@ returns c =
     let v = viewOf p (a .image .now) (a .pointers .now) in
     let k = mkDisk (a .image .now) (a .pointers .now) in
     subst (λ (l : List Store). Storing p (a .count) l k (record { left = a .count; cut = false }) k)
-    (sym (cond-false (a .kept) (rebuiltZone p d (segmentOf p v (named d) (seg (a .seg)))) [] (not-true (a .kept) (c .if1 .taken))))
+    (sym (cond-false (a .kept) (rebuiltZone p d (segmentOf p v (named d) (a .seg))) [] (not-true (a .kept) (c .if1 .taken))))
     (storing-none p (a .count) k)
 
 rebuild-zone-requires : tie.Need-rebuild-zone-requires
@@ -35,7 +35,7 @@ rebuild-zone-requires c κs =
     let d = a .drive in
     let v = viewOf p (a .image .now) (a .pointers .now) in
     let t : a .kept ≡ true = not-false (a .kept) (c .before .before .if1 .left) in
-    (q .0, (q .1 .0, (q .1 .1 .0, (q .1 .1 .1 .0 t, subst (λ (l : List Store). AllFit p v l) (cond-true (a .kept) (rebuiltZone p d (segmentOf p v (named d) (seg (a .seg)))) [] t) (q .1 .1 .1 .1)))))
+    (q .0, (q .1 .0, (q .1 .1 .0, (q .1 .1 .1 .0 t, subst (λ (l : List Store). AllFit p v l) (cond-true (a .kept) (rebuiltZone p d (segmentOf p v (named d) (a .seg))) [] t) (q .1 .1 .1 .1)))))
 
 same-length : tie.Need-same-length
 same-length c = search needs
@@ -53,7 +53,7 @@ returns-2 c =
     let v = viewOf p (a .image .now) (a .pointers .now) in
     let t : a .kept ≡ true = not-false (a .kept) (if1 .left) in
     subst (λ (l : List Store). Storing p (a .count) l (mkDisk (a .image .now) (a .pointers .now)) (rebuild-zone .result) (mkDisk (rebuild-zone .last .1 .0) (rebuild-zone .last .1 .1 .0)))
-    (sym (cond-true (a .kept) (rebuiltZone p d (segmentOf p v (named d) (seg (a .seg)))) [] t)) (rebuild-zone .ensures)
+    (sym (cond-true (a .kept) (rebuiltZone p d (segmentOf p v (named d) (a .seg))) [] t)) (rebuild-zone .ensures)
 
 pub rebuild-if-spec : {M : Type 1} → statement M
 rebuild-if-spec = tie.close (tie.spec returns rebuild-zone-requires same-length same-length-2 returns-2)

@@ -7,7 +7,7 @@ use native.Mathlib.Omega.{arith}
 use lib.ListN.{length, take}
 use lib.Seq.{take-at}
 use Rattle.spec.specs.Drives.Store.{put}
-use Rattle.spec.specs.Drives.{mkDisk, zeroSpare}
+use Rattle.spec.specs.Drives.{mkDisk, zeroSpare, zonesIn}
 use Rattle.spec.specs.Engine.Call.{close}
 use Rattle.spec.specs.History.{before}
 use Rattle.spec.specs.Layout.{headerBlock}
@@ -21,7 +21,7 @@ use Rattle.recover_reset.proofs.put_header_with.Tie as tie
 write-header-requires : tie.Need-write-header-requires
 write-header-requires c κs =
     let pre = c .before .before .before .before .before .pre in
-    (pre .0, pre .1 .1 .3)
+    (pre .0, pre .1 .1 .3, pre .1 .1 .0)
 
 -- the block and its length
 block-is :
@@ -30,7 +30,8 @@ block-is :
     (c .before .before .before .before .write-header .last .0) ≡ headerBlock
     (c .before .before .before .before .before .before .before .before .before .before .args .p)
     (c .before .before .before .before .before .before .before .before .before .before .args .drive)
-    (c .before .before .before .before .before .before .before .before .before .before .args .zone)
+    (zonesIn (c .before .before .before .before .before .before .before .before .before .before .args .p)
+    (c .before .before .before .before .before .before .before .before .before .before .args .segment))
     (c .before .before .before .before .before .before .before .before .before .before .args .serial .0)
     (c .before .before .before .before .before .before .before .before .before .before .args .copied .0)
 block-is c =
@@ -38,8 +39,8 @@ block-is c =
     let write-header = c .before .before .before .before .write-header in
     let pre = c .before .before .before .before .before .before .before .before .before .before .pre in
     let r = ranged (a .p) (pre .0) in
-    let h = headerBlock (a .p) (a .drive) (a .zone) (a .serial .0) (a .copied .0) in
-    ap (take (a .p .B)) (write-header .ensures) ∙ take-at h zeroSpare (a .p .B) (header-block-long (a .p) r (a .drive) (a .zone) (a .serial .0) (a .copied .0))
+    let h = headerBlock (a .p) (a .drive) (zonesIn (a .p) (a .segment)) (a .serial .0) (a .copied .0) in
+    ap (take (a .p .B)) (write-header .ensures) ∙ take-at h zeroSpare (a .p .B) (header-block-long (a .p) r (a .drive) (zonesIn (a .p) (a .segment)) (a .serial .0) (a .copied .0))
 
 block-long :
     (c : tie.After-put-limited-arg2)
@@ -50,7 +51,7 @@ block-long c =
     let a = c .before .before .before .before .before .before .before .before .before .before .args in
     let pre = c .before .before .before .before .before .before .before .before .before .before .pre in
     let r = ranged (a .p) (pre .0) in
-    ap length (block-is c) ∙ header-block-long (a .p) r (a .drive) (a .zone) (a .serial .0) (a .copied .0)
+    ap length (block-is c) ∙ header-block-long (a .p) r (a .drive) (zonesIn (a .p) (a .segment)) (a .serial .0) (a .copied .0)
 
 slice-reshare-prefix-put-limited : tie.Need-slice-reshare-prefix-put-limited
 unfolding unitLen

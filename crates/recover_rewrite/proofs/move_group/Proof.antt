@@ -1,11 +1,10 @@
 -- `move_group`: what is left to move are the counted stripes from base + k on; seg stays, and with it the index; a turn moves k or is cut. Assumes nothing.
 use Prim.Native.Nat.{_+_, _-_, _≤_}
-use Rattle.spec.specs.Drives.{mkDisk, seg}
+use Rattle.spec.specs.Drives.{mkDisk}
 use Rattle.spec.specs.Segments.{Segment}
 use Rattle.recover_groups.specs.Bases.{in-group}
 use Rattle.recover_groups.specs.Groups.{groupLen, segmentIn}
 use Rattle.law_basic.specs.Geometry.{ranged}
-use Rattle.law_basic.specs.Segs.{seg-named}
 use Rattle.recover_rewrite.specs.Due.{itself, countedFrom, itself-few, from-none, from-step, MovedUpto, upto-start, upto-as, upto-done, upto-first, upto-cut}
 use Rattle.recover_rewrite.specs.Due.{upto-turn, from-start, upto-reads, upto-step, upto-fits}
 use lib.ListN.{length}
@@ -14,6 +13,7 @@ use mathlib.Core.Path.{_≡_, refl, _∙_}
 use native.Mathlib.Omega.{arith}
 use Rattle.recover_rewrite.proofs.move_group.Statement.{statement}
 use Rattle.recover_rewrite.proofs.move_group.Tie as tie
+use Rattle.law_basic.specs.Segs.{named-zones-low}
 
 abbrev Inv-loop : tie.InvT-loop
 Inv-loop p image₀ pointers₀ w at to len next₀ k₀ image pointers next k =
@@ -21,7 +21,7 @@ Inv-loop p image₀ pointers₀ w at to len next₀ k₀ image pointers next k =
     × (length image ≡ length image₀)
     × (length pointers ≡ length pointers₀)
     × (next .next ≤ w .base + k)
-    × MovedUpto p (segmentIn p image₀ pointers₀ w) (seg to) (seg (w .seg)) next₀ (mkDisk image₀ pointers₀)
+    × MovedUpto p (segmentIn p image₀ pointers₀ w) to (w .seg) next₀ (mkDisk image₀ pointers₀)
     (countedFrom p (segmentIn p image₀ pointers₀ w) (w .base) (groupLen p (w .base)))
     (countedFrom p (segmentIn p image₀ pointers₀ w) (w .base + k) (groupLen p (w .base) - k)) next (mkDisk image pointers)
 
@@ -30,8 +30,9 @@ abbrev μ-loop : tie.MeasureT-loop
 
 index-group-requires : tie.Need-index-group-requires Inv-loop μ-loop
 index-group-requires c κs =
-    let pre = c .before .before .before .before .before .before .pre in
-    (pre .0, (pre .1 .0, ((pre .1 .1 .0 .0, pre .1 .1 .0 .1, pre .1 .1 .0 .2, pre .1 .1 .0 .3), pre .1 .1 .1 .0 .0)))
+    let e = c .before .before .before .before .before .before in
+    let pre = e .pre in
+    (pre .0, (pre .1 .0, ((pre .1 .1 .0 .0, named-zones-low (e .args .p) (e .args .w .gone) (e .args .w .seg) (pre .1 .1 .0 .1), pre .1 .1 .0 .2, pre .1 .1 .0 .3), pre .1 .1 .1 .0 .0)))
 
 group-len-requires : tie.Need-group-len-requires Inv-loop μ-loop
 group-len-requires c κs =
@@ -47,8 +48,8 @@ loop-holds c =
       refl,
       refl,
       omega (arith, pre .1 .1 .1 .1 .0 .1),
-      upto-as (args .p) (ranged (args .p) (pre .0)) (segmentIn (args .p) (args .image .now) (args .pointers .now) (args .w)) (seg (args .to))
-          (seg (args .w .seg)) (seg-named (args .p) (args .w .seg) (pre .1 .1 .0 .1)) (pre .1 .1 .1 .1 .0 .3) (args .m) (mkDisk (args .image .now) (args .pointers .now))
+      upto-as (args .p) (ranged (args .p) (pre .0)) (segmentIn (args .p) (args .image .now) (args .pointers .now) (args .w)) (args .to)
+          (args .w .seg) (pre .1 .1 .0 .1) (pre .1 .1 .1 .1 .0 .3) (args .m) (mkDisk (args .image .now) (args .pointers .now))
           (countedFrom (args .p) (segmentIn (args .p) (args .image .now) (args .pointers .now) (args .w)) (args .w .base)
           (groupLen (args .p) (args .w .base))) (countedFrom (args .p) (segmentIn (args .p) (args .image .now) (args .pointers .now) (args .w))
           (args .w .base) (groupLen (args .p) (args .w .base)))
@@ -56,7 +57,7 @@ loop-holds c =
           (groupLen (args .p) (args .w .base) - 0)) (args .m) (mkDisk (args .image .now) (args .pointers .now))
           (from-start (args .p) (segmentIn (args .p) (args .image .now) (args .pointers .now) (args .w)) (args .w .base)
           (groupLen (args .p) (args .w .base))) (upto-start (args .p) (ranged (args .p) (pre .0))
-          (segmentIn (args .p) (args .image .now) (args .pointers .now) (args .w)) (seg (args .to)) (seg (args .w .seg)) (seg-named (args .p) (args .w .seg) (pre .1 .1 .0 .1))
+          (segmentIn (args .p) (args .image .now) (args .pointers .now) (args .w)) (args .to) (args .w .seg) (pre .1 .1 .0 .1)
           (pre .1 .1 .1 .1 .0 .3) (args .m) (mkDisk (args .image .now) (args .pointers .now))
           (countedFrom (args .p) (segmentIn (args .p) (args .image .now) (args .pointers .now) (args .w)) (args .w .base)
           (groupLen (args .p) (args .w .base))) (pre .1 .0) (pre .1 .1 .1 .1 .1) (pre .1 .1 .1 .1 .0 .2)),
@@ -85,7 +86,7 @@ move-if-requires c κs =
             none-gone = pre .1 .1 .0 .4;
           },
           (
-            upto-reads (args .p) (ranged (args .p) (pre .0)) (args .w) (pre .1 .1 .0 .4) (seg (args .to)) (args .m)
+            upto-reads (args .p) (ranged (args .p) (pre .0)) (args .w) (pre .1 .1 .0 .4) (args .to) (args .m)
                 (mkDisk (args .image .now) (args .pointers .now))
                 (countedFrom (args .p) (segmentIn (args .p) (args .image .now) (args .pointers .now) (args .w)) (args .w .base)
                 (groupLen (args .p) (args .w .base))) (countedFrom (args .p) (segmentIn (args .p) (args .image .now) (args .pointers .now) (args .w))
@@ -94,21 +95,21 @@ move-if-requires c κs =
                 (record { long = pre .1 .0 .pointers-long; full-right = pre .1 .1 .1 .0 .0; indexed = index-group .ensures .1 (pre .1 .1 .1 .0 .1) }),
             (
               (pre .1 .1 .1 .1 .0 .0, loop .inv .3, loop .inv .4 .uncut, pre .1 .1 .1 .1 .0 .3),
-              upto-fits (args .p) (ranged (args .p) (pre .0)) (args .w) (pre .1 .1 .0 .4) (seg (args .to)) (args .m)
+              upto-fits (args .p) (ranged (args .p) (pre .0)) (args .w) (pre .1 .1 .0 .4) (args .to) (args .m)
                   (mkDisk (args .image .now) (args .pointers .now))
                   (countedFrom (args .p) (segmentIn (args .p) (args .image .now) (args .pointers .now) (args .w)) (args .w .base)
                   (groupLen (args .p) (args .w .base))) (countedFrom (args .p) (segmentIn (args .p) (args .image .now) (args .pointers .now) (args .w))
                   (args .w .base + loop .k) (groupLen (args .p) (args .w .base) - loop .k)) (loop .next) (mkDisk (loop .image) (loop .pointers))
                   (loop .inv .4) (λ (y : Segment). itself (args .p) y (args .w .base + loop .k)) (loop .next .next)
-                  (upto-first (args .p) (ranged (args .p) (pre .0)) (segmentIn (args .p) (args .image .now) (args .pointers .now) (args .w)) (seg (args .to))
-                  (seg (args .w .seg)) (seg-named (args .p) (args .w .seg) (pre .1 .1 .0 .1)) (pre .1 .1 .1 .1 .0 .3) (args .m) (mkDisk (args .image .now) (args .pointers .now))
+                  (upto-first (args .p) (ranged (args .p) (pre .0)) (segmentIn (args .p) (args .image .now) (args .pointers .now) (args .w)) (args .to)
+                  (args .w .seg) (pre .1 .1 .0 .1) (pre .1 .1 .1 .1 .0 .3) (args .m) (mkDisk (args .image .now) (args .pointers .now))
                   (countedFrom (args .p) (segmentIn (args .p) (args .image .now) (args .pointers .now) (args .w)) (args .w .base)
                   (groupLen (args .p) (args .w .base)))
                   (itself (args .p) (segmentIn (args .p) (args .image .now) (args .pointers .now) (args .w)) (args .w .base + loop .k))
                   (countedFrom (args .p) (segmentIn (args .p) (args .image .now) (args .pointers .now) (args .w)) (args .w .base + (loop .k + 1))
                   (groupLen (args .p) (args .w .base) - (loop .k + 1))) (loop .next) (mkDisk (loop .image) (loop .pointers))
-                  (upto-as (args .p) (ranged (args .p) (pre .0)) (segmentIn (args .p) (args .image .now) (args .pointers .now) (args .w)) (seg (args .to))
-                  (seg (args .w .seg)) (seg-named (args .p) (args .w .seg) (pre .1 .1 .0 .1)) (pre .1 .1 .1 .1 .0 .3) (args .m) (mkDisk (args .image .now) (args .pointers .now))
+                  (upto-as (args .p) (ranged (args .p) (pre .0)) (segmentIn (args .p) (args .image .now) (args .pointers .now) (args .w)) (args .to)
+                  (args .w .seg) (pre .1 .1 .0 .1) (pre .1 .1 .1 .1 .0 .3) (args .m) (mkDisk (args .image .now) (args .pointers .now))
                   (countedFrom (args .p) (segmentIn (args .p) (args .image .now) (args .pointers .now) (args .w)) (args .w .base)
                   (groupLen (args .p) (args .w .base))) (countedFrom (args .p)
                   (segmentIn (args .p) (args .image .now) (args .pointers .now) (args .w)) (args .w .base + loop .k)
@@ -150,15 +151,15 @@ returns c =
     let entry = c .before .before .before .before .before .before .before .before .before .before .before .before .before .before .before .before .before .before .before .before .before in
     let args = entry .args in
     let pre = entry .pre in
-    upto-cut (args .p) (ranged (args .p) (pre .0)) (segmentIn (args .p) (args .image .now) (args .pointers .now) (args .w)) (seg (args .to)) (seg (args .w .seg))
-    (seg-named (args .p) (args .w .seg) (pre .1 .1 .0 .1)) (pre .1 .1 .1 .1 .0 .3) (args .m) (mkDisk (args .image .now) (args .pointers .now))
+    upto-cut (args .p) (ranged (args .p) (pre .0)) (segmentIn (args .p) (args .image .now) (args .pointers .now) (args .w)) (args .to) (args .w .seg)
+    (pre .1 .1 .0 .1) (pre .1 .1 .1 .1 .0 .3) (args .m) (mkDisk (args .image .now) (args .pointers .now))
     (countedFrom (args .p) (segmentIn (args .p) (args .image .now) (args .pointers .now) (args .w)) (args .w .base)
     (groupLen (args .p) (args .w .base)))
     (itself (args .p) (segmentIn (args .p) (args .image .now) (args .pointers .now) (args .w)) (args .w .base + loop .k))
     (countedFrom (args .p) (segmentIn (args .p) (args .image .now) (args .pointers .now) (args .w)) (args .w .base + (loop .k + 1))
     (groupLen (args .p) (args .w .base) - (loop .k + 1))) (loop .next) (mkDisk (loop .image) (loop .pointers))
-    (upto-as (args .p) (ranged (args .p) (pre .0)) (segmentIn (args .p) (args .image .now) (args .pointers .now) (args .w)) (seg (args .to))
-    (seg (args .w .seg)) (seg-named (args .p) (args .w .seg) (pre .1 .1 .0 .1)) (pre .1 .1 .1 .1 .0 .3) (args .m) (mkDisk (args .image .now) (args .pointers .now))
+    (upto-as (args .p) (ranged (args .p) (pre .0)) (segmentIn (args .p) (args .image .now) (args .pointers .now) (args .w)) (args .to)
+    (args .w .seg) (pre .1 .1 .0 .1) (pre .1 .1 .1 .1 .0 .3) (args .m) (mkDisk (args .image .now) (args .pointers .now))
     (countedFrom (args .p) (segmentIn (args .p) (args .image .now) (args .pointers .now) (args .w)) (args .w .base)
     (groupLen (args .p) (args .w .base))) (countedFrom (args .p) (segmentIn (args .p) (args .image .now) (args .pointers .now) (args .w))
     (args .w .base + loop .k) (groupLen (args .p) (args .w .base) - loop .k))
@@ -168,7 +169,7 @@ returns c =
     (from-step (args .p) (segmentIn (args .p) (args .image .now) (args .pointers .now) (args .w)) (args .w .base) (loop .k)
     (groupLen (args .p) (args .w .base)) (omega (arith, group-len .ensures .0, loop-test .taken))) (loop .inv .4)) (move-if .result)
     (mkDisk (move-if .last .1 .0) (move-if .last .1 .1 .0))
-    (upto-step (args .p) (ranged (args .p) (pre .0)) (args .w) (pre .1 .1 .0 .4) (seg (args .to)) (args .m)
+    (upto-step (args .p) (ranged (args .p) (pre .0)) (args .w) (pre .1 .1 .0 .4) (args .to) (args .m)
     (mkDisk (args .image .now) (args .pointers .now))
     (countedFrom (args .p) (segmentIn (args .p) (args .image .now) (args .pointers .now) (args .w)) (args .w .base)
     (groupLen (args .p) (args .w .base))) (countedFrom (args .p) (segmentIn (args .p) (args .image .now) (args .pointers .now) (args .w))
@@ -202,7 +203,7 @@ loop-again c =
       omega (
         arith,
         loop .inv .3,
-        (upto-step (args .p) (ranged (args .p) (pre .0)) (args .w) (pre .1 .1 .0 .4) (seg (args .to)) (args .m)
+        (upto-step (args .p) (ranged (args .p) (pre .0)) (args .w) (pre .1 .1 .0 .4) (args .to) (args .m)
             (mkDisk (args .image .now) (args .pointers .now))
             (countedFrom (args .p) (segmentIn (args .p) (args .image .now) (args .pointers .now) (args .w)) (args .w .base)
             (groupLen (args .p) (args .w .base))) (countedFrom (args .p) (segmentIn (args .p) (args .image .now) (args .pointers .now) (args .w))
@@ -211,15 +212,15 @@ loop-again c =
             (mkDisk (move-if .last .1 .0) (move-if .last .1 .1 .0)) (move-if .ensures)) .number (c .if1 .left),
         itself-few (args .p) (segmentIn (args .p) (args .image .now) (args .pointers .now) (args .w)) (args .w .base + loop .k),
       ),
-      upto-turn (args .p) (ranged (args .p) (pre .0)) (segmentIn (args .p) (args .image .now) (args .pointers .now) (args .w)) (seg (args .to)) (seg (args .w .seg))
-          (seg-named (args .p) (args .w .seg) (pre .1 .1 .0 .1)) (pre .1 .1 .1 .1 .0 .3) (args .m) (mkDisk (args .image .now) (args .pointers .now))
+      upto-turn (args .p) (ranged (args .p) (pre .0)) (segmentIn (args .p) (args .image .now) (args .pointers .now) (args .w)) (args .to) (args .w .seg)
+          (pre .1 .1 .0 .1) (pre .1 .1 .1 .1 .0 .3) (args .m) (mkDisk (args .image .now) (args .pointers .now))
           (countedFrom (args .p) (segmentIn (args .p) (args .image .now) (args .pointers .now) (args .w)) (args .w .base)
           (groupLen (args .p) (args .w .base)))
           (itself (args .p) (segmentIn (args .p) (args .image .now) (args .pointers .now) (args .w)) (args .w .base + loop .k))
           (countedFrom (args .p) (segmentIn (args .p) (args .image .now) (args .pointers .now) (args .w)) (args .w .base + (loop .k + 1))
           (groupLen (args .p) (args .w .base) - (loop .k + 1))) (loop .next) (mkDisk (loop .image) (loop .pointers))
-          (upto-as (args .p) (ranged (args .p) (pre .0)) (segmentIn (args .p) (args .image .now) (args .pointers .now) (args .w)) (seg (args .to)) (seg (args .w .seg))
-          (seg-named (args .p) (args .w .seg) (pre .1 .1 .0 .1)) (pre .1 .1 .1 .1 .0 .3) (args .m) (mkDisk (args .image .now) (args .pointers .now))
+          (upto-as (args .p) (ranged (args .p) (pre .0)) (segmentIn (args .p) (args .image .now) (args .pointers .now) (args .w)) (args .to) (args .w .seg)
+          (pre .1 .1 .0 .1) (pre .1 .1 .1 .1 .0 .3) (args .m) (mkDisk (args .image .now) (args .pointers .now))
           (countedFrom (args .p) (segmentIn (args .p) (args .image .now) (args .pointers .now) (args .w)) (args .w .base)
           (groupLen (args .p) (args .w .base))) (countedFrom (args .p) (segmentIn (args .p) (args .image .now) (args .pointers .now) (args .w))
           (args .w .base + loop .k) (groupLen (args .p) (args .w .base) - loop .k))
@@ -229,7 +230,7 @@ loop-again c =
           (from-step (args .p) (segmentIn (args .p) (args .image .now) (args .pointers .now) (args .w)) (args .w .base) (loop .k)
           (groupLen (args .p) (args .w .base)) (omega (arith, group-len .ensures .0, loop-test .taken))) (loop .inv .4)) (move-if .result)
           (mkDisk (move-if .last .1 .0) (move-if .last .1 .1 .0))
-          (upto-step (args .p) (ranged (args .p) (pre .0)) (args .w) (pre .1 .1 .0 .4) (seg (args .to)) (args .m)
+          (upto-step (args .p) (ranged (args .p) (pre .0)) (args .w) (pre .1 .1 .0 .4) (args .to) (args .m)
           (mkDisk (args .image .now) (args .pointers .now))
           (countedFrom (args .p) (segmentIn (args .p) (args .image .now) (args .pointers .now) (args .w)) (args .w .base)
           (groupLen (args .p) (args .w .base))) (countedFrom (args .p) (segmentIn (args .p) (args .image .now) (args .pointers .now) (args .w))
@@ -255,12 +256,12 @@ returns-2 c =
     let entry = c .before .before .before .before .before .before .before .before .before .before .before .before in
     let args = entry .args in
     let pre = entry .pre in
-    upto-done (args .p) (ranged (args .p) (pre .0)) (segmentIn (args .p) (args .image .now) (args .pointers .now) (args .w)) (seg (args .to)) (seg (args .w .seg))
-    (seg-named (args .p) (args .w .seg) (pre .1 .1 .0 .1)) (pre .1 .1 .1 .1 .0 .3) (args .m) (mkDisk (args .image .now) (args .pointers .now))
+    upto-done (args .p) (ranged (args .p) (pre .0)) (segmentIn (args .p) (args .image .now) (args .pointers .now) (args .w)) (args .to) (args .w .seg)
+    (pre .1 .1 .0 .1) (pre .1 .1 .1 .1 .0 .3) (args .m) (mkDisk (args .image .now) (args .pointers .now))
     (countedFrom (args .p) (segmentIn (args .p) (args .image .now) (args .pointers .now) (args .w)) (args .w .base)
     (groupLen (args .p) (args .w .base))) (c .before .loop .next) (mkDisk (c .before .loop .image) (c .before .loop .pointers))
-    (upto-as (args .p) (ranged (args .p) (pre .0)) (segmentIn (args .p) (args .image .now) (args .pointers .now) (args .w)) (seg (args .to))
-    (seg (args .w .seg)) (seg-named (args .p) (args .w .seg) (pre .1 .1 .0 .1)) (pre .1 .1 .1 .1 .0 .3) (args .m) (mkDisk (args .image .now) (args .pointers .now))
+    (upto-as (args .p) (ranged (args .p) (pre .0)) (segmentIn (args .p) (args .image .now) (args .pointers .now) (args .w)) (args .to)
+    (args .w .seg) (pre .1 .1 .0 .1) (pre .1 .1 .1 .1 .0 .3) (args .m) (mkDisk (args .image .now) (args .pointers .now))
     (countedFrom (args .p) (segmentIn (args .p) (args .image .now) (args .pointers .now) (args .w)) (args .w .base)
     (groupLen (args .p) (args .w .base))) (countedFrom (args .p) (segmentIn (args .p) (args .image .now) (args .pointers .now) (args .w))
     (args .w .base + c .before .loop .k) (groupLen (args .p) (args .w .base) - c .before .loop .k)) [] (c .before .loop .next)

@@ -1,6 +1,6 @@
 -- `move_if`: a stripe that does not count leaves all as it was (`step-none`); one that counts is moved once, and the next number is one higher (`step-one`). Assumes nothing.
 use Prim.Native.Nat.{ℕ, _+_}
-use Rattle.spec.specs.Drives.{mkDisk, seg}
+use Rattle.spec.specs.Drives.{mkDisk}
 use Rattle.spec.specs.Segments.{counts}
 use Rattle.recover_groups.specs.Bases.{group-len-le}
 use Rattle.recover_groups.specs.Chunks.{counts-entered}
@@ -29,7 +29,7 @@ returns c =
     let entry = c .before .before .before .before .before in
     let args = entry .args in
     let pre = entry .pre in
-    step-none (args .p) (segmentIn (args .p) (args .image .now) (args .pointers .now) (args .w)) (seg (args .to))
+    step-none (args .p) (segmentIn (args .p) (args .image .now) (args .pointers .now) (args .w)) (args .to)
     (itself (args .p) (segmentIn (args .p) (args .image .now) (args .pointers .now) (args .w)) (args .w .base + args .k)) (args .m)
     (mkDisk (args .image .now) (args .pointers .now))
     (itself-none (args .p) (segmentIn (args .p) (args .image .now) (args .pointers .now) (args .w)) (args .w .base + args .k)
@@ -74,7 +74,7 @@ move-stripe-requires c κs =
                   pre .1 .1 .1 .1 .0 .3,
                 ),
                 fit-one (args .p) (seen (args .p) (mkDisk (args .image .now) (args .pointers .now)))
-                    (segmentIn (args .p) (args .image .now) (args .pointers .now) (args .w)) (seg (args .to)) (args .w .base + args .k)
+                    (segmentIn (args .p) (args .image .now) (args .pointers .now) (args .w)) (args .to) (args .w .base + args .k)
                     (args .m .next) cnt (pre .1 .1 .1 .1 .1),
               ),
             ),
@@ -110,7 +110,7 @@ returns-2 c =
     ∙ sym (counts′ .ensures (segmentIn (args .p) (args .image .now) (args .pointers .now) (args .w)) (args .w .base)
     (pre .1 .1 .1 .0 .indexed) (pre .1 .1 .0 .in-group))
     ∙ not-false (counts′ .result) (if1 .left)) in
-    step-one (args .p) (segmentIn (args .p) (args .image .now) (args .pointers .now) (args .w)) (seg (args .to)) (args .w .base + args .k)
+    step-one (args .p) (segmentIn (args .p) (args .image .now) (args .pointers .now) (args .w)) (args .to) (args .w .base + args .k)
     (itself (args .p) (segmentIn (args .p) (args .image .now) (args .pointers .now) (args .w)) (args .w .base + args .k)) (args .m)
     (mkDisk (args .image .now) (args .pointers .now)) (move-stripe .result) (mkDisk (move-stripe .last .1 .0) (move-stripe .last .1 .1 .0))
     (itself-counts (args .p) (segmentIn (args .p) (args .image .now) (args .pointers .now) (args .w)) (args .w .base + args .k) cnt)

@@ -1,11 +1,10 @@
 -- `move_stripes`: what is left to move are the counted stripes from base on, and next is at most base; one turn moves a group, or is cut. Assumes nothing.
 use Prim.Native.Nat.{_+_, _-_, _%_, _≤_}
-use Rattle.spec.specs.Drives.{viewOf, mkDisk, seg}
+use Rattle.spec.specs.Drives.{viewOf, mkDisk}
 use Rattle.spec.specs.Segments.{Segment, segmentOf, counted}
 use Rattle.recover_groups.specs.Bases.{group-len-le}
 use Rattle.recover_groups.specs.Groups.{groupLen, recsFault}
 use Rattle.law_basic.specs.Geometry.{ranged, base-next}
-use Rattle.law_basic.specs.Segs.{seg-named}
 use Rattle.recover_rewrite.specs.Due.{countedFrom, from-few, from-none, from-group, from-all, MovedUpto, upto-start, upto-as, upto-done, upto-first, upto-cut}
 use Rattle.recover_rewrite.specs.Due.{upto-turn, upto-in, upto-sealed, upto-step, upto-fits, groupAt, unmoved, bases-first}
 use Rattle.law_views.specs.Views.{seen}
@@ -24,9 +23,9 @@ Inv-loop p image₀ pointers₀ sn to count at₀ m₀ base₀ image pointers at
     × (length image ≡ length image₀)
     × (length pointers ≡ length pointers₀)
     × (m .next ≤ base)
-    × MovedUpto p (segmentOf p (viewOf p image₀ pointers₀) 0 (seg sn)) (seg to) (seg sn) (unmoved count) (mkDisk image₀ pointers₀)
-    (counted p 0 (segmentOf p (viewOf p image₀ pointers₀) 0 (seg sn)))
-    (countedFrom p (segmentOf p (viewOf p image₀ pointers₀) 0 (seg sn)) base (p .S - base)) m (mkDisk image pointers)
+    × MovedUpto p (segmentOf p (viewOf p image₀ pointers₀) 0 sn) to sn (unmoved count) (mkDisk image₀ pointers₀)
+    (counted p 0 (segmentOf p (viewOf p image₀ pointers₀) 0 sn))
+    (countedFrom p (segmentOf p (viewOf p image₀ pointers₀) 0 sn) base (p .S - base)) m (mkDisk image pointers)
 
 abbrev μ-loop : tie.MeasureT-loop
 μ-loop p image₀ pointers₀ sn to count at₀ m₀ base₀ image pointers at m base = p .S - base
@@ -41,17 +40,17 @@ loop-holds c =
       refl,
       omega arith,
       upto-as (args .p) (ranged (args .p) (pre .0))
-          (segmentOf (args .p) (seen (args .p) (mkDisk (args .image .now) (args .pointers .now))) 0 (seg (args .seg))) (seg (args .to)) (seg (args .seg))
-          (seg-named (args .p) (args .seg) (pre .1 .1 .0 .0)) (pre .1 .1 .0 .4) (unmoved (args .count)) (mkDisk (args .image .now) (args .pointers .now))
-          (counted (args .p) 0 (segmentOf (args .p) (seen (args .p) (mkDisk (args .image .now) (args .pointers .now))) 0 (seg (args .seg))))
-          (counted (args .p) 0 (segmentOf (args .p) (seen (args .p) (mkDisk (args .image .now) (args .pointers .now))) 0 (seg (args .seg))))
-          (countedFrom (args .p) (segmentOf (args .p) (seen (args .p) (mkDisk (args .image .now) (args .pointers .now))) 0 (seg (args .seg))) 0
+          (segmentOf (args .p) (seen (args .p) (mkDisk (args .image .now) (args .pointers .now))) 0 (args .seg)) (args .to) (args .seg)
+          (pre .1 .1 .0 .0) (pre .1 .1 .0 .4) (unmoved (args .count)) (mkDisk (args .image .now) (args .pointers .now))
+          (counted (args .p) 0 (segmentOf (args .p) (seen (args .p) (mkDisk (args .image .now) (args .pointers .now))) 0 (args .seg)))
+          (counted (args .p) 0 (segmentOf (args .p) (seen (args .p) (mkDisk (args .image .now) (args .pointers .now))) 0 (args .seg)))
+          (countedFrom (args .p) (segmentOf (args .p) (seen (args .p) (mkDisk (args .image .now) (args .pointers .now))) 0 (args .seg)) 0
           (args .p .S - 0)) (unmoved (args .count)) (mkDisk (args .image .now) (args .pointers .now))
-          (from-all (args .p) (segmentOf (args .p) (seen (args .p) (mkDisk (args .image .now) (args .pointers .now))) 0 (seg (args .seg))))
+          (from-all (args .p) (segmentOf (args .p) (seen (args .p) (mkDisk (args .image .now) (args .pointers .now))) 0 (args .seg)))
           (upto-start (args .p) (ranged (args .p) (pre .0))
-          (segmentOf (args .p) (seen (args .p) (mkDisk (args .image .now) (args .pointers .now))) 0 (seg (args .seg))) (seg (args .to)) (seg (args .seg))
-          (seg-named (args .p) (args .seg) (pre .1 .1 .0 .0)) (pre .1 .1 .0 .4) (unmoved (args .count)) (mkDisk (args .image .now) (args .pointers .now))
-          (counted (args .p) 0 (segmentOf (args .p) (seen (args .p) (mkDisk (args .image .now) (args .pointers .now))) 0 (seg (args .seg)))) (pre .1 .0)
+          (segmentOf (args .p) (seen (args .p) (mkDisk (args .image .now) (args .pointers .now))) 0 (args .seg)) (args .to) (args .seg)
+          (pre .1 .1 .0 .0) (pre .1 .1 .0 .4) (unmoved (args .count)) (mkDisk (args .image .now) (args .pointers .now))
+          (counted (args .p) 0 (segmentOf (args .p) (seen (args .p) (mkDisk (args .image .now) (args .pointers .now))) 0 (args .seg))) (pre .1 .0)
           (pre .1 .1 .1) refl),
     )
 
@@ -75,46 +74,46 @@ move-group-requires c κs =
           (
             (
               sym (pre .1 .1 .0 .2)
-                  ∙ upto-sealed (args .p) (ranged (args .p) (pre .0)) (groupAt (args .seg) (loop .base)) refl (seg (args .to)) (unmoved (args .count))
+                  ∙ upto-sealed (args .p) (ranged (args .p) (pre .0)) (groupAt (args .seg) (loop .base)) refl (args .to) (unmoved (args .count))
                   (mkDisk (args .image .now) (args .pointers .now))
-                  (counted (args .p) 0 (segmentOf (args .p) (seen (args .p) (mkDisk (args .image .now) (args .pointers .now))) 0 (seg (args .seg))))
-                  (countedFrom (args .p) (segmentOf (args .p) (seen (args .p) (mkDisk (args .image .now) (args .pointers .now))) 0 (seg (args .seg)))
+                  (counted (args .p) 0 (segmentOf (args .p) (seen (args .p) (mkDisk (args .image .now) (args .pointers .now))) 0 (args .seg)))
+                  (countedFrom (args .p) (segmentOf (args .p) (seen (args .p) (mkDisk (args .image .now) (args .pointers .now))) 0 (args .seg))
                   (loop .base) (args .p .S - loop .base)) (loop .m) (mkDisk (loop .image) (loop .pointers)) (loop .inv .5),
               subst
                   (λ (y : Segment). recsFault (args .p) 0 y ≡ false)
-                  (upto-in (args .p) (ranged (args .p) (pre .0)) (groupAt (args .seg) (loop .base)) refl (seg (args .to)) (unmoved (args .count))
+                  (upto-in (args .p) (ranged (args .p) (pre .0)) (groupAt (args .seg) (loop .base)) refl (args .to) (unmoved (args .count))
                   (mkDisk (args .image .now) (args .pointers .now))
-                  (counted (args .p) 0 (segmentOf (args .p) (seen (args .p) (mkDisk (args .image .now) (args .pointers .now))) 0 (seg (args .seg))))
-                  (countedFrom (args .p) (segmentOf (args .p) (seen (args .p) (mkDisk (args .image .now) (args .pointers .now))) 0 (seg (args .seg)))
+                  (counted (args .p) 0 (segmentOf (args .p) (seen (args .p) (mkDisk (args .image .now) (args .pointers .now))) 0 (args .seg)))
+                  (countedFrom (args .p) (segmentOf (args .p) (seen (args .p) (mkDisk (args .image .now) (args .pointers .now))) 0 (args .seg))
                   (loop .base) (args .p .S - loop .base)) (loop .m) (mkDisk (loop .image) (loop .pointers)) (loop .inv .5)) (pre .1 .1 .0 .3),
             ),
             (
               (pre .1 .1 .0 .1, loop .inv .4, loop .inv .5 .uncut, pre .1 .1 .0 .4),
-              upto-fits (args .p) (ranged (args .p) (pre .0)) (groupAt (args .seg) (loop .base)) refl (seg (args .to)) (unmoved (args .count))
+              upto-fits (args .p) (ranged (args .p) (pre .0)) (groupAt (args .seg) (loop .base)) refl (args .to) (unmoved (args .count))
                   (mkDisk (args .image .now) (args .pointers .now))
-                  (counted (args .p) 0 (segmentOf (args .p) (seen (args .p) (mkDisk (args .image .now) (args .pointers .now))) 0 (seg (args .seg))))
-                  (countedFrom (args .p) (segmentOf (args .p) (seen (args .p) (mkDisk (args .image .now) (args .pointers .now))) 0 (seg (args .seg)))
+                  (counted (args .p) 0 (segmentOf (args .p) (seen (args .p) (mkDisk (args .image .now) (args .pointers .now))) 0 (args .seg)))
+                  (countedFrom (args .p) (segmentOf (args .p) (seen (args .p) (mkDisk (args .image .now) (args .pointers .now))) 0 (args .seg))
                   (loop .base) (args .p .S - loop .base)) (loop .m) (mkDisk (loop .image) (loop .pointers)) (loop .inv .5)
                   (λ (y : Segment). countedFrom (args .p) y (loop .base) (groupLen (args .p) (loop .base))) (loop .m .next)
                   (upto-first (args .p) (ranged (args .p) (pre .0))
-                  (segmentOf (args .p) (seen (args .p) (mkDisk (args .image .now) (args .pointers .now))) 0 (seg (args .seg))) (seg (args .to)) (seg (args .seg))
-                  (seg-named (args .p) (args .seg) (pre .1 .1 .0 .0)) (pre .1 .1 .0 .4) (unmoved (args .count)) (mkDisk (args .image .now) (args .pointers .now))
-                  (counted (args .p) 0 (segmentOf (args .p) (seen (args .p) (mkDisk (args .image .now) (args .pointers .now))) 0 (seg (args .seg))))
-                  (countedFrom (args .p) (segmentOf (args .p) (seen (args .p) (mkDisk (args .image .now) (args .pointers .now))) 0 (seg (args .seg)))
+                  (segmentOf (args .p) (seen (args .p) (mkDisk (args .image .now) (args .pointers .now))) 0 (args .seg)) (args .to) (args .seg)
+                  (pre .1 .1 .0 .0) (pre .1 .1 .0 .4) (unmoved (args .count)) (mkDisk (args .image .now) (args .pointers .now))
+                  (counted (args .p) 0 (segmentOf (args .p) (seen (args .p) (mkDisk (args .image .now) (args .pointers .now))) 0 (args .seg)))
+                  (countedFrom (args .p) (segmentOf (args .p) (seen (args .p) (mkDisk (args .image .now) (args .pointers .now))) 0 (args .seg))
                   (loop .base) (groupLen (args .p) (loop .base)))
-                  (countedFrom (args .p) (segmentOf (args .p) (seen (args .p) (mkDisk (args .image .now) (args .pointers .now))) 0 (seg (args .seg)))
+                  (countedFrom (args .p) (segmentOf (args .p) (seen (args .p) (mkDisk (args .image .now) (args .pointers .now))) 0 (args .seg))
                   (loop .base + args .p .G) (args .p .S - (loop .base + args .p .G))) (loop .m) (mkDisk (loop .image) (loop .pointers))
                   (upto-as (args .p) (ranged (args .p) (pre .0))
-                  (segmentOf (args .p) (seen (args .p) (mkDisk (args .image .now) (args .pointers .now))) 0 (seg (args .seg))) (seg (args .to)) (seg (args .seg))
-                  (seg-named (args .p) (args .seg) (pre .1 .1 .0 .0)) (pre .1 .1 .0 .4) (unmoved (args .count)) (mkDisk (args .image .now) (args .pointers .now))
-                  (counted (args .p) 0 (segmentOf (args .p) (seen (args .p) (mkDisk (args .image .now) (args .pointers .now))) 0 (seg (args .seg))))
-                  (countedFrom (args .p) (segmentOf (args .p) (seen (args .p) (mkDisk (args .image .now) (args .pointers .now))) 0 (seg (args .seg)))
+                  (segmentOf (args .p) (seen (args .p) (mkDisk (args .image .now) (args .pointers .now))) 0 (args .seg)) (args .to) (args .seg)
+                  (pre .1 .1 .0 .0) (pre .1 .1 .0 .4) (unmoved (args .count)) (mkDisk (args .image .now) (args .pointers .now))
+                  (counted (args .p) 0 (segmentOf (args .p) (seen (args .p) (mkDisk (args .image .now) (args .pointers .now))) 0 (args .seg)))
+                  (countedFrom (args .p) (segmentOf (args .p) (seen (args .p) (mkDisk (args .image .now) (args .pointers .now))) 0 (args .seg))
                   (loop .base) (args .p .S - loop .base))
-                  ((countedFrom (args .p) (segmentOf (args .p) (seen (args .p) (mkDisk (args .image .now) (args .pointers .now))) 0 (seg (args .seg)))
+                  ((countedFrom (args .p) (segmentOf (args .p) (seen (args .p) (mkDisk (args .image .now) (args .pointers .now))) 0 (args .seg))
                   (loop .base) (groupLen (args .p) (loop .base))) ++
-                  (countedFrom (args .p) (segmentOf (args .p) (seen (args .p) (mkDisk (args .image .now) (args .pointers .now))) 0 (seg (args .seg)))
+                  (countedFrom (args .p) (segmentOf (args .p) (seen (args .p) (mkDisk (args .image .now) (args .pointers .now))) 0 (args .seg))
                   (loop .base + args .p .G) (args .p .S - (loop .base + args .p .G)))) (loop .m) (mkDisk (loop .image) (loop .pointers))
-                  (from-group (args .p) (segmentOf (args .p) (seen (args .p) (mkDisk (args .image .now) (args .pointers .now))) 0 (seg (args .seg)))
+                  (from-group (args .p) (segmentOf (args .p) (seen (args .p) (mkDisk (args .image .now) (args .pointers .now))) 0 (args .seg))
                   (loop .base) (if1 .taken)) (loop .inv .5))),
             ),
           ),
@@ -143,29 +142,29 @@ returns c =
     let args = entry .args in
     let pre = entry .pre in
     upto-cut (args .p) (ranged (args .p) (pre .0))
-    (segmentOf (args .p) (seen (args .p) (mkDisk (args .image .now) (args .pointers .now))) 0 (seg (args .seg))) (seg (args .to)) (seg (args .seg)) (seg-named (args .p) (args .seg) (pre .1 .1 .0 .0))
+    (segmentOf (args .p) (seen (args .p) (mkDisk (args .image .now) (args .pointers .now))) 0 (args .seg)) (args .to) (args .seg) (pre .1 .1 .0 .0)
     (pre .1 .1 .0 .4) (unmoved (args .count)) (mkDisk (args .image .now) (args .pointers .now))
-    (counted (args .p) 0 (segmentOf (args .p) (seen (args .p) (mkDisk (args .image .now) (args .pointers .now))) 0 (seg (args .seg))))
-    (countedFrom (args .p) (segmentOf (args .p) (seen (args .p) (mkDisk (args .image .now) (args .pointers .now))) 0 (seg (args .seg))) (loop .base)
+    (counted (args .p) 0 (segmentOf (args .p) (seen (args .p) (mkDisk (args .image .now) (args .pointers .now))) 0 (args .seg)))
+    (countedFrom (args .p) (segmentOf (args .p) (seen (args .p) (mkDisk (args .image .now) (args .pointers .now))) 0 (args .seg)) (loop .base)
     (groupLen (args .p) (loop .base))) (countedFrom (args .p)
-    (segmentOf (args .p) (seen (args .p) (mkDisk (args .image .now) (args .pointers .now))) 0 (seg (args .seg))) (loop .base + args .p .G)
+    (segmentOf (args .p) (seen (args .p) (mkDisk (args .image .now) (args .pointers .now))) 0 (args .seg)) (loop .base + args .p .G)
     (args .p .S - (loop .base + args .p .G))) (loop .m) (mkDisk (loop .image) (loop .pointers))
     (upto-as (args .p) (ranged (args .p) (pre .0))
-    (segmentOf (args .p) (seen (args .p) (mkDisk (args .image .now) (args .pointers .now))) 0 (seg (args .seg))) (seg (args .to)) (seg (args .seg))
-    (seg-named (args .p) (args .seg) (pre .1 .1 .0 .0)) (pre .1 .1 .0 .4) (unmoved (args .count)) (mkDisk (args .image .now) (args .pointers .now))
-    (counted (args .p) 0 (segmentOf (args .p) (seen (args .p) (mkDisk (args .image .now) (args .pointers .now))) 0 (seg (args .seg))))
-    (countedFrom (args .p) (segmentOf (args .p) (seen (args .p) (mkDisk (args .image .now) (args .pointers .now))) 0 (seg (args .seg))) (loop .base)
+    (segmentOf (args .p) (seen (args .p) (mkDisk (args .image .now) (args .pointers .now))) 0 (args .seg)) (args .to) (args .seg)
+    (pre .1 .1 .0 .0) (pre .1 .1 .0 .4) (unmoved (args .count)) (mkDisk (args .image .now) (args .pointers .now))
+    (counted (args .p) 0 (segmentOf (args .p) (seen (args .p) (mkDisk (args .image .now) (args .pointers .now))) 0 (args .seg)))
+    (countedFrom (args .p) (segmentOf (args .p) (seen (args .p) (mkDisk (args .image .now) (args .pointers .now))) 0 (args .seg)) (loop .base)
     (args .p .S - loop .base)) ((countedFrom (args .p)
-    (segmentOf (args .p) (seen (args .p) (mkDisk (args .image .now) (args .pointers .now))) 0 (seg (args .seg))) (loop .base)
+    (segmentOf (args .p) (seen (args .p) (mkDisk (args .image .now) (args .pointers .now))) 0 (args .seg)) (loop .base)
     (groupLen (args .p) (loop .base))) ++ (countedFrom (args .p)
-    (segmentOf (args .p) (seen (args .p) (mkDisk (args .image .now) (args .pointers .now))) 0 (seg (args .seg))) (loop .base + args .p .G)
+    (segmentOf (args .p) (seen (args .p) (mkDisk (args .image .now) (args .pointers .now))) 0 (args .seg)) (loop .base + args .p .G)
     (args .p .S - (loop .base + args .p .G)))) (loop .m) (mkDisk (loop .image) (loop .pointers))
-    (from-group (args .p) (segmentOf (args .p) (seen (args .p) (mkDisk (args .image .now) (args .pointers .now))) 0 (seg (args .seg))) (loop .base)
+    (from-group (args .p) (segmentOf (args .p) (seen (args .p) (mkDisk (args .image .now) (args .pointers .now))) 0 (args .seg)) (loop .base)
     (if1 .taken)) (loop .inv .5)) (move-group .result) (mkDisk (move-group .last .1 .0) (move-group .last .1 .1 .0))
-    (upto-step (args .p) (ranged (args .p) (pre .0)) (groupAt (args .seg) (loop .base)) refl (seg (args .to)) (unmoved (args .count))
+    (upto-step (args .p) (ranged (args .p) (pre .0)) (groupAt (args .seg) (loop .base)) refl (args .to) (unmoved (args .count))
     (mkDisk (args .image .now) (args .pointers .now))
-    (counted (args .p) 0 (segmentOf (args .p) (seen (args .p) (mkDisk (args .image .now) (args .pointers .now))) 0 (seg (args .seg))))
-    (countedFrom (args .p) (segmentOf (args .p) (seen (args .p) (mkDisk (args .image .now) (args .pointers .now))) 0 (seg (args .seg))) (loop .base)
+    (counted (args .p) 0 (segmentOf (args .p) (seen (args .p) (mkDisk (args .image .now) (args .pointers .now))) 0 (args .seg)))
+    (countedFrom (args .p) (segmentOf (args .p) (seen (args .p) (mkDisk (args .image .now) (args .pointers .now))) 0 (args .seg)) (loop .base)
     (args .p .S - loop .base)) (loop .m) (mkDisk (loop .image) (loop .pointers)) (loop .inv .5)
     (λ (y : Segment). countedFrom (args .p) y (loop .base) (groupLen (args .p) (loop .base))) (move-group .result)
     (mkDisk (move-group .last .1 .0) (move-group .last .1 .1 .0)) (move-group .ensures)) (c .if2 .taken) .stored
@@ -201,43 +200,43 @@ loop-again c =
       omega (
         arith,
         loop .inv .4,
-        (upto-step (args .p) (ranged (args .p) (pre .0)) (groupAt (args .seg) (loop .base)) refl (seg (args .to)) (unmoved (args .count))
+        (upto-step (args .p) (ranged (args .p) (pre .0)) (groupAt (args .seg) (loop .base)) refl (args .to) (unmoved (args .count))
             (mkDisk (args .image .now) (args .pointers .now))
-            (counted (args .p) 0 (segmentOf (args .p) (seen (args .p) (mkDisk (args .image .now) (args .pointers .now))) 0 (seg (args .seg))))
-            (countedFrom (args .p) (segmentOf (args .p) (seen (args .p) (mkDisk (args .image .now) (args .pointers .now))) 0 (seg (args .seg))) (loop .base)
+            (counted (args .p) 0 (segmentOf (args .p) (seen (args .p) (mkDisk (args .image .now) (args .pointers .now))) 0 (args .seg)))
+            (countedFrom (args .p) (segmentOf (args .p) (seen (args .p) (mkDisk (args .image .now) (args .pointers .now))) 0 (args .seg)) (loop .base)
             (args .p .S - loop .base)) (loop .m) (mkDisk (loop .image) (loop .pointers)) (loop .inv .5)
             (λ (y : Segment). countedFrom (args .p) y (loop .base) (groupLen (args .p) (loop .base))) (move-group .result)
             (mkDisk (move-group .last .1 .0) (move-group .last .1 .1 .0)) (move-group .ensures)) .number (c .before .if2 .left),
-        from-few (args .p) (segmentOf (args .p) (seen (args .p) (mkDisk (args .image .now) (args .pointers .now))) 0 (seg (args .seg))) (loop .base)
+        from-few (args .p) (segmentOf (args .p) (seen (args .p) (mkDisk (args .image .now) (args .pointers .now))) 0 (args .seg)) (loop .base)
             (groupLen (args .p) (loop .base)),
         group-len-le (args .p) (loop .base),
       ),
       upto-turn (args .p) (ranged (args .p) (pre .0))
-          (segmentOf (args .p) (seen (args .p) (mkDisk (args .image .now) (args .pointers .now))) 0 (seg (args .seg))) (seg (args .to))
-          (seg (args .seg)) (seg-named (args .p) (args .seg) (pre .1 .1 .0 .0))
+          (segmentOf (args .p) (seen (args .p) (mkDisk (args .image .now) (args .pointers .now))) 0 (args .seg)) (args .to)
+          (args .seg) (pre .1 .1 .0 .0)
           (pre .1 .1 .0 .4) (unmoved (args .count)) (mkDisk (args .image .now) (args .pointers .now))
-          (counted (args .p) 0 (segmentOf (args .p) (seen (args .p) (mkDisk (args .image .now) (args .pointers .now))) 0 (seg (args .seg))))
-          (countedFrom (args .p) (segmentOf (args .p) (seen (args .p) (mkDisk (args .image .now) (args .pointers .now))) 0 (seg (args .seg))) (loop .base)
+          (counted (args .p) 0 (segmentOf (args .p) (seen (args .p) (mkDisk (args .image .now) (args .pointers .now))) 0 (args .seg)))
+          (countedFrom (args .p) (segmentOf (args .p) (seen (args .p) (mkDisk (args .image .now) (args .pointers .now))) 0 (args .seg)) (loop .base)
           (groupLen (args .p) (loop .base))) (countedFrom (args .p)
-          (segmentOf (args .p) (seen (args .p) (mkDisk (args .image .now) (args .pointers .now))) 0 (seg (args .seg))) (loop .base + args .p .G)
+          (segmentOf (args .p) (seen (args .p) (mkDisk (args .image .now) (args .pointers .now))) 0 (args .seg)) (loop .base + args .p .G)
           (args .p .S - (loop .base + args .p .G))) (loop .m) (mkDisk (loop .image) (loop .pointers))
           (upto-as (args .p) (ranged (args .p) (pre .0))
-          (segmentOf (args .p) (seen (args .p) (mkDisk (args .image .now) (args .pointers .now))) 0 (seg (args .seg))) (seg (args .to))
-          (seg (args .seg)) (seg-named (args .p) (args .seg) (pre .1 .1 .0 .0))
+          (segmentOf (args .p) (seen (args .p) (mkDisk (args .image .now) (args .pointers .now))) 0 (args .seg)) (args .to)
+          (args .seg) (pre .1 .1 .0 .0)
           (pre .1 .1 .0 .4) (unmoved (args .count)) (mkDisk (args .image .now) (args .pointers .now))
-          (counted (args .p) 0 (segmentOf (args .p) (seen (args .p) (mkDisk (args .image .now) (args .pointers .now))) 0 (seg (args .seg))))
-          (countedFrom (args .p) (segmentOf (args .p) (seen (args .p) (mkDisk (args .image .now) (args .pointers .now))) 0 (seg (args .seg))) (loop .base)
+          (counted (args .p) 0 (segmentOf (args .p) (seen (args .p) (mkDisk (args .image .now) (args .pointers .now))) 0 (args .seg)))
+          (countedFrom (args .p) (segmentOf (args .p) (seen (args .p) (mkDisk (args .image .now) (args .pointers .now))) 0 (args .seg)) (loop .base)
           (args .p .S - loop .base)) ((countedFrom (args .p)
-          (segmentOf (args .p) (seen (args .p) (mkDisk (args .image .now) (args .pointers .now))) 0 (seg (args .seg))) (loop .base)
+          (segmentOf (args .p) (seen (args .p) (mkDisk (args .image .now) (args .pointers .now))) 0 (args .seg)) (loop .base)
           (groupLen (args .p) (loop .base))) ++ (countedFrom (args .p)
-          (segmentOf (args .p) (seen (args .p) (mkDisk (args .image .now) (args .pointers .now))) 0 (seg (args .seg))) (loop .base + args .p .G)
+          (segmentOf (args .p) (seen (args .p) (mkDisk (args .image .now) (args .pointers .now))) 0 (args .seg)) (loop .base + args .p .G)
           (args .p .S - (loop .base + args .p .G)))) (loop .m) (mkDisk (loop .image) (loop .pointers))
-          (from-group (args .p) (segmentOf (args .p) (seen (args .p) (mkDisk (args .image .now) (args .pointers .now))) 0 (seg (args .seg))) (loop .base)
+          (from-group (args .p) (segmentOf (args .p) (seen (args .p) (mkDisk (args .image .now) (args .pointers .now))) 0 (args .seg)) (loop .base)
           (if1 .taken)) (loop .inv .5)) (move-group .result) (mkDisk (move-group .last .1 .0) (move-group .last .1 .1 .0))
-          (upto-step (args .p) (ranged (args .p) (pre .0)) (groupAt (args .seg) (loop .base)) refl (seg (args .to)) (unmoved (args .count))
+          (upto-step (args .p) (ranged (args .p) (pre .0)) (groupAt (args .seg) (loop .base)) refl (args .to) (unmoved (args .count))
           (mkDisk (args .image .now) (args .pointers .now))
-          (counted (args .p) 0 (segmentOf (args .p) (seen (args .p) (mkDisk (args .image .now) (args .pointers .now))) 0 (seg (args .seg))))
-          (countedFrom (args .p) (segmentOf (args .p) (seen (args .p) (mkDisk (args .image .now) (args .pointers .now))) 0 (seg (args .seg))) (loop .base)
+          (counted (args .p) 0 (segmentOf (args .p) (seen (args .p) (mkDisk (args .image .now) (args .pointers .now))) 0 (args .seg)))
+          (countedFrom (args .p) (segmentOf (args .p) (seen (args .p) (mkDisk (args .image .now) (args .pointers .now))) 0 (args .seg)) (loop .base)
           (args .p .S - loop .base)) (loop .m) (mkDisk (loop .image) (loop .pointers)) (loop .inv .5)
           (λ (y : Segment). countedFrom (args .p) y (loop .base) (groupLen (args .p) (loop .base))) (move-group .result)
           (mkDisk (move-group .last .1 .0) (move-group .last .1 .1 .0)) (move-group .ensures)) (c .before .if2 .left),
@@ -256,16 +255,16 @@ returns-2 c =
     let args = entry .args in
     let pre = entry .pre in
     upto-done (args .p) (ranged (args .p) (pre .0))
-    (segmentOf (args .p) (seen (args .p) (mkDisk (args .image .now) (args .pointers .now))) 0 (seg (args .seg))) (seg (args .to)) (seg (args .seg)) (seg-named (args .p) (args .seg) (pre .1 .1 .0 .0))
+    (segmentOf (args .p) (seen (args .p) (mkDisk (args .image .now) (args .pointers .now))) 0 (args .seg)) (args .to) (args .seg) (pre .1 .1 .0 .0)
     (pre .1 .1 .0 .4) (unmoved (args .count)) (mkDisk (args .image .now) (args .pointers .now))
-    (counted (args .p) 0 (segmentOf (args .p) (seen (args .p) (mkDisk (args .image .now) (args .pointers .now))) 0 (seg (args .seg)))) (loop .m)
+    (counted (args .p) 0 (segmentOf (args .p) (seen (args .p) (mkDisk (args .image .now) (args .pointers .now))) 0 (args .seg))) (loop .m)
     (mkDisk (loop .image) (loop .pointers)) (upto-as (args .p) (ranged (args .p) (pre .0))
-    (segmentOf (args .p) (seen (args .p) (mkDisk (args .image .now) (args .pointers .now))) 0 (seg (args .seg))) (seg (args .to)) (seg (args .seg))
-    (seg-named (args .p) (args .seg) (pre .1 .1 .0 .0)) (pre .1 .1 .0 .4) (unmoved (args .count)) (mkDisk (args .image .now) (args .pointers .now))
-    (counted (args .p) 0 (segmentOf (args .p) (seen (args .p) (mkDisk (args .image .now) (args .pointers .now))) 0 (seg (args .seg))))
-    (countedFrom (args .p) (segmentOf (args .p) (seen (args .p) (mkDisk (args .image .now) (args .pointers .now))) 0 (seg (args .seg))) (loop .base)
+    (segmentOf (args .p) (seen (args .p) (mkDisk (args .image .now) (args .pointers .now))) 0 (args .seg)) (args .to) (args .seg)
+    (pre .1 .1 .0 .0) (pre .1 .1 .0 .4) (unmoved (args .count)) (mkDisk (args .image .now) (args .pointers .now))
+    (counted (args .p) 0 (segmentOf (args .p) (seen (args .p) (mkDisk (args .image .now) (args .pointers .now))) 0 (args .seg)))
+    (countedFrom (args .p) (segmentOf (args .p) (seen (args .p) (mkDisk (args .image .now) (args .pointers .now))) 0 (args .seg)) (loop .base)
     (args .p .S - loop .base)) [] (loop .m) (mkDisk (loop .image) (loop .pointers))
-    (from-none (args .p) (segmentOf (args .p) (seen (args .p) (mkDisk (args .image .now) (args .pointers .now))) 0 (seg (args .seg))) (loop .base)
+    (from-none (args .p) (segmentOf (args .p) (seen (args .p) (mkDisk (args .image .now) (args .pointers .now))) 0 (args .seg)) (loop .base)
     (args .p .S - loop .base) (omega (arith, c .if1 .left))) (loop .inv .5)) .stored
 
 pub move-stripes-spec : {M : Type 1} → statement M

@@ -1,18 +1,19 @@
 -- `rewrite`: headers, stripes, resets, each cut or made; the headers leave seg as it is, so what was asked of it still holds for the stripes. Assumes nothing.
-use Rattle.spec.specs.Drives.{mkDisk, seg}
+use Rattle.spec.specs.Drives.{mkDisk}
 use Rattle.law_basic.specs.Geometry.{ranged}
-use Rattle.law_basic.specs.Segs.{seg-named}
 use Rattle.recover_rewrite.specs.Rewrite.{rewrite-heads, rewrite-whole, rewrite-sealed, rewrite-good, rewrite-fits, rewrite-moves, rewrite-resets, new-head-room}
 use borrow.Author.Needs.{needs}
+use mathlib.Core.Path.{_∙_}
 use Rattle.recover_rewrite.proofs.rewrite.Statement.{statement}
 use Rattle.recover_rewrite.proofs.rewrite.Tie as tie
+use Rattle.law_basic.specs.Segs.{named-zones-low}
 
 header-stores-requires : tie.Need-header-stores-requires
 header-stores-requires c κs =
     let entry = c .before .before .before .before in
     let args = entry .args in
     let pre = entry .pre in
-    (pre .0, (pre .1 .0, (pre .1 .1 .0 .1, λ d hd. new-head-room (args .p) (ranged (args .p) (pre .0)) (args .pointers .now) (seg (args .to)) d (pre .1 .1 .1 .0 .1 d hd))))
+    (pre .0, (pre .1 .0, (pre .1 .1 .0 .1, λ d hd. new-head-room (args .p) (ranged (args .p) (pre .0)) (args .pointers .now) (args .to) d (pre .1 .1 .1 .0 .1 d hd))))
 
 same-length : tie.Need-same-length
 same-length c = search needs
@@ -26,7 +27,7 @@ returns c =
     let entry = c .before .before .before .before .before .before .before .before .before .before in
     let args = entry .args in
     let pre = entry .pre in
-    rewrite-heads (args .p) (ranged (args .p) (pre .0)) (args .count) (seg (args .seg)) (seg-named (args .p) (args .seg) (pre .1 .1 .0 .0)) (seg (args .to)) (pre .1 .1 .0 .4) (args .serial .0)
+    rewrite-heads (args .p) (ranged (args .p) (pre .0)) (args .count) (args .seg) (pre .1 .1 .0 .0) (args .to) (pre .1 .1 .0 .4) (args .serial .0)
     (mkDisk (args .image .now) (args .pointers .now)) (pre .1 .0) (pre .1 .1 .1 .1) (args .copied .0) (pre .1 .1 .1 .0 .0) (header-stores .result)
     (mkDisk (header-stores .last .1 .0) (header-stores .last .1 .1 .0)) (header-stores .ensures) (c .if1 .taken)
 
@@ -39,24 +40,24 @@ move-stripes-requires c κs =
     let pre = entry .pre in (
       pre .0,
       (
-        rewrite-whole (args .p) (ranged (args .p) (pre .0)) (args .count) (seg (args .seg)) (seg-named (args .p) (args .seg) (pre .1 .1 .0 .0)) (seg (args .to)) (pre .1 .1 .0 .4)
+        rewrite-whole (args .p) (ranged (args .p) (pre .0)) (args .count) (args .seg) (pre .1 .1 .0 .0) (args .to) (pre .1 .1 .0 .4)
             (args .serial .0) (mkDisk (args .image .now) (args .pointers .now)) (pre .1 .0) (pre .1 .1 .1 .1) (args .copied .0) (pre .1 .1 .1 .0 .0)
             (header-stores .result) (mkDisk (header-stores .last .1 .0) (header-stores .last .1 .1 .0)) (header-stores .ensures) (if1 .left),
         (
           (
             pre .1 .1 .0 .0,
             pre .1 .1 .0 .1,
-            rewrite-sealed (args .p) (ranged (args .p) (pre .0)) (args .count) (seg (args .seg)) (seg-named (args .p) (args .seg) (pre .1 .1 .0 .0)) (seg (args .to)) (pre .1 .1 .0 .4)
+            rewrite-sealed (args .p) (ranged (args .p) (pre .0)) (args .count) (args .seg) (pre .1 .1 .0 .0) (args .to) (pre .1 .1 .0 .4)
                 (args .serial .0) (mkDisk (args .image .now) (args .pointers .now)) (pre .1 .0) (pre .1 .1 .1 .1) (args .copied .0)
                 (pre .1 .1 .1 .0 .0) (header-stores .result) (mkDisk (header-stores .last .1 .0) (header-stores .last .1 .1 .0))
                 (header-stores .ensures) (if1 .left) (pre .1 .1 .0 .2),
-            rewrite-good (args .p) (ranged (args .p) (pre .0)) (args .count) (seg (args .seg)) (seg-named (args .p) (args .seg) (pre .1 .1 .0 .0)) (seg (args .to)) (pre .1 .1 .0 .4)
+            rewrite-good (args .p) (ranged (args .p) (pre .0)) (args .count) (args .seg) (pre .1 .1 .0 .0) (args .to) (pre .1 .1 .0 .4)
                 (args .serial .0) (mkDisk (args .image .now) (args .pointers .now)) (pre .1 .0) (pre .1 .1 .1 .1) (args .copied .0)
                 (pre .1 .1 .1 .0 .0) (header-stores .result) (mkDisk (header-stores .last .1 .0) (header-stores .last .1 .1 .0))
                 (header-stores .ensures) (if1 .left) (pre .1 .1 .0 .3),
             pre .1 .1 .0 .4,
           ),
-          rewrite-fits (args .p) (ranged (args .p) (pre .0)) (args .count) (seg (args .seg)) (seg-named (args .p) (args .seg) (pre .1 .1 .0 .0)) (seg (args .to)) (pre .1 .1 .0 .4)
+          rewrite-fits (args .p) (ranged (args .p) (pre .0)) (args .count) (args .seg) (pre .1 .1 .0 .0) (args .to) (pre .1 .1 .0 .4)
               (args .serial .0) (mkDisk (args .image .now) (args .pointers .now)) (pre .1 .0) (pre .1 .1 .1 .1) (args .copied .0)
               (pre .1 .1 .1 .0 .0) (header-stores .result) (mkDisk (header-stores .last .1 .0) (header-stores .last .1 .1 .0))
               (header-stores .ensures) (if1 .left),
@@ -78,13 +79,23 @@ returns-2 c =
     let entry = c .before .before .before .before .before .before .before .before .before .before .before .before .before .before .before .before .before .before in
     let args = entry .args in
     let pre = entry .pre in
-    rewrite-moves (args .p) (ranged (args .p) (pre .0)) (args .count) (seg (args .seg)) (seg-named (args .p) (args .seg) (pre .1 .1 .0 .0)) (seg (args .to)) (pre .1 .1 .0 .4) (args .serial .0)
+    rewrite-moves (args .p) (ranged (args .p) (pre .0)) (args .count) (args .seg) (pre .1 .1 .0 .0) (args .to) (pre .1 .1 .0 .4) (args .serial .0)
     (mkDisk (args .image .now) (args .pointers .now)) (pre .1 .0) (pre .1 .1 .1 .1) (args .copied .0) (pre .1 .1 .1 .0 .0) (header-stores .result)
     (mkDisk (header-stores .last .1 .0) (header-stores .last .1 .1 .0)) (header-stores .ensures) (if1 .left) (move-stripes .result)
     (mkDisk (move-stripes .last .1 .0) (move-stripes .last .1 .1 .0)) (move-stripes .ensures) (c .if2 .taken)
 
 reset-stores-requires : tie.Need-reset-stores-requires
-reset-stores-requires c κs = search needs
+reset-stores-requires c κs =
+    let move-stripes = c .before .before .before .before .before .before .move-stripes in
+    let header-stores = c .before .before .before .before .before .before .before .before .before .before .before .before .before .before .header-stores in
+    let entry = c .before .before .before .before .before .before .before .before .before .before .before .before .before .before .before .before .before .before .before in
+    let pre = entry .pre in (
+      pre .0,
+      (
+        move-stripes .kept .1 .1 .0 ∙ header-stores .kept .1 .1 .0 ∙ pre .1 .0 .pointers-long,
+        named-zones-low (entry .args .p) 0 (entry .args .seg) (pre .1 .1 .0 .0),
+      ),
+    )
 
 same-length-5 : tie.Need-same-length-5
 same-length-5 c = search needs
@@ -102,7 +113,7 @@ returns-3 c =
     let entry = c .before .before .before .before .before .before .before .before .before .before .before .before .before .before .before .before .before .before .before .before .before .before in
     let args = entry .args in
     let pre = entry .pre in
-    rewrite-resets (args .p) (ranged (args .p) (pre .0)) (args .count) (seg (args .seg)) (seg-named (args .p) (args .seg) (pre .1 .1 .0 .0)) (seg (args .to)) (pre .1 .1 .0 .4) (args .serial .0)
+    rewrite-resets (args .p) (ranged (args .p) (pre .0)) (args .count) (args .seg) (pre .1 .1 .0 .0) (args .to) (pre .1 .1 .0 .4) (args .serial .0)
     (mkDisk (args .image .now) (args .pointers .now)) (pre .1 .0) (pre .1 .1 .1 .1) (args .copied .0) (pre .1 .1 .1 .0 .0) (header-stores .result)
     (mkDisk (header-stores .last .1 .0) (header-stores .last .1 .1 .0)) (header-stores .ensures) (if1 .left) (move-stripes .result)
     (mkDisk (move-stripes .last .1 .0) (move-stripes .last .1 .1 .0)) (move-stripes .ensures) (if2 .left) (reset-stores .result)

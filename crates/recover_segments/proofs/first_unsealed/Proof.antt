@@ -5,7 +5,7 @@ use mathlib.Core.Bool.{Bool, false, not, _&&_}
 use Prim.Native.Nat.{ℕ, _-_, _≤_}
 use native.Mathlib.Omega.{arith}
 use lib.ListN.{length, getD}
-use Rattle.spec.specs.Drives.{viewOf, sealedIn, seg}
+use Rattle.spec.specs.Drives.{viewOf, sealedIn, across}
 use Rattle.spec.specs.History.{before}
 use Rattle.spec.specs.Lists.{upFrom, below, keep, firstOr}
 use Rattle.spec.specs.Params.{imageLen}
@@ -18,8 +18,8 @@ Inv-loop p pointers gone kept g₀ g =
     (g ≤ p .Z)
     × ((im : List ℕ)
     → length im ≡ imageLen p
-    → firstOr (p .Z) (keep (λ x. getD kept x false && not (sealedIn p (viewOf p im pointers) gone (seg x))) (upFrom g (p .Z - g))) ≡ firstOr (p .Z)
-    (keep (λ x. getD kept x false && not (sealedIn p (viewOf p im pointers) gone (seg x))) (below (p .Z))))
+    → firstOr (p .Z) (keep (λ x. getD kept x false && not (sealedIn p (viewOf p im pointers) gone (across p x))) (upFrom g (p .Z - g))) ≡ firstOr (p .Z)
+    (keep (λ x. getD kept x false && not (sealedIn p (viewOf p im pointers) gone (across p x))) (below (p .Z))))
 
 abbrev μ-loop : tie.MeasureT-loop
 μ-loop p pointers gone kept g₀ g = p .Z - g
@@ -28,7 +28,7 @@ loop-holds : tie.Need-loop-holds Inv-loop μ-loop
 loop-holds c =
     let a = c .before .before .args in
     let p = a .p in
-    let f : List ℕ → ℕ → Bool = λ im x. getD (a .kept .now) x false && not (sealedIn p (viewOf p im (a .pointers .now)) (a .gone) (seg x)) in
+    let f : List ℕ → ℕ → Bool = λ im x. getD (a .kept .now) x false && not (sealedIn p (viewOf p im (a .pointers .now)) (a .gone) (across p x)) in
     (omega arith, λ im h. lowest-start (f im) (p .Z) (p .Z))
 
 is-unsealed-requires : tie.Need-is-unsealed-requires Inv-loop μ-loop
@@ -42,9 +42,9 @@ returns c =
     let if1 = c .before .before .if1 in
     let loop = c .before .before .before .before .loop in
     let p = a .p in
-    let f : List ℕ → ℕ → Bool = λ im x. getD (a .kept .now) x false && not (sealedIn p (viewOf p im (a .pointers .now)) (a .gone) (seg x)) in (
+    let f : List ℕ → ℕ → Bool = λ im x. getD (a .kept .now) x false && not (sealedIn p (viewOf p im (a .pointers .now)) (a .gone) (across p x)) in (
       omega (arith, if1 .taken),
-      λ im h k. ap seg (sym
+      λ im h k. ap (across p) (sym
           (lowest-turn (f im) (p .Z) (loop .g) (p .Z) (if1 .taken) (sym (c .before .is-unsealed .ensures im h) ∙ c .if2 .taken))
           ∙ loop .inv .1 im h)
           ∙ sym (unsealed-first p (viewOf p im (a .pointers .now)) (a .gone) (p .Z) (a .kept .now) k),
@@ -62,7 +62,7 @@ loop-again c =
     let if1 = c .before .before .if1 in
     let loop = c .before .before .before .before .loop in
     let p = a .p in
-    let f : List ℕ → ℕ → Bool = λ im x. getD (a .kept .now) x false && not (sealedIn p (viewOf p im (a .pointers .now)) (a .gone) (seg x)) in
+    let f : List ℕ → ℕ → Bool = λ im x. getD (a .kept .now) x false && not (sealedIn p (viewOf p im (a .pointers .now)) (a .gone) (across p x)) in
     (omega (arith, if1 .taken), λ im h. sym (lowest-pass (f im) (p .Z) (loop .g) (p .Z) (if1 .taken) (sym (c .before .is-unsealed .ensures im h) ∙ c .if2 .left)) ∙ loop .inv .1 im h)
 
 returns-2 : tie.Need-returns-2 Inv-loop μ-loop
@@ -70,9 +70,9 @@ returns-2 c =
     let a = c .before .before .before .before .before .args in
     let loop = c .before .before .loop in
     let p = a .p in
-    let f : List ℕ → ℕ → Bool = λ im x. getD (a .kept .now) x false && not (sealedIn p (viewOf p im (a .pointers .now)) (a .gone) (seg x)) in (
+    let f : List ℕ → ℕ → Bool = λ im x. getD (a .kept .now) x false && not (sealedIn p (viewOf p im (a .pointers .now)) (a .gone) (across p x)) in (
       omega arith,
-      λ im h k. ap seg (sym (lowest-end (f im) (p .Z) (loop .g) (p .Z) (omega (arith, c .if1 .left))) ∙ loop .inv .1 im h)
+      λ im h k. ap (across p) (sym (lowest-end (f im) (p .Z) (loop .g) (p .Z) (omega (arith, c .if1 .left))) ∙ loop .inv .1 im h)
           ∙ sym (unsealed-first p (viewOf p im (a .pointers .now)) (a .gone) (p .Z) (a .kept .now) k),
     )
 

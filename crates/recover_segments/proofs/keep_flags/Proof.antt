@@ -5,7 +5,7 @@ use mathlib.Core.Bool.{false}
 use Prim.Native.Nat.{ℕ, _-_, _≤_, _<_}
 use native.Mathlib.Omega.{arith}
 use lib.ListN.{length, getD, length-set}
-use Rattle.spec.specs.Drives.{viewOf, seg}
+use Rattle.spec.specs.Drives.{viewOf, across}
 use Rattle.spec.specs.Params.{pointersLen}
 use Rattle.recover_segments.specs.Kept.{set-more}
 use Rattle.recover_segments.specs.Remains.{remainsHere, LeftFlags, Serials}
@@ -16,7 +16,7 @@ abbrev Inv-loop : tie.InvT-loop
 Inv-loop p image gone serials flags out₀ low g₀ out g =
     (g ≤ p .Z) × (length out ≡ length out₀)
     × ((ps : List ℕ) → length ps ≡ pointersLen p → LeftFlags p (viewOf p image ps) gone flags → Serials p (viewOf p image ps) gone serials
-    → (j : ℕ) → j < g → getD out j false ≡ remainsHere p (viewOf p image ps) gone (seg j))
+    → (j : ℕ) → j < g → getD out j false ≡ remainsHere p (viewOf p image ps) gone (across p j))
 
 abbrev μ-loop : tie.MeasureT-loop
 μ-loop p image gone serials flags out₀ low g₀ out g = p .Z - g
@@ -55,7 +55,7 @@ loop-again c =
     let s = c .is-kept .result in (
       omega (arith, c .before .if1 .taken),
       length-set (l .out) (l .g) s ∙ l .inv .1,
-      λ ps h x y. set-more (l .out) (l .g) s false (λ g. remainsHere p (viewOf p (e .args .image .now) ps) n (seg g)) (omega (arith, l .inv .1, c .before .if1 .taken, e .pre .1 .3))
+      λ ps h x y. set-more (l .out) (l .g) s false (λ g. remainsHere p (viewOf p (e .args .image .now) ps) n (across p g)) (omega (arith, l .inv .1, c .before .if1 .taken, e .pre .1 .3))
           (l .inv .2 ps h x y) (c .is-kept .ensures ps n h (low-drive .ensures .0) x y),
     )
 

@@ -5,7 +5,7 @@ use mathlib.Core.Bool.{false}
 use Prim.Native.Nat.{ℕ, _-_, _≤_, _<_}
 use native.Mathlib.Omega.{arith}
 use lib.ListN.{length, getD, length-set}
-use Rattle.spec.specs.Drives.{viewOf, seg}
+use Rattle.spec.specs.Drives.{viewOf, across}
 use Rattle.spec.specs.Params.{imageLen}
 use Rattle.recover_segments.specs.Kept.{set-more}
 use Rattle.recover_segments.specs.Remains.{isLeft}
@@ -14,7 +14,7 @@ use Rattle.recover_segments.proofs.left.Tie as tie
 
 abbrev Inv-loop : tie.InvT-loop
 Inv-loop p pointers gone out₀ g₀ out g =
-    (g ≤ p .Z) × (length out ≡ length out₀) × ((im : List ℕ) → length im ≡ imageLen p → (j : ℕ) → j < g → getD out j false ≡ isLeft p (viewOf p im pointers) gone (seg j))
+    (g ≤ p .Z) × (length out ≡ length out₀) × ((im : List ℕ) → length im ≡ imageLen p → (j : ℕ) → j < g → getD out j false ≡ isLeft p (viewOf p im pointers) gone (across p j))
 
 abbrev μ-loop : tie.MeasureT-loop
 μ-loop p pointers gone out₀ g₀ out g = p .Z - g
@@ -46,7 +46,7 @@ loop-again c =
     let s = c .is-left .result in (
       omega (arith, c .before .if1 .taken),
       length-set (l .out) (l .g) s ∙ l .inv .1,
-      λ im h. set-more (l .out) (l .g) s false (λ g. isLeft p (viewOf p im (e .args .pointers .now)) (e .args .gone) (seg g)) (omega (arith, l .inv .1, c .before .if1 .taken, e .pre .1 .1))
+      λ im h. set-more (l .out) (l .g) s false (λ g. isLeft p (viewOf p im (e .args .pointers .now)) (e .args .gone) (across p g)) (omega (arith, l .inv .1, c .before .if1 .taken, e .pre .1 .1))
           (l .inv .2 im h) (c .is-left .ensures im h),
     )
 

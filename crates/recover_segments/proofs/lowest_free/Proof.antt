@@ -6,10 +6,10 @@ use native.Mathlib.Omega.{arith}
 use lib.ListN.{getD}
 use Rattle.spec.specs.History.{before}
 use Rattle.spec.specs.Lists.{upFrom, below, keep, firstOr}
-use Rattle.spec.specs.Drives.{seg}
 use Rattle.recover_segments.specs.Kept.{lowest-turn, lowest-pass, lowest-end, lowest-start, free-first}
 use Rattle.recover_segments.proofs.lowest_free.Statement.{statement}
 use Rattle.recover_segments.proofs.lowest_free.Tie as tie
+use Rattle.spec.specs.Drives.{across}
 
 abbrev Inv-loop : tie.InvT-loop
 Inv-loop p kept z₀ z = (z ≤ p .Z) × (firstOr (p .Z) (keep (λ x. not (getD kept x false)) (upFrom z (p .Z - z))) ≡ firstOr (p .Z) (keep (λ x. not (getD kept x false)) (below (p .Z))))
@@ -33,7 +33,7 @@ returns c =
     let loop = c .before .before .before .before .loop in
     let f : ℕ → Bool = λ x. not (getD (a .kept .now) x false) in (
       omega (arith, if1 .taken),
-      λ v gone k. ap seg (sym (lowest-turn f (a .p .Z) (loop .z) (a .p .Z) (if1 .taken) (c .if2 .taken)) ∙ loop .inv .1)
+      λ v gone k. ap (across (a .p)) (sym (lowest-turn f (a .p .Z) (loop .z) (a .p .Z) (if1 .taken) (c .if2 .taken)) ∙ loop .inv .1)
           ∙ sym (free-first (a .p) v gone (a .p .Z) (a .kept .now) k),
     )
 
@@ -56,7 +56,8 @@ returns-2 c =
     let a = c .before .before .before .args in
     let loop = c .before .before .loop in
     let f : ℕ → Bool = λ x. not (getD (a .kept .now) x false) in
-    (omega arith, λ v gone k. ap seg (sym (lowest-end f (a .p .Z) (loop .z) (a .p .Z) (omega (arith, c .if1 .left))) ∙ loop .inv .1) ∙ sym (free-first (a .p) v gone (a .p .Z) (a .kept .now) k))
+    let e = sym (lowest-end f (a .p .Z) (loop .z) (a .p .Z) (omega (arith, c .if1 .left))) ∙ loop .inv .1 in
+    (omega arith, λ v gone k. ap (across (a .p)) e ∙ sym (free-first (a .p) v gone (a .p .Z) (a .kept .now) k))
 
 pub lowest-free-spec : {M : Type 1} → statement M
 lowest-free-spec =

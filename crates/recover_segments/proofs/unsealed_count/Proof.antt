@@ -6,7 +6,7 @@ use mathlib.Core.Logic.{⊎-elim}
 use Prim.Native.Nat.{ℕ, _+_, _-_, _≤_}
 use native.Mathlib.Omega.{arith}
 use lib.ListN.{length, getD}
-use Rattle.spec.specs.Drives.{viewOf, sealedIn, seg}
+use Rattle.spec.specs.Drives.{viewOf, sealedIn, across}
 use Rattle.spec.specs.History.{before}
 use Rattle.spec.specs.Lists.{upFrom, below, keep}
 use Rattle.spec.specs.Params.{imageLen}
@@ -21,8 +21,8 @@ Inv-loop p pointers gone kept n₀ g₀ n g =
     × (n ≤ g)
     × ((im : List ℕ)
     → length im ≡ imageLen p
-    → n + length (keep (λ x. getD kept x false && not (sealedIn p (viewOf p im pointers) gone (seg x))) (upFrom g (p .Z - g))) ≡ length
-    (keep (λ x. getD kept x false && not (sealedIn p (viewOf p im pointers) gone (seg x))) (below (p .Z))))
+    → n + length (keep (λ x. getD kept x false && not (sealedIn p (viewOf p im pointers) gone (across p x))) (upFrom g (p .Z - g))) ≡ length
+    (keep (λ x. getD kept x false && not (sealedIn p (viewOf p im pointers) gone (across p x))) (below (p .Z))))
 
 abbrev μ-loop : tie.MeasureT-loop
 μ-loop p pointers gone kept n₀ g₀ n g = p .Z - g
@@ -31,7 +31,7 @@ loop-holds : tie.Need-loop-holds Inv-loop μ-loop
 loop-holds c =
     let a = c .before .before .args in
     let p = a .p in
-    let f : List ℕ → ℕ → Bool = λ im x. getD (a .kept .now) x false && not (sealedIn p (viewOf p im (a .pointers .now)) (a .gone) (seg x)) in
+    let f : List ℕ → ℕ → Bool = λ im x. getD (a .kept .now) x false && not (sealedIn p (viewOf p im (a .pointers .now)) (a .gone) (across p x)) in
     (omega arith, omega arith, λ im h. kept-start (f im) (p .Z))
 
 is-unsealed-requires : tie.Need-is-unsealed-requires Inv-loop μ-loop
@@ -54,7 +54,7 @@ loop-again c =
     let if1 = c .before .before .if1 in
     let loop = c .before .before .before .before .loop in
     let p = a .p in
-    let f : List ℕ → ℕ → Bool = λ im x. getD (a .kept .now) x false && not (sealedIn p (viewOf p im (a .pointers .now)) (a .gone) (seg x)) in
+    let f : List ℕ → ℕ → Bool = λ im x. getD (a .kept .now) x false && not (sealedIn p (viewOf p im (a .pointers .now)) (a .gone) (across p x)) in
     let b : (loop .g + 1 ≤ p .Z)
     × (c .if2 .n ≤ loop .g + 1)
     × ((im : List ℕ)
@@ -85,7 +85,7 @@ returns c =
     let a = c .before .before .before .before .before .args in
     let loop = c .before .before .loop in
     let p = a .p in
-    let f : List ℕ → ℕ → Bool = λ im x. getD (a .kept .now) x false && not (sealedIn p (viewOf p im (a .pointers .now)) (a .gone) (seg x)) in (
+    let f : List ℕ → ℕ → Bool = λ im x. getD (a .kept .now) x false && not (sealedIn p (viewOf p im (a .pointers .now)) (a .gone) (across p x)) in (
       omega (arith, loop .inv .1, loop .inv .0),
       λ im h k. sym (kept-ended (f im) (loop .g) (p .Z) (loop .n) (omega (arith, c .if1 .left)))
           ∙ loop .inv .2 im h

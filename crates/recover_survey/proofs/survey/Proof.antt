@@ -4,7 +4,7 @@ use mathlib.Core.Bool.{false}
 use Prim.Native.Nat.{ℕ, _+_, _-_, _%_, min, _≤_, _<_}
 use native.Mathlib.Omega.{arith}
 use lib.ListN.{length}
-use Rattle.spec.specs.Drives.{viewOf, seg}
+use Rattle.spec.specs.Drives.{viewOf}
 use Rattle.spec.specs.Lists.{any}
 use Rattle.spec.specs.Segments.{segmentOf}
 use Rattle.law_basic.specs.Geometry.{ranged, base-next}
@@ -17,9 +17,9 @@ use Rattle.recover_survey.proofs.survey.Tie as tie
 abbrev Inv-loop : tie.InvT-loop
 Inv-loop p image pointers gone sn full at₀ t₀ base₀ at t base =
     (length at ≡ 2048) × (base < p .S + p .G) × (base % p .G ≡ 0) × (t .counted ≤ min base (p .S)) × (t .loose ≤ min base (p .S))
-    × (t .bad ≡ false → any (groupFault p gone (segmentOf p (viewOf p image pointers) gone (seg sn))) (basesFrom p base) ≡ recsFault p gone
-    (segmentOf p (viewOf p image pointers) gone (seg sn)))
-    × Tallied p gone (segmentOf p (viewOf p image pointers) gone (seg sn)) (min base (p .S)) t
+    × (t .bad ≡ false → any (groupFault p gone (segmentOf p (viewOf p image pointers) gone sn)) (basesFrom p base) ≡ recsFault p gone
+    (segmentOf p (viewOf p image pointers) gone sn))
+    × Tallied p gone (segmentOf p (viewOf p image pointers) gone sn) (min base (p .S)) t
 
 abbrev μ-loop : tie.MeasureT-loop
 μ-loop p image pointers gone sn full at₀ t₀ base₀ at t base = p .S - base
@@ -29,7 +29,7 @@ loop-holds c =
     let a = c .before .before .before .args in
     let p = a .p in
     let v = viewOf p (a .image .now) (a .pointers .now) in
-    let g = segmentOf p v (a .gone) (seg (a .seg)) in
+    let g = segmentOf p v (a .gone) (a .seg) in
     let h = c .before .before .before .pre in
     let r = ranged p (h .0) in (
       h .1 .1 .0,
@@ -37,7 +37,7 @@ loop-holds c =
       zero-mod (p .G),
       omega arith,
       omega arith,
-      (λ _. faults-start p v (a .gone) (seg (a .seg)) (r .group-low)),
+      (λ _. faults-start p v (a .gone) (a .seg) (r .group-low)),
       subst (λ (x : ℕ). Tallied p (a .gone) g x (record { bad = false; counted = 0; top = 0; loose = 0 })) (sym (zero-min (p .S))) (tallied-none p (a .gone) g),
     )
 
@@ -47,7 +47,7 @@ survey-group-requires c κs =
     let h = c .before .before .before .before .before .before .before .pre in
     let p = a .p in
     let v = viewOf p (a .image .now) (a .pointers .now) in
-    let g = segmentOf p v (a .gone) (seg (a .seg)) in
+    let g = segmentOf p v (a .gone) (a .seg) in
     let r = ranged p (h .0) in
     let l = c .before .before .before .loop in
     let k = c .before .if1 .taken in
@@ -60,7 +60,7 @@ add-base c =
     let h = c .before .before .before .before .before .before .before .before .before .before .before .pre in
     let p = a .p in
     let v = viewOf p (a .image .now) (a .pointers .now) in
-    let g = segmentOf p v (a .gone) (seg (a .seg)) in
+    let g = segmentOf p v (a .gone) (a .seg) in
     let r = ranged p (h .0) in
     omega (arith, l .inv .1, r .stripes-high, r .group-high)
 
@@ -72,7 +72,7 @@ loop-less c =
     let h = c .before .before .before .before .before .before .before .before .before .before .before .pre in
     let p = a .p in
     let v = viewOf p (a .image .now) (a .pointers .now) in
-    let g = segmentOf p v (a .gone) (seg (a .seg)) in
+    let g = segmentOf p v (a .gone) (a .seg) in
     let r = ranged p (h .0) in
     omega (arith, if1 .taken, r .group-low)
 
@@ -85,7 +85,7 @@ loop-again c =
     let h = c .before .before .before .before .before .before .before .before .before .before .before .pre in
     let p = a .p in
     let v = viewOf p (a .image .now) (a .pointers .now) in
-    let g = segmentOf p v (a .gone) (seg (a .seg)) in
+    let g = segmentOf p v (a .gone) (a .seg) in
     let r = ranged p (h .0) in
     let k = if1 .taken in
     let m : min (l .base) (p .S) ≡ l .base = omega (arith, k) in
@@ -105,7 +105,7 @@ same-length c =
     let h = c .before .before .before .before .before .before .pre in
     let p = a .p in
     let v = viewOf p (a .image .now) (a .pointers .now) in
-    let g = segmentOf p v (a .gone) (seg (a .seg)) in
+    let g = segmentOf p v (a .gone) (a .seg) in
     let r = ranged p (h .0) in
     c .before .before .loop .inv .0 ∙ sym (h .1 .1 .0)
 
@@ -115,7 +115,7 @@ returns c =
     let h = c .before .before .before .before .before .before .pre in
     let p = a .p in
     let v = viewOf p (a .image .now) (a .pointers .now) in
-    let g = segmentOf p v (a .gone) (seg (a .seg)) in
+    let g = segmentOf p v (a .gone) (a .seg) in
     let r = ranged p (h .0) in
     let l = c .before .before .loop in
     let k : p .S ≤ l .base = omega (arith, c .if1 .left) in

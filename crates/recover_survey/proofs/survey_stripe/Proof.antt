@@ -6,7 +6,7 @@ use Prim.Native.Nat.{ℕ, _+_, _≤_}
 use native.Mathlib.Omega.{arith}
 use lib.ListN.{length}
 use borrow.Author.Needs.{needs}
-use Rattle.spec.specs.Drives.{viewOf, seg}
+use Rattle.spec.specs.Drives.{viewOf}
 use Rattle.spec.specs.Params.{present}
 use Rattle.spec.specs.Segments.{counts}
 use Rattle.law_basic.specs.Geometry.{ranged}
@@ -133,7 +133,7 @@ returns-3 c =
       λ ps sh T. passes-none p (w .gone) (segmentIn p (a .image .now) ps w) s t T (λ rf.
           let ct : counts p (w .gone) (segmentIn p (a .image .now) ps w) s ≡ false = sym (counts′ .ensures (segmentIn p (a .image .now) ps w) (w .base) (sh .2 rf) (h .1 .0 .4)) ∙ if1 .left in (
             ct,
-            loose-none p (viewOf p (a .image .now) ps) (w .gone) (seg (w .seg)) s (x .result) (length (present p (w .gone)))
+            loose-none p (viewOf p (a .image .now) ps) (w .gone) (w .seg) s (x .result) (length (present p (w .gone)))
                 (x .ensures .1 (segmentIn p (a .image .now) ps w) (w .base) (sh .2 rf) (h .1 .0 .4)) refl (c .if3 .taken),
           )),
     )
@@ -164,7 +164,7 @@ returns-4 c =
       λ ps sh T. passes-loose p (w .gone) (segmentIn p (a .image .now) ps w) s t T (λ rf.
           let ct : counts p (w .gone) (segmentIn p (a .image .now) ps w) s ≡ false = sym (counts′ .ensures (segmentIn p (a .image .now) ps w) (w .base) (sh .2 rf) (h .1 .0 .4)) ∙ if1 .left in (
             ct,
-            loose-counts p (viewOf p (a .image .now) ps) (w .gone) (seg (w .seg)) s (x .result) (length (present p (w .gone)))
+            loose-counts p (viewOf p (a .image .now) ps) (w .gone) (w .seg) s (x .result) (length (present p (w .gone)))
                 (x .ensures .1 (segmentIn p (a .image .now) ps w) (w .base) (sh .2 rf) (h .1 .0 .4)) refl ct (c .before .if3 .left),
           )),
     )

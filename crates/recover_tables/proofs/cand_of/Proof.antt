@@ -1,13 +1,11 @@
 -- `cand_of`: a counted stripe is entered where the drive is present; record, offset below S and place are then those of `candOf`. Assumes nothing.
-use borrow.Author.Needs.{needs}
 use mathlib.Core.Path.{sym, ap, _∙_, subst}
 use Prim.Native.Nat.{ℕ, _+_, _<_}
 use native.Mathlib.Omega.{arith}
-use Rattle.spec.specs.Drives.{viewOf, seg}
+use Rattle.spec.specs.Drives.{viewOf}
 use Rattle.spec.specs.Params.{placeOf}
 use Rattle.recover_groups.specs.Groups.{segmentIn}
 use Rattle.law_basic.specs.Geometry.{Ranged, ranged, data-below}
-use Rattle.law_basic.specs.Segs.{seg-named, zone-on-lt}
 use Rattle.disk_records.specs.Record.{recVal}
 use Rattle.recover_tables.specs.Ready.{stripe-byte, reading-entered, offset-fits, cand-is}
 use Rattle.recover_tables.proofs.cand_of.Statement.{statement}
@@ -18,7 +16,8 @@ rec-of-requires c κs =
     let a = c .before .before .args in
     let q = c .before .before .pre in
     let (ps, rd, cn) = q .1 .1 in
-    (q .0, (q .1 .0, reading-entered (a .p) (a .image .now) ps (a .w) (a .at .now) (a .k) rd (q .1 .0 .5) cn))
+    let h = q .1 .0 in
+    (q .0, ((h .0, h .1, h .2, h .3, h .4, h .5), reading-entered (a .p) (a .image .now) ps (a .w) (a .at .now) (a .k) rd (q .1 .0 .5) cn))
 
 offset-of-requires : tie.Need-offset-of-requires
 offset-of-requires c κs =
@@ -31,7 +30,9 @@ offset-of-requires c κs =
     )
 
 zone-on-requires : tie.Need-zone-on-requires
-zone-on-requires c κs = search needs
+zone-on-requires c κs =
+    let q = c .before .before .before .before .pre in
+    (q .0, q .1 .0 .4)
 
 add-place-of : tie.Need-add-place-of
 add-place-of c =
@@ -55,8 +56,7 @@ place-of-requires c κs =
     let l : c .before .offset-of .result < a .p .S =
     subst (λ (x : ℕ). x < a .p .S) (sym e)
     (offset-fits (a .p) (a .image .now) ps (a .w) (a .at .now) (a .k) (a .drive) (q .1 .0 .3) (q .1 .0 .5) (q .1 .0 .4) rd cn) in
-    let hz : c .zone-on .result < a .p .Z = subst (λ (x : ℕ). x < a .p .Z) (sym (c .zone-on .ensures))
-    (zone-on-lt (a .p) (seg (a .w .seg)) (a .drive) (seg-named (a .p) (a .w .seg) (q .1 .0 .2))) in
+    let hz : c .zone-on .result < a .p .Z = subst (λ (x : ℕ). x < a .p .Z) (sym (c .zone-on .ensures)) (q .1 .0 .6) in
     (q .0, (q .1 .0 .4, hz, data-below (a .p) r (1 + c .before .offset-of .result) (omega (arith, l))))
 
 returns : tie.Need-returns
@@ -69,7 +69,7 @@ returns c =
     let rec-of = c .before .before .before .before .before .rec-of in
     let p = a .p in
     let o = offset-of .result in
-    λ ps rd es. cand-is p (viewOf p (a .image .now) ps) (a .w .gone) (seg (a .w .seg)) (a .w .base + a .k) (a .drive) (recVal (rec-of .result)) (a .serial .0) o (place-of .result .0)
+    λ ps rd es. cand-is p (viewOf p (a .image .now) ps) (a .w .gone) (a .w .seg) (a .w .base + a .k) (a .drive) (recVal (rec-of .result)) (a .serial .0) o (place-of .result .0)
     (rec-of .ensures ps rd) (offset-of .ensures p (segmentIn p (a .image .now) ps (a .w)) (rd .indexed) (q .1 .0 .4) (q .1 .0 .5)) es
     (place-of .ensures .0 ∙ ap (λ (z : ℕ). placeOf p (a .drive) z (1 + o)) (zone-on .ensures))
 

@@ -1,28 +1,27 @@
--- The place in the table is that of the law compactAt (zone and segment are one number), which lies in the table; the byte there is the entry.
+-- The place in the table is that of the law compactAt at the segment's zone, which lies in the table; the byte there is the entry.
 use mathlib.Core.Path.{_≡_, ap, _∙_}
 use Prim.Native.Nat.{ℕ, _+_, _<_}
 use native.Mathlib.Omega.{arith}
-use borrow.Author.Needs.{needs}
 use lib.ListN.{getD}
 use Rattle.spec.specs.Memory.{compactAt}
 use Rattle.spec.specs.Params.{compactLen}
-use Rattle.spec.specs.Drives.{seg, zoneOn}
+use Rattle.spec.specs.Drives.{zoneOn}
 use Rattle.recover_groups.specs.Bases.{group-len-fits}
 use Rattle.law_basic.specs.Geometry.{ranged}
-use Rattle.law_basic.specs.Segs.{zone-on-lt, seg-named}
 use Rattle.recover_tables.specs.Index.{compact-entry-within}
 use Rattle.recover_tables.proofs.entry_at.Statement.{statement}
 use Rattle.recover_tables.proofs.entry_at.Tie as tie
 
 zone-on-requires : tie.Need-zone-on-requires
-zone-on-requires c κs = search needs
+zone-on-requires c κs =
+    let pre = c .before .pre in
+    (pre .0, pre .1 .1)
 
 compact-at-requires : tie.Need-compact-at-requires
 compact-at-requires c κs =
-    let a = c .before .before .args in
     let pre = c .before .before .pre in
     let h = pre .1 in
-    (pre .0, (h .1, rw (c .zone-on .ensures) (zone-on-lt (a .p) (seg (a .w .seg)) (a .drive) (seg-named (a .p) (a .w .seg) (h .2))), h .3))
+    (pre .0, (h .1, rw (c .zone-on .ensures) (h .2), h .3))
 
 add-result : tie.Need-add-result
 add-result c =
@@ -32,7 +31,7 @@ add-result c =
     omega (arith, c .compact-at .ensures .2, group-len-fits (a .p) (a .w .base) (omega (arith, h .3)), h .3, h .4, ranged (a .p) (pre .0) .stripes-high)
 
 at-is : (c : tie.After-shared-slice-known2)
-    → let a = c .before .before .before .before .args in c .before .compact-at .result ≡ compactAt (a .p) (a .drive) (zoneOn (seg (a .w .seg)) (a .drive)) (a .w .base)
+    → let a = c .before .before .before .before .args in c .before .compact-at .result ≡ compactAt (a .p) (a .drive) (zoneOn (a .w .seg) (a .drive)) (a .w .base)
 at-is c =
     let a = c .before .before .before .before .args in
     c .before .compact-at .ensures .0 ∙ ap (λ (z : ℕ). compactAt (a .p) (a .drive) z (a .w .base)) (c .before .before .zone-on .ensures)
@@ -46,8 +45,8 @@ within c =
     omega (
       arith,
       e,
-      compact-entry-within (a .p) (a .drive) (zoneOn (seg (a .w .seg)) (a .drive)) (a .w .base) (a .i) (h .1)
-          (zone-on-lt (a .p) (seg (a .w .seg)) (a .drive) (seg-named (a .p) (a .w .seg) (h .2))) (omega (arith, group-len-fits (a .p) (a .w .base) (omega (arith, h .3)), h .4)),
+      compact-entry-within (a .p) (a .drive) (zoneOn (a .w .seg) (a .drive)) (a .w .base) (a .i) (h .1)
+          (h .2) (omega (arith, group-len-fits (a .p) (a .w .base) (omega (arith, h .3)), h .4)),
     )
 
 shared-slice-read-result : tie.Need-shared-slice-read-result

@@ -3,7 +3,7 @@ use mathlib.Core.Path.{sym, _∙_}
 use Prim.Native.Nat.{_+_}
 use native.Mathlib.Omega.{arith}
 use borrow.Author.Needs.{needs}
-use Rattle.spec.specs.Drives.{viewOf, seg}
+use Rattle.spec.specs.Drives.{viewOf}
 use Rattle.recover_groups.specs.Bases.{group-len-le}
 use Rattle.recover_groups.specs.Chunks.{missing-entry}
 use Rattle.recover_tables.proofs.index_any.Statement.{statement}
@@ -30,7 +30,7 @@ returns c =
     λ im G m sh. (
       clear-row .ensures .1,
       λ k hk. clear-row .ensures .0 k (omega (arith, f, hk))
-          ∙ sym (missing-entry p (viewOf p im (a .pointers .now)) (w .gone) (seg (w .seg)) (w .base) (a .drive) (w .base + k) (q .1 .1 .0) (sym (c .before .has-drive .ensures) ∙ c .if1 .taken)),
+          ∙ sym (missing-entry p (viewOf p im (a .pointers .now)) (w .gone) (w .seg) (w .base) (a .drive) (w .base + k) (q .1 .1 .0) (sym (c .before .has-drive .ensures) ∙ c .if1 .taken)),
     )
 
 index-drive-requires : tie.Need-index-drive-requires

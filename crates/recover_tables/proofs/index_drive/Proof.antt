@@ -4,7 +4,7 @@ use mathlib.Core.List.{List}
 use Prim.Native.Nat.{ℕ, _+_, _-_, _*_, _≤_}
 use native.Mathlib.Omega.{arith}
 use lib.ListN.{length, set, length-set}
-use Rattle.spec.specs.Drives.{viewOf, seg}
+use Rattle.spec.specs.Drives.{viewOf}
 use Rattle.spec.specs.Segments.{remaining, recsOn}
 use Rattle.recover_groups.specs.Bases.{group-len-le}
 use Rattle.recover_groups.specs.Entering.{Entering, entering-start}
@@ -16,12 +16,13 @@ use Rattle.law_drives.specs.Members.{In}
 use Rattle.recover_tables.specs.Index.{index-entered, all-entered}
 use Rattle.recover_tables.proofs.index_drive.Statement.{statement}
 use Rattle.recover_tables.proofs.index_drive.Tie as tie
+use Rattle.law_basic.specs.Segs.{low-zone}
 
 abbrev Inv-loop : tie.InvT-loop
 Inv-loop p pointers compact w drive at₀ n i₀ at i =
     (i ≤ n) × (length at ≡ 2048)
-    × ((im : List ℕ) → Ground p im pointers (w .gone) compact → In (seg (w .seg)) (remaining p (viewOf p im pointers) (w .gone))
-    → SegmentShown p (viewOf p im pointers) (w .gone) (seg (w .seg)) compact
+    × ((im : List ℕ) → Ground p im pointers (w .gone) compact → In (w .seg) (remaining p (viewOf p im pointers) (w .gone))
+    → SegmentShown p (viewOf p im pointers) (w .gone) (w .seg) compact
     → Entering p drive (w .base) (groupRecs p (w .base) (recsOn (segmentIn p im pointers w) drive)) at₀ at i)
 
 abbrev μ-loop : tie.MeasureT-loop
@@ -29,8 +30,10 @@ abbrev μ-loop : tie.MeasureT-loop
 
 group-stored-requires : tie.Need-group-stored-requires Inv-loop μ-loop
 group-stored-requires c κs =
+    let a = c .before .before .before .args in
     let q = c .before .before .before .pre in
-    (q .0, (q .1 .0 .0, q .1 .1 .0 .0, q .1 .1 .0 .1, q .1 .1 .0 .2))
+    let h = q .1 .1 .0 in
+    (q .0, (q .1 .0 .0, h .0, low-zone (a .p) (a .w .gone) (a .w .seg) (a .drive) (h .1) (h .0) (h .4), h .2))
 
 loop-holds : tie.Need-loop-holds Inv-loop μ-loop
 loop-holds c =
@@ -52,8 +55,11 @@ mul-j c =
 
 entry-at-requires : tie.Need-entry-at-requires Inv-loop μ-loop
 entry-at-requires c κs =
+    let a = c .before .before .before .before .before .before .args in
     let q = c .before .before .before .before .before .before .pre in
-    (q .0, (q .1 .0 .1, q .1 .1 .0 .0, q .1 .1 .0 .1, q .1 .1 .0 .2, omega (arith, c .loop-test .taken, c .before .before .group-stored .ensures .1)))
+    let h = q .1 .1 .0 in
+    let z = low-zone (a .p) (a .w .gone) (a .w .seg) (a .drive) (h .1) (h .0) (h .4) in
+    (q .0, (q .1 .0 .1, h .0, z, h .2, omega (arith, c .loop-test .taken, c .before .before .group-stored .ensures .1)))
 
 add-j : tie.Need-add-j Inv-loop μ-loop
 add-j c =
@@ -106,7 +112,7 @@ loop-again c =
           let rs = groupRecs p (w .base) (recsOn (segmentIn p im ps w) (a .drive)) in
           let n : group-stored .result ≡ length rs = group-stored .ensures .0 im (G .whole .image-long) (h .4) in
           subst (λ (x : ℕ). Entering p (a .drive) (w .base) rs (a .at .now) (set (l .at) (256 * a .drive + x) (l .i + 1)) (l .i + 1)) (sym (c .entry-at .ensures .0))
-          (index-entered p r im ps (w .gone) (a .compact .now) G (seg (w .seg)) (w .base) (a .drive) m sh (h .0) (h .4) (h .2) (h .3) (a .at .now) (l .at) (l .i) (l .inv .2 im G m sh)
+          (index-entered p r im ps (w .gone) (a .compact .now) G (w .seg) (w .base) (a .drive) m sh (h .0) (h .4) (h .2) (h .3) (a .at .now) (l .at) (l .i) (l .inv .2 im G m sh)
           (omega (arith, n, c .before .loop-test .taken))),
     )
 
@@ -130,7 +136,7 @@ returns c =
     λ im G m sh.
     let rs = groupRecs p (w .base) (recsOn (segmentIn p im ps w) (a .drive)) in
     let n : group-stored .result ≡ length rs = group-stored .ensures .0 im (G .whole .image-long) (h .4) in
-    all-entered p r im ps (w .gone) (a .compact .now) G (seg (w .seg)) (w .base) (a .drive) m sh (h .0) (h .4) (h .2) (h .3) (a .at .now) (l .at) (l .i) (l .inv .2 im G m sh)
+    all-entered p r im ps (w .gone) (a .compact .now) G (w .seg) (w .base) (a .drive) m sh (h .0) (h .4) (h .2) (h .3) (a .at .now) (l .at) (l .i) (l .inv .2 im G m sh)
     (omega (arith, n, c .loop-test .left))
 
 pub index-drive-spec : {M : Type 1} → statement M

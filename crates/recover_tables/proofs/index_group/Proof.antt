@@ -4,7 +4,7 @@ use mathlib.Core.List.{List}
 use Prim.Native.Nat.{ℕ, _-_, _≤_, _<_}
 use native.Mathlib.Omega.{arith}
 use lib.ListN.{length}
-use Rattle.spec.specs.Drives.{viewOf, seg}
+use Rattle.spec.specs.Drives.{viewOf}
 use Rattle.spec.specs.Segments.{remaining, recsOn}
 use Rattle.recover_groups.specs.Bases.{group-len-le}
 use Rattle.recover_groups.specs.Chunks.{indexed-of}
@@ -20,8 +20,8 @@ use Rattle.recover_tables.proofs.index_group.Tie as tie
 abbrev Inv-loop : tie.InvT-loop
 Inv-loop p pointers compact w at₀ d₀ at d =
     (d ≤ p .N) × (length at ≡ 2048)
-    × ((im : List ℕ) → Ground p im pointers (w .gone) compact → In (seg (w .seg)) (remaining p (viewOf p im pointers) (w .gone))
-    → SegmentShown p (viewOf p im pointers) (w .gone) (seg (w .seg)) compact
+    × ((im : List ℕ) → Ground p im pointers (w .gone) compact → In (w .seg) (remaining p (viewOf p im pointers) (w .gone))
+    → SegmentShown p (viewOf p im pointers) (w .gone) (w .seg) compact
     → (e : ℕ) → e < d → Row p (w .base) (groupRecs p (w .base) (recsOn (segmentIn p im pointers w) e)) e at)
 
 abbrev μ-loop : tie.MeasureT-loop
@@ -73,8 +73,8 @@ returns c =
     let w = a .w in
     λ im G m sh.
     let v = viewOf p im (a .pointers .now) in
-    indexed-of p v (w .gone) (seg (w .seg)) (w .base) (l .at) (omega (arith, ranged p (q .0) .group-low)) (q .1 .1 .1) (q .1 .1 .2)
-    (seg-clean p v (w .gone) (seg (w .seg)) (G .clean) m)
+    indexed-of p v (w .gone) (w .seg) (w .base) (l .at) (omega (arith, ranged p (q .0) .group-low)) (q .1 .1 .1) (q .1 .1 .2)
+    (seg-clean p v (w .gone) (w .seg) (G .clean) m)
     (λ e he. l .inv .2 im G m sh e (omega (arith, he, c .if1 .left)))
 
 pub index-group-spec : {M : Type 1} → statement M

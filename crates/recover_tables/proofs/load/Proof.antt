@@ -1,4 +1,6 @@
 -- The open segment and the greatest serial are those of the segments that remain; with the tables they make the memory (memory-is).
+use Prim.Native.Nat.{_<_}
+use native.Mathlib.Omega.{arith}
 use borrow.Author.Needs.{needs}
 use Rattle.spec.specs.Drives.{View, viewOf}
 use Rattle.law_basic.specs.Geometry.{ranged}
@@ -54,8 +56,9 @@ returns c =
     let h = t .result in
     let s = q .1 .1 .1 .1 .0 in
     let k = q .1 .1 .1 .1 .1 in
+    let hn : 0 < a .p .N = omega (arith, ranged (a .p) (q .0) .drives-low) in
     λ fl. memory-is (a .p) v (a .gone) (h .stamp .0) (n .result .0) (u .result) (h .next) (c .state-of .result) (t .last .1 .1 .1 .0) (t .last .1 .1 .1 .1 .0) fl (t .ensures .0)
-    (n .ensures v (a .gone) k s) (open-found (a .p) v (a .gone) (u .result) (u .ensures .1 (a .image .now) (q .1 .0 .image-long) k)) (t .ensures .1 .1) (c .state-of .ensures)
+    (n .ensures v (a .gone) k s) hn (open-found (a .p) v (a .gone) (u .result) hn (u .ensures .1 (a .image .now) (q .1 .0 .image-long) k)) (t .ensures .1 .1) (c .state-of .ensures)
 
 pub load-spec : {M : Type 1} → statement M
 load-spec =

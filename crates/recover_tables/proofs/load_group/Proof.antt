@@ -3,23 +3,23 @@ use mathlib.Core.Path.{_≡_, refl, _∙_, subst}
 use Prim.Native.Nat.{ℕ, _-_, _≤_, _<_}
 use native.Mathlib.Omega.{arith}
 use lib.ListN.{length}
-use Rattle.spec.specs.Drives.{View, viewOf, seg}
+use Rattle.spec.specs.Drives.{View, viewOf}
 use Rattle.spec.specs.Lists.{upFrom}
 use Rattle.recover_groups.specs.Groups.{groupLen, segmentIn, GroupReads}
 use Rattle.law_basic.specs.Ranges.{length-upFrom}
-use Rattle.law_basic.specs.Segs.{named-lt}
 use Rattle.law_drives.specs.Segs.{remaining-low}
 use Rattle.recover_tables.specs.Walk.{Walked, walkCands, walked-turn, walked-low, walked-start, tells-known}
 use Rattle.recover_tables.proofs.load_group.Statement.{statement}
 use Rattle.recover_tables.proofs.load_group.Tie as tie
+use Rattle.law_basic.specs.Segs.{named-zones-low}
 
 abbrev Inv-loop : tie.InvT-loop
-Inv-loop p image pointers addresses₀ compact w serials at len next₀ k₀ addresses next k =
+Inv-loop p image pointers addresses₀ compact w serials serial at len next₀ k₀ addresses next k =
     (k ≤ len) × (length addresses ≡ length addresses₀)
-    × Walked p (viewOf p image pointers) (w .gone) compact (seg (w .seg)) (upFrom (w .base) k) addresses₀ addresses (next₀ .stamp .0) (next .stamp .0) (next₀ .counted) (next .counted)
+    × Walked p (viewOf p image pointers) (w .gone) compact (w .seg) (upFrom (w .base) k) addresses₀ addresses (next₀ .stamp .0) (next .stamp .0) (next₀ .counted) (next .counted)
 
 abbrev μ-loop : tie.MeasureT-loop
-μ-loop p image pointers addresses₀ compact w serials at len next₀ k₀ addresses next k = len - k
+μ-loop p image pointers addresses₀ compact w serials serial at len next₀ k₀ addresses next k = len - k
 
 index-group-requires : tie.Need-index-group-requires Inv-loop μ-loop
 index-group-requires c κs =
@@ -27,7 +27,8 @@ index-group-requires c κs =
     let q = c .before .before .before .before .before .before .before .pre in
     let x = q .1 .1 .0 in
     let v : View = viewOf (a .p) (a .image .now) (a .pointers .now) in
-    (q .0 .in-range, ((q .0 .whole .pointers-long, q .0 .compact-long, x .0), (named-lt (a .p) (seg (a .w .seg)) (remaining-low (a .p) v (a .w .gone) (seg (a .w .seg)) (x .4)), x .1, x .2)))
+    let low = named-zones-low (a .p) (a .w .gone) (a .w .seg) (remaining-low (a .p) v (a .w .gone) (a .w .seg) (x .4)) in
+    (q .0 .in-range, ((q .0 .whole .pointers-long, q .0 .compact-long, x .0), (low, x .1, x .2)))
 
 group-len-requires : tie.Need-group-len-requires Inv-loop μ-loop
 group-len-requires c κs =
@@ -38,7 +39,7 @@ loop-holds : tie.Need-loop-holds Inv-loop μ-loop
 loop-holds c =
     let a = c .before .before .before .before .before .before .before .before .before .before .before .args in
     let v : View = viewOf (a .p) (a .image .now) (a .pointers .now) in
-    (omega arith, refl, walked-start (a .p) v (a .w .gone) (a .compact .now) (seg (a .w .seg)) (a .w .base) (a .addresses .now) (a .t .stamp .0) (a .t .counted))
+    (omega arith, refl, walked-start (a .p) v (a .w .gone) (a .compact .now) (a .w .seg) (a .w .base) (a .addresses .now) (a .t .stamp .0) (a .t .counted))
 
 load-if-requires : tie.Need-load-if-requires Inv-loop μ-loop
 load-if-requires c κs =
@@ -69,7 +70,7 @@ load-if-requires c κs =
                 let w = a .w in
                 let t = a .t in
                 let y = l .next in
-                let low = walked-low (a .p) v (w .gone) (a .compact .now) (seg (w .seg)) (upFrom (w .base) (l .k)) (a .addresses .now) (l .addresses)
+                let low = walked-low (a .p) v (w .gone) (a .compact .now) (w .seg) (upFrom (w .base) (l .k)) (a .addresses .now) (l .addresses)
                 (t .stamp .0) (y .stamp .0) (t .counted) (y .counted) (l .inv .2) in
                 omega (arith, low, length-upFrom (w .base) (l .k), x .6)
                 ),
@@ -97,7 +98,7 @@ loop-again c =
     let v : View = viewOf (a .p) (a .image .now) (a .pointers .now) in (
       omega (arith, loop-test .taken),
       f .kept .1 .1 .1 .0 ∙ l .inv .1,
-      walked-turn (a .p) v (w .gone) (a .compact .now) (seg (w .seg)) (w .base) (l .k) (a .addresses .now) (l .addresses) (f .last .1 .1 .1 .0)
+      walked-turn (a .p) v (w .gone) (a .compact .now) (w .seg) (w .base) (l .k) (a .addresses .now) (l .addresses) (f .last .1 .1 .1 .0)
           (a .t .stamp .0) (l .next .stamp .0) (r .stamp .0) (a .t .counted) (l .next .counted) (r .counted) (l .inv .2) (f .ensures),
     )
 
@@ -118,7 +119,7 @@ returns c =
     let w = a .w in
     let t = a .t in
     let y = l .next in
-    subst (λ (x : ℕ). Walked (a .p) v (w .gone) (a .compact .now) (seg (w .seg)) (upFrom (w .base) x) (a .addresses .now) (l .addresses) (t .stamp .0) (y .stamp .0) (t .counted) (y .counted))
+    subst (λ (x : ℕ). Walked (a .p) v (w .gone) (a .compact .now) (w .seg) (upFrom (w .base) x) (a .addresses .now) (l .addresses) (t .stamp .0) (y .stamp .0) (t .counted) (y .counted))
     e (l .inv .2)
 
 pub load-group-spec : {M : Type 1} → statement M

@@ -5,30 +5,30 @@ use Prim.Native.Nat.{ℕ, _+_, _-_, _%_, _≤_}
 use native.Mathlib.Omega.{arith}
 use native.Mathlib.Nat.{zero-mod}
 use lib.ListN.{length}
-use Rattle.spec.specs.Drives.{View, viewOf, seg as segNo}
+use Rattle.spec.specs.Drives.{View, viewOf, seg}
 use Rattle.spec.specs.Lists.{upFrom, below}
 use Rattle.spec.specs.Segments.{segmentOf}
 use Rattle.recover_groups.specs.Bases.{stripes-step, group-len-le}
 use Rattle.recover_groups.specs.Groups.{groupLen}
 use Rattle.law_basic.specs.Geometry.{Ranged, ranged, base-next}
 use Rattle.law_basic.specs.Ranges.{length-upFrom, upFrom-end, below-start}
-use Rattle.law_basic.specs.Segs.{named-lt}
 use Rattle.recover_addresses.specs.Told.{Known}
 use Rattle.law_drives.specs.Segs.{remaining-low}
 use Rattle.recover_tables.specs.Ready.{lastBase}
 use Rattle.recover_tables.specs.Walk.{Walked, walkCands, walked-none, walked-join, walked-low, tells-known}
 use Rattle.recover_tables.proofs.load_groups.Statement.{statement}
 use Rattle.recover_tables.proofs.load_groups.Tie as tie
+use Rattle.law_basic.specs.Segs.{named-zones-low}
 
 abbrev Inv-loop : tie.InvT-loop
-Inv-loop p image pointers addresses₀ compact gone serials seg at₀ full t₀ base₀ addresses at t base =
+Inv-loop p image pointers addresses₀ compact gone serials serial seg at₀ full t₀ base₀ addresses at t base =
     (length addresses ≡ length addresses₀) × (length at ≡ length at₀) × (base % p .G ≡ 0) × (base ≤ lastBase) × (t .counted ≤ base)
     × Known p (viewOf p image pointers) gone compact addresses
-    × ((tb : List ℕ) (m n : ℕ) → Walked p (viewOf p image pointers) gone compact (segNo seg) (upFrom base (p .S - base)) addresses tb (t .stamp .0) m (t .counted) n
-    → Walked p (viewOf p image pointers) gone compact (segNo seg) (below (p .S)) addresses₀ tb (t₀ .stamp .0) m (t₀ .counted) n)
+    × ((tb : List ℕ) (m n : ℕ) → Walked p (viewOf p image pointers) gone compact seg (upFrom base (p .S - base)) addresses tb (t .stamp .0) m (t .counted) n
+    → Walked p (viewOf p image pointers) gone compact seg (below (p .S)) addresses₀ tb (t₀ .stamp .0) m (t₀ .counted) n)
 
 abbrev μ-loop : tie.MeasureT-loop
-μ-loop p image pointers addresses₀ compact gone serials seg at₀ full t₀ base₀ addresses at t base = p .S - base
+μ-loop p image pointers addresses₀ compact gone serials serial seg at₀ full t₀ base₀ addresses at t base = p .S - base
 
 is-sealed-requires : tie.Need-is-sealed-requires Inv-loop μ-loop
 is-sealed-requires c κs =
@@ -37,7 +37,7 @@ is-sealed-requires c κs =
     let a = args in
     let q = pre in
     let v : View = viewOf (a .p) (a .image .now) (a .pointers .now) in
-    (q .0 .in-range, (q .0 .whole .pointers-long, named-lt (a .p) (segNo (a .seg)) (remaining-low (a .p) v (a .gone) (segNo (a .seg)) (q .1 .1 .0 .0))))
+    (q .0 .in-range, (q .0 .whole .pointers-long, named-zones-low (a .p) (a .gone) (a .seg) (remaining-low (a .p) v (a .gone) (a .seg) (q .1 .1 .0 .0))))
 
 loop-holds : tie.Need-loop-holds Inv-loop μ-loop
 loop-holds c =
@@ -52,7 +52,7 @@ loop-holds c =
       omega arith,
       omega arith,
       q .1 .1 .1 .0,
-      λ tb m n w. subst (λ (x : List ℕ). Walked (a .p) v (a .gone) (a .compact .now) (segNo (a .seg)) x (a .addresses .now) tb (a .stamp .0) m 0 n) (sym (below-start (a .p .S))) w,
+      λ tb m n w. subst (λ (x : List ℕ). Walked (a .p) v (a .gone) (a .compact .now) (a .seg) x (a .addresses .now) tb (a .stamp .0) m 0 n) (sym (below-start (a .p .S))) w,
     )
 
 load-group-requires : tie.Need-load-group-requires Inv-loop μ-loop
@@ -117,17 +117,17 @@ loop-again c =
     let gs : List ℕ = upFrom (l .base) (groupLen (a .p) (l .base)) in
     let w = x .ensures in
     let tb = x .last .1 .1 .1 .0 in
-    let n = walked-low (a .p) v (a .gone) (a .compact .now) (segNo (a .seg)) gs (l .addresses) tb (l .t .stamp .0) (x .result .stamp .0) (l .t .counted) (x .result .counted) w in (
+    let n = walked-low (a .p) v (a .gone) (a .compact .now) (a .seg) gs (l .addresses) tb (l .t .stamp .0) (x .result .stamp .0) (l .t .counted) (x .result .counted) w in (
       x .kept .1 .1 .1 .0 ∙ l .inv .0,
-      x .kept .1 .1 .1 .1 .1 .1 .1 .0 ∙ l .inv .1,
+      x .kept .1 .1 .1 .1 .1 .1 .1 .1 .0 ∙ l .inv .1,
       base-next (l .base) (a .p .G) (l .inv .2),
       omega (arith, i, r .stripes-high, r .group-high),
       omega (arith, n, length-upFrom (l .base) (groupLen (a .p) (l .base)), group-len-le (a .p) (l .base), l .inv .4),
-      tells-known (a .p) v (a .gone) (a .compact .now) (l .addresses) tb (walkCands (a .p) (a .gone) (segmentOf (a .p) v (a .gone) (segNo (a .seg))) gs) (w .tells) (l .inv .5),
+      tells-known (a .p) v (a .gone) (a .compact .now) (l .addresses) tb (walkCands (a .p) (a .gone) (segmentOf (a .p) v (a .gone) (a .seg)) gs) (w .tells) (l .inv .5),
       λ tb″ m″ n″ y. l .inv .6 tb″ m″ n″ (subst
-          (λ (z : List ℕ). Walked (a .p) v (a .gone) (a .compact .now) (segNo (a .seg)) z (l .addresses) tb″ (l .t .stamp .0) m″ (l .t .counted) n″)
+          (λ (z : List ℕ). Walked (a .p) v (a .gone) (a .compact .now) (a .seg) z (l .addresses) tb″ (l .t .stamp .0) m″ (l .t .counted) n″)
           (sym (stripes-step (a .p) (l .base) i))
-          (walked-join (a .p) v (a .gone) (a .compact .now) (segNo (a .seg)) gs (upFrom (l .base + a .p .G) (a .p .S - (l .base + a .p .G))) (l .addresses) tb tb″
+          (walked-join (a .p) v (a .gone) (a .compact .now) (a .seg) gs (upFrom (l .base + a .p .G) (a .p .S - (l .base + a .p .G))) (l .addresses) tb tb″
           (l .t .stamp .0) (x .result .stamp .0) m″ (l .t .counted) (x .result .counted) n″ w y)),
     )
 
@@ -150,9 +150,9 @@ returns c =
     let l = loop in
     let v : View = viewOf (a .p) (a .image .now) (a .pointers .now) in
     l .inv .6 (l .addresses) (l .t .stamp .0) (l .t .counted)
-    (subst (λ (y : List ℕ). Walked (a .p) v (a .gone) (a .compact .now) (segNo (a .seg)) y (l .addresses) (l .addresses) (l .t .stamp .0) (l .t .stamp .0) (l .t .counted)
+    (subst (λ (y : List ℕ). Walked (a .p) v (a .gone) (a .compact .now) (a .seg) y (l .addresses) (l .addresses) (l .t .stamp .0) (l .t .stamp .0) (l .t .counted)
     (l .t .counted)) (sym (upFrom-end (l .base) (a .p .S) (omega (arith, if1 .left))))
-    (walked-none (a .p) v (a .gone) (a .compact .now) (segNo (a .seg)) (l .addresses) (l .t .stamp .0) (l .t .counted)))
+    (walked-none (a .p) v (a .gone) (a .compact .now) (a .seg) (l .addresses) (l .t .stamp .0) (l .t .counted)))
 
 pub load-groups-spec : {M : Type 1} → statement M
 load-groups-spec =

@@ -4,7 +4,7 @@ use mathlib.Core.Bool.{true}
 use Prim.Native.Nat.{_+_}
 use native.Mathlib.Omega.{arith}
 use borrow.Author.Tests.{not-true, not-false}
-use Rattle.spec.specs.Drives.{View, viewOf, seg}
+use Rattle.spec.specs.Drives.{View, viewOf}
 use Rattle.spec.specs.Segments.{Segment, counts}
 use Rattle.recover_groups.specs.Groups.{segmentIn}
 use Rattle.law_basic.specs.Geometry.{Ranged, ranged}
@@ -27,7 +27,7 @@ returns c =
     let k = q .1 .1 .0 .0 in
     let v : View = viewOf (a .p) (a .image .now) (a .pointers .now) in
     let g : Segment = segmentIn (a .p) (a .image .now) (a .pointers .now) (a .w) in
-    walked-miss (a .p) v (a .w .gone) (a .compact .now) (seg (a .w .seg)) (a .w .base + a .k) (a .addresses .now) (a .t .stamp .0) (a .t .counted)
+    walked-miss (a .p) v (a .w .gone) (a .compact .now) (a .w .seg) (a .w .base + a .k) (a .addresses .now) (a .t .stamp .0) (a .t .counted)
     (sym (c .before .counts .ensures g (a .w .base) (k .reads .indexed) (k .stripe-in)) ∙ not-true (c .before .counts .result) (c .if1 .taken))
 
 load-stripe-requires : tie.Need-load-stripe-requires
@@ -41,8 +41,8 @@ load-stripe-requires c κs =
     let e : counts (a .p) (a .w .gone) g (a .w .base + a .k) ≡ true = sym (counts′ .ensures g (a .w .base) (k .reads .indexed) (k .stripe-in)) ∙ not-false (counts′ .result) (if1 .left) in
     (q .0, (q .1 .0, (record { index = k; it-counts = e }, q .1 .1 .1)))
 
-add-t17 : tie.Need-add-t17
-add-t17 c =
+add-t18 : tie.Need-add-t18
+add-t18 c =
     let a = c .before .before .before .before .before .before .before .before .before .before .before .before .before .before .args in
     let q = c .before .before .before .before .before .before .before .before .before .before .before .before .before .before .pre in
     let r : Ranged (a .p) = ranged (a .p) (q .0 .in-range) in
@@ -62,7 +62,7 @@ returns-2 c =
     let v : View = viewOf (a .p) (a .image .now) (a .pointers .now) in
     let g : Segment = segmentIn (a .p) (a .image .now) (a .pointers .now) (a .w) in
     let e : counts (a .p) (a .w .gone) g (a .w .base + a .k) ≡ true = sym (counts′ .ensures g (a .w .base) (k .reads .indexed) (k .stripe-in)) ∙ not-false (counts′ .result) (if1 .left) in
-    walked-hit (a .p) v (a .w .gone) (a .compact .now) (seg (a .w .seg)) (a .w .base + a .k) (a .addresses .now) (load-stripe .last .1 .1 .1 .0) (a .t .stamp .0)
+    walked-hit (a .p) v (a .w .gone) (a .compact .now) (a .w .seg) (a .w .base + a .k) (a .addresses .now) (load-stripe .last .1 .1 .1 .0) (a .t .stamp .0)
     (load-stripe .result .0) (a .t .counted) e (load-stripe .ensures .0) (load-stripe .ensures .1)
 
 pub load-if-spec : {M : Type 1} → statement M
@@ -72,6 +72,6 @@ load-if-spec =
     counts-requires
     returns
     load-stripe-requires
-    add-t17
+    add-t18
     same-length
     returns-2)

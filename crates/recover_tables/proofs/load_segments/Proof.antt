@@ -4,7 +4,7 @@ use mathlib.Core.Bool.{Bool, true, false}
 use Prim.Native.Nat.{ℕ, _-_, _≤_, _<_}
 use native.Mathlib.Omega.{arith}
 use lib.ListN.{length, getD}
-use Rattle.spec.specs.Drives.{View, viewOf, seg}
+use Rattle.spec.specs.Drives.{View, viewOf, across}
 use Rattle.spec.specs.Segments.{segmentOf, counted}
 use Rattle.law_basic.specs.Geometry.{ranged}
 use Rattle.law_drives.specs.Rebuilding.{counted-low}
@@ -18,7 +18,7 @@ abbrev Inv-loop : tie.InvT-loop
 Inv-loop p image pointers addresses₀ compact₀ gone serials kept opened at₀ h₀ g₀ addresses compact at h g =
     (g ≤ p .Z) × (length addresses ≡ length addresses₀) × (length compact ≡ length compact₀) × (length at ≡ length at₀)
     × Toured p (viewOf p image pointers) gone g compact addresses (h .stamp .0) × (h .next ≤ p .S)
-    × (opened < g → remains p (viewOf p image pointers) gone (seg opened) ≡ true → h .next ≡ length (counted p gone (segmentOf p (viewOf p image pointers) gone (seg opened))))
+    × (opened < g → remains p (viewOf p image pointers) gone (across p opened) ≡ true → h .next ≡ length (counted p gone (segmentOf p (viewOf p image pointers) gone (across p opened))))
 
 abbrev μ-loop : tie.MeasureT-loop
 μ-loop p image pointers addresses₀ compact₀ gone serials kept opened at₀ h₀ g₀ addresses compact at h g = p .Z - g
@@ -59,7 +59,7 @@ load-segment-requires c κs =
     let i = if1 .taken in
     let v : View = viewOf (a .p) (a .image .now) (a .pointers .now) in (
       record { in-range = q .0 .in-range; whole = q .0 .whole; clean = q .0 .clean; compact-long = l .inv .2 ∙ q .0 .compact-long },
-      (q .1 .0, ((i, kept-is (a .p) v (a .gone) (seg (l .g)) (getD (a .kept .now) (l .g) false) (q .1 .1 .0 .1 (l .g) i)), (l .inv .4, l .inv .3 ∙ q .1 .1 .1 .1))),
+      (q .1 .0, ((i, kept-is (a .p) v (a .gone) (across (a .p) (l .g)) (getD (a .kept .now) (l .g) false) (q .1 .1 .0 .1 (l .g) i)), (l .inv .4, l .inv .3 ∙ q .1 .1 .1 .1))),
     )
 
 add-g : tie.Need-add-g Inv-loop μ-loop
@@ -83,8 +83,8 @@ loop-again c =
     let i = if1 .taken in
     let v : View = viewOf (a .p) (a .image .now) (a .pointers .now) in
     let b : Bool = getD (a .kept .now) (l .g) false in
-    let eb : b ≡ remains (a .p) v (a .gone) (seg (l .g)) = kept-is (a .p) v (a .gone) (seg (l .g)) b (q .1 .1 .0 .1 (l .g) i) in
-    let f : ℕ → ℕ = λ n. length (counted (a .p) (a .gone) (segmentOf (a .p) v (a .gone) (seg n))) in
+    let eb : b ≡ remains (a .p) v (a .gone) (across (a .p) (l .g)) = kept-is (a .p) v (a .gone) (across (a .p) (l .g)) b (q .1 .1 .0 .1 (l .g) i) in
+    let f : ℕ → ℕ = λ n. length (counted (a .p) (a .gone) (segmentOf (a .p) v (a .gone) (across (a .p) n))) in
     let r = x .result in
     let e = x .ensures in (
       omega (arith, i),
@@ -92,8 +92,8 @@ loop-again c =
       x .kept .1 .1 .1 .1 .0 ∙ l .inv .2,
       x .kept .1 .1 .1 .1 .1 .1 .1 .1 .1 .1 .0 ∙ l .inv .3,
       e .0,
-      next-turn (a .p .S) (a .opened) (l .g) (f (l .g)) (l .h .next) (r .next) b (e .1) (l .inv .5) (counted-low (a .p) (a .gone) (segmentOf (a .p) v (a .gone) (seg (l .g)))),
-      λ u y. next-now (a .opened) (l .g) (l .h .next) (r .next) f b (e .1) (λ z. l .inv .6 z y) (λ z. eb ∙ ap (λ (n : ℕ). remains (a .p) v (a .gone) (seg n)) z ∙ y) u,
+      next-turn (a .p .S) (a .opened) (l .g) (f (l .g)) (l .h .next) (r .next) b (e .1) (l .inv .5) (counted-low (a .p) (a .gone) (segmentOf (a .p) v (a .gone) (across (a .p) (l .g)))),
+      λ u y. next-now (a .opened) (l .g) (l .h .next) (r .next) f b (e .1) (λ z. l .inv .6 z y) (λ z. eb ∙ ap (λ (n : ℕ). remains (a .p) v (a .gone) (across (a .p) n)) z ∙ y) u,
     )
 
 same-length : tie.Need-same-length Inv-loop μ-loop
