@@ -14,7 +14,7 @@ CFLAGS ?= -O2 -g
 STRICT = -std=c99 -Wall -Wextra -Wpedantic -Werror -Iinclude
 SANE = -fsanitize=address,undefined -fno-sanitize-recover=all
 
-HELPER = array run words files
+HELPER = array gather run words files
 PROGRAM = main filing soak check
 HOST_HEADERS = $(wildcard host/*.h) include/sorgizhed.h include/sorgizhed_host.h
 ARCHIVES = $(OUT)/libsorgizhed_host.a $(OUT)/libsorgizhed.a

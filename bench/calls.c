@@ -7,14 +7,15 @@
 /* decodes a state and encodes it again (crates/bench_leaves) */
 void leaf_state(uint8_t *to, size_t to_length, const uint8_t *from, size_t from_length, size_t k, uint32_t v);
 
-static const size_t small[6] = {3, 64, 4, 4, 2, 8};
+static const size_t small[6] = {3, 128, 4, 4, 2, 8};
 static sorgizhed_box box;
 static uint8_t data[8 * 4096];
 static uint8_t other[SORGIZHED_STATE_LENGTH];
 
 static void lend(const size_t v[6]) {
-    free(box.image), free(box.pointers), free(box.addresses), free(box.compact), free(box.inflight), free(box.state);
+    free(box.offline), free(box.image), free(box.pointers), free(box.addresses), free(box.compact), free(box.inflight), free(box.state);
     box.n = v[0], box.b = v[1], box.z = v[2], box.s = v[3], box.g = v[4], box.l = v[5];
+    box.offline = room(box.offline_length = sorgizhed_offline_length(SORGIZHED_PARAMETERS(&box)));
     box.image = room(box.image_length = sorgizhed_image_length(SORGIZHED_PARAMETERS(&box)));
     box.pointers = room(box.pointers_length = sorgizhed_pointers_length(SORGIZHED_PARAMETERS(&box)));
     box.addresses = room(box.addresses_length = sorgizhed_addresses_length(SORGIZHED_PARAMETERS(&box)));
@@ -203,7 +204,7 @@ static void restarts(const char *name, const size_t v[6]) {
         plain = least(plain, now() - t);
     }
     snprintf(text, sizeof text, "%s: restart, %zu blocks", name, blocks);
-    line(text, ours, plain, is_small() ? 0 : box.b == 64 ? 0.8 : 0.7);
+    line(text, ours, plain, is_small() ? 0 : box.b == 128 ? 0.8 : 0.7);
     printf("  %-44s %12.1f ns a block\n", "", ours / (double)blocks);
 }
 
@@ -230,10 +231,10 @@ static void reclaims(const char *name, const size_t v[6]) {
     line(text, ours, plain, 0);
 }
 
-/* what must not grow with Z, S or L */
+/* what must not grow with S or L */
 static void growth(void) {
-    static const size_t shapes[4][6] = {{4, 64, 4, 4, 2, 12}, {4, 64, 8, 320, 16, 4800}, {4, 64, 16, 1600, 16, 62400}, {4, 64, 64, 4096, 16, 749568}};
-    printf("\nwhat does not grow with Z, S or L (N = 4, B = 64)\n");
+    static const size_t shapes[4][6] = {{4, 128, 4, 4, 2, 12}, {4, 128, 8, 320, 16, 4800}, {4, 128, 16, 1600, 16, 62400}, {4, 128, 64, 4096, 16, 749568}};
+    printf("\nwhat does not grow with S or L (N = 4, B = 128; the first segment)\n");
     for (size_t i = 0; i < 4; i++) {
         double write = 1e18, land = 1e18, read = 1e18;
         lend(shapes[i]);
@@ -286,18 +287,79 @@ static void segment_times(const size_t v[6], size_t used, double *write, double 
 
 /* a box in use against a small one: the opening of the segment is in the write's time */
 static void in_use(void) {
-    static const size_t few[6] = {4, 64, 4, 256, 16, 768}, many[6] = {4, 64, 1024, 256, 16, 784128};
+    static const size_t few[6] = {4, 128, 4, 256, 16, 768}, many[6] = {4, 128, 1024, 256, 16, 784128};
     double w0, l0, w1, l1;
     segment_times(few, 0, &w0, &l0);
     segment_times(many, 1020, &w1, &l1);
-    printf("\na box in use (N = 4, B = 64, S = 256; all zones but four are taken)\n");
+    printf("\na box in use (N = 4, B = 128, S = 256; all zones but four are taken)\n");
     printf("  Z = 4, empty    write %6.0f ns   landing %6.0f ns\n", w0, l0);
     printf("  Z = 1,024       write %6.0f ns   landing %6.0f ns   write %.2f times as long%s\n", w1, l1, w1 / w0, w1 <= 1.3 * w0 ? "  (target met)" : "  (ABOVE THE TARGET, 1.3)");
     fflush(stdout);
 }
 
+/* nanoseconds a call of some: all but the last zones are sealed, and what is called looks at places all over the box */
+static double each_read(size_t count, uint64_t kind) {
+    double t = now();
+    for (size_t i = 0; i < count; i++) must("read", sorgizhed_read(SORGIZHED_LENT(&box), random_below(box.l)), kind);
+    return (now() - t) / (double)count;
+}
+
+/* the stripes of a segment in which nothing is sealed: writes, landings that complete no stripe, and those that do; the opening write and the last stripe are left out */
+static void open_segment(const uint64_t *a, double *write, double *land, double *last) {
+    for (size_t s = 0; s + 1 < box.s; s++) {
+        double t = now();
+        for (size_t k = 0; k + 1 < box.n; k++) must("write", sorgizhed_write(SORGIZHED_LENT(&box), a[(s * (box.n - 1) + k) % box.l], data, box.b, SORGIZHED_NO_LIMIT), SORGIZHED_SENT);
+        if (s > 0) *write = least(*write, (now() - t) / (double)(box.n - 1));
+        t = now();
+        for (size_t d = 0; d + 1 < box.n; d++) must("land", sorgizhed_land(SORGIZHED_LENT(&box), d, s, SORGIZHED_NO_LIMIT), SORGIZHED_LANDED);
+        *land = least(*land, (now() - t) / (double)(box.n - 1));
+        t = now();
+        must("land", sorgizhed_land(SORGIZHED_LENT(&box), box.n - 1, s, SORGIZHED_NO_LIMIT), SORGIZHED_LANDED);
+        *last = least(*last, now() - t);
+    }
+}
+
+/* the cost of the calls against Z: a box with all zones but four taken; in the second row of each Z a quarter of the zones more are dead, others on each drive */
+static void zones(void) {
+    static const size_t counts[5] = {4, 16, 64, 256, 1024};
+    printf("\nagainst Z (N = 4, B = 128, S = 8; all good zones but four are taken; ns)\n");
+    printf("  %6s %6s %10s %10s %10s %10s %10s %12s %12s\n", "Z", "dead", "write", "landing", "completes", "read", "lost read", "reclaim", "restart");
+    for (size_t i = 0; i < 5; i++)
+        for (int dead = 0; dead < 2; dead++) {
+            size_t good = counts[i], more = dead ? good / 4 : 0, v[6] = {4, 128, good + more, 8, 8, (good > 4 ? good - 4 : 1) * 24};
+            double write = 1e18, land = 1e18, last = 1e18, read = 1e18, lost = 1e18, reclaim = 1e18, begin = 1e18;
+            if (good + more > 1024) continue;
+            lend(v);
+            for (size_t d = 0; d < box.n; d++)
+                for (size_t k = 0; k < more; k++) box.offline[d * box.z + (5 * k + d) % box.z] = 1;
+            uint64_t *a = some_addresses();
+            for (int turn = 0; turn < 5; turn++) {
+                empty();
+                stripes((good - 4) * box.s, a);
+                open_segment(a, &write, &land, &last);
+                if (good > 4) read = least(read, each_read(2000, SORGIZHED_PART));
+                double t = now();
+                restart(SORGIZHED_NO_DRIVE);
+                begin = least(begin, now() - t);
+                if (good > 4) {
+                    t = now();
+                    sorgizhed_reclaim(SORGIZHED_LENT(&box), 0);
+                    reclaim = least(reclaim, now() - t);
+                }
+                restart(1);
+                t = now();
+                size_t n = 0;
+                for (size_t k = 0; k < 400; k++) n += sorgizhed_read(SORGIZHED_LENT(&box), random_below(box.l)).kind == SORGIZHED_LOST;
+                if (n > 0) lost = least(lost, (now() - t) / 400);
+            }
+            free(a);
+            printf("  %6zu %6zu %10.0f %10.0f %10.0f %10.0f %10.0f %12.0f %12.0f\n", box.z, more, write, land, last, good > 4 ? read : 0, lost < 1e18 ? lost : 0, good > 4 ? reclaim : 0, begin);
+            fflush(stdout);
+        }
+}
+
 static void calls(void) {
-    static const size_t large[6] = {4, 4096, 16, 256, 16, 9984}, many[3][6] = {{4, 64, 8, 320, 16, 4800}, {4, 64, 16, 1600, 16, 62400}, {4, 64, 64, 4096, 16, 749568}};
+    static const size_t large[6] = {4, 4096, 16, 256, 16, 9984}, many[3][6] = {{4, 128, 8, 320, 16, 4800}, {4, 128, 16, 1600, 16, 62400}, {4, 128, 64, 4096, 16, 749568}};
     printf("  %-44s %15s %15s   %s\n", "", "ours", "plain C", "C / ours");
     writes("N 4, B 4096", large);
     writes("small box", small);
@@ -307,12 +369,13 @@ static void calls(void) {
     rebuilds("small box", small);
     restarts("N 4, B 4096", large);
     restarts("small box", small);
-    for (int i = 0; i < 3; i++) restarts("N 4, B 64", many[i]);
+    for (int i = 0; i < 3; i++) restarts("N 4, B 128", many[i]);
     reclaims("N 4, B 4096", large);
     reclaims("small box", small);
-    reclaims("N 4, B 64", many[2]);
+    reclaims("N 4, B 128", many[2]);
     growth();
     in_use();
+    zones();
     lend(small);
 }
 
@@ -322,7 +385,8 @@ int main(int argc, char **argv) {
         if (strcmp(argv[i], "--large") == 0) large = 1;
         else if (strcmp(argv[i], "--reclaim") == 0) all = 0;
         else if (strcmp(argv[i], "--sizes") == 0) return sizes(), 0;
-        else return fprintf(stderr, "bench/calls [--reclaim] [--large] | --sizes\n"), 2;
+        else if (strcmp(argv[i], "--zones") == 0) return zones(), 0;
+        else return fprintf(stderr, "bench/calls [--reclaim] [--large] | --sizes | --zones\n"), 2;
     }
     for (size_t i = 0; i < sizeof data; i++) data[i] = (uint8_t)random_below(256);
     if (all) calls();

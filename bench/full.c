@@ -19,6 +19,7 @@ void give_back(void *p, size_t n) { munmap(p, n); }
 
 void full_lend(sorgizhed_box *x, const size_t v[6]) {
     x->n = v[0], x->b = v[1], x->z = v[2], x->s = v[3], x->g = v[4], x->l = v[5];
+    x->offline = vast(x->offline_length = sorgizhed_offline_length(SORGIZHED_PARAMETERS(x)));
     x->image = vast(x->image_length = sorgizhed_image_length(SORGIZHED_PARAMETERS(x)));
     /* little of it is touched: no large pages */
     madvise(x->image, x->image_length, MADV_NOHUGEPAGE);
@@ -30,7 +31,7 @@ void full_lend(sorgizhed_box *x, const size_t v[6]) {
 }
 
 void full_free(sorgizhed_box *x) {
-    munmap(x->image, x->image_length), munmap(x->pointers, x->pointers_length), munmap(x->addresses, x->addresses_length);
+    munmap(x->offline, x->offline_length), munmap(x->image, x->image_length), munmap(x->pointers, x->pointers_length), munmap(x->addresses, x->addresses_length);
     munmap(x->compact, x->compact_length), munmap(x->inflight, x->inflight_length), munmap(x->state, x->state_length);
     *x = (sorgizhed_box){0};
 }
@@ -55,10 +56,12 @@ static uint8_t *unit(const sorgizhed_box *x, size_t drive, size_t zone, size_t b
 }
 
 static void header(sorgizhed_box *x, size_t drive, size_t zone) {
-    static const size_t widths[11] = {2, 1, 1, 1, 2, 2, 4, 4, 8, 8, 8};
-    uint64_t values[11] = {41, 1, x->n, drive, x->b, x->g, x->s, zone, x->l, zone + 1, 0};
+    static const size_t widths[7] = {2, 1, 1, 1, 2, 2, 4};
+    const uint64_t values[7] = {37 + 4 * x->n, 2, x->n, drive, x->b, x->g, x->s};
     uint8_t *p = unit(x, drive, zone, 0);
-    for (size_t i = 0; i < 11; p += widths[i], i++) put(p, values[i], widths[i]);
+    for (size_t i = 0; i < 7; p += widths[i], i++) put(p, values[i], widths[i]);
+    for (size_t d = 0; d < x->n; d++, p += 4) put(p, zone, 4);
+    put(p, x->l, 8), put(p + 8, zone + 1, 8), put(p + 16, 0, 8);
 }
 
 static void record(sorgizhed_box *x, size_t drive, size_t zone, size_t stripe, uint64_t address, uint64_t stamp) {

@@ -123,10 +123,10 @@ static void under_a_millisecond(const char *name, double ours) {
 
 /* the largest box with one segment open: reclaim refuses, a closing is made and an empty write closes or does nothing, and none looks at the table */
 static void nothing_sealed(void) {
-    static const size_t largest[6] = {8, 64, 1024, 65535, 256, 468378645};
-    static const uint8_t block[64];
+    static const size_t largest[6] = {8, 128, 1024, 65535, 256, 468378645};
+    static const uint8_t block[128];
     double refused = 1e18, closed = 1e18, ended = 1e18, nothing = 1e18;
-    size_t small[6] = {8, 64, 4, 4, 2, 28};
+    size_t small[6] = {8, 128, 4, 4, 2, 28};
     /* the state of a small box with a block sent: the numbers mean the same on a large one */
     full_lend(&box, small);
     restart();
@@ -219,7 +219,7 @@ static void size_row(const size_t v[6], size_t sealed, size_t turns) {
 
 void sizes(void) {
     static const size_t boxes[8][6] = {
-        {3, 64, 4, 4, 2, 8}, {4, 4096, 16, 64, 16, 2496}, {4, 4096, 64, 1024, 16, 187392}, {4, 4096, 64, 4096, 16, 749568}, {4, 4096, 256, 4096, 16, 3108864},
+        {3, 128, 4, 4, 2, 8}, {4, 4096, 16, 64, 16, 2496}, {4, 4096, 64, 1024, 16, 187392}, {4, 4096, 64, 4096, 16, 749568}, {4, 4096, 256, 4096, 16, 3108864},
         {4, 4096, 256, 16384, 16, 12435456}, {8, 4096, 256, 65535, 256, 116062485}, {8, 4096, 1024, 65535, 256, 468378645},
     };
     printf("| N | Z | S | addresses | their blocks | memory lent | restart | reclaim: none left | at most 1,000 left | four of five live |\n|---|---|---|---|---|---|---|---|---|---|\n");

@@ -5,6 +5,7 @@
 #include <string.h>
 
 #include "bytes.h"
+#include "gather.h"
 #include "layout.h"
 
 /* Which stores a flush goes before; a test takes them out one by one. */
@@ -19,11 +20,6 @@ static const size_t NEVER_LATE = SIZE_MAX, MANY = SIZE_MAX;
 
 size_t sorgizhed_array_capacity(const sorgizhed_array *a) { return a->box.image_length / (a->box.n * a->box.z * (a->box.b + SPARE)); }
 
-/* a block with its spare, in the image in memory */
-static uint8_t *unit_at(const sorgizhed_array *a, size_t drive, size_t zone, size_t block) {
-    return a->box.image + ((drive * a->box.z + zone) * sorgizhed_array_capacity(a) + block) * (a->box.b + SPARE);
-}
-
 static size_t pointer_at(const sorgizhed_array *a, size_t drive, size_t zone) { return 4 * (drive * a->box.z + zone); }
 
 uint32_t sorgizhed_array_pointer(const sorgizhed_array *a, size_t drive, size_t zone) {
@@ -34,13 +30,13 @@ uint32_t sorgizhed_array_pointer(const sorgizhed_array *a, size_t drive, size_t 
 static uint32_t on_drive(const sorgizhed_array *a, size_t drive, size_t zone) { return (uint32_t)number_at(a->on_drives + pointer_at(a, drive, zone), 4); }
 
 size_t sorgizhed_array_empty_zones(const sorgizhed_array *a) {
-    size_t n = 0;
-    for (size_t z = 0; z < a->box.z; z++) {
-        size_t d = 0;
-        while (d < a->box.n && sorgizhed_array_pointer(a, d, z) == 0) d++;
-        n += d == a->box.n;
+    size_t fewest = a->box.z;
+    for (size_t d = 0; d < a->box.n; d++) {
+        size_t n = 0;
+        for (size_t z = 0; z < a->box.z; z++) n += sorgizhed_is_good(a, d, z) && sorgizhed_array_pointer(a, d, z) == 0;
+        if (n < fewest) fewest = n;
     }
-    return n;
+    return fewest;
 }
 
 /* ---- flushes, and what may be told behind them */
@@ -109,7 +105,7 @@ static void stored(sorgizhed_array *a, size_t drive, size_t zone, uint32_t point
 
 static int put(sorgizhed_array *a, size_t drive, size_t zone) {
     uint32_t block = on_drive(a, drive, zone);
-    if (a->drives.put(a->drives.who, drive, zone, block, unit_at(a, drive, zone, block)) != 0) return fails(a, drive);
+    if (a->drives.put(a->drives.who, drive, zone, block, sorgizhed_unit_at(a, drive, zone, block)) != 0) return fails(a, drive);
     stored(a, drive, zone, block + 1);
     return 1;
 }
@@ -139,8 +135,8 @@ static int reset_in_turn(sorgizhed_array *a, size_t drive, size_t zone) {
 /* a write, a landing behind its chunk, a reclaim: headers, footers or resets, by drive */
 static int carry(sorgizhed_array *a) {
     if (memcmp(a->on_drives, a->box.pointers, a->box.pointers_length) == 0) return 1;
-    for (size_t z = 0; z < a->box.z; z++)
-        for (size_t d = 0; d < a->box.n; d++) {
+    for (size_t d = 0; d < a->box.n; d++)
+        for (size_t z = 0; z < a->box.z; z++) {
             if (sorgizhed_array_pointer(a, d, z) == 0 && !reset_in_turn(a, d, z)) return 0;
             if (!put_in_turn(a, d, z)) return 0;
         }
@@ -156,70 +152,60 @@ static int carry_landing(sorgizhed_array *a, size_t drive, size_t stripe) {
     return put(a, drive, zone);
 }
 
-/* 01, Restart, 1 and 2, on the drives that are present: a zone that is empty on one of them, or a copy of a segment that is still there */
-static void find_dropped(sorgizhed_array *a, size_t missing) {
-    size_t zones = a->box.z, lowest = missing == 0;
-    for (size_t z = 0; z < zones; z++) {
-        size_t d = 0;
-        while (d < a->box.n && (d == missing || sorgizhed_array_pointer(a, d, z) != 0)) d++;
-        a->dropped[z] = d < a->box.n;
-        a->serials[z] = a->dropped[z] ? 0 : number_at(unit_at(a, lowest, z, 0) + SERIAL_AT, 8);
-    }
-    for (size_t z = 0; z < zones; z++) {
-        uint64_t copied = a->dropped[z] ? 0 : number_at(unit_at(a, lowest, z, 0) + COPIED_AT, 8);
-        for (size_t k = 0; k < zones && copied != 0; k++)
-            if (k != z && a->serials[k] == copied) a->dropped[z] = 1;
-    }
-}
-
 /* how many stores take a zone from one pointer to the other, where it is written anew or not */
 static uint64_t stores_due(const sorgizhed_array *a, size_t drive, size_t zone, int anew) {
     uint64_t had = on_drive(a, drive, zone), has = sorgizhed_array_pointer(a, drive, zone);
     return anew || has < had ? (had > 0) + has : has - had;
 }
 
+/* the zone of a drive that is empty there and is to be filled; z where there is none */
+static size_t fresh_zone(const sorgizhed_array *a, size_t drive) {
+    size_t z = 0;
+    while (z < a->box.z && !(on_drive(a, drive, z) == 0 && due(a, drive, z))) z++;
+    return z;
+}
+
 /* A segment written anew: headers in turn; the chunks, stripe by stripe over the drives, in any order: until the old zones are reset, every restart drops
  * this segment, whatever it holds. */
-static int carry_rewrite(sorgizhed_array *a, size_t zone) {
+static int carry_rewrite(sorgizhed_array *a) {
+    size_t zone[8] = {0};
+    for (size_t d = 0; d < a->box.n; d++) zone[d] = fresh_zone(a, d);
+    if (zone[0] == a->box.z) return 1; /* none is */
     for (size_t d = 0; d < a->box.n; d++)
-        if (due(a, d, zone) && (!in_turn(a, HEADERS, d, zone) || !put(a, d, zone))) return 0;
+        if (!in_turn(a, HEADERS, d, zone[d]) || !put(a, d, zone[d])) return 0;
     if (BARRIER(CHUNKS) && !flush_all(a)) return 0;
     for (int more = 1; more;) {
         more = 0;
         for (size_t d = 0; d < a->box.n; d++)
-            if (due(a, d, zone)) { if (!put(a, d, zone)) return 0; more = 1; }
+            if (due(a, d, zone[d])) { if (!put(a, d, zone[d])) return 0; more = 1; }
     }
     return 1;
 }
 
-/* A restart: resets of dropped segments; footers, or a rewrite and then the resets of the old zones. */
+/* A restart: resets of dropped segments, by serial; footers, or a rewrite and then the resets of the old zones. */
 static int carry_restart(sorgizhed_array *a) {
-    size_t n = a->box.n, zones = a->box.z;
-    for (size_t z = 0; z < zones; z++)
-        for (size_t d = 0; d < n; d++) a->all += stores_due(a, d, z, a->dropped[z]);
-    for (size_t z = 0; z < zones; z++)
-        for (size_t d = 0; d < n; d++)
-            if (a->dropped[z] && !reset_in_turn(a, d, z)) return 0;
-    for (size_t z = 0; z < zones; z++) {
-        if (a->dropped[z] && !carry_rewrite(a, z)) return 0;
-        for (size_t d = 0; d < n; d++)
-            if (!put_in_turn(a, d, z)) return 0;
+    for (size_t d = 0; d < a->box.n; d++)
+        for (size_t z = 0; z < a->box.z; z++) a->all += stores_due(a, d, z, 0);
+    for (size_t i = 0; i < a->used; i++) {
+        const used_zone *u = &a->zones[i];
+        if (u->dropped) a->all += stores_due(a, u->drive, u->zone, 1) - stores_due(a, u->drive, u->zone, 0);
     }
-    for (size_t z = 0; z < zones; z++)
-        for (size_t d = 0; d < n; d++)
-            if (sorgizhed_array_pointer(a, d, z) == 0 && !reset_in_turn(a, d, z)) return 0;
-    memset(a->dropped, 0, zones);
-    return 1;
+    for (size_t i = 0; i < a->used; i++) {
+        const used_zone *u = &a->zones[i];
+        if (u->dropped && !reset_in_turn(a, u->drive, u->zone)) return 0;
+    }
+    return carry_rewrite(a) && carry(a);
 }
 
-/* A rebuild: nobody looks at the drive before it is finished, so it needs no turns. */
+/* A rebuild, by rising serial: nobody looks at the drive before it is finished, so it needs no turns. */
 static int carry_rebuild(sorgizhed_array *a, size_t drive) {
-    for (size_t z = 0; z < a->box.z; z++) a->all += stores_due(a, drive, z, 1);
+    for (size_t z = 0; z < a->box.z; z++) a->all += sorgizhed_is_good(a, drive, z) ? stores_due(a, drive, z, 1) : 0;
     for (size_t z = 0; z < a->box.z; z++)
-        if (!reset(a, drive, z)) return 0;
-    for (size_t z = 0; z < a->box.z; z++)
-        while (due(a, drive, z))
-            if (!put(a, drive, z)) return 0;
+        if (sorgizhed_is_good(a, drive, z) && !reset(a, drive, z)) return 0;
+    a->used = sorgizhed_gather(a, SORGIZHED_NO_DRIVE, a->zones);
+    for (size_t i = 0; i < a->used; i++)
+        while (a->zones[i].drive == drive && due(a, drive, a->zones[i].zone))
+            if (!put(a, drive, a->zones[i].zone)) return 0;
     return 1;
 }
 
@@ -231,6 +217,20 @@ static sorgizhed_answer plain(uint64_t kind, uint64_t first) {
 }
 
 static sorgizhed_answer failed(const sorgizhed_array *a) { return plain(SORGIZHED_DRIVE_FAILED, a->failed); }
+
+/* Whether a drive, where it says anything of its zones, has all that the list calls good; else answer tells of the first that it lacks. Good ones more stay unused. */
+static int has_zones(sorgizhed_array *a, size_t drive, sorgizhed_answer *answer) {
+    uint8_t told[1024] = {0};
+    if (a->drives.offline == NULL) return 1;
+    if (a->drives.offline(a->drives.who, drive, told) != 0) { fails(a, drive); *answer = failed(a); return 0; }
+    for (size_t z = 0; z < a->box.z; z++)
+        if (told[z] != 0 && sorgizhed_is_good(a, drive, z)) {
+            sorgizhed_answer other = {SORGIZHED_OTHER_LIST, drive, z, 0};
+            *answer = other;
+            return 0;
+        }
+    return 1;
+}
 
 static size_t ones(unsigned mask) {
     size_t n = 0;
@@ -278,7 +278,9 @@ static uint8_t *kept_block(const sorgizhed_array *a, const sorgizhed_flight *f, 
 
 /* ---- the calls */
 
-int sorgizhed_is_result(sorgizhed_answer r) { return r.kind > SORGIZHED_CUT && r.kind != SORGIZHED_DRIVE_FAILED && r.kind != SORGIZHED_NO_MEMORY; }
+int sorgizhed_is_result(sorgizhed_answer r) {
+    return r.kind > SORGIZHED_CUT && r.kind != SORGIZHED_DRIVE_FAILED && r.kind != SORGIZHED_NO_MEMORY && r.kind != SORGIZHED_OTHER_LIST;
+}
 
 sorgizhed_answer sorgizhed_array_write(sorgizhed_array *a, uint64_t address, const uint8_t *block, uint64_t tag) {
     if (a->over) return failed(a);
@@ -362,7 +364,7 @@ static sorgizhed_answer finished(sorgizhed_array *a, sorgizhed_answer r, int car
 
 sorgizhed_answer sorgizhed_array_restart(sorgizhed_array *a, size_t missing) {
     if (a->over || !before_words(a)) return failed(a);
-    find_dropped(a, missing);
+    a->used = sorgizhed_gather(a, missing, a->zones);
     sorgizhed_answer r = sorgizhed_restart(SORGIZHED_LENT(&a->box), missing, SORGIZHED_NO_LIMIT);
     if (!sorgizhed_is_result(r)) return r;
     memset(a->flights, 0, sizeof a->flights);
@@ -370,9 +372,19 @@ sorgizhed_answer sorgizhed_array_restart(sorgizhed_array *a, size_t missing) {
     return finished(a, r, missing != SORGIZHED_NO_DRIVE || carry_restart(a));
 }
 
+/* the write pointers of the drive that is to be written anew; nobody looks at those of offline zones, so they count as they are in memory */
+static int report_new(sorgizhed_array *a, size_t drive) {
+    if (a->drives.report(a->drives.who, drive, a->on_drives + pointer_at(a, drive, 0)) != 0) return fails(a, drive);
+    for (size_t z = 0; z < a->box.z; z++)
+        if (!sorgizhed_is_good(a, drive, z)) memcpy(a->on_drives + pointer_at(a, drive, z), a->box.pointers + pointer_at(a, drive, z), 4);
+    return 1;
+}
+
 sorgizhed_answer sorgizhed_array_rebuild(sorgizhed_array *a, size_t drive) {
+    sorgizhed_answer other;
     if (a->over) return failed(a);
-    if (drive < a->box.n && a->drives.report(a->drives.who, drive, a->on_drives + pointer_at(a, drive, 0)) != 0) { fails(a, drive); return failed(a); }
+    if (drive < a->box.n && !has_zones(a, drive, &other)) return other;
+    if (drive < a->box.n && !report_new(a, drive)) return failed(a);
     sorgizhed_answer r = sorgizhed_rebuild(SORGIZHED_LENT(&a->box), drive, SORGIZHED_NO_LIMIT);
     if (!sorgizhed_is_result(r)) return r;
     a->work = "rebuild";
@@ -383,6 +395,7 @@ sorgizhed_answer sorgizhed_array_rebuild(sorgizhed_array *a, size_t drive) {
 
 /* every length of the box, from its parameters; 0 where one is outside its range */
 static int set_lengths(sorgizhed_box *x) {
+    x->offline_length = sorgizhed_offline_length(SORGIZHED_PARAMETERS(x));
     x->image_length = sorgizhed_image_length(SORGIZHED_PARAMETERS(x));
     x->pointers_length = sorgizhed_pointers_length(SORGIZHED_PARAMETERS(x));
     x->addresses_length = sorgizhed_addresses_length(SORGIZHED_PARAMETERS(x));
@@ -395,12 +408,11 @@ static int set_lengths(sorgizhed_box *x) {
 static int get_memory(sorgizhed_array *a) {
     sorgizhed_box *x = &a->box;
     a->owned = a->drives.image == NULL;
-    x->image = a->owned ? calloc(x->image_length, 1) : a->drives.image;
+    x->image = a->owned ? calloc(x->image_length, 1) : a->drives.image, x->offline = calloc(x->offline_length, 1);
     x->pointers = calloc(x->pointers_length, 1), x->addresses = calloc(x->addresses_length, 1), x->compact = calloc(x->compact_length, 1);
     x->inflight = calloc(x->inflight_length, 1), x->state = calloc(x->state_length, 1);
-    a->on_drives = calloc(x->pointers_length, 1), a->dropped = calloc(x->z, 1), a->serials = calloc(x->z, sizeof *a->serials);
-    a->blocks = calloc(SORGIZHED_FLIGHTS * 7, x->b);
-    return x->image && x->pointers && x->addresses && x->compact && x->inflight && x->state && a->on_drives && a->dropped && a->serials && a->blocks;
+    a->on_drives = calloc(x->pointers_length, 1), a->zones = calloc(x->n * x->z, sizeof *a->zones), a->blocks = calloc(SORGIZHED_FLIGHTS * 7, x->b);
+    return x->offline && x->image && x->pointers && x->addresses && x->compact && x->inflight && x->state && a->on_drives && a->zones && a->blocks;
 }
 
 /* a drive's write pointers and, unless the image is given, what lies below them */
@@ -409,19 +421,25 @@ static int read_drive(sorgizhed_array *a, size_t drive) {
     for (size_t z = 0; a->owned && z < a->box.z; z++) {
         size_t n = sorgizhed_array_pointer(a, drive, z), most = sorgizhed_array_capacity(a);
         if (n > most) n = most; /* a restart will refuse it */
-        if (n > 0 && a->drives.read(a->drives.who, drive, z, 0, n, unit_at(a, drive, z, 0)) != 0) return fails(a, drive);
+        if (!sorgizhed_is_good(a, drive, z)) continue; /* nothing of an offline zone is looked at */
+        if (n > 0 && a->drives.read(a->drives.who, drive, z, 0, n, sorgizhed_unit_at(a, drive, z, 0)) != 0) return fails(a, drive);
     }
     return 1;
 }
 
 sorgizhed_answer sorgizhed_array_open(sorgizhed_array *a, const sorgizhed_box *parameters, const sorgizhed_drives *drives, size_t missing) {
+    const uint8_t *list = parameters->offline;
+    sorgizhed_answer other;
     memset(a, 0, sizeof *a);
     a->box = *parameters, a->drives = *drives, a->missing = missing, a->late = NEVER_LATE;
-    a->box.image = a->box.pointers = a->box.addresses = a->box.compact = a->box.inflight = a->box.state = NULL;
+    a->box.offline = a->box.image = a->box.pointers = a->box.addresses = a->box.compact = a->box.inflight = a->box.state = NULL;
     if (!set_lengths(&a->box)) return plain(SORGIZHED_REFUSED, SORGIZHED_BAD_PARAMETER);
     if (!get_memory(a)) return plain(SORGIZHED_NO_MEMORY, a->box.image_length);
-    for (size_t d = 0; d < a->box.n; d++)
+    if (list != NULL) memcpy(a->box.offline, list, a->box.offline_length);
+    for (size_t d = 0; d < a->box.n; d++) {
+        if (d != missing && !has_zones(a, d, &other)) return other;
         if (d != missing && !read_drive(a, d)) return failed(a);
+    }
     memcpy(a->on_drives, a->box.pointers, a->box.pointers_length);
     return plain(SORGIZHED_OPENED, 0);
 }
@@ -429,7 +447,7 @@ sorgizhed_answer sorgizhed_array_open(sorgizhed_array *a, const sorgizhed_box *p
 void sorgizhed_array_shut(sorgizhed_array *a) {
     sorgizhed_box *x = &a->box;
     if (a->owned) free(x->image);
-    free(x->pointers), free(x->addresses), free(x->compact), free(x->inflight), free(x->state);
-    free(a->on_drives), free(a->dropped), free(a->serials), free(a->blocks);
+    free(x->offline), free(x->pointers), free(x->addresses), free(x->compact), free(x->inflight), free(x->state);
+    free(a->on_drives), free(a->zones), free(a->blocks);
     memset(a, 0, sizeof *a);
 }

@@ -1,4 +1,5 @@
-/* Drives as files. A drive's file has, from a sector's begin each: a text that says which drive of which array it is; the write pointers; the blocks.
+/* Drives as files. A drive's file has, from a sector's begin each: a text that says which drive of which array it is; the write pointers; a byte for each zone, not 0
+ * where the zone is offline; the blocks.
  * A block goes to the file when it is put, above the pointer that the file shows. A flush makes the blocks durable, then writes the pointers, then makes
  * these durable: a pointer on disk never covers a block that is not, and a sector of pointers is the old or the new one. */
 #define _DEFAULT_SOURCE 1
@@ -30,8 +31,12 @@ static size_t zone_bytes(const sorgizhed_files *f) { return drive_bytes(f) / f->
 
 static size_t pointer_bytes(const sorgizhed_files *f) { return (4 * f->box.z + SECTOR - 1) / SECTOR * SECTOR; }
 
+static size_t list_bytes(const sorgizhed_files *f) { return (f->box.z + SECTOR - 1) / SECTOR * SECTOR; }
+
+static off_t list_at(const sorgizhed_files *f) { return (off_t)(SECTOR + pointer_bytes(f)); }
+
 static off_t blocks_at(const sorgizhed_files *f, size_t drive) {
-    size_t before = (SECTOR + pointer_bytes(f) + ALIGNED - 1) / ALIGNED * ALIGNED;
+    size_t before = (SECTOR + pointer_bytes(f) + list_bytes(f) + ALIGNED - 1) / ALIGNED * ALIGNED;
     return (off_t)(before + drive * drive_bytes(f) % ALIGNED);
 }
 
@@ -150,22 +155,64 @@ static int read_drives(sorgizhed_files *f) {
     return *p == 0 || complain(f, "the file 'drives' does not list the drives of this array");
 }
 
-/* the parameters as text, and back */
-static const char *parameters_text(const sorgizhed_box *x, char *out, size_t room) {
-    snprintf(out, room, "%zu %zu %zu %zu %zu %zu\n", SORGIZHED_PARAMETERS(x));
-    return out;
+/* ---- the file 'box': the six parameters, and a line with drive:zone of each offline zone */
+
+/* room for the text of an array with so many drives and zones */
+static size_t text_room(const sorgizhed_box *x) { return 256 + 12 * x->n * x->z; }
+
+static void parameters_text(const sorgizhed_box *x, char *out, size_t room) { snprintf(out, room, "%zu %zu %zu %zu %zu %zu\n", SORGIZHED_PARAMETERS(x)); }
+
+/* the text of the box, in memory that is to be freed; NULL where there is none */
+static char *box_text(const sorgizhed_box *x) {
+    size_t room = text_room(x), used;
+    char *text = malloc(room);
+    if (text == NULL) return NULL;
+    parameters_text(x, text, room);
+    used = strlen(text);
+    used += (size_t)snprintf(text + used, room - used, "offline");
+    for (size_t i = 0; i < x->n * x->z; i++)
+        if (x->offline[i] != 0) used += (size_t)snprintf(text + used, room - used, " %zu:%zu", i / x->z, i % x->z);
+    snprintf(text + used, room - used, "\n");
+    return text;
 }
 
-static int read_text(const char *text, sorgizhed_box *x) {
-    char behind;
-    return sscanf(text, "%zu %zu %zu %zu %zu %zu %c", &x->n, &x->b, &x->z, &x->s, &x->g, &x->l, &behind) == 6;
+/* a number up to most, and behind it the character */
+static char *read_number(char *p, char behind, size_t most, size_t *out) {
+    char *end;
+    if (p == NULL || *p < '0' || *p > '9') return NULL;
+    unsigned long long n = strtoull(p, &end, 10);
+    *out = (size_t)n;
+    return end - p < 20 && n <= most && *end == behind ? end + 1 : NULL;
+}
+
+static int read_numbers(char *text, sorgizhed_box *x, char **behind) {
+    size_t *const v[6] = {&x->n, &x->b, &x->z, &x->s, &x->g, &x->l};
+    for (int i = 0; i < 6; i++) text = read_number(text, i < 5 ? ' ' : '\n', SIZE_MAX / 2, v[i]);
+    *behind = text;
+    return text != NULL;
+}
+
+/* the line of offline zones, into the box's list */
+static int read_list(char *p, sorgizhed_box *x) {
+    size_t drive, zone;
+    if (strncmp(p, "offline", 7) != 0) return 0;
+    for (p += 7; *p == ' ';) {
+        p = read_number(p + 1, ':', x->n - 1, &drive);
+        if (p == NULL) return 0;
+        char *end = p + strspn(p, "0123456789"), mark = *end;
+        if (mark != ' ' && mark != '\n') return 0;
+        if (read_number(p, mark, x->z - 1, &zone) == NULL) return 0;
+        x->offline[drive * x->z + zone] = 1, p = end;
+    }
+    return strcmp(p, "\n") == 0;
 }
 
 /* the first sector of a drive's file */
 static void drive_text(const sorgizhed_files *f, size_t drive, char out[SECTOR]) {
     char parameters[160];
     memset(out, 0, SECTOR);
-    snprintf(out, SECTOR, "sorgizhed, files 2\nparameters %sdrive %zu %s\n", parameters_text(&f->box, parameters, sizeof parameters), drive, f->identity[drive]);
+    parameters_text(&f->box, parameters, sizeof parameters);
+    snprintf(out, SECTOR, "sorgizhed, files 3\nparameters %sdrive %zu %s\n", parameters, drive, f->identity[drive]);
 }
 
 /* a new drive's file: all of its space is taken, its pointers are 0 */
@@ -177,7 +224,7 @@ static int make_drive(sorgizhed_files *f, size_t drive) {
     if (file < 0) return complain_errno(f, name);
     f->file[drive] = file;
     errno = posix_fallocate(file, 0, file_length(f, drive));
-    if (errno != 0 || !write_at(file, (const uint8_t *)text, SECTOR, 0) || fsync(file) != 0 || fsync(f->folder) != 0) return complain_errno(f, name);
+    if (errno != 0 || !write_at(file, (const uint8_t *)text, SECTOR, 0) || !write_at(file, f->box.offline + drive * f->box.z, f->box.z, list_at(f)) || fsync(file) != 0 || fsync(f->folder) != 0) return complain_errno(f, name);
     return 1;
 }
 
@@ -187,6 +234,12 @@ static int files_report(void *who, size_t drive, uint8_t *pointers) {
     sorgizhed_files *f = who;
     memcpy(pointers, pointer_of(f, f->pointers, drive, 0), 4 * f->box.z);
     return 0;
+}
+
+/* the drive's own word on its zones */
+static int files_offline(void *who, size_t drive, uint8_t *list) {
+    sorgizhed_files *f = who;
+    return read_at(f->file[drive], list, f->box.z, list_at(f)) ? 0 : drive_fails(f, drive_name(drive));
 }
 
 static int flush_blocks(sorgizhed_files *f, size_t drive) {
@@ -246,18 +299,36 @@ static void begin_files(sorgizhed_files *f) {
     for (size_t d = 0; d < 8; d++) f->file[d] = -1;
 }
 
+/* the parameters in their ranges, and room for the list of offline zones */
 static int set_parameters(sorgizhed_files *f, const sorgizhed_box *parameters) {
     f->box = *parameters;
     f->image_length = sorgizhed_image_length(SORGIZHED_PARAMETERS(&f->box));
-    return f->image_length != 0;
+    f->box.offline = f->image_length != 0 ? calloc(f->box.n, f->box.z) : NULL;
+    return f->box.offline != NULL;
+}
+
+/* Whether the engine takes the list: four good zones on every drive, and addresses for the fewest. */
+static int list_in_order(sorgizhed_files *f) {
+    const sorgizhed_box *x = &f->box;
+    size_t fewest = x->z;
+    for (size_t d = 0; d < x->n; d++) {
+        size_t good = 0;
+        for (size_t z = 0; z < x->z; z++) good += x->offline[d * x->z + z] == 0;
+        if (good < 4) return complain(f, "drive %zu has %zu good zones: four are needed", d, good);
+        if (good < fewest) fewest = good;
+    }
+    size_t most = (fewest - 3) * x->s * (x->n - 1);
+    return x->l <= most || complain(f, "%zu addresses are too many: with %zu good zones on each drive there are %zu at most", x->l, fewest, most);
 }
 
 /* the folder's files, each whole; the file of the parameters comes last */
 static int fill_folder(sorgizhed_files *f) {
-    char text[160];
     for (size_t d = 0; d < f->box.n; d++)
         if (!new_identity(f, d) || !make_drive(f, d)) return 0;
-    return write_drives(f) && write_file(f, "box", parameters_text(&f->box, text, sizeof text));
+    char *text = box_text(&f->box);
+    int ok = text != NULL ? write_drives(f) && write_file(f, "box", text) : complain(f, "not enough memory");
+    free(text);
+    return ok;
 }
 
 static void empty_folder(sorgizhed_files *f, const char *folder) {
@@ -270,9 +341,10 @@ static void empty_folder(sorgizhed_files *f, const char *folder) {
 int sorgizhed_files_create(sorgizhed_files *f, const char *folder, const sorgizhed_box *parameters) {
     begin_files(f);
     if (!set_parameters(f, parameters))
-        return complain(f, "a parameter is outside its range: drives 3 to 8, block a power of two from 64 to 4096, zones 4 to 1024, stripes 1 to 65535, group 1 to 256, "
+        return complain(f, "a parameter is outside its range: drives 3 to 8, block a power of two from 128 to 4096, zones 4 to 1024, stripes 1 to 65535, group 1 to 256, "
                            "addresses 1 to (zones - 3) * stripes * (drives - 1)");
-    if (mkdir(folder, 0777) != 0) return complain_errno(f, folder);
+    if (parameters->offline != NULL) memcpy(f->box.offline, parameters->offline, f->box.n * f->box.z);
+    if (!list_in_order(f) || (mkdir(folder, 0777) != 0 && !complain_errno(f, folder))) { sorgizhed_files_close(f); return 0; }
     f->folder = open_above(AT_FDCWD, folder, O_RDONLY | O_DIRECTORY);
     int ok = f->folder >= 0 ? fill_folder(f) : complain_errno(f, folder);
     if (!ok) empty_folder(f, folder);
@@ -282,21 +354,30 @@ int sorgizhed_files_create(sorgizhed_files *f, const char *folder, const sorgizh
     return ok;
 }
 
+/* the text of the locked file 'box', in memory that is to be freed */
+static char *locked_text(sorgizhed_files *f) {
+    struct stat s;
+    if (fstat(f->lock, &s) != 0) { complain_errno(f, "box"); return NULL; }
+    size_t n = s.st_size < 1 << 20 ? (size_t)s.st_size : 1 << 20;
+    char *text = calloc(n + 1, 1);
+    if (text == NULL || !read_at(f->lock, (uint8_t *)text, n, 0)) { complain_errno(f, "box"); free(text); return NULL; }
+    return text;
+}
+
 /* the parameters' file, locked against other processes */
 static int read_parameters(sorgizhed_files *f, const char *folder) {
-    char text[160];
+    char *behind, *text;
     sorgizhed_box x = {0};
     struct flock all = {.l_type = F_WRLCK, .l_whence = SEEK_SET};
     f->folder = open_above(AT_FDCWD, folder, O_RDONLY | O_DIRECTORY);
     if (f->folder >= 0) f->lock = open_above(f->folder, "box", O_RDWR);
     if (f->lock < 0) return complain(f, "%s is no array: %s", folder, strerror(errno));
     if (fcntl(f->lock, F_SETLK, &all) != 0) return complain(f, "%s is in use by another process", folder);
-    ssize_t k = pread(f->lock, text, sizeof text - 1, 0);
-    if (k < 0) return complain_errno(f, "box");
-    text[k] = 0;
-    if (!read_text(text, &x) || !set_parameters(f, &x))
-        return complain(f, "%s/box does not hold the six parameters of an array", folder);
-    return 1;
+    text = locked_text(f);
+    if (text == NULL) return 0;
+    int ok = read_numbers(text, &x, &behind) && set_parameters(f, &x) && read_list(behind, &f->box);
+    free(text);
+    return (ok || complain(f, "%s/box does not hold the six parameters of an array and its offline zones", folder)) && list_in_order(f);
 }
 
 /* Opens a drive's file and looks whether it is the one that the array knows. One that is not there is missing. */
@@ -355,7 +436,7 @@ int sorgizhed_files_attach(sorgizhed_files *f) {
     memcpy(f->committed, f->pointers, f->box.n * pointer_bytes(f));
     for (size_t d = 0; d < f->box.n; d++)
         if (d != f->missing && !map_drive(f, d)) return 0;
-    sorgizhed_drives drives = {f, f->image, files_report, NULL, files_put, files_reset, files_flush};
+    sorgizhed_drives drives = {f, f->image, files_report, NULL, files_put, files_reset, files_flush, files_offline};
     f->drives = drives;
     return 1;
 }
@@ -366,8 +447,8 @@ void sorgizhed_files_close(sorgizhed_files *f) {
     if (f->image != NULL) munmap(f->image, f->image_length);
     if (f->lock >= 0) close(f->lock);
     if (f->folder >= 0) close(f->folder);
-    free(f->pointers), free(f->committed);
-    f->pointers = f->committed = f->image = NULL, f->folder = f->lock = -1;
+    free(f->pointers), free(f->committed), free(f->box.offline);
+    f->pointers = f->committed = f->image = f->box.offline = NULL, f->folder = f->lock = -1;
     for (size_t d = 0; d < 8; d++) f->file[d] = -1;
 }
 

@@ -11,11 +11,15 @@
 #include <unistd.h>
 
 #include "box.h"
+#include "bytes.h"
+#include "gather.h"
+#include "layout.h"
 
 static const char usage[] =
     "usage: box [--slow MICROSECONDS] FOLDER COMMAND\n"
     "       box --help | --version\n"
-    "  create [DRIVES BLOCK ZONES STRIPES GROUP ADDRESSES]   a new array (without numbers: 4 drives, blocks of 4096, 16 zones of 64 stripes)\n"
+    "  create [--offline DRIVE:ZONE[,DRIVE:ZONE..]] [DRIVES BLOCK ZONES STRIPES GROUP ADDRESSES]\n"
+    "                         a new array (without numbers: 4 drives, blocks of 4096, 16 zones of 64 stripes), on drives with these dead zones\n"
     "  put ADDRESS FILE       stores a file under ADDRESS, whole or not at all; returns once it is acknowledged\n"
     "  get ADDRESS            writes the file of ADDRESS to standard output, and its stamp to standard error: the greater of two is newer\n"
     "  status [--json]        what the array holds\n"
@@ -73,12 +77,26 @@ static int complain(const box *x) {
 
 /* ---- starting */
 
+/* tells of zones that are good on a drive and offline in the list with which the array was made */
+static void tell_unused(box *x) {
+    const sorgizhed_box *v = &x->files.box;
+    uint8_t told[1024];
+    for (size_t d = 0; d < v->n; d++) {
+        if (d == x->files.missing || x->files.drives.offline(x->files.drives.who, d, told) != 0) continue;
+        for (size_t z = 0; z < v->z; z++)
+            if (told[z] == 0 && v->offline[d * v->z + z] != 0)
+                fprintf(stderr, "drive %zu says that its zone %zu is good, and the array was made with a list in which it is offline: it stays unused\n", d, z);
+    }
+}
+
 /* opens the drives and the array, without a restart */
 static int attach(box *x) {
     if (!sorgizhed_files_attach(&x->files)) return complain(x);
     sorgizhed_answer r = sorgizhed_array_open(&x->array, &x->files.box, &x->files.drives, x->files.missing);
     x->array.stored = stored, x->array.stored_who = x;
-    return r.kind == SORGIZHED_OPENED || say(x, "open", r);
+    if (r.kind != SORGIZHED_OPENED) return say(x, "open", r);
+    tell_unused(x);
+    return 1;
 }
 
 static int enter(box *x, const char *folder) { return (sorgizhed_files_enter(&x->files, folder) || complain(x)) && attach(x); }
@@ -114,18 +132,58 @@ static int begin(box *x, const char *folder) {
 /* how many addresses are written, and the newest of their blocks; stamp 0: none is */
 typedef struct { uint64_t written, address, stamp; } holdings;
 
+/* by drive and zone: whether the zone is of a sealed segment, so that its footers have the records; without memory for that NULL */
+static uint8_t *sealed_zones(const sorgizhed_array *a) {
+    size_t zones = a->box.n * a->box.z, capacity = sorgizhed_array_capacity(a);
+    uint8_t *sealed = calloc(zones, 1);
+    used_zone *u = calloc(zones, sizeof *u);
+    size_t n = sealed != NULL && u != NULL ? sorgizhed_gather(a, a->missing, u) : 0;
+    for (size_t i = 0, end, full; i < n; i = end) {
+        for (full = 1, end = i; end < n && u[end].serial == u[i].serial; end++) full &= sorgizhed_array_pointer(a, u[end].drive, u[end].zone) == capacity;
+        for (size_t k = i; k < end; k++) sealed[u[k].drive * a->box.z + u[k].zone] = full && !u[k].dropped;
+    }
+    free(u);
+    return sealed;
+}
+
+/* The stamp of a written address's block: where its segment is sealed by the footer, so that the blocks and their spares are not read from the drives. */
+static uint64_t stamp_of(box *x, const uint8_t *sealed, size_t address, size_t place) {
+    const sorgizhed_array *a = &x->array;
+    size_t capacity = sorgizhed_array_capacity(a), zone = place / capacity, offset = place % capacity - 1, each = a->box.b / SPARE;
+    if (sealed == NULL || !sealed[zone]) return sorgizhed_stamp(sorgizhed_array_read(&x->array, address));
+    return number_at(sorgizhed_unit_at(a, 0, zone, 1 + a->box.s + offset / each) + offset % each * SPARE + STAMP_AT, 8);
+}
+
 static holdings held(box *x) {
     holdings h = {0, 0, 0};
+    uint8_t *sealed = sealed_zones(&x->array);
     for (size_t i = 0; i < x->files.box.l; i++) {
-        sorgizhed_answer r = sorgizhed_array_read(&x->array, i);
-        h.written += r.kind != SORGIZHED_NEVER;
-        if (sorgizhed_stamp(r) > h.stamp) h.address = i, h.stamp = sorgizhed_stamp(r);
+        uint64_t place = number_at(x->array.box.addresses + 4 * i, 4), stamp;
+        if (place == UINT32_MAX) continue;
+        h.written++, stamp = stamp_of(x, sealed, i, (size_t)place);
+        if (stamp > h.stamp) h.address = i, h.stamp = stamp;
     }
+    free(sealed);
     return h;
 }
 
-static void pointers_of(const box *x, size_t drive, const char *between) {
-    for (size_t z = 0; z < x->files.box.z; z++) printf("%s%" PRIu32, z ? between : "", sorgizhed_array_pointer(&x->array, drive, z));
+static int is_offline(const box *x, size_t drive, size_t zone) { return x->files.box.offline[drive * x->files.box.z + zone] != 0; }
+
+/* the write pointers of a drive; of an offline zone the word */
+static void pointers_of(const box *x, size_t drive, const char *between, const char *word) {
+    for (size_t z = 0; z < x->files.box.z; z++) {
+        fputs(z ? between : "", stdout);
+        if (is_offline(x, drive, z)) fputs(word, stdout);
+        else printf("%" PRIu32, sorgizhed_array_pointer(&x->array, drive, z));
+    }
+}
+
+/* the offline zones of a drive; how many */
+static size_t offline_of(const box *x, size_t drive, const char *between) {
+    size_t n = 0;
+    for (size_t z = 0; z < x->files.box.z; z++)
+        if (is_offline(x, drive, z)) printf("%s%zu", n++ ? between : "", z);
+    return n;
 }
 
 static int status(box *x) {
@@ -135,14 +193,18 @@ static int status(box *x) {
     printf("%" PRIu64 " of %zu addresses written", h.written, v->l);
     if (h.stamp > 0) printf("; the newest block has stamp %" PRIu64 ", at address %" PRIu64, h.stamp, h.address);
     printf("\n");
-    printf("%zu of %zu zones empty on all drives\n", sorgizhed_array_empty_zones(&x->array), v->z);
+    printf("%zu of %zu zones empty on each drive, or more\n", sorgizhed_array_empty_zones(&x->array), v->z);
     if (x->files.missing == SORGIZHED_NO_DRIVE) printf("all drives present\n");
     else printf("drive %zu is missing: the array is read-only until 'replace %zu'\n", x->files.missing, x->files.missing);
     for (size_t d = 0; d < v->n; d++) {
         printf("drive %zu: ", d);
         if (d == x->files.missing) printf("missing");
-        else pointers_of(x, d, " ");
+        else pointers_of(x, d, " ", "dead");
         printf("  (blocks of %zu in each zone)\n", sorgizhed_array_capacity(&x->array));
+    }
+    for (size_t d = 0; d < v->n; d++) {
+        printf("dead zones of drive %zu: ", d);
+        printf(offline_of(x, d, " ") ? "\n" : "none\n");
     }
     return 1;
 }
@@ -159,7 +221,13 @@ static int status_json(box *x) {
     else printf("\"missing\": %zu, \"pointers\": [", x->files.missing);
     for (size_t d = 0; d < v->n; d++) {
         printf("%s[", d ? ", " : "");
-        if (d != x->files.missing) pointers_of(x, d, ", ");
+        if (d != x->files.missing) pointers_of(x, d, ", ", "null");
+        printf("]");
+    }
+    printf("], \"offline\": [");
+    for (size_t d = 0; d < v->n; d++) {
+        printf("%s[", d ? ", " : "");
+        offline_of(x, d, ", ");
         printf("]");
     }
     printf("]}\n");
@@ -234,26 +302,47 @@ static int reclaim(box *x) {
     }
     r = sorgizhed_array_settle(a);
     if (r.kind != SORGIZHED_DURABLE) return say(x, "reclaim", r);
-    printf("%" PRIu64 " blocks copied, %" PRIu64 " segments reset; zones empty on all drives: %zu before, %zu now\n", a->copied, a->resets, had, sorgizhed_array_empty_zones(a));
+    printf("%" PRIu64 " blocks copied, %" PRIu64 " segments reset; zones empty on each drive: %zu before, %zu now\n", a->copied, a->resets, had, sorgizhed_array_empty_zones(a));
     return 1;
 }
 
 /* ---- commands */
 
+/* DRIVE:ZONE, .. into a list of so many drives and zones */
+static int read_offline(char *text, uint64_t drives, uint64_t zones, uint8_t *list) {
+    for (char *word = strtok(text, ","); word != NULL; word = strtok(NULL, ",")) {
+        uint64_t drive, zone;
+        char *colon = strchr(word, ':');
+        if (colon == NULL) { fprintf(stderr, "an offline zone is DRIVE:ZONE, and not '%s'\n", word); return 0; }
+        *colon = 0;
+        if (!number("DRIVE", word, drives - 1, &drive) || !number("ZONE", colon + 1, zones - 1, &zone)) return 0;
+        list[drive * zones + zone] = 1;
+    }
+    return 1;
+}
+
 static int create(const char *folder, int n, char **words) {
     static const char *const names[6] = {"DRIVES", "BLOCK", "ZONES", "STRIPES", "GROUP", "ADDRESSES"};
     uint64_t v[6] = {4, 4096, 16, 64, 16, 1024};
     static sorgizhed_files f;
+    static uint8_t list[8 * 1024];
+    char *offline = n >= 2 && strcmp(words[0], "--offline") == 0 ? words[1] : NULL;
+    if (offline != NULL) n -= 2, words += 2;
+    if (n != 0 && n != 6) { fputs(usage, stderr); return 0; }
     for (int i = 0; i < n; i++)
         if (!number(names[i], words[i], SIZE_MAX, &v[i])) return 0;
     sorgizhed_box x = {.n = (size_t)v[0], .b = (size_t)v[1], .z = (size_t)v[2], .s = (size_t)v[3], .g = (size_t)v[4], .l = (size_t)v[5]};
+    if (offline != NULL && sorgizhed_image_length(SORGIZHED_PARAMETERS(&x)) != 0) {
+        if (!read_offline(offline, v[0], v[2], list)) return 0;
+        x.offline = list;
+    }
     if (!sorgizhed_files_create(&f, folder, &x)) { fprintf(stderr, "%s\n", f.error); return 0; }
     printf("%s: %zu drives, %zu addresses of %zu bytes\n", folder, x.n, x.l, x.b);
     return 1;
 }
 
 enum { CREATE, PUT, GET, STATUS, CHECK, LOSE, REPLACE, RECLAIM, SOAK, VERIFY, COMMANDS };
-static const struct { const char *name; int least, most; } known[COMMANDS] = {{"create", 0, 6}, {"put", 2, 2}, {"get", 1, 1}, {"status", 0, 1}, {"check", 0, 0}, {"lose", 1, 1},
+static const struct { const char *name; int least, most; } known[COMMANDS] = {{"create", 0, 8}, {"put", 2, 2}, {"get", 1, 1}, {"status", 0, 1}, {"check", 0, 0}, {"lose", 1, 1},
                                                                               {"replace", 1, 1}, {"reclaim", 0, 0}, {"soak", 1, 3}, {"verify", 1, 1}};
 
 /* a command on an array that has started */
@@ -274,7 +363,7 @@ static int command(box *x, const char *folder, const char *name, int n, char **w
     int which = 0;
     uint64_t k = 0;
     while (which < COMMANDS && strcmp(known[which].name, name) != 0) which++;
-    if (which == COMMANDS || n < known[which].least || n > known[which].most || (which == CREATE && n != 0 && n != 6)
+    if (which == COMMANDS || n < known[which].least || n > known[which].most
         || (which == STATUS && n == 1 && strcmp(words[0], "--json") != 0)) {
         fputs(usage, stderr);
         return 0;

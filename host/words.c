@@ -12,7 +12,7 @@ static const char *sentence(sorgizhed_answer r) {
     case SORGIZHED_LANDED: return "landed; writes acknowledged: %s";
     case SORGIZHED_CLOSED: return "stripe %s is closed";
     case SORGIZHED_COPIED: return "copied with stamp %s into stripe %s on drive %s";
-    case SORGIZHED_RESET: return "zone %s is freed";
+    case SORGIZHED_RESET: return "the segment in zone %s of drive 0 is freed";
     case SORGIZHED_PART: return "the block begins at byte %s of the image, with stamp %s";
     case SORGIZHED_NEVER: return "never written";
     case SORGIZHED_LOST: return "on the missing drive, with stamp %s";
@@ -23,6 +23,8 @@ static const char *sentence(sorgizhed_answer r) {
     case SORGIZHED_OPENED: return "opened";
     case SORGIZHED_DURABLE: return "durable; writes acknowledged: %s";
     case SORGIZHED_DRIVE_FAILED: return "drive %s has failed: the run is over, what was acknowledged stands; go on with this drive missing";
+    case SORGIZHED_OTHER_LIST:
+        return "drive %s says that its zone %s is offline, and the array was made with a list in which it is good: the list never changes. Take this drive out and replace it by one that has all zones of the list";
     case SORGIZHED_NO_MEMORY: return "not enough memory: the image alone has %s bytes";
     default: return "an unknown answer";
     }
@@ -33,7 +35,8 @@ static const char *refusal(uint64_t number) {
                                         "refused (3): a drive is missing, so the array is read-only: replace it first", "refused (4): the address is too high",
                                         "refused (5): there is nothing of that kind to do, or reclaim must go first",
                                         "refused (6): no stamp or serial is left: the array has been written 2^64 times",
-                                        "refused (7): stripes in flight must land first", "refused (8): no zone is left: reclaim first"};
+                                        "refused (7): stripes in flight must land first", "refused (8): no zone is left: reclaim first",
+                                        "refused (9): the drives or tables are damaged", "refused (10): a drive has fewer than four good zones"};
     return words[number < sizeof words / sizeof *words ? number : 0];
 }
 

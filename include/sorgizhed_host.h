@@ -28,6 +28,8 @@ typedef struct {
     int (*reset)(void *who, size_t drive, size_t zone);
     /* all that this drive was told before is durable */
     int (*flush)(void *who, size_t drive);
+    /* which zones of a drive are offline (Report Zones: Zone State), a byte for each zone, 0 for a good one; or NULL: then nothing is asked */
+    int (*offline)(void *who, size_t drive, uint8_t *list);
 } sorgizhed_drives;
 
 /* ---- The array */
@@ -58,9 +60,9 @@ typedef struct {
     uint64_t writes, acknowledged, copied, resets, stores, flushes; /* counts of this run */
     /* the array's own */
     sorgizhed_flight flights[SORGIZHED_FLIGHTS];
-    uint8_t *blocks, *on_drives, *dropped;
-    uint64_t *serials;
-    size_t dirty[8], late;
+    uint8_t *blocks, *on_drives;
+    struct sorgizhed_used *zones;
+    size_t used, dirty[8], late;
     int ordered, completed, owned;
     const char *work;
     uint64_t done, all;
@@ -71,14 +73,17 @@ typedef struct {
 #define SORGIZHED_DURABLE 101      /* all that landed is durable; first: writes acknowledged in this run */
 #define SORGIZHED_DRIVE_FAILED 102 /* first: the drive; the run is over. The array is as after a power cut: open it again with this drive missing */
 #define SORGIZHED_NO_MEMORY 103    /* first: bytes of the image */
+#define SORGIZHED_OTHER_LIST 104   /* first: a drive, second: a zone that it says is offline, and the array's list says is good. The list never changes: a drive that
+                                      has lost a zone is taken out, and one that has all good zones of the list takes its place. A drive may have more */
 
 /* Opens an array with these parameters (the lengths and buffers of the box are set here): takes memory, asks the drives for their write pointers, and
- * reads what lies below them where the image is not given. Nothing is asked of the drive that is missing.
- * Answers SORGIZHED_OPENED, SORGIZHED_REFUSED (1), SORGIZHED_NO_MEMORY or SORGIZHED_DRIVE_FAILED; sorgizhed_array_shut is due in each case. */
+ * reads what lies below them where the image is not given. Nothing is asked of the drive that is missing. Of the buffers only the list of offline zones is given,
+ * with which the array was made: n * z bytes that are copied, or NULL where all zones are good. Each drive that is there must have all zones that the list calls good; others that are good on it stay unused.
+ * Answers SORGIZHED_OPENED, SORGIZHED_REFUSED (1), SORGIZHED_NO_MEMORY, SORGIZHED_OTHER_LIST or SORGIZHED_DRIVE_FAILED; sorgizhed_array_shut is due in each case. */
 sorgizhed_answer sorgizhed_array_open(sorgizhed_array *a, const sorgizhed_box *parameters, const sorgizhed_drives *drives, size_t missing);
 void sorgizhed_array_shut(sorgizhed_array *a);
 
-/* The calls of sorgizhed.h. Each also answers SORGIZHED_DRIVE_FAILED. A finished restart or rebuild is durable when it answers; what a landing
+/* The calls of sorgizhed.h. Each also answers SORGIZHED_DRIVE_FAILED, and a rebuild SORGIZHED_OTHER_LIST where the new drive lacks a good zone of the list. A finished restart or rebuild is durable when it answers; what a landing
  * acknowledges is durable behind the next sorgizhed_array_flush (told says so too). */
 sorgizhed_answer sorgizhed_array_restart(sorgizhed_array *a, size_t missing);
 sorgizhed_answer sorgizhed_array_rebuild(sorgizhed_array *a, size_t drive);
@@ -108,7 +113,7 @@ sorgizhed_answer sorgizhed_array_room(sorgizhed_array *a, size_t zones);
 size_t sorgizhed_array_waiting(const sorgizhed_array *a);
 sorgizhed_answer sorgizhed_array_land_one(sorgizhed_array *a, size_t number);
 
-/* blocks of a zone in all; stored in one; zones empty on all drives */
+/* blocks of a zone in all; stored in one; the fewest empty good zones of any drive */
 size_t sorgizhed_array_capacity(const sorgizhed_array *a);
 uint32_t sorgizhed_array_pointer(const sorgizhed_array *a, size_t drive, size_t zone);
 size_t sorgizhed_array_empty_zones(const sorgizhed_array *a);

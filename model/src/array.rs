@@ -1,10 +1,9 @@
-//! The lent buffers, the bytes on the drives, and single stores (01, "The array", "What a zone holds", "Store count").
+//! The lent buffers, the bytes on the drives, and single stores (01, "The array", "What a zone holds", "Store count"; 02, item 4).
 
-use crate::params::{Params, SPARE};
+use crate::faults::Words;
+use crate::params::{Params, LENT, SPARE};
 use crate::state::State;
 use std::cell::Cell;
-
-pub const HEADER: usize = 41;
 
 /// Record of a data block.
 #[derive(Clone, Copy, PartialEq, Eq, Debug, Default)]
@@ -63,6 +62,7 @@ pub enum Answer {
         stripe: usize,
         drive: usize,
     },
+    /// With the segment's zone on drive 0.
     Reset(usize),
     /// Where the block lies in the image, and the stamp of its record.
     Part(usize, u64),
@@ -75,24 +75,8 @@ pub enum Answer {
     Rebuilt,
     Cut,
     Refused(u8),
-    /// Refusal 9: the lowest bad zone, and a word on its first fault for the coverage table.
-    Bad(usize, &'static str),
-}
-
-/// The lowest bad zone of a call so far.
-#[derive(Clone, Copy, Default)]
-pub struct Faults(pub Option<(usize, &'static str)>);
-
-impl Faults {
-    pub fn add(&mut self, zone: usize, why: &'static str) {
-        if self.0.is_none_or(|(z, _)| zone < z) {
-            self.0 = Some((zone, why));
-        }
-    }
-
-    pub fn answer(&self) -> Option<Answer> {
-        self.0.map(|(zone, why)| Answer::Bad(zone, why))
-    }
+    /// Refusal 9: the lowest bad zone, and its faults for the coverage table.
+    Bad(usize, Words),
 }
 
 /// Stores in the order in which they are due.
@@ -138,34 +122,31 @@ pub struct Array {
     pub addresses: Vec<u8>,
     pub compact: Vec<u8>,
     pub inflight: Vec<u8>,
+    /// One byte for each drive and zone; any but 0 marks an offline zone (02, item 4).
+    pub offline: Vec<u8>,
     pub state: State,
     /// The length lent of each buffer where it is not the whole.
-    pub lent: [Option<u64>; 5],
+    pub lent: [Option<u64>; LENT],
     /// Stores that the last storing call had due, for choosing where to cut.
     pub due: u64,
     /// A word on what the last call met, for the coverage table.
     pub note: Cell<&'static str>,
+    /// What the last call met in gathering, as bits of `segments::MET`.
+    pub met: Cell<u8>,
 }
 
 impl Array {
     /// Before any parameters: every call is refused 1.
     pub fn none() -> Array {
-        Array {
-            p: Params::default(),
-            image: vec![],
-            pointers: vec![],
-            addresses: vec![],
-            compact: vec![],
-            inflight: vec![],
-            state: State::zero(),
-            lent: [None; 5],
-            due: 0,
-            note: Cell::new(""),
-        }
+        Array::with(Params::default(), [(); LENT].map(|_| vec![]))
     }
 
     pub fn new(p: Params) -> Array {
-        let [image, pointers, addresses, compact, inflight] = p.lengths().map(|len| vec![0; len]);
+        Array::with(p, p.lengths().map(|len| vec![0; len]))
+    }
+
+    fn with(p: Params, buffers: [Vec<u8>; LENT]) -> Array {
+        let [image, pointers, addresses, compact, inflight, offline] = buffers;
         Array {
             p,
             image,
@@ -173,15 +154,24 @@ impl Array {
             addresses,
             compact,
             inflight,
+            offline,
             state: State::zero(),
-            lent: [None; 5],
+            lent: [None; LENT],
             due: 0,
             note: Cell::new(""),
+            met: Cell::new(0),
         }
     }
 
-    pub fn buffers(&self) -> [&Vec<u8>; 5] {
-        [&self.image, &self.pointers, &self.addresses, &self.compact, &self.inflight]
+    pub fn buffers(&self) -> [&Vec<u8>; LENT] {
+        [
+            &self.image,
+            &self.pointers,
+            &self.addresses,
+            &self.compact,
+            &self.inflight,
+            &self.offline,
+        ]
     }
 
     pub fn buffer_mut(&mut self, i: usize) -> &mut Vec<u8> {
@@ -190,9 +180,12 @@ impl Array {
             1 => &mut self.pointers,
             2 => &mut self.addresses,
             3 => &mut self.compact,
-            _ => &mut self.inflight,
+            4 => &mut self.inflight,
+            _ => &mut self.offline,
         }
     }
+
+    // Refusals that every call shares.
 
     /// A refusal, with a word on its reason.
     pub fn refuse(&self, k: u8, why: &'static str) -> Answer {
@@ -200,19 +193,45 @@ impl Array {
         Answer::Refused(k)
     }
 
-    /// Refusals 1 and 2 that every call shares.
-    pub fn in_order(&self) -> Result<(), Answer> {
+    /// Refusals 1 and 2, with the length of the block lent to this call; then 10, then 1 for the narrow bound of L (02, item 4).
+    pub fn in_order(&self, block: Option<usize>) -> Result<(), Answer> {
         if self.p.n == 0 {
             return Err(self.refuse(1, "parameters"));
         }
         let lengths = self.p.lengths();
-        if (0..5).any(|i| self.lent[i].is_some_and(|len| len != lengths[i] as u64)) {
+        let wrong = |i: usize| self.lent[i].is_some_and(|len| len != lengths[i] as u64);
+        if (0..LENT - 1).any(wrong) {
             return Err(self.refuse(2, "buffer"));
+        }
+        if wrong(LENT - 1) {
+            return Err(self.refuse(2, "list"));
+        }
+        if block.is_some_and(|len| len != self.p.b) {
+            return Err(self.refuse(2, "block"));
+        }
+        let good = self.fewest_good();
+        if good < 4 {
+            return Err(self.refuse(10, ""));
+        }
+        if self.p.l > self.p.most(good) {
+            return Err(self.refuse(1, "narrow"));
         }
         Ok(())
     }
 
-    // Pointers.
+    // Zones: offline ones are never looked at, and are not empty.
+
+    pub fn good(&self, d: usize, z: usize) -> bool {
+        self.offline[d * self.p.z + z] == 0
+    }
+
+    /// The fewest good zones on any drive.
+    pub fn fewest_good(&self) -> usize {
+        (0..self.p.n)
+            .map(|d| (0..self.p.z).filter(|&z| self.good(d, z)).count())
+            .min()
+            .unwrap_or(0)
+    }
 
     pub fn pointer(&self, d: usize, z: usize) -> usize {
         be32(&self.pointers[4 * (d * self.p.z + z)..]) as usize
@@ -223,18 +242,27 @@ impl Array {
         self.pointers[at..at + 4].copy_from_slice(&(to as u32).to_be_bytes());
     }
 
-    /// Zone `z` is empty on all drives.
-    pub fn is_empty(&self, z: usize) -> bool {
-        (0..self.p.n).all(|d| self.pointer(d, z) == 0)
+    /// A good zone with pointer 0.
+    pub fn is_empty(&self, d: usize, z: usize) -> bool {
+        self.good(d, z) && self.pointer(d, z) == 0
     }
 
+    /// A good zone with a pointer above 0.
+    pub fn is_used(&self, d: usize, z: usize) -> bool {
+        self.good(d, z) && self.pointer(d, z) > 0
+    }
+
+    /// The fewest empty good zones on any drive.
     pub fn empty_zones(&self) -> usize {
-        (0..self.p.z).filter(|&z| self.is_empty(z)).count()
+        (0..self.p.n)
+            .map(|d| (0..self.p.z).filter(|&z| self.is_empty(d, z)).count())
+            .min()
+            .unwrap_or(0)
     }
 
-    /// Segment `z` is full on all drives but the missing one.
-    pub fn is_sealed(&self, z: usize, missing: Option<usize>) -> bool {
-        (0..self.p.n).all(|d| Some(d) == missing || self.pointer(d, z) == self.p.cap)
+    /// Each drive's lowest good zone that is empty; none where some drive has none.
+    pub fn fresh_zones(&self) -> Option<Vec<usize>> {
+        (0..self.p.n).map(|d| (0..self.p.z).find(|&z| self.is_empty(d, z))).collect()
     }
 
     // Blocks.
@@ -264,12 +292,20 @@ impl Array {
         }
     }
 
+    /// The serial that a zone's header bears.
     pub fn serial(&self, d: usize, z: usize) -> u64 {
-        be64(&self.block(d, z, 0)[25..33])
+        be64(&self.block(d, z, 0)[self.p.serial_field()..])
     }
 
+    /// The copied serial in a zone's header.
     pub fn copied(&self, d: usize, z: usize) -> u64 {
-        be64(&self.block(d, z, 0)[33..41])
+        be64(&self.block(d, z, 0)[self.p.copied_field()..])
+    }
+
+    /// The zone numbers in a zone's header, by drive, as they stand.
+    pub fn named(&self, d: usize, z: usize) -> Vec<usize> {
+        let header = self.block(d, z, 0);
+        (0..self.p.n).map(|e| be32(&header[self.p.zone_field(e)..]) as usize).collect()
     }
 
     /// The bytes of footer block `i` that the spares of a zone make.
@@ -295,7 +331,7 @@ impl Array {
         (d * self.p.z + z) * self.p.s + offset
     }
 
-    /// The offset at which the compact table shows stripe `s` on a drive.
+    /// The offset at which the compact table shows stripe `s` in a drive's zone.
     pub fn shown(&self, d: usize, z: usize, s: usize) -> Option<usize> {
         let pointer = self.pointer(d, z);
         self.p
@@ -336,17 +372,19 @@ impl Array {
     }
 }
 
-/// A zone's header block.
-pub fn header(p: &Params, drive: usize, zone: usize, serial: u64, copied: u64, out: &mut [u8]) {
-    out[0..2].copy_from_slice(&(HEADER as u16).to_be_bytes());
-    out[2] = 1;
+/// A zone's header block (02, item 4): `zones` are the segment's, by drive.
+pub fn header(p: &Params, drive: usize, zones: &[usize], serial: u64, copied: u64, out: &mut [u8]) {
+    out[0..2].copy_from_slice(&(p.header_len() as u16).to_be_bytes());
+    out[2] = 2;
     out[3] = p.n as u8;
     out[4] = drive as u8;
     out[5..7].copy_from_slice(&(p.b as u16).to_be_bytes());
     out[7..9].copy_from_slice(&(p.g as u16).to_be_bytes());
     out[9..13].copy_from_slice(&(p.s as u32).to_be_bytes());
-    out[13..17].copy_from_slice(&(zone as u32).to_be_bytes());
-    out[17..25].copy_from_slice(&p.l.to_be_bytes());
-    out[25..33].copy_from_slice(&serial.to_be_bytes());
-    out[33..41].copy_from_slice(&copied.to_be_bytes());
+    for (e, &zone) in zones.iter().enumerate() {
+        out[p.zone_field(e)..][..4].copy_from_slice(&(zone as u32).to_be_bytes());
+    }
+    out[p.address_field()..][..8].copy_from_slice(&p.l.to_be_bytes());
+    out[p.serial_field()..][..8].copy_from_slice(&serial.to_be_bytes());
+    out[p.copied_field()..][..8].copy_from_slice(&copied.to_be_bytes());
 }

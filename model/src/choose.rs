@@ -5,6 +5,7 @@ use crate::calls::Need;
 use crate::params::Params;
 use crate::rng::Rng;
 use crate::script::Command::{self, *};
+use crate::script::{IMAGE, OFFLINE, POINTERS};
 use std::collections::VecDeque;
 
 /// What the host does more and less of for a while; weights are relative.
@@ -60,16 +61,77 @@ pub struct Chooser {
     pub refusals: u64,
 }
 
+/// Parameters, and the list of offline zones that goes with them.
+#[derive(Clone)]
+pub struct Setup {
+    pub p: Params,
+    pub offline: Vec<u8>,
+}
+
+impl Setup {
+    /// A list for given parameters, which keeps L within the narrow bound.
+    pub fn with(rng: &mut Rng, p: Params) -> Setup {
+        let good = (4..p.z).find(|&good| p.most(good) >= p.l).unwrap_or(p.z);
+        let offline = draw_offline(rng, &p, good);
+        Setup { p, offline }
+    }
+
+    /// The commands that start an array with this list. Offline zones may hold anything.
+    pub fn commands(&self, rng: &mut Rng) -> Vec<Command> {
+        let mut out = vec![params_command(&self.p)];
+        let junk = rng.chance(40);
+        for (i, &byte) in self.offline.iter().enumerate().filter(|(_, &byte)| byte != 0) {
+            out.push(Poke(OFFLINE, i as u64, byte));
+            if junk && rng.chance(60) {
+                out.push(Poke(POINTERS, 4 * i as u64 + rng.below(4), rng.next() as u8));
+            }
+        }
+        out
+    }
+}
+
+/// Offline zones at random; so many or more are good on each drive.
+pub fn draw_offline(rng: &mut Rng, p: &Params, good: usize) -> Vec<u8> {
+    let mut offline = vec![0; p.n * p.z];
+    let same = rng.chance(20);
+    for d in 0..p.n {
+        let dead = if same { p.z - good } else { rng.index(p.z - good + 1) };
+        for _ in 0..dead {
+            offline[d * p.z + rng.index(p.z)] = *rng.pick(&[1, 1, 2, 128, 255]);
+        }
+    }
+    offline
+}
+
+/// The good zones that L is drawn for.
+pub fn draw_good(rng: &mut Rng, z: u64) -> u64 {
+    if rng.chance(30) {
+        z
+    } else {
+        rng.between(4, z)
+    }
+}
+
+/// L within the bound of so many good zones, often at its end or just above that of one zone less.
+pub fn draw_l(rng: &mut Rng, n: u64, s: u64, good: u64) -> u64 {
+    let one = s * (n - 1);
+    let most = (good - 3) * one;
+    match rng.below(10) {
+        0..=4 => most,
+        5 => most - one + 1,
+        _ => rng.between(1, most),
+    }
+}
+
 /// Random parameters over the ranges that a test can afford.
-pub fn draw_params(rng: &mut Rng) -> Params {
+pub fn draw_params(rng: &mut Rng) -> Setup {
     let n = rng.between(3, 8);
     let b = match rng.below(100) {
-        0..=64 => 64,
-        65..=82 => 128,
-        83..=90 => 256,
-        91..=94 => 512,
-        95..=96 => 1024,
-        97..=98 => 2048,
+        0..=74 => 128,
+        75..=87 => 256,
+        88..=93 => 512,
+        94..=95 => 1024,
+        96..=97 => 2048,
         _ => 4096,
     };
     let n = if b > 512 {
@@ -79,8 +141,8 @@ pub fn draw_params(rng: &mut Rng) -> Params {
     } else {
         n
     };
-    let z = rng.between(4, 6);
-    let s = if rng.chance(60) { rng.between(1, 5) } else { rng.between(1, 12) };
+    let z = rng.between(4, 8);
+    let s = if rng.chance(60) { rng.between(1, 5) } else { rng.between(1, 14) };
     let g = match rng.below(10) {
         0..=3 => rng.between(1, 4),
         4..=6 => rng.between(1, s),
@@ -88,28 +150,30 @@ pub fn draw_params(rng: &mut Rng) -> Params {
         8 => rng.between(1, 16),
         _ => rng.between(1, 256),
     };
-    let most = (z - 3) * s * (n - 1);
-    let l = if rng.chance(50) { most } else { rng.between(1, most) };
-    Params::new(n, b, z, s, g, l).expect("drawn in range")
+    // Now and then eight stripes of a group can be in flight.
+    let (s, g) = if rng.chance(12) { (s + 8, s + 8) } else { (s, g) };
+    let good = draw_good(rng, z);
+    let l = draw_l(rng, n, s, good);
+    let p = Params::new(n, b, z, s, g, l).expect("drawn in range");
+    Setup::with(rng, p)
 }
 
-/// The small box, or another whose image is no longer.
-pub fn draw_small(rng: &mut Rng) -> Params {
-    let small = Params::new(3, 64, 4, 4, 2, 8).unwrap();
-    if rng.chance(40) {
-        return small;
+/// The small box, or another whose image is not much longer.
+pub fn draw_small(rng: &mut Rng) -> Setup {
+    let small = Params::new(3, 128, 4, 4, 2, 8).unwrap();
+    if rng.chance(30) {
+        return Setup::with(rng, small);
     }
     loop {
-        let n = rng.between(3, 5);
-        let b = if rng.chance(90) { 64 } else { 128 };
-        let z = rng.between(4, 6);
-        let s = rng.between(1, 4);
+        let n = rng.between(3, 4);
+        let z = rng.between(4, 7);
+        let s = rng.between(1, 7);
         let g = if rng.chance(80) { rng.between(1, 4) } else { rng.between(1, 256) };
-        let most = (z - 3) * s * (n - 1);
-        let l = if rng.chance(50) { most } else { rng.between(1, most) };
-        let p = Params::new(n, b, z, s, g, l).unwrap();
-        if p.lengths()[0] <= small.lengths()[0] {
-            return p;
+        let good = draw_good(rng, z);
+        let l = draw_l(rng, n, s, good);
+        let p = Params::new(n, 128, z, s, g, l).unwrap();
+        if p.lengths()[IMAGE] <= small.lengths()[IMAGE] * 4 / 3 {
+            return Setup::with(rng, p);
         }
     }
 }
@@ -257,7 +321,7 @@ impl Chooser {
                 let from = 4 * array.p.z * d;
                 for at in from..from + 4 * array.p.z {
                     if array.pointers[at] != 0 {
-                        self.queue.push_back(Poke(1, at as u64, 0));
+                        self.queue.push_back(Poke(POINTERS, at as u64, 0));
                     }
                 }
             }
@@ -268,7 +332,7 @@ impl Chooser {
                     let to = (self.rng.index(array.p.cap + 1) as u32).to_be_bytes();
                     for i in 0..4 {
                         if array.pointers[at + i] != to[i] {
-                            self.queue.push_back(Poke(1, (at + i) as u64, to[i]));
+                            self.queue.push_back(Poke(POINTERS, (at + i) as u64, to[i]));
                         }
                     }
                 }
@@ -363,7 +427,7 @@ impl Chooser {
         } else {
             m.close / 8
         };
-        let reclaim = match array.chosen() {
+        let reclaim = match array.chosen(&array.gather(None)) {
             None => m.reclaim / 20,
             Some(c) if c.live.is_empty() => m.reclaim.max(20),
             Some(c) if !c.waiting() || crowded => m.reclaim / 8,
@@ -423,7 +487,7 @@ impl Chooser {
 
     /// A closing, or the write of no bytes that means one; its address is seldom out of range.
     pub fn closing(&mut self, array: &Array, count: u64) -> Command {
-        if self.rng.chance(60) {
+        if self.rng.chance(50) {
             return Close(count);
         }
         let l = array.p.l;

@@ -1,4 +1,4 @@
-//! The six parameters and the sizes that follow from them (01, "The array" and "What a zone holds").
+//! The six parameters and the sizes that follow from them (01, "The array" and "What a zone holds"; 02, item 4).
 
 /// Bytes of a record, and so of every block's spare.
 pub const SPARE: usize = 20;
@@ -8,6 +8,8 @@ pub const FLIGHTS: usize = 8;
 pub const PADDING: u64 = u64::MAX;
 /// The place of an address that was never written.
 pub const NEVER: u32 = u32::MAX;
+/// Lent buffers, the offline list with them.
+pub const LENT: usize = 6;
 
 #[derive(Clone, Copy, PartialEq, Eq, Debug, Default)]
 pub struct Params {
@@ -26,10 +28,10 @@ pub struct Params {
 }
 
 impl Params {
-    /// The parameters, if each lies in its range.
+    /// The parameters, if each lies in its range. L's bound is the wide one here, with Z.
     pub fn new(n: u64, b: u64, z: u64, s: u64, g: u64, l: u64) -> Option<Params> {
         let ok = (3..=8).contains(&n)
-            && (64..=4096).contains(&b)
+            && (128..=4096).contains(&b)
             && b.is_power_of_two()
             && (4..=1024).contains(&z)
             && (1..=65535).contains(&s)
@@ -65,19 +67,25 @@ impl Params {
         self.n - 1
     }
 
+    /// L's bound with so many zones a drive, at least four.
+    pub fn most(&self, zones: usize) -> u64 {
+        ((zones - 3) * self.s * (self.n - 1)) as u64
+    }
+
     /// Number of places in the image.
     pub fn places(&self) -> usize {
         self.n * self.z * self.cap
     }
 
-    /// Lengths of image, pointers, address table, compact table, in-flight buffer.
-    pub fn lengths(&self) -> [usize; 5] {
+    /// Lengths of image, pointers, address table, compact table, in-flight buffer, offline list.
+    pub fn lengths(&self) -> [usize; LENT] {
         [
             self.places() * self.stride(),
             4 * self.n * self.z,
             4 * self.l as usize,
             self.n * self.z * self.s,
             FLIGHTS * self.n * self.b,
+            self.n * self.z,
         ]
     }
 
@@ -124,5 +132,33 @@ impl Params {
         }
         let zone = place / self.cap;
         Some((zone / self.z, zone % self.z, place % self.cap))
+    }
+
+    /// A block of this number holds data.
+    pub fn is_data(&self, block: usize) -> bool {
+        (1..=self.s).contains(&block)
+    }
+
+    // Where the fields of a header start (02, item 4): 13 bytes, then N zone numbers, L, serial, copied serial.
+
+    pub fn zone_field(&self, drive: usize) -> usize {
+        13 + 4 * drive
+    }
+
+    pub fn address_field(&self) -> usize {
+        self.zone_field(self.n)
+    }
+
+    pub fn serial_field(&self) -> usize {
+        self.address_field() + 8
+    }
+
+    pub fn copied_field(&self) -> usize {
+        self.serial_field() + 8
+    }
+
+    /// Bytes of a header: 37 + 4 × N.
+    pub fn header_len(&self) -> usize {
+        self.copied_field() + 8
     }
 }

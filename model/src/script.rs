@@ -1,10 +1,17 @@
 //! The script language: commands as text, answers as lines.
 
 use crate::array::{Answer, Array};
-use crate::params::Params;
+use crate::params::{Params, LENT};
 use std::fmt::{self, Write as _};
 
-pub const BUFFERS: [&str; 5] = ["image", "pointers", "addresses", "compact", "inflight"];
+pub const BUFFERS: [&str; LENT] = ["image", "pointers", "addresses", "compact", "inflight", "offline"];
+
+pub const IMAGE: usize = 0;
+pub const POINTERS: usize = 1;
+pub const ADDRESSES: usize = 2;
+pub const COMPACT: usize = 3;
+pub const INFLIGHT: usize = 4;
+pub const OFFLINE: usize = 5;
 
 /// The byte stream of a seed.
 pub fn stream(seed: u64, out: &mut [u8]) {
@@ -151,6 +158,7 @@ pub fn run(array: &mut Array, command: &Command) -> Outcome {
         CutLen(buf, len) => array.lent[buf] = len,
         _ => {
             array.note.set("");
+            array.met.set(0);
             let (answer, filled) = call(array, command);
             return Outcome::Answer(answer, filled);
         }
@@ -172,7 +180,7 @@ fn call(array: &mut Array, command: &Command) -> (Answer, Option<Vec<u8>>) {
         Write(a, seed, count) => array.write(a, &block(seed, b), count),
         WriteLen(a, len, count) => array.write(a, &vec![0; len.min(b as u64 + 1) as usize], count),
         Land(d, s, count) => array.land(d, s, count),
-        Close(count) => array.close(count),
+        Close(_) => array.close(),
         Reclaim(count) => array.reclaim(count),
         Read(a) => array.read(a),
         Fill(a, seed) => {
@@ -187,8 +195,8 @@ fn call(array: &mut Array, command: &Command) -> (Answer, Option<Vec<u8>>) {
     (answer, None)
 }
 
-/// The line that a command prints.
-pub fn line(array: &mut Array, command: &Command) -> String {
+/// The line that a command prints; why: behind a call's line stand, set off by ` # `, the words on what it met.
+pub fn line(array: &mut Array, command: &Command, why: bool) -> String {
     let (answer, filled) = match run(array, command) {
         Outcome::Ok => return "ok".into(),
         Outcome::NoParams => return "refused 1".into(),
@@ -216,9 +224,17 @@ pub fn line(array: &mut Array, command: &Command) -> String {
         Answer::Bad(z, _) => format!("refused 9 {z}"),
     };
     out.push_str(" |");
-    for (i, bytes) in array.buffers().iter().enumerate() {
+    // The offline list is not among the hashes.
+    for (i, bytes) in array.buffers().iter().enumerate().take(LENT - 1) {
         let len = array.lent[i].unwrap_or(bytes.len() as u64);
         write!(out, " {:016x}", hash(bytes, len)).unwrap();
+    }
+    if why {
+        let words = match answer {
+            Answer::Bad(_, words) => words.list().join(", "),
+            _ => array.note.get().into(),
+        };
+        write!(out, " # {words}").unwrap();
     }
     out
 }

@@ -1,12 +1,13 @@
-//! Random histories on the model, checked against demands 2 and 3.
+//! Random histories on the model with lists of offline zones that never change, checked against demands 2 and 3, and for offline zones that take no part.
 
 use crate::array::{Answer, Array};
-use crate::choose::{draw_small, due, params_command, Chooser, Style};
-use crate::oracle;
+use crate::choose::{draw_good, draw_l, draw_small, due, Chooser, Setup, Style};
+use crate::oracle::{Drives, Says};
 use crate::params::Params;
 use crate::rng::Rng;
 use crate::script::Command::{self, *};
 use crate::script::{block, run, Outcome};
+use crate::twin;
 use std::panic::{catch_unwind, AssertUnwindSafe};
 use std::time::{Duration, Instant};
 
@@ -38,6 +39,8 @@ struct Host {
 #[derive(Default)]
 pub struct Counts {
     pub histories: u64,
+    /// Histories with some zone offline.
+    pub offline: u64,
     pub calls: u64,
     pub restarts: u64,
     pub cuts: u64,
@@ -45,6 +48,7 @@ pub struct Counts {
     pub tables: u64,
     pub rebuilds: u64,
     pub resets: u64,
+    pub twins: u64,
 }
 
 fn prefix(bytes: &[u8]) -> u64 {
@@ -152,9 +156,21 @@ fn stamp_of(answer: Answer) -> Option<u64> {
     }
 }
 
+/// What the drives say with this drive missing.
+fn says(array: &Array, missing: Option<usize>) -> Says {
+    let drives = Drives {
+        p: &array.p,
+        image: &array.image,
+        pointers: &array.pointers,
+        offline: &array.offline,
+        missing,
+    };
+    drives.says()
+}
+
 /// Demand 2: the tables in memory, and the stamps that they lead to, are what the drives say.
 fn check_tables(array: &Array) -> Result<(), String> {
-    let says = oracle::says(&array.p, &array.image, &array.pointers, array.state.missing);
+    let says = says(array, array.state.missing);
     if says.addresses != array.addresses {
         return Err("the address table is not what the drives say".into());
     }
@@ -199,23 +215,33 @@ fn uncounted(array: &Array, command: &Command) -> u64 {
     match *command {
         Restart(m, _) if m == 255 || m < p.n as u64 => {
             let missing = (m != 255).then_some(m as usize);
-            oracle::says(p, &array.image, &array.pointers, missing).uncounted
+            says(array, missing).uncounted
         }
         _ => 0,
     }
 }
 
-fn draw(rng: &mut Rng) -> Params {
-    if rng.chance(70) {
+/// Parameters with a list, mostly one with offline zones.
+fn draw(rng: &mut Rng) -> Setup {
+    loop {
+        let setup = draw_any(rng);
+        if setup.offline.iter().any(|&byte| byte != 0) || rng.chance(15) {
+            return setup;
+        }
+    }
+}
+
+fn draw_any(rng: &mut Rng) -> Setup {
+    if rng.chance(60) {
         return draw_small(rng);
     }
     let n = rng.between(3, 5);
-    let z = rng.between(4, 6);
-    let s = rng.between(1, 7);
+    let z = rng.between(4, 7);
+    let s = rng.between(1, 8);
     let g = if rng.chance(80) { rng.between(1, 4) } else { rng.between(1, 10) };
-    let most = (z - 3) * s * (n - 1);
-    let l = if rng.chance(50) { most } else { rng.between(1, most) };
-    Params::new(n, 64, z, s, g, l).unwrap()
+    let good = draw_good(rng, z);
+    let l = draw_l(rng, n, s, good);
+    Setup::with(rng, Params::new(n, 128, z, s, g, l).unwrap())
 }
 
 impl History<'_> {
@@ -241,12 +267,14 @@ impl History<'_> {
             None
         };
         let uncounted = uncounted(&self.array, &command);
-        let Some(answer) = call(&mut self.array, &command) else {
+        let flat = |what: String| Violation { what, extra: vec![] };
+        let seed = self.chooser.rng.next();
+        let Some(answer) = twin::both(&mut self.array, &command, seed).map_err(flat)? else {
             return Ok(());
         };
         self.chooser.observe(&command, &answer);
         self.counts.calls += 1;
-        let flat = |what: String| Violation { what, extra: vec![] };
+        self.counts.twins += 1;
         self.judge(&command, &answer).map_err(flat)?;
         if let Answer::Restarted(n) = answer {
             if n != uncounted {
@@ -275,7 +303,7 @@ impl History<'_> {
         let p = self.array.p;
         let host = &mut self.host;
         match (*command, *answer) {
-            (_, Answer::Bad(z, why)) => return Err(format!("{command} is refused 9, zone {z} ({why})")),
+            (_, Answer::Bad(z, why)) => return Err(format!("{command} is refused 9, zone {z} ({})", why.list().join(", "))),
             (_, Answer::Refused(6)) => return Err(format!("{command} is refused 6")),
             (Restart(m, _), Answer::Refused(k)) if m == 255 || m < p.n as u64 => return Err(format!("{command} is refused {k}")),
             (_, Answer::Refused(_)) => {}
@@ -357,6 +385,19 @@ impl History<'_> {
         Ok(())
     }
 
+    /// A call on a copy of the array; now and then on a twin too.
+    fn call_copy(&mut self, copy: &mut Array, command: &Command, extra: &[Command]) -> Result<Option<Answer>, Violation> {
+        if !self.chooser.rng.chance(25) {
+            return Ok(call(copy, command));
+        }
+        self.counts.twins += 1;
+        let seed = self.chooser.rng.next();
+        twin::both(copy, command, seed).map_err(|what| Violation {
+            what,
+            extra: extra.to_vec(),
+        })
+    }
+
     /// One restart in full on a copy, checked. `last` is the reading of a finished restart on the same copy.
     fn restart_copy(&mut self, copy: &mut Array, m: u64, extra: &mut Vec<Command>, last: Option<&Reading>) -> Result<Reading, Violation> {
         if m != 255 && self.chooser.rng.chance(50) {
@@ -368,7 +409,8 @@ impl History<'_> {
         extra.push(command);
         self.counts.copies += 1;
         let uncounted = uncounted(copy, &command);
-        let checked = match call(copy, &command) {
+        let answer = self.call_copy(copy, &command, extra)?;
+        let checked = match answer {
             Some(Answer::Restarted(n)) if n != uncounted => Err(format!("{n} stripes uncounted, {uncounted} on the drives")),
             Some(Answer::Restarted(_)) => match last {
                 Some(last) => self.host.check(copy, &|a| Some(last[a])),
@@ -405,7 +447,7 @@ impl History<'_> {
         let mut cut_extra = extra.clone();
         let command = Rebuild(m, cut);
         cut_extra.push(command);
-        let answer = call(&mut cut_copy, &command);
+        let answer = self.call_copy(&mut cut_copy, &command, &cut_extra)?;
         if answer == Some(Answer::Cut) {
             self.restart_copy(&mut cut_copy, m, &mut cut_extra, Some(&reading))?;
             copy = cut_copy;
@@ -413,7 +455,7 @@ impl History<'_> {
         }
         let command = Rebuild(m, u64::MAX);
         extra.push(command);
-        if call(&mut copy, &command) != Some(Answer::Rebuilt) {
+        if self.call_copy(&mut copy, &command, &extra)? != Some(Answer::Rebuilt) {
             return Err(Violation {
                 what: format!("{command} does not finish"),
                 extra,
@@ -449,7 +491,7 @@ impl History<'_> {
             let mut copy = self.array.clone();
             let command = at(count);
             let extra = vec![command];
-            let answer = call(&mut copy, &command);
+            let answer = self.call_copy(&mut copy, &command, &extra)?;
             if answer != Some(Answer::Cut) || !copy.addresses.iter().chain(&copy.compact).all(|&b| b == 0) {
                 return Err(Violation {
                     what: format!("{command} answers {answer:?} with {total} stores due"),
@@ -484,18 +526,24 @@ pub fn simulate(seconds: u64, seed: u64) -> bool {
     let start = Instant::now();
     let mut violation = None;
     while violation.is_none() && start.elapsed() < Duration::from_secs(seconds) {
-        let p = draw(&mut rng);
+        let setup = draw(&mut rng);
         let style = if rng.chance(30) { Style::Fill } else { Style::Run };
         let mut chooser = Chooser::new(Rng::new(rng.next()), style);
         chooser.refusals = 50;
+        let mut array = Array::none();
+        let script = setup.commands(&mut chooser.rng);
+        for command in &script {
+            run(&mut array, command);
+        }
         let mut h = History {
-            array: Array::new(p),
+            array,
             chooser,
-            host: Host::new(&p),
-            script: vec![params_command(&p)],
+            host: Host::new(&setup.p),
+            script,
             counts: &mut counts,
         };
         h.counts.histories += 1;
+        h.counts.offline += setup.offline.iter().any(|&byte| byte != 0) as u64;
         for _ in 0..rng.between(50, 1500) {
             let step = catch_unwind(AssertUnwindSafe(|| h.step()));
             if let Err(v) = step.unwrap_or(Err(Violation {
@@ -509,15 +557,18 @@ pub fn simulate(seconds: u64, seed: u64) -> bool {
     }
     let spent = start.elapsed().as_secs_f64();
     println!(
-        "{} calls in {} histories, {} restarts in them and {} on copies, {} rebuilds, {} zones reclaimed, {} cuts, {} table checks, {} violations, {:.0} calls a second",
+        "{} calls in {} histories ({} with offline zones), {} restarts in them and {} on copies, {} rebuilds, \
+         {} zones reclaimed, {} cuts, {} table checks, {} twins, {} violations, {:.0} calls a second",
         counts.calls,
         counts.histories,
+        counts.offline,
         counts.restarts,
         counts.copies,
         counts.rebuilds,
         counts.resets,
         counts.cuts,
         counts.tables,
+        counts.twins,
         violation.is_some() as u64,
         counts.calls as f64 / spent.max(0.001),
     );

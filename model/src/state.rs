@@ -53,7 +53,8 @@ pub struct State {
     /// None: the count has ended.
     pub next_stamp: Option<u64>,
     pub next_serial: Option<u64>,
-    pub open: Option<usize>,
+    /// The serial of the open segment (02, item 4: segments are serials).
+    pub open: Option<u64>,
     pub next_stripe: usize,
     /// By eighth of the in-flight buffer.
     pub flights: [Option<Flight>; FLIGHTS],

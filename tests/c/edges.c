@@ -8,11 +8,11 @@
 #include <unistd.h>
 #include "sorgizhed.h"
 
-enum { N = 3, B = 64, Z = 4, S = 4, G = 2, L = 8 };
+enum { N = 3, B = 128, Z = 4, S = 4, G = 2, L = 8 };
 enum { WRITE, LAND, CLOSE, RECLAIM, READ, FILL, RESTART, REBUILD, EMPTY, CALLS };
-enum { IMAGE, POINTERS, ADDRESSES, COMPACT, INFLIGHT, STATE, BLOCK, BUFFERS };
+enum { OFFLINE, IMAGE, POINTERS, ADDRESSES, COMPACT, INFLIGHT, STATE, BLOCK, BUFFERS };
 static const char *const names[CALLS] = {"write", "land", "close", "reclaim", "read", "fill", "restart", "rebuild", "empty write"};
-static const char *const buffers[BUFFERS] = {"image", "pointers", "addresses", "compact", "inflight", "state", "block"};
+static const char *const buffers[BUFFERS] = {"offline", "image", "pointers", "addresses", "compact", "inflight", "state", "block"};
 static const size_t good[6] = {N, B, Z, S, G, L};
 static size_t par[6], length[BUFFERS], lent[BUFFERS];
 static uint8_t *bytes[BUFFERS], *at[BUFFERS], *kept[BUFFERS];
@@ -47,8 +47,8 @@ static int unchanged(void) {
 }
 
 static sorgizhed_answer call(int k) {
-    sorgizhed_box x = {par[0], par[1], par[2], par[3], par[4], par[5], at[0], at[1], at[2], at[3], at[4], at[5],
-                       lent[0], lent[1], lent[2], lent[3], lent[4], lent[5]};
+    sorgizhed_box x = {par[0], par[1], par[2], par[3], par[4], par[5], at[0], at[1], at[2], at[3], at[4], at[5], at[6],
+                       lent[0], lent[1], lent[2], lent[3], lent[4], lent[5], lent[6]};
     switch (k) {
     case WRITE: return sorgizhed_write(SORGIZHED_LENT(&x), address, at[BLOCK], lent[BLOCK], count);
     case LAND: return sorgizhed_land(SORGIZHED_LENT(&x), drive, stripe, count);
@@ -86,7 +86,7 @@ static void prepare(int degraded) {
 }
 
 static void parameters(int k) {
-    static const size_t bad[6][6] = {{0, 1, 2, 9, 255, SIZE_MAX}, {0, 63, 65, 96, 8192, SIZE_MAX}, {0, 3, 1025, 65536, SIZE_MAX / 2, SIZE_MAX},
+    static const size_t bad[6][6] = {{0, 1, 2, 9, 255, SIZE_MAX}, {0, 64, 127, 129, 8192, SIZE_MAX}, {0, 3, 1025, 65536, SIZE_MAX / 2, SIZE_MAX},
                                      {0, 65536, 65537, 1u << 31, SIZE_MAX / 2, SIZE_MAX}, {0, 257, 258, 65536, SIZE_MAX / 2, SIZE_MAX},
                                      {0, 9, 10, 1u << 31, SIZE_MAX / 2, SIZE_MAX}};
     for (int i = 0; i < 6; i++)
@@ -144,7 +144,21 @@ static void numbers(void) {
     usual();
 }
 
-/* a call leaves all seven buffers as the kept ones are, and answers so */
+/* A zone of each drive offline, then all of them: fewer than four are good, whichever drive is missing. Any byte but 0 marks one. */
+static void few_zones(int k) {
+    for (size_t i = 0; i < N * Z; i++) {
+        bytes[OFFLINE][i] = (uint8_t)(1 + 20 * i);
+        if (k == REBUILD) drive = 2;
+        address = L, stripe = S, refused(k, SORGIZHED_FEW_ZONES, "an offline zone", i);
+        bytes[OFFLINE][i] = 0;
+    }
+    memset(bytes[OFFLINE], 255, length[OFFLINE]);
+    if (k == REBUILD) drive = 2;
+    refused(k, SORGIZHED_FEW_ZONES, "all zones offline", 0);
+    memset(bytes[OFFLINE], 0, length[OFFLINE]);
+}
+
+/* a call leaves all eight buffers as the kept ones are, and answers so */
 static void leaves(int k, uint64_t kind, uint64_t first, const char *what) {
     sorgizhed_answer r = call(k);
     expect(r.kind == kind && r.first == first && r.second == 0 && r.third == 0 && unchanged(), names[k], what, count);
@@ -191,7 +205,7 @@ static void stamped(uint64_t a, uint64_t part, uint64_t stamp, const char *what)
 
 /* Stamps of reads: of blocks by their spare and, once the segment is sealed, by its footer; decoded; and where they can't be. */
 static void stamps(void) {
-    enum { UNIT = B + 20, ZONE = 7 * UNIT, DRIVE = Z * ZONE, SPARE_STAMP = UNIT + B + 15, FOOTER_STAMP = 5 * UNIT + 15 };
+    enum { UNIT = B + 20, ZONE = 6 * UNIT, DRIVE = Z * ZONE, SPARE_STAMP = UNIT + B + 15, FOOTER_STAMP = 5 * UNIT + 15 };
     prepare(0);
     /* address 1 on drive 0 and 2 on drive 1 are landed with 1 and 2; address 1 is in flight with 3 */
     stamped(0, 0, 0, "never written");
@@ -212,9 +226,9 @@ static void stamps(void) {
     stamped(2, DRIVE + UNIT, 2, "by the footer of a sealed segment");
     bytes[IMAGE][DRIVE + FOOTER_STAMP] = 98;
     stamped(2, DRIVE + UNIT, 98, "as the footer has it");
-    bytes[POINTERS][4 * 2 * Z + 3] = 6;
+    bytes[POINTERS][4 * 2 * Z + 3] = 5;
     stamped(2, DRIVE + UNIT, 99, "by the spare where a zone of the segment is not full");
-    bytes[POINTERS][4 * 2 * Z + 3] = 7, bytes[IMAGE][DRIVE + SPARE_STAMP] = bytes[IMAGE][DRIVE + FOOTER_STAMP] = 2;
+    bytes[POINTERS][4 * 2 * Z + 3] = 6, bytes[IMAGE][DRIVE + SPARE_STAMP] = bytes[IMAGE][DRIVE + FOOTER_STAMP] = 2;
     missing = 1;
     expect(call(RESTART).kind == SORGIZHED_RESTARTED, "restart", "without drive", 1);
     usual();
@@ -230,18 +244,19 @@ static void stamps(void) {
 /* a call without its buffers leaves as many bytes as one with them: the lengths of the header's functions are the calls' own */
 static void functions(void) {
     expect(sorgizhed_state_length() == SORGIZHED_STATE_LENGTH, "length", "state", 0);
-    expect(sorgizhed_image_length(N, B, Z, S, G, L) == (size_t)N * Z * 7 * (B + 20), "length", "image", 0);
+    expect(sorgizhed_image_length(N, B, Z, S, G, L) == (size_t)N * Z * 6 * (B + 20), "length", "image", 0);
+    expect(sorgizhed_offline_length(N, B, Z, S, G, L) == N * Z && sorgizhed_offline_length(N, B, Z, S, G, 9) == 0, "length", "offline", 0);
     expect(sorgizhed_pointers_length(N, B, Z, S, G, L) == 4 * N * Z, "length", "pointers", 0);
     expect(sorgizhed_addresses_length(N, B, Z, S, G, L) == 4 * L, "length", "addresses", 0);
     expect(sorgizhed_compact_length(N, B, Z, S, G, L) == N * Z * S, "length", "compact", 0);
     expect(sorgizhed_inflight_length(N, B, Z, S, G, L) == 8 * N * B, "length", "inflight", 0);
     expect(sorgizhed_image_length(8, 4096, 1024, 65535, 256, 1021u * 65535 * 7) == (size_t)8 * 1024 * (1 + 65535 + 322) * 4116, "length", "the largest image", 0);
-    expect(sorgizhed_image_length(2, B, Z, S, G, L) + sorgizhed_pointers_length(N, 65, Z, S, G, L) + sorgizhed_addresses_length(N, B, 3, S, G, L) +
+    expect(sorgizhed_image_length(2, B, Z, S, G, L) + sorgizhed_pointers_length(N, 64, Z, S, G, L) + sorgizhed_addresses_length(N, B, 3, S, G, L) +
                sorgizhed_compact_length(N, B, Z, 0, G, L) + sorgizhed_inflight_length(N, B, Z, S, 257, SIZE_MAX) == 0, "length", "of bad parameters", 0);
 }
 
 int main(void) {
-    size_t all[BUFFERS] = {sorgizhed_image_length(N, B, Z, S, G, L), sorgizhed_pointers_length(N, B, Z, S, G, L), sorgizhed_addresses_length(N, B, Z, S, G, L),
+    size_t all[BUFFERS] = {sorgizhed_offline_length(N, B, Z, S, G, L), sorgizhed_image_length(N, B, Z, S, G, L), sorgizhed_pointers_length(N, B, Z, S, G, L), sorgizhed_addresses_length(N, B, Z, S, G, L),
                            sorgizhed_compact_length(N, B, Z, S, G, L), sorgizhed_inflight_length(N, B, Z, S, G, L), sorgizhed_state_length(), B};
     for (int i = 0; i < BUFFERS; i++) {
         length[i] = all[i];
@@ -253,6 +268,7 @@ int main(void) {
         prepare(k == REBUILD);
         parameters(k);
         lengths(k);
+        few_zones(k);
     }
     numbers();
     empties();

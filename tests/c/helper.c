@@ -8,12 +8,12 @@ static void expect(int ok, const char *what) {
     else { failed++; printf("not so: %s\n", what); }
 }
 
-static const sorgizhed_box shape = {.n = 4, .b = 64, .z = 5, .s = 6, .g = 3, .l = 30};
+static const sorgizhed_box shape = {.n = 4, .b = 128, .z = 5, .s = 6, .g = 3, .l = 30};
 
 /* ---- words */
 
 static void words(void) {
-    char text[300], cut[300];
+    char text[400], cut[400];
     for (uint64_t kind = 0; kind < 110; kind++) {
         sorgizhed_answer r = {kind, kind == SORGIZHED_REFUSED ? 5 : UINT64_MAX, 1, 2};
         expect(sorgizhed_words(r, text, sizeof text) == text && strlen(text) > 4 && strchr(text, '%') == NULL, "an answer has words");
@@ -53,8 +53,8 @@ static int bad_flush(void *who, size_t drive) { return at(drive) ? -1 : ram_flus
 static int fails(sorgizhed_answer r) { return r.kind == SORGIZHED_DRIVE_FAILED && r.first == bad_drive; }
 
 static void failing(void) {
-    const sorgizhed_drives good = {&memory, NULL, bad_report, bad_read, bad_put, bad_reset, bad_flush};
-    uint8_t block[64] = {0};
+    const sorgizhed_drives good = {&memory, NULL, bad_report, bad_read, bad_put, bad_reset, bad_flush, NULL};
+    uint8_t block[128] = {0};
     sorgizhed_array a;
     for (size_t drive = 0; drive < shape.n; drive++) {
         ram_make(&memory, &shape);
@@ -91,7 +91,7 @@ static void note(void *who, uint64_t address, uint64_t tag) {
 }
 
 static void run(void) {
-    uint8_t block[64] = {0}, back[64];
+    uint8_t block[128] = {0}, back[128];
     sorgizhed_array a;
     ram_make(&memory, &shape);
     sorgizhed_drives d = ram_drives(&memory);
@@ -132,8 +132,8 @@ static void run(void) {
 
 /* scans of four blocks each, of all addresses and of two in turn, on a box that reclaim keeps short of zones: an empty write is refused 5 now and then, and an end makes the room itself */
 static void scans(void) {
-    static const sorgizhed_box small = {.n = 3, .b = 64, .z = 4, .s = 2, .g = 2, .l = 4};
-    uint8_t block[64] = {0}, back[64];
+    static const sorgizhed_box small = {.n = 3, .b = 128, .z = 4, .s = 2, .g = 2, .l = 4};
+    uint8_t block[128] = {0}, back[128];
     int short_of_zones = 0;
     sorgizhed_array a;
     ram_make(&memory, &small);
@@ -164,8 +164,8 @@ static void scans(void) {
 
 /* a box that is full while the last stripes of a segment are in flight: a write is refused 8, not 7, and a send makes the room itself; so does sorgizhed_array_room where reclaim is refused 8 */
 static void full(void) {
-    static const sorgizhed_box small = {.n = 3, .b = 64, .z = 4, .s = 4, .g = 2, .l = 8};
-    uint8_t block[64] = {0};
+    static const sorgizhed_box small = {.n = 3, .b = 128, .z = 4, .s = 4, .g = 2, .l = 8};
+    uint8_t block[128] = {0};
     int crowded = 0, waits = 0;
     sorgizhed_array a;
     ram_make(&memory, &small);
@@ -199,8 +199,57 @@ static void full(void) {
     ram_free(&memory);
 }
 
+/* ---- the list of offline zones */
+
+static void lists(void) {
+    static uint8_t dead[4 * 6];
+    static const sorgizhed_box odd = {.n = 4, .b = 128, .z = 6, .s = 2, .g = 2, .l = 6, .offline = dead};
+    uint8_t block[128] = {0};
+    char text[400];
+    sorgizhed_array a;
+    dead[0] = dead[1 * 6 + 3] = 1, dead[3 * 6 + 5] = 255, dead[3 * 6 + 2] = 9;
+    ram_make(&memory, &odd);
+    sorgizhed_drives d = ram_drives(&memory);
+    expect(sorgizhed_array_open(&a, &odd, &d, SORGIZHED_NO_DRIVE).kind == SORGIZHED_OPENED && sorgizhed_array_restart(&a, SORGIZHED_NO_DRIVE).kind == SORGIZHED_RESTARTED, "open");
+    expect(sorgizhed_array_empty_zones(&a) == 4, "the fewest empty zones of any drive");
+    for (uint64_t i = 0; i < 200; i++) block[0] = (uint8_t)i, expect(sorgizhed_array_send(&a, i % 6, block, 0).kind == SORGIZHED_SENT, "a write on drives with dead zones");
+    expect(sorgizhed_array_settle(&a).first == 200 && a.resets > 0, "all acknowledged");
+    expect(sorgizhed_array_restart(&a, 3).kind == SORGIZHED_RESTARTED && sorgizhed_array_rebuild(&a, 3).kind == SORGIZHED_REBUILT, "rebuilt");
+    expect(sorgizhed_array_restart(&a, 3).kind == SORGIZHED_RESTARTED, "missing again");
+    memory.offline[3 * 6 + 4] = 1;
+    sorgizhed_answer r = sorgizhed_array_rebuild(&a, 3);
+    expect(r.kind == SORGIZHED_OTHER_LIST && r.first == 3 && r.second == 4 && !sorgizhed_is_result(r), "a new drive with another dead zone");
+    expect(strstr(sorgizhed_words(r, text, sizeof text), "drive 3 says that its zone 4 is offline") != NULL, "in words");
+    sorgizhed_array_shut(&a);
+    r = sorgizhed_array_open(&a, &odd, &d, SORGIZHED_NO_DRIVE);
+    expect(r.kind == SORGIZHED_OTHER_LIST && r.first == 3, "a drive that has lost a zone");
+    sorgizhed_array_shut(&a);
+    memory.offline[3 * 6 + 4] = 0, memory.offline[0] = 0;
+    expect(sorgizhed_array_open(&a, &odd, &d, SORGIZHED_NO_DRIVE).kind == SORGIZHED_OPENED, "a drive that has a zone more");
+    expect(sorgizhed_array_restart(&a, 0).kind == SORGIZHED_RESTARTED && sorgizhed_array_rebuild(&a, 0).kind == SORGIZHED_REBUILT, "is rebuilt");
+    expect(memory.pointer[0] == 2654435769u, "and that zone stays as it is");
+    sorgizhed_array_shut(&a);
+    memory.offline[1] = 1;
+    expect(sorgizhed_array_open(&a, &odd, &d, 0).kind == SORGIZHED_OPENED, "a missing drive is not asked");
+    sorgizhed_array_shut(&a);
+    memory.offline[1] = 0;
+    sorgizhed_box plain = odd;
+    plain.offline = NULL, memory.offline[0] = 1;
+    expect(sorgizhed_array_open(&a, &plain, &d, SORGIZHED_NO_DRIVE).kind == SORGIZHED_OTHER_LIST, "no list: all zones are good");
+    sorgizhed_array_shut(&a);
+    d.offline = NULL;
+    for (size_t i = 1; i < 4; i++) dead[i] = 1;
+    expect(sorgizhed_array_open(&a, &odd, &d, SORGIZHED_NO_DRIVE).kind == SORGIZHED_OPENED, "drives that say nothing");
+    r = sorgizhed_array_restart(&a, SORGIZHED_NO_DRIVE);
+    expect(r.kind == SORGIZHED_REFUSED && r.first == SORGIZHED_FEW_ZONES, "fewer than four good zones");
+    expect(strcmp(sorgizhed_words(r, text, sizeof text), "refused (10): a drive has fewer than four good zones") == 0, "in words");
+    sorgizhed_array_shut(&a);
+    ram_free(&memory);
+}
+
 int main(void) {
     words();
+    lists();
     failing();
     run();
     scans();

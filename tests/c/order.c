@@ -24,6 +24,7 @@ static uint64_t mix(uint64_t h, const uint8_t *p, size_t n) {
 static uint64_t below(const uint8_t *image, const uint8_t *pointers) {
     uint64_t h = UINT64_C(0xcbf29ce484222325);
     for (size_t i = 0; i < drives.n * drives.z; i++) {
+        if (drives.offline[i] != 0) continue;
         size_t n = (size_t)pointers[4 * i] << 24 | (size_t)pointers[4 * i + 1] << 16 | (size_t)pointers[4 * i + 2] << 8 | pointers[4 * i + 3];
         h = mix(mix(h, pointers + 4 * i, 4), image + i * drives.c * drives.unit, (n < drives.c ? n : drives.c) * drives.unit);
     }
@@ -128,9 +129,13 @@ static void history(const sorgizhed_box *v, int calls) {
 }
 
 int main(void) {
-    static const sorgizhed_box shapes[4] = {{.n = 3, .b = 64, .z = 4, .s = 4, .g = 2, .l = 8}, {.n = 4, .b = 64, .z = 5, .s = 3, .g = 1, .l = 12},
-                                            {.n = 3, .b = 64, .z = 6, .s = 7, .g = 4, .l = 30}, {.n = 5, .b = 128, .z = 4, .s = 2, .g = 256, .l = 8}};
-    for (uint64_t k = 1; k <= 60; k++) seed = 2 * k + 1, history(&shapes[k % 4], 800);
+    static uint8_t dead[2][8 * 16]; /* lists of offline zones, other zones on each drive */
+    static const sorgizhed_box shapes[6] = {{.n = 3, .b = 128, .z = 4, .s = 4, .g = 2, .l = 8}, {.n = 4, .b = 128, .z = 5, .s = 3, .g = 1, .l = 12},
+                                            {.n = 3, .b = 128, .z = 6, .s = 7, .g = 4, .l = 30}, {.n = 5, .b = 256, .z = 4, .s = 2, .g = 256, .l = 8},
+                                            {.n = 3, .b = 128, .z = 6, .s = 3, .g = 2, .l = 6, .offline = dead[0]}, {.n = 4, .b = 128, .z = 8, .s = 2, .g = 2, .l = 10, .offline = dead[1]}};
+    for (size_t i = 0; i < 3; i++) dead[0][i * 6 + i] = dead[0][i * 6 + (2 * i + 3) % 6] = 1;
+    for (size_t i = 0; i < 4; i++) dead[1][i * 8 + (3 * i) % 8] = dead[1][i * 8 + (3 * i + 2) % 8] = 200;
+    for (uint64_t k = 1; k <= 72; k++) seed = 2 * k + 1, history(&shapes[k % 6], 700);
     printf("calls with several stores: %d writes, %d landings, %d reclaims, %d restarts, %d rebuilds\n", several[0], several[1], several[2], several[3], several[4]);
     printf("empty writes: %d closed, %d did nothing, %d were refused\n", closed, nothing, empties - closed - nothing);
     for (int i = 0; i < 5; i++) failed += several[i] < 20;

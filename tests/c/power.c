@@ -173,6 +173,7 @@ static sorgizhed_array box;
 static size_t missing;
 static uint64_t version, acknowledged[MOST_ADDRESSES], read_last[MOST_ADDRESSES], sent_last[MOST_ADDRESSES], told_in_all;
 static uint64_t stamp_of[MOST_SENDS]; /* by version; 0: not sent */
+static uint8_t dead[8 * 16]; /* offline zones of some of the arrays */
 static int sent_since, cuts, restarts_cut, rebuilds_cut, lost, refused_restarts, stamps_read;
 
 static void scan(uint64_t address, uint64_t number, size_t b, uint8_t *out) {
@@ -312,9 +313,10 @@ static void end(void) {
 
 /* arrays one after the other until so many cuts are made or a block is lost; how many blocks were lost and restarts refused, the first of them if it is enough */
 static int trial(int most, int taken_out, int first) {
-    static const sorgizhed_box shapes[] = {{.n = 3, .b = 64, .z = 4, .s = 4, .g = 2, .l = 8}, {.n = 4, .b = 512, .z = 6, .s = 5, .g = 1, .l = 24},
-                                           {.n = 3, .b = 128, .z = 5, .s = 24, .g = 24, .l = 40}, {.n = 5, .b = 1024, .z = 5, .s = 3, .g = 3, .l = 16},
-                                           {.n = 3, .b = 512, .z = 9, .s = 6, .g = 4, .l = 60}};
+    static const sorgizhed_box shapes[] = {{.n = 3, .b = 128, .z = 4, .s = 4, .g = 2, .l = 8}, {.n = 4, .b = 512, .z = 6, .s = 5, .g = 1, .l = 24},
+                                           {.n = 3, .b = 128, .z = 5, .s = 24, .g = 24, .l = 40}, {.n = 5, .b = 1024, .z = 6, .s = 3, .g = 3, .l = 16, .offline = dead},
+                                           {.n = 3, .b = 512, .z = 9, .s = 6, .g = 4, .l = 32, .offline = dead}};
+    for (size_t i = 0; i < sizeof dead; i++) dead[i] = (i * 5 + 2) % 11 == 0; /* at most two of six zones on a drive, and not the same ones */
     without = taken_out, cuts = restarts_cut = rebuilds_cut = lost = refused_restarts = stamps_read = 0, told_in_all = 0;
     for (uint64_t k = 1; cuts < most && lost == 0 && !(first && refused_restarts); k++) {
         const sorgizhed_box *v = &shapes[k % 5];

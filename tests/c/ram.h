@@ -14,6 +14,7 @@ typedef struct {
     size_t n, z, c, unit;
     uint8_t *now, *last;           /* all blocks: as the drives show them, and as they would after a cut that loses the cache */
     uint32_t *pointer, *durable;   /* likewise */
+    uint8_t offline[8 * 1024];     /* by drive and zone; nothing may be read from such a zone or stored there, and its pointer is any number */
     ram_store log[1 << 16];
     size_t logged;
     uint64_t left;                 /* stores and flushes until the power is cut */
@@ -35,8 +36,19 @@ static int ram_report(void *who, size_t drive, uint8_t *pointers) {
     return 0;
 }
 
+static void ram_good(const ram *r, size_t drive, size_t zone) {
+    if (r->offline[drive * r->z + zone] != 0) { printf("zone %zu of drive %zu is offline\n", zone, drive); exit(1); }
+}
+
+static int ram_offline(void *who, size_t drive, uint8_t *list) {
+    ram *r = who;
+    memcpy(list, r->offline + drive * r->z, r->z);
+    return 0;
+}
+
 static int ram_read(void *who, size_t drive, size_t zone, size_t block, size_t blocks, uint8_t *bytes) {
     ram *r = who;
+    ram_good(r, drive, zone);
     memcpy(bytes, r->now + ram_at(r, drive, zone, block), blocks * r->unit);
     return 0;
 }
@@ -52,6 +64,7 @@ static int ram_log(ram *r, size_t drive, size_t zone, size_t block, const uint8_
 
 static int ram_put(void *who, size_t drive, size_t zone, size_t block, const uint8_t *bytes) {
     ram *r = who;
+    ram_good(r, drive, zone);
     if (block != r->pointer[drive * r->z + zone] || block >= r->c) { printf("a put at block %zu, and the pointer is another\n", block); exit(1); }
     if (ram_log(r, drive, zone, block, bytes) != 0) return -1;
     memcpy(r->now + ram_at(r, drive, zone, block), bytes, r->unit);
@@ -62,6 +75,7 @@ static int ram_put(void *who, size_t drive, size_t zone, size_t block, const uin
 
 static int ram_reset(void *who, size_t drive, size_t zone) {
     ram *r = who;
+    ram_good(r, drive, zone);
     if (ram_log(r, drive, zone, 0, NULL) != 0) return -1;
     r->pointer[drive * r->z + zone] = 0;
     if (r->shown != NULL) r->shown();
@@ -90,7 +104,7 @@ static int ram_flush(void *who, size_t drive) {
 }
 
 static sorgizhed_drives ram_drives(ram *r) {
-    sorgizhed_drives d = {r, NULL, ram_report, ram_read, ram_put, ram_reset, ram_flush};
+    sorgizhed_drives d = {r, NULL, ram_report, ram_read, ram_put, ram_reset, ram_flush, ram_offline};
     return d;
 }
 
@@ -100,6 +114,8 @@ static void ram_make(ram *r, const sorgizhed_box *x) {
     r->now = ram_memory(r->n * r->z * r->c * r->unit), r->last = ram_memory(r->n * r->z * r->c * r->unit);
     r->pointer = ram_memory(r->n * r->z * sizeof *r->pointer), r->durable = ram_memory(r->n * r->z * sizeof *r->durable);
     r->left = UINT64_MAX;
+    for (size_t i = 0; x->offline != NULL && i < r->n * r->z; i++)
+        if ((r->offline[i] = x->offline[i]) != 0) r->pointer[i] = r->durable[i] = (uint32_t)((i + 1) * 2654435769u);
 }
 
 static void ram_free(ram *r) {

@@ -5,8 +5,8 @@
 #include <string.h>
 #include "sorgizhed.h"
 
-enum { IMAGE, POINTERS, ADDRESSES, COMPACT, INFLIGHT, BUFFERS };
-static const char *const names[BUFFERS] = {"image", "pointers", "addresses", "compact", "inflight"};
+enum { IMAGE, POINTERS, ADDRESSES, COMPACT, INFLIGHT, OFFLINE, BUFFERS, HASHED = OFFLINE }; /* the list of offline zones is not among the hashes */
+static const char *const names[BUFFERS] = {"image", "pointers", "addresses", "compact", "inflight", "offline"};
 static sorgizhed_box box;
 static uint8_t *bytes[BUFFERS];                      /* each buffer, whole */
 static size_t whole[BUFFERS];                        /* its length */
@@ -40,6 +40,7 @@ static void lend(void) {
     box.addresses = bytes[ADDRESSES], box.addresses_length = (size_t)length_of(ADDRESSES);
     box.compact = bytes[COMPACT], box.compact_length = (size_t)length_of(COMPACT);
     box.inflight = bytes[INFLIGHT], box.inflight_length = (size_t)length_of(INFLIGHT);
+    box.offline = bytes[OFFLINE], box.offline_length = (size_t)length_of(OFFLINE);
     box.state = state, box.state_length = sizeof state;
 }
 
@@ -65,7 +66,7 @@ static const char *params(const uint64_t *v) {
     size_t n = v[0], b = v[1], z = v[2], s = v[3], g = v[4], l = v[5], sum = 0;
     size_t lengths[BUFFERS] = {sorgizhed_image_length(n, b, z, s, g, l), sorgizhed_pointers_length(n, b, z, s, g, l),
                                sorgizhed_addresses_length(n, b, z, s, g, l), sorgizhed_compact_length(n, b, z, s, g, l),
-                               sorgizhed_inflight_length(n, b, z, s, g, l)};
+                               sorgizhed_inflight_length(n, b, z, s, g, l), sorgizhed_offline_length(n, b, z, s, g, l)};
     if (lengths[IMAGE] == 0) return bad_params(v);
     for (int i = 0; i < BUFFERS; i++) sum += lengths[i];
     if (sum > UINT64_C(1) << 32) return "error"; /* more than a test machine can lend */
@@ -108,7 +109,7 @@ static void answer(sorgizhed_answer r, const uint8_t *filled, size_t length) {
     default: printf("unknown kind %" PRIu64, r.kind);
     }
     printf(" |");
-    for (int i = 0; i < BUFFERS; i++) printf(" %016" PRIx64, hash(bytes[i], whole[i], length_of(i)));
+    for (int i = 0; i < HASHED; i++) printf(" %016" PRIx64, hash(bytes[i], whole[i], length_of(i)));
     printf("\n");
 }
 

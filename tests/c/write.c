@@ -7,10 +7,10 @@
 #include <unistd.h>
 #include "sorgizhed.h"
 
-enum { N = 3, B = 64, Z = 4, S = 4, G = 2, L = 8, CAP = 7, UNIT = B + 20 };
-enum { IMAGE = N * Z * CAP * UNIT, POINTERS = 4 * N * Z, ADDRESSES = 4 * L, COMPACT = N * Z * S, INFLIGHT = 8 * N * B, STATE = SORGIZHED_STATE_LENGTH };
+enum { N = 3, B = 128, Z = 4, S = 4, G = 2, L = 8, CAP = 6, UNIT = B + 20 };
+enum { IMAGE = N * Z * CAP * UNIT, POINTERS = 4 * N * Z, ADDRESSES = 4 * L, COMPACT = N * Z * S, INFLIGHT = 8 * N * B, STATE = SORGIZHED_STATE_LENGTH, OFFLINE = N * Z };
 static const size_t lengths[7] = {IMAGE, POINTERS, ADDRESSES, COMPACT, INFLIGHT, STATE, B};
-static uint8_t *lent[7], *kept[7];
+static uint8_t *lent[7], *kept[7], *offline; /* the list of offline zones is all zeros */
 static int passed, failed;
 
 static void expect(int ok, const char *what) {
@@ -47,7 +47,7 @@ static int zero(int i) {
 }
 
 static sorgizhed_answer put(uint64_t address, uint64_t count) {
-    return sorgizhed_write(N, B, Z, S, G, L, lent[0], IMAGE, lent[1], POINTERS, lent[2], ADDRESSES, lent[3], COMPACT, lent[4], INFLIGHT, lent[5],
+    return sorgizhed_write(N, B, Z, S, G, L, offline, OFFLINE, lent[0], IMAGE, lent[1], POINTERS, lent[2], ADDRESSES, lent[3], COMPACT, lent[4], INFLIGHT, lent[5],
                            STATE, address, lent[6], B, count);
 }
 
@@ -60,9 +60,9 @@ static uint32_t pointer(int d, int z) {
     return (uint32_t)p[0] << 24 | (uint32_t)p[1] << 16 | (uint32_t)p[2] << 8 | p[3];
 }
 
-/* the header of document 01, byte by byte */
+/* the header of documents 01 and 02, byte by byte; its segment has zone z on every drive */
 static int header(int d, int z, int serial) {
-    uint8_t h[UNIT] = {0, 41, 1, N, (uint8_t)d, 0, B, 0, G, 0, 0, 0, S, 0, 0, 0, (uint8_t)z, 0, 0, 0, 0, 0, 0, 0, L, 0, 0, 0, 0, 0, 0, 0, (uint8_t)serial};
+    uint8_t y = (uint8_t)z, h[UNIT] = {0, 37 + 4 * N, 2, N, (uint8_t)d, 0, B, 0, G, 0, 0, 0, S, 0, 0, 0, y, 0, 0, 0, y, 0, 0, 0, y, 0, 0, 0, 0, 0, 0, 0, L, 0, 0, 0, 0, 0, 0, 0, (uint8_t)serial};
     return memcmp(lent[0] + (size_t)(d * Z + z) * CAP * UNIT, h, UNIT) == 0;
 }
 
@@ -90,11 +90,11 @@ static void refused(void) {
     keep();
     expect(is(put(L, 9), SORGIZHED_REFUSED, 4, 0, 0) && same(0, 6), "an address at L");
     expect(is(put(UINT64_MAX, 9), SORGIZHED_REFUSED, 4, 0, 0) && same(0, 6), "the greatest address");
-    static const size_t bad[][6] = {{2, 64, 4, 4, 2, 8}, {9, 64, 4, 4, 2, 8}, {3, 96, 4, 4, 2, 8}, {3, 8192, 4, 4, 2, 8}, {3, 64, 3, 4, 2, 8},
-        {3, 64, 1025, 4, 2, 8}, {3, 64, 4, 0, 2, 8}, {3, 64, 4, 65536, 2, 8}, {3, 64, 4, 4, 0, 8}, {3, 64, 4, 4, 257, 8}, {3, 64, 4, 4, 2, 0},
-        {3, 64, 4, 4, 2, 9}, {SIZE_MAX, SIZE_MAX, SIZE_MAX, SIZE_MAX, SIZE_MAX, SIZE_MAX}};
+    static const size_t bad[][6] = {{2, 128, 4, 4, 2, 8}, {9, 128, 4, 4, 2, 8}, {3, 64, 4, 4, 2, 8}, {3, 96, 4, 4, 2, 8}, {3, 8192, 4, 4, 2, 8}, {3, 128, 3, 4, 2, 8},
+        {3, 128, 1025, 4, 2, 8}, {3, 128, 4, 0, 2, 8}, {3, 128, 4, 65536, 2, 8}, {3, 128, 4, 4, 0, 8}, {3, 128, 4, 4, 257, 8}, {3, 128, 4, 4, 2, 0},
+        {3, 128, 4, 4, 2, 9}, {SIZE_MAX, SIZE_MAX, SIZE_MAX, SIZE_MAX, SIZE_MAX, SIZE_MAX}};
     for (size_t i = 0; i < sizeof bad / sizeof *bad; i++) {
-        sorgizhed_answer r = sorgizhed_write(bad[i][0], bad[i][1], bad[i][2], bad[i][3], bad[i][4], bad[i][5], lent[0], IMAGE, lent[1], POINTERS, lent[2],
+        sorgizhed_answer r = sorgizhed_write(bad[i][0], bad[i][1], bad[i][2], bad[i][3], bad[i][4], bad[i][5], offline, OFFLINE, lent[0], IMAGE, lent[1], POINTERS, lent[2],
                                              ADDRESSES, lent[3], COMPACT, lent[4], INFLIGHT, lent[5], STATE, 0, lent[6], B, 9);
         expect(is(r, SORGIZHED_REFUSED, 1, 0, 0) && same(0, 6), "a parameter outside its range");
     }
@@ -105,9 +105,17 @@ static void refused(void) {
             n[i] = less == 1 ? n[i] - 1 : 0;
             uint8_t *p[7];
             for (int k = 0; k < 7; k++) p[k] = n[k] == 0 ? NULL : lent[k];
-            sorgizhed_answer r = sorgizhed_write(N, B, Z, S, G, L, p[0], n[0], p[1], n[1], p[2], n[2], p[3], n[3], p[4], n[4], p[5], n[5], 0, p[6], n[6], 9);
+            sorgizhed_answer r = sorgizhed_write(N, B, Z, S, G, L, offline, OFFLINE, p[0], n[0], p[1], n[1], p[2], n[2], p[3], n[3], p[4], n[4], p[5], n[5], 0, p[6], n[6], 9);
             expect(is(r, SORGIZHED_REFUSED, 2, 0, 0) && same(0, 6), "a buffer one byte short, or none; the block one byte short");
         }
+    for (size_t n = 0; n < OFFLINE; n += OFFLINE - 1) {
+        sorgizhed_answer r = sorgizhed_write(N, B, Z, S, G, L, n == 0 ? NULL : offline, n, lent[0], IMAGE, lent[1], POINTERS, lent[2], ADDRESSES, lent[3], COMPACT, lent[4], INFLIGHT,
+                                             lent[5], STATE, 0, lent[6], B, 9);
+        expect(is(r, SORGIZHED_REFUSED, 2, 0, 0) && same(0, 6), "the list of offline zones one byte short, or none");
+    }
+    offline[7] = 200;
+    expect(is(put(L, 9), SORGIZHED_REFUSED, SORGIZHED_FEW_ZONES, 0, 0) && same(0, 6), "a drive with three good zones, before a bad address");
+    offline[7] = 0;
     lent[5][1] = 2;
     keep();
     expect(is(put(0, 9), SORGIZHED_REFUSED, 3, 0, 0) && same(0, 6), "a drive is missing");
@@ -141,6 +149,28 @@ static void cut(void) {
     expect(is(put(1, N), SORGIZHED_SENT, 1, 0, 0), "exactly the number due is no cut");
 }
 
+/* a larger box with dead zones: each drive's header lies in its own lowest good zone that is empty, and names all three */
+static void unlike(void) {
+    enum { ZONES = 6, LONG = N * ZONES * CAP * UNIT };
+    static uint8_t image[LONG], pointers[4 * N * ZONES], addresses[4 * L], compact[N * ZONES * S], list[N * ZONES], before[LONG];
+    fresh();
+    memset(addresses, 0xff, sizeof addresses), memset(image, 0x77, sizeof image);
+    list[0] = 1, list[ZONES + 1] = 255, list[2 * ZONES] = list[2 * ZONES + 2] = 7; /* zones 0; 1; 0 and 2 */
+    pointers[3] = 99, pointers[4 * (2 * ZONES + 3) + 3] = 1;                       /* of an offline zone; zone 3 of drive 2 is in use */
+    memcpy(before, image, sizeof image);
+    sorgizhed_answer r = sorgizhed_write(N, B, ZONES, S, G, L, list, sizeof list, image, sizeof image, pointers, sizeof pointers, addresses, sizeof addresses, compact, sizeof compact,
+                                         lent[4], INFLIGHT, lent[5], STATE, 5, lent[6], B, UINT64_MAX);
+    expect(is(r, SORGIZHED_SENT, 1, 0, 0), "a write on drives with dead zones");
+    static const uint8_t zone[N] = {1, 0, 1};
+    for (int d = 0; d < N; d++) {
+        size_t at = (size_t)(d * ZONES + zone[d]) * CAP * UNIT;
+        expect(image[at + 1] == 37 + 4 * N && image[at + 4] == d && image[at + 16] == 1 && image[at + 20] == 0 && image[at + 24] == 1, "its header names the zones of all drives");
+        expect(pointers[4 * (d * ZONES + zone[d]) + 3] == 1, "and its pointer is 1");
+        memset(image + at, 0x77, UNIT);
+    }
+    expect(memcmp(image, before, sizeof image) == 0, "nothing else is stored");
+}
+
 static void hostile(void) {
     unsigned long long x = 88172645463325252ULL;
     int ok = 1;
@@ -149,7 +179,7 @@ static void hostile(void) {
         for (int k = 0; k < 1 + round % 40; k++) {
             x ^= x << 13; x ^= x >> 7; x ^= x << 17;
             int i = (int)(x % 6);
-            size_t at = (size_t)(x >> 8) % (i == 5 && (x >> 60) < 12 ? 82 : lengths[i]);
+            size_t at = (size_t)(x >> 8) % (i == 5 && (x >> 60) < 12 ? 86 : lengths[i]);
             lent[i][at] = (uint8_t)(x >> 40);
         }
         keep();
@@ -163,6 +193,7 @@ static void hostile(void) {
 }
 
 int main(void) {
+    offline = fenced(OFFLINE);
     for (int i = 0; i < 7; i++) {
         lent[i] = fenced(lengths[i]);
         kept[i] = malloc(lengths[i]);
@@ -171,6 +202,7 @@ int main(void) {
     good();
     refused();
     cut();
+    unlike();
     hostile();
     printf("%d passed, %d failed\n", passed, failed);
     return failed != 0;

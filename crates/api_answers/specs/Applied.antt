@@ -45,13 +45,13 @@ module _ (bs : List ℕ) (c : Change) where
 
 -- a call of the host, from the change that the call on the decoded state makes
 pub hears-change : (p : Params) (l : Lent) (c : Call) (b : List ℕ) → length (l .state) ≡ stateLen
-    → (isRefused (callDisk p (lentDisk l) (lentMemory l) c .answer) ≡ true
-    → callDisk p (lentDisk l) (lentMemory l) c ≡ mkAfter (callDisk p (lentDisk l) (lentMemory l) c .answer) (lentDisk l) (lentMemory l) b)
+    → (isRefused (callDisk p (l .offline) (lentDisk l) (lentMemory l) c .answer) ≡ true
+    → callDisk p (l .offline) (lentDisk l) (lentMemory l) c ≡ mkAfter (callDisk p (l .offline) (lentDisk l) (lentMemory l) c .answer) (lentDisk l) (lentMemory l) b)
     → (d : Change) (im ps ad co fl st b′ : List ℕ) (t : Told)
-    → afterChange (stateOf (l .state)) d im ps ad co fl b′ ≡ callDisk p (lentDisk l) (lentMemory l) c → t ≡ toldOf (d .answer)
+    → afterChange (stateOf (l .state)) d im ps ad co fl b′ ≡ callDisk p (l .offline) (lentDisk l) (lentMemory l) c → t ≡ toldOf (d .answer)
     → st ≡ cond (isRefused (d .answer)) (l .state) (stateBytes (stateAfter (stateOf (l .state)) d))
-    → hears t (lending im ps ad co fl st) b′ ≡ heard (callBytes p l c)
+    → hears t (lending (l .offline) im ps ad co fl st) b′ ≡ heard (callBytes p l c)
 unfolding lentAll
 hears-change p l c b h keeps d im ps ad co fl st b′ t e f g =
-    ap (λ (x : Told). hears x (lending im ps ad co fl st) b′) f
+    ap (λ (x : Told). hears x (lending (l .offline) im ps ad co fl st) b′) f
     ∙ ap heard (bytes-left p l c h b keeps (afterChange (stateOf (l .state)) d im ps ad co fl b′) e st g)

@@ -19,21 +19,22 @@ use mathlib.Core.Path.{_≡_, refl, sym, ap, _∙_}
 
 module _ (p : Params) (l : Lent) (c : Call) (b : List ℕ) where
   -- the state's bytes have another length
-  pub hears-short : (length (l .state) ≡ stateLen → ⊥) → (good : Bool) → callOn p false (lentDisk l) (lentMemory l) c ≡ mkAfter (shortAnswer good) (lentDisk l) (lentMemory l) b
+  pub hears-short : (length (l .state) ≡ stateLen → ⊥) → (good : Bool)
+      → callOn p (l .offline) false (lentDisk l) (lentMemory l) c ≡ mkAfter (shortAnswer good) (lentDisk l) (lentMemory l) b
       → hears (toldOf (shortAnswer good)) l b ≡ heard (callBytes p l c)
   hears-short h good e = ap heard (bytes-short p l c h (shortAnswer good) b (short-refused good) e)
 
   -- a call that may change what it is lent
   pub hears-call : length (l .state) ≡ stateLen
-      → (isRefused (callDisk p (lentDisk l) (lentMemory l) c .answer) ≡ true
-      → callDisk p (lentDisk l) (lentMemory l) c ≡ mkAfter (callDisk p (lentDisk l) (lentMemory l) c .answer) (lentDisk l) (lentMemory l) b)
+      → (isRefused (callDisk p (l .offline) (lentDisk l) (lentMemory l) c .answer) ≡ true
+      → callDisk p (l .offline) (lentDisk l) (lentMemory l) c ≡ mkAfter (callDisk p (l .offline) (lentDisk l) (lentMemory l) c .answer) (lentDisk l) (lentMemory l) b)
       → (d : Done) (im ps ad co fl st b′ : List ℕ) (t : Told)
-      → after d im ps ad co fl b′ ≡ callDisk p (lentDisk l) (lentMemory l) c → t ≡ toldOf (d .answer)
+      → after d im ps ad co fl b′ ≡ callDisk p (l .offline) (lentDisk l) (lentMemory l) c → t ≡ toldOf (d .answer)
       → st ≡ cond (isRefused (d .answer)) (l .state) (stateBytes (d .state))
-      → hears t (lending im ps ad co fl st) b′ ≡ heard (callBytes p l c)
+      → hears t (lending (l .offline) im ps ad co fl st) b′ ≡ heard (callBytes p l c)
   unfolding lentAll
   hears-call h keeps d im ps ad co fl st b′ t e f g =
-      ap (λ (x : Told). hears x (lending im ps ad co fl st) b′) f
+      ap (λ (x : Told). hears x (lending (l .offline) im ps ad co fl st) b′) f
       ∙ ap heard (bytes-left p l c h b keeps (after d im ps ad co fl b′) e st g)
 
   same-state : (t : Bool) → stateBytes (stateOf (l .state)) ≡ l .state → l .state ≡ cond t (l .state) (stateBytes (stateOf (l .state)))
@@ -42,10 +43,10 @@ module _ (p : Params) (l : Lent) (c : Call) (b : List ℕ) where
 
   -- a call that changes neither drives nor memory
   pub hears-read : length (l .state) ≡ stateLen
-      → (isRefused (callDisk p (lentDisk l) (lentMemory l) c .answer) ≡ true
-      → callDisk p (lentDisk l) (lentMemory l) c ≡ mkAfter (callDisk p (lentDisk l) (lentMemory l) c .answer) (lentDisk l) (lentMemory l) b)
+      → (isRefused (callDisk p (l .offline) (lentDisk l) (lentMemory l) c .answer) ≡ true
+      → callDisk p (l .offline) (lentDisk l) (lentMemory l) c ≡ mkAfter (callDisk p (l .offline) (lentDisk l) (lentMemory l) c .answer) (lentDisk l) (lentMemory l) b)
       → stateBytes (stateOf (l .state)) ≡ l .state
-      → (a : Answer) (b′ : List ℕ) (t : Told) → mkAfter a (lentDisk l) (lentMemory l) b′ ≡ callDisk p (lentDisk l) (lentMemory l) c → t ≡ toldOf a
+      → (a : Answer) (b′ : List ℕ) (t : Told) → mkAfter a (lentDisk l) (lentMemory l) b′ ≡ callDisk p (l .offline) (lentDisk l) (lentMemory l) c → t ≡ toldOf a
       → hears t l b′ ≡ heard (callBytes p l c)
   unfolding lentAll lentDisk lentMemory
   hears-read h keeps s a b′ t e f =

@@ -9,10 +9,36 @@ ghost use Rattle.spec.specs.Host.{heard, hears, lending};
 ghost use Rattle.spec.specs.Engine.{callBytes};
 ghost use Rattle.spec.specs.Engine.Call.{write, land, close, reclaim, read, fill, restart, rebuild};
 ghost use Rattle.spec.specs.Memory.{stateLen};
-ghost use Rattle.spec.specs.Params.{mkParams, inRange, imageLen, pointersLen, addressesLen, compactLen, inflightLen};
+ghost use Rattle.spec.specs.Params.{mkParams, inRange, imageLen, pointersLen, offlineLen, addressesLen, compactLen, inflightLen};
 use spec::Address;
 use spec::Params;
 use spec::Told;
+
+// The length of the list of offline zones (02, item 4); 0 where a parameter is outside its range.
+#[no_mangle]
+pub extern "C" fn sorgizhed_offline_length(
+    n: usize,
+    b: usize,
+    z: usize,
+    s: usize,
+    g: usize,
+    l: usize,
+) -> usize
+    ensures { λ r. ⌜ r ≡ cond (inRange (mkParams n b z s g l)) (offlineLen (mkParams n b z s g l)) 0 ⌝ }
+{
+    let p = Params {
+        N: n,
+        B: b,
+        Z: z,
+        S: s,
+        G: g,
+        L: l,
+    };
+    if disk_shape::in_range(p) {
+        return disk_shape::offline_len(p);
+    }
+    0
+}
 
 // The length of the buffer of the drives; 0 where a parameter is outside its range.
 #[no_mangle]
@@ -161,6 +187,7 @@ pub extern "C" fn sorgizhed_write(
     s: usize,
     g: usize,
     l: usize,
+    offline: &[u8],
     image: &mut [u8],
     pointers: &mut [u8],
     addresses: &mut [u8],
@@ -172,9 +199,9 @@ pub extern "C" fn sorgizhed_write(
     count: u64,
 ) -> Told
     ensures { λ r. ⌜
-        hears r (lending (now (image .exit)) (now (pointers .exit)) (now (addresses .exit)) (now (compact .exit)) (now (inflight .exit))
+        hears r (lending (now (offline .entry)) (now (image .exit)) (now (pointers .exit)) (now (addresses .exit)) (now (compact .exit)) (now (inflight .exit))
         (now (state .exit))) (now (block .entry))
-        ≡ heard (callBytes (mkParams n b z s g l) (lending (now (image .entry)) (now (pointers .entry)) (now (addresses .entry))
+        ≡ heard (callBytes (mkParams n b z s g l) (lending (now (offline .entry)) (now (image .entry)) (now (pointers .entry)) (now (addresses .entry))
         (now (compact .entry)) (now (inflight .entry)) (now (state .entry))) (write address (now (block .entry)) count)) ⌝ }
 {
     let p = Params {
@@ -191,6 +218,7 @@ pub extern "C" fn sorgizhed_write(
     let before = mem_codec::decode(state);
     let change = call_empty::write(
         p,
+        offline,
         image,
         pointers,
         addresses,
@@ -214,6 +242,7 @@ pub extern "C" fn sorgizhed_read(
     s: usize,
     g: usize,
     l: usize,
+    offline: &[u8],
     image: &[u8],
     pointers: &[u8],
     addresses: &[u8],
@@ -223,9 +252,9 @@ pub extern "C" fn sorgizhed_read(
     address: u64,
 ) -> Told
     ensures { λ r. ⌜
-        hears r (lending (now (image .entry)) (now (pointers .entry)) (now (addresses .entry)) (now (compact .entry)) (now (inflight .entry))
+        hears r (lending (now (offline .entry)) (now (image .entry)) (now (pointers .entry)) (now (addresses .entry)) (now (compact .entry)) (now (inflight .entry))
         (now (state .entry))) []
-        ≡ heard (callBytes (mkParams n b z s g l) (lending (now (image .entry)) (now (pointers .entry)) (now (addresses .entry))
+        ≡ heard (callBytes (mkParams n b z s g l) (lending (now (offline .entry)) (now (image .entry)) (now (pointers .entry)) (now (addresses .entry))
         (now (compact .entry)) (now (inflight .entry)) (now (state .entry))) (read address)) ⌝ }
 {
     let p = Params {
@@ -241,6 +270,7 @@ pub extern "C" fn sorgizhed_read(
     }
     let answer = call_read::find(
         p,
+        offline,
         image,
         pointers,
         addresses,
@@ -261,6 +291,7 @@ pub extern "C" fn sorgizhed_fill(
     s: usize,
     g: usize,
     l: usize,
+    offline: &[u8],
     image: &[u8],
     pointers: &[u8],
     addresses: &[u8],
@@ -271,9 +302,9 @@ pub extern "C" fn sorgizhed_fill(
     block: &mut [u8],
 ) -> Told
     ensures { λ r. ⌜
-        hears r (lending (now (image .entry)) (now (pointers .entry)) (now (addresses .entry)) (now (compact .entry)) (now (inflight .entry))
+        hears r (lending (now (offline .entry)) (now (image .entry)) (now (pointers .entry)) (now (addresses .entry)) (now (compact .entry)) (now (inflight .entry))
         (now (state .entry))) (now (block .exit))
-        ≡ heard (callBytes (mkParams n b z s g l) (lending (now (image .entry)) (now (pointers .entry)) (now (addresses .entry))
+        ≡ heard (callBytes (mkParams n b z s g l) (lending (now (offline .entry)) (now (image .entry)) (now (pointers .entry)) (now (addresses .entry))
         (now (compact .entry)) (now (inflight .entry)) (now (state .entry))) (fill address (now (block .entry)))) ⌝ }
 {
     let p = Params {
@@ -289,6 +320,7 @@ pub extern "C" fn sorgizhed_fill(
     }
     let answer = call_read::fill(
         p,
+        offline,
         image,
         pointers,
         addresses,
@@ -310,6 +342,7 @@ pub extern "C" fn sorgizhed_close(
     s: usize,
     g: usize,
     l: usize,
+    offline: &[u8],
     image: &[u8],
     pointers: &[u8],
     addresses: &[u8],
@@ -319,9 +352,9 @@ pub extern "C" fn sorgizhed_close(
 ) -> Told
     ensures { λ r. ⌜
         ((count : ℕ)
-        → hears r (lending (now (image .entry)) (now (pointers .entry)) (now (addresses .entry)) (now (compact .entry)) (now (inflight .exit))
+        → hears r (lending (now (offline .entry)) (now (image .entry)) (now (pointers .entry)) (now (addresses .entry)) (now (compact .entry)) (now (inflight .exit))
         (now (state .exit))) [] ≡ heard (callBytes (mkParams n b z s g l)
-        (lending (now (image .entry)) (now (pointers .entry)) (now (addresses .entry)) (now (compact .entry)) (now (inflight .entry))
+        (lending (now (offline .entry)) (now (image .entry)) (now (pointers .entry)) (now (addresses .entry)) (now (compact .entry)) (now (inflight .entry))
         (now (state .entry))) (close count))) ⌝ }
 {
     let p = Params {
@@ -338,6 +371,7 @@ pub extern "C" fn sorgizhed_close(
     let before = mem_codec::decode(state);
     let change = call_close::close(
         p,
+        offline,
         image,
         pointers,
         addresses,
@@ -358,6 +392,7 @@ pub extern "C" fn sorgizhed_land(
     s: usize,
     g: usize,
     l: usize,
+    offline: &[u8],
     image: &mut [u8],
     pointers: &mut [u8],
     addresses: &mut [u8],
@@ -369,9 +404,9 @@ pub extern "C" fn sorgizhed_land(
     count: u64,
 ) -> Told
     ensures { λ r. ⌜
-        hears r (lending (now (image .exit)) (now (pointers .exit)) (now (addresses .exit)) (now (compact .exit)) (now (inflight .entry))
+        hears r (lending (now (offline .entry)) (now (image .exit)) (now (pointers .exit)) (now (addresses .exit)) (now (compact .exit)) (now (inflight .entry))
         (now (state .exit))) []
-        ≡ heard (callBytes (mkParams n b z s g l) (lending (now (image .entry)) (now (pointers .entry)) (now (addresses .entry))
+        ≡ heard (callBytes (mkParams n b z s g l) (lending (now (offline .entry)) (now (image .entry)) (now (pointers .entry)) (now (addresses .entry))
         (now (compact .entry)) (now (inflight .entry)) (now (state .entry))) (land drive stripe count)) ⌝ }
 {
     let p = Params {
@@ -388,6 +423,7 @@ pub extern "C" fn sorgizhed_land(
     let before = mem_codec::decode(state);
     let change = call_land::land(
         p,
+        offline,
         image,
         pointers,
         addresses,
@@ -411,6 +447,7 @@ pub extern "C" fn sorgizhed_reclaim(
     s: usize,
     g: usize,
     l: usize,
+    offline: &[u8],
     image: &mut [u8],
     pointers: &mut [u8],
     addresses: &mut [u8],
@@ -420,9 +457,9 @@ pub extern "C" fn sorgizhed_reclaim(
     count: u64,
 ) -> Told
     ensures { λ r. ⌜
-        hears r (lending (now (image .exit)) (now (pointers .exit)) (now (addresses .exit)) (now (compact .exit)) (now (inflight .exit))
+        hears r (lending (now (offline .entry)) (now (image .exit)) (now (pointers .exit)) (now (addresses .exit)) (now (compact .exit)) (now (inflight .exit))
         (now (state .exit))) []
-        ≡ heard (callBytes (mkParams n b z s g l) (lending (now (image .entry)) (now (pointers .entry)) (now (addresses .entry))
+        ≡ heard (callBytes (mkParams n b z s g l) (lending (now (offline .entry)) (now (image .entry)) (now (pointers .entry)) (now (addresses .entry))
         (now (compact .entry)) (now (inflight .entry)) (now (state .entry))) (reclaim count)) ⌝ }
 {
     let p = Params {
@@ -439,6 +476,7 @@ pub extern "C" fn sorgizhed_reclaim(
     let before = mem_codec::decode(state);
     let change = call_reclaim::reclaim(
         p,
+        offline,
         image,
         pointers,
         addresses,
@@ -460,6 +498,7 @@ pub extern "C" fn sorgizhed_restart(
     s: usize,
     g: usize,
     l: usize,
+    offline: &[u8],
     image: &mut [u8],
     pointers: &mut [u8],
     addresses: &mut [u8],
@@ -470,9 +509,9 @@ pub extern "C" fn sorgizhed_restart(
     count: u64,
 ) -> Told
     ensures { λ r. ⌜
-        hears r (lending (now (image .exit)) (now (pointers .exit)) (now (addresses .exit)) (now (compact .exit)) (now (inflight .entry))
+        hears r (lending (now (offline .entry)) (now (image .exit)) (now (pointers .exit)) (now (addresses .exit)) (now (compact .exit)) (now (inflight .entry))
         (now (state .exit))) []
-        ≡ heard (callBytes (mkParams n b z s g l) (lending (now (image .entry)) (now (pointers .entry)) (now (addresses .entry))
+        ≡ heard (callBytes (mkParams n b z s g l) (lending (now (offline .entry)) (now (image .entry)) (now (pointers .entry)) (now (addresses .entry))
         (now (compact .entry)) (now (inflight .entry)) (now (state .entry))) (restart missing count)) ⌝ }
 {
     let p = Params {
@@ -489,6 +528,7 @@ pub extern "C" fn sorgizhed_restart(
     let before = mem_state::zero_state();
     let done = call_restart::restart(
         p,
+        offline,
         image,
         pointers,
         addresses,
@@ -510,6 +550,7 @@ pub extern "C" fn sorgizhed_rebuild(
     s: usize,
     g: usize,
     l: usize,
+    offline: &[u8],
     image: &mut [u8],
     pointers: &mut [u8],
     addresses: &mut [u8],
@@ -520,9 +561,9 @@ pub extern "C" fn sorgizhed_rebuild(
     count: u64,
 ) -> Told
     ensures { λ r. ⌜
-        hears r (lending (now (image .exit)) (now (pointers .exit)) (now (addresses .exit)) (now (compact .exit)) (now (inflight .entry))
+        hears r (lending (now (offline .entry)) (now (image .exit)) (now (pointers .exit)) (now (addresses .exit)) (now (compact .exit)) (now (inflight .entry))
         (now (state .exit))) []
-        ≡ heard (callBytes (mkParams n b z s g l) (lending (now (image .entry)) (now (pointers .entry)) (now (addresses .entry))
+        ≡ heard (callBytes (mkParams n b z s g l) (lending (now (offline .entry)) (now (image .entry)) (now (pointers .entry)) (now (addresses .entry))
         (now (compact .entry)) (now (inflight .entry)) (now (state .entry))) (rebuild drive count)) ⌝ }
 {
     let p = Params {
@@ -539,6 +580,7 @@ pub extern "C" fn sorgizhed_rebuild(
     let before = mem_codec::decode(state);
     let done = call_rebuild::rebuild(
         p,
+        offline,
         image,
         pointers,
         addresses,

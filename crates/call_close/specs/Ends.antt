@@ -37,25 +37,25 @@ closed-state : (st : State) (i s : ℕ) (r : Row) → i < 8 → stateAfter st (c
 unfolding isRefused isCut kind putFront
 closed-state st i s r h = after-done st (closedAs (frontOf st) i s r) refl refl ∙ changed-row st (closedAs (frontOf st) i s r) h
 
-module _ (p : Params) (k : Disk) (m : Memory) where
+module _ (p : Params) (off : List ℕ) (k : Disk) (m : Memory) where
   -- 01, Store count: a refusal changes nothing
-  pub close-refused : (c : Change) → closeRefusal p k m ≡ some (c .answer) → (n : ℕ)
-      → afterChange (m .state) c (k .image) (k .pointers) (m .addresses) (m .compact) (m .inflight) [] ≡ callDisk p k m (close n)
+  pub close-refused : (c : Change) → closeRefusal p off k m ≡ some (c .answer) → (n : ℕ)
+      → afterChange (m .state) c (k .image) (k .pointers) (m .addresses) (m .compact) (m .inflight) [] ≡ callDisk p off k m (close n)
   unfolding callDisk callOn storeCount lentBlock verdict closeVerdict
   close-refused c e n =
-      ap (λ (x : State). mkAfter (c .answer) k (mkMemory x (m .addresses) (m .compact) (m .inflight)) []) (refused-state (closeChecks p (lentOk p k m) (seen p k) m) (m .state) c e)
-      ∙ sym (call-refused p (storeDisk p) n k m [] (closeRefusal p k m) (closePlan p m) (c .answer) e)
+      ap (λ (x : State). mkAfter (c .answer) k (mkMemory x (m .addresses) (m .compact) (m .inflight)) []) (refused-state (closeChecks p (lentOk p off k m) (seen p off k) m) (m .state) c e)
+      ∙ sym (call-refused p (storeDisk p) n k m [] (closeRefusal p off k m) (closePlan p m) (c .answer) e)
 
   -- 01, Closing: no store is due
-  plan-done : closeRefusal p k m ≡ none → (q : Placed) → q ≡ padded p (fillingSlot p (m .state)) (dataCount p - filledIn (m .state) (fillingSlot p (m .state))) (m .state) (m .inflight)
-      → (n : ℕ) → mkAfter (Closed (stripeIn (m .state) (fillingSlot p (m .state)))) k (mkMemory (q .state) (m .addresses) (m .compact) (q .inflight)) [] ≡ callDisk p k m (close n)
+  plan-done : closeRefusal p off k m ≡ none → (q : Placed) → q ≡ padded p (fillingSlot p (m .state)) (dataCount p - filledIn (m .state) (fillingSlot p (m .state))) (m .state) (m .inflight)
+      → (n : ℕ) → mkAfter (Closed (stripeIn (m .state) (fillingSlot p (m .state)))) k (mkMemory (q .state) (m .addresses) (m .compact) (q .inflight)) [] ≡ callDisk p off k m (close n)
   unfolding callDisk callOn storeCount lentBlock verdict closeVerdict closePlan
   plan-done e q f n =
       ap (λ (x : Placed). mkAfter (Closed (stripeIn (m .state) (fillingSlot p (m .state)))) k (mkMemory (x .state) (m .addresses) (m .compact) (x .inflight)) []) f
       ∙ ap (λ (x : Disk). mkAfter (closePlan p m .answer) x (closePlan p m .memory) []) (sym (stores-nil (storeDisk p) n k))
-      ∙ sym (call-done p (storeDisk p) n k m [] (closeRefusal p k m) (closePlan p m) e (omega arith))
+      ∙ sym (call-done p (storeDisk p) n k m [] (closeRefusal p off k m) (closePlan p m) e (omega arith))
 
-  module _ (none! : closeRefusal p k m ≡ none) (sized : RowsSized (m .state)) (h : fillingSlot p (m .state) < 8) (few : dataCount p ≤ 8)
+  module _ (none! : closeRefusal p off k m ≡ none) (sized : RowsSized (m .state)) (h : fillingSlot p (m .state) < 8) (few : dataCount p ≤ 8)
       (room : filledIn (m .state) (fillingSlot p (m .state)) ≤ dataCount p) where
     abbrev at : ℕ
     at = fillingSlot p (m .state)
@@ -77,7 +77,7 @@ module _ (p : Params) (k : Disk) (m : Memory) where
 
     pub close-done : (f : Front) → f ≡ frontOf (m .state) → (i : ℕ) → i ≡ at → (r : Row) → r ≡ slotRow (m .state) i → (last : Row) (fl : List ℕ)
         → last ≡ paddedRow p i (dataCount p - r .filled) r (m .inflight) .row → fl ≡ paddedRow p i (dataCount p - r .filled) r (m .inflight) .inflight
-        → (n : ℕ) → afterChange (m .state) (closedAs f i (r .number) last) (k .image) (k .pointers) (m .addresses) (m .compact) fl [] ≡ callDisk p k m (close n)
+        → (n : ℕ) → afterChange (m .state) (closedAs f i (r .number) last) (k .image) (k .pointers) (m .addresses) (m .compact) fl [] ≡ callDisk p off k m (close n)
     close-done f ef i ei r er last fl el eg n =
         let st = m .state in
         let e : r ≡ slotRow st at = er ∙ ap (slotRow st) ei in

@@ -3,6 +3,7 @@ use Rattle.call_close.specs.Order.{closeRefusal}
 use Rattle.law_calls.specs.Slots.{filling-lt, filling-is, filling-room}
 use mathlib.Core.Path.{_≡_, sym, ap, _∙_, subst}
 use mathlib.Core.Bool.{true}
+use mathlib.Core.List.{List}
 use Prim.Native.Nat.{ℕ, _≤_, _<_}
 use native.Mathlib.Omega.{arith}
 use lib.Dec.{ltb}
@@ -19,15 +20,15 @@ use Rattle.law_views.specs.Views.{seen}
 use Rattle.law_checks.specs.Passed.{close-passed}
 use Rattle.call_write.specs.Ready.{lent-long}
 
-pub record CloseReady (p : Params) (k : Disk) (m : Memory) : Type 0 where
+pub record CloseReady (p : Params) (off : List ℕ) (k : Disk) (m : Memory) : Type 0 where
   pub ranged : inRange p ≡ true
   pub inflight-long : length (m .inflight) ≡ inflightLen p
   pub filling : hasFilling p (m .state) ≡ true
 
-pub close-ready : (p : Params) (k : Disk) (m : Memory) → closeRefusal p k m ≡ none → CloseReady p k m
-close-ready p k m e =
-    let c = close-passed p (lentOk p k m) (seen p k) m e in
-    record { ranged = c .in-range; inflight-long = lent-long p k m (c .lent) .4; filling = c .filling }
+pub close-ready : (p : Params) (off : List ℕ) (k : Disk) (m : Memory) → closeRefusal p off k m ≡ none → CloseReady p off k m
+close-ready p off k m e =
+    let c = close-passed p (lentOk p off k m) (seen p off k) m e in
+    record { ranged = c .in-range; inflight-long = lent-long p off k m (c .lent) .4; filling = c .filling }
 
 -- 01, Write: the filling stripe's eighth, and that it has positions left
 module _ (p : Params) (st : State) (i : ℕ) (e : i ≡ fillingSlot p st) (h : hasFilling p st ≡ true) where

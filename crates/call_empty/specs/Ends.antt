@@ -28,19 +28,19 @@ use Rattle.mem_rows.specs.Rows.{stateAfter, afterChange, frontOf, keptAs, after
 use Rattle.mem_rows.specs.declared.Change.{Change}
 use Rattle.call_empty.specs.Order.{emptyRefusal}
 
-module _ (p : Params) (k : Disk) (m : Memory) (a n : ℕ) where
+module _ (p : Params) (off : List ℕ) (k : Disk) (m : Memory) (a n : ℕ) where
   -- 01, Store count: a refusal changes nothing
-  pub empty-refused : (c : Change) → emptyRefusal p k m a ≡ some (c .answer)
-      → afterChange (m .state) c (k .image) (k .pointers) (m .addresses) (m .compact) (m .inflight) [] ≡ callDisk p k m (write a [] n)
+  pub empty-refused : (c : Change) → emptyRefusal p off k m a ≡ some (c .answer)
+      → afterChange (m .state) c (k .image) (k .pointers) (m .addresses) (m .compact) (m .inflight) [] ≡ callDisk p off k m (write a [] n)
   unfolding callDisk callOn storeCount lentBlock verdict emptyVerdict
   empty-refused c e =
-      ap (λ (x : State). mkAfter (c .answer) k (mkMemory x (m .addresses) (m .compact) (m .inflight)) []) (refused-state (emptyChecks p (lentOk p k m) (seen p k) m a) (m .state) c e)
-      ∙ sym (call-refused p (storeDisk p) n k m [] (emptyRefusal p k m a) (emptyPlan p m) (c .answer) e)
+      ap (λ (x : State). mkAfter (c .answer) k (mkMemory x (m .addresses) (m .compact) (m .inflight)) []) (refused-state (emptyChecks p (lentOk p off k m) (seen p off k) m a) (m .state) c e)
+      ∙ sym (call-refused p (storeDisk p) n k m [] (emptyRefusal p off k m a) (emptyPlan p m) (c .answer) e)
 
   -- 02, item 1: where a stripe is filling it is the closing
-  pub empty-as-close : hasFilling p (m .state) ≡ true → a < p .L → callDisk p k m (close n) ≡ callDisk p k m (write a [] n)
+  pub empty-as-close : hasFilling p (m .state) ≡ true → a < p .L → callDisk p off k m (close n) ≡ callDisk p off k m (write a [] n)
   unfolding callDisk callOn storeCount lentBlock verdict
-  empty-as-close h l = sym (ap (outcome p (storeDisk p) n k m []) (empty-closes p (lentOk p k m) (seen p k) m a h (lt-leb (p .L) a l)))
+  empty-as-close h l = sym (ap (outcome p (storeDisk p) n k m []) (empty-closes p (lentOk p off k m) (seen p off k) m a h (lt-leb (p .L) a l)))
 
   -- the state stays
   nothing-state : stateAfter (m .state) (keptAs Nothing (frontOf (m .state))) ≡ m .state
@@ -48,21 +48,21 @@ module _ (p : Params) (k : Disk) (m : Memory) (a n : ℕ) where
   nothing-state = after-done (m .state) (keptAs Nothing (frontOf (m .state))) refl refl ∙ changed-none (m .state) Nothing
 
   -- 02, item 1: where none is, nothing is done
-  pub empty-nothing : emptyRefusal p k m a ≡ none → hasFilling p (m .state) ≡ false → (c : Change) → c ≡ keptAs Nothing (frontOf (m .state))
-      → afterChange (m .state) c (k .image) (k .pointers) (m .addresses) (m .compact) (m .inflight) [] ≡ callDisk p k m (write a [] n)
+  pub empty-nothing : emptyRefusal p off k m a ≡ none → hasFilling p (m .state) ≡ false → (c : Change) → c ≡ keptAs Nothing (frontOf (m .state))
+      → afterChange (m .state) c (k .image) (k .pointers) (m .addresses) (m .compact) (m .inflight) [] ≡ callDisk p off k m (write a [] n)
   empty-nothing e h c q =
       ap (λ (x : Change). afterChange (m .state) x (k .image) (k .pointers) (m .addresses) (m .compact) (m .inflight) []) q
-      ∙ ap (λ (x : State). mkAfter Nothing k (mkMemory x (m .addresses) (m .compact) (m .inflight)) []) nothing-state ∙ go (empty-leaves p k m a n)
+      ∙ ap (λ (x : State). mkAfter Nothing k (mkMemory x (m .addresses) (m .compact) (m .inflight)) []) nothing-state ∙ go (empty-leaves p off k m a n)
     where
-      go : EmptyLeaves p k m a n → mkAfter Nothing k m [] ≡ callDisk p k m (write a [] n)
+      go : EmptyLeaves p off k m a n → mkAfter Nothing k m [] ≡ callDisk p off k m (write a [] n)
       go (as-close t l f) = absurd (not-both (hasFilling p (m .state)) t h)
       go (as-refusal r t f) = absurd (let s : some r ≡ none = sym t ∙ e in let z : _≡_ {A = ℕ} 0 1 = cc in let y : ⊥ = omega arith in y)
       go (as-idle t l f) = sym f
 
   -- a block of length 0 has no bytes
   pub empty-block : (b : List ℕ) → length b ≡ 0 → (c : Change) (fl : List ℕ)
-      → afterChange (m .state) c (k .image) (k .pointers) (m .addresses) (m .compact) fl [] ≡ callDisk p k m (write a [] n)
-      → afterChange (m .state) c (k .image) (k .pointers) (m .addresses) (m .compact) fl b ≡ callDisk p k m (write a b n)
+      → afterChange (m .state) c (k .image) (k .pointers) (m .addresses) (m .compact) fl [] ≡ callDisk p off k m (write a [] n)
+      → afterChange (m .state) c (k .image) (k .pointers) (m .addresses) (m .compact) fl b ≡ callDisk p off k m (write a b n)
   empty-block [] e c fl q = q
   empty-block (x ∷ b) e c fl q = absurd (let z : ⊥ = omega arith in z)
 

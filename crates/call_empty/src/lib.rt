@@ -36,6 +36,7 @@ fn later_checks(missing: u8, bound: u64, address: u64) -> Check
 // 02, item 1: the checks that come before the filling stripe is looked for, in order.
 fn checks(
     p: Params,
+    offline: &[u8],
     image: &[u8],
     pointers: &[u8],
     addresses: &[u8],
@@ -46,14 +47,18 @@ fn checks(
 ) -> Check
     ensures { λ r. ⌜
         ((st : StateOf) → st .missing ≡ missing
-        → checked r ≡ emptyFirst p (mkDisk (now (image .entry)) (now (pointers .entry)))
+        → checked r ≡ emptyFirst p (now (offline .entry)) (mkDisk (now (image .entry)) (now (pointers .entry)))
         (mkMemory st (now (addresses .entry)) (now (compact .entry)) (now (inflight .entry))) (address .0) 0) ⌝ }
 {
     if !disk_shape::in_range(p) {
         return Check::Fail(Answer::Refused(1));
     }
-    if !mem_calls::lent_ok(p, image, pointers, addresses, compact, inflight) {
+    if !mem_calls::lent_ok(p, offline, image, pointers, addresses, compact, inflight) {
         return Check::Fail(Answer::Refused(2));
+    }
+    let rule = mem_calls::list_rule(p, offline);
+    if rule != 0 {
+        return Check::Fail(Answer::Refused(rule));
     }
     later_checks(missing, p.L as u64, address.0)
 }
@@ -69,6 +74,7 @@ fn nothing(f: Front) -> Change
 // value, with the bytes that say it.
 pub fn end(
     p: Params,
+    offline: &[u8],
     image: &[u8],
     pointers: &[u8],
     addresses: &[u8],
@@ -82,12 +88,13 @@ pub fn end(
     ensures { λ r. ⌜
         ((n : ℕ)
         → afterChange state r (now (image .entry)) (now (pointers .entry)) (now (addresses .entry)) (now (compact .entry)) (now (inflight .exit))
-        [] ≡ callDisk p (mkDisk (now (image .entry)) (now (pointers .entry)))
+        [] ≡ callDisk p (now (offline .entry)) (mkDisk (now (image .entry)) (now (pointers .entry)))
         (mkMemory state (now (addresses .entry)) (now (compact .entry)) (now (inflight .entry))) (write (address .0) [] n)) ⌝ }
 {
     let f = mem_rows::front_of(state);
     let c = checks(
         p,
+        offline,
         image,
         pointers,
         addresses,
@@ -102,6 +109,7 @@ pub fn end(
     if call_filling::filling_slot(p, f) < 8 {
         return call_close::close(
             p,
+            offline,
             image,
             pointers,
             addresses,
@@ -120,6 +128,7 @@ pub fn end(
 // A write of any bytes: refused, cut or done, it leaves what the definition says. The state goes by value, with the bytes that say it.
 pub fn write(
     p: Params,
+    offline: &[u8],
     image: &mut [u8],
     pointers: &mut [u8],
     addresses: &mut [u8],
@@ -135,12 +144,13 @@ pub fn write(
     ensures { λ r. ⌜
         afterChange state r (now (image .exit)) (now (pointers .exit)) (now (addresses .exit)) (now (compact .exit)) (now (inflight .exit))
         (now (block .entry))
-        ≡ callDisk p (mkDisk (now (image .entry)) (now (pointers .entry)))
+        ≡ callDisk p (now (offline .entry)) (mkDisk (now (image .entry)) (now (pointers .entry)))
         (mkMemory state (now (addresses .entry)) (now (compact .entry)) (now (inflight .entry))) (write (address .0) (now (block .entry)) count) ⌝ }
 {
     if block.len() == 0 {
         return end(
             p,
+            offline,
             image,
             pointers,
             addresses,
@@ -153,6 +163,7 @@ pub fn write(
     }
     call_write::write(
         p,
+        offline,
         image,
         pointers,
         addresses,

@@ -2,9 +2,9 @@
 -- from one entry to a block sent, by cases on a filling stripe and on a segment opened. Assumes nothing.
 use Prim.Native.Nat.{ℕ, suc, _*_, _<_}
 use Rattle.spec.specs.Bytes.{part, splice}
-use Rattle.spec.specs.Drives.{View, emptySegs, headerStores, noSeg}
+use Rattle.spec.specs.Drives.{View, headerStores, newSeg}
 use Rattle.spec.specs.Layout.{dataDrive}
-use Rattle.spec.specs.Lists.{only, firstOr}
+use Rattle.spec.specs.Lists.{only}
 use Rattle.spec.specs.Memory.{mkState, cell, stripeIn, filledIn, landedIn, isFull, hasFilling, fillingSlot, freeSlot, setOpen, beginStripe, addEntry, setSlotBlock, setSlotParity}
 use Rattle.spec.specs.Params.{dataCount}
 use Rattle.spec.specs.Write.{mustOpen, opens, placed, openedBy, slotFor, begunBy, sending}
@@ -152,23 +152,23 @@ module _ (st : State) (i : ℕ) (h : i < 8) (sized : RowsSized st) where
 
 -- ---- a block sent, on the state
 
-module _ (p : Params) (v : View) (st : State) where
+module _ (p : Params) (st : State) where
   -- the state with the segment open
   abbrev st₁ : State
-  st₁ = openedBy p v st
+  st₁ = openedBy p st
 
   opened-as : st₁ ≡ frontAs st (st₁ .serial .0) (st₁ .opened) (st₁ .next)
   unfolding openedBy setOpen
   opened-as = go (opens p st)
     where
-      go : (b : Bool) → let x = cond b (setOpen st (firstOr noSeg (emptySegs p v)) (suc (st .serial .0))) st in x ≡ frontAs st (x .serial .0) (x .opened) (x .next)
+      go : (b : Bool) → let x = cond b (setOpen st (suc (st .serial .0))) st in x ≡ frontAs st (x .serial .0) (x .opened) (x .next)
       go true = refl
       go false = refl
 
   -- none is opened while a stripe is filling
   opened-same : hasFilling p st ≡ true → st₁ ≡ st
   unfolding openedBy opens
-  opened-same e = ap (λ (x : Bool). cond (not x && mustOpen p st) (setOpen st (firstOr noSeg (emptySegs p v)) (suc (st .serial .0))) st) e
+  opened-same e = ap (λ (x : Bool). cond (not x && mustOpen p st) (setOpen st (suc (st .serial .0))) st) e
 
   -- the eighth that takes a block has room in it
   pub slot-fills : not (hasFilling p st) ≡ false → slotFor p st < 8 → filledIn st (slotFor p st) < dataCount p
@@ -238,18 +238,18 @@ module _ (p : Params) (v : View) (st : State) where
             ap (λ (x : Bool). cond x st (beginStripe st₁ (freeSlot st))) e ∙ ap₂ beginStripe opened-as (free-slot-for e)
             ∙ begun-again (st₁ .serial .0) (st₁ .opened) (st₁ .next) ∙ ap of (sym e)
 
-    module _ (fl : List ℕ) (a t w : ℕ) (b : List ℕ) (room : startRow .filled < 8) where
+    module _ (v : View) (fl : List ℕ) (a t w : ℕ) (b : List ℕ) (room : startRow .filled < 8) where
       abbrev pub sentOf : SentRow
       sentOf = sentRow p (slotRow st (slotFor p st)) fl (slotFor p st) (not (hasFilling p st)) (st₁ .next) a t w b
 
       -- 01, Write: what a block sent leaves
-      pub sending-row : mkSending (cond (opens p st) (headerStores p (firstOr noSeg (emptySegs p v)) (suc (st .serial .0)) 0) [])
+      pub sending-row : mkSending (cond (opens p st) (headerStores p (newSeg p v) (suc (st .serial .0)) 0) [])
           (putRow (frontAs st (st₁ .serial .0) (st₁ .opened) (sentOf .next)) (slotFor p st) (sentOf .row)) (sentOf .inflight) (sentOf .row .number) (sentOf .drive)
           ≡ sending p v st fl a t w b
       unfolding sending sentRow placedRow addedRow
       sending-row =
           let i = slotFor p st in
-          let hs = cond (opens p st) (headerStores p (firstOr noSeg (emptySegs p v)) (suc (st .serial .0)) 0) [] in
+          let hs = cond (opens p st) (headerStores p (newSeg p v) (suc (st .serial .0)) 0) [] in
           let x = putRow based i startRow in
           let z : RowsSized based = as-sized st (st₁ .serial .0) (st₁ .opened) nextAfter sized in
           let zx : RowsSized x = put-sized based i h z startRow start-sized in

@@ -10,8 +10,8 @@ ghost use lib.ListN.{length, replicate};
 ghost use Rattle.spec.specs.declared.Answer.the-variants.{Cut};
 ghost use Rattle.spec.specs.Lists.{any, only};
 ghost use Rattle.spec.specs.Counts.{lastCount};
-ghost use Rattle.spec.specs.Drives.{viewOf, mkDisk, emptySegs};
-ghost use Rattle.spec.specs.Params.{inRange, dataCount, imageLen, pointersLen, inflightLen};
+ghost use Rattle.spec.specs.Drives.{viewOf, mkDisk, emptyCount};
+ghost use Rattle.spec.specs.Params.{inRange, dataCount, imageLen, pointersLen, offlineLen, inflightLen};
 ghost use Rattle.spec.specs.Memory.{isFree, isFilling, inFlight, freeSlot, fillingSlot};
 ghost use Rattle.spec.specs.Write.{mustOpen, opens, noStamp, otherGroup, mustWait, scarce};
 ghost use Rattle.call_filling.specs.Aims.{aimOf};
@@ -222,13 +222,13 @@ pub fn must_wait(p: Params, f: Front, a: Aim) -> bool
     any_elsewhere(p, f)
 }
 
-// 01, Refusals, 8: n zones empty on all drives, or fewer.
-pub fn scarce(p: Params, pointers: &[u8], n: usize) -> bool
+// 01, Refusals, 8; 02, item 4: n zones empty, or fewer.
+pub fn scarce(p: Params, pointers: &[u8], offline: &[u8], n: usize) -> bool
     requires { ⌜ inRange p ≡ true ⌝ }
-    requires { ⌜ (length (now pointers) ≡ pointersLen p) × (n < 8) ⌝ }
-    ensures { λ r. ⌜ ((im : List ℕ) → length im ≡ imageLen p → r ≡ scarce p (viewOf p im (now (pointers .entry))) n) ⌝ }
+    requires { ⌜ (length (now pointers) ≡ pointersLen p) × (length (now offline) ≡ offlineLen p) × (n < 8) ⌝ }
+    ensures { λ r. ⌜ ((im : List ℕ) → length im ≡ imageLen p → r ≡ scarce p (viewOf p (now (offline .entry)) im (now (pointers .entry))) n) ⌝ }
 {
-    let k = disk_zones::empty_zones(p, pointers, n + 1);
+    let k = disk_zones::empty_zones(p, pointers, offline, n + 1);
     k <= n
 }
 
@@ -238,25 +238,27 @@ pub fn scarce(p: Params, pointers: &[u8], n: usize) -> bool
 pub struct Opened {
     pub cut: bool,
     pub serial: Serial,
-    pub opened: u32,
+    pub opened: u64,
     pub next: u32,
 }
 
-// 01, Write: where no segment is open, headers in the lowest zone empty on all drives, under the next serial and the store count.
+// 01, Write; 02, item 4: where no segment is open, headers in each drive's lowest empty good zone, under the next serial and the store count.
 pub fn open(
     p: Params,
     image: &mut [u8],
     pointers: &mut [u8],
+    offline: &[u8],
     f: Front,
     a: Aim,
     count: u64,
 ) -> Opened
     requires { ⌜ inRange p ≡ true ⌝ }
-    requires { ⌜ Whole p (mkDisk (now image) (now pointers)) ⌝ }
+    requires { ⌜ Whole p (mkDisk (now image) (now pointers)) × (length (now offline) ≡ offlineLen p) ⌝ }
     requires { ⌜ a .opens ≡ opens p (behind f) ⌝ }
     requires { ⌜ (a .opens ≡ true → f .serial .0 < lastCount) ⌝ }
-    requires { ⌜ (a .opens ≡ true → 0 < length (emptySegs p (viewOf p (now image) (now pointers)))) ⌝ }
-    ensures { λ r. ⌜ OpeningStores p (behind f) count (mkDisk (now (image .entry)) (now (pointers .entry))) r (mkDisk (now (image .exit)) (now (pointers .exit))) ⌝ }
+    requires { ⌜ (a .opens ≡ true → 0 < emptyCount p (viewOf p (now offline) (now image) (now pointers))) ⌝ }
+    ensures { λ r. ⌜ OpeningStores p (now (offline .entry)) (behind f) count (mkDisk (now (image .entry)) (now (pointers .entry))) r
+        (mkDisk (now (image .exit)) (now (pointers .exit))) ⌝ }
 {
     let old = f.serial;
     if !a.opens {
@@ -267,14 +269,13 @@ pub fn open(
             next: f.next,
         };
     }
-    let g = disk_zones::lowest_empty(p, pointers);
+    let g = disk_zones::new_segment(p, pointers, offline);
     let serial = Serial(old.0 + 1);
     let made = disk_zones::header_stores(p, image, pointers, g, serial, Serial(0), count);
-    let zone = disk_shape::zone_on(p, g, 0);
     Opened {
         cut: made.cut,
         serial,
-        opened: (zone + 1) as u32,
+        opened: serial.0,
         next: 0,
     }
 }

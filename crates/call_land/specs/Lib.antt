@@ -1,4 +1,5 @@
 pub mod Ends
+pub mod Kept
 pub mod Marked
 pub mod Order
 pub mod Plan

@@ -1,23 +1,29 @@
 // The landing call (01, Landing).
 ghost use mathlib.Core.Path.{_≡_};
 ghost use mathlib.Core.Bool.{true};
-ghost use mathlib.Core.List.{[]};
+ghost use mathlib.Core.List.{List, [], _∷_};
 ghost use Prim.Native.Nat.{ℕ, _+_, _-_, _≤_, _<_};
+ghost use lib.Dec.{eqb};
 ghost use lib.ListN.{length, set, replicate};
 ghost use Rattle.mem_calls.specs.Left.{checked};
+ghost use Rattle.spec.specs.Calls.{firstRefusal};
+ghost use Rattle.spec.specs.Calls.Check.{zones};
 ghost use Rattle.spec.specs.declared.Answer.the-variants.{Cut};
 ghost use Rattle.spec.specs.declared.State.{State as StateOf};
-ghost use Rattle.spec.specs.Drives.{mkDisk, pointerOf, storeDisk, zoneOn};
+ghost use Rattle.spec.specs.Drives.{viewOf, mkDisk, pointerOf, storeDisk, zoneOn};
 ghost use Rattle.spec.specs.Drives.Store.{put};
 ghost use Rattle.spec.specs.Engine.{callDisk};
 ghost use Rattle.spec.specs.Engine.Call.{land};
-ghost use Rattle.spec.specs.Landing.{flightRec};
+ghost use Rattle.spec.specs.Landing.{flightRec, landFaults};
 ghost use Rattle.spec.specs.Layout.{compactEntry, recordBytes};
-ghost use Rattle.spec.specs.Memory.{mkMemory, stateLen, stateOf, filledIn, offsetIn, compactAt, slotBlock};
-ghost use Rattle.spec.specs.Params.{inRange, dataCount, footers, capacity, addressesLen, compactLen, inflightLen};
+ghost use Rattle.spec.specs.Lists.Opt.{none, some};
+ghost use Rattle.spec.specs.Memory.{Memory, mkMemory, stateLen, stateOf, filledIn, offsetIn, compactAt, slotBlock};
+ghost use Rattle.spec.specs.Params.{inRange, dataCount, footers, capacity, offlineLen, addressesLen, compactLen, inflightLen};
+ghost use Rattle.spec.specs.Lists.{isNil};
+ghost use Rattle.spec.specs.Segments.{openSegments};
 ghost use Rattle.call_land.specs.Ends.{Chosen};
 ghost use Rattle.call_land.specs.Marked.{changeTo};
-ghost use Rattle.call_land.specs.Plan.{Looks, sealsOf, Completing};
+ghost use Rattle.call_land.specs.Plan.{Looks, LookedAt, TargetAt, sealsOf, Completing};
 ghost use Rattle.call_land.specs.Ready.{landRefusal};
 ghost use Rattle.call_land_table.specs.Winners.{EntriesSane};
 ghost use Rattle.mem_rows.specs.Rows.{afterChange};
@@ -33,6 +39,7 @@ use mem_rows::Row;
 use spec::Answer;
 use spec::Params;
 use spec::Seg;
+use spec::Serial;
 use spec::State;
 
 // What a landing asks of the state, once: the stripe's eighth (8: not in flight) and its row, whether the chunk completes the stripe, and whether it seals
@@ -42,6 +49,19 @@ pub struct Look {
     pub done: bool,
     pub seals: bool,
     pub row: Row,
+}
+
+// 02, item 4: the open segment: its zone on the landing's drive, Z where no remaining segment has the open serial; and, where the stripe completes, all of
+// its zones.
+pub struct Target {
+    pub zone: usize,
+    pub segment: Seg,
+}
+
+// What the checks of a landing come to: the first refusal, if there is one; else the open segment.
+pub struct Sight {
+    pub check: Check,
+    pub target: Target,
 }
 
 // An eighth as it is, 0 for none.
@@ -72,9 +92,138 @@ fn look_at(p: Params, state: State, bytes: &[u8], drive: usize, stripe: usize) -
     }
 }
 
-// 01, Refusals: the checks of a landing, in order. The ranges of the state are looked at in its bytes, before its open segment is used.
+// 02, item 4: looks up the open segment by its serial with its zones on all drives; the headers of each drive are looked at once.
+fn open_whole(
+    p: Params,
+    image: &[u8],
+    pointers: &[u8],
+    offline: &[u8],
+    drive: usize,
+    opened: u64,
+) -> Target
+    requires { ⌜ inRange p ≡ true ⌝ }
+    requires { ⌜ Whole p (mkDisk (now image) (now pointers)) × (length (now offline) ≡ offlineLen p) × (drive < p .N) ⌝ }
+    ensures { λ r. ⌜
+        ((st : StateOf)
+        → st .opened ≡ opened
+        → isNil (openSegments p (viewOf p (now (offline .entry)) (now (image .entry)) (now (pointers .entry))) st) ≡ eqb (r .zone) (p .Z)) ⌝ }
+    ensures { λ r. ⌜
+        ((st : StateOf)
+        → st .opened ≡ opened
+        → (r .zone ≡ p .Z → ⊥)
+        → TargetAt p (viewOf p (now (offline .entry)) (now (image .entry)) (now (pointers .entry))) st drive true r) ⌝ }
+    ensures { λ r. ⌜ r .zone ≤ p .Z ⌝ }
+{
+    let first = disk_holders::open_zone(p, image, pointers, offline, 0, Serial(opened));
+    if first == p.Z {
+        return Target {
+            zone: first,
+            segment: Seg { zones: [0u32; 8] },
+        };
+    }
+    let segment = disk_holders::open_segment(p, image, pointers, offline, first, Serial(opened));
+    let zone = disk_shape::zone_on(p, segment, drive);
+    Target { zone, segment }
+}
+
+// 02, item 4: looks up the open segment by its serial. Its zones on the other drives are looked for only where the stripe completes.
+fn open_at(
+    p: Params,
+    image: &[u8],
+    pointers: &[u8],
+    offline: &[u8],
+    drive: usize,
+    opened: u64,
+    done: bool,
+) -> Target
+    requires { ⌜ inRange p ≡ true ⌝ }
+    requires { ⌜ Whole p (mkDisk (now image) (now pointers)) × (length (now offline) ≡ offlineLen p) × (drive < p .N) ⌝ }
+    ensures { λ r. ⌜
+        ((st : StateOf)
+        → st .opened ≡ opened
+        → isNil (openSegments p (viewOf p (now (offline .entry)) (now (image .entry)) (now (pointers .entry))) st) ≡ eqb (r .zone) (p .Z)) ⌝ }
+    ensures { λ r. ⌜
+        ((st : StateOf)
+        → st .opened ≡ opened
+        → (r .zone ≡ p .Z → ⊥)
+        → TargetAt p (viewOf p (now (offline .entry)) (now (image .entry)) (now (pointers .entry))) st drive done r) ⌝ }
+    ensures { λ r. ⌜ r .zone ≤ p .Z ⌝ }
+{
+    if done {
+        return open_whole(p, image, pointers, offline, drive, opened);
+    }
+    let zone = disk_holders::open_zone(p, image, pointers, offline, drive, Serial(opened));
+    Target {
+        zone,
+        segment: Seg { zones: [0u32; 8] },
+    }
+}
+
+// A refusal.
+fn refused(answer: Answer) -> Sight
+    ensures { λ r. ⌜ checked (r .check) ≡ some answer ⌝ }
+{
+    let segment = Seg { zones: [0u32; 8] };
+    let target = Target { zone: 0, segment };
+    Sight {
+        check: Check::Fail(answer),
+        target,
+    }
+}
+
+// 01, Refusals, 9, behind the ranges of the state; 02, item 4: outside them too where no remaining segment has its open serial.
+fn zone_checks(
+    p: Params,
+    image: &[u8],
+    pointers: &[u8],
+    offline: &[u8],
+    addresses: &[u8],
+    opened: u64,
+    seen: Look,
+    drive: usize,
+    stripe: usize,
+) -> Sight
+    requires { ⌜ inRange p ≡ true ⌝ }
+    requires { ⌜ Whole p (mkDisk (now image) (now pointers)) × (length (now offline) ≡ offlineLen p) × (length (now addresses) ≡ addressesLen p) ⌝ }
+    requires { ⌜ (drive < p .N) × ((m : Memory) × LookedAt p m (now addresses) opened drive stripe seen) ⌝ }
+    ensures { λ r. ⌜
+        ((m : Memory)
+        → LookedAt p m (now (addresses .entry)) opened drive stripe seen
+        → checked (r .check) ≡ firstRefusal (zones (landFaults p (viewOf p (now (offline .entry)) (now (image .entry)) (now (pointers .entry))) m drive stripe) ∷ [])) ⌝ }
+    ensures { λ r. ⌜
+        ((m : Memory)
+        → LookedAt p m (now (addresses .entry)) opened drive stripe seen
+        → checked (r .check) ≡ none
+        → TargetAt p (viewOf p (now (offline .entry)) (now (image .entry)) (now (pointers .entry))) (m .state) drive (seen .done) (r .target)) ⌝ }
+{
+    let target = open_at(p, image, pointers, offline, drive, opened, seen.done);
+    if target.zone == p.Z {
+        return refused(Answer::BadZone(0));
+    }
+    let row = seen.row;
+    let segment = target.segment;
+    let z = call_land_faults::land_fault(
+        p,
+        image,
+        pointers,
+        offline,
+        addresses,
+        row,
+        drive,
+        target.zone,
+        segment,
+        stripe,
+        seen.done,
+        seen.seals,
+    );
+    let check = mem_lookup::zone_check(p, z);
+    Sight { check, target }
+}
+
+// 01, Refusals: the checks of a landing, in order. The ranges of the state are looked at in its bytes, before its open segment is looked up.
 fn checks(
     p: Params,
+    offline: &[u8],
     image: &[u8],
     pointers: &[u8],
     addresses: &[u8],
@@ -82,47 +231,52 @@ fn checks(
     inflight: &[u8],
     bytes: &[u8],
     missing: u8,
-    opened: u32,
+    opened: u64,
     seen: Look,
     drive: usize,
     stripe: usize,
-) -> Check
+) -> Sight
     requires { ⌜ Looks p (stateOf (now bytes)) drive stripe seen ⌝ }
     requires { ⌜ (missing ≡ stateOf (now bytes) .missing) × (length (now bytes) ≡ stateLen) × (opened ≡ stateOf (now bytes) .opened) ⌝ }
     ensures { λ r. ⌜
-        checked r
-        ≡ landRefusal p (mkDisk (now (image .entry)) (now (pointers .entry)))
+        checked (r .check)
+        ≡ landRefusal p (now (offline .entry)) (mkDisk (now (image .entry)) (now (pointers .entry)))
         (mkMemory (stateOf (now (bytes .entry))) (now (addresses .entry)) (now (compact .entry)) (now (inflight .entry))) drive stripe ⌝ }
+    ensures { λ r. ⌜
+        (checked (r .check) ≡ none
+        → TargetAt p (viewOf p (now (offline .entry)) (now (image .entry)) (now (pointers .entry))) (stateOf (now (bytes .entry))) drive (seen .done) (r .target)) ⌝ }
 {
     if !disk_shape::in_range(p) {
-        return Check::Fail(Answer::Refused(1));
+        return refused(Answer::Refused(1));
     }
-    if !mem_calls::lent_ok(p, image, pointers, addresses, compact, inflight) {
-        return Check::Fail(Answer::Refused(2));
+    if !mem_calls::lent_ok(p, offline, image, pointers, addresses, compact, inflight) {
+        return refused(Answer::Refused(2));
+    }
+    let rule = mem_calls::list_rule(p, offline);
+    if rule != 0 {
+        return refused(Answer::Refused(rule));
     }
     if missing != 0 {
-        return Check::Fail(Answer::Refused(3));
+        return refused(Answer::Refused(3));
     }
     let row = seen.row;
     if !call_land_chunk::waiting(p, seen.slot, row, drive) {
-        return Check::Fail(Answer::Refused(5));
+        return refused(Answer::Refused(5));
     }
     if !mem_bounds::state_ok(p, bytes) {
-        return Check::Fail(Answer::BadZone(0));
+        return refused(Answer::BadZone(0));
     }
-    let segment = mem_state::open_segment(p, opened);
-    let z = call_land_faults::land_fault(
+    zone_checks(
         p,
+        image,
         pointers,
+        offline,
         addresses,
-        row,
+        opened,
+        seen,
         drive,
-        segment,
         stripe,
-        seen.done,
-        seen.seals,
-    );
-    mem_lookup::zone_check(p, z)
+    )
 }
 
 // 01, Landing: the chunk of a drive goes to the zone's write pointer, its record in its spare.
@@ -179,28 +333,26 @@ fn store_chunk(
     inflight: &[u8],
     row: Row,
     i: usize,
-    segment: Seg,
+    zone: usize,
     drive: usize,
     stripe: usize,
 ) -> Row
     requires { ⌜ inRange p ≡ true ⌝ }
     requires { ⌜ Whole p (mkDisk (now image) (now pointers)) ⌝ }
     requires { ⌜ (length (now compact) ≡ compactLen p) × (length (now inflight) ≡ inflightLen p) × (i < 8) × (filledIn (alone row) 0 ≤ 8) ⌝ }
-    requires { ⌜ (drive < p .N) × ZonesLow p 0 segment × (1 ≤ pointerOf p (now pointers) drive (zoneOn segment drive))
-        × (pointerOf p (now pointers) drive (zoneOn segment drive) ≤ p .S) ⌝ }
+    requires { ⌜ (drive < p .N) × (zone < p .Z) × (1 ≤ pointerOf p (now pointers) drive zone) × (pointerOf p (now pointers) drive zone ≤ p .S) ⌝ }
     ensures { λ _. ⌜
         mkDisk (now (image .exit)) (now (pointers .exit))
         ≡ storeDisk p
-        (put drive (zoneOn segment drive) (slotBlock p (now (inflight .entry)) i drive) (recordBytes (flightRec p (alone row) 0 drive)))
+        (put drive zone (slotBlock p (now (inflight .entry)) i drive) (recordBytes (flightRec p (alone row) 0 drive)))
         (mkDisk (now (image .entry)) (now (pointers .entry))) ⌝ }
     ensures { λ r. ⌜
         (now (compact .exit)
         ≡ set (now (compact .entry))
-        (compactAt p drive (zoneOn segment drive) (pointerOf p (now (pointers .entry)) drive (zoneOn segment drive) - 1))
+        (compactAt p drive zone (pointerOf p (now (pointers .entry)) drive zone - 1))
         (compactEntry p stripe))
-        × (r ≡ markRow row drive (pointerOf p (now (pointers .entry)) drive (zoneOn segment drive) - 1)) ⌝ }
+        × (r ≡ markRow row drive (pointerOf p (now (pointers .entry)) drive zone - 1)) ⌝ }
 {
-    let zone = disk_shape::zone_on(p, segment, drive);
     let offset = disk_zones::pointer(p, pointers, drive, zone) as usize - 1;
     put_chunk(p, image, pointers, inflight, row, i, drive, zone);
     show_chunk(p, compact, drive, zone, offset, stripe);
@@ -220,8 +372,9 @@ fn seal(
     requires { ⌜ Whole p (mkDisk (now image) (now pointers)) ⌝ }
     requires { ⌜ ZonesLow p 0 segment × (seals ≡ true → (d : ℕ) → d < p .N → pointerOf p (now pointers) d (zoneOn segment d) + footers p ≤ capacity p) ⌝ }
     ensures { λ r. ⌜
-        Storing p count (sealsOf p (mkDisk (now (image .entry)) (now (pointers .entry))) segment seals)
-        (mkDisk (now (image .entry)) (now (pointers .entry))) r (mkDisk (now (image .exit)) (now (pointers .exit))) ⌝ }
+        ((off : List ℕ)
+        → Storing p count (sealsOf p off (mkDisk (now (image .entry)) (now (pointers .entry))) segment seals)
+        (mkDisk (now (image .entry)) (now (pointers .entry))) r (mkDisk (now (image .exit)) (now (pointers .exit)))) ⌝ }
 {
     if !seals {
         return Made {
@@ -246,6 +399,7 @@ fn complete(
     p: Params,
     image: &mut [u8],
     pointers: &mut [u8],
+    offline: &[u8],
     addresses: &mut [u8],
     compact: &mut [u8],
     row: Row,
@@ -254,15 +408,15 @@ fn complete(
     count: u64,
 ) -> Answer
     requires { ⌜ inRange p ≡ true ⌝ }
-    requires { ⌜ Whole p (mkDisk (now image) (now pointers)) ⌝ }
-    requires { ⌜ (length (now addresses) ≡ addressesLen p) × EntriesSane p (alone row) 0 (now addresses) ⌝ }
+    requires { ⌜ Whole p (mkDisk (now image) (now pointers)) × (length (now offline) ≡ offlineLen p) ⌝ }
+    requires { ⌜ (length (now addresses) ≡ addressesLen p) × EntriesSane p (viewOf p (now offline) (now image) (now pointers)) (alone row) 0 (now addresses) ⌝ }
     requires { ⌜ (filledIn (alone row) 0 ≤ dataCount p) × ((d : ℕ) → d < p .N → offsetIn (alone row) 0 d < p .S) ⌝ }
     requires { ⌜ ZonesLow p 0 segment × (seals ≡ true → (d : ℕ) → d < p .N → pointerOf p (now pointers) d (zoneOn segment d) + footers p ≤ capacity p) ⌝ }
     ensures { λ r. ⌜
-        Completing p count row segment seals (mkDisk (now (image .entry)) (now (pointers .entry))) (now (addresses .entry)) (now (compact .entry)) r
+        Completing p (now (offline .entry)) count row segment seals (mkDisk (now (image .entry)) (now (pointers .entry))) (now (addresses .entry)) (now (compact .entry)) r
         (mkDisk (now (image .exit)) (now (pointers .exit))) (now (addresses .exit)) (now (compact .exit)) ⌝ }
 {
-    call_land_table::point(p, image, pointers, addresses, segment, row);
+    call_land_table::point(p, image, pointers, offline, addresses, segment, row);
     let made = seal(p, image, pointers, segment, seals, count);
     if made.cut {
         return cut(addresses, compact);
@@ -271,7 +425,7 @@ fn complete(
     Answer::Landed(n as u64)
 }
 
-// 01, Landing: what changes in the state: the stripe's eighth, and, at the end of a segment, that none is open.
+// 01, Landing: what changes in the state: the stripe's eighth, and, at the end of a segment, that none is target.
 fn change_to(answer: Answer, front: Front, i: usize, row: Row, closes: bool) -> Change
     ensures { λ r. ⌜ r ≡ changeTo answer front i row closes ⌝ }
 {
@@ -297,6 +451,7 @@ fn change_to(answer: Answer, front: Front, i: usize, row: Row, closes: bool) -> 
 // 01, Landing; Store count: where no check holds.
 fn plan(
     p: Params,
+    offline: &[u8],
     image: &mut [u8],
     pointers: &mut [u8],
     addresses: &mut [u8],
@@ -304,17 +459,20 @@ fn plan(
     inflight: &[u8],
     front: Front,
     seen: Look,
+    target: Target,
     drive: usize,
     stripe: usize,
     count: u64,
 ) -> Change
-    requires { ⌜ ((st : StateOf) × Chosen p (mkDisk (now image) (now pointers)) (now addresses) (now compact) (now inflight) drive stripe seen front st) ⌝ }
+    requires { ⌜
+        ((st : StateOf)
+        × Chosen p (now offline) (mkDisk (now image) (now pointers)) (now addresses) (now compact) (now inflight) drive stripe seen target front st) ⌝ }
     ensures { λ r. ⌜
         ((st : StateOf)
-        → Chosen p (mkDisk (now (image .entry)) (now (pointers .entry))) (now (addresses .entry)) (now (compact .entry)) (now (inflight .entry))
-        drive stripe seen front st
+        → Chosen p (now (offline .entry)) (mkDisk (now (image .entry)) (now (pointers .entry))) (now (addresses .entry)) (now (compact .entry))
+        (now (inflight .entry)) drive stripe seen target front st
         → afterChange st r (now (image .exit)) (now (pointers .exit)) (now (addresses .exit)) (now (compact .exit)) (now (inflight .entry)) [] ≡
-        callDisk p (mkDisk (now (image .entry)) (now (pointers .entry)))
+        callDisk p (now (offline .entry)) (mkDisk (now (image .entry)) (now (pointers .entry)))
         (mkMemory st (now (addresses .entry)) (now (compact .entry)) (now (inflight .entry))) (land drive stripe count)) ⌝ }
 {
     if count == 0 {
@@ -322,7 +480,6 @@ fn plan(
         return mem_rows::kept(answer, front);
     }
     let i = seen.slot;
-    let segment = mem_state::open_segment(p, front.opened);
     let row = seen.row;
     let marked = store_chunk(
         p,
@@ -332,18 +489,20 @@ fn plan(
         inflight,
         row,
         i,
-        segment,
+        target.zone,
         drive,
         stripe,
     );
     if !seen.done {
         return change_to(Answer::Landed(0), front, i, marked, false);
     }
+    let segment = target.segment;
     let seals = seen.seals;
     let answer = complete(
         p,
         image,
         pointers,
+        offline,
         addresses,
         compact,
         marked,
@@ -363,6 +522,7 @@ fn plan(
 // A landing: refused, cut or done, with the change made it leaves what the definition says. The state goes by value, with the bytes that say it.
 pub fn land(
     p: Params,
+    offline: &[u8],
     image: &mut [u8],
     pointers: &mut [u8],
     addresses: &mut [u8],
@@ -377,13 +537,14 @@ pub fn land(
     requires { ⌜ (state ≡ stateOf (now bytes)) × (length (now bytes) ≡ stateLen) ⌝ }
     ensures { λ r. ⌜
         afterChange state r (now (image .exit)) (now (pointers .exit)) (now (addresses .exit)) (now (compact .exit)) (now (inflight .entry)) []
-        ≡ callDisk p (mkDisk (now (image .entry)) (now (pointers .entry)))
+        ≡ callDisk p (now (offline .entry)) (mkDisk (now (image .entry)) (now (pointers .entry)))
         (mkMemory state (now (addresses .entry)) (now (compact .entry)) (now (inflight .entry))) (land drive stripe count) ⌝ }
 {
     let seen = look_at(p, state, bytes, drive, stripe);
     let front = mem_rows::front_of(state);
-    let c = checks(
+    let sight = checks(
         p,
+        offline,
         image,
         pointers,
         addresses,
@@ -396,11 +557,14 @@ pub fn land(
         drive,
         stripe,
     );
+    let c = sight.check;
     if let Check::Fail(answer) = c {
         return mem_rows::kept(answer, front);
     }
+    let target = sight.target;
     plan(
         p,
+        offline,
         image,
         pointers,
         addresses,
@@ -408,6 +572,7 @@ pub fn land(
         inflight,
         front,
         seen,
+        target,
         drive,
         stripe,
         count,

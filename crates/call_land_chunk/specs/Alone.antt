@@ -10,12 +10,13 @@ use Rattle.spec.specs.declared.Params.{Params}
 use Rattle.spec.specs.declared.State.{State}
 use Rattle.spec.specs.Bytes.{part}
 use Rattle.spec.specs.Drives.{View, zoneOn}
-use Rattle.spec.specs.Landing.{ready, completes, flightRec, serialAt, landedCand, landedCands, writesIn}
+use Rattle.spec.specs.Landing.{ready, completes, flightRec, landedCand, landedCands, writesIn}
 use Rattle.spec.specs.Layout.{mkRec, dataPosition, dataDrive, isData, parityPosition}
 use Rattle.spec.specs.Lists.{below, only}
 use Rattle.spec.specs.Memory.{mkState, cell, stripeIn, filledIn, landedIn, isWrite, entryIn, entriesIn, offsetIn, isFull, landedMask}
 use Rattle.spec.specs.Params.{placeOf}
 use Rattle.spec.specs.Parity.{encodeRec}
+use Rattle.spec.specs.Segments.{serialAt}
 use Rattle.law_basic.specs.Ranges.{map-below-same}
 use Rattle.law_basic.specs.Splice.{getD-part}
 use Rattle.mem_rows.specs.declared.Row.{Row}

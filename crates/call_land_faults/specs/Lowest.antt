@@ -1,6 +1,6 @@
 -- The lowest bad zone of a landing (01, Refusals, 9). Assumes nothing.
-use mathlib.Core.Path.{_≡_, refl, sym, ap, _∙_}
-use mathlib.Core.List.{List, [], _∷_, _++_, map}
+use mathlib.Core.Path.{_≡_, refl, sym, ap, _∙_, subst}
+use mathlib.Core.List.{List, [], _∷_, _++_, map, append-nil}
 use mathlib.Core.Bool.{Bool, true, false, cond, not, _&&_, _||_}
 use Prim.Native.Nat.{ℕ, _+_, _-_, _/_, min, _≤_, _<_}
 use native.Mathlib.Nat.{mod-lt}
@@ -17,14 +17,16 @@ use Rattle.spec.specs.Drives.{View, pointerAt, viewOf, mkDisk, pointerOf, zoneO
 use Rattle.spec.specs.Landing.{slotOf, completes, seals, misplaced, overfull, entryFaults, landFaults}
 use Rattle.spec.specs.Layout.{group, Rec}
 use Rattle.spec.specs.Lists.Opt.{none}
-use Rattle.spec.specs.Lists.{upFrom, below, all, any, consIf, flat, least, isIn}
-use Rattle.spec.specs.Memory.{Memory, filledIn, entryIn, entriesIn, openSegment, placeAt}
+use Rattle.spec.specs.Lists.{upFrom, below, all, isNil, consIf, keep, flat, least, isIn}
+use Rattle.spec.specs.Memory.{Memory, filledIn, entryIn, entriesIn, placeAt}
 use Rattle.spec.specs.Params.{between, footers, capacity, imageLen, pointersLen, placeBlock, placeZone, placeDrive, drivesOf}
 use Rattle.spec.specs.Read.{placeFaults}
+use Rattle.spec.specs.Segments.{isPlace, openSegments, openSegment}
 use Rattle.law_views.specs.Views.{pointer-view}
 use Rattle.law_basic.specs.Geometry.{Ranged}
-use Rattle.law_basic.specs.Ranges.{and-left, and-both, upFrom-step, upFrom-end, below-start, all-append, all-hit, all-none, flat-none, flat-cons, any-upFrom-same}
-use Rattle.law_basic.specs.Segs.{Named, zone-on-lt, ZonesLow, low-here}
+use Rattle.law_basic.specs.Ranges.{and-left, and-both, upFrom-step, upFrom-end, below-start, all-append, all-hit, all-none, flat-none, flat-cons, least-le}
+use Rattle.law_basic.specs.Segs.{ZonesLow, low-here}
+use Rattle.law_drives.specs.Members.{in-all, map-in, keep-in, below-in, flat-map, flat-cong}
 use Rattle.spec.specs.declared.Seg.{Seg}
 
 -- ---- the least of a list, from a start
@@ -33,11 +35,6 @@ pub least-append : (n : ℕ) (l m : List ℕ) → least n (l ++ m) ≡ least (le
 unfolding least
 least-append n [] m = refl
 least-append n (k ∷ l) m = least-append (min n k) l m
-
-least-le : (n : ℕ) (l : List ℕ) → least n l ≤ n
-unfolding least
-least-le n [] = omega arith
-least-le n (k ∷ l) = omega (arith, least-le (min n k) l)
 
 -- one zone more, of which w is the least so far
 pub least-lower : (w z Z : ℕ) (l : List ℕ) → z < w → w ≤ Z → least w (consIf (ltb z Z) z [] ++ l) ≡ least z l
@@ -67,6 +64,14 @@ lowest-refused Z (z ∷ zs) h =
   where
     as! : all (λ x. ltb x Z) (z ∷ zs) ≡ true → (ltb z Z && all (λ x. ltb x Z) zs) ≡ true
     as! e = unfold all in e
+
+-- ---- the bad zones of a landing
+
+-- 01, Refusals, 9: those of a landing on drive d in segment g, whose zone there is z, of a stripe with these entries; b: it completes the stripe, c: it seals the segment
+unfoldable pub faultsOf : Params → View → List ℕ → List Rec → ℕ → ℕ → Seg → ℕ → Bool → Bool → List ℕ
+faultsOf p v tb es d z g s b c =
+    let zs = flat (entryFaults p v tb) es in
+    consIf (misplaced p v d z s) z (cond c (overfull p v d g) [] ++ cond b zs [])
 
 -- ---- every bad zone is one of the drives' zones
 
@@ -100,7 +105,7 @@ module _ (p : Params) (r : Ranged p) (v : View) where
       let z = placeZone p q in
       let b = placeBlock p q in
       let hz : z < p .Z = mod-lt (q / capacity p) (omega (arith, r .zones-low)) in
-      low-cond (p .Z) (leb (p .N) d) (0 ∷ []) (consIf (not (between 1 (p .S) b) || (not (isIn gone d) && leb (pointerAt v d z) b)) z [])
+      low-cond (p .Z) (not (isPlace p v gone q)) (0 ∷ []) (consIf (not (between 1 (p .S) b) || (not (isIn gone d) && leb (pointerAt v d z) b)) z [])
       (all-hit (λ x. ltb x (p .Z)) 0 [] (lt-ltb 0 (p .Z) (omega (arith, r .zones-low))) ∙ low-none (p .Z))
       (low-if (p .Z) (not (between 1 (p .S) b) || (not (isIn gone d) && leb (pointerAt v d z) b)) z [] hz (low-none (p .Z)))
 
@@ -112,19 +117,31 @@ module _ (p : Params) (r : Ranged p) (v : View) where
       low-cond (p .Z) (ltb (e .address) (p .L)) (cond (eqb q neverPlace) [] zs) []
       (low-cond (p .Z) (eqb q neverPlace) [] zs (low-none (p .Z)) (low-place 0 q)) (low-none (p .Z))
 
-  pub low-faults : (m : Memory) (d s : ℕ) → Named p (openSegment p (m .state)) → all (λ z. ltb z (p .Z)) (landFaults p v m d s) ≡ true
-  unfolding landFaults
-  low-faults m d s h =
-      let st = m .state in
-      let i = slotOf st s in
-      let g = openSegment p st in
-      let zs = flat (entryFaults p v (m .addresses)) (entriesIn st i) in
-      let ws : List ℕ = cond (completes p st i d) zs [] in
-      let z = zoneOn g d in
-      let hz = zone-on-lt p g d h in
-      low-if (p .Z) (misplaced p v d z s) z (consIf (seals p st i d && overfull p v d g) z ws) hz
-      (low-if (p .Z) (seals p st i d && overfull p v d g) z ws hz
-      (low-cond (p .Z) (completes p st i d) zs [] (low-flat (p .Z) (entryFaults p v (m .addresses)) (entriesIn st i) (low-entry (m .addresses))) (low-none (p .Z))))
+  low-over : (d : ℕ) (g : Seg) → ZonesLow p 0 g → Low (p .Z) (overfull p v d g)
+  unfolding overfull drivesOf
+  low-over d g h =
+      let f : ℕ → Bool = λ e. ltb (capacity p) (pointerAt v e (zoneOn g e) + cond (eqb e d) 1 0 + footers p) in
+      in-all (λ x. ltb x (p .Z)) (map (zoneOn g) (keep f (below (p .N))))
+      (λ z m.
+      let (e, i, q) = map-in (zoneOn g) (keep f (below (p .N))) z m in
+      let (j, _) = keep-in f (below (p .N)) e i in
+      lt-ltb z (p .Z) (subst (λ (x : ℕ). x < p .Z) (sym q) (low-here p g e h (below-in (p .N) e j))))
+
+  -- those of a landing in segment g
+  pub low-faults : (tb : List ℕ) (es : List Rec) (d z : ℕ) (g : Seg) (s : ℕ) (b c : Bool) → z < p .Z → (c ≡ true → ZonesLow p 0 g)
+      → all (λ x. ltb x (p .Z)) (faultsOf p v tb es d z g s b c) ≡ true
+  unfolding faultsOf
+  low-faults tb es d z g s b c hz hg =
+      let zs = flat (entryFaults p v tb) es in
+      low-if (p .Z) (misplaced p v d z s) z (cond c (overfull p v d g) [] ++ cond b zs []) hz
+      (all-append (λ x. ltb x (p .Z)) (cond c (overfull p v d g) []) (cond b zs [])
+      ∙ and-both (all (λ x. ltb x (p .Z)) (cond c (overfull p v d g) [])) (all (λ x. ltb x (p .Z)) (cond b zs []))
+      (over c hg)
+      (low-cond (p .Z) b zs [] (low-flat (p .Z) (entryFaults p v tb) es (low-entry tb)) (low-none (p .Z))))
+    where
+      over : (c : Bool) → (c ≡ true → ZonesLow p 0 g) → Low (p .Z) (cond c (overfull p v d g) [])
+      over true h = low-over d g (h refl)
+      over false h = low-none (p .Z)
 
 -- ---- by the pointers' bytes
 
@@ -132,30 +149,42 @@ module _ (p : Params) (r : Ranged p) (v : View) where
 unfoldable pub overBy : Params → List ℕ → ℕ → Seg → ℕ → Bool
 overBy p ps d g e = ltb (capacity p) (pointerOf p ps e (zoneOn g e) + cond (eqb e d) 1 0 + footers p)
 
-module _ (p : Params) (im ps : List ℕ) (h : length im ≡ imageLen p) (g : length ps ≡ pointersLen p) where
-  pub over-view : (d : ℕ) (k : Seg) → ZonesLow p 0 k → any (overBy p ps d k) (below (p .N)) ≡ overfull p (viewOf p im ps) d k
-  unfolding overfull drivesOf below overBy
+-- the numbers of those that pass
+kept-by : (f : ℕ → Bool) (g : ℕ → ℕ) (l : List ℕ) → map g (keep f l) ≡ flat (λ e. consIf (f e) (g e) []) l
+unfolding keep flat
+kept-by f g [] = refl
+kept-by f g (e ∷ l) = go (f e) (kept-by f g l)
+  where
+    go : (b : Bool) → map g (keep f l) ≡ flat (λ e. consIf (f e) (g e) []) l → map g (consIf b e (keep f l)) ≡ consIf b (g e) [] ++ flat (λ e. consIf (f e) (g e) []) l
+    go true q = unfold consIf in ap (λ (x : List ℕ). g e ∷ x) q
+    go false q = unfold consIf in q
+
+module _ (p : Params) (off im ps : List ℕ) (h : length im ≡ imageLen p) (g : length ps ≡ pointersLen p) where
+  pub over-view : (d : ℕ) (k : Seg) → ZonesLow p 0 k → flat (λ e. consIf (overBy p ps d k e) (zoneOn k e) []) (below (p .N)) ≡ overfull p (viewOf p off im ps) d k
+  unfolding overfull drivesOf overBy
   over-view d k hk =
-      any-upFrom-same (overBy p ps d k) (λ e. ltb (capacity p) (pointerAt (viewOf p im ps) e (zoneOn k e) + cond (eqb e d) 1 0 + footers p)) 0 (p .N)
-      (λ e _ he. ap (λ (x : ℕ). ltb (capacity p) (x + cond (eqb e d) 1 0 + footers p))
-      (sym (pointer-view p (mkDisk im ps) e (zoneOn k e) (omega arith) (low-here p k e hk (omega arith)) (record { image-long = h; pointers-long = g }))))
+      let f : ℕ → Bool = λ e. ltb (capacity p) (pointerAt (viewOf p off im ps) e (zoneOn k e) + cond (eqb e d) 1 0 + footers p) in
+      flat-cong (λ e. consIf (overBy p ps d k e) (zoneOn k e) []) (λ e. consIf (f e) (zoneOn k e) []) (below (p .N))
+      (λ e m. let he = below-in (p .N) e m in ap (λ (x : ℕ). consIf (ltb (capacity p) (x + cond (eqb e d) 1 0 + footers p)) (zoneOn k e) [])
+      (sym (pointer-view p off (mkDisk im ps) e (zoneOn k e) he (low-here p k e hk he) (record { image-long = h; pointers-long = g }))))
+      ∙ sym (kept-by f (zoneOn k) (below (p .N)))
 
   -- the pointer is not at a data block of the stripe's group
   module _ (d z s : ℕ) (hd : d < p .N) (hz : z < p .Z) where
     abbrev wrong : ℕ → Bool
     wrong n = not (between 1 (p .S) n && eqb (group p (n - 1)) (group p s))
 
-    misplaced-is : misplaced p (viewOf p im ps) d z s ≡ wrong (pointerOf p ps d z)
+    misplaced-is : misplaced p (viewOf p off im ps) d z s ≡ wrong (pointerOf p ps d z)
     unfolding misplaced
-    misplaced-is = ap wrong (pointer-view p (mkDisk im ps) d z hd hz (record { image-long = h; pointers-long = g }))
+    misplaced-is = ap wrong (pointer-view p off (mkDisk im ps) d z hd hz (record { image-long = h; pointers-long = g }))
 
-    pub misplaced-low : pointerOf p ps d z < 1 → true ≡ misplaced p (viewOf p im ps) d z s
+    pub misplaced-low : pointerOf p ps d z < 1 → true ≡ misplaced p (viewOf p off im ps) d z s
     unfolding between
     misplaced-low l =
         let n = pointerOf p ps d z in
         sym (misplaced-is ∙ ap (λ (x : Bool). not (x && leb n (p .S) && eqb (group p (n - 1)) (group p s))) (lt-leb 1 n l))
 
-    pub misplaced-high : 1 ≤ pointerOf p ps d z → p .S < pointerOf p ps d z → true ≡ misplaced p (viewOf p im ps) d z s
+    pub misplaced-high : 1 ≤ pointerOf p ps d z → p .S < pointerOf p ps d z → true ≡ misplaced p (viewOf p off im ps) d z s
     unfolding between
     misplaced-high k l =
         let n = pointerOf p ps d z in
@@ -163,7 +192,7 @@ module _ (p : Params) (im ps : List ℕ) (h : length im ≡ imageLen p) (g : len
         let b : leb n (p .S) ≡ false = lt-leb n (p .S) l in
         sym (misplaced-is ∙ (λ j. not (a j && b j && eqb (group p (n - 1)) (group p s))))
 
-    pub misplaced-else : 1 ≤ pointerOf p ps d z → pointerOf p ps d z ≤ p .S → not (eqb (group p (pointerOf p ps d z - 1)) (group p s)) ≡ misplaced p (viewOf p im ps) d z s
+    pub misplaced-else : 1 ≤ pointerOf p ps d z → pointerOf p ps d z ≤ p .S → not (eqb (group p (pointerOf p ps d z - 1)) (group p s)) ≡ misplaced p (viewOf p off im ps) d z s
     unfolding between
     misplaced-else k l =
         let n = pointerOf p ps d z in
@@ -200,87 +229,101 @@ module _ (p : Params) (v : View) (tb : List ℕ) (e : Rec) where
       let b : eqb q neverPlace ≡ false = ne-eqb q neverPlace f in
       λ j. cond (a j) (cond (b j) [] (placeFaults p v 0 q)) []
 
--- ---- the entries one after the other
+-- ---- the numbers of a range one after the other, each with at most one bad zone
 
-module _ (p : Params) (v : View) (tb : List ℕ) (st : State) (i : ℕ) where
-  -- the bad zones of the entries from position k on
+module _ (Z : ℕ) (f : ℕ → List ℕ) where
+  -- the bad zones from number k on
   abbrev pub faultsFrom : ℕ → ℕ → List ℕ
-  faultsFrom k n = flat (entryFaults p v tb) (map (entryIn st i) (upFrom k (n - k)))
+  faultsFrom k n = flat f (upFrom k (n - k))
 
-  pub faults-first : (w n : ℕ) → n ≡ filledIn st i → least w (faultsFrom 0 n) ≡ least w (flat (entryFaults p v tb) (entriesIn st i))
-  unfolding entriesIn
-  faults-first w n e = ap (λ (x : List ℕ). least w (flat (entryFaults p v tb) (map (entryIn st i) x))) (sym (below-start n) ∙ ap below e)
+  pub faults-first : (w n : ℕ) → least w (faultsFrom 0 n) ≡ least w (flat f (below n))
+  faults-first w n = ap (λ (x : List ℕ). least w (flat f x)) (sym (below-start n))
 
-  faults-step : (k n : ℕ) → k < n → faultsFrom k n ≡ entryFaults p v tb (entryIn st i k) ++ faultsFrom (k + 1) n
-  faults-step k n h =
-      ap (λ (x : List ℕ). flat (entryFaults p v tb) (map (entryIn st i) x)) (upFrom-step k n h)
-      ∙ flat-cons (entryFaults p v tb) (entryIn st i k) (map (entryIn st i) (upFrom (k + 1) (n - (k + 1))))
+  faults-step : (k n : ℕ) → k < n → faultsFrom k n ≡ f k ++ faultsFrom (k + 1) n
+  faults-step k n h = ap (flat f) (upFrom-step k n h) ∙ flat-cons f k (upFrom (k + 1) (n - (k + 1)))
 
-  pub faults-lower : (w z k n : ℕ) → k < n → entryFaults p v tb (entryIn st i k) ≡ consIf (ltb z (p .Z)) z [] → z < w → w ≤ p .Z
-      → least z (faultsFrom (k + 1) n) ≡ least w (faultsFrom k n)
+  pub faults-lower : (w z k n : ℕ) → k < n → f k ≡ consIf (ltb z Z) z [] → z < w → w ≤ Z → least z (faultsFrom (k + 1) n) ≡ least w (faultsFrom k n)
   faults-lower w z k n h e l g =
-      sym (ap (least w) (faults-step k n h ∙ ap (λ (x : List ℕ). x ++ faultsFrom (k + 1) n) e) ∙ least-lower w z (p .Z) (faultsFrom (k + 1) n) l g)
+      sym (ap (least w) (faults-step k n h ∙ ap (λ (x : List ℕ). x ++ faultsFrom (k + 1) n) e) ∙ least-lower w z Z (faultsFrom (k + 1) n) l g)
 
-  pub faults-same : (w z k n : ℕ) → k < n → entryFaults p v tb (entryIn st i k) ≡ consIf (ltb z (p .Z)) z [] → w ≤ z → least w (faultsFrom (k + 1) n) ≡ least w (faultsFrom k n)
+  pub faults-same : (w z k n : ℕ) → k < n → f k ≡ consIf (ltb z Z) z [] → w ≤ z → least w (faultsFrom (k + 1) n) ≡ least w (faultsFrom k n)
   faults-same w z k n h e l =
-      sym (ap (least w) (faults-step k n h ∙ ap (λ (x : List ℕ). x ++ faultsFrom (k + 1) n) e) ∙ least-same w z (p .Z) (faultsFrom (k + 1) n) l)
+      sym (ap (least w) (faults-step k n h ∙ ap (λ (x : List ℕ). x ++ faultsFrom (k + 1) n) e) ∙ least-same w z Z (faultsFrom (k + 1) n) l)
 
   pub faults-end : (w k n : ℕ) → n ≤ k → least w (faultsFrom k n) ≡ w
   unfolding least flat
-  faults-end w k n h = ap (λ (x : List ℕ). least w (flat (entryFaults p v tb) (map (entryIn st i) x))) (upFrom-end k n h)
+  faults-end w k n h = ap (λ (x : List ℕ). least w (flat f x)) (upFrom-end k n h)
+
+-- the entries of a stripe
+pub entries-by : (p : Params) (v : View) (tb : List ℕ) (st : State) (i : ℕ)
+    → flat (λ k. entryFaults p v tb (entryIn st i k)) (below (filledIn st i)) ≡ flat (entryFaults p v tb) (entriesIn st i)
+unfolding entriesIn
+entries-by p v tb st i = sym (flat-map (entryFaults p v tb) (entryIn st i) (below (filledIn st i)))
+
+-- ---- a zone or none
+
+module _ (Z z : ℕ) (hz : z < Z) where
+  pub bad-lowest : z ≡ least Z (consIf true z [])
+  unfolding least consIf
+  bad-lowest = omega arith
+
+  pub fine-lowest : Z ≡ least Z (consIf false z [])
+  unfolding least consIf
+  fine-lowest = refl
+
+  pub bad-named : consIf true z [] ≡ consIf (ltb z Z) z []
+  bad-named = ap (λ (x : Bool). consIf x z []) (sym (lt-ltb z Z hz))
+
+pub nbad-named : (Z z : ℕ) → consIf false z [] ≡ consIf (ltb Z Z) Z []
+unfolding consIf
+nbad-named Z z = sym (ap (λ (x : Bool). consIf x Z []) (le-ltb Z Z (omega arith)))
 
 -- ---- the open segment, then the entries
 
-module _ (Z z : ℕ) (hz : z < Z) where
-  -- bad
-  pub segment-bad : (b : Bool) → z ≡ least Z (consIf true z (consIf b z []))
-  unfolding least consIf
-  segment-bad true = omega arith
-  segment-bad false = omega arith
-
-  pub segment-full : z ≡ least Z (consIf false z (consIf true z []))
-  unfolding least consIf
-  segment-full = omega arith
-
-  pub land-segment-fine : Z ≡ least Z (consIf false z (consIf false z []))
-  unfolding least consIf
-  land-segment-fine = refl
-
-if-append : (a b : Bool) (z : ℕ) (zs : List ℕ) → consIf a z (consIf b z zs) ≡ consIf a z (consIf b z []) ++ zs
+if-append : (a : Bool) (z : ℕ) (xs ys : List ℕ) → consIf a z (xs ++ ys) ≡ consIf a z xs ++ ys
 unfolding consIf
-if-append true true z zs = refl
-if-append true false z zs = refl
-if-append false true z zs = refl
-if-append false false z zs = refl
+if-append true z xs ys = refl
+if-append false z xs ys = refl
 
--- 01, Refusals, 9: the bad zones of a landing in segment g of a stripe with these entries; b: it completes the stripe, c: it seals the segment
-unfoldable pub faultsOf : Params → View → List ℕ → List Rec → ℕ → Seg → ℕ → Bool → Bool → List ℕ
-faultsOf p v tb es d g s b c =
-    let zs = flat (entryFaults p v tb) es in
-    consIf (misplaced p v d (zoneOn g d) s) (zoneOn g d) (consIf (c && overfull p v d g) (zoneOn g d) (cond b zs []))
+module _ (p : Params) (v : View) (tb : List ℕ) (es : List Rec) (d z : ℕ) (g : Seg) (s : ℕ) where
+  -- the chunk's zone and the footers' ones
+  abbrev pub openFaults : Bool → List ℕ
+  openFaults c = consIf (misplaced p v d z s) z (cond c (overfull p v d g) [])
 
--- 01, Refusals, 9: they are those of the definition
-pub land-faults-are : (p : Params) (v : View) (m : Memory) (d s : ℕ) (es : List Rec) (b c : Bool) → es ≡ entriesIn (m .state) (slotOf (m .state) s)
-    → b ≡ completes p (m .state) (slotOf (m .state) s) d → c ≡ seals p (m .state) (slotOf (m .state) s) d
-    → faultsOf p v (m .addresses) es d (openSegment p (m .state)) s b c ≡ landFaults p v m d s
-unfolding faultsOf landFaults
-land-faults-are p v m d s es b c e f h =
-    let g = openSegment p (m .state) in
-    let z = zoneOn g d in
-    λ j. consIf (misplaced p v d z s) z (consIf (h j && overfull p v d g) z (cond (f j) (flat (entryFaults p v (m .addresses)) (e j)) []))
+  -- the segment is sealed
+  pub faults-sealed : least (least (p .Z) (consIf (misplaced p v d z s) z [])) (overfull p v d g) ≡ least (p .Z) (openFaults true)
+  faults-sealed = sym (least-append (p .Z) (consIf (misplaced p v d z s) z []) (overfull p v d g)) ∙ ap (least (p .Z)) (sym (if-append (misplaced p v d z s) z [] (overfull p v d g)))
 
-module _ (p : Params) (v : View) (tb : List ℕ) (es : List Rec) (d : ℕ) (g : Seg) (s : ℕ) (c : Bool) where
-  abbrev first : List ℕ
-  first = consIf (misplaced p v d (zoneOn g d) s) (zoneOn g d) (consIf (c && overfull p v d g) (zoneOn g d) [])
+  split : (b c : Bool) → openFaults c ++ cond b (flat (entryFaults p v tb) es) [] ≡ faultsOf p v tb es d z g s b c
+  unfolding faultsOf
+  split b c = sym (if-append (misplaced p v d z s) z (cond c (overfull p v d g) []) (cond b (flat (entryFaults p v tb) es) []))
 
   -- the stripe doesn't complete
-  pub faults-part : least (p .Z) first ≡ least (p .Z) (faultsOf p v tb es d g s false c)
-  unfolding faultsOf
-  faults-part = refl
+  pub faults-part : (c : Bool) → least (p .Z) (openFaults c) ≡ least (p .Z) (faultsOf p v tb es d z g s false c)
+  faults-part c = ap (least (p .Z)) (sym (append-nil (openFaults c)) ∙ split false c)
 
   -- it completes
-  pub faults-whole : least (least (p .Z) first) (flat (entryFaults p v tb) es) ≡ least (p .Z) (faultsOf p v tb es d g s true c)
-  unfolding faultsOf
-  faults-whole =
-      let zs = flat (entryFaults p v tb) es in
-      sym (least-append (p .Z) first zs) ∙ ap (least (p .Z)) (sym (if-append (misplaced p v d (zoneOn g d) s) (c && overfull p v d g) (zoneOn g d) zs))
+  pub faults-whole : (c : Bool) → least (least (p .Z) (openFaults c)) (flat (entryFaults p v tb) es) ≡ least (p .Z) (faultsOf p v tb es d z g s true c)
+  faults-whole c = sym (least-append (p .Z) (openFaults c) (flat (entryFaults p v tb) es)) ∙ ap (least (p .Z)) (split true c)
+
+-- ---- they are those of the definition
+
+module _ (p : Params) (v : View) (m : Memory) (d s : ℕ) where
+  -- one has it; its zones beside that of drive d are asked where it is sealed
+  pub land-faults-are : isNil (openSegments p v (m .state)) ≡ false → (es : List Rec) (z : ℕ) (g : Seg) (b c : Bool) → es ≡ entriesIn (m .state) (slotOf (m .state) s)
+      → z ≡ zoneOn (openSegment p v (m .state)) d → (c ≡ true → g ≡ openSegment p v (m .state))
+      → b ≡ completes p (m .state) (slotOf (m .state) s) d → c ≡ seals p (m .state) (slotOf (m .state) s) d
+      → faultsOf p v (m .addresses) es d z g s b c ≡ landFaults p v m d s
+  unfolding faultsOf landFaults consIf
+  land-faults-are o es z g b c e f k h l =
+      let g₀ = openSegment p v (m .state) in
+      let zs : List Rec → List ℕ = λ x. flat (entryFaults p v (m .addresses)) x in
+      ap (λ (x : List ℕ). consIf (misplaced p v d z s) z (x ++ cond b (zs es) [])) (same c k)
+      ∙ (λ j. consIf (misplaced p v d (f j) s) (f j) (cond (l j) (overfull p v d g₀) [] ++ cond (h j) (zs (e j)) []))
+      ∙ ap (λ (x : Bool). consIf x 0 (consIf (misplaced p v d (zoneOn g₀ d) s) (zoneOn g₀ d)
+      (cond (seals p (m .state) (slotOf (m .state) s) d) (overfull p v d g₀) [] ++ cond (completes p (m .state) (slotOf (m .state) s) d) (zs (entriesIn (m .state) (slotOf (m .state) s))) [])))
+      (sym o)
+    where
+      same : (c : Bool) → (c ≡ true → g ≡ openSegment p v (m .state)) → cond c (overfull p v d g) [] ≡ cond c (overfull p v d (openSegment p v (m .state))) []
+      same true q = ap (overfull p v d) (q refl)
+      same false q = refl

@@ -1,6 +1,7 @@
 // Footers on every drive of a segment (01, Landing: the landing after which all stripes are complete also stores the footers).
 ghost use mathlib.Core.Path.{_≡_};
 ghost use mathlib.Core.Bool.{true};
+ghost use mathlib.Core.List.{List};
 ghost use Prim.Native.Nat.{ℕ, _+_, _≤_, _<_};
 ghost use Rattle.spec.specs.Drives.{viewOf, mkDisk, pointerOf, zoneOn};
 ghost use Rattle.spec.specs.Landing.{sealStores};
@@ -24,8 +25,9 @@ pub fn seal_stores(
     requires { ⌜ Whole p (mkDisk (now image) (now pointers)) ⌝ }
     requires { ⌜ ZonesLow p 0 segment × ((d : ℕ) → d < p .N → pointerOf p (now pointers) d (zoneOn segment d) + footers p ≤ capacity p) ⌝ }
     ensures { λ r. ⌜
-        Storing p count (sealStores p (viewOf p (now (image .entry)) (now (pointers .entry))) segment)
-        (mkDisk (now (image .entry)) (now (pointers .entry))) r (mkDisk (now (image .exit)) (now (pointers .exit))) ⌝ }
+        ((off : List ℕ)
+        → Storing p count (sealStores p (viewOf p off (now (image .entry)) (now (pointers .entry))) segment)
+        (mkDisk (now (image .entry)) (now (pointers .entry))) r (mkDisk (now (image .exit)) (now (pointers .exit)))) ⌝ }
 {
     let n = disk_shape::footers(p);
     let mut left = count;

@@ -18,17 +18,18 @@ use Rattle.spec.specs.Landing.{held, landedCand, landedCands, pointed}
 use Rattle.spec.specs.Lists.{Opt, upFrom, below, keep}
 use Rattle.spec.specs.Memory.{filledIn, entryIn, placeAt, setPlace}
 use Rattle.spec.specs.Rank.{Cand, better, best, placeOr, candsOf}
+use Rattle.spec.specs.Segments.{isPlace}
 use Rattle.disk_stored.specs.Places.{DataPlace}
 use Rattle.law_basic.specs.Ranges.{upFrom-step, upFrom-end, below-start, keep-hit, keep-miss}
 use Rattle.spec.specs.declared.Seg.{Seg}
 
--- never written, or a place of a data block
-abbrev pub Sane : Params → ℕ → Type 0
-Sane p q = (q ≡ neverPlace → ⊥) → DataPlace p q
+-- never written, or a place of a data block; 02, item 4: in just one remaining segment
+abbrev pub Sane : Params → View → ℕ → Type 0
+Sane p v q = (q ≡ neverPlace → ⊥) → DataPlace p q × (isPlace p v 0 q ≡ true)
 
 -- 01, Refusals, 9: the places that the table holds of the stripe's addresses can be read
-abbrev pub EntriesSane : Params → State → ℕ → List ℕ → Type 0
-EntriesSane p st i tb = (k : ℕ) → k < filledIn st i → entryIn st i k .address < p .L → Sane p (placeAt tb (entryIn st i k .address))
+abbrev pub EntriesSane : Params → View → State → ℕ → List ℕ → Type 0
+EntriesSane p v st i tb = (k : ℕ) → k < filledIn st i → entryIn st i k .address < p .L → Sane p v (placeAt tb (entryIn st i k .address))
 
 -- 01, The calls: of the table's record of an address and the records cs, the place of the one that holds
 abbrev pub winnerOf : Params → View → List ℕ → List Cand → ℕ → ℕ

@@ -4,12 +4,13 @@ ghost use mathlib.Core.Bool.{true};
 ghost use mathlib.Core.List.{List, _∷_};
 ghost use Prim.Native.Nat.{ℕ, _≤_, _<_};
 ghost use lib.ListN.{length, getD};
-ghost use Rattle.spec.specs.Drives.{View, viewOf, mkDisk, placeRecord, zoneOn};
-ghost use Rattle.spec.specs.Landing.{serialAt, heldCand, held, landedCand, landedCands, pointed};
+ghost use Rattle.spec.specs.Drives.{View, viewOf, mkDisk, zoneOn};
+ghost use Rattle.spec.specs.Landing.{heldCand, held, landedCand, landedCands, pointed};
 ghost use Rattle.spec.specs.Lists.{below};
 ghost use Rattle.spec.specs.Memory.{filledIn, entryIn, offsetIn, placeAt};
-ghost use Rattle.spec.specs.Params.{inRange, dataCount, imageLen, pointersLen, addressesLen};
+ghost use Rattle.spec.specs.Params.{inRange, dataCount, imageLen, pointersLen, offlineLen, addressesLen};
 ghost use Rattle.spec.specs.Rank.{Cand as CandOf, best, candsOf};
+ghost use Rattle.spec.specs.Segments.{isPlace, placeRecord, serialAt};
 ghost use Rattle.call_land_table.specs.Winners.{Sane, EntriesSane, winnerOf, putWinners};
 ghost use Rattle.disk_rank.specs.Ranked.{ranked, rankedBest};
 ghost use Rattle.disk_stored.specs.Places.{DataPlace};
@@ -29,26 +30,31 @@ use spec::Serial;
 fn serial_at(p: Params, image: &[u8], segment: Seg) -> Serial
     requires { ⌜ inRange p ≡ true ⌝ }
     requires { ⌜ (length (now image) ≡ imageLen p) × (zoneOn segment 0 < p .Z) ⌝ }
-    ensures { λ r. ⌜ ((ps : List ℕ) → length ps ≡ pointersLen p → r .0 ≡ serialAt p (viewOf p (now (image .entry)) ps) segment) ⌝ }
+    ensures { λ r. ⌜ ((off : List ℕ) (ps : List ℕ) → length ps ≡ pointersLen p → r .0 ≡ serialAt p (viewOf p off (now (image .entry)) ps) segment) ⌝ }
 {
-    let a = disk_shape::block_byte(p, 0, disk_shape::zone_on(p, segment, 0), 0);
-    let e = a + p.B;
-    disk_records::header_serial(p, &image[a..e])
+    disk_gather::serial_in(p, image, 0, disk_shape::zone_on(p, segment, 0))
 }
 
-// The record at a place that the table holds of an address.
-fn held_cand(p: Params, image: &[u8], pointers: &[u8], address: Address, place: Place) -> Cand
+// The record at a place that the table holds of an address; every header of its segment has the serial, and so the one of the place's own zone.
+fn held_cand(
+    p: Params,
+    image: &[u8],
+    pointers: &[u8],
+    offline: &[u8],
+    address: Address,
+    place: Place,
+) -> Cand
     requires { ⌜ inRange p ≡ true ⌝ }
-    requires { ⌜ Whole p (mkDisk (now image) (now pointers)) ⌝ }
-    requires { ⌜ DataPlace p (place .0) ⌝ }
-    ensures { λ r. ⌜ ranked r ≡ heldCand p (viewOf p (now (image .entry)) (now (pointers .entry))) (address .0)
-        (placeRecord p (viewOf p (now (image .entry)) (now (pointers .entry))) 0 (place .0) .stamp) (place .0) ⌝ }
+    requires { ⌜ Whole p (mkDisk (now image) (now pointers)) × (length (now offline) ≡ offlineLen p) ⌝ }
+    requires { ⌜ DataPlace p (place .0) × (isPlace p (viewOf p (now offline) (now image) (now pointers)) 0 (place .0) ≡ true) ⌝ }
+    ensures { λ r. ⌜ ranked r ≡ heldCand p (viewOf p (now (offline .entry)) (now (image .entry)) (now (pointers .entry))) (address .0)
+        (placeRecord p (viewOf p (now (offline .entry)) (now (image .entry)) (now (pointers .entry))) 0 (place .0) .stamp) (place .0) ⌝ }
 {
-    let r = disk_stored::place_record(p, image, pointers, 0, place);
+    let r = disk_holders::held_record(p, image, pointers, offline, 0, place);
     let stamp = r.stamp;
-    let segment = disk_shape::across(p, disk_shape::place_zone(p, place));
-    let serial = serial_at(p, image, segment);
     let drive = disk_shape::place_drive(p, place);
+    let zone = disk_shape::place_zone(p, place);
+    let serial = disk_gather::serial_in(p, image, drive, zone);
     let offset = disk_shape::place_block(p, place) - 1;
     Cand {
         address,
@@ -61,17 +67,24 @@ fn held_cand(p: Params, image: &[u8], pointers: &[u8], address: Address, place: 
 }
 
 // 01, The calls: the record that the table holds of an address; none where it was never written.
-fn held(p: Params, image: &[u8], pointers: &[u8], addresses: &[u8], address: Address) -> Best
+fn held(
+    p: Params,
+    image: &[u8],
+    pointers: &[u8],
+    offline: &[u8],
+    addresses: &[u8],
+    address: Address,
+) -> Best
     requires { ⌜ inRange p ≡ true ⌝ }
-    requires { ⌜ Whole p (mkDisk (now image) (now pointers)) ⌝ }
-    requires { ⌜ (length (now addresses) ≡ addressesLen p) × (address .0 < p .L) × Sane p (placeAt (now addresses) (address .0)) ⌝ }
-    ensures { λ r. ⌜ rankedBest r ≡ held p (viewOf p (now (image .entry)) (now (pointers .entry))) (now (addresses .entry)) (address .0) ⌝ }
+    requires { ⌜ Whole p (mkDisk (now image) (now pointers)) × (length (now offline) ≡ offlineLen p) ⌝ }
+    requires { ⌜ (length (now addresses) ≡ addressesLen p) × (address .0 < p .L) × Sane p (viewOf p (now offline) (now image) (now pointers)) (placeAt (now addresses) (address .0)) ⌝ }
+    ensures { λ r. ⌜ rankedBest r ≡ held p (viewOf p (now (offline .entry)) (now (image .entry)) (now (pointers .entry))) (now (addresses .entry)) (address .0) ⌝ }
 {
     let place = mem_tables::place_at(addresses, address.0 as usize);
     if place.0 == Place::NEVER.0 {
         return Best::Nothing;
     }
-    Best::Holds(held_cand(p, image, pointers, address, place))
+    Best::Holds(held_cand(p, image, pointers, offline, address, place))
 }
 
 // The completed stripe's record of data position k, in a segment with this serial.
@@ -127,6 +140,7 @@ fn winner(
     p: Params,
     image: &[u8],
     pointers: &[u8],
+    offline: &[u8],
     addresses: &[u8],
     segment: Seg,
     serial: Serial,
@@ -134,17 +148,17 @@ fn winner(
     address: Address,
 ) -> Place
     requires { ⌜ inRange p ≡ true ⌝ }
-    requires { ⌜ Whole p (mkDisk (now image) (now pointers)) ⌝ }
-    requires { ⌜ (length (now addresses) ≡ addressesLen p) × (address .0 < p .L) × Sane p (placeAt (now addresses) (address .0)) ⌝ }
+    requires { ⌜ Whole p (mkDisk (now image) (now pointers)) × (length (now offline) ≡ offlineLen p) ⌝ }
+    requires { ⌜ (length (now addresses) ≡ addressesLen p) × (address .0 < p .L) × Sane p (viewOf p (now offline) (now image) (now pointers)) (placeAt (now addresses) (address .0)) ⌝ }
     requires { ⌜ ZonesLow p 0 segment × (filledIn (alone row) 0 ≤ dataCount p) × ((d : ℕ) → d < p .N → offsetIn (alone row) 0 d < p .S) ⌝ }
-    requires { ⌜ serial .0 ≡ serialAt p (viewOf p (now image) (now pointers)) segment ⌝ }
+    requires { ⌜ serial .0 ≡ serialAt p (viewOf p (now offline) (now image) (now pointers)) segment ⌝ }
     ensures { λ r. ⌜
         r .0
-        ≡ winnerOf p (viewOf p (now (image .entry)) (now (pointers .entry))) (now (addresses .entry))
-        (landedCands p (viewOf p (now (image .entry)) (now (pointers .entry))) segment (alone row) 0) (address .0) ⌝ }
+        ≡ winnerOf p (viewOf p (now (offline .entry)) (now (image .entry)) (now (pointers .entry))) (now (addresses .entry))
+        (landedCands p (viewOf p (now (offline .entry)) (now (image .entry)) (now (pointers .entry))) segment (alone row) 0) (address .0) ⌝ }
 {
     let n = call_land_chunk::filled_in(row);
-    let mut b = held(p, image, pointers, addresses, address);
+    let mut b = held(p, image, pointers, offline, addresses, address);
     let mut k = 0;
     while k < n {
         b = compete(p, segment, serial, row, k, address, b);
@@ -158,22 +172,23 @@ fn winners(
     p: Params,
     image: &[u8],
     pointers: &[u8],
+    offline: &[u8],
     addresses: &[u8],
     segment: Seg,
     serial: Serial,
     row: Row,
 ) -> [u32; 8]
     requires { ⌜ inRange p ≡ true ⌝ }
-    requires { ⌜ Whole p (mkDisk (now image) (now pointers)) ⌝ }
-    requires { ⌜ (length (now addresses) ≡ addressesLen p) × EntriesSane p (alone row) 0 (now addresses) ⌝ }
+    requires { ⌜ Whole p (mkDisk (now image) (now pointers)) × (length (now offline) ≡ offlineLen p) ⌝ }
+    requires { ⌜ (length (now addresses) ≡ addressesLen p) × EntriesSane p (viewOf p (now offline) (now image) (now pointers)) (alone row) 0 (now addresses) ⌝ }
     requires { ⌜ ZonesLow p 0 segment × (filledIn (alone row) 0 ≤ dataCount p) × ((d : ℕ) → d < p .N → offsetIn (alone row) 0 d < p .S) ⌝ }
-    requires { ⌜ serial .0 ≡ serialAt p (viewOf p (now image) (now pointers)) segment ⌝ }
+    requires { ⌜ serial .0 ≡ serialAt p (viewOf p (now offline) (now image) (now pointers)) segment ⌝ }
     ensures { λ r. ⌜
         ((k : ℕ)
         → k < filledIn (alone row) 0
         → entryIn (alone row) 0 k .address < p .L
-        → getD r k 0 ≡ winnerOf p (viewOf p (now (image .entry)) (now (pointers .entry))) (now (addresses .entry))
-        (landedCands p (viewOf p (now (image .entry)) (now (pointers .entry))) segment (alone row) 0) (entryIn (alone row) 0 k .address)) ⌝ }
+        → getD r k 0 ≡ winnerOf p (viewOf p (now (offline .entry)) (now (image .entry)) (now (pointers .entry))) (now (addresses .entry))
+        (landedCands p (viewOf p (now (offline .entry)) (now (image .entry)) (now (pointers .entry))) segment (alone row) 0) (entryIn (alone row) 0 k .address)) ⌝ }
 {
     let n = call_land_chunk::filled_in(row);
     let mut out = [0u32; 8];
@@ -182,7 +197,17 @@ fn winners(
         let e = call_land_chunk::entry(row, k);
         let address = e.address;
         if address.0 < p.L as u64 {
-            let q = winner(p, image, pointers, addresses, segment, serial, row, address);
+            let q = winner(
+                p,
+                image,
+                pointers,
+                offline,
+                addresses,
+                segment,
+                serial,
+                row,
+                address,
+            );
             out[k] = q.0;
         }
         k += 1;
@@ -209,18 +234,26 @@ fn put_places(p: Params, addresses: &mut [u8], row: Row, places: [u32; 8])
 }
 
 // 01, Landing: the stripe is complete: the table points at what holds. The serial of its segment is read once.
-pub fn point(p: Params, image: &[u8], pointers: &[u8], addresses: &mut [u8], segment: Seg, row: Row)
+pub fn point(
+    p: Params,
+    image: &[u8],
+    pointers: &[u8],
+    offline: &[u8],
+    addresses: &mut [u8],
+    segment: Seg,
+    row: Row,
+)
     requires { ⌜ inRange p ≡ true ⌝ }
-    requires { ⌜ Whole p (mkDisk (now image) (now pointers)) ⌝ }
-    requires { ⌜ (length (now addresses) ≡ addressesLen p) × EntriesSane p (alone row) 0 (now addresses) ⌝ }
+    requires { ⌜ Whole p (mkDisk (now image) (now pointers)) × (length (now offline) ≡ offlineLen p) ⌝ }
+    requires { ⌜ (length (now addresses) ≡ addressesLen p) × EntriesSane p (viewOf p (now offline) (now image) (now pointers)) (alone row) 0 (now addresses) ⌝ }
     requires { ⌜ ZonesLow p 0 segment × (filledIn (alone row) 0 ≤ dataCount p) × ((d : ℕ) → d < p .N → offsetIn (alone row) 0 d < p .S) ⌝ }
     ensures { λ _. ⌜
         now (addresses .exit)
-        ≡ pointed p (viewOf p (now (image .entry)) (now (pointers .entry))) (now (addresses .entry))
-        (landedCands p (viewOf p (now (image .entry)) (now (pointers .entry))) segment (alone row) 0)
-        (landedCands p (viewOf p (now (image .entry)) (now (pointers .entry))) segment (alone row) 0) (now (addresses .entry)) ⌝ }
+        ≡ pointed p (viewOf p (now (offline .entry)) (now (image .entry)) (now (pointers .entry))) (now (addresses .entry))
+        (landedCands p (viewOf p (now (offline .entry)) (now (image .entry)) (now (pointers .entry))) segment (alone row) 0)
+        (landedCands p (viewOf p (now (offline .entry)) (now (image .entry)) (now (pointers .entry))) segment (alone row) 0) (now (addresses .entry)) ⌝ }
 {
     let serial = serial_at(p, image, segment);
-    let places = winners(p, image, pointers, addresses, segment, serial, row);
+    let places = winners(p, image, pointers, offline, addresses, segment, serial, row);
     put_places(p, addresses, row, places);
 }

@@ -1,5 +1,5 @@
 -- The checks of both reads one after the other: each refuses, or leaves it to the next (01, Refusals). Assumes nothing.
-use mathlib.Core.Path.{_≡_, refl, sym, ap, _∙_}
+use mathlib.Core.Path.{_≡_, sym, ap, _∙_}
 use mathlib.Core.List.{List, [], _∷_, _++_}
 use mathlib.Core.Bool.{Bool, true, false, not, _&&_}
 use Prim.Native.Nat.{ℕ, suc, _≤_, _<_}
@@ -11,7 +11,7 @@ use Rattle.spec.specs.declared.Answer.{Answer}
 use Rattle.spec.specs.declared.Answer.the-variants.{Refused, BadZone}
 use Rattle.spec.specs.Calls.Check.{zones}
 use Rattle.spec.specs.Calls.{Check, ninth, firstRefusal}
-use Rattle.spec.specs.Drives.{Disk}
+use Rattle.spec.specs.Drives.{Disk, viewOf}
 use Rattle.spec.specs.Engine.{lentOk}
 use Rattle.spec.specs.Lists.{Opt}
 use Rattle.spec.specs.Lists.Opt.{some}
@@ -19,16 +19,17 @@ use Rattle.spec.specs.Memory.{Memory, stateOk}
 use Rattle.spec.specs.Params.{inRange}
 use Rattle.spec.specs.Read.{Found, lies, foundFaults, decodeFaults, readChecks}
 use Rattle.law_views.specs.Views.{seen}
-use Rattle.law_calls.specs.Refusals.{rule-fails, rule-passes, zone-fails, zones-pass, state-fault, state-fine, least-zero}
+use Rattle.law_calls.specs.Refusals.{rule-fails, rule-passes, state-fault, state-fine, least-zero}
+use Rattle.mem_calls.specs.Listed.{listRule, list-fails, list-passes}
 
-module _ (p : Params) (k : Disk) (m : Memory) (a n : ℕ) where
+module _ (p : Params) (off : List ℕ) (k : Disk) (m : Memory) (a n : ℕ) where
   -- 01, Read: where the address lies
   abbrev pub foundAt : Found
   foundAt = lies p (m .state .missing) (m .addresses) a
 
   -- 01, Refusals: the checks that both reads have; n is the lent block's length
   abbrev pub bothChecks : List Check
-  bothChecks = readChecks p (lentOk p k m && eqb n (p .B)) (seen p k) m a
+  bothChecks = readChecks p (lentOk p off k m && eqb n (p .B)) (seen p off k) m a
 
   -- 01, Refusals: the first of them that holds
   abbrev pub readRefusal : Opt Answer
@@ -50,40 +51,42 @@ module _ (p : Params) (k : Disk) (m : Memory) (a n : ℕ) where
   unfolding readChecks
   read-range-passes e = sym (rule-passes 1 (not (inRange p)) (rest 0) (ap not e))
 
-  pub read-lengths-fail : lentOk p k m ≡ false → some (Refused 2) ≡ readFrom 1
+  pub read-lengths-fail : lentOk p off k m ≡ false → some (Refused 2) ≡ readFrom 1
   unfolding readChecks
-  read-lengths-fail e = sym (rule-fails 2 (not (lentOk p k m && eqb n (p .B))) (rest 1) (ap (λ (x : Bool). not (x && eqb n (p .B))) e))
+  read-lengths-fail e = sym (rule-fails 2 (not (lentOk p off k m && eqb n (p .B))) (rest 1) (ap (λ (x : Bool). not (x && eqb n (p .B))) e))
 
-  pub read-block-fails : lentOk p k m ≡ true → (n ≡ p .B → ⊥) → some (Refused 2) ≡ readFrom 1
+  pub read-block-fails : lentOk p off k m ≡ true → (n ≡ p .B → ⊥) → some (Refused 2) ≡ readFrom 1
   unfolding readChecks
-  read-block-fails e f = sym (rule-fails 2 (not (lentOk p k m && eqb n (p .B))) (rest 1) (λ j. not (e j && ne-eqb n (p .B) f j)))
+  read-block-fails e f = sym (rule-fails 2 (not (lentOk p off k m && eqb n (p .B))) (rest 1) (λ j. not (e j && ne-eqb n (p .B) f j)))
 
-  pub read-lengths-pass : lentOk p k m ≡ true → n ≡ p .B → readFrom 2 ≡ readFrom 1
+  pub read-lengths-pass : lentOk p off k m ≡ true → n ≡ p .B → readFrom 2 ≡ readFrom 1
   unfolding readChecks
-  read-lengths-pass e f = sym (rule-passes 2 (not (lentOk p k m && eqb n (p .B))) (rest 1) (λ j. not (e j && eq-eqb n (p .B) f j)))
+  read-lengths-pass e f = sym (rule-passes 2 (not (lentOk p off k m && eqb n (p .B))) (rest 1) (λ j. not (e j && eq-eqb n (p .B) f j)))
 
-  pub read-address-fails : p .L ≤ a → some (Refused 4) ≡ readFrom 2
+  -- 02, item 4: r is what `list_rule` answers
+  pub read-list-fails : (r : ℕ) → r ≡ listRule p off → (r ≡ 0 → ⊥) → some (Refused r) ≡ readFrom 2
+  unfolding readChecks viewOf
+  read-list-fails r e f = sym (list-fails p (seen p off k) (rest 3) r e f)
+
+  pub read-list-passes : (r : ℕ) → r ≡ listRule p off → r ≡ 0 → readFrom 4 ≡ readFrom 2
+  unfolding readChecks viewOf
+  read-list-passes r e f = sym (list-passes p (seen p off k) (rest 3) r e f)
+
+  pub read-address-fails : p .L ≤ a → some (Refused 4) ≡ readFrom 4
   unfolding readChecks
-  read-address-fails h = sym (rule-fails 4 (leb (p .L) a) (rest 2) (le-leb (p .L) a h))
+  read-address-fails h = sym (rule-fails 4 (leb (p .L) a) (rest 4) (le-leb (p .L) a h))
 
-  pub read-address-passes : a < p .L → readFrom 3 ≡ readFrom 2
+  pub read-address-passes : a < p .L → readFrom 5 ≡ readFrom 4
   unfolding readChecks
-  read-address-passes h = sym (rule-passes 4 (leb (p .L) a) (rest 2) (lt-leb (p .L) a h))
+  read-address-passes h = sym (rule-passes 4 (leb (p .L) a) (rest 4) (lt-leb (p .L) a h))
 
-  pub read-state-fails : stateOk p (m .state) ≡ false → some (BadZone 0) ≡ readFrom 3
+  pub read-state-fails : stateOk p (m .state) ≡ false → some (BadZone 0) ≡ readFrom 5
   unfolding readChecks firstRefusal ninth
   read-state-fails e =
-      let zs = foundFaults p (seen p k) (m .state .missing) foundAt in
-      sym (ap (λ (x : List ℕ). firstRefusal (zones (x ++ zs) ∷ rest 3)) (state-fault p (m .state) e) ∙ ap (λ (x : ℕ). some (BadZone x)) (least-zero zs))
+      let zs = foundFaults p (seen p off k) (m .state .missing) foundAt in
+      sym (ap (λ (x : List ℕ). firstRefusal (zones (x ++ zs) ∷ rest 5)) (state-fault p (m .state) e) ∙ ap (λ (x : ℕ). some (BadZone x)) (least-zero zs))
 
-  read-state-passes : stateOk p (m .state) ≡ true → (zs : List ℕ) → foundFaults p (seen p k) (m .state .missing) foundAt ≡ zs → firstRefusal (zones zs ∷ rest 3) ≡ readFrom 3
+  pub read-state-passes : stateOk p (m .state) ≡ true
+      → firstRefusal (zones (foundFaults p (seen p off k) (m .state .missing) foundAt) ∷ zones (decodeFaults p (seen p off k) (m .state .missing) (m .compact) foundAt) ∷ []) ≡ readFrom 5
   unfolding readChecks
-  read-state-passes e zs f = sym (λ j. firstRefusal (zones (state-fine p (m .state) e j ++ f j) ∷ rest 3))
-
-  pub read-place-fails : stateOk p (m .state) ≡ true → (z : ℕ) → foundFaults p (seen p k) (m .state .missing) foundAt ≡ z ∷ [] → some (BadZone z) ≡ readFrom 3
-  read-place-fails e z f = sym (zone-fails z (rest 3)) ∙ read-state-passes e (z ∷ []) f
-
-  pub read-place-passes : stateOk p (m .state) ≡ true → foundFaults p (seen p k) (m .state .missing) foundAt ≡ []
-      → firstRefusal (zones (decodeFaults p (seen p k) (m .state .missing) (m .compact) foundAt) ∷ []) ≡ readFrom 3
-  unfolding readChecks
-  read-place-passes e f = sym (zones-pass [] (rest 3) refl) ∙ read-state-passes e [] f
+  read-state-passes e = sym (ap (λ (x : List ℕ). firstRefusal (zones (x ++ foundFaults p (seen p off k) (m .state .missing) foundAt) ∷ rest 5)) (state-fine p (m .state) e))

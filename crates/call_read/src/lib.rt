@@ -3,29 +3,32 @@ ghost use mathlib.Core.Path.{_≡_};
 ghost use mathlib.Core.Bool.{true, false};
 ghost use mathlib.Core.List.{List, []};
 ghost use Prim.Native.Nat.{ℕ, _+_, _<_};
-ghost use lib.Dec.{ltb};
 ghost use lib.ListN.{length, getD};
 ghost use Rattle.spec.specs.Bytes.{part};
 ghost use Rattle.spec.specs.Calls.{mkAfter};
-ghost use Rattle.spec.specs.Drives.{viewOf, mkDisk, zoneAt, chunkAt, zoneOn, recordIn, recordAt};
+ghost use Rattle.spec.specs.Drives.{viewOf, mkDisk, zoneAt, zoneOn, recordIn, recordAt};
 ghost use Rattle.spec.specs.Engine.{callDisk};
 ghost use Rattle.spec.specs.Engine.Call.{read, fill};
-ghost use Rattle.spec.specs.Lists.{consIf, isIn};
+ghost use Rattle.spec.specs.Lists.{isIn};
 ghost use Rattle.spec.specs.Memory.{mkMemory, stateLen, stateOf};
-ghost use Rattle.spec.specs.Params.{inRange, imageLen, pointersLen, compactLen, placeByte};
-ghost use Rattle.spec.specs.Parity.{decodeBlock, decodeRec};
-ghost use Rattle.spec.specs.Read.Found.{away};
-ghost use Rattle.spec.specs.Read.{lies, foundFaults};
+ghost use Rattle.spec.specs.Params.{inRange, imageLen, pointersLen, offlineLen, compactLen, placeZone, placeDrive, placeByte};
+ghost use Rattle.spec.specs.Parity.{decodeRec};
+ghost use Rattle.spec.specs.Read.Found.{here, away};
+ghost use Rattle.spec.specs.Read.{lies};
 ghost use Rattle.spec.specs.Host.{PartOf, partAt, partLen};
 ghost use Rattle.disk_records.specs.Record.{recVal};
 ghost use Rattle.disk_stored.specs.Places.{DataPlace};
 ghost use Rattle.mem_lookup.specs.Lies.{foundOf};
-ghost use Rattle.call_read.specs.Decode.{ShownOn, ShownBy, OffsetsLow, anyHidden, pieceFrom};
+ghost use Rattle.disk_holders.specs.Held.{HeldOne};
+ghost use Rattle.law_drives.specs.Segs.{Here};
+ghost use Rattle.disk_code.specs.Folds.{PartsWithin};
+ghost use Rattle.call_read.specs.Decode.{ShownOn, ShownBy, OffsetsLow, anyHidden, BlockAt, BlocksAt, lostBlock};
 ghost use Rattle.call_read.specs.Order.{readRefusal};
-ghost use Rattle.call_read.specs.Placed.{placedAt};
-ghost use Rattle.call_read.specs.Sought.{refusedBy, Gives, Seeks};
+ghost use Rattle.call_read.specs.Placed.{Sorted};
+ghost use Rattle.call_read.specs.Sought.{refusedBy, Gives, Seeks, SeeksAll};
 ghost use Rattle.law_views.specs.Views.{Whole};
 ghost use Rattle.law_basic.specs.Segs.{ZonesLow};
+use disk_holders::Held;
 use disk_records::Record;
 use mem_lookup::Found;
 use spec::Address;
@@ -33,6 +36,7 @@ use spec::Answer;
 use spec::Params;
 use spec::Place;
 use spec::Seg;
+use spec::Serial;
 use spec::Stamp;
 
 // 01, Refusals; Read: a refusal, or where the address lies, with the stamp.
@@ -41,19 +45,6 @@ pub enum Sought {
     Never,
     Here(Place, Stamp),
     Away(Place, Stamp),
-}
-
-// 01, Refusals, 9: the bad zone of a place to be read; Z where there is none.
-fn found_fault(p: Params, pointers: &[u8], gone: u8, f: Found) -> usize
-    requires { ⌜ inRange p ≡ true ⌝ }
-    requires { ⌜ length (now pointers) ≡ pointersLen p ⌝ }
-    ensures { λ r. ⌜ ((im : List ℕ) → length im ≡ imageLen p → foundFaults p (viewOf p im (now (pointers .entry))) gone (foundOf f) ≡ consIf (ltb r (p .Z)) r []) ⌝ }
-{
-    match f {
-        Found::Nowhere => p.Z,
-        Found::Here(q) => mem_lookup::place_fault(p, pointers, gone, q),
-        Found::Away(q) => mem_lookup::place_fault(p, pointers, gone, q),
-    }
 }
 
 // ---- decoding
@@ -71,7 +62,7 @@ fn shown_on(
     requires { ⌜ inRange p ≡ true ⌝ }
     requires { ⌜ (length (now pointers) ≡ pointersLen p) × (length (now compact) ≡ compactLen p) ⌝ }
     requires { ⌜ (drive < p .N) × ZonesLow p gone segment × (s < p .S) ⌝ }
-    ensures { λ r. ⌜ ((im : List ℕ) → length im ≡ imageLen p → ShownOn p (viewOf p im (now (pointers .entry))) gone (now (compact .entry)) segment s drive r) ⌝ }
+    ensures { λ r. ⌜ ((off : List ℕ) (im : List ℕ) → length im ≡ imageLen p → ShownOn p (viewOf p off im (now (pointers .entry))) gone (now (compact .entry)) segment s drive r) ⌝ }
 {
     if bits_masks::has_drive(gone, drive) {
         return 0;
@@ -94,9 +85,9 @@ fn shown_offsets(
     requires { ⌜ (length (now pointers) ≡ pointersLen p) × (length (now compact) ≡ compactLen p) × (length (now at) ≡ 8) ⌝ }
     requires { ⌜ ZonesLow p gone segment × (s < p .S) ⌝ }
     ensures { λ _. ⌜
-        ((im : List ℕ)
+        ((off : List ℕ) (im : List ℕ)
         → length im ≡ imageLen p
-        → ShownBy p (viewOf p im (now (pointers .entry))) gone (now (compact .entry)) segment s (now (at .exit))) ⌝ }
+        → ShownBy p (viewOf p off im (now (pointers .entry))) gone (now (compact .entry)) segment s (now (at .exit))) ⌝ }
 {
     let mut d = 0;
     while d < p.N {
@@ -133,10 +124,10 @@ fn record_on(
     requires { ⌜ inRange p ≡ true ⌝ }
     requires { ⌜ (length (now image) ≡ imageLen p) × (drive < p .N) × ZonesLow p gone segment × (o < p .S) ⌝ }
     ensures { λ r. ⌜
-        ((ps : List ℕ)
+        ((off : List ℕ) (ps : List ℕ)
         → length ps ≡ pointersLen p
         → isIn gone drive ≡ false
-        → recVal r ≡ recordIn p full (zoneAt (viewOf p (now (image .entry)) ps) drive (zoneOn segment drive)) o) ⌝ }
+        → recVal r ≡ recordIn p full (zoneAt (viewOf p off (now (image .entry)) ps) drive (zoneOn segment drive)) o) ⌝ }
 {
     if bits_masks::has_drive(gone, drive) {
         return Record {
@@ -163,7 +154,10 @@ fn decode_record(
     requires { ⌜ inRange p ≡ true ⌝ }
     requires { ⌜ Whole p (mkDisk (now image) (now pointers)) ⌝ }
     requires { ⌜ (drive < p .N) × ZonesLow p gone segment × (s < p .S) × OffsetsLow p (now at) ⌝ }
-    ensures { λ r. ⌜ recVal r ≡ decodeRec p gone s drive (λ e. recordAt p (viewOf p (now (image .entry)) (now (pointers .entry))) gone e segment (getD (now (at .entry)) e 0)) ⌝ }
+    ensures { λ r. ⌜
+        ((off : List ℕ)
+        → recVal r ≡ decodeRec p gone s drive
+        (λ e. recordAt p (viewOf p off (now (image .entry)) (now (pointers .entry))) gone e segment (getD (now (at .entry)) e 0))) ⌝ }
 {
     let full = disk_zones::is_sealed(p, pointers, gone, segment);
     let mut addresses = [0u64; 8];
@@ -178,95 +172,144 @@ fn decode_record(
     disk_code::decode_record(p, &addresses, &stamps, gone, s as u32, drive)
 }
 
-// 01, Read: the block of a missing drive, decoded from those at the data offsets.
-fn decode_block(
-    p: Params,
-    image: &[u8],
-    gone: u8,
-    drive: usize,
-    segment: Seg,
-    s: usize,
-    at: &[usize],
-    block: &mut [u8],
-)
+// The byte at which the block at a data offset begins; 0 for a missing drive, of which nothing is read.
+fn block_on(p: Params, gone: u8, drive: usize, segment: Seg, o: usize) -> usize
     requires { ⌜ inRange p ≡ true ⌝ }
-    requires { ⌜ (length (now image) ≡ imageLen p) × (length (now block) ≡ p .B) × (drive < p .N) × ZonesLow p 0 segment × OffsetsLow p (now at) ⌝ }
-    ensures { λ _. ⌜
-        ((ps : List ℕ)
-        → length ps ≡ pointersLen p
-        → now (block .exit) ≡ decodeBlock p gone s drive
-        (λ e. chunkAt (viewOf p (now (image .entry)) ps) e (zoneOn segment e) (1 + getD (now (at .entry)) e 0) .block)) ⌝ }
+    requires { ⌜ (drive < p .N) × ZonesLow p gone segment × (o < p .S) ⌝ }
+    ensures { λ r. ⌜ ((im : List ℕ) → length im ≡ imageLen p → isIn gone drive ≡ false → BlockAt p im segment drive o r) ⌝ }
 {
-    let mut bytes = [0usize; 8];
+    if bits_masks::has_drive(gone, drive) {
+        return 0;
+    }
+    let zone = disk_shape::zone_on(p, segment, drive);
+    disk_shape::block_byte(p, drive, zone, 1 + o)
+}
+
+// By drive.
+fn block_bytes(p: Params, gone: u8, segment: Seg, at: &[usize], bytes: &mut [usize])
+    requires { ⌜ inRange p ≡ true ⌝ }
+    requires { ⌜ ZonesLow p gone segment × OffsetsLow p (now at) × (length (now bytes) ≡ 8) ⌝ }
+    ensures { λ _. ⌜ ((im : List ℕ) → length im ≡ imageLen p → BlocksAt p im gone segment (now (at .entry)) (now (bytes .exit))) ⌝ }
+{
     let mut d = 0;
     while d < p.N {
-        let zone = disk_shape::zone_on(p, segment, d);
-        bytes[d] = disk_shape::block_byte(p, d, zone, 1 + at[d]);
+        bytes[d] = block_on(p, gone, d, segment, at[d]);
         d += 1;
     }
-    disk_code::decode_block(p, image, &bytes, gone, s, drive, block);
 }
 
 // ---- the checks of both reads, in order
 
-// 01, Read: a place on the missing drive: its stamp, or refused for its zone where some present drive does not show the stripe. The offsets at
-// which the table shows it are left in at.
+// 01, Read: a place on the missing drive, in the segment of the serial: its stamp, or refused for its zone where some present drive does not
+// show the stripe. The bytes at which the blocks to decode from begin are left in bytes.
 fn seek_lost(
     p: Params,
     image: &[u8],
     pointers: &[u8],
+    offline: &[u8],
     gone: u8,
     compact: &[u8],
     q: Place,
-    at: &mut [usize],
+    serial: Serial,
+    bytes: &mut [usize],
 ) -> Sought
     requires { ⌜ inRange p ≡ true ⌝ }
-    requires { ⌜ Whole p (mkDisk (now image) (now pointers)) ⌝ }
-    requires { ⌜ (length (now compact) ≡ compactLen p) × (length (now at) ≡ 8) × DataPlace p (q .0) ⌝ }
-    ensures { λ r. ⌜ Seeks p (viewOf p (now (image .entry)) (now (pointers .entry))) gone (now (compact .entry)) (away (q .0)) r (now (at .exit)) ⌝ }
+    requires { ⌜ Whole p (mkDisk (now image) (now pointers)) × (length (now offline) ≡ offlineLen p) × Here p gone ⌝ }
+    requires { ⌜ (length (now compact) ≡ compactLen p) × (length (now bytes) ≡ 8) × DataPlace p (q .0) ⌝ }
+    requires { ⌜ HeldOne p (viewOf p (now offline) (now image) (now pointers)) gone (placeDrive p (q .0)) (placeZone p (q .0)) (serial .0) ⌝ }
+    ensures { λ r. ⌜
+        Seeks p (now (image .entry)) (viewOf p (now (offline .entry)) (now (image .entry)) (now (pointers .entry))) gone (now (compact .entry)) (away (q .0)) r (now (bytes .exit)) ⌝ }
 {
     let zone = disk_shape::place_zone(p, q);
     let s = disk_shape::place_block(p, q) - 1;
-    let segment = disk_shape::across(p, zone);
-    shown_offsets(p, pointers, gone, compact, segment, s, at);
-    if any_hidden(p, at) {
+    let segment = disk_gather::seg_for(p, image, pointers, offline, gone, serial);
+    let mut at = [0usize; 8];
+    shown_offsets(p, pointers, gone, compact, segment, s, &mut at);
+    if any_hidden(p, &at) {
         return Sought::Bad(Answer::BadZone(zone as u64));
     }
+    block_bytes(p, gone, segment, &at, bytes);
     let drive = disk_shape::place_drive(p, q);
-    let r = decode_record(p, image, pointers, gone, drive, segment, s, at);
+    let r = decode_record(p, image, pointers, gone, drive, segment, s, &at);
     let stamp = r.stamp;
     Sought::Away(q, stamp)
 }
 
-// 01, Read: the stamp of what lies there: by footer or spare, or decoded.
+// 01, Refusals, 9; Read: a place on the missing drive: its segment is looked up once, for its faults and for the decode.
+fn seek_away(
+    p: Params,
+    image: &[u8],
+    pointers: &[u8],
+    offline: &[u8],
+    gone: u8,
+    compact: &[u8],
+    q: Place,
+    bytes: &mut [usize],
+) -> Sought
+    requires { ⌜ inRange p ≡ true ⌝ }
+    requires { ⌜ Whole p (mkDisk (now image) (now pointers)) × (length (now offline) ≡ offlineLen p) × Here p gone ⌝ }
+    requires { ⌜ (length (now compact) ≡ compactLen p) × (length (now bytes) ≡ 8) ⌝ }
+    ensures { λ r. ⌜
+        SeeksAll p (now (image .entry)) (viewOf p (now (offline .entry)) (now (image .entry)) (now (pointers .entry))) gone (now (compact .entry)) (away (q .0)) r (now (bytes .exit)) ⌝ }
+{
+    let held = disk_holders::place_held(p, image, pointers, offline, gone, q);
+    match held {
+        Held::Nothing => Sought::Bad(Answer::BadZone(0)),
+        Held::One(serial) => {
+            let zone = mem_lookup::held_fault(p, pointers, gone, q, held);
+            if zone < p.Z {
+                return Sought::Bad(Answer::BadZone(zone as u64));
+            }
+            seek_lost(p, image, pointers, offline, gone, compact, q, serial, bytes)
+        }
+    }
+}
+
+// 01, Refusals, 9; Read: a place on a present drive: the stamp by footer or spare.
+fn seek_here(p: Params, image: &[u8], pointers: &[u8], offline: &[u8], gone: u8, q: Place) -> Sought
+    requires { ⌜ inRange p ≡ true ⌝ }
+    requires { ⌜ Whole p (mkDisk (now image) (now pointers)) × (length (now offline) ≡ offlineLen p) × Here p gone ⌝ }
+    requires { ⌜ isIn gone (placeDrive p (q .0)) ≡ false ⌝ }
+    ensures { λ r. ⌜
+        ((cs : List ℕ) (bs : List ℕ) → SeeksAll p (now (image .entry)) (viewOf p (now (offline .entry)) (now (image .entry)) (now (pointers .entry))) gone cs (here (q .0)) r bs) ⌝ }
+{
+    let zone = mem_lookup::place_fault(p, image, pointers, offline, gone, q);
+    if zone < p.Z {
+        return Sought::Bad(Answer::BadZone(zone as u64));
+    }
+    let r = disk_holders::held_record(p, image, pointers, offline, gone, q);
+    let stamp = r.stamp;
+    Sought::Here(q, stamp)
+}
+
+// 01, Read: what lies there.
 fn seek_found(
     p: Params,
     image: &[u8],
     pointers: &[u8],
+    offline: &[u8],
     gone: u8,
     compact: &[u8],
     f: Found,
-    at: &mut [usize],
+    bytes: &mut [usize],
 ) -> Sought
     requires { ⌜ inRange p ≡ true ⌝ }
-    requires { ⌜ Whole p (mkDisk (now image) (now pointers)) ⌝ }
-    requires { ⌜ (length (now compact) ≡ compactLen p) × (length (now at) ≡ 8) × placedAt p (foundOf f) ⌝ }
-    ensures { λ r. ⌜ Seeks p (viewOf p (now (image .entry)) (now (pointers .entry))) gone (now (compact .entry)) (foundOf f) r (now (at .exit)) ⌝ }
+    requires { ⌜ Whole p (mkDisk (now image) (now pointers)) × (length (now offline) ≡ offlineLen p) × Here p gone ⌝ }
+    requires { ⌜ (length (now compact) ≡ compactLen p) × (length (now bytes) ≡ 8) × Sorted p gone (foundOf f) ⌝ }
+    ensures { λ r. ⌜
+        SeeksAll p (now (image .entry)) (viewOf p (now (offline .entry)) (now (image .entry)) (now (pointers .entry))) gone (now (compact .entry)) (foundOf f) r (now (bytes .exit)) ⌝ }
 {
     match f {
         Found::Nowhere => Sought::Never,
-        Found::Here(q) => {
-            let r = disk_stored::place_record(p, image, pointers, gone, q);
-            let stamp = r.stamp;
-            Sought::Here(q, stamp)
-        }
-        Found::Away(q) => seek_lost(p, image, pointers, gone, compact, q, at),
+        Found::Here(q) => seek_here(p, image, pointers, offline, gone, q),
+        Found::Away(q) => seek_away(p, image, pointers, offline, gone, compact, q, bytes),
     }
 }
 
 // 01, Refusals: the checks, and then what the lookup gives; len is the lent block's length, B for the first call, which has none.
 fn seek(
     p: Params,
+    offline: &[u8],
     image: &[u8],
     pointers: &[u8],
     addresses: &[u8],
@@ -275,25 +318,29 @@ fn seek(
     state: &[u8],
     address: Address,
     len: usize,
-    at: &mut [usize],
+    bytes: &mut [usize],
 ) -> Sought
-    requires { ⌜ (length (now state) ≡ stateLen) × (length (now at) ≡ 8) ⌝ }
+    requires { ⌜ (length (now state) ≡ stateLen) × (length (now bytes) ≡ 8) ⌝ }
     ensures { λ r. ⌜
         refusedBy r
-        ≡ readRefusal p (mkDisk (now (image .entry)) (now (pointers .entry)))
+        ≡ readRefusal p (now (offline .entry)) (mkDisk (now (image .entry)) (now (pointers .entry)))
         (mkMemory (stateOf (now (state .entry))) (now (addresses .entry)) (now (compact .entry)) (now (inflight .entry))) (address .0) len ⌝ }
     ensures { λ r. ⌜
-        Gives p (viewOf p (now (image .entry)) (now (pointers .entry))) (stateOf (now (state .entry)) .missing) (now (compact .entry))
-        (lies p (stateOf (now (state .entry)) .missing) (now (addresses .entry)) (address .0)) r (now (at .exit)) ⌝ }
+        Gives p (now (image .entry)) (viewOf p (now (offline .entry)) (now (image .entry)) (now (pointers .entry))) (stateOf (now (state .entry)) .missing) (now (compact .entry))
+        (lies p (stateOf (now (state .entry)) .missing) (now (addresses .entry)) (address .0)) r (now (bytes .exit)) ⌝ }
 {
     if !disk_shape::in_range(p) {
         return Sought::Bad(Answer::Refused(1));
     }
-    if !mem_calls::lent_ok(p, image, pointers, addresses, compact, inflight) {
+    if !mem_calls::lent_ok(p, offline, image, pointers, addresses, compact, inflight) {
         return Sought::Bad(Answer::Refused(2));
     }
     if len != p.B {
         return Sought::Bad(Answer::Refused(2));
+    }
+    let rule = mem_calls::list_rule(p, offline);
+    if rule != 0 {
+        return Sought::Bad(Answer::Refused(rule));
     }
     if p.L as u64 <= address.0 {
         return Sought::Bad(Answer::Refused(4));
@@ -303,11 +350,7 @@ fn seek(
     }
     let gone = mem_bounds::missing(state);
     let f = mem_lookup::lies(p, gone, addresses, address.0 as usize);
-    let zone = found_fault(p, pointers, gone, f);
-    if zone < p.Z {
-        return Sought::Bad(Answer::BadZone(zone as u64));
-    }
-    seek_found(p, image, pointers, gone, compact, f, at)
+    seek_found(p, image, pointers, offline, gone, compact, f, bytes)
 }
 
 // ---- the two calls
@@ -315,6 +358,7 @@ fn seek(
 // The first read: its answer, a part of the image by its byte offset.
 pub fn find(
     p: Params,
+    offline: &[u8],
     image: &[u8],
     pointers: &[u8],
     addresses: &[u8],
@@ -327,13 +371,14 @@ pub fn find(
     ensures { λ r. ⌜
         mkAfter r (mkDisk (now (image .entry)) (now (pointers .entry)))
         (mkMemory (stateOf (now (state .entry))) (now (addresses .entry)) (now (compact .entry)) (now (inflight .entry))) []
-        ≡ callDisk p (mkDisk (now (image .entry)) (now (pointers .entry)))
+        ≡ callDisk p (now (offline .entry)) (mkDisk (now (image .entry)) (now (pointers .entry)))
         (mkMemory (stateOf (now (state .entry))) (now (addresses .entry)) (now (compact .entry)) (now (inflight .entry))) (read (address .0)) ⌝ }
 {
     let b = p.B;
-    let mut at = [0usize; 8];
+    let mut bytes = [0usize; 8];
     let sought = seek(
         p,
+        offline,
         image,
         pointers,
         addresses,
@@ -342,7 +387,7 @@ pub fn find(
         state,
         address,
         b,
-        &mut at,
+        &mut bytes,
     );
     match sought {
         Sought::Bad(answer) => answer,
@@ -355,6 +400,7 @@ pub fn find(
 // The first read's part of the lent image, by its place there: the block, or empty where the answer is no part.
 pub fn part<'a>(
     p: Params,
+    offline: &[u8],
     image: &'a [u8],
     pointers: &[u8],
     addresses: &[u8],
@@ -365,15 +411,16 @@ pub fn part<'a>(
 ) -> &'a [u8]
     requires { ⌜ length (now state) ≡ stateLen ⌝ }
     ensures { λ r. ⌜
-        PartOf (image .entry) (partAt (callDisk p (mkDisk (now (image .entry)) (now (pointers .entry)))
+        PartOf (image .entry) (partAt (callDisk p (now (offline .entry)) (mkDisk (now (image .entry)) (now (pointers .entry)))
         (mkMemory (stateOf (now (state .entry))) (now (addresses .entry)) (now (compact .entry)) (now (inflight .entry)))
         (read (address .0)) .answer)) (partLen p
-        (callDisk p (mkDisk (now (image .entry)) (now (pointers .entry)))
+        (callDisk p (now (offline .entry)) (mkDisk (now (image .entry)) (now (pointers .entry)))
         (mkMemory (stateOf (now (state .entry))) (now (addresses .entry)) (now (compact .entry)) (now (inflight .entry)))
         (read (address .0)) .answer)) r ⌝ }
 {
     let answer = find(
         p,
+        offline,
         image,
         pointers,
         addresses,
@@ -401,22 +448,22 @@ fn fill_here(p: Params, image: &[u8], q: Place, block: &mut [u8])
     disk_blocks::copy(block, &image[at..end]);
 }
 
-// The second read of a place on the missing drive: decoded from the blocks at the data offsets.
-fn fill_lost(p: Params, image: &[u8], gone: u8, q: Place, at: &[usize], block: &mut [u8])
+// The second read of a place on the missing drive: decoded from the blocks that begin at these bytes.
+fn fill_lost(p: Params, image: &[u8], gone: u8, q: Place, bytes: &[usize], block: &mut [u8])
     requires { ⌜ inRange p ≡ true ⌝ }
-    requires { ⌜ (length (now image) ≡ imageLen p) × (length (now block) ≡ p .B) × DataPlace p (q .0) × OffsetsLow p (now at) ⌝ }
-    ensures { λ _. ⌜ ((ps : List ℕ) → length ps ≡ pointersLen p → now (block .exit) ≡ pieceFrom p (viewOf p (now (image .entry)) ps) gone (q .0) (now (at .entry)) .block) ⌝ }
+    requires { ⌜ (length (now image) ≡ imageLen p) × (length (now block) ≡ p .B) × DataPlace p (q .0) ⌝ }
+    requires { ⌜ (length (now bytes) ≡ 8) × PartsWithin gone (p .N) (now bytes) (p .B) (imageLen p) ⌝ }
+    ensures { λ _. ⌜ now (block .exit) ≡ lostBlock p (now (image .entry)) gone (q .0) (now (bytes .entry)) ⌝ }
 {
-    let zone = disk_shape::place_zone(p, q);
     let s = disk_shape::place_block(p, q) - 1;
     let drive = disk_shape::place_drive(p, q);
-    let segment = disk_shape::across(p, zone);
-    decode_block(p, image, gone, drive, segment, s, at, block);
+    disk_code::decode_block(p, image, bytes, gone, s, drive, block);
 }
 
 // The second read, into a lent block.
 pub fn fill(
     p: Params,
+    offline: &[u8],
     image: &[u8],
     pointers: &[u8],
     addresses: &[u8],
@@ -430,14 +477,15 @@ pub fn fill(
     ensures { λ r. ⌜
         mkAfter r (mkDisk (now (image .entry)) (now (pointers .entry)))
         (mkMemory (stateOf (now (state .entry))) (now (addresses .entry)) (now (compact .entry)) (now (inflight .entry))) (now (block .exit))
-        ≡ callDisk p (mkDisk (now (image .entry)) (now (pointers .entry)))
+        ≡ callDisk p (now (offline .entry)) (mkDisk (now (image .entry)) (now (pointers .entry)))
         (mkMemory (stateOf (now (state .entry))) (now (addresses .entry)) (now (compact .entry)) (now (inflight .entry)))
         (fill (address .0) (now (block .entry))) ⌝ }
 {
     let n = block.len();
-    let mut at = [0usize; 8];
+    let mut bytes = [0usize; 8];
     let sought = seek(
         p,
+        offline,
         image,
         pointers,
         addresses,
@@ -446,7 +494,7 @@ pub fn fill(
         state,
         address,
         n,
-        &mut at,
+        &mut bytes,
     );
     match sought {
         Sought::Bad(answer) => answer,
@@ -460,7 +508,7 @@ pub fn fill(
         }
         Sought::Away(q, stamp) => {
             let gone = mem_bounds::missing(state);
-            fill_lost(p, image, gone, q, &at, block);
+            fill_lost(p, image, gone, q, &bytes, block);
             Answer::Filled(stamp)
         }
     }

@@ -13,8 +13,8 @@ ghost use Rattle.spec.specs.Lists.Opt.{none};
 ghost use Rattle.spec.specs.Memory.{mkMemory};
 ghost use Rattle.spec.specs.Params.{named};
 ghost use Rattle.spec.specs.Segments.{segments};
+ghost use Rattle.call_rebuild.specs.Ends.{EndsGathered};
 ghost use Rattle.call_rebuild.specs.Order.{badNumbers, rebuildFront};
-ghost use Rattle.recover_segments.specs.Remains.{Keeps};
 use mem_calls::Check;
 use spec::Answer;
 use spec::Done;
@@ -41,9 +41,10 @@ pub fn bad_numbers(p: Params, missing: u8, drive: usize) -> bool
     !names_missing(p, missing, drive)
 }
 
-// 01, Refusals: the checks of a rebuild up to the pointers of 9.
+// 01, Refusals: the checks of a rebuild up to the pointers of 9; 02, item 4: 10 and the narrow bound of L behind 2.
 fn checks(
     p: Params,
+    offline: &[u8],
     image: &[u8],
     pointers: &[u8],
     addresses: &[u8],
@@ -52,45 +53,68 @@ fn checks(
     state: State,
     drive: usize,
 ) -> Check
-    ensures { λ r. ⌜ checked r ≡ rebuildFront p (mkDisk (now (image .entry)) (now (pointers .entry)))
+    ensures { λ r. ⌜
+        checked r
+        ≡ rebuildFront p (now (offline .entry)) (mkDisk (now (image .entry)) (now (pointers .entry)))
         (mkMemory state (now (addresses .entry)) (now (compact .entry)) (now (inflight .entry))) drive ⌝ }
 {
     if bad_numbers(p, state.missing, drive) {
         return Check::Fail(Answer::Refused(1));
     }
-    if !mem_calls::lent_ok(p, image, pointers, addresses, compact, inflight) {
+    if !mem_calls::lent_ok(p, offline, image, pointers, addresses, compact, inflight) {
         return Check::Fail(Answer::Refused(2));
     }
-    let z = recover_headers::pointer_fault(p, pointers, bits_masks::only_drive(drive));
+    let rule = mem_calls::list_rule(p, offline);
+    if rule != 0 {
+        return Check::Fail(Answer::Refused(rule));
+    }
+    let z = recover_headers::pointer_fault(p, pointers, offline, bits_masks::only_drive(drive));
     if z < p.Z {
         return Check::Fail(Answer::BadZone(z as u64));
     }
     Check::Pass
 }
 
-// 01, Rebuild: the stores, once no check holds; kept flags the segments that remain.
+// 01, Rebuild: the stores, once no check holds; by zone of the lowest present drive, kept flags the segments that remain, with their serials and rows.
 fn restore(
     p: Params,
+    offline: &[u8],
     image: &mut [u8],
     pointers: &mut [u8],
     addresses: &mut [u8],
     compact: &mut [u8],
     inflight: &[u8],
     kept: &[bool],
+    serials: &[u64],
+    rows: &[u32],
     state: State,
     drive: usize,
     count: u64,
 ) -> Done
-    requires { ⌜ rebuildFront p (mkDisk (now image) (now pointers)) (mkMemory state (now addresses) (now compact) (now inflight)) drive ≡ none ⌝ }
-    requires { ⌜ segmentFaults p (named drive) (segments p (viewOf p (now image) (now pointers)) (named drive)) ≡ [] ⌝ }
-    requires { ⌜ Keeps p (viewOf p (now image) (now pointers)) (named drive) (now kept) ⌝ }
+    requires { ⌜
+        rebuildFront p (now offline) (mkDisk (now image) (now pointers)) (mkMemory state (now addresses) (now compact) (now inflight)) drive ≡ none ⌝ }
+    requires { ⌜
+        segmentFaults p (viewOf p (now offline) (now image) (now pointers)) (named drive) (segments p (viewOf p (now offline) (now image) (now pointers)) (named drive))
+        ≡ [] ⌝ }
+    requires { ⌜ EndsGathered p (viewOf p (now offline) (now image) (now pointers)) (named drive) (now kept) (now serials) (now rows) ⌝ }
     ensures { λ r. ⌜
         after r (now (image .exit)) (now (pointers .exit)) (now (addresses .exit)) (now (compact .exit)) (now (inflight .entry)) []
-        ≡ callDisk p (mkDisk (now (image .entry)) (now (pointers .entry)))
+        ≡ callDisk p (now (offline .entry)) (mkDisk (now (image .entry)) (now (pointers .entry)))
         (mkMemory state (now (addresses .entry)) (now (compact .entry)) (now (inflight .entry))) (rebuildCall drive count) ⌝ }
 {
     let gone = bits_masks::only_drive(drive);
-    let made = recover_rebuild::rebuild_stores(p, image, pointers, gone, kept, drive, count);
+    let made = recover_rebuild::rebuild_stores(
+        p,
+        image,
+        pointers,
+        offline,
+        gone,
+        kept,
+        serials,
+        rows,
+        drive,
+        count,
+    );
     if made.cut {
         return mem_calls::cut(addresses, compact);
     }
@@ -103,6 +127,7 @@ fn restore(
 // 01, Refusals, 9: the segments, once the checks up to the pointers of 9 have passed; then the stores.
 fn examined(
     p: Params,
+    offline: &[u8],
     image: &mut [u8],
     pointers: &mut [u8],
     addresses: &mut [u8],
@@ -112,26 +137,30 @@ fn examined(
     drive: usize,
     count: u64,
 ) -> Done
-    requires { ⌜ rebuildFront p (mkDisk (now image) (now pointers)) (mkMemory state (now addresses) (now compact) (now inflight)) drive ≡ none ⌝ }
+    requires { ⌜
+        rebuildFront p (now offline) (mkDisk (now image) (now pointers)) (mkMemory state (now addresses) (now compact) (now inflight)) drive ≡ none ⌝ }
     ensures { λ r. ⌜
         after r (now (image .exit)) (now (pointers .exit)) (now (addresses .exit)) (now (compact .exit)) (now (inflight .entry)) []
-        ≡ callDisk p (mkDisk (now (image .entry)) (now (pointers .entry)))
+        ≡ callDisk p (now (offline .entry)) (mkDisk (now (image .entry)) (now (pointers .entry)))
         (mkMemory state (now (addresses .entry)) (now (compact .entry)) (now (inflight .entry))) (rebuildCall drive count) ⌝ }
 {
     let gone = bits_masks::only_drive(drive);
+    let mut rows = [0u32; 8192];
     let mut serials = [0u64; 1024];
     let mut flags = [false; 1024];
     let mut kept = [false; 1024];
-    recover_segments::look(
+    disk_gather::gather(
         p,
         image,
         pointers,
+        offline,
         gone,
+        &mut rows,
         &mut serials,
         &mut flags,
         &mut kept,
     );
-    let e = recover_check::examine(p, image, pointers, gone, &kept, &serials);
+    let e = recover_check::examine(p, image, pointers, offline, gone, &kept, &serials, &rows);
     if e.zone < p.Z {
         return Done {
             answer: Answer::BadZone(e.zone as u64),
@@ -140,12 +169,15 @@ fn examined(
     }
     restore(
         p,
+        offline,
         image,
         pointers,
         addresses,
         compact,
         inflight,
         &kept,
+        &serials,
+        &rows,
         state,
         drive,
         count,
@@ -155,6 +187,7 @@ fn examined(
 // A rebuild: refused, cut or done, it leaves what the definition says.
 pub fn rebuild(
     p: Params,
+    offline: &[u8],
     image: &mut [u8],
     pointers: &mut [u8],
     addresses: &mut [u8],
@@ -166,11 +199,12 @@ pub fn rebuild(
 ) -> Done
     ensures { λ r. ⌜
         after r (now (image .exit)) (now (pointers .exit)) (now (addresses .exit)) (now (compact .exit)) (now (inflight .entry)) []
-        ≡ callDisk p (mkDisk (now (image .entry)) (now (pointers .entry)))
+        ≡ callDisk p (now (offline .entry)) (mkDisk (now (image .entry)) (now (pointers .entry)))
         (mkMemory state (now (addresses .entry)) (now (compact .entry)) (now (inflight .entry))) (rebuildCall drive count) ⌝ }
 {
     let c = checks(
         p,
+        offline,
         image,
         pointers,
         addresses,
@@ -184,6 +218,7 @@ pub fn rebuild(
     }
     examined(
         p,
+        offline,
         image,
         pointers,
         addresses,

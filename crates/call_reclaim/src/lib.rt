@@ -10,14 +10,15 @@ ghost use Rattle.spec.specs.declared.State.{State as StateOf};
 ghost use Rattle.spec.specs.Calls.{firstRefusal, outcome};
 ghost use Rattle.spec.specs.Calls.Check.{zones};
 ghost use Rattle.spec.specs.Calls.Verdict.{due};
-ghost use Rattle.spec.specs.Drives.{viewOf, mkDisk, storeDisk, across};
+ghost use Rattle.spec.specs.Drives.{View, viewOf, mkDisk, storeDisk};
 ghost use Rattle.spec.specs.Engine.{callDisk};
 ghost use Rattle.spec.specs.Engine.Call.{reclaim};
 ghost use Rattle.spec.specs.Lists.Opt.{some};
 ghost use Rattle.spec.specs.Memory.{mkMemory, stateFaults, stateLen, stateOf};
-ghost use Rattle.spec.specs.Params.{inRange, imageLen, pointersLen, addressesLen, compactLen, drivesOf};
+ghost use Rattle.spec.specs.Params.{inRange, imageLen, pointersLen, offlineLen, addressesLen, compactLen, drivesOf};
 ghost use Rattle.spec.specs.Reclaim.{tableFaults, victim, cleared, resetPlan};
 ghost use Rattle.spec.specs.Write.{scarce};
+ghost use Rattle.call_reclaim.specs.declared.Choice.the-variants.{Refuse};
 ghost use Rattle.call_reclaim.specs.Choosing.{copyRules, laterChecks, Chose, reclaimRefusal};
 ghost use Rattle.call_filling.specs.Aims.{aimOf};
 ghost use Rattle.mem_rows.specs.Rows.{frontOf, behind, afterChange};
@@ -39,31 +40,31 @@ use spec::State;
 // ---- checks
 
 // 01, Refusals, 8, of a copy: too few zones are empty.
-fn copy_full(p: Params, pointers: &[u8], a: Aim) -> bool
+fn copy_full(p: Params, pointers: &[u8], offline: &[u8], a: Aim) -> bool
     requires { ⌜ inRange p ≡ true ⌝ }
-    requires { ⌜ length (now pointers) ≡ pointersLen p ⌝ }
-    ensures { λ r. ⌜ ((im : List ℕ) → length im ≡ imageLen p → r ≡ (a .opens && scarce p (viewOf p im (now (pointers .entry))) 1)) ⌝ }
+    requires { ⌜ (length (now pointers) ≡ pointersLen p) × (length (now offline) ≡ offlineLen p) ⌝ }
+    ensures { λ r. ⌜ ((im : List ℕ) → length im ≡ imageLen p → r ≡ (a .opens && scarce p (viewOf p (now (offline .entry)) im (now (pointers .entry))) 1)) ⌝ }
 {
     if !a.opens {
         return false;
     }
-    call_filling::scarce(p, pointers, 1)
+    call_filling::scarce(p, pointers, offline, 1)
 }
 
 // 01, Refusals, 6 to 8, of a copy; 02, item 3: full before waiting. f, a: the front of the state and where a block goes.
-fn copy_rules(p: Params, pointers: &[u8], f: Front, a: Aim) -> Check
+fn copy_rules(p: Params, pointers: &[u8], offline: &[u8], f: Front, a: Aim) -> Check
     requires { ⌜ inRange p ≡ true ⌝ }
-    requires { ⌜ (length (now pointers) ≡ pointersLen p) × (a ≡ aimOf p (behind f)) ⌝ }
+    requires { ⌜ (length (now pointers) ≡ pointersLen p) × (length (now offline) ≡ offlineLen p) × (a ≡ aimOf p (behind f)) ⌝ }
     ensures { λ r. ⌜
         ((st : StateOf) (im : List ℕ)
         → f ≡ frontOf st
         → length im ≡ imageLen p
-        → checked r ≡ firstRefusal (copyRules p (viewOf p im (now (pointers .entry))) st)) ⌝ }
+        → checked r ≡ firstRefusal (copyRules p (viewOf p (now (offline .entry)) im (now (pointers .entry))) st)) ⌝ }
 {
     if call_filling::no_serial(f, a) {
         return Check::Fail(Answer::Refused(6));
     }
-    let full = copy_full(p, pointers, a);
+    let full = copy_full(p, pointers, offline, a);
     let wait = call_filling::must_wait(p, f, a);
     if full {
         return Check::Fail(Answer::Refused(8));
@@ -74,13 +75,14 @@ fn copy_rules(p: Params, pointers: &[u8], f: Front, a: Aim) -> Check
     Check::Pass
 }
 
-// 01, Refusals, 9: a state number out of range, or a place of the table outside the image; both name zone 0.
-fn has_fault(p: Params, addresses: &[u8], bytes: &[u8], outside: bool) -> bool
+// 01, Refusals, 9: a state number out of range, or a place of the table that is no place of the image; both name zone 0.
+fn has_fault(p: Params, bytes: &[u8], outside: bool) -> bool
     requires { ⌜ inRange p ≡ true ⌝ }
-    requires { ⌜ (length (now addresses) ≡ addressesLen p) × (outside ≡ isOutside p (now addresses)) × (length (now bytes) ≡ stateLen) ⌝ }
+    requires { ⌜ length (now bytes) ≡ stateLen ⌝ }
     ensures { λ r. ⌜
-        ((zs : List ℕ)
-        → firstRefusal (zones (stateFaults p (stateOf (now (bytes .entry))) ++ tableFaults p (now (addresses .entry)) ++ zs) ∷ [])
+        ((v : View) (tb zs : List ℕ)
+        → outside ≡ isOutside p v tb
+        → firstRefusal (zones (stateFaults p (stateOf (now (bytes .entry))) ++ tableFaults p v tb ++ zs) ∷ [])
         ≡ cond r (some (BadZone 0)) (firstRefusal (zones zs ∷ []))) ⌝ }
 {
     if !mem_bounds::state_ok(p, bytes) {
@@ -89,11 +91,27 @@ fn has_fault(p: Params, addresses: &[u8], bytes: &[u8], outside: bool) -> bool
     outside
 }
 
-// What reclaim does: refuse, reset a segment, or copy the block at a place.
+// What reclaim does: refuse, reset a segment, or copy the block at a place of a segment.
 pub enum Choice {
     Refuse(Answer),
-    Clear(usize),
+    Clear,
     Copy(Place),
+}
+
+// The same with the segment.
+pub struct Picked {
+    pub choice: Choice,
+    pub segment: Seg,
+}
+
+// A refusal has no segment.
+fn refuse(answer: Answer) -> Picked
+    ensures { λ r. ⌜ r .choice ≡ Refuse answer ⌝ }
+{
+    Picked {
+        choice: Choice::Refuse(answer),
+        segment: Seg { zones: [0; 8] },
+    }
 }
 
 // The checks from 5 on, of a segment with live blocks.
@@ -101,6 +119,7 @@ fn choose_copy(
     p: Params,
     image: &[u8],
     pointers: &[u8],
+    offline: &[u8],
     addresses: &[u8],
     bytes: &[u8],
     f: Front,
@@ -108,29 +127,29 @@ fn choose_copy(
     seen: Chosen,
 ) -> Choice
     requires { ⌜ inRange p ≡ true ⌝ }
-    requires { ⌜ Whole p (mkDisk (now image) (now pointers)) ⌝ }
-    requires { ⌜ (length (now addresses) ≡ addressesLen p) × (f ≡ frontOf (stateOf (now bytes))) × (a ≡ aimOf p (stateOf (now bytes))) × (length (now bytes) ≡ stateLen) ⌝ }
-    requires { ⌜ (Looked p (viewOf p (now image) (now pointers)) (now addresses) (stateOf (now bytes)) seen) × (seen .segment < p .Z) × (0 < seen .live) ⌝ }
+    requires { ⌜ Whole p (mkDisk (now image) (now pointers)) × (length (now offline) ≡ offlineLen p) ⌝ }
+    requires { ⌜ (f ≡ frontOf (stateOf (now bytes))) × (a ≡ aimOf p (stateOf (now bytes))) × (length (now bytes) ≡ stateLen) ⌝ }
+    requires { ⌜ Looked p (viewOf p (now offline) (now image) (now pointers)) (now addresses) (stateOf (now bytes)) seen × (seen .zone < p .Z) × (0 < seen .live) ⌝ }
     ensures { λ r. ⌜
-        Chose p (viewOf p (now (image .entry)) (now (pointers .entry))) (stateOf (now (bytes .entry)))
-        (victim p (viewOf p (now (image .entry)) (now (pointers .entry))) (now (addresses .entry)))
-        (firstRefusal (laterChecks p (viewOf p (now (image .entry)) (now (pointers .entry))) (stateOf (now (bytes .entry))) (now (addresses .entry))
-        (victim p (viewOf p (now (image .entry)) (now (pointers .entry))) (now (addresses .entry))))) r ⌝ }
+        Chose p (viewOf p (now (offline .entry)) (now (image .entry)) (now (pointers .entry))) (stateOf (now (bytes .entry)))
+        (victim p (viewOf p (now (offline .entry)) (now (image .entry)) (now (pointers .entry))) (now (addresses .entry)))
+        (firstRefusal (laterChecks p (viewOf p (now (offline .entry)) (now (image .entry)) (now (pointers .entry))) (stateOf (now (bytes .entry))) (now (addresses .entry))
+        (victim p (viewOf p (now (offline .entry)) (now (image .entry)) (now (pointers .entry))) (now (addresses .entry))))) (seen .segment) r ⌝ }
 {
     let none = Place::NEVER;
     let first = seen.first;
     if first.0 == none.0 {
         return Choice::Refuse(Answer::Refused(5));
     }
-    let c = copy_rules(p, pointers, f, a);
+    let c = copy_rules(p, pointers, offline, f, a);
     if let Check::Fail(answer) = c {
         return Choice::Refuse(answer);
     }
-    if has_fault(p, addresses, bytes, seen.outside) {
+    if has_fault(p, bytes, seen.outside) {
         return Choice::Refuse(Answer::BadZone(0));
     }
-    if seen.odd {
-        return Choice::Refuse(Answer::BadZone(seen.segment as u64));
+    if seen.odd != 1024 {
+        return Choice::Refuse(Answer::BadZone(seen.odd as u64));
     }
     Choice::Copy(first)
 }
@@ -138,6 +157,7 @@ fn choose_copy(
 // 01, Refusals: the checks of reclaim in order, and which plan it is.
 fn choose(
     p: Params,
+    offline: &[u8],
     image: &[u8],
     pointers: &[u8],
     addresses: &[u8],
@@ -147,34 +167,43 @@ fn choose(
     missing: u8,
     f: Front,
     a: Aim,
-) -> Choice
+) -> Picked
     requires { ⌜ (f ≡ frontOf (stateOf (now bytes))) × (a ≡ aimOf p (stateOf (now bytes))) × (missing ≡ stateOf (now bytes) .missing) × (length (now bytes) ≡ stateLen) ⌝ }
     ensures { λ r. ⌜
-        Chose p (viewOf p (now (image .entry)) (now (pointers .entry))) (stateOf (now (bytes .entry)))
-        (victim p (viewOf p (now (image .entry)) (now (pointers .entry))) (now (addresses .entry)))
-        (reclaimRefusal p (mkDisk (now (image .entry)) (now (pointers .entry)))
-        (mkMemory (stateOf (now (bytes .entry))) (now (addresses .entry)) (now (compact .entry)) (now (inflight .entry)))) r ⌝ }
+        Chose p (viewOf p (now (offline .entry)) (now (image .entry)) (now (pointers .entry))) (stateOf (now (bytes .entry)))
+        (victim p (viewOf p (now (offline .entry)) (now (image .entry)) (now (pointers .entry))) (now (addresses .entry)))
+        (reclaimRefusal p (now (offline .entry)) (mkDisk (now (image .entry)) (now (pointers .entry)))
+        (mkMemory (stateOf (now (bytes .entry))) (now (addresses .entry)) (now (compact .entry)) (now (inflight .entry)))) (r .segment) (r .choice) ⌝ }
 {
     if !disk_shape::in_range(p) {
-        return Choice::Refuse(Answer::Refused(1));
+        return refuse(Answer::Refused(1));
     }
-    if !mem_calls::lent_ok(p, image, pointers, addresses, compact, inflight) {
-        return Choice::Refuse(Answer::Refused(2));
+    if !mem_calls::lent_ok(p, offline, image, pointers, addresses, compact, inflight) {
+        return refuse(Answer::Refused(2));
+    }
+    let rule = mem_calls::list_rule(p, offline);
+    if rule != 0 {
+        return refuse(Answer::Refused(rule));
     }
     if missing != 0 {
-        return Choice::Refuse(Answer::Refused(3));
+        return refuse(Answer::Refused(3));
     }
-    let seen = call_reclaim_victim::look(p, image, pointers, addresses, bytes);
-    if p.Z <= seen.segment {
-        return Choice::Refuse(Answer::Refused(5));
+    let seen = call_reclaim_victim::look(p, image, pointers, offline, addresses, bytes);
+    let segment = seen.segment;
+    if p.Z <= seen.zone {
+        return refuse(Answer::Refused(5));
     }
     if 0 < seen.live {
-        return choose_copy(p, image, pointers, addresses, bytes, f, a, seen);
+        let choice = choose_copy(p, image, pointers, offline, addresses, bytes, f, a, seen);
+        return Picked { choice, segment };
     }
-    if has_fault(p, addresses, bytes, seen.outside) {
-        return Choice::Refuse(Answer::BadZone(0));
+    if has_fault(p, bytes, seen.outside) {
+        return refuse(Answer::BadZone(0));
     }
-    Choice::Clear(seen.segment)
+    Picked {
+        choice: Choice::Clear,
+        segment,
+    }
 }
 
 // ---- with none live
@@ -194,32 +223,32 @@ fn clear_rows(p: Params, compact: &mut [u8], segment: Seg)
     }
 }
 
-// 01, Reclaim: with none live it resets its zones.
+// 01, Reclaim: with none live it resets its zones; 02, item 4: the answer is its zone on drive 0.
 fn reset_segment(
     p: Params,
     pointers: &mut [u8],
     addresses: &mut [u8],
     compact: &mut [u8],
     f: Front,
-    g: usize,
+    segment: Seg,
     count: u64,
 ) -> Change
     requires { ⌜ inRange p ≡ true ⌝ }
-    requires { ⌜ (length (now pointers) ≡ pointersLen p) × (length (now addresses) ≡ addressesLen p) × (length (now compact) ≡ compactLen p) × (g < p .Z) ⌝ }
+    requires { ⌜ (length (now pointers) ≡ pointersLen p) × (length (now addresses) ≡ addressesLen p) × (length (now compact) ≡ compactLen p) × ZonesLow p 0 segment ⌝ }
     ensures { λ r. ⌜
         ((st : StateOf) (im fl : List ℕ)
         → f ≡ frontOf st
         → afterChange st r im (now (pointers .exit)) (now (addresses .exit)) (now (compact .exit)) fl [] ≡ outcome p (storeDisk p) count
         (mkDisk im (now (pointers .entry))) (mkMemory st (now (addresses .entry)) (now (compact .entry)) fl) []
-        (due (resetPlan p (mkMemory st (now (addresses .entry)) (now (compact .entry)) fl) (across p g)))) ⌝ }
+        (due (resetPlan p (mkMemory st (now (addresses .entry)) (now (compact .entry)) fl) segment))) ⌝ }
 {
-    let segment = disk_shape::across(p, g);
     let made = disk_zones::reset_stores(p, pointers, segment, count);
     if made.cut {
         return call_filling::cut(addresses, compact, f);
     }
     clear_rows(p, compact, segment);
-    mem_rows::kept(Answer::Reset(g as u64), f)
+    let zone = disk_shape::zone_on(p, segment, 0);
+    mem_rows::kept(Answer::Reset(zone as u64), f)
 }
 
 // ---- the call
@@ -227,6 +256,7 @@ fn reset_segment(
 // A reclaim: refused, cut or done, it leaves what the definition says. The state goes by value, with the bytes that say it.
 pub fn reclaim(
     p: Params,
+    offline: &[u8],
     image: &mut [u8],
     pointers: &mut [u8],
     addresses: &mut [u8],
@@ -239,13 +269,14 @@ pub fn reclaim(
     requires { ⌜ (state ≡ stateOf (now bytes)) × (length (now bytes) ≡ stateLen) ⌝ }
     ensures { λ r. ⌜
         afterChange state r (now (image .exit)) (now (pointers .exit)) (now (addresses .exit)) (now (compact .exit)) (now (inflight .exit)) []
-        ≡ callDisk p (mkDisk (now (image .entry)) (now (pointers .entry)))
+        ≡ callDisk p (now (offline .entry)) (mkDisk (now (image .entry)) (now (pointers .entry)))
         (mkMemory state (now (addresses .entry)) (now (compact .entry)) (now (inflight .entry))) (reclaim count) ⌝ }
 {
     let f = mem_rows::front_of(state);
     let a = call_filling::aim_of(p, f);
     let c = choose(
         p,
+        offline,
         image,
         pointers,
         addresses,
@@ -256,19 +287,23 @@ pub fn reclaim(
         f,
         a,
     );
-    match c {
+    let segment = c.segment;
+    let choice = c.choice;
+    match choice {
         Choice::Refuse(answer) => mem_rows::kept(answer, f),
-        Choice::Clear(g) => reset_segment(p, pointers, addresses, compact, f, g, count),
+        Choice::Clear => reset_segment(p, pointers, addresses, compact, f, segment, count),
         Choice::Copy(q) => call_copy::copy_block(
             p,
             image,
             pointers,
+            offline,
             addresses,
             compact,
             inflight,
             bytes,
             f,
             a,
+            segment,
             q,
             count,
         ),

@@ -1,12 +1,11 @@
--- Entries of the address table by segment (01, Reclaim): each live block takes at least one, so a segment has no more live blocks than entries,
+-- Entries of the address table by segment (01, Reclaim; 02, item 4): each live block takes at least one, so a segment has no more live blocks than entries,
 -- and has one where it has an entry. By one address more, only its place can become live. Assumes nothing.
-use Prim.Native.Nat.{ℕ, zero, suc, _+_, _*_, _/_, _%_, _≤_, _<_}
-use Rattle.call_reclaim_live.specs.Live.{isLiveIn, liveBelow}
+use Prim.Native.Nat.{ℕ, zero, suc, _+_, _*_, _/_, _≤_, _<_}
+use Rattle.call_reclaim_live.specs.Live.{numbered, isLiveIn, liveBelow}
 use Rattle.spec.specs.Lists.{upFrom, below, consIf, keep}
 use Rattle.spec.specs.Memory.{placeAt}
-use Rattle.spec.specs.Params.{capacity, placeZone}
+use Rattle.spec.specs.Params.{capacity}
 use Rattle.spec.specs.declared.Params.{Params}
-use Rattle.law_basic.specs.Geometry.{Ranged, capacity-low, zone-low}
 use Rattle.law_basic.specs.Ranges.{Test, test, keep-upFrom-same, keep-below-same, and-both}
 use Rattle.law_basic.specs.Ranges.Test.{yes!, no! }
 use Rattle.mem_marks.specs.Marks.{isPointed, no-pointed, pointed-more}
@@ -20,12 +19,7 @@ use mathlib.Core.List.{List}
 use mathlib.Core.Path.{_≡_, refl, sym, ap, _∙_, subst}
 use mir.Val.{boolByte}
 use native.Mathlib.Decide.{decLt}
-use native.Mathlib.Nat.{div-lt-iff-lt-mul}
 use native.Mathlib.Omega.{arith}
-
--- 01, The array: the segment of each zone of all drives
-abbrev pub ZonesInTurn : Params → List ℕ → ℕ → Type 0
-ZonesInTurn p segments n = (t : ℕ) → t < n → getD segments t 0 ≡ t % p .Z
 
 -- 01, Reclaim: the counts with one entry more, with place q; all: the places of the image
 abbrev pub withEntry : List ℕ → List ℕ → ℕ → ℕ → ℕ → List ℕ
@@ -33,38 +27,24 @@ withEntry segments used all cap q =
     let s = getD segments (q / cap) 0 in
     cond (ltb q all) (set used s (getD used s 0 + 1)) used
 
--- 01, Reclaim: q lies in segment g, and one of the first n addresses has it
-unfoldable pub isTaken : Params → List ℕ → ℕ → ℕ → ℕ → Bool
-isTaken p tb n g q = eqb (placeZone p q) g && isPointed tb n q
+-- 01, Reclaim: q lies in a zone of number g, and one of the first n addresses has it
+unfoldable pub isTaken : Params → List ℕ → List ℕ → ℕ → ℕ → ℕ → Bool
+isTaken p ss tb n g q = numbered p ss g q && isPointed tb n q
 
--- 01, Reclaim: the blocks of segment g that the first n addresses have
-unfoldable pub takenIn : Params → List ℕ → ℕ → ℕ → List ℕ
-takenIn p tb n g = keep (isTaken p tb n g) (below (p .N * p .Z * capacity p))
+-- 01, Reclaim: the blocks in zones of number g that the first n addresses have
+unfoldable pub takenIn : Params → List ℕ → List ℕ → ℕ → ℕ → List ℕ
+takenIn p ss tb n g = keep (isTaken p ss tb n g) (below (p .N * p .Z * capacity p))
 
--- 01, Reclaim: the entries of the first n addresses, counted by segment
-pub record TakenCounted (p : Params) (tb : List ℕ) (n : ℕ) (used : List ℕ) : Type 0 where
-  pub most : (g : ℕ) → g < p .Z → length (takenIn p tb n g) ≤ getD used g 0
-  pub least : (g : ℕ) → g < p .Z → 0 < getD used g 0 → 0 < length (takenIn p tb n g)
-  pub low : (g : ℕ) → g < p .Z → getD used g 0 ≤ n
+-- 01, Reclaim: the entries of the first n addresses, counted by the number of their zone
+pub record TakenCounted (p : Params) (ss tb : List ℕ) (n : ℕ) (used : List ℕ) : Type 0 where
+  pub most : (g : ℕ) → g ≤ 1024 → length (takenIn p ss tb n g) ≤ getD used g 0
+  pub least : (g : ℕ) → g ≤ 1024 → 0 < getD used g 0 → 0 < length (takenIn p ss tb n g)
+  pub low : (g : ℕ) → g ≤ 1024 → getD used g 0 ≤ n
 
 -- those of all addresses are the live blocks
-pub taken-live : (p : Params) (tb : List ℕ) (g : ℕ) → takenIn p tb (p .L) g ≡ liveBelow p tb g (p .N * p .Z * capacity p)
+pub taken-live : (p : Params) (ss tb : List ℕ) (g : ℕ) → takenIn p ss tb (p .L) g ≡ liveBelow p tb (numbered p ss g) (p .N * p .Z * capacity p)
 unfolding takenIn isTaken liveBelow isLiveIn
-taken-live p tb g = refl
-
--- one zone more
-pub zones-more : (p : Params) (segments : List ℕ) (n z : ℕ) → n < length segments → z ≡ n % p .Z → ZonesInTurn p segments n → ZonesInTurn p (set segments n z) (n + 1)
-zones-more p segments n z fits e so t h = go (test (eqb t n))
-  where
-    go : Test (eqb t n) → getD (set segments n z) t 0 ≡ t % p .Z
-    go (yes! q) = let w : t ≡ n = eqb-true t n q in ap (λ (x : ℕ). getD (set segments n z) x 0) w ∙ getD-set-same segments n z 0 fits ∙ e ∙ ap (λ (x : ℕ). x % p .Z) (sym w)
-    go (no! q) = let w : t ≡ n → ⊥ = eqb-false t n q in getD-set-other segments n t z 0 w ∙ so t (lt-of-le-ne (omega arith) w)
-
-module _ (p : Params) (r : Ranged p) where
-  -- and the number of its zone says it
-  pub zone-told : (segments : List ℕ) → ZonesInTurn p segments (p .N * p .Z) → (q : ℕ) → q < p .N * p .Z * capacity p → getD segments (q / capacity p) 0 ≡ placeZone p q
-  unfolding placeZone
-  zone-told segments so q h = so (q / capacity p) (div-lt-iff-lt-mul {k = capacity p} {x = q} {y = p .N * p .Z} (omega (arith, capacity-low p r)) .1 h)
+taken-live p ss tb g = refl
 
 -- ---- lists kept by two tests
 
@@ -106,19 +86,19 @@ keep-some f x i (suc n) low high e = go (test (eqb i x)) (keep-some f x (suc i) 
 
 -- ---- one address more
 
-module _ (p : Params) (tb : List ℕ) where
+module _ (p : Params) (ss tb : List ℕ) where
   abbrev all! : ℕ
   all! = p .N * p .Z * capacity p
 
-  nobody : (g i n : ℕ) → length (keep (isTaken p tb 0 g) (upFrom i n)) ≡ 0
+  nobody : (g i n : ℕ) → length (keep (isTaken p ss tb 0 g) (upFrom i n)) ≡ 0
   unfolding isTaken keep upFrom
   nobody g i zero = refl
   nobody g i (suc n) =
-      let e : boolByte (isTaken p tb 0 g i) ≡ 0 = ap boolByte (ap (λ (b : Bool). eqb (placeZone p i) g && b) (no-pointed tb i) ∙ and-false (eqb (placeZone p i) g)) in
-      omega (arith, e, nobody g (suc i) n, length-cons (isTaken p tb 0 g i) i (keep (isTaken p tb 0 g) (upFrom (suc i) n)))
+      let e : boolByte (isTaken p ss tb 0 g i) ≡ 0 = ap boolByte (ap (λ (b : Bool). numbered p ss g i && b) (no-pointed tb i) ∙ and-false (numbered p ss g i)) in
+      omega (arith, e, nobody g (suc i) n, length-cons (isTaken p ss tb 0 g i) i (keep (isTaken p ss tb 0 g) (upFrom (suc i) n)))
 
   -- no address
-  pub entered-none : (used : List ℕ) → ((g : ℕ) → g < p .Z → getD used g 0 ≡ 0) → TakenCounted p tb 0 used
+  pub entered-none : (used : List ℕ) → ((g : ℕ) → g ≤ 1024 → getD used g 0 ≡ 0) → TakenCounted p ss tb 0 used
   unfolding takenIn below
   entered-none used z = record {
     most = λ g h. omega (arith, nobody g 0 all!);
@@ -130,26 +110,31 @@ module _ (p : Params) (tb : List ℕ) where
     abbrev x : ℕ
     x = placeAt tb n
 
+    -- the number of its zone
+    abbrev at : ℕ
+    at = getD ss (x / capacity p) 0
+
     -- a place that is not this address's is taken as before
-    taken-else : (g q : ℕ) → (q ≡ x → ⊥) → isTaken p tb (n + 1) g q ≡ isTaken p tb n g q
+    taken-else : (g q : ℕ) → (q ≡ x → ⊥) → isTaken p ss tb (n + 1) g q ≡ isTaken p ss tb n g q
     unfolding isTaken
     taken-else g q c =
-        ap (λ (b : Bool). eqb (placeZone p q) g && b) (pointed-more tb n q ∙ ap (λ (b : Bool). isPointed tb n q || b) (ne-eqb q x c) ∙ or-false (isPointed tb n q))
+        ap (λ (b : Bool). numbered p ss g q && b) (pointed-more tb n q ∙ ap (λ (b : Bool). isPointed tb n q || b) (ne-eqb q x c) ∙ or-false (isPointed tb n q))
 
-    -- and so are all of another segment
-    same-other : (g q : ℕ) → (placeZone p x ≡ g → ⊥) → isTaken p tb (n + 1) g q ≡ isTaken p tb n g q
-    unfolding isTaken
+    -- and so are all of another number
+    same-other : (g q : ℕ) → (at ≡ g → ⊥) → isTaken p ss tb (n + 1) g q ≡ isTaken p ss tb n g q
+    unfolding isTaken numbered
     same-other g q c = go (test (eqb q x))
       where
-        go : Test (eqb q x) → isTaken p tb (n + 1) g q ≡ isTaken p tb n g q
+        go : Test (eqb q x) → isTaken p ss tb (n + 1) g q ≡ isTaken p ss tb n g q
         go (yes! e) =
-            let z : eqb (placeZone p q) g ≡ false = ne-eqb (placeZone p q) g (λ d. c (sym (ap (placeZone p) (eqb-true q x e)) ∙ d)) in
+            let k : ℕ = getD ss (q / capacity p) 0 in
+            let z : eqb k g ≡ false = ne-eqb k g (λ d. c (sym (ap (λ (i : ℕ). getD ss (i / capacity p) 0) (eqb-true q x e)) ∙ d)) in
             ap (λ (b : Bool). b && isPointed tb (n + 1) q) z ∙ sym (ap (λ (b : Bool). b && isPointed tb n q) z)
         go (no! e) = taken-else g q (eqb-false q x e)
 
-    taken-last : isTaken p tb (n + 1) (placeZone p x) x ≡ true
-    unfolding isTaken
-    taken-last = and-both (eqb (placeZone p x) (placeZone p x)) (isPointed tb (n + 1) x) (eq-eqb (placeZone p x) (placeZone p x) refl)
+    taken-last : isTaken p ss tb (n + 1) at x ≡ true
+    unfolding isTaken numbered
+    taken-last = and-both (eqb at at) (isPointed tb (n + 1) x) (eq-eqb at at refl)
         (pointed-more tb n x ∙ ap (λ (b : Bool). isPointed tb n x || b) (eq-eqb x x refl) ∙ or-true (isPointed tb n x))
       where
         or-true : (b : Bool) → (b || true) ≡ true
@@ -157,22 +142,22 @@ module _ (p : Params) (tb : List ℕ) where
         or-true false = refl
 
     -- where its place lies outside, nothing is taken that was not
-    module _ (used : List ℕ) (so : TakenCounted p tb n used) where
-      taken-same : (g : ℕ) → ((q : ℕ) → q < all! → isTaken p tb (n + 1) g q ≡ isTaken p tb n g q) → takenIn p tb (n + 1) g ≡ takenIn p tb n g
+    module _ (used : List ℕ) (so : TakenCounted p ss tb n used) where
+      taken-same : (g : ℕ) → ((q : ℕ) → q < all! → isTaken p ss tb (n + 1) g q ≡ isTaken p ss tb n g q) → takenIn p ss tb (n + 1) g ≡ takenIn p ss tb n g
       unfolding takenIn
-      taken-same g h = keep-below-same (isTaken p tb (n + 1) g) (isTaken p tb n g) all! h
+      taken-same g h = keep-below-same (isTaken p ss tb (n + 1) g) (isTaken p ss tb n g) all! h
 
-      entered-out : all! ≤ x → TakenCounted p tb (n + 1) used
+      entered-out : all! ≤ x → TakenCounted p ss tb (n + 1) used
       entered-out out = record {
         most = λ g h. omega (arith, so .most g h, ap length (s g));
         least = λ g h l. omega (arith, so .least g h l, ap length (s g));
         low = λ g h. omega (arith, so .low g h);
       }
         where
-          s : (g : ℕ) → takenIn p tb (n + 1) g ≡ takenIn p tb n g
+          s : (g : ℕ) → takenIn p ss tb (n + 1) g ≡ takenIn p ss tb n g
           s g = taken-same g (λ q l. taken-else g q (λ c. omega (arith, l, c, out)))
 
-      entered-in : x < all! → placeZone p x < length used → TakenCounted p tb (n + 1) (set used (placeZone p x) (getD used (placeZone p x) 0 + 1))
+      entered-in : x < all! → at < length used → TakenCounted p ss tb (n + 1) (set used at (getD used at 0 + 1))
       unfolding takenIn below
       entered-in within fits = record {
         most = λ g h. most′ g h (test (eqb g z));
@@ -181,7 +166,7 @@ module _ (p : Params) (tb : List ℕ) where
       }
         where
           z : ℕ
-          z = placeZone p x
+          z = at
 
           now′ : List ℕ
           now′ = set used z (getD used z 0 + 1)
@@ -192,35 +177,30 @@ module _ (p : Params) (tb : List ℕ) where
           there : (g : ℕ) → (g ≡ z → ⊥) → getD now′ g 0 ≡ getD used g 0
           there g c = getD-set-other used z g (getD used z 0 + 1) 0 c
 
-          same : (g : ℕ) → (g ≡ z → ⊥) → length (takenIn p tb (n + 1) g) ≡ length (takenIn p tb n g)
+          same : (g : ℕ) → (g ≡ z → ⊥) → length (takenIn p ss tb (n + 1) g) ≡ length (takenIn p ss tb n g)
           same g c = ap length (taken-same g (λ q l. same-other g q (λ d. c (sym d))))
 
-          most′ : (g : ℕ) → g < p .Z → Test (eqb g z) → length (takenIn p tb (n + 1) g) ≤ getD now′ g 0
-          most′ g h (yes! e) = omega (arith, here g (eqb-true g z e), so .most g h, keep-but-one (isTaken p tb n g) (isTaken p tb (n + 1) g) x 0 all! (λ q c. taken-else g q c))
+          most′ : (g : ℕ) → g ≤ 1024 → Test (eqb g z) → length (takenIn p ss tb (n + 1) g) ≤ getD now′ g 0
+          most′ g h (yes! e) = omega (arith, here g (eqb-true g z e), so .most g h, keep-but-one (isTaken p ss tb n g) (isTaken p ss tb (n + 1) g) x 0 all! (λ q c. taken-else g q c))
           most′ g h (no! e) = omega (arith, there g (eqb-false g z e), so .most g h, same g (eqb-false g z e))
 
-          least′ : (g : ℕ) → g < p .Z → 0 < getD now′ g 0 → Test (eqb g z) → 0 < length (takenIn p tb (n + 1) g)
+          least′ : (g : ℕ) → g ≤ 1024 → 0 < getD now′ g 0 → Test (eqb g z) → 0 < length (takenIn p ss tb (n + 1) g)
           least′ g h l (yes! e) =
-              keep-some (isTaken p tb (n + 1) g) x 0 all! (omega arith) (omega (arith, within)) (ap (λ (k : ℕ). isTaken p tb (n + 1) k x) (eqb-true g z e) ∙ taken-last)
+              keep-some (isTaken p ss tb (n + 1) g) x 0 all! (omega arith) (omega (arith, within)) (ap (λ (k : ℕ). isTaken p ss tb (n + 1) k x) (eqb-true g z e) ∙ taken-last)
           least′ g h l (no! e) = omega (arith, so .least g h (omega (arith, l, there g (eqb-false g z e))), same g (eqb-false g z e))
 
-          low′ : (g : ℕ) → g < p .Z → Test (eqb g z) → getD now′ g 0 ≤ n + 1
+          low′ : (g : ℕ) → g ≤ 1024 → Test (eqb g z) → getD now′ g 0 ≤ n + 1
           low′ g h (yes! e) = omega (arith, here g (eqb-true g z e), so .low g h)
           low′ g h (no! e) = omega (arith, there g (eqb-false g z e), so .low g h)
 
-      -- either way, with the segment of its zone
-      module _ (rg : Ranged p) (segments : List ℕ) (zones : ZonesInTurn p segments (p .N * p .Z)) (long : p .Z ≤ length used) where
-        abbrev s : ℕ
-        s = getD segments (x / capacity p) 0
-
-        pub entered-more : (used′ : List ℕ) → used′ ≡ cond (ltb x all!) (set used s (getD used s 0 + 1)) used → TakenCounted p tb (n + 1) used′
-        entered-more used′ e = go (decLt x all!)
-          where
-            go : Dec (x < all!) → TakenCounted p tb (n + 1) used′
-            go (yes l) =
-                let z : s ≡ placeZone p x = zone-told p rg segments zones x l in
-                let f = e ∙ (λ i. cond (lt-ltb x all! l i) (set used (z i) (getD used (z i) 0 + 1)) used) in
-                subst (λ (u : List ℕ). TakenCounted p tb (n + 1) u) (sym f) (entered-in l (omega (arith, zone-low p rg x, long)))
-            go (no l) =
-                let f = e ∙ ap (λ (b : Bool). cond b (set used s (getD used s 0 + 1)) used) (le-ltb x all! (omega arith)) in
-                subst (λ (u : List ℕ). TakenCounted p tb (n + 1) u) (sym f) (entered-out (omega arith))
+      -- either way, by the number of its zone
+      pub entered-more : (x < all! → at < length used) → (used′ : List ℕ) → used′ ≡ cond (ltb x all!) (set used at (getD used at 0 + 1)) used → TakenCounted p ss tb (n + 1) used′
+      entered-more fits used′ e = go (decLt x all!)
+        where
+          go : Dec (x < all!) → TakenCounted p ss tb (n + 1) used′
+          go (yes l) =
+              let f = e ∙ ap (λ (b : Bool). cond b (set used at (getD used at 0 + 1)) used) (lt-ltb x all! l) in
+              subst (λ (u : List ℕ). TakenCounted p ss tb (n + 1) u) (sym f) (entered-in l (fits l))
+          go (no l) =
+              let f = e ∙ ap (λ (b : Bool). cond b (set used at (getD used at 0 + 1)) used) (le-ltb x all! (omega arith)) in
+              subst (λ (u : List ℕ). TakenCounted p ss tb (n + 1) u) (sym f) (entered-out (omega arith))

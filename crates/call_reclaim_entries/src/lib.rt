@@ -1,36 +1,16 @@
-// Entries of the address table, counted by segment (01, Reclaim): no segment has more live blocks than entries.
+// Entries of the address table, counted by segment (01, Reclaim): no segment has more live blocks than entries. A segment goes by its zone on
+// drive 0, and 1024 stands for the zones that none has (02, item 4).
 ghost use mathlib.Core.Path.{_≡_};
 ghost use mathlib.Core.Bool.{true};
 ghost use Prim.Native.Nat.{_+_, _*_, _/_, _≤_, _<_};
 ghost use lib.ListN.{length, getD};
 ghost use mir.Val.{boolByte};
 ghost use Rattle.spec.specs.Params.{inRange, capacity, addressesLen};
-ghost use Rattle.call_reclaim_entries.specs.Entries.{ZonesInTurn, withEntry, TakenCounted};
+ghost use Rattle.call_reclaim_entries.specs.Entries.{withEntry, TakenCounted};
 ghost use Rattle.call_reclaim_entries.specs.Inverse.{inverse};
+ghost use Rattle.call_reclaim_live.specs.Owners.{OwnersLow};
 ghost use Rattle.mem_tables.specs.Tables.{isWithin, countPlaces};
 use spec::Params;
-
-fn wide(s: u16) -> usize
-    ensures { λ r. ⌜ r ≡ s ⌝ }
-{
-    s as usize
-}
-
-// The segment of each zone of all drives.
-fn number_zones(p: Params, segments: &mut [u16])
-    requires { ⌜ inRange p ≡ true ⌝ }
-    requires { ⌜ p .N * p .Z ≤ length (now segments) ⌝ }
-    ensures { λ _. ⌜ ZonesInTurn p (now (segments .exit)) (p .N * p .Z) ⌝ }
-{
-    let n = p.N * p.Z;
-    let mut z = 0;
-    let mut t = 0;
-    while t < n {
-        segments[t] = z as u16;
-        z = call_reclaim_live::next_zone(p, z);
-        t += 1;
-    }
-}
 
 // The zone of place q, counted over all drives: q / cap, by a product.
 fn zone_number(q: usize, cap: usize, m: usize) -> usize
@@ -59,17 +39,17 @@ fn add_entry(
         return (q < 4294967295) as usize;
     }
     let t = zone_number(q, cap, m);
-    let g = wide(segments[t]);
+    let g = call_reclaim_live::wide(segments[t]);
     used[g] = used[g] + 1;
     0
 }
 
-// With the segments of the zones at hand.
-fn count_all(p: Params, addresses: &[u8], segments: &[u16], used: &mut [usize]) -> usize
+// 01, Reclaim: the entries of each segment, in one pass over the table; how many lie beyond the last place. segments: that of each zone.
+pub fn count_entries(p: Params, addresses: &[u8], segments: &[u16], used: &mut [usize]) -> usize
     requires { ⌜ inRange p ≡ true ⌝ }
-    requires { ⌜ (length (now addresses) ≡ addressesLen p) × (p .N * p .Z ≤ length (now segments)) × (p .Z ≤ length (now used)) ⌝ }
-    requires { ⌜ ZonesInTurn p (now segments) (p .N * p .Z) × TakenCounted p (now addresses) 0 (now used) ⌝ }
-    ensures { λ _. ⌜ TakenCounted p (now (addresses .entry)) (p .L) (now (used .exit)) ⌝ }
+    requires { ⌜ (length (now addresses) ≡ addressesLen p) × OwnersLow p (now segments) × (1024 < length (now used)) ⌝ }
+    requires { ⌜ TakenCounted p (now segments) (now addresses) 0 (now used) ⌝ }
+    ensures { λ _. ⌜ TakenCounted p (now (segments .entry)) (now (addresses .entry)) (p .L) (now (used .exit)) ⌝ }
     ensures { λ r. ⌜ r ≡ countPlaces (now (addresses .entry)) (p .L) (p .N * p .Z * capacity p) 4294967295 ⌝ }
 {
     let all = call_reclaim_live::places(p);
@@ -83,17 +63,4 @@ fn count_all(p: Params, addresses: &[u8], segments: &[u16], used: &mut [usize]) 
         a += 1;
     }
     k
-}
-
-// 01, Reclaim: the entries of each segment, in one pass over the table; how many lie outside the image.
-pub fn count_entries(p: Params, addresses: &[u8], used: &mut [usize]) -> usize
-    requires { ⌜ inRange p ≡ true ⌝ }
-    requires { ⌜ (length (now addresses) ≡ addressesLen p) × (p .Z ≤ length (now used)) ⌝ }
-    requires { ⌜ TakenCounted p (now addresses) 0 (now used) ⌝ }
-    ensures { λ _. ⌜ TakenCounted p (now (addresses .entry)) (p .L) (now (used .exit)) ⌝ }
-    ensures { λ r. ⌜ r ≡ countPlaces (now (addresses .entry)) (p .L) (p .N * p .Z * capacity p) 4294967295 ⌝ }
-{
-    let mut segments = [0u16; 8192];
-    number_zones(p, &mut segments);
-    count_all(p, addresses, &segments, used)
 }

@@ -1,39 +1,44 @@
 -- The lowest sealed segment with the least count, and when it is the one that reclaim takes (01, Reclaim). Assumes nothing.
-use Prim.Native.Nat.{ℕ, zero, suc, _+_, _≤_, _<_}
-use Rattle.call_reclaim_live.specs.Fewest.{victim-number, takenAs, taken-some, pickOf, pick-new, pick-less, pick-old}
-use Rattle.spec.specs.Drives.{View, sealedIn, across}
+use Prim.Native.Nat.{ℕ, zero, suc, _+_, _*_, _≤_, _<_}
+use Rattle.call_reclaim_live.specs.Fewest.{victim-number, takenAs, taken-none, taken-some, pickOf, pick-new, pick-less, pick-old}
+use Rattle.call_reclaim_live.specs.Live.{inSeg, liveBelow, LiveCounted, keep-nobody, live-all, live-owned}
+use Rattle.call_reclaim_live.specs.Owners.{OwnersShown, number-low}
+use Rattle.spec.specs.Drives.{View, sealedIn}
 use Rattle.spec.specs.Lists.{Opt, upFrom, below, keep}
 use Rattle.spec.specs.Lists.Opt.{none, some}
+use Rattle.spec.specs.Params.{capacity}
 use Rattle.spec.specs.Reclaim.{placesIn, Victim, victimOf, fewer, fewest, victim}
 use Rattle.spec.specs.declared.Params.{Params}
-use Rattle.law_basic.specs.Ranges.{Test, test, not-both, keep-hit, keep-miss}
+use Rattle.law_basic.specs.Geometry.{Ranged}
+use Rattle.law_basic.specs.Ranges.{Test, test, not-both, keep-hit, keep-miss, keep-below-same}
 use Rattle.law_basic.specs.Ranges.Test.{yes!, no! }
+use Rattle.law_drives.specs.Tables.{segAt, remainsAt}
 use borrow.Author.Tests.{lt-ltb, le-ltb, eqb-true, eqb-false}
 use lib.Arith.{lt-of-le-ne}
 use lib.Dec.{ltb, eqb}
 use lib.ListN.{length, getD}
-use mathlib.Core.Bool.{Bool, true, false, cond}
+use mathlib.Core.Bool.{Bool, true, false, cond, _&&_}
 use mathlib.Core.List.{List, map}
 use mathlib.Core.Path.{_≡_, refl, sym, ap, _∙_, subst}
 use native.Mathlib.Decide.{decLe, decLt}
 use native.Mathlib.Omega.{arith}
 
 -- best is the lowest of the sealed segments below n with the least count; not below Z where none is sealed
-pub record Least (p : Params) (v : View) (live : List ℕ) (n best : ℕ) : Type 0 where
+pub record Least (p : Params) (sealed : List Bool) (live : List ℕ) (n best : ℕ) : Type 0 where
   pub early : best < p .Z → best < n
-  pub taken : best < p .Z → sealedIn p v 0 (across p best) ≡ true
-  pub least : best < p .Z → (k : ℕ) → k < n → sealedIn p v 0 (across p k) ≡ true → getD live best 0 ≤ getD live k 0
-  pub first : best < p .Z → (k : ℕ) → k < best → sealedIn p v 0 (across p k) ≡ true → getD live best 0 < getD live k 0
-  pub nobody : p .Z ≤ best → (k : ℕ) → k < n → sealedIn p v 0 (across p k) ≡ true → ⊥
+  pub taken : best < p .Z → getD sealed best false ≡ true
+  pub least : best < p .Z → (k : ℕ) → k < n → getD sealed k false ≡ true → getD live best 0 ≤ getD live k 0
+  pub first : best < p .Z → (k : ℕ) → k < best → getD sealed k false ≡ true → getD live best 0 < getD live k 0
+  pub nobody : p .Z ≤ best → (k : ℕ) → k < n → getD sealed k false ≡ true → ⊥
 
-module _ (p : Params) (v : View) (live : List ℕ) where
+module _ (p : Params) (sealed : List Bool) (live : List ℕ) where
   abbrev s : ℕ → Bool
-  s k = sealedIn p v 0 (across p k)
+  s k = getD sealed k false
 
   abbrev at : ℕ → ℕ
   at k = getD live k 0
 
-  pub least-none : (best : ℕ) → p .Z ≤ best → Least p v live 0 best
+  pub least-none : (best : ℕ) → p .Z ≤ best → Least p sealed live 0 best
   least-none best h = record {
     early = λ l. absurd (let q : ⊥ = omega arith in q);
     taken = λ l. absurd (let q : ⊥ = omega arith in q);
@@ -42,7 +47,7 @@ module _ (p : Params) (v : View) (live : List ℕ) where
     nobody = λ _ k l. absurd (let q : ⊥ = omega arith in q);
   }
 
-  module _ (n best : ℕ) (so : Least p v live n best) (low : n < p .Z) where
+  module _ (n best : ℕ) (so : Least p sealed live n best) (low : n < p .Z) where
     -- a number below n + 1 is below n, or n
     last-or-below : {A : Type 0} (k : ℕ) → k < n + 1 → (k < n → A) → (k ≡ n → A) → A
     last-or-below {A} k l f g = go (decLt k n)
@@ -52,7 +57,7 @@ module _ (p : Params) (v : View) (live : List ℕ) where
         go (no h) = g (omega arith)
 
     -- segment n is not sealed
-    pass : s n ≡ false → Least p v live (n + 1) best
+    pass : s n ≡ false → Least p sealed live (n + 1) best
     pass e = record {
       early = λ l. omega (arith, so .early l);
       taken = so .taken;
@@ -62,7 +67,7 @@ module _ (p : Params) (v : View) (live : List ℕ) where
     }
 
     -- it is, and is no better
-    least-stays : s n ≡ true → best < p .Z → at best ≤ at n → Least p v live (n + 1) best
+    least-stays : s n ≡ true → best < p .Z → at best ≤ at n → Least p sealed live (n + 1) best
     least-stays e b m = record {
       early = λ l. omega (arith, so .early l);
       taken = so .taken;
@@ -72,7 +77,7 @@ module _ (p : Params) (v : View) (live : List ℕ) where
     }
 
     -- it is, and is the first or better
-    move : s n ≡ true → ((k : ℕ) → k < n → s k ≡ true → at n < at k) → Least p v live (n + 1) n
+    move : s n ≡ true → ((k : ℕ) → k < n → s k ≡ true → at n < at k) → Least p sealed live (n + 1) n
     move e m = record {
       early = λ l. omega arith;
       taken = λ l. e;
@@ -81,11 +86,11 @@ module _ (p : Params) (v : View) (live : List ℕ) where
       nobody = λ l. absurd (let q : ⊥ = omega arith in q);
     }
 
-    pub least-turn : (best′ : ℕ) → best′ ≡ cond (s n) (pickOf p live best n) best → Least p v live (n + 1) best′
-    least-turn best′ e = subst (λ (x : ℕ). Least p v live (n + 1) x) (sym e) (go (test (s n)))
+    pub least-turn : (best′ : ℕ) → best′ ≡ cond (s n) (pickOf p live best n) best → Least p sealed live (n + 1) best′
+    least-turn best′ e = subst (λ (x : ℕ). Least p sealed live (n + 1) x) (sym e) (go (test (s n)))
       where
         goal : ℕ → Type 0
-        goal x = Least p v live (n + 1) x
+        goal x = Least p sealed live (n + 1) x
 
         picked : s n ≡ true → Dec (p .Z ≤ best) → Dec (at n < at best) → goal (pickOf p live best n)
         picked t (yes h) d = subst goal (sym (pick-new p live best n h)) (move t (λ k l q. absurd (so .nobody h k l q)))
@@ -171,15 +176,61 @@ module _ (W : ℕ → Victim) (t : ℕ → Bool) where
             other (yes! f) = hit o i n f ∙ r (fewer o (W i)) (omega (arith, l)) (over-fewer (size g) o (W i) w (before i l f))
             other (no! f) = miss o i n f ∙ r o (omega (arith, l)) w
 
--- 01, Reclaim: a sealed segment with fewer live blocks than those below it, and no more than those above
-pub victim-least : (p : Params) (v : View) (tb : List ℕ) (g : ℕ) → g < p .Z → sealedIn p v 0 (across p g) ≡ true
-    → ((k : ℕ) → k < g → sealedIn p v 0 (across p k) ≡ true → length (victimOf p (placesIn p tb) (across p g) .live) < length (victimOf p (placesIn p tb) (across p k) .live))
-    → ((k : ℕ) → g < k → k < p .Z → sealedIn p v 0 (across p k) ≡ true
-    → length (victimOf p (placesIn p tb) (across p g) .live) ≤ length (victimOf p (placesIn p tb) (across p k) .live))
-    → victim p v tb ≡ takenAs p tb g
-unfolding below
-victim-least p v tb g h is before after =
-    victim-number p v tb
-    ∙ least-finds (λ k. victimOf p (placesIn p tb) (across p k)) (λ k. sealedIn p v 0 (across p k)) g is before none 0 (p .Z) (omega arith) (omega (arith, h)) over-none
-    (λ k a b q. after k a (omega (arith, b)) q)
-    ∙ sym (taken-some p tb g h)
+-- 01, Reclaim: by the flags, a sealed segment with fewer live blocks than those below it, and no more than those above
+module _ (p : Params) (v : View) (tb : List ℕ) (sealed : List Bool)
+    (flagged : (g : ℕ) → g < p .Z → getD sealed g false ≡ (remainsAt p v 0 g && sealedIn p v 0 (segAt p v 0 g))) where
+  abbrev W : ℕ → Victim
+  W g = victimOf p (placesIn p tb) (segAt p v 0 g)
+
+  victim-flagged : victim p v tb ≡ fewest none (map W (keep (λ g. getD sealed g false) (below (p .Z))))
+  victim-flagged = victim-number p v tb
+      ∙ ap (λ (l : List ℕ). fewest none (map W l)) (keep-below-same (λ g. remainsAt p v 0 g && sealedIn p v 0 (segAt p v 0 g)) (λ g. getD sealed g false) (p .Z) (λ g h. sym (flagged g h)))
+
+  pub victim-least : (g : ℕ) → g < p .Z → getD sealed g false ≡ true → ((k : ℕ) → k < g → getD sealed k false ≡ true → length (W g .live) < length (W k .live))
+      → ((k : ℕ) → g < k → k < p .Z → getD sealed k false ≡ true → length (W g .live) ≤ length (W k .live)) → victim p v tb ≡ takenAs p v tb g
+  unfolding below
+  victim-least g h is before after =
+      victim-flagged
+      ∙ least-finds W (λ k. getD sealed k false) g is before none 0 (p .Z) (omega arith) (omega (arith, h)) over-none (λ k a b q. after k a (omega (arith, b)) q)
+      ∙ sym (taken-some p v tb g h)
+
+  -- none is sealed
+  pub victim-nobody : ((k : ℕ) → k < p .Z → getD sealed k false ≡ false) → (g : ℕ) → p .Z ≤ g → victim p v tb ≡ takenAs p v tb g
+  unfolding fewest below
+  victim-nobody none! g h =
+      victim-flagged
+      ∙ ap (λ (l : List ℕ). fewest none (map W l)) (keep-nobody (λ k. getD sealed k false) 0 (p .Z) (λ k a b. none! k (omega (arith, b))))
+      ∙ sym (taken-none p v tb g h)
+
+-- by the tables, the least is the one that reclaim takes
+module _ (p : Params) (r : Ranged p) (v : View) (tb rows ss : List ℕ) (sealed : List Bool) (sh : OwnersShown p v rows ss sealed) where
+  abbrev its : ℕ → List ℕ
+  its g = victimOf p (placesIn p tb) (segAt p v 0 g) .live
+
+  -- the live blocks of a sealed segment
+  pub live-number : (g : ℕ) → g < p .Z → getD sealed g false ≡ true → its g ≡ liveBelow p tb (inSeg p (segAt p v 0 g)) (p .N * p .Z * capacity p)
+  unfolding victimOf
+  live-number g h e = live-all p r tb (segAt p v 0 g) (number-low p r v rows ss sealed sh g h e)
+
+  count-live : (live : List ℕ) → LiveCounted p ss tb live (p .N * p .Z * capacity p) → (g : ℕ) → g < p .Z → getD sealed g false ≡ true → length (its g) ≡ getD live g 0
+  count-live live so g h e =
+      ap length (live-number g h e ∙ sym (live-owned p r tb ss g (segAt p v 0 g) (sh .owns g h e) (p .N * p .Z * capacity p) (omega arith)))
+      ∙ sym (so g (omega (arith, h, r .zones-high)))
+
+  pub least-taken : (live : List ℕ) → LiveCounted p ss tb live (p .N * p .Z * capacity p) → (best : ℕ) → Least p sealed live (p .Z) best → victim p v tb ≡ takenAs p v tb best
+  least-taken live so best le = go (decLt best (p .Z))
+    where
+      size : (g : ℕ) → g < p .Z → getD sealed g false ≡ true → length (its g) ≡ getD live g 0
+      size = count-live live so
+
+      go : Dec (best < p .Z) → victim p v tb ≡ takenAs p v tb best
+      go (no n) = victim-nobody p v tb sealed (sh .flagged) (λ k h. miss k h (test (getD sealed k false))) best (omega arith)
+        where
+          miss : (k : ℕ) → k < p .Z → Test (getD sealed k false) → getD sealed k false ≡ false
+          miss k h (yes! e) = absurd (le .nobody (omega arith) k h e)
+          miss k h (no! e) = e
+      go (yes h) =
+          let is = le .taken h in
+          victim-least p v tb sealed (sh .flagged) best h is
+          (λ k l e. omega (arith, size best h is, size k (omega (arith, l, h)) e, le .first h k l e))
+          (λ k l m e. omega (arith, size best h is, size k m e, le .least h k m e))

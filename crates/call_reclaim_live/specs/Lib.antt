@@ -1,3 +1,4 @@
+pub mod Owners
 pub mod Live
 pub mod Fewest
 pub mod Least

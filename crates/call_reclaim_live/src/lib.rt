@@ -1,16 +1,17 @@
-// How many live blocks each segment has, and the sealed segment with fewest (01, Reclaim).
+// How many live blocks each segment has, and the sealed segment with fewest (01, Reclaim; 02, item 4). A segment that remains goes by its zone on
+// drive 0; 1024 stands for none.
 ghost use mathlib.Core.Path.{_≡_};
-ghost use mathlib.Core.Bool.{true, cond};
+ghost use mathlib.Core.Bool.{true, false, cond};
 ghost use mathlib.Core.List.{List};
 ghost use Prim.Native.Nat.{ℕ, _+_, _*_, min, max, _≤_, _<_};
-ghost use lib.Dec.{eqb};
 ghost use lib.ListN.{length, getD};
-ghost use Rattle.call_reclaim_live.specs.Fewest.{pickOf, takenAs};
+ghost use Rattle.call_reclaim_live.specs.Fewest.{pickOf};
 ghost use Rattle.call_reclaim_live.specs.Least.{Least};
 ghost use Rattle.call_reclaim_live.specs.Live.{LiveCounted};
-ghost use Rattle.spec.specs.Drives.{viewOf, sealedIn, across};
+ghost use Rattle.call_reclaim_live.specs.Owners.{OwnersLow, sealedAt};
+ghost use Rattle.disk_gather.specs.Owners.{OwnersRowsLow};
+ghost use Rattle.spec.specs.Drives.{viewOf};
 ghost use Rattle.spec.specs.Params.{inRange, capacity, imageLen, pointersLen, addressesLen};
-ghost use Rattle.spec.specs.Reclaim.{victim};
 ghost use Rattle.mem_marks.specs.Marks.{Marks};
 ghost use Rattle.mem_tables.specs.Tables.{countPlaces};
 use spec::Params;
@@ -37,46 +38,60 @@ pub fn clip(first: usize, end: usize, x: usize) -> usize
     x
 }
 
-// The zone after zone z, on the next drive after the last.
-pub fn next_zone(p: Params, z: usize) -> usize
-    requires { ⌜ inRange p ≡ true ⌝ }
-    requires { ⌜ z < p .Z ⌝ }
-    ensures { λ r. ⌜ (r ≡ cond (eqb (z + 1) (p .Z)) 0 (z + 1)) × (r < p .Z) ⌝ }
+pub fn wide(s: u16) -> usize
+    ensures { λ r. ⌜ r ≡ s ⌝ }
 {
-    if z + 1 == p.Z {
-        return 0;
-    }
-    z + 1
+    s as usize
 }
 
+// ---- live blocks
+
 // Counts the marked places from first up to end by segment, zone after zone.
-fn count_zones(p: Params, marks: &[u8], live: &mut [usize], first: usize, end: usize)
+fn count_zones(
+    p: Params,
+    segments: &[u16],
+    marks: &[u8],
+    live: &mut [usize],
+    first: usize,
+    end: usize,
+)
     requires { ⌜ inRange p ≡ true ⌝ }
-    requires { ⌜ (first ≤ end) × (end ≤ 715825152) × (end ≤ first + 8 * length (now marks)) × (p .Z ≤ length (now live)) ⌝ }
-    requires { ⌜ ((g : ℕ) → g < p .Z → getD (now live) g 0 ≤ first) ⌝ }
-    ensures { λ _. ⌜ ((tb : List ℕ) → Marks tb (p .L) (now (marks .entry)) first end → LiveCounted p tb (now (live .entry)) first → LiveCounted p tb (now (live .exit)) end) ⌝ }
+    requires { ⌜ (first ≤ end) × (end ≤ p .N * p .Z * capacity p) × (end ≤ first + 8 * length (now marks)) × (1024 < length (now live)) × OwnersLow p (now segments) ⌝ }
+    requires { ⌜ ((g : ℕ) → g ≤ 1024 → getD (now live) g 0 ≤ first) ⌝ }
+    ensures { λ _. ⌜
+        ((tb : List ℕ)
+        → Marks tb (p .L) (now (marks .entry)) first end
+        → LiveCounted p (now (segments .entry)) tb (now (live .entry)) first
+        → LiveCounted p (now (segments .entry)) tb (now (live .exit)) end) ⌝ }
 {
     let cap = disk_shape::capacity(p);
     let mut at = 0;
-    let mut z = 0;
+    let mut t = 0;
     let mut from = first;
     while at < end {
         let to = clip(first, end, at + cap);
         let n = mem_marks::count_marks(marks, from - first, to - first);
-        live[z] = live[z] + n;
+        let g = wide(segments[t]);
+        live[g] = live[g] + n;
         from = to;
         at += cap;
-        z = next_zone(p, z);
+        t += 1;
     }
 }
 
-// 01, Reclaim: the live blocks of each segment, one pass over the table for each window of places that the marks stand for. Where they stand
-// for all places, the marks are left as they are after that pass. How many entries lie outside the image.
-pub fn count_windows(p: Params, addresses: &[u8], marks: &mut [u8], live: &mut [usize]) -> usize
+// 01, Reclaim: the live blocks of each segment, and of the zones that none has, one pass over the table for each window of places that the
+// marks stand for. Where they stand for all places, the marks are left as they are after that pass. How many entries lie beyond the last place.
+pub fn count_windows(
+    p: Params,
+    segments: &[u16],
+    addresses: &[u8],
+    marks: &mut [u8],
+    live: &mut [usize],
+) -> usize
     requires { ⌜ inRange p ≡ true ⌝ }
-    requires { ⌜ (length (now addresses) ≡ addressesLen p) × (0 < length (now marks)) × (length (now marks) < 268435456) × (p .Z ≤ length (now live)) ⌝ }
-    requires { ⌜ LiveCounted p (now addresses) (now live) 0 ⌝ }
-    ensures { λ _. ⌜ LiveCounted p (now (addresses .entry)) (now (live .exit)) (p .N * p .Z * capacity p) ⌝ }
+    requires { ⌜ (length (now addresses) ≡ addressesLen p) × (0 < length (now marks)) × (length (now marks) < 268435456) × (1024 < length (now live)) ⌝ }
+    requires { ⌜ OwnersLow p (now segments) × LiveCounted p (now segments) (now addresses) (now live) 0 ⌝ }
+    ensures { λ _. ⌜ LiveCounted p (now (segments .entry)) (now (addresses .entry)) (now (live .exit)) (p .N * p .Z * capacity p) ⌝ }
     ensures { λ _. ⌜ (p .N * p .Z * capacity p ≤ 8 * length (now (marks .entry)) → Marks (now (addresses .entry)) (p .L) (now (marks .exit)) 0 (p .N * p .Z * capacity p)) ⌝ }
     ensures { λ r. ⌜ r ≡ countPlaces (now (addresses .entry)) (p .L) (p .N * p .Z * capacity p) 4294967295 ⌝ }
 {
@@ -87,7 +102,7 @@ pub fn count_windows(p: Params, addresses: &[u8], marks: &mut [u8], live: &mut [
     while first < all {
         let end = clip(0, all, first + step);
         outside = mem_marks::mark_window(addresses, p.L, marks, first, end);
-        count_zones(p, marks, live, first, end);
+        count_zones(p, segments, marks, live, first, end);
         first = end;
     }
     outside
@@ -95,14 +110,45 @@ pub fn count_windows(p: Params, addresses: &[u8], marks: &mut [u8], live: &mut [
 
 // ---- the segment
 
-// Segment g in place of the best so far (Z for none), if it is sealed and has fewer live blocks.
-fn better(p: Params, pointers: &[u8], live: &[usize], best: usize, g: usize) -> usize
+// 01, Restart, 3: whether a segment remains at a zone of drive 0 and is sealed.
+fn is_sealed_at(p: Params, pointers: &[u8], rows: &[u32], kept: &[bool], g: usize) -> bool
     requires { ⌜ inRange p ≡ true ⌝ }
-    requires { ⌜ (length (now pointers) ≡ pointersLen p) × (g < p .Z) × (p .Z ≤ length (now live)) ⌝ }
-    ensures { λ r. ⌜ ((im : List ℕ) → length im ≡ imageLen p → r ≡ cond (sealedIn p (viewOf p im (now (pointers .entry))) 0 (across p g)) (pickOf p (now (live .entry)) best g) best) ⌝ }
+    requires { ⌜ (length (now pointers) ≡ pointersLen p) × (8 * p .Z ≤ length (now rows)) × (p .Z ≤ length (now kept)) × OwnersRowsLow p (now rows) (now kept) × (g < p .Z) ⌝ }
+    ensures { λ r. ⌜
+        ((off im : List ℕ) → length im ≡ imageLen p → r ≡ sealedAt p (viewOf p off im (now (pointers .entry))) (now (rows .entry)) (now (kept .entry)) g) ⌝ }
 {
-    let segment = disk_shape::across(p, g);
-    if !disk_zones::is_sealed(p, pointers, 0, segment) {
+    if !kept[g] {
+        return false;
+    }
+    let segment = disk_gather::row(rows, g);
+    disk_zones::is_sealed(p, pointers, 0, segment)
+}
+
+// 01, Restart, 3: which of the segments that remain are sealed.
+pub fn find_sealed(p: Params, pointers: &[u8], rows: &[u32], kept: &[bool], sealed: &mut [bool])
+    requires { ⌜ inRange p ≡ true ⌝ }
+    requires { ⌜ (length (now pointers) ≡ pointersLen p) × (8 * p .Z ≤ length (now rows)) × (p .Z ≤ length (now kept)) × OwnersRowsLow p (now rows) (now kept) ⌝ }
+    requires { ⌜ p .Z ≤ length (now sealed) ⌝ }
+    ensures { λ _. ⌜
+        ((off im : List ℕ)
+        → length im ≡ imageLen p
+        → (g : ℕ)
+        → g < p .Z
+        → getD (now (sealed .exit)) g false ≡ sealedAt p (viewOf p off im (now (pointers .entry))) (now (rows .entry)) (now (kept .entry)) g) ⌝ }
+{
+    let mut g = 0;
+    while g < p.Z {
+        sealed[g] = is_sealed_at(p, pointers, rows, kept, g);
+        g += 1;
+    }
+}
+
+// Segment g in place of the best so far (Z for none), if it is sealed and has fewer live blocks.
+fn better(p: Params, sealed: &[bool], live: &[usize], best: usize, g: usize) -> usize
+    requires { ⌜ (g < p .Z) × (p .Z ≤ length (now sealed)) × (p .Z ≤ length (now live)) ⌝ }
+    ensures { λ r. ⌜ r ≡ cond (getD (now (sealed .entry)) g false) (pickOf p (now (live .entry)) best g) best ⌝ }
+{
+    if !sealed[g] {
         return best;
     }
     if p.Z <= best {
@@ -114,18 +160,15 @@ fn better(p: Params, pointers: &[u8], live: &[usize], best: usize, g: usize) -> 
     best
 }
 
-// 01, Reclaim: the sealed segment with fewest live blocks, lowest zone on a tie; Z if there is none.
-pub fn fewest(p: Params, pointers: &[u8], live: &[usize]) -> usize
-    requires { ⌜ inRange p ≡ true ⌝ }
-    requires { ⌜ (length (now pointers) ≡ pointersLen p) × (p .Z ≤ length (now live)) ⌝ }
-    ensures { λ r. ⌜ ((im tb : List ℕ) → length im ≡ imageLen p → LiveCounted p tb (now (live .entry)) (p .N * p .Z * capacity p)
-        → victim p (viewOf p im (now (pointers .entry))) tb ≡ takenAs p tb r) ⌝ }
-    ensures { λ r. ⌜ ((im : List ℕ) → length im ≡ imageLen p → Least p (viewOf p im (now (pointers .entry))) (now (live .entry)) (p .Z) r) ⌝ }
+// 01, Reclaim: the sealed segment with fewest live blocks, lowest zone on drive 0 on a tie; Z if there is none.
+pub fn fewest(p: Params, sealed: &[bool], live: &[usize]) -> usize
+    requires { ⌜ (p .Z ≤ length (now sealed)) × (p .Z ≤ length (now live)) ⌝ }
+    ensures { λ r. ⌜ Least p (now (sealed .entry)) (now (live .entry)) (p .Z) r ⌝ }
 {
     let mut best = p.Z;
     let mut g = 0;
     while g < p.Z {
-        best = better(p, pointers, live, best, g);
+        best = better(p, sealed, live, best, g);
         g += 1;
     }
     best

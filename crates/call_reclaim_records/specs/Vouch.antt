@@ -1,20 +1,22 @@
 -- Data blocks that are live because some address of the table has their place (01, Reclaim): a count of some of them is no more than the count
 -- of all. Run by run, zone by zone, drive by drive. Assumes nothing.
 use Prim.Native.Nat.{ℕ, zero, suc, _+_, _-_, _*_, _≤_, _<_}
-use Rattle.call_reclaim_live.specs.Live.{isLiveIn, liveBelow, live-split}
-use Rattle.spec.specs.Drives.{View, sealedIn, across}
+use Rattle.call_reclaim_live.specs.Live.{inSeg, isLiveIn, liveBelow, live-split}
+use Rattle.disk_gather.specs.Owners.{rowSeg}
+use Rattle.spec.specs.Drives.{zoneOn}
 use Rattle.spec.specs.Lists.{upFrom, below, any, consIf, keep}
 use Rattle.spec.specs.Memory.{placeAt}
-use Rattle.spec.specs.Params.{capacity, unitLen, placeOf, placeZone, placeByte}
+use Rattle.spec.specs.Params.{capacity, unitLen, placeOf, placeZone, placeDrive, placeByte}
 use Rattle.spec.specs.declared.Params.{Params}
-use Rattle.law_basic.specs.Geometry.{Ranged, item-fits, data-below, place-zone}
+use Rattle.spec.specs.declared.Seg.{Seg}
+use Rattle.law_basic.specs.Geometry.{Ranged, item-fits, data-below, place-zone, place-drive}
 use Rattle.law_basic.specs.Ranges.{Test, test, upFrom-add, upFrom-snoc, keep-append, keep-upFrom-same, length-keep, length-upFrom}
 use Rattle.law_basic.specs.Ranges.Test.{yes!, no! }
 use Rattle.mem_marks.specs.Marks.{isPointed}
 use borrow.Author.Tests.{eq-eqb, eqb-true, eqb-false}
 use lib.Arith.{lt-of-le-ne}
 use lib.Dec.{eqb}
-use lib.ListN.{length, length-append}
+use lib.ListN.{length, getD, length-append}
 use mathlib.Core.Bool.{Bool, true, false, _&&_, _||_}
 use mathlib.Core.List.{List, [], _∷_}
 use mathlib.Core.Path.{_≡_, refl, sym, ap, _∙_, subst}
@@ -29,9 +31,10 @@ abbrev pub pointedFrom : List ℕ → ℕ → ℕ → ℕ → List ℕ
 pointedFrom tb l q n = keep (isPointed tb l) (upFrom q n)
 
 -- 01, Reclaim: a sealed segment k other than best has n live blocks at least, and more where it is lower
-abbrev pub Enough : Params → View → List ℕ → ℕ → ℕ → ℕ → Type 0
-Enough p v tb best n k =
-    sealedIn p v 0 (across p k) ≡ true → (k < best → n < length (liveBelow p tb k (p .N * p .Z * capacity p))) × (best < k → n ≤ length (liveBelow p tb k (p .N * p .Z * capacity p)))
+abbrev pub Enough : Params → List ℕ → List Bool → List ℕ → ℕ → ℕ → ℕ → Type 0
+Enough p rows sealed tb best n k =
+    getD sealed k false ≡ true → (k < best → n < length (liveBelow p tb (inSeg p (rowSeg rows k)) (p .N * p .Z * capacity p)))
+    × (best < k → n ≤ length (liveBelow p tb (inSeg p (rowSeg rows k)) (p .N * p .Z * capacity p)))
 
 -- what holds of all below n and of n
 pub below-more : (P : ℕ → Type 0) (n : ℕ) → ((k : ℕ) → k < n → P k) → P n → (k : ℕ) → k < n + 1 → P k
@@ -109,40 +112,46 @@ pub drive-last : (p : Params) → placeOf p (p .N) 0 0 ≡ p .N * p .Z * capacit
 unfolding placeOf
 drive-last p = add-zero ((p .N * p .Z + 0) * capacity p) ∙ ap (λ (x : ℕ). x * capacity p) (add-zero (p .N * p .Z))
 
-module _ (p : Params) (tb : List ℕ) (g : ℕ) where
-  abbrev live : ℕ → ℕ
-  live n = length (liveBelow p tb g n)
+-- those of the first places are some of all
+pub live-longer : (p : Params) (tb : List ℕ) (f : ℕ → Bool) (a b : ℕ) → a ≤ b → length (liveBelow p tb f a) ≤ length (liveBelow p tb f b)
+live-longer p tb f a b h =
+    let e : length (liveBelow p tb f b) ≡ length (liveBelow p tb f a) + length (keep (isLiveIn p tb f) (upFrom a (b - a))) =
+    ap length (live-split p tb f a b h) ∙ length-append (liveBelow p tb f a) (keep (isLiveIn p tb f) (upFrom a (b - a))) in
+    omega (arith, e)
 
-  pub live-longer : (a b : ℕ) → a ≤ b → live a ≤ live b
-  live-longer a b h =
-      let e : live b ≡ live a + length (keep (isLiveIn p tb g) (upFrom a (b - a))) =
-      ap length (live-split p tb g a b h) ∙ length-append (liveBelow p tb g a) (keep (isLiveIn p tb g) (upFrom a (b - a))) in
-      omega (arith, e)
+module _ (p : Params) (tb : List ℕ) (h : Seg) where
+  abbrev live : ℕ → ℕ
+  live n = length (liveBelow p tb (inSeg p h) n)
 
   -- those of the first drives are some of all
   pub live-below-drive : (d : ℕ) → d ≤ p .N → live (placeOf p d 0 0) ≤ live (p .N * p .Z * capacity p)
   unfolding placeOf
-  live-below-drive d h =
+  live-below-drive d k =
       let e : (d * p .Z + 0) * capacity p + 0 ≡ d * p .Z * capacity p = add-zero ((d * p .Z + 0) * capacity p) ∙ ap (λ (x : ℕ). x * capacity p) (add-zero (d * p .Z)) in
-      live-longer ((d * p .Z + 0) * capacity p + 0) (p .N * p .Z * capacity p)
-      (subst (λ (x : ℕ). x ≤ p .N * p .Z * capacity p) (sym e) (mul-le-mul-right (capacity p) (mul-le-mul-right (p .Z) h)))
+      live-longer p tb (inSeg p h) ((d * p .Z + 0) * capacity p + 0) (p .N * p .Z * capacity p)
+      (subst (λ (x : ℕ). x ≤ p .N * p .Z * capacity p) (sym e) (mul-le-mul-right (capacity p) (mul-le-mul-right (p .Z) k)))
 
-  module _ (r : Ranged p) (h : g < p .Z) (d : ℕ) where
+  -- a zone of the segment, on drive d
+  module _ (r : Ranged p) (d : ℕ) (z : zoneOn h d < p .Z) where
     abbrev C : ℕ
     C = capacity p
 
+    abbrev g : ℕ
+    g = zoneOn h d
+
     -- the data blocks of its zone
-    place-in-zone : (k : ℕ) → placeOf p d g 1 ≤ k → k < placeOf p d g 1 + p .S → placeZone p k ≡ g
-    unfolding placeOf
+    place-in-zone : (k : ℕ) → placeOf p d g 1 ≤ k → k < placeOf p d g 1 + p .S → inSeg p h k ≡ true
+    unfolding placeOf inSeg
     place-in-zone k low high =
         let b : ℕ = k - (d * p .Z + g) * C in
         let e : k ≡ (d * p .Z + g) * C + b = omega arith in
-        ap (placeZone p) e ∙ place-zone p d g b h (omega (arith, data-below p r (p .S) (omega arith)))
+        let fit : b < C = omega (arith, data-below p r (p .S) (omega arith)) in
+        eq-eqb (placeZone p k) (zoneOn h (placeDrive p k)) (ap (placeZone p) e ∙ place-zone p d g b z fit ∙ ap (zoneOn h) (sym (ap (placeDrive p) e ∙ place-drive p d g b z fit)))
 
-    zone-run : length (keep (isLiveIn p tb g) (upFrom (placeOf p d g 1) (p .S))) ≡ length (pointedFrom tb (p .L) (placeOf p d g 1) (p .S))
+    zone-run : length (keep (isLiveIn p tb (inSeg p h)) (upFrom (placeOf p d g 1) (p .S))) ≡ length (pointedFrom tb (p .L) (placeOf p d g 1) (p .S))
     unfolding isLiveIn
-    zone-run = ap length (keep-upFrom-same (isLiveIn p tb g) (isPointed tb (p .L)) (placeOf p d g 1) (p .S) (λ k x y.
-        ap (λ (b : Bool). b && isPointed tb (p .L) k) (eq-eqb (placeZone p k) g (place-in-zone k x y))))
+    zone-run = ap length (keep-upFrom-same (isLiveIn p tb (inSeg p h)) (isPointed tb (p .L)) (placeOf p d g 1) (p .S) (λ k x y.
+        ap (λ (b : Bool). b && isPointed tb (p .L) k) (place-in-zone k x y)))
 
     pub drive-place-low : placeOf p d 0 0 ≤ placeOf p d g 1
     unfolding placeOf
@@ -151,18 +160,19 @@ module _ (p : Params) (tb : List ℕ) (g : ℕ) where
     pub next-drive-place : placeOf p d g 1 + p .S ≤ placeOf p (d + 1) 0 0
     unfolding placeOf
     next-drive-place =
-        let z : (d + 1) * p .Z ≡ d * p .Z + p .Z = add-mul d 1 (p .Z) ∙ ap (λ (x : ℕ). d * p .Z + x) (one-mul (p .Z)) in
-        let w : ((d + 1) * p .Z + 0) * C ≡ d * p .Z * C + p .Z * C = ap (λ (x : ℕ). x * C) (add-zero ((d + 1) * p .Z) ∙ z) ∙ add-mul (d * p .Z) (p .Z) C in
-        omega (arith, w, add-mul (d * p .Z) g C, item-fits g (p .Z) C h, data-below p r (p .S) (omega arith))
+        let y : (d + 1) * p .Z ≡ d * p .Z + p .Z = add-mul d 1 (p .Z) ∙ ap (λ (x : ℕ). d * p .Z + x) (one-mul (p .Z)) in
+        let w : ((d + 1) * p .Z + 0) * C ≡ d * p .Z * C + p .Z * C = ap (λ (x : ℕ). x * C) (add-zero ((d + 1) * p .Z) ∙ y) ∙ add-mul (d * p .Z) (p .Z) C in
+        omega (arith, w, add-mul (d * p .Z) g C, item-fits g (p .Z) C z, data-below p r (p .S) (omega arith))
 
     pub drive-more : (c n : ℕ) → c ≤ live (placeOf p d 0 0) → n ≤ length (pointedFrom tb (p .L) (placeOf p d g 1) (p .S)) → c + n ≤ live (placeOf p (d + 1) 0 0)
     drive-more c n a b =
         let y : ℕ = placeOf p d g 1 in
         let s : y + p .S - y ≡ p .S = omega arith in
-        let e : live (y + p .S) ≡ live y + length (keep (isLiveIn p tb g) (upFrom y (p .S))) =
-        ap length (live-split p tb g y (y + p .S) (omega arith)) ∙ length-append (liveBelow p tb g y) (keep (isLiveIn p tb g) (upFrom y (y + p .S - y)))
-        ∙ ap (λ (x : ℕ). live y + length (keep (isLiveIn p tb g) (upFrom y x))) s in
-        omega (arith, a, b, e, zone-run, live-longer (placeOf p d 0 0) y drive-place-low, live-longer (y + p .S) (placeOf p (d + 1) 0 0) next-drive-place)
+        let f : ℕ → Bool = inSeg p h in
+        let e : live (y + p .S) ≡ live y + length (keep (isLiveIn p tb f) (upFrom y (p .S))) =
+        ap length (live-split p tb f y (y + p .S) (omega arith)) ∙ length-append (liveBelow p tb f y) (keep (isLiveIn p tb f) (upFrom y (y + p .S - y)))
+        ∙ ap (λ (x : ℕ). live y + length (keep (isLiveIn p tb f) (upFrom y x))) s in
+        omega (arith, a, b, e, zone-run, live-longer p tb f (placeOf p d 0 0) y drive-place-low, live-longer p tb f (y + p .S) (placeOf p (d + 1) 0 0) next-drive-place)
 
 -- the next block's first byte
 pub next-byte : (p : Params) (d z b : ℕ) → placeByte p (placeOf p d z (b + 1)) ≡ placeByte p (placeOf p d z b) + unitLen p

@@ -6,12 +6,13 @@ ghost use Prim.Native.Nat.{ℕ, _+_, _-_, _*_, min, _≤_, _<_};
 ghost use lib.Dec.{eqb};
 ghost use lib.ListN.{length};
 ghost use mir.Val.{boolByte};
-ghost use Rattle.call_reclaim_live.specs.Live.{liveBelow};
-ghost use Rattle.spec.specs.Drives.{viewOf, mkDisk};
+ghost use Rattle.call_reclaim_live.specs.Live.{inSeg, liveBelow};
+ghost use Rattle.disk_gather.specs.Owners.{OwnersRowsLow};
+ghost use Rattle.law_basic.specs.Segs.{ZonesLow};
 ghost use Rattle.spec.specs.Params.{inRange, spareLen, capacity, imageLen, addressesLen, placeOf};
-ghost use Rattle.law_views.specs.Views.{Whole};
 ghost use Rattle.call_reclaim_records.specs.Vouch.{pointedFrom, Enough};
 use spec::Params;
+use spec::Seg;
 
 // An address of the table: a, or 0 where a is none of n.
 pub fn clipped(a: u64, n: usize) -> usize
@@ -68,18 +69,18 @@ fn vouched_zone(
     image: &[u8],
     addresses: &[u8],
     drive: usize,
-    g: usize,
+    zone: usize,
     most: usize,
 ) -> usize
     requires { ⌜ inRange p ≡ true ⌝ }
-    requires { ⌜ (length (now image) ≡ imageLen p) × (length (now addresses) ≡ addressesLen p) × (drive < p .N) × (g < p .Z) ⌝ }
-    ensures { λ r. ⌜ (r ≤ length (pointedFrom (now (addresses .entry)) (p .L) (placeOf p drive g 1) (p .S))) × (r ≤ 65535) ⌝ }
+    requires { ⌜ (length (now image) ≡ imageLen p) × (length (now addresses) ≡ addressesLen p) × (drive < p .N) × (zone < p .Z) ⌝ }
+    ensures { λ r. ⌜ (r ≤ length (pointedFrom (now (addresses .entry)) (p .L) (placeOf p drive zone 1) (p .S))) × (r ≤ 65535) ⌝ }
 {
     let per = disk_shape::per_footer(p);
     let feet = disk_shape::footers(p);
     let unit = disk_shape::unit_len(p);
-    let first = disk_shape::place_of(p, drive, g, 1).0 as usize;
-    let mut at = disk_shape::block_byte(p, drive, g, 1 + p.S);
+    let first = disk_shape::place_of(p, drive, zone, 1).0 as usize;
+    let mut at = disk_shape::block_byte(p, drive, zone, 1 + p.S);
     let mut c = 0;
     let mut o = 0;
     let mut f = 0;
@@ -96,11 +97,11 @@ fn vouched_zone(
     c
 }
 
-// 01, Reclaim: some of the live blocks of segment g; all that can be told by the records, or at least most.
-pub fn vouched(p: Params, image: &[u8], addresses: &[u8], g: usize, most: usize) -> usize
+// 01, Reclaim: some of the live blocks of a segment; all that can be told by the records, or at least most.
+pub fn vouched(p: Params, image: &[u8], addresses: &[u8], segment: Seg, most: usize) -> usize
     requires { ⌜ inRange p ≡ true ⌝ }
-    requires { ⌜ (length (now image) ≡ imageLen p) × (length (now addresses) ≡ addressesLen p) × (g < p .Z) ⌝ }
-    ensures { λ r. ⌜ r ≤ length (liveBelow p (now (addresses .entry)) g (p .N * p .Z * capacity p)) ⌝ }
+    requires { ⌜ (length (now image) ≡ imageLen p) × (length (now addresses) ≡ addressesLen p) × ZonesLow p 0 segment ⌝ }
+    ensures { λ r. ⌜ r ≤ length (liveBelow p (now (addresses .entry)) (inSeg p segment) (p .N * p .Z * capacity p)) ⌝ }
 {
     let mut c = 0;
     let mut d = 0;
@@ -108,7 +109,8 @@ pub fn vouched(p: Params, image: &[u8], addresses: &[u8], g: usize, most: usize)
         if most <= c {
             return c;
         }
-        c += vouched_zone(p, image, addresses, d, g, most - c);
+        let zone = disk_shape::zone_on(p, segment, d);
+        c += vouched_zone(p, image, addresses, d, zone, most - c);
         d += 1;
     }
     c
@@ -129,45 +131,47 @@ fn needed(best: usize, n: usize, g: usize) -> usize
 fn is_enough(
     p: Params,
     image: &[u8],
-    pointers: &[u8],
+    rows: &[u32],
+    sealed: &[bool],
     addresses: &[u8],
     best: usize,
     n: usize,
     g: usize,
 ) -> bool
     requires { ⌜ inRange p ≡ true ⌝ }
-    requires { ⌜ Whole p (mkDisk (now image) (now pointers)) ⌝ }
-    requires { ⌜ (length (now addresses) ≡ addressesLen p) × (g < p .Z) × (n < 18446744073709551615) ⌝ }
-    ensures { λ r. ⌜ (r ≡ true → Enough p (viewOf p (now (image .entry)) (now (pointers .entry))) (now (addresses .entry)) best n g) ⌝ }
+    requires { ⌜ (length (now image) ≡ imageLen p) × (length (now addresses) ≡ addressesLen p) × (g < p .Z) × (n < 18446744073709551615) ⌝ }
+    requires { ⌜ (8 * p .Z ≤ length (now rows)) × (p .Z ≤ length (now sealed)) × OwnersRowsLow p (now rows) (now sealed) ⌝ }
+    ensures { λ r. ⌜ (r ≡ true → Enough p (now (rows .entry)) (now (sealed .entry)) (now (addresses .entry)) best n g) ⌝ }
 {
     if g == best {
         return true;
     }
-    let segment = disk_shape::across(p, g);
-    if !disk_zones::is_sealed(p, pointers, 0, segment) {
+    if !sealed[g] {
         return true;
     }
+    let segment = disk_gather::row(rows, g);
     let need = needed(best, n, g);
-    need <= vouched(p, image, addresses, g, need)
+    need <= vouched(p, image, addresses, segment, need)
 }
 
 // 01, Reclaim: whether no sealed segment other than best, which has n live blocks, would be taken in its place.
 pub fn is_fewest(
     p: Params,
     image: &[u8],
-    pointers: &[u8],
+    rows: &[u32],
+    sealed: &[bool],
     addresses: &[u8],
     best: usize,
     n: usize,
 ) -> bool
     requires { ⌜ inRange p ≡ true ⌝ }
-    requires { ⌜ Whole p (mkDisk (now image) (now pointers)) ⌝ }
-    requires { ⌜ (length (now addresses) ≡ addressesLen p) × (n < 18446744073709551615) ⌝ }
-    ensures { λ r. ⌜ (r ≡ true → (k : ℕ) → k < p .Z → Enough p (viewOf p (now (image .entry)) (now (pointers .entry))) (now (addresses .entry)) best n k) ⌝ }
+    requires { ⌜ (length (now image) ≡ imageLen p) × (length (now addresses) ≡ addressesLen p) × (n < 18446744073709551615) ⌝ }
+    requires { ⌜ (8 * p .Z ≤ length (now rows)) × (p .Z ≤ length (now sealed)) × OwnersRowsLow p (now rows) (now sealed) ⌝ }
+    ensures { λ r. ⌜ (r ≡ true → (k : ℕ) → k < p .Z → Enough p (now (rows .entry)) (now (sealed .entry)) (now (addresses .entry)) best n k) ⌝ }
 {
     let mut g = 0;
     while g < p.Z {
-        if !is_enough(p, image, pointers, addresses, best, n, g) {
+        if !is_enough(p, image, rows, sealed, addresses, best, n, g) {
             return false;
         }
         g += 1;

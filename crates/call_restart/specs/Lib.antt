@@ -1,3 +1,2 @@
 pub mod Order
-pub mod Stays
 pub mod Ends

@@ -3,10 +3,10 @@ use Prim.Native.Nat.{ℕ, suc, _≤_, _<_}
 use Rattle.spec.specs.Answers.{kind, isRefused, isCut}
 use Rattle.spec.specs.Calls.{After, mkAfter, cutMemory}
 use Rattle.spec.specs.Counts.{lastCount, aStamp}
-use Rattle.spec.specs.Drives.{View, Store, Disk, storeDisk, storeAll, emptySegs, noSeg}
+use Rattle.spec.specs.Drives.{Store, Disk, storeDisk, storeAll}
 use Rattle.spec.specs.Engine.{lentOk, callDisk}
 use Rattle.spec.specs.Engine.Call.{write}
-use Rattle.spec.specs.Lists.{firstOr, isNil}
+use Rattle.spec.specs.Lists.{isNil}
 use Rattle.spec.specs.Lists.Opt.{none, some}
 use Rattle.spec.specs.Memory.{Memory, mkMemory, zeroState, hasFilling, setStamp, setOpen}
 use Rattle.spec.specs.Params.{dataCount, addressesLen, compactLen}
@@ -38,29 +38,29 @@ use mathlib.Core.List.{List}
 use mathlib.Core.Path.{_≡_, refl, sym, ap, _∙_, subst}
 use native.Mathlib.Omega.{arith}
 
-module _ (p : Params) (k : Disk) (m : Memory) (a : ℕ) (b : List ℕ) (n : ℕ) (some-bytes : isNil b ≡ false) where
+module _ (p : Params) (off : List ℕ) (k : Disk) (m : Memory) (a : ℕ) (b : List ℕ) (n : ℕ) (some-bytes : isNil b ≡ false) where
   -- 01, Store count: a refusal changes nothing
-  pub write-refused : (c : Change) → writeRefusal p k m a b ≡ some (c .answer)
-      → afterChange (m .state) c (k .image) (k .pointers) (m .addresses) (m .compact) (m .inflight) b ≡ callDisk p k m (write a b n)
+  pub write-refused : (c : Change) → writeRefusal p off k m a b ≡ some (c .answer)
+      → afterChange (m .state) c (k .image) (k .pointers) (m .addresses) (m .compact) (m .inflight) b ≡ callDisk p off k m (write a b n)
   unfolding writeVerdictIn
   write-refused c e =
-      ap (λ (x : State). mkAfter (c .answer) k (mkMemory x (m .addresses) (m .compact) (m .inflight)) b) (refused-state (writeChecks p (lentOk p k m) (seen p k) m a b) (m .state) c e)
-      ∙ sym (call-refused p (storeDisk p) n k m b (writeRefusal p k m a b) (writePlan p (seen p k) m a b) (c .answer) e)
-      ∙ write-leaves p k m a b n some-bytes
+      ap (λ (x : State). mkAfter (c .answer) k (mkMemory x (m .addresses) (m .compact) (m .inflight)) b) (refused-state (writeChecks p (lentOk p off k m) (seen p off k) m a b) (m .state) c e)
+      ∙ sym (call-refused p (storeDisk p) n k m b (writeRefusal p off k m a b) (writePlan p (seen p off k) m a b) (c .answer) e)
+      ∙ write-leaves p off k m a b n some-bytes
 
-  write-plan-stores : writePlan p (seen p k) m a b .stores ≡ openStores p k (m .state)
+  write-plan-stores : writePlan p (seen p off k) m a b .stores ≡ openStores p off k (m .state)
   unfolding writePlan sending
   write-plan-stores = refl
 
   -- just so many stores
-  write-cut : writeRefusal p k m a b ≡ none → n < length (openStores p k (m .state))
-      → mkAfter Cut (storeAll (storeDisk p) (take n (openStores p k (m .state))) k) (cutMemory p m) b ≡ callDisk p k m (write a b n)
+  write-cut : writeRefusal p off k m a b ≡ none → n < length (openStores p off k (m .state))
+      → mkAfter Cut (storeAll (storeDisk p) (take n (openStores p off k (m .state))) k) (cutMemory p m) b ≡ callDisk p off k m (write a b n)
   unfolding writeVerdictIn writePlan sending
-  write-cut e h = sym (call-cut p (storeDisk p) n k m b (writeRefusal p k m a b) (writePlan p (seen p k) m a b) e h) ∙ write-leaves p k m a b n some-bytes
+  write-cut e h = sym (call-cut p (storeDisk p) n k m b (writeRefusal p off k m a b) (writePlan p (seen p off k) m a b) e h) ∙ write-leaves p off k m a b n some-bytes
 
   -- what is sent
   abbrev sent : Sending
-  sent = sending p (seen p k) (m .state) (m .inflight) a (suc (m .state .stamp .0)) 1 b
+  sent = sending p (seen p off k) (m .state) (m .inflight) a (suc (m .state .stamp .0)) 1 b
 
   -- what a block sent leaves, the stores made
   abbrev leaves : Sending → List Store → After Disk
@@ -69,19 +69,19 @@ module _ (p : Params) (k : Disk) (m : Memory) (a : ℕ) (b : List ℕ) (n : ℕ)
       mkAfter (Sent (aStamp t) (q .stripe) (q .drive)) (storeAll (storeDisk p) (take n ss) k) (mkMemory (setStamp (q .state) t) (m .addresses) (m .compact) (q .inflight)) b
 
   -- all of them
-  write-done : writeRefusal p k m a b ≡ none → length (openStores p k (m .state)) ≤ n → leaves sent (openStores p k (m .state)) ≡ callDisk p k m (write a b n)
+  write-done : writeRefusal p off k m a b ≡ none → length (openStores p off k (m .state)) ≤ n → leaves sent (openStores p off k (m .state)) ≡ callDisk p off k m (write a b n)
   unfolding writeVerdictIn writePlan
   write-done e h =
       ap (leaves sent) (sym write-plan-stores)
-      ∙ sym (call-done p (storeDisk p) n k m b (writeRefusal p k m a b) (writePlan p (seen p k) m a b) e (subst (λ (x : List Store). length x ≤ n) (sym write-plan-stores) h))
-      ∙ write-leaves p k m a b n some-bytes
+      ∙ sym (call-done p (storeDisk p) n k m b (writeRefusal p off k m a b) (writePlan p (seen p off k) m a b) e (subst (λ (x : List Store). length x ≤ n) (sym write-plan-stores) h))
+      ∙ write-leaves p off k m a b n some-bytes
 
 -- opening a segment gives stripe 0 next, or leaves the next one
-pub opened-next : (p : Params) (v : View) (st : State) (n : ℕ) → st .next < n → openedBy p v st .next < n
+pub opened-next : (p : Params) (st : State) (n : ℕ) → st .next < n → openedBy p st .next < n
 unfolding openedBy setOpen
-opened-next p v st n h = go (opens p st)
+opened-next p st n h = go (opens p st)
   where
-    go : (c : Bool) → cond c (setOpen st (firstOr noSeg (emptySegs p v)) (suc (st .serial .0))) st .next < n
+    go : (c : Bool) → cond c (setOpen st (suc (st .serial .0))) st .next < n
     go true = omega arith
     go false = h
 
@@ -99,30 +99,30 @@ state-cut st c e = after-cut st c (ap isRefused e) (ap isCut e)
 
 -- ---- what the code leaves at each end
 
-module _ (p : Params) (k : Disk) (m : Memory) (a : ℕ) (b : List ℕ) (n : ℕ) (some-bytes : isNil b ≡ false) (none! : writeRefusal p k m a b ≡ none) (o : Opened) (k′ : Disk)
-    (h : OpeningStores p (m .state) n k o k′) where
+module _ (p : Params) (off : List ℕ) (k : Disk) (m : Memory) (a : ℕ) (b : List ℕ) (n : ℕ) (some-bytes : isNil b ≡ false) (none! : writeRefusal p off k m a b ≡ none)
+    (o : Opened) (k′ : Disk)
+    (h : OpeningStores p off (m .state) n k o k′) where
   -- 01, Write: what a block asks of the state with its segment open
   write-plan-ready : m .state .stamp .0 < 18446744073709551616
       → (slotFor p (m .state) < 8) × (not (hasFilling p (m .state)) ≡ false → slotRow (m .state) (slotFor p (m .state)) .filled < dataCount p) × (o .next < 4294967295)
       × (m .state .stamp .0 < lastCount)
   write-plan-ready fit =
-      let r = write-ready p k m a b none! in
-      let v = seen p k in
+      let r = write-ready p off k m a b none! in
       let st = m .state in
       let i = slotFor p st in
       let s : i < 8 = slot-lt p st (r .waits) in
-      let x : openedBy p v st .next < 4294967295 = opened-next p v st 4294967295 (omega (arith, r .next-high, ranged p (r .ranged) .stripes-high)) in
-      (s, λ e. subst (λ (y : ℕ). y < dataCount p) (sym (row-filled st i)) (slot-fills p v st e s), omega (arith, h .next, x), lt-of-le-ne (omega arith) (r .stamp-left))
+      let x : openedBy p st .next < 4294967295 = opened-next p st 4294967295 (omega (arith, r .next-high, ranged p (r .ranged) .stripes-high)) in
+      (s, λ e. subst (λ (y : ℕ). y < dataCount p) (sym (row-filled st i)) (slot-fills p st e s), omega (arith, h .next, x), lt-of-le-ne (omega arith) (r .stamp-left))
 
   -- cut
   pub ends-write-cut : o .cut ≡ true → (c : Change) (ad co : List ℕ) → c .answer ≡ Cut → ad ≡ replicate (length (m .addresses)) 0 → co ≡ replicate (length (m .compact)) 0
-      → afterChange (m .state) c (k′ .image) (k′ .pointers) ad co (m .inflight) b ≡ callDisk p k m (write a b n)
+      → afterChange (m .state) c (k′ .image) (k′ .pointers) ad co (m .inflight) b ≡ callDisk p off k m (write a b n)
   ends-write-cut t c ad co e f g =
-      let w = write-ready p k m a b none! in
+      let w = write-ready p off k m a b none! in
       let q : mkMemory (stateAfter (m .state) c) ad co (m .inflight) ≡ cutMemory p m =
       cut-memory p m (stateAfter (m .state) c) ad co (w .addresses-long) (w .compact-long) (state-cut (m .state) c e) f g in
       (λ j. mkAfter (e j) (h .disk j) (q j) b)
-      ∙ write-cut p k m a b n some-bytes none! (ltb-true n (length (openStores p k (m .state))) (sym (h .cut) ∙ t))
+      ∙ write-cut p off k m a b n some-bytes none! (ltb-true n (length (openStores p off k (m .state))) (sym (h .cut) ∙ t))
 
   module _ (sized : RowsSized (m .state)) where
     abbrev st : State
@@ -142,14 +142,13 @@ module _ (p : Params) (k : Disk) (m : Memory) (a : ℕ) (b : List ℕ) (n : ℕ)
     unfolding isRefused isCut kind putRow putFront setStamp
     write-state =
         let c = planned (frontOf st) (aimOf p st) o (sentAt (o .next)) in
-        after-done st c refl refl ∙ changed-row st c (slot-lt p st (write-ready p k m a b none! .waits))
+        after-done st c refl refl ∙ changed-row st c (slot-lt p st (write-ready p off k m a b none! .waits))
 
     -- done
     ends-write-done : o .cut ≡ false → (c : Change) (fl : List ℕ) → c ≡ planned (frontOf st) (aimOf p st) o (sentAt (o .next)) → fl ≡ sentAt (o .next) .inflight
-        → afterChange st c (k′ .image) (k′ .pointers) (m .addresses) (m .compact) fl b ≡ callDisk p k m (write a b n)
+        → afterChange st c (k′ .image) (k′ .pointers) (m .addresses) (m .compact) fl b ≡ callDisk p off k m (write a b n)
     ends-write-done t c fl e f =
-        let w = write-ready p k m a b none! in
-        let v = seen p k in
+        let w = write-ready p off k m a b none! in
         let s = slot-lt p st (w .waits) in
         let d : dataCount p < 8 = omega (arith, data-count-high p (ranged p (w .ranged))) in
         let tt′ = suc (st .stamp .0) in
@@ -159,9 +158,9 @@ module _ (p : Params) (k : Disk) (m : Memory) (a : ℕ) (b : List ℕ) (n : ℕ)
         ∙ ap (λ (x : State). mkAfter (Sent (aStamp tt′) (sentAt (o .next) .row .number) (sentAt (o .next) .drive)) k′
         (mkMemory x (m .addresses) (m .compact) (sentAt (o .next) .inflight)) b) write-state
         ∙ (λ j. out (h .serial j) (h .opened j) (sentAt (h .next j)))
-        ∙ (λ j. let q = sending-row p v st s sized (m .inflight) a tt′ 1 b (start-room p v st s sized d) j in
+        ∙ (λ j. let q = sending-row p st s sized (seen p off k) (m .inflight) a tt′ 1 b (start-room p st s sized d) j in
         mkAfter (Sent (aStamp tt′) (q .stripe) (q .drive)) (h .disk j) (mkMemory (setStamp (q .state) tt′) (m .addresses) (m .compact) (q .inflight)) b)
-        ∙ write-done p k m a b n some-bytes none! (ltb-false n (length (openStores p k st)) (sym (h .cut) ∙ t))
+        ∙ write-done p off k m a b n some-bytes none! (ltb-false n (length (openStores p off k st)) (sym (h .cut) ∙ t))
 
   -- the same of the front, the aim and the stripe that the code has
   module _ (f : Front) (same : f ≡ frontOf (m .state)) (al : Aim) (aimed : al ≡ aimOf p (m .state)) (row : Row) (taken : row ≡ slotRow (m .state) (al .slot)) where
@@ -179,7 +178,7 @@ module _ (p : Params) (k : Disk) (m : Memory) (a : ℕ) (b : List ℕ) (n : ℕ)
 
     pub ends-plan : RowsSized (m .state) → o .cut ≡ false → (c : Change) (fl : List ℕ) → c ≡ planned f al o (plannedRow p row (m .inflight) f al o a b)
         → fl ≡ plannedRow p row (m .inflight) f al o a b .inflight
-        → afterChange (m .state) c (k′ .image) (k′ .pointers) (m .addresses) (m .compact) fl b ≡ callDisk p k m (write a b n)
+        → afterChange (m .state) c (k′ .image) (k′ .pointers) (m .addresses) (m .compact) fl b ≡ callDisk p off k m (write a b n)
     ends-plan z t c fl e g =
         ends-write-done z t c fl (e ∙ (λ j. planned (same j) (aimed j) o (plannedRow p (slot-row-is j) (m .inflight) (same j) (aimed j) o a b)))
         (g ∙ (λ j. plannedRow p (slot-row-is j) (m .inflight) (same j) (aimed j) o a b .inflight))

@@ -10,7 +10,7 @@ ghost use Rattle.spec.specs.Drives.{mkDisk};
 ghost use Rattle.spec.specs.Engine.{callDisk};
 ghost use Rattle.spec.specs.Engine.Call.{write};
 ghost use Rattle.spec.specs.Memory.{mkMemory, stateLen, stateOf};
-ghost use Rattle.spec.specs.Params.{inRange, dataCount, imageLen, pointersLen, inflightLen};
+ghost use Rattle.spec.specs.Params.{inRange, dataCount, imageLen, pointersLen, offlineLen, inflightLen};
 ghost use Rattle.call_filling.specs.Aims.{aimOf};
 ghost use Rattle.mem_rows.specs.Rows.{frontOf, afterChange};
 ghost use Rattle.call_write.specs.Order.{writeFrom};
@@ -39,13 +39,14 @@ fn reserve(a: Aim) -> usize
 }
 
 // 01, Refusals, 6 to 9, of a write; 02, item 3: full before waiting. The ranges of the state are looked at in its bytes.
-fn room_checks(p: Params, pointers: &[u8], bytes: &[u8], f: Front, a: Aim) -> Check
+fn room_checks(p: Params, pointers: &[u8], offline: &[u8], bytes: &[u8], f: Front, a: Aim) -> Check
     requires { ⌜ inRange p ≡ true ⌝ }
-    requires { ⌜ (length (now pointers) ≡ pointersLen p) × (f ≡ frontOf (stateOf (now bytes))) × (a ≡ aimOf p (stateOf (now bytes))) × (length (now bytes) ≡ stateLen) ⌝ }
+    requires { ⌜ (length (now pointers) ≡ pointersLen p) × (length (now offline) ≡ offlineLen p) ⌝ }
+    requires { ⌜ (f ≡ frontOf (stateOf (now bytes))) × (a ≡ aimOf p (stateOf (now bytes))) × (length (now bytes) ≡ stateLen) ⌝ }
     ensures { λ r. ⌜
         ((im ad co fl b : List ℕ) (x : ℕ)
         → length im ≡ imageLen p
-        → checked r ≡ writeFrom p (mkDisk im (now (pointers .entry))) (mkMemory (stateOf (now (bytes .entry))) ad co fl) x b 4) ⌝ }
+        → checked r ≡ writeFrom p (now (offline .entry)) (mkDisk im (now (pointers .entry))) (mkMemory (stateOf (now (bytes .entry))) ad co fl) x b 6) ⌝ }
 {
     if call_filling::no_stamp(f) {
         return Check::Fail(Answer::Refused(6));
@@ -54,7 +55,7 @@ fn room_checks(p: Params, pointers: &[u8], bytes: &[u8], f: Front, a: Aim) -> Ch
         return Check::Fail(Answer::Refused(6));
     }
     let n = reserve(a);
-    let full = call_filling::scarce(p, pointers, n);
+    let full = call_filling::scarce(p, pointers, offline, n);
     let wait = call_filling::must_wait(p, f, a);
     if full {
         return Check::Fail(Answer::Refused(8));
@@ -71,6 +72,7 @@ fn room_checks(p: Params, pointers: &[u8], bytes: &[u8], f: Front, a: Aim) -> Ch
 // 01, Refusals: the checks of a write, in order.
 fn checks(
     p: Params,
+    offline: &[u8],
     image: &[u8],
     pointers: &[u8],
     addresses: &[u8],
@@ -86,18 +88,22 @@ fn checks(
     requires { ⌜ (f ≡ frontOf (stateOf (now bytes))) × (a ≡ aimOf p (stateOf (now bytes))) × (missing ≡ stateOf (now bytes) .missing) × (length (now bytes) ≡ stateLen) ⌝ }
     ensures { λ r. ⌜
         checked r
-        ≡ writeRefusal p (mkDisk (now (image .entry)) (now (pointers .entry)))
+        ≡ writeRefusal p (now (offline .entry)) (mkDisk (now (image .entry)) (now (pointers .entry)))
         (mkMemory (stateOf (now (bytes .entry))) (now (addresses .entry)) (now (compact .entry)) (now (inflight .entry))) (address .0)
         (now (block .entry)) ⌝ }
 {
     if !disk_shape::in_range(p) {
         return Check::Fail(Answer::Refused(1));
     }
-    if !mem_calls::lent_ok(p, image, pointers, addresses, compact, inflight) {
+    if !mem_calls::lent_ok(p, offline, image, pointers, addresses, compact, inflight) {
         return Check::Fail(Answer::Refused(2));
     }
     if block.len() != p.B {
         return Check::Fail(Answer::Refused(2));
+    }
+    let rule = mem_calls::list_rule(p, offline);
+    if rule != 0 {
+        return Check::Fail(Answer::Refused(rule));
     }
     if missing != 0 {
         return Check::Fail(Answer::Refused(3));
@@ -105,7 +111,7 @@ fn checks(
     if p.L as u64 <= address.0 {
         return Check::Fail(Answer::Refused(4));
     }
-    room_checks(p, pointers, bytes, f, a)
+    room_checks(p, pointers, offline, bytes, f, a)
 }
 
 // 01, Write: the block takes the next stamp; a segment is open for it.
@@ -143,6 +149,7 @@ fn plan(
 // A write of some bytes: refused, cut or done, it leaves what the definition says. The state goes by value, with the bytes that say it.
 pub fn write(
     p: Params,
+    offline: &[u8],
     image: &mut [u8],
     pointers: &mut [u8],
     addresses: &mut [u8],
@@ -158,13 +165,14 @@ pub fn write(
     ensures { λ r. ⌜
         afterChange state r (now (image .exit)) (now (pointers .exit)) (now (addresses .exit)) (now (compact .exit)) (now (inflight .exit))
         (now (block .entry))
-        ≡ callDisk p (mkDisk (now (image .entry)) (now (pointers .entry)))
+        ≡ callDisk p (now (offline .entry)) (mkDisk (now (image .entry)) (now (pointers .entry)))
         (mkMemory state (now (addresses .entry)) (now (compact .entry)) (now (inflight .entry))) (write (address .0) (now (block .entry)) count) ⌝ }
 {
     let f = mem_rows::front_of(state);
     let a = call_filling::aim_of(p, f);
     let c = checks(
         p,
+        offline,
         image,
         pointers,
         addresses,
@@ -180,7 +188,7 @@ pub fn write(
     if let Check::Fail(answer) = c {
         return mem_rows::kept(answer, f);
     }
-    let o = call_filling::open(p, image, pointers, f, a, count);
+    let o = call_filling::open(p, image, pointers, offline, f, a, count);
     if o.cut {
         return call_filling::cut(addresses, compact, f);
     }

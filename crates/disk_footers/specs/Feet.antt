@@ -63,22 +63,22 @@ module _ (p : Params) (r : Ranged p) (d z : ℕ) (hd : d < p .N) (hz : z < p .Z)
         ap length (spare-of o h) ∙ length-part (placeByte p (placeOf p d z (1 + o)) + p .B) spareLen im (omega (arith, spare-room o h, hi))
 
     -- they are those of the view
-    pub spares-view : (ps : List ℕ) → length ps ≡ pointersLen p → sparesOf (take (p .S) (drop 1 (zoneAt (viewOf p im ps) d z .blocks))) ≡ sparesBy p im d z
+    pub spares-view : (off ps : List ℕ) → length ps ≡ pointersLen p → sparesOf (take (p .S) (drop 1 (zoneAt (viewOf p off im ps) d z .blocks))) ≡ sparesBy p im d z
     unfolding sparesOf chunkAt
-    spares-view ps hp = ext-getD [] (map (λ (c : Chunk). c .spare) row) (sparesBy p im d z) (long ∙ sym sparesBy-count) (λ o l. each o (omega (arith, long)))
+    spares-view off ps hp = ext-getD [] (map (λ (c : Chunk). c .spare) row) (sparesBy p im d z) (long ∙ sym sparesBy-count) (λ o l. each o (omega (arith, long)))
       where
         w : Whole p (mkDisk im ps)
         w = record { image-long = hi; pointers-long = hp }
 
         bs : List Chunk
-        bs = zoneAt (viewOf p im ps) d z .blocks
+        bs = zoneAt (viewOf p off im ps) d z .blocks
 
         row : List Chunk
         row = take (p .S) (drop 1 bs)
 
         row-long : length row ≡ p .S
         row-long =
-            let l : length bs ≡ capacity p = blocks-long p (mkDisk im ps) d z hd hz w in
+            let l : length bs ≡ capacity p = blocks-long p off (mkDisk im ps) d z hd hz w in
             length-take (p .S) (drop 1 bs) ∙ ap (min (p .S)) (length-drop 1 bs) ∙ omega (arith, l, data-below p r (p .S) (omega arith))
 
         long : length (map (λ (c : Chunk). c .spare) row) ≡ p .S
@@ -88,16 +88,16 @@ module _ (p : Params) (r : Ranged p) (d z : ℕ) (hd : d < p .N) (hz : z < p .Z)
         each o h =
             getD-map (λ (c : Chunk). c .spare) row o [] noChunk (omega (arith, row-long))
             ∙ ap (λ (c : Chunk). c .spare) (getD-take (p .S) (drop 1 bs) o noChunk h ∙ getD-drop 1 bs o noChunk)
-            ∙ spare-view p (mkDisk im ps) d z hd hz w (1 + o) (data-below p r (1 + o) (omega arith))
+            ∙ spare-view p off (mkDisk im ps) d z hd hz w (1 + o) (data-below p r (1 + o) (omega arith))
             ∙ sym (spare-of o h)
 
     pub footer-by : (s : List ℕ) (i : ℕ)
-        → ((ps : List ℕ) → length ps ≡ pointersLen p → s ≡ footerBlock p (sparesOf (take (p .S) (drop 1 (zoneAt (viewOf p im ps) d z .blocks)))) i)
+        → ((off ps : List ℕ) → length ps ≡ pointersLen p → s ≡ footerBlock p (sparesOf (take (p .S) (drop 1 (zoneAt (viewOf p off im ps) d z .blocks)))) i)
         → s ≡ footerBlock p (sparesBy p im d z) i
     footer-by s i f =
         let ps : List ℕ = replicate (pointersLen p) 0 in
         let l : length ps ≡ pointersLen p = length-replicate (pointersLen p) 0 in
-        f ps l ∙ ap (λ (x : List (List ℕ)). footerBlock p x i) (spares-view ps l)
+        f [] ps l ∙ ap (λ (x : List (List ℕ)). footerBlock p x i) (spares-view [] ps l)
 
     -- a block written in its place leaves the spares
     pub spares-stay : (b : ℕ) (s : List ℕ) → b < capacity p → length s ≡ p .B → sparesBy p (splice im (placeByte p (placeOf p d z b)) s) d z ≡ sparesBy p im d z

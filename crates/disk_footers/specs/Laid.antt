@@ -95,8 +95,8 @@ module _ (p : Params) (d z : ℕ) (hd : d < p .N) (hz : z < p .Z) where
       let im′ = splice im y (b ++ zeroSpare) in
       let ps′ = setPointer p ps d z (suc n) in
       let zs : length zeroSpare ≡ spareLen = length-zeroSpare in
-      let v : pointerAt (viewOf p im ps) d z < capacity p = subst (λ (k : ℕ). k < capacity p) (sym (pointer-view p (mkDisk im ps) d z hd hz w)) (omega arith) in
-      let w′ : Whole p (mkDisk im′ ps′) = whole-put p (mkDisk im ps) d z hd hz w b zeroSpare v (l .0) zs in
+      let v : pointerAt (viewOf p [] im ps) d z < capacity p = subst (λ (k : ℕ). k < capacity p) (sym (pointer-view p [] (mkDisk im ps) d z hd hz w)) (omega arith) in
+      let w′ : Whole p (mkDisk im′ ps′) = whole-put p [] (mkDisk im ps) d z hd hz w b zeroSpare v (l .0) zs in
       let q : pointerOf p ps′ d z ≡ suc n = pointer-set p ps d z (suc n) hd hz (w .pointers-long) (omega arith) in
       let e : suc n + suc (length bs) ≡ n + suc (suc (length bs)) = omega arith in
       stores-laid x bs im′ ps′ cap w′ (l .1) (omega (arith, q))
@@ -256,10 +256,10 @@ module _ (p : Params) (r : Ranged p) (d z first n : ℕ) (hd : d < p .N) (hz : z
   stores (b ∷ bs) e =
       stores-laid p d z hd hz b bs im ps (omega (arith, capacity-high p r)) w (subst (λ (x : List (List ℕ)). AllLong (p .B) x) (sym e) blocks-are-long) (omega (arith, room, count, ap length e))
 
-  pub feet-stored : mkDisk im₂ ps₁ ≡ storeAll (storeDisk p) (footerStores p d z (zoneAt (viewOf p im ps) d z) first n) (mkDisk im ps)
+  pub feet-stored : (off : List ℕ) → mkDisk im₂ ps₁ ≡ storeAll (storeDisk p) (footerStores p d z (zoneAt (viewOf p off im ps) d z) first n) (mkDisk im ps)
   unfolding footerStores footersOf
-  feet-stored =
+  feet-stored off =
       ap₂ (λ (x y : List ℕ). mkDisk x y) bytes (raised ∙ ap (λ (k : ℕ). setPointer p ps d z (pointerOf p ps d z + k)) (sym count))
       ∙ sym (stores blocks refl)
       ∙ ap (λ (x : List (List ℕ)). storeAll (storeDisk p) (map (λ (b : List ℕ). put d z b zeroSpare) (map (footerBlock p x) (upFrom first n))) (mkDisk im ps))
-      (sym (spares-view p r d z hd hz im (w .image-long) ps (w .pointers-long)))
+      (sym (spares-view p r d z hd hz im (w .image-long) off ps (w .pointers-long)))

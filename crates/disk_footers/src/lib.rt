@@ -34,9 +34,9 @@ pub fn make_footer(p: Params, image: &[u8], drive: usize, zone: usize, i: usize,
     requires { ⌜ inRange p ≡ true ⌝ }
     requires { ⌜ (length (now image) ≡ imageLen p) × (drive < p .N) × (zone < p .Z) × (i < footers p) × (length (now block) ≡ p .B) ⌝ }
     ensures { λ _. ⌜
-        ((ps : List ℕ)
+        ((off : List ℕ) (ps : List ℕ)
         → length ps ≡ pointersLen p
-        → now (block .exit) ≡ footerBlock p (sparesOf (take (p .S) (drop 1 (zoneAt (viewOf p (now (image .entry)) ps) drive zone .blocks)))) i) ⌝ }
+        → now (block .exit) ≡ footerBlock p (sparesOf (take (p .S) (drop 1 (zoneAt (viewOf p off (now (image .entry)) ps) drive zone .blocks)))) i) ⌝ }
 {
     disk_blocks::clear(block);
     let n = records_of(p, i);
@@ -123,9 +123,10 @@ fn store_footers(
     requires { ⌜ Whole p (mkDisk (now image) (now pointers)) ⌝ }
     requires { ⌜ (drive < p .N) × (zone < p .Z) × (0 < n) × (first + n ≤ footers p) × (pointerOf p (now pointers) drive zone + n ≤ capacity p) ⌝ }
     ensures { λ _. ⌜
-        mkDisk (now (image .exit)) (now (pointers .exit))
-        ≡ storeAll (storeDisk p) (footerStores p drive zone (zoneAt (viewOf p (now (image .entry)) (now (pointers .entry))) drive zone) first n)
-        (mkDisk (now (image .entry)) (now (pointers .entry))) ⌝ }
+        ((off : List ℕ)
+        → mkDisk (now (image .exit)) (now (pointers .exit))
+        ≡ storeAll (storeDisk p) (footerStores p drive zone (zoneAt (viewOf p off (now (image .entry)) (now (pointers .entry))) drive zone) first n)
+        (mkDisk (now (image .entry)) (now (pointers .entry)))) ⌝ }
 {
     let at = disk_zones::pointer(p, pointers, drive, zone) as usize;
     write_footers(p, image, drive, zone, at, first, n);
@@ -173,8 +174,9 @@ pub fn footer_stores(
     requires { ⌜ Whole p (mkDisk (now image) (now pointers)) ⌝ }
     requires { ⌜ (drive < p .N) × (zone < p .Z) × (first + n ≤ footers p) × (pointerOf p (now pointers) drive zone + n ≤ capacity p) ⌝ }
     ensures { λ r. ⌜
-        Storing p count (footerStores p drive zone (zoneAt (viewOf p (now (image .entry)) (now (pointers .entry))) drive zone) first n)
-        (mkDisk (now (image .entry)) (now (pointers .entry))) r (mkDisk (now (image .exit)) (now (pointers .exit))) ⌝ }
+        ((off : List ℕ)
+        → Storing p count (footerStores p drive zone (zoneAt (viewOf p off (now (image .entry)) (now (pointers .entry))) drive zone) first n)
+        (mkDisk (now (image .entry)) (now (pointers .entry))) r (mkDisk (now (image .exit)) (now (pointers .exit)))) ⌝ }
 {
     let m = allowed(n, count);
     if m == 0 {

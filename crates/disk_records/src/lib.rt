@@ -1,16 +1,17 @@
 // Headers and records, to and from bytes (01, What a zone holds).
 ghost use mathlib.Core.Path.{_≡_};
 ghost use mathlib.Core.Bool.{true};
-ghost use mathlib.Core.List.{_++_};
-ghost use Prim.Native.Nat.{_≤_, _<_};
+ghost use mathlib.Core.List.{_++_, map};
+ghost use Prim.Native.Nat.{_+_, _≤_, _<_};
 ghost use lib.ListN.{length};
 ghost use Rattle.spec.specs.Bytes.{field, bytesOf, splice};
 ghost use Rattle.spec.specs.Drives.{chunkOf, zonesIn, zeroSpare};
 ghost use Rattle.spec.specs.Faults.{sameChunk};
-ghost use Rattle.spec.specs.Layout.{headerLen, headerBlock, headerSerial, headerCopied, recordBytes, recordOf};
+ghost use Rattle.spec.specs.Layout.{headerLen, headerBlock, headerSerial, headerCopied, headerZone, recordBytes, recordOf};
 ghost use Rattle.spec.specs.Lists.{total, zipped};
 ghost use Rattle.spec.specs.Params.{inRange, spareLen, unitLen};
 ghost use Rattle.disk_records.specs.Record.{recVal};
+ghost use Rattle.spec.specs.declared.Seg.{Seg};
 use spec::Address;
 use spec::Params;
 use spec::Seg;
@@ -24,31 +25,48 @@ pub struct Record {
     pub stripe: u32,
 }
 
-// 01, What a zone holds: the widths of a header's fields; where those begin that are read back, and its length.
-const WIDTHS: [usize; 11] = [2, 1, 1, 1, 2, 2, 4, 4, 8, 8, 8];
+// 01, What a zone holds; 02, item 4: the widths of a header's fields before the zones and behind them; where the zones begin, and how many bytes are not zones.
+const HEAD: [usize; 7] = [2, 1, 1, 1, 2, 2, 4];
 
-const SERIAL_AT: usize = 2 + 1 + 1 + 1 + 2 + 2 + 4 + 4 + 8;
+const TAIL: [usize; 3] = [8, 8, 8];
+
+const ZONES_AT: usize = 2 + 1 + 1 + 1 + 2 + 2 + 4;
+
+const SERIAL_AT: usize = ZONES_AT + 8;
 
 const COPIED_AT: usize = SERIAL_AT + 8;
 
 const HEADER: usize = COPIED_AT + 8;
 
-const VERSION: u64 = 1;
+const VERSION: u64 = 2;
 
 // A small block with its spare.
 const SMALL: usize = 256 + disk_shape::SPARE;
 
-// The numbers in fields of these widths, one after the other from index 0.
-fn write_fields(dst: &mut [u8], widths: &[usize], values: &[u64])
-    requires { ⌜ (length (now values) ≡ length (now widths)) × (total (now widths) ≤ length (now dst)) ⌝ }
-    ensures { λ _. ⌜ now (dst .exit) ≡ splice (now (dst .entry)) 0 (bytesOf (zipped field (now (widths .entry)) (now (values .entry)))) ⌝ }
+// The numbers in fields of these widths, one after the other from an index.
+fn write_fields(dst: &mut [u8], from: usize, widths: &[usize], values: &[u64])
+    requires { ⌜ (length (now values) ≡ length (now widths)) × (from + total (now widths) ≤ length (now dst)) ⌝ }
+    ensures { λ _. ⌜ now (dst .exit) ≡ splice (now (dst .entry)) from (bytesOf (zipped field (now (widths .entry)) (now (values .entry)))) ⌝ }
 {
-    let mut at = 0;
+    let mut at = from;
     let mut i = 0;
     while i < widths.len() {
         bits_be::write_be(dst, at, widths[i], values[i]);
         at += widths[i];
         i += 1;
+    }
+}
+
+// 02, item 4: the zones of a segment, by drive, in their place in the header.
+fn write_zones(dst: &mut [u8], p: Params, segment: Seg)
+    requires { ⌜ (inRange p ≡ true) × (headerLen p ≤ length (now dst)) ⌝ }
+    ensures { λ _. ⌜ now (dst .exit) ≡ splice (now (dst .entry)) 13 (bytesOf (map (field 4) (zonesIn p segment))) ⌝ }
+{
+    let zones = segment.zones;
+    let mut d = 0;
+    while d < p.N {
+        bits_be::write_be32(dst, ZONES_AT + 4 * d, zones[d]);
+        d += 1;
     }
 }
 
@@ -64,22 +82,20 @@ pub fn write_header(
     requires { ⌜ (inRange p ≡ true) × (length (now dst) ≡ unitLen p) × (drive < p .N) ⌝ }
     ensures { λ _. ⌜ now (dst .exit) ≡ headerBlock p drive (zonesIn p segment) (serial .0) (copied .0) ++ zeroSpare ⌝ }
 {
-    let zone = disk_shape::zone_on(p, segment, drive);
-    let values = [
-        HEADER as u64,
+    let head = [
+        (HEADER + 4 * p.N) as u64,
         VERSION,
         p.N as u64,
         drive as u64,
         p.B as u64,
         p.G as u64,
         p.S as u64,
-        zone as u64,
-        p.L as u64,
-        serial.0,
-        copied.0,
     ];
+    let tail = [p.L as u64, serial.0, copied.0];
     disk_blocks::clear(dst);
-    write_fields(dst, &WIDTHS, &values);
+    write_fields(dst, 0, &HEAD, &head);
+    write_zones(dst, p, segment);
+    write_fields(dst, ZONES_AT + 4 * p.N, &TAIL, &tail);
 }
 
 // Whether a block with its spare is that header; scratch is room for the header.
@@ -155,14 +171,22 @@ pub fn header_serial(p: Params, src: &[u8]) -> Serial
     requires { ⌜ headerLen p ≤ length (now src) ⌝ }
     ensures { λ r. ⌜ r .0 ≡ headerSerial p (now (src .entry)) ⌝ }
 {
-    Serial(bits_be::read_be64(src, SERIAL_AT))
+    Serial(bits_be::read_be64(src, SERIAL_AT + 4 * p.N))
 }
 
 pub fn header_copied(p: Params, src: &[u8]) -> Serial
     requires { ⌜ headerLen p ≤ length (now src) ⌝ }
     ensures { λ r. ⌜ r .0 ≡ headerCopied p (now (src .entry)) ⌝ }
 {
-    Serial(bits_be::read_be64(src, COPIED_AT))
+    Serial(bits_be::read_be64(src, COPIED_AT + 4 * p.N))
+}
+
+// 02, item 4: the zone that a header block names for a drive.
+pub fn header_zone(p: Params, src: &[u8], drive: usize) -> u32
+    requires { ⌜ (headerLen p ≤ length (now src)) × (drive < p .N) ⌝ }
+    ensures { λ r. ⌜ r ≡ headerZone p (now (src .entry)) drive ⌝ }
+{
+    bits_be::read_be32(src, ZONES_AT + 4 * drive)
 }
 
 // The record in a spare.

@@ -1,12 +1,12 @@
 // Sizes, places and offsets from the parameters (01, The array; What a zone holds).
 ghost use mathlib.Core.Path.{_≡_};
 ghost use mathlib.Core.Bool.{true};
-ghost use Prim.Native.Nat.{_+_, _≤_, _<_};
+ghost use Prim.Native.Nat.{_+_, _*_, _≤_, _<_};
 ghost use Rattle.spec.specs.Lists.{isMember};
-ghost use Rattle.spec.specs.Params.{between, blockSizes, inRange, parityCount, dataCount, spareLen, perFooter, footers, capacity, unitLen, imageLen, pointersLen};
-ghost use Rattle.spec.specs.Params.{addressesLen, compactLen, inflightLen, placeOf, placeBlock, placeZone, placeDrive, placeByte};
+ghost use Rattle.spec.specs.Params.{between, blockSizes, inRange, parityCount, dataCount, mostWith, spareLen, perFooter, footers, capacity, unitLen, imageLen, pointersLen};
+ghost use Rattle.spec.specs.Params.{offlineLen, addressesLen, compactLen, inflightLen, placeOf, placeBlock, placeZone, placeDrive, placeByte};
 ghost use Rattle.spec.specs.Layout.{parityDrive, dataDrive, dataPosition, isData, group, compactEntry};
-ghost use Rattle.spec.specs.Drives.{pointerByte, across, zoneOn};
+ghost use Rattle.spec.specs.Drives.{pointerByte, zoneOn};
 ghost use Rattle.spec.specs.Memory.{compactAt, slotByte};
 use spec::Params;
 use spec::Place;
@@ -37,13 +37,10 @@ fn is_between(lo: usize, hi: usize, n: usize) -> bool
     true
 }
 
-// A power of two from 64 to 4,096.
+// A power of two from 128 to 4,096.
 fn is_block_size(b: usize) -> bool
     ensures { λ r. ⌜ r ≡ isMember b blockSizes ⌝ }
 {
-    if b == 64 {
-        return true;
-    }
     if b == 128 {
         return true;
     }
@@ -103,6 +100,18 @@ pub fn data_count(p: Params) -> usize
     p.N - parity_count(p)
 }
 
+// 01, The array: the greatest L of drives with so many zones.
+pub fn most_with(p: Params, zones: usize) -> usize
+    requires { ⌜ inRange p ≡ true ⌝ }
+    requires { ⌜ zones ≤ p .Z ⌝ }
+    ensures { λ r. ⌜ (r ≡ mostWith p zones) × (r ≤ 468378645) ⌝ }
+{
+    if zones < 3 {
+        return 0;
+    }
+    (zones - 3) * p.S * data_count(p)
+}
+
 // Records of a footer block.
 pub fn per_footer(p: Params) -> usize
     requires { ⌜ inRange p ≡ true ⌝ }
@@ -131,7 +140,7 @@ pub fn capacity(p: Params) -> usize
 // Bytes of a block with its spare.
 pub fn unit_len(p: Params) -> usize
     requires { ⌜ inRange p ≡ true ⌝ }
-    ensures { λ r. ⌜ (r ≡ unitLen p) × (64 + spareLen ≤ r) × (r ≤ 4096 + spareLen) ⌝ }
+    ensures { λ r. ⌜ (r ≡ unitLen p) × (128 + spareLen ≤ r) × (r ≤ 4096 + spareLen) ⌝ }
 {
     p.B + SPARE
 }
@@ -149,6 +158,14 @@ pub fn pointers_len(p: Params) -> usize
     ensures { λ r. ⌜ (r ≡ pointersLen p) × (r ≤ 32768) ⌝ }
 {
     4 * (p.N * p.Z)
+}
+
+// 02, item 4: the list of offline zones.
+pub fn offline_len(p: Params) -> usize
+    requires { ⌜ inRange p ≡ true ⌝ }
+    ensures { λ r. ⌜ (r ≡ offlineLen p) × (r ≤ 8192) ⌝ }
+{
+    p.N * p.Z
 }
 
 pub fn addresses_len(p: Params) -> usize
@@ -291,6 +308,15 @@ pub fn pointer_byte(p: Params, drive: usize, zone: usize) -> usize
     4 * (drive * p.Z + zone)
 }
 
+// 02, item 4: index of a zone in the list of offline zones.
+pub fn offline_at(p: Params, drive: usize, zone: usize) -> usize
+    requires { ⌜ inRange p ≡ true ⌝ }
+    requires { ⌜ (drive < p .N) × (zone < p .Z) ⌝ }
+    ensures { λ r. ⌜ (r ≡ drive * p .Z + zone) × (r < offlineLen p) × (r < 8192) ⌝ }
+{
+    drive * p.Z + zone
+}
+
 // Index in the compact table.
 pub fn compact_at(p: Params, drive: usize, zone: usize, offset: usize) -> usize
     requires { ⌜ inRange p ≡ true ⌝ }
@@ -307,21 +333,6 @@ pub fn slot_byte(p: Params, slot: usize, drive: usize) -> usize
     ensures { λ r. ⌜ (r ≡ slotByte p slot drive) × (r + p .B ≤ inflightLen p) × (r < 262144) ⌝ }
 {
     (slot * p.N + drive) * p.B
-}
-
-// The segment with one zone number on every drive.
-pub fn across(p: Params, zone: usize) -> Seg
-    requires { ⌜ inRange p ≡ true ⌝ }
-    requires { ⌜ zone < p .Z ⌝ }
-    ensures { λ r. ⌜ r ≡ across p zone ⌝ }
-{
-    let mut zones = [0u32; 8];
-    let mut d = 0;
-    while d < p.N {
-        zones[d] = zone as u32;
-        d += 1;
-    }
-    Seg { zones }
 }
 
 // The zone of a segment on a drive.

@@ -136,32 +136,32 @@ module _ (p : Params) (r : Ranged p) where
     high = image-high p r;
   }
 
-  module _ (im ps : List ℕ) (hi : length im ≡ imageLen p) (hp : length ps ≡ pointersLen p) (d z : ℕ) (hd : d < p .N) (hz : z < p .Z) where
+  module _ (off im ps : List ℕ) (hi : length im ≡ imageLen p) (hp : length ps ≡ pointersLen p) (d z : ℕ) (hd : d < p .N) (hz : z < p .Z) where
     whole : Whole p (mkDisk im ps)
     whole = record { image-long = hi; pointers-long = hp }
 
     -- 01, What a zone holds: how much is stored, by the pointer's bytes
-    pub data-stored-by : dataStored p (zoneAt (viewOf p im ps) d z) ≡ min (pointerOf p ps d z - 1) (p .S)
+    pub data-stored-by : dataStored p (zoneAt (viewOf p off im ps) d z) ≡ min (pointerOf p ps d z - 1) (p .S)
     unfolding dataStored pointerAt
-    data-stored-by = ap (λ (x : ℕ). min (x - 1) (p .S)) (pointer-view p (mkDisk im ps) d z hd hz whole)
+    data-stored-by = ap (λ (x : ℕ). min (x - 1) (p .S)) (pointer-view p off (mkDisk im ps) d z hd hz whole)
 
-    pub footers-stored-by : footersStored p (zoneAt (viewOf p im ps) d z) ≡ min (pointerOf p ps d z - 1 - p .S) (footers p)
+    pub footers-stored-by : footersStored p (zoneAt (viewOf p off im ps) d z) ≡ min (pointerOf p ps d z - 1 - p .S) (footers p)
     unfolding footersStored pointerAt
-    footers-stored-by = ap (λ (x : ℕ). min (x - 1 - p .S) (footers p)) (pointer-view p (mkDisk im ps) d z hd hz whole)
+    footers-stored-by = ap (λ (x : ℕ). min (x - 1 - p .S) (footers p)) (pointer-view p off (mkDisk im ps) d z hd hz whole)
 
     -- a footer block of the view
     foot-view : (k : ℕ) → 1 + p .S + k < capacity p
-        → getD (blocksOf (drop (1 + p .S) (zoneAt (viewOf p im ps) d z .blocks))) k [] ≡ part (placeByte p (placeOf p d z (1 + p .S + k))) (p .B) im
+        → getD (blocksOf (drop (1 + p .S) (zoneAt (viewOf p off im ps) d z .blocks))) k [] ≡ part (placeByte p (placeOf p d z (1 + p .S + k))) (p .B) im
     unfolding blocksOf chunkAt
     foot-view k h =
-        let bs : List Chunk = zoneAt (viewOf p im ps) d z .blocks in
-        let l : k < length (drop (1 + p .S) bs) = rw length-drop (omega (arith, blocks-long p (mkDisk im ps) d z hd hz whole)) in
+        let bs : List Chunk = zoneAt (viewOf p off im ps) d z .blocks in
+        let l : k < length (drop (1 + p .S) bs) = rw length-drop (omega (arith, blocks-long p off (mkDisk im ps) d z hd hz whole)) in
         getD-map (λ (c : Chunk). c .block) (drop (1 + p .S) bs) k [] noChunk l
         ∙ ap (λ (c : Chunk). c .block) (getD-drop (1 + p .S) bs k noChunk)
-        ∙ block-view p (mkDisk im ps) d z hd hz whole (1 + p .S + k) h
+        ∙ block-view p off (mkDisk im ps) d z hd hz whole (1 + p .S + k) h
 
     -- 01, Restart, 3: a record, by its bytes
-    pub record-by : (f : Bool) (o : ℕ) → o < p .S → recordOf (part (recordByte p f d z o) spareLen im) ≡ recordIn p f (zoneAt (viewOf p im ps) d z) o
+    pub record-by : (f : Bool) (o : ℕ) → o < p .S → recordOf (part (recordByte p f d z o) spareLen im) ≡ recordIn p f (zoneAt (viewOf p off im ps) d z) o
     unfolding recordByte recordIn footerRecord unitLen
     record-by true o ho =
         let b = placeByte p (placeOf p d z (1 + p .S + o / perFooter p)) in
@@ -173,5 +173,5 @@ module _ (p : Params) (r : Ranged p) where
         let h : 1 + o < capacity p = data-below p r (1 + o) (omega arith) in
         sym (ap recordOf (spare-of h))
       where
-        spare-of : 1 + o < capacity p → getD (zoneAt (viewOf p im ps) d z .blocks) (1 + o) noChunk .spare ≡ part (placeByte p (placeOf p d z (1 + o)) + p .B) spareLen im
-        spare-of h = unfold chunkAt in spare-view p (mkDisk im ps) d z hd hz whole (1 + o) h
+        spare-of : 1 + o < capacity p → getD (zoneAt (viewOf p off im ps) d z .blocks) (1 + o) noChunk .spare ≡ part (placeByte p (placeOf p d z (1 + o)) + p .B) spareLen im
+        spare-of h = unfold chunkAt in spare-view p off (mkDisk im ps) d z hd hz whole (1 + o) h

@@ -2,15 +2,16 @@
 ghost use mathlib.Core.Path.{_≡_};
 ghost use mathlib.Core.Bool.{true};
 ghost use mathlib.Core.List.{List};
-ghost use Prim.Native.Nat.{ℕ, _+_, _≤_, _<_};
+ghost use Prim.Native.Nat.{ℕ, _+_, _-_, _≤_, _<_};
 ghost use lib.ListN.{length};
-ghost use Rattle.spec.specs.Drives.{viewOf, mkDisk, zoneAt, dataStored, recordIn, recordAt, placeRecord, zoneOn};
+ghost use Rattle.spec.specs.Drives.{viewOf, mkDisk, zoneAt, dataStored, recordIn, recordAt, zoneOn};
 ghost use Rattle.spec.specs.Faults.{footersStored};
-ghost use Rattle.spec.specs.Params.{inRange, spareLen, perFooter, footers, capacity, unitLen, imageLen, pointersLen, placeOf, placeByte};
+ghost use Rattle.spec.specs.Params.{inRange, spareLen, perFooter, footers, capacity, unitLen, imageLen, pointersLen, placeOf, placeBlock, placeDrive, placeByte};
 ghost use Rattle.disk_records.specs.Record.{recVal};
 ghost use Rattle.law_views.specs.Views.{Whole};
 ghost use Rattle.disk_stored.specs.Stored.{recordByte, firstByte, together};
 ghost use Rattle.disk_stored.specs.Places.{DataPlace};
+ghost use Rattle.spec.specs.declared.Seg.{Seg};
 ghost use Rattle.law_basic.specs.Segs.{ZonesLow};
 use disk_records::Record;
 use spec::Params;
@@ -42,7 +43,7 @@ pub fn spare_byte(p: Params, drive: usize, zone: usize, block: usize) -> usize
 pub fn data_stored(p: Params, pointers: &[u8], drive: usize, zone: usize) -> usize
     requires { ⌜ inRange p ≡ true ⌝ }
     requires { ⌜ (length (now pointers) ≡ pointersLen p) × (drive < p .N) × (zone < p .Z) ⌝ }
-    ensures { λ r. ⌜ ((im : List ℕ) → length im ≡ imageLen p → r ≡ dataStored p (zoneAt (viewOf p im (now (pointers .entry))) drive zone)) ⌝ }
+    ensures { λ r. ⌜ ((off : List ℕ) (im : List ℕ) → length im ≡ imageLen p → r ≡ dataStored p (zoneAt (viewOf p off im (now (pointers .entry))) drive zone)) ⌝ }
     ensures { λ r. ⌜ r ≤ p .S ⌝ }
 {
     let n = disk_zones::pointer(p, pointers, drive, zone) as usize;
@@ -59,7 +60,7 @@ pub fn data_stored(p: Params, pointers: &[u8], drive: usize, zone: usize) -> usi
 pub fn footers_stored(p: Params, pointers: &[u8], drive: usize, zone: usize) -> usize
     requires { ⌜ inRange p ≡ true ⌝ }
     requires { ⌜ (length (now pointers) ≡ pointersLen p) × (drive < p .N) × (zone < p .Z) ⌝ }
-    ensures { λ r. ⌜ ((im : List ℕ) → length im ≡ imageLen p → r ≡ footersStored p (zoneAt (viewOf p im (now (pointers .entry))) drive zone)) ⌝ }
+    ensures { λ r. ⌜ ((off : List ℕ) (im : List ℕ) → length im ≡ imageLen p → r ≡ footersStored p (zoneAt (viewOf p off im (now (pointers .entry))) drive zone)) ⌝ }
     ensures { λ r. ⌜ r ≤ footers p ⌝ }
 {
     let n = disk_zones::pointer(p, pointers, drive, zone) as usize;
@@ -122,7 +123,7 @@ pub fn record_in(
 ) -> Record
     requires { ⌜ inRange p ≡ true ⌝ }
     requires { ⌜ (length (now image) ≡ imageLen p) × (drive < p .N) × (zone < p .Z) × (offset < p .S) ⌝ }
-    ensures { λ r. ⌜ ((ps : List ℕ) → length ps ≡ pointersLen p → recVal r ≡ recordIn p full (zoneAt (viewOf p (now (image .entry)) ps) drive zone) offset) ⌝ }
+    ensures { λ r. ⌜ ((off : List ℕ) (ps : List ℕ) → length ps ≡ pointersLen p → recVal r ≡ recordIn p full (zoneAt (viewOf p off (now (image .entry)) ps) drive zone) offset) ⌝ }
 {
     let at = record_byte(p, full, drive, zone, offset);
     let end = at + disk_shape::SPARE;
@@ -142,22 +143,29 @@ fn record_at(
     requires { ⌜ inRange p ≡ true ⌝ }
     requires { ⌜ Whole p (mkDisk (now image) (now pointers)) ⌝ }
     requires { ⌜ (drive < p .N) × ZonesLow p gone segment × (offset < p .S) × (zoneOn segment drive < p .Z) ⌝ }
-    ensures { λ r. ⌜ recVal r ≡ recordAt p (viewOf p (now (image .entry)) (now (pointers .entry))) gone drive segment offset ⌝ }
+    ensures { λ r. ⌜ ((off : List ℕ) → recVal r ≡ recordAt p (viewOf p off (now (image .entry)) (now (pointers .entry))) gone drive segment offset) ⌝ }
 {
     let full = disk_zones::is_sealed(p, pointers, gone, segment);
     let zone = disk_shape::zone_on(p, segment, drive);
     record_in(p, image, full, drive, zone, offset)
 }
 
-// 01, Restart, 3: the record of the data block at a place of a present drive.
-pub fn place_record(p: Params, image: &[u8], pointers: &[u8], gone: u8, place: Place) -> Record
+// 01, Restart, 3: the record of the data block at a place of a segment.
+pub fn place_record(
+    p: Params,
+    image: &[u8],
+    pointers: &[u8],
+    gone: u8,
+    segment: Seg,
+    place: Place,
+) -> Record
     requires { ⌜ inRange p ≡ true ⌝ }
     requires { ⌜ Whole p (mkDisk (now image) (now pointers)) ⌝ }
-    requires { ⌜ DataPlace p (place .0) ⌝ }
-    ensures { λ r. ⌜ recVal r ≡ placeRecord p (viewOf p (now (image .entry)) (now (pointers .entry))) gone (place .0) ⌝ }
+    requires { ⌜ DataPlace p (place .0) × ZonesLow p gone segment × (zoneOn segment (placeDrive p (place .0)) < p .Z) ⌝ }
+    ensures { λ r. ⌜ ((off : List ℕ)
+        → recVal r ≡ recordAt p (viewOf p off (now (image .entry)) (now (pointers .entry))) gone (placeDrive p (place .0)) segment (placeBlock p (place .0) - 1)) ⌝ }
 {
     let drive = disk_shape::place_drive(p, place);
-    let segment = disk_shape::across(p, disk_shape::place_zone(p, place));
     let offset = disk_shape::place_block(p, place) - 1;
     record_at(p, image, pointers, gone, drive, segment, offset)
 }

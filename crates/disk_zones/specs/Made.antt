@@ -183,7 +183,7 @@ unfoldable pub resetStore : Seg → ℕ → Store
 resetStore g d = reset d (zoneOn g d)
 
 -- a header with its spare fills a block's place
-pub header-unit : (p : Params) → Ranged p → (d : ℕ) (zs : List ℕ) (r c : ℕ) → length (headerBlock p d zs r c ++ zeroSpare) ≡ unitLen p
+pub header-unit : (p : Params) → Ranged p → (d : ℕ) (zs : List ℕ) (r c : ℕ) → length zs ≡ p .N → length (headerBlock p d zs r c ++ zeroSpare) ≡ unitLen p
 unfolding unitLen
-header-unit p h d zs r c =
-    length-append (headerBlock p d zs r c) zeroSpare ∙ ap₂ _+_ (header-block-long p h d zs r c) length-zeroSpare
+header-unit p h d zs r c many =
+    length-append (headerBlock p d zs r c) zeroSpare ∙ ap₂ _+_ (header-block-long p h d zs r c many) length-zeroSpare

@@ -2,17 +2,18 @@
 ghost use mathlib.Core.Path.{_≡_};
 ghost use mathlib.Core.Bool.{true, _||_};
 ghost use mathlib.Core.List.{List, [], _∷_};
-ghost use Prim.Native.Nat.{ℕ, _+_, _<_, min};
+ghost use Prim.Native.Nat.{ℕ, _+_, _≤_, _<_, min};
 ghost use lib.Dec.{eqb};
 ghost use lib.ListN.{length};
-ghost use Rattle.spec.specs.Drives.{viewOf, mkDisk, pointerOf, setPointer, storeDisk, zoneOn, emptySegs, sealedIn, zeroSpare, headerStores, resetStores, noSeg, zonesIn};
+ghost use Rattle.spec.specs.Drives.{viewOf, mkDisk, pointerOf, setPointer, storeDisk, isGood, goodCount, emptyCount, newSeg, zoneOn, sealedIn, zeroSpare, headerStores, resetStores, zonesIn};
 ghost use Rattle.spec.specs.Drives.Store.{put};
 ghost use Rattle.spec.specs.Layout.{headerBlock};
-ghost use Rattle.spec.specs.Lists.{firstOr, isIn};
-ghost use Rattle.spec.specs.Params.{inRange, spareLen, capacity, imageLen, pointersLen};
+ghost use Rattle.spec.specs.Lists.{below, keep, tally, firstOr, isIn};
+ghost use Rattle.spec.specs.Params.{inRange, spareLen, capacity, imageLen, pointersLen, offlineLen};
 ghost use Rattle.law_views.specs.Views.{Whole};
-ghost use Rattle.disk_zones.specs.Empty.{emptyBy};
+ghost use Rattle.disk_zones.specs.Empty.{freeBy};
 ghost use Rattle.disk_zones.specs.Made.{Storing};
+ghost use Rattle.spec.specs.declared.Seg.{Seg};
 ghost use Rattle.law_basic.specs.Segs.{ZonesLow};
 use spec::Params;
 use spec::Seg;
@@ -182,28 +183,96 @@ pub fn reset_stores(p: Params, pointers: &mut [u8], segment: Seg, count: u64) ->
     Made { left, cut: false }
 }
 
-// Whether a segment's zones are empty on all drives.
-pub fn is_empty(p: Params, pointers: &[u8], segment: Seg) -> bool
+// 02, item 4: whether a zone is good: its byte in the list of offline zones is 0.
+pub fn is_good(p: Params, offline: &[u8], drive: usize, zone: usize) -> bool
     requires { ⌜ inRange p ≡ true ⌝ }
-    requires { ⌜ (length (now pointers) ≡ pointersLen p) × ZonesLow p 0 segment ⌝ }
-    ensures { λ r. ⌜ r ≡ emptyBy p (now (pointers .entry)) segment ⌝ }
+    requires { ⌜ (length (now offline) ≡ offlineLen p) × (drive < p .N) × (zone < p .Z) ⌝ }
+    ensures { λ r. ⌜ r ≡ isGood p (now (offline .entry)) drive zone ⌝ }
 {
-    let mut d = 0;
-    while d < p.N {
-        let zone = disk_shape::zone_on(p, segment, d);
-        if pointer(p, pointers, d, zone) != 0 {
-            return false;
-        }
-        d += 1;
-    }
-    true
+    offline[disk_shape::offline_at(p, drive, zone)] == 0
 }
 
-// 01, Refusals, 8: how many zones are empty on all drives; the search, from the last zone down, stops at most.
-pub fn empty_zones(p: Params, pointers: &[u8], most: usize) -> usize
+// 02, item 4: how many zones of a drive from lo up to hi are good; so few at a time that a byte counts them.
+fn good_among(p: Params, offline: &[u8], drive: usize, lo: usize, hi: usize) -> usize
     requires { ⌜ inRange p ≡ true ⌝ }
-    requires { ⌜ length (now pointers) ≡ pointersLen p ⌝ }
-    ensures { λ r. ⌜ ((im : List ℕ) → length im ≡ imageLen p → r ≡ min most (length (emptySegs p (viewOf p im (now (pointers .entry)))))) ⌝ }
+    requires { ⌜ (length (now offline) ≡ offlineLen p) × (drive < p .N) × (lo ≤ hi) × (hi ≤ p .Z) × (hi ≤ lo + 224) ⌝ }
+    ensures { λ r. ⌜ tally (isGood p (now (offline .entry)) drive) (below lo) + r ≡ tally (isGood p (now (offline .entry)) drive) (below hi) ⌝ }
+{
+    let first = disk_shape::offline_at(p, drive, 0);
+    let mut n = 0u8;
+    let mut z = lo;
+    while z < hi {
+        let good = offline[first + z] == 0;
+        z += 1;
+        if good {
+            n += 1;
+        }
+    }
+    n as usize
+}
+
+fn lower(a: usize, b: usize) -> usize
+    ensures { λ r. ⌜ r ≡ min a b ⌝ }
+{
+    if b < a {
+        return b;
+    }
+    a
+}
+
+// 02, item 4: how many zones of a drive are good, at most most: then the others are not looked at.
+fn good_on(p: Params, offline: &[u8], drive: usize, most: usize) -> usize
+    requires { ⌜ inRange p ≡ true ⌝ }
+    requires { ⌜ (length (now offline) ≡ offlineLen p) × (drive < p .N) ⌝ }
+    ensures { λ r. ⌜ r ≡ min most (tally (isGood p (now (offline .entry)) drive) (below (p .Z))) ⌝ }
+{
+    let mut n = 0;
+    let mut z = 0;
+    while z < p.Z {
+        if most <= n {
+            return most;
+        }
+        let end = lower(p.Z, z + 224);
+        n += good_among(p, offline, drive, z, end);
+        z = end;
+    }
+    lower(most, n)
+}
+
+// 02, item 4: the fewest good zones on any drive, at most most; on each drive the search stops at the fewest so far.
+pub fn good_count(p: Params, offline: &[u8], most: usize) -> usize
+    requires { ⌜ inRange p ≡ true ⌝ }
+    requires { ⌜ (length (now offline) ≡ offlineLen p) × (most ≤ p .Z) ⌝ }
+    ensures { λ r. ⌜ (r ≡ min most (goodCount p (now (offline .entry)))) × (r ≤ most) ⌝ }
+{
+    let mut n = most;
+    let mut d = 0;
+    while d < p.N {
+        n = good_on(p, offline, d, n);
+        d += 1;
+    }
+    n
+}
+
+// 02, item 4: whether a zone is good and empty.
+pub fn is_free(p: Params, pointers: &[u8], offline: &[u8], drive: usize, zone: usize) -> bool
+    requires { ⌜ inRange p ≡ true ⌝ }
+    requires { ⌜ (length (now pointers) ≡ pointersLen p) × (length (now offline) ≡ offlineLen p) ⌝ }
+    requires { ⌜ (drive < p .N) × (zone < p .Z) ⌝ }
+    ensures { λ r. ⌜ r ≡ freeBy p (now (pointers .entry)) (now (offline .entry)) drive zone ⌝ }
+{
+    if !is_good(p, offline, drive, zone) {
+        return false;
+    }
+    pointer(p, pointers, drive, zone) == 0
+}
+
+// 02, item 4: how many zones of a drive are good and empty; the search, from the last zone down, stops at most.
+fn free_on(p: Params, pointers: &[u8], offline: &[u8], drive: usize, most: usize) -> usize
+    requires { ⌜ inRange p ≡ true ⌝ }
+    requires { ⌜ (length (now pointers) ≡ pointersLen p) × (length (now offline) ≡ offlineLen p) ⌝ }
+    requires { ⌜ drive < p .N ⌝ }
+    ensures { λ r. ⌜ r ≡ min most (tally (freeBy p (now (pointers .entry)) (now (offline .entry)) drive) (below (p .Z))) ⌝ }
 {
     let mut n = 0;
     let mut z = p.Z;
@@ -212,29 +281,63 @@ pub fn empty_zones(p: Params, pointers: &[u8], most: usize) -> usize
             return n;
         }
         z -= 1;
-        if is_empty(p, pointers, disk_shape::across(p, z)) {
+        if is_free(p, pointers, offline, drive, z) {
             n += 1;
         }
     }
     n
 }
 
-// 01, Write: the segment of the lowest zone empty on all drives; none if there is none.
-pub fn lowest_empty(p: Params, pointers: &[u8]) -> Seg
+// 01, Refusals, 8; 02, item 4: how many zones are empty: the fewest empty good ones on any drive, at most most.
+pub fn empty_zones(p: Params, pointers: &[u8], offline: &[u8], most: usize) -> usize
     requires { ⌜ inRange p ≡ true ⌝ }
-    requires { ⌜ length (now pointers) ≡ pointersLen p ⌝ }
-    ensures { λ r. ⌜ ((im : List ℕ) → length im ≡ imageLen p → r ≡ firstOr noSeg (emptySegs p (viewOf p im (now (pointers .entry))))) ⌝ }
-    ensures { λ r. ⌜ ZonesLow p 0 r ⌝ }
+    requires { ⌜ (length (now pointers) ≡ pointersLen p) × (length (now offline) ≡ offlineLen p) ⌝ }
+    ensures { λ r. ⌜ ((im : List ℕ) → length im ≡ imageLen p
+        → r ≡ min most (emptyCount p (viewOf p (now (offline .entry)) im (now (pointers .entry))))) ⌝ }
+{
+    let mut n = p.Z;
+    if most < n {
+        n = most;
+    }
+    let mut d = 0;
+    while d < p.N {
+        n = free_on(p, pointers, offline, d, n);
+        d += 1;
+    }
+    n
+}
+
+// 02, item 4: the lowest empty good zone of a drive; 0 where there is none.
+fn lowest_free(p: Params, pointers: &[u8], offline: &[u8], drive: usize) -> usize
+    requires { ⌜ inRange p ≡ true ⌝ }
+    requires { ⌜ (length (now pointers) ≡ pointersLen p) × (length (now offline) ≡ offlineLen p) ⌝ }
+    requires { ⌜ drive < p .N ⌝ }
+    ensures { λ r. ⌜ (r ≡ firstOr 0 (keep (freeBy p (now (pointers .entry)) (now (offline .entry)) drive) (below (p .Z)))) × (r < p .Z) ⌝ }
 {
     let mut z = 0;
     while z < p.Z {
-        let segment = disk_shape::across(p, z);
-        if is_empty(p, pointers, segment) {
-            return segment;
+        if is_free(p, pointers, offline, drive, z) {
+            return z;
         }
         z += 1;
     }
-    Seg { zones: [0; 8] }
+    0
+}
+
+// 02, item 4: a new segment: each drive's lowest empty good zone.
+pub fn new_segment(p: Params, pointers: &[u8], offline: &[u8]) -> Seg
+    requires { ⌜ inRange p ≡ true ⌝ }
+    requires { ⌜ (length (now pointers) ≡ pointersLen p) × (length (now offline) ≡ offlineLen p) ⌝ }
+    ensures { λ r. ⌜ ((im : List ℕ) → length im ≡ imageLen p → r ≡ newSeg p (viewOf p (now (offline .entry)) im (now (pointers .entry)))) ⌝ }
+    ensures { λ r. ⌜ ZonesLow p 0 r ⌝ }
+{
+    let mut zones = [0u32; 8];
+    let mut d = 0;
+    while d < p.N {
+        zones[d] = lowest_free(p, pointers, offline, d) as u32;
+        d += 1;
+    }
+    Seg { zones }
 }
 
 // Whether a drive is missing or its zone of a segment is full.
@@ -254,7 +357,7 @@ fn is_full(p: Params, pointers: &[u8], gone: u8, segment: Seg, drive: usize) -> 
 pub fn is_sealed(p: Params, pointers: &[u8], gone: u8, segment: Seg) -> bool
     requires { ⌜ inRange p ≡ true ⌝ }
     requires { ⌜ (length (now pointers) ≡ pointersLen p) × ZonesLow p gone segment ⌝ }
-    ensures { λ r. ⌜ ((im : List ℕ) → length im ≡ imageLen p → r ≡ sealedIn p (viewOf p im (now (pointers .entry))) gone segment) ⌝ }
+    ensures { λ r. ⌜ ((off : List ℕ) (im : List ℕ) → length im ≡ imageLen p → r ≡ sealedIn p (viewOf p off im (now (pointers .entry))) gone segment) ⌝ }
 {
     let mut d = 0;
     while d < p.N {

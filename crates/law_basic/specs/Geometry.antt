@@ -14,8 +14,8 @@ use Rattle.spec.specs.Drives.{pointerByte}
 use Rattle.spec.specs.Layout.{parityDrive, dataDrive, dataPosition, isData}
 use Rattle.spec.specs.Lists.{all, isMember, total}
 use Rattle.spec.specs.Memory.{compactAt, slotByte}
-use Rattle.spec.specs.Params.{between, blockSizes, parityCount, dataCount, mostAddresses, inRange, recordTable, recordWidths, spareLen, perFooter, footers, capacity, unitLen}
-use Rattle.spec.specs.Params.{zoneLen, driveLen, imageLen, pointersLen, compactLen, inflightLen, placeOf, placeBlock, placeZone, placeDrive, placeByte}
+use Rattle.spec.specs.Params.{between, blockSizes, parityCount, dataCount, mostWith, mostAddresses, inRange, recordTable, recordWidths, spareLen, perFooter, footers, capacity, unitLen}
+use Rattle.spec.specs.Params.{zoneLen, driveLen, imageLen, pointersLen, offlineLen, compactLen, inflightLen, placeOf, placeBlock, placeZone, placeDrive, placeByte}
 use Rattle.spec.specs.declared.Params.{Params}
 use Rattle.law_basic.specs.Ranges.{and-left, and-right, and-both, not-both, member-all}
 
@@ -45,7 +45,7 @@ between-of lo hi n h k = and-both (leb lo n) (leb n hi) (le-leb lo n h) (le-leb 
 pub record Ranged (p : Params) : Type 0 where
   pub drives-low : 3 ≤ p .N
   pub drives-high : p .N ≤ 8
-  pub block-low : 64 ≤ p .B
+  pub block-low : 128 ≤ p .B
   pub block-high : p .B ≤ 4096
   pub block-size : isMember (p .B) blockSizes ≡ true
   pub zones-low : 4 ≤ p .Z
@@ -71,12 +71,12 @@ ranged p h =
     let h₂ = and-left (a && b && c) d h₃ in
     let h₁ = and-left (a && b) c h₂ in
     let hb = and-right a b h₁ in
-    let m : between 64 4096 (p .B) ≡ true = member-all (between 64 4096) (p .B) blockSizes hb refl in
+    let m : between 128 4096 (p .B) ≡ true = member-all (between 128 4096) (p .B) blockSizes hb refl in
     record {
       drives-low = between-low 3 8 (p .N) (and-left a b h₁);
       drives-high = between-high 3 8 (p .N) (and-left a b h₁);
-      block-low = between-low 64 4096 (p .B) m;
-      block-high = between-high 64 4096 (p .B) m;
+      block-low = between-low 128 4096 (p .B) m;
+      block-high = between-high 128 4096 (p .B) m;
       block-size = hb;
       zones-low = between-low 4 1024 (p .Z) (and-right (a && b) c h₂);
       zones-high = between-high 4 1024 (p .Z) (and-right (a && b) c h₂);
@@ -170,6 +170,11 @@ module _ (p : Params) (r : Ranged p) where
   unfolding pointersLen
   pointers-high = omega (arith, zones-all)
 
+  -- 02, item 4: the list of offline zones
+  pub offline-high : offlineLen p ≤ 8192
+  unfolding offlineLen
+  offline-high = zones-all
+
   pub compact-high : compactLen p ≤ 536862720
   unfolding compactLen
   compact-high = prod-le (p .N * p .Z) (p .S) 8192 65535 536862720 zones-all (r .stripes-high) (omega arith)
@@ -189,7 +194,7 @@ module _ (p : Params) (r : Ranged p) where
   data-count-high = omega (arith, r .drives-high)
 
   pub most-addresses-high : mostAddresses p ≤ 468378645
-  unfolding mostAddresses
+  unfolding mostAddresses mostWith
   most-addresses-high =
       let h : p .Z - 3 ≤ 1021 = omega (arith, r .zones-high) in
       let k : (p .Z - 3) * p .S ≤ 66911235 = prod-le (p .Z - 3) (p .S) 1021 65535 66911235 h (r .stripes-high) (omega arith) in
@@ -247,6 +252,11 @@ block-within p d z b hd hz hb = place-within p (placeOf p d z b) (place-lt p d z
 pub pointer-within : (p : Params) (d z : ℕ) → d < p .N → z < p .Z → pointerByte p d z + 4 ≤ pointersLen p
 unfolding pointerByte pointersLen
 pointer-within p d z hd hz = omega (arith, zone-index-lt p d z hd hz)
+
+-- 02, item 4: the byte of a drive and zone
+pub offline-within : (p : Params) (d z : ℕ) → d < p .N → z < p .Z → d * p .Z + z < offlineLen p
+unfolding offlineLen
+offline-within p d z hd hz = zone-index-lt p d z hd hz
 
 pub compact-within : (p : Params) (d z o : ℕ) → d < p .N → z < p .Z → o < p .S → compactAt p d z o < compactLen p
 unfolding compactAt compactLen
@@ -361,7 +371,7 @@ row-fits p d z hd hz = let e : (d * p .Z + z) * p .S + p .S ≤ p .N * p .Z * p 
 pub base-next : (base n : ℕ) → base % n ≡ 0 → (base + n) % n ≡ 0
 base-next base n e = add-mod-right base n ∙ e
 
--- a place's segment is one of them
+-- a place's zone is one of a drive's
 pub zone-low : (p : Params) → Ranged p → (q : ℕ) → placeZone p q < p .Z
 unfolding placeZone
 zone-low p r q = mod-lt (q / capacity p) (omega (arith, r .zones-low))

@@ -5,16 +5,15 @@ use mathlib.Core.Bool.{Bool, true, false, not, _&&_, _||_}
 use Prim.Native.Nat.{ℕ, zero, suc, _+_, _-_, _*_, min, max, _≤_, _<_}
 use native.Mathlib.Omega.{arith}
 use native.Mathlib.Numerals.{add-one}
-use lib.Seq.{drop-cons, drop-drop, ext-getD}
-use lib.ListN.{length, getD, take, drop, set, length-append, replicate, length-replicate, getD-replicate, replicate-append-replicate, drop-of-length-le}
+use lib.Seq.{drop-cons, drop-drop}
+use lib.ListN.{length, getD, take, drop, set, length-append, replicate, length-replicate, replicate-append-replicate, drop-of-length-le}
 use lib.Dec.{ltb, eqb, leb·suc-suc}
 use native.Mathlib.Nat.{add-zero, sub-zero, zero-min, zero-max, zero-add, suc-add, add-assoc, zero-mul, suc-mul, add-sub-of-le, suc-min-suc, min-zero, max-zero}
 use native.Mathlib.Decide.{ℕ-discrete}
 use borrow.Author.Tests.{eqb-true, lt-ltb, eq-eqb, ne-eqb}
 use lib.Arith.{lt-of-le-ne}
 use Rattle.spec.specs.Bytes.{part}
-use Rattle.spec.specs.Lists.{upFrom, below, all, any, isMember, consIf, keep, tally, sucUnless, indexOf, flat, total, greatest, firstOr, sameList, padTo, pieces, zipped, isNil}
-use Rattle.law_basic.specs.Splice.{length-part, getD-part}
+use Rattle.spec.specs.Lists.{upFrom, below, all, any, isMember, consIf, keep, tally, sucUnless, indexOf, flat, total, greatest, least, firstOr, sameList, padTo, pieces, zipped, isNil}
 
 -- ---- Booleans: a test and its two cases
 
@@ -278,6 +277,16 @@ all-keep-same q f g i (suc n) h = go (q i) (h i (omega arith) (omega arith)) (al
     go true e r = ap₂ (λ (x y : Bool). x && y) e r
     go false e r = r
 
+pub keep-keep-same : (q f g : ℕ → Bool) (i n : ℕ) → ((k : ℕ) → i ≤ k → k < i + n → f k ≡ g k) → keep f (keep q (upFrom i n)) ≡ keep g (keep q (upFrom i n))
+unfolding keep upFrom consIf
+keep-keep-same q f g i zero h = refl
+keep-keep-same q f g i (suc n) h = go (q i) (h i (omega arith) (omega arith)) (keep-keep-same q f g (suc i) n (λ k a b. h k (omega arith) (omega arith)))
+  where
+    go : (b : Bool) → f i ≡ g i → keep f (keep q (upFrom (suc i) n)) ≡ keep g (keep q (upFrom (suc i) n))
+        → keep f (consIf b i (keep q (upFrom (suc i) n))) ≡ keep g (consIf b i (keep q (upFrom (suc i) n)))
+    go true e r = ap₂ (λ (x : Bool) (y : List ℕ). consIf x i y) e r
+    go false e r = r
+
 pub length-keep : {A : Type 0} (f : A → Bool) (l : List A) → length (keep f l) ≤ length l
 unfolding keep consIf
 length-keep f [] = omega arith
@@ -360,6 +369,11 @@ unfolding total
 total-append [] m = sym (zero-add (total m))
 total-append (n ∷ l) m = ap (λ (x : ℕ). n + x) (total-append l m) ∙ sym (add-assoc n (total l) (total m))
 
+pub least-le : (n : ℕ) (l : List ℕ) → least n l ≤ n
+unfolding least
+least-le n [] = omega arith
+least-le n (k ∷ l) = let h = least-le (min n k) l in omega arith
+
 pub greatest-snoc : (l : List ℕ) (n : ℕ) → greatest (l ++ (n ∷ [])) ≡ max (greatest l) n
 unfolding greatest
 greatest-snoc [] n = max-zero n ∙ sym (zero-max n)
@@ -425,18 +439,6 @@ length-padTo n l h = length-append l (replicate (n - length l) 0) ∙ ap (λ (x 
 pub replicate-snoc : (n : ℕ) → _≡_ {A = List ℕ} (replicate n 0 ++ (0 ∷ [])) (replicate (n + 1) 0)
 replicate-snoc n = replicate-append-replicate n 1 0
 
-pub part-replicate : (n a k : ℕ) → a + k ≤ n → part a k (replicate n 0) ≡ replicate k 0
-part-replicate n a k h =
-    let z : List ℕ = replicate n 0 in
-    let y : List ℕ = replicate k 0 in
-    let l : length z ≡ n = length-replicate {A = ℕ} n 0 in
-    let m : length y ≡ k = length-replicate {A = ℕ} k 0 in
-    let e : length (part a k z) ≡ k = length-part a k z (omega arith) in
-    ext-getD 0 (part a k z) y (e ∙ sym m)
-    (λ i q.
-    let r : i < k = omega arith in
-    getD-part a k z i r ∙ getD-replicate n (a + i) 0 0 (omega arith) ∙ sym (getD-replicate k i 0 0 r))
-
 -- ---- pieces
 
 pub length-pieces : (k n : ℕ) (l : List ℕ) → length (pieces k n l) ≡ n
@@ -501,19 +503,6 @@ module _ (f : ℕ → Bool) (i n : ℕ) where
   pub first-end : n ≤ i → firstOr 0 (keep f (upFrom i (n - i))) ≡ 0
   unfolding firstOr
   first-end h = ap (firstOr 0) (ap (keep f) (upFrom-end i n h) ∙ keep-none f)
-
--- what the lowest that passes stands for, in the same three cases
-module _ {A : Type 0} (h : ℕ → A) (a : A) (f : ℕ → Bool) (i n : ℕ) where
-  pub made-turn : i < n → f i ≡ true → firstOr a (map h (keep f (upFrom i (n - i)))) ≡ h i
-  unfolding firstOr
-  made-turn k e = ap (λ (l : List ℕ). firstOr a (map h l)) (ap (keep f) (upFrom-step i n k) ∙ keep-hit f i (upFrom (i + 1) (n - (i + 1))) e)
-
-  pub made-pass : i < n → f i ≡ false → firstOr a (map h (keep f (upFrom i (n - i)))) ≡ firstOr a (map h (keep f (upFrom (i + 1) (n - (i + 1)))))
-  made-pass k e = ap (λ (l : List ℕ). firstOr a (map h l)) (ap (keep f) (upFrom-step i n k) ∙ keep-miss f i (upFrom (i + 1) (n - (i + 1))) e)
-
-  pub made-end : n ≤ i → firstOr a (map h (keep f (upFrom i (n - i)))) ≡ a
-  unfolding firstOr
-  made-end k = ap (λ (l : List ℕ). firstOr a (map h l)) (ap (keep f) (upFrom-end i n k) ∙ keep-none f)
 
 -- the lowest of those that pass is one of them
 pub first-passes : (f : ℕ → Bool) (i n : ℕ) → 0 < length (keep f (upFrom i n))

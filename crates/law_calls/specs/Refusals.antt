@@ -123,15 +123,26 @@ refusal-kind (zones (z ∷ zs) ∷ cs) a q = let e : BadZone (least z zs) ≡ a 
     kind1 : isRefused (BadZone (least z zs)) ≡ true
     kind1 = unfold isRefused kind in refl
 
--- 01, Refusals, 9: the next stripe number
-pub next-low : (p : Params) (st : State) → stateOk p st ≡ true → st .next ≤ p .S
-unfolding stateOk
-next-low p st h =
-    let a = eqb (st .live) 1 && ltb (st .missing) (2 ^ p .N) && leb (ones (st .missing)) (parityCount p) && leb (st .opened) (p .Z) in
-    let b = leb (st .next) (p .S) in
-    let c = all (slotOk p st) slots in
-    let d = all (λ o. ltb o (p .S)) (st .offsets) in
-    leb-true (st .next) (p .S) (and-right a b (and-left (a && b) c (and-left (a && b && c) d h)))
+-- 01, Refusals, 9: the next stripe number; 02, item 4: the open segment's serial
+module _ (p : Params) (st : State) (h : stateOk p st ≡ true) where
+  abbrev before : Bool
+  before = eqb (st .live) 1 && ltb (st .missing) (2 ^ p .N) && leb (ones (st .missing)) (parityCount p)
+
+  refusals-opened-next : (before && leb (st .opened) (st .serial .0) && leb (st .next) (p .S)) ≡ true
+  unfolding stateOk
+  refusals-opened-next =
+      let a = before && leb (st .opened) (st .serial .0) && leb (st .next) (p .S) in
+      let b = all (slotOk p st) slots in
+      let c = all (λ o. ltb o (p .S)) (st .offsets) in
+      and-left a b (and-left (a && b) c h)
+
+  pub next-low : st .next ≤ p .S
+  next-low = leb-true (st .next) (p .S) (and-right (before && leb (st .opened) (st .serial .0)) (leb (st .next) (p .S)) refusals-opened-next)
+
+  pub opened-low : st .opened ≤ st .serial .0
+  opened-low =
+      let a = leb (st .opened) (st .serial .0) in
+      leb-true (st .opened) (st .serial .0) (and-right before a (and-left (before && a) (leb (st .next) (p .S)) refusals-opened-next))
 
 pub least-zero : (zs : List ℕ) → least 0 zs ≡ 0
 unfolding least

@@ -13,7 +13,7 @@ use Rattle.spec.specs.Calls.{firstRefusal, ruled, mkPlan, Verdict, decided, Aft
 use Rattle.spec.specs.Calls.Check.{zones}
 use Rattle.spec.specs.Calls.Verdict.{refused, due}
 use Rattle.spec.specs.Closing.{closeChecks, closePlan, closeVerdict, emptyChecks, emptyPlan, emptyVerdict}
-use Rattle.spec.specs.Drives.{View, viewOf, Disk, storeDisk, storeAll}
+use Rattle.spec.specs.Drives.{View, viewOf, fewGood, aboveNarrow, Disk, storeDisk, storeAll}
 use Rattle.spec.specs.Engine.{storeCount, lentBlock, verdict, lentOk, callOn, callDisk}
 use Rattle.spec.specs.Engine.Call.{write, close}
 use Rattle.spec.specs.Lists.{isNil}
@@ -33,17 +33,18 @@ module _ (p : Params) (long : Bool) (v : View) (m : Memory) (a : ℕ) where
   unfolding emptyChecks closeChecks firstRefusal ruled
   same-refusal h l = rw (h, l) refl
 
-  -- 1, 2 and 3 pass
-  module _ (ranged : inRange p ≡ true) (lent : long ≡ true) (healthy : eqb (m .state .missing) 0 ≡ true) where
+  -- 1, 2, 10, the narrow 1 and 3 pass
+  module _ (ranged : inRange p ≡ true) (lent : long ≡ true) (enough : fewGood p (v .offline) ≡ false) (fit : aboveNarrow p (v .offline) ≡ false)
+      (healthy : eqb (m .state .missing) 0 ≡ true) where
     -- the address is out of range
     pub far-refusal : leb (p .L) a ≡ true → firstRefusal (emptyChecks p long v m a) ≡ some (Refused 4)
     unfolding emptyChecks firstRefusal ruled
-    far-refusal l = rw (ranged, lent, healthy, l) refl
+    far-refusal l = rw (ranged, lent, enough, fit, healthy, l) refl
 
     -- where none is filling no more than the state is looked at
     pub idle-refusal : leb (p .L) a ≡ false → hasFilling p (m .state) ≡ false → firstRefusal (emptyChecks p long v m a) ≡ firstRefusal (zones (stateFaults p (m .state)) ∷ [])
     unfolding emptyChecks firstRefusal ruled
-    idle-refusal l h = rw (ranged, lent, healthy, l, h) (ap (λ (zs : List ℕ). firstRefusal (zones zs ∷ [])) (append-nil (stateFaults p (m .state))))
+    idle-refusal l h = rw (ranged, lent, enough, fit, healthy, l, h) (ap (λ (zs : List ℕ). firstRefusal (zones zs ∷ [])) (append-nil (stateFaults p (m .state))))
 
   filling-plan : hasFilling p (m .state) ≡ true → emptyPlan p m ≡ closePlan p m
   unfolding emptyPlan
@@ -81,19 +82,19 @@ empty-decided p long v m a = go (decide (emptyChecks p long v m a) (emptyPlan p 
 
 -- ---- the call on the lent bytes
 
-pub data EmptyLeaves (p : Params) (k : Disk) (m : Memory) (a n : ℕ) : Type 0 where
-  as-close : hasFilling p (m .state) ≡ true → a < p .L → callDisk p k m (write a [] n) ≡ callDisk p k m (close n) → EmptyLeaves p k m a n
-  as-refusal : (r : Answer) → firstRefusal (emptyChecks p (lentOk p k m) (viewOf p (k .image) (k .pointers)) m a) ≡ some r
-      → callDisk p k m (write a [] n) ≡ mkAfter r k m [] → EmptyLeaves p k m a n
-  as-idle : EmptyPassed p (lentOk p k m) (viewOf p (k .image) (k .pointers)) m a → hasFilling p (m .state) ≡ false
-      → callDisk p k m (write a [] n) ≡ mkAfter Nothing k m [] → EmptyLeaves p k m a n
+pub data EmptyLeaves (p : Params) (off : List ℕ) (k : Disk) (m : Memory) (a n : ℕ) : Type 0 where
+  as-close : hasFilling p (m .state) ≡ true → a < p .L → callDisk p off k m (write a [] n) ≡ callDisk p off k m (close n) → EmptyLeaves p off k m a n
+  as-refusal : (r : Answer) → firstRefusal (emptyChecks p (lentOk p off k m) (viewOf p off (k .image) (k .pointers)) m a) ≡ some r
+      → callDisk p off k m (write a [] n) ≡ mkAfter r k m [] → EmptyLeaves p off k m a n
+  as-idle : EmptyPassed p (lentOk p off k m) (viewOf p off (k .image) (k .pointers)) m a → hasFilling p (m .state) ≡ false
+      → callDisk p off k m (write a [] n) ≡ mkAfter Nothing k m [] → EmptyLeaves p off k m a n
 
-pub empty-leaves : (p : Params) (k : Disk) (m : Memory) (a n : ℕ) → EmptyLeaves p k m a n
+pub empty-leaves : (p : Params) (off : List ℕ) (k : Disk) (m : Memory) (a n : ℕ) → EmptyLeaves p off k m a n
 unfolding callDisk callOn verdict storeCount lentBlock
-empty-leaves p k m a n = go (empty-decided p (lentOk p k m) v m a)
+empty-leaves p off k m a n = go (empty-decided p (lentOk p off k m) v m a)
   where
     v : View
-    v = viewOf p (k .image) (k .pointers)
+    v = viewOf p off (k .image) (k .pointers)
 
     ended : Verdict → After Disk
     ended w = outcome p (storeDisk p) n k m [] w
@@ -104,14 +105,14 @@ empty-leaves p k m a n = go (empty-decided p (lentOk p k m) v m a)
     refused-is : (r : Answer) → ended (refused r) ≡ mkAfter r k m []
     refused-is r = unfold outcome in refl
 
-    go : Emptied p (lentOk p k m) v m a → EmptyLeaves p k m a n
+    go : Emptied p (lentOk p off k m) v m a → EmptyLeaves p off k m a n
     go (as-closing h l e) = as-close h l (ap ended e)
     go (as-refused r e f) = as-refusal r e (ap ended f ∙ refused-is r)
     go (as-nothing c h e) = as-idle c h (ap ended e ∙ nothing)
 
 -- a write of some bytes is that of 01
-pub write-leaves : (p : Params) (k : Disk) (m : Memory) (a : ℕ) (b : List ℕ) (n : ℕ) → isNil b ≡ false
-    → outcome p (storeDisk p) n k m b (writeVerdict p (lentOk p k m) (viewOf p (k .image) (k .pointers)) m a b) ≡ callDisk p k m (write a b n)
+pub write-leaves : (p : Params) (off : List ℕ) (k : Disk) (m : Memory) (a : ℕ) (b : List ℕ) (n : ℕ) → isNil b ≡ false
+    → outcome p (storeDisk p) n k m b (writeVerdict p (lentOk p off k m) (viewOf p off (k .image) (k .pointers)) m a b) ≡ callDisk p off k m (write a b n)
 unfolding isNil callDisk callOn storeCount lentBlock verdict
-write-leaves p k m a [] n e = absurd (not-both true refl e)
-write-leaves p k m a (x ∷ b) n e = refl
+write-leaves p off k m a [] n e = absurd (not-both true refl e)
+write-leaves p off k m a (x ∷ b) n e = refl

@@ -3,7 +3,7 @@ use mathlib.Core.Path.{_≡_, refl, sym, ap, ap₂, _∙_, subst}
 use mathlib.Core.List.{List, [], _∷_, _++_, map}
 use mathlib.Core.Bool.{Bool, true, false, cond, not, _&&_, _||_}
 use Prim.Native.Nat.{ℕ, suc, _<_}
-use borrow.Author.Tests.{lt-leb, leb-false, ltb-true, eqb-true, not-false}
+use borrow.Author.Tests.{lt-leb, leb-false, ltb-true, eqb-true, not-true, not-false}
 use native.Mathlib.Omega.{arith}
 use lib.Dec.{ltb, eqb}
 use lib.ListN.{length}
@@ -16,7 +16,7 @@ use Rattle.spec.specs.Calls.{Check, ninth, ruled, firstRefusal}
 use Rattle.spec.specs.Calls.Check.{rule, zones}
 use Rattle.spec.specs.Closing.{closeChecks, emptyChecks, reclaimFirst}
 use Rattle.spec.specs.Counts.{lastCount}
-use Rattle.spec.specs.Drives.{View}
+use Rattle.spec.specs.Drives.{View, fewGood, aboveNarrow, listOk}
 use Rattle.spec.specs.Faults.{pointerFaults, segmentFaults, imageChecks}
 use Rattle.spec.specs.Landing.{waiting, landFaults, landChecks}
 use Rattle.spec.specs.Lists.{Opt, keep, isNil}
@@ -26,9 +26,9 @@ use Rattle.spec.specs.Params.{between, inRange, placeBlock, placeZone, named}
 use Rattle.spec.specs.Read.{Found, lies, foundFaults, decodeFaults, readChecks}
 use Rattle.spec.specs.Rebuild.{namesMissing, rebuildChecks}
 use Rattle.spec.specs.Reclaim.{Victim, tableFaults, isNone, victimLive, idle, mustCopy, copyWaits, copyFull, reclaimBefore, reclaimChecksIn, copyOrder, reclaimChecks}
-use Rattle.spec.specs.Restart.{namesDrive, rewrites, freeSegs, restartChecks}
+use Rattle.spec.specs.Restart.{namesDrive, rewrites, noneFree, restartChecks}
 use Rattle.spec.specs.Segments.{Segment, greatestSerial}
-use Rattle.spec.specs.Write.{opens, noStamp, noSerial, mustWait, scarce, CheckOrder, roomRules, writeFull, writeBefore, writeChecksIn, writeOrder, writeChecks}
+use Rattle.spec.specs.Write.{opens, noStamp, noSerial, mustWait, scarce, listRules, CheckOrder, roomRules, writeFull, writeBefore, writeChecksIn, writeOrder, writeChecks}
 use Rattle.spec.specs.Write.CheckOrder.{fullFirst, waitFirst}
 use Rattle.law_basic.specs.Ranges.{or-false, and-left, and-right, not-both}
 use Rattle.law_calls.specs.Refusals.{orNext, refusal-append, state-fine as state-clear, state-free}
@@ -111,6 +111,21 @@ room-clear : (o : CheckOrder) (wait full : Bool) (cs : List Check) → Clear cs 
 room-clear fullFirst wait full cs c = (refl, λ c8. (refl, λ c7. c))
 room-clear waitFirst wait full cs c = (refl, λ c7. (refl, λ c8. c))
 
+-- ---- 10 and the narrow 1 (02, item 4)
+
+-- a list that no call refuses
+pub list-parts : (p : Params) (off : List ℕ) → listOk p off ≡ true → (fewGood p off ≡ false) × (aboveNarrow p off ≡ false)
+unfolding listOk
+list-parts p off e =
+    let a = not (fewGood p off) in
+    let b = not (aboveNarrow p off) in
+    (not-true (fewGood p off) (and-left a b e), not-true (aboveNarrow p off) (and-right a b e))
+
+-- neither is the ninth
+past-list : {C : Type 0} (p : Params) (v : View) → C
+    → (eqb 10 9 ≡ false) × (fewGood p (v .offline) ≡ false → (eqb 1 9 ≡ false) × (aboveNarrow p (v .offline) ≡ false → C))
+past-list p v c = (refl, λ good. (refl, λ fit. c))
+
 -- ---- tests
 
 -- a test that is asked only where something lives
@@ -139,6 +154,8 @@ pub record WritePassed (p : Params) (long : Bool) (v : View) (m : Memory) (a : �
   pub in-range : inRange p ≡ true
   pub lent : long ≡ true
   pub block-long : length b ≡ p .B
+  pub zones-enough : fewGood p (v .offline) ≡ false
+  pub addresses-fit : aboveNarrow p (v .offline) ≡ false
   pub healthy : m .state .missing ≡ 0
   pub address-low : a < p .L
   pub stamp-left : noStamp (m .state) ≡ false
@@ -152,13 +169,16 @@ module _ (p : Params) (long : Bool) (v : View) (m : Memory) (a : ℕ) (b : List 
   unfolding writeChecksIn
   write-passed e =
       let st = m .state in
-      let ((c1, (c2, (c3, (c4, (c6, before))))), c7, c8, (c9, c)) = room-passes writeOrder (writeBefore p long m a b) (zones (stateFaults p st) ∷ []) (mustWait p st) (writeFull p v st) e in
+      let ((c1, (c2, (good, (fit, (c3, (c4, (c6, before))))))), c7, c8, (c9, c)) =
+      room-passes writeOrder (writeBefore p long v m a b) (zones (stateFaults p st) ∷ []) (mustWait p st) (writeFull p v st) e in
       let two = or-false (not long) (not (eqb (length b) (p .B))) c2 in
       let six = or-false (noStamp st) (noSerial p st) c6 in
       record {
         in-range = not-false (inRange p) c1;
         lent = not-false long (two .0);
         block-long = eqb-true (length b) (p .B) (not-false (eqb (length b) (p .B)) (two .1));
+        zones-enough = good;
+        addresses-fit = fit;
         healthy = none-missing (st .missing) c3;
         address-low = leb-false (p .L) a c4;
         stamp-left = six .0;
@@ -172,14 +192,16 @@ module _ (p : Params) (long : Bool) (v : View) (m : Memory) (a : ℕ) (b : List 
   unfolding writeChecksIn
   write-mild ok =
       let st = m .state in
-      clear (writeChecks p long v m a b)
-      (refl, λ c1. (refl, λ c2. (refl, λ c3. (refl, λ c4. (refl, λ c6. room-clear writeOrder (mustWait p st) (writeFull p v st) (zones (stateFaults p st) ∷ []) (state-clear p st ok, tt))))))
+      let rooms = room-clear writeOrder (mustWait p st) (writeFull p v st) (zones (stateFaults p st) ∷ []) (state-clear p st ok, tt) in
+      clear (writeChecks p long v m a b) (refl, λ c1. (refl, λ c2. past-list p v (refl, λ c3. (refl, λ c4. (refl, λ c6. rooms)))))
 
 -- ---- landing
 
 pub record LandPassed (p : Params) (long : Bool) (v : View) (m : Memory) (d s : ℕ) : Type 0 where
   pub in-range : inRange p ≡ true
   pub lent : long ≡ true
+  pub zones-enough : fewGood p (v .offline) ≡ false
+  pub addresses-fit : aboveNarrow p (v .offline) ≡ false
   pub healthy : m .state .missing ≡ 0
   pub waits : waiting p (m .state) d s ≡ true
   pub state-fine : stateOk p (m .state) ≡ true
@@ -190,11 +212,13 @@ module _ (p : Params) (long : Bool) (v : View) (m : Memory) (d s : ℕ) where
   unfolding landChecks
   land-passed e =
       let st = m .state in
-      let (c1, (c2, (c3, (c5, (c9, c))))) = passes (landChecks p long v m d s) e in
+      let (c1, (c2, (good, (fit, (c3, (c5, (c9, c))))))) = passes (landChecks p long v m d s) e in
       let nine = nil-both (stateFaults p st) (landFaults p v m d s) c9 in
       record {
         in-range = not-false (inRange p) c1;
         lent = not-false long c2;
+        zones-enough = good;
+        addresses-fit = fit;
         healthy = none-missing (st .missing) c3;
         waits = not-false (waiting p st d s) c5;
         state-fine = state-free p st (nine .0);
@@ -209,7 +233,7 @@ module _ (p : Params) (long : Bool) (v : View) (m : Memory) (d s : ℕ) where
         refl,
         λ c1. (
           refl,
-          λ c2. (
+          λ c2. past-list p v (
             refl,
             λ c3. (
               refl,
@@ -230,23 +254,27 @@ all-clear p st false zs ok e = nil-all (stateFaults p st) [] (state-clear p st o
 pub record ClosePassed (p : Params) (long : Bool) (v : View) (m : Memory) : Type 0 where
   pub in-range : inRange p ≡ true
   pub lent : long ≡ true
+  pub zones-enough : fewGood p (v .offline) ≡ false
+  pub addresses-fit : aboveNarrow p (v .offline) ≡ false
   pub healthy : m .state .missing ≡ 0
   pub filling : hasFilling p (m .state) ≡ true
   pub none-idle : reclaimFirst p v m ≡ false
   pub state-fine : stateOk p (m .state) ≡ true
-  pub table-fine : cond (scarce p v 1) (tableFaults p (m .addresses)) [] ≡ []
+  pub table-fine : cond (scarce p v 1) (tableFaults p v (m .addresses)) [] ≡ []
 
 module _ (p : Params) (long : Bool) (v : View) (m : Memory) where
   pub close-passed : firstRefusal (closeChecks p long v m) ≡ none → ClosePassed p long v m
   unfolding closeChecks
   close-passed e =
       let st = m .state in
-      let (c1, (c2, (c3, (c5, (c9, c))))) = passes (closeChecks p long v m) e in
+      let (c1, (c2, (good, (fit, (c3, (c5, (c9, c))))))) = passes (closeChecks p long v m) e in
       let five = or-false (not (hasFilling p st)) (reclaimFirst p v m) c5 in
-      let nine = nil-both (stateFaults p st) (cond (scarce p v 1) (tableFaults p (m .addresses)) []) c9 in
+      let nine = nil-both (stateFaults p st) (cond (scarce p v 1) (tableFaults p v (m .addresses)) []) c9 in
       record {
         in-range = not-false (inRange p) c1;
         lent = not-false long c2;
+        zones-enough = good;
+        addresses-fit = fit;
         healthy = none-missing (st .missing) c3;
         filling = not-false (hasFilling p st) (five .0);
         none-idle = five .1;
@@ -254,7 +282,7 @@ module _ (p : Params) (long : Bool) (v : View) (m : Memory) where
         table-fine = nine .1;
       }
 
-  pub close-mild : stateOk p (m .state) ≡ true → (m .state .missing ≡ 0 → tableFaults p (m .addresses) ≡ []) → Mild (closeChecks p long v m)
+  pub close-mild : stateOk p (m .state) ≡ true → (m .state .missing ≡ 0 → tableFaults p v (m .addresses) ≡ []) → Mild (closeChecks p long v m)
   unfolding closeChecks
   close-mild ok fine =
       let st = m .state in
@@ -262,11 +290,11 @@ module _ (p : Params) (long : Bool) (v : View) (m : Memory) where
         refl,
         λ c1. (
           refl,
-          λ c2. (
+          λ c2. past-list p v (
             refl,
             λ c3. (
               refl,
-              λ c5. (all-clear p st (scarce p v 1) (tableFaults p (m .addresses)) ok (fine (none-missing (st .missing) c3)), tt),
+              λ c5. (all-clear p st (scarce p v 1) (tableFaults p v (m .addresses)) ok (fine (none-missing (st .missing) c3)), tt),
             ),
           ),
         ),
@@ -277,6 +305,8 @@ module _ (p : Params) (long : Bool) (v : View) (m : Memory) where
 pub record EmptyPassed (p : Params) (long : Bool) (v : View) (m : Memory) (a : ℕ) : Type 0 where
   pub in-range : inRange p ≡ true
   pub lent : long ≡ true
+  pub zones-enough : fewGood p (v .offline) ≡ false
+  pub addresses-fit : aboveNarrow p (v .offline) ≡ false
   pub healthy : m .state .missing ≡ 0
   pub address-low : a < p .L
   pub state-fine : stateOk p (m .state) ≡ true
@@ -287,16 +317,18 @@ module _ (p : Params) (long : Bool) (v : View) (m : Memory) (a : ℕ) where
   empty-passed e =
       let st = m .state in
       let few = hasFilling p st && scarce p v 1 in
-      let (c1, (c2, (c3, (c4, (c5, (c9, c)))))) = passes (emptyChecks p long v m a) e in
+      let (c1, (c2, (good, (fit, (c3, (c4, (c5, (c9, c)))))))) = passes (emptyChecks p long v m a) e in
       record {
         in-range = not-false (inRange p) c1;
         lent = not-false long c2;
+        zones-enough = good;
+        addresses-fit = fit;
         healthy = none-missing (st .missing) c3;
         address-low = leb-false (p .L) a c4;
-        state-fine = state-free p st (nil-both (stateFaults p st) (cond few (tableFaults p (m .addresses)) []) c9 .0);
+        state-fine = state-free p st (nil-both (stateFaults p st) (cond few (tableFaults p v (m .addresses)) []) c9 .0);
       }
 
-  pub empty-mild : stateOk p (m .state) ≡ true → (m .state .missing ≡ 0 → tableFaults p (m .addresses) ≡ []) → Mild (emptyChecks p long v m a)
+  pub empty-mild : stateOk p (m .state) ≡ true → (m .state .missing ≡ 0 → tableFaults p v (m .addresses) ≡ []) → Mild (emptyChecks p long v m a)
   unfolding emptyChecks
   empty-mild ok fine =
       let st = m .state in
@@ -304,13 +336,13 @@ module _ (p : Params) (long : Bool) (v : View) (m : Memory) (a : ℕ) where
         refl,
         λ c1. (
           refl,
-          λ c2. (
+          λ c2. past-list p v (
             refl,
             λ c3. (
               refl,
               λ c4. (
                 refl,
-                λ c5. (all-clear p st (hasFilling p st && scarce p v 1) (tableFaults p (m .addresses)) ok (fine (none-missing (st .missing) c3)), tt),
+                λ c5. (all-clear p st (hasFilling p st && scarce p v 1) (tableFaults p v (m .addresses)) ok (fine (none-missing (st .missing) c3)), tt),
               ),
             ),
           ),
@@ -326,6 +358,8 @@ strayFaults p w = map (placeZone p) (keep (λ q. not (between 1 (p .S) (placeBlo
 pub record ReclaimPassed (p : Params) (long : Bool) (v : View) (m : Memory) (w : Opt Victim) : Type 0 where
   pub in-range : inRange p ≡ true
   pub lent : long ≡ true
+  pub zones-enough : fewGood p (v .offline) ≡ false
+  pub addresses-fit : aboveNarrow p (v .offline) ≡ false
   pub healthy : m .state .missing ≡ 0
   pub taken : isNone w ≡ false
   pub some-idle : isNil (victimLive w) ≡ false → isNil (idle p v (m .state) w) ≡ false
@@ -333,7 +367,7 @@ pub record ReclaimPassed (p : Params) (long : Bool) (v : View) (m : Memory) (w :
   pub no-wait : isNil (victimLive w) ≡ false → mustWait p (m .state) ≡ false
   pub room : isNil (victimLive w) ≡ false → opens p (m .state) ≡ true → scarce p v 1 ≡ false
   pub state-fine : stateOk p (m .state) ≡ true
-  pub table-fine : tableFaults p (m .addresses) ≡ []
+  pub table-fine : tableFaults p v (m .addresses) ≡ []
   pub live-fine : strayFaults p w ≡ []
 
 module _ (p : Params) (long : Bool) (v : View) (m : Memory) (w : Opt Victim) where
@@ -342,15 +376,17 @@ module _ (p : Params) (long : Bool) (v : View) (m : Memory) (w : Opt Victim) whe
   reclaim-passed e =
       let st = m .state in
       let dead = isNil (victimLive w) in
-      let ts = tableFaults p (m .addresses) in
+      let ts = tableFaults p v (m .addresses) in
       let zs = stateFaults p st ++ ts ++ strayFaults p w in
-      let ((c1, (c2, (c3, (c5, (c6, before))))), c7, c8, (c9, c)) = room-passes copyOrder (reclaimBefore p long v m w) (zones zs ∷ []) (copyWaits p st w) (copyFull p v st w) e in
+      let ((c1, (c2, (good, (fit, (c3, (c5, (c6, before))))))), c7, c8, (c9, c)) = room-passes copyOrder (reclaimBefore p long v m w) (zones zs ∷ []) (copyWaits p st w) (copyFull p v st w) e in
       let five = or-false (isNone w) (not dead && isNil (idle p v st w)) c5 in
       let nine = nil-both (stateFaults p st ++ ts) (strayFaults p w) c9 in
       let state = nil-both (stateFaults p st) ts (nine .0) in
       record {
         in-range = not-false (inRange p) c1;
         lent = not-false long c2;
+        zones-enough = good;
+        addresses-fit = fit;
         healthy = none-missing (st .missing) c3;
         taken = five .0;
         some-idle = unless dead (isNil (idle p v st w)) (five .1);
@@ -362,18 +398,18 @@ module _ (p : Params) (long : Bool) (v : View) (m : Memory) (w : Opt Victim) whe
         live-fine = nine .1;
       }
 
-  pub reclaim-mild : stateOk p (m .state) ≡ true → (m .state .missing ≡ 0 → tableFaults p (m .addresses) ≡ [])
+  pub reclaim-mild : stateOk p (m .state) ≡ true → (m .state .missing ≡ 0 → tableFaults p v (m .addresses) ≡ [])
       → (m .state .missing ≡ 0 → isNone w ≡ false → strayFaults p w ≡ []) → Mild (reclaimChecks p long v m w)
   unfolding reclaimChecksIn
   reclaim-mild ok table live =
       let st = m .state in
-      let ts = tableFaults p (m .addresses) in
+      let ts = tableFaults p v (m .addresses) in
       let zs = stateFaults p st ++ ts ++ strayFaults p w in
       clear (reclaimChecks p long v m w) (
         refl,
         λ c1. (
           refl,
-          λ c2. (
+          λ c2. past-list p v (
             refl,
             λ c3. (
               refl,
@@ -398,6 +434,8 @@ foundIn p m a = lies p (m .state .missing) (m .addresses) a
 pub record ReadPassed (p : Params) (long : Bool) (v : View) (m : Memory) (a : ℕ) : Type 0 where
   pub in-range : inRange p ≡ true
   pub lent : long ≡ true
+  pub zones-enough : fewGood p (v .offline) ≡ false
+  pub addresses-fit : aboveNarrow p (v .offline) ≡ false
   pub address-low : a < p .L
   pub state-fine : stateOk p (m .state) ≡ true
   pub place-fine : foundFaults p v (m .state .missing) (foundIn p m a) ≡ []
@@ -408,6 +446,8 @@ pub passed-too : (p : Params) (long also : Bool) (v : View) (m : Memory) (a : �
 passed-too p long also v m a e c = record {
   in-range = c .in-range;
   lent = e;
+  zones-enough = c .zones-enough;
+  addresses-fit = c .addresses-fit;
   address-low = c .address-low;
   state-fine = c .state-fine;
   place-fine = c .place-fine;
@@ -425,11 +465,13 @@ module _ (p : Params) (long : Bool) (v : View) (m : Memory) (a : ℕ) where
   unfolding readChecks
   read-passed e =
       let st = m .state in
-      let (c1, (c2, (c4, (c9, (c10, c))))) = passes (readChecks p long v m a) e in
+      let (c1, (c2, (good, (fit, (c4, (c9, (c10, c))))))) = passes (readChecks p long v m a) e in
       let nine = nil-both (stateFaults p st) place-faults c9 in
       record {
         in-range = not-false (inRange p) c1;
         lent = not-false long c2;
+        zones-enough = good;
+        addresses-fit = fit;
         address-low = leb-false (p .L) a c4;
         state-fine = state-free p st (nine .0);
         place-fine = nine .1;
@@ -440,7 +482,7 @@ module _ (p : Params) (long : Bool) (v : View) (m : Memory) (a : ℕ) where
   unfolding readChecks
   read-goes c =
       let nine = nil-all (stateFaults p (m .state)) place-faults (state-clear p (m .state) (c .state-fine)) (c .place-fine) in
-      none-refused (readChecks p long v m a) (ap not (c .in-range), (ap not (c .lent), (lt-leb (p .L) a (c .address-low), (nine, (c .decodes, tt)))))
+      none-refused (readChecks p long v m a) (ap not (c .in-range), (ap not (c .lent), (c .zones-enough, (c .addresses-fit, (lt-leb (p .L) a (c .address-low), (nine, (c .decodes, tt)))))))
 
   pub read-mild : stateOk p (m .state) ≡ true → (a < p .L → place-faults ≡ []) → (a < p .L → decode-faults ≡ []) → Mild (readChecks p long v m a)
   unfolding readChecks
@@ -449,7 +491,7 @@ module _ (p : Params) (long : Bool) (v : View) (m : Memory) (a : ℕ) where
         refl,
         λ c1. (
           refl,
-          λ c2. (
+          λ c2. past-list p v (
             refl,
             λ c4.
                 let low = leb-false (p .L) a c4 in
@@ -462,16 +504,16 @@ module _ (p : Params) (long : Bool) (v : View) (m : Memory) (a : ℕ) where
 
 module _ (p : Params) (v : View) (gone : ℕ) (gs : List Segment) where
   abbrev seg-faults : List ℕ
-  seg-faults = cond (isNil (pointerFaults p v gone)) (segmentFaults p gone gs) []
+  seg-faults = cond (isNil (pointerFaults p v gone)) (segmentFaults p v gone gs) []
 
   -- the segments are looked at where the pointers are fine
-  seg-of : pointerFaults p v gone ≡ [] → seg-faults ≡ [] → segmentFaults p gone gs ≡ []
+  seg-of : pointerFaults p v gone ≡ [] → seg-faults ≡ [] → segmentFaults p v gone gs ≡ []
   unfolding isNil
-  seg-of q e = ap (λ (zs : List ℕ). cond (isNil zs) (segmentFaults p gone gs) []) (sym q) ∙ e
+  seg-of q e = ap (λ (zs : List ℕ). cond (isNil zs) (segmentFaults p v gone gs) []) (sym q) ∙ e
 
-  of-seg : pointerFaults p v gone ≡ [] → segmentFaults p gone gs ≡ [] → seg-faults ≡ []
+  of-seg : pointerFaults p v gone ≡ [] → segmentFaults p v gone gs ≡ [] → seg-faults ≡ []
   unfolding isNil
-  of-seg q e = ap (λ (zs : List ℕ). cond (isNil zs) (segmentFaults p gone gs) []) q ∙ e
+  of-seg q e = ap (λ (zs : List ℕ). cond (isNil zs) (segmentFaults p v gone gs) []) q ∙ e
 
 -- ---- restart
 
@@ -479,21 +521,25 @@ pub record RestartPassed (p : Params) (long : Bool) (v : View) (d : ℕ) (gs : L
   pub in-range : inRange p ≡ true
   pub names : namesDrive p d ≡ true
   pub lent : long ≡ true
+  pub zones-enough : fewGood p (v .offline) ≡ false
+  pub addresses-fit : aboveNarrow p (v .offline) ≡ false
   pub pointers-fine : pointerFaults p v (named d) ≡ []
-  pub segments-fine : segmentFaults p (named d) gs ≡ []
+  pub segments-fine : segmentFaults p v (named d) gs ≡ []
   pub serial-left : (rewrites p (named d) gs && eqb (greatestSerial gs) lastCount) ≡ false
-  pub zone-left : (rewrites p (named d) gs && isNil (freeSegs p gs)) ≡ false
+  pub zone-left : (rewrites p (named d) gs && noneFree p v gs) ≡ false
 
 module _ (p : Params) (long : Bool) (v : View) (d : ℕ) (gs : List Segment) where
   pub restart-passed : firstRefusal (restartChecks p long v d gs) ≡ none → RestartPassed p long v d gs
   unfolding restartChecks imageChecks
   restart-passed e =
-      let (c1, (c2, (c9, (c10, (c6, (c8, c)))))) = passes (restartChecks p long v d gs) e in
+      let (c1, (c2, (good, (fit, (c9, (c10, (c6, (c8, c)))))))) = passes (restartChecks p long v d gs) e in
       let one = or-false (not (inRange p)) (not (namesDrive p d)) c1 in
       record {
         in-range = not-false (inRange p) (one .0);
         names = not-false (namesDrive p d) (one .1);
         lent = not-false long c2;
+        zones-enough = good;
+        addresses-fit = fit;
         pointers-fine = c9;
         segments-fine = seg-of p v (named d) gs c9 c10;
         serial-left = c6;
@@ -505,22 +551,26 @@ module _ (p : Params) (long : Bool) (v : View) (d : ℕ) (gs : List Segment) whe
   restart-goes c =
       let one = ap₂ (λ (x y : Bool). not x || not y) (c .in-range) (c .names) in
       let ten = of-seg p v (named d) gs (c .pointers-fine) (c .segments-fine) in
-      none-refused (restartChecks p long v d gs) (one, (ap not (c .lent), (c .pointers-fine, (ten, (c .serial-left, (c .zone-left, tt))))))
+      none-refused (restartChecks p long v d gs) (one, (ap not (c .lent), (c .zones-enough, (c .addresses-fit, (c .pointers-fine, (ten, (c .serial-left, (c .zone-left, tt))))))))
 
   -- all but the serials
-  pub restart-sixth : inRange p ≡ true → namesDrive p d ≡ true → long ≡ true → pointerFaults p v (named d) ≡ [] → segmentFaults p (named d) gs ≡ []
+  pub restart-sixth : inRange p ≡ true → namesDrive p d ≡ true → long ≡ true → fewGood p (v .offline) ≡ false → aboveNarrow p (v .offline) ≡ false
+      → pointerFaults p v (named d) ≡ [] → segmentFaults p v (named d) gs ≡ []
       → (rewrites p (named d) gs && eqb (greatestSerial gs) lastCount) ≡ true → firstRefusal (restartChecks p long v d gs) ≡ some (Refused 6)
   unfolding restartChecks imageChecks firstRefusal ruled ninth
-  restart-sixth r n l ps ss six =
-      let eight = rewrites p (named d) gs && isNil (freeSegs p gs) in
+  restart-sixth r n l good fit ps ss six =
+      let eight = rewrites p (named d) gs && noneFree p v gs in
       let rest : List Check = rule 6 (rewrites p (named d) gs && eqb (greatestSerial gs) lastCount) ∷ rule 8 eight ∷ [] in
-      ap₂ (λ (x y : Bool). ruled 1 (not x || not y) (ruled 2 (not long) (firstRefusal (imageChecks p v (named d) gs ++ rest)))) r n
-      ∙ ap₂ (λ (x : Bool) (zs : List ℕ). ruled 2 (not x) (ninth zs (ninth (seg-faults p v (named d) gs) (firstRefusal rest)))) l ps
+      let behind = firstRefusal (imageChecks p v (named d) gs ++ rest) in
+      ap₂ (λ (x y : Bool). ruled 1 (not x || not y) (ruled 2 (not long) (firstRefusal (listRules p v ++ imageChecks p v (named d) gs ++ rest)))) r n
+      ∙ ap₂ (λ (x y : Bool). ruled 2 (not x) (ruled 10 y (ruled 1 (aboveNarrow p (v .offline)) behind))) l good
+      ∙ ap (λ (x : Bool). ruled 1 x behind) fit
+      ∙ ap (λ (zs : List ℕ). ninth zs (ninth (seg-faults p v (named d) gs) (firstRefusal rest))) ps
       ∙ ap₂ (λ (zs : List ℕ) (x : Bool). ninth zs (ruled 6 x (ruled 8 eight none))) (of-seg p v (named d) gs ps ss) six
 
-  pub restart-mild : pointerFaults p v (named d) ≡ [] → segmentFaults p (named d) gs ≡ [] → Mild (restartChecks p long v d gs)
+  pub restart-mild : pointerFaults p v (named d) ≡ [] → segmentFaults p v (named d) gs ≡ [] → Mild (restartChecks p long v d gs)
   unfolding restartChecks imageChecks
-  restart-mild ps ss = clear (restartChecks p long v d gs) (refl, λ c1. (refl, λ c2. (ps, (of-seg p v (named d) gs ps ss, (refl, λ c6. (refl, λ c8. tt))))))
+  restart-mild ps ss = clear (restartChecks p long v d gs) (refl, λ c1. (refl, λ c2. past-list p v (ps, (of-seg p v (named d) gs ps ss, (refl, λ c6. (refl, λ c8. tt))))))
 
 -- ---- rebuild
 
@@ -529,8 +579,10 @@ pub record RebuildPassed (p : Params) (long : Bool) (v : View) (m : Memory) (d :
   pub drive-low : d < p .N
   pub names : m .state .missing ≡ named d
   pub lent : long ≡ true
+  pub zones-enough : fewGood p (v .offline) ≡ false
+  pub addresses-fit : aboveNarrow p (v .offline) ≡ false
   pub pointers-fine : pointerFaults p v (named d) ≡ []
-  pub segments-fine : segmentFaults p (named d) gs ≡ []
+  pub segments-fine : segmentFaults p v (named d) gs ≡ []
 
 -- the drive that the last restart named missing
 names-parts : (p : Params) (st : State) (d : ℕ) → namesMissing p st d ≡ true → (d < p .N) × (st .missing ≡ named d)
@@ -547,18 +599,20 @@ module _ (p : Params) (long : Bool) (v : View) (m : Memory) (d : ℕ) (gs : List
   pub rebuild-passed : firstRefusal (rebuildChecks p long v m d gs) ≡ none → RebuildPassed p long v m d gs
   unfolding rebuildChecks imageChecks
   rebuild-passed e =
-      let (c1, (c2, (c9, (c10, c)))) = passes (rebuildChecks p long v m d gs) e in
+      let (c1, (c2, (good, (fit, (c9, (c10, c)))))) = passes (rebuildChecks p long v m d gs) e in
       let (low, same) = named-of c1 in
       record {
         in-range = not-false (inRange p) (or-false (not (inRange p)) (not (namesMissing p (m .state) d)) c1 .0);
         drive-low = low;
         names = same;
         lent = not-false long c2;
+        zones-enough = good;
+        addresses-fit = fit;
         pointers-fine = c9;
         segments-fine = seg-of p v (named d) gs c9 c10;
       }
 
-  pub rebuild-mild : (d < p .N → m .state .missing ≡ named d → (pointerFaults p v (named d) ≡ []) × (segmentFaults p (named d) gs ≡ [])) → Mild (rebuildChecks p long v m d gs)
+  pub rebuild-mild : (d < p .N → m .state .missing ≡ named d → (pointerFaults p v (named d) ≡ []) × (segmentFaults p v (named d) gs ≡ [])) → Mild (rebuildChecks p long v m d gs)
   unfolding rebuildChecks imageChecks
   rebuild-mild fine =
       clear (rebuildChecks p long v m d gs) (
@@ -568,6 +622,6 @@ module _ (p : Params) (long : Bool) (v : View) (m : Memory) (d : ℕ) (gs : List
           λ c2.
               let (low, same) = named-of c1 in
               let (ps, ss) = fine low same in
-              (ps, (of-seg p v (named d) gs ps ss, tt)),
+              past-list p v (ps, (of-seg p v (named d) gs ps ss, tt)),
         ),
       )

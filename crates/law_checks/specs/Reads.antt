@@ -28,51 +28,51 @@ use Rattle.law_views.specs.Views.{seen}
 use Rattle.law_checks.specs.Passed.{foundIn, ReadPassed, passed-too, read-goes}
 
 -- block and record that the reads find at f
-abbrev pub pieceIn : Params → Disk → Memory → Found → Piece
-pieceIn p k m f = readPiece p (seen p k) (m .state .missing) (m .compact) f
+abbrev pub pieceIn : Params → List ℕ → Disk → Memory → Found → Piece
+pieceIn p off k m f = readPiece p (seen p off k) (m .state .missing) (m .compact) f
 
 -- what the two reads show of it
 abbrev pub shownBoth : Params → Piece → Found → Seen
 shownBoth p q f = seenBy (readAnswer p (q .rec .stamp) f) (Filled (aStamp (q .rec .stamp))) (q .block)
 
-module _ (p : Params) (k : Disk) (m : Memory) (a : ℕ) (c : ReadPassed p (lentOk p k m) (seen p k) m a) where
+module _ (p : Params) (off : List ℕ) (k : Disk) (m : Memory) (a : ℕ) (c : ReadPassed p (lentOk p off k m) (seen p off k) m a) where
   abbrev piece : Piece
-  piece = pieceIn p k m (foundIn p m a)
+  piece = pieceIn p off k m (foundIn p m a)
 
-  pub read-after : callDisk p k m (read a) ≡ mkAfter (readAnswer p (piece .rec .stamp) (foundIn p m a)) k m []
+  pub read-after : callDisk p off k m (read a) ≡ mkAfter (readAnswer p (piece .rec .stamp) (foundIn p m a)) k m []
   unfolding callDisk callOn verdict storeCount lentBlock readVerdict readPlan lookup
   read-after =
-      call-done p (storeDisk p) 0 k m [] (firstRefusal (readChecks p (lentOk p k m) (seen p k) m a)) (readPlan p (seen p k) m a)
-      (read-goes p (lentOk p k m) (seen p k) m a c) (omega arith)
-      ∙ ap (λ (x : Disk). mkAfter (readPlan p (seen p k) m a .answer) x m []) (stores-nil (storeDisk p) 0 k)
+      call-done p (storeDisk p) 0 k m [] (firstRefusal (readChecks p (lentOk p off k m) (seen p off k) m a)) (readPlan p (seen p off k) m a)
+      (read-goes p (lentOk p off k m) (seen p off k) m a c) (omega arith)
+      ∙ ap (λ (x : Disk). mkAfter (readPlan p (seen p off k) m a .answer) x m []) (stores-nil (storeDisk p) 0 k)
 
-  pub fill-after : (l : List ℕ) → length l ≡ p .B → callDisk p k m (fill a l) ≡ mkAfter (Filled (aStamp (piece .rec .stamp))) k m (piece .block)
+  pub fill-after : (l : List ℕ) → length l ≡ p .B → callDisk p off k m (fill a l) ≡ mkAfter (Filled (aStamp (piece .rec .stamp))) k m (piece .block)
   unfolding callDisk callOn verdict storeCount lentBlock fillVerdict fillPlan lookup
   fill-after l e =
-      let long = lentOk p k m && eqb (length l) (p .B) in
-      call-done p (storeDisk p) 0 k m l (firstRefusal (readChecks p long (seen p k) m a)) (fillPlan p (seen p k) m a)
-      (read-goes p long (seen p k) m a (passed-too p (lentOk p k m) long (seen p k) m a
-      (and-both (lentOk p k m) (eqb (length l) (p .B)) (c .lent) (eq-eqb (length l) (p .B) e)) c)) (omega arith)
+      let long = lentOk p off k m && eqb (length l) (p .B) in
+      call-done p (storeDisk p) 0 k m l (firstRefusal (readChecks p long (seen p off k) m a)) (fillPlan p (seen p off k) m a)
+      (read-goes p long (seen p off k) m a (passed-too p (lentOk p off k m) long (seen p off k) m a
+      (and-both (lentOk p off k m) (eqb (length l) (p .B)) (c .lent) (eq-eqb (length l) (p .B) e)) c)) (omega arith)
       ∙ ap (λ (x : Disk). mkAfter (Filled (aStamp (piece .rec .stamp))) x m (piece .block)) (stores-nil (storeDisk p) 0 k)
 
-  seen-found : seenAt p (mkWorld k m) a ≡ shownBoth p piece (foundIn p m a)
+  seen-found : seenAt p off (mkWorld k m) a ≡ shownBoth p piece (foundIn p m a)
   unfolding seenAt
   seen-found =
       ap₂ (λ (x y : After Disk). seenBy (x .answer) (y .answer) (y .block)) read-after (fill-after (replicate (p .B) 0) (length-replicate (p .B) 0))
 
   -- where it lies
   module _ (f : Found) (e : foundIn p m a ≡ f) where
-    seen-at : seenAt p (mkWorld k m) a ≡ shownBoth p (pieceIn p k m f) f
-    seen-at = seen-found ∙ ap (λ (x : Found). shownBoth p (pieceIn p k m x) x) e
+    seen-at : seenAt p off (mkWorld k m) a ≡ shownBoth p (pieceIn p off k m f) f
+    seen-at = seen-found ∙ ap (λ (x : Found). shownBoth p (pieceIn p off k m x) x) e
 
-  pub seen-never : foundIn p m a ≡ nowhere → seenAt p (mkWorld k m) a ≡ unwritten
+  pub seen-never : foundIn p m a ≡ nowhere → seenAt p off (mkWorld k m) a ≡ unwritten
   unfolding seenBy isRefused stampTold readAnswer kind values readPiece
   seen-never e = seen-at nowhere e
 
-  pub seen-here : (q : ℕ) → foundIn p m a ≡ here q → seenAt p (mkWorld k m) a ≡ got (pieceIn p k m (here q) .block) (pieceIn p k m (here q) .rec .stamp)
+  pub seen-here : (q : ℕ) → foundIn p m a ≡ here q → seenAt p off (mkWorld k m) a ≡ got (pieceIn p off k m (here q) .block) (pieceIn p off k m (here q) .rec .stamp)
   unfolding seenBy isRefused stampTold readAnswer kind values
-  seen-here q e = seen-at (here q) e ∙ rw (eq-eqb (pieceIn p k m (here q) .rec .stamp) (pieceIn p k m (here q) .rec .stamp) refl)
+  seen-here q e = seen-at (here q) e ∙ rw (eq-eqb (pieceIn p off k m (here q) .rec .stamp) (pieceIn p off k m (here q) .rec .stamp) refl)
 
-  pub seen-away : (q : ℕ) → foundIn p m a ≡ away q → seenAt p (mkWorld k m) a ≡ got (pieceIn p k m (away q) .block) (pieceIn p k m (away q) .rec .stamp)
+  pub seen-away : (q : ℕ) → foundIn p m a ≡ away q → seenAt p off (mkWorld k m) a ≡ got (pieceIn p off k m (away q) .block) (pieceIn p off k m (away q) .rec .stamp)
   unfolding seenBy isRefused stampTold readAnswer kind values
-  seen-away q e = seen-at (away q) e ∙ rw (eq-eqb (pieceIn p k m (away q) .rec .stamp) (pieceIn p k m (away q) .rec .stamp) refl)
+  seen-away q e = seen-at (away q) e ∙ rw (eq-eqb (pieceIn p off k m (away q) .rec .stamp) (pieceIn p off k m (away q) .rec .stamp) refl)

@@ -10,7 +10,7 @@ use lib.ListN.{length, getD, take, drop, length-take, length-drop, length-map}
 use lib.Seq.{getD-take, getD-drop}
 use Rattle.spec.specs.declared.Params.{Params}
 use Rattle.spec.specs.Bytes.{part}
-use Rattle.spec.specs.Drives.{Chunk, mkChunk, noChunk, Zone, Store, blocksOf, sparesOf, recordIn, footersOf, zeroSpare, footerStores, sameSeg, zoneOn}
+use Rattle.spec.specs.Drives.{Chunk, mkChunk, noChunk, Zone, Store, blocksOf, sparesOf, recordIn, footersOf, zeroSpare, footerStores, zoneOn}
 use Rattle.spec.specs.Drives.Store.{put}
 use Rattle.spec.specs.Layout.{recordOf, footerBlock, footerRecord}
 use Rattle.spec.specs.Lists.{upFrom, below, flat}
@@ -18,8 +18,6 @@ use Rattle.spec.specs.Params.{spareLen, perFooter, footers, capacity, drivesOf}
 use Rattle.law_basic.specs.Geometry.{Ranged, per-footer-low, footers-cover}
 use Rattle.law_basic.specs.Ranges.{Test, test, length-upFrom, getD-upFrom, map-map, getD-map}
 use Rattle.law_basic.specs.Ranges.Test.{yes!, no! }
-use Rattle.law_basic.specs.Segs.{Named, zone-on-lt, zone-same}
-use Rattle.law_views.specs.Views.{blocks-long}
 use Rattle.law_drives.specs.Laid.{Long, in-take, in-drop, getD-footer}
 use Rattle.law_drives.specs.Members.{In, map-in, flat-in, flat-cong, keep-all, flat-nothing, below-in, getD-in}
 use Rattle.law_drives.specs.Puts.{hits-flat, putAt, hits-puts, flat-one, putAll, puts-new, room-puts, footer-sound, on-drive}
@@ -28,6 +26,7 @@ use Rattle.law_drives.specs.Records.{blocks-at, spares-at}
 use Rattle.law_drives.specs.Tests.{and-false-right, cond-true, cond-false}
 use Rattle.law_drives.specs.Zones.{Bytes, SoundChunk, ZoneOk, hits, Room, Within}
 use Rattle.spec.specs.declared.Seg.{Seg}
+use Rattle.law_basic.specs.Segs.{ZonesLow, low-here}
 
 -- a list of chunks for each drive, in the zone of one segment
 pub hits-each : (p : Params) (e y : ℕ) (z : ℕ → ℕ) (f : ℕ → List Chunk) → e < p .N
@@ -59,19 +58,14 @@ hits-each p e y z f he =
         ∙ flat-one (λ d. true) (λ d. map (putAt d (z d)) (f d)) e (p .N) he
         ∙ sym (cond-true (eqb (z e) y) (map (putAt e (z e)) (f e)) [] q)
 
--- on a zone of a segment
-pub each-on : (p : Params) (e : ℕ) (y g : Seg) (f : ℕ → List Chunk) → Named p y → Named p g → e < p .N
-    → hits e (zoneOn y e) (flat (λ d. map (putAt d (zoneOn g d)) (f d)) (drivesOf p)) ≡ cond (sameSeg g y) (map (putAt e (zoneOn g e)) (f e)) []
-each-on p e y g f hy hg he = hits-each p e (zoneOn y e) (zoneOn g) f he ∙ ap (λ (b : Bool). cond b (map (putAt e (zoneOn g e)) (f e)) []) (zone-same p g y e he hg hy)
-
-pub within-each : (p : Params) (z : Seg) (f : ℕ → List Chunk) → Named p z → (s : Store) → In s (flat (λ d. map (putAt d (zoneOn z d)) (f d)) (drivesOf p)) → Within p s
+pub within-each : (p : Params) (z : Seg) (f : ℕ → List Chunk) → ZonesLow p 0 z → (s : Store) → In s (flat (λ d. map (putAt d (zoneOn z d)) (f d)) (drivesOf p)) → Within p s
 within-each p z f hz s m =
     let (d, i, j) = flat-in (λ d. map (putAt d (zoneOn z d)) (f d)) (drivesOf p) s m in
     let (c, n, e) = map-in (putAt d (zoneOn z d)) (f d) s j in
     subst (λ (x : Store). Within p x) (sym e) (put-within d c (low d i))
   where
     put-within : (d : ℕ) (c : Chunk) → d < p .N → Within p (putAt d (zoneOn z d) c)
-    put-within d c h = unfold putAt in (h, zone-on-lt p z d hz)
+    put-within d c h = unfold putAt in (h, low-here p z d hz h)
 
     low : (d : ℕ) → In d (drivesOf p) → d < p .N
     low d i = unfold drivesOf in below-in (p .N) d i

@@ -11,7 +11,7 @@ use lib.Seq.{getD-drop}
 use Rattle.spec.specs.declared.Params.{Params}
 use Rattle.spec.specs.Bytes.{part}
 use Rattle.spec.specs.Demands.{areBytes}
-use Rattle.spec.specs.Drives.{noChunk, zoneAt, chunkAt, zoneOf, driveOf, viewOf, Disk}
+use Rattle.spec.specs.Drives.{noChunk, zoneAt, chunkAt, zoneOf, driveOf, viewOf, Disk, zonesOf}
 use Rattle.spec.specs.Lists.{all, pieces, zipped}
 use Rattle.spec.specs.Params.{spareLen, capacity, unitLen, zoneLen, driveLen, placeOf, placeByte}
 use Rattle.law_basic.specs.Geometry.{block-within}
@@ -39,9 +39,9 @@ bytes-of [] q i = omega arith
 bytes-of (b ∷ l) q zero = ltb-true b 256 (and-left (ltb b 256) (all (λ x. ltb x 256) l) q)
 bytes-of (b ∷ l) q (suc i) = bytes-of l (and-right (ltb b 256) (all (λ x. ltb x 256) l) q) i
 
-pub sized-of : (p : Params) (k : Disk) → Whole p k → Sized p (seen p k)
-unfolding viewOf driveOf
-sized-of p k w = record {
+pub sized-of : (p : Params) (off : List ℕ) (k : Disk) → Whole p k → Sized p (seen p off k)
+unfolding viewOf zonesOf driveOf
+sized-of p off k w = record {
   drives-long = pair-long (driveOf p) (pieces (driveLen p) (p .N) (k .image)) (pieces (4 * p .Z) (p .N) (k .pointers)) (p .N)
       (length-pieces (driveLen p) (p .N) (k .image)) (length-pieces (4 * p .Z) (p .N) (k .pointers));
   zones-long = λ d h.
@@ -56,25 +56,25 @@ sized-of p k w = record {
     pair-long : {A B C : Type 0} (f : A → B → C) (xs : List A) (ys : List B) (n : ℕ) → length xs ≡ n → length ys ≡ n → length (zipped f xs ys) ≡ n
     pair-long f xs ys n a b = length-zipped f xs ys ∙ omega arith
 
-pub shaped-of : (p : Params) (k : Disk) → Whole p k → Bytes (k .image) → Shaped p (seen p k)
-shaped-of p k w b = record {
-  sized = sized-of p k w;
+pub shaped-of : (p : Params) (off : List ℕ) (k : Disk) → Whole p k → Bytes (k .image) → Shaped p (seen p off k)
+shaped-of p off k w b = record {
+  sized = sized-of p off k w;
   zone-ok = λ d z hd hz. record {
-    blocks-long = blocks-long p k d z hd hz w;
+    blocks-long = blocks-long p off k d z hd hz w;
     sound = λ n l. as-chunk d z n (chunk-sound d z n hd hz l);
   };
 }
   where
-    as-chunk : (d z n : ℕ) → SoundChunk p n (chunkAt (seen p k) d z n) → SoundChunk p n (getD (zoneAt (seen p k) d z .blocks) n noChunk)
+    as-chunk : (d z n : ℕ) → SoundChunk p n (chunkAt (seen p off k) d z n) → SoundChunk p n (getD (zoneAt (seen p off k) d z .blocks) n noChunk)
     as-chunk d z n h = unfold chunkAt in h
 
-    chunk-sound : (d z n : ℕ) → d < p .N → z < p .Z → n < capacity p → SoundChunk p n (chunkAt (seen p k) d z n)
+    chunk-sound : (d z n : ℕ) → d < p .N → z < p .Z → n < capacity p → SoundChunk p n (chunkAt (seen p off k) d z n)
     chunk-sound d z n hd hz l =
         let a = placeByte p (placeOf p d z n) in
         let f : a + unitLen p ≤ length (k .image) = subst (λ (x : ℕ). a + unitLen p ≤ x) (sym (w .image-long)) (block-within p d z n hd hz l) in
         let u : unitLen p ≡ p .B + spareLen = unit-is in
-        let eb = block-view p k d z hd hz w n l in
-        let es = spare-view p k d z hd hz w n l in
+        let eb = block-view p off k d z hd hz w n l in
+        let es = spare-view p off k d z hd hz w n l in
         record {
           block-long = ap length eb ∙ length-part a (p .B) (k .image) (omega arith);
           spare-long = ap length es ∙ length-part (a + p .B) spareLen (k .image) (omega arith);

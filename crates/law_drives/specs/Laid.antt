@@ -11,12 +11,12 @@ use lib.Seq.{take-at, getD-take, getD-drop}
 use Rattle.spec.specs.declared.Params.{Params}
 use Rattle.spec.specs.Bytes.{beOf, toBe, part, Field, bytesOf, widthsOf, fieldAt, readField}
 use Rattle.spec.specs.Drives.{zeroSpare}
-use Rattle.spec.specs.Layout.{headerTable, serialField, copiedField, headerWidths, headerFields, headerBlock, headerSerial, headerCopied, Rec, recordFields}
+use Rattle.spec.specs.Layout.{headerFields, headerBlock, headerSerial, headerCopied, Rec, recordFields}
 use Rattle.spec.specs.Layout.{recordBytes, recordOf, footerBlock}
 use Rattle.spec.specs.Lists.{flat, padTo}
 use Rattle.spec.specs.Params.{recordTable, addressField, stampField, stripeField, recordWidths, spareLen, perFooter}
 use Rattle.law_basic.specs.Be.{beOf-lt, toBe-byte}
-use Rattle.law_basic.specs.Fields.{noField, readField-bytesOf}
+use Rattle.law_basic.specs.Fields.{noField, readField-bytesOf, copied-read, serial-read}
 use Rattle.law_basic.specs.Geometry.{Ranged, per-footer-low, per-footer-fits}
 use Rattle.law_basic.specs.Ranges.{length-padTo}
 use Rattle.law_basic.specs.Splice.{part-append-right}
@@ -109,18 +109,6 @@ bytes-footer p ss i h = bytes-pad (p .B) (flat (λ (b : List ℕ). b) (take (per
 
 -- ---- fields are read back
 
-pub header-serial : (p : Params) (d : ℕ) (zs : List ℕ) (r c : ℕ) → r < 256 ^ 8 → headerSerial p (headerBlock p d zs r c) ≡ r
-unfolding headerSerial headerBlock padTo headerFields headerWidths headerTable widthsOf
-header-serial p d zs r c h =
-    let fs = headerFields p d zs r c in
-    readField-bytesOf fs (serialField p) (replicate (p .B - length (bytesOf fs)) 0) (lit< tt) h
-
-pub header-copied : (p : Params) (d : ℕ) (zs : List ℕ) (r c : ℕ) → c < 256 ^ 8 → headerCopied p (headerBlock p d zs r c) ≡ c
-unfolding headerCopied headerBlock padTo headerFields headerWidths headerTable widthsOf
-header-copied p d zs r c h =
-    let fs = headerFields p d zs r c in
-    readField-bytesOf fs (copiedField p) (replicate (p .B - length (bytesOf fs)) 0) (lit< tt) h
-
 record-field : (r : Rec) (i : ℕ) → i < length (recordFields r) → getD (recordFields r) i noField .value < 256 ^ getD (recordFields r) i noField .width
     → readField recordWidths i (recordBytes r) ≡ getD (recordFields r) i noField .value
 unfolding recordBytes recordFields recordWidths recordTable widthsOf
@@ -147,21 +135,22 @@ length-part-le : (a n : ℕ) (l : List ℕ) → length (part a n l) ≤ n
 unfolding part
 length-part-le a n l = subst (λ (x : ℕ). x ≤ n) (sym (length-take n (drop a l))) (omega arith)
 
-field-low : (ws : List ℕ) (i : ℕ) (l : List ℕ) → Bytes l → readField ws i l < 256 ^ getD ws i 0
-unfolding readField
-field-low ws i l h =
-    let q = part (fieldAt ws i) (getD ws i 0) l in
-    let m : 256 ^ length q ≤ 256 ^ getD ws i 0 = pow-le-pow-right (lit< tt) {i = length q} {j = getD ws i 0} (length-part-le (fieldAt ws i) (getD ws i 0) l) in
-    let b = beOf-low q (bytes-part (fieldAt ws i) (getD ws i 0) l h) in
+laid-part-low : (a n : ℕ) (l : List ℕ) → Bytes l → beOf (part a n l) < 256 ^ n
+laid-part-low a n l h =
+    let q = part a n l in
+    let m : 256 ^ length q ≤ 256 ^ n = pow-le-pow-right (lit< tt) {i = length q} {j = n} (length-part-le a n l) in
+    let b = beOf-low q (bytes-part a n l h) in
     omega arith
 
+field-low : (ws : List ℕ) (i : ℕ) (l : List ℕ) → Bytes l → readField ws i l < 256 ^ getD ws i 0
+unfolding readField
+field-low ws i l h = laid-part-low (fieldAt ws i) (getD ws i 0) l h
+
 pub serial-low : (p : Params) (l : List ℕ) → Bytes l → headerSerial p l < 256 ^ 8
-unfolding headerSerial headerWidths headerTable widthsOf
-serial-low p l h = field-low (headerWidths p) (serialField p) l h
+serial-low p l h = subst (λ (x : ℕ). x < 256 ^ 8) (sym (serial-read p l)) (laid-part-low (21 + 4 * p .N) 8 l h)
 
 pub copied-word-low : (p : Params) (l : List ℕ) → Bytes l → headerCopied p l < 256 ^ 8
-unfolding headerCopied headerWidths headerTable widthsOf
-copied-word-low p l h = field-low (headerWidths p) (copiedField p) l h
+copied-word-low p l h = subst (λ (x : ℕ). x < 256 ^ 8) (sym (copied-read p l)) (laid-part-low (29 + 4 * p .N) 8 l h)
 
 pub address-low : (l : List ℕ) → Bytes l → recordOf l .address < 256 ^ 8
 unfolding recordOf recordWidths recordTable widthsOf

@@ -9,14 +9,15 @@ use lib.Dec.{leb, eqb}
 use lib.Count.{ones, onesIn}
 use lib.Pow.{pow-lt}
 use Rattle.spec.specs.declared.Params.{Params}
-use Rattle.spec.specs.Lists.{upFrom, below, all, powers, only, isIn, isNil}
-use Rattle.spec.specs.Params.{named, present}
+use Rattle.spec.specs.Lists.{upFrom, below, all, powers, only, isIn, isNil, firstOr}
+use Rattle.spec.specs.Params.{named, present, parityCount}
 use Rattle.spec.specs.Segments.{lowDrive}
 use Rattle.law_basic.specs.Geometry.{Ranged}
 use Rattle.law_basic.specs.Mask.{only-pow, ones-all, isIn-only}
 use Rattle.law_drives.specs.Members.{all-in, some-fails, in-below, below-in, In, first-in, in-some}
-use Rattle.law_drives.specs.Segs.{in-present}
 use Rattle.law_drives.specs.Tests.{eqb-self}
+use Rattle.law_drives.specs.Gather.{in-present, present-in}
+use Rattle.law_drives.specs.Segs.{Here}
 
 pub only-low : (d n : ℕ) → d < n → n ≤ 8 → only d < 2 ^ n
 only-low d n h k = subst (λ (x : ℕ). x < 2 ^ n) (sym (only-pow d (omega arith))) (pow-lt h)
@@ -76,3 +77,15 @@ module _ (p : Params) (r : Ranged p) (d : ℕ) (hd : d < p .N) where
       go : Dec (0 ≡ d) → isNil (present p (named d)) ≡ false
       go (no n) = in-some (present p (named d)) 0 (other-present 0 (omega (arith, r .drives-low)) n)
       go (yes n) = in-some (present p (named d)) 1 (other-present 1 (omega (arith, r .drives-low)) (λ e. let z : ⊥ = omega arith in z))
+
+-- at most one drive missing leaves another
+pub few-here : (p : Params) → Ranged p → (gone : ℕ) → gone < 2 ^ p .N → ones gone ≤ parityCount p → Here p gone
+unfolding lowDrive parityCount
+few-here p r gone l h =
+    let (e, he, q) = not-full (p .N) gone (r .drives-high) l (ne-eqb (ones gone) (p .N) (λ x. let z : ⊥ = omega (arith, h, r .drives-low) in z)) in
+    present-in p gone (firstOr 0 (present p gone)) (first-in (present p gone) 0 (in-some (present p gone) e (in-present p gone e he q)))
+
+-- the mask of the named drive
+pub only-named : (d : ℕ) → only d ≡ named d
+unfolding named
+only-named d = refl

@@ -20,6 +20,10 @@ In a (b ∷ l) = (a ≡ b) ⊎ In a l
 
 -- ---- append, map, flat, keep
 
+pub map-none : {A : Type 0} (f : A → ℕ) (l : List A) → map f l ≡ [] → l ≡ []
+map-none f [] e = refl
+map-none f (x ∷ l) e = absurd (let q : ⊥ = omega (arith, ap length e) in q)
+
 pub in-left : {A : Type 0} (a : A) (s t : List A) → In a s → In a (s ++ t)
 in-left a [] t m = absurd m
 in-left a (b ∷ s) t (inl e) = inl e

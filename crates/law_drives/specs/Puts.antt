@@ -12,7 +12,7 @@ use lib.Dec.{eqb}
 use lib.ListN.{length, getD, length-set}
 use lib.Seq.{getD-set-same, getD-set-other}
 use Rattle.spec.specs.declared.Params.{Params}
-use Rattle.spec.specs.Drives.{Chunk, mkChunk, noChunk, Zone, Store, putZone, storeAll, zoneOn, zeroSpare, headerStores, resetStores, sameSeg, allSegs, zonesIn, across}
+use Rattle.spec.specs.Drives.{Chunk, mkChunk, noChunk, Zone, Store, putZone, storeAll, zoneOn, zeroSpare, headerStores, resetStores, zonesIn}
 use Rattle.spec.specs.Drives.Store.{put, reset}
 use Rattle.spec.specs.Layout.{headerBlock, Rec, recordBytes, footerBlock}
 use Rattle.spec.specs.Lists.{upFrom, below, consIf, keep, flat}
@@ -21,7 +21,6 @@ use Rattle.law_basic.specs.Fields.{length-record, length-zeroSpare, header-bloc
 use Rattle.law_basic.specs.Geometry.{Ranged}
 use Rattle.law_basic.specs.Ranges.{Test, test, keep-append, keep-map}
 use Rattle.law_basic.specs.Ranges.Test.{yes!, no! }
-use Rattle.law_basic.specs.Segs.{Named, zone-same, seg-number, named-number, keep-segs}
 use Rattle.law_drives.specs.Laid.{bytes-header, bytes-zeroSpare, bytes-record, Long, length-footer, bytes-footer}
 use Rattle.law_drives.specs.Members.{In, map-in, keep-nothing, keep-all, keep-flat, from-in}
 use Rattle.law_drives.specs.Tables.{the-row}
@@ -70,13 +69,6 @@ pub keep-one-below : (f : ℕ → Bool) (z n : ℕ) → ((y : ℕ) → f y ≡ e
 unfolding below
 keep-one-below f z n h b = keep-one f z 0 n h (omega arith) (omega arith)
 
-pub keep-one-seg : (p : Params) (f : Seg → Bool) (g : Seg) → ((y : Seg) → f y ≡ sameSeg y g) → 0 < p .N → Named p g → keep f (allSegs p) ≡ g ∷ []
-keep-one-seg p f g h k hg =
-    let (n, l, e) = named-number p g hg in
-    keep-segs p f
-    ∙ ap (map (across p)) (keep-one-below (λ i. f (across p i)) n (p .Z) (λ i. h (across p i) ∙ ap (sameSeg (across p i)) e ∙ seg-number p i n k) l)
-    ∙ ap (λ (x : Seg). x ∷ []) (sym e)
-
 -- a zone that each drive has of its own counts on the drive alone
 pub on-drive : (z : ℕ → ℕ) (d e y : ℕ) → (eqb d e && eqb (z d) y) ≡ (eqb d e && eqb (z e) y)
 on-drive z d e y = go (test (eqb d e))
@@ -107,15 +99,6 @@ pub hits-headers : (p : Params) (e y : ℕ) (g : Seg) (r c : ℕ) → e < p .N
     → hits e y (headerStores p g r c) ≡ cond (eqb (zoneOn g e) y) (put e (zoneOn g e) (headerBlock p e (zonesIn p g) r c) zeroSpare ∷ []) []
 unfolding headerStores
 hits-headers p e y g r c h = hits-drives p e y (zoneOn g) (λ d. put d (zoneOn g d) (headerBlock p d (zonesIn p g) r c) zeroSpare) (λ d. unfold hitsAt in refl) h
-
--- those that fall on a zone of a segment
-pub resets-on : (p : Params) (e : ℕ) (y g : Seg) → Named p y → Named p g → e < p .N → hits e (zoneOn y e) (resetStores p g) ≡ cond (sameSeg g y) (reset e (zoneOn g e) ∷ []) []
-resets-on p e y g hy hg h = hits-resets p e (zoneOn y e) g h ∙ ap (λ (b : Bool). cond b (reset e (zoneOn g e) ∷ []) []) (zone-same p g y e h hg hy)
-
-pub headers-on : (p : Params) (e : ℕ) (y g : Seg) (r c : ℕ) → Named p y → Named p g → e < p .N
-    → hits e (zoneOn y e) (headerStores p g r c) ≡ cond (sameSeg g y) (put e (zoneOn g e) (headerBlock p e (zonesIn p g) r c) zeroSpare ∷ []) []
-headers-on p e y g r c hy hg h =
-    hits-headers p e (zoneOn y e) g r c h ∙ ap (λ (b : Bool). cond b (put e (zoneOn g e) (headerBlock p e (zonesIn p g) r c) zeroSpare ∷ []) []) (zone-same p g y e h hg hy)
 
 -- of a list for each number of a range, those of one number
 pub flat-one : {B : Type 0} (h : ℕ → Bool) (f : ℕ → List B) (z n : ℕ) → z < n → flat (λ g. cond (eqb g z) (f g) []) (keep h (below n)) ≡ cond (h z) (f z) []
@@ -171,9 +154,9 @@ room-append p d z n (c ∷ cs) ss a b = (a .0, room-append p d z (suc n) cs ss (
 
 -- ---- chunks that are sound
 
-pub header-sound : (p : Params) → Ranged p → (d : ℕ) (zs : List ℕ) (r c : ℕ) → SoundChunk p 0 (mkChunk (headerBlock p d zs r c) zeroSpare)
-header-sound p r d zs s c = record {
-  block-long = header-block-long p r d zs s c;
+pub header-sound : (p : Params) → Ranged p → (d : ℕ) (zs : List ℕ) (r c : ℕ) → length zs ≡ p .N → SoundChunk p 0 (mkChunk (headerBlock p d zs r c) zeroSpare)
+header-sound p r d zs s c n = record {
+  block-long = header-block-long p r d zs s c n;
   spare-long = length-zeroSpare;
   spare-bytes = bytes-zeroSpare;
   block-bytes = λ x. bytes-header p d zs s c;

@@ -13,7 +13,6 @@ use Rattle.spec.specs.Bytes.{part}
 use Rattle.spec.specs.Drives.{Chunk, noChunk, Zone, blocksOf, sparesOf, recordIn}
 use Rattle.spec.specs.Layout.{Rec, recordOf, footerRecord}
 use Rattle.spec.specs.Params.{spareLen, perFooter, capacity}
-use Rattle.law_views.specs.Views.{blocks-long}
 use Rattle.law_drives.specs.Image.{bytes-part}
 use Rattle.law_drives.specs.Laid.{bytes-nil, address-low, stamp-low}
 use Rattle.law_drives.specs.Zones.{Bytes, ZoneOk}

@@ -1,55 +1,59 @@
--- A healthy restart rewrites the counted stripes of a ragged segment into an empty zone and resets the old one.
+-- A healthy restart rewrites the counted stripes of a ragged segment into zones that are free behind the drops and resets the old ones.
 use mathlib.Core.Path.{_≡_, refl, sym, ap, ap₂, _∙_, subst}
-use mathlib.Core.List.{List, [], _∷_, _++_, map, append-nil}
+use mathlib.Core.List.{List, [], _∷_, _++_, map}
 use mathlib.Core.Bool.{Bool, true, false, cond, not, _&&_}
-use mathlib.Core.Logic.{_⊎_, inl, inr, ⊎-elim}
+use mathlib.Core.Logic.{_⊎_, inl, inr, ⊎-elim, _≢_}
 use Prim.Native.Nat.{ℕ, zero, suc, _+_, _-_, _^_, _≤_, _<_}
 use native.Mathlib.Nat.{add-zero, zero-add, le-of-eq}
-use native.Mathlib.Decide.{decLt}
-use borrow.Author.Tests.{lt-ltb, le-ltb, eq-eqb, ne-eqb, eqb-false}
+use native.Mathlib.Decide.{decLt, ℕ-discrete}
+use borrow.Author.Tests.{lt-ltb, le-ltb, eq-eqb, ne-eqb, eqb-false, not-true}
 use native.Mathlib.Omega.{arith}
 use lib.Dec.{ltb, eqb}
 use lib.ListN.{length, getD, length-map}
 use Rattle.spec.specs.declared.Params.{Params}
-use Rattle.spec.specs.Drives.{Chunk, mkChunk, noChunk, Zone, View, zoneAt, pointerAt, chunkAt, Store, resetZone, storeView, storeAll, zoneOn, sealedIn, zonesIn}
-use Rattle.spec.specs.Drives.{dataStored, recordIn, zeroSpare, headerStores, resetStores, sameSeg}
-use Rattle.spec.specs.Drives.Store.{put, reset}
+use Rattle.spec.specs.Drives.{Chunk, mkChunk, noChunk, Zone, View, zoneAt, pointerAt, chunkAt, Store, storeView, storeAll, zoneOn, sealedIn, zonesIn, goodZones, isGood}
+use Rattle.spec.specs.Drives.{dataStored, recordIn, zeroSpare, headerStores, resetStores}
+use Rattle.spec.specs.Drives.Store.{put}
 use Rattle.spec.specs.Layout.{dataDrive, dataPosition, isData, parityPosition, dataDrives, headerBlock, headerSerial, headerCopied, Rec, mkRec, recordBytes, recordOf}
-use Rattle.spec.specs.Lists.{upFrom, below, all, consIf, keep}
+use Rattle.spec.specs.Lists.{upFrom, below, all, any, consIf, keep, isNil, firstOr}
 use Rattle.spec.specs.Params.{dataCount, capacity, drivesOf, present}
 use Rattle.spec.specs.Parity.{Piece, mkPiece, encodeBlock, encodeRec, encodePiece}
-use Rattle.spec.specs.Restart.{isWhole, renumbered, movedPieces, movedOn, movedStripe, movedStripes, rewriteStores, dropStores}
-use Rattle.spec.specs.Segments.{headerAt, Segment, segmentOf, segments, hasChunk, counts, counted, storedPiece, putPiece, greatestSerial}
+use Rattle.spec.specs.Restart.{isWhole, renumbered, movedPieces, movedOn, movedStripe, movedStripes, rewriteStores, dropStores, freeSeg, freeZones, noneFree}
+use Rattle.spec.specs.Segments.{headerAt, remaining, Segment, segmentOf, segments, hasChunk, counts, counted, storedPiece, putPiece, greatestSerial, isUsed, serialIn}
 use Rattle.law_basic.specs.Each.{each-map, each-data}
 use Rattle.law_basic.specs.Geometry.{Ranged, data-drive-lt, position-lt}
 use Rattle.law_basic.specs.Mask.{isIn-empty}
-use Rattle.law_basic.specs.Ranges.{Test, test, length-upFrom, length-below, getD-map, getD-map-below}
+use Rattle.law_basic.specs.Ranges.{Test, test, and-both, length-below, getD-map, getD-map-below}
 use Rattle.law_basic.specs.Ranges.Test.{yes!, no! }
-use Rattle.law_basic.specs.Segs.{seg-other, seg-self, segs-differ, Named, zone-on-lt, zone-same, by-seg}
 use Rattle.law_code.specs.Chunks.{moved-is-data, moved-is-parity}
 use Rattle.law_code.specs.Code.{encode-long, encode-stripe, encode-apart}
-use Rattle.law_views.specs.Views.{blocks-long}
 use Rattle.law_drives.specs.Accept.{Accepted}
-use Rattle.law_drives.specs.Dropping.{drop-same, drop-empty, drop-used, kept-less, kept-once, kept-known, kept-no-copy, drop-tidy}
-use Rattle.law_drives.specs.Headers.{header-within}
-use Rattle.law_drives.specs.Laid.{header-serial, header-copied, record-stripe}
-use Rattle.law_drives.specs.Members.{In, in-append, map-in, in-all, keep-cong, keep-nothing, from-in, below-in}
+use Rattle.law_drives.specs.Dropping.{drop-same, kept-known, drop-tidy, drop-cleared, drop-there, there-kept}
+use Rattle.law_drives.specs.Headers.{header-within, Vacant, empty-unused, tidy-unborne, vacant-other, with-vacant}
+use Rattle.law_drives.specs.Laid.{record-stripe}
+use Rattle.law_basic.specs.Fields.{header-serial, header-copied}
+use Rattle.law_drives.specs.Members.{In, in-append, map-in, in-all, keep-cong, keep-nothing, from-in, below-in, first-in, in-any, in-below, in-getD, in-map, keep-in, none-in}
 use Rattle.law_drives.specs.Mending.{Mended, shaped-a}
-use Rattle.law_drives.specs.Puts.{hits-append, putAt, hits-drives, putAll, puts-pointer, puts-new, room-puts, header-sound, data-sound}
+use Rattle.law_drives.specs.Puts.{hits-append, putAt, hits-drives, putAll, puts-pointer, puts-new, room-puts, header-sound, data-sound, hits-headers}
 use Rattle.law_drives.specs.Range.{capacity-over}
 use Rattle.law_drives.specs.Rebuilding.{counted-low, counted-in, pieceChunk, stored-long}
-use Rattle.law_drives.specs.Resets.{reset-within}
-use Rattle.law_drives.specs.Segs.{present-in, data-low, low-data, seg-is, serial-is, has-chunk, no-chunk}
-use Rattle.law_drives.specs.Settled.{low-first, SameZones, zones-header, zones-pointer, zones-used, sealed-full}
+use Rattle.law_drives.specs.Resets.{reset-within, Alone, TidyBut, reset-keeps, reset-other, reset-roomy, reset-tidy-but, reset-was, together-alone}
+use Rattle.law_drives.specs.Segs.{data-low, low-data, seg-is, serial-is, has-chunk, no-chunk}
+use Rattle.law_drives.specs.Settled.{low-first, SameZones, zones-header, zones-pointer, sealed-full, its-zone, its-zones-low, there-once, there-serial}
 use Rattle.law_drives.specs.Spots.{counts-in}
 use Rattle.law_drives.specs.Steady.{Steady, SealedAll}
 use Rattle.law_drives.specs.Steady.Rest.{rest-open}
-use Rattle.law_drives.specs.Tables.{remains}
-use Rattle.law_drives.specs.Tests.{clash, not-so, cond-true, cond-false, cond-same}
-use Rattle.law_drives.specs.Tidy.{spareAt, usedAt, Tidy}
-use Rattle.law_drives.specs.Zones.{SoundChunk, Shaped, hitsAt, zoneStore, hits, zone-after, Room, Within, reset-pointer, Roomy}
-use Rattle.law_drives.specs.Puts.{resets-on, headers-on}
+use Rattle.law_drives.specs.Tests.{clash, not-so, cond-true, cond-false, cond-same, eqb-self}
+use Rattle.law_drives.specs.Tidy.{spareAt, Tidy, There}
+use Rattle.law_drives.specs.Zones.{SoundChunk, Shaped, hitsAt, zoneStore, hits, zone-after, Room, Within, Roomy, shaped-after}
 use Rattle.spec.specs.declared.Seg.{Seg}
+use Rattle.law_basic.specs.Segs.{ZonesLow, zones-in-long}
+use Rattle.law_basic.specs.Stores.{storeAll-append}
+use Rattle.law_drives.specs.Gather.{present-in}
+use Rattle.law_drives.specs.Growing.{head-zone, used-zone}
+use Rattle.law_drives.specs.Heads.{Headed, headed-keeps, headed-there, headed-was}
+use Rattle.law_drives.specs.Joins.{roomy-append, within-append}
+use Rattle.law_views.specs.Alike.{offline-after}
 
 keep-firsts : (c i n : ℕ) → i ≤ c → c ≤ i + n → keep (λ s. ltb s c) (upFrom i n) ≡ upFrom i (c - i)
 unfolding keep consIf upFrom
@@ -69,19 +73,68 @@ keep-firsts c i (suc n) a b = go (decLt i c) (keep-firsts c (suc i) n)
         let e : c - i ≡ 0 = omega arith in
         rw (q, e) (keep-nothing (λ s. ltb s c) (upFrom (suc i) n) (λ s m. let (x, y) = from-in (suc i) n s m in le-ltb s c (omega arith)))
 
-pub keep-below : (c n : ℕ) → c ≤ n → length (keep (λ s. ltb s c) (below n)) ≡ c
-unfolding below
-keep-below c n h = ap length (keep-firsts c 0 n (omega arith) (omega arith)) ∙ length-upFrom 0 (c - 0) ∙ omega arith
+-- ---- the free zones behind the drops
+
+-- where every drive has one: each drive's lowest good zone that no remaining segment has
+pub free-vacant : (p : Params) (r : Ranged p) (v : View) (sh : Shaped p v) (acc : Accepted p v 0) → noneFree p v (segments p v 0) ≡ false
+    → Vacant p (storeAll storeView (dropStores p v (segments p v 0)) v) (freeSeg p v (segments p v 0))
+unfolding freeSeg
+free-vacant p r v sh acc nf = with-vacant p va (λ d. firstOr 0 (freeZones p v gs d)) (λ d hd. of d hd (firstOr 0 (freeZones p v gs d)) (first-in (freeZones p v gs d) 0 (some d hd)))
+  where
+    gs : List Segment
+    gs = segments p v 0
+
+    va : View
+    va = storeAll storeView (dropStores p v (segments p v 0)) v
+
+    some : (d : ℕ) → d < p .N → isNil (freeZones p v (segments p v 0) d) ≡ false
+    some d hd = none-in (λ d. isNil (freeZones p v (segments p v 0) d)) (below (p .N)) (as! nf) d (in-below (p .N) d hd)
+      where
+        as! : noneFree p v (segments p v 0) ≡ false → any (λ d. isNil (freeZones p v (segments p v 0) d)) (below (p .N)) ≡ false
+        as! q = unfold noneFree drivesOf in q
+
+    of : (d : ℕ) → d < p .N → (z : ℕ) → In z (freeZones p v (segments p v 0) d)
+        → (z < p .Z) × (isGood p (storeAll storeView (dropStores p v (segments p v 0)) v .offline) d z ≡ true) × (pointerAt (storeAll storeView (dropStores p v (segments p v 0)) v) d z ≡ 0)
+    of d hd z m = (below-in (p .Z) z (i .0), good, go (ℕ-discrete (pointerAt va! d z) 0))
+      where
+        va! : View
+        va! = storeAll storeView (dropStores p v (segments p v 0)) v
+
+        k : In z (goodZones p (v .offline) d) × (not (any (λ (g : Segment). eqb (zoneOn (g .seg) d) z) (segments p v 0)) ≡ true)
+        k = as! m
+          where
+            as! : In z (freeZones p v (segments p v 0) d) → In z (goodZones p (v .offline) d) × (not (any (λ (g : Segment). eqb (zoneOn (g .seg) d) z) (segments p v 0)) ≡ true)
+            as! m = unfold freeZones in keep-in (λ z. not (any (λ (g : Segment). eqb (zoneOn (g .seg) d) z) (segments p v 0))) (goodZones p (v .offline) d) z m
+
+        i : In z (below (p .Z)) × (isGood p (v .offline) d z ≡ true)
+        i = as! (k .0)
+          where
+            as! : In z (goodZones p (v .offline) d) → In z (below (p .Z)) × (isGood p (v .offline) d z ≡ true)
+            as! m = unfold goodZones in keep-in (isGood p (v .offline) d) (below (p .Z)) z m
+
+        good : isGood p (va! .offline) d z ≡ true
+        good = ap (λ (l : List ℕ). isGood p l d z) (offline-after (dropStores p v (segments p v 0)) v) ∙ i .1
+
+        used! : (pointerAt va! d z ≡ 0 → ⊥) → isUsed p va! d z ≡ true
+        used! n = unfold isUsed in and-both (isGood p (va! .offline) d z) (not (eqb (pointerAt va! d z) 0)) good (ap not (ne-eqb (pointerAt va! d z) 0 n))
+
+        in-gs : (g : Seg) → In g (remaining p v 0) → In (segmentOf p v 0 g) (segments p v 0)
+        in-gs g m = unfold segments in in-map (segmentOf p v 0) (remaining p v 0) g m
+
+        go : Dec (pointerAt va! d z ≡ 0) → pointerAt va! d z ≡ 0
+        go (yes e) = e
+        go (no n) =
+            let (g, m, e) = drop-cleared p r v sh acc .others-gone d z hd (below-in (p .Z) z (i .0)) (used! n) in
+            clash (in-any (λ (x : Segment). eqb (zoneOn (x .seg) d) z) (segments p v 0) (segmentOf p v 0 g) (in-gs g m)
+            (eq-eqb (zoneOn (segmentOf p v 0 g .seg) d) z (ap (λ (y : Seg). zoneOn y d) (seg-is p v 0 g) ∙ e)))
+            (not-true (any (λ (x : Segment). eqb (zoneOn (x .seg) d) z) (segments p v 0)) (k .1))
 
 module _ (p : Params) (r : Ranged p) (v : View) (sh : Shaped p v) (acc : Accepted p v 0)
-    (g : Seg) (hg : Named p g) (kg : remains p v 0 g ≡ true) (ng : sealedIn p v 0 g ≡ false)
-    (oth : (y : Seg) → Named p y → remains p v 0 y ≡ true → (y ≡ g → ⊥) → sealedIn p v 0 y ≡ true)
-    (z0 : Seg) (hz0 : Named p z0) (fz : remains p v 0 z0 ≡ false) (fit : suc (greatestSerial (segments p v 0)) < 256 ^ 8) where
+    (g : Seg) (kg : In g (remaining p v 0)) (ng : sealedIn p v 0 g ≡ false)
+    (oth : (y : Seg) → In y (remaining p v 0) → (y ≡ g → ⊥) → sealedIn p v 0 y ≡ true)
+    (z0 : Seg) (vz : Vacant p (storeAll storeView (dropStores p v (segments p v 0)) v) z0) (fit : suc (greatestSerial (segments p v 0)) < 256 ^ 8) where
   abbrev gs : List Segment
   gs = segments p v 0
-
-  abbrev keeps! : Seg → Bool
-  keeps! y = remains p v 0 y
 
   abbrev x : Segment
   x = segmentOf p v 0 g
@@ -96,16 +149,27 @@ module _ (p : Params) (r : Ranged p) (v : View) (sh : Shaped p v) (acc : Accepte
   c = length cs
 
   abbrev va : View
-  va = storeAll storeView (dropStores p gs) v
+  va = storeAll storeView (dropStores p v gs) v
 
   h0 : 0 < p .N
   h0 = omega (arith, r .drives-low)
 
-  apart : z0 ≡ g → ⊥
-  apart e = clash kg (subst (λ (y : Seg). keeps! y ≡ false) e fz)
-
   sha : Shaped p va
   sha = shaped-a p r v sh acc
+
+  -- the old segment is there behind the drops
+  old-there : There p va g
+  old-there = drop-there p r v sh acc g kg
+
+  old-low : (d : ℕ) → d < p .N → zoneOn g d < p .Z
+  old-low d hd = its-zone p r va g old-there d hd .zone-low
+
+  -- no segment that there is has a zone of the new one
+  apart-on : (y : Seg) (d : ℕ) → There p va y → d < p .N → zoneOn y d ≢ zoneOn z0 d
+  apart-on y d m hd = vacant-other p r va z0 y d vz m hd
+
+  pub new-other : (y : Seg) → There p va y → z0 ≡ y → ⊥
+  new-other y m e = apart-on y 0 m h0 (ap (λ (n : Seg). zoneOn n 0) (sym e))
 
   -- ---- a moved stripe
 
@@ -149,7 +213,7 @@ module _ (p : Params) (r : Ranged p) (v : View) (sh : Shaped p v) (acc : Accepte
 
     module _ (cn : counts p 0 x s ≡ true) where
       stored-b : (d : ℕ) → d < p .N → length (storedPiece x s d .block) ≡ p .B
-      stored-b d hd = stored-long p r v sh 0 g s d hg hd (isIn-empty d) (counts-in p 0 x s d cn hd (isIn-empty d))
+      stored-b d hd = stored-long p r v sh 0 g s d (old-low d hd) hd (isIn-empty d) (counts-in p 0 x s d cn hd (isIn-empty d))
 
       drive! : (n : ℕ) → n < dataCount p → dataDrive p s n < p .N
       drive! n l = data-drive-lt p s n l
@@ -182,31 +246,28 @@ module _ (p : Params) (r : Ranged p) (v : View) (sh : Shaped p v) (acc : Accepte
   moved-count e [] k = refl
   moved-count e (s ∷ ss) k = ap suc (moved-count e ss (suc k))
 
-  moved-at : (e : ℕ) (ss : List ℕ) (k i : ℕ) → i < length ss → (s : ℕ) × In s ss × (getD (movedChunks e ss k) i noChunk ≡ pieceChunk (on s (k + i) e))
+  moved-at : (e : ℕ) (ss : List ℕ) (k i : ℕ) → i < length ss → getD (movedChunks e ss k) i noChunk ≡ pieceChunk (on (getD ss i 0) (k + i) e)
   unfolding movedChunks
   moved-at e [] k i h = absurd (let bad : ⊥ = omega arith in bad)
-  moved-at e (s ∷ ss) k zero h = (s, inl refl, ap (λ (n : ℕ). pieceChunk (on s n e)) (sym (add-zero k)))
-  moved-at e (s ∷ ss) k (suc i) h =
-      let (t, m, q) = moved-at e ss (suc k) i (omega arith) in (t, inr m, q ∙ ap (λ (n : ℕ). pieceChunk (on t n e)) (let z : suc k + i ≡ k + suc i = omega arith in z))
+  moved-at e (s ∷ ss) k zero h = ap (λ (n : ℕ). pieceChunk (on s n e)) (sym (add-zero k))
+  moved-at e (s ∷ ss) k (suc i) h = moved-at e ss (suc k) i (omega arith) ∙ ap (λ (n : ℕ). pieceChunk (on (getD ss i 0) n e)) (let z : suc k + i ≡ k + suc i = omega arith in z)
 
-  hits-moved : (e : ℕ) (y : Seg) (ss : List ℕ) (k : ℕ) → e < p .N → Named p y
-      → hits e (zoneOn y e) (movedStripes p x z0 ss k) ≡ cond (sameSeg z0 y) (map (putAt e (zoneOn z0 e)) (movedChunks e ss k)) []
+  hits-moved : (e z : ℕ) (ss : List ℕ) (k : ℕ) → e < p .N
+      → hits e z (movedStripes p x z0 ss k) ≡ cond (eqb (zoneOn z0 e) z) (map (putAt e (zoneOn z0 e)) (movedChunks e ss k)) []
   unfolding movedStripes movedChunks
-  hits-moved e y [] k he hy = none! ∙ sym (cond-same (sameSeg z0 y) [])
+  hits-moved e z [] k he = none! ∙ sym (cond-same (eqb (zoneOn z0 e) z) [])
     where
-      none! : hits e (zoneOn y e) [] ≡ []
+      none! : hits e z [] ≡ []
       none! = unfold keep in refl
-  hits-moved e y (s ∷ ss) k he hy =
-      hits-append e (zoneOn y e) (movedStripe p x z0 s k) (movedStripes p x z0 ss (suc k))
-      ∙ ap₂ _++_ (one ∙ hits-drives p e (zoneOn y e) (zoneOn z0) (λ d. putPiece d (zoneOn z0 d) (on s k d)) hit he
-      ∙ ap (λ (b : Bool). cond b (putPiece e (zoneOn z0 e) (on s k e) ∷ []) []) (zone-same p z0 y e he hz0 hy))
-      (hits-moved e y ss (suc k) he hy)
-      ∙ join (sameSeg z0 y)
+  hits-moved e z (s ∷ ss) k he =
+      hits-append e z (movedStripe p x z0 s k) (movedStripes p x z0 ss (suc k))
+      ∙ ap₂ _++_ (one ∙ hits-drives p e z (zoneOn z0) (λ d. putPiece d (zoneOn z0 d) (on s k d)) hit he) (hits-moved e z ss (suc k) he)
+      ∙ join (eqb (zoneOn z0 e) z)
     where
-      one : hits e (zoneOn y e) (movedStripe p x z0 s k) ≡ hits e (zoneOn y e) (map (λ d. putPiece d (zoneOn z0 d) (on s k d)) (drivesOf p))
+      one : hits e z (movedStripe p x z0 s k) ≡ hits e z (map (λ d. putPiece d (zoneOn z0 d) (on s k d)) (drivesOf p))
       one = unfold movedStripe in refl
 
-      hit : (d : ℕ) → hitsAt e (zoneOn y e) (putPiece d (zoneOn z0 d) (on s k d)) ≡ (eqb d e && eqb (zoneOn z0 d) (zoneOn y e))
+      hit : (d : ℕ) → hitsAt e z (putPiece d (zoneOn z0 d) (on s k d)) ≡ (eqb d e && eqb (zoneOn z0 d) z)
       hit d = unfold putPiece hitsAt in refl
 
       join :
@@ -216,7 +277,7 @@ module _ (p : Params) (r : Ranged p) (v : View) (sh : Shaped p v) (acc : Accepte
       join true = unfold putPiece putAt pieceChunk in refl
       join false = refl
 
-  -- ---- the stores
+  -- ---- the stores: first the new segment's
 
   abbrev ts : List Store
   ts = rewriteStores p x z0 sn
@@ -224,25 +285,31 @@ module _ (p : Params) (r : Ranged p) (v : View) (sh : Shaped p v) (acc : Accepte
   abbrev vc : View
   vc = storeAll storeView ts va
 
+  abbrev ps : List Store
+  ps = headerStores p z0 sn (x .serial) ++ movedStripes p x z0 cs 0
+
+  abbrev vb : View
+  vb = storeAll storeView ps va
+
+  ts-is : ts ≡ ps ++ resetStores p g
+  ts-is = as! ∙ ap (λ (n : Seg). ps ++ resetStores p n) (seg-is p v 0 g)
+    where
+      as! : ts ≡ ps ++ resetStores p (x .seg)
+      as! = unfold rewriteStores in refl
+
+  vc-is : vc ≡ storeAll storeView (resetStores p g) vb
+  vc-is = ap (λ (l : List Store). storeAll storeView l va) ts-is ∙ storeAll-append storeView ps (resetStores p g) va
+
   lay : ℕ → List Chunk
   lay e = mkChunk (headerBlock p e (zonesIn p z0) sn (x .serial)) zeroSpare ∷ movedChunks e cs 0
 
-  ts-hits : (e : ℕ) (y : Seg) → e < p .N → Named p y → hits e (zoneOn y e) ts ≡ cond (sameSeg z0 y) (map (putAt e (zoneOn z0 e)) (lay e)) [] ++ cond (sameSeg g y)
-      (reset e (zoneOn g e) ∷ []) []
+  ps-hits : (e z : ℕ) → e < p .N → hits e z ps ≡ cond (eqb (zoneOn z0 e) z) (map (putAt e (zoneOn z0 e)) (lay e)) []
   unfolding lay
-  ts-hits e y he hy = as! (hits-append e (zoneOn y e) (headerStores p z0 sn (x .serial) ++ movedStripes p x z0 cs 0) (resetStores p (x .seg))
-      ∙ ap₂ _++_ (hits-append e (zoneOn y e) (headerStores p z0 sn (x .serial)) (movedStripes p x z0 cs 0) ∙ ap₂ _++_ (headers-on p e y z0 sn (x .serial) hy hz0 he) (hits-moved e y cs 0 he hy)
-      ∙ join (sameSeg z0 y))
-      (ap (λ (n : Seg). hits e (zoneOn y e) (resetStores p n)) (seg-is p v 0 g) ∙ resets-on p e y g hy hg he))
+  ps-hits e z he =
+      hits-append e z (headerStores p z0 sn (x .serial)) (movedStripes p x z0 cs 0)
+      ∙ ap₂ _++_ (hits-headers p e z z0 sn (x .serial) he) (hits-moved e z cs 0 he)
+      ∙ join (eqb (zoneOn z0 e) z)
     where
-      as! :
-          hits e (zoneOn y e) ((headerStores p z0 sn (x .serial) ++ movedStripes p x z0 cs 0) ++ resetStores p (x .seg))
-          ≡ cond (sameSeg z0 y) (map (putAt e (zoneOn z0 e)) (mkChunk (headerBlock p e (zonesIn p z0) sn (x .serial)) zeroSpare ∷ movedChunks e cs 0)) [] ++ cond (sameSeg g y)
-          (reset e (zoneOn g e) ∷ []) []
-          → hits e (zoneOn y e) ts ≡ cond (sameSeg z0 y) (map (putAt e (zoneOn z0 e)) (mkChunk (headerBlock p e (zonesIn p z0) sn (x .serial)) zeroSpare ∷ movedChunks e cs 0)) [] ++ cond
-          (sameSeg g y) (reset e (zoneOn g e) ∷ []) []
-      as! q = unfold rewriteStores in q
-
       join :
           (b : Bool)
           → cond b (put e (zoneOn z0 e) (headerBlock p e (zonesIn p z0) sn (x .serial)) zeroSpare ∷ []) [] ++ cond b (map (putAt e (zoneOn z0 e)) (movedChunks e cs 0)) [] ≡ cond b
@@ -250,28 +317,15 @@ module _ (p : Params) (r : Ranged p) (v : View) (sh : Shaped p v) (acc : Accepte
       join true = unfold putAt in refl
       join false = refl
 
-  hits-new : (e : ℕ) → e < p .N → hits e (zoneOn z0 e) ts ≡ map (putAt e (zoneOn z0 e)) (lay e)
-  hits-new e he = ts-hits e z0 he hz0
-      ∙ ap₂ _++_ (cond-true (sameSeg z0 z0) (map (putAt e (zoneOn z0 e)) (lay e)) [] (seg-self z0))
-      (cond-false (sameSeg g z0) (reset e (zoneOn g e) ∷ []) [] (seg-other g z0 (λ q. apart (sym q))))
-      ∙ append-nil (map (putAt e (zoneOn z0 e)) (lay e))
+  hits-new : (e : ℕ) → e < p .N → hits e (zoneOn z0 e) ps ≡ map (putAt e (zoneOn z0 e)) (lay e)
+  hits-new e he = ps-hits e (zoneOn z0 e) he ∙ cond-true (eqb (zoneOn z0 e) (zoneOn z0 e)) (map (putAt e (zoneOn z0 e)) (lay e)) [] (eqb-self (zoneOn z0 e))
 
-  hits-old : (e : ℕ) → e < p .N → hits e (zoneOn g e) ts ≡ reset e (zoneOn g e) ∷ []
-  hits-old e he =
-      ts-hits e g he hg ∙ ap₂ _++_ (cond-false (sameSeg z0 g) (map (putAt e (zoneOn z0 e)) (lay e)) [] (seg-other z0 g apart))
-      (cond-true (sameSeg g g) (reset e (zoneOn g e) ∷ []) [] (seg-self g))
-
-  hits-else : (e : ℕ) (y : Seg) → e < p .N → Named p y → (z0 ≡ y → ⊥) → (g ≡ y → ⊥) → hits e (zoneOn y e) ts ≡ []
-  hits-else e y he hy a b =
-      ts-hits e y he hy ∙ ap₂ _++_ (cond-false (sameSeg z0 y) (map (putAt e (zoneOn z0 e)) (lay e)) [] (seg-other z0 y a))
-      (cond-false (sameSeg g y) (reset e (zoneOn g e) ∷ []) [] (seg-other g y b))
+  hits-else : (e z : ℕ) → e < p .N → z ≢ zoneOn z0 e → hits e z ps ≡ []
+  hits-else e z he n = ps-hits e z he ∙ cond-false (eqb (zoneOn z0 e) z) (map (putAt e (zoneOn z0 e)) (lay e)) [] (ne-eqb (zoneOn z0 e) z (λ q. n (sym q)))
 
   lay-count : (e : ℕ) → length (lay e) ≡ 1 + c
   unfolding lay
   lay-count e = ap suc (moved-count e cs 0) ∙ omega arith
-
-  empty-a : (e : ℕ) → e < p .N → pointerAt va e (zoneOn z0 e) ≡ 0
-  empty-a e he = drop-empty p r v sh acc z0 hz0 fz e he
 
   c-low : c ≤ p .S
   c-low = counted-low p 0 x
@@ -279,15 +333,13 @@ module _ (p : Params) (r : Ranged p) (v : View) (sh : Shaped p v) (acc : Accepte
   counted! : (s : ℕ) → In s cs → counts p 0 x s ≡ true
   counted! s m = counted-in p 0 x s m .1
 
-  lay-at : (e i : ℕ) → e < p .N → i < c → (b : List ℕ) × (q : Rec) × (getD (lay e) (suc i) noChunk ≡ mkChunk b (recordBytes q)) × (length b ≡ p .B) × (q .stripe ≡ i)
+  lay-at : (e i : ℕ) → i < c → getD (lay e) (suc i) noChunk ≡ pieceChunk (on (getD cs i 0) i e)
   unfolding lay
-  lay-at e i he h =
-      let (s, m, q) = moved-at e cs 0 i h in
-      let z : 0 + i ≡ i = zero-add i in
-      (on s (0 + i) e .block, on s (0 + i) e .rec, q ∙ piece! (on s (0 + i) e), moved-long s (0 + i) (counted! s m) e he, moved-stripe s (0 + i) e he ∙ z)
-    where
-      piece! : (q : Piece) → pieceChunk q ≡ mkChunk (q .block) (recordBytes (q .rec))
-      piece! q = unfold pieceChunk in refl
+  lay-at e i h = moved-at e cs 0 i h ∙ ap (λ (n : ℕ). pieceChunk (on (getD cs i 0) n e)) (zero-add i)
+
+  -- the stripe that becomes stripe i
+  from-counts : (i : ℕ) → i < c → counts p 0 x (getD cs i 0) ≡ true
+  from-counts i h = counted! (getD cs i 0) (in-getD cs i 0 h)
 
   lay-room : (e : ℕ) → e < p .N → Room p 0 (map (putAt e (zoneOn z0 e)) (lay e))
   lay-room e he = room-puts p e (zoneOn z0 e) 0 (lay e) (let a = lay-count e in let b = c-low in let k = capacity-over p r in omega arith) go
@@ -296,45 +348,37 @@ module _ (p : Params) (r : Ranged p) (v : View) (sh : Shaped p v) (acc : Accepte
       go zero h = first!
         where
           first! : SoundChunk p 0 (getD (lay e) 0 noChunk)
-          first! = unfold lay in header-sound p r e (zonesIn p z0) sn (x .serial)
+          first! = unfold lay in header-sound p r e (zonesIn p z0) sn (x .serial) (zones-in-long p z0)
       go (suc i) h =
           let l : i < c = (let a = lay-count e in omega arith) in
-          let (b, q, f, lb, st) = lay-at e i he l in
           let w : 0 + suc i ≡ suc i = zero-add (suc i) in
           subst (λ (n : ℕ). SoundChunk p n (getD (lay e) (suc i) noChunk)) (sym w)
-          (subst (λ (y : Chunk). SoundChunk p (suc i) y) (sym f) (data-sound p (suc i) b q (omega arith) (let k = c-low in omega arith) lb))
+          (subst (λ (y : Chunk). SoundChunk p (suc i) y) (sym (lay-at e i l))
+          (piece! (on (getD cs i 0) i e) (moved-long (getD cs i 0) i (from-counts i l) e he) (let k = c-low in omega arith)))
+        where
+          piece! : (q : Piece) → length (q .block) ≡ p .B → suc i ≤ p .S → SoundChunk p (suc i) (pieceChunk q)
+          piece! q lb k = unfold pieceChunk in data-sound p (suc i) (q .block) (q .rec) (omega arith) k lb
 
-  rewrite-roomy : Roomy p va ts
-  rewrite-roomy e k he hk = by-seg (λ n. Room p (pointerAt va e n) (hits e n ts)) p e k he hk (λ y hy. go y hy (segs-differ z0 y) (segs-differ g y))
+  puts-roomy : Roomy p va ps
+  puts-roomy e z he hz = go (ℕ-discrete z (zoneOn z0 e))
     where
-      go : (y : Seg) → Named p y → Dec (z0 ≡ y) → Dec (g ≡ y) → Room p (pointerAt va e (zoneOn y e)) (hits e (zoneOn y e) ts)
-      go y hy (yes a) b =
-          subst (λ (n : Seg). Room p (pointerAt va e (zoneOn n e)) (hits e (zoneOn n e) ts)) a
+      go : Dec (z ≡ zoneOn z0 e) → Room p (pointerAt va e z) (hits e z ps)
+      go (yes q) =
+          subst (λ (n : ℕ). Room p (pointerAt va e n) (hits e n ps)) (sym q)
           (subst (λ (l : List Store). Room p (pointerAt va e (zoneOn z0 e)) l) (sym (hits-new e he))
-          (subst (λ (n : ℕ). Room p n (map (putAt e (zoneOn z0 e)) (lay e))) (sym (empty-a e he)) (lay-room e he)))
-      go y hy (no a) (yes b) =
-          subst (λ (n : Seg). Room p (pointerAt va e (zoneOn n e)) (hits e (zoneOn n e) ts)) b (subst (λ (l : List Store). Room p (pointerAt va e (zoneOn g e)) l) (sym (hits-old e he)) tt)
-      go y hy (no a) (no b) = subst (λ (l : List Store). Room p (pointerAt va e (zoneOn y e)) l) (sym (hits-else e y he hy a b)) tt
+          (subst (λ (n : ℕ). Room p n (map (putAt e (zoneOn z0 e)) (lay e))) (sym (vz .vacant-empty e he)) (lay-room e he)))
+      go (no n) = subst (λ (l : List Store). Room p (pointerAt va e z) l) (sym (hits-else e z he n)) tt
 
-  rewrite-within : (s : Store) → In s ts → Within p s
-  rewrite-within s m = ⊎-elim (λ a. ⊎-elim (λ b. header! b) (λ b. moved! cs 0 b) (in-append s (headerStores p z0 sn (x .serial)) (movedStripes p x z0 cs 0) a)) (λ a. reset! a)
-      (in-append s (headerStores p z0 sn (x .serial) ++ movedStripes p x z0 cs 0) (resetStores p (x .seg)) (as! m))
+  puts-within : (s : Store) → In s ps → Within p s
+  puts-within s m =
+      within-append p (headerStores p z0 sn (x .serial)) (movedStripes p x z0 cs 0) (λ s m. header-within p r va sha z0 sn (x .serial) vz s m) (λ s m. moved! s cs 0 m) s m
     where
-      as! : In s ts → In s ((headerStores p z0 sn (x .serial) ++ movedStripes p x z0 cs 0) ++ resetStores p (x .seg))
-      as! m = unfold rewriteStores in m
-
-      header! : In s (headerStores p z0 sn (x .serial)) → Within p s
-      header! m = header-within p r va sha z0 sn (x .serial) hz0 empty-a s m
-
-      reset! : In s (resetStores p (x .seg)) → Within p s
-      reset! m = reset-within p r va sha g hg s (subst (λ (n : Seg). In s (resetStores p n)) (seg-is p v 0 g) m)
-
-      moved! : (ss : List ℕ) (k : ℕ) → In s (movedStripes p x z0 ss k) → Within p s
-      moved! [] k m = absurd (none! m)
+      moved! : (s : Store) (ss : List ℕ) (k : ℕ) → In s (movedStripes p x z0 ss k) → Within p s
+      moved! s [] k m = absurd (none! m)
         where
           none! : In s (movedStripes p x z0 [] k) → ⊥
           none! m = unfold movedStripes in m
-      moved! (t ∷ ss) k m = ⊎-elim (λ a. one a) (λ a. moved! ss (suc k) a) (in-append s (movedStripe p x z0 t k) (movedStripes p x z0 ss (suc k)) (cs! m))
+      moved! s (t ∷ ss) k m = ⊎-elim (λ a. one a) (λ a. moved! s ss (suc k) a) (in-append s (movedStripe p x z0 t k) (movedStripes p x z0 ss (suc k)) (cs! m))
         where
           cs! : In s (movedStripes p x z0 (t ∷ ss) k) → In s (movedStripe p x z0 t k ++ movedStripes p x z0 ss (suc k))
           cs! m = unfold movedStripes in m
@@ -348,87 +392,251 @@ module _ (p : Params) (r : Ranged p) (v : View) (sh : Shaped p v) (acc : Accepte
               ds! m = unfold movedStripe drivesOf in m
 
               within! : (d : ℕ) → d < p .N → Within p (putPiece d (zoneOn z0 d) (on t k d))
-              within! d h = unfold putPiece in (h, zone-on-lt p z0 d hz0)
+              within! d h = unfold putPiece in (h, vz .vacant-low d h)
 
-  -- ---- the zones after them
+  shb : Shaped p vb
+  shb = shaped-after p va ps sha puts-roomy
 
-  new-zone : (e : ℕ) → e < p .N → zoneAt vc e (zoneOn z0 e) ≡ putAll e (zoneOn z0 e) (lay e) (zoneAt va e (zoneOn z0 e))
-  new-zone e he = zone-after p va e (zoneOn z0 e) ts (sha .sized) he (zone-on-lt p z0 e hz0) ∙ ap (λ (l : List Store). storeAll zoneStore l (zoneAt va e (zoneOn z0 e))) (hits-new e he)
+  -- ---- the zones behind them
 
-  pub old-pointer : (e : ℕ) → e < p .N → pointerAt vc e (zoneOn g e) ≡ 0
-  old-pointer e he =
-      as! (ap (λ (q : Zone). q .pointer)
-      (zone-after p va e (zoneOn g e) ts (sha .sized) he (zone-on-lt p g e hg) ∙ ap (λ (l : List Store). storeAll zoneStore l (zoneAt va e (zoneOn g e))) (hits-old e he) ∙ once)
-      ∙ reset-pointer (zoneAt va e (zoneOn g e)))
+  put-zone : (e : ℕ) → e < p .N → zoneAt vb e (zoneOn z0 e) ≡ putAll e (zoneOn z0 e) (lay e) (zoneAt va e (zoneOn z0 e))
+  put-zone e he = zone-after p va e (zoneOn z0 e) ps (sha .sized) he (vz .vacant-low e he) ∙ ap (λ (l : List Store). storeAll zoneStore l (zoneAt va e (zoneOn z0 e))) (hits-new e he)
+
+  put-other : (e z : ℕ) → e < p .N → z < p .Z → z ≢ zoneOn z0 e → zoneAt vb e z ≡ zoneAt va e z
+  put-other e z he hz n = zone-after p va e z ps (sha .sized) he hz ∙ ap (λ (l : List Store). storeAll zoneStore l (zoneAt va e z)) (hits-else e z he n) ∙ nothing
     where
-      once : storeAll zoneStore (reset e (zoneOn g e) ∷ []) (zoneAt va e (zoneOn g e)) ≡ resetZone (zoneAt va e (zoneOn g e))
-      once = unfold storeAll zoneStore in refl
-
-      as! : zoneAt vc e (zoneOn g e) .pointer ≡ 0 → pointerAt vc e (zoneOn g e) ≡ 0
-      as! q = unfold pointerAt in q
-
-  pub same-else : (y : Seg) → Named p y → (z0 ≡ y → ⊥) → (g ≡ y → ⊥) → SameZones p va vc y
-  same-else y hy a b e he =
-      sym (zone-after p va e (zoneOn y e) ts (sha .sized) he (zone-on-lt p y e hy) ∙ ap (λ (l : List Store). storeAll zoneStore l (zoneAt va e (zoneOn y e))) (hits-else e y he hy a b) ∙ nothing)
-    where
-      nothing : storeAll zoneStore [] (zoneAt va e (zoneOn y e)) ≡ zoneAt va e (zoneOn y e)
+      nothing : storeAll zoneStore [] (zoneAt va e z) ≡ zoneAt va e z
       nothing = unfold storeAll in refl
 
   zero! : (e : ℕ) → e < p .N → zoneAt va e (zoneOn z0 e) .pointer ≡ 0
-  zero! e he = as! (empty-a e he)
+  zero! e he = as! (vz .vacant-empty e he)
     where
       as! : pointerAt va e (zoneOn z0 e) ≡ 0 → zoneAt va e (zoneOn z0 e) .pointer ≡ 0
       as! q = unfold pointerAt in q
 
-  pub new-pointer : (e : ℕ) → e < p .N → pointerAt vc e (zoneOn z0 e) ≡ 1 + c
-  new-pointer e he =
-      as! (ap (λ (q : Zone). q .pointer) (new-zone e he)
+  put-count : (e : ℕ) → e < p .N → zoneAt vb e (zoneOn z0 e) .pointer ≡ 1 + c
+  put-count e he =
+      ap (λ (q : Zone). q .pointer) (put-zone e he)
       ∙ puts-pointer e (zoneOn z0 e) (lay e) (zoneAt va e (zoneOn z0 e))
-      ∙ (let a = zero! e he in let b = lay-count e in let w : zoneAt va e (zoneOn z0 e) .pointer + length (lay e) ≡ 1 + c = omega arith in w))
+      ∙ (let a = zero! e he in let b = lay-count e in let w : zoneAt va e (zoneOn z0 e) .pointer + length (lay e) ≡ 1 + c = omega arith in w)
+
+  put-pointed : (e : ℕ) → e < p .N → pointerAt vb e (zoneOn z0 e) ≡ 1 + c
+  unfolding pointerAt
+  put-pointed e he = put-count e he
+
+  put-block : (e i : ℕ) → e < p .N → i < length (lay e) → getD (zoneAt vb e (zoneOn z0 e) .blocks) i noChunk ≡ getD (lay e) i noChunk
+  put-block e i he h =
+      ap (λ (q : Zone). getD (q .blocks) i noChunk) (put-zone e he)
+      ∙ ap (λ (n : ℕ). getD (putAll e (zoneOn z0 e) (lay e) (zoneAt va e (zoneOn z0 e)) .blocks) n noChunk)
+      (let a = zero! e he in let w : i ≡ zoneAt va e (zoneOn z0 e) .pointer + i = omega arith in w)
+      ∙ puts-new e (zoneOn z0 e) (lay e) (zoneAt va e (zoneOn z0 e)) i h
+      (let a = zero! e he in let b = lay-count e in let d = c-low in let k = capacity-over p r in let l = sha .zone-ok e (zoneOn z0 e) he (vz .vacant-low e he) .blocks-long in
+      omega arith)
+
+  put-head : (e : ℕ) → e < p .N → headerAt vb e z0 ≡ headerBlock p e (zonesIn p z0) sn (x .serial)
+  put-head e he = as! (ap (λ (y : Chunk). y .block) (put-block e 0 he (let a = lay-count e in omega arith)) ∙ first!)
+    where
+      first! : getD (lay e) 0 noChunk .block ≡ headerBlock p e (zonesIn p z0) sn (x .serial)
+      first! = unfold lay in refl
+
+      as! : getD (zoneAt vb e (zoneOn z0 e) .blocks) 0 noChunk .block ≡ headerBlock p e (zonesIn p z0) sn (x .serial) → headerAt vb e z0 ≡ headerBlock p e (zonesIn p z0) sn (x .serial)
+      as! q = unfold headerAt chunkAt in q
+
+  put-serial : (e : ℕ) → e < p .N → headerSerial p (headerAt vb e z0) ≡ sn
+  put-serial e he = ap (headerSerial p) (put-head e he) ∙ header-serial p e (zonesIn p z0) sn (x .serial) (zones-in-long p z0) fit
+
+  serial-g : x .serial ≡ headerSerial p (headerAt v 0 g)
+  serial-g = serial-is p v 0 g ∙ ap (λ (n : ℕ). headerSerial p (headerAt v n g)) (low-first p r)
+
+  serial-g-low : headerSerial p (headerAt v 0 g) < sn
+  serial-g-low = let a = kept-known p r v sh acc g kg in omega arith
+
+  put-copied : headerCopied p (headerAt vb 0 z0) ≡ headerSerial p (headerAt v 0 g)
+  put-copied =
+      ap (headerCopied p) (put-head 0 h0)
+      ∙ header-copied p 0 (zonesIn p z0) sn (x .serial) (zones-in-long p z0) (subst (λ (n : ℕ). n < 256 ^ 8) (sym serial-g) (let a = serial-g-low in let b = fit in omega arith))
+      ∙ serial-g
+
+  -- ---- the segments behind them
+
+  new-headed : Headed p va vb sn (zoneOn z0)
+  new-headed = record {
+    head-low = vz .vacant-low;
+    head-unused = λ d hd. empty-unused p va d (zoneOn z0 d) (vz .vacant-empty d hd);
+    head-used = λ d hd. used! d hd;
+    head-serial = λ d hd. serial! d (put-serial d hd);
+    other-used = λ d z hd hz n. used-zone p va vb d z (offline-after ps va) (put-other d z hd hz n);
+    other-serial = λ d z hd hz n _. same! d z (put-other d z hd hz n);
+    serial-fresh = tidy-unborne p r va (greatestSerial gs) sn (drop-tidy p r v sh acc) (omega arith);
+  }
+    where
+      used! : (d : ℕ) → d < p .N → isUsed p vb d (zoneOn z0 d) ≡ true
+      used! d hd = unfold isUsed in and-both (isGood p (vb .offline) d (zoneOn z0 d)) (not (eqb (pointerAt vb d (zoneOn z0 d)) 0))
+          (ap (λ (l : List ℕ). isGood p l d (zoneOn z0 d)) (offline-after ps va) ∙ vz .vacant-good d hd)
+          (ap not (ne-eqb (pointerAt vb d (zoneOn z0 d)) 0 (λ e. let a = put-pointed d hd in let bad : ⊥ = omega arith in bad)))
+
+      serial! : (d : ℕ) → headerSerial p (headerAt vb d z0) ≡ sn → serialIn p vb d (zoneOn z0 d) ≡ sn
+      serial! d e = unfold serialIn headerAt in e
+
+      same! : (d z : ℕ) → zoneAt vb d z ≡ zoneAt va d z → serialIn p va d z ≡ serialIn p vb d z
+      same! d z e = unfold serialIn in ap (headerSerial p) (head-zone va vb d z e)
+
+  put-keeps : (y : Seg) → There p va y → There p vb y
+  put-keeps = headed-keeps p r va vb sn (zoneOn z0) new-headed
+
+  put-there : There p vb z0
+  put-there = subst (There p vb) (sym (vz .vacant-is)) (headed-there p r va vb sn (zoneOn z0) new-headed)
+
+  put-was : (y : Seg) → There p vb y → There p va y ⊎ (y ≡ z0)
+  put-was y m = ⊎-elim (λ k. inl k) (λ e. inr (e ∙ sym (vz .vacant-is))) (headed-was p r va vb sn (zoneOn z0) new-headed y m)
+
+  rewriting-put-same : (y : Seg) → There p va y → SameZones p va vb y
+  rewriting-put-same y m d hd = sym (put-other d (zoneOn y d) hd (its-zone p r va y m d hd .zone-low) (apart-on y d m hd))
+
+  put-header : (y : Seg) → There p va y → headerAt va 0 y ≡ headerAt vb 0 y
+  put-header y m = zones-header p r va vb y (rewriting-put-same y m)
+
+  abbrev ta : Tidy p va (greatestSerial gs)
+  ta = drop-tidy p r v sh acc
+
+  -- tidy but that the new one is a copy of the old one
+  put-tidy : TidyBut p vb sn g
+  put-tidy = record {
+    but-low = λ d z hd hz q. low d z hd hz q (ℕ-discrete z (zoneOn z0 d));
+    but-together = λ d z hd hz q. tog d z hd hz q (ℕ-discrete z (zoneOn z0 d));
+    but-less = λ y m n. less y (put-was y m);
+    but-known = λ y m n. known y (put-was y m);
+    but-copy = λ y h m n a b e. copy y h a b e (put-was y m) (put-was h n);
+  }
+    where
+      same! : (d z : ℕ) → zoneAt vb d z ≡ zoneAt va d z → pointerAt va d z ≤ capacity p → pointerAt vb d z ≤ capacity p
+      same! d z e k = unfold pointerAt in subst (λ (q : Zone). q .pointer ≤ capacity p) (sym e) k
+
+      low : (d z : ℕ) → d < p .N → z < p .Z → isGood p (vb .offline) d z ≡ true → Dec (z ≡ zoneOn z0 d) → pointerAt vb d z ≤ capacity p
+      low d z hd hz q (yes e) =
+          subst (λ (n : ℕ). pointerAt vb d n ≤ capacity p) (sym e) (let a = put-pointed d hd in let k = c-low in let l = capacity-over p r in omega arith)
+      low d z hd hz q (no n) =
+          same! d z (put-other d z hd hz n) (ta .pointer-low d z hd hz (subst (λ (l : List ℕ). isGood p l d z ≡ true) (offline-after ps va) q))
+
+      tog : (d z : ℕ) → d < p .N → z < p .Z → isUsed p vb d z ≡ true → Dec (z ≡ zoneOn z0 d) → (y : Seg) × There p vb y × (zoneOn y d ≡ z)
+      tog d z hd hz q (yes e) = (z0, put-there, sym e)
+      tog d z hd hz q (no n) =
+          let (y, m, e) = ta .together d z hd hz (used-zone p va vb d z (offline-after ps va) (put-other d z hd hz n) ∙ q) in (y, put-keeps y m, e)
+
+      less : (y : Seg) → There p va y ⊎ (y ≡ z0) → headerCopied p (headerAt vb 0 y) < headerSerial p (headerAt vb 0 y)
+      less y (inl m) = subst (λ (l : List ℕ). headerCopied p l < headerSerial p l) (put-header y m) (ta .copied-less y m)
+      less y (inr e) = subst (λ (n : Seg). headerCopied p (headerAt vb 0 n) < headerSerial p (headerAt vb 0 n)) (sym e)
+          (let a = put-serial 0 h0 in let b = put-copied in let d = serial-g-low in omega arith)
+
+      old-known : (y : Seg) → There p va y → headerSerial p (headerAt vb 0 y) ≤ greatestSerial gs
+      old-known y m = subst (λ (l : List ℕ). headerSerial p l ≤ greatestSerial gs) (put-header y m) (ta .serial-known y m)
+
+      known : (y : Seg) → There p va y ⊎ (y ≡ z0) → headerSerial p (headerAt vb 0 y) ≤ sn
+      known y (inl m) = let a = old-known y m in omega arith
+      known y (inr e) = subst (λ (n : Seg). headerSerial p (headerAt vb 0 n) ≤ sn) (sym e) (le-of-eq (put-serial 0 h0))
+
+      new-is : (y : Seg) → y ≡ z0 → headerSerial p (headerAt vb 0 y) ≡ sn
+      new-is y e = ap (λ (n : Seg). headerSerial p (headerAt vb 0 n)) e ∙ put-serial 0 h0
+
+      hdr-g : headerAt v 0 g ≡ headerAt va 0 g
+      hdr-g = zones-header p r v va g (drop-same p r v sh acc g kg)
+
+      copy :
+          (y h : Seg)
+          → (g ≡ y → ⊥)
+          → (g ≡ h → ⊥)
+          → headerCopied p (headerAt vb 0 y) ≡ headerSerial p (headerAt vb 0 h)
+          → There p va y ⊎ (y ≡ z0)
+          → There p va h ⊎ (h ≡ z0)
+          → ⊥
+      copy y h ny nh e (inl m) (inl n) = ta .no-copy y h m n (ap (headerCopied p) (put-header y m) ∙ e ∙ ap (headerSerial p) (sym (put-header h n)))
+      copy y h ny nh e (inl m) (inr i) =
+          let w = new-is h i in let l = less y (inl m) in let k = old-known y m in let bad : ⊥ = omega arith in bad
+      copy y h ny nh e (inr i) (inl n) =
+          nh (there-serial p r va g h old-there n
+          (ap (headerSerial p) (sym hdr-g) ∙ sym (ap (λ (n : Seg). headerCopied p (headerAt vb 0 n)) i ∙ put-copied) ∙ e ∙ ap (headerSerial p) (sym (put-header h n))))
+      copy y h ny nh e (inr i) (inr j) =
+          let w = new-is h j in
+          let f : headerCopied p (headerAt vb 0 y) ≡ headerSerial p (headerAt v 0 g) = ap (λ (n : Seg). headerCopied p (headerAt vb 0 n)) i ∙ put-copied in
+          let d = serial-g-low in
+          let bad : ⊥ = omega arith in bad
+
+  -- ---- then the old zones are reset
+
+  gb : There p vb g
+  gb = put-keeps g old-there
+
+  lowb : ZonesLow p 0 g
+  lowb = its-zones-low p r vb g gb
+
+  alb : Alone p vb g
+  alb = together-alone p r vb (put-tidy .but-together) g gb
+
+  pub rewrite-tidy : Tidy p vc sn
+  rewrite-tidy = subst (λ (w : View). Tidy p w sn) (sym vc-is) (reset-tidy-but p r vb shb g gb sn put-tidy)
+
+  pub rewrite-roomy : Roomy p va ts
+  rewrite-roomy = subst (λ (l : List Store). Roomy p va l) (sym ts-is) (roomy-append p va ps (resetStores p g) (sha .sized) puts-roomy (reset-roomy p r vb shb g lowb))
+
+  pub rewrite-within : (s : Store) → In s ts → Within p s
+  rewrite-within s m = within-append p ps (resetStores p g) puts-within (reset-within p r vb shb g lowb) s (subst (λ (l : List Store). In s l) ts-is m)
+
+  -- what each zone holds behind all of them
+  new-same : (e : ℕ) → e < p .N → zoneAt vc e (zoneOn z0 e) ≡ zoneAt vb e (zoneOn z0 e)
+  new-same e he =
+      ap (λ (w : View). zoneAt w e (zoneOn z0 e)) vc-is
+      ∙ reset-other p r vb shb g lowb e (zoneOn z0 e) he (vz .vacant-low e he) (λ q. apart-on g e old-there he (sym q))
+
+  pub zone-else : (e z : ℕ) → e < p .N → z < p .Z → z ≢ zoneOn z0 e → z ≢ zoneOn g e → zoneAt vc e z ≡ zoneAt va e z
+  zone-else e z he hz a b = ap (λ (w : View). zoneAt w e z) vc-is ∙ reset-other p r vb shb g lowb e z he hz b ∙ put-other e z he hz a
+
+  -- the other segments stay as they were
+  pub same-else : (y : Seg) → In y (remaining p v 0) → (g ≡ y → ⊥) → SameZones p va vc y
+  same-else y k n e he =
+      let m = drop-there p r v sh acc y k in
+      sym (zone-else e (zoneOn y e) he (its-zone p r va y m e he .zone-low) (apart-on y e m he) (λ q. n (there-once p r va g y e old-there m he (sym q))))
+
+  pub new-there : There p vc z0
+  new-there = subst (λ (w : View). There p w z0) (sym vc-is) (reset-keeps p r vb shb g gb alb z0 put-there (λ e. new-other g old-there (sym e)))
+
+  -- what is there: the new one, and what remained but for the old one
+  pub used-moved : (y : Seg) → There p vc y → (y ≡ z0) ⊎ (In y (remaining p v 0) × ((z0 ≡ y → ⊥) × (g ≡ y → ⊥)))
+  used-moved y m =
+      let (k, n) = reset-was p r vb shb g gb alb y (subst (λ (w : View). There p w y) vc-is m) in
+      ⊎-elim (λ i. inr (there-kept p r v sh acc y i, (new-other y i, n))) (λ e. inl e) (put-was y k)
+
+  pub new-pointer : (e : ℕ) → e < p .N → pointerAt vc e (zoneOn z0 e) ≡ 1 + c
+  new-pointer e he = as! (ap (λ (q : Zone). q .pointer) (new-same e he) ∙ put-count e he)
     where
       as! : zoneAt vc e (zoneOn z0 e) .pointer ≡ 1 + c → pointerAt vc e (zoneOn z0 e) ≡ 1 + c
       as! q = unfold pointerAt in q
 
   new-block : (e i : ℕ) → e < p .N → i < length (lay e) → getD (zoneAt vc e (zoneOn z0 e) .blocks) i noChunk ≡ getD (lay e) i noChunk
-  new-block e i he h =
-      ap (λ (q : Zone). getD (q .blocks) i noChunk) (new-zone e he)
-      ∙ ap (λ (n : ℕ). getD (putAll e (zoneOn z0 e) (lay e) (zoneAt va e (zoneOn z0 e)) .blocks) n noChunk)
-      (let a = zero! e he in let w : i ≡ zoneAt va e (zoneOn z0 e) .pointer + i = omega arith in w)
-      ∙ puts-new e (zoneOn z0 e) (lay e) (zoneAt va e (zoneOn z0 e)) i h
-      (let a = zero! e he in let b = lay-count e in let d = c-low in let k = capacity-over p r in let l = sha .zone-ok e (zoneOn z0 e) he (zone-on-lt p z0 e hz0) .blocks-long in
-      omega arith)
+  new-block e i he h = ap (λ (q : Zone). getD (q .blocks) i noChunk) (new-same e he) ∙ put-block e i he h
+
+  -- the chunk at offset o: the counted stripe at o, moved
+  pub new-chunk : (e o : ℕ) → e < p .N → o < c → getD (zoneAt vc e (zoneOn z0 e) .blocks) (1 + o) noChunk ≡ pieceChunk (movedOn p (movedPieces p x (getD cs o 0) o) o e)
+  new-chunk e o he h =
+      ap (λ (n : ℕ). getD (zoneAt vc e (zoneOn z0 e) .blocks) n noChunk) (let z : 1 + o ≡ suc o = omega arith in z)
+      ∙ new-block e (suc o) he (let a = lay-count e in omega arith)
+      ∙ lay-at e o h
+
+  -- and its record
+  pub new-record : (e o : ℕ) → e < p .N → o < c → spareAt p vc e (zoneOn z0 e) o ≡ recordOf (recordBytes (movedOn p (movedPieces p x (getD cs o 0) o) o e .rec))
+  new-record e o he h = as! (new-chunk e o he h)
+    where
+      as! :
+          getD (zoneAt vc e (zoneOn z0 e) .blocks) (1 + o) noChunk ≡ pieceChunk (on (getD cs o 0) o e)
+          → spareAt p vc e (zoneOn z0 e) o ≡ recordOf (recordBytes (on (getD cs o 0) o e .rec))
+      as! w = unfold recordIn pieceChunk in ap (λ (y : Chunk). recordOf (y .spare)) w
 
   -- stripe o lies at offset o
   pub new-stripe : (e o : ℕ) → e < p .N → o < c → spareAt p vc e (zoneOn z0 e) o .stripe ≡ o
   new-stripe e o he h =
-      let (b, q, f, lb, st) = lay-at e o he h in
-      let w : getD (zoneAt vc e (zoneOn z0 e) .blocks) (1 + o) noChunk ≡ mkChunk b (recordBytes q) =
-      ap (λ (n : ℕ). getD (zoneAt vc e (zoneOn z0 e) .blocks) n noChunk) (let z : 1 + o ≡ suc o = omega arith in z)
-      ∙ new-block e (suc o) he (let a = lay-count e in omega arith)
-      ∙ f in
-      as! b q w (record-stripe q (subst (λ (n : ℕ). n < 256 ^ 4) (sym st) (let a = c-low in let k = r .stripes-high in omega arith)) ∙ st)
-    where
-      as! : (b : List ℕ) (q : Rec) → getD (zoneAt vc e (zoneOn z0 e) .blocks) (1 + o) noChunk ≡ mkChunk b (recordBytes q) → recordOf (recordBytes q) .stripe ≡ o
-          → spareAt p vc e (zoneOn z0 e) o .stripe ≡ o
-      as! b q w u = unfold recordIn in (ap (λ (y : Chunk). recordOf (y .spare) .stripe) w ∙ u)
-
-  -- its record is that of a counted stripe, moved
-  pub new-record : (e o : ℕ) → e < p .N → o < c → (s : ℕ) × In s cs × (spareAt p vc e (zoneOn z0 e) o ≡ recordOf (recordBytes (movedOn p (movedPieces p x s o) o e .rec)))
-  new-record e o he h =
-      let (s, m, q) = moved-at e cs 0 o h in
-      let w : getD (zoneAt vc e (zoneOn z0 e) .blocks) (1 + o) noChunk ≡ pieceChunk (on s o e) =
-      ap (λ (n : ℕ). getD (zoneAt vc e (zoneOn z0 e) .blocks) n noChunk) (let z : 1 + o ≡ suc o = omega arith in z)
-      ∙ new-block e (suc o) he (let a = lay-count e in omega arith)
-      ∙ behind
-      ∙ q
-      ∙ ap (λ (n : ℕ). pieceChunk (on s n e)) (zero-add o) in
-      (s, m, as! s w)
-    where
-      behind : getD (lay e) (suc o) noChunk ≡ getD (movedChunks e cs 0) o noChunk
-      behind = unfold lay in refl
-
-      as! : (s : ℕ) → getD (zoneAt vc e (zoneOn z0 e) .blocks) (1 + o) noChunk ≡ pieceChunk (on s o e) → spareAt p vc e (zoneOn z0 e) o ≡ recordOf (recordBytes (on s o e .rec))
-      as! s w = unfold recordIn pieceChunk in ap (λ (y : Chunk). recordOf (y .spare)) w
+      let st = moved-stripe (getD cs o 0) o e he in
+      ap (λ (q : Rec). q .stripe) (new-record e o he h)
+      ∙ record-stripe (on (getD cs o 0) o e .rec) (subst (λ (n : ℕ). n < 256 ^ 4) (sym st) (let a = c-low in let k = r .stripes-high in omega arith))
+      ∙ st
 
   -- its header, on each drive
   pub new-header : (e : ℕ) → e < p .N → getD (zoneAt vc e (zoneOn z0 e) .blocks) 0 noChunk ≡ mkChunk (headerBlock p e (zonesIn p z0) sn (x .serial)) zeroSpare
@@ -436,15 +644,6 @@ module _ (p : Params) (r : Ranged p) (v : View) (sh : Shaped p v) (acc : Accepte
     where
       first! : getD (lay e) 0 noChunk ≡ mkChunk (headerBlock p e (zonesIn p z0) sn (x .serial)) zeroSpare
       first! = unfold lay in refl
-
-  new-head : headerAt vc 0 z0 ≡ headerBlock p 0 (zonesIn p z0) sn (x .serial)
-  new-head = as! (ap (λ (y : Chunk). y .block) (new-block 0 0 h0 (let a = lay-count 0 in omega arith)) ∙ first!)
-    where
-      first! : getD (lay 0) 0 noChunk .block ≡ headerBlock p 0 (zonesIn p z0) sn (x .serial)
-      first! = unfold lay in refl
-
-      as! : getD (zoneAt vc 0 (zoneOn z0 0) .blocks) 0 noChunk .block ≡ headerBlock p 0 (zonesIn p z0) sn (x .serial) → headerAt vc 0 z0 ≡ headerBlock p 0 (zonesIn p z0) sn (x .serial)
-      as! e = unfold headerAt chunkAt in e
 
   -- ---- the new segment is steady
 
@@ -476,6 +675,7 @@ module _ (p : Params) (r : Ranged p) (v : View) (sh : Shaped p v) (acc : Accepte
     moved-by-spare : (e o : ℕ) → recordIn p (sealedIn p vc 0 z0) (zoneAt vc e (zoneOn z0 e)) o ≡ spareAt p vc e (zoneOn z0 e) o
     moved-by-spare e o = ap (λ (w : Bool). recordIn p w (zoneAt vc e (zoneOn z0 e)) o) open-now
 
+    -- its counted stripes are 0 to c - 1
     counts-are : (s : ℕ) → s < p .S → counts p 0 y0 s ≡ ltb s c
     counts-are s h = go (decLt s c)
       where
@@ -493,125 +693,23 @@ module _ (p : Params) (r : Ranged p) (v : View) (sh : Shaped p v) (acc : Accepte
             ∙ w in let bad : ⊥ = omega arith in bad)))
             ∙ sym (le-ltb s c (omega arith))
 
+    pub new-counted : counted p 0 y0 ≡ below c
+    unfolding counted below
+    new-counted = keep-cong (counts p 0 y0) (λ s. ltb s c) (upFrom 0 (p .S)) (λ s m. counts-are s (let (a, b) = from-in 0 (p .S) s m in omega arith))
+        ∙ keep-firsts c 0 (p .S) (omega arith) (let a = c-low in omega arith)
+        ∙ ap (upFrom 0) (let e : c - 0 ≡ c = omega arith in e)
+
     new-count : length (counted p 0 y0) ≡ c
-    new-count = as! (ap length (keep-cong (counts p 0 y0) (λ s. ltb s c) (below (p .S)) (λ s m. counts-are s (below-in (p .S) s m))) ∙ keep-below c (p .S) c-low)
-      where
-        as! : length (keep (counts p 0 y0) (below (p .S))) ≡ c → length (counted p 0 y0) ≡ c
-        as! e = unfold counted in e
+    new-count = ap length new-counted ∙ length-below c
 
-    new-used : usedAt vc z0 ≡ true
-    new-used = ap not (ne-eqb (pointerAt vc 0 (zoneOn z0 0)) 0 (λ q. let a = new-pointer 0 h0 in let bad : ⊥ = omega arith in bad))
-
-    new-steady : Steady p vc z0 c
+    pub new-steady : Steady p vc z0 c
     new-steady = record {
-      steady-low = hz0;
-      steady-used = new-used;
+      steady-low = new-there;
       steady-few = few!;
       steady-pointer = new-pointer;
       steady-stripes = λ e o he h. subst (λ (n : ℕ). n < c) (sym (new-stripe e o he h)) h;
       steady-count = new-count;
     }
-
-    -- ---- the view is tidy
-
-    pub used-moved : (y : Seg) → Named p y → usedAt vc y ≡ true → (y ≡ z0) ⊎ ((keeps! y ≡ true) × ((z0 ≡ y → ⊥) × (g ≡ y → ⊥)))
-    used-moved y hy q = go (segs-differ z0 y) (segs-differ g y)
-      where
-        go : Dec (z0 ≡ y) → Dec (g ≡ y) → (y ≡ z0) ⊎ ((keeps! y ≡ true) × ((z0 ≡ y → ⊥) × (g ≡ y → ⊥)))
-        go (yes a) b = inl (sym a)
-        go (no a) (yes b) = clash q (ap not (eq-eqb (pointerAt vc 0 (zoneOn y 0)) 0 (ap (λ (n : Seg). pointerAt vc 0 (zoneOn n 0)) (sym b) ∙ old-pointer 0 h0)))
-        go (no a) (no b) = inr (sym (drop-used p r v sh acc y hy) ∙ zones-used p r va vc y (same-else y hy a b) ∙ q, (a, b))
-
-    hdr! : (y : Seg) → Named p y → keeps! y ≡ true → (z0 ≡ y → ⊥) → (g ≡ y → ⊥) → headerAt v 0 y ≡ headerAt vc 0 y
-    hdr! y hy k a b = zones-header p r v va y (drop-same p r v sh acc y hy k) ∙ zones-header p r va vc y (same-else y hy a b)
-
-    serial-new : headerSerial p (headerAt vc 0 z0) ≡ sn
-    serial-new = ap (headerSerial p) new-head ∙ header-serial p 0 (zonesIn p z0) sn (x .serial) fit
-
-    serial-g : x .serial ≡ headerSerial p (headerAt v 0 g)
-    serial-g = serial-is p v 0 g ∙ ap (λ (n : ℕ). headerSerial p (headerAt v n g)) (low-first p r)
-
-    serial-g-low : headerSerial p (headerAt v 0 g) < sn
-    serial-g-low = let a = kept-known p r v sh acc g hg kg in omega arith
-
-    copied-new : headerCopied p (headerAt vc 0 z0) ≡ headerSerial p (headerAt v 0 g)
-    copied-new =
-        let low : headerSerial p (headerAt v 0 g) < 256 ^ 8 = let a = serial-g-low in let b = fit in omega arith in
-        ap (headerCopied p) new-head ∙ header-copied p 0 (zonesIn p z0) sn (x .serial) (subst (λ (n : ℕ). n < 256 ^ 8) (sym serial-g) low) ∙ serial-g
-
-    rewrite-tidy : Tidy p vc sn
-    rewrite-tidy = record {
-      pointer-low = λ d z hd hz. low d z hd hz (segs-differ z0 z) (segs-differ g z);
-      together = λ d z hd hz. tog d z hd hz (segs-differ z0 z) (segs-differ g z);
-      copied-less = λ z hz q. less z hz (used-moved z hz q);
-      serial-known = λ z hz q. known z hz (used-moved z hz q);
-      serial-once = λ y z hy hz a b e. once y z hy hz e (used-moved y hy a) (used-moved z hz b);
-      no-copy = λ y z hy hz a b e. nc y z hy hz e (used-moved y hy a) (used-moved z hz b);
-    }
-      where
-        low : (d : ℕ) (z : Seg) → d < p .N → Named p z → Dec (z0 ≡ z) → Dec (g ≡ z) → pointerAt vc d (zoneOn z d) ≤ capacity p
-        low d z hd hz (yes a) b = subst (λ (n : Seg). pointerAt vc d (zoneOn n d) ≤ capacity p) a (let e = new-pointer d hd in let k = c-low in let l = capacity-over p r in omega arith)
-        low d z hd hz (no a) (yes b) = subst (λ (n : Seg). pointerAt vc d (zoneOn n d) ≤ capacity p) b (let e = old-pointer d hd in omega arith)
-        low d z hd hz (no a) (no b) = subst (λ (n : ℕ). n ≤ capacity p) (zones-pointer p r va vc z (same-else z hz a b) d hd) (drop-tidy p r v sh acc .pointer-low d z hd hz)
-
-        tog : (d : ℕ) (z : Seg) → d < p .N → Named p z → Dec (z0 ≡ z) → Dec (g ≡ z) → eqb (pointerAt vc d (zoneOn z d)) 0 ≡ eqb (pointerAt vc 0 (zoneOn z 0)) 0
-        tog d z hd hz (yes a) b =
-            subst (λ (n : Seg). eqb (pointerAt vc d (zoneOn n d)) 0 ≡ eqb (pointerAt vc 0 (zoneOn n 0)) 0) a (ap (λ (n : ℕ). eqb n 0) (new-pointer d hd ∙ sym (new-pointer 0 h0)))
-        tog d z hd hz (no a) (yes b) =
-            subst (λ (n : Seg). eqb (pointerAt vc d (zoneOn n d)) 0 ≡ eqb (pointerAt vc 0 (zoneOn n 0)) 0) b (ap (λ (n : ℕ). eqb n 0) (old-pointer d hd ∙ sym (old-pointer 0 h0)))
-        tog d z hd hz (no a) (no b) =
-            ap (λ (n : ℕ). eqb n 0) (sym (zones-pointer p r va vc z (same-else z hz a b) d hd))
-            ∙ drop-tidy p r v sh acc .together d z hd hz
-            ∙ ap (λ (n : ℕ). eqb n 0) (zones-pointer p r va vc z (same-else z hz a b) 0 h0)
-
-        less : (z : Seg) → Named p z → (z ≡ z0) ⊎ ((keeps! z ≡ true) × ((z0 ≡ z → ⊥) × (g ≡ z → ⊥))) → headerCopied p (headerAt vc 0 z) < headerSerial p (headerAt vc 0 z)
-        less z hz (inl e) =
-            subst (λ (n : Seg). headerCopied p (headerAt vc 0 n) < headerSerial p (headerAt vc 0 n)) (sym e) (let a = serial-new in let b = copied-new in let d = serial-g-low in omega arith)
-        less z hz (inr (k, (a, b))) = subst (λ (l : List ℕ). headerCopied p l < headerSerial p l) (hdr! z hz k a b) (kept-less p r v sh acc z hz k)
-
-        known : (z : Seg) → Named p z → (z ≡ z0) ⊎ ((keeps! z ≡ true) × ((z0 ≡ z → ⊥) × (g ≡ z → ⊥))) → headerSerial p (headerAt vc 0 z) ≤ sn
-        known z hz (inl e) = subst (λ (n : Seg). headerSerial p (headerAt vc 0 n) ≤ sn) (sym e) (le-of-eq serial-new)
-        known z hz (inr (k, (a, b))) = subst (λ (l : List ℕ). headerSerial p l ≤ sn) (hdr! z hz k a b) (let d = kept-known p r v sh acc z hz k in omega arith)
-
-        old-low : (z : Seg) → Named p z → keeps! z ≡ true → (z0 ≡ z → ⊥) → (g ≡ z → ⊥) → headerSerial p (headerAt vc 0 z) ≤ greatestSerial gs
-        old-low z hz k a b = subst (λ (l : List ℕ). headerSerial p l ≤ greatestSerial gs) (hdr! z hz k a b) (kept-known p r v sh acc z hz k)
-
-        new-is : (y : Seg) → y ≡ z0 → headerSerial p (headerAt vc 0 y) ≡ sn
-        new-is y e = ap (λ (n : Seg). headerSerial p (headerAt vc 0 n)) e ∙ serial-new
-
-        once :
-            (y z : Seg)
-            → Named p y
-            → Named p z
-            → headerSerial p (headerAt vc 0 y) ≡ headerSerial p (headerAt vc 0 z)
-            → (y ≡ z0) ⊎ ((keeps! y ≡ true) × ((z0 ≡ y → ⊥) × (g ≡ y → ⊥)))
-            → (z ≡ z0) ⊎ ((keeps! z ≡ true) × ((z0 ≡ z → ⊥) × (g ≡ z → ⊥)))
-            → y ≡ z
-        once y z hy hz e (inl a) (inl b) = a ∙ sym b
-        once y z hy hz e (inl a) (inr (k, (m, n))) = absurd (let w = new-is y a in let l = old-low z hz k m n in let bad : ⊥ = omega arith in bad)
-        once y z hy hz e (inr (k, (m, n))) (inl b) = absurd (let w = new-is z b in let l = old-low y hy k m n in let bad : ⊥ = omega arith in bad)
-        once y z hy hz e (inr (k, (m, n))) (inr (k2, (m2, n2))) = kept-once p r v sh acc y z hy hz k k2 (ap (headerSerial p) (hdr! y hy k m n) ∙ e ∙ ap (headerSerial p) (sym (hdr! z hz k2 m2 n2)))
-
-        nc :
-            (y z : Seg)
-            → Named p y
-            → Named p z
-            → headerCopied p (headerAt vc 0 y) ≡ headerSerial p (headerAt vc 0 z)
-            → (y ≡ z0) ⊎ ((keeps! y ≡ true) × ((z0 ≡ y → ⊥) × (g ≡ y → ⊥)))
-            → (z ≡ z0) ⊎ ((keeps! z ≡ true) × ((z0 ≡ z → ⊥) × (g ≡ z → ⊥)))
-            → ⊥
-        nc y z hy hz e (inl a) (inl b) =
-            let w = new-is z b in
-            let f : headerCopied p (headerAt vc 0 y) ≡ headerSerial p (headerAt v 0 g) = ap (λ (n : Seg). headerCopied p (headerAt vc 0 n)) a ∙ copied-new in
-            let d = serial-g-low in
-            let bad : ⊥ = omega arith in bad
-        nc y z hy hz e (inl a) (inr (k, (m, n))) =
-            let f : headerSerial p (headerAt v 0 g) ≡ headerSerial p (headerAt v 0 z) = sym (ap (λ (n : Seg). headerCopied p (headerAt vc 0 n)) a ∙ copied-new) ∙ e
-            ∙ ap (headerSerial p) (sym (hdr! z hz k m n)) in
-            n (kept-once p r v sh acc g z hg hz kg k f)
-        nc y z hy hz e (inr (k, (m, n))) (inl b) = let w = new-is z b in let l = less y hy (inr (k, (m, n))) in let d = old-low y hy k m n in let bad : ⊥ = omega arith in bad
-        nc y z hy hz e (inr (k, (m, n))) (inr (k2, (m2, n2))) =
-            kept-no-copy p r v sh acc y z hy hz k k2 (ap (headerCopied p) (hdr! y hy k m n) ∙ e ∙ ap (headerSerial p) (sym (hdr! z hz k2 m2 n2)))
 
     pub mend-rewrite : Mended p va ts
     mend-rewrite = record {
@@ -619,12 +717,12 @@ module _ (p : Params) (r : Ranged p) (v : View) (sh : Shaped p v) (acc : Accepte
       mend-within = rewrite-within;
       mend-bound = sn;
       mend-tidy = rewrite-tidy;
-      mend-rest = rest-open z0 c new-steady (λ z hz q n. sealed! z hz n (used-moved z hz q));
+      mend-rest = rest-open z0 c new-steady (λ z q n. sealed! z n (used-moved z q));
     }
       where
-        sealed! : (z : Seg) → Named p z → (z ≡ z0 → ⊥) → (z ≡ z0) ⊎ ((keeps! z ≡ true) × ((z0 ≡ z → ⊥) × (g ≡ z → ⊥))) → SealedAll p vc z
-        sealed! z hz n (inl e) = absurd (n e)
-        sealed! z hz n (inr (k, (a, b))) =
-            λ d hd. sym (zones-pointer p r va vc z (same-else z hz a b) d hd)
-            ∙ sym (zones-pointer p r v va z (drop-same p r v sh acc z hz k) d hd)
-            ∙ sealed-full p v z (oth z hz k (λ q. b (sym q))) d hd
+        sealed! : (z : Seg) → (z ≡ z0 → ⊥) → (z ≡ z0) ⊎ (In z (remaining p v 0) × ((z0 ≡ z → ⊥) × (g ≡ z → ⊥))) → SealedAll p vc z
+        sealed! z n (inl e) = absurd (n e)
+        sealed! z n (inr (k, (a, b))) =
+            λ d hd. sym (zones-pointer p r va vc z (same-else z k b) d hd)
+            ∙ sym (zones-pointer p r v va z (drop-same p r v sh acc z k) d hd)
+            ∙ sealed-full p v z (oth z k (λ q. b (sym q))) d hd

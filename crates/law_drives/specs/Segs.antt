@@ -3,22 +3,23 @@ use mathlib.Core.Path.{_≡_, refl, sym, ap, ap₂, _∙_, subst}
 use mathlib.Core.List.{List, [], map}
 use mathlib.Core.Bool.{Bool, true, false, cond, not}
 use Prim.Native.Nat.{ℕ, _+_, _<_}
-use borrow.Author.Tests.{eq-eqb, ne-eqb, eqb-true, eqb-false, not-true}
+use borrow.Author.Tests.{eq-eqb, ne-eqb, eqb-true, eqb-false}
 use native.Mathlib.Omega.{arith}
 use lib.Dec.{eqb}
 use lib.ListN.{length, getD, length-map}
 use Rattle.spec.specs.declared.Params.{Params}
-use Rattle.spec.specs.Drives.{noChunk, Zone, noZone, View, zoneAt, pointerAt, chunkAt, allSegs, zoneOn, sealedIn, dataStored, recordIn, recordAt, sameSeg, across}
+use Rattle.spec.specs.Drives.{noChunk, Zone, noZone, View, zoneAt, chunkAt, zoneOn, sealedIn, dataStored, recordIn, recordAt, sameSeg}
 use Rattle.spec.specs.Layout.{dataDrive, dataDrives, headerSerial, headerCopied, Rec, mkRec}
-use Rattle.spec.specs.Lists.{below, all, any, keep, indexOf, isIn}
-use Rattle.spec.specs.Params.{dataCount, drivesOf, present}
+use Rattle.spec.specs.Lists.{below, keep, indexOf, isIn, any}
+use Rattle.spec.specs.Params.{dataCount, drivesOf}
 use Rattle.spec.specs.Parity.{Piece, mkPiece}
 use Rattle.spec.specs.Rank.{Cand}
 use Rattle.spec.specs.Read.{storedAt}
 use Rattle.spec.specs.Segments.{lowDrive, headerAt, leftBy1, isCopy, remaining, Segment, recordsIn, segmentOf, segments, recsOn, offsetOn, hasChunk, counts}
 use Rattle.spec.specs.Segments.{counted, storedRec, candOf, segmentCands, candidates, storedPiece, pieceOf, recOf}
 use Rattle.law_basic.specs.Ranges.{Test, test, length-below, getD-map-below}
-use Rattle.law_basic.specs.Segs.{Named, seg-named, named-number, segs-are, seg-true, seg-self}
+use Rattle.law_basic.specs.Segs.{ZonesLow, seg-self, seg-true}
+use Rattle.law_drives.specs.Gather.{left-in, left-once}
 use Rattle.law_basic.specs.Ranges.Test.{yes!, no! }
 use Rattle.law_code.specs.Chunks.{chunk-stored, chunk-decoded, rec-here, rec-lost}
 use Rattle.law_code.specs.Code.{decode-apart, decode-rec-same}
@@ -26,28 +27,7 @@ use Rattle.law_drives.specs.Members.{In, in-map, map-in, in-flat, flat-i
 use Rattle.law_drives.specs.Tests.{not-so, cond-true, cond-false}
 use Rattle.spec.specs.declared.Seg.{Seg}
 
--- ---- drives that are present
-
-pub present-in : (p : Params) (gone d : ℕ) → In d (present p gone) → (d < p .N) × (isIn gone d ≡ false)
-unfolding present drivesOf
-present-in p gone d m = let (i, q) = keep-in (λ d. not (isIn gone d)) (below (p .N)) d m in (below-in (p .N) d i, not-true (isIn gone d) q)
-
-pub in-present : (p : Params) (gone d : ℕ) → d < p .N → isIn gone d ≡ false → In d (present p gone)
-unfolding present drivesOf
-in-present p gone d h q = in-keep (λ d. not (isIn gone d)) (below (p .N)) d (in-below (p .N) d h) (ap not q)
-
--- ---- the segments that there may be
-
-pub segs-in : (p : Params) (g : Seg) → In g (allSegs p) → Named p g
-segs-in p g m =
-    let (n, i, e) = map-in (across p) (below (p .Z)) g (subst (λ (l : List Seg). In g l) (segs-are p) m) in
-    subst (λ (x : Seg). Named p x) (sym e) (seg-named p n (below-in (p .Z) n i))
-
-pub in-segs : (p : Params) (g : Seg) → Named p g → In g (allSegs p)
-in-segs p g h =
-    let (n, k, e) = named-number p g h in
-    subst (λ (l : List Seg). In g l) (sym (segs-are p)) (subst (λ (x : Seg). In x (map (across p) (below (p .Z)))) (sym e) (in-map (across p) (below (p .Z)) n (in-below (p .Z) n k)))
-
+-- a segment of a list, by its zones
 pub is-seg : (g : Seg) (l : List Seg) → any (sameSeg g) l ≡ true → In g l
 is-seg g l q = let (k, m, e) = any-in (sameSeg g) l q in subst (λ (x : Seg). In x l) (sym (seg-true g k e)) m
 
@@ -56,12 +36,22 @@ seg-in g l m = in-any (sameSeg g) l g m (seg-self g)
 
 -- ---- what remains
 
-pub remaining-low : (p : Params) (v : View) (gone : ℕ) (g : Seg) → In g (remaining p v gone) → Named p g
-unfolding remaining leftBy1
-remaining-low p v gone g m =
-    let (i, q) = keep-in (λ g. not (isCopy p v (lowDrive p gone) (leftBy1 p v gone) g)) (leftBy1 p v gone) g m in
-    let (j, r) = keep-in (λ g. all (λ d. not (eqb (pointerAt v d (zoneOn g d)) 0)) (present p gone)) (allSegs p) g i in
-    segs-in p g j
+-- the lowest present drive is one of those present
+abbrev pub Here : Params → ℕ → Type 0
+Here p gone = (lowDrive p gone < p .N) × (isIn gone (lowDrive p gone) ≡ false)
+
+pub remaining-left : (p : Params) (v : View) (gone : ℕ) (g : Seg) → In g (remaining p v gone) → In g (leftBy1 p v gone)
+unfolding remaining
+remaining-left p v gone g m = keep-in (λ g. not (isCopy p v (lowDrive p gone) (leftBy1 p v gone) g)) (leftBy1 p v gone) g m .0
+
+pub remaining-low : (p : Params) (v : View) (gone : ℕ) → Here p gone → (g : Seg) → In g (remaining p v gone) → ZonesLow p gone g
+unfolding ZonesLow
+remaining-low p v gone here g m = λ d h q. left-in p v gone here g (remaining-left p v gone g m) .on d h q .zone-low
+
+-- segments that remain are apart on every present drive
+pub remaining-once : (p : Params) (v : View) (gone : ℕ) → Here p gone → (g h : Seg) (d : ℕ) → In g (remaining p v gone) → In h (remaining p v gone) → d < p .N → isIn gone d ≡ false
+    → zoneOn g d ≡ zoneOn h d → g ≡ h
+remaining-once p v gone here g h d m n = left-once p v gone here g h d (remaining-left p v gone g m) (remaining-left p v gone h n)
 
 -- ---- records of a zone
 

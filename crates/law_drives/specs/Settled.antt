@@ -1,31 +1,31 @@
 -- With no drive missing and the segments tidy: what remains is what is used, and no two candidates are tied.
 use mathlib.Core.Path.{_≡_, refl, sym, ap, ap₂, _∙_, subst}
-use mathlib.Core.List.{[], map}
-use mathlib.Core.Bool.{Bool, true, false, cond, not, _&&_}
+use mathlib.Core.List.{List, [], map}
+use mathlib.Core.Bool.{true, false, cond, not, _&&_}
 use Prim.Native.Nat.{ℕ, zero, suc, _≤_, _<_}
 use borrow.Author.Tests.{ne-eqb, eqb-true}
 use native.Mathlib.Omega.{arith}
 use lib.Dec.{eqb}
 use lib.ListN.{getD}
 use Rattle.spec.specs.declared.Params.{Params}
-use Rattle.spec.specs.Drives.{noChunk, Zone, noZone, View, zoneAt, pointerAt, chunkAt, zoneOn, sealedIn, recordIn, sameSeg, allSegs, seg}
-use Rattle.spec.specs.Layout.{dataDrive, dataPosition, headerSerial, headerCopied}
+use Rattle.spec.specs.Drives.{noChunk, Zone, noZone, View, zoneAt, pointerAt, chunkAt, zoneOn, sealedIn, recordIn, sameSeg, seg}
+use Rattle.spec.specs.Layout.{dataDrive, dataPosition, headerSerial, headerCopied, headerZones}
 use Rattle.spec.specs.Lists.{upFrom, below, all, any, firstOr, isIn}
 use Rattle.spec.specs.Params.{capacity, drivesOf, present}
 use Rattle.spec.specs.Rank.{Cand}
-use Rattle.spec.specs.Segments.{lowDrive, headerAt, leftBy1, isCopy, remaining, Segment, recordsIn, segmentOf, segments, recsOn, offsetOn, counts, offsetOf, candOf, candidates}
+use Rattle.spec.specs.Segments.{lowDrive, headerAt, leftBy1, isCopy, remaining, Segment, recordsIn, segmentOf, segments, recsOn, offsetOn, counts, offsetOf, candOf, candidates, rowOf}
 use Rattle.law_basic.specs.Geometry.{Ranged, position-drive, data-drive-lt}
 use Rattle.law_basic.specs.Mask.{isIn-empty}
-use Rattle.law_basic.specs.Ranges.{and-left, and-both}
-use Rattle.law_basic.specs.Segs.{Named}
 use Rattle.law_drives.specs.Best.{CandsApart}
-use Rattle.law_drives.specs.Members.{In, keep-in, all-in, in-all, in-none, all-cong, map-cong, keep-all, below-in}
-use Rattle.law_drives.specs.Segs.{present-in, in-present, remaining-low, serial-is, ChunkAt, chunk-at, CandAt, cand-at, segs-in}
+use Rattle.law_drives.specs.Members.{In, all-in, in-none, all-cong, map-cong, keep-all, below-in}
+use Rattle.law_drives.specs.Segs.{serial-is, ChunkAt, chunk-at, CandAt, cand-at, Here, remaining-left}
 use Rattle.law_drives.specs.Spots.{counts-in}
-use Rattle.law_drives.specs.Tables.{remains, in-remaining, remaining-in, rowAt, row-seg}
-use Rattle.law_drives.specs.Tests.{and-false-right, same-test, cond-false}
-use Rattle.law_drives.specs.Tidy.{usedAt, Tidy}
+use Rattle.law_drives.specs.Tables.{row-seg}
+use Rattle.law_drives.specs.Tests.{and-false-right, cond-false}
+use Rattle.law_drives.specs.Tidy.{Tidy, There}
 use Rattle.spec.specs.declared.Seg.{Seg}
+use Rattle.law_basic.specs.Segs.{ZonesLow}
+use Rattle.law_drives.specs.Gather.{Borne, in-present, left-in, left-once, left-serial, present-in, serial-one}
 
 pub present-all : (p : Params) (d : ℕ) → d < p .N → In d (present p 0)
 present-all p d h = in-present p 0 d h (isIn-empty d)
@@ -38,47 +38,51 @@ low-first p r = ap (firstOr 0) (keep-all (λ d. not (isIn 0 d)) (below (p .N)) (
     go zero h = absurd (let z : ⊥ = omega arith in z)
     go (suc n) h = unfold below upFrom firstOr in refl
 
+pub zero-here : (p : Params) → Ranged p → Here p 0
+zero-here p r = (subst (λ (n : ℕ). n < p .N) (sym (low-first p r)) (omega (arith, r .drives-low)), isIn-empty (lowDrive p 0))
+
+-- a segment that there is: its zones, and its serial on every drive
+module _ (p : Params) (r : Ranged p) (v : View) (g : Seg) (m : There p v g) where
+  pub its-zone : (d : ℕ) → d < p .N → Borne p v d (headerSerial p (headerAt v 0 g)) (zoneOn g d)
+  its-zone d h =
+      let l = left-in p v 0 (zero-here p r) g m in
+      let h0 : 0 < p .N = omega (arith, r .drives-low) in
+      subst (λ (n : ℕ). Borne p v d n (zoneOn g d)) (sym (left-serial p v 0 (zero-here p r) g m 0 h0 (isIn-empty 0))) (l .on d h (isIn-empty d))
+
+  pub its-zones-low : ZonesLow p 0 g
+  unfolding ZonesLow
+  its-zones-low = λ d h _. its-zone d h .zone-low
+
+-- two that have one zone are one
+pub there-once : (p : Params) (r : Ranged p) (v : View) (g h : Seg) (d : ℕ) → There p v g → There p v h → d < p .N → zoneOn g d ≡ zoneOn h d → g ≡ h
+there-once p r v g h d m n k = left-once p v 0 (zero-here p r) g h d m n k (isIn-empty d)
+
+-- two that have one serial are one
+pub there-serial : (p : Params) (r : Ranged p) (v : View) (g h : Seg) → There p v g → There p v h → headerSerial p (headerAt v 0 g) ≡ headerSerial p (headerAt v 0 h) → g ≡ h
+there-serial p r v g h m n e =
+    serial-one p v 0 (zero-here p r) g h m n (subst (λ (x : ℕ). headerSerial p (headerAt v x g) ≡ headerSerial p (headerAt v x h)) (sym (low-first p r)) e)
+
 module _ (p : Params) (r : Ranged p) (v : View) (serial : ℕ) (t : Tidy p v serial) where
-  zero-low : 0 < p .N
-  zero-low = omega (arith, r .drives-low)
-
-  -- no zone of a used segment is empty
-  pub used-all : (d : ℕ) (z : Seg) → d < p .N → Named p z → usedAt v z ≡ true → not (eqb (pointerAt v d (zoneOn z d)) 0) ≡ true
-  used-all d z hd hz q = ap not (t .together d z hd hz) ∙ q
-
-  left-used : (g : Seg) → In g (leftBy1 p v 0) → (Named p g) × (usedAt v g ≡ true)
-  unfolding leftBy1
-  left-used g m =
-      let (i, q) = keep-in (λ g. all (λ d. not (eqb (pointerAt v d (zoneOn g d)) 0)) (present p 0)) (allSegs p) g m in
-      (segs-in p g i, all-in (λ d. not (eqb (pointerAt v d (zoneOn g d)) 0)) (present p 0) q 0 (present-all p 0 zero-low))
-
-  no-copies : (g : Seg) → Named p g → usedAt v g ≡ true → isCopy p v (lowDrive p 0) (leftBy1 p v 0) g ≡ false
+  no-copies : (g : Seg) → There p v g → isCopy p v (lowDrive p 0) (leftBy1 p v 0) g ≡ false
   unfolding isCopy
-  no-copies g hg q =
+  no-copies g hg =
       let l = lowDrive p 0 in
       and-false-right (not (eqb (headerCopied p (headerAt v l g)) 0)) (any (λ h. not (sameSeg h g) && eqb (headerSerial p (headerAt v l h)) (headerCopied p (headerAt v l g))) (leftBy1 p v 0))
       (in-none (λ h. not (sameSeg h g) && eqb (headerSerial p (headerAt v l h)) (headerCopied p (headerAt v l g))) (leftBy1 p v 0)
       (λ h m.
-      let (hh, u) = left-used h m in
       and-false-right (not (sameSeg h g)) (eqb (headerSerial p (headerAt v l h)) (headerCopied p (headerAt v l g)))
       (ne-eqb (headerSerial p (headerAt v l h)) (headerCopied p (headerAt v l g))
-      (λ e. t .no-copy g h hg hh q u (sym (subst (λ (x : ℕ). headerSerial p (headerAt v x h) ≡ headerCopied p (headerAt v x g)) (low-first p r) e))))))
+      (λ e. t .no-copy g h hg m (sym (subst (λ (x : ℕ). headerSerial p (headerAt v x h) ≡ headerCopied p (headerAt v x g)) (low-first p r) e))))))
 
-  pub remains-used : (g : Seg) → Named p g → remains p v 0 g ≡ usedAt v g
-  unfolding remains
-  remains-used g hg = same-test (all (λ d. not (eqb (pointerAt v d (zoneOn g d)) 0)) (present p 0) && not (isCopy p v (lowDrive p 0) (leftBy1 p v 0) g)) (usedAt v g)
-      (λ q. all-in (λ d. not (eqb (pointerAt v d (zoneOn g d)) 0)) (present p 0)
-      (and-left (all (λ d. not (eqb (pointerAt v d (zoneOn g d)) 0)) (present p 0)) (not (isCopy p v (lowDrive p 0) (leftBy1 p v 0) g)) q) 0
-      (present-all p 0 zero-low))
-      (λ q. and-both (all (λ d. not (eqb (pointerAt v d (zoneOn g d)) 0)) (present p 0)) (not (isCopy p v (lowDrive p 0) (leftBy1 p v 0) g))
-      (in-all (λ d. not (eqb (pointerAt v d (zoneOn g d)) 0)) (present p 0) (λ d m. used-all d g (present-in p 0 d m .0) hg q)) (ap not (no-copies g hg q)))
+  -- all of them remain
+  pub remaining-there : remaining p v 0 ≡ leftBy1 p v 0
+  unfolding remaining
+  remaining-there = keep-all (λ g. not (isCopy p v (lowDrive p 0) (leftBy1 p v 0) g)) (leftBy1 p v 0) (λ g m. ap not (no-copies g m))
 
-  pub used-remains : (g : Seg) → Named p g → usedAt v g ≡ true → In g (remaining p v 0)
-  used-remains g hg q = in-remaining p v 0 g hg (remains-used g hg ∙ q)
+  pub there-remains : (g : Seg) → There p v g → In g (remaining p v 0)
+  there-remains g m = subst (λ (l : List Seg). In g l) (sym remaining-there) m
 
-  pub remains-is-used : (g : Seg) → In g (remaining p v 0) → (Named p g) × (usedAt v g ≡ true)
-  remains-is-used g m = let (hg, q) = remaining-in p v 0 g m in (hg, sym (remains-used g hg) ∙ q)
-
+module _ (p : Params) (r : Ranged p) (v : View) (serial : ℕ) (t : Tidy p v serial) where
   -- ---- candidates
 
   pub serial-of : (g : Seg) → segmentOf p v 0 g .serial ≡ headerSerial p (headerAt v 0 g)
@@ -127,9 +131,8 @@ module _ (p : Params) (r : Ranged p) (v : View) (serial : ℕ) (t : Tidy p v ser
   cands-apart c d m n w =
       let k = cand-at p v 0 c m in
       let j = cand-at p v 0 d n in
-      let (hk, uk) = remains-is-used (k .of) (k .remains) in
-      let (hj, uj) = remains-is-used (j .of) (j .remains) in
-      cand-same c d k j (t .serial-once (k .of) (j .of) hk hj uk uj (sym (its-serial c k) ∙ w .same-serial ∙ its-serial d j)) (w .same-drive) (w .same-offset)
+      cand-same c d k j (there-serial p r v (k .of) (j .of) (remaining-left p v 0 (k .of) (k .remains)) (remaining-left p v 0 (j .of) (j .remains))
+      (sym (its-serial c k) ∙ w .same-serial ∙ its-serial d j)) (w .same-drive) (w .same-offset)
 
 -- ---- segments whose zones are the same
 
@@ -150,9 +153,6 @@ module _ (p : Params) (r : Ranged p) (v u : View) (g : Seg) (sm : SameZones p v 
   unfolding pointerAt
   zones-pointer d h = ap (λ (x : Zone). x .pointer) (sm d h)
 
-  pub zones-used : usedAt v g ≡ usedAt u g
-  zones-used = ap (λ (x : ℕ). not (eqb x 0)) (zones-pointer 0 (omega (arith, r .drives-low)))
-
   pub zones-segment : segmentOf p v 0 g ≡ segmentOf p u 0 g
   unfolding segmentOf drivesOf
   zones-segment =
@@ -161,6 +161,7 @@ module _ (p : Params) (r : Ranged p) (v u : View) (g : Seg) (sm : SameZones p v 
       (below (p .N)) (λ d m. sm d (below-in (p .N) d m)) in
       λ i. record {
         seg = g;
+        names = headerZones p (hd i);
         serial = headerSerial p (hd i);
         copied = headerCopied p (hd i);
         full = zones-sealed i;
@@ -169,27 +170,27 @@ module _ (p : Params) (r : Ranged p) (v u : View) (g : Seg) (sm : SameZones p v 
       }
 
 -- a candidate of a segment that is the same in both views
-pub cand-goes : (p : Params) (r : Ranged p) (v u : View) (s : ℕ) → Tidy p u s → (c : Cand) (k : CandAt p v 0 c) → SameZones p v u (k .of) → usedAt u (k .of) ≡ true → CandAt p u 0 c
+pub cand-goes : (p : Params) (r : Ranged p) (v u : View) (s : ℕ) → Tidy p u s → (c : Cand) (k : CandAt p v 0 c) → SameZones p v u (k .of) → There p u (k .of) → CandAt p u 0 c
 cand-goes p r v u s t c k sm q =
     let e = zones-segment p r v u (k .of) sm in
     record {
       of = k .of;
       stripe = k .stripe;
       position = k .position;
-      remains = used-remains p r u s t (k .of) (remaining-low p v 0 (k .of) (k .remains)) q;
+      remains = there-remains p r u s t (k .of) q;
       stripe-low = k .stripe-low;
       it-counts = subst (λ (x : Segment). counts p 0 x (k .stripe) ≡ true) e (k .it-counts);
       position-low = k .position-low;
       it-is = k .it-is ∙ ap (λ (x : Segment). candOf p 0 x (k .stripe) (dataDrive p (k .stripe) (k .position))) e;
     }
 
--- the row of a zone that is the same in both
-pub row-goes : (p : Params) (r : Ranged p) (v u : View) (s s′ : ℕ) → Tidy p v s → Tidy p u s′ → (d : ℕ) (g : Seg) → d < p .N → Named p g → SameZones p v u g
-    → rowAt p v 0 d (zoneOn g d) ≡ rowAt p u 0 d (zoneOn g d)
-row-goes p r v u s s′ t t′ d g hd hg sm =
-    row-seg p v 0 d g hd hg
-    ∙ ap₂ (λ (x : Bool) (y : Segment). cond x (recsOn y d) []) (remains-used p r v s t g hg ∙ zones-used p r v u g sm ∙ sym (remains-used p r u s′ t′ g hg)) (zones-segment p r v u g sm)
-    ∙ sym (row-seg p u 0 d g hd hg)
+-- the row of a segment that is the same in both
+pub row-goes : (p : Params) (r : Ranged p) (v u : View) (s s′ : ℕ) → Tidy p v s → Tidy p u s′ → (d : ℕ) (g : Seg) → d < p .N → There p v g → There p u g → SameZones p v u g
+    → rowOf p (segments p v 0) d (zoneOn g d) ≡ rowOf p (segments p u 0) d (zoneOn g d)
+row-goes p r v u s s′ t t′ d g hd m n sm =
+    row-seg p v 0 (zero-here p r) d g hd (isIn-empty d) (there-remains p r v s t g m)
+    ∙ ap (λ (y : Segment). recsOn y d) (zones-segment p r v u g sm)
+    ∙ sym (row-seg p u 0 (zero-here p r) d g hd (isIn-empty d) (there-remains p r u s′ t′ g n))
 
 pub sealed-full : (p : Params) (v : View) (g : Seg) → sealedIn p v 0 g ≡ true → (d : ℕ) → d < p .N → pointerAt v d (zoneOn g d) ≡ capacity p
 sealed-full p v g q d h = eqb-true (pointerAt v d (zoneOn g d)) (capacity p) (all-in (λ d. eqb (pointerAt v d (zoneOn g d)) (capacity p)) (present p 0) (as! q) d (present-all p d h))

@@ -12,7 +12,7 @@ use lib.ListN.{length, getD}
 use lib.Arith.{digits-div}
 use Rattle.spec.specs.declared.Params.{Params}
 use Rattle.spec.specs.Counts.{neverPlace}
-use Rattle.spec.specs.Drives.{View, zoneAt, pointerAt, zoneOn, sealedIn, dataStored, recordIn, placeSegment}
+use Rattle.spec.specs.Drives.{View, zoneAt, pointerAt, zoneOn, sealedIn, dataStored, recordIn, isGood, noSeg}
 use Rattle.spec.specs.Layout.{dataDrive, group, inGroupOf, groupOffsets, compactEntry, Rec, mkRec}
 use Rattle.spec.specs.Lists.{upFrom, consIf, keep, isNil, firstOr, isIn}
 use Rattle.spec.specs.Memory.{compactAt, shownAt}
@@ -20,17 +20,20 @@ use Rattle.spec.specs.Params.{capacity, placeOf, placeBlock, placeZone, placeDr
 use Rattle.spec.specs.Rank.{Cand}
 use Rattle.spec.specs.Read.{placeFaults}
 use Rattle.spec.specs.Read.Found.{here}
-use Rattle.spec.specs.Segments.{remaining, Segment, recordsIn, segmentOf, segments, recsOn, offsetOn, hasChunk, counts, offsetOf, candOf, compactTable}
+use Rattle.spec.specs.Segments.{remaining, Segment, recordsIn, segmentOf, segments, offsetOn, hasChunk, counts, offsetOf, candOf, compactTable, isPlace, isUsed, placeSegment, rowOf, holders}
 use Rattle.law_basic.specs.Geometry.{between-of, Ranged, place-block, place-zone, place-drive, data-drive-lt}
 use Rattle.law_basic.specs.Ranges.{Test, test, and-left, and-right, and-both}
 use Rattle.law_basic.specs.Ranges.Test.{yes!, no! }
-use Rattle.law_basic.specs.Segs.{Named, zone-on-lt, place-segment-of}
 use Rattle.law_drives.specs.Members.{In, all-in, keep-keep}
 use Rattle.law_drives.specs.Range.{capacity-over, place-low}
-use Rattle.law_drives.specs.Segs.{in-present, remaining-low, length-records, record-at, data-low, low-data, recs-here, seg-is, chunk-at, CandAt}
-use Rattle.law_drives.specs.Tables.{row-at, remains, remaining-in, rowAt, compact-at, row-seg}
-use Rattle.law_drives.specs.Tests.{true-false, not-so, cond-true}
+use Rattle.law_drives.specs.Segs.{remaining-low, length-records, record-at, data-low, low-data, recs-here, seg-is, chunk-at, CandAt, Here, remaining-left, remaining-once}
+use Rattle.law_drives.specs.Tables.{row-at, compact-at, row-seg, one-holder}
+use Rattle.law_drives.specs.Tests.{true-false, not-so, clash}
 use Rattle.spec.specs.declared.Seg.{Seg}
+use Rattle.law_basic.specs.Mask.{isIn-empty}
+use Rattle.law_basic.specs.Segs.{low-zone}
+use Rattle.law_drives.specs.Holders.{place-first}
+use Rattle.law_drives.specs.Gather.{in-present, left-in}
 
 -- ---- the spot of a candidate
 
@@ -41,12 +44,73 @@ pub record Spot (p : Params) (v : View) (gone : ℕ) (c : Cand) : Type 0 where
   pub offset-low : c .offset < p .S
   pub place-is : c .place ≡ placeOf p (c .drive) zone (1 + c .offset)
   pub visible : isIn gone (c .drive) ≡ false → 1 + c .offset < pointerAt v (c .drive) zone
+  pub a-place : isPlace p v gone (c .place) ≡ true
+
+-- what 9 shuts out of the zones that headers name for missing drives: they are good zones, and no two segments have one
+pub record SpotsApart (p : Params) (v : View) (gone : ℕ) : Type 0 where
+  pub named-low : (g : Seg) (d : ℕ) → In g (remaining p v gone) → d < p .N → isIn gone d ≡ true → zoneOn g d < p .Z
+  pub named-good : (g : Seg) (d : ℕ) → In g (remaining p v gone) → d < p .N → isIn gone d ≡ true → isGood p (v .offline) d (zoneOn g d) ≡ true
+  pub named-once : (g h : Seg) (d : ℕ) → In g (remaining p v gone) → In h (remaining p v gone) → d < p .N → isIn gone d ≡ true → zoneOn g d ≡ zoneOn h d → g ≡ h
+
+-- with none missing there is nothing to shut out
+pub none-apart : (p : Params) (v : View) → SpotsApart p v 0
+none-apart p v = record {
+  named-low = λ g d m h q. clash q (isIn-empty d);
+  named-good = λ g d m h q. clash q (isIn-empty d);
+  named-once = λ g h d m n k q. clash q (isIn-empty d);
+}
+
+-- where a remaining segment lies, on any drive
+module _ (p : Params) (v : View) (gone : ℕ) (here : Here p gone) (ap! : SpotsApart p v gone) (g : Seg) (m : In g (remaining p v gone)) (d : ℕ) (hd : d < p .N) where
+  pub seg-low : zoneOn g d < p .Z
+  seg-low = go (test (isIn gone d))
+    where
+      go : Test (isIn gone d) → zoneOn g d < p .Z
+      go (yes! q) = ap! .named-low g d m hd q
+      go (no! q) = low-zone p gone g d (remaining-low p v gone here g m) hd q
+
+  pub seg-good : isGood p (v .offline) d (zoneOn g d) ≡ true
+  unfolding isUsed
+  seg-good = go (test (isIn gone d))
+    where
+      go : Test (isIn gone d) → isGood p (v .offline) d (zoneOn g d) ≡ true
+      go (yes! q) = ap! .named-good g d m hd q
+      go (no! q) = and-left (isGood p (v .offline) d (zoneOn g d)) (not (eqb (pointerAt v d (zoneOn g d)) 0)) (left-in p v gone here g (remaining-left p v gone g m) .on d hd q .used)
+
+  pub seg-alone : (h : Seg) → In h (remaining p v gone) → zoneOn h d ≡ zoneOn g d → h ≡ g
+  seg-alone h n e = go (test (isIn gone d))
+    where
+      go : Test (isIn gone d) → h ≡ g
+      go (yes! q) = ap! .named-once h g d n m hd q e
+      go (no! q) = remaining-once p v gone here h g d n m hd q e
+
+  -- its places are places, and of it
+  module _ (r : Ranged p) (b : ℕ) (hb : b < capacity p) where
+    abbrev q : ℕ
+    q = placeOf p d (zoneOn g d) b
+
+    at-drive : placeDrive p q ≡ d
+    at-drive = place-drive p d (zoneOn g d) b seg-low hb
+
+    at-zone : placeZone p q ≡ zoneOn g d
+    at-zone = place-zone p d (zoneOn g d) b seg-low hb
+
+    pub place-holder : placeSegment p v gone q ≡ g
+    unfolding firstOr
+    place-holder = place-first p v gone q ∙ ap (firstOr noSeg) (ap₂ (holders p v gone) at-drive at-zone ∙ one-holder p v gone here d g m seg-alone)
+
+    pub place-is-one : isPlace p v gone q ≡ true
+    unfolding isPlace
+    place-is-one = and-both (ltb (placeDrive p q) (p .N) && isGood p (v .offline) (placeDrive p q) (placeZone p q)) (eqb (length (holders p v gone (placeDrive p q) (placeZone p q))) 1)
+        (and-both (ltb (placeDrive p q) (p .N)) (isGood p (v .offline) (placeDrive p q) (placeZone p q)) (lt-ltb (placeDrive p q) (p .N) (subst (λ (n : ℕ). n < p .N) (sym at-drive) hd))
+        (ap₂ (isGood p (v .offline)) at-drive at-zone ∙ seg-good))
+        (eq-eqb (length (holders p v gone (placeDrive p q) (placeZone p q))) 1 (ap length (ap₂ (holders p v gone) at-drive at-zone ∙ one-holder p v gone here d g m seg-alone)))
 
 pub counts-in : (p : Params) (gone : ℕ) (g : Segment) (s d : ℕ) → counts p gone g s ≡ true → d < p .N → isIn gone d ≡ false → hasChunk g s d ≡ true
 unfolding counts
 counts-in p gone g s d q h i = all-in (hasChunk g s) (present p gone) q d (in-present p gone d h i)
 
-module _ (p : Params) (r : Ranged p) (v : View) (gone : ℕ) where
+module _ (p : Params) (r : Ranged p) (v : View) (gone : ℕ) (here : Here p gone) (apart : SpotsApart p v gone) where
   pub spot-of : (c : Cand) → CandAt p v gone c → Spot p v gone c
   unfolding candOf offsetOf pointerAt
   spot-of c k =
@@ -55,7 +119,7 @@ module _ (p : Params) (r : Ranged p) (v : View) (gone : ℕ) where
       let d = dataDrive p s (k .position) in
       let x = segmentOf p v gone g in
       let hd : d < p .N = data-drive-lt p s (k .position) (k .position-low) in
-      let hz : zoneOn g d < p .Z = zone-on-lt p g d (remaining-low p v gone g (k .remains)) in
+      let hz : zoneOn g d < p .Z = seg-low p v gone here apart g (k .remains) d hd in
       let o = offsetOf gone x s d in
       let m : (o < p .S) × (isIn gone d ≡ false → 1 + o < zoneAt v d (zoneOn g d) .pointer) = go g s d hd (k .stripe-low) (k .it-counts) (test (isIn gone d)) in
       subst (λ (y : Cand). Spot p v gone y) (sym (k .it-is)) (record {
@@ -65,6 +129,8 @@ module _ (p : Params) (r : Ranged p) (v : View) (gone : ℕ) where
         offset-low = m .0;
         place-is = ap (λ (u : Seg). placeOf p d (zoneOn u d) (1 + o)) (seg-is p v gone g);
         visible = m .1;
+        a-place = ap (λ (u : Seg). isPlace p v gone (placeOf p d (zoneOn u d) (1 + o))) (seg-is p v gone g)
+            ∙ place-is-one p v gone here apart g (k .remains) d hd r (1 + o) (let l = m .0 in omega (arith, capacity-over p r));
       })
     where
       go : (g : Seg) (s d : ℕ) → d < p .N → s < p .S → counts p gone (segmentOf p v gone g) s ≡ true → Test (isIn gone d)
@@ -97,7 +163,7 @@ module _ (p : Params) (r : Ranged p) (v : View) (gone : ℕ) where
       spot-drive,
       spot-zone,
       spot-block,
-      lt-leb (p .N) (c .drive) (t .drive-low),
+      t .a-place,
       between-of 1 (p .S) (1 + c .offset) (omega arith) (omega (arith, t .offset-low)),
     ) (go (test (isIn gone (c .drive))))
       where
@@ -128,7 +194,7 @@ abbrev pub InGroups : Params → View → ℕ → Type 0
 InGroups p v gone = (g : Seg) (d o : ℕ) → In g (remaining p v gone) → d < p .N → isIn gone d ≡ false → o < dataStored p (zoneAt v d (zoneOn g d))
     → inGroupOf p o (recordIn p (sealedIn p v gone g) (zoneAt v d (zoneOn g d)) o .stripe) ≡ true
 
-module _ (p : Params) (r : Ranged p) (v : View) (gone : ℕ) (groups : InGroups p v gone) (g : Seg) (d s : ℕ) (hg : In g (remaining p v gone)) (hd : d < p .N)
+module _ (p : Params) (r : Ranged p) (v : View) (gone : ℕ) (here : Here p gone) (groups : InGroups p v gone) (g : Seg) (d s : ℕ) (hg : In g (remaining p v gone)) (hd : d < p .N)
     (pr : isIn gone d ≡ false) (c : hasChunk (segmentOf p v gone g) s d ≡ true) where
   abbrev table : List ℕ
   table = compactTable p (segments p v gone)
@@ -136,17 +202,17 @@ module _ (p : Params) (r : Ranged p) (v : View) (gone : ℕ) (groups : InGroups 
   abbrev shows : ℕ → Bool
   shows o = ltb (1 + o) (pointerAt v d (zoneOn g d)) && eqb (getD table (compactAt p d (zoneOn g d) o) 0) (compactEntry p s)
 
-  hz : Named p g
-  hz = remaining-low p v gone g hg
+  hz : zoneOn g d < p .Z
+  hz = low-zone p gone g d (remaining-low p v gone here g hg) hd pr
 
   entry-is : (o : ℕ) → o < dataStored p (zoneAt v d (zoneOn g d))
       → getD table (compactAt p d (zoneOn g d) o) 0 ≡ compactEntry p (recordIn p (sealedIn p v gone g) (zoneAt v d (zoneOn g d)) o .stripe)
   entry-is o h =
-      let e : rowAt p v gone d (zoneOn g d) ≡ recordsIn p (sealedIn p v gone g) (zoneAt v d (zoneOn g d)) =
-      row-seg p v gone d g hd hz ∙ cond-true (remains p v gone g) (recsOn (segmentOf p v gone g) d) [] (remaining-in p v gone g hg .1) ∙ recs-here p v gone g d hd pr in
-      let l : length (rowAt p v gone d (zoneOn g d)) ≡ dataStored p (zoneAt v d (zoneOn g d)) = ap length e ∙ length-records p (sealedIn p v gone g) (zoneAt v d (zoneOn g d)) in
-      compact-at p v gone d (zoneOn g d) o hd (zone-on-lt p g d hz) (data-low p (zoneAt v d (zoneOn g d)) o h .0)
-      ∙ row-at p (rowAt p v gone d (zoneOn g d)) o (subst (λ (x : ℕ). o < x) (sym l) h)
+      let e : rowOf p (segments p v gone) d (zoneOn g d) ≡ recordsIn p (sealedIn p v gone g) (zoneAt v d (zoneOn g d)) =
+      row-seg p v gone here d g hd pr hg ∙ recs-here p v gone g d hd pr in
+      let l : length (rowOf p (segments p v gone) d (zoneOn g d)) ≡ dataStored p (zoneAt v d (zoneOn g d)) = ap length e ∙ length-records p (sealedIn p v gone g) (zoneAt v d (zoneOn g d)) in
+      compact-at p v gone here d (zoneOn g d) o hd hz (data-low p (zoneAt v d (zoneOn g d)) o h .0)
+      ∙ row-at p (rowOf p (segments p v gone) d (zoneOn g d)) o (subst (λ (x : ℕ). o < x) (sym l) h)
       ∙ ap (λ (x : Rec). compactEntry p (x .stripe)) (ap (λ (x : List Rec). getD x o (mkRec 0 0 0)) e ∙ record-at p (sealedIn p v gone g) (zoneAt v d (zoneOn g d)) o (mkRec 0 0 0) h)
 
   pub shown-first : (firstOr 0 (shownAt p v table d (zoneOn g d) s) ≡ offsetOn (segmentOf p v gone g) d s) × (isNil (shownAt p v table d (zoneOn g d) s) ≡ false)
@@ -197,7 +263,7 @@ module _ (p : Params) (r : Ranged p) (v : View) (gone : ℕ) (groups : InGroups 
           mod-same : (t : ℕ) → compactEntry p t ≡ compactEntry p s → t % p .G ≡ s % p .G
           mod-same t q = unfold compactEntry in q
 
-module _ (p : Params) (r : Ranged p) (v : View) (gone : ℕ) where
+module _ (p : Params) (r : Ranged p) (v : View) (gone : ℕ) (here : Here p gone) (apart : SpotsApart p v gone) where
   module _ (c : Cand) (k : CandAt p v gone c) (t : Spot p v gone c) where
     cand-drive : c .drive ≡ dataDrive p (k .stripe) (k .position)
     unfolding candOf
@@ -215,9 +281,9 @@ module _ (p : Params) (r : Ranged p) (v : View) (gone : ℕ) where
 
     pub cand-zone : placeZone p (c .place) ≡ zoneOn (k .of) (c .drive)
     cand-zone = ap (placeZone p) cand-place
-        ∙ place-zone p (c .drive) (zoneOn (k .of) (c .drive)) (1 + c .offset) (zone-on-lt p (k .of) (c .drive) (remaining-low p v gone (k .of) (k .remains)))
+        ∙ place-zone p (c .drive) (zoneOn (k .of) (c .drive)) (1 + c .offset) (seg-low p v gone here apart (k .of) (k .remains) (c .drive) (t .drive-low))
         (omega (arith, capacity-over p r, t .offset-low))
 
-    pub cand-segment : placeSegment p (c .place) ≡ k .of
-    cand-segment = ap (placeSegment p) cand-place
-        ∙ place-segment-of p (k .of) (c .drive) (1 + c .offset) (t .drive-low) (remaining-low p v gone (k .of) (k .remains)) (omega (arith, capacity-over p r, t .offset-low))
+    pub cand-segment : placeSegment p v gone (c .place) ≡ k .of
+    cand-segment = ap (placeSegment p v gone) cand-place
+        ∙ place-holder p v gone here apart (k .of) (k .remains) (c .drive) (t .drive-low) r (1 + c .offset) (omega (arith, capacity-over p r, t .offset-low))

@@ -30,7 +30,7 @@ pub record StateOk (p : Params) (st : State) : Type 0 where
   pub live-is : st .live ≡ 1
   pub missing-low : st .missing < 2 ^ p .N
   pub missing-few : ones (st .missing) ≤ parityCount p
-  pub opened-low : st .opened ≤ p .Z
+  pub opened-low : st .opened ≤ st .serial .0
   pub next-low : st .next ≤ p .S
   pub slots-ok : (i : ℕ) → i < 8 → SlotOk p st i
   pub offsets-low : (j : ℕ) → getD (st .offsets) j 0 < p .S
@@ -77,7 +77,7 @@ state-of p r st q =
     let t1 = eqb (st .live) 1 in
     let t2 = ltb (st .missing) (2 ^ p .N) in
     let t3 = leb (ones (st .missing)) (parityCount p) in
-    let t4 = leb (st .opened) (p .Z) in
+    let t4 = leb (st .opened) (st .serial .0) in
     let t5 = leb (st .next) (p .S) in
     let t6 = all (slotOk p st) slots in
     let t7 = all (λ o. ltb o (p .S)) (st .offsets) in
@@ -90,7 +90,7 @@ state-of p r st q =
       live-is = eqb-true (st .live) 1 (and-left t1 t2 q2);
       missing-low = ltb-true (st .missing) (2 ^ p .N) (and-right t1 t2 q2);
       missing-few = leb-true (ones (st .missing)) (parityCount p) (and-right (t1 && t2) t3 q3);
-      opened-low = leb-true (st .opened) (p .Z) (and-right (t1 && t2 && t3) t4 q4);
+      opened-low = leb-true (st .opened) (st .serial .0) (and-right (t1 && t2 && t3) t4 q4);
       next-low = leb-true (st .next) (p .S) (and-right (t1 && t2 && t3 && t4) t5 q5);
       slots-ok = λ i h. slot-ok-of p st i (all-in (slotOk p st) slots (and-right (t1 && t2 && t3 && t4 && t5) t6 q6) i (in-slots i h));
       offsets-low = λ j. go (and-right (t1 && t2 && t3 && t4 && t5 && t6) t7 q) j (decLt j (length (st .offsets)));
@@ -106,7 +106,7 @@ of-state p st s =
     let t1 = eqb (st .live) 1 in
     let t2 = ltb (st .missing) (2 ^ p .N) in
     let t3 = leb (ones (st .missing)) (parityCount p) in
-    let t4 = leb (st .opened) (p .Z) in
+    let t4 = leb (st .opened) (st .serial .0) in
     let t5 = leb (st .next) (p .S) in
     let t6 = all (slotOk p st) slots in
     let t7 = all (λ o. ltb o (p .S)) (st .offsets) in
@@ -117,12 +117,12 @@ of-state p st s =
     (and-both (t1 && t2) t3
     (and-both t1 t2 (eq-eqb (st .live) 1 (s .live-is)) (lt-ltb (st .missing) (2 ^ p .N) (s .missing-low)))
     (le-leb (ones (st .missing)) (parityCount p) (s .missing-few)))
-    (le-leb (st .opened) (p .Z) (s .opened-low)))
+    (le-leb (st .opened) (st .serial .0) (s .opened-low)))
     (le-leb (st .next) (p .S) (s .next-low)))
     (in-all (slotOk p st) slots (λ i m. of-slot p st i (s .slots-ok i (slots-in i m)))))
     (in-all (λ o. ltb o (p .S)) (st .offsets) (λ a m. let (k, h, e) = getD-in (st .offsets) 0 a m in lt-ltb a (p .S) (subst (λ (x : ℕ). x < p .S) (sym e) (s .offsets-low k))))
 
-pub idle-ok : (p : Params) → Ranged p → (gone t s o x : ℕ) → gone < 2 ^ p .N → ones gone ≤ 1 → o ≤ p .Z → x ≤ p .S → stateOk p (idleState 1 gone t s o x) ≡ true
+pub idle-ok : (p : Params) → Ranged p → (gone t s o x : ℕ) → gone < 2 ^ p .N → ones gone ≤ 1 → o ≤ s → x ≤ p .S → stateOk p (idleState 1 gone t s o x) ≡ true
 unfolding idleState stripeIn filledIn landedIn
 idle-ok p r gone t s o x hg h1 ho hx = of-state p (idleState 1 gone t s o x) (record {
   live-is = refl;

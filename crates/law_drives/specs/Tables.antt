@@ -6,31 +6,33 @@ use mathlib.Core.Logic.{inl, inr}
 use Prim.Native.Nat.{ℕ, zero, suc, _+_, _-_, _*_, _/_, _%_, _^_, _≤_, _<_}
 use native.Mathlib.Nat.{div-add-mod', div-lt-iff-lt-mul, mul-le-mul, mod-lt, zero-add, mul-comm, mul-assoc, suc-mul, zero-mul, add-mul, mul-le-mul-right, le-trans, le-of-eq}
 use native.Mathlib.Decide.{ℕ-discrete}
-use borrow.Author.Tests.{eq-eqb, ne-eqb}
+use borrow.Author.Tests.{eq-eqb, ne-eqb, eqb-true}
 use native.Mathlib.Omega.{arith}
-use lib.Dec.{eqb, lit<}
+use lib.Dec.{eqb, ltb, lit<}
 use lib.ListN.{length, getD, replicate, length-append, length-replicate, length-map, List·getD-append}
 use lib.Seq.{getD-append-add, ext-getD}
 use lib.Arith.{digits-lt}
 use Rattle.spec.specs.declared.Params.{Params}
 use Rattle.spec.specs.Bytes.{beOf, toBe, part}
-use Rattle.spec.specs.Drives.{View, zoneAt, pointerAt, allSegs, zoneOn, sealedIn, dataStored, sameSeg, across}
+use Rattle.spec.specs.Drives.{View, zoneAt, zoneOn, sealedIn, dataStored}
 use Rattle.spec.specs.Layout.{compactEntry, Rec, mkRec}
-use Rattle.spec.specs.Lists.{Opt, upFrom, below, all, consIf, keep, flat, padTo, isIn}
+use Rattle.spec.specs.Lists.{Opt, upFrom, below, all, any, consIf, keep, flat, padTo, isIn}
 use Rattle.spec.specs.Lists.Opt.{none}
 use Rattle.spec.specs.Memory.{placeAt, compactAt}
 use Rattle.spec.specs.Params.{addressesLen, compactLen, drivesOf, present}
 use Rattle.spec.specs.Rank.{Cand, best, placeOr, candsOf}
-use Rattle.spec.specs.Segments.{lowDrive, leftBy1, isCopy, remaining, Segment, segmentOf, segments, recsOn, addressTable, compactRow, rowOf, compactTable}
+use Rattle.spec.specs.Segments.{lowDrive, isUsed, serialIn, lowestBearing, segFor, leads, gathered, leftBy1, isCopy, remaining, Segment, segmentOf, segments, recsOn, addressTable}
+use Rattle.spec.specs.Segments.{compactRow, rowOf, compactTable}
 use Rattle.law_basic.specs.Be.{length-toBe, beOf-toBe}
-use Rattle.law_basic.specs.Ranges.{Test, test, length-below, getD-map}
+use Rattle.law_basic.specs.Ranges.{Test, test, and-left, and-right, length-below, getD-map, keep-map}
 use Rattle.law_basic.specs.Ranges.Test.{yes!, no! }
 use Rattle.law_basic.specs.Splice.{length-part, getD-part}
-use Rattle.law_basic.specs.Segs.{seg-number, Named, named-number, segOn, seg-on-named, seg-on-zone, zone-same, keep-segs, seg-on-is, by-seg}
-use Rattle.law_drives.specs.Members.{In, in-keep, keep-in, flat-cong, flat-nothing, keep-keep, flat-map, from-in, below-in}
-use Rattle.law_drives.specs.Segs.{length-records, recs-here, recs-gone, seg-is, in-segs, segs-in}
-use Rattle.law_drives.specs.Tests.{cond-true, cond-false}
+use Rattle.law_drives.specs.Members.{In, in-map, map-in, in-keep, keep-in, any-in, none-in, flat-cong, flat-nothing, keep-keep, flat-map, from-in, in-below, below-in}
+use Rattle.law_drives.specs.Gather.{for-here}
+use Rattle.law_drives.specs.Segs.{Here, remaining-once, length-records, recs-here, recs-gone, seg-is}
+use Rattle.law_drives.specs.Tests.{clash, cond-true, cond-false, cond-same}
 use Rattle.spec.specs.declared.Seg.{Seg}
+use Rattle.spec.specs.Segments.{holders}
 
 -- ---- rows of equal length
 
@@ -187,27 +189,62 @@ module _ (p : Params) (f : ℕ → ℕ → List ℕ) (h : (d z : ℕ) → d < p 
       ∙ sym (getD-flat (λ z. f d z) (p .S) (p .Z) (λ z w. h d z x w) (j / p .S) (j % p .S) a b)
       ∙ ap (λ (u : ℕ). getD (flat (λ z. f d z) (below (p .Z))) u 0) e)
 
-pub grid-cong : (p : Params) (f g : ℕ → ℕ → List ℕ) → ((d z : ℕ) → d < p .N → z < p .Z → f d z ≡ g d z) → gridOf p f ≡ gridOf p g
-unfolding gridOf
-grid-cong p f g h = flat-cong (λ d. flat (λ z. f d z) (below (p .Z))) (λ d. flat (λ z. g d z) (below (p .Z))) (below (p .N))
-    (λ d m. flat-cong (λ z. f d z) (λ z. g d z) (below (p .Z)) (λ z n. h d z (below-in (p .N) d m) (below-in (p .Z) z n)))
+-- ---- which segments remain, by their zones on the lowest present drive
 
--- ---- which segments remain, as a test
+-- the segment of a zone of that drive
+unfoldable pub segAt : Params → View → ℕ → ℕ → Seg
+segAt p v gone z = segFor p v gone (serialIn p v (lowDrive p gone) z)
 
-unfoldable pub remains : Params → View → ℕ → Seg → Bool
-remains p v gone g = all (λ d. not (eqb (pointerAt v d (zoneOn g d)) 0)) (present p gone) && not (isCopy p v (lowDrive p gone) (leftBy1 p v gone) g)
+unfoldable pub remainsAt : Params → View → ℕ → ℕ → Bool
+remainsAt p v gone z =
+    (leads p v (lowDrive p gone) z && all (λ d. ltb (zoneOn (segAt p v gone z) d) (p .Z)) (present p gone)) && not (isCopy p v (lowDrive p gone) (leftBy1 p v gone) (segAt p v gone z))
 
-pub remaining-is : (p : Params) (v : View) (gone : ℕ) → remaining p v gone ≡ keep (remains p v gone) (allSegs p)
-unfolding remaining leftBy1 remains
-remaining-is p v gone = keep-keep (λ g. not (isCopy p v (lowDrive p gone) (leftBy1 p v gone) g)) (λ g. all (λ d. not (eqb (pointerAt v d (zoneOn g d)) 0)) (present p gone)) (allSegs p)
+pub remaining-is : (p : Params) (v : View) (gone : ℕ) → remaining p v gone ≡ map (segAt p v gone) (keep (remainsAt p v gone) (below (p .Z)))
+unfolding remaining leftBy1 gathered remainsAt segAt
+remaining-is p v gone =
+    let low = lowDrive p gone in
+    let s : ℕ → Seg = λ z. segFor p v gone (serialIn p v low z) in
+    let l : Seg → Bool = λ g. all (λ d. ltb (zoneOn g d) (p .Z)) (present p gone) in
+    let c : Seg → Bool = λ g. not (isCopy p v low (keep l (map s (keep (leads p v low) (below (p .Z))))) g) in
+    ap (keep c) (keep-map l s (keep (leads p v low) (below (p .Z))))
+    ∙ keep-map c s (keep (λ z. l (s z)) (keep (leads p v low) (below (p .Z))))
+    ∙ ap (λ (x : List ℕ). map s (keep (λ z. c (s z)) x)) (keep-keep (λ z. l (s z)) (leads p v low) (below (p .Z)))
+    ∙ ap (map s) (keep-keep (λ z. c (s z)) (λ z. leads p v low z && l (s z)) (below (p .Z)))
 
-pub in-remaining : (p : Params) (v : View) (gone : ℕ) (g : Seg) → Named p g → remains p v gone g ≡ true → In g (remaining p v gone)
-in-remaining p v gone g h q = subst (λ (x : List Seg). In g x) (sym (remaining-is p v gone)) (in-keep (remains p v gone) (allSegs p) g (in-segs p g h) q)
+module _ (p : Params) (v : View) (gone : ℕ) (here : Here p gone) where
+  abbrev low : ℕ
+  low = lowDrive p gone
 
-pub remaining-in : (p : Params) (v : View) (gone : ℕ) (g : Seg) → In g (remaining p v gone) → Named p g × (remains p v gone g ≡ true)
-remaining-in p v gone g m =
-    let (i, q) = keep-in (remains p v gone) (allSegs p) g (subst (λ (x : List Seg). In g x) (remaining-is p v gone) m) in
-    (segs-in p g i, q)
+  -- its zone there
+  pub seg-at-zone : (z : ℕ) → leads p v low z ≡ true → zoneOn (segAt p v gone z) low ≡ z
+  unfolding segAt leads
+  seg-at-zone z t =
+      for-here p v gone (serialIn p v low z) low (here .0) (here .1)
+      ∙ eqb-true (lowestBearing p v low (serialIn p v low z)) z (and-right (isUsed p v low z) (eqb (lowestBearing p v low (serialIn p v low z)) z) t)
+
+  -- a zone at which a segment remains
+  pub record At (g : Seg) : Type 0 where
+    pub zone : ℕ
+    pub zone-low : zone < p .Z
+    pub it-remains : remainsAt p v gone zone ≡ true
+    pub it-leads : leads p v low zone ≡ true
+    pub it-is : g ≡ segAt p v gone zone
+
+  leads-of : (z : ℕ) → remainsAt p v gone z ≡ true → leads p v low z ≡ true
+  unfolding remainsAt
+  leads-of z q =
+      let l = all (λ d. ltb (zoneOn (segAt p v gone z) d) (p .Z)) (present p gone) in
+      and-left (leads p v low z) l (and-left (leads p v low z && l) (not (isCopy p v low (leftBy1 p v gone) (segAt p v gone z))) q)
+
+  pub remaining-at : (g : Seg) → In g (remaining p v gone) → At g
+  remaining-at g m =
+      let (z, i, e) = map-in (segAt p v gone) (keep (remainsAt p v gone) (below (p .Z))) g (subst (λ (l : List Seg). In g l) (remaining-is p v gone) m) in
+      let (j, q) = keep-in (remainsAt p v gone) (below (p .Z)) z i in
+      record { zone = z; zone-low = below-in (p .Z) z j; it-remains = q; it-leads = leads-of z q; it-is = e }
+
+  pub at-remaining : (z : ℕ) → z < p .Z → remainsAt p v gone z ≡ true → In (segAt p v gone z) (remaining p v gone)
+  at-remaining z l q = subst (λ (x : List Seg). In (segAt p v gone z) x) (sym (remaining-is p v gone))
+      (in-map (segAt p v gone) (keep (remainsAt p v gone) (below (p .Z))) z (in-keep (remainsAt p v gone) (below (p .Z)) z (in-below (p .Z) z l) q))
 
 -- ---- the row of a zone
 
@@ -235,45 +272,6 @@ the-row {B} h f z i (suc n) a b = go (ℕ-discrete i z) (test (h i)) (the-row h 
         rw q (ap (λ (x : List B). x ++ flat (λ g. cond (eqb g z) (f g) []) (keep h (upFrom (suc i) n))) (cond-false (eqb i z) (f i) [] (ne-eqb i z e)) ∙ ih (omega arith) (omega arith))
     go (no e) (no! q) ih = rw q (ih (omega arith) (omega arith))
 
--- one segment, by itself and by its zone
-pub seg-one : {B : Type 0} (p : Params) (h : Seg → Bool) (f : Seg → List B) (g : Seg) → 0 < p .N → Named p g
-    → flat (λ (x : Seg). cond (sameSeg x g) (f x) []) (keep h (allSegs p)) ≡ cond (h g) (f g) []
-seg-one {B} p h f g k hg = let (n, l, e) = named-number p g hg in subst At (sym e) (by-number n l)
-  where
-    At : Seg → Type 0
-    At y = flat (λ (x : Seg). cond (sameSeg x y) (f x) []) (keep h (allSegs p)) ≡ cond (h y) (f y) []
-
-    by-number : (n : ℕ) → n < p .Z → At (across p n)
-    by-number n l =
-        let row : Seg → List B = λ (x : Seg). cond (sameSeg x (across p n)) (f x) [] in
-        let is = keep (λ i. h (across p i)) (below (p .Z)) in
-        ap (flat row) (keep-segs p h)
-        ∙ flat-map row (across p) is
-        ∙ flat-cong (λ i. row (across p i)) (λ i. cond (eqb i n) (f (across p i)) []) is (λ i m. ap (λ (b : Bool). cond b (f (across p i)) []) (seg-number p i n k))
-        ∙ (unfold below in the-row (λ i. h (across p i)) (λ i. f (across p i)) n 0 (p .Z) (omega arith) (omega arith))
-
-pub seg-row : {B : Type 0} (p : Params) (h : Seg → Bool) (f : Seg → List B) (d : ℕ) (g : Seg) → d < p .N → Named p g
-    → flat (λ (x : Seg). cond (eqb (zoneOn x d) (zoneOn g d)) (f x) []) (keep h (allSegs p)) ≡ cond (h g) (f g) []
-seg-row p h f d g k hg =
-    flat-cong (λ (x : Seg). cond (eqb (zoneOn x d) (zoneOn g d)) (f x) []) (λ (x : Seg). cond (sameSeg x g) (f x) []) (keep h (allSegs p))
-    (λ x m. ap (λ (b : Bool). cond b (f x) []) (zone-same p x g d k (segs-in p x (keep-in h (allSegs p) x m .0)) hg))
-    ∙ seg-one p h f g (omega arith) hg
-
-pub row-on : (p : Params) (v : View) (gone d : ℕ) (g : Seg) → d < p .N → Named p g
-    → rowOf p (segments p v gone) d (zoneOn g d) ≡ cond (remains p v gone g) (recsOn (segmentOf p v gone g) d) []
-unfolding rowOf segments
-row-on p v gone d g k h =
-    flat-map (λ (x : Segment). cond (eqb (zoneOn (x .seg) d) (zoneOn g d)) (recsOn x d) []) (segmentOf p v gone) (remaining p v gone)
-    ∙ flat-cong (λ x. cond (eqb (zoneOn (segmentOf p v gone x .seg) d) (zoneOn g d)) (recsOn (segmentOf p v gone x) d) [])
-    (λ x. cond (eqb (zoneOn x d) (zoneOn g d)) (recsOn (segmentOf p v gone x) d) []) (remaining p v gone)
-    (λ x m. ap (λ (y : Seg). cond (eqb (zoneOn y d) (zoneOn g d)) (recsOn (segmentOf p v gone x) d) []) (seg-is p v gone x))
-    ∙ ap (flat (λ x. cond (eqb (zoneOn x d) (zoneOn g d)) (recsOn (segmentOf p v gone x) d) [])) (remaining-is p v gone)
-    ∙ seg-row p (remains p v gone) (λ x. recsOn (segmentOf p v gone x) d) d g k h
-
-pub row-is : (p : Params) (v : View) (gone d z : ℕ) → d < p .N → z < p .Z
-    → rowOf p (segments p v gone) d z ≡ cond (remains p v gone (segOn p d z)) (recsOn (segmentOf p v gone (segOn p d z)) d) []
-row-is p v gone d z k h = ap (rowOf p (segments p v gone) d) (sym (seg-on-zone p d z k)) ∙ row-on p v gone d (segOn p d z) k (seg-on-named p d z h)
-
 pub length-recs : (p : Params) (v : View) (gone : ℕ) (g : Seg) (d : ℕ) → d < p .N → length (recsOn (segmentOf p v gone g) d) ≤ p .S
 unfolding dataStored
 length-recs p v gone g d h = go (test (isIn gone d))
@@ -282,45 +280,122 @@ length-recs p v gone g d h = go (test (isIn gone d))
     go (yes! q) = le-trans (le-of-eq (ap length (recs-gone p v gone g d h q))) (omega arith)
     go (no! q) = le-trans (le-of-eq (ap length (recs-here p v gone g d h q) ∙ length-records p (sealedIn p v gone g) (zoneAt v d (zoneOn g d)))) (omega arith)
 
--- the compact table, by rows
-unfoldable pub rowAt : Params → View → ℕ → ℕ → ℕ → List Rec
-rowAt p v gone d z = cond (remains p v gone (segOn p d z)) (recsOn (segmentOf p v gone (segOn p d z)) d) []
-
-pub row-low : (p : Params) (v : View) (gone d z : ℕ) → d < p .N → length (rowAt p v gone d z) ≤ p .S
-unfolding rowAt
-row-low p v gone d z h = go (test (remains p v gone (segOn p d z)))
+-- those that pass, as a list for each
+keep-flat-one : {A : Type 0} (k : A → Bool) (l : List A) → keep k l ≡ flat (λ (x : A). cond (k x) (x ∷ []) []) l
+unfolding keep flat
+keep-flat-one k [] = refl
+keep-flat-one {A} k (a ∷ l) = go (k a) (keep-flat-one k l)
   where
-    go : Test (remains p v gone (segOn p d z)) → length (cond (remains p v gone (segOn p d z)) (recsOn (segmentOf p v gone (segOn p d z)) d) []) ≤ p .S
-    go (yes! q) = rw q (length-recs p v gone (segOn p d z) d h)
-    go (no! q) = rw q (omega arith)
+    go : (b : Bool) → keep k l ≡ flat (λ (x : A). cond (k x) (x ∷ []) []) l → consIf b a (keep k l) ≡ cond b (a ∷ []) [] ++ flat (λ (x : A). cond (k x) (x ∷ []) []) l
+    go true e = unfold consIf in ap (λ (x : List A). a ∷ x) e
+    go false e = unfold consIf in e
 
-pub compact-is : (p : Params) (v : View) (gone : ℕ) → compactTable p (segments p v gone) ≡ gridOf p (λ d z. compactRow p (rowAt p v gone d z))
-unfolding compactTable drivesOf gridOf rowAt
-compact-is p v gone = flat-cong (λ d. flat (λ z. compactRow p (rowOf p (segments p v gone) d z)) (below (p .Z))) (λ d. flat (λ z. compactRow p (rowAt p v gone d z)) (below (p .Z))) (below (p .N))
-    (λ d m. flat-cong (λ z. compactRow p (rowOf p (segments p v gone) d z)) (λ z. compactRow p (rowAt p v gone d z)) (below (p .Z))
-    (λ z n. ap (compactRow p) (row-is p v gone d z (below-in (p .N) d m) (below-in (p .Z) z n))))
+-- of a list for each segment that remains, that of the one with a given zone on a present drive
+module _ (p : Params) (v : View) (gone : ℕ) (here : Here p gone) where
+  pub seg-row : {B : Type 0} (f : Seg → List B) (d : ℕ) (g : Seg) → In g (remaining p v gone) → ((h : Seg) → In h (remaining p v gone) → zoneOn h d ≡ zoneOn g d → h ≡ g)
+      → flat (λ (x : Seg). cond (eqb (zoneOn x d) (zoneOn g d)) (f x) []) (remaining p v gone) ≡ f g
+  seg-row {B} f d g m once =
+      let a = remaining-at p v gone here g m in
+      let z = a .zone in
+      let row : Seg → List B = λ (x : Seg). cond (eqb (zoneOn x d) (zoneOn g d)) (f x) [] in
+      let ks = keep (remainsAt p v gone) (below (p .Z)) in
+      let one : flat (λ i. cond (eqb i z) (f (segAt p v gone i)) []) ks ≡ cond (remainsAt p v gone z) (f (segAt p v gone z)) [] =
+      unfold below in the-row (remainsAt p v gone) (λ i. f (segAt p v gone i)) z 0 (p .Z) (omega arith) (let l = a .zone-low in omega arith) in
+      ap (flat row) (remaining-is p v gone)
+      ∙ flat-map row (segAt p v gone) ks
+      ∙ flat-cong (λ i. row (segAt p v gone i)) (λ i. cond (eqb i z) (f (segAt p v gone i)) []) ks (λ i n. ap (λ (b : Bool). cond b (f (segAt p v gone i)) []) (same a i n))
+      ∙ one
+      ∙ cond-true (remainsAt p v gone z) (f (segAt p v gone z)) [] (a .it-remains)
+      ∙ ap f (sym (a .it-is))
+    where
+      same : (a : At p v gone here g) (i : ℕ) → In i (keep (remainsAt p v gone) (below (p .Z))) → eqb (zoneOn (segAt p v gone i) d) (zoneOn g d) ≡ eqb i (a .zone)
+      same a i n = go (ℕ-discrete i (a .zone))
+        where
+          in! : (i < p .Z) × (remainsAt p v gone i ≡ true)
+          in! = let (j, q) = keep-in (remainsAt p v gone) (below (p .Z)) i n in (below-in (p .Z) i j, q)
 
-pub compact-row-long : (p : Params) (v : View) (gone d z : ℕ) → d < p .N → z < p .Z → length (compactRow p (rowAt p v gone d z)) ≡ p .S
-compact-row-long p v gone d z hd hz = row-long p (rowAt p v gone d z) (row-low p v gone d z hd)
+          go : Dec (i ≡ a .zone) → eqb (zoneOn (segAt p v gone i) d) (zoneOn g d) ≡ eqb i (a .zone)
+          go (yes e) = eq-eqb (zoneOn (segAt p v gone i) d) (zoneOn g d) (ap (λ (x : Seg). zoneOn x d) (ap (segAt p v gone) e ∙ sym (a .it-is))) ∙ sym (eq-eqb i (a .zone) e)
+          go (no x) = ne-eqb (zoneOn (segAt p v gone i) d) (zoneOn g d)
+              (λ e. x (sym (seg-at-zone p v gone here i (leads! i (in! .1)))
+              ∙ ap (λ (y : Seg). zoneOn y (lowDrive p gone)) (once (segAt p v gone i) (at-remaining p v gone here i (in! .0) (in! .1)) e ∙ a .it-is)
+              ∙ seg-at-zone p v gone here (a .zone) (a .it-leads)))
+              ∙ sym (ne-eqb i (a .zone) x)
+            where
+              leads! : (i : ℕ) → remainsAt p v gone i ≡ true → leads p v (lowDrive p gone) i ≡ true
+              leads! i q = leads-of p v gone here i q
 
-pub length-compact : (p : Params) (v : View) (gone : ℕ) → length (compactTable p (segments p v gone)) ≡ compactLen p
-length-compact p v gone = ap length (compact-is p v gone) ∙ grid-long p (λ d z. compactRow p (rowAt p v gone d z)) (compact-row-long p v gone)
+  abbrev rows : ℕ → ℕ → List Rec
+  rows d z = rowOf p (segments p v gone) d z
 
-pub compact-at : (p : Params) (v : View) (gone d z o : ℕ) → d < p .N → z < p .Z → o < p .S
-    → getD (compactTable p (segments p v gone)) (compactAt p d z o) 0 ≡ getD (compactRow p (rowAt p v gone d z)) o 0
-compact-at p v gone d z o hd hz ho =
-    ap (λ (x : List ℕ). getD x (compactAt p d z o) 0) (compact-is p v gone) ∙ grid-at p (λ d z. compactRow p (rowAt p v gone d z)) (compact-row-long p v gone) d z o hd hz ho
+  by-segs : (d z : ℕ) → rows d z ≡ flat (λ x. cond (eqb (zoneOn x d) z) (recsOn (segmentOf p v gone x) d) []) (remaining p v gone)
+  unfolding rowOf segments
+  by-segs d z =
+      flat-map (λ (x : Segment). cond (eqb (zoneOn (x .seg) d) z) (recsOn x d) []) (segmentOf p v gone) (remaining p v gone)
+      ∙ flat-cong (λ x. cond (eqb (zoneOn (segmentOf p v gone x .seg) d) z) (recsOn (segmentOf p v gone x) d) [])
+      (λ x. cond (eqb (zoneOn x d) z) (recsOn (segmentOf p v gone x) d) []) (remaining p v gone)
+      (λ x m. ap (λ (y : Seg). cond (eqb (zoneOn y d) z) (recsOn (segmentOf p v gone x) d) []) (seg-is p v gone x))
 
-pub row-seg : (p : Params) (v : View) (gone d : ℕ) (g : Seg) → d < p .N → Named p g
-    → rowAt p v gone d (zoneOn g d) ≡ cond (remains p v gone g) (recsOn (segmentOf p v gone g) d) []
-unfolding rowAt
-row-seg p v gone d g k h = ap (λ (x : Seg). cond (remains p v gone x) (recsOn (segmentOf p v gone x) d) []) (seg-on-is p g d k h)
+  -- the records of a segment's zone on a present drive
+  pub row-seg : (d : ℕ) (g : Seg) → d < p .N → isIn gone d ≡ false → In g (remaining p v gone) → rowOf p (segments p v gone) d (zoneOn g d) ≡ recsOn (segmentOf p v gone g) d
+  row-seg d g k pr m = by-segs d (zoneOn g d) ∙ seg-row (λ x. recsOn (segmentOf p v gone x) d) d g m (λ h n e. remaining-once p v gone here h g d n m k pr e)
 
--- the compact table is the same where the rows of the segments are
-pub compact-rows : (p : Params) (v u : View) (gone : ℕ) → ((d : ℕ) (g : Seg) → d < p .N → Named p g → rowAt p v gone d (zoneOn g d) ≡ rowAt p u gone d (zoneOn g d))
+  -- the one segment with its zone on a drive
+  pub one-holder : (d : ℕ) (g : Seg) → In g (remaining p v gone) → ((h : Seg) → In h (remaining p v gone) → zoneOn h d ≡ zoneOn g d → h ≡ g)
+      → holders p v gone d (zoneOn g d) ≡ g ∷ []
+  unfolding holders
+  one-holder d g m once = keep-flat-one (λ x. eqb (zoneOn x d) (zoneOn g d)) (remaining p v gone) ∙ seg-row (λ x. x ∷ []) d g m once
+
+  -- a zone that no remaining segment has
+  pub row-none : (d z : ℕ) → ((g : Seg) → In g (remaining p v gone) → zoneOn g d ≡ z → ⊥) → rowOf p (segments p v gone) d z ≡ []
+  row-none d z n = by-segs d z ∙ flat-nothing (λ x. cond (eqb (zoneOn x d) z) (recsOn (segmentOf p v gone x) d) []) (remaining p v gone)
+      (λ x m. cond-false (eqb (zoneOn x d) z) (recsOn (segmentOf p v gone x) d) [] (ne-eqb (zoneOn x d) z (n x m)))
+
+  -- a missing drive's rows are empty
+  pub row-gone : (d z : ℕ) → d < p .N → isIn gone d ≡ true → rowOf p (segments p v gone) d z ≡ []
+  row-gone d z h q = by-segs d z ∙ flat-nothing (λ x. cond (eqb (zoneOn x d) z) (recsOn (segmentOf p v gone x) d) []) (remaining p v gone)
+      (λ x m. ap (λ (l : List Rec). cond (eqb (zoneOn x d) z) l []) (recs-gone p v gone x d h q) ∙ cond-same (eqb (zoneOn x d) z) [])
+
+  -- its records are of stored blocks
+  pub row-low : (d z : ℕ) → d < p .N → length (rowOf p (segments p v gone) d z) ≤ p .S
+  row-low d z h = go (test (isIn gone d)) (test (any (λ g. eqb (zoneOn g d) z) (remaining p v gone)))
+    where
+      go : Test (isIn gone d) → Test (any (λ g. eqb (zoneOn g d) z) (remaining p v gone)) → length (rowOf p (segments p v gone) d z) ≤ p .S
+      go (yes! q) e = subst (λ (l : List Rec). length l ≤ p .S) (sym (row-gone d z h q)) (omega arith)
+      go (no! q) (yes! e) =
+          let (g, m, s) = any-in (λ g. eqb (zoneOn g d) z) (remaining p v gone) e in
+          subst (λ (n : ℕ). length (rowOf p (segments p v gone) d n) ≤ p .S) (eqb-true (zoneOn g d) z s)
+          (subst (λ (l : List Rec). length l ≤ p .S) (sym (row-seg d g h q m)) (length-recs p v gone g d h))
+      go (no! q) (no! e) =
+          subst (λ (l : List Rec). length l ≤ p .S) (sym (row-none d z (λ g m s. clash (eq-eqb (zoneOn g d) z s) (none-in (λ g. eqb (zoneOn g d) z) (remaining p v gone) e g m)))) (omega arith)
+
+  -- ---- the compact table, by rows
+
+  pub compact-is : compactTable p (segments p v gone) ≡ gridOf p (λ d z. compactRow p (rowOf p (segments p v gone) d z))
+  unfolding compactTable drivesOf gridOf
+  compact-is = refl
+
+  pub compact-row-long : (d z : ℕ) → d < p .N → z < p .Z → length (compactRow p (rowOf p (segments p v gone) d z)) ≡ p .S
+  compact-row-long d z hd hz = row-long p (rowOf p (segments p v gone) d z) (row-low d z hd)
+
+  pub length-compact : length (compactTable p (segments p v gone)) ≡ compactLen p
+  length-compact = ap length compact-is ∙ grid-long p (λ d z. compactRow p (rowOf p (segments p v gone) d z)) compact-row-long
+
+  pub compact-at : (d z o : ℕ) → d < p .N → z < p .Z → o < p .S
+      → getD (compactTable p (segments p v gone)) (compactAt p d z o) 0 ≡ getD (compactRow p (rowOf p (segments p v gone) d z)) o 0
+  compact-at d z o hd hz ho =
+      ap (λ (x : List ℕ). getD x (compactAt p d z o) 0) compact-is ∙ grid-at p (λ d z. compactRow p (rowOf p (segments p v gone) d z)) compact-row-long d z o hd hz ho
+
+-- the compact table is the same where the rows are
+pub compact-rows : (p : Params) (v u : View) (gone : ℕ) → ((d z : ℕ) → d < p .N → z < p .Z → rowOf p (segments p v gone) d z ≡ rowOf p (segments p u gone) d z)
     → compactTable p (segments p v gone) ≡ compactTable p (segments p u gone)
-compact-rows p v u gone f =
-    compact-is p v gone
-    ∙ grid-cong p (λ d z. compactRow p (rowAt p v gone d z)) (λ d z. compactRow p (rowAt p u gone d z))
-    (λ d z hd hz. ap (compactRow p) (by-seg (λ x. rowAt p v gone d x ≡ rowAt p u gone d x) p d z hd hz (λ g hg. f d g hd hg)))
-    ∙ sym (compact-is p u gone)
+unfolding compactTable drivesOf
+compact-rows p v u gone f = grid! (λ d z hd hz. ap (compactRow p) (f d z hd hz))
+  where
+    grid! : ((d z : ℕ) → d < p .N → z < p .Z → compactRow p (rowOf p (segments p v gone) d z) ≡ compactRow p (rowOf p (segments p u gone) d z))
+        → flat (λ d. flat (λ z. compactRow p (rowOf p (segments p v gone) d z)) (below (p .Z))) (below (p .N))
+        ≡ flat (λ d. flat (λ z. compactRow p (rowOf p (segments p u gone) d z)) (below (p .Z))) (below (p .N))
+    grid! h = flat-cong (λ d. flat (λ z. compactRow p (rowOf p (segments p v gone) d z)) (below (p .Z)))
+        (λ d. flat (λ z. compactRow p (rowOf p (segments p u gone) d z)) (below (p .Z))) (below (p .N))
+        (λ d m. flat-cong (λ z. compactRow p (rowOf p (segments p v gone) d z)) (λ z. compactRow p (rowOf p (segments p u gone) d z)) (below (p .Z))
+        (λ z n. h d z (below-in (p .N) d m) (below-in (p .Z) z n)))

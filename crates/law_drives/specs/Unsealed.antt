@@ -20,20 +20,19 @@ use Rattle.law_basic.specs.Geometry.{Ranged}
 use Rattle.law_basic.specs.Mask.{isIn-empty}
 use Rattle.law_basic.specs.Ranges.{Test, test, and-left, and-both, length-below, length-keep, sameList-true, nil-is}
 use Rattle.law_basic.specs.Ranges.Test.{yes!, no! }
-use Rattle.law_basic.specs.Segs.{Named}
 use Rattle.law_drives.specs.Accept.{Accepted, faults-apart, zone-stripes, in-groups}
 use Rattle.law_drives.specs.Counting.{Different, different-few, holds-many, stripes-different}
 use Rattle.law_drives.specs.Members.{In, in-map, map-in, in-keep, keep-in, in-any, in-below, below-in, in-getD, getD-in}
 use Rattle.law_drives.specs.Rebuilding.{counted-low, counted-in}
-use Rattle.law_drives.specs.Segs.{length-records, record-at, seg-is, full-is, chunk-at, has-chunk}
-use Rattle.law_drives.specs.Settled.{present-all}
+use Rattle.law_drives.specs.Segs.{length-records, record-at, seg-is, full-is, chunk-at, has-chunk, remaining-left}
+use Rattle.law_drives.specs.Settled.{present-all, its-zone}
 use Rattle.law_drives.specs.Spots.{counts-in}
 use Rattle.law_drives.specs.Steady.{Steady}
-use Rattle.law_drives.specs.Tables.{remains, in-remaining, remaining-in}
 use Rattle.law_drives.specs.Tests.{clash, or-first, or-right}
-use Rattle.law_drives.specs.Tidy.{spareAt, usedAt}
+use Rattle.law_drives.specs.Tidy.{spareAt, There}
 use Rattle.law_drives.specs.Zones.{Shaped}
 use Rattle.spec.specs.declared.Seg.{Seg}
+use Rattle.law_drives.specs.Headers.{empty-unused}
 
 -- all are kept
 pub keep-full : {A : Type 0} (f : A → Bool) (l : List A) → length (keep f l) ≡ length l → (a : A) → In a l → f a ≡ true
@@ -60,37 +59,32 @@ keep-full {A} f l e a m = go (test (f a))
 
 -- which are unsealed: none, or one
 pub data Loose (p : Params) (v : View) : Type 0 where
-  loose-none : unsealed (segments p v 0) ≡ [] → ((y : Seg) → Named p y → remains p v 0 y ≡ true → sealedIn p v 0 y ≡ true) → Loose p v
+  loose-none : unsealed (segments p v 0) ≡ [] → ((y : Seg) → In y (remaining p v 0) → sealedIn p v 0 y ≡ true) → Loose p v
   loose-one :
       (g : Seg)
-      → Named p g
-      → remains p v 0 g ≡ true
+      → In g (remaining p v 0)
       → sealedIn p v 0 g ≡ false
       → unsealed (segments p v 0) ≡ segmentOf p v 0 g ∷ []
-      → ((y : Seg) → Named p y → remains p v 0 y ≡ true → (y ≡ g → ⊥) → sealedIn p v 0 y ≡ true)
+      → ((y : Seg) → In y (remaining p v 0) → (y ≡ g → ⊥) → sealedIn p v 0 y ≡ true)
       → Loose p v
 
 module _ (p : Params) (r : Ranged p) (v : View) (sh : Shaped p v) (acc : Accepted p v 0) where
   abbrev gs : List Segment
   gs = segments p v 0
 
-  abbrev keeps! : Seg → Bool
-  keeps! y = remains p v 0 y
-
-  in-unsealed : (y : Seg) → Named p y → keeps! y ≡ true → sealedIn p v 0 y ≡ false → In (segmentOf p v 0 y) (unsealed gs)
-  in-unsealed y hy q ns =
+  in-unsealed : (y : Seg) → In y (remaining p v 0) → sealedIn p v 0 y ≡ false → In (segmentOf p v 0 y) (unsealed gs)
+  in-unsealed y q ns =
       as! (in-keep (λ (g : Segment). not (g .full)) (map (segmentOf p v 0) (remaining p v 0)) (segmentOf p v 0 y)
-      (in-map (segmentOf p v 0) (remaining p v 0) y (in-remaining p v 0 y hy q)) (ap not (full-is p v 0 y ∙ ns)))
+      (in-map (segmentOf p v 0) (remaining p v 0) y q) (ap not (full-is p v 0 y ∙ ns)))
     where
       as! : In (segmentOf p v 0 y) (keep (λ (g : Segment). not (g .full)) (map (segmentOf p v 0) (remaining p v 0))) → In (segmentOf p v 0 y) (unsealed gs)
       as! m = unfold unsealed segments in m
 
-  unsealed-in : (x : Segment) → In x (unsealed gs) → (g : Seg) × (Named p g) × (keeps! g ≡ true) × (sealedIn p v 0 g ≡ false) × (x ≡ segmentOf p v 0 g)
+  unsealed-in : (x : Segment) → In x (unsealed gs) → (g : Seg) × In g (remaining p v 0) × (sealedIn p v 0 g ≡ false) × (x ≡ segmentOf p v 0 g)
   unsealed-in x m =
       let (i, q) = keep-in (λ (g : Segment). not (g .full)) (map (segmentOf p v 0) (remaining p v 0)) x (as! m) in
       let (g, j, e) = map-in (segmentOf p v 0) (remaining p v 0) x i in
-      let (hg, k) = remaining-in p v 0 g j in
-      (g, hg, k, sym (full-is p v 0 g) ∙ ap (λ (y : Segment). y .full) (sym e) ∙ not-true (x .full) q, e)
+      (g, j, sym (full-is p v 0 g) ∙ ap (λ (y : Segment). y .full) (sym e) ∙ not-true (x .full) q, e)
     where
       as! : In x (unsealed gs) → In x (keep (λ (g : Segment). not (g .full)) (map (segmentOf p v 0) (remaining p v 0)))
       as! m = unfold unsealed segments in m
@@ -102,28 +96,28 @@ module _ (p : Params) (r : Ranged p) (v : View) (sh : Shaped p v) (acc : Accepte
   loose = go (unsealed gs) refl
     where
       go : (us : List Segment) → unsealed gs ≡ us → Loose p v
-      go [] e = loose-none e (λ y hy q. not-false! (sealedIn p v 0 y) (λ ns. subst (λ (l : List Segment). In (segmentOf p v 0 y) l) e (in-unsealed y hy q ns)))
+      go [] e = loose-none e (λ y q. not-false! (sealedIn p v 0 y) (λ ns. subst (λ (l : List Segment). In (segmentOf p v 0 y) l) e (in-unsealed y q ns)))
         where
           not-false! : (b : Bool) → (b ≡ false → ⊥) → b ≡ true
           not-false! true f = refl
           not-false! false f = absurd (f refl)
       go (x ∷ []) e =
-          let (g, hg, k, ns, f) = unsealed-in x (subst (λ (l : List Segment). In x l) (sym e) (inl refl)) in
-          loose-one g hg k ns (e ∙ ap (λ (y : Segment). y ∷ []) f) (others g f)
+          let (g, k, ns, f) = unsealed-in x (subst (λ (l : List Segment). In x l) (sym e) (inl refl)) in
+          loose-one g k ns (e ∙ ap (λ (y : Segment). y ∷ []) f) (others g f)
         where
           not-false! : (b : Bool) → (b ≡ false → ⊥) → b ≡ true
           not-false! true f = refl
           not-false! false f = absurd (f refl)
 
-          others : (g : Seg) → x ≡ segmentOf p v 0 g → (y : Seg) → Named p y → keeps! y ≡ true → (y ≡ g → ⊥) → sealedIn p v 0 y ≡ true
-          others g f y hy q n = not-false! (sealedIn p v 0 y) (λ ns. one (subst (λ (l : List Segment). In (segmentOf p v 0 y) l) e (in-unsealed y hy q ns)))
+          others : (g : Seg) → x ≡ segmentOf p v 0 g → (y : Seg) → In y (remaining p v 0) → (y ≡ g → ⊥) → sealedIn p v 0 y ≡ true
+          others g f y q n = not-false! (sealedIn p v 0 y) (λ ns. one (subst (λ (l : List Segment). In (segmentOf p v 0 y) l) e (in-unsealed y q ns)))
             where
               one : (segmentOf p v 0 y ≡ x) ⊎ ⊥ → ⊥
               one (inl w) = n (segment-injective y g (w ∙ f))
               one (inr w) = w
       go (x ∷ (x2 ∷ us)) e =
-          let (g, hg, k, ns, f) = unsealed-in x (subst (λ (l : List Segment). In x l) (sym e) (inl refl)) in
-          clash (both g ns) (faults-apart p v 0 acc g (in-remaining p v 0 g hg k) .no-clash)
+          let (g, k, ns, f) = unsealed-in x (subst (λ (l : List Segment). In x l) (sym e) (inl refl)) in
+          clash (both g ns) (faults-apart p v 0 acc g k .no-clash)
         where
           both : (g : Seg) → sealedIn p v 0 g ≡ false → clashes gs (segmentOf p v 0 g) ≡ true
           both g ns =
@@ -133,7 +127,7 @@ module _ (p : Params) (r : Ranged p) (v : View) (sh : Shaped p v) (acc : Accepte
 
   -- ---- the zones of an unsealed segment
 
-  module _ (g : Seg) (hg : Named p g) (kg : keeps! g ≡ true) (ng : sealedIn p v 0 g ≡ false) where
+  module _ (g : Seg) (ing : In g (remaining p v 0)) (ng : sealedIn p v 0 g ≡ false) where
     abbrev x : Segment
     x = segmentOf p v 0 g
 
@@ -142,9 +136,6 @@ module _ (p : Params) (r : Ranged p) (v : View) (sh : Shaped p v) (acc : Accepte
 
     abbrev rs : ℕ → List Rec
     rs d = recordsIn p false (zoneAt v d (zoneOn g d))
-
-    ing : In g (remaining p v 0)
-    ing = in-remaining p v 0 g hg kg
 
     by-spare : (d o : ℕ) → recordIn p (sealedIn p v 0 g) (zoneAt v d (zoneOn g d)) o ≡ spareAt p v d (zoneOn g d) o
     by-spare d o = ap (λ (w : Bool). recordIn p w (zoneAt v d (zoneOn g d)) o) ng
@@ -259,12 +250,11 @@ module _ (p : Params) (r : Ranged p) (v : View) (sh : Shaped p v) (acc : Accepte
           as! : dataStored p (zoneAt v d (zoneOn g d)) ≡ c → (pointerAt v d (zoneOn g d) ≡ 0 → ⊥) → pointerAt v d (zoneOn g d) ≡ 1 + c
           as! e n = unfold dataStored pointerAt in (let f = few! in let m : ¬ (zoneAt v d (zoneOn g d) .pointer ≡ 0) = n in omega arith)
 
-      pub tidy-steady : usedAt v g ≡ true → ((d : ℕ) → d < p .N → pointerAt v d (zoneOn g d) ≡ 0 → ⊥) → Steady p v g c
-      tidy-steady us n = record {
-        steady-low = hg;
-        steady-used = us;
+      pub tidy-steady : Steady p v g c
+      tidy-steady = record {
+        steady-low = there;
         steady-few = few!;
-        steady-pointer = λ d hd. tidy-pointer d hd (n d hd);
+        steady-pointer = λ d hd. tidy-pointer d hd (λ e. clash (its-zone p r v g there d hd .used) (empty-unused p v d (zoneOn g d) e));
         steady-stripes = λ d o hd h.
             let l : o < dataStored p (zoneAt v d (zoneOn g d)) = subst (λ (k : ℕ). o < k) (sym (stored-are d hd)) h in
             let s = spareAt p v d (zoneOn g d) o .stripe in
@@ -273,5 +263,8 @@ module _ (p : Params) (r : Ranged p) (v : View) (sh : Shaped p v) (acc : Accepte
         steady-count = refl;
       }
         where
+          there : There p v g
+          there = remaining-left p v 0 g ing
+
           low : (o s : ℕ) → inGroupOf p o s ≡ true → s < p .S
           low o s q = unfold inGroupOf in ltb-true s (p .S) (and-left (ltb s (p .S)) (eqb (group p s) (group p o)) q)

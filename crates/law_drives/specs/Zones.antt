@@ -22,8 +22,8 @@ use Rattle.law_drives.specs.Tests.{cond-true, cond-false, eqb-self}
 
 -- the view has N drives of Z zones
 pub record Sized (p : Params) (v : View) : Type 0 where
-  pub drives-long : length v ≡ p .N
-  pub zones-long : (d : ℕ) → d < p .N → length (getD v d []) ≡ p .Z
+  pub drives-long : length (v .zones) ≡ p .N
+  pub zones-long : (d : ℕ) → d < p .N → length (getD (v .zones) d []) ≡ p .Z
 
 -- ---- bytes, chunks and zones as they should be
 
@@ -65,34 +65,34 @@ hits d z ss = keep (hitsAt d z) ss
 pub zone-set : (p : Params) (v : View) (d z : ℕ) (q : Zone) → Sized p v → d < p .N → z < p .Z → zoneAt (setZone v d z q) d z ≡ q
 unfolding zoneAt setZone
 zone-set p v d z q s hd hz =
-    ap (λ x. getD x z noZone) (getD-set-same v d (set (getD v d []) z q) [] (subst (λ x. d < x) (sym (s .drives-long)) hd))
-    ∙ getD-set-same (getD v d []) z q noZone (subst (λ x. z < x) (sym (s .zones-long d hd)) hz)
+    ap (λ x. getD x z noZone) (getD-set-same (v .zones) d (set (getD (v .zones) d []) z q) [] (subst (λ x. d < x) (sym (s .drives-long)) hd))
+    ∙ getD-set-same (getD (v .zones) d []) z q noZone (subst (λ x. z < x) (sym (s .zones-long d hd)) hz)
 
 pub zone-set-other : (p : Params) (v : View) (d z e y : ℕ) (q : Zone) → (eqb e d && eqb y z) ≡ false → Sized p v → d < p .N → zoneAt (setZone v e y q) d z ≡ zoneAt v d z
 unfolding zoneAt setZone
 zone-set-other p v d z e y q h s hd = go (test (eqb e d))
   where
-    go : Test (eqb e d) → getD (getD (set v e (set (getD v e []) y q)) d []) z noZone ≡ getD (getD v d []) z noZone
-    go (no! n) = ap (λ x. getD x z noZone) (getD-set-other v e d (set (getD v e []) y q) [] (λ x. eqb-false e d n (sym x)))
+    go : Test (eqb e d) → getD (getD (set (v .zones) e (set (getD (v .zones) e []) y q)) d []) z noZone ≡ getD (getD (v .zones) d []) z noZone
+    go (no! n) = ap (λ x. getD x z noZone) (getD-set-other (v .zones) e d (set (getD (v .zones) e []) y q) [] (λ x. eqb-false e d n (sym x)))
     go (yes! n) =
         let i : e ≡ d = eqb-true e d n in
         let k : eqb y z ≡ false = rw n at h in
-        ap (λ x. getD (getD (set v x (set (getD v x []) y q)) d []) z noZone) i
-        ∙ ap (λ x. getD x z noZone) (getD-set-same v d (set (getD v d []) y q) [] (subst (λ x. d < x) (sym (s .drives-long)) hd))
-        ∙ getD-set-other (getD v d []) y z q noZone (λ x. eqb-false y z k (sym x))
+        ap (λ x. getD (getD (set (v .zones) x (set (getD (v .zones) x []) y q)) d []) z noZone) i
+        ∙ ap (λ x. getD x z noZone) (getD-set-same (v .zones) d (set (getD (v .zones) d []) y q) [] (subst (λ x. d < x) (sym (s .drives-long)) hd))
+        ∙ getD-set-other (getD (v .zones) d []) y z q noZone (λ x. eqb-false y z k (sym x))
 
 pub sized-set : (p : Params) (v : View) (d z : ℕ) (q : Zone) → Sized p v → Sized p (setZone v d z q)
 unfolding setZone
 sized-set p v d z q s = record {
-  drives-long = length-set v d (set (getD v d []) z q) ∙ s .drives-long;
+  drives-long = length-set (v .zones) d (set (getD (v .zones) d []) z q) ∙ s .drives-long;
   zones-long = λ e h. go e h (ℕ-discrete e d);
 }
   where
-    go : (e : ℕ) → e < p .N → Dec (e ≡ d) → length (getD (set v d (set (getD v d []) z q)) e []) ≡ p .Z
-    go e h (yes x) = ap length (ap (λ y. getD (set v d (set (getD v d []) z q)) y []) x
-        ∙ getD-set-same v d (set (getD v d []) z q) [] (subst (λ y. d < y) (sym (s .drives-long)) (subst (λ y. y < p .N) x h)))
-        ∙ length-set (getD v d []) z q ∙ s .zones-long d (subst (λ y. y < p .N) x h)
-    go e h (no x) = ap length (getD-set-other v d e (set (getD v d []) z q) [] x) ∙ s .zones-long e h
+    go : (e : ℕ) → e < p .N → Dec (e ≡ d) → length (getD (set (v .zones) d (set (getD (v .zones) d []) z q)) e []) ≡ p .Z
+    go e h (yes x) = ap length (ap (λ y. getD (set (v .zones) d (set (getD (v .zones) d []) z q)) y []) x
+        ∙ getD-set-same (v .zones) d (set (getD (v .zones) d []) z q) [] (subst (λ y. d < y) (sym (s .drives-long)) (subst (λ y. y < p .N) x h)))
+        ∙ length-set (getD (v .zones) d []) z q ∙ s .zones-long d (subst (λ y. y < p .N) x h)
+    go e h (no x) = ap length (getD-set-other (v .zones) d e (set (getD (v .zones) d []) z q) [] x) ∙ s .zones-long e h
 
 pub sized-store : (p : Params) (v : View) (s : Store) → Sized p v → Sized p (storeView s v)
 unfolding storeView

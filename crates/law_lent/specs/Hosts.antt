@@ -31,15 +31,18 @@ refused-keeps {D} p f n d m b none q h e = absurd (go (leb (length (q .stores)) 
 
 -- what the code leaves of the call on the decoded state: the state's bytes are encoded anew unless t says that it is refused
 abbrev encoded : Lent → After Disk → Bool → Left
-encoded l x t = record { answer = x .answer; lent = lentAll (x .drives) (x .memory) (cond t (l .state) (stateBytes (x .memory .state))); block = x .block }
+encoded l x t = record { answer = x .answer; lent = lentAll (l .offline) (x .drives) (x .memory) (cond t (l .state) (stateBytes (x .memory .state))); block = x .block }
 
 encoded-left : (l : Lent) (x : After Disk) (b : List ℕ) (t : Bool) → (t ≡ true → x ≡ mkAfter (x .answer) (lentDisk l) (lentMemory l) b) → encoded l x t ≡ leftBy l x t
 unfolding leftBy lentAll lentDisk lentMemory
 encoded-left l x b false h = refl
-encoded-left l x b true h = ap (λ (y : After Disk). record { answer = x .answer; lent = lentAll (y .drives) (y .memory) (l .state); block = x .block }) (h refl)
+encoded-left l x b true h = ap (λ (y : After Disk). record { answer = x .answer; lent = lentAll (l .offline) (y .drives) (y .memory) (l .state); block = x .block }) (h refl)
 
 module _ (p : Params) (l : Lent) (c : Call) where
   -- the lent buffers before the call
+  abbrev off : List ℕ
+  off = l .offline
+
   abbrev disk : Disk
   disk = lentDisk l
 
@@ -47,32 +50,32 @@ module _ (p : Params) (l : Lent) (c : Call) where
   memory = lentMemory l
 
   -- the state's bytes have their length: the call is that on the decoded state
-  pub bytes-long : length (l .state) ≡ stateLen → callBytes p l c ≡ leftBy l (callDisk p disk memory c) (isRefused (callDisk p disk memory c .answer))
+  pub bytes-long : length (l .state) ≡ stateLen → callBytes p l c ≡ leftBy l (callDisk p off disk memory c) (isRefused (callDisk p off disk memory c .answer))
   unfolding callBytes callDisk
   bytes-long h =
-      let long = lentOk p disk memory in
+      let long = lentOk p off disk memory in
       let e : (long && eqb (length (l .state)) stateLen) ≡ long = ap (λ (x : Bool). long && x) (eq-eqb (length (l .state)) stateLen h) ∙ and-true long in
-      ap (λ (x : Bool). leftBy l (callOn p x disk memory c) (isRefused (callOn p x disk memory c .answer))) e
+      ap (λ (x : Bool). leftBy l (callOn p off x disk memory c) (isRefused (callOn p off x disk memory c .answer))) e
 
   -- another length: refused, as with any other buffer
-  pub bytes-short : (length (l .state) ≡ stateLen → ⊥) → (a : Answer) (b : List ℕ) → isRefused a ≡ true → callOn p false disk memory c ≡ mkAfter a disk memory b
+  pub bytes-short : (length (l .state) ≡ stateLen → ⊥) → (a : Answer) (b : List ℕ) → isRefused a ≡ true → callOn p off false disk memory c ≡ mkAfter a disk memory b
       → record { answer = a; lent = l; block = b } ≡ callBytes p l c
   unfolding callBytes leftBy
   bytes-short h a b r e =
-      let long = lentOk p disk memory in
+      let long = lentOk p off disk memory in
       let f : (long && eqb (length (l .state)) stateLen) ≡ false = ap (λ (x : Bool). long && x) (ne-eqb (length (l .state)) stateLen h) ∙ and-false long in
       ap (λ (x : Bool). leftBy l (mkAfter a disk memory b) x) (sym r)
       ∙ ap (λ (x : After Disk). leftBy l x (isRefused (x .answer))) (sym e)
-      ∙ ap (λ (x : Bool). leftBy l (callOn p x disk memory c) (isRefused (callOn p x disk memory c .answer))) (sym f)
+      ∙ ap (λ (x : Bool). leftBy l (callOn p off x disk memory c) (isRefused (callOn p off x disk memory c .answer))) (sym f)
 
   -- what the code leaves: r of the call on the decoded state, and the state's bytes encoded anew unless it is refused
   pub bytes-left : length (l .state) ≡ stateLen → (b : List ℕ)
-      → (isRefused (callDisk p disk memory c .answer) ≡ true → callDisk p disk memory c ≡ mkAfter (callDisk p disk memory c .answer) disk memory b)
-      → (r : After Disk) → r ≡ callDisk p disk memory c
+      → (isRefused (callDisk p off disk memory c .answer) ≡ true → callDisk p off disk memory c ≡ mkAfter (callDisk p off disk memory c .answer) disk memory b)
+      → (r : After Disk) → r ≡ callDisk p off disk memory c
       → (s : List ℕ) → s ≡ cond (isRefused (r .answer)) (l .state) (stateBytes (r .memory .state))
-      → record { answer = r .answer; lent = lentAll (r .drives) (r .memory) s; block = r .block } ≡ callBytes p l c
+      → record { answer = r .answer; lent = lentAll (l .offline) (r .drives) (r .memory) s; block = r .block } ≡ callBytes p l c
   bytes-left h b kept r e s t =
-      let x = callDisk p disk memory c in
-      ap (λ (y : List ℕ). record { answer = r .answer; lent = lentAll (r .drives) (r .memory) y; block = r .block }) t
+      let x = callDisk p off disk memory c in
+      ap (λ (y : List ℕ). record { answer = r .answer; lent = lentAll (l .offline) (r .drives) (r .memory) y; block = r .block }) t
       ∙ ap (λ (y : After Disk). encoded l y (isRefused (y .answer))) e
       ∙ encoded-left l x b (isRefused (x .answer)) kept ∙ sym (bytes-long h)

@@ -10,7 +10,7 @@ use Rattle.spec.specs.Segments.{Segment, recordsIn, segmentOf, recsOn, counted}
 use Rattle.spec.specs.declared.Params.{Params}
 use Rattle.law_basic.specs.Ranges.{and-both}
 use Rattle.law_drives.specs.Members.{none-in, in-none, in-getD, getD-in}
-use Rattle.law_drives.specs.Segs.{present-in, in-present, length-records, record-at, data-low, recs-here}
+use Rattle.law_drives.specs.Segs.{length-records, record-at, data-low, recs-here}
 use Rattle.law_drives.specs.Tests.{and-false-left, and-false-right, or-first, or-neither, eqb-self}
 use borrow.Author.Tests.{lt-ltb, ne-eqb}
 use lib.Dec.{leb, ltb, eqb}
@@ -22,6 +22,7 @@ use native.Mathlib.Nat.{zero-add}
 use native.Mathlib.Omega.{arith}
 use Rattle.law_drives.specs.Accept.{outside-none}
 use Rattle.spec.specs.declared.Seg.{Seg}
+use Rattle.law_drives.specs.Gather.{in-present, present-in}
 
 -- 01, Refusals, 9: no number twice
 pub twice-none : (rs : List Rec) → ((i j : ℕ) → i < j → j < length rs → getD rs j (mkRec 0 0 0) .stripe ≡ getD rs i (mkRec 0 0 0) .stripe → ⊥) → twice rs ≡ false
@@ -55,6 +56,7 @@ module _ (p : Params) (w : Bool) (q : Zone) (is : (o : ℕ) → o < dataStored p
       let l : o < dataStored p q = subst (λ (n : ℕ). o < n) (length-records p w q) h in
       ap (λ (r : Rec). r .stripe) (record-at p w q o (mkRec 0 0 0) l) ∙ is o l
 
+  -- so none is outside its group, and none twice
   pub in-order : (outside p 0 (recordsIn p w q) ≡ false) × (twice (recordsIn p w q) ≡ false)
   in-order = (
     outside-none p 0 (recordsIn p w q) (λ i h.
@@ -102,12 +104,14 @@ none-bad p v gone g d hd q e =
     ap (any (storedBad p d)) (sym (recs-here p v gone g d hd q)) ∙ none-in (λ d. any (storedBad p d) (recsOn (segmentOf p v gone g) d)) (present p gone) e d (in-present p gone d hd q)
 
 -- record by record
-pub zone-good : (p : Params) (w : Bool) (q : Zone) (d : ℕ) → ((o : ℕ) → o < dataStored p q → storedBad p d (recordIn p w q o) ≡ false) → any (storedBad p d) (recordsIn p w q) ≡ false
-zone-good p w q d f = in-none (storedBad p d) (recordsIn p w q) (λ y m.
+pub zone-none-bad : (p : Params) (w : Bool) (q : Zone) (d : ℕ)
+    → ((o : ℕ) → o < dataStored p q → storedBad p d (recordIn p w q o) ≡ false) → any (storedBad p d) (recordsIn p w q) ≡ false
+zone-none-bad p w q d f = in-none (storedBad p d) (recordsIn p w q) (λ y m.
     let (k, h, e) = getD-in (recordsIn p w q) (mkRec 0 0 0) y m in
     let l : k < dataStored p q = subst (λ (n : ℕ). k < n) (length-records p w q) h in
     ap (storedBad p d) (e ∙ record-at p w q k (mkRec 0 0 0) l) ∙ f k l)
 
+-- and of a record
 pub good-at : (p : Params) (w : Bool) (q : Zone) (d o : ℕ) → o < dataStored p q → any (storedBad p d) (recordsIn p w q) ≡ false → storedBad p d (recordIn p w q o) ≡ false
 good-at p w q d o h e =
     ap (storedBad p d) (sym (record-at p w q o (mkRec 0 0 0) h))

@@ -5,9 +5,8 @@ ghost use lib.Dec.{eqb};
 ghost use Rattle.spec.specs.declared.Params.{Params};
 ghost use Rattle.spec.specs.Counts.{lastCount};
 ghost use Rattle.spec.specs.Drives.{View};
-ghost use Rattle.spec.specs.Lists.{isNil};
 ghost use Rattle.spec.specs.Params.{inRange};
-ghost use Rattle.spec.specs.Restart.{freeSegs, rewrites};
+ghost use Rattle.spec.specs.Restart.{noneFree, rewrites};
 ghost use Rattle.spec.specs.Segments.{segments, greatestSerial};
 ghost use Rattle.law_restart.specs.Settled.{Settled};
 ghost use Rattle.law_drives.specs.Accept.{Accepted};
@@ -21,6 +20,6 @@ pub fn settles()
         → Shaped p v
         → Accepted p v 0
         → rewrites p 0 (segments p v 0) && eqb (greatestSerial (segments p v 0)) lastCount ≡ false
-        → rewrites p 0 (segments p v 0) && isNil (freeSegs p (segments p v 0)) ≡ false
+        → rewrites p 0 (segments p v 0) && noneFree p v (segments p v 0) ≡ false
         → Settled p v) ⌝ }
 {}

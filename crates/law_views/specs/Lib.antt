@@ -1,3 +1,4 @@
 pub mod Views
 pub mod Pointers
 pub mod Looked
+pub mod Alike

@@ -6,7 +6,7 @@ use Prim.Native.Nat.{ℕ}
 use borrow.Author.Tests.{eq-eqb, ne-eqb}
 use Rattle.spec.specs.declared.Params.{Params}
 use Rattle.spec.specs.Counts.{neverPlace}
-use Rattle.spec.specs.Drives.{View, placeRecord}
+use Rattle.spec.specs.Drives.{View}
 use Rattle.spec.specs.Landing.{heldCand, heldBy, held}
 use Rattle.spec.specs.Lists.{isIn}
 use Rattle.spec.specs.Lists.Opt.{none, some}
@@ -14,6 +14,7 @@ use Rattle.spec.specs.Memory.{placeAt}
 use Rattle.spec.specs.Params.{placeDrive}
 use Rattle.spec.specs.Read.{Found, storedAt, readPiece, lies, lookup}
 use Rattle.spec.specs.Read.Found.{nowhere, here, away}
+use Rattle.spec.specs.Segments.{placeRecord}
 use Rattle.law_basic.specs.Mask.{isIn-empty}
 
 module _ (p : Params) (tb : List ℕ) (a q : ℕ) (e : placeAt tb a ≡ q) where

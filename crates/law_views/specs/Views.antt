@@ -9,19 +9,19 @@ use lib.ListN.{length, getD, take, drop, set, length-append, length-drop, length
 use lib.Dec.{eqb, lit<}
 use native.Mathlib.Nat.{zero-add, suc-add, zero-mul, suc-mul, mul-comm, add-mul, mul-assoc, le-of-eq, le-trans}
 use Rattle.spec.specs.Bytes.{beOf, toBe, part, splice}
-use Rattle.spec.specs.Drives.{Chunk, mkChunk, noChunk, Zone, mkZone, noZone, View, zoneAt, pointerAt, chunkAt, chunkOf, zoneOf, driveOf, viewOf, Store}
-use Rattle.spec.specs.Drives.{putZone, resetZone, setZone, storeView, Disk, pointerByte, pointerOf, setPointer, storeDisk, storeAll, allSegs, zoneOn}
-use Rattle.spec.specs.Drives.{emptyOnAll, emptySegs, sealedIn}
+use Rattle.spec.specs.Drives.{Chunk, mkChunk, noChunk, Zone, mkZone, noZone, View, mkView, zoneAt, pointerAt, chunkAt, chunkOf, zoneOf, driveOf, zonesOf, viewOf, Store}
+use Rattle.spec.specs.Drives.{putZone, resetZone, setZone, storeView, Disk, pointerByte, pointerOf, setPointer, storeDisk, storeAll}
+use Rattle.spec.specs.Drives.{isGood, goodZones, emptyZones, zoneOn, sealedIn}
 use Rattle.spec.specs.Drives.Store.{put, reset}
 use Rattle.spec.specs.Lists.{below, all, keep, pieces, zipped, isIn}
 use Rattle.spec.specs.Params.{spareLen, capacity, unitLen, zoneLen, driveLen, imageLen, pointersLen, placeOf, placeByte, drivesOf, present}
 use Rattle.spec.specs.declared.Params.{Params}
 use Rattle.law_basic.specs.Be.{length-toBe, beOf-toBe}
 use Rattle.law_basic.specs.Geometry.{item-fits, block-within}
-use Rattle.law_basic.specs.Ranges.{Test, test, getD-map, map-set, all-below-same, all-keep, length-pieces, getD-pieces, zipped-set, getD-zipped}
+use Rattle.law_basic.specs.Ranges.{Test, test, getD-map, map-set, all-below-same, all-keep, keep-keep-same, length-pieces, getD-pieces, zipped-set, getD-zipped}
 use Rattle.law_basic.specs.Splice.{length-part, length-splice, part-add, part-part, splice-nil, splice-zero, splice-all, splice-cons-suc}
 use Rattle.law_basic.specs.Ranges.Test.{yes!, no! }
-use Rattle.law_basic.specs.Segs.{Named, zone-on-lt, ZonesLow, low-zone, keep-segs-same}
+use Rattle.law_basic.specs.Segs.{ZonesLow, low-zone}
 use Rattle.spec.specs.declared.Seg.{Seg}
 
 -- ---- splices and pieces
@@ -131,12 +131,12 @@ drive-splice p im ps z j t s₁ s₂ hz h₁ h₂ l₁ l₂ =
     (splice (getD (pieces (zoneLen p) (p .Z) im) z []) j s₁) (splice (getD (pieces 4 (p .Z) ps) z []) t s₂)
 
 -- a splice within one drive
-pub view-splice : (p : Params) (im ps : List ℕ) (d j t : ℕ) (s₁ s₂ : List ℕ) → d < p .N → j + length s₁ ≤ driveLen p → t + length s₂ ≤ 4 * p .Z
+pub zones-splice : (p : Params) (im ps : List ℕ) (d j t : ℕ) (s₁ s₂ : List ℕ) → d < p .N → j + length s₁ ≤ driveLen p → t + length s₂ ≤ 4 * p .Z
     → p .N * driveLen p ≤ length im → p .N * (4 * p .Z) ≤ length ps
-    → viewOf p (splice im (d * driveLen p + j) s₁) (splice ps (d * (4 * p .Z) + t) s₂)
-    ≡ set (viewOf p im ps) d (driveOf p (splice (getD (pieces (driveLen p) (p .N) im) d []) j s₁) (splice (getD (pieces (4 * p .Z) (p .N) ps) d []) t s₂))
-unfolding viewOf
-view-splice p im ps d j t s₁ s₂ hd h₁ h₂ l₁ l₂ =
+    → zonesOf p (splice im (d * driveLen p + j) s₁) (splice ps (d * (4 * p .Z) + t) s₂)
+    ≡ set (zonesOf p im ps) d (driveOf p (splice (getD (pieces (driveLen p) (p .N) im) d []) j s₁) (splice (getD (pieces (4 * p .Z) (p .N) ps) d []) t s₂))
+unfolding zonesOf
+zones-splice p im ps d j t s₁ s₂ hd h₁ h₂ l₁ l₂ =
     ap₂ (zipped (driveOf p)) (pieces-splice (driveLen p) (p .N) im d j s₁ hd h₁ l₁) (pieces-splice (4 * p .Z) (p .N) ps d t s₂ hd h₂ l₂)
     ∙ zipped-set (driveOf p) (pieces (driveLen p) (p .N) im) (pieces (4 * p .Z) (p .N) ps) d
     (splice (getD (pieces (driveLen p) (p .N) im) d []) j s₁) (splice (getD (pieces (4 * p .Z) (p .N) ps) d []) t s₂)
@@ -148,7 +148,7 @@ pub record Whole (p : Params) (k : Disk) : Type 0 where
   pub image-long : length (k .image) ≡ imageLen p
   pub pointers-long : length (k .pointers) ≡ pointersLen p
 
-module _ (p : Params) (k : Disk) (d z : ℕ) (hd : d < p .N) (hz : z < p .Z) (w : Whole p k) where
+module _ (p : Params) (off : List ℕ) (k : Disk) (d z : ℕ) (hd : d < p .N) (hz : z < p .Z) (w : Whole p k) where
   -- the drive's bytes and pointers, the zone's
   abbrev driveIm : List ℕ
   driveIm = getD (pieces (driveLen p) (p .N) (k .image)) d []
@@ -194,13 +194,13 @@ module _ (p : Params) (k : Disk) (d z : ℕ) (hd : d < p .N) (hz : z < p .Z) (w 
   zone-ps-long = length-piece 4 (p .Z) drivePs z hz in-drive-ps
 
   -- the view's drive and zone
-  drive-at : getD (viewOf p (k .image) (k .pointers)) d [] ≡ driveOf p driveIm drivePs
-  unfolding viewOf
+  drive-at : getD (zonesOf p (k .image) (k .pointers)) d [] ≡ driveOf p driveIm drivePs
+  unfolding zonesOf
   drive-at = getD-zipped (driveOf p) (pieces (driveLen p) (p .N) (k .image)) (pieces (4 * p .Z) (p .N) (k .pointers)) d [] [] []
       (subst (λ (x : ℕ). d < x) (sym (length-pieces (driveLen p) (p .N) (k .image))) hd) (subst (λ (x : ℕ). d < x) (sym (length-pieces (4 * p .Z) (p .N) (k .pointers))) hd)
 
-  zone-at : zoneAt (viewOf p (k .image) (k .pointers)) d z ≡ zoneOf p zoneIm zonePs
-  unfolding zoneAt driveOf
+  zone-at : zoneAt (viewOf p off (k .image) (k .pointers)) d z ≡ zoneOf p zoneIm zonePs
+  unfolding zoneAt viewOf driveOf
   zone-at = ap (λ (x : List Zone). getD x z noZone) drive-at
       ∙ getD-zipped (zoneOf p) (pieces (zoneLen p) (p .Z) driveIm) (pieces 4 (p .Z) drivePs) z [] [] noZone
       (subst (λ (x : ℕ). z < x) (sym (length-pieces (zoneLen p) (p .Z) driveIm)) hz) (subst (λ (x : ℕ). z < x) (sym (length-pieces 4 (p .Z) drivePs)) hz)
@@ -220,12 +220,12 @@ module _ (p : Params) (k : Disk) (d z : ℕ) (hd : d < p .N) (hz : z < p .Z) (w 
       ap beOf (ap (λ (x : ℕ). part x 4 (k .pointers)) e ∙ sym (part-part (k .pointers) (d * (4 * p .Z)) (4 * p .Z) (z * 4) 4 b₁ b₂)
       ∙ ap (part (z * 4) 4) (sym (getD-pieces (4 * p .Z) (p .N) (k .pointers) d hd)) ∙ sym (getD-pieces 4 (p .Z) drivePs z hz))
 
-  pub pointer-at : pointerAt (viewOf p (k .image) (k .pointers)) d z ≡ beOf zonePs
+  pub pointer-at : pointerAt (viewOf p off (k .image) (k .pointers)) d z ≡ beOf zonePs
   unfolding pointerAt zoneOf
   pointer-at = ap (λ (q : Zone). q .pointer) zone-at
 
   -- the pointer of the view is the pointer of the bytes
-  pub pointer-view : pointerAt (viewOf p (k .image) (k .pointers)) d z ≡ pointerOf p (k .pointers) d z
+  pub pointer-view : pointerAt (viewOf p off (k .image) (k .pointers)) d z ≡ pointerOf p (k .pointers) d z
   pointer-view = pointer-at ∙ sym pointer-of
 
   zone-fits : z * zoneLen p + zoneLen p ≤ driveLen p
@@ -242,18 +242,19 @@ module _ (p : Params) (k : Disk) (d z : ℕ) (hd : d < p .N) (hz : z < p .Z) (w 
 
   -- a splice within the zone
   in-zone : (j : ℕ) (s₁ s₂ : List ℕ) → j + length s₁ ≤ zoneLen p → length s₂ ≡ 4
-      → viewOf p (splice (k .image) (d * driveLen p + (z * zoneLen p + j)) s₁) (splice (k .pointers) (pointerByte p d z) s₂)
-      ≡ setZone (viewOf p (k .image) (k .pointers)) d z (zoneOf p (splice zoneIm j s₁) (splice zonePs 0 s₂))
-  unfolding setZone
+      → viewOf p off (splice (k .image) (d * driveLen p + (z * zoneLen p + j)) s₁) (splice (k .pointers) (pointerByte p d z) s₂)
+      ≡ setZone (viewOf p off (k .image) (k .pointers)) d z (zoneOf p (splice zoneIm j s₁) (splice zonePs 0 s₂))
+  unfolding setZone viewOf
   in-zone j s₁ s₂ h e =
       let b₁ : z * zoneLen p + zoneLen p ≤ driveLen p = zone-fits in
-      let v = viewOf p (k .image) (k .pointers) in
+      let qs = zonesOf p (k .image) (k .pointers) in
       let b₂ : z * zoneLen p + j + length s₁ ≤ driveLen p = omega arith in
       let b₃ : z * 4 + 0 + length s₂ ≤ 4 * p .Z = omega arith in
-      ap (λ (x : ℕ). viewOf p (splice (k .image) (d * driveLen p + (z * zoneLen p + j)) s₁) (splice (k .pointers) x s₂)) pointer-byte
-      ∙ view-splice p (k .image) (k .pointers) d (z * zoneLen p + j) (z * 4 + 0) s₁ s₂ hd b₂ b₃ long-im long-ps
-      ∙ ap (set v d) (drive-splice p driveIm drivePs z j 0 s₁ s₂ hz h (omega arith) in-drive in-drive-ps
-      ∙ ap (λ (x : List Zone). set x z (zoneOf p (splice zoneIm j s₁) (splice zonePs 0 s₂))) (sym drive-at))
+      ap (λ (l : List (List Zone)). mkView l off)
+      (ap (λ (x : ℕ). zonesOf p (splice (k .image) (d * driveLen p + (z * zoneLen p + j)) s₁) (splice (k .pointers) x s₂)) pointer-byte
+      ∙ zones-splice p (k .image) (k .pointers) d (z * zoneLen p + j) (z * 4 + 0) s₁ s₂ hd b₂ b₃ long-im long-ps
+      ∙ ap (set qs d) (drive-splice p driveIm drivePs z j 0 s₁ s₂ hz h (omega arith) in-drive in-drive-ps
+      ∙ ap (λ (x : List Zone). set x z (zoneOf p (splice zoneIm j s₁) (splice zonePs 0 s₂))) (sym drive-at)))
 
   block-byte : (n : ℕ) → placeByte p (placeOf p d z n) ≡ d * driveLen p + (z * zoneLen p + (n * unitLen p + 0))
   unfolding placeByte placeOf driveLen zoneLen
@@ -283,7 +284,7 @@ module _ (p : Params) (k : Disk) (d z : ℕ) (hd : d < p .N) (hz : z < p .Z) (w 
 
   -- a block of the view is a part of the image
   pub chunk-view : (b : ℕ) → b < capacity p
-      → chunkAt (viewOf p (k .image) (k .pointers)) d z b ≡ chunkOf p (part (placeByte p (placeOf p d z b)) (unitLen p) (k .image))
+      → chunkAt (viewOf p off (k .image) (k .pointers)) d z b ≡ chunkOf p (part (placeByte p (placeOf p d z b)) (unitLen p) (k .image))
   unfolding chunkAt zoneOf
   chunk-view b hb =
       let l : b < length (pieces (unitLen p) (capacity p) zoneIm) = subst (λ (x : ℕ). b < x) (sym (length-pieces (unitLen p) (capacity p) zoneIm)) hb in
@@ -291,7 +292,7 @@ module _ (p : Params) (k : Disk) (d z : ℕ) (hd : d < p .N) (hz : z < p .Z) (w 
       ∙ getD-map (chunkOf p) (pieces (unitLen p) (capacity p) zoneIm) b noChunk [] l
       ∙ ap (chunkOf p) (getD-pieces (unitLen p) (capacity p) zoneIm b hb ∙ unit-bytes b hb)
 
-  pub blocks-long : length (zoneAt (viewOf p (k .image) (k .pointers)) d z .blocks) ≡ capacity p
+  pub blocks-long : length (zoneAt (viewOf p off (k .image) (k .pointers)) d z .blocks) ≡ capacity p
   unfolding zoneOf
   blocks-long =
       ap (λ (q : Zone). length (q .blocks)) zone-at ∙ length-map (pieces (unitLen p) (capacity p) zoneIm) (chunkOf p) ∙ length-pieces (unitLen p) (capacity p) zoneIm
@@ -300,7 +301,7 @@ module _ (p : Params) (k : Disk) (d z : ℕ) (hd : d < p .N) (hz : z < p .Z) (w 
   block-room b hb = omega (arith, block-within p d z b hd hz hb, w .image-long)
 
   -- its block and its spare
-  pub block-view : (b : ℕ) → b < capacity p → chunkAt (viewOf p (k .image) (k .pointers)) d z b .block ≡ part (placeByte p (placeOf p d z b)) (p .B) (k .image)
+  pub block-view : (b : ℕ) → b < capacity p → chunkAt (viewOf p off (k .image) (k .pointers)) d z b .block ≡ part (placeByte p (placeOf p d z b)) (p .B) (k .image)
   unfolding chunkOf unitLen
   block-view b hb =
       let a = placeByte p (placeOf p d z b) in
@@ -308,7 +309,7 @@ module _ (p : Params) (k : Disk) (d z : ℕ) (hd : d < p .N) (hz : z < p .Z) (w 
       ap (λ (c : Chunk). c .block) (chunk-view b hb) ∙ ap (take (p .B)) (part-add a (p .B) spareLen (k .image))
       ∙ take-at (part a (p .B) (k .image)) (part (a + p .B) spareLen (k .image)) (p .B) n
 
-  pub spare-view : (b : ℕ) → b < capacity p → chunkAt (viewOf p (k .image) (k .pointers)) d z b .spare ≡ part (placeByte p (placeOf p d z b) + p .B) spareLen (k .image)
+  pub spare-view : (b : ℕ) → b < capacity p → chunkAt (viewOf p off (k .image) (k .pointers)) d z b .spare ≡ part (placeByte p (placeOf p d z b) + p .B) spareLen (k .image)
   unfolding chunkOf unitLen
   spare-view b hb =
       let a = placeByte p (placeOf p d z b) in
@@ -317,26 +318,26 @@ module _ (p : Params) (k : Disk) (d z : ℕ) (hd : d < p .N) (hz : z < p .Z) (w 
       ∙ drop-at (part a (p .B) (k .image)) (part (a + p .B) spareLen (k .image)) (p .B) n
 
   -- the view of the bytes after a put into a zone that isn't full
-  pub view-put : (b s : List ℕ) → pointerAt (viewOf p (k .image) (k .pointers)) d z < capacity p → capacity p < 256 ^ 4 → length b ≡ p .B → length s ≡ spareLen
-      → viewOf p (storeDisk p (put d z b s) k .image) (storeDisk p (put d z b s) k .pointers) ≡ storeView (put d z b s) (viewOf p (k .image) (k .pointers))
+  pub view-put : (b s : List ℕ) → pointerAt (viewOf p off (k .image) (k .pointers)) d z < capacity p → capacity p < 256 ^ 4 → length b ≡ p .B → length s ≡ spareLen
+      → viewOf p off (storeDisk p (put d z b s) k .image) (storeDisk p (put d z b s) k .pointers) ≡ storeView (put d z b s) (viewOf p off (k .image) (k .pointers))
   unfolding storeDisk storeView setPointer
   view-put b s hp hc hb hs =
       let n = beOf zonePs in
-      let v = viewOf p (k .image) (k .pointers) in
+      let v = viewOf p off (k .image) (k .pointers) in
       let hn : n < capacity p = subst (λ (x : ℕ). x < capacity p) pointer-at hp in
       let lb : length (b ++ s) ≡ unitLen p = unit-long b s hb hs in
       let fit : n * unitLen p + 0 + length (b ++ s) ≤ zoneLen p = omega (arith, unit-fits n hn, lb) in
-      ap (λ (x : ℕ). viewOf p (splice (k .image) (placeByte p (placeOf p d z x)) (b ++ s)) (splice (k .pointers) (pointerByte p d z) (toBe 4 (suc x)))) pointer-of
-      ∙ ap (λ (x : ℕ). viewOf p (splice (k .image) x (b ++ s)) (splice (k .pointers) (pointerByte p d z) (toBe 4 (suc n)))) (block-byte n)
+      ap (λ (x : ℕ). viewOf p off (splice (k .image) (placeByte p (placeOf p d z x)) (b ++ s)) (splice (k .pointers) (pointerByte p d z) (toBe 4 (suc x)))) pointer-of
+      ∙ ap (λ (x : ℕ). viewOf p off (splice (k .image) x (b ++ s)) (splice (k .pointers) (pointerByte p d z) (toBe 4 (suc n)))) (block-byte n)
       ∙ in-zone (n * unitLen p + 0) (b ++ s) (toBe 4 (suc n)) fit (length-toBe 4 (suc n))
       ∙ ap (setZone v d z) (zone-put p zoneIm zonePs b s zone-long zone-ps-long hn (omega arith) hb hs ∙ ap (putZone b s) (sym zone-at))
 
   -- and after a reset
-  pub view-reset : viewOf p (storeDisk p (reset d z) k .image) (storeDisk p (reset d z) k .pointers) ≡ storeView (reset d z) (viewOf p (k .image) (k .pointers))
+  pub view-reset : viewOf p off (storeDisk p (reset d z) k .image) (storeDisk p (reset d z) k .pointers) ≡ storeView (reset d z) (viewOf p off (k .image) (k .pointers))
   unfolding storeDisk storeView setPointer
   view-reset =
-      let v = viewOf p (k .image) (k .pointers) in
-      ap (λ (x : List ℕ). viewOf p x (splice (k .pointers) (pointerByte p d z) (toBe 4 0))) (sym (splice-nil (k .image) (d * driveLen p + (z * zoneLen p + 0))))
+      let v = viewOf p off (k .image) (k .pointers) in
+      ap (λ (x : List ℕ). viewOf p off x (splice (k .pointers) (pointerByte p d z) (toBe 4 0))) (sym (splice-nil (k .image) (d * driveLen p + (z * zoneLen p + 0))))
       ∙ in-zone 0 [] (toBe 4 0) (omega arith) (length-toBe 4 0)
       ∙ ap (setZone v d z) (ap (λ (x : List ℕ). zoneOf p x (splice zonePs 0 (toBe 4 0))) (splice-nil zoneIm 0) ∙ zone-reset p zoneIm zonePs zone-ps-long ∙ ap resetZone (sym zone-at))
 
@@ -346,7 +347,7 @@ module _ (p : Params) (k : Disk) (d z : ℕ) (hd : d < p .N) (hz : z < p .Z) (w 
       omega (arith, pointer-byte, length-toBe 4 n, item-fits d (p .N) (4 * p .Z) hd, long-ps)
 
   -- lengths stay
-  pub whole-put : (b s : List ℕ) → pointerAt (viewOf p (k .image) (k .pointers)) d z < capacity p → length b ≡ p .B → length s ≡ spareLen → Whole p (storeDisk p (put d z b s) k)
+  pub whole-put : (b s : List ℕ) → pointerAt (viewOf p off (k .image) (k .pointers)) d z < capacity p → length b ≡ p .B → length s ≡ spareLen → Whole p (storeDisk p (put d z b s) k)
   unfolding storeDisk setPointer imageLen
   whole-put b s hp hb hs =
       let n = pointerOf p (k .pointers) d z in
@@ -376,65 +377,60 @@ abbrev pub AllFit : Params → View → List Store → Type 0
 AllFit p v [] = Unit {0}
 AllFit p v (s ∷ ss) = Fits p v s × AllFit p (storeView s v) ss
 
-abbrev pub seen : Params → Disk → View
-seen p k = viewOf p (k .image) (k .pointers)
+-- the drives as lent, off the list of offline zones
+abbrev pub seen : Params → List ℕ → Disk → View
+seen p off k = viewOf p off (k .image) (k .pointers)
 
-pub view-store : (p : Params) (k : Disk) (s : Store) → capacity p < 256 ^ 4 → Whole p k → Fits p (seen p k) s → seen p (storeDisk p s k) ≡ storeView s (seen p k)
-view-store p k (put d z b s) c w (hd, hz, hp, hb, hs) = view-put p k d z hd hz w b s hp c hb hs
-view-store p k (reset d z) c w (hd, hz) = view-reset p k d z hd hz w
+pub view-store : (p : Params) (off : List ℕ) (k : Disk) (s : Store) → capacity p < 256 ^ 4 → Whole p k → Fits p (seen p off k) s → seen p off (storeDisk p s k) ≡ storeView s (seen p off k)
+view-store p off k (put d z b s) c w (hd, hz, hp, hb, hs) = view-put p off k d z hd hz w b s hp c hb hs
+view-store p off k (reset d z) c w (hd, hz) = view-reset p off k d z hd hz w
 
-pub whole-store : (p : Params) (k : Disk) (s : Store) → Whole p k → Fits p (seen p k) s → Whole p (storeDisk p s k)
-whole-store p k (put d z b s) w (hd, hz, hp, hb, hs) = whole-put p k d z hd hz w b s hp hb hs
-whole-store p k (reset d z) w (hd, hz) = whole-reset p k d z hd hz w
+pub whole-store : (p : Params) (off : List ℕ) (k : Disk) (s : Store) → Whole p k → Fits p (seen p off k) s → Whole p (storeDisk p s k)
+whole-store p off k (put d z b s) w (hd, hz, hp, hb, hs) = whole-put p off k d z hd hz w b s hp hb hs
+whole-store p off k (reset d z) w (hd, hz) = whole-reset p off k d z hd hz w
 
 -- the view of the bytes after the stores is the stores applied to the view
-pub view-stores : (p : Params) (k : Disk) (ss : List Store) → capacity p < 256 ^ 4 → Whole p k → AllFit p (seen p k) ss
-    → seen p (storeAll (storeDisk p) ss k) ≡ storeAll storeView ss (seen p k)
+pub view-stores : (p : Params) (off : List ℕ) (k : Disk) (ss : List Store) → capacity p < 256 ^ 4 → Whole p k → AllFit p (seen p off k) ss
+    → seen p off (storeAll (storeDisk p) ss k) ≡ storeAll storeView ss (seen p off k)
 unfolding storeAll
-view-stores p k [] c w f = refl
-view-stores p k (s ∷ ss) c w (h, f) =
-    let e = view-store p k s c w h in
-    view-stores p (storeDisk p s k) ss c (whole-store p k s w h) (subst (λ (v : View). AllFit p v ss) (sym e) f)
+view-stores p off k [] c w f = refl
+view-stores p off k (s ∷ ss) c w (h, f) =
+    let e = view-store p off k s c w h in
+    view-stores p off (storeDisk p s k) ss c (whole-store p off k s w h) (subst (λ (v : View). AllFit p v ss) (sym e) f)
     ∙ ap (storeAll storeView ss) e
 
 -- lengths stay
-pub whole-stores : (p : Params) (k : Disk) (ss : List Store) → capacity p < 256 ^ 4 → Whole p k → AllFit p (seen p k) ss → Whole p (storeAll (storeDisk p) ss k)
+pub whole-stores : (p : Params) (off : List ℕ) (k : Disk) (ss : List Store) → capacity p < 256 ^ 4 → Whole p k → AllFit p (seen p off k) ss → Whole p (storeAll (storeDisk p) ss k)
 unfolding storeAll
-whole-stores p k [] c w f = w
-whole-stores p k (s ∷ ss) c w (h, f) =
-    let e = view-store p k s c w h in
-    whole-stores p (storeDisk p s k) ss c (whole-store p k s w h) (subst (λ (v : View). AllFit p v ss) (sym e) f)
+whole-stores p off k [] c w f = w
+whole-stores p off k (s ∷ ss) c w (h, f) =
+    let e = view-store p off k s c w h in
+    whole-stores p off (storeDisk p s k) ss c (whole-store p off k s w h) (subst (λ (v : View). AllFit p v ss) (sym e) f)
 
 -- ---- questions that the pointers alone answer
 
-pub empty-view : (p : Params) (k : Disk) (g : Seg) → Named p g → Whole p k
-    → emptyOnAll p (seen p k) g ≡ all (λ d. eqb (pointerOf p (k .pointers) d (zoneOn g d)) 0) (drivesOf p)
-unfolding emptyOnAll drivesOf
-empty-view p k g hg w =
-    all-below-same (λ d. eqb (pointerAt (seen p k) d (zoneOn g d)) 0) (λ d. eqb (pointerOf p (k .pointers) d (zoneOn g d)) 0) (p .N)
-    (λ d hd. ap (λ (x : ℕ). eqb x 0) (pointer-view p k d (zoneOn g d) hd (zone-on-lt p g d hg) w))
-
-pub sealed-view : (p : Params) (k : Disk) (gone : ℕ) (g : Seg) → ZonesLow p gone g → Whole p k
-    → sealedIn p (seen p k) gone g ≡ all (λ d. eqb (pointerOf p (k .pointers) d (zoneOn g d)) (capacity p)) (present p gone)
+pub sealed-view : (p : Params) (off : List ℕ) (k : Disk) (gone : ℕ) (g : Seg) → ZonesLow p gone g → Whole p k
+    → sealedIn p (seen p off k) gone g ≡ all (λ d. eqb (pointerOf p (k .pointers) d (zoneOn g d)) (capacity p)) (present p gone)
 unfolding sealedIn present drivesOf
-sealed-view p k gone g hg w =
+sealed-view p off k gone g hg w =
     all-keep f (isIn gone) (below (p .N))
     ∙ all-below-same (λ d. isIn gone d || f d) (λ d. isIn gone d || h d) (p .N) (λ d hd. go d hd (test (isIn gone d)))
     ∙ sym (all-keep h (isIn gone) (below (p .N)))
   where
     f : ℕ → Bool
-    f d = eqb (pointerAt (seen p k) d (zoneOn g d)) (capacity p)
+    f d = eqb (pointerAt (seen p off k) d (zoneOn g d)) (capacity p)
 
     h : ℕ → Bool
     h d = eqb (pointerOf p (k .pointers) d (zoneOn g d)) (capacity p)
 
     go : (d : ℕ) → d < p .N → Test (isIn gone d) → (isIn gone d || f d) ≡ (isIn gone d || h d)
     go d hd (yes! q) = rw q refl
-    go d hd (no! q) = ap (λ (x : ℕ). isIn gone d || eqb x (capacity p)) (pointer-view p k d (zoneOn g d) hd (low-zone p gone g d hg hd q) w)
+    go d hd (no! q) = ap (λ (x : ℕ). isIn gone d || eqb x (capacity p)) (pointer-view p off k d (zoneOn g d) hd (low-zone p gone g d hg hd q) w)
 
-pub empty-zones-view : (p : Params) (k : Disk) → Whole p k
-    → emptySegs p (seen p k) ≡ keep (λ g. all (λ d. eqb (pointerOf p (k .pointers) d (zoneOn g d)) 0) (drivesOf p)) (allSegs p)
-unfolding emptySegs
-empty-zones-view p k w =
-    keep-segs-same p (emptyOnAll p (seen p k)) (λ g. all (λ d. eqb (pointerOf p (k .pointers) d (zoneOn g d)) 0) (drivesOf p))
-    (λ g hg. empty-view p k g hg w)
+-- 02, item 4: the empty good zones of a drive, by the pointers' bytes and the list
+pub empty-zones-view : (p : Params) (off : List ℕ) (k : Disk) (d : ℕ) → d < p .N → Whole p k
+    → emptyZones p (seen p off k) d ≡ keep (λ z. eqb (pointerOf p (k .pointers) d z) 0) (goodZones p off d)
+unfolding emptyZones goodZones viewOf below
+empty-zones-view p off k d hd w =
+    keep-keep-same (isGood p off d) (λ z. eqb (pointerAt (seen p off k) d z) 0) (λ z. eqb (pointerOf p (k .pointers) d z) 0) 0 (p .Z)
+    (λ z h₀ hz. ap (λ (x : ℕ). eqb x 0) (pointer-view p off k d z hd (omega arith) w))

@@ -31,6 +31,10 @@ other x = cond (eqb x 1) 0 1
 unfoldable pub past : ℕ → ℕ → ℕ
 past limit x = cond (leb limit x) 1 0
 
+-- 1 where the number is above the most that it may be
+unfoldable pub bounds-above : ℕ → ℕ → ℕ
+bounds-above most x = cond (leb x most) 0 1
+
 -- number k of w bytes from offset at on is not below the limit
 unfoldable pub pastAt : ℕ → ℕ → ℕ → List ℕ → ℕ → Bool
 pastAt w at limit bs k = leb limit (leOf (part (at + w * k) w bs))
@@ -43,12 +47,12 @@ pastIn w n at limit bs = tally (pastAt w at limit bs) (below n)
 unfoldable pub frontPast : Params → List ℕ → ℕ
 frontPast p bs =
     let gone = leOf (part 1 1 bs) in
-    other (leOf (part 0 1 bs)) + past (2 ^ p .N) gone + past 2 (ones gone) + past (p .Z + 1) (leOf (part 18 4 bs)) + past (p .S + 1) (leOf (part 22 4 bs))
+    other (leOf (part 0 1 bs)) + past (2 ^ p .N) gone + past 2 (ones gone) + bounds-above (leOf (part 10 8 bs)) (leOf (part 18 8 bs)) + past (p .S + 1) (leOf (part 26 4 bs))
 
 -- 01, Refusals, 9: how many of the numbers of the eighths are out of range
 unfoldable pub slotsPast : Params → List ℕ → ℕ
 slotsPast p bs =
-    pastIn 4 8 26 (p .S) bs + pastIn 1 8 58 (p .N) bs + pastIn 1 8 66 (2 ^ dataCount p) bs + pastIn 1 8 74 (2 ^ p .N) bs
+    pastIn 4 8 30 (p .S) bs + pastIn 1 8 62 (p .N) bs + pastIn 1 8 70 (2 ^ dataCount p) bs + pastIn 1 8 78 (2 ^ p .N) bs
 
 -- ---- the loops: one number more
 
@@ -101,6 +105,14 @@ leb-ltb x n m e = go (decLt x m)
 zero-other : (x : ℕ) → eqb (other x) 0 ≡ eqb x 1
 unfolding other
 zero-other x = go (eqb x 1)
+  where
+    go : (b : Bool) → eqb (cond b 0 1) 0 ≡ b
+    go true = refl
+    go false = refl
+
+zero-above : (most x : ℕ) → eqb (bounds-above most x) 0 ≡ leb x most
+unfolding bounds-above
+zero-above most x = go (leb x most)
   where
     go : (b : Bool) → eqb (cond b 0 1) 0 ≡ b
     go true = refl
@@ -171,8 +183,8 @@ module _ (p : Params) (bs : List ℕ) (ok : inRange p ≡ true) where
   -- 01, The array: the state that the bytes say, field by field
   abbrev said : State
   said =
-      mkState (leOf (part 0 1 bs)) (leOf (part 1 1 bs)) (leOf (part 2 8 bs)) (leOf (part 10 8 bs)) (leOf (part 18 4 bs)) (leOf (part 22 4 bs))
-      (numbersAt 4 8 26 bs) (numbersAt 1 8 58 bs) (numbersAt 1 8 66 bs) (numbersAt 1 8 74 bs) (numbersAt 8 64 82 bs) (numbersAt 8 64 594 bs) (numbersAt 4 64 1106 bs)
+      mkState (leOf (part 0 1 bs)) (leOf (part 1 1 bs)) (leOf (part 2 8 bs)) (leOf (part 10 8 bs)) (leOf (part 18 8 bs)) (leOf (part 26 4 bs))
+      (numbersAt 4 8 30 bs) (numbersAt 1 8 62 bs) (numbersAt 1 8 70 bs) (numbersAt 1 8 78 bs) (numbersAt 8 64 86 bs) (numbersAt 8 64 598 bs) (numbersAt 4 64 1110 bs)
 
   most : p .N ≡ dataCount p + 1
   unfolding dataCount
@@ -180,16 +192,16 @@ module _ (p : Params) (bs : List ℕ) (ok : inRange p ≡ true) where
 
   -- the four tests of an eighth
   abbrev stripe-in : ℕ → Bool
-  stripe-in i = ltb (getD (numbersAt 4 8 26 bs) i 0) (p .S)
+  stripe-in i = ltb (getD (numbersAt 4 8 30 bs) i 0) (p .S)
 
   abbrev filled-in : ℕ → Bool
-  filled-in i = leb (getD (numbersAt 1 8 58 bs) i 0) (dataCount p)
+  filled-in i = leb (getD (numbersAt 1 8 62 bs) i 0) (dataCount p)
 
   abbrev writes-in : ℕ → Bool
-  writes-in i = ltb (getD (numbersAt 1 8 66 bs) i 0) (2 ^ dataCount p)
+  writes-in i = ltb (getD (numbersAt 1 8 70 bs) i 0) (2 ^ dataCount p)
 
   abbrev landed-in : ℕ → Bool
-  landed-in i = ltb (getD (numbersAt 1 8 74 bs) i 0) (2 ^ p .N)
+  landed-in i = ltb (getD (numbersAt 1 8 78 bs) i 0) (2 ^ p .N)
 
   slots-by-parts : all (slotOk p said) slots ≡ (all stripe-in (below 8) && all filled-in (below 8) && all writes-in (below 8) && all landed-in (below 8))
   unfolding slotOk stripeIn filledIn landedIn slots slotCount
@@ -201,40 +213,41 @@ module _ (p : Params) (bs : List ℕ) (ok : inRange p ≡ true) where
   slots-past-none : eqb (slotsPast p bs) 0 ≡ all (slotOk p said) slots
   unfolding slotsPast
   slots-past-none =
-      let a = pastIn 4 8 26 (p .S) bs in
-      let b = pastIn 1 8 58 (p .N) bs in
-      let c = pastIn 1 8 66 (2 ^ dataCount p) bs in
-      let d = pastIn 1 8 74 (2 ^ p .N) bs in
+      let a = pastIn 4 8 30 (p .S) bs in
+      let b = pastIn 1 8 62 (p .N) bs in
+      let c = pastIn 1 8 70 (2 ^ dataCount p) bs in
+      let d = pastIn 1 8 78 (2 ^ p .N) bs in
       let eb : eqb b 0 ≡ all filled-in (below 8) =
-      zero-numbers 1 8 58 (p .N) bs
-      ∙ all-below-same (λ (k : ℕ). ltb (getD (numbersAt 1 8 58 bs) k 0) (p .N)) filled-in 8 (λ k h. leb-ltb (getD (numbersAt 1 8 58 bs) k 0) (dataCount p) (p .N) most) in
+      zero-numbers 1 8 62 (p .N) bs
+      ∙ all-below-same (λ (k : ℕ). ltb (getD (numbersAt 1 8 62 bs) k 0) (p .N)) filled-in 8 (λ k h. leb-ltb (getD (numbersAt 1 8 62 bs) k 0) (dataCount p) (p .N) most) in
       zero-sum (a + b + c) d
-      ∙ ap₂ _&&_ (zero-sum (a + b) c ∙ ap₂ _&&_ (zero-sum a b ∙ ap₂ _&&_ (zero-numbers 4 8 26 (p .S) bs) eb) (zero-numbers 1 8 66 (2 ^ dataCount p) bs))
-      (zero-numbers 1 8 74 (2 ^ p .N) bs) ∙ sym slots-by-parts
+      ∙ ap₂ _&&_ (zero-sum (a + b) c ∙ ap₂ _&&_ (zero-sum a b ∙ ap₂ _&&_ (zero-numbers 4 8 30 (p .S) bs) eb) (zero-numbers 1 8 70 (2 ^ dataCount p) bs))
+      (zero-numbers 1 8 78 (2 ^ p .N) bs) ∙ sym slots-by-parts
 
   front-in : eqb (frontPast p bs) 0
-      ≡ (eqb (said .live) 1 && ltb (said .missing) (2 ^ p .N) && leb (ones (said .missing)) 1 && leb (said .opened) (p .Z) && leb (said .next) (p .S))
+      ≡ (eqb (said .live) 1 && ltb (said .missing) (2 ^ p .N) && leb (ones (said .missing)) 1 && leb (said .opened) (said .serial .0) && leb (said .next) (p .S))
   unfolding frontPast
   front-in =
       let gone = leOf (part 1 1 bs) in
-      let opened = leOf (part 18 4 bs) in
-      let next = leOf (part 22 4 bs) in
+      let serial = leOf (part 10 8 bs) in
+      let opened = leOf (part 18 8 bs) in
+      let next = leOf (part 26 4 bs) in
       let a = other (leOf (part 0 1 bs)) in
       let b = past (2 ^ p .N) gone in
       let c = past 2 (ones gone) in
-      let d = past (p .Z + 1) opened in
+      let d = bounds-above serial opened in
       let ec : eqb c 0 ≡ leb (ones gone) 1 = zero-past 2 (ones gone) ∙ leb-ltb (ones gone) 1 2 refl in
-      let ed : eqb d 0 ≡ leb opened (p .Z) = zero-past (p .Z + 1) opened ∙ leb-ltb opened (p .Z) (p .Z + 1) refl in
+      let ed : eqb d 0 ≡ leb opened serial = zero-above serial opened in
       let ee : eqb (past (p .S + 1) next) 0 ≡ leb next (p .S) = zero-past (p .S + 1) next ∙ leb-ltb next (p .S) (p .S + 1) refl in
       zero-sum (a + b + c + d) (past (p .S + 1) next)
       ∙ ap₂ _&&_ (zero-sum (a + b + c) d ∙ ap₂ _&&_ (zero-sum (a + b) c
       ∙ ap₂ _&&_ (zero-sum a b ∙ ap₂ _&&_ (zero-other (leOf (part 0 1 bs))) (zero-past (2 ^ p .N) gone)) ec) ed) ee
 
   -- 01, Refusals, 9: no number of the state is out of range
-  pub state-in : eqb (frontPast p bs + slotsPast p bs + pastIn 4 64 1106 (p .S) bs) 0 ≡ stateOk p (stateOf bs)
+  pub state-in : eqb (frontPast p bs + slotsPast p bs + pastIn 4 64 1110 (p .S) bs) 0 ≡ stateOk p (stateOf bs)
   unfolding stateOk
   state-in =
       let f = frontPast p bs in
       let s = slotsPast p bs in
-      zero-sum (f + s) (pastIn 4 64 1106 (p .S) bs) ∙ ap₂ _&&_ (zero-sum f s ∙ ap₂ _&&_ front-in slots-past-none) (zero-elements 4 64 1106 (p .S) bs)
+      zero-sum (f + s) (pastIn 4 64 1110 (p .S) bs) ∙ ap₂ _&&_ (zero-sum f s ∙ ap₂ _&&_ front-in slots-past-none) (zero-elements 4 64 1110 (p .S) bs)
       ∙ sym (ap (stateOk p) (state-read bs))

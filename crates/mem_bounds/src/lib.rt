@@ -6,7 +6,7 @@ ghost use Prim.Native.Nat.{_+_, _*_, _^_, _≤_};
 ghost use lib.ListN.{length};
 ghost use Rattle.spec.specs.Memory.{stateLen, stateOf, stateOk};
 ghost use Rattle.spec.specs.Params.{inRange};
-ghost use Rattle.mem_bounds.specs.Bounds.{other, past, pastIn, frontPast, slotsPast};
+ghost use Rattle.mem_bounds.specs.Bounds.{other, past, bounds-above, pastIn, frontPast, slotsPast};
 use spec::Params;
 
 // 1 where the number is not 1.
@@ -27,6 +27,16 @@ fn past(x: u32, limit: u32) -> u32
         return 1;
     }
     0
+}
+
+// 1 where the number is above the most that it may be.
+fn above(x: u64, most: u64) -> u32
+    ensures { λ r. ⌜ (r ≡ bounds-above most x) × (r ≤ 1) ⌝ }
+{
+    if x <= most {
+        return 0;
+    }
+    1
 }
 
 // How many of n numbers of 4 bytes are not below the limit.
@@ -71,11 +81,15 @@ fn front_past(p: Params, bytes: &[u8]) -> u32
     requires { ⌜ length (now bytes) ≡ stateLen ⌝ }
     ensures { λ r. ⌜ (r ≡ frontPast p (now (bytes .entry))) × (r ≤ 5) ⌝ }
 {
-    let live = other(bytes[0]);
-    let gone = past(bits_be::wide32(bytes[1]), power(p.N));
-    let lost = past(bits_masks::count(bytes[1]) as u32, 2);
-    let opened = past(bits_le::read_le32(bytes, 18), p.Z as u32 + 1);
-    let next = past(bits_le::read_le32(bytes, 22), p.S as u32 + 1);
+    let live = other(bytes[mem_codec::LIVE_AT]);
+    let gone = past(bits_be::wide32(bytes[mem_codec::MISSING_AT]), power(p.N));
+    let lost = past(bits_masks::count(bytes[mem_codec::MISSING_AT]) as u32, 2);
+    let serial = bits_le::read_le64(bytes, mem_codec::SERIAL_AT);
+    let opened = above(bits_le::read_le64(bytes, mem_codec::OPENED_AT), serial);
+    let next = past(
+        bits_le::read_le32(bytes, mem_codec::NEXT_AT),
+        p.S as u32 + 1,
+    );
     live + gone + lost + opened + next
 }
 
@@ -85,10 +99,10 @@ fn slots_past(p: Params, bytes: &[u8]) -> u32
     requires { ⌜ length (now bytes) ≡ stateLen ⌝ }
     ensures { λ r. ⌜ (r ≡ slotsPast p (now (bytes .entry))) × (r ≤ 88) ⌝ }
 {
-    let numbers = words_past(bytes, 26, 8, p.S as u32);
-    let filled = bytes_past(bytes, 58, p.N as u32);
-    let writes = bytes_past(bytes, 66, power(p.N - 1));
-    let landed = bytes_past(bytes, 74, power(p.N));
+    let numbers = words_past(bytes, mem_codec::NUMBERS_AT, 8, p.S as u32);
+    let filled = bytes_past(bytes, mem_codec::FILLED_AT, p.N as u32);
+    let writes = bytes_past(bytes, mem_codec::WRITES_AT, power(p.N - 1));
+    let landed = bytes_past(bytes, mem_codec::LANDED_AT, power(p.N));
     numbers + filled + writes + landed
 }
 
@@ -100,7 +114,7 @@ pub fn state_ok(p: Params, bytes: &[u8]) -> bool
 {
     let front = front_past(p, bytes);
     let slots = slots_past(p, bytes);
-    let offsets = words_past(bytes, 1106, 64, p.S as u32);
+    let offsets = words_past(bytes, mem_codec::OFFSETS_AT, 64, p.S as u32);
     front + slots + offsets == 0
 }
 
@@ -109,5 +123,5 @@ pub fn missing(bytes: &[u8]) -> u8
     requires { ⌜ length (now bytes) ≡ stateLen ⌝ }
     ensures { λ r. ⌜ r ≡ stateOf (now (bytes .entry)) .missing ⌝ }
 {
-    bytes[1]
+    bytes[mem_codec::MISSING_AT]
 }

@@ -19,7 +19,7 @@ use Rattle.mem_rows.specs.Rows.{RowsSized, RowSized, one-set, putRow, putFront,
 use Rattle.mem_rows.specs.declared.Change.{Change}
 use Rattle.mem_rows.specs.declared.Row.{Row}
 
--- 01, Write: last stamp, last serial, open segment, next stripe number
+-- 01, Write: last stamp, last serial, the open segment's serial, next stripe number
 abbrev pub countEdits : ℕ → ℕ → ℕ → ℕ → List Edit
 countEdits t s o n = edit 2 0 (t ∷ []) ∷ edit 3 0 (s ∷ []) ∷ edit 4 0 (o ∷ []) ∷ edit 5 0 (n ∷ []) ∷ []
 
@@ -44,17 +44,17 @@ mark-written l at i v h g =
     byte-written l (at + i) v h g ∙ ap (splice l (at + i)) (number-written 1 v) ∙ ap (λ (x : ℕ). splice l (at + x) (flat (toLe 1) (v ∷ []))) (sym (one-mul i))
 
 -- three bytes of one eighth
-pub marks-written : (l : List ℕ) (i f w m : ℕ) → f < 256 → w < 256 → m < 256 → 74 + i < length l
-    → set (set (set l (58 + i) f) (66 + i) w) (74 + i) m
-    ≡ splice (splice (splice l (58 + 1 * i) (flat (toLe 1) (f ∷ []))) (66 + 1 * i) (flat (toLe 1) (w ∷ []))) (74 + 1 * i) (flat (toLe 1) (m ∷ []))
+pub marks-written : (l : List ℕ) (i f w m : ℕ) → f < 256 → w < 256 → m < 256 → 78 + i < length l
+    → set (set (set l (62 + i) f) (70 + i) w) (78 + i) m
+    ≡ splice (splice (splice l (62 + 1 * i) (flat (toLe 1) (f ∷ []))) (70 + 1 * i) (flat (toLe 1) (w ∷ []))) (78 + 1 * i) (flat (toLe 1) (m ∷ []))
 marks-written l i f w m hf hw hm h =
-    let l₁ = set l (58 + i) f in
-    let l₂ = set l₁ (66 + i) w in
-    let n₁ : 66 + i < length l₁ = simp length-set (omega arith) in
-    let n₂ : 74 + i < length l₂ = simp length-set (omega arith) in
-    mark-written l₂ 74 i m hm n₂
-    ∙ ap (λ (x : List ℕ). splice x (74 + 1 * i) (flat (toLe 1) (m ∷ [])))
-    (mark-written l₁ 66 i w hw n₁ ∙ ap (λ (x : List ℕ). splice x (66 + 1 * i) (flat (toLe 1) (w ∷ []))) (mark-written l 58 i f hf (omega arith)))
+    let l₁ = set l (62 + i) f in
+    let l₂ = set l₁ (70 + i) w in
+    let n₁ : 70 + i < length l₁ = simp length-set (omega arith) in
+    let n₂ : 78 + i < length l₂ = simp length-set (omega arith) in
+    mark-written l₂ 78 i m hm n₂
+    ∙ ap (λ (x : List ℕ). splice x (78 + 1 * i) (flat (toLe 1) (m ∷ [])))
+    (mark-written l₁ 70 i w hw n₁ ∙ ap (λ (x : List ℕ). splice x (70 + 1 * i) (flat (toLe 1) (w ∷ []))) (mark-written l 62 i f hf (omega arith)))
 
 -- ---- and the edits make the change
 

@@ -85,18 +85,18 @@ bytes-same (n ∷ ns) f = ap₂ _∷_ (mod-eq-of-lt (f 0 (omega arith))) (bytes-
 
 -- ---- the sections of the state
 
-pub state-len : stateLen ≡ 1362
+pub state-len : stateLen ≡ 1366
 unfolding stateLen sectionLen stateSections total
 state-len = refl
 
 -- each field by its width, count and offset
-pub state-read : (bs : List ℕ) → stateOf bs ≡ mkState (leOf (part 0 1 bs)) (leOf (part 1 1 bs)) (leOf (part 2 8 bs)) (leOf (part 10 8 bs)) (leOf (part 18 4 bs)) (leOf (part 22 4 bs))
-    (numbersAt 4 8 26 bs) (numbersAt 1 8 58 bs) (numbersAt 1 8 66 bs) (numbersAt 1 8 74 bs) (numbersAt 8 64 82 bs) (numbersAt 8 64 594 bs) (numbersAt 4 64 1106 bs)
+pub state-read : (bs : List ℕ) → stateOf bs ≡ mkState (leOf (part 0 1 bs)) (leOf (part 1 1 bs)) (leOf (part 2 8 bs)) (leOf (part 10 8 bs)) (leOf (part 18 8 bs)) (leOf (part 26 4 bs))
+    (numbersAt 4 8 30 bs) (numbersAt 1 8 62 bs) (numbersAt 1 8 70 bs) (numbersAt 1 8 78 bs) (numbersAt 8 64 86 bs) (numbersAt 8 64 598 bs) (numbersAt 4 64 1110 bs)
 unfolding stateOf numberOf sectionOf sectionAt sectionLen stateSections total
 state-read bs =
     λ j.
-    mkState (number-one 1 0 bs j) (number-one 1 1 bs j) (number-one 8 2 bs j) (number-one 8 10 bs j) (number-one 4 18 bs j) (number-one 4 22 bs j)
-    (numbersAt 4 8 26 bs) (numbersAt 1 8 58 bs) (numbersAt 1 8 66 bs) (numbersAt 1 8 74 bs) (numbersAt 8 64 82 bs) (numbersAt 8 64 594 bs) (numbersAt 4 64 1106 bs)
+    mkState (number-one 1 0 bs j) (number-one 1 1 bs j) (number-one 8 2 bs j) (number-one 8 10 bs j) (number-one 8 18 bs j) (number-one 4 26 bs j)
+    (numbersAt 4 8 30 bs) (numbersAt 1 8 62 bs) (numbersAt 1 8 70 bs) (numbersAt 1 8 78 bs) (numbersAt 8 64 86 bs) (numbersAt 8 64 598 bs) (numbersAt 4 64 1110 bs)
 
 -- ---- sections one after the other
 
@@ -132,14 +132,14 @@ section-one : (w n : ℕ) → sectionBytes (section w 1) (n ∷ []) ≡ toLe w n
 unfolding sectionBytes flat
 section-one w n = append-nil (toLe w n)
 
-pub state-front-written : (l : List ℕ) (live gone stamp serial opened next : ℕ) → live < 256 → gone < 256 → 26 ≤ length l
-    → splice (splice (splice (splice (set (set l 0 live) 1 gone) 2 (toLe 8 stamp)) 10 (toLe 8 serial)) 18 (toLe 4 opened)) 22 (toLe 4 next)
+pub state-front-written : (l : List ℕ) (live gone stamp serial opened next : ℕ) → live < 256 → gone < 256 → 30 ≤ length l
+    → splice (splice (splice (splice (set (set l 0 live) 1 gone) 2 (toLe 8 stamp)) 10 (toLe 8 serial)) 18 (toLe 8 opened)) 26 (toLe 4 next)
     ≡ putSections l 0 (take 6 stateSections) (frontNumbers live gone stamp serial opened next)
 unfolding putSections stateSections sectionLen
 state-front-written l live gone stamp serial opened next h g f =
     let k : 1 < length (set l 0 live) = simp length-set (omega arith) in
     simp section-one
-    (ap (λ (x : List ℕ). splice (splice (splice (splice x 2 (toLe 8 stamp)) 10 (toLe 8 serial)) 18 (toLe 4 opened)) 22 (toLe 4 next))
+    (ap (λ (x : List ℕ). splice (splice (splice (splice x 2 (toLe 8 stamp)) 10 (toLe 8 serial)) 18 (toLe 8 opened)) 26 (toLe 4 next))
     (byte-written (set l 0 live) 1 gone g k ∙ ap (λ (x : List ℕ). splice x 1 (toLe 1 gone)) (byte-written l 0 live h (omega arith))))
 
 pub state-written : (l : List ℕ) (st : State) → length l ≡ stateLen → SectionCounts stateSections (stateNumbers st)

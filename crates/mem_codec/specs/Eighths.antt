@@ -40,19 +40,19 @@ eighth-at w at start i bs h e =
 
 -- the eighth, put together from its parts
 pub row-read : (bs : List ℕ) (i : ℕ) (r : Row) → i < 8
-    → r .number ≡ leOf (part (26 + 4 * i) 4 bs) → r .filled ≡ leOf (part (58 + i) 1 bs) → r .writes ≡ leOf (part (66 + i) 1 bs) → r .landed ≡ leOf (part (74 + i) 1 bs)
-    → r .addresses ≡ numbersAt 8 8 (82 + 64 * i) bs → r .stamps ≡ numbersAt 8 8 (594 + 64 * i) bs → r .offsets ≡ numbersAt 4 8 (1106 + 32 * i) bs
+    → r .number ≡ leOf (part (30 + 4 * i) 4 bs) → r .filled ≡ leOf (part (62 + i) 1 bs) → r .writes ≡ leOf (part (70 + i) 1 bs) → r .landed ≡ leOf (part (78 + i) 1 bs)
+    → r .addresses ≡ numbersAt 8 8 (86 + 64 * i) bs → r .stamps ≡ numbersAt 8 8 (598 + 64 * i) bs → r .offsets ≡ numbersAt 4 8 (1110 + 32 * i) bs
     → r ≡ slotRow (stateOf bs) i
 unfolding slotRow stripeIn filledIn landedIn cell
 row-read bs i r h n f w l a t o =
     let e : (at : ℕ) → at + i ≡ at + 1 * i = λ at. omega arith in
     let one : (at : ℕ) → leOf (part (at + i) 1 bs) ≡ getD (numbersAt 1 8 at bs) i 0 = λ at. ap (λ (x : ℕ). leOf (part x 1 bs)) (e at) ∙ sym (number-at 1 8 at i bs h) in
-    let n′ = n ∙ sym (number-at 4 8 26 i bs h) in
-    let f′ = f ∙ one 58 in
-    let w′ = w ∙ one 66 in
-    let l′ = l ∙ one 74 in
-    let a′ = a ∙ eighth-at 8 82 (82 + 64 * i) i bs h (omega arith) in
-    let t′ = t ∙ eighth-at 8 594 (594 + 64 * i) i bs h (omega arith) in
-    let o′ = o ∙ eighth-at 4 1106 (1106 + 32 * i) i bs h (omega arith) in
+    let n′ = n ∙ sym (number-at 4 8 30 i bs h) in
+    let f′ = f ∙ one 62 in
+    let w′ = w ∙ one 70 in
+    let l′ = l ∙ one 78 in
+    let a′ = a ∙ eighth-at 8 86 (86 + 64 * i) i bs h (omega arith) in
+    let t′ = t ∙ eighth-at 8 598 (598 + 64 * i) i bs h (omega arith) in
+    let o′ = o ∙ eighth-at 4 1110 (1110 + 32 * i) i bs h (omega arith) in
     (λ j. record { number = n′ j; filled = f′ j; writes = w′ j; landed = l′ j; addresses = a′ j; stamps = t′ j; offsets = o′ j })
     ∙ ap (λ (x : State). slotRow x i) (sym (state-read bs))

@@ -15,6 +15,35 @@ use spec::Serial;
 use spec::Stamp;
 use spec::State;
 
+// Where the sections begin, and their length in all.
+pub const LIVE_AT: usize = 0;
+
+pub const MISSING_AT: usize = LIVE_AT + 1;
+
+pub const STAMP_AT: usize = MISSING_AT + 1;
+
+pub const SERIAL_AT: usize = STAMP_AT + 8;
+
+pub const OPENED_AT: usize = SERIAL_AT + 8;
+
+pub const NEXT_AT: usize = OPENED_AT + 8;
+
+pub const NUMBERS_AT: usize = NEXT_AT + 4;
+
+pub const FILLED_AT: usize = NUMBERS_AT + 4 * 8;
+
+pub const WRITES_AT: usize = FILLED_AT + 8;
+
+pub const LANDED_AT: usize = WRITES_AT + 8;
+
+pub const ADDRESSES_AT: usize = LANDED_AT + 8;
+
+pub const STAMPS_AT: usize = ADDRESSES_AT + 8 * 64;
+
+pub const OFFSETS_AT: usize = STAMPS_AT + 8 * 64;
+
+const STATE_LEN: usize = OFFSETS_AT + 4 * 64;
+
 // ---- a section read
 
 // 8 numbers of 1 byte.
@@ -122,16 +151,16 @@ fn put_longs(dst: &mut [u8], at: usize, ns: &[u64])
 }
 
 // The six numbers in front of the arrays.
-fn put_front(dst: &mut [u8], live: u8, missing: u8, stamp: u64, serial: u64, opened: u32, next: u32)
-    requires { ⌜ 26 ≤ length (now dst) ⌝ }
+fn put_front(dst: &mut [u8], live: u8, missing: u8, stamp: u64, serial: u64, opened: u64, next: u32)
+    requires { ⌜ 30 ≤ length (now dst) ⌝ }
     ensures { λ _. ⌜ now (dst .exit) ≡ putSections (now (dst .entry)) 0 (take 6 stateSections) (frontNumbers live missing stamp serial opened next) ⌝ }
 {
-    dst[0] = live;
-    dst[1] = missing;
-    bits_le::write_le64(dst, 2, stamp);
-    bits_le::write_le64(dst, 10, serial);
-    bits_le::write_le32(dst, 18, opened);
-    bits_le::write_le32(dst, 22, next);
+    dst[LIVE_AT] = live;
+    dst[MISSING_AT] = missing;
+    bits_le::write_le64(dst, STAMP_AT, stamp);
+    bits_le::write_le64(dst, SERIAL_AT, serial);
+    bits_le::write_le64(dst, OPENED_AT, opened);
+    bits_le::write_le32(dst, NEXT_AT, next);
 }
 
 // ---- the state
@@ -140,7 +169,7 @@ fn put_front(dst: &mut [u8], live: u8, missing: u8, stamp: u64, serial: u64, ope
 pub fn state_len() -> usize
     ensures { λ r. ⌜ r ≡ stateLen ⌝ }
 {
-    1362
+    STATE_LEN
 }
 
 // The state that the bytes say.
@@ -148,20 +177,20 @@ pub fn decode(bytes: &[u8]) -> State
     requires { ⌜ length (now bytes) ≡ stateLen ⌝ }
     ensures { λ r. ⌜ r ≡ stateOf (now (bytes .entry)) ⌝ }
 {
-    let numbers = words_at(bytes, 26);
-    let filled = bytes_at(bytes, 58);
-    let writes = bytes_at(bytes, 66);
-    let landed = bytes_at(bytes, 74);
-    let addresses = many_longs_at(bytes, 82);
-    let stamps = many_longs_at(bytes, 594);
-    let offsets = many_words_at(bytes, 1106);
+    let numbers = words_at(bytes, NUMBERS_AT);
+    let filled = bytes_at(bytes, FILLED_AT);
+    let writes = bytes_at(bytes, WRITES_AT);
+    let landed = bytes_at(bytes, LANDED_AT);
+    let addresses = many_longs_at(bytes, ADDRESSES_AT);
+    let stamps = many_longs_at(bytes, STAMPS_AT);
+    let offsets = many_words_at(bytes, OFFSETS_AT);
     State {
-        live: bytes[0],
-        missing: bytes[1],
-        stamp: Stamp(bits_le::read_le64(bytes, 2)),
-        serial: Serial(bits_le::read_le64(bytes, 10)),
-        opened: bits_le::read_le32(bytes, 18),
-        next: bits_le::read_le32(bytes, 22),
+        live: bytes[LIVE_AT],
+        missing: bytes[MISSING_AT],
+        stamp: Stamp(bits_le::read_le64(bytes, STAMP_AT)),
+        serial: Serial(bits_le::read_le64(bytes, SERIAL_AT)),
+        opened: bits_le::read_le64(bytes, OPENED_AT),
+        next: bits_le::read_le32(bytes, NEXT_AT),
         numbers,
         filled,
         writes,
@@ -177,15 +206,15 @@ pub fn row_at(bytes: &[u8], i: usize) -> Row
     requires { ⌜ (length (now bytes) ≡ stateLen) × (i < 8) ⌝ }
     ensures { λ r. ⌜ r ≡ slotRow (stateOf (now (bytes .entry))) i ⌝ }
 {
-    let addresses = longs_at(bytes, 82 + 64 * i);
-    let stamps = longs_at(bytes, 594 + 64 * i);
-    let offsets = words_at(bytes, 1106 + 32 * i);
-    let number = bits_le::read_le32(bytes, 26 + 4 * i);
+    let addresses = longs_at(bytes, ADDRESSES_AT + 64 * i);
+    let stamps = longs_at(bytes, STAMPS_AT + 64 * i);
+    let offsets = words_at(bytes, OFFSETS_AT + 32 * i);
+    let number = bits_le::read_le32(bytes, NUMBERS_AT + 4 * i);
     Row {
         number,
-        filled: bytes[58 + i],
-        writes: bytes[66 + i],
-        landed: bytes[74 + i],
+        filled: bytes[FILLED_AT + i],
+        writes: bytes[WRITES_AT + i],
+        landed: bytes[LANDED_AT + i],
         addresses,
         stamps,
         offsets,
@@ -213,48 +242,48 @@ pub fn encode(dst: &mut [u8], st: State)
         st.opened,
         st.next,
     );
-    put_words(dst, 26, &numbers);
-    put_bytes(dst, 58, &filled);
-    put_bytes(dst, 66, &writes);
-    put_bytes(dst, 74, &landed);
-    put_longs(dst, 82, &addresses);
-    put_longs(dst, 594, &stamps);
-    put_words(dst, 1106, &offsets);
+    put_words(dst, NUMBERS_AT, &numbers);
+    put_bytes(dst, FILLED_AT, &filled);
+    put_bytes(dst, WRITES_AT, &writes);
+    put_bytes(dst, LANDED_AT, &landed);
+    put_longs(dst, ADDRESSES_AT, &addresses);
+    put_longs(dst, STAMPS_AT, &stamps);
+    put_words(dst, OFFSETS_AT, &offsets);
 }
 
 // ---- a change of the state
 
 // The four numbers in front that a call changes.
-fn put_counts(dst: &mut [u8], stamp: u64, serial: u64, opened: u32, next: u32)
-    requires { ⌜ 26 ≤ length (now dst) ⌝ }
+fn put_counts(dst: &mut [u8], stamp: u64, serial: u64, opened: u64, next: u32)
+    requires { ⌜ 30 ≤ length (now dst) ⌝ }
     ensures { λ _. ⌜ now (dst .exit) ≡ writtenAll stateSections (now (dst .entry)) (countEdits stamp serial opened next) ⌝ }
 {
-    bits_le::write_le64(dst, 2, stamp);
-    bits_le::write_le64(dst, 10, serial);
-    bits_le::write_le32(dst, 18, opened);
-    bits_le::write_le32(dst, 22, next);
+    bits_le::write_le64(dst, STAMP_AT, stamp);
+    bits_le::write_le64(dst, SERIAL_AT, serial);
+    bits_le::write_le64(dst, OPENED_AT, opened);
+    bits_le::write_le32(dst, NEXT_AT, next);
 }
 
 // Of eighth i the stripe's number, how many are filled, which are writes, which drives have it.
 fn put_marks(dst: &mut [u8], i: usize, number: u32, filled: u8, writes: u8, landed: u8)
-    requires { ⌜ (i < 8) × (82 ≤ length (now dst)) ⌝ }
+    requires { ⌜ (i < 8) × (86 ≤ length (now dst)) ⌝ }
     ensures { λ _. ⌜ now (dst .exit) ≡ writtenAll stateSections (now (dst .entry)) (markEdits i number filled writes landed) ⌝ }
 {
-    bits_le::write_le32(dst, 26 + 4 * i, number);
-    dst[58 + i] = filled;
-    dst[66 + i] = writes;
-    dst[74 + i] = landed;
+    bits_le::write_le32(dst, NUMBERS_AT + 4 * i, number);
+    dst[FILLED_AT + i] = filled;
+    dst[WRITES_AT + i] = writes;
+    dst[LANDED_AT + i] = landed;
 }
 
 // Of eighth i the addresses, stamps and offsets.
 fn put_cells(dst: &mut [u8], i: usize, addresses: &[u64; 8], stamps: &[u64; 8], offsets: &[u32; 8])
-    requires { ⌜ (i < 8) × (1362 ≤ length (now dst)) ⌝ }
+    requires { ⌜ (i < 8) × (1366 ≤ length (now dst)) ⌝ }
     ensures { λ _. ⌜ now (dst .exit) ≡ writtenAll stateSections (now (dst .entry)) (cellEdits i (now (addresses .entry)) (now (stamps .entry)) (now (offsets .entry))) ⌝ }
 {
     let at = 8 * i;
-    put_longs(dst, 82 + 8 * at, addresses);
-    put_longs(dst, 594 + 8 * at, stamps);
-    put_words(dst, 1106 + 4 * at, offsets);
+    put_longs(dst, ADDRESSES_AT + 8 * at, addresses);
+    put_longs(dst, STAMPS_AT + 8 * at, stamps);
+    put_words(dst, OFFSETS_AT + 4 * at, offsets);
 }
 
 // The change made in the state's bytes: only what it names is written.

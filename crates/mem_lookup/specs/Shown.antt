@@ -8,6 +8,7 @@ use Rattle.spec.specs.Params.{imageLen, pointersLen}
 use Rattle.spec.specs.declared.Params.{Params}
 use Rattle.law_basic.specs.Ranges.{upFrom-step, keep-hit, keep-miss, keep-upFrom-same, and-false}
 use Rattle.law_views.specs.Views.{pointer-view}
+use Rattle.law_drives.specs.Members.{keep-keep}
 use borrow.Author.Tests.{lt-ltb, le-ltb}
 use lib.Dec.{ltb, eqb}
 use lib.ListN.{length, getD}
@@ -22,31 +23,21 @@ use native.Mathlib.Omega.{arith}
 unfoldable pub shows : Params → ℕ → List ℕ → ℕ → ℕ → ℕ → ℕ → Bool
 shows p n cs d z s o = ltb o (p .S) && (ltb (1 + o) n && eqb (getD cs (compactAt p d z o) 0) (compactEntry p s))
 
--- tests one after the other
-keep-both : (f g : ℕ → Bool) (l : List ℕ) → keep f (keep g l) ≡ keep (λ a. g a && f a) l
-unfolding keep consIf
-keep-both f g [] = refl
-keep-both f g (a ∷ l) = go (g a) (keep-both f g l)
-  where
-    go : (b : Bool) → keep f (keep g l) ≡ keep (λ x. g x && f x) l → keep f (consIf b a (keep g l)) ≡ consIf (b && f a) a (keep (λ x. g x && f x) l)
-    go true e = ap (consIf (f a) a) e
-    go false e = e
-
 keep-no : (i n : ℕ) → keep (λ (k : ℕ). false) (upFrom i n) ≡ []
 unfolding keep upFrom consIf
 keep-no i zero = refl
 keep-no i (suc n) = keep-no (suc i) n
 
 -- 01, What a zone holds: the table shows the stripe at just these offsets of its group
-pub shown-list : (p : Params) (im ps cs : List ℕ) (d z s n i : ℕ) → d < p .N → z < p .Z → length im ≡ imageLen p → length ps ≡ pointersLen p
-    → n ≡ pointerOf p ps d z → i ≡ group p s * p .G → keep (shows p n cs d z s) (upFrom i (i + p .G - i)) ≡ shownAt p (viewOf p im ps) cs d z s
+pub shown-list : (p : Params) (off im ps cs : List ℕ) (d z s n i : ℕ) → d < p .N → z < p .Z → length im ≡ imageLen p → length ps ≡ pointersLen p
+    → n ≡ pointerOf p ps d z → i ≡ group p s * p .G → keep (shows p n cs d z s) (upFrom i (i + p .G - i)) ≡ shownAt p (viewOf p off im ps) cs d z s
 unfolding shownAt groupOffsets shows
-shown-list p im ps cs d z s n i hd hz h g e q =
+shown-list p off im ps cs d z s n i hd hz h g e q =
     let f : ℕ → ℕ → Bool = λ m o. ltb (1 + o) m && eqb (getD cs (compactAt p d z o) 0) (compactEntry p s) in
     let t : i + p .G - i ≡ p .G = omega arith in
     ap (λ (x : ℕ). keep (λ o. ltb o (p .S) && f n o) (upFrom i x)) t
-    ∙ sym (keep-both (f n) (λ o. ltb o (p .S)) (upFrom i (p .G)))
-    ∙ (λ j. keep (f ((e ∙ sym (pointer-view p (mkDisk im ps) d z hd hz (record { image-long = h; pointers-long = g }))) j)) (keep (λ o. ltb o (p .S)) (upFrom (q j) (p .G))))
+    ∙ sym (keep-keep (f n) (λ o. ltb o (p .S)) (upFrom i (p .G)))
+    ∙ (λ j. keep (f ((e ∙ sym (pointer-view p off (mkDisk im ps) d z hd hz (record { image-long = h; pointers-long = g }))) j)) (keep (λ o. ltb o (p .S)) (upFrom (q j) (p .G))))
 
 -- the search at offset i of a range that ends at m
 module _ (f : ℕ → Bool) (i m S : ℕ) (l : List ℕ) (e : keep f (upFrom i (m - i)) ≡ l) where

@@ -8,13 +8,18 @@ ghost use lib.ListN.{length};
 ghost use Rattle.mem_calls.specs.Left.{checked};
 ghost use Rattle.spec.specs.Calls.{firstRefusal};
 ghost use Rattle.spec.specs.Calls.Check.{zones};
-ghost use Rattle.spec.specs.Drives.{viewOf, pointerOf};
+ghost use Rattle.spec.specs.Drives.{viewOf, mkDisk, pointerOf};
 ghost use Rattle.spec.specs.Lists.{consIf, isNil, firstOr};
 ghost use Rattle.spec.specs.Memory.{shownAt};
-ghost use Rattle.spec.specs.Params.{inRange, imageLen, pointersLen, addressesLen, compactLen};
+ghost use Rattle.spec.specs.Params.{inRange, imageLen, pointersLen, offlineLen, addressesLen, compactLen};
 ghost use Rattle.spec.specs.Read.{placeFaults, lies};
+ghost use Rattle.spec.specs.Segments.{isPlace};
+ghost use Rattle.law_views.specs.Views.{Whole};
+ghost use Rattle.law_drives.specs.Segs.{Here};
+ghost use Rattle.disk_holders.specs.Held.{isOne};
 ghost use Rattle.mem_lookup.specs.Lies.{foundOf};
 ghost use Rattle.mem_lookup.specs.Places.{isBad};
+use disk_holders::Held;
 use mem_calls::Check;
 use spec::Answer;
 use spec::Params;
@@ -61,11 +66,15 @@ fn is_bad(p: Params, pointers: &[u8], gone: u8, drive: usize, zone: usize, block
     disk_zones::pointer(p, pointers, drive, zone) as usize <= block
 }
 
-// 01, Refusals, 9: the bad zone of a place to be read; Z where there is none.
-pub fn place_fault(p: Params, pointers: &[u8], gone: u8, q: Place) -> usize
+// 01, Refusals, 9: the bad zone of a place to be read, whose segment has been looked up; Z where there is none. Outside the image it is zone 0.
+pub fn held_fault(p: Params, pointers: &[u8], gone: u8, q: Place, held: Held) -> usize
     requires { ⌜ inRange p ≡ true ⌝ }
     requires { ⌜ length (now pointers) ≡ pointersLen p ⌝ }
-    ensures { λ r. ⌜ ((im : List ℕ) → length im ≡ imageLen p → placeFaults p (viewOf p im (now (pointers .entry))) gone (q .0) ≡ consIf (ltb r (p .Z)) r []) ⌝ }
+    ensures { λ r. ⌜
+        ((off : List ℕ) (im : List ℕ)
+        → length im ≡ imageLen p
+        → isPlace p (viewOf p off im (now (pointers .entry))) gone (q .0) ≡ isOne held
+        → placeFaults p (viewOf p off im (now (pointers .entry))) gone (q .0) ≡ consIf (ltb r (p .Z)) r []) ⌝ }
 {
     let drive = disk_shape::place_drive(p, q);
     let zone = disk_shape::place_zone(p, q);
@@ -73,10 +82,30 @@ pub fn place_fault(p: Params, pointers: &[u8], gone: u8, q: Place) -> usize
     if p.N <= drive {
         return 0;
     }
-    if is_bad(p, pointers, gone, drive, zone, block) {
-        return zone;
+    if let Held::One(_) = held {
+        if is_bad(p, pointers, gone, drive, zone, block) {
+            return zone;
+        }
+        return p.Z;
     }
-    p.Z
+    0
+}
+
+// 01, Refusals, 9: the bad zone of a place to be read; Z where there is none.
+pub fn place_fault(
+    p: Params,
+    image: &[u8],
+    pointers: &[u8],
+    offline: &[u8],
+    gone: u8,
+    q: Place,
+) -> usize
+    requires { ⌜ inRange p ≡ true ⌝ }
+    requires { ⌜ Whole p (mkDisk (now image) (now pointers)) × (length (now offline) ≡ offlineLen p) × Here p gone ⌝ }
+    ensures { λ r. ⌜ placeFaults p (viewOf p (now (offline .entry)) (now (image .entry)) (now (pointers .entry))) gone (q .0) ≡ consIf (ltb r (p .Z)) r [] ⌝ }
+{
+    let held = disk_holders::place_held(p, image, pointers, offline, gone, q);
+    held_fault(p, pointers, gone, q, held)
 }
 
 // 01, Refusals, 9: refused where the number is one of a zone.
@@ -126,8 +155,14 @@ pub fn shown_at(
     requires { ⌜ inRange p ≡ true ⌝ }
     requires { ⌜ (length (now pointers) ≡ pointersLen p) × (length (now compact) ≡ compactLen p) ⌝ }
     requires { ⌜ (drive < p .N) × (zone < p .Z) × (s < p .S) ⌝ }
-    ensures { λ r. ⌜ ((im : List ℕ) → length im ≡ imageLen p → r ≡ firstOr (p .S) (shownAt p (viewOf p im (now (pointers .entry))) (now (compact .entry)) drive zone s)) ⌝ }
-    ensures { λ r. ⌜ ((im : List ℕ) → length im ≡ imageLen p → eqb r (p .S) ≡ isNil (shownAt p (viewOf p im (now (pointers .entry))) (now (compact .entry)) drive zone s)) ⌝ }
+    ensures { λ r. ⌜
+        ((off : List ℕ) (im : List ℕ)
+        → length im ≡ imageLen p
+        → r ≡ firstOr (p .S) (shownAt p (viewOf p off im (now (pointers .entry))) (now (compact .entry)) drive zone s)) ⌝ }
+    ensures { λ r. ⌜
+        ((off : List ℕ) (im : List ℕ)
+        → length im ≡ imageLen p
+        → eqb r (p .S) ≡ isNil (shownAt p (viewOf p off im (now (pointers .entry))) (now (compact .entry)) drive zone s)) ⌝ }
     ensures { λ r. ⌜ r ≤ p .S ⌝ }
 {
     let pointer = disk_zones::pointer(p, pointers, drive, zone) as usize;

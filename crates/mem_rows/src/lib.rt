@@ -23,7 +23,7 @@ pub struct Change {
     pub answer: Answer,
     pub stamp: Stamp,
     pub serial: Serial,
-    pub opened: u32,
+    pub opened: u64,
     pub next: u32,
     pub slot: usize,
     pub row: Row,
@@ -33,7 +33,7 @@ pub struct Change {
 pub struct Front {
     pub stamp: Stamp,
     pub serial: Serial,
-    pub opened: u32,
+    pub opened: u64,
     pub next: u32,
     pub numbers: [u32; 8],
     pub filled: [u8; 8],

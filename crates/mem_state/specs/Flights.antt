@@ -27,13 +27,13 @@ heldIn st a t i = any (holdsAt st a t) (upFrom (8 * i) 8)
 -- ---- in the bytes
 
 -- the numbers of a cell
-address-read : (bs : List ℕ) (j : ℕ) → j < 64 → leOf (part (82 + 8 * j) 8 bs) ≡ getD (stateOf bs .addresses) j 0
-address-read bs j h = sym (ap (λ (st : State). getD (st .addresses) j 0) (state-read bs) ∙ number-at 8 64 82 j bs h)
+address-read : (bs : List ℕ) (j : ℕ) → j < 64 → leOf (part (86 + 8 * j) 8 bs) ≡ getD (stateOf bs .addresses) j 0
+address-read bs j h = sym (ap (λ (st : State). getD (st .addresses) j 0) (state-read bs) ∙ number-at 8 64 86 j bs h)
 
-stamp-read : (bs : List ℕ) (j : ℕ) → j < 64 → leOf (part (594 + 8 * j) 8 bs) ≡ getD (stateOf bs .stamps) j 0
-stamp-read bs j h = sym (ap (λ (st : State). getD (st .stamps) j 0) (state-read bs) ∙ number-at 8 64 594 j bs h)
+stamp-read : (bs : List ℕ) (j : ℕ) → j < 64 → leOf (part (598 + 8 * j) 8 bs) ≡ getD (stateOf bs .stamps) j 0
+stamp-read bs j h = sym (ap (λ (st : State). getD (st .stamps) j 0) (state-read bs) ∙ number-at 8 64 598 j bs h)
 
-module _ (bs : List ℕ) (j a t x : ℕ) (h : j < 64) (e : x ≡ leOf (part (82 + 8 * j) 8 bs)) where
+module _ (bs : List ℕ) (j a t x : ℕ) (h : j < 64) (e : x ≡ leOf (part (86 + 8 * j) 8 bs)) where
   -- another address
   pub flight-other-address : (x ≡ a → ⊥) → false ≡ hasAt (stateOf bs) a t j
   unfolding hasAt
@@ -41,18 +41,18 @@ module _ (bs : List ℕ) (j a t x : ℕ) (h : j < 64) (e : x ≡ leOf (part (82 
       sym (ap (λ (b : Bool). b && eqb (getD (stateOf bs .stamps) j 0) t) (ap (λ (y : ℕ). eqb y a) (sym (e ∙ address-read bs j h)) ∙ ne-eqb x a n))
 
   -- the same one: the stamp decides
-  pub flight-same-address : x ≡ a → (y : ℕ) → y ≡ leOf (part (594 + 8 * j) 8 bs) → eqb y t ≡ hasAt (stateOf bs) a t j
+  pub flight-same-address : x ≡ a → (y : ℕ) → y ≡ leOf (part (598 + 8 * j) 8 bs) → eqb y t ≡ hasAt (stateOf bs) a t j
   unfolding hasAt
   flight-same-address q y f =
       ap (λ (z : ℕ). eqb z t) (f ∙ stamp-read bs j h)
       ∙ sym (ap (λ (b : Bool). b && eqb (getD (stateOf bs .stamps) j 0) t) (ap (λ (y : ℕ). eqb y a) (sym (e ∙ address-read bs j h)) ∙ eq-eqb x a q))
 
 -- how many positions of an eighth are filled
-pub filled-read : (bs : List ℕ) (i : ℕ) → i < 8 → leOf (part (58 + i) 1 bs) ≡ filledIn (stateOf bs) i
+pub filled-read : (bs : List ℕ) (i : ℕ) → i < 8 → leOf (part (62 + i) 1 bs) ≡ filledIn (stateOf bs) i
 unfolding filledIn
 filled-read bs i h =
-    let q : 58 + i ≡ 58 + 1 * i = omega arith in
-    ap (λ (x : ℕ). leOf (part x 1 bs)) q ∙ sym (ap (λ (st : State). getD (st .filled) i 0) (state-read bs) ∙ number-at 1 8 58 i bs h)
+    let q : 62 + i ≡ 62 + 1 * i = omega arith in
+    ap (λ (x : ℕ). leOf (part x 1 bs)) q ∙ sym (ap (λ (st : State). getD (st .filled) i 0) (state-read bs) ∙ number-at 1 8 62 i bs h)
 
 -- ---- one eighth
 

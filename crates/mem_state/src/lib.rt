@@ -1,19 +1,14 @@
 // The state between calls: questions to it and to its bytes, and states with nothing in flight (01, Write; Landing; Reclaim). Each function
 // equals the definition that its contract names.
 ghost use mathlib.Core.Path.{_≡_};
-ghost use mathlib.Core.Bool.{true, not, _&&_};
-ghost use Prim.Native.Nat.{_≤_, _<_};
+ghost use mathlib.Core.Bool.{not, _&&_};
+ghost use Prim.Native.Nat.{_<_};
 ghost use lib.Dec.{eqb};
 ghost use lib.ListN.{length};
 ghost use Rattle.mem_state.specs.Flights.{hasAt, heldIn};
-ghost use Rattle.spec.specs.Memory.{stripeIn, openSegment, isFree, inFlight, holds, idleState, zeroState, stateLen, stateOf};
+ghost use Rattle.spec.specs.Memory.{stripeIn, isFree, inFlight, holds, idleState, zeroState, stateLen, stateOf};
 ghost use Rattle.spec.specs.Landing.{slotOf};
-ghost use Rattle.spec.specs.Params.{inRange};
-ghost use Rattle.spec.specs.declared.State.{State as StateOf};
-ghost use Rattle.law_basic.specs.Segs.{ZonesLow};
 use spec::Address;
-use spec::Params;
-use spec::Seg;
 use spec::Serial;
 use spec::Stamp;
 use spec::State;
@@ -90,19 +85,6 @@ pub fn slot_of(state: State, stripe: usize) -> usize
     8
 }
 
-// The open segment of a state with this number; the first where none is open.
-pub fn open_segment(p: Params, opened: u32) -> Seg
-    requires { ⌜ inRange p ≡ true ⌝ }
-    requires { ⌜ opened ≤ p .Z ⌝ }
-    ensures { λ r. ⌜ ((st : StateOf) → st .opened ≡ opened → r ≡ openSegment p st) ⌝ }
-    ensures { λ r. ⌜ ZonesLow p 0 r ⌝ }
-{
-    if opened == 0 {
-        return disk_shape::across(p, 0);
-    }
-    disk_shape::across(p, whole(opened - 1))
-}
-
 // ---- questions to the state's bytes
 
 // Cell j has the address with the stamp.
@@ -110,11 +92,11 @@ fn is_cell(bytes: &[u8], j: usize, address: Address, stamp: Stamp) -> bool
     requires { ⌜ (length (now bytes) ≡ stateLen) × (j < 64) ⌝ }
     ensures { λ r. ⌜ r ≡ hasAt (stateOf (now (bytes .entry))) (address .0) (stamp .0) j ⌝ }
 {
-    let a = bits_le::read_le64(bytes, 82 + 8 * j);
+    let a = bits_le::read_le64(bytes, mem_codec::ADDRESSES_AT + 8 * j);
     if a != address.0 {
         return false;
     }
-    let t = bits_le::read_le64(bytes, 594 + 8 * j);
+    let t = bits_le::read_le64(bytes, mem_codec::STAMPS_AT + 8 * j);
     t == stamp.0
 }
 
@@ -123,7 +105,7 @@ fn is_held(bytes: &[u8], i: usize, address: Address, stamp: Stamp) -> bool
     requires { ⌜ (length (now bytes) ≡ stateLen) × (i < 8) ⌝ }
     ensures { λ r. ⌜ r ≡ heldIn (stateOf (now (bytes .entry))) (address .0) (stamp .0) i ⌝ }
 {
-    let f = wide(bytes[58 + i]);
+    let f = wide(bytes[mem_codec::FILLED_AT + i]);
     let mut k = 0;
     while k < 8 {
         if f <= k {
@@ -160,7 +142,7 @@ pub fn idle_state(
     missing: u8,
     stamp: Stamp,
     serial: Serial,
-    opened: u32,
+    opened: u64,
     next: u32,
 ) -> State
     ensures { λ r. ⌜ r ≡ idleState live missing (stamp .0) (serial .0) opened next ⌝ }

@@ -45,17 +45,17 @@ module _ (p : Params) (l : Lent) (c : Call) where
   abbrev memory : Memory
   memory = lentMemory l
 
-  -- 01, Refusals, 2: the lengths of all six buffers
+  -- 01, Refusals, 2: the lengths of all that is lent
   abbrev pub long : Bool
   long = lentLong p l
 
   abbrev pub decidedBy : Verdict
-  decidedBy = verdict p long (seen p disk) memory c
+  decidedBy = verdict p long (seen p (l .offline) disk) memory c
 
   left-is : (n : ℕ) (r : After Disk) → outcome p (storeDisk p) n disk memory (lentBlock c) decidedBy ≡ r
       → callBytes p l (withCount n c) ≡ leftBy l r (isRefused (r .answer))
   unfolding callBytes
-  left-is n r e = ap (λ (x : After Disk). leftBy l x (isRefused (x .answer))) (counted-on p long disk memory c n ∙ e)
+  left-is n r e = ap (λ (x : After Disk). leftBy l x (isRefused (x .answer))) (counted-on p (l .offline) long disk memory c n ∙ e)
 
   of-verdict : (n : ℕ) (w : Verdict) → decidedBy ≡ w
       → outcome p (storeDisk p) n disk memory (lentBlock c) decidedBy ≡ outcome p (storeDisk p) n disk memory (lentBlock c) w
@@ -77,12 +77,12 @@ module _ (p : Params) (l : Lent) (c : Call) where
         let k = storeAll (storeDisk p) (take n (q .stores)) disk in
         let r = mkAfter Cut k (cutMemory p memory) (lentBlock c) in
         left-is n r (of-verdict n (due q) e ∙ cut-prefix p (storeDisk p) n disk memory (lentBlock c) q h)
-        ∙ ap (λ (s : List ℕ). record { answer = Cut; lent = lentAll k (cutMemory p memory) s; block = lentBlock c }) zero-state
+        ∙ ap (λ (s : List ℕ). record { answer = Cut; lent = lentAll (l .offline) k (cutMemory p memory) s; block = lentBlock c }) zero-state
 
     abbrev doneLeft : Left
     doneLeft = record {
       answer = q .answer;
-      lent = lentAll (storeAll (storeDisk p) (q .stores) disk) (q .memory) (stateBytes (q .memory .state));
+      lent = lentAll (l .offline) (storeAll (storeDisk p) (q .stores) disk) (q .memory) (stateBytes (q .memory .state));
       block = q .block;
     }
 
@@ -94,7 +94,7 @@ module _ (p : Params) (l : Lent) (c : Call) where
 
   -- ---- the stores that are due
 
-  disk-of : (k : Disk) (m : Memory) (s : List ℕ) → lentDisk (lentAll k m s) ≡ k
+  disk-of : (k : Disk) (m : Memory) (s : List ℕ) → lentDisk (lentAll (l .offline) k m s) ≡ k
   unfolding lentDisk lentAll
   disk-of k m s = refl
 
@@ -123,7 +123,7 @@ module _ (p : Params) (l : Lent) (c : Call) where
       }
 
   pub decided-due : Due p l c (dueOf decidedBy)
-  decided-due = go (verdict-says p long (seen p disk) memory c)
+  decided-due = go (verdict-says p long (seen p (l .offline) disk) memory c)
     where
       of : (w : Verdict) → decidedBy ≡ w → Due p l c (dueOf w) → Due p l c (dueOf decidedBy)
       of w e d = subst (λ (x : Verdict). Due p l c (dueOf x)) (sym e) d
@@ -187,7 +187,7 @@ module _ (p : Params) (l : Lent) (c : Call) where
           }
 
   good : (n : ℕ) → AnsweredWell n
-  good n = go (verdict-says p long (seen p disk) memory c)
+  good n = go (verdict-says p long (seen p (l .offline) disk) memory c)
     where
       go : VerdictSays c decidedBy → AnsweredWell n
       go (says-no a e h i) = good-refused a e h i n

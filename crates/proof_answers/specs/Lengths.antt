@@ -8,7 +8,7 @@ use native.Mathlib.Omega.{arith}
 use lib.ListN.{length, getD, take, drop, set, length-set, length-map}
 use lib.Seq.{getD-set-same, getD-set-other}
 use Rattle.spec.specs.declared.Params.{Params}
-use Rattle.spec.specs.Drives.{Chunk, mkChunk, noChunk, Zone, View, zoneAt, chunkAt, Store, putZone, Disk, zoneOn, zeroSpare, sparesOf, footerStores, headerStores, resetStores, zonesIn}
+use Rattle.spec.specs.Drives.{Chunk, mkChunk, noChunk, Zone, View, zoneAt, chunkAt, Store, putZone, Disk, zoneOn, zeroSpare, sparesOf, footerStores, headerStores, resetStores, zonesIn, isGood}
 use Rattle.spec.specs.Drives.Store.{put, reset}
 use Rattle.spec.specs.Layout.{dataDrive, dataDrives, dataPosition, isData, parityPosition, headerBlock, mkRec, footerBlock}
 use Rattle.spec.specs.Lists.{upFrom, below, isIn}
@@ -22,7 +22,6 @@ use Rattle.law_basic.specs.Mask.{isIn-empty}
 use Rattle.law_basic.specs.Ranges.{Test, test, length-upFrom, length-below}
 use Rattle.law_basic.specs.Ranges.Test.{yes!, no! }
 use Rattle.law_basic.specs.Splice.{length-part}
-use Rattle.law_basic.specs.Segs.{Named, zone-on-lt}
 use Rattle.law_basic.specs.Each.{each-map, each-data}
 use Rattle.law_code.specs.Chunks.{chunk-decoded, moved-is-data, moved-is-parity}
 use Rattle.law_code.specs.Code.{encode-long, encode-apart, decode-long, decode-apart}
@@ -36,6 +35,7 @@ use Rattle.law_drives.specs.Spots.{counts-in}
 use Rattle.law_views.specs.Views.{Whole, blocks-long, block-view, spare-view, seen}
 use Rattle.proof_answers.specs.Rising.{Proper}
 use Rattle.spec.specs.declared.Seg.{Seg}
+use Rattle.law_basic.specs.Segs.{zones-in-long}
 
 -- ---- zones
 
@@ -46,11 +46,11 @@ pub record Fair (p : Params) (q : Zone) : Type 0 where
   pub spare-long : (b : ℕ) → b < capacity p → length (getD (q .blocks) b noChunk .spare) ≡ spareLen
 
 -- the zones of lent bytes are so
-pub fair-of : (p : Params) (k : Disk) → Whole p k → (d z : ℕ) → d < p .N → z < p .Z → Fair p (zoneAt (seen p k) d z)
-fair-of p k w d z hd hz = record {
-  count = blocks-long p k d z hd hz w;
-  block-long = λ b h. as-block b (ap length (block-view p k d z hd hz w b h) ∙ length-part (at b) (p .B) (k .image) (room b h .0));
-  spare-long = λ b h. as-spare b (ap length (spare-view p k d z hd hz w b h) ∙ length-part (at b + p .B) spareLen (k .image) (room b h .1));
+pub fair-of : (p : Params) (off : List ℕ) (k : Disk) → Whole p k → (d z : ℕ) → d < p .N → z < p .Z → Fair p (zoneAt (seen p off k) d z)
+fair-of p off k w d z hd hz = record {
+  count = blocks-long p off k d z hd hz w;
+  block-long = λ b h. as-block b (ap length (block-view p off k d z hd hz w b h) ∙ length-part (at b) (p .B) (k .image) (room b h .0));
+  spare-long = λ b h. as-spare b (ap length (spare-view p off k d z hd hz w b h) ∙ length-part (at b + p .B) spareLen (k .image) (room b h .1));
 }
   where
     at : ℕ → ℕ
@@ -65,10 +65,10 @@ fair-of p k w d z hd hz = record {
         unit-is : unitLen p ≡ p .B + spareLen
         unit-is = unfold unitLen in refl
 
-    as-block : (b : ℕ) → length (chunkAt (seen p k) d z b .block) ≡ p .B → length (getD (zoneAt (seen p k) d z .blocks) b noChunk .block) ≡ p .B
+    as-block : (b : ℕ) → length (chunkAt (seen p off k) d z b .block) ≡ p .B → length (getD (zoneAt (seen p off k) d z .blocks) b noChunk .block) ≡ p .B
     as-block b e = unfold chunkAt in e
 
-    as-spare : (b : ℕ) → length (chunkAt (seen p k) d z b .spare) ≡ spareLen → length (getD (zoneAt (seen p k) d z .blocks) b noChunk .spare) ≡ spareLen
+    as-spare : (b : ℕ) → length (chunkAt (seen p off k) d z b .spare) ≡ spareLen → length (getD (zoneAt (seen p off k) d z .blocks) b noChunk .spare) ≡ spareLen
     as-spare b e = unfold chunkAt in e
 
 -- a put keeps it so
@@ -94,26 +94,35 @@ put-fair p q b s f hb hs = record {
 
 -- ---- headers, resets, footers
 
-module _ (p : Params) (r : Ranged p) where
+-- a segment whose zones are good zones of the array (02, item 4)
+abbrev pub OnGood : Params → List ℕ → Seg → Type 0
+OnGood p off g = (d : ℕ) → d < p .N → (zoneOn g d < p .Z) × (isGood p off d (zoneOn g d) ≡ true)
+
+module _ (p : Params) (r : Ranged p) (off : List ℕ) where
   listed-drive-low : (d : ℕ) → In d (drivesOf p) → d < p .N
   unfolding drivesOf
   listed-drive-low d m = below-in (p .N) d m
 
-  pub header-proper : (d z : ℕ) (zs : List ℕ) (s c : ℕ) → d < p .N → z < p .Z → Proper p (put d z (headerBlock p d zs s c) zeroSpare)
-  header-proper d z zs s c hd hz = (hd, hz, header-block-long p r d zs s c, length-zeroSpare)
+  pub header-proper : (d : ℕ) (g h : Seg) (s c : ℕ) → d < p .N → OnGood p off g → Proper p off (put d (zoneOn g d) (headerBlock p d (zonesIn p h) s c) zeroSpare)
+  header-proper d g h s c hd hg = let (hz, ok) = hg d hd in (hd, hz, ok, header-block-long p r d (zonesIn p h) s c (zones-in-long p h), length-zeroSpare)
 
-  pub headers-proper : (z : Seg) (sn c : ℕ) → Named p z → (s : Store) → In s (headerStores p z sn c) → Proper p s
+  pub headers-proper : (z : Seg) (sn c : ℕ) → OnGood p off z → (s : Store) → In s (headerStores p z sn c) → Proper p off s
   unfolding headerStores
   headers-proper z sn c hz s m =
       let (d, i, e) = map-in (λ d. put d (zoneOn z d) (headerBlock p d (zonesIn p z) sn c) zeroSpare) (drivesOf p) s m in
-      subst (λ (x : Store). Proper p x) (sym e) (header-proper d (zoneOn z d) (zonesIn p z) sn c (listed-drive-low d i) (zone-on-lt p z d hz))
+      subst (λ (x : Store). Proper p off x) (sym e) (header-proper d z z sn c (listed-drive-low d i) hz)
 
-  pub resets-proper : (z : Seg) → Named p z → (s : Store) → In s (resetStores p z) → Proper p s
+  pub resets-proper : (z : Seg) → OnGood p off z → (s : Store) → In s (resetStores p z) → Proper p off s
   unfolding resetStores
-  resets-proper z hz s m = let (d, i, e) = map-in (λ d. reset d (zoneOn z d)) (drivesOf p) s m in subst (λ (x : Store). Proper p x) (sym e) (listed-drive-low d i, zone-on-lt p z d hz)
+  resets-proper z hz s m =
+      let (d, i, e) = map-in (λ d. reset d (zoneOn z d)) (drivesOf p) s m in
+      let hd = listed-drive-low d i in
+      let (lo, ok) = hz d hd in
+      subst (λ (x : Store). Proper p off x) (sym e) (hd, lo, ok)
 
-  pub footer-proper : (d z : ℕ) (ss : List (List ℕ)) (i : ℕ) → d < p .N → z < p .Z → Long spareLen ss → Proper p (put d z (footerBlock p ss i) zeroSpare)
-  footer-proper d z ss i hd hz l = (hd, hz, length-footer p r ss i l, length-zeroSpare)
+  pub footer-proper : (d z : ℕ) (ss : List (List ℕ)) (i : ℕ) → d < p .N → z < p .Z → isGood p off d z ≡ true → Long spareLen ss
+      → Proper p off (put d z (footerBlock p ss i) zeroSpare)
+  footer-proper d z ss i hd hz ok l = (hd, hz, ok, length-footer p r ss i l, length-zeroSpare)
 
   fair-spares-long : (q : Zone) → Fair p q → Long spareLen (sparesIn p q)
   unfolding sparesIn sparesOf
@@ -122,17 +131,17 @@ module _ (p : Params) (r : Ranged p) where
       let (b, h, g) = getD-in (q .blocks) noChunk c (in-drop 1 (q .blocks) c (in-take (p .S) (drop 1 (q .blocks)) c i)) in
       ap length (e ∙ ap (λ (x : Chunk). x .spare) g) ∙ f .spare-long b (subst (λ (x : ℕ). b < x) (f .count) h)
 
-  pub footers-proper : (q : Zone) → Fair p q → (d z i n : ℕ) → d < p .N → z < p .Z → (s : Store) → In s (footerStores p d z q i n) → Proper p s
-  footers-proper q f d z i n hd hz s m =
+  pub footers-proper : (q : Zone) → Fair p q → (d z i n : ℕ) → d < p .N → z < p .Z → isGood p off d z ≡ true → (s : Store) → In s (footerStores p d z q i n) → Proper p off s
+  footers-proper q f d z i n hd hz ok s m =
       let (c, j, e) = map-in (putAt d z) (footerChunks p q i n) s (subst (λ (x : List Store). In s x) (footer-puts p d z q i n) m) in
       let (b, h, g) = map-in (λ j. mkChunk (footerBlock p (sparesIn p q) j) zeroSpare) (upFrom i n) c (chunk-in c j) in
-      subst (λ (x : Store). Proper p x) (sym (e ∙ ap (putAt d z) g)) (plain b)
+      subst (λ (x : Store). Proper p off x) (sym (e ∙ ap (putAt d z) g)) (plain b)
     where
       chunk-in : (c : Chunk) → In c (footerChunks p q i n) → In c (map (λ j. mkChunk (footerBlock p (sparesIn p q) j) zeroSpare) (upFrom i n))
       chunk-in c j = unfold footerChunks in j
 
-      plain : (j : ℕ) → Proper p (putAt d z (mkChunk (footerBlock p (sparesIn p q) j) zeroSpare))
-      plain j = unfold putAt in footer-proper d z (sparesIn p q) j hd hz (fair-spares-long q f)
+      plain : (j : ℕ) → Proper p off (putAt d z (mkChunk (footerBlock p (sparesIn p q) j) zeroSpare))
+      plain j = unfold putAt in footer-proper d z (sparesIn p q) j hd hz ok (fair-spares-long q f)
 
 -- how many footer blocks there are
 pub footer-chunks-count : (p : Params) (q : Zone) (i n : ℕ) → length (footerChunks p q i n) ≡ n
@@ -141,7 +150,8 @@ footer-chunks-count p q i n = length-map (upFrom i n) (λ j. mkChunk (footerBloc
 
 -- ---- chunks of a segment
 
-module _ (p : Params) (r : Ranged p) (v : View) (fair : (d z : ℕ) → d < p .N → z < p .Z → Fair p (zoneAt v d z)) (gone : ℕ) (g : Seg) (hg : Named p g) where
+module _ (p : Params) (r : Ranged p) (v : View) (fair : (d z : ℕ) → d < p .N → z < p .Z → Fair p (zoneAt v d z)) (gone : ℕ) (g : Seg)
+    (hg : (d : ℕ) → d < p .N → zoneOn g d < p .Z) where
   abbrev x : Segment
   x = segmentOf p v gone g
 
@@ -152,7 +162,7 @@ module _ (p : Params) (r : Ranged p) (v : View) (fair : (d z : ℕ) → d < p .N
       let o = offsetOn x d s in
       let l = data-low p (zoneAt v d (zoneOn g d)) o (chunk-at p v gone g d s hd q c .stored-there) in
       ap (λ (y : Zone). length (getD (y .blocks) (1 + o) noChunk .block)) (zone-by p v gone g d hd)
-      ∙ fair d (zoneOn g d) hd (zone-on-lt p g d hg) .block-long (1 + o) (omega (arith, capacity-over p r))
+      ∙ fair d (zoneOn g d) hd (hg d hd) .block-long (1 + o) (omega (arith, capacity-over p r))
 
   module _ (s : ℕ) (c : counts p gone x s ≡ true) where
     present-long : (d : ℕ) → d < p .N → isIn gone d ≡ false → length (storedPiece x s d .block) ≡ p .B
@@ -165,7 +175,7 @@ module _ (p : Params) (r : Ranged p) (v : View) (fair : (d z : ℕ) → d < p .N
         ∙ decode-long p gone s d (λ e. storedPiece x s e .block) present-long
 
 -- 01, Restart, 4: and moved
-module _ (p : Params) (r : Ranged p) (v : View) (fair : (d z : ℕ) → d < p .N → z < p .Z → Fair p (zoneAt v d z)) (g : Seg) (hg : Named p g)
+module _ (p : Params) (r : Ranged p) (v : View) (fair : (d z : ℕ) → d < p .N → z < p .Z → Fair p (zoneAt v d z)) (g : Seg) (hg : (d : ℕ) → d < p .N → zoneOn g d < p .Z)
     (s : ℕ) (c : counts p 0 (segmentOf p v 0 g) s ≡ true) (k : ℕ) where
   abbrev seg : Segment
   seg = segmentOf p v 0 g
@@ -209,6 +219,6 @@ module _ (p : Params) (r : Ranged p) (v : View) (fair : (d z : ℕ) → d < p .N
           (each-map (λ (b : List ℕ). length b ≡ p .B) (λ e. from e .block) (dataDrives p s) (each-data (λ e. length (from e .block) ≡ p .B) p s (λ e he n. here e he)))
 
 -- the store of a piece
-pub piece-proper : (p : Params) (d z : ℕ) (q : Piece) → d < p .N → z < p .Z → length (q .block) ≡ p .B → Proper p (putPiece d z q)
+pub piece-proper : (p : Params) (off : List ℕ) (d z : ℕ) (q : Piece) → d < p .N → z < p .Z → isGood p off d z ≡ true → length (q .block) ≡ p .B → Proper p off (putPiece d z q)
 unfolding putPiece
-piece-proper p d z q hd hz h = (hd, hz, h, length-record (q .rec))
+piece-proper p off d z q hd hz ok h = (hd, hz, ok, h, length-record (q .rec))

@@ -6,3 +6,10 @@ pub mod Sent
 pub mod Rebuilt
 pub mod Restarted
 pub mod Ruled
+pub mod UnseenZones
+pub mod UnseenPlaces
+pub mod UnseenCalls
+pub mod UnseenLand
+pub mod UnseenDrives
+pub mod UnseenRestart
+pub mod Unseen

@@ -4,88 +4,171 @@ use mathlib.Core.List.{List, [], _∷_, _++_, map, append-nil}
 use mathlib.Core.Bool.{Bool, true, false, cond, not, _&&_}
 use mathlib.Core.Logic.{_⊎_, inl, inr}
 use Prim.Native.Nat.{ℕ, suc, _+_, _-_, _≤_, _<_}
-use borrow.Author.Tests.{le-leb}
+use native.Mathlib.Decide.{ℕ-discrete}
+use borrow.Author.Tests.{le-leb, eq-eqb, ne-eqb, eqb-true, not-true}
 use native.Mathlib.Omega.{arith}
-use lib.Dec.{leb}
+use lib.Dec.{leb, eqb}
 use lib.ListN.{length, getD, length-append, length-map}
 use Rattle.spec.specs.declared.Params.{Params}
-use Rattle.spec.specs.Drives.{Chunk, Zone, noZone, View, zoneAt, pointerAt, Store, allSegs, zoneOn, zeroSpare, headerStores, footerStores, resetStores, sameSeg, noSeg, zonesIn}
+use Rattle.spec.specs.Drives.{Chunk, Zone, noZone, View, zoneAt, pointerAt, Store, zoneOn, zeroSpare, headerStores, footerStores, resetStores, zonesIn, goodZones, isGood}
 use Rattle.spec.specs.Drives.Store.{put, reset}
 use Rattle.spec.specs.Faults.{footersStored, clashes}
 use Rattle.spec.specs.Layout.{headerBlock}
 use Rattle.spec.specs.Lists.{below, any, keep, isNil, flat, firstOr}
 use Rattle.spec.specs.Params.{footers, capacity, drivesOf}
-use Rattle.spec.specs.Restart.{freeSegs, isWhole, isRagged, missingFooters, movedPieces, movedOn, movedStripe, movedStripes, rewriteStores, dropStores, mendStores, restartStores, rewrites}
-use Rattle.spec.specs.Segments.{remaining, Segment, segmentOf, segments, counts, counted, putPiece, greatestSerial, unsealed}
+use Rattle.spec.specs.Restart.{isWhole, isRagged, missingFooters, movedPieces, movedOn, movedStripe, movedStripes, rewriteStores, dropStores, mendStores, restartStores, rewrites}
+use Rattle.spec.specs.Segments.{remaining, Segment, segmentOf, segments, counts, counted, putPiece, greatestSerial, unsealed, isUsed, serialIn}
 use Rattle.law_basic.specs.Geometry.{Ranged}
 use Rattle.law_basic.specs.Mask.{isIn-empty}
-use Rattle.law_basic.specs.Ranges.{Test, test, and-both, flat-none, flat-cons}
+use Rattle.law_basic.specs.Ranges.{Test, test, and-both, flat-none, flat-cons, and-left}
 use Rattle.law_basic.specs.Ranges.Test.{yes!, no! }
-use Rattle.law_basic.specs.Segs.{seg-same, seg-other, segs-differ, Named, zone-on-lt, zone-same, by-seg}
-use Rattle.law_drives.specs.Accept.{Accepted, pointer-ok, faults-apart}
-use Rattle.law_drives.specs.Footers.{footerChunks, footer-puts, each-on}
-use Rattle.law_drives.specs.Members.{In, in-append, map-in, flat-in, keep-in, in-any, flat-cong, below-in, first-in}
-use Rattle.law_drives.specs.Puts.{hits-append, hits-flat, putAt, hits-drives, resets-on, headers-on}
+use Rattle.law_drives.specs.Accept.{Accepted, pointer-ok, faults-apart, bears-once, zone-good, zone-in-range}
+use Rattle.law_drives.specs.Footers.{footerChunks, footer-puts, hits-each}
+use Rattle.law_drives.specs.Members.{In, in-append, map-in, flat-in, keep-in, in-any, flat-cong, below-in, first-in, any-in, in-below, in-keep, in-map, none-in}
+use Rattle.law_drives.specs.Puts.{hits-append, putAt, hits-drives, hits-headers, hits-resets}
 use Rattle.law_drives.specs.Range.{capacity-is, capacity-over}
 use Rattle.law_drives.specs.Rebuilding.{counted-low, counted-in}
-use Rattle.law_drives.specs.Segs.{remaining-low, zone-by, seg-is, segs-in}
-use Rattle.law_drives.specs.Tests.{clash, cond-true, cond-false, cond-same}
+use Rattle.law_drives.specs.Segs.{zone-by, seg-is}
+use Rattle.law_drives.specs.Tests.{clash, cond-true, cond-false, cond-same, eqb-self}
 use Rattle.law_drives.specs.Zones.{hitsAt, hits}
-use Rattle.law_drives.specs.Tables.{seg-one}
-use Rattle.proof_answers.specs.Lengths.{Fair, headers-proper, resets-proper, footers-proper, footer-chunks-count, moved-piece-long, piece-proper}
+use Rattle.proof_answers.specs.Lengths.{Fair, headers-proper, resets-proper, footers-proper, footer-chunks-count, moved-piece-long, piece-proper, OnGood}
 use Rattle.proof_answers.specs.Rising.{Rises, rises-few, Proper, Able}
 use Rattle.spec.specs.declared.Seg.{Seg}
+use Rattle.law_basic.specs.Segs.{with-zone}
+use Rattle.law_drives.specs.Dropping.{drop-is, dropsAt, is-drop}
+use Rattle.law_drives.specs.Settled.{zero-here}
+use Rattle.spec.specs.Restart.{freeSeg, freeZones, noneFree}
 
-module _ (p : Params) (r : Ranged p) (v : View) (fair : (d z : ℕ) → d < p .N → z < p .Z → Fair p (zoneAt v d z)) where
+-- the stores l are resets
+abbrev Resets : List Store → Type 0
+Resets l = (s : Store) → In s l → (d : ℕ) × (z : ℕ) × (s ≡ reset d z)
+
+resets-then : (p : Params) (n : ℕ) (l ts : List Store) → Resets l → Rises p 0 ts → Rises p n ts → Rises p n (l ++ ts)
+resets-then p n [] ts f a b = b
+resets-then p n (s ∷ l) ts f a b =
+    let (d, z, e) = f s (inl refl) in
+    subst (λ (t : Store). Rises p n (t ∷ (l ++ ts))) (sym e) (resets-then p 0 l ts (λ t m. f t (inr m)) a a)
+
+-- one of them at least
+reset-then : (p : Params) (n : ℕ) (l ts : List Store) (s : Store) → In s l → Resets l → Rises p 0 ts → Rises p n (l ++ ts)
+reset-then p n [] ts s m f a = absurd m
+reset-then p n (t ∷ l) ts s m f a =
+    let (d, z, e) = f t (inl refl) in
+    subst (λ (t : Store). Rises p n (t ∷ (l ++ ts))) (sym e) (resets-then p 0 l ts (λ t m. f t (inr m)) a a)
+
+module _ (p : Params) (r : Ranged p) (v : View) (fair : (d z : ℕ) → d < p .N → z < p .Z → Fair p (zoneAt v d z)) (acc : Accepted p v 0) where
   abbrev gs : List Segment
   gs = segments p v 0
 
+  abbrev off : List ℕ
+  off = v .offline
+
+  abbrev drops : List Store
+  drops = dropStores p v gs
+
+  -- 01, Refusals, 9: the zones of what remains are good zones
+  kept-good : (g : Seg) → In g (remaining p v 0) → OnGood p off g
+  kept-good g m e he = (zone-in-range p v 0 acc (zero-here p r) g e m he, zone-good p v 0 acc (zero-here p r) g e m he)
+
   -- ---- resets of what does not remain
 
-  -- 01, Restart, 4: the zone is reset first
-  abbrev free : Seg → Bool
-  free z = not (any (λ (g : Segment). sameSeg (g .seg) z) gs)
+  drop-proper : (s : Store) → In s drops → Proper p off s
+  drop-proper s m = let (d, z, e, hd, hz, q) = drop-is p v gs s m in subst (λ (x : Store). Proper p off x) (sym e) (hd, hz, good d z q)
+    where
+      good : (d z : ℕ) → dropsAt p v gs d z ≡ true → isGood p off d z ≡ true
+      good d z q = unfold dropsAt isUsed in
+          (let a = isGood p off d z in
+          let b = not (eqb (pointerAt v d z) 0) in
+          and-left a b (and-left (a && b) (not (any (λ (g : Segment). eqb (g .serial) (serialIn p v d z)) gs)) q))
 
-  free-in : (z : Seg) → In z (freeSegs p gs) → Named p z × (free z ≡ true)
-  unfolding freeSegs
-  free-in z m = let (i, q) = keep-in free (allSegs p) z m in (segs-in p z i, q)
-
-  dropped-hits : (e : ℕ) (y : Seg) → e < p .N → Named p y → hits e (zoneOn y e) (dropStores p gs) ≡ cond (free y) (reset e (zoneOn y e) ∷ []) []
-  unfolding dropStores freeSegs
-  dropped-hits e y he hy =
-      hits-flat e (zoneOn y e) (resetStores p) (keep free (allSegs p))
-      ∙ flat-cong (λ g. hits e (zoneOn y e) (resetStores p g)) (λ g. cond (sameSeg g y) (reset e (zoneOn g e) ∷ []) []) (keep free (allSegs p))
-      (λ g m. resets-on p e y g hy (segs-in p g (keep-in free (allSegs p) g m .0)) he)
-      ∙ seg-one p free (λ g. reset e (zoneOn g e) ∷ []) y (omega arith) hy
-
-  drop-proper : (s : Store) → In s (dropStores p gs) → Proper p s
-  unfolding dropStores
-  drop-proper s m = let (g, i, j) = flat-in (resetStores p) (freeSegs p gs) s m in resets-proper p r g (free-in g i .0) s j
+  dropped-are : (e y : ℕ) → Resets (hits e y drops)
+  dropped-are e y s m = let (d, z, x, _, _, _) = drop-is p v gs s (keep-in (hitsAt e y) drops s m .0) in (d, z, x)
 
   -- the resets, then stores that have room in zones that are reset, and in those that are not
-  drop-able : (ts : List Store) → ((s : Store) → In s ts → Proper p s) → ((e : ℕ) (y : Seg) → e < p .N → Named p y → free y ≡ true → Rises p 0 (hits e (zoneOn y e) ts))
-      → ((e : ℕ) (y : Seg) → e < p .N → Named p y → free y ≡ false → Rises p (pointerAt v e (zoneOn y e)) (hits e (zoneOn y e) ts)) → Able p v (dropStores p gs ++ ts)
-  drop-able ts f a b = record { proper = λ s m. each s (in-append s (dropStores p gs) ts m); rises = up }
+  drop-able : (ts : List Store) → ((s : Store) → In s ts → Proper p off s) → ((e y : ℕ) → e < p .N → Rises p 0 (hits e y ts))
+      → ((e y : ℕ) → e < p .N → dropsAt p v gs e y ≡ false → Rises p (pointerAt v e y) (hits e y ts)) → Able p v (drops ++ ts)
+  drop-able ts f a b = record { proper = λ s m. each s (in-append s drops ts m); rises = up }
     where
-      each : (s : Store) → In s (dropStores p gs) ⊎ In s ts → Proper p s
+      each : (s : Store) → In s drops ⊎ In s ts → Proper p off s
       each s (inl i) = drop-proper s i
       each s (inr i) = f s i
 
-      up : (e y : ℕ) → e < p .N → y < p .Z → Rises p (pointerAt v e y) (hits e y (dropStores p gs ++ ts))
-      up e z he hz = by-seg (λ x. Rises p (pointerAt v e x) (hits e x (dropStores p gs ++ ts))) p e z he hz
-          (λ y hy. subst (λ (l : List Store). Rises p (pointerAt v e (zoneOn y e)) l) (sym (hits-append e (zoneOn y e) (dropStores p gs) ts)) (go y hy (test (free y))))
+      up : (e y : ℕ) → e < p .N → y < p .Z → Rises p (pointerAt v e y) (hits e y (drops ++ ts))
+      up e y he hy = subst (λ (l : List Store). Rises p (pointerAt v e y) l) (sym (hits-append e y drops ts)) (go (test (dropsAt p v gs e y)))
         where
-          go : (y : Seg) → Named p y → Test (free y) → Rises p (pointerAt v e (zoneOn y e)) (hits e (zoneOn y e) (dropStores p gs) ++ hits e (zoneOn y e) ts)
-          go y hy (yes! q) =
-              subst (λ (l : List Store). Rises p (pointerAt v e (zoneOn y e)) (l ++ hits e (zoneOn y e) ts))
-              (sym (dropped-hits e y he hy ∙ cond-true (free y) (reset e (zoneOn y e) ∷ []) [] q)) (a e y he hy q)
-          go y hy (no! q) =
-              subst (λ (l : List Store). Rises p (pointerAt v e (zoneOn y e)) (l ++ hits e (zoneOn y e) ts))
-              (sym (dropped-hits e y he hy ∙ cond-false (free y) (reset e (zoneOn y e) ∷ []) [] q)) (b e y he hy q)
+          self : hitsAt e y (reset e y) ≡ true
+          self = unfold hitsAt in and-both (eqb e e) (eqb y y) (eqb-self e) (eqb-self y)
+
+          go : Test (dropsAt p v gs e y) → Rises p (pointerAt v e y) (hits e y drops ++ hits e y ts)
+          go (yes! q) =
+              reset-then p (pointerAt v e y) (hits e y drops) (hits e y ts) (reset e y) (in-keep (hitsAt e y) drops (reset e y) (is-drop p v gs e y he hy q) self) (dropped-are e y) (a e y he)
+          go (no! q) = resets-then p (pointerAt v e y) (hits e y drops) (hits e y ts) (dropped-are e y) (a e y he) (b e y he q)
+
+  nothing-able : Able p v (drops ++ [])
+  nothing-able = drop-able [] (λ s m. absurd m) (λ e y he. unfold keep in tt) (λ e y he q. unfold keep in tt)
+
+  -- ---- free zones
+
+  -- 01, Restart, 4: each of its zones is a good one that no remaining segment has
+  abbrev Free : Seg → Type 0
+  Free z = (e : ℕ) → e < p .N → In (zoneOn z e) (freeZones p v gs e)
+
+  -- 01, Refusals, 8: every drive has one
+  restarted-free-seg : noneFree p v gs ≡ false → Free (freeSeg p v gs)
+  unfolding noneFree freeSeg drivesOf
+  restarted-free-seg nf e he =
+      subst (λ (n : ℕ). In n (freeZones p v gs e)) (sym (with-zone p (λ d. firstOr 0 (freeZones p v gs d)) e he))
+      (first-in (freeZones p v gs e) 0 (none-in (λ d. isNil (freeZones p v gs d)) (below (p .N)) nf e (in-below (p .N) e he)))
+
+  free-parts : (e y : ℕ) → In y (freeZones p v gs e) → (y < p .Z) × (isGood p off e y ≡ true) × ((g : Seg) → In g (remaining p v 0) → zoneOn g e ≡ y → ⊥)
+  unfolding freeZones goodZones segments
+  free-parts e y m =
+      let xs = map (segmentOf p v 0) (remaining p v 0) in
+      let (i, n) = keep-in (λ z. not (any (λ (g : Segment). eqb (zoneOn (g .seg) e) z) xs)) (keep (isGood p off e) (below (p .Z))) y m in
+      let (j, k) = keep-in (isGood p off e) (below (p .Z)) y i in (
+        below-in (p .Z) y j,
+        k,
+        λ g l h. clash (eq-eqb (zoneOn (segmentOf p v 0 g .seg) e) y (ap (λ (s : Seg). zoneOn s e) (seg-is p v 0 g) ∙ h))
+            (none-in (λ (g : Segment). eqb (zoneOn (g .seg) e) y) xs (not-true (any (λ (g : Segment). eqb (zoneOn (g .seg) e) y) xs) n) (segmentOf p v 0 g)
+            (in-map (segmentOf p v 0) (remaining p v 0) g l)),
+      )
+
+  free-good : (z : Seg) → Free z → OnGood p off z
+  free-good z fz e he = let (a, b, _) = free-parts e (zoneOn z e) (fz e he) in (a, b)
+
+  -- where it is not reset it is empty: a serial that remains is in no other zone
+  free-empty : (e y : ℕ) → e < p .N → In y (freeZones p v gs e) → dropsAt p v gs e y ≡ false → pointerAt v e y ≡ 0
+  free-empty e y he m q = go (ℕ-discrete (pointerAt v e y) 0)
+    where
+      used : (pointerAt v e y ≡ 0 → ⊥) → isUsed p v e y ≡ true
+      used n = unfold isUsed in and-both (isGood p off e y) (not (eqb (pointerAt v e y) 0)) (free-parts e y m .1) (ap not (ne-eqb (pointerAt v e y) 0 n))
+
+      known : isUsed p v e y ≡ true → any (λ (x : Segment). eqb (x .serial) (serialIn p v e y)) gs ≡ true
+      known u = unknown (test (any (λ (x : Segment). eqb (x .serial) (serialIn p v e y)) gs))
+        where
+          unknown : Test (any (λ (x : Segment). eqb (x .serial) (serialIn p v e y)) gs) → any (λ (x : Segment). eqb (x .serial) (serialIn p v e y)) gs ≡ true
+          unknown (yes! k) = k
+          unknown (no! k) = clash dropped q
+            where
+              dropped : dropsAt p v gs e y ≡ true
+              dropped = unfold dropsAt in and-both (isUsed p v e y) (not (any (λ (x : Segment). eqb (x .serial) (serialIn p v e y)) gs)) u (ap not k)
+
+      of : (x : Segment) → In x gs → (g : Seg) × In g (remaining p v 0) × (x ≡ segmentOf p v 0 g)
+      of x i = unfold segments in map-in (segmentOf p v 0) (remaining p v 0) x i
+
+      go : Dec (pointerAt v e y ≡ 0) → pointerAt v e y ≡ 0
+      go (yes k) = k
+      go (no n) =
+          let u = used n in
+          let (x, i, k) = any-in (λ (x : Segment). eqb (x .serial) (serialIn p v e y)) gs (known u) in
+          let (g, l, f) = of x i in
+          let s : serialIn p v e y ≡ segmentOf p v 0 g .serial = sym (eqb-true (x .serial) (serialIn p v e y) k) ∙ ap (λ (t : Segment). t .serial) f in
+          let (hy, _, no-other) = free-parts e y m in
+          absurd (no-other g l (sym (bears-once p v 0 acc (zero-here p r) g e y l he (isIn-empty e) hy u s)))
 
   -- ---- an unsealed segment
 
-  module _ (g : Seg) (hg : Named p g) where
+  module _ (g : Seg) (hg : OnGood p off g) where
     abbrev x : Segment
     x = segmentOf p v 0 g
 
@@ -111,17 +194,18 @@ module _ (p : Params) (r : Ranged p) (v : View) (fair : (d z : ℕ) → d < p .N
     lack-are = missing-feet-are ∙ flat-cong (λ d. missingOn d (zoneAt v d (zoneOn g d))) (λ d. map (putAt d (zoneOn g d)) (lack d)) (drivesOf p)
         (λ d m. footer-puts p d (zoneOn g d) (zoneAt v d (zoneOn g d)) (have d) (footers p - have d))
 
-    lack-hits : (e : ℕ) (y : Seg) → e < p .N → Named p y → hits e (zoneOn y e) (missingFooters p x) ≡ cond (sameSeg g y) (map (putAt e (zoneOn g e)) (lack e)) []
-    lack-hits e y he hy = ap (hits e (zoneOn y e)) lack-are ∙ each-on p e y g lack hy hg he
+    lack-hits : (e y : ℕ) → e < p .N → hits e y (missingFooters p x) ≡ cond (eqb (zoneOn g e) y) (map (putAt e (zoneOn g e)) (lack e)) []
+    lack-hits e y he = ap (hits e y) lack-are ∙ hits-each p e y (zoneOn g) lack he
 
     lacking-count : (e : ℕ) → length (map (putAt e (zoneOn g e)) (lack e)) ≡ footers p - have e
     lacking-count e = length-map (lack e) (putAt e (zoneOn g e)) ∙ footer-chunks-count p (zoneAt v e (zoneOn g e)) (have e) (footers p - have e)
 
-    lack-proper : (s : Store) → In s (missingFooters p x) → Proper p s
+    lack-proper : (s : Store) → In s (missingFooters p x) → Proper p off s
     lack-proper s m =
         let (d, i, j) = flat-in (λ d. missingOn d (zoneAt v d (zoneOn g d))) (drivesOf p) s (subst (λ (l : List Store). In s l) missing-feet-are m) in
         let hd = low d i in
-        footers-proper p r (zoneAt v d (zoneOn g d)) (fair d (zoneOn g d) hd (zone-on-lt p g d hg)) d (zoneOn g d) (have d) (footers p - have d) hd (zone-on-lt p g d hg) s j
+        let (hz, ok) = hg d hd in
+        footers-proper p r off (zoneAt v d (zoneOn g d)) (fair d (zoneOn g d) hd hz) d (zoneOn g d) (have d) (footers p - have d) hd hz ok s j
       where
         low : (d : ℕ) → In d (drivesOf p) → d < p .N
         low d i = unfold drivesOf in below-in (p .N) d i
@@ -131,25 +215,26 @@ module _ (p : Params) (r : Ranged p) (v : View) (fair : (d z : ℕ) → d < p .N
     unfolding footersStored pointerAt
     lacking-room e h = let c = capacity-is p r in omega arith
 
-    footers-able : Accepted p v 0 → Able p v (dropStores p gs ++ missingFooters p x)
-    footers-able acc = drop-able (missingFooters p x) lack-proper (λ e y he hy q. up 0 e y he hy (λ h. let c = capacity-is p r in omega arith))
-        (λ e y he hy q. up (pointerAt v e (zoneOn y e)) e y he hy (λ h. ap-room e y h (lacking-room e (pointer-ok p v 0 acc e (zoneOn g e) he (zone-on-lt p g e hg) (isIn-empty e)))))
+    footers-able : Able p v (drops ++ missingFooters p x)
+    footers-able = drop-able (missingFooters p x) lack-proper (λ e y he. up 0 e y he (λ h. let c = capacity-is p r in omega arith))
+        (λ e y he q. up (pointerAt v e y) e y he (λ h. subst (λ (n : ℕ). pointerAt v e n + (footers p - have e) ≤ capacity p) h
+        (lacking-room e (pointer-ok p v 0 acc e (zoneOn g e) he (hg e he .0) (isIn-empty e) (hg e he .1)))))
       where
-        ap-room : (e : ℕ) (y : Seg) → g ≡ y → pointerAt v e (zoneOn g e) + (footers p - have e) ≤ capacity p → pointerAt v e (zoneOn y e) + (footers p - have e) ≤ capacity p
-        ap-room e y h w = subst (λ (n : Seg). pointerAt v e (zoneOn n e) + (footers p - have e) ≤ capacity p) h w
-
-        up : (n e : ℕ) (y : Seg) → e < p .N → Named p y → (g ≡ y → n + (footers p - have e) ≤ capacity p) → Rises p n (hits e (zoneOn y e) (missingFooters p x))
-        up n e y he hy h = subst (λ (l : List Store). Rises p n l) (sym (lack-hits e y he hy)) (go (segs-differ g y))
+        up : (n e y : ℕ) → e < p .N → (zoneOn g e ≡ y → n + (footers p - have e) ≤ capacity p) → Rises p n (hits e y (missingFooters p x))
+        up n e y he h = subst (λ (l : List Store). Rises p n l) (sym (lack-hits e y he)) (go (ℕ-discrete (zoneOn g e) y))
           where
-            go : Dec (g ≡ y) → Rises p n (cond (sameSeg g y) (map (putAt e (zoneOn g e)) (lack e)) [])
+            go : Dec (zoneOn g e ≡ y) → Rises p n (cond (eqb (zoneOn g e) y) (map (putAt e (zoneOn g e)) (lack e)) [])
             go (yes q) =
-                subst (λ (l : List Store). Rises p n l) (sym (cond-true (sameSeg g y) (map (putAt e (zoneOn g e)) (lack e)) [] (seg-same g y q)))
+                subst (λ (l : List Store). Rises p n l) (sym (cond-true (eqb (zoneOn g e) y) (map (putAt e (zoneOn g e)) (lack e)) [] (eq-eqb (zoneOn g e) y q)))
                 (rises-few p n (map (putAt e (zoneOn g e)) (lack e)) (let a = lacking-count e in let b = h q in omega arith))
-            go (no q) = subst (λ (l : List Store). Rises p n l) (sym (cond-false (sameSeg g y) (map (putAt e (zoneOn g e)) (lack e)) [] (seg-other g y q))) tt
+            go (no q) = subst (λ (l : List Store). Rises p n l) (sym (cond-false (eqb (zoneOn g e) y) (map (putAt e (zoneOn g e)) (lack e)) [] (ne-eqb (zoneOn g e) y q))) tt
 
     -- ---- the rewrite
 
-    module _ (z : Seg) (sn : ℕ) (hz : Named p z) (fz : free z ≡ true) where
+    module _ (z : Seg) (sn : ℕ) (fz : Free z) where
+      hz : OnGood p off z
+      hz = free-good z fz
+
       -- 01, Restart, 4: what drive e gets of the stripes ss, numbered from k
       unfoldable movedTo : ℕ → List ℕ → ℕ → List Store
       movedTo e [] k = []
@@ -164,24 +249,23 @@ module _ (p : Params) (r : Ranged p) (v : View) (fair : (d z : ℕ) → d < p .N
       unfolding movedStripe
       moved-stripe-is s k = refl
 
-      moved-hits : (e : ℕ) (y : Seg) (ss : List ℕ) (k : ℕ) → e < p .N → Named p y → hits e (zoneOn y e) (movedStripes p x z ss k) ≡ cond (sameSeg z y) (movedTo e ss k) []
+      moved-hits : (e y : ℕ) (ss : List ℕ) (k : ℕ) → e < p .N → hits e y (movedStripes p x z ss k) ≡ cond (eqb (zoneOn z e) y) (movedTo e ss k) []
       unfolding movedStripes movedTo
-      moved-hits e y [] k he hy = none! ∙ sym (cond-same (sameSeg z y) [])
+      moved-hits e y [] k he = none! ∙ sym (cond-same (eqb (zoneOn z e) y) [])
         where
-          none! : hits e (zoneOn y e) [] ≡ []
+          none! : hits e y [] ≡ []
           none! = unfold keep in refl
-      moved-hits e y (s ∷ ss) k he hy =
+      moved-hits e y (s ∷ ss) k he =
           let f : ℕ → Store = λ d. putPiece d (zoneOn z d) (movedOn p (movedPieces p x s k) k d) in
-          hits-append e (zoneOn y e) (movedStripe p x z s k) (movedStripes p x z ss (suc k))
-          ∙ ap₂ _++_ (ap (hits e (zoneOn y e)) (moved-stripe-is s k) ∙ hits-drives p e (zoneOn y e) (zoneOn z) f (λ d. unfold putPiece hitsAt in refl) he
-          ∙ ap (λ (b : Bool). cond b (f e ∷ []) []) (zone-same p z y e he hz hy)) (moved-hits e y ss (suc k) he hy)
-          ∙ join (sameSeg z y) (f e)
+          hits-append e y (movedStripe p x z s k) (movedStripes p x z ss (suc k))
+          ∙ ap₂ _++_ (ap (hits e y) (moved-stripe-is s k) ∙ hits-drives p e y (zoneOn z) f (λ d. unfold putPiece hitsAt in refl) he) (moved-hits e y ss (suc k) he)
+          ∙ join (eqb (zoneOn z e) y) (f e)
         where
           join : (b : Bool) (t : Store) → cond b (t ∷ []) [] ++ cond b (movedTo e ss (suc k)) [] ≡ cond b (t ∷ movedTo e ss (suc k)) []
           join true t = refl
           join false t = refl
 
-      moved-proper : (ss : List ℕ) (k : ℕ) → ((s : ℕ) → In s ss → counts p 0 x s ≡ true) → (t : Store) → In t (movedStripes p x z ss k) → Proper p t
+      moved-proper : (ss : List ℕ) (k : ℕ) → ((s : ℕ) → In s ss → counts p 0 x s ≡ true) → (t : Store) → In t (movedStripes p x z ss k) → Proper p off t
       unfolding movedStripes
       moved-proper [] k f t m = absurd m
       moved-proper (s ∷ ss) k f t m = go (in-append t (movedStripe p x z s k) (movedStripes p x z ss (suc k)) m) (moved-proper ss (suc k) (λ u n. f u (inr n)) t)
@@ -189,12 +273,13 @@ module _ (p : Params) (r : Ranged p) (v : View) (fair : (d z : ℕ) → d < p .N
           low : (d : ℕ) → In d (drivesOf p) → d < p .N
           low d i = unfold drivesOf in below-in (p .N) d i
 
-          go : In t (movedStripe p x z s k) ⊎ In t (movedStripes p x z ss (suc k)) → (In t (movedStripes p x z ss (suc k)) → Proper p t) → Proper p t
+          go : In t (movedStripe p x z s k) ⊎ In t (movedStripes p x z ss (suc k)) → (In t (movedStripes p x z ss (suc k)) → Proper p off t) → Proper p off t
           go (inl i) ih =
               let (d, j, e) = map-in (λ d. putPiece d (zoneOn z d) (movedOn p (movedPieces p x s k) k d)) (drivesOf p) t (subst (λ (l : List Store). In t l) (moved-stripe-is s k) i) in
               let hd = low d j in
-              subst (λ (u : Store). Proper p u) (sym e)
-              (piece-proper p d (zoneOn z d) (movedOn p (movedPieces p x s k) k d) hd (zone-on-lt p z d hz) (moved-piece-long p r v fair g hg s (f s (inl refl)) k d hd))
+              subst (λ (u : Store). Proper p off u) (sym e)
+              (piece-proper p off d (zoneOn z d) (movedOn p (movedPieces p x s k) k d) hd (hz d hd .0) (hz d hd .1)
+              (moved-piece-long p r v fair g (λ e he. hg e he .0) s (f s (inl refl)) k d hd))
           go (inr i) ih = ih i
 
       abbrev cs : List ℕ
@@ -219,32 +304,31 @@ module _ (p : Params) (r : Ranged p) (v : View) (fair : (d z : ℕ) → d < p .N
       old-is : old ≡ resetStores p g
       old-is = ap (resetStores p) (seg-is p v 0 g)
 
-      rewrite-hits : (e : ℕ) (y : Seg) → e < p .N → Named p y
-          → hits e (zoneOn y e) (rewriteStores p x z sn) ≡ cond (sameSeg z y) (head e ∷ movedTo e cs 0) [] ++ cond (sameSeg g y) (reset e (zoneOn g e) ∷ []) []
-      rewrite-hits e y he hy =
-          let n = zoneOn y e in
-          ap (hits e n) rewrite-is ∙ hits-append e n (heads ++ moved) old
-          ∙ ap₂ _++_ (hits-append e n heads moved ∙ ap₂ _++_ (headers-on p e y z sn (x .serial) hy hz he) (moved-hits e y cs 0 he hy) ∙ join (sameSeg z y))
-          (ap (hits e n) old-is ∙ resets-on p e y g hy hg he)
+      rewrite-hits : (e y : ℕ) → e < p .N
+          → hits e y (rewriteStores p x z sn) ≡ cond (eqb (zoneOn z e) y) (head e ∷ movedTo e cs 0) [] ++ cond (eqb (zoneOn g e) y) (reset e (zoneOn g e) ∷ []) []
+      rewrite-hits e y he =
+          ap (hits e y) rewrite-is ∙ hits-append e y (heads ++ moved) old
+          ∙ ap₂ _++_ (hits-append e y heads moved ∙ ap₂ _++_ (hits-headers p e y z sn (x .serial) he) (moved-hits e y cs 0 he) ∙ join (eqb (zoneOn z e) y))
+          (ap (hits e y) old-is ∙ hits-resets p e y g he)
         where
           join : (b : Bool) → cond b (head e ∷ []) [] ++ cond b (movedTo e cs 0) [] ≡ cond b (head e ∷ movedTo e cs 0) []
           join true = refl
           join false = refl
 
-      rewrite-proper : (s : Store) → In s (rewriteStores p x z sn) → Proper p s
+      rewrite-proper : (s : Store) → In s (rewriteStores p x z sn) → Proper p off s
       rewrite-proper s m = last (in-append s (heads ++ moved) old (subst (λ (l : List Store). In s l) rewrite-is m))
         where
-          first : In s heads ⊎ In s moved → Proper p s
-          first (inl i) = headers-proper p r z sn (x .serial) hz s i
+          first : In s heads ⊎ In s moved → Proper p off s
+          first (inl i) = headers-proper p r off z sn (x .serial) hz s i
           first (inr i) = moved-proper cs 0 (λ t n. counted-in p 0 x t n .1) s i
 
-          last : In s (heads ++ moved) ⊎ In s old → Proper p s
+          last : In s (heads ++ moved) ⊎ In s old → Proper p off s
           last (inl i) = first (in-append s heads moved i)
-          last (inr i) = resets-proper p r g hg s (subst (λ (l : List Store). In s l) old-is i)
+          last (inr i) = resets-proper p r off g hg s (subst (λ (l : List Store). In s l) old-is i)
 
-      -- in the zone that was reset: a header, the counted stripes, at most a reset
-      new-rises : (e : ℕ) → e < p .N → Rises p 0 (hits e (zoneOn z e) (rewriteStores p x z sn))
-      new-rises e he = subst (λ (l : List Store). Rises p 0 l) (sym (rewrite-hits e z he hz)) (go (sameSeg z z) (sameSeg g z))
+      -- in a zone of the new segment, which is empty: a header, the counted stripes, at most a reset; in the others at most a reset
+      rewrite-rises : (n e y : ℕ) → e < p .N → (zoneOn z e ≡ y → n ≡ 0) → Rises p n (hits e y (rewriteStores p x z sn))
+      rewrite-rises n e y he h = subst (λ (l : List Store). Rises p n l) (sym (rewrite-hits e y he)) (go (ℕ-discrete (zoneOn z e) y))
         where
           few : (l : List Store) → length l ≤ 1 → Rises p 0 ((head e ∷ movedTo e cs 0) ++ l)
           few l h = rises-few p 0 ((head e ∷ movedTo e cs 0) ++ l)
@@ -254,43 +338,30 @@ module _ (p : Params) (r : Ranged p) (v : View) (fair : (d z : ℕ) → d < p .N
           one true = omega arith
           one false = omega arith
 
-          go : (a b : Bool) → Rises p 0 (cond a (head e ∷ movedTo e cs 0) [] ++ cond b (reset e (zoneOn g e) ∷ []) [])
-          go true b = few (cond b (reset e (zoneOn g e) ∷ []) []) (one b)
-          go false true = tt
-          go false false = tt
+          rest : (b : Bool) → Rises p n (cond b (reset e (zoneOn g e) ∷ []) [])
+          rest true = tt
+          rest false = tt
 
-      -- in the others at most a reset
-      old-rises : (n e : ℕ) (y : Seg) → e < p .N → Named p y → (z ≡ y → ⊥) → Rises p n (hits e (zoneOn y e) (rewriteStores p x z sn))
-      old-rises n e y he hy q = subst (λ (l : List Store). Rises p n l) (sym (rewrite-hits e y he hy))
-          (subst (λ (b : Bool). Rises p n (cond b (head e ∷ movedTo e cs 0) [] ++ cond (sameSeg g y) (reset e (zoneOn g e) ∷ []) [])) (sym (seg-other z y q)) (go (sameSeg g y)))
-        where
-          go : (b : Bool) → Rises p n ([] ++ cond b (reset e (zoneOn g e) ∷ []) [])
-          go true = tt
-          go false = tt
+          go : Dec (zoneOn z e ≡ y) → Rises p n (cond (eqb (zoneOn z e) y) (head e ∷ movedTo e cs 0) [] ++ cond (eqb (zoneOn g e) y) (reset e (zoneOn g e) ∷ []) [])
+          go (yes q) = rw (eq-eqb (zoneOn z e) y q)
+              (subst (λ (k : ℕ). Rises p k ((head e ∷ movedTo e cs 0) ++ cond (eqb (zoneOn g e) y) (reset e (zoneOn g e) ∷ []) [])) (sym (h q))
+              (few (cond (eqb (zoneOn g e) y) (reset e (zoneOn g e) ∷ []) []) (one (eqb (zoneOn g e) y))))
+          go (no q) = rw (ne-eqb (zoneOn z e) y q) (rest (eqb (zoneOn g e) y))
 
-      rewrite-able : Able p v (dropStores p gs ++ rewriteStores p x z sn)
-      rewrite-able = drop-able (rewriteStores p x z sn) rewrite-proper (λ e y he hy q. first e y he hy (segs-differ z y))
-          (λ e y he hy q. old-rises (pointerAt v e (zoneOn y e)) e y he hy (λ h. clash fz (ap free h ∙ q)))
-        where
-          first : (e : ℕ) (y : Seg) → e < p .N → Named p y → Dec (z ≡ y) → Rises p 0 (hits e (zoneOn y e) (rewriteStores p x z sn))
-          first e y he hy (yes h) = subst (λ (n : Seg). Rises p 0 (hits e (zoneOn n e) (rewriteStores p x z sn))) h (new-rises e he)
-          first e y he hy (no h) = old-rises 0 e y he hy h
+      rewrite-able : Able p v (drops ++ rewriteStores p x z sn)
+      rewrite-able = drop-able (rewriteStores p x z sn) rewrite-proper (λ e y he. rewrite-rises 0 e y he (λ h. refl))
+          (λ e y he q. rewrite-rises (pointerAt v e y) e y he (λ h. free-empty e y he (subst (λ (n : ℕ). In n (freeZones p v gs e)) h (fz e he)) q))
 
     -- 01, Restart, 4: missing footers, the rewrite, or nothing
-    mend-able : Accepted p v 0 → (isRagged p x ≡ true → isNil (freeSegs p gs) ≡ false) → Able p v (dropStores p gs ++ mendStores p gs x)
+    mend-able : (isRagged p x ≡ true → noneFree p v gs ≡ false) → Able p v (drops ++ mendStores p v gs x)
     unfolding mendStores
-    mend-able acc h = go (isWhole p x) (test (isRagged p x))
+    mend-able h = go (isWhole p x) (test (isRagged p x))
       where
-        nothing : Able p v (dropStores p gs ++ [])
-        nothing = drop-able [] (λ s m. absurd m) (λ e y he hy q. unfold keep in tt) (λ e y he hy q. unfold keep in tt)
-
         go : (b : Bool) → Test (isRagged p x)
-            → Able p v (dropStores p gs ++ cond b (missingFooters p x) (cond (isRagged p x) (rewriteStores p x (firstOr noSeg (freeSegs p gs)) (suc (greatestSerial gs))) []))
-        go true t = footers-able acc
-        go false (yes! q) =
-            let (hz, fz) = free-in (firstOr noSeg (freeSegs p gs)) (first-in (freeSegs p gs) noSeg (h q)) in
-            rw q (rewrite-able (firstOr noSeg (freeSegs p gs)) (suc (greatestSerial gs)) hz fz)
-        go false (no! q) = rw q nothing
+            → Able p v (drops ++ cond b (missingFooters p x) (cond (isRagged p x) (rewriteStores p x (freeSeg p v gs) (suc (greatestSerial gs))) []))
+        go true t = footers-able
+        go false (yes! q) = rw q (rewrite-able (freeSeg p v gs) (suc (greatestSerial gs)) (restarted-free-seg (h q)))
+        go false (no! q) = rw q nothing-able
 
   -- ---- all of them
 
@@ -302,29 +373,28 @@ module _ (p : Params) (r : Ranged p) (v : View) (fair : (d z : ℕ) → d < p .N
       let (g, j, e) = map-in (segmentOf p v 0) (remaining p v 0) x i in
       (g, j, e, q)
 
-  pub restart-able : Accepted p v 0 → rewrites p 0 gs && isNil (freeSegs p gs) ≡ false → Able p v (restartStores p 0 gs)
-  restart-able acc c8 = as! (go (unsealed gs) refl)
+  pub restart-able : rewrites p 0 gs && noneFree p v gs ≡ false → Able p v (restartStores p v 0 gs)
+  restart-able c8 = as! (go (unsealed gs) refl)
     where
-      as! : Able p v (dropStores p gs ++ flat (mendStores p gs) (unsealed gs)) → Able p v (restartStores p 0 gs)
+      as! : Able p v (drops ++ flat (mendStores p v gs) (unsealed gs)) → Able p v (restartStores p v 0 gs)
       as! a = unfold restartStores in a
 
-      -- 01, Refusals, 8: a rewrite has a zone
-      zone : (x : Segment) → In x (unsealed gs) → isRagged p x ≡ true → isNil (freeSegs p gs) ≡ false
-      zone x m q = sym (ap (λ (b : Bool). b && isNil (freeSegs p gs)) due) ∙ c8
+      -- 01, Refusals, 8: a rewrite has zones
+      zone : (x : Segment) → In x (unsealed gs) → isRagged p x ≡ true → noneFree p v gs ≡ false
+      zone x m q = sym (ap (λ (b : Bool). b && noneFree p v gs) due) ∙ c8
         where
           due : rewrites p 0 gs ≡ true
           due = unfold rewrites in in-any (isRagged p) (unsealed gs) x m q
 
-      go : (us : List Segment) → unsealed gs ≡ us → Able p v (dropStores p gs ++ flat (mendStores p gs) us)
-      go [] e = unfold flat in drop-able [] (λ s m. absurd m) (λ e y he hy q. unfold keep in tt) (λ e y he hy q. unfold keep in tt)
+      go : (us : List Segment) → unsealed gs ≡ us → Able p v (drops ++ flat (mendStores p v gs) us)
+      go [] e = unfold flat in nothing-able
       go (x ∷ []) e =
           let m : In x (unsealed gs) = subst (λ (l : List Segment). In x l) (sym e) (inl refl) in
           let (g, i, f, q) = unsealed-remaining x m in
-          let hg = remaining-low p v 0 g i in
-          subst (λ (l : List Store). Able p v (dropStores p gs ++ l))
-          (sym (flat-cons (mendStores p gs) x [] ∙ ap (λ (l : List Store). mendStores p gs x ++ l) (flat-none (mendStores p gs)) ∙ append-nil (mendStores p gs x)))
-          (subst (λ (y : Segment). Able p v (dropStores p gs ++ mendStores p gs y)) (sym f)
-          (mend-able g hg acc (λ h. zone x m (ap (isRagged p) f ∙ h))))
+          subst (λ (l : List Store). Able p v (drops ++ l))
+          (sym (flat-cons (mendStores p v gs) x [] ∙ ap (λ (l : List Store). mendStores p v gs x ++ l) (flat-none (mendStores p v gs)) ∙ append-nil (mendStores p v gs x)))
+          (subst (λ (y : Segment). Able p v (drops ++ mendStores p v gs y)) (sym f)
+          (mend-able g (kept-good g i) (λ h. zone x m (ap (isRagged p) f ∙ h))))
       go (x ∷ (y ∷ us)) e =
           let (g, i, f, q) = unsealed-remaining x (subst (λ (l : List Segment). In x l) (sym e) (inl refl)) in
           let n : 2 ≤ length (unsealed gs) = subst (λ (l : List Segment). 2 ≤ length l) (sym e) (let w : 2 ≤ suc (suc (length us)) = omega arith in w) in

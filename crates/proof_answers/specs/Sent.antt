@@ -1,22 +1,22 @@
 -- The stores of a write, a landing and a reclaim have room: headers in an empty zone, a chunk and footers below the capacity, resets. Assumes nothing.
 use mathlib.Core.Path.{_≡_, refl, sym, ap, _∙_, subst}
-use mathlib.Core.List.{List, [], _∷_, map}
-use mathlib.Core.Bool.{Bool, true, false, cond, _&&_}
+use mathlib.Core.List.{List, [], _∷_, _++_, map}
+use mathlib.Core.Bool.{Bool, true, false, cond, not, _&&_}
 use mathlib.Core.Logic.{inl, inr}
 use Prim.Native.Nat.{ℕ, suc, _+_, _-_, _≤_, _<_}
-use native.Mathlib.Decide.{decLt, ℕ-discrete}
-use borrow.Author.Tests.{eq-eqb, ne-eqb, eqb-true, ltb-true, ltb-false, not-false}
+use native.Mathlib.Decide.{ℕ-discrete}
+use borrow.Author.Tests.{eq-eqb, ne-eqb, ltb-true, ltb-false, not-false}
 use native.Mathlib.Omega.{arith}
 use lib.Dec.{ltb, eqb}
-use lib.ListN.{length, getD, length-map, List·getD-eq-default}
+use lib.ListN.{length, length-map}
 use Rattle.spec.specs.declared.Params.{Params}
 use Rattle.spec.specs.declared.State.{State}
-use Rattle.spec.specs.Drives.{Chunk, Zone, noZone, View, zoneAt, pointerAt, Store, storeView, allSegs, zoneOn, emptyOnAll, emptySegs, zeroSpare, headerStores, footerStores, resetStores}
+use Rattle.spec.specs.Drives.{Chunk, Zone, View, zoneAt, pointerAt, Store, storeView, zoneOn, zeroSpare, headerStores, footerStores, resetStores, emptyCount, isGood, newSeg}
 use Rattle.spec.specs.Drives.Store.{put, reset}
 use Rattle.spec.specs.Landing.{slotOf, waiting, ready, seals, completes, flightRec, misplaced, overfull, entryFaults, landFaults, landStore, sealStores, landPlan}
 use Rattle.spec.specs.Layout.{group, headerBlock, recordBytes}
-use Rattle.spec.specs.Lists.{below, any, consIf, keep, isNil, flat, firstOr}
-use Rattle.spec.specs.Memory.{Memory, slotCount, entriesIn, openSegment, slotBlock, slotByte}
+use Rattle.spec.specs.Lists.{below, consIf, keep, isNil, flat}
+use Rattle.spec.specs.Memory.{Memory, slotCount, entriesIn, slotBlock, slotByte}
 use Rattle.spec.specs.Params.{between, footers, capacity, inflightLen, drivesOf}
 use Rattle.spec.specs.Write.{opens, sending}
 use Rattle.spec.specs.Drives.{noSeg, zonesIn}
@@ -25,23 +25,27 @@ use Rattle.law_basic.specs.Geometry.{Ranged, between-low, between-high, slot-wi
 use Rattle.law_basic.specs.Ranges.{Test, test, and-left, and-right, and-both}
 use Rattle.law_basic.specs.Ranges.Test.{yes!, no! }
 use Rattle.law_basic.specs.Splice.{length-part}
-use Rattle.law_basic.specs.Segs.{Named, seg-named, zone-on-lt, across-zone}
 use Rattle.law_drives.specs.Footers.{hits-each, footerChunks, footer-puts}
-use Rattle.law_drives.specs.Members.{In, flat-in, keep-in, all-in, none-in, flat-cong, in-below, below-in, first-in}
+use Rattle.law_drives.specs.Members.{In, flat-in, keep-in, flat-cong, in-below, below-in, first-in, keep-nil-in}
 use Rattle.law_drives.specs.Puts.{putAt, hits-resets, hits-headers, on-drive}
 use Rattle.law_drives.specs.Range.{capacity-over}
 use Rattle.law_drives.specs.Tests.{false-true, and-false-left, and-false-right, cond-true, cond-false, eqb-self}
 use Rattle.law_drives.specs.Zones.{Sized, hitsAt, zoneStore, hits, zone-stored}
-use Rattle.law_drives.specs.Segs.{segs-in}
-use Rattle.proof_answers.specs.Lengths.{Fair, put-fair, headers-proper, resets-proper, footers-proper, footer-chunks-count}
+use Rattle.proof_answers.specs.Lengths.{Fair, put-fair, headers-proper, resets-proper, footers-proper, footer-chunks-count, OnGood}
 use Rattle.proof_answers.specs.Rising.{Rises, rises-few, Proper, Able, able-none}
 use Rattle.spec.specs.declared.Seg.{Seg}
+use Rattle.law_checks.specs.Passed.{nil-both}
+use Rattle.law_drives.specs.Headers.{Vacant, new-vacant}
+use Rattle.law_drives.specs.Segs.{remaining-left}
+use Rattle.law_drives.specs.Settled.{its-zone}
+use Rattle.law_drives.specs.Tidy.{There}
+use Rattle.spec.specs.Segments.{isUsed, openSegment, openSegments, remaining, serialAt}
 
 -- ---- resets of a segment
 
-pub resets-able : (p : Params) (r : Ranged p) (v : View) (g : Seg) → Named p g → Able p v (resetStores p g)
+pub resets-able : (p : Params) (r : Ranged p) (v : View) (g : Seg) → OnGood p (v .offline) g → Able p v (resetStores p g)
 resets-able p r v g hg = record {
-  proper = resets-proper p r g hg;
+  proper = resets-proper p r (v .offline) g hg;
   rises = λ d z hd hz. subst (λ (l : List Store). Rises p (pointerAt v d z) l) (sym (hits-resets p d z g hd)) (go d z (eqb (zoneOn g d) z));
 }
   where
@@ -51,25 +55,26 @@ resets-able p r v g hg = record {
 
 -- ---- headers
 
--- 01, Refusals, 8: a zone that is empty on all drives
-pub empty-zone : (p : Params) (v : View) (z : Seg) → In z (emptySegs p v) → Named p z × ((d : ℕ) → d < p .N → pointerAt v d (zoneOn z d) ≡ 0)
-unfolding emptySegs
-empty-zone p v z m =
-    let (i, q) = keep-in (emptyOnAll p v) (allSegs p) z m in
-    (segs-in p z i, λ d hd. eqb-true (pointerAt v d (zoneOn z d)) 0 (on d hd q))
-  where
-    on : (d : ℕ) → d < p .N → emptyOnAll p v z ≡ true → eqb (pointerAt v d (zoneOn z d)) 0 ≡ true
-    on d hd q = unfold emptyOnAll drivesOf in all-in (λ d. eqb (pointerAt v d (zoneOn z d)) 0) (below (p .N)) q d (in-below (p .N) d hd)
+-- a segment whose zones are good and empty has good zones
+pub vacant-on : (p : Params) (v : View) (z : Seg) → Vacant p v z → OnGood p (v .offline) z
+vacant-on p v z va d hd = (va .vacant-low d hd, va .vacant-good d hd)
 
-pub headers-able : (p : Params) (r : Ranged p) (v : View) (z : Seg) (sn c : ℕ) → Named p z → ((d : ℕ) → d < p .N → pointerAt v d (zoneOn z d) ≡ 0) → Able p v (headerStores p z sn c)
-headers-able p r v z sn c hz e = record {
-  proper = headers-proper p r z sn c hz;
+-- so has one that there is
+pub there-on : (p : Params) (r : Ranged p) (v : View) (g : Seg) → There p v g → OnGood p (v .offline) g
+there-on p r v g m d hd = let b = its-zone p r v g m d hd in (b .zone-low, good (b .used))
+  where
+    good : isUsed p v d (zoneOn g d) ≡ true → isGood p (v .offline) d (zoneOn g d) ≡ true
+    good q = unfold isUsed in and-left (isGood p (v .offline) d (zoneOn g d)) (not (eqb (pointerAt v d (zoneOn g d)) 0)) q
+
+pub headers-able : (p : Params) (r : Ranged p) (v : View) (z : Seg) (sn c : ℕ) → Vacant p v z → Able p v (headerStores p z sn c)
+headers-able p r v z sn c va = record {
+  proper = headers-proper p r (v .offline) z sn c (vacant-on p v z va);
   rises = λ d y hd hy. subst (λ (l : List Store). Rises p (pointerAt v d y) l) (sym (hits-headers p d y z sn c hd)) (go d y hd (ℕ-discrete (zoneOn z d) y));
 }
   where
     go : (d y : ℕ) → d < p .N → Dec (zoneOn z d ≡ y) → Rises p (pointerAt v d y) (cond (eqb (zoneOn z d) y) (put d (zoneOn z d) (headerBlock p d (zonesIn p z) sn c) zeroSpare ∷ []) [])
     go d y hd (yes q) =
-        let n : pointerAt v d y ≡ 0 = ap (λ (x : ℕ). pointerAt v d x) (sym q) ∙ e d hd in
+        let n : pointerAt v d y ≡ 0 = ap (λ (x : ℕ). pointerAt v d x) (sym q) ∙ va .vacant-empty d hd in
         subst (λ (l : List Store). Rises p (pointerAt v d y) l)
         (sym (cond-true (eqb (zoneOn z d) y) (put d (zoneOn z d) (headerBlock p d (zonesIn p z) sn c) zeroSpare ∷ []) [] (eq-eqb (zoneOn z d) y q)))
         (omega (arith, capacity-over p r), tt)
@@ -79,14 +84,12 @@ headers-able p r v z sn c hz e = record {
 
 -- 01, Write: a block sent stores headers where it opens a segment
 pub sending-able : (p : Params) (r : Ranged p) (v : View) (st : State) (fl : List ℕ) (a t w : ℕ) (b : List ℕ)
-    → (opens p st ≡ true → isNil (emptySegs p v) ≡ false) → Able p v (sending p v st fl a t w b .stores)
+    → (opens p st ≡ true → 1 ≤ emptyCount p v) → Able p v (sending p v st fl a t w b .stores)
 unfolding sending
 sending-able p r v st fl a t w b h = go (test (opens p st))
   where
-    go : Test (opens p st) → Able p v (cond (opens p st) (headerStores p (firstOr noSeg (emptySegs p v)) (suc (st .serial .0)) 0) [])
-    go (yes! q) =
-        let (hz, e) = empty-zone p v (firstOr noSeg (emptySegs p v)) (first-in (emptySegs p v) noSeg (h q)) in
-        rw q (headers-able p r v (firstOr noSeg (emptySegs p v)) (suc (st .serial .0)) 0 hz e)
+    go : Test (opens p st) → Able p v (cond (opens p st) (headerStores p (newSeg p v) (suc (st .serial .0)) 0) [])
+    go (yes! q) = rw q (headers-able p r v (newSeg p v) (suc (st .serial .0)) 0 (new-vacant p v (h q)))
     go (no! q) = rw q (able-none p v)
 
 -- ---- a landing
@@ -97,10 +100,10 @@ unfolding consIf
 not-put true a l e = absurd (let x : _≡_ {A = ℕ} 0 1 = cc in let y : ⊥ = omega arith in y)
 not-put false a l e = (refl, e)
 
--- the open segment is one of those that there may be, where its zone on a drive is one
-open-in-array : (p : Params) (st : State) (d : ℕ) → d < p .N → zoneOn (openSegment p st) d < p .Z → Named p (openSegment p st)
-unfolding openSegment
-open-in-array p st d k h = seg-named p (st .opened - 1) (subst (λ (x : ℕ). x < p .Z) (across-zone p (st .opened - 1) d k) h)
+-- no zone is named
+sent-no-zone : (g : Seg) (l : List ℕ) → map (zoneOn g) l ≡ [] → l ≡ []
+sent-no-zone g [] e = refl
+sent-no-zone g (d ∷ l) e = absurd (let x : _≡_ {A = ℕ} (suc (length (map (zoneOn g) l))) 0 = ap length e in let y : ⊥ = omega arith in y)
 
 module _ (p : Params) (r : Ranged p) (v : View) (sized : Sized p v) (fair : (d z : ℕ) → d < p .N → z < p .Z → Fair p (zoneAt v d z)) (m : Memory)
     (lent : length (m .inflight) ≡ inflightLen p) (d s : ℕ) (waits : waiting p (m .state) d s ≡ true) (none : landFaults p v m d s ≡ []) where
@@ -111,7 +114,7 @@ module _ (p : Params) (r : Ranged p) (v : View) (sized : Sized p v) (fair : (d z
   i = slotOf st s
 
   abbrev g : Seg
-  g = openSegment p st
+  g = openSegment p v st
 
   abbrev pub chunk : Store
   chunk = put d (zoneOn g d) (slotBlock p (m .inflight) i d) (recordBytes (flightRec p st i d))
@@ -125,36 +128,39 @@ module _ (p : Params) (r : Ranged p) (v : View) (sized : Sized p v) (fair : (d z
       let h : a && b ≡ true = and-left (a && b) (ready p st i d) waits in
       (ltb-true d (p .N) (and-left a b h), ltb-true i 8 (and-right a b h))
 
-  -- 01, Refusals, 9: the pointer is at a data block, and footers have room
-  misplaced-none : (misplaced p v d (zoneOn g d) s ≡ false) × (seals p st i d && overfull p v d g ≡ false)
+  -- 01, Refusals, 9: the open segment remains, the pointer is at a data block, and footers have room
+  landing-fine : (isNil (openSegments p v st) ≡ false) × (misplaced p v d (zoneOn g d) s ≡ false) × (cond (seals p st i d) (overfull p v d g) [] ≡ [])
   unfolding landFaults
-  misplaced-none =
+  landing-fine =
       let zs = cond (completes p st i d) (flat (entryFaults p v (m .addresses)) (entriesIn st i)) [] in
-      let (a, e) = not-put (misplaced p v d (zoneOn g d) s) (zoneOn g d) (consIf (seals p st i d && overfull p v d g) (zoneOn g d) zs) none in
-      (a, not-put (seals p st i d && overfull p v d g) (zoneOn g d) zs e .0)
+      let os = cond (seals p st i d) (overfull p v d g) [] in
+      let (o, f) = not-put (isNil (openSegments p v st)) 0 (consIf (misplaced p v d (zoneOn g d) s) (zoneOn g d) (os ++ zs)) none in
+      let (a, e) = not-put (misplaced p v d (zoneOn g d) s) (zoneOn g d) (os ++ zs) f in
+      (o, a, nil-both os zs e .0)
 
   at-data : (1 ≤ pointerAt v d (zoneOn g d)) × (pointerAt v d (zoneOn g d) ≤ p .S)
   unfolding misplaced
   at-data =
       let n = pointerAt v d (zoneOn g d) in
       let h : between 1 (p .S) n ≡ true =
-      and-left (between 1 (p .S) n) (eqb (group p (n - 1)) (group p s)) (not-false (between 1 (p .S) n && eqb (group p (n - 1)) (group p s)) (misplaced-none .0)) in
+      and-left (between 1 (p .S) n) (eqb (group p (n - 1)) (group p s)) (not-false (between 1 (p .S) n && eqb (group p (n - 1)) (group p s)) (landing-fine .1)) in
       (between-low 1 (p .S) n h, between-high 1 (p .S) n h)
 
-  -- 01, Write: the open segment is one of the array
-  open-low : Named p g
-  open-low = open-in-array p st d (land-waits-low .0) (go (decLt (zoneOn g d) (p .Z)))
-    where
-      outside : p .Z ≤ zoneOn g d → pointerAt v d (zoneOn g d) ≡ 0
-      outside h = unfold pointerAt zoneAt noZone in
-          ap (λ (q : Zone). q .pointer) (List·getD-eq-default (getD v d []) noZone (subst (λ (x : ℕ). x ≤ zoneOn g d) (sym (sized .zones-long d (land-waits-low .0))) h))
+  -- 01, Write: the open segment is there
+  open-there : There p v g
+  unfolding openSegment openSegments
+  open-there =
+      let (i, _) = keep-in (λ g. eqb (serialAt p v g) (st .opened)) (remaining p v 0) g (first-in (keep (λ g. eqb (serialAt p v g) (st .opened)) (remaining p v 0)) noSeg (landing-fine .0)) in
+      remaining-left p v 0 g i
 
-      go : Dec (zoneOn g d < p .Z) → zoneOn g d < p .Z
-      go (yes h) = h
-      go (no h) = let e = outside (omega arith) in let a = at-data .0 in absurd (let x : ⊥ = omega arith in x)
+  open-good : OnGood p (v .offline) g
+  open-good = there-on p r v g open-there
 
-  chunk-proper : Proper p chunk
-  chunk-proper = (land-waits-low .0, zone-on-lt p g d open-low, block, length-record (flightRec p st i d))
+  sent-open-low : (e : ℕ) → e < p .N → zoneOn g e < p .Z
+  sent-open-low e he = open-good e he .0
+
+  chunk-proper : Proper p (v .offline) chunk
+  chunk-proper = (land-waits-low .0, sent-open-low d (land-waits-low .0), open-good d (land-waits-low .0) .1, block, length-record (flightRec p st i d))
     where
       block : length (slotBlock p (m .inflight) i d) ≡ p .B
       block = unfold slotBlock in length-part (slotByte p i d) (p .B) (m .inflight)
@@ -206,16 +212,16 @@ module _ (p : Params) (r : Ranged p) (v : View) (sized : Sized p v) (fair : (d z
   after = storeView chunk v
 
   after-fair : (e : ℕ) → e < p .N → Fair p (zoneAt after e (zoneOn g e))
-  after-fair e he = subst (λ (q : Zone). Fair p q) (sym (zone-stored p v e (zoneOn g e) chunk sized he (zone-on-lt p g e open-low))) (go (hitsAt e (zoneOn g e) chunk))
+  after-fair e he = subst (λ (q : Zone). Fair p q) (sym (zone-stored p v e (zoneOn g e) chunk sized he (sent-open-low e he))) (go (hitsAt e (zoneOn g e) chunk))
     where
       put-is : Fair p (zoneStore chunk (zoneAt v e (zoneOn g e)))
       put-is = unfold zoneStore in
-          put-fair p (zoneAt v e (zoneOn g e)) (slotBlock p (m .inflight) i d) (recordBytes (flightRec p st i d)) (fair e (zoneOn g e) he (zone-on-lt p g e open-low)) (chunk-proper .2)
-          (chunk-proper .3)
+          put-fair p (zoneAt v e (zoneOn g e)) (slotBlock p (m .inflight) i d) (recordBytes (flightRec p st i d)) (fair e (zoneOn g e) he (sent-open-low e he)) (chunk-proper .3)
+          (chunk-proper .4)
 
       go : (b : Bool) → Fair p (cond b (zoneStore chunk (zoneAt v e (zoneOn g e))) (zoneAt v e (zoneOn g e)))
       go true = put-is
-      go false = fair e (zoneOn g e) he (zone-on-lt p g e open-low)
+      go false = fair e (zoneOn g e) he (sent-open-low e he)
 
   abbrev feet : ℕ → List Chunk
   feet e = footerChunks p (zoneAt after e (zoneOn g e)) 0 (footers p)
@@ -233,27 +239,28 @@ module _ (p : Params) (r : Ranged p) (v : View) (sized : Sized p v) (fair : (d z
       ap length (feet-hits e (zoneOn g e) he ∙ cond-true (eqb (zoneOn g e) (zoneOn g e)) (map (putAt e (zoneOn g e)) (feet e)) [] (eqb-self (zoneOn g e)))
       ∙ length-map (feet e) (putAt e (zoneOn g e)) ∙ footer-chunks-count p (zoneAt after e (zoneOn g e)) 0 (footers p)
 
-  feet-proper : (t : Store) → In t (sealStores p after g) → Proper p t
+  feet-proper : (t : Store) → In t (sealStores p after g) → Proper p (v .offline) t
   unfolding sealStores drivesOf
   feet-proper t n =
       let (e, j, k) = flat-in (λ e. footerStores p e (zoneOn g e) (zoneAt after e (zoneOn g e)) 0 (footers p)) (below (p .N)) t n in
       let he = below-in (p .N) e j in
-      footers-proper p r (zoneAt after e (zoneOn g e)) (after-fair e he) e (zoneOn g e) 0 (footers p) he (zone-on-lt p g e open-low) t k
+      footers-proper p r (v .offline) (zoneAt after e (zoneOn g e)) (after-fair e he) e (zoneOn g e) 0 (footers p) he (sent-open-low e he) (open-good e he .1) t k
 
   -- 01, Refusals, 9: no zone is filled above its capacity
   seal-feet-room : seals p st i d ≡ true → (e : ℕ) → e < p .N → pointerAt v e (zoneOn g e) + cond (eqb e d) 1 0 + footers p ≤ capacity p
   unfolding overfull drivesOf
   seal-feet-room q e he =
       let f : ℕ → Bool = λ e. ltb (capacity p) (pointerAt v e (zoneOn g e) + cond (eqb e d) 1 0 + footers p) in
-      let o : any f (below (p .N)) ≡ false = sym (ap (λ (b : Bool). b && any f (below (p .N))) q) ∙ misplaced-none .1 in
-      ltb-false (capacity p) (pointerAt v e (zoneOn g e) + cond (eqb e d) 1 0 + footers p) (none-in f (below (p .N)) o e (in-below (p .N) e he))
+      let o : map (zoneOn g) (keep f (below (p .N))) ≡ [] = sym (cond-true (seals p st i d) (map (zoneOn g) (keep f (below (p .N)))) [] q) ∙ landing-fine .2 in
+      ltb-false (capacity p) (pointerAt v e (zoneOn g e) + cond (eqb e d) 1 0 + footers p)
+      (keep-nil-in f (below (p .N)) (sent-no-zone g (keep f (below (p .N))) o) e (in-below (p .N) e he))
 
   pub land-able : Able p v (landPlan p v m d s .stores)
   unfolding landPlan landStore
   land-able = go (test (seals p st i d))
     where
-      both : (ts : List Store) → ((t : Store) → In t ts → Proper p t) → (t : Store) → In t (chunk ∷ ts) → Proper p t
-      both ts f t (inl e) = subst (λ (x : Store). Proper p x) (sym e) chunk-proper
+      both : (ts : List Store) → ((t : Store) → In t ts → Proper p (v .offline) t) → (t : Store) → In t (chunk ∷ ts) → Proper p (v .offline) t
+      both ts f t (inl e) = subst (λ (x : Store). Proper p (v .offline) x) (sym e) chunk-proper
       both ts f t (inr n) = f t n
 
       plus : (n : ℕ) (b : Bool) → b ≡ true → n + cond b 1 0 + footers p ≡ n + 1 + footers p

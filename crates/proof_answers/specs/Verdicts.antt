@@ -140,7 +140,7 @@ module _ (p : Params) (long : Bool) (v : View) (m : Memory) where
   unfolding rebuildVerdict rebuildChecks imageChecks numbersOf all any isMember refusalsOf resultsOf canStore kind
   rebuild-says d n =
       let gs = segments p v (named d) in
-      says-decided (rebuild d n) (rebuildChecks p long v m d gs) (mkPlan (rebuildStores p d gs) Rebuilt m []) refl refl (inl refl)
+      says-decided (rebuild d n) (rebuildChecks p long v m d gs) (mkPlan (rebuildStores p v d gs) Rebuilt m []) refl refl (inl refl)
 
   pub verdict-says : (c : Call) → VerdictSays c (verdict p long v m c)
   unfolding verdict
@@ -156,24 +156,24 @@ module _ (p : Params) (long : Bool) (v : View) (m : Memory) where
 
 -- ---- the store count chooses only how many stores are made
 
-pub counted-on : (p : Params) (long : Bool) (k : Disk) (m : Memory) (c : Call) (n : ℕ)
-    → callOn p long k m (withCount n c) ≡ outcome p (storeDisk p) n k m (lentBlock c) (verdict p long (seen p k) m c)
+pub counted-on : (p : Params) (off : List ℕ) (long : Bool) (k : Disk) (m : Memory) (c : Call) (n : ℕ)
+    → callOn p off long k m (withCount n c) ≡ outcome p (storeDisk p) n k m (lentBlock c) (verdict p long (seen p off k) m c)
 unfolding callOn storeCount lentBlock verdict withCount
-counted-on p long k m (write a [] i) n = refl
-counted-on p long k m (write a (x ∷ b) i) n = refl
-counted-on p long k m (land d s i) n = refl
-counted-on p long k m (close i) n = refl
-counted-on p long k m (reclaim i) n = refl
-counted-on p long k m (read a) n = plain
+counted-on p off long k m (write a [] i) n = refl
+counted-on p off long k m (write a (x ∷ b) i) n = refl
+counted-on p off long k m (land d s i) n = refl
+counted-on p off long k m (close i) n = refl
+counted-on p off long k m (reclaim i) n = refl
+counted-on p off long k m (read a) n = plain
   where
-    plain : outcome p (storeDisk p) 0 k m [] (readVerdict p long (seen p k) m a) ≡ outcome p (storeDisk p) n k m [] (readVerdict p long (seen p k) m a)
-    plain = unfold readVerdict readPlan in no-count p (storeDisk p) 0 n k m [] (firstRefusal (readChecks p long (seen p k) m a)) (readPlan p (seen p k) m a) refl
-counted-on p long k m (fill a b) n = plain
+    plain : outcome p (storeDisk p) 0 k m [] (readVerdict p long (seen p off k) m a) ≡ outcome p (storeDisk p) n k m [] (readVerdict p long (seen p off k) m a)
+    plain = unfold readVerdict readPlan in no-count p (storeDisk p) 0 n k m [] (firstRefusal (readChecks p long (seen p off k) m a)) (readPlan p (seen p off k) m a) refl
+counted-on p off long k m (fill a b) n = plain
   where
-    plain : outcome p (storeDisk p) 0 k m b (fillVerdict p long (seen p k) m a b) ≡ outcome p (storeDisk p) n k m b (fillVerdict p long (seen p k) m a b)
-    plain = unfold fillVerdict fillPlan in no-count p (storeDisk p) 0 n k m b (firstRefusal (readChecks p (long && eqb (length b) (p .B)) (seen p k) m a)) (fillPlan p (seen p k) m a) refl
-counted-on p long k m (restart d i) n = refl
-counted-on p long k m (rebuild d i) n = refl
+    plain : outcome p (storeDisk p) 0 k m b (fillVerdict p long (seen p off k) m a b) ≡ outcome p (storeDisk p) n k m b (fillVerdict p long (seen p off k) m a b)
+    plain = unfold fillVerdict fillPlan in no-count p (storeDisk p) 0 n k m b (firstRefusal (readChecks p (long && eqb (length b) (p .B)) (seen p off k) m a)) (fillPlan p (seen p off k) m a) refl
+counted-on p off long k m (restart d i) n = refl
+counted-on p off long k m (rebuild d i) n = refl
 
 -- the call as it came
 pub own-count : (c : Call) → withCount (storeCount c) c ≡ c

@@ -13,8 +13,6 @@ use Rattle.spec.specs.Memory.{stateSections, cell, idleState, zeroState, filled
 use Rattle.law_basic.specs.Mask.{only-lt}
 use Rattle.law_drives.specs.Tables.{zero-at}
 use Rattle.proof_bytes.specs.Sections.{limit, limit-pos, LowList, StateFits}
-use Rattle.spec.specs.declared.Seg.{Seg}
-use Rattle.spec.specs.Drives.{zoneOn}
 
 -- ---- lists of numbers
 
@@ -57,9 +55,9 @@ module _ (st : State) (f : StateFits st) where
     offsets-fit = f .offsets-fit;
   }
 
-  pub fits-open : (g : Seg) (r : ℕ) → suc (zoneOn g 0) < limit 4 → r < limit 3 → StateFits (setOpen st g r)
+  pub fits-open : (r : ℕ) → r < limit 4 → r < limit 3 → StateFits (setOpen st r)
   unfolding setOpen
-  fits-open g r h k = record {
+  fits-open r h k = record {
     live-fits = f .live-fits;
     missing-fits = f .missing-fits;
     stamp-fits = f .stamp-fits;

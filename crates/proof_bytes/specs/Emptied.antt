@@ -20,7 +20,7 @@ use Rattle.spec.specs.Calls.Verdict.{refused, due}
 use Rattle.spec.specs.Closing.{padded, closeChecks, closePlan, closeVerdict, emptyChecks, emptyPlan, emptyVerdict}
 use Rattle.spec.specs.Counts.{paddingAddress}
 use Rattle.spec.specs.Demands.{areBytes}
-use Rattle.spec.specs.Drives.{View, Disk, storeDisk, storeAll}
+use Rattle.spec.specs.Drives.{View, Disk, storeDisk, storeAll, aboveNarrow, fewGood, listOk, viewOf}
 use Rattle.spec.specs.Engine.{storeCount, lentBlock, verdict, lentOk, callOn, Lent, Left, lentDisk, lentMemory, lentAll, leftBy, lentLong, leftAs, callBytes}
 use Rattle.spec.specs.Engine.Call.{write, close}
 use Rattle.spec.specs.History.{Send, mkSend, sentBy}
@@ -37,7 +37,7 @@ use Rattle.law_checks.specs.Checks.{Decided, decide}
 use Rattle.law_checks.specs.Checks.Decided.{stops, goes}
 use Rattle.law_checks.specs.Empty.{empty-closes, far-refusal, idle-refusal, Emptied, empty-decided}
 use Rattle.law_checks.specs.Empty.Emptied.{as-closing, as-refused, as-nothing}
-use Rattle.law_checks.specs.Passed.{EmptyPassed}
+use Rattle.law_checks.specs.Passed.{EmptyPassed, list-parts}
 use Rattle.law_drives.specs.Image.{bytes-of}
 use Rattle.law_drives.specs.Tests.{clash}
 use Rattle.law_views.specs.Views.{seen}
@@ -63,7 +63,7 @@ module _ (p : Params) (l : Lent) (a n : ℕ) where
   long = lentLong p l
 
   abbrev view : View
-  view = seen p disk
+  view = seen p (l .offline) disk
 
   -- what a verdict leaves, told k
   abbrev leaves! : ℕ → Verdict → Left
@@ -98,7 +98,7 @@ module _ (p : Params) (l : Lent) (a n : ℕ) where
   -- ---- refused, closed, or nothing
 
   abbrev made : Plan → Left
-  made q = record { answer = q .answer; lent = lentAll disk (q .memory) (stateBytes (q .memory .state)); block = q .block }
+  made q = record { answer = q .answer; lent = lentAll (l .offline) disk (q .memory) (stateBytes (q .memory .state)); block = q .block }
 
   stopped-left : (r : Answer) → isRefused r ≡ true → leaves! n (refused r) ≡ record { answer = r; lent = l; block = [] }
   unfolding outcome leftBy
@@ -139,11 +139,11 @@ module _ (p : Params) (l : Lent) (a n : ℕ) where
 
   -- ---- where nothing is done the bytes are as they came
 
-  back : areBytes (l .state) ≡ true → long ≡ true → lentAll disk memory (stateBytes (memory .state)) ≡ l
+  back : areBytes (l .state) ≡ true → long ≡ true → lentAll (l .offline) disk memory (stateBytes (memory .state)) ≡ l
   unfolding lentAll lentDisk lentMemory
   back b h =
-      let e = eqb-true (length (l .state)) stateLen (and-right (lentOk p disk memory) (eqb (length (l .state)) stateLen) h) in
-      ap (λ (s : List ℕ). record { image = l .image; pointers = l .pointers; addresses = l .addresses; compact = l .compact; inflight = l .inflight; state = s })
+      let e = eqb-true (length (l .state)) stateLen (and-right (lentOk p (l .offline) disk memory) (eqb (length (l .state)) stateLen) h) in
+      ap (λ (s : List ℕ). record { offline = l .offline; image = l .image; pointers = l .pointers; addresses = l .addresses; compact = l .compact; inflight = l .inflight; state = s })
       (stateBytes-stateOf (l .state) e (λ k _. bytes-of (l .state) b k))
 
   is-idle : hasFilling p (stateIn l) ≡ false → areBytes (l .state) ≡ true
@@ -157,12 +157,16 @@ module _ (p : Params) (l : Lent) (a n : ℕ) where
 
   -- ---- the checks
 
-  passed : writable p l ≡ true → (inRange p ≡ true) × (long ≡ true) × (eqb (memory .state .missing) 0 ≡ true)
-  unfolding writable stateIn lentMemory
+  passed : writable p l ≡ true
+      → (inRange p ≡ true) × (long ≡ true) × (fewGood p (view .offline) ≡ false) × (aboveNarrow p (view .offline) ≡ false) × (eqb (memory .state .missing) 0 ≡ true)
+  unfolding writable stateIn lentMemory viewOf
   passed w =
       let z = eqb (memory .state .missing) 0 in
-      let xy = and-left (inRange p && long) z w in
-      (and-left (inRange p) long xy, and-right (inRange p) long xy, and-right (inRange p && long) z w)
+      let ok = listOk p (l .offline) in
+      let xyo = and-left (inRange p && long && ok) z w in
+      let xy = and-left (inRange p && long) ok xyo in
+      let (few, fit) = list-parts p (l .offline) (and-right (inRange p && long) ok xyo) in
+      (and-left (inRange p) long xy, and-right (inRange p) long xy, few, fit, and-right (inRange p && long && ok) z w)
 
   -- ---- none is filling, or the address is out of range: the first check that holds
 
@@ -176,8 +180,8 @@ module _ (p : Params) (l : Lent) (a n : ℕ) where
   idle-first : hasFilling p (stateIn l) ≡ false → a < p .L → writable p l ≡ true
       → firstRefusal (emptyChecks p long view memory a) ≡ firstRefusal (zones (stateFaults p (memory .state)) ∷ [])
   idle-first h low w =
-      let (x, y, z) = passed w in
-      idle-refusal p long view memory a x y z (lt-leb (p .L) a low) (sym lent-filling ∙ h)
+      let (x, y, few, fit, z) = passed w in
+      idle-refusal p long view memory a x y few fit z (lt-leb (p .L) a low) (sym lent-filling ∙ h)
 
   is-accepted : hasFilling p (stateIn l) ≡ false → a < p .L → writable p l ≡ true → stateOk p (stateIn l) ≡ true → emptyLeft p l a n .answer ≡ Nothing
   is-accepted h low w s = go (empty-decided p long view memory a)
@@ -196,8 +200,8 @@ module _ (p : Params) (l : Lent) (a n : ℕ) where
 
   is-fourth : p .L ≤ a → writable p l ≡ true → emptyLeft p l a n .answer ≡ Refused 4
   is-fourth h w =
-      let (x, y, z) = passed w in
-      refused-as (Refused 4) (unfold isRefused kind in refl) (far-refusal p long view memory a x y z (le-leb (p .L) a h))
+      let (x, y, few, fit, z) = passed w in
+      refused-as (Refused 4) (unfold isRefused kind in refl) (far-refusal p long view memory a x y few fit z (le-leb (p .L) a h))
 
   is-stopped : p .L ≤ a → (isRefused (emptyLeft p l a n .answer) ≡ true) × (emptyLeft p l a n .lent ≡ l)
   is-stopped h = go empty-ends

@@ -1,6 +1,6 @@
 -- The state that each call leaves fits: the checks bound what it sets, and the rest comes from bytes. Assumes nothing.
 use mathlib.Core.Path.{_≡_, refl, sym, ap, _∙_, subst}
-use mathlib.Core.List.{List, [], _∷_, map}
+use mathlib.Core.List.{List, [], _∷_, map, _++_}
 use mathlib.Core.Logic.{inl}
 use mathlib.Core.Bool.{Bool, true, false, cond, not, _&&_}
 use Prim.Native.Nat.{ℕ, zero, suc, _+_, _-_, _≤_, _<_}
@@ -15,31 +15,30 @@ use Rattle.spec.specs.declared.Params.{Params}
 use Rattle.spec.specs.declared.State.{State}
 use Rattle.spec.specs.Closing.{padded, closeChecks, closePlan}
 use Rattle.spec.specs.Counts.{paddingAddress, lastCount}
-use Rattle.spec.specs.Drives.{View, pointerAt, storeView, storeAll, allSegs, emptyOnAll, emptySegs, zoneOn, recordAt, noSeg}
+use Rattle.spec.specs.Drives.{View, pointerAt, storeView, storeAll, zoneOn, recordAt}
 use Rattle.spec.specs.Landing.{slotOf, completes, seals, misplaced, overfull, entryFaults, landFaults, landChecks, landPlan}
 use Rattle.spec.specs.Layout.{group}
-use Rattle.spec.specs.Lists.{Opt, below, isNil, firstOr, consIf, flat}
-use Rattle.spec.specs.Memory.{Memory, stateSections, filledIn, freeSlot, fillingSlot, hasFilling, openSegment, entriesIn, setOpen, setClosed, beginStripe, addEntry, markLanded}
+use Rattle.spec.specs.Lists.{Opt, below, isNil, consIf, flat, greatest}
+use Rattle.spec.specs.Memory.{Memory, stateSections, filledIn, freeSlot, fillingSlot, hasFilling, entriesIn, setOpen, setClosed, beginStripe, addEntry, markLanded}
 use Rattle.spec.specs.Memory.{freeStripe}
 use Rattle.spec.specs.Params.{between, dataCount, named}
 use Rattle.spec.specs.Reclaim.{Victim, victimSegment, victimLive, reclaimChecks, resetPlan, copyPlan}
 use Rattle.spec.specs.Restart.{openOf, nextOf, restartMemory, restartStores, restartChecks, restartPlan}
-use Rattle.spec.specs.Segments.{remaining, Segment, segmentOf, segments, counts, counted, unsealed, candidates, greatestStamp, greatestSerial}
+use Rattle.spec.specs.Segments.{Segment, segments, counts, counted, unsealed, candidates, greatestStamp, greatestSerial, openSegment, openSegments}
 use Rattle.spec.specs.Write.{opens, noStamp, noSerial, placed, openedBy, slotFor, begunBy, sending, writeChecks, writePlan}
 use Rattle.law_basic.specs.Geometry.{between-high, Ranged, ranged, addresses-all, data-count-high}
 use Rattle.law_basic.specs.Mask.{only-lt}
 use Rattle.law_basic.specs.Ranges.{Test, test, and-left, length-below, length-keep}
 use Rattle.law_basic.specs.Ranges.Test.{yes!, no! }
-use Rattle.law_basic.specs.Segs.{Named, zone-on-lt, low-here, none-zones-low}
 use Rattle.law_checks.specs.Passed.{write-passed, land-passed, close-passed, ReclaimPassed, reclaim-passed, restart-passed}
-use Rattle.law_drives.specs.Members.{In, map-in, keep-in, first-in}
-use Rattle.law_drives.specs.Segs.{remaining-low, seg-is, segs-in}
+use Rattle.law_drives.specs.Members.{In, keep-in, in-map}
 use Rattle.law_drives.specs.Tests.{clash}
 use Rattle.law_drives.specs.States.{StateOk, state-of}
 use Rattle.proof_bytes.specs.Sections.{limit, limit-pos, StateFits}
 use Rattle.proof_bytes.specs.Changes.{low-set, set-le, fits-stamp, fits-open, fits-closed, fits-begin, fits-add, fits-mark, fits-free, fits-idle}
 use Rattle.proof_bytes.specs.Reads.{LowReads, stamps-low, serials-low}
 use Rattle.spec.specs.declared.Seg.{Seg}
+use Rattle.law_drives.specs.Counting.{in-greatest}
 
 -- ---- what a state in range bounds
 
@@ -62,36 +61,17 @@ module _ (p : Params) (st : State) (f : StateFits st) (r : Ranged p) (so : State
 
 -- ---- a block sent
 
-first-empty-low : (p : Params) (v : View) → Ranged p → zoneOn (firstOr noSeg (emptySegs p v)) 0 < p .Z
-unfolding isNil
-first-empty-low p v r = go (test (isNil (emptySegs p v)))
-  where
-    inside : In (firstOr noSeg (emptySegs p v)) (emptySegs p v) → zoneOn (firstOr noSeg (emptySegs p v)) 0 < p .Z
-    inside m = zone-on-lt p (firstOr noSeg (emptySegs p v)) 0 (segs-in p (firstOr noSeg (emptySegs p v)) (of! (firstOr noSeg (emptySegs p v)) m))
-      where
-        of! : (g : Seg) → In g (emptySegs p v) → In g (allSegs p)
-        of! g m = unfold emptySegs in keep-in (emptyOnAll p v) (allSegs p) g m .0
-
-    nothing : (l : List Seg) → isNil l ≡ true → zoneOn (firstOr noSeg l) 0 < p .Z
-    nothing [] q = unfold firstOr in low-here p noSeg 0 (none-zones-low p 0 (omega (arith, r .zones-low))) (omega (arith, r .drives-low))
-    nothing (a ∷ l) q = clash q refl
-
-    go : Test (isNil (emptySegs p v)) → zoneOn (firstOr noSeg (emptySegs p v)) 0 < p .Z
-    go (yes! q) = nothing (emptySegs p v) q
-    go (no! q) = inside (first-in (emptySegs p v) noSeg q)
-
-module _ (p : Params) (r : Ranged p) (v : View) (st : State) (f : StateFits st) (m : Small st) (serial : opens p st ≡ true → suc (st .serial .0) < limit 3) where
-  opened-fits : StateFits (openedBy p v st) × Small (openedBy p v st)
+module _ (p : Params) (v : View) (st : State) (f : StateFits st) (m : Small st) (serial : opens p st ≡ true → suc (st .serial .0) < limit 3) where
+  opened-fits : StateFits (openedBy p st) × Small (openedBy p st)
   unfolding openedBy setOpen stateSections
   opened-fits = go (test (opens p st))
     where
       st′ : State
-      st′ = setOpen st (firstOr noSeg (emptySegs p v)) (suc (st .serial .0))
+      st′ = setOpen st (suc (st .serial .0))
 
       go : Test (opens p st) → StateFits (cond (opens p st) st′ st) × Small (cond (opens p st) st′ st)
       go (yes! q) = subst (λ (b : Bool). StateFits (cond b st′ st) × Small (cond b st′ st)) (sym q) (
-        fits-open st f (firstOr noSeg (emptySegs p v)) (suc (st .serial .0))
-            (let a = first-empty-low p v r in let b = r .zones-high in omega arith) (serial q),
+        fits-open st f (suc (st .serial .0)) (serial q) (serial q),
         record { filled-small = m .filled-small; next-small = omega arith },
       )
       go (no! q) = subst (λ (b : Bool). StateFits (cond b st′ st) × Small (cond b st′ st)) (sym q) (f, m)
@@ -100,21 +80,21 @@ module _ (p : Params) (r : Ranged p) (v : View) (st : State) (f : StateFits st) 
   unfolding beginStripe stateSections
   begun-fits st₁ i g s = (fits-begin st₁ g i (let a = s .next-small in omega arith) (let a = s .next-small in omega arith), low-set 8 (st₁ .filled) i 0 (s .filled-small) (lit< tt))
 
-  begunBy-fits : StateFits (begunBy p st (openedBy p v st)) × ((k : ℕ) → getD (begunBy p st (openedBy p v st) .filled) k 0 < 8)
+  begunBy-fits : StateFits (begunBy p st (openedBy p st)) × ((k : ℕ) → getD (begunBy p st (openedBy p st) .filled) k 0 < 8)
   unfolding begunBy
-  begunBy-fits = go (hasFilling p st) (begun-fits (openedBy p v st) (freeSlot st) (opened-fits .0) (opened-fits .1))
+  begunBy-fits = go (hasFilling p st) (begun-fits (openedBy p st) (freeSlot st) (opened-fits .0) (opened-fits .1))
     where
-      go : (b : Bool) → StateFits (beginStripe (openedBy p v st) (freeSlot st)) × ((k : ℕ) → getD (beginStripe (openedBy p v st) (freeSlot st) .filled) k 0 < 8)
-          → StateFits (cond b st (beginStripe (openedBy p v st) (freeSlot st))) × ((k : ℕ) → getD (cond b st (beginStripe (openedBy p v st) (freeSlot st)) .filled) k 0 < 8)
+      go : (b : Bool) → StateFits (beginStripe (openedBy p st) (freeSlot st)) × ((k : ℕ) → getD (beginStripe (openedBy p st) (freeSlot st) .filled) k 0 < 8)
+          → StateFits (cond b st (beginStripe (openedBy p st) (freeSlot st))) × ((k : ℕ) → getD (cond b st (beginStripe (openedBy p st) (freeSlot st)) .filled) k 0 < 8)
       go true h = (f, m .filled-small)
       go false h = h
 
   pub sending-fits : (fl : List ℕ) (a t w : ℕ) (b : List ℕ) → a < limit 10 → t < limit 11 → w ≤ 1 → StateFits (sending p v st fl a t w b .state)
   unfolding sending placed stateSections
   sending-fits fl a t w b ha ht hw =
-      fits-add (begunBy p st (openedBy p v st)) (begunBy-fits .0) (slotFor p st) a t w (few (slotFor p st)) ha ht hw
+      fits-add (begunBy p st (openedBy p st)) (begunBy-fits .0) (slotFor p st) a t w (few (slotFor p st)) ha ht hw
     where
-      few : (i : ℕ) → suc (filledIn (begunBy p st (openedBy p v st)) i) < limit 7
+      few : (i : ℕ) → suc (filledIn (begunBy p st (openedBy p st)) i) < limit 7
       few i = unfold filledIn in (let x = begunBy-fits .1 i in omega arith)
 
 -- ---- the calls
@@ -152,7 +132,7 @@ module _ (p : Params) (long : Bool) (v : View) (m : Memory) (f : StateFits (m .s
       let q = sending p v st (m .inflight) a (suc (st .stamp .0)) 1 b in
       let ha : a < limit 10 = let x = c .address-low in let y = addresses-all p r in omega arith in
       fits-stamp (q .state)
-      (sending-fits p r v st f (small p st f r so) (next-serial (c .serial-left)) (m .inflight) a (suc (st .stamp .0)) 1 b ha t (omega arith))
+      (sending-fits p v st f (small p st f r so) (next-serial (c .serial-left)) (m .inflight) a (suc (st .stamp .0)) 1 b ha t (omega arith))
       (suc (st .stamp .0)) t
 
   -- ---- landing
@@ -161,6 +141,11 @@ module _ (p : Params) (long : Bool) (v : View) (m : Memory) (f : StateFits (m .s
   unfolding consIf
   consIf-nil true n l q = absurd (let z : _≡_ {A = ℕ} (suc (length l)) 0 = ap length q in let y : ⊥ = omega arith in y)
   consIf-nil false n l q = refl
+
+  consIf-rest : (b : Bool) (n : ℕ) (l : List ℕ) → consIf b n l ≡ [] → l ≡ []
+  unfolding consIf
+  consIf-rest true n l q = absurd (let z : _≡_ {A = ℕ} (suc (length l)) 0 = ap length q in let y : ⊥ = omega arith in y)
+  consIf-rest false n l q = q
 
   placed-low : (d : ℕ) (g : Seg) (s : ℕ) → Ranged p → misplaced p v d (zoneOn g d) s ≡ false → pointerAt v d (zoneOn g d) - 1 < limit 12
   unfolding misplaced stateSections
@@ -176,19 +161,19 @@ module _ (p : Params) (long : Bool) (v : View) (m : Memory) (f : StateFits (m .s
       let c = land-passed p long v m d s e in
       let r = ranged p (c .in-range) in
       let i = slotOf st s in
-      let g = openSegment p st in
+      let g = openSegment p v st in
       let o = pointerAt v d (zoneOn g d) - 1 in
       let st₁ = markLanded st i d o in
       let f₁ = fits-mark st f i d o (placed-low d g s r (off (c .chunk-fine))) in
       go (completes p st i d) (seals p st i d) st₁ i f₁
     where
-      off : landFaults p v m d s ≡ [] → misplaced p v d (zoneOn (openSegment p st) d) s ≡ false
-      off q = unfold landFaults in consIf-nil (misplaced p v d (zoneOn (openSegment p st) d) s) (zoneOn (openSegment p st) d) _ (of! q)
+      off : landFaults p v m d s ≡ [] → misplaced p v d (zoneOn (openSegment p v st) d) s ≡ false
+      off q = unfold landFaults in consIf-nil (misplaced p v d (zoneOn (openSegment p v st) d) s) (zoneOn (openSegment p v st) d) _ (of! q)
         where
-          of! : landFaults p v m d s ≡ [] → consIf (misplaced p v d (zoneOn (openSegment p st) d) s) (zoneOn (openSegment p st) d)
-              (consIf (seals p st (slotOf st s) d && overfull p v d (openSegment p st)) (zoneOn (openSegment p st) d)
-              (cond (completes p st (slotOf st s) d) (flat (entryFaults p v (m .addresses)) (entriesIn st (slotOf st s))) [])) ≡ []
-          of! q = unfold landFaults in q
+          of! : landFaults p v m d s ≡ [] → consIf (misplaced p v d (zoneOn (openSegment p v st) d) s) (zoneOn (openSegment p v st) d)
+              (cond (seals p st (slotOf st s) d) (overfull p v d (openSegment p v st)) []
+              ++ cond (completes p st (slotOf st s) d) (flat (entryFaults p v (m .addresses)) (entriesIn st (slotOf st s))) []) ≡ []
+          of! q = consIf-rest (isNil (openSegments p v st)) 0 _ (unfold landFaults in q)
 
       go : (a b : Bool) (x : State) (i : ℕ) → StateFits x → StateFits (cond b (setClosed (cond a (freeStripe x i) x)) (cond a (freeStripe x i) x))
       go true true x i h = fits-closed (freeStripe x i) (fits-free x h i)
@@ -237,7 +222,7 @@ module _ (p : Params) (long : Bool) (v : View) (m : Memory) (f : StateFits (m .s
           let r = ranged p (c .in-range) in
           let so = state-of p r st (c .state-fine) in
           subst (λ (b : Bool). StateFits (cond b (resetPlan p m (victimSegment w)) (copyPlan p v m q) .memory .state)) (sym e)
-          (sending-fits p r v st f (small p st f r so) (next-serial (c .serial-left e)) (m .inflight) _ _ 0 _ (h .records-low _ _ _ _ .0) (h .records-low _ _ _ _ .1) (omega arith))
+          (sending-fits p v st f (small p st f r so) (next-serial (c .serial-left e)) (m .inflight) _ _ 0 _ (h .records-low _ _ _ _ .0) (h .records-low _ _ _ _ .1) (omega arith))
 
 -- ---- restart
 
@@ -258,32 +243,32 @@ idle-fits p r v d fl ht hs =
     names : named d < limit 1
     names = unfold named in only-lt d
 
-    inside : (x : Segment) → In x (segments p v (named d)) → Named p (x .seg)
+    inside : (x : Segment) → In x (segments p v (named d)) → x .serial < limit 3
     inside x i =
-        let (z, j, e) = map-in (segmentOf p v (named d)) (remaining p v (named d)) x (of! x i) in
-        subst (Named p) (sym (ap (λ (y : Segment). y .seg) e ∙ seg-is p v (named d) z)) (remaining-low p v (named d) z j)
+        let a = of! (in-greatest (x .serial) (map (λ (g : Segment). g .serial) (segments p v (named d))) (in-map (λ (g : Segment). g .serial) (segments p v (named d)) x i)) in
+        omega arith
       where
-        of! : (x : Segment) → In x (segments p v (named d)) → In x (map (segmentOf p v (named d)) (remaining p v (named d)))
-        of! x i = unfold segments in i
+        of! : x .serial ≤ greatest (map (λ (g : Segment). g .serial) (segments p v (named d))) → x .serial ≤ greatestSerial (segments p v (named d))
+        of! a = unfold greatestSerial in a
 
-    left : (x : Segment) → In x us → Named p (x .seg)
+    left : (x : Segment) → In x us → x .serial < limit 3
     left x i = go (eqb (named d) 0) i
       where
-        go : (b : Bool) → In x (cond b (unsealed (segments p v (named d))) []) → Named p (x .seg)
+        go : (b : Bool) → In x (cond b (unsealed (segments p v (named d))) []) → x .serial < limit 3
         go true i = inside x (unfold unsealed in keep-in (λ (g : Segment). not (g .full)) (segments p v (named d)) x i .0)
         go false i = absurd i
 
-    low-open : (l : List Segment) → ((x : Segment) → In x l → Named p (x .seg)) → openOf l < limit 4
+    low-open : (l : List Segment) → ((x : Segment) → In x l → x .serial < limit 3) → openOf l < limit 4
     low-open [] i = lit< tt
-    low-open (g ∷ gs) i = let a = zone-on-lt p (g .seg) 0 (i g (inl refl)) in let b = r .zones-high in omega arith
+    low-open (g ∷ gs) i = i g (inl refl)
 
     low-next : (l : List Segment) → nextOf p l < limit 5
     low-next [] = lit< tt
     low-next (g ∷ gs) = let a = counted-few p g in let b = r .stripes-high in omega arith
 
-pub restart-fits : (p : Params) (long : Bool) (v : View) (d : ℕ) (fl : List ℕ) → LowReads p (storeAll storeView (restartStores p (named d) (segments p v (named d))) v)
+pub restart-fits : (p : Params) (long : Bool) (v : View) (d : ℕ) (fl : List ℕ) → LowReads p (storeAll storeView (restartStores p v (named d) (segments p v (named d))) v)
     → firstRefusal (restartChecks p long v d (segments p v (named d))) ≡ none → StateFits (restartPlan p v d (segments p v (named d)) fl .memory .state)
 unfolding restartPlan stateSections
 restart-fits p long v d fl h e =
-    let u = storeAll storeView (restartStores p (named d) (segments p v (named d))) v in
+    let u = storeAll storeView (restartStores p v (named d) (segments p v (named d))) v in
     idle-fits p (ranged p (restart-passed p long v d (segments p v (named d)) e .in-range)) u d fl (stamps-low p u h (named d)) (serials-low p u h (named d))

@@ -8,7 +8,7 @@ use lib.ListN.{length, getD, take, drop, set}
 use Rattle.spec.specs.declared.Params.{Params}
 use Rattle.spec.specs.Bytes.{splice}
 use Rattle.spec.specs.Drives.{Chunk, mkChunk, noChunk, Zone, mkZone, noZone, View, zoneAt, chunkOf, zoneOf, driveOf, viewOf, Store, putZone, resetZone, setZone, storeView, Disk, storeDisk, storeAll}
-use Rattle.spec.specs.Drives.{pointerOf}
+use Rattle.spec.specs.Drives.{pointerOf, zonesOf}
 use Rattle.spec.specs.Drives.Store.{put, reset}
 use Rattle.spec.specs.Lists.{flat, pieces, zipped}
 use Rattle.spec.specs.Params.{capacity, unitLen, zoneLen, driveLen, placeOf, placeByte}
@@ -86,9 +86,9 @@ module _ (p : Params) where
   drives-of u w (suc n) (suc d) z im ps h = drives-of u w n d z (drop u im) (drop w ps) (bytes-drop u im h)
 
   -- an image of bytes is seen as bytes
-  pub view-bytes : (im ps : List ℕ) → Bytes im → ViewBytes (viewOf p im ps)
-  unfolding zoneAt viewOf
-  view-bytes im ps h d z = drives-of (driveLen p) (4 * p .Z) (p .N) d z im ps h
+  pub view-bytes : (off im ps : List ℕ) → Bytes im → ViewBytes (viewOf p off im ps)
+  unfolding zoneAt viewOf zonesOf
+  view-bytes off im ps h d z = drives-of (driveLen p) (4 * p .Z) (p .N) d z im ps h
 
   pub view-grounded : (v : View) → ViewBytes v → Grounded p v
   view-grounded v h d z b = (h d z b .1, λ x. h d z b .0)
@@ -106,7 +106,7 @@ StoresBytes ss = (s : Store) → In s ss → StoreBytes s
 setZone-bytes : (v : View) (d z : ℕ) (q : Zone) → ViewBytes v → BytesOfZone q → ViewBytes (setZone v d z q)
 unfolding zoneAt setZone
 setZone-bytes v d z q h g e y =
-    get-set (λ (l : List Zone). (i : ℕ) → BytesOfZone (getD l i noZone)) v d (set (getD v d []) z q) [] h (get-set BytesOfZone (getD v d []) z q noZone (h d) g) e y
+    get-set (λ (l : List Zone). (i : ℕ) → BytesOfZone (getD l i noZone)) (v .zones) d (set (getD (v .zones) d []) z q) [] h (get-set BytesOfZone (getD (v .zones) d []) z q noZone (h d) g) e y
 
 putZone-bytes : (q : Zone) (b s : List ℕ) → BytesOfZone q → Bytes b → Bytes s → BytesOfZone (putZone b s q)
 unfolding putZone

@@ -47,16 +47,17 @@ use Rattle.law_checks.specs.Empty.{empty-asks}
 
 -- ---- how a call ends
 
-module _ (p : Params) (long : Bool) (k : Disk) (m : Memory) (c : Call) where
-  abbrev due! : Decides p long (seen p k) m c
-  due! = decides p long (seen p k) m c
+module _ (p : Params) (off : List ℕ) (long : Bool) (k : Disk) (m : Memory) (c : Call) where
+  abbrev due! : Decides p long (seen p off k) m c
+  due! = decides p long (seen p off k) m c
 
   -- refused, done, or cut
   pub data Ends : Type 0 where
-    ends-refused : (a : Answer) → isRefused a ≡ true → callOn p long k m c ≡ mkAfter a k m (lentBlock c) → Ends
+    ends-refused : (a : Answer) → isRefused a ≡ true → callOn p off long k m c ≡ mkAfter a k m (lentBlock c) → Ends
     ends-done : firstRefusal (due! .checks) ≡ none
-        → callOn p long k m c ≡ mkAfter (due! .plan .answer) (storeAll (storeDisk p) (due! .plan .stores) k) (due! .plan .memory) (due! .plan .block) → Ends
-    ends-cut : firstRefusal (due! .checks) ≡ none → callOn p long k m c ≡ mkAfter Cut (storeAll (storeDisk p) (take (storeCount c) (due! .plan .stores)) k) (cutMemory p m) (lentBlock c) → Ends
+        → callOn p off long k m c ≡ mkAfter (due! .plan .answer) (storeAll (storeDisk p) (due! .plan .stores) k) (due! .plan .memory) (due! .plan .block) → Ends
+    ends-cut : firstRefusal (due! .checks) ≡ none
+        → callOn p off long k m c ≡ mkAfter Cut (storeAll (storeDisk p) (take (storeCount c) (due! .plan .stores)) k) (cutMemory p m) (lentBlock c) → Ends
 
   pub ends : Ends
   unfolding callOn
@@ -65,7 +66,7 @@ module _ (p : Params) (long : Bool) (k : Disk) (m : Memory) (c : Call) where
       run : Verdict → After Disk
       run w = outcome p (storeDisk p) (storeCount c) k m (lentBlock c) w
 
-      limits : (t : Bool) → leb (length (due! .plan .stores)) (storeCount c) ≡ t → firstRefusal (due! .checks) ≡ none → callOn p long k m c ≡ run (due (due! .plan)) → Ends
+      limits : (t : Bool) → leb (length (due! .plan .stores)) (storeCount c) ≡ t → firstRefusal (due! .checks) ≡ none → callOn p off long k m c ≡ run (due (due! .plan)) → Ends
       limits true e q r = ends-done q (r ∙ all! e)
         where
           all! : leb (length (due! .plan .stores)) (storeCount c) ≡ true
@@ -116,22 +117,22 @@ cut-fits : (p : Params) (m : Memory) → StateFits (cutMemory p m .state)
 unfolding cutMemory
 cut-fits p m = fits-zero
 
-pub on-fits : (p : Params) (long : Bool) (k : Disk) (m : Memory) (c : Call) → StateFits (m .state) → LowReads p (seen p k) → RestartFits p long (seen p k) m c
-    → StateFits (callOn p long k m c .memory .state)
-on-fits p long k m c f r h = go (ends p long k m c)
+pub on-fits : (p : Params) (off : List ℕ) (long : Bool) (k : Disk) (m : Memory) (c : Call) → StateFits (m .state) → LowReads p (seen p off k) → RestartFits p long (seen p off k) m c
+    → StateFits (callOn p off long k m c .memory .state)
+on-fits p off long k m c f r h = go (ends p off long k m c)
   where
-    go : Ends p long k m c → StateFits (callOn p long k m c .memory .state)
+    go : Ends p off long k m c → StateFits (callOn p off long k m c .memory .state)
     go (ends-refused a x e) = subst (λ (x : After Disk). StateFits (x .memory .state)) (sym e) f
-    go (ends-done q e) = subst (λ (x : After Disk). StateFits (x .memory .state)) (sym e) (plan-fits p long (seen p k) m c f r h q)
+    go (ends-done q e) = subst (λ (x : After Disk). StateFits (x .memory .state)) (sym e) (plan-fits p long (seen p off k) m c f r h q)
     go (ends-cut q e) = subst (λ (x : After Disk). StateFits (x .memory .state)) (sym e) (cut-fits p m)
 
 -- a finished restart needs nothing of the state that it found
-pub finished-fits : (p : Params) (long : Bool) (k : Disk) (m : Memory) (d n : ℕ) → RestartFits p long (seen p k) m (restart d n)
-    → finished (callOn p long k m (restart d n) .answer) ≡ true → StateFits (callOn p long k m (restart d n) .memory .state)
+pub finished-fits : (p : Params) (off : List ℕ) (long : Bool) (k : Disk) (m : Memory) (d n : ℕ) → RestartFits p long (seen p off k) m (restart d n)
+    → finished (callOn p off long k m (restart d n) .answer) ≡ true → StateFits (callOn p off long k m (restart d n) .memory .state)
 unfolding decides
-finished-fits p long k m d n h t = go (ends p long k m (restart d n))
+finished-fits p off long k m d n h t = go (ends p off long k m (restart d n))
   where
-    go : Ends p long k m (restart d n) → StateFits (callOn p long k m (restart d n) .memory .state)
+    go : Ends p off long k m (restart d n) → StateFits (callOn p off long k m (restart d n) .memory .state)
     go (ends-refused a x e) = clash t (ap (λ (r : After Disk). finished (r .answer)) e ∙ refused-unfinished a x)
     go (ends-done q e) = subst (λ (x : After Disk). StateFits (x .memory .state)) (sym e) (h q)
     go (ends-cut q e) = clash t (ap (λ (r : After Disk). finished (r .answer)) e ∙ cut-unfinished)
@@ -160,19 +161,19 @@ pub record AfterBytes (r : After Disk) : Type 0 where
   pub inflight-bytes : Bytes (r .memory .inflight)
   pub block-bytes : Bytes (r .block)
 
-on-bytes : (p : Params) (long : Bool) (k : Disk) (m : Memory) (c : Call) → Bytes (k .image) → Bytes (m .inflight) → Bytes (lentBlock c) → AfterBytes (callOn p long k m c)
-on-bytes p long k m c h g b = go (ends p long k m c)
+on-bytes : (p : Params) (off : List ℕ) (long : Bool) (k : Disk) (m : Memory) (c : Call) → Bytes (k .image) → Bytes (m .inflight) → Bytes (lentBlock c) → AfterBytes (callOn p off long k m c)
+on-bytes p off long k m c h g b = go (ends p off long k m c)
   where
-    q : PlanBytes (decides p long (seen p k) m c .plan)
-    q = plan-bytes p long (seen p k) m c (view-bytes p (k .image) (k .pointers) h) g b
+    q : PlanBytes (decides p long (seen p off k) m c .plan)
+    q = plan-bytes p long (seen p off k) m c (view-bytes p off (k .image) (k .pointers) h) g b
 
     ss : List Store
-    ss = decides p long (seen p k) m c .plan .stores
+    ss = decides p long (seen p off k) m c .plan .stores
 
     cut! : Bytes (cutMemory p m .inflight)
     cut! = unfold cutMemory in g
 
-    go : Ends p long k m c → AfterBytes (callOn p long k m c)
+    go : Ends p off long k m c → AfterBytes (callOn p off long k m c)
     go (ends-refused a x e) = subst AfterBytes (sym e) (record { image-bytes = h; inflight-bytes = g; block-bytes = b })
     go (ends-done x e) = subst AfterBytes (sym e) (record { image-bytes = stores-disk p k ss h (q .stores-bytes); inflight-bytes = q .inflight-bytes; block-bytes = q .block-bytes })
     go (ends-cut x e) = subst AfterBytes (sym e) (record {
@@ -182,23 +183,25 @@ on-bytes p long k m c h g b = go (ends p long k m c)
     })
 
 -- on an image of bytes a restart reads bytes after its stores, so that its state fits
-bytes-restart : (p : Params) (long : Bool) (k : Disk) (m : Memory) (c : Call) → Bytes (k .image) → Bytes (m .inflight) → RestartFits p long (seen p k) m c
-bytes-restart p long k m (write a b n) h g = tt
-bytes-restart p long k m (land d s n) h g = tt
-bytes-restart p long k m (close n) h g = tt
-bytes-restart p long k m (reclaim n) h g = tt
-bytes-restart p long k m (read a) h g = tt
-bytes-restart p long k m (fill a b) h g = tt
-bytes-restart p long k m (restart d n) h g =
-    λ q. restart-fits p long (seen p k) d (m .inflight)
-    (grounded-reads p _ (view-grounded p _ (stores-view (seen p k) (restartStores p (named d) (segments p (seen p k) (named d))) v (plan! (restarts-bytes p (seen p k) m v g d))))) q
+bytes-restart : (p : Params) (off : List ℕ) (long : Bool) (k : Disk) (m : Memory) (c : Call) → Bytes (k .image) → Bytes (m .inflight) → RestartFits p long (seen p off k) m c
+bytes-restart p off long k m (write a b n) h g = tt
+bytes-restart p off long k m (land d s n) h g = tt
+bytes-restart p off long k m (close n) h g = tt
+bytes-restart p off long k m (reclaim n) h g = tt
+bytes-restart p off long k m (read a) h g = tt
+bytes-restart p off long k m (fill a b) h g = tt
+bytes-restart p off long k m (restart d n) h g =
+    λ q. restart-fits p long (seen p off k) d (m .inflight)
+    (grounded-reads p _ (view-grounded p _ (stores-view (seen p off k) (restartStores p (seen p off k) (named d) (segments p (seen p off k) (named d)))
+    v (plan! (restarts-bytes p (seen p off k) m v g d))))) q
   where
-    v : ViewBytes (seen p k)
-    v = view-bytes p (k .image) (k .pointers) h
+    v : ViewBytes (seen p off k)
+    v = view-bytes p off (k .image) (k .pointers) h
 
-    plan! : PlanBytes (restartPlan p (seen p k) d (segments p (seen p k) (named d)) (m .inflight)) → StoresBytes (restartStores p (named d) (segments p (seen p k) (named d)))
+    plan! : PlanBytes (restartPlan p (seen p off k) d (segments p (seen p off k) (named d)) (m .inflight))
+        → StoresBytes (restartStores p (seen p off k) (named d) (segments p (seen p off k) (named d)))
     plan! x = unfold restartPlan in x .stores-bytes
-bytes-restart p long k m (rebuild d n) h g = tt
+bytes-restart p off long k m (rebuild d n) h g = tt
 
 -- ---- on the lent bytes
 
@@ -209,26 +212,27 @@ pub record LentBytes (l : Lent) : Type 0 where
   pub state-bytes : Bytes (l .state)
 
 module _ (p : Params) (l : Lent) (c : Call) (h : LentBytes l) (b : Bytes (lentBlock c)) where
-  fits-on : (long : Bool) → StateFits (callOn p long (lentDisk l) (lentMemory l) c .memory .state)
+  fits-on : (long : Bool) → StateFits (callOn p (l .offline) long (lentDisk l) (lentMemory l) c .memory .state)
   unfolding lentDisk lentMemory
-  fits-on long = on-fits p long (lentDisk l) (lentMemory l) c (fits-stateOf (l .state) (h .state-bytes))
-      (grounded-reads p _ (view-grounded p _ (view-bytes p (l .image) (l .pointers) (h .image-bytes)))) (bytes-restart p long (lentDisk l) (lentMemory l) c (h .image-bytes) (h .inflight-bytes))
+  fits-on long = on-fits p (l .offline) long (lentDisk l) (lentMemory l) c (fits-stateOf (l .state) (h .state-bytes))
+      (grounded-reads p _ (view-grounded p _ (view-bytes p (l .offline) (l .image) (l .pointers) (h .image-bytes))))
+      (bytes-restart p (l .offline) long (lentDisk l) (lentMemory l) c (h .image-bytes) (h .inflight-bytes))
 
   -- the state that every call leaves fits its bytes
-  pub call-fits : StateFits (callDisk p (lentDisk l) (lentMemory l) c .memory .state)
+  pub call-fits : StateFits (callDisk p (l .offline) (lentDisk l) (lentMemory l) c .memory .state)
   unfolding callDisk
-  call-fits = fits-on (lentOk p (lentDisk l) (lentMemory l))
+  call-fits = fits-on (lentOk p (l .offline) (lentDisk l) (lentMemory l))
 
   -- and all that it leaves is bytes again
   pub call-bytes : LentBytes (callBytes p l c .lent) × Bytes (callBytes p l c .block)
   unfolding callBytes leftBy lentAll lentDisk lentMemory
-  call-bytes = go (isRefused (r .answer)) (on-bytes p long (lentDisk l) (lentMemory l) c (h .image-bytes) (h .inflight-bytes) b)
+  call-bytes = go (isRefused (r .answer)) (on-bytes p (l .offline) long (lentDisk l) (lentMemory l) c (h .image-bytes) (h .inflight-bytes) b)
     where
       long : Bool
       long = lentLong p l
 
       r : After Disk
-      r = callOn p long (lentDisk l) (lentMemory l) c
+      r = callOn p (l .offline) long (lentDisk l) (lentMemory l) c
 
       go : (t : Bool) → AfterBytes r → LentBytes (leftBy l r t .lent) × Bytes (leftBy l r t .block)
       go true a = (h, a .block-bytes)
@@ -236,42 +240,43 @@ module _ (p : Params) (l : Lent) (c : Call) (h : LentBytes l) (b : Bytes (lentBl
 
 -- ---- simulation
 
-pub refusal-keeps : (p : Params) (k : Disk) (m : Memory) (c : Call) → isRefused (callDisk p k m c .answer) ≡ true → callDisk p k m c ≡ mkAfter (callDisk p k m c .answer) k m (lentBlock c)
+pub refusal-keeps : (p : Params) (off : List ℕ) (k : Disk) (m : Memory) (c : Call) → isRefused (callDisk p off k m c .answer) ≡ true
+    → callDisk p off k m c ≡ mkAfter (callDisk p off k m c .answer) k m (lentBlock c)
 unfolding lentBlock
-refusal-keeps p k m (write a b n) = write-keeps p k m a b n
-refusal-keeps p k m (land d s n) = land-keeps p k m d s n
-refusal-keeps p k m (close n) = close-keeps p k m n
-refusal-keeps p k m (reclaim n) = reclaim-keeps p k m n
-refusal-keeps p k m (read a) = read-keeps p k m a
-refusal-keeps p k m (fill a b) = fill-keeps p k m a b
-refusal-keeps p k m (restart d n) = restart-keeps p k m d n
-refusal-keeps p k m (rebuild d n) = rebuild-keeps p k m d n
+refusal-keeps p off k m (write a b n) = write-keeps p off k m a b n
+refusal-keeps p off k m (land d s n) = land-keeps p off k m d s n
+refusal-keeps p off k m (close n) = close-keeps p off k m n
+refusal-keeps p off k m (reclaim n) = reclaim-keeps p off k m n
+refusal-keeps p off k m (read a) = read-keeps p off k m a
+refusal-keeps p off k m (fill a b) = fill-keeps p off k m a b
+refusal-keeps p off k m (restart d n) = restart-keeps p off k m d n
+refusal-keeps p off k m (rebuild d n) = rebuild-keeps p off k m d n
 
 -- what a call of the host leaves, decoded
 abbrev pub decoded : Left → After Disk
 decoded r = mkAfter (r .answer) (lentDisk (r .lent)) (lentMemory (r .lent)) (r .block)
 
 -- the answer is the same in any case
-pub answer-same : (p : Params) (l : Lent) (c : Call) → length (l .state) ≡ stateLen → callBytes p l c .answer ≡ callDisk p (lentDisk l) (lentMemory l) c .answer
-answer-same p l c e = ap (λ (x : Left). x .answer) (bytes-long p l c e) ∙ go (isRefused (callDisk p (lentDisk l) (lentMemory l) c .answer))
+pub answer-same : (p : Params) (l : Lent) (c : Call) → length (l .state) ≡ stateLen → callBytes p l c .answer ≡ callDisk p (l .offline) (lentDisk l) (lentMemory l) c .answer
+answer-same p l c e = ap (λ (x : Left). x .answer) (bytes-long p l c e) ∙ go (isRefused (callDisk p (l .offline) (lentDisk l) (lentMemory l) c .answer))
   where
-    go : (t : Bool) → leftBy l (callDisk p (lentDisk l) (lentMemory l) c) t .answer ≡ callDisk p (lentDisk l) (lentMemory l) c .answer
+    go : (t : Bool) → leftBy l (callDisk p (l .offline) (lentDisk l) (lentMemory l) c) t .answer ≡ callDisk p (l .offline) (lentDisk l) (lentMemory l) c .answer
     go true = unfold leftBy in refl
     go false = unfold leftBy in refl
 
 -- where the state has its length and what is left fits, a call on bytes is the call on the decoded state
-module _ (p : Params) (l : Lent) (c : Call) (e : length (l .state) ≡ stateLen) (f : StateFits (callDisk p (lentDisk l) (lentMemory l) c .memory .state)) where
+module _ (p : Params) (l : Lent) (c : Call) (e : length (l .state) ≡ stateLen) (f : StateFits (callDisk p (l .offline) (lentDisk l) (lentMemory l) c .memory .state)) where
   abbrev done : After Disk
-  done = callDisk p (lentDisk l) (lentMemory l) c
+  done = callDisk p (l .offline) (lentDisk l) (lentMemory l) c
 
-  pub simulates : decoded (callBytes p l c) ≡ callDisk p (lentDisk l) (lentMemory l) c
+  pub simulates : decoded (callBytes p l c) ≡ callDisk p (l .offline) (lentDisk l) (lentMemory l) c
   simulates = ap decoded (bytes-long p l c e) ∙ go (isRefused (done .answer)) refl
     where
       go : (t : Bool) → isRefused (done .answer) ≡ t → decoded (leftBy l done t) ≡ done
-      go true q = same ∙ sym (refusal-keeps p (lentDisk l) (lentMemory l) c q)
+      go true q = same ∙ sym (refusal-keeps p (l .offline) (lentDisk l) (lentMemory l) c q)
         where
           same : decoded (leftBy l done true) ≡ mkAfter (done .answer) (lentDisk l) (lentMemory l) (lentBlock c)
-          same = unfold leftBy in ap (λ (x : After Disk). mkAfter (done .answer) (lentDisk l) (lentMemory l) (x .block)) (refusal-keeps p (lentDisk l) (lentMemory l) c q)
+          same = unfold leftBy in ap (λ (x : After Disk). mkAfter (done .answer) (lentDisk l) (lentMemory l) (x .block)) (refusal-keeps p (l .offline) (lentDisk l) (lentMemory l) c q)
       go false q = unfold leftBy lentAll lentDisk lentMemory in
           ap (λ (s : State). mkAfter (done .answer) (done .drives) (mkMemory s (done .memory .addresses) (done .memory .compact) (done .memory .inflight)) (done .block))
           (stateOf-stateBytes (done .memory .state) (state-sections-counted (done .memory .state) f) (fitting (done .memory .state) f))
@@ -286,5 +291,5 @@ module _ (p : Params) (l : Lent) (c : Call) (e : length (l .state) ≡ stateLen)
 
 -- on lent bytes: image, in-flight buffer, state and block hold bytes, and the state has its length
 pub simulates-bytes : (p : Params) (l : Lent) (c : Call) → LentBytes l → Bytes (lentBlock c) → length (l .state) ≡ stateLen
-    → decoded (callBytes p l c) ≡ callDisk p (lentDisk l) (lentMemory l) c
+    → decoded (callBytes p l c) ≡ callDisk p (l .offline) (lentDisk l) (lentMemory l) c
 simulates-bytes p l c h b e = simulates p l c e (call-fits p l c h b)

@@ -94,11 +94,11 @@ shaped-grounded p v sh d z b = go (decLt d (p .N)) (decLt z (p .Z))
     far-zone l e n = List·getD-eq-default l noZone {n = z} (omega arith)
 
     far-drive : (d < p .N → ⊥) → zoneAt v d z ≡ noZone
-    far-drive n = unfold zoneAt in ap (λ (l : List Zone). getD l z noZone) (List·getD-eq-default v [] {n = d} (let e = sh .sized .drives-long in omega arith))
+    far-drive n = unfold zoneAt in ap (λ (l : List Zone). getD l z noZone) (List·getD-eq-default (v .zones) [] {n = d} (let e = sh .sized .drives-long in omega arith))
 
     go : Dec (d < p .N) → Dec (z < p .Z) → At (zoneAt v d z .blocks)
     go (yes hd) (yes hz) = inside (sh .zone-ok d z hd hz) (decLt b (capacity p))
-    go (yes hd) (no hz) = outside (unfold zoneAt in far-zone (getD v d []) (sh .sized .zones-long d hd) hz)
+    go (yes hd) (no hz) = outside (unfold zoneAt in far-zone (getD (v .zones) d []) (sh .sized .zones-long d hd) hz)
     go (no hd) c = outside (far-drive hd)
 
 -- ---- what a restart takes from them

@@ -83,7 +83,7 @@ module _ (p : Params) (l : Lent) where
   verdict-alike : (c : Call) → crowded p l c ≡ false → decides fullFirst c ≡ decides waitFirst c
   unfolding crowded verdictIn writeVerdictIn writeChecksIn reclaimVerdictIn reclaimChecksIn
   verdict-alike (write a [] n) h = refl
-  verdict-alike (write a (x ∷ b) n) h = decided-alike (writeBefore p (lentLong p l) memory a (x ∷ b)) _ (mustWait p (memory .state)) (writeFull p view (memory .state)) _ h
+  verdict-alike (write a (x ∷ b) n) h = decided-alike (writeBefore p (lentLong p l) view memory a (x ∷ b)) _ (mustWait p (memory .state)) (writeFull p view (memory .state)) _ h
   verdict-alike (land d s n) h = refl
   verdict-alike (close n) h = refl
   verdict-alike (reclaim n) h =
@@ -97,7 +97,7 @@ module _ (p : Params) (l : Lent) where
   verdict-both : (c : Call) → crowded p l c ≡ true → (decides waitFirst c ≡ refused (Refused 7)) × (decides fullFirst c ≡ refused (Refused 8))
   unfolding crowded verdictIn writeVerdictIn writeChecksIn reclaimVerdictIn reclaimChecksIn
   verdict-both (write a [] n) h = clash h refl
-  verdict-both (write a (x ∷ b) n) h = decided-both (writeBefore p (lentLong p l) memory a (x ∷ b)) _ (mustWait p (memory .state)) (writeFull p view (memory .state)) _ h
+  verdict-both (write a (x ∷ b) n) h = decided-both (writeBefore p (lentLong p l) view memory a (x ∷ b)) _ (mustWait p (memory .state)) (writeFull p view (memory .state)) _ h
   verdict-both (land d s n) h = clash h refl
   verdict-both (close n) h = clash h refl
   verdict-both (reclaim n) h =

@@ -30,12 +30,12 @@ use Rattle.proof_bytes.specs.Reads.{grounded-reads, shaped-grounded, sta
 use Rattle.proof_bytes.specs.Fitted.{idle-fits}
 use Rattle.proof_bytes.specs.Kept.{RestartFits}
 
-module _ (p : Params) (k : Disk) (m : Memory) (d : ℕ) where
+module _ (p : Params) (off : List ℕ) (k : Disk) (m : Memory) (d : ℕ) where
   abbrev v : View
-  v = seen p k
+  v = seen p off k
 
   abbrev ss : List Store
-  ss = restartStores p (named d) (segments p v (named d))
+  ss = restartStores p v (named d) (segments p v (named d))
 
   -- a drive is missing: nothing is stored
   lost-fits : Ranged p → Shaped p v → eqb (named d) 0 ≡ false → StateFits (restartMemory p (storeAll storeView ss v) (named d) (m .inflight) .state)
@@ -45,15 +45,15 @@ module _ (p : Params) (k : Disk) (m : Memory) (d : ℕ) where
       subst (λ (u : View). StateFits (restartMemory p u (named d) (m .inflight) .state)) (sym (ap (λ (l : List Store). storeAll storeView l v) none! ∙ same))
       (idle-fits p r v d (m .inflight) (stamps-low p v h (named d)) (serials-low p v h (named d)))
     where
-      none! : restartStores p (named d) (segments p v (named d)) ≡ []
+      none! : restartStores p v (named d) (segments p v (named d)) ≡ []
       none! = unfold restartStores in
-          cond-false (eqb (named d) 0) (dropStores p (segments p v (named d)) ++ flat (mendStores p (segments p v (named d))) (unsealed (segments p v (named d)))) [] q
+          cond-false (eqb (named d) 0) (dropStores p v (segments p v (named d)) ++ flat (mendStores p v (segments p v (named d))) (unsealed (segments p v (named d)))) [] q
 
       same : storeAll storeView [] v ≡ v
       same = unfold storeAll in refl
 
   -- none is missing: what holds after the restart bounds stamp and serial
-  well-fits : Ranged p → (k′ : Disk) → Well p k′ (restartMemory p (storeAll storeView ss v) (named d) (m .inflight))
+  well-fits : Ranged p → (k′ : Disk) → Well p off k′ (restartMemory p (storeAll storeView ss v) (named d) (m .inflight))
       → StateFits (restartMemory p (storeAll storeView ss v) (named d) (m .inflight) .state)
   unfolding stateSections
   well-fits r k′ w = idle-fits p r (storeAll storeView ss v) d (m .inflight) (stamp! (w .healthy .stamp-fits)) (serial! (w .healthy .serial-fits))
@@ -68,28 +68,28 @@ module _ (p : Params) (k : Disk) (m : Memory) (d : ℕ) where
       serial! x = unfold restartMemory idleState in x
 
   -- on drives whose headers, records and footers hold bytes
-  pub restart-shaped : (Whole p k → Shaped p v) → firstRefusal (startChecks p k m d) ≡ none → StateFits (startPlan p k m d .memory .state)
+  pub restart-shaped : (Whole p k → Shaped p v) → firstRefusal (startChecks p off k m d) ≡ none → StateFits (startPlan p off k m d .memory .state)
   unfolding restartPlan
   restart-shaped sh c =
-      let b = start-begins p k m d c in
+      let b = start-begins p off k m d c in
       let r = ranged p (b .in-range!) in
-      go r (sh (whole-of p k m (b .lent!))) (run-started p k m d sh b)
+      go r (sh (whole-of p off k m (b .lent!))) (run-started p off k m d sh b)
     where
-      go : Ranged p → Shaped p v → Run p (storeAll (storeDisk p) (startPlan p k m d .stores) k) (startPlan p k m d .memory) → StateFits (startPlan p k m d .memory .state)
+      go : Ranged p → Shaped p v → Run p off (storeAll (storeDisk p) (startPlan p off k m d .stores) k) (startPlan p off k m d .memory) → StateFits (startPlan p off k m d .memory .state)
       go r s u = ⊎-elim
-          (λ (x : LostDrive p (storeAll (storeDisk p) (startPlan p k m d .stores) k) (startPlan p k m d .memory)).
+          (λ (x : LostDrive p off (storeAll (storeDisk p) (startPlan p off k m d .stores) k) (startPlan p off k m d .memory)).
           let e : named (x .which) ≡ named d = sym (x .names-it) ∙ memory-missing p (storeAll storeView ss v) (named d) (m .inflight) in
           lost-fits r s (ap (λ (n : ℕ). eqb n 0) (sym e) ∙ named-some p r (x .which) (x .which-low)))
-          (λ (x : Well p (storeAll (storeDisk p) (startPlan p k m d .stores) k) (startPlan p k m d .memory)). well-fits r (storeAll (storeDisk p) (startPlan p k m d .stores) k) x)
+          (λ (x : Well p off (storeAll (storeDisk p) (startPlan p off k m d .stores) k) (startPlan p off k m d .memory)). well-fits r (storeAll (storeDisk p) (startPlan p off k m d .stores) k) x)
           (u .mode)
 
 -- every call of a run
-pub run-restart : (p : Params) (k : Disk) (m : Memory) (c : Call) → (Whole p k → Shaped p (seen p k)) → RestartFits p (lentOk p k m) (seen p k) m c
-run-restart p k m (write a b n) sh = tt
-run-restart p k m (land d s n) sh = tt
-run-restart p k m (close n) sh = tt
-run-restart p k m (reclaim n) sh = tt
-run-restart p k m (read a) sh = tt
-run-restart p k m (fill a b) sh = tt
-run-restart p k m (restart d n) sh = λ q. restart-shaped p k m d sh q
-run-restart p k m (rebuild d n) sh = tt
+pub run-restart : (p : Params) (off : List ℕ) (k : Disk) (m : Memory) (c : Call) → (Whole p k → Shaped p (seen p off k)) → RestartFits p (lentOk p off k m) (seen p off k) m c
+run-restart p off k m (write a b n) sh = tt
+run-restart p off k m (land d s n) sh = tt
+run-restart p off k m (close n) sh = tt
+run-restart p off k m (reclaim n) sh = tt
+run-restart p off k m (read a) sh = tt
+run-restart p off k m (fill a b) sh = tt
+run-restart p off k m (restart d n) sh = λ q. restart-shaped p off k m d sh q
+run-restart p off k m (rebuild d n) sh = tt

@@ -13,22 +13,23 @@ use Rattle.spec.specs.declared.Answer.the-variants.{Rebuilt}
 use Rattle.spec.specs.Calls.{Plan, mkPlan}
 use Rattle.spec.specs.Closing.{padded, closePlan}
 use Rattle.spec.specs.Counts.{paddingAddress}
-use Rattle.spec.specs.Drives.{Chunk, noChunk, Zone, noZone, View, zoneAt, chunkAt, storeView, zoneOn, placeSegment, sparesOf, footersOf, zeroSpare, headerStores, footerStores, noSeg, zonesIn}
-use Rattle.spec.specs.Drives.{resetStores, emptySegs}
+use Rattle.spec.specs.Drives.{Chunk, noChunk, Zone, noZone, View, zoneAt, chunkAt, storeView, zoneOn, sparesOf, footersOf, zeroSpare, headerStores, footerStores, zonesIn, goodZones}
+use Rattle.spec.specs.Drives.{resetStores, newSeg}
 use Rattle.spec.specs.Drives.Store.{put, reset}
 use Rattle.spec.specs.Landing.{slotOf, seals, flightRec, sealStores, landStore, landPlan}
 use Rattle.spec.specs.Layout.{headerBlock, recordBytes, footerBlock, mkRec, dataPosition, isData, dataDrives, parityPosition}
 use Rattle.spec.specs.Lists.{upFrom, below, flat, firstOr, isIn, isNil, keep, Opt}
-use Rattle.spec.specs.Memory.{Memory, stripeIn, filledIn, openSegment, fillingSlot, isFull, shownAt, addEntry, slotByte, slotBlock, setSlotBlock, setSlotParity}
+use Rattle.spec.specs.Memory.{Memory, stripeIn, filledIn, fillingSlot, isFull, shownAt, addEntry, slotByte, slotBlock, setSlotBlock, setSlotParity}
 use Rattle.spec.specs.Params.{dataCount, drivesOf, footers, named, placeBlock, placeZone, placeDrive}
 use Rattle.spec.specs.Parity.{Piece, mkPiece, encodeBlock, encodePiece, decodePiece}
 use Rattle.spec.specs.Read.{Found, storedAt, decodedAt, readPiece}
 use Rattle.spec.specs.Read.Found.{nowhere, here, away}
-use Rattle.spec.specs.Rebuild.{rebuiltZone, rebuildStores}
+use Rattle.spec.specs.Rebuild.{rebuiltZone, rebuildStores, bySerial}
 use Rattle.spec.specs.Reclaim.{Victim, victimSegment, victimLive, resetPlan, copyPlan}
-use Rattle.spec.specs.Restart.{freeSegs, isWhole, isRagged, missingFooters, renumbered, movedPieces, movedOn, movedStripe, movedStripes, rewriteStores, dropStores, mendStores, restartStores}
-use Rattle.spec.specs.Restart.{restartMemory, restartPlan}
-use Rattle.spec.specs.Segments.{remaining, Segment, segmentOf, segments, counted, offsetOn, storedPiece, pieceOf, putPiece, greatestSerial, unsealed}
+use Rattle.spec.specs.Restart.{isWhole, isRagged, missingFooters, renumbered, movedPieces, movedOn, movedStripe, movedStripes, rewriteStores, dropStores, mendStores, restartStores}
+use Rattle.spec.specs.Restart.{restartMemory, restartPlan, droppedSerials, freeSeg}
+use Rattle.spec.specs.Segments.{remaining, Segment, segmentOf, segments, counted, offsetOn, storedPiece, pieceOf, putPiece, greatestSerial, unsealed, openSegment, placeSegment}
+use Rattle.spec.specs.Segments.{bearing}
 use Rattle.spec.specs.Write.{placed, slotFor, opens, openedBy, begunBy, sending, writePlan}
 use Rattle.law_code.specs.Chunks.{chunk-stored, chunk-decoded, moved-is-data, moved-is-parity}
 use Rattle.law_code.specs.Code.{encode-bytes, encode-apart, decode-bytes, decode-apart}
@@ -43,6 +44,7 @@ use Rattle.proof_bytes.specs.Images.{bytes-splice, get-map, BytesOfZone,
 use Rattle.proof_bytes.specs.Images.{stores-bytes-append}
 use Rattle.proof_bytes.specs.Images.{stores-cond, stores-map, stores-flat}
 use Rattle.spec.specs.declared.Seg.{Seg}
+use Rattle.law_drives.specs.Rebuilding.{rebuilding-serial-in}
 
 -- ---- headers, footers, resets
 
@@ -148,22 +150,23 @@ module _ (p : Params) (g : Segment) (h : SegBytes g) where
   unfolding missingFooters
   missing-bytes = stores-flat _ (drivesOf p) (λ d m. footers-bytes p d (zoneOn (g .seg) d) (getD (g .zonesBy) d noZone) _ _ (h d))
 
-  mend-bytes : (gs : List Segment) → StoresBytes (mendStores p gs g)
+  mend-bytes : (v : View) (gs : List Segment) → StoresBytes (mendStores p v gs g)
   unfolding mendStores
-  mend-bytes gs =
-      stores-cond (isWhole p g) (missingFooters p g) (cond (isRagged p g) (rewriteStores p g (firstOr noSeg (freeSegs p gs)) (suc (greatestSerial gs))) []) missing-bytes
-      (stores-cond (isRagged p g) (rewriteStores p g (firstOr noSeg (freeSegs p gs)) (suc (greatestSerial gs))) []
-      (rewrite-bytes (firstOr noSeg (freeSegs p gs)) (suc (greatestSerial gs))) stores-bytes-none)
+  mend-bytes v gs =
+      stores-cond (isWhole p g) (missingFooters p g) (cond (isRagged p g) (rewriteStores p g (freeSeg p v gs) (suc (greatestSerial gs))) []) missing-bytes
+      (stores-cond (isRagged p g) (rewriteStores p g (freeSeg p v gs) (suc (greatestSerial gs))) []
+      (rewrite-bytes (freeSeg p v gs) (suc (greatestSerial gs))) stores-bytes-none)
 
-pub restart-bytes : (p : Params) (gone : ℕ) (gs : List Segment) → ((g : Segment) → In g gs → SegBytes g) → StoresBytes (restartStores p gone gs)
+pub restart-bytes : (p : Params) (v : View) (gone : ℕ) (gs : List Segment) → ((g : Segment) → In g gs → SegBytes g) → StoresBytes (restartStores p v gone gs)
 unfolding restartStores dropStores unsealed
-restart-bytes p gone gs h =
-    let a = flat (resetStores p) (freeSegs p gs) in
+restart-bytes p v gone gs h =
+    let a = flat (λ r. flat (λ d. map (reset d) (bearing p v d r)) (drivesOf p)) (droppedSerials p v gs) in
     let us = keep (λ (g : Segment). not (g .full)) gs in
-    let b = flat (mendStores p gs) us in
+    let b = flat (mendStores p v gs) us in
     stores-cond (eqb gone 0) (a ++ b) []
-    (stores-bytes-append a b (stores-flat (resetStores p) (freeSegs p gs) (λ z m. resets-bytes p z))
-    (stores-flat (mendStores p gs) us (λ g m. mend-bytes p g (h g (keep-in (λ (g : Segment). not (g .full)) gs g m .0)) gs)))
+    (stores-bytes-append a b (stores-flat (λ r. flat (λ d. map (reset d) (bearing p v d r)) (drivesOf p)) (droppedSerials p v gs)
+    (λ r m. stores-flat (λ d. map (reset d) (bearing p v d r)) (drivesOf p) (λ d i. stores-map (reset d) (bearing p v d r) (λ z j. tt))))
+    (stores-flat (mendStores p v gs) us (λ g m. mend-bytes p g (h g (keep-in (λ (g : Segment). not (g .full)) gs g m .0)) v gs)))
     stores-bytes-none
 
 -- ---- rebuild
@@ -189,10 +192,10 @@ rebuilt-bytes p d g h =
     )))
     stores-bytes-none)
 
-rebuild-bytes : (p : Params) (d : ℕ) (gs : List Segment) → ((g : Segment) → In g gs → SegBytes g) → StoresBytes (rebuildStores p d gs)
+rebuild-bytes : (p : Params) (v : View) (d : ℕ) (gs : List Segment) → ((g : Segment) → In g gs → SegBytes g) → StoresBytes (rebuildStores p v d gs)
 unfolding rebuildStores
-rebuild-bytes p d gs h = stores-bytes-append (map (λ z. reset d z) (below (p .Z))) (flat (rebuiltZone p d) gs)
-    (stores-map (λ z. reset d z) (below (p .Z)) (λ z m. tt)) (stores-flat (rebuiltZone p d) gs (λ g m. rebuilt-bytes p d g (h g m)))
+rebuild-bytes p v d gs h = stores-bytes-append (map (reset d) (goodZones p (v .offline) d)) (flat (rebuiltZone p d) (bySerial gs))
+    (stores-map (reset d) (goodZones p (v .offline) d) (λ z m. tt)) (stores-flat (rebuiltZone p d) (bySerial gs) (λ g m. rebuilt-bytes p d g (h g (rebuilding-serial-in gs g m))))
 
 -- ---- landing
 
@@ -201,8 +204,8 @@ unfolding landPlan
 landing-bytes p v m d s h g =
     let st = m .state in
     let w = landStore p v m d s in
-    stores-bytes-cons w (cond (seals p st (slotOf st s) d) (sealStores p (storeView w v) (openSegment p st)) []) one
-    (stores-cond (seals p st (slotOf st s) d) (sealStores p (storeView w v) (openSegment p st)) [] (seal (storeView w v) (openSegment p st) (store-view v w h one)) stores-bytes-none)
+    stores-bytes-cons w (cond (seals p st (slotOf st s) d) (sealStores p (storeView w v) (openSegment p v st)) []) one
+    (stores-cond (seals p st (slotOf st s) d) (sealStores p (storeView w v) (openSegment p v st)) [] (seal (storeView w v) (openSegment p v st) (store-view v w h one)) stores-bytes-none)
   where
     one : StoreBytes (landStore p v m d s)
     one = unfold landStore slotBlock in (bytes-part (slotByte p (slotOf (m .state) s) d) (p .B) (m .inflight) g, bytes-record (flightRec p (m .state) (slotOf (m .state) s) d))
@@ -227,13 +230,13 @@ placed-bytes p st fl i a t w b h g =
 module _ (p : Params) (v : View) (st : State) (fl : List ℕ) (a t w : ℕ) (b : List ℕ) where
   sending-inflight : Bytes fl → Bytes b → Bytes (sending p v st fl a t w b .inflight)
   unfolding sending
-  sending-inflight h g = placed-bytes p (begunBy p st (openedBy p v st)) fl (slotFor p st) a t w b h g
+  sending-inflight h g = placed-bytes p (begunBy p st (openedBy p st)) fl (slotFor p st) a t w b h g
 
   sending-bytes : StoresBytes (sending p v st fl a t w b .stores)
   unfolding sending
   sending-bytes =
-      stores-cond (opens p st) (headerStores p (firstOr noSeg (emptySegs p v)) (suc (st .serial .0)) 0) []
-      (headers-bytes p (firstOr noSeg (emptySegs p v)) (suc (st .serial .0)) 0) stores-bytes-none
+      stores-cond (opens p st) (headerStores p (newSeg p v) (suc (st .serial .0)) 0) []
+      (headers-bytes p (newSeg p v) (suc (st .serial .0)) 0) stores-bytes-none
 
 padded-bytes : (p : Params) (i k : ℕ) (st : State) (fl : List ℕ) → Bytes fl → Bytes (padded p i k st fl .inflight)
 unfolding padded
@@ -294,7 +297,7 @@ module _ (p : Params) (v : View) (m : Memory) (h : ViewBytes v) (g : Bytes (m .i
   pub found-bytes : (gone : ℕ) (cs : List ℕ) (f : Found) → Bytes (readPiece p v gone cs f .block)
   unfolding readPiece storedAt chunkAt
   found-bytes gone cs nowhere = bytes-zeros (p .B)
-  found-bytes gone cs (here q) = h (placeDrive p q) (zoneOn (placeSegment p q) (placeDrive p q)) (1 + (placeBlock p q - 1)) .0
+  found-bytes gone cs (here q) = h (placeDrive p q) (zoneOn (placeSegment p v gone q) (placeDrive p q)) (1 + (placeBlock p q - 1)) .0
   found-bytes gone cs (away q) = subst (λ (y : Piece). Bytes (y .block)) (sym (is ∙ decode-apart p gone s d at))
       (decode-bytes p gone s d (λ e. at e .block) (λ e l n. h e (zoneOn z e) (1 + firstOr 0 (shownAt p v cs e (zoneOn z e) s)) .0))
     where
@@ -302,7 +305,7 @@ module _ (p : Params) (v : View) (m : Memory) (h : ViewBytes v) (g : Bytes (m .i
       d = placeDrive p q
 
       z : Seg
-      z = placeSegment p q
+      z = placeSegment p v gone q
 
       s : ℕ
       s = placeBlock p q - 1
@@ -310,20 +313,20 @@ module _ (p : Params) (v : View) (m : Memory) (h : ViewBytes v) (g : Bytes (m .i
       at : ℕ → Piece
       at e = storedAt p v gone e z (firstOr 0 (shownAt p v cs e (zoneOn z e) s))
 
-      is : decodedAt p v gone cs (placeDrive p q) (placeSegment p q) (placeBlock p q - 1) ≡ decodePiece p gone s d at
+      is : decodedAt p v gone cs (placeDrive p q) (placeSegment p v gone q) (placeBlock p q - 1) ≡ decodePiece p gone s d at
       is = unfold decodedAt in refl
 
   pub restarts-bytes : (d : ℕ) → PlanBytes (restartPlan p v d (segments p v (named d)) (m .inflight))
   unfolding restartPlan restartMemory
   restarts-bytes d = record {
-    stores-bytes = restart-bytes p (named d) (segments p v (named d)) (segments-bytes p v (named d) h);
+    stores-bytes = restart-bytes p v (named d) (segments p v (named d)) (segments-bytes p v (named d) h);
     inflight-bytes = g;
     block-bytes = bytes-nil;
   }
 
-  pub rebuilds-bytes : (d : ℕ) → PlanBytes (mkPlan (rebuildStores p d (segments p v (named d))) Rebuilt m [])
+  pub rebuilds-bytes : (d : ℕ) → PlanBytes (mkPlan (rebuildStores p v d (segments p v (named d))) Rebuilt m [])
   rebuilds-bytes d = record {
-    stores-bytes = rebuild-bytes p d (segments p v (named d)) (segments-bytes p v (named d) h);
+    stores-bytes = rebuild-bytes p v d (segments p v (named d)) (segments-bytes p v (named d) h);
     inflight-bytes = g;
     block-bytes = bytes-nil;
   }

@@ -26,7 +26,6 @@ use Rattle.proof_crash_machine.specs.History.{State as m-State, Claim}
 use Rattle.proof_crash_machine.specs.Val.{Val}
 use Rattle.proof_crash_machine.specs.Mask.{Mask, count}
 use Rattle.proof_crash_items.specs.Cands.{reads}
-use Rattle.proof_crash_items.specs.Items.{itemsIn}
 use Rattle.proof_crash_items.specs.Refuse.{not-refused}
 use Rattle.proof_crash_items.specs.Ranges.{parities, parOf}
 use Rattle.proof_crash_items.specs.Named.{never-beyond}
@@ -38,42 +37,45 @@ use Rattle.proof_crash.specs.Stand.{MarkOk, Stands, Holds, leaves, hist,
 
 -- ---- what is claimed of it
 
-abbrev pub Booted : (p : Params) → Ranged p → Hist → Call → After Disk → Type 0
-Booted p h s c r = RestartOk p s (r .answer) (leaves s c r) × Holds p h (leaves s c r)
+abbrev pub Booted : (p : Params) → Ranged p → List ℕ → Hist → Call → After Disk → Type 0
+Booted p h off s c r = RestartOk p off s (r .answer) (leaves s c r) × Holds p h off (leaves s c r)
 
-module _ (p : Params) (h : Ranged p) (s : Hist) (n : ℕ) (x : Stands p h s n) where
+module _ (p : Params) (h : Ranged p) (off : List ℕ) (s : Hist) (n : ℕ) (x : Stands p h off s n) where
   abbrev v₀ : View
-  v₀ = seen p (s .world .disk)
+  v₀ = seen p off (s .world .disk)
 
   abbrev σ : m-State
-  σ = mst (x .g) (itemsIn p v₀) (x .a) (x .c) (x .m)
+  σ = mst (x .g) (x .u) (x .a) (x .c) (x .m)
 
-  pub stands-linked : Linked p h (seen p (s .world .disk)) (x .g) (x .a) (x .c) (x .m)
-  stands-linked = record { shape = x .reached .shape; bytes = x .reached .bytes; inv = x .reached .inv }
+  pub stands-linked : Linked p h off (seen p off (s .world .disk)) (x .u) (x .g) (x .a) (x .c) (x .m)
+  stands-linked = record { tie = x .reached .tie; inv = x .reached .inv }
 
   pub stands-known : (y : Val) → InV y (x .g .sent) → (0 < y .stamp) × (y .addr < p .L)
   stands-known y i = x .reached .inv .ones y i
 
   -- it finished in world w, and reads K
   module _ (w : World) (m : Mask) (few : count (p .N) m ≤ parities p) (K : ℕ → ℕ)
-      (cl : Claim (parOf p h) (mst (x .g) (itemsIn p (seen p (s .world .disk))) (x .a) (x .c) (x .m)) m K) (sh : (i : ℕ) → i < p .L → Shows p (x .g .sent) K i (seenAt p w i)) where
-    pub boot-reads : (i : ℕ) → i < p .L → ReadOk (map forget (s .sends)) i (seenAt p w i)
-    boot-reads i l = read-ok p h σ (x .T) m K (map forget (s .sends)) (x .reached .inv) (x .reached .tracked) cl (forget-logged p (x .a) (x .T) (s .sends) (x .reached .logged)) i (seenAt p w i)
+      (cl : Claim (parOf p h off) (mst (x .g) (x .u) (x .a) (x .c) (x .m)) m K) (sh : (i : ℕ) → i < p .L → Shows p (x .g .sent) K i (seenAt p off w i)) where
+    pub boot-reads : (i : ℕ) → i < p .L → ReadOk (map forget (s .sends)) i (seenAt p off w i)
+    boot-reads i l = read-ok p h off σ (x .T) m K (map forget (s .sends)) (x .reached .inv) (x .reached .tracked) cl (forget-logged p (x .a) (x .T) (s .sends) (x .reached .logged)) i
+        (seenAt p off w i)
         (sh i l)
 
-    pub boot-same : (us : ℕ) (o : Opt Mark) → SameAs p (s .mark) (hist w (map forget (s .sends)) us o)
+    pub boot-same : (us : ℕ) (o : Opt Mark) → SameAs p off (s .mark) (hist w (map forget (s .sends)) us o)
     boot-same us o = go (s .mark) (x .mark)
       where
-        go : (q : Opt Mark) → MarkOk p (x .g) n q → SameAs p q (hist w (map forget (s .sends)) us o)
+        go : (q : Opt Mark) → MarkOk p off (x .g) n q → SameAs p off q (hist w (map forget (s .sends)) us o)
         go none k = tt
-        go (some q) k = λ e i l. same-reads p h σ m K (x .reached .inv) cl (never-beyond p h (x .g .said) m few) (x .reached .still (sym (length-forget (s .sends)) ∙ e ∙ k .0)) (q .world)
-            (k .1) i l (seenAt p w i) (sh i l)
+        go (some q) k = λ e i l. same-reads p h off σ m K (x .reached .inv) cl (never-beyond p h off (x .g .said) m few) (x .reached .still (sym (length-forget (s .sends)) ∙ e ∙ k .0))
+            (q .world)
+            (k .1) i l (seenAt p off w i) (sh i l)
 
     -- all of it
     pub boot-done : (d c : ℕ) (q : Report) (k : Disk) (me : Memory) (b : List ℕ) → w ≡ mkWorld k me
-        → Holds p h (hist w (map forget (s .sends)) (named d) (some (record { world = w; sentThen = length (map forget (s .sends)) }))) → Booted p h s (restart d c) (mkAfter (Restarted q) k me b)
+        → Holds p h off (hist w (map forget (s .sends)) (named d) (some (record { world = w; sentThen = length (map forget (s .sends)) })))
+        → Booted p h off s (restart d c) (mkAfter (Restarted q) k me b)
     boot-done d c q k me b e y =
-        subst (λ (z : Hist). RestartOk p s (Restarted q) z × Holds p h z)
+        subst (λ (z : Hist). RestartOk p off s (Restarted q) z × Holds p h off z)
         (ap (λ (u : World). hist u (map forget (s .sends)) (named d) (some (record { world = u; sentThen = length (map forget (s .sends)) }))) e
         ∙ sym (leaves-finished s d c q k me b)) (
           record {
@@ -85,8 +87,9 @@ module _ (p : Params) (h : Ranged p) (s : Hist) (n : ℕ) (x : Stands p h s n) w
         )
 
   -- it was cut
-  pub boot-cut : (d c : ℕ) (k : Disk) (m : Memory) (b : List ℕ) → Holds p h (hist (mkWorld k m) (map forget (s .sends)) (named d) (s .mark)) → Booted p h s (restart d c) (mkAfter Cut k m b)
-  boot-cut d c k m b y = subst (λ (z : Hist). RestartOk p s Cut z × Holds p h z) (sym (leaves-cut s d c k m b)) (
+  pub boot-cut : (d c : ℕ) (k : Disk) (m : Memory) (b : List ℕ) → Holds p h off (hist (mkWorld k m) (map forget (s .sends)) (named d) (s .mark))
+      → Booted p h off s (restart d c) (mkAfter Cut k m b)
+  boot-cut d c k m b y = subst (λ (z : Hist). RestartOk p off s Cut z × Holds p h off z) (sym (leaves-cut s d c k m b)) (
     record {
       not-refused = unfold isRefused kind in refl;
       reads = λ f. absurd (clash f no-finish);

@@ -28,10 +28,9 @@ use Rattle.law_basic.specs.Geometry.{Ranged}
 use Rattle.law_views.specs.Views.{Whole, seen}
 use Rattle.proof_crash_machine.specs.Facts.{Ghost, InV, Choice, Counted, None}
 use Rattle.proof_crash_machine.specs.Finish.{Reads, upTo, in-upTo}
-use Rattle.proof_crash_machine.specs.History.Mode.{off}
+use Rattle.proof_crash_machine.specs.History.Mode.{off as m-off}
 use Rattle.proof_crash_machine.specs.Val.{Val}
 use Rattle.proof_crash_machine.specs.Mask.{Mask}
-use Rattle.proof_crash_items.specs.Items.{itemsIn}
 use Rattle.proof_crash_items.specs.Named.{none-named, zero-few}
 use Rattle.proof_crash_items.specs.Ranges.{parOf}
 use Rattle.proof_crash_items.specs.RestMem.{restart-tabled, restart-lent, named-mask-low, ones-named}
@@ -48,51 +47,51 @@ use Rattle.proof_crash_calls.specs.Readings.{ShowsBlock, Shows, MarkShows, show
 use Rattle.proof_crash_calls.specs.Resumed.{reached-to, reached-forget, shows-read}
 use Rattle.proof_crash_calls.specs.Sends.{length-forget}
 use Rattle.proof_crash.specs.Stand.Holds.{goes, rests}
-use Rattle.proof_crash.specs.Asked.{asked-parts, boot-six, boot-is, boot-lent}
+use Rattle.proof_crash.specs.Asked.{asked-parts, boot-six, boot-is, boot-lent, boot-listed}
 use Rattle.proof_crash.specs.Begins.{doneGhost, begins}
 use Rattle.proof_crash.specs.Boot.{Booted, stands-linked, stands-known, boot-done, boot-cut}
 use Rattle.proof_crash.specs.Stand.{Stands, Holds, mark-moves, hist, none-trust, named-choice, none-choice-none}
 
-module _ (p : Params) (h : Ranged p) (s : Hist) (n : ℕ) (x : Stands p h s n) where
+module _ (p : Params) (h : Ranged p) (off : List ℕ) (s : Hist) (n : ℕ) (x : Stands p h off s n) where
   abbrev v₀ : View
-  v₀ = seen p (s .world .disk)
+  v₀ = seen p off (s .world .disk)
 
   -- ---- none is missing
-  module _ (mem : Memory) (c : ℕ) (us : namesAll (s .untrusted) (some noDrive) ≡ true) (ord : inOrder p (mkWorld (s .world .disk) mem) noDrive ≡ true)
-      (al : isRefusedAs 6 (callDisk p (s .world .disk) mem (restart noDrive c) .answer) ≡ false) where
+  module _ (mem : Memory) (c : ℕ) (us : namesAll (s .untrusted) (some noDrive) ≡ true) (ord : inOrder p off (mkWorld (s .world .disk) mem) noDrive ≡ true)
+      (al : isRefusedAs 6 (callDisk p off (s .world .disk) mem (restart noDrive c) .answer) ≡ false) where
     abbrev k₀ : Disk
     k₀ = s .world .disk
 
     abbrev gs : List Segment
-    gs = segments p (seen p (s .world .disk)) 0
+    gs = segments p (seen p off (s .world .disk)) 0
 
-    ch : Choice (parOf p h) (x .g .un) (isIn (named noDrive))
-    ch = named-choice p h (s .untrusted) noDrive (x .g .un) (x .trust) us
+    ch : Choice (parOf p h off) (x .g .un) (isIn (named noDrive))
+    ch = named-choice p h off (s .untrusted) noDrive (x .g .un) (x .trust) us
 
-    none? : None (parOf p h) (x .g .un)
-    none? = none-choice-none p h (x .g .un) ch
+    none? : None (parOf p h off) (x .g .un)
+    none? = none-choice-none p h off (x .g .un) ch
 
-    on₀ : OnDrives p h (x .g) (seen p (s .world .disk))
-    on₀ = linked-on p h v₀ (x .g) (x .a) (x .c) (x .m) (stands-linked p h s n x)
+    on₀ : OnDrives p h off (x .g) (seen p off (s .world .disk)) (x .u)
+    on₀ = linked-on p h off v₀ (x .u) (x .g) (x .a) (x .c) (x .m) (stands-linked p h off s n x)
 
     abbrev ss : List Store
-    ss = restartStores p 0 (segments p (seen p (s .world .disk)) 0)
+    ss = restartStores p (seen p off (s .world .disk)) 0 (segments p (seen p off (s .world .disk)) 0)
 
     six : (rewrites p 0 gs && eqb (greatestSerial gs) lastCount) ≡ false
     six = subst (λ (i : ℕ). (rewrites p i (segments p v₀ i) && eqb (greatestSerial (segments p v₀ i)) lastCount) ≡ false) none-named
-        (boot-six p h k₀ mem noDrive c (x .g) on₀ (stands-known p h s n x) ch ord al)
+        (boot-six p h off k₀ mem noDrive c (x .g) (x .u) on₀ (stands-known p h off s n x) ch ord al)
 
-    cuts-and-done : Always (CutTo p h (x .g) (x .a) (x .c)) v₀ ss × RestartDone p h (x .g) (x .a) (x .c) (storeAll storeView ss v₀)
-    cuts-and-done = healthy p h v₀ (x .g) (x .a) (x .c) (x .m) (stands-linked p h s n x) none? six
+    cuts-and-done : Always (CutTo p h off (x .g) (x .a) (x .c)) v₀ ss × RestartDone p h off (x .g) (x .a) (x .c) (storeAll storeView ss v₀)
+    cuts-and-done = healthy p h off v₀ (x .u) (x .g) (x .a) (x .c) (x .m) (stands-linked p h off s n x) none? six
 
     right? : AllSound p v₀ ss
-    right? = healthy-sound p h v₀ (x .g) (x .a) (x .c) (x .m) (stands-linked p h s n x) none? six
+    right? = healthy-sound p h off v₀ (x .u) (x .g) (x .a) (x .c) (x .m) (stands-linked p h off s n x) none? six
 
     in-range : inRange p ≡ true
-    in-range = asked-parts p h k₀ mem noDrive c (x .g) on₀ (stands-known p h s n x) ch ord al .0
+    in-range = asked-parts p h off k₀ mem noDrive c (x .g) (x .u) on₀ (stands-known p h off s n x) ch ord al .0
 
     nm : namesDrive p noDrive ≡ true
-    nm = asked-parts p h k₀ mem noDrive c (x .g) on₀ (stands-known p h s n x) ch ord al .1
+    nm = asked-parts p h off k₀ mem noDrive c (x .g) (x .u) on₀ (stands-known p h off s n x) ch ord al .1
 
     mask-lt : 0 < 2 ^ p .N
     mask-lt = subst (λ (i : ℕ). i < 2 ^ p .N) none-named (named-mask-low p h noDrive nm)
@@ -101,63 +100,66 @@ module _ (p : Params) (h : Ranged p) (s : Hist) (n : ℕ) (x : Stands p h s n) w
     one-bit = subst (λ (i : ℕ). ones i ≤ 1) none-named (ones-named noDrive)
 
     -- cut
-    cuts : (k : Disk) → Whole p k → (b : List ℕ) → CutTo p h (x .g) (x .a) (x .c) (seen p k) → Booted p h s (restart noDrive c) (mkAfter Cut k (cutMemory p mem) b)
-    cuts k wk b C = boot-cut p h s n x noDrive c k (cutMemory p mem) b (rests n (record {
+    cuts : (k : Disk) → Whole p k → (b : List ℕ) → CutTo p h off (x .g) (x .a) (x .c) (seen p off k) → Booted p h off s (restart noDrive c) (mkAfter Cut k (cutMemory p mem) b)
+    cuts k wk b C = boot-cut p h off s n x noDrive c k (cutMemory p mem) b (rests n (record {
       g = C .g′;
+      u = C .u;
       a = x .a;
       c = x .c;
-      m = off;
+      m = m-off;
       T = x .T;
       whole = wk;
-      reached = reached-to p h v₀ (map forget (s .sends)) n (x .g) (x .a) (x .c) (x .m) (x .T) forgot (seen p k) (C .g′) (x .c) off n (C .linked .inv) (C .linked .shape) (C .linked .bytes)
+      reached = reached-to p h off v₀ (x .u) (map forget (s .sends)) n (x .g) (x .a) (x .c) (x .m) (x .T) forgot (seen p off k) (C .u) (C .g′) (x .c) m-off n (C .linked .inv) (C .linked .tie)
           (λ y i. subst (λ (l : List Val). InV y l) (C .same .sent) i) (forgot .marked) (forgot .still);
-      trust = λ d l. ap (λ (y : Mask). y d) (C .same .un) ∙ none-trust p h (named noDrive) (x .g .un) none-named none? d l;
-      mark = mark-moves p (x .g) (C .g′) n (s .mark) (λ y i. subst (λ (l : List Val). InV y l) (sym (C .same .sent)) i) (C .same .last) (x .mark);
+      trust = λ d l. ap (λ (y : Mask). y d) (C .same .un) ∙ none-trust p h off (named noDrive) (x .g .un) none-named none? d l;
+      mark = mark-moves p off (x .g) (C .g′) n (s .mark) (λ y i. subst (λ (l : List Val). InV y l) (sym (C .same .sent)) i) (C .same .last) (x .mark);
     }) (inl (unfold cutMemory in refl)))
       where
-        forgot : Reached p h v₀ (map forget (s .sends)) n (x .g) (x .a) (x .c) (x .m) (x .T)
-        forgot = reached-forget p h v₀ (s .sends) n (x .g) (x .a) (x .c) (x .m) (x .T) (x .reached)
+        forgot : Reached p h off v₀ (x .u) (map forget (s .sends)) n (x .g) (x .a) (x .c) (x .m) (x .T)
+        forgot = reached-forget p h off v₀ (x .u) (s .sends) n (x .g) (x .a) (x .c) (x .m) (x .T) (x .reached)
 
     -- finished
-    module _ (k : Disk) (wk : Whole p k) (D : RestartDone p h (x .g) (x .a) (x .c) (seen p k)) where
+    module _ (k : Disk) (wk : Whole p k) (D : RestartDone p h off (x .g) (x .a) (x .c) (seen p off k)) where
       abbrev u : View
-      u = seen p k
+      u = seen p off k
 
       abbrev m′ : Memory
-      m′ = restartMemory p (seen p k) 0 (mem .inflight)
+      m′ = restartMemory p (seen p off k) 0 (mem .inflight)
 
       abbrev K : ℕ → ℕ
-      K = readOn p h (D .g′) (seen p k) (D .set)
+      K = readOn p h off (D .g′) (seen p off k) (D .u) (D .set)
 
       known′ : (y : Val) → InV y (D .g′ .sent) → (0 < y .stamp) × (y .addr < p .L)
-      known′ y i = (stands-known p h s n x) y (subst (λ (l : List Val). InV y l) (D .same .sent) i)
+      known′ y i = (stands-known p h off s n x) y (subst (λ (l : List Val). InV y l) (D .same .sent) i)
 
-      shows₀ : (i : ℕ) → i < p .L → Shows p (D .g′ .sent) K i (seenAt p (mkWorld k m′) i)
+      shows₀ : (i : ℕ) → i < p .L → Shows p (D .g′ .sent) K i (seenAt p off (mkWorld k m′) i)
       shows₀ i l =
-          unfold readOn in shows-read p h (D .g′) k wk (D .set .on) known′ 0 (none-choice p h (D .g′) u (D .set)) m′
-          (restart-tabled p h (D .g′) u (D .set .on) 0 (none-choice p h (D .g′) u (D .set)) mask-lt one-bit (mem .inflight)) in-range
-          (restart-lent p h (D .g′) u (D .set .on) 0 (none-choice p h (D .g′) u (D .set)) mask-lt one-bit (mem .inflight) k wk
-          (boot-lent p h k₀ mem noDrive c (x .g) on₀ (stands-known p h s n x) ch ord al)) i l
+          unfold readOn in shows-read p h off (D .g′) k (D .u) wk (D .set .on) known′ 0 (none-choice p h off (D .g′) u (D .u) (D .set)) m′
+          (restart-tabled p h off (D .g′) u (D .u) (D .set .on) 0 (none-choice p h off (D .g′) u (D .u) (D .set)) mask-lt one-bit (mem .inflight)) in-range
+          (restart-lent p h off (D .g′) u (D .u) (D .set .on) 0 (none-choice p h off (D .g′) u (D .u) (D .set)) mask-lt one-bit (mem .inflight) k wk
+          (boot-listed p h off k₀ mem noDrive c (x .g) (x .u) on₀ (stands-known p h off s n x) ch ord al)
+          (boot-lent p h off k₀ mem noDrive c (x .g) (x .u) on₀ (stands-known p h off s n x) ch ord al))
+          (asked-parts p h off k₀ mem noDrive c (x .g) (x .u) on₀ (stands-known p h off s n x) ch ord al .3) i l
 
-      fresh-shows : (i : ℕ) → i < p .L → Shows p (x .g .sent) K i (seenAt p (mkWorld k m′) i)
-      fresh-shows i l = shows-more p (D .g′ .sent) (x .g .sent) K K i (seenAt p (mkWorld k m′) i) (λ y j. subst (λ (l : List Val). InV y l) (D .same .sent) j) refl (shows₀ i l)
+      fresh-shows : (i : ℕ) → i < p .L → Shows p (x .g .sent) K i (seenAt p off (mkWorld k m′) i)
+      fresh-shows i l = shows-more p (D .g′ .sent) (x .g .sent) K K i (seenAt p off (mkWorld k m′) i) (λ y j. subst (λ (l : List Val). InV y l) (D .same .sent) j) refl (shows₀ i l)
 
       -- what is read is no later than the greatest stamp
       K-low : (i : ℕ) → K i ≤ stampTop p u
       K-low i =
           ⊎-elim (λ (e : K i ≡ 0). omega (arith, e)) (λ
-          (y : (y : Val) × Counted (parOf p h) (D .g′ .hd) (itemsIn p u) (D .g′ .un) y × (y .addr ≡ i) × (y .stamp ≡ K i)). omega
+          (y : (y : Val) × Counted (parOf p h off) (D .g′ .hd) (D .u) (D .g′ .un) y × (y .addr ≡ i) × (y .stamp ≡ K i)). omega
           (arith, top (y .0) (y .1), y .3)) (rd .some i)
         where
-          rd : Reads (parOf p h) (D .g′ .hd) (itemsIn p u) (D .g′ .un) K
-          rd = unfold readOn in ends-reads p h (D .g′) u (D .set)
+          rd : Reads (parOf p h off) (D .g′ .hd) (D .u) (D .g′ .un) K
+          rd = unfold readOn in ends-reads p h off (D .g′) u (D .u) (D .set)
 
-          top : (y : Val) → Counted (parOf p h) (D .g′ .hd) (itemsIn p u) (D .g′ .un) y → y .stamp ≤ stampTop p u
-          top y q = unfold stampTop in ends-stamps p h (D .g′) u (D .set) y q
+          top : (y : Val) → Counted (parOf p h off) (D .g′ .hd) (D .u) (D .g′ .un) y → y .stamp ≤ stampTop p u
+          top y q = unfold stampTop in ends-stamps p h off (D .g′) u (D .u) (D .set) y q
 
-      shows₁ : (i : ℕ) → i < p .L → Shows p (upTo (stampTop p u) (D .g′ .sent)) K i (seenAt p (mkWorld k m′) i)
-      shows₁ i l = ⊎-elim (λ (q : (K i ≡ 0) × (seenAt p (mkWorld k m′) i ≡ unwritten)). inl q)
-          (λ (y : ShowsBlock p (D .g′ .sent) (K i) i (seenAt p (mkWorld k m′) i)). inr (record {
+      shows₁ : (i : ℕ) → i < p .L → Shows p (upTo (stampTop p u) (D .g′ .sent)) K i (seenAt p off (mkWorld k m′) i)
+      shows₁ i l = ⊎-elim (λ (q : (K i ≡ 0) × (seenAt p off (mkWorld k m′) i ≡ unwritten)). inl q)
+          (λ (y : ShowsBlock p (D .g′ .sent) (K i) i (seenAt p off (mkWorld k m′) i)). inr (record {
             block = y .block;
             value = y .value;
             sent = in-upTo (stampTop p u) (D .g′ .sent) (y .value) (y .sent) (omega (arith, y .stamp, K-low i));
@@ -169,40 +171,40 @@ module _ (p : Params) (h : Ranged p) (s : Hist) (n : ℕ) (x : Stands p h s n) w
           })) (shows₀ i l)
 
       live :
-          (y : Live p h u (m′ .state) (m′ .inflight) (m′ .addresses) (map forget (s .sends)) (length (s .sends)))
-          × (y .g ≡ doneGhost p h v₀ (s .sends) n (x .g) (x .a) (x .c) (x .m) (x .T) (x .reached) u D (mem .inflight))
-      live = begins p h v₀ (s .sends) n (x .g) (x .a) (x .c) (x .m) (x .T) (x .reached) u D (mem .inflight)
+          (y : Live p h off u (m′ .state) (m′ .inflight) (m′ .addresses) (map forget (s .sends)) (length (s .sends)))
+          × (y .g ≡ doneGhost p h off v₀ (x .u) (s .sends) n (x .g) (x .a) (x .c) (x .m) (x .T) (x .reached) u D (mem .inflight))
+      live = begins p h off v₀ (x .u) (s .sends) n (x .g) (x .a) (x .c) (x .m) (x .T) (x .reached) u D (mem .inflight)
 
-      runs-on : Holds p h (hist (mkWorld k m′) (map forget (s .sends)) (named noDrive) (some (record { world = mkWorld k m′; sentThen = length (map forget (s .sends)) })))
+      runs-on : Holds p h off (hist (mkWorld k m′) (map forget (s .sends)) (named noDrive) (some (record { world = mkWorld k m′; sentThen = length (map forget (s .sends)) })))
       runs-on = goes (length (s .sends)) (record { healthy = record { whole = wk; live = live .0 }; trusted = none-named })
-          (length-forget (s .sends), subst (λ (g : Ghost). MarkShows p g (mkWorld k m′)) (sym (live .1)) shows₁)
+          (length-forget (s .sends), subst (λ (g : Ghost). MarkShows p off g (mkWorld k m′)) (sym (live .1)) shows₁)
 
-      pub finishes : (b : List ℕ) → Booted p h s (restart noDrive c) (mkAfter (Restarted (reportOf p 0 gs)) k m′ b)
-      finishes b = boot-done p h s n x (mkWorld k m′) (isIn 0) (zero-few p h) K (record { acked = D .acked; sent = D .sent; floor = D .floor; same = λ q w. D .still q }) fresh-shows
+      pub finishes : (b : List ℕ) → Booted p h off s (restart noDrive c) (mkAfter (Restarted (reportOf p 0 gs)) k m′ b)
+      finishes b = boot-done p h off s n x (mkWorld k m′) (isIn 0) (zero-few p h) K (record { acked = D .acked; sent = D .sent; floor = D .floor; same = λ q w. D .still q }) fresh-shows
           noDrive c (reportOf p 0 gs) k m′ b refl runs-on
 
     -- all of it, by any number that stands for the mask without a drive
     abbrev after : ℕ → Bool → After Disk
     after i b = limited b p (storeDisk p) c k₀ mem []
-        (mkPlan (restartStores p i (segments p v₀ i)) (Restarted (reportOf p i (segments p v₀ i)))
-        (restartMemory p (storeAll storeView (restartStores p i (segments p v₀ i)) v₀) i (mem .inflight)) [])
+        (mkPlan (restartStores p v₀ i (segments p v₀ i)) (Restarted (reportOf p i (segments p v₀ i)))
+        (restartMemory p (storeAll storeView (restartStores p v₀ i (segments p v₀ i)) v₀) i (mem .inflight)) [])
 
-    fresh-booted : (b : Bool) → Booted p h s (restart noDrive c) (after 0 b)
+    fresh-booted : (b : Bool) → Booted p h off s (restart noDrive c) (after 0 b)
     fresh-booted true =
-        unfold limited in subst (λ (w : View). Booted p h s (restart noDrive c)
+        unfold limited in subst (λ (w : View). Booted p h off s (restart noDrive c)
         (mkAfter (Restarted (reportOf p 0 gs)) (storeAll (storeDisk p) ss k₀) (restartMemory p w 0 (mem .inflight)) []))
-        (seen-stores p h k₀ (x .whole) ss right?)
-        (finishes (storeAll (storeDisk p) ss k₀) (whole-all p h k₀ (x .whole) ss right?)
-        (subst (RestartDone p h (x .g) (x .a) (x .c)) (sym (seen-stores p h k₀ (x .whole) ss right?)) (cuts-and-done .1)) [])
+        (seen-stores p h off k₀ (x .whole) ss right?)
+        (finishes (storeAll (storeDisk p) ss k₀) (whole-all p h off k₀ (x .whole) ss right?)
+        (subst (RestartDone p h off (x .g) (x .a) (x .c)) (sym (seen-stores p h off k₀ (x .whole) ss right?)) (cuts-and-done .1)) [])
     fresh-booted false =
-        unfold limited in cuts (storeAll (storeDisk p) (take c ss) k₀) (whole-cut p h k₀ (x .whole) ss right? c) []
-        (subst (CutTo p h (x .g) (x .a) (x .c)) (sym (seen-cut p h k₀ (x .whole) ss right? c)) (cuts-and-done .0 c))
+        unfold limited in cuts (storeAll (storeDisk p) (take c ss) k₀) (whole-cut p h off k₀ (x .whole) ss right? c) []
+        (subst (CutTo p h off (x .g) (x .a) (x .c)) (sym (seen-cut p h off k₀ (x .whole) ss right? c)) (cuts-and-done .0 c))
 
-    pub boot-healthy : Booted p h s (restart noDrive c) (callDisk p (s .world .disk) mem (restart noDrive c))
-    boot-healthy = subst (Booted p h s (restart noDrive c)) (sym (boot-is p h k₀ mem noDrive c (x .g) on₀ (stands-known p h s n x) ch ord al ∙ is))
-        (subst (λ (i : ℕ). Booted p h s (restart noDrive c) (after i (leb (length (restartStores p i (segments p v₀ i))) c))) (sym none-named) (fresh-booted (leb (length ss) c)))
+    pub boot-healthy : Booted p h off s (restart noDrive c) (callDisk p off (s .world .disk) mem (restart noDrive c))
+    boot-healthy = subst (Booted p h off s (restart noDrive c)) (sym (boot-is p h off k₀ mem noDrive c (x .g) (x .u) on₀ (stands-known p h off s n x) ch ord al ∙ is))
+        (subst (λ (i : ℕ). Booted p h off s (restart noDrive c) (after i (leb (length (restartStores p v₀ i (segments p v₀ i))) c))) (sym none-named) (fresh-booted (leb (length ss) c)))
       where
-        is : limited (leb (length (restartStores p (named noDrive) (segments p v₀ (named noDrive)))) c) p (storeDisk p) c k₀ mem []
+        is : limited (leb (length (restartStores p v₀ (named noDrive) (segments p v₀ (named noDrive)))) c) p (storeDisk p) c k₀ mem []
             (restartPlan p v₀ noDrive (segments p v₀ (named noDrive)) (mem .inflight))
-            ≡ after (named noDrive) (leb (length (restartStores p (named noDrive) (segments p v₀ (named noDrive)))) c)
+            ≡ after (named noDrive) (leb (length (restartStores p v₀ (named noDrive) (segments p v₀ (named noDrive)))) c)
         is = unfold restartPlan in refl

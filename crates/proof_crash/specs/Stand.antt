@@ -39,71 +39,79 @@ use Rattle.proof_crash_items.specs.Ranges.{parOf}
 use Rattle.proof_crash_calls.specs.Live.{Reached}
 use Rattle.proof_crash_calls.specs.Readings.{MarkShows, shows-more}
 use Rattle.proof_crash_calls.specs.Steps.{Running}
+use Rattle.proof_crash_machine.specs.View.{ItemView}
 
 -- what the last finished restart read; n blocks had been sent then
-abbrev pub MarkOk : Params → Ghost → ℕ → Opt Mark → Type 0
-MarkOk p g n none = Unit {0}
-MarkOk p g n (some k) = (k .sentThen ≡ n) × MarkShows p g (k .world)
+abbrev pub MarkOk : Params → List ℕ → Ghost → ℕ → Opt Mark → Type 0
+MarkOk p off g n none = Unit {0}
+MarkOk p off g n (some k) = (k .sentThen ≡ n) × MarkShows p off g (k .world)
 
 -- the machine's untrusted drives are those of the mask
 abbrev pub Trust : Params → ℕ → Mask → Type 0
 Trust p us un = (d : ℕ) → d < p .N → un d ≡ isIn us d
 
-pub record Stands (p : Params) (h : Ranged p) (s : Hist) (n : ℕ) : Type 0 where
+pub record Stands (p : Params) (h : Ranged p) (off : List ℕ) (s : Hist) (n : ℕ) : Type 0 where
   pub g : Ghost
+  pub u : ItemView
   pub a : List Val
   pub c : Bool
   pub m : Mode
   pub T : Track
   pub whole : Whole p (s .world .disk)
-  pub reached : Reached p h (seen p (s .world .disk)) (s .sends) n g a c m T
+  pub reached : Reached p h off (seen p off (s .world .disk)) u (s .sends) n g a c m T
   pub trust : Trust p (s .untrusted) (g .un)
-  pub mark : MarkOk p g n (s .mark)
+  pub mark : MarkOk p off g n (s .mark)
 
 -- no call but restart, and rebuild of the drive that is missing, changes anything
-abbrev pub StateQuiet : (p : Params) → Ranged p → Mask → State → Type 0
-StateQuiet p h un st = (st ≡ zeroState) ⊎ ((d : ℕ) × (d < p .N) × (st .missing ≡ named d) × Choice (parOf p h) un (isIn (named d)))
+abbrev pub StateQuiet : (p : Params) → Ranged p → List ℕ → Mask → State → Type 0
+StateQuiet p h off un st = (st ≡ zeroState) ⊎ ((d : ℕ) × (d < p .N) × (st .missing ≡ named d) × Choice (parOf p h off) un (isIn (named d)))
 
-pub data Holds (p : Params) (h : Ranged p) (s : Hist) : Type 0 where
-  goes : (n : ℕ) (x : Running p h s n) → MarkOk p (x .healthy .live .g) n (s .mark) → Holds p h s
-  rests : (n : ℕ) (x : Stands p h s n) → StateQuiet p h (x .g .un) (s .world .memory .state) → Holds p h s
+pub data Holds (p : Params) (h : Ranged p) (off : List ℕ) (s : Hist) : Type 0 where
+  goes : (n : ℕ) (x : Running p h off s n) → MarkOk p off (x .healthy .live .g) n (s .mark) → Holds p h off s
+  rests : (n : ℕ) (x : Stands p h off s n) → StateQuiet p h off (x .g .un) (s .world .memory .state) → Holds p h off s
 
-pub none-trust : (p : Params) (h : Ranged p) (us : ℕ) (un : Mask) → us ≡ 0 → None (parOf p h) un → Trust p us un
-none-trust p h us un e n d l = n d l ∙ sym (ap (λ (x : ℕ). isIn x d) e ∙ isIn-empty d)
+pub none-trust : (p : Params) (h : Ranged p) (off : List ℕ) (us : ℕ) (un : Mask) → us ≡ 0 → None (parOf p h off) un → Trust p us un
+none-trust p h off us un e n d l = n d l ∙ sym (ap (λ (x : ℕ). isIn x d) e ∙ isIn-empty d)
 
 -- a restart that names what the premise asks names a choice
-pub named-choice : (p : Params) (h : Ranged p) (us d : ℕ) (un : Mask) → Trust p us un → namesAll us (some d) ≡ true → Choice (parOf p h) un (isIn (named d))
-named-choice p h us d un t e = (named-few p h d, λ i l q. go (test (eqb us 0)) (unfold namesAll in e) i (sym (t i l) ∙ q))
+pub named-choice : (p : Params) (h : Ranged p) (off : List ℕ) (us d : ℕ) (un : Mask) → Trust p us un → namesAll us (some d) ≡ true → Choice (parOf p h off) un (isIn (named d))
+named-choice p h off us d un t e = (named-few p h d, λ i l q. go (test (eqb us 0)) (unfold namesAll in e) i (sym (t i l) ∙ q))
   where
     go : Test (eqb us 0) → (eqb us 0 || eqb us (named d)) ≡ true → (i : ℕ) → isIn us i ≡ true → isIn (named d) i ≡ true
     go (yes! f) q i k = clash k (ap (λ (x : ℕ). isIn x i) (eqb-true us 0 f) ∙ isIn-empty i)
     go (no! f) q i k = ap (λ (x : ℕ). isIn x i) (sym (eqb-true us (named d) (sym (ap (λ (b : Bool). b || eqb us (named d)) f) ∙ q))) ∙ k
 
 -- with none named, none is untrusted
-pub none-choice-none : (p : Params) (h : Ranged p) (un : Mask) → Choice (parOf p h) un (isIn (named noDrive)) → None (parOf p h) un
-none-choice-none p h un c d l = not-so (un d) (λ q. clash (c .1 d l q) (ap (λ (x : ℕ). isIn x d) none-named ∙ isIn-empty d))
+pub none-choice-none : (p : Params) (h : Ranged p) (off : List ℕ) (un : Mask) → Choice (parOf p h off) un (isIn (named noDrive)) → None (parOf p h off) un
+none-choice-none p h off un c d l = not-so (un d) (λ q. clash (c .1 d l q) (ap (λ (x : ℕ). isIn x d) none-named ∙ isIn-empty d))
 
-pub stands-of : (p : Params) (h : Ranged p) (s : Hist) → Holds p h s → (n : ℕ) × Stands p h s n
-stands-of p h s (goes n x k) = (
+pub stands-of : (p : Params) (h : Ranged p) (off : List ℕ) (s : Hist) → Holds p h off s → (n : ℕ) × Stands p h off s n
+stands-of p h off s (goes n x k) = (
   n,
   record {
     g = x .healthy .live .g;
+    u = x .healthy .live .u;
     a = x .healthy .live .a;
     c = x .healthy .live .c;
     m = run (x .healthy .live .M);
     T = x .healthy .live .T;
     whole = x .healthy .whole;
     reached = x .healthy .live .reached;
-    trust = none-trust p h (s .untrusted) (x .healthy .live .g .un) (x .trusted) (x .healthy .live .reached .inv .mode .none);
+    trust = none-trust p h off (s .untrusted) (x .healthy .live .g .un) (x .trusted) (x .healthy .live .reached .inv .mode .none);
     mark = k;
   },
 )
-stands-of p h s (rests n x q) = (n, x)
+stands-of p h off s (rests n x q) = (n, x)
 
 -- the mark under another ghost
-pub mark-moves : (p : Params) (g g′ : Ghost) (n : ℕ) (o : Opt Mark) → ((x : Val) → InV x (g .sent) → InV x (g′ .sent)) → g′ .last ≡ g .last → MarkOk p g n o → MarkOk p g′ n o
-mark-moves p g g′ n none f e k = tt
-mark-moves p g g′ n (some m) f e k = (k .0, λ a l. shows-more p (g .sent) (g′ .sent) (g .last) (g′ .last) a (seenAt p (m .world) a) f (ap (λ (y : ℕ → ℕ). y a) (sym e)) (k .1 a l))
+pub mark-moves : (p : Params) (off : List ℕ) (g g′ : Ghost) (n : ℕ) (o : Opt Mark) → ((x : Val) → InV x (g .sent) → InV x (g′ .sent)) → g′ .last ≡ g .last → MarkOk p off g n o
+    → MarkOk p off g′ n o
+mark-moves p off g g′ n none f e k = tt
+mark-moves p off g g′ n (some m) f e k = (
+  k .0,
+  λ a l.
+      shows-more p (g .sent) (g′ .sent) (g .last) (g′ .last) a (seenAt p off (m .world) a) f (ap (λ (y : ℕ → ℕ). y a) (sym e)) (k .1 a l),
+)
 
 -- ---- one number for one mask
 

@@ -12,19 +12,19 @@ use lib.ListN.{length, getD, set}
 use lib.Seq.{getD-set-other}
 use Rattle.spec.specs.declared.Params.{Params}
 use Rattle.spec.specs.Bytes.{splice}
-use Rattle.spec.specs.Drives.{Zone, noZone, View, zoneAt, driveOf, viewOf, Disk, mkDisk, pointerByte}
+use Rattle.spec.specs.Drives.{Zone, noZone, zoneAt, driveOf, viewOf, Disk, mkDisk, pointerByte, zonesOf}
 use Rattle.spec.specs.Engine.{lentOk}
 use Rattle.spec.specs.History.{swapped}
 use Rattle.spec.specs.Lists.{pieces}
 use Rattle.spec.specs.Memory.{Memory}
-use Rattle.spec.specs.Params.{driveLen, imageLen, pointersLen, addressesLen, compactLen, inflightLen}
+use Rattle.spec.specs.Params.{driveLen, imageLen, pointersLen, offlineLen, addressesLen, compactLen, inflightLen}
 use Rattle.law_basic.specs.Ranges.{Test, test, and-left, and-right}
 use Rattle.law_basic.specs.Ranges.Test.{yes!, no! }
 use Rattle.law_basic.specs.Splice.{length-splice}
-use Rattle.law_views.specs.Views.{view-splice, Whole, seen}
+use Rattle.law_views.specs.Views.{Whole, seen, zones-splice}
 use Rattle.law_drives.specs.Tests.{cond-true, cond-false, not-so}
 
-module _ (p : Params) (k : Disk) (w : Whole p k) (d : ℕ) (im ps : List ℕ) where
+module _ (p : Params) (off : List ℕ) (k : Disk) (w : Whole p k) (d : ℕ) (im ps : List ℕ) where
   abbrev fits? : Bool
   fits? = ltb d (p .N) && eqb (length im) (driveLen p) && eqb (length ps) (4 * p .Z)
 
@@ -65,21 +65,21 @@ module _ (p : Params) (k : Disk) (w : Whole p k) (d : ℕ) (im ps : List ℕ) wh
     pointers-same : length (splice (k .pointers) (pointerByte p d 0) ps) ≡ length (k .pointers)
     pointers-same = length-splice (k .pointers) (pointerByte p d 0) ps (omega (arith, drive-room (4 * p .Z), ps-long, pointers-length, at-ps))
 
-    view-is : viewOf p (splice (k .image) (d * driveLen p) im) (splice (k .pointers) (pointerByte p d 0) ps)
-        ≡ set (viewOf p (k .image) (k .pointers)) d (driveOf p (splice (getD (pieces (driveLen p) (p .N) (k .image)) d []) 0 im) (splice (getD (pieces (4 * p .Z) (p .N) (k .pointers)) d []) 0 ps))
-    view-is = ap₂ (λ (x y : ℕ). viewOf p (splice (k .image) x im) (splice (k .pointers) y ps)) (sym (add-zero (d * driveLen p))) (at-ps ∙ sym (add-zero (d * (4 * p .Z))))
-        ∙ view-splice p (k .image) (k .pointers) d 0 0 im ps dl (omega (arith, im-long)) (omega (arith, ps-long)) (omega (arith, long-im)) (omega (arith, pointers-length))
+    abbrev drive : List Zone
+    drive = driveOf p (splice (getD (pieces (driveLen p) (p .N) (k .image)) d []) 0 im) (splice (getD (pieces (4 * p .Z) (p .N) (k .pointers)) d []) 0 ps)
 
-    swap-same : (e y : ℕ) → e ≢ d → zoneAt (seen p other) e y ≡ zoneAt (seen p k) e y
-    swap-same e y n = unfold zoneAt in ap (λ (x : List Zone). getD x y noZone) (ap (λ (v : View). getD v e []) view-is
-        ∙ getD-set-other (viewOf p (k .image) (k .pointers)) d e
-        (driveOf p (splice (getD (pieces (driveLen p) (p .N) (k .image)) d []) 0 im)
-        (splice (getD (pieces (4 * p .Z) (p .N) (k .pointers)) d []) 0 ps)) [] n)
+    zones-are : zonesOf p (splice (k .image) (d * driveLen p) im) (splice (k .pointers) (pointerByte p d 0) ps) ≡ set (zonesOf p (k .image) (k .pointers)) d drive
+    zones-are = ap₂ (λ (x y : ℕ). zonesOf p (splice (k .image) x im) (splice (k .pointers) y ps)) (sym (add-zero (d * driveLen p))) (at-ps ∙ sym (add-zero (d * (4 * p .Z))))
+        ∙ zones-splice p (k .image) (k .pointers) d 0 0 im ps dl (omega (arith, im-long)) (omega (arith, ps-long)) (omega (arith, long-im)) (omega (arith, pointers-length))
+
+    swap-same : (e y : ℕ) → e ≢ d → zoneAt (seen p off other) e y ≡ zoneAt (seen p off k) e y
+    swap-same e y n = unfold zoneAt viewOf in ap (λ (x : List Zone). getD x y noZone) (ap (λ (v : List (List Zone)). getD v e []) zones-are
+        ∙ getD-set-other (zonesOf p (k .image) (k .pointers)) d e drive [] n)
 
   pub record Swapped (u : Disk) : Type 0 where
     pub image : length (u .image) ≡ length (k .image)
     pub pointers : length (u .pointers) ≡ length (k .pointers)
-    pub others : (e y : ℕ) → e ≢ d → zoneAt (seen p u) e y ≡ zoneAt (seen p k) e y
+    pub others : (e y : ℕ) → e ≢ d → zoneAt (seen p off u) e y ≡ zoneAt (seen p off k) e y
 
   pub swapped-ok : Swapped (swapped p k d im ps)
   unfolding swapped
@@ -92,10 +92,11 @@ module _ (p : Params) (k : Disk) (w : Whole p k) (d : ℕ) (im ps : List ℕ) wh
   pub swapped-whole : Whole p (swapped p k d im ps)
   swapped-whole = record { image-long = swapped-ok .image ∙ w .image-long; pointers-long = swapped-ok .pointers ∙ w .pointers-long }
 
-  pub swapped-lent : (m : Memory) → lentOk p (swapped p k d im ps) m ≡ lentOk p k m
+  pub swapped-lent : (m : Memory) → lentOk p off (swapped p k d im ps) m ≡ lentOk p off k m
   unfolding lentOk
   swapped-lent m =
-      ap₂ (λ (x y : ℕ). eqb x (imageLen p)
+      ap₂ (λ (x y : ℕ). eqb (length off) (offlineLen p)
+      && eqb x (imageLen p)
       && eqb y (pointersLen p)
       && eqb (length (m .addresses)) (addressesLen p)
       && eqb (length (m .compact)) (compactLen p)

@@ -95,7 +95,7 @@ module _ (q : ℕ) (G : ℕ → Val) (base : ℕ → ℕ) (x : ℕ) where
 
 -- ---- the step
 
-module _ (p : Params) (h : Ranged p) (g : Ghost) (v : ItemView) (a : List Val) (c : Bool) (M : Mem) (T : Track) (ss : List Send) (st : State) (s : ℕ)
+module _ (p : Params) (h : Ranged p) (off : List ℕ) (g : Ghost) (v : ItemView) (a : List Val) (c : Bool) (M : Mem) (T : Track) (ss : List Send) (st : State) (s : ℕ)
     (fly : M .fly s ≡ true) (on : (e : ℕ) → e < p .N → (x : Val) × InI (chunk s x) (v e (M .zone)))
     (w : (j : ℕ) → j < length ss → sendAt ss j .waits ≡ true → Waiting p st M (T .log j) (sendAt ss j .stripe) × InV (T .log j) (g .sent) × (T .pos (T .log j .stamp) ≡ j))
     (most : (i : ℕ) → i < 8 → inUse st i ≡ true → filledIn st i ≤ dataCount p) where
@@ -105,7 +105,7 @@ module _ (p : Params) (h : Ranged p) (g : Ghost) (v : ItemView) (a : List Val) (
   abbrev pub ackList : List Val
   ackList = ackedTo T ss s a (length ss)
 
-  base-up : (x : ℕ) → (ackBase x ≡ g .base x) ⊎ ((y : Val) × Datum (parOf p h) s (M .F s) y × (y .addr ≡ x) × (ackBase x ≡ y .stamp) × (g .base x ≤ ackBase x))
+  base-up : (x : ℕ) → (ackBase x ≡ g .base x) ⊎ ((y : Val) × Datum (parOf p h off) s (M .F s) y × (y .addr ≡ x) × (ackBase x ≡ y .stamp) × (g .base x ≤ ackBase x))
   base-up x = ⊎-elim (λ e. inl e)
       (λ (k : (d : ℕ) × (d < p .N) × (d ≢ parityDrive p s) × (M .F s d .addr ≡ x) × (ackBase x ≡ M .F s d .stamp)).
       inr (M .F s (k .0), record { d = k .0; lt = k .1; data? = apart-code p h s (k .0) (k .2); val = refl }, k .3, k .4, raise-low (parityDrive p s) (M .F s) (g .base) x (p .N)))
@@ -126,5 +126,5 @@ module _ (p : Params) (h : Ranged p) (g : Ghost) (v : ItemView) (a : List Val) (
           raise-most (parityDrive p s) (M .F s) (g .base) (x .addr) (p .N) (dataDrive p s (y .k)) (data-drive-lt p s (y .k) b) (λ i. data-not-parity p s (y .k) i) (ap (λ (t : Val). t .addr) z) in
           (subst (λ (t : Val). InV t (g .sent)) (sym n) (k .1), subst (λ (t : ℕ). t ≤ ackBase (x .addr)) (ap (λ (t : Val). t .stamp) z) r)
 
-  pub ack-go : Go (parOf p h) (mst g v a c (run M)) (mst (withBase g ackBase) v ackList c (run (ended M s))) T T
-  ack-go = go-step (parOf p h) (mst g v a c (run M)) (mst (withBase g ackBase) v ackList c (run (ended M s))) T (ack (mst g v a c (run M)) M s ackBase ackList refl fly on base-up al)
+  pub ack-go : Go (parOf p h off) (mst g v a c (run M)) (mst (withBase g ackBase) v ackList c (run (ended M s))) T T
+  ack-go = go-step (parOf p h off) (mst g v a c (run M)) (mst (withBase g ackBase) v ackList c (run (ended M s))) T (ack (mst g v a c (run M)) M s ackBase ackList refl fly on base-up al)

@@ -59,7 +59,7 @@ no-ones = refl
 pub none-landed : (p : Params) → Ranged p → eqb (ones 0) (p .N) ≡ false
 none-landed p h = ne-eqb (ones 0) (p .N) (λ e. let z : ⊥ = omega (arith, eqb-true (ones 0) 0 no-ones, h .drives-low) in z)
 
-module _ (p : Params) (h : Ranged p) (g : Ghost) (v : ItemView) (st : State) (fl : List ℕ) (M : Mem) (R : Rel p v st fl M) (m : MemOk (parOf p h) g v M)
+module _ (p : Params) (h : Ranged p) (off : List ℕ) (g : Ghost) (v : ItemView) (st : State) (fl : List ℕ) (M : Mem) (R : Rel p v st fl M) (m : MemOk (parOf p h off) g v M)
     (o : M .is-open ≡ true) (i : ℕ) (il : i < 8) (free : inUse st i ≡ false) where
   abbrev s : ℕ
   s = M .next
@@ -68,20 +68,20 @@ module _ (p : Params) (h : Ranged p) (g : Ghost) (v : ItemView) (st : State) (fl
   number = begin-number st (R .long) i il ∙ sym (R .next o)
 
   -- the new eighth
-  bare : SlotRel p (λ d. v d (M .zone)) (slotBlock p fl i) (entryIn (beginStripe st i) i) (offsetIn (beginStripe st i) i) s 0 0 (unfilled (parOf p h) s) (λ e. false)
+  bare : SlotRel p (λ d. v d (M .zone)) (slotBlock p fl i) (entryIn (beginStripe st i) i) (offsetIn (beginStripe st i) i) s 0 0 (unfilled (parOf p h off) s) (λ e. false)
   bare = record {
     most = omega arith;
     mask = none-landed p h;
     held = λ j l. absurd (let z : ⊥ = omega arith in z);
-    blank = λ j a b. unfilled-data (parOf p h) s (dataDrive p s j) (data-drive-lt p s j b) (data-code p h s (dataDrive p s j) (drive-is-data p s j));
+    blank = λ j a b. unfilled-data (parOf p h off) s (dataDrive p s j) (data-drive-lt p s j b) (data-code p h s (dataDrive p s j) (drive-is-data p s j));
     xored = λ e. absurd (let z : ⊥ = omega (arith, e, data-count-low p h) in z);
     may = λ d l. sym (none-ready p h s d l);
     on = λ d l e. clash e (isIn-empty d);
     out = λ d l e x k. let z : ⊥ = omega (arith, m .below o d s x l k) in z;
   }
 
-  slot-begun : SlotOf p v (beginStripe st i) fl (M .zone) i (begunMem (parOf p h) M .F (stripeIn (beginStripe st i) i)) (begunMem (parOf p h) M .ready (stripeIn (beginStripe st i) i))
-  slot-begun = rw (number, setAt-here (M .F) s (unfilled (parOf p h) s), setAt-here (M .ready) s (λ e. false), begin-filled st (R .long) i il, begin-landed st (R .long) i il) bare
+  slot-begun : SlotOf p v (beginStripe st i) fl (M .zone) i (begunMem (parOf p h off) M .F (stripeIn (beginStripe st i) i)) (begunMem (parOf p h off) M .ready (stripeIn (beginStripe st i) i))
+  slot-begun = rw (number, setAt-here (M .F) s (unfilled (parOf p h off) s), setAt-here (M .ready) s (λ e. false), begin-filled st (R .long) i il, begin-landed st (R .long) i il) bare
 
   -- the others are older
   older : (j : ℕ) → j < 8 → inUse st j ≡ true → stripeIn st j < M .next
@@ -91,13 +91,13 @@ module _ (p : Params) (h : Ranged p) (g : Ghost) (v : ItemView) (st : State) (fl
   not-i j q e = clash q (ap (inUse st) e ∙ free)
 
   others-begun : (j : ℕ) → j < 8 → inUse st j ≡ true
-      → SlotOf p v (beginStripe st i) fl (M .zone) j (begunMem (parOf p h) M .F (stripeIn (beginStripe st i) j)) (begunMem (parOf p h) M .ready (stripeIn (beginStripe st i) j))
+      → SlotOf p v (beginStripe st i) fl (M .zone) j (begunMem (parOf p h off) M .F (stripeIn (beginStripe st i) j)) (begunMem (parOf p h off) M .ready (stripeIn (beginStripe st i) j))
   others-begun j jl q =
       slot-keep p h (λ e. v e (M .zone)) (λ e. v e (M .zone)) (slotBlock p fl j) (slotBlock p fl j) (entryIn st j) (entryIn (beginStripe st i) j) (offsetIn st j) (offsetIn (beginStripe st i) j)
       (stripeIn st j) (stripeIn (beginStripe st i) j) (filledIn st j) (filledIn (beginStripe st i) j) (landedIn st j) (landedIn (beginStripe st i) j)
-      (begunMem (parOf p h) M .F (stripeIn (beginStripe st i) j)) (begunMem (parOf p h) M .ready (stripeIn (beginStripe st i) j))
+      (begunMem (parOf p h off) M .F (stripeIn (beginStripe st i) j)) (begunMem (parOf p h off) M .ready (stripeIn (beginStripe st i) j))
       (S .number) (S .filled) (S .landed) (λ e el. refl) (S .entry) (S .offset) (λ e x y el w. w) (λ e x el w. w)
-      (rw (S .number, setAt-else (M .F) s (unfilled (parOf p h) s) (stripeIn st j) n, setAt-else (M .ready) s (λ e. false) (stripeIn st j) n) (R .slot j jl q))
+      (rw (S .number, setAt-else (M .F) s (unfilled (parOf p h off) s) (stripeIn st j) n, setAt-else (M .ready) s (λ e. false) (stripeIn st j) n) (R .slot j jl q))
     where
       S : SameSlot st (beginStripe st i) j
       S = begin-same st (R .long) i il j (not-i j q)
@@ -112,7 +112,7 @@ module _ (p : Params) (h : Ranged p) (g : Ghost) (v : ItemView) (st : State) (fl
   numbers : (j : ℕ) → inUse st j ≡ true → stripeIn (beginStripe st i) j ≡ stripeIn st j
   numbers j q = begin-same st (R .long) i il j (not-i j q) .number
 
-  pub begin-rel : RelOn p v (beginStripe st i) fl (begunMem (parOf p h) M) (withSlot st i)
+  pub begin-rel : RelOn p v (beginStripe st i) fl (begunMem (parOf p h off) M) (withSlot st i)
   begin-rel = record {
     long = begin-long st (R .long) i il;
     healthy = unfold beginStripe in R .healthy;
@@ -127,7 +127,7 @@ module _ (p : Params) (h : Ranged p) (g : Ghost) (v : ItemView) (st : State) (fl
         (λ (e : inUse st j ≡ true). rw (numbers j e) (setAt-elim (λ (x : Bool). x ≡ true) (M .fly) s true (stripeIn st j) (λ w. refl) (λ w. R .flying j jl e))) (with-cases j q);
     slot =
         λ j jl q. ⊎-elim (λ (e : j ≡ i). subst (λ (x : ℕ). SlotOf p v (beginStripe st i) fl (M .zone) x
-        (begunMem (parOf p h) M .F (stripeIn (beginStripe st i) x)) (begunMem (parOf p h) M .ready (stripeIn (beginStripe st i) x))) (sym e)
+        (begunMem (parOf p h off) M .F (stripeIn (beginStripe st i) x)) (begunMem (parOf p h off) M .ready (stripeIn (beginStripe st i) x))) (sym e)
         slot-begun)
         (λ (e : inUse st j ≡ true). others-begun j jl e) (with-cases j q);
     once = λ j l jl ll q w e. once j l jl ll (with-cases j q) (with-cases l w) e;
@@ -153,7 +153,7 @@ module _ (p : Params) (h : Ranged p) (g : Ghost) (v : ItemView) (st : State) (fl
       whole x l (yes e) w = clash (ap (setAt (M .fly) s true) e ∙ setAt-here (M .fly) s true) w
       whole x l (no e) w = R .whole o x (omega arith) (sym (setAt-else (M .fly) s true x e) ∙ w)
 
-  pub begin-waits : (x : Val) (y : ℕ) → Waiting p st M x y → Waiting p (beginStripe st i) (begunMem (parOf p h) M) x y
+  pub begin-waits : (x : Val) (y : ℕ) → Waiting p st M x y → Waiting p (beginStripe st i) (begunMem (parOf p h off) M) x y
   begin-waits x y q =
       let n : q .i ≢ i = not-i (q .i) (q .inUse?) in
       let S : SameSlot st (beginStripe st i) (q .i) = begin-same st (R .long) i il (q .i) n in
@@ -166,7 +166,7 @@ module _ (p : Params) (h : Ranged p) (g : Ghost) (v : ItemView) (st : State) (fl
         filled = omega (arith, S .filled, q .filled);
         write = S .write (q .k) ∙ q .write;
         val =
-            ap (λ (F : ℕ → Val). F (dataDrive p y (q .k))) (setAt-else (M .F) s (unfilled (parOf p h) s) y
+            ap (λ (F : ℕ → Val). F (dataDrive p y (q .k))) (setAt-else (M .F) s (unfilled (parOf p h off) s) y
             (let z : y ≢ s = omega (arith, older (q .i) (q .lt) (q .inUse?), q .number) in z)) ∙ q .val;
       }
 

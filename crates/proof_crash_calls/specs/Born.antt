@@ -1,42 +1,39 @@
 -- A healthy run exists: empty drives, with the memory that a restart makes of them. Assumes nothing.
 use mathlib.Core.Path.{_≡_, refl, ap, _∙_}
 use mathlib.Core.List.{List, [], map}
-use mathlib.Core.Bool.{true, cond, not}
-use Prim.Native.Nat.{ℕ}
-use borrow.Author.Tests.{eq-eqb}
-use native.Mathlib.Omega.{arith}
-use lib.Dec.{eqb}
+use mathlib.Core.Bool.{true, false, cond, not}
+use Prim.Native.Nat.{ℕ, _<_}
+use lib.Dec.{ltb, eqb}
 use Rattle.spec.specs.declared.Params.{Params}
-use Rattle.spec.specs.Drives.{View, pointerAt, Disk, allSegs, zoneOn}
+use Rattle.spec.specs.Drives.{View, Disk, zoneOn}
 use Rattle.spec.specs.History.{emptyDisk}
-use Rattle.spec.specs.Lists.{below, all, keep, flat, greatest, isIn}
+use Rattle.spec.specs.Lists.{below, all, keep, flat, greatest}
 use Rattle.spec.specs.Memory.{idleState}
-use Rattle.spec.specs.Params.{drivesOf, present}
+use Rattle.spec.specs.Params.{present}
 use Rattle.spec.specs.Restart.{openOf, nextOf, restartMemory}
 use Rattle.spec.specs.Segments.{lowDrive, leftBy1, isCopy, remaining, Segment, segmentOf, segments, candidates, greatestStamp, greatestSerial, unsealed}
 use Rattle.law_basic.specs.Geometry.{Ranged}
-use Rattle.law_basic.specs.Mask.{isIn-empty}
-use Rattle.law_basic.specs.Segs.{zone-on-lt}
 use Rattle.law_views.specs.Views.{seen}
-use Rattle.law_drives.specs.Tests.{clash, not-so}
-use Rattle.proof_crash_items.specs.Member.{Has, has-keep, keep-nil, has-below, all-has}
-use Rattle.proof_crash_items.specs.Segs.{segs-has}
-use Rattle.proof_crash_items.specs.Start.{start-pointer}
+use Rattle.proof_crash_items.specs.Member.{keep-nil, and-false-1, below-has}
+use Rattle.proof_crash_items.specs.Start.{start-unused}
 use Rattle.spec.specs.declared.Seg.{Seg}
+use Rattle.proof_crash_items.specs.Named.{low-drive, zero-few}
+use Rattle.spec.specs.Segments.{gathered, isUsed, leads, lowestBearing, segFor, serialIn}
 
-module _ (p : Params) (h : Ranged p) (k : Disk) (e : emptyDisk p k ≡ true) (fl : List ℕ) where
+module _ (p : Params) (h : Ranged p) (off : List ℕ) (k : Disk) (e : emptyDisk p off k ≡ true) (fl : List ℕ) where
   abbrev v : View
-  v = seen p k
+  v = seen p off k
+
+  none-used : (z : ℕ) → z < p .Z → leads p v (lowDrive p 0) z ≡ false
+  unfolding leads
+  none-used z b = and-false-1 (isUsed p v (lowDrive p 0) z) (eqb (lowestBearing p v (lowDrive p 0) (serialIn p v (lowDrive p 0) z)) z)
+      (start-unused p h off k e (lowDrive p 0) z (low-drive p 0 h (zero-few p h) .0) b)
 
   none-left : leftBy1 p v 0 ≡ []
-  unfolding leftBy1
-  none-left = keep-nil (λ g. all (λ d. not (eqb (pointerAt v d (zoneOn g d)) 0)) (present p 0)) (allSegs p) (λ z i.
-      not-so (all (λ d. not (eqb (pointerAt v d (zoneOn z d)) 0)) (present p 0)) (λ q.
-      clash (all-has (λ d. not (eqb (pointerAt v d (zoneOn z d)) 0)) (present p 0) q 0 first)
-      (ap not (eq-eqb (pointerAt v 0 (zoneOn z 0)) 0 (start-pointer p h k e 0 (zoneOn z 0) (omega (arith, h .drives-low)) (zone-on-lt p z 0 (segs-has p z i)))))))
-    where
-      first : Has 0 (present p 0)
-      first = unfold present drivesOf in has-keep (λ d. not (isIn 0 d)) 0 (below (p .N)) (has-below 0 (p .N) (omega (arith, h .drives-low))) (ap not (isIn-empty 0))
+  unfolding leftBy1 gathered
+  none-left =
+      ap (λ (l : List ℕ). keep (λ g. all (λ d. ltb (zoneOn g d) (p .Z)) (present p 0)) (map (λ z. segFor p v 0 (serialIn p v (lowDrive p 0) z)) l))
+      (keep-nil (leads p v (lowDrive p 0)) (below (p .Z)) (λ z i. none-used z (below-has z (p .Z) i))) ∙ (unfold keep in refl)
 
   none-segments : segments p v 0 ≡ []
   unfolding segments remaining

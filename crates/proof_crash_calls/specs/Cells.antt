@@ -18,7 +18,6 @@ use Rattle.law_drives.specs.Slots.{cell-low}
 use Rattle.proof_crash_machine.specs.Exec.{or-1, or-2}
 use Rattle.proof_crash_calls.specs.Base.{eqb-self}
 use Rattle.proof_crash_calls.specs.Rel.{RowsLong, inUse}
-use Rattle.spec.specs.declared.Seg.{Seg}
 
 pub record SameSlot (st st′ : State) (j : ℕ) : Type 0 where
   pub number : stripeIn st′ j ≡ stripeIn st j
@@ -253,8 +252,8 @@ stamp-same st t j = record {
   write = λ k. unfold setStamp isWrite in refl;
 }
 
-pub open-same : (st : State) (z : Seg) (r j : ℕ) → SameSlot st (setOpen st z r) j
-open-same st z r j = record {
+pub open-same : (st : State) (r j : ℕ) → SameSlot st (setOpen st r) j
+open-same st r j = record {
   number = unfold setOpen stripeIn in refl;
   filled = unfold setOpen filledIn in refl;
   landed = unfold setOpen landedIn in refl;

@@ -11,7 +11,7 @@ use lib.ListN.{length}
 use Rattle.spec.specs.declared.Params.{Params}
 use Rattle.spec.specs.declared.State.{State}
 use Rattle.spec.specs.Counts.{neverPlace}
-use Rattle.spec.specs.Drives.{View, zoneOn, placeSegment, placeRecord}
+use Rattle.spec.specs.Drives.{View, zoneOn}
 use Rattle.spec.specs.Landing.{heldCand, held, landedCand, landedCands, pointed}
 use Rattle.spec.specs.Layout.{parityDrive, dataDrive}
 use Rattle.spec.specs.Lists.{Opt, below, any}
@@ -22,7 +22,6 @@ use Rattle.spec.specs.Rank.{Cand, best, placeOr, candsOf}
 use Rattle.law_basic.specs.Geometry.{Ranged, place-block, place-zone, place-drive, data-drive-lt, data-not-parity}
 use Rattle.law_basic.specs.Ranges.{Test, test}
 use Rattle.law_basic.specs.Ranges.Test.{yes!, no! }
-use Rattle.law_basic.specs.Segs.{Named, zone-on-lt, place-segment-of}
 use Rattle.law_views.specs.Looked.{held-none, held-some}
 use Rattle.proof_crash_machine.specs.Facts.{Ghost, Counted, Off, None}
 use Rattle.proof_crash_machine.specs.Ghosts.{withBase}
@@ -30,10 +29,9 @@ use Rattle.proof_crash_machine.specs.Val.{Val}
 use Rattle.proof_crash_machine.specs.View.Item.{chunk}
 use Rattle.proof_crash_machine.specs.View.{ItemView}
 use Rattle.proof_crash_items.specs.Cands.{best-none}
-use Rattle.proof_crash_items.specs.Items.{itemsIn}
 use Rattle.proof_crash_items.specs.Member.{Has, keep-has, has-keep, below-has, has-below, any-has, any-false-in, map-has, has-map}
 use Rattle.proof_crash_items.specs.Ranges.{parOf}
-use Rattle.proof_crash_items.specs.Segs.{OnDrives, zone-bytes, zone-len}
+use Rattle.proof_crash_items.specs.Segs.{OnDrives, On, is-on, zone-bytes, zone-len}
 use Rattle.proof_crash_items.specs.Stripes.{pointer-is}
 use Rattle.proof_crash_calls.specs.Ack.{raiseTo, raise-low, raise-is}
 use Rattle.proof_crash_calls.specs.Entries.{entry-low, entry-stamp}
@@ -41,13 +39,15 @@ use Rattle.proof_crash_calls.specs.Held.{Grown, Entry, TableOk, entry-to
 use Rattle.proof_crash_calls.specs.Placed.{drive-cases}
 use Rattle.proof_crash_calls.specs.Pointed.{pointTo, pointed-none, pointed-some, best-some}
 use Rattle.spec.specs.declared.Seg.{Seg}
+use Rattle.spec.specs.Segments.{placeRecord}
 
-module _ (p : Params) (h : Ranged p) (g : Ghost) (u : View) (k : OnDrives p h g u) (none? : None (parOf p h) (g .un)) (v : ItemView)
-    (gr : Grown (parOf p h) v (itemsIn p u)) (tb : List ℕ) (long : length tb ≡ addressesLen p)
-    (T : TableOk p h g v tb) (st : State) (i : ℕ) (z : Seg) (s : ℕ) (F : ℕ → Val) (zl : Named p z) (full : filledIn st i ≡ dataCount p) (number : stripeIn st i ≡ s)
+module _ (p : Params) (h : Ranged p) (off : List ℕ) (g : Ghost) (u : View) (items : ItemView) (k : OnDrives p h off g u items) (none? : None (parOf p h off) (g .un)) (v : ItemView)
+    (gr : Grown (parOf p h off) v items) (tb : List ℕ) (long : length tb ≡ addressesLen p)
+    (T : TableOk p h off g v tb) (st : State) (i : ℕ) (z : Seg) (n : ℕ) (s : ℕ) (F : ℕ → Val)
+    (zl : (d : ℕ) → d < p .N → zoneOn z d < p .Z) (lies : (d : ℕ) → d < p .N → zoneOn z d ≡ g .hd .zn n d) (full : filledIn st i ≡ dataCount p) (number : stripeIn st i ≡ s)
     (ent : (j : ℕ) → j < dataCount p → (F (dataDrive p s j) .addr ≡ entryIn st i j .address) × (F (dataDrive p s j) .stamp ≡ entryIn st i j .stamp))
-    (on : (d : ℕ) → d < p .N → Off (itemsIn p u d (zoneOn z 0)) (suc (offsetIn st i d)) (chunk s (F d)))
-    (cnt : (d : ℕ) → d < p .N → d ≢ parityDrive p s → (c : Counted (parOf p h) (g .hd) (itemsIn p u) (g .un) (F d)) × (c .z ≡ zoneOn z 0)) where
+    (on : (d : ℕ) → d < p .N → Off (items d n) (suc (offsetIn st i d)) (chunk s (F d)))
+    (cnt : (d : ℕ) → d < p .N → d ≢ parityDrive p s → (c : Counted (parOf p h off) (g .hd) items (g .un) (F d)) × (c .z ≡ n)) where
   abbrev cs : List Cand
   cs = landedCands p u z st i
 
@@ -110,17 +110,18 @@ module _ (p : Params) (h : Ranged p) (g : Ghost) (u : View) (k : OnDrives p h g 
 
   -- the place of a position
   new-entry : (j : ℕ) → j < dataCount p → (a : ℕ) → F (dataDrive p s j) .addr ≡ a → base′ a ≤ F (dataDrive p s j) .stamp
-      → Entry p h g′ (itemsIn p u) (landedCand p u z st i j .place) a
-  new-entry j l a e b = subst (λ (q : ℕ). Entry p h g′ (itemsIn p u) q a) (sym (landed-place j)) (record {
+      → Entry p h off g′ items (landedCand p u z st i j .place) a
+  new-entry j l a e b = subst (λ (q : ℕ). Entry p h off g′ items q a) (sym (landed-place j)) (record {
     s = s;
     x = F d;
     drive = subst (λ (y : ℕ). y < p .N) (sym place-d) dl;
     zone = subst (λ (y : ℕ). y < p .Z) (sym place-z) zone-low;
-    at = subst (λ (y : ℕ). Off (itemsIn p u (placeDrive p (placeOf p d (zoneOn z d) (1 + o))) (zoneOn (placeSegment p (placeOf p d (zoneOn z d) (1 + o))) 0)) y (chunk s (F d))) (sym place-b)
-        (subst (λ (y : ℕ). Off (itemsIn p u y (zoneOn (placeSegment p (placeOf p d (zoneOn z d) (1 + o))) 0)) (suc o) (chunk s (F d))) (sym place-d)
-        (subst (λ (y : Seg). Off (itemsIn p u d (zoneOn y 0)) (suc o) (chunk s (F d))) (sym place-seg) (on d dl)));
+    n = n;
+    lies = ap (g .hd .zn n) place-d ∙ sym (lies d dl) ∙ sym place-z;
+    at = subst (λ (y : ℕ). Off (items (placeDrive p (placeOf p d (zoneOn z d) (1 + o))) n) y (chunk s (F d))) (sym place-b)
+        (subst (λ (y : ℕ). Off (items y n) (suc o) (chunk s (F d))) (sym place-d) (on d dl));
     counts = cnt d dl (λ q. data-not-parity p s j q) .0;
-    same = cnt d dl (λ q. data-not-parity p s j q) .1 ∙ sym (ap (λ (y : Seg). zoneOn y 0) place-seg);
+    same = cnt d dl (λ q. data-not-parity p s j q) .1;
     addr = e;
     floor = b;
   })
@@ -135,10 +136,20 @@ module _ (p : Params) (h : Ranged p) (g : Ghost) (u : View) (k : OnDrives p h g 
       o = offsetIn st i d
 
       zone-low : zoneOn z d < p .Z
-      zone-low = zone-on-lt p z d zl
+      zone-low = zl d dl
+
+      there : On p h off g u items k d n
+      there = is-on p h off g u items k d n dl (none? d dl) (omega (arith, on d dl .0))
 
       within : 1 + o < capacity p
-      within = omega (arith, on d dl .0, zone-len p h g u k d z dl (omega (arith, dl, none?)) zl, zone-bytes p h g u k d z dl (omega (arith, dl, none?)) zl .low, pointer-is u d (zoneOn z d))
+      within = omega (
+        arith,
+        on d dl .0,
+        ap length (there .items),
+        zone-len p h off g u items k d (g .hd .zn n d) dl (none? d dl) (there .low) (there .good),
+        zone-bytes p h off g u items k d (g .hd .zn n d) dl (none? d dl) (there .low) (there .good) .low,
+        pointer-is u d (g .hd .zn n d),
+      )
 
       place-d : placeDrive p (placeOf p d (zoneOn z d) (1 + o)) ≡ d
       place-d = place-drive p d (zoneOn z d) (1 + o) zone-low within
@@ -146,25 +157,22 @@ module _ (p : Params) (h : Ranged p) (g : Ghost) (u : View) (k : OnDrives p h g 
       place-z : placeZone p (placeOf p d (zoneOn z d) (1 + o)) ≡ zoneOn z d
       place-z = place-zone p d (zoneOn z d) (1 + o) zone-low within
 
-      place-seg : placeSegment p (placeOf p d (zoneOn z d) (1 + o)) ≡ z
-      place-seg = place-segment-of p z d (1 + o) dl zl within
-
       place-b : placeBlock p (placeOf p d (zoneOn z d) (1 + o)) ≡ suc o
       place-b = place-block p d (zoneOn z d) (1 + o) within ∙ (let w : 1 + o ≡ suc o = omega arith in w)
 
   -- an old one, where the new floor is no higher
-  old-entry : (q a : ℕ) (e : Entry p h g (itemsIn p u) q a) → base′ a ≤ e .x .stamp → Entry p h g′ (itemsIn p u) q a
-  old-entry q a e b = entry-to p h g g′ (itemsIn p u) (itemsIn p u) q a e (e .at) (e .counts) (e .same) b
+  old-entry : (q a : ℕ) (e : Entry p h off g items q a) → base′ a ≤ e .x .stamp → Entry p h off g′ items q a
+  old-entry q a e b = entry-to p h off g g′ items items q a e refl (e .at) (e .counts) (e .same) b
 
   -- what the table held, on the drives as they are
-  entry-before : (a : ℕ) → a < p .L → ((placeAt tb a ≡ neverPlace) × (g .base a ≡ 0)) ⊎ Entry p h g (itemsIn p u) (placeAt tb a) a
-  entry-before a al = table-grown p h g v (itemsIn p u) tb gr T a al
+  entry-before : (a : ℕ) → a < p .L → ((placeAt tb a ≡ neverPlace) × (g .base a ≡ 0)) ⊎ Entry p h off g items (placeAt tb a) a
+  entry-before a al = table-grown p h off g v items tb gr T a al
 
   -- no position has the address
-  untouched : (a : ℕ) → a < p .L → ((c : Cand) → Has c cs → c .address ≢ a) → ((placeAt tb′ a ≡ neverPlace) × (base′ a ≡ 0)) ⊎ Entry p h g′ (itemsIn p u) (placeAt tb′ a) a
+  untouched : (a : ℕ) → a < p .L → ((c : Cand) → Has c cs → c .address ≢ a) → ((placeAt tb′ a ≡ neverPlace) × (base′ a ≡ 0)) ⊎ Entry p h off g′ items (placeAt tb′ a) a
   untouched a al n = ⊎-elim (λ (w : (placeAt tb a ≡ neverPlace) × (g .base a ≡ 0)). inl (same ∙ w .0, base-same ∙ w .1))
-      (λ (w : Entry p h g (itemsIn p u) (placeAt tb a) a). inr
-      (subst (λ (q : ℕ). Entry p h g′ (itemsIn p u) q a) (sym same)
+      (λ (w : Entry p h off g items (placeAt tb a) a). inr
+      (subst (λ (q : ℕ). Entry p h off g′ items q a) (sym same)
       (old-entry (placeAt tb a) a w (subst (λ (y : ℕ). y ≤ w .x .stamp) (sym base-same) (w .floor))))) (entry-before a al)
     where
       same : placeAt tb′ a ≡ placeAt tb a
@@ -183,20 +191,22 @@ module _ (p : Params) (h : Ranged p) (g : Ghost) (u : View) (k : OnDrives p h g 
     won :
         (w : Cand)
         → best (held p u tb a) (candsOf a cs) ≡ some w
-        → Entry p h g′ (itemsIn p u) (w .place) a
-        → ((placeAt tb′ a ≡ neverPlace) × (base′ a ≡ 0)) ⊎ Entry p h g′ (itemsIn p u) (placeAt tb′ a) a
-    won w e x = inr (subst (λ (q : ℕ). Entry p h g′ (itemsIn p u) q a) (sym (pointed-some p u tb cs cs tb long a al small (inr some?) ∙ is)) x)
+        → Entry p h off g′ items (w .place) a
+        → ((placeAt tb′ a ≡ neverPlace) × (base′ a ≡ 0)) ⊎ Entry p h off g′ items (placeAt tb′ a) a
+    won w e x = inr (subst (λ (q : ℕ). Entry p h off g′ items q a) (sym (pointed-some p u tb cs cs tb long a al small (inr some?) ∙ is)) x)
       where
         is : pointTo p u tb cs a ≡ w .place
         is = ap placeOr e ∙ (unfold placeOr in refl)
 
         low : w .place < neverPlace
         low =
-            entry-low p h g u k none? (w .place) a (record {
+            entry-low p h off g u items k none? (w .place) a (record {
               s = x .s;
               x = x .x;
               drive = x .drive;
               zone = x .zone;
+              n = x .n;
+              lies = x .lies;
               at = x .at;
               counts = x .counts;
               same = x .same;
@@ -214,19 +224,19 @@ module _ (p : Params) (h : Ranged p) (g : Ghost) (u : View) (k : OnDrives p h g 
         → best (held p u tb a) (candsOf a cs) ≡ some w
         → Has w (candsOf a cs)
         → base′ a ≤ w .stamp
-        → ((placeAt tb′ a ≡ neverPlace) × (base′ a ≡ 0)) ⊎ Entry p h g′ (itemsIn p u) (placeAt tb′ a) a
+        → ((placeAt tb′ a ≡ neverPlace) × (base′ a ≡ 0)) ⊎ Entry p h off g′ items (placeAt tb′ a) a
     by-position w e m b =
         let o : Has w cs × (w .address ≡ a) = landed-of-address w a m in
         let j : (j : ℕ) × (j < dataCount p) × (w ≡ landedCand p u z st i j) = position-of w (o .0) in
-        won w e (subst (λ (y : Cand). Entry p h g′ (itemsIn p u) (y .place) a) (sym (j .2)) (new-entry (j .0) (j .1) a
+        won w e (subst (λ (y : Cand). Entry p h off g′ items (y .place) a) (sym (j .2)) (new-entry (j .0) (j .1) a
         (sym (cand-address (j .0) (j .1)) ∙ ap (λ (y : Cand). y .address) (sym (j .2)) ∙ o .1)
         (omega (arith, b, ap (λ (y : Cand). y .stamp) (j .2), cand-stamp (j .0) (j .1)))))
 
-    touched : ((placeAt tb′ a ≡ neverPlace) × (base′ a ≡ 0)) ⊎ Entry p h g′ (itemsIn p u) (placeAt tb′ a) a
+    touched : ((placeAt tb′ a ≡ neverPlace) × (base′ a ≡ 0)) ⊎ Entry p h off g′ items (placeAt tb′ a) a
     touched = ⊎-elim (λ w. fresh w) (λ w. over w) (entry-before a al)
       where
         -- never written before
-        fresh : (placeAt tb a ≡ neverPlace) × (g .base a ≡ 0) → ((placeAt tb′ a ≡ neverPlace) × (base′ a ≡ 0)) ⊎ Entry p h g′ (itemsIn p u) (placeAt tb′ a) a
+        fresh : (placeAt tb a ≡ neverPlace) × (g .base a ≡ 0) → ((placeAt tb′ a ≡ neverPlace) × (base′ a ≡ 0)) ⊎ Entry p h off g′ items (placeAt tb′ a) a
         fresh (n, b) = ⊎-elim (λ (e : candsOf a cs ≡ []). absurd (subst (λ (l : List Cand). Has (some? .0) l) e nonempty))
             (λ (r : (w : Cand) × (best none (candsOf a cs) ≡ some w) × Has w (candsOf a cs) × ((c : Cand) → Has c (candsOf a cs) → c .stamp ≤ w .stamp)).
             by-position (r .0) (ap (λ (x : Opt Cand). best x (candsOf a cs)) empty ∙ r .1) (r .2) (floor-low a (r .0 .stamp) (omega (arith, b)) (r .3))) (best-none (candsOf a cs))
@@ -235,11 +245,11 @@ module _ (p : Params) (h : Ranged p) (g : Ghost) (u : View) (k : OnDrives p h g 
             empty = held-none p tb a (placeAt tb a) refl u n
 
         -- written before: the older record, or a position
-        over : Entry p h g (itemsIn p u) (placeAt tb a) a → ((placeAt tb′ a ≡ neverPlace) × (base′ a ≡ 0)) ⊎ Entry p h g′ (itemsIn p u) (placeAt tb′ a) a
+        over : Entry p h off g items (placeAt tb a) a → ((placeAt tb′ a ≡ neverPlace) × (base′ a ≡ 0)) ⊎ Entry p h off g′ items (placeAt tb′ a) a
         over x = go (best-some old (candsOf a cs))
           where
             low : placeAt tb a < neverPlace
-            low = entry-low p h g u k none? (placeAt tb a) a x
+            low = entry-low p h off g u items k none? (placeAt tb a) a x
 
             old : Cand
             old = heldCand p u a (placeRecord p u 0 (placeAt tb a) .stamp) (placeAt tb a)
@@ -248,7 +258,7 @@ module _ (p : Params) (h : Ranged p) (g : Ghost) (u : View) (k : OnDrives p h g 
             there = held-some p tb a (placeAt tb a) refl u (omega (arith, low))
 
             its-stamp : old .stamp ≡ x .x .stamp
-            its-stamp = unfold heldCand in entry-stamp p h g u k none? (placeAt tb a) a x
+            its-stamp = unfold heldCand in entry-stamp p h off g u items k none? (placeAt tb a) a x
 
             its-place : old .place ≡ placeAt tb a
             its-place = unfold heldCand in refl
@@ -258,19 +268,19 @@ module _ (p : Params) (h : Ranged p) (g : Ghost) (u : View) (k : OnDrives p h g 
                 × (best (some old) (candsOf a cs) ≡ some w)
                 × ((w ≡ old) ⊎ Has w (candsOf a cs))
                 × (old .stamp ≤ w .stamp)
-                × ((c : Cand) → Has c (candsOf a cs) → c .stamp ≤ w .stamp) → ((placeAt tb′ a ≡ neverPlace) × (base′ a ≡ 0)) ⊎ Entry p h g′ (itemsIn p u) (placeAt tb′ a) a
+                × ((c : Cand) → Has c (candsOf a cs) → c .stamp ≤ w .stamp) → ((placeAt tb′ a ≡ neverPlace) × (base′ a ≡ 0)) ⊎ Entry p h off g′ items (placeAt tb′ a) a
             go (w, e, r, b, m) = ⊎-elim
                 (λ (q : w ≡ old). won w (ap (λ (y : Opt Cand). best y (candsOf a cs)) there ∙ e)
-                (subst (λ (y : ℕ). Entry p h g′ (itemsIn p u) y a) (sym (ap (λ (y : Cand). y .place) q ∙ its-place))
+                (subst (λ (y : ℕ). Entry p h off g′ items y a) (sym (ap (λ (y : Cand). y .place) q ∙ its-place))
                 (old-entry (placeAt tb a) a x (subst (λ (y : ℕ). base′ a ≤ y) (ap (λ (y : Cand). y .stamp) q ∙ its-stamp) floor))))
                 (λ (q : Has w (candsOf a cs)). by-position w (ap (λ (y : Opt Cand). best y (candsOf a cs)) there ∙ e) q floor) r
               where
                 floor : base′ a ≤ w .stamp
                 floor = floor-low a (w .stamp) (omega (arith, x .floor, its-stamp, b)) m
 
-  pub table-done : TableOk p h (withBase g (λ x. raiseTo (parityDrive p s) F (g .base) x (p .N))) (itemsIn p u) (pointed p u tb (landedCands p u z st i) (landedCands p u z st i) tb)
+  pub table-done : TableOk p h off (withBase g (λ x. raiseTo (parityDrive p s) F (g .base) x (p .N))) items (pointed p u tb (landedCands p u z st i) (landedCands p u z st i) tb)
   table-done a al = go (test (any (λ (c : Cand). eqb (c .address) a) cs))
     where
-      go : Test (any (λ (c : Cand). eqb (c .address) a) cs) → ((placeAt tb′ a ≡ neverPlace) × (base′ a ≡ 0)) ⊎ Entry p h g′ (itemsIn p u) (placeAt tb′ a) a
+      go : Test (any (λ (c : Cand). eqb (c .address) a) cs) → ((placeAt tb′ a ≡ neverPlace) × (base′ a ≡ 0)) ⊎ Entry p h off g′ items (placeAt tb′ a) a
       go (yes! e) = let w : (c : Cand) × Has c cs × (eqb (c .address) a ≡ true) = any-has (λ (c : Cand). eqb (c .address) a) cs e in touched a al (w .0, w .1, eqb-true (w .0 .address) a (w .2))
       go (no! e) = untouched a al (λ c m. eqb-false (c .address) a (any-false-in (λ (c : Cand). eqb (c .address) a) cs e c m))

@@ -9,15 +9,16 @@ use Rattle.spec.specs.Drives.{View, Store, storeView, storeAll}
 use Rattle.law_basic.specs.Geometry.{Ranged}
 use Rattle.proof_crash_machine.specs.Facts.{Par, Ghost, InV}
 use Rattle.proof_crash_machine.specs.History.{Mode, State as m-State, Inv, Step, StepsTo, kept-all, start, inv-start, step-inv}
-use Rattle.proof_crash_machine.specs.History.Mode.{off}
+use Rattle.proof_crash_machine.specs.History.Mode.{off as m-off}
 use Rattle.proof_crash_machine.specs.History.Step.{lose}
 use Rattle.proof_crash_machine.specs.History.StepsTo.{stop, then}
 use Rattle.proof_crash_machine.specs.Order.{Track, Tracked, track, runTrack, noTrack, tracked}
 use Rattle.proof_crash_machine.specs.Val.{Val}
-use Rattle.proof_crash_machine.specs.View.{ItemView}
-use Rattle.proof_crash_items.specs.Items.{itemsIn}
+use Rattle.proof_crash_machine.specs.View.{ItemView, ItemStore, apply, applyAll}
+use Rattle.proof_crash_items.specs.Items.{storeItem}
+use Rattle.proof_crash_items.specs.Places.{placeStore}
 use Rattle.proof_crash_items.specs.Ranges.{parOf}
-use Rattle.proof_crash_items.specs.Sound.{Sound, AllSound}
+use Rattle.proof_crash_items.specs.Sound.{Sound, Follows, follows-nil, follows-cons}
 
 abbrev pub mst : Ghost → ItemView → List Val → Bool → Mode → m-State
 mst g v a c m = record { g = g; v = v; acked = a; since = c; mode = m }
@@ -61,10 +62,6 @@ go-then p σ τ υ T U W a b = record {
 pub go-more : (p : Par) (σ τ υ : m-State) (T U : Track) → Go p σ τ T U → (s : Step p τ υ) → Go p σ υ T (track p τ υ s U)
 go-more p σ τ υ T U a s = go-then p σ τ υ T U (track p τ υ s U) a (go-step p τ υ U s)
 
--- the drives by another name
-pub go-view : (p : Par) (σ : m-State) (g : Ghost) (v u : ItemView) (a : List Val) (c : Bool) (m : Mode) (T U : Track) → v ≡ u → Go p σ (mst g v a c m) T U → Go p σ (mst g u a c m) T U
-go-view p σ g v u a c m T U e = subst (λ (w : ItemView). Go p σ (mst g w a c m) T U) e
-
 -- ---- the invariant along them
 pub go-inv : (p : Par) (σ τ : m-State) (T U : Track) → Go p σ τ T U → Inv p σ → Inv p τ
 go-inv p σ τ T U a i = kept-all p σ τ (a .steps) i
@@ -83,36 +80,51 @@ go-start p τ U a = (go-inv p (start p) τ noTrack U a (inv-start p), go-tracked
 
 -- ---- a list of stores, one step for each, memory and ghost as they were
 
-module _ (p : Params) (h : Ranged p) (g : Ghost) (a : List Val) (c : Bool) (m : Mode) where
-  abbrev pub Chain : View → List Store → Type 0
-  Chain v [] = Unit {0}
-  Chain v (s ∷ ss) = Sound p v s × ((T : Track) → Go (parOf p h) (mst g (itemsIn p v) a c m) (mst g (itemsIn p (storeView s v)) a c m) T T) × Chain (storeView s v) ss
+module _ (p : Params) (h : Ranged p) (off : List ℕ) (g : Ghost) (a : List Val) (c : Bool) (m : Mode) where
+  -- ss: the stores by zone, on drives v; ms: the same by segment, on the machine's view u
+  abbrev pub Chain : View → ItemView → List Store → List ItemStore → Type 0
+  Chain v u [] [] = Unit {0}
+  Chain v u [] (x ∷ ms) = ⊥
+  Chain v u (s ∷ ss) [] = ⊥
+  Chain v u (s ∷ ss) (x ∷ ms) = Sound p v s × (storeItem p v s ≡ placeStore (g .hd) x)
+      × ((T : Track) → Go (parOf p h off) (mst g u a c m) (mst g (apply u x) a c m) T T) × Chain (storeView s v) (apply u x) ss ms
 
-  pub chain-sound : (v : View) (ss : List Store) → Chain v ss → AllSound p v ss
-  chain-sound v [] k = tt
-  chain-sound v (s ∷ ss) k = (k .0, chain-sound (storeView s v) ss (k .2))
+  pub chain-follows : (v : View) (u : ItemView) (ss : List Store) (ms : List ItemStore) → Chain v u ss ms → Follows p (g .hd) v ss ms
+  chain-follows v u [] [] k = follows-nil p (g .hd) v
+  chain-follows v u [] (x ∷ ms) k = absurd k
+  chain-follows v u (s ∷ ss) [] k = absurd k
+  chain-follows v u (s ∷ ss) (x ∷ ms) k = follows-cons p (g .hd) v s ss x ms (k .0) (k .1) (chain-follows (storeView s v) (apply u x) ss ms (k .3))
 
-  pub chain-take : (v : View) (ss : List Store) (n : ℕ) → Chain v ss → Chain v (take n ss)
-  chain-take v [] zero k = tt
-  chain-take v [] (suc n) k = tt
-  chain-take v (s ∷ ss) zero k = tt
-  chain-take v (s ∷ ss) (suc n) k = (k .0, k .1, chain-take (storeView s v) ss n (k .2))
+  pub chain-take : (v : View) (u : ItemView) (ss : List Store) (ms : List ItemStore) (n : ℕ) → Chain v u ss ms → Chain v u (take n ss) (take n ms)
+  chain-take v u [] [] zero k = tt
+  chain-take v u [] [] (suc n) k = tt
+  chain-take v u [] (x ∷ ms) n k = absurd k
+  chain-take v u (s ∷ ss) [] n k = absurd k
+  chain-take v u (s ∷ ss) (x ∷ ms) zero k = tt
+  chain-take v u (s ∷ ss) (x ∷ ms) (suc n) k = (k .0, k .1, k .2, chain-take (storeView s v) (apply u x) ss ms n (k .3))
 
-  pub chain-append : (v : View) (ss ts : List Store) → Chain v ss → Chain (storeAll storeView ss v) ts → Chain v (ss ++ ts)
-  unfolding storeAll
-  chain-append v [] ts k j = j
-  chain-append v (s ∷ ss) ts k j = (k .0, k .1, chain-append (storeView s v) ss ts (k .2) j)
+  pub chain-append : (v : View) (u : ItemView) (ss ts : List Store) (ms ns : List ItemStore) → Chain v u ss ms → Chain (storeAll storeView ss v) (applyAll u ms) ts ns
+      → Chain v u (ss ++ ts) (ms ++ ns)
+  unfolding storeAll applyAll
+  chain-append v u [] ts [] ns k j = j
+  chain-append v u [] ts (x ∷ ms) ns k j = absurd k
+  chain-append v u (s ∷ ss) ts [] ns k j = absurd k
+  chain-append v u (s ∷ ss) ts (x ∷ ms) ns k j = (k .0, k .1, k .2, chain-append (storeView s v) (apply u x) ss ts ms ns (k .3) j)
 
-  pub chain-go : (v : View) (ss : List Store) (T : Track) → Chain v ss → Go (parOf p h) (mst g (itemsIn p v) a c m) (mst g (itemsIn p (storeAll storeView ss v)) a c m) T T
-  unfolding storeAll
-  chain-go v [] T k = go-none (parOf p h) (mst g (itemsIn p v) a c m) T
-  chain-go v (s ∷ ss) T k =
-      go-then (parOf p h) (mst g (itemsIn p v) a c m) (mst g (itemsIn p (storeView s v)) a c m) (mst g (itemsIn p (storeAll storeView ss (storeView s v))) a c m) T T T
-      (k .1 T) (chain-go (storeView s v) ss T (k .2))
+  pub chain-go : (v : View) (u : ItemView) (ss : List Store) (ms : List ItemStore) (T : Track) → Chain v u ss ms
+      → Go (parOf p h off) (mst g u a c m) (mst g (applyAll u ms) a c m) T T
+  unfolding applyAll
+  chain-go v u [] [] T k = go-none (parOf p h off) (mst g u a c m) T
+  chain-go v u [] (x ∷ ms) T k = absurd k
+  chain-go v u (s ∷ ss) [] T k = absurd k
+  chain-go v u (s ∷ ss) (x ∷ ms) T k =
+      go-then (parOf p h off) (mst g u a c m) (mst g (apply u x) a c m) (mst g (applyAll (apply u x) ms) a c m) T T T
+      (k .2 T) (chain-go (storeView s v) (apply u x) ss ms T (k .3))
 
 -- cut after n stores
-pub chain-cut : (p : Params) (h : Ranged p) (g : Ghost) (a : List Val) (c : Bool) (m : Mode) (v : View) (ss : List Store) (n : ℕ) (T : Track) → Chain p h g a c m v ss
-    → Go (parOf p h) (mst g (itemsIn p v) a c m) (mst g (itemsIn p (storeAll storeView (take n ss) v)) a c off) T T
-chain-cut p h g a c m v ss n T k =
-    go-more (parOf p h) (mst g (itemsIn p v) a c m) (mst g (itemsIn p (storeAll storeView (take n ss) v)) a c m) (mst g (itemsIn p (storeAll storeView (take n ss) v)) a c off) T T
-    (chain-go p h g a c m v (take n ss) T (chain-take p h g a c m v ss n k)) (lose (mst g (itemsIn p (storeAll storeView (take n ss) v)) a c m))
+pub chain-cut : (p : Params) (h : Ranged p) (off : List ℕ) (g : Ghost) (a : List Val) (c : Bool) (m : Mode) (v : View) (u : ItemView) (ss : List Store) (ms : List ItemStore) (n : ℕ) (T : Track)
+    → Chain p h off g a c m v u ss ms
+    → Go (parOf p h off) (mst g u a c m) (mst g (applyAll u (take n ms)) a c m-off) T T
+chain-cut p h off g a c m v u ss ms n T k =
+    go-more (parOf p h off) (mst g u a c m) (mst g (applyAll u (take n ms)) a c m) (mst g (applyAll u (take n ms)) a c m-off) T T
+    (chain-go p h off g a c m v u (take n ss) (take n ms) T (chain-take p h off g a c m v u ss ms n k)) (lose (mst g (applyAll u (take n ms)) a c m))

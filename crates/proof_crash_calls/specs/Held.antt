@@ -7,7 +7,6 @@ use native.Mathlib.Omega.{arith}
 use lib.ListN.{length, getD}
 use Rattle.spec.specs.declared.Params.{Params}
 use Rattle.spec.specs.Counts.{neverPlace}
-use Rattle.spec.specs.Drives.{placeSegment, zoneOn}
 use Rattle.spec.specs.Memory.{placeAt}
 use Rattle.spec.specs.Params.{placeBlock, placeZone, placeDrive}
 use Rattle.law_basic.specs.Geometry.{Ranged}
@@ -83,45 +82,71 @@ counted-kept P g g′ v v′ f no-pair un x q same = record {
 
 -- ---- an entry
 
--- at place q lies a record of address a that counts, in the segment of q, at or above the floor
-pub record Entry (p : Params) (h : Ranged p) (g : Ghost) (v : ItemView) (q a : ℕ) : Type 0 where
+-- at place q, in a zone of segment n, lies a record of address a that counts, in that segment, at or above the floor
+pub record Entry (p : Params) (h : Ranged p) (off : List ℕ) (g : Ghost) (v : ItemView) (q a : ℕ) : Type 0 where
   pub s : ℕ
   pub x : Val
   pub drive : placeDrive p q < p .N
   pub zone : placeZone p q < p .Z
-  pub at : Off (v (placeDrive p q) (zoneOn (placeSegment p q) 0)) (placeBlock p q) (chunk s x)
-  pub counts : Counted (parOf p h) (g .hd) v (g .un) x
-  pub same : counts .z ≡ zoneOn (placeSegment p q) 0
+  pub n : ℕ
+  pub lies : g .hd .zn n (placeDrive p q) ≡ placeZone p q
+  pub at : Off (v (placeDrive p q) n) (placeBlock p q) (chunk s x)
+  pub counts : Counted (parOf p h off) (g .hd) v (g .un) x
+  pub same : counts .z ≡ n
   pub addr : x .addr ≡ a
   pub floor : g .base a ≤ x .stamp
 
-abbrev pub TableOk : (p : Params) → Ranged p → Ghost → ItemView → List ℕ → Type 0
-TableOk p h g v tb = (a : ℕ) → a < p .L → ((placeAt tb a ≡ neverPlace) × (g .base a ≡ 0)) ⊎ Entry p h g v (placeAt tb a) a
+abbrev pub TableOk : (p : Params) → Ranged p → List ℕ → Ghost → ItemView → List ℕ → Type 0
+TableOk p h off g v tb = (a : ℕ) → a < p .L → ((placeAt tb a ≡ neverPlace) × (g .base a ≡ 0)) ⊎ Entry p h off g v (placeAt tb a) a
 
 -- elsewhere
-pub entry-to : (p : Params) (h : Ranged p) (g g′ : Ghost) (v v′ : ItemView) (q a : ℕ) (e : Entry p h g v q a)
-    → Off (v′ (placeDrive p q) (zoneOn (placeSegment p q) 0)) (placeBlock p q) (chunk (e .s) (e .x))
-    → (c : Counted (parOf p h) (g′ .hd) v′ (g′ .un) (e .x)) → c .z ≡ zoneOn (placeSegment p q) 0 → g′ .base a ≤ e .x .stamp → Entry p h g′ v′ q a
-entry-to p h g g′ v v′ q a e o c z b = record { s = e .s; x = e .x; drive = e .drive; zone = e .zone; at = o; counts = c; same = z; addr = e .addr; floor = b }
+pub entry-to : (p : Params) (h : Ranged p) (off : List ℕ) (g g′ : Ghost) (v v′ : ItemView) (q a : ℕ) (e : Entry p h off g v q a)
+    → g′ .hd .zn (e .n) (placeDrive p q) ≡ g .hd .zn (e .n) (placeDrive p q) → Off (v′ (placeDrive p q) (e .n)) (placeBlock p q) (chunk (e .s) (e .x))
+    → (c : Counted (parOf p h off) (g′ .hd) v′ (g′ .un) (e .x)) → c .z ≡ e .n → g′ .base a ≤ e .x .stamp → Entry p h off g′ v′ q a
+entry-to p h off g g′ v v′ q a e i o c z b = record {
+  s = e .s;
+  x = e .x;
+  drive = e .drive;
+  zone = e .zone;
+  n = e .n;
+  lies = i ∙ e .lies;
+  at = o;
+  counts = c;
+  same = z;
+  addr = e .addr;
+  floor = b;
+}
 
 -- only what was sent changes
-pub entry-sent : (p : Params) (h : Ranged p) (g : Ghost) (l : List Val) (v : ItemView) (q a : ℕ) → Entry p h g v q a → Entry p h (withSent g l) v q a
-entry-sent p h g l v q a e = record { s = e .s; x = e .x; drive = e .drive; zone = e .zone; at = e .at; counts = e .counts; same = e .same; addr = e .addr; floor = e .floor }
+pub entry-sent : (p : Params) (h : Ranged p) (off : List ℕ) (g : Ghost) (l : List Val) (v : ItemView) (q a : ℕ) → Entry p h off g v q a → Entry p h off (withSent g l) v q a
+entry-sent p h off g l v q a e = record {
+  s = e .s;
+  x = e .x;
+  drive = e .drive;
+  zone = e .zone;
+  n = e .n;
+  lies = e .lies;
+  at = e .at;
+  counts = e .counts;
+  same = e .same;
+  addr = e .addr;
+  floor = e .floor;
+}
 
-pub entry-grown : (p : Params) (h : Ranged p) (g : Ghost) (v v′ : ItemView) → Grown (parOf p h) v v′ → (q a : ℕ) → Entry p h g v q a → Entry p h g v′ q a
-entry-grown p h g v v′ r q a e = entry-to p h g g v v′ q a e (r .fwd (placeDrive p q) (zoneOn (placeSegment p q) 0) (placeBlock p q) (chunk (e .s) (e .x)) (e .drive) (e .at))
-    (counted-grown (parOf p h) (g .hd) v v′ r (g .un) (e .x) (e .counts)) (e .same) (e .floor)
+pub entry-grown : (p : Params) (h : Ranged p) (off : List ℕ) (g : Ghost) (v v′ : ItemView) → Grown (parOf p h off) v v′ → (q a : ℕ) → Entry p h off g v q a → Entry p h off g v′ q a
+entry-grown p h off g v v′ r q a e = entry-to p h off g g v v′ q a e refl (r .fwd (placeDrive p q) (e .n) (placeBlock p q) (chunk (e .s) (e .x)) (e .drive) (e .at))
+    (counted-grown (parOf p h off) (g .hd) v v′ r (g .un) (e .x) (e .counts)) (e .same) (e .floor)
 
-pub table-grown : (p : Params) (h : Ranged p) (g : Ghost) (v v′ : ItemView) (tb : List ℕ) → Grown (parOf p h) v v′ → TableOk p h g v tb → TableOk p h g v′ tb
-table-grown p h g v v′ tb r t a l = ⊎-elim (λ w. inl w) (λ (w : Entry p h g v (placeAt tb a) a). inr (entry-grown p h g v v′ r (placeAt tb a) a w)) (t a l)
+pub table-grown : (p : Params) (h : Ranged p) (off : List ℕ) (g : Ghost) (v v′ : ItemView) (tb : List ℕ) → Grown (parOf p h off) v v′ → TableOk p h off g v tb → TableOk p h off g v′ tb
+table-grown p h off g v v′ tb r t a l = ⊎-elim (λ w. inl w) (λ (w : Entry p h off g v (placeAt tb a) a). inr (entry-grown p h off g v v′ r (placeAt tb a) a w)) (t a l)
 
 -- every entry moves
 pub table-to :
-    (p : Params) (h : Ranged p) (g g′ : Ghost) (v v′ : ItemView) (tb : List ℕ)
+    (p : Params) (h : Ranged p) (off : List ℕ) (g g′ : Ghost) (v v′ : ItemView) (tb : List ℕ)
     → g′ .base ≡ g .base
-    → ((q a : ℕ) → Entry p h g v q a → Entry p h g′ v′ q a)
-    → TableOk p h g v tb
-    → TableOk p h g′ v′ tb
-table-to p h g g′ v v′ tb e f t a l =
+    → ((q a : ℕ) → Entry p h off g v q a → Entry p h off g′ v′ q a)
+    → TableOk p h off g v tb
+    → TableOk p h off g′ v′ tb
+table-to p h off g g′ v v′ tb e f t a l =
     ⊎-elim (λ (w : (placeAt tb a ≡ neverPlace) × (g .base a ≡ 0)). inl (w .0, ap (λ (b : ℕ → ℕ). b a) e ∙ w .1))
-    (λ (w : Entry p h g v (placeAt tb a) a). inr (f (placeAt tb a) a w)) (t a l)
+    (λ (w : Entry p h off g v (placeAt tb a) a). inr (f (placeAt tb a) a w)) (t a l)

@@ -23,20 +23,19 @@ use Rattle.spec.specs.Landing.{slotOf, completes, landChecks, writesIn, landPla
 use Rattle.spec.specs.Lists.{Opt, consIf, isNil, firstOr}
 use Rattle.spec.specs.Lists.Opt.{none, some}
 use Rattle.spec.specs.Memory.{Memory, zeroState, hasFilling}
-use Rattle.spec.specs.Params.{imageLen, pointersLen, addressesLen, compactLen, inflightLen, named}
+use Rattle.spec.specs.Params.{offlineLen, imageLen, pointersLen, addressesLen, compactLen, inflightLen, named}
 use Rattle.spec.specs.Read.{Found, Lookup, lookup, readAnswer, readChecks, readPlan, readVerdict, fillPlan, fillVerdict}
 use Rattle.spec.specs.Read.Found.{nowhere, here, away}
 use Rattle.spec.specs.Rebuild.{rebuildChecks, rebuildStores, rebuildVerdict}
 use Rattle.spec.specs.Reclaim.{Victim, victim, victimSegment, victimLive, idle, reclaimChecks, resetPlan, copyPlan, reclaimVerdictIn}
 use Rattle.spec.specs.Segments.{segments}
 use Rattle.spec.specs.Write.{sending, writeChecks, writePlan, writeVerdictIn}
-use Rattle.law_drives.specs.Tests.{clash}
+use Rattle.law_drives.specs.Tests.{clash, cond-false}
 use Rattle.law_basic.specs.Geometry.{Ranged}
 use Rattle.law_basic.specs.Ranges.{and-left, and-right}
 use Rattle.law_views.specs.Views.{Whole, seen}
 use Rattle.law_calls.specs.Refusals.{refusal-kind, refused-unfinished}
 use Rattle.law_checks.specs.Empty.{empty-asks}
-use Rattle.law_drives.specs.Tests.{cond-false}
 use Rattle.law_checks.specs.Passed.{write-passed, land-passed, close-passed, reclaim-passed, rebuild-passed, empty-passed}
 use Rattle.proof_crash_machine.specs.Facts.{Ghost}
 use Rattle.proof_crash_items.specs.Member.{or-both-false}
@@ -50,19 +49,20 @@ use Rattle.proof_crash_calls.specs.Reclaim.{reclaimPlan, reclaim-ok}
 use Rattle.proof_crash_calls.specs.Write.{same-ok, close-ok, write-asked, sentStripe, write-ok}
 
 -- a healthy run, on bytes
-pub record Healthy (p : Params) (h : Ranged p) (k : Disk) (m : Memory) (ss : List Send) (n : ℕ) : Type 0 where
+pub record Healthy (p : Params) (h : Ranged p) (off : List ℕ) (k : Disk) (m : Memory) (ss : List Send) (n : ℕ) : Type 0 where
   pub whole : Whole p k
-  pub live : Live p h (seen p k) (m .state) (m .inflight) (m .addresses) ss n
+  pub live : Live p h off (seen p off k) (m .state) (m .inflight) (m .addresses) ss n
 
 -- the power is off
-pub record Ended (p : Params) (h : Ranged p) (k : Disk) (ss : List Send) (n : ℕ) : Type 0 where
+pub record Ended (p : Params) (h : Ranged p) (off : List ℕ) (k : Disk) (ss : List Send) (n : ℕ) : Type 0 where
   pub whole : Whole p k
-  pub stopped : Stopped p h (seen p k) ss n
+  pub stopped : Stopped p h off (seen p off k) ss n
 
 -- what a call leaves; ss: the blocks sent, after it
-pub data Next (p : Params) (h : Ranged p) (g : Ghost) (n : ℕ) (r : After Disk) (ss : List Send) : Type 0 where
-  goes : isCut (r .answer) ≡ false → finished (r .answer) ≡ false → (x : Healthy p h (r .drives) (r .memory) ss n) → Later g (x .live .g) → Next p h g n r ss
-  stops : isCut (r .answer) ≡ true → finished (r .answer) ≡ false → r .memory .state ≡ zeroState → (x : Ended p h (r .drives) ss n) → Later g (x .stopped .g) → Next p h g n r ss
+pub data Next (p : Params) (h : Ranged p) (off : List ℕ) (g : Ghost) (n : ℕ) (r : After Disk) (ss : List Send) : Type 0 where
+  goes : isCut (r .answer) ≡ false → finished (r .answer) ≡ false → (x : Healthy p h off (r .drives) (r .memory) ss n) → Later g (x .live .g) → Next p h off g n r ss
+  stops : isCut (r .answer) ≡ true → finished (r .answer) ≡ false → r .memory .state ≡ zeroState → (x : Ended p h off (r .drives) ss n) → Later g (x .stopped .g)
+      → Next p h off g n r ss
 
 -- ---- answers
 
@@ -129,57 +129,59 @@ sent-cut c ss = refl
 
 -- ---- what is due, under the store count
 
-module _ (p : Params) (h : Ranged p) (k : Disk) (m : Memory) (ss : List Send) (n : ℕ) (x : Healthy p h k m ss n) where
+module _ (p : Params) (h : Ranged p) (off : List ℕ) (k : Disk) (m : Memory) (ss : List Send) (n : ℕ) (x : Healthy p h off k m ss n) where
   -- the lent buffers have their lengths
-  pub lent-inflight : lentOk p k m ≡ true → length (m .inflight) ≡ inflightLen p
+  pub lent-inflight : lentOk p off k m ≡ true → length (m .inflight) ≡ inflightLen p
   unfolding lentOk
   lent-inflight e = eqb-true (length (m .inflight)) (inflightLen p)
-      (and-right (eqb (length (k .image)) (imageLen p)
+      (and-right (eqb (length off) (offlineLen p) && eqb (length (k .image)) (imageLen p)
       && eqb (length (k .pointers)) (pointersLen p)
       && eqb (length (m .addresses)) (addressesLen p)
       && eqb (length (m .compact)) (compactLen p)) (eqb (length (m .inflight)) (inflightLen p)) e)
 
-  pub lent-table : lentOk p k m ≡ true → length (m .addresses) ≡ addressesLen p
+  pub lent-table : lentOk p off k m ≡ true → length (m .addresses) ≡ addressesLen p
   unfolding lentOk
   lent-table e =
-      eqb-true (length (m .addresses)) (addressesLen p) (and-right (eqb (length (k .image)) (imageLen p) && eqb (length (k .pointers)) (pointersLen p)) (eqb (length (m .addresses)) (addressesLen p))
-      (and-left (eqb (length (k .image)) (imageLen p) && eqb (length (k .pointers)) (pointersLen p) && eqb (length (m .addresses)) (addressesLen p)) (eqb (length (m .compact)) (compactLen p))
-      (and-left (eqb (length (k .image)) (imageLen p)
+      eqb-true (length (m .addresses)) (addressesLen p) (and-right (eqb (length off) (offlineLen p) && eqb (length (k .image)) (imageLen p) && eqb (length (k .pointers)) (pointersLen p))
+      (eqb (length (m .addresses)) (addressesLen p))
+      (and-left (eqb (length off) (offlineLen p) && eqb (length (k .image)) (imageLen p) && eqb (length (k .pointers)) (pointersLen p) && eqb (length (m .addresses)) (addressesLen p))
+      (eqb (length (m .compact)) (compactLen p))
+      (and-left (eqb (length off) (offlineLen p) && eqb (length (k .image)) (imageLen p)
       && eqb (length (k .pointers)) (pointersLen p)
       && eqb (length (m .addresses)) (addressesLen p)
       && eqb (length (m .compact)) (compactLen p)) (eqb (length (m .inflight)) (inflightLen p)) e)))
 
   -- a refusal changes nothing
-  pub refused-next : (c : Call) (a : Answer) (b : List ℕ) → isRefused a ≡ true → Next p h (x .live .g) n (mkAfter a k m b) (sentAfter c a ss)
+  pub refused-next : (c : Call) (a : Answer) (b : List ℕ) → isRefused a ≡ true → Next p h off (x .live .g) n (mkAfter a k m b) (sentAfter c a ss)
   refused-next c a b e =
-      subst (λ (y : List Send). Next p h (x .live .g) n (mkAfter a k m b) y) (sym (sent-refused c a ss e)) (goes (refused-uncut a e) (refused-unfinished a e) x (later-same (x .live .g)))
+      subst (λ (y : List Send). Next p h off (x .live .g) n (mkAfter a k m b) y) (sym (sent-refused c a ss e)) (goes (refused-uncut a e) (refused-unfinished a e) x (later-same (x .live .g)))
 
   due-next :
       (c : Call) (count : ℕ) (b : List ℕ) (q : Plan) (ss′ : List Send)
-      → CallOk p h (x .live .g) (seen p k) q ss ss′ n
+      → CallOk p h off (x .live .g) (seen p off k) q ss ss′ n
       → isCut (q .answer) ≡ false
       → finished (q .answer) ≡ false
       → sentAfter c (q .answer) ss ≡ ss′
-      → Next p h (x .live .g) n (outcome p (storeDisk p) count k m b (due q)) (sentAfter c (outcome p (storeDisk p) count k m b (due q) .answer) ss)
+      → Next p h off (x .live .g) n (outcome p (storeDisk p) count k m b (due q)) (sentAfter c (outcome p (storeDisk p) count k m b (due q) .answer) ss)
   unfolding outcome
   due-next c count b q ss′ ok uncut open? sent = go (leb (length (q .stores)) count)
     where
-      go : (t : Bool) → Next p h (x .live .g) n (limited t p (storeDisk p) count k m b q) (sentAfter c (limited t p (storeDisk p) count k m b q .answer) ss)
-      go true = unfold limited in subst (λ (y : List Send). Next p h (x .live .g) n (mkAfter (q .answer) (storeAll (storeDisk p) (q .stores) k) (q .memory) (q .block)) y) (sym sent)
-          (goes uncut open? (record { whole = whole-all p h k (x .whole) (q .stores) (ok .sound); live = live }) later)
+      go : (t : Bool) → Next p h off (x .live .g) n (limited t p (storeDisk p) count k m b q) (sentAfter c (limited t p (storeDisk p) count k m b q .answer) ss)
+      go true = unfold limited in subst (λ (y : List Send). Next p h off (x .live .g) n (mkAfter (q .answer) (storeAll (storeDisk p) (q .stores) k) (q .memory) (q .block)) y) (sym sent)
+          (goes uncut open? (record { whole = whole-all p h off k (x .whole) (q .stores) (ok .sound); live = live }) later)
         where
-          moved : (y : Live p h (seen p (storeAll (storeDisk p) (q .stores) k)) (q .memory .state) (q .memory .inflight) (q .memory .addresses) ss′ n) × Later (x .live .g) (y .g)
+          moved : (y : Live p h off (seen p off (storeAll (storeDisk p) (q .stores) k)) (q .memory .state) (q .memory .inflight) (q .memory .addresses) ss′ n) × Later (x .live .g) (y .g)
           moved =
-              subst (λ (u : View). (y : Live p h u (q .memory .state) (q .memory .inflight) (q .memory .addresses) ss′ n) × Later (x .live .g) (y .g))
-              (sym (seen-stores p h k (x .whole) (q .stores) (ok .sound))) (ok .done)
+              subst (λ (u : View). (y : Live p h off u (q .memory .state) (q .memory .inflight) (q .memory .addresses) ss′ n) × Later (x .live .g) (y .g))
+              (sym (seen-stores p h off k (x .whole) (q .stores) (ok .sound))) (ok .done)
 
-          live : Live p h (seen p (storeAll (storeDisk p) (q .stores) k)) (q .memory .state) (q .memory .inflight) (q .memory .addresses) ss′ n
+          live : Live p h off (seen p off (storeAll (storeDisk p) (q .stores) k)) (q .memory .state) (q .memory .inflight) (q .memory .addresses) ss′ n
           live = moved .0
 
           later : Later (x .live .g) (live .g)
           later = moved .1
-      go false = unfold limited in subst (λ (y : List Send). Next p h (x .live .g) n (mkAfter Cut (storeAll (storeDisk p) (take count (q .stores)) k) (cutMemory p m) b) y) (sym (sent-cut c ss))
-          (stops cut? unfinished? dark (record { whole = whole-cut p h k (x .whole) (q .stores) (ok .sound) count; stopped = moved .0 }) (moved .1))
+      go false = unfold limited in subst (λ (y : List Send). Next p h off (x .live .g) n (mkAfter Cut (storeAll (storeDisk p) (take count (q .stores)) k) (cutMemory p m) b) y) (sym (sent-cut c ss))
+          (stops cut? unfinished? dark (record { whole = whole-cut p h off k (x .whole) (q .stores) (ok .sound) count; stopped = moved .0 }) (moved .1))
         where
           cut? : isCut Cut ≡ true
           cut? = unfold isCut kind in refl
@@ -190,23 +192,23 @@ module _ (p : Params) (h : Ranged p) (k : Disk) (m : Memory) (ss : List Send) (n
           dark : cutMemory p m .state ≡ zeroState
           dark = unfold cutMemory in refl
 
-          moved : (y : Stopped p h (seen p (storeAll (storeDisk p) (take count (q .stores)) k)) (map forget ss) n) × Later (x .live .g) (y .g)
-          moved = subst (λ (u : View). (y : Stopped p h u (map forget ss) n) × Later (x .live .g) (y .g)) (sym (seen-cut p h k (x .whole) (q .stores) (ok .sound) count)) (ok .cut count)
+          moved : (y : Stopped p h off (seen p off (storeAll (storeDisk p) (take count (q .stores)) k)) (map forget ss) n) × Later (x .live .g) (y .g)
+          moved = subst (λ (u : View). (y : Stopped p h off u (map forget ss) n) × Later (x .live .g) (y .g)) (sym (seen-cut p h off k (x .whole) (q .stores) (ok .sound) count)) (ok .cut count)
 
   -- a verdict
   decided-next :
       (c : Call) (count : ℕ) (b : List ℕ) (cs : List Check) (q : Plan) (ss′ : List Send)
-      → (firstRefusal cs ≡ none → CallOk p h (x .live .g) (seen p k) q ss ss′ n)
+      → (firstRefusal cs ≡ none → CallOk p h off (x .live .g) (seen p off k) q ss ss′ n)
       → isCut (q .answer) ≡ false
       → finished (q .answer) ≡ false
       → sentAfter c (q .answer) ss ≡ ss′
-      → Next p h (x .live .g) n (outcome p (storeDisk p) count k m b (decided (firstRefusal cs) q)) (sentAfter c (outcome p (storeDisk p) count k m b (decided (firstRefusal cs) q) .answer) ss)
+      → Next p h off (x .live .g) n (outcome p (storeDisk p) count k m b (decided (firstRefusal cs) q)) (sentAfter c (outcome p (storeDisk p) count k m b (decided (firstRefusal cs) q) .answer) ss)
   decided-next c count b cs q ss′ ok uncut open? sent = go (firstRefusal cs) refl
     where
       go :
           (o : Opt Answer)
           → firstRefusal cs ≡ o
-          → Next p h (x .live .g) n (outcome p (storeDisk p) count k m b (decided o q))
+          → Next p h off (x .live .g) n (outcome p (storeDisk p) count k m b (decided o q))
           (sentAfter c (outcome p (storeDisk p) count k m b (decided o q) .answer) ss)
       go none e = unfold decided in due-next c count b q ss′ (ok e) uncut open? sent
       go (some a) e = unfold decided outcome in refused-next c a b (refusal-kind cs a e)
@@ -214,20 +216,20 @@ module _ (p : Params) (h : Ranged p) (k : Disk) (m : Memory) (ss : List Send) (n
   -- ---- the calls
 
   abbrev v : View
-  v = seen p k
+  v = seen p off k
 
   abbrev long : Bool
-  long = lentOk p k m
+  long = lentOk p off k m
 
   abbrev Goal : Call → Type 0
-  Goal c = Next p h (x .live .g) n (callDisk p k m c) (sentAfter c (callDisk p k m c .answer) ss)
+  Goal c = Next p h off (x .live .g) n (callDisk p off k m c) (sentAfter c (callDisk p off k m c .answer) ss)
 
   write-next : (a y : ℕ) (more : List ℕ) (count : ℕ) → Goal (write a (y ∷ more) count)
   unfolding callDisk callOn storeCount lentBlock verdict writeVerdictIn
   write-next a y more count =
       decided-next (write a (y ∷ more) count) count (y ∷ more) (writeChecks p long v m a (y ∷ more)) (writePlan p v m a (y ∷ more))
-      (ss ++ (mkSend a (suc (m .state .stamp .0)) (y ∷ more) (sentStripe p v (m .state)) true false ∷ []))
-      (λ e. write-ok p h v m ss n (x .live) (lent-inflight (fits e)) a (y ∷ more) (write-asked p long v m a (y ∷ more) e)) uncut open? sent
+      (ss ++ (mkSend a (suc (m .state .stamp .0)) (y ∷ more) (sentStripe p (m .state)) true false ∷ []))
+      (λ e. write-ok p h off v m ss n (x .live) (lent-inflight (fits e)) a (y ∷ more) (write-asked p long v m a (y ∷ more) e)) uncut open? sent
     where
       b : List ℕ
       b = y ∷ more
@@ -241,13 +243,13 @@ module _ (p : Params) (h : Ranged p) (k : Disk) (m : Memory) (ss : List Send) (n
       open? : finished (writePlan p v m a b .answer) ≡ false
       open? = unfold writePlan finished kind in refl
 
-      sent : sentAfter (write a b count) (writePlan p v m a b .answer) ss ≡ ss ++ (mkSend a (suc (m .state .stamp .0)) b (sentStripe p v (m .state)) true false ∷ [])
+      sent : sentAfter (write a b count) (writePlan p v m a b .answer) ss ≡ ss ++ (mkSend a (suc (m .state .stamp .0)) b (sentStripe p (m .state)) true false ∷ [])
       sent = unfold sentAfter endsRun isCut finished kind writePlan ackedBy sentBy consIf values sending sentStripe in refl
 
   land-next : (d s count : ℕ) → Goal (land d s count)
   unfolding callDisk callOn storeCount lentBlock verdict landVerdict
   land-next d s count = decided-next (land d s count) count [] (landChecks p long v m d s) (landPlan p v m d s) (landSends p (m .state) d s ss)
-      (λ e. land-ok p h v m ss n (x .live) (lent-inflight (fits e)) (lent-table (fits e)) d s (land-asked p long v m d s e)) uncut open? sent
+      (λ e. land-ok p h off v m ss n (x .live) (lent-inflight (fits e)) (lent-table (fits e)) d s (land-asked p long v m d s e)) uncut open? sent
     where
       fits : firstRefusal (landChecks p long v m d s) ≡ none → long ≡ true
       fits e = land-passed p long v m d s e .lent
@@ -266,7 +268,7 @@ module _ (p : Params) (h : Ranged p) (k : Disk) (m : Memory) (ss : List Send) (n
 
   close-next : (count : ℕ) → Goal (close count)
   unfolding callDisk callOn storeCount lentBlock verdict closeVerdict
-  close-next count = decided-next (close count) count [] (closeChecks p long v m) (closePlan p m) ss (λ e. close-ok p h v m ss n (x .live) (lent-inflight (fits e)) long e) uncut open? sent
+  close-next count = decided-next (close count) count [] (closeChecks p long v m) (closePlan p m) ss (λ e. close-ok p h off v m ss n (x .live) (lent-inflight (fits e)) long e) uncut open? sent
     where
       fits : firstRefusal (closeChecks p long v m) ≡ none → long ≡ true
       fits e = close-passed p long v m e .lent
@@ -286,9 +288,9 @@ module _ (p : Params) (h : Ranged p) (k : Disk) (m : Memory) (ss : List Send) (n
   empty-next a count = decided-next (write a [] count) count [] (emptyChecks p long v m a) (emptyPlan p m) ss (λ e. ok e (hasFilling p (m .state)) refl)
       (uncut (hasFilling p (m .state))) (open? (hasFilling p (m .state))) (sent (hasFilling p (m .state)))
     where
-      ok : firstRefusal (emptyChecks p long v m a) ≡ none → (t : Bool) → hasFilling p (m .state) ≡ t → CallOk p h (x .live .g) v (cond t (closePlan p m) (mkPlan [] Nothing m [])) ss ss n
-      ok e true f = close-ok p h v m ss n (x .live) (lent-inflight (empty-passed p long v m a e .lent)) long (empty-asks p long v m a f e)
-      ok e false f = same-ok p h v m ss n (x .live) Nothing []
+      ok : firstRefusal (emptyChecks p long v m a) ≡ none → (t : Bool) → hasFilling p (m .state) ≡ t → CallOk p h off (x .live .g) v (cond t (closePlan p m) (mkPlan [] Nothing m [])) ss ss n
+      ok e true f = close-ok p h off v m ss n (x .live) (lent-inflight (empty-passed p long v m a e .lent)) long (empty-asks p long v m a f e)
+      ok e false f = same-ok p h off v m ss n (x .live) Nothing []
 
       uncut : (t : Bool) → isCut (cond t (closePlan p m) (mkPlan [] Nothing m []) .answer) ≡ false
       uncut true = unfold closePlan isCut kind in refl
@@ -306,7 +308,7 @@ module _ (p : Params) (h : Ranged p) (k : Disk) (m : Memory) (ss : List Send) (n
   unfolding callDisk callOn storeCount lentBlock verdict reclaimVerdictIn reclaimPlan
   reclaim-next count =
       decided-next (reclaim count) count [] (reclaimChecks p long v m (victim p v (m .addresses))) (reclaimPlan p v m) ss
-      (λ e. reclaim-ok p h v m ss n (x .live) (lent-inflight (fits e)) long e) uncut open? sent
+      (λ e. reclaim-ok p h off v m ss n (x .live) (lent-inflight (fits e)) long e) uncut open? sent
     where
       w : Opt Victim
       w = victim p v (m .addresses)
@@ -337,7 +339,7 @@ module _ (p : Params) (h : Ranged p) (k : Disk) (m : Memory) (ss : List Send) (n
 
   read-next : (a : ℕ) → Goal (read a)
   unfolding callDisk callOn storeCount lentBlock verdict readVerdict readPlan
-  read-next a = decided-next (read a) 0 [] (readChecks p long v m a) (readPlan p v m a) ss (λ e. same-ok p h v m ss n (x .live) (readPlan p v m a .answer) []) (q .uncut) (q .open?) (q .sent ss)
+  read-next a = decided-next (read a) 0 [] (readChecks p long v m a) (readPlan p v m a) ss (λ e. same-ok p h off v m ss n (x .live) (readPlan p v m a .answer) []) (q .uncut) (q .open?) (q .sent ss)
     where
       q : GoesOn (read a) (readPlan p v m a .answer)
       q = read-goes-on p v m a
@@ -346,7 +348,7 @@ module _ (p : Params) (h : Ranged p) (k : Disk) (m : Memory) (ss : List Send) (n
   unfolding callDisk callOn storeCount lentBlock verdict fillVerdict fillPlan
   fill-next a b =
       decided-next (fill a b) 0 b (readChecks p (long && eqb (length b) (p .B)) v m a) (fillPlan p v m a) ss
-      (λ e. same-ok p h v m ss n (x .live) (fillPlan p v m a .answer) (fillPlan p v m a .block)) (q .uncut) (q .open?) (q .sent ss)
+      (λ e. same-ok p h off v m ss n (x .live) (fillPlan p v m a .answer) (fillPlan p v m a .block)) (q .uncut) (q .open?) (q .sent ss)
     where
       q : GoesOn (fill a b) (fillPlan p v m a .answer)
       q = fill-goes-on p v m a b
@@ -358,12 +360,12 @@ module _ (p : Params) (h : Ranged p) (k : Disk) (m : Memory) (ss : List Send) (n
       let f : named d ≡ 0 = sym (c .names) ∙ x .live .rel .healthy in
       clash {b = eqb (named d) 0} (eq-eqb (named d) 0 f) (named-not-zero d (omega (arith, c .drive-low, h .drives-high)))
 
-  pub rebuild-refused : (d count : ℕ) → isRefused (callDisk p k m (rebuild d count) .answer) ≡ true
+  pub rebuild-refused : (d count : ℕ) → isRefused (callDisk p off k m (rebuild d count) .answer) ≡ true
   unfolding callDisk callOn verdict rebuildVerdict
   rebuild-refused d count = go (firstRefusal (rebuildChecks p long v m d (segments p v (named d)))) refl
     where
       q : Plan
-      q = mkPlan (rebuildStores p d (segments p v (named d))) Rebuilt m []
+      q = mkPlan (rebuildStores p v d (segments p v (named d))) Rebuilt m []
 
       go :
           (o : Opt Answer)
@@ -376,7 +378,7 @@ module _ (p : Params) (h : Ranged p) (k : Disk) (m : Memory) (ss : List Send) (n
   unfolding callDisk callOn storeCount lentBlock verdict rebuildVerdict
   rebuild-next d count =
       decided-next (rebuild d count) count [] (rebuildChecks p long v m d (segments p v (named d)))
-      (mkPlan (rebuildStores p d (segments p v (named d))) Rebuilt m []) ss (λ e. absurd (no-rebuild d e)) uncut open? sent
+      (mkPlan (rebuildStores p v d (segments p v (named d))) Rebuilt m []) ss (λ e. absurd (no-rebuild d e)) uncut open? sent
     where
       uncut : isCut Rebuilt ≡ false
       uncut = unfold isCut kind in refl
@@ -388,7 +390,7 @@ module _ (p : Params) (h : Ranged p) (k : Disk) (m : Memory) (ss : List Send) (n
       sent = unfold sentAfter endsRun isCut finished kind ackedBy sentBy in append-nil ss
 
   -- every call of a healthy run other than restart
-  pub call-next : (c : Call) → restartOf c ≡ none → Next p h (x .live .g) n (callDisk p k m c) (sentAfter c (callDisk p k m c .answer) ss)
+  pub call-next : (c : Call) → restartOf c ≡ none → Next p h off (x .live .g) n (callDisk p off k m c) (sentAfter c (callDisk p off k m c .answer) ss)
   call-next (write a [] count) e = empty-next a count
   call-next (write a (y ∷ b) count) e = write-next a y b count
   call-next (land d s count) e = land-next d s count

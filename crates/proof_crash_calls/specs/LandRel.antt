@@ -23,7 +23,7 @@ use Rattle.law_basic.specs.Mask.{isIn-with, with-lt, ones-all}
 use Rattle.law_basic.specs.Ranges.{all-in-below, or-left}
 use Rattle.law_drives.specs.Tests.{clash, not-so}
 use Rattle.proof_crash_machine.specs.Exec.{true≢false}
-use Rattle.proof_crash_machine.specs.Facts.{Off}
+use Rattle.proof_crash_machine.specs.Facts.{Off, R}
 use Rattle.proof_crash_machine.specs.Memory.{setAt, Mem, ended}
 use Rattle.proof_crash_machine.specs.Put.{length-snoc, off-in, off-left, in-fwd, in-back as Put·in-back, drive-other, each-put}
 use Rattle.proof_crash_machine.specs.Val.{Val}

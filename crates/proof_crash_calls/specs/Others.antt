@@ -25,15 +25,14 @@ use Rattle.spec.specs.Landing.{landChecks}
 use Rattle.spec.specs.Lists.{Opt, all}
 use Rattle.spec.specs.Lists.Opt.{none, some}
 use Rattle.spec.specs.Memory.{Memory, slots, idleState, zeroState, slotOk, stateOk}
-use Rattle.spec.specs.Params.{inRange, named}
+use Rattle.spec.specs.Params.{inRange, named, parityCount}
 use Rattle.spec.specs.Read.{readPlan, fillPlan}
 use Rattle.spec.specs.Reclaim.{victim, reclaimChecks}
 use Rattle.spec.specs.Segments.{segments}
 use Rattle.spec.specs.Write.{writeChecks}
-use Rattle.law_drives.specs.Tests.{clash}
+use Rattle.law_drives.specs.Tests.{clash, not-so}
 use Rattle.law_basic.specs.Geometry.{ranged}
 use Rattle.law_views.specs.Views.{seen}
-use Rattle.law_drives.specs.Tests.{not-so}
 use Rattle.law_checks.specs.Passed.{write-passed, land-passed, close-passed, reclaim-passed, read-passed, rebuild-passed, empty-passed}
 use Rattle.proof_crash_machine.specs.Exec.{true≢false}
 use Rattle.proof_crash_items.specs.Named.{named-not-zero}
@@ -43,22 +42,24 @@ use Rattle.proof_crash_calls.specs.Refusals.{Decides, decides, refused-s
 -- ---- refused calls, whatever their answer
 
 pub refused-any :
-    (p : Params) (s : Hist) (c : Call)
-    → (firstRefusal (decides p (lentOk p (s .world .disk) (s .world .memory)) (seen p (s .world .disk)) (s .world .memory) c .checks) ≡ none → ⊥)
-    → step p s (calls c) ≡ s
-refused-any p s c out = go (firstRefusal (decides p (lentOk p (s .world .disk) (s .world .memory)) (seen p (s .world .disk)) (s .world .memory) c .checks)) refl
+    (p : Params) (off : List ℕ) (s : Hist) (c : Call)
+    → (firstRefusal (decides p (lentOk p off (s .world .disk) (s .world .memory)) (seen p off (s .world .disk)) (s .world .memory) c .checks) ≡ none → ⊥)
+    → step p off s (calls c) ≡ s
+refused-any p off s c out = go (firstRefusal (decides p (lentOk p off (s .world .disk) (s .world .memory)) (seen p off (s .world .disk)) (s .world .memory) c .checks)) refl
   where
-    go : (o : Opt Answer) → firstRefusal (decides p (lentOk p (s .world .disk) (s .world .memory)) (seen p (s .world .disk)) (s .world .memory) c .checks) ≡ o → step p s (calls c) ≡ s
+    go : (o : Opt Answer) → firstRefusal (decides p (lentOk p off (s .world .disk) (s .world .memory)) (seen p off (s .world .disk)) (s .world .memory) c .checks) ≡ o
+        → step p off s (calls c) ≡ s
     go none e = absurd (out e)
-    go (some a) e = refused-step p s c a e
+    go (some a) e = refused-step p off s c a e
 
 -- ---- reads
 
 -- a call whose plan stores nothing and keeps memory
-hist-unchanged : (p : Params) (s : Hist) (c : Call) (a : Answer) (b : List ℕ) → callDisk p (s .world .disk) (s .world .memory) c ≡ mkAfter a (s .world .disk) (s .world .memory) b
-    → sentAfter c a (s .sends) ≡ s .sends → untrustedAfter c a (s .untrusted) ≡ s .untrusted → finished a ≡ false → step p s (calls c) ≡ s
+hist-unchanged : (p : Params) (off : List ℕ) (s : Hist) (c : Call) (a : Answer) (b : List ℕ)
+    → callDisk p off (s .world .disk) (s .world .memory) c ≡ mkAfter a (s .world .disk) (s .world .memory) b
+    → sentAfter c a (s .sends) ≡ s .sends → untrustedAfter c a (s .untrusted) ≡ s .untrusted → finished a ≡ false → step p off s (calls c) ≡ s
 unfolding step happens before callOf worldAfter
-hist-unchanged p s c a b r e f g = λ j. record {
+hist-unchanged p off s c a b r e f g = λ j. record {
   world = mkWorld (r j .drives) (r j .memory);
   sends = (ap (λ (x : After Disk). sentAfter c (x .answer) (s .sends)) r ∙ e) j;
   untrusted = (ap (λ (x : After Disk). untrustedAfter c (x .answer) (s .untrusted)) r ∙ f) j;
@@ -76,38 +77,38 @@ unfolding outcome
 nothing-due p k m n b a c = ap (λ (t : Bool). limited t p (storeDisk p) n k m b (mkPlan [] a m c)) (le-leb 0 n (omega arith)) ∙ (unfold limited storeAll in refl)
 
 -- a call that is refused, or whose plan stores nothing, keeps memory and sends nothing
-unchanged-step : (p : Params) (s : Hist) (c : Call) (r : Answer) (b : List ℕ)
-    → decides p (lentOk p (s .world .disk) (s .world .memory)) (seen p (s .world .disk)) (s .world .memory) c .plan ≡ mkPlan [] r (s .world .memory) b
-    → GoesOn c r → untrustedAfter c r (s .untrusted) ≡ s .untrusted → step p s (calls c) ≡ s
-unchanged-step p s c r b plan-is q u = go (firstRefusal (D .checks)) refl
+unchanged-step : (p : Params) (off : List ℕ) (s : Hist) (c : Call) (r : Answer) (b : List ℕ)
+    → decides p (lentOk p off (s .world .disk) (s .world .memory)) (seen p off (s .world .disk)) (s .world .memory) c .plan ≡ mkPlan [] r (s .world .memory) b
+    → GoesOn c r → untrustedAfter c r (s .untrusted) ≡ s .untrusted → step p off s (calls c) ≡ s
+unchanged-step p off s c r b plan-is q u = go (firstRefusal (D .checks)) refl
   where
-    D : Decides p (lentOk p (s .world .disk) (s .world .memory)) (seen p (s .world .disk)) (s .world .memory) c
-    D = decides p (lentOk p (s .world .disk) (s .world .memory)) (seen p (s .world .disk)) (s .world .memory) c
+    D : Decides p (lentOk p off (s .world .disk) (s .world .memory)) (seen p off (s .world .disk)) (s .world .memory) c
+    D = decides p (lentOk p off (s .world .disk) (s .world .memory)) (seen p off (s .world .disk)) (s .world .memory) c
 
-    go : (o : Opt Answer) → firstRefusal (D .checks) ≡ o → step p s (calls c) ≡ s
-    go (some x) e = refused-step p s c x e
-    go none e = hist-unchanged p s c r b is (q .sent (s .sends)) u (q .open?)
+    go : (o : Opt Answer) → firstRefusal (D .checks) ≡ o → step p off s (calls c) ≡ s
+    go (some x) e = refused-step p off s c x e
+    go none e = hist-unchanged p off s c r b is (q .sent (s .sends)) u (q .open?)
       where
         due-is : decided none (D .plan) ≡ due (mkPlan [] r (s .world .memory) b)
         due-is = ap (decided none) plan-is ∙ (unfold decided in refl)
 
-        is : callDisk p (s .world .disk) (s .world .memory) c ≡ mkAfter r (s .world .disk) (s .world .memory) b
+        is : callDisk p off (s .world .disk) (s .world .memory) c ≡ mkAfter r (s .world .disk) (s .world .memory) b
         is =
             unfold callDisk callOn in (ap (outcome p (storeDisk p) (storeCount c) (s .world .disk) (s .world .memory) (lentBlock c))
             (D .is ∙ ap (λ (o : Opt Answer). decided o (D .plan)) e ∙ due-is)
             ∙ nothing-due p (s .world .disk) (s .world .memory) (storeCount c) (lentBlock c) r b)
 
-pub read-step : (p : Params) (s : Hist) (a : ℕ) → step p s (calls (read a)) ≡ s
+pub read-step : (p : Params) (off : List ℕ) (s : Hist) (a : ℕ) → step p off s (calls (read a)) ≡ s
 unfolding decides readPlan untrustedAfter
-read-step p s a =
-    let q = readPlan p (seen p (s .world .disk)) (s .world .memory) a in
-    unchanged-step p s (read a) (q .answer) [] refl (read-goes-on p (seen p (s .world .disk)) (s .world .memory) a) refl
+read-step p off s a =
+    let q = readPlan p (seen p off (s .world .disk)) (s .world .memory) a in
+    unchanged-step p off s (read a) (q .answer) [] refl (read-goes-on p (seen p off (s .world .disk)) (s .world .memory) a) refl
 
-pub fill-step : (p : Params) (s : Hist) (a : ℕ) (b : List ℕ) → step p s (calls (fill a b)) ≡ s
+pub fill-step : (p : Params) (off : List ℕ) (s : Hist) (a : ℕ) (b : List ℕ) → step p off s (calls (fill a b)) ≡ s
 unfolding decides fillPlan untrustedAfter
-fill-step p s a b =
-    let q = fillPlan p (seen p (s .world .disk)) (s .world .memory) a in
-    unchanged-step p s (fill a b) (q .answer) (q .block) refl (fill-goes-on p (seen p (s .world .disk)) (s .world .memory) a b) refl
+fill-step p off s a b =
+    let q = fillPlan p (seen p off (s .world .disk)) (s .world .memory) a in
+    unchanged-step p off s (fill a b) (q .answer) (q .block) refl (fill-goes-on p (seen p off (s .world .disk)) (s .world .memory) a b) refl
 
 -- ---- the power is off: the state is all zeros
 
@@ -120,7 +121,7 @@ zero-bad p = not-so (stateOk p zeroState) (λ q. out q)
 
     out : stateOk p zeroState ≡ true → ⊥
     out q = unfold stateOk zeroState idleState in clash
-        (live (eqb 0 1) (ltb 0 (2 ^ p .N)) (leb (ones 0) 1) (leb 0 (p .Z)) (leb 0 (p .S)) (all (slotOk p zeroState) slots) (all (λ o. ltb o (p .S)) (replicate 64 0)) q) refl
+        (live (eqb 0 1) (ltb 0 (2 ^ p .N)) (leb (ones 0) (parityCount p)) (leb 0 0) (leb 0 (p .S)) (all (slotOk p zeroState) slots) (all (λ o. ltb o (p .S)) (replicate 64 0)) q) refl
 
 -- the state's numbers are out of range
 off-bad : (p : Params) (m : Memory) → m .state ≡ zeroState → stateOk p (m .state) ≡ true → ⊥
@@ -150,41 +151,42 @@ off-refused p long v m (rebuild d n) r z e =
     named-nothing i l f = clash (eq-eqb (named d) 0 f) (named-not-zero d (omega (arith, l, ranged p i .drives-high)))
 
 -- after a cut, and before the first restart
-pub off-step : (p : Params) (s : Hist) (c : Call) → restartOf c ≡ none → s .world .memory .state ≡ zeroState → step p s (calls c) ≡ s
-off-step p s c r z = refused-any p s c (off-refused p (lentOk p (s .world .disk) (s .world .memory)) (seen p (s .world .disk)) (s .world .memory) c r z)
+pub off-step : (p : Params) (off : List ℕ) (s : Hist) (c : Call) → restartOf c ≡ none → s .world .memory .state ≡ zeroState → step p off s (calls c) ≡ s
+off-step p off s c r z = refused-any p off s c (off-refused p (lentOk p off (s .world .disk) (s .world .memory)) (seen p off (s .world .disk)) (s .world .memory) c r z)
 
 -- ---- a drive is missing: read-only, but for a rebuild
 
-pub missing-step : (p : Params) (s : Hist) (c : Call) → restartOf c ≡ none → ((d n : ℕ) → c ≡ rebuild d n → ⊥) → s .world .memory .state .missing ≢ 0 → step p s (calls c) ≡ s
-missing-step p s (write a [] n) r nb z = refused-any p s (write a [] n) (λ e. out (unfold decides in e))
+pub missing-step : (p : Params) (off : List ℕ) (s : Hist) (c : Call) → restartOf c ≡ none → ((d n : ℕ) → c ≡ rebuild d n → ⊥) → s .world .memory .state .missing ≢ 0
+    → step p off s (calls c) ≡ s
+missing-step p off s (write a [] n) r nb z = refused-any p off s (write a [] n) (λ e. out (unfold decides in e))
   where
-    out : firstRefusal (emptyChecks p (lentOk p (s .world .disk) (s .world .memory)) (seen p (s .world .disk)) (s .world .memory) a) ≡ none → ⊥
-    out e = z (empty-passed p (lentOk p (s .world .disk) (s .world .memory)) (seen p (s .world .disk)) (s .world .memory) a e .healthy)
-missing-step p s (write a (x ∷ b) n) r nb z = refused-any p s (write a (x ∷ b) n) (λ e. out (unfold decides in e))
+    out : firstRefusal (emptyChecks p (lentOk p off (s .world .disk) (s .world .memory)) (seen p off (s .world .disk)) (s .world .memory) a) ≡ none → ⊥
+    out e = z (empty-passed p (lentOk p off (s .world .disk) (s .world .memory)) (seen p off (s .world .disk)) (s .world .memory) a e .healthy)
+missing-step p off s (write a (x ∷ b) n) r nb z = refused-any p off s (write a (x ∷ b) n) (λ e. out (unfold decides in e))
   where
-    out : firstRefusal (writeChecks p (lentOk p (s .world .disk) (s .world .memory)) (seen p (s .world .disk)) (s .world .memory) a (x ∷ b)) ≡ none → ⊥
-    out e = z (write-passed p (lentOk p (s .world .disk) (s .world .memory)) (seen p (s .world .disk)) (s .world .memory) a (x ∷ b) e .healthy)
-missing-step p s (land d t n) r nb z = refused-any p s (land d t n) (λ e. out (unfold decides in e))
+    out : firstRefusal (writeChecks p (lentOk p off (s .world .disk) (s .world .memory)) (seen p off (s .world .disk)) (s .world .memory) a (x ∷ b)) ≡ none → ⊥
+    out e = z (write-passed p (lentOk p off (s .world .disk) (s .world .memory)) (seen p off (s .world .disk)) (s .world .memory) a (x ∷ b) e .healthy)
+missing-step p off s (land d t n) r nb z = refused-any p off s (land d t n) (λ e. out (unfold decides in e))
   where
-    out : firstRefusal (landChecks p (lentOk p (s .world .disk) (s .world .memory)) (seen p (s .world .disk)) (s .world .memory) d t) ≡ none → ⊥
-    out e = z (land-passed p (lentOk p (s .world .disk) (s .world .memory)) (seen p (s .world .disk)) (s .world .memory) d t e .healthy)
-missing-step p s (close n) r nb z = refused-any p s (close n) (λ e. out (unfold decides in e))
+    out : firstRefusal (landChecks p (lentOk p off (s .world .disk) (s .world .memory)) (seen p off (s .world .disk)) (s .world .memory) d t) ≡ none → ⊥
+    out e = z (land-passed p (lentOk p off (s .world .disk) (s .world .memory)) (seen p off (s .world .disk)) (s .world .memory) d t e .healthy)
+missing-step p off s (close n) r nb z = refused-any p off s (close n) (λ e. out (unfold decides in e))
   where
-    out : firstRefusal (closeChecks p (lentOk p (s .world .disk) (s .world .memory)) (seen p (s .world .disk)) (s .world .memory)) ≡ none → ⊥
-    out e = z (close-passed p (lentOk p (s .world .disk) (s .world .memory)) (seen p (s .world .disk)) (s .world .memory) e .healthy)
-missing-step p s (reclaim n) r nb z = refused-any p s (reclaim n) (λ e. out (unfold decides in e))
+    out : firstRefusal (closeChecks p (lentOk p off (s .world .disk) (s .world .memory)) (seen p off (s .world .disk)) (s .world .memory)) ≡ none → ⊥
+    out e = z (close-passed p (lentOk p off (s .world .disk) (s .world .memory)) (seen p off (s .world .disk)) (s .world .memory) e .healthy)
+missing-step p off s (reclaim n) r nb z = refused-any p off s (reclaim n) (λ e. out (unfold decides in e))
   where
     out :
-        firstRefusal (reclaimChecks p (lentOk p (s .world .disk) (s .world .memory)) (seen p (s .world .disk)) (s .world .memory)
-        (victim p (seen p (s .world .disk)) (s .world .memory .addresses))) ≡ none
+        firstRefusal (reclaimChecks p (lentOk p off (s .world .disk) (s .world .memory)) (seen p off (s .world .disk)) (s .world .memory)
+        (victim p (seen p off (s .world .disk)) (s .world .memory .addresses))) ≡ none
         → ⊥
     out e =
-        let v = seen p (s .world .disk) in
-        z (reclaim-passed p (lentOk p (s .world .disk) (s .world .memory)) v (s .world .memory) (victim p v (s .world .memory .addresses)) e .healthy)
-missing-step p s (read a) r nb z = read-step p s a
-missing-step p s (fill a b) r nb z = fill-step p s a b
-missing-step p s (restart d n) r nb z = absurd (let x : _≡_ {A = ℕ} 0 1 = boot r in let q : ⊥ = omega arith in q)
+        let v = seen p off (s .world .disk) in
+        z (reclaim-passed p (lentOk p off (s .world .disk) (s .world .memory)) v (s .world .memory) (victim p v (s .world .memory .addresses)) e .healthy)
+missing-step p off s (read a) r nb z = read-step p off s a
+missing-step p off s (fill a b) r nb z = fill-step p off s a b
+missing-step p off s (restart d n) r nb z = absurd (let x : _≡_ {A = ℕ} 0 1 = boot r in let q : ⊥ = omega arith in q)
   where
     boot : restartOf (restart d n) ≡ none → _≡_ {A = ℕ} 0 1
     boot e = unfold restartOf in cc
-missing-step p s (rebuild d n) r nb z = absurd (nb d n refl)
+missing-step p off s (rebuild d n) r nb z = absurd (nb d n refl)

@@ -7,10 +7,9 @@ use Prim.Native.Nat.{ℕ, suc, _+_, _-_, _^_, _≤_, _<_}
 use borrow.Author.Tests.{eq-eqb, eqb-true}
 use native.Mathlib.Omega.{arith}
 use lib.Dec.{eqb}
-use lib.ListN.{getD}
 use Rattle.spec.specs.declared.Params.{Params}
 use Rattle.spec.specs.Counts.{neverPlace}
-use Rattle.spec.specs.Drives.{noChunk, Zone, View, zoneAt, chunkAt, zoneOn, placeSegment, sealedIn, recordIn, recordAt, placeRecord}
+use Rattle.spec.specs.Drives.{Zone, View, zoneAt, chunkAt, zoneOn, sealedIn, recordAt}
 use Rattle.spec.specs.Layout.{recordOf}
 use Rattle.spec.specs.Lists.Opt.{none, some}
 use Rattle.spec.specs.Lists.{isIn}
@@ -18,9 +17,8 @@ use Rattle.spec.specs.Memory.{placeAt}
 use Rattle.spec.specs.Params.{capacity, placeOf, placeBlock, placeZone, placeDrive}
 use Rattle.spec.specs.Parity.{mkPiece}
 use Rattle.spec.specs.Rank.{Cand, best, placeOr, candsOf}
-use Rattle.spec.specs.Segments.{segmentOf, segments, offsetOn, hasChunk, offsetOf, candOf, candidates, addressTable}
+use Rattle.spec.specs.Segments.{segmentOf, segments, offsetOn, hasChunk, offsetOf, candOf, candidates, addressTable, placeRecord, placeSegment}
 use Rattle.law_basic.specs.Geometry.{Ranged, place-block, place-zone, place-drive, place-again, place-lt}
-use Rattle.law_basic.specs.Segs.{Named, zone-on-lt, place-segment-of}
 use Rattle.law_drives.specs.Tables.{place-at}
 use Rattle.law_drives.specs.Tests.{cond-false}
 use Rattle.law_basic.specs.Mask.{isIn-empty}
@@ -30,17 +28,17 @@ use Rattle.proof_crash_machine.specs.Val.{Val}
 use Rattle.proof_crash_machine.specs.View.{Item, ItemView}
 use Rattle.proof_crash_machine.specs.View.Item.{chunk}
 use Rattle.proof_crash_machine.specs.Mask.{Mask}
+use Rattle.law_drives.specs.Spots.{place-holder}
 use Rattle.proof_crash_items.specs.Cands.{best-none, candsSeen, From, cands-from, cand-value, of-counted}
-use Rattle.proof_crash_items.specs.Items.{valueOf, chunkItem, itemsIn, items-in, chunk-of}
+use Rattle.proof_crash_items.specs.Items.{valueOf, chunkItem, chunk-of}
+use Rattle.proof_crash_items.specs.Segs.{OnDrives, SegAt, nameOf, remaining-has, remains-at, its-zones, drive-here, apart-there, seg-bytes, seg-pointer-low}
+use Rattle.proof_crash_items.specs.Stripes.{stored-below, record-by-spare, offset-on, stored-piece, counted-has, pieceAt, piece-here, counted-stripe, seg-items}
 use Rattle.proof_crash_items.specs.Member.{Has, keep-has, has-keep}
 use Rattle.proof_crash_items.specs.Named.{zero-choice, none-out}
 use Rattle.proof_crash_items.specs.Ranges.{capacity-few, parOf, data-code}
 use Rattle.proof_crash_items.specs.Reading.{places-many}
-use Rattle.proof_crash_items.specs.Segs.{OnDrives, zone-bytes, zone-pointer-low, remaining-has}
-use Rattle.proof_crash_items.specs.Shape.{ZoneShape, shape-zone}
-use Rattle.proof_crash_items.specs.Stripes.{stored-below, pointer-is, sealed-at-capacity, offset-on, stored-piece, counted-has, pieceAt, piece-here, counted-stripe}
 use Rattle.proof_crash_items.specs.Values.{pieceValue, value-same}
-use Rattle.proof_crash_items.specs.ZoneBytes.{blockIn, by-footer}
+use Rattle.proof_crash_items.specs.ZoneBytes.{blockIn}
 use Rattle.proof_crash_calls.specs.Go.{mst}
 use Rattle.proof_crash_calls.specs.Held.{Entry, TableOk}
 use Rattle.proof_crash_calls.specs.LandRel.{off-here}
@@ -58,58 +56,47 @@ counted-none P hd v m n a b x q = record {
   dt = q .dt;
 }
 
-module _ (p : Params) (h : Ranged p) (g : Ghost) (v : View) (k : OnDrives p h g v) (none? : None (parOf p h) (g .un)) where
-  choice-none : Choice (parOf p h) (g .un) (isIn 0)
-  choice-none = zero-choice p h (g .un) none?
+module _ (p : Params) (h : Ranged p) (off : List ℕ) (g : Ghost) (v : View) (u : ItemView) (k : OnDrives p h off g v u) (none? : None (parOf p h off) (g .un)) where
+  pub choice-none : Choice (parOf p h off) (g .un) (isIn 0)
+  choice-none = zero-choice p h off (g .un) none?
 
   abbrev pub said : List Cand
   said = candidates p 0 (segments p v 0)
 
-  said-is : candsSeen p h g v k 0 choice-none ≡ said
+  said-is : candsSeen p h off g v u k 0 choice-none ≡ said
   unfolding candsSeen
   said-is = refl
-
-  not-untrusted : (d : ℕ) → d < p .N → g .un d ≡ false
-  not-untrusted d l = none? d l
 
   not-m : (d : ℕ) → d < p .N → isIn 0 d ≡ false
   not-m d l = isIn-empty d
 
   -- the record at an offset, sealed or not
-  pub record-of-spare : (d : ℕ) (z : Seg) (o : ℕ) → d < p .N → Named p z → o < p .S → recordAt p v 0 d z o ≡ recordOf (blockIn (zoneAt v d (zoneOn z d)) (suc o) .spare)
+  pub record-of-spare : {n : ℕ} (d : ℕ) (z : Seg) (o : ℕ) → d < p .N → SegAt p v u 0 z n → o < p .S
+      → recordAt p v 0 d z o ≡ recordOf (blockIn (zoneAt v d (zoneOn z d)) (suc o) .spare)
   unfolding recordAt
-  record-of-spare d z o l b ol = go (sealedIn p v 0 z) refl
-    where
-      zone-shape : ZoneShape p (zoneAt v d (zoneOn z d))
-      zone-shape = shape-zone p v (k .shape) d (zoneOn z d) l (zone-on-lt p z d b)
-
-      spare : recordIn p false (zoneAt v d (zoneOn z d)) o ≡ recordOf (blockIn (zoneAt v d (zoneOn z d)) (suc o) .spare)
-      spare = unfold recordIn in ap (λ (i : ℕ). recordOf (getD (zoneAt v d (zoneOn z d) .blocks) i noChunk .spare)) (let i : 1 + o ≡ suc o = omega arith in i)
-
-      full : sealedIn p v 0 z ≡ true → zoneAt v d (zoneOn z d) .pointer ≡ capacity p
-      full e = pointer-is v d (zoneOn z d) ∙ sealed-at-capacity p h g v k 0 choice-none z d e l (not-m d l)
-
-      go : (t : Bool) → sealedIn p v 0 z ≡ t → recordIn p t (zoneAt v d (zoneOn z d)) o ≡ recordOf (blockIn (zoneAt v d (zoneOn z d)) (suc o) .spare)
-      go false e = spare
-      go true e = by-footer p h d z (zoneAt v d (zoneOn z d)) zone-shape (zone-bytes p h g v k d z l (not-untrusted d l) b) (full e) o ol ∙ spare
+  record-of-spare d z o l b ol = record-by-spare p h off g v u k 0 choice-none z d o (sealedIn p v 0 z) refl b l (not-m d l) ol
 
   -- ---- a record that counts
 
   module _ (x : Cand) (i : Has x said) where
-    from : From p h g v k 0 choice-none x
-    from = cands-from p h g v k 0 choice-none x (subst (λ (l : List Cand). Has x l) (sym said-is) i)
+    pub from : From p h off g v u k 0 choice-none x
+    from = cands-from p h off g v u k 0 choice-none x (subst (λ (l : List Cand). Has x l) (sym said-is) i)
 
-    zb : Named p (from .z)
-    zb = remaining-has p h g v k 0 choice-none (from .z) (from .rem) .0
+    -- its segment's name
+    abbrev pub itsName : ℕ
+    itsName = nameOf p v 0 (from .z)
+
+    zb : SegAt p v u 0 (from .z) (nameOf p v 0 (from .z))
+    zb = remains-at p h off g v u k 0 choice-none (from .z) (from .rem)
 
     abbrev its-zone : ℕ
     its-zone = zoneOn (from .z) (from .d)
 
     its-zone-low : its-zone < p .Z
-    its-zone-low = zone-on-lt p (from .z) (from .d) zb
+    its-zone-low = zb .low (from .d) (from .drv) (not-m (from .d) (from .drv))
 
     has : hasChunk (segmentOf p v 0 (from .z)) (from .s) (from .d) ≡ true
-    has = counted-has p h g v k 0 choice-none (from .z) (from .s) (from .cnt) .1 (from .d) (from .drv) (not-m (from .d) (from .drv))
+    has = counted-has p h off g v u k 0 choice-none (from .z) (from .s) (from .cnt) .1 (from .d) (from .drv) (not-m (from .d) (from .drv))
 
     o : ℕ
     o = offsetOn (segmentOf p v 0 (from .z)) (from .d) (from .s)
@@ -117,7 +104,7 @@ module _ (p : Params) (h : Ranged p) (g : Ghost) (v : View) (k : OnDrives p h g 
     o-low : (o < p .S) × (suc o < zoneAt v (from .d) its-zone .pointer)
     unfolding o
     o-low = stored-below p (zoneAt v (from .d) its-zone) (offsetOn (segmentOf p v 0 (from .z)) (from .d) (from .s))
-        (offset-on p h g v k 0 choice-none (from .z) (from .s) (from .d) zb (from .drv) (not-m (from .d) (from .drv)) has .0)
+        (offset-on p h off g v u k 0 choice-none (from .z) (from .s) (from .d) zb (from .drv) (not-m (from .d) (from .drv)) has .0)
 
     b-low : 1 + o < capacity p
     b-low = omega (arith, o-low .0, capacity-few p h)
@@ -140,8 +127,9 @@ module _ (p : Params) (h : Ranged p) (g : Ghost) (v : View) (k : OnDrives p h g 
     place-z : placeZone p (x .place) ≡ its-zone
     place-z = ap (placeZone p) place ∙ place-zone p (from .d) its-zone (1 + o) its-zone-low b-low
 
-    place-seg : placeSegment p (x .place) ≡ from .z
-    place-seg = ap (placeSegment p) place ∙ place-segment-of p (from .z) (from .d) (1 + o) (from .drv) zb b-low
+    place-seg : placeSegment p v 0 (x .place) ≡ from .z
+    place-seg = ap (placeSegment p v 0) place
+        ∙ place-holder p v 0 (drive-here p h off g v u k 0 choice-none) (apart-there p h off g v u k 0 choice-none) (from .z) (from .rem) (from .d) (from .drv) h (1 + o) b-low
 
     place-b : placeBlock p (x .place) ≡ suc o
     place-b = ap (placeBlock p) place ∙ place-block p (from .d) its-zone (1 + o) b-low ∙ (let e : 1 + o ≡ suc o = omega arith in e)
@@ -179,40 +167,45 @@ module _ (p : Params) (h : Ranged p) (g : Ghost) (v : View) (k : OnDrives p h g 
         block-is : chunkAt v (from .d) its-zone (suc o) .block ≡ blockIn (zoneAt v (from .d) its-zone) (suc o) .block
         block-is = unfold chunkAt in refl
 
-    value-is : valueAt ≡ pieceAt p h g v k 0 choice-none (from .z) (from .s) (from .d)
+    value-is : valueAt ≡ pieceAt p h off g v u k 0 choice-none (from .z) (from .s) (from .d)
     value-is = value-here
         ∙ sym (piece-value ∙ value-same (blockIn (zoneAt v (from .d) its-zone) (suc o) .block) (recordOf (blockIn (zoneAt v (from .d) its-zone) (suc o) .spare)))
       where
         piece-value :
-            pieceAt p h g v k 0 choice-none (from .z) (from .s) (from .d)
+            pieceAt p h off g v u k 0 choice-none (from .z) (from .s) (from .d)
             ≡ pieceValue
             (mkPiece (blockIn (zoneAt v (from .d) its-zone) (suc o) .block) (recordOf (blockIn (zoneAt v (from .d) its-zone) (suc o) .spare)))
-        piece-value = unfold pieceAt o in ap pieceValue (piece-here p h g v k 0 choice-none (from .z) (from .s) (from .d) (from .drv) (not-m (from .d) (from .drv))
-            ∙ stored-piece p h g v k 0 choice-none (from .z) (from .s) (from .d) zb (from .drv) (not-m (from .d) (from .drv)) has)
+        piece-value = unfold pieceAt o in ap pieceValue (piece-here p h off g v u k 0 choice-none (from .z) (from .s) (from .d) (from .drv) (not-m (from .d) (from .drv))
+            ∙ stored-piece p h off g v u k 0 choice-none (from .z) (from .s) (from .d) zb (from .drv) (not-m (from .d) (from .drv)) has)
 
-    counts-here : Counted (parOf p h) (g .hd) (itemsIn p v) (isIn 0) (pieceAt p h g v k 0 choice-none (from .z) (from .s) (from .d))
+    counts-here : Counted (parOf p h off) (g .hd) u (isIn 0) (pieceAt p h off g v u k 0 choice-none (from .z) (from .s) (from .d))
     counts-here = record {
-      z = zoneOn (from .z) 0;
+      z = nameOf p v 0 (from .z);
       s = from .s;
-      f = pieceAt p h g v k 0 choice-none (from .z) (from .s);
-      rem = remaining-has p h g v k 0 choice-none (from .z) (from .rem) .1;
-      st = counted-stripe p h g v k 0 choice-none (from .z) (from .s) zb (from .cnt);
+      f = pieceAt p h off g v u k 0 choice-none (from .z) (from .s);
+      rem = remaining-has p h off g v u k 0 choice-none (from .z) (from .rem) .0;
+      st = counted-stripe p h off g v u k 0 choice-none (from .z) (from .s) zb (from .cnt);
       dt = record { d = from .d; lt = from .drv; data? = data-code p h (from .s) (from .d) (from .dat); val = refl };
     }
 
-    -- it counts, in the segment of its place
-    pub counted-at : (q : Counted (parOf p h) (g .hd) (itemsIn p v) (g .un) valueAt) × (q .z ≡ zoneOn (placeSegment p (x .place)) 0)
+    -- it counts, in its segment
+    pub counted-at : (q : Counted (parOf p h off) (g .hd) u (g .un) valueAt) × (q .z ≡ itsName)
     unfolding counts-here
-    counted-at = subst (λ (y : Val). (q : Counted (parOf p h) (g .hd) (itemsIn p v) (g .un) y) × (q .z ≡ zoneOn (placeSegment p (x .place)) 0)) (sym value-is) (
-      counted-none (parOf p h) (g .hd) (itemsIn p v) (isIn 0) (g .un) (none-out p h) none? (pieceAt p h g v k 0 choice-none (from .z) (from .s) (from .d)) counts-here,
-      sym (ap (λ (y : Seg). zoneOn y 0) place-seg),
+    counted-at = subst (λ (y : Val). (q : Counted (parOf p h off) (g .hd) u (g .un) y) × (q .z ≡ itsName)) (sym value-is) (
+      counted-none (parOf p h off) (g .hd) u (isIn 0) (g .un) (none-out p h off) none? (pieceAt p h off g v u k 0 choice-none (from .z) (from .s) (from .d))
+          counts-here,
+      refl,
     )
 
+    -- whose zone it lies in
+    pub named-at : g .hd .zn itsName (placeDrive p (x .place)) ≡ placeZone p (x .place)
+    named-at = ap (g .hd .zn itsName) place-d ∙ sym (its-zones p h off g v u k 0 choice-none (from .z) (from .rem) (from .d) (from .drv)) ∙ sym place-z
+
     pub value-address : valueAt .addr ≡ x .address
-    value-address = ap (λ (y : Val). y .addr) value-is ∙ sym (cand-value p h g v k 0 choice-none (from .z) (from .s) (from .d) .0) ∙ ap (λ (y : Cand). y .address) (sym (from .is))
+    value-address = ap (λ (y : Val). y .addr) value-is ∙ sym (cand-value p h off g v u k 0 choice-none (from .z) (from .s) (from .d) .0) ∙ ap (λ (y : Cand). y .address) (sym (from .is))
 
     pub value-stamped : valueAt .stamp ≡ x .stamp
-    value-stamped = ap (λ (y : Val). y .stamp) value-is ∙ sym (cand-value p h g v k 0 choice-none (from .z) (from .s) (from .d) .1) ∙ ap (λ (y : Cand). y .stamp) (sym (from .is))
+    value-stamped = ap (λ (y : Val). y .stamp) value-is ∙ sym (cand-value p h off g v u k 0 choice-none (from .z) (from .s) (from .d) .1) ∙ ap (λ (y : Cand). y .stamp) (sym (from .is))
 
     -- its stamp takes 8 bytes
     pub cand-stamp-low : x .stamp < 256 ^ 8
@@ -221,16 +214,15 @@ module _ (p : Params) (h : Ranged p) (g : Ghost) (v : View) (k : OnDrives p h g 
         (value-stamp (blockIn (zoneAt v (from .d) its-zone) (suc o) .block) (recordOf (blockIn (zoneAt v (from .d) its-zone) (suc o) .spare)))
         ∙ sym (ap (λ (y : Val). y .stamp) value-here)
         ∙ value-stamped)
-        (zone-bytes p h g v k (from .d) (from .z) (from .drv) (not-untrusted (from .d) (from .drv)) zb .wide o (o-low .0) (o-low .1) .stamp)
+        (seg-bytes p h off g v u k 0 choice-none (from .z) zb (from .d) (from .drv) (not-m (from .d) (from .drv)) .wide o (o-low .0) (o-low .1) .stamp)
 
     -- the item there
-    pub item-at : (t : ℕ) × Off (itemsIn p v (placeDrive p (x .place)) (zoneOn (placeSegment p (x .place)) 0)) (placeBlock p (x .place)) (chunk t valueAt)
+    pub item-at : (t : ℕ) × Off (u (placeDrive p (x .place)) itsName) (placeBlock p (x .place)) (chunk t valueAt)
     item-at = (
       n,
-      subst (λ (y : ℕ). Off (itemsIn p v y (zoneOn (placeSegment p (x .place)) 0)) (placeBlock p (x .place)) (chunk n valueAt)) (sym place-d)
-          (subst (λ (y : Seg). Off (itemsIn p v (from .d) (zoneOn y 0)) (placeBlock p (x .place)) (chunk n valueAt)) (sym place-seg) (subst
-          (λ (y : ℕ). Off (itemsIn p v (from .d) (zoneOn (from .z) 0)) y (chunk n valueAt)) (sym place-b)
-          (subst (λ (y : Val). Off (itemsIn p v (from .d) (zoneOn (from .z) 0)) (suc o) (chunk n y)) (sym value-here) there))),
+      subst (λ (y : ℕ). Off (u y itsName) (placeBlock p (x .place)) (chunk n valueAt)) (sym place-d)
+          (subst (λ (y : ℕ). Off (u (from .d) itsName) y (chunk n valueAt)) (sym place-b)
+          (subst (λ (y : Val). Off (u (from .d) itsName) (suc o) (chunk n y)) (sym value-here) there)),
     )
       where
         q : Zone
@@ -240,14 +232,14 @@ module _ (p : Params) (h : Ranged p) (g : Ghost) (v : View) (k : OnDrives p h g 
         n = recordOf (blockIn (zoneAt v (from .d) its-zone) (suc o) .spare) .stripe
 
         there :
-            Off (itemsIn p v (from .d) (zoneOn (from .z) 0)) (suc o)
+            Off (u (from .d) itsName) (suc o)
             (chunk n
             (valueOf (blockIn (zoneAt v (from .d) its-zone) (suc o) .block) (recordOf (blockIn (zoneAt v (from .d) its-zone) (suc o) .spare))))
         there =
             subst (λ (l : List Item). Off l (suc o) (chunk n
             (valueOf (blockIn (zoneAt v (from .d) its-zone) (suc o) .block) (recordOf (blockIn (zoneAt v (from .d) its-zone) (suc o) .spare)))))
-            (sym (items-in p v (from .d) (from .z) (omega (arith, from .drv)) zb))
-            (unfold chunkItem in chunk-of p (zoneAt v (from .d) its-zone) (zone-pointer-low p h g v k (from .d) (from .z) (from .drv) (not-untrusted (from .d) (from .drv)) zb) o (o-low .0)
+            (sym (seg-items p v u 0 (from .z) itsName zb (from .d) (from .drv) (not-m (from .d) (from .drv))))
+            (unfold chunkItem in chunk-of p (zoneAt v (from .d) its-zone) (seg-pointer-low p h off g v u k 0 choice-none (from .z) zb (from .d) (from .drv) (not-m (from .d) (from .drv))) o (o-low .0)
             (o-low .1))
 
   -- ---- the best of an address
@@ -267,11 +259,11 @@ module _ (p : Params) (h : Ranged p) (g : Ghost) (v : View) (k : OnDrives p h g 
   -- a block that counts is beaten, or is the best
   pub counted-beaten :
       (x : Val)
-      → Counted (parOf p h) (g .hd) (itemsIn p v) (g .un) x
+      → Counted (parOf p h off) (g .hd) u (g .un) x
       → (w : Cand) × (best none (candsOf (x .addr) said) ≡ some w) × Has w said × (w .address ≡ x .addr) × (x .stamp ≤ w .stamp)
   counted-beaten x q =
-      let y : (y : Cand) × Has y (candsSeen p h g v k 0 choice-none) × (y .address ≡ x .addr) × (y .stamp ≡ x .stamp) =
-      of-counted p h g v k 0 choice-none x (counted-none (parOf p h) (g .hd) (itemsIn p v) (g .un) (isIn 0) none? (none-out p h) x q) in
+      let y : (y : Cand) × Has y (candsSeen p h off g v u k 0 choice-none) × (y .address ≡ x .addr) × (y .stamp ≡ x .stamp) =
+      of-counted p h off g v u k 0 choice-none x (counted-none (parOf p h off) (g .hd) u (g .un) (isIn 0) none? (none-out p h off) x q) in
       let i : Has (y .0) (candsOf (x .addr) said) = at (y .0) (subst (λ (l : List Cand). Has (y .0) l) said-is (y .1)) (y .2) in
       ⊎-elim (λ (e : candsOf (x .addr) said ≡ []). absurd (subst (λ (l : List Cand). Has (y .0) l) e i))
       (λ (r : (w : Cand) × (best none (candsOf (x .addr) said) ≡ some w) × Has w (candsOf (x .addr) said) × ((c : Cand) → Has c (candsOf (x .addr) said) → c .stamp ≤ w .stamp)).
@@ -293,26 +285,28 @@ module _ (p : Params) (h : Ranged p) (g : Ghost) (v : View) (k : OnDrives p h g 
         small = omega (arith, is, cand-lies w i .low)
 
     -- so its entries are as they should be, at the end of a restart
-    pub table-said : (a : List Val) (b : Bool) (m : Mode) → Inv (parOf p h) (mst g (itemsIn p v) a b m) → TableOk p h g (itemsIn p v) tb
+    pub table-said : (a : List Val) (b : Bool) (m : Mode) → Inv (parOf p h off) (mst g u a b m) → TableOk p h off g u tb
     table-said acks b m I a al =
         ⊎-elim (λ (e : best none (candsOf a said) ≡ none). inl (
           never e,
-          ⊎-elim (λ f. f) (λ (w : (y : Val) × Counted (parOf p h) (g .hd) (itemsIn p v) (g .un) y × (y .addr ≡ a) × (g .base a ≤ y .stamp)).
+          ⊎-elim (λ f. f) (λ (w : (y : Val) × Counted (parOf p h off) (g .hd) u (g .un) y × (y .addr ≡ a) × (g .base a ≤ y .stamp)).
               absurd (unread e w)) (I .facts .content .floor a),
         ))
         (λ (q : (w : Cand) × (best none (candsOf a said) ≡ some w) × Has w said × (w .address ≡ a)).
-        inr (subst (λ (y : ℕ). Entry p h g (itemsIn p v) y a) (sym (table-best a al (q .0) (q .1) (q .2))) (record {
+        inr (subst (λ (y : ℕ). Entry p h off g u y a) (sym (table-best a al (q .0) (q .1) (q .2))) (record {
           s = item-at (q .0) (q .2) .0;
           x = valueAt (q .0) (q .2);
           drive = cand-lies (q .0) (q .2) .drive;
           zone = cand-lies (q .0) (q .2) .zone;
+          n = itsName (q .0) (q .2);
+          lies = named-at (q .0) (q .2);
           at = item-at (q .0) (q .2) .1;
           counts = counted-at (q .0) (q .2) .0;
           same = counted-at (q .0) (q .2) .1;
           addr = value-address (q .0) (q .2) ∙ q .3;
           floor =
               ⊎-elim (λ (f : g .base a ≡ 0). omega arith)
-              (λ (w : (y : Val) × Counted (parOf p h) (g .hd) (itemsIn p v) (g .un) y × (y .addr ≡ a) × (g .base a ≤ y .stamp)). high (q .0) (q .1)
+              (λ (w : (y : Val) × Counted (parOf p h off) (g .hd) u (g .un) y × (y .addr ≡ a) × (g .base a ≤ y .stamp)). high (q .0) (q .1)
               (q .2) w) (I .facts .content .floor a);
         }))) (best-said a)
       where
@@ -321,7 +315,7 @@ module _ (p : Params) (h : Ranged p) (g : Ghost) (v : View) (k : OnDrives p h g 
             let is : placeOr (best none (candsOf a said)) ≡ neverPlace = ap placeOr e ∙ (let z : placeOr none ≡ neverPlace = unfold placeOr in refl in z) in
             ap (λ (t : List ℕ). placeAt t a) truth ∙ place-at p said a al (let b : placeOr (best none (candsOf a said)) < 256 ^ 4 = omega (arith, is) in b) ∙ is
 
-        unread : best none (candsOf a said) ≡ none → (y : Val) × Counted (parOf p h) (g .hd) (itemsIn p v) (g .un) y × (y .addr ≡ a) × (g .base a ≤ y .stamp) → ⊥
+        unread : best none (candsOf a said) ≡ none → (y : Val) × Counted (parOf p h off) (g .hd) u (g .un) y × (y .addr ≡ a) × (g .base a ≤ y .stamp) → ⊥
         unread e (y, q, ya, ys) =
             let w : (w : Cand) × (best none (candsOf (y .addr) said) ≡ some w) × Has w said × (w .address ≡ y .addr) × (y .stamp ≤ w .stamp) = counted-beaten y q in
             let f : none ≡ some (w .0) = sym e ∙ ap (λ (n : ℕ). best none (candsOf n said)) (sym ya) ∙ w .1 in
@@ -331,13 +325,13 @@ module _ (p : Params) (h : Ranged p) (g : Ghost) (v : View) (k : OnDrives p h g 
             (w : Cand)
             → best none (candsOf a said) ≡ some w
             → (i : Has w said)
-            → (y : Val) × Counted (parOf p h) (g .hd) (itemsIn p v) (g .un) y × (y .addr ≡ a) × (g .base a ≤ y .stamp)
+            → (y : Val) × Counted (parOf p h off) (g .hd) u (g .un) y × (y .addr ≡ a) × (g .base a ≤ y .stamp)
             → g .base a ≤ valueAt w i .stamp
         high w e i (y, q, ya, ys) =
-            let u : (u : Cand) × (best none (candsOf (y .addr) said) ≡ some u) × Has u said × (u .address ≡ y .addr) × (y .stamp ≤ u .stamp) = counted-beaten y q in
-            let f : u .0 ≡ w = one (sym (u .1) ∙ ap (λ (n : ℕ). best none (candsOf n said)) ya ∙ e) in
-            let k : u .0 .stamp ≡ w .stamp = ap (λ (x : Cand). x .stamp) f in
-            omega (arith, ys, u .4, k, value-stamped w i)
+            let e₁ : (u : Cand) × (best none (candsOf (y .addr) said) ≡ some u) × Has u said × (u .address ≡ y .addr) × (y .stamp ≤ u .stamp) = counted-beaten y q in
+            let f : e₁ .0 ≡ w = one (sym (e₁ .1) ∙ ap (λ (n : ℕ). best none (candsOf n said)) ya ∙ e) in
+            let k : e₁ .0 .stamp ≡ w .stamp = ap (λ (x : Cand). x .stamp) f in
+            omega (arith, ys, e₁ .4, k, value-stamped w i)
           where
             one : {x y : Cand} → some x ≡ some y → x ≡ y
             one e = cc

@@ -14,7 +14,7 @@ use Rattle.spec.specs.History.{World, Send, Seen, seenAt}
 use Rattle.spec.specs.History.Seen.{unwritten, got}
 use Rattle.law_basic.specs.Geometry.{Ranged}
 use Rattle.law_drives.specs.Tests.{not-so}
-use Rattle.proof_crash_machine.specs.Facts.{Ghost, InV, Beyond}
+use Rattle.proof_crash_machine.specs.Facts.{Ghost, InV, Beyond, L}
 use Rattle.proof_crash_machine.specs.History.{State as m-State, Inv, Claim}
 use Rattle.proof_crash_machine.specs.Order.{Track, Tracked}
 use Rattle.proof_crash_machine.specs.Val.{Val}
@@ -41,7 +41,8 @@ Shows p l K a s = ((K a ≡ 0) × (s ≡ unwritten)) ⊎ ShowsBlock p l (K a) a 
 same-block : (b c : List ℕ) → length b ≡ length c → _≡_ {A = ℕ → ℕ} (λ i. getD b i 0) (λ i. getD c i 0) → b ≡ c
 same-block b c e f = ext-getD 0 b c e (λ i l. ap (λ (g : ℕ → ℕ). g i) f)
 
-module _ (p : Params) (h : Ranged p) (σ : m-State) (T : Track) (m : Mask) (K : ℕ → ℕ) (ss : List Send) (I : Inv (parOf p h) σ) (tr : Tracked σ T) (cl : Claim (parOf p h) σ m K)
+module _ (p : Params) (h : Ranged p) (off : List ℕ) (σ : m-State) (T : Track) (m : Mask) (K : ℕ → ℕ) (ss : List Send) (I : Inv (parOf p h off) σ) (tr : Tracked σ T)
+    (cl : Claim (parOf p h off) σ m K)
     (L : Logged p (σ .acked) T ss) (a : ℕ) where
   -- an acknowledged send at a is no later than what is read
   acked-low :
@@ -116,8 +117,8 @@ shows-same p l one pos K J a s t e (inr x) (inr y) =
     x .shows ∙ ap₂ got (same-block (x .block) (y .block) (x .long ∙ sym (y .long)) (sym (x .is) ∙ ap (λ (w : Val). w .blk) v ∙ y .is)) e ∙ sym (y .shows)
 
 -- what the last finished restart read, in terms of the ghost
-abbrev pub MarkShows : Params → Ghost → World → Type 0
-MarkShows p g w = (a : ℕ) → a < p .L → Shows p (g .sent) (g .last) a (seenAt p w a)
+abbrev pub MarkShows : Params → List ℕ → Ghost → World → Type 0
+MarkShows p off g w = (a : ℕ) → a < p .L → Shows p (g .sent) (g .last) a (seenAt p off w a)
 
 pub shows-more : (p : Params) (l l′ : List Val) (K J : ℕ → ℕ) (a : ℕ) (s : Seen) → ((x : Val) → InV x l → InV x l′) → K a ≡ J a → Shows p l K a s → Shows p l′ J a s
 shows-more p l l′ K J a s f e (inl (x, y)) = inl (sym e ∙ x, y)
@@ -125,8 +126,9 @@ shows-more p l l′ K J a s f e (inr y) =
     inr (record { block = y .block; value = y .value; sent = f (y .value) (y .sent); addr = y .addr; stamp = y .stamp ∙ e; long = y .long; is = y .is; shows = y .shows ∙ ap (got (y .block)) e })
 
 -- "and it reads as the finished restart before it did if no block was sent between": σ before the restart, K what it reads, w the world that the one before it left
-pub same-reads : (p : Params) (h : Ranged p) (σ : m-State) (m : Mask) (K : ℕ → ℕ) → Inv (parOf p h) σ → Claim (parOf p h) σ m K → (Beyond (parOf p h) (σ .g .said) m → ⊥)
+pub same-reads : (p : Params) (h : Ranged p) (off : List ℕ) (σ : m-State) (m : Mask) (K : ℕ → ℕ) → Inv (parOf p h off) σ → Claim (parOf p h off) σ m K
+    → (Beyond (parOf p h off) (σ .g .said) m → ⊥)
     → σ .since ≡ false
-    → (w : World) → MarkShows p (σ .g) w
-    → (a : ℕ) → a < p .L → (s : Seen) → Shows p (σ .g .sent) K a s → s ≡ seenAt p w a
-same-reads p h σ m K I c fair still w k a b s x = shows-same p (σ .g .sent) (I .uniq) (λ y m. I .ones y m .0) K (σ .g .last) a s (seenAt p w a) (c .same still fair a) x (k a b)
+    → (w : World) → MarkShows p off (σ .g) w
+    → (a : ℕ) → a < p .L → (s : Seen) → Shows p (σ .g .sent) K a s → s ≡ seenAt p off w a
+same-reads p h off σ m K I c fair still w k a b s x = shows-same p (σ .g .sent) (I .uniq) (λ y m. I .ones y m .0) K (σ .g .last) a s (seenAt p off w a) (c .same still fair a) x (k a b)

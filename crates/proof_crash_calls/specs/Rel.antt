@@ -104,7 +104,8 @@ pub record RelOn (p : Params) (v : ItemView) (st : State) (fl : List ℕ) (M : M
   pub long : RowsLong st
   pub healthy : st .missing ≡ 0
   pub is-open : M .is-open ≡ not (eqb (st .opened) 0)
-  pub zone : M .is-open ≡ true → st .opened ≡ suc (M .zone)
+  -- a segment by its name, which is its serial
+  pub zone : M .is-open ≡ true → st .opened ≡ M .zone
   pub next : M .is-open ≡ true → M .next ≡ st .next
   pub stamp : M .stamp ≡ st .stamp .0
   pub serial : M .serial ≡ st .serial .0

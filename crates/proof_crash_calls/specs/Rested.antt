@@ -3,7 +3,7 @@ use mathlib.Core.Path.{_≡_, refl}
 use mathlib.Core.List.{List}
 use mathlib.Core.Bool.{Bool, true, false, not}
 use mathlib.Core.Logic.{_≢_}
-use Prim.Native.Nat.{ℕ, suc, _^_, _<_}
+use Prim.Native.Nat.{ℕ, _^_, _<_}
 use native.Mathlib.Omega.{arith}
 use lib.Dec.{eqb}
 use lib.ListN.{length-replicate}
@@ -36,7 +36,7 @@ idle-unused live gone t sr opened next i = not-so (inUse (idleState live gone t 
 
 -- the state of a healthy restart, and the machine's memory: the open segment, if there is one, has the stripes below next on all drives, and not all S
 pub rest-rel : (p : Params) (v : ItemView) (fl : List ℕ) (live t sr opened next : ℕ) (b : Bool) (z k : ℕ) → t < 256 ^ 8 → sr < 256 ^ 8
-    → b ≡ not (eqb opened 0) → (b ≡ true → opened ≡ suc z) → (b ≡ true → k ≡ next) → (b ≡ true → k ≢ p .S)
+    → b ≡ not (eqb opened 0) → (b ≡ true → opened ≡ z) → (b ≡ true → k ≡ next) → (b ≡ true → k ≢ p .S)
     → (b ≡ true → (s : ℕ) → s < k → (d : ℕ) → d < p .N → (x : Val) × InI (chunk s x) (v d z)) → Rel p v (idleState live 0 t sr opened next) fl (restMem b z k t sr)
 rest-rel p v fl live t sr opened next b z k tl sl eb ez ek few whole = record {
   long = idle-long live 0 t sr opened next;

@@ -27,46 +27,47 @@ use Rattle.proof_crash_calls.specs.Join.{Healthy, Ended, Next, rebuild-r
 use Rattle.proof_crash_calls.specs.Join.Next.{goes, stops}
 
 -- a healthy run goes on; n blocks had been sent when its restart finished
-pub record Running (p : Params) (h : Ranged p) (s : Hist) (n : ℕ) : Type 0 where
-  pub healthy : Healthy p h (s .world .disk) (s .world .memory) (s .sends) n
+pub record Running (p : Params) (h : Ranged p) (off : List ℕ) (s : Hist) (n : ℕ) : Type 0 where
+  pub healthy : Healthy p h off (s .world .disk) (s .world .memory) (s .sends) n
   pub trusted : s .untrusted ≡ 0
 
 -- it was cut
-pub record Halted (p : Params) (h : Ranged p) (s : Hist) (n : ℕ) : Type 0 where
-  pub ended : Ended p h (s .world .disk) (s .sends) n
+pub record Halted (p : Params) (h : Ranged p) (off : List ℕ) (s : Hist) (n : ℕ) : Type 0 where
+  pub ended : Ended p h off (s .world .disk) (s .sends) n
   pub trusted : s .untrusted ≡ 0
   -- the state is all zeros
   pub dark : s .world .memory .state ≡ zeroState
 
 -- an event's step, from ghost g: the mark of the last finished restart stays
-pub data Stepped (p : Params) (h : Ranged p) (g : Ghost) (n : ℕ) (s s′ : Hist) : Type 0 where
-  goes-on : s′ .mark ≡ s .mark → (x : Running p h s′ n) → Later g (x .healthy .live .g) → Stepped p h g n s s′
-  is-over : s′ .mark ≡ s .mark → (x : Halted p h s′ n) → Later g (x .ended .stopped .g) → Stepped p h g n s s′
+pub data Stepped (p : Params) (h : Ranged p) (off : List ℕ) (g : Ghost) (n : ℕ) (s s′ : Hist) : Type 0 where
+  goes-on : s′ .mark ≡ s .mark → (x : Running p h off s′ n) → Later g (x .healthy .live .g) → Stepped p h off g n s s′
+  is-over : s′ .mark ≡ s .mark → (x : Halted p h off s′ n) → Later g (x .ended .stopped .g) → Stepped p h off g n s s′
 
 untrusted-same :
-    (p : Params) (h : Ranged p) (k : Disk) (m : Memory) (ss : List Send) (n : ℕ)
-    → Healthy p h k m ss n
+    (p : Params) (h : Ranged p) (off : List ℕ) (k : Disk) (m : Memory) (ss : List Send) (n : ℕ)
+    → Healthy p h off k m ss n
     → (c : Call)
     → restartOf c ≡ none
     → (us : ℕ)
-    → untrustedAfter c (callDisk p k m c .answer) us ≡ us
+    → untrustedAfter c (callDisk p off k m c .answer) us ≡ us
 unfolding untrustedAfter
-untrusted-same p h k m ss n x (write a b c) e us = refl
-untrusted-same p h k m ss n x (land d s c) e us = refl
-untrusted-same p h k m ss n x (close c) e us = refl
-untrusted-same p h k m ss n x (reclaim c) e us = refl
-untrusted-same p h k m ss n x (read a) e us = refl
-untrusted-same p h k m ss n x (fill a b) e us = refl
-untrusted-same p h k m ss n x (restart d c) e us = absurd (let z : _≡_ {A = ℕ} 0 1 = boot e in let q : ⊥ = omega arith in q)
+untrusted-same p h off k m ss n x (write a b c) e us = refl
+untrusted-same p h off k m ss n x (land d s c) e us = refl
+untrusted-same p h off k m ss n x (close c) e us = refl
+untrusted-same p h off k m ss n x (reclaim c) e us = refl
+untrusted-same p h off k m ss n x (read a) e us = refl
+untrusted-same p h off k m ss n x (fill a b) e us = refl
+untrusted-same p h off k m ss n x (restart d c) e us = absurd (let z : _≡_ {A = ℕ} 0 1 = boot e in let q : ⊥ = omega arith in q)
   where
     boot : restartOf (restart d c) ≡ none → _≡_ {A = ℕ} 0 1
     boot e = unfold restartOf in cc
-untrusted-same p h k m ss n x (rebuild d c) e us =
-    cond-true (isRefused (callDisk p k m (rebuild d c) .answer)) us (cond (isCut (callDisk p k m (rebuild d c) .answer)) (named d) 0) (rebuild-refused p h k m ss n x d c)
+untrusted-same p h off k m ss n x (rebuild d c) e us =
+    cond-true (isRefused (callDisk p off k m (rebuild d c) .answer)) us (cond (isCut (callDisk p off k m (rebuild d c) .answer)) (named d) 0) (rebuild-refused p h off k m ss n x d c)
 
-pub run-step : (p : Params) (h : Ranged p) (s : Hist) (n : ℕ) (x : Running p h s n) (c : Call) → restartOf c ≡ none → Stepped p h (x .healthy .live .g) n s (step p s (calls c))
+pub run-step : (p : Params) (h : Ranged p) (off : List ℕ) (s : Hist) (n : ℕ) (x : Running p h off s n) (c : Call) → restartOf c ≡ none
+    → Stepped p h off (x .healthy .live .g) n s (step p off s (calls c))
 unfolding step happens before callOf worldAfter
-run-step p h s n x c e = go (call-next p h k m (s .sends) n (x .healthy) c e)
+run-step p h off s n x c e = go (call-next p h off k m (s .sends) n (x .healthy) c e)
   where
     k : Disk
     k = s .world .disk
@@ -75,19 +76,19 @@ run-step p h s n x c e = go (call-next p h k m (s .sends) n (x .healthy) c e)
     m = s .world .memory
 
     r : After Disk
-    r = callDisk p (s .world .disk) (s .world .memory) c
+    r = callDisk p off (s .world .disk) (s .world .memory) c
 
-    trust : untrustedAfter c (callDisk p (s .world .disk) (s .world .memory) c .answer) (s .untrusted) ≡ 0
-    trust = untrusted-same p h k m (s .sends) n (x .healthy) c e (s .untrusted) ∙ x .trusted
+    trust : untrustedAfter c (callDisk p off (s .world .disk) (s .world .memory) c .answer) (s .untrusted) ≡ 0
+    trust = untrusted-same p h off k m (s .sends) n (x .healthy) c e (s .untrusted) ∙ x .trusted
 
     kept? : (b : Bool) → b ≡ false → (w : World) (j : ℕ) (o : Opt Mark) → marked b w j o ≡ o
     kept? true q w j o = true≢false (sym q)
     kept? false q w j o = unfold marked in refl
 
     go :
-        Next p h (x .healthy .live .g) n (callDisk p (s .world .disk) (s .world .memory) c)
-        (sentAfter c (callDisk p (s .world .disk) (s .world .memory) c .answer) (s .sends))
-        → Stepped p h (x .healthy .live .g) n s (step p s (calls c))
+        Next p h off (x .healthy .live .g) n (callDisk p off (s .world .disk) (s .world .memory) c)
+        (sentAfter c (callDisk p off (s .world .disk) (s .world .memory) c .answer) (s .sends))
+        → Stepped p h off (x .healthy .live .g) n s (step p off s (calls c))
     go (goes a b y l) = goes-on (kept? (finished (r .answer)) b (mkWorld (r .drives) (r .memory)) (length (sentAfter c (r .answer) (s .sends))) (s .mark)) (record { healthy = y; trusted = trust }) l
     go (stops a b z y l) =
         is-over (kept? (finished (r .answer)) b (mkWorld (r .drives) (r .memory)) (length (sentAfter c (r .answer) (s .sends))) (s .mark)) (record { ended = y; trusted = trust; dark = z }) l

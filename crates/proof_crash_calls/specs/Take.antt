@@ -87,8 +87,8 @@ stamp-waits p st M t x s q = record {
 
 -- ---- a block taken
 
-module _ (p : Params) (h : Ranged p) (g : Ghost) (v : ItemView) (a : List Val) (c : Bool) (st : State) (fl : List ℕ) (M : Mem) (U : ℕ → Bool) (R : RelOn p v st fl M U)
-    (I : Inv (parOf p h) (mst g v a c (run M))) (long : length fl ≡ inflightLen p) (i : ℕ) (il : i < 8) (u : U i ≡ true) (kl : filledIn st i < dataCount p)
+module _ (p : Params) (h : Ranged p) (off : List ℕ) (g : Ghost) (v : ItemView) (a : List Val) (c : Bool) (st : State) (fl : List ℕ) (M : Mem) (U : ℕ → Bool) (R : RelOn p v st fl M U)
+    (I : Inv (parOf p h off) (mst g v a c (run M))) (long : length fl ≡ inflightLen p) (i : ℕ) (il : i < 8) (u : U i ≡ true) (kl : filledIn st i < dataCount p)
     (ad t w : ℕ) (b : List ℕ) (bl : length b ≡ p .B) where
   abbrev s : ℕ
   s = stripeIn st i
@@ -103,12 +103,12 @@ module _ (p : Params) (h : Ranged p) (g : Ghost) (v : ItemView) (a : List Val) (
   x = valueOf b (mkRec ad t (stripeIn st i))
 
   abbrev G : ℕ → Val
-  G = filledWord (parOf p h) (stripeIn st i) (M .F (stripeIn st i)) (dataDrive p (stripeIn st i) (filledIn st i)) (valueOf b (mkRec ad t (stripeIn st i)))
+  G = filledWord (parOf p h off) (stripeIn st i) (M .F (stripeIn st i)) (dataDrive p (stripeIn st i) (filledIn st i)) (valueOf b (mkRec ad t (stripeIn st i)))
 
   abbrev r : ℕ → Bool
   r = risen p (stripeIn st i) (suc (filledIn st i)) (M .ready (stripeIn st i))
 
-  flight : (M .is-open ≡ true) × (s < M .next) × Flight (parOf p h) g v (M .zone) s (M .F s) (M .ready s)
+  flight : (M .is-open ≡ true) × (s < M .next) × Flight (parOf p h off) g v (M .zone) s (M .F s) (M .ready s)
   flight = I .mode .flies s (R .flying i il u)
 
   dn : d < p .N
@@ -126,18 +126,18 @@ module _ (p : Params) (h : Ranged p) (g : Ghost) (v : ItemView) (a : List Val) (
   early : (e : ℕ) → codeOf p h .par s e ≡ true → M .ready s e ≡ false
   early e q = ap (M .ready s) (code-lone p h s e q) ∙ R .slot i il u .may (parityDrive p s) (parity-on p h s) ∙ ready-parity p s k ∙ lt-leb (dataCount p) k kl
 
-  pub taken-into : Into (parOf p h) M s d r
+  pub taken-into : Into (parOf p h off) M s d r
   taken-into = record { fly = R .flying i il u; drive = dn; data? = dp; blank = blank; free = free; early = early; more = risen-more p s (suc k) (M .ready s) }
 
   new : G d ≡ x
-  new = at-d (parOf p h) g v (M .zone) s (M .F s) (M .ready s) (flight .2) d x dn dp free early
+  new = at-d (parOf p h off) g v (M .zone) s (M .F s) (M .ready s) (flight .2) d x dn dp free early
 
   others-as-before : (j : ℕ) → j < dataCount p → j ≢ k → G (dataDrive p s j) ≡ M .F s (dataDrive p s j)
-  others-as-before j l n = at-else (parOf p h) g v (M .zone) s (M .F s) (M .ready s) (flight .2) d x dn dp free early (dataDrive p s j)
+  others-as-before j l n = at-else (parOf p h off) g v (M .zone) s (M .F s) (M .ready s) (flight .2) d x dn dp free early (dataDrive p s j)
       (data-drive-lt p s j l) (λ e. n (data-drive-once p s j k e)) (data-code p h s (dataDrive p s j) (drive-is-data p s j))
 
   landed-ready : (e : ℕ) → e < p .N → isIn (landedIn st i) e ≡ true → M .ready s e ≡ true
-  landed-ready = landed-may p h g v st fl M U (I .mode) R i il u
+  landed-ready = landed-may p h off g v st fl M U (I .mode) R i il u
 
   taken-ready : (e : ℕ) → e < p .N → r e ≡ readyAt p s (suc k) e
   taken-ready e el = risen-is p s k (M .ready s) e el (R .slot i il u .may e el)
@@ -176,11 +176,11 @@ module _ (p : Params) (h : Ranged p) (g : Ghost) (v : ItemView) (a : List Val) (
 
   -- a write's step
   pub sent-go : (T : Track) → valueOf b (mkRec ad t (stripeIn st i)) .stamp ≡ suc (M .stamp) → valueOf b (mkRec ad t (stripeIn st i)) .addr < p .L
-      → Go (parOf p h) (mst g v a c (run M)) (mst (withSent g (x ∷ g .sent)) v a true (run (stampedMem takenMem (x .stamp)))) T (sentTo T x)
-  sent-go T e l = go-step (parOf p h) (mst g v a c (run M)) (mst (withSent g (x ∷ g .sent)) v a true (run (stampedMem takenMem (x .stamp)))) T
+      → Go (parOf p h off) (mst g v a c (run M)) (mst (withSent g (x ∷ g .sent)) v a true (run (stampedMem takenMem (x .stamp)))) T (sentTo T x)
+  sent-go T e l = go-step (parOf p h off) (mst g v a c (run M)) (mst (withSent g (x ∷ g .sent)) v a true (run (stampedMem takenMem (x .stamp)))) T
       (send (mst g v a c (run M)) M x s d r refl taken-into e l)
 
   -- a copy's
-  pub copied-go : (T : Track) → Counted (parOf p h) (g .hd) v (g .un) (valueOf b (mkRec ad t (stripeIn st i)))
-      → Go (parOf p h) (mst g v a c (run M)) (mst g v a c (run takenMem)) T T
-  copied-go T q = go-step (parOf p h) (mst g v a c (run M)) (mst g v a c (run takenMem)) T (copy (mst g v a c (run M)) M x s d r refl taken-into q)
+  pub copied-go : (T : Track) → Counted (parOf p h off) (g .hd) v (g .un) (valueOf b (mkRec ad t (stripeIn st i)))
+      → Go (parOf p h off) (mst g v a c (run M)) (mst g v a c (run takenMem)) T T
+  copied-go T q = go-step (parOf p h off) (mst g v a c (run M)) (mst g v a c (run takenMem)) T (copy (mst g v a c (run M)) M x s d r refl taken-into q)

@@ -142,9 +142,10 @@ unfolding pads
 pads-fit = record { addr = omega arith; stamp = omega arith }
 
 -- what is sent or padding fits
-pub good-fits : (p : Params) (h : Ranged p) (σ : m-State) (M : Mem) → Inv (parOf p h) σ → MemOk (parOf p h) (σ .g) (σ .v) M → M .stamp < 256 ^ 8 → (x : Val) → Good (σ .g) x → Fits8 x
-good-fits p h σ M i m t x (inl e) = rw e pads-fit
-good-fits p h σ M i m t x (inr k) = record { addr = omega (arith, i .ones x k .1, addresses-all p h); stamp = omega (arith, m .stamps x k, t) }
+pub good-fits : (p : Params) (h : Ranged p) (off : List ℕ) (σ : m-State) (M : Mem) → Inv (parOf p h off) σ → MemOk (parOf p h off) (σ .g) (σ .v) M → M .stamp < 256 ^ 8 → (x : Val)
+    → Good (σ .g) x → Fits8 x
+good-fits p h off σ M i m t x (inl e) = rw e pads-fit
+good-fits p h off σ M i m t x (inr k) = record { addr = omega (arith, i .ones x k .1, addresses-all p h); stamp = omega (arith, m .stamps x k, t) }
 
 -- the record of the parity
 pub parity-wide : (s n : ℕ) (E : ℕ → Rec) → s < 256 ^ 4 → ((j : ℕ) → j < n → (E j .address < 256 ^ 8) × (E j .stamp < 256 ^ 8)) → Wide (parityRec s (map E (below n)))

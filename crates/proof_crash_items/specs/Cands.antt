@@ -8,7 +8,7 @@ use borrow.Author.Tests.{eq-eqb, ltb-true, ltb-false, eqb-true}
 use native.Mathlib.Omega.{arith}
 use lib.Dec.{ltb, eqb}
 use Rattle.spec.specs.declared.Params.{Params}
-use Rattle.spec.specs.Drives.{View, across, zoneOn}
+use Rattle.spec.specs.Drives.{View}
 use Rattle.spec.specs.Layout.{dataDrive, dataPosition, isData, dataDrives, Rec}
 use Rattle.spec.specs.Lists.{Opt, below, flat, greatest, isIn}
 use Rattle.spec.specs.Lists.Opt.{none, some}
@@ -16,20 +16,20 @@ use Rattle.spec.specs.Params.{dataCount}
 use Rattle.spec.specs.Rank.{Cand, beats, better, best, candsOf}
 use Rattle.spec.specs.Segments.{remaining, Segment, segmentOf, segments, counted, candOf, segmentCands, candidates, greatestStamp}
 use Rattle.law_basic.specs.Geometry.{Ranged, data-drive-lt, drive-position, position-lt, drive-is-data}
-use Rattle.law_basic.specs.Segs.{Named}
 use Rattle.law_drives.specs.Segs.{piece-rec}
 use Rattle.law_drives.specs.Tests.{cond-true, cond-false}
 use Rattle.proof_crash_machine.specs.Exec.{and-1, or-either}
-use Rattle.proof_crash_machine.specs.Facts.{Ghost, Choice, R, Counted}
+use Rattle.proof_crash_machine.specs.Facts.{Ghost, Choice, Counted}
 use Rattle.proof_crash_machine.specs.Finish.{Reads}
 use Rattle.proof_crash_machine.specs.Val.{Val}
-use Rattle.proof_crash_items.specs.Items.{valueOf, itemsIn}
+use Rattle.proof_crash_items.specs.Items.{valueOf}
 use Rattle.proof_crash_items.specs.Member.{Has, keep-has, has-keep, below-has, has-below, flat-has, has-flat, map-has, has-map, greatest-most}
 use Rattle.proof_crash_items.specs.Ranges.{parOf, data-code, code-data}
-use Rattle.proof_crash_items.specs.Segs.{OnDrives, number-remaining, remaining-has}
+use Rattle.proof_crash_items.specs.Segs.{OnDrives, remaining-has, has-remaining, nameOf, namedSeg, remains-at}
 use Rattle.proof_crash_items.specs.Stripes.{pieceAt, counted-stripe, number-counted}
 use Rattle.proof_crash_items.specs.Values.{pieceValue}
 use Rattle.spec.specs.declared.Seg.{Seg}
+use Rattle.proof_crash_machine.specs.View.{ItemView}
 
 -- ---- which record holds
 
@@ -127,7 +127,7 @@ has-data-drive p r s d l e =
 
 -- ---- the record of a piece
 
-module _ (p : Params) (r : Ranged p) (g : Ghost) (v : View) (k : OnDrives p r g v) (m : ℕ) (c : Choice (parOf p r) (g .un) (isIn m)) where
+module _ (p : Params) (r : Ranged p) (off : List ℕ) (g : Ghost) (v : View) (u : ItemView) (k : OnDrives p r off g v u) (m : ℕ) (c : Choice (parOf p r off) (g .un) (isIn m)) where
   abbrev G : Seg → Segment
   G z = segmentOf p v m z
 
@@ -167,43 +167,43 @@ module _ (p : Params) (r : Ranged p) (g : Ghost) (v : View) (k : OnDrives p r g 
       (has-map (candOf p m (G z) s) (dataDrives p s) d (has-data-drive p r s d l n)))
 
   -- its address and stamp are those of the piece
-  pub cand-value : (z : Seg) (s d : ℕ) → (candOf p m (G z) s d .address ≡ pieceAt p r g v k m c z s d .addr) × (candOf p m (G z) s d .stamp ≡ pieceAt p r g v k m c z s d .stamp)
+  pub cand-value : (z : Seg) (s d : ℕ) → (candOf p m (G z) s d .address ≡ pieceAt p r off g v u k m c z s d .addr) × (candOf p m (G z) s d .stamp ≡ pieceAt p r off g v u k m c z s d .stamp)
   unfolding candOf pieceAt pieceValue valueOf
   cand-value z s d = (ap (λ (x : Rec). x .address) (sym (piece-rec p m (G z) s d)), ap (λ (x : Rec). x .stamp) (sym (piece-rec p m (G z) s d)))
 
   pub cand-counted : (x : Cand) (f : From x)
-      → Counted (parOf p r) (g .hd) (itemsIn p v) (isIn m) (pieceAt p r g v k m c (f .z) (f .s) (f .d)) × (pieceAt p r g v k m c (f .z) (f .s) (f .d) .addr ≡ x .address)
-      × (pieceAt p r g v k m c (f .z) (f .s) (f .d) .stamp ≡ x .stamp)
+      → Counted (parOf p r off) (g .hd) u (isIn m) (pieceAt p r off g v u k m c (f .z) (f .s) (f .d)) × (pieceAt p r off g v u k m c (f .z) (f .s) (f .d) .addr ≡ x .address)
+      × (pieceAt p r off g v u k m c (f .z) (f .s) (f .d) .stamp ≡ x .stamp)
   cand-counted x f =
-      let b : Named p (f .z) × R (parOf p r) (g .hd) (itemsIn p v) (isIn m) (zoneOn (f .z) 0) = remaining-has p r g v k m c (f .z) (f .rem) in (
+      let n : ℕ = nameOf p v m (f .z) in (
         record {
-          z = zoneOn (f .z) 0;
+          z = n;
           s = f .s;
-          f = pieceAt p r g v k m c (f .z) (f .s);
-          rem = b .1;
-          st = counted-stripe p r g v k m c (f .z) (f .s) (b .0) (f .cnt);
+          f = pieceAt p r off g v u k m c (f .z) (f .s);
+          rem = remaining-has p r off g v u k m c (f .z) (f .rem) .0;
+          st = counted-stripe p r off g v u k m c (f .z) (f .s) (remains-at p r off g v u k m c (f .z) (f .rem)) (f .cnt);
           dt = record { d = f .d; lt = f .drv; data? = data-code p r (f .s) (f .d) (f .dat); val = refl };
         },
         sym (ap (λ (y : Cand). y .address) (f .is) ∙ cand-value (f .z) (f .s) (f .d) .0),
         sym (ap (λ (y : Cand). y .stamp) (f .is) ∙ cand-value (f .z) (f .s) (f .d) .1),
       )
 
-  pub counted-of : (x : Cand) → From x → (y : Val) × Counted (parOf p r) (g .hd) (itemsIn p v) (isIn m) y × (y .addr ≡ x .address) × (y .stamp ≡ x .stamp)
-  counted-of x f = (pieceAt p r g v k m c (f .z) (f .s) (f .d), cand-counted x f .0, cand-counted x f .1, cand-counted x f .2)
+  pub counted-of : (x : Cand) → From x → (y : Val) × Counted (parOf p r off) (g .hd) u (isIn m) y × (y .addr ≡ x .address) × (y .stamp ≡ x .stamp)
+  counted-of x f = (pieceAt p r off g v u k m c (f .z) (f .s) (f .d), cand-counted x f .0, cand-counted x f .1, cand-counted x f .2)
 
-  pub of-counted : (x : Val) → Counted (parOf p r) (g .hd) (itemsIn p v) (isIn m) x → (y : Cand) × Has y candsSeen × (y .address ≡ x .addr) × (y .stamp ≡ x .stamp)
+  pub of-counted : (x : Val) → Counted (parOf p r off) (g .hd) u (isIn m) x → (y : Cand) × Has y candsSeen × (y .address ≡ x .addr) × (y .stamp ≡ x .stamp)
   of-counted x q =
-      let e : Has (q .s) (counted p m (G (across p (q .z)))) × ((d : ℕ) → d < p .N → pieceAt p r g v k m c (across p (q .z)) (q .s) d ≡ q .f d) =
-      number-counted p r g v k m c (q .z) (q .s) (q .f) (q .st) in
-      let w : pieceAt p r g v k m c (across p (q .z)) (q .s) (q .dt .d) ≡ x = e .1 (q .dt .d) (q .dt .lt) ∙ q .dt .val in (
-        candOf p m (G (across p (q .z))) (q .s) (q .dt .d),
-        has-cand (across p (q .z)) (q .s) (q .dt .d) (number-remaining p r g v k m c (q .z) (q .rem)) (e .0) (q .dt .lt) (code-data p r (q .s) (q .dt .d) (q .dt .data?)),
-        cand-value (across p (q .z)) (q .s) (q .dt .d) .0 ∙ ap (λ (y : Val). y .addr) w,
-        cand-value (across p (q .z)) (q .s) (q .dt .d) .1 ∙ ap (λ (y : Val). y .stamp) w,
+      let e : Has (q .s) (counted p m (G (namedSeg p g (q .z)))) × ((d : ℕ) → d < p .N → pieceAt p r off g v u k m c (namedSeg p g (q .z)) (q .s) d ≡ q .f d) =
+      number-counted p r off g v u k m c (q .z) (q .s) (q .f) (q .st) in
+      let w : pieceAt p r off g v u k m c (namedSeg p g (q .z)) (q .s) (q .dt .d) ≡ x = e .1 (q .dt .d) (q .dt .lt) ∙ q .dt .val in (
+        candOf p m (G (namedSeg p g (q .z))) (q .s) (q .dt .d),
+        has-cand (namedSeg p g (q .z)) (q .s) (q .dt .d) (has-remaining p r off g v u k m c (q .z) (q .rem)) (e .0) (q .dt .lt) (code-data p r (q .s) (q .dt .d) (q .dt .data?)),
+        cand-value (namedSeg p g (q .z)) (q .s) (q .dt .d) .0 ∙ ap (λ (y : Val). y .addr) w,
+        cand-value (namedSeg p g (q .z)) (q .s) (q .dt .d) .1 ∙ ap (λ (y : Val). y .stamp) w,
       )
 
   -- ---- the greatest stamps
-  pub greatest-counted : (x : Val) → Counted (parOf p r) (g .hd) (itemsIn p v) (isIn m) x → x .stamp ≤ greatestStamp candsSeen
+  pub greatest-counted : (x : Val) → Counted (parOf p r off) (g .hd) u (isIn m) x → x .stamp ≤ greatestStamp candsSeen
   unfolding greatestStamp
   greatest-counted x q =
       let y : (y : Cand) × Has y candsSeen × (y .address ≡ x .addr) × (y .stamp ≡ x .stamp) = of-counted x q in
@@ -231,7 +231,7 @@ module _ (p : Params) (r : Ranged p) (g : Ghost) (v : View) (k : OnDrives p r g 
       nothing : best none [] ≡ none
       nothing = unfold best in refl
 
-  pub reads : Reads (parOf p r) (g .hd) (itemsIn p v) (isIn m) stampRead
+  pub reads : Reads (parOf p r off) (g .hd) u (isIn m) stampRead
   unfolding stampRead
   reads = record { most = most; some = some? }
     where
@@ -244,7 +244,7 @@ module _ (p : Params) (r : Ranged p) (g : Ghost) (v : View) (k : OnDrives p r g 
       is : (a : ℕ) → stampOf (best none (candsOf a (candidates p m (segments p v m)))) ≡ K a
       is a = ap (λ (l : List Cand). stampOf (best none (candsOf a l))) same
 
-      most : (x : Val) → Counted (parOf p r) (g .hd) (itemsIn p v) (isIn m) x → x .stamp ≤ stampOf (best none (candsOf (x .addr) (candidates p m (segments p v m))))
+      most : (x : Val) → Counted (parOf p r off) (g .hd) u (isIn m) x → x .stamp ≤ stampOf (best none (candsOf (x .addr) (candidates p m (segments p v m))))
       most x q =
           let y : (y : Cand) × Has y candsSeen × (y .address ≡ x .addr) × (y .stamp ≡ x .stamp) = of-counted x q in
           let i : Has (y .0) (candsOf (x .addr) candsSeen) = at-address (y .0) (x .addr) (y .1) (y .2) in
@@ -254,8 +254,8 @@ module _ (p : Params) (r : Ranged p) (g : Ghost) (v : View) (k : OnDrives p r g 
           rw (h .1, stamp-some) (omega (arith, h .3 (y .0) i, y .3))) (best-none (candsOf (x .addr) candsSeen)))
 
       some? : (a : ℕ) → (stampOf (best none (candsOf a (candidates p m (segments p v m)))) ≡ 0)
-          ⊎ ((x : Val) × Counted (parOf p r) (g .hd) (itemsIn p v) (isIn m) x × (x .addr ≡ a) × (x .stamp ≡ stampOf (best none (candsOf a (candidates p m (segments p v m))))))
+          ⊎ ((x : Val) × Counted (parOf p r off) (g .hd) u (isIn m) x × (x .addr ≡ a) × (x .stamp ≡ stampOf (best none (candsOf a (candidates p m (segments p v m))))))
       some? a = rw (is a) (⊎-elim (λ (e : best none (candsOf a candsSeen) ≡ none). inl (ap stampOf e ∙ stamp-none))
           (λ (h : (w : Cand) × (best none (candsOf a candsSeen) ≡ some w) × From w × (w .address ≡ a)).
-          let y : (y : Val) × Counted (parOf p r) (g .hd) (itemsIn p v) (isIn m) y × (y .addr ≡ h .0 .address) × (y .stamp ≡ h .0 .stamp) = counted-of (h .0) (h .2) in
+          let y : (y : Val) × Counted (parOf p r off) (g .hd) u (isIn m) y × (y .addr ≡ h .0 .address) × (y .stamp ≡ h .0 .stamp) = counted-of (h .0) (h .2) in
           inr (y .0, y .1, y .2 ∙ h .3, y .3 ∙ sym (ap stampOf (h .1) ∙ stamp-some (h .0)))) (winner a))

@@ -4,23 +4,19 @@ use mathlib.Core.List.{List, [], _∷_, _++_, append-assoc}
 use Prim.Native.Nat.{ℕ, zero, suc, _+_, _-_, _*_, _/_, _%_, _^_, min, _≤_, _<_}
 use native.Mathlib.Nat.{mod-lt, suc-mul, mul-suc, zero-mul, mul-le-mul-right, div-add-mod'}
 use native.Mathlib.Omega.{arith}
-use lib.Dec.{lit<}
 use lib.ListN.{length, getD, take, drop, replicate, length-append, length-take, length-drop}
 use lib.Seq.{getD-take, getD-drop, take-at, drop-append-add}
 use Rattle.spec.specs.declared.Params.{Params}
-use Rattle.spec.specs.Bytes.{part, bytesOf, widthsOf}
-use Rattle.spec.specs.Drives.{zoneOn, zonesIn}
-use Rattle.spec.specs.Layout.{headerTable, zoneField, headerWidths, headerFields, headerBlock, Rec, recordBytes, recordOf, footerBlock}
+use Rattle.spec.specs.Bytes.{part}
+use Rattle.spec.specs.Layout.{headerBlock, Rec, recordBytes, recordOf, footerBlock}
 use Rattle.spec.specs.Lists.{flat, padTo}
 use Rattle.spec.specs.Params.{spareLen, perFooter}
-use Rattle.law_basic.specs.Fields.{readField-bytesOf}
 use Rattle.law_basic.specs.Geometry.{Ranged, per-footer-low, per-footer-fits}
 use Rattle.law_basic.specs.Ranges.{length-padTo}
-use Rattle.law_basic.specs.Segs.{Named, segOn, seg-on-is, zones-in}
 use Rattle.law_basic.specs.Xor.{AllLong}
 use Rattle.law_drives.specs.Laid.{record-back}
-use Rattle.proof_crash_items.specs.Items.{driveField, headerZones}
-use Rattle.spec.specs.declared.Seg.{Seg}
+use Rattle.proof_crash_items.specs.Items.{namedZones}
+use Rattle.law_basic.specs.Fields.{header-zones-named}
 
 -- ---- records
 
@@ -35,15 +31,11 @@ record-bytes r w = record-back r (w .address) (w .stamp) (w .stripe)
 
 -- ---- headers
 
-pub header-zones : (p : Params) (d : ℕ) (g : Seg) (r c : ℕ) → d < p .N → Named p g → d < 256 ^ 1 → zoneOn g d < 256 ^ 4
-    → headerZones p (headerBlock p d (zonesIn p g) r c) ≡ zoneOn g
-unfolding headerZones headerBlock padTo headerFields headerWidths headerTable widthsOf
-header-zones p d g r c l m k h =
-    let fs = headerFields p d (zonesIn p g) r c in
-    let t : List ℕ = replicate (p .B - length (bytesOf fs)) 0 in
-    let e : getD (zonesIn p g) d 0 ≡ zoneOn g d = zones-in p g d l in
-    ap₂ (λ (x y : ℕ). zoneOn (segOn p x y)) (readField-bytesOf fs driveField t (lit< tt) k) (readField-bytesOf fs zoneField t (lit< tt) (omega (arith, e, h)) ∙ e)
-    ∙ ap zoneOn (seg-on-is p g d l m)
+-- the zones that a header is made with are those that it names
+pub names-zones : (p : Params) (d : ℕ) (zs : List ℕ) (r c : ℕ) → length zs ≡ p .N → ((e : ℕ) → e < p .N → getD zs e 0 < 256 ^ 4)
+    → namedZones p (headerBlock p d zs r c) ≡ (λ e. getD zs e 0)
+unfolding namedZones
+names-zones p d zs r c l w = λ i e. getD (header-zones-named p d zs r c l w i) e 0
 
 -- ---- footers
 

@@ -1,31 +1,27 @@
--- The drives as the machine sees them: stored items. A store on the view is the store on the items, for every prefix. Assumes nothing.
+-- The drives as lists of stored items, by drive and zone. A store on the view is the store on the items, for every prefix. Assumes nothing.
 use mathlib.Core.Path.{_≡_, refl, sym, ap, ap₂, _∙_}
 use mathlib.Core.List.{List, [], _∷_, _++_}
 use mathlib.Core.Bool.{cond}
-use mathlib.Core.Logic.{_⊎_, inl, inr, _≢_}
 use Prim.Native.Nat.{ℕ, zero, suc, _+_, _-_, _≤_, _<_}
-use native.Mathlib.Decide.{ℕ-discrete, decLt}
+use native.Mathlib.Decide.{decLt}
 use borrow.Author.Tests.{lt-ltb, le-ltb}
 use native.Mathlib.Omega.{arith}
 use lib.Dec.{ltb}
-use lib.ListN.{length, getD, take, List·getD-eq-default}
+use lib.ListN.{length, getD, take}
 use lib.Seq.{getD-take, take-suc-set, length-take-le}
 use Rattle.spec.specs.declared.Params.{Params}
-use Rattle.spec.specs.Bytes.{readField}
-use Rattle.spec.specs.Drives.{Chunk, mkChunk, noChunk, Zone, stored, View, zoneAt, pointerAt, Store, putZone, resetZone, setZone, storeView, storeAll, noZone, zoneOn, across}
+use Rattle.spec.specs.Drives.{Chunk, mkChunk, noChunk, Zone, stored, View, zoneAt, pointerAt, Store, putZone, resetZone, setZone, storeView, storeAll}
 use Rattle.spec.specs.Drives.Store.{put, reset}
-use Rattle.spec.specs.Layout.{headerWidths, zoneField, headerSerial, headerCopied, Rec, recordOf}
+use Rattle.spec.specs.Layout.{headerZones, headerSerial, headerCopied, Rec, recordOf}
 use Rattle.spec.specs.Params.{capacity}
-use Rattle.law_basic.specs.Segs.{across-zone, Named, segOn, seg-on-number, seg-on-is}
 use Rattle.law_views.specs.Views.{Fits, AllFit}
 use Rattle.law_drives.specs.Tests.{cond-true, cond-false}
 use Rattle.proof_crash_machine.specs.Facts.{Off}
 use Rattle.proof_crash_machine.specs.Val.{Val}
 use Rattle.proof_crash_machine.specs.View.{Item, ItemView, ItemStore, upd, upd-elim, withItem, emptiedAt, apply, applyAll, chunk-val, chunk-num, chunk-hdr, chunk-foot}
+use Rattle.proof_crash_items.specs.Shape.{Shape, zone-set-at, zone-set-else, shape-store}
 use Rattle.proof_crash_machine.specs.View.Item.{hdr, chunk, foot}
 use Rattle.proof_crash_machine.specs.View.ItemStore.{put as m-put, reset as m-reset}
-use Rattle.proof_crash_items.specs.Shape.{Shape, zone-set-at, zone-set-else, shape-store, fit-take}
-use Rattle.spec.specs.declared.Seg.{Seg}
 
 -- ---- what a block is, by its offset
 
@@ -35,17 +31,13 @@ valueOf b r = record { addr = r .address; stamp = r .stamp; blk = λ i. getD b i
 unfoldable pub chunkItem : Chunk → Item
 chunkItem c = chunk (recordOf (c .spare) .stripe) (valueOf (c .block) (recordOf (c .spare)))
 
--- a header's drive: its index in the table
-abbrev pub driveField : ℕ
-driveField = 3
-
--- the zones that a header names, by drive: those of the segment of its zone
-unfoldable pub headerZones : Params → List ℕ → ℕ → ℕ
-headerZones p b = zoneOn (segOn p (readField (headerWidths p) driveField b) (readField (headerWidths p) zoneField b))
+-- the zones that a header names, by drive; 0 beyond the drives
+unfoldable pub namedZones : Params → List ℕ → ℕ → ℕ
+namedZones p b d = getD (headerZones p b) d 0
 
 -- block 0 is the header, 1 to S are data, then footers
 unfoldable pub itemAt : Params → ℕ → Chunk → Item
-itemAt p zero c = hdr (headerSerial p (c .block)) (headerCopied p (c .block)) (headerZones p (c .block))
+itemAt p zero c = hdr (headerSerial p (c .block)) (headerCopied p (c .block)) (namedZones p (c .block))
 itemAt p (suc k) c = cond (ltb k (p .S)) (chunkItem c) (foot (k - p .S))
 
 -- blocks k, k + 1, ..
@@ -56,40 +48,9 @@ itemsFrom p k (c ∷ cs) = itemAt p k c ∷ itemsFrom p (suc k) cs
 unfoldable pub itemsOf : Params → Zone → List Item
 itemsOf p q = itemsFrom p 0 (stored q)
 
--- the drives, by drive and segment: the machine's number of a segment is its zone on drive 0
+-- the drives, by drive and zone
 unfoldable pub itemsIn : Params → View → ItemView
-itemsIn p v d n = itemsOf p (zoneAt v d (zoneOn (across p n) d))
-
--- a segment by that number
-pub across-is : (p : Params) (g : Seg) → 0 < p .N → Named p g → across p (zoneOn g 0) ≡ g
-across-is p g k h = sym (seg-on-number p 0 (zoneOn g 0)) ∙ seg-on-is p g 0 k h
-
--- and the number of the segment with zone z on drive d
-pub on-number : (p : Params) (d z : ℕ) → 0 < p .N → zoneOn (segOn p d z) 0 ≡ z
-on-number p d z k = ap (λ (x : Seg). zoneOn x 0) (seg-on-number p d z) ∙ across-zone p z 0 k
-
-pub items-in : (p : Params) (v : View) (d : ℕ) (g : Seg) → 0 < p .N → Named p g → itemsIn p v d (zoneOn g 0) ≡ itemsOf p (zoneAt v d (zoneOn g d))
-unfolding itemsIn
-items-in p v d g k h = ap (λ (x : Seg). itemsOf p (zoneAt v d (zoneOn x d))) (across-is p g k h)
-
--- beyond the drives, or the segments, there is nothing
-pub outside-nothing : (p : Params) (v : View) → Shape p v → (d n : ℕ) → (d < p .N → n < p .Z → ⊥) → itemsIn p v d n ≡ []
-unfolding itemsIn zoneAt
-outside-nothing p v h d n no-such = go (decLt d (p .N))
-  where
-    nothing : itemsOf p noZone ≡ []
-    nothing = unfold itemsOf stored itemsFrom noZone in refl
-
-    go : Dec (d < p .N) → itemsOf p (getD (getD v d []) (zoneOn (across p n) d) noZone) ≡ []
-    go (no q) = ap (λ (x : List Zone). itemsOf p (getD x (zoneOn (across p n) d) noZone)) (List·getD-eq-default v [] {n = d} (omega (arith, h .drives))) ∙ nothing
-    go (yes q) = ap (itemsOf p) (List·getD-eq-default (getD v d []) noZone {n = zoneOn (across p n) d} (omega (arith, h .zones d q, above))) ∙ nothing
-      where
-        above : p .Z ≤ zoneOn (across p n) d
-        above = low (decLt n (p .Z))
-          where
-            low : Dec (n < p .Z) → p .Z ≤ zoneOn (across p n) d
-            low (yes b) = absurd (no-such q b)
-            low (no b) = omega (arith, across-zone p n d q)
+itemsIn p v d z = itemsOf p (zoneAt v d z)
 
 -- ---- lists of items
 
@@ -184,55 +145,37 @@ pub items-reset-zone : (p : Params) (q : Zone) → itemsOf p (resetZone q) ≡ [
 unfolding itemsOf stored resetZone itemsFrom
 items-reset-zone p q = refl
 
--- ---- a store on the view: it changes the segment of its zone, and no other
-
-zone-of-other : (p : Params) (d z e n : ℕ) → d < p .N → (e ≢ d) ⊎ (n ≢ zoneOn (segOn p d z) 0) → (e ≢ d) ⊎ (zoneOn (across p n) e ≢ z)
-zone-of-other p d z e n l (inl i) = inl i
-zone-of-other p d z e n l (inr i) = go (ℕ-discrete e d)
-  where
-    go : Dec (e ≡ d) → (e ≢ d) ⊎ (zoneOn (across p n) e ≢ z)
-    go (no q) = inl q
-    go (yes q) = inr (λ w. i (sym (across-zone p n d l) ∙ ap (zoneOn (across p n)) (sym q) ∙ w ∙ sym (on-number p d z (omega arith))))
-
--- and its own zone is there
-zone-of-same : (p : Params) (d z e n : ℕ) → d < p .N → e ≡ d → n ≡ zoneOn (segOn p d z) 0 → zoneOn (across p n) e ≡ z
-zone-of-same p d z e n l a c = ap₂ (λ (x y : ℕ). zoneOn (across p x) y) (c ∙ on-number p d z (omega arith)) a ∙ across-zone p z d l
+-- ---- a store on the view: it changes its zone, and no other
 
 pub items-put : (p : Params) (v : View) → Shape p v → (d z : ℕ) (b s : List ℕ) → d < p .N → z < p .Z → pointerAt v d z < capacity p
-    → itemsIn p (storeView (put d z b s) v) ≡ withItem (itemsIn p v) d (zoneOn (segOn p d z) 0) (itemAt p (pointerAt v d z) (mkChunk b s))
+    → itemsIn p (storeView (put d z b s) v) ≡ withItem (itemsIn p v) d z (itemAt p (pointerAt v d z) (mkChunk b s))
 unfolding storeView withItem itemsIn pointerAt
 items-put p v h d z b s l k r = λ j e n. go e n j
   where
-    own : ℕ
-    own = zoneOn (segOn p d z) 0
+    new : List Item
+    new = itemsOf p (zoneAt v d z) ++ (itemAt p (zoneAt v d z .pointer) (mkChunk b s) ∷ [])
 
-    old : itemsOf p (zoneAt v d (zoneOn (across p own) d)) ≡ itemsOf p (zoneAt v d z)
-    old = ap (λ (x : ℕ). itemsOf p (zoneAt v d x)) (zone-of-same p d z d own l refl refl)
+    go : (e n : ℕ) → itemsOf p (zoneAt (setZone v d z (putZone b s (zoneAt v d z))) e n) ≡ upd (itemsIn p v) d z new e n
+    go e n = upd-elim (λ (i : List Item). itemsOf p (zoneAt (setZone v d z (putZone b s (zoneAt v d z))) e n) ≡ i) (itemsIn p v) d z new e n
+        (λ a c. ap (itemsOf p) (ap₂ (zoneAt (setZone v d z (putZone b s (zoneAt v d z)))) a c ∙ zone-set-at p v h d z (putZone b s (zoneAt v d z)) l k)
+        ∙ items-put-zone p (zoneAt v d z) b s (omega (arith, r, h .blocks d z l k)))
+        (λ w. ap (itemsOf p) (zone-set-else p v h d z (putZone b s (zoneAt v d z)) l e n w))
 
-    go : (e n : ℕ) → itemsOf p (zoneAt (setZone v d z (putZone b s (zoneAt v d z))) e (zoneOn (across p n) e))
-        ≡ upd (itemsIn p v) d (zoneOn (segOn p d z) 0) (itemsOf p (zoneAt v d (zoneOn (across p own) d)) ++ (itemAt p (zoneAt v d z .pointer) (mkChunk b s) ∷ [])) e n
-    go e n = upd-elim (λ (i : List Item). itemsOf p (zoneAt (setZone v d z (putZone b s (zoneAt v d z))) e (zoneOn (across p n) e)) ≡ i) (itemsIn p v) d (zoneOn (segOn p d z) 0)
-        (itemsOf p (zoneAt v d (zoneOn (across p own) d)) ++ (itemAt p (zoneAt v d z .pointer) (mkChunk b s) ∷ [])) e n
-        (λ a c. ap (itemsOf p) (ap₂ (zoneAt (setZone v d z (putZone b s (zoneAt v d z)))) a (zone-of-same p d z e n l a c) ∙ zone-set-at p v h d z (putZone b s (zoneAt v d z)) l k)
-        ∙ items-put-zone p (zoneAt v d z) b s (omega (arith, r, h .blocks d z l k))
-        ∙ ap (λ (x : List Item). x ++ (itemAt p (zoneAt v d z .pointer) (mkChunk b s) ∷ [])) (sym old))
-        (λ w. ap (itemsOf p) (zone-set-else p v h d z (putZone b s (zoneAt v d z)) l e (zoneOn (across p n) e) (zone-of-other p d z e n l w)))
-
-pub items-reset : (p : Params) (v : View) → Shape p v → (d z : ℕ) → d < p .N → z < p .Z → itemsIn p (storeView (reset d z) v) ≡ emptiedAt (itemsIn p v) d (zoneOn (segOn p d z) 0)
+pub items-reset : (p : Params) (v : View) → Shape p v → (d z : ℕ) → d < p .N → z < p .Z → itemsIn p (storeView (reset d z) v) ≡ emptiedAt (itemsIn p v) d z
 unfolding storeView emptiedAt itemsIn
 items-reset p v h d z l k = λ j e n. go e n j
   where
-    go : (e n : ℕ) → itemsOf p (zoneAt (setZone v d z (resetZone (zoneAt v d z))) e (zoneOn (across p n) e)) ≡ upd (itemsIn p v) d (zoneOn (segOn p d z) 0) [] e n
-    go e n = upd-elim (λ (i : List Item). itemsOf p (zoneAt (setZone v d z (resetZone (zoneAt v d z))) e (zoneOn (across p n) e)) ≡ i) (itemsIn p v) d (zoneOn (segOn p d z) 0) [] e n
-        (λ a c. ap (itemsOf p) (ap₂ (zoneAt (setZone v d z (resetZone (zoneAt v d z)))) a (zone-of-same p d z e n l a c) ∙ zone-set-at p v h d z (resetZone (zoneAt v d z)) l k)
+    go : (e n : ℕ) → itemsOf p (zoneAt (setZone v d z (resetZone (zoneAt v d z))) e n) ≡ upd (itemsIn p v) d z [] e n
+    go e n = upd-elim (λ (i : List Item). itemsOf p (zoneAt (setZone v d z (resetZone (zoneAt v d z))) e n) ≡ i) (itemsIn p v) d z [] e n
+        (λ a c. ap (itemsOf p) (ap₂ (zoneAt (setZone v d z (resetZone (zoneAt v d z)))) a c ∙ zone-set-at p v h d z (resetZone (zoneAt v d z)) l k)
         ∙ items-reset-zone p (zoneAt v d z))
-        (λ w. ap (itemsOf p) (zone-set-else p v h d z (resetZone (zoneAt v d z)) l e (zoneOn (across p n) e) (zone-of-other p d z e n l w)))
+        (λ w. ap (itemsOf p) (zone-set-else p v h d z (resetZone (zoneAt v d z)) l e n w))
 
--- ---- the machine's stores
+-- ---- the stores as stores of items, by drive and zone
 
 unfoldable pub storeItem : Params → View → Store → ItemStore
-storeItem p v (put d z b s) = m-put d (zoneOn (segOn p d z) 0) (itemAt p (pointerAt v d z) (mkChunk b s))
-storeItem p v (reset d z) = m-reset d (zoneOn (segOn p d z) 0)
+storeItem p v (put d z b s) = m-put d z (itemAt p (pointerAt v d z) (mkChunk b s))
+storeItem p v (reset d z) = m-reset d z
 
 unfoldable pub storeItems : Params → View → List Store → List ItemStore
 storeItems p v [] = []
@@ -261,8 +204,3 @@ pub append-stores : (p : Params) (v : View) (ss ts : List Store) → storeItems 
 unfolding storeItems storeAll
 append-stores p v [] ts = refl
 append-stores p v (s ∷ ss) ts = ap (λ (l : List ItemStore). storeItem p v s ∷ l) (append-stores p (storeView s v) ss ts)
-
--- a cut call makes the first n stores
-pub items-cut : (p : Params) (v : View) (ss : List Store) (n : ℕ) → Shape p v → AllFit p v ss
-    → itemsIn p (storeAll storeView (take n ss) v) ≡ applyAll (itemsIn p v) (take n (storeItems p v ss))
-items-cut p v ss n h f = items-stores p v (take n ss) h (fit-take p v ss n f) ∙ ap (applyAll (itemsIn p v)) (take-stores p v ss n)

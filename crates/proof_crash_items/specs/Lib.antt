@@ -5,6 +5,7 @@ pub mod Shape
 pub mod Items
 pub mod Codec
 pub mod ZoneBytes
+pub mod Places
 pub mod Sound
 pub mod Seen
 pub mod Values
@@ -17,3 +18,5 @@ pub mod Table
 pub mod Reading
 pub mod RestMem
 pub mod Start
+pub mod Carry
+pub mod Found

@@ -8,12 +8,13 @@ use native.Mathlib.Decide.{decLe, ℕ-discrete}
 use native.Mathlib.Omega.{arith}
 use lib.ListN.{length, getD}
 use Rattle.spec.specs.Lists.{upFrom, below, all, any, consIf, keep, isNil, flat, greatest, firstOr}
+use Rattle.law_drives.specs.Members.{In}
 use Rattle.law_drives.specs.Tests.{clash, not-so}
 use Rattle.proof_crash_machine.specs.Exec.{true≢false, and-1, and-2, both-true, or-either, or-1, or-2}
 
+-- the laws' membership
 abbrev pub Has : {A : Type 0} → A → List A → Type 0
-Has a [] = ⊥
-Has a (b ∷ l) = (a ≡ b) ⊎ Has a l
+Has a l = In a l
 
 -- ---- tests
 

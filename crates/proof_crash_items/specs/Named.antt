@@ -1,5 +1,6 @@
 -- Masks of missing drives: the present ones; the mask that a number names. Assumes nothing.
 use mathlib.Core.Path.{_≡_, refl, sym, ap, _∙_}
+use mathlib.Core.List.{List}
 use mathlib.Core.Bool.{Bool, true, false, not}
 use mathlib.Core.Logic.{_≢_}
 use Prim.Native.Nat.{ℕ, _≤_, _<_}
@@ -14,8 +15,8 @@ use Rattle.spec.specs.Segments.{lowDrive}
 use Rattle.law_basic.specs.Geometry.{Ranged}
 use Rattle.law_basic.specs.Mask.{only-none, isIn-empty, isIn-only}
 use Rattle.law_drives.specs.Tests.{clash}
-use Rattle.proof_crash_machine.specs.Mask.{count, count-only, mask-outside, Mask, tf}
-use Rattle.proof_crash_machine.specs.Facts.{None, Choice, none-few, Beyond}
+use Rattle.proof_crash_machine.specs.Mask.{count, count-none, count-only, mask-outside, Mask, tf}
+use Rattle.proof_crash_machine.specs.Facts.{None, Choice, Beyond}
 use Rattle.proof_crash_machine.specs.Theorem.{never}
 use Rattle.proof_crash_items.specs.Member.{Has, keep-has, has-keep, below-has, has-below, all-has, has-all, none-any, isNil-has, firstOr-has}
 use Rattle.proof_crash_items.specs.Ranges.{parities, parities-few, parOf}
@@ -100,17 +101,18 @@ module _ (p : Params) (h : Ranged p) where
   unfolding parities
   named-few m = count-only (p .N) (isIn (named m)) m (λ d l e. named-only m d l e)
 
-  -- with none untrusted, none may be named
-  pub none-out : None (parOf p h) (isIn 0)
-  none-out d l = isIn-empty d
-
   pub zero-few : count (p .N) (isIn 0) ≤ parities p
-  zero-few = none-few (parOf p h) (isIn 0) none-out
+  zero-few = omega (arith, count-none (p .N) (isIn 0) (λ d l. isIn-empty d))
 
-  pub zero-choice : (n : Mask) → None (parOf p h) n → Choice (parOf p h) n (isIn 0)
-  zero-choice n e = (zero-few, λ d l q. tf q (e d l))
+  -- with none untrusted, none may be named
+  module _ (off : List ℕ) where
+    pub none-out : None (parOf p h off) (isIn 0)
+    none-out d l = isIn-empty d
 
-  -- of so few drives none is beyond another
-  pub never-beyond : (k m : Mask) → count (p .N) m ≤ parities p → Beyond (parOf p h) k m → ⊥
-  unfolding parities
-  never-beyond k m few b = never (parOf p h) (omega arith) k m few b
+    pub zero-choice : (n : Mask) → None (parOf p h off) n → Choice (parOf p h off) n (isIn 0)
+    zero-choice n e = (zero-few, λ d l q. tf q (e d l))
+
+    -- of so few drives none is beyond another
+    pub never-beyond : (k m : Mask) → count (p .N) m ≤ parities p → Beyond (parOf p h off) k m → ⊥
+    unfolding parities
+    never-beyond k m few b = never (parOf p h off) (omega arith) k m few b

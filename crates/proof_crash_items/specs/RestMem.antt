@@ -1,6 +1,6 @@
 -- The memory that a restart leaves: its tables, and a state with nothing in flight whose numbers are in range. Assumes nothing.
-use mathlib.Core.Path.{_≡_, refl, sym, ap, _∙_, subst}
-use mathlib.Core.List.{List, [], _∷_}
+use mathlib.Core.Path.{_≡_, refl, sym, ap, ap₂, _∙_, subst}
+use mathlib.Core.List.{List, [], _∷_, map}
 use mathlib.Core.Bool.{Bool, true, false, cond, not, _&&_}
 use mathlib.Core.Logic.{_⊎_, inl, inr, ⊎-elim}
 use Prim.Native.Nat.{ℕ, _^_, _≤_, _<_}
@@ -14,27 +14,26 @@ use lib.Pow.{pow-lt, pow-pos}
 use Rattle.spec.specs.declared.Params.{Params}
 use Rattle.spec.specs.Drives.{View, Disk}
 use Rattle.spec.specs.Engine.{lentOk}
-use Rattle.spec.specs.Lists.{below, keep, powers, only, isIn}
+use Rattle.spec.specs.Lists.{greatest, below, keep, powers, only, isIn}
 use Rattle.spec.specs.Memory.{idleState, filledIn}
-use Rattle.spec.specs.Params.{imageLen, pointersLen, addressesLen, compactLen, inflightLen, noDrive, named}
+use Rattle.spec.specs.Params.{imageLen, pointersLen, addressesLen, compactLen, inflightLen, noDrive, named, offlineLen}
 use Rattle.spec.specs.Restart.{openOf, nextOf, restartMemory, namesDrive}
-use Rattle.spec.specs.Segments.{remaining, Segment, segmentOf, segments, counts, counted, candidates, addressTable, compactTable, greatestStamp, greatestSerial, unsealed}
+use Rattle.spec.specs.Segments.{Segment, segments, counts, counted, candidates, addressTable, compactTable, greatestStamp, greatestSerial, unsealed}
 use Rattle.law_basic.specs.Geometry.{Ranged}
 use Rattle.law_basic.specs.Mask.{only-pow}
-use Rattle.law_basic.specs.Ranges.{and-both, length-below, length-keep}
-use Rattle.law_basic.specs.Segs.{Named, zone-on-lt}
+use Rattle.law_basic.specs.Ranges.{length-below, length-keep}
 use Rattle.law_views.specs.Views.{Whole}
 use Rattle.law_drives.specs.States.{idle-ok}
 use Rattle.law_drives.specs.Tables.{zero-at, length-addresses}
 use Rattle.proof_crash_machine.specs.Exec.{or-either, allB, all-true}
 use Rattle.proof_crash_machine.specs.Facts.{Ghost, Choice}
-use Rattle.proof_crash_items.specs.Member.{Has, keep-has, map-has}
+use Rattle.proof_crash_items.specs.Member.{Has, keep-has, greatest-most, has-map}
 use Rattle.proof_crash_items.specs.Named.{named-none}
 use Rattle.proof_crash_items.specs.Ranges.{parOf}
 use Rattle.proof_crash_items.specs.Reading.{Tabled}
-use Rattle.proof_crash_items.specs.Segs.{OnDrives, remaining-has}
+use Rattle.proof_crash_items.specs.Segs.{OnDrives}
 use Rattle.proof_crash_items.specs.Table.{compact-length}
-use Rattle.spec.specs.declared.Seg.{Seg}
+use Rattle.proof_crash_machine.specs.View.{ItemView}
 
 -- ---- an idle state
 
@@ -79,7 +78,8 @@ named-mask-low p r m e = go (names-cases p m e)
 
 -- ---- the memory of a restart
 
-module _ (p : Params) (r : Ranged p) (g : Ghost) (v : View) (k : OnDrives p r g v) (m : ℕ) (c : Choice (parOf p r) (g .un) (isIn m)) (mask-lt : m < 2 ^ p .N) (one-bit : ones m ≤ 1)
+module _ (p : Params) (r : Ranged p) (off : List ℕ) (g : Ghost) (v : View) (u : ItemView) (k : OnDrives p r off g v u) (m : ℕ) (c : Choice (parOf p r off) (g .un) (isIn m))
+    (mask-lt : m < 2 ^ p .N) (one-bit : ones m ≤ 1)
     (fl : List ℕ) where
   abbrev us : List Segment
   us = cond (eqb m 0) (unsealed (segments p v m)) []
@@ -92,18 +92,13 @@ module _ (p : Params) (r : Ranged p) (g : Ghost) (v : View) (k : OnDrives p r g 
       go true i = keep-has (λ (g : Segment). not (g .full)) q (segments p v m) i .0
       go false i = absurd i
 
-  seg-below : (q : Segment) → Has q (segments p v m) → Named p (q .seg)
-  unfolding segments segmentOf
-  seg-below q i =
-      let a : (z : Seg) × Has z (remaining p v m) × (q ≡ segmentOf p v m z) = map-has (segmentOf p v m) q (remaining p v m) i in
-      subst (λ (x : Seg). Named p x) (sym (ap (λ (y : Segment). y .seg) (a .2))) (remaining-has p r g v k m c (a .0) (a .1) .0)
-
-  open-low : openOf us ≤ p .Z
-  open-low = go us (λ q i. seg-below q (from-us q i))
+  open-low : openOf us ≤ greatestSerial (segments p v m)
+  unfolding greatestSerial
+  open-low = go us (λ q i. from-us q i)
     where
-      go : (l : List Segment) → ((q : Segment) → Has q l → Named p (q .seg)) → openOf l ≤ p .Z
+      go : (l : List Segment) → ((q : Segment) → Has q l → Has q (segments p v m)) → openOf l ≤ greatest (map (λ (g : Segment). g .serial) (segments p v m))
       go [] h = unfold openOf in omega arith
-      go (q ∷ l) h = unfold openOf in zone-on-lt p (q .seg) 0 (h q (inl refl))
+      go (q ∷ l) h = unfold openOf in greatest-most (q .serial) (map (λ (g : Segment). g .serial) (segments p v m)) (has-map (λ (g : Segment). g .serial) (segments p v m) q (h q (inl refl)))
 
   next-low : nextOf p us ≤ p .S
   next-low = go us
@@ -123,21 +118,11 @@ module _ (p : Params) (r : Ranged p) (g : Ghost) (v : View) (k : OnDrives p r g 
         (nextOf p us) mask-lt one-bit open-low next-low;
   }
 
-  pub restart-lent : (dk : Disk) → Whole p dk → length fl ≡ inflightLen p → lentOk p dk (restartMemory p v m fl) ≡ true
+  pub restart-lent : (dk : Disk) → Whole p dk → length off ≡ offlineLen p → length fl ≡ inflightLen p → lentOk p off dk (restartMemory p v m fl) ≡ true
   unfolding lentOk restartMemory
-  restart-lent dk w l =
-      and-both (eqb (length (dk .image)) (imageLen p)
-      && eqb (length (dk .pointers)) (pointersLen p)
-      && eqb (length (addressTable p (candidates p m (segments p v m)))) (addressesLen p)
-      && eqb (length (compactTable p (segments p v m))) (compactLen p)) (eqb (length fl) (inflightLen p))
-      (and-both (eqb (length (dk .image)) (imageLen p)
-      && eqb (length (dk .pointers)) (pointersLen p)
-      && eqb (length (addressTable p (candidates p m (segments p v m)))) (addressesLen p))
-      (eqb (length (compactTable p (segments p v m))) (compactLen p))
-      (and-both (eqb (length (dk .image)) (imageLen p) && eqb (length (dk .pointers)) (pointersLen p))
-      (eqb (length (addressTable p (candidates p m (segments p v m)))) (addressesLen p))
-      (and-both (eqb (length (dk .image)) (imageLen p)) (eqb (length (dk .pointers)) (pointersLen p))
-      (eq-eqb (length (dk .image)) (imageLen p) (w .image-long)) (eq-eqb (length (dk .pointers)) (pointersLen p) (w .pointers-long)))
+  restart-lent dk w o l =
+      ap₂ _&&_ (ap₂ _&&_ (ap₂ _&&_ (ap₂ _&&_ (ap₂ _&&_ (eq-eqb (length off) (offlineLen p) o) (eq-eqb (length (dk .image)) (imageLen p) (w .image-long)))
+      (eq-eqb (length (dk .pointers)) (pointersLen p) (w .pointers-long)))
       (eq-eqb (length (addressTable p (candidates p m (segments p v m)))) (addressesLen p) (length-addresses p (candidates p m (segments p v m)))))
-      (eq-eqb (length (compactTable p (segments p v m))) (compactLen p) (compact-length p r g v k m c)))
+      (eq-eqb (length (compactTable p (segments p v m))) (compactLen p) (compact-length p r off g v u k m c)))
       (eq-eqb (length fl) (inflightLen p) l)

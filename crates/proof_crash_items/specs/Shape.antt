@@ -8,15 +8,14 @@ use native.Mathlib.Omega.{arith}
 use lib.ListN.{length, getD, take, set, length-set}
 use lib.Seq.{getD-set-same, getD-set-other}
 use Rattle.spec.specs.declared.Params.{Params}
-use Rattle.spec.specs.Calls.Check.{zones}
 use Rattle.spec.specs.Drives.{Chunk, mkChunk, noChunk, Zone, noZone, View, zoneAt, pointerAt, chunkAt, Store, putZone, resetZone, setZone, storeView, storeAll}
 use Rattle.spec.specs.Drives.Store.{put, reset}
 use Rattle.spec.specs.Params.{spareLen, capacity}
 use Rattle.law_views.specs.Views.{Fits, AllFit}
 
 pub record Shape (p : Params) (v : View) : Type 0 where
-  pub drives : length v ≡ p .N
-  pub zones : (d : ℕ) → d < p .N → length (getD v d []) ≡ p .Z
+  pub drives : length (v .zones) ≡ p .N
+  pub zones : (d : ℕ) → d < p .N → length (getD (v .zones) d []) ≡ p .Z
   pub blocks : (d z : ℕ) → d < p .N → z < p .Z → length (zoneAt v d z .blocks) ≡ capacity p
   pub long : (d z k : ℕ) → d < p .N → z < p .Z → k < capacity p → (length (chunkAt v d z k .block) ≡ p .B) × (length (chunkAt v d z k .spare) ≡ spareLen)
 
@@ -25,20 +24,20 @@ pub record Shape (p : Params) (v : View) : Type 0 where
 pub zone-set-at : (p : Params) (v : View) → Shape p v → (d z : ℕ) (q : Zone) → d < p .N → z < p .Z → zoneAt (setZone v d z q) d z ≡ q
 unfolding zoneAt setZone
 zone-set-at p v h d z q l k =
-    ap (λ (x : List Zone). getD x z noZone) (getD-set-same v d (set (getD v d []) z q) [] (omega (arith, h .drives)))
-    ∙ getD-set-same (getD v d []) z q noZone (omega (arith, h .zones d l))
+    ap (λ (x : List Zone). getD x z noZone) (getD-set-same (v .zones) d (set (getD (v .zones) d []) z q) [] (omega (arith, h .drives)))
+    ∙ getD-set-same (getD (v .zones) d []) z q noZone (omega (arith, h .zones d l))
 
 pub zone-set-else : (p : Params) (v : View) → Shape p v → (d z : ℕ) (q : Zone) → d < p .N → (e y : ℕ) → (e ≢ d) ⊎ (y ≢ z) → zoneAt (setZone v d z q) e y ≡ zoneAt v e y
 unfolding zoneAt setZone
 zone-set-else p v h d z q l e y n = go (ℕ-discrete e d)
   where
-    go : Dec (e ≡ d) → getD (getD (set v d (set (getD v d []) z q)) e []) y noZone ≡ getD (getD v e []) y noZone
-    go (no k) = ap (λ (x : List Zone). getD x y noZone) (getD-set-other v d e (set (getD v d []) z q) [] k)
+    go : Dec (e ≡ d) → getD (getD (set (v .zones) d (set (getD (v .zones) d []) z q)) e []) y noZone ≡ getD (getD (v .zones) e []) y noZone
+    go (no k) = ap (λ (x : List Zone). getD x y noZone) (getD-set-other (v .zones) d e (set (getD (v .zones) d []) z q) [] k)
     go (yes k) =
-        ap (λ (x : ℕ). getD (getD (set v d (set (getD v d []) z q)) x []) y noZone) k
-        ∙ ap (λ (x : List Zone). getD x y noZone) (getD-set-same v d (set (getD v d []) z q) [] (omega (arith, h .drives)))
-        ∙ getD-set-other (getD v d []) z y q noZone (⊎-elim (λ (i : e ≢ d). absurd (i k)) (λ i. i) n)
-        ∙ ap (λ (x : ℕ). getD (getD v x []) y noZone) (sym k)
+        ap (λ (x : ℕ). getD (getD (set (v .zones) d (set (getD (v .zones) d []) z q)) x []) y noZone) k
+        ∙ ap (λ (x : List Zone). getD x y noZone) (getD-set-same (v .zones) d (set (getD (v .zones) d []) z q) [] (omega (arith, h .drives)))
+        ∙ getD-set-other (getD (v .zones) d []) z y q noZone (⊎-elim (λ (i : e ≢ d). absurd (i k)) (λ i. i) n)
+        ∙ ap (λ (x : ℕ). getD (getD (v .zones) x []) y noZone) (sym k)
 
 -- whatever holds of q, and of each zone of v elsewhere
 pub set-elim : (p : Params) (v : View) → Shape p v → (Q : ℕ → ℕ → Zone → Type 0) (d z : ℕ) (q : Zone) → d < p .N → z < p .Z → Q d z q
@@ -62,16 +61,16 @@ pub shape-zone : (p : Params) (v : View) → Shape p v → (d z : ℕ) → d < p
 unfolding chunkAt
 shape-zone p v h d z l k = record { count = h .blocks d z l k; long = λ j b. h .long d z j l k b }
 
-set-drives : (p : Params) (v : View) → Shape p v → (d z : ℕ) (q : Zone) → (e : ℕ) → e < p .N → length (getD (setZone v d z q) e []) ≡ p .Z
+set-drives : (p : Params) (v : View) → Shape p v → (d z : ℕ) (q : Zone) → (e : ℕ) → e < p .N → length (getD (setZone v d z q .zones) e []) ≡ p .Z
 unfolding setZone
 set-drives p v h d z q e l = go (ℕ-discrete e d)
   where
-    go : Dec (e ≡ d) → length (getD (set v d (set (getD v d []) z q)) e []) ≡ p .Z
-    go (no k) = ap length (getD-set-other v d e (set (getD v d []) z q) [] k) ∙ h .zones e l
+    go : Dec (e ≡ d) → length (getD (set (v .zones) d (set (getD (v .zones) d []) z q)) e []) ≡ p .Z
+    go (no k) = ap length (getD-set-other (v .zones) d e (set (getD (v .zones) d []) z q) [] k) ∙ h .zones e l
     go (yes k) =
-        ap (λ (x : ℕ). length (getD (set v d (set (getD v d []) z q)) x [])) k
-        ∙ ap length (getD-set-same v d (set (getD v d []) z q) [] (omega (arith, h .drives)))
-        ∙ length-set (getD v d []) z q ∙ ap (λ (x : ℕ). length (getD v x [])) (sym k) ∙ h .zones e l
+        ap (λ (x : ℕ). length (getD (set (v .zones) d (set (getD (v .zones) d []) z q)) x [])) k
+        ∙ ap length (getD-set-same (v .zones) d (set (getD (v .zones) d []) z q) [] (omega (arith, h .drives)))
+        ∙ length-set (getD (v .zones) d []) z q ∙ ap (λ (x : ℕ). length (getD (v .zones) x [])) (sym k) ∙ h .zones e l
 
 pub shape-set : (p : Params) (v : View) → Shape p v → (d z : ℕ) (q : Zone) → d < p .N → z < p .Z → ZoneShape p q → Shape p (setZone v d z q)
 unfolding chunkAt
@@ -82,8 +81,8 @@ shape-set p v h d z q l k s = record {
   long = λ e y j a b c. zone e y a b .long j c;
 }
   where
-    count : length (setZone v d z q) ≡ p .N
-    count = unfold setZone in (length-set v d (set (getD v d []) z q) ∙ h .drives)
+    count : length (setZone v d z q .zones) ≡ p .N
+    count = unfold setZone in (length-set (v .zones) d (set (getD (v .zones) d []) z q) ∙ h .drives)
 
     zone : (e y : ℕ) → e < p .N → y < p .Z → ZoneShape p (zoneAt (setZone v d z q) e y)
     zone e y a b = set-elim p v h (λ (i j : ℕ) (x : Zone). ZoneShape p x) d z q l k s e y (shape-zone p v h e y a b)

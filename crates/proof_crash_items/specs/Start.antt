@@ -1,71 +1,89 @@
 -- Empty drives have the facts: the hypotheses of this crate can be met. Assumes nothing.
-use mathlib.Core.Path.{_≡_, refl, sym, ap, _∙_, subst}
-use mathlib.Core.List.{[]}
-use mathlib.Core.Bool.{true}
+use mathlib.Core.Path.{_≡_, refl, sym, ap, _∙_}
+use mathlib.Core.List.{List, []}
+use mathlib.Core.Bool.{Bool, true, false, not, _&&_}
 use Prim.Native.Nat.{ℕ, _<_}
-use native.Mathlib.Decide.{decLt}
-use borrow.Author.Tests.{eqb-true}
+use borrow.Author.Tests.{eqb-true, eq-eqb}
 use lib.Dec.{eqb}
-use lib.ListN.{length, take, replicate, length-replicate}
+use native.Mathlib.Omega.{arith}
+use lib.ListN.{length, take}
 use Rattle.spec.specs.declared.Params.{Params}
-use Rattle.spec.specs.Bytes.{beFrom, beOf, part}
-use Rattle.spec.specs.Drives.{Zone, stored, zoneAt, pointerAt, Disk, pointerByte, pointerOf, zoneOn, across}
+use Rattle.spec.specs.Drives.{Zone, stored, zoneAt, pointerAt, Disk, pointerOf, fewGood, viewOf, isGood, goodZones}
 use Rattle.spec.specs.History.{emptyDisk}
-use Rattle.spec.specs.Lists.{sameList}
-use Rattle.spec.specs.Params.{imageLen, pointersLen}
-use Rattle.law_basic.specs.Geometry.{Ranged, pointer-within}
-use Rattle.law_basic.specs.Ranges.{and-left, and-right, sameList-true, part-replicate}
-use Rattle.law_basic.specs.Segs.{seg-named, zone-on-lt, segOn}
+use Rattle.spec.specs.Lists.{all, below}
+use Rattle.spec.specs.Params.{imageLen, pointersLen, drivesOf}
+use Rattle.spec.specs.Segments.{isUsed}
+use Rattle.law_basic.specs.Geometry.{Ranged}
+use Rattle.law_basic.specs.Ranges.{and-left, and-right, Test, test}
+use Rattle.law_drives.specs.Members.{all-in, in-keep, in-below}
+use Rattle.law_basic.specs.Ranges.Test.{yes!, no! }
 use Rattle.law_views.specs.Views.{Whole, pointer-view, seen}
-use Rattle.proof_crash_machine.specs.Facts.{Facts}
 use Rattle.proof_crash_machine.specs.History.{start, inv-start}
-use Rattle.proof_crash_machine.specs.View.{ItemView}
-use Rattle.proof_crash_items.specs.Items.{itemsFrom, itemsOf, itemsIn, outside-nothing}
-use Rattle.proof_crash_items.specs.Ranges.{parOf}
+use Rattle.proof_crash_machine.specs.View.{Item}
+use Rattle.proof_crash_items.specs.Items.{itemsFrom, itemsOf, itemsIn}
+use Rattle.proof_crash_items.specs.Ranges.{parOf, fine-is}
 use Rattle.proof_crash_items.specs.Seen.{shape-seen}
 use Rattle.proof_crash_items.specs.Segs.{OnDrives}
 use Rattle.proof_crash_items.specs.Stripes.{pointer-is}
 use Rattle.proof_crash_items.specs.ZoneBytes.{bytes-empty}
 
-empty-pointers : (p : Params) (dk : Disk) → emptyDisk p dk ≡ true → (length (dk .image) ≡ imageLen p) × (dk .pointers ≡ replicate (pointersLen p) 0)
-unfolding emptyDisk
-empty-pointers p dk e = (
-  eqb-true (length (dk .image)) (imageLen p) (and-left (eqb (length (dk .image)) (imageLen p)) (sameList (dk .pointers) (replicate (pointersLen p) 0)) e),
-  sameList-true (dk .pointers) (replicate (pointersLen p) 0) (and-right (eqb (length (dk .image)) (imageLen p)) (sameList (dk .pointers) (replicate (pointersLen p) 0)) e),
-)
+module _ (p : Params) (r : Ranged p) (off : List ℕ) (dk : Disk) (e : emptyDisk p off dk ≡ true) where
+  abbrev longs : Bool
+  longs = eqb (length (dk .image)) (imageLen p) && eqb (length (dk .pointers)) (pointersLen p)
 
-module _ (p : Params) (r : Ranged p) (dk : Disk) (e : emptyDisk p dk ≡ true) where
+  abbrev zeros : Bool
+  zeros = all (λ d. all (λ z. eqb (pointerOf p (dk .pointers) d z) 0) (goodZones p off d)) (drivesOf p)
+
+  both : (longs && zeros) ≡ true
+  both = unfold emptyDisk in e
+
   pub empty-whole : Whole p dk
-  empty-whole = record { image-long = empty-pointers p dk e .0; pointers-long = ap length (empty-pointers p dk e .1) ∙ length-replicate {A = ℕ} (pointersLen p) 0 }
+  empty-whole =
+      let l = and-left longs zeros both in
+      record {
+        image-long = eqb-true (length (dk .image)) (imageLen p) (and-left (eqb (length (dk .image)) (imageLen p)) (eqb (length (dk .pointers)) (pointersLen p)) l);
+        pointers-long = eqb-true (length (dk .pointers)) (pointersLen p) (and-right (eqb (length (dk .image)) (imageLen p)) (eqb (length (dk .pointers)) (pointersLen p)) l);
+      }
 
-  four-zeros : beOf (replicate 4 0) ≡ 0
-  unfolding beOf beFrom
-  four-zeros = refl
+  -- of good zones
+  pub start-pointer : (d z : ℕ) → d < p .N → z < p .Z → isGood p off d z ≡ true → pointerAt (seen p off dk) d z ≡ 0
+  unfolding goodZones drivesOf
+  start-pointer d z l b g =
+      pointer-view p off dk d z l b empty-whole
+      ∙ eqb-true (pointerOf p (dk .pointers) d z) 0
+      (all-in (λ y. eqb (pointerOf p (dk .pointers) d y) 0) (goodZones p off d) (all-in (λ x. all (λ y. eqb (pointerOf p (dk .pointers) x y) 0) (goodZones p off x)) (drivesOf p)
+      (and-right longs zeros both) d (in-below (p .N) d l)) z (in-keep (isGood p off d) (below (p .Z)) z (in-below (p .Z) z b) g))
 
-  pub start-pointer : (d z : ℕ) → d < p .N → z < p .Z → pointerAt (seen p dk) d z ≡ 0
-  unfolding pointerOf
-  start-pointer d z l b =
-      pointer-view p dk d z l b empty-whole
-      ∙ ap beOf (ap (part (pointerByte p d z) 4) (empty-pointers p dk e .1) ∙ part-replicate (pointersLen p) (pointerByte p d z) 4 (pointer-within p d z l b)) ∙ four-zeros
-
-  pub empty-items : itemsIn p (seen p dk) ≡ (λ d z. [])
-  empty-items = λ j d n. go d n (decLt d (p .N)) (decLt n (p .Z)) j
+  -- no zone takes part
+  pub start-unused : (d z : ℕ) → d < p .N → z < p .Z → isUsed p (seen p off dk) d z ≡ false
+  unfolding isUsed viewOf
+  start-unused d z l b = go (test (isGood p off d z))
     where
-      go : (d n : ℕ) → Dec (d < p .N) → Dec (n < p .Z) → itemsIn p (seen p dk) d n ≡ []
-      go d n (yes l) (yes b) = unfold itemsIn in
-          none-stored (zoneAt (seen p dk) d (zoneOn (across p n) d))
-          (pointer-is (seen p dk) d (zoneOn (across p n) d) ∙ start-pointer d (zoneOn (across p n) d) l (zone-on-lt p (across p n) d (seg-named p n b)))
-        where
-          none-stored : (q : Zone) → q .pointer ≡ 0 → itemsOf p q ≡ []
-          none-stored q i = unfold itemsOf stored in (ap (λ (n : ℕ). itemsFrom p 0 (take n (q .blocks))) i ∙ (unfold itemsFrom in refl))
-      go d n (yes l) (no b) = outside-nothing p (seen p dk) (shape-seen p dk empty-whole) d n (λ a c. b c)
-      go d n (no l) b = outside-nothing p (seen p dk) (shape-seen p dk empty-whole) d n (λ a c. l a)
+      go : Test (isGood p off d z) → isGood p off d z && not (eqb (pointerAt (seen p off dk) d z) 0) ≡ false
+      go (yes! q) = ap (λ (x : Bool). isGood p off d z && not x) (eq-eqb (pointerAt (seen p off dk) d z) 0 (start-pointer d z l b q)) ∙ ap (λ (x : Bool). x && false) q
+      go (no! q) = ap (λ (x : Bool). x && not (eqb (pointerAt (seen p off dk) d z) 0)) q
+
+  empty-items : (d z : ℕ) → d < p .N → z < p .Z → isGood p off d z ≡ true → itemsIn p (seen p off dk) d z ≡ []
+  empty-items d z l b q = unfold itemsIn in none-stored (zoneAt (seen p off dk) d z) (pointer-is (seen p off dk) d z ∙ start-pointer d z l b q)
+    where
+      none-stored : (q : Zone) → q .pointer ≡ 0 → itemsOf p q ≡ []
+      none-stored q i = unfold itemsOf stored in (ap (λ (n : ℕ). itemsFrom p 0 (take n (q .blocks))) i ∙ (unfold itemsFrom in refl))
 
   -- the machine's start is these drives
-  pub start-on : OnDrives p r (start (parOf p r) .g) (seen p dk)
-  unfolding start
-  start-on = record {
-    shape = shape-seen p dk empty-whole;
-    bytes = λ d l n z b. bytes-empty p d (segOn p d z) (zoneAt (seen p dk) d z) (pointer-is (seen p dk) d z ∙ start-pointer d z l b);
-    facts = subst (λ (u : ItemView). Facts (parOf p r) (start (parOf p r) .g) u) (sym empty-items) (inv-start (parOf p r) .facts);
+  pub start-on : fewGood p off ≡ false → OnDrives p r off (start (parOf p r off) .g) (seen p off dk) (λ d z. [])
+  unfolding start viewOf
+  start-on few = record {
+    shape = shape-seen p off dk empty-whole;
+    offline = unfold viewOf in refl;
+    enough = few;
+    bytes = λ d l n z b q. bytes-empty p d (zoneAt (seen p off dk) d z) (pointer-is (seen p off dk) d z ∙ start-pointer d z l b q);
+    placed = record {
+      at = λ d z t i. absurd (let j : ⊥ = omega (arith, i) in j);
+      from = λ d y t l f b. absurd (nothing d y (t .0) l (sym (fine-is p off few d y (t .0)) ∙ f) b);
+      is = λ z (d, t, i). absurd (let j : ⊥ = omega (arith, i) in j);
+    };
+    facts = inv-start (parOf p r off) .facts;
   }
+    where
+      nothing : (d y : ℕ) → d < p .N → y < p .Z → isGood p off d y ≡ true → 0 < length (itemsIn p (seen p off dk) d y) → ⊥
+      nothing d y l b q n = let c : length (itemsIn p (seen p off dk) d y) ≡ length {A = Item} [] = ap length (empty-items d y l b q) in let j : ⊥ = omega (arith, c, n) in j

@@ -8,31 +8,30 @@ use native.Mathlib.Omega.{arith}
 use lib.Dec.{eqb}
 use lib.ListN.{length, getD, length-map}
 use Rattle.spec.specs.declared.Params.{Params}
-use Rattle.spec.specs.Drives.{noChunk, Zone, noZone, View, zoneAt, pointerAt, zoneOn, sealedIn, dataStored, recordIn, across}
+use Rattle.spec.specs.Drives.{noChunk, Zone, noZone, View, zoneAt, pointerAt, zoneOn, sealedIn, dataStored, recordIn}
 use Rattle.spec.specs.Layout.{Rec, mkRec, recordOf}
 use Rattle.spec.specs.Lists.{below, all, any, keep, sucUnless, indexOf, isIn}
 use Rattle.spec.specs.Params.{capacity, drivesOf, present}
 use Rattle.spec.specs.Parity.{Piece, mkPiece, parityPiece}
 use Rattle.spec.specs.Segments.{Segment, recordsIn, segmentOf, recsOn, offsetOn, hasChunk, counts, counted, storedPiece, pieceOf, storedRec}
 use Rattle.law_basic.specs.Geometry.{Ranged}
-use Rattle.law_basic.specs.Segs.{Named, zone-on-lt, seg-named}
 use Rattle.law_basic.specs.Ranges.{length-below, map-below-same, map-map, getD-map-below}
 use Rattle.law_code.specs.Chunks.{chunk-stored, chunk-decoded}
 use Rattle.law_code.specs.Single.{decode-xor}
 use Rattle.law_drives.specs.Tests.{cond-true, cond-false}
 use Rattle.proof_crash_machine.specs.Exec.{true≢false}
-use Rattle.proof_crash_machine.specs.Facts.{Ghost, Choice, Stripe, Off, Word, word-unique, respell}
+use Rattle.proof_crash_machine.specs.Facts.{L, Ghost, Choice, Stripe, Off, Word, word-unique, respell}
 use Rattle.proof_crash_machine.specs.Put.{off-in}
 use Rattle.proof_crash_machine.specs.Rebuild.{in-off, once-in}
 use Rattle.proof_crash_machine.specs.Facts.{some-present}
 use Rattle.proof_crash_machine.specs.Val.{Val, 𝟘}
-use Rattle.proof_crash_machine.specs.View.{Item, InI, item-some, chunk-hdr}
+use Rattle.proof_crash_machine.specs.View.{Item, InI, item-some, chunk-hdr, ItemView}
 use Rattle.proof_crash_machine.specs.View.Item.{chunk}
-use Rattle.proof_crash_items.specs.Items.{valueOf, chunkItem, itemsOf, itemsIn, items-in, of-chunk, chunk-of}
+use Rattle.proof_crash_items.specs.Items.{valueOf, chunkItem, itemsOf, itemsIn, of-chunk, chunk-of}
 use Rattle.proof_crash_items.specs.Member.{Has, keep-has, has-keep, below-has, has-below, has-any, has-map}
 use Rattle.proof_crash_items.specs.Named.{present-has, all-present, all-on-present}
 use Rattle.proof_crash_items.specs.Ranges.{capacity-few, parOf, codeOf, code-lost}
-use Rattle.proof_crash_items.specs.Segs.{OnDrives, zone-bytes, zone-pointer-low, trusted, used-below, number-self}
+use Rattle.proof_crash_items.specs.Segs.{OnDrives, trusted, SegAt, namedSeg, seg-at, seg-bytes, seg-pointer-low}
 use Rattle.proof_crash_items.specs.Shape.{shape-zone}
 use Rattle.proof_crash_items.specs.Values.{pieceValue, xorL, pieces-long, parity-value, onlyWhere, only-there, only-else, xor-below}
 use Rattle.proof_crash_items.specs.ZoneBytes.{blockIn, by-footer}
@@ -74,7 +73,13 @@ index-hit {A} f (a ∷ l) d e = go (f a) refl e (index-hit f l d)
     go true q e ih = unfold sucUnless in (omega arith, q)
     go false q e ih = unfold sucUnless in (omega (arith, ih e .0), ih e .1)
 
-module _ (p : Params) (r : Ranged p) (g : Ghost) (v : View) (k : OnDrives p r g v) (m : ℕ) (c : Choice (parOf p r) (g .un) (isIn m)) where
+-- what the machine has of a segment is what its zone holds
+pub seg-items : (p : Params) (v : View) (u : ItemView) (m : ℕ) (z : Seg) (n : ℕ) → SegAt p v u m z n → (d : ℕ) → d < p .N → isIn m d ≡ false
+    → u d n ≡ itemsOf p (zoneAt v d (zoneOn z d))
+unfolding itemsIn
+seg-items p v u m z n b d l q = sym (b .items d l q)
+
+module _ (p : Params) (r : Ranged p) (off : List ℕ) (g : Ghost) (v : View) (u : ItemView) (k : OnDrives p r off g v u) (m : ℕ) (c : Choice (parOf p r off) (g .un) (isIn m)) where
   abbrev G : Seg → Segment
   G z = segmentOf p v m z
 
@@ -89,10 +94,10 @@ module _ (p : Params) (r : Ranged p) (g : Ghost) (v : View) (k : OnDrives p r g 
   sealed-at-capacity z d e l n = eqb-true (pointerAt v d (zoneOn z d)) (capacity p) (all-present p m (λ d. eqb (pointerAt v d (zoneOn z d)) (capacity p)) e d l n)
 
   -- by footer or by spare
-  record-by-spare : (z : Seg) (d o : ℕ) (w : Bool) → sealedIn p v m z ≡ w → Named p z → d < p .N → isIn m d ≡ false → o < p .S
+  pub record-by-spare : {nm : ℕ} (z : Seg) (d o : ℕ) (w : Bool) → sealedIn p v m z ≡ w → SegAt p v u m z nm → d < p .N → isIn m d ≡ false → o < p .S
       → recordIn p w (zoneAt v d (zoneOn z d)) o ≡ recordOf (blockIn (zoneAt v d (zoneOn z d)) (suc o) .spare)
   record-by-spare z d o true e b l n s =
-      by-footer p r d z (zoneAt v d (zoneOn z d)) (shape-zone p v (k .shape) d (zoneOn z d) l (zone-on-lt p z d b)) (zone-bytes p r g v k d z l (trusted p r g v k m c d l n) b)
+      by-footer p r d (zoneAt v d (zoneOn z d)) (shape-zone p v (k .shape) d (zoneOn z d) l (b .low d l n)) (seg-bytes p r off g v u k m c z b d l n)
       (pointer-is v d (zoneOn z d) ∙ sealed-at-capacity z d e l n) o s
       ∙ by-spare-false
     where
@@ -100,7 +105,7 @@ module _ (p : Params) (r : Ranged p) (g : Ghost) (v : View) (k : OnDrives p r g 
       by-spare-false = unfold recordIn in ap (λ (i : ℕ). recordOf (getD (zoneAt v d (zoneOn z d) .blocks) i noChunk .spare)) (let e : 1 + o ≡ suc o = omega arith in e)
   record-by-spare z d o false e b l n s = unfold recordIn in ap (λ (i : ℕ). recordOf (getD (zoneAt v d (zoneOn z d) .blocks) i noChunk .spare)) (let e : 1 + o ≡ suc o = omega arith in e)
 
-  pub recs-by-spare : (z : Seg) (d : ℕ) → Named p z → d < p .N → isIn m d ≡ false → recsOn (G z) d ≡ spareRecs p (zoneAt v d (zoneOn z d))
+  pub recs-by-spare : {nm : ℕ} (z : Seg) (d : ℕ) → SegAt p v u m z nm → d < p .N → isIn m d ≡ false → recsOn (G z) d ≡ spareRecs p (zoneAt v d (zoneOn z d))
   unfolding recsOn segmentOf drivesOf recordsIn spareRecs
   recs-by-spare z d b l n =
       getD-map-below (λ d. cond (isIn m d) [] (map (recordIn p (sealedIn p v m z) (getD (map (λ d. zoneAt v d (zoneOn z d)) (below (p .N))) d noZone))
@@ -111,19 +116,13 @@ module _ (p : Params) (r : Ranged p) (g : Ghost) (v : View) (k : OnDrives p r g 
       ∙ map-below-same (recordIn p (sealedIn p v m z) (zoneAt v d (zoneOn z d))) (λ o. recordOf (blockIn (zoneAt v d (zoneOn z d)) (suc o) .spare)) (dataStored p (zoneAt v d (zoneOn z d)))
       (λ o i. record-by-spare z d o (sealedIn p v m z) refl b l n (stored-below p (zoneAt v d (zoneOn z d)) o i .0))
 
-  pub recs-missing : (z : Seg) (d : ℕ) → d < p .N → isIn m d ≡ true → recsOn (G z) d ≡ []
-  unfolding recsOn segmentOf drivesOf
-  recs-missing z d l n =
-      getD-map-below (λ d. cond (isIn m d) [] (recordsIn p (sealedIn p v m z) (getD (map (λ d. zoneAt v d (zoneOn z d)) (below (p .N))) d noZone))) (p .N) d [] l
-      ∙ cond-true (isIn m d) [] (recordsIn p (sealedIn p v m z) (getD (map (λ d. zoneAt v d (zoneOn z d)) (below (p .N))) d noZone)) n
-
   -- ---- chunks
 
   abbrev is : ℕ → Rec → Bool
   is s x = eqb (x .stripe) s
 
   -- the offset that holds the chunk
-  pub offset-on : (z : Seg) (s d : ℕ) → Named p z → d < p .N → isIn m d ≡ false → hasChunk (G z) s d ≡ true
+  pub offset-on : {nm : ℕ} (z : Seg) (s d : ℕ) → SegAt p v u m z nm → d < p .N → isIn m d ≡ false → hasChunk (G z) s d ≡ true
       → (offsetOn (G z) d s < dataStored p (zoneAt v d (zoneOn z d))) × (recordOf (blockIn (zoneAt v d (zoneOn z d)) (suc (offsetOn (G z) d s)) .spare) .stripe ≡ s)
   unfolding offsetOn hasChunk
   offset-on z s d b l n e =
@@ -136,54 +135,54 @@ module _ (p : Params) (r : Ranged p) (g : Ghost) (v : View) (k : OnDrives p r g 
       ∙ getD-spareRecs p (zoneAt v d (zoneOn z d)) (indexOf (is s) (recsOn (G z) d)) (mkRec 0 0 0) j in
       (j, ap (λ (y : Rec). y .stripe) (sym x) ∙ eqb-true (getD (recsOn (G z) d) (indexOf (is s) (recsOn (G z) d)) (mkRec 0 0 0) .stripe) s (h .1))
 
-  pub stored-rec : (z : Seg) (s d : ℕ) → Named p z → d < p .N → isIn m d ≡ false → hasChunk (G z) s d ≡ true
+  pub stored-rec : {nm : ℕ} (z : Seg) (s d : ℕ) → SegAt p v u m z nm → d < p .N → isIn m d ≡ false → hasChunk (G z) s d ≡ true
       → storedRec (G z) s d ≡ recordOf (blockIn (zoneAt v d (zoneOn z d)) (suc (offsetOn (G z) d s)) .spare)
   unfolding storedRec
   stored-rec z s d b l n e =
       ap (λ (y : List Rec). getD y (offsetOn (G z) d s) (mkRec 0 0 0)) (recs-by-spare z d b l n)
       ∙ getD-spareRecs p (zoneAt v d (zoneOn z d)) (offsetOn (G z) d s) (mkRec 0 0 0) (offset-on z s d b l n e .0)
 
-  pub stored-piece : (z : Seg) (s d : ℕ) → Named p z → d < p .N → isIn m d ≡ false → hasChunk (G z) s d ≡ true
+  pub stored-piece : {nm : ℕ} (z : Seg) (s d : ℕ) → SegAt p v u m z nm → d < p .N → isIn m d ≡ false → hasChunk (G z) s d ≡ true
       → storedPiece (G z) s d ≡ mkPiece (blockIn (zoneAt v d (zoneOn z d)) (suc (offsetOn (G z) d s)) .block) (recordOf (blockIn (zoneAt v d (zoneOn z d)) (suc (offsetOn (G z) d s)) .spare))
   unfolding storedPiece storedRec
   stored-piece z s d b l n e = ap₂ mkPiece
       (ap₂ (λ (q : Zone) (i : ℕ). getD (q .blocks) i noChunk .block) (zones-by z d l) (let i : 1 + offsetOn (G z) d s ≡ suc (offsetOn (G z) d s) = omega arith in i))
       (stored-rec z s d b l n e)
 
-  pub stored-block-long : (z : Seg) (s d : ℕ) → Named p z → d < p .N → isIn m d ≡ false → hasChunk (G z) s d ≡ true → length (storedPiece (G z) s d .block) ≡ p .B
+  pub stored-block-long : {nm : ℕ} (z : Seg) (s d : ℕ) → SegAt p v u m z nm → d < p .N → isIn m d ≡ false → hasChunk (G z) s d ≡ true → length (storedPiece (G z) s d .block) ≡ p .B
   stored-block-long z s d b l n e =
       ap (λ (q : Piece). length (q .block)) (stored-piece z s d b l n e)
-      ∙ shape-zone p v (k .shape) d (zoneOn z d) l (zone-on-lt p z d b) .long (suc (offsetOn (G z) d s))
+      ∙ shape-zone p v (k .shape) d (zoneOn z d) l (b .low d l n) .long (suc (offsetOn (G z) d s))
       (omega (arith, stored-below p (zoneAt v d (zoneOn z d)) (offsetOn (G z) d s) (offset-on z s d b l n e .0) .0, capacity-few p r)) .0
 
   -- the stored chunk is an item of the zone
-  pub stored-in : (z : Seg) (s d : ℕ) → Named p z → d < p .N → isIn m d ≡ false → hasChunk (G z) s d ≡ true
-      → InI (chunk s (pieceValue (storedPiece (G z) s d))) (itemsIn p v d (zoneOn z 0))
-  stored-in z s d b l n e =
+  pub stored-in : {nm : ℕ} (z : Seg) (s d : ℕ) → SegAt p v u m z nm → d < p .N → isIn m d ≡ false → hasChunk (G z) s d ≡ true
+      → InI (chunk s (pieceValue (storedPiece (G z) s d))) (u d nm)
+  stored-in {nm} z s d b l n e =
       let o : ℕ = offsetOn (G z) d s in
       let q : Zone = zoneAt v d (zoneOn z d) in
       let h : (offsetOn (G z) d s < dataStored p (zoneAt v d (zoneOn z d)))
       × (recordOf (blockIn (zoneAt v d (zoneOn z d)) (suc (offsetOn (G z) d s)) .spare) .stripe ≡ s) = offset-on z s d b l n e in
       let i : (o < p .S) × (suc o < q .pointer) = stored-below p q o (h .0) in
-      let f : Off (itemsOf p q) (suc o) (chunkItem (blockIn q (suc o))) = chunk-of p q (zone-pointer-low p r g v k d z l (trusted p r g v k m c d l n) b) o (i .0) (i .1) in
+      let f : Off (itemsOf p q) (suc o) (chunkItem (blockIn q (suc o))) = chunk-of p q (seg-pointer-low p r off g v u k m c z b d l n) o (i .0) (i .1) in
       let x : chunkItem (blockIn q (suc o)) ≡ chunk s (pieceValue (storedPiece (G z) s d)) = named-chunk z s d b l n e in
-      subst (λ (y : List Item). InI (chunk s (pieceValue (storedPiece (G z) s d))) y) (sym (items-in p v d z (omega arith) b))
+      subst (λ (y : List Item). InI (chunk s (pieceValue (storedPiece (G z) s d))) y) (sym (seg-items p v u m z nm b d l n))
       (subst (λ (y : Item). InI y (itemsOf p q)) x (off-in (itemsOf p q) (suc o) (chunkItem (blockIn q (suc o))) f))
     where
-      named-chunk : (z : Seg) (s d : ℕ) → Named p z → d < p .N → isIn m d ≡ false → hasChunk (G z) s d ≡ true
+      named-chunk : {nm : ℕ} (z : Seg) (s d : ℕ) → SegAt p v u m z nm → d < p .N → isIn m d ≡ false → hasChunk (G z) s d ≡ true
           → chunkItem (blockIn (zoneAt v d (zoneOn z d)) (suc (offsetOn (G z) d s))) ≡ chunk s (pieceValue (storedPiece (G z) s d))
       named-chunk z s d b l n e = unfold chunkItem pieceValue in
           ap₂ chunk (offset-on z s d b l n e .1) (ap (λ (q : Piece). valueOf (q .block) (q .rec)) (sym (stored-piece z s d b l n e)))
 
   -- and an item is a stored chunk
-  pub in-has-chunk : (z : Seg) (s d : ℕ) (x : Val) → Named p z → d < p .N → isIn m d ≡ false → InI (chunk s x) (itemsIn p v d (zoneOn z 0)) → hasChunk (G z) s d ≡ true
+  pub in-has-chunk : {nm : ℕ} (z : Seg) (s d : ℕ) (x : Val) → SegAt p v u m z nm → d < p .N → isIn m d ≡ false → InI (chunk s x) (u d nm) → hasChunk (G z) s d ≡ true
   unfolding hasChunk
-  in-has-chunk z s d x b l n i =
+  in-has-chunk {nm} z s d x b l n i =
       let q : Zone = zoneAt v d (zoneOn z d) in
-      let j : (j : ℕ) × Off (itemsOf p q) j (chunk s x) = in-off (chunk s x) (itemsOf p q) (subst (λ (y : List Item). InI (chunk s x) y) (items-in p v d z (omega arith) b) i) in
+      let j : (j : ℕ) × Off (itemsOf p q) j (chunk s x) = in-off (chunk s x) (itemsOf p q) (subst (λ (y : List Item). InI (chunk s x) y) (seg-items p v u m z nm b d l n) i) in
       let f : (o : ℕ) × (j .0 ≡ suc o) × (o < p .S) × (suc o < q .pointer) × (recordOf (getD (q .blocks) (suc o) noChunk .spare) .stripe ≡ s)
       × (valueOf (getD (q .blocks) (suc o) noChunk .block) (recordOf (getD (q .blocks) (suc o) noChunk .spare)) ≡ x) =
-      of-chunk p q (zone-pointer-low p r g v k d z l (trusted p r g v k m c d l n) b) (j .0) s x (j .1) in
+      of-chunk p q (seg-pointer-low p r off g v u k m c z b d l n) (j .0) s x (j .1) in
       let w : f .0 < dataStored p q = below-stored p q (f .0) (f .2) (f .3) in
       has-any (is s) (recsOn (G z) d) (recordOf (blockIn q (suc (f .0)) .spare))
       (subst (λ (y : List Rec). Has (recordOf (blockIn q (suc (f .0)) .spare)) y) (sym (recs-by-spare z d b l n)) (at q (f .0) w))
@@ -214,10 +213,10 @@ module _ (p : Params) (r : Ranged p) (g : Ghost) (v : View) (k : OnDrives p r g 
   pub piece-lost : (z : Seg) (s d : ℕ) → isIn m d ≡ true → pieceOf p m (G z) s d ≡ parityPiece p s (map (storedPiece (G z) s) (present p m))
   piece-lost z s d n = chunk-decoded p m (G z) s d n ∙ decode-xor p m s d (storedPiece (G z) s)
 
-  here-in : (z : Seg) (s : ℕ) → Named p z → ((d : ℕ) → d < p .N → isIn m d ≡ false → hasChunk (G z) s d ≡ true) → (d : ℕ) → d < p .N → isIn m d ≡ false
-      → InI (chunk s (pieceAt z s d)) (itemsIn p v d (zoneOn z 0))
+  here-in : {nm : ℕ} (z : Seg) (s : ℕ) → SegAt p v u m z nm → ((d : ℕ) → d < p .N → isIn m d ≡ false → hasChunk (G z) s d ≡ true) → (d : ℕ) → d < p .N → isIn m d ≡ false
+      → InI (chunk s (pieceAt z s d)) (u d nm)
   unfolding pieceAt
-  here-in z s b h d l n = subst (λ (x : Piece). InI (chunk s (pieceValue x)) (itemsIn p v d (zoneOn z 0))) (sym (piece-here z s d l n)) (stored-in z s d b l n (h d l n))
+  here-in {nm} z s b h d l n = subst (λ (x : Piece). InI (chunk s (pieceValue x)) (u d nm)) (sym (piece-here z s d l n)) (stored-in z s d b l n (h d l n))
 
   abbrev P : ℕ → Bool
   P d = not (isIn m d)
@@ -226,7 +225,7 @@ module _ (p : Params) (r : Ranged p) (g : Ghost) (v : View) (k : OnDrives p r g 
   F z s d = pieceValue (storedPiece (G z) s d)
 
   -- what is lost is decoded from the others
-  piece-decoded : (z : Seg) (s d : ℕ) → Named p z → isIn m d ≡ true → ((d : ℕ) → d < p .N → isIn m d ≡ false → hasChunk (G z) s d ≡ true)
+  piece-decoded : {nm : ℕ} (z : Seg) (s d : ℕ) → SegAt p v u m z nm → isIn m d ≡ true → ((d : ℕ) → d < p .N → isIn m d ≡ false → hasChunk (G z) s d ≡ true)
       → pieceAt z s d ≡ codeOf p r .dec s (isIn m) (F z s) d
   unfolding pieceAt present drivesOf
   piece-decoded z s d b n h =
@@ -241,14 +240,14 @@ module _ (p : Params) (r : Ranged p) (g : Ghost) (v : View) (k : OnDrives p r g 
       at e false q = only-there P (F z s) e (ap not q) ∙ sym (cond-false (isIn m e) 𝟘 (F z s e) q)
 
   -- it is a word with the stored ones
-  pub counted-stripe : (z : Seg) (s : ℕ) → Named p z → Has s (counted p m (G z)) → Stripe (parOf p r) (itemsIn p v) (isIn m) (zoneOn z 0) s (pieceAt z s)
-  counted-stripe z s b i = record { on = here; word = respell (parOf p r) s (w .0) (pieceAt z s) (λ d l. sym (all d l (isIn m d) refl)) (w .1) }
+  pub counted-stripe : {nm : ℕ} (z : Seg) (s : ℕ) → SegAt p v u m z nm → Has s (counted p m (G z)) → Stripe (parOf p r off) (u) (isIn m) nm s (pieceAt z s)
+  counted-stripe {nm} z s b i = record { on = here; word = respell (parOf p r off) s (w .0) (pieceAt z s) (λ d l. sym (all d l (isIn m d) refl)) (w .1) }
     where
-      here : (d : ℕ) → d < p .N → isIn m d ≡ false → InI (chunk s (pieceAt z s d)) (itemsIn p v d (zoneOn z 0))
+      here : (d : ℕ) → d < p .N → isIn m d ≡ false → InI (chunk s (pieceAt z s d)) (u d nm)
       here = here-in z s b (counted-has z s i .1)
 
-      w : (h : ℕ → Val) × Word (parOf p r) s h × ((d : ℕ) → d < p .N → isIn m d ≡ false → pieceAt z s d ≡ h d)
-      w = k .facts .parity .whole (isIn m) c (zoneOn z 0) s (pieceAt z s) here
+      w : (h : ℕ → Val) × Word (parOf p r off) s h × ((d : ℕ) → d < p .N → isIn m d ≡ false → pieceAt z s d ≡ h d)
+      w = k .facts .parity .whole (isIn m) c nm s (pieceAt z s) here
 
       stored-is : (d : ℕ) → d < p .N → isIn m d ≡ false → F z s d ≡ w .0 d
       stored-is d l n = sym here-is ∙ w .2 d l n
@@ -262,34 +261,34 @@ module _ (p : Params) (r : Ranged p) (g : Ghost) (v : View) (k : OnDrives p r g 
           piece-decoded z s d b n (counted-has z s i .1)
           ∙ codeOf p r .law s (isIn m) (F z s) (w .0) (c .0) (λ e q a. stored-is e q a ∙ w .1 e q) d l n ∙ sym (w .1 d l)
 
-  pub stripe-below : (n s : ℕ) (f : ℕ → Val) → Stripe (parOf p r) (itemsIn p v) (isIn m) n s f → (n < p .Z) × (s < p .S)
-  stripe-below y s f st = go (some-present (parOf p r) (isIn m) (c .0))
-    where
-      go : (d : ℕ) × (d < p .N) × (isIn m d ≡ false) → (y < p .Z) × (s < p .S)
-      go (d, l, n) =
-          let t : g .un d ≡ false = trusted p r g v k m c d l n in
-          let i : InI (chunk s (f d)) (itemsIn p v d y) = st .on d l n in
-          let b : y < p .Z = used-below p r g v k y (d, (l, t), item-some (chunk s (f d)) (itemsIn p v d y) i) in
-          let j : (j : ℕ) × Off (itemsIn p v d y) j (chunk s (f d)) = in-off (chunk s (f d)) (itemsIn p v d y) i in
-          (b, num d l t i (j .0) (j .1))
-        where
-          num : (d : ℕ) → d < p .N → g .un d ≡ false → InI (chunk s (f d)) (itemsIn p v d y) → (j : ℕ) → Off (itemsIn p v d y) j (chunk s (f d)) → s < p .S
-          num d l t i zero o = absurd (chunk-hdr (sym (o .1) ∙ k .facts .zones d y (l, t) .head (item-some (chunk s (f d)) (itemsIn p v d y) i)))
-          num d l t i (suc j) o = k .facts .zones d y (l, t) .num j s (f d) o .0
+  pub stripe-left : (n s : ℕ) (f : ℕ → Val) → Stripe (parOf p r off) u (isIn m) n s f → L (parOf p r off) u (isIn m) n
+  stripe-left n s f st d l q = item-some (chunk s (f d)) (u d n) (st .on d l q)
 
-  pub stripe-counted : (z : Seg) (s : ℕ) (f : ℕ → Val) → Named p z → Stripe (parOf p r) (itemsIn p v) (isIn m) (zoneOn z 0) s f → Has s (counted p m (G z))
+  pub stripe-below : (n s : ℕ) (f : ℕ → Val) → Stripe (parOf p r off) u (isIn m) n s f → s < p .S
+  stripe-below y s f st = go (some-present (parOf p r off) (isIn m) (c .0))
+    where
+      num : (d : ℕ) → d < p .N → g .un d ≡ false → InI (chunk s (f d)) (u d y) → (j : ℕ) → Off (u d y) j (chunk s (f d)) → s < p .S
+      num d l t i zero o = absurd (chunk-hdr (sym (o .1) ∙ k .facts .zones d y (l, t) .head (item-some (chunk s (f d)) (u d y) i)))
+      num d l t i (suc j) o = k .facts .zones d y (l, t) .num j s (f d) o .0
+
+      go : (d : ℕ) × (d < p .N) × (isIn m d ≡ false) → s < p .S
+      go (d, l, n) =
+          let i : InI (chunk s (f d)) (u d y) = st .on d l n in
+          let j : (j : ℕ) × Off (u d y) j (chunk s (f d)) = in-off (chunk s (f d)) (u d y) i in
+          num d l (trusted p r off g v u k m c d l n) i (j .0) (j .1)
+
+  pub stripe-counted : {nm : ℕ} (z : Seg) (s : ℕ) (f : ℕ → Val) → SegAt p v u m z nm → Stripe (parOf p r off) (u) (isIn m) nm s f → Has s (counted p m (G z))
       × ((d : ℕ) → d < p .N → pieceAt z s d ≡ f d)
-  stripe-counted z s f b st =
-      let i : Has s (counted p m (G z)) = has-counted z s (stripe-below (zoneOn z 0) s f st .1) (λ d l n. in-has-chunk z s d (f d) b l n (st .on d l n)) in
-      let st′ : Stripe (parOf p r) (itemsIn p v) (isIn m) (zoneOn z 0) s (pieceAt z s) = counted-stripe z s b i in (
+  stripe-counted {nm} z s f b st =
+      let i : Has s (counted p m (G z)) = has-counted z s (stripe-below nm s f st) (λ d l n. in-has-chunk z s d (f d) b l n (st .on d l n)) in
+      let st′ : Stripe (parOf p r off) (u) (isIn m) nm s (pieceAt z s) = counted-stripe z s b i in (
         i,
-        word-unique (parOf p r) s (isIn m) (c .0) (pieceAt z s) f (st′ .word) (st .word) (λ d l n.
-            once-in (parOf p r) g d (zoneOn z 0) (itemsIn p v d (zoneOn z 0)) (k .facts .zones d (zoneOn z 0) (l, trusted p r g v k m c d l n)) s
+        word-unique (parOf p r off) s (isIn m) (c .0) (pieceAt z s) f (st′ .word) (st .word) (λ d l n.
+            once-in (parOf p r off) g d nm (u d nm) (k .facts .zones d nm (l, trusted p r off g v u k m c d l n)) s
             (pieceAt z s d) (f d) (st′ .on d l n) (st .on d l n)),
       )
 
-  -- by number
-  pub number-counted : (n s : ℕ) (f : ℕ → Val) → Stripe (parOf p r) (itemsIn p v) (isIn m) n s f → Has s (counted p m (G (across p n)))
-      × ((d : ℕ) → d < p .N → pieceAt (across p n) s d ≡ f d)
-  number-counted n s f st =
-      stripe-counted (across p n) s f (seg-named p n (stripe-below n s f st .0)) (subst (λ (x : ℕ). Stripe (parOf p r) (itemsIn p v) (isIn m) x s f) (sym (number-self p r n)) st)
+  -- by its name
+  pub number-counted : (n s : ℕ) (f : ℕ → Val) → Stripe (parOf p r off) u (isIn m) n s f → Has s (counted p m (G (namedSeg p g n)))
+      × ((d : ℕ) → d < p .N → pieceAt (namedSeg p g n) s d ≡ f d)
+  number-counted n s f st = stripe-counted (namedSeg p g n) s f (seg-at p r off g v u k m c n (stripe-left n s f st)) st

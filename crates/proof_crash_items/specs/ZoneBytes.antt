@@ -9,22 +9,19 @@ use lib.ListN.{length, getD, take, drop, set, length-drop, length-map}
 use lib.Seq.{getD-take, getD-drop, take-set-le, getD-set-same, getD-set-other, drop-set-add, length-take-le}
 use Rattle.spec.specs.declared.Params.{Params}
 use Rattle.spec.specs.Bytes.{part}
-use Rattle.spec.specs.Drives.{Chunk, mkChunk, noChunk, Zone, putZone, resetZone, blocksOf, sparesOf, recordIn, zeroSpare, zoneOn, zonesIn}
-use Rattle.spec.specs.Layout.{headerBlock, headerSerial, headerCopied, Rec, recordBytes, recordOf, footerBlock, footerRecord}
+use Rattle.spec.specs.Drives.{Chunk, mkChunk, noChunk, Zone, putZone, resetZone, blocksOf, sparesOf, recordIn, zeroSpare}
+use Rattle.spec.specs.Layout.{headerBlock, headerSerial, headerCopied, Rec, recordBytes, recordOf, footerBlock, footerRecord, headerZones}
 use Rattle.spec.specs.Params.{spareLen, perFooter, footers, capacity}
-use Rattle.law_basic.specs.Fields.{length-record, length-zeroSpare, header-block-long}
+use Rattle.law_basic.specs.Fields.{length-record, length-zeroSpare, header-block-long, header-copied, header-serial, header-zones-named}
 use Rattle.law_basic.specs.Geometry.{Ranged, footer-of}
-use Rattle.law_basic.specs.Segs.{Named}
 use Rattle.law_basic.specs.Xor.{AllLong}
-use Rattle.law_drives.specs.Laid.{header-serial, header-copied}
 use Rattle.law_drives.specs.Records.{spares-at, blocks-at}
 use Rattle.proof_crash_machine.specs.View.{Item}
 use Rattle.proof_crash_machine.specs.View.Item.{hdr, chunk, foot}
-use Rattle.proof_crash_items.specs.Codec.{Wide, record-bytes, footer-length, footer-spare, header-zones}
+use Rattle.proof_crash_items.specs.Codec.{Wide, record-bytes, footer-length, footer-spare, names-zones}
 use Rattle.proof_crash_items.specs.Items.{valueOf, chunkItem, itemAt, item-data, item-foot}
 use Rattle.proof_crash_items.specs.Ranges.{capacity-few}
 use Rattle.proof_crash_items.specs.Shape.{ZoneShape}
-use Rattle.spec.specs.declared.Seg.{Seg}
 
 -- the spares of a zone's data blocks
 abbrev pub sparesIn : Params → Zone → List (List ℕ)
@@ -33,19 +30,24 @@ sparesIn p q = sparesOf (take (p .S) (drop 1 (q .blocks)))
 abbrev pub blockIn : Zone → ℕ → Chunk
 blockIn q k = getD (q .blocks) k noChunk
 
--- D1, D2 and D6 in full, of one trusted zone: that of segment g on drive d
-pub record ZoneBytes (p : Params) (d : ℕ) (g : Seg) (q : Zone) : Type 0 where
+-- the header with what block b names
+abbrev pub headOf : Params → ℕ → List ℕ → Chunk
+headOf p d b = mkChunk (headerBlock p d (headerZones p b) (headerSerial p b) (headerCopied p b)) zeroSpare
+
+-- D1, D2 and D6 in full, of one good zone of a trusted drive d
+pub record ZoneBytes (p : Params) (d : ℕ) (q : Zone) : Type 0 where
   pub low : q .pointer ≤ capacity p
-  pub head : 0 < q .pointer → blockIn q 0 ≡ mkChunk (headerBlock p d (zonesIn p g) (headerSerial p (blockIn q 0 .block)) (headerCopied p (blockIn q 0 .block))) zeroSpare
+  pub head : 0 < q .pointer → blockIn q 0 ≡ headOf p d (blockIn q 0 .block)
   pub serials : 0 < q .pointer → (headerSerial p (blockIn q 0 .block) < 256 ^ 8) × (headerCopied p (blockIn q 0 .block) < 256 ^ 8)
   pub wide : (o : ℕ) → o < p .S → suc o < q .pointer → Wide (recordOf (blockIn q (suc o) .spare))
   pub feet : (j : ℕ) → suc (p .S + j) < q .pointer → blockIn q (suc (p .S + j)) ≡ mkChunk (footerBlock p (sparesIn p q) j) zeroSpare
 
 -- the kinds of put, by the pointer
-pub data Kind (p : Params) (d : ℕ) (g : Seg) (q : Zone) : List ℕ → List ℕ → Type 0 where
-  header : (ser cop : ℕ) → q .pointer ≡ 0 → d < 256 ^ 1 → zoneOn g d < 256 ^ 4 → ser < 256 ^ 8 → cop < 256 ^ 8 → Kind p d g q (headerBlock p d (zonesIn p g) ser cop) zeroSpare
-  datum : (o : ℕ) (b : List ℕ) (r : Rec) → q .pointer ≡ suc o → o < p .S → length b ≡ p .B → Wide r → Kind p d g q b (recordBytes r)
-  footer : (j : ℕ) → q .pointer ≡ suc (p .S + j) → j < footers p → Kind p d g q (footerBlock p (sparesIn p q) j) zeroSpare
+pub data Kind (p : Params) (d : ℕ) (q : Zone) : List ℕ → List ℕ → Type 0 where
+  header : (zs : List ℕ) (ser cop : ℕ) → q .pointer ≡ 0 → length zs ≡ p .N → ((e : ℕ) → e < p .N → getD zs e 0 < 256 ^ 4) → ser < 256 ^ 8 → cop < 256 ^ 8
+      → Kind p d q (headerBlock p d zs ser cop) zeroSpare
+  datum : (o : ℕ) (b : List ℕ) (r : Rec) → q .pointer ≡ suc o → o < p .S → length b ≡ p .B → Wide r → Kind p d q b (recordBytes r)
+  footer : (j : ℕ) → q .pointer ≡ suc (p .S + j) → j < footers p → Kind p d q (footerBlock p (sparesIn p q) j) zeroSpare
 
 -- ---- spares
 
@@ -78,36 +80,36 @@ module _ (p : Params) (h : Ranged p) (q : Zone) (s : ZoneShape p q) where
       ap length (sym (spares-at (take (p .S) (drop 1 (q .blocks))) k) ∙ spare-in k b) ∙ s .long (suc k) (omega (arith, b, capacity-few p h)) .1)
 
   -- ---- the lengths of what is put, and the room for it
-  pub kind-fits : (d : ℕ) (g : Seg) (b t : List ℕ) → Kind p d g q b t → (q .pointer < capacity p) × (length b ≡ p .B) × (length t ≡ spareLen)
-  kind-fits d g _ _ (header ser cop e x y a c) = (omega (arith, e, capacity-few p h), header-block-long p h d (zonesIn p g) ser cop, length-zeroSpare)
-  kind-fits d g _ _ (datum o b r e l lb w) = (omega (arith, e, l, capacity-few p h), lb, length-record r)
-  kind-fits d g _ _ (footer j e l) = unfold capacity in (omega (arith, e, l), footer-length p h (sparesIn p q) all-spares-long j, length-zeroSpare)
+  pub kind-fits : (d : ℕ) (b t : List ℕ) → Kind p d q b t → (q .pointer < capacity p) × (length b ≡ p .B) × (length t ≡ spareLen)
+  kind-fits d _ _ (header zs ser cop e x y a c) = (omega (arith, e, capacity-few p h), header-block-long p h d zs ser cop x, length-zeroSpare)
+  kind-fits d _ _ (datum o b r e l lb w) = (omega (arith, e, l, capacity-few p h), lb, length-record r)
+  kind-fits d _ _ (footer j e l) = unfold capacity in (omega (arith, e, l), footer-length p h (sparesIn p q) all-spares-long j, length-zeroSpare)
 
 -- ---- what is put, as an item
 
-unfoldable pub kindItem : (p : Params) (d : ℕ) (g : Seg) (q : Zone) (b t : List ℕ) → Kind p d g q b t → Item
-kindItem p d g q _ _ (header ser cop e x y a c) = hdr ser cop (zoneOn g)
-kindItem p d g q _ _ (datum o b r e l lb w) = chunk (r .stripe) (valueOf b r)
-kindItem p d g q _ _ (footer j e l) = foot j
+unfoldable pub kindItem : (p : Params) (d : ℕ) (q : Zone) (b t : List ℕ) → Kind p d q b t → Item
+kindItem p d q _ _ (header zs ser cop e x y a c) = hdr ser cop (λ e. getD zs e 0)
+kindItem p d q _ _ (datum o b r e l lb w) = chunk (r .stripe) (valueOf b r)
+kindItem p d q _ _ (footer j e l) = foot j
 
-pub kind-item : (p : Params) (d : ℕ) (g : Seg) (q : Zone) (b t : List ℕ) → d < p .N → Named p g → (k : Kind p d g q b t)
-    → itemAt p (q .pointer) (mkChunk b t) ≡ kindItem p d g q b t k
+pub kind-item : (p : Params) (d : ℕ) (q : Zone) (b t : List ℕ) → (k : Kind p d q b t)
+    → itemAt p (q .pointer) (mkChunk b t) ≡ kindItem p d q b t k
 unfolding kindItem
-kind-item p d g q _ _ dl m (header ser cop e x y a c) =
-    ap (λ (n : ℕ). itemAt p n (mkChunk (headerBlock p d (zonesIn p g) ser cop) zeroSpare)) e
-    ∙ (unfold itemAt in λ j. hdr (header-serial p d (zonesIn p g) ser cop a j) (header-copied p d (zonesIn p g) ser cop c j) (header-zones p d g ser cop dl m x y j))
-kind-item p d g q _ _ dl m (datum o b r e l lb w) =
+kind-item p d q _ _ (header zs ser cop e x y a c) =
+    ap (λ (n : ℕ). itemAt p n (mkChunk (headerBlock p d zs ser cop) zeroSpare)) e
+    ∙ (unfold itemAt in λ j. hdr (header-serial p d zs ser cop x a j) (header-copied p d zs ser cop x c j) (names-zones p d zs ser cop x y j))
+kind-item p d q _ _ (datum o b r e l lb w) =
     ap (λ (n : ℕ). itemAt p n (mkChunk b (recordBytes r))) e ∙ item-data p o (mkChunk b (recordBytes r)) l
     ∙ (unfold chunkItem in ap (λ (x : Rec). chunk (x .stripe) (valueOf b x)) (record-bytes r w))
-kind-item p d g q _ _ dl m (footer j e l) =
+kind-item p d q _ _ (footer j e l) =
     ap (λ (n : ℕ). itemAt p n (mkChunk (footerBlock p (sparesIn p q) j) zeroSpare)) e
     ∙ item-foot p (p .S + j) (mkChunk (footerBlock p (sparesIn p q) j) zeroSpare) (omega arith) ∙ ap foot (let e : p .S + j - p .S ≡ j = omega arith in e)
 
 -- ---- the facts are kept
 
-pub bytes-reset : (p : Params) (d : ℕ) (g : Seg) (q : Zone) → ZoneBytes p d g (resetZone q)
+pub bytes-reset : (p : Params) (d : ℕ) (q : Zone) → ZoneBytes p d (resetZone q)
 unfolding resetZone
-bytes-reset p d g q = record {
+bytes-reset p d q = record {
   low = omega arith;
   head = λ l. absurd (let j : ⊥ = omega arith in j);
   serials = λ l. absurd (let j : ⊥ = omega arith in j);
@@ -115,8 +117,8 @@ bytes-reset p d g q = record {
   feet = λ j b. absurd (let i : ⊥ = omega arith in i);
 }
 
-pub bytes-empty : (p : Params) (d : ℕ) (g : Seg) (q : Zone) → q .pointer ≡ 0 → ZoneBytes p d g q
-bytes-empty p d g q e = record {
+pub bytes-empty : (p : Params) (d : ℕ) (q : Zone) → q .pointer ≡ 0 → ZoneBytes p d q
+bytes-empty p d q e = record {
   low = omega arith;
   head = λ l. absurd (let j : ⊥ = omega arith in j);
   serials = λ l. absurd (let j : ⊥ = omega arith in j);
@@ -124,7 +126,7 @@ bytes-empty p d g q e = record {
   feet = λ j b. absurd (let i : ⊥ = omega arith in i);
 }
 
-module _ (p : Params) (h : Ranged p) (d : ℕ) (g : Seg) (q : Zone) (s : ZoneShape p q) where
+module _ (p : Params) (h : Ranged p) (d : ℕ) (q : Zone) (s : ZoneShape p q) where
   -- below the pointer nothing changes
   pub old-block : (b t : List ℕ) (k : ℕ) → k < q .pointer → blockIn (putZone b t q) k ≡ blockIn q k
   unfolding putZone
@@ -146,29 +148,27 @@ module _ (p : Params) (h : Ranged p) (d : ℕ) (g : Seg) (q : Zone) (s : ZoneSha
   pointer-put b t = refl
 
   -- the head is as it was, in a zone that isn't empty
-  head-kept : (b t : List ℕ) → 0 < q .pointer → ZoneBytes p d g q
-      → (blockIn (putZone b t q) 0 ≡ mkChunk (headerBlock p d (zonesIn p g) (headerSerial p (blockIn (putZone b t q) 0 .block)) (headerCopied p (blockIn (putZone b t q) 0 .block))) zeroSpare)
+  head-kept : (b t : List ℕ) → 0 < q .pointer → ZoneBytes p d q
+      → (blockIn (putZone b t q) 0 ≡ headOf p d (blockIn (putZone b t q) 0 .block))
       × ((headerSerial p (blockIn (putZone b t q) 0 .block) < 256 ^ 8) × (headerCopied p (blockIn (putZone b t q) 0 .block) < 256 ^ 8))
   head-kept b t l f = rw (old-block b t 0 l) (f .head l, f .serials l)
 
-  pub bytes-put : (b t : List ℕ) → Kind p d g q b t → ZoneBytes p d g q → ZoneBytes p d g (putZone b t q)
-  bytes-put _ _ (header ser cop e x y a c) f = record {
-    low = omega (arith, e, pointer-put (headerBlock p d (zonesIn p g) ser cop) zeroSpare, capacity-few p h);
+  pub bytes-put : (b t : List ℕ) → Kind p d q b t → ZoneBytes p d q → ZoneBytes p d (putZone b t q)
+  bytes-put _ _ (header zs ser cop e x y a c) f = record {
+    low = omega (arith, e, pointer-put (headerBlock p d zs ser cop) zeroSpare, capacity-few p h);
     head =
-        λ l. rw new (let m : mkChunk (headerBlock p d (zonesIn p g) ser cop) zeroSpare
-        ≡ mkChunk (headerBlock p d (zonesIn p g) (headerSerial p (headerBlock p d (zonesIn p g) ser cop)) (headerCopied p (headerBlock p d (zonesIn p g) ser cop))) zeroSpare =
-        ap₂ (λ (x y : ℕ). mkChunk (headerBlock p d (zonesIn p g) x y) zeroSpare) (sym (header-serial p d (zonesIn p g) ser cop a)) (sym (header-copied p d (zonesIn p g) ser cop c)) in m);
+        λ l. rw new (sym (λ i. mkChunk (headerBlock p d (header-zones-named p d zs ser cop x y i) (header-serial p d zs ser cop x a i) (header-copied p d zs ser cop x c i)) zeroSpare));
     serials = λ l. rw new (
-      subst (λ (n : ℕ). n < 256 ^ 8) (sym (header-serial p d (zonesIn p g) ser cop a)) a,
-      subst (λ (n : ℕ). n < 256 ^ 8) (sym (header-copied p d (zonesIn p g) ser cop c)) c,
+      subst (λ (n : ℕ). n < 256 ^ 8) (sym (header-serial p d zs ser cop x a)) a,
+      subst (λ (n : ℕ). n < 256 ^ 8) (sym (header-copied p d zs ser cop x c)) c,
     );
-    wide = λ o l k. absurd (let j : ⊥ = omega (arith, k, pointer-put (headerBlock p d (zonesIn p g) ser cop) zeroSpare, e) in j);
-    feet = λ j k. absurd (let i : ⊥ = omega (arith, k, pointer-put (headerBlock p d (zonesIn p g) ser cop) zeroSpare, e) in i);
+    wide = λ o l k. absurd (let j : ⊥ = omega (arith, k, pointer-put (headerBlock p d zs ser cop) zeroSpare, e) in j);
+    feet = λ j k. absurd (let i : ⊥ = omega (arith, k, pointer-put (headerBlock p d zs ser cop) zeroSpare, e) in i);
   }
     where
-      new : blockIn (putZone (headerBlock p d (zonesIn p g) ser cop) zeroSpare q) 0 ≡ mkChunk (headerBlock p d (zonesIn p g) ser cop) zeroSpare
-      new = subst (λ (n : ℕ). blockIn (putZone (headerBlock p d (zonesIn p g) ser cop) zeroSpare q) n ≡ mkChunk (headerBlock p d (zonesIn p g) ser cop) zeroSpare) e
-          (put-new-block (headerBlock p d (zonesIn p g) ser cop) zeroSpare (omega (arith, e, capacity-few p h)))
+      new : blockIn (putZone (headerBlock p d zs ser cop) zeroSpare q) 0 ≡ mkChunk (headerBlock p d zs ser cop) zeroSpare
+      new = subst (λ (n : ℕ). blockIn (putZone (headerBlock p d zs ser cop) zeroSpare q) n ≡ mkChunk (headerBlock p d zs ser cop) zeroSpare) e
+          (put-new-block (headerBlock p d zs ser cop) zeroSpare (omega (arith, e, capacity-few p h)))
   bytes-put _ _ (datum o b r e l lb w) f = record {
     low = omega (arith, e, l, pointer-put b (recordBytes r), capacity-few p h);
     head = λ k. head-kept b (recordBytes r) (omega arith) f .0;
@@ -208,7 +208,7 @@ module _ (p : Params) (h : Ranged p) (d : ℕ) (g : Seg) (q : Zone) (s : ZoneSha
           old-block b zeroSpare (suc (p .S + i)) a ∙ f .feet i a ∙ ap (λ (ss : List (List ℕ)). mkChunk (footerBlock p ss i) zeroSpare) (sym same)
 
   -- ---- in a full zone what the footer says is what the spares say
-  pub by-footer : ZoneBytes p d g q → q .pointer ≡ capacity p → (o : ℕ) → o < p .S → recordIn p true q o ≡ recordIn p false q o
+  pub by-footer : ZoneBytes p d q → q .pointer ≡ capacity p → (o : ℕ) → o < p .S → recordIn p true q o ≡ recordIn p false q o
   unfolding recordIn footerRecord capacity
   by-footer f e o l =
       let k : o / perFooter p < footers p = footer-of p h o l in

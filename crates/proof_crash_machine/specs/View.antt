@@ -107,6 +107,10 @@ abbrev pub AllS : (ItemStore → Type 0) → List ItemStore → Type 0
 AllS Ok [] = Unit {0}
 AllS Ok (s ∷ ss) = Ok s × AllS Ok ss
 
+pub alls-append : (Ok : ItemStore → Type 0) (ss ts : List ItemStore) → AllS Ok ss → AllS Ok ts → AllS Ok (ss ++ ts)
+alls-append Ok [] ts a b = b
+alls-append Ok (s ∷ ss) ts a b = (a .0, alls-append Ok ss ts (a .1) b)
+
 -- what each store keeps holds after every prefix
 pub along : (I : ItemView → Type 0) (Ok : ItemStore → Type 0) → ((v : ItemView) (s : ItemStore) → Ok s → I v → I (apply v s))
     → (ss : List ItemStore) → AllS Ok ss → (v : ItemView) → I v → (k : ℕ) → I (applyAll v (take k ss))

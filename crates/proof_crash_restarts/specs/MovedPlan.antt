@@ -8,12 +8,12 @@ use native.Mathlib.Decide.{decLt}
 use borrow.Author.Tests.{lt-ltb, le-ltb, eq-eqb, ne-eqb}
 use native.Mathlib.Omega.{arith}
 use lib.Dec.{ltb}
-use lib.ListN.{length, getD, take}
+use lib.ListN.{length, getD}
 use lib.Bits.{xor-lt}
 use lib.Pow.{pow-pos}
 use Rattle.spec.specs.declared.Params.{Params}
 use Rattle.spec.specs.Bytes.{xorAll}
-use Rattle.spec.specs.Drives.{Zone, stored, View, zoneAt, pointerAt, dataStored, zoneOn, across}
+use Rattle.spec.specs.Drives.{View, zoneAt, dataStored, zoneOn, isGood}
 use Rattle.spec.specs.Layout.{parityPosition, parityDrive, dataDrive, dataPosition, isData, dataDrives, Rec, mkRec, recordOf}
 use Rattle.spec.specs.Lists.Opt.{none}
 use Rattle.spec.specs.Lists.{below, all, keep, isIn}
@@ -23,7 +23,6 @@ use Rattle.spec.specs.Restart.{renumbered, movedPieces, movedOn}
 use Rattle.spec.specs.Segments.{remaining, Segment, segmentOf, offsetOn, hasChunk, counts, counted, storedPiece}
 use Rattle.law_basic.specs.Geometry.{Ranged, position-drive, drive-is-data, data-drive-lt, drive-position, position-lt}
 use Rattle.law_basic.specs.Ranges.{length-below, map-below-same, map-map, getD-map-below, length-keep}
-use Rattle.law_basic.specs.Segs.{Named, zone-on-lt, zones-differ, seg-named}
 use Rattle.law_basic.specs.Xor.{length-parity}
 use Rattle.law_code.specs.Chunks.{moved-is-data, moved-is-parity}
 use Rattle.law_code.specs.Single.{encode-xor}
@@ -33,24 +32,27 @@ use Rattle.proof_crash_machine.specs.Facts.{Ghost, Choice, Stripe, Datum, Used,
 use Rattle.proof_crash_machine.specs.Restart.{Ready}
 use Rattle.proof_crash_machine.specs.Rewrite.{MovePlan}
 use Rattle.proof_crash_machine.specs.Val.{Val, 𝟘, _⊕_, ⊕-self, xorN, xorN-put}
-use Rattle.proof_crash_machine.specs.View.{ItemView}
+use Rattle.proof_crash_machine.specs.View.{ItemView, Item}
 use Rattle.proof_crash_items.specs.Cands.{data-drives, has-data-drive}
 use Rattle.proof_crash_items.specs.Codec.{Wide}
-use Rattle.proof_crash_items.specs.Items.{valueOf, itemsFrom, itemsOf, itemsIn, items-in}
+use Rattle.proof_crash_items.specs.Items.{valueOf}
 use Rattle.proof_crash_items.specs.Member.{Has, keep-has, has-keep, below-has, has-below, map-has, getD-has, has-getD}
 use Rattle.proof_crash_items.specs.Ranges.{parity-on, parOf, code-data, data-code, word-code}
 use Rattle.proof_crash_items.specs.Refuse.{Rising, rising-keep, rising-below}
 use Rattle.proof_crash_items.specs.SegFacts.{ragged-of}
-use Rattle.proof_crash_items.specs.Segs.{zone-bytes, number-self, number-zones, used-below}
-use Rattle.proof_crash_items.specs.Stripes.{stored-below, pointer-is, offset-on, stored-piece, stored-block-long, counted-has, pieceAt, piece-here, counted-stripe, stripe-counted}
+use Rattle.proof_crash_items.specs.Stripes.{stored-below, offset-on, stored-piece, stored-block-long, counted-has, pieceAt, piece-here, counted-stripe, stripe-counted}
 use Rattle.proof_crash_items.specs.Values.{pieceValue, xorL, PiecesLong, blocks-of-long, pieces-long, parity-value, onlyWhere, only-there, only-else, xor-below}
 use Rattle.proof_crash_items.specs.ZoneBytes.{blockIn}
 use Rattle.proof_crash_restarts.specs.Done.{serialTop}
 use Rattle.proof_crash_restarts.specs.Ends.{none-choice, ends-serials}
 use Rattle.proof_crash_restarts.specs.Order.{rising-same}
-use Rattle.proof_crash_restarts.specs.Rest.{SettledOn, far-off, settled-used}
+use Rattle.proof_crash_restarts.specs.Rest.{SettledOn, far-off}
 use Rattle.proof_crash_restarts.specs.Same.{Stripe-none-any}
 use Rattle.spec.specs.declared.Seg.{Seg}
+use Rattle.law_basic.specs.Segs.{zones-in}
+use Rattle.law_drives.specs.Headers.{Vacant}
+use Rattle.proof_crash_items.specs.Carry.{empty-unnamed, namesOf}
+use Rattle.proof_crash_items.specs.Segs.{SegAt, good-fine, nameOf, remains-at, seg-bytes}
 
 rising-map : (f : ℕ → ℕ) → ((i j : ℕ) → i < j → f i < f j) → (l : List ℕ) → Rising l → Rising (map f l)
 rising-map f h [] r = tt
@@ -102,33 +104,36 @@ moved-parity-wide p t qs l h = record {
   stripe = l;
 }
 
-module _ (p : Params) (r : Ranged p) (g : Ghost) (v : View) (k : SettledOn p r g v) (o : Seg) (i : Has o (remaining p v 0)) where
+module _ (p : Params) (r : Ranged p) (off : List ℕ) (g : Ghost) (v : View) (u : ItemView) (k : SettledOn p r off g v u) (o : Seg) (i : Has o (remaining p v 0)) where
   abbrev G : Segment
   G = segmentOf p v 0 o
 
-  abbrev ch : Choice (parOf p r) (g .un) (isIn 0)
-  ch = none-choice p r g v k
+  abbrev ch : Choice (parOf p r off) (g .un) (isIn 0)
+  ch = none-choice p r off g v u k
 
-  ob : Named p o
-  ob = settled-used p r g v k o i .0
+  nm : ℕ
+  nm = nameOf p v 0 o
+
+  moved-plan-ob : SegAt p v u 0 o (nameOf p v 0 o)
+  moved-plan-ob = remains-at p r off g v u (k .on) 0 (none-choice p r off g v u k) o i
 
   drives-there : (d : ℕ) → d < p .N → isIn 0 d ≡ false
-  drives-there d l = far-off p r g v k d l
+  drives-there d l = far-off p r off g v u k d l
 
   counted-on-drive : (s d : ℕ) → Has s (counted p 0 G) → d < p .N → hasChunk G s d ≡ true
-  counted-on-drive s d h l = counted-has p r g v (k .on) 0 ch o s h .1 d l (drives-there d l)
+  counted-on-drive s d h l = counted-has p r off g v u (k .on) 0 ch o s h .1 d l (drives-there d l)
 
   -- a stored piece of a counted stripe
   piece-block : (s d : ℕ) → Has s (counted p 0 G) → d < p .N → length (storedPiece G s d .block) ≡ p .B
-  piece-block s d h l = stored-block-long p r g v (k .on) 0 ch o s d ob l (drives-there d l) (counted-on-drive s d h l)
+  piece-block s d h l = stored-block-long p r off g v u (k .on) 0 ch o s d moved-plan-ob l (drives-there d l) (counted-on-drive s d h l)
 
   piece-wide : (s d : ℕ) → Has s (counted p 0 G) → d < p .N → Wide (storedPiece G s d .rec)
   piece-wide s d h l =
       let a : (offsetOn G d s < dataStored p (zoneAt v d (zoneOn o d))) × (recordOf (blockIn (zoneAt v d (zoneOn o d)) (suc (offsetOn G d s)) .spare) .stripe ≡ s) =
-      offset-on p r g v (k .on) 0 ch o s d ob l (drives-there d l) (counted-on-drive s d h l) in
+      offset-on p r off g v u (k .on) 0 ch o s d moved-plan-ob l (drives-there d l) (counted-on-drive s d h l) in
       let b : (offsetOn G d s < p .S) × (suc (offsetOn G d s) < zoneAt v d (zoneOn o d) .pointer) = stored-below p (zoneAt v d (zoneOn o d)) (offsetOn G d s) (a .0) in
-      subst (λ (q : Piece). Wide (q .rec)) (sym (stored-piece p r g v (k .on) 0 ch o s d ob l (drives-there d l) (counted-on-drive s d h l)))
-      (zone-bytes p r g v (k .on) d o l (k .none d l) ob .wide (offsetOn G d s) (b .0) (b .1))
+      subst (λ (q : Piece). Wide (q .rec)) (sym (stored-piece p r off g v u (k .on) 0 ch o s d moved-plan-ob l (drives-there d l) (counted-on-drive s d h l)))
+      (seg-bytes p r off g v u (k .on) 0 ch o moved-plan-ob d l (drives-there d l) .wide (offsetOn G d s) (b .0) (b .1))
 
   -- ---- stripe s as stripe t
   module _ (s t : ℕ) (h : Has s (counted p 0 G)) (tl : t < p .S) where
@@ -244,8 +249,8 @@ module _ (p : Params) (r : Ranged p) (g : Ghost) (v : View) (k : SettledOn p r g
   abbrev cs : List ℕ
   cs = counted p 0 G
 
-  piece-is : (s d : ℕ) → d < p .N → pieceAt p r g v (k .on) 0 ch o s d ≡ pieceValue (storedPiece G s d)
-  piece-is s d l = unfold pieceAt in ap pieceValue (piece-here p r g v (k .on) 0 ch o s d l (drives-there d l))
+  piece-is : (s d : ℕ) → d < p .N → pieceAt p r off g v u (k .on) 0 ch o s d ≡ pieceValue (storedPiece G s d)
+  piece-is s d l = unfold pieceAt in ap pieceValue (piece-here p r off g v u (k .on) 0 ch o s d l (drives-there d l))
 
   pub plan-few : length (counted p 0 G) ≤ p .S
   plan-few = unfold counted in omega (arith, length-keep (counts p 0 G) (below (p .S)), length-below (p .S))
@@ -257,17 +262,17 @@ module _ (p : Params) (r : Ranged p) (g : Ghost) (v : View) (k : SettledOn p r g
   plan-F j d = pieceValue (movedOn p (movedPieces p (segmentOf p v 0 o) (getD (counted p 0 (segmentOf p v 0 o)) j 0) j) j d)
 
   pub plan-E : ℕ → ℕ → Val
-  plan-E j d = pieceAt p r g v (k .on) 0 (none-choice p r g v k) o (getD (counted p 0 (segmentOf p v 0 o)) j 0) d
+  plan-E j d = pieceAt p r off g v u (k .on) 0 (none-choice p r off g v u k) o (getD (counted p 0 (segmentOf p v 0 o)) j 0) d
 
   pub plan-F-is : (j d : ℕ) → plan-F j d ≡ pieceValue (movedOn p (movedPieces p (segmentOf p v 0 o) (getD (counted p 0 (segmentOf p v 0 o)) j 0) j) j d)
   unfolding plan-F
   plan-F-is j d = refl
 
-  pub plan-word : (j : ℕ) → j < length (counted p 0 G) → Word (parOf p r) j (plan-F j)
+  pub plan-word : (j : ℕ) → j < length (counted p 0 G) → Word (parOf p r off) j (plan-F j)
   unfolding plan-F
   plan-word j l = word-code p r j (plan-F j) (moved-xor (getD cs j 0) j (plan-src j l) (omega (arith, l, plan-few)))
 
-  pub plan-to : (j : ℕ) (x : Val) → j < length (counted p 0 G) → Datum (parOf p r) (getD (counted p 0 G) j 0) (plan-E j) x → Datum (parOf p r) j (plan-F j) x
+  pub plan-to : (j : ℕ) (x : Val) → j < length (counted p 0 G) → Datum (parOf p r off) (getD (counted p 0 G) j 0) (plan-E j) x → Datum (parOf p r off) j (plan-F j) x
   unfolding plan-F plan-E
   plan-to j x l dt =
       let s : ℕ = getD cs j 0 in
@@ -283,7 +288,7 @@ module _ (p : Params) (r : Ranged p) (g : Ghost) (v : View) (k : SettledOn p r g
             ∙ sym (piece-is s (dt .d) (dt .lt)) ∙ dt .val;
       }
 
-  pub plan-from : (j : ℕ) (x : Val) → j < length (counted p 0 G) → Datum (parOf p r) j (plan-F j) x → Datum (parOf p r) (getD (counted p 0 G) j 0) (plan-E j) x
+  pub plan-from : (j : ℕ) (x : Val) → j < length (counted p 0 G) → Datum (parOf p r off) j (plan-F j) x → Datum (parOf p r off) (getD (counted p 0 G) j 0) (plan-E j) x
   unfolding plan-F plan-E
   plan-from j x l dt =
       let s : ℕ = getD cs j 0 in
@@ -297,7 +302,7 @@ module _ (p : Params) (r : Ranged p) (g : Ghost) (v : View) (k : SettledOn p r g
         val = piece-is s (dataDrive p s n) (data-drive-lt p s n b) ∙ sym (moved-data-value s j (plan-src j l) (omega (arith, l, plan-few)) (dt .d) e (dt .lt)) ∙ dt .val;
       }
 
-  abbrev pub planOf : MovePlan (parOf p r)
+  abbrev pub planOf : MovePlan (parOf p r off)
   planOf = record {
     c = length (counted p 0 (segmentOf p v 0 o));
     src = λ j. getD (counted p 0 (segmentOf p v 0 o)) j 0;
@@ -310,67 +315,68 @@ module _ (p : Params) (r : Ranged p) (g : Ghost) (v : View) (k : SettledOn p r g
   }
 
   -- ---- the plan copies just what counts
-  pub plan-stripe : (j : ℕ) → j < length (counted p 0 G) → Stripe (parOf p r) (itemsIn p v) (g .un) (zoneOn o 0) (getD (counted p 0 G) j 0) (plan-E j)
+  pub plan-stripe : (j : ℕ) → j < length (counted p 0 G) → Stripe (parOf p r off) u (g .un) (nameOf p v 0 o) (getD (counted p 0 G) j 0) (plan-E j)
   unfolding plan-E
-  plan-stripe j l = Stripe-none-any (parOf p r) (g .hd) (itemsIn p v) (isIn 0) (g .un) (far-off p r g v k) (k .none) (zoneOn o 0) (getD cs j 0) (pieceAt p r g v (k .on) 0 ch o (getD cs j 0))
-      (counted-stripe p r g v (k .on) 0 ch o (getD cs j 0) ob (plan-src j l))
+  plan-stripe j l = Stripe-none-any (parOf p r off) (g .hd) u (isIn 0) (g .un) (far-off p r off g v u k) (k .none) (nameOf p v 0 o) (getD cs j 0) (pieceAt p r off g v u (k .on) 0 ch o (getD cs j 0))
+      (counted-stripe p r off g v u (k .on) 0 ch o (getD cs j 0) moved-plan-ob (plan-src j l))
 
-  pub plan-all : (s : ℕ) (f : ℕ → Val) (x : Val) → Stripe (parOf p r) (itemsIn p v) (g .un) (zoneOn o 0) s f → Datum (parOf p r) s f x
-      → (j : ℕ) × (j < length (counted p 0 G)) × Datum (parOf p r) (getD (counted p 0 G) j 0) (plan-E j) x
+  pub plan-all : (s : ℕ) (f : ℕ → Val) (x : Val) → Stripe (parOf p r off) u (g .un) (nameOf p v 0 o) s f → Datum (parOf p r off) s f x
+      → (j : ℕ) × (j < length (counted p 0 G)) × Datum (parOf p r off) (getD (counted p 0 G) j 0) (plan-E j) x
   unfolding plan-E
   plan-all s f x st dt =
-      let st′ : Stripe (parOf p r) (itemsIn p v) (isIn 0) (zoneOn o 0) s f = Stripe-none-any (parOf p r) (g .hd) (itemsIn p v) (g .un) (isIn 0) (k .none) (far-off p r g v k) (zoneOn o 0) s f st in
-      let q : Has s (counted p 0 G) × ((d : ℕ) → d < p .N → pieceAt p r g v (k .on) 0 ch o s d ≡ f d) = stripe-counted p r g v (k .on) 0 ch o s f ob st′ in
+      let st′ : Stripe (parOf p r off) u (isIn 0) (nameOf p v 0 o) s f = Stripe-none-any (parOf p r off) (g .hd) u (g .un) (isIn 0) (k .none) (far-off p r off g v u k) (nameOf p v 0 o) s f st in
+      let q : Has s (counted p 0 G) × ((d : ℕ) → d < p .N → pieceAt p r off g v u (k .on) 0 ch o s d ≡ f d) = stripe-counted p r off g v u (k .on) 0 ch o s f moved-plan-ob st′ in
       let j : (j : ℕ) × (j < length cs) × (getD cs j 0 ≡ s) = has-getD cs s 0 (q .0) in (
         j .0,
         j .1,
-        subst (λ (y : ℕ). Datum (parOf p r) y (pieceAt p r g v (k .on) 0 ch o y) x) (sym (j .2))
+        subst (λ (y : ℕ). Datum (parOf p r off) y (pieceAt p r off g v u (k .on) 0 ch o y) x) (sym (j .2))
             (record { d = dt .d; lt = dt .lt; data? = dt .data?; val = q .1 (dt .d) (dt .lt) ∙ dt .val }),
       )
 
-  -- ---- the machine is ready
-  module _ (w : Seg) (un : segmentOf p v 0 o .full ≡ false) (wb : Named p w) (empty : (e : ℕ) → e < p .N → pointerAt v e (zoneOn w e) ≡ 0) (n : ℕ) (top : serialTop p v < n) where
-    pub ready-ragged : Ragged (parOf p r) (g .un) (itemsIn p v) (zoneOn o 0)
-    ready-ragged = rag (ragged-of p r g v (k .on) 0 ch o i un)
+  -- ---- the machine is ready: w is the new segment, n its serial
+  module _ (w : Seg) (un : segmentOf p v 0 o .full ≡ false) (va : Vacant p v w) (n : ℕ) (top : serialTop p v < n) where
+    pub ready-ragged : Ragged (parOf p r off) (g .un) u (nameOf p v 0 o)
+    ready-ragged = rag (ragged-of p r off g v u (k .on) 0 ch o i un)
       where
-        rag : Ragged (parOf p r) (isIn 0) (itemsIn p v) (zoneOn o 0) → Ragged (parOf p r) (g .un) (itemsIn p v) (zoneOn o 0)
+        rag : Ragged (parOf p r off) (isIn 0) u (nameOf p v 0 o) → Ragged (parOf p r off) (g .un) u (nameOf p v 0 o)
         rag (d, t, a, b) = (d, (t .0, k .none d (t .0)), a, b)
 
-    pub ready-empty : (e : ℕ) → e < p .N → itemsIn p v e (zoneOn w 0) ≡ []
-    ready-empty e l = items-in p v e w (omega arith) wb ∙ none-stored (zoneAt v e (zoneOn w e)) (pointer-is v e (zoneOn w e) ∙ empty e l)
-      where
-        none-stored : (q : Zone) → q .pointer ≡ 0 → itemsOf p q ≡ []
-        none-stored q e = unfold itemsOf stored in (ap (λ (n : ℕ). itemsFrom p 0 (take n (q .blocks))) e ∙ (unfold itemsFrom in refl))
-
-    pub ready-newest : (y : ℕ) → Used (parOf p r) (g .un) (itemsIn p v) y → g .hd .ser y < n
-    ready-newest y u = let a : g .hd .ser y ≤ serialTop p v = newest in omega (arith, a, top)
+    pub ready-newest : (y : ℕ) → Used (parOf p r off) (g .un) u y → g .hd .ser y < n
+    ready-newest y i = let a : g .hd .ser y ≤ serialTop p v = newest in omega (arith, a, top)
       where
         newest : g .hd .ser y ≤ serialTop p v
-        newest = unfold serialTop in ends-serials p r g v k y u
+        newest = unfold serialTop in ends-serials p r off g v u k y i
+
+    pub ready-idle : Used (parOf p r off) (g .un) u n → ⊥
+    ready-idle i = let j : ⊥ = omega (arith, ready-newest n i, k .on .placed .is n i) in j
+
+    pub ready-empty : (e : ℕ) → e < p .N → u e n ≡ []
+    ready-empty e l = go (u e n) refl
+      where
+        go : (x : List Item) → u e n ≡ x → u e n ≡ []
+        go [] q = q
+        go (y ∷ x) q = absurd (ready-idle (e, (l, k .none e l), subst (λ (b : List Item). 0 < length b) (sym q) (let z : 0 < length (y ∷ x) = omega arith in z)))
+
+    its-name : (d : ℕ) → d < p .N → namesOf p w d ≡ zoneOn w d
+    its-name d l = zones-in p w d l
+
+    pub ready-good : (d : ℕ) → d < p .N → (namesOf p w d < p .Z) × (isGood p (v .offline) d (namesOf p w d) ≡ true)
+    ready-good d l = (subst (λ (x : ℕ). x < p .Z) (sym (its-name d l)) (va .vacant-low d l), ap (isGood p (v .offline) d) (its-name d l) ∙ va .vacant-good d l)
 
     -- w's zones are no other segment's
-    pub ready-clear : (y : ℕ) → Used (parOf p r) (g .un) (itemsIn p v) y → (d : ℕ) → d < p .N → g .hd .zn y d ≢ zoneOn w d
-    ready-clear y (e, t, b) d l q = zones-differ p (across p y) w d l (seg-named p y (used-below p r g v (k .on) y (e, t, b))) wb other
-        (sym (ap (λ (f : ℕ → ℕ). f d) (number-zones p r g v (k .on) y (e, t, b))) ∙ q)
-      where
-        other : across p y ≡ w → ⊥
-        other i =
-            let n : y ≡ zoneOn w 0 = sym (number-self p r y) ∙ ap (λ (x : Seg). zoneOn x 0) i in
-            let z : length (itemsIn p v e y) ≡ 0 = ap (λ (x : ℕ). length (itemsIn p v e x)) n ∙ ap length (ready-empty e (t .0)) in
-            let j : ⊥ = omega (arith, z, b) in j
+    pub ready-clear : (y : ℕ) → Used (parOf p r off) (g .un) u y → (d : ℕ) → d < p .N → g .hd .zn y d ≢ namesOf p w d
+    ready-clear y i d l q = empty-unnamed p r off g v u (k .on) (λ z j. k .rest z j .left) d (zoneOn w d) l (k .none d l) (va .vacant-empty d l) y i (q ∙ its-name d l)
 
-    -- on drives u that hold what v does
-    abbrev pub plan-ready : (u : ItemView) → itemsIn p v ≡ u → g .pr ≡ alone → Ready (parOf p r) g u (zoneOn w 0) (zoneOn o 0) n planOf
-    plan-ready u same alone? = record {
+    abbrev pub plan-ready : g .pr ≡ alone → Ready (parOf p r off) g u n (nameOf p v 0 o) n planOf
+    plan-ready alone? = record {
       none = k .none;
       no-pair = alone?;
-      ragged = subst (λ (x : ItemView). Ragged (parOf p r) (g .un) x (zoneOn o 0)) same ready-ragged;
-      zs = zoneOn w;
-      fits = λ d l. (zone-on-lt p w d wb, refl);
-      clear = subst (λ (x : ItemView). (y : ℕ) → Used (parOf p r) (g .un) x y → (d : ℕ) → d < p .N → g .hd .zn y d ≢ zoneOn w d) same ready-clear;
-      empty = subst (λ (x : ItemView). (e : ℕ) → e < p .N → x e (zoneOn w 0) ≡ []) same ready-empty;
-      newest = subst (λ (x : ItemView). (y : ℕ) → Used (parOf p r) (g .un) x y → g .hd .ser y < n) same ready-newest;
-      src = subst (λ (x : ItemView). (j : ℕ) → j < length (counted p 0 G) → Stripe (parOf p r) x (g .un) (zoneOn o 0) (getD (counted p 0 G) j 0) (plan-E j)) same plan-stripe;
-      all = subst (λ (x : ItemView). (s : ℕ) (f : ℕ → Val) (y : Val) → Stripe (parOf p r) x (g .un) (zoneOn o 0) s f → Datum (parOf p r) s f y
-          → (j : ℕ) × (j < length (counted p 0 G)) × Datum (parOf p r) (getD (counted p 0 G) j 0) (plan-E j) y) same plan-all;
+      ragged = ready-ragged;
+      zs = namesOf p w;
+      fits = λ d l. (ready-good d l .0, good-fine p r off g v u (k .on) d (namesOf p w d) l (ready-good d l .1));
+      clear = ready-clear;
+      empty = ready-empty;
+      newest = ready-newest;
+      src = plan-stripe;
+      all = plan-all;
     }

@@ -1,20 +1,20 @@
 -- Rising lists are known by their elements; an injective map into fewer numbers there is none. Assumes nothing.
-use mathlib.Core.Path.{_≡_, refl, sym, ap, ap₂, _∙_, subst}
-use mathlib.Core.List.{List, [], _∷_, _++_, map}
+use mathlib.Core.Path.{_≡_, refl, sym, ap, ap₂, _∙_}
+use mathlib.Core.List.{List, [], _∷_, _++_}
 use mathlib.Core.Logic.{inl, inr, ⊎-elim}
 use Prim.Native.Nat.{ℕ, _<_}
 use native.Mathlib.Omega.{arith}
 use Rattle.spec.specs.declared.Params.{Params}
-use Rattle.spec.specs.Drives.{Zone, View, zoneAt, pointerAt, Store, storeView, storeAll, zoneOn, across}
+use Rattle.spec.specs.Drives.{Zone, View, zoneAt, pointerAt, Store, storeView, storeAll, zoneOn}
 use Rattle.spec.specs.Lists.{flat}
-use Rattle.law_basic.specs.Segs.{Named}
-use Rattle.proof_crash_machine.specs.Memory.{Ok}
+use Rattle.proof_crash_machine.specs.Facts.{Heads}
 use Rattle.proof_crash_machine.specs.Rest.{InS}
 use Rattle.proof_crash_machine.specs.View.{ItemStore, AllS}
-use Rattle.proof_crash_items.specs.Member.{Has, map-has, has-map}
-use Rattle.proof_crash_items.specs.Refuse.{Rising, segNumbers, segs-numbers}
+use Rattle.proof_crash_items.specs.Member.{Has, has-map}
+use Rattle.proof_crash_items.specs.Refuse.{Rising, segZones, rising-apart}
 use Rattle.proof_crash_items.specs.Sound.{Follows, follows-nil, follows-append}
 use Rattle.spec.specs.declared.Seg.{Seg}
+use Rattle.proof_crash_machine.specs.Memory.{Ok}
 
 -- equal elements, equal lists
 pub rising-same : (l k : List ℕ) → Rising l → Rising k → ((a : ℕ) → Has a l → Has a k) → ((a : ℕ) → Has a k → Has a l) → l ≡ k
@@ -33,16 +33,26 @@ rising-same (a ∷ l) (b ∷ k) r q f h = ap₂ (λ (x : ℕ) (y : List ℕ). x 
     bwd : (x : ℕ) → Has x k → Has x l
     bwd x i = ⊎-elim (λ (e : x ≡ a). absurd (let w : ⊥ = omega (arith, q .0 x i, e, first) in w)) (λ j. j) (h x (inr i))
 
--- segments too, by their numbers
-pub segs-same : (p : Params) → 0 < p .N → (l k : List Seg) → ((z : Seg) → Has z l → Named p z) → Rising (segNumbers l) → Rising (segNumbers k) → ((z : Seg) → Has z l → Has z k)
-    → ((z : Seg) → Has z k → Has z l) → l ≡ k
-segs-same p c l k b r q f h =
-    sym (segs-numbers p c l b) ∙ ap (map (across p)) (rising-same (segNumbers l) (segNumbers k) r q (into l k f) (into k l h)) ∙ segs-numbers p c k (λ z i. b z (h z i))
+-- segments too, by their zones on a drive
+pub segs-same : (d : ℕ) (l k : List Seg) → Rising (segZones d l) → Rising (segZones d k) → ((z : Seg) → Has z l → Has z k) → ((z : Seg) → Has z k → Has z l) → l ≡ k
+segs-same d [] [] r q f h = refl
+segs-same d [] (b ∷ k) r q f h = absurd (h b (inl refl))
+segs-same d (a ∷ l) [] r q f h = absurd (f a (inl refl))
+segs-same d (a ∷ l) (b ∷ k) r q f h = ap₂ (λ (x : Seg) (y : List Seg). x ∷ y) first (segs-same d l k (r .1) (q .1) fwd bwd)
   where
-    into : (l k : List Seg) → ((z : Seg) → Has z l → Has z k) → (n : ℕ) → Has n (segNumbers l) → Has n (segNumbers k)
-    into l k f n i =
-        let z : (z : Seg) × Has z l × (n ≡ zoneOn z 0) = map-has (λ (z : Seg). zoneOn z 0) n l i in
-        subst (λ (x : ℕ). Has x (segNumbers k)) (sym (z .2)) (has-map (λ (z : Seg). zoneOn z 0) k (z .0) (f (z .0) (z .1)))
+    above : (x : Seg) (y : List Seg) → Rising (segZones d (x ∷ y)) → (z : Seg) → Has z y → zoneOn x d < zoneOn z d
+    above x y s z i = s .0 (zoneOn z d) (has-map (λ (z : Seg). zoneOn z d) y z i)
+
+    first : a ≡ b
+    first =
+        ⊎-elim (λ e. e) (λ (i : Has a k). ⊎-elim (λ (e : b ≡ a). sym e) (λ (j : Has b l). absurd (let w : ⊥ = omega (arith, above b k q a i, above a l r b j) in w)) (h b (inl refl)))
+        (f a (inl refl))
+
+    fwd : (x : Seg) → Has x l → Has x k
+    fwd x i = ⊎-elim (λ (e : x ≡ b). absurd (rising-apart d a l r x i (e ∙ sym first))) (λ j. j) (f x (inr i))
+
+    bwd : (x : Seg) → Has x k → Has x l
+    bwd x i = ⊎-elim (λ (e : x ≡ a). absurd (rising-apart d b k q x i (e ∙ first))) (λ j. j) (h x (inr i))
 
 -- ---- lists of stores
 
@@ -56,12 +66,13 @@ in-S s (t ∷ ss) (inl e) = inl e
 in-S s (t ∷ ss) (inr i) = inr (in-S s ss i)
 
 -- runs of runs
-pub follows-flat : {A : Type 0} (p : Params) (f : A → List Store) (h : A → List ItemStore) (l : List A) → ((v : View) (z : A) → Has z l → Follows p v (f z) (h z)) → (v : View)
-    → Follows p v (flat f l) (flat h l)
+pub follows-flat : {A : Type 0} (p : Params) (hd : Heads) (f : A → List Store) (h : A → List ItemStore) (l : List A) → ((v : View) (z : A) → Has z l → Follows p hd v (f z) (h z))
+    → (v : View)
+    → Follows p hd v (flat f l) (flat h l)
 unfolding flat
-follows-flat p f h [] k v = follows-nil p v
-follows-flat p f h (z ∷ l) k v =
-    follows-append p v (f z) (flat f l) (h z) (flat h l) (k v z (inl refl)) (follows-flat p f h l (λ u y i. k u y (inr i)) (storeAll storeView (f z) v))
+follows-flat p hd f h [] k v = follows-nil p hd v
+follows-flat p hd f h (z ∷ l) k v =
+    follows-append p hd v (f z) (flat f l) (h z) (flat h l) (k v z (inl refl)) (follows-flat p hd f h l (λ u y i. k u y (inr i)) (storeAll storeView (f z) v))
 
 pub flat-same : {A B : Type 0} (f h : A → List B) (l : List A) → ((a : A) → Has a l → f a ≡ h a) → flat f l ≡ flat h l
 unfolding flat

@@ -9,7 +9,7 @@ use lib.Dec.{eqb}
 use lib.ListN.{getD}
 use Rattle.spec.specs.declared.Params.{Params}
 use Rattle.spec.specs.Drives.{noChunk, Zone, noZone, View, zoneAt, pointerAt, chunkAt, zoneOn, sealedIn, seg}
-use Rattle.spec.specs.Layout.{headerSerial, headerCopied}
+use Rattle.spec.specs.Layout.{headerSerial, headerCopied, headerZones}
 use Rattle.spec.specs.Lists.Opt.{some}
 use Rattle.spec.specs.Lists.{below, isIn}
 use Rattle.spec.specs.Params.{capacity, drivesOf, present}
@@ -47,6 +47,7 @@ module _ (p : Params) (r : Ranged p) (v u : View) (m : ℕ) (z : Seg) (few : cou
   unfolding segmentOf drivesOf
   segment-same = λ j. record {
     seg = z;
+    names = headerZones p (header-same j);
     serial = headerSerial p (header-same j);
     copied = headerCopied p (header-same j);
     full = sealed-same j;

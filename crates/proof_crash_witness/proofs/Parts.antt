@@ -3,9 +3,9 @@ use mathlib.Core.Path.{_≡_, refl, sym, ap, _∙_}
 use mathlib.Core.List.{List, [], _∷_, _++_}
 use mathlib.Core.Bool.{true}
 use Prim.Native.Nat.{ℕ}
-use Rattle.spec.specs.Examples.{small}
 use Rattle.spec.specs.History.{began}
-use Rattle.proof_crash_witness.specs.Table.{Line, disk, eventsIn, answersIn, readsIn, firstUse, moved, sealed, driveLost, driveBack, overwritten, reclaimed, movedAgain, table, history}
+use Rattle.proof_crash_witness.specs.Table.{worn, dead, Line, disk, eventsIn, answersIn, readsIn, firstUse, moved, sealed, driveLost, driveBack, overwritten, reclaimed}
+use Rattle.proof_crash_witness.specs.Table.{movedAgain, table, history}
 use Rattle.proof_crash_witness.specs.Witness.{Witness}
 use Rattle.proof_crash_witness.proofs.Evaluation.{evaluated}
 use Rattle.proof_crash_witness.proofs.Told.{Told, tell, start, tell-answers, tell-reads, tell-allowed}
@@ -25,25 +25,25 @@ mkGot v e = record { value = v; same = e }
 
 -- what some lines of the table come to
 abbrev Part : Told → List Line → Type 0
-Part t ls = Got (toldNumbers (tell small t (eventsIn ls)))
+Part t ls = Got (toldNumbers (tell worn dead t (eventsIn ls)))
 
 -- the lines come to just that
-came : (t : Told) (ls : List Line) (c : Part t ls) → tell small t (eventsIn ls) ≡ toldFrom (c .value)
-came t ls c = sym (ap toldFrom (c .same) ∙ toldFrom-toldNumbers (tell small t (eventsIn ls)))
+came : (t : Told) (ls : List Line) (c : Part t ls) → tell worn dead t (eventsIn ls) ≡ toldFrom (c .value)
+came t ls c = sym (ap toldFrom (c .same) ∙ toldFrom-toldNumbers (tell worn dead t (eventsIn ls)))
 
 -- lines after lines
-tell-lines : (t : Told) (ls ms : List Line) → tell small t (eventsIn (ls ++ ms)) ≡ tell small (tell small t (eventsIn ls)) (eventsIn ms)
+tell-lines : (t : Told) (ls ms : List Line) → tell worn dead t (eventsIn (ls ++ ms)) ≡ tell worn dead (tell worn dead t (eventsIn ls)) (eventsIn ms)
 unfolding eventsIn tell
 tell-lines t [] ms = refl
 tell-lines t (l ∷ ls) ms = tell-lines _ ls ms
 
 -- some lines come to c, and others from there to u
-then : (t : Told) (ls ms : List Line) (c : Part t ls) (u : Told) → tell small (toldFrom (c .value)) (eventsIn ms) ≡ u → tell small t (eventsIn (ls ++ ms)) ≡ u
-then t ls ms c u q = tell-lines t ls ms ∙ ap (λ (s : Told). tell small s (eventsIn ms)) (came t ls c) ∙ q
+then : (t : Told) (ls ms : List Line) (c : Part t ls) (u : Told) → tell worn dead (toldFrom (c .value)) (eventsIn ms) ≡ u → tell worn dead t (eventsIn (ls ++ ms)) ≡ u
+then t ls ms c u q = tell-lines t ls ms ∙ ap (λ (s : Told). tell worn dead s (eventsIn ms)) (came t ls c) ∙ q
 
 -- before any event
 begin : Told
-begin = start (began small disk)
+begin = start (began worn disk)
 
 c1 : Part begin firstUse
 unfolding evaluated begin
@@ -80,7 +80,7 @@ c8 = mkGot (_ ∷ _) refl
 -- ---- the whole history
 
 -- all lines come to what the last part came to
-in-the-end : tell small begin history ≡ toldFrom (c8 .value)
+in-the-end : tell worn dead begin history ≡ toldFrom (c8 .value)
 unfolding history table
 in-the-end =
     then _ _ _ c1 _ (then _ _ _ c2 _ (then _ _ _ c3 _ (then _ _ _ c4 _ (then _ _ _ c5 _ (then _ _ _ c6 _ (then _ _ _ c7 _ (came _ _ c8)))))))
@@ -105,8 +105,9 @@ pub witness-holds : Witness
 unfolding evaluated begin
 witness-holds = record {
   in-range = refl;
+  list-fine = refl;
   empty = refl;
-  premises = tell-allowed small begin history (ap (λ (t : Told). t .fine) in-the-end ∙ fine);
-  answers = sym (tell-answers small begin history) ∙ ap (λ (t : Told). t .answers) in-the-end ∙ answers;
-  reads = sym (tell-reads small begin history) ∙ ap (λ (t : Told). t .reads) in-the-end ∙ reads;
+  premises = tell-allowed worn dead begin history (ap (λ (t : Told). t .fine) in-the-end ∙ fine);
+  answers = sym (tell-answers worn dead begin history) ∙ ap (λ (t : Told). t .answers) in-the-end ∙ answers;
+  reads = sym (tell-reads worn dead begin history) ∙ ap (λ (t : Told). t .reads) in-the-end ∙ reads;
 }

@@ -24,29 +24,29 @@ unfoldable pub start : Hist → Told
 start h = mkTold h true [] []
 
 -- one event
-unfoldable pub heard : Params → Told → Event → Told
-heard p t e =
+unfoldable pub heard : Params → List ℕ → Told → Event → Told
+heard p off t e =
     let h = t .hist in
-    let r = happens p (h .world) e .answer in
-    let h′ = step p h e in
-    mkTold h′ (t .fine && allowed p h e) (t .answers ++ (answerNumbers r ∷ [])) (t .reads ++ restartReads (finished r) p (h′ .world))
+    let r = happens p off (h .world) e .answer in
+    let h′ = step p off h e in
+    mkTold h′ (t .fine && allowed p off h e) (t .answers ++ (answerNumbers r ∷ [])) (t .reads ++ restartReads (finished r) p off (h′ .world))
 
 -- the events one after the other
-unfoldable pub tell : Params → Told → List Event → Told
-tell p t [] = t
-tell p t (e ∷ es) = tell p (heard p t e) es
+unfoldable pub tell : Params → List ℕ → Told → List Event → Told
+tell p off t [] = t
+tell p off t (e ∷ es) = tell p off (heard p off t e) es
 
 -- ---- what is told is true
 
-pub tell-answers : (p : Params) (t : Told) (es : List Event) → tell p t es .answers ≡ t .answers ++ answersOf p (t .hist) es
+pub tell-answers : (p : Params) (off : List ℕ) (t : Told) (es : List Event) → tell p off t es .answers ≡ t .answers ++ answersOf p off (t .hist) es
 unfolding tell heard answersOf
-tell-answers p t [] = sym (append-nil (t .answers))
-tell-answers p t (e ∷ es) = tell-answers p (heard p t e) es ∙ append-assoc (t .answers) _ (answersOf p (step p (t .hist) e) es)
+tell-answers p off t [] = sym (append-nil (t .answers))
+tell-answers p off t (e ∷ es) = tell-answers p off (heard p off t e) es ∙ append-assoc (t .answers) _ (answersOf p off (step p off (t .hist) e) es)
 
-pub tell-reads : (p : Params) (t : Told) (es : List Event) → tell p t es .reads ≡ t .reads ++ readsOf p (t .hist) es
+pub tell-reads : (p : Params) (off : List ℕ) (t : Told) (es : List Event) → tell p off t es .reads ≡ t .reads ++ readsOf p off (t .hist) es
 unfolding tell heard readsOf
-tell-reads p t [] = sym (append-nil (t .reads))
-tell-reads p t (e ∷ es) = tell-reads p (heard p t e) es ∙ append-assoc (t .reads) _ (readsOf p (step p (t .hist) e) es)
+tell-reads p off t [] = sym (append-nil (t .reads))
+tell-reads p off t (e ∷ es) = tell-reads p off (heard p off t e) es ∙ append-assoc (t .reads) _ (readsOf p off (step p off (t .hist) e) es)
 
 pub and-left : (a b : Bool) → (a && b) ≡ true → a ≡ true
 and-left true b h = refl
@@ -58,14 +58,14 @@ and-right false true h = refl
 and-right false false h = h
 
 -- where all is fine in the end, it was so before
-tell-before : (p : Params) (t : Told) (es : List Event) → tell p t es .fine ≡ true → t .fine ≡ true
+tell-before : (p : Params) (off : List ℕ) (t : Told) (es : List Event) → tell p off t es .fine ≡ true → t .fine ≡ true
 unfolding tell heard
-tell-before p t [] h = h
-tell-before p t (e ∷ es) h = and-left (t .fine) (allowed p (t .hist) e) (tell-before p (heard p t e) es h)
+tell-before p off t [] h = h
+tell-before p off t (e ∷ es) h = and-left (t .fine) (allowed p off (t .hist) e) (tell-before p off (heard p off t e) es h)
 
 -- and each event is allowed
-pub tell-allowed : (p : Params) (t : Told) (es : List Event) → tell p t es .fine ≡ true → Allowed p (t .hist) es
+pub tell-allowed : (p : Params) (off : List ℕ) (t : Told) (es : List Event) → tell p off t es .fine ≡ true → Allowed p off (t .hist) es
 unfolding tell heard
-tell-allowed p t [] h = tt
-tell-allowed p t (e ∷ es) h =
-    (and-right (t .fine) (allowed p (t .hist) e) (tell-before p (heard p t e) es h), tell-allowed p (heard p t e) es h)
+tell-allowed p off t [] h = tt
+tell-allowed p off t (e ∷ es) h =
+    (and-right (t .fine) (allowed p off (t .hist) e) (tell-before p off (heard p off t e) es h), tell-allowed p off (heard p off t e) es h)

@@ -20,16 +20,16 @@ seenNumbers (got b t) = 1 ∷ t ∷ b
 seenNumbers failed = 2 ∷ []
 
 -- what the addresses 0 to L - 1 read after a finished restart; nothing of any other event
-unfoldable pub restartReads : Bool → Params → World → List (List ℕ)
-restartReads true p w = map (λ a. seenNumbers (seenAt p w a)) (below (p .L))
-restartReads false p w = []
+unfoldable pub restartReads : Bool → Params → List ℕ → World → List (List ℕ)
+restartReads true p off w = map (λ a. seenNumbers (seenAt p off w a)) (below (p .L))
+restartReads false p off w = []
 
 -- the answers of all events
-unfoldable pub answersOf : Params → Hist → List Event → List (List ℕ)
-answersOf p h [] = []
-answersOf p h (e ∷ es) = answerNumbers (happens p (h .world) e .answer) ∷ answersOf p (step p h e) es
+unfoldable pub answersOf : Params → List ℕ → Hist → List Event → List (List ℕ)
+answersOf p off h [] = []
+answersOf p off h (e ∷ es) = answerNumbers (happens p off (h .world) e .answer) ∷ answersOf p off (step p off h e) es
 
 -- what the finished restarts read, one after the other
-unfoldable pub readsOf : Params → Hist → List Event → List (List ℕ)
-readsOf p h [] = []
-readsOf p h (e ∷ es) = restartReads (finished (happens p (h .world) e .answer)) p (step p h e .world) ++ readsOf p (step p h e) es
+unfoldable pub readsOf : Params → List ℕ → Hist → List Event → List (List ℕ)
+readsOf p off h [] = []
+readsOf p off h (e ∷ es) = restartReads (finished (happens p off (h .world) e .answer)) p off (step p off h e .world) ++ readsOf p off (step p off h e) es

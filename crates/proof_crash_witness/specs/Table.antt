@@ -1,15 +1,26 @@
--- A history of the small box, event by event, with what each answers and what each finished restart reads. Assumes nothing.
+-- A history of a box with dead zones, event by event, with what each answers and what each finished restart reads. Assumes nothing.
 use mathlib.Core.List.{List, [], _∷_, _++_, map}
 use Prim.Native.Nat.{ℕ, zero, suc, _+_, _*_, _%_}
-use lib.ListN.{replicate}
+use lib.ListN.{set, replicate}
 use Rattle.spec.specs.Drives.{Disk, mkDisk}
 use Rattle.spec.specs.Engine.Call.{write, land, close, reclaim, read, fill, restart, rebuild}
-use Rattle.spec.specs.Examples.{small, blockOf}
+use Rattle.spec.specs.declared.Params.{Params}
+use Rattle.spec.specs.Examples.{blockOf}
 use Rattle.spec.specs.History.{Event}
 use Rattle.spec.specs.History.Event.{calls, boots}
 use Rattle.spec.specs.Lists.{flat, zipped}
 use Rattle.spec.specs.Memory.{Memory, mkMemory, mkState, zeroState}
-use Rattle.spec.specs.Params.{driveLen, imageLen, pointersLen, addressesLen, compactLen, inflightLen}
+use Rattle.spec.specs.Params.{mkParams, driveLen, imageLen, pointersLen, addressesLen, compactLen, inflightLen}
+
+-- ---- the box
+
+-- 02, item 4: the small box with five zones a drive
+abbrev pub worn : Params
+worn = mkParams 3 128 5 4 2 8
+
+-- one zone of each drive is offline, another on each: four are good
+unfoldable pub dead : List ℕ
+dead = 1 ∷ 0 ∷ 0 ∷ 0 ∷ 0 ∷ 0 ∷ 0 ∷ 255 ∷ 0 ∷ 0 ∷ 0 ∷ 0 ∷ 0 ∷ 0 ∷ 7 ∷ []
 
 -- ---- lines of the table
 
@@ -95,7 +106,7 @@ unfoldable pub anyMemory : ℕ → Memory
 anyMemory x =
     let b : List ℕ = anyBytes 8 x in
     let n : List ℕ = anyBytes 64 x in
-    mkMemory (mkState x x x x x x b b b b n n n) (anyBytes (addressesLen small) x) (anyBytes (compactLen small) x) (anyBytes (inflightLen small) x)
+    mkMemory (mkState x x x x x x b b b b n n n) (anyBytes (addressesLen worn) x) (anyBytes (compactLen worn) x) (anyBytes (inflightLen worn) x)
 
 -- a restart that names no drive: the store count, and memory
 unfoldable pub boot : ℕ → ℕ → Event
@@ -103,11 +114,11 @@ boot n x = boots 255 n (anyMemory x) [] []
 
 -- a restart that names drive d missing: the drive holds other bytes and pointers
 unfoldable pub bootWithout : ℕ → ℕ → Event
-bootWithout d x = boots d 0 (anyMemory x) (anyBytes (driveLen small) (x + 100)) (anyBytes (4 * small .Z) (x + 200))
+bootWithout d x = boots d 0 (anyMemory x) (anyBytes (driveLen worn) (x + 100)) (anyBytes (4 * worn .Z) (x + 200))
 
--- empty drives: pointers 0, any bytes
+-- empty drives: pointers 0, but of an offline zone any number; any bytes
 unfoldable pub disk : Disk
-disk = mkDisk (anyBytes (imageLen small) 1) (replicate (pointersLen small) 0)
+disk = mkDisk (anyBytes (imageLen worn) 1) (set (replicate (pointersLen worn) 0) 3 200)
 
 -- ---- the history
 
@@ -133,7 +144,7 @@ firstUse =
 -- stripe 0 has one chunk and stripe 1 counts: the restart moves it, is cut inside, and the next one does it
 unfoldable pub moved : List Line
 moved =
-    boot 14 3 gives cut
+    boot 5 3 gives cut
     ∷ boot 100 4 gives restarted 1 reading (13 ∷ 0 ∷ 12 ∷ 0 ∷ 0 ∷ 0 ∷ 0 ∷ 0 ∷ []) stamped (4 ∷ 0 ∷ 3 ∷ 0 ∷ 0 ∷ 0 ∷ 0 ∷ 0 ∷ [])
     ∷ calls (write 1 (blockOf 14) 9) gives sent 5 1 0
     ∷ calls (write 3 (blockOf 15) 9) gives sent 6 1 2
@@ -154,7 +165,7 @@ sealed =
     ∷ calls (land 2 3 9) gives landed 1
     ∷ calls (land 1 2 9) gives landed 0
     ∷ calls (land 0 2 9) gives landed 0
-    ∷ calls (land 2 2 4) gives cut
+    ∷ calls (land 2 2 2) gives cut
     ∷ boot 100 5 gives restarted 0 reading (13 ∷ 14 ∷ 12 ∷ 15 ∷ 16 ∷ 17 ∷ 18 ∷ 0 ∷ []) stamped (4 ∷ 5 ∷ 3 ∷ 6 ∷ 7 ∷ 8 ∷ 9 ∷ 0 ∷ [])
     ∷ calls (restart 255 100) gives restarted 0 reading (13 ∷ 14 ∷ 12 ∷ 15 ∷ 16 ∷ 17 ∷ 18 ∷ 0 ∷ []) stamped (4 ∷ 5 ∷ 3 ∷ 6 ∷ 7 ∷ 8 ∷ 9 ∷ 0 ∷ [])
     ∷ []
@@ -169,7 +180,7 @@ driveLost =
     ∷ bootWithout 0 6 gives restarted 0 reading (20 ∷ 14 ∷ 12 ∷ 15 ∷ 16 ∷ 17 ∷ 18 ∷ 19 ∷ []) stamped (11 ∷ 5 ∷ 3 ∷ 6 ∷ 7 ∷ 8 ∷ 9 ∷ 10 ∷ [])
     ∷ calls (read 7) gives lost 10
     ∷ calls (fill 7 (blockOf 255)) gives filled 10
-    ∷ calls (read 0) gives found 2436 11
+    ∷ calls (read 0) gives found 4588 11
     ∷ calls (fill 0 (blockOf 255)) gives filled 11
     ∷ calls (read 8) gives refused 4
     ∷ calls (write 1 (blockOf 21) 9) gives refused 3
@@ -230,8 +241,8 @@ reclaimed =
     ∷ calls (land 0 1 9) gives landed 0
     ∷ calls (land 1 1 9) gives landed 0
     ∷ calls (land 2 1 9) gives landed 0
-    ∷ calls (reclaim 9) gives wasReset 1
-    ∷ calls (read 4) gives found 3612 7
+    ∷ calls (reclaim 9) gives wasReset 2
+    ∷ calls (read 4) gives found 7252 7
     ∷ []
 
 -- writes that never land; the restart moves the copies, is cut while it resets the old zones, and the last one finishes
@@ -240,7 +251,7 @@ movedAgain =
     calls (write 7 (blockOf 26) 9) gives sent 17 2 1
     ∷ calls (write 4 (blockOf 27) 9) gives sent 18 2 2
     ∷ calls (land 0 2 9) gives landed 0
-    ∷ boot 16 10 gives cut
+    ∷ boot 10 10 gives cut
     ∷ boot 100 11 gives restarted 0 reading (24 ∷ 25 ∷ 22 ∷ 23 ∷ 16 ∷ 17 ∷ 18 ∷ 19 ∷ []) stamped (15 ∷ 16 ∷ 13 ∷ 14 ∷ 7 ∷ 8 ∷ 9 ∷ 10 ∷ [])
     ∷ []
 

@@ -37,7 +37,7 @@ is-finished d n r (result q) nr nc = sym (or-false (eqb (kind r) 12)) ∙ q
 is-finished d n r (cut q s) nr nc = clash q nc
 is-finished d n r (refusal q s) nr nc = clash q nr
 
-module _ (p : Params) (l : Lent) (d : ℕ) (o : lentInOrder p l d ≡ true) (e : emptyDisk p (lentDisk l) ≡ true) where
+module _ (p : Params) (l : Lent) (d : ℕ) (o : lentInOrder p l d ≡ true) (e : emptyDisk p (l .offline) (lentDisk l) ≡ true) where
   -- a store count that is enough
   restart-finishes : (n : ℕ) × (finished (callBytes p l (restart d n) .answer) ≡ true)
   unfolding withCount

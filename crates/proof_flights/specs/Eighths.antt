@@ -18,7 +18,7 @@ use Rattle.spec.specs.Drives.{mkChunk, View, chunkAt, zoneOn}
 use Rattle.spec.specs.Landing.{flightRec}
 use Rattle.spec.specs.Layout.{parityDrive, dataDrive, dataPosition, isData, parityPosition, dataDrives, Rec, recordBytes}
 use Rattle.spec.specs.Lists.{below, consIf, keep, only, isIn}
-use Rattle.spec.specs.Memory.{stripeIn, filledIn, landedIn, isWrite, entryIn, entriesIn, offsetIn, openSegment, isFull, addEntry, slotBlock}
+use Rattle.spec.specs.Memory.{stripeIn, filledIn, landedIn, isWrite, entryIn, entriesIn, offsetIn, isFull, addEntry, slotBlock}
 use Rattle.spec.specs.Params.{dataCount, inflightLen}
 use Rattle.spec.specs.Parity.{encodeBlock, encodeRec}
 use Rattle.spec.specs.Write.{placed}
@@ -38,6 +38,7 @@ use Rattle.law_drives.specs.Tests.{clash, cond-true, cond-false, not-so, eqb-se
 use Rattle.proof_tables.specs.Run.{Lists}
 use Rattle.proof_tables.specs.Slots.{filled-added, add-writes}
 use Rattle.proof_flights.specs.Flown.{pendingOf}
+use Rattle.spec.specs.Segments.{openSegment, openSegments}
 
 -- a block that fills the next position of eighth i, as one that waits
 abbrev pub freshly : Params → State → ℕ → ℕ → ℕ → List ℕ → Pending
@@ -55,7 +56,7 @@ pub record Eighth (p : Params) (v : View) (st : State) (fl : List ℕ) (ws : Lis
   pub few : filledIn st i ≤ dataCount p
   pub data-low : (d : ℕ) → d < p .N → isIn (landedIn st i) d ≡ true → isData p (stripeIn st i) d ≡ true → dataPosition p (stripeIn st i) d < filledIn st i
   pub landed-here : (d : ℕ) → d < p .N → isIn (landedIn st i) d ≡ true
-      → chunkAt v d (zoneOn (openSegment p st) d) (1 + offsetIn st i d) ≡ mkChunk (slotBlock p fl i d) (recordBytes (flightRec p st i d))
+      → chunkAt v d (zoneOn (openSegment p v st) d) (1 + offsetIn st i d) ≡ mkChunk (slotBlock p fl i d) (recordBytes (flightRec p st i d))
   pub full-landed : isIn (landedIn st i) (parityDrive p (stripeIn st i)) ≡ true → isFull p st i ≡ true
   pub full-ready : isFull p st i ≡ true → slotBlock p fl i (parityDrive p (stripeIn st i)) ≡ encodeBlock (p .B) 0 (map (slotBlock p fl i) (dataDrives p (stripeIn st i)))
   pub waits-are : waitsOf ws (stripeIn st i) ≡ map (pendingOf p st fl i) (keep (isWrite st i) (below (filledIn st i)))
@@ -96,7 +97,7 @@ encoded n bs x e = e ∙ sym (encode-block-xor n 0 bs)
 
 module _ (p : Params) (r : Ranged p) (v u : View) (st su : State) (fl fl′ : List ℕ) (ws ws′ : List Pending) (j : ℕ) (s : SameSlot st su j)
     (bs : (d : ℕ) → d < p .N → slotBlock p fl′ j d ≡ slotBlock p fl j d)
-    (cs : (d b : ℕ) → d < p .N → chunkAt u d (zoneOn (openSegment p su) d) b ≡ chunkAt v d (zoneOn (openSegment p st) d) b)
+    (cs : (d b : ℕ) → d < p .N → chunkAt u d (zoneOn (openSegment p u su) d) b ≡ chunkAt v d (zoneOn (openSegment p v st) d) b)
     (kp : waitsOf ws′ (stripeIn st j) ≡ waitsOf ws (stripeIn st j)) where
   seven : dataCount p ≤ 7
   seven = data-count-high p r
@@ -133,7 +134,7 @@ module _ (p : Params) (r : Ranged p) (v u : View) (st su : State) (fl fl′ : Li
         subst (λ (n : ℕ). dataPosition p n d < filledIn su j) (sym (s .number)) (subst (λ (n : ℕ). dataPosition p (stripeIn st j) d < n) (sym (s .filled))
         (o .data-low d hd (landed-was d q) (ap (λ (n : ℕ). isData p n d) (sym (s .number)) ∙ x)));
     landed-here = λ d hd q.
-        ap (λ (n : ℕ). chunkAt u d (zoneOn (openSegment p su) d) (1 + n)) (s .offset d (drive-8 d hd)) ∙ cs d (1 + offsetIn st j d) hd ∙ o .landed-here d hd (landed-was d q)
+        ap (λ (n : ℕ). chunkAt u d (zoneOn (openSegment p u su) d) (1 + n)) (s .offset d (drive-8 d hd)) ∙ cs d (1 + offsetIn st j d) hd ∙ o .landed-here d hd (landed-was d q)
         ∙ ap₂ (λ (x : List ℕ) (y : Rec). mkChunk x (recordBytes y)) (sym (bs d hd)) (sym (rec-same (o .few) d hd));
     full-landed = λ q. full-same ∙ o .full-landed (ap (λ (n : ℕ). isIn (landedIn st j) (parityDrive p n)) (sym (s .number)) ∙ landed-was (parityDrive p (stripeIn su j)) q);
     full-ready = λ q.
@@ -301,8 +302,8 @@ module _ (p : Params) (r : Ranged p) (v : View) (st : State) (ls : Lists st) (fl
       landed-was : (d : ℕ) → isIn (landedIn st′ i) d ≡ true → isIn (landedIn st i) d ≡ true
       landed-was d q = unfold addEntry landedIn in q
 
-      chunk-stays : (d : ℕ) → chunkAt v d (zoneOn (openSegment p st′) d) (1 + offsetIn st′ i d) ≡ chunkAt v d (zoneOn (openSegment p st) d) (1 + offsetIn st i d)
-      chunk-stays d = unfold addEntry openSegment offsetIn in refl
+      chunk-stays : (d : ℕ) → chunkAt v d (zoneOn (openSegment p v st′) d) (1 + offsetIn st′ i d) ≡ chunkAt v d (zoneOn (openSegment p v st) d) (1 + offsetIn st i d)
+      chunk-stays d = unfold addEntry openSegment openSegments offsetIn in refl
 
       full-count : isFull p st′ i ≡ true → suc k ≡ dataCount p
       full-count q = let x = leb-true (dataCount p) (filledIn st′ i) (as! q) in let y = filled-is in omega arith

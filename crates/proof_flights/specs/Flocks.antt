@@ -3,7 +3,7 @@ use mathlib.Core.Path.{_≡_, refl, sym, ap, _∙_, subst}
 use mathlib.Core.List.{List, [], _∷_, _++_, map, append-nil}
 use mathlib.Core.Bool.{Bool, true, false, not, _||_}
 use mathlib.Core.Logic.{_⊎_, inl, inr}
-use Prim.Native.Nat.{ℕ, zero, suc, _+_, _<_}
+use Prim.Native.Nat.{ℕ, _+_, _<_}
 use native.Mathlib.Decide.{decLt, ℕ-discrete}
 use native.Mathlib.Omega.{arith}
 use borrow.Author.Tests.{lt-leb, eq-eqb, ne-eqb, eqb-true}
@@ -14,7 +14,7 @@ use Rattle.spec.specs.declared.Params.{Params}
 use Rattle.spec.specs.declared.State.{State}
 use Rattle.spec.specs.Drives.{View, chunkAt, zoneOn}
 use Rattle.spec.specs.Lists.{upFrom, below, consIf, keep, isIn}
-use Rattle.spec.specs.Memory.{stripeIn, filledIn, landedIn, isWrite, openSegment, isFull, beginStripe, addEntry}
+use Rattle.spec.specs.Memory.{stripeIn, filledIn, landedIn, isWrite, isFull, beginStripe, addEntry}
 use Rattle.spec.specs.Params.{dataCount, inflightLen}
 use Rattle.spec.specs.Write.{placed}
 use Rattle.law_basic.specs.Geometry.{Ranged, data-count-low, data-count-high}
@@ -23,16 +23,17 @@ use Rattle.law_basic.specs.Ranges.{keep-append}
 use Rattle.proof_crash_calls.specs.Cells.{SameSlot, add-same, begin-same}
 use Rattle.proof_crash_calls.specs.Placed.{placed-other}
 use Rattle.spec_demands.specs.Tables.{Pending, noPending}
-use Rattle.law_basic.specs.Segs.{Named}
 use Rattle.law_drives.specs.Members.{keep-nothing, getD-in}
 use Rattle.law_drives.specs.States.{StateOk}
 use Rattle.law_drives.specs.Tests.{clash, or-cases, or-true-right}
-use Rattle.proof_tables.specs.Opened.{open-segment-is}
-use Rattle.proof_tables.specs.Run.{flies, Lists, HealthyState}
+use Rattle.proof_tables.specs.Run.{flies, Lists, HealthyState, OpenZone}
 use Rattle.proof_tables.specs.Slots.{number-begun, filled-begun, landed-begun, begin-writes, filled-added, add-filled-other, number-added, free-is, some-flies}
 use Rattle.proof_flights.specs.Eighths.{freshly, plus, waitsOf, Eighth, lists-long, eighth-same, eighth-add}
 use Rattle.proof_flights.specs.Flown.{pendingOf, Flights}
 use Rattle.spec.specs.declared.Seg.{Seg}
+use Rattle.law_drives.specs.Segs.{data-low}
+use Rattle.spec.specs.Layout.{headerSerial}
+use Rattle.spec.specs.Segments.{headerAt, openSegment, openSegments}
 
 -- the eighths in use, and that each write that waits is in one of them
 pub record Flock (p : Params) (v : View) (st : State) (fl : List ℕ) (ws : List Pending) (busy : ℕ → Bool) : Type 0 where
@@ -40,13 +41,9 @@ pub record Flock (p : Params) (v : View) (st : State) (fl : List ℕ) (ws : List
   pub waiting : (n : ℕ) → n < length ws → (i : ℕ) × (i < 8) × (busy i ≡ true) × (stripeIn st i ≡ getD ws n noPending .stripe)
 
 -- with a stripe in flight a segment is open
-pub open-of : (p : Params) (v : View) (st : State) → 0 < p .N → HealthyState p v st → StateOk p st → (j : ℕ) → j < 8 → flies st j ≡ true
-    → (z : Seg) × (Named p z) × (st .opened ≡ suc (zoneOn z 0))
-open-of p v st h0 h so j hj fj = go (st .opened) refl
-  where
-    go : (n : ℕ) → st .opened ≡ n → (z : Seg) × (Named p z) × (st .opened ≡ suc (zoneOn z 0))
-    go zero e = clash fj (h .shut e j hj)
-    go (suc n) e = let (hz, oz) = open-segment-is p st n h0 so e in (openSegment p st, hz, oz)
+pub open-of : (p : Params) (v : View) (st : State) → HealthyState p v st → (j : ℕ) → j < 8 → flies st j ≡ true
+    → (z : Seg) × (st .opened ≡ headerSerial p (headerAt v 0 z)) × OpenZone p v st (flies st) z
+open-of p v st h j hj fj = h .opens-at (λ e. clash fj (h .shut e j hj))
 
 -- a copy or padding adds none that waits
 pub none-more : (ws : List Pending) (x : Pending) → plus ws 0 x ≡ ws
@@ -57,7 +54,7 @@ pub flock-of : (p : Params) (v : View) (st : State) (fl : List ℕ) (ws : List P
 flock-of p v st fl ws h so f = record {
   each = λ j hj fj. record {
     few = so .slots-ok j hj .filled-ok;
-    data-low = λ d hd q x. let (z, hz, e) = open-of p v st (omega arith) h so j hj fj in h .opens-at z hz e .flight j hj fj .lands d hd q .is-entry x .0;
+    data-low = λ d hd q x. let (z, e, q₀) = open-of p v st h j hj fj in q₀ .flight j hj fj .lands d hd q .is-entry x .0;
     landed-here = λ d hd q. f .landed-is j d hj fj hd q;
     full-landed = λ q. f .parity-full j hj fj q;
     full-ready = λ q. f .parity-ready j hj fj q;
@@ -87,7 +84,7 @@ flock-busy p v st fl ws busy busy′ e o = record {
 -- ---- eighths that are the same in both, chunks too
 
 pub flock-same : (p : Params) → Ranged p → (v u : View) (st su : State) (fl : List ℕ) (ws : List Pending) → ((j : ℕ) → SameSlot st su j)
-    → ((j d b : ℕ) → j < 8 → flies st j ≡ true → d < p .N → chunkAt u d (zoneOn (openSegment p su) d) b ≡ chunkAt v d (zoneOn (openSegment p st) d) b)
+    → ((j d b : ℕ) → j < 8 → flies st j ≡ true → d < p .N → chunkAt u d (zoneOn (openSegment p u su) d) b ≡ chunkAt v d (zoneOn (openSegment p v st) d) b)
     → Flock p v st fl ws (flies st) → Flock p u su fl ws (flies su)
 flock-same p r v u st su fl ws s cs o = record {
   each = λ j hj q. eighth-same p r v u st su fl fl ws ws j (s j) (λ d hd. refl) (λ d b hd. cs j d b hj (was j ∙ q) hd) refl (o .each j hj (was j ∙ q));
@@ -153,8 +150,8 @@ module _ (p : Params) (r : Ranged p) (v : View) (st : State) (ls : Lists st) (fl
   old-eighth : (j : ℕ) → (j ≡ i → ⊥) → Eighth p v st fl ws j → Eighth p v su fl ws j
   old-eighth j n = eighth-same p r v v st su fl fl ws ws j (begin-same st (lists-long st ls) i hi j n) (λ d hd. refl) (λ d b hd. same-open d b) refl
     where
-      same-open : (d b : ℕ) → chunkAt v d (zoneOn (openSegment p su) d) b ≡ chunkAt v d (zoneOn (openSegment p st) d) b
-      same-open d b = unfold beginStripe openSegment in refl
+      same-open : (d b : ℕ) → chunkAt v d (zoneOn (openSegment p v su) d) b ≡ chunkAt v d (zoneOn (openSegment p v st) d) b
+      same-open d b = unfold beginStripe openSegment openSegments in refl
 
   pub flock-begin : flies st i ≡ false → Flock p v (beginStripe st i) fl ws (λ j. flies st j || eqb j i)
   flock-begin nf = record {
@@ -202,8 +199,8 @@ module _ (p : Params) (r : Ranged p) (v : View) (st : State) (ls : Lists st) (fl
       k8 : filledIn st i < 8
       k8 = omega (arith, data-count-high p r)
 
-      same-open : (d b : ℕ) → chunkAt v d (zoneOn (openSegment p (addEntry st i a t w)) d) b ≡ chunkAt v d (zoneOn (openSegment p st) d) b
-      same-open d b = unfold addEntry openSegment in refl
+      same-open : (d b : ℕ) → chunkAt v d (zoneOn (openSegment p v (addEntry st i a t w)) d) b ≡ chunkAt v d (zoneOn (openSegment p v st) d) b
+      same-open d b = unfold addEntry openSegment openSegments in refl
 
       go : (j : ℕ) → j < 8 → busy j ≡ true → Dec (j ≡ i) → Eighth p v (addEntry st i a t w) (placed p st fl i a t w b .inflight) ws′ j
       go j hj q (yes e) = subst (λ (x : ℕ). Eighth p v (addEntry st i a t w) (placed p st fl i a t w b .inflight) ws′ x) (sym e)

@@ -11,9 +11,9 @@ use Rattle.spec.specs.Drives.{mkChunk, View, chunkAt, Disk, zoneOn}
 use Rattle.spec.specs.Landing.{flightRec}
 use Rattle.spec.specs.Layout.{parityDrive, dataDrive, dataDrives, recordBytes}
 use Rattle.spec.specs.Lists.{below, keep, isIn}
-use Rattle.spec.specs.Memory.{Memory, stripeIn, filledIn, landedIn, isWrite, entryIn, offsetIn, openSegment, isFull, slotBlock}
+use Rattle.spec.specs.Memory.{Memory, stripeIn, filledIn, landedIn, isWrite, entryIn, offsetIn, isFull, slotBlock}
 use Rattle.spec.specs.Parity.{encodeBlock}
-use Rattle.spec.specs.Segments.{Segment, segmentOf, counts}
+use Rattle.spec.specs.Segments.{Segment, segmentOf, counts, openSegment}
 use Rattle.spec_demands.specs.Layouts.{Remains, foundCounted, ParityMade}
 use Rattle.spec_demands.specs.Tables.{Pending, noPending}
 use Rattle.proof_tables.specs.Run.{flies}
@@ -30,7 +30,7 @@ pendingOf p st fl i k =
 pub record Flights (p : Params) (v : View) (st : State) (fl : List ℕ) (ws : List Pending) : Type 0 where
   -- a chunk that has landed is what its eighth holds
   pub landed-is : (i d : ℕ) → i < 8 → flies st i ≡ true → d < p .N → isIn (landedIn st i) d ≡ true
-      → chunkAt v d (zoneOn (openSegment p st) d) (1 + offsetIn st i d) ≡ mkChunk (slotBlock p fl i d) (recordBytes (flightRec p st i d))
+      → chunkAt v d (zoneOn (openSegment p v st) d) (1 + offsetIn st i d) ≡ mkChunk (slotBlock p fl i d) (recordBytes (flightRec p st i d))
   -- parity has landed only of a full stripe
   pub parity-full : (i : ℕ) → i < 8 → flies st i ≡ true → isIn (landedIn st i) (parityDrive p (stripeIn st i)) ≡ true → isFull p st i ≡ true
   -- and it is worked out once the stripe is full
@@ -48,8 +48,8 @@ abbrev pub FoundBefore : Params → View → ℕ → List Segment → Type 0
 FoundBefore p v gone old =
     (g : Seg) (s : ℕ) → Remains p v gone g → s < p .S → counts p gone (segmentOf p v gone g) s ≡ true → foundCounted p gone old (segmentOf p v gone g .serial) s ≡ true
 
-pub record Flown (p : Params) (k : Disk) (m : Memory) (ws : List Pending) (old : List Segment) : Type 0 where
-  pub flights : m .state .missing ≡ 0 → Flights p (seen p k) (m .state) (m .inflight) ws
-  pub parities : ParityMade p (seen p k) (m .state .missing) old
+pub record Flown (p : Params) (off : List ℕ) (k : Disk) (m : Memory) (ws : List Pending) (old : List Segment) : Type 0 where
+  pub flights : m .state .missing ≡ 0 → Flights p (seen p off k) (m .state) (m .inflight) ws
+  pub parities : ParityMade p (seen p off k) (m .state .missing) old
   -- with a drive missing nothing was written in this run
-  pub all-found : (m .state .missing ≡ 0 → ⊥) → FoundBefore p (seen p k) (m .state .missing) old
+  pub all-found : (m .state .missing ≡ 0 → ⊥) → FoundBefore p (seen p off k) (m .state .missing) old

@@ -92,35 +92,35 @@ quiet-refused a q = quiet-kind a (kind a) refl (not-it 2 (omega arith)) (not-it 
 -- ---- nothing changed
 
 -- the same drives, memory and writes, told otherwise
-pub flown-as : (p : Params) (k : Disk) (m : Memory) (ws ws′ : List Pending) (old : List Segment) (x : Disk) (y : Memory) → x ≡ k → y ≡ m → ws ≡ ws′ → Flown p k m ws′ old
-    → Flown p x y ws old
-flown-as p k m ws ws′ old x y ex ey ew f =
-    subst (λ (a : Disk). Flown p a y ws old) (sym ex) (subst (λ (a : Memory). Flown p k a ws old) (sym ey) (subst (λ (a : List Pending). Flown p k m a old) (sym ew) f))
+pub flown-as : (p : Params) (off : List ℕ) (k : Disk) (m : Memory) (ws ws′ : List Pending) (old : List Segment) (x : Disk) (y : Memory) → x ≡ k → y ≡ m → ws ≡ ws′
+    → Flown p off k m ws′ old → Flown p off x y ws old
+flown-as p off k m ws ws′ old x y ex ey ew f =
+    subst (λ (a : Disk). Flown p off a y ws old) (sym ex) (subst (λ (a : Memory). Flown p off k a ws old) (sym ey) (subst (λ (a : List Pending). Flown p off k m a old) (sym ew) f))
 
-pub flown-still : (p : Params) (k : Disk) (m : Memory) (ws : List Pending) (old : List Segment) → Flown p k m ws old → (c : Call) (r : After Disk)
-    → r .drives ≡ k → r .memory ≡ m → QuietAnswer (r .answer) → Flown p (r .drives) (r .memory) (pendingAfter c (r .answer) ws) old
-flown-still p k m ws old f c r e g q = flown-as p k m (pendingAfter c (r .answer) ws) ws old (r .drives) (r .memory) e g (pending-quiet c (r .answer) ws q) f
+pub flown-still : (p : Params) (off : List ℕ) (k : Disk) (m : Memory) (ws : List Pending) (old : List Segment) → Flown p off k m ws old → (c : Call) (r : After Disk)
+    → r .drives ≡ k → r .memory ≡ m → QuietAnswer (r .answer) → Flown p off (r .drives) (r .memory) (pendingAfter c (r .answer) ws) old
+flown-still p off k m ws old f c r e g q = flown-as p off k m (pendingAfter c (r .answer) ws) ws old (r .drives) (r .memory) e g (pending-quiet c (r .answer) ws q) f
 
 -- a call as it ends: what is left once all is done, else nothing changed
-pub flown-ended : (p : Params) (k : Disk) (m : Memory) (ws : List Pending) (old : List Segment) → Flown p k m ws old → (c : Call) (cs : List Check) (q : Plan) (r : After Disk)
-    → (firstRefusal cs ≡ none → Flown p (storeAll (storeDisk p) (q .stores) k) (q .memory) (pendingAfter c (q .answer) ws) old)
-    → isCut (r .answer) ≡ false → EndedAs p k m cs q r → Flown p (r .drives) (r .memory) (pendingAfter c (r .answer) ws) old
-flown-ended p k m ws old f c cs q r done nc (ended-refused a e x y z) =
-    flown-still p k m ws old f c r y z (subst (λ (b : Answer). QuietAnswer b) (sym x) (quiet-refused a (refusal-kind cs a e)))
-flown-ended p k m ws old f c cs q r done nc (ended-done h x y z) =
-    flown-as p _ _ _ _ old (r .drives) (r .memory) y z (ap (λ (b : Answer). pendingAfter c b ws) x) (done h)
-flown-ended p k m ws old f c cs q r done nc (ended-cut h x) = clash (ap isCut x ∙ cut-cut) nc
+pub flown-ended : (p : Params) (off : List ℕ) (k : Disk) (m : Memory) (ws : List Pending) (old : List Segment) → Flown p off k m ws old → (c : Call) (cs : List Check) (q : Plan) (r : After Disk)
+    → (firstRefusal cs ≡ none → Flown p off (storeAll (storeDisk p) (q .stores) k) (q .memory) (pendingAfter c (q .answer) ws) old)
+    → isCut (r .answer) ≡ false → EndedAs p k m cs q r → Flown p off (r .drives) (r .memory) (pendingAfter c (r .answer) ws) old
+flown-ended p off k m ws old f c cs q r done nc (ended-refused a e x y z) =
+    flown-still p off k m ws old f c r y z (subst (λ (b : Answer). QuietAnswer b) (sym x) (quiet-refused a (refusal-kind cs a e)))
+flown-ended p off k m ws old f c cs q r done nc (ended-done h x y z) =
+    flown-as p off _ _ _ _ old (r .drives) (r .memory) y z (ap (λ (b : Answer). pendingAfter c b ws) x) (done h)
+flown-ended p off k m ws old f c cs q r done nc (ended-cut h x) = clash (ap isCut x ∙ cut-cut) nc
 
 -- ---- the reads
 
-module _ (p : Params) (k : Disk) (m : Memory) (u : Run p k m) (ws : List Pending) (old : List Segment) (f : Flown p k m ws old) where
+module _ (p : Params) (off : List ℕ) (k : Disk) (m : Memory) (u : Run p off k m) (ws : List Pending) (old : List Segment) (f : Flown p off k m ws old) where
   abbrev looked : ℕ → Lookup
-  looked a = lookup p (seen p k) (m .state .missing) (m .compact) (m .addresses) a
+  looked a = lookup p (seen p off k) (m .state .missing) (m .compact) (m .addresses) a
 
   -- no store, and memory as it was
-  pub idle-flown : (c : Call) (a : Answer) → QuietAnswer a → Flown p (storeAll (storeDisk p) [] k) m (pendingAfter c a ws) old
+  pub idle-flown : (c : Call) (a : Answer) → QuietAnswer a → Flown p off (storeAll (storeDisk p) [] k) m (pendingAfter c a ws) old
   unfolding storeAll
-  idle-flown c a q = flown-as p k m (pendingAfter c a ws) ws old k m refl refl (pending-quiet c a ws q) f
+  idle-flown c a q = flown-as p off k m (pendingAfter c a ws) ws old k m refl refl (pending-quiet c a ws q) f
 
   quiet-read : (t : ℕ) (x : Found) → QuietAnswer (readAnswer p t x)
   unfolding readAnswer kind
@@ -132,19 +132,19 @@ module _ (p : Params) (k : Disk) (m : Memory) (u : Run p k m) (ws : List Pending
   unfolding kind
   quiet-filled t = quiet-kind (Filled (aStamp t)) 11 refl refl refl refl refl
 
-  pub flown-read : (a : ℕ) → isCut (callDisk p k m (read a) .answer) ≡ false
-      → Flown p (callDisk p k m (read a) .drives) (callDisk p k m (read a) .memory) (pendingAfter (read a) (callDisk p k m (read a) .answer) ws) old
+  pub flown-read : (a : ℕ) → isCut (callDisk p off k m (read a) .answer) ≡ false
+      → Flown p off (callDisk p off k m (read a) .drives) (callDisk p off k m (read a) .memory) (pendingAfter (read a) (callDisk p off k m (read a) .answer) ws) old
   unfolding callDisk callOn verdict storeCount lentBlock readVerdict readPlan
   flown-read a nc =
       let l = looked a in
-      let cs = readChecks p (lentOk p k m) (seen p k) m a in
-      flown-ended p k m ws old f (read a) cs (readPlan p (seen p k) m a) _ (λ h. idle-flown (read a) (readAnswer p (l .stamp) (l .found)) (quiet-read (l .stamp) (l .found))) nc
-      (outcome-ends p k m cs (readPlan p (seen p k) m a) 0 [])
+      let cs = readChecks p (lentOk p off k m) (seen p off k) m a in
+      flown-ended p off k m ws old f (read a) cs (readPlan p (seen p off k) m a) _ (λ h. idle-flown (read a) (readAnswer p (l .stamp) (l .found)) (quiet-read (l .stamp) (l .found))) nc
+      (outcome-ends p k m cs (readPlan p (seen p off k) m a) 0 [])
 
-  pub flown-fill : (a : ℕ) (b : List ℕ) → isCut (callDisk p k m (fill a b) .answer) ≡ false
-      → Flown p (callDisk p k m (fill a b) .drives) (callDisk p k m (fill a b) .memory) (pendingAfter (fill a b) (callDisk p k m (fill a b) .answer) ws) old
+  pub flown-fill : (a : ℕ) (b : List ℕ) → isCut (callDisk p off k m (fill a b) .answer) ≡ false
+      → Flown p off (callDisk p off k m (fill a b) .drives) (callDisk p off k m (fill a b) .memory) (pendingAfter (fill a b) (callDisk p off k m (fill a b) .answer) ws) old
   unfolding callDisk callOn verdict storeCount lentBlock fillVerdict fillPlan
   flown-fill a b nc =
-      let cs = readChecks p (lentOk p k m && eqb (length b) (p .B)) (seen p k) m a in
-      flown-ended p k m ws old f (fill a b) cs (fillPlan p (seen p k) m a) _ (λ h. idle-flown (fill a b) (Filled (aStamp (looked a .stamp))) (quiet-filled (looked a .stamp))) nc
-      (outcome-ends p k m cs (fillPlan p (seen p k) m a) 0 b)
+      let cs = readChecks p (lentOk p off k m && eqb (length b) (p .B)) (seen p off k) m a in
+      flown-ended p off k m ws old f (fill a b) cs (fillPlan p (seen p off k) m a) _ (λ h. idle-flown (fill a b) (Filled (aStamp (looked a .stamp))) (quiet-filled (looked a .stamp))) nc
+      (outcome-ends p k m cs (fillPlan p (seen p off k) m a) 0 b)

@@ -21,14 +21,13 @@ use Rattle.spec.specs.Engine.Call.{land}
 use Rattle.spec.specs.Engine.{storeCount, lentBlock, verdict, lentOk, callOn, callDisk}
 use Rattle.spec.specs.History.{endsRun, mkWorld}
 use Rattle.spec.specs.Landing.{slotOf, waiting, completes, seals, flightRec, landChecks, sealStores, writesIn, landStore, landPlan, landVerdict}
-use Rattle.spec.specs.Layout.{recordBytes, dataDrive, Rec}
+use Rattle.spec.specs.Layout.{recordBytes, dataDrive, Rec, headerSerial}
 use Rattle.spec.specs.Lists.{below, keep, tally}
-use Rattle.spec.specs.Memory.{Memory, filledIn, isWrite, openSegment, isFree, inFlight, setClosed, markLanded, freeStripe, slotBlock, stripeIn, entryIn}
-use Rattle.spec.specs.Segments.{Segment, segmentOf, counts}
+use Rattle.spec.specs.Memory.{Memory, filledIn, isWrite, isFree, inFlight, setClosed, markLanded, freeStripe, slotBlock, stripeIn, entryIn}
+use Rattle.spec.specs.Segments.{Segment, segmentOf, counts, headerAt, openSegment}
 use Rattle.law_basic.specs.Geometry.{Ranged, ranged, position-drive, drive-is-data}
 use Rattle.law_basic.specs.Ranges.{Test, test, and-left, and-right}
 use Rattle.law_basic.specs.Ranges.Test.{yes!, no! }
-use Rattle.law_basic.specs.Segs.{Named, zone-on-lt}
 use Rattle.law_basic.specs.Stores.{storeAll-append}
 use Rattle.law_code.specs.Chunks.{flight-data, flight-stripe}
 use Rattle.law_views.specs.Views.{seen}
@@ -43,7 +42,7 @@ use Rattle.law_drives.specs.Slots.{block-long! }
 use Rattle.law_drives.specs.States.{StateOk, state-of}
 use Rattle.law_drives.specs.Tests.{clash, not-so, cond-true, cond-false}
 use Rattle.law_drives.specs.Zones.{Shaped, Within, Roomy, shaped-after}
-use Rattle.proof_tables.specs.Chunks.{chunk-roomy, chunk-tidy, chunk-open, chunk-healthy, all-behind, last-flight, open-after, uncounted-yet, counts-now}
+use Rattle.proof_tables.specs.Chunks.{chunk-roomy, chunk-tidy, chunk-open, chunk-healthy, all-behind, last-flight, open-after, uncounted-yet, counts-now, chunk-there}
 use Rattle.proof_tables.specs.Going.{buffer-long}
 use Rattle.proof_tables.specs.Landings.{LandWaits, land-waits}
 use Rattle.proof_tables.specs.Outcomes.{EndedAs, outcome-ends}
@@ -56,6 +55,8 @@ use Rattle.proof_flights.specs.Written.{well-of, run-seen-after, flown-p
 use Rattle.proof_flights.specs.LandedChunk.{flies1, stripe1, chunk-flights, chunk-parities}
 use Rattle.proof_flights.specs.LandedFree.{elsewhere, elsewhere-all, free-flights, seal-parities, seal-counts}
 use Rattle.spec.specs.declared.Seg.{Seg}
+use Rattle.law_drives.specs.Settled.{its-zone}
+use Rattle.law_drives.specs.Tidy.{There}
 
 -- ---- the writes that wait after an answer
 
@@ -63,9 +64,9 @@ pub after-landed : (d s n x : ℕ) (ws : List Pending) → pendingAfter (land d 
 unfolding pendingAfter endsRun isCut finished kind stillPending pendingBy values elsewhere
 after-landed d s n x ws = append-nil (cond (ltb 0 x) (keep (λ (w : Pending). not (eqb (w .stripe) s)) ws) ws)
 
-module _ (p : Params) (k : Disk) (m : Memory) (u : Run p k m) (d s : ℕ) where
+module _ (p : Params) (off : List ℕ) (k : Disk) (m : Memory) (u : Run p off k m) (d s : ℕ) where
   abbrev v : View
-  v = seen p k
+  v = seen p off k
 
   abbrev st : State
   st = m .state
@@ -77,25 +78,25 @@ module _ (p : Params) (k : Disk) (m : Memory) (u : Run p k m) (d s : ℕ) where
   i = slotOf st s
 
   abbrev z : Seg
-  z = openSegment p st
+  z = openSegment p v st
 
   abbrev plan : Plan
   plan = landPlan p v m d s
 
   -- how the call ends
-  land-ends : (n : ℕ) → EndedAs p k m (landChecks p (lentOk p k m) v m d s) plan (callDisk p k m (land d s n))
+  land-ends : (n : ℕ) → EndedAs p k m (landChecks p (lentOk p off k m) v m d s) plan (callDisk p off k m (land d s n))
   unfolding callDisk callOn verdict storeCount lentBlock landVerdict
-  land-ends n = outcome-ends p k m (landChecks p (lentOk p k m) v m d s) plan n []
+  land-ends n = outcome-ends p k m (landChecks p (lentOk p off k m) v m d s) plan n []
 
-  passed-none : firstRefusal (landChecks p (lentOk p k m) v m d s) ≡ none → st .missing ≡ 0
-  passed-none c = land-passed p (lentOk p k m) v m d s c .healthy
+  passed-none : firstRefusal (landChecks p (lentOk p off k m) v m d s) ≡ none → st .missing ≡ 0
+  passed-none c = land-passed p (lentOk p off k m) v m d s c .healthy
 
-  passed-waits : firstRefusal (landChecks p (lentOk p k m) v m d s) ≡ none → waiting p st d s ≡ true
-  passed-waits c = land-passed p (lentOk p k m) v m d s c .waits
+  passed-waits : firstRefusal (landChecks p (lentOk p off k m) v m d s) ≡ none → waiting p st d s ≡ true
+  passed-waits c = land-passed p (lentOk p off k m) v m d s c .waits
 
   module _ (none : st .missing ≡ 0) (wt : waiting p st d s ≡ true) where
-    we : Well p k m
-    we = well-of p k m u none
+    we : Well p off k m
+    we = well-of p off k m u none
 
     rg : Ranged p
     rg = ranged p (u .base .ranged)
@@ -110,13 +111,13 @@ module _ (p : Params) (k : Disk) (m : Memory) (u : Run p k m) (d s : ℕ) where
     he = we .healthy
 
     w : LandWaits p v st d s
-    w = land-waits p v st d s he so wt
+    w = land-waits p rg v st d s he so wt
 
     abbrev b : List ℕ
     b = slotBlock p fl i d
 
     lb : length b ≡ p .B
-    lb = block-long! p rg fl (buffer-long p k m u we) i (w .slot-ok) d (w .drive-ok)
+    lb = block-long! p rg fl (buffer-long p off k m u we) i (w .slot-ok) d (w .drive-ok)
 
     abbrev hd : d < p .N
     hd = w .drive-ok
@@ -127,7 +128,7 @@ module _ (p : Params) (k : Disk) (m : Memory) (u : Run p k m) (d s : ℕ) where
     abbrev fi : flies st i ≡ true
     fi = w .slot-flies
 
-    abbrev oz : st .opened ≡ suc (zoneOn z 0)
+    abbrev oz : st .opened ≡ headerSerial p (headerAt v 0 z)
     oz = w .slot-opened
 
     abbrev store : Store
@@ -145,8 +146,11 @@ module _ (p : Params) (k : Disk) (m : Memory) (u : Run p k m) (d s : ℕ) where
     abbrev v2 : View
     v2 = storeAll storeView (sealStores p v1 z) v1
 
-    hz : Named p z
-    hz = w .slot-named
+    hz : There p v z
+    hz = w .slot-there
+
+    hz1 : There p v1 z
+    hz1 = chunk-there p rg v sh st he so z hz oz d i hd hi fi (w .slot-ready) b lb
 
     -- ---- the view after it
 
@@ -154,7 +158,7 @@ module _ (p : Params) (k : Disk) (m : Memory) (u : Run p k m) (d s : ℕ) where
     roomy1 = chunk-roomy p rg v sh st he so z hz oz d i hd hi fi (w .slot-ready) b lb
 
     within1 : (x : Store) → In x (store ∷ []) → Within p x
-    within1 x (inl e) = subst (λ (y : Store). Within p y) (sym e) (hd, zone-on-lt p z d hz)
+    within1 x (inl e) = subst (λ (y : Store). Within p y) (sym e) (hd, its-zone p rg v z hz d hd .zone-low)
     within1 x (inr n) = absurd n
 
     one-store : storeAll storeView (store ∷ []) v ≡ v1
@@ -166,8 +170,8 @@ module _ (p : Params) (k : Disk) (m : Memory) (u : Run p k m) (d s : ℕ) where
     stores-sealed : seals p st i d ≡ true → plan .stores ≡ (store ∷ []) ++ sealStores p v1 z
     stores-sealed q = unfold landPlan landStore in rw q
 
-    pub view-open : seals p st i d ≡ false → seen p (storeAll (storeDisk p) (plan .stores) k) ≡ v1
-    view-open q = ap (λ (ss : List Store). seen p (storeAll (storeDisk p) ss k)) (stores-open q) ∙ run-seen-after p k m u (store ∷ []) roomy1 within1 ∙ one-store
+    pub view-open : seals p st i d ≡ false → seen p off (storeAll (storeDisk p) (plan .stores) k) ≡ v1
+    view-open q = ap (λ (ss : List Store). seen p off (storeAll (storeDisk p) ss k)) (stores-open q) ∙ run-seen-after p off k m u (store ∷ []) roomy1 within1 ∙ one-store
 
     sh1 : Shaped p v1
     sh1 = subst (λ (x : View). Shaped p x) one-store (shaped-after p v (store ∷ []) sh roomy1)
@@ -183,12 +187,12 @@ module _ (p : Params) (k : Disk) (m : Memory) (u : Run p k m) (d s : ℕ) where
     pointers-full : seals p st i d ≡ true → (e : ℕ) → e < p .N → pointerAt v1 e (zoneOn z e) ≡ 1 + p .S
     pointers-full sl = let (q, (nx, one)) = seal-parts sl in all-behind p rg v sh st he so z hz oz d i hd hi fi (w .slot-ready) b lb q nx one
 
-    pub view-sealed : seals p st i d ≡ true → seen p (storeAll (storeDisk p) (plan .stores) k) ≡ v2
+    pub view-sealed : seals p st i d ≡ true → seen p off (storeAll (storeDisk p) (plan .stores) k) ≡ v2
     view-sealed q =
-        ap (λ (ss : List Store). seen p (storeAll (storeDisk p) ss k)) (stores-sealed q)
-        ∙ run-seen-after p k m u ((store ∷ []) ++ sealStores p v1 z)
-        (roomy-append p v (store ∷ []) (sealStores p v1 z) (sh .sized) roomy1 (subst (λ (x : View). Roomy p x (sealStores p v1 z)) (sym one-store) (seal-roomy p rg v1 sh1 z hz (pointers-full q))))
-        (within-append p (store ∷ []) (sealStores p v1 z) within1 (seal-within p rg v1 sh1 z hz (pointers-full q)))
+        ap (λ (ss : List Store). seen p off (storeAll (storeDisk p) ss k)) (stores-sealed q)
+        ∙ run-seen-after p off k m u ((store ∷ []) ++ sealStores p v1 z)
+        (roomy-append p v (store ∷ []) (sealStores p v1 z) (sh .sized) roomy1 (subst (λ (x : View). Roomy p x (sealStores p v1 z)) (sym one-store) (seal-roomy p rg v1 sh1 z hz1 (pointers-full q))))
+        (within-append p (store ∷ []) (sealStores p v1 z) within1 (seal-within p rg v1 sh1 z hz1 (pointers-full q)))
         ∙ storeAll-append storeView (store ∷ []) (sealStores p v1 z) v ∙ ap (storeAll storeView (sealStores p v1 z)) one-store
 
     -- ---- what is left
@@ -208,12 +212,12 @@ module _ (p : Params) (k : Disk) (m : Memory) (u : Run p k m) (d s : ℕ) where
     answer-is : plan .answer ≡ Landed (cond (completes p st i d) (writesIn st i) 0)
     answer-is = unfold landPlan in refl
 
-    module _ (ws : List Pending) (old : List Segment) (f : Flown p k m ws old) where
+    module _ (ws : List Pending) (old : List Segment) (f : Flown p off k m ws old) where
       F : Flights p v st fl ws
       F = f .flights none
 
       pm : ParityMade p v 0 old
-      pm = flown-parity-made p k m ws old f none
+      pm = flown-parity-made p off k m ws old f none
 
       pm1 : ParityMade p v1 0 old
       pm1 = λ g t. chunk-parities p rg v sh st he so hz oz d i hd hi fi (w .slot-ready) fl lb ws F old pm g t
@@ -253,7 +257,7 @@ module _ (p : Params) (k : Disk) (m : Memory) (u : Run p k m) (d s : ℕ) where
       abbrev left : List Pending
       left = cond (completes p st i d) (elsewhere s ws) ws
 
-      flown-plan : Flown p (storeAll (storeDisk p) (plan .stores) k) (plan .memory) (cond (completes p st i d) (elsewhere s ws) ws) old
+      flown-plan : Flown p off (storeAll (storeDisk p) (plan .stores) k) (plan .memory) (cond (completes p st i d) (elsewhere s ws) ws) old
       flown-plan = go (test (completes p st i d)) (test (seals p st i d))
         where
           kept1 : st1 .missing ≡ st .missing
@@ -268,18 +272,18 @@ module _ (p : Params) (k : Disk) (m : Memory) (u : Run p k m) (d s : ℕ) where
           not-sealed : completes p st i d ≡ false → seals p st i d ≡ false
           not-sealed q = not-so (seals p st i d) (λ sl. clash (seal-parts sl .0) q)
 
-          make : (x : View) (su : State) (qs : List Pending) → seen p (storeAll (storeDisk p) (plan .stores) k) ≡ x → plan .memory .state ≡ su → su .missing ≡ st .missing
-              → Flights p x su fl qs → ParityMade p x 0 old → left ≡ qs → Flown p (storeAll (storeDisk p) (plan .stores) k) (plan .memory) left old
+          make : (x : View) (su : State) (qs : List Pending) → seen p off (storeAll (storeDisk p) (plan .stores) k) ≡ x → plan .memory .state ≡ su → su .missing ≡ st .missing
+              → Flights p x su fl qs → ParityMade p x 0 old → left ≡ qs → Flown p off (storeAll (storeDisk p) (plan .stores) k) (plan .memory) left old
           make x su qs ev es mi fq pq eq =
-              flown-of p (storeAll (storeDisk p) (plan .stores) k) (plan .memory) left old x ev (missing-is su es mi)
+              flown-of p off (storeAll (storeDisk p) (plan .stores) k) (plan .memory) left old x ev (missing-is su es mi)
               (subst (λ (y : List Pending). Flights p x (plan .memory .state) (plan .memory .inflight) y) (sym eq)
               (subst (λ (y : List ℕ). Flights p x (plan .memory .state) y qs) (sym inflight-is) (subst (λ (y : State). Flights p x y fl qs) (sym es) fq))) pq
 
-          go : Test (completes p st i d) → Test (seals p st i d) → Flown p (storeAll (storeDisk p) (plan .stores) k) (plan .memory) left old
+          go : Test (completes p st i d) → Test (seals p st i d) → Flown p off (storeAll (storeDisk p) (plan .stores) k) (plan .memory) left old
           go (no! q) t = make v1 st1 ws (view-open (not-sealed q)) (state-open q) kept1 F1 pm1 (cond-false (completes p st i d) (elsewhere s ws) ws q)
           go (yes! q) (no! ns) = make v1 st2 (elsewhere s ws) (view-open ns) (state-freed q ns) kept2 F2 pm1 (cond-true (completes p st i d) (elsewhere s ws) ws q)
           go (yes! q) (yes! sl) = make v2 (setClosed st2) (elsewhere s ws) (view-sealed sl) (state-closed q sl) kept3 (F3 sl)
-              (seal-parities p rg v1 sh1 z hz (pointers-full sl) (st .serial .0) (chunk-tidy p rg v sh st he so z hz oz d i hd hi fi (w .slot-ready) b lb) old pm1)
+              (seal-parities p rg v1 sh1 z hz1 (pointers-full sl) (st .serial .0) (chunk-tidy p rg v sh st he so z hz oz d i hd hi fi (w .slot-ready) b lb) old pm1)
               (cond-true (completes p st i d) (elsewhere s ws) ws q)
 
       -- the writes of the stripe
@@ -314,7 +318,7 @@ module _ (p : Params) (k : Disk) (m : Memory) (u : Run p k m) (d s : ℕ) where
       -- ---- what the answer says
 
       abbrev after : View
-      after = seen p (storeAll (storeDisk p) (plan .stores) k)
+      after = seen p off (storeAll (storeDisk p) (plan .stores) k)
 
       -- sealed just where it seals
       sealed-is : sealedIn p after 0 z ≡ seals p st i d
@@ -322,7 +326,7 @@ module _ (p : Params) (k : Disk) (m : Memory) (u : Run p k m) (d s : ℕ) where
         where
           go : Test (seals p st i d) → sealedIn p after 0 z ≡ seals p st i d
           go (no! q) = ap (λ (x : View). sealedIn p x 0 z) (view-open q) ∙ open-after p rg v sh st he so z hz oz d i hd hi fi (w .slot-ready) b lb ∙ sym q
-          go (yes! q) = ap (λ (x : View). sealedIn p x 0 z) (view-sealed q) ∙ seal-sealed p rg v1 sh1 z hz (pointers-full q) ∙ sym q
+          go (yes! q) = ap (λ (x : View). sealedIn p x 0 z) (view-sealed q) ∙ seal-sealed p rg v1 sh1 z hz1 (pointers-full q) ∙ sym q
 
       view-after : after ≡ storeAll storeView (store ∷ cond (sealedIn p after 0 z) (sealStores p v1 z) []) v
       view-after = go (test (seals p st i d))
@@ -351,7 +355,7 @@ module _ (p : Params) (k : Disk) (m : Memory) (u : Run p k m) (d s : ℕ) where
           go (no! q) t = at-view v1 (view-open (not-so (seals p st i d) (λ sl. clash (seal-parts sl .0) q)))
               ∙ not-so (counts p 0 (segmentOf p v1 0 z) (stripeIn st i)) (uncounted-yet p rg v sh st he so z hz oz d i hd hi fi (w .slot-ready) b lb q) ∙ sym q
           go (yes! q) (no! ns) = at-view v1 (view-open ns) ∙ now q ∙ sym q
-          go (yes! q) (yes! sl) = at-view v2 (view-sealed sl) ∙ seal-counts p rg v1 sh1 z hz (pointers-full sl) (stripeIn st i) (now q) ∙ sym q
+          go (yes! q) (yes! sl) = at-view v2 (view-sealed sl) ∙ seal-counts p rg v1 sh1 z hz1 (pointers-full sl) (stripeIn st i) (now q) ∙ sym q
 
       -- the number acknowledged
       acknowledged : (x : ℕ) → plan .answer ≡ Landed x → x ≡ cond (counts p 0 (segmentOf p after 0 z) s) (pendingIn ws s) 0
@@ -401,31 +405,32 @@ module _ (p : Params) (k : Disk) (m : Memory) (u : Run p k m) (d s : ℕ) where
 -- ---- the flights after the call
 
 -- what holds of the flights holds after an uncut landing
-pub flown-land : (p : Params) (k : Disk) (m : Memory) (ws : List Pending) (old : List Segment) (d s n : ℕ) → Run p k m → Flown p k m ws old
-    → isCut (callDisk p k m (land d s n) .answer) ≡ false
-    → Flown p (callDisk p k m (land d s n) .drives) (callDisk p k m (land d s n) .memory) (pendingAfter (land d s n) (callDisk p k m (land d s n) .answer) ws) old
-flown-land p k m ws old d s n u f nc =
-    let v = seen p k in
+pub flown-land : (p : Params) (off : List ℕ) (k : Disk) (m : Memory) (ws : List Pending) (old : List Segment) (d s n : ℕ) → Run p off k m → Flown p off k m ws old
+    → isCut (callDisk p off k m (land d s n) .answer) ≡ false
+    → Flown p off (callDisk p off k m (land d s n) .drives) (callDisk p off k m (land d s n) .memory) (pendingAfter (land d s n) (callDisk p off k m (land d s n) .answer) ws) old
+flown-land p off k m ws old d s n u f nc =
+    let v = seen p off k in
     let q = landPlan p v m d s in
-    flown-ended p k m ws old f (land d s n) (landChecks p (lentOk p k m) v m d s) q (callDisk p k m (land d s n)) (λ c.
-    let z0 = passed-none p k m u d s c in
-    let wt = passed-waits p k m u d s c in
-    subst (λ (l : List Pending). Flown p (storeAll (storeDisk p) (q .stores) k) (q .memory) l old) (sym (pending-plan p k m u d s z0 wt ws old f n)) (flown-plan p k m u d s z0 wt ws old f))
-    nc (land-ends p k m u d s n)
+    flown-ended p off k m ws old f (land d s n) (landChecks p (lentOk p off k m) v m d s) q (callDisk p off k m (land d s n)) (λ c.
+    let z0 = passed-none p off k m u d s c in
+    let wt = passed-waits p off k m u d s c in
+    subst (λ (l : List Pending). Flown p off (storeAll (storeDisk p) (q .stores) k) (q .memory) l old)
+    (sym (pending-plan p off k m u d s z0 wt ws old f n)) (flown-plan p off k m u d s z0 wt ws old f))
+    nc (land-ends p off k m u d s n)
 
 -- ---- what its answer says
 
 -- 01, Landing: one chunk more with what was sent, acknowledged just where the stripe now counts
-pub lands-say : (p : Params) (k : Disk) (m : Memory) (ws : List Pending) (old : List Segment) (d s n : ℕ) → Run p k m → Flown p k m ws old
-    → (x : ℕ) → callDisk p k m (land d s n) .answer ≡ Landed x → Lands onValues p (mkWorld k m) ws d s (callWorld p (mkWorld k m) (land d s n)) x
-lands-say p k m ws old d s n u f x q = go (land-ends p k m u d s n)
+pub lands-say : (p : Params) (off : List ℕ) (k : Disk) (m : Memory) (ws : List Pending) (old : List Segment) (d s n : ℕ) → Run p off k m → Flown p off k m ws old
+    → (x : ℕ) → callDisk p off k m (land d s n) .answer ≡ Landed x → Lands (onValues off) p (mkWorld k m) ws d s (callWorld off p (mkWorld k m) (land d s n)) x
+lands-say p off k m ws old d s n u f x q = go (land-ends p off k m u d s n)
   where
     kind-four : kind (Landed x) ≡ 4
     kind-four = unfold kind in refl
 
-    go : EndedAs p k m (landChecks p (lentOk p k m) (seen p k) m d s) (landPlan p (seen p k) m d s) (callDisk p k m (land d s n))
-        → Lands onValues p (mkWorld k m) ws d s (callWorld p (mkWorld k m) (land d s n)) x
-    go (ended-refused a e ea ex ey) = absurd (refused-not (refusal-kind (landChecks p (lentOk p k m) (seen p k) m d s) a e) (ap kind (sym ea ∙ q) ∙ kind-four))
+    go : EndedAs p k m (landChecks p (lentOk p off k m) (seen p off k) m d s) (landPlan p (seen p off k) m d s) (callDisk p off k m (land d s n))
+        → Lands (onValues off) p (mkWorld k m) ws d s (callWorld off p (mkWorld k m) (land d s n)) x
+    go (ended-refused a e ea ex ey) = absurd (refused-not (refusal-kind (landChecks p (lentOk p off k m) (seen p off k) m d s) a e) (ap kind (sym ea ∙ q) ∙ kind-four))
       where
         refused-not : isRefused a ≡ true → kind a ≡ 4 → ⊥
         refused-not r h = unfold isRefused in (let l = leb-true (kind a) 1 r in let bad : ⊥ = omega arith in bad)
@@ -434,35 +439,38 @@ lands-say p k m ws old d s n u f x q = go (land-ends p k m u d s n)
         cut-not : kind Cut ≡ 4 → ⊥
         cut-not h = unfold kind in (let h2 : _≡_ {A = ℕ} 2 4 = h in let bad : ⊥ = omega arith in bad)
     go (ended-done c ea ex ey) =
-        let z0 = passed-none p k m u d s c in
-        let wt = passed-waits p k m u d s c in
+        let z0 = passed-none p off k m u d s c in
+        let wt = passed-waits p off k m u d s c in
         record {
           block = slotBlock p (m .inflight) (slotOf (m .state) s) d;
           rec = flightRec p (m .state) (slotOf (m .state) s) d;
-          stored = stored! ex (view-after p k m u d s z0 wt ws old f);
-          numbered = flight-stripe p (m .state) (slotOf (m .state) s) d ∙ w p k m u d s z0 wt .slot-stripe;
-          sent = λ j hj es ed. was-sent p k m u d s z0 wt ws old f (getD ws j noPending) (in-getD ws j noPending hj) es ed;
-          acknowledges = acknowledges! ex (acknowledged p k m u d s z0 wt ws old f x (sym ea ∙ q));
+          stored = stored! ex (view-after p off k m u d s z0 wt ws old f);
+          numbered = flight-stripe p (m .state) (slotOf (m .state) s) d ∙ w p off k m u d s z0 wt .slot-stripe;
+          sent = λ j hj es ed. was-sent p off k m u d s z0 wt ws old f (getD ws j noPending) (in-getD ws j noPending hj) es ed;
+          acknowledges = acknowledges! ex (acknowledged p off k m u d s z0 wt ws old f x (sym ea ∙ q));
         }
       where
+        chunk : Store
+        chunk = put d (zoneOn (openSegment p (seen p off k) (m .state)) d) (slotBlock p (m .inflight) (slotOf (m .state) s) d) (recordBytes (flightRec p (m .state) (slotOf (m .state) s) d))
+
         v1 : View
-        v1 = storeView (put d (zoneOn (openSegment p (m .state)) d) (slotBlock p (m .inflight) (slotOf (m .state) s) d) (recordBytes (flightRec p (m .state) (slotOf (m .state) s) d))) (seen p k)
+        v1 = storeView chunk (seen p off k)
 
         Stored : View → Type 0
         Stored y =
-            y ≡ storeAll storeView (put d (zoneOn (openSegment p (m .state)) d) (slotBlock p (m .inflight) (slotOf (m .state) s) d) (recordBytes (flightRec p (m .state) (slotOf (m .state) s) d))
-            ∷ cond (sealedIn p y 0 (openSegment p (m .state))) (sealStores p v1 (openSegment p (m .state))) []) (seen p k)
+            y ≡ storeAll storeView (chunk
+            ∷ cond (sealedIn p y 0 (openSegment p (seen p off k) (m .state))) (sealStores p v1 (openSegment p (seen p off k) (m .state))) []) (seen p off k)
 
-        stored! : callDisk p k m (land d s n) .drives ≡ storeAll (storeDisk p) (landPlan p (seen p k) m d s .stores) k
-            → Stored (seen p (storeAll (storeDisk p) (landPlan p (seen p k) m d s .stores) k))
-            → viewIn onValues p (callWorld p (mkWorld k m) (land d s n) .world)
-            ≡ storeAll storeView (landingStores onValues p (mkWorld k m) (put d (zoneOn (openIn onValues p (mkWorld k m)) d) (slotBlock p (m .inflight) (slotOf (m .state) s) d)
+        stored! : callDisk p off k m (land d s n) .drives ≡ storeAll (storeDisk p) (landPlan p (seen p off k) m d s .stores) k
+            → Stored (seen p off (storeAll (storeDisk p) (landPlan p (seen p off k) m d s .stores) k))
+            → viewIn (onValues off) p (callWorld off p (mkWorld k m) (land d s n) .world)
+            ≡ storeAll storeView (landingStores (onValues off) p (mkWorld k m) (put d (zoneOn (openIn (onValues off) p (mkWorld k m)) d) (slotBlock p (m .inflight) (slotOf (m .state) s) d)
             (recordBytes (flightRec p (m .state) (slotOf (m .state) s) d)))
-            (sealedIn p (viewIn onValues p (callWorld p (mkWorld k m) (land d s n) .world)) 0 (openIn onValues p (mkWorld k m)))) (viewIn onValues p (mkWorld k m))
-        stored! e h = unfold viewIn callWorld landingStores openIn in (subst (λ (y : Disk). Stored (seen p y)) (sym e) h)
+            (sealedIn p (viewIn (onValues off) p (callWorld off p (mkWorld k m) (land d s n) .world)) 0 (openIn (onValues off) p (mkWorld k m)))) (viewIn (onValues off) p (mkWorld k m))
+        stored! e h = unfold viewIn callWorld landingStores openIn in (subst (λ (y : Disk). Stored (seen p off y)) (sym e) h)
 
-        acknowledges! : callDisk p k m (land d s n) .drives ≡ storeAll (storeDisk p) (landPlan p (seen p k) m d s .stores) k
-            → x ≡ cond (counts p 0 (segmentOf p (seen p (storeAll (storeDisk p) (landPlan p (seen p k) m d s .stores) k)) 0 (openSegment p (m .state))) s) (pendingIn ws s) 0
-            → x ≡ cond (counts p 0 (segmentOf p (viewIn onValues p (callWorld p (mkWorld k m) (land d s n) .world)) 0 (openIn onValues p (mkWorld k m))) s) (pendingIn ws s) 0
+        acknowledges! : callDisk p off k m (land d s n) .drives ≡ storeAll (storeDisk p) (landPlan p (seen p off k) m d s .stores) k
+            → x ≡ cond (counts p 0 (segmentOf p (seen p off (storeAll (storeDisk p) (landPlan p (seen p off k) m d s .stores) k)) 0 (openSegment p (seen p off k) (m .state))) s) (pendingIn ws s) 0
+            → x ≡ cond (counts p 0 (segmentOf p (viewIn (onValues off) p (callWorld off p (mkWorld k m) (land d s n) .world)) 0 (openIn (onValues off) p (mkWorld k m))) s) (pendingIn ws s) 0
         acknowledges! e h = unfold viewIn callWorld openIn in
-            (subst (λ (y : Disk). x ≡ cond (counts p 0 (segmentOf p (seen p y) 0 (openSegment p (m .state))) s) (pendingIn ws s) 0) (sym e) h)
+            (subst (λ (y : Disk). x ≡ cond (counts p 0 (segmentOf p (seen p off y) 0 (openSegment p (seen p off k) (m .state))) s) (pendingIn ws s) 0) (sym e) h)

@@ -16,18 +16,17 @@ use Rattle.spec.specs.declared.State.{State}
 use Rattle.spec.specs.Drives.{Chunk, mkChunk, noChunk, Zone, View, zoneAt, pointerAt, chunkAt, putZone, storeView, zoneOn, sealedIn, dataStored, recordIn}
 use Rattle.spec.specs.Drives.Store.{put}
 use Rattle.spec.specs.Landing.{ready, completes, flightRec}
-use Rattle.spec.specs.Layout.{parityDrive, dataDrive, dataPosition, isData, parityPosition, dataDrives, Rec, recordBytes, recordOf}
+use Rattle.spec.specs.Layout.{parityDrive, dataDrive, dataPosition, isData, parityPosition, dataDrives, Rec, recordBytes, recordOf, headerSerial}
 use Rattle.spec.specs.Lists.{below, all, keep, isIn}
-use Rattle.spec.specs.Memory.{stripeIn, filledIn, landedIn, isWrite, entryIn, entriesIn, offsetIn, openSegment, isFree, isFull, markLanded, slotBlock}
+use Rattle.spec.specs.Memory.{stripeIn, filledIn, landedIn, isWrite, entryIn, entriesIn, offsetIn, isFree, isFull, markLanded, slotBlock}
 use Rattle.spec.specs.Params.{dataCount, present}
 use Rattle.spec.specs.Parity.{Piece, mkPiece, encodeBlock, encodeRec}
-use Rattle.spec.specs.Segments.{Segment, segmentOf, hasChunk, counts, storedPiece}
+use Rattle.spec.specs.Segments.{Segment, segmentOf, hasChunk, counts, storedPiece, headerAt, openSegment}
 use Rattle.law_basic.specs.Each.{each-map, each-below}
 use Rattle.law_basic.specs.Geometry.{Ranged, parity-no-data, parity-drive-lt, position-drive, drive-is-data, position-lt}
 use Rattle.law_basic.specs.Mask.{isIn-empty}
 use Rattle.law_basic.specs.Ranges.{Test, test, and-right, map-map}
 use Rattle.law_basic.specs.Ranges.Test.{yes!, no! }
-use Rattle.law_basic.specs.Segs.{Named, zone-on-lt}
 use Rattle.law_code.specs.Chunks.{flight-data, flight-parity, flight-stripe}
 use Rattle.law_code.specs.Code.{encode-low, encode-apart}
 use Rattle.spec_demands.specs.Layouts.{ParityMade}
@@ -35,12 +34,12 @@ use Rattle.spec_demands.specs.Tables.{Pending}
 use Rattle.law_drives.specs.Laid.{record-back}
 use Rattle.law_drives.specs.Members.{in-all, map-cong}
 use Rattle.law_drives.specs.Range.{capacity-over}
-use Rattle.law_drives.specs.Segs.{data-low, low-data, present-in}
+use Rattle.law_drives.specs.Segs.{data-low, low-data}
 use Rattle.law_drives.specs.Spots.{counts-in}
 use Rattle.law_drives.specs.States.{StateOk}
 use Rattle.law_drives.specs.Tests.{or-true-left, cond-false, eqb-self}
 use Rattle.law_drives.specs.Zones.{Shaped}
-use Rattle.proof_tables.specs.Chunks.{cells-differ, pointer-some, pointer-data, chunk-zone, chunk-other, chunk-pointer, pointer-else, chunk-grows, mask-now}
+use Rattle.proof_tables.specs.Chunks.{cells-differ, pointer-some, pointer-data, chunk-zone, chunk-other, chunk-pointer, pointer-else, chunk-grows, mask-now, chunk-there, chunk-healthy}
 use Rattle.proof_tables.specs.Chunks.{chunk-open, open-before, open-after, all-landed, uncounted-yet, landed-chunk, all-filled}
 use Rattle.proof_tables.specs.Run.{flies, SlotFlies, OpenZone, HealthyState}
 use Rattle.proof_tables.specs.Slots.{mark-landed-other, mark-offset, mark-offset-other}
@@ -48,6 +47,10 @@ use Rattle.proof_flights.specs.Flown.{pendingOf, Flights}
 use Rattle.proof_flights.specs.LandedPieces.{piece-parts, Extends, extends-piece, extends-back, data-drives-in, parity-grows}
 use Rattle.proof_flights.specs.Pieces.{ParityAt}
 use Rattle.spec.specs.declared.Seg.{Seg}
+use Rattle.law_drives.specs.Gather.{present-in}
+use Rattle.law_drives.specs.Settled.{its-zone}
+use Rattle.law_drives.specs.Tidy.{There}
+use Rattle.proof_tables.specs.Opened.{open-at, open-segment-is}
 
 -- ---- one block stored
 
@@ -105,10 +108,10 @@ module _ (p : Params) (r : Ranged p) (v : View) (st : State) (z : Seg) (i : ℕ)
 -- ---- the chunk
 
 module _ (p : Params) (r : Ranged p) (v : View) (sh : Shaped p v) (st : State) (h : HealthyState p v st) (so : StateOk p st)
-    (hz : Named p (openSegment p st)) (oz : st .opened ≡ suc (zoneOn (openSegment p st) 0))
+    (hz : There p v (openSegment p v st)) (oz : st .opened ≡ headerSerial p (headerAt v 0 (openSegment p v st)))
     (d i : ℕ) (hd : d < p .N) (hi : i < 8) (fi : flies st i ≡ true) (rd : ready p st i d ≡ true) (fl : List ℕ) (lb : length (slotBlock p fl i d) ≡ p .B) where
   abbrev z : Seg
-  z = openSegment p st
+  z = openSegment p v st
 
   abbrev s : ℕ
   s = stripeIn st i
@@ -145,7 +148,7 @@ module _ (p : Params) (r : Ranged p) (v : View) (sh : Shaped p v) (st : State) (
       go (yes q) = subst (λ (y : ℕ). getD (zoneAt v1 y (zoneOn z y) .blocks) x noChunk ≡ getD (zoneAt v y (zoneOn z y) .blocks) x noChunk) q
           (ap (λ (y : Zone). getD (y .blocks) x noChunk) (chunk-zone p r v sh st h so z hz oz d i hd hi fi rd b lb)
           ∙ put-old b (recordBytes (flightRec p st i d)) (zoneAt v d (zoneOn z d)) x (as! (subst (λ (y : ℕ). x < pointerAt v y (zoneOn z y)) (sym q) l)))
-      go (no n) = ap (λ (y : Zone). getD (y .blocks) x noChunk) (chunk-other p r v sh st h so z hz oz d i hd hi fi rd b lb e z he hz (inl n))
+      go (no n) = ap (λ (y : Zone). getD (y .blocks) x noChunk) (chunk-other p r v sh st h so z hz oz d i hd hi fi rd b lb e (zoneOn z e) he (its-zone p r v z hz e he .zone-low) (inl n))
 
   -- the new one
   chunk-new : getD (zoneAt v1 d (zoneOn z d) .blocks) (1 + o) noChunk ≡ mkChunk b (recordBytes (flightRec p st i d))
@@ -156,7 +159,7 @@ module _ (p : Params) (r : Ranged p) (v : View) (sh : Shaped p v) (st : State) (
       ap (λ (n : ℕ). getD (zoneAt v1 d (zoneOn z d) .blocks) n noChunk) (e ∙ at!)
       ∙ ap (λ (y : Zone). getD (y .blocks) (zoneAt v d (zoneOn z d) .pointer) noChunk) (chunk-zone p r v sh st h so z hz oz d i hd hi fi rd b lb)
       ∙ put-new b (recordBytes (flightRec p st i d)) (zoneAt v d (zoneOn z d))
-      (subst (λ (n : ℕ). zoneAt v d (zoneOn z d) .pointer < n) (sym (sh .zone-ok d (zoneOn z d) hd (zone-on-lt p z d hz) .blocks-long))
+      (subst (λ (n : ℕ). zoneAt v d (zoneOn z d) .pointer < n) (sym (sh .zone-ok d (zoneOn z d) hd (its-zone p r v z hz d hd .zone-low) .blocks-long))
       (let k = capacity-over p r in let f = at! in omega arith))
     where
       at! : pointerAt v d (zoneOn z d) ≡ zoneAt v d (zoneOn z d) .pointer
@@ -176,8 +179,12 @@ module _ (p : Params) (r : Ranged p) (v : View) (sh : Shaped p v) (st : State) (
   pub stripe1 : (j : ℕ) → stripeIn st1 j ≡ stripeIn st j
   stripe1 j = unfold stripeIn markLanded in refl
 
-  open1 : openSegment p st1 ≡ z
-  open1 = unfold openSegment markLanded in refl
+  open1 : openSegment p v1 st1 ≡ z
+  open1 = open-segment-is p r v1 st1 (chunk-healthy p r v sh st h so z hz oz d i hd hi fi rd b lb) z (chunk-there p r v sh st h so z hz oz d i hd hi fi rd b lb)
+      (same! ∙ oz ∙ ap (headerSerial p) (chunk-grows p r v sh st h so z hz oz d i hd hi fi rd b lb .same-head 0 (omega (arith, r .drives-low))))
+    where
+      same! : st1 .opened ≡ st .opened
+      same! = unfold markLanded in refl
 
   -- landed now: the new one, or landed before
   landed-or : (j e : ℕ) → e < p .N → isIn (landedIn st1 j) e ≡ true
@@ -208,7 +215,7 @@ module _ (p : Params) (r : Ranged p) (v : View) (sh : Shaped p v) (st : State) (
         before! : isIn (landedIn st j) e ≡ true → getD (zoneAt v e (zoneOn z e) .blocks) (1 + offsetIn st j e) noChunk ≡ mkChunk (slotBlock p fl j e) (recordBytes (flightRec p st j e))
         before! y = as! (F .landed-is j e hj fj he y)
           where
-            as! : chunkAt v e (zoneOn (openSegment p st) e) (1 + offsetIn st j e) ≡ mkChunk (slotBlock p fl j e) (recordBytes (flightRec p st j e))
+            as! : chunkAt v e (zoneOn (openSegment p v st) e) (1 + offsetIn st j e) ≡ mkChunk (slotBlock p fl j e) (recordBytes (flightRec p st j e))
                 → getD (zoneAt v e (zoneOn z e) .blocks) (1 + offsetIn st j e) noChunk ≡ mkChunk (slotBlock p fl j e) (recordBytes (flightRec p st j e))
             as! x = unfold chunkAt in x
 
@@ -217,7 +224,7 @@ module _ (p : Params) (r : Ranged p) (v : View) (sh : Shaped p v) (st : State) (
         there! n y =
             let e8 : e < 8 = omega (arith, r .drives-high) in
             ap (λ (m : ℕ). getD (zoneAt v1 e (zoneOn z e) .blocks) (1 + m) noChunk) (mark-offset-other st (h .lists) i hi d o d8 j e (cells-differ i j d e d8 e8 n))
-            ∙ chunk-kept e (1 + offsetIn st j e) he (h .opens-at z hz oz .flight j hj fj .lands e he y .lies) ∙ before! y
+            ∙ chunk-kept e (1 + offsetIn st j e) he (open-at p r v st h z hz oz .flight j hj fj .lands e he y .lies) ∙ before! y
 
     -- what is known of the flights after the chunk
     pub chunk-flights : Flights p v1 st1 fl ws
@@ -231,7 +238,7 @@ module _ (p : Params) (r : Ranged p) (v : View) (sh : Shaped p v) (st : State) (
     }
       where
         at! : (j e : ℕ) → getD (zoneAt v1 e (zoneOn z e) .blocks) (1 + offsetIn st1 j e) noChunk ≡ mkChunk (slotBlock p fl j e) (recordBytes (flightRec p st j e))
-            → chunkAt v1 e (zoneOn (openSegment p st1) e) (1 + offsetIn st1 j e) ≡ mkChunk (slotBlock p fl j e) (recordBytes (flightRec p st1 j e))
+            → chunkAt v1 e (zoneOn (openSegment p v1 st1) e) (1 + offsetIn st1 j e) ≡ mkChunk (slotBlock p fl j e) (recordBytes (flightRec p st1 j e))
         at! j e x = unfold chunkAt in
             (ap (λ (n : Seg). getD (zoneAt v1 e (zoneOn n e) .blocks) (1 + offsetIn st1 j e) noChunk) open1 ∙ x ∙ ap (λ (y : Rec). mkChunk (slotBlock p fl j e) (recordBytes y)) (sym (rec1 j e)))
 
@@ -276,7 +283,7 @@ module _ (p : Params) (r : Ranged p) (v : View) (sh : Shaped p v) (st : State) (
         ∙ flight-entries p r v st z i f0 filled s-low))
       where
         f0 : SlotFlies p v st z i
-        f0 = h .opens-at z hz oz .flight i hi fi
+        f0 = open-at p r v st h z hz oz .flight i hi fi
 
         filled : filledIn st i ≡ dataCount p
         filled = as! (all-filled p r v sh st h so z hz oz d i hd hi fi rd b lb q)
@@ -360,7 +367,7 @@ module _ (p : Params) (r : Ranged p) (v : View) (sh : Shaped p v) (st : State) (
         here! y w (no a) = other a (chunk-pointer p r v sh st h so z hz oz d i hd hi fi rd b lb) (pointer-some p r v sh st h so z hz oz d i hd hi fi rd b lb) y
 
         go : Dec (d ≡ e) → x < dataStored p (zoneAt v e (zoneOn z e))
-        go (no a) = subst (λ (y : Zone). x < dataStored p y) (chunk-other p r v sh st h so z hz oz d i hd hi fi rd b lb e z he hz (inl a)) l
+        go (no a) = subst (λ (y : Zone). x < dataStored p y) (chunk-other p r v sh st h so z hz oz d i hd hi fi rd b lb e (zoneOn z e) he (its-zone p r v z hz e he .zone-low) (inl a)) l
         go (yes a) = subst (λ (m : ℕ). x < dataStored p (zoneAt v m (zoneOn z m))) a
             (here! (subst (λ (m : ℕ). x < dataStored p (zoneAt v1 m (zoneOn z m))) (sym a) l)
             (subst (λ (m : ℕ). recordIn p (sealedIn p v1 0 z) (zoneAt v1 m (zoneOn z m)) x .stripe ≡ t) (sym a) q) (ℕ-discrete x o))

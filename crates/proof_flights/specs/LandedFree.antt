@@ -15,15 +15,14 @@ use Rattle.spec.specs.Drives.{Chunk, mkChunk, noChunk, Zone, View, zoneAt, poin
 use Rattle.spec.specs.Landing.{flightRec, sealStores}
 use Rattle.spec.specs.Layout.{parityDrive, dataPosition, isData, parityPosition, dataDrives, Rec, mkRec, recordBytes}
 use Rattle.spec.specs.Lists.{below, keep, isIn}
-use Rattle.spec.specs.Memory.{stripeIn, filledIn, landedIn, isWrite, entryIn, entriesIn, offsetIn, openSegment, isFree, isFull, freeStripe, slotBlock}
+use Rattle.spec.specs.Memory.{stripeIn, filledIn, landedIn, isWrite, entryIn, entriesIn, offsetIn, isFree, isFull, freeStripe, slotBlock}
 use Rattle.spec.specs.Params.{footers}
 use Rattle.spec.specs.Parity.{encodeBlock, encodeRec}
-use Rattle.spec.specs.Segments.{Segment, segmentOf, counts}
+use Rattle.spec.specs.Segments.{Segment, segmentOf, counts, openSegment, openSegments}
 use Rattle.law_basic.specs.Geometry.{Ranged}
 use Rattle.law_basic.specs.Mask.{isIn-empty}
 use Rattle.law_basic.specs.Ranges.{Test, test}
 use Rattle.law_basic.specs.Ranges.Test.{yes!, no! }
-use Rattle.law_basic.specs.Segs.{Named}
 use Rattle.spec_demands.specs.Layouts.{ParityMade}
 use Rattle.spec_demands.specs.Tables.{Pending, noPending}
 use Rattle.law_drives.specs.Footers.{footerChunks}
@@ -33,7 +32,7 @@ use Rattle.law_drives.specs.Range.{capacity-over}
 use Rattle.law_drives.specs.Segs.{record-at}
 use Rattle.law_drives.specs.Spots.{counts-in}
 use Rattle.law_drives.specs.Tests.{clash, and-false-left}
-use Rattle.law_drives.specs.Tidy.{Tidy}
+use Rattle.law_drives.specs.Tidy.{Tidy, There}
 use Rattle.law_drives.specs.Zones.{Shaped}
 use Rattle.proof_tables.specs.Run.{flies, Lists}
 use Rattle.proof_tables.specs.Sealing.{seal-zone, seal-pointer, seal-grows, seal-records}
@@ -129,9 +128,9 @@ module _ (p : Params) (v : View) (st : State) (ls : Lists st) (i : ℕ) (hi : i 
       landed! : (j e : ℕ) → isIn (landedIn st2 j) e ≡ true → isIn (landedIn st j) e ≡ true
       landed! j e q = unfold landedIn freeStripe in q
 
-      at! : (j e : ℕ) → (j ≡ i → ⊥) → chunkAt v e (zoneOn (openSegment p st) e) (1 + offsetIn st j e) ≡ mkChunk (slotBlock p fl j e) (recordBytes (flightRec p st j e))
-          → chunkAt v e (zoneOn (openSegment p st2) e) (1 + offsetIn st2 j e) ≡ mkChunk (slotBlock p fl j e) (recordBytes (flightRec p st2 j e))
-      at! j e n x = unfold offsetIn openSegment freeStripe in (x ∙ ap (λ (y : Rec). mkChunk (slotBlock p fl j e) (recordBytes y)) (sym (rec2 j e n)))
+      at! : (j e : ℕ) → (j ≡ i → ⊥) → chunkAt v e (zoneOn (openSegment p v st) e) (1 + offsetIn st j e) ≡ mkChunk (slotBlock p fl j e) (recordBytes (flightRec p st j e))
+          → chunkAt v e (zoneOn (openSegment p v st2) e) (1 + offsetIn st2 j e) ≡ mkChunk (slotBlock p fl j e) (recordBytes (flightRec p st2 j e))
+      at! j e n x = unfold offsetIn openSegment openSegments freeStripe in (x ∙ ap (λ (y : Rec). mkChunk (slotBlock p fl j e) (recordBytes y)) (sym (rec2 j e n)))
 
       bit! : (j : ℕ) → isIn (landedIn st2 j) (parityDrive p (stripeIn st2 j)) ≡ true → isIn (landedIn st j) (parityDrive p (stripeIn st j)) ≡ true
       bit! j q = unfold landedIn stripeIn freeStripe in q
@@ -167,7 +166,7 @@ module _ (p : Params) (v : View) (st : State) (ls : Lists st) (i : ℕ) (hi : i 
 
 -- ---- a segment is sealed
 
-module _ (p : Params) (r : Ranged p) (v : View) (sh : Shaped p v) (z : Seg) (hz : Named p z) (behind : (e : ℕ) → e < p .N → pointerAt v e (zoneOn z e) ≡ 1 + p .S) where
+module _ (p : Params) (r : Ranged p) (v : View) (sh : Shaped p v) (z : Seg) (hz : There p v z) (behind : (e : ℕ) → e < p .N → pointerAt v e (zoneOn z e) ≡ 1 + p .S) where
   abbrev u : View
   u = storeAll storeView (sealStores p v z) v
 

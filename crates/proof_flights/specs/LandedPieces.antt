@@ -12,18 +12,19 @@ use Rattle.spec.specs.Layout.{dataDrive, dataDrives, headerSerial, Rec}
 use Rattle.spec.specs.Lists.{below, all, any, isIn}
 use Rattle.spec.specs.Params.{dataCount, present}
 use Rattle.spec.specs.Parity.{mkPiece}
-use Rattle.spec.specs.Segments.{remaining, Segment, segmentOf, offsetOn, hasChunk, counts, storedPiece, storedRec}
+use Rattle.spec.specs.Segments.{Segment, segmentOf, offsetOn, hasChunk, counts, storedPiece, storedRec}
 use Rattle.law_basic.specs.Geometry.{Ranged, data-drive-lt}
 use Rattle.spec_demands.specs.Layouts.{Remains, ParityMade}
-use Rattle.law_drives.specs.Growing.{Grows, grows-tidy, grows-remaining}
+use Rattle.law_drives.specs.Growing.{Grows, grows-tidy, grows-remaining, grows-others}
 use Rattle.law_basic.specs.Segs.{segs-differ}
 use Rattle.law_drives.specs.Members.{In, map-in, in-all, below-in}
-use Rattle.law_drives.specs.Segs.{ChunkAt, zone-by, chunk-at, has-chunk, offset-is, present-in, is-seg, remaining-low}
+use Rattle.law_drives.specs.Segs.{ChunkAt, zone-by, chunk-at, has-chunk, offset-is}
 use Rattle.law_drives.specs.Settled.{serial-of, zones-segment}
 use Rattle.law_drives.specs.Spots.{counts-in}
 use Rattle.law_drives.specs.Tidy.{Tidy}
-use Rattle.proof_flights.specs.Pieces.{ParityAt, SameStripe, parity-from}
+use Rattle.proof_flights.specs.Pieces.{ParityAt, SameStripe, parity-from, there-of-remains}
 use Rattle.spec.specs.declared.Seg.{Seg}
+use Rattle.law_drives.specs.Gather.{present-in}
 
 -- a piece is the block and the record at the stripe's offset, whatever is missing
 pub piece-parts : (p : Params) (v : View) (gone : ℕ) (g : Seg) (s e : ℕ) → e < p .N
@@ -124,14 +125,14 @@ parity-grows p r v u z w n ti old pm f = parity-from p r v u 0 old pm (λ g s rm
     Was g s = Remains p v 0 g × SameStripe p 0 (segmentOf p v 0 g) (segmentOf p u 0 g) s
 
     back : (g : Seg) → Remains p u 0 g → Remains p v 0 g
-    back g rm = ap (any (sameSeg g)) (grows-remaining p r v u z w n ti) ∙ rm
+    back g rm = ap (any (sameSeg g)) (grows-remaining p r v u z w) ∙ rm
 
     serial! : segmentOf p v 0 z .serial ≡ segmentOf p u 0 z .serial
-    serial! = serial-of p r v n ti z ∙ ap (headerSerial p) (w .same-head) ∙ sym (serial-of p r u n (grows-tidy p r v u z w n ti) z)
+    serial! = serial-of p r v n ti z ∙ ap (headerSerial p) (w .same-head 0 (omega (arith, r .drives-low))) ∙ sym (serial-of p r u n (grows-tidy p r v u z w n ti) z)
 
     go : (g : Seg) (s : ℕ) → Remains p u 0 g → s < p .S → counts p 0 (segmentOf p u 0 g) s ≡ true → Dec (z ≡ g) → Was g s ⊎ ParityAt p (segmentOf p u 0 g) s
     go g s rm hs c (no q) =
-        let e = zones-segment p r v u g (w .others g (remaining-low p u 0 g (is-seg g (remaining p u 0) rm)) q) in
+        let e = zones-segment p r v u g (grows-others p r v u z w g (there-of-remains p v g (back g rm)) q) in
         inl (
           back g rm,
           record {

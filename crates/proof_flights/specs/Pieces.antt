@@ -1,31 +1,27 @@
--- What is read of one segment depends on its zones alone: the same zones, the same pieces; and parity goes from one view to the next, stripe by stripe. Assumes nothing.
-use mathlib.Core.Path.{_≡_, refl, sym, ap, ap₂, _∙_}
+-- Stripes that count, and their parity from one view to the next, stripe by stripe: the same zones, the same pieces. Assumes nothing.
+use mathlib.Core.Path.{_≡_, sym, ap, _∙_}
 use mathlib.Core.List.{List, map}
 use mathlib.Core.Bool.{true}
 use mathlib.Core.Logic.{_⊎_, inl, inr}
-use Prim.Native.Nat.{ℕ, _+_, _<_}
+use Prim.Native.Nat.{ℕ, _<_}
 use native.Mathlib.Omega.{arith}
-use lib.ListN.{getD}
 use Rattle.spec.specs.declared.Params.{Params}
-use Rattle.spec.specs.Drives.{noChunk, Zone, noZone, View, zoneAt, chunkAt, zoneOn, sealedIn, dataStored, recordIn, recordAt}
+use Rattle.spec.specs.Drives.{View, zoneAt, zoneOn, dataStored}
 use Rattle.spec.specs.Layout.{parityDrive, dataDrive, dataDrives}
 use Rattle.spec.specs.Lists.{below}
 use Rattle.spec.specs.Params.{dataCount}
-use Rattle.spec.specs.Parity.{mkPiece, encodePiece}
-use Rattle.spec.specs.Segments.{remaining, Segment, segmentOf, offsetOn, hasChunk, counts, storedPiece, storedRec}
+use Rattle.spec.specs.Parity.{encodePiece}
+use Rattle.spec.specs.Segments.{remaining, Segment, segmentOf, hasChunk, counts, storedPiece}
 use Rattle.law_basic.specs.Geometry.{Ranged, parity-drive-lt, data-drive-lt}
 use Rattle.law_basic.specs.Mask.{isIn-empty}
 use Rattle.law_basic.specs.Ranges.{map-map}
-use Rattle.law_basic.specs.Segs.{Named}
 use Rattle.spec_demands.specs.Layouts.{Remains, foundCounted, ParityMade}
 use Rattle.law_drives.specs.Members.{map-cong, below-in}
-use Rattle.law_drives.specs.Segs.{is-seg, seg-in, zone-by, chunk-at}
-use Rattle.law_drives.specs.Settled.{used-remains, remains-is-used, SameZones, zones-segment}
+use Rattle.law_drives.specs.Segs.{is-seg, seg-in, chunk-at, remaining-left}
+use Rattle.law_drives.specs.Settled.{SameZones, zones-segment, there-remains}
 use Rattle.law_drives.specs.Spots.{counts-in}
-use Rattle.law_drives.specs.Tidy.{usedAt, Tidy}
+use Rattle.law_drives.specs.Tidy.{Tidy, There}
 use Rattle.spec.specs.declared.Seg.{Seg}
-
--- ---- the same zones, the same pieces
 
 -- ---- what counts
 
@@ -37,28 +33,6 @@ pub bare-counts : (p : Params) (v : View) (g : Seg) (s d : ℕ) → d < p .N →
 bare-counts p v g s d h e q =
     let k = chunk-at p v 0 g d s h (isIn-empty d) (count-all p (segmentOf p v 0 g) s q d h) .stored-there in
     let bad : ⊥ = omega arith in bad
-
--- ---- a piece: the block and the record at the stripe's first offset
-
-module _ (p : Params) (v : View) (g : Seg) (d s : ℕ) (hd : d < p .N) where
-  abbrev seg : Segment
-  seg = segmentOf p v 0 g
-
-  piece-made : storedPiece seg s d ≡ mkPiece (getD (getD (seg .zonesBy) d noZone .blocks) (1 + offsetOn seg d s) noChunk .block) (storedRec seg s d)
-  unfolding storedPiece storedRec
-  piece-made = refl
-
-  block-there : (o : ℕ) → getD (getD (seg .zonesBy) d noZone .blocks) (1 + o) noChunk .block ≡ chunkAt v d (zoneOn g d) (1 + o) .block
-  unfolding chunkAt
-  block-there o = ap (λ (x : Zone). getD (x .blocks) (1 + o) noChunk .block) (zone-by p v 0 g d hd)
-
-  recordIn-at : (o : ℕ) → recordIn p (sealedIn p v 0 g) (zoneAt v d (zoneOn g d)) o ≡ recordAt p v 0 d g o
-  unfolding recordAt
-  recordIn-at o = refl
-
-  -- where the drive has the chunk
-  pub piece-at : hasChunk seg s d ≡ true → storedPiece seg s d ≡ mkPiece (chunkAt v d (zoneOn g d) (1 + offsetOn seg d s) .block) (recordAt p v 0 d g (offsetOn seg d s))
-  piece-at q = piece-made ∙ ap₂ mkPiece (block-there (offsetOn seg d s)) (chunk-at p v 0 g d s hd (isIn-empty d) q .its-record ∙ recordIn-at (offsetOn seg d s))
 
 -- ---- parity, from one view to the next
 
@@ -115,9 +89,9 @@ parity-zones p r v u old pm f = parity-from p r v u 0 old pm (λ g s rm hs c. go
           },
         )
 
--- what remains, where none is missing and the segments are tidy: what is used
-pub remains-of-used : (p : Params) (r : Ranged p) (v : View) (n : ℕ) → Tidy p v n → (g : Seg) → Named p g → usedAt v g ≡ true → Remains p v 0 g
-remains-of-used p r v n t g hg q = seg-in g (remaining p v 0) (used-remains p r v n t g hg q)
+-- what remains, where none is missing and the segments are tidy: what there is
+pub remains-of-there : (p : Params) (r : Ranged p) (v : View) (n : ℕ) → Tidy p v n → (g : Seg) → There p v g → Remains p v 0 g
+remains-of-there p r v n t g m = seg-in g (remaining p v 0) (there-remains p r v n t g m)
 
-pub used-of-remains : (p : Params) (r : Ranged p) (v : View) (n : ℕ) → Tidy p v n → (g : Seg) → Remains p v 0 g → Named p g × (usedAt v g ≡ true)
-used-of-remains p r v n t g q = remains-is-used p r v n t g (is-seg g (remaining p v 0) q)
+pub there-of-remains : (p : Params) (v : View) (g : Seg) → Remains p v 0 g → There p v g
+there-of-remains p v g q = remaining-left p v 0 g (is-seg g (remaining p v 0) q)

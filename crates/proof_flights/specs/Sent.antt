@@ -3,7 +3,7 @@ use mathlib.Core.Path.{_≡_, refl, sym, ap, ap₂, _∙_, subst}
 use mathlib.Core.List.{List, []}
 use mathlib.Core.Bool.{Bool, true, false, not, _&&_, _||_}
 use mathlib.Core.Logic.{_⊎_, inl, inr}
-use Prim.Native.Nat.{ℕ, suc, _^_, _<_}
+use Prim.Native.Nat.{ℕ, suc, _^_, _≤_, _<_}
 use native.Mathlib.Decide.{ℕ-discrete}
 use native.Mathlib.Omega.{arith}
 use borrow.Author.Tests.{leb-false, eq-eqb, eqb-true, eqb-false}
@@ -12,9 +12,9 @@ use lib.ListN.{length}
 use Rattle.spec.specs.declared.Params.{Params}
 use Rattle.spec.specs.declared.State.{State}
 use Rattle.spec.specs.Counts.{lastCount}
-use Rattle.spec.specs.Drives.{Zone, View, zoneAt, pointerAt, Store, storeView, storeAll, allSegs, zoneOn, emptyOnAll, emptySegs, dataStored, headerStores, noSeg}
+use Rattle.spec.specs.Drives.{Zone, View, zoneAt, pointerAt, Store, storeView, storeAll, zoneOn, dataStored, headerStores, emptyCount, newSeg}
 use Rattle.spec.specs.Layout.{dataDrive}
-use Rattle.spec.specs.Lists.{any, isNil, firstOr}
+use Rattle.spec.specs.Lists.{any, isNil}
 use Rattle.spec.specs.Memory.{slotCount, stripeIn, filledIn, isFree, inFlight, freeSlot, fillingSlot, hasFilling, setOpen, beginStripe, addEntry}
 use Rattle.spec.specs.Params.{dataCount, inflightLen}
 use Rattle.spec.specs.Segments.{Segment, segmentOf, counts}
@@ -22,30 +22,28 @@ use Rattle.spec.specs.Write.{mustOpen, opens, noSerial, otherGroup, mustWait, p
 use Rattle.law_basic.specs.Geometry.{Ranged, data-count-low}
 use Rattle.law_basic.specs.Ranges.{Test, test}
 use Rattle.law_basic.specs.Ranges.Test.{yes!, no! }
-use Rattle.law_basic.specs.Segs.{segs-differ, Named}
 use Rattle.spec_demands.specs.Layouts.{Remains, ParityMade}
 use Rattle.spec_demands.specs.Tables.{Pending}
-use Rattle.law_drives.specs.Headers.{header-other, header-pointer, empty-all}
-use Rattle.law_drives.specs.Members.{In, keep-in, first-in, in-some}
-use Rattle.law_drives.specs.Segs.{segs-in}
-use Rattle.law_drives.specs.Settled.{SameZones, zones-used}
+use Rattle.law_drives.specs.Headers.{header-pointer, Unborne, Vacant, headers-header-same, header-was, new-vacant, tidy-unborne}
+use Rattle.law_drives.specs.Members.{in-some}
+use Rattle.law_drives.specs.Settled.{SameZones}
 use Rattle.law_drives.specs.States.{StateOk}
 use Rattle.law_drives.specs.Tests.{clash, or-first, or-right, or-cases, or-true-right, not-so}
 use Rattle.law_drives.specs.Zones.{Shaped}
-use Rattle.proof_tables.specs.Heading.{head-tidy}
 use Rattle.proof_tables.specs.Run.{flies, Lists, HealthyState}
 use Rattle.proof_tables.specs.Sending.{filling-flies, free-slot-idle, in-flight}
 use Rattle.proof_tables.specs.Slots.{number-begun, begin-number-other, filled-begun, begin-filled-other, begin-lists, free-is}
 use Rattle.proof_flights.specs.Eighths.{freshly, plus}
 use Rattle.proof_flights.specs.Flocks.{Flock, open-of, flock-of, of-flock, flock-busy, flock-bare, bare-flock, flock-begin, flock-add, flies-add, flies-stay}
 use Rattle.proof_flights.specs.Flown.{Flights}
-use Rattle.proof_flights.specs.Pieces.{bare-counts, parity-zones, remains-of-used, used-of-remains}
+use Rattle.proof_flights.specs.Pieces.{bare-counts, parity-zones, remains-of-there, there-of-remains}
 use Rattle.spec.specs.declared.Seg.{Seg}
+use Rattle.law_drives.specs.Tidy.{There}
 
 -- ---- a segment is opened: parity stays right
 
-module _ (p : Params) (r : Ranged p) (v : View) (sh : Shaped p v) (st : State) (h : HealthyState p v st) (old : List Segment) (g : Seg) (hg : Named p g)
-    (em : (d : ℕ) → d < p .N → pointerAt v d (zoneOn g d) ≡ 0) (fit : suc (st .serial .0) < 256 ^ 8) where
+module _ (p : Params) (r : Ranged p) (v : View) (sh : Shaped p v) (st : State) (h : HealthyState p v st) (old : List Segment) (g : Seg) (va : Vacant p v g)
+    (fit : suc (st .serial .0) < 256 ^ 8) where
   abbrev n₀ : ℕ
   n₀ = st .serial .0
 
@@ -55,11 +53,11 @@ module _ (p : Params) (r : Ranged p) (v : View) (sh : Shaped p v) (st : State) (
   h0 : 0 < p .N
   h0 = omega (arith, r .drives-low)
 
-  sent-same-zones : (y : Seg) → Named p y → (g ≡ y → ⊥) → SameZones p v after y
-  sent-same-zones y hy n d hd = sym (header-other p r v sh g (suc n₀) 0 hg em d y hd hy n)
+  fresh : Unborne p v (suc n₀)
+  fresh = tidy-unborne p r v n₀ (suc n₀) (h .tidy) (omega arith)
 
   opened-bare : dataStored p (zoneAt after 0 (zoneOn g 0)) ≡ 0
-  opened-bare = go (zoneAt after 0 (zoneOn g 0)) (as! (header-pointer p r v sh g (suc n₀) 0 hg em 0 h0))
+  opened-bare = go (zoneAt after 0 (zoneOn g 0)) (as! (header-pointer p r v sh g (suc n₀) 0 va 0 h0))
     where
       as! : pointerAt after 0 (zoneOn g 0) ≡ 1 → zoneAt after 0 (zoneOn g 0) .pointer ≡ 1
       as! e = unfold pointerAt in e
@@ -68,14 +66,11 @@ module _ (p : Params) (r : Ranged p) (v : View) (sh : Shaped p v) (st : State) (
       go q e = unfold dataStored in omega arith
 
   pub parity-headed : ParityMade p v 0 old → ParityMade p after 0 old
-  parity-headed pm = parity-zones p r v after old pm (λ y rm. go y rm (segs-differ g y))
+  parity-headed pm = parity-zones p r v after old pm (λ y rm. go y (header-was p r v sh g (suc n₀) 0 va fit fresh y (there-of-remains p after y rm)))
     where
-      go : (y : Seg) → Remains p after 0 y → Dec (g ≡ y) → (Remains p v 0 y × SameZones p v after y) ⊎ ((s : ℕ) → counts p 0 (segmentOf p after 0 y) s ≡ true → ⊥)
-      go y rm (yes e) = inr (λ s c. bare-counts p after y s 0 h0 (ap (λ (x : Seg). dataStored p (zoneAt after 0 (zoneOn x 0))) (sym e) ∙ opened-bare) c)
-      go y rm (no n) =
-          let (hy, q) = used-of-remains p r after (suc n₀) (head-tidy p r v sh n₀ g (h .tidy) hg em fit) y rm in
-          let sm = sent-same-zones y hy n in
-          inl (remains-of-used p r v n₀ (h .tidy) y hy (zones-used p r v after y sm ∙ q), sm)
+      go : (y : Seg) → There p v y ⊎ (y ≡ g) → (Remains p v 0 y × SameZones p v after y) ⊎ ((s : ℕ) → counts p 0 (segmentOf p after 0 y) s ≡ true → ⊥)
+      go y (inr e) = inr (λ s c. bare-counts p after y s 0 h0 (ap (λ (x : Seg). dataStored p (zoneAt after 0 (zoneOn x 0))) e ∙ opened-bare) c)
+      go y (inl m) = inl (remains-of-there p r v n₀ (h .tidy) y m, headers-header-same p r v sh g (suc n₀) 0 va fit fresh y m)
 
 -- ---- the block sent
 
@@ -120,8 +115,8 @@ module _ (p : Params) (r : Ranged p) (v : View) (sh : Shaped p v) (st : State) (
   fills q =
       let (hi, fi, room) = filling-flies p st q in
       let i = fillingSlot p st in
-      let (z, hz, e) = open-of p v st (omega (arith, r .drives-low)) h so i hi fi in
-      let o = flock-add p r v st (h .lists) fl l ws (flies st) i hi fi a t w b lb room hw (λ j hj fj x. h .opens-at z hz e .once j i hj hi fj fi (sym x)) flock in
+      let (z, e, q₀) = open-of p v st h i hi fi in
+      let o = flock-add p r v st (h .lists) fl l ws (flies st) i hi fi a t w b lb room hw (λ j hj fj x. q₀ .once j i hj hi fj fi (sym x)) flock in
       subst (λ (x : Sending). Leaves x) (sym (sent-is q))
       (unstored st i (of-flock p v (addEntry st i a t w) (placed p st fl i a t w b .inflight) _
       (flock-busy p v (addEntry st i a t w) (placed p st fl i a t w b .inflight) _ (flies st) (flies (addEntry st i a t w)) (λ j hj. flies-stay st (h .lists) i hi fi a t w j) o)))
@@ -191,34 +186,26 @@ module _ (p : Params) (r : Ranged p) (v : View) (sh : Shaped p v) (st : State) (
         subst (λ (x : Sending). Leaves x) (sym (sent-is mo))
         (unstored (beginStripe st (freeSlot st)) (freeSlot st)
         (flown-begun v st ws (h .lists) (freeSlot st) (send-slot-free .0) (send-slot-free .1)
-        (λ j hj fj. let (z, hz, e) = open-of p v st (omega (arith, r .drives-low)) h so j hj fj in h .opens-at z hz e .flight j hj fj .begun) flock))
+        (λ j hj fj. let (z, e, q₀) = open-of p v st h j hj fj in q₀ .flight j hj fj .begun) flock))
       where
         sent-is : mustOpen p st ≡ false → sent ≡ sentAs [] (beginStripe st (freeSlot st)) (freeSlot st)
         sent-is mo = unfold sending slotFor begunBy openedBy opens placed in rw (nf, mo)
 
     -- the first stripe of a segment that is opened: nothing is in flight
-    begins-segment : mustOpen p st ≡ true → noSerial p st ≡ false → isNil (emptySegs p v) ≡ false → Leaves sent
+    begins-segment : mustOpen p st ≡ true → noSerial p st ≡ false → 1 ≤ emptyCount p v → Leaves sent
     begins-segment mo ns ne =
-        let g = firstOr noSeg (emptySegs p v) in
+        let g = newSeg p v in
         let s = st .serial .0 in
-        let (hg, eg) = first-empty in
-        let em = empty-all p v g eg in
         let u = storeAll storeView (headerStores p g (suc s) 0) v in
-        let su = setOpen st g (suc s) in
-        let bare : (j : ℕ) → j < 8 → flies su j ≡ false = λ j hj. free-same g (suc s) j ∙ nothing-flies j hj in
+        let su = setOpen st (suc s) in
+        let bare : (j : ℕ) → j < 8 → flies su j ≡ false = λ j hj. free-same (suc s) j ∙ nothing-flies j hj in
         let we : ws ≡ [] = flock-bare p v st fl ws nothing-flies flock in
         let o : Flock p u su fl ws (flies su) = subst (λ (x : List Pending). Flock p u su fl x (flies su)) (sym we) (bare-flock p u su fl bare) in
         subst (λ (x : Sending). Leaves x) (sym (sent-is mo)) (
-          flown-begun u su ws (lists-same g (suc s) (h .lists)) (freeSlot st) (send-slot-free .0) (free-same g (suc s) (freeSlot st) ∙ send-slot-free .1) (λ j hj fj. clash fj (bare j hj)) o,
-          parity-headed p r v sh st h old g hg em serial-next pm,
+          flown-begun u su ws (lists-same (suc s) (h .lists)) (freeSlot st) (send-slot-free .0) (free-same (suc s) (freeSlot st) ∙ send-slot-free .1) (λ j hj fj. clash fj (bare j hj)) o,
+          parity-headed p r v sh st h old g (new-vacant p v ne) serial-next pm,
         )
       where
-        first-empty : Named p (firstOr noSeg (emptySegs p v)) × (emptyOnAll p v (firstOr noSeg (emptySegs p v)) ≡ true)
-        first-empty = parts (firstOr noSeg (emptySegs p v)) (first-in (emptySegs p v) noSeg ne)
-          where
-            parts : (g : Seg) → In g (emptySegs p v) → Named p g × (emptyOnAll p v g ≡ true)
-            parts g m = unfold emptySegs in (let (i, q) = keep-in (emptyOnAll p v) (allSegs p) g m in (segs-in p g i, q))
-
         serial-next : suc (st .serial .0) < 256 ^ 8
         serial-next =
             let n : st .serial .0 ≡ lastCount → ⊥ = eqb-false (st .serial .0) lastCount (no-serial ns) in
@@ -233,11 +220,11 @@ module _ (p : Params) (r : Ranged p) (v : View) (sh : Shaped p v) (st : State) (
             let x : not (isNil (inFlight st)) ≡ false = sym (ap (λ (c : Bool). c && not (isNil (inFlight st))) mo) ∙ send-wait-parts .1 in
             clash (ap not (in-some (inFlight st) j (in-flight st j hj q))) x)
 
-        free-same : (g : Seg) (x j : ℕ) → flies (setOpen st g x) j ≡ flies st j
-        free-same g x j = unfold setOpen isFree filledIn in refl
+        free-same : (x j : ℕ) → flies (setOpen st x) j ≡ flies st j
+        free-same x j = unfold setOpen isFree filledIn in refl
 
-        lists-same : (g : Seg) (x : ℕ) → Lists st → Lists (setOpen st g x)
-        lists-same g x l = unfold setOpen in record {
+        lists-same : (x : ℕ) → Lists st → Lists (setOpen st x)
+        lists-same x l = unfold setOpen in record {
           numbers-long = l .numbers-long;
           filled-long = l .filled-long;
           writes-long = l .writes-long;
@@ -247,12 +234,12 @@ module _ (p : Params) (r : Ranged p) (v : View) (sh : Shaped p v) (st : State) (
           offsets-long = l .offsets-long;
         }
 
-        sent-is : mustOpen p st ≡ true → sent ≡ sentAs (headerStores p (firstOr noSeg (emptySegs p v)) (suc (st .serial .0)) 0)
-            (beginStripe (setOpen st (firstOr noSeg (emptySegs p v)) (suc (st .serial .0))) (freeSlot st)) (freeSlot st)
+        sent-is : mustOpen p st ≡ true → sent ≡ sentAs (headerStores p (newSeg p v) (suc (st .serial .0)) 0)
+            (beginStripe (setOpen st (suc (st .serial .0))) (freeSlot st)) (freeSlot st)
         sent-is mo = unfold sending slotFor begunBy openedBy opens placed in rw (nf, mo)
 
   -- all three
-  pub leaves-sent : mustWait p st ≡ false → noSerial p st ≡ false → (opens p st ≡ true → isNil (emptySegs p v) ≡ false) → Leaves sent
+  pub leaves-sent : mustWait p st ≡ false → noSerial p st ≡ false → (opens p st ≡ true → 1 ≤ emptyCount p v) → Leaves sent
   leaves-sent nw ns ne = go (test (hasFilling p st)) (test (mustOpen p st))
     where
       opens-is : hasFilling p st ≡ false → mustOpen p st ≡ true → opens p st ≡ true

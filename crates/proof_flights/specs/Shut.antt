@@ -81,35 +81,35 @@ module _ (p : Params) (r : Ranged p) (v : View) (ws : List Pending) (i : ℕ) (h
 
 -- ---- the call
 
-module _ (p : Params) (k : Disk) (m : Memory) (u : Run p k m) (ws : List Pending) (old : List Segment) (f : Flown p k m ws old) (n : ℕ) where
+module _ (p : Params) (off : List ℕ) (k : Disk) (m : Memory) (u : Run p off k m) (ws : List Pending) (old : List Segment) (f : Flown p off k m ws old) (n : ℕ) where
   abbrev v : View
-  v = seen p k
+  v = seen p off k
 
   abbrev st : State
   st = m .state
 
   abbrev checks : List Check
-  checks = closeChecks p (lentOk p k m) v m
+  checks = closeChecks p (lentOk p off k m) v m
 
-  closed-flown : (call : Call) → firstRefusal checks ≡ none → Flown p (storeAll (storeDisk p) (closePlan p m .stores) k) (closePlan p m .memory)
+  closed-flown : (call : Call) → firstRefusal checks ≡ none → Flown p off (storeAll (storeDisk p) (closePlan p m .stores) k) (closePlan p m .memory)
       (pendingAfter call (closePlan p m .answer) ws) old
   closed-flown call e =
-      let c = close-passed p (lentOk p k m) v m e in
+      let c = close-passed p (lentOk p off k m) v m e in
       let rg = ranged p (u .base .ranged) in
-      let we = well-of p k m u (c .healthy) in
+      let we = well-of p off k m u (c .healthy) in
       let so = state-of p rg st (u .base .state-ok) in
       let i = fillingSlot p st in
       let (hi, fi, room) = filling-flies p st (c .filling) in
       let x = dataCount p - filledIn st i in
       let q = padded p i x st (m .inflight) in
       let h = we .healthy in
-      let o = paddings-flown p rg v ws i hi x st (m .inflight) (h .lists) (buffer-long p k m u we) fi (omega arith)
-      (λ j hj fj e. let (z, hz, op) = open-of p v st (omega (arith, rg .drives-low)) h so i hi fi in h .opens-at z hz op .once j i hj hi fj fi (sym e))
+      let o = paddings-flown p rg v ws i hi x st (m .inflight) (h .lists) (buffer-long p off k m u we) fi (omega arith)
+      (λ j hj fj e. let (z, op, q₀) = open-of p v st h i hi fi in q₀ .once j i hj hi fj fi (sym e))
       (flock-of p v st (m .inflight) ws h so (f .flights (we .none-missing))) in
-      flown-as p k (mkMemory (q .state) (m .addresses) (m .compact) (q .inflight)) _ ws old _ _ stores-are memory-is
+      flown-as p off k (mkMemory (q .state) (m .addresses) (m .compact) (q .inflight)) _ ws old _ _ stores-are memory-is
       (ap (λ (y : Answer). pendingAfter call y ws) answer-is ∙ pending-quiet call (Closed (stripeIn st i)) ws (quiet-closed (stripeIn st i)))
-      (flown-of p k (mkMemory (q .state) (m .addresses) (m .compact) (q .inflight)) ws old v refl (pads-missing p rg v ws i hi x st (m .inflight) ∙ we .none-missing)
-      (of-flock p v (q .state) (q .inflight) ws o) (flown-parity-made p k m ws old f (we .none-missing)))
+      (flown-of p off k (mkMemory (q .state) (m .addresses) (m .compact) (q .inflight)) ws old v refl (pads-missing p rg v ws i hi x st (m .inflight) ∙ we .none-missing)
+      (of-flock p v (q .state) (q .inflight) ws o) (flown-parity-made p off k m ws old f (we .none-missing)))
     where
       stores-are : storeAll (storeDisk p) (closePlan p m .stores) k ≡ k
       stores-are = unfold closePlan storeAll in refl
@@ -125,28 +125,28 @@ module _ (p : Params) (k : Disk) (m : Memory) (u : Run p k m) (ws : List Pending
       quiet-closed : (s : ℕ) → QuietAnswer (Closed s)
       quiet-closed s = quiet-kind (Closed s) 5 (unfold kind in refl) refl refl refl refl
 
-  pub flown-close : isCut (callDisk p k m (close n) .answer) ≡ false
-      → Flown p (callDisk p k m (close n) .drives) (callDisk p k m (close n) .memory) (pendingAfter (close n) (callDisk p k m (close n) .answer) ws) old
+  pub flown-close : isCut (callDisk p off k m (close n) .answer) ≡ false
+      → Flown p off (callDisk p off k m (close n) .drives) (callDisk p off k m (close n) .memory) (pendingAfter (close n) (callDisk p off k m (close n) .answer) ws) old
   unfolding callDisk callOn verdict storeCount lentBlock closeVerdict
-  flown-close nc = flown-ended p k m ws old f (close n) checks (closePlan p m) _ (closed-flown (close n)) nc (outcome-ends p k m checks (closePlan p m) n [])
+  flown-close nc = flown-ended p off k m ws old f (close n) checks (closePlan p m) _ (closed-flown (close n)) nc (outcome-ends p k m checks (closePlan p m) n [])
 
   -- 02, item 1: a closing, or nothing
-  emptied-flown : (a : ℕ) → firstRefusal (emptyChecks p (lentOk p k m) v m a) ≡ none
-      → Flown p (storeAll (storeDisk p) (emptyPlan p m .stores) k) (emptyPlan p m .memory) (pendingAfter (write a [] n) (emptyPlan p m .answer) ws) old
+  emptied-flown : (a : ℕ) → firstRefusal (emptyChecks p (lentOk p off k m) v m a) ≡ none
+      → Flown p off (storeAll (storeDisk p) (emptyPlan p m .stores) k) (emptyPlan p m .memory) (pendingAfter (write a [] n) (emptyPlan p m .answer) ws) old
   unfolding emptyPlan
   emptied-flown a e = go (hasFilling p (m .state)) refl
     where
       quiet-nothing : QuietAnswer Nothing
       quiet-nothing = quiet-kind Nothing 14 (unfold kind in refl) refl refl refl refl
 
-      go : (t : Bool) → hasFilling p (m .state) ≡ t → Flown p (storeAll (storeDisk p) (cond t (closePlan p m) (mkPlan [] Nothing m []) .stores) k)
+      go : (t : Bool) → hasFilling p (m .state) ≡ t → Flown p off (storeAll (storeDisk p) (cond t (closePlan p m) (mkPlan [] Nothing m []) .stores) k)
           (cond t (closePlan p m) (mkPlan [] Nothing m []) .memory) (pendingAfter (write a [] n) (cond t (closePlan p m) (mkPlan [] Nothing m []) .answer) ws) old
-      go true h = closed-flown (write a [] n) (empty-asks p (lentOk p k m) v m a h e)
-      go false h = idle-flown p k m u ws old f (write a [] n) Nothing quiet-nothing
+      go true h = closed-flown (write a [] n) (empty-asks p (lentOk p off k m) v m a h e)
+      go false h = idle-flown p off k m u ws old f (write a [] n) Nothing quiet-nothing
 
-  pub flown-empty : (a : ℕ) → isCut (callDisk p k m (write a [] n) .answer) ≡ false
-      → Flown p (callDisk p k m (write a [] n) .drives) (callDisk p k m (write a [] n) .memory) (pendingAfter (write a [] n) (callDisk p k m (write a [] n) .answer) ws) old
+  pub flown-empty : (a : ℕ) → isCut (callDisk p off k m (write a [] n) .answer) ≡ false
+      → Flown p off (callDisk p off k m (write a [] n) .drives) (callDisk p off k m (write a [] n) .memory) (pendingAfter (write a [] n) (callDisk p off k m (write a [] n) .answer) ws) old
   unfolding callDisk callOn verdict storeCount lentBlock emptyVerdict
   flown-empty a nc =
-      flown-ended p k m ws old f (write a [] n) (emptyChecks p (lentOk p k m) v m a) (emptyPlan p m) _ (emptied-flown a) nc
-      (outcome-ends p k m (emptyChecks p (lentOk p k m) v m a) (emptyPlan p m) n [])
+      flown-ended p off k m ws old f (write a [] n) (emptyChecks p (lentOk p off k m) v m a) (emptyPlan p m) _ (emptied-flown a) nc
+      (outcome-ends p k m (emptyChecks p (lentOk p off k m) v m a) (emptyPlan p m) n [])

@@ -1,56 +1,60 @@
 -- The layout without parity, zone by zone: what one zone must hold, and how it follows from the checks of a restart or from tidy segments. Assumes nothing.
-use mathlib.Core.Path.{_≡_, refl, sym, ap, _∙_, subst}
-use mathlib.Core.List.{List, [], _∷_, map}
-use mathlib.Core.Bool.{Bool, true, false, not, _&&_}
-use Prim.Native.Nat.{ℕ, zero, suc, _+_, _≤_, _<_}
+use mathlib.Core.Path.{_≡_, sym, ap, _∙_, subst}
+use mathlib.Core.List.{List, [], map}
+use mathlib.Core.Bool.{Bool, true, false, _&&_}
+use Prim.Native.Nat.{ℕ, _+_, _≤_, _<_}
 use native.Mathlib.Nat.{zero-add}
-use borrow.Author.Tests.{eqb-false, not-false}
+use borrow.Author.Tests.{not-false}
 use native.Mathlib.Omega.{arith}
 use lib.Dec.{eqb}
-use lib.ListN.{length, getD, take, drop}
+use lib.ListN.{getD, take, drop}
 use lib.Seq.{getD-take, getD-drop}
 use Rattle.spec.specs.declared.Params.{Params}
-use Rattle.spec.specs.Drives.{Chunk, mkChunk, noChunk, Zone, noZone, View, zoneAt, pointerAt, chunkAt, zoneOn, sealedIn, dataStored, blocksOf, sparesOf, recordIn, recordAt, footersOf, zeroSpare}
-use Rattle.spec.specs.Faults.{sameChunk, headerFault, twice, footersStored, sameBlocks, footerFaultIn, footerFault}
-use Rattle.spec.specs.Layout.{inGroupOf, headerBlock, headerSerial, headerCopied, Rec, mkRec, footerBlock}
-use Rattle.spec.specs.Lists.{upFrom, any, sameList, isIn}
-use Rattle.spec.specs.Params.{capacity, present}
-use Rattle.spec.specs.Segments.{headerAt, remaining, Segment, recordsIn, segmentOf, segments}
+use Rattle.spec.specs.Drives.{Chunk, mkChunk, noChunk, Zone, View, zoneAt, pointerAt, chunkAt, zoneOn, sealedIn, dataStored, blocksOf, sparesOf, recordIn, recordAt, footersOf, zeroSpare}
+use Rattle.spec.specs.Faults.{footersStored, sameBlocks, footerFaultIn}
+use Rattle.spec.specs.Layout.{inGroupOf, headerBlock, headerSerial, headerCopied, footerBlock}
+use Rattle.spec.specs.Lists.{upFrom, any, isIn}
+use Rattle.spec.specs.Params.{capacity}
+use Rattle.spec.specs.Segments.{headerAt, remaining, Segment, segmentOf, segments}
 use Rattle.law_basic.specs.Geometry.{Ranged}
 use Rattle.law_basic.specs.Mask.{isIn-empty}
-use Rattle.law_basic.specs.Ranges.{Test, test, and-left, and-right, and-both, length-upFrom, getD-upFrom, getD-map, sameList-true}
+use Rattle.law_basic.specs.Ranges.{Test, test, and-both, length-upFrom, getD-upFrom, getD-map}
 use Rattle.law_basic.specs.Ranges.Test.{yes!, no! }
-use Rattle.law_basic.specs.Segs.{segs-differ, Named, by-seg}
-use Rattle.spec_demands.specs.Layouts.{Here, Remains, foundSealed, ParityMade, Layout}
-use Rattle.law_drives.specs.Accept.{Accepted, pointer-ok, faults-apart, zone-stripes, in-groups, copied-low, serials-differ, same-blocks}
+use Rattle.spec_demands.specs.Layouts.{Present, Remains, foundSealed, ParityMade, Layout}
+use Rattle.law_drives.specs.Accept.{Accepted, pointer-ok, in-groups, accept-stripe-once, header-ok, open-footers, copied-low, serials-differ, same-blocks, accepted-apart}
 use Rattle.law_drives.specs.Footers.{sparesIn}
-use Rattle.law_drives.specs.Members.{In, in-map, in-any, none-in, in-getD}
+use Rattle.law_drives.specs.Members.{In, in-map, in-any}
 use Rattle.law_drives.specs.Records.{blocks-at}
-use Rattle.law_drives.specs.Segs.{in-present, length-records, record-at, zone-by, seg-is, copied-is, full-is, is-seg, seg-in}
-use Rattle.law_drives.specs.Settled.{low-first, used-remains, remains-is-used, serial-of, SameZones, zones-sealed, zones-header}
-use Rattle.law_drives.specs.Tests.{clash, or-first, or-right, eqb-self}
-use Rattle.law_drives.specs.Tidy.{usedAt, Tidy}
+use Rattle.law_drives.specs.Segs.{copied-is, full-is, remaining-left, Here, is-seg, seg-in}
+use Rattle.law_drives.specs.Spots.{SpotsApart, none-apart, seg-low, seg-good, seg-alone}
+use Rattle.law_drives.specs.Settled.{low-first, there-remains, zero-here, serial-of, SameZones, zones-sealed, zones-header}
+use Rattle.law_drives.specs.Tests.{clash, eqb-self}
+use Rattle.law_drives.specs.Tidy.{There, Tidy}
 use Rattle.spec.specs.declared.Seg.{Seg}
-use Rattle.spec.specs.Drives.{seg, zonesIn}
+use Rattle.spec.specs.Drives.{isGood, zonesIn}
 
 -- 01, What a zone holds: all of the layout but the parity
 pub record Laid (p : Params) (v : View) (gone : ℕ) (old : List Segment) : Type 0 where
-  pub pointer-low : (d z : ℕ) → Here p gone d → z < p .Z → pointerAt v d z ≤ capacity p
-  pub header-stands : (g : Seg) (d : ℕ) → Remains p v gone g → Here p gone d
+  pub pointer-low : (d z : ℕ) → Present p gone d → z < p .Z → isGood p (v .offline) d z ≡ true → pointerAt v d z ≤ capacity p
+  pub zone-good : (g : Seg) (d : ℕ) → Remains p v gone g → d < p .N → (zoneOn g d < p .Z) × (isGood p (v .offline) d (zoneOn g d) ≡ true)
+  pub zone-once : (g h : Seg) (d : ℕ) → Remains p v gone g → Remains p v gone h → d < p .N → zoneOn g d ≡ zoneOn h d → g ≡ h
+  pub header-stands : (g : Seg) (d : ℕ) → Remains p v gone g → Present p gone d
       → chunkAt v d (zoneOn g d) 0 ≡ mkChunk (headerBlock p d (zonesIn p g) (segmentOf p v gone g .serial) (segmentOf p v gone g .copied)) zeroSpare
   pub serial-above : (g : Seg) → Remains p v gone g → segmentOf p v gone g .copied < segmentOf p v gone g .serial
   pub serial-once : (g h : Seg) → Remains p v gone g → Remains p v gone h → segmentOf p v gone g .serial ≡ segmentOf p v gone h .serial → g ≡ h
-  pub in-group : (g : Seg) (d o : ℕ) → Remains p v gone g → Here p gone d → o < dataStored p (zoneAt v d (zoneOn g d))
+  pub in-group : (g : Seg) (d o : ℕ) → Remains p v gone g → Present p gone d → o < dataStored p (zoneAt v d (zoneOn g d))
       → inGroupOf p o (recordAt p v gone d g o .stripe) ≡ true
-  pub number-once : (g : Seg) (d o i : ℕ) → Remains p v gone g → Here p gone d → o < dataStored p (zoneAt v d (zoneOn g d)) → i < dataStored p (zoneAt v d (zoneOn g d))
+  pub number-once : (g : Seg) (d o i : ℕ) → Remains p v gone g → Present p gone d → o < dataStored p (zoneAt v d (zoneOn g d)) → i < dataStored p (zoneAt v d (zoneOn g d))
       → recordAt p v gone d g o .stripe ≡ recordAt p v gone d g i .stripe → o ≡ i
-  pub footer-made : (g : Seg) (d i : ℕ) → Remains p v gone g → Here p gone d → foundSealed old (segmentOf p v gone g .serial) ≡ false
+  pub footer-made : (g : Seg) (d i : ℕ) → Remains p v gone g → Present p gone d → foundSealed old (segmentOf p v gone g .serial) ≡ false
       → i < footersStored p (zoneAt v d (zoneOn g d))
       → chunkAt v d (zoneOn g d) (1 + p .S + i) .block ≡ footerBlock p (sparesOf (take (p .S) (drop 1 (zoneAt v d (zoneOn g d) .blocks)))) i
 
 pub layout-of : (p : Params) (v : View) (gone : ℕ) (old : List Segment) → Laid p v gone old → ParityMade p v gone old → Layout p v gone old
 layout-of p v gone old l m = record {
   pointer-low = l .pointer-low;
+  zone-good = l .zone-good;
+  zone-once = l .zone-once;
   header-stands = l .header-stands;
   serial-above = l .serial-above;
   serial-once = l .serial-once;
@@ -78,9 +82,9 @@ Zoned p v gone old = (g : Seg) (d : ℕ) → In g (remaining p v gone) → d < p
 abbrev pub SegLaid : Params → View → List Segment → Seg → Type 0
 SegLaid p v old z = (d : ℕ) → d < p .N → ZoneLaid p old (sealedIn p v 0 z) (headerSerial p (headerAt v 0 z)) (headerCopied p (headerAt v 0 z)) d z (zoneAt v d (zoneOn z d))
 
--- every used segment
+-- every segment that there is
 abbrev pub WellLaid : Params → View → List Segment → Type 0
-WellLaid p v old = (z : Seg) → Named p z → usedAt v z ≡ true → SegLaid p v old z
+WellLaid p v old = (z : Seg) → There p v z → SegLaid p v old z
 
 pub laid-zoned : (p : Params) (v : View) (gone : ℕ) (old : List Segment) → Laid p v gone old → Zoned p v gone old
 laid-zoned p v gone old l g d m hd hq =
@@ -116,16 +120,18 @@ laid-zoned p v gone old l g d m hd hq =
         → i < footersStored p q → getD (q .blocks) (1 + p .S + i) noChunk .block ≡ footerBlock p (sparesIn p q) i
     foot! i f = unfold chunkAt sparesIn in f
 
--- and back, where pointers and serials are in order
-pub zoned-laid : (p : Params) (v : View) (gone : ℕ) (old : List Segment) → ((d z : ℕ) → d < p .N → z < p .Z → isIn gone d ≡ false → pointerAt v d z ≤ capacity p)
+-- and back, where pointers, zones and serials are in order
+pub zoned-laid : (p : Params) (v : View) (gone : ℕ) (old : List Segment) → Here p gone → SpotsApart p v gone
+    → ((d z : ℕ) → d < p .N → z < p .Z → isIn gone d ≡ false → isGood p (v .offline) d z ≡ true → pointerAt v d z ≤ capacity p)
     → ((g : Seg) → In g (remaining p v gone) → segmentOf p v gone g .copied < segmentOf p v gone g .serial)
-    → ((g h : Seg) → In g (remaining p v gone) → In h (remaining p v gone) → segmentOf p v gone g .serial ≡ segmentOf p v gone h .serial → g ≡ h)
     → Zoned p v gone old → Laid p v gone old
-zoned-laid p v gone old low above once z = record {
+zoned-laid p v gone old here apart low above z = record {
   pointer-low = λ d y k hy. low d y (k .0) hy (k .1);
+  zone-good = λ g d m hd. let i = is-seg g (remaining p v gone) m in (seg-low p v gone here apart g i d hd, seg-good p v gone here apart g i d hd);
+  zone-once = λ g h d m n hd. seg-alone p v gone here apart h (is-seg h (remaining p v gone) n) d hd g (is-seg g (remaining p v gone) m);
   header-stands = λ g d m k. head! g d (at g d m k .header-is);
   serial-above = λ g m. above g (is-seg g (remaining p v gone) m);
-  serial-once = λ g h m n. once g h (is-seg g (remaining p v gone) m) (is-seg h (remaining p v gone) n);
+  serial-once = λ g h m n. serials-differ p v gone here g h (is-seg g (remaining p v gone) m) (is-seg h (remaining p v gone) n);
   in-group = λ g d o m k. group! g d o (at g d m k .group-is o);
   number-once = λ g d o i m k. once! g d o i (at g d m k .once-is o i);
   footer-made = λ g d i m k n. foot! g d i (at g d m k .footer-is n i);
@@ -137,7 +143,7 @@ zoned-laid p v gone old low above once z = record {
     q : Seg → ℕ → Zone
     q g d = zoneAt v d (zoneOn g d)
 
-    at : (g : Seg) (d : ℕ) → Remains p v gone g → Here p gone d
+    at : (g : Seg) (d : ℕ) → Remains p v gone g → Present p gone d
         → ZoneLaid p old (sealedIn p v gone g) (segmentOf p v gone g .serial) (segmentOf p v gone g .copied) d g (zoneAt v d (zoneOn g d))
     at g d m k = z g d (is-seg g (remaining p v gone) m) (k .0) (k .1)
 
@@ -160,20 +166,6 @@ zoned-laid p v gone old low above once z = record {
 
 -- ---- what a restart's checks give
 
--- no number twice
-first-stripe-once : (r : Rec) (rs : List Rec) → any (λ (q : Rec). eqb (q .stripe) (r .stripe)) rs ≡ false → (i : ℕ) → i < length rs → getD rs i (mkRec 0 0 0) .stripe ≡ r .stripe → ⊥
-first-stripe-once r rs n i h e =
-    let a = getD rs i (mkRec 0 0 0) in
-    eqb-false (a .stripe) (r .stripe) (none-in (λ (q : Rec). eqb (q .stripe) (r .stripe)) rs n a (in-getD rs i (mkRec 0 0 0) h)) e
-
-pub twice-once : (rs : List Rec) → twice rs ≡ false → (o i : ℕ) → o < length rs → i < length rs → getD rs o (mkRec 0 0 0) .stripe ≡ getD rs i (mkRec 0 0 0) .stripe → o ≡ i
-unfolding twice
-twice-once [] n o i h k e = absurd (let z : ⊥ = omega arith in z)
-twice-once (r ∷ rs) n zero zero h k e = refl
-twice-once (r ∷ rs) n zero (suc i) h k e = absurd (first-stripe-once r rs (or-first (any (λ (q : Rec). eqb (q .stripe) (r .stripe)) rs) (twice rs) n) i (omega arith) (sym e))
-twice-once (r ∷ rs) n (suc o) zero h k e = absurd (first-stripe-once r rs (or-first (any (λ (q : Rec). eqb (q .stripe) (r .stripe)) rs) (twice rs) n) o (omega arith) e)
-twice-once (r ∷ rs) n (suc o) (suc i) h k e = ap suc (twice-once rs (or-right (any (λ (q : Rec). eqb (q .stripe) (r .stripe)) rs) (twice rs) n) o i (omega arith) (omega arith) e)
-
 -- an unsealed zone's footers are made from its spares
 pub checked-footers : (p : Params) (q : Zone) → footerFaultIn p q ≡ false → (i : ℕ) → i < footersStored p q
     → getD (q .blocks) (1 + p .S + i) noChunk .block ≡ footerBlock p (sparesIn p q) i
@@ -193,58 +185,6 @@ checked-footers p q f i h =
     same! x = unfold footersOf sparesIn in x
 
 module _ (p : Params) (v : View) (gone : ℕ) (acc : Accepted p v gone) where
-  -- 01, Refusals, 9: the header
-  checked-header : (g : Seg) (d : ℕ) → In g (remaining p v gone) → d < p .N → isIn gone d ≡ false
-      → getD (zoneAt v d (zoneOn g d) .blocks) 0 noChunk ≡ mkChunk (headerBlock p d (zonesIn p g) (segmentOf p v gone g .serial) (segmentOf p v gone g .copied)) zeroSpare
-  checked-header g d m hd hq = chunk! (zone! (not-false (same (getD (x .zonesBy) d noZone) (zonesIn p (x .seg)))
-      (none-in fault (present p gone) (as! (faults-apart p v gone acc g m .no-header-fault)) d (in-present p gone d hd hq))))
-    where
-      x : Segment
-      x = segmentOf p v gone g
-
-      same : Zone → List ℕ → Bool
-      same q y = sameChunk (getD (q .blocks) 0 noChunk) (headerBlock p d y (segmentOf p v gone g .serial) (segmentOf p v gone g .copied)) zeroSpare
-
-      fault : ℕ → Bool
-      fault e = not (sameChunk (getD (getD (segmentOf p v gone g .zonesBy) e noZone .blocks) 0 noChunk)
-          (headerBlock p e (zonesIn p (segmentOf p v gone g .seg)) (segmentOf p v gone g .serial) (segmentOf p v gone g .copied)) zeroSpare)
-
-      as! : headerFault p gone (segmentOf p v gone g) ≡ false → any fault (present p gone) ≡ false
-      as! e = unfold headerFault in e
-
-      zone! : same (getD (x .zonesBy) d noZone) (zonesIn p (x .seg)) ≡ true → same (zoneAt v d (zoneOn g d)) (zonesIn p g) ≡ true
-      zone! e =
-          subst (λ (q : Zone). same q (zonesIn p g) ≡ true) (zone-by p v gone g d hd)
-          (subst (λ (y : Seg). same (getD (segmentOf p v gone g .zonesBy) d noZone) (zonesIn p y) ≡ true) (seg-is p v gone g) e)
-
-      chunk! : same (zoneAt v d (zoneOn g d)) (zonesIn p g) ≡ true
-          → getD (zoneAt v d (zoneOn g d) .blocks) 0 noChunk ≡ mkChunk (headerBlock p d (zonesIn p g) (segmentOf p v gone g .serial) (segmentOf p v gone g .copied)) zeroSpare
-      chunk! e = unfold sameChunk in
-          let c = getD (zoneAt v d (zoneOn g d) .blocks) 0 noChunk in
-          let b = headerBlock p d (zonesIn p g) (segmentOf p v gone g .serial) (segmentOf p v gone g .copied) in
-          let e1 = sameList-true (c .block) b (and-left (sameList (c .block) b) (sameList (c .spare) zeroSpare) e) in
-          let e2 = sameList-true (c .spare) zeroSpare (and-right (sameList (c .block) b) (sameList (c .spare) zeroSpare) e) in
-          λ i. mkChunk (e1 i) (e2 i)
-
-  checked-once : (g : Seg) (d o i : ℕ) → In g (remaining p v gone) → d < p .N → isIn gone d ≡ false → o < dataStored p (zoneAt v d (zoneOn g d))
-      → i < dataStored p (zoneAt v d (zoneOn g d))
-      → recordIn p (sealedIn p v gone g) (zoneAt v d (zoneOn g d)) o .stripe ≡ recordIn p (sealedIn p v gone g) (zoneAt v d (zoneOn g d)) i .stripe → o ≡ i
-  checked-once g d o i m hd hq h j e =
-      let w = sealedIn p v gone g in
-      let q = zoneAt v d (zoneOn g d) in
-      let rs = recordsIn p w q in
-      let l = length-records p w q in
-      twice-once rs (zone-stripes p v gone acc g d m hd hq .1) o i (subst (λ (x : ℕ). o < x) (sym l) h) (subst (λ (x : ℕ). i < x) (sym l) j)
-      (ap (λ (r : Rec). r .stripe) (record-at p w q o (mkRec 0 0 0) h) ∙ e ∙ ap (λ (r : Rec). r .stripe) (sym (record-at p w q i (mkRec 0 0 0) j)))
-
-  pub open-footers : (g : Seg) (d : ℕ) → In g (remaining p v gone) → d < p .N → isIn gone d ≡ false → sealedIn p v gone g ≡ false → footerFaultIn p (zoneAt v d (zoneOn g d)) ≡ false
-  open-footers g d m hd hq ns =
-      ap (footerFaultIn p) (sym (zone-by p v gone g d hd))
-      ∙ none-in (λ e. footerFaultIn p (getD (segmentOf p v gone g .zonesBy) e noZone)) (present p gone) (as! (faults-apart p v gone acc g m .no-footer-fault)) d (in-present p gone d hd hq)
-    where
-      as! : footerFault p gone (segmentOf p v gone g) ≡ false → any (λ e. footerFaultIn p (getD (segmentOf p v gone g .zonesBy) e noZone)) (present p gone) ≡ false
-      as! e = unfold footerFault in (sym (ap (λ (b : Bool). not b && any (λ e. footerFaultIn p (getD (segmentOf p v gone g .zonesBy) e noZone)) (present p gone)) (full-is p v gone g ∙ ns)) ∙ e)
-
   -- a sealed segment of an accepted image is found sealed
   pub sealed-found : (g : Seg) → In g (remaining p v gone) → sealedIn p v gone g ≡ true → foundSealed (segments p v gone) (segmentOf p v gone g .serial) ≡ true
   sealed-found g m q = as! (in-any found (segments p v gone) (segmentOf p v gone g) (seg! (in-map (segmentOf p v gone) (remaining p v gone) g m))
@@ -259,29 +199,24 @@ module _ (p : Params) (v : View) (gone : ℕ) (acc : Accepted p v gone) where
       seg! : In (segmentOf p v gone g) (map (segmentOf p v gone) (remaining p v gone)) → In (segmentOf p v gone g) (segments p v gone)
       seg! i = unfold segments in i
 
-  -- every zone of an accepted image
-  pub accepted-zoned : Zoned p v gone (segments p v gone)
-  accepted-zoned g d m hd hq = record {
-    header-is = checked-header g d m hd hq;
-    group-is = λ o h. in-groups p v gone acc g d o m hd hq h;
-    once-is = λ o i h j e. checked-once g d o i m hd hq h j e;
-    footer-is = λ nf i h. go nf i h (test (sealedIn p v gone g));
-  }
-    where
-      go : foundSealed (segments p v gone) (segmentOf p v gone g .serial) ≡ false → (i : ℕ) → i < footersStored p (zoneAt v d (zoneOn g d)) → Test (sealedIn p v gone g)
-          → getD (zoneAt v d (zoneOn g d) .blocks) (1 + p .S + i) noChunk .block ≡ footerBlock p (sparesIn p (zoneAt v d (zoneOn g d))) i
-      go nf i h (yes! q) = clash (sealed-found g m q) nf
-      go nf i h (no! q) = checked-footers p (zoneAt v d (zoneOn g d)) (open-footers g d m hd hq q) i h
+  module _ (here : Here p gone) where
+    -- every zone of an accepted image
+    pub accepted-zoned : Zoned p v gone (segments p v gone)
+    accepted-zoned g d m hd hq = record {
+      header-is = header-ok p v gone acc here g d m hd hq;
+      group-is = λ o h. in-groups p v gone acc g d o m hd hq h;
+      once-is = λ o i h j e. accept-stripe-once p v gone acc g d o i m hd hq h j e;
+      footer-is = λ nf i h. go nf i h (test (sealedIn p v gone g));
+    }
+      where
+        go : foundSealed (segments p v gone) (segmentOf p v gone g .serial) ≡ false → (i : ℕ) → i < footersStored p (zoneAt v d (zoneOn g d)) → Test (sealedIn p v gone g)
+            → getD (zoneAt v d (zoneOn g d) .blocks) (1 + p .S + i) noChunk .block ≡ footerBlock p (sparesIn p (zoneAt v d (zoneOn g d))) i
+        go nf i h (yes! q) = clash (sealed-found g m q) nf
+        go nf i h (no! q) = checked-footers p (zoneAt v d (zoneOn g d)) (open-footers p v gone acc g d m hd hq q) i h
 
-  pub laid-accepted : (old : List Segment) → Zoned p v gone old → Laid p v gone old
-  laid-accepted old z = zoned-laid p v gone old (λ d y hd hy hq. pointer-ok p v gone acc d y hd hy hq) (copied-low p v gone acc) once z
-    where
-      once : (g h : Seg) → In g (remaining p v gone) → In h (remaining p v gone) → segmentOf p v gone g .serial ≡ segmentOf p v gone h .serial → g ≡ h
-      once g h m n e = go (segs-differ g h)
-        where
-          go : Dec (g ≡ h) → g ≡ h
-          go (yes x) = x
-          go (no x) = absurd (serials-differ p v gone acc h g n m x e)
+    pub laid-accepted : (old : List Segment) → Zoned p v gone old → Laid p v gone old
+    laid-accepted old z =
+        zoned-laid p v gone old here (accepted-apart p v gone acc here) (λ d y hd hy hq gd. pointer-ok p v gone acc d y hd hy hq gd) (copied-low p v gone acc) z
 
 -- ---- with none missing
 
@@ -290,25 +225,19 @@ module _ (p : Params) (r : Ranged p) (v : View) (s : ℕ) (t : Tidy p v s) (old 
   copied-of g = copied-is p v 0 g ∙ ap (λ (x : ℕ). headerCopied p (headerAt v x g)) (low-first p r)
 
   pub laid-tidy : WellLaid p v old → Laid p v 0 old
-  laid-tidy f = zoned-laid p v 0 old (λ d y hd hy hq. by-seg (λ x. pointerAt v d x ≤ capacity p) p d y hd hy (λ g hg. t .pointer-low d g hd hg)) above once
-      (λ g d m hd hq. let (hg, u) = remains-is-used p r v s t g m in
+  laid-tidy f = zoned-laid p v 0 old (zero-here p r) (none-apart p v) (λ d y hd hy hq gd. t .pointer-low d y hd hy gd) above
+      (λ g d m hd hq.
       subst (λ (x : ℕ). ZoneLaid p old (sealedIn p v 0 g) x (segmentOf p v 0 g .copied) d g (zoneAt v d (zoneOn g d))) (sym (serial-of p r v s t g))
-      (subst (λ (x : ℕ). ZoneLaid p old (sealedIn p v 0 g) (headerSerial p (headerAt v 0 g)) x d g (zoneAt v d (zoneOn g d))) (sym (copied-of g)) (f g hg u d hd)))
+      (subst (λ (x : ℕ). ZoneLaid p old (sealedIn p v 0 g) (headerSerial p (headerAt v 0 g)) x d g (zoneAt v d (zoneOn g d))) (sym (copied-of g)) (f g (remaining-left p v 0 g m) d hd)))
     where
       above : (g : Seg) → In g (remaining p v 0) → segmentOf p v 0 g .copied < segmentOf p v 0 g .serial
-      above g m = let (hg, u) = remains-is-used p r v s t g m in let a = serial-of p r v s t g in let b = copied-of g in let c = t .copied-less g hg u in omega arith
-
-      once : (g h : Seg) → In g (remaining p v 0) → In h (remaining p v 0) → segmentOf p v 0 g .serial ≡ segmentOf p v 0 h .serial → g ≡ h
-      once g h m n e =
-          let (hg, u) = remains-is-used p r v s t g m in
-          let (hh, w) = remains-is-used p r v s t h n in
-          t .serial-once g h hg hh u w (sym (serial-of p r v s t g) ∙ e ∙ serial-of p r v s t h)
+      above g m = let a = serial-of p r v s t g in let b = copied-of g in let c = t .copied-less g (remaining-left p v 0 g m) in omega arith
 
   pub tidy-laid : Laid p v 0 old → WellLaid p v old
-  tidy-laid l z hz u d hd =
+  tidy-laid l z hz d hd =
       subst (λ (x : ℕ). ZoneLaid p old (sealedIn p v 0 z) x (headerCopied p (headerAt v 0 z)) d z (zoneAt v d (zoneOn z d))) (serial-of p r v s t z)
       (subst (λ (x : ℕ). ZoneLaid p old (sealedIn p v 0 z) (segmentOf p v 0 z .serial) x d z (zoneAt v d (zoneOn z d))) (copied-of z)
-      (laid-zoned p v 0 old l z d (used-remains p r v s t z hz u) hd (isIn-empty d)))
+      (laid-zoned p v 0 old l z d (there-remains p r v s t z hz) hd (isIn-empty d)))
 
 -- a segment whose zones are the same
 pub laid-same : (p : Params) (r : Ranged p) (v u : View) (old : List Segment) (z : Seg) → SameZones p v u z → SegLaid p v old z → SegLaid p u old z

@@ -2,38 +2,44 @@
 use mathlib.Core.Path.{_≡_, refl, sym, ap, ap₂, _∙_, subst}
 use mathlib.Core.List.{List, [], _∷_, map}
 use mathlib.Core.Bool.{Bool, true, false, not, _&&_, _||_}
-use Prim.Native.Nat.{ℕ, suc, _+_, _≤_, _<_}
+use Prim.Native.Nat.{ℕ, suc, _+_, _^_, _≤_, _<_}
 use native.Mathlib.Nat.{zero-add, add-zero}
-use borrow.Author.Tests.{lt-ltb, le-ltb, eq-eqb, ne-eqb, not-true}
+use borrow.Author.Tests.{lt-ltb, le-ltb, eq-eqb, ne-eqb, eqb-true, not-true}
 use native.Mathlib.Omega.{arith}
 use lib.Dec.{leb, ltb, eqb}
 use lib.ListN.{length, getD, length-map}
 use Rattle.spec.specs.declared.Params.{Params}
-use Rattle.spec.specs.Drives.{mkChunk, noChunk, Zone, noZone, View, zoneAt, pointerAt, zoneOn, blocksOf, footersOf, zeroSpare, sameSeg, allSegs, seg, zonesIn}
+use Rattle.spec.specs.Drives.{mkChunk, noChunk, Zone, noZone, View, zoneAt, pointerAt, zoneOn, blocksOf, footersOf, zeroSpare, sameSeg, zonesIn, Chunk, chunkAt, isGood, sealedIn}
 use Rattle.spec.specs.Faults.{pointerFaults, sameChunk, headerFault, serialFault, outside, twice, stripeFault, badRec, storedBad, decodedBad, addressFault, footersStored, sameBlocks, footerFaultIn}
-use Rattle.spec.specs.Faults.{footerFault, clashes, segmentFault, segmentFaults}
-use Rattle.spec.specs.Layout.{isData, group, inGroupOf, headerBlock, headerSerial, headerCopied, Rec, mkRec}
+use Rattle.spec.specs.Faults.{footerFault, clashes, segmentFault, segmentFaults, badName, nameClash, ownFault, serialTwice}
+use Rattle.spec.specs.Layout.{isData, group, inGroupOf, headerBlock, headerSerial, Rec, mkRec, headerZones}
 use Rattle.spec.specs.Lists.{upFrom, below, all, any, keep, sameList, tally, isIn}
 use Rattle.spec.specs.Params.{capacity, named, drivesOf, present, absent}
-use Rattle.spec.specs.Segments.{lowDrive, headerAt, leftBy1, isCopy, remaining, Segment, segmentOf, segments, recsOn, counts, counted, recOf, unsealed}
+use Rattle.spec.specs.Segments.{lowDrive, headerAt, leftBy1, isCopy, remaining, Segment, segmentOf, segments, recsOn, counts, counted, recOf, unsealed, isUsed, leads, serialIn}
 use Rattle.law_basic.specs.Geometry.{Ranged}
 use Rattle.law_basic.specs.Mask.{isIn-empty}
-use Rattle.law_basic.specs.Ranges.{Test, test, and-left, and-right, and-both, map-map, getD-map, sameList-refl, keep-map}
+use Rattle.law_basic.specs.Ranges.{Test, test, and-left, and-right, and-both, getD-map, sameList-refl, keep-map}
 use Rattle.law_basic.specs.Ranges.Test.{yes!, no! }
-use Rattle.law_basic.specs.Segs.{Named, zone-on-lt, by-seg}
-use Rattle.law_drives.specs.Accept.{Accepted, pointer-ok, faults-apart}
-use Rattle.law_drives.specs.Frame.{any-mapped}
-use Rattle.law_drives.specs.Members.{In, map-in, in-keep, keep-in, all-in, in-all, none-in, in-none, any-in, in-any, keep-cong, map-cong, keep-nothing, in-below, below-in, in-getD, getD-in}
-use Rattle.law_drives.specs.Rebuilding.{counted-low, counted-in}
-use Rattle.law_drives.specs.Segs.{present-in, in-present, remaining-low, zone-by, seg-is, serial-is, copied-is, segs-in}
-use Rattle.law_drives.specs.Settled.{present-all, low-first}
-use Rattle.law_drives.specs.Tables.{remains, remaining-is, in-remaining, remaining-in}
-use Rattle.law_drives.specs.Tests.{clash, and-false-left, and-false-right, or-neither, or-first, or-right, not-so, same-test}
+use Rattle.law_drives.specs.Accept.{Accepted, pointer-ok, faults-apart, bears-once, names-is, serials-differ, unsealed-once, zone-good, zone-in-range, zone-once}
+use Rattle.law_drives.specs.Members.{In, map-in, in-keep, keep-in, none-in, in-none, any-in, keep-nothing, in-below, below-in, in-getD, getD-in, keep-keep}
+use Rattle.law_drives.specs.Rebuilding.{counted-low, counted-in, RebuiltZone, rebuilt-kind}
+use Rattle.law_drives.specs.Segs.{zone-by, seg-is, full-is}
+use Rattle.law_drives.specs.Tables.{remaining-is, at-remaining, remainsAt, seg-at-zone, segAt}
+use Rattle.law_drives.specs.Tests.{clash, and-false-left, and-false-right, or-neither, or-first, or-right, not-so}
 use Rattle.proof_rebuilt.specs.Groups.{rank-group}
-use Rattle.proof_rebuilt.specs.Numbers.{rank-of}
-use Rattle.proof_rebuilt.specs.Segment.{decoded-stripe, rebuilt-seg-full, recs-rebuilt, recs-other, header-of, head-serial, head-copied, rebuilt-serial, rebuilt-copied}
-use Rattle.proof_rebuilt.specs.Zone.{rebuiltView, Loss, drive-lost, each-drive, present-zone-same, zone-dropped, rebuilt-low, rebuilt-open, rebuilt-some}
+use Rattle.proof_rebuilt.specs.Numbers.{rank-of, few-kept}
+use Rattle.proof_rebuilt.specs.Segment.{decoded-stripe, rebuilt-seg-full, recs-rebuilt, recs-other, header-of, rebuilt-serial, rebuilt-copied}
+use Rattle.proof_rebuilt.specs.Zone.{rebuiltView, Loss, drive-lost, each-drive, present-zone-same, zone-dropped, rebuilt-low, rebuilt-open, zone-lost-apart, low-one}
 use Rattle.spec.specs.declared.Seg.{Seg}
+use Rattle.spec.specs.Segments.{bearing}
+use Rattle.law_drives.specs.Rebuilding.RebuiltZone.{zone-of, zone-free, zone-bad}
+use Rattle.law_basic.specs.Fields.{header-zones-named}
+use Rattle.law_basic.specs.Segs.{seg-self, zones-in, zones-in-long}
+use Rattle.law_drives.specs.Gather.{in-present, present-in}
+use Rattle.law_drives.specs.Rebuilt.{rebuilt-of, rebuilt-remains, rebuilt-serial-in, remains-rebuilt}
+use Rattle.law_drives.specs.Settled.{zero-here}
+use Rattle.spec.specs.Rebuild.{rebuildStores}
+use Rattle.law_views.specs.Alike.{offline-after}
 
 module _ (p : Params) (v : View) (d : ℕ) (lo : Loss p v d) where
   abbrev r : Ranged p
@@ -56,127 +62,93 @@ module _ (p : Params) (v : View) (d : ℕ) (lo : Loss p v d) where
 
   -- ---- what remains
 
-  abbrev filled : View → Seg → ℕ → Bool
-  filled t z e = not (eqb (pointerAt t e (zoneOn z e)) 0)
+  pub now-remains : (g : Seg) → In g (remaining p v (named d)) → In g (remaining p (rebuiltView p v d) 0)
+  now-remains g m = rebuilt-remains p r v (lo .shaped) d hd acc g m
 
-  -- a zone of the rebuilt drive that isn't empty
-  filled-remains : (z : Seg) → Named p z → filled u z d ≡ true → remains p v gone z ≡ true
-  filled-remains z hz q = go (test (remains p v gone z))
-    where
-      go : Test (remains p v gone z) → remains p v gone z ≡ true
-      go (yes! h) = h
-      go (no! h) = clash (eq-eqb (pointerAt u d (zoneOn z d)) 0 (zone-dropped p v d lo z hz h)) (not-true (eqb (pointerAt u d (zoneOn z d)) 0) q)
+  pub remained : (g : Seg) → In g (remaining p (rebuiltView p v d) 0) → In g (remaining p v (named d))
+  remained g m = remains-rebuilt p r v (lo .shaped) d hd acc g m
 
-  left-remains : (z : Seg) → In z (leftBy1 p u 0) → In z (remaining p v gone)
-  unfolding leftBy1
-  left-remains z m =
-      let (i, q) = keep-in (λ g. all (filled u g) (present p 0)) (allSegs p) z m in
-      let hz = segs-in p z i in
-      in-remaining p v gone z hz (filled-remains z hz (all-in (filled u z) (present p 0) q d (present-all p d hd)))
-
-  remaining-left : (z : Seg) → In z (remaining p v gone) → In z (leftBy1 p v gone) × (isCopy p v (lowDrive p gone) (leftBy1 p v gone) z ≡ false)
-  unfolding remaining
-  remaining-left z m =
-      let f : Seg → Bool = isCopy p v (lowDrive p gone) (leftBy1 p v gone) in
-      let (i, q) = keep-in (λ g. not (f g)) (leftBy1 p v gone) z m in (i, not-true (f z) q)
+  same-list : u .offline ≡ v .offline
+  same-list = offline-after (rebuildStores p v d (segments p v (named d))) v
 
   pointer-in-zone : (t : View) (e z : ℕ) → pointerAt t e z ≡ zoneAt t e z .pointer
   unfolding pointerAt
   pointer-in-zone t e z = refl
 
-  filled-all : (z : Seg) → In z (remaining p v gone) → all (filled u z) (present p 0) ≡ true
-  filled-all z m =
-      let (hz, rm) = remaining-in p v gone z m in
-      in-all (filled u z) (present p 0)
-      (λ e i. each-drive p v d lo {P = λ e. filled u z e ≡ true}
-      (ap not (ne-eqb (pointerAt u d (zoneOn z d)) 0 (λ q. let a = rebuilt-some p v d lo z hz rm in let b = pointer-in-zone u d (zoneOn z d) in let bad : ⊥ = omega arith in bad)))
-      (λ e he pr. ap (λ (n : ℕ). not (eqb n 0)) (pointer-in-zone u e (zoneOn z e) ∙ ap (λ (q : Zone). q .pointer) (kept-zone e (zoneOn z e) he (zone-on-lt p z e hz) pr)
-      ∙ sym (pointer-in-zone v e (zoneOn z e)))
-      ∙ all-in (filled v z) (present p gone) (was rm) e (in-present p gone e he pr))
-      e (present-in p 0 e i .0))
-    where
-      was : remains p v gone z ≡ true → all (filled v z) (present p gone) ≡ true
-      was rm = unfold remains in and-left (all (filled v z) (present p gone)) (not (isCopy p v (lowDrive p gone) (leftBy1 p v gone) z)) rm
-
-  -- its copied serial names no other
-  no-copy : (z : Seg) → In z (remaining p v gone) → isCopy p u (lowDrive p 0) (leftBy1 p u 0) z ≡ false
-  unfolding isCopy
-  no-copy z m = not-so (isCopy p u (lowDrive p 0) (leftBy1 p u 0) z) (λ q.
-      let l = lowDrive p 0 in
-      let k = lowDrive p gone in
-      let cu = headerCopied p (headerAt u l z) in
-      let cv = headerCopied p (headerAt v k z) in
-      let fu : Seg → Bool = λ h. not (sameSeg h z) && eqb (headerSerial p (headerAt u l h)) cu in
-      let fv : Seg → Bool = λ h. not (sameSeg h z) && eqb (headerSerial p (headerAt v k h)) cv in
-      let ec : cu ≡ cv = ap (λ (e : ℕ). headerCopied p (headerAt u e z)) (low-first p r) ∙ head-copied p v d lo z m ∙ copied-is p v gone z in
-      let (h, i, t) = any-in fu (leftBy1 p u 0) (and-right (not (eqb cu 0)) (any fu (leftBy1 p u 0)) q) in
-      let n = left-remains h i in
-      let es : headerSerial p (headerAt u l h) ≡ headerSerial p (headerAt v k h) =
-      ap (λ (e : ℕ). headerSerial p (headerAt u e h)) (low-first p r) ∙ head-serial p v d lo h n ∙ serial-is p v gone h in
-      clash (and-both (not (eqb cv 0)) (any fv (leftBy1 p v gone)) (ap (λ (c : ℕ). not (eqb c 0)) (sym ec) ∙ and-left (not (eqb cu 0)) (any fu (leftBy1 p u 0)) q)
-      (in-any fv (leftBy1 p v gone) h (remaining-left h n .0) (ap₂ (λ (a b : ℕ). not (sameSeg h z) && eqb a b) (sym es) (sym ec) ∙ t)))
-      (remaining-left z m .1))
-
-  pub rebuilt-remaining : remaining p u 0 ≡ remaining p v gone
-  rebuilt-remaining = remaining-is p u 0 ∙ keep-cong (remains p u 0) (remains p v gone) (allSegs p) (λ z i. same z (segs-in p z i)) ∙ sym (remaining-is p v gone)
-    where
-      same : (z : Seg) → Named p z → remains p u 0 z ≡ remains p v gone z
-      same z hz = same-test (remains p u 0 z) (remains p v gone z) (λ q. filled-remains z hz (here q)) (λ q. back (in-remaining p v gone z hz q))
-        where
-          here : remains p u 0 z ≡ true → filled u z d ≡ true
-          here q = unfold remains in (all-in (filled u z) (present p 0) (and-left (all (filled u z) (present p 0)) (not (isCopy p u (lowDrive p 0) (leftBy1 p u 0) z)) q) d (present-all p d hd))
-
-          back : In z (remaining p v gone) → remains p u 0 z ≡ true
-          back m = unfold remains in and-both (all (filled u z) (present p 0)) (not (isCopy p u (lowDrive p 0) (leftBy1 p u 0) z)) (filled-all z m) (ap not (no-copy z m))
-
   -- ---- pointers
 
   no-pointer-fault : pointerFaults p u 0 ≡ []
   unfolding pointerFaults
-  no-pointer-fault = keep-nothing (λ z. any (λ e. ltb (capacity p) (pointerAt u e z)) (present p 0)) (below (p .Z))
+  no-pointer-fault = keep-nothing (λ z. any (λ e. isGood p (u .offline) e z && ltb (capacity p) (pointerAt u e z)) (present p 0)) (below (p .Z))
       (λ z i.
       let hz = below-in (p .Z) z i in
-      in-none (λ e. ltb (capacity p) (pointerAt u e z)) (present p 0)
-      (λ e j. le-ltb (capacity p) (pointerAt u e z) (subst (λ (n : ℕ). n ≤ capacity p) (sym (pointer-in-zone u e z))
-      (each-drive p v d lo {P = λ e. zoneAt u e z .pointer ≤ capacity p} (by-seg (λ n. zoneAt u d n .pointer ≤ capacity p) p d z hd hz (λ g hg. here g hg (test (remains p v gone g))))
-      (λ e he pr. subst (λ (q : Zone). q .pointer ≤ capacity p) (sym (kept-zone e z he hz pr))
-      (subst (λ (n : ℕ). n ≤ capacity p) (pointer-in-zone v e z) (pointer-ok p v gone acc e z he hz pr)))
-      e (present-in p 0 e j .0)))))
+      in-none (λ e. isGood p (u .offline) e z && ltb (capacity p) (pointerAt u e z)) (present p 0) (λ e j. good e z (present-in p 0 e j .0) hz (test (isGood p (v .offline) e z))))
     where
-      here : (z : Seg) → Named p z → Test (remains p v gone z) → zoneAt u d (zoneOn z d) .pointer ≤ capacity p
-      here z hz (yes! q) = rebuilt-low p v d lo z hz q
-      here z hz (no! q) = let a = zone-dropped p v d lo z hz q in let b = pointer-in-zone u d (zoneOn z d) in omega arith
+      here : (z : ℕ) → z < p .Z → isGood p (v .offline) d z ≡ true
+          → RebuiltZone p r v (lo .shaped) d hd (drive-lost p v d lo) (zone-lost-apart p v d lo) z → zoneAt u d z .pointer ≤ capacity p
+      here z hz k (zone-of g m q) = subst (λ (n : ℕ). zoneAt u d n .pointer ≤ capacity p) q (rebuilt-low p v d lo g m)
+      here z hz k (zone-free x n) = let a = zone-dropped p v d lo z hz x n in omega arith
+      here z hz k (zone-bad x) = clash k x
 
-  -- ---- serials and unsealed segments: by number, serials and sealed or not
+      low : (e z : ℕ) → e < p .N → z < p .Z → isGood p (v .offline) e z ≡ true → zoneAt u e z .pointer ≤ capacity p
+      low e z he hz k = each-drive p v d lo {P = λ e. isGood p (v .offline) e z ≡ true → zoneAt u e z .pointer ≤ capacity p}
+          (λ k. here z hz k (rebuilt-kind p r v (lo .shaped) d hd (drive-lost p v d lo) (zone-lost-apart p v d lo) z))
+          (λ e he pr k. subst (λ (q : Zone). q .pointer ≤ capacity p) (sym (kept-zone e z he hz pr))
+          (subst (λ (n : ℕ). n ≤ capacity p) (pointer-in-zone v e z) (pointer-ok p v gone acc e z he hz pr k)))
+          e he k
 
-  -- a segment without its zones and records
-  unfoldable head : Segment → Segment
-  head g = record { seg = g .seg; serial = g .serial; copied = g .copied; full = g .full; zonesBy = []; recs = [] }
+      good : (e z : ℕ) → e < p .N → z < p .Z → Test (isGood p (v .offline) e z) → isGood p (u .offline) e z && ltb (capacity p) (pointerAt u e z) ≡ false
+      good e z he hz (no! k) = and-false-left (isGood p (u .offline) e z) (ltb (capacity p) (pointerAt u e z)) (ap (λ (l : List ℕ). isGood p l e z) same-list ∙ k)
+      good e z he hz (yes! k) = and-false-right (isGood p (u .offline) e z) (ltb (capacity p) (pointerAt u e z))
+          (le-ltb (capacity p) (pointerAt u e z) (subst (λ (n : ℕ). n ≤ capacity p) (sym (pointer-in-zone u e z)) (low e z he hz k)))
 
-  serial-fault-head : (gs : List Segment) (g : Segment) → serialFault gs g ≡ serialFault (map head gs) (head g)
-  unfolding serialFault head
-  serial-fault-head gs g = ap (λ (b : Bool). leb (g .serial) (g .copied) || b) (sym (any-mapped (λ (h : Segment). not (sameSeg (h .seg) (g .seg)) && eqb (h .serial) (g .serial)) head gs))
+  -- ---- unsealed segments: one at most
 
-  head-clash : (gs : List Segment) (g : Segment) → clashes gs g ≡ clashes (map head gs) (head g)
-  unfolding clashes head unsealed
-  head-clash gs g = ap (λ (n : ℕ). not (g .full) && leb 2 n)
-      (sym (length-map (keep (λ (h : Segment). not (head h .full)) gs) head) ∙ ap length (sym (keep-map (λ (h : Segment). not (h .full)) head gs)))
+  -- one of them, before the rebuild
+  record Was (z : ℕ) : Type 0 where
+    it-remained : In (segAt p u 0 z) (remaining p v (named d))
+    unsealed-then : sealedIn p v (named d) (segAt p u 0 z) ≡ false
+    its-zone-is : zoneOn (segAt p u 0 z) (lowDrive p 0) ≡ z
 
-  same-head : (g : Seg) → In g (remaining p v gone) → head (segmentOf p u 0 g) ≡ head (segmentOf p v gone g)
-  unfolding head
-  same-head g m =
-      let e1 = seg-is p u 0 g ∙ sym (seg-is p v gone g) in
-      let e2 = rebuilt-serial p v d lo g m in
-      let e3 = rebuilt-copied p v d lo g m in
-      let e4 = rebuilt-seg-full p v d lo g m in
-      λ i. record { seg = e1 i; serial = e2 i; copied = e3 i; full = e4 i; zonesBy = []; recs = [] }
+  accepted-one-unsealed : leb 2 (length (unsealed (segments p u 0))) ≡ false
+  accepted-one-unsealed = ap (λ (n : ℕ). leb 2 n) long ∙ few-kept loose (p .Z) once
+    where
+      loose : ℕ → Bool
+      loose z = remainsAt p u 0 z && not (segmentOf p u 0 (segAt p u 0 z) .full)
 
-  same-heads : map head (segments p u 0) ≡ map head (segments p v gone)
-  unfolding segments
-  same-heads =
-      map-map head (segmentOf p u 0) (remaining p u 0) ∙ ap (map (λ g. head (segmentOf p u 0 g))) rebuilt-remaining
-      ∙ map-cong (λ g. head (segmentOf p u 0 g)) (λ g. head (segmentOf p v gone g)) (remaining p v gone) same-head
-      ∙ sym (map-map head (segmentOf p v gone) (remaining p v gone))
+      listed : unsealed (segments p u 0) ≡ map (segmentOf p u 0) (map (segAt p u 0) (keep loose (below (p .Z))))
+      listed = unfold unsealed segments in (
+          keep-map (λ (h : Segment). not (h .full)) (segmentOf p u 0) (remaining p u 0)
+          ∙ ap (λ (l : List Seg). map (segmentOf p u 0) (keep (λ g. not (segmentOf p u 0 g .full)) l)) (remaining-is p u 0)
+          ∙ ap (map (segmentOf p u 0)) (keep-map (λ g. not (segmentOf p u 0 g .full)) (segAt p u 0) (keep (remainsAt p u 0) (below (p .Z)))
+          ∙ ap (map (segAt p u 0)) (keep-keep (λ z. not (segmentOf p u 0 (segAt p u 0 z) .full)) (remainsAt p u 0) (below (p .Z)))))
+
+      long : length (unsealed (segments p u 0)) ≡ length (keep loose (below (p .Z)))
+      long = ap length listed ∙ length-map (map (segAt p u 0) (keep loose (below (p .Z)))) (segmentOf p u 0) ∙ length-map (keep loose (below (p .Z))) (segAt p u 0)
+
+      was : (z : ℕ) → z < p .Z → loose z ≡ true → Was z
+      was z hz q =
+          let a = and-left (remainsAt p u 0 z) (not (segmentOf p u 0 (segAt p u 0 z) .full)) q in
+          let b = not-true (segmentOf p u 0 (segAt p u 0 z) .full) (and-right (remainsAt p u 0 z) (not (segmentOf p u 0 (segAt p u 0 z) .full)) q) in
+          let m = remained (segAt p u 0 z) (at-remaining p u 0 (zero-here p r) z hz a) in
+          record {
+            it-remained = m;
+            unsealed-then = sym (full-is p v gone (segAt p u 0 z)) ∙ sym (rebuilt-seg-full p v d lo (segAt p u 0 z) m) ∙ b;
+            its-zone-is = seg-at-zone p u 0 (zero-here p r) z (leads! z a);
+          }
+        where
+          leads! : (z : ℕ) → remainsAt p u 0 z ≡ true → leads p u (lowDrive p 0) z ≡ true
+          leads! z q = unfold remainsAt in (
+              let l : Bool = all (λ e. ltb (zoneOn (segAt p u 0 z) e) (p .Z)) (present p 0) in
+              and-left (leads p u (lowDrive p 0) z) l (and-left (leads p u (lowDrive p 0) z && l) (not (isCopy p u (lowDrive p 0) (leftBy1 p u 0) (segAt p u 0 z))) q))
+
+      once : (i j : ℕ) → i < p .Z → j < p .Z → loose i ≡ true → loose j ≡ true → i ≡ j
+      once i j hi hj a b =
+          let x = was i hi a in
+          let y = was j hj b in
+          sym (x .its-zone-is)
+          ∙ ap (λ (g : Seg). zoneOn g (lowDrive p 0)) (unsealed-once p v gone acc (segAt p u 0 i) (segAt p u 0 j) (x .it-remained) (y .it-remained) (x .unsealed-then) (y .unsealed-then))
+          ∙ y .its-zone-is
 
   module _ (g : Seg) (m : In g (remaining p v gone)) where
     abbrev x : Segment
@@ -188,8 +160,19 @@ module _ (p : Params) (v : View) (d : ℕ) (lo : Loss p v d) where
     abbrev ss : List ℕ
     ss = counted p gone x
 
-    hg : Named p g
-    hg = remaining-low p v gone g m
+    abbrev low-at : (e : ℕ) → e < p .N → zoneOn g e < p .Z
+    low-at e he = zone-in-range p v (named d) (lo .accepts) (low-one p v d lo) g e m he
+
+    -- its headers name its zones
+    names-now : y .names ≡ zonesIn p g
+    names-now = names-is p u 0 g ∙ ap (headerZones p) head ∙ header-zones-named p (lowDrive p 0) (zonesIn p g) (x .serial) (x .copied) (zones-in-long p g)
+        (λ e he. subst (λ (n : ℕ). n < 256 ^ 4) (sym (zones-in p g e he)) (let a = low-at e he in omega (arith, r .zones-high)))
+      where
+        head : headerAt u (lowDrive p 0) g ≡ headerBlock p (lowDrive p 0) (zonesIn p g) (x .serial) (x .copied)
+        head = unfold headerAt chunkAt in ap (λ (c : Chunk). c .block) (header-of p v d lo g m (lowDrive p 0) (zero-here p r .0))
+
+    name-now : (e : ℕ) → e < p .N → getD (y .names) e 0 ≡ zoneOn g e
+    name-now e he = ap (λ (l : List ℕ). getD l e 0) names-now ∙ zones-in p g e he
 
     -- a test of each drive
     none-of : (f : ℕ → Bool) → f d ≡ false → ((e : ℕ) → e < p .N → isIn gone e ≡ false → f e ≡ false) → any f (present p 0) ≡ false
@@ -197,23 +180,61 @@ module _ (p : Params) (v : View) (d : ℕ) (lo : Loss p v d) where
 
     no-header-fault : headerFault p 0 y ≡ false
     unfolding headerFault
-    no-header-fault = in-none (λ e. not (sameChunk (getD (getD (y .zonesBy) e noZone .blocks) 0 noChunk) (headerBlock p e (zonesIn p (y .seg)) (y .serial) (y .copied)) zeroSpare)) (present p 0)
+    no-header-fault = in-none (λ e. not (sameChunk (getD (getD (y .zonesBy) e noZone .blocks) 0 noChunk) (headerBlock p e (y .names) (y .serial) (y .copied)) zeroSpare)) (present p 0)
         (λ e i.
         let he = present-in p 0 e i .0 in
-        let t : sameChunk (getD (getD (y .zonesBy) e noZone .blocks) 0 noChunk) (headerBlock p e (zonesIn p (y .seg)) (y .serial) (y .copied)) zeroSpare ≡ true =
-        rw (zone-by p u 0 g e he, header-of p v d lo g m e he, seg-is p u 0 g, rebuilt-serial p v d lo g m, rebuilt-copied p v d lo g m)
+        let t : sameChunk (getD (getD (y .zonesBy) e noZone .blocks) 0 noChunk) (headerBlock p e (y .names) (y .serial) (y .copied)) zeroSpare ≡ true =
+        rw (zone-by p u 0 g e he, header-of p v d lo g m e he, names-now, rebuilt-serial p v d lo g m, rebuilt-copied p v d lo g m)
         (fine (headerBlock p e (zonesIn p g) (x .serial) (x .copied))) in
         ap not t)
       where
         fine : (b : List ℕ) → sameChunk (mkChunk b zeroSpare) b zeroSpare ≡ true
         fine b = unfold sameChunk in and-both (sameList b b) (sameList zeroSpare zeroSpare) (sameList-refl b) (sameList-refl zeroSpare)
 
-    no-serial-fault : serialFault (segments p u 0) y ≡ false
-    no-serial-fault =
-        serial-fault-head (segments p u 0) y ∙ ap₂ serialFault same-heads (same-head g m) ∙ sym (serial-fault-head (segments p v gone) x) ∙ faults-apart p v gone acc g m .no-serial-fault
+    no-own-fault : ownFault p 0 y ≡ false
+    unfolding ownFault
+    no-own-fault = in-none (λ e. not (eqb (getD (y .names) e 0) (zoneOn (y .seg) e))) (present p 0)
+        (λ e i. ap not (eq-eqb (getD (y .names) e 0) (zoneOn (y .seg) e) (name-now e (present-in p 0 e i .0) ∙ ap (λ (h : Seg). zoneOn h e) (sym (seg-is p u 0 g)))))
+
+    no-bad-name : badName p u y ≡ false
+    unfolding badName drivesOf
+    no-bad-name = in-none (λ e. not (ltb (getD (y .names) e 0) (p .Z) && isGood p (u .offline) e (getD (y .names) e 0))) (below (p .N))
+        (λ e i. let he = below-in (p .N) e i in ap not (ap (λ (n : ℕ). ltb n (p .Z) && isGood p (u .offline) e n) (name-now e he)
+        ∙ and-both (ltb (zoneOn g e) (p .Z)) (isGood p (u .offline) e (zoneOn g e)) (lt-ltb (zoneOn g e) (p .Z) (low-at e he))
+        (ap (λ (l : List ℕ). isGood p l e (zoneOn g e)) same-list ∙ zone-good p v gone acc (low-one p v d lo) g e m he)))
+
+    no-serial-twice : serialTwice p u 0 y ≡ false
+    unfolding serialTwice bearing
+    no-serial-twice = none-of (λ e. leb 2 (length (keep (λ z. isUsed p u e z && eqb (serialIn p u e z) (y .serial)) (below (p .Z)))))
+        (few d (λ z hz a b. there z hz (rebuilt-of p r v (lo .shaped) d hd acc z hz a) b))
+        (λ e he pr. few e (λ z hz a b. bears-once p v gone acc (low-one p v d lo) g e z m he pr hz (was-used e z he hz pr a) (was-serial e z he hz pr ∙ b)))
+      where
+        few : (e : ℕ) → ((z : ℕ) → z < p .Z → isUsed p u e z ≡ true → serialIn p u e z ≡ x .serial → z ≡ zoneOn g e)
+            → leb 2 (length (keep (λ z. isUsed p u e z && eqb (serialIn p u e z) (y .serial)) (below (p .Z)))) ≡ false
+        few e one = few-kept (λ z. isUsed p u e z && eqb (serialIn p u e z) (y .serial)) (p .Z) (λ i j hi hj a b. at! i hi a ∙ sym (at! j hj b))
+          where
+            at! : (z : ℕ) → z < p .Z → isUsed p u e z && eqb (serialIn p u e z) (y .serial) ≡ true → z ≡ zoneOn g e
+            at! z hz q = one z hz (and-left (isUsed p u e z) (eqb (serialIn p u e z) (y .serial)) q)
+                (eqb-true (serialIn p u e z) (y .serial) (and-right (isUsed p u e z) (eqb (serialIn p u e z) (y .serial)) q) ∙ rebuilt-serial p v d lo g m)
+
+        there : (z : ℕ) → z < p .Z → (h : Seg) × In h (remaining p v (named d)) × (zoneOn h d ≡ z) → serialIn p u d z ≡ x .serial → z ≡ zoneOn g d
+        there z hz (h, n, i) q = sym i ∙ ap (λ (k : Seg). zoneOn k d) (serials-differ p v gone (low-one p v d lo) h g n m
+            (sym (rebuilt-serial-in p r v (lo .shaped) d hd acc h d n hd) ∙ ap (serialIn p u d) i ∙ q))
+
+        was-used : (e z : ℕ) → e < p .N → z < p .Z → isIn gone e ≡ false → isUsed p u e z ≡ true → isUsed p v e z ≡ true
+        was-used e z he hz pr q = unfold isUsed pointerAt in
+            (ap₂ (λ (l : List ℕ) (k : Zone). isGood p l e z && not (eqb (k .pointer) 0)) (sym same-list) (sym (kept-zone e z he hz pr)) ∙ q)
+
+        was-serial : (e z : ℕ) → e < p .N → z < p .Z → isIn gone e ≡ false → serialIn p v e z ≡ serialIn p u e z
+        was-serial e z he hz pr = unfold serialIn chunkAt in ap (λ (k : Zone). headerSerial p (getD (k .blocks) 0 noChunk .block)) (sym (kept-zone e z he hz pr))
+
+    no-serial-fault : serialFault y ≡ false
+    unfolding serialFault
+    no-serial-fault = ap₂ leb (rebuilt-serial p v d lo g m) (rebuilt-copied p v d lo g m) ∙ faults-apart p v gone acc g m .no-serial-fault
 
     no-clash : clashes (segments p u 0) y ≡ false
-    no-clash = head-clash (segments p u 0) y ∙ ap₂ clashes same-heads (same-head g m) ∙ sym (head-clash (segments p v gone) x) ∙ faults-apart p v gone acc g m .no-clash
+    unfolding clashes
+    no-clash = and-false-right (not (y .full)) (leb 2 (length (unsealed (segments p u 0)))) accepted-one-unsealed
 
     -- ---- stripes
 
@@ -317,8 +338,8 @@ module _ (p : Params) (v : View) (d : ℕ) (lo : Loss p v d) where
         go (no! q) = and-false-right (not (y .full)) (any (λ e. footerFaultIn p (getD (y .zonesBy) e noZone)) (present p 0))
             (none-of (λ e. footerFaultIn p (getD (y .zonesBy) e noZone))
             (ap (footerFaultIn p) (zone-by p u 0 g d hd)
-            ∙ few (zoneAt u d (zoneOn g d)) (let a = rebuilt-open p v d lo g hg (remaining-in p v gone g m .1) q in let b = counted-low p gone x in omega arith))
-            (λ e he pr. ap (footerFaultIn p) (zone-by p u 0 g e he ∙ kept-zone e (zoneOn g e) he (zone-on-lt p g e hg) pr ∙ sym (zone-by p v gone g e he))
+            ∙ few (zoneAt u d (zoneOn g d)) (let a = rebuilt-open p v d lo g m q in let b = counted-low p gone x in omega arith))
+            (λ e he pr. ap (footerFaultIn p) (zone-by p u 0 g e he ∙ kept-zone e (zoneOn g e) he (low-at e he) pr ∙ sym (zone-by p v gone g e he))
             ∙ none-in (λ e. footerFaultIn p (getD (x .zonesBy) e noZone)) (present p gone) (were q) e (in-present p gone e he pr)))
           where
             were : x .full ≡ false → any (λ e. footerFaultIn p (getD (x .zonesBy) e noZone)) (present p gone) ≡ false
@@ -328,33 +349,61 @@ module _ (p : Params) (v : View) (d : ℕ) (lo : Loss p v d) where
                 second true b h k = k
                 second false b h k = clash h refl
 
-    rebuilt-faultless : segmentFault p 0 (segments p u 0) y ≡ false
-    unfolding segmentFault
-    rebuilt-faultless =
-        let f1 = headerFault p 0 y in
-        let f2 = serialFault (segments p u 0) y in
-        let f3 = stripeFault p 0 y in
-        let f4 = addressFault p 0 y in
-        let f5 = footerFault p 0 y in
-        let f6 = clashes (segments p u 0) y in
-        let q2 = or-neither f1 f2 no-header-fault no-serial-fault in
-        let q3 = or-neither (f1 || f2) f3 q2 no-stripe-fault in
-        let q4 = or-neither (f1 || f2 || f3) f4 q3 no-address-fault in
-        let q5 = or-neither (f1 || f2 || f3 || f4) f5 q4 no-footer-fault in
-        or-neither (f1 || f2 || f3 || f4 || f5) f6 q5 no-clash
+  -- a zone that two headers name is one segment's
+  no-name-clash : (g : Seg) → In g (remaining p v gone) → nameClash p (segments p u 0) (segmentOf p u 0 g) ≡ false
+  unfolding nameClash segments drivesOf
+  no-name-clash g m = in-none test! (map (segmentOf p u 0) (remaining p u 0))
+      (λ k i. let (h, j, e) = map-in (segmentOf p u 0) (remaining p u 0) k i in ap test! e ∙ apart h (remained h j))
+    where
+      test! : Segment → Bool
+      test! k = not (sameSeg (k .seg) (segmentOf p u 0 g .seg)) && any (λ e. eqb (getD (k .names) e 0) (getD (segmentOf p u 0 g .names) e 0)) (below (p .N))
+
+      apart : (h : Seg) → In h (remaining p v gone) → test! (segmentOf p u 0 h) ≡ false
+      apart h n = not-so (test! (segmentOf p u 0 h)) (λ q.
+          let a = sameSeg (segmentOf p u 0 h .seg) (segmentOf p u 0 g .seg) in
+          let f : ℕ → Bool = λ e. eqb (getD (segmentOf p u 0 h .names) e 0) (getD (segmentOf p u 0 g .names) e 0) in
+          let (e, i, t) = any-in f (below (p .N)) (and-right (not a) (any f (below (p .N))) q) in
+          let he = below-in (p .N) e i in
+          let z : zoneOn h e ≡ zoneOn g e = sym (name-now h n e he) ∙ eqb-true (getD (segmentOf p u 0 h .names) e 0) (getD (segmentOf p u 0 g .names) e 0) t ∙ name-now g m e he in
+          let s : h ≡ g = zone-once p v gone acc (low-one p v d lo) h g e n m he z in
+          clash (ap₂ sameSeg (seg-is p u 0 h ∙ s) (seg-is p u 0 g) ∙ seg-self g) (not-true a (and-left (not a) (any f (below (p .N))) q)))
+
+  rebuilt-faultless : (g : Seg) → In g (remaining p v gone) → segmentFault p u 0 (segments p u 0) (segmentOf p u 0 g) ≡ false
+  unfolding segmentFault
+  rebuilt-faultless g m =
+      let y = segmentOf p u 0 g in
+      let f1 = headerFault p 0 y in
+      let f2 = ownFault p 0 y in
+      let f3 = badName p u y in
+      let f4 = nameClash p (segments p u 0) y in
+      let f5 = serialTwice p u 0 y in
+      let f6 = serialFault y in
+      let f7 = stripeFault p 0 y in
+      let f8 = addressFault p 0 y in
+      let f9 = footerFault p 0 y in
+      let f10 = clashes (segments p u 0) y in
+      let q2 = or-neither f1 f2 (no-header-fault g m) (no-own-fault g m) in
+      let q3 = or-neither (f1 || f2) f3 q2 (no-bad-name g m) in
+      let q4 = or-neither (f1 || f2 || f3) f4 q3 (no-name-clash g m) in
+      let q5 = or-neither (f1 || f2 || f3 || f4) f5 q4 (no-serial-twice g m) in
+      let q6 = or-neither (f1 || f2 || f3 || f4 || f5) f6 q5 (no-serial-fault g m) in
+      let q7 = or-neither (f1 || f2 || f3 || f4 || f5 || f6) f7 q6 (no-stripe-fault g m) in
+      let q8 = or-neither (f1 || f2 || f3 || f4 || f5 || f6 || f7) f8 q7 (no-address-fault g m) in
+      let q9 = or-neither (f1 || f2 || f3 || f4 || f5 || f6 || f7 || f8) f9 q8 (no-footer-fault g m) in
+      or-neither (f1 || f2 || f3 || f4 || f5 || f6 || f7 || f8 || f9) f10 q9 (no-clash g m)
 
   -- nothing is wrong with none missing
   pub rebuilt-accepted : Accepted p u 0
   rebuilt-accepted = record { pointers-ok = no-pointer-fault; segments-ok = none! }
     where
-      none! : segmentFaults p 0 (segments p u 0) ≡ []
-      none! = unfold segmentFaults in ap (map (λ (g : Segment). zoneOn (g .seg) (lowDrive p 0))) (keep-nothing (segmentFault p 0 (segments p u 0)) (segments p u 0) (λ s i. each s i))
+      none! : segmentFaults p u 0 (segments p u 0) ≡ []
+      none! = unfold segmentFaults in ap (map (λ (g : Segment). zoneOn (g .seg) (lowDrive p 0))) (keep-nothing (segmentFault p u 0 (segments p u 0)) (segments p u 0) (λ s i. each s i))
         where
-          each : (s : Segment) → In s (segments p u 0) → segmentFault p 0 (segments p u 0) s ≡ false
+          each : (s : Segment) → In s (segments p u 0) → segmentFault p u 0 (segments p u 0) s ≡ false
           each s i = go (members i)
             where
               members : In s (segments p u 0) → (g : Seg) × In g (remaining p u 0) × (s ≡ segmentOf p u 0 g)
               members i = unfold segments in map-in (segmentOf p u 0) (remaining p u 0) s i
 
-              go : (g : Seg) × In g (remaining p u 0) × (s ≡ segmentOf p u 0 g) → segmentFault p 0 (segments p u 0) s ≡ false
-              go (g, j, e) = ap (segmentFault p 0 (segments p u 0)) e ∙ rebuilt-faultless g (subst (λ (l : List Seg). In g l) rebuilt-remaining j)
+              go : (g : Seg) × In g (remaining p u 0) × (s ≡ segmentOf p u 0 g) → segmentFault p u 0 (segments p u 0) s ≡ false
+              go (g, j, e) = ap (segmentFault p u 0 (segments p u 0)) e ∙ rebuilt-faultless g (remained g j)

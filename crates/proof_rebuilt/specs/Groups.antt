@@ -22,10 +22,11 @@ use Rattle.law_drives.specs.Accept.{Accepted, zone-stripes, in-groups}
 use Rattle.law_drives.specs.Counting.{stripes-different}
 use Rattle.law_drives.specs.Members.{In, in-all, all-in, keep-all, below-in, getD-in}
 use Rattle.law_drives.specs.Range.{capacity-is}
-use Rattle.law_drives.specs.Segs.{present-in, in-present, length-records, record-at, chunk-at, has-chunk}
+use Rattle.law_drives.specs.Segs.{length-records, record-at, chunk-at, has-chunk}
 use Rattle.law_drives.specs.Spots.{counts-in}
 use Rattle.proof_rebuilt.specs.Numbers.{rank-high, different-take, all-there}
 use Rattle.spec.specs.declared.Seg.{Seg}
+use Rattle.law_drives.specs.Gather.{in-present, present-in}
 
 module _ (p : Params) (r : Ranged p) (v : View) (gone : ℕ) (acc : Accepted p v gone) (g : Seg) (m : In g (remaining p v gone)) where
   abbrev x : Segment

@@ -1,13 +1,13 @@
 -- Numbers kept from a range stand in rising order, each at the count of those kept below it; different numbers below a bound, as many as it, are all of them. Assumes nothing.
-use mathlib.Core.Path.{_≡_, refl, ap, _∙_}
+use mathlib.Core.Path.{_≡_, refl, sym, ap, _∙_}
 use mathlib.Core.List.{List, [], _∷_, _++_}
 use mathlib.Core.Bool.{Bool, true, false}
 use mathlib.Core.Logic.{inl, inr}
 use Prim.Native.Nat.{ℕ, zero, suc, _+_, _-_, _≤_, _<_}
 use native.Mathlib.Decide.{decLt}
-use borrow.Author.Tests.{lt-ltb, ltb-true}
+use borrow.Author.Tests.{lt-ltb, ltb-true, leb-true}
 use native.Mathlib.Omega.{arith}
-use lib.Dec.{ltb}
+use lib.Dec.{leb, ltb}
 use lib.ListN.{length, getD, take, length-append, List·getD-append}
 use lib.Seq.{getD-append-add}
 use Rattle.spec.specs.Lists.{upFrom, below, isMember, consIf, keep, tally}
@@ -15,8 +15,8 @@ use Rattle.law_basic.specs.Ranges.{Test, test, keep-append, keep-hit, keep-none
 use Rattle.law_basic.specs.Ranges.Test.{yes!, no! }
 use Rattle.law_drives.specs.Counting.{Different, different-few}
 use Rattle.law_drives.specs.Laid.{in-take}
-use Rattle.law_drives.specs.Members.{In, keep-all, below-in, is-member, member-is}
-use Rattle.law_drives.specs.Tests.{clash, same-test}
+use Rattle.law_drives.specs.Members.{In, keep-all, keep-in, below-in, in-getD, is-member, member-is}
+use Rattle.law_drives.specs.Tests.{clash, not-so, same-test}
 
 -- ---- the place of a number that is kept
 
@@ -134,3 +134,16 @@ all-there n l h f e t b = go (test (isMember t l))
         each : (x : ℕ) → In x (t ∷ l) → x < n
         each x (inl i) = omega arith
         each x (inr i) = f x i
+
+-- all that are kept are one: at most one is kept
+pub few-kept : (f : ℕ → Bool) (n : ℕ) → ((i j : ℕ) → i < n → j < n → f i ≡ true → f j ≡ true → i ≡ j) → leb 2 (length (keep f (below n))) ≡ false
+few-kept f n once = not-so (leb 2 (length (keep f (below n)))) (λ q.
+    let l : 2 ≤ length (keep f (below n)) = leb-true 2 (length (keep f (below n))) q in
+    let (a, x) = at! 0 (omega arith) in
+    let (b, y) = at! 1 (omega arith) in
+    let e : getD (keep f (below n)) 0 0 ≡ getD (keep f (below n)) 1 0 = once (getD (keep f (below n)) 0 0) (getD (keep f (below n)) 1 0) a b x y in
+    let z : 0 ≡ 1 = sym (rank-of f n 0 (omega arith)) ∙ ap (λ (i : ℕ). tally f (below i)) e ∙ rank-of f n 1 (omega arith) in
+    let bad : ⊥ = omega arith in bad)
+  where
+    at! : (j : ℕ) → j < length (keep f (below n)) → (getD (keep f (below n)) j 0 < n) × (f (getD (keep f (below n)) j 0) ≡ true)
+    at! j h = let (i, q) = keep-in f (below n) (getD (keep f (below n)) j 0) (in-getD (keep f (below n)) j 0 h) in (below-in n (getD (keep f (below n)) j 0) i, q)

@@ -1,4 +1,4 @@
--- After a rebuild each address reads with none missing as it did with the drive missing: the candidates are alike one for one, and so is the one that holds. Assumes nothing.
+-- After a rebuild each address reads with none missing as it did with the drive missing: the candidates are alike one for one, in whatever order, and so is the one that holds. Assumes nothing.
 use mathlib.Core.Path.{_≡_, refl, sym, ap, ap₂, _∙_, subst}
 use mathlib.Core.List.{List, map}
 use mathlib.Core.Bool.{true, false}
@@ -7,41 +7,70 @@ use native.Mathlib.Decide.{ℕ-discrete}
 use lib.Dec.{ltb}
 use Rattle.spec.specs.declared.Params.{Params}
 use Rattle.spec.specs.Demands.{saidBlock, saidAt}
-use Rattle.spec.specs.Drives.{View}
+use Rattle.spec.specs.Drives.{View, recordIn, sealedIn, zoneAt, zoneOn}
 use Rattle.spec.specs.History.Seen.{got}
-use Rattle.spec.specs.Layout.{dataDrive, dataDrives, Rec}
+use Rattle.spec.specs.Layout.{dataDrive, dataDrives, Rec, dataPosition}
 use Rattle.spec.specs.Lists.{Opt, below, flat, isIn}
 use Rattle.spec.specs.Lists.Opt.{none, some}
 use Rattle.spec.specs.Params.{dataCount, named}
 use Rattle.spec.specs.Parity.{Piece}
 use Rattle.spec.specs.Rank.{Cand, beats, best, candsOf}
 use Rattle.spec.specs.Segments.{remaining, Segment, segmentOf, segments, offsetOn, counts, counted, pieceOf, offsetOf, candOf, segmentCands, candidates}
-use Rattle.law_basic.specs.Geometry.{Ranged, data-drive-lt}
+use Rattle.law_basic.specs.Geometry.{Ranged, data-drive-lt, position-drive}
 use Rattle.law_basic.specs.Mask.{isIn-empty}
-use Rattle.law_basic.specs.Segs.{segs-differ}
-use Rattle.law_drives.specs.Accept.{Accepted, serials-differ}
-use Rattle.law_drives.specs.Members.{In, map-in, flat-map, below-in}
+use Rattle.law_drives.specs.Accept.{serials-differ}
+use Rattle.law_drives.specs.Members.{In, map-in, flat-map, below-in, flat-in, in-flat, in-map}
 use Rattle.law_drives.specs.Rebuilding.{counted-in}
-use Rattle.law_drives.specs.Segs.{CandAt}
-use Rattle.law_drives.specs.Spots.{spot-of}
+use Rattle.law_drives.specs.Segs.{CandAt, cand-at}
+use Rattle.law_drives.specs.Spots.{spot-of, none-apart}
 use Rattle.law_drives.specs.Tests.{cond-true, cond-false}
-use Rattle.proof_tables.specs.Base.{said-is}
-use Rattle.proof_rebuilt.specs.Accepted.{rebuilt-remaining}
+use Rattle.proof_tables.specs.Base.{base-said-is, its-chunk, offset-here}
 use Rattle.proof_rebuilt.specs.Alike.{Alike, AlikeOr, alike-map, alike-flat, alike-best, beats-same}
 use Rattle.proof_rebuilt.specs.Numbers.{rank-order}
 use Rattle.proof_rebuilt.specs.Segment.{rebuilt-serial, rebuilt-counts, same-counted, offset-other, offset-rebuilt, rebuilt-piece-same, same-rec}
-use Rattle.proof_rebuilt.specs.Zone.{rebuiltView, Loss, drive-lost, other-here}
+use Rattle.proof_rebuilt.specs.Zone.{rebuiltView, Loss, drive-lost, other-here, zone-lost-apart, low-one}
 use Rattle.spec.specs.declared.Seg.{Seg}
+use Rattle.law_drives.specs.Best.{CandsApart}
+use Rattle.law_drives.specs.Settled.{zero-here}
+use Rattle.proof_rebuilt.specs.Accepted.{now-remains, remained}
+use Rattle.proof_tables.specs.Ranks.{same-best}
+
+-- ---- with none missing, no two candidates are tied
+
+module _ (p : Params) (r : Ranged p) (v : View) where
+  module _ (c : Cand) (k : CandAt p v 0 c) where
+    said-cand-drive : c .drive ≡ dataDrive p (k .stripe) (k .position)
+    unfolding candOf
+    said-cand-drive = ap (λ (x : Cand). x .drive) (k .it-is)
+
+    of-serial : c .serial ≡ segmentOf p v 0 (k .of) .serial
+    unfolding candOf
+    of-serial = ap (λ (x : Cand). x .serial) (k .it-is)
+
+    stripe-there : recordIn p (sealedIn p v 0 (k .of)) (zoneAt v (c .drive) (zoneOn (k .of) (c .drive))) (c .offset) .stripe ≡ k .stripe
+    stripe-there =
+        let here = zero-here p r in
+        let apart = none-apart p v in
+        let t = spot-of p r v 0 here apart c k in
+        ap (λ (x : ℕ). recordIn p (sealedIn p v 0 (k .of)) (zoneAt v (c .drive) (zoneOn (k .of) (c .drive))) x .stripe) (offset-here p r v 0 here apart c k t (isIn-empty (c .drive)))
+        ∙ its-chunk p r v 0 here apart c k t (isIn-empty (c .drive)) .its-stripe
+
+  none-tied : CandsApart (candidates p 0 (segments p v 0))
+  none-tied c d m n w =
+      let k = cand-at p v 0 c m in
+      let j = cand-at p v 0 d n in
+      let e : k .of ≡ j .of = serials-differ p v 0 (zero-here p r) (k .of) (j .of) (k .remains) (j .remains) (sym (of-serial c k) ∙ w .same-serial ∙ of-serial d j) in
+      let f = w .same-drive in
+      let g = w .same-offset in
+      let es : k .stripe ≡ j .stripe = sym (stripe-there c k)
+      ∙ (λ i. recordIn p (sealedIn p v 0 (e i)) (zoneAt v (f i) (zoneOn (e i) (f i))) (g i) .stripe) ∙ stripe-there d j in
+      let ep : k .position ≡ j .position = sym (position-drive p (k .stripe) (k .position))
+      ∙ ap₂ (dataPosition p) es (sym (said-cand-drive c k) ∙ f ∙ said-cand-drive d j) ∙ position-drive p (j .stripe) (j .position) in
+      k .it-is ∙ (λ i. candOf p 0 (segmentOf p v 0 (e i)) (es i) (dataDrive p (es i) (ep i))) ∙ sym (j .it-is)
 
 module _ (p : Params) (v : View) (d : ℕ) (lo : Loss p v d) where
   abbrev r : Ranged p
   r = lo .ranged
-
-  abbrev hd : d < p .N
-  hd = lo .drive-low
-
-  abbrev acc : Accepted p v (named d)
-  acc = lo .accepts
 
   abbrev gone : ℕ
   gone = named d
@@ -174,7 +203,7 @@ module _ (p : Params) (v : View) (d : ℕ) (lo : Loss p v d) where
       of = k .of;
       stripe = k .stripe;
       position = k .position;
-      remains = subst (λ (l : List Seg). In (k .of) l) (sym (rebuilt-remaining p v d lo)) (k .remains);
+      remains = now-remains p v d lo (k .of) (k .remains);
       stripe-low = k .stripe-low;
       it-counts = rebuilt-counts p v d lo (k .of) (k .remains) (k .stripe) (k .stripe-low) ∙ k .it-counts;
       position-low = k .position-low;
@@ -185,10 +214,11 @@ module _ (p : Params) (v : View) (d : ℕ) (lo : Loss p v d) where
     pair-said : saidBlock p u 0 (some e) ≡ saidBlock p v gone (some c)
     unfolding old-at new-at
     pair-said =
-        said-is p r u 0 e new-at (spot-of p r u 0 e new-at)
+        base-said-is p r u 0 (zero-here p r) (none-apart p u) e new-at (spot-of p r u 0 (zero-here p r) (none-apart p u) e new-at)
         ∙ ap₂ (λ (z t : ℕ). got (pieceOf p 0 (y (k .of)) (k .stripe) z .block) t) new-drive (sym pair-stamp)
         ∙ ap (λ (q : Piece). got (q .block) (c .stamp)) (rebuilt-piece-same p v d lo (k .of) (k .remains) (k .stripe) drive (k .stripe-low) (k .it-counts) drive-low)
-        ∙ sym (said-is p r v gone c old-at (spot-of p r v gone c old-at) ∙ ap (λ (z : ℕ). got (pieceOf p gone (x (k .of)) (k .stripe) z .block) (c .stamp)) old-drive)
+        ∙ sym (base-said-is p r v gone (low-one p v d lo) (zone-lost-apart p v d lo) c old-at (spot-of p r v gone (low-one p v d lo) (zone-lost-apart p v d lo) c old-at)
+        ∙ ap (λ (z : ℕ). got (pieceOf p gone (x (k .of)) (k .stripe) z .block) (c .stamp)) old-drive)
 
   -- the rule tells two pairs alike
   pair-beats : (c e b f : Cand) → Pair c e → Pair b f → beats c b ≡ beats e f
@@ -196,11 +226,7 @@ module _ (p : Params) (v : View) (d : ℕ) (lo : Loss p v d) where
       (λ qs qd. order (segment (sym (old-serial c e k) ∙ qs ∙ old-serial b f l)) (sym (old-drive c e k) ∙ qd ∙ old-drive b f l))
     where
       segment : x (k .of) .serial ≡ x (l .of) .serial → l .of ≡ k .of
-      segment q = go (segs-differ (l .of) (k .of))
-        where
-          go : Dec (l .of ≡ k .of) → l .of ≡ k .of
-          go (yes z) = z
-          go (no z) = absurd (serials-differ p v gone acc (k .of) (l .of) (k .remains) (l .remains) z (sym q))
+      segment q = sym (serials-differ p v gone (low-one p v d lo) (k .of) (l .of) (k .remains) (l .remains) q)
 
       order : l .of ≡ k .of → drive c e k ≡ drive b f l → ltb (c .offset) (b .offset) ≡ ltb (e .offset) (f .offset)
       order qo qd =
@@ -238,21 +264,39 @@ module _ (p : Params) (v : View) (d : ℕ) (lo : Loss p v d) where
       (sym (same-counted p v d lo g m))
       (alike-flat Pair (λ s. map (candOf p gone (x g) s) (dataDrives p s)) (λ s. map (candOf p 0 (y g) s) (dataDrives p s)) (counted p gone (x g)) (λ s i. pair-stripe g s m i))
 
-  pair-all : Alike Pair (candidates p gone (segments p v gone)) (candidates p 0 (segments p u 0))
+  -- the candidates behind the rebuild, segment for segment as before it
+  abbrev turned : List Cand
+  turned = flat (λ g. segmentCands p 0 (y g)) (remaining p v gone)
+
+  pair-all : Alike Pair (candidates p gone (segments p v gone)) turned
   unfolding candidates segments
   pair-all =
-      let a : flat (segmentCands p gone) (map x (remaining p v gone)) ≡ flat (λ g. segmentCands p gone (x g)) (remaining p v gone) = flat-map (segmentCands p gone) x (remaining p v gone) in
-      let b : flat (segmentCands p 0) (map y (remaining p u 0)) ≡ flat (λ g. segmentCands p 0 (y g)) (remaining p v gone) =
-      flat-map (segmentCands p 0) y (remaining p u 0) ∙ ap (flat (λ g. segmentCands p 0 (y g))) (rebuilt-remaining p v d lo) in
-      subst (λ (l : List Cand). Alike Pair l (flat (segmentCands p 0) (map y (remaining p u 0)))) (sym a)
-      (subst (λ (l : List Cand). Alike Pair (flat (λ g. segmentCands p gone (x g)) (remaining p v gone)) l) (sym b)
-      (alike-flat Pair (λ g. segmentCands p gone (x g)) (λ g. segmentCands p 0 (y g)) (remaining p v gone) pair-segment))
+      subst (λ (l : List Cand). Alike Pair l turned) (sym (flat-map (segmentCands p gone) x (remaining p v gone)))
+      (alike-flat Pair (λ g. segmentCands p gone (x g)) (λ g. segmentCands p 0 (y g)) (remaining p v gone) pair-segment)
+
+  -- they are the same, in whatever order
+  from-turned : (c : Cand) → In c turned → In c (candidates p 0 (segments p u 0))
+  unfolding candidates segments
+  from-turned c m =
+      let (g, i, k) = flat-in (λ g. segmentCands p 0 (y g)) (remaining p v gone) c m in
+      in-flat (segmentCands p 0) (map y (remaining p u 0)) (y g) c (in-map y (remaining p u 0) g (now-remains p v d lo g i)) k
+
+  to-turned : (c : Cand) → In c (candidates p 0 (segments p u 0)) → In c turned
+  unfolding candidates segments
+  to-turned c m =
+      let (z, i, k) = flat-in (segmentCands p 0) (map y (remaining p u 0)) c m in
+      let (g, j, e) = map-in y (remaining p u 0) z i in
+      in-flat (λ g. segmentCands p 0 (y g)) (remaining p v gone) g c (remained p v d lo g j) (subst (λ (s : Segment). In c (segmentCands p 0 s)) e k)
+
+  same-held : (a : ℕ) → best none (candsOf a (candidates p 0 (segments p u 0))) ≡ best none (candsOf a turned)
+  same-held a = same-best a (candidates p 0 (segments p u 0)) turned (λ c e m n w. none-tied p r u c e (from-turned c m) (from-turned e n) w) (λ c _ m. to-turned c m) (λ c _ m. from-turned c m)
 
   -- the drives say the same
   pub rebuilt-said : (a : ℕ) → saidAt p u 0 a ≡ saidAt p v gone a
   unfolding saidAt
-  rebuilt-said a = go (best none (candsOf a (candidates p gone (segments p v gone)))) (best none (candsOf a (candidates p 0 (segments p u 0))))
-      (alike-best Pair pair-beats a pair-address (candidates p gone (segments p v gone)) (candidates p 0 (segments p u 0)) pair-all)
+  rebuilt-said a = ap (saidBlock p u 0) (same-held a)
+      ∙ go (best none (candsOf a (candidates p gone (segments p v gone)))) (best none (candsOf a turned))
+      (alike-best Pair pair-beats a pair-address (candidates p gone (segments p v gone)) turned pair-all)
     where
       go : (b f : Opt Cand) → AlikeOr Pair b f → saidBlock p u 0 f ≡ saidBlock p v gone b
       go none none q = unfold saidBlock in refl

@@ -1,48 +1,44 @@
 -- A segment that remains, read after the rebuild with none missing: header, sealed or not, and counted stripes are as before, each chunk as stored or decoded. Assumes nothing.
 use mathlib.Core.Path.{_≡_, refl, sym, ap, ap₂, _∙_, subst}
 use mathlib.Core.List.{List, [], map}
-use mathlib.Core.Bool.{Bool, true, false, not}
-use mathlib.Core.Logic.{inl}
+use mathlib.Core.Bool.{Bool, true, false}
 use Prim.Native.Nat.{ℕ, suc, _+_, _*_, _/_, _%_, _^_, _<_}
 use native.Mathlib.Nat.{div-lt-iff-lt-mul}
-use borrow.Author.Tests.{eq-eqb, ne-eqb, not-false}
+use borrow.Author.Tests.{eq-eqb, ne-eqb}
 use native.Mathlib.Omega.{arith}
 use lib.Dec.{eqb}
 use lib.ListN.{length, getD, drop, length-map}
 use lib.Seq.{ext-getD, getD-drop}
 use Rattle.spec.specs.declared.Params.{Params}
 use Rattle.spec.specs.Bytes.{part}
-use Rattle.spec.specs.Drives.{Chunk, mkChunk, noChunk, Zone, noZone, View, zoneAt, pointerAt, chunkAt, zoneOn, sealedIn, dataStored, blocksOf, recordIn, zeroSpare, seg, zonesIn}
-use Rattle.spec.specs.Faults.{sameChunk, headerFault}
-use Rattle.spec.specs.Layout.{headerBlock, headerSerial, headerCopied, Rec, mkRec, recordBytes, recordOf, footerBlock, footerRecord}
-use Rattle.spec.specs.Lists.{below, any, indexOf, sameList, tally, isIn}
+use Rattle.spec.specs.Drives.{Chunk, mkChunk, noChunk, Zone, noZone, View, zoneAt, pointerAt, chunkAt, zoneOn, sealedIn, dataStored, blocksOf, recordIn, zeroSpare, zonesIn}
+use Rattle.spec.specs.Layout.{headerBlock, headerSerial, Rec, mkRec, recordBytes, recordOf, footerBlock, footerRecord}
+use Rattle.spec.specs.Lists.{below, any, indexOf, tally, isIn}
 use Rattle.spec.specs.Params.{spareLen, perFooter, footers, capacity, named, present}
 use Rattle.spec.specs.Parity.{Piece, decodeRec}
-use Rattle.spec.specs.Segments.{lowDrive, headerAt, remaining, Segment, recordsIn, segmentOf, recsOn, offsetOn, hasChunk, counts, counted, storedPiece, pieceOf, storedRec, recOf}
+use Rattle.spec.specs.Segments.{lowDrive, headerAt, remaining, Segment, recordsIn, segmentOf, recsOn, offsetOn, hasChunk, counts, counted, storedPiece, pieceOf, storedRec, recOf, serialIn}
 use Rattle.law_basic.specs.Fields.{length-record}
 use Rattle.law_basic.specs.Geometry.{Ranged, per-footer-low, footers-cover}
 use Rattle.law_basic.specs.Mask.{isIn-empty}
-use Rattle.law_basic.specs.Ranges.{and-left, and-right, map-map, getD-map, getD-map-below, sameList-true}
-use Rattle.law_basic.specs.Segs.{Named, zone-on-lt}
+use Rattle.law_basic.specs.Ranges.{map-map, getD-map, getD-map-below}
 use Rattle.law_code.specs.Chunks.{chunk-stored, rec-lost}
 use Rattle.law_code.specs.Code.{decode-low, decode-stripe}
-use Rattle.law_drives.specs.Accept.{Accepted, faults-apart}
-use Rattle.law_drives.specs.Laid.{Long, getD-footer, serial-low, copied-word-low, header-serial, header-copied, record-back}
-use Rattle.law_drives.specs.Masks.{low-present}
-use Rattle.law_drives.specs.Members.{In, map-in, in-map, in-keep, all-in, in-all, none-in, in-any, keep-cong, in-below, below-in, in-getD, index-is}
-use Rattle.law_drives.specs.Range.{capacity-is, capacity-over}
+use Rattle.law_drives.specs.Accept.{Accepted, zone-in-range}
+use Rattle.law_drives.specs.Laid.{Long, getD-footer, record-back}
+use Rattle.law_drives.specs.Members.{In, map-in, in-map, in-keep, all-in, in-all, in-any, keep-cong, in-below, below-in, in-getD, index-is}
+use Rattle.law_drives.specs.Range.{capacity-is}
 use Rattle.law_drives.specs.Rebuilding.{counted-in, pieceChunk}
 use Rattle.law_drives.specs.Records.{blocks-at, record-low}
-use Rattle.law_drives.specs.Segs.{present-in, in-present, zone-by, recs-here, seg-is, serial-is, copied-is, full-is, chunk-at, length-records, piece-rec}
-use Rattle.law_drives.specs.Settled.{present-all, low-first}
+use Rattle.law_drives.specs.Segs.{zone-by, recs-here, serial-is, copied-is, full-is, chunk-at, length-records, piece-rec}
+use Rattle.law_drives.specs.Settled.{present-all, zero-here}
 use Rattle.law_drives.specs.Spots.{counts-in}
-use Rattle.law_drives.specs.Tables.{remains, remaining-in}
 use Rattle.law_drives.specs.Tests.{same-test}
-use Rattle.law_drives.specs.Zones.{Bytes}
 use Rattle.proof_rebuilt.specs.Groups.{sealed-all}
 use Rattle.proof_rebuilt.specs.Numbers.{rank-low, rank-at, rank-of}
-use Rattle.proof_rebuilt.specs.Zone.{rebuiltView, Loss, drive-lost, each-drive, present-zone-same, rebuilt-full, rebuilt-header, rebuilt-piece, rebuilt-foot, rebuilt-stored}
+use Rattle.proof_rebuilt.specs.Zone.{rebuiltView, Loss, drive-lost, each-drive, present-zone-same, rebuilt-full, rebuilt-piece, rebuilt-foot, rebuilt-stored, low-one}
 use Rattle.spec.specs.declared.Seg.{Seg}
+use Rattle.law_drives.specs.Gather.{in-present, present-in}
+use Rattle.law_drives.specs.Rebuilt.{header-rebuilt, rebuilt-copied-in, rebuilt-serial-in}
 
 -- ---- records that are read back
 
@@ -92,14 +88,11 @@ module _ (p : Params) (v : View) (d : ℕ) (lo : Loss p v d) (g : Seg) (m : In g
   abbrev ss : List ℕ
   ss = counted p gone x
 
-  hg : Named p g
-  hg = remaining-in p v gone g m .0
-
-  rm : remains p v gone g ≡ true
-  rm = remaining-in p v gone g m .1
+  low-at : (e : ℕ) → e < p .N → zoneOn g e < p .Z
+  low-at e he = zone-in-range p v (named d) (lo .accepts) (low-one p v d lo) g e m he
 
   kept-zone-here : (e : ℕ) → e < p .N → isIn gone e ≡ false → zoneAt u e (zoneOn g e) ≡ zoneAt v e (zoneOn g e)
-  kept-zone-here e he pr = present-zone-same p v d lo e (zoneOn g e) he (zone-on-lt p g e hg) pr
+  kept-zone-here e he pr = present-zone-same p v d lo e (zoneOn g e) he (low-at e he) pr
 
   -- ---- sealed or not
 
@@ -117,7 +110,7 @@ module _ (p : Params) (v : View) (d : ℕ) (lo : Loss p v d) (g : Seg) (m : In g
     where
       here : w ≡ true → eqb (zoneAt u d (zoneOn g d) .pointer) (capacity p) ≡ true
       here q = eq-eqb (zoneAt u d (zoneOn g d) .pointer) (capacity p)
-          (rebuilt-full p v d lo g hg rm (full-is p v gone g ∙ q)
+          (rebuilt-full p v d lo g m (full-is p v gone g ∙ q)
           ∙ (let a = sealed-all p r v gone acc g m q in let c = capacity-is p r in let z : suc (length ss + footers p) ≡ capacity p = omega arith in z))
 
   pub rebuilt-seg-full : y .full ≡ x .full
@@ -136,7 +129,7 @@ module _ (p : Params) (v : View) (d : ℕ) (lo : Loss p v d) (g : Seg) (m : In g
       let (he, pr) = present-in p gone e i in
       let k = chunk-at p v gone g e s he pr (counts-in p gone x s e c he pr) in
       subst (λ (b : Rec). (b .address < 256 ^ 8) × (b .stamp < 256 ^ 8)) (sym (k .its-record))
-      (record-low p (zoneAt v e (zoneOn g e)) (lo .shaped .zone-ok e (zoneOn g e) he (zone-on-lt p g e hg)) w (offsetOn x e s))
+      (record-low p (zoneAt v e (zoneOn g e)) (lo .shaped .zone-ok e (zoneOn g e) he (low-at e he)) w (offsetOn x e s))
 
   decoded-low : (s : ℕ) → counts p gone x s ≡ true → (recOf p gone x s d .address < 256 ^ 8) × (recOf p gone x s d .stamp < 256 ^ 8)
   decoded-low s c = subst (λ (b : Rec). (b .address < 256 ^ 8) × (b .stamp < 256 ^ 8)) (sym (rec-decoded s))
@@ -173,7 +166,7 @@ module _ (p : Params) (v : View) (d : ℕ) (lo : Loss p v d) (g : Seg) (m : In g
       go : (b : Bool) → w ≡ b → recordIn p w (zoneAt u d (zoneOn g d)) j ≡ recOf p gone x (getD ss j 0) d
       go false q =
           ap (λ (b : Bool). recordIn p b (zoneAt u d (zoneOn g d)) j) q
-          ∙ spare-back p (zoneAt u d (zoneOn g d)) j (pieceAt j) (rebuilt-piece p v d lo g hg rm j h) (fit .address8) (fit .stamp8) (fit .stripe4) ∙ piece-rec p gone x (getD ss j 0) d
+          ∙ spare-back p (zoneAt u d (zoneOn g d)) j (pieceAt j) (rebuilt-piece p v d lo g m j h) (fit .address8) (fit .stamp8) (fit .stripe4) ∙ piece-rec p gone x (getD ss j 0) d
       go true q =
           let n = sealed-all p r v gone acc g m q in
           let i = j / perFooter p in
@@ -181,7 +174,7 @@ module _ (p : Params) (v : View) (d : ℕ) (lo : Loss p v d) (g : Seg) (m : In g
           let hi : i < footers p = div-lt-iff-lt-mul kp .1 (let z = footers-cover p r in let t : j < footers p * perFooter p = omega arith in t) in
           ap (λ (b : Bool). recordIn p b (zoneAt u d (zoneOn g d)) j) q
           ∙ footer-back p r (zoneAt u d (zoneOn g d)) made j (pieceAt j .rec) made-long made-low made-at
-          (rebuilt-foot p v d lo g hg rm (full-is p v gone g ∙ q) n i hi) (fit .address8) (fit .stamp8) (fit .stripe4)
+          (rebuilt-foot p v d lo g m (full-is p v gone g ∙ q) n i hi) (fit .address8) (fit .stamp8) (fit .stripe4)
           ∙ piece-rec p gone x (getD ss j 0) d
         where
           made-is : length made ≡ length ss
@@ -204,7 +197,7 @@ module _ (p : Params) (v : View) (d : ℕ) (lo : Loss p v d) (g : Seg) (m : In g
       ∙ ext-getD (mkRec 0 0 0) (recordsIn p w (zoneAt u d (zoneOn g d))) (map (λ s. recOf p gone x s d) ss) (long ∙ sym (length-map ss (λ s. recOf p gone x s d))) each
     where
       n : dataStored p (zoneAt u d (zoneOn g d)) ≡ length ss
-      n = rebuilt-stored p v d lo g hg rm
+      n = rebuilt-stored p v d lo g m
 
       long : length (recordsIn p w (zoneAt u d (zoneOn g d))) ≡ length ss
       long = length-records p w (zoneAt u d (zoneOn g d)) ∙ n
@@ -224,60 +217,17 @@ module _ (p : Params) (v : View) (d : ℕ) (lo : Loss p v d) (g : Seg) (m : In g
   -- ---- headers
 
   pub header-of : (e : ℕ) → e < p .N → getD (zoneAt u e (zoneOn g e) .blocks) 0 noChunk ≡ mkChunk (headerBlock p e (zonesIn p g) (x .serial) (x .copied)) zeroSpare
-  header-of e he = each-drive p v d lo {P = λ e. getD (zoneAt u e (zoneOn g e) .blocks) 0 noChunk ≡ mkChunk (headerBlock p e (zonesIn p g) (x .serial) (x .copied)) zeroSpare}
-      (rebuilt-header p v d lo g hg rm) (λ e he pr. ap (λ (q : Zone). getD (q .blocks) 0 noChunk) (kept-zone-here e he pr) ∙ there e he pr) e he
-    where
-      there : (e : ℕ) → e < p .N → isIn gone e ≡ false → getD (zoneAt v e (zoneOn g e) .blocks) 0 noChunk ≡ mkChunk (headerBlock p e (zonesIn p g) (x .serial) (x .copied)) zeroSpare
-      there e he pr = go
-        where
-          c : Chunk
-          c = getD (getD (x .zonesBy) e noZone .blocks) 0 noChunk
-
-          fine : sameChunk c (headerBlock p e (zonesIn p (x .seg)) (x .serial) (x .copied)) zeroSpare ≡ true
-          fine = unfold headerFault in (not-false (sameChunk c (headerBlock p e (zonesIn p (x .seg)) (x .serial) (x .copied)) zeroSpare)
-              (none-in (λ e. not (sameChunk (getD (getD (x .zonesBy) e noZone .blocks) 0 noChunk) (headerBlock p e (zonesIn p (x .seg)) (x .serial) (x .copied)) zeroSpare)) (present p gone)
-              (faults-apart p v gone acc g m .no-header-fault) e (in-present p gone e he pr)))
-
-          same! : (c : Chunk) (b s : List ℕ) → sameChunk c b s ≡ true → c ≡ mkChunk b s
-          same! c b s q = unfold sameChunk in (
-              let e1 = sameList-true (c .block) b (and-left (sameList (c .block) b) (sameList (c .spare) s) q) in
-              let e2 = sameList-true (c .spare) s (and-right (sameList (c .block) b) (sameList (c .spare) s) q) in
-              λ i. record { block = e1 i; spare = e2 i })
-
-          seg! : zonesIn p (x .seg) ≡ zonesIn p g
-          seg! = ap (zonesIn p) (seg-is p v gone g)
-
-          go : getD (zoneAt v e (zoneOn g e) .blocks) 0 noChunk ≡ mkChunk (headerBlock p e (zonesIn p g) (x .serial) (x .copied)) zeroSpare
-          go = ap (λ (q : Zone). getD (q .blocks) 0 noChunk) (sym (zone-by p v gone g e he))
-              ∙ same! c (headerBlock p e (zonesIn p (x .seg)) (x .serial) (x .copied)) zeroSpare fine
-              ∙ ap (λ (zs : List ℕ). mkChunk (headerBlock p e zs (x .serial) (x .copied)) zeroSpare) seg!
-
-  header-bytes : Bytes (headerAt v (lowDrive p gone) g)
-  unfolding headerAt chunkAt
-  header-bytes =
-      let (he, pr) = present-in p gone (lowDrive p gone) (low-present p r d hd) in
-      lo .shaped .zone-ok (lowDrive p gone) (zoneOn g (lowDrive p gone)) he (zone-on-lt p g (lowDrive p gone) hg) .sound 0 (omega (arith, capacity-over p r)) .block-bytes (inl refl)
-
-  header-serials-low : (x .serial < 256 ^ 8) × (x .copied < 256 ^ 8)
-  header-serials-low = (
-    subst (λ (n : ℕ). n < 256 ^ 8) (sym (serial-is p v gone g)) (serial-low p (headerAt v (lowDrive p gone) g) header-bytes),
-    subst (λ (n : ℕ). n < 256 ^ 8) (sym (copied-is p v gone g)) (copied-word-low p (headerAt v (lowDrive p gone) g) header-bytes),
-  )
-
-  -- drive 0's header, read back
-  pub head-serial : headerSerial p (headerAt u 0 g) ≡ x .serial
-  unfolding headerAt chunkAt
-  head-serial = ap (λ (c : Chunk). headerSerial p (c .block)) (header-of 0 (omega (arith, r .drives-low))) ∙ header-serial p 0 (zonesIn p g) (x .serial) (x .copied) (header-serials-low .0)
-
-  pub head-copied : headerCopied p (headerAt u 0 g) ≡ x .copied
-  unfolding headerAt chunkAt
-  head-copied = ap (λ (c : Chunk). headerCopied p (c .block)) (header-of 0 (omega (arith, r .drives-low))) ∙ header-copied p 0 (zonesIn p g) (x .serial) (x .copied) (header-serials-low .1)
+  header-of e he = header-rebuilt p r v (lo .shaped) d hd acc g e m he
 
   pub rebuilt-serial : y .serial ≡ x .serial
-  rebuilt-serial = serial-is p u 0 g ∙ ap (λ (e : ℕ). headerSerial p (headerAt u e g)) (low-first p r) ∙ head-serial
+  unfolding headerAt
+  rebuilt-serial = serial-is p u 0 g ∙ back (rebuilt-serial-in p r v (lo .shaped) d hd acc g (lowDrive p 0) m (zero-here p r .0))
+    where
+      back : {s : ℕ} → serialIn p u (lowDrive p 0) (zoneOn g (lowDrive p 0)) ≡ s → headerSerial p (chunkAt u (lowDrive p 0) (zoneOn g (lowDrive p 0)) 0 .block) ≡ s
+      back e = unfold serialIn in e
 
   pub rebuilt-copied : y .copied ≡ x .copied
-  rebuilt-copied = copied-is p u 0 g ∙ ap (λ (e : ℕ). headerCopied p (headerAt u e g)) (low-first p r) ∙ head-copied
+  rebuilt-copied = copied-is p u 0 g ∙ rebuilt-copied-in p r v (lo .shaped) d hd acc g (lowDrive p 0) m (zero-here p r .0)
 
   -- ---- stripes that count
 
@@ -356,7 +306,7 @@ module _ (p : Params) (v : View) (d : ℕ) (lo : Loss p v d) (g : Seg) (m : In g
       block! =
           let (l, e) = rank-in s h c in
           ap₂ (λ (q : Zone) (n : ℕ). getD (q .blocks) (1 + n) noChunk .block) (zone-by p u 0 g d hd) (offset-rebuilt s h c)
-          ∙ ap (λ (k : Chunk). k .block) (rebuilt-piece p v d lo g hg rm (rank s) l) ∙ chunk! (pieceAt (rank s)) ∙ ap (λ (n : ℕ). pieceOf p gone x n d .block) e
+          ∙ ap (λ (k : Chunk). k .block) (rebuilt-piece p v d lo g m (rank s) l) ∙ chunk! (pieceAt (rank s)) ∙ ap (λ (n : ℕ). pieceOf p gone x n d .block) e
         where
           chunk! : (q : Piece) → pieceChunk q .block ≡ q .block
           chunk! q = unfold pieceChunk in refl

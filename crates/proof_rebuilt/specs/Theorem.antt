@@ -43,7 +43,7 @@ use Rattle.proof_tables.specs.Outcomes.EndedAs.{ended-refused, ended-done, ende
 use Rattle.proof_tables.specs.Run.{LostDrive, Well, Run}
 use Rattle.proof_rebuilt.specs.Accepted.{rebuilt-accepted}
 use Rattle.proof_rebuilt.specs.Said.{rebuilt-said}
-use Rattle.proof_rebuilt.specs.Zone.{rebuiltView, Loss, drive-lost}
+use Rattle.proof_rebuilt.specs.Zone.{rebuiltView, Loss, drive-lost, zone-lost-apart}
 
 -- ---- a restart of drives on which nothing is wrong
 
@@ -52,38 +52,38 @@ unfolding named noDrive
 no-drive = only-none 255 (lit≤ tt)
 
 -- it is not refused 9, with whatever memory
-restart-not-ninth : (p : Params) (k : Disk) (m : Memory) (n : ℕ) → Accepted p (seen p k) 0 → isRefusedAs 9 (callDisk p k m (restart noDrive n) .answer) ≡ false
+restart-not-ninth : (p : Params) (off : List ℕ) (k : Disk) (m : Memory) (n : ℕ) → Accepted p (seen p off k) 0 → isRefusedAs 9 (callDisk p off k m (restart noDrive n) .answer) ≡ false
 unfolding callDisk callOn verdict storeCount lentBlock restartVerdict
-restart-not-ninth p k m n acc = go (outcome-ends p k m checks plan n [])
+restart-not-ninth p off k m n acc = go (outcome-ends p k m checks plan n [])
   where
     checks : List Check
-    checks = restartChecks p (lentOk p k m) (seen p k) noDrive (segments p (seen p k) (named noDrive))
+    checks = restartChecks p (lentOk p off k m) (seen p off k) noDrive (segments p (seen p off k) (named noDrive))
 
     plan : Plan
-    plan = restartPlan p (seen p k) noDrive (segments p (seen p k) (named noDrive)) (m .inflight)
+    plan = restartPlan p (seen p off k) noDrive (segments p (seen p off k) (named noDrive)) (m .inflight)
 
     fine : Mild checks
     fine =
-        let a : Accepted p (seen p k) (named noDrive) = subst (λ (g : ℕ). Accepted p (seen p k) g) (sym no-drive) acc in
-        start-mild p (lentOk p k m) (seen p k) noDrive (segments p (seen p k) (named noDrive)) (a .pointers-ok) (a .segments-ok)
+        let a : Accepted p (seen p off k) (named noDrive) = subst (λ (g : ℕ). Accepted p (seen p off k) g) (sym no-drive) acc in
+        start-mild p (lentOk p off k m) (seen p off k) noDrive (segments p (seen p off k) (named noDrive)) (a .pointers-ok) (a .segments-ok)
 
     restarted-mild : (q : Report) → isRefusedAs 9 (Restarted q) ≡ false
     restarted-mild q = unfold isRefusedAs isRefused kind in refl
 
-    answer-is : plan .answer ≡ Restarted (reportOf p (named noDrive) (segments p (seen p k) (named noDrive)))
+    answer-is : plan .answer ≡ Restarted (reportOf p (named noDrive) (segments p (seen p off k) (named noDrive)))
     answer-is = unfold restartPlan in refl
 
     go : EndedAs p k m checks plan (outcome p (storeDisk p) n k m [] (decided (firstRefusal checks) plan))
         → isRefusedAs 9 (outcome p (storeDisk p) n k m [] (decided (firstRefusal checks) plan) .answer) ≡ false
     go (ended-refused a e f g h) = ap (isRefusedAs 9) f ∙ fine a e
-    go (ended-done c f g h) = ap (isRefusedAs 9) (f ∙ answer-is) ∙ restarted-mild (reportOf p (named noDrive) (segments p (seen p k) (named noDrive)))
+    go (ended-done c f g h) = ap (isRefusedAs 9) (f ∙ answer-is) ∙ restarted-mild (reportOf p (named noDrive) (segments p (seen p off k) (named noDrive)))
     go (ended-cut c f) = ap (isRefusedAs 9) f ∙ cut-mild
 
 -- ---- the rebuild
 
-module _ (p : Params) (k : Disk) (m : Memory) (u : Run p k m) (d n : ℕ) where
+module _ (p : Params) (off : List ℕ) (k : Disk) (m : Memory) (u : Run p off k m) (d n : ℕ) where
   abbrev v : View
-  v = seen p k
+  v = seen p off k
 
   rg : Ranged p
   rg = ranged p (u .base .ranged)
@@ -92,19 +92,19 @@ module _ (p : Params) (k : Disk) (m : Memory) (u : Run p k m) (d n : ℕ) where
   record Done : Type 0 where
     loses : Loss p v d
     named-so : m .state .missing ≡ named d
-    leaves : callDisk p k m (rebuild d n) .drives ≡ storeAll (storeDisk p) (rebuildStores p d (segments p v (named d))) k
+    leaves : callDisk p off k m (rebuild d n) .drives ≡ storeAll (storeDisk p) (rebuildStores p v d (segments p v (named d))) k
 
-  rebuild-done : eqb (kind (callDisk p k m (rebuild d n) .answer)) 13 ≡ true → Done
+  rebuild-done : eqb (kind (callDisk p off k m (rebuild d n) .answer)) 13 ≡ true → Done
   unfolding callDisk callOn verdict storeCount lentBlock rebuildVerdict
   rebuild-done q = go (outcome-ends p k m checks plan n [])
     where
       plan : Plan
-      plan = mkPlan (rebuildStores p d (segments p v (named d))) Rebuilt m []
+      plan = mkPlan (rebuildStores p v d (segments p v (named d))) Rebuilt m []
 
       checks : List Check
-      checks = rebuildChecks p (lentOk p k m) v m d (segments p v (named d))
+      checks = rebuildChecks p (lentOk p off k m) v m d (segments p v (named d))
 
-      accepts-of : (d < p .N) → m .state .missing ≡ named d → LostDrive p k m ⊎ Well p k m → Accepted p v (named d)
+      accepts-of : (d < p .N) → m .state .missing ≡ named d → LostDrive p off k m ⊎ Well p off k m → Accepted p v (named d)
       accepts-of hd e (inl lo) = subst (λ (g : ℕ). Accepted p v g) e (lo .accepts)
       accepts-of hd e (inr we) = clash (eq-eqb (named d) 0 (sym e ∙ we .none-missing)) (named-some p rg d hd)
 
@@ -116,7 +116,7 @@ module _ (p : Params) (k : Disk) (m : Memory) (u : Run p k m) (d n : ℕ) where
 
       go : EndedAs p k m checks plan (outcome p (storeDisk p) n k m [] (decided (firstRefusal checks) plan)) → Done
       go (ended-refused a e f g h) = absurd (refused-not a (refusal-kind checks a e) (ap (λ (b : Answer). eqb (kind b) 13) (sym f) ∙ q))
-      go (ended-done c f g h) = let r = rebuild-passed p (lentOk p k m) v m d (segments p v (named d)) c in record {
+      go (ended-done c f g h) = let r = rebuild-passed p (lentOk p off k m) v m d (segments p v (named d)) c in record {
         loses = record { ranged = rg; shaped = u .base .shaped; drive-low = r .drive-low; accepts = accepts-of (r .drive-low) (r .names) (u .mode) };
         named-so = r .names;
         leaves = g;
@@ -124,28 +124,28 @@ module _ (p : Params) (k : Disk) (m : Memory) (u : Run p k m) (d n : ℕ) where
       go (ended-cut c f) = absurd (cut-not (ap (λ (b : Answer). eqb (kind b) 13) (sym f) ∙ q))
 
   -- the view that it leaves
-  rebuild-view : (o : Done) → seen p (callDisk p k m (rebuild d n) .drives) ≡ rebuiltView p v d
-  unfolding rebuiltView
+  rebuild-view : (o : Done) → seen p off (callDisk p off k m (rebuild d n) .drives) ≡ rebuiltView p v d
   rebuild-view o =
-      let ss = rebuildStores p d (segments p v (named d)) in
+      let ss = rebuildStores p v d (segments p v (named d)) in
       let sh = u .base .shaped in
       let hd = o .loses .drive-low in
       let nd = drive-lost p v d (o .loses) in
-      ap (seen p) (o .leaves)
-      ∙ view-stores p k ss (capacity-word p rg) (whole-of p k m (u .base .lent))
-      (all-fit p v ss (sh .sized) (rebuild-within p rg v sh d hd nd) (rebuild-roomy p rg v sh d hd nd))
+      let na = zone-lost-apart p v d (o .loses) in
+      ap (seen p off) (o .leaves)
+      ∙ view-stores p off k ss (capacity-word p rg) (whole-of p off k m (u .base .lent))
+      (all-fit p v ss (sh .sized) (rebuild-within p rg v sh d hd nd na) (rebuild-roomy p rg v sh d hd nd na))
 
-  rebuilds-done : Done → Rebuilds onValues p (mkWorld k m) (callWorld p (mkWorld k m) (rebuild d n))
+  rebuilds-done : Done → Rebuilds (onValues off) p (mkWorld k m) (callWorld off p (mkWorld k m) (rebuild d n))
   unfolding viewIn callWorld
   rebuilds-done o = record {
     says-same = λ a h.
         ap (λ (t : View). saidAt p t 0 a) (rebuild-view o) ∙ rebuilt-said p v d (o .loses) a
         ∙ ap (λ (g : ℕ). saidAt p v g a) (sym (o .named-so));
-    accepted = λ w i e. restart-not-ninth p (w .disk) (w .memory) i
-        (subst (λ (t : View). Accepted p t 0) (sym (ap (seen p) e ∙ rebuild-view o)) (rebuilt-accepted p v d (o .loses)));
+    accepted = λ w i e _. restart-not-ninth p off (w .disk) (w .memory) i
+        (subst (λ (t : View). Accepted p t 0) (sym (ap (seen p off) e ∙ rebuild-view o)) (rebuilt-accepted p v d (o .loses)));
   }
 
 -- demand 2, of a rebuild that finished
-pub rebuilds-say : (p : Params) (k : Disk) (m : Memory) → Run p k m → (d n : ℕ) → eqb (kind (callDisk p k m (rebuild d n) .answer)) 13 ≡ true
-    → Rebuilds onValues p (mkWorld k m) (callWorld p (mkWorld k m) (rebuild d n))
-rebuilds-say p k m u d n q = rebuilds-done p k m u d n (rebuild-done p k m u d n q)
+pub rebuilds-say : (p : Params) (off : List ℕ) (k : Disk) (m : Memory) → Run p off k m → (d n : ℕ) → eqb (kind (callDisk p off k m (rebuild d n) .answer)) 13 ≡ true
+    → Rebuilds (onValues off) p (mkWorld k m) (callWorld off p (mkWorld k m) (rebuild d n))
+rebuilds-say p off k m u d n q = rebuilds-done p off k m u d n (rebuild-done p off k m u d n q)

@@ -10,32 +10,31 @@ use native.Mathlib.Omega.{arith}
 use lib.ListN.{length, getD, length-append, length-map, List·getD-append}
 use lib.Seq.{getD-append-add}
 use Rattle.spec.specs.declared.Params.{Params}
-use Rattle.spec.specs.Drives.{Chunk, mkChunk, noChunk, Zone, View, zoneAt, pointerAt, Store, resetZone, storeView, storeAll, dataStored, zeroSpare, zoneOn, zonesIn}
-use Rattle.spec.specs.Drives.Store.{reset}
+use Rattle.spec.specs.Drives.{Chunk, mkChunk, noChunk, Zone, View, zoneAt, resetZone, storeView, storeAll, dataStored, zeroSpare, zoneOn, zonesIn, isGood}
 use Rattle.spec.specs.Layout.{headerBlock, mkRec, recordBytes, footerBlock}
 use Rattle.spec.specs.Lists.{below, isIn}
 use Rattle.spec.specs.Params.{footers, capacity, named}
 use Rattle.spec.specs.Parity.{Piece, mkPiece}
-use Rattle.spec.specs.Rebuild.{rebuiltZone, rebuildStores}
-use Rattle.spec.specs.Segments.{Segment, segmentOf, segments, counted, pieceOf}
+use Rattle.spec.specs.Rebuild.{rebuildStores}
+use Rattle.spec.specs.Segments.{Segment, segmentOf, segments, counted, pieceOf, remaining}
 use Rattle.law_basic.specs.Geometry.{Ranged}
 use Rattle.law_basic.specs.Mask.{isIn-only}
 use Rattle.law_basic.specs.Ranges.{length-below, getD-map, getD-map-below}
-use Rattle.law_basic.specs.Segs.{Named, zone-on-lt}
-use Rattle.law_drives.specs.Accept.{Accepted}
+use Rattle.law_drives.specs.Accept.{Accepted, accepted-apart, named-here, zone-in-range}
 use Rattle.law_drives.specs.Masks.{named-in}
 use Rattle.law_drives.specs.Puts.{putAll, puts-pointer, puts-new}
 use Rattle.law_drives.specs.Range.{capacity-is, capacity-over}
-use Rattle.law_drives.specs.Rebuilding.{counted-low, pieceChunk, rebuilt-chunks, rebuilt-is, hits-here, rebuild-agrees}
-use Rattle.law_drives.specs.Segs.{full-is}
-use Rattle.law_drives.specs.Tables.{remains, in-remaining}
-use Rattle.law_drives.specs.Zones.{Shaped, zoneStore, zone-after}
+use Rattle.law_drives.specs.Rebuilding.{counted-low, pieceChunk, rebuilt-chunks, rebuild-agrees, zone-emptied, zone-rebuilt}
+use Rattle.law_drives.specs.Spots.{SpotsApart}
+use Rattle.law_drives.specs.Segs.{Here, full-is, remaining-low}
+use Rattle.law_drives.specs.Zones.{Shaped, reset-pointer}
 use Rattle.proof_rebuilt.specs.Groups.{sealed-all}
 use Rattle.spec.specs.declared.Seg.{Seg}
+use Rattle.law_drives.specs.Members.{In}
 
 -- the view that a rebuild of drive d leaves
-unfoldable pub rebuiltView : Params → View → ℕ → View
-rebuiltView p v d = storeAll storeView (rebuildStores p d (segments p v (named d))) v
+abbrev pub rebuiltView : Params → View → ℕ → View
+rebuiltView p v d = storeAll storeView (rebuildStores p v d (segments p v (named d))) v
 
 -- drive d is missing, and nothing is wrong on the others
 pub record Loss (p : Params) (v : View) (d : ℕ) : Type 0 where
@@ -60,8 +59,14 @@ module _ (p : Params) (v : View) (d : ℕ) (lo : Loss p v d) where
   abbrev u : View
   u = rebuiltView p v d
 
-  pub drive-lost : isIn gone d ≡ true
-  drive-lost = named-in p r d hd
+  abbrev pub drive-lost : isIn (named d) d ≡ true
+  drive-lost = named-in p (lo .ranged) d (lo .drive-low)
+
+  abbrev pub low-one : Here p (named d)
+  low-one = named-here p (lo .ranged) d (lo .drive-low)
+
+  abbrev pub zone-lost-apart : SpotsApart p v (named d)
+  zone-lost-apart = accepted-apart p v (named d) (lo .accepts) (named-here p (lo .ranged) d (lo .drive-low))
 
   -- no other drive is missing
   pub other-here : (e : ℕ) → e < p .N → (e ≡ d → ⊥) → isIn gone e ≡ false
@@ -77,34 +82,15 @@ module _ (p : Params) (v : View) (d : ℕ) (lo : Loss p v d) where
       go (no q) = f e he (other-here e he q)
 
   pub present-zone-same : (e z : ℕ) → e < p .N → z < p .Z → isIn gone e ≡ false → zoneAt u e z ≡ zoneAt v e z
-  unfolding rebuiltView
-  present-zone-same e z he hz q = sym (rebuild-agrees p r v sh d hd drive-lost e z he hz q)
+  present-zone-same e z he hz q = sym (rebuild-agrees p r v sh d hd drive-lost zone-lost-apart e z he hz q)
 
-  zone-by-stores : (z : Seg) → Named p z → zoneAt u d (zoneOn z d) ≡ storeAll zoneStore (cond (remains p v gone z) (rebuiltZone p d (segmentOf p v gone z)) [])
-      (resetZone (zoneAt v d (zoneOn z d)))
-  unfolding rebuiltView
-  zone-by-stores z hz =
-      zone-after p v d (zoneOn z d) (rebuildStores p d (segments p v gone)) (sh .sized) hd (zone-on-lt p z d hz)
-      ∙ ap (λ (l : List Store). storeAll zoneStore l (zoneAt v d (zoneOn z d))) (hits-here p r v sh d hd drive-lost z hz)
-      ∙ first (cond (remains p v gone z) (rebuiltZone p d (segmentOf p v gone z)) []) (zoneAt v d (zoneOn z d))
-    where
-      first : (l : List Store) (q : Zone) → storeAll zoneStore (reset d (zoneOn z d) ∷ l) q ≡ storeAll zoneStore l (resetZone q)
-      first l q = unfold storeAll zoneStore in refl
-
-  -- a zone whose segment doesn't remain
-  pub zone-dropped : (z : Seg) → Named p z → remains p v gone z ≡ false → pointerAt u d (zoneOn z d) ≡ 0
-  unfolding pointerAt
-  zone-dropped z hz q =
-      ap (λ (y : Zone). y .pointer) (zone-by-stores z hz) ∙ ap
-      (λ (b : Bool). storeAll zoneStore (cond b (rebuiltZone p d (segmentOf p v gone z)) []) (resetZone (zoneAt v d (zoneOn z d))) .pointer) q
-      ∙ nothing (zoneAt v d (zoneOn z d))
-    where
-      nothing : (y : Zone) → storeAll zoneStore [] (resetZone y) .pointer ≡ 0
-      nothing y = unfold storeAll resetZone in refl
+  -- a good zone of none that remains
+  pub zone-dropped : (z : ℕ) → z < p .Z → isGood p (v .offline) d z ≡ true → ((g : Seg) → In g (remaining p v gone) → zoneOn g d ≡ z → ⊥) → zoneAt u d z .pointer ≡ 0
+  zone-dropped z hz k n = ap (λ (y : Zone). y .pointer) (zone-emptied p r v sh d hd drive-lost zone-lost-apart z hz k n) ∙ reset-pointer (zoneAt v d z)
 
   -- ---- the zone of a segment that remains
 
-  module _ (g : Seg) (hg : Named p g) (rm : remains p v gone g ≡ true) where
+  module _ (g : Seg) (m : In g (remaining p v gone)) where
     abbrev x : Segment
     x = segmentOf p v gone g
 
@@ -112,7 +98,7 @@ module _ (p : Params) (v : View) (d : ℕ) (lo : Loss p v d) where
     ss = counted p gone x
 
     abbrev chunks : List Chunk
-    chunks = rebuilt-chunks p r v sh gone g d hg hd drive-lost
+    chunks = rebuilt-chunks p r v sh gone g d (remaining-low p v gone low-one g m) hd drive-lost
 
     abbrev pieces : List Piece
     pieces = map (λ s. pieceOf p gone x s d) ss
@@ -151,28 +137,21 @@ module _ (p : Params) (v : View) (d : ℕ) (lo : Loss p v d) where
         go false e = let a : length chunks ≡ suc (length ss + 0) = zone-chunks-long false e in let c = capacity-over p r in let n = few in omega arith
 
     rebuilt-zone : zoneAt u d (zoneOn g d) ≡ putAll d (zoneOn g d) chunks (resetZone (zoneAt v d (zoneOn g d)))
-    rebuilt-zone =
-        zone-by-stores g hg
-        ∙ ap (λ (b : Bool). storeAll zoneStore (cond b (rebuiltZone p d x) []) (resetZone (zoneAt v d (zoneOn g d)))) rm
-        ∙ ap (λ (l : List Store). storeAll zoneStore l (resetZone (zoneAt v d (zoneOn g d)))) (rebuilt-is p r v sh d g hg hd drive-lost)
-
-    reset-zero : (y : Zone) → resetZone y .pointer ≡ 0
-    unfolding resetZone
-    reset-zero y = refl
+    rebuilt-zone = zone-rebuilt p r v sh d hd drive-lost zone-lost-apart g m
 
     reset-long : length (resetZone (zoneAt v d (zoneOn g d)) .blocks) ≡ capacity p
     unfolding resetZone
-    reset-long = sh .zone-ok d (zoneOn g d) hd (zone-on-lt p g d hg) .blocks-long
+    reset-long = sh .zone-ok d (zoneOn g d) hd (zone-in-range p v gone (lo .accepts) low-one g d m hd) .blocks-long
 
     pointer-long : zoneAt u d (zoneOn g d) .pointer ≡ length chunks
     pointer-long =
         ap (λ (y : Zone). y .pointer) rebuilt-zone ∙ puts-pointer d (zoneOn g d) chunks (resetZone (zoneAt v d (zoneOn g d)))
-        ∙ ap (λ (n : ℕ). n + length chunks) (reset-zero (zoneAt v d (zoneOn g d))) ∙ zero-add (length chunks)
+        ∙ ap (λ (n : ℕ). n + length chunks) (reset-pointer (zoneAt v d (zoneOn g d))) ∙ zero-add (length chunks)
 
     rebuilt-chunk : (i : ℕ) → i < length chunks → getD (zoneAt u d (zoneOn g d) .blocks) i noChunk ≡ getD chunks i noChunk
     rebuilt-chunk i h =
         let y = resetZone (zoneAt v d (zoneOn g d)) in
-        let z : y .pointer ≡ 0 = reset-zero (zoneAt v d (zoneOn g d)) in
+        let z : y .pointer ≡ 0 = reset-pointer (zoneAt v d (zoneOn g d)) in
         let l = chunks-low in
         let k = reset-long in
         ap (λ (q : Zone). getD (q .blocks) i noChunk) rebuilt-zone
@@ -190,18 +169,7 @@ module _ (p : Params) (v : View) (d : ℕ) (lo : Loss p v d) where
         → zoneAt u d (zoneOn g d) .pointer ≡ suc (length ss + footers p)
     rebuilt-full e = pointer-long ∙ zone-chunks-long true e ∙ ap (λ (n : ℕ). suc (length ss + n)) feet-long
 
-    pub rebuilt-some : 1 ≤ zoneAt u d (zoneOn g d) .pointer
-    rebuilt-some = go (x .full) refl
-      where
-        go : (b : Bool) → x .full ≡ b → 1 ≤ zoneAt u d (zoneOn g d) .pointer
-        go b e = let a = pointer-long in let c = zone-chunks-long b e in omega arith
-
     -- its blocks
-    pub rebuilt-header : getD (zoneAt u d (zoneOn g d) .blocks) 0 noChunk ≡ mkChunk (headerBlock p d (zonesIn p g) (x .serial) (x .copied)) zeroSpare
-    rebuilt-header =
-        let a = zone-chunks-long (x .full) refl in
-        rebuilt-chunk 0 (omega arith) ∙ ap (λ (l : List Chunk). getD l 0 noChunk) (zone-chunks-are (x .full) refl)
-
     after-first : (b : Bool) → x .full ≡ b → (i : ℕ) → i < length ss + length (cond b feet [])
         → getD (zoneAt u d (zoneOn g d) .blocks) (1 + i) noChunk ≡ getD (map pieceChunk pieces ++ cond b feet []) i noChunk
     after-first b e i h =
@@ -240,5 +208,5 @@ module _ (p : Params) (v : View) (d : ℕ) (lo : Loss p v d) where
         min-over y n k e l = unfold dataStored in omega arith
 
         go : (b : Bool) → x .full ≡ b → dataStored p (zoneAt u d (zoneOn g d)) ≡ length ss
-        go true e = min-over (zoneAt u d (zoneOn g d)) (length ss) (footers p) (rebuilt-full e) (sealed-all p r v gone (lo .accepts) g (in-remaining p v gone g hg rm) (sym (full-is p v gone g) ∙ e))
+        go true e = min-over (zoneAt u d (zoneOn g d)) (length ss) (footers p) (rebuilt-full e) (sealed-all p r v gone (lo .accepts) g m (sym (full-is p v gone g) ∙ e))
         go false e = min-is (zoneAt u d (zoneOn g d)) (length ss) (rebuilt-open e) few

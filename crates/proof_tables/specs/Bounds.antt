@@ -14,7 +14,7 @@ use Rattle.law_basic.specs.Geometry.{Ranged}
 use Rattle.law_drives.specs.Range.{capacity-over}
 use Rattle.law_drives.specs.Settled.{SameZones}
 use Rattle.law_drives.specs.States.{StateOk}
-use Rattle.law_drives.specs.Tidy.{spareAt}
+use Rattle.law_drives.specs.Tidy.{spareAt, There}
 use Rattle.proof_tables.specs.Run.{flies, awaits, SlotFlies, OpenZone}
 use Rattle.spec.specs.declared.Seg.{Seg}
 
@@ -45,9 +45,9 @@ module _ (p : Params) (v u : View) (st : State) (z : Seg) (sm : SameZones p v u 
     entries-low = f .entries-low;
   }
 
-  pub open-view : (busy : ℕ → Bool) → OpenZone p v st busy z → OpenZone p u st busy z
-  open-view busy o = record {
-    opened-zone = o .opened-zone;
+  pub open-view : (busy : ℕ → Bool) → There p u z → OpenZone p v st busy z → OpenZone p u st busy z
+  open-view busy there o = record {
+    opened-zone = there;
     has-header = λ d h. subst (λ (x : ℕ). 1 ≤ x) (pointer-carried d h) (o .has-header d h);
     count = λ d h. ap (λ (x : ℕ). x + tally (awaits st busy d) slots) (sym (pointer-carried d h)) ∙ o .count d h;
     below-next = λ d e h q. subst (λ (x : Rec). x .stripe < st .next) (at-spare d e h) (o .below-next d e h (subst (λ (x : ℕ). 1 + e < x) (sym (pointer-carried d h)) q));

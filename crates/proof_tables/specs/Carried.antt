@@ -10,12 +10,11 @@ use lib.Dec.{eqb}
 use Rattle.spec.specs.declared.Params.{Params}
 use Rattle.spec.specs.declared.State.{State}
 use Rattle.spec.specs.Drives.{View, pointerAt, zoneOn}
-use Rattle.spec.specs.Layout.{dataPosition, isData, group, Rec}
+use Rattle.spec.specs.Layout.{dataPosition, isData, group, Rec, headerSerial}
 use Rattle.spec.specs.Lists.{isIn}
 use Rattle.spec.specs.Memory.{slots, stripeIn, filledIn, landedIn, entryIn, offsetIn, setStamp, beginStripe, addEntry}
 use Rattle.spec.specs.Params.{capacity}
 use Rattle.law_basic.specs.Geometry.{Ranged, data-count-low}
-use Rattle.law_basic.specs.Segs.{Named}
 use Rattle.law_drives.specs.States.{StateOk}
 use Rattle.law_drives.specs.Tests.{or-true-right, eqb-self}
 use Rattle.law_drives.specs.Tidy.{spareAt, Tidy}
@@ -25,6 +24,8 @@ use Rattle.proof_tables.specs.Run.{flies, awaits, LandedAt, SlotFlies, O
 use Rattle.proof_tables.specs.Slots.{filled-begun, begin-filled-other, begin-lists, filled-added, add-filled-other, add-lists, free-is, some-flies}
 use Rattle.proof_tables.specs.Tallies.{tally-cong}
 use Rattle.spec.specs.declared.Seg.{Seg}
+use Rattle.law_calls.specs.Refusals.{next-low, opened-low}
+use Rattle.spec.specs.Segments.{headerAt}
 
 -- an eighth that is the same in both
 pub record CarriedSlot (st su : State) (i : ℕ) : Type 0 where
@@ -92,8 +93,8 @@ stamp-slots st t i = record { same-stripe = refl; same-filled = refl; same-lande
 pub stamp-healthy : (p : Params) (v : View) (st : State) (t : ℕ) → t < 256 ^ 8 → HealthyState p v st → HealthyState p v (setStamp st t)
 stamp-healthy p v st t ht h = record {
   tidy = subst (λ (x : ℕ). Tidy p v x) (sym serial-same) (h .tidy);
-  sealed-but = λ z hz q. subst (λ (x : ℕ). (x ≡ suc (zoneOn z 0)) ⊎ ((d : ℕ) → d < p .N → pointerAt v d (zoneOn z d) ≡ capacity p)) (sym opened-same) (h .sealed-but z hz q);
-  opens-at = λ z hz q. open-carried p v st (setStamp st t) z (stamp-slots st t) (h .opens-at z hz (sym opened-same ∙ q));
+  sealed-but = λ z m. subst (λ (x : ℕ). (x ≡ headerSerial p (headerAt v 0 z)) ⊎ ((d : ℕ) → d < p .N → pointerAt v d (zoneOn z d) ≡ capacity p)) (sym opened-same) (h .sealed-but z m);
+  opens-at = λ n. let (z, e, o) = h .opens-at (λ q. n (opened-same ∙ q)) in (z, opened-same ∙ e, open-carried p v st (setStamp st t) z (stamp-slots st t) o);
   shut = λ q i hi. sym (same-flies st (setStamp st t) (stamp-slots st t) i) ∙ h .shut (sym opened-same ∙ q) i hi;
   serial-fits = subst (λ (x : ℕ). x < 256 ^ 8) (sym serial-same) (h .serial-fits);
   stamp-fits = subst (λ (x : ℕ). x < 256 ^ 8) (sym stamp-is) ht;
@@ -134,16 +135,16 @@ stamp-ok p st t s = record {
 
 -- ---- a stripe begins, with its first entry
 
-pub begin-healthy : (p : Params) (r : Ranged p) (v : View) (st : State) (z : Seg) (i a t w : ℕ) → HealthyState p v st → StateOk p st → st .opened ≡ suc (zoneOn z 0) → i < 8
+pub begin-healthy : (p : Params) (r : Ranged p) (v : View) (st : State) (i a t w : ℕ) → HealthyState p v st → StateOk p st → (st .opened ≡ 0 → ⊥) → i < 8
     → flies st i ≡ false
     → st .next < p .S
     → ((j : ℕ) → j < 8 → flies st j ≡ true → group p (stripeIn st j) ≡ group p (st .next)) → a < 256 ^ 8 → t < 256 ^ 8
     → HealthyState p v (addEntry (beginStripe st i) i a t w)
-begin-healthy p r v st z i a t w h so op hi fi nx gr ha ht = record {
+begin-healthy p r v st i a t w h so op hi fi nx gr ha ht = record {
   tidy = subst (λ (x : ℕ). Tidy p v x) (sym serial-same) (h .tidy);
-  sealed-but = λ y hy q. subst (λ (x : ℕ). (x ≡ suc (zoneOn y 0)) ⊎ ((d : ℕ) → d < p .N → pointerAt v d (zoneOn y d) ≡ capacity p)) (sym opened-same) (h .sealed-but y hy q);
-  opens-at = λ y hy q. opened-at y hy (sym opened-same ∙ q);
-  shut = λ q. absurd (let x : suc (zoneOn z 0) ≡ 0 = sym op ∙ sym opened-same ∙ q in let y : ⊥ = omega arith in y);
+  sealed-but = λ y m. subst (λ (x : ℕ). (x ≡ headerSerial p (headerAt v 0 y)) ⊎ ((d : ℕ) → d < p .N → pointerAt v d (zoneOn y d) ≡ capacity p)) (sym opened-same) (h .sealed-but y m);
+  opens-at = λ n. let (y, e, o) = h .opens-at op in (y, opened-same ∙ e, opened-at y o);
+  shut = λ q. absurd (op (sym opened-same ∙ q));
   serial-fits = subst (λ (x : ℕ). x < 256 ^ 8) (sym serial-same) (h .serial-fits);
   stamp-fits = subst (λ (x : ℕ). x < 256 ^ 8) (sym stamp-same) (h .stamp-fits);
   lists = add-lists (beginStripe st i) (begin-lists st (h .lists) i hi) i hi a t w;
@@ -184,9 +185,8 @@ begin-healthy p r v st z i a t w h so op hi fi nx gr ha ht = record {
             (sym (add-filled-other su (begin-lists st (h .lists) i hi) i hi a t w j n ∙ begin-filled-other st (h .lists) i hi j n))
             ∙ sym (free-is sw j))
 
-    opened-at : (y : Seg) → Named p y → st .opened ≡ suc (zoneOn y 0) → OpenZone p v sw (flies sw) y
-    opened-at y hy q =
-        let o = h .opens-at y hy q in
+    opened-at : (y : Seg) → OpenZone p v st (flies st) y → OpenZone p v sw (flies sw) y
+    opened-at y o =
         let b : OpenZone p v su more! y = begin-open p r v st (h .lists) (flies st) y i hi fi nx gr o in
         let k = begin-ok p r st (h .lists) so i hi nx in
         busy-same p v sw more! (flies sw) y same!

@@ -16,47 +16,46 @@ use lib.Count.{ones}
 use lib.Arith.{digits-div, digits-mod}
 use Rattle.spec.specs.declared.Params.{Params}
 use Rattle.spec.specs.declared.State.{State}
-use Rattle.spec.specs.Drives.{Chunk, mkChunk, noChunk, Zone, View, zoneAt, pointerAt, chunkAt, Store, putZone, storeView, zoneOn, sealedIn, dataStored, recordIn, recordAt, placeRecord}
+use Rattle.spec.specs.Drives.{Chunk, mkChunk, noChunk, Zone, View, zoneAt, pointerAt, chunkAt, Store, putZone, storeView, zoneOn, sealedIn, dataStored, recordIn, recordAt, isGood, noSeg, storeAll}
 use Rattle.spec.specs.Drives.Store.{put}
-use Rattle.spec.specs.Landing.{ready, completes, flightRec, serialAt, heldCand, held, landedCand, landedCands, pointed}
+use Rattle.spec.specs.Landing.{ready, completes, flightRec, heldCand, held, landedCand, landedCands, pointed}
 use Rattle.spec.specs.Layout.{dataDrive, dataPosition, isData, group, compactEntry, headerSerial, Rec, mkRec, recordBytes, recordOf}
-use Rattle.spec.specs.Lists.{below, all, consIf, keep, tally, only, isIn}
+use Rattle.spec.specs.Lists.{firstOr, below, all, consIf, keep, tally, only, isIn}
 use Rattle.spec.specs.Lists.Opt.{none, some}
 use Rattle.spec.specs.Memory.{slots, cell, stripeIn, filledIn, landedIn, entryIn, offsetIn, isFree, isFull, inFlight, landedMask, markLanded, freeStripe, placeAt, compactAt}
-use Rattle.spec.specs.Params.{dataCount, capacity, placeOf, placeBlock, placeDrive, present, parityCount}
+use Rattle.spec.specs.Params.{dataCount, capacity, placeOf, placeBlock, placeDrive, present, parityCount, placeZone}
 use Rattle.spec.specs.Rank.{Cand, best, candsOf}
 use Rattle.spec.specs.Read.Found.{away}
-use Rattle.spec.specs.Segments.{headerAt, remaining, Segment, recordsIn, segmentOf, segments, recsOn, offsetOn, hasChunk, counts, storedRec, recOf, offsetOf}
-use Rattle.spec.specs.Segments.{candOf, candidates, addressTable, compactRow, compactTable}
-use Rattle.spec.specs.Drives.{placeSegment}
+use Rattle.spec.specs.Segments.{headerAt, remaining, Segment, recordsIn, segmentOf, segments, offsetOn, hasChunk, counts, storedRec, recOf, offsetOf}
+use Rattle.spec.specs.Segments.{candOf, candidates, addressTable, compactRow, compactTable, holders, isUsed, placeRecord, placeSegment, rowOf, serialAt}
 use Rattle.law_basic.specs.Geometry.{Ranged, compact-within, position-drive, drive-is-data, data-drive-lt, data-count-low}
 use Rattle.law_basic.specs.Mask.{isIn-empty, isIn-with}
 use Rattle.law_basic.specs.Ranges.{Test, test, and-left, and-right, and-both}
 use Rattle.law_basic.specs.Ranges.Test.{yes!, no! }
-use Rattle.law_basic.specs.Segs.{seg-other, segs-differ, Named, zone-on-lt, zone-same, zone-once, by-seg}
+use Rattle.law_basic.specs.Segs.{segs-differ, zone-is}
 use Rattle.law_code.specs.Chunks.{rec-here, flight-data, flight-stripe}
 use Rattle.law_views.specs.Looked.{held-none, held-some}
 use Rattle.law_views.specs.Pointers.{index-drive, index-zone}
-use Rattle.law_views.specs.Views.{blocks-long}
-use Rattle.law_drives.specs.Growing.{Grows, grows-used, grows-header, grows-tidy, grows-remaining}
+use Rattle.law_drives.specs.Growing.{Grows, grows-header, grows-tidy, grows-remaining, grows-others, grows-there, grows-was}
 use Rattle.law_drives.specs.Laid.{record-stripe, record-back}
 use Rattle.law_drives.specs.Masks.{only-low, full-mask, not-full}
 use Rattle.law_drives.specs.Members.{In, in-left, in-right, in-append, in-map, map-in, in-all, in-below, below-in}
 use Rattle.law_drives.specs.Puts.{data-sound, on-drive}
 use Rattle.law_drives.specs.Range.{capacity-over}
-use Rattle.law_drives.specs.Segs.{present-in, remaining-low, length-records, record-at, data-low, low-data, recs-here, seg-is, chunk-at, has-chunk, offset-is, no-chunk, CandAt, cand-at, at-cand}
-use Rattle.law_drives.specs.Settled.{remains-used, used-remains, remains-is-used, serial-of, its-serial, cands-apart, zones-sealed, zones-pointer, cand-goes, row-goes, sealed-full}
+use Rattle.law_drives.specs.Segs.{length-records, record-at, data-low, low-data, recs-here, seg-is, chunk-at, has-chunk, offset-is, no-chunk, CandAt, cand-at, at-cand, remaining-left}
+use Rattle.law_drives.specs.Settled.{serial-of, its-serial, cands-apart, zones-sealed, zones-pointer, cand-goes, row-goes, sealed-full, its-zone, there-remains, there-serial, zero-here}
 use Rattle.law_drives.specs.Slots.{cell-low}
-use Rattle.law_drives.specs.Spots.{cand-zone, counts-in, spot-block, spot-zone, spot-drive, spot-low, cand-segment}
+use Rattle.law_drives.specs.Holders.{place-first}
+use Rattle.law_drives.specs.Spots.{cand-zone, counts-in, spot-block, spot-zone, spot-drive, spot-low, cand-segment, none-apart}
 use Rattle.law_drives.specs.States.{StateOk, in-slots}
-use Rattle.law_drives.specs.Tables.{addresses-cong, row-at, row-past, grid-ext, remains, rowAt, compact-is, compact-row-long, length-compact, compact-at, row-seg}
+use Rattle.law_drives.specs.Tables.{addresses-cong, row-at, row-past, grid-ext, compact-is, compact-row-long, length-compact, compact-at, row-seg, row-none}
 use Rattle.law_drives.specs.Tests.{clash, and-false-left, and-false-right, or-true-left, not-so, cond-true, cond-false, eqb-self}
-use Rattle.law_drives.specs.Tidy.{spareAt, usedAt, Tidy}
+use Rattle.law_drives.specs.Tidy.{spareAt, Tidy, There}
 use Rattle.law_drives.specs.Zones.{Shaped, hitsAt, zoneStore, hits, zone-stored, Room, put-pointer, Roomy}
 use Rattle.proof_tables.specs.Carried.{CarriedSlot, flight-same}
 use Rattle.proof_tables.specs.Live.{EntryHolds, table-holds}
 use Rattle.proof_tables.specs.Live.EntryHolds.{holds-none, holds-some}
-use Rattle.proof_tables.specs.Opened.{busy-same}
+use Rattle.proof_tables.specs.Opened.{busy-same, open-at, serial-some}
 use Rattle.proof_tables.specs.Pointing.{pointed-is}
 use Rattle.proof_tables.specs.Ranks.{same-best}
 use Rattle.proof_tables.specs.Reclaiming.{cand-record}
@@ -64,26 +63,37 @@ use Rattle.proof_tables.specs.Run.{flies, awaits, LandedAt, SlotFlies, O
 use Rattle.proof_tables.specs.Slots.{cell-same, mark-landed, mark-landed-other, mark-offset, mark-offset-other, mark-lists, filled-freed, free-filled-other, free-lists, free-is, none-flies}
 use Rattle.proof_tables.specs.Tallies.{tally-cong, tally-none, tally-some, none-tally, tally-more}
 use Rattle.spec.specs.declared.Seg.{Seg}
+use Rattle.law_calls.specs.Refusals.{next-low, opened-low}
+use Rattle.law_drives.specs.Gather.{present-in}
+use Rattle.proof_tables.specs.Heading.{zone-kind}
+use Rattle.law_views.specs.Alike.{offline-after}
 
 -- two eighths apart
 pub cells-differ : (i j d e : ℕ) → d < 8 → e < 8 → (j ≡ i → ⊥) ⊎ (e ≡ d → ⊥) → cell j e ≡ cell i d → ⊥
 cells-differ i j d e hd he (inl n) q = n (cell-same j i e d he hd q .0)
 cells-differ i j d e hd he (inr n) q = n (cell-same j i e d he hd q .1)
 
-module _ (p : Params) (r : Ranged p) (v : View) (sh : Shaped p v) (st : State) (h : HealthyState p v st) (so : StateOk p st) (z : Seg) (hz : Named p z) (oz : st .opened ≡ suc (zoneOn z 0))
+module _ (p : Params) (r : Ranged p) (v : View) (sh : Shaped p v) (st : State) (h : HealthyState p v st) (so : StateOk p st) (z : Seg) (hz : There p v z)
+    (oz : st .opened ≡ headerSerial p (headerAt v 0 z))
     (d i : ℕ) (hd : d < p .N) (hi : i < 8) (fi : flies st i ≡ true) (rd : ready p st i d ≡ true) (b : List ℕ) (lb : length b ≡ p .B) where
   abbrev s : ℕ
   s = stripeIn st i
 
   abbrev op : OpenZone p v st (flies st) z
-  op = h .opens-at z hz oz
+  op = open-at p r v st h z hz oz
+
+  zl : (e : ℕ) → e < p .N → zoneOn z e < p .Z
+  zl e he = its-zone p r v z hz e he .zone-low
+
+  h0 : 0 < p .N
+  h0 = omega (arith, r .drives-low)
 
   fl : SlotFlies p v st z i
   fl = op .flight i hi fi
 
   -- one segment is open
-  open-once : (y : Seg) → Named p y → st .opened ≡ suc (zoneOn y 0) → z ≡ y
-  open-once y hy q = zone-once p z y 0 (omega (arith, r .drives-low)) hz hy (let a : suc (zoneOn z 0) ≡ suc (zoneOn y 0) = sym oz ∙ q in omega arith)
+  open-once : (y : Seg) → There p v y → st .opened ≡ headerSerial p (headerAt v 0 y) → z ≡ y
+  open-once y hy q = there-serial p r v z y hz hy (sym oz ∙ q)
 
   -- ---- the pointer
 
@@ -163,20 +173,20 @@ module _ (p : Params) (r : Ranged p) (v : View) (sh : Shaped p v) (st : State) (
 
   pub chunk-zone : zoneAt v1 d (zoneOn z d) ≡ putZone b (recordBytes rc) (zoneAt v d (zoneOn z d))
   chunk-zone =
-      zone-stored p v d (zoneOn z d) store (sh .sized) hd (zone-on-lt p z d hz)
+      zone-stored p v d (zoneOn z d) store (sh .sized) hd (zl d hd)
       ∙ cond-true (hitsAt d (zoneOn z d) store) (zoneStore store (zoneAt v d (zoneOn z d))) (zoneAt v d (zoneOn z d)) hit! ∙ once
     where
       once : zoneStore store (zoneAt v d (zoneOn z d)) ≡ putZone b (recordBytes rc) (zoneAt v d (zoneOn z d))
       once = unfold zoneStore in refl
 
-  pub chunk-other : (e : ℕ) (y : Seg) → e < p .N → Named p y → (d ≡ e → ⊥) ⊎ (z ≡ y → ⊥) → zoneAt v1 e (zoneOn y e) ≡ zoneAt v e (zoneOn y e)
+  pub chunk-other : (e y : ℕ) → e < p .N → y < p .Z → (d ≡ e → ⊥) ⊎ (y ≡ zoneOn z e → ⊥) → zoneAt v1 e y ≡ zoneAt v e y
   chunk-other e y he hy n =
-      zone-stored p v e (zoneOn y e) store (sh .sized) he (zone-on-lt p y e hy)
-      ∙ cond-false (hitsAt e (zoneOn y e) store) (zoneStore store (zoneAt v e (zoneOn y e))) (zoneAt v e (zoneOn y e)) (miss n)
+      zone-stored p v e y store (sh .sized) he hy
+      ∙ cond-false (hitsAt e y store) (zoneStore store (zoneAt v e y)) (zoneAt v e y) (miss n)
     where
-      miss : (d ≡ e → ⊥) ⊎ (z ≡ y → ⊥) → hitsAt e (zoneOn y e) store ≡ false
-      miss (inl x) = unfold hitsAt in and-false-left (eqb d e) (eqb (zoneOn z d) (zoneOn y e)) (ne-eqb d e x)
-      miss (inr x) = unfold hitsAt in (on-drive (zoneOn z) d e (zoneOn y e) ∙ and-false-right (eqb d e) (eqb (zoneOn z e) (zoneOn y e)) (zone-same p z y e he hz hy ∙ seg-other z y x))
+      miss : (d ≡ e → ⊥) ⊎ (y ≡ zoneOn z e → ⊥) → hitsAt e y store ≡ false
+      miss (inl x) = unfold hitsAt in and-false-left (eqb d e) (eqb (zoneOn z d) y) (ne-eqb d e x)
+      miss (inr x) = unfold hitsAt in (on-drive (zoneOn z) d e y ∙ and-false-right (eqb d e) (eqb (zoneOn z e) y) (ne-eqb (zoneOn z e) y (λ q. x (sym q))))
 
   pub chunk-pointer : pointerAt v1 d (zoneOn z d) ≡ suc (pointerAt v d (zoneOn z d))
   chunk-pointer = as! (ap (λ (q : Zone). q .pointer) chunk-zone ∙ put-pointer b (recordBytes rc) (zoneAt v d (zoneOn z d)))
@@ -185,13 +195,13 @@ module _ (p : Params) (r : Ranged p) (v : View) (sh : Shaped p v) (st : State) (
       as! e = unfold pointerAt in e
 
   pub pointer-else : (e : ℕ) → e < p .N → (d ≡ e → ⊥) → pointerAt v1 e (zoneOn z e) ≡ pointerAt v e (zoneOn z e)
-  pointer-else e he n = as! (chunk-other e z he hz (inl n))
+  pointer-else e he n = as! (chunk-other e (zoneOn z e) he (zl e he) (inl n))
     where
       as! : zoneAt v1 e (zoneOn z e) ≡ zoneAt v e (zoneOn z e) → pointerAt v1 e (zoneOn z e) ≡ pointerAt v e (zoneOn z e)
       as! q = unfold pointerAt in ap (λ (x : Zone). x .pointer) q
 
   pub spare-else : (e x : ℕ) → e < p .N → (d ≡ e → ⊥) → spareAt p v1 e (zoneOn z e) x ≡ spareAt p v e (zoneOn z e) x
-  spare-else e x he n = ap (λ (q : Zone). recordIn p false q x) (chunk-other e z he hz (inl n))
+  spare-else e x he n = ap (λ (q : Zone). recordIn p false q x) (chunk-other e (zoneOn z e) he (zl e he) (inl n))
 
   block-old : (x : ℕ) → x < pointerAt v d (zoneOn z d) → getD (zoneAt v1 d (zoneOn z d) .blocks) x noChunk ≡ getD (zoneAt v d (zoneOn z d) .blocks) x noChunk
   block-old x l = ap (λ (q : Zone). getD (q .blocks) x noChunk) chunk-zone ∙ go (zoneAt v d (zoneOn z d)) (as! l)
@@ -204,7 +214,7 @@ module _ (p : Params) (r : Ranged p) (v : View) (sh : Shaped p v) (st : State) (
 
   block-new : (x : ℕ) → x ≡ pointerAt v d (zoneOn z d) → getD (zoneAt v1 d (zoneOn z d) .blocks) x noChunk ≡ mkChunk b (recordBytes rc)
   block-new x l = ap (λ (q : Zone). getD (q .blocks) x noChunk) chunk-zone ∙ go (zoneAt v d (zoneOn z d)) (as! l)
-      (let e = sh .zone-ok d (zoneOn z d) hd (zone-on-lt p z d hz) .blocks-long in let c = pointer-data in let y = capacity-over p r in subst (λ (n : ℕ). x < n) (sym e) (omega arith))
+      (let e = sh .zone-ok d (zoneOn z d) hd (zl d hd) .blocks-long in let c = pointer-data in let y = capacity-over p r in subst (λ (n : ℕ). x < n) (sym e) (omega arith))
     where
       as! : x ≡ pointerAt v d (zoneOn z d) → x ≡ zoneAt v d (zoneOn z d) .pointer
       as! l = unfold pointerAt in l
@@ -260,32 +270,45 @@ module _ (p : Params) (r : Ranged p) (v : View) (sh : Shaped p v) (st : State) (
   pub chunk-grows : Grows p v v1 z
   chunk-grows = record {
     zone-is = hz;
-    others = λ y hy n e he. sym (chunk-other e y he hy (inr n));
+    others = λ e y he hy n. chunk-other e y he hy (inr n);
     used-before = op .has-header;
     used-now = λ e he. now e he (ℕ-discrete d e);
     low-now = λ e he. low e he (ℕ-discrete d e);
     same-head = head;
+    same-offline = off-same;
   }
     where
+      off-same : v1 .offline ≡ v .offline
+      off-same = go (offline-after (store ∷ []) v)
+        where
+          go : storeAll storeView (store ∷ []) v .offline ≡ v .offline → v1 .offline ≡ v .offline
+          go e = unfold storeAll in e
+
       now : (e : ℕ) → e < p .N → Dec (d ≡ e) → 1 ≤ pointerAt v1 e (zoneOn z e)
       now e he (yes q) = subst (λ (x : ℕ). 1 ≤ pointerAt v1 x (zoneOn z x)) q (let a = chunk-pointer in omega arith)
       now e he (no n) = subst (λ (x : ℕ). 1 ≤ x) (sym (pointer-else e he n)) (op .has-header e he)
 
+      good : (e : ℕ) → isUsed p v e (zoneOn z e) ≡ true → isGood p (v .offline) e (zoneOn z e) ≡ true
+      good e q = unfold isUsed in and-left (isGood p (v .offline) e (zoneOn z e)) (not (eqb (pointerAt v e (zoneOn z e)) 0)) q
+
       low : (e : ℕ) → e < p .N → Dec (d ≡ e) → pointerAt v1 e (zoneOn z e) ≤ capacity p
       low e he (yes q) = subst (λ (x : ℕ). pointerAt v1 x (zoneOn z x) ≤ capacity p) q (let a = chunk-pointer in let c = pointer-data in let k = capacity-over p r in omega arith)
-      low e he (no n) = subst (λ (x : ℕ). x ≤ capacity p) (sym (pointer-else e he n)) (h .tidy .pointer-low e z he hz)
+      low e he (no n) = subst (λ (x : ℕ). x ≤ capacity p) (sym (pointer-else e he n)) (h .tidy .pointer-low e (zoneOn z e) he (zl e he) (good e (its-zone p r v z hz e he .used)))
 
-      head : headerAt v 0 z ≡ headerAt v1 0 z
-      head = go (ℕ-discrete d 0)
+      head : (e : ℕ) → e < p .N → headerAt v e z ≡ headerAt v1 e z
+      head e he = go (ℕ-discrete d e)
         where
-          as! : getD (zoneAt v 0 (zoneOn z 0) .blocks) 0 noChunk .block ≡ getD (zoneAt v1 0 (zoneOn z 0) .blocks) 0 noChunk .block → headerAt v 0 z ≡ headerAt v1 0 z
-          as! e = unfold headerAt chunkAt in e
+          as! : getD (zoneAt v e (zoneOn z e) .blocks) 0 noChunk .block ≡ getD (zoneAt v1 e (zoneOn z e) .blocks) 0 noChunk .block → headerAt v e z ≡ headerAt v1 e z
+          as! q = unfold headerAt chunkAt in q
 
-          go : Dec (d ≡ 0) → headerAt v 0 z ≡ headerAt v1 0 z
-          go (yes e) =
-              as! (subst (λ (x : ℕ). getD (zoneAt v x (zoneOn z x) .blocks) 0 noChunk .block ≡ getD (zoneAt v1 x (zoneOn z x) .blocks) 0 noChunk .block) e
+          go : Dec (d ≡ e) → headerAt v e z ≡ headerAt v1 e z
+          go (yes q) =
+              as! (subst (λ (x : ℕ). getD (zoneAt v x (zoneOn z x) .blocks) 0 noChunk .block ≡ getD (zoneAt v1 x (zoneOn z x) .blocks) 0 noChunk .block) q
               (ap (λ (c : Chunk). c .block) (sym (block-old 0 pointer-some))))
-          go (no n) = as! (ap (λ (q : Zone). getD (q .blocks) 0 noChunk .block) (sym (chunk-other 0 z (omega (arith, r .drives-low)) hz (inl n))))
+          go (no n) = as! (ap (λ (q : Zone). getD (q .blocks) 0 noChunk .block) (sym (chunk-other e (zoneOn z e) he (zl e he) (inl n))))
+
+  pub chunk-there : There p v1 z
+  chunk-there = grows-there p r v v1 z chunk-grows z hz
 
   -- ---- the open segment
 
@@ -425,7 +448,7 @@ module _ (p : Params) (r : Ranged p) (v : View) (sh : Shaped p v) (st : State) (
 
   pub chunk-open : OpenZone p v1 st1 (flies st) z
   chunk-open = record {
-    opened-zone = hz;
+    opened-zone = chunk-there;
     has-header = chunk-grows .used-now;
     count = λ e he. counts! e he (ℕ-discrete d e);
     below-next = λ e x he y. subst (λ (m : ℕ). spareAt p v1 e (zoneOn z e) x .stripe < m) (sym next1) (under e x he y (ℕ-discrete d e));
@@ -583,7 +606,7 @@ module _ (p : Params) (r : Ranged p) (v : View) (sh : Shaped p v) (st : State) (
       as! e = unfold counts in e
 
   serial-same! : seg0 .serial ≡ seg1 .serial
-  serial-same! = serial-of p r v s0 t0 z ∙ ap (headerSerial p) (chunk-grows .same-head) ∙ sym (serial-of p r v1 s0 chunk-tidy z)
+  serial-same! = serial-of p r v s0 t0 z ∙ ap (headerSerial p) (chunk-grows .same-head 0 h0) ∙ sym (serial-of p r v1 s0 chunk-tidy z)
 
   cand-eq : (t e : ℕ) → KeepsChunk t e → candOf p 0 seg0 t e ≡ candOf p 0 seg1 t e
   cand-eq t e k = as! (rec-is seg0 ∙ k .same-record! ∙ sym (rec-is seg1)) (off-is seg0 ∙ k .same-offset! ∙ sym (off-is seg1))
@@ -609,8 +632,8 @@ module _ (p : Params) (r : Ranged p) (v : View) (sh : Shaped p v) (st : State) (
     where
       go : Dec (z ≡ k .of) → CandAt p v1 0 c
       go (no n) =
-          let (hk, q) = remains-is-used p r v s0 t0 (k .of) (k .remains) in
-          cand-goes p r v v1 s0 chunk-tidy c k (chunk-grows .others (k .of) hk n) (sym (grows-used p r v v1 z chunk-grows (k .of) hk) ∙ q)
+          let q = remaining-left p v 0 (k .of) (k .remains) in
+          cand-goes p r v v1 s0 chunk-tidy c k (grows-others p r v v1 z chunk-grows (k .of) q n) (grows-there p r v v1 z chunk-grows (k .of) q)
       go (yes e) =
           let q : counts p 0 seg0 (k .stripe) ≡ true = subst (λ (x : Seg). counts p 0 (segmentOf p v 0 x) (k .stripe) ≡ true) (sym e) (k .it-counts) in
           let dd = dataDrive p (k .stripe) (k .position) in
@@ -619,7 +642,7 @@ module _ (p : Params) (r : Ranged p) (v : View) (sh : Shaped p v) (st : State) (
             of = z;
             stripe = k .stripe;
             position = k .position;
-            remains = subst (λ (x : List Seg). In z x) (grows-remaining p r v v1 z chunk-grows s0 t0) (subst (λ (x : Seg). In x (remaining p v 0)) (sym e) (k .remains));
+            remains = subst (λ (x : List Seg). In z x) (grows-remaining p r v v1 z chunk-grows) (subst (λ (x : Seg). In x (remaining p v 0)) (sym e) (k .remains));
             stripe-low = k .stripe-low;
             it-counts = counts-up (k .stripe) q;
             position-low = k .position-low;
@@ -632,13 +655,12 @@ module _ (p : Params) (r : Ranged p) (v : View) (sh : Shaped p v) (st : State) (
   pub cand-down : (c : Cand) (k : CandAt p v1 0 c) → ((k .of ≡ z) × (k .stripe ≡ s)) ⊎ CandAt p v 0 c
   cand-down c k = go (segs-differ z (k .of))
     where
-      hk : Named p (k .of)
-      hk = remains-is-used p r v1 s0 chunk-tidy (k .of) (k .remains) .0
+      hk : There p v (k .of)
+      hk = grows-was p r v v1 z chunk-grows (k .of) (remaining-left p v1 0 (k .of) (k .remains))
 
       go : Dec (z ≡ k .of) → ((k .of ≡ z) × (k .stripe ≡ s)) ⊎ CandAt p v 0 c
       go (no n) =
-          let q = remains-is-used p r v1 s0 chunk-tidy (k .of) (k .remains) .1 in
-          inr (cand-goes p r v1 v s0 t0 c k (λ e he. sym (chunk-grows .others (k .of) hk n e he)) (grows-used p r v v1 z chunk-grows (k .of) hk ∙ q))
+          inr (cand-goes p r v1 v s0 t0 c k (λ e he. sym (grows-others p r v v1 z chunk-grows (k .of) hk n e he)) hk)
       go (yes e) = two (ℕ-discrete (k .stripe) s)
         where
           two : Dec (k .stripe ≡ s) → ((k .of ≡ z) × (k .stripe ≡ s)) ⊎ CandAt p v 0 c
@@ -652,7 +674,7 @@ module _ (p : Params) (r : Ranged p) (v : View) (sh : Shaped p v) (st : State) (
                 of = z;
                 stripe = k .stripe;
                 position = k .position;
-                remains = subst (λ (y : List Seg). In z y) (sym (grows-remaining p r v v1 z chunk-grows s0 t0)) (subst (λ (y : Seg). In y (remaining p v1 0)) (sym e) (k .remains));
+                remains = subst (λ (y : List Seg). In z y) (sym (grows-remaining p r v v1 z chunk-grows)) (subst (λ (y : Seg). In y (remaining p v1 0)) (sym e) (k .remains));
                 stripe-low = k .stripe-low;
                 it-counts = q;
                 position-low = k .position-low;
@@ -804,10 +826,7 @@ module _ (p : Params) (r : Ranged p) (v : View) (sh : Shaped p v) (st : State) (
         of = z;
         stripe = s;
         position = n;
-        remains =
-            used-remains p r v1 s0 chunk-tidy z hz (sym (grows-used p r v v1 z chunk-grows z hz)
-            ∙ ap not
-            (ne-eqb (pointerAt v 0 (zoneOn z 0)) 0 (λ x. let y = op .has-header 0 (omega (arith, r .drives-low)) in let bad : ⊥ = omega arith in bad)));
+        remains = there-remains p r v1 s0 chunk-tidy z chunk-there;
         stripe-low = so .slots-ok i hi .stripe-ok;
         it-counts = counts-now q;
         position-low = l;
@@ -823,19 +842,29 @@ module _ (p : Params) (r : Ranged p) (v : View) (sh : Shaped p v) (st : State) (
     where
       go : EntryHolds p v tb a → held p v1 tb a ≡ best none (candsOf a before!)
       go (holds-none b q) = held-none p tb a (placeAt tb a) refl v1 q ∙ sym b
-      go (holds-some c b k t ea q) = held-some p tb a (c .place) q v1 (λ x. let l = spot-low p r v 0 c t in let bad : ⊥ = omega arith in bad) ∙ ap some cand! ∙ sym b
+      go (holds-some c b k t ea q) = held-some p tb a (c .place) q v1 (λ x. let l = spot-low p r v 0 (zero-here p r) (none-apart p v) c t in let bad : ⊥ = omega arith in bad)
+          ∙ ap some cand! ∙ sym b
         where
           ed : placeDrive p (c .place) ≡ c .drive
-          ed = spot-drive p r v 0 c t
+          ed = spot-drive p r v 0 (zero-here p r) (none-apart p v) c t
 
-          ez : placeSegment p (c .place) ≡ k .of
-          ez = cand-segment p r v 0 c k t
+          ez : placeSegment p v1 0 (c .place) ≡ placeSegment p v 0 (c .place)
+          ez = as! (grows-remaining p r v v1 z chunk-grows)
+            where
+              has : remaining p v 0 ≡ remaining p v1 0 → holders p v1 0 (placeDrive p (c .place)) (placeZone p (c .place)) ≡ holders p v 0 (placeDrive p (c .place)) (placeZone p (c .place))
+              has q = unfold holders in ap (keep (λ g. eqb (zoneOn g (placeDrive p (c .place))) (placeZone p (c .place)))) (sym q)
+
+              as! : remaining p v 0 ≡ remaining p v1 0 → placeSegment p v1 0 (c .place) ≡ placeSegment p v 0 (c .place)
+              as! q = place-first p v1 0 (c .place) ∙ ap (firstOr noSeg) (has q) ∙ sym (place-first p v 0 (c .place))
+
+          ez! : placeSegment p v1 0 (c .place) ≡ k .of
+          ez! = ez ∙ cand-segment p r v 0 (zero-here p r) (none-apart p v) c k t
 
           eb : placeBlock p (c .place) - 1 ≡ c .offset
-          eb = ap (λ (x : ℕ). x - 1) (spot-block p r v 0 c t) ∙ (let y : 1 + c .offset - 1 ≡ c .offset = omega arith in y)
+          eb = ap (λ (x : ℕ). x - 1) (spot-block p r v 0 (zero-here p r) (none-apart p v) c t) ∙ (let y : 1 + c .offset - 1 ≡ c .offset = omega arith in y)
 
-          hk : Named p (k .of)
-          hk = remaining-low p v 0 (k .of) (k .remains)
+          hk : There p v (k .of)
+          hk = remaining-left p v 0 (k .of) (k .remains)
 
           stamp! : recordIn p (sealedIn p v1 0 (k .of)) (zoneAt v1 (c .drive) (zoneOn (k .of) (c .drive))) (c .offset) .stamp ≡ c .stamp
           stamp! = two (segs-differ z (k .of)) ∙ sym (cand-record p r v s0 t0 c k .1)
@@ -846,24 +875,25 @@ module _ (p : Params) (r : Ranged p) (v : View) (sh : Shaped p v) (st : State) (
                   (zoneAt v (c .drive) (zoneOn (k .of) (c .drive))) (c .offset) .stamp
               two (no n) =
                   ap₂ (λ (x : Bool) (y : Zone). recordIn p x y (c .offset) .stamp)
-                  (sym (zones-sealed p r v v1 (k .of) (chunk-grows .others (k .of) hk n)))
-                  (sym (chunk-grows .others (k .of) hk n (c .drive) (t .drive-low)))
+                  (sym (zones-sealed p r v v1 (k .of) (grows-others p r v v1 z chunk-grows (k .of) hk n)))
+                  (sym (grows-others p r v v1 z chunk-grows (k .of) hk n (c .drive) (t .drive-low)))
               two (yes x) =
                   subst (λ (y : Seg). recordIn p (sealedIn p v1 0 y) (zoneAt v1 (c .drive) (zoneOn y (c .drive))) (c .offset) .stamp ≡ recordIn p (sealedIn p v 0 y)
                   (zoneAt v (c .drive) (zoneOn y (c .drive))) (c .offset) .stamp) x
                   (ap (λ (m : Rec). m .stamp) (unsealed-by-spare v1 (c .drive) (c .offset) open-after ∙ kept-spare (c .drive) (c .offset) (t .drive-low)
-                  (subst (λ (y : ℕ). 1 + c .offset < pointerAt v (c .drive) y) (sym (spot-zone p r v 0 c t) ∙ cand-zone p r v 0 c k t ∙ ap (λ (y : Seg). zoneOn y (c .drive)) (sym x))
+                  (subst (λ (y : ℕ). 1 + c .offset < pointerAt v (c .drive) y)
+                  (sym (spot-zone p r v 0 (zero-here p r) (none-apart p v) c t) ∙ cand-zone p r v 0 (zero-here p r) (none-apart p v) c k t ∙ ap (λ (y : Seg). zoneOn y (c .drive)) (sym x))
                   (t .visible (isIn-empty (c .drive))))
                   ∙ sym (unsealed-by-spare v (c .drive) (c .offset) open-before)))
 
           serial! : headerSerial p (headerAt v1 0 (k .of)) ≡ c .serial
-          serial! = ap (headerSerial p) (sym (grows-header p r v v1 z chunk-grows (k .of) hk)) ∙ sym (its-serial p r v s0 t0 c k)
+          serial! = ap (headerSerial p) (sym (grows-header p r v v1 z chunk-grows 0 (k .of) h0 hk)) ∙ sym (its-serial p r v s0 t0 c k)
 
           cand! : heldCand p v1 a (placeRecord p v1 0 (c .place) .stamp) (c .place) ≡ c
-          cand! = unfold heldCand recordAt serialAt in λ j. record {
+          cand! = unfold heldCand recordAt serialAt headerAt in λ j. record {
             address = sym ea j;
-            stamp = ((λ l. recordIn p (sealedIn p v1 0 (ez l)) (zoneAt v1 (ed l) (zoneOn (ez l) (ed l))) (eb l) .stamp) ∙ stamp!) j;
-            serial = (ap (λ (x : Seg). headerSerial p (chunkAt v1 0 (zoneOn x 0) 0 .block)) ez ∙ head!) j;
+            stamp = ((λ l. recordIn p (sealedIn p v1 0 (ez! l)) (zoneAt v1 (ed l) (zoneOn (ez! l) (ed l))) (eb l) .stamp) ∙ stamp!) j;
+            serial = (ap (λ (x : Seg). headerSerial p (chunkAt v1 0 (zoneOn x 0) 0 .block)) ez! ∙ head!) j;
             drive = ed j;
             offset = eb j;
             place = c .place;
@@ -891,22 +921,32 @@ module _ (p : Params) (r : Ranged p) (v : View) (sh : Shaped p v) (st : State) (
 
   -- ---- the compact table
 
-  used! : (u : View) → usedAt u z ≡ true → (s1 : ℕ) → Tidy p u s1 → (e : ℕ) → e < p .N → sealedIn p u 0 z ≡ false
-      → rowAt p u 0 e (zoneOn z e) ≡ recordsIn p false (zoneAt u e (zoneOn z e))
-  used! u q s1 ty e he ns =
-      row-seg p u 0 e z he hz
-      ∙ cond-true (remains p u 0 z) (recsOn (segmentOf p u 0 z) e) [] (remains-used p r u s1 ty z hz ∙ q)
+  used! : (u : View) → There p u z → (s1 : ℕ) → Tidy p u s1 → (e : ℕ) → e < p .N → sealedIn p u 0 z ≡ false
+      → rowOf p (segments p u 0) e (zoneOn z e) ≡ recordsIn p false (zoneAt u e (zoneOn z e))
+  used! u m s1 ty e he ns =
+      row-seg p u 0 (zero-here p r) e z he (isIn-empty e) (there-remains p r u s1 ty z m)
       ∙ recs-here p u 0 z e he (isIn-empty e)
       ∙ ap (λ (w : Bool). recordsIn p w (zoneAt u e (zoneOn z e))) ns
 
-  used-zone : usedAt v z ≡ true
-  used-zone = ap not (ne-eqb (pointerAt v 0 (zoneOn z 0)) 0 (λ x. let y = op .has-header 0 (omega (arith, r .drives-low)) in let bad : ⊥ = omega arith in bad))
+  row-before : (e : ℕ) → e < p .N → rowOf p (segments p v 0) e (zoneOn z e) ≡ recordsIn p false (zoneAt v e (zoneOn z e))
+  row-before e he = used! v hz s0 t0 e he open-before
 
-  row-before : (e : ℕ) → e < p .N → rowAt p v 0 e (zoneOn z e) ≡ recordsIn p false (zoneAt v e (zoneOn z e))
-  row-before e he = used! v used-zone s0 t0 e he open-before
+  row-after : (e : ℕ) → e < p .N → rowOf p (segments p v1 0) e (zoneOn z e) ≡ recordsIn p false (zoneAt v1 e (zoneOn z e))
+  row-after e he = used! v1 chunk-there s0 chunk-tidy e he open-after
 
-  row-after : (e : ℕ) → e < p .N → rowAt p v1 0 e (zoneOn z e) ≡ recordsIn p false (zoneAt v1 e (zoneOn z e))
-  row-after e he = used! v1 (sym (grows-used p r v v1 z chunk-grows z hz) ∙ used-zone) s0 chunk-tidy e he open-after
+  -- the rows of other zones
+  chunks-row-other : (e y : ℕ) → e < p .N → (y ≡ zoneOn z e → ⊥) → rowOf p (segments p v 0) e y ≡ rowOf p (segments p v1 0) e y
+  chunks-row-other e y he n = go (zone-kind p v e y)
+    where
+      go : ((w : Seg) × In w (remaining p v 0) × (zoneOn w e ≡ y)) ⊎ ((w : Seg) → In w (remaining p v 0) → zoneOn w e ≡ y → ⊥)
+          → rowOf p (segments p v 0) e y ≡ rowOf p (segments p v1 0) e y
+      go (inl (w, m, q)) =
+          let k = remaining-left p v 0 w m in
+          subst (λ (x : ℕ). rowOf p (segments p v 0) e x ≡ rowOf p (segments p v1 0) e x) q
+          (row-goes p r v v1 s0 s0 t0 chunk-tidy e w he k (grows-there p r v v1 z chunk-grows w k)
+          (grows-others p r v v1 z chunk-grows w k (λ x. n (sym q ∙ ap (λ (g : Seg). zoneOn g e) (sym x)))))
+      go (inr k) = row-none p v 0 (zero-here p r) e y k
+          ∙ sym (row-none p v1 0 (zero-here p r) e y (λ w m q. k w (subst (λ (l : List Seg). In w l) (sym (grows-remaining p r v v1 z chunk-grows)) m) q))
 
   long! : (u : View) → pointerAt u d (zoneOn z d) ≤ 1 + p .S → length (recordsIn p false (zoneAt u d (zoneOn z d))) ≡ pointerAt u d (zoneOn z d) - 1
   long! u l = length-records p false (zoneAt u d (zoneOn z d)) ∙ as! l
@@ -922,12 +962,11 @@ module _ (p : Params) (r : Ranged p) (v : View) (sh : Shaped p v) (st : State) (
 
   pub compact-lands : set (compactTable p (segments p v 0)) (compactAt p d (zoneOn z d) o) (compactEntry p s) ≡ compactTable p (segments p v1 0)
   compact-lands =
-      grid-ext p (λ e y. compactRow p (rowAt p v1 0 e y)) (compact-row-long p v1 0) (set cs (compactAt p d (zoneOn z d) o) (compactEntry p s))
-      (length-set cs (compactAt p d (zoneOn z d) o) (compactEntry p s) ∙ length-compact p v 0)
+      grid-ext p (λ e y. compactRow p (rowOf p (segments p v1 0) e y)) (compact-row-long p v1 0 (zero-here p r)) (set cs (compactAt p d (zoneOn z d) o) (compactEntry p s))
+      (length-set cs (compactAt p d (zoneOn z d) o) (compactEntry p s) ∙ length-compact p v 0 (zero-here p r))
       (r .stripes-low) (let a = r .zones-low in omega arith)
-      (λ e k x he hk hx. by-seg (λ n. getD (set cs (compactAt p d (zoneOn z d) o) (compactEntry p s)) (compactAt p e n x) 0 ≡ getD (compactRow p (rowAt p v1 0 e n)) x 0) p e k he hk
-      (λ y hy. entry e y x he hy hx))
-      ∙ sym (compact-is p v1 0)
+      entry
+      ∙ sym (compact-is p v1 0 (zero-here p r))
     where
       cs : List ℕ
       cs = compactTable p (segments p v 0)
@@ -938,49 +977,54 @@ module _ (p : Params) (r : Ranged p) (v : View) (sh : Shaped p v) (st : State) (
       base : (e y x : ℕ) → compactAt p e y x ≡ (e * p .Z + y) * p .S + x
       base e y x = unfold compactAt in refl
 
-      cells : (e : ℕ) (y : Seg) (x : ℕ) → e < p .N → Named p y → x < p .S → compactAt p e (zoneOn y e) x ≡ compactAt p d (zoneOn z d) o → (e ≡ d) × ((y ≡ z) × (x ≡ o))
+      cells : (e y x : ℕ) → e < p .N → y < p .Z → x < p .S → compactAt p e y x ≡ compactAt p d (zoneOn z d) o → (e ≡ d) × ((y ≡ zoneOn z e) × (x ≡ o))
       cells e y x he hy hx q =
-          let ye = zoneOn y e in
           let zd = zoneOn z d in
-          let hye = zone-on-lt p y e hy in
-          let hzd = zone-on-lt p z d hz in
-          let f : (e * p .Z + ye) * p .S + x ≡ (d * p .Z + zd) * p .S + o = sym (base e ye x) ∙ q ∙ base d zd o in
-          let a : e * p .Z + ye ≡ d * p .Z + zd = sym (digits-div (e * p .Z + ye) hx) ∙ ap (λ (n : ℕ). n / p .S) f ∙ digits-div (d * p .Z + zd) os in
-          let c : x ≡ o = sym (digits-mod (e * p .Z + ye) hx) ∙ ap (λ (n : ℕ). n % p .S) f ∙ digits-mod (d * p .Z + zd) os in
-          let w : e ≡ d = index-drive (p .Z) e ye d zd hye hzd a in
-          (w, (zone-once p y z e he hy hz (index-zone (p .Z) e ye d zd hye hzd a ∙ ap (zoneOn z) (sym w)), c))
+          let hzd = zl d hd in
+          let f : (e * p .Z + y) * p .S + x ≡ (d * p .Z + zd) * p .S + o = sym (base e y x) ∙ q ∙ base d zd o in
+          let a : e * p .Z + y ≡ d * p .Z + zd = sym (digits-div (e * p .Z + y) hx) ∙ ap (λ (n : ℕ). n / p .S) f ∙ digits-div (d * p .Z + zd) os in
+          let c : x ≡ o = sym (digits-mod (e * p .Z + y) hx) ∙ ap (λ (n : ℕ). n % p .S) f ∙ digits-mod (d * p .Z + zd) os in
+          let w : e ≡ d = index-drive (p .Z) e y d zd hy hzd a in
+          (w, (index-zone (p .Z) e y d zd hy hzd a ∙ ap (zoneOn z) (sym w), c))
 
-      entry : (e : ℕ) (y : Seg) (x : ℕ) → e < p .N → Named p y → x < p .S
-          → getD (set cs (compactAt p d (zoneOn z d) o) (compactEntry p s)) (compactAt p e (zoneOn y e) x) 0 ≡ getD (compactRow p (rowAt p v1 0 e (zoneOn y e))) x 0
-      entry e y x he hy hx = go (segs-differ z y) (ℕ-discrete d e) (ℕ-discrete x o)
+      entry : (e y x : ℕ) → e < p .N → y < p .Z → x < p .S
+          → getD (set cs (compactAt p d (zoneOn z d) o) (compactEntry p s)) (compactAt p e y x) 0 ≡ getD (compactRow p (rowOf p (segments p v1 0) e y)) x 0
+      entry e y x he hy hx = go (ℕ-discrete y (zoneOn z e)) (ℕ-discrete d e) (ℕ-discrete x o)
         where
-          else! : (compactAt p e (zoneOn y e) x ≡ compactAt p d (zoneOn z d) o → ⊥)
-              → getD (set cs (compactAt p d (zoneOn z d) o) (compactEntry p s)) (compactAt p e (zoneOn y e) x) 0 ≡ getD (compactRow p (rowAt p v 0 e (zoneOn y e))) x 0
-          else! n = getD-set-other cs (compactAt p d (zoneOn z d) o) (compactAt p e (zoneOn y e) x) (compactEntry p s) 0 n ∙ compact-at p v 0 e (zoneOn y e) x he (zone-on-lt p y e hy) hx
+          else! : (compactAt p e y x ≡ compactAt p d (zoneOn z d) o → ⊥)
+              → getD (set cs (compactAt p d (zoneOn z d) o) (compactEntry p s)) (compactAt p e y x) 0 ≡ getD (compactRow p (rowOf p (segments p v 0) e y)) x 0
+          else! n = getD-set-other cs (compactAt p d (zoneOn z d) o) (compactAt p e y x) (compactEntry p s) 0 n ∙ compact-at p v 0 (zero-here p r) e y x he hy hx
 
-          go : Dec (z ≡ y) → Dec (d ≡ e) → Dec (x ≡ o) → getD (set cs (compactAt p d (zoneOn z d) o) (compactEntry p s)) (compactAt p e (zoneOn y e) x) 0 ≡ getD
-              (compactRow p (rowAt p v1 0 e (zoneOn y e))) x 0
+          go : Dec (y ≡ zoneOn z e) → Dec (d ≡ e) → Dec (x ≡ o) → getD (set cs (compactAt p d (zoneOn z d) o) (compactEntry p s)) (compactAt p e y x) 0 ≡ getD
+              (compactRow p (rowOf p (segments p v1 0) e y)) x 0
           go (no n) b c =
-              else! (λ q. n (sym (cells e y x he hy hx q .1 .0))) ∙ ap (λ (l : List Rec). getD (compactRow p l) x 0) (row-goes p r v v1 s0 s0 t0 chunk-tidy e y he hy (chunk-grows .others y hy n))
+              else! (λ q. n (cells e y x he hy hx q .1 .0)) ∙ ap (λ (l : List Rec). getD (compactRow p l) x 0) (chunks-row-other e y he n)
           go (yes a) (no n) c =
               else! (λ q. n (sym (cells e y x he hy hx q .0)))
-              ∙ subst (λ (m : Seg). getD (compactRow p (rowAt p v 0 e (zoneOn m e))) x 0 ≡ getD (compactRow p (rowAt p v1 0 e (zoneOn m e))) x 0) a
-              (ap (λ (l : List Rec). getD (compactRow p l) x 0) (row-before e he ∙ ap (recordsIn p false) (sym (chunk-other e z he hz (inl n))) ∙ sym (row-after e he)))
+              ∙ subst (λ (m : ℕ). getD (compactRow p (rowOf p (segments p v 0) e m)) x 0 ≡ getD (compactRow p (rowOf p (segments p v1 0) e m)) x 0) (sym a)
+              (ap (λ (l : List Rec). getD (compactRow p l) x 0) (row-before e he ∙ ap (recordsIn p false) (sym (chunk-other e (zoneOn z e) he (zl e he) (inl n))) ∙ sym (row-after e he)))
           go (yes a) (yes b) (yes c) =
-              ap (λ (m : ℕ). getD (set cs (compactAt p d (zoneOn z d) o) (compactEntry p s)) m 0) ((λ j. compactAt p (sym b j) (zoneOn (sym a j) (sym b j)) (c j)))
+              ap (λ (m : ℕ). getD (set cs (compactAt p d (zoneOn z d) o) (compactEntry p s)) m 0) (λ j. compactAt p (sym b j) (at! j) (c j))
               ∙ getD-set-same cs (compactAt p d (zoneOn z d) o) (compactEntry p s) 0
-              (subst (λ (m : ℕ). compactAt p d (zoneOn z d) o < m) (sym (length-compact p v 0)) (compact-within p d (zoneOn z d) o hd (zone-on-lt p z d hz) os))
-              ∙ sym ((λ j. getD (compactRow p (rowAt p v1 0 (sym b j) (zoneOn (sym a j) (sym b j)))) (c j) 0) ∙ ap (λ (l : List Rec). getD (compactRow p l) o 0) (row-after d hd)
+              (subst (λ (m : ℕ). compactAt p d (zoneOn z d) o < m) (sym (length-compact p v 0 (zero-here p r))) (compact-within p d (zoneOn z d) o hd (zl d hd) os))
+              ∙ sym ((λ j. getD (compactRow p (rowOf p (segments p v1 0) (sym b j) (at! j))) (c j) 0) ∙ ap (λ (l : List Rec). getD (compactRow p l) o 0) (row-after d hd)
               ∙ entry-at v1 o (short-after d hd) (let q = chunk-pointer in let k = offset-next in omega arith)
               ∙ ap (λ (m : Rec). compactEntry p (m .stripe)) (spare-new o offset-next)
               ∙ ap (compactEntry p) read-stripe)
+            where
+              at! : y ≡ zoneOn z d
+              at! = a ∙ ap (zoneOn z) (sym b)
           go (yes a) (yes b) (no n) =
               else! (λ q. n (cells e y x he hy hx q .1 .1))
-              ∙ (λ j. getD (compactRow p (rowAt p v 0 (sym b j) (zoneOn (sym a j) (sym b j)))) x 0)
+              ∙ (λ j. getD (compactRow p (rowOf p (segments p v 0) (sym b j) (at! j))) x 0)
               ∙ two (decLt (1 + x) (pointerAt v d (zoneOn z d)))
-              ∙ (λ j. getD (compactRow p (rowAt p v1 0 (b j) (zoneOn (a j) (b j)))) x 0)
+              ∙ (λ j. getD (compactRow p (rowOf p (segments p v1 0) (b j) (sym at! j))) x 0)
             where
-              two : Dec (1 + x < pointerAt v d (zoneOn z d)) → getD (compactRow p (rowAt p v 0 d (zoneOn z d))) x 0 ≡ getD (compactRow p (rowAt p v1 0 d (zoneOn z d))) x 0
+              at! : y ≡ zoneOn z d
+              at! = a ∙ ap (zoneOn z) (sym b)
+
+              two : Dec (1 + x < pointerAt v d (zoneOn z d))
+                  → getD (compactRow p (rowOf p (segments p v 0) d (zoneOn z d))) x 0 ≡ getD (compactRow p (rowOf p (segments p v1 0) d (zoneOn z d))) x 0
               two (yes l) =
                   ap (λ (m : List Rec). getD (compactRow p m) x 0) (row-before d hd) ∙ entry-at v x (short-before d hd) l
                   ∙ ap (λ (m : Rec). compactEntry p (m .stripe)) (sym (spare-old x l))
@@ -999,7 +1043,7 @@ module _ (p : Params) (r : Ranged p) (v : View) (sh : Shaped p v) (st : State) (
     live-is = live-same ∙ so .live-is;
     missing-low = subst (λ (x : ℕ). x < 2 ^ p .N) (sym missing-same) (so .missing-low);
     missing-few = subst (λ (x : ℕ). ones x ≤ parityCount p) (sym missing-same) (so .missing-few);
-    opened-low = subst (λ (x : ℕ). x ≤ p .Z) (sym opened1) (so .opened-low);
+    opened-low = opened-ok;
     next-low = subst (λ (x : ℕ). x ≤ p .S) (sym next1) (so .next-low);
     slots-ok = λ j hj. record {
       stripe-ok = subst (λ (x : ℕ). x < p .S) (sym (landed-stripe j)) (so .slots-ok j hj .stripe-ok);
@@ -1016,8 +1060,8 @@ module _ (p : Params) (r : Ranged p) (v : View) (sh : Shaped p v) (st : State) (
       missing-same : st1 .missing ≡ st .missing
       missing-same = unfold markLanded in refl
 
-      opened1 : st1 .opened ≡ st .opened
-      opened1 = unfold markLanded in refl
+      opened-ok : st1 .opened ≤ st1 .serial .0
+      opened-ok = unfold markLanded in so .opened-low
 
       writes! : (j : ℕ) → getD (st .writes) j 0 < 2 ^ dataCount p → getD (st1 .writes) j 0 < 2 ^ dataCount p
       writes! j x = unfold markLanded in x
@@ -1039,20 +1083,26 @@ module _ (p : Params) (r : Ranged p) (v : View) (sh : Shaped p v) (st : State) (
               (let a = pointer-data in let c = pointer-some in omega arith))
           go (no n) = subst (λ (x : ℕ). x < p .S) (sym (getD-set-other (st .offsets) (cell i d) j o 0 n)) (so .offsets-low j)
 
-  opened-mark : st1 .opened ≡ suc (zoneOn z 0)
-  opened-mark = as! oz
+  head1 : headerSerial p (headerAt v 0 z) ≡ headerSerial p (headerAt v1 0 z)
+  head1 = ap (headerSerial p) (chunk-grows .same-head 0 h0)
+
+  opened-mark : st1 .opened ≡ headerSerial p (headerAt v1 0 z)
+  opened-mark = as! oz ∙ head1
     where
-      as! : st .opened ≡ suc (zoneOn z 0) → st1 .opened ≡ suc (zoneOn z 0)
+      as! : st .opened ≡ headerSerial p (headerAt v 0 z) → st1 .opened ≡ headerSerial p (headerAt v 0 z)
       as! e = unfold markLanded in e
 
   -- segments but this one are as they were
-  pub sealed1 : (y : Seg) → Named p y → usedAt v1 y ≡ true → (y ≡ z) ⊎ ((e : ℕ) → e < p .N → pointerAt v1 e (zoneOn y e) ≡ capacity p)
-  sealed1 y hy q = go (segs-differ z y)
+  pub sealed1 : (y : Seg) → There p v1 y → (y ≡ z) ⊎ ((e : ℕ) → e < p .N → pointerAt v1 e (zoneOn y e) ≡ capacity p)
+  sealed1 y m = go (segs-differ z y)
     where
+      hy : There p v y
+      hy = grows-was p r v v1 z chunk-grows y m
+
       go : Dec (z ≡ y) → (y ≡ z) ⊎ ((e : ℕ) → e < p .N → pointerAt v1 e (zoneOn y e) ≡ capacity p)
       go (yes e) = inl (sym e)
       go (no n) = ⊎-elim (λ x. inl (sym (open-once y hy x)))
-          (λ x. inr (λ e he. sym (zones-pointer p r v v1 y (chunk-grows .others y hy n) e he) ∙ x e he)) (h .sealed-but y hy (grows-used p r v v1 z chunk-grows y hy ∙ q))
+          (λ x. inr (λ e he. sym (zones-pointer p r v v1 y (grows-others p r v v1 z chunk-grows y hy n) e he) ∙ x e he)) (h .sealed-but y hy)
 
   ls1 : Lists st1
   ls1 = mark-lists st ls i hi d o d8
@@ -1061,10 +1111,9 @@ module _ (p : Params) (r : Ranged p) (v : View) (sh : Shaped p v) (st : State) (
   pub chunk-healthy : HealthyState p v1 st1
   chunk-healthy = record {
     tidy = subst (λ (x : ℕ). Tidy p v1 x) (sym serial1) chunk-tidy;
-    sealed-but = λ y hy q. ⊎-elim (λ e. inl (opened-mark ∙ ap (λ (x : Seg). suc (zoneOn x 0)) (sym e))) (λ x. inr x) (sealed1 y hy q);
-    opens-at = λ y hy q. subst (λ (x : Seg). OpenZone p v1 st1 (flies st1) x) (open-once y hy (oz ∙ sym opened-mark ∙ q))
-        (busy-same p v1 st1 (flies st) (flies st1) z (λ j hj. flies1 j) chunk-open);
-    shut = λ q. absurd (let a : suc (zoneOn z 0) ≡ 0 = sym opened-mark ∙ q in let bad : ⊥ = omega arith in bad);
+    sealed-but = λ y m. ⊎-elim (λ e. inl (opened-mark ∙ ap (λ (x : Seg). headerSerial p (headerAt v1 0 x)) (sym e))) (λ x. inr x) (sealed1 y m);
+    opens-at = λ q. (z, opened-mark, busy-same p v1 st1 (flies st) (flies st1) z (λ j hj. flies1 j) chunk-open);
+    shut = λ q. absurd (serial-some p v1 s0 z chunk-tidy chunk-there (sym opened-mark ∙ q));
     serial-fits = subst (λ (x : ℕ). x < 256 ^ 8) (sym serial1) (h .serial-fits);
     stamp-fits = subst (λ (x : ℕ). x < 256 ^ 8) (sym stamp1) (h .stamp-fits);
     lists = ls1;
@@ -1098,7 +1147,7 @@ module _ (p : Params) (r : Ranged p) (v : View) (sh : Shaped p v) (st : State) (
     live-is = live-same ∙ mark-ok .live-is;
     missing-low = subst (λ (x : ℕ). x < 2 ^ p .N) (sym missing-same) (mark-ok .missing-low);
     missing-few = subst (λ (x : ℕ). ones x ≤ parityCount p) (sym missing-same) (mark-ok .missing-few);
-    opened-low = subst (λ (x : ℕ). x ≤ p .Z) (sym opened-same) (mark-ok .opened-low);
+    opened-low = opened-ok;
     next-low = subst (λ (x : ℕ). x ≤ p .S) (sym next-same) (mark-ok .next-low);
     slots-ok = λ j hj. record {
       stripe-ok = stripe! j (mark-ok .slots-ok j hj .stripe-ok);
@@ -1115,8 +1164,8 @@ module _ (p : Params) (r : Ranged p) (v : View) (sh : Shaped p v) (st : State) (
       missing-same : st2 .missing ≡ st1 .missing
       missing-same = unfold freeStripe in refl
 
-      opened-same : st2 .opened ≡ st1 .opened
-      opened-same = unfold freeStripe in refl
+      opened-ok : st2 .opened ≤ st2 .serial .0
+      opened-ok = unfold freeStripe in mark-ok .opened-low
 
       next-same : st2 .next ≡ st1 .next
       next-same = unfold freeStripe in refl
@@ -1197,7 +1246,7 @@ module _ (p : Params) (r : Ranged p) (v : View) (sh : Shaped p v) (st : State) (
 
   pub freed-open : completes p st i d ≡ true → (st .next ≡ p .S → length (inFlight st) ≡ 1 → ⊥) → OpenZone p v1 st2 (flies st2) z
   freed-open q ns = record {
-    opened-zone = hz;
+    opened-zone = chunk-there;
     has-header = chunk-open .has-header;
     count = λ e he. ap (λ (x : ℕ). pointerAt v1 e (zoneOn z e) + x) (awaits-freed q e he) ∙ chunk-open .count e he ∙ ap suc (next1 ∙ sym next2);
     below-next = λ e x he y. subst (λ (m : ℕ). spareAt p v1 e (zoneOn z e) x .stripe < m) (next1 ∙ sym next2) (chunk-open .below-next e x he y);
@@ -1219,9 +1268,9 @@ module _ (p : Params) (r : Ranged p) (v : View) (sh : Shaped p v) (st : State) (
   pub freed-healthy : completes p st i d ≡ true → (st .next ≡ p .S → length (inFlight st) ≡ 1 → ⊥) → HealthyState p v1 st2
   freed-healthy q ns = record {
     tidy = subst (λ (x : ℕ). Tidy p v1 x) (sym serial2) chunk-tidy;
-    sealed-but = λ y hy x. ⊎-elim (λ e. inl (opened2 ∙ ap (λ (x : Seg). suc (zoneOn x 0)) (sym e))) (λ w. inr w) (sealed1 y hy x);
-    opens-at = λ y hy x. subst (λ (m : Seg). OpenZone p v1 st2 (flies st2) m) (open-once y hy (oz ∙ sym opened2 ∙ x)) (freed-open q ns);
-    shut = λ x. absurd (let a : suc (zoneOn z 0) ≡ 0 = sym opened2 ∙ x in let bad : ⊥ = omega arith in bad);
+    sealed-but = λ y m. ⊎-elim (λ e. inl (opened2 ∙ ap (λ (x : Seg). headerSerial p (headerAt v1 0 x)) (sym e))) (λ w. inr w) (sealed1 y m);
+    opens-at = λ x. (z, opened2, freed-open q ns);
+    shut = λ x. absurd (serial-some p v1 s0 z chunk-tidy chunk-there (sym opened2 ∙ x));
     serial-fits = subst (λ (x : ℕ). x < 256 ^ 8) (sym serial2) (h .serial-fits);
     stamp-fits = subst (λ (x : ℕ). x < 256 ^ 8) (sym stamp2) (h .stamp-fits);
     lists = free-lists st1 ls1 i hi;
@@ -1233,11 +1282,11 @@ module _ (p : Params) (r : Ranged p) (v : View) (sh : Shaped p v) (st : State) (
       stamp2 : st2 .stamp .0 ≡ st .stamp .0
       stamp2 = unfold freeStripe markLanded in refl
 
-      opened2 : st2 .opened ≡ suc (zoneOn z 0)
-      opened2 = as! oz
+      opened2 : st2 .opened ≡ headerSerial p (headerAt v1 0 z)
+      opened2 = as! opened-mark
         where
-          as! : st .opened ≡ suc (zoneOn z 0) → st2 .opened ≡ suc (zoneOn z 0)
-          as! e = unfold freeStripe markLanded in e
+          as! : st1 .opened ≡ headerSerial p (headerAt v1 0 z) → st2 .opened ≡ headerSerial p (headerAt v1 0 z)
+          as! e = unfold freeStripe in e
 
   -- with the last stripe of the segment complete, every zone has its S chunks
   pub all-behind : completes p st i d ≡ true → st .next ≡ p .S → length (inFlight st) ≡ 1 → (e : ℕ) → e < p .N → pointerAt v1 e (zoneOn z e) ≡ 1 + p .S

@@ -15,7 +15,7 @@ use lib.Pow.{pow-pos}
 use Rattle.spec.specs.declared.Params.{Params}
 use Rattle.spec.specs.declared.State.{State}
 use Rattle.spec.specs.Drives.{View, pointerAt, zoneOn}
-use Rattle.spec.specs.Layout.{dataDrive}
+use Rattle.spec.specs.Layout.{dataDrive, headerSerial}
 use Rattle.spec.specs.Lists.{only}
 use Rattle.spec.specs.Memory.{stripeIn, filledIn, isFull, beginStripe, addEntry, setSlotBlock, setSlotParity}
 use Rattle.spec.specs.Params.{dataCount, capacity, inflightLen, parityCount}
@@ -31,6 +31,8 @@ use Rattle.proof_tables.specs.Run.{flies, Lists, HealthyState}
 use Rattle.proof_tables.specs.Slots.{number-begun, begin-number-other, filled-begun, begin-filled-other, landed-begun, begin-landed-other, begin-writes}
 use Rattle.proof_tables.specs.Slots.{begin-writes-other, begin-next, filled-added, add-filled-other, number-added, landed-added, add-writes, add-writes-other}
 use Rattle.proof_tables.specs.Slots.{add-lists, free-is, some-flies}
+use Rattle.law_calls.specs.Refusals.{next-low, opened-low}
+use Rattle.spec.specs.Segments.{headerAt}
 
 -- ---- the in-flight buffer
 
@@ -56,7 +58,7 @@ module _ (p : Params) (r : Ranged p) (st : State) (ls : Lists st) (so : StateOk 
     live-is = live-same ∙ so .live-is;
     missing-low = subst (λ (x : ℕ). x < 2 ^ p .N) (sym missing-same) (so .missing-low);
     missing-few = subst (λ (x : ℕ). ones x ≤ parityCount p) (sym missing-same) (so .missing-few);
-    opened-low = subst (λ (x : ℕ). x ≤ p .Z) (sym opened-same) (so .opened-low);
+    opened-low = opened-ok;
     next-low = subst (λ (x : ℕ). x ≤ p .S) (sym next-same) (so .next-low);
     slots-ok = λ j hj. go j (so .slots-ok j hj) (ℕ-discrete j i);
     offsets-low = offs;
@@ -68,8 +70,8 @@ module _ (p : Params) (r : Ranged p) (st : State) (ls : Lists st) (so : StateOk 
       missing-same : addEntry st i a t w .missing ≡ st .missing
       missing-same = unfold addEntry in refl
 
-      opened-same : addEntry st i a t w .opened ≡ st .opened
-      opened-same = unfold addEntry in refl
+      opened-ok : addEntry st i a t w .opened ≤ addEntry st i a t w .serial .0
+      opened-ok = unfold addEntry in so .opened-low
 
       next-same : addEntry st i a t w .next ≡ st .next
       next-same = unfold addEntry in refl
@@ -103,7 +105,7 @@ module _ (p : Params) (r : Ranged p) (st : State) (ls : Lists st) (so : StateOk 
     live-is = live-same ∙ so .live-is;
     missing-low = subst (λ (x : ℕ). x < 2 ^ p .N) (sym missing-same) (so .missing-low);
     missing-few = subst (λ (x : ℕ). ones x ≤ parityCount p) (sym missing-same) (so .missing-few);
-    opened-low = subst (λ (x : ℕ). x ≤ p .Z) (sym opened-same) (so .opened-low);
+    opened-low = opened-ok;
     next-low = subst (λ (x : ℕ). x ≤ p .S) (sym (begin-next st ls i hi)) nx;
     slots-ok = λ j hj. go j (so .slots-ok j hj) (ℕ-discrete j i);
     offsets-low = offs;
@@ -115,8 +117,8 @@ module _ (p : Params) (r : Ranged p) (st : State) (ls : Lists st) (so : StateOk 
       missing-same : beginStripe st i .missing ≡ st .missing
       missing-same = unfold beginStripe in refl
 
-      opened-same : beginStripe st i .opened ≡ st .opened
-      opened-same = unfold beginStripe in refl
+      opened-ok : beginStripe st i .opened ≤ beginStripe st i .serial .0
+      opened-ok = unfold beginStripe in so .opened-low
 
       offs : (j : ℕ) → getD (beginStripe st i .offsets) j 0 < p .S
       offs j = unfold beginStripe in so .offsets-low j
@@ -150,9 +152,13 @@ pub fill-healthy :
     → HealthyState p v (addEntry st i a t w)
 fill-healthy p r v st i a t w h so hi fi f ha ht = record {
   tidy = subst (λ (x : ℕ). Tidy p v x) (sym serial-same) (h .tidy);
-  sealed-but = λ z hz q. subst (λ (x : ℕ). (x ≡ suc (zoneOn z 0)) ⊎ ((d : ℕ) → d < p .N → pointerAt v d (zoneOn z d) ≡ capacity p)) (sym opened-same) (h .sealed-but z hz q);
-  opens-at = λ z hz q. busy-same p v (addEntry st i a t w) (flies st) (flies (addEntry st i a t w)) z flies-same
-      (add-open p r v st (h .lists) (flies st) z i a t w hi fi f ha ht (h .opens-at z hz (sym opened-same ∙ q)) (λ j hj. so .slots-ok j hj .filled-ok));
+  sealed-but = λ z m. subst (λ (x : ℕ). (x ≡ headerSerial p (headerAt v 0 z)) ⊎ ((d : ℕ) → d < p .N → pointerAt v d (zoneOn z d) ≡ capacity p)) (sym opened-same) (h .sealed-but z m);
+  opens-at = λ n. let (z, e, o) = h .opens-at (λ q. n (opened-same ∙ q)) in (
+    z,
+    opened-same ∙ e,
+    busy-same p v (addEntry st i a t w) (flies st) (flies (addEntry st i a t w)) z flies-same
+        (add-open p r v st (h .lists) (flies st) z i a t w hi fi f ha ht o (λ j hj. so .slots-ok j hj .filled-ok)),
+  );
   shut = λ q. clash fi (h .shut (sym opened-same ∙ q) i hi);
   serial-fits = subst (λ (x : ℕ). x < 256 ^ 8) (sym serial-same) (h .serial-fits);
   stamp-fits = subst (λ (x : ℕ). x < 256 ^ 8) (sym stamp-same) (h .stamp-fits);

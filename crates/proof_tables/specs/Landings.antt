@@ -1,9 +1,9 @@
 -- Landing, with no drive missing: the call. Assumes nothing.
 use mathlib.Core.Path.{_≡_, refl, sym, ap, _∙_, subst}
-use mathlib.Core.List.{List, [], _∷_, _++_}
+use mathlib.Core.List.{List, [], _∷_, _++_, map}
 use mathlib.Core.Bool.{Bool, true, false, cond, not, _&&_}
 use mathlib.Core.Logic.{inl, inr, ⊎-elim}
-use Prim.Native.Nat.{ℕ, zero, suc, _+_, _-_, _^_, _≤_, _<_}
+use Prim.Native.Nat.{ℕ, _+_, _-_, _^_, _≤_, _<_}
 use native.Mathlib.Decide.{ℕ-discrete}
 use borrow.Author.Tests.{le-ltb, eq-eqb, ne-eqb, ltb-true, eqb-true}
 use native.Mathlib.Omega.{arith}
@@ -20,45 +20,46 @@ use Rattle.spec.specs.Engine.{storeCount, lentBlock, verdict, lentOk, callOn, c
 use Rattle.spec.specs.Engine.Call.{land}
 use Rattle.spec.specs.Landing.{slotOf, ready, waiting, completes, seals, flightRec, misplaced, overfull, entryFaults, landFaults, landedCands, pointed}
 use Rattle.spec.specs.Landing.{landChecks, sealStores, landStore, landPlan, landVerdict}
-use Rattle.spec.specs.Layout.{group, compactEntry, Rec, recordBytes}
-use Rattle.spec.specs.Lists.{below, any, consIf, indexOf, flat}
-use Rattle.spec.specs.Memory.{Memory, mkMemory, slotCount, slots, stripeIn, filledIn, landedIn, entriesIn, openSegment, isFree, inFlight}
+use Rattle.spec.specs.Layout.{group, compactEntry, Rec, recordBytes, headerSerial}
+use Rattle.spec.specs.Lists.{keep, below, any, consIf, indexOf, flat, isNil}
+use Rattle.spec.specs.Memory.{Memory, mkMemory, slotCount, slots, stripeIn, filledIn, landedIn, entriesIn, isFree, inFlight}
 use Rattle.spec.specs.Memory.{setClosed, markLanded, freeStripe, placeAt, compactAt, slotBlock}
 use Rattle.spec.specs.Params.{between, footers, capacity, drivesOf}
 use Rattle.spec.specs.Read.{placeFaults}
-use Rattle.spec.specs.Segments.{segments, candidates, addressTable, compactTable}
+use Rattle.spec.specs.Segments.{segments, candidates, addressTable, compactTable, headerAt, openSegment, openSegments}
 use Rattle.law_basic.specs.Geometry.{between-of, Ranged, ranged}
 use Rattle.law_basic.specs.Ranges.{Test, test, and-left, and-right, and-both, length-below, getD-below}
 use Rattle.law_basic.specs.Ranges.Test.{yes!, no! }
 use Rattle.law_basic.specs.Stores.{storeAll-append}
-use Rattle.law_basic.specs.Segs.{segs-differ, Named, zone-on-lt}
+use Rattle.law_basic.specs.Segs.{segs-differ}
 use Rattle.law_views.specs.Views.{seen}
 use Rattle.law_checks.specs.Passed.{land-passed, land-mild}
-use Rattle.law_drives.specs.Growing.{Grows, grows-used, grows-tidy, grows-candidates, grows-compact}
+use Rattle.law_drives.specs.Growing.{Grows, grows-tidy, grows-candidates, grows-compact, grows-others, grows-was}
 use Rattle.law_drives.specs.Joins.{roomy-append, within-append}
 use Rattle.law_drives.specs.Lengths.{whole-of}
-use Rattle.law_drives.specs.Members.{In, in-none, flat-nothing, below-in, index-passes, index-none}
+use Rattle.law_drives.specs.Members.{In, flat-nothing, below-in, index-passes, index-none, keep-nothing}
 use Rattle.law_drives.specs.Range.{capacity-is}
-use Rattle.law_drives.specs.Settled.{zones-pointer}
+use Rattle.law_drives.specs.Settled.{zones-pointer, its-zone, zero-here}
 use Rattle.law_drives.specs.Slots.{block-long! }
-use Rattle.law_drives.specs.Spots.{spot-faults}
+use Rattle.law_drives.specs.Spots.{spot-faults, none-apart}
 use Rattle.law_drives.specs.States.{StateOk, state-of}
-use Rattle.law_drives.specs.Tests.{clash, and-false-right, cond-true, cond-false, cond-same}
-use Rattle.law_drives.specs.Tidy.{usedAt, Tidy}
+use Rattle.law_drives.specs.Tests.{clash, cond-true, cond-false, cond-same}
+use Rattle.law_drives.specs.Tidy.{Tidy, There}
 use Rattle.law_drives.specs.Zones.{Shaped, Within, Roomy, shaped-after}
-use Rattle.proof_tables.specs.Chunks.{pointer-some, pointer-data, offset-group, chunk-roomy, chunk-tidy, addresses-stay, addresses-land, compact-lands}
+use Rattle.proof_tables.specs.Chunks.{pointer-some, pointer-data, offset-group, chunk-roomy, chunk-tidy, addresses-stay, addresses-land, compact-lands, chunk-there}
 use Rattle.proof_tables.specs.Chunks.{sealed1, chunk-healthy, chunk-state, chunk-missing, freed-state, freed-healthy, all-behind, last-flight}
-use Rattle.proof_tables.specs.Going.{well-run, address-table, compact-table, buffer-long}
+use Rattle.proof_tables.specs.Going.{well-run, address-table, compact-table, buffer-long, offline-long}
 use Rattle.proof_tables.specs.Live.{EntryHolds, table-holds}
 use Rattle.proof_tables.specs.Live.EntryHolds.{holds-none, holds-some}
 use Rattle.proof_tables.specs.Losing.{refused-kept, cut-kept}
 use Rattle.proof_tables.specs.Outcomes.{EndedAs, outcome-ends}
 use Rattle.proof_tables.specs.Outcomes.EndedAs.{ended-refused, ended-done, ended-cut}
-use Rattle.proof_tables.specs.Opened.{open-segment-is}
+use Rattle.proof_tables.specs.Opened.{open-segment-is, open-at, open-segment-some}
 use Rattle.proof_tables.specs.Run.{flies, Lists, HealthyState, Well, Run, Kept}
 use Rattle.proof_tables.specs.Sealing.{seal-pointer, seal-roomy, seal-within, seal-grows, seal-records}
 use Rattle.proof_tables.specs.Slots.{free-lists}
 use Rattle.spec.specs.declared.Seg.{Seg}
+use Rattle.law_calls.specs.Refusals.{next-low, opened-low}
 
 -- ---- the eighth of a stripe
 
@@ -94,15 +95,27 @@ pub record LandWaits (p : Params) (v : View) (st : State) (d s : ℕ) : Type 0 w
   pub slot-flies : flies st (slotOf st s) ≡ true
   pub slot-stripe : stripeIn st (slotOf st s) ≡ s
   pub slot-ready : ready p st (slotOf st s) d ≡ true
-  pub slot-named : Named p (openSegment p st)
-  pub slot-opened : st .opened ≡ suc (zoneOn (openSegment p st) 0)
+  pub slot-there : There p v (openSegment p v st)
+  pub slot-opened : st .opened ≡ headerSerial p (headerAt v 0 (openSegment p v st))
+  pub slot-some : isNil (openSegments p v st) ≡ false
 
-pub land-waits : (p : Params) (v : View) (st : State) (d s : ℕ) → HealthyState p v st → StateOk p st → waiting p st d s ≡ true → LandWaits p v st d s
-land-waits p v st d s h so q =
+pub land-waits : (p : Params) (r : Ranged p) (v : View) (st : State) (d s : ℕ) → HealthyState p v st → StateOk p st → waiting p st d s ≡ true → LandWaits p v st d s
+land-waits p r v st d s h so q =
     let (a, (b, c)) = parts q in
     let (f, e) = slot-of-stripe st s b in
-    let (n, o) = opened! (st .opened) refl a b f in
-    record { drive-ok = a; slot-ok = b; slot-flies = f; slot-stripe = e; slot-ready = c; slot-named = n; slot-opened = o }
+    let (z, oz, o) = h .opens-at (λ x. clash f (h .shut x (slotOf st s) b)) in
+    let hz = o .opened-zone in
+    let i : z ≡ openSegment p v st = sym (open-segment-is p r v st h z hz oz) in
+    record {
+      drive-ok = a;
+      slot-ok = b;
+      slot-flies = f;
+      slot-stripe = e;
+      slot-ready = c;
+      slot-there = subst (λ (x : Seg). There p v x) i hz;
+      slot-opened = subst (λ (x : Seg). st .opened ≡ headerSerial p (headerAt v 0 x)) i oz;
+      slot-some = open-segment-some p r v st h z hz oz;
+    }
   where
     parts : waiting p st d s ≡ true → (d < p .N) × ((slotOf st s < 8) × (ready p st (slotOf st s) d ≡ true))
     parts q = unfold waiting slotCount in
@@ -112,16 +125,11 @@ land-waits p v st d s h so q =
         let q1 : x && y ≡ true = and-left (x && y) z q in
         (ltb-true d (p .N) (and-left x y q1), (ltb-true (slotOf st s) 8 (and-right x y q1), and-right (x && y) z q))
 
-    opened! : (o : ℕ) → st .opened ≡ o → d < p .N → slotOf st s < 8 → flies st (slotOf st s) ≡ true
-        → Named p (openSegment p st) × (st .opened ≡ suc (zoneOn (openSegment p st) 0))
-    opened! zero e a b f = clash f (h .shut e (slotOf st s) b)
-    opened! (suc n) e a b f = open-segment-is p st n (omega arith) so e
-
 -- ---- the call
 
-module _ (p : Params) (k : Disk) (m : Memory) (u : Run p k m) (we : Well p k m) (d s : ℕ) where
+module _ (p : Params) (off : List ℕ) (k : Disk) (m : Memory) (u : Run p off k m) (we : Well p off k m) (d s : ℕ) where
   abbrev v : View
-  v = seen p k
+  v = seen p off k
 
   abbrev st : State
   st = m .state
@@ -130,7 +138,7 @@ module _ (p : Params) (k : Disk) (m : Memory) (u : Run p k m) (we : Well p k m) 
   i = slotOf st s
 
   abbrev z : Seg
-  z = openSegment p st
+  z = openSegment p v st
 
   rg : Ranged p
   rg = ranged p (u .base .ranged)
@@ -145,14 +153,14 @@ module _ (p : Params) (k : Disk) (m : Memory) (u : Run p k m) (we : Well p k m) 
   he = we .healthy
 
   land-table-said : m .addresses ≡ addressTable p (candidates p 0 (segments p v 0))
-  land-table-said = address-table p k m u we
+  land-table-said = address-table p off k m u we
 
   module _ (w : LandWaits p v st d s) where
     abbrev b : List ℕ
     b = slotBlock p (m .inflight) i d
 
     lb : length b ≡ p .B
-    lb = block-long! p rg (m .inflight) (buffer-long p k m u we) i (w .slot-ok) d (w .drive-ok)
+    lb = block-long! p rg (m .inflight) (buffer-long p off k m u we) i (w .slot-ok) d (w .drive-ok)
 
     abbrev hd : d < p .N
     hd = w .drive-ok
@@ -166,10 +174,10 @@ module _ (p : Params) (k : Disk) (m : Memory) (u : Run p k m) (we : Well p k m) 
     abbrev rd : ready p st i d ≡ true
     rd = w .slot-ready
 
-    abbrev hz : Named p z
-    hz = w .slot-named
+    abbrev hz : There p v z
+    hz = w .slot-there
 
-    abbrev oz : st .opened ≡ suc (zoneOn z 0)
+    abbrev oz : st .opened ≡ headerSerial p (headerAt v 0 z)
     oz = w .slot-opened
 
     abbrev store : Store
@@ -197,13 +205,13 @@ module _ (p : Params) (k : Disk) (m : Memory) (u : Run p k m) (we : Well p k m) 
         as! : between 1 (p .S) (pointerAt v d (zoneOn z d)) && eqb (group p (pointerAt v d (zoneOn z d) - 1)) (group p s) ≡ true → misplaced p v d (zoneOn z d) s ≡ false
         as! q = unfold misplaced in ap not q
 
-    never-overfull : overfull p v d z ≡ false
+    never-overfull : overfull p v d z ≡ []
     never-overfull =
-        as! (in-none (λ e. ltb (capacity p) (pointerAt v e (zoneOn z e) + cond (eqb e d) 1 0 + footers p)) (below (p .N))
+        as! (keep-nothing (λ e. ltb (capacity p) (pointerAt v e (zoneOn z e) + cond (eqb e d) 1 0 + footers p)) (below (p .N))
         (λ e mm. le-ltb (capacity p) (pointerAt v e (zoneOn z e) + cond (eqb e d) 1 0 + footers p) (fits e (below-in (p .N) e mm) (ℕ-discrete e d))))
       where
-        as! : any (λ e. ltb (capacity p) (pointerAt v e (zoneOn z e) + cond (eqb e d) 1 0 + footers p)) (below (p .N)) ≡ false → overfull p v d z ≡ false
-        as! q = unfold overfull drivesOf in q
+        as! : keep (λ e. ltb (capacity p) (pointerAt v e (zoneOn z e) + cond (eqb e d) 1 0 + footers p)) (below (p .N)) ≡ [] → overfull p v d z ≡ []
+        as! q = unfold overfull drivesOf in ap (map (zoneOn z)) q
 
         fits : (e : ℕ) → e < p .N → Dec (e ≡ d) → pointerAt v e (zoneOn z e) + cond (eqb e d) 1 0 + footers p ≤ capacity p
         fits e h (yes x) =
@@ -213,7 +221,7 @@ module _ (p : Params) (k : Disk) (m : Memory) (u : Run p k m) (we : Well p k m) 
             let l = capacity-is p rg in
             omega arith
         fits e h (no x) =
-            let c = he .opens-at z hz oz .count e h in
+            let c = open-at p rg v st he z hz oz .count e h in
             let q = so .next-low in
             let n : _≡_ {A = ℕ} (cond (eqb e d) 1 0) 0 = cond-false (eqb e d) 1 0 (ne-eqb e d x) in
             let l = capacity-is p rg in
@@ -234,7 +242,7 @@ module _ (p : Params) (k : Disk) (m : Memory) (u : Run p k m) (we : Well p k m) 
                 (eq-eqb (placeAt (m .addresses) (e .address)) neverPlace y)
             go (holds-some c x kc t ea y) =
                 ap (λ (l : List ℕ). cond (eqb (placeAt (m .addresses) (e .address)) neverPlace) [] l)
-                (ap (placeFaults p v 0) y ∙ spot-faults p rg v 0 c t)
+                (ap (placeFaults p v 0) y ∙ spot-faults p rg v 0 (zero-here p rg) (none-apart p v) c t)
                 ∙ cond-same (eqb (placeAt (m .addresses) (e .address)) neverPlace) []
 
         as! : Test (ltb (e .address) (p .L)) → entryFaults p v (m .addresses) e ≡ []
@@ -247,8 +255,8 @@ module _ (p : Params) (k : Disk) (m : Memory) (u : Run p k m) (we : Well p k m) 
 
     faults-none : landFaults p v m d s ≡ []
     faults-none = unfold landFaults consIf in
-        rw (never-misplaced) (ap (λ (c : Bool). consIf (seals p st i d && c) (zoneOn z d) (cond (completes p st i d) (flat (entryFaults p v (m .addresses)) (entriesIn st i)) [])) never-overfull
-        ∙ ap (λ (c : Bool). consIf c (zoneOn z d) (cond (completes p st i d) (flat (entryFaults p v (m .addresses)) (entriesIn st i)) [])) (and-false-right (seals p st i d) false refl)
+        rw (w .slot-some, never-misplaced) (ap (λ (l : List ℕ). cond (seals p st i d) l [] ++ cond (completes p st i d) (flat (entryFaults p v (m .addresses)) (entriesIn st i)) []) never-overfull
+        ∙ ap (λ (l : List ℕ). l ++ cond (completes p st i d) (flat (entryFaults p v (m .addresses)) (entriesIn st i)) []) (cond-same (seals p st i d) [])
         ∙ ap (λ (l : List ℕ). cond (completes p st i d) l []) zs-none ∙ cond-same (completes p st i d) [])
       where
         zs : List ℕ
@@ -264,7 +272,7 @@ module _ (p : Params) (k : Disk) (m : Memory) (u : Run p k m) (we : Well p k m) 
 
     compact-now : new-compact ≡ compactTable p (segments p v1 0)
     compact-now =
-        ap (λ (l : List ℕ). set l (compactAt p d (zoneOn z d) o) (compactEntry p s)) (compact-table p k m u we)
+        ap (λ (l : List ℕ). set l (compactAt p d (zoneOn z d) o) (compactEntry p s)) (compact-table p off k m u we)
         ∙ ap (λ (x : ℕ). set (compactTable p (segments p v 0)) (compactAt p d (zoneOn z d) o) (compactEntry p x)) (sym (w .slot-stripe))
         ∙ compact-lands p rg v sh st he so z hz oz d i hd hi fi rd b lb
 
@@ -272,18 +280,19 @@ module _ (p : Params) (k : Disk) (m : Memory) (u : Run p k m) (we : Well p k m) 
     one-store = unfold storeAll in refl
 
     store-within : (x : Store) → In x (store ∷ []) → Within p x
-    store-within x (inl e) = subst (λ (y : Store). Within p y) (sym e) (hd, zone-on-lt p z d hz)
+    store-within x (inl e) = subst (λ (y : Store). Within p y) (sym e) (hd, its-zone p rg v z hz d hd .zone-low)
     store-within x (inr n) = absurd n
 
     -- the memory after a chunk
     chunk-run : (su : State) (tb : List ℕ) → su .missing ≡ st .missing → StateOk p su → HealthyState p v1 su → tb ≡ addressTable p (candidates p 0 (segments p v1 0))
-        → Run p (storeAll (storeDisk p) (store ∷ []) k) (mkMemory su tb new-compact (m .inflight))
+        → Run p off (storeAll (storeDisk p) (store ∷ []) k) (mkMemory su tb new-compact (m .inflight))
     chunk-run su tb e sk hk t =
-        well-run p k (store ∷ []) (mkMemory su tb new-compact (m .inflight)) (u .base .ranged) (whole-of p k m (u .base .lent)) sh
+        well-run p off k (store ∷ []) (mkMemory su tb new-compact (m .inflight)) (u .base .ranged) (u .base .zones-enough) (u .base .addresses-fit)
+        (offline-long p off k m u we) (whole-of p off k m (u .base .lent)) sh
         (chunk-roomy p rg v sh st he so z hz oz d i hd hi fi rd b lb) store-within
         (e ∙ we .none-missing) sk (subst (λ (x : View). HealthyState p x su) (sym one-store) hk)
         (t ∙ ap (λ (x : View). addressTable p (candidates p 0 (segments p x 0))) (sym one-store))
-        (compact-now ∙ ap (λ (x : View). compactTable p (segments p x 0)) (sym one-store)) (buffer-long p k m u we)
+        (compact-now ∙ ap (λ (x : View). compactTable p (segments p x 0)) (sym one-store)) (buffer-long p off k m u we)
 
     -- the address table when the stripe completes
     abbrev new-addresses : List ℕ
@@ -293,10 +302,10 @@ module _ (p : Params) (k : Disk) (m : Memory) (u : Run p k m) (we : Well p k m) 
     plan = landPlan p v m d s
 
     -- it doesn't complete
-    lands-chunk : completes p st i d ≡ false → Run p (storeAll (storeDisk p) (plan .stores) k) (plan .memory)
+    lands-chunk : completes p st i d ≡ false → Run p off (storeAll (storeDisk p) (plan .stores) k) (plan .memory)
     lands-chunk q =
-        subst (λ (x : List Store). Run p (storeAll (storeDisk p) x k) (plan .memory)) (sym (stores-is q))
-        (subst (λ (x : Memory). Run p (storeAll (storeDisk p) (store ∷ []) k) x) (sym (memory-is q))
+        subst (λ (x : List Store). Run p off (storeAll (storeDisk p) x k) (plan .memory)) (sym (stores-is q))
+        (subst (λ (x : Memory). Run p off (storeAll (storeDisk p) (store ∷ []) k) x) (sym (memory-is q))
         (chunk-run st1 (m .addresses) (chunk-missing p rg v sh st he so z hz oz d i hd hi fi rd b lb)
         (chunk-state p rg v sh st he so z hz oz d i hd hi fi rd b lb) (chunk-healthy p rg v sh st he so z hz oz d i hd hi fi rd b lb)
         (land-table-said ∙ addresses-stay p rg v sh st he so z hz oz d i hd hi fi rd b lb q)))
@@ -317,10 +326,10 @@ module _ (p : Params) (k : Disk) (m : Memory) (u : Run p k m) (we : Well p k m) 
     addresses-now q = addresses-land p rg v sh st he so z hz oz d i hd hi fi rd b lb q (m .addresses) land-table-said
 
     -- it completes its stripe, and others are to come
-    lands-stripe : completes p st i d ≡ true → seals p st i d ≡ false → Run p (storeAll (storeDisk p) (plan .stores) k) (plan .memory)
+    lands-stripe : completes p st i d ≡ true → seals p st i d ≡ false → Run p off (storeAll (storeDisk p) (plan .stores) k) (plan .memory)
     lands-stripe q ns =
-        subst (λ (x : List Store). Run p (storeAll (storeDisk p) x k) (plan .memory)) (sym (stores-is ns))
-        (subst (λ (x : Memory). Run p (storeAll (storeDisk p) (store ∷ []) k) x) (sym (memory-is q ns))
+        subst (λ (x : List Store). Run p off (storeAll (storeDisk p) x k) (plan .memory)) (sym (stores-is ns))
+        (subst (λ (x : Memory). Run p off (storeAll (storeDisk p) (store ∷ []) k) x) (sym (memory-is q ns))
         (chunk-run st2 new-addresses free-missing (freed-state p rg v sh st he so z hz oz d i hd hi fi rd b lb)
         (freed-healthy p rg v sh st he so z hz oz d i hd hi fi rd b lb q (λ x y. not-last x y)) (addresses-now q)))
       where
@@ -339,7 +348,7 @@ module _ (p : Params) (k : Disk) (m : Memory) (u : Run p k m) (we : Well p k m) 
                 (and-both (completes p st i d) (eqb (st .next) (p .S)) q (eq-eqb (st .next) (p .S) x)) (eq-eqb (length (inFlight st)) 1 y)
 
     -- it completes the segment, which is sealed
-    lands-segment : seals p st i d ≡ true → Run p (storeAll (storeDisk p) (plan .stores) k) (plan .memory)
+    lands-segment : seals p st i d ≡ true → Run p off (storeAll (storeDisk p) (plan .stores) k) (plan .memory)
     lands-segment sl =
         let (q, (nx, one)) = parts sl in
         let behind = all-behind p rg v sh st he so z hz oz d i hd hi fi rd b lb q nx one in
@@ -347,31 +356,33 @@ module _ (p : Params) (k : Disk) (m : Memory) (u : Run p k m) (we : Well p k m) 
         let ss = sealStores p v1 z in
         let v2 = storeAll storeView ss v1 in
         let t1 = chunk-tidy p rg v sh st he so z hz oz d i hd hi fi rd b lb in
-        let gr = seal-grows p rg v1 sh1 z hz behind in
-        let recs = seal-records p rg v1 sh1 z hz behind in
+        let hz1 = chunk-there p rg v sh st he so z hz oz d i hd hi fi rd b lb in
+        let gr = seal-grows p rg v1 sh1 z hz1 behind in
+        let recs = seal-records p rg v1 sh1 z hz1 behind in
         let s0 = st .serial .0 in
         let ev : storeAll storeView ((store ∷ []) ++ ss) v ≡ v2 = storeAll-append storeView (store ∷ []) ss v ∙ ap (storeAll storeView ss) one-store in
         let su = setClosed st2 in
         let none! : (j : ℕ) → j < 8 → flies su j ≡ false = λ j hj. closed-flies j ∙ last-flight p rg v sh st he so z hz oz d i hd hi fi rd b lb one j hj in
         let hk : HealthyState p v2 su = record {
           tidy = subst (λ (x : ℕ). Tidy p v2 x) (sym closed-serial) (grows-tidy p rg v1 v2 z gr s0 t1);
-          sealed-but = λ y hy x. inr (sealed! y hy v2 x gr (segs-differ z y) (seal-pointer p rg v1 sh1 z hz behind));
-          opens-at = λ y hy x. absurd (let a = sym closed-opened ∙ x in let bad : ⊥ = omega arith in bad);
+          sealed-but = λ y x. inr (sealed! y v2 x gr (segs-differ z y) (seal-pointer p rg v1 sh1 z hz1 behind));
+          opens-at = λ x. absurd (x closed-opened);
           shut = λ x j hj. none! j hj;
           serial-fits = subst (λ (x : ℕ). x < 256 ^ 8) (sym closed-serial) (he .serial-fits);
           stamp-fits = subst (λ (x : ℕ). x < 256 ^ 8) (sym closed-stamp) (he .stamp-fits);
           lists = closed-lists (freed-healthy-lists);
         } in
-        subst (λ (x : List Store). Run p (storeAll (storeDisk p) x k) (plan .memory)) (sym (stores-is sl))
-        (subst (λ (x : Memory). Run p (storeAll (storeDisk p) ((store ∷ []) ++ ss) k) x) (sym (memory-is q sl))
-        (well-run p k ((store ∷ []) ++ ss) (mkMemory su new-addresses new-compact (m .inflight)) (u .base .ranged) (whole-of p k m (u .base .lent)) sh
+        subst (λ (x : List Store). Run p off (storeAll (storeDisk p) x k) (plan .memory)) (sym (stores-is sl))
+        (subst (λ (x : Memory). Run p off (storeAll (storeDisk p) ((store ∷ []) ++ ss) k) x) (sym (memory-is q sl))
+        (well-run p off k ((store ∷ []) ++ ss) (mkMemory su new-addresses new-compact (m .inflight)) (u .base .ranged) (u .base .zones-enough) (u .base .addresses-fit)
+        (offline-long p off k m u we) (whole-of p off k m (u .base .lent)) sh
         (roomy-append p v (store ∷ []) ss (sh .sized) (chunk-roomy p rg v sh st he so z hz oz d i hd hi fi rd b lb)
-        (subst (λ (x : View). Roomy p x ss) (sym one-store) (seal-roomy p rg v1 sh1 z hz behind)))
-        (within-append p (store ∷ []) ss store-within (seal-within p rg v1 sh1 z hz behind))
+        (subst (λ (x : View). Roomy p x ss) (sym one-store) (seal-roomy p rg v1 sh1 z hz1 behind)))
+        (within-append p (store ∷ []) ss store-within (seal-within p rg v1 sh1 z hz1 behind))
         (closed-missing ∙ we .none-missing) (closed-ok (freed-state p rg v sh st he so z hz oz d i hd hi fi rd b lb)) (subst (λ (x : View). HealthyState p x su) (sym ev) hk)
-        (addresses-now q ∙ ap (addressTable p) (grows-candidates p rg v1 v2 z gr s0 t1 recs) ∙ ap (λ (x : View). addressTable p (candidates p 0 (segments p x 0))) (sym ev))
-        (compact-now ∙ grows-compact p rg v1 v2 z gr s0 t1 recs ∙ ap (λ (x : View). compactTable p (segments p x 0)) (sym ev))
-        (buffer-long p k m u we)))
+        (addresses-now q ∙ ap (addressTable p) (grows-candidates p rg v1 v2 z gr recs) ∙ ap (λ (x : View). addressTable p (candidates p 0 (segments p x 0))) (sym ev))
+        (compact-now ∙ grows-compact p rg v1 v2 z gr recs ∙ ap (λ (x : View). compactTable p (segments p x 0)) (sym ev))
+        (buffer-long p off k m u we)))
       where
         parts : seals p st i d ≡ true → (completes p st i d ≡ true) × ((st .next ≡ p .S) × (length (inFlight st) ≡ 1))
         parts sl = unfold seals in
@@ -422,20 +433,13 @@ module _ (p : Params) (k : Disk) (m : Memory) (u : Run p k m) (we : Well p k m) 
           offsets-low = sx .offsets-low;
         }
 
-        sealed! :
-            (y : Seg)
-            → Named p y
-            → (v2 : View)
-            → usedAt v2 y ≡ true
-            → Grows p v1 v2 z
-            → Dec (z ≡ y)
-            → ((e : ℕ) → e < p .N → pointerAt v2 e (zoneOn z e) ≡ capacity p)
-            → (e : ℕ)
-            → e < p .N
-            → pointerAt v2 e (zoneOn y e) ≡ capacity p
-        sealed! y hy v2 x gr (yes a) f e h = subst (λ (n : Seg). pointerAt v2 e (zoneOn n e) ≡ capacity p) a (f e h)
-        sealed! y hy v2 x gr (no n) f e h = ⊎-elim (λ a. absurd (n (sym a))) (λ a. sym (zones-pointer p rg v1 v2 y (gr .others y hy n) e h) ∙ a e h)
-            (sealed1 p rg v sh st he so z hz oz d i hd hi fi rd b lb y hy (grows-used p rg v1 v2 z gr y hy ∙ x))
+        sealed! : (y : Seg) (v2 : View) → There p v2 y → Grows p v1 v2 z → Dec (z ≡ y) → ((e : ℕ) → e < p .N → pointerAt v2 e (zoneOn z e) ≡ capacity p)
+            → (e : ℕ) → e < p .N → pointerAt v2 e (zoneOn y e) ≡ capacity p
+        sealed! y v2 x gr (yes a) f e h = subst (λ (n : Seg). pointerAt v2 e (zoneOn n e) ≡ capacity p) a (f e h)
+        sealed! y v2 x gr (no n) f e h =
+            let hy = grows-was p rg v1 v2 z gr y x in
+            ⊎-elim (λ a. absurd (n (sym a))) (λ a. sym (zones-pointer p rg v1 v2 y (grows-others p rg v1 v2 z gr y hy n) e h) ∙ a e h)
+            (sealed1 p rg v sh st he so z hz oz d i hd hi fi rd b lb y hy)
 
         stores-is : seals p st i d ≡ true → plan .stores ≡ (store ∷ []) ++ sealStores p v1 z
         stores-is sl = unfold landPlan landStore in rw sl
@@ -443,18 +447,18 @@ module _ (p : Params) (k : Disk) (m : Memory) (u : Run p k m) (we : Well p k m) 
         memory-is : completes p st i d ≡ true → seals p st i d ≡ true → plan .memory ≡ mkMemory (setClosed st2) new-addresses new-compact (m .inflight)
         memory-is q sl = unfold landPlan landStore in rw (sl, q)
 
-    run-landed : (x : Disk) → x ≡ storeAll (storeDisk p) (plan .stores) k → Run p x (plan .memory)
-    run-landed x ex = subst (λ (y : Disk). Run p y (plan .memory)) (sym ex) (go (test (completes p st i d)) (test (seals p st i d)))
+    run-landed : (x : Disk) → x ≡ storeAll (storeDisk p) (plan .stores) k → Run p off x (plan .memory)
+    run-landed x ex = subst (λ (y : Disk). Run p off y (plan .memory)) (sym ex) (go (test (completes p st i d)) (test (seals p st i d)))
       where
-        go : Test (completes p st i d) → Test (seals p st i d) → Run p (storeAll (storeDisk p) (plan .stores) k) (plan .memory)
+        go : Test (completes p st i d) → Test (seals p st i d) → Run p off (storeAll (storeDisk p) (plan .stores) k) (plan .memory)
         go (no! q) t = lands-chunk q
         go (yes! q) (no! ns) = lands-stripe q ns
         go (yes! q) (yes! sl) = lands-segment sl
 
   abbrev checks : List Check
-  checks = landChecks p (lentOk p k m) v m d s
+  checks = landChecks p (lentOk p off k m) v m d s
 
-  pub well-land : (n : ℕ) → Kept p (callDisk p k m (land d s n))
+  pub well-land : (n : ℕ) → Kept p off (callDisk p off k m (land d s n))
   unfolding callDisk callOn verdict storeCount lentBlock landVerdict
   well-land n = go (outcome-ends p k m checks (landPlan p v m d s) n [])
     where
@@ -462,16 +466,16 @@ module _ (p : Params) (k : Disk) (m : Memory) (u : Run p k m) (we : Well p k m) 
       mild-landed = unfold landPlan isRefusedAs isRefused kind in refl
 
       waits! : waiting p st d s ≡ true → LandWaits p v st d s
-      waits! q = land-waits p v st d s he so q
+      waits! q = land-waits p rg v st d s he so q
 
       go :
           EndedAs p k m checks (landPlan p v m d s) (outcome p (storeDisk p) n k m [] (decided (firstRefusal checks) (landPlan p v m d s)))
-          → Kept p (outcome p (storeDisk p) n k m [] (decided (firstRefusal checks) (landPlan p v m d s)))
+          → Kept p off (outcome p (storeDisk p) n k m [] (decided (firstRefusal checks) (landPlan p v m d s)))
       go (ended-refused x e f g h) =
-          refused-kept p k m _ x u (land-mild p (lentOk p k m) v m d s (u .base .state-ok) (λ z q. faults-none (waits! q)) x e) f g h
+          refused-kept p off k m _ x u (land-mild p (lentOk p off k m) v m d s (u .base .state-ok) (λ z q. faults-none (waits! q)) x e) f g h
       go (ended-done c f g h) = record {
         never-ninth = ap (isRefusedAs 9) f ∙ mild-landed;
-        runs-on = λ x. subst (λ (y : Memory). Run p (outcome p (storeDisk p) n k m [] (decided (firstRefusal checks) (landPlan p v m d s)) .drives) y) (sym h)
-            (run-landed (waits! (land-passed p (lentOk p k m) v m d s c .waits)) _ g);
+        runs-on = λ x. subst (λ (y : Memory). Run p off (outcome p (storeDisk p) n k m [] (decided (firstRefusal checks) (landPlan p v m d s)) .drives) y) (sym h)
+            (run-landed (waits! (land-passed p (lentOk p off k m) v m d s c .waits)) _ g);
       }
-      go (ended-cut c f) = cut-kept p _ f
+      go (ended-cut c f) = cut-kept p off _ f

@@ -3,26 +3,26 @@ use mathlib.Core.Path.{_≡_, refl, sym, ap, _∙_, subst}
 use mathlib.Core.List.{List, [], map}
 use mathlib.Core.Bool.{true, false, not}
 use Prim.Native.Nat.{ℕ, _^_, _<_}
-use borrow.Author.Tests.{lt-leb, eq-eqb, ne-eqb, not-true}
+use borrow.Author.Tests.{eq-eqb, ne-eqb, not-true}
 use native.Mathlib.Omega.{arith}
-use lib.Dec.{leb, eqb, lit<}
+use lib.Dec.{eqb, lit<}
 use Rattle.spec.specs.declared.Params.{Params}
 use Rattle.spec.specs.Counts.{neverPlace}
 use Rattle.spec.specs.Drives.{View}
 use Rattle.spec.specs.Lists.{Opt, below, any, consIf, keep}
 use Rattle.spec.specs.Lists.Opt.{none, some}
 use Rattle.spec.specs.Memory.{placeAt}
-use Rattle.spec.specs.Params.{placeDrive}
 use Rattle.spec.specs.Rank.{Cand, best, placeOr, candsOf}
 use Rattle.spec.specs.Reclaim.{placesIn, tableFaults}
-use Rattle.spec.specs.Segments.{segments, candidates, addressTable}
+use Rattle.spec.specs.Segments.{segments, candidates, addressTable, isPlace}
 use Rattle.law_basic.specs.Geometry.{Ranged}
 use Rattle.law_drives.specs.Best.{best-in}
 use Rattle.law_drives.specs.Members.{In, in-map, map-in, in-keep, keep-in, in-none, in-below, below-in}
 use Rattle.law_drives.specs.Segs.{CandAt, cand-at}
-use Rattle.law_drives.specs.Spots.{Spot, spot-of, spot-drive, spot-low}
+use Rattle.law_drives.specs.Spots.{Spot, spot-of, spot-low, none-apart}
 use Rattle.law_drives.specs.Tables.{place-at}
 use Rattle.law_drives.specs.Tests.{clash}
+use Rattle.law_drives.specs.Settled.{zero-here}
 
 -- what the table holds of an address
 pub data EntryHolds (p : Params) (v : View) (tb : List ℕ) (a : ℕ) : Type 0 where
@@ -49,9 +49,9 @@ table-holds p r v tb e a h = go (best none (candsOf a cs)) refl
     go (some c) q =
         let (m, ea) = best-in a cs c q in
         let k = cand-at p v 0 c m in
-        let t = spot-of p r v 0 c k in
+        let t = spot-of p r v 0 (zero-here p r) (none-apart p v) c k in
         let x : placeOr (best none (candsOf a cs)) ≡ c .place = ap placeOr q ∙ there! in
-        let l = spot-low p r v 0 c t in
+        let l = spot-low p r v 0 (zero-here p r) (none-apart p v) c t in
         holds-some c q k t ea (read! (subst (λ (y : ℕ). y < 256 ^ 4) (sym x) (let z : c .place < 256 ^ 4 = omega arith in z)) ∙ x)
       where
         there! : placeOr (some c) ≡ c .place
@@ -98,13 +98,11 @@ holds-place p r v tb e a c h q = go (table-holds p r v tb e a h)
     go (holds-none b y) = absurd (let e : some c ≡ none = sym q ∙ b in let x : _≡_ {A = ℕ} 0 1 = cc in let z : ⊥ = omega arith in z)
     go (holds-some d b k t ea y) =
         let e : d ≡ c = (let x : some d ≡ some c = sym b ∙ q in cc) in
-        found! (y ∙ ap (λ (x : Cand). x .place) e) (subst (λ (x : Cand). x .place < neverPlace) e (spot-low p r v 0 d t))
+        found! (y ∙ ap (λ (x : Cand). x .place) e) (subst (λ (x : Cand). x .place < neverPlace) e (spot-low p r v 0 (zero-here p r) (none-apart p v) d t))
 
-pub table-clear : (p : Params) (r : Ranged p) (v : View) (tb : List ℕ) → tb ≡ addressTable p (candidates p 0 (segments p v 0)) → tableFaults p tb ≡ []
-table-clear p r v tb e = clear! (in-none (λ q. leb (p .N) (placeDrive p q)) (placesIn p tb)
-    (λ q m. let t = places-pointed p r v tb e q m in lt-leb (p .N) (placeDrive p q)
-    (subst (λ (x : ℕ). placeDrive p x < p .N) (sym (t .place!))
-    (subst (λ (x : ℕ). x < p .N) (sym (spot-drive p r v 0 (t .cand) (t .spot))) (t .spot .drive-low)))))
+pub table-clear : (p : Params) (r : Ranged p) (v : View) (tb : List ℕ) → tb ≡ addressTable p (candidates p 0 (segments p v 0)) → tableFaults p v tb ≡ []
+table-clear p r v tb e = clear! (in-none (λ q. not (isPlace p v 0 q)) (placesIn p tb)
+    (λ q m. let t = places-pointed p r v tb e q m in ap not (ap (isPlace p v 0) (t .place!) ∙ t .spot .a-place)))
   where
-    clear! : any (λ q. leb (p .N) (placeDrive p q)) (placesIn p tb) ≡ false → tableFaults p tb ≡ []
+    clear! : any (λ q. not (isPlace p v 0 q)) (placesIn p tb) ≡ false → tableFaults p v tb ≡ []
     clear! q = unfold tableFaults consIf in rw q

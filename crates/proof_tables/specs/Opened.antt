@@ -1,44 +1,72 @@
 -- The open segment while stripes begin and fill: no store is made. Assumes nothing.
 use mathlib.Core.Path.{_≡_, refl, sym, ap, ap₂, _∙_, subst}
+use mathlib.Core.List.{List, [], _∷_}
 use mathlib.Core.Bool.{Bool, true, false, not, _&&_, _||_}
 use mathlib.Core.Logic.{_⊎_, inl, inr}
-use Prim.Native.Nat.{ℕ, suc, _+_, _-_, _*_, _/_, _%_, _^_, _≤_, _<_}
+use Prim.Native.Nat.{ℕ, suc, _+_, _*_, _/_, _%_, _^_, _≤_, _<_}
 use native.Mathlib.Nat.{div-add-mod', mod-lt, suc-mul}
 use native.Mathlib.Decide.{decLt, ℕ-discrete}
-use borrow.Author.Tests.{ne-eqb}
+use borrow.Author.Tests.{eq-eqb, ne-eqb, eqb-true}
 use native.Mathlib.Omega.{arith}
 use lib.Dec.{eqb}
 use Rattle.spec.specs.declared.Params.{Params}
 use Rattle.spec.specs.declared.State.{State}
-use Rattle.spec.specs.Drives.{View, pointerAt, zoneOn}
-use Rattle.spec.specs.Layout.{dataPosition, isData, group, Rec}
-use Rattle.spec.specs.Lists.{any, tally, isIn}
-use Rattle.spec.specs.Memory.{slots, cell, stripeIn, filledIn, landedIn, entryIn, openSegment, beginStripe, addEntry}
+use Rattle.spec.specs.Drives.{View, pointerAt, zoneOn, noSeg}
+use Rattle.spec.specs.Layout.{dataPosition, isData, group, Rec, headerSerial}
+use Rattle.spec.specs.Lists.{keep, any, tally, isIn, firstOr, isNil}
+use Rattle.spec.specs.Memory.{slots, cell, stripeIn, filledIn, landedIn, entryIn, beginStripe, addEntry}
 use Rattle.spec.specs.Params.{dataCount}
 use Rattle.law_basic.specs.Geometry.{Ranged, data-count-high}
 use Rattle.law_basic.specs.Mask.{isIn-empty}
 use Rattle.law_basic.specs.Ranges.{Test, test, and-both}
 use Rattle.law_basic.specs.Ranges.Test.{yes!, no! }
-use Rattle.law_basic.specs.Segs.{Named, seg-named, across-zone}
-use Rattle.law_drives.specs.Members.{none-in, any-in}
-use Rattle.law_drives.specs.States.{StateOk, in-slots, slots-in}
+use Rattle.law_drives.specs.Members.{none-in, any-in, In, in-keep, keep-in}
+use Rattle.law_drives.specs.States.{in-slots, slots-in}
 use Rattle.law_drives.specs.Tests.{clash, and-false-left, or-true-right, eqb-self}
-use Rattle.law_drives.specs.Tidy.{spareAt}
-use Rattle.proof_tables.specs.Run.{awaits, LandedAt, SlotFlies, OpenZone, Lists}
+use Rattle.law_drives.specs.Tidy.{spareAt, There, Tidy}
+use Rattle.proof_tables.specs.Run.{awaits, LandedAt, SlotFlies, OpenZone, Lists, HealthyState, flies}
 use Rattle.proof_tables.specs.Slots.{cell-same, number-begun, begin-number-other, filled-begun, begin-filled-other, landed-begun, begin-landed-other}
 use Rattle.proof_tables.specs.Slots.{begin-entry-other, begin-offset, filled-added, add-filled-other, number-added, landed-added, offset-added, entry-added}
 use Rattle.proof_tables.specs.Slots.{add-entry-other}
 use Rattle.proof_tables.specs.Tallies.{tally-cong, tally-none, tally-some, tally-more}
 use Rattle.spec.specs.declared.Seg.{Seg}
+use Rattle.law_drives.specs.Segs.{remaining-left}
+use Rattle.law_drives.specs.Settled.{there-remains, there-serial}
+use Rattle.spec.specs.Segments.{headerAt, openSegment, openSegments, serialAt, remaining}
 
--- a segment is open: it is one of those that there may be, and the state's number is its zone on drive 0
-pub open-segment-is : (p : Params) (st : State) (n : ℕ) → 0 < p .N → StateOk p st → st .opened ≡ suc n
-    → Named p (openSegment p st) × (st .opened ≡ suc (zoneOn (openSegment p st) 0))
-unfolding openSegment
-open-segment-is p st n h0 so e =
-    let k : st .opened - 1 < p .Z = (let l = so .opened-low in omega arith) in
-    let f = across-zone p (st .opened - 1) 0 h0 in
-    (seg-named p (st .opened - 1) k, omega arith)
+-- the first of a list in which but one passes
+first-only : (f : Seg → Bool) (l : List Seg) (z d : Seg) → In z l → f z ≡ true → ((g : Seg) → In g l → f g ≡ true → g ≡ z)
+    → (firstOr d (keep f l) ≡ z) × (isNil (keep f l) ≡ false)
+first-only f l z d m q one = go (keep f l) (in-keep f l z m q) (λ g n. let (i, w) = keep-in f l g n in one g i w)
+  where
+    go : (k : List Seg) → In z k → ((g : Seg) → In g k → g ≡ z) → (firstOr d k ≡ z) × (isNil k ≡ false)
+    go [] n o = absurd n
+    go (x ∷ k) n o = unfold firstOr isNil in (o x (inl refl), refl)
+
+-- no serial of a segment that there is is 0
+pub serial-some : (p : Params) (v : View) (s : ℕ) (z : Seg) → Tidy p v s → There p v z → headerSerial p (headerAt v 0 z) ≡ 0 → ⊥
+serial-some p v s z t m e = let l = t .copied-less z m in let bad : ⊥ = omega arith in bad
+
+-- the open segment, by its serial
+module _ (p : Params) (r : Ranged p) (v : View) (st : State) (h : HealthyState p v st) (z : Seg) (m : There p v z) (e : st .opened ≡ headerSerial p (headerAt v 0 z)) where
+  pub opened-some : st .opened ≡ 0 → ⊥
+  opened-some q = serial-some p v (st .serial .0) z (h .tidy) m (sym e ∙ q)
+
+  opened-found : (firstOr noSeg (openSegments p v st) ≡ z) × (isNil (openSegments p v st) ≡ false)
+  unfolding openSegments serialAt
+  opened-found = first-only (λ g. eqb (headerSerial p (headerAt v 0 g)) (st .opened)) (remaining p v 0) z noSeg (there-remains p r v (st .serial .0) (h .tidy) z m)
+      (eq-eqb (headerSerial p (headerAt v 0 z)) (st .opened) (sym e))
+      (λ g n q. there-serial p r v g z (remaining-left p v 0 g n) m (eqb-true (headerSerial p (headerAt v 0 g)) (st .opened) q ∙ e))
+
+  pub open-segment-is : openSegment p v st ≡ z
+  unfolding openSegment
+  open-segment-is = opened-found .0
+
+  pub open-segment-some : isNil (openSegments p v st) ≡ false
+  open-segment-some = opened-found .1
+
+  pub open-at : OpenZone p v st (flies st) z
+  open-at = let (y, q, o) = h .opens-at opened-some in subst (λ (x : Seg). OpenZone p v st (flies st) x) (there-serial p r v y z (o .opened-zone) m (sym q ∙ e)) o
 
 -- the eighths in use, told otherwise
 pub busy-same : (p : Params) (v : View) (st : State) (busy busy′ : ℕ → Bool) (z : Seg) → ((i : ℕ) → i < 8 → busy i ≡ busy′ i) → OpenZone p v st busy z → OpenZone p v st busy′ z
@@ -202,8 +230,8 @@ module _ (p : Params) (r : Ranged p) (v : View) (st : State) (ls : Lists st) (bu
       (and-false-left (busy i) (not (isIn (landedIn st i) d)) bi)
 
   -- with nothing in flight the pointers are behind the stripes begun
-  group-begins : (d : ℕ) → d < p .N → group p (st .next) * p .G < pointerAt v d (zoneOn z d)
-  group-begins d hd = go (test (any busy slots))
+  opened-low-here : (d : ℕ) → d < p .N → group p (st .next) * p .G < pointerAt v d (zoneOn z d)
+  opened-low-here d hd = go (test (any busy slots))
     where
       go : Test (any busy slots) → group p (st .next) * p .G < pointerAt v d (zoneOn z d)
       go (yes! q) =
@@ -221,7 +249,7 @@ module _ (p : Params) (r : Ranged p) (v : View) (st : State) (ls : Lists st) (bu
       let en = number-begun st ls i hi in
       record {
         begun = subst (λ (x : ℕ). x < su .next) (sym en) (subst (λ (x : ℕ). st .next < x) (sym next-su) (omega arith));
-        group-low = subst (λ (x : ℕ). (d : ℕ) → d < p .N → group p x * p .G < pointerAt v d (zoneOn z d)) (sym en) group-begins;
+        group-low = subst (λ (x : ℕ). (d : ℕ) → d < p .N → group p x * p .G < pointerAt v d (zoneOn z d)) (sym en) opened-low-here;
         group-high = subst (λ (x : ℕ). su .next ≤ suc (group p x) * p .G) (sym en) (subst (λ (x : ℕ). x ≤ suc (group p (st .next)) * p .G) (sym next-su) (group-over p r (st .next)));
         not-there = λ d e hd q x y. let l = o .below-next d e hd x in let s = y ∙ en in let bad : ⊥ = omega arith in bad;
         lands = λ d hd q. clash q (ap (λ (x : ℕ). isIn x d) (landed-begun st ls i hi) ∙ isIn-empty d);

@@ -10,13 +10,13 @@ use Rattle.spec.specs.declared.Answer.the-variants.{Cut}
 use Rattle.spec.specs.declared.Params.{Params}
 use Rattle.spec.specs.Answers.{kind, isRefused, isRefusedAs, isCut, finished}
 use Rattle.spec.specs.Calls.{Check, firstRefusal, Plan, Verdict, decided, After, mkAfter, limited, outcome}
-use Rattle.spec.specs.Calls.Verdict.{due}
 use Rattle.spec.specs.Drives.{Disk, storeDisk, storeAll}
 use Rattle.spec.specs.Lists.Opt.{none, some}
 use Rattle.spec.specs.Memory.{Memory}
 use Rattle.law_basic.specs.Stores.{refused-same}
 use Rattle.law_checks.specs.Checks.{Decided, decide}
 use Rattle.law_checks.specs.Checks.Decided.{stops, goes}
+use Rattle.spec.specs.Calls.Verdict.{due}
 
 pub data EndedAs (p : Params) (k : Disk) (m : Memory) (cs : List Check) (q : Plan) (r : After Disk) : Type 0 where
   ended-refused : (a : Answer) → firstRefusal cs ≡ some a → r .answer ≡ a → r .drives ≡ k → r .memory ≡ m → EndedAs p k m cs q r

@@ -10,17 +10,16 @@ use lib.ListN.{length}
 use Rattle.spec.specs.declared.Params.{Params}
 use Rattle.spec.specs.Counts.{lastCount}
 use Rattle.spec.specs.Drives.{View, Store, storeView, Disk, storeDisk, storeAll}
-use Rattle.spec.specs.Lists.{isNil, flat}
+use Rattle.spec.specs.Lists.{flat}
 use Rattle.spec.specs.Memory.{Memory}
 use Rattle.spec.specs.Params.{noDrive, named}
-use Rattle.spec.specs.Restart.{freeSegs, dropStores, mendStores, restartStores, restartMemory, namesDrive, rewrites, restartPlan}
+use Rattle.spec.specs.Restart.{dropStores, mendStores, restartStores, restartMemory, namesDrive, rewrites, restartPlan, noneFree}
 use Rattle.spec.specs.Segments.{Segment, segments, candidates, addressTable, compactTable, greatestSerial, unsealed}
 use Rattle.law_basic.specs.Geometry.{Ranged, ranged}
 use Rattle.law_basic.specs.Mask.{only-none}
 use Rattle.law_basic.specs.Stores.{storeAll-append}
 use Rattle.law_views.specs.Views.{Whole, seen}
 use Rattle.law_drives.specs.Accept.{Accepted}
-use Rattle.law_drives.specs.Dropping.{drop-roomy, drop-within}
 use Rattle.law_drives.specs.Joins.{roomy-append, within-append}
 use Rattle.law_drives.specs.Lengths.{lengths-of, whole-of}
 use Rattle.law_drives.specs.Mended.{mended, serials-small}
@@ -31,23 +30,24 @@ use Rattle.proof_tables.specs.Going.{well-run}
 use Rattle.proof_tables.specs.Resting.{rest-healthy}
 use Rattle.proof_tables.specs.Run.{HealthyState, Run}
 use Rattle.proof_tables.specs.Starting.{memory-missing, memory-addresses, memory-compact, memory-inflight, startPlan, Begins, start-lost}
+use Rattle.law_drives.specs.Mending.{drop-roomy, drop-within}
 
 -- ---- a restart that names none
 
-pub well-start : (p : Params) (k : Disk) (m : Memory) (d : ℕ) → (Whole p k → Shaped p (seen p k)) → Begins p k m d → named d ≡ 0
-    → Run p (storeAll (storeDisk p) (startPlan p k m d .stores) k) (startPlan p k m d .memory)
-well-start p k m d shk b nd =
+pub well-start : (p : Params) (off : List ℕ) (k : Disk) (m : Memory) (d : ℕ) → (Whole p k → Shaped p (seen p off k)) → Begins p off k m d → named d ≡ 0
+    → Run p off (storeAll (storeDisk p) (startPlan p off k m d .stores) k) (startPlan p off k m d .memory)
+well-start p off k m d shk b nd =
     let r = ranged p (b .in-range!) in
-    let w = whole-of p k m (b .lent!) in
+    let w = whole-of p off k m (b .lent!) in
     let sh = shk w in
-    let v = seen p k in
+    let v = seen p off k in
     let gs = segments p v 0 in
     let acc : Accepted p v 0 = subst (λ (g : ℕ). Accepted p v g) nd (b .accepted!) in
-    let ds = dropStores p gs in
-    let ts = flat (mendStores p gs) (unsealed gs) in
+    let ds = dropStores p v gs in
+    let ts = flat (mendStores p v gs) (unsealed gs) in
     let va = storeAll storeView ds v in
     let md = mended p r v sh acc (subst (λ (g : ℕ). rewrites p g (segments p v g) && eqb (greatestSerial (segments p v g)) lastCount ≡ false) nd (b .sixth!))
-    (subst (λ (g : ℕ). rewrites p g (segments p v g) && isNil (freeSegs p (segments p v g)) ≡ false) nd (b .eighth!)) (serials-small p r v sh) in
+    (subst (λ (g : ℕ). rewrites p g (segments p v g) && noneFree p v (segments p v g) ≡ false) nd (b .eighth!)) (serials-small p r v sh) in
     let v2 = storeAll storeView ts va in
     let ss = ds ++ ts in
     let ev : storeAll storeView ss v ≡ v2 = storeAll-append storeView ds ts v in
@@ -55,33 +55,36 @@ well-start p k m d shk b nd =
     let sh2 : Shaped p v2 = subst (λ (x : View). Shaped p x) ev (shaped-after p v ss sh room) in
     let (hk, sk) = rest-healthy p r v2 sh2 (md .mend-bound) (md .mend-tidy) (md .mend-rest) (m .inflight) in
     let mem = restartMemory p v2 0 (m .inflight) in
-    let es : startPlan p k m d .stores ≡ ss = stores-are gs in
-    let em : startPlan p k m d .memory ≡ mem =
+    let es : startPlan p off k m d .stores ≡ ss = stores-are gs in
+    let em : startPlan p off k m d .memory ≡ mem =
     memory-is
     ∙ ap₂ (λ (l : List Store) (g : ℕ). restartMemory p (storeAll storeView l v) g (m .inflight)) es nd
     ∙ ap (λ (x : View). restartMemory p x 0 (m .inflight)) ev in
     let so = state-of p r (mem .state) sk in
-    subst (λ (l : List Store). Run p (storeAll (storeDisk p) l k) (startPlan p k m d .memory)) (sym es)
-    (subst (λ (x : Memory). Run p (storeAll (storeDisk p) ss k) x) (sym em)
-    (well-run p k ss mem (b .in-range!) w sh room (within-append p ds ts (drop-within p r v sh acc) (md .mend-within)) (memory-missing p v2 0 (m .inflight)) so
+    subst (λ (l : List Store). Run p off (storeAll (storeDisk p) l k) (startPlan p off k m d .memory)) (sym es)
+    (subst (λ (x : Memory). Run p off (storeAll (storeDisk p) ss k) x) (sym em)
+    (well-run p off k ss mem (b .in-range!) (b .enough!) (b .fit!) (lengths-of p off k m (b .lent!) .offline-ok) w sh room
+    (within-append p ds ts (drop-within p r v sh acc) (md .mend-within)) (memory-missing p v2 0 (m .inflight)) so
     (subst (λ (x : View). HealthyState p x (mem .state)) (sym ev) hk)
     (memory-addresses p v2 0 (m .inflight) ∙ ap (λ (x : View). addressTable p (candidates p 0 (segments p x 0))) (sym ev))
     (memory-compact p v2 0 (m .inflight) ∙ ap (λ (x : View). compactTable p (segments p x 0)) (sym ev))
-    (ap length (memory-inflight p v2 0 (m .inflight)) ∙ lengths-of p k m (b .lent!) .inflight-ok)))
+    (ap length (memory-inflight p v2 0 (m .inflight)) ∙ lengths-of p off k m (b .lent!) .inflight-ok)))
   where
-    plan! : (g : ℕ) → named d ≡ g → startPlan p k m d .stores ≡ restartStores p g (segments p (seen p k) g)
-    plan! g e = as! ∙ ap (λ (n : ℕ). restartStores p n (segments p (seen p k) n)) e
+    plan! : (g : ℕ) → named d ≡ g → startPlan p off k m d .stores ≡ restartStores p (seen p off k) g (segments p (seen p off k) g)
+    plan! g e = as! ∙ ap (λ (n : ℕ). restartStores p (seen p off k) n (segments p (seen p off k) n)) e
       where
-        as! : startPlan p k m d .stores ≡ restartStores p (named d) (segments p (seen p k) (named d))
+        as! : startPlan p off k m d .stores ≡ restartStores p (seen p off k) (named d) (segments p (seen p off k) (named d))
         as! = unfold restartPlan in refl
 
-    stores-are : (gs : List Segment) → startPlan p k m d .stores ≡ dropStores p (segments p (seen p k) 0) ++ flat (mendStores p (segments p (seen p k) 0)) (unsealed (segments p (seen p k) 0))
+    stores-are : (gs : List Segment) → startPlan p off k m d .stores
+        ≡ dropStores p (seen p off k) (segments p (seen p off k) 0) ++ flat (mendStores p (seen p off k) (segments p (seen p off k) 0)) (unsealed (segments p (seen p off k) 0))
     stores-are gs = plan! 0 nd ∙ zero!
       where
-        zero! : restartStores p 0 (segments p (seen p k) 0) ≡ dropStores p (segments p (seen p k) 0) ++ flat (mendStores p (segments p (seen p k) 0)) (unsealed (segments p (seen p k) 0))
+        zero! : restartStores p (seen p off k) 0 (segments p (seen p off k) 0)
+            ≡ dropStores p (seen p off k) (segments p (seen p off k) 0) ++ flat (mendStores p (seen p off k) (segments p (seen p off k) 0)) (unsealed (segments p (seen p off k) 0))
         zero! = unfold restartStores in refl
 
-    memory-is : startPlan p k m d .memory ≡ restartMemory p (storeAll storeView (startPlan p k m d .stores) (seen p k)) (named d) (m .inflight)
+    memory-is : startPlan p off k m d .memory ≡ restartMemory p (storeAll storeView (startPlan p off k m d .stores) (seen p off k)) (named d) (m .inflight)
     memory-is = unfold restartPlan in refl
 
 -- ---- any restart
@@ -99,8 +102,8 @@ names-or-none p r d q = ⊎-elim (λ x. inl (ltb-true d (p .N) x)) (λ x. inr (n
     none! e = unfold named in only-none d (subst (λ (n : ℕ). 8 ≤ n) (sym (e ∙ is-255)) (lit≤ tt))
 
 pub run-started :
-    (p : Params) (k : Disk) (m : Memory) (d : ℕ)
-    → (Whole p k → Shaped p (seen p k))
-    → Begins p k m d
-    → Run p (storeAll (storeDisk p) (startPlan p k m d .stores) k) (startPlan p k m d .memory)
-run-started p k m d sh b = ⊎-elim (λ x. start-lost p k m d sh b x) (λ x. well-start p k m d sh b x) (names-or-none p (ranged p (b .in-range!)) d (b .names!))
+    (p : Params) (off : List ℕ) (k : Disk) (m : Memory) (d : ℕ)
+    → (Whole p k → Shaped p (seen p off k))
+    → Begins p off k m d
+    → Run p off (storeAll (storeDisk p) (startPlan p off k m d .stores) k) (startPlan p off k m d .memory)
+run-started p off k m d sh b = ⊎-elim (λ x. start-lost p off k m d sh b x) (λ x. well-start p off k m d sh b x) (names-or-none p (ranged p (b .in-range!)) d (b .names!))

@@ -1,5 +1,6 @@
 -- What holds between the uncut calls that follow a finished restart. Assumes nothing.
 use mathlib.Core.Path.{_≡_}
+use mathlib.Core.List.{List}
 use mathlib.Core.Bool.{Bool, true, false, not, _&&_}
 use mathlib.Core.Logic.{_⊎_}
 use Prim.Native.Nat.{ℕ, suc, _+_, _*_, _^_, _≤_, _<_}
@@ -9,24 +10,24 @@ use Rattle.spec.specs.declared.State.{State}
 use Rattle.spec.specs.Answers.{isRefusedAs, isCut}
 use Rattle.spec.specs.Calls.{After}
 use Rattle.spec.specs.Drives.{View, pointerAt, Disk, zoneOn}
-use Rattle.spec.specs.Layout.{dataPosition, isData, group}
+use Rattle.spec.specs.Layout.{dataPosition, isData, group, headerSerial}
 use Rattle.spec.specs.Lists.{tally, isIn}
 use Rattle.spec.specs.Memory.{Memory, slots, stripeIn, filledIn, landedIn, entryIn, offsetIn, isFree}
 use Rattle.spec.specs.Params.{capacity, named}
 use Rattle.law_views.specs.Views.{seen}
 use Rattle.law_drives.specs.Accept.{Accepted}
-use Rattle.law_drives.specs.Tidy.{spareAt, usedAt, Tidy}
-use Rattle.law_basic.specs.Segs.{Named}
+use Rattle.law_drives.specs.Tidy.{spareAt, Tidy, There}
 use Rattle.proof_tables.specs.Base.{Base}
 use Rattle.spec.specs.declared.Seg.{Seg}
+use Rattle.spec.specs.Segments.{headerAt}
 
 -- ---- one drive is missing: nothing is wrong on the others
 
-pub record LostDrive (p : Params) (k : Disk) (m : Memory) : Type 0 where
+pub record LostDrive (p : Params) (off : List ℕ) (k : Disk) (m : Memory) : Type 0 where
   pub which : ℕ
   pub which-low : which < p .N
   pub names-it : m .state .missing ≡ named which
-  pub accepts : Accepted p (seen p k) (m .state .missing)
+  pub accepts : Accepted p (seen p off k) (m .state .missing)
 
 -- an eighth in use
 abbrev pub flies : State → ℕ → Bool
@@ -54,7 +55,7 @@ pub record SlotFlies (p : Params) (v : View) (st : State) (z : Seg) (i : ℕ) : 
 
 -- the open segment
 pub record OpenZone (p : Params) (v : View) (st : State) (busy : ℕ → Bool) (z : Seg) : Type 0 where
-  pub opened-zone : Named p z
+  pub opened-zone : There p v z
   pub has-header : (d : ℕ) → d < p .N → 1 ≤ pointerAt v d (zoneOn z d)
   pub count : (d : ℕ) → d < p .N → pointerAt v d (zoneOn z d) + tally (awaits st busy d) slots ≡ suc (st .next)
   pub below-next : (d o : ℕ) → d < p .N → 1 + o < pointerAt v d (zoneOn z d) → spareAt p v d (zoneOn z d) o .stripe < st .next
@@ -74,24 +75,25 @@ pub record Lists (st : State) : Type 0 where
 
 pub record HealthyState (p : Params) (v : View) (st : State) : Type 0 where
   pub tidy : Tidy p v (st .serial .0)
-  pub sealed-but : (z : Seg) → Named p z → usedAt v z ≡ true → (st .opened ≡ suc (zoneOn z 0)) ⊎ ((d : ℕ) → d < p .N → pointerAt v d (zoneOn z d) ≡ capacity p)
-  pub opens-at : (z : Seg) → Named p z → st .opened ≡ suc (zoneOn z 0) → OpenZone p v st (flies st) z
+  pub sealed-but : (z : Seg) → There p v z → (st .opened ≡ headerSerial p (headerAt v 0 z)) ⊎ ((d : ℕ) → d < p .N → pointerAt v d (zoneOn z d) ≡ capacity p)
+  -- the open segment is there, by its serial
+  pub opens-at : (st .opened ≡ 0 → ⊥) → (z : Seg) × (st .opened ≡ headerSerial p (headerAt v 0 z)) × OpenZone p v st (flies st) z
   pub shut : st .opened ≡ 0 → (i : ℕ) → i < 8 → flies st i ≡ false
   pub serial-fits : st .serial .0 < 256 ^ 8
   pub stamp-fits : st .stamp .0 < 256 ^ 8
   pub lists : Lists st
 
-pub record Well (p : Params) (k : Disk) (m : Memory) : Type 0 where
+pub record Well (p : Params) (off : List ℕ) (k : Disk) (m : Memory) : Type 0 where
   pub none-missing : m .state .missing ≡ 0
-  pub healthy : HealthyState p (seen p k) (m .state)
+  pub healthy : HealthyState p (seen p off k) (m .state)
 
 -- ---- together
 
-pub record Run (p : Params) (k : Disk) (m : Memory) : Type 0 where
-  pub base : Base p k m
-  pub mode : LostDrive p k m ⊎ Well p k m
+pub record Run (p : Params) (off : List ℕ) (k : Disk) (m : Memory) : Type 0 where
+  pub base : Base p off k m
+  pub mode : LostDrive p off k m ⊎ Well p off k m
 
 -- what a step must give
-pub record Kept (p : Params) (r : After Disk) : Type 0 where
+pub record Kept (p : Params) (off : List ℕ) (r : After Disk) : Type 0 where
   pub never-ninth : isRefusedAs 9 (r .answer) ≡ false
-  pub runs-on : isCut (r .answer) ≡ false → Run p (r .drives) (r .memory)
+  pub runs-on : isCut (r .answer) ≡ false → Run p off (r .drives) (r .memory)

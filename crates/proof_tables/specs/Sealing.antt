@@ -1,10 +1,11 @@
 -- Footers are stored: where they fall, that they fit, and that a segment sealed by them says the same. Assumes nothing.
 use mathlib.Core.Path.{_≡_, refl, sym, ap, _∙_, subst}
 use mathlib.Core.List.{List, [], map}
-use mathlib.Core.Bool.{Bool, true, false, cond}
+use mathlib.Core.Bool.{Bool, true, false}
 use Prim.Native.Nat.{ℕ, _+_, _-_, min, _<_}
 use native.Mathlib.Nat.{le-of-eq}
-use borrow.Author.Tests.{eq-eqb}
+use borrow.Author.Tests.{eq-eqb, ne-eqb}
+use native.Mathlib.Decide.{ℕ-discrete}
 use native.Mathlib.Omega.{arith}
 use lib.Dec.{eqb}
 use lib.ListN.{length, getD}
@@ -14,23 +15,27 @@ use Rattle.spec.specs.Landing.{sealStores}
 use Rattle.spec.specs.Lists.{below, all, flat}
 use Rattle.spec.specs.Params.{footers, capacity, drivesOf, present}
 use Rattle.spec.specs.Segments.{headerAt, recordsIn}
-use Rattle.spec.specs.Drives.{sameSeg}
 use Rattle.law_basic.specs.Geometry.{Ranged}
-use Rattle.law_basic.specs.Segs.{seg-same, seg-other, seg-self, segs-differ, Named, zone-on-lt, by-seg}
-use Rattle.law_drives.specs.Footers.{within-each, footerChunks, footer-puts, footers-count, footer-rooms, footer-records, each-on}
+use Rattle.law_drives.specs.Footers.{within-each, footerChunks, footer-puts, footers-count, footer-rooms, footer-records, hits-each}
 use Rattle.law_drives.specs.Growing.{Grows}
 use Rattle.law_drives.specs.Members.{In, in-all, map-cong, flat-cong, below-in}
 use Rattle.law_drives.specs.Puts.{putAt, putAll, puts-pointer, puts-old}
 use Rattle.law_drives.specs.Range.{capacity-is, capacity-over}
-use Rattle.law_drives.specs.Segs.{present-in}
-use Rattle.law_drives.specs.Settled.{SameZones, sealed-full}
-use Rattle.law_drives.specs.Tests.{not-so, cond-true, cond-false}
+use Rattle.law_drives.specs.Settled.{sealed-full, its-zone, its-zones-low}
+use Rattle.law_drives.specs.Tests.{not-so, cond-true, cond-false, eqb-self}
 use Rattle.law_drives.specs.Zones.{Shaped, zoneStore, hits, zone-after, Room, Within, Roomy}
 use Rattle.spec.specs.declared.Seg.{Seg}
+use Rattle.law_basic.specs.Segs.{zone-is}
+use Rattle.law_drives.specs.Gather.{present-in}
+use Rattle.law_drives.specs.Tidy.{There}
+use Rattle.law_views.specs.Alike.{offline-after}
 
 -- ---- a segment sealed on every drive
 
-module _ (p : Params) (r : Ranged p) (v : View) (sh : Shaped p v) (z : Seg) (hz : Named p z) (behind : (e : ℕ) → e < p .N → pointerAt v e (zoneOn z e) ≡ 1 + p .S) where
+module _ (p : Params) (r : Ranged p) (v : View) (sh : Shaped p v) (z : Seg) (hz : There p v z) (behind : (e : ℕ) → e < p .N → pointerAt v e (zoneOn z e) ≡ 1 + p .S) where
+  sealing-zl : (e : ℕ) → e < p .N → zoneOn z e < p .Z
+  sealing-zl e he = its-zone p r v z hz e he .zone-low
+
   abbrev ss : List Store
   ss = sealStores p v z
 
@@ -60,22 +65,26 @@ module _ (p : Params) (r : Ranged p) (v : View) (sh : Shaped p v) (z : Seg) (hz 
   pub seal-zone : (e : ℕ) → e < p .N → zoneAt u e (zoneOn z e) ≡ putAll e (zoneOn z e) (footerChunks p (zoneAt v e (zoneOn z e)) 0 (footers p)) (zoneAt v e (zoneOn z e))
   unfolding ft
   seal-zone e he =
-      zone-after p v e (zoneOn z e) ss (sh .sized) he (zone-on-lt p z e hz)
+      zone-after p v e (zoneOn z e) ss (sh .sized) he (sealing-zl e he)
       ∙ ap (λ (l : List Store). storeAll zoneStore l (zoneAt v e (zoneOn z e)))
-      (ap (hits e (zoneOn z e)) seal-stores-are ∙ each-on p e z z ft hz hz he ∙ cond-true (sameSeg z z) (map (putAt e (zoneOn z e)) (ft e)) [] (seg-self z))
+      (ap (hits e (zoneOn z e)) seal-stores-are ∙ hits-each p e (zoneOn z e) (zoneOn z) ft he
+      ∙ cond-true (eqb (zoneOn z e) (zoneOn z e)) (map (putAt e (zoneOn z e)) (ft e)) [] (eqb-self (zoneOn z e)))
 
-  pub seal-other : (y : Seg) → Named p y → (z ≡ y → ⊥) → SameZones p v u y
-  seal-other y hy n e he =
-      sym (zone-after p v e (zoneOn y e) ss (sh .sized) he (zone-on-lt p y e hy)
-      ∙ ap (λ (l : List Store). storeAll zoneStore l (zoneAt v e (zoneOn y e)))
-      (ap (hits e (zoneOn y e)) seal-stores-are ∙ each-on p e y z ft hy hz he ∙ cond-false (sameSeg z y) (map (putAt e (zoneOn z e)) (ft e)) [] (seg-other z y n)) ∙ nothing)
+  sealing-off-zone : (e y : ℕ) → e < p .N → (y ≡ zoneOn z e → ⊥) → hits e y ss ≡ []
+  unfolding ft
+  sealing-off-zone e y he n =
+      ap (hits e y) seal-stores-are ∙ hits-each p e y (zoneOn z) ft he ∙ cond-false (eqb (zoneOn z e) y) (map (putAt e (zoneOn z e)) (ft e)) [] (ne-eqb (zoneOn z e) y (λ q. n (sym q)))
+
+  pub seal-other : (e y : ℕ) → e < p .N → y < p .Z → (y ≡ zoneOn z e → ⊥) → zoneAt u e y ≡ zoneAt v e y
+  seal-other e y he hy n =
+      zone-after p v e y ss (sh .sized) he hy ∙ ap (λ (l : List Store). storeAll zoneStore l (zoneAt v e y)) (sealing-off-zone e y he n) ∙ nothing
     where
-      nothing : storeAll zoneStore [] (zoneAt v e (zoneOn y e)) ≡ zoneAt v e (zoneOn y e)
+      nothing : storeAll zoneStore [] (zoneAt v e y) ≡ zoneAt v e y
       nothing = unfold storeAll in refl
 
   pub seal-pointer : (e : ℕ) → e < p .N → pointerAt u e (zoneOn z e) ≡ capacity p
   seal-pointer e he = as! (ap (λ (q : Zone). q .pointer) (seal-zone e he) ∙ puts-pointer e (zoneOn z e) (footerChunks p (zoneAt v e (zoneOn z e)) 0 (footers p)) (zoneAt v e (zoneOn z e))
-      ∙ (let a = filled-zone-pointer e he in let b = footers-count p r (zoneAt v e (zoneOn z e)) (sh .zone-ok e (zoneOn z e) he (zone-on-lt p z e hz)) 0 (footers p) in let c = capacity-is p r in let
+      ∙ (let a = filled-zone-pointer e he in let b = footers-count p r (zoneAt v e (zoneOn z e)) (sh .zone-ok e (zoneOn z e) he (sealing-zl e he)) 0 (footers p) in let c = capacity-is p r in let
       x : zoneAt v e (zoneOn z e) .pointer + length (footerChunks p (zoneAt v e (zoneOn z e)) 0 (footers p))
       ≡ capacity p = omega arith in x))
     where
@@ -84,27 +93,27 @@ module _ (p : Params) (r : Ranged p) (v : View) (sh : Shaped p v) (z : Seg) (hz 
 
   pub seal-roomy : Roomy p v ss
   unfolding ft
-  seal-roomy e k he hk = by-seg (λ n. Room p (pointerAt v e n) (hits e n ss)) p e k he hk
-      (λ y hy. subst (λ (l : List Store). Room p (pointerAt v e (zoneOn y e)) l) (sym (ap (hits e (zoneOn y e)) seal-stores-are ∙ each-on p e y z ft hy hz he)) (go y (segs-differ z y)))
+  seal-roomy e k he hk = go (ℕ-discrete k (zoneOn z e))
     where
       fit : Room p (pointerAt v e (zoneOn z e)) (map (putAt e (zoneOn z e)) (ft e))
       fit =
-          as! (footer-rooms p r (zoneAt v e (zoneOn z e)) (sh .zone-ok e (zoneOn z e) he (zone-on-lt p z e hz)) e (zoneOn z e) 0 (footers p)
+          as! (footer-rooms p r (zoneAt v e (zoneOn z e)) (sh .zone-ok e (zoneOn z e) he (sealing-zl e he)) e (zoneOn z e) 0 (footers p)
           (let a = filled-zone-pointer e he in let c = capacity-is p r in omega arith))
         where
           as! : Room p (zoneAt v e (zoneOn z e) .pointer) (map (putAt e (zoneOn z e)) (footerChunks p (zoneAt v e (zoneOn z e)) 0 (footers p)))
               → Room p (pointerAt v e (zoneOn z e)) (map (putAt e (zoneOn z e)) (ft e))
           as! x = unfold pointerAt ft in x
 
-      go : (y : Seg) → Dec (z ≡ y) → Room p (pointerAt v e (zoneOn y e)) (cond (sameSeg z y) (map (putAt e (zoneOn z e)) (ft e)) [])
-      go y (no n) = subst (λ (l : List Store). Room p (pointerAt v e (zoneOn y e)) l) (sym (cond-false (sameSeg z y) (map (putAt e (zoneOn z e)) (ft e)) [] (seg-other z y n))) tt
-      go y (yes q) =
-          subst (λ (l : List Store). Room p (pointerAt v e (zoneOn y e)) l) (sym (cond-true (sameSeg z y) (map (putAt e (zoneOn z e)) (ft e)) [] (seg-same z y q)))
-          (subst (λ (x : Seg). Room p (pointerAt v e (zoneOn x e)) (map (putAt e (zoneOn z e)) (ft e))) q fit)
+      go : Dec (k ≡ zoneOn z e) → Room p (pointerAt v e k) (hits e k ss)
+      go (no n) = subst (λ (l : List Store). Room p (pointerAt v e k) l) (sym (sealing-off-zone e k he n)) tt
+      go (yes q) = subst (λ (x : ℕ). Room p (pointerAt v e x) (hits e x ss)) (sym q)
+          (subst (λ (l : List Store). Room p (pointerAt v e (zoneOn z e)) l)
+          (sym (ap (hits e (zoneOn z e)) seal-stores-are ∙ hits-each p e (zoneOn z e) (zoneOn z) ft he
+          ∙ cond-true (eqb (zoneOn z e) (zoneOn z e)) (map (putAt e (zoneOn z e)) (ft e)) [] (eqb-self (zoneOn z e)))) fit)
 
   pub seal-within : (s : Store) → In s ss → Within p s
   unfolding ft
-  seal-within s m = within-each p z ft hz s (subst (λ (l : List Store). In s l) seal-stores-are m)
+  seal-within s m = within-each p z ft (its-zones-low p r v z hz) s (subst (λ (l : List Store). In s l) seal-stores-are m)
 
   pub seal-grows : Grows p v u z
   seal-grows = record {
@@ -114,18 +123,16 @@ module _ (p : Params) (r : Ranged p) (v : View) (sh : Shaped p v) (z : Seg) (hz 
     used-now = λ e he. let a = seal-pointer e he in let c = capacity-over p r in omega arith;
     low-now = λ e he. le-of-eq (seal-pointer e he);
     same-head = head;
+    same-offline = offline-after ss v;
   }
     where
-      h0 : 0 < p .N
-      h0 = omega (arith, r .drives-low)
-
-      head : headerAt v 0 z ≡ headerAt u 0 z
-      head =
-          as! (sym (ap (λ (q : Zone). getD (q .blocks) 0 noChunk .block) (seal-zone 0 h0)
+      head : (e : ℕ) → e < p .N → headerAt v e z ≡ headerAt u e z
+      head e he =
+          as! (sym (ap (λ (q : Zone). getD (q .blocks) 0 noChunk .block) (seal-zone e he)
           ∙ ap (λ (c : Chunk). c .block)
-          (puts-old 0 (zoneOn z 0) (footerChunks p (zoneAt v 0 (zoneOn z 0)) 0 (footers p)) (zoneAt v 0 (zoneOn z 0)) 0 (let a = filled-zone-pointer 0 h0 in omega arith))))
+          (puts-old e (zoneOn z e) (footerChunks p (zoneAt v e (zoneOn z e)) 0 (footers p)) (zoneAt v e (zoneOn z e)) 0 (let a = filled-zone-pointer e he in omega arith))))
         where
-          as! : getD (zoneAt v 0 (zoneOn z 0) .blocks) 0 noChunk .block ≡ getD (zoneAt u 0 (zoneOn z 0) .blocks) 0 noChunk .block → headerAt v 0 z ≡ headerAt u 0 z
+          as! : getD (zoneAt v e (zoneOn z e) .blocks) 0 noChunk .block ≡ getD (zoneAt u e (zoneOn z e) .blocks) 0 noChunk .block → headerAt v e z ≡ headerAt u e z
           as! e = unfold headerAt chunkAt in e
 
   pub seal-sealed : sealedIn p u 0 z ≡ true
@@ -148,7 +155,7 @@ module _ (p : Params) (r : Ranged p) (v : View) (sh : Shaped p v) (z : Seg) (hz 
       ap (λ (w : Bool). recordsIn p w (zoneAt v e (zoneOn z e))) open-yet
       ∙ go (zoneAt v e (zoneOn z e)) (zoneAt u e (zoneOn z e)) (filled-zone-pointer e he) (at u e (seal-pointer e he))
       (λ x h. sym (ap (λ (q : Zone). recordIn p true q x) (seal-zone e he)
-      ∙ footer-records p r (zoneAt v e (zoneOn z e)) (sh .zone-ok e (zoneOn z e) he (zone-on-lt p z e hz)) e (zoneOn z e) (filled-zone-pointer e he) x h))
+      ∙ footer-records p r (zoneAt v e (zoneOn z e)) (sh .zone-ok e (zoneOn z e) he (sealing-zl e he)) e (zoneOn z e) (filled-zone-pointer e he) x h))
       ∙ ap (λ (w : Bool). recordsIn p w (zoneAt u e (zoneOn z e))) (sym seal-sealed)
     where
       at : (w : View) (e : ℕ) → pointerAt w e (zoneOn z e) ≡ capacity p → zoneAt w e (zoneOn z e) .pointer ≡ capacity p

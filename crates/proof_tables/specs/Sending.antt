@@ -1,9 +1,10 @@
 -- A block is sent, by a write or a copy: it fills a position, begins a stripe, or opens a segment. Assumes nothing.
 use mathlib.Core.Path.{_≡_, refl, sym, ap, ap₂, _∙_, subst}
-use mathlib.Core.List.{List, [], _∷_}
+use mathlib.Core.List.{List, []}
 use mathlib.Core.Bool.{Bool, true, false, not, _&&_, _||_}
 use mathlib.Core.Logic.{_⊎_, ⊎-elim}
-use Prim.Native.Nat.{ℕ, zero, suc, _^_, _≤_, _<_}
+use Prim.Native.Nat.{ℕ, suc, _^_, _≤_, _<_}
+use native.Mathlib.Decide.{ℕ-discrete}
 use borrow.Author.Tests.{leb-false, eqb-true, eqb-false, not-true, not-false}
 use native.Mathlib.Omega.{arith}
 use lib.Dec.{leb, eqb}
@@ -11,11 +12,11 @@ use lib.ListN.{length}
 use Rattle.spec.specs.declared.Params.{Params}
 use Rattle.spec.specs.declared.State.{State}
 use Rattle.spec.specs.Counts.{lastCount}
-use Rattle.spec.specs.Drives.{View, pointerAt, Store, storeView, storeAll, allSegs, emptyOnAll, emptySegs, headerStores, noSeg, zoneOn}
+use Rattle.spec.specs.Drives.{View, pointerAt, Store, storeView, storeAll, headerStores, emptyCount, newSeg}
 use Rattle.spec.specs.Layout.{group}
-use Rattle.spec.specs.Lists.{below, any, keep, tally, isNil, indexOf, firstOr}
+use Rattle.spec.specs.Lists.{below, any, keep, tally, isNil, indexOf}
 use Rattle.spec.specs.Lists.Opt.{none}
-use Rattle.spec.specs.Memory.{slotCount, slots, stripeIn, filledIn, landedIn, isFree, isFull, isFilling, inFlight, freeSlot, fillingSlot, hasFilling, setOpen, openSegment, beginStripe, addEntry}
+use Rattle.spec.specs.Memory.{slotCount, slots, stripeIn, filledIn, landedIn, isFree, isFull, isFilling, inFlight, freeSlot, fillingSlot, hasFilling, setOpen, beginStripe, addEntry}
 use Rattle.spec.specs.Params.{dataCount, inflightLen}
 use Rattle.spec.specs.Segments.{segments, candidates, addressTable, compactTable}
 use Rattle.spec.specs.Write.{mustOpen, opens, noSerial, otherGroup, mustWait, placed, Sending, openedBy, slotFor, begunBy, sending, scarce}
@@ -23,22 +24,19 @@ use Rattle.law_basic.specs.Be.{be-room}
 use Rattle.law_basic.specs.Geometry.{Ranged, data-count-low}
 use Rattle.law_basic.specs.Ranges.{Test, test, and-left, and-right, length-below}
 use Rattle.law_basic.specs.Ranges.Test.{yes!, no! }
-use Rattle.law_basic.specs.Segs.{Named, zone-on-lt}
-use Rattle.law_drives.specs.Headers.{header-roomy, header-within, empty-all}
-use Rattle.law_drives.specs.Members.{In, in-keep, keep-in, none-in, in-any, first-in, in-some}
+use Rattle.law_drives.specs.Headers.{header-roomy, header-within, new-vacant}
+use Rattle.law_drives.specs.Members.{In, in-keep, none-in, in-any, in-some}
 use Rattle.law_drives.specs.Slots.{slot-found}
 use Rattle.law_drives.specs.States.{StateOk, in-slots, slots-in}
 use Rattle.law_drives.specs.Tests.{clash, or-first, or-right, or-cases, not-so}
 use Rattle.law_drives.specs.Zones.{Shaped, hits, Room, Within, Roomy}
-use Rattle.law_drives.specs.Segs.{segs-in}
 use Rattle.proof_tables.specs.Carried.{begin-healthy}
 use Rattle.proof_tables.specs.Filling.{placed-inflight-long, add-ok, begin-ok, fill-healthy}
 use Rattle.proof_tables.specs.Heading.{head-addresses, head-compact, head-healthy}
-use Rattle.proof_tables.specs.Opened.{open-segment-is}
 use Rattle.proof_tables.specs.Run.{flies, HealthyState}
 use Rattle.proof_tables.specs.Slots.{filled-begun, begin-lists}
 use Rattle.proof_tables.specs.Tallies.{tally-none, some-out}
-use Rattle.spec.specs.declared.Seg.{Seg}
+use Rattle.law_calls.specs.Refusals.{next-low, opened-low}
 
 -- ---- eighths found by a search
 
@@ -140,13 +138,13 @@ module _ (p : Params) (r : Ranged p) (v : View) (sh : Shaped p v) (st : State) (
       missing-is i = unfold addEntry in refl
 
   -- the next stripe number, in a state su whose open zone is known
-  healthy-begun : (su : State) (u : View) (z : Seg) → HealthyState p u su → StateOk p su → su .opened ≡ suc (zoneOn z 0) → su .next < p .S → (i : ℕ) → i < 8 → flies su i ≡ false
+  healthy-begun : (su : State) (u : View) → HealthyState p u su → StateOk p su → (su .opened ≡ 0 → ⊥) → su .next < p .S → (i : ℕ) → i < 8 → flies su i ≡ false
       → ((j : ℕ) → j < 8 → flies su j ≡ true → group p (stripeIn su j) ≡ group p (su .next))
       → HealthyState p u (addEntry (beginStripe su i) i a t w) × StateOk p (addEntry (beginStripe su i) i a t w) × (length (placed p (beginStripe su i) fl i a t w b .inflight) ≡ inflightLen p)
-  healthy-begun su u z k ko op nx i hi fi gr =
+  healthy-begun su u k ko op nx i hi fi gr =
       let lb! = begin-lists su (k .lists) i hi in
       let room : filledIn (beginStripe su i) i < dataCount p = (let e = filled-begun su (k .lists) i hi in let d = two-up in omega arith) in (
-        begin-healthy p r u su z i a t w k ko op hi fi nx gr ha ht,
+        begin-healthy p r u su i a t w k ko op hi fi nx gr ha ht,
         add-ok p r (beginStripe su i) lb! (begin-ok p r su (k .lists) ko i hi nx) i hi a t w room hw,
         placed-inflight-long p r (beginStripe su i) fl i a t w b l hi room lb,
       )
@@ -184,12 +182,11 @@ module _ (p : Params) (r : Ranged p) (v : View) (sh : Shaped p v) (st : State) (
     unfolding i
     begins-stripe mo =
         let (nz, nn) = open-parts mo in
-        let (z, op) = opened-at (st .opened) refl nz in
         let nx : st .next < p .S = (let le = so .next-low in omega arith) in
         let g3 : any (otherGroup p st) (inFlight st) ≡ false = sym (ap (λ (c : Bool). not c && any (otherGroup p st) (inFlight st)) mo) ∙ wait-parts .1 .1 in
         let gr : (j : ℕ) → j < 8 → flies st j ≡ true → group p (stripeIn st j) ≡ group p (st .next) = λ j hj fj. same-group j
         (none-in (otherGroup p st) (inFlight st) g3 j (in-flight st j hj fj)) in
-        let (k1, k2, k3) = healthy-begun st v z h so op nx (freeSlot st) (aim-free .0) (aim-free .1) gr in
+        let (k1, k2, k3) = healthy-begun st v h so nz nx (freeSlot st) (aim-free .0) (aim-free .1) gr in
         let su = addEntry (beginStripe st (freeSlot st)) (freeSlot st) a t w in
         subst (λ (x : State). SentOk p v st x (sent .stores) (sent .inflight)) (sym (state-is mo))
         (subst (λ (x : List Store). SentOk p v st su x (sent .inflight)) (sym (stores-is mo))
@@ -202,10 +199,6 @@ module _ (p : Params) (r : Ranged p) (v : View) (sh : Shaped p v) (st : State) (
               eqb-false (st .opened) 0 (or-first (eqb (st .opened) 0) (eqb (st .next) (p .S)) q),
               eqb-false (st .next) (p .S) (or-right (eqb (st .opened) 0) (eqb (st .next) (p .S)) q),
             )
-
-        opened-at : (o : ℕ) → st .opened ≡ o → (st .opened ≡ 0 → ⊥) → (z : Seg) × (st .opened ≡ suc (zoneOn z 0))
-        opened-at zero e n = absurd (n e)
-        opened-at (suc n) e k = (openSegment p st, open-segment-is p st n (omega (arith, r .drives-low)) so e .1)
 
         same-group : (j : ℕ) → otherGroup p st j ≡ false → group p (stripeIn st j) ≡ group p (st .next)
         same-group j q = unfold otherGroup in eqb-true (group p (stripeIn st j)) (group p (st .next)) (not-false (eqb (group p (stripeIn st j)) (group p (st .next))) q)
@@ -223,47 +216,38 @@ module _ (p : Params) (r : Ranged p) (v : View) (sh : Shaped p v) (st : State) (
         missing-is i = unfold addEntry beginStripe in refl
 
     -- a segment is opened first
-    begins-segment : mustOpen p st ≡ true → noSerial p st ≡ false → isNil (emptySegs p v) ≡ false → SentOk p v st (sent .state) (sent .stores) (sent .inflight)
+    begins-segment : mustOpen p st ≡ true → noSerial p st ≡ false → 1 ≤ emptyCount p v → SentOk p v st (sent .state) (sent .stores) (sent .inflight)
     unfolding i
     begins-segment mo ns ne =
-        let g = firstOr noSeg (emptySegs p v) in
+        let g = newSeg p v in
         let s = st .serial .0 in
-        let (hg, eg) = first-empty in
-        let em = empty-all p v g eg in
+        let va = new-vacant p v ne in
         let fit : suc s < 256 ^ 8 = serial-next in
         let none : (j : ℕ) → j < 8 → flies st j ≡ false = λ j hj. nothing-flies j hj in
-        let shut! : (z : Seg) → Named p z → st .opened ≡ suc (zoneOn z 0) → ⊥ = not-open in
-        let su = setOpen st g (suc s) in
+        let su = setOpen st (suc s) in
         let u = storeAll storeView (headerStores p g (suc s) 0) v in
-        let ku = head-healthy p r v sh s g (h .tidy) hg em fit st h refl shut! none in
-        let ko = open-ok g (suc s) hg in
+        let ku = head-healthy p r v sh s g (h .tidy) va fit st h refl not-open none in
+        let ko = open-ok (suc s) in
         let (k1, k2, k3) =
-        healthy-begun su u g ku ko (opened-is g (suc s)) (subst (λ (x : ℕ). x < p .S) (sym (next-is g (suc s))) (r .stripes-low)) (freeSlot st)
-        (aim-free .0) (free-same g (suc s) (freeSlot st) ∙ aim-free .1)
-        (λ j hj fj. clash fj (free-same g (suc s) j ∙ none j hj)) in
+        healthy-begun su u ku ko (λ q. let x : suc s ≡ 0 = sym (opened-is (suc s)) ∙ q in let bad : ⊥ = omega arith in bad)
+        (subst (λ (x : ℕ). x < p .S) (sym (next-is (suc s))) (r .stripes-low)) (freeSlot st)
+        (aim-free .0) (free-same (suc s) (freeSlot st) ∙ aim-free .1)
+        (λ j hj fj. clash fj (free-same (suc s) j ∙ none j hj)) in
         let sw = addEntry (beginStripe su (freeSlot st)) (freeSlot st) a t w in
         subst (λ (x : State). SentOk p v st x (sent .stores) (sent .inflight)) (sym (state-is mo))
         (subst (λ (x : List Store). SentOk p v st sw x (sent .inflight)) (sym (stores-is mo))
         (subst (λ (x : List ℕ). SentOk p v st sw (headerStores p g (suc s) 0) x) (sym (inflight-is mo))
         (record {
-          has-room = header-roomy p r v sh g (suc s) 0 hg em;
-          all-within = header-within p r v sh g (suc s) 0 hg em;
+          has-room = header-roomy p r v sh g (suc s) 0 va;
+          all-within = header-within p r v sh g (suc s) 0 va;
           healthy-after = k1;
           state-after = k2;
           buffer-after = k3;
-          addresses-after = head-addresses p r v sh s g (h .tidy) hg em fit;
-          compact-after = head-compact p r v sh s g (h .tidy) hg em fit;
-          missing-after = missing-is g (suc s) (freeSlot st);
+          addresses-after = head-addresses p r v sh s g (h .tidy) va fit;
+          compact-after = head-compact p r v sh s g (h .tidy) va fit;
+          missing-after = missing-is (suc s) (freeSlot st);
         })))
       where
-        first-empty : Named p (firstOr noSeg (emptySegs p v)) × (emptyOnAll p v (firstOr noSeg (emptySegs p v)) ≡ true)
-        first-empty =
-            let m : In (firstOr noSeg (emptySegs p v)) (emptySegs p v) = first-in (emptySegs p v) noSeg ne in
-            parts (firstOr noSeg (emptySegs p v)) m
-          where
-            parts : (g : Seg) → In g (emptySegs p v) → (Named p g) × (emptyOnAll p v g ≡ true)
-            parts g m = unfold emptySegs in (let (i, q) = keep-in (emptyOnAll p v) (allSegs p) g m in (segs-in p g i, q))
-
         serial-next : suc (st .serial .0) < 256 ^ 8
         serial-next =
             let n : st .serial .0 ≡ lastCount → ⊥ = eqb-false (st .serial .0) lastCount (no-serial ns) in
@@ -278,51 +262,56 @@ module _ (p : Params) (r : Ranged p) (v : View) (sh : Shaped p v) (st : State) (
             let x : not (isNil (inFlight st)) ≡ false = sym (ap (λ (c : Bool). c && not (isNil (inFlight st))) mo) ∙ wait-parts .1 .0 in
             clash (ap not (in-some (inFlight st) j (in-flight st j hj q))) x)
 
-        not-open : (z : Seg) → Named p z → st .opened ≡ suc (zoneOn z 0) → ⊥
-        not-open z hz e =
-            let o = h .opens-at z hz e in
-            ⊎-elim (λ x. let y = eqb-true (st .opened) 0 x in let bad : ⊥ = omega arith in bad)
-            (λ x. let y = o .goes-on (eqb-true (st .next) (p .S) x) in let k = tally-none (flies st) slots (λ j m. nothing-flies j (slots-in j m)) in let bad : ⊥ = omega arith in bad) (must mo)
+        not-open : st .opened ≡ 0
+        not-open = go (ℕ-discrete (st .opened) 0)
           where
             must : mustOpen p st ≡ true → (eqb (st .opened) 0 ≡ true) ⊎ (eqb (st .next) (p .S) ≡ true)
             must q = unfold mustOpen in or-cases (eqb (st .opened) 0) (eqb (st .next) (p .S)) q
 
-        open-ok : (g : Seg) (x : ℕ) → Named p g → StateOk p (setOpen st g x)
-        open-ok g x hg = unfold setOpen stripeIn filledIn landedIn in record {
+            go : Dec (st .opened ≡ 0) → st .opened ≡ 0
+            go (yes e) = e
+            go (no n) =
+                let o = h .opens-at n .2 in
+                ⊎-elim (λ x. eqb-true (st .opened) 0 x)
+                (λ x. absurd (let y = o .goes-on (eqb-true (st .next) (p .S) x) in let k = tally-none (flies st) slots (λ j m. nothing-flies j (slots-in j m)) in
+                let bad : ⊥ = omega arith in bad)) (must mo)
+
+        open-ok : (x : ℕ) → StateOk p (setOpen st x)
+        open-ok x = unfold setOpen stripeIn filledIn landedIn in record {
           live-is = so .live-is;
           missing-low = so .missing-low;
           missing-few = so .missing-few;
-          opened-low = zone-on-lt p g 0 hg;
+          opened-low = omega arith;
           next-low = omega arith;
           slots-ok =
               λ i h. record { stripe-ok = so .slots-ok i h .stripe-ok; filled-ok = so .slots-ok i h .filled-ok; writes-ok = so .slots-ok i h .writes-ok; landed-ok = so .slots-ok i h .landed-ok };
           offsets-low = so .offsets-low;
         }
 
-        opened-is : (g : Seg) (x : ℕ) → setOpen st g x .opened ≡ suc (zoneOn g 0)
-        opened-is g x = unfold setOpen in refl
+        opened-is : (x : ℕ) → setOpen st x .opened ≡ x
+        opened-is x = unfold setOpen in refl
 
-        next-is : (g : Seg) (x : ℕ) → setOpen st g x .next ≡ 0
-        next-is g x = unfold setOpen in refl
+        next-is : (x : ℕ) → setOpen st x .next ≡ 0
+        next-is x = unfold setOpen in refl
 
-        free-same : (g : Seg) (x j : ℕ) → flies (setOpen st g x) j ≡ flies st j
-        free-same g x j = unfold setOpen isFree filledIn in refl
+        free-same : (x j : ℕ) → flies (setOpen st x) j ≡ flies st j
+        free-same x j = unfold setOpen isFree filledIn in refl
 
-        missing-is : (g : Seg) (x i : ℕ) → addEntry (beginStripe (setOpen st g x) i) i a t w .missing ≡ st .missing
-        missing-is g x i = unfold addEntry beginStripe setOpen in refl
+        missing-is : (x i : ℕ) → addEntry (beginStripe (setOpen st x) i) i a t w .missing ≡ st .missing
+        missing-is x i = unfold addEntry beginStripe setOpen in refl
 
-        state-is : mustOpen p st ≡ true → sent .state ≡ addEntry (beginStripe (setOpen st (firstOr noSeg (emptySegs p v)) (suc (st .serial .0))) (freeSlot st)) (freeSlot st) a t w
+        state-is : mustOpen p st ≡ true → sent .state ≡ addEntry (beginStripe (setOpen st (suc (st .serial .0))) (freeSlot st)) (freeSlot st) a t w
         state-is mo = unfold sending slotFor begunBy openedBy opens placed in rw (nf, mo)
 
-        stores-is : mustOpen p st ≡ true → sent .stores ≡ headerStores p (firstOr noSeg (emptySegs p v)) (suc (st .serial .0)) 0
+        stores-is : mustOpen p st ≡ true → sent .stores ≡ headerStores p (newSeg p v) (suc (st .serial .0)) 0
         stores-is mo = unfold sending opens in rw (nf, mo)
 
-        inflight-is : mustOpen p st ≡ true → sent .inflight ≡ placed p (beginStripe (setOpen st (firstOr noSeg (emptySegs p v)) (suc (st .serial .0))) (freeSlot st)) fl
+        inflight-is : mustOpen p st ≡ true → sent .inflight ≡ placed p (beginStripe (setOpen st (suc (st .serial .0))) (freeSlot st)) fl
             (freeSlot st) a t w b .inflight
         inflight-is mo = unfold sending slotFor begunBy openedBy opens in rw (nf, mo)
 
   -- all three
-  pub sent-ok : mustWait p st ≡ false → noSerial p st ≡ false → (opens p st ≡ true → isNil (emptySegs p v) ≡ false) → SentOk p v st (sent .state) (sent .stores) (sent .inflight)
+  pub sent-ok : mustWait p st ≡ false → noSerial p st ≡ false → (opens p st ≡ true → 1 ≤ emptyCount p v) → SentOk p v st (sent .state) (sent .stores) (sent .inflight)
   sent-ok nw ns ne = go (test (hasFilling p st)) (test (mustOpen p st))
     where
       opens-is : hasFilling p st ≡ false → mustOpen p st ≡ true → opens p st ≡ true
@@ -334,10 +323,6 @@ module _ (p : Params) (r : Ranged p) (v : View) (sh : Shaped p v) (st : State) (
       go (no! q) (no! m) = begins-stripe q nw m
 
 -- 01, Refusals, 8: more than n zones are empty
-pub plenty : (p : Params) (v : View) (n : ℕ) → scarce p v n ≡ false → isNil (emptySegs p v) ≡ false
+pub plenty : (p : Params) (v : View) (n : ℕ) → scarce p v n ≡ false → 1 ≤ emptyCount p v
 unfolding scarce
-plenty p v n q = some (emptySegs p v) (leb-false (length (emptySegs p v)) n q)
-  where
-    some : (l : List Seg) → n < length l → isNil l ≡ false
-    some [] h = absurd (let x : ⊥ = omega arith in x)
-    some (a ∷ l) h = unfold isNil in refl
+plenty p v n q = let l = leb-false (emptyCount p v) n q in omega arith

@@ -51,103 +51,105 @@ use Rattle.proof_tables.specs.Starting.{startChecks, startPlan, start-be
 
 -- ---- a restart, on any bytes
 
-pub restart-ends : (p : Params) (k : Disk) (m : Memory) (d n : ℕ) → EndedAs p k m (startChecks p k m d) (startPlan p k m d) (callDisk p k m (restart d n))
+pub restart-ends : (p : Params) (off : List ℕ) (k : Disk) (m : Memory) (d n : ℕ) → EndedAs p k m (startChecks p off k m d) (startPlan p off k m d) (callDisk p off k m (restart d n))
 unfolding callDisk callOn verdict storeCount lentBlock restartVerdict
-restart-ends p k m d n = outcome-ends p k m (startChecks p k m d) (startPlan p k m d) n []
+restart-ends p off k m d n = outcome-ends p k m (startChecks p off k m d) (startPlan p off k m d) n []
 
 -- finished: what holds between calls holds
-pub restart-finished : (p : Params) (k : Disk) (m : Memory) (d n : ℕ) → (Whole p k → Shaped p (seen p k)) → finished (callDisk p k m (restart d n) .answer) ≡ true
-    → Run p (callDisk p k m (restart d n) .drives) (callDisk p k m (restart d n) .memory)
-restart-finished p k m d n sh q = go (restart-ends p k m d n)
+pub restart-finished : (p : Params) (off : List ℕ) (k : Disk) (m : Memory) (d n : ℕ) → (Whole p k → Shaped p (seen p off k)) → finished (callDisk p off k m (restart d n) .answer) ≡ true
+    → Run p off (callDisk p off k m (restart d n) .drives) (callDisk p off k m (restart d n) .memory)
+restart-finished p off k m d n sh q = go (restart-ends p off k m d n)
   where
     r : After Disk
-    r = callDisk p k m (restart d n)
+    r = callDisk p off k m (restart d n)
 
-    go : EndedAs p k m (startChecks p k m d) (startPlan p k m d) (callDisk p k m (restart d n)) → Run p (callDisk p k m (restart d n) .drives) (callDisk p k m (restart d n) .memory)
-    go (ended-refused a e f g h) = clash q (ap finished f ∙ refused-unfinished a (refusal-kind (startChecks p k m d) a e))
+    go : EndedAs p k m (startChecks p off k m d) (startPlan p off k m d) (callDisk p off k m (restart d n))
+        → Run p off (callDisk p off k m (restart d n) .drives) (callDisk p off k m (restart d n) .memory)
+    go (ended-refused a e f g h) = clash q (ap finished f ∙ refused-unfinished a (refusal-kind (startChecks p off k m d) a e))
     go (ended-done c f g h) =
-        subst (λ (x : Disk). Run p x (callDisk p k m (restart d n) .memory)) (sym g)
-        (subst (λ (x : Memory). Run p (storeAll (storeDisk p) (startPlan p k m d .stores) k) x) (sym h) (run-started p k m d sh (start-begins p k m d c)))
+        subst (λ (x : Disk). Run p off x (callDisk p off k m (restart d n) .memory)) (sym g)
+        (subst (λ (x : Memory). Run p off (storeAll (storeDisk p) (startPlan p off k m d .stores) k) x) (sym h) (run-started p off k m d sh (start-begins p off k m d c)))
     go (ended-cut c f) = clash q (ap finished f ∙ cut-unfinished)
 
 -- ---- one call
 
 -- what a call gives
-abbrev pub CallKeeps : Params → Call → After Disk → Type 0
-CallKeeps p c r = NotNinth (restartOf c) (r .answer) × (isCut (r .answer) ≡ false → Run p (r .drives) (r .memory))
+abbrev pub CallKeeps : Params → List ℕ → Call → After Disk → Type 0
+CallKeeps p off c r = NotNinth (restartOf c) (r .answer) × (isCut (r .answer) ≡ false → Run p off (r .drives) (r .memory))
 
-kept-step : (p : Params) (r : After Disk) → Kept p r → (isRefusedAs 9 (r .answer) ≡ false) × (isCut (r .answer) ≡ false → Run p (r .drives) (r .memory))
-kept-step p r k = (k .never-ninth, k .runs-on)
+kept-step : (p : Params) (off : List ℕ) (r : After Disk) → Kept p off r → (isRefusedAs 9 (r .answer) ≡ false) × (isCut (r .answer) ≡ false → Run p off (r .drives) (r .memory))
+kept-step p off r k = (k .never-ninth, k .runs-on)
 
 -- with none missing no drive can be rebuilt
-well-rebuild : (p : Params) (k : Disk) (m : Memory) (u : Run p k m) → Well p k m → (d n : ℕ) → Kept p (callDisk p k m (rebuild d n))
+well-rebuild : (p : Params) (off : List ℕ) (k : Disk) (m : Memory) (u : Run p off k m) → Well p off k m → (d n : ℕ) → Kept p off (callDisk p off k m (rebuild d n))
 unfolding callDisk callOn verdict storeCount lentBlock rebuildVerdict
-well-rebuild p k m u we d n = go (outcome-ends p k m checks plan n [])
+well-rebuild p off k m u we d n = go (outcome-ends p k m checks plan n [])
   where
     plan : Plan
-    plan = mkPlan (rebuildStores p d (segments p (seen p k) (named d))) Rebuilt m []
+    plan = mkPlan (rebuildStores p (seen p off k) d (segments p (seen p off k) (named d))) Rebuilt m []
 
     checks : List Check
-    checks = rebuildChecks p (lentOk p k m) (seen p k) m d (segments p (seen p k) (named d))
+    checks = rebuildChecks p (lentOk p off k m) (seen p off k) m d (segments p (seen p off k) (named d))
 
     never! : {X : Type 0} → d < p .N → m .state .missing ≡ named d → X
     never! hd e = clash (eq-eqb (named d) 0 (sym e ∙ we .none-missing)) (named-some p (ranged p (u .base .ranged)) d hd)
 
     passed! : {X : Type 0} → firstRefusal checks ≡ none → X
-    passed! q = let c = rebuild-passed p (lentOk p k m) (seen p k) m d (segments p (seen p k) (named d)) q in never! (c .drive-low) (c .names)
+    passed! q = let c = rebuild-passed p (lentOk p off k m) (seen p off k) m d (segments p (seen p off k) (named d)) q in never! (c .drive-low) (c .names)
 
-    go : EndedAs p k m checks plan (outcome p (storeDisk p) n k m [] (decided (firstRefusal checks) plan)) → Kept p (outcome p (storeDisk p) n k m [] (decided (firstRefusal checks) plan))
-    go (ended-refused a e f g h) = refused-kept p k m _ a u (rebuild-mild p (lentOk p k m) (seen p k) m d (segments p (seen p k) (named d)) (λ hd q. never! hd q) a e) f g h
+    go : EndedAs p k m checks plan (outcome p (storeDisk p) n k m [] (decided (firstRefusal checks) plan)) → Kept p off (outcome p (storeDisk p) n k m [] (decided (firstRefusal checks) plan))
+    go (ended-refused a e f g h) = refused-kept p off k m _ a u (rebuild-mild p (lentOk p off k m) (seen p off k) m d (segments p (seen p off k) (named d)) (λ hd q. never! hd q) a e) f g h
     go (ended-done c f g h) = passed! c
     go (ended-cut c f) = passed! c
 
-restart-step : (p : Params) (k : Disk) (m : Memory) (u : Run p k m) (d n : ℕ) → isCut (callDisk p k m (restart d n) .answer) ≡ false
-    → Run p (callDisk p k m (restart d n) .drives) (callDisk p k m (restart d n) .memory)
-restart-step p k m u d n nc = go (restart-ends p k m d n)
+restart-step : (p : Params) (off : List ℕ) (k : Disk) (m : Memory) (u : Run p off k m) (d n : ℕ) → isCut (callDisk p off k m (restart d n) .answer) ≡ false
+    → Run p off (callDisk p off k m (restart d n) .drives) (callDisk p off k m (restart d n) .memory)
+restart-step p off k m u d n nc = go (restart-ends p off k m d n)
   where
-    go : EndedAs p k m (startChecks p k m d) (startPlan p k m d) (callDisk p k m (restart d n)) → Run p (callDisk p k m (restart d n) .drives) (callDisk p k m (restart d n) .memory)
-    go (ended-refused a e f g h) = subst (λ (x : Disk). Run p x (callDisk p k m (restart d n) .memory)) (sym g) (subst (λ (x : Memory). Run p k x) (sym h) u)
+    go : EndedAs p k m (startChecks p off k m d) (startPlan p off k m d) (callDisk p off k m (restart d n))
+        → Run p off (callDisk p off k m (restart d n) .drives) (callDisk p off k m (restart d n) .memory)
+    go (ended-refused a e f g h) = subst (λ (x : Disk). Run p off x (callDisk p off k m (restart d n) .memory)) (sym g) (subst (λ (x : Memory). Run p off k x) (sym h) u)
     go (ended-done c f g h) =
-        subst (λ (x : Disk). Run p x (callDisk p k m (restart d n) .memory)) (sym g) (subst (λ (x : Memory). Run p (storeAll (storeDisk p) (startPlan p k m d .stores) k) x) (sym h)
-        (run-started p k m d (λ w. u .base .shaped) (start-begins p k m d c)))
+        subst (λ (x : Disk). Run p off x (callDisk p off k m (restart d n) .memory)) (sym g) (subst (λ (x : Memory). Run p off (storeAll (storeDisk p) (startPlan p off k m d .stores) k) x) (sym h)
+        (run-started p off k m d (λ w. u .base .shaped) (start-begins p off k m d c)))
     go (ended-cut c f) = clash (ap isCut f ∙ cut-cut) nc
 
-close-kept : (p : Params) (k : Disk) (m : Memory) → Run p k m → (n : ℕ) → Kept p (callDisk p k m (close n))
-close-kept p k m u n = ⊎-elim (λ x. lost-close p k m u x n) (λ x. well-close p k m u x n) (u .mode)
+close-kept : (p : Params) (off : List ℕ) (k : Disk) (m : Memory) → Run p off k m → (n : ℕ) → Kept p off (callDisk p off k m (close n))
+close-kept p off k m u n = ⊎-elim (λ x. lost-close p off k m u x n) (λ x. well-close p off k m u x n) (u .mode)
 
 -- a write of no bytes: a closing, or all stays
-empty-kept : (p : Params) (k : Disk) (m : Memory) → Run p k m → (a n : ℕ) → Kept p (callDisk p k m (write a [] n))
-empty-kept p k m u a n = go (empty-leaves p k m a n)
+empty-kept : (p : Params) (off : List ℕ) (k : Disk) (m : Memory) → Run p off k m → (a n : ℕ) → Kept p off (callDisk p off k m (write a [] n))
+empty-kept p off k m u a n = go (empty-leaves p off k m a n)
   where
     r : After Disk
-    r = callDisk p k m (write a [] n)
+    r = callDisk p off k m (write a [] n)
 
-    stays : (x : Answer) → isRefusedAs 9 x ≡ false → r ≡ mkAfter x k m [] → Kept p r
+    stays : (x : Answer) → isRefusedAs 9 x ≡ false → r ≡ mkAfter x k m [] → Kept p off r
     stays x q e =
-        refused-kept p k m r x u q (ap (λ (y : After Disk). y .answer) e) (ap (λ (y : After Disk). y .drives) e) (ap (λ (y : After Disk). y .memory) e)
+        refused-kept p off k m r x u q (ap (λ (y : After Disk). y .answer) e) (ap (λ (y : After Disk). y .drives) e) (ap (λ (y : After Disk). y .memory) e)
 
     nothing-mild : isRefusedAs 9 Nothing ≡ false
     nothing-mild = unfold isRefusedAs isRefused kind in refl
 
-    table-said : m .state .missing ≡ 0 → tableFaults p (m .addresses) ≡ []
+    table-said : m .state .missing ≡ 0 → tableFaults p (seen p off k) (m .addresses) ≡ []
     table-said z =
-        table-clear p (ranged p (u .base .ranged)) (seen p k) (m .addresses)
-        (u .base .addresses-say ∙ ap (λ (g : ℕ). addressTable p (candidates p g (segments p (seen p k) g))) z)
+        table-clear p (ranged p (u .base .ranged)) (seen p off k) (m .addresses)
+        (u .base .addresses-say ∙ ap (λ (g : ℕ). addressTable p (candidates p g (segments p (seen p off k) g))) z)
 
-    go : EmptyLeaves p k m a n → Kept p r
-    go (as-close h l e) = subst (λ (y : After Disk). Kept p y) (sym e) (close-kept p k m u n)
-    go (as-refusal x c e) = stays x (empty-mild p (lentOk p k m) (seen p k) m a (u .base .state-ok) table-said x c) e
+    go : EmptyLeaves p off k m a n → Kept p off r
+    go (as-close h l e) = subst (λ (y : After Disk). Kept p off y) (sym e) (close-kept p off k m u n)
+    go (as-refusal x c e) = stays x (empty-mild p (lentOk p off k m) (seen p off k) m a (u .base .state-ok) table-said x c) e
     go (as-idle c h e) = stays Nothing nothing-mild e
 
-pub stepped : (p : Params) (k : Disk) (m : Memory) → Run p k m → (c : Call) → CallKeeps p c (callDisk p k m c)
+pub stepped : (p : Params) (off : List ℕ) (k : Disk) (m : Memory) → Run p off k m → (c : Call) → CallKeeps p off c (callDisk p off k m c)
 unfolding restartOf
-stepped p k m u (write a [] n) = kept-step p (callDisk p k m (write a [] n)) (empty-kept p k m u a n)
-stepped p k m u (write a (x ∷ b) n) =
-    kept-step p (callDisk p k m (write a (x ∷ b) n)) (⊎-elim (λ q. lost-write p k m u q a x b n) (λ q. well-write p k m u q a n x b) (u .mode))
-stepped p k m u (land d s n) = kept-step p (callDisk p k m (land d s n)) (⊎-elim (λ x. lost-land p k m u x d s n) (λ x. well-land p k m u x d s n) (u .mode))
-stepped p k m u (close n) = kept-step p (callDisk p k m (close n)) (close-kept p k m u n)
-stepped p k m u (reclaim n) = kept-step p (callDisk p k m (reclaim n)) (⊎-elim (λ x. lost-reclaim p k m u x n) (λ x. well-reclaim p k m u x n) (u .mode))
-stepped p k m u (read a) = kept-step p (callDisk p k m (read a)) (idle-kept p k m (u .base) (callDisk p k m (read a)) u (read-idle p k m (u .base) a))
-stepped p k m u (fill a b) = kept-step p (callDisk p k m (fill a b)) (idle-kept p k m (u .base) (callDisk p k m (fill a b)) u (fill-idle p k m (u .base) a b))
-stepped p k m u (restart d n) = (tt, restart-step p k m u d n)
-stepped p k m u (rebuild d n) = kept-step p (callDisk p k m (rebuild d n)) (⊎-elim (λ x. lost-rebuild p k m u x d n) (λ x. well-rebuild p k m u x d n) (u .mode))
+stepped p off k m u (write a [] n) = kept-step p off (callDisk p off k m (write a [] n)) (empty-kept p off k m u a n)
+stepped p off k m u (write a (x ∷ b) n) =
+    kept-step p off (callDisk p off k m (write a (x ∷ b) n)) (⊎-elim (λ q. lost-write p off k m u q a x b n) (λ q. well-write p off k m u q a n x b) (u .mode))
+stepped p off k m u (land d s n) = kept-step p off (callDisk p off k m (land d s n)) (⊎-elim (λ x. lost-land p off k m u x d s n) (λ x. well-land p off k m u x d s n) (u .mode))
+stepped p off k m u (close n) = kept-step p off (callDisk p off k m (close n)) (close-kept p off k m u n)
+stepped p off k m u (reclaim n) = kept-step p off (callDisk p off k m (reclaim n)) (⊎-elim (λ x. lost-reclaim p off k m u x n) (λ x. well-reclaim p off k m u x n) (u .mode))
+stepped p off k m u (read a) = kept-step p off (callDisk p off k m (read a)) (idle-kept p off k m (u .base) (callDisk p off k m (read a)) u (read-idle p off k m (u .base) a))
+stepped p off k m u (fill a b) = kept-step p off (callDisk p off k m (fill a b)) (idle-kept p off k m (u .base) (callDisk p off k m (fill a b)) u (fill-idle p off k m (u .base) a b))
+stepped p off k m u (restart d n) = (tt, restart-step p off k m u d n)
+stepped p off k m u (rebuild d n) = kept-step p off (callDisk p off k m (rebuild d n)) (⊎-elim (λ x. lost-rebuild p off k m u x d n) (λ x. well-rebuild p off k m u x d n) (u .mode))

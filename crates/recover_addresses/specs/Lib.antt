@@ -1,3 +1,4 @@
 pub mod Offers
 pub mod Told
+pub mod Owners
 pub mod Lies

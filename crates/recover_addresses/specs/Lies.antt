@@ -10,41 +10,52 @@ use lib.Dec.{ltb, eqb}
 use lib.ListN.{length, getD}
 use lib.Bits.{bitXor}
 use Rattle.spec.specs.declared.Params.{Params}
-use Rattle.spec.specs.Bytes.{xorAll}
-use Rattle.spec.specs.Drives.{View, zoneAt, pointerAt, viewOf, mkDisk, zoneOn, sealedIn, dataStored, recordIn, placeSegment}
+use Rattle.spec.specs.Bytes.{part, xorAll}
+use Rattle.spec.specs.Drives.{View, zoneAt, pointerAt, viewOf, mkDisk, zoneOn, sealedIn, dataStored, recordIn, seg}
 use Rattle.spec.specs.Faults.{outside, twice, storedBad}
-use Rattle.spec.specs.Layout.{dataDrive, group, inGroupOf, groupOffsets, compactEntry, headerSerial, Rec, mkRec}
+use Rattle.spec.specs.Layout.{dataDrive, group, inGroupOf, groupOffsets, compactEntry, Rec, mkRec}
 use Rattle.spec.specs.Lists.{upFrom, below, any, consIf, keep, firstOr, isIn}
 use Rattle.spec.specs.Memory.{compactAt, shownAt}
-use Rattle.spec.specs.Params.{inRange, compactLen, placeBlock, placeDrive, drivesOf, present}
+use Rattle.spec.specs.Params.{inRange, compactLen, placeBlock, placeZone, placeDrive, drivesOf, present}
 use Rattle.spec.specs.Parity.{parityRec}
 use Rattle.spec.specs.Rank.{Cand}
-use Rattle.spec.specs.Segments.{lowDrive, headerAt, remaining, recordsIn, segmentOf, segments, recsOn, offsetOn, hasChunk, counts, storedRec, recOf, offsetOf, candOf, compactTable}
+use Rattle.spec.specs.Segments.{remaining, recordsIn, segmentOf, segments, recsOn, offsetOn, hasChunk, counts, storedRec, recOf, offsetOf, candOf, compactRow, compactTable}
 use Rattle.law_basic.specs.Geometry.{Ranged}
 use Rattle.law_basic.specs.Ranges.{Test, test, below-none, map-append, map-map, keep-below-snoc}
 use Rattle.law_basic.specs.Ranges.Test.{yes!, no! }
 use Rattle.law_basic.specs.Xor.{xorAll-none, xorAll-snoc}
-use Rattle.law_basic.specs.Segs.{Named, zone-on-lt}
+use Rattle.law_basic.specs.Segs.{ZonesLow, low-zone}
 use Rattle.law_code.specs.Chunks.{rec-here, rec-lost}
 use Rattle.law_code.specs.Single.{decode-rec-xor}
 use Rattle.law_views.specs.Views.{Whole}
 use Rattle.law_drives.specs.Accept.{outside-in}
 use Rattle.recover_compact.specs.Compacts.{SegmentShown}
 use Rattle.recover_groups.specs.Groups.{recsBad, recsFault}
-use Rattle.recover_segments.specs.Remains.{serialOf}
+use Rattle.disk_gather.specs.Flags.{Serials, FlagsRows}
+use Rattle.disk_gather.specs.Found.{kept-serial}
 use Rattle.law_drives.specs.Members.{In, in-map, none-in, keep-in, keep-cong, first-any}
-use Rattle.law_drives.specs.Segs.{in-present, remaining-low, length-records, record-at, data-low, recs-here, serial-is, chunk-at, CandAt}
-use Rattle.law_drives.specs.Spots.{counts-in, spot-of, spot-block, spot-drive, InGroups, shown-first, cand-segment}
-use Rattle.law_drives.specs.Tables.{compact-at}
+use Rattle.law_drives.specs.Gather.{in-present}
+use Rattle.law_drives.specs.Segs.{Here, remaining-low, length-records, record-at, data-low, recs-here, serial-is, chunk-at, CandAt}
+use Rattle.law_drives.specs.Spots.{SpotsApart, counts-in, spot-of, spot-block, spot-drive, InGroups, shown-first, cand-zone}
+use Rattle.law_drives.specs.Tables.{segAt, remaining-at, row-seg, compact-at}
 use Rattle.law_drives.specs.Tests.{or-first, cond-true, cond-false}
 use Rattle.spec.specs.declared.Seg.{Seg}
+use Rattle.recover_addresses.specs.Owners.{ownerAt, Owners, owner-at}
 
 -- what the walk over the records rests on: buffers of their lengths, and records in order
-pub record Ground (p : Params) (im ps : List ℕ) (gone : ℕ) (cs : List ℕ) : Type 0 where
+pub record Ground (p : Params) (off im ps : List ℕ) (gone : ℕ) (cs : List ℕ) : Type 0 where
   pub in-range : inRange p ≡ true
   pub whole : Whole p (mkDisk im ps)
-  pub clean : any (recsFault p gone) (segments p (viewOf p im ps) gone) ≡ false
+  pub here : Here p gone
+  pub apart : SpotsApart p (viewOf p off im ps) gone
+  pub clean : any (recsFault p gone) (segments p (viewOf p off im ps) gone) ≡ false
   pub compact-long : length cs ≡ compactLen p
+
+-- 02, item 4: the segments that were gathered: their zones and their serials in rows, and whose row a zone is
+pub record Gathered (p : Params) (v : View) (gone : ℕ) (rows serials owners : List ℕ) : Type 0 where
+  pub rows-are : FlagsRows p v gone rows
+  pub serials-are : Serials p v gone serials
+  pub owners-are : Owners p v gone owners
 
 -- a counted stripe of a remaining segment, whose rows of the compact table are as the drives say
 pub record StripeCounts (p : Params) (v : View) (gone : ℕ) (cs : List ℕ) (g : Seg) (s : ℕ) : Type 0 where
@@ -63,8 +74,8 @@ pub record LiesIn (p : Params) (v : View) (gone : ℕ) (cs : List ℕ) (d : ℕ)
 abbrev pub Somewhere : Params → View → ℕ → List ℕ → ℕ → Seg → ℕ → Type 0
 Somewhere p v gone cs d g o = (s : ℕ) × LiesIn p v gone cs d g o s
 
-pub counted-segment-low : (p : Params) (v : View) (gone : ℕ) (cs : List ℕ) (g : Seg) (s : ℕ) → StripeCounts p v gone cs g s → Named p g
-counted-segment-low p v gone cs g s k = remaining-low p v gone g (k .remains)
+pub counted-segment-low : (p : Params) (v : View) (gone : ℕ) → Here p gone → (cs : List ℕ) (g : Seg) (s : ℕ) → StripeCounts p v gone cs g s → ZonesLow p gone g
+counted-segment-low p v gone here cs g s k = remaining-low p v gone here g (k .remains)
 
 -- ---- every chunk of what remains sits at an offset of its group
 
@@ -91,10 +102,12 @@ no-fault-in-groups p v gone q g d o m hd pr h =
 
 -- ---- the stamp of a chunk that the table shows
 
-module _ (p : Params) (r : Ranged p) (v : View) (gone : ℕ) (cs : List ℕ) (g : Seg) (s : ℕ) (clean : any (recsFault p gone) (segments p v gone) ≡ false)
-    (k : StripeCounts p v gone cs g s) (d : ℕ)
-    (hd : d < p .N)
-    (pr : isIn gone d ≡ false) where
+module _ (p : Params) (r : Ranged p) (v : View) (gone : ℕ) (here : Here p gone) (cs : List ℕ) (g : Seg) (s : ℕ) (clean : any (recsFault p gone) (segments p v gone) ≡ false)
+    (k : StripeCounts p v gone cs g s) (d : ℕ) (hd : d < p .N) (pr : isIn gone d ≡ false) where
+  -- its zone there
+  pub counted-zone-low : zoneOn g d < p .Z
+  counted-zone-low = low-zone p gone g d (counted-segment-low p v gone here cs g s k) hd pr
+
   has-it : hasChunk (segmentOf p v gone g) s d ≡ true
   has-it = counts-in p gone (segmentOf p v gone g) s d (k .it-counts) hd pr
 
@@ -108,13 +121,14 @@ module _ (p : Params) (r : Ranged p) (v : View) (gone : ℕ) (cs : List ℕ) (g 
       (keep (λ o. ltb o (p .S)) (upFrom (group p s * p .G) (p .G)))
       (λ o m.
       let l = ltb-true o (p .S) (keep-in (λ o. ltb o (p .S)) (upFrom (group p s * p .G) (p .G)) o m .1) in
-      let e = k .shown d o hd l ∙ sym (compact-at p v gone d z o hd (zone-on-lt p g d (counted-segment-low p v gone cs g s k)) l) in
+      let e = k .shown d o hd pr l ∙ ap (λ (rs : List Rec). getD (compactRow p rs) o 0) (sym (row-seg p v gone here d g hd pr (k .remains)))
+      ∙ sym (compact-at p v gone here d z o hd counted-zone-low l) in
       ap (λ (x : ℕ). ltb (1 + o) (pointerAt v d z) && eqb x (compactEntry p s)) e)
 
   -- the offset that the compact table shows
   pub shown-there : (o : ℕ) → o ≡ firstOr (p .S) (shownAt p v cs d (zoneOn g d) s) → o ≡ offsetOn (segmentOf p v gone g) d s
   shown-there o eo =
-      let q = shown-first p r v gone (no-fault-in-groups p v gone clean) g d s (k .remains) hd pr has-it in
+      let q = shown-first p r v gone here (no-fault-in-groups p v gone clean) g d s (k .remains) hd pr has-it in
       eo ∙ ap (firstOr (p .S)) shown-same ∙ first-any (p .S) 0 (shownAt p v (compactTable p (segments p v gone)) d (zoneOn g d) s) (q .1) ∙ q .0
 
   pub offset-low : offsetOn (segmentOf p v gone g) d s < p .S
@@ -177,18 +191,18 @@ module _ (p : Params) (r : Ranged p) (v : View) (gone : ℕ) (cs : List ℕ) (d 
 
 -- ---- a candidate by its place
 
-module _ (p : Params) (r : Ranged p) (v : View) (gone : ℕ) (h : Cand) (k : CandAt p v gone h) where
+module _ (p : Params) (r : Ranged p) (v : View) (gone : ℕ) (here : Here p gone) (apart : SpotsApart p v gone) (h : Cand) (k : CandAt p v gone h) where
   is-drive : placeDrive p (h .place) ≡ h .drive
-  is-drive = spot-drive p r v gone h (spot-of p r v gone h k)
-
-  is-segment : placeSegment p (h .place) ≡ k .of
-  is-segment = cand-segment p r v gone h k (spot-of p r v gone h k)
+  is-drive = spot-drive p r v gone here apart h (spot-of p r v gone here apart h k)
 
   is-offset : placeBlock p (h .place) - 1 ≡ h .offset
-  is-offset = ap (λ (x : ℕ). x - 1) (spot-block p r v gone h (spot-of p r v gone h k)) ∙ (let z : 1 + h .offset - 1 ≡ h .offset = omega arith in z)
+  is-offset = ap (λ (x : ℕ). x - 1) (spot-block p r v gone here apart h (spot-of p r v gone here apart h k)) ∙ (let z : 1 + h .offset - 1 ≡ h .offset = omega arith in z)
 
   pub block-low : 1 ≤ placeBlock p (h .place)
-  block-low = omega (arith, spot-block p r v gone h (spot-of p r v gone h k))
+  block-low = omega (arith, spot-block p r v gone here apart h (spot-of p r v gone here apart h k))
+
+  pub lies-place-drive-low : placeDrive p (h .place) < p .N
+  lies-place-drive-low = subst (λ (x : ℕ). x < p .N) (sym is-drive) (spot-of p r v gone here apart h k .drive-low)
 
   cand-on-drive : h .drive ≡ dataDrive p (k .stripe) (k .position)
   unfolding candOf
@@ -197,29 +211,49 @@ module _ (p : Params) (r : Ranged p) (v : View) (gone : ℕ) (h : Cand) (k : Can
   its-lie : (cs : List ℕ) → SegmentShown p v gone (k .of) cs → LiesIn p v gone cs (h .drive) (k .of) (h .offset) (k .stripe)
   unfolding candOf
   its-lie cs sh = record {
-    drive-low = spot-of p r v gone h k .drive-low;
+    drive-low = spot-of p r v gone here apart h k .drive-low;
     counted = record { remains = k .remains; stripe-low = k .stripe-low; it-counts = k .it-counts; shown = sh };
     offset-is = ap (λ (x : Cand). x .offset) (k .it-is) ∙ ap (offsetOf gone (segmentOf p v gone (k .of)) (k .stripe)) (sym cand-on-drive);
   }
 
-  -- the place says drive, segment and offset
-  pub place-lies : (cs : List ℕ) → SegmentShown p v gone (k .of) cs → (q : ℕ) → h .place ≡ q → LiesIn p v gone cs (placeDrive p q) (placeSegment p q) (placeBlock p q - 1) (k .stripe)
-  place-lies cs sh q e = subst (λ (x : ℕ). LiesIn p v gone cs (placeDrive p x) (placeSegment p x) (placeBlock p x - 1) (k .stripe)) e
-      (subst (λ (x : ℕ). LiesIn p v gone cs x (placeSegment p (h .place)) (placeBlock p (h .place) - 1) (k .stripe)) (sym is-drive)
-      (subst (λ (x : Seg). LiesIn p v gone cs (h .drive) x (placeBlock p (h .place) - 1) (k .stripe)) (sym is-segment)
-      (subst (λ (x : ℕ). LiesIn p v gone cs (h .drive) (k .of) x (k .stripe)) (sym is-offset) (its-lie cs sh))))
+  -- the place says drive and offset
+  pub place-lies : (cs : List ℕ) → SegmentShown p v gone (k .of) cs → (q : ℕ) → h .place ≡ q → LiesIn p v gone cs (placeDrive p q) (k .of) (placeBlock p q - 1) (k .stripe)
+  place-lies cs sh q e = subst (λ (x : ℕ). LiesIn p v gone cs (placeDrive p x) (k .of) (placeBlock p x - 1) (k .stripe)) e
+      (subst (λ (x : ℕ). LiesIn p v gone cs x (k .of) (placeBlock p (h .place) - 1) (k .stripe)) (sym is-drive)
+      (subst (λ (x : ℕ). LiesIn p v gone cs (h .drive) (k .of) x (k .stripe)) (sym is-offset) (its-lie cs sh)))
+
+  -- 02, item 4: its zone says the row of its segment
+  pub record OwnerRow (y : ℕ) : Type 0 where
+    pub row-low : y < p .Z
+    pub row-is : (rows : List ℕ) → FlagsRows p v gone rows → seg (part (8 * y) 8 rows) ≡ k .of
+    pub serial-there : (ns : List ℕ) → Serials p v gone ns → getD ns y 0 ≡ segmentOf p v gone (k .of) .serial
+
+  pub owner-row : (ow : List ℕ) → Owners p v gone ow → (q y : ℕ) → h .place ≡ q → y ≡ getD ow (placeDrive p q * p .Z + placeZone p q) 0 → OwnerRow y
+  owner-row ow o q y e ey =
+      let a = remaining-at p v gone here (k .of) (k .remains) in
+      let t = spot-of p r v gone here apart h k in
+      let at : ownerAt p (k .of) (h .drive) ≡ placeDrive p q * p .Z + placeZone p q =
+      sym (owner-at p (k .of) (h .drive) (placeZone p (h .place)) (h .drive * p .Z + placeZone p (h .place)) (cand-zone p r v gone here apart h k t) refl)
+      ∙ ap (λ (x : ℕ). x * p .Z + placeZone p (h .place)) (sym is-drive) ∙ ap (λ (x : ℕ). placeDrive p x * p .Z + placeZone p x) e in
+      let is : y ≡ a .zone = ey ∙ ap (λ (x : ℕ). getD ow x 0) (sym at) ∙ ap (λ (g : Seg). getD ow (ownerAt p g (h .drive)) 0) (a .it-is)
+      ∙ o .1 (a .zone) (h .drive) (a .zone-low) (t .drive-low) (a .it-remains) in
+      record {
+        row-low = subst (λ (x : ℕ). x < p .Z) (sym is) (a .zone-low);
+        row-is = λ rows rs. ap (λ (x : ℕ). seg (part (8 * x) 8 rows)) is ∙ ap (λ (zs : List ℕ). seg zs) (rs .1 (a .zone) (a .zone-low) (a .it-leads)) ∙ sym (a .it-is);
+        serial-there = λ ns s. ap (λ (x : ℕ). getD ns x 0) is ∙ kept-serial p v gone here ns (a .zone) s (a .zone-low) (a .it-leads) ∙ sym (serial-is p v gone (segAt p v gone (a .zone)))
+            ∙ ap (λ (g : Seg). segmentOf p v gone g .serial) (sym (a .it-is));
+      }
 
   -- the record found there is the candidate
   pub it-is-found : (q a t n d o : ℕ) → h .place ≡ q → h .address ≡ a → d ≡ placeDrive p q → o ≡ placeBlock p q - 1
-      → t ≡ recOf p gone (segmentOf p v gone (placeSegment p q)) (k .stripe) (placeDrive p q) .stamp → n ≡ serialOf p v gone (placeSegment p q)
+      → t ≡ recOf p gone (segmentOf p v gone (k .of)) (k .stripe) (placeDrive p q) .stamp → n ≡ segmentOf p v gone (k .of) .serial
       → record { address = a; stamp = t; serial = n; drive = d; offset = o; place = q } ≡ h
-  unfolding serialOf candOf
+  unfolding candOf
   it-is-found q a t n d o eq ea ed eo et en =
-      let ez : placeSegment p q ≡ k .of = ap (placeSegment p) (sym eq) ∙ is-segment in
       let es : t ≡ h .stamp =
-      et ∙ ap₂ (λ (x : Seg) (y : ℕ). recOf p gone (segmentOf p v gone x) (k .stripe) y .stamp) ez (ap (placeDrive p) (sym eq) ∙ is-drive ∙ cand-on-drive)
+      et ∙ ap (λ (y : ℕ). recOf p gone (segmentOf p v gone (k .of)) (k .stripe) y .stamp) (ap (placeDrive p) (sym eq) ∙ is-drive ∙ cand-on-drive)
       ∙ sym (ap (λ (x : Cand). x .stamp) (k .it-is)) in
-      let er : n ≡ h .serial = en ∙ ap (λ (x : Seg). headerSerial p (headerAt v (lowDrive p gone) x)) ez ∙ sym (serial-is p v gone (k .of)) ∙ sym (ap (λ (x : Cand). x .serial) (k .it-is)) in
+      let er : n ≡ h .serial = en ∙ sym (ap (λ (x : Cand). x .serial) (k .it-is)) in
       let ed′ : d ≡ h .drive = ed ∙ ap (placeDrive p) (sym eq) ∙ is-drive in
       let eo′ : o ≡ h .offset = eo ∙ ap (λ (x : ℕ). placeBlock p x - 1) (sym eq) ∙ is-offset in
       λ j. record { address = sym ea j; stamp = es j; serial = er j; drive = ed′ j; offset = eo′ j; place = sym eq j }

@@ -23,8 +23,8 @@ use Rattle.law_basic.specs.Splice.{length-part, getD-part}
 use Rattle.recover_compact.specs.Compacts.{SegmentShown}
 use Rattle.law_drives.specs.Best.{best-in}
 use Rattle.law_drives.specs.Members.{In, in-append}
-use Rattle.law_drives.specs.Segs.{CandAt}
-use Rattle.law_drives.specs.Spots.{spot-of, spot-low}
+use Rattle.law_drives.specs.Segs.{CandAt, Here}
+use Rattle.law_drives.specs.Spots.{SpotsApart, spot-of, spot-low}
 use Rattle.law_drives.specs.Tables.{length-addresses, place-at, addresses-ext}
 use Rattle.law_drives.specs.Tests.{cond-true, cond-false}
 use Rattle.recover_addresses.specs.Offers.{offer-high, offer-kept, offer-set}
@@ -91,7 +91,7 @@ HasCand p v gone co a q = (h : Cand) × Near p v gone co h × (h .place ≡ q) �
 abbrev pub IsCandAt : Params → View → ℕ → List ℕ → ℕ → ℕ → Cand → Type 0
 IsCandAt p v gone co a q x = (h : Cand) → Near p v gone co h → h .place ≡ q → h .address ≡ a → x ≡ h
 
-module _ (p : Params) (r : Ranged p) (v : View) (gone : ℕ) (co tb : List ℕ) (cs : List Cand) (t : Told p v gone co tb cs) where
+module _ (p : Params) (r : Ranged p) (v : View) (gone : ℕ) (here : Here p gone) (apart : SpotsApart p v gone) (co tb : List ℕ) (cs : List Cand) (t : Told p v gone co tb cs) where
   pub holding : (a : ℕ) → a < p .L → Holding p v gone co tb cs a
   holding a h = go (best none (candsOf a cs)) refl
     where
@@ -102,7 +102,7 @@ module _ (p : Params) (r : Ranged p) (v : View) (gone : ℕ) (co tb : List ℕ) 
       go (some c) e =
           let i = best-in a cs c e in
           let k = t .said c (i .0) in
-          let l = spot-low p r v gone c (spot-of p r v gone c (k .0)) in
+          let l = spot-low p r v gone here apart c (spot-of p r v gone here apart c (k .0)) in
           let q : placeOr (best none (candsOf a cs)) ≡ c .place = ap placeOr e ∙ (unfold placeOr in refl) in
           holds-one c e k (i .1) (ap (λ (x : List ℕ). placeAt x a) (t .table)
           ∙ place-at p cs a h (subst (λ (x : ℕ). x < 256 ^ 4) (sym q) (let z : c .place < 256 ^ 4 = omega arith in z)) ∙ q) l

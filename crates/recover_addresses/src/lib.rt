@@ -1,4 +1,5 @@
 // One completed record more in the address table: the record that the table holds is found again by its place, and the better of the two stays (01, The calls, last paragraph).
+// 02, item 4: whose segment a place's zone is stands in a table by drive and zone.
 ghost use mathlib.Core.Path.{_≡_};
 ghost use mathlib.Core.Bool.{cond};
 ghost use mathlib.Core.List.{[], _∷_, map};
@@ -10,8 +11,7 @@ ghost use Rattle.spec.specs.Lists.{isIn};
 ghost use Rattle.spec.specs.Params.{present};
 ghost use Rattle.spec.specs.Segments.{segmentOf, storedRec, recOf};
 ghost use Rattle.disk_rank.specs.Ranked.{ranked};
-ghost use Rattle.recover_segments.specs.Remains.{Serials};
-ghost use Rattle.recover_addresses.specs.Lies.{Ground, StripeCounts, LiesIn, Somewhere};
+ghost use Rattle.recover_addresses.specs.Lies.{Ground, Gathered, StripeCounts, LiesIn, Somewhere};
 ghost use Rattle.recover_addresses.specs.Told.{Near, Known, Tells, HasCand, IsCandAt};
 use disk_rank::Cand;
 use spec::Address;
@@ -26,6 +26,7 @@ fn add_stamp(
     p: Params,
     image: &[u8],
     pointers: &[u8],
+    offline: &[u8],
     compact: &[u8],
     gone: u8,
     full: bool,
@@ -34,12 +35,13 @@ fn add_stamp(
     s: usize,
     t: Stamp,
 ) -> Stamp
-    requires { ⌜ Ground p (now image) (now pointers) gone (now compact) ⌝ }
+    requires { ⌜ Ground p (now offline) (now image) (now pointers) gone (now compact) ⌝ }
     requires { ⌜
         (drive < p .N)
-        × StripeCounts p (viewOf p (now image) (now pointers)) gone (now compact) segment s
-        × (full ≡ sealedIn p (viewOf p (now image) (now pointers)) gone segment) ⌝ }
-    ensures { λ r. ⌜ r .0 ≡ cond (isIn gone drive) (t .0) (bitXor (t .0) (storedRec (segmentOf p (viewOf p (now (image .entry)) (now (pointers .entry))) gone segment) s drive .stamp)) ⌝ }
+        × StripeCounts p (viewOf p (now offline) (now image) (now pointers)) gone (now compact) segment s
+        × (full ≡ sealedIn p (viewOf p (now offline) (now image) (now pointers)) gone segment) ⌝ }
+    ensures { λ r. ⌜ r .0 ≡ cond (isIn gone drive) (t .0) (bitXor (t .0)
+        (storedRec (segmentOf p (viewOf p (now (offline .entry)) (now (image .entry)) (now (pointers .entry))) gone segment) s drive .stamp)) ⌝ }
 {
     if bits_masks::has_drive(gone, drive) {
         return t;
@@ -55,20 +57,35 @@ fn lost_stamp(
     p: Params,
     image: &[u8],
     pointers: &[u8],
+    offline: &[u8],
     compact: &[u8],
     gone: u8,
     full: bool,
     segment: Seg,
     s: usize,
 ) -> Stamp
-    requires { ⌜ Ground p (now image) (now pointers) gone (now compact) ⌝ }
-    requires { ⌜ StripeCounts p (viewOf p (now image) (now pointers)) gone (now compact) segment s × (full ≡ sealedIn p (viewOf p (now image) (now pointers)) gone segment) ⌝ }
-    ensures { λ r. ⌜ r .0 ≡ xorAll (map (λ d. storedRec (segmentOf p (viewOf p (now (image .entry)) (now (pointers .entry))) gone segment) s d .stamp) (present p gone)) ⌝ }
+    requires { ⌜ Ground p (now offline) (now image) (now pointers) gone (now compact) ⌝ }
+    requires { ⌜ StripeCounts p (viewOf p (now offline) (now image) (now pointers)) gone (now compact) segment s ×
+        (full ≡ sealedIn p (viewOf p (now offline) (now image) (now pointers)) gone segment) ⌝ }
+    ensures { λ r. ⌜ r .0 ≡ xorAll (map (λ d. storedRec (segmentOf p (viewOf p (now (offline .entry)) (now (image .entry)) (now (pointers .entry))) gone segment) s d .stamp)
+        (present p gone)) ⌝ }
 {
     let mut t = Stamp(0);
     let mut d = 0;
     while d < p.N {
-        t = add_stamp(p, image, pointers, compact, gone, full, d, segment, s, t);
+        t = add_stamp(
+            p,
+            image,
+            pointers,
+            offline,
+            compact,
+            gone,
+            full,
+            d,
+            segment,
+            s,
+            t,
+        );
         d += 1;
     }
     t
@@ -79,22 +96,33 @@ fn stamp_at(
     p: Params,
     image: &[u8],
     pointers: &[u8],
+    offline: &[u8],
     compact: &[u8],
     gone: u8,
     drive: usize,
     segment: Seg,
     offset: usize,
 ) -> Stamp
-    requires { ⌜ Ground p (now image) (now pointers) gone (now compact) ⌝ }
-    requires { ⌜ Somewhere p (viewOf p (now image) (now pointers)) gone (now compact) drive segment offset ⌝ }
+    requires { ⌜ Ground p (now offline) (now image) (now pointers) gone (now compact) ⌝ }
+    requires { ⌜ Somewhere p (viewOf p (now offline) (now image) (now pointers)) gone (now compact) drive segment offset ⌝ }
     ensures { λ r. ⌜
         ((s : ℕ)
-        → LiesIn p (viewOf p (now (image .entry)) (now (pointers .entry))) gone (now (compact .entry)) drive segment offset s
-        → r .0 ≡ recOf p gone (segmentOf p (viewOf p (now (image .entry)) (now (pointers .entry))) gone segment) s drive .stamp) ⌝ }
+        → LiesIn p (viewOf p (now (offline .entry)) (now (image .entry)) (now (pointers .entry))) gone (now (compact .entry)) drive segment offset s
+        → r .0 ≡ recOf p gone (segmentOf p (viewOf p (now (offline .entry)) (now (image .entry)) (now (pointers .entry))) gone segment) s drive .stamp) ⌝ }
 {
     let full = disk_zones::is_sealed(p, pointers, gone, segment);
     if bits_masks::has_drive(gone, drive) {
-        return lost_stamp(p, image, pointers, compact, gone, full, segment, offset);
+        return lost_stamp(
+            p,
+            image,
+            pointers,
+            offline,
+            compact,
+            gone,
+            full,
+            segment,
+            offset,
+        );
     }
     let zone = disk_shape::zone_on(p, segment, drive);
     let r = disk_stored::record_in(p, image, full, drive, zone, offset);
@@ -106,26 +134,40 @@ fn cand_at(
     p: Params,
     image: &[u8],
     pointers: &[u8],
+    offline: &[u8],
     compact: &[u8],
     gone: u8,
+    rows: &[u32],
     serials: &[u64],
+    owners: &[u16],
     address: Address,
     place: Place,
 ) -> Cand
-    requires { ⌜ Ground p (now image) (now pointers) gone (now compact) ⌝ }
-    requires { ⌜ Serials p (viewOf p (now image) (now pointers)) gone (now serials) ⌝ }
-    requires { ⌜ HasCand p (viewOf p (now image) (now pointers)) gone (now compact) (address .0) (place .0) ⌝ }
-    ensures { λ r. ⌜ IsCandAt p (viewOf p (now (image .entry)) (now (pointers .entry))) gone (now (compact .entry)) (address .0) (place .0) (ranked r) ⌝ }
+    requires { ⌜ Ground p (now offline) (now image) (now pointers) gone (now compact) ⌝ }
+    requires { ⌜ Gathered p (viewOf p (now offline) (now image) (now pointers)) gone (now rows) (now serials) (now owners) ⌝ }
+    requires { ⌜ HasCand p (viewOf p (now offline) (now image) (now pointers)) gone (now compact) (address .0) (place .0) ⌝ }
+    ensures { λ r. ⌜ IsCandAt p (viewOf p (now (offline .entry)) (now (image .entry)) (now (pointers .entry))) gone (now (compact .entry)) (address .0) (place .0) (ranked r) ⌝ }
 {
     let drive = disk_shape::place_drive(p, place);
     let zone = disk_shape::place_zone(p, place);
     let offset = disk_shape::place_block(p, place) - 1;
-    let segment = disk_shape::across(p, zone);
-    let stamp = stamp_at(p, image, pointers, compact, gone, drive, segment, offset);
+    let z = owners[disk_shape::offline_at(p, drive, zone)] as usize;
+    let segment = disk_gather::row(rows, z);
+    let stamp = stamp_at(
+        p,
+        image,
+        pointers,
+        offline,
+        compact,
+        gone,
+        drive,
+        segment,
+        offset,
+    );
     Cand {
         address,
         stamp,
-        serial: Serial(serials[zone]),
+        serial: Serial(serials[z]),
         drive,
         offset,
         place,
@@ -137,17 +179,21 @@ pub fn offer(
     p: Params,
     image: &[u8],
     pointers: &[u8],
+    offline: &[u8],
     addresses: &mut [u8],
     compact: &[u8],
     gone: u8,
+    rows: &[u32],
     serials: &[u64],
+    owners: &[u16],
     c: Cand,
 )
-    requires { ⌜ Ground p (now image) (now pointers) gone (now compact) ⌝ }
-    requires { ⌜ Serials p (viewOf p (now image) (now pointers)) gone (now serials) ⌝ }
-    requires { ⌜ Near p (viewOf p (now image) (now pointers)) gone (now compact) (ranked c) ⌝ }
-    requires { ⌜ Known p (viewOf p (now image) (now pointers)) gone (now compact) (now addresses) ⌝ }
-    ensures { λ _. ⌜ Tells p (viewOf p (now (image .entry)) (now (pointers .entry))) gone (now (compact .entry)) (now (addresses .entry)) (now (addresses .exit)) (ranked c ∷ []) ⌝ }
+    requires { ⌜ Ground p (now offline) (now image) (now pointers) gone (now compact) ⌝ }
+    requires { ⌜ Gathered p (viewOf p (now offline) (now image) (now pointers)) gone (now rows) (now serials) (now owners) ⌝ }
+    requires { ⌜ Near p (viewOf p (now offline) (now image) (now pointers)) gone (now compact) (ranked c) ⌝ }
+    requires { ⌜ Known p (viewOf p (now offline) (now image) (now pointers)) gone (now compact) (now addresses) ⌝ }
+    ensures { λ _. ⌜ Tells p (viewOf p (now (offline .entry)) (now (image .entry)) (now (pointers .entry))) gone (now (compact .entry)) (now (addresses .entry)) (now (addresses .exit))
+        (ranked c ∷ []) ⌝ }
 {
     let address = c.address;
     let better = c.place;
@@ -160,7 +206,19 @@ pub fn offer(
         mem_tables::set_place(addresses, a, better);
         return;
     }
-    let h = cand_at(p, image, pointers, compact, gone, serials, address, place);
+    let h = cand_at(
+        p,
+        image,
+        pointers,
+        offline,
+        compact,
+        gone,
+        rows,
+        serials,
+        owners,
+        address,
+        place,
+    );
     if disk_rank::beats(c, h) {
         mem_tables::set_place(addresses, a, better);
     }

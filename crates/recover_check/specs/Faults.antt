@@ -7,39 +7,40 @@ use native.Mathlib.Nat.{add-zero, zero-add, suc-mul}
 use native.Mathlib.Omega.{arith}
 use lib.Dec.{leb, eqb, lit≤}
 use lib.ListN.{length, getD}
-use Rattle.law_drives.specs.Members.{In, keep-keep}
-use Rattle.law_drives.specs.Segs.{present-in}
-use mathlib.Core.Logic.{inl}
-use Rattle.law_basic.specs.Geometry.{prod-le, ranged}
-use Rattle.law_basic.specs.Ranges.{Test, test, length-below, map-append, map-map, keep-below-same, length-keep, total-append, keep-below-snoc, keep-map}
-use Rattle.law_basic.specs.Ranges.Test.{yes!, no! }
-use Rattle.law_basic.specs.Segs.{across-zone}
-use Rattle.recover_segments.specs.Kept.{segments-keep, unsealed-list}
-use Rattle.recover_segments.specs.Remains.{remainsHere, Keeps}
-use Rattle.recover_survey.specs.declared.Tally.{Tally}
-use Rattle.recover_survey.specs.Tops.{topOf, Surveyed, last-le}
 use Rattle.spec.specs.declared.Params.{Params}
+use Rattle.spec.specs.declared.Seg.{Seg}
 use Rattle.spec.specs.Bytes.{part}
-use Rattle.spec.specs.Drives.{noZone, View, zoneOn, sealedIn, across}
-use Rattle.spec.specs.Faults.{headerFault, serialFault, stripeFault, addressFault, footerFaultIn, footerFault, clashes, segmentFault, segmentFaults}
+use Rattle.spec.specs.Drives.{noZone, View, zoneOn, sealedIn, seg}
+use Rattle.spec.specs.Faults.{headerFault, ownFault, badName, nameClash, serialTwice, serialFault, stripeFault, addressFault, footerFaultIn, footerFault, clashes, segmentFault, segmentFaults}
 use Rattle.spec.specs.Lists.{upFrom, below, any, consIf, keep, total, firstOr}
 use Rattle.spec.specs.Params.{inRange, present}
 use Rattle.spec.specs.Restart.{uncountedIn}
-use Rattle.spec.specs.Segments.{lowDrive, Segment, segmentOf, segments, hasChunk, counts, counted, uncounted, unsealed}
-use Rattle.spec.specs.Write.{opens}
+use Rattle.spec.specs.Segments.{lowDrive, bearing, remaining, Segment, segmentOf, segments, hasChunk, counts, counted, uncounted, unsealed}
+use Rattle.law_basic.specs.Geometry.{prod-le, ranged}
+use Rattle.law_basic.specs.Ranges.{Test, test, length-below, map-append, map-map, length-keep, total-append, keep-below-snoc, keep-map}
+use Rattle.law_basic.specs.Ranges.Test.{yes!, no! }
+use Rattle.law_drives.specs.Members.{In, map-cong, keep-in, keep-keep}
 use Rattle.law_drives.specs.Rebuilding.{counted-low}
+use Rattle.law_drives.specs.Segs.{Here, seg-is, serial-is}
+use Rattle.law_drives.specs.Tables.{segAt, remainsAt, seg-at-zone, at-remaining}
+use Rattle.disk_gather.specs.Flags.{Keeps, Serials, FlagsRows, Repeats}
+use Rattle.disk_gather.specs.Found.{remains-leads, kept-serial}
+use Rattle.recover_segments.specs.Kept.{kept-row, segments-list, unsealedAt, unsealed-list}
+use Rattle.recover_headers.specs.Fronts.{headsFault}
+use Rattle.recover_headers.specs.Names.{NameCounts}
+use Rattle.recover_survey.specs.declared.Tally.{Tally}
+use Rattle.recover_survey.specs.Tops.{topOf, Surveyed, last-le}
 use Rattle.recover_check.specs.declared.Exam.{Exam}
-use Rattle.spec.specs.declared.Seg.{Seg}
 
 -- the sum of a number of each segment
 unfoldable pub summed : (Segment → ℕ) → List Segment → ℕ
 summed f gs = total (map f gs)
 
 -- 01, Refusals, 9: the lowest bad zone, or Z; where none is bad: the uncounted stripes of all segments, and what the unsealed one holds (all 0 if there is none):
--- how many stripes count, the last of them + 1, the uncounted ones. There is a drive: by it zones are named
-pub record Examined (p : Params) (gone : ℕ) (gs : List Segment) (e : Exam) : Type 0 where
-  pub drives : 0 < p .N
-  pub zone-is : e .zone ≡ firstOr (p .Z) (segmentFaults p gone gs)
+-- how many stripes count, the last of them + 1, the uncounted ones. A drive is present: by the lowest zones are named
+pub record Examined (p : Params) (v : View) (gone : ℕ) (gs : List Segment) (e : Exam) : Type 0 where
+  pub here : Here p gone
+  pub zone-is : e .zone ≡ firstOr (p .Z) (segmentFaults p v gone gs)
   pub loose-is : e .zone ≡ p .Z → e .loose ≡ uncountedIn p gone gs
   pub counted-is : e .zone ≡ p .Z → e .counted ≡ summed (λ (g : Segment). length (counted p gone g)) (unsealed gs)
   pub top-is : e .zone ≡ p .Z → e .top ≡ summed (topOf p gone) (unsealed gs)
@@ -49,38 +50,44 @@ pub record Examined (p : Params) (gone : ℕ) (gs : List Segment) (e : Exam) : T
 unfoldable pub raggedBy : Params → Exam → Bool
 raggedBy p e = not (eqb (e .counted) (p .S)) && (not (eqb (e .top) (e .counted)) || not (eqb (e .part) 0))
 
+-- what the arrays say of the drives: the segments that remain, by their zones on the lowest present drive, their serials and zones, which serials a drive bears twice,
+-- and how often the headers name a zone
+pub record Arrays (p : Params) (v : View) (gone : ℕ) (ks : List Bool) (ns rows : List ℕ) (fl : List Bool) (cs : List ℕ) : Type 0 where
+  pub here : Here p gone
+  pub keeps : Keeps p v gone ks
+  pub serials : Serials p v gone ns
+  pub zones : FlagsRows p v gone rows
+  pub repeated-long : p .Z ≤ length fl
+  pub repeated : Repeats p v gone fl
+  pub named : NameCounts p v gone cs
+
 -- ---- the zones with a fault
 
--- 01, Refusals, 9: segment g remains and has a fault
-unfoldable pub faulty : Params → View → ℕ → Seg → Bool
-faulty p v gone g = remainsHere p v gone g && segmentFault p gone (segments p v gone) (segmentOf p v gone g)
+-- 01, Refusals, 9: a segment remains at this zone of the lowest present drive, and it has a fault
+unfoldable pub faulty : Params → View → ℕ → ℕ → Bool
+faulty p v gone z = remainsAt p v gone z && segmentFault p v gone (segments p v gone) (segmentOf p v gone (segAt p v gone z))
 
--- the lowest present drive is one, or the first where none is present
-low-drive-lt : (p : Params) (gone : ℕ) → 0 < p .N → lowDrive p gone < p .N
-unfolding lowDrive
-low-drive-lt p gone h = go (present p gone) (λ d m. present-in p gone d m .0)
-  where
-    go : (l : List ℕ) → ((d : ℕ) → In d l → d < p .N) → firstOr 0 l < p .N
-    go [] q = unfold firstOr in h
-    go (d ∷ l) q = unfold firstOr in q d (inl refl)
-
--- the zones of segments as read, on a drive, are their numbers
-zones-by-number : (p : Params) (v : View) (gone d : ℕ) (l : List ℕ) → d < p .N → map (λ (s : Segment). zoneOn (s .seg) d) (map (λ g. segmentOf p v gone (across p g)) l) ≡ l
-unfolding segmentOf
-zones-by-number p v gone d [] hd = refl
-zones-by-number p v gone d (g ∷ l) hd = ap₂ (λ (x : ℕ) (r : List ℕ). x ∷ r) (across-zone p g d hd) (zones-by-number p v gone d l hd)
-
-pub faults-list : (p : Params) (v : View) (gone : ℕ) → 0 < p .N → segmentFaults p gone (segments p v gone) ≡ keep (λ n. faulty p v gone (across p n)) (below (p .Z))
+pub faults-list : (p : Params) (v : View) (gone : ℕ) → Here p gone → segmentFaults p v gone (segments p v gone) ≡ keep (faulty p v gone) (below (p .Z))
 unfolding segmentFaults faulty
-faults-list p v gone h =
+faults-list p v gone here =
     let gs = segments p v gone in
-    let on : ℕ → Bool = λ n. remainsHere p v gone (across p n) in
-    let bad : ℕ → Bool = λ n. segmentFault p gone gs (segmentOf p v gone (across p n)) in
-    let z : Segment → ℕ = λ s. zoneOn (s .seg) (lowDrive p gone) in
-    ap (λ (l : List Segment). map z (keep (segmentFault p gone gs) l)) (segments-keep p v gone)
-    ∙ ap (map z) (keep-map (segmentFault p gone gs) (λ n. segmentOf p v gone (across p n)) (keep on (below (p .Z))))
-    ∙ zones-by-number p v gone (lowDrive p gone) (keep bad (keep on (below (p .Z)))) (low-drive-lt p gone h)
-    ∙ keep-keep bad on (below (p .Z))
+    let f : ℕ → Segment = λ z. segmentOf p v gone (segAt p v gone z) in
+    let bad : ℕ → Bool = λ z. segmentFault p v gone gs (f z) in
+    let zs = keep bad (keep (remainsAt p v gone) (below (p .Z))) in
+    ap (λ (l : List Segment). map low (keep (segmentFault p v gone gs) l)) (segments-list p v gone)
+    ∙ ap (map low) (keep-map (segmentFault p v gone gs) f (keep (remainsAt p v gone) (below (p .Z))))
+    ∙ map-map low f zs
+    ∙ map-cong (λ z. low (f z)) (λ z. z) zs (λ z m. let (i, q) = keep-in bad (keep (remainsAt p v gone) (below (p .Z))) z m in
+    ap (λ (g : Seg). zoneOn g (lowDrive p gone)) (seg-is p v gone (segAt p v gone z))
+    ∙ seg-at-zone p v gone here z (remains-leads p v gone z (keep-in (remainsAt p v gone) (below (p .Z)) z i .1)))
+    ∙ map-id zs ∙ keep-keep bad (remainsAt p v gone) (below (p .Z))
+  where
+    low : Segment → ℕ
+    low g = zoneOn (g .seg) (lowDrive p gone)
+
+    map-id : (l : List ℕ) → map (λ z. z) l ≡ l
+    map-id [] = refl
+    map-id (z ∷ l) = ap (λ (x : List ℕ). z ∷ x) (map-id l)
 
 -- ---- one segment: header, serials, then footers and clashes; then the records
 
@@ -93,13 +100,15 @@ or-no-more true = refl
 or-no-more false = refl
 
 -- what is looked at before the records
-unfoldable pub frontFault : Params → ℕ → List Segment → Segment → Bool
-frontFault p gone gs g = (headerFault p gone g || serialFault gs g) || (footerFault p gone g || clashes gs g)
+unfoldable pub frontFault : Params → View → ℕ → List Segment → Segment → Bool
+frontFault p v gone gs g = headsFault p v gone gs g || (footerFault p gone g || clashes gs g)
 
-pub fault-order : (p : Params) (gone : ℕ) (gs : List Segment) (g : Segment)
-    → segmentFault p gone gs g ≡ (frontFault p gone gs g || (stripeFault p gone g || addressFault p gone g))
-unfolding segmentFault frontFault
-fault-order p gone gs g = go (headerFault p gone g || serialFault gs g) (stripeFault p gone g) (addressFault p gone g) (footerFault p gone g) (clashes gs g)
+pub fault-order : (p : Params) (v : View) (gone : ℕ) (gs : List Segment) (g : Segment)
+    → segmentFault p v gone gs g ≡ (frontFault p v gone gs g || (stripeFault p gone g || addressFault p gone g))
+unfolding segmentFault frontFault headsFault
+fault-order p v gone gs g =
+    go (headerFault p gone g || ownFault p gone g || badName p v g || nameClash p gs g || serialTwice p v gone g || serialFault g) (stripeFault p gone g) (addressFault p gone g)
+    (footerFault p gone g) (clashes gs g)
   where
     end : (y e f : Bool) → ((y || e) || f) ≡ ((e || f) || y)
     end true e f = or-true (e || f)
@@ -110,21 +119,21 @@ fault-order p gone gs g = go (headerFault p gone g || serialFault gs g) (stripeF
     go false c d e f = end (c || d) e f
 
 -- its four ends
-pub front-bad : (p : Params) (gone : ℕ) (gs : List Segment) (g : Segment) → (headerFault p gone g || serialFault gs g) ≡ true → true ≡ frontFault p gone gs g
+pub front-bad : (p : Params) (v : View) (gone : ℕ) (gs : List Segment) (g : Segment) → headsFault p v gone gs g ≡ true → true ≡ frontFault p v gone gs g
 unfolding frontFault
-front-bad p gone gs g e = sym (ap (λ (b : Bool). b || (footerFault p gone g || clashes gs g)) e)
+front-bad p v gone gs g e = sym (ap (λ (b : Bool). b || (footerFault p gone g || clashes gs g)) e)
 
-module _ (p : Params) (gone : ℕ) (gs : List Segment) (g : Segment) (e : (headerFault p gone g || serialFault gs g) ≡ false) where
-  pub front-full : g .full ≡ true → false ≡ frontFault p gone gs g
+module _ (p : Params) (v : View) (gone : ℕ) (gs : List Segment) (g : Segment) (e : headsFault p v gone gs g ≡ false) where
+  pub front-full : g .full ≡ true → false ≡ frontFault p v gone gs g
   unfolding frontFault footerFault clashes
   front-full q = sym (λ i. e i || ((not (q i) && any (λ d. footerFaultIn p (getD (g .zonesBy) d noZone)) (present p gone)) || (not (q i) && leb 2 (length (unsealed gs)))))
 
-  pub front-many : g .full ≡ false → leb 2 (length (unsealed gs)) ≡ true → true ≡ frontFault p gone gs g
+  pub front-many : g .full ≡ false → leb 2 (length (unsealed gs)) ≡ true → true ≡ frontFault p v gone gs g
   unfolding frontFault clashes
   front-many q m = or-true (footerFault p gone g) ∙ sym (λ i. e i || (footerFault p gone g || (not (q i) && m i)))
 
   pub front-footer : g .full ≡ false → leb 2 (length (unsealed gs)) ≡ false
-      → any (λ d. footerFaultIn p (getD (g .zonesBy) d noZone)) (present p gone) ≡ frontFault p gone gs g
+      → any (λ d. footerFaultIn p (getD (g .zonesBy) d noZone)) (present p gone) ≡ frontFault p v gone gs g
   unfolding frontFault clashes footerFault
   front-footer q m =
       or-no-more (any (λ d. footerFaultIn p (getD (g .zonesBy) d noZone)) (present p gone))
@@ -168,16 +177,12 @@ sum-le f w b n h = sum-from f w b 0 n h
 
 -- ---- what is known once the segments below n are looked at and none is bad
 
--- 01, Restart, 4: segment g remains, by the flags, and is unsealed
-unfoldable pub openBy : Params → View → ℕ → List Bool → ℕ → Bool
-openBy p v gone flags g = getD flags g false && not (sealedIn p v gone (across p g))
-
-pub record ExamSays (p : Params) (v : View) (gone : ℕ) (flags : List Bool) (n : ℕ) (e : Exam) : Type 0 where
+pub record ExamSays (p : Params) (v : View) (gone n : ℕ) (e : Exam) : Type 0 where
   pub zone-is : e .zone ≡ p .Z
-  pub loose-is : e .loose ≡ sumOf (λ g. getD flags g false) (λ g. length (uncounted p gone (segmentOf p v gone (across p g)))) n
-  pub counted-is : e .counted ≡ sumOf (openBy p v gone flags) (λ g. length (counted p gone (segmentOf p v gone (across p g)))) n
-  pub top-is : e .top ≡ sumOf (openBy p v gone flags) (λ g. topOf p gone (segmentOf p v gone (across p g))) n
-  pub part-is : e .part ≡ sumOf (openBy p v gone flags) (λ g. length (uncounted p gone (segmentOf p v gone (across p g)))) n
+  pub loose-is : e .loose ≡ sumOf (remainsAt p v gone) (λ g. length (uncounted p gone (segmentOf p v gone (segAt p v gone g)))) n
+  pub counted-is : e .counted ≡ sumOf (unsealedAt p v gone) (λ g. length (counted p gone (segmentOf p v gone (segAt p v gone g)))) n
+  pub top-is : e .top ≡ sumOf (unsealedAt p v gone) (λ g. topOf p gone (segmentOf p v gone (segAt p v gone g))) n
+  pub part-is : e .part ≡ sumOf (unsealedAt p v gone) (λ g. length (uncounted p gone (segmentOf p v gone (segAt p v gone g)))) n
 
 kept-most : (f : ℕ → Bool) (n : ℕ) → length (keep f (below n)) ≤ n
 kept-most f n = omega (arith, length-keep f (below n), length-below n)
@@ -191,114 +196,111 @@ module _ (p : Params) (gone : ℕ) (g : Segment) where
   unfolding topOf counted below
   top-most = subst (λ (x : ℕ). topOf p gone g ≤ x) (zero-add (p .S)) (last-le (counts p gone g) 0 (p .S))
 
-module _ (p : Params) (v : View) (gone : ℕ) (flags : List Bool) where
-  pub seen-none : ExamSays p v gone flags 0 (record { zone = p .Z; loose = 0; counted = 0; top = 0; part = 0 })
+module _ (p : Params) (v : View) (gone : ℕ) where
+  pub seen-none : ExamSays p v gone 0 (record { zone = p .Z; loose = 0; counted = 0; top = 0; part = 0 })
   seen-none = record {
     zone-is = refl;
-    loose-is = sym (sum-none (λ g. getD flags g false) (λ g. length (uncounted p gone (segmentOf p v gone (across p g)))));
-    counted-is = sym (sum-none (openBy p v gone flags) (λ g. length (counted p gone (segmentOf p v gone (across p g)))));
-    top-is = sym (sum-none (openBy p v gone flags) (λ g. topOf p gone (segmentOf p v gone (across p g))));
-    part-is = sym (sum-none (openBy p v gone flags) (λ g. length (uncounted p gone (segmentOf p v gone (across p g)))));
+    loose-is = sym (sum-none (remainsAt p v gone) (λ g. length (uncounted p gone (segmentOf p v gone (segAt p v gone g)))));
+    counted-is = sym (sum-none (unsealedAt p v gone) (λ g. length (counted p gone (segmentOf p v gone (segAt p v gone g)))));
+    top-is = sym (sum-none (unsealedAt p v gone) (λ g. topOf p gone (segmentOf p v gone (segAt p v gone g))));
+    part-is = sym (sum-none (unsealedAt p v gone) (λ g. length (uncounted p gone (segmentOf p v gone (segAt p v gone g)))));
   }
 
-  module _ (n : ℕ) (e : Exam) (s : ExamSays p v gone flags n e) where
+  module _ (n : ℕ) (e : Exam) (s : ExamSays p v gone n e) where
     -- the sums fit
     pub seen-fits : (e .loose ≤ n * p .S) × (e .counted ≤ n * p .S) × (e .top ≤ n * p .S) × (e .part ≤ n * p .S)
     seen-fits = (
       omega (
         arith,
         s .loose-is,
-        sum-le (λ g. getD flags g false) (λ g. length (uncounted p gone (segmentOf p v gone (across p g)))) (p .S) n (λ g. uncounted-most p gone (segmentOf p v gone (across p g))),
+        sum-le (remainsAt p v gone) (λ g. length (uncounted p gone (segmentOf p v gone (segAt p v gone g)))) (p .S) n (λ g. uncounted-most p gone (segmentOf p v gone (segAt p v gone g))),
       ),
       omega (
         arith,
         s .counted-is,
-        sum-le (openBy p v gone flags) (λ g. length (counted p gone (segmentOf p v gone (across p g)))) (p .S) n (λ g. counted-low p gone (segmentOf p v gone (across p g))),
+        sum-le (unsealedAt p v gone) (λ g. length (counted p gone (segmentOf p v gone (segAt p v gone g)))) (p .S) n (λ g. counted-low p gone (segmentOf p v gone (segAt p v gone g))),
       ),
       omega (
         arith,
         s .top-is,
-        sum-le (openBy p v gone flags) (λ g. topOf p gone (segmentOf p v gone (across p g))) (p .S) n (λ g. top-most p gone (segmentOf p v gone (across p g))),
+        sum-le (unsealedAt p v gone) (λ g. topOf p gone (segmentOf p v gone (segAt p v gone g))) (p .S) n (λ g. top-most p gone (segmentOf p v gone (segAt p v gone g))),
       ),
       omega (
         arith,
         s .part-is,
-        sum-le (openBy p v gone flags) (λ g. length (uncounted p gone (segmentOf p v gone (across p g)))) (p .S) n (λ g. uncounted-most p gone (segmentOf p v gone (across p g))),
+        sum-le (unsealedAt p v gone) (λ g. length (uncounted p gone (segmentOf p v gone (segAt p v gone g)))) (p .S) n (λ g. uncounted-most p gone (segmentOf p v gone (segAt p v gone g))),
       ),
     )
 
     -- a segment that doesn't remain
-    pub seen-gone : getD flags n false ≡ false → ExamSays p v gone flags (n + 1) e
-    unfolding openBy
+    pub seen-gone : remainsAt p v gone n ≡ false → ExamSays p v gone (n + 1) e
+    unfolding unsealedAt
     seen-gone h =
-        let k : (getD flags n false && not (sealedIn p v gone (across p n))) ≡ false = ap (λ (b : Bool). b && not (sealedIn p v gone (across p n))) h in
+        let k : (remainsAt p v gone n && not (sealedIn p v gone (segAt p v gone n))) ≡ false = ap (λ (b : Bool). b && not (sealedIn p v gone (segAt p v gone n))) h in
         record {
           zone-is = s .zone-is;
-          loose-is = s .loose-is ∙ sum-miss (λ g. getD flags g false) (λ g. length (uncounted p gone (segmentOf p v gone (across p g)))) n h;
-          counted-is = s .counted-is ∙ sum-miss (openBy p v gone flags) (λ g. length (counted p gone (segmentOf p v gone (across p g)))) n k;
-          top-is = s .top-is ∙ sum-miss (openBy p v gone flags) (λ g. topOf p gone (segmentOf p v gone (across p g))) n k;
-          part-is = s .part-is ∙ sum-miss (openBy p v gone flags) (λ g. length (uncounted p gone (segmentOf p v gone (across p g)))) n k;
+          loose-is = s .loose-is ∙ sum-miss (remainsAt p v gone) (λ g. length (uncounted p gone (segmentOf p v gone (segAt p v gone g)))) n h;
+          counted-is = s .counted-is ∙ sum-miss (unsealedAt p v gone) (λ g. length (counted p gone (segmentOf p v gone (segAt p v gone g)))) n k;
+          top-is = s .top-is ∙ sum-miss (unsealedAt p v gone) (λ g. topOf p gone (segmentOf p v gone (segAt p v gone g))) n k;
+          part-is = s .part-is ∙ sum-miss (unsealedAt p v gone) (λ g. length (uncounted p gone (segmentOf p v gone (segAt p v gone g)))) n k;
         }
 
-    module _ (t : Tally) (u : Surveyed p gone (segmentOf p v gone (across p n)) t) (good : t .bad ≡ false) (h : getD flags n false ≡ true) where
-      more-loose : e .loose + t .loose ≡ sumOf (λ g. getD flags g false) (λ g. length (uncounted p gone (segmentOf p v gone (across p g)))) (n + 1)
-      more-loose = ap₂ (λ (x y : ℕ). x + y) (s .loose-is) (u .loose-is good) ∙ sum-hit (λ g. getD flags g false) (λ g. length (uncounted p gone (segmentOf p v gone (across p g)))) n h
+    module _ (t : Tally) (u : Surveyed p gone (segmentOf p v gone (segAt p v gone n)) t) (good : t .bad ≡ false) (h : remainsAt p v gone n ≡ true) where
+      more-loose : e .loose + t .loose ≡ sumOf (remainsAt p v gone) (λ g. length (uncounted p gone (segmentOf p v gone (segAt p v gone g)))) (n + 1)
+      more-loose = ap₂ (λ (x y : ℕ). x + y) (s .loose-is) (u .loose-is good) ∙ sum-hit (remainsAt p v gone) (λ g. length (uncounted p gone (segmentOf p v gone (segAt p v gone g)))) n h
 
       -- one that is sealed
-      pub seen-full : sealedIn p v gone (across p n) ≡ true → ExamSays p v gone flags (n + 1)
+      pub seen-full : sealedIn p v gone (segAt p v gone n) ≡ true → ExamSays p v gone (n + 1)
           (record { zone = e .zone; loose = e .loose + t .loose; counted = e .counted; top = e .top; part = e .part })
-      unfolding openBy
+      unfolding unsealedAt
       seen-full q =
-          let k : (getD flags n false && not (sealedIn p v gone (across p n))) ≡ false = λ i. h i && not (q i) in
+          let k : (remainsAt p v gone n && not (sealedIn p v gone (segAt p v gone n))) ≡ false = λ i. h i && not (q i) in
           record {
             zone-is = s .zone-is;
             loose-is = more-loose;
-            counted-is = s .counted-is ∙ sum-miss (openBy p v gone flags) (λ g. length (counted p gone (segmentOf p v gone (across p g)))) n k;
-            top-is = s .top-is ∙ sum-miss (openBy p v gone flags) (λ g. topOf p gone (segmentOf p v gone (across p g))) n k;
-            part-is = s .part-is ∙ sum-miss (openBy p v gone flags) (λ g. length (uncounted p gone (segmentOf p v gone (across p g)))) n k;
+            counted-is = s .counted-is ∙ sum-miss (unsealedAt p v gone) (λ g. length (counted p gone (segmentOf p v gone (segAt p v gone g)))) n k;
+            top-is = s .top-is ∙ sum-miss (unsealedAt p v gone) (λ g. topOf p gone (segmentOf p v gone (segAt p v gone g))) n k;
+            part-is = s .part-is ∙ sum-miss (unsealedAt p v gone) (λ g. length (uncounted p gone (segmentOf p v gone (segAt p v gone g)))) n k;
           }
 
       -- one that is unsealed
-      pub seen-open : sealedIn p v gone (across p n) ≡ false
-          → ExamSays p v gone flags (n + 1) (record { zone = e .zone; loose = e .loose + t .loose; counted = e .counted + t .counted; top = e .top + t .top; part = e .part + t .loose })
-      unfolding openBy
+      pub seen-open : sealedIn p v gone (segAt p v gone n) ≡ false
+          → ExamSays p v gone (n + 1) (record { zone = e .zone; loose = e .loose + t .loose; counted = e .counted + t .counted; top = e .top + t .top; part = e .part + t .loose })
+      unfolding unsealedAt
       seen-open q =
-          let k : (getD flags n false && not (sealedIn p v gone (across p n))) ≡ true = λ i. h i && not (q i) in
+          let k : (remainsAt p v gone n && not (sealedIn p v gone (segAt p v gone n))) ≡ true = λ i. h i && not (q i) in
           record {
             zone-is = s .zone-is;
             loose-is = more-loose;
-            counted-is = ap₂ (λ (x y : ℕ). x + y) (s .counted-is) (u .counted-is good) ∙ sum-hit (openBy p v gone flags) (λ g. length (counted p gone (segmentOf p v gone (across p g)))) n k;
-            top-is = ap₂ (λ (x y : ℕ). x + y) (s .top-is) (u .top-is good) ∙ sum-hit (openBy p v gone flags) (λ g. topOf p gone (segmentOf p v gone (across p g))) n k;
-            part-is = ap₂ (λ (x y : ℕ). x + y) (s .part-is) (u .loose-is good) ∙ sum-hit (openBy p v gone flags) (λ g. length (uncounted p gone (segmentOf p v gone (across p g)))) n k;
+            counted-is = ap₂ (λ (x y : ℕ). x + y) (s .counted-is) (u .counted-is good)
+                ∙ sum-hit (unsealedAt p v gone) (λ g. length (counted p gone (segmentOf p v gone (segAt p v gone g)))) n k;
+            top-is = ap₂ (λ (x y : ℕ). x + y) (s .top-is) (u .top-is good) ∙ sum-hit (unsealedAt p v gone) (λ g. topOf p gone (segmentOf p v gone (segAt p v gone g))) n k;
+            part-is = ap₂ (λ (x y : ℕ). x + y) (s .part-is) (u .loose-is good) ∙ sum-hit (unsealedAt p v gone) (λ g. length (uncounted p gone (segmentOf p v gone (segAt p v gone g)))) n k;
           }
 
   -- all of them
-  pub seen-all : (e : Exam) → 0 < p .N → Keeps p v gone flags → ExamSays p v gone flags (p .Z) e → e .zone ≡ firstOr (p .Z) (segmentFaults p gone (segments p v gone))
-      → Examined p gone (segments p v gone) e
-  unfolding summed uncountedIn sumOf openBy
-  seen-all e n k s z =
-      let opens : (w : Segment → ℕ)
-      → total (map (λ g. w (segmentOf p v gone (across p g))) (keep (λ g. getD flags g false && not (sealedIn p v gone (across p g))) (below (p .Z)))) ≡ total
-      (map w (unsealed (segments p v gone))) =
-      λ w. sym (ap (λ (l : List Segment). total (map w l)) (unsealed-list p v gone flags k)
-      ∙ ap total (map-map w (λ g. segmentOf p v gone (across p g)) (keep (λ g. getD flags g false && not (sealedIn p v gone (across p g))) (below (p .Z))))) in
+  pub seen-all : (e : Exam) → Here p gone → ExamSays p v gone (p .Z) e → e .zone ≡ firstOr (p .Z) (segmentFaults p v gone (segments p v gone))
+      → Examined p v gone (segments p v gone) e
+  unfolding summed uncountedIn sumOf
+  seen-all e here s z =
+      let f : ℕ → Segment = λ g. segmentOf p v gone (segAt p v gone g) in
+      let opens : (w : Segment → ℕ) → total (map (λ g. w (f g)) (keep (unsealedAt p v gone) (below (p .Z)))) ≡ total (map w (unsealed (segments p v gone))) =
+      λ w. sym (ap (λ (l : List Segment). total (map w l)) (unsealed-list p v gone) ∙ ap total (map-map w f (keep (unsealedAt p v gone) (below (p .Z))))) in
       record {
-        drives = n;
+        here = here;
         zone-is = z;
         loose-is = λ _. s .loose-is
-            ∙ ap (λ (l : List ℕ). total (map (λ g. length (uncounted p gone (segmentOf p v gone (across p g)))) l))
-            (keep-below-same (λ g. getD flags g false) (λ g. remainsHere p v gone (across p g)) (p .Z) (k .1))
-            ∙ sym (ap (λ (l : List Segment). total (map (λ (g : Segment). length (uncounted p gone g)) l)) (segments-keep p v gone)
-            ∙ ap total (map-map (λ (g : Segment). length (uncounted p gone g)) (λ g. segmentOf p v gone (across p g)) (keep (λ g. remainsHere p v gone (across p g)) (below (p .Z)))));
+            ∙ sym (ap (λ (l : List Segment). total (map (λ (g : Segment). length (uncounted p gone g)) l)) (segments-list p v gone)
+            ∙ ap total (map-map (λ (g : Segment). length (uncounted p gone g)) f (keep (remainsAt p v gone) (below (p .Z)))));
         counted-is = λ _. s .counted-is ∙ opens (λ (g : Segment). length (counted p gone g));
         top-is = λ _. s .top-is ∙ opens (topOf p gone);
         part-is = λ _. s .part-is ∙ opens (λ (g : Segment). length (uncounted p gone g));
       }
 
   -- a bad one
-  pub seen-bad : (e : Exam) → 0 < p .N → e .zone < p .Z → e .zone ≡ firstOr (p .Z) (segmentFaults p gone (segments p v gone)) → Examined p gone (segments p v gone) e
-  seen-bad e n h z = record {
-    drives = n;
+  pub seen-bad : (e : Exam) → Here p gone → e .zone < p .Z → e .zone ≡ firstOr (p .Z) (segmentFaults p v gone (segments p v gone)) → Examined p v gone (segments p v gone) e
+  seen-bad e here h z = record {
+    here = here;
     zone-is = z;
     loose-is = λ q. absurd (let r : ⊥ = omega arith in r);
     counted-is = λ q. absurd (let r : ⊥ = omega arith in r);
@@ -322,38 +324,62 @@ added-open b e t q = ap (λ (x : Bool). added x e t) q
 
 -- ---- one segment
 
-module _ (p : Params) (v : View) (gone : ℕ) (flags : List Bool) (n : ℕ) (e : Exam) (s : ExamSays p v gone flags n e) where
-  pub seen-added : (b : Bool) (t : Tally) → Surveyed p gone (segmentOf p v gone (across p n)) t → t .bad ≡ false → getD flags n false ≡ true → b ≡ sealedIn p v gone (across p n)
-      → ExamSays p v gone flags (n + 1) (added b e t)
+module _ (p : Params) (v : View) (gone n : ℕ) (e : Exam) (s : ExamSays p v gone n e) where
+  pub seen-added : (b : Bool) (t : Tally) → Surveyed p gone (segmentOf p v gone (segAt p v gone n)) t → t .bad ≡ false → remainsAt p v gone n ≡ true
+      → b ≡ sealedIn p v gone (segAt p v gone n)
+      → ExamSays p v gone (n + 1) (added b e t)
   unfolding added
-  seen-added true t u good h q = seen-full p v gone flags n e s t u good h (sym q)
-  seen-added false t u good h q = seen-open p v gone flags n e s t u good h (sym q)
+  seen-added true t u good h q = seen-full p v gone n e s t u good h (sym q)
+  seen-added false t u good h q = seen-open p v gone n e s t u good h (sym q)
 
 -- faulty, of a segment that remains: in front, or by its records
-pub faulty-kept : (p : Params) (v : View) (gone : ℕ) (g : Seg) → remainsHere p v gone g ≡ true
-    → faulty p v gone g ≡ (frontFault p gone (segments p v gone) (segmentOf p v gone g) || (stripeFault p gone (segmentOf p v gone g) || addressFault p gone (segmentOf p v gone g)))
+pub faulty-kept : (p : Params) (v : View) (gone z : ℕ) (g : Seg) → remainsAt p v gone z ≡ true → g ≡ segAt p v gone z
+    → faulty p v gone z ≡ (frontFault p v gone (segments p v gone) (segmentOf p v gone g) || (stripeFault p gone (segmentOf p v gone g) || addressFault p gone (segmentOf p v gone g)))
 unfolding faulty
-faulty-kept p v gone g e = ap (λ (b : Bool). b && segmentFault p gone (segments p v gone) (segmentOf p v gone g)) e ∙ fault-order p gone (segments p v gone) (segmentOf p v gone g)
+faulty-kept p v gone z g e i =
+    ap₂ (λ (b : Bool) (x : Seg). b && segmentFault p v gone (segments p v gone) (segmentOf p v gone x)) e (sym i) ∙ fault-order p v gone (segments p v gone) (segmentOf p v gone g)
 
-pub faulty-gone : (p : Params) (v : View) (gone : ℕ) (g : Seg) → remainsHere p v gone g ≡ false → faulty p v gone g ≡ false
+pub faulty-gone : (p : Params) (v : View) (gone z : ℕ) → remainsAt p v gone z ≡ false → faulty p v gone z ≡ false
 unfolding faulty
-faulty-gone p v gone g e = ap (λ (b : Bool). b && segmentFault p gone (segments p v gone) (segmentOf p v gone g)) e
+faulty-gone p v gone z e = ap (λ (b : Bool). b && segmentFault p v gone (segments p v gone) (segmentOf p v gone (segAt p v gone z))) e
+
+-- what the arrays say of a segment that remains
+module _ (p : Params) (v : View) (gone : ℕ) (ks : List Bool) (ns rows : List ℕ) (fl : List Bool) (cs : List ℕ) (a : Arrays p v gone ks ns rows fl cs) (z : ℕ) (hz : z < p .Z)
+    (k : getD ks z false ≡ true) where
+  pub flag-remains : remainsAt p v gone z ≡ true
+  flag-remains = sym (a .keeps .1 z hz) ∙ k
+
+  module _ (g : Seg) (e : g ≡ seg (part (8 * z) 8 rows)) where
+    pub row-is-seg : g ≡ segAt p v gone z
+    row-is-seg = e ∙ kept-row p v gone rows ks (a .zones) (a .keeps) z hz flag-remains
+
+    pub row-there : In g (remaining p v gone)
+    row-there = subst (λ (x : Seg). In x (remaining p v gone)) (sym row-is-seg) (at-remaining p v gone (a .here) z hz flag-remains)
+
+    pub flag-serial : getD ns z 0 ≡ segmentOf p v gone g .serial
+    flag-serial = kept-serial p v gone (a .here) ns z (a .serials) hz (remains-leads p v gone z flag-remains)
+        ∙ sym (serial-is p v gone (segAt p v gone z)) ∙ ap (λ (x : Seg). segmentOf p v gone x .serial) (sym row-is-seg)
+
+    pub flag-repeat : getD fl z false ≡ serialTwice p v gone (segmentOf p v gone g)
+    unfolding serialTwice
+    flag-repeat = a .repeated z hz
+        ∙ ap (λ (r : ℕ). any (λ d. leb 2 (length (bearing p v d r))) (present p gone)) (sym (a .serials .1 z hz) ∙ flag-serial)
 
 -- ---- the loop's two ways on
 
-module _ (p : Params) (v : View) (gone : ℕ) (flags : List Bool) (n : ℕ) (r : Exam) (bad : faulty p v gone (across p n) ≡ true → r .zone ≡ n)
-    (good : faulty p v gone (across p n) ≡ false → ExamSays p v gone flags (n + 1) r) where
-  pub stops : r .zone < p .Z → (faulty p v gone (across p n) ≡ true) × (r .zone ≡ n)
-  stops h = go (test (faulty p v gone (across p n)))
+module _ (p : Params) (v : View) (gone n : ℕ) (r : Exam) (bad : faulty p v gone n ≡ true → r .zone ≡ n)
+    (good : faulty p v gone n ≡ false → ExamSays p v gone (n + 1) r) where
+  pub stops : r .zone < p .Z → (faulty p v gone n ≡ true) × (r .zone ≡ n)
+  stops h = go (test (faulty p v gone n))
     where
-      go : Test (faulty p v gone (across p n)) → (faulty p v gone (across p n) ≡ true) × (r .zone ≡ n)
+      go : Test (faulty p v gone n) → (faulty p v gone n ≡ true) × (r .zone ≡ n)
       go (yes! e) = (e, bad e)
       go (no! e) = absurd (let z : r .zone ≡ p .Z = good e .zone-is in let q : ⊥ = omega (arith, z, h) in q)
 
-  pub goes : n < p .Z → p .Z ≤ r .zone → (faulty p v gone (across p n) ≡ false) × ExamSays p v gone flags (n + 1) r
-  goes k h = go (test (faulty p v gone (across p n)))
+  pub goes : n < p .Z → p .Z ≤ r .zone → (faulty p v gone n ≡ false) × ExamSays p v gone (n + 1) r
+  goes k h = go (test (faulty p v gone n))
     where
-      go : Test (faulty p v gone (across p n)) → (faulty p v gone (across p n) ≡ false) × ExamSays p v gone flags (n + 1) r
+      go : Test (faulty p v gone n) → (faulty p v gone n ≡ false) × ExamSays p v gone (n + 1) r
       go (yes! e) = absurd (let z : r .zone ≡ n = bad e in let q : ⊥ = omega (arith, z, h, k) in q)
       go (no! e) = (e, good e)
 

@@ -1,13 +1,13 @@
 -- The rows of a segment in the compact table (01, What a zone holds). Assumes nothing.
 use mathlib.Core.Path.{_≡_, refl, sym, ap, ap₂, _∙_}
-use mathlib.Core.List.{List, [], _++_, map}
+use mathlib.Core.List.{List, _++_, map}
 use mathlib.Core.Bool.{Bool, true, false, cond}
 use mathlib.Core.Logic.{_⊎_, inl, inr}
 use Prim.Native.Nat.{ℕ, _+_, _-_, _*_, _/_, _%_, _≤_, _<_}
-use native.Mathlib.Nat.{add-zero, sub-zero, div-add-mod', zero-mod, mod-eq-of-lt, mul-add-mod-self-right}
+use native.Mathlib.Nat.{add-zero, div-add-mod', zero-mod, mod-eq-of-lt, mul-add-mod-self-right}
 use native.Mathlib.Decide.{decLt, ℕ-discrete}
 use native.Mathlib.Omega.{arith}
-use lib.Arith.{digits-div, digits-mod}
+use lib.Arith.{lt-of-le-ne}
 use lib.ListN.{length, getD, set, replicate, length-replicate, length-map}
 use Rattle.spec.specs.declared.Params.{Params}
 use Rattle.spec.specs.Bytes.{splice}
@@ -18,87 +18,53 @@ use Rattle.spec.specs.Memory.{compactAt}
 use Rattle.spec.specs.Params.{compactLen}
 use Rattle.spec.specs.Segments.{recordsIn, segmentOf, recsOn, compactRow}
 use Rattle.law_basic.specs.Geometry.{item-fits, row-fits}
-use Rattle.law_basic.specs.Ranges.{below-none, length-below, map-below-snoc, map-map}
+use Rattle.law_basic.specs.Ranges.{Test, test, below-none, length-below, map-below-snoc, map-map}
 use Rattle.law_basic.specs.Splice.{splice-nil, wrote-one, splice-next, getD-splice-below, getD-splice-in, getD-splice-past}
-use Rattle.law_basic.specs.Segs.{Named, zone-on-lt}
-use Rattle.law_drives.specs.Segs.{recs-here, recs-gone}
-use Rattle.law_drives.specs.Tables.{remains, rowAt, row-seg, compact-row-long}
-use Rattle.law_drives.specs.Tests.{cond-true, cond-false}
+use Rattle.law_basic.specs.Ranges.Test.{yes!, no! }
+use Rattle.law_basic.specs.Segs.{ZonesLow, low-zone}
+use Rattle.law_views.specs.Pointers.{index-drive, index-zone}
+use Rattle.law_drives.specs.Segs.{recs-here}
+use Rattle.law_drives.specs.Tables.{row-long, length-recs}
+use Rattle.law_drives.specs.Tests.{clash, cond-true, cond-false}
 use Rattle.spec.specs.declared.Seg.{Seg}
 
 -- 01, What a zone holds: the entry of a data offset
 unfoldable pub entrySaid : Params → Bool → Zone → ℕ → ℕ
 entrySaid p w q o = compactEntry p (recordIn p w q o .stripe)
 
--- 01, What a zone holds: the row of a segment's zone; w: the segment remains
-unfoldable pub rowBytes : Params → View → ℕ → Bool → ℕ → Seg → List ℕ
-rowBytes p v gone w d g = compactRow p (cond w (recsOn (segmentOf p v gone g) d) [])
-
--- the row of a zone as the drives say it
-unfoldable pub rowSaid : Params → View → ℕ → ℕ → ℕ → List ℕ
-rowSaid p v gone d z = compactRow p (rowAt p v gone d z)
-
-pub row-said : (p : Params) (v : View) (gone d : ℕ) (g : Seg) (w : Bool) → d < p .N → Named p g → w ≡ remains p v gone g → rowBytes p v gone w d g ≡ rowSaid p v gone d (zoneOn g d)
-unfolding rowBytes rowSaid
-row-said p v gone d g w k h e = ap (λ (b : Bool). compactRow p (cond b (recsOn (segmentOf p v gone g) d) [])) e ∙ ap (compactRow p) (sym (row-seg p v gone d g k h))
-
 -- ---- a row
 
-pub no-row : (p : Params) (rs : List Rec) → rs ≡ [] → compactRow p rs ≡ replicate (p .S) 0
-unfolding compactRow padTo
-no-row p rs e = ap (compactRow p) e ∙ ap (λ (n : ℕ). replicate n 0) (sub-zero (p .S))
-
-pub row-dropped : (p : Params) (v : View) (gone d : ℕ) (g : Seg) (w : Bool) → w ≡ false → rowBytes p v gone w d g ≡ replicate (p .S) 0
-unfolding rowBytes
-row-dropped p v gone d g w e = no-row p (cond w (recsOn (segmentOf p v gone g) d) []) (cond-false w (recsOn (segmentOf p v gone g) d) [] e)
-
-pub row-missing : (p : Params) (v : View) (gone d : ℕ) (g : Seg) (w : Bool) → d < p .N → w ≡ true → isIn gone d ≡ true → rowBytes p v gone w d g ≡ replicate (p .S) 0
-unfolding rowBytes
-row-missing p v gone d g w h e i =
-    no-row p (cond w (recsOn (segmentOf p v gone g) d) []) (cond-true w (recsOn (segmentOf p v gone g) d) [] e ∙ recs-gone p v gone g d h i)
-
-pub row-stored : (p : Params) (v : View) (gone d : ℕ) (g : Seg) (w : Bool) → d < p .N → w ≡ true → isIn gone d ≡ false
-    → rowBytes p v gone w d g
-    ≡ map (entrySaid p (sealedIn p v gone g) (zoneAt v d (zoneOn g d))) (below (dataStored p (zoneAt v d (zoneOn g d)))) ++ replicate (p .S - dataStored p (zoneAt v d (zoneOn g d))) 0
-unfolding rowBytes compactRow padTo entrySaid recordsIn
-row-stored p v gone d g w h e i =
-    let k = sealedIn p v gone g in
-    let q = zoneAt v d (zoneOn g d) in
+-- the entries of the stored chunks, then zeros
+pub row-stored : (p : Params) (w : Bool) (q : Zone) → compactRow p (recordsIn p w q) ≡ map (entrySaid p w q) (below (dataStored p q)) ++ replicate (p .S - dataStored p q) 0
+unfolding compactRow padTo entrySaid recordsIn
+row-stored p w q =
     let f : Rec → ℕ = λ (r : Rec). compactEntry p (r .stripe) in
-    let l : length (map f (map (recordIn p k q) (below (dataStored p q)))) ≡ dataStored p q =
-    length-map (map (recordIn p k q) (below (dataStored p q))) f ∙ length-map (below (dataStored p q)) (recordIn p k q) ∙ length-below (dataStored p q) in
-    ap (compactRow p) (cond-true w (recsOn (segmentOf p v gone g) d) [] e ∙ recs-here p v gone g d h i)
-    ∙ ap₂ (λ (x : List ℕ) (n : ℕ). x ++ replicate (p .S - n) 0) (map-map f (recordIn p k q) (below (dataStored p q))) l
-
-pub length-row : (p : Params) (v : View) (gone d z : ℕ) → d < p .N → z < p .Z → length (rowSaid p v gone d z) ≡ p .S
-unfolding rowSaid
-length-row p v gone d z hd hz = compact-row-long p v gone d z hd hz
+    let l : length (map f (map (recordIn p w q) (below (dataStored p q)))) ≡ dataStored p q =
+    length-map (map (recordIn p w q) (below (dataStored p q))) f ∙ length-map (below (dataStored p q)) (recordIn p w q) ∙ length-below (dataStored p q) in
+    ap₂ (λ (x : List ℕ) (n : ℕ). x ++ replicate (p .S - n) 0) (map-map f (recordIn p w q) (below (dataStored p q))) l
 
 -- ---- the rows of a segment
 
--- they are as the drives say them
+-- on the present drives they are as its records say
 abbrev pub SegmentShown : Params → View → ℕ → Seg → List ℕ → Type 0
-SegmentShown p v gone g l = (d o : ℕ) → d < p .N → o < p .S → getD l (compactAt p d (zoneOn g d) o) 0 ≡ getD (compactRow p (rowAt p v gone d (zoneOn g d))) o 0
+SegmentShown p v gone g l = (d o : ℕ) → d < p .N → isIn gone d ≡ false → o < p .S
+    → getD l (compactAt p d (zoneOn g d) o) 0 ≡ getD (compactRow p (recsOn (segmentOf p v gone g) d)) o 0
 
 -- nothing else changes
-abbrev pub Else : Params → Seg → List ℕ → List ℕ → Type 0
-Else p g l l′ = (d z o : ℕ) → d < p .N → z < p .Z → o < p .S → (z ≡ zoneOn g d → ⊥) → getD l′ (compactAt p d z o) 0 ≡ getD l (compactAt p d z o) 0
+abbrev pub Else : Params → ℕ → Seg → List ℕ → List ℕ → Type 0
+Else p gone g l l′ = (d z o : ℕ) → d < p .N → z < p .Z → o < p .S → (isIn gone d ≡ false → z ≡ zoneOn g d → ⊥)
+    → getD l′ (compactAt p d z o) 0 ≡ getD l (compactAt p d z o) 0
 
 -- those of the drives below n are said, and nothing else changes
 pub record RowsSaid (p : Params) (v : View) (gone : ℕ) (g : Seg) (n : ℕ) (l l′ : List ℕ) : Type 0 where
-  pub same-long : length l′ ≡ length l
-  pub said : (d o : ℕ) → d < n → d < p .N → o < p .S → getD l′ (compactAt p d (zoneOn g d) o) 0 ≡ getD (compactRow p (rowAt p v gone d (zoneOn g d))) o 0
-  pub others : Else p g l l′
+  pub said : (d o : ℕ) → d < n → d < p .N → isIn gone d ≡ false → o < p .S → getD l′ (compactAt p d (zoneOn g d) o) 0 ≡ getD (compactRow p (recsOn (segmentOf p v gone g) d)) o 0
+  pub others : Else p gone g l l′
 
 pub rows-start : (p : Params) (v : View) (gone : ℕ) (g : Seg) (l : List ℕ) → RowsSaid p v gone g 0 l l
 rows-start p v gone g l = record {
-  same-long = refl;
   said = λ d o h. absurd (let bad : ⊥ = omega arith in bad);
   others = λ d z o hd hz ho n. refl;
 }
-
-pub rows-shown : (p : Params) (v : View) (gone : ℕ) (g : Seg) (n : ℕ) (l l′ : List ℕ) → p .N ≤ n → RowsSaid p v gone g n l l′ → SegmentShown p v gone g l′ × Else p g l l′
-rows-shown p v gone g n l l′ h r = ((λ d o hd ho. r .said d o (omega arith) hd ho), r .others)
 
 -- a place in another row lies below or behind a row
 row-apart : (s x y o : ℕ) → o < s → (x ≡ y → ⊥) → (x * s + o < y * s) ⊎ (y * s + s ≤ x * s + o)
@@ -136,32 +102,57 @@ module _ (p : Params) (l l′ : List ℕ) (d z : ℕ) (t : List ℕ) (hd : d < p
       go (inr a) = getD-splice-past l (compactAt p d z 0) t fits (compactAt p x y o) a
 
 -- one drive more
-pub rows-turn : (p : Params) (v : View) (gone : ℕ) (g : Seg) (d : ℕ) (l l′ l″ : List ℕ) → d < p .N → Named p g → length l ≡ compactLen p → RowsSaid p v gone g d l l′
-    → l″ ≡ splice l′ (compactAt p d (zoneOn g d) 0) (rowSaid p v gone d (zoneOn g d)) → length l″ ≡ length l′ → RowsSaid p v gone g (d + 1) l l″
-rows-turn p v gone g d l l′ l″ hd hg long r e n = record {
-  same-long = n ∙ r .same-long;
-  said = λ x o h hx ho. at x o h hx ho (ℕ-discrete x d);
-  others = λ x z o hx hz ho q. apart x z o hz ho (λ a b. q (b ∙ ap (zoneOn g) (sym a))) ∙ r .others x z o hx hz ho q;
-}
-  where
-    here : zoneOn g d < p .Z
-    here = zone-on-lt p g d hg
+module _ (p : Params) (v : View) (gone : ℕ) (g : Seg) (d : ℕ) (l l′ l″ : List ℕ) (hd : d < p .N) (low : ZonesLow p gone g) (long : length l′ ≡ compactLen p)
+    (r : RowsSaid p v gone g d l l′)
+    (e : l″ ≡ cond (isIn gone d) l′ (splice l′ (compactAt p d (zoneOn g d) 0) (compactRow p (recordsIn p (sealedIn p v gone g) (zoneAt v d (zoneOn g d)))))) where
+  -- of a missing drive
+  row-lost : isIn gone d ≡ true → RowsSaid p v gone g (d + 1) l l″
+  row-lost q =
+      let same : l″ ≡ l′ = e ∙ cond-true (isIn gone d) l′ (splice l′ (compactAt p d (zoneOn g d) 0) (compactRow p (recordsIn p (sealedIn p v gone g) (zoneAt v d (zoneOn g d))))) q in
+      record {
+        said = λ x o h hx hp ho. ap (λ (y : List ℕ). getD y (compactAt p x (zoneOn g x) o) 0) same
+            ∙ r .said x o (lt-of-le-ne (omega arith) (λ i. clash q (ap (isIn gone) (sym i) ∙ hp))) hx hp ho;
+        others = λ x z o hx hz ho n. ap (λ (y : List ℕ). getD y (compactAt p x z o) 0) same ∙ r .others x z o hx hz ho n;
+      }
 
-    lt : length (rowSaid p v gone d (zoneOn g d)) ≡ p .S
-    lt = length-row p v gone d (zoneOn g d) hd here
+  -- of a present one
+  module _ (q : isIn gone d ≡ false) where
+    abbrev t : List ℕ
+    t = compactRow p (recsOn (segmentOf p v gone g) d)
+
+    here : zoneOn g d < p .Z
+    here = low-zone p gone g d low hd q
+
+    lt : length t ≡ p .S
+    lt = row-long p (recsOn (segmentOf p v gone g) d) (length-recs p v gone g d hd)
+
+    put : l″ ≡ splice l′ (compactAt p d (zoneOn g d) 0) t
+    put = e ∙ cond-false (isIn gone d) l′ (splice l′ (compactAt p d (zoneOn g d) 0) (compactRow p (recordsIn p (sealedIn p v gone g) (zoneAt v d (zoneOn g d))))) q
+        ∙ ap (λ (x : List Rec). splice l′ (compactAt p d (zoneOn g d) 0) (compactRow p x)) (sym (recs-here p v gone g d hd q))
 
     apart : (x z o : ℕ) → z < p .Z → o < p .S → (x ≡ d → z ≡ zoneOn g d → ⊥) → getD l″ (compactAt p x z o) 0 ≡ getD l′ (compactAt p x z o) 0
-    apart x z o hz ho q = row-else p l′ l″ d (zoneOn g d) (rowSaid p v gone d (zoneOn g d)) hd here (r .same-long ∙ long) lt e x z o ho
-        (λ w. q (sym (digits-div x hz) ∙ ap (λ (i : ℕ). i / p .Z) w ∙ digits-div d here) (sym (digits-mod x hz) ∙ ap (λ (i : ℕ). i % p .Z) w ∙ digits-mod d here))
+    apart x z o hz ho n = row-else p l′ l″ d (zoneOn g d) t hd here long lt put x z o ho
+        (λ w. n (index-drive (p .Z) x z d (zoneOn g d) hz here w) (index-zone (p .Z) x z d (zoneOn g d) hz here w))
 
-    named : (o : ℕ) → getD (rowSaid p v gone d (zoneOn g d)) o 0 ≡ getD (compactRow p (rowAt p v gone d (zoneOn g d))) o 0
-    named o = unfold rowSaid in refl
+    row-said : RowsSaid p v gone g (d + 1) l l″
+    row-said = record {
+      said = λ x o h hx hp ho. at x o h hx hp ho (ℕ-discrete x d);
+      others = λ x z o hx hz ho n. apart x z o hz ho (λ a b. n (ap (isIn gone) a ∙ q) (b ∙ ap (zoneOn g) (sym a))) ∙ r .others x z o hx hz ho n;
+    }
+      where
+        at : (x o : ℕ) → x < d + 1 → x < p .N → isIn gone x ≡ false → o < p .S → Dec (x ≡ d)
+            → getD l″ (compactAt p x (zoneOn g x) o) 0 ≡ getD (compactRow p (recsOn (segmentOf p v gone g) x)) o 0
+        at x o h hx hp ho (yes i) =
+            ap (λ (y : ℕ). getD l″ (compactAt p y (zoneOn g y) o) 0) i ∙ row-here p l′ l″ d (zoneOn g d) t hd here long lt put o ho
+            ∙ ap (λ (y : ℕ). getD (compactRow p (recsOn (segmentOf p v gone g) y)) o 0) (sym i)
+        at x o h hx hp ho (no i) = apart x (zoneOn g x) o (low-zone p gone g x low hx hp) ho (λ a b. i a) ∙ r .said x o (lt-of-le-ne (omega arith) i) hx hp ho
 
-    at : (x o : ℕ) → x < d + 1 → x < p .N → o < p .S → Dec (x ≡ d) → getD l″ (compactAt p x (zoneOn g x) o) 0 ≡ getD (compactRow p (rowAt p v gone x (zoneOn g x))) o 0
-    at x o h hx ho (yes q) =
-        ap (λ (i : ℕ). getD l″ (compactAt p i (zoneOn g i) o) 0) q ∙ row-here p l′ l″ d (zoneOn g d) (rowSaid p v gone d (zoneOn g d)) hd here (r .same-long ∙ long) lt e o ho
-        ∙ named o ∙ ap (λ (i : ℕ). getD (compactRow p (rowAt p v gone i (zoneOn g i))) o 0) (sym q)
-    at x o h hx ho (no q) = apart x (zoneOn g x) o (zone-on-lt p g x hg) ho (λ a b. q a) ∙ r .said x o (omega arith) hx ho
+  pub rows-turn : RowsSaid p v gone g (d + 1) l l″
+  rows-turn = go (test (isIn gone d))
+    where
+      go : Test (isIn gone d) → RowsSaid p v gone g (d + 1) l l″
+      go (yes! q) = row-lost q
+      go (no! q) = row-said q
 
 -- ---- the entries of a row
 

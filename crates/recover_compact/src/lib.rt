@@ -1,19 +1,19 @@
 // The rows of a segment in the compact table, as the drives say them (01, What a zone holds; Restart, 3).
 ghost use mathlib.Core.Path.{_≡_};
-ghost use mathlib.Core.Bool.{true};
+ghost use mathlib.Core.Bool.{true, cond};
 ghost use mathlib.Core.List.{List, map};
 ghost use Prim.Native.Nat.{ℕ, _+_, _%_, _≤_, _<_};
 ghost use lib.ListN.{length};
 ghost use Rattle.spec.specs.Bytes.{splice};
 ghost use Rattle.spec.specs.Drives.{viewOf, mkDisk, zoneAt, zoneOn};
 ghost use Rattle.spec.specs.Layout.{compactEntry};
-ghost use Rattle.spec.specs.Lists.{below};
+ghost use Rattle.spec.specs.Lists.{below, isIn};
 ghost use Rattle.spec.specs.Memory.{compactAt};
 ghost use Rattle.spec.specs.Params.{inRange, imageLen, pointersLen, compactLen};
-ghost use Rattle.law_basic.specs.Segs.{Named, ZonesLow};
-ghost use Rattle.law_drives.specs.Tables.{remains};
+ghost use Rattle.spec.specs.Segments.{recordsIn, compactRow};
+ghost use Rattle.law_basic.specs.Segs.{ZonesLow};
 ghost use Rattle.law_views.specs.Views.{Whole};
-ghost use Rattle.recover_compact.specs.Compacts.{entrySaid, rowBytes, SegmentShown, Else};
+ghost use Rattle.recover_compact.specs.Compacts.{entrySaid, SegmentShown, Else};
 use spec::Params;
 use spec::Seg;
 
@@ -59,10 +59,10 @@ fn entries(
     requires { ⌜ inRange p ≡ true ⌝ }
     requires { ⌜ (length (now image) ≡ imageLen p) × (drive < p .N) × (zone < p .Z) × (n ≤ p .S) × (row + p .S ≤ length (now compact)) ⌝ }
     ensures { λ _. ⌜
-        ((ps : List ℕ)
+        ((off : List ℕ) (ps : List ℕ)
         → length ps ≡ pointersLen p
         → now (compact .exit) ≡ splice (now (compact .entry)) row
-        (map (entrySaid p full (zoneAt (viewOf p (now (image .entry)) ps) drive zone)) (below n))) ⌝ }
+        (map (entrySaid p full (zoneAt (viewOf p off (now (image .entry)) ps) drive zone)) (below n))) ⌝ }
 {
     let mut base = 0;
     let mut o = 0;
@@ -74,60 +74,80 @@ fn entries(
     }
 }
 
-// 01, What a zone holds: the row of a segment's zone; zeros where the drive is missing or the segment dropped.
+// 01, What a zone holds: the row of a segment's zone on a present drive; full: the segment is sealed.
 fn row(
     p: Params,
     image: &[u8],
     pointers: &[u8],
     compact: &mut [u8],
-    gone: u8,
-    kept: bool,
+    full: bool,
     drive: usize,
-    segment: Seg,
+    zone: usize,
 )
     requires { ⌜ inRange p ≡ true ⌝ }
     requires { ⌜ Whole p (mkDisk (now image) (now pointers)) ⌝ }
-    requires { ⌜ (length (now compact) ≡ compactLen p) × (drive < p .N) × ZonesLow p gone segment × (zoneOn segment drive < p .Z) ⌝ }
+    requires { ⌜ (length (now compact) ≡ compactLen p) × (drive < p .N) × (zone < p .Z) ⌝ }
     ensures { λ _. ⌜
-        now (compact .exit)
-        ≡ splice (now (compact .entry)) (compactAt p drive (zoneOn segment drive) 0) (rowBytes p (viewOf p (now (image .entry)) (now (pointers .entry))) gone kept drive segment) ⌝ }
+        ((off : List ℕ)
+        → now (compact .exit)
+        ≡ splice (now (compact .entry)) (compactAt p drive zone 0)
+        (compactRow p (recordsIn p full (zoneAt (viewOf p off (now (image .entry)) (now (pointers .entry))) drive zone)))) ⌝ }
 {
-    let zone = disk_shape::zone_on(p, segment, drive);
     let at = disk_shape::compact_at(p, drive, zone, 0);
-    if !kept {
-        disk_blocks::clear_part(compact, at, p.S);
-        return;
-    }
-    if bits_masks::has_drive(gone, drive) {
-        disk_blocks::clear_part(compact, at, p.S);
-        return;
-    }
-    let full = disk_zones::is_sealed(p, pointers, gone, segment);
     let n = disk_stored::data_stored(p, pointers, drive, zone);
     entries(p, image, compact, full, drive, zone, at, n);
     disk_blocks::clear_part(compact, at + n, p.S - n);
 }
 
-// The rows of a segment, by drive, whatever they held; kept: the segment remains.
-pub fn rows(
+// The same of any drive; a missing one has no row.
+fn row_any(
     p: Params,
     image: &[u8],
     pointers: &[u8],
     compact: &mut [u8],
     gone: u8,
-    kept: bool,
-    seg: Seg,
+    full: bool,
+    drive: usize,
+    segment: Seg,
 )
     requires { ⌜ inRange p ≡ true ⌝ }
     requires { ⌜ Whole p (mkDisk (now image) (now pointers)) ⌝ }
-    requires { ⌜ (length (now compact) ≡ compactLen p) × Named p seg ⌝ }
+    requires { ⌜ (length (now compact) ≡ compactLen p) × (drive < p .N) × ZonesLow p gone segment ⌝ }
     ensures { λ _. ⌜
-        (kept ≡ remains p (viewOf p (now (image .entry)) (now (pointers .entry))) gone seg
-        → SegmentShown p (viewOf p (now (image .entry)) (now (pointers .entry))) gone seg (now (compact .exit)) × Else p seg (now (compact .entry)) (now (compact .exit))) ⌝ }
+        ((off : List ℕ)
+        → now (compact .exit)
+        ≡ cond (isIn gone drive) (now (compact .entry))
+        (splice (now (compact .entry)) (compactAt p drive (zoneOn segment drive) 0)
+        (compactRow p (recordsIn p full (zoneAt (viewOf p off (now (image .entry)) (now (pointers .entry))) drive (zoneOn segment drive)))))) ⌝ }
 {
+    if bits_masks::has_drive(gone, drive) {
+        return;
+    }
+    row(
+        p,
+        image,
+        pointers,
+        compact,
+        full,
+        drive,
+        disk_shape::zone_on(p, segment, drive),
+    );
+}
+
+// 01, What a zone holds: the rows of a segment, by drive, whatever they held; a missing drive's row stays as it is.
+pub fn rows(p: Params, image: &[u8], pointers: &[u8], compact: &mut [u8], gone: u8, segment: Seg)
+    requires { ⌜ inRange p ≡ true ⌝ }
+    requires { ⌜ Whole p (mkDisk (now image) (now pointers)) ⌝ }
+    requires { ⌜ (length (now compact) ≡ compactLen p) × ZonesLow p gone segment ⌝ }
+    ensures { λ _. ⌜
+        ((off : List ℕ)
+        → SegmentShown p (viewOf p off (now (image .entry)) (now (pointers .entry))) gone segment (now (compact .exit))) ⌝ }
+    ensures { λ _. ⌜ Else p gone segment (now (compact .entry)) (now (compact .exit)) ⌝ }
+{
+    let full = disk_zones::is_sealed(p, pointers, gone, segment);
     let mut d = 0;
     while d < p.N {
-        row(p, image, pointers, compact, gone, kept, d, seg);
+        row_any(p, image, pointers, compact, gone, full, d, segment);
         d += 1;
     }
 }

@@ -1,15 +1,15 @@
 // The lost chunks of a drive, decoded and stored (01, Rebuild).
 ghost use mathlib.Core.Path.{_≡_};
 ghost use mathlib.Core.Bool.{true, false};
-ghost use mathlib.Core.List.{[], _∷_};
-ghost use Prim.Native.Nat.{_+_, _%_, _<_};
+ghost use mathlib.Core.List.{List, [], _∷_};
+ghost use Prim.Native.Nat.{ℕ, _+_, _%_, _<_};
 ghost use lib.ListN.{length};
 ghost use Rattle.recover_decode.specs.Moving.{Lacks};
 ghost use Rattle.spec.specs.Drives.{viewOf, mkDisk, pointerOf, zoneOn, sealedIn};
 ghost use Rattle.spec.specs.Lists.{upFrom, below};
 ghost use Rattle.spec.specs.Params.{inRange, capacity};
 ghost use Rattle.spec.specs.Segments.{segmentOf, counts};
-ghost use Rattle.law_basic.specs.Segs.{Named, ZonesLow};
+ghost use Rattle.law_basic.specs.Segs.{ZonesLow};
 ghost use Rattle.recover_groups.specs.Groups.{groupLen, recsFault, segmentIn, GroupReads};
 ghost use Rattle.recover_reset.specs.Lost.{lostStore, lostStores};
 ghost use Rattle.law_views.specs.Views.{Whole, AllFit};
@@ -42,11 +42,12 @@ fn put_lost_with(
         × (k < groupLen p (w .base))
         × (pointerOf p (now pointers) drive (zoneOn (w .seg) drive) < capacity p)
         × (zoneOn (w .seg) drive < p .Z) ⌝ }
-    requires { ⌜ GroupReads p (now image) (now pointers) w (now at) ⌝ }
-    requires { ⌜ counts p (w .gone) (segmentIn p (now image) (now pointers) w) (w .base + k) ≡ true ⌝ }
+    requires { ⌜ ((off : List ℕ) → GroupReads p off (now image) (now pointers) w (now at)) ⌝ }
+    requires { ⌜ ((off : List ℕ) → counts p (w .gone) (segmentIn p off (now image) (now pointers) w) (w .base + k) ≡ true) ⌝ }
     ensures { λ r. ⌜
-        Storing p count (lostStore p (w .gone) drive (segmentIn p (now (image .entry)) (now (pointers .entry)) w) (w .base + k) ∷ [])
-        (mkDisk (now (image .entry)) (now (pointers .entry))) r (mkDisk (now (image .exit)) (now (pointers .exit))) ⌝ }
+        ((off : List ℕ)
+        → Storing p count (lostStore p (w .gone) drive (segmentIn p off (now (image .entry)) (now (pointers .entry)) w) (w .base + k) ∷ [])
+        (mkDisk (now (image .entry)) (now (pointers .entry))) r (mkDisk (now (image .exit)) (now (pointers .exit)))) ⌝ }
 {
     recover_groups::lost_block(p, image, w, at, drive, k, block);
     let q = recover_groups::lost_rec(p, image, w, at, drive, k);
@@ -73,11 +74,12 @@ fn put_lost(
     requires { ⌜ (length (now at) ≡ 2048) × ZonesLow p (w .gone) (w .seg) × (w .base < p .S) × (k < groupLen p (w .base))
         × (pointerOf p (now pointers) drive (zoneOn (w .seg) drive) < capacity p)
         × (zoneOn (w .seg) drive < p .Z) ⌝ }
-    requires { ⌜ GroupReads p (now image) (now pointers) w (now at) ⌝ }
-    requires { ⌜ counts p (w .gone) (segmentIn p (now image) (now pointers) w) (w .base + k) ≡ true ⌝ }
+    requires { ⌜ ((off : List ℕ) → GroupReads p off (now image) (now pointers) w (now at)) ⌝ }
+    requires { ⌜ ((off : List ℕ) → counts p (w .gone) (segmentIn p off (now image) (now pointers) w) (w .base + k) ≡ true) ⌝ }
     ensures { λ r. ⌜
-        Storing p count (lostStore p (w .gone) drive (segmentIn p (now (image .entry)) (now (pointers .entry)) w) (w .base + k) ∷ [])
-        (mkDisk (now (image .entry)) (now (pointers .entry))) r (mkDisk (now (image .exit)) (now (pointers .exit))) ⌝ }
+        ((off : List ℕ)
+        → Storing p count (lostStore p (w .gone) drive (segmentIn p off (now (image .entry)) (now (pointers .entry)) w) (w .base + k) ∷ [])
+        (mkDisk (now (image .entry)) (now (pointers .entry))) r (mkDisk (now (image .exit)) (now (pointers .exit)))) ⌝ }
 {
     let mut block = [0u8; 4096];
     let b = p.B;
@@ -100,11 +102,13 @@ fn put_if(
     requires { ⌜ Lacks p (w .gone) drive ⌝ }
     requires { ⌜ (length (now at) ≡ 2048) × ZonesLow p (w .gone) (w .seg) × (w .base < p .S) × (k < groupLen p (w .base))
         × (zoneOn (w .seg) drive < p .Z) ⌝ }
-    requires { ⌜ GroupReads p (now image) (now pointers) w (now at) ⌝ }
-    requires { ⌜ AllFit p (viewOf p (now image) (now pointers)) (lostStores p (w .gone) drive (segmentIn p (now image) (now pointers) w) ((w .base + k) ∷ [])) ⌝ }
+    requires { ⌜ ((off : List ℕ) → GroupReads p off (now image) (now pointers) w (now at)) ⌝ }
+    requires { ⌜ ((off : List ℕ)
+        → AllFit p (viewOf p off (now image) (now pointers)) (lostStores p (w .gone) drive (segmentIn p off (now image) (now pointers) w) ((w .base + k) ∷ []))) ⌝ }
     ensures { λ r. ⌜
-        Storing p count (lostStores p (w .gone) drive (segmentIn p (now (image .entry)) (now (pointers .entry)) w) ((w .base + k) ∷ []))
-        (mkDisk (now (image .entry)) (now (pointers .entry))) r (mkDisk (now (image .exit)) (now (pointers .exit))) ⌝ }
+        ((off : List ℕ)
+        → Storing p count (lostStores p (w .gone) drive (segmentIn p off (now (image .entry)) (now (pointers .entry)) w) ((w .base + k) ∷ []))
+        (mkDisk (now (image .entry)) (now (pointers .entry))) r (mkDisk (now (image .exit)) (now (pointers .exit)))) ⌝ }
 {
     if !recover_groups::counts(p, w.gone, at, k) {
         return Made {
@@ -128,14 +132,17 @@ fn put_group(
     requires { ⌜ inRange p ≡ true ⌝ }
     requires { ⌜ Whole p (mkDisk (now image) (now pointers)) ⌝ }
     requires { ⌜ Lacks p (w .gone) drive ⌝ }
-    requires { ⌜ (length (now at) ≡ 2048) × Named p (w .seg) × (w .base < p .S) × (w .base % p .G ≡ 0) × (zoneOn (w .seg) drive < p .Z) ⌝ }
-    requires { ⌜ w .full ≡ sealedIn p (viewOf p (now image) (now pointers)) (w .gone) (w .seg) ⌝ }
-    requires { ⌜ recsFault p (w .gone) (segmentIn p (now image) (now pointers) w) ≡ false ⌝ }
-    requires { ⌜ AllFit p (viewOf p (now image) (now pointers)) (lostStores p (w .gone) drive (segmentIn p (now image) (now pointers) w) (upFrom (w .base) (groupLen p (w .base)))) ⌝ }
+    requires { ⌜ (length (now at) ≡ 2048) × ZonesLow p (w .gone) (w .seg) × (w .base < p .S) × (w .base % p .G ≡ 0) × (zoneOn (w .seg) drive < p .Z) ⌝ }
+    requires { ⌜ ((off : List ℕ) → w .full ≡ sealedIn p (viewOf p off (now image) (now pointers)) (w .gone) (w .seg)) ⌝ }
+    requires { ⌜ ((off : List ℕ) → recsFault p (w .gone) (segmentIn p off (now image) (now pointers) w) ≡ false) ⌝ }
+    requires { ⌜ ((off : List ℕ)
+        → AllFit p (viewOf p off (now image) (now pointers))
+        (lostStores p (w .gone) drive (segmentIn p off (now image) (now pointers) w) (upFrom (w .base) (groupLen p (w .base))))) ⌝ }
     ensures { λ r. ⌜
-        Storing p count
-        (lostStores p (w .gone) drive (segmentIn p (now (image .entry)) (now (pointers .entry)) w) (upFrom (w .base) (groupLen p (w .base))))
-        (mkDisk (now (image .entry)) (now (pointers .entry))) r (mkDisk (now (image .exit)) (now (pointers .exit))) ⌝ }
+        ((off : List ℕ)
+        → Storing p count
+        (lostStores p (w .gone) drive (segmentIn p off (now (image .entry)) (now (pointers .entry)) w) (upFrom (w .base) (groupLen p (w .base))))
+        (mkDisk (now (image .entry)) (now (pointers .entry))) r (mkDisk (now (image .exit)) (now (pointers .exit)))) ⌝ }
 {
     recover_groups::index_group(p, image, pointers, w, at);
     let len = recover_groups::group_len(p, w.base);
@@ -167,13 +174,15 @@ fn put_groups_with(
     requires { ⌜ inRange p ≡ true ⌝ }
     requires { ⌜ Whole p (mkDisk (now image) (now pointers)) ⌝ }
     requires { ⌜ Lacks p gone drive ⌝ }
-    requires { ⌜ (length (now at) ≡ 2048) × Named p seg × (zoneOn seg drive < p .Z) ⌝ }
-    requires { ⌜ full ≡ sealedIn p (viewOf p (now image) (now pointers)) gone seg ⌝ }
-    requires { ⌜ recsFault p gone (segmentOf p (viewOf p (now image) (now pointers)) gone seg) ≡ false ⌝ }
-    requires { ⌜ AllFit p (viewOf p (now image) (now pointers)) (lostStores p gone drive (segmentOf p (viewOf p (now image) (now pointers)) gone seg) (below (p .S))) ⌝ }
+    requires { ⌜ (length (now at) ≡ 2048) × ZonesLow p gone seg × (zoneOn seg drive < p .Z) ⌝ }
+    requires { ⌜ ((off : List ℕ) → full ≡ sealedIn p (viewOf p off (now image) (now pointers)) gone seg) ⌝ }
+    requires { ⌜ ((off : List ℕ) → recsFault p gone (segmentOf p (viewOf p off (now image) (now pointers)) gone seg) ≡ false) ⌝ }
+    requires { ⌜ ((off : List ℕ)
+        → AllFit p (viewOf p off (now image) (now pointers)) (lostStores p gone drive (segmentOf p (viewOf p off (now image) (now pointers)) gone seg) (below (p .S)))) ⌝ }
     ensures { λ r. ⌜
-        Storing p count (lostStores p gone drive (segmentOf p (viewOf p (now (image .entry)) (now (pointers .entry))) gone seg) (below (p .S)))
-        (mkDisk (now (image .entry)) (now (pointers .entry))) r (mkDisk (now (image .exit)) (now (pointers .exit))) ⌝ }
+        ((off : List ℕ)
+        → Storing p count (lostStores p gone drive (segmentOf p (viewOf p off (now (image .entry)) (now (pointers .entry))) gone seg) (below (p .S)))
+        (mkDisk (now (image .entry)) (now (pointers .entry))) r (mkDisk (now (image .exit)) (now (pointers .exit)))) ⌝ }
 {
     let mut left = count;
     let mut base = 0;
@@ -208,13 +217,15 @@ pub fn put_groups(
     requires { ⌜ inRange p ≡ true ⌝ }
     requires { ⌜ Whole p (mkDisk (now image) (now pointers)) ⌝ }
     requires { ⌜ Lacks p gone drive ⌝ }
-    requires { ⌜ Named p seg × (zoneOn seg drive < p .Z) ⌝ }
-    requires { ⌜ full ≡ sealedIn p (viewOf p (now image) (now pointers)) gone seg ⌝ }
-    requires { ⌜ recsFault p gone (segmentOf p (viewOf p (now image) (now pointers)) gone seg) ≡ false ⌝ }
-    requires { ⌜ AllFit p (viewOf p (now image) (now pointers)) (lostStores p gone drive (segmentOf p (viewOf p (now image) (now pointers)) gone seg) (below (p .S))) ⌝ }
+    requires { ⌜ ZonesLow p gone seg × (zoneOn seg drive < p .Z) ⌝ }
+    requires { ⌜ ((off : List ℕ) → full ≡ sealedIn p (viewOf p off (now image) (now pointers)) gone seg) ⌝ }
+    requires { ⌜ ((off : List ℕ) → recsFault p gone (segmentOf p (viewOf p off (now image) (now pointers)) gone seg) ≡ false) ⌝ }
+    requires { ⌜ ((off : List ℕ)
+        → AllFit p (viewOf p off (now image) (now pointers)) (lostStores p gone drive (segmentOf p (viewOf p off (now image) (now pointers)) gone seg) (below (p .S)))) ⌝ }
     ensures { λ r. ⌜
-        Storing p count (lostStores p gone drive (segmentOf p (viewOf p (now (image .entry)) (now (pointers .entry))) gone seg) (below (p .S)))
-        (mkDisk (now (image .entry)) (now (pointers .entry))) r (mkDisk (now (image .exit)) (now (pointers .exit))) ⌝ }
+        ((off : List ℕ)
+        → Storing p count (lostStores p gone drive (segmentOf p (viewOf p off (now (image .entry)) (now (pointers .entry))) gone seg) (below (p .S)))
+        (mkDisk (now (image .entry)) (now (pointers .entry))) r (mkDisk (now (image .exit)) (now (pointers .exit)))) ⌝ }
 {
     let mut at = [0u16; 2048];
     put_groups_with(p, image, pointers, &mut at, gone, seg, full, drive, count)

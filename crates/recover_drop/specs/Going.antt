@@ -34,39 +34,41 @@ module _ (p : Params) (n : ℕ) (ss : List Store) (k₀ : Disk) where
   owes-done left k o = o (record { left = left; cut = false }) k (storing-none p left k)
 
 -- and what is left to do fits
-pub record Going (p : Params) (n : ℕ) (ss : List Store) (k₀ : Disk) (ts : List Store) (left : ℕ) (k : Disk) : Type 0 where
+pub record Going (p : Params) (off : List ℕ) (n : ℕ) (ss : List Store) (k₀ : Disk) (ts : List Store) (left : ℕ) (k : Disk) : Type 0 where
   pub owes : Owes p n ss k₀ ts left k
-  pub fits : AllFit p (seen p k) ts
+  pub fits : AllFit p (seen p off k) ts
   pub whole : Whole p k
 
-pub going-start : (p : Params) (n : ℕ) (ss : List Store) (k : Disk) → Whole p k → AllFit p (seen p k) ss → Going p n ss k ss n k
-going-start p n ss k w f = record { owes = λ m k′ h. h; fits = f; whole = w }
+pub going-start : (p : Params) (off : List ℕ) (n : ℕ) (ss : List Store) (k : Disk) → Whole p k → AllFit p (seen p off k) ss → Going p off n ss k ss n k
+going-start p off n ss k w f = record { owes = λ m k′ h. h; fits = f; whole = w }
 
 -- the same list, written otherwise
-pub going-as : (p : Params) (n : ℕ) (ss : List Store) (k₀ : Disk) (ts us : List Store) (left : ℕ) (k : Disk) → ts ≡ us → Going p n ss k₀ ts left k → Going p n ss k₀ us left k
-going-as p n ss k₀ ts us left k e g = subst (λ (l : List Store). Going p n ss k₀ l left k) e g
+pub going-as : (p : Params) (off : List ℕ) (n : ℕ) (ss : List Store) (k₀ : Disk) (ts us : List Store) (left : ℕ) (k : Disk) → ts ≡ us
+    → Going p off n ss k₀ ts left k → Going p off n ss k₀ us left k
+going-as p off n ss k₀ ts us left k e g = subst (λ (l : List Store). Going p off n ss k₀ l left k) e g
 
-module _ (p : Params) (r : Ranged p) (n : ℕ) (ss : List Store) (k₀ : Disk) (ts us : List Store) (left : ℕ) (k : Disk) (m : Made) (k′ : Disk)
-    (g : Going p n ss k₀ (ts ++ us) left k) (s : Storing p left ts k m k′) (c : m .cut ≡ false) where
+module _ (p : Params) (r : Ranged p) (off : List ℕ) (n : ℕ) (ss : List Store) (k₀ : Disk) (ts us : List Store) (left : ℕ) (k : Disk) (m : Made) (k′ : Disk)
+    (g : Going p off n ss k₀ (ts ++ us) left k) (s : Storing p left ts k m k′) (c : m .cut ≡ false) where
   made-all : k′ ≡ storeAll (storeDisk p) ts k
   made-all = storing-all p left ts k m k′ s c
 
-  fit-split : AllFit p (seen p k) ts × AllFit p (storeAll storeView ts (seen p k)) us
-  fit-split = fits-split p (seen p k) ts us (g .fits)
+  fit-split : AllFit p (seen p off k) ts × AllFit p (storeAll storeView ts (seen p off k)) us
+  fit-split = fits-split p (seen p off k) ts us (g .fits)
 
-  pub going-turn : Going p n ss k₀ us (m .left) k′
+  pub going-turn : Going p off n ss k₀ us (m .left) k′
   going-turn = record {
     owes = owes-turn p n ss k₀ ts us left k m k′ (g .owes) s c;
-    fits = subst (λ (v : View). AllFit p v us) (sym (seen-after p r k k′ ts (g .whole) (fit-split .0) made-all)) (fit-split .1);
-    whole = whole-after p r k k′ ts (g .whole) (fit-split .0) made-all;
+    fits = subst (λ (v : View). AllFit p v us) (sym (seen-after p r off k k′ ts (g .whole) (fit-split .0) made-all)) (fit-split .1);
+    whole = whole-after p r off k k′ ts (g .whole) (fit-split .0) made-all;
   }
 
   -- a zone that the part does not hit
-  pub going-kept : (d z : ℕ) → d < p .N → z < p .Z → hits d z ts ≡ [] → zoneAt (seen p k′) d z ≡ zoneAt (seen p k) d z
-  going-kept d z hd hz q = zone-kept p r k k′ ts (g .whole) (fit-split .0) made-all d z hd hz q
+  pub going-kept : (d z : ℕ) → d < p .N → z < p .Z → hits d z ts ≡ [] → zoneAt (seen p off k′) d z ≡ zoneAt (seen p off k) d z
+  going-kept d z hd hz q = zone-kept p r off k k′ ts (g .whole) (fit-split .0) made-all d z hd hz q
 
-pub going-first : (p : Params) (n : ℕ) (ss : List Store) (k₀ : Disk) (ts us : List Store) (left : ℕ) (k : Disk) → Going p n ss k₀ (ts ++ us) left k → AllFit p (seen p k) ts
-going-first p n ss k₀ ts us left k g = fits-split p (seen p k) ts us (g .fits) .0
+pub going-first : (p : Params) (off : List ℕ) (n : ℕ) (ss : List Store) (k₀ : Disk) (ts us : List Store) (left : ℕ) (k : Disk) → Going p off n ss k₀ (ts ++ us) left k
+    → AllFit p (seen p off k) ts
+going-first p off n ss k₀ ts us left k g = fits-split p (seen p off k) ts us (g .fits) .0
 
 -- ---- lists of stores, from number i on
 

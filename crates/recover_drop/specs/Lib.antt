@@ -1,2 +1,4 @@
 pub mod Going
+pub mod AnyList
+pub mod Rising
 pub mod Dropped

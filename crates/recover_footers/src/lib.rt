@@ -1,6 +1,7 @@
 // Missing footers are stored (01, Restart, 4).
 ghost use mathlib.Core.Path.{_≡_};
 ghost use mathlib.Core.Bool.{true};
+ghost use mathlib.Core.List.{List};
 ghost use Prim.Native.Nat.{ℕ, _+_, _-_, _≤_, _<_};
 ghost use Rattle.spec.specs.Drives.{viewOf, zoneAt, mkDisk, pointerOf, footerStores, zoneOn};
 ghost use Rattle.spec.specs.Faults.{footersStored};
@@ -27,10 +28,11 @@ fn missing_on(
     requires { ⌜ Whole p (mkDisk (now image) (now pointers)) ⌝ }
     requires { ⌜ (drive < p .N) × (zone < p .Z) × (1 + p .S ≤ pointerOf p (now pointers) drive zone) × (pointerOf p (now pointers) drive zone ≤ capacity p) ⌝ }
     ensures { λ r. ⌜
-        Storing p count (footerStores p drive zone (zoneAt (viewOf p (now (image .entry)) (now (pointers .entry))) drive zone)
-        (footersStored p (zoneAt (viewOf p (now (image .entry)) (now (pointers .entry))) drive zone))
-        (footers p - footersStored p (zoneAt (viewOf p (now (image .entry)) (now (pointers .entry))) drive zone)))
-        (mkDisk (now (image .entry)) (now (pointers .entry))) r (mkDisk (now (image .exit)) (now (pointers .exit))) ⌝ }
+        ((off : List ℕ)
+        → Storing p count (footerStores p drive zone (zoneAt (viewOf p off (now (image .entry)) (now (pointers .entry))) drive zone)
+        (footersStored p (zoneAt (viewOf p off (now (image .entry)) (now (pointers .entry))) drive zone))
+        (footers p - footersStored p (zoneAt (viewOf p off (now (image .entry)) (now (pointers .entry))) drive zone)))
+        (mkDisk (now (image .entry)) (now (pointers .entry))) r (mkDisk (now (image .exit)) (now (pointers .exit)))) ⌝ }
 {
     let first = disk_stored::footers_stored(p, pointers, drive, zone);
     let n = disk_shape::footers(p) - first;
@@ -49,10 +51,11 @@ pub fn missing_footers(
     requires { ⌜ Whole p (mkDisk (now image) (now pointers)) ⌝ }
     requires { ⌜ ZonesLow p 0 segment × ((d : ℕ) → d < p .N → (1 + p .S ≤ pointerOf p (now pointers) d (zoneOn segment d))
         × (pointerOf p (now pointers) d (zoneOn segment d) ≤ capacity p)) ⌝ }
-    requires { ⌜ AllFit p (viewOf p (now image) (now pointers)) (missingFooters p (segmentOf p (viewOf p (now image) (now pointers)) 0 segment)) ⌝ }
+    requires { ⌜ ((off : List ℕ) → AllFit p (viewOf p off (now image) (now pointers)) (missingFooters p (segmentOf p (viewOf p off (now image) (now pointers)) 0 segment))) ⌝ }
     ensures { λ r. ⌜
-        Storing p count (missingFooters p (segmentOf p (viewOf p (now (image .entry)) (now (pointers .entry))) 0 segment))
-        (mkDisk (now (image .entry)) (now (pointers .entry))) r (mkDisk (now (image .exit)) (now (pointers .exit))) ⌝ }
+        ((off : List ℕ)
+        → Storing p count (missingFooters p (segmentOf p (viewOf p off (now (image .entry)) (now (pointers .entry))) 0 segment))
+        (mkDisk (now (image .entry)) (now (pointers .entry))) r (mkDisk (now (image .exit)) (now (pointers .exit)))) ⌝ }
 {
     let mut left = count;
     let mut d = 0;

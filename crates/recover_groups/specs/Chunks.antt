@@ -23,7 +23,8 @@ use Rattle.law_basic.specs.Ranges.Test.{yes!, no! }
 use Rattle.law_drives.specs.Counting.{different-few, stripes-different}
 use Rattle.law_drives.specs.Members.{In, map-in, all-in, in-all, none-in, in-none, in-any, keep-cong, keep-all, keep-keep, below-in, in-getD, getD-in, index-below, index-passes, index-first}
 use Rattle.law_drives.specs.Members.{index-is}
-use Rattle.law_drives.specs.Segs.{present-in, in-present, length-records, record-at, recs-here, recs-gone}
+use Rattle.law_drives.specs.Gather.{present-in, in-present}
+use Rattle.law_drives.specs.Segs.{length-records, record-at, recs-here, recs-gone}
 use Rattle.law_drives.specs.Tests.{and-false-right, or-first, or-right, not-so, same-test, cond-true}
 use Rattle.recover_groups.specs.Bases.{group-len-le, group-of, group-back, base-is, in-group}
 use Rattle.recover_groups.specs.Faulty.{stripe-group, length-group}

@@ -58,14 +58,14 @@ abbrev pub AllEntered : Params → ℕ → ℕ → List ℕ → ℕ → Type 0
 AllEntered p gone base at k = (d : ℕ) → d < p .N → isIn gone d ≡ false → Entered p base at d k
 
 -- the segment of a group, as image and pointers show it
-abbrev pub segmentIn : Params → List ℕ → List ℕ → Group → Segment
-segmentIn p im ps w = segmentOf p (viewOf p im ps) (w .gone) (w .seg)
+abbrev pub segmentIn : Params → List ℕ → List ℕ → List ℕ → Group → Segment
+segmentIn p off im ps w = segmentOf p (viewOf p off im ps) (w .gone) (w .seg)
 
 -- the group is as image and pointers show it, and the index is the group's
-pub record GroupReads (p : Params) (im ps : List ℕ) (w : Group) (at : List ℕ) : Type 0 where
+pub record GroupReads (p : Params) (off im ps : List ℕ) (w : Group) (at : List ℕ) : Type 0 where
   pub long : length ps ≡ pointersLen p
-  pub full-right : w .full ≡ sealedIn p (viewOf p im ps) (w .gone) (w .seg)
-  pub indexed : Indexed p (segmentIn p im ps w) (w .base) at
+  pub full-right : w .full ≡ sealedIn p (viewOf p off im ps) (w .gone) (w .seg)
+  pub indexed : Indexed p (segmentIn p off im ps w) (w .base) at
 
 -- the entry of stripe s, of the records of its group: the index of its record + 1, or 0
 unfoldable pub entryOf : List Rec → ℕ → ℕ

@@ -20,16 +20,16 @@ use Rattle.recover_groups.specs.Groups.{groupLen, Entered, segmentIn, Gr
 
 -- ---- stored
 
-module _ (p : Params) (im ps : List ℕ) (w : Group) (at : List ℕ) (r : Ranged p) (hi : length im ≡ imageLen p) (x : GroupReads p im ps w at)
+module _ (p : Params) (off im ps : List ℕ) (w : Group) (at : List ℕ) (r : Ranged p) (hi : length im ≡ imageLen p) (x : GroupReads p off im ps w at)
     (hb : w .base < p .S) (k : ℕ) (hk : k < groupLen p (w .base)) where
   abbrev seg-here : Segment
-  seg-here = segmentIn p im ps w
+  seg-here = segmentIn p off im ps w
 
   -- the record that an entry leads to
   pub record-read : (d : ℕ) → d < p .N → 1 ≤ getD at (256 * d + k) 0
-      → recordIn p (w .full) (zoneAt (viewOf p im ps) d (zoneOn (w .seg) d)) (w .base + getD at (256 * d + k) 0 - 1) ≡ storedRec seg-here (w .base + k) d
+      → recordIn p (w .full) (zoneAt (viewOf p off im ps) d (zoneOn (w .seg) d)) (w .base + getD at (256 * d + k) 0 - 1) ≡ storedRec seg-here (w .base + k) d
   record-read d hd h =
-      let v = viewOf p im ps in
+      let v = viewOf p off im ps in
       let (t, e) = entered-chunk p seg-here (w .base) at (x .indexed) d k hd hk h in
       let q = chunk-present p v (w .gone) (w .seg) (w .base + k) d t in
       let c = chunk-at p v (w .gone) (w .seg) d (w .base + k) hd q t in
@@ -40,13 +40,13 @@ module _ (p : Params) (im ps : List ℕ) (w : Group) (at : List ℕ) (r : Ranged
       → storedPiece seg-here (w .base + k) d .block ≡ part (placeByte p (placeOf p d (zoneOn (w .seg) d) (1 + (w .base + getD at (256 * d + k) 0 - 1)))) (p .B) im
   unfolding storedPiece chunkAt
   block-read d hd hz h =
-      let v = viewOf p im ps in
+      let v = viewOf p off im ps in
       let (t, e) = entered-chunk p seg-here (w .base) at (x .indexed) d k hd hk h in
       let o = offsetOn seg-here d (w .base + k) in
       let n = x .indexed .within d k hd hk t in
       let f = group-len-fits p (w .base) (omega (arith, hb)) in
       ap (λ (z : Zone). getD (z .blocks) (1 + o) noChunk .block) (zone-by p v (w .gone) (w .seg) d hd)
-      ∙ block-view p (mkDisk im ps) d (zoneOn (w .seg) d) hd hz
+      ∙ block-view p off (mkDisk im ps) d (zoneOn (w .seg) d) hd hz
       (record { image-long = hi; pointers-long = x .long }) (1 + o) (data-below p r (1 + o) (omega (arith, n .1, f)))
       ∙ ap (λ (y : ℕ). part (placeByte p (placeOf p d (zoneOn (w .seg) d) (1 + y))) (p .B) im) (sym e)
 

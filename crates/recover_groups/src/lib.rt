@@ -111,8 +111,8 @@ fn enter(p: Params, at: &mut [u16], drive: usize, base: usize, s: usize, v: usiz
 pub fn group_stored(p: Params, pointers: &[u8], w: Group, drive: usize) -> usize
     requires { ⌜ inRange p ≡ true ⌝ }
     requires { ⌜ (length (now pointers) ≡ pointersLen p) × (drive < p .N) × (zoneOn (w .seg) drive < p .Z) × (w .base < p .S) ⌝ }
-    ensures { λ r. ⌜ ((im : List ℕ) → length im ≡ imageLen p → isIn (w .gone) drive ≡ false
-        → r ≡ length (groupRecs p (w .base) (recsOn (segmentIn p im (now (pointers .entry)) w) drive))) ⌝ }
+    ensures { λ r. ⌜ ((off : List ℕ) (im : List ℕ) → length im ≡ imageLen p → isIn (w .gone) drive ≡ false
+        → r ≡ length (groupRecs p (w .base) (recsOn (segmentIn p off im (now (pointers .entry)) w) drive))) ⌝ }
     ensures { λ r. ⌜ r ≤ groupLen p (w .base) ⌝ }
 {
     let n = disk_stored::data_stored(p, pointers, drive, disk_shape::zone_on(p, w.seg, drive));
@@ -139,7 +139,7 @@ fn record_of(
 ) -> Record
     requires { ⌜ inRange p ≡ true ⌝ }
     requires { ⌜ (length (now image) ≡ imageLen p) × (drive < p .N) × (zone < p .Z) × (offset < p .S) ⌝ }
-    ensures { λ r. ⌜ ((ps : List ℕ) → length ps ≡ pointersLen p → recVal r ≡ recordIn p full (zoneAt (viewOf p (now (image .entry)) ps) drive zone) offset) ⌝ }
+    ensures { λ r. ⌜ ((off : List ℕ) (ps : List ℕ) → length ps ≡ pointersLen p → recVal r ≡ recordIn p full (zoneAt (viewOf p off (now (image .entry)) ps) drive zone) offset) ⌝ }
 {
     let at = disk_stored::record_byte(p, full, drive, zone, offset);
     let end = at + disk_shape::SPARE;
@@ -158,11 +158,17 @@ fn index_drive(
     requires { ⌜ inRange p ≡ true ⌝ }
     requires { ⌜ Whole p (mkDisk (now image) (now pointers)) ⌝ }
     requires { ⌜ (length (now at) ≡ 2048) × (drive < p .N) × ZonesLow p (w .gone) (w .seg) × (w .base < p .S) × (w .base % p .G ≡ 0) × (isIn (w .gone) drive ≡ false) ⌝ }
-    requires { ⌜ w .full ≡ sealedIn p (viewOf p (now image) (now pointers)) (w .gone) (w .seg) ⌝ }
     requires { ⌜ ((k : ℕ) → k < groupLen p (w .base) → getD (now at) (256 * drive + k) 0 ≡ 0) ⌝ }
-    ensures { λ r. ⌜ r ≡ not (recsBad p drive (w .base) (groupRecs p (w .base) (recsOn (segmentIn p (now (image .entry)) (now (pointers .entry)) w) drive))) ⌝ }
+    ensures { λ r. ⌜
+        ((off : List ℕ)
+        → w .full ≡ sealedIn p (viewOf p off (now (image .entry)) (now (pointers .entry))) (w .gone) (w .seg)
+        → r ≡ not (recsBad p drive (w .base) (groupRecs p (w .base) (recsOn (segmentIn p off (now (image .entry)) (now (pointers .entry)) w) drive)))) ⌝ }
     ensures { λ _. ⌜ SameBelow drive (now (at .entry)) (now (at .exit)) ⌝ }
-    ensures { λ r. ⌜ (r ≡ true → Row p (w .base) (groupRecs p (w .base) (recsOn (segmentIn p (now (image .entry)) (now (pointers .entry)) w) drive)) drive (now (at .exit))) ⌝ }
+    ensures { λ r. ⌜
+        ((off : List ℕ)
+        → w .full ≡ sealedIn p (viewOf p off (now (image .entry)) (now (pointers .entry))) (w .gone) (w .seg)
+        → r ≡ true
+        → Row p (w .base) (groupRecs p (w .base) (recsOn (segmentIn p off (now (image .entry)) (now (pointers .entry)) w) drive)) drive (now (at .exit))) ⌝ }
 {
     let n = group_stored(p, pointers, w, drive);
     let base = w.base;
@@ -193,10 +199,16 @@ fn index_any(
     requires { ⌜ inRange p ≡ true ⌝ }
     requires { ⌜ Whole p (mkDisk (now image) (now pointers)) ⌝ }
     requires { ⌜ (length (now at) ≡ 2048) × (drive < p .N) × ZonesLow p (w .gone) (w .seg) × (w .base < p .S) × (w .base % p .G ≡ 0) ⌝ }
-    requires { ⌜ w .full ≡ sealedIn p (viewOf p (now image) (now pointers)) (w .gone) (w .seg) ⌝ }
-    ensures { λ r. ⌜ r ≡ (isIn (w .gone) drive || not (recsBad p drive (w .base) (groupRecs p (w .base) (recsOn (segmentIn p (now (image .entry)) (now (pointers .entry)) w) drive)))) ⌝ }
+    ensures { λ r. ⌜
+        ((off : List ℕ)
+        → w .full ≡ sealedIn p (viewOf p off (now (image .entry)) (now (pointers .entry))) (w .gone) (w .seg)
+        → r ≡ (isIn (w .gone) drive || not (recsBad p drive (w .base) (groupRecs p (w .base) (recsOn (segmentIn p off (now (image .entry)) (now (pointers .entry)) w) drive))))) ⌝ }
     ensures { λ _. ⌜ SameBelow drive (now (at .entry)) (now (at .exit)) ⌝ }
-    ensures { λ r. ⌜ (r ≡ true → Row p (w .base) (groupRecs p (w .base) (recsOn (segmentIn p (now (image .entry)) (now (pointers .entry)) w) drive)) drive (now (at .exit))) ⌝ }
+    ensures { λ r. ⌜
+        ((off : List ℕ)
+        → w .full ≡ sealedIn p (viewOf p off (now (image .entry)) (now (pointers .entry))) (w .gone) (w .seg)
+        → r ≡ true
+        → Row p (w .base) (groupRecs p (w .base) (recsOn (segmentIn p off (now (image .entry)) (now (pointers .entry)) w) drive)) drive (now (at .exit))) ⌝ }
 {
     clear_row(p, at, drive);
     if bits_masks::has_drive(w.gone, drive) {
@@ -210,11 +222,15 @@ pub fn index_group(p: Params, image: &[u8], pointers: &[u8], w: Group, at: &mut 
     requires { ⌜ inRange p ≡ true ⌝ }
     requires { ⌜ Whole p (mkDisk (now image) (now pointers)) ⌝ }
     requires { ⌜ (length (now at) ≡ 2048) × ZonesLow p (w .gone) (w .seg) × (w .base < p .S) × (w .base % p .G ≡ 0) ⌝ }
-    requires { ⌜ w .full ≡ sealedIn p (viewOf p (now image) (now pointers)) (w .gone) (w .seg) ⌝ }
-    ensures { λ r. ⌜ r ≡ not (groupFault p (w .gone) (segmentIn p (now (image .entry)) (now (pointers .entry)) w) (w .base)) ⌝ }
+    ensures { λ r. ⌜
+        ((off : List ℕ)
+        → w .full ≡ sealedIn p (viewOf p off (now (image .entry)) (now (pointers .entry))) (w .gone) (w .seg)
+        → r ≡ not (groupFault p (w .gone) (segmentIn p off (now (image .entry)) (now (pointers .entry)) w) (w .base))) ⌝ }
     ensures { λ _. ⌜
-        (recsFault p (w .gone) (segmentIn p (now (image .entry)) (now (pointers .entry)) w) ≡ false
-        → Indexed p (segmentIn p (now (image .entry)) (now (pointers .entry)) w) (w .base) (now (at .exit))) ⌝ }
+        ((off : List ℕ)
+        → w .full ≡ sealedIn p (viewOf p off (now (image .entry)) (now (pointers .entry))) (w .gone) (w .seg)
+        → recsFault p (w .gone) (segmentIn p off (now (image .entry)) (now (pointers .entry)) w) ≡ false
+        → Indexed p (segmentIn p off (now (image .entry)) (now (pointers .entry)) w) (w .base) (now (at .exit))) ⌝ }
 {
     let mut d = 0;
     while d < p.N {
@@ -310,7 +326,10 @@ pub fn stored_rec(p: Params, image: &[u8], w: Group, at: &[u16], drive: usize, k
     requires { ⌜ inRange p ≡ true ⌝ }
     requires { ⌜ (length (now image) ≡ imageLen p) × (length (now at) ≡ 2048) × (zoneOn (w .seg) drive < p .Z) × (w .base < p .S) × (drive < p .N) × (k < groupLen p (w .base)) ⌝ }
     requires { ⌜ Entered p (w .base) (now at) drive k ⌝ }
-    ensures { λ r. ⌜ ((ps : List ℕ) → GroupReads p (now (image .entry)) ps w (now (at .entry)) → recVal r ≡ storedRec (segmentIn p (now (image .entry)) ps w) (w .base + k) drive) ⌝ }
+    ensures { λ r. ⌜
+        ((off : List ℕ) (ps : List ℕ)
+        → GroupReads p off (now (image .entry)) ps w (now (at .entry))
+        → recVal r ≡ storedRec (segmentIn p off (now (image .entry)) ps w) (w .base + k) drive) ⌝ }
 {
     let zone = disk_shape::zone_on(p, w.seg, drive);
     disk_stored::record_in(p, image, w.full, drive, zone, offset_on(w, at, drive, k))
@@ -322,10 +341,10 @@ fn present_rec(p: Params, image: &[u8], w: Group, at: &[u16], drive: usize, k: u
     requires { ⌜ (length (now image) ≡ imageLen p) × (length (now at) ≡ 2048) × ZonesLow p (w .gone) (w .seg) × (w .base < p .S) × (drive < p .N) × (k < groupLen p (w .base)) ⌝ }
     requires { ⌜ AllEntered p (w .gone) (w .base) (now at) k ⌝ }
     ensures { λ r. ⌜
-        ((ps : List ℕ)
-        → GroupReads p (now (image .entry)) ps w (now (at .entry))
+        ((off : List ℕ) (ps : List ℕ)
+        → GroupReads p off (now (image .entry)) ps w (now (at .entry))
         → isIn (w .gone) drive ≡ false
-        → recVal r ≡ storedRec (segmentIn p (now (image .entry)) ps w) (w .base + k) drive) ⌝ }
+        → recVal r ≡ storedRec (segmentIn p off (now (image .entry)) ps w) (w .base + k) drive) ⌝ }
 {
     if bits_masks::has_drive(w.gone, drive) {
         return Record {
@@ -343,9 +362,9 @@ pub fn lost_rec(p: Params, image: &[u8], w: Group, at: &[u16], drive: usize, k: 
     requires { ⌜ (length (now image) ≡ imageLen p) × (length (now at) ≡ 2048) × ZonesLow p (w .gone) (w .seg) × (w .base < p .S) × (drive < p .N) × (k < groupLen p (w .base)) ⌝ }
     requires { ⌜ AllEntered p (w .gone) (w .base) (now at) k ⌝ }
     ensures { λ r. ⌜
-        ((ps : List ℕ)
-        → GroupReads p (now (image .entry)) ps w (now (at .entry))
-        → recVal r ≡ decodeRec p (w .gone) (w .base + k) drive (storedRec (segmentIn p (now (image .entry)) ps w) (w .base + k))) ⌝ }
+        ((off : List ℕ) (ps : List ℕ)
+        → GroupReads p off (now (image .entry)) ps w (now (at .entry))
+        → recVal r ≡ decodeRec p (w .gone) (w .base + k) drive (storedRec (segmentIn p off (now (image .entry)) ps w) (w .base + k))) ⌝ }
 {
     let mut addresses = [0u64; 8];
     let mut stamps = [0u64; 8];
@@ -376,8 +395,8 @@ pub fn rec_of(p: Params, image: &[u8], w: Group, at: &[u16], drive: usize, k: us
     requires { ⌜ inRange p ≡ true ⌝ }
     requires { ⌜ (length (now image) ≡ imageLen p) × (length (now at) ≡ 2048) × ZonesLow p (w .gone) (w .seg) × (w .base < p .S) × (drive < p .N) × (k < groupLen p (w .base)) ⌝ }
     requires { ⌜ AllEntered p (w .gone) (w .base) (now at) k ⌝ }
-    ensures { λ r. ⌜ ((ps : List ℕ) → GroupReads p (now (image .entry)) ps w (now (at .entry))
-        → recVal r ≡ recOf p (w .gone) (segmentIn p (now (image .entry)) ps w) (w .base + k) drive) ⌝ }
+    ensures { λ r. ⌜ ((off : List ℕ) (ps : List ℕ) → GroupReads p off (now (image .entry)) ps w (now (at .entry))
+        → recVal r ≡ recOf p (w .gone) (segmentIn p off (now (image .entry)) ps w) (w .base + k) drive) ⌝ }
 {
     if bits_masks::has_drive(w.gone, drive) {
         return lost_rec(p, image, w, at, drive, k);
@@ -392,10 +411,10 @@ pub fn block_at(p: Params, w: Group, at: &[u16], drive: usize, k: usize) -> usiz
     requires { ⌜ Entered p (w .base) (now at) drive k ⌝ }
     ensures { λ r. ⌜ r + p .B ≤ imageLen p ⌝ }
     ensures { λ r. ⌜
-        ((im ps : List ℕ)
+        ((off im ps : List ℕ)
         → length im ≡ imageLen p
-        → GroupReads p im ps w (now (at .entry))
-        → storedPiece (segmentIn p im ps w) (w .base + k) drive .block ≡ part r (p .B) im) ⌝ }
+        → GroupReads p off im ps w (now (at .entry))
+        → storedPiece (segmentIn p off im ps w) (w .base + k) drive .block ≡ part r (p .B) im) ⌝ }
 {
     let zone = disk_shape::zone_on(p, w.seg, drive);
     disk_shape::block_byte(p, drive, zone, 1 + offset_on(w, at, drive, k))
@@ -416,9 +435,9 @@ pub fn xor_block(
         × (length (now block) ≡ p .B) ⌝ }
     requires { ⌜ Entered p (w .base) (now at) drive k ⌝ }
     ensures { λ _. ⌜
-        ((ps : List ℕ)
-        → GroupReads p (now (image .entry)) ps w (now (at .entry))
-        → now (block .exit) ≡ xors (now (block .entry)) (storedPiece (segmentIn p (now (image .entry)) ps w) (w .base + k) drive .block)) ⌝ }
+        ((off : List ℕ) (ps : List ℕ)
+        → GroupReads p off (now (image .entry)) ps w (now (at .entry))
+        → now (block .exit) ≡ xors (now (block .entry)) (storedPiece (segmentIn p off (now (image .entry)) ps w) (w .base + k) drive .block)) ⌝ }
 {
     let zone = disk_shape::zone_on(p, w.seg, drive);
     let a = disk_shape::block_byte(p, drive, zone, 1 + offset_on(w, at, drive, k));
@@ -440,8 +459,8 @@ pub fn copy_block(
     requires { ⌜ (length (now image) ≡ imageLen p) × (length (now at) ≡ 2048) × (zoneOn (w .seg) drive < p .Z) × (w .base < p .S) × (drive < p .N) × (k < groupLen p (w .base))
         × (length (now block) ≡ p .B) ⌝ }
     requires { ⌜ Entered p (w .base) (now at) drive k ⌝ }
-    ensures { λ _. ⌜ ((ps : List ℕ) → GroupReads p (now (image .entry)) ps w (now (at .entry))
-        → now (block .exit) ≡ storedPiece (segmentIn p (now (image .entry)) ps w) (w .base + k) drive .block) ⌝ }
+    ensures { λ _. ⌜ ((off : List ℕ) (ps : List ℕ) → GroupReads p off (now (image .entry)) ps w (now (at .entry))
+        → now (block .exit) ≡ storedPiece (segmentIn p off (now (image .entry)) ps w) (w .base + k) drive .block) ⌝ }
 {
     let zone = disk_shape::zone_on(p, w.seg, drive);
     let a = disk_shape::block_byte(p, drive, zone, 1 + offset_on(w, at, drive, k));
@@ -456,11 +475,11 @@ fn present_block(p: Params, w: Group, at: &[u16], drive: usize, k: usize) -> usi
     requires { ⌜ AllEntered p (w .gone) (w .base) (now at) k ⌝ }
     ensures { λ r. ⌜ (isIn (w .gone) drive ≡ false → r + p .B ≤ imageLen p) ⌝ }
     ensures { λ r. ⌜
-        ((im ps : List ℕ)
+        ((off im ps : List ℕ)
         → length im ≡ imageLen p
-        → GroupReads p im ps w (now (at .entry))
+        → GroupReads p off im ps w (now (at .entry))
         → isIn (w .gone) drive ≡ false
-        → storedPiece (segmentIn p im ps w) (w .base + k) drive .block ≡ part r (p .B) im) ⌝ }
+        → storedPiece (segmentIn p off im ps w) (w .base + k) drive .block ≡ part r (p .B) im) ⌝ }
 {
     if bits_masks::has_drive(w.gone, drive) {
         return 0;
@@ -483,10 +502,10 @@ pub fn lost_block(
         × (length (now block) ≡ p .B) ⌝ }
     requires { ⌜ AllEntered p (w .gone) (w .base) (now at) k ⌝ }
     ensures { λ _. ⌜
-        ((ps : List ℕ)
-        → GroupReads p (now (image .entry)) ps w (now (at .entry))
+        ((off : List ℕ) (ps : List ℕ)
+        → GroupReads p off (now (image .entry)) ps w (now (at .entry))
         → now (block .exit)
-        ≡ decodeBlock p (w .gone) (w .base + k) drive (λ e. storedPiece (segmentIn p (now (image .entry)) ps w) (w .base + k) e .block)) ⌝ }
+        ≡ decodeBlock p (w .gone) (w .base + k) drive (λ e. storedPiece (segmentIn p off (now (image .entry)) ps w) (w .base + k) e .block)) ⌝ }
 {
     let mut from = [0usize; 8];
     let mut d = 0;

@@ -1,2 +1,3 @@
 pub mod Lowest
 pub mod Fronts
+pub mod Names

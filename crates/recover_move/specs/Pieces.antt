@@ -14,7 +14,7 @@ use Rattle.recover_groups.specs.declared.Group.{Group}
 use Rattle.law_basic.specs.Geometry.{Ranged, data-drive-lt, position-lt}
 use Rattle.law_basic.specs.Mask.{isIn-empty}
 use Rattle.law_basic.specs.Ranges.{below-none, map-below-snoc, map-map, getD-map-below}
-use Rattle.law_basic.specs.Segs.{Named, zone-on-lt}
+use Rattle.law_basic.specs.Segs.{ZonesLow, low-here}
 use Rattle.law_basic.specs.Xor.{long-below, parity-none, parity-snoc, xorAll-none, xorAll-below-snoc}
 use Rattle.law_code.specs.Chunks.{moved-is-data, moved-is-parity}
 use Rattle.law_code.specs.Single.{encode-xor}
@@ -120,34 +120,34 @@ module _ (p : Params) (g : Segment) (s n : ℕ) where
 
 -- ---- as the code goes
 
-module _ (p : Params) (r : Ranged p) (im ps : List ℕ) (w : Group) (at : List ℕ) (k n : ℕ) (long : length im ≡ imageLen p) (hs : Named p (w .seg)) (hb : w .base < p .S)
+module _ (p : Params) (r : Ranged p) (off im ps : List ℕ) (w : Group) (at : List ℕ) (k n : ℕ) (long : length im ≡ imageLen p) (hs : ZonesLow p 0 (w .seg)) (hb : w .base < p .S)
     (hk : k < groupLen p (w .base))
-    (en : AllEntered p 0 (w .base) at k) (x : GroupReads p im ps w at) where
+    (en : AllEntered p 0 (w .base) at k) (x : GroupReads p off im ps w at) where
   abbrev g : Segment
-  g = segmentIn p im ps w
+  g = segmentIn p off im ps w
 
   -- a data chunk moved
   pub data-moved :
       (i D : ℕ) (b : List ℕ) (y q : Rec)
       → D ≡ dataDrive p (w .base + k) i
-      → b ≡ storedPiece (segmentIn p im ps w) (w .base + k) D .block
-      → y ≡ storedRec (segmentIn p im ps w) (w .base + k) D
-      → q .address ≡ y .address → q .stamp ≡ y .stamp → q .stripe ≡ n → mkPiece b q ≡ renumbered n (storedPiece (segmentIn p im ps w) (w .base + k) (dataDrive p (w .base + k) i))
+      → b ≡ storedPiece (segmentIn p off im ps w) (w .base + k) D .block
+      → y ≡ storedRec (segmentIn p off im ps w) (w .base + k) D
+      → q .address ≡ y .address → q .stamp ≡ y .stamp → q .stripe ≡ n → mkPiece b q ≡ renumbered n (storedPiece (segmentIn p off im ps w) (w .base + k) (dataDrive p (w .base + k) i))
   data-moved i D b y q e eb ey a t m =
       piece-moved g (w .base + k) D n b q eb (a ∙ ap (λ (z : Rec). z .address) ey) (t ∙ ap (λ (z : Rec). z .stamp) ey) m
       ∙ ap (λ (d : ℕ). renumbered n (storedPiece g (w .base + k) d)) e
 
   -- one data chunk more in the parity
-  pub xored-step : (i D : ℕ) (b b′ : List ℕ) (q q′ y : Rec) → i < dataCount p → D ≡ dataDrive p (w .base + k) i → Xored p (segmentIn p im ps w) (w .base + k) n i b q
-      → b′ ≡ xors b (storedPiece (segmentIn p im ps w) (w .base + k) D .block) → y ≡ storedRec (segmentIn p im ps w) (w .base + k) D
+  pub xored-step : (i D : ℕ) (b b′ : List ℕ) (q q′ y : Rec) → i < dataCount p → D ≡ dataDrive p (w .base + k) i → Xored p (segmentIn p off im ps w) (w .base + k) n i b q
+      → b′ ≡ xors b (storedPiece (segmentIn p off im ps w) (w .base + k) D .block) → y ≡ storedRec (segmentIn p off im ps w) (w .base + k) D
       → q′ .address ≡ bitXor (q .address) (y .address) → q′ .stamp ≡ bitXor (q .stamp) (y .stamp) → q′ .stripe ≡ q .stripe
-      → Xored p (segmentIn p im ps w) (w .base + k) n (i + 1) b′ q′
+      → Xored p (segmentIn p off im ps w) (w .base + k) n (i + 1) b′ q′
   xored-step i D b b′ q q′ y hi e xi eb ey a t m =
       xored-turn p g (w .base + k) n i b b′ q q′ xi
       (λ j h.
       let hd : dataDrive p (w .base + k) j < p .N = data-drive-lt p (w .base + k) j (omega arith) in
       let D = dataDrive p (w .base + k) j in
-      piece-block-long p im ps w at r long x hb k hk D hd (zone-on-lt p (w .seg) D hs) (en D hd (isIn-empty D)))
+      piece-block-long p off im ps w at r long x hb k hk D hd (low-here p (w .seg) D hs hd) (en D hd (isIn-empty D)))
       (eb ∙ ap (λ (d : ℕ). xors b (storedPiece g (w .base + k) d .block)) e)
       (a ∙ ap (λ (z : Rec). bitXor (q .address) (z .address)) (ey ∙ ap (storedRec g (w .base + k)) e))
       (t ∙ ap (λ (z : Rec). bitXor (q .stamp) (z .stamp)) (ey ∙ ap (storedRec g (w .base + k)) e))

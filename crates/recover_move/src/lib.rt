@@ -13,9 +13,9 @@ ghost use Rattle.spec.specs.Segments.{storedPiece};
 ghost use Rattle.disk_records.specs.Record.{recVal};
 ghost use Rattle.law_views.specs.Views.{Whole, AllFit};
 ghost use Rattle.recover_groups.specs.Groups.{AllEntered, segmentIn, GroupReads};
-ghost use Rattle.recover_move.specs.Moves.{MovesShown, movedTo};
+ghost use Rattle.recover_move.specs.Moves.{OtherZones, MovesShown, movedTo};
 ghost use Rattle.disk_zones.specs.Made.{Storing};
-ghost use Rattle.law_basic.specs.Segs.{OtherSeg, ZonesLow};
+ghost use Rattle.law_basic.specs.Segs.{ZonesLow};
 use disk_records::Record;
 use disk_zones::Made;
 use recover_groups::Group;
@@ -40,10 +40,10 @@ fn moved_data(
     requires { ⌜ AllEntered p 0 (w .base) (now at) k ⌝ }
     requires { ⌜ (length (now image) ≡ imageLen p) × (length (now block) ≡ p .B) × (i < dataCount p) × (s < 65536) ⌝ }
     ensures { λ r. ⌜
-        ((ps : List ℕ)
-        → GroupReads p (now (image .entry)) ps w (now (at .entry))
+        ((off : List ℕ) (ps : List ℕ)
+        → GroupReads p off (now (image .entry)) ps w (now (at .entry))
         → mkPiece (now (block .exit)) (recVal r) ≡ renumbered s
-        (storedPiece (segmentIn p (now (image .entry)) ps w) (w .base + k) (dataDrive p (w .base + k) i))) ⌝ }
+        (storedPiece (segmentIn p off (now (image .entry)) ps w) (w .base + k) (dataDrive p (w .base + k) i))) ⌝ }
 {
     let from = disk_shape::data_drive(p, w.base + k, i);
     recover_groups::copy_block(p, image, w, at, from, k, block);
@@ -72,9 +72,9 @@ fn moved_parity(
     requires { ⌜ AllEntered p 0 (w .base) (now at) k ⌝ }
     requires { ⌜ (length (now image) ≡ imageLen p) × (length (now block) ≡ p .B) × (s < 65536) ⌝ }
     ensures { λ r. ⌜
-        ((ps : List ℕ)
-        → GroupReads p (now (image .entry)) ps w (now (at .entry))
-        → mkPiece (now (block .exit)) (recVal r) ≡ parityPiece p s (movedPieces p (segmentIn p (now (image .entry)) ps w) (w .base + k) s)) ⌝ }
+        ((off : List ℕ) (ps : List ℕ)
+        → GroupReads p off (now (image .entry)) ps w (now (at .entry))
+        → mkPiece (now (block .exit)) (recVal r) ≡ parityPiece p s (movedPieces p (segmentIn p off (now (image .entry)) ps w) (w .base + k) s)) ⌝ }
 {
     disk_blocks::clear(block);
     let mut r = Record {
@@ -108,9 +108,9 @@ fn moved_chunk(
     requires { ⌜ AllEntered p 0 (w .base) (now at) k ⌝ }
     requires { ⌜ (length (now image) ≡ imageLen p) × (length (now block) ≡ p .B) × (drive < p .N) × (s < 65536) ⌝ }
     ensures { λ r. ⌜
-        ((ps : List ℕ)
-        → GroupReads p (now (image .entry)) ps w (now (at .entry))
-        → mkPiece (now (block .exit)) (recVal r) ≡ movedOn p (movedPieces p (segmentIn p (now (image .entry)) ps w) (w .base + k) s) s drive) ⌝ }
+        ((off : List ℕ) (ps : List ℕ)
+        → GroupReads p off (now (image .entry)) ps w (now (at .entry))
+        → mkPiece (now (block .exit)) (recVal r) ≡ movedOn p (movedPieces p (segmentIn p off (now (image .entry)) ps w) (w .base + k) s) s drive) ⌝ }
 {
     if disk_shape::is_data(p, s, drive) {
         let i = disk_shape::data_position(p, s, drive);
@@ -137,11 +137,12 @@ fn move_with(
     requires { ⌜ Whole p (mkDisk (now image) (now pointers)) ⌝ }
     requires { ⌜ MovesShown p w (now at) k ⌝ }
     requires { ⌜ AllEntered p 0 (w .base) (now at) k ⌝ }
-    requires { ⌜ GroupReads p (now image) (now pointers) w (now at) ⌝ }
+    requires { ⌜ ((off : List ℕ) → GroupReads p off (now image) (now pointers) w (now at)) ⌝ }
     requires { ⌜ (drive < p .N) × (zoneOn to drive < p .Z) × (s < 65536) × (length (now block) ≡ p .B) × (pointerOf p (now pointers) drive (zoneOn to drive) < capacity p) ⌝ }
     ensures { λ r. ⌜
-        Storing p count (movedTo p (segmentIn p (now (image .entry)) (now (pointers .entry)) w) to (w .base + k) s drive ∷ [])
-        (mkDisk (now (image .entry)) (now (pointers .entry))) r (mkDisk (now (image .exit)) (now (pointers .exit))) ⌝ }
+        ((off : List ℕ)
+        → Storing p count (movedTo p (segmentIn p off (now (image .entry)) (now (pointers .entry)) w) to (w .base + k) s drive ∷ [])
+        (mkDisk (now (image .entry)) (now (pointers .entry))) r (mkDisk (now (image .exit)) (now (pointers .exit)))) ⌝ }
 {
     let mut spare = [0u8; disk_shape::SPARE];
     let r = moved_chunk(p, image, w, at, k, s, drive, block);
@@ -167,11 +168,12 @@ fn move_chunk(
     requires { ⌜ Whole p (mkDisk (now image) (now pointers)) ⌝ }
     requires { ⌜ MovesShown p w (now at) k ⌝ }
     requires { ⌜ AllEntered p 0 (w .base) (now at) k ⌝ }
-    requires { ⌜ GroupReads p (now image) (now pointers) w (now at) ⌝ }
+    requires { ⌜ ((off : List ℕ) → GroupReads p off (now image) (now pointers) w (now at)) ⌝ }
     requires { ⌜ (drive < p .N) × (zoneOn to drive < p .Z) × (s < 65536) × (pointerOf p (now pointers) drive (zoneOn to drive) < capacity p) ⌝ }
     ensures { λ r. ⌜
-        Storing p count (movedTo p (segmentIn p (now (image .entry)) (now (pointers .entry)) w) to (w .base + k) s drive ∷ [])
-        (mkDisk (now (image .entry)) (now (pointers .entry))) r (mkDisk (now (image .exit)) (now (pointers .exit))) ⌝ }
+        ((off : List ℕ)
+        → Storing p count (movedTo p (segmentIn p off (now (image .entry)) (now (pointers .entry)) w) to (w .base + k) s drive ∷ [])
+        (mkDisk (now (image .entry)) (now (pointers .entry))) r (mkDisk (now (image .exit)) (now (pointers .exit)))) ⌝ }
 {
     let mut block = [0u8; 4096];
     let b = p.B;
@@ -206,12 +208,13 @@ pub fn move_stripe(
     requires { ⌜ Whole p (mkDisk (now image) (now pointers)) ⌝ }
     requires { ⌜ MovesShown p w (now at) k ⌝ }
     requires { ⌜ AllEntered p 0 (w .base) (now at) k ⌝ }
-    requires { ⌜ GroupReads p (now image) (now pointers) w (now at) ⌝ }
-    requires { ⌜ ZonesLow p 0 to × (s < 65536) × OtherSeg p to (w .seg) ⌝ }
-    requires { ⌜ AllFit p (viewOf p (now image) (now pointers)) (movedStripe p (segmentIn p (now image) (now pointers) w) to (w .base + k) s) ⌝ }
+    requires { ⌜ ((off : List ℕ) → GroupReads p off (now image) (now pointers) w (now at)) ⌝ }
+    requires { ⌜ ZonesLow p 0 to × (s < 65536) × OtherZones p to (w .seg) ⌝ }
+    requires { ⌜ ((off : List ℕ) → AllFit p (viewOf p off (now image) (now pointers)) (movedStripe p (segmentIn p off (now image) (now pointers) w) to (w .base + k) s)) ⌝ }
     ensures { λ r. ⌜
-        Storing p count (movedStripe p (segmentIn p (now (image .entry)) (now (pointers .entry)) w) to (w .base + k) s)
-        (mkDisk (now (image .entry)) (now (pointers .entry))) r (mkDisk (now (image .exit)) (now (pointers .exit))) ⌝ }
+        ((off : List ℕ)
+        → Storing p count (movedStripe p (segmentIn p off (now (image .entry)) (now (pointers .entry)) w) to (w .base + k) s)
+        (mkDisk (now (image .entry)) (now (pointers .entry))) r (mkDisk (now (image .exit)) (now (pointers .exit)))) ⌝ }
 {
     let mut left = count;
     let mut d = 0;

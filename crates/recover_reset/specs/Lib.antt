@@ -1,3 +1,4 @@
 pub mod Same
 pub mod Lost
 pub mod Rebuilt
+pub mod Good

@@ -9,15 +9,15 @@ use lib.Dec.{eqb}
 use Rattle.spec.specs.declared.Params.{Params}
 use Rattle.spec.specs.Drives.{Chunk, View, Store, zoneOn}
 use Rattle.spec.specs.Lists.{upFrom, keep, isIn}
-use Rattle.spec.specs.Params.{present}
 use Rattle.spec.specs.Parity.{Piece}
-use Rattle.spec.specs.Segments.{lowDrive, Segment, segmentOf, counts, pieceOf, putPiece}
+use Rattle.spec.specs.Segments.{Segment, segmentOf, counts, pieceOf, putPiece}
 use Rattle.law_basic.specs.Ranges.{upFrom-add, map-append, map-same, map-map, keep-append, keep-hit, keep-miss, keep-none}
-use Rattle.law_basic.specs.Segs.{Named}
+use Rattle.law_basic.specs.Segs.{ZonesLow}
 use Rattle.law_drives.specs.Frame.{Agree}
-use Rattle.law_drives.specs.Members.{In, keep-cong}
+use Rattle.law_drives.specs.Members.{keep-cong}
 use Rattle.law_drives.specs.Puts.{putAt, hits-puts}
 use Rattle.law_drives.specs.Rebuilding.{pieceChunk, put-pieces}
+use Rattle.law_drives.specs.Segs.{Here}
 use Rattle.law_drives.specs.Tests.{cond-false}
 use Rattle.law_drives.specs.Zones.{hits}
 use Rattle.recover_reset.specs.Same.{same-seg, same-counts, same-piece}
@@ -88,12 +88,12 @@ lost-apart p gone d g ss e y q =
     ap (hits e y) (lost-puts p gone d g ss) ∙ hits-puts e y d z cs ∙ cond-false (eqb d e && eqb z y) (map (putAt d z) cs) [] q
 
 -- the same on views that agree but on the missing drives
-pub same-lost : (p : Params) (gone : ℕ) (v u : View) → In (lowDrive p gone) (present p gone) → Agree p gone v u → (g : Seg) → Named p g → (d : ℕ) → isIn gone d ≡ true
+pub same-lost : (p : Params) (gone : ℕ) (v u : View) → Here p gone → Agree p gone v u → v .offline ≡ u .offline → (g : Seg) → ZonesLow p gone g → (d : ℕ) → isIn gone d ≡ true
     → (ss : List ℕ) → lostStores p gone d (segmentOf p v gone g) ss ≡ lostStores p gone d (segmentOf p u gone g) ss
 unfolding lostStores lostStore
-same-lost p gone v u low ag g hg d q ss =
+same-lost p gone v u here ag off g hg d q ss =
     let x = segmentOf p v gone g in
     let y = segmentOf p u gone g in
-    ap (map (λ s. putPiece d (zoneOn (x .seg) d) (pieceOf p gone x s d))) (keep-cong (counts p gone x) (counts p gone y) ss (λ s m. same-counts p gone v u low ag g hg s))
+    ap (map (λ s. putPiece d (zoneOn (x .seg) d) (pieceOf p gone x s d))) (keep-cong (counts p gone x) (counts p gone y) ss (λ s m. same-counts p gone v u here ag off g hg s))
     ∙ map-same (λ s. putPiece d (zoneOn (x .seg) d) (pieceOf p gone x s d)) (λ s. putPiece d (zoneOn (y .seg) d) (pieceOf p gone y s d)) (keep (counts p gone y) ss)
-    (λ s. ap₂ (λ (z : Seg) (t : Piece). putPiece d (zoneOn z d) t) (same-seg p gone v u low ag g hg) (same-piece p gone v u low ag g hg s d q))
+    (λ s. ap₂ (λ (z : Seg) (t : Piece). putPiece d (zoneOn z d) t) (same-seg p gone v u here ag off g hg) (same-piece p gone v u here ag off g hg s d q))

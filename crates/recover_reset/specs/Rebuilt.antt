@@ -13,20 +13,21 @@ use Rattle.spec.specs.Drives.{Chunk, mkChunk, noChunk, Zone, View, zoneAt, poin
 use Rattle.spec.specs.Drives.Store.{put}
 use Rattle.spec.specs.Layout.{headerBlock, mkRec, recordBytes, footerBlock}
 use Rattle.spec.specs.Lists.{upFrom, below, consIf, keep, isIn}
-use Rattle.spec.specs.Params.{footers, capacity, named, present}
+use Rattle.spec.specs.Params.{footers, capacity, named}
 use Rattle.spec.specs.Parity.{Piece, mkPiece}
 use Rattle.spec.specs.Rebuild.{rebuiltZone}
-use Rattle.spec.specs.Segments.{lowDrive, Segment, segmentOf, counts, counted, pieceOf, putPiece}
+use Rattle.spec.specs.Segments.{Segment, segmentOf, counts, counted, pieceOf, putPiece}
 use Rattle.law_basic.specs.Geometry.{Ranged}
 use Rattle.law_basic.specs.Ranges.{and-both, length-below, map-same, map-map, getD-map}
-use Rattle.law_basic.specs.Segs.{Named, zone-on-lt}
+use Rattle.law_basic.specs.Segs.{ZonesLow}
 use Rattle.law_views.specs.Views.{Whole, pointer-view, blocks-long, AllFit, seen}
 use Rattle.law_drives.specs.Frame.{Agree}
 use Rattle.law_drives.specs.Image.{sized-of}
-use Rattle.law_drives.specs.Members.{In, keep-cong, nil-append}
+use Rattle.law_drives.specs.Members.{keep-cong, nil-append}
 use Rattle.law_drives.specs.Puts.{hits-append, putAt, hits-puts, putAll, puts-pointer, puts-new}
 use Rattle.law_drives.specs.Range.{capacity-is, capacity-over}
 use Rattle.law_drives.specs.Rebuilding.{pieceChunk}
+use Rattle.law_drives.specs.Segs.{Here}
 use Rattle.law_drives.specs.Tests.{cond-true, cond-false, eqb-self}
 use Rattle.law_drives.specs.Zones.{hitsAt, zoneStore, hits, zone-after}
 use Rattle.law_restart.specs.Frames.{seen-after, whole-after}
@@ -96,7 +97,8 @@ rebuilt-apart p d g e y q =
 
 -- ---- the same on views that agree but on the drive
 
-module _ (p : Params) (d : ℕ) (v u : View) (low : In (lowDrive p (named d)) (present p (named d))) (lost : isIn (named d) d ≡ true) (ag : Agree p (named d) v u) (g : Seg) (hg : Named p g) where
+module _ (p : Params) (d : ℕ) (v u : View) (here : Here p (named d)) (lost : isIn (named d) d ≡ true) (ag : Agree p (named d) v u) (off : v .offline ≡ u .offline) (g : Seg)
+    (hg : ZonesLow p (named d) g) where
   abbrev x : Segment
   x = segmentOf p v (named d) g
 
@@ -105,31 +107,31 @@ module _ (p : Params) (d : ℕ) (v u : View) (low : In (lowDrive p (named d)) (p
 
   same-head : headStore p d x ≡ headStore p d y
   unfolding headStore
-  same-head = λ j. let h = same-seg p (named d) v u low ag g hg j in
-      put d (zoneOn h d) (headerBlock p d (zonesIn p h) (same-serial p (named d) v u low ag g hg j) (same-copied p (named d) v u low ag g hg j)) zeroSpare
+  same-head = λ j. let h = same-seg p (named d) v u here ag off g hg j in
+      put d (zoneOn h d) (headerBlock p d (zonesIn p h) (same-serial p (named d) v u here ag off g hg j) (same-copied p (named d) v u here ag off g hg j)) zeroSpare
 
   same-spares : lostSpares p d x ≡ lostSpares p d y
   unfolding lostSpares counted
   same-spares = ap (map (λ (q : Piece). recordBytes (q .rec)))
-      (ap (map (λ s. pieceOf p (named d) x s d)) (keep-cong (counts p (named d) x) (counts p (named d) y) (below (p .S)) (λ s m. same-counts p (named d) v u low ag g hg s))
-      ∙ map-same (λ s. pieceOf p (named d) x s d) (λ s. pieceOf p (named d) y s d) (keep (counts p (named d) y) (below (p .S))) (λ s. same-piece p (named d) v u low ag g hg s d lost))
+      (ap (map (λ s. pieceOf p (named d) x s d)) (keep-cong (counts p (named d) x) (counts p (named d) y) (below (p .S)) (λ s m. same-counts p (named d) v u here ag off g hg s))
+      ∙ map-same (λ s. pieceOf p (named d) x s d) (λ s. pieceOf p (named d) y s d) (keep (counts p (named d) y) (below (p .S))) (λ s. same-piece p (named d) v u here ag off g hg s d lost))
 
   same-feet : lostFeet p d x ≡ lostFeet p d y
   unfolding lostFeet
-  same-feet = λ j. cond (same-full p (named d) v u low ag g hg j)
-      (map (λ i. put d (zoneOn (same-seg p (named d) v u low ag g hg j) d) (footerBlock p (same-spares j) i) zeroSpare) (below (footers p))) []
+  same-feet = λ j. cond (same-full p (named d) v u here ag off g hg j)
+      (map (λ i. put d (zoneOn (same-seg p (named d) v u here ag off g hg j) d) (footerBlock p (same-spares j) i) zeroSpare) (below (footers p))) []
 
   pub same-rest : lostRest p d x ≡ lostRest p d y
   unfolding lostRest
-  same-rest = ap₂ _++_ (same-lost p (named d) v u low ag g hg d lost (below (p .S))) same-feet
+  same-rest = ap₂ _++_ (same-lost p (named d) v u here ag off g hg d lost (below (p .S))) same-feet
 
   pub same-rebuilt : rebuiltZone p d x ≡ rebuiltZone p d y
   same-rebuilt = rebuilt-parts p d x ∙ ap₂ (λ (s : Store) (l : List Store). (s ∷ []) ++ l) same-head same-rest ∙ sym (rebuilt-parts p d y)
 
 -- ---- the footers, once all S chunks are stored behind the header
 
-module _ (p : Params) (r : Ranged p) (d : ℕ) (g : Seg) (hd : d < p .N) (hg : Named p g) (sg : Segment) (eg : sg .seg ≡ g) (k k′ : Disk) (w : Whole p k)
-    (fits : AllFit p (seen p k) (lostStores p (named d) d sg (below (p .S)))) (e : k′ ≡ storeAll (storeDisk p) (lostStores p (named d) d sg (below (p .S))) k)
+module _ (p : Params) (r : Ranged p) (off : List ℕ) (d : ℕ) (g : Seg) (hd : d < p .N) (hz : zoneOn g d < p .Z) (sg : Segment) (eg : sg .seg ≡ g) (k k′ : Disk) (w : Whole p k)
+    (fits : AllFit p (seen p off k) (lostStores p (named d) d sg (below (p .S)))) (e : k′ ≡ storeAll (storeDisk p) (lostStores p (named d) d sg (below (p .S))) k)
     (one : pointerOf p (k .pointers) d (zoneOn g d) ≡ 1) (all! : counted p (named d) sg ≡ below (p .S)) where
   abbrev ls : List Store
   ls = lostStores p (named d) d sg (below (p .S))
@@ -155,46 +157,46 @@ module _ (p : Params) (r : Ranged p) (d : ℕ) (g : Seg) (hd : d < p .N) (hg : N
       ∙ ap (λ (n : ℕ). map (putAt d n) cs) zone-eq
 
   abbrev q₀ : Zone
-  q₀ = zoneAt (seen p k) d (zoneOn g d)
+  q₀ = zoneAt (seen p off k) d (zoneOn g d)
 
-  zone-now : zoneAt (seen p k′) d (zoneOn g d) ≡ putAll d (zoneOn g d) cs q₀
+  zone-now : zoneAt (seen p off k′) d (zoneOn g d) ≡ putAll d (zoneOn g d) cs q₀
   zone-now =
-      ap (λ (v : View). zoneAt v d (zoneOn g d)) (seen-after p r k k′ ls w fits e) ∙ zone-after p (seen p k) d (zoneOn g d) ls (sized-of p k w) hd (zone-on-lt p g d hg)
+      ap (λ (v : View). zoneAt v d (zoneOn g d)) (seen-after p r off k k′ ls w fits e) ∙ zone-after p (seen p off k) d (zoneOn g d) ls (sized-of p off k w) hd hz
       ∙ ap (λ (l : List Store). storeAll zoneStore l q₀) puts-are
 
   pointer-one : q₀ .pointer ≡ 1
-  pointer-one = as! (pointer-view p k d (zoneOn g d) hd (zone-on-lt p g d hg) w ∙ one)
+  pointer-one = as! (pointer-view p off k d (zoneOn g d) hd hz w ∙ one)
     where
-      as! : pointerAt (seen p k) d (zoneOn g d) ≡ 1 → zoneAt (seen p k) d (zoneOn g d) .pointer ≡ 1
+      as! : pointerAt (seen p off k) d (zoneOn g d) ≡ 1 → zoneAt (seen p off k) d (zoneOn g d) .pointer ≡ 1
       as! h = unfold pointerAt in h
 
   -- there is room for them
   pub feet-room : pointerOf p (k′ .pointers) d (zoneOn g d) + footers p ≤ capacity p
   feet-room =
-      let w′ = whole-after p r k k′ ls w fits e in
-      let a : pointerOf p (k′ .pointers) d (zoneOn g d) ≡ q₀ .pointer + length cs = sym (pointer-view p k′ d (zoneOn g d) hd (zone-on-lt p g d hg) w′)
+      let w′ = whole-after p r off k k′ ls w fits e in
+      let a : pointerOf p (k′ .pointers) d (zoneOn g d) ≡ q₀ .pointer + length cs = sym (pointer-view p off k′ d (zoneOn g d) hd hz w′)
       ∙ as! (ap (λ (z : Zone). z .pointer) zone-now ∙ puts-pointer d (zoneOn g d) cs q₀) in
       omega (arith, a, pointer-one, cs-long, capacity-is p r)
     where
-      as! : zoneAt (seen p k′) d (zoneOn g d) .pointer ≡ q₀ .pointer + length cs → pointerAt (seen p k′) d (zoneOn g d) ≡ q₀ .pointer + length cs
+      as! : zoneAt (seen p off k′) d (zoneOn g d) .pointer ≡ q₀ .pointer + length cs → pointerAt (seen p off k′) d (zoneOn g d) ≡ q₀ .pointer + length cs
       as! h = unfold pointerAt in h
 
-  blocks-now : length (zoneAt (seen p k′) d (zoneOn g d) .blocks) ≡ capacity p
-  blocks-now = blocks-long p k′ d (zoneOn g d) hd (zone-on-lt p g d hg) (whole-after p r k k′ ls w fits e)
+  blocks-now : length (zoneAt (seen p off k′) d (zoneOn g d) .blocks) ≡ capacity p
+  blocks-now = blocks-long p off k′ d (zoneOn g d) hd hz (whole-after p r off k k′ ls w fits e)
 
-  chunk-now : (o : ℕ) → o < p .S → getD (zoneAt (seen p k′) d (zoneOn g d) .blocks) (1 + o) noChunk ≡ getD cs o noChunk
+  chunk-now : (o : ℕ) → o < p .S → getD (zoneAt (seen p off k′) d (zoneOn g d) .blocks) (1 + o) noChunk ≡ getD cs o noChunk
   chunk-now o h =
-      let l : length (q₀ .blocks) ≡ capacity p = blocks-long p k d (zoneOn g d) hd (zone-on-lt p g d hg) w in
+      let l : length (q₀ .blocks) ≡ capacity p = blocks-long p off k d (zoneOn g d) hd hz w in
       ap (λ (z : Zone). getD (z .blocks) (1 + o) noChunk) zone-now
       ∙ ap (λ (n : ℕ). getD (putAll d (zoneOn g d) cs q₀ .blocks) (n + o) noChunk) (sym pointer-one)
       ∙ puts-new d (zoneOn g d) cs q₀ o (omega (arith, cs-long)) (omega (arith, pointer-one, cs-long, l, capacity-over p r))
 
-  spares-now : sparesOf (take (p .S) (drop 1 (zoneAt (seen p k′) d (zoneOn g d) .blocks))) ≡ lostSpares p d sg
+  spares-now : sparesOf (take (p .S) (drop 1 (zoneAt (seen p off k′) d (zoneOn g d) .blocks))) ≡ lostSpares p d sg
   unfolding sparesOf lostSpares
   spares-now = ext-getD [] (map (λ (c : Chunk). c .spare) row) made (long ∙ sym made-long) (λ o l. each o (omega (arith, long)))
     where
       row : List Chunk
-      row = take (p .S) (drop 1 (zoneAt (seen p k′) d (zoneOn g d) .blocks))
+      row = take (p .S) (drop 1 (zoneAt (seen p off k′) d (zoneOn g d) .blocks))
 
       qs : List Piece
       qs = map (λ s. pieceOf p (named d) sg s d) (counted p (named d) sg)
@@ -210,7 +212,7 @@ module _ (p : Params) (r : Ranged p) (d : ℕ) (g : Seg) (hd : d < p .N) (hg : N
 
       row-long : length row ≡ p .S
       row-long =
-          length-take (p .S) (drop 1 (zoneAt (seen p k′) d (zoneOn g d) .blocks)) ∙ ap (min (p .S)) (length-drop 1 (zoneAt (seen p k′) d (zoneOn g d) .blocks))
+          length-take (p .S) (drop 1 (zoneAt (seen p off k′) d (zoneOn g d) .blocks)) ∙ ap (min (p .S)) (length-drop 1 (zoneAt (seen p off k′) d (zoneOn g d) .blocks))
           ∙ omega (arith, blocks-now, capacity-over p r)
 
       long : length (map (λ (c : Chunk). c .spare) row) ≡ p .S
@@ -225,15 +227,16 @@ module _ (p : Params) (r : Ranged p) (d : ℕ) (g : Seg) (hd : d < p .N) (hg : N
       each : (o : ℕ) → o < p .S → getD (map (λ (c : Chunk). c .spare) row) o [] ≡ getD made o []
       each o h =
           getD-map (λ (c : Chunk). c .spare) row o [] noChunk (omega (arith, row-long))
-          ∙ ap (λ (c : Chunk). c .spare) (getD-take (p .S) (drop 1 (zoneAt (seen p k′) d (zoneOn g d) .blocks)) o noChunk h ∙ getD-drop 1 (zoneAt (seen p k′) d (zoneOn g d) .blocks) o noChunk
+          ∙ ap (λ (c : Chunk). c .spare)
+          (getD-take (p .S) (drop 1 (zoneAt (seen p off k′) d (zoneOn g d) .blocks)) o noChunk h ∙ getD-drop 1 (zoneAt (seen p off k′) d (zoneOn g d) .blocks) o noChunk
           ∙ chunk-now o h ∙ getD-map pieceChunk qs o noChunk none! (omega (arith, qs-long)))
           ∙ spare-is (getD qs o none!)
           ∙ sym (getD-map (λ (q : Piece). recordBytes (q .rec)) qs o [] none! (omega (arith, qs-long)))
 
   -- they are made from the spares
-  pub lost-feet-are : sg .full ≡ true → footerStores p d (zoneOn g d) (zoneAt (seen p k′) d (zoneOn g d)) 0 (footers p) ≡ lostFeet p d sg
+  pub lost-feet-are : sg .full ≡ true → footerStores p d (zoneOn g d) (zoneAt (seen p off k′) d (zoneOn g d)) 0 (footers p) ≡ lostFeet p d sg
   unfolding footerStores footersOf lostFeet below
   lost-feet-are f =
-      map-map (λ (b : List ℕ). put d (zoneOn g d) b zeroSpare) (footerBlock p (sparesOf (take (p .S) (drop 1 (zoneAt (seen p k′) d (zoneOn g d) .blocks))))) (upFrom 0 (footers p))
+      map-map (λ (b : List ℕ). put d (zoneOn g d) b zeroSpare) (footerBlock p (sparesOf (take (p .S) (drop 1 (zoneAt (seen p off k′) d (zoneOn g d) .blocks))))) (upFrom 0 (footers p))
       ∙ ap₂ (λ (ss : List (List ℕ)) (z : ℕ). map (λ i. put d z (footerBlock p ss i) zeroSpare) (upFrom 0 (footers p))) spares-now (sym zone-eq)
       ∙ sym (cond-true (sg .full) (map (λ i. put d (zoneOn (sg .seg) d) (footerBlock p (lostSpares p d sg) i) zeroSpare) (upFrom 0 (footers p))) [] f)

@@ -11,17 +11,18 @@ use Rattle.spec.specs.Layout.{Rec, mkRec}
 use Rattle.spec.specs.Lists.{any, indexOf, isIn}
 use Rattle.spec.specs.Params.{present}
 use Rattle.spec.specs.Parity.{mkPiece}
-use Rattle.spec.specs.Segments.{lowDrive, Segment, segmentOf, recsOn, offsetOn, hasChunk, counts, storedPiece, pieceOf}
+use Rattle.spec.specs.Segments.{Segment, segmentOf, recsOn, offsetOn, hasChunk, counts, storedPiece, pieceOf}
 use Rattle.law_basic.specs.Ranges.{all-same}
-use Rattle.law_basic.specs.Segs.{Named, zone-on-lt}
+use Rattle.law_basic.specs.Segs.{ZonesLow, low-zone}
 use Rattle.law_code.specs.Chunks.{chunk-decoded}
 use Rattle.law_code.specs.Code.{decode-same}
 use Rattle.law_drives.specs.Frame.{Agree, core, same-core}
 use Rattle.law_drives.specs.Members.{In}
-use Rattle.law_drives.specs.Segs.{present-in, in-present, zone-by, seg-is}
+use Rattle.law_drives.specs.Gather.{present-in, in-present}
+use Rattle.law_drives.specs.Segs.{Here, zone-by, seg-is}
 use Rattle.spec.specs.declared.Seg.{Seg}
 
-module _ (p : Params) (gone : ℕ) (v u : View) (low : In (lowDrive p gone) (present p gone)) (ag : Agree p gone v u) (g : Seg) (hg : Named p g) where
+module _ (p : Params) (gone : ℕ) (v u : View) (here : Here p gone) (ag : Agree p gone v u) (off : v .offline ≡ u .offline) (g : Seg) (hg : ZonesLow p gone g) where
   abbrev x : Segment
   x = segmentOf p v gone g
 
@@ -33,19 +34,19 @@ module _ (p : Params) (gone : ℕ) (v u : View) (low : In (lowDrive p gone) (pre
 
   pub same-serial : x .serial ≡ y .serial
   unfolding core
-  same-serial = ap (λ (s : Segment). s .serial) (same-core p gone v u low ag g hg)
+  same-serial = ap (λ (s : Segment). s .serial) (same-core p gone v u here ag off g hg)
 
   pub same-copied : x .copied ≡ y .copied
   unfolding core
-  same-copied = ap (λ (s : Segment). s .copied) (same-core p gone v u low ag g hg)
+  same-copied = ap (λ (s : Segment). s .copied) (same-core p gone v u here ag off g hg)
 
   pub same-full : x .full ≡ y .full
   unfolding core
-  same-full = ap (λ (s : Segment). s .full) (same-core p gone v u low ag g hg)
+  same-full = ap (λ (s : Segment). s .full) (same-core p gone v u here ag off g hg)
 
   pub seg-records-same : x .recs ≡ y .recs
   unfolding core
-  seg-records-same = ap (λ (s : Segment). s .recs) (same-core p gone v u low ag g hg)
+  seg-records-same = ap (λ (s : Segment). s .recs) (same-core p gone v u here ag off g hg)
 
   pub same-recs-on : (d : ℕ) → recsOn x d ≡ recsOn y d
   unfolding recsOn
@@ -67,7 +68,7 @@ module _ (p : Params) (gone : ℕ) (v u : View) (low : In (lowDrive p gone) (pre
   unfolding storedPiece
   same-stored s e m =
       let (he, q) = present-in p gone e m in
-      let z : getD (x .zonesBy) e noZone ≡ getD (y .zonesBy) e noZone = zone-by p v gone g e he ∙ ag e (zoneOn g e) he (zone-on-lt p g e hg) q ∙ sym (zone-by p u gone g e he) in
+      let z : getD (x .zonesBy) e noZone ≡ getD (y .zonesBy) e noZone = zone-by p v gone g e he ∙ ag e (zoneOn g e) he (low-zone p gone g e hg he q) q ∙ sym (zone-by p u gone g e he) in
       λ j. mkPiece (getD (z j .blocks) (1 + same-offset e s j) noChunk .block) (getD (same-recs-on e j) (same-offset e s j) (mkRec 0 0 0))
 
   -- the chunk of a missing drive

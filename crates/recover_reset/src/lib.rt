@@ -1,14 +1,13 @@
 // The stores of a rebuild that decode nothing: the resets of the drive, and headers (01, Rebuild).
 ghost use mathlib.Core.Path.{_≡_};
-ghost use mathlib.Core.Bool.{true};
+ghost use mathlib.Core.Bool.{true, cond};
 ghost use mathlib.Core.List.{List, [], _∷_, map};
 ghost use Prim.Native.Nat.{ℕ, _<_};
 ghost use lib.ListN.{length};
-ghost use Rattle.spec.specs.Drives.{mkDisk, pointerOf, zeroSpare, zonesIn, zoneOn};
+ghost use Rattle.spec.specs.Drives.{mkDisk, pointerOf, isGood, goodZones, zeroSpare, zonesIn, zoneOn};
 ghost use Rattle.spec.specs.Drives.Store.{put, reset};
 ghost use Rattle.spec.specs.Layout.{headerBlock};
-ghost use Rattle.spec.specs.Lists.{below};
-ghost use Rattle.spec.specs.Params.{inRange, capacity, unitLen, pointersLen};
+ghost use Rattle.spec.specs.Params.{inRange, capacity, unitLen, pointersLen, offlineLen};
 ghost use Rattle.law_views.specs.Views.{Whole};
 ghost use Rattle.disk_zones.specs.Made.{Storing};
 use disk_zones::Made;
@@ -16,20 +15,47 @@ use spec::Params;
 use spec::Seg;
 use spec::Serial;
 
-// 01, Rebuild: resets the named drive, under a store count; the image is left as it is.
-pub fn reset_drive(p: Params, pointers: &mut [u8], drive: usize, count: u64) -> Made
+// A zone's reset, if it is good, under a store count.
+fn reset_good(
+    p: Params,
+    pointers: &mut [u8],
+    offline: &[u8],
+    drive: usize,
+    zone: usize,
+    count: u64,
+) -> Made
     requires { ⌜ inRange p ≡ true ⌝ }
-    requires { ⌜ (length (now pointers) ≡ pointersLen p) × (drive < p .N) ⌝ }
-    ensures { λ r. ⌜ ((im : List ℕ) → Storing p count (map (λ z. reset drive z) (below (p .Z))) (mkDisk im (now (pointers .entry))) r (mkDisk im (now (pointers .exit)))) ⌝ }
+    requires { ⌜ (length (now pointers) ≡ pointersLen p) × (length (now offline) ≡ offlineLen p) × (drive < p .N) × (zone < p .Z) ⌝ }
+    ensures { λ r. ⌜
+        ((im : List ℕ)
+        → Storing p count (cond (isGood p (now (offline .entry)) drive zone) (reset drive zone ∷ []) []) (mkDisk im (now (pointers .entry))) r
+        (mkDisk im (now (pointers .exit)))) ⌝ }
+{
+    if !disk_zones::is_good(p, offline, drive, zone) {
+        return Made {
+            left: count,
+            cut: false,
+        };
+    }
+    recover_drop::reset_limited(p, pointers, drive, zone, count)
+}
+
+// 01, Rebuild: resets the named drive; 02, item 4: its good zones, empty ones too, under a store count; the image is left as it is.
+pub fn reset_drive(p: Params, pointers: &mut [u8], offline: &[u8], drive: usize, count: u64) -> Made
+    requires { ⌜ inRange p ≡ true ⌝ }
+    requires { ⌜ (length (now pointers) ≡ pointersLen p) × (length (now offline) ≡ offlineLen p) × (drive < p .N) ⌝ }
+    ensures { λ r. ⌜
+        ((im : List ℕ)
+        → Storing p count (map (reset drive) (goodZones p (now (offline .entry)) drive)) (mkDisk im (now (pointers .entry))) r (mkDisk im (now (pointers .exit)))) ⌝ }
 {
     let mut left = count;
     let mut z = 0;
     while z < p.Z {
-        if left == 0 {
-            return Made { left: 0, cut: true };
+        let made = reset_good(p, pointers, offline, drive, z, left);
+        if made.cut {
+            return made;
         }
-        disk_zones::reset(p, pointers, drive, z);
-        left -= 1;
+        left = made.left;
         z += 1;
     }
     Made { left, cut: false }

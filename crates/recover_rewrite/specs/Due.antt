@@ -10,8 +10,8 @@ use Rattle.recover_groups.specs.Groups.{groupLen, segmentIn, GroupReads}
 use Rattle.recover_groups.specs.declared.Group.{Group}
 use Rattle.law_basic.specs.Geometry.{Ranged}
 use Rattle.law_basic.specs.Ranges.{length-upFrom, below-start, keep-append, length-keep}
-use Rattle.law_basic.specs.Segs.{Named, OtherSeg}
-use Rattle.recover_move.specs.Moves.{moved-none, moved-one, moved-append, moved-misses, Moves, moves-start, moves-as, moves-turn, moves-cut, moves-done}
+use Rattle.law_basic.specs.Segs.{ZonesLow}
+use Rattle.recover_move.specs.Moves.{OtherZones, moved-none, moved-one, moved-append, moved-misses, Moves, moves-start, moves-as, moves-turn, moves-cut, moves-done}
 use Rattle.recover_move.specs.Moves.{moves-first, moves-sealed, moves-in, moves-reads}
 use Rattle.recover_rewrite.specs.declared.Moved.{Moved}
 use Rattle.law_drives.specs.Tests.{clash}
@@ -116,50 +116,50 @@ step-one p g to s l m k made k′ e st = subst (λ (x : List ℕ). StepMoved p g
 
 -- ---- the parts one after the other: L in all, T still to be done
 
-pub record MovedUpto (p : Params) (g : Segment) (to sgm : Seg) (m₀ : Moved) (k₀ : Disk) (L T : List ℕ) (m : Moved) (k : Disk) : Type 0 where
-  pub moves : Moves p (m₀ .left) (movedStripes p g to L (m₀ .next)) k₀ sgm (movedStripes p g to T (m .next)) (m .left) k
+pub record MovedUpto (p : Params) (off : List ℕ) (g : Segment) (to sgm : Seg) (m₀ : Moved) (k₀ : Disk) (L T : List ℕ) (m : Moved) (k : Disk) : Type 0 where
+  pub moves : Moves p off (m₀ .left) (movedStripes p g to L (m₀ .next)) k₀ sgm (movedStripes p g to T (m .next)) (m .left) k
   pub number : m .next + length T ≡ m₀ .next + length L
   pub uncut : m .cut ≡ false
 
-module _ (p : Params) (r : Ranged p) (g : Segment) (to sgm : Seg) (hz : Named p sgm) (ne : OtherSeg p to sgm) (m₀ : Moved) (k₀ : Disk) (L : List ℕ) where
-  pub upto-start : Whole p k₀ → AllFit p (seen p k₀) (movedStripes p g to L (m₀ .next)) → m₀ .cut ≡ false → MovedUpto p g to sgm m₀ k₀ L L m₀ k₀
-  upto-start w f c = record { moves = moves-start p (m₀ .left) (movedStripes p g to L (m₀ .next)) k₀ sgm w f; number = refl; uncut = c }
+module _ (p : Params) (r : Ranged p) (off : List ℕ) (g : Segment) (to sgm : Seg) (hz : ZonesLow p 0 sgm) (ne : OtherZones p to sgm) (m₀ : Moved) (k₀ : Disk) (L : List ℕ) where
+  pub upto-start : Whole p k₀ → AllFit p (seen p off k₀) (movedStripes p g to L (m₀ .next)) → m₀ .cut ≡ false → MovedUpto p off g to sgm m₀ k₀ L L m₀ k₀
+  upto-start w f c = record { moves = moves-start p off (m₀ .left) (movedStripes p g to L (m₀ .next)) k₀ sgm w f; number = refl; uncut = c }
 
-  pub upto-as : (T U : List ℕ) (m : Moved) (k : Disk) → T ≡ U → MovedUpto p g to sgm m₀ k₀ L T m k → MovedUpto p g to sgm m₀ k₀ L U m k
-  upto-as T U m k e u = subst (λ (x : List ℕ). MovedUpto p g to sgm m₀ k₀ L x m k) e u
+  pub upto-as : (T U : List ℕ) (m : Moved) (k : Disk) → T ≡ U → MovedUpto p off g to sgm m₀ k₀ L T m k → MovedUpto p off g to sgm m₀ k₀ L U m k
+  upto-as T U m k e u = subst (λ (x : List ℕ). MovedUpto p off g to sgm m₀ k₀ L x m k) e u
 
-  pub upto-done : (m : Moved) (k : Disk) → MovedUpto p g to sgm m₀ k₀ L [] m k → StepMoved p g to L m₀ k₀ m k
+  pub upto-done : (m : Moved) (k : Disk) → MovedUpto p off g to sgm m₀ k₀ L [] m k → StepMoved p g to L m₀ k₀ m k
   upto-done m k u = record {
     stored = subst (λ (b : Bool). Storing p (m₀ .left) (movedStripes p g to L (m₀ .next)) k₀ (record { left = m .left; cut = b }) k) (sym (u .uncut))
-        (moves-done p (m₀ .left) (movedStripes p g to L (m₀ .next)) k₀ sgm (m .left) k
-        (moves-as p (m₀ .left) (movedStripes p g to L (m₀ .next)) k₀ sgm (movedStripes p g to [] (m .next)) [] (m .left) k (moved-none p g to (m .next)) (u .moves)));
+        (moves-done p off (m₀ .left) (movedStripes p g to L (m₀ .next)) k₀ sgm (m .left) k
+        (moves-as p off (m₀ .left) (movedStripes p g to L (m₀ .next)) k₀ sgm (movedStripes p g to [] (m .next)) [] (m .left) k (moved-none p g to (m .next)) (u .moves)));
     number = λ q. sym (add-zero (m .next)) ∙ u .number;
   }
 
-  module _ (A B : List ℕ) (m : Moved) (k : Disk) (u : MovedUpto p g to sgm m₀ k₀ L (A ++ B) m k) where
+  module _ (A B : List ℕ) (m : Moved) (k : Disk) (u : MovedUpto p off g to sgm m₀ k₀ L (A ++ B) m k) where
     abbrev ss : List Store
     ss = movedStripes p g to L (m₀ .next)
 
-    stripes-parts : Moves p (m₀ .left) ss k₀ sgm (movedStripes p g to A (m .next) ++ movedStripes p g to B (m .next + length A)) (m .left) k
+    stripes-parts : Moves p off (m₀ .left) ss k₀ sgm (movedStripes p g to A (m .next) ++ movedStripes p g to B (m .next + length A)) (m .left) k
     stripes-parts =
-        moves-as p (m₀ .left) ss k₀ sgm (movedStripes p g to (A ++ B) (m .next))
+        moves-as p off (m₀ .left) ss k₀ sgm (movedStripes p g to (A ++ B) (m .next))
         (movedStripes p g to A (m .next) ++ movedStripes p g to B (m .next + length A)) (m .left) k (moved-append p g to A B (m .next)) (u .moves)
 
-    pub upto-first : AllFit p (seen p k) (movedStripes p g to A (m .next))
-    upto-first = moves-first p (m₀ .left) ss k₀ sgm (movedStripes p g to A (m .next)) (movedStripes p g to B (m .next + length A)) (m .left) k stripes-parts
+    pub upto-first : AllFit p (seen p off k) (movedStripes p g to A (m .next))
+    upto-first = moves-first p off (m₀ .left) ss k₀ sgm (movedStripes p g to A (m .next)) (movedStripes p g to B (m .next + length A)) (m .left) k stripes-parts
 
     module _ (m′ : Moved) (k′ : Disk) (s : StepMoved p g to A m k m′ k′) where
       pub upto-cut : m′ .cut ≡ true → StepMoved p g to L m₀ k₀ m′ k′
       upto-cut c = record {
-        stored = moves-cut p (m₀ .left) ss k₀ sgm (movedStripes p g to A (m .next)) (movedStripes p g to B (m .next + length A)) (m .left) k (madeBy m′) k′ stripes-parts (s .stored) c;
+        stored = moves-cut p off (m₀ .left) ss k₀ sgm (movedStripes p g to A (m .next)) (movedStripes p g to B (m .next + length A)) (m .left) k (madeBy m′) k′ stripes-parts (s .stored) c;
         number = λ q. clash c q;
       }
 
-      pub upto-turn : m′ .cut ≡ false → MovedUpto p g to sgm m₀ k₀ L B m′ k′
+      pub upto-turn : m′ .cut ≡ false → MovedUpto p off g to sgm m₀ k₀ L B m′ k′
       upto-turn c = record {
-        moves = subst (λ (x : ℕ). Moves p (m₀ .left) ss k₀ sgm (movedStripes p g to B x) (m′ .left) k′) (sym (s .number c))
-            (moves-turn p r (m₀ .left) ss k₀ sgm hz (movedStripes p g to A (m .next)) (movedStripes p g to B (m .next + length A)) (m .left) k
-            (madeBy m′) k′ stripes-parts (s .stored) c (λ e he. moved-misses p g to A (m .next) e sgm he (ne .0) hz (ne .1)));
+        moves = subst (λ (x : ℕ). Moves p off (m₀ .left) ss k₀ sgm (movedStripes p g to B x) (m′ .left) k′) (sym (s .number c))
+            (moves-turn p r off (m₀ .left) ss k₀ sgm hz (movedStripes p g to A (m .next)) (movedStripes p g to B (m .next + length A)) (m .left) k
+            (madeBy m′) k′ stripes-parts (s .stored) c (λ e he. moved-misses p g to A (m .next) e sgm he ne));
         number = let e = s .number c in let f = u .number in let l = length-append A B in omega arith;
         uncut = c;
       }
@@ -173,27 +173,28 @@ pub from-start : (p : Params) (g : Segment) (b n : ℕ) → countedFrom p g b n 
 from-start p g b n = ap₂ (countedFrom p g) (sym (add-zero b)) (sym (sub-zero n))
 
 -- the segment that is read stays
-module _ (p : Params) (r : Ranged p) (w : Group) (ng : w .gone ≡ 0) (to : Seg) (m₀ : Moved) (k₀ : Disk) (L T : List ℕ) (m : Moved) (k : Disk)
-    (u : MovedUpto p (segmentIn p (k₀ .image) (k₀ .pointers) w) to (w .seg) m₀ k₀ L T m k) where
+module _ (p : Params) (r : Ranged p) (off : List ℕ) (w : Group) (ng : w .gone ≡ 0) (to : Seg) (m₀ : Moved) (k₀ : Disk) (L T : List ℕ) (m : Moved) (k : Disk)
+    (u : MovedUpto p off (segmentIn p off (k₀ .image) (k₀ .pointers) w) to (w .seg) m₀ k₀ L T m k) where
   abbrev g₀ : Segment
-  g₀ = segmentIn p (k₀ .image) (k₀ .pointers) w
+  g₀ = segmentIn p off (k₀ .image) (k₀ .pointers) w
 
-  pub upto-in : segmentIn p (k₀ .image) (k₀ .pointers) w ≡ segmentIn p (k .image) (k .pointers) w
-  upto-in = moves-in p r (m₀ .left) (movedStripes p g₀ to L (m₀ .next)) k₀ (w .seg) (movedStripes p g₀ to T (m .next)) (m .left) k (u .moves) w ng refl
+  pub upto-in : segmentIn p off (k₀ .image) (k₀ .pointers) w ≡ segmentIn p off (k .image) (k .pointers) w
+  upto-in = moves-in p r off (m₀ .left) (movedStripes p g₀ to L (m₀ .next)) k₀ (w .seg) (movedStripes p g₀ to T (m .next)) (m .left) k (u .moves) w ng refl
 
-  pub upto-sealed : sealedIn p (seen p k₀) 0 (w .seg) ≡ sealedIn p (seen p k) 0 (w .seg)
-  upto-sealed = moves-sealed p r (m₀ .left) (movedStripes p g₀ to L (m₀ .next)) k₀ (w .seg) (movedStripes p g₀ to T (m .next)) (m .left) k (u .moves)
+  pub upto-sealed : sealedIn p (seen p off k₀) 0 (w .seg) ≡ sealedIn p (seen p off k) 0 (w .seg)
+  upto-sealed = moves-sealed p r off (m₀ .left) (movedStripes p g₀ to L (m₀ .next)) k₀ (w .seg) (movedStripes p g₀ to T (m .next)) (m .left) k (u .moves)
 
-  pub upto-reads : (at : List ℕ) → GroupReads p (k₀ .image) (k₀ .pointers) w at → GroupReads p (k .image) (k .pointers) w at
-  upto-reads at x = moves-reads p r (m₀ .left) (movedStripes p g₀ to L (m₀ .next)) k₀ (w .seg) (movedStripes p g₀ to T (m .next)) (m .left) k (u .moves) w ng refl at x
+  pub upto-reads : (at : List ℕ) → GroupReads p off (k₀ .image) (k₀ .pointers) w at → GroupReads p off (k .image) (k .pointers) w at
+  upto-reads at x = moves-reads p r off (m₀ .left) (movedStripes p g₀ to L (m₀ .next)) k₀ (w .seg) (movedStripes p g₀ to T (m .next)) (m .left) k (u .moves) w ng refl at x
 
-  pub upto-step : (l : Segment → List ℕ) (m′ : Moved) (k′ : Disk) → StepMoved p (segmentIn p (k .image) (k .pointers) w) to (l (segmentIn p (k .image) (k .pointers) w)) m k m′ k′
-      → StepMoved p (segmentIn p (k₀ .image) (k₀ .pointers) w) to (l (segmentIn p (k₀ .image) (k₀ .pointers) w)) m k m′ k′
+  pub upto-step : (l : Segment → List ℕ) (m′ : Moved) (k′ : Disk) → StepMoved p (segmentIn p off (k .image) (k .pointers) w) to (l (segmentIn p off (k .image) (k .pointers) w)) m k m′ k′
+      → StepMoved p (segmentIn p off (k₀ .image) (k₀ .pointers) w) to (l (segmentIn p off (k₀ .image) (k₀ .pointers) w)) m k m′ k′
   upto-step l m′ k′ s = subst (λ (g : Segment). StepMoved p g to (l g) m k m′ k′) (sym upto-in) s
 
-  pub upto-fits : (l : Segment → List ℕ) (n : ℕ) → AllFit p (seen p k) (movedStripes p (segmentIn p (k₀ .image) (k₀ .pointers) w) to (l (segmentIn p (k₀ .image) (k₀ .pointers) w)) n)
-      → AllFit p (seen p k) (movedStripes p (segmentIn p (k .image) (k .pointers) w) to (l (segmentIn p (k .image) (k .pointers) w)) n)
-  upto-fits l n f = subst (λ (g : Segment). AllFit p (seen p k) (movedStripes p g to (l g) n)) upto-in f
+  pub upto-fits : (l : Segment → List ℕ) (n : ℕ) → AllFit p (seen p off k)
+      (movedStripes p (segmentIn p off (k₀ .image) (k₀ .pointers) w) to (l (segmentIn p off (k₀ .image) (k₀ .pointers) w)) n)
+      → AllFit p (seen p off k) (movedStripes p (segmentIn p off (k .image) (k .pointers) w) to (l (segmentIn p off (k .image) (k .pointers) w)) n)
+  upto-fits l n f = subst (λ (g : Segment). AllFit p (seen p off k) (movedStripes p g to (l g) n)) upto-in f
 
 -- a group of a segment with no drive missing, read by its spares
 abbrev pub groupAt : Seg → ℕ → Group

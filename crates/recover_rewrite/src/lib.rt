@@ -1,6 +1,7 @@
 // The rewrite of a restart: the counted stripes of a segment in rising order, numbered from 0, into another (01, Restart, 4).
 ghost use mathlib.Core.Path.{_≡_};
 ghost use mathlib.Core.Bool.{true, false};
+ghost use mathlib.Core.List.{List};
 ghost use Prim.Native.Nat.{ℕ, _+_, _%_, _≤_, _<_};
 ghost use lib.ListN.{length};
 ghost use Rattle.spec.specs.Drives.{viewOf, mkDisk, pointerOf, sealedIn, zoneOn};
@@ -8,11 +9,11 @@ ghost use Rattle.spec.specs.Params.{inRange};
 ghost use Rattle.spec.specs.Restart.{movedStripes, rewriteStores};
 ghost use Rattle.spec.specs.Segments.{segmentOf, counted};
 ghost use Rattle.recover_groups.specs.Groups.{groupLen, recsFault, segmentIn, GroupReads};
-ghost use Rattle.recover_move.specs.Moves.{MovesShown};
+ghost use Rattle.recover_move.specs.Moves.{OtherZones, MovesShown};
 ghost use Rattle.recover_rewrite.specs.Due.{itself, countedFrom, StepMoved};
 ghost use Rattle.law_views.specs.Views.{Whole, AllFit};
 ghost use Rattle.disk_zones.specs.Made.{Storing};
-ghost use Rattle.law_basic.specs.Segs.{OtherSeg, Named, ZonesLow};
+ghost use Rattle.law_basic.specs.Segs.{ZonesLow};
 use disk_zones::Made;
 use recover_groups::Group;
 use spec::Params;
@@ -40,15 +41,17 @@ fn move_if(
     requires { ⌜ inRange p ≡ true ⌝ }
     requires { ⌜ Whole p (mkDisk (now image) (now pointers)) ⌝ }
     requires { ⌜ MovesShown p w (now at) k ⌝ }
-    requires { ⌜ GroupReads p (now image) (now pointers) w (now at) ⌝ }
-    requires { ⌜ ZonesLow p 0 to × (m .next ≤ w .base + k) × (m .cut ≡ false) × OtherSeg p to (w .seg) ⌝ }
+    requires { ⌜ ((off : List ℕ) → GroupReads p off (now image) (now pointers) w (now at)) ⌝ }
+    requires { ⌜ ZonesLow p 0 to × (m .next ≤ w .base + k) × (m .cut ≡ false) × OtherZones p to (w .seg) ⌝ }
     requires { ⌜
-        AllFit p (viewOf p (now image) (now pointers))
-        (movedStripes p (segmentIn p (now image) (now pointers) w) to (itself p (segmentIn p (now image) (now pointers) w) (w .base + k)) (m .next)) ⌝ }
+        ((off : List ℕ)
+        → AllFit p (viewOf p off (now image) (now pointers))
+        (movedStripes p (segmentIn p off (now image) (now pointers) w) to (itself p (segmentIn p off (now image) (now pointers) w) (w .base + k)) (m .next))) ⌝ }
     ensures { λ r. ⌜
-        StepMoved p (segmentIn p (now (image .entry)) (now (pointers .entry)) w) to
-        (itself p (segmentIn p (now (image .entry)) (now (pointers .entry)) w) (w .base + k)) m
-        (mkDisk (now (image .entry)) (now (pointers .entry))) r (mkDisk (now (image .exit)) (now (pointers .exit))) ⌝ }
+        ((off : List ℕ)
+        → StepMoved p (segmentIn p off (now (image .entry)) (now (pointers .entry)) w) to
+        (itself p (segmentIn p off (now (image .entry)) (now (pointers .entry)) w) (w .base + k)) m
+        (mkDisk (now (image .entry)) (now (pointers .entry))) r (mkDisk (now (image .exit)) (now (pointers .exit)))) ⌝ }
 {
     if !recover_groups::counts(p, w.gone, at, k) {
         return m;
@@ -73,17 +76,22 @@ fn move_group(
 ) -> Moved
     requires { ⌜ inRange p ≡ true ⌝ }
     requires { ⌜ Whole p (mkDisk (now image) (now pointers)) ⌝ }
-    requires { ⌜ (length (now at) ≡ 2048) × Named p (w .seg) × (w .base < p .S) × (w .base % p .G ≡ 0) × (w .gone ≡ 0) ⌝ }
-    requires { ⌜ (w .full ≡ sealedIn p (viewOf p (now image) (now pointers)) (w .gone) (w .seg)) × (recsFault p (w .gone) (segmentIn p (now image) (now pointers) w) ≡ false) ⌝ }
-    requires { ⌜ ZonesLow p 0 to × (m .next ≤ w .base) × (m .cut ≡ false) × OtherSeg p to (w .seg) ⌝ }
+    requires { ⌜ (length (now at) ≡ 2048) × ZonesLow p 0 (w .seg) × (w .base < p .S) × (w .base % p .G ≡ 0) × (w .gone ≡ 0) ⌝ }
     requires { ⌜
-        AllFit p (viewOf p (now image) (now pointers))
-        (movedStripes p (segmentIn p (now image) (now pointers) w) to
-        (countedFrom p (segmentIn p (now image) (now pointers) w) (w .base) (groupLen p (w .base))) (m .next)) ⌝ }
+        ((off : List ℕ)
+        → (w .full ≡ sealedIn p (viewOf p off (now image) (now pointers)) (w .gone) (w .seg))
+        × (recsFault p (w .gone) (segmentIn p off (now image) (now pointers) w) ≡ false)) ⌝ }
+    requires { ⌜ ZonesLow p 0 to × (m .next ≤ w .base) × (m .cut ≡ false) × OtherZones p to (w .seg) ⌝ }
+    requires { ⌜
+        ((off : List ℕ)
+        → AllFit p (viewOf p off (now image) (now pointers))
+        (movedStripes p (segmentIn p off (now image) (now pointers) w) to
+        (countedFrom p (segmentIn p off (now image) (now pointers) w) (w .base) (groupLen p (w .base))) (m .next))) ⌝ }
     ensures { λ r. ⌜
-        StepMoved p (segmentIn p (now (image .entry)) (now (pointers .entry)) w) to
-        (countedFrom p (segmentIn p (now (image .entry)) (now (pointers .entry)) w) (w .base) (groupLen p (w .base))) m
-        (mkDisk (now (image .entry)) (now (pointers .entry))) r (mkDisk (now (image .exit)) (now (pointers .exit))) ⌝ }
+        ((off : List ℕ)
+        → StepMoved p (segmentIn p off (now (image .entry)) (now (pointers .entry)) w) to
+        (countedFrom p (segmentIn p off (now (image .entry)) (now (pointers .entry)) w) (w .base) (groupLen p (w .base))) m
+        (mkDisk (now (image .entry)) (now (pointers .entry))) r (mkDisk (now (image .exit)) (now (pointers .exit)))) ⌝ }
 {
     recover_groups::index_group(p, image, pointers, w, at);
     let len = recover_groups::group_len(p, w.base);
@@ -110,20 +118,21 @@ fn move_stripes(
 ) -> Made
     requires { ⌜ inRange p ≡ true ⌝ }
     requires { ⌜ Whole p (mkDisk (now image) (now pointers)) ⌝ }
+    requires { ⌜ ZonesLow p 0 seg × ZonesLow p 0 to × OtherZones p to seg ⌝ }
     requires { ⌜
-        Named p seg
-        × ZonesLow p 0 to
-        × (sealedIn p (viewOf p (now image) (now pointers)) 0 seg ≡ false)
-        × (recsFault p 0 (segmentOf p (viewOf p (now image) (now pointers)) 0 seg) ≡ false)
-        × OtherSeg p to seg ⌝ }
+        ((off : List ℕ)
+        → (sealedIn p (viewOf p off (now image) (now pointers)) 0 seg ≡ false)
+        × (recsFault p 0 (segmentOf p (viewOf p off (now image) (now pointers)) 0 seg) ≡ false)) ⌝ }
     requires { ⌜
-        AllFit p (viewOf p (now image) (now pointers))
-        (movedStripes p (segmentOf p (viewOf p (now image) (now pointers)) 0 seg) to
-        (counted p 0 (segmentOf p (viewOf p (now image) (now pointers)) 0 seg)) 0) ⌝ }
+        ((off : List ℕ)
+        → AllFit p (viewOf p off (now image) (now pointers))
+        (movedStripes p (segmentOf p (viewOf p off (now image) (now pointers)) 0 seg) to
+        (counted p 0 (segmentOf p (viewOf p off (now image) (now pointers)) 0 seg)) 0)) ⌝ }
     ensures { λ r. ⌜
-        Storing p count (movedStripes p (segmentOf p (viewOf p (now (image .entry)) (now (pointers .entry))) 0 seg) to
-        (counted p 0 (segmentOf p (viewOf p (now (image .entry)) (now (pointers .entry))) 0 seg)) 0)
-        (mkDisk (now (image .entry)) (now (pointers .entry))) r (mkDisk (now (image .exit)) (now (pointers .exit))) ⌝ }
+        ((off : List ℕ)
+        → Storing p count (movedStripes p (segmentOf p (viewOf p off (now (image .entry)) (now (pointers .entry))) 0 seg) to
+        (counted p 0 (segmentOf p (viewOf p off (now (image .entry)) (now (pointers .entry))) 0 seg)) 0)
+        (mkDisk (now (image .entry)) (now (pointers .entry))) r (mkDisk (now (image .exit)) (now (pointers .exit)))) ⌝ }
 {
     let mut at = [0u16; 2048];
     let mut m = Moved {
@@ -167,18 +176,18 @@ pub fn rewrite(
 ) -> Made
     requires { ⌜ inRange p ≡ true ⌝ }
     requires { ⌜ Whole p (mkDisk (now image) (now pointers)) ⌝ }
+    requires { ⌜ ZonesLow p 0 seg × ZonesLow p 0 to × OtherZones p to seg ⌝ }
     requires { ⌜
-        Named p seg
-        × ZonesLow p 0 to
-        × (sealedIn p (viewOf p (now image) (now pointers)) 0 seg ≡ false)
-        × (recsFault p 0 (segmentOf p (viewOf p (now image) (now pointers)) 0 seg) ≡ false)
-        × OtherSeg p to seg ⌝ }
-    requires { ⌜ (copied .0 ≡ segmentOf p (viewOf p (now image) (now pointers)) 0 seg .serial)
+        ((off : List ℕ)
+        → (sealedIn p (viewOf p off (now image) (now pointers)) 0 seg ≡ false)
+        × (recsFault p 0 (segmentOf p (viewOf p off (now image) (now pointers)) 0 seg) ≡ false)) ⌝ }
+    requires { ⌜ ((off : List ℕ) → copied .0 ≡ segmentOf p (viewOf p off (now image) (now pointers)) 0 seg .serial)
         × ((d : ℕ) → d < p .N → pointerOf p (now pointers) d (zoneOn to d) ≡ 0) ⌝ }
-    requires { ⌜ AllFit p (viewOf p (now image) (now pointers)) (rewriteStores p (segmentOf p (viewOf p (now image) (now pointers)) 0 seg) to (serial .0)) ⌝ }
+    requires { ⌜ ((off : List ℕ) → AllFit p (viewOf p off (now image) (now pointers)) (rewriteStores p (segmentOf p (viewOf p off (now image) (now pointers)) 0 seg) to (serial .0))) ⌝ }
     ensures { λ r. ⌜
-        Storing p count (rewriteStores p (segmentOf p (viewOf p (now (image .entry)) (now (pointers .entry))) 0 seg) to (serial .0))
-        (mkDisk (now (image .entry)) (now (pointers .entry))) r (mkDisk (now (image .exit)) (now (pointers .exit))) ⌝ }
+        ((off : List ℕ)
+        → Storing p count (rewriteStores p (segmentOf p (viewOf p off (now (image .entry)) (now (pointers .entry))) 0 seg) to (serial .0))
+        (mkDisk (now (image .entry)) (now (pointers .entry))) r (mkDisk (now (image .exit)) (now (pointers .exit)))) ⌝ }
 {
     let made = disk_zones::header_stores(p, image, pointers, to, serial, copied, count);
     if made.cut {

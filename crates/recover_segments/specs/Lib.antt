@@ -1,2 +1,2 @@
-pub mod Remains
 pub mod Kept
+pub mod Taken

@@ -1,206 +1,55 @@
-// Which segments remain, by the headers and the write pointers (01, Restart, 1 and 2).
+// Questions about the segments that remain, by what was gathered of them (01, Restart, 2 and 4; 02, item 4).
 ghost use mathlib.Core.Path.{_≡_};
 ghost use mathlib.Core.Bool.{true, false, cond, not, _&&_, _||_};
-ghost use mathlib.Core.List.{List, map};
-ghost use Prim.Native.Nat.{ℕ, _≤_, _<_, max};
+ghost use mathlib.Core.List.{List};
+ghost use Prim.Native.Nat.{ℕ, _+_, _*_, _≤_, _<_, max};
 ghost use lib.Dec.{eqb};
 ghost use lib.ListN.{length, getD};
-ghost use Rattle.spec.specs.Drives.{View, viewOf, mkDisk, pointerOf, zoneOn, sealedIn, across};
+ghost use Rattle.spec.specs.Bytes.{part};
+ghost use Rattle.spec.specs.Drives.{View, viewOf, zoneOn, sealedIn, seg};
 ghost use Rattle.spec.specs.Layout.{headerSerial, headerCopied};
-ghost use Rattle.spec.specs.Lists.{firstOr, isIn};
-ghost use Rattle.spec.specs.Params.{inRange, imageLen, pointersLen};
-ghost use Rattle.spec.specs.Restart.{freeSegs};
-ghost use Rattle.spec.specs.Segments.{Segment, lowDrive, headerAt, segments, greatestSerial, unsealed};
-ghost use Rattle.law_views.specs.Views.{Whole};
-ghost use Rattle.recover_segments.specs.Remains.{Keeping, isLeft, remainsHere, otherSerial, LeftFlags, Keeps, Serials};
+ghost use Rattle.spec.specs.Lists.{below, keep, firstOr};
+ghost use Rattle.spec.specs.Params.{inRange, imageLen, pointersLen, offlineLen};
+ghost use Rattle.spec.specs.Restart.{freeSeg, noneFree};
+ghost use Rattle.spec.specs.Segments.{headerAt, segments, greatestSerial, unsealed};
+ghost use Rattle.law_basic.specs.Segs.{ZonesLow};
+ghost use Rattle.law_drives.specs.Segs.{Here};
+ghost use Rattle.disk_gather.specs.Flags.{Serials, Keeps, FlagsRows};
+ghost use Rattle.recover_segments.specs.Kept.{RowsLow, unsealedAt};
+ghost use Rattle.recover_segments.specs.Taken.{TakenOfTaken, freeIn};
 use spec::Params;
 use spec::Seg;
 use spec::Serial;
 
 // ---- headers
 
-// The lowest present drive.
-pub fn low_drive(p: Params, gone: u8) -> usize
-    requires { ⌜ inRange p ≡ true ⌝ }
-    ensures { λ r. ⌜ (r ≡ lowDrive p gone) × (r < p .N) ⌝ }
-{
-    let mut d = 0;
-    while d < p.N {
-        if !bits_masks::has_drive(gone, d) {
-            return d;
-        }
-        d += 1;
-    }
-    0
-}
-
 // The serial in a segment's header on a drive.
 pub fn serial_on(p: Params, image: &[u8], drive: usize, segment: Seg) -> Serial
     requires { ⌜ inRange p ≡ true ⌝ }
     requires { ⌜ (length (now image) ≡ imageLen p) × (drive < p .N) × (zoneOn segment drive < p .Z) ⌝ }
-    ensures { λ r. ⌜ ((ps : List ℕ) → length ps ≡ pointersLen p → r .0 ≡ headerSerial p (headerAt (viewOf p (now (image .entry)) ps) drive segment)) ⌝ }
+    ensures { λ r. ⌜
+        ((off : List ℕ) (ps : List ℕ)
+        → length ps ≡ pointersLen p
+        → r .0 ≡ headerSerial p (headerAt (viewOf p off (now (image .entry)) ps) drive segment)) ⌝ }
 {
-    let a = disk_shape::block_byte(p, drive, disk_shape::zone_on(p, segment, drive), 0);
-    let e = a + p.B;
-    disk_records::header_serial(p, &image[a..e])
+    let zone = disk_shape::zone_on(p, segment, drive);
+    disk_gather::serial_in(p, image, drive, zone)
 }
 
 // The copied serial there.
 pub fn copied_on(p: Params, image: &[u8], drive: usize, segment: Seg) -> Serial
     requires { ⌜ inRange p ≡ true ⌝ }
     requires { ⌜ (length (now image) ≡ imageLen p) × (drive < p .N) × (zoneOn segment drive < p .Z) ⌝ }
-    ensures { λ r. ⌜ ((ps : List ℕ) → length ps ≡ pointersLen p → r .0 ≡ headerCopied p (headerAt (viewOf p (now (image .entry)) ps) drive segment)) ⌝ }
-{
-    let a = disk_shape::block_byte(p, drive, disk_shape::zone_on(p, segment, drive), 0);
-    let e = a + p.B;
-    disk_records::header_copied(p, &image[a..e])
-}
-
-// The serials in the headers of the lowest present drive, by segment, as the bytes stand.
-fn read_serials(p: Params, image: &[u8], gone: u8, out: &mut [u64])
-    requires { ⌜ inRange p ≡ true ⌝ }
-    requires { ⌜ (length (now image) ≡ imageLen p) × (p .Z ≤ length (now out)) ⌝ }
-    ensures { λ _. ⌜ ((ps : List ℕ) → length ps ≡ pointersLen p → Serials p (viewOf p (now (image .entry)) ps) gone (now (out .exit))) ⌝ }
-{
-    let low = low_drive(p, gone);
-    let mut g = 0;
-    while g < p.Z {
-        let s = serial_on(p, image, low, disk_shape::across(p, g));
-        out[g] = s.0;
-        g += 1;
-    }
-}
-
-// ---- the segments that remain
-
-// A drive is missing, or its zone of the segment is not empty.
-fn is_used(p: Params, pointers: &[u8], gone: u8, drive: usize, g: usize) -> bool
-    requires { ⌜ inRange p ≡ true ⌝ }
-    requires { ⌜ (length (now pointers) ≡ pointersLen p) × (drive < p .N) × (g < p .Z) ⌝ }
-    ensures { λ r. ⌜ r ≡ (isIn gone drive || not (eqb (pointerOf p (now (pointers .entry)) drive (zoneOn (across p g) drive)) 0)) ⌝ }
-{
-    if bits_masks::has_drive(gone, drive) {
-        return true;
-    }
-    let segment = disk_shape::across(p, g);
-    disk_zones::pointer(p, pointers, drive, disk_shape::zone_on(p, segment, drive)) != 0
-}
-
-// 01, Restart, 1: no present drive's zone of the segment is empty.
-fn is_left(p: Params, pointers: &[u8], gone: u8, g: usize) -> bool
-    requires { ⌜ inRange p ≡ true ⌝ }
-    requires { ⌜ (length (now pointers) ≡ pointersLen p) × (g < p .Z) ⌝ }
-    ensures { λ r. ⌜ ((im : List ℕ) → length im ≡ imageLen p → r ≡ isLeft p (viewOf p im (now (pointers .entry))) gone (across p g)) ⌝ }
-{
-    let mut d = 0;
-    while d < p.N {
-        if !is_used(p, pointers, gone, d, g) {
-            return false;
-        }
-        d += 1;
-    }
-    true
-}
-
-// 01, Restart, 1: which segments are left.
-fn left(p: Params, pointers: &[u8], gone: u8, out: &mut [bool])
-    requires { ⌜ inRange p ≡ true ⌝ }
-    requires { ⌜ (length (now pointers) ≡ pointersLen p) × (p .Z ≤ length (now out)) ⌝ }
-    ensures { λ _. ⌜ ((im : List ℕ) → length im ≡ imageLen p → LeftFlags p (viewOf p im (now (pointers .entry))) gone (now (out .exit))) ⌝ }
-{
-    let mut g = 0;
-    while g < p.Z {
-        out[g] = is_left(p, pointers, gone, g);
-        g += 1;
-    }
-}
-
-// Flagged segment h is not g and has serial c.
-pub fn is_other(flag: bool, serial: Serial, h: usize, g: usize, c: Serial) -> bool
-    ensures { λ r. ⌜ r ≡ (flag && (not (eqb h g) && eqb (serial .0) (c .0))) ⌝ }
-{
-    if !flag {
-        return false;
-    }
-    if h == g {
-        return false;
-    }
-    serial.0 == c.0
-}
-
-// 01, Restart, 2: another of the flagged segments has serial c.
-pub fn is_serial_of_other(p: Params, flags: &[bool], serials: &[u64], g: usize, c: Serial) -> bool
-    requires { ⌜ (p .Z ≤ length (now flags)) × (p .Z ≤ length (now serials)) ⌝ }
-    ensures { λ r. ⌜ r ≡ otherSerial (p .Z) (now (flags .entry)) (now (serials .entry)) g (c .0) ⌝ }
-{
-    let mut h = 0;
-    while h < p.Z {
-        if is_other(flags[h], Serial(serials[h]), h, g, c) {
-            return true;
-        }
-        h += 1;
-    }
-    false
-}
-
-// 01, Restart, 1 and 2: the segment is left by 1, and no copy of another.
-fn is_kept(p: Params, image: &[u8], low: usize, flags: &[bool], serials: &[u64], g: usize) -> bool
-    requires { ⌜ inRange p ≡ true ⌝ }
-    requires { ⌜ (length (now image) ≡ imageLen p) × (low < p .N) × (g < p .Z) × (p .Z ≤ length (now flags)) × (p .Z ≤ length (now serials)) ⌝ }
     ensures { λ r. ⌜
-        ((ps : List ℕ) (gone : ℕ)
+        ((off : List ℕ) (ps : List ℕ)
         → length ps ≡ pointersLen p
-        → low ≡ lowDrive p gone
-        → LeftFlags p (viewOf p (now (image .entry)) ps) gone (now (flags .entry))
-        → Serials p (viewOf p (now (image .entry)) ps) gone (now (serials .entry))
-        → r ≡ remainsHere p (viewOf p (now (image .entry)) ps) gone (across p g)) ⌝ }
+        → r .0 ≡ headerCopied p (headerAt (viewOf p off (now (image .entry)) ps) drive segment)) ⌝ }
 {
-    if !flags[g] {
-        return false;
-    }
-    let c = copied_on(p, image, low, disk_shape::across(p, g));
-    if c.0 == 0 {
-        return true;
-    }
-    !is_serial_of_other(p, flags, serials, g, c)
+    let zone = disk_shape::zone_on(p, segment, drive);
+    disk_gather::copied_in(p, image, drive, zone)
 }
 
-// 01, Restart, 1 and 2: which segments remain; flags say which are left by 1.
-fn keep_flags(p: Params, image: &[u8], gone: u8, serials: &[u64], flags: &[bool], out: &mut [bool])
-    requires { ⌜ inRange p ≡ true ⌝ }
-    requires { ⌜ (length (now image) ≡ imageLen p) × (p .Z ≤ length (now serials)) × (p .Z ≤ length (now flags)) × (p .Z ≤ length (now out)) ⌝ }
-    ensures { λ _. ⌜ ((ps : List ℕ) → length ps ≡ pointersLen p → Keeping p (viewOf p (now (image .entry)) ps) gone (now (serials .entry)) (now (flags .entry)) (now (out .exit))) ⌝ }
-{
-    let low = low_drive(p, gone);
-    let mut g = 0;
-    while g < p.Z {
-        out[g] = is_kept(p, image, low, flags, serials, g);
-        g += 1;
-    }
-}
-
-// The serials, and which segments remain, in lent arrays; flags is room. An array is as long as the caller's box needs.
-pub fn look(
-    p: Params,
-    image: &[u8],
-    pointers: &[u8],
-    gone: u8,
-    serials: &mut [u64],
-    flags: &mut [bool],
-    kept: &mut [bool],
-)
-    requires { ⌜ inRange p ≡ true ⌝ }
-    requires { ⌜ Whole p (mkDisk (now image) (now pointers)) ⌝ }
-    requires { ⌜ (p .Z ≤ length (now serials)) × (p .Z ≤ length (now flags)) × (p .Z ≤ length (now kept)) ⌝ }
-    ensures { λ _. ⌜ Serials p (viewOf p (now (image .entry)) (now (pointers .entry))) gone (now (serials .exit)) ⌝ }
-    ensures { λ _. ⌜ Keeps p (viewOf p (now (image .entry)) (now (pointers .entry))) gone (now (kept .exit)) ⌝ }
-{
-    read_serials(p, image, gone, serials);
-    left(p, pointers, gone, flags);
-    keep_flags(p, image, gone, serials, flags, kept);
-}
-
-// ---- questions about those that remain
+// ---- serials and seals
 
 // The greater of two, if the second is flagged.
 fn greater_if(flag: bool, a: Serial, b: Serial) -> Serial
@@ -218,26 +67,59 @@ fn greater_if(flag: bool, a: Serial, b: Serial) -> Serial
 // 01, Restart: the greatest remaining serial.
 pub fn greatest_serial(p: Params, kept: &[bool], serials: &[u64]) -> Serial
     requires { ⌜ (p .Z ≤ length (now kept)) × (p .Z ≤ length (now serials)) ⌝ }
-    ensures { λ r. ⌜ ((v : View) (gone : ℕ) → Keeps p v gone (now (kept .entry)) → Serials p v gone (now (serials .entry)) → r .0 ≡ greatestSerial (segments p v gone)) ⌝ }
+    ensures { λ r. ⌜
+        ((v : View) (gone : ℕ)
+        → Here p gone
+        → Keeps p v gone (now (kept .entry))
+        → Serials p v gone (now (serials .entry))
+        → r .0 ≡ greatestSerial (segments p v gone)) ⌝ }
 {
     let mut most = Serial(0);
-    let mut g = 0;
-    while g < p.Z {
-        most = greater_if(kept[g], most, Serial(serials[g]));
-        g += 1;
+    let mut z = 0;
+    while z < p.Z {
+        most = greater_if(kept[z], most, Serial(serials[z]));
+        z += 1;
     }
     most
 }
 
-// 01, Restart, 4: the lowest zone whose segment does not remain; Z if there is none.
-pub fn lowest_free(p: Params, kept: &[bool]) -> usize
-    requires { ⌜ p .Z ≤ length (now kept) ⌝ }
+// 01, Restart, 4: a segment remains at a zone of the lowest present drive, and it is not sealed.
+pub fn is_unsealed(
+    p: Params,
+    pointers: &[u8],
+    gone: u8,
+    kept: &[bool],
+    rows: &[u32],
+    z: usize,
+) -> bool
+    requires { ⌜ inRange p ≡ true ⌝ }
+    requires { ⌜ (length (now pointers) ≡ pointersLen p) × RowsLow p gone (now kept) (now rows) × (z < p .Z) ⌝ }
+    ensures { λ r. ⌜
+        ((off : List ℕ) (im : List ℕ)
+        → length im ≡ imageLen p
+        → r ≡ (getD (now (kept .entry)) z false && not (sealedIn p (viewOf p off im (now (pointers .entry))) gone (seg (part (8 * z) 8 (now (rows .entry))))))) ⌝ }
+{
+    if !kept[z] {
+        return false;
+    }
+    !disk_zones::is_sealed(p, pointers, gone, disk_gather::row(rows, z))
+}
+
+// 01, Restart, 4: the lowest zone of the lowest present drive at which an unsealed segment remains; Z if there is none.
+pub fn first_unsealed(p: Params, pointers: &[u8], gone: u8, kept: &[bool], rows: &[u32]) -> usize
+    requires { ⌜ inRange p ≡ true ⌝ }
+    requires { ⌜ (length (now pointers) ≡ pointersLen p) × RowsLow p gone (now kept) (now rows) ⌝ }
     ensures { λ r. ⌜ r ≤ p .Z ⌝ }
-    ensures { λ r. ⌜ ((v : View) (gone : ℕ) → Keeps p v gone (now (kept .entry)) → across p r ≡ firstOr (across p (p .Z)) (freeSegs p (segments p v gone))) ⌝ }
+    ensures { λ r. ⌜
+        ((off : List ℕ) (im : List ℕ)
+        → length im ≡ imageLen p
+        → Keeps p (viewOf p off im (now (pointers .entry))) gone (now (kept .entry))
+        → FlagsRows p (viewOf p off im (now (pointers .entry))) gone (now (rows .entry))
+        → r ≡ firstOr (p .Z) (keep (unsealedAt p (viewOf p off im (now (pointers .entry))) gone) (below (p .Z)))) ⌝ }
 {
     let mut z = 0;
     while z < p.Z {
-        if !kept[z] {
+        if is_unsealed(p, pointers, gone, kept, rows, z) {
             return z;
         }
         z += 1;
@@ -245,57 +127,191 @@ pub fn lowest_free(p: Params, kept: &[bool]) -> usize
     p.Z
 }
 
-// 01, Restart, 4: the segment remains and is not sealed.
-pub fn is_unsealed(p: Params, pointers: &[u8], gone: u8, kept: &[bool], g: usize) -> bool
+// 01, Refusals, 9: how many segments are unsealed.
+pub fn unsealed_count(p: Params, pointers: &[u8], gone: u8, kept: &[bool], rows: &[u32]) -> usize
     requires { ⌜ inRange p ≡ true ⌝ }
-    requires { ⌜ (length (now pointers) ≡ pointersLen p) × (p .Z ≤ length (now kept)) × (g < p .Z) ⌝ }
-    ensures { λ r. ⌜ ((im : List ℕ) → length im ≡ imageLen p → r ≡ (getD (now (kept .entry)) g false && not (sealedIn p (viewOf p im (now (pointers .entry))) gone (across p g)))) ⌝ }
-{
-    if !kept[g] {
-        return false;
-    }
-    !disk_zones::is_sealed(p, pointers, gone, disk_shape::across(p, g))
-}
-
-// 01, Restart, 4: the lowest unsealed segment; Z if there is none.
-pub fn first_unsealed(p: Params, pointers: &[u8], gone: u8, kept: &[bool]) -> usize
-    requires { ⌜ inRange p ≡ true ⌝ }
-    requires { ⌜ (length (now pointers) ≡ pointersLen p) × (p .Z ≤ length (now kept)) ⌝ }
+    requires { ⌜ (length (now pointers) ≡ pointersLen p) × RowsLow p gone (now kept) (now rows) ⌝ }
     ensures { λ r. ⌜ r ≤ p .Z ⌝ }
     ensures { λ r. ⌜
-        ((im : List ℕ)
+        ((off : List ℕ) (im : List ℕ)
         → length im ≡ imageLen p
-        → Keeps p (viewOf p im (now (pointers .entry))) gone (now (kept .entry))
-        → across p r ≡ firstOr (across p (p .Z)) (map (λ (s : Segment). s .seg) (unsealed (segments p (viewOf p im (now (pointers .entry))) gone)))) ⌝ }
+        → Keeps p (viewOf p off im (now (pointers .entry))) gone (now (kept .entry))
+        → FlagsRows p (viewOf p off im (now (pointers .entry))) gone (now (rows .entry))
+        → r ≡ length (unsealed (segments p (viewOf p off im (now (pointers .entry))) gone))) ⌝ }
 {
-    let mut g = 0;
-    while g < p.Z {
-        if is_unsealed(p, pointers, gone, kept, g) {
-            return g;
+    let mut n = 0;
+    let mut z = 0;
+    while z < p.Z {
+        if is_unsealed(p, pointers, gone, kept, rows, z) {
+            n += 1;
         }
-        g += 1;
+        z += 1;
+    }
+    n
+}
+
+// ---- zones that the segments have
+
+// No zone is marked.
+fn clear_marks(p: Params, marks: &mut [bool])
+    requires { ⌜ inRange p ≡ true ⌝ }
+    requires { ⌜ p .N * p .Z ≤ length (now marks) ⌝ }
+    ensures { λ _. ⌜ ((j : ℕ) → j < p .N * p .Z → getD (now (marks .exit)) j false ≡ false) ⌝ }
+{
+    let n = disk_shape::offline_len(p);
+    let mut i = 0;
+    while i < n {
+        marks[i] = false;
+        i += 1;
+    }
+}
+
+// By drive and zone, marks a zone; a number that is no zone marks nothing.
+fn mark(p: Params, marks: &mut [bool], drive: usize, zone: usize)
+    requires { ⌜ inRange p ≡ true ⌝ }
+    requires { ⌜ (p .N * p .Z ≤ length (now marks)) × (drive < p .N) ⌝ }
+    ensures { λ _. ⌜
+        ((d z : ℕ)
+        → d < p .N
+        → z < p .Z
+        → getD (now (marks .exit)) (d * p .Z + z) false ≡ (getD (now (marks .entry)) (d * p .Z + z) false || (eqb drive d && eqb zone z))) ⌝ }
+{
+    if p.Z <= zone {
+        return;
+    }
+    let at = disk_shape::offline_at(p, drive, zone);
+    marks[at] = true;
+}
+
+// Marks the zones of a segment.
+fn mark_segment(p: Params, marks: &mut [bool], segment: Seg)
+    requires { ⌜ inRange p ≡ true ⌝ }
+    requires { ⌜ p .N * p .Z ≤ length (now marks) ⌝ }
+    ensures { λ _. ⌜
+        ((d z : ℕ)
+        → d < p .N
+        → z < p .Z
+        → getD (now (marks .exit)) (d * p .Z + z) false ≡ (getD (now (marks .entry)) (d * p .Z + z) false || eqb (zoneOn segment d) z)) ⌝ }
+{
+    let mut d = 0;
+    while d < p.N {
+        mark(p, marks, d, disk_shape::zone_on(p, segment, d));
+        d += 1;
+    }
+}
+
+// Marks them if flagged.
+fn mark_if(p: Params, flag: bool, marks: &mut [bool], rows: &[u32], z: usize)
+    requires { ⌜ inRange p ≡ true ⌝ }
+    requires { ⌜ (p .N * p .Z ≤ length (now marks)) × (8 * p .Z ≤ length (now rows)) × (z < p .Z) ⌝ }
+    ensures { λ _. ⌜
+        ((d y : ℕ)
+        → d < p .N
+        → y < p .Z
+        → getD (now (marks .exit)) (d * p .Z + y) false
+        ≡ (getD (now (marks .entry)) (d * p .Z + y) false || (flag && eqb (zoneOn (seg (part (8 * z) 8 (now (rows .entry)))) d) y))) ⌝ }
+{
+    if !flag {
+        return;
+    }
+    mark_segment(p, marks, disk_gather::row(rows, z));
+}
+
+// 02, item 4: by drive and zone, which zones the remaining segments have.
+pub fn taken(p: Params, kept: &[bool], rows: &[u32], marks: &mut [bool])
+    requires { ⌜ inRange p ≡ true ⌝ }
+    requires { ⌜ (p .Z ≤ length (now kept)) × (8 * p .Z ≤ length (now rows)) × (p .N * p .Z ≤ length (now marks)) ⌝ }
+    ensures { λ _. ⌜
+        ((v : View) (gone : ℕ)
+        → Keeps p v gone (now (kept .entry))
+        → FlagsRows p v gone (now (rows .entry))
+        → TakenOfTaken p v gone (now (marks .exit))) ⌝ }
+{
+    clear_marks(p, marks);
+    let mut z = 0;
+    while z < p.Z {
+        mark_if(p, kept[z], marks, rows, z);
+        z += 1;
+    }
+}
+
+// ---- zones that are free
+
+// 02, item 4: whether a zone is good and no remaining segment has it.
+fn is_free(p: Params, offline: &[u8], marks: &[bool], drive: usize, zone: usize) -> bool
+    requires { ⌜ inRange p ≡ true ⌝ }
+    requires { ⌜ (length (now offline) ≡ offlineLen p) × (p .N * p .Z ≤ length (now marks)) × (drive < p .N) × (zone < p .Z) ⌝ }
+    ensures { λ r. ⌜ r ≡ freeIn p (now (offline .entry)) (now (marks .entry)) drive zone ⌝ }
+{
+    if !disk_zones::is_good(p, offline, drive, zone) {
+        return false;
+    }
+    !marks[disk_shape::offline_at(p, drive, zone)]
+}
+
+// 02, item 4: the lowest such zone of a drive; Z where there is none.
+fn lowest_free(p: Params, offline: &[u8], marks: &[bool], drive: usize) -> usize
+    requires { ⌜ inRange p ≡ true ⌝ }
+    requires { ⌜ (length (now offline) ≡ offlineLen p) × (p .N * p .Z ≤ length (now marks)) × (drive < p .N) ⌝ }
+    ensures { λ r. ⌜ (r ≡ firstOr (p .Z) (keep (freeIn p (now (offline .entry)) (now (marks .entry)) drive) (below (p .Z)))) × (r ≤ p .Z) ⌝ }
+{
+    let mut z = 0;
+    while z < p.Z {
+        if is_free(p, offline, marks, drive, z) {
+            return z;
+        }
+        z += 1;
     }
     p.Z
 }
 
-// 01, Refusals, 9: how many segments are unsealed.
-pub fn unsealed_count(p: Params, pointers: &[u8], gone: u8, kept: &[bool]) -> usize
+// The same; 0 where there is none.
+fn free_zone(p: Params, offline: &[u8], marks: &[bool], drive: usize) -> usize
     requires { ⌜ inRange p ≡ true ⌝ }
-    requires { ⌜ (length (now pointers) ≡ pointersLen p) × (p .Z ≤ length (now kept)) ⌝ }
-    ensures { λ r. ⌜ r ≤ p .Z ⌝ }
-    ensures { λ r. ⌜
-        ((im : List ℕ)
-        → length im ≡ imageLen p
-        → Keeps p (viewOf p im (now (pointers .entry))) gone (now (kept .entry))
-        → r ≡ length (unsealed (segments p (viewOf p im (now (pointers .entry))) gone))) ⌝ }
+    requires { ⌜ (length (now offline) ≡ offlineLen p) × (p .N * p .Z ≤ length (now marks)) × (drive < p .N) ⌝ }
+    ensures { λ r. ⌜ (r ≡ firstOr 0 (keep (freeIn p (now (offline .entry)) (now (marks .entry)) drive) (below (p .Z)))) × (r < p .Z) ⌝ }
 {
-    let mut n = 0;
-    let mut g = 0;
-    while g < p.Z {
-        if is_unsealed(p, pointers, gone, kept, g) {
-            n += 1;
-        }
-        g += 1;
+    let z = lowest_free(p, offline, marks, drive);
+    if z < p.Z {
+        return z;
     }
-    n
+    0
+}
+
+// 02, item 4: the segment that the rewrite takes: each drive's lowest good zone that no remaining segment has.
+pub fn free_segment(p: Params, offline: &[u8], marks: &[bool]) -> Seg
+    requires { ⌜ inRange p ≡ true ⌝ }
+    requires { ⌜ (length (now offline) ≡ offlineLen p) × (p .N * p .Z ≤ length (now marks)) ⌝ }
+    ensures { λ r. ⌜
+        ((im ps : List ℕ) (gone : ℕ)
+        → TakenOfTaken p (viewOf p (now (offline .entry)) im ps) gone (now (marks .entry))
+        → r ≡ freeSeg p (viewOf p (now (offline .entry)) im ps) (segments p (viewOf p (now (offline .entry)) im ps) gone)) ⌝ }
+    ensures { λ r. ⌜ ZonesLow p 0 r ⌝ }
+{
+    let mut zones = [0u32; 8];
+    let mut d = 0;
+    while d < p.N {
+        zones[d] = free_zone(p, offline, marks, d) as u32;
+        d += 1;
+    }
+    Seg { zones }
+}
+
+// 01, Refusals, 8; 02, item 4: whether some drive has none.
+pub fn none_free(p: Params, offline: &[u8], marks: &[bool]) -> bool
+    requires { ⌜ inRange p ≡ true ⌝ }
+    requires { ⌜ (length (now offline) ≡ offlineLen p) × (p .N * p .Z ≤ length (now marks)) ⌝ }
+    ensures { λ r. ⌜
+        ((im ps : List ℕ) (gone : ℕ)
+        → TakenOfTaken p (viewOf p (now (offline .entry)) im ps) gone (now (marks .entry))
+        → r ≡ noneFree p (viewOf p (now (offline .entry)) im ps) (segments p (viewOf p (now (offline .entry)) im ps) gone)) ⌝ }
+{
+    let mut d = 0;
+    while d < p.N {
+        if p.Z <= lowest_free(p, offline, marks, d) {
+            return true;
+        }
+        d += 1;
+    }
+    false
 }

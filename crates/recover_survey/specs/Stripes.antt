@@ -99,9 +99,9 @@ faults-split p gone g =
 -- ---- the tally of the stripes below n; it says nothing of a segment with a bad record, but for the bounds
 
 -- what a group's index says, where no record of the segment is bad
-abbrev pub Shown : Params → List ℕ → List ℕ → Group → List ℕ → Type 0
-Shown p im ps w at = (length ps ≡ pointersLen p) × (w .full ≡ sealedIn p (viewOf p im ps) (w .gone) (w .seg))
-    × (recsFault p (w .gone) (segmentIn p im ps w) ≡ false → Indexed p (segmentIn p im ps w) (w .base) at)
+abbrev pub Shown : Params → List ℕ → List ℕ → List ℕ → Group → List ℕ → Type 0
+Shown p off im ps w at = (length ps ≡ pointersLen p) × (w .full ≡ sealedIn p (viewOf p off im ps) (w .gone) (w .seg))
+    × (recsFault p (w .gone) (segmentIn p off im ps w) ≡ false → Indexed p (segmentIn p off im ps w) (w .base) at)
 
 pub record Tallied (p : Params) (gone : ℕ) (g : Segment) (n : ℕ) (t : Tally) : Type 0 where
   pub bad-is : recsFault p gone g ≡ false → t .bad ≡ any (lostFault p gone g) (below n)

@@ -97,11 +97,11 @@ fn lost_bad(p: Params, image: &[u8], w: Group, at: &[u16], k: usize) -> bool
     requires { ⌜ inRange p ≡ true ⌝ }
     requires { ⌜ (length (now image) ≡ imageLen p) × (length (now at) ≡ 2048) × ZonesLow p (w .gone) (w .seg) × (w .base < p .S) × (k < groupLen p (w .base)) ⌝ }
     ensures { λ r. ⌜
-        ((ps : List ℕ)
-        → Shown p (now (image .entry)) ps w (now (at .entry))
-        → recsFault p (w .gone) (segmentIn p (now (image .entry)) ps w) ≡ false
-        → counts p (w .gone) (segmentIn p (now (image .entry)) ps w) (w .base + k) ≡ true
-        → r ≡ lostBad p (w .gone) (segmentIn p (now (image .entry)) ps w) (w .base + k)) ⌝ }
+        ((off : List ℕ) (ps : List ℕ)
+        → Shown p off (now (image .entry)) ps w (now (at .entry))
+        → recsFault p (w .gone) (segmentIn p off (now (image .entry)) ps w) ≡ false
+        → counts p (w .gone) (segmentIn p off (now (image .entry)) ps w) (w .base + k) ≡ true
+        → r ≡ lostBad p (w .gone) (segmentIn p off (now (image .entry)) ps w) (w .base + k)) ⌝ }
 {
     if !any_lost_data(p, w.gone, w.base + k) {
         return false;
@@ -133,10 +133,10 @@ fn survey_stripe(p: Params, image: &[u8], w: Group, at: &[u16], k: usize, t: Tal
     requires { ⌜ (t .counted ≤ w .base + k) × (t .loose ≤ w .base + k) ⌝ }
     ensures { λ r. ⌜ (r .counted ≤ w .base + k + 1) × (r .loose ≤ w .base + k + 1) × (r .bad ≡ false → t .bad ≡ false) ⌝ }
     ensures { λ r. ⌜
-        ((ps : List ℕ)
-        → Shown p (now (image .entry)) ps w (now (at .entry))
-        → Tallied p (w .gone) (segmentIn p (now (image .entry)) ps w) (w .base + k) t
-        → Tallied p (w .gone) (segmentIn p (now (image .entry)) ps w) (w .base + k + 1) r) ⌝ }
+        ((off : List ℕ) (ps : List ℕ)
+        → Shown p off (now (image .entry)) ps w (now (at .entry))
+        → Tallied p (w .gone) (segmentIn p off (now (image .entry)) ps w) (w .base + k) t
+        → Tallied p (w .gone) (segmentIn p off (now (image .entry)) ps w) (w .base + k + 1) r) ⌝ }
 {
     if recover_groups::counts(p, w.gone, at, k) {
         if lost_bad(p, image, w, at, k) {
@@ -167,10 +167,10 @@ fn survey_stripes(p: Params, image: &[u8], w: Group, at: &[u16], t: Tally) -> Ta
     requires { ⌜ (t .counted ≤ w .base) × (t .loose ≤ w .base) ⌝ }
     ensures { λ r. ⌜ (r .counted ≤ w .base + groupLen p (w .base)) × (r .loose ≤ w .base + groupLen p (w .base)) × (r .bad ≡ false → t .bad ≡ false) ⌝ }
     ensures { λ r. ⌜
-        ((ps : List ℕ)
-        → Shown p (now (image .entry)) ps w (now (at .entry))
-        → Tallied p (w .gone) (segmentIn p (now (image .entry)) ps w) (w .base) t
-        → Tallied p (w .gone) (segmentIn p (now (image .entry)) ps w) (w .base + groupLen p (w .base)) r) ⌝ }
+        ((off : List ℕ) (ps : List ℕ)
+        → Shown p off (now (image .entry)) ps w (now (at .entry))
+        → Tallied p (w .gone) (segmentIn p off (now (image .entry)) ps w) (w .base) t
+        → Tallied p (w .gone) (segmentIn p off (now (image .entry)) ps w) (w .base + groupLen p (w .base)) r) ⌝ }
 {
     let len = recover_groups::group_len(p, w.base);
     let mut next = t;
@@ -194,13 +194,18 @@ fn survey_group(
     requires { ⌜ inRange p ≡ true ⌝ }
     requires { ⌜ Whole p (mkDisk (now image) (now pointers)) ⌝ }
     requires { ⌜ (length (now at) ≡ 2048) × ZonesLow p (w .gone) (w .seg) × (w .base < p .S) × (w .base % p .G ≡ 0) ⌝ }
-    requires { ⌜ w .full ≡ sealedIn p (viewOf p (now image) (now pointers)) (w .gone) (w .seg) ⌝ }
     requires { ⌜ (t .counted ≤ w .base) × (t .loose ≤ w .base) ⌝ }
     ensures { λ r. ⌜ (r .counted ≤ w .base + groupLen p (w .base)) × (r .loose ≤ w .base + groupLen p (w .base)) ⌝ }
-    ensures { λ r. ⌜ (r .bad ≡ false → (t .bad ≡ false) × (groupFault p (w .gone) (segmentIn p (now (image .entry)) (now (pointers .entry)) w) (w .base) ≡ false)) ⌝ }
     ensures { λ r. ⌜
-        (Tallied p (w .gone) (segmentIn p (now (image .entry)) (now (pointers .entry)) w) (w .base) t
-        → Tallied p (w .gone) (segmentIn p (now (image .entry)) (now (pointers .entry)) w) (w .base + groupLen p (w .base)) r) ⌝ }
+        ((off : List ℕ)
+        → w .full ≡ sealedIn p (viewOf p off (now (image .entry)) (now (pointers .entry))) (w .gone) (w .seg)
+        → r .bad ≡ false
+        → (t .bad ≡ false) × (groupFault p (w .gone) (segmentIn p off (now (image .entry)) (now (pointers .entry)) w) (w .base) ≡ false)) ⌝ }
+    ensures { λ r. ⌜
+        ((off : List ℕ)
+        → w .full ≡ sealedIn p (viewOf p off (now (image .entry)) (now (pointers .entry))) (w .gone) (w .seg)
+        → Tallied p (w .gone) (segmentIn p off (now (image .entry)) (now (pointers .entry)) w) (w .base) t
+        → Tallied p (w .gone) (segmentIn p off (now (image .entry)) (now (pointers .entry)) w) (w .base + groupLen p (w .base)) r) ⌝ }
 {
     if !recover_groups::index_group(p, image, pointers, w, at) {
         return bad_tally(t);
@@ -220,8 +225,11 @@ pub fn survey(
 ) -> Tally
     requires { ⌜ inRange p ≡ true ⌝ }
     requires { ⌜ Whole p (mkDisk (now image) (now pointers)) ⌝ }
-    requires { ⌜ (length (now at) ≡ 2048) × ZonesLow p gone seg × (full ≡ sealedIn p (viewOf p (now image) (now pointers)) gone seg) ⌝ }
-    ensures { λ r. ⌜ Surveyed p gone (segmentOf p (viewOf p (now (image .entry)) (now (pointers .entry))) gone seg) r ⌝ }
+    requires { ⌜ (length (now at) ≡ 2048) × ZonesLow p gone seg ⌝ }
+    ensures { λ r. ⌜
+        ((off : List ℕ)
+        → full ≡ sealedIn p (viewOf p off (now (image .entry)) (now (pointers .entry))) gone seg
+        → Surveyed p gone (segmentOf p (viewOf p off (now (image .entry)) (now (pointers .entry))) gone seg) r) ⌝ }
 {
     let mut t = Tally {
         bad: false,

@@ -1,6 +1,6 @@
 -- The index of a group from the compact table, which has it where no record is at fault: entry by entry, as from the records (01, What a zone holds; Restart, 3). Assumes nothing.
 use mathlib.Core.Path.{_≡_, refl, sym, ap, _∙_, subst}
-use mathlib.Core.List.{List, []}
+use mathlib.Core.List.{List}
 use mathlib.Core.Bool.{true, false, _&&_}
 use Prim.Native.Nat.{ℕ, _+_, _-_, _*_, _%_, _≤_, _<_}
 use native.Mathlib.Nat.{add-assoc}
@@ -16,7 +16,7 @@ use Rattle.spec.specs.Layout.{compactEntry, Rec, mkRec}
 use Rattle.spec.specs.Lists.{isIn}
 use Rattle.spec.specs.Memory.{compactAt}
 use Rattle.spec.specs.Params.{compactLen, present}
-use Rattle.spec.specs.Segments.{remaining, segmentOf, recsOn, compactRow}
+use Rattle.spec.specs.Segments.{remaining, segmentOf, recsOn}
 use Rattle.law_basic.specs.Geometry.{Ranged, compact-within}
 use Rattle.law_basic.specs.Ranges.{Test, test, not-both, and-left, and-right}
 use Rattle.law_basic.specs.Ranges.Test.{yes!, no! }
@@ -28,17 +28,16 @@ use Rattle.recover_groups.specs.Groups.{groupLen, groupRecs, recsBad, groupFaul
 use Rattle.recover_groups.specs.declared.Group.{Group}
 use Rattle.recover_addresses.specs.Lies.{Ground, seg-clean}
 use Rattle.law_drives.specs.Members.{In, none-in}
-use Rattle.law_drives.specs.Segs.{in-present, remaining-low}
-use Rattle.law_drives.specs.Tables.{remains, rowAt, row-at, length-recs, remaining-in, row-seg}
-use Rattle.law_drives.specs.Tests.{cond-true}
+use Rattle.law_drives.specs.Gather.{in-present}
+use Rattle.law_drives.specs.Tables.{row-at, length-recs}
 use Rattle.spec.specs.declared.Seg.{Seg}
 
-module _ (p : Params) (r : Ranged p) (im ps : List ℕ) (gone : ℕ) (cs : List ℕ) (G : Ground p im ps gone cs) (sgm : Seg) (base d : ℕ)
-    (m : In sgm (remaining p (viewOf p im ps) gone))
-    (sh : SegmentShown p (viewOf p im ps) gone sgm cs)
+module _ (p : Params) (r : Ranged p) (off im ps : List ℕ) (gone : ℕ) (cs : List ℕ) (G : Ground p off im ps gone cs) (sgm : Seg) (base d : ℕ)
+    (m : In sgm (remaining p (viewOf p off im ps) gone))
+    (sh : SegmentShown p (viewOf p off im ps) gone sgm cs)
     (hd : d < p .N) (hg : isIn gone d ≡ false) (hb : base < p .S) (hm : base % p .G ≡ 0) where
   abbrev v : View
-  v = viewOf p im ps
+  v = viewOf p off im ps
 
   abbrev all : List Rec
   all = recsOn (segmentOf p v gone sgm) d
@@ -61,9 +60,6 @@ module _ (p : Params) (r : Ranged p) (im ps : List ℕ) (gone : ℕ) (cs : List 
   unfolding compactAt
   compact-next i = add-assoc ((d * p .Z + zoneOn sgm d) * p .S) base i
 
-  kept-row : rowAt p v gone d (zoneOn sgm d) ≡ all
-  kept-row = row-seg p v gone d sgm hd (remaining-low p v gone sgm m) ∙ cond-true (remains p v gone sgm) all [] (remaining-in p v gone sgm m .1)
-
   record-in-group : (i : ℕ) → i < length rs → getD rs i (mkRec 0 0 0) ≡ getD all (base + i) (mkRec 0 0 0)
   unfolding groupRecs
   record-in-group i h =
@@ -77,8 +73,7 @@ module _ (p : Params) (r : Ranged p) (im ps : List ℕ) (gone : ℕ) (cs : List 
       let o : base + i < length all = omega (arith, n, h) in
       let s : base + i < p .S = omega (arith, o, length-recs p v gone sgm d hd) in
       ap (λ (x : ℕ). getD cs x 0) (compact-next i)
-      ∙ sh d (base + i) hd s
-      ∙ ap (λ (x : List Rec). getD (compactRow p x) (base + i) 0) kept-row
+      ∙ sh d (base + i) hd hg s
       ∙ row-at p all (base + i) o
       ∙ ap (λ (x : Rec). compactEntry p (x .stripe)) (sym (record-in-group i h))
 
@@ -125,11 +120,11 @@ compact-entry-within p d z b i hd hz h =
     omega (arith, e, compact-within p d z (b + i) hd hz h)
 
 -- the drive's row is that of its records, the lower ones are the same
-abbrev pub Rowed : Params → List ℕ → List ℕ → ℕ → List ℕ → Seg → ℕ → ℕ → List ℕ → List ℕ → Type 0
-Rowed p im ps gone cs sgm base d old at = Ground p im ps gone cs → In sgm (remaining p (viewOf p im ps) gone) → SegmentShown p (viewOf p im ps) gone sgm cs
-    → SameBelow d old at × Row p base (groupRecs p base (recsOn (segmentOf p (viewOf p im ps) gone sgm) d)) d at
+abbrev pub Rowed : Params → List ℕ → List ℕ → List ℕ → ℕ → List ℕ → Seg → ℕ → ℕ → List ℕ → List ℕ → Type 0
+Rowed p off im ps gone cs sgm base d old at = Ground p off im ps gone cs → In sgm (remaining p (viewOf p off im ps) gone) → SegmentShown p (viewOf p off im ps) gone sgm cs
+    → SameBelow d old at × Row p base (groupRecs p base (recsOn (segmentOf p (viewOf p off im ps) gone sgm) d)) d at
 
 -- the index of the group is right
-abbrev pub Grouped : Params → List ℕ → List ℕ → List ℕ → Group → List ℕ → Type 0
-Grouped p im ps cs w at = Ground p im ps (w .gone) cs → In (w .seg) (remaining p (viewOf p im ps) (w .gone)) → SegmentShown p (viewOf p im ps) (w .gone) (w .seg) cs
-    → Indexed p (segmentIn p im ps w) (w .base) at
+abbrev pub Grouped : Params → List ℕ → List ℕ → List ℕ → List ℕ → Group → List ℕ → Type 0
+Grouped p off im ps cs w at = Ground p off im ps (w .gone) cs → In (w .seg) (remaining p (viewOf p off im ps) (w .gone)) → SegmentShown p (viewOf p off im ps) (w .gone) (w .seg) cs
+    → Indexed p (segmentIn p off im ps w) (w .base) at

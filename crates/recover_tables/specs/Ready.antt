@@ -25,18 +25,16 @@ use Rattle.recover_groups.specs.declared.Group.{Group}
 use Rattle.recover_groups.specs.Bases.{group-len-le, group-len-fits}
 use Rattle.recover_groups.specs.Chunks.{counts-entered}
 use Rattle.recover_groups.specs.Groups.{groupLen, AllEntered, segmentIn, GroupReads}
-use Rattle.recover_segments.specs.Remains.{remainsHere, isLeft, serialOf}
 use Rattle.recover_addresses.specs.Lies.{StripeCounts}
 use Rattle.recover_addresses.specs.Told.{Near, Tells}
 use Rattle.recover_compact.specs.Compacts.{SegmentShown}
 use Rattle.law_drives.specs.Members.{In}
-use Rattle.law_drives.specs.Segs.{remaining-low, serial-is}
+use Rattle.law_drives.specs.Segs.{Here, remaining-low}
 use Rattle.law_drives.specs.Spots.{counts-in}
-use Rattle.law_drives.specs.Tables.{remains}
 use Rattle.law_drives.specs.Tests.{and-false-right, cond-true, cond-false}
 use Rattle.recover_tables.specs.Walk.{firstCands, most-append, most-one, tells-join, first-more}
 use Rattle.spec.specs.declared.Seg.{Seg}
-use Rattle.law_basic.specs.Segs.{Named}
+use Rattle.law_basic.specs.Segs.{ZonesLow}
 
 -- no group begins behind the most stripes of a segment and the most of a group
 abbrev pub lastBase : ℕ
@@ -44,30 +42,30 @@ lastBase = 65535 + 256
 
 -- the index is that of the group, whose stripe k counts
 abbrev pub ReadsStripe : Params → List ℕ → Group → List ℕ → ℕ → Type 0
-ReadsStripe p im w at k = (ps : List ℕ) × GroupReads p im ps w at × (counts p (w .gone) (segmentIn p im ps w) (w .base + k) ≡ true)
+ReadsStripe p im w at k = (off : List ℕ) × (ps : List ℕ) × GroupReads p off im ps w at × (counts p (w .gone) (segmentIn p off im ps w) (w .base + k) ≡ true)
 
 -- the index is that of the group, of a remaining segment, whose rows of the compact table are as the drives say
-pub record Indexing (p : Params) (im ps : List ℕ) (w : Group) (co at : List ℕ) (k : ℕ) : Type 0 where
-  pub reads : GroupReads p im ps w at
+pub record Indexing (p : Params) (off im ps : List ℕ) (w : Group) (co at : List ℕ) (k : ℕ) : Type 0 where
+  pub reads : GroupReads p off im ps w at
   pub long : length at ≡ 2048
   pub base-low : w .base < p .S
   pub stripe-in : k < groupLen p (w .base)
-  pub remains : In (w .seg) (remaining p (viewOf p im ps) (w .gone))
-  pub shown : SegmentShown p (viewOf p im ps) (w .gone) (w .seg) co
+  pub remains : In (w .seg) (remaining p (viewOf p off im ps) (w .gone))
+  pub shown : SegmentShown p (viewOf p off im ps) (w .gone) (w .seg) co
 
 -- and stripe k counts
-pub record Standing (p : Params) (im ps : List ℕ) (w : Group) (co at : List ℕ) (k : ℕ) : Type 0 where
-  pub index : Indexing p im ps w co at k
-  pub it-counts : counts p (w .gone) (segmentIn p im ps w) (w .base + k) ≡ true
+pub record Standing (p : Params) (off im ps : List ℕ) (w : Group) (co at : List ℕ) (k : ℕ) : Type 0 where
+  pub index : Indexing p off im ps w co at k
+  pub it-counts : counts p (w .gone) (segmentIn p off im ps w) (w .base + k) ≡ true
 
-module _ (p : Params) (im ps : List ℕ) (w : Group) (at : List ℕ) (k : ℕ) where
+module _ (p : Params) (off im ps : List ℕ) (w : Group) (at : List ℕ) (k : ℕ) where
   pub group-stripe-below : w .base < p .S → k < groupLen p (w .base) → w .base + k < p .S
   group-stripe-below h l = omega (arith, group-len-fits p (w .base) (omega arith))
 
   pub stripe-byte : Ranged p → k < groupLen p (w .base) → k < 256
   stripe-byte r l = omega (arith, group-len-le p (w .base), r .group-high)
 
-  pub standing-counted : (co : List ℕ) → Standing p im ps w co at k → StripeCounts p (viewOf p im ps) (w .gone) co (w .seg) (w .base + k)
+  pub standing-counted : (co : List ℕ) → Standing p off im ps w co at k → StripeCounts p (viewOf p off im ps) (w .gone) co (w .seg) (w .base + k)
   standing-counted co s = record {
     remains = s .index .remains;
     stripe-low = group-stripe-below (s .index .base-low) (s .index .stripe-in);
@@ -75,20 +73,20 @@ module _ (p : Params) (im ps : List ℕ) (w : Group) (at : List ℕ) (k : ℕ) w
     shown = s .index .shown;
   }
 
-  pub standing-low : (co : List ℕ) → Standing p im ps w co at k → Named p (w .seg)
-  standing-low co s = remaining-low p (viewOf p im ps) (w .gone) (w .seg) (s .index .remains)
+  pub standing-low : Here p (w .gone) → (co : List ℕ) → Standing p off im ps w co at k → ZonesLow p (w .gone) (w .seg)
+  standing-low here co s = remaining-low p (viewOf p off im ps) (w .gone) here (w .seg) (s .index .remains)
 
-  pub reading-entered : GroupReads p im ps w at → k < groupLen p (w .base) → counts p (w .gone) (segmentIn p im ps w) (w .base + k) ≡ true → AllEntered p (w .gone) (w .base) at k
-  reading-entered q l c = counts-entered p (w .gone) (segmentIn p im ps w) (w .base) at k (q .indexed) l c
+  pub reading-entered : GroupReads p off im ps w at → k < groupLen p (w .base) → counts p (w .gone) (segmentIn p off im ps w) (w .base + k) ≡ true → AllEntered p (w .gone) (w .base) at k
+  reading-entered q l c = counts-entered p (w .gone) (segmentIn p off im ps w) (w .base) at k (q .indexed) l c
 
   -- 01, The array: the offset of its record on a drive
-  pub offset-fits : (d : ℕ) → w .base < p .S → k < groupLen p (w .base) → d < p .N → GroupReads p im ps w at → counts p (w .gone) (segmentIn p im ps w) (w .base + k) ≡ true
-      → offsetOf (w .gone) (segmentIn p im ps w) (w .base + k) d < p .S
+  pub offset-fits : (d : ℕ) → w .base < p .S → k < groupLen p (w .base) → d < p .N → GroupReads p off im ps w at → counts p (w .gone) (segmentIn p off im ps w) (w .base + k) ≡ true
+      → offsetOf (w .gone) (segmentIn p off im ps w) (w .base + k) d < p .S
   unfolding offsetOf
   offset-fits d h l hd q c = go (test (isIn (w .gone) d))
     where
       g : Segment
-      g = segmentIn p im ps w
+      g = segmentIn p off im ps w
 
       go : Test (isIn (w .gone) d) → cond (isIn (w .gone) d) (w .base + k) (offsetOn g d (w .base + k)) < p .S
       go (yes! e) = subst (λ (x : ℕ). x < p .S) (sym (cond-true (isIn (w .gone) d) (w .base + k) (offsetOn g d (w .base + k)) e)) (group-stripe-below h l)
@@ -122,15 +120,7 @@ cand-there p v gone co g s i c k h e = (
   k .shown,
 )
 
-pub serial-there : (p : Params) (v : View) (gone : ℕ) (g : Seg) (n : ℕ) → n ≡ serialOf p v gone g → n ≡ segmentOf p v gone g .serial
-unfolding serialOf
-serial-there p v gone g n e = e ∙ sym (serial-is p v gone g)
-
 -- ---- answers of the code
-
-pub kept-is : (p : Params) (v : View) (gone : ℕ) (g : Seg) (b : Bool) → b ≡ remainsHere p v gone g → b ≡ remains p v gone g
-unfolding remainsHere isLeft remains
-kept-is p v gone g b e = e
 
 -- the open segment's stripes, once its turn has come
 pub next-turn : (a u g c n m : ℕ) (b : Bool) → m ≡ cond (b && eqb g u) c n → n ≤ a → c ≤ a → m ≤ a

@@ -15,7 +15,7 @@ use Rattle.spec.specs.Lists.{isNil}
 use Rattle.spec.specs.Memory.{Memory, mkMemory, stripeIn, filledIn, fillingSlot, hasFilling, stateFaults}
 use Rattle.spec.specs.Params.{dataCount, inRange}
 use Rattle.spec.specs.Reclaim.{tableFaults, victim, idle}
-use Rattle.spec.specs.Write.{scarce, Placed, placed}
+use Rattle.spec.specs.Write.{scarce, listRules, Placed, placed}
 
 -- 01, Closing: k open positions filled with zero blocks at the padding address, stamp 0
 unfoldable pub padded : Params → ℕ → ℕ → State → List ℕ → Placed
@@ -32,9 +32,9 @@ reclaimFirst p v m = scarce p v 1 && not (isNil (idle p v (m .state) (victim p v
 unfoldable pub closeChecks : Params → Bool → View → Memory → List Check
 closeChecks p long v m =
     let st = m .state in
-    rule 1 (not (inRange p)) ∷ rule 2 (not long) ∷ rule 3 (not (eqb (st .missing) 0))
-    ∷ rule 5 (not (hasFilling p st) || reclaimFirst p v m)
-    ∷ zones (stateFaults p st ++ cond (scarce p v 1) (tableFaults p (m .addresses)) []) ∷ []
+    rule 1 (not (inRange p)) ∷ rule 2 (not long) ∷ listRules p v
+    ++ (rule 3 (not (eqb (st .missing) 0)) ∷ rule 5 (not (hasFilling p st) || reclaimFirst p v m)
+    ∷ zones (stateFaults p st ++ cond (scarce p v 1) (tableFaults p v (m .addresses)) []) ∷ [])
 
 -- 01, Closing: no store is due
 unfoldable pub closePlan : Params → Memory → Plan
@@ -56,9 +56,9 @@ closeVerdict p long v m =
 unfoldable pub emptyChecks : Params → Bool → View → Memory → ℕ → List Check
 emptyChecks p long v m a =
     let st = m .state in
-    rule 1 (not (inRange p)) ∷ rule 2 (not long) ∷ rule 3 (not (eqb (st .missing) 0)) ∷ rule 4 (leb (p .L) a)
-    ∷ rule 5 (hasFilling p st && reclaimFirst p v m)
-    ∷ zones (stateFaults p st ++ cond (hasFilling p st && scarce p v 1) (tableFaults p (m .addresses)) []) ∷ []
+    rule 1 (not (inRange p)) ∷ rule 2 (not long) ∷ listRules p v
+    ++ (rule 3 (not (eqb (st .missing) 0)) ∷ rule 4 (leb (p .L) a) ∷ rule 5 (hasFilling p st && reclaimFirst p v m)
+    ∷ zones (stateFaults p st ++ cond (hasFilling p st && scarce p v 1) (tableFaults p v (m .addresses)) []) ∷ [])
 
 -- 02, item 1: the filling stripe is closed, else nothing is done
 unfoldable pub emptyPlan : Params → Memory → Plan

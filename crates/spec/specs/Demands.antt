@@ -8,14 +8,14 @@ use lib.ListN.{length, getD}
 use Rattle.spec.specs.declared.Params.{Params}
 use Rattle.spec.specs.declared.Answer.{Answer}
 use Rattle.spec.specs.Answers.{isRefused, isRefusedAs, finished}
-use Rattle.spec.specs.Drives.{View, Disk, placeSegment, recordAt}
+use Rattle.spec.specs.Drives.{View, Disk, recordAt}
 use Rattle.spec.specs.History.{Event, happens, restartIn, Send, mkSend, Mark, Hist, step, emptyDisk, began, allowed, Seen, seenAt}
 use Rattle.spec.specs.History.Seen.{unwritten, got, failed}
 use Rattle.spec.specs.Lists.{Opt, all, isIn}
 use Rattle.spec.specs.Lists.Opt.{none, some}
 use Rattle.spec.specs.Params.{inRange}
 use Rattle.spec.specs.Rank.{Cand, best, candsOf}
-use Rattle.spec.specs.Segments.{segmentOf, segments, pieceOf, candidates}
+use Rattle.spec.specs.Segments.{segFor, segmentOf, segments, pieceOf, candidates}
 
 -- ---- demand 3
 
@@ -35,40 +35,41 @@ ReadOk ss a (got b t) =
 ReadOk ss a failed = ⊥
 
 -- "and it reads as the finished restart before it did if no block was sent between"
-abbrev pub SameAs : Params → Opt Mark → Hist → Type 0
-SameAs p none h = Unit {0}
-SameAs p (some k) h = length (h .sends) ≡ k .sentThen → (a : ℕ) → a < p .L → seenAt p (h .world) a ≡ seenAt p (k .world) a
+abbrev pub SameAs : Params → List ℕ → Opt Mark → Hist → Type 0
+SameAs p off none h = Unit {0}
+SameAs p off (some k) h = length (h .sends) ≡ k .sentThen → (a : ℕ) → a < p .L → seenAt p off (h .world) a ≡ seenAt p off (k .world) a
 
 -- what is claimed of a restart in order: from h, with answer r, to h′
-pub record RestartOk (p : Params) (h : Hist) (r : Answer) (h′ : Hist) : Type 0 where
+pub record RestartOk (p : Params) (off : List ℕ) (h : Hist) (r : Answer) (h′ : Hist) : Type 0 where
   -- "no restart whose numbers, lists and buffer lengths are in order is refused"
   pub not-refused : isRefused r ≡ false
   -- "each finished restart reads at every address ..", and as the one before it
-  pub reads : finished r ≡ true → (a : ℕ) → a < p .L → ReadOk (h′ .sends) a (seenAt p (h′ .world) a)
-  pub same : finished r ≡ true → SameAs p (h .mark) h′
+  pub reads : finished r ≡ true → (a : ℕ) → a < p .L → ReadOk (h′ .sends) a (seenAt p off (h′ .world) a)
+  pub same : finished r ≡ true → SameAs p off (h .mark) h′
 
 -- of an event that is no restart in order nothing is claimed
-abbrev pub ClaimOf : Params → Hist → Event → Opt ℕ → Type 0
-ClaimOf p h e none = Unit {0}
-ClaimOf p h e (some d) = RestartOk p h (happens p (h .world) e .answer) (step p h e)
+abbrev pub ClaimOf : Params → List ℕ → Hist → Event → Opt ℕ → Type 0
+ClaimOf p off h e none = Unit {0}
+ClaimOf p off h e (some d) = RestartOk p off h (happens p off (h .world) e .answer) (step p off h e)
 
 -- the premises at every event: "no call is refused 6, and a missing drive is named so at each restart until its rebuild has finished, and
 -- likewise from the start of any further rebuild of it" (`allowed`). "Nothing else changes the drives" and "the parameters never change"
 -- are the shape of a history: one p, and each event gets image and pointers as the one before left them, but for a drive that a restart in
 -- order names missing (`before`)
-abbrev pub Allowed : Params → Hist → List Event → Type 0
-Allowed p h [] = Unit {0}
-Allowed p h (e ∷ es) = (allowed p h e ≡ true) × Allowed p (step p h e) es
+abbrev pub Allowed : Params → List ℕ → Hist → List Event → Type 0
+Allowed p off h [] = Unit {0}
+Allowed p off h (e ∷ es) = (allowed p off h e ≡ true) × Allowed p off (step p off h e) es
 
 -- the claim at every event
-abbrev pub Claims : Params → Hist → List Event → Type 0
-Claims p h [] = Unit {0}
-Claims p h (e ∷ es) = ClaimOf p h e (restartIn p (h .world) e) × Claims p (step p h e) es
+abbrev pub Claims : Params → List ℕ → Hist → List Event → Type 0
+Claims p off h [] = Unit {0}
+Claims p off h (e ∷ es) = ClaimOf p off h e (restartIn p off (h .world) e) × Claims p off (step p off h e) es
 
 -- demand 3, one claim about the list: "for every list of writes, landings, closings, reclaims, reads, restarts and rebuilds" (es) "from empty
 -- drives" (emptyDisk), refused and cut ones included, with parameters in range
 abbrev pub Demand3Values : Type 0
-Demand3Values = (p : Params) → inRange p ≡ true → (k : Disk) → emptyDisk p k ≡ true → (es : List Event) → Allowed p (began p k) es → Claims p (began p k) es
+Demand3Values = (p : Params) (off : List ℕ) → inRange p ≡ true → (k : Disk) → emptyDisk p off k ≡ true → (es : List Event) → Allowed p off (began p k) es
+    → Claims p off (began p k) es
 
 -- ---- demand 2: what the drives say
 
@@ -80,7 +81,7 @@ areBytes l = all (λ b. ltb b 256) l
 unfoldable pub saidBlock : Params → View → ℕ → Opt Cand → Seen
 saidBlock p v gone none = unwritten
 saidBlock p v gone (some c) =
-    let g = placeSegment p (c .place) in
+    let g = segFor p v gone (c .serial) in
     let s = cond (isIn gone (c .drive)) (c .offset) (recordAt p v gone (c .drive) g (c .offset) .stripe) in
     got (pieceOf p gone (segmentOf p v gone g) s (c .drive) .block) (c .stamp)
 

@@ -1,15 +1,15 @@
 -- The drives: bytes, the view over them, and the two stores (01, The array). Assumes nothing.
 use mathlib.Core.List.{List, [], _∷_, _++_, map}
-use mathlib.Core.Bool.{Bool, true, false}
+use mathlib.Core.Bool.{Bool, true, false, not, _&&_}
 use Prim.Native.Nat.{ℕ, suc, _+_, _-_, _*_, min}
-use lib.Dec.{eqb}
-use lib.ListN.{getD, take, drop, set, replicate}
+use lib.Dec.{eqb, ltb}
+use lib.ListN.{length, getD, take, drop, set, replicate}
 use Rattle.spec.specs.declared.Params.{Params}
 use Rattle.spec.specs.declared.Seg.{Seg}
 use Rattle.spec.specs.Bytes.{beOf, toBe, part, splice}
 use Rattle.spec.specs.Layout.{headerBlock, Rec, recordOf, footerBlock, footerRecord}
-use Rattle.spec.specs.Lists.{upFrom, below, all, keep, sameList, padTo, pieces, zipped}
-use Rattle.spec.specs.Params.{spareLen, capacity, unitLen, zoneLen, driveLen, placeOf, placeBlock, placeZone, placeDrive, placeByte, drivesOf, present}
+use Rattle.spec.specs.Lists.{upFrom, below, all, keep, least, firstOr, sameList, padTo, pieces, zipped}
+use Rattle.spec.specs.Params.{spareLen, capacity, unitLen, zoneLen, driveLen, placeOf, placeByte, mostWith, drivesOf, present}
 
 -- a block with its spare
 pub record Chunk : Type 0 where
@@ -39,13 +39,17 @@ noZone = mkZone 0 []
 unfoldable pub stored : Zone → List Chunk
 stored q = take (q .pointer) (q .blocks)
 
--- the zones by drive, then zone
-abbrev pub View : Type 0
-View = List (List Zone)
+-- the zones by drive, then zone; 02, item 4: and the lent list of offline ones
+pub record View : Type 0 where
+  pub zones : List (List Zone)
+  pub offline : List ℕ
+
+abbrev pub mkView : List (List Zone) → List ℕ → View
+mkView qs off = record { zones = qs; offline = off }
 
 -- 01, The array: a zone of a drive
 unfoldable pub zoneAt : View → ℕ → ℕ → Zone
-zoneAt v d z = getD (getD v d []) z noZone
+zoneAt v d z = getD (getD (v .zones) d []) z noZone
 
 -- 01, The array: its write pointer
 unfoldable pub pointerAt : View → ℕ → ℕ → ℕ
@@ -70,8 +74,12 @@ unfoldable pub driveOf : Params → List ℕ → List ℕ → List Zone
 driveOf p im ptrs = zipped (zoneOf p) (pieces (zoneLen p) (p .Z) im) (pieces 4 (p .Z) ptrs)
 
 -- 01, The array: image and pointers, by drive, zone and block
-unfoldable pub viewOf : Params → List ℕ → List ℕ → View
-viewOf p im ptrs = zipped (driveOf p) (pieces (driveLen p) (p .N) im) (pieces (4 * p .Z) (p .N) ptrs)
+unfoldable pub zonesOf : Params → List ℕ → List ℕ → List (List Zone)
+zonesOf p im ptrs = zipped (driveOf p) (pieces (driveLen p) (p .N) im) (pieces (4 * p .Z) (p .N) ptrs)
+
+-- 01, The array; 02, item 4: the drives as lent, off the list of offline zones
+unfoldable pub viewOf : Params → List ℕ → List ℕ → List ℕ → View
+viewOf p off im ptrs = mkView (zonesOf p im ptrs) off
 
 -- ---- stores
 
@@ -90,7 +98,7 @@ resetZone q = mkZone 0 (q .blocks)
 
 -- one zone replaced
 unfoldable pub setZone : View → ℕ → ℕ → Zone → View
-setZone v d z q = set v d (set (getD v d []) z q)
+setZone v d z q = mkView (set (v .zones) d (set (getD (v .zones) d []) z q)) (v .offline)
 
 -- a store's effect on the view
 unfoldable pub storeView : Store → View → View
@@ -129,9 +137,43 @@ unfoldable pub storeAll : {D : Type 0} → (Store → D → D) → List Store �
 storeAll f [] d = d
 storeAll f (s ∷ ss) d = storeAll f ss (f s d)
 
--- ---- counts by the pointers alone
+-- ---- good zones and empty ones (02, item 4)
 
--- 01, What a zone holds: a segment, by its zones on the drives
+-- 02, item 4: one byte for each drive and zone, drive after drive; any byte but 0 marks an offline zone
+unfoldable pub isGood : Params → List ℕ → ℕ → ℕ → Bool
+isGood p off d z = eqb (getD off (d * p .Z + z) 0) 0
+
+-- 02, item 4: the good zones of a drive
+unfoldable pub goodZones : Params → List ℕ → ℕ → List ℕ
+goodZones p off d = keep (isGood p off d) (below (p .Z))
+
+-- 02, item 4: the fewest good zones on any drive
+unfoldable pub goodCount : Params → List ℕ → ℕ
+goodCount p off = least (p .Z) (map (λ d. length (goodZones p off d)) (drivesOf p))
+
+-- 02, item 4: refusal 10: fewer than four good zones on some drive
+unfoldable pub fewGood : Params → List ℕ → Bool
+fewGood p off = ltb (goodCount p off) 4
+
+-- 02, item 4: L above only the narrower bound
+unfoldable pub aboveNarrow : Params → List ℕ → Bool
+aboveNarrow p off = ltb (mostWith p (goodCount p off)) (p .L)
+
+-- 02, item 4: a list that no call refuses
+unfoldable pub listOk : Params → List ℕ → Bool
+listOk p off = not (fewGood p off) && not (aboveNarrow p off)
+
+-- 02, item 4: the empty good zones of a drive, rising
+unfoldable pub emptyZones : Params → View → ℕ → List ℕ
+emptyZones p v d = keep (λ z. eqb (pointerAt v d z) 0) (goodZones p (v .offline) d)
+
+-- 02, item 4: empty zones are the fewest empty good ones on any drive
+unfoldable pub emptyCount : Params → View → ℕ
+emptyCount p v = least (p .Z) (map (λ d. length (emptyZones p v d)) (drivesOf p))
+
+-- ---- segments (02, item 4)
+
+-- 02, item 4: a segment, by its zones on the drives
 abbrev pub seg : List ℕ → Seg
 seg zs = record { zones = zs }
 
@@ -139,37 +181,25 @@ seg zs = record { zones = zs }
 unfoldable pub noSeg : Seg
 noSeg = seg (replicate 8 0)
 
+-- 02, item 4: the segment whose zone on each drive is f's
+unfoldable pub segWith : Params → (ℕ → ℕ) → Seg
+segWith p f = seg (padTo 8 (map f (drivesOf p)))
+
 -- one segment
 unfoldable pub sameSeg : Seg → Seg → Bool
 sameSeg g h = sameList (g .zones) (h .zones)
 
--- 01, What a zone holds: segment z is zone z of every drive; today all are so (02, item 4)
-unfoldable pub across : Params → ℕ → Seg
-across p z = seg (padTo 8 (replicate (p .N) z))
-
--- 01, What a zone holds: the segments that there may be, rising
-unfoldable pub allSegs : Params → List Seg
-allSegs p = map (across p) (below (p .Z))
-
--- 01, What a zone holds: the zone of segment g on drive d
+-- 02, item 4: the zone of segment g on drive d
 unfoldable pub zoneOn : Seg → ℕ → ℕ
 zoneOn g d = getD (g .zones) d 0
+
+-- 02, item 4: a segment takes each drive's lowest empty good zone
+unfoldable pub newSeg : Params → View → Seg
+newSeg p v = segWith p (λ d. firstOr 0 (emptyZones p v d))
 
 -- its zones, by drive
 unfoldable pub zonesIn : Params → Seg → List ℕ
 zonesIn p g = map (zoneOn g) (drivesOf p)
-
--- and the segment of a place
-unfoldable pub placeSegment : Params → ℕ → Seg
-placeSegment p q = across p (placeZone p q)
-
--- 01, Refusals, 8: all its zones are empty
-unfoldable pub emptyOnAll : Params → View → Seg → Bool
-emptyOnAll p v g = all (λ d. eqb (pointerAt v d (zoneOn g d)) 0) (drivesOf p)
-
--- 01, Refusals, 8: zones empty on all drives, rising
-unfoldable pub emptySegs : Params → View → List Seg
-emptySegs p v = keep (emptyOnAll p v) (allSegs p)
 
 -- 01, Restart, 3: all present zones full
 unfoldable pub sealedIn : Params → View → ℕ → Seg → Bool
@@ -197,10 +227,6 @@ recordIn p false q o = recordOf (getD (q .blocks) (1 + o) noChunk .spare)
 -- record at a data offset of drive d, segment g
 unfoldable pub recordAt : Params → View → ℕ → ℕ → Seg → ℕ → Rec
 recordAt p v gone d g o = recordIn p (sealedIn p v gone g) (zoneAt v d (zoneOn g d)) o
-
--- 01, Restart, 3: the record at a place of a present drive
-abbrev pub placeRecord : Params → View → ℕ → ℕ → Rec
-placeRecord p v gone q = recordAt p v gone (placeDrive p q) (placeSegment p q) (placeBlock p q - 1)
 
 -- 01, What a zone holds: the zone's footer blocks from number i on, n of them, made from its spares
 unfoldable pub footersOf : Params → Zone → ℕ → ℕ → List (List ℕ)

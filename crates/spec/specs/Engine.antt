@@ -12,7 +12,7 @@ use Rattle.spec.specs.Closing.{closeVerdict, emptyVerdict}
 use Rattle.spec.specs.Drives.{View, viewOf, Disk, mkDisk, storeDisk}
 use Rattle.spec.specs.Landing.{landVerdict}
 use Rattle.spec.specs.Memory.{Memory, mkMemory, stateLen, stateBytes, stateOf}
-use Rattle.spec.specs.Params.{imageLen, pointersLen, addressesLen, compactLen, inflightLen}
+use Rattle.spec.specs.Params.{imageLen, pointersLen, offlineLen, addressesLen, compactLen, inflightLen}
 use Rattle.spec.specs.Read.{readVerdict, fillVerdict}
 use Rattle.spec.specs.Rebuild.{rebuildVerdict}
 use Rattle.spec.specs.Reclaim.{reclaimVerdict}
@@ -64,30 +64,31 @@ verdict p long v m (fill a b) = fillVerdict p long v m a b
 verdict p long v m (restart d n) = restartVerdict p long v m d
 verdict p long v m (rebuild d n) = rebuildVerdict p long v m d
 
--- 01, Refusals, 2: the lent buffers' lengths
-unfoldable pub lentOk : Params → Disk → Memory → Bool
-lentOk p k m =
-    eqb (length (k .image)) (imageLen p) && eqb (length (k .pointers)) (pointersLen p) && eqb (length (m .addresses)) (addressesLen p)
+-- 01, Refusals, 2: the lent buffers' lengths; 02, item 4: the list's too
+unfoldable pub lentOk : Params → List ℕ → Disk → Memory → Bool
+lentOk p off k m =
+    eqb (length off) (offlineLen p) && eqb (length (k .image)) (imageLen p) && eqb (length (k .pointers)) (pointersLen p) && eqb (length (m .addresses)) (addressesLen p)
     && eqb (length (m .compact)) (compactLen p) && eqb (length (m .inflight)) (inflightLen p)
 
 -- 01, The calls: what a call leaves on the lent bytes, where x is its verdict
 abbrev pub carryOut : Params → Disk → Memory → Call → Verdict → After Disk
 carryOut p k m c x = outcome p (storeDisk p) (storeCount c) k m (lentBlock c) x
 
--- 01, The calls: a call on the lent bytes, its state as a value
-unfoldable pub callOn : Params → Bool → Disk → Memory → Call → After Disk
-callOn p long k m c =
-    let v = viewOf p (k .image) (k .pointers) in
+-- 01, The calls: a call on the lent bytes, its state as a value; 02, item 4: off is the list of offline zones
+unfoldable pub callOn : Params → List ℕ → Bool → Disk → Memory → Call → After Disk
+callOn p off long k m c =
+    let v = viewOf p off (k .image) (k .pointers) in
     carryOut p k m c (verdict p long v m c)
 
 -- 01, The calls: the same, with the lengths checked
-unfoldable pub callDisk : Params → Disk → Memory → Call → After Disk
-callDisk p k m c = callOn p (lentOk p k m) k m c
+unfoldable pub callDisk : Params → List ℕ → Disk → Memory → Call → After Disk
+callDisk p off k m c = callOn p off (lentOk p off k m) k m c
 
 -- ---- the state as bytes
 
--- 01, The array: all that the host lends: five buffers and the state's bytes
+-- 01, The array: all that the host lends: the list of offline zones (02, item 4), five buffers and the state's bytes
 pub record Lent : Type 0 where
+  pub offline : List ℕ
   pub image : List ℕ
   pub pointers : List ℕ
   pub addresses : List ℕ
@@ -109,19 +110,19 @@ lentDisk l = mkDisk (l .image) (l .pointers)
 unfoldable pub lentMemory : Lent → Memory
 lentMemory l = mkMemory (stateOf (l .state)) (l .addresses) (l .compact) (l .inflight)
 
--- the six buffers again
-unfoldable pub lentAll : Disk → Memory → List ℕ → Lent
-lentAll k m s =
-    record { image = k .image; pointers = k .pointers; addresses = m .addresses; compact = m .compact; inflight = m .inflight; state = s }
+-- the buffers again
+unfoldable pub lentAll : List ℕ → Disk → Memory → List ℕ → Lent
+lentAll off k m s =
+    record { offline = off; image = k .image; pointers = k .pointers; addresses = m .addresses; compact = m .compact; inflight = m .inflight; state = s }
 
 -- a refusal leaves all as it came
 unfoldable pub leftBy : Lent → After Disk → Bool → Left
 leftBy l r true = record { answer = r .answer; lent = l; block = r .block }
-leftBy l r false = record { answer = r .answer; lent = lentAll (r .drives) (r .memory) (stateBytes (r .memory .state)); block = r .block }
+leftBy l r false = record { answer = r .answer; lent = lentAll (l .offline) (r .drives) (r .memory) (stateBytes (r .memory .state)); block = r .block }
 
 -- 01, Refusals, 2: the lengths of all that is lent
 abbrev pub lentLong : Params → Lent → Bool
-lentLong p l = lentOk p (lentDisk l) (lentMemory l) && eqb (length (l .state)) stateLen
+lentLong p l = lentOk p (l .offline) (lentDisk l) (lentMemory l) && eqb (length (l .state)) stateLen
 
 -- what is left of the lent bytes, where r is what the call leaves with its state as a value
 abbrev pub leftAs : Lent → After Disk → Left
@@ -129,4 +130,4 @@ leftAs l r = leftBy l r (isRefused (r .answer))
 
 -- 01, The array: a call of the host, on bytes alone; a refusal leaves the state's bytes too
 unfoldable pub callBytes : Params → Lent → Call → Left
-callBytes p l c = leftAs l (callOn p (lentLong p l) (lentDisk l) (lentMemory l) c)
+callBytes p l c = leftAs l (callOn p (l .offline) (lentLong p l) (lentDisk l) (lentMemory l) c)

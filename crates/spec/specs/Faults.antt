@@ -8,15 +8,15 @@ use Rattle.spec.specs.declared.Params.{Params}
 use Rattle.spec.specs.Calls.{Check}
 use Rattle.spec.specs.Calls.Check.{zones}
 use Rattle.spec.specs.Counts.{paddingAddress}
-use Rattle.spec.specs.Drives.{Chunk, noChunk, Zone, noZone, View, pointerAt, zoneOn, blocksOf, footersOf, zeroSpare, sameSeg, zonesIn}
+use Rattle.spec.specs.Drives.{Chunk, noChunk, Zone, noZone, View, pointerAt, isGood, zoneOn, blocksOf, footersOf, zeroSpare, sameSeg}
 use Rattle.spec.specs.Layout.{isData, inGroupOf, headerBlock, Rec}
 use Rattle.spec.specs.Lists.{below, any, keep, isNil, sameList}
-use Rattle.spec.specs.Params.{footers, capacity, present, absent}
-use Rattle.spec.specs.Segments.{Segment, recsOn, counted, recOf, unsealed, lowDrive}
+use Rattle.spec.specs.Params.{footers, capacity, drivesOf, present, absent}
+use Rattle.spec.specs.Segments.{Segment, recsOn, counted, recOf, unsealed, lowDrive, bearing}
 
--- 01, Refusals, 9: a present drive's write pointer above capacity
+-- 01, Refusals, 9: a present drive's write pointer above capacity; 02, item 4: of good zones
 unfoldable pub pointerFaults : Params → View → ℕ → List ℕ
-pointerFaults p v gone = keep (λ z. any (λ d. ltb (capacity p) (pointerAt v d z)) (present p gone)) (below (p .Z))
+pointerFaults p v gone = keep (λ z. any (λ d. isGood p (v .offline) d z && ltb (capacity p) (pointerAt v d z)) (present p gone)) (below (p .Z))
 
 -- equal block and spare
 unfoldable pub sameChunk : Chunk → List ℕ → List ℕ → Bool
@@ -25,11 +25,28 @@ sameChunk c b s = sameList (c .block) b && sameList (c .spare) s
 -- 01, Refusals, 9: a header not as above or, drive byte apart, unequal between drives
 unfoldable pub headerFault : Params → ℕ → Segment → Bool
 headerFault p gone g = any (λ d.
-    not (sameChunk (getD (getD (g .zonesBy) d noZone .blocks) 0 noChunk) (headerBlock p d (zonesIn p (g .seg)) (g .serial) (g .copied)) zeroSpare)) (present p gone)
+    not (sameChunk (getD (getD (g .zonesBy) d noZone .blocks) 0 noChunk) (headerBlock p d (g .names) (g .serial) (g .copied)) zeroSpare)) (present p gone)
 
--- 01, Refusals, 9: a serial at or below its copied one or used twice
-unfoldable pub serialFault : List Segment → Segment → Bool
-serialFault gs g = leb (g .serial) (g .copied) || any (λ (h : Segment). not (sameSeg (h .seg) (g .seg)) && eqb (h .serial) (g .serial)) gs
+-- 02, item 4: a header that names for its own drive another zone than its own
+unfoldable pub ownFault : Params → ℕ → Segment → Bool
+ownFault p gone g = any (λ d. not (eqb (getD (g .names) d 0) (zoneOn (g .seg) d))) (present p gone)
+
+-- 02, item 4: or an offline zone or one not below Z
+unfoldable pub badName : Params → View → Segment → Bool
+badName p v g = any (λ d. not (ltb (getD (g .names) d 0) (p .Z) && isGood p (v .offline) d (getD (g .names) d 0))) (drivesOf p)
+
+-- 02, item 4: or for any drive a zone that another segment names
+unfoldable pub nameClash : Params → List Segment → Segment → Bool
+nameClash p gs g =
+    any (λ (h : Segment). not (sameSeg (h .seg) (g .seg)) && any (λ d. eqb (getD (h .names) d 0) (getD (g .names) d 0)) (drivesOf p)) gs
+
+-- 02, item 4: or a serial twice on a present drive
+unfoldable pub serialTwice : Params → View → ℕ → Segment → Bool
+serialTwice p v gone g = any (λ d. leb 2 (length (bearing p v d (g .serial)))) (present p gone)
+
+-- 01, Refusals, 9: a serial at or below its copied one
+unfoldable pub serialFault : Segment → Bool
+serialFault g = leb (g .serial) (g .copied)
 
 -- 01, Refusals, 9: a stripe number outside its group
 unfoldable pub outside : Params → ℕ → List Rec → Bool
@@ -90,17 +107,18 @@ unfoldable pub clashes : List Segment → Segment → Bool
 clashes gs g = not (g .full) && leb 2 (length (unsealed gs))
 
 -- 01, Refusals, 9: anything wrong with a remaining segment
-unfoldable pub segmentFault : Params → ℕ → List Segment → Segment → Bool
-segmentFault p gone gs g =
-    headerFault p gone g || serialFault gs g || stripeFault p gone g || addressFault p gone g || footerFault p gone g || clashes gs g
+unfoldable pub segmentFault : Params → View → ℕ → List Segment → Segment → Bool
+segmentFault p v gone gs g =
+    headerFault p gone g || ownFault p gone g || badName p v g || nameClash p gs g || serialTwice p v gone g || serialFault g
+    || stripeFault p gone g || addressFault p gone g || footerFault p gone g || clashes gs g
 
--- 01, Refusals, 9: the remaining segments with a fault
-unfoldable pub segmentFaults : Params → ℕ → List Segment → List ℕ
-segmentFaults p gone gs = map (λ (g : Segment). zoneOn (g .seg) (lowDrive p gone)) (keep (segmentFault p gone gs) gs)
+-- 01, Refusals, 9: the remaining segments with a fault; 02, item 4: every 9 names the segment's zone on the lowest present drive
+unfoldable pub segmentFaults : Params → View → ℕ → List Segment → List ℕ
+segmentFaults p v gone gs = map (λ (g : Segment). zoneOn (g .seg) (lowDrive p gone)) (keep (segmentFault p v gone gs) gs)
 
 -- 01, Refusals, 9: pointers first, then remaining segments
 unfoldable pub imageChecks : Params → View → ℕ → List Segment → List Check
 imageChecks p v gone gs =
     let ps = pointerFaults p v gone in
-    let ss = segmentFaults p gone gs in
+    let ss = segmentFaults p v gone gs in
     zones ps ∷ zones (cond (isNil ps) ss []) ∷ []

@@ -9,13 +9,13 @@ use Rattle.spec.specs.declared.Answer.{Answer}
 use Rattle.spec.specs.Answers.{kind, values, stampTold, isRefused, isRefusedAs, isCut, finished}
 use Rattle.spec.specs.Bytes.{splice}
 use Rattle.spec.specs.Calls.{After}
-use Rattle.spec.specs.Drives.{Disk, mkDisk, pointerByte}
+use Rattle.spec.specs.Drives.{Disk, mkDisk, pointerByte, pointerOf, goodZones, listOk}
 use Rattle.spec.specs.Engine.{Call, lentOk, callDisk}
 use Rattle.spec.specs.Engine.Call.{write, land, close, reclaim, read, fill, restart, rebuild}
-use Rattle.spec.specs.Lists.{Opt, consIf, sameList}
+use Rattle.spec.specs.Lists.{Opt, all, consIf}
 use Rattle.spec.specs.Lists.Opt.{none, some}
 use Rattle.spec.specs.Memory.{Memory, mkMemory, zeroState}
-use Rattle.spec.specs.Params.{inRange, driveLen, imageLen, pointersLen, addressesLen, compactLen, inflightLen, named}
+use Rattle.spec.specs.Params.{inRange, driveLen, imageLen, pointersLen, addressesLen, compactLen, inflightLen, named, drivesOf}
 use Rattle.spec.specs.Restart.{namesDrive}
 
 -- image, pointers and memory as a call left them
@@ -48,9 +48,9 @@ restartOf (fill a b) = none
 restartOf (restart d n) = some d
 restartOf (rebuild d n) = none
 
--- demand 3: a restart whose numbers and buffer lengths are in order
-unfoldable pub inOrder : Params → World → ℕ → Bool
-inOrder p w d = inRange p && namesDrive p d && lentOk p (w .disk) (w .memory)
+-- demand 3: a restart whose numbers, lists and buffer lengths are in order; 02, item 4: enough good zones, L within the narrower bound
+unfoldable pub inOrder : Params → List ℕ → World → ℕ → Bool
+inOrder p off w d = inRange p && namesDrive p d && lentOk p off (w .disk) (w .memory) && listOk p off
 
 -- demand 3: a drive may hold any bytes and pointers at a restart in order that names it missing
 unfoldable pub swapped : Params → Disk → ℕ → List ℕ → List ℕ → Disk
@@ -59,17 +59,17 @@ swapped p k d im ps =
     cond (ltb d (p .N) && eqb (length im) (driveLen p) && eqb (length ps) (4 * p .Z)) s k
 
 -- what the event's call gets
-unfoldable pub before : Params → World → Event → World
-before p w (calls c) = w
-before p w (boots d n m im ps) =
+unfoldable pub before : Params → List ℕ → World → Event → World
+before p off w (calls c) = w
+before p off w (boots d n m im ps) =
     let k = swapped p (w .disk) d im ps in
-    cond (inOrder p (mkWorld (w .disk) m) d) (mkWorld k m) (mkWorld (w .disk) m)
+    cond (inOrder p off (mkWorld (w .disk) m) d) (mkWorld k m) (mkWorld (w .disk) m)
 
 -- the event's call and what it leaves
-unfoldable pub happens : Params → World → Event → After Disk
-happens p w e =
-    let u = before p w e in
-    callDisk p (u .disk) (u .memory) (callOf e)
+unfoldable pub happens : Params → List ℕ → World → Event → After Disk
+happens p off w e =
+    let u = before p off w e in
+    callDisk p off (u .disk) (u .memory) (callOf e)
 
 -- the number, where the test holds
 unfoldable pub onlyIf : Bool → Opt ℕ → Opt ℕ
@@ -77,18 +77,18 @@ onlyIf true o = o
 onlyIf false o = none
 
 -- demand 3: the drive that a restart in order names
-unfoldable pub orderly : Params → World → Opt ℕ → Opt ℕ
-orderly p w none = none
-orderly p w (some d) = onlyIf (inOrder p w d) (some d)
+unfoldable pub orderly : Params → List ℕ → World → Opt ℕ → Opt ℕ
+orderly p off w none = none
+orderly p off w (some d) = onlyIf (inOrder p off w d) (some d)
 
 -- demand 3: the drive that the event names, if it is a restart in order
-unfoldable pub restartIn : Params → World → Event → Opt ℕ
-restartIn p w e = orderly p (before p w e) (restartOf (callOf e))
+unfoldable pub restartIn : Params → List ℕ → World → Event → Opt ℕ
+restartIn p off w e = orderly p off (before p off w e) (restartOf (callOf e))
 
 -- 01, How tightly, 4: a restart in order gets other memory, and begins a run; one that isn't in order is refused, and leaves the run its memory
-unfoldable pub worldAfter : Params → World → Event → After Disk → World
-worldAfter p w (calls c) r = mkWorld (r .drives) (r .memory)
-worldAfter p w (boots d n m im ps) r = cond (inOrder p (mkWorld (w .disk) m) d) (mkWorld (r .drives) (r .memory)) w
+unfoldable pub worldAfter : Params → List ℕ → World → Event → After Disk → World
+worldAfter p off w (calls c) r = mkWorld (r .drives) (r .memory)
+worldAfter p off w (boots d n m im ps) r = cond (inOrder p off (mkWorld (w .disk) m) d) (mkWorld (r .drives) (r .memory)) w
 
 -- ---- what was sent
 
@@ -177,10 +177,10 @@ marked true w n o = some (record { world = w; sentThen = n })
 marked false w n o = o
 
 -- demand 3: one event
-unfoldable pub step : Params → Hist → Event → Hist
-step p h e =
-    let r = happens p (h .world) e in
-    let w = worldAfter p (h .world) e r in
+unfoldable pub step : Params → List ℕ → Hist → Event → Hist
+step p off h e =
+    let r = happens p off (h .world) e in
+    let w = worldAfter p off (h .world) e r in
     let ss = sentAfter (callOf e) (r .answer) (h .sends) in
     record {
       world = w;
@@ -189,9 +189,11 @@ step p h e =
       mark = marked (finished (r .answer)) w (length ss) (h .mark);
     }
 
--- 01, How tightly, 4: empty: every pointer 0, any bytes; nothing runs yet
-unfoldable pub emptyDisk : Params → Disk → Bool
-emptyDisk p k = eqb (length (k .image)) (imageLen p) && sameList (k .pointers) (replicate (pointersLen p) 0)
+-- 01, How tightly, 4: empty: every pointer 0, any bytes; nothing runs yet; 02, item 4: of offline zones nothing is asked
+unfoldable pub emptyDisk : Params → List ℕ → Disk → Bool
+emptyDisk p off k =
+    eqb (length (k .image)) (imageLen p) && eqb (length (k .pointers)) (pointersLen p)
+    && all (λ d. all (λ z. eqb (pointerOf p (k .pointers) d z) 0) (goodZones p off d)) (drivesOf p)
 
 -- 01, How tightly, 4: the history of no event
 unfoldable pub began : Params → Disk → Hist
@@ -208,8 +210,8 @@ namesAll us none = true
 namesAll us (some d) = eqb us 0 || eqb us (named d)
 
 -- demand 3, premises: no call is refused 6; an untrusted drive is named at each restart in order
-unfoldable pub allowed : Params → Hist → Event → Bool
-allowed p h e = not (isRefusedAs 6 (happens p (h .world) e .answer)) && namesAll (h .untrusted) (restartIn p (h .world) e)
+unfoldable pub allowed : Params → List ℕ → Hist → Event → Bool
+allowed p off h e = not (isRefusedAs 6 (happens p off (h .world) e .answer)) && namesAll (h .untrusted) (restartIn p off (h .world) e)
 
 -- ---- what a finished restart reads
 
@@ -228,7 +230,7 @@ seenBy r s b =
     cond (not (isRefused r) && eqb (stampTold r) (stampTold s)) y failed
 
 -- 01, How tightly, 4: what the two reads give
-unfoldable pub seenAt : Params → World → ℕ → Seen
-seenAt p w a =
-    let s = callDisk p (w .disk) (w .memory) (fill a (replicate (p .B) 0)) in
-    seenBy (callDisk p (w .disk) (w .memory) (read a) .answer) (s .answer) (s .block)
+unfoldable pub seenAt : Params → List ℕ → World → ℕ → Seen
+seenAt p off w a =
+    let s = callDisk p off (w .disk) (w .memory) (fill a (replicate (p .B) 0)) in
+    seenBy (callDisk p off (w .disk) (w .memory) (read a) .answer) (s .answer) (s .block)

@@ -36,8 +36,8 @@ abbrev pub heard : Left → Heard
 heard x = record { told = toldOf (x .answer); lent = x .lent; block = x .block }
 
 -- the buffers that the host lends
-abbrev pub lending : List ℕ → List ℕ → List ℕ → List ℕ → List ℕ → List ℕ → Lent
-lending im ps ad co fl st = record { image = im; pointers = ps; addresses = ad; compact = co; inflight = fl; state = st }
+abbrev pub lending : List ℕ → List ℕ → List ℕ → List ℕ → List ℕ → List ℕ → List ℕ → Lent
+lending off im ps ad co fl st = record { offline = off; image = im; pointers = ps; addresses = ad; compact = co; inflight = fl; state = st }
 
 abbrev pub hears : Told → Lent → List ℕ → Heard
 hears t l b = record { told = t; lent = l; block = b }

@@ -11,12 +11,12 @@ use Rattle.spec.specs.declared.Answer.the-variants.{Landed}
 use Rattle.spec.specs.Calls.{Check, firstRefusal, Plan, mkPlan, Verdict, decided}
 use Rattle.spec.specs.Calls.Check.{rule, zones}
 use Rattle.spec.specs.Counts.{neverPlace}
-use Rattle.spec.specs.Drives.{View, zoneAt, pointerAt, chunkAt, Store, storeView, zoneOn, placeSegment, footerStores}
+use Rattle.spec.specs.Drives.{View, zoneAt, pointerAt, Store, storeView, zoneOn, footerStores}
 use Rattle.spec.specs.Drives.Store.{put}
-use Rattle.spec.specs.Layout.{dataDrive, dataPosition, isData, parityPosition, group, compactEntry, headerSerial, Rec, recordBytes}
-use Rattle.spec.specs.Lists.{Opt, below, any, consIf, tally, indexOf, flat, isIn}
+use Rattle.spec.specs.Layout.{dataDrive, dataPosition, isData, parityPosition, group, compactEntry, Rec, recordBytes}
+use Rattle.spec.specs.Lists.{Opt, below, consIf, isNil, keep, tally, indexOf, flat, isIn}
 use Rattle.spec.specs.Lists.Opt.{none, some}
-use Rattle.spec.specs.Memory.{Memory, mkMemory, slotCount, slots, stripeIn, filledIn, landedIn, isWrite, entryIn, entriesIn, offsetIn, openSegment}
+use Rattle.spec.specs.Memory.{Memory, mkMemory, slotCount, slots, stripeIn, filledIn, landedIn, isWrite, entryIn, entriesIn, offsetIn}
 use Rattle.spec.specs.Memory.{isFree, isFull, inFlight, stateFaults, setClosed, landedMask, markLanded, freeStripe, placeAt, setPlace, compactAt}
 use Rattle.spec.specs.Memory.{slotBlock}
 use Rattle.spec.specs.Params.{between, inRange, footers, capacity, placeOf, placeBlock, placeDrive, drivesOf}
@@ -24,6 +24,8 @@ use Rattle.spec.specs.Parity.{encodeRec}
 use Rattle.spec.specs.Rank.{Cand, best, placeOr, candsOf}
 use Rattle.spec.specs.Read.{Found, placeFaults, lookup}
 use Rattle.spec.specs.Read.Found.{nowhere, here, away}
+use Rattle.spec.specs.Segments.{placeSegment, serialAt, openSegments, openSegment}
+use Rattle.spec.specs.Write.{listRules}
 use Rattle.spec.specs.declared.Seg.{Seg}
 
 -- 01, Landing: the eighth of a stripe in flight; 8 if it isn't
@@ -63,9 +65,9 @@ flightRec p st i d =
 unfoldable pub misplaced : Params → View → ℕ → ℕ → ℕ → Bool
 misplaced p v d z s = not (between 1 (p .S) (pointerAt v d z) && eqb (group p (pointerAt v d z - 1)) (group p s))
 
--- 01, Refusals, 9: a zone the call would fill above capacity
-unfoldable pub overfull : Params → View → ℕ → Seg → Bool
-overfull p v d g = any (λ e. ltb (capacity p) (pointerAt v e (zoneOn g e) + cond (eqb e d) 1 0 + footers p)) (drivesOf p)
+-- 01, Refusals, 9: the zones that the call would fill above capacity
+unfoldable pub overfull : Params → View → ℕ → Seg → List ℕ
+overfull p v d g = map (zoneOn g) (keep (λ e. ltb (capacity p) (pointerAt v e (zoneOn g e) + cond (eqb e d) 1 0 + footers p)) (drivesOf p))
 
 -- 01, Refusals, 9: places to be read: of the stripe's addresses, when it completes
 unfoldable pub entryFaults : Params → View → List ℕ → Rec → List ℕ
@@ -75,25 +77,21 @@ entryFaults p v tb e =
     let ws = cond (eqb q neverPlace) [] zs in
     cond (ltb (e .address) (p .L)) ws []
 
--- 01, Refusals, 9: the bad zones of a landing
+-- 01, Refusals, 9: the bad zones of a landing; 02, item 4: a state whose open serial no remaining segment has is out of range
 unfoldable pub landFaults : Params → View → Memory → ℕ → ℕ → List ℕ
 landFaults p v m d s =
     let st = m .state in
     let i = slotOf st s in
-    let g = openSegment p st in
+    let g = openSegment p v st in
     let zs = flat (entryFaults p v (m .addresses)) (entriesIn st i) in
-    consIf (misplaced p v d (zoneOn g d) s) (zoneOn g d) (consIf (seals p st i d && overfull p v d g) (zoneOn g d) (cond (completes p st i d) zs []))
+    consIf (isNil (openSegments p v st)) 0 (consIf (misplaced p v d (zoneOn g d) s) (zoneOn g d) (cond (seals p st i d) (overfull p v d g) [] ++ cond (completes p st i d) zs []))
 
 -- ---- the address table when a stripe completes
-
--- the serial in drive 0's header of a segment
-unfoldable pub serialAt : Params → View → Seg → ℕ
-serialAt p v g = headerSerial p (chunkAt v 0 (zoneOn g 0) 0 .block)
 
 -- 01, The calls: the record of stamp t that the table holds of an address at place q
 unfoldable pub heldCand : Params → View → ℕ → ℕ → ℕ → Cand
 heldCand p v a t q =
-    let g = placeSegment p q in
+    let g = placeSegment p v 0 q in
     record { address = a; stamp = t; serial = serialAt p v g; drive = placeDrive p q; offset = placeBlock p q - 1; place = q }
 
 -- 01, The calls: none where the address was never written
@@ -135,8 +133,8 @@ unfoldable pub landChecks : Params → Bool → View → Memory → ℕ → ℕ 
 landChecks p long v m d s =
     let st = m .state in
     let zs = landFaults p v m d s in
-    rule 1 (not (inRange p)) ∷ rule 2 (not long) ∷ rule 3 (not (eqb (st .missing) 0)) ∷ rule 5 (not (waiting p st d s))
-    ∷ zones (stateFaults p st ++ zs) ∷ []
+    rule 1 (not (inRange p)) ∷ rule 2 (not long) ∷ listRules p v
+    ++ (rule 3 (not (eqb (st .missing) 0)) ∷ rule 5 (not (waiting p st d s)) ∷ zones (stateFaults p st ++ zs) ∷ [])
 
 -- 01, Landing: footers on every drive, once the chunk has landed
 unfoldable pub sealStores : Params → View → Seg → List Store
@@ -151,14 +149,14 @@ unfoldable pub landStore : Params → View → Memory → ℕ → ℕ → Store
 landStore p v m d s =
     let st = m .state in
     let i = slotOf st s in
-    put d (zoneOn (openSegment p st) d) (slotBlock p (m .inflight) i d) (recordBytes (flightRec p st i d))
+    put d (zoneOn (openSegment p v st) d) (slotBlock p (m .inflight) i d) (recordBytes (flightRec p st i d))
 
 -- 01, Landing: the chunk, on completion the table, at the end of a segment the footers
 unfoldable pub landPlan : Params → View → Memory → ℕ → ℕ → Plan
 landPlan p v m d s =
     let st = m .state in
     let i = slotOf st s in
-    let g = openSegment p st in
+    let g = openSegment p v st in
     let z = zoneOn g d in
     let o = pointerAt v d z - 1 in
     let w = landStore p v m d s in

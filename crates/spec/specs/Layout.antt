@@ -1,9 +1,9 @@
 -- Where things lie: stripes and groups, header, record and footer bytes (01, What a zone holds). Assumes nothing.
-use mathlib.Core.List.{List, [], _∷_, map}
+use mathlib.Core.List.{List, [], _∷_, _++_, map}
 use mathlib.Core.Bool.{Bool, cond, not, _&&_}
-use Prim.Native.Nat.{ℕ, suc, _-_, _*_, _/_, _%_}
+use Prim.Native.Nat.{ℕ, suc, _+_, _-_, _*_, _/_, _%_}
 use lib.Dec.{ltb, eqb}
-use lib.ListN.{getD, take, drop}
+use lib.ListN.{getD, take, drop, replicate}
 use Rattle.spec.specs.declared.Params.{Params}
 use Rattle.spec.specs.Bytes.{part, Field, field, bytesOf, widthsOf, readField}
 use Rattle.spec.specs.Lists.{upFrom, below, keep, flat, total, padTo}
@@ -49,32 +49,32 @@ groupOffsets p s = keep (λ o. ltb o (p .S)) (upFrom (group p s * p .G) (p .G))
 unfoldable pub compactEntry : Params → ℕ → ℕ
 compactEntry p s = s % p .G
 
--- 01, What a zone holds: version 1
+-- 02, item 4: version 2
 unfoldable pub headerVersion : ℕ
-headerVersion = 1
+headerVersion = 2
 
 -- 01, What a zone holds: the table of a header: width and number of each field, the first its own length
--- (zs: the segment's zones by drive; today a header bears the one of its own drive; 02, item 4)
+-- 02, item 4: the zone field is N numbers, by drive
 unfoldable pub headerTable : ℕ → Params → ℕ → List ℕ → ℕ → ℕ → List Field
 headerTable long p d zs serial copied =
-    field 2 long ∷ field 1 headerVersion ∷ field 1 (p .N) ∷ field 1 d ∷ field 2 (p .B) ∷ field 2 (p .G) ∷ field 4 (p .S) ∷ field 4 (getD zs d 0)
-    ∷ field 8 (p .L) ∷ field 8 serial ∷ field 8 copied ∷ []
+    field 2 long ∷ field 1 headerVersion ∷ field 1 (p .N) ∷ field 1 d ∷ field 2 (p .B) ∷ field 2 (p .G) ∷ field 4 (p .S) ∷ map (field 4) zs
+    ++ (field 8 (p .L) ∷ field 8 serial ∷ field 8 copied ∷ [])
 
 -- the fields that are read back, by name: their index in the table
-abbrev pub zoneField : ℕ
-zoneField = 7
+abbrev pub zoneField : ℕ → ℕ
+zoneField d = 7 + d
 
 abbrev pub serialField : Params → ℕ
-serialField p = 9
+serialField p = 8 + p .N
 
 abbrev pub copiedField : Params → ℕ
-copiedField p = 10
+copiedField p = 9 + p .N
 
 -- 01, What a zone holds: the widths, whatever the numbers are
 unfoldable pub headerWidths : Params → List ℕ
-headerWidths p = widthsOf (headerTable 0 p 0 [] 0 0)
+headerWidths p = widthsOf (headerTable 0 p 0 (replicate (p .N) 0) 0 0)
 
--- 01, What a zone holds: the header in bytes
+-- 01, What a zone holds: the header in bytes; 02, item 4: 37 + 4 × N
 unfoldable pub headerLen : Params → ℕ
 headerLen p = total (headerWidths p)
 
@@ -93,6 +93,14 @@ headerSerial p b = readField (headerWidths p) (serialField p) b
 -- 01, What a zone holds: the copied serial in a header
 unfoldable pub headerCopied : Params → List ℕ → ℕ
 headerCopied p b = readField (headerWidths p) (copiedField p) b
+
+-- 02, item 4: the zone that a header names for drive d
+unfoldable pub headerZone : Params → List ℕ → ℕ → ℕ
+headerZone p b d = readField (headerWidths p) (zoneField d) b
+
+-- 02, item 4: the zones that it names, by drive
+unfoldable pub headerZones : Params → List ℕ → List ℕ
+headerZones p b = map (headerZone p b) (below (p .N))
 
 -- 01, What a zone holds: the record of a data block
 pub record Rec : Type 0 where

@@ -1,8 +1,8 @@
 -- Lists: ranges, tests over a list, search; masks. Assumes nothing.
 use mathlib.Core.List.{List, [], _∷_, _++_}
-use mathlib.Core.Bool.{Bool, true, false, _&&_, _||_}
+use mathlib.Core.Bool.{Bool, true, false, cond, _&&_, _||_}
 use Prim.Native.Nat.{ℕ, zero, suc, _+_, _-_, _/_, _%_, min, max}
-use lib.Dec.{eqb}
+use lib.Dec.{eqb, ltb}
 use lib.ListN.{length, getD, take, drop, replicate}
 
 -- one, or none
@@ -81,6 +81,16 @@ greatest (n ∷ l) = max n (greatest l)
 unfoldable pub least : ℕ → List ℕ → ℕ
 least n [] = n
 least n (k ∷ l) = least (min n k) l
+
+-- n in a rising list, once
+unfoldable pub insertOnce : ℕ → List ℕ → List ℕ
+insertOnce n [] = n ∷ []
+insertOnce n (k ∷ l) = cond (ltb n k) (n ∷ k ∷ l) (k ∷ cond (eqb n k) l (insertOnce n l))
+
+-- the numbers of a list, rising, each once
+unfoldable pub rising : List ℕ → List ℕ
+rising [] = []
+rising (n ∷ l) = insertOnce n (rising l)
 
 -- the first, or n
 unfoldable pub firstOr : {A : Type 0} → A → List A → A

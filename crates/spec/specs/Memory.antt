@@ -1,7 +1,7 @@
 -- What the engine keeps: state, tables, in-flight buffer (01, The array; Write). Assumes nothing.
 use mathlib.Core.List.{List, [], _∷_, map}
 use mathlib.Core.Bool.{Bool, not, _&&_}
-use Prim.Native.Nat.{ℕ, suc, _+_, _-_, _*_, _/_, _%_, _^_}
+use Prim.Native.Nat.{ℕ, suc, _+_, _*_, _/_, _%_, _^_}
 use lib.Dec.{leb, ltb, eqb}
 use lib.ListN.{getD, take, set, replicate}
 use lib.Bits.{bitOr}
@@ -10,12 +10,11 @@ use Rattle.spec.specs.declared.Params.{Params}
 use Rattle.spec.specs.declared.State.{State}
 use Rattle.spec.specs.Bytes.{beOf, toBe, leOf, toLe, part, splice}
 use Rattle.spec.specs.Counts.{aStamp, aSerial}
-use Rattle.spec.specs.Drives.{View, pointerAt, across, zoneOn}
+use Rattle.spec.specs.Drives.{View, pointerAt}
 use Rattle.spec.specs.Layout.{parityDrive, dataDrives, groupOffsets, compactEntry, Rec, mkRec}
 use Rattle.spec.specs.Lists.{below, all, any, consIf, keep, indexOf, flat, total, zipped, only, isIn}
 use Rattle.spec.specs.Params.{parityCount, dataCount}
 use Rattle.spec.specs.Parity.{encodeBlock}
-use Rattle.spec.specs.declared.Seg.{Seg}
 
 -- 01, The calls: what a call is lent beside image and pointers
 pub record Memory : Type 0 where
@@ -82,7 +81,7 @@ section w n = record { width = w; count = n }
 -- 01, The array: the sections of the state
 unfoldable pub stateSections : List Section
 stateSections =
-    section 1 1 ∷ section 1 1 ∷ section 8 1 ∷ section 8 1 ∷ section 4 1 ∷ section 4 1
+    section 1 1 ∷ section 1 1 ∷ section 8 1 ∷ section 8 1 ∷ section 8 1 ∷ section 4 1
     ∷ section 4 8 ∷ section 1 8 ∷ section 1 8 ∷ section 1 8 ∷ section 8 64 ∷ section 8 64 ∷ section 4 64 ∷ []
 
 -- the bytes of a section
@@ -161,10 +160,6 @@ entriesIn st i = map (entryIn st i) (below (filledIn st i))
 unfoldable pub offsetIn : State → ℕ → ℕ → ℕ
 offsetIn st i d = getD (st .offsets) (cell i d) 0
 
--- 01, Write: the open segment
-unfoldable pub openSegment : Params → State → Seg
-openSegment p st = across p (st .opened - 1)
-
 -- 01, Write: the eighth is free
 unfoldable pub isFree : State → ℕ → Bool
 isFree st i = eqb (filledIn st i) 0
@@ -210,7 +205,7 @@ slotOk p st i =
 unfoldable pub stateOk : Params → State → Bool
 unfolding parityCount
 stateOk p st =
-    eqb (st .live) 1 && ltb (st .missing) (2 ^ p .N) && leb (ones (st .missing)) (parityCount p) && leb (st .opened) (p .Z) && leb (st .next) (p .S)
+    eqb (st .live) 1 && ltb (st .missing) (2 ^ p .N) && leb (ones (st .missing)) (parityCount p) && leb (st .opened) (st .serial .0) && leb (st .next) (p .S)
     && all (slotOk p st) slots && all (λ o. ltb o (p .S)) (st .offsets)
 
 -- 01, Refusals, 9: a state number out of range names zone 0
@@ -225,10 +220,10 @@ setStamp st t =
     mkState (st .live) (st .missing) t (st .serial .0) (st .opened) (st .next) (st .numbers) (st .filled) (st .writes) (st .landed)
     (st .addresses) (st .stamps) (st .offsets)
 
--- 01, Write: the open segment g under serial r, its stripe 0 next
-unfoldable pub setOpen : State → Seg → ℕ → State
-setOpen st g r =
-    mkState (st .live) (st .missing) (st .stamp .0) r (suc (zoneOn g 0)) 0 (st .numbers) (st .filled) (st .writes) (st .landed) (st .addresses)
+-- 01, Write: a segment is opened under serial r, its stripe 0 next; 02, item 4: the state names it by its serial
+unfoldable pub setOpen : State → ℕ → State
+setOpen st r =
+    mkState (st .live) (st .missing) (st .stamp .0) r r 0 (st .numbers) (st .filled) (st .writes) (st .landed) (st .addresses)
     (st .stamps) (st .offsets)
 
 -- no segment open

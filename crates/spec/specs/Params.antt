@@ -15,9 +15,9 @@ mkParams n b z s g l = record { N = n; B = b; Z = z; S = s; G = g; L = l }
 unfoldable pub between : ℕ → ℕ → ℕ → Bool
 between lo hi n = leb lo n && leb n hi
 
--- 01, The array: a power of two from 64 to 4,096
+-- 02, item 4: a power of two from 128 to 4,096
 unfoldable pub blockSizes : List ℕ
-blockSizes = 64 ∷ 128 ∷ 256 ∷ 512 ∷ 1024 ∷ 2048 ∷ 4096 ∷ []
+blockSizes = 128 ∷ 256 ∷ 512 ∷ 1024 ∷ 2048 ∷ 4096 ∷ []
 
 -- 01, What a zone holds: how many parities a stripe has, and so how many drives may be missing; today one (02, item 5)
 unfoldable pub parityCount : Params → ℕ
@@ -28,9 +28,13 @@ unfoldable pub dataCount : Params → ℕ
 unfolding parityCount
 dataCount p = p .N - parityCount p
 
--- 01, The array: the greatest L
+-- 01, The array: the greatest L of drives with n zones
+unfoldable pub mostWith : Params → ℕ → ℕ
+mostWith p n = (n - 3) * p .S * dataCount p
+
+-- 01, The array: the greatest L of any drives with Z zones; 02, item 4: offline ones make it less
 unfoldable pub mostAddresses : Params → ℕ
-mostAddresses p = (p .Z - 3) * p .S * dataCount p
+mostAddresses p = mostWith p (p .Z)
 
 -- 01, The array: the ranges (refusal 1)
 unfoldable pub inRange : Params → Bool
@@ -91,6 +95,10 @@ imageLen p = p .N * driveLen p
 -- 01, The array: 4 bytes a zone
 unfoldable pub pointersLen : Params → ℕ
 pointersLen p = 4 * (p .N * p .Z)
+
+-- 02, item 4: one byte for each drive and zone
+unfoldable pub offlineLen : Params → ℕ
+offlineLen p = p .N * p .Z
 
 -- 01, The array: 4 bytes an address
 unfoldable pub addressesLen : Params → ℕ

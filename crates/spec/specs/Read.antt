@@ -10,12 +10,14 @@ use Rattle.spec.specs.declared.Answer.the-variants.{Part, Never, Lost, F
 use Rattle.spec.specs.Calls.{Check, firstRefusal, Plan, mkPlan, Verdict, decided}
 use Rattle.spec.specs.Calls.Check.{rule, zones}
 use Rattle.spec.specs.Counts.{neverPlace, aStamp}
-use Rattle.spec.specs.Drives.{View, pointerAt, chunkAt, recordAt, zoneOn, placeSegment}
+use Rattle.spec.specs.Drives.{View, pointerAt, chunkAt, recordAt, zoneOn}
 use Rattle.spec.specs.Layout.{mkRec}
 use Rattle.spec.specs.Lists.{any, consIf, isNil, firstOr, isIn}
 use Rattle.spec.specs.Memory.{Memory, stateFaults, placeAt, shownAt}
 use Rattle.spec.specs.Params.{between, inRange, placeBlock, placeZone, placeDrive, placeByte, present}
 use Rattle.spec.specs.Parity.{Piece, mkPiece, decodePiece}
+use Rattle.spec.specs.Segments.{isPlace, placeSegment}
+use Rattle.spec.specs.Write.{listRules}
 use Rattle.spec.specs.declared.Seg.{Seg}
 
 -- 01, Refusals, 9: a place to be read: not a data block, or on a present drive not below its zone's pointer; outside the image names zone 0
@@ -24,7 +26,7 @@ placeFaults p v gone q =
     let d = placeDrive p q in
     let z = placeZone p q in
     let b = placeBlock p q in
-    cond (leb (p .N) d) (0 ∷ [])
+    cond (not (isPlace p v gone q)) (0 ∷ [])
     (consIf (not (between 1 (p .S) b) || (not (isIn gone d) && leb (pointerAt v d z) b)) z [])
 
 -- 01, Read: where an address lies
@@ -54,7 +56,7 @@ shown p v gone cs g s = map (λ d. shownAt p v cs d (zoneOn g d) s) (present p g
 unfoldable pub decodeFaults : Params → View → ℕ → List ℕ → Found → List ℕ
 decodeFaults p v gone cs nowhere = []
 decodeFaults p v gone cs (here q) = []
-decodeFaults p v gone cs (away q) = consIf (any isNil (shown p v gone cs (placeSegment p q) (placeBlock p q - 1))) (placeZone p q) []
+decodeFaults p v gone cs (away q) = consIf (any isNil (shown p v gone cs (placeSegment p v gone q) (placeBlock p q - 1))) (placeZone p q) []
 
 -- 01, Read: block and record at a place of a present drive
 unfoldable pub storedAt : Params → View → ℕ → ℕ → Seg → ℕ → Piece
@@ -67,8 +69,8 @@ decodedAt p v gone cs d g s = decodePiece p gone s d (λ e. storedAt p v gone e 
 -- 01, Read: the block, with its record, that an address reads: zeros if never written
 unfoldable pub readPiece : Params → View → ℕ → List ℕ → Found → Piece
 readPiece p v gone cs nowhere = mkPiece (replicate (p .B) 0) (mkRec 0 0 0)
-readPiece p v gone cs (here q) = storedAt p v gone (placeDrive p q) (placeSegment p q) (placeBlock p q - 1)
-readPiece p v gone cs (away q) = decodedAt p v gone cs (placeDrive p q) (placeSegment p q) (placeBlock p q - 1)
+readPiece p v gone cs (here q) = storedAt p v gone (placeDrive p q) (placeSegment p v gone q) (placeBlock p q - 1)
+readPiece p v gone cs (away q) = decodedAt p v gone cs (placeDrive p q) (placeSegment p v gone q) (placeBlock p q - 1)
 
 -- 02, item 2: what the lookup of an address gives: where it lies, and the stamp of its record
 pub record Lookup : Type 0 where
@@ -93,8 +95,8 @@ readChecks p long v m a =
     let st = m .state in
     let gone = st .missing in
     let f = lies p gone (m .addresses) a in
-    rule 1 (not (inRange p)) ∷ rule 2 (not long) ∷ rule 4 (leb (p .L) a)
-    ∷ zones (stateFaults p st ++ foundFaults p v gone f) ∷ zones (decodeFaults p v gone (m .compact) f) ∷ []
+    rule 1 (not (inRange p)) ∷ rule 2 (not long) ∷ listRules p v
+    ++ (rule 4 (leb (p .L) a) ∷ zones (stateFaults p st ++ foundFaults p v gone f) ∷ zones (decodeFaults p v gone (m .compact) f) ∷ [])
 
 -- 01, Read: what the first call gives
 unfoldable pub readPlan : Params → View → Memory → ℕ → Plan

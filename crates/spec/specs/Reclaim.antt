@@ -2,7 +2,7 @@
 use mathlib.Core.List.{List, [], _∷_, _++_, map}
 use mathlib.Core.Bool.{Bool, true, false, cond, not, _&&_, _||_}
 use Prim.Native.Nat.{ℕ}
-use lib.Dec.{leb, ltb, eqb}
+use lib.Dec.{ltb, eqb}
 use lib.ListN.{length, replicate}
 use Rattle.spec.specs.declared.Params.{Params}
 use Rattle.spec.specs.declared.State.{State}
@@ -11,12 +11,13 @@ use Rattle.spec.specs.Bytes.{splice}
 use Rattle.spec.specs.Calls.{Check, firstRefusal, Plan, mkPlan, Verdict, decided}
 use Rattle.spec.specs.Calls.Check.{rule, zones}
 use Rattle.spec.specs.Counts.{neverPlace, aStamp}
-use Rattle.spec.specs.Drives.{View, chunkAt, allSegs, zoneOn, sealedIn, placeRecord, resetStores, noSeg}
+use Rattle.spec.specs.Drives.{View, chunkAt, zoneOn, sealedIn, resetStores, noSeg}
 use Rattle.spec.specs.Lists.{Opt, below, any, isMember, consIf, keep, isNil, flat, firstOr}
 use Rattle.spec.specs.Lists.Opt.{none, some}
 use Rattle.spec.specs.Memory.{Memory, mkMemory, holds, stateFaults, placeAt, compactAt}
 use Rattle.spec.specs.Params.{between, inRange, capacity, placeOf, placeBlock, placeZone, placeDrive, drivesOf}
-use Rattle.spec.specs.Write.{opens, noSerial, mustWait, scarce, CheckOrder, roomRules, sending}
+use Rattle.spec.specs.Segments.{remaining, isPlace, placeRecord}
+use Rattle.spec.specs.Write.{opens, noSerial, mustWait, scarce, listRules, CheckOrder, roomRules, sending}
 use Rattle.spec.specs.Write.CheckOrder.{fullFirst}
 use Rattle.spec.specs.declared.Seg.{Seg}
 
@@ -27,8 +28,8 @@ unfoldable pub placesIn : Params → List ℕ → List ℕ
 placesIn p tb = keep (λ q. not (eqb q neverPlace)) (map (placeAt tb) (below (p .L)))
 
 -- 01, Refusals, 9: a place outside the image names zone 0
-unfoldable pub tableFaults : Params → List ℕ → List ℕ
-tableFaults p tb = consIf (any (λ q. leb (p .N) (placeDrive p q)) (placesIn p tb)) 0 []
+unfoldable pub tableFaults : Params → View → List ℕ → List ℕ
+tableFaults p v tb = consIf (any (λ q. not (isPlace p v 0 q)) (placesIn p tb)) 0 []
 
 -- 01, Reclaim: the places of segment g's live blocks, by drive, then offset
 unfoldable pub segmentPlaces : Params → Seg → List ℕ
@@ -66,11 +67,11 @@ unfoldable pub fewest : Opt Victim → List Victim → Opt Victim
 fewest a [] = a
 fewest a (b ∷ bs) = fewest (fewer a b) bs
 
--- 01, Reclaim: the sealed segment with fewest live blocks, lowest zone on a tie
+-- 01, Reclaim: the sealed segment with fewest live blocks; 02, item 4: ties go by zone on drive 0, the order of what remains
 unfoldable pub victim : Params → View → List ℕ → Opt Victim
 victim p v tb =
     let qs = placesIn p tb in
-    fewest none (map (victimOf p qs) (keep (sealedIn p v 0) (allSegs p)))
+    fewest none (map (victimOf p qs) (keep (sealedIn p v 0) (remaining p v 0)))
 
 -- 01, Refusals, 5: no sealed segment
 unfoldable pub isNone : Opt Victim → Bool
@@ -109,15 +110,15 @@ copyFull p v st w = mustCopy w && opens p st && scarce p v 1
 abbrev pub reclaimBefore : Params → Bool → View → Memory → Opt Victim → List Check
 reclaimBefore p long v m w =
     let st = m .state in
-    rule 1 (not (inRange p)) ∷ rule 2 (not long) ∷ rule 3 (not (eqb (st .missing) 0))
-    ∷ rule 5 (isNone w || (mustCopy w && isNil (idle p v st w))) ∷ rule 6 (mustCopy w && noSerial p st) ∷ []
+    rule 1 (not (inRange p)) ∷ rule 2 (not long) ∷ listRules p v
+    ++ (rule 3 (not (eqb (st .missing) 0)) ∷ rule 5 (isNone w || (mustCopy w && isNil (idle p v st w))) ∷ rule 6 (mustCopy w && noSerial p st) ∷ [])
 
 -- 01, Refusals: the checks of reclaim, 7 and 8 in order o
 unfoldable pub reclaimChecksIn : CheckOrder → Params → Bool → View → Memory → Opt Victim → List Check
 reclaimChecksIn o p long v m w =
     let st = m .state in
     reclaimBefore p long v m w ++ roomRules o (copyWaits p st w) (copyFull p v st w)
-    ++ (zones (stateFaults p st ++ tableFaults p (m .addresses)
+    ++ (zones (stateFaults p st ++ tableFaults p v (m .addresses)
     ++ map (placeZone p) (keep (λ q. not (between 1 (p .S) (placeBlock p q))) (victimLive w))) ∷ [])
 
 -- 02, item 3: full before waiting, in a copy
@@ -137,7 +138,7 @@ unfoldable pub cleared : Params → Seg → List ℕ → List ℕ → List ℕ
 cleared p g [] cs = cs
 cleared p g (d ∷ ds) cs = cleared p g ds (clearedRow p cs d (zoneOn g d))
 
--- 01, Reclaim: the reset
+-- 01, Reclaim: the reset; 02, item 4: its answer is the zone on drive 0
 unfoldable pub resetPlan : Params → Memory → Seg → Plan
 resetPlan p m g =
     mkPlan (resetStores p g) (Reset (zoneOn g 0)) (mkMemory (m .state) (m .addresses) (cleared p g (drivesOf p) (m .compact)) (m .inflight)) []

@@ -10,21 +10,40 @@ use Rattle.spec.specs.declared.Answer.the-variants.{Restarted}
 use Rattle.spec.specs.Calls.{Check, firstRefusal, Plan, mkPlan, Verdict, decided}
 use Rattle.spec.specs.Calls.Check.{rule}
 use Rattle.spec.specs.Counts.{lastCount}
-use Rattle.spec.specs.Drives.{noZone, View, Store, storeView, storeAll, allSegs, zoneOn, headerStores, footerStores, resetStores, sameSeg, noSeg}
+use Rattle.spec.specs.Drives.{noZone, View, Store, storeView, storeAll, goodZones, zoneOn, headerStores, footerStores, resetStores, segWith}
+use Rattle.spec.specs.Drives.Store.{reset}
 use Rattle.spec.specs.Faults.{footersStored, imageChecks}
 use Rattle.spec.specs.Layout.{dataPosition, isData, parityPosition, dataDrives, mkRec}
-use Rattle.spec.specs.Lists.{below, any, keep, isNil, flat, total, firstOr, sameList}
+use Rattle.spec.specs.Lists.{below, any, keep, isNil, flat, total, firstOr, sameList, rising}
 use Rattle.spec.specs.Memory.{Memory, mkMemory, idleState}
 use Rattle.spec.specs.Params.{inRange, footers, noDrive, named, drivesOf}
 use Rattle.spec.specs.Parity.{Piece, mkPiece, encodePiece}
 use Rattle.spec.specs.Segments.{Segment, segments, counted, uncounted, storedPiece, putPiece, candidates, addressTable, compactTable, greatestStamp, greatestSerial, unsealed}
+use Rattle.spec.specs.Segments.{isUsed, serialIn, bearing}
+use Rattle.spec.specs.Write.{listRules}
 use Rattle.spec.specs.declared.Seg.{Seg}
 
 -- ---- step 4
 
--- the segments that don't remain: empty once the dropped ones are reset
-unfoldable pub freeSegs : Params → List Segment → List Seg
-freeSegs p gs = keep (λ h. not (any (λ (g : Segment). sameSeg (g .seg) h) gs)) (allSegs p)
+-- 02, item 4: the good zones of a drive that no remaining segment has: empty once the dropped ones are reset
+unfoldable pub freeZones : Params → View → List Segment → ℕ → List ℕ
+freeZones p v gs d = keep (λ z. not (any (λ (g : Segment). eqb (zoneOn (g .seg) d) z) gs)) (goodZones p (v .offline) d)
+
+-- 02, item 4: the rewrite takes each drive's lowest
+unfoldable pub freeSeg : Params → View → List Segment → Seg
+freeSeg p v gs = segWith p (λ d. firstOr 0 (freeZones p v gs d))
+
+-- 01, Refusals, 8: some drive has none
+unfoldable pub noneFree : Params → View → List Segment → Bool
+noneFree p v gs = any (λ d. isNil (freeZones p v gs d)) (drivesOf p)
+
+-- 02, item 4: every serial on the drives, rising
+unfoldable pub serialsThere : Params → View → List ℕ
+serialsThere p v = rising (flat (λ d. map (serialIn p v d) (keep (isUsed p v d) (below (p .Z)))) (drivesOf p))
+
+-- 01, Restart, 1 and 2: those of dropped segments
+unfoldable pub droppedSerials : Params → View → List Segment → List ℕ
+droppedSerials p v gs = keep (λ r. not (any (λ (g : Segment). eqb (g .serial) r) gs)) (serialsThere p v)
 
 -- 01, Restart, 4: all S stripes count
 unfoldable pub isWhole : Params → Segment → Bool
@@ -71,30 +90,30 @@ movedStripes p g z (s ∷ ss) k = movedStripe p g z s k ++ movedStripes p g z ss
 unfoldable pub rewriteStores : Params → Segment → Seg → ℕ → List Store
 rewriteStores p g z serial = headerStores p z serial (g .serial) ++ movedStripes p g z (counted p 0 g) 0 ++ resetStores p (g .seg)
 
--- 01, Restart, 4: dropped segments are reset
-unfoldable pub dropStores : Params → List Segment → List Store
-dropStores p gs = flat (resetStores p) (freeSegs p gs)
+-- 01, Restart, 4: dropped segments are reset; 02, item 4: all zones that bear a dropped serial, the lower serial first, by drive
+unfoldable pub dropStores : Params → View → List Segment → List Store
+dropStores p v gs = flat (λ r. flat (λ d. map (reset d) (bearing p v d r)) (drivesOf p)) (droppedSerials p v gs)
 
 -- 01, Restart, 4: missing footers, or the rewrite
-unfoldable pub mendStores : Params → List Segment → Segment → List Store
-mendStores p gs g =
+unfoldable pub mendStores : Params → View → List Segment → Segment → List Store
+mendStores p v gs g =
     let a = missingFooters p g in
-    let b = rewriteStores p g (firstOr noSeg (freeSegs p gs)) (suc (greatestSerial gs)) in
+    let b = rewriteStores p g (freeSeg p v gs) (suc (greatestSerial gs)) in
     let c = cond (isRagged p g) b [] in
     cond (isWhole p g) a c
 
 -- 01, Restart, 4 and 5: the stores of a restart
-unfoldable pub restartStores : Params → ℕ → List Segment → List Store
-restartStores p gone gs =
-    let ss = dropStores p gs ++ flat (mendStores p gs) (unsealed gs) in
+unfoldable pub restartStores : Params → View → ℕ → List Segment → List Store
+restartStores p v gone gs =
+    let ss = dropStores p v gs ++ flat (mendStores p v gs) (unsealed gs) in
     cond (eqb gone 0) ss []
 
 -- ---- restart
 
--- 01, Restart: the memory of what the drives say once the stores are made; the open segment is the unsealed one
+-- 01, Restart: the open segment is the unsealed one; 02, item 4: by its serial
 unfoldable pub openOf : List Segment → ℕ
 openOf [] = 0
-openOf (g ∷ gs) = suc (zoneOn (g .seg) 0)
+openOf (g ∷ gs) = g .serial
 
 -- 01, Write: the next stripe number of the open segment
 unfoldable pub nextOf : Params → List Segment → ℕ
@@ -128,13 +147,13 @@ rewrites p gone gs = eqb gone 0 && any (isRagged p) (unsealed gs)
 -- 01, Refusals: in restart 9 comes before 6 and 8
 unfoldable pub restartChecks : Params → Bool → View → ℕ → List Segment → List Check
 restartChecks p long v d gs =
-    rule 1 (not (inRange p) || not (namesDrive p d)) ∷ rule 2 (not long) ∷ imageChecks p v (named d) gs
-    ++ (rule 6 (rewrites p (named d) gs && eqb (greatestSerial gs) lastCount) ∷ rule 8 (rewrites p (named d) gs && isNil (freeSegs p gs)) ∷ [])
+    rule 1 (not (inRange p) || not (namesDrive p d)) ∷ rule 2 (not long) ∷ listRules p v ++ imageChecks p v (named d) gs
+    ++ (rule 6 (rewrites p (named d) gs && eqb (greatestSerial gs) lastCount) ∷ rule 8 (rewrites p (named d) gs && noneFree p v gs) ∷ [])
 
 -- 01, Restart: stores, answer and memory
 unfoldable pub restartPlan : Params → View → ℕ → List Segment → List ℕ → Plan
 restartPlan p v d gs fl =
-    let ss = restartStores p (named d) gs in
+    let ss = restartStores p v (named d) gs in
     mkPlan ss (Restarted (reportOf p (named d) gs)) (restartMemory p (storeAll storeView ss v) (named d) fl) []
 
 -- 01, Restart

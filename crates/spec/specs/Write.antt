@@ -10,9 +10,9 @@ use Rattle.spec.specs.declared.Answer.the-variants.{Sent}
 use Rattle.spec.specs.Calls.{Check, firstRefusal, Plan, mkPlan, Verdict, decided}
 use Rattle.spec.specs.Calls.Check.{rule, zones}
 use Rattle.spec.specs.Counts.{lastCount, aStamp}
-use Rattle.spec.specs.Drives.{View, Store, emptySegs, headerStores, noSeg}
+use Rattle.spec.specs.Drives.{View, Store, fewGood, aboveNarrow, emptyCount, newSeg, headerStores}
 use Rattle.spec.specs.Layout.{dataDrive, group}
-use Rattle.spec.specs.Lists.{any, isNil, firstOr}
+use Rattle.spec.specs.Lists.{any, isNil}
 use Rattle.spec.specs.Memory.{Memory, mkMemory, slotCount, stripeIn, filledIn, isFull, inFlight, freeSlot, fillingSlot, hasFilling, stateFaults}
 use Rattle.spec.specs.Memory.{setStamp, setOpen, beginStripe, addEntry, setSlotBlock, setSlotParity}
 use Rattle.spec.specs.Params.{inRange}
@@ -44,9 +44,13 @@ mustWait p st =
     && (leb slotCount (length (inFlight st)) || (mustOpen p st && not (isNil (inFlight st)))
     || (not (mustOpen p st) && any (otherGroup p st) (inFlight st)))
 
--- 01, Refusals, 8: n zones empty on all drives, or fewer
+-- 01, Refusals, 8: n zones empty, or fewer
 unfoldable pub scarce : Params → View → ℕ → Bool
-scarce p v n = leb (length (emptySegs p v)) n
+scarce p v n = leb (emptyCount p v) n
+
+-- 02, item 4: refusal 10, fewer than four good zones on some drive, checked after 2; L above only the narrower bound is refused 1 just after 10
+abbrev pub listRules : Params → View → List Check
+listRules p v = rule 10 (fewGood p (v .offline)) ∷ rule 1 (aboveNarrow p (v .offline)) ∷ []
 
 -- 02, item 3: which of 7 and 8 is checked first; 01 has waiting first
 pub data CheckOrder : Type 0 where
@@ -86,10 +90,10 @@ pub record Sending : Type 0 where
   pub stripe : ℕ
   pub drive : ℕ
 
--- 01, Write: the segment that is opened is the lowest zone empty on all drives, its serial the next one
-unfoldable pub openedBy : Params → View → State → State
-openedBy p v st =
-    let st′ = setOpen st (firstOr noSeg (emptySegs p v)) (suc (st .serial .0)) in
+-- 01, Write: the segment that is opened has the next serial
+unfoldable pub openedBy : Params → State → State
+openedBy p st =
+    let st′ = setOpen st (suc (st .serial .0)) in
     cond (opens p st) st′ st
 
 -- 01, Write: the next data position of the filling stripe, or the next stripe number in the lowest free eighth
@@ -106,9 +110,9 @@ begunBy p st st₁ =
 unfoldable pub sending : Params → View → State → List ℕ → ℕ → ℕ → ℕ → List ℕ → Sending
 sending p v st fl a t w b =
     let i = slotFor p st in
-    let st₂ = begunBy p st (openedBy p v st) in
+    let st₂ = begunBy p st (openedBy p st) in
     let q = placed p st₂ fl i a t w b in
-    let hs = headerStores p (firstOr noSeg (emptySegs p v)) (suc (st .serial .0)) 0 in
+    let hs = headerStores p (newSeg p v) (suc (st .serial .0)) 0 in
     record {
       stores = cond (opens p st) hs [];
       state = q .state;
@@ -122,17 +126,17 @@ abbrev pub writeFull : Params → View → State → Bool
 writeFull p v st = scarce p v (cond (opens p st) 2 1)
 
 -- 01, Refusals: what a write checks before 7 and 8
-abbrev pub writeBefore : Params → Bool → Memory → ℕ → List ℕ → List Check
-writeBefore p long m a b =
+abbrev pub writeBefore : Params → Bool → View → Memory → ℕ → List ℕ → List Check
+writeBefore p long v m a b =
     let st = m .state in
-    rule 1 (not (inRange p)) ∷ rule 2 (not long || not (eqb (length b) (p .B))) ∷ rule 3 (not (eqb (st .missing) 0)) ∷ rule 4 (leb (p .L) a)
-    ∷ rule 6 (noStamp st || noSerial p st) ∷ []
+    rule 1 (not (inRange p)) ∷ rule 2 (not long || not (eqb (length b) (p .B))) ∷ listRules p v
+    ++ (rule 3 (not (eqb (st .missing) 0)) ∷ rule 4 (leb (p .L) a) ∷ rule 6 (noStamp st || noSerial p st) ∷ [])
 
 -- 01, Refusals: the checks of a write, 7 and 8 in order o
 unfoldable pub writeChecksIn : CheckOrder → Params → Bool → View → Memory → ℕ → List ℕ → List Check
 writeChecksIn o p long v m a b =
     let st = m .state in
-    writeBefore p long m a b ++ roomRules o (mustWait p st) (writeFull p v st) ++ (zones (stateFaults p st) ∷ [])
+    writeBefore p long v m a b ++ roomRules o (mustWait p st) (writeFull p v st) ++ (zones (stateFaults p st) ∷ [])
 
 -- 02, item 3: full before waiting, in a write
 abbrev pub writeOrder : CheckOrder

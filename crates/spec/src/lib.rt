@@ -2,6 +2,7 @@
 ghost use mathlib.Core.Path.{_≡_};
 ghost use Rattle.spec.specs.Examples.{Examples};
 ghost use Rattle.spec.specs.Counts.{paddingAddress, neverPlace, firstCount, lastCount};
+ghost use Rattle.spec.specs.declared.Seg.{Seg};
 
 // 01, The array: N drives, blocks of B bytes, Z zones a drive, S stripes a segment, groups of G stripes, L addresses.
 pub struct Params {
@@ -110,7 +111,8 @@ pub struct Seg {
 }
 
 // 01, Write: the state between calls; all zeros is the state that a cut leaves. live: 1 after a finished restart; missing: a mask of
-// drives; stamp, serial: the last given out; opened: the open segment + 1, or 0; next: its next stripe number. For each of the eight stripes in flight: its number, how many data positions are filled
+// drives; stamp, serial: the last given out; opened: the serial of the open segment, or 0; next: its next stripe number. For each of the eight stripes in flight: its number, how
+// many data positions are filled
 // (0: the eighth is free), which of them are writes (a mask), which drives have it (a mask), and, eight to a stripe, the addresses and
 // stamps by data position and the offsets at which it landed by drive.
 pub struct State {
@@ -118,7 +120,7 @@ pub struct State {
     pub missing: u8,
     pub stamp: Stamp,
     pub serial: Serial,
-    pub opened: u32,
+    pub opened: u64,
     pub next: u32,
     pub numbers: [u32; 8],
     pub filled: [u8; 8],

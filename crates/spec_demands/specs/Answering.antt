@@ -15,17 +15,17 @@ use Rattle.spec.specs.Lists.{isMember}
 use Rattle.spec.specs.Memory.{stateLen}
 use Rattle.spec.specs.Params.{addressesLen, compactLen}
 
--- 01, Refusals, and 02, item 1: the numbers that the table gives a call
+-- 01, Refusals, and 02, items 1 and 4: the numbers that the table gives a call
 unfoldable pub refusalsOf : Call → List ℕ
-refusalsOf (write a [] n) = 1 ∷ 2 ∷ 3 ∷ 4 ∷ 5 ∷ 9 ∷ []
-refusalsOf (write a (x ∷ b) n) = 1 ∷ 2 ∷ 3 ∷ 4 ∷ 6 ∷ 7 ∷ 8 ∷ 9 ∷ []
-refusalsOf (land d s n) = 1 ∷ 2 ∷ 3 ∷ 5 ∷ 9 ∷ []
-refusalsOf (close n) = 1 ∷ 2 ∷ 3 ∷ 5 ∷ 9 ∷ []
-refusalsOf (reclaim n) = 1 ∷ 2 ∷ 3 ∷ 5 ∷ 6 ∷ 7 ∷ 8 ∷ 9 ∷ []
-refusalsOf (read a) = 1 ∷ 2 ∷ 4 ∷ 9 ∷ []
-refusalsOf (fill a b) = 1 ∷ 2 ∷ 4 ∷ 9 ∷ []
-refusalsOf (restart d n) = 1 ∷ 2 ∷ 9 ∷ 6 ∷ 8 ∷ []
-refusalsOf (rebuild d n) = 1 ∷ 2 ∷ 9 ∷ []
+refusalsOf (write a [] n) = 1 ∷ 2 ∷ 10 ∷ 3 ∷ 4 ∷ 5 ∷ 9 ∷ []
+refusalsOf (write a (x ∷ b) n) = 1 ∷ 2 ∷ 10 ∷ 3 ∷ 4 ∷ 6 ∷ 7 ∷ 8 ∷ 9 ∷ []
+refusalsOf (land d s n) = 1 ∷ 2 ∷ 10 ∷ 3 ∷ 5 ∷ 9 ∷ []
+refusalsOf (close n) = 1 ∷ 2 ∷ 10 ∷ 3 ∷ 5 ∷ 9 ∷ []
+refusalsOf (reclaim n) = 1 ∷ 2 ∷ 10 ∷ 3 ∷ 5 ∷ 6 ∷ 7 ∷ 8 ∷ 9 ∷ []
+refusalsOf (read a) = 1 ∷ 2 ∷ 10 ∷ 4 ∷ 9 ∷ []
+refusalsOf (fill a b) = 1 ∷ 2 ∷ 10 ∷ 4 ∷ 9 ∷ []
+refusalsOf (restart d n) = 1 ∷ 2 ∷ 10 ∷ 9 ∷ 6 ∷ 8 ∷ []
+refusalsOf (rebuild d n) = 1 ∷ 2 ∷ 10 ∷ 9 ∷ []
 
 -- 01, The calls: the kinds of a call's own result
 unfoldable pub resultsOf : Call → List ℕ
@@ -55,7 +55,7 @@ canStore (rebuild d n) = true
 unfoldable pub refusalNumber : Answer → ℕ
 refusalNumber r = getD (values r) 0 0
 
--- demand 1: "the result, word that it was cut at its store count, or one of nine numbered refusals"
+-- demand 1: "the result, word that it was cut at its store count, or one of nine numbered refusals"; 02, item 4: "each new number joins demand 1's nine"
 pub data Answers (c : Call) (r : Answer) : Type 0 where
   result : isMember (kind r) (resultsOf c) ≡ true → Answers c r
   cut : isCut r ≡ true → canStore c ≡ true → Answers c r
@@ -79,6 +79,7 @@ cutLeft p l c ss =
     record {
       answer = Cut;
       lent = record {
+        offline = l .offline;
         image = k .image;
         pointers = k .pointers;
         addresses = replicate (addressesLen p) 0;

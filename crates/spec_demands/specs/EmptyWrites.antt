@@ -15,14 +15,15 @@ use Rattle.spec.specs.Engine.Call.{write, close}
 use Rattle.spec.specs.History.{sentBy}
 use Rattle.spec.specs.Memory.{stateOf, hasFilling, stateOk}
 use Rattle.spec.specs.Params.{inRange}
+use Rattle.spec.specs.Drives.{listOk}
 
 -- the state that the lent bytes say
 unfoldable pub stateIn : Lent → State
 stateIn l = stateOf (l .state)
 
--- 01, Refusals, 1 to 3: parameters and lengths are in order, and no drive is missing
+-- 01, Refusals, 1 to 3, and 02, item 4: parameters, lengths and the list are in order, and no drive is missing
 unfoldable pub writable : Params → Lent → Bool
-writable p l = inRange p && lentLong p l && eqb (stateIn l .missing) 0
+writable p l = inRange p && lentLong p l && listOk p (l .offline) && eqb (stateIn l .missing) 0
 
 -- 02, item 1: what the write leaves
 unfoldable pub emptyLeft : Params → Lent → ℕ → ℕ → Left

@@ -16,20 +16,21 @@ pub record Reply (W : Type 0) : Type 0 where
   pub world : W
   pub block : List ℕ
 
--- a way to run calls: image and pointers, memory, and a call
+-- a way to run calls: the list of offline zones (02, item 4), image and pointers, memory, and a call
 pub record Engine (W : Type 0) : Type 0 where
+  pub offline : W → List ℕ
   pub disk : W → Disk
   pub memory : W → Memory
   pub call : Params → W → Call → Reply W
 
--- the state is a value
-unfoldable pub callWorld : Params → World → Call → Reply World
-callWorld p w c =
-    let r = callDisk p (w .disk) (w .memory) c in
+-- the state is a value, and the list is always the same
+unfoldable pub callWorld : List ℕ → Params → World → Call → Reply World
+callWorld off p w c =
+    let r = callDisk p off (w .disk) (w .memory) c in
     record { answer = r .answer; world = mkWorld (r .drives) (r .memory); block = r .block }
 
-abbrev pub onValues : Engine World
-onValues = record { disk = λ (w : World). w .disk; memory = λ (w : World). w .memory; call = callWorld }
+abbrev pub onValues : List ℕ → Engine World
+onValues off = record { offline = λ (w : World). off; disk = λ (w : World). w .disk; memory = λ (w : World). w .memory; call = callWorld off }
 
 -- the state is bytes and nothing else: each step is what the C functions equal
 unfoldable pub callLent : Params → Lent → Call → Reply Lent
@@ -38,12 +39,12 @@ callLent p l c =
     record { answer = r .answer; world = r .lent; block = r .block }
 
 abbrev pub onBytes : Engine Lent
-onBytes = record { disk = lentDisk; memory = lentMemory; call = callLent }
+onBytes = record { offline = λ (l : Lent). l .offline; disk = lentDisk; memory = lentMemory; call = callLent }
 
 module _ {W : Type 0} (E : Engine W) where
   -- what the drives hold
   unfoldable pub viewIn : Params → W → View
-  viewIn p w = viewOf p (E .disk w .image) (E .disk w .pointers)
+  viewIn p w = viewOf p (E .offline w) (E .disk w .image) (E .disk w .pointers)
 
   -- 01, How tightly, 4: what the two reads give
   unfoldable pub readsAs : Params → W → ℕ → Seen

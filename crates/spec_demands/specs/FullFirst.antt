@@ -52,7 +52,7 @@ unfoldable pub crowded : Params → Lent → Call → Bool
 crowded p l (write a [] n) = false
 crowded p l (write a (x ∷ b) n) =
     let m = lentMemory l in
-    bothHold (writeBefore p (lentLong p l) m a (x ∷ b)) (mustWait p (m .state)) (writeFull p (viewIn onBytes p l) (m .state))
+    bothHold (writeBefore p (lentLong p l) (viewIn onBytes p l) m a (x ∷ b)) (mustWait p (m .state)) (writeFull p (viewIn onBytes p l) (m .state))
 crowded p l (land d s n) = false
 crowded p l (close n) = false
 crowded p l (reclaim n) =

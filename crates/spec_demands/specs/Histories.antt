@@ -9,7 +9,7 @@ use Rattle.spec.specs.declared.Params.{Params}
 use Rattle.spec.specs.declared.Answer.{Answer}
 use Rattle.spec.specs.Answers.{isRefused, isRefusedAs, finished}
 use Rattle.spec.specs.Demands.{areBytes, ReadOk}
-use Rattle.spec.specs.Drives.{Disk}
+use Rattle.spec.specs.Drives.{Disk, listOk}
 use Rattle.spec.specs.Engine.{Call, lentBlock, lentOk, Lent, Left, lentDisk, lentMemory, callBytes}
 use Rattle.spec.specs.Engine.Call.{restart}
 use Rattle.spec.specs.History.{restartOf, swapped, onlyIf, Send, sentAfter, untrustedAfter, emptyDisk, namesAll}
@@ -33,22 +33,22 @@ unfoldable pub lentCall : LentEvent → Call
 lentCall (calls c) = c
 lentCall (boots d n u im ps) = restart d n
 
--- the buffers of u with other drives
-unfoldable pub withDisk : Lent → Disk → Lent
-withDisk u k =
-    record { image = k .image; pointers = k .pointers; addresses = u .addresses; compact = u .compact; inflight = u .inflight; state = u .state }
+-- the buffers of u with other drives; 02, item 4: the list never changes
+unfoldable pub withDisk : List ℕ → Lent → Disk → Lent
+withDisk off u k =
+    record { offline = off; image = k .image; pointers = k .pointers; addresses = u .addresses; compact = u .compact; inflight = u .inflight; state = u .state }
 
--- demand 3: a restart whose numbers and buffer lengths are in order, the state's length among them
+-- demand 3: a restart whose numbers, lists and buffer lengths are in order, the state's length among them
 unfoldable pub lentInOrder : Params → Lent → ℕ → Bool
-lentInOrder p l d = inRange p && namesDrive p d && lentOk p (lentDisk l) (lentMemory l) && eqb (length (l .state)) stateLen
+lentInOrder p l d = inRange p && namesDrive p d && lentOk p (l .offline) (lentDisk l) (lentMemory l) && listOk p (l .offline) && eqb (length (l .state)) stateLen
 
 -- what the event's call gets
 unfoldable pub lentBefore : Params → Lent → LentEvent → Lent
 lentBefore p l (calls c) = l
 lentBefore p l (boots d n u im ps) =
     let k = lentDisk l in
-    let w = withDisk u (swapped p k d im ps) in
-    cond (lentInOrder p (withDisk u k) d) w (withDisk u k)
+    let w = withDisk (l .offline) u (swapped p k d im ps) in
+    cond (lentInOrder p (withDisk (l .offline) u k) d) w (withDisk (l .offline) u k)
 
 -- the event's call and what it leaves
 unfoldable pub lentHappens : Params → Lent → LentEvent → Left
@@ -66,7 +66,7 @@ lentRestart p l e = lentOrderly p (lentBefore p l e) (restartOf (lentCall e))
 -- 01, How tightly, 4: a restart that isn't in order is refused, and leaves the run its memory
 unfoldable pub lentAfter : Params → Lent → LentEvent → Left → Lent
 lentAfter p l (calls c) r = r .lent
-lentAfter p l (boots d n u im ps) r = cond (lentInOrder p (withDisk u (lentDisk l)) d) (r .lent) l
+lentAfter p l (boots d n u im ps) r = cond (lentInOrder p (withDisk (l .offline) u (lentDisk l)) d) (r .lent) l
 
 -- ---- the history
 
@@ -100,10 +100,11 @@ lentStep p h e =
       mark = lentMarked (finished (r .answer)) l (length ss) (h .mark);
     }
 
--- 01, How tightly, 4: the history of no event: these drives, all else zeros
-unfoldable pub lentBegan : Params → Disk → LentHist
-lentBegan p k = record {
+-- 01, How tightly, 4: the history of no event: these drives, all else zeros; 02, item 4: and this list
+unfoldable pub lentBegan : Params → List ℕ → Disk → LentHist
+lentBegan p off k = record {
   lent = record {
+    offline = off;
     image = k .image;
     pointers = k .pointers;
     addresses = replicate (addressesLen p) 0;
@@ -163,5 +164,5 @@ LentClaims p h (e ∷ es) = LentClaim p h e (lentRestart p (h .lent) e) × LentC
 
 -- demand 3, one claim about the list: every list of calls of the C functions, from empty drives with any bytes
 abbrev pub Demand3 : Type 0
-Demand3 = (p : Params) → inRange p ≡ true → (k : Disk) → emptyDisk p k ≡ true → areBytes (k .image) ≡ true
-    → (es : List LentEvent) → LentAllowed p (lentBegan p k) es → LentClaims p (lentBegan p k) es
+Demand3 = (p : Params) (off : List ℕ) → inRange p ≡ true → (k : Disk) → emptyDisk p off k ≡ true → areBytes (k .image) ≡ true
+    → (es : List LentEvent) → LentAllowed p (lentBegan p off k) es → LentClaims p (lentBegan p off k) es

@@ -18,14 +18,13 @@ use Rattle.spec.specs.History.{restartOf, endsRun, emptyDisk}
 use Rattle.spec.specs.Landing.{sealStores}
 use Rattle.spec.specs.Layout.{Rec, recordBytes}
 use Rattle.spec.specs.Lists.{below, all, any, consIf, keep, tally, total}
-use Rattle.spec.specs.Memory.{openSegment}
 use Rattle.spec.specs.Params.{noDrive, named, present}
-use Rattle.spec.specs.Segments.{remaining, Segment, segmentOf, segments, hasChunk, counts, candidates, addressTable, compactTable}
+use Rattle.spec.specs.Segments.{remaining, Segment, segmentOf, segments, hasChunk, counts, candidates, addressTable, compactTable, openSegment}
 use Rattle.spec_demands.specs.Engines.{Reply, Engine, onBytes, viewIn, readsAs}
 use Rattle.spec_demands.specs.Histories.{lentInOrder}
 use Rattle.spec_demands.specs.Latest.{SaidIsLatest}
 use Rattle.spec_demands.specs.Layouts.{Layout}
-use Rattle.spec_demands.specs.Rules.{ZoneRules}
+use Rattle.spec_demands.specs.Rules.{ZoneRules, OfflineApart}
 use Rattle.spec.specs.declared.Seg.{Seg}
 
 -- ---- what was sent in this run and is not acknowledged
@@ -109,7 +108,7 @@ module _ {W : Type 0} (E : Engine W) where
 
   -- 01, Write: the open segment
   unfoldable pub openIn : Params → W → Seg
-  openIn p w = openSegment p (E .memory w .state)
+  openIn p w = openSegment p (viewIn E p w) (E .memory w .state)
 
   -- 01, Landing: the chunk, and, where the segment is sealed with it, the footers
   unfoldable pub landingStores : Params → W → Store → Bool → List Store
@@ -135,7 +134,7 @@ module _ {W : Type 0} (E : Engine W) where
   -- 01, Rebuild: with none missing the drives say what they said with the drive missing, and a restart finds nothing wrong on them
   pub record Rebuilds (p : Params) (w : W) (r : Reply W) : Type 0 where
     pub says-same : (a : ℕ) → a < p .L → saidAt p (viewIn E p (r .world)) 0 a ≡ saidAt p (viewIn E p w) (E .memory w .state .missing) a
-    pub accepted : (u : W) (n : ℕ) → E .disk u ≡ E .disk (r .world) → isRefusedAs 9 (E .call p u (restart noDrive n) .answer) ≡ false
+    pub accepted : (u : W) (n : ℕ) → E .disk u ≡ E .disk (r .world) → E .offline u ≡ E .offline w → isRefusedAs 9 (E .call p u (restart noDrive n) .answer) ≡ false
 
   -- what is claimed of a call beside the tables
   abbrev pub CallSays : Params → W → List Pending → Call → Reply W → Type 0
@@ -169,8 +168,10 @@ module _ {W : Type 0} (E : Engine W) where
 pub record Demand2 : Type 0 where
   -- "under the NVMe zone rules"
   pub zone-rules : ZoneRules
+  -- 02, item 4: "never read .. or checked"
+  pub offline-apart : OfflineApart
   -- 01, How tightly, 2: no restart "that refuses all images": empty drives are accepted
-  pub accepts : (p : Params) (l : Lent) (d n : ℕ) → lentInOrder p l d ≡ true → emptyDisk p (lentDisk l) ≡ true → isRefused (callBytes p l (restart d n) .answer) ≡ false
+  pub accepts : (p : Params) (l : Lent) (d n : ℕ) → lentInOrder p l d ≡ true → emptyDisk p (l .offline) (lentDisk l) ≡ true → isRefused (callBytes p l (restart d n) .answer) ≡ false
   -- "From those bytes alone, a read gives the latest-sent block among whole stripes": what `saidAt` gives is that; 02, item 2: with its stamp
   pub latest : SaidIsLatest
   -- "and after a restart and every call on what it left, none of them cut, the tables in memory equal what the drives say"

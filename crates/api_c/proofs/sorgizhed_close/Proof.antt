@@ -29,13 +29,13 @@ short-of-requires c κs = search needs
 
 returns : tie.Need-returns
 returns c n =
-    let a = c .before .before .before .before .before .before .before .before .before .before .args in
+    let a = c .before .before .before .before .before .before .before .before .before .before .before .args in
     let p : Params = mkParams (a .n) (a .b) (a .z) (a .s) (a .g) (a .l) in
-    let l : Lent = lending (a .image .now) (a .pointers .now) (a .addresses .now) (a .compact .now) (a .inflight .now) (a .state .now) in
+    let l : Lent = lending (a .offline .now) (a .image .now) (a .pointers .now) (a .addresses .now) (a .compact .now) (a .inflight .now) (a .state .now) in
     let d = lentDisk l in
     let m = lentMemory l in
     ap (λ (x : Told). hears x l []) (c .short-of .ensures ∙ ap (λ (x : Bool). toldOf (shortAnswer x)) (c .before .in-range .ensures))
-    ∙ hears-short p l (close n) [] (λ e. c .before .before .if1 .taken (e ∙ sym (c .before .before .before .state-len .ensures))) (inRange p) (close-short p d m n)
+    ∙ hears-short p l (close n) [] (λ e. c .before .before .if1 .taken (e ∙ sym (c .before .before .before .state-len .ensures))) (inRange p) (close-short p (a .offline .now) d m n)
 
 decode-requires : tie.Need-decode-requires
 decode-requires c κs = c .before .if1 .left ∙ c .before .before .state-len .ensures
@@ -60,24 +60,24 @@ same-length-2 c = search needs
 returns-2 : tie.Need-returns-2
 unfolding lentDisk lentMemory
 returns-2 c n =
-    let a = c .before .before .before .before .before .before .before .before .before .before .before .before .before .before .before .before .before .before .before .args in
+    let a = c .before .before .before .before .before .before .before .before .before .before .before .before .before .before .before .before .before .before .before .before .args in
     let apply = c .before .before .apply in
     let close′ = c .before .before .before .before .before .before .close in
     let decode = c .before .before .before .before .before .before .before .before .before .decode in
     let if1 = c .before .before .before .before .before .before .before .before .before .before .before .if1 in
     let state-len = c .before .before .before .before .before .before .before .before .before .before .before .before .state-len in
     let p : Params = mkParams (a .n) (a .b) (a .z) (a .s) (a .g) (a .l) in
-    let l : Lent = lending (a .image .now) (a .pointers .now) (a .addresses .now) (a .compact .now) (a .inflight .now) (a .state .now) in
-    let w = close′ .last in
+    let l : Lent = lending (a .offline .now) (a .image .now) (a .pointers .now) (a .addresses .now) (a .compact .now) (a .inflight .now) (a .state .now) in
+    let w = close′ .last .1 in
     let e : afterChange (stateOf (a .state .now)) (close′ .result) (a .image .now) (a .pointers .now) (a .addresses .now) (a .compact .now)
     (w .1 .1 .1 .1 .1 .0) []
-    ≡ callDisk p (lentDisk l) (lentMemory l) (close n) =
+    ≡ callDisk p (a .offline .now) (lentDisk l) (lentMemory l) (close n) =
     ap (λ (x : State). afterChange x (close′ .result) (a .image .now) (a .pointers .now) (a .addresses .now) (a .compact .now) (w .1 .1 .1 .1 .1 .0)
     []) (sym (decode .ensures))
     ∙ close′ .ensures n
-    ∙ ap (λ (x : State). callDisk p (lentDisk l) (mkMemory x (a .addresses .now) (a .compact .now) (a .inflight .now)) (close n)) (decode .ensures)
+    ∙ ap (λ (x : State). callDisk p (a .offline .now) (lentDisk l) (mkMemory x (a .addresses .now) (a .compact .now) (a .inflight .now)) (close n)) (decode .ensures)
     in
-    hears-change p l (close n) [] (if1 .left ∙ state-len .ensures) (close-keeps p (lentDisk l) (lentMemory l) n)
+    hears-change p l (close n) [] (if1 .left ∙ state-len .ensures) (close-keeps p (a .offline .now) (lentDisk l) (lentMemory l) n)
     (close′ .result) (a .image .now) (a .pointers .now) (a .addresses .now) (a .compact .now) (w .1 .1 .1 .1 .1 .0) (apply .last .0) [] (apply .result) e (apply .ensures .0) (apply .ensures .1)
 
 pub sorgizhed-close-spec : {M : Type 1} → statement M

@@ -26,15 +26,15 @@ short-of-requires c κs = search needs
 
 returns : tie.Need-returns
 returns c =
-    let a = c .before .before .before .before .before .before .before .before .before .before .before .args in
+    let a = c .before .before .before .before .before .before .before .before .before .before .before .before .args in
     let p : Params = mkParams (a .n) (a .b) (a .z) (a .s) (a .g) (a .l) in
-    let l : Lent = lending (a .image .now) (a .pointers .now) (a .addresses .now) (a .compact .now) (a .inflight .now) (a .state .now) in
+    let l : Lent = lending (a .offline .now) (a .image .now) (a .pointers .now) (a .addresses .now) (a .compact .now) (a .inflight .now) (a .state .now) in
     let d = lentDisk l in
     let m = lentMemory l in
     ap (λ (x : Told). hears x l (a .block .now)) (c .short-of .ensures ∙ ap (λ (x : Bool). toldOf (shortAnswer x)) (c .before .in-range .ensures))
     ∙ hears-short p l (fill (a .address) (a .block .now)) (a .block .now)
     (λ e. c .before .before .if1 .taken (e ∙ sym (c .before .before .before .state-len .ensures))) (inRange p)
-    (fill-short p d m (a .address) (a .block .now))
+    (fill-short p (a .offline .now) d m (a .address) (a .block .now))
 
 fill-requires : tie.Need-fill-requires
 fill-requires c κs = c .before .if1 .left ∙ c .before .before .state-len .ensures
@@ -50,14 +50,14 @@ unfolding lentDisk lentMemory
 returns-2 c =
     let filled = c .before .before .before in
     let test = filled .before .before in
-    let s = test .before .before .before .before .before .before .before .before .before in
+    let s = test .before .before .before .before .before .before .before .before .before .before in
     let a = s .args in
     let p : Params = mkParams (a .n) (a .b) (a .z) (a .s) (a .g) (a .l) in
-    let l : Lent = lending (a .image .now) (a .pointers .now) (a .addresses .now) (a .compact .now) (a .inflight .now) (a .state .now) in
+    let l : Lent = lending (a .offline .now) (a .image .now) (a .pointers .now) (a .addresses .now) (a .compact .now) (a .inflight .now) (a .state .now) in
     let long = test .if1 .left ∙ test .before .state-len .ensures in
-    hears-read p l (fill (a .address) (a .block .now)) (a .block .now) long (fill-keeps p (lentDisk l) (lentMemory l) (a .address) (a .block .now))
-    (stateBytes-stateOf (a .state .now) long (λ k h. omega (arith, test .before .before .before .shared-slice-known6 .given k)))
-    (filled .fill .result) (filled .fill .last .1 .1 .1 .1 .1 .1 .1 .1 .0) (c .told-of .result) (filled .fill .ensures) (c .told-of .ensures)
+    hears-read p l (fill (a .address) (a .block .now)) (a .block .now) long (fill-keeps p (a .offline .now) (lentDisk l) (lentMemory l) (a .address) (a .block .now))
+    (stateBytes-stateOf (a .state .now) long (λ k h. omega (arith, test .before .before .before .shared-slice-known7 .given k)))
+    (filled .fill .result) (filled .fill .last .1 .1 .1 .1 .1 .1 .1 .1 .1 .0) (c .told-of .result) (filled .fill .ensures) (c .told-of .ensures)
 
 pub sorgizhed-fill-spec : {M : Type 1} → statement M
 sorgizhed-fill-spec =

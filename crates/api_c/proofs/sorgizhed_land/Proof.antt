@@ -29,15 +29,15 @@ short-of-requires c κs = search needs
 
 returns : tie.Need-returns
 returns c =
-    let a = c .before .before .before .before .before .before .before .before .before .before .args in
+    let a = c .before .before .before .before .before .before .before .before .before .before .before .args in
     let p : Params = mkParams (a .n) (a .b) (a .z) (a .s) (a .g) (a .l) in
-    let l : Lent = lending (a .image .now) (a .pointers .now) (a .addresses .now) (a .compact .now) (a .inflight .now) (a .state .now) in
+    let l : Lent = lending (a .offline .now) (a .image .now) (a .pointers .now) (a .addresses .now) (a .compact .now) (a .inflight .now) (a .state .now) in
     let d = lentDisk l in
     let m = lentMemory l in
     ap (λ (x : Told). hears x l []) (c .short-of .ensures ∙ ap (λ (x : Bool). toldOf (shortAnswer x)) (c .before .in-range .ensures))
     ∙ hears-short p l (land (a .drive) (a .stripe) (a .count)) []
     (λ e. c .before .before .if1 .taken (e ∙ sym (c .before .before .before .state-len .ensures))) (inRange p)
-    (land-short p d m (a .drive) (a .stripe) (a .count))
+    (land-short p (a .offline .now) d m (a .drive) (a .stripe) (a .count))
 
 decode-requires : tie.Need-decode-requires
 decode-requires c κs = c .before .if1 .left ∙ c .before .before .state-len .ensures
@@ -80,17 +80,19 @@ returns-2 c =
     c .before .before .before .before .before .before .before .before .before .before .before .before .before .before .before .before .before .before .before .before .before .state-len in
     let a =
     at
-    .before .before .before .before .before .before .before .before .before .before .before .args in
+    .before .before .before .before .before .before .before .before .before .before .before .before .args in
     let p : Params = mkParams (a .n) (a .b) (a .z) (a .s) (a .g) (a .l) in
-    let l : Lent = lending (a .image .now) (a .pointers .now) (a .addresses .now) (a .compact .now) (a .inflight .now) (a .state .now) in
-    let w = land′ .last in
+    let l : Lent = lending (a .offline .now) (a .image .now) (a .pointers .now) (a .addresses .now) (a .compact .now) (a .inflight .now) (a .state .now) in
+    let w = land′ .last .1 in
     let call = land (a .drive) (a .stripe) (a .count) in
     let r = land′ .result in
-    let e : afterChange (stateOf (a .state .now)) r (w .1 .0) (w .1 .1 .0) (w .1 .1 .1 .0) (w .1 .1 .1 .1 .0) (a .inflight .now) [] ≡ callDisk p (lentDisk l) (lentMemory l) call =
+    let e : afterChange (stateOf (a .state .now)) r (w .1 .0) (w .1 .1 .0) (w .1 .1 .1 .0) (w .1 .1 .1 .1 .0) (a .inflight .now) []
+    ≡ callDisk p (a .offline .now) (lentDisk l) (lentMemory l) call =
     subst (λ (x : State). afterChange x r (w .1 .0) (w .1 .1 .0) (w .1 .1 .1 .0) (w .1 .1 .1 .1 .0) (a .inflight .now) []
-    ≡ callDisk p (lentDisk l) (mkMemory x (a .addresses .now) (a .compact .now) (a .inflight .now)) call)
+    ≡ callDisk p (a .offline .now) (lentDisk l) (mkMemory x (a .addresses .now) (a .compact .now) (a .inflight .now)) call)
     (decode .ensures) (land′ .ensures) in
-    hears-change p l call [] (if1 .left ∙ state-len .ensures) (land-keeps p (lentDisk l) (lentMemory l) (a .drive) (a .stripe) (a .count)) r (w .1 .0) (w .1 .1 .0) (w .1 .1 .1 .0) (w .1 .1 .1 .1 .0)
+    hears-change p l call [] (if1 .left ∙ state-len .ensures) (land-keeps p (a .offline .now) (lentDisk l) (lentMemory l) (a .drive) (a .stripe) (a .count))
+    r (w .1 .0) (w .1 .1 .0) (w .1 .1 .1 .0) (w .1 .1 .1 .1 .0)
     (a .inflight .now) (apply .last .0) [] (apply .result) e (apply .ensures .0) (apply .ensures .1)
 
 pub sorgizhed-land-spec : {M : Type 1} → statement M

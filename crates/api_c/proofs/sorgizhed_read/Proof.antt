@@ -27,13 +27,14 @@ short-of-requires c κs = search needs
 
 returns : tie.Need-returns
 returns c =
-    let a = c .before .before .before .before .before .before .before .before .before .before .args in
+    let a = c .before .before .before .before .before .before .before .before .before .before .before .args in
     let p : Params = mkParams (a .n) (a .b) (a .z) (a .s) (a .g) (a .l) in
-    let l : Lent = lending (a .image .now) (a .pointers .now) (a .addresses .now) (a .compact .now) (a .inflight .now) (a .state .now) in
+    let l : Lent = lending (a .offline .now) (a .image .now) (a .pointers .now) (a .addresses .now) (a .compact .now) (a .inflight .now) (a .state .now) in
     let d = lentDisk l in
     let m = lentMemory l in
     ap (λ (x : Told). hears x l []) (c .short-of .ensures ∙ ap (λ (x : Bool). toldOf (shortAnswer x)) (c .before .in-range .ensures))
-    ∙ hears-short p l (read (a .address)) [] (λ e. c .before .before .if1 .taken (e ∙ sym (c .before .before .before .state-len .ensures))) (inRange p) (read-short p d m (a .address))
+    ∙ hears-short p l (read (a .address)) [] (λ e. c .before .before .if1 .taken (e ∙ sym (c .before .before .before .state-len .ensures))) (inRange p)
+    (read-short p (a .offline .now) d m (a .address))
 
 find-requires : tie.Need-find-requires
 find-requires c κs = c .if1 .left ∙ c .before .state-len .ensures
@@ -46,13 +47,13 @@ unfolding lentDisk lentMemory
 returns-2 c =
     let found = c .before in
     let test = found .before in
-    let s = test .before .before .before .before .before .before .before .before in
+    let s = test .before .before .before .before .before .before .before .before .before in
     let a = s .args in
     let p : Params = mkParams (a .n) (a .b) (a .z) (a .s) (a .g) (a .l) in
-    let l : Lent = lending (a .image .now) (a .pointers .now) (a .addresses .now) (a .compact .now) (a .inflight .now) (a .state .now) in
+    let l : Lent = lending (a .offline .now) (a .image .now) (a .pointers .now) (a .addresses .now) (a .compact .now) (a .inflight .now) (a .state .now) in
     let long = test .if1 .left ∙ test .before .state-len .ensures in
-    hears-read p l (read (a .address)) [] long (read-keeps p (lentDisk l) (lentMemory l) (a .address))
-    (stateBytes-stateOf (a .state .now) long (λ k h. omega (arith, test .before .before .shared-slice-known6 .given k)))
+    hears-read p l (read (a .address)) [] long (read-keeps p (a .offline .now) (lentDisk l) (lentMemory l) (a .address))
+    (stateBytes-stateOf (a .state .now) long (λ k h. omega (arith, test .before .before .shared-slice-known7 .given k)))
     (found .find .result) [] (c .told-of .result) (found .find .ensures) (c .told-of .ensures)
 
 pub sorgizhed-read-spec : {M : Type 1} → statement M

@@ -29,13 +29,14 @@ short-of-requires c κs = search needs
 
 returns : tie.Need-returns
 returns c =
-    let a = c .before .before .before .before .before .before .before .before .before .before .args in
+    let a = c .before .before .before .before .before .before .before .before .before .before .before .args in
     let p : Params = mkParams (a .n) (a .b) (a .z) (a .s) (a .g) (a .l) in
-    let l : Lent = lending (a .image .now) (a .pointers .now) (a .addresses .now) (a .compact .now) (a .inflight .now) (a .state .now) in
+    let l : Lent = lending (a .offline .now) (a .image .now) (a .pointers .now) (a .addresses .now) (a .compact .now) (a .inflight .now) (a .state .now) in
     let d = lentDisk l in
     let m = lentMemory l in
     ap (λ (x : Told). hears x l []) (c .short-of .ensures ∙ ap (λ (x : Bool). toldOf (shortAnswer x)) (c .before .in-range .ensures))
-    ∙ hears-short p l (reclaim (a .count)) [] (λ e. c .before .before .if1 .taken (e ∙ sym (c .before .before .before .state-len .ensures))) (inRange p) (reclaim-short p d m (a .count))
+    ∙ hears-short p l (reclaim (a .count)) [] (λ e. c .before .before .if1 .taken (e ∙ sym (c .before .before .before .state-len .ensures))) (inRange p)
+    (reclaim-short p (a .offline .now) d m (a .count))
 
 decode-requires : tie.Need-decode-requires
 decode-requires c κs = c .before .if1 .left ∙ c .before .before .state-len .ensures
@@ -81,22 +82,22 @@ returns-2 c =
     c .before .before .before .before .before .before .before .before .before .before .before .before .before .before .before .before .before .before .before .before .before .before .before .if1 in
     let a =
     at
-    .before .before .before .before .before .before .before .before .before .before .before .before .before .before .args in
+    .before .before .before .before .before .before .before .before .before .before .before .before .before .before .before .args in
     let state-len =
     at
     .before .before .before .before .before .before .before .state-len in
     let p : Params = mkParams (a .n) (a .b) (a .z) (a .s) (a .g) (a .l) in
-    let l : Lent = lending (a .image .now) (a .pointers .now) (a .addresses .now) (a .compact .now) (a .inflight .now) (a .state .now) in
-    let w = reclaim′ .last in
+    let l : Lent = lending (a .offline .now) (a .image .now) (a .pointers .now) (a .addresses .now) (a .compact .now) (a .inflight .now) (a .state .now) in
+    let w = reclaim′ .last .1 in
     let e : afterChange (stateOf (a .state .now)) (reclaim′ .result) (w .1 .0) (w .1 .1 .0) (w .1 .1 .1 .0) (w .1 .1 .1 .1 .0) (w .1 .1 .1 .1 .1 .0)
     []
-    ≡ callDisk p (lentDisk l) (lentMemory l) (reclaim (a .count)) =
+    ≡ callDisk p (a .offline .now) (lentDisk l) (lentMemory l) (reclaim (a .count)) =
     ap (λ (x : State). afterChange x (reclaim′ .result) (w .1 .0) (w .1 .1 .0) (w .1 .1 .1 .0) (w .1 .1 .1 .1 .0) (w .1 .1 .1 .1 .1 .0) [])
     (sym (decode .ensures))
     ∙ reclaim′ .ensures
-    ∙ ap (λ (x : State). callDisk p (lentDisk l) (mkMemory x (a .addresses .now) (a .compact .now) (a .inflight .now)) (reclaim (a .count)))
+    ∙ ap (λ (x : State). callDisk p (a .offline .now) (lentDisk l) (mkMemory x (a .addresses .now) (a .compact .now) (a .inflight .now)) (reclaim (a .count)))
     (decode .ensures) in
-    hears-change p l (reclaim (a .count)) [] (if1 .left ∙ state-len .ensures) (reclaim-keeps p (lentDisk l) (lentMemory l) (a .count))
+    hears-change p l (reclaim (a .count)) [] (if1 .left ∙ state-len .ensures) (reclaim-keeps p (a .offline .now) (lentDisk l) (lentMemory l) (a .count))
     (reclaim′ .result) (w .1 .0) (w .1 .1 .0) (w .1 .1 .1 .0) (w .1 .1 .1 .1 .0) (w .1 .1 .1 .1 .1 .0) (apply .last .0) [] (apply .result) e (apply .ensures .0) (apply .ensures .1)
 
 pub sorgizhed-reclaim-spec : {M : Type 1} → statement M

@@ -28,15 +28,15 @@ short-of-requires c κs = search needs
 
 returns : tie.Need-returns
 returns c =
-    let a = c .before .before .before .before .before .before .before .before .before .before .before .args in
+    let a = c .before .before .before .before .before .before .before .before .before .before .before .before .args in
     let p : Params = mkParams (a .n) (a .b) (a .z) (a .s) (a .g) (a .l) in
-    let l : Lent = lending (a .image .now) (a .pointers .now) (a .addresses .now) (a .compact .now) (a .inflight .now) (a .state .now) in
+    let l : Lent = lending (a .offline .now) (a .image .now) (a .pointers .now) (a .addresses .now) (a .compact .now) (a .inflight .now) (a .state .now) in
     let d = lentDisk l in
     let m = lentMemory l in
     ap (λ (x : Told). hears x l (a .block .now)) (c .short-of .ensures ∙ ap (λ (x : Bool). toldOf (shortAnswer x)) (c .before .in-range .ensures))
     ∙ hears-short p l (write (a .address) (a .block .now) (a .count)) (a .block .now)
     (λ e. c .before .before .if1 .taken (e ∙ sym (c .before .before .before .state-len .ensures))) (inRange p)
-    (write-short p d m (a .address) (a .block .now) (a .count))
+    (write-short p (a .offline .now) d m (a .address) (a .block .now) (a .count))
 
 decode-requires : tie.Need-decode-requires
 decode-requires c κs = c .before .if1 .left ∙ c .before .before .state-len .ensures
@@ -83,7 +83,7 @@ returns-2 c =
     in
     let a =
     at
-    .before .before .before .before .before .before .before .before .before .before .before .before .before .before .before .args in
+    .before .before .before .before .before .before .before .before .before .before .before .before .before .before .before .before .args in
     let if1 =
     if1′
     in
@@ -91,18 +91,18 @@ returns-2 c =
     at
     .before .before .before .before .before .before .before .state-len in
     let p : Params = mkParams (a .n) (a .b) (a .z) (a .s) (a .g) (a .l) in
-    let l : Lent = lending (a .image .now) (a .pointers .now) (a .addresses .now) (a .compact .now) (a .inflight .now) (a .state .now) in
-    let w = write′ .last in
+    let l : Lent = lending (a .offline .now) (a .image .now) (a .pointers .now) (a .addresses .now) (a .compact .now) (a .inflight .now) (a .state .now) in
+    let w = write′ .last .1 in
     let e : afterChange (stateOf (a .state .now)) (write′ .result) (w .1 .0) (w .1 .1 .0) (w .1 .1 .1 .0) (w .1 .1 .1 .1 .0) (w .1 .1 .1 .1 .1 .0)
     (a .block .now)
-    ≡ callDisk p (lentDisk l) (lentMemory l) (write (a .address) (a .block .now) (a .count)) =
+    ≡ callDisk p (a .offline .now) (lentDisk l) (lentMemory l) (write (a .address) (a .block .now) (a .count)) =
     ap (λ (x : State). afterChange x (write′ .result) (w .1 .0) (w .1 .1 .0) (w .1 .1 .1 .0) (w .1 .1 .1 .1 .0) (w .1 .1 .1 .1 .1 .0) (a .block .now))
     (sym (decode .ensures))
     ∙ write′ .ensures
-    ∙ ap (λ (x : State). callDisk p (lentDisk l) (mkMemory x (a .addresses .now) (a .compact .now) (a .inflight .now))
+    ∙ ap (λ (x : State). callDisk p (a .offline .now) (lentDisk l) (mkMemory x (a .addresses .now) (a .compact .now) (a .inflight .now))
     (write (a .address) (a .block .now) (a .count))) (decode .ensures) in
     hears-change p l (write (a .address) (a .block .now) (a .count)) (a .block .now) (if1 .left ∙ state-len .ensures)
-    (write-keeps p (lentDisk l) (lentMemory l) (a .address) (a .block .now) (a .count))
+    (write-keeps p (a .offline .now) (lentDisk l) (lentMemory l) (a .address) (a .block .now) (a .count))
     (write′ .result) (w .1 .0) (w .1 .1 .0) (w .1 .1 .1 .0) (w .1 .1 .1 .1 .0) (w .1 .1 .1 .1 .1 .0) (apply .last .0) (a .block .now) (apply .result) e (apply .ensures .0) (apply .ensures .1)
 
 pub sorgizhed-write-spec : {M : Type 1} → statement M

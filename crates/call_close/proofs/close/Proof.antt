@@ -35,10 +35,10 @@ memory c = mkMemory (c .args .state) (c .args .addresses .now) (c .args .compact
 -- the eighth is the state's
 slot-of :
     (c : tie.After-filling-slot)
-    → c .filling-slot .result ≡ fillingSlot (c .before .before .before .before .before .before .before .before .args .p)
-    (c .before .before .before .before .before .before .before .before .args .state)
+    → c .filling-slot .result ≡ fillingSlot (c .before .before .before .before .before .before .before .before .before .args .p)
+    (c .before .before .before .before .before .before .before .before .before .args .state)
 slot-of c =
-    let args = c .before .before .before .before .before .before .before .before .args in
+    let args = c .before .before .before .before .before .before .before .before .before .args in
     c .filling-slot .ensures ∙ front-filling (args .p) (args .state) (c .before .front-of .result) (c .before .front-of .ensures)
 
 front-of-requires : tie.Need-front-of-requires
@@ -49,21 +49,22 @@ filling-slot-requires c κs = search needs
 
 checks-requires : tie.Need-checks-requires
 checks-requires c κs =
-    let s = c .before .before .before .before .before .before .before .before .before in
+    let s = c .before .before .before .before .before .before .before .before .before .before in
     let e = s .pre .0 in
     (slot-of (c .before) ∙ ap (fillingSlot (s .args .p)) e, ap (λ (x : State). x .missing) e, s .pre .1)
 
 -- the refusal is that of the state
 abbrev start : tie.After-checks → tie.Start
 start c =
-    let at = c .before .before .before .before .before .before .before .before .before .before in
+    let at = c .before .before .before .before .before .before .before .before .before .before .before in
     at
 
-checked-is : (c : tie.After-checks) → checked (c .checks .result) ≡ closeRefusal (start c .args .p) (disk (start c)) (memory (start c))
+checked-is : (c : tie.After-checks) → checked (c .checks .result) ≡ closeRefusal (start c .args .p) (start c .args .offline .now) (disk (start c)) (memory (start c))
 checked-is c =
     let s = start c in
     let a = s .args in
-    subst (λ (x : State). checked (c .checks .result) ≡ closeRefusal (a .p) (disk s) (mkMemory x (a .addresses .now) (a .compact .now) (a .inflight .now))) (sym (s .pre .0)) (c .checks .ensures)
+    subst (λ (x : State). checked (c .checks .result) ≡ closeRefusal (a .p) (a .offline .now) (disk s) (mkMemory x (a .addresses .now) (a .compact .now) (a .inflight .now)))
+    (sym (s .pre .0)) (c .checks .ensures)
 
 enum-known-c : tie.Need-enum-known-c
 enum-known-c c = search needs
@@ -76,53 +77,55 @@ same-length c = search needs
 
 returns : tie.Need-returns
 returns c =
-    let s = c .before .before .before .before .before .before .before .before .before .before .before .before .before .before in
+    let s = c .before .before .before .before .before .before .before .before .before .before .before .before .before .before .before in
     let at = c .before .before .before .before in
     let q = c .before .before .c .given in
-    λ n. close-refused (s .args .p) (disk s) (memory s) (c .kept .result) (sym (checked-is (at)) ∙ ap checked (q .1) ∙ ap (λ (x : Change). some (x .answer)) (sym (c .kept .ensures))) n
+    λ n. close-refused (s .args .p) (s .args .offline .now) (disk s) (memory s) (c .kept .result)
+    (sym (checked-is (at)) ∙ ap checked (q .1) ∙ ap (λ (x : Change). some (x .answer)) (sym (c .kept .ensures))) n
 
 enum-told : tie.Need-enum-told
 enum-told c = search needs
 
 -- no check holds
-passed : (c : tie.After-enum-told) → closeRefusal (start (c .before .before) .args .p) (disk (start (c .before .before))) (memory (start (c .before .before))) ≡ none
+passed : (c : tie.After-enum-told)
+    → closeRefusal (start (c .before .before) .args .p) (start (c .before .before) .args .offline .now) (disk (start (c .before .before))) (memory (start (c .before .before))) ≡ none
 passed c =
     let at = c .before .before in
     sym (checked-is (at)) ∙ ap checked (c .enum-told .given .1)
 
 row-at-requires : tie.Need-row-at-requires
 row-at-requires c κs =
-    let s = c .before .before .before .before .before .before .before .before .before .before .before .before in
+    let s = c .before .before .before .before .before .before .before .before .before .before .before .before .before in
     let at = c .before .before .before .before in
-    (s .pre .1, slot-low (s .args .p) (s .args .state) (at .filling-slot .result) (slot-of (at)) (close-ready (s .args .p) (disk s) (memory s) (passed c) .filling))
+    (s .pre .1, slot-low (s .args .p) (s .args .state) (at .filling-slot .result) (slot-of (at)) (close-ready (s .args .p) (s .args .offline .now) (disk s) (memory s) (passed c) .filling))
 
 -- the row is the state's
 row-is : (c : tie.After-row-at) → c .row-at .result ≡ slotRow (start (c .before .before .before) .args .state) (c .before .before .before .before .before .filling-slot .result)
 row-is c =
-    let s = c .before .before .before .before .before .before .before .before .before .before .before .before .before in
+    let s = c .before .before .before .before .before .before .before .before .before .before .before .before .before .before in
     let i = c .before .before .before .before .before .filling-slot .result in
     c .row-at .ensures ∙ ap (λ (x : State). slotRow x i) (sym (s .pre .0))
 
 pad-all-requires : tie.Need-pad-all-requires
 pad-all-requires c κs =
-    let s = c .before .before .before .before .before .before .before .before .before .before .before .before .before .before in
+    let s = c .before .before .before .before .before .before .before .before .before .before .before .before .before .before .before in
     let at = c .before .before .before .before .before .before in
-    let r = close-ready (s .args .p) (disk s) (memory s) (passed (c .before .before)) in
+    let r = close-ready (s .args .p) (s .args .offline .now) (disk s) (memory s) (passed (c .before .before)) in
     let i = at .filling-slot .result in
     let e : c .before .row-at .result .filled ≡ filledIn (s .args .state) i = ap (λ (x : Row). x .filled) (row-is (c .before)) ∙ row-filled (s .args .state) i in (
       r .ranged,
       (slot-low (s .args .p) (s .args .state) i (slot-of (at)) (r .filling), omega (arith, e, slot-open (s .args .p) (s .args .state) i (slot-of (at)) (r .filling)), r .inflight-long),
     )
 
-cast-t21 : tie.Need-cast-t21
-cast-t21 c = search needs
+cast-t22 : tie.Need-cast-t22
+cast-t22 c = search needs
 
 same-length-2 : tie.Need-same-length-2
 same-length-2 c = search needs
 
 returns-2 : tie.Need-returns-2
 returns-2 c =
-    let s = c .before .before .before .before .before .before .before .before .before .before .before .before .before .before .before .before .before .before .before .before in
+    let s = c .before .before .before .before .before .before .before .before .before .before .before .before .before .before .before .before .before .before .before .before .before in
     let q = c .before .before .before .before .before .pad-all in
     let at-7 = c .before .before .before .before .before .before .before in
     let at-8 = c .before .before .before .before .before .before .before .before in
@@ -130,10 +133,11 @@ returns-2 c =
     let f = c .before .before .before .before .before .before .before .before .before .before .before .before .before .front-of in
     let a = s .args in
     let none! = passed (at-8) in
-    let r = close-ready (a .p) (disk s) (memory s) none! in
+    let r = close-ready (a .p) (a .offline .now) (disk s) (memory s) none! in
     let at = fillingSlot (a .p) (a .state) in
     let few : dataCount (a .p) ≤ 8 = omega (arith, data-count-high (a .p) (ranged (a .p) (r .ranged))) in
-    λ n. close-done (a .p) (disk s) (memory s) none! (sized s) (slot-low (a .p) (a .state) at refl (r .filling)) few (slot-open (a .p) (a .state) at refl (r .filling)) (f .result) (f .ensures)
+    λ n. close-done (a .p) (a .offline .now) (disk s) (memory s) none! (sized s) (slot-low (a .p) (a .state) at refl (r .filling)) few (slot-open (a .p) (a .state) at refl (r .filling))
+    (f .result) (f .ensures)
     (at-12 .filling-slot .result) (slot-of (at-12)) (at-7 .row-at .result) (row-is (at-7)) (q .result) (q .last .1 .0) (q .ensures .0) (q .ensures .1) n
 
 pub close-spec : {M : Type 1} → statement M
@@ -150,6 +154,6 @@ close-spec =
     enum-told
     row-at-requires
     pad-all-requires
-    cast-t21
+    cast-t22
     same-length-2
     returns-2)

@@ -38,13 +38,13 @@ memory c = mkMemory (state c) (c .args .addresses .now) (c .args .compact .now) 
 
 open-requires : tie.Need-open-requires
 open-requires c κs =
-    let s = c .before .before .before .before .before .before .before .before .before in
+    let s = c .before .before .before .before .before .before .before .before .before .before in
     let a = s .args in
     let r = s .pre .0 in
     let aimed = s .pre .1 .1 in (
       r .in-range,
       (
-        r .whole,
+        (r .whole, r .offline-long),
         (
           ap (λ (x : Aim). x .opens) (aimed ∙ sym (front-aim (a .p) (state s) (a .f) (s .pre .1 .0))),
           (
@@ -62,17 +62,17 @@ after c = mkDisk (c .«open» .last .1 .0) (c .«open» .last .1 .1 .0)
 
 abbrev start : (c : tie.After-open) → tie.Start
 start c =
-    let at = c .before .before .before .before .before .before .before .before .before .before in
+    let at = c .before .before .before .before .before .before .before .before .before .before .before in
     at
 
 -- and the opening is one of the state
-opened : (c : tie.After-open) → OpeningStores (start c .args .p) (state (start c)) (start c .args .count) (disk (start c)) (c .«open» .result) (after c)
+opened : (c : tie.After-open) → OpeningStores (start c .args .p) (start c .args .offline .now) (state (start c)) (start c .args .count) (disk (start c)) (c .«open» .result) (after c)
 opened c =
     let s = start c in
     let a = s .args in
     let o = c .«open» in
-    opening-front (a .p) (state s) (a .count) (disk s) (o .result) (after c)
-    (subst (λ (x : Front). OpeningStores (a .p) (behind x) (a .count) (disk s) (o .result) (after c)) (s .pre .1 .0) (o .ensures))
+    opening-front (a .p) (a .offline .now) (state s) (a .count) (disk s) (o .result) (after c)
+    (subst (λ (x : Front). OpeningStores (a .p) (a .offline .now) (behind x) (a .count) (disk s) (o .result) (after c)) (s .pre .1 .0) (o .ensures))
 
 cut-requires : tie.Need-cut-requires
 cut-requires c κs = search needs
@@ -91,32 +91,33 @@ same-length-4 c = search needs
 
 returns : tie.Need-returns
 returns c =
-    let s = c .before .before .before .before .before .before .before .before .before .before .before .before .before .before .before .before .before .before .before .before .before .before in
+    let far = c .before .before .before .before .before .before .before .before .before .before .before .before in
+    let s = far .before .before .before .before .before .before .before .before .before .before .before in
     let u = c .before .before .before .before .cut in
     let if1 = c .before .before .before .before .before .before .before .if1 in
     let at = c .before .before .before .before .before .before .before .before .before .before .before .before in
     let a = s .args in
-    copy-cut (a .p) (disk s) (memory s) (a .address .0) (a .stamp .0) (a .block .now) (a .count) (s .pre .0) (at .«open» .result) (after at) (opened at) (if1 .taken) (u .result) (u .last .0)
-    (u .last .1 .0) (ap (λ (x : Change). x .answer) (u .ensures .0)) (u .ensures .1 .0) (u .ensures .1 .1)
+    copy-cut (a .p) (a .offline .now) (disk s) (memory s) (a .address .0) (a .stamp .0) (a .block .now) (a .count) (s .pre .0) (at .«open» .result) (after at)
+    (opened at) (if1 .taken) (u .result) (u .last .0) (u .last .1 .0) (ap (λ (x : Change). x .answer) (u .ensures .0)) (u .ensures .1 .0) (u .ensures .1 .1)
 
 row-at-requires : tie.Need-row-at-requires
 row-at-requires c κs =
-    let s = c .before .before .before .before .before .before .before .before .before .before .before .before .before .before .before in
+    let s = c .before .before .before .before .before .before .before .before .before .before .before .before .before .before .before .before in
     (s .pre .1 .2, subst (λ (x : Aim). x .slot < 8) (sym (s .pre .1 .1)) (slot-lt (s .args .p) (state s) (s .pre .0 .waits)))
 
 send-requires : tie.Need-send-requires
 send-requires c κs =
-    let s = c .before .before .before .before .before .before .before .before .before .before .before .before .before .before .before .before .before in
+    let s = c .before .before .before .before .before .before .before .before .before .before .before .before .before .before .before .before .before .before in
     let at = c .before .before .before .before .before .before .before in
     let a = s .args in
     let r = s .pre .0 in
     let row = c .before .row-at in
-    let q = sent-asks (a .p) (disk s) (memory s) (a .address .0) (a .stamp .0) (a .block .now) (a .count) r (at .«open» .result) (after at) (opened at) (a .f) (s .pre .1 .0) (a .a) (s .pre .1 .1)
-    (row .result) (row .ensures) in
+    let q = sent-asks (a .p) (a .offline .now) (disk s) (memory s) (a .address .0) (a .stamp .0) (a .block .now) (a .count) r (at .«open» .result) (after at)
+    (opened at) (a .f) (s .pre .1 .0) (a .a) (s .pre .1 .1) (row .result) (row .ensures) in
     (r .in-range, (q .0, q .1, q .2, r .inflight-long, s .pre .1 .3))
 
-cast-t31 : tie.Need-cast-t31
-cast-t31 c = search needs
+cast-t32 : tie.Need-cast-t32
+cast-t32 c = search needs
 
 same-length-5 : tie.Need-same-length-5
 same-length-5 c = search needs
@@ -135,10 +136,11 @@ returns-2 c =
     let at = c .before .before .before .before .before .before .before .before .before .before .before .before .before .before in
     let s =
     at
-    .before .before .before .before .before .before .before .before .before .before in
+    .before .before .before .before .before .before .before .before .before .before .before in
     let a = s .args in
-    sent-done (a .p) (disk s) (memory s) (a .address .0) (a .stamp .0) (a .block .now) (a .count) (s .pre .0) (at .«open» .result) (after at) (opened at) (a .f) (s .pre .1 .0) (a .a) (s .pre .1 .1)
-    (row .result) (row .ensures) (sized s) (if1 .left) _ (q .last .1 .0) (λ j. copiedAs (a .f) (a .a) (at .«open» .result) (a .stamp .0) (q .ensures j)) (λ j. q .ensures j .inflight)
+    sent-done (a .p) (a .offline .now) (disk s) (memory s) (a .address .0) (a .stamp .0) (a .block .now) (a .count) (s .pre .0) (at .«open» .result) (after at)
+    (opened at) (a .f) (s .pre .1 .0) (a .a) (s .pre .1 .1) (row .result) (row .ensures) (sized s) (if1 .left) _ (q .last .1 .0)
+    (λ j. copiedAs (a .f) (a .a) (at .«open» .result) (a .stamp .0) (q .ensures j)) (λ j. q .ensures j .inflight)
 
 pub send-copy-spec : {M : Type 1} → statement M
 send-copy-spec =
@@ -153,7 +155,7 @@ send-copy-spec =
     returns
     row-at-requires
     send-requires
-    cast-t31
+    cast-t32
     same-length-5
     same-length-6
     same-length-7

@@ -1,7 +1,7 @@
 -- `end`: the front and the filling stripe's eighth are the state's; then refused, as a closing, or with nothing done. Assumes nothing.
 use Rattle.mem_calls.specs.Left.{checked}
 use Rattle.call_empty.specs.Ends.{empty-refused, empty-as-close, empty-nothing}
-use Rattle.call_empty.specs.Order.{emptyFirst, first-refuses, four-passed, empty-state-fails, empty-state-passes}
+use Rattle.call_empty.specs.Order.{emptyFirst, first-refuses, first-passed, empty-state-fails, empty-state-passes}
 use Rattle.call_close.specs.Ready.{slot-is}
 use Rattle.call_filling.specs.Aims.{front-filling}
 use Rattle.spec.specs.Closing.{emptyChecks}
@@ -33,10 +33,10 @@ checks-requires : tie.Need-checks-requires
 checks-requires c κs = search needs
 
 abbrev start : tie.After-checks → tie.Start
-start c = c .before .before .before .before .before .before .before .before .before
+start c = c .before .before .before .before .before .before .before .before .before .before
 
--- the first refusal among the first four checks
-checked-is : (c : tie.After-checks) → checked (c .checks .result) ≡ emptyFirst (start c .args .p) (disk (start c)) (memory (start c)) (start c .args .address .0) 0
+-- the first refusal among the first six checks
+checked-is : (c : tie.After-checks) → checked (c .checks .result) ≡ emptyFirst (start c .args .p) (start c .args .offline .now) (disk (start c)) (memory (start c)) (start c .args .address .0) 0
 checked-is c = c .checks .ensures (start c .args .state) refl
 
 enum-known-c : tie.Need-enum-known-c
@@ -50,12 +50,12 @@ same-length c = search needs
 
 returns : tie.Need-returns
 returns c =
-    let s = c .before .before .before .before .before .before .before .before .before .before .before .before .before in
+    let s = c .before .before .before .before .before .before .before .before .before .before .before .before .before .before in
     let a = s .args in
     let q = c .before .before .c .given in
     let e = sym (checked-is (c .before .before .before .before)) ∙ ap checked (q .1) ∙ ap (λ (x : Change). some (x .answer)) (sym (c .kept .ensures)) in
-    λ n. empty-refused (a .p) (disk s) (memory s) (a .address .0) n (c .kept .result)
-    (first-refuses 4 (emptyChecks (a .p) (lentOk (a .p) (disk s) (memory s)) (seen (a .p) (disk s)) (memory s) (a .address .0)) (c .kept .result .answer) e)
+    λ n. empty-refused (a .p) (a .offline .now) (disk s) (memory s) (a .address .0) n (c .kept .result)
+    (first-refuses 6 (emptyChecks (a .p) (lentOk (a .p) (a .offline .now) (disk s) (memory s)) (seen (a .p) (a .offline .now) (disk s)) (memory s) (a .address .0)) (c .kept .result .answer) e)
 
 enum-told : tie.Need-enum-told
 enum-told c = search needs
@@ -63,10 +63,10 @@ enum-told c = search needs
 filling-slot-requires : tie.Need-filling-slot-requires
 filling-slot-requires c κs = search needs
 
--- none of the first four refuses
+-- none of the first six refuses
 passed :
     (c : tie.After-enum-told)
-    → emptyFirst (start (c .before .before) .args .p) (disk (start (c .before .before))) (memory (start (c .before .before)))
+    → emptyFirst (start (c .before .before) .args .p) (start (c .before .before) .args .offline .now) (disk (start (c .before .before))) (memory (start (c .before .before)))
     (start (c .before .before) .args .address .0) 0 ≡ none
 passed c = sym (checked-is (c .before .before)) ∙ ap checked (c .enum-told .given .1)
 
@@ -85,18 +85,18 @@ same-length-2 c = search needs
 
 returns-2 : tie.Need-returns-2
 returns-2 c =
-    let s = c .before .before .before .before .before .before .before .before .before .before .before .before .before .before .before .before .before in
+    let s = c .before .before .before .before .before .before .before .before .before .before .before .before .before .before .before .before .before .before in
     let a = s .args in
     let at = c .before .before .before .before .before in
     let i = at .filling-slot .result in
     let h : hasFilling (a .p) (a .state) ≡ true = sym (slot-is (a .p) (a .state) i (slot-of at)) ∙ lt-ltb i 8 (c .before .before .before .before .if1 .taken) in
-    let low = four-passed (a .p) (disk s) (memory s) (a .address .0) (passed (c .before .before .before .before .before .before)) .1 in
-    λ n. c .before .before .close .ensures n ∙ empty-as-close (a .p) (disk s) (memory s) (a .address .0) n h low
+    let low = first-passed (a .p) (a .offline .now) (disk s) (memory s) (a .address .0) (passed (c .before .before .before .before .before .before)) .1 in
+    λ n. c .before .before .close .ensures n ∙ empty-as-close (a .p) (a .offline .now) (disk s) (memory s) (a .address .0) n h low
 
 state-ok-requires : tie.Need-state-ok-requires
 state-ok-requires c κs =
-    let s = c .before .before .before .before .before .before .before .before .before .before .before .before .before in
-    (four-passed (s .args .p) (disk s) (memory s) (s .args .address .0) (passed (c .before .before)) .0, s .pre .1)
+    let s = c .before .before .before .before .before .before .before .before .before .before .before .before .before .before in
+    (first-passed (s .args .p) (s .args .offline .now) (disk s) (memory s) (s .args .address .0) (passed (c .before .before)) .0, s .pre .1)
 
 -- no stripe is filling
 idle-is : (c : tie.Else1) → hasFilling (start (c .before .before .before .before) .args .p) (start (c .before .before .before .before) .args .state) ≡ false
@@ -119,12 +119,12 @@ same-length-3 c = search needs
 
 returns-3 : tie.Need-returns-3
 returns-3 c =
-    let s = c .before .before .before .before .before .before .before .before .before .before .before .before .before .before .before .before in
+    let s = c .before .before .before .before .before .before .before .before .before .before .before .before .before .before .before .before .before in
     let a = s .args in
     let at = c .before .before in
     let bad : stateOk (a .p) (a .state) ≡ false = sym (state-is at) ∙ not-true (at .state-ok .result) (c .before .if2 .taken) in
-    let e = sym (empty-state-fails (a .p) (disk s) (memory s) (a .address .0) (passed (c .before .before .before .before .before)) (idle-is (c .before .before .before)) bad) in
-    λ n. empty-refused (a .p) (disk s) (memory s) (a .address .0) n (c .kept2 .result) (e ∙ ap (λ (x : Change). some (x .answer)) (sym (c .kept2 .ensures)))
+    let e = sym (empty-state-fails (a .p) (a .offline .now) (disk s) (memory s) (a .address .0) (passed (c .before .before .before .before .before)) (idle-is (c .before .before .before)) bad) in
+    λ n. empty-refused (a .p) (a .offline .now) (disk s) (memory s) (a .address .0) n (c .kept2 .result) (e ∙ ap (λ (x : Change). some (x .answer)) (sym (c .kept2 .ensures)))
 
 nothing-requires : tie.Need-nothing-requires
 nothing-requires c κs = search needs
@@ -134,14 +134,14 @@ same-length-4 c = search needs
 
 returns-4 : tie.Need-returns-4
 returns-4 c =
-    let s = c .before .before .before .before .before .before .before .before .before .before .before .before .before .before .before .before in
+    let s = c .before .before .before .before .before .before .before .before .before .before .before .before .before .before .before .before .before in
     let a = s .args in
     let at = c .before .before in
     let good : stateOk (a .p) (a .state) ≡ true = sym (state-is at) ∙ not-false (at .state-ok .result) (c .before .if2 .left) in
     let idle = idle-is (c .before .before .before) in
-    let e = sym (empty-state-passes (a .p) (disk s) (memory s) (a .address .0) (passed (c .before .before .before .before .before)) idle good) in
+    let e = sym (empty-state-passes (a .p) (a .offline .now) (disk s) (memory s) (a .address .0) (passed (c .before .before .before .before .before)) idle good) in
     let f = c .before .before .before .before .before .before .before .before .before .front-of in
-    λ n. empty-nothing (a .p) (disk s) (memory s) (a .address .0) n e idle (c .nothing .result) (c .nothing .ensures ∙ ap (keptAs Nothing) (f .ensures))
+    λ n. empty-nothing (a .p) (a .offline .now) (disk s) (memory s) (a .address .0) n e idle (c .nothing .result) (c .nothing .ensures ∙ ap (keptAs Nothing) (f .ensures))
 
 pub end-spec : {M : Type 1} → statement M
 end-spec =

@@ -26,16 +26,17 @@ same-length-5 c = search needs
 
 returns : tie.Need-returns
 returns c =
-    let a = c .before .before .before .before .before .before .before .before .before .before .before .before .before .before .before .before .args in
+    let a = c .before .before .before .before .before .before .before .before .before .before .before .before .before .before .before .before .before .args in
     let q = c .before .before .end in
     let k : Disk = mkDisk (a .image .now) (a .pointers .now) in
     let m : Memory = mkMemory (a .state) (a .addresses .now) (a .compact .now) (a .inflight .now) in
-    empty-block (a .p) k m (a .address .0) (a .count) (a .block .now) (c .before .before .before .before .before .before .before .before .if1 .taken) (q .result) (q .last .1 .1 .1 .1 .1 .0)
+    empty-block (a .p) (a .offline .now) k m (a .address .0) (a .count) (a .block .now) (c .before .before .before .before .before .before .before .before .if1 .taken)
+    (q .result) (q .last .1 .1 .1 .1 .1 .1 .0)
     (q .ensures (a .count))
 
 write-requires : tie.Need-write-requires
 write-requires c κs =
-    let s = c .before .before .before .before .before .before .before .before .before .before .before .before .before in
+    let s = c .before .before .before .before .before .before .before .before .before .before .before .before .before .before in
     (s .pre .0, s .pre .1, some-bytes (s .args .block .now) (c .before .before .before .before .before .if1 .left))
 
 same-length-6 : tie.Need-same-length-6

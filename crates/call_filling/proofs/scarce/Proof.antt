@@ -12,12 +12,12 @@ add-empty-zones : tie.Need-add-empty-zones
 add-empty-zones c = search needs
 
 empty-zones-requires : tie.Need-empty-zones-requires
-empty-zones-requires c κs = (c .before .pre .0, c .before .pre .1 .0)
+empty-zones-requires c κs = search needs
 
 returns : tie.Need-returns
 returns c = λ im h.
-    let a = c .before .before .args in
-    ap (λ (x : ℕ). leb x (a .n)) (c .empty-zones .ensures im h) ∙ scarce-count (a .p) (viewOf (a .p) im (a .pointers .now)) (a .n)
+    let a = c .before .before .before .args in
+    ap (λ (x : ℕ). leb x (a .n)) (c .empty-zones .ensures im h) ∙ scarce-count (a .p) (viewOf (a .p) (a .offline .now) im (a .pointers .now)) (a .n)
 
 pub scarce-spec : {M : Type 1} → statement M
 scarce-spec = tie.close (tie.spec add-empty-zones empty-zones-requires returns)

@@ -11,14 +11,14 @@ use Rattle.call_land.proofs.complete.Tie as tie
 
 point-requires : tie.Need-point-requires
 point-requires c κs =
-    let q = c .before .before .before .before .before .before .before .pre in
+    let q = c .before .before .before .before .before .before .before .before .pre in
     let h = q .1 .1 .1 in
     (q .0, (q .1 .0, (q .1 .1 .0, (h .1 .0, h .0 .0, h .0 .1))))
 
 seal-requires : tie.Need-seal-requires
 seal-requires c κs =
-    let q = c .before .before .before .before .before .before .before .before .before .before .before .before .pre in
-    (q .0, (q .1 .0, q .1 .1 .1 .1))
+    let q = c .before .before .before .before .before .before .before .before .before .before .before .before .before .pre in
+    (q .0, (q .1 .0 .0, q .1 .1 .1 .1))
 
 cut-requires : tie.Need-cut-requires
 cut-requires c κs = search needs
@@ -44,12 +44,13 @@ returns c =
     let point = c .before .before .before .before .before .before .before .before .before .before .before .before .before .before .before .before .before .point in
     let a =
     at
-    .before .before .before .before .before .before .before .before .args in
+    .before .before .before .before .before .before .before .before .before .args in
     let k : Disk = mkDisk (a .image .now) (a .pointers .now) in
     let k′ : Disk = mkDisk (seal .last .1 .0) (seal .last .1 .1 .0) in
     let u = cut .ensures in
-    completing-cut (a .p) (a .count) (a .row) (a .segment) (a .seals) k (a .addresses .now) (a .compact .now) (seal .result) k′ (seal .ensures) (cut .result) (cut .last .0) (cut .last .1 .0)
-    (if1 .taken) (u .0) (u .1 ∙ ap (λ (x : ℕ). replicate x 0) (point .kept .1 .1 .1 .0)) (u .2)
+    completing-cut (a .p) (a .offline .now) (a .count) (a .row) (a .segment) (a .seals) k (a .addresses .now) (a .compact .now) (seal .result) k′ (seal .ensures (a .offline .now))
+    (cut .result) (cut .last .0) (cut .last .1 .0)
+    (if1 .taken) (u .0) (u .1 ∙ ap (λ (x : ℕ). replicate x 0) (point .kept .1 .1 .1 .1 .0)) (u .2)
 
 writes-in-requires : tie.Need-writes-in-requires
 writes-in-requires c κs = search needs
@@ -65,13 +66,13 @@ same-length-7 c = search needs
 
 returns-2 : tie.Need-returns-2
 returns-2 c =
-    let a = c .before .before .before .before .before .before .before .before .before .before .before .before .before .before .before .before .before .before .before .args in
+    let a = c .before .before .before .before .before .before .before .before .before .before .before .before .before .before .before .before .before .before .before .before .args in
     let seal = c .before .before .before .before .before .before .seal in
     let point = c .before .before .before .before .before .before .before .before .before .before .before .point in
     let k : Disk = mkDisk (a .image .now) (a .pointers .now) in
     let k′ : Disk = mkDisk (seal .last .1 .0) (seal .last .1 .1 .0) in
-    completing-done (a .p) (a .count) (a .row) (a .segment) (a .seals) k (a .addresses .now) (a .compact .now) (seal .result) k′ (seal .ensures)
-    (Landed (c .writes-in .result)) (point .last .1 .1 .1 .0) (a .compact .now)
+    completing-done (a .p) (a .offline .now) (a .count) (a .row) (a .segment) (a .seals) k (a .addresses .now) (a .compact .now) (seal .result) k′ (seal .ensures (a .offline .now))
+    (Landed (c .writes-in .result)) (point .last .1 .1 .1 .1 .0) (a .compact .now)
     (c .before .if1 .left) (ap Landed (c .writes-in .ensures)) (point .ensures) refl
 
 pub complete-spec : {M : Type 1} → statement M

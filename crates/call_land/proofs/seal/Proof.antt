@@ -9,7 +9,7 @@ use Rattle.call_land.proofs.seal.Tie as tie
 returns : tie.Need-returns
 returns c =
     let a = c .before .before .before .args in
-    seals-none (a .p) (a .count) (a .segment) (a .seals) (mkDisk (a .image .now) (a .pointers .now)) (not-true (a .seals) (c .if1 .taken))
+    λ off. seals-none (a .p) off (a .count) (a .segment) (a .seals) (mkDisk (a .image .now) (a .pointers .now)) (not-true (a .seals) (c .if1 .taken))
 
 seal-stores-requires : tie.Need-seal-stores-requires
 seal-stores-requires c κs =
@@ -30,7 +30,7 @@ returns-2 c =
     let if1 = c .before .before .before .before .before .before .before .if1 in
     let k : Disk = mkDisk (a .image .now) (a .pointers .now) in
     let k′ : Disk = mkDisk (seal-stores .last .1 .0) (seal-stores .last .1 .1 .0) in
-    seals-some (a .p) (a .count) (a .segment) (a .seals) k (seal-stores .result) k′ (not-false (a .seals) (if1 .left)) (seal-stores .ensures)
+    λ off. seals-some (a .p) off (a .count) (a .segment) (a .seals) k (seal-stores .result) k′ (not-false (a .seals) (if1 .left)) (seal-stores .ensures off)
 
 pub seal-spec : {M : Type 1} → statement M
 seal-spec = tie.close (tie.spec returns seal-stores-requires same-length same-length-2 returns-2)

@@ -18,19 +18,19 @@ cast-n : tie.Need-cast-n
 cast-n c = search needs
 
 returns : tie.Need-returns
-returns c im h =
+returns c off im h =
     let a = c .before .before .before .args in
     let q = c .before .before .before .pre .1 in
-    misplaced-low (a .p) im (a .pointers .now) h (q .0) (a .d) (a .zone) (a .stripe) (q .1) (q .2) (omega (arith, c .if1 .taken, c .before .pointer .ensures))
+    misplaced-low (a .p) off im (a .pointers .now) h (q .0) (a .d) (a .zone) (a .stripe) (q .1) (q .2) (omega (arith, c .if1 .taken, c .before .pointer .ensures))
 
 returns-2 : tie.Need-returns-2
-returns-2 c im h =
+returns-2 c off im h =
     let a = c .before .before .before .before .before .args in
     let if1 = c .before .before .if1 in
     let pointer = c .before .before .before .pointer in
     let pre = c .before .before .before .before .before .pre in
     let q = pre .1 in
-    misplaced-high (a .p) im (a .pointers .now) h (q .0) (a .d) (a .zone) (a .stripe) (q .1) (q .2) (omega (arith, if1 .left, pointer .ensures)) (omega (arith, c .if2 .taken, pointer .ensures))
+    misplaced-high (a .p) off im (a .pointers .now) h (q .0) (a .d) (a .zone) (a .stripe) (q .1) (q .2) (omega (arith, if1 .left, pointer .ensures)) (omega (arith, c .if2 .taken, pointer .ensures))
 
 group-requires : tie.Need-group-requires
 group-requires c κs = search needs
@@ -39,7 +39,7 @@ group-requires-2 : tie.Need-group-requires-2
 group-requires-2 c κs = search needs
 
 returns-3 : tie.Need-returns-3
-returns-3 c im h =
+returns-3 c off im h =
     let a = c .before .before .before .before .before .before .before .args in
     let if2 = c .before .before .if2 in
     let if1 = c .before .before .before .before .if1 in
@@ -51,7 +51,7 @@ returns-3 c im h =
     let x : c .before .group .result ≡ group (a .p) (n - 1) = c .before .group .ensures .0 ∙ ap (λ (k : ℕ). group (a .p) (k - 1)) e in
     let y : c .group2 .result ≡ group (a .p) (a .stripe) = c .group2 .ensures .0 in
     (λ j. not (eqb (x j) (y j)))
-    ∙ misplaced-else (a .p) im (a .pointers .now) h (q .0) (a .d) (a .zone) (a .stripe) (q .1) (q .2) (omega (arith, if1 .left, e)) (omega (arith, if2 .left, e))
+    ∙ misplaced-else (a .p) off im (a .pointers .now) h (q .0) (a .d) (a .zone) (a .stripe) (q .1) (q .2) (omega (arith, if1 .left, e)) (omega (arith, if2 .left, e))
 
 pub misplaced-spec : {M : Type 1} → statement M
 misplaced-spec =

@@ -12,15 +12,15 @@ use Rattle.call_land_table.proofs.point.Tie as tie
 
 serial-at-requires : tie.Need-serial-at-requires
 serial-at-requires c κs =
-    let a = c .before .before .before .args in
-    let q = c .before .before .before .pre in
-    (q .0, (q .1 .0 .image-long, low-here (a .p) (a .segment) 0 (q .1 .1 .1 .0) (omega (arith, ranged (a .p) (q .0) .drives-low))))
+    let a = c .before .before .before .before .args in
+    let q = c .before .before .before .before .pre in
+    (q .0, (q .1 .0 .0 .image-long, low-here (a .p) (a .segment) 0 (q .1 .1 .1 .0) (omega (arith, ranged (a .p) (q .0) .drives-low))))
 
 winners-requires : tie.Need-winners-requires
 winners-requires c κs =
-    let q = c .before .before .before .before .before .pre in
-    let args = c .before .before .before .before .before .args in
-    (q .0, (q .1 .0, (q .1 .1 .0, (q .1 .1 .1, c .before .serial-at .ensures (args .pointers .now) (q .1 .0 .pointers-long)))))
+    let q = c .before .before .before .before .before .before .pre in
+    let args = c .before .before .before .before .before .before .args in
+    (q .0, (q .1 .0, (q .1 .1 .0, (q .1 .1 .1, c .before .serial-at .ensures (args .offline .now) (args .pointers .now) (q .1 .0 .0 .pointers-long)))))
 
 put-places-requires : tie.Need-put-places-requires
 put-places-requires c κs = search needs
@@ -30,10 +30,10 @@ same-length c = search needs
 
 returns : tie.Need-returns
 returns c =
-    let a = c .before .before .before .before .before .before .before .before .before .before .args in
+    let a = c .before .before .before .before .before .before .before .before .before .before .before .args in
     let put-places = c .before .before .put-places in
     let winners = c .before .before .before .before .winners in
-    let v : View = viewOf (a .p) (a .image .now) (a .pointers .now) in
+    let v : View = viewOf (a .p) (a .offline .now) (a .image .now) (a .pointers .now) in
     put-places .ensures ∙ winners-are (a .p) (alone (a .row)) 0 (winners .result) v (a .addresses .now) (a .segment) (winners .ensures)
 
 pub point-spec : {M : Type 1} → statement M

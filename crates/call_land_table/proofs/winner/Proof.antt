@@ -16,26 +16,26 @@ use Rattle.call_land_table.proofs.winner.Statement.{statement}
 use Rattle.call_land_table.proofs.winner.Tie as tie
 
 abbrev Inv-loop : tie.InvT-loop
-Inv-loop p image pointers addresses segment serial row address n b₀ k₀ b k =
+Inv-loop p image pointers offline addresses segment serial row address n b₀ k₀ b k =
     (n ≡ filledIn (alone row) 0) × (k ≤ n)
-    × (best (rankedBest b) (candsOf (address .0) (map (landedCand p (viewOf p image pointers) segment (alone row) 0) (upFrom k (n - k))))
-    ≡ best (held p (viewOf p image pointers) addresses (address .0)) (candsOf (address .0) (landedCands p (viewOf p image pointers) segment (alone row) 0)))
+    × (best (rankedBest b) (candsOf (address .0) (map (landedCand p (viewOf p offline image pointers) segment (alone row) 0) (upFrom k (n - k))))
+    ≡ best (held p (viewOf p offline image pointers) addresses (address .0)) (candsOf (address .0) (landedCands p (viewOf p offline image pointers) segment (alone row) 0)))
 
 abbrev μ-loop : tie.MeasureT-loop
-μ-loop p image pointers addresses segment serial row address n b₀ k₀ b k = n - k
+μ-loop p image pointers offline addresses segment serial row address n b₀ k₀ b k = n - k
 
 filled-in-requires : tie.Need-filled-in-requires Inv-loop μ-loop
 filled-in-requires c κs = tt
 
 held-requires : tie.Need-held-requires Inv-loop μ-loop
 held-requires c κs =
-    let q = c .before .before .before .before .pre in
+    let q = c .before .before .before .before .before .pre in
     (q .0, (q .1 .0, q .1 .1 .0))
 
 loop-holds : tie.Need-loop-holds Inv-loop μ-loop
 loop-holds c =
-    let a = c .before .before .before .before .before .args in
-    let v : View = viewOf (a .p) (a .image .now) (a .pointers .now) in
+    let a = c .before .before .before .before .before .before .args in
+    let v : View = viewOf (a .p) (a .offline .now) (a .image .now) (a .pointers .now) in
     let e = c .before .filled-in .ensures in (
       e,
       omega arith,
@@ -45,7 +45,7 @@ loop-holds c =
 
 compete-requires : tie.Need-compete-requires Inv-loop μ-loop
 compete-requires c κs =
-    let q = c .before .before .before .before .before .before .before .pre in
+    let q = c .before .before .before .before .before .before .before .before .pre in
     (q .0, (q .1 .1 .1 .0 .0, omega (arith, c .loop-test .taken, c .before .before .before .filled-in .ensures, q .1 .1 .1 .0 .1), q .1 .1 .1 .0 .2))
 
 add-k : tie.Need-add-k Inv-loop μ-loop
@@ -56,11 +56,11 @@ loop-less c = omega arith
 
 loop-again : tie.Need-loop-again Inv-loop μ-loop
 loop-again c =
-    let a = c .before .before .before .before .before .before .before .before .args in
+    let a = c .before .before .before .before .before .before .before .before .before .args in
     let l = c .before .before .loop in
     let filled-in = c .before .before .before .before .filled-in in
-    let pre = c .before .before .before .before .before .before .before .before .pre in
-    let v : View = viewOf (a .p) (a .image .now) (a .pointers .now) in
+    let pre = c .before .before .before .before .before .before .before .before .before .pre in
+    let v : View = viewOf (a .p) (a .offline .now) (a .image .now) (a .pointers .now) in
     let n = filled-in .result in (
       l .inv .0,
       omega arith,
@@ -73,10 +73,10 @@ place-or-requires c κs = search needs
 
 returns : tie.Need-returns Inv-loop μ-loop
 returns c =
-    let a = c .before .before .before .before .before .before .before .before .args in
+    let a = c .before .before .before .before .before .before .before .before .before .args in
     let l = c .before .before .loop in
     let filled-in = c .before .before .before .before .filled-in in
-    let v : View = viewOf (a .p) (a .image .now) (a .pointers .now) in
+    let v : View = viewOf (a .p) (a .offline .now) (a .image .now) (a .pointers .now) in
     let n = filled-in .result in
     c .place-or .ensures
     ∙ ap placeOr (sym (rest-last (a .p) v (a .segment) (alone (a .row)) 0 (a .address .0) (rankedBest (l .b)) (l .k) n (omega (arith, c .before .loop-test .left))) ∙ l .inv .2)

@@ -16,13 +16,13 @@ use Rattle.call_land_table.proofs.winners.Statement.{statement}
 use Rattle.call_land_table.proofs.winners.Tie as tie
 
 abbrev Inv-loop : tie.InvT-loop
-Inv-loop p image pointers addresses segment serial row n out₀ k₀ out k =
+Inv-loop p image pointers offline addresses segment serial row n out₀ k₀ out k =
     (n ≡ filledIn (alone row) 0) × (k ≤ n) × (length out ≡ 8)
     × ((h : ℕ) → h < k → entryIn (alone row) 0 h .address < p .L
-    → getD out h 0 ≡ winnerOf p (viewOf p image pointers) addresses (landedCands p (viewOf p image pointers) segment (alone row) 0) (entryIn (alone row) 0 h .address))
+    → getD out h 0 ≡ winnerOf p (viewOf p offline image pointers) addresses (landedCands p (viewOf p offline image pointers) segment (alone row) 0) (entryIn (alone row) 0 h .address))
 
 abbrev μ-loop : tie.MeasureT-loop
-μ-loop p image pointers addresses segment serial row n out₀ k₀ out k = n - k
+μ-loop p image pointers offline addresses segment serial row n out₀ k₀ out k = n - k
 
 filled-in-requires : tie.Need-filled-in-requires Inv-loop μ-loop
 filled-in-requires c κs = tt
@@ -34,7 +34,7 @@ loop-holds c = (c .filled-in .ensures, omega arith, refl, λ h l. absurd (let q 
 low : (c : tie.In-loop Inv-loop μ-loop) → c .before .loop .k < 8
 low c =
     let filled-in = c .before .before .filled-in in
-    let entry = c .before .before .before .before .before .before in
+    let entry = c .before .before .before .before .before .before .before in
     let args = entry .args in
     let pre = entry .pre in
     let p = args .p in
@@ -45,8 +45,8 @@ entry-requires c κs = low c
 
 winner-requires : tie.Need-winner-requires Inv-loop μ-loop
 winner-requires c κs =
-    let a = c .before .before .before .before .before .before .before .before .before .before .args in
-    let q = c .before .before .before .before .before .before .before .before .before .before .pre in
+    let a = c .before .before .before .before .before .before .before .before .before .before .before .args in
+    let q = c .before .before .before .before .before .before .before .before .before .before .before .pre in
     let entry = c .before .before .before .entry in
     let loop-test = c .before .before .before .before .loop-test in
     let loop = c .before .before .before .before .before .loop in
@@ -54,7 +54,8 @@ winner-requires c κs =
     let k = loop .k in
     let e : entry .result .address .0 ≡ entryIn (alone (a .row)) 0 k .address = ap (λ (r : Rec). r .address) (entry .ensures) in
     let s = q .1 .1 .0 .1 k (omega (arith, loop-test .taken, filled-in .ensures)) (omega (arith, c .if1 .taken, e)) in
-    (q .0, (q .1 .0, ((q .1 .1 .0 .0, omega (arith, c .if1 .taken), subst (λ (x : ℕ). Sane (a .p) (placeAt (a .addresses .now) x)) (sym e) s), q .1 .1 .1)))
+    let v : View = viewOf (a .p) (a .offline .now) (a .image .now) (a .pointers .now) in
+    (q .0, (q .1 .0, ((q .1 .1 .0 .0, omega (arith, c .if1 .taken), subst (λ (x : ℕ). Sane (a .p) v (placeAt (a .addresses .now) x)) (sym e) s), q .1 .1 .1)))
 
 mul-out : tie.Need-mul-out Inv-loop μ-loop
 mul-out c =
@@ -74,7 +75,7 @@ loop-less c = omega arith
 
 loop-again : tie.Need-loop-again Inv-loop μ-loop
 loop-again c =
-    let a = c .before .before .before .before .before .before .before .before .before .before .args in
+    let a = c .before .before .before .before .before .before .before .before .before .before .before .args in
     let entry = c .before .before .before .entry in
     let at = c .before .before .before .before in
     let loop-test = c .before .before .before .before .loop-test in
@@ -83,7 +84,7 @@ loop-again c =
     let st = alone (a .row) in
     let i : ℕ = 0 in
     let k = l .k in
-    let v : View = viewOf p (a .image .now) (a .pointers .now) in
+    let v : View = viewOf p (a .offline .now) (a .image .now) (a .pointers .now) in
     let f : ℕ → ℕ = winnerOf p v (a .addresses .now) (landedCands p v (a .segment) st i) in
     let m : k < 8 = low (at) in
     let e : entry .result .address .0 ≡ entryIn st i k .address = ap (λ (r : Rec). r .address) (entry .ensures) in

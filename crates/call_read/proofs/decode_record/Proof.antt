@@ -1,11 +1,12 @@
 -- `decode_record`: the first d entries are address and stamp of the present drives' records; from all of them `disk_code` decodes. Assumes nothing.
 use mathlib.Core.Path.{_≡_, refl, ap, _∙_}
+use mathlib.Core.List.{List}
 use mathlib.Core.Bool.{false}
 use Prim.Native.Nat.{ℕ, _-_, _≤_, _<_}
 use native.Mathlib.Omega.{arith}
 use borrow.Author.Needs.{needs}
 use lib.ListN.{length, getD, length-set}
-use Rattle.spec.specs.Drives.{viewOf, recordAt}
+use Rattle.spec.specs.Drives.{View, viewOf, recordAt}
 use Rattle.spec.specs.Layout.{Rec, mkRec}
 use Rattle.spec.specs.Lists.{isIn}
 use Rattle.law_basic.specs.Each.{set-next}
@@ -20,8 +21,8 @@ Inv-loop p image pointers gone drive segment s at full addresses₀ stamps₀ d�
     (d ≤ p .N)
     × (length addresses ≡ 8)
     × (length stamps ≡ 8)
-    × ((e : ℕ) → e < d → isIn gone e ≡ false → getD addresses e 0 ≡ recordAt p (viewOf p image pointers) gone e segment (getD at e 0) .address)
-    × ((e : ℕ) → e < d → isIn gone e ≡ false → getD stamps e 0 ≡ recordAt p (viewOf p image pointers) gone e segment (getD at e 0) .stamp)
+    × ((e : ℕ) → e < d → isIn gone e ≡ false → (off : List ℕ) → getD addresses e 0 ≡ recordAt p (viewOf p off image pointers) gone e segment (getD at e 0) .address)
+    × ((e : ℕ) → e < d → isIn gone e ≡ false → (off : List ℕ) → getD stamps e 0 ≡ recordAt p (viewOf p off image pointers) gone e segment (getD at e 0) .stamp)
 
 abbrev μ-loop : tie.MeasureT-loop
 μ-loop p image pointers gone drive segment s at full addresses₀ stamps₀ d₀ addresses stamps d = p .N - d
@@ -85,18 +86,18 @@ loop-again c =
     let t = c .before .before .if1 .taken in
     let high = ranged (a .p) (o .pre .0) .drives-high in
     let r = c .record-on .result in
-    let v = viewOf (a .p) (a .image .now) (a .pointers .now) in
-    let at : ℕ → Rec = λ e. recordAt (a .p) v (a .gone) e (a .segment) (getD (a .at .now) e 0) in
-    let same : isIn (a .gone) (l .d) ≡ false → mkRec (r .address .0) (r .stamp .0) (r .stripe) ≡ at (l .d) =
-    λ n. record-as-sealed (a .p) v (a .gone) (l .d) (a .segment) (getD (a .at .now) (l .d) 0) (sealed .result) (sealed .ensures (a .image .now) (w .image-long))
-    _ (c .record-on .ensures (a .pointers .now) (w .pointers-long) n) in (
+    let v : List ℕ → View = λ off. viewOf (a .p) off (a .image .now) (a .pointers .now) in
+    let at : List ℕ → ℕ → Rec = λ off e. recordAt (a .p) (v off) (a .gone) e (a .segment) (getD (a .at .now) e 0) in
+    let same : isIn (a .gone) (l .d) ≡ false → (off : List ℕ) → mkRec (r .address .0) (r .stamp .0) (r .stripe) ≡ at off (l .d) =
+    λ n off. record-as-sealed (a .p) (v off) (a .gone) (l .d) (a .segment) (getD (a .at .now) (l .d) 0) (sealed .result) (sealed .ensures off (a .image .now) (w .image-long))
+    _ (c .record-on .ensures off (a .pointers .now) (w .pointers-long) n) in (
       omega (arith, t),
       length-set (l .addresses) (l .d) (r .address .0) ∙ l .inv .1,
       length-set (l .stamps) (l .d) (r .stamp .0) ∙ l .inv .2,
-      set-next (λ e y. isIn (a .gone) e ≡ false → y ≡ at e .address) (l .addresses) (l .d) (r .address .0) (omega (arith, t, high, l .inv .1)) (l .inv .3)
-          (λ n. ap (λ (x : Rec). x .address) (same n)),
-      set-next (λ e y. isIn (a .gone) e ≡ false → y ≡ at e .stamp) (l .stamps) (l .d) (r .stamp .0) (omega (arith, t, high, l .inv .2)) (l .inv .4)
-          (λ n. ap (λ (x : Rec). x .stamp) (same n)),
+      set-next (λ e y. isIn (a .gone) e ≡ false → (off : List ℕ) → y ≡ at off e .address) (l .addresses) (l .d) (r .address .0) (omega (arith, t, high, l .inv .1)) (l .inv .3)
+          (λ n off. ap (λ (x : Rec). x .address) (same n off)),
+      set-next (λ e y. isIn (a .gone) e ≡ false → (off : List ℕ) → y ≡ at off e .stamp) (l .stamps) (l .d) (r .stamp .0) (omega (arith, t, high, l .inv .2)) (l .inv .4)
+          (λ n off. ap (λ (x : Rec). x .stamp) (same n off)),
     )
 
 slice-aggregate-decode-record : tie.Need-slice-aggregate-decode-record Inv-loop μ-loop
@@ -120,11 +121,11 @@ returns : tie.Need-returns Inv-loop μ-loop
 returns c =
     let a = c .before .before .before .before .before .before .before .before .before .before .args in
     let l = c .before .before .before .before .before .loop in
-    let v = viewOf (a .p) (a .image .now) (a .pointers .now) in
     let e : l .d ≡ a .p .N = omega (arith, c .before .before .before .if1 .left, l .inv .0) in
-    c .decode-record .ensures
+    λ off. c .decode-record .ensures
     ∙ decode-rec-same (a .p) (a .gone) (a .s) (a .drive) (λ k. mkRec (getD (l .addresses) k 0) (getD (l .stamps) k 0) (a .s))
-    (λ k. recordAt (a .p) v (a .gone) k (a .segment) (getD (a .at .now) k 0)) (λ k h n. (l .inv .3 k (omega (arith, h, e)) n, l .inv .4 k (omega (arith, h, e)) n))
+    (λ k. recordAt (a .p) (viewOf (a .p) off (a .image .now) (a .pointers .now)) (a .gone) k (a .segment) (getD (a .at .now) k 0))
+    (λ k h n. (l .inv .3 k (omega (arith, h, e)) n off, l .inv .4 k (omega (arith, h, e)) n off))
 
 pub decode-record-spec : {M : Type 1} → statement M
 decode-record-spec =

@@ -5,7 +5,7 @@ use Rattle.spec.specs.Engine.{callDisk}
 use Rattle.spec.specs.Engine.Call.{fill}
 use Rattle.spec.specs.Lists.Opt.{none}
 use Rattle.spec.specs.Memory.{Memory, mkMemory, stateOf}
-use Rattle.call_read.specs.Decode.{pieceFrom}
+use Rattle.call_read.specs.Decode.{lostBlock}
 use Rattle.call_read.specs.Ends.{fillAnswer, Fills, SoughtBy, fill-left}
 use Rattle.call_read.specs.Order.{foundAt}
 use Rattle.call_read.specs.Placed.{placedAt, found-placed}
@@ -14,6 +14,8 @@ use Rattle.call_read.specs.Sought.{refusedBy}
 use Rattle.call_read.specs.declared.Sought.{Sought}
 use Rattle.law_views.specs.Views.{seen}
 use Prim.Native.Nat.{ℕ}
+use mathlib.Core.Bool.{false}
+use Rattle.spec.specs.Lists.{isIn}
 use lib.ListN.{length}
 use mathlib.Core.List.{List}
 use mathlib.Core.Path.{_≡_, refl, sym, ap, _∙_, subst}
@@ -28,34 +30,34 @@ abbrev memory : tie.Start → Memory
 memory s = mkMemory (stateOf (s .args .state .now)) (s .args .addresses .now) (s .args .compact .now) (s .args .inflight .now)
 
 abbrev start : tie.After-seek → tie.Start
-start c = c .before .before .before .before .before .before .before .before .before
+start c = c .before .before .before .before .before .before .before .before .before .before
 
--- the offsets that `seek` leaves
-abbrev offsets : tie.After-seek → List ℕ
-offsets c = c .seek .last .1 .1 .1 .1 .1 .1 .1 .1 .1 .0
+-- the bytes that `seek` leaves
+abbrev starts : tie.After-seek → List ℕ
+starts c = c .seek .last .1 .1 .1 .1 .1 .1 .1 .1 .1 .1 .0
 
 -- what was sought, by its variant
 told : (c : tie.After-seek) (x : Sought) → c .seek .result ≡ x
-    → SoughtBy (start c .args .p) (disk (start c)) (memory (start c)) (start c .args .address .0) (length (start c .args .block .now)) x (offsets c)
+    → SoughtBy (start c .args .p) (start c .args .offline .now) (disk (start c)) (memory (start c)) (start c .args .address .0) (length (start c .args .block .now)) x (starts c)
 told c x e =
     let s = start c in
-    subst (λ (y : Sought). SoughtBy (s .args .p) (disk s) (memory s) (s .args .address .0) (length (s .args .block .now)) y (offsets c)) e (c .seek .ensures)
+    subst (λ (y : Sought). SoughtBy (s .args .p) (s .args .offline .now) (disk s) (memory s) (s .args .address .0) (length (s .args .block .now)) y (starts c)) e (c .seek .ensures)
 
 -- no check refuses it
 ready : (c : tie.After-seek) (x : Sought) → c .seek .result ≡ x → refusedBy x ≡ none
-    → ReadReady (start c .args .p) (disk (start c)) (memory (start c)) (start c .args .address .0) (length (start c .args .block .now))
+    → ReadReady (start c .args .p) (start c .args .offline .now) (disk (start c)) (memory (start c)) (start c .args .address .0) (length (start c .args .block .now))
 ready c x e n =
     let s = start c in
-    read-ready (s .args .p) (disk s) (memory s) (s .args .address .0) (length (s .args .block .now)) (sym (told c x e .0) ∙ n)
+    read-ready (s .args .p) (s .args .offline .now) (disk s) (memory s) (s .args .address .0) (length (s .args .block .now)) (sym (told c x e .0) ∙ n)
 
 -- what the call leaves, by the variant and the block
 left : (c : tie.After-seek) (x : Sought) (b : List ℕ) → c .seek .result ≡ x
-    → Fills (start c .args .p) (disk (start c)) (memory (start c)) (start c .args .address .0) (start c .args .block .now) x (offsets c) b
+    → Fills (start c .args .p) (start c .args .offline .now) (disk (start c)) (memory (start c)) (start c .args .address .0) (start c .args .block .now) x (starts c) b
     → mkAfter (fillAnswer x) (disk (start c)) (memory (start c)) b
-    ≡ callDisk (start c .args .p) (disk (start c)) (memory (start c)) (fill (start c .args .address .0) (start c .args .block .now))
+    ≡ callDisk (start c .args .p) (start c .args .offline .now) (disk (start c)) (memory (start c)) (fill (start c .args .address .0) (start c .args .block .now))
 left c x b e f =
     let s = start c in
-    fill-left (s .args .p) (disk s) (memory s) (s .args .address .0) (s .args .block .now) x (offsets c) b (told c x e) f
+    fill-left (s .args .p) (s .args .offline .now) (disk s) (memory s) (s .args .address .0) (s .args .block .now) x (starts c) b (told c x e) f
 
 slice-aggregate-seek : tie.Need-slice-aggregate-seek
 slice-aggregate-seek c = search needs
@@ -77,13 +79,13 @@ enum-known-sought-2 c = search needs
 
 fill-here-requires : tie.Need-fill-here-requires
 fill-here-requires c κs =
-    let s = c .before .before .before .before .before .before .before .before .before .before .before .before .before .before in
+    let s = c .before .before .before .before .before .before .before .before .before .before .before .before .before .before .before in
     let p = s .args .p in
     let n = length (s .args .block .now) in
     let t = told (c .before .before .before .before .before) _ (c .before .before .sought2 .given .1) in
     let r = ready (c .before .before .before .before .before) _ (c .before .before .sought2 .given .1) refl in
-    let f = foundAt p (disk s) (memory s) (s .args .address .0) n in
-    (r .ranged, (r .whole .image-long, r .block-long, subst (placedAt p) (t .1 .0) (found-placed p (seen p (disk s)) (memory s .state .missing) f (r .faultless))))
+    let f = foundAt p (s .args .offline .now) (disk s) (memory s) (s .args .address .0) n in
+    (r .ranged, (r .whole .image-long, r .block-long, subst (placedAt p) (t .1 .0) (found-placed p (seen p (s .args .offline .now) (disk s)) (memory s .state .missing) f (r .faultless))))
 
 enum-known-sought-3 : tie.Need-enum-known-sought-3
 enum-known-sought-3 c = search needs
@@ -96,13 +98,15 @@ slice-aggregate-fill-lost c = search needs
 
 fill-lost-requires : tie.Need-fill-lost-requires
 fill-lost-requires c κs =
-    let s = c .before .before .before .before .before .before .before .before .before .before .before .before .before .before .before .before in
+    let s = c .before .before .before .before .before .before .before .before .before .before .before .before .before .before .before .before .before in
     let p = s .args .p in
-    let n = length (s .args .block .now) in
+    let off = s .args .offline .now in
     let t = told (c .before .before .before .before .before .before .before) _ (c .before .before .before .before .sought3 .given .1) in
     let r = ready (c .before .before .before .before .before .before .before) _ (c .before .before .before .before .sought3 .given .1) refl in
-    let f = foundAt p (disk s) (memory s) (s .args .address .0) n in
-    (r .ranged, (r .whole .image-long, r .block-long, subst (placedAt p) (t .1 .0) (found-placed p (seen p (disk s)) (memory s .state .missing) f (r .faultless)), t .1 .2))
+    let f = foundAt p off (disk s) (memory s) (s .args .address .0) (length (s .args .block .now)) in
+    let placed = subst (placedAt p) (t .1 .0) (found-placed p (seen p off (disk s)) (memory s .state .missing) f (r .faultless)) in
+    let lost = t .1 .2 in
+    (r .ranged, ((r .whole .image-long, r .block-long, placed), (lost .long, λ k h n. lost .within k h (subst (λ (x : ℕ). isIn x k ≡ false) (c .before .before .missing .ensures) n))))
 
 returns : tie.Need-returns
 returns c =
@@ -134,10 +138,8 @@ returns-4 c =
     let s = start q in
     let sought3 = c .before .before .before .before .before .before .before .sought3 in
     let lost = c .before .before .fill-lost in
-    let r = ready q _ (sought3 .given .1) refl in
     left q _ (lost .last .1 .1 .1 .1 .1 .0) (sought3 .given .1)
-    (lost .ensures (s .args .pointers .now) (r .whole .pointers-long)
-    ∙ ap (λ (x : ℕ). pieceFrom (s .args .p) (seen (s .args .p) (disk s)) x (sought3 .given .0 .0 .0) (offsets q) .block) (c .before .before .before .before .before .missing .ensures))
+    (lost .ensures ∙ ap (λ (x : ℕ). lostBlock (s .args .p) (s .args .image .now) x (sought3 .given .0 .0 .0) (starts q)) (c .before .before .before .before .before .missing .ensures))
 
 pub fill-spec : {M : Type 1} → statement M
 fill-spec =

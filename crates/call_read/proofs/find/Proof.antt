@@ -25,16 +25,16 @@ abbrev memory : tie.Start → Memory
 memory s = mkMemory (stateOf (s .args .state .now)) (s .args .addresses .now) (s .args .compact .now) (s .args .inflight .now)
 
 abbrev start : tie.After-seek → tie.Start
-start c = c .before .before .before .before .before .before .before .before
+start c = c .before .before .before .before .before .before .before .before .before
 
 -- the answer of what was sought
 left : (c : tie.After-seek) (x : Sought) → c .seek .result ≡ x
     → mkAfter (findAnswer (start c .args .p) x) (disk (start c)) (memory (start c)) []
-    ≡ callDisk (start c .args .p) (disk (start c)) (memory (start c)) (read (start c .args .address .0))
+    ≡ callDisk (start c .args .p) (start c .args .offline .now) (disk (start c)) (memory (start c)) (read (start c .args .address .0))
 left c x e =
     let s = start c in
     ap (λ (y : Sought). mkAfter (findAnswer (s .args .p) y) (disk s) (memory s) []) (sym e)
-    ∙ find-left (s .args .p) (disk s) (memory s) (s .args .address .0) (c .seek .result) (c .seek .last .1 .1 .1 .1 .1 .1 .1 .1 .1 .0) (c .seek .ensures)
+    ∙ find-left (s .args .p) (s .args .offline .now) (disk s) (memory s) (s .args .address .0) (c .seek .result) (c .seek .last .1 .1 .1 .1 .1 .1 .1 .1 .1 .1 .0) (c .seek .ensures)
 
 slice-aggregate-seek : tie.Need-slice-aggregate-seek
 slice-aggregate-seek c = search needs
@@ -53,10 +53,11 @@ enum-known-sought-2 c = search needs
 
 place-byte-requires : tie.Need-place-byte-requires
 place-byte-requires c κs =
-    let s = c .before .before .before .before .before .before .before .before .before .before .before .before in
+    let s = c .before .before .before .before .before .before .before .before .before .before .before .before .before in
     let p = s .args .p in
-    let none! : readRefusal p (disk s) (memory s) (s .args .address .0) (p .B) ≡ none = sym (c .before .before .before .before .seek .ensures .0) ∙ ap refusedBy (c .before .sought2 .given .1) in
-    read-ready p (disk s) (memory s) (s .args .address .0) (p .B) none! .ranged
+    let none! : readRefusal p (s .args .offline .now) (disk s) (memory s) (s .args .address .0) (p .B) ≡ none =
+    sym (c .before .before .before .before .seek .ensures .0) ∙ ap refusedBy (c .before .sought2 .given .1) in
+    read-ready p (s .args .offline .now) (disk s) (memory s) (s .args .address .0) (p .B) none! .ranged
 
 enum-known-sought-3 : tie.Need-enum-known-sought-3
 enum-known-sought-3 c = search needs
@@ -69,7 +70,7 @@ returns-2 c = left (c .before .before .before) _ (c .enum-told .given .1)
 
 returns-3 : tie.Need-returns-3
 returns-3 c =
-    let s = c .before .before .before .before .before .before .before .before .before .before .before .before .before in
+    let s = c .before .before .before .before .before .before .before .before .before .before .before .before .before .before in
     let sought2 = c .before .before .sought2 in
     ap (λ (n : ℕ). mkAfter (Part n (sought2 .given .0 .1 .0)) (disk s) (memory s) []) (c .place-byte .ensures .0) ∙ left (c .before .before .before .before .before) _ (sought2 .given .1)
 

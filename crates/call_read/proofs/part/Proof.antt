@@ -39,23 +39,24 @@ enum-known-answer c = search needs
 
 answered :
     (c : tie.After-find)
-    → c .find .result ≡ callDisk (c .before .before .before .before .before .before .before .args .p)
-    (mkDisk (c .before .before .before .before .before .before .before .args .image .now)
-    (c .before .before .before .before .before .before .before .args .pointers .now))
-    (mkMemory (stateOf (c .before .before .before .before .before .before .before .args .state .now))
-    (c .before .before .before .before .before .before .before .args .addresses .now)
-    (c .before .before .before .before .before .before .before .args .compact .now)
-    (c .before .before .before .before .before .before .before .args .inflight .now))
-    (read (c .before .before .before .before .before .before .before .args .address .0)) .answer
+    → c .find .result ≡ callDisk (c .before .before .before .before .before .before .before .before .args .p)
+    (c .before .before .before .before .before .before .before .before .args .offline .now)
+    (mkDisk (c .before .before .before .before .before .before .before .before .args .image .now)
+    (c .before .before .before .before .before .before .before .before .args .pointers .now))
+    (mkMemory (stateOf (c .before .before .before .before .before .before .before .before .args .state .now))
+    (c .before .before .before .before .before .before .before .before .args .addresses .now)
+    (c .before .before .before .before .before .before .before .before .args .compact .now)
+    (c .before .before .before .before .before .before .before .before .args .inflight .now))
+    (read (c .before .before .before .before .before .before .before .before .args .address .0)) .answer
 answered c = ap (λ (x : After Disk). x .answer) (c .find .ensures)
 
 within :
     (c : tie.After-answer)
-    → c .answer .given .0 .0 + c .before .before .before .before .before .before .before .before .before .args .p .B ≤ length
-    (c .before .before .before .before .before .before .before .before .before .args .image .now)
+    → c .answer .given .0 .0 + c .before .before .before .before .before .before .before .before .before .before .args .p .B ≤ length
+    (c .before .before .before .before .before .before .before .before .before .before .args .image .now)
 within c =
-    let a = c .before .before .before .before .before .before .before .before .before .args in
-    part-within (a .p) (mkDisk (a .image .now) (a .pointers .now))
+    let a = c .before .before .before .before .before .before .before .before .before .before .args in
+    part-within (a .p) (a .offline .now) (mkDisk (a .image .now) (a .pointers .now))
     (mkMemory (stateOf (a .state .now)) (a .addresses .now) (a .compact .now) (a .inflight .now)) (a .address .0) (c .answer .given .0 .0) (c .answer .given .0 .1 .0)
     (sym (answered (c .before .before)) ∙ c .answer .given .1)
 
@@ -73,7 +74,7 @@ part-result-end c = within (c .before .before)
 
 returns : tie.Need-returns
 returns c =
-    let a = c .before .before .before .before .before .before .before .before .before .before .before .before .args in
+    let a = c .before .before .before .before .before .before .before .before .before .before .before .before .before .args in
     let answer = c .before .before .before .answer in
     let at′ = c .before .before .before .before .before in
     let at = answer .given .0 .0 in
@@ -124,7 +125,7 @@ no-part Nothing h = refl
 
 returns-2 : tie.Need-returns-2
 returns-2 c =
-    let a = c .before .before .before .before .before .before .before .before .before .args in
+    let a = c .before .before .before .before .before .before .before .before .before .before .args in
     let at = c .before .before in
     let find = c .before .before .find in
     let e = part-none (a .p) (find .result) (no-part (find .result) (c .before .match .keys2)) in

@@ -17,7 +17,7 @@ returns : tie.Need-returns
 returns c =
     let a = c .before .before .before .args in
     let t : isIn (a .gone) (a .drive) ≡ true = sym (c .before .has-drive .ensures) ∙ c .if1 .taken in
-    λ ps h e. absurd (not-both (isIn (a .gone) (a .drive)) t e)
+    λ off ps h e. absurd (not-both (isIn (a .gone) (a .drive)) t e)
 
 zone-on-requires : tie.Need-zone-on-requires
 zone-on-requires c κs = search needs
@@ -32,7 +32,7 @@ record-in-requires c κs =
 returns-2 : tie.Need-returns-2
 returns-2 c =
     let a = c .before .before .before .before .before .args in
-    λ ps h e. c .record-in .ensures ps h ∙ ap (λ (z : ℕ). recordIn (a .p) (a .full) (zoneAt (viewOf (a .p) (a .image .now) ps) (a .drive) z) (a .o)) (c .before .zone-on .ensures)
+    λ off ps h e. c .record-in .ensures off ps h ∙ ap (λ (z : ℕ). recordIn (a .p) (a .full) (zoneAt (viewOf (a .p) off (a .image .now) ps) (a .drive) z) (a .o)) (c .before .zone-on .ensures)
 
 pub record-on-spec : {M : Type 1} → statement M
 record-on-spec =

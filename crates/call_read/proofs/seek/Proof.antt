@@ -1,297 +1,211 @@
--- `seek`: a failed test closes its end (`read-range-fails` and so on), those passed drop off; a fault of the place found ends it, else `seek_found` settles what is left. Assumes nothing.
-use Prim.Native.Nat.{ℕ, _≤_, _<_}
+-- `seek`: a failed test closes its end (`read-range-fails` and so on), those passed drop off; `seek_found` settles what is left. Assumes nothing.
+use Prim.Native.Nat.{ℕ}
 use Rattle.spec.specs.Drives.{Disk, mkDisk, viewOf}
 use Rattle.spec.specs.Engine.{lentOk}
-use Rattle.spec.specs.Lists.{consIf}
+use Rattle.spec.specs.Lists.{Opt}
 use Rattle.spec.specs.Memory.{Memory, mkMemory, stateOf, stateOk}
 use Rattle.spec.specs.Params.{inRange}
-use Rattle.spec.specs.Read.{lies, foundFaults}
+use Rattle.spec.specs.Read.{lies}
+use Rattle.spec.specs.declared.Answer.{Answer}
 use Rattle.mem_lookup.specs.Lies.{foundOf}
-use Rattle.call_read.specs.Order.{foundAt, read-range-fails, read-range-passes, read-lengths-fail, read-block-fails, read-lengths-pass, read-address-fails, read-address-passes}
-use Rattle.call_read.specs.Order.{read-state-fails, read-place-fails, read-place-passes}
-use Rattle.call_read.specs.Placed.{found-placed}
-use Rattle.call_read.specs.Sought.{Seeks}
+use Rattle.call_read.specs.Order.{foundAt, readFrom, read-range-fails, read-range-passes, read-lengths-fail, read-block-fails, read-lengths-pass, read-list-fails, read-list-passes}
+use Rattle.call_read.specs.Order.{read-address-fails, read-address-passes, read-state-fails, read-state-passes}
+use Rattle.call_read.specs.Placed.{Sorted, lies-sorted}
+use Rattle.call_read.specs.Sought.{SeeksAll}
 use Rattle.call_write.specs.Ready.{lent-long}
-use borrow.Author.Tests.{not-true, not-false, lt-ltb, le-ltb}
-use lib.Dec.{ltb}
-use mathlib.Core.Bool.{Bool, true, false}
-use mathlib.Core.List.{[], _∷_}
-use mathlib.Core.Path.{_≡_, sym, ap, _∙_, transport}
-use native.Mathlib.Omega.{arith}
+use Rattle.law_basic.specs.Geometry.{ranged}
+use Rattle.law_drives.specs.Segs.{Here}
+use Rattle.law_drives.specs.States.{state-of}
 use borrow.Author.Needs.{needs}
+use borrow.Author.Tests.{not-true, not-false}
+use mathlib.Core.Bool.{true}
+use mathlib.Core.Path.{_≡_, sym, ap, _∙_, subst, transport}
+use native.Mathlib.Omega.{arith}
 use Rattle.call_read.proofs.seek.Statement.{statement}
+use Rattle.law_drives.specs.Masks.{few-here}
 use Rattle.call_read.proofs.seek.Tie as tie
 
--- one zone at fault, or none
-zone-there : (z n : ℕ) → z < n → consIf (ltb z n) z [] ≡ z ∷ []
-unfolding consIf
-zone-there z n h = ap (λ (x : Bool). consIf x z []) (lt-ltb z n h)
+abbrev diskIn : tie.Start → Disk
+diskIn s = mkDisk (s .args .image .now) (s .args .pointers .now)
 
-zone-none : (z n : ℕ) → n ≤ z → consIf (ltb z n) z [] ≡ []
-unfolding consIf
-zone-none z n h = ap (λ (x : Bool). consIf x z []) (le-ltb z n h)
+abbrev memoryIn : tie.Start → Memory
+memoryIn s = mkMemory (stateOf (s .args .state .now)) (s .args .addresses .now) (s .args .compact .now) (s .args .inflight .now)
 
-abbrev disk : tie.Start → Disk
-disk s = mkDisk (s .args .image .now) (s .args .pointers .now)
-
-abbrev memory : tie.Start → Memory
-memory s = mkMemory (stateOf (s .args .state .now)) (s .args .addresses .now) (s .args .compact .now) (s .args .inflight .now)
+-- the first refusal among the checks from the i-th on
+abbrev from : tie.Start → ℕ → Opt Answer
+from s i = readFrom (s .args .p) (s .args .offline .now) (diskIn s) (memoryIn s) (s .args .address .0) (s .args .len) i
 
 in-range-requires : tie.Need-in-range-requires
 in-range-requires c κs = search needs
 
 returns : tie.Need-returns
 returns c =
-    let one = c in
-    let range = one .before in
-    let s = range .before .before .before .before .before .before .before .before in
-    let p = s .args .p in
-    let k = disk s in
-    let m = memory s in
-    let a = s .args .address .0 in
-    let n = s .args .len in
-    let er : inRange p ≡ false = sym (range .in-range .ensures) ∙ not-true (range .in-range .result) (one .if1 .taken) in
-    (read-range-fails p k m a n er, tt)
+    let s = c .before .before .before .before .before .before .before .before .before .before in
+    let range = c .before .in-range in
+    (read-range-fails (s .args .p) (s .args .offline .now) (diskIn s) (memoryIn s) (s .args .address .0) (s .args .len) (sym (range .ensures) ∙ not-true (range .result) (c .if1 .taken)), tt)
+
+module _ (c : tie.Else1) where
+  abbrev started : tie.Start
+  started = c .before .before .before .before .before .before .before .before .before .before
+
+  -- the first check passes
+  in-range : inRange (started .args .p) ≡ true
+  in-range = sym (c .before .in-range .ensures) ∙ not-false (c .before .in-range .result) (c .if1 .left)
+
+  ranging : from started 1 ≡ from started 0
+  ranging =
+      let s = started in
+      read-range-passes (s .args .p) (s .args .offline .now) (diskIn s) (memoryIn s) (s .args .address .0) (s .args .len) in-range
 
 lent-ok-requires : tie.Need-lent-ok-requires
-lent-ok-requires c κs = sym (c .before .in-range .ensures) ∙ not-false (c .before .in-range .result) (c .if1 .left)
+lent-ok-requires c κs = in-range c
 
 returns-2 : tie.Need-returns-2
 returns-2 c =
-    let two = c in
-    let lent = two .before in
-    let one = lent .before in
-    let range = one .before in
-    let s = range .before .before .before .before .before .before .before .before in
-    let p = s .args .p in
-    let k = disk s in
-    let m = memory s in
-    let a = s .args .address .0 in
-    let n = s .args .len in
-    let er : inRange p ≡ true = sym (range .in-range .ensures) ∙ not-false (range .in-range .result) (one .if1 .left) in
-    let el : lentOk p k m ≡ false = sym (lent .lent-ok .ensures (m .state)) ∙ not-true (lent .lent-ok .result) (two .if2 .taken) in
-    (read-lengths-fail p k m a n el ∙ read-range-passes p k m a n er, tt)
+    let s = c .before .before .before .before .before .before .before .before .before .before .before .before in
+    let lent = c .before .lent-ok in (
+      read-lengths-fail (s .args .p) (s .args .offline .now) (diskIn s) (memoryIn s) (s .args .address .0) (s .args .len)
+          (sym (lent .ensures (memoryIn s .state)) ∙ not-true (lent .result) (c .if2 .taken)) ∙ ranging (c .before .before),
+      tt,
+    )
+
+module _ (c : tie.Else2) where
+  abbrev looked-at : tie.Start
+  looked-at = c .before .before .before .before .before .before .before .before .before .before .before .before
+
+  -- the lent buffers have their lengths
+  lent : lentOk (looked-at .args .p) (looked-at .args .offline .now) (diskIn looked-at) (memoryIn looked-at) ≡ true
+  lent = sym (c .before .lent-ok .ensures (memoryIn looked-at .state)) ∙ not-false (c .before .lent-ok .result) (c .if2 .left)
 
 returns-3 : tie.Need-returns-3
 returns-3 c =
-    let three = c in
-    let two = three .before .before in
-    let lent = two .before in
-    let one = lent .before in
-    let range = one .before in
-    let s = range .before .before .before .before .before .before .before .before in
-    let p = s .args .p in
-    let k = disk s in
-    let m = memory s in
-    let a = s .args .address .0 in
-    let n = s .args .len in
-    let er : inRange p ≡ true = sym (range .in-range .ensures) ∙ not-false (range .in-range .result) (one .if1 .left) in
-    let el : lentOk p k m ≡ true = sym (lent .lent-ok .ensures (m .state)) ∙ not-false (lent .lent-ok .result) (two .if2 .left) in
-    (read-block-fails p k m a n el (three .if3 .taken) ∙ read-range-passes p k m a n er, tt)
+    let s = c .before .before .before .before .before .before .before .before .before .before .before .before .before .before in (
+      read-block-fails (s .args .p) (s .args .offline .now) (diskIn s) (memoryIn s) (s .args .address .0) (s .args .len)
+          (lent (c .before .before)) (c .if3 .taken) ∙ ranging (c .before .before .before .before),
+      tt,
+    )
+
+module _ (c : tie.Else3) where
+  abbrev lengths : tie.Start
+  lengths = c .before .before .before .before .before .before .before .before .before .before .before .before .before .before
+
+  longs : from lengths 2 ≡ from lengths 0
+  longs =
+      let s = lengths in
+      read-lengths-pass (s .args .p) (s .args .offline .now) (diskIn s) (memoryIn s) (s .args .address .0) (s .args .len)
+      (lent (c .before .before)) (c .if3 .left) ∙ ranging (c .before .before .before .before)
+
+list-rule-requires : tie.Need-list-rule-requires
+list-rule-requires c κs =
+    let s = lengths c in
+    (in-range (c .before .before .before .before), lent-long (s .args .p) (s .args .offline .now) (diskIn s) (memoryIn s) (lent (c .before .before)) .5)
 
 returns-4 : tie.Need-returns-4
 returns-4 c =
-    let four = c in
-    let three = four .before .before in
-    let two = three .before .before in
-    let lent = two .before in
-    let one = lent .before in
-    let range = one .before in
-    let s = range .before .before .before .before .before .before .before .before in
-    let p = s .args .p in
-    let k = disk s in
-    let m = memory s in
-    let a = s .args .address .0 in
-    let n = s .args .len in
-    let er : inRange p ≡ true = sym (range .in-range .ensures) ∙ not-false (range .in-range .result) (one .if1 .left) in
-    let el : lentOk p k m ≡ true = sym (lent .lent-ok .ensures (m .state)) ∙ not-false (lent .lent-ok .result) (two .if2 .left) in
-    (read-address-fails p k m a n (omega (arith, four .if4 .taken)) ∙ read-lengths-pass p k m a n el (three .if3 .left) ∙ read-range-passes p k m a n er, tt)
+    let s = lengths (c .before .before) in (
+      read-list-fails (s .args .p) (s .args .offline .now) (diskIn s) (memoryIn s) (s .args .address .0) (s .args .len)
+          (c .before .list-rule .result) (c .before .list-rule .ensures) (c .if4 .taken) ∙ longs (c .before .before),
+      tt,
+    )
 
-state-ok-requires : tie.Need-state-ok-requires
-state-ok-requires c κs =
-    let four = c in
-    let three = four .before .before in
-    let two = three .before .before in
-    let lent = two .before in
-    let one = lent .before in
-    let range = one .before in
-    let s = range .before .before .before .before .before .before .before .before in
-    let p = s .args .p in
-    let er : inRange p ≡ true = sym (range .in-range .ensures) ∙ not-false (range .in-range .result) (one .if1 .left) in
-    (er, s .pre .0)
+module _ (c : tie.Else4) where
+  abbrev listed : tie.Start
+  listed = lengths (c .before .before)
+
+  enough : from listed 4 ≡ from listed 0
+  enough =
+      let s = listed in
+      read-list-passes (s .args .p) (s .args .offline .now) (diskIn s) (memoryIn s) (s .args .address .0) (s .args .len)
+      (c .before .list-rule .result) (c .before .list-rule .ensures) (c .if4 .left) ∙ longs (c .before .before)
 
 returns-5 : tie.Need-returns-5
 returns-5 c =
-    let five = c in
-    let state = five .before in
-    let four = state .before in
-    let three = four .before .before in
-    let two = three .before .before in
-    let lent = two .before in
-    let one = lent .before in
-    let range = one .before in
-    let s = range .before .before .before .before .before .before .before .before in
-    let p = s .args .p in
-    let k = disk s in
-    let m = memory s in
-    let a = s .args .address .0 in
-    let n = s .args .len in
-    let er : inRange p ≡ true = sym (range .in-range .ensures) ∙ not-false (range .in-range .result) (one .if1 .left) in
-    let el : lentOk p k m ≡ true = sym (lent .lent-ok .ensures (m .state)) ∙ not-false (lent .lent-ok .result) (two .if2 .left) in
-    let es : stateOk p (m .state) ≡ false = sym (state .state-ok .ensures) ∙ not-true (state .state-ok .result) (five .if5 .taken) in (
-      read-state-fails p k m a n es ∙ read-address-passes p k m a n (omega (arith, four .if4 .left))
-          ∙ read-lengths-pass p k m a n el (three .if3 .left) ∙ read-range-passes p k m a n er,
+    let s = listed (c .before .before) in
+    (read-address-fails (s .args .p) (s .args .offline .now) (diskIn s) (memoryIn s) (s .args .address .0) (s .args .len) (omega (arith, c .if5 .taken)) ∙ enough (c .before .before), tt)
+
+module _ (c : tie.Else5) where
+  abbrev addressed : tie.Start
+  addressed = listed (c .before .before)
+
+  lows : from addressed 5 ≡ from addressed 0
+  lows =
+      let s = addressed in
+      read-address-passes (s .args .p) (s .args .offline .now) (diskIn s) (memoryIn s) (s .args .address .0) (s .args .len) (omega (arith, c .if5 .left)) ∙ enough (c .before .before)
+
+state-ok-requires : tie.Need-state-ok-requires
+state-ok-requires c κs = (in-range (c .before .before .before .before .before .before .before .before), addressed c .pre .0)
+
+returns-6 : tie.Need-returns-6
+returns-6 c =
+    let s = addressed (c .before .before) in
+    let state = c .before .state-ok in (
+      read-state-fails (s .args .p) (s .args .offline .now) (diskIn s) (memoryIn s) (s .args .address .0) (s .args .len)
+          (sym (state .ensures) ∙ not-true (state .result) (c .if6 .taken)) ∙ lows (c .before .before),
       tt,
     )
 
 missing-requires : tie.Need-missing-requires
-missing-requires c κs =
-    let five = c in
-    let state = five .before in
-    let four = state .before in
-    let three = four .before .before in
-    let two = three .before .before in
-    let lent = two .before in
-    let one = lent .before in
-    let range = one .before in
-    let s = range .before .before .before .before .before .before .before .before in
-    s .pre .0
+missing-requires c κs = addressed (c .before .before) .pre .0
+
+-- what is so before the lookup
+module _ (c : tie.Else6) where
+  abbrev sound : tie.Start
+  sound = addressed (c .before .before)
+
+  ok : inRange (sound .args .p) ≡ true
+  ok = in-range (c .before .before .before .before .before .before .before .before .before .before)
+
+  long : lentOk (sound .args .p) (sound .args .offline .now) (diskIn sound) (memoryIn sound) ≡ true
+  long = lent (c .before .before .before .before .before .before .before .before)
+
+  state-fine : stateOk (sound .args .p) (memoryIn sound .state) ≡ true
+  state-fine = sym (c .before .state-ok .ensures) ∙ not-false (c .before .state-ok .result) (c .if6 .left)
+
+  present-one : Here (sound .args .p) (memoryIn sound .state .missing)
+  present-one =
+      let r = ranged (sound .args .p) ok in
+      let t = state-of (sound .args .p) r (memoryIn sound .state) state-fine in
+      few-here (sound .args .p) r (memoryIn sound .state .missing) (t .missing-low) (t .missing-few)
 
 lies-requires : tie.Need-lies-requires
 lies-requires c κs =
-    let gone = c in
-    let five = gone .before in
-    let state = five .before in
-    let four = state .before in
-    let three = four .before .before in
-    let two = three .before .before in
-    let lent = two .before in
-    let one = lent .before in
-    let range = one .before in
-    let s = range .before .before .before .before .before .before .before .before in
-    let p = s .args .p in
-    let k = disk s in
-    let m = memory s in
-    let er : inRange p ≡ true = sym (range .in-range .ensures) ∙ not-false (range .in-range .result) (one .if1 .left) in
-    let el : lentOk p k m ≡ true = sym (lent .lent-ok .ensures (m .state)) ∙ not-false (lent .lent-ok .result) (two .if2 .left) in
-    (er, (lent-long p k m el .2, omega (arith, four .if4 .left)))
-
-found-fault-requires : tie.Need-found-fault-requires
-found-fault-requires c κs =
-    let looked = c in
-    let gone = looked .before in
-    let five = gone .before in
-    let state = five .before in
-    let four = state .before in
-    let three = four .before .before in
-    let two = three .before .before in
-    let lent = two .before in
-    let one = lent .before in
-    let range = one .before in
-    let s = range .before .before .before .before .before .before .before .before in
-    let p = s .args .p in
-    let k = disk s in
-    let m = memory s in
-    let er : inRange p ≡ true = sym (range .in-range .ensures) ∙ not-false (range .in-range .result) (one .if1 .left) in
-    let el : lentOk p k m ≡ true = sym (lent .lent-ok .ensures (m .state)) ∙ not-false (lent .lent-ok .result) (two .if2 .left) in
-    (er, lent-long p k m el .1)
-
-returns-6 : tie.Need-returns-6
-returns-6 c =
-    let zone = c .before .before in
-    let looked = zone .before in
-    let gone = looked .before in
-    let five = gone .before in
-    let state = five .before in
-    let four = state .before in
-    let three = four .before .before in
-    let two = three .before .before in
-    let lent = two .before in
-    let one = lent .before in
-    let range = one .before in
-    let s = range .before .before .before .before .before .before .before .before in
-    let p = s .args .p in
-    let k = disk s in
-    let m = memory s in
-    let a = s .args .address .0 in
-    let n = s .args .len in
-    let er : inRange p ≡ true = sym (range .in-range .ensures) ∙ not-false (range .in-range .result) (one .if1 .left) in
-    let el : lentOk p k m ≡ true = sym (lent .lent-ok .ensures (m .state)) ∙ not-false (lent .lent-ok .result) (two .if2 .left) in
-    let es : stateOk p (m .state) ≡ true = sym (state .state-ok .ensures) ∙ not-false (state .state-ok .result) (five .if5 .left) in
-    let z = zone .found-fault .result in
-    let v = viewOf p (k .image) (k .pointers) in
-    let g : gone .missing .result ≡ m .state .missing = gone .missing .ensures in
-    let e : foundOf (looked .lies .result) ≡ foundAt p k m a n = looked .lies .ensures ∙ ap (λ (x : ℕ). lies p x (m .addresses) a) g in
-    let ef : foundFaults p v (m .state .missing) (foundAt p k m a n) ≡ z ∷ [] =
-    (λ j. foundFaults p v (sym g j) (sym e j)) ∙ zone .found-fault .ensures (k .image) (lent-long p k m el .0) ∙ zone-there z (p .Z) (c .if6 .taken) in (
-      read-place-fails p k m a n es z ef ∙ read-address-passes p k m a n (omega (arith, four .if4 .left)) ∙ read-lengths-pass p k m a n el (three .if3 .left)
-          ∙ read-range-passes p k m a n er,
-      tt,
-    )
+    let e = c .before in
+    let s = sound e in
+    (ok e, (lent-long (s .args .p) (s .args .offline .now) (diskIn s) (memoryIn s) (long e) .2, omega (arith, e .before .before .if5 .left)))
 
 seek-found-requires : tie.Need-seek-found-requires
 seek-found-requires c κs =
-    let zone = c .before .before .before in
-    let looked = zone .before in
-    let gone = looked .before in
-    let five = gone .before in
-    let state = five .before in
-    let four = state .before in
-    let three = four .before .before in
-    let two = three .before .before in
-    let lent = two .before in
-    let one = lent .before in
-    let range = one .before in
-    let s = range .before .before .before .before .before .before .before .before in
+    let e = c .before .before .before in
+    let s = sound e in
     let p = s .args .p in
-    let k = disk s in
-    let m = memory s in
-    let a = s .args .address .0 in
-    let n = s .args .len in
-    let er : inRange p ≡ true = sym (range .in-range .ensures) ∙ not-false (range .in-range .result) (one .if1 .left) in
-    let el : lentOk p k m ≡ true = sym (lent .lent-ok .ensures (m .state)) ∙ not-false (lent .lent-ok .result) (two .if2 .left) in
-    let v = viewOf p (k .image) (k .pointers) in
-    let l = lent-long p k m el in
-    let ef = zone .found-fault .ensures (k .image) (l .0) ∙ zone-none (zone .found-fault .result) (p .Z) (c .before .if6 .left) in
-    (er, (record { image-long = l .0; pointers-long = l .1 }, (l .3, s .pre .1, found-placed p v (gone .missing .result) (foundOf (looked .lies .result)) ef)))
+    let l = lent-long p (s .args .offline .now) (diskIn s) (memoryIn s) (long e) in
+    let gone = c .before .before .missing in
+    let looked = c .before .lies in (
+      ok e,
+      (
+        (record { image-long = l .0; pointers-long = l .1 }, l .5, subst (Here p) (sym (gone .ensures)) (present-one e)),
+        (l .3, s .pre .1, subst (Sorted p (gone .result)) (sym (looked .ensures)) (lies-sorted p (gone .result) (s .args .addresses .now) (s .args .address .0))),
+      ),
+    )
 
 same-length : tie.Need-same-length
 same-length c = search needs
 
 returns-7 : tie.Need-returns-7
 returns-7 c =
-    let six = c .before .before .before .before in
-    let zone = six .before .before in
-    let found = c .before .before .seek-found in
-    let looked = zone .before in
-    let gone = looked .before in
-    let five = gone .before in
-    let state = five .before in
-    let four = state .before in
-    let three = four .before .before in
-    let two = three .before .before in
-    let lent = two .before in
-    let one = lent .before in
-    let range = one .before in
-    let s = range .before .before .before .before .before .before .before .before in
+    let e = c .before .before .before .before .before .before in
+    let s = sound e in
     let p = s .args .p in
-    let k = disk s in
-    let m = memory s in
-    let a = s .args .address .0 in
-    let n = s .args .len in
-    let er : inRange p ≡ true = sym (range .in-range .ensures) ∙ not-false (range .in-range .result) (one .if1 .left) in
-    let el : lentOk p k m ≡ true = sym (lent .lent-ok .ensures (m .state)) ∙ not-false (lent .lent-ok .result) (two .if2 .left) in
-    let es : stateOk p (m .state) ≡ true = sym (state .state-ok .ensures) ∙ not-false (state .state-ok .result) (five .if5 .left) in
-    let v = viewOf p (k .image) (k .pointers) in
-    let g : gone .missing .result ≡ m .state .missing = gone .missing .ensures in
-    let e : foundOf (looked .lies .result) ≡ foundAt p k m a n = looked .lies .ensures ∙ ap (λ (x : ℕ). lies p x (m .addresses) a) g in
-    let ef : foundFaults p v (m .state .missing) (foundAt p k m a n) ≡ [] =
-    (λ j. foundFaults p v (sym g j) (sym e j)) ∙ zone .found-fault .ensures (k .image) (lent-long p k m el .0) ∙ zone-none (zone .found-fault .result) (p .Z) (six .if6 .left) in
-    let q = transport (λ j. Seeks p v (g j) (m .compact) (e j) (found .result) (found .last .1 .1 .1 .1 .1 .1 .0)) (found .ensures) in (
-      q .0 ∙ read-place-passes p k m a n es ef ∙ read-address-passes p k m a n (omega (arith, four .if4 .left)) ∙ read-lengths-pass p k m a n el (three .if3 .left)
-          ∙ read-range-passes p k m a n er,
-      q .1,
-    )
+    let m = memoryIn s in
+    let found = c .before .before .seek-found in
+    let looked = c .before .before .before .before .lies in
+    let gone = c .before .before .before .before .before .missing in
+    let v = viewOf p (s .args .offline .now) (s .args .image .now) (s .args .pointers .now) in
+    let g : gone .result ≡ m .state .missing = gone .ensures in
+    let f : foundOf (looked .result) ≡ foundAt (s .args .p) (s .args .offline .now) (diskIn s) (memoryIn s) (s .args .address .0) (s .args .len)
+    = looked .ensures ∙ ap (λ (x : ℕ). lies p x (m .addresses) (s .args .address .0)) g in
+    let q = transport (λ j. SeeksAll p (s .args .image .now) v (g j) (m .compact) (f j) (found .result) (found .last .1 .1 .1 .1 .1 .1 .1 .0)) (found .ensures) in
+    (q .0 ∙ read-state-passes (s .args .p) (s .args .offline .now) (diskIn s) (memoryIn s) (s .args .address .0) (s .args .len) (state-fine e) ∙ lows (e .before .before), q .1)
 
 pub seek-spec : {M : Type 1} → statement M
 seek-spec =
@@ -302,13 +216,13 @@ seek-spec =
     lent-ok-requires
     returns-2
     returns-3
+    list-rule-requires
     returns-4
-    state-ok-requires
     returns-5
+    state-ok-requires
+    returns-6
     missing-requires
     lies-requires
-    found-fault-requires
-    returns-6
     seek-found-requires
     same-length
     returns-7)

@@ -16,7 +16,7 @@ abbrev Inv-loop : tie.InvT-loop
 Inv-loop p pointers gone compact segment s at₀ d₀ at d =
     (d ≤ p .N)
     × (length at ≡ length at₀)
-    × ((e : ℕ) → e < d → (im : List ℕ) → length im ≡ imageLen p → ShownOn p (viewOf p im pointers) gone compact segment s e (getD at e 0))
+    × ((e : ℕ) → e < d → (off im : List ℕ) → length im ≡ imageLen p → ShownOn p (viewOf p off im pointers) gone compact segment s e (getD at e 0))
 
 abbrev μ-loop : tie.MeasureT-loop
 μ-loop p pointers gone compact segment s at₀ d₀ at d = p .N - d
@@ -54,7 +54,7 @@ loop-again c =
     let d = ranged (a .p) (o .pre .0) .drives-high in (
       omega (arith, t),
       length-set (l .at) (l .d) (c .shown-on .result) ∙ l .inv .1,
-      set-next (λ e y. (im : List ℕ) → length im ≡ imageLen (a .p) → ShownOn (a .p) (viewOf (a .p) im (a .pointers .now)) (a .gone) (a .compact .now) (a .segment) (a .s) e y)
+      set-next (λ e y. (off im : List ℕ) → length im ≡ imageLen (a .p) → ShownOn (a .p) (viewOf (a .p) off im (a .pointers .now)) (a .gone) (a .compact .now) (a .segment) (a .s) e y)
           (l .at) (l .d) (c .shown-on .result) (omega (arith, t, d, l .inv .1, o .pre .1 .0 .2)) (l .inv .2) (c .shown-on .ensures),
     )
 
@@ -65,7 +65,7 @@ returns : tie.Need-returns Inv-loop μ-loop
 returns c =
     let l = c .before .before .loop in
     let e : l .d ≡ c .before .before .before .before .before .before .args .p .N = omega (arith, c .if1 .left, l .inv .0) in
-    λ im h d k. l .inv .2 d (omega (arith, e, k)) im h
+    λ off im h d k. l .inv .2 d (omega (arith, e, k)) off im h
 
 pub shown-offsets-spec : {M : Type 1} → statement M
 shown-offsets-spec =

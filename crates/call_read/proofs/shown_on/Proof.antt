@@ -23,10 +23,10 @@ returns c =
     let q = c .before .before .before .before .pre in
     let r = ranged (a .p) (q .0) in
     let t : isIn (a .gone) (a .drive) ≡ true = sym (c .before .has-drive .ensures) ∙ c .if1 .taken in
-    λ im h. record {
+    λ off im h. record {
       low = omega arith;
       hidden = ne-eqb 0 (a .p .S) (λ e. let w : ⊥ = omega (arith, e, r .stripes-low) in w)
-          ∙ sym (ap (λ (x : Bool). not x && isNil (shownAt (a .p) (viewOf (a .p) im (a .pointers .now)) (a .compact .now) (a .drive) (zoneOn (a .segment) (a .drive)) (a .s))) t);
+          ∙ sym (ap (λ (x : Bool). not x && isNil (shownAt (a .p) (viewOf (a .p) off im (a .pointers .now)) (a .compact .now) (a .drive) (zoneOn (a .segment) (a .drive)) (a .s))) t);
       first = λ e. absurd (not-both (isIn (a .gone) (a .drive)) t e);
     }
 
@@ -45,13 +45,13 @@ returns-2 c =
     let a = c .before .before .before .before .before .before .args in
     let z = c .before .zone-on .ensures in
     let n : isIn (a .gone) (a .drive) ≡ false = sym (c .before .before .before .has-drive .ensures) ∙ c .before .before .if1 .left in
-    λ im h.
-    let v = viewOf (a .p) im (a .pointers .now) in
+    λ off im h.
+    let v = viewOf (a .p) off im (a .pointers .now) in
     record {
       low = c .shown-at .ensures .1 .1;
-      hidden = c .shown-at .ensures .1 .0 im h ∙ ap (λ (x : ℕ). isNil (shownAt (a .p) v (a .compact .now) (a .drive) x (a .s))) z
+      hidden = c .shown-at .ensures .1 .0 off im h ∙ ap (λ (x : ℕ). isNil (shownAt (a .p) v (a .compact .now) (a .drive) x (a .s))) z
           ∙ sym (ap (λ (x : Bool). not x && isNil (shownAt (a .p) v (a .compact .now) (a .drive) (zoneOn (a .segment) (a .drive)) (a .s))) n);
-      first = λ e. c .shown-at .ensures .0 im h ∙ ap (λ (x : ℕ). firstOr (a .p .S) (shownAt (a .p) v (a .compact .now) (a .drive) x (a .s))) z;
+      first = λ e. c .shown-at .ensures .0 off im h ∙ ap (λ (x : ℕ). firstOr (a .p .S) (shownAt (a .p) v (a .compact .now) (a .drive) x (a .s))) z;
     }
 
 pub shown-on-spec : {M : Type 1} → statement M

@@ -7,8 +7,8 @@ use lib.Dec.{eqb}
 use Rattle.spec.specs.Engine.Call.{close}
 use Rattle.spec.specs.History.{before}
 use Rattle.spec.specs.Params.{named}
-use Rattle.call_rebuild.specs.Order.{only-named}
 use Rattle.call_rebuild.proofs.names_missing.Statement.{statement}
+use Rattle.law_drives.specs.Masks.{only-named}
 use Rattle.call_rebuild.proofs.names_missing.Tie as tie
 
 returns : tie.Need-returns

@@ -1,7 +1,7 @@
 -- `rebuild`: a check that fails refuses the whole call (`rebuild-front-refused`); with none `examined` gives the rest. Assumes nothing.
 use mathlib.Core.Path.{sym, ap, _∙_}
 use borrow.Author.Needs.{needs}
-use Rattle.spec.specs.Drives.{viewOf, mkDisk}
+use Rattle.spec.specs.Drives.{mkDisk}
 use Rattle.spec.specs.Engine.Call.{close}
 use Rattle.spec.specs.History.{before}
 use Rattle.spec.specs.Memory.{mkMemory}
@@ -31,14 +31,14 @@ same-length-4 c = search needs
 
 returns : tie.Need-returns
 returns c =
-    let a = c .before .before .before .before .before .before .before .before .before .before .before .before .before .args in
+    let a = c .before .before .before .before .before .before .before .before .before .before .before .before .before .before .args in
     let p = a .p in
     let d = a .drive in
-    let v = viewOf p (a .image .now) (a .pointers .now) in
+    let off = a .offline .now in
     let k = mkDisk (a .image .now) (a .pointers .now) in
     let m = mkMemory (a .state) (a .addresses .now) (a .compact .now) (a .inflight .now) in
     let q = c .before .c .given in
-    ends-rebuild-refused p k m d (a .count) (q .0 .0) (rebuild-front-refused p k m d (q .0 .0) (sym (c .before .before .before .checks .ensures) ∙ ap checked (q .1)))
+    ends-rebuild-refused p off k m d (a .count) (q .0 .0) (rebuild-front-refused p off k m d (q .0 .0) (sym (c .before .before .before .checks .ensures) ∙ ap checked (q .1)))
 
 enum-told : tie.Need-enum-told
 enum-told c = search needs

@@ -1,44 +1,46 @@
--- `count_zones`: at is the first place of zone z, and live counts the live blocks below from; a turn adds the marks of that zone to z's count. Assumes nothing.
-use Prim.Native.Nat.{ℕ, _+_, _-_, min, max, _≤_, _<_}
-use Rattle.call_reclaim_live.specs.Live.{liveBelow, LiveCounted, bounded-more, sum-fits, nearer, zone-first, place-zone-same, next-starts, zone-next, counted-more}
-use Rattle.spec.specs.Params.{capacity, placeBlock, placeZone}
-use Rattle.law_basic.specs.Geometry.{ranged}
+-- `count_zones`: at is the first place of zone t, and live counts the live blocks below from; a turn adds the marks of that zone to its segment's count. Assumes nothing.
+use Prim.Native.Nat.{ℕ, _+_, _-_, _*_, _/_, min, max, _≤_, _<_}
+use Rattle.call_reclaim_live.specs.Live.{numbered, liveBelow, LiveCounted, bounded-more, sum-fits, nearer, live-zone-at, live-zone-begins, zone-within, places-high, counted-more}
+use Rattle.spec.specs.Params.{capacity}
+use Rattle.spec.specs.declared.Params.{Params}
+use Rattle.law_basic.specs.Geometry.{ranged, zones-all}
 use Rattle.mem_marks.specs.Marks.{Marks}
-use lib.Dec.{eqb}
 use lib.ListN.{length, getD, length-set}
-use mathlib.Core.Bool.{cond}
 use mathlib.Core.List.{List}
 use mathlib.Core.Path.{_≡_, refl, sym, ap, _∙_}
+use native.Mathlib.Nat.{zero-mul}
 use native.Mathlib.Omega.{arith}
 use Rattle.call_reclaim_live.proofs.count_zones.Statement.{statement}
 use Rattle.call_reclaim_live.proofs.count_zones.Tie as tie
 
 abbrev Inv-loop : tie.InvT-loop
-Inv-loop p marks live₀ first end cap at₀ z₀ from₀ live at z from =
+Inv-loop segments marks live₀ first end cap at₀ t₀ from₀ live at t from =
     (from ≡ min end (max first at))
-    × (placeBlock p at ≡ 0)
-    × (placeZone p at ≡ z)
-    × (z < p .Z)
+    × (at ≡ t * cap)
     × (length live ≡ length live₀)
-    × ((g : ℕ) → g < p .Z → getD live g 0 ≤ from)
-    × ((tb : List ℕ) → Marks tb (p .L) marks first end → LiveCounted p tb live₀ first → LiveCounted p tb live from)
+    × ((g : ℕ) → g ≤ 1024 → getD live g 0 ≤ from)
+    × ((p : Params) → cap ≡ capacity p → (tb : List ℕ) → Marks tb (p .L) marks first end → LiveCounted p segments tb live₀ first → LiveCounted p segments tb live from)
     × (at ≤ end + 87381)
 
 abbrev μ-loop : tie.MeasureT-loop
-μ-loop p marks live₀ first end cap at₀ z₀ from₀ live at z from = end - at
+μ-loop segments marks live₀ first end cap at₀ t₀ from₀ live at t from = end - at
 
 capacity-requires : tie.Need-capacity-requires Inv-loop μ-loop
-capacity-requires c κs = c .before .before .pre .0
+capacity-requires c κs = c .before .before .before .pre .0
 
 loop-holds : tie.Need-loop-holds Inv-loop μ-loop
 loop-holds c =
-    let a = c .before .before .before .args in
-    let pre = c .before .before .before .pre in
-    let r = ranged (a .p) (pre .0) in
-    (omega arith, zone-first (a .p) r .0, zone-first (a .p) r .1, omega (arith, r .zones-low), refl, pre .1 .1, (λ tb t s. s), omega arith)
+    let pre = c .before .before .before .before .pre in
+    (omega arith, sym (zero-mul (c .capacity .result)), refl, pre .1 .1, (λ p e tb t s. s), omega arith)
+
+-- the window ends with the places
+end-low : (c : tie.After-capacity Inv-loop μ-loop) → c .before .before .before .before .args .end ≤ 715825152
+end-low c =
+    let c4 = c .before .before .before .before in
+    omega (arith, c4 .pre .1 .0 .1, places-high (c4 .args .p) (ranged (c4 .args .p) (c4 .pre .0)))
 
 add-clip : tie.Need-add-clip Inv-loop μ-loop
-add-clip c = omega (arith, c .before .before .capacity .ensures .2)
+add-clip c = omega (arith, c .before .before .capacity .ensures .2, end-low (c .before .before))
 
 clip-requires : tie.Need-clip-requires Inv-loop μ-loop
 clip-requires c κs = omega arith
@@ -50,93 +52,134 @@ sub-count-marks-2 : tie.Need-sub-count-marks-2 Inv-loop μ-loop
 sub-count-marks-2 c = omega arith
 
 count-marks-requires : tie.Need-count-marks-requires Inv-loop μ-loop
-count-marks-requires c κs = omega arith
+count-marks-requires c κs =
+    let c7 = c .before .before .before .before .before .before .before in
+    omega (arith, c .clip .ensures, c .before .before .loop .inv .0, c7 .pre .1 .0, end-low (c .before .before .before))
+
+-- zone t is one of the zones, and has a number
+zone-in : (c : tie.After-count-marks Inv-loop μ-loop) → let a = c .before .before .before .before .before .before .before .before .args in
+    let t = c .before .before .before .loop .t in (t < a .p .N * a .p .Z) × (getD (a .segments .now) t 0 ≤ 1024)
+zone-in c =
+    let a = c .before .before .before .before .before .before .before .before .args in
+    let l = c .before .before .before .loop in
+    let pre = c .before .before .before .before .before .before .before .before .pre in
+    let e : l .at ≡ l .t * capacity (a .p) = l .inv .1 ∙ ap (λ (x : ℕ). l .t * x) (c .before .before .before .before .capacity .ensures .0) in
+    let h : l .t < a .p .N * a .p .Z = zone-within (a .p) (ranged (a .p) (pre .0)) (l .t) (omega (arith, e, c .before .before .loop-test .taken, pre .1 .0 .1)) in
+    (h, pre .1 .0 .4 .1 (l .t) h)
+
+mul-wide : tie.Need-mul-wide Inv-loop μ-loop
+mul-wide c =
+    let c8 = c .before .before .before .before .before .before .before .before in
+    omega (arith, zone-in c .0, zones-all (c8 .args .p) (ranged (c8 .args .p) (c8 .pre .0)))
+
+shared-slice-read-wide : tie.Need-shared-slice-read-wide Inv-loop μ-loop
+shared-slice-read-wide c = omega (arith, zone-in (c .before) .0, c .before .before .before .before .before .before .before .before .before .pre .1 .0 .4 .0)
+
+wide-requires : tie.Need-wide-requires Inv-loop μ-loop
+wide-requires c κs = tt
+
+-- the number of its segment
+number-low : (c : tie.After-wide Inv-loop μ-loop) → c .wide .result ≤ 1024
+number-low c = omega (arith, c .wide .ensures, zone-in (c .before .before) .1)
 
 mul-live : tie.Need-mul-live Inv-loop μ-loop
-mul-live c = omega arith
+mul-live c = omega (arith, number-low c)
 
 slice-read-live : tie.Need-slice-read-live Inv-loop μ-loop
-slice-read-live c = omega arith
+slice-read-live c =
+    let c11 = c .before .before .before .before .before .before .before .before .before .before .before in
+    omega (arith, number-low (c .before), c .before .before .before .before .before .before .loop .inv .2, c11 .pre .1 .0 .3)
 
 add-live : tie.Need-add-live Inv-loop μ-loop
 add-live c =
-    let a = c .before .before .before .before .before .before .before .before .args in
-    let l = c .before .before .before .before .loop in
-    let clip = c .before .before .clip in
-    let pre = c .before .before .before .before .before .before .before .before .pre in
+    let c3 = c .before .before .before in
+    let c4 = c .before .before .before .before in
+    let c6 = c .before .before .before .before .before .before in
+    let c7 = c .before .before .before .before .before .before .before in
+    let c11 = c .before .before .before .before .before .before .before .before .before .before .before in
+    let a = c11 .args in
+    let l = c6 .loop in
+    let clip = c4 .clip in
     let i = l .inv in
+    let g = c .before .wide .result in
     let h : l .from ≤ a .end = omega (arith, i .0) in
     let k : clip .result - a .first ≤ a .end = omega (arith, clip .ensures) in
-    let m : c .before .count-marks .result ≤ clip .result - a .first = omega (arith, c .before .count-marks .ensures .1) in
-    record { fits = sum-fits (getD (l .live) (l .z) 0) (c .before .count-marks .result) (l .from) (clip .result - a .first) (a .end) (i .5 (l .z) (i .3)) h m k (pre .1 .0 .1) }
+    let m : c3 .count-marks .result ≤ clip .result - a .first = omega (arith, c3 .count-marks .ensures .1) in
+    record { fits = sum-fits (getD (l .live) g 0) (c3 .count-marks .result) (l .from) (clip .result - a .first) (a .end) (i .3 g (number-low (c .before))) h m k (end-low (c7)) }
 
 mul-live-2 : tie.Need-mul-live-2 Inv-loop μ-loop
-mul-live-2 c = omega arith
+mul-live-2 c = omega (arith, number-low (c .before))
 
 slice-write-live : tie.Need-slice-write-live Inv-loop μ-loop
-slice-write-live c = omega arith
+slice-write-live c =
+    let c11 = c .before .before .before .before .before .before .before .before .before .before .before in
+    omega (arith, number-low (c .before), c .before .before .before .before .before .before .loop .inv .2, c11 .pre .1 .0 .3)
 
 add-at : tie.Need-add-at Inv-loop μ-loop
-add-at c = omega arith
+add-at c =
+    let c6 = c .before .before .before .before .before .before in
+    let c7 = c .before .before .before .before .before .before .before in
+    omega (arith, c7 .capacity .ensures .2, c6 .loop .inv .5, end-low (c7))
 
-next-zone-requires : tie.Need-next-zone-requires Inv-loop μ-loop
-next-zone-requires c κs =
-    let loop = c .before .before .before .before .loop in
-    let pre = c .before .before .before .before .before .before .before .before .pre in
-    (pre .0, loop .inv .3)
+add-t : tie.Need-add-t Inv-loop μ-loop
+add-t c =
+    let c11 = c .before .before .before .before .before .before .before .before .before .before .before in
+    omega (arith, zone-in (c .before .before .before) .0, zones-all (c11 .args .p) (ranged (c11 .args .p) (c11 .pre .0)))
 
 loop-less : tie.Need-loop-less Inv-loop μ-loop
 loop-less c =
-    let loop-test = c .before .before .before .before .loop-test in
-    let loop = c .before .before .before .before .before .loop in
-    let capacity′ = c .before .before .before .before .before .before .capacity in
-    let args = c .before .before .before .before .before .before .before .before .before .args in
-    nearer (loop .at) (args .end) (capacity′ .result) (loop-test .taken) (omega (arith, capacity′ .ensures .1))
+    let c6 = c .before .before .before .before .before .before in
+    let c7 = c .before .before .before .before .before .before .before in
+    let c11 = c .before .before .before .before .before .before .before .before .before .before .before in
+    nearer (c6 .loop .at) (c11 .args .end) (c7 .capacity .result) (c .before .before .before .before .before .loop-test .taken) (omega (arith, c7 .capacity .ensures .1))
 
 loop-again : tie.Need-loop-again Inv-loop μ-loop
 loop-again c =
-    let a = c .before .before .before .before .before .before .before .before .before .args in
-    let count-marks = c .before .before .count-marks in
-    let clip = c .before .before .before .clip in
-    let loop-test = c .before .before .before .before .loop-test in
-    let l = c .before .before .before .before .before .loop in
-    let capacity′ = c .before .before .before .before .before .before .capacity in
-    let pre′ = c .before .before .before .before .before .before .before .before .before .pre in
-    let p = a .p in
+    let c1 = c .before in
+    let c3 = c .before .before .before in
+    let c4 = c .before .before .before .before in
+    let c5 = c .before .before .before .before .before in
+    let c6 = c .before .before .before .before .before .before in
+    let c7 = c .before .before .before .before .before .before .before in
+    let c11 = c .before .before .before .before .before .before .before .before .before .before .before in
+    let a = c11 .args in
+    let pre = c11 .pre .1 .0 in
+    let l = c6 .loop in
     let i = l .inv in
-    let r = ranged p (pre′ .0) in
-    let pre = pre′ .1 .0 in
-    let ec = capacity′ .ensures .0 in
-    let to = clip .result in
-    let et = clip .ensures in
-    let n = count-marks .result in
-    let en = count-marks .ensures in
-    let t = loop-test .taken in
-    let fits : l .z < length (l .live) = omega (arith, i .3, i .4, pre) in
-    let low : a .first ≤ l .from = omega (arith, i .0, pre) in
-    let mid : l .from ≤ to = omega (arith, i .0, et, pre) in
+    let cap! = c7 .capacity in
+    let r = ranged (a .p) (c11 .pre .0) in
+    let g = c1 .wide .result in
+    let to = c4 .clip .result in
+    let et = c4 .clip .ensures in
+    let n = c3 .count-marks .result in
+    let en = c3 .count-marks .ensures in
+    let ec = cap! .ensures .0 in
+    let at : l .at ≡ l .t * capacity (a .p) = i .1 ∙ ap (λ (x : ℕ). l .t * x) ec in
+    let fits : g < length (l .live) = omega (arith, number-low (c1), i .2, pre .3) in
+    let low : a .first ≤ l .from = omega (arith, i .0, pre .0) in
+    let mid : l .from ≤ to = omega (arith, i .0, et, pre .0) in
     let high : to ≤ a .end = omega (arith, et) in (
       et,
-      ap (λ (x : ℕ). placeBlock p (l .at + x)) ec ∙ next-starts p r (l .at) (i .1),
-      ap (λ (x : ℕ). placeZone p (l .at + x)) ec ∙ zone-next p r (l .at) (i .1) ∙ ap (λ (x : ℕ). cond (eqb (x + 1) (p .Z)) 0 (x + 1)) (i .2) ∙ sym (c .next-zone .ensures .0),
-      c .next-zone .ensures .1,
-      omega (arith, length-set (l .live) (l .z) (getD (l .live) (l .z) 0 + n), i .4),
-      bounded-more (p .Z) (l .live) (l .z) (getD (l .live) (l .z) 0 + n) (l .from) to (i .5) fits (omega (arith, i .5 (l .z) (i .3), en .1, mid, low)) mid,
-      (λ tb told so. counted-more p tb (a .marks .now) (a .first) (a .end) told (l .live) (l .z) (l .from) to n low mid high fits
-          (λ q x y. place-zone-same p r (l .at) (i .1) q (omega (arith, i .0, et, pre, x, y)) (omega (arith, i .0, et, pre, x, y, ec)) ∙ i .2) (en .0) (i .6 tb told so)),
-      omega (arith, capacity′ .ensures .2, t),
+      ap (λ (x : ℕ). l .at + x) ec ∙ ap (λ (x : ℕ). x + capacity (a .p)) at ∙ sym (live-zone-begins (a .p) r (l .t)) ∙ ap (λ (x : ℕ). (l .t + 1) * x) (sym ec),
+      omega (arith, length-set (l .live) g (getD (l .live) g 0 + n), i .2),
+      bounded-more 1024 (l .live) g (getD (l .live) g 0 + n) (l .from) to (i .3) fits (omega (arith, i .3 g (number-low (c1)), en .1, mid, low)) mid,
+      (λ p e tb told so. counted-more p (a .segments .now) tb (a .marks .now) (a .first) (a .end) told (l .live) g (l .from) to n low mid high fits
+          (λ q x y.
+          let w : q / capacity p ≡ l .t = ap (λ (k : ℕ). q / k) (sym e ∙ ec)
+          ∙ live-zone-at (a .p) r (l .t) q (omega (arith, i .0, et, pre .0, at, x, y)) (omega (arith, i .0, et, pre .0, at, ec, x, y)) in
+          ap (λ (k : ℕ). getD (a .segments .now) k 0) w ∙ sym (c1 .wide .ensures)) (en .0) (i .4 p e tb told so)),
+      omega (arith, cap! .ensures .2, c5 .loop-test .taken),
     )
 
 same-length : tie.Need-same-length Inv-loop μ-loop
-same-length c = c .before .loop .inv .4
+same-length c = c .before .loop .inv .2
 
 returns : tie.Need-returns Inv-loop μ-loop
 returns c =
-    let a = c .before .before .before .before .before .args in
+    let a = c .before .before .before .before .before .before .args in
     let l = c .before .loop in
-    let pre = c .before .before .before .before .before .pre in
-    let e : l .from ≡ a .end = omega (arith, l .inv .0, c .loop-test .left, pre .1 .0) in
-    λ tb told so g h. l .inv .6 tb told so g h ∙ ap (λ (x : ℕ). length (liveBelow (a .p) tb g x)) e
+    let e : l .from ≡ a .end = omega (arith, l .inv .0, c .loop-test .left, c .before .before .before .before .before .before .pre .1 .0) in
+    λ tb told so g h. l .inv .4 (a .p) (c .before .before .capacity .ensures .0) tb told so g h ∙ ap (λ (x : ℕ). length (liveBelow (a .p) tb (numbered (a .p) (a .segments .now) g) x)) e
 
 pub count-zones-spec : {M : Type 1} → statement M
 count-zones-spec =
@@ -151,13 +194,16 @@ count-zones-spec =
     sub-count-marks
     sub-count-marks-2
     count-marks-requires
+    mul-wide
+    shared-slice-read-wide
+    wide-requires
     mul-live
     slice-read-live
     add-live
     mul-live-2
     slice-write-live
     add-at
-    next-zone-requires
+    add-t
     loop-less
     loop-again
     same-length

@@ -16,11 +16,11 @@ use Rattle.call_reclaim_records.proofs.vouched_zone.Tie as tie
 
 -- the o data blocks whose records lie in footer blocks before f, which begins at byte at
 abbrev Inv-loop : tie.InvT-loop
-Inv-loop p image addresses drive g most per feet unit first at₀ c₀ o₀ f₀ at c o f =
-    (f ≤ feet) × (o ≤ p .S) × (c ≤ length (pointedFrom addresses (p .L) first o)) × (at ≡ placeByte p (placeOf p drive g (1 + p .S + f)))
+Inv-loop p image addresses drive zone most per feet unit first at₀ c₀ o₀ f₀ at c o f =
+    (f ≤ feet) × (o ≤ p .S) × (c ≤ length (pointedFrom addresses (p .L) first o)) × (at ≡ placeByte p (placeOf p drive zone (1 + p .S + f)))
 
 abbrev μ-loop : tie.MeasureT-loop
-μ-loop p image addresses drive g most per feet unit first at₀ c₀ o₀ f₀ at c o f = feet - f
+μ-loop p image addresses drive zone most per feet unit first at₀ c₀ o₀ f₀ at c o f = feet - f
 
 per-footer-requires : tie.Need-per-footer-requires Inv-loop μ-loop
 per-footer-requires c κs = c .before .before .pre .0
@@ -62,7 +62,7 @@ loop-holds : tie.Need-loop-holds Inv-loop μ-loop
 loop-holds c =
     let o = c .before .before .before .before .before .before .before .before .before in
     let a = o .args in
-    (omega arith, omega arith, omega arith, c .block-byte .ensures .0 ∙ ap (λ (x : ℕ). placeByte (a .p) (placeOf (a .p) (a .drive) (a .g) x)) (sym (add-zero (1 + a .p .S))))
+    (omega arith, omega arith, omega arith, c .block-byte .ensures .0 ∙ ap (λ (x : ℕ). placeByte (a .p) (placeOf (a .p) (a .drive) (a .zone) x)) (sym (add-zero (1 + a .p .S))))
 
 -- what is counted, of all data blocks of the zone
 of-all : (p : Params) (addresses : List ℕ) (first first′ c o : ℕ) → first ≡ first′ → o ≤ p .S → c ≤ length (pointedFrom addresses (p .L) first o)
@@ -80,7 +80,7 @@ returns c =
     let a = o .args in
     let i = loop .inv in
     let first = c6 .place-of .result .0 in
-    let w = of-all (a .p) (a .addresses .now) first (placeOf (a .p) (a .drive) (a .g) 1) (loop .c) (loop .o) (c6 .place-of .ensures .0) (i .1) (i .2) in
+    let w = of-all (a .p) (a .addresses .now) first (placeOf (a .p) (a .drive) (a .zone) 1) (loop .c) (loop .o) (c6 .place-of .ensures .0) (i .1) (i .2) in
     (w .0, omega (arith, w .1, ranged (a .p) (o .pre .0) .stripes-high))
 
 run-len-requires : tie.Need-run-len-requires Inv-loop μ-loop
@@ -108,8 +108,8 @@ vouched-run-requires c κs =
     let h = o .pre .1 in
     let i = c3 .loop .inv in
     let per = subst (λ (x : ℕ). perFooter p * x ≤ p .B) spare-len (per-footer-fits p r) in
-    let inside = block-within p (a .drive) (a .g) (1 + p .S + c3 .loop .f) (h .2) (h .3) (omega (arith, loop-test .taken, c9 .footers .ensures .0)) in
-    let last = place-lt p (a .drive) (a .g) (p .S) (h .2) (h .3) (data-below p r (p .S) (omega arith)) in
+    let inside = block-within p (a .drive) (a .zone) (1 + p .S + c3 .loop .f) (h .2) (h .3) (omega (arith, loop-test .taken, c9 .footers .ensures .0)) in
+    let last = place-lt p (a .drive) (a .zone) (p .S) (h .2) (h .3) (data-below p r (p .S) (omega arith)) in
     let n = c .run-len .ensures in (
       omega (arith, r .addresses-low),
       omega (arith, h .1),
@@ -167,7 +167,7 @@ in-image c =
     let p = a .p in
     let r = ranged p (o .pre .0) in
     let h = o .pre .1 in
-    omega (arith, c4 .loop .inv .3, image-high p r, block-within p (a .drive) (a .g) (1 + p .S + c4 .loop .f) (h .2) (h .3) (omega (arith, c3 .loop-test .taken, c10 .footers .ensures .0)))
+    omega (arith, c4 .loop .inv .3, image-high p r, block-within p (a .drive) (a .zone) (1 + p .S + c4 .loop .f) (h .2) (h .3) (omega (arith, c3 .loop-test .taken, c10 .footers .ensures .0)))
 
 add-at : tie.Need-add-at Inv-loop μ-loop
 add-at c =
@@ -196,8 +196,8 @@ loop-again c =
     let l = c4 .loop in
     let b : ℕ = 1 + p .S + l .f in
     let e : b + 1 ≡ 1 + p .S + (l .f + 1) = omega arith in
-    let w : l .at + c9 .unit-len .result ≡ placeByte p (placeOf p (a .drive) (a .g) (1 + p .S + (l .f + 1))) =
-    (λ j. l .inv .3 j + c9 .unit-len .ensures .0 j) ∙ sym (next-byte p (a .drive) (a .g) b) ∙ ap (λ (x : ℕ). placeByte p (placeOf p (a .drive) (a .g) x)) e in
+    let w : l .at + c9 .unit-len .result ≡ placeByte p (placeOf p (a .drive) (a .zone) (1 + p .S + (l .f + 1))) =
+    (λ j. l .inv .3 j + c9 .unit-len .ensures .0 j) ∙ sym (next-byte p (a .drive) (a .zone) b) ∙ ap (λ (x : ℕ). placeByte p (placeOf p (a .drive) (a .zone) x)) e in
     (omega (arith, c3 .loop-test .taken), within c .0, block-more c, w)
 
 returns-2 : tie.Need-returns-2 Inv-loop μ-loop
@@ -207,7 +207,7 @@ returns-2 c =
     let a = o .args in
     let i = c .before .loop .inv in
     let first = c5 .place-of .result .0 in
-    let w = of-all (a .p) (a .addresses .now) first (placeOf (a .p) (a .drive) (a .g) 1) (c .before .loop .c) (c .before .loop .o) (c5 .place-of .ensures .0) (i .1) (i .2) in
+    let w = of-all (a .p) (a .addresses .now) first (placeOf (a .p) (a .drive) (a .zone) 1) (c .before .loop .c) (c .before .loop .o) (c5 .place-of .ensures .0) (i .1) (i .2) in
     (w .0, omega (arith, w .1, ranged (a .p) (o .pre .0) .stripes-high))
 
 pub vouched-zone-spec : {M : Type 1} → statement M

@@ -1,15 +1,12 @@
 -- `idle_run`: found is right below q; a turn skips to the next mark (`run-skip`) and takes it (`idle-step`); `run-other` if not mine. Assumes nothing.
 use Rattle.spec.specs.Memory.{stateOf}
 use Prim.Native.Nat.{ℕ, _+_, _-_, _≤_, _<_}
-use Rattle.call_reclaim_live.specs.Live.{places-high}
-use Rattle.spec.specs.Drives.{viewOf}
-use Rattle.spec.specs.Params.{placeZone}
-use Rattle.spec.specs.Reclaim.{idle}
+use Rattle.call_reclaim_live.specs.Live.{inSeg, places-high}
+use Rattle.spec.specs.Drives.{View, viewOf}
 use Rattle.law_basic.specs.Geometry.{ranged}
 use Rattle.mem_marks.specs.Marks.{isMarked, Marks}
 use Rattle.call_reclaim_victim.specs.Waiting.{IdleBelow, waiting-at, run-other, run-skip, idle-step}
 use borrow.Author.Tests.{not-true, not-false}
-use lib.Dec.{eqb}
 use mathlib.Core.List.{List}
 use mathlib.Core.Path.{_≡_, ap, _∙_}
 use native.Mathlib.Omega.{arith}
@@ -17,27 +14,27 @@ use Rattle.call_reclaim_victim.proofs.idle_run.Statement.{statement}
 use Rattle.call_reclaim_victim.proofs.idle_run.Tie as tie
 
 abbrev Inv-loop : tie.InvT-loop
-Inv-loop p image pointers marks bytes first lo hi mine found₀ q₀ found q =
+Inv-loop p image pointers segment marks bytes first lo hi mine found₀ q₀ found q =
     (lo ≤ q)
     × (q ≤ hi)
-    × ((tb : List ℕ) (g : ℕ)
+    × ((off tb : List ℕ)
     → Marks tb (p .L) marks first hi
-    → ((x : ℕ) → lo ≤ x → x < hi → eqb (placeZone p x) g ≡ mine)
-    → IdleBelow p (viewOf p image pointers) (stateOf bytes) tb g lo found₀
-    → IdleBelow p (viewOf p image pointers) (stateOf bytes) tb g q found)
+    → ((x : ℕ) → lo ≤ x → x < hi → inSeg p segment x ≡ mine)
+    → IdleBelow p (viewOf p off image pointers) (stateOf bytes) segment tb lo found₀
+    → IdleBelow p (viewOf p off image pointers) (stateOf bytes) segment tb q found)
 
 abbrev μ-loop : tie.MeasureT-loop
-μ-loop p image pointers marks bytes first lo hi mine found₀ q₀ found q = hi - q
+μ-loop p image pointers segment marks bytes first lo hi mine found₀ q₀ found q = hi - q
 
 returns : tie.Need-returns Inv-loop μ-loop
 returns c =
     let a = c .before .before .before .before .before .args in
-    let pre = c .before .before .before .before .before .pre in
-    let v = viewOf (a .p) (a .image .now) (a .pointers .now) in
-    λ tb g told same w. run-other (a .p) v (stateOf (a .bytes .now)) tb g (a .lo) (a .hi) (a .idle) (pre .1 .1 .1) (λ q x y. same q x y ∙ not-true (a .mine) (c .if1 .taken)) w
+    let v : List ℕ → View = λ off. viewOf (a .p) off (a .image .now) (a .pointers .now) in
+    λ off tb told same w. run-other (a .p) (v off) (stateOf (a .bytes .now)) (a .segment) tb (a .lo) (a .hi) (a .idle) (c .before .before .before .before .before .pre .1 .1 .1)
+    (λ q x y. same q x y ∙ not-true (a .mine) (c .if1 .taken)) w
 
 loop-holds : tie.Need-loop-holds Inv-loop μ-loop
-loop-holds c = (omega arith, omega arith, λ tb g told same w. w)
+loop-holds c = (omega arith, omega arith, λ off tb told same w. w)
 
 sub-next-marked : tie.Need-sub-next-marked Inv-loop μ-loop
 sub-next-marked c = omega arith
@@ -48,33 +45,31 @@ sub-next-marked-2 c = omega arith
 next-marked-requires : tie.Need-next-marked-requires Inv-loop μ-loop
 next-marked-requires c κs =
     let a = c .before .before .before .before .before .before .before .args in
-    let pre = c .before .before .before .before .before .before .before .pre in
-    let h = pre .1 .1 in
+    let h = c .before .before .before .before .before .before .before .pre .1 .1 in
     let i = c .before .loop .inv in
-    (omega (arith, h, i .0, i .1), omega (arith, h), omega (arith, h .3, places-high (a .p) (ranged (a .p) (pre .0))))
+    (omega (arith, h, i .0, i .1), omega (arith, h), omega (arith, h .3, places-high (a .p) (ranged (a .p) (c .before .before .before .before .before .before .before .pre .0))))
 
 add-next : tie.Need-add-next Inv-loop μ-loop
 add-next c =
-    let a = c .before .before .before .before .before .before .before .before .args in
-    let pre = c .before .before .before .before .before .before .before .before .pre in
-    omega (arith, c .next-marked .ensures .1, pre .1 .1 .3, places-high (a .p) (ranged (a .p) (pre .0)))
+    let c8 = c .before .before .before .before .before .before .before .before in
+    let a = c8 .args in
+    omega (arith, c .next-marked .ensures .1, c8 .pre .1 .1 .3, places-high (a .p) (ranged (a .p) (c8 .pre .0)))
 
 returns-2 : tie.Need-returns-2 Inv-loop μ-loop
 returns-2 c =
     let a = c .before .before .before .before .before .before .before .before .before .args in
-    let pre = c .before .before .before .before .before .before .before .before .before .pre in
-    let v = viewOf (a .p) (a .image .now) (a .pointers .now) in
+    let v : List ℕ → View = λ off. viewOf (a .p) off (a .image .now) (a .pointers .now) in
     let l = c .before .before .before .loop in
-    let h = pre .1 .1 in
+    let h = c .before .before .before .before .before .before .before .before .before .pre .1 .1 in
     let n = c .before .next-marked .ensures in
-    λ tb g told same w. run-skip (a .p) v (stateOf (a .bytes .now)) tb g (a .marks .now) (a .first) (a .hi) told (l .q) (a .hi) (l .found) (omega (arith, h .0, l .inv .0)) (l .inv .1) (omega arith)
-    (λ j x y. n .2 j x (omega (arith, y, c .if2 .taken))) (l .inv .2 tb g told same w)
+    λ off tb told same w. run-skip (a .p) (v off) (stateOf (a .bytes .now)) (a .segment) tb (a .marks .now) (a .first) (a .hi) told (l .q) (a .hi) (l .found)
+    (omega (arith, h .0, l .inv .0)) (l .inv .1) (omega arith) (λ j x y. n .2 j x (omega (arith, y, c .if2 .taken))) (l .inv .2 off tb told same w)
 
-cast-t19 : tie.Need-cast-t19 Inv-loop μ-loop
-cast-t19 c =
-    let a = c .before .before .before .before .before .before .before .before .before .args in
-    let pre = c .before .before .before .before .before .before .before .before .before .pre in
-    omega (arith, c .if2 .left, pre .1 .1 .3, places-high (a .p) (ranged (a .p) (pre .0)))
+cast-t20 : tie.Need-cast-t20 Inv-loop μ-loop
+cast-t20 c =
+    let c9 = c .before .before .before .before .before .before .before .before .before in
+    let a = c9 .args in
+    omega (arith, c .if2 .left, c9 .pre .1 .1 .3, places-high (a .p) (ranged (a .p) (c9 .pre .0)))
 
 idle-step-requires : tie.Need-idle-step-requires Inv-loop μ-loop
 idle-step-requires c κs =
@@ -89,34 +84,39 @@ loop-less c = omega (arith, c .before .if2 .left, c .before .before .next-marked
 
 loop-again : tie.Need-loop-again Inv-loop μ-loop
 loop-again c =
-    let a = c .before .before .before .before .before .before .before .before .before .before .args in
-    let next-marked = c .before .before .next-marked in
-    let l = c .before .before .before .before .loop in
-    let if1 = c .before .before .before .before .before .if1 in
-    let pre = c .before .before .before .before .before .before .before .before .before .before .pre in
-    let v = viewOf (a .p) (a .image .now) (a .pointers .now) in
+    let c1 = c .before in
+    let c2 = c .before .before in
+    let c4 = c .before .before .before .before in
+    let c5 = c .before .before .before .before .before in
+    let c10 = c .before .before .before .before .before .before .before .before .before .before in
+    let a = c10 .args in
+    let pre = c10 .pre in
+    let l = c4 .loop in
+    let v : List ℕ → View = λ off. viewOf (a .p) off (a .image .now) (a .pointers .now) in
     let h = pre .1 .1 in
-    let n = next-marked .ensures in
-    let k = next-marked .result in
-    let f = c .before .if2 .left in
+    let n = c2 .next-marked .ensures in
+    let k = c2 .next-marked .result in
+    let f = c1 .if2 .left in
     let low : l .q ≤ a .first + k = omega (arith, n .0, h .0, l .inv .0) in
     let s : a .first + k - a .first ≡ k = omega arith in (
       omega (arith, low, l .inv .0),
       omega (arith, f),
-      λ tb g told same w.
-          idle-step (a .p) v (stateOf (a .bytes .now)) tb g (a .marks .now) (a .first) (a .hi) told (a .first + k) (l .found) (c .idle-step .result) (omega arith) (omega (arith, f))
-          (same (a .first + k) (omega (arith, low, l .inv .0)) (omega (arith, f)) ∙ not-false (a .mine) (if1 .left))
+      λ off tb told same w.
+          idle-step (a .p) (v off) (stateOf (a .bytes .now)) (a .segment) tb (a .marks .now) (a .first) (a .hi) told (a .first + k) (l .found) (c .idle-step .result) (omega arith) (omega (arith, f))
+          (same (a .first + k) (omega (arith, low, l .inv .0)) (omega (arith, f)) ∙ not-false (a .mine) (c5 .if1 .left))
           (ap (isMarked (a .marks .now)) s ∙ n .3 (omega (arith, f))) (omega (arith, f, h .3, places-high (a .p) (ranged (a .p) (pre .0))))
-          (run-skip (a .p) v (stateOf (a .bytes .now)) tb g (a .marks .now) (a .first) (a .hi) told (l .q) (a .first + k) (l .found) (omega (arith, h .0, l .inv .0)) low (omega (arith, f))
-          (λ j x y. n .2 j x (omega (arith, y, s))) (l .inv .2 tb g told same w)) (c .idle-step .ensures),
+          (run-skip (a .p) (v off) (stateOf (a .bytes .now)) (a .segment) tb (a .marks .now) (a .first) (a .hi) told (l .q) (a .first + k) (l .found) (omega (arith, h .0, l .inv .0)) low
+          (omega (arith, f)) (λ j x y. n .2 j x (omega (arith, y, s))) (l .inv .2 off tb told same w)) (c .idle-step .ensures off),
     )
 
 returns-3 : tie.Need-returns-3 Inv-loop μ-loop
 returns-3 c =
-    let a = c .before .before .before .before .before .before .before .args in
-    let v = viewOf (a .p) (a .image .now) (a .pointers .now) in
-    let l = c .before .loop in
-    λ tb g told same w. waiting-at (a .p) v (stateOf (a .bytes .now)) tb g (l .q) (a .hi) (l .found) (omega (arith, l .inv .1, c .loop-test .left)) (l .inv .2 tb g told same w)
+    let c1 = c .before in
+    let c7 = c .before .before .before .before .before .before .before in
+    let a = c7 .args in
+    let v : List ℕ → View = λ off. viewOf (a .p) off (a .image .now) (a .pointers .now) in
+    let l = c1 .loop in
+    λ off tb told same w. waiting-at (a .p) (v off) (stateOf (a .bytes .now)) (a .segment) tb (l .q) (a .hi) (l .found) (omega (arith, l .inv .1, c .loop-test .left)) (l .inv .2 off tb told same w)
 
 pub idle-run-spec : {M : Type 1} → statement M
 idle-run-spec =
@@ -131,7 +131,7 @@ idle-run-spec =
     next-marked-requires
     add-next
     returns-2
-    cast-t19
+    cast-t20
     idle-step-requires
     add-q
     loop-less

@@ -42,10 +42,10 @@ memory c = mkMemory (c .args .state) (c .args .addresses .now) (c .args .compact
 -- the aim is the state's
 aimed :
     (c : tie.After-aim-of)
-    → c .aim-of .result ≡ aimOf (c .before .before .before .before .before .before .before .before .before .args .p)
-    (c .before .before .before .before .before .before .before .before .before .args .state)
+    → c .aim-of .result ≡ aimOf (c .before .before .before .before .before .before .before .before .before .before .args .p)
+    (c .before .before .before .before .before .before .before .before .before .before .args .state)
 aimed c =
-    let args = c .before .before .before .before .before .before .before .before .before .args in
+    let args = c .before .before .before .before .before .before .before .before .before .before .args in
     c .aim-of .ensures ∙ front-aim (args .p) (args .state) (c .before .front-of .result) (c .before .front-of .ensures)
 
 front-of-requires : tie.Need-front-of-requires
@@ -57,21 +57,23 @@ aim-of-requires c κs = search needs
 checks-requires : tie.Need-checks-requires
 checks-requires c κs =
     let g = c .before .before .before .before .before in
-    let s = g .before .before .before .before .before .before .before .before .before in
+    let s = g .before .before .before .before .before .before .before .before .before .before in
     let e = s .pre .0 in
     (g .before .front-of .ensures ∙ ap frontOf e, aimed g ∙ ap (aimOf (s .args .p)) e, ap (λ (x : State). x .missing) e, s .pre .1)
 
 -- the refusal is that of the state
 abbrev start : tie.After-checks → tie.Start
 start c =
-    let at = c .before .before .before .before .before .before .before .before .before .before .before .before .before .before .before in
+    let at = c .before .before .before .before .before .before .before .before .before .before .before .before .before .before .before .before in
     at
 
-checked-is : (c : tie.After-checks) → checked (c .checks .result) ≡ writeRefusal (start c .args .p) (disk (start c)) (memory (start c)) (start c .args .address .0) (start c .args .block .now)
+checked-is : (c : tie.After-checks)
+    → checked (c .checks .result) ≡ writeRefusal (start c .args .p) (start c .args .offline .now) (disk (start c)) (memory (start c)) (start c .args .address .0) (start c .args .block .now)
 checked-is c =
     let s = start c in
     let a = s .args in
-    subst (λ (x : State). checked (c .checks .result) ≡ writeRefusal (a .p) (disk s) (mkMemory x (a .addresses .now) (a .compact .now) (a .inflight .now)) (a .address .0) (a .block .now))
+    subst (λ (x : State). checked (c .checks .result)
+    ≡ writeRefusal (a .p) (a .offline .now) (disk s) (mkMemory x (a .addresses .now) (a .compact .now) (a .inflight .now)) (a .address .0) (a .block .now))
     (sym (s .pre .0))
     (c .checks .ensures)
 
@@ -98,11 +100,11 @@ same-length-5 c = search needs
 
 returns : tie.Need-returns
 returns c =
-    let s = c .before .before .before .before .before .before .before .before .before .before .before .before .before .before .before .before .before .before .before in
+    let s = c .before .before .before .before .before .before .before .before .before .before .before .before .before .before .before .before .before .before .before .before in
     let at = c .before .before .before .before in
     let a = s .args in
     let q = c .before .before .c .given in
-    write-refused (a .p) (disk s) (memory s) (a .address .0) (a .block .now) (a .count) (s .pre .2) (c .kept .result)
+    write-refused (a .p) (a .offline .now) (disk s) (memory s) (a .address .0) (a .block .now) (a .count) (s .pre .2) (c .kept .result)
     (sym (checked-is (at)) ∙ ap checked (q .1) ∙ ap (λ (x : Change). some (x .answer)) (sym (c .kept .ensures)))
 
 enum-told : tie.Need-enum-told
@@ -110,18 +112,18 @@ enum-told c = search needs
 
 open-requires : tie.Need-open-requires
 open-requires c κs =
-    let s = c .before .before .before .before .before .before .before .before .before .before .before .before .before .before .before .before .before .before .before in
+    let s = c .before .before .before .before .before .before .before .before .before .before .before .before .before .before .before .before .before .before .before .before in
     let enum-told = c .before .before .enum-told in
     let at-4 = c .before .before .before .before in
     let at-10 = c .before .before .before .before .before .before .before .before .before .before in
     let g = c .before .before .before .before .before .before .before .before .before .before .aim-of in
     let f = c .before .before .before .before .before .before .before .before .before .before .before .front-of in
     let a = s .args in
-    let none! : writeRefusal (a .p) (disk s) (memory s) (a .address .0) (a .block .now) ≡ none = sym (checked-is (at-4)) ∙ ap checked (enum-told .given .1) in
-    let r = write-ready (a .p) (disk s) (memory s) (a .address .0) (a .block .now) none! in (
+    let none! : writeRefusal (a .p) (a .offline .now) (disk s) (memory s) (a .address .0) (a .block .now) ≡ none = sym (checked-is (at-4)) ∙ ap checked (enum-told .given .1) in
+    let r = write-ready (a .p) (a .offline .now) (disk s) (memory s) (a .address .0) (a .block .now) none! in (
       r .ranged,
       (
-        r .whole,
+        (r .whole, r .offline-long),
         (
           ap (λ (x : Aim). x .opens) (g .ensures),
           (
@@ -161,18 +163,18 @@ returns-2 c =
     let at-17 = c .before .before .before .before .before .before .before .before .before .before .before .before .before .before .before .before .before in
     let s =
     at-17
-    .before .before .before .before .before .before .before .before .before .before .before .before .before .before .before in
+    .before .before .before .before .before .before .before .before .before .before .before .before .before .before .before .before in
     let front-of =
     at-17
     .before .before .before .before .before .before .before .front-of in
     let a = s .args in
-    let none! : writeRefusal (a .p) (disk s) (memory s) (a .address .0) (a .block .now) ≡ none = sym (checked-is (at-17)) ∙ ap checked (enum-told .given .1) in
+    let none! : writeRefusal (a .p) (a .offline .now) (disk s) (memory s) (a .address .0) (a .block .now) ≡ none = sym (checked-is (at-17)) ∙ ap checked (enum-told .given .1) in
     let o = at-12 .«open» in
     let k′ : Disk = mkDisk (o .last .1 .0) (o .last .1 .1 .0) in
-    let h : OpeningStores (a .p) (a .state) (a .count) (disk s) (o .result) k′ =
-    opening-front (a .p) (a .state) (a .count) (disk s) (o .result) k′
-    (subst (λ (x : Front). OpeningStores (a .p) (behind x) (a .count) (disk s) (o .result) k′) (front-of .ensures) (o .ensures)) in
-    ends-write-cut (a .p) (disk s) (memory s) (a .address .0) (a .block .now) (a .count) (s .pre .2) none! (o .result) k′ h (if1 .taken) (q .result) (q .last .0) (q .last .1 .0)
+    let h : OpeningStores (a .p) (a .offline .now) (a .state) (a .count) (disk s) (o .result) k′ =
+    opening-front (a .p) (a .offline .now) (a .state) (a .count) (disk s) (o .result) k′
+    (subst (λ (x : Front). OpeningStores (a .p) (a .offline .now) (behind x) (a .count) (disk s) (o .result) k′) (front-of .ensures) (o .ensures)) in
+    ends-write-cut (a .p) (a .offline .now) (disk s) (memory s) (a .address .0) (a .block .now) (a .count) (s .pre .2) none! (o .result) k′ h (if1 .taken) (q .result) (q .last .0) (q .last .1 .0)
     (ap (λ (x : Change). x .answer) (q .ensures .0)) (q .ensures .1 .0) (q .ensures .1 .1)
 
 row-at-requires : tie.Need-row-at-requires
@@ -183,23 +185,26 @@ row-at-requires c κs =
     let at-17 = c .before .before .before .before .before .before .before .before .before .before .before .before .before .before .before .before .before in
     let s =
     at-17
-    .before .before .before .before .before .before .before .before in
+    .before .before .before .before .before .before .before .before .before in
     let a = s .args in
-    let none! : writeRefusal (a .p) (disk s) (memory s) (a .address .0) (a .block .now) ≡ none = sym (checked-is (at-10)) ∙ ap checked (enum-told .given .1) in
-    (s .pre .1, subst (λ (x : Aim). x .slot < 8) (sym (aimed (at-16))) (slot-lt (a .p) (a .state) (write-ready (a .p) (disk s) (memory s) (a .address .0) (a .block .now) none! .waits)))
+    let none! : writeRefusal (a .p) (a .offline .now) (disk s) (memory s) (a .address .0) (a .block .now) ≡ none = sym (checked-is (at-10)) ∙ ap checked (enum-told .given .1) in (
+      s .pre .1,
+      subst (λ (x : Aim). x .slot < 8) (sym (aimed (at-16)))
+          (slot-lt (a .p) (a .state) (write-ready (a .p) (a .offline .now) (disk s) (memory s) (a .address .0) (a .block .now) none! .waits)),
+    )
 
 -- the row is the state's
 row-is :
     (c : tie.After-row-at)
     → c .row-at .result ≡ slotRow (c .before .before .before .before .before .before .before .before .before .before .before .before .before .before
-    .before .before .before .before .before .before .before .before .before .before .before .before .args .state)
+    .before .before .before .before .before .before .before .before .before .before .before .before .before .args .state)
     (c .before .before .before .before .before .before .before .before .before .before .before .before .before .before .before .before .before .aim-of .result .slot)
 row-is c =
     let at′ = c .before .before .before .before .before .before .before .before .before .before .before .before .before .before .before .before .before in
     let aim-of = c .before .before .before .before .before .before .before .before .before .before .before .before .before .before .before .before .before .aim-of in
     let s =
     at′
-    .before .before .before .before .before .before .before .before .before in
+    .before .before .before .before .before .before .before .before .before .before in
     subst (λ (x : State). c .row-at .result ≡ slotRow x (aim-of .result .slot)) (sym (s .pre .0)) (c .row-at .ensures)
 
 plan-requires : tie.Need-plan-requires
@@ -213,18 +218,18 @@ plan-requires c κs =
     let f = c .before .before .before .before .before .before .before .before .before .before .before .before .before .before .before .before .before .before .before .front-of in
     let s =
     at-17
-    .before .before .before .before .before .before .before .before .before .before in
+    .before .before .before .before .before .before .before .before .before .before .before in
     let a = s .args in
-    let none! : writeRefusal (a .p) (disk s) (memory s) (a .address .0) (a .block .now) ≡ none = sym (checked-is (at-12)) ∙ ap checked (enum-told .given .1) in
-    let r = write-ready (a .p) (disk s) (memory s) (a .address .0) (a .block .now) none! in
+    let none! : writeRefusal (a .p) (a .offline .now) (disk s) (memory s) (a .address .0) (a .block .now) ≡ none = sym (checked-is (at-12)) ∙ ap checked (enum-told .given .1) in
+    let r = write-ready (a .p) (a .offline .now) (disk s) (memory s) (a .address .0) (a .block .now) none! in
     let o = at-7 .«open» in
     let k′ : Disk = mkDisk (o .last .1 .0) (o .last .1 .1 .0) in
-    let h : OpeningStores (a .p) (a .state) (a .count) (disk s) (o .result) k′ =
-    opening-front (a .p) (a .state) (a .count) (disk s) (o .result) k′
-    (subst (λ (x : Front). OpeningStores (a .p) (behind x) (a .count) (disk s) (o .result) k′) (f .ensures) (o .ensures)) in (
+    let h : OpeningStores (a .p) (a .offline .now) (a .state) (a .count) (disk s) (o .result) k′ =
+    opening-front (a .p) (a .offline .now) (a .state) (a .count) (disk s) (o .result) k′
+    (subst (λ (x : Front). OpeningStores (a .p) (a .offline .now) (behind x) (a .count) (disk s) (o .result) k′) (f .ensures) (o .ensures)) in (
       r .ranged,
       (
-        plan-asks (a .p) (disk s) (memory s) (a .address .0) (a .block .now) (a .count) (s .pre .2) none! (o .result) k′ h (f .result) (f .ensures) (aim-of .result) (aimed (at-18))
+        plan-asks (a .p) (a .offline .now) (disk s) (memory s) (a .address .0) (a .block .now) (a .count) (s .pre .2) none! (o .result) k′ h (f .result) (f .ensures) (aim-of .result) (aimed (at-18))
             (c .before .row-at .result) (row-is (c .before)) (stamp-fits s),
         (r .inflight-long, r .block-long),
       ),
@@ -261,15 +266,15 @@ returns-3 c =
     c .before .before .before .before .before .before .before .before .before .before .before .before .before .before .before .before .before .before .before .before .before .before .front-of in
     let s =
     at-17
-    .before .before .before .before .before .before .before .before .before .before .before .before .before in
+    .before .before .before .before .before .before .before .before .before .before .before .before .before .before in
     let a = s .args in
-    let none! : writeRefusal (a .p) (disk s) (memory s) (a .address .0) (a .block .now) ≡ none = sym (checked-is (at-15)) ∙ ap checked (enum-told .given .1) in
+    let none! : writeRefusal (a .p) (a .offline .now) (disk s) (memory s) (a .address .0) (a .block .now) ≡ none = sym (checked-is (at-15)) ∙ ap checked (enum-told .given .1) in
     let o = at-10 .«open» in
     let k′ : Disk = mkDisk (o .last .1 .0) (o .last .1 .1 .0) in
-    let h : OpeningStores (a .p) (a .state) (a .count) (disk s) (o .result) k′ =
-    opening-front (a .p) (a .state) (a .count) (disk s) (o .result) k′
-    (subst (λ (x : Front). OpeningStores (a .p) (behind x) (a .count) (disk s) (o .result) k′) (f .ensures) (o .ensures)) in
-    ends-plan (a .p) (disk s) (memory s) (a .address .0) (a .block .now) (a .count) (s .pre .2) none! (o .result) k′ h (f .result) (f .ensures) (aim-of .result) (aimed (at-21))
+    let h : OpeningStores (a .p) (a .offline .now) (a .state) (a .count) (disk s) (o .result) k′ =
+    opening-front (a .p) (a .offline .now) (a .state) (a .count) (disk s) (o .result) k′
+    (subst (λ (x : Front). OpeningStores (a .p) (a .offline .now) (behind x) (a .count) (disk s) (o .result) k′) (f .ensures) (o .ensures)) in
+    ends-plan (a .p) (a .offline .now) (disk s) (memory s) (a .address .0) (a .block .now) (a .count) (s .pre .2) none! (o .result) k′ h (f .result) (f .ensures) (aim-of .result) (aimed (at-21))
     (row-at .result) (row-is (at-4)) (sized s) (if1 .left) (q .result) (q .last .1 .0) (q .ensures .0) (q .ensures .1)
 
 pub write-spec : {M : Type 1} → statement M

@@ -1,9 +1,10 @@
 -- `footer_stores`: the first count of n stores are the first m = min(count, n); m = 0 leaves the drives, else `store_footers` makes them. Assumes nothing.
 use mathlib.Core.Path.{sym, ap, _∙_}
 use mathlib.Core.List.{List}
+use Prim.Native.Nat.{ℕ}
 use native.Mathlib.Omega.{arith}
 use borrow.Author.Needs.{needs}
-use Rattle.spec.specs.Drives.{Store, viewOf, mkDisk, zoneAt, storeDisk, storeAll}
+use Rattle.spec.specs.Drives.{Zone, Store, viewOf, mkDisk, zoneAt, storeDisk, storeAll}
 use Rattle.disk_zones.specs.Made.{madeOf}
 use Rattle.disk_footers.specs.Laid.{feet-taken, feet-none, feet-count}
 use Rattle.disk_footers.proofs.footer_stores.Statement.{statement}
@@ -23,13 +24,13 @@ returns c =
     let pre = c .before .before .before .before .before .pre in
     let p = a .p in
     let k = mkDisk (a .image .now) (a .pointers .now) in
-    let q = zoneAt (viewOf p (a .image .now) (a .pointers .now)) (a .drive) (a .zone) in
+    let q : List ℕ → Zone = λ off. zoneAt (viewOf p off (a .image .now) (a .pointers .now)) (a .drive) (a .zone) in
     let w = pre .1 .0 in
     let h = pre .1 .1 in
     let m = allowed .ensures in
-    record {
-      made = c .made .ensures ∙ ap (madeOf (a .count)) (sym (feet-count p (a .drive) (a .zone) q (a .first) (a .n)));
-      disk = sym (feet-none p (a .drive) (a .zone) q (a .first) (a .n) (a .count) k (sym m ∙ c .before .if1 .taken));
+    λ off. record {
+      made = c .made .ensures ∙ ap (madeOf (a .count)) (sym (feet-count p (a .drive) (a .zone) (q off) (a .first) (a .n)));
+      disk = sym (feet-none p (a .drive) (a .zone) (q off) (a .first) (a .n) (a .count) k (sym m ∙ c .before .if1 .taken));
     }
 
 store-footers-requires : tie.Need-store-footers-requires
@@ -40,7 +41,6 @@ store-footers-requires c κs =
     let pre = c .before .before .before .before .before .before .pre in
     let p = a .p in
     let k = mkDisk (a .image .now) (a .pointers .now) in
-    let q = zoneAt (viewOf p (a .image .now) (a .pointers .now)) (a .drive) (a .zone) in
     let w = pre .1 .0 in
     let h = pre .1 .1 in
     let m = allowed .ensures in
@@ -63,13 +63,13 @@ returns-2 c =
     let pre = c .before .before .before .before .before .before .before .before .before .before .before .before .pre in
     let p = a .p in
     let k = mkDisk (a .image .now) (a .pointers .now) in
-    let q = zoneAt (viewOf p (a .image .now) (a .pointers .now)) (a .drive) (a .zone) in
+    let q : List ℕ → Zone = λ off. zoneAt (viewOf p off (a .image .now) (a .pointers .now)) (a .drive) (a .zone) in
     let w = pre .1 .0 in
     let h = pre .1 .1 in
     let m = allowed .ensures in
-    record {
-      made = c .made2 .ensures ∙ ap (madeOf (a .count)) (sym (feet-count p (a .drive) (a .zone) q (a .first) (a .n)));
-      disk = store-footers .ensures ∙ sym (ap (λ (x : List Store). storeAll (storeDisk p) x k) (feet-taken p (a .drive) (a .zone) q (a .first) (a .n) (a .count) (allowed .result) m));
+    λ off. record {
+      made = c .made2 .ensures ∙ ap (madeOf (a .count)) (sym (feet-count p (a .drive) (a .zone) (q off) (a .first) (a .n)));
+      disk = store-footers .ensures off ∙ sym (ap (λ (x : List Store). storeAll (storeDisk p) x k) (feet-taken p (a .drive) (a .zone) (q off) (a .first) (a .n) (a .count) (allowed .result) m));
     }
 
 pub footer-stores-spec : {M : Type 1} → statement M

@@ -291,9 +291,9 @@ returns c =
     let im = a .image .now in
     let ss = sparesBy p im (a .drive) (a .zone) in
     let e : l .j ≡ records-of .result = omega (arith, c .loop-test .left) in
-    λ ps hp. l .inv .3 ∙ ap (λ (x : ℕ). splice (replicate (p .B) 0) 0 (recordsOf p ss (a .i) x)) e
+    λ off ps hp. l .inv .3 ∙ ap (λ (x : ℕ). splice (replicate (p .B) 0) 0 (recordsOf p ss (a .i) x)) e
     ∙ footer-is p r ss (sparesBy-count p r (a .drive) (a .zone) (h .1) (h .2) im (h .0)) (spare-long p r (a .drive) (a .zone) (h .1) (h .2) im (h .0)) (a .i) (records-of .result) (n .0)
-    ∙ ap (λ (x : List (List ℕ)). footerBlock p x (a .i)) (sym (spares-view p r (a .drive) (a .zone) (h .1) (h .2) im (h .0) ps hp))
+    ∙ ap (λ (x : List (List ℕ)). footerBlock p x (a .i)) (sym (spares-view p r (a .drive) (a .zone) (h .1) (h .2) im (h .0) off ps hp))
 
 pub make-footer-spec : {M : Type 1} → statement M
 make-footer-spec =

@@ -11,6 +11,7 @@ use Rattle.spec.specs.Layout.{headerBlock}
 use Rattle.spec.specs.Lists.{sameList}
 use Rattle.law_basic.specs.Fields.{header-block-long}
 use Rattle.law_basic.specs.Geometry.{ranged}
+use Rattle.law_basic.specs.Segs.{zones-in-long}
 use Rattle.disk_records.specs.Header.{same-unit}
 use Rattle.disk_records.proofs.matches_header.Statement.{statement}
 use Rattle.disk_records.proofs.matches_header.Tie as tie
@@ -81,7 +82,7 @@ returns c =
     let b = headerBlock p (a .drive) (zonesIn p (a .segment)) (a .serial .0) (a .copied .0) in
     let r = ranged p (h .0) in
     c .same .ensures ∙ ap (sameList (a .src .now)) (e ∙ write-header .ensures)
-    ∙ same-unit p (a .src .now) b zeroSpare (h .1) (header-block-long p r (a .drive) (zonesIn p (a .segment)) (a .serial .0) (a .copied .0))
+    ∙ same-unit p (a .src .now) b zeroSpare (h .1) (header-block-long p r (a .drive) (zonesIn p (a .segment)) (a .serial .0) (a .copied .0) (zones-in-long p (a .segment)))
 
 pub matches-header-spec : {M : Type 1} → statement M
 matches-header-spec =

@@ -1,6 +1,7 @@
 -- `write_fields`: what remains to be written makes at each turn what all fields make of the buffer at the start (`FieldsLeft`). Assumes nothing.
 use mathlib.Core.Path.{_≡_, refl, sym, ap, _∙_, subst}
 use Prim.Native.Nat.{ℕ, suc, _+_, _-_, _≤_, _<_}
+use native.Mathlib.Nat.{add-zero, add-assoc}
 use native.Mathlib.Omega.{arith}
 use lib.ListN.{length, getD, take}
 use Rattle.spec.specs.Lists.{total}
@@ -10,16 +11,17 @@ use Rattle.disk_records.proofs.write_fields.Statement.{statement}
 use Rattle.disk_records.proofs.write_fields.Tie as tie
 
 abbrev Inv-loop : tie.InvT-loop
-Inv-loop dst₀ widths values at₀ i₀ dst at i = (i ≤ length widths) × (length dst ≡ length dst₀) × (at ≡ total (take i widths)) × FieldsLeft widths values dst₀ dst at i
+Inv-loop dst₀ from widths values at₀ i₀ dst at i = (i ≤ length widths) × (length dst ≡ length dst₀) × (at ≡ from + total (take i widths))
+    × FieldsLeft widths values from dst₀ dst at i
 
 abbrev μ-loop : tie.MeasureT-loop
-μ-loop dst₀ widths values at₀ i₀ dst at i = length widths - i
+μ-loop dst₀ from widths values at₀ i₀ dst at i = length widths - i
 
 loop-holds : tie.Need-loop-holds Inv-loop μ-loop
 unfolding total
 loop-holds c =
     let a = c .before .before .before .args in
-    (omega arith, refl, refl, rest-none (a .widths .now) (a .values .now) (a .dst .now) (c .before .before .before .pre .0))
+    (omega arith, refl, sym (add-zero (a .from)), rest-none (a .widths .now) (a .values .now) (a .from) (a .dst .now) (c .before .before .before .pre .0))
 
 mul-write-be : tie.Need-mul-write-be Inv-loop μ-loop
 mul-write-be c = search needs
@@ -73,9 +75,10 @@ loop-again c =
     let s : l .i + 1 ≡ suc (l .i) = omega arith in (
       omega (arith, t),
       w .kept .0 ∙ l .inv .1,
-      ap (λ (n : ℕ). n + getD ws (l .i) 0) (l .inv .2) ∙ sym (total-more ws (l .i) t) ∙ ap (λ (n : ℕ). total (take n ws)) (sym s),
-      subst (FieldsLeft ws (e .args .values .now) (e .args .dst .now) (w .last .0) (l .at + getD ws (l .i) 0)) (sym s)
-          (rest-more ws (e .args .values .now) (e .args .dst .now) (e .pre .0) (l .dst) (w .last .0) (l .at) (l .i) t (l .inv .3) (w .ensures)),
+      ap (λ (n : ℕ). n + getD ws (l .i) 0) (l .inv .2) ∙ add-assoc (e .args .from) (total (take (l .i) ws)) (getD ws (l .i) 0)
+          ∙ ap (λ (n : ℕ). e .args .from + n) (sym (total-more ws (l .i) t) ∙ ap (λ (n : ℕ). total (take n ws)) (sym s)),
+      subst (FieldsLeft ws (e .args .values .now) (e .args .from) (e .args .dst .now) (w .last .0) (l .at + getD ws (l .i) 0)) (sym s)
+          (rest-more ws (e .args .values .now) (e .args .from) (e .args .dst .now) (e .pre .0) (l .dst) (w .last .0) (l .at) (l .i) t (l .inv .3) (w .ensures)),
     )
 
 same-length : tie.Need-same-length Inv-loop μ-loop
@@ -87,7 +90,7 @@ returns c =
     let e = c .before .before .before .before .before in
     let ws = e .args .widths .now in
     let d : l .i ≡ length ws = omega (arith, l .inv .0) in
-    rest-all ws (e .args .values .now) (e .args .dst .now) (e .pre .0) (l .dst) (l .at) (l .i) d (e .pre .1) (l .inv .3)
+    rest-all ws (e .args .values .now) (e .args .from) (e .args .dst .now) (e .pre .0) (l .dst) (l .at) (l .i) d (e .pre .1) (l .inv .3)
 
 pub write-fields-spec : {M : Type 1} → statement M
 write-fields-spec =

@@ -7,7 +7,7 @@ use borrow.Author.Needs.{needs}
 use borrow.Author.Tests.{not-true, not-false}
 use Rattle.spec.specs.Engine.Call.{close}
 use Rattle.spec.specs.Lists.{isMember}
-use Rattle.spec.specs.Params.{between, blockSizes, dataCount, mostAddresses, inRange}
+use Rattle.spec.specs.Params.{between, blockSizes, dataCount, mostWith, mostAddresses, inRange}
 use Rattle.law_basic.specs.Geometry.{prod-le, between-low, between-high}
 use Rattle.disk_shape.proofs.in_range.Statement.{statement}
 use Rattle.disk_shape.proofs.in_range.Tie as tie
@@ -146,7 +146,7 @@ is-between-requires-5 : tie.Need-is-between-requires-5
 is-between-requires-5 c κs = search needs
 
 returns-6 : tie.Need-returns-6
-unfolding inRange mostAddresses dataCount
+unfolding inRange mostAddresses mostWith dataCount
 returns-6 c =
     let parities = c .before .before .before .before .parity-count in
     let if5 = c .before .before .before .before .before .if5 in

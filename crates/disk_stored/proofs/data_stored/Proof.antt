@@ -21,7 +21,7 @@ returns c =
     let p = a .p in
     let h = pre .1 in
     let n : c .before .pointer .result ≡ pointerOf p (a .pointers .now) (a .drive) (a .zone) = c .before .pointer .ensures in
-    ((λ im hi. let e = data-stored-by p (ranged p (pre .0)) im (a .pointers .now) hi (h .0) (a .drive) (a .zone) (h .1) (h .2) in omega (arith, e, n, c .if1 .taken)), omega arith)
+    ((λ off im hi. let e = data-stored-by p (ranged p (pre .0)) off im (a .pointers .now) hi (h .0) (a .drive) (a .zone) (h .1) (h .2) in omega (arith, e, n, c .if1 .taken)), omega arith)
 
 sub-if2 : tie.Need-sub-if2
 sub-if2 c = search needs
@@ -34,7 +34,7 @@ returns-2 c =
     let p = a .p in
     let h = pre .1 in
     let n : pointer .result ≡ pointerOf p (a .pointers .now) (a .drive) (a .zone) = pointer .ensures in
-    ((λ im hi. let e = data-stored-by p (ranged p (pre .0)) im (a .pointers .now) hi (h .0) (a .drive) (a .zone) (h .1) (h .2) in omega (arith, e, n, c .if2 .taken)), omega arith)
+    ((λ off im hi. let e = data-stored-by p (ranged p (pre .0)) off im (a .pointers .now) hi (h .0) (a .drive) (a .zone) (h .1) (h .2) in omega (arith, e, n, c .if2 .taken)), omega arith)
 
 sub-result : tie.Need-sub-result
 sub-result c = search needs
@@ -46,8 +46,11 @@ returns-3 c =
     let pre = c .before .before .before .before .before .pre in
     let p = a .p in
     let h = pre .1 in
-    let n : pointer .result ≡ pointerOf p (a .pointers .now) (a .drive) (a .zone) = pointer .ensures in
-    ((λ im hi. let e = data-stored-by p (ranged p (pre .0)) im (a .pointers .now) hi (h .0) (a .drive) (a .zone) (h .1) (h .2) in omega (arith, e, n, c .if2 .left)), omega (arith, c .if2 .left))
+    let n : pointer .result ≡ pointerOf p (a .pointers .now) (a .drive) (a .zone) = pointer .ensures in (
+      (λ off im hi. let e = data-stored-by p (ranged p (pre .0)) off im (a .pointers .now) hi (h .0) (a .drive) (a .zone) (h .1) (h .2) in omega (arith, e, n, c .if2 .left)),
+      omega
+          (arith, c .if2 .left),
+    )
 
 pub data-stored-spec : {M : Type 1} → statement M
 data-stored-spec =

@@ -25,7 +25,7 @@ returns c =
     let p = a .p in
     let h = pre .1 in
     let n : pointer .result ≡ pointerOf p (a .pointers .now) (a .drive) (a .zone) = pointer .ensures in
-    ((λ im hi. let e = footers-stored-by p (ranged p (pre .0)) im (a .pointers .now) hi (h .0) (a .drive) (a .zone) (h .1) (h .2) in omega (arith, e, n, c .if1 .taken)), omega arith)
+    ((λ off im hi. let e = footers-stored-by p (ranged p (pre .0)) off im (a .pointers .now) hi (h .0) (a .drive) (a .zone) (h .1) (h .2) in omega (arith, e, n, c .if1 .taken)), omega arith)
 
 sub-m : tie.Need-sub-m
 sub-m c = search needs
@@ -44,7 +44,7 @@ returns-2 c =
     let p = a .p in
     let h = pre .1 in
     let n : pointer .result ≡ pointerOf p (a .pointers .now) (a .drive) (a .zone) = pointer .ensures in (
-      (λ im hi. let e = footers-stored-by p (ranged p (pre .0)) im (a .pointers .now) hi (h .0) (a .drive) (a .zone) (h .1) (h .2) in omega
+      (λ off im hi. let e = footers-stored-by p (ranged p (pre .0)) off im (a .pointers .now) hi (h .0) (a .drive) (a .zone) (h .1) (h .2) in omega
           (arith, e, n, c .if2 .taken, c .before .footers .ensures .0)),
       omega (arith, c .before .footers .ensures .0),
     )
@@ -57,7 +57,7 @@ returns-3 c =
     let p = a .p in
     let h = pre .1 in
     let n : pointer .result ≡ pointerOf p (a .pointers .now) (a .drive) (a .zone) = pointer .ensures in (
-      (λ im hi. let e = footers-stored-by p (ranged p (pre .0)) im (a .pointers .now) hi (h .0) (a .drive) (a .zone) (h .1) (h .2) in omega
+      (λ off im hi. let e = footers-stored-by p (ranged p (pre .0)) off im (a .pointers .now) hi (h .0) (a .drive) (a .zone) (h .1) (h .2) in omega
           (arith, e, n, c .if2 .left, c .before .footers .ensures .0)),
       omega (arith, c .if2 .left, c .before .footers .ensures .0),
     )

@@ -1,21 +1,14 @@
--- `place_record`: drive, zone and block of the place name the record that `record_at` reads. Assumes nothing.
-use mathlib.Core.Path.{sym, ap, _∙_}
+-- `place_record`: drive and block of the place name the record that `record_at` reads. Assumes nothing.
+use mathlib.Core.Path.{_∙_}
 use Prim.Native.Nat.{_-_, _<_}
 use native.Mathlib.Omega.{arith}
 use borrow.Author.Needs.{needs}
-use Rattle.spec.specs.Drives.{viewOf, recordAt, across}
-use Rattle.law_basic.specs.Segs.{place-number, across-zones-low, across-zone}
+use Rattle.spec.specs.Drives.{viewOf, recordAt, zoneOn}
 use Rattle.disk_stored.proofs.place_record.Statement.{statement}
 use Rattle.disk_stored.proofs.place_record.Tie as tie
 
 place-drive-requires : tie.Need-place-drive-requires
 place-drive-requires c κs = search needs
-
-place-zone-requires : tie.Need-place-zone-requires
-place-zone-requires c κs = search needs
-
-across-requires : tie.Need-across-requires
-across-requires c κs = (c .before .before .before .before .pre .0, c .place-zone .ensures .1)
 
 place-block-requires : tie.Need-place-block-requires
 place-block-requires c κs = search needs
@@ -25,44 +18,22 @@ sub-offset c = search needs
 
 record-at-requires : tie.Need-record-at-requires
 record-at-requires c κs =
-    let a = c .before .before .before .before .before .before .args in
-    let pre = c .before .before .before .before .before .before .pre in
+    let a = c .before .before .before .before .args in
+    let pre = c .before .before .before .before .pre in
     let p = a .p in
-    let d = c .before .before .before .place-drive in
-    let z = c .before .before .place-zone in
-    let g = c .before .across .ensures in
-    let dp = pre .1 .1 in
-    let hd : d .result < p .N = omega (arith, d .ensures .0, dp .drive-low) in (
-      pre .0,
-      (
-        pre .1 .0,
-        (
-          hd,
-          rw g (across-zones-low p (a .gone) (z .result) (z .ensures .1)),
-          omega (arith, c .place-block .ensures .0, dp .block-low, dp .block-high),
-          rw (g, across-zone p (z .result) (d .result) hd) (z .ensures .1),
-        ),
-      ),
-    )
+    let d = c .before .place-drive in
+    let dp = pre .1 .1 .0 in
+    let hd : d .result < p .N = omega (arith, d .ensures .0, dp .drive-low) in
+    let hz : zoneOn (a .segment) (d .result) < p .Z = rw (d .ensures .0) (pre .1 .1 .2) in
+    (pre .0, (pre .1 .0, (hd, pre .1 .1 .1, omega (arith, c .place-block .ensures .0, dp .block-low, dp .block-high), hz)))
 
 returns : tie.Need-returns
 returns c =
-    let a = c .before .before .before .before .before .before .before .args in
+    let a = c .before .before .before .before .before .args in
     let p = a .p in
-    let v = viewOf p (a .image .now) (a .pointers .now) in
-    let ed = c .before .before .before .before .place-drive .ensures .0 in
-    let ez = c .before .before .across .ensures ∙ ap (across p) (c .before .before .before .place-zone .ensures .0) ∙ sym (place-number p (a .place .0)) in
+    let ed = c .before .before .place-drive .ensures .0 in
     let eb = c .before .place-block .ensures .0 in
-    c .record-at .ensures ∙ (λ j. recordAt p v (a .gone) (ed j) (ez j) (eb j - 1))
+    λ off. c .record-at .ensures off ∙ (λ j. recordAt p (viewOf p off (a .image .now) (a .pointers .now)) (a .gone) (ed j) (a .segment) (eb j - 1))
 
 pub place-record-spec : {M : Type 1} → statement M
-place-record-spec =
-    tie.close
-    (tie.spec
-    place-drive-requires
-    place-zone-requires
-    across-requires
-    place-block-requires
-    sub-offset
-    record-at-requires
-    returns)
+place-record-spec = tie.close (tie.spec place-drive-requires place-block-requires sub-offset record-at-requires returns)

@@ -27,9 +27,10 @@ returns c =
     let a = c .before .before .before .before .before .args in
     let pre = c .before .before .before .before .before .pre in
     let w = pre .1 .0 in
-    let v = viewOf (a .p) (a .image .now) (a .pointers .now) in
-    c .record-in .ensures (a .pointers .now) (w .pointers-long)
-    ∙ ap₂ (λ (f : Bool) (z : ℕ). recordIn (a .p) f (zoneAt v (a .drive) z) (a .offset)) (c .before .before .is-sealed .ensures (a .image .now) (w .image-long)) (c .before .zone-on .ensures)
+    λ off.
+    let v = viewOf (a .p) off (a .image .now) (a .pointers .now) in
+    c .record-in .ensures off (a .pointers .now) (w .pointers-long)
+    ∙ ap₂ (λ (f : Bool) (z : ℕ). recordIn (a .p) f (zoneAt v (a .drive) z) (a .offset)) (c .before .before .is-sealed .ensures off (a .image .now) (w .image-long)) (c .before .zone-on .ensures)
 
 pub record-at-spec : {M : Type 1} → statement M
 record-at-spec =

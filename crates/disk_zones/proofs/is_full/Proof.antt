@@ -24,9 +24,15 @@ zone-on-requires c κs = search needs
 pointer-requires : tie.Need-pointer-requires
 pointer-requires c κs =
     let a = c .before .before .before .before .args in
-    let pre = c .before .before .before .before .pre in
-    let here = sym (c .before .before .has-drive .ensures) ∙ c .before .if1 .left in
-    (pre .0, (pre .1 .0, pre .1 .1, rw (c .zone-on .ensures) (low-zone (a .p) (a .gone) (a .segment) (a .drive) (pre .1 .2) (pre .1 .1) here)))
+    let pre = c .before .before .before .before .pre in (
+      pre .0,
+      (
+        pre .1 .0,
+        pre .1 .1,
+        rw (c .zone-on .ensures) (low-zone (a .p) (a .gone) (a .segment) (a .drive) (pre .1 .2) (pre .1 .1) (sym (c .before .before .has-drive .ensures)
+            ∙ c .before .if1 .left)),
+      ),
+    )
 
 cast-result : tie.Need-cast-result
 cast-result c = search needs

@@ -42,9 +42,9 @@ returns c =
     let p = a .p in
     let ps = a .pointers .now in
     let f : ℕ → Bool = λ e. isIn (a .gone) e || eqb (pointerOf p ps e (zoneOn (a .segment) e)) (capacity p) in
-    λ im h. (sym (all-broken f (l .d) (p .N) (if1 .taken) (sym (c .before .is-full .ensures) ∙ not-true (c .before .is-full .result) (c .if2 .taken)))
+    λ off im h. (sym (all-broken f (l .d) (p .N) (if1 .taken) (sym (c .before .is-full .ensures) ∙ not-true (c .before .is-full .result) (c .if2 .taken)))
     ∙ l .inv .1)
-    ∙ sym (sealed-list p im ps (a .gone) (a .segment) (pre .1 .1) h (pre .1 .0))
+    ∙ sym (sealed-list p off im ps (a .gone) (a .segment) (pre .1 .1) h (pre .1 .0))
 
 add-d : tie.Need-add-d Inv-loop μ-loop
 add-d c = omega arith
@@ -70,8 +70,8 @@ returns-2 c =
     let p = a .p in
     let ps = a .pointers .now in
     let f : ℕ → Bool = λ e. isIn (a .gone) e || eqb (pointerOf p ps e (zoneOn (a .segment) e)) (capacity p) in
-    λ im h. (sym (all-ended f (l .d) (p .N) (omega (arith, c .if1 .left))) ∙ l .inv .1)
-    ∙ sym (sealed-list p im ps (a .gone) (a .segment) (pre .1 .1) h (pre .1 .0))
+    λ off im h. (sym (all-ended f (l .d) (p .N) (omega (arith, c .if1 .left))) ∙ l .inv .1)
+    ∙ sym (sealed-list p off im ps (a .gone) (a .segment) (pre .1 .1) h (pre .1 .0))
 
 pub is-sealed-spec : {M : Type 1} → statement M
 is-sealed-spec =

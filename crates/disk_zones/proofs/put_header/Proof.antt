@@ -12,6 +12,7 @@ use Rattle.spec.specs.Layout.{headerBlock}
 use Rattle.spec.specs.Params.{placeOf, placeByte}
 use Rattle.law_basic.specs.Geometry.{ranged, capacity-high}
 use Rattle.law_basic.specs.Splice.{splice-lent}
+use Rattle.law_basic.specs.Segs.{zones-in-long}
 use Rattle.disk_zones.specs.Made.{put-disk, header-unit}
 use Rattle.disk_zones.proofs.put_header.Statement.{statement}
 use Rattle.disk_zones.proofs.put_header.Tie as tie
@@ -85,7 +86,7 @@ returns c =
     let u = unit-len .result in
     let l : length (write-header .last .0) ≡ u =
     ap length (write-header .ensures)
-    ∙ header-unit p r (a .drive) (zonesIn p (a .segment)) (a .serial .0) (a .copied .0)
+    ∙ header-unit p r (a .drive) (zonesIn p (a .segment)) (a .serial .0) (a .copied .0) (zones-in-long p (a .segment))
     ∙ sym (unit-len .ensures .0) in
     put-disk p (a .drive) (a .zone) b zeroSpare im (a .pointers .now) (take t im ++ (write-header .last .0 ++ drop (t + u - t) (drop t im))) (set-pointer .last .1 .0)
     (splice-lent t u im (write-header .last .0) l ∙ ap₂ (splice im) at (write-header .ensures))

@@ -1,4 +1,4 @@
--- `settles`: `settled`: the resets of the dropped segments fit, then the mending of the one unsealed, if any; behind them each used segment
+-- `settles`: `settled`: the resets of the dropped segments fit, then the mending of the one unsealed, if any; behind them each segment
 -- is as found, or is that one with its footers, or its copy. Assumes nothing.
 use Rattle.law_basic.specs.Geometry.{ranged}
 use Rattle.law_restart.specs.Settled.{settled}

@@ -1,4 +1,4 @@
--- `front_past`: the bytes 0 and 1 are their own numbers, the words at 18 and 22 as read; the five tests are the five terms of the definition. Assumes nothing.
+-- `front_past`: the bytes 0 and 1 are their own numbers, the numbers at 10, 18 and 26 as read; the five tests are the five terms of the definition. Assumes nothing.
 use mathlib.Core.Path.{_≡_, ap, ap₂, _∙_}
 use native.Mathlib.Omega.{arith}
 use Prim.Native.Nat.{_+_, _<_}
@@ -8,7 +8,7 @@ use Rattle.mem_codec.specs.Codec.{state-len}
 use Rattle.spec.specs.Bytes.{leOf, part}
 use Rattle.law_basic.specs.Geometry.{ranged}
 use Rattle.law_basic.specs.Le.{leOf-part-one}
-use Rattle.mem_bounds.specs.Bounds.{other, past, frontPast}
+use Rattle.mem_bounds.specs.Bounds.{other, past, bounds-above, frontPast}
 use borrow.Author.Needs.{needs}
 use Rattle.mem_bounds.proofs.front_past.Statement.{statement}
 use Rattle.mem_bounds.proofs.front_past.Tie as tie
@@ -49,41 +49,36 @@ cast-past c = search needs
 past-requires-2 : tie.Need-past-requires-2
 past-requires-2 c κs = search needs
 
+read-le64-requires : tie.Need-read-le64-requires
+read-le64-requires c κs =
+    let pre = c .before .before .before .before .before .before .before .before .before .before .pre in
+    omega (arith, state-len, pre .1)
+
+read-le64-requires-2 : tie.Need-read-le64-requires-2
+read-le64-requires-2 c κs =
+    let pre = c .before .before .before .before .before .before .before .before .before .before .before .pre in
+    omega (arith, state-len, pre .1)
+
+above-requires : tie.Need-above-requires
+above-requires c κs = search needs
+
 read-le32-requires : tie.Need-read-le32-requires
 read-le32-requires c κs =
-    let pre = c .before .before .before .before .before .before .before .before .before .before .pre in
+    let pre = c .before .before .before .before .before .before .before .before .before .before .before .before .before .pre in
     omega (arith, state-len, pre .1)
 
 cast-past-2 : tie.Need-cast-past-2
 cast-past-2 c =
-    let s = c .before .before .before .before .before .before .before .before .before .before .before .before in
-    omega (arith, ranged (s .args .p) (s .pre .0) .zones-high)
+    let s = c .before .before .before .before .before .before .before .before .before .before .before .before .before .before .before in
+    omega (arith, ranged (s .args .p) (s .pre .0) .stripes-high)
 
 add-past : tie.Need-add-past
 add-past c =
-    let s = c .before .before .before .before .before .before .before .before .before .before .before .before in
-    omega (arith, ranged (s .args .p) (s .pre .0) .zones-high)
+    let s = c .before .before .before .before .before .before .before .before .before .before .before .before .before .before .before in
+    omega (arith, ranged (s .args .p) (s .pre .0) .stripes-high)
 
 past-requires-3 : tie.Need-past-requires-3
 past-requires-3 c κs = search needs
-
-read-le32-requires-2 : tie.Need-read-le32-requires-2
-read-le32-requires-2 c κs =
-    let pre = c .before .before .before .before .before .before .before .before .before .before .before .before .before .pre in
-    omega (arith, state-len, pre .1)
-
-cast-past-3 : tie.Need-cast-past-3
-cast-past-3 c =
-    let s = c .before .before .before .before .before .before .before .before .before .before .before .before .before .before .before in
-    omega (arith, ranged (s .args .p) (s .pre .0) .stripes-high)
-
-add-past-2 : tie.Need-add-past-2
-add-past-2 c =
-    let s = c .before .before .before .before .before .before .before .before .before .before .before .before .before .before .before in
-    omega (arith, ranged (s .args .p) (s .pre .0) .stripes-high)
-
-past-requires-4 : tie.Need-past-requires-4
-past-requires-4 c κs = search needs
 
 add-result : tie.Need-add-result
 add-result c = search needs
@@ -114,10 +109,10 @@ returns c =
     let f0 = live .other .ensures .0 ∙ ap other e0 in
     let f1 = gone .past .ensures .0 ∙ ap₂ past (gone .before .power .ensures) (gone .before .before .wide32 .ensures .0 ∙ e1) in
     let f2 = lost .past2 .ensures .0 ∙ ap (past 2) (lost .before .count .ensures .0 ∙ ap ones e1) in
-    let f3 = opened .past3 .ensures .0 ∙ ap (past (p .Z + 1)) (opened .before .before .read-le32 .ensures) in
-    let f4 = next .past4 .ensures .0 ∙ ap (past (p .S + 1)) (next .before .before .read-le322 .ensures) in (
+    let f3 = opened .above .ensures .0 ∙ ap₂ bounds-above (opened .before .before .read-le64 .ensures) (opened .before .read-le642 .ensures) in
+    let f4 = next .past3 .ensures .0 ∙ ap (past (p .S + 1)) (next .before .before .read-le32 .ensures) in (
       λ j. f0 j + f1 j + f2 j + f3 j + f4 j,
-      omega (arith, live .other .ensures .1, gone .past .ensures .1, lost .past2 .ensures .1, opened .past3 .ensures .1, next .past4 .ensures .1),
+      omega (arith, live .other .ensures .1, gone .past .ensures .1, lost .past2 .ensures .1, opened .above .ensures .1, next .past3 .ensures .1),
     )
 
 pub front-past-spec : {M : Type 1} → statement M
@@ -134,14 +129,13 @@ front-past-spec =
     count-requires
     cast-past
     past-requires-2
+    read-le64-requires
+    read-le64-requires-2
+    above-requires
     read-le32-requires
     cast-past-2
     add-past
     past-requires-3
-    read-le32-requires-2
-    cast-past-3
-    add-past-2
-    past-requires-4
     add-result
     add-result-2
     add-result-3

@@ -1,4 +1,4 @@
--- `slots_past`: the four sections at 26, 58, 66 and 74, each with its limit, are the four terms; `power` is the limit of the masks. Assumes nothing.
+-- `slots_past`: the four sections at 30, 62, 70 and 78, each with its limit, are the four terms; `power` is the limit of the masks. Assumes nothing.
 use mathlib.Core.Path.{_≡_, refl, ap, _∙_}
 use native.Mathlib.Omega.{arith}
 use Prim.Native.Nat.{ℕ, _+_, _-_, _^_}
@@ -75,8 +75,8 @@ returns c =
     let d : p .N - 1 ≡ dataCount p = refl in
     let f0 = numbers .words-past .ensures .0 in
     let f1 = filled .bytes-past .ensures .0 in
-    let f2 = writes .bytes-past2 .ensures .0 ∙ ap (λ (x : ℕ). pastIn 1 8 66 x bs) (writes .before .power .ensures ∙ ap (λ (x : ℕ). 2 ^ x) d) in
-    let f3 = landed .bytes-past3 .ensures .0 ∙ ap (λ (x : ℕ). pastIn 1 8 74 x bs) (landed .before .power2 .ensures) in (
+    let f2 = writes .bytes-past2 .ensures .0 ∙ ap (λ (x : ℕ). pastIn 1 8 70 x bs) (writes .before .power .ensures ∙ ap (λ (x : ℕ). 2 ^ x) d) in
+    let f3 = landed .bytes-past3 .ensures .0 ∙ ap (λ (x : ℕ). pastIn 1 8 78 x bs) (landed .before .power2 .ensures) in (
       λ j. f0 j + f1 j + f2 j + f3 j,
       omega (arith, numbers .words-past .ensures .1, filled .bytes-past .ensures .1, writes .bytes-past2 .ensures .1, landed .bytes-past3 .ensures .1),
     )

@@ -1,4 +1,4 @@
--- `decode`: each section is read at its offset, inside 1362 bytes; `state-read` says that these are the fields of the state. Assumes nothing.
+-- `decode`: each section is read at its offset, inside 1366 bytes; `state-read` says that these are the fields of the state. Assumes nothing.
 use Prim.Native.Nat.{_<_}
 use native.Mathlib.Omega.{arith}
 use lib.ListN.{length}
@@ -41,11 +41,11 @@ read-le64-requires c κs = omega (arith, state-len)
 read-le64-requires-2 : tie.Need-read-le64-requires-2
 read-le64-requires-2 c κs = omega (arith, state-len)
 
+read-le64-requires-3 : tie.Need-read-le64-requires-3
+read-le64-requires-3 c κs = omega (arith, state-len)
+
 read-le32-requires : tie.Need-read-le32-requires
 read-le32-requires c κs = omega (arith, state-len)
-
-read-le32-requires-2 : tie.Need-read-le32-requires-2
-read-le32-requires-2 c κs = omega (arith, state-len)
 
 returns : tie.Need-returns
 returns c =
@@ -65,7 +65,7 @@ returns c =
     let h : 1 < length bs = omega (arith, state-len, pre) in
     rw (state-read bs)
     (λ j.
-    mkState (leOf-part-one 0 bs (omega arith) j) (leOf-part-one 1 bs h j) (read-le64 .ensures j) (read-le642 .ensures j) (c .before .read-le32 .ensures j) (c .read-le322 .ensures j)
+    mkState (leOf-part-one 0 bs (omega arith) j) (leOf-part-one 1 bs h j) (read-le64 .ensures j) (read-le642 .ensures j) (c .before .read-le643 .ensures j) (c .read-le32 .ensures j)
     (words-at′ .ensures j) (bytes-at .ensures j) (bytes-at2 .ensures j) (bytes-at3 .ensures j) (many-longs-at .ensures j) (many-longs-at2 .ensures j)
     (many-words-at .ensures j))
 
@@ -84,6 +84,6 @@ decode-spec =
     shared-slice-read-t12
     read-le64-requires
     read-le64-requires-2
+    read-le64-requires-3
     read-le32-requires
-    read-le32-requires-2
     returns)

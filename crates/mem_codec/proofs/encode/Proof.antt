@@ -76,40 +76,40 @@ entry-7 c =
     entry-6 (at)
 
 -- the buffer keeps its length
-kept-0 : (c : tie.After-put-front) → length (c .put-front .last .0) ≡ 1362
+kept-0 : (c : tie.After-put-front) → length (c .put-front .last .0) ≡ 1366
 kept-0 c = c .put-front .kept .0 ∙ entry-0 c .pre ∙ state-len
 
-kept-1 : (c : tie.After-put-words) → length (c .put-words .last .0) ≡ 1362
+kept-1 : (c : tie.After-put-words) → length (c .put-words .last .0) ≡ 1366
 kept-1 c =
     let at = c .before .before .before .before .before in
     c .put-words .kept .0 ∙ kept-0 (at)
 
-kept-2 : (c : tie.After-put-bytes) → length (c .put-bytes .last .0) ≡ 1362
+kept-2 : (c : tie.After-put-bytes) → length (c .put-bytes .last .0) ≡ 1366
 kept-2 c =
     let at = c .before .before .before .before .before in
     c .put-bytes .kept .0 ∙ kept-1 (at)
 
-kept-3 : (c : tie.After-put-bytes2) → length (c .put-bytes2 .last .0) ≡ 1362
+kept-3 : (c : tie.After-put-bytes2) → length (c .put-bytes2 .last .0) ≡ 1366
 kept-3 c =
     let at = c .before .before .before .before .before in
     c .put-bytes2 .kept .0 ∙ kept-2 (at)
 
-kept-4 : (c : tie.After-put-bytes3) → length (c .put-bytes3 .last .0) ≡ 1362
+kept-4 : (c : tie.After-put-bytes3) → length (c .put-bytes3 .last .0) ≡ 1366
 kept-4 c =
     let at = c .before .before .before .before .before in
     c .put-bytes3 .kept .0 ∙ kept-3 (at)
 
-kept-5 : (c : tie.After-put-longs) → length (c .put-longs .last .0) ≡ 1362
+kept-5 : (c : tie.After-put-longs) → length (c .put-longs .last .0) ≡ 1366
 kept-5 c =
     let at = c .before .before .before .before .before in
     c .put-longs .kept .0 ∙ kept-4 (at)
 
-kept-6 : (c : tie.After-put-longs2) → length (c .put-longs2 .last .0) ≡ 1362
+kept-6 : (c : tie.After-put-longs2) → length (c .put-longs2 .last .0) ≡ 1366
 kept-6 c =
     let at = c .before .before .before .before .before in
     c .put-longs2 .kept .0 ∙ kept-5 (at)
 
-kept-7 : (c : tie.After-put-words2) → length (c .put-words2 .last .0) ≡ 1362
+kept-7 : (c : tie.After-put-words2) → length (c .put-words2 .last .0) ≡ 1366
 kept-7 c =
     let at = c .before .before .before .before .before in
     c .put-words2 .kept .0 ∙ kept-6 (at)
@@ -123,43 +123,43 @@ wrote-1 : (c : tie.After-put-words) → c .put-words .last .0 ≡ putSections (e
 unfolding stateSections stateNumbers sectionLen sectionBytes putSections
 wrote-1 c =
     let at = c .before .before .before .before .before in
-    c .put-words .ensures ∙ ap (λ (x : List ℕ). splice x 26 (flat (toLe 4) (entry-1 c .args .st .numbers))) (wrote-0 (at))
+    c .put-words .ensures ∙ ap (λ (x : List ℕ). splice x 30 (flat (toLe 4) (entry-1 c .args .st .numbers))) (wrote-0 (at))
 
 wrote-2 : (c : tie.After-put-bytes) → c .put-bytes .last .0 ≡ putSections (entry-2 c .args .dst .now) 0 (take 8 stateSections) (take 8 (stateNumbers (entry-2 c .args .st)))
 unfolding stateSections stateNumbers sectionLen sectionBytes putSections
 wrote-2 c =
     let at = c .before .before .before .before .before in
-    c .put-bytes .ensures ∙ ap (λ (x : List ℕ). splice x 58 (flat (toLe 1) (entry-2 c .args .st .filled))) (wrote-1 (at))
+    c .put-bytes .ensures ∙ ap (λ (x : List ℕ). splice x 62 (flat (toLe 1) (entry-2 c .args .st .filled))) (wrote-1 (at))
 
 wrote-3 : (c : tie.After-put-bytes2) → c .put-bytes2 .last .0 ≡ putSections (entry-3 c .args .dst .now) 0 (take 9 stateSections) (take 9 (stateNumbers (entry-3 c .args .st)))
 unfolding stateSections stateNumbers sectionLen sectionBytes putSections
 wrote-3 c =
     let at = c .before .before .before .before .before in
-    c .put-bytes2 .ensures ∙ ap (λ (x : List ℕ). splice x 66 (flat (toLe 1) (entry-3 c .args .st .writes))) (wrote-2 (at))
+    c .put-bytes2 .ensures ∙ ap (λ (x : List ℕ). splice x 70 (flat (toLe 1) (entry-3 c .args .st .writes))) (wrote-2 (at))
 
 wrote-4 : (c : tie.After-put-bytes3) → c .put-bytes3 .last .0 ≡ putSections (entry-4 c .args .dst .now) 0 (take 10 stateSections) (take 10 (stateNumbers (entry-4 c .args .st)))
 unfolding stateSections stateNumbers sectionLen sectionBytes putSections
 wrote-4 c =
     let at = c .before .before .before .before .before in
-    c .put-bytes3 .ensures ∙ ap (λ (x : List ℕ). splice x 74 (flat (toLe 1) (entry-4 c .args .st .landed))) (wrote-3 (at))
+    c .put-bytes3 .ensures ∙ ap (λ (x : List ℕ). splice x 78 (flat (toLe 1) (entry-4 c .args .st .landed))) (wrote-3 (at))
 
 wrote-5 : (c : tie.After-put-longs) → c .put-longs .last .0 ≡ putSections (entry-5 c .args .dst .now) 0 (take 11 stateSections) (take 11 (stateNumbers (entry-5 c .args .st)))
 unfolding stateSections stateNumbers sectionLen sectionBytes putSections
 wrote-5 c =
     let at = c .before .before .before .before .before in
-    c .put-longs .ensures ∙ ap (λ (x : List ℕ). splice x 82 (flat (toLe 8) (entry-5 c .args .st .addresses))) (wrote-4 (at))
+    c .put-longs .ensures ∙ ap (λ (x : List ℕ). splice x 86 (flat (toLe 8) (entry-5 c .args .st .addresses))) (wrote-4 (at))
 
 wrote-6 : (c : tie.After-put-longs2) → c .put-longs2 .last .0 ≡ putSections (entry-6 c .args .dst .now) 0 (take 12 stateSections) (take 12 (stateNumbers (entry-6 c .args .st)))
 unfolding stateSections stateNumbers sectionLen sectionBytes putSections
 wrote-6 c =
     let at = c .before .before .before .before .before in
-    c .put-longs2 .ensures ∙ ap (λ (x : List ℕ). splice x 594 (flat (toLe 8) (entry-6 c .args .st .stamps))) (wrote-5 (at))
+    c .put-longs2 .ensures ∙ ap (λ (x : List ℕ). splice x 598 (flat (toLe 8) (entry-6 c .args .st .stamps))) (wrote-5 (at))
 
 wrote-7 : (c : tie.After-put-words2) → c .put-words2 .last .0 ≡ putSections (entry-7 c .args .dst .now) 0 (take 13 stateSections) (take 13 (stateNumbers (entry-7 c .args .st)))
 unfolding stateSections stateNumbers sectionLen sectionBytes putSections
 wrote-7 c =
     let at = c .before .before .before .before .before in
-    c .put-words2 .ensures ∙ ap (λ (x : List ℕ). splice x 1106 (flat (toLe 4) (entry-7 c .args .st .offsets))) (wrote-6 (at))
+    c .put-words2 .ensures ∙ ap (λ (x : List ℕ). splice x 1110 (flat (toLe 4) (entry-7 c .args .st .offsets))) (wrote-6 (at))
 
 put-front-requires : tie.Need-put-front-requires
 put-front-requires c κs = omega (arith, state-len)

@@ -52,8 +52,8 @@ returns c =
     let put-longs = c .before .before .before .before .before .before .before .before .before .before .before .before .put-longs in
     let at = 8 * a .i in
     put-words .ensures
-    ∙ ap (λ (x : List ℕ). splice x (1106 + 4 * at) (flat (toLe 4) (a .offsets .now))) (put-longs2 .ensures
-    ∙ ap (λ (x : List ℕ). splice x (594 + 8 * at) (flat (toLe 8) (a .stamps .now))) (put-longs .ensures))
+    ∙ ap (λ (x : List ℕ). splice x (1110 + 4 * at) (flat (toLe 4) (a .offsets .now))) (put-longs2 .ensures
+    ∙ ap (λ (x : List ℕ). splice x (598 + 8 * at) (flat (toLe 8) (a .stamps .now))) (put-longs .ensures))
 
 pub put-cells-spec : {M : Type 1} → statement M
 put-cells-spec =

@@ -15,11 +15,11 @@ write-le64-requires c κs = search needs
 write-le64-requires-2 : tie.Need-write-le64-requires-2
 write-le64-requires-2 c κs = search needs
 
+write-le64-requires-3 : tie.Need-write-le64-requires-3
+write-le64-requires-3 c κs = search needs
+
 write-le32-requires : tie.Need-write-le32-requires
 write-le32-requires c κs = search needs
-
-write-le32-requires-2 : tie.Need-write-le32-requires-2
-write-le32-requires-2 c κs = search needs
 
 same-length : tie.Need-same-length
 same-length c = search needs
@@ -28,15 +28,15 @@ returns : tie.Need-returns
 unfolding writtenAll editWritten stateSections sectionLen total
 returns c =
     let a = c .before .before .before .before .before .before .before .before .before .before .before .before .before .before .before .before .before .args in
-    let write-le322 = c .before .before .write-le322 in
-    let write-le32 = c .before .before .before .before .before .before .write-le32 in
+    let write-le32 = c .before .before .write-le32 in
+    let write-le643 = c .before .before .before .before .before .before .write-le643 in
     let write-le642 = c .before .before .before .before .before .before .before .before .before .before .write-le642 in
     let write-le64 = c .before .before .before .before .before .before .before .before .before .before .before .before .before .before .write-le64 in
-    write-le322 .ensures
-    ∙ (λ j. splice ((write-le32 .ensures
+    write-le32 .ensures
+    ∙ (λ j. splice ((write-le643 .ensures
     ∙ (λ k. splice ((write-le642 .ensures
     ∙ (λ m. splice ((write-le64 .ensures ∙ ap (splice (a .dst .now) 2) (number-written 8 (a .stamp))) m) 10 (number-written 8 (a .serial) m))) k) 18
-    (number-written 4 (a .opened) k))) j) 22 (number-written 4 (a .next) j))
+    (number-written 8 (a .opened) k))) j) 26 (number-written 4 (a .next) j))
 
 pub put-counts-spec : {M : Type 1} → statement M
 put-counts-spec =
@@ -44,7 +44,7 @@ put-counts-spec =
     (tie.spec
     write-le64-requires
     write-le64-requires-2
+    write-le64-requires-3
     write-le32-requires
-    write-le32-requires-2
     same-length
     returns)

@@ -24,10 +24,10 @@ long-2 c =
     let at = c .before .before .before .before in
     c .write-le642 .kept .0 ∙ long-1 (at)
 
-long-3 : (c : tie.After-write-le32) → length (c .write-le32 .last .0) ≡ length (c .before .before .before .before .before .before .before .before .before .before .before .args .dst .now)
+long-3 : (c : tie.After-write-le643) → length (c .write-le643 .last .0) ≡ length (c .before .before .before .before .before .before .before .before .before .before .before .args .dst .now)
 long-3 c =
     let at = c .before .before .before .before in
-    c .write-le32 .kept .0 ∙ long-2 (at)
+    c .write-le643 .kept .0 ∙ long-2 (at)
 
 slice-write-dst : tie.Need-slice-write-dst
 slice-write-dst c = search needs
@@ -43,33 +43,33 @@ write-le64-requires-2 c κs =
     let pre = c .before .before .before .before .before .before .pre in
     omega (arith, long-1 (c .before .before .before), pre)
 
-write-le32-requires : tie.Need-write-le32-requires
-write-le32-requires c κs =
+write-le64-requires-3 : tie.Need-write-le64-requires-3
+write-le64-requires-3 c κs =
     let pre = c .before .before .before .before .before .before .before .before .before .before .pre in
     omega (arith, long-2 (c .before .before .before), pre)
 
-write-le32-requires-2 : tie.Need-write-le32-requires-2
-write-le32-requires-2 c κs =
+write-le32-requires : tie.Need-write-le32-requires
+write-le32-requires c κs =
     let pre = c .before .before .before .before .before .before .before .before .before .before .before .before .before .before .pre in
     omega (arith, long-3 (c .before .before .before), pre)
 
 same-length : tie.Need-same-length
 same-length c =
     let at = c .before .before .before .before .before .before in
-    c .before .before .write-le322 .kept .0 ∙ long-3 (at)
+    c .before .before .write-le32 .kept .0 ∙ long-3 (at)
 
 returns : tie.Need-returns
 returns c =
     let a = c .before .before .before .before .before .before .before .before .before .before .before .before .before .before .before .before .before .args in
-    let write-le322 = c .before .before .write-le322 in
-    let write-le32 = c .before .before .before .before .before .before .write-le32 in
+    let write-le32 = c .before .before .write-le32 in
+    let write-le643 = c .before .before .before .before .before .before .write-le643 in
     let write-le642 = c .before .before .before .before .before .before .before .before .before .before .write-le642 in
     let write-le64 = c .before .before .before .before .before .before .before .before .before .before .before .before .before .before .write-le64 in
     let at = c .before .before .before .before .before .before .before .before .before .before .before .before .before .before .before .before .before in
     let pre = c .before .before .before .before .before .before .before .before .before .before .before .before .before .before .before .before .before .pre in
-    write-le322 .ensures
-    ∙ ap (λ (x : List ℕ). splice x 22 (toLe 4 (a .next))) (write-le32 .ensures
-    ∙ ap (λ (x : List ℕ). splice x 18 (toLe 4 (a .opened))) (write-le642 .ensures
+    write-le32 .ensures
+    ∙ ap (λ (x : List ℕ). splice x 26 (toLe 4 (a .next))) (write-le643 .ensures
+    ∙ ap (λ (x : List ℕ). splice x 18 (toLe 8 (a .opened))) (write-le642 .ensures
     ∙ ap (λ (x : List ℕ). splice x 10 (toLe 8 (a .serial))) (write-le64 .ensures)))
     ∙ state-front-written (a .dst .now) (a .live) (a .missing) (a .stamp) (a .serial) (a .opened) (a .next) (live-fits (at)) (missing-fits (at)) (pre)
 
@@ -81,7 +81,7 @@ put-front-spec =
     slice-write-dst-2
     write-le64-requires
     write-le64-requires-2
+    write-le64-requires-3
     write-le32-requires
-    write-le32-requires-2
     same-length
     returns)

@@ -53,10 +53,10 @@ returns c =
     let a = s .args in
     let b = byte-fits s in
     let w = c .before .before .write-le32 in
-    let e : w .last .0 ≡ splice (a .dst .now) (26 + 4 * a .i) (flat (toLe 4) (a .number ∷ [])) = w .ensures ∙ ap (splice (a .dst .now) (26 + 4 * a .i)) (number-written 4 (a .number)) in
+    let e : w .last .0 ≡ splice (a .dst .now) (30 + 4 * a .i) (flat (toLe 4) (a .number ∷ [])) = w .ensures ∙ ap (splice (a .dst .now) (30 + 4 * a .i)) (number-written 4 (a .number)) in
     marks-written (w .last .0) (a .i) (a .filled) (a .writes) (a .landed) (b .0) (b .1) (b .2) (omega (arith, s .pre .0, s .pre .1, w .kept .0))
-    ∙ ap (λ (x : List ℕ). splice (splice (splice x (58 + 1 * a .i) (flat (toLe 1) (a .filled ∷ []))) (66 + 1 * a .i) (flat (toLe 1) (a .writes ∷ [])))
-    (74 + 1 * a .i) (flat (toLe 1) (a .landed ∷ []))) e
+    ∙ ap (λ (x : List ℕ). splice (splice (splice x (62 + 1 * a .i) (flat (toLe 1) (a .filled ∷ []))) (70 + 1 * a .i) (flat (toLe 1) (a .writes ∷ [])))
+    (78 + 1 * a .i) (flat (toLe 1) (a .landed ∷ []))) e
 
 pub put-marks-spec : {M : Type 1} → statement M
 put-marks-spec =

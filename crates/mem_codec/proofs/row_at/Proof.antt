@@ -69,10 +69,10 @@ returns c =
     let s = r .before .before .before .before .before in
     let a = s .args in
     let bs = a .bytes .now in
-    let f : 58 + a .i < length bs = omega (arith, state-len, s .pre .0, s .pre .1) in
-    let w : 66 + a .i < length bs = omega (arith, state-len, s .pre .0, s .pre .1) in
-    let l : 74 + a .i < length bs = omega (arith, state-len, s .pre .0, s .pre .1) in
-    row-read bs (a .i) _ (s .pre .1) (r .read-le32 .ensures) (leOf-part-one (58 + a .i) bs f) (leOf-part-one (66 + a .i) bs w) (leOf-part-one (74 + a .i) bs l)
+    let f : 62 + a .i < length bs = omega (arith, state-len, s .pre .0, s .pre .1) in
+    let w : 70 + a .i < length bs = omega (arith, state-len, s .pre .0, s .pre .1) in
+    let l : 78 + a .i < length bs = omega (arith, state-len, s .pre .0, s .pre .1) in
+    row-read bs (a .i) _ (s .pre .1) (r .read-le32 .ensures) (leOf-part-one (62 + a .i) bs f) (leOf-part-one (70 + a .i) bs w) (leOf-part-one (78 + a .i) bs l)
     (r .before .before .before .longs-at .ensures) (r .before .before .longs-at2 .ensures) (r .before .words-at .ensures)
 
 pub row-at-spec : {M : Type 1} → statement M

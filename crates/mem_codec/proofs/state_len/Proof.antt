@@ -1,4 +1,4 @@
--- `state_len`: the lengths of the sections add up to 1362 (`state-len`). Assumes nothing.
+-- `state_len`: the lengths of the sections add up to 1366 (`state-len`). Assumes nothing.
 use mathlib.Core.Path.{sym}
 use Rattle.mem_codec.specs.Codec.{state-len}
 use Rattle.mem_codec.proofs.state_len.Statement.{statement}

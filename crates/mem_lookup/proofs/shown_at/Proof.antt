@@ -118,7 +118,7 @@ entry-at c =
     ∙ (λ j. eqb (getD cs (sym (row-entry (a .p) (a .drive) (a .zone) o (compact-at .result) (compact-at .ensures .0)) j) 0) (sym (compact-entry .ensures) j))
 
 -- what the table shows, as the loop has it
-shown-all : (c : tie.After-group-end Inv-loop μ-loop) (im : List ℕ) → length im ≡ imageLen (c .before .before .before .before .before .before .before .before .args .p)
+shown-all : (c : tie.After-group-end Inv-loop μ-loop) (off im : List ℕ) → length im ≡ imageLen (c .before .before .before .before .before .before .before .before .args .p)
     → keep (shows (c .before .before .before .before .before .before .before .before .args .p)
     (c .before .before .before .before .before .pointer .result)
     (c .before .before .before .before .before .before .before .before .args .compact .now)
@@ -130,18 +130,18 @@ shown-all : (c : tie.After-group-end Inv-loop μ-loop) (im : List ℕ) → lengt
     c .before .before .before .before .before .before .before .before .args .p .G - c .before .before .group .result *
     c .before .before .before .before .before .before .before .before .args .p .G))
     ≡ shownAt (c .before .before .before .before .before .before .before .before .args .p)
-    (viewOf (c .before .before .before .before .before .before .before .before .args .p) im
+    (viewOf (c .before .before .before .before .before .before .before .before .args .p) off im
     (c .before .before .before .before .before .before .before .before .args .pointers .now))
     (c .before .before .before .before .before .before .before .before .args .compact .now)
     (c .before .before .before .before .before .before .before .before .args .drive)
     (c .before .before .before .before .before .before .before .before .args .zone)
     (c .before .before .before .before .before .before .before .before .args .s)
-shown-all c im h =
+shown-all c off im h =
     let a = c .before .before .before .before .before .before .before .before .args in
     let group′ = c .before .before .group in
     let pointer = c .before .before .before .before .before .pointer in
     let pre = c .before .before .before .before .before .before .before .before .pre in
-    shown-list (a .p) im (a .pointers .now) (a .compact .now) (a .drive) (a .zone) (a .s) (pointer .result) (group′ .result * a .p .G) (pre .1 .1 .0) (pre .1 .1 .1) h (pre .1 .0 .0)
+    shown-list (a .p) off im (a .pointers .now) (a .compact .now) (a .drive) (a .zone) (a .s) (pointer .result) (group′ .result * a .p .G) (pre .1 .1 .0) (pre .1 .1 .1) h (pre .1 .0 .0)
     (pointer .ensures) (ap (λ (x : ℕ). x * a .p .G) (group′ .ensures .0))
 
 returns : tie.Need-returns Inv-loop μ-loop
@@ -159,12 +159,12 @@ returns c =
     let o = loop .o in
     let f = shows (a .p) (pointer .result) (a .compact .now) (a .drive) (a .zone) (a .s) in
     let m = group′ .result * a .p .G + a .p .G in
-    let l : List ℕ → List ℕ = λ im. shownAt (a .p) (viewOf (a .p) im (a .pointers .now)) (a .compact .now) (a .drive) (a .zone) (a .s) in
+    let l : List ℕ → List ℕ → List ℕ = λ off im. shownAt (a .p) (viewOf (a .p) off im (a .pointers .now)) (a .compact .now) (a .drive) (a .zone) (a .s) in
     let lt : o < a .p .S = omega (arith, loop-test .taken, group-end .ensures .1 .1) in
     let gt : o < m = omega (arith, loop-test .taken, group-end .ensures .1 .0) in
     let hit : f o ≡ true = entry-at (at-2) ∙ eq-eqb (getD (a .compact .now) (compact-at .result + o) 0) (compact-entry .result) (c .if1 .taken) in (
-      (λ im h. search-hit f o m (a .p .S) (l im) (loop .inv ∙ shown-all (at-4) im h) gt hit .0),
-      ((λ im h. ne-eqb o (a .p .S) (λ q. omega arith) ∙ sym (search-hit f o m (a .p .S) (l im) (loop .inv ∙ shown-all (at-4) im h) gt hit .1)), omega arith),
+      (λ off im h. search-hit f o m (a .p .S) (l off im) (loop .inv ∙ shown-all (at-4) off im h) gt hit .0),
+      ((λ off im h. ne-eqb o (a .p .S) (λ q. omega arith) ∙ sym (search-hit f o m (a .p .S) (l off im) (loop .inv ∙ shown-all (at-4) off im h) gt hit .1)), omega arith),
     )
 
 add-o : tie.Need-add-o Inv-loop μ-loop
@@ -201,12 +201,12 @@ returns-2 c =
     let o = c .before .loop .o in
     let f = shows (a .p) (pointer .result) (a .compact .now) (a .drive) (a .zone) (a .s) in
     let m = group′ .result * a .p .G + a .p .G in
-    let l : List ℕ → List ℕ = λ im. shownAt (a .p) (viewOf (a .p) im (a .pointers .now)) (a .compact .now) (a .drive) (a .zone) (a .s) in
+    let l : List ℕ → List ℕ → List ℕ = λ off im. shownAt (a .p) (viewOf (a .p) off im (a .pointers .now)) (a .compact .now) (a .drive) (a .zone) (a .s) in
     let past : (k : ℕ) → o ≤ k → k < m → f k ≡ false =
     λ k g h. shows-past (a .p) (pointer .result) (a .compact .now) (a .drive) (a .zone) (a .s) (group-end .result) m (group-end .ensures .0) k
     (omega (arith, c .loop-test .left)) h in (
-      (λ im h. search-end f o m (a .p .S) (l im) (c .before .loop .inv ∙ shown-all (at) im h) past .0),
-      ((λ im h. eq-eqb (a .p .S) (a .p .S) refl ∙ sym (search-end f o m (a .p .S) (l im) (c .before .loop .inv ∙ shown-all (at) im h) past .1)), omega arith),
+      (λ off im h. search-end f o m (a .p .S) (l off im) (c .before .loop .inv ∙ shown-all (at) off im h) past .0),
+      ((λ off im h. eq-eqb (a .p .S) (a .p .S) refl ∙ sym (search-end f o m (a .p .S) (l off im) (c .before .loop .inv ∙ shown-all (at) off im h) past .1)), omega arith),
     )
 
 pub shown-at-spec : {M : Type 1} → statement M

@@ -34,8 +34,8 @@ filled-is : (c : tie.After-wide Inv-loop μ-loop) → c .wide .result ≡ filled
 filled-is c =
     let s = c .before .before .before in
     let a = s .args in
-    let h : 58 + a .i < length (a .bytes .now) = omega (arith, state-len, s .pre .0, s .pre .1) in
-    c .wide .ensures ∙ leOf-part-one (58 + a .i) (a .bytes .now) h ∙ filled-read (a .bytes .now) (a .i) (s .pre .1)
+    let h : 62 + a .i < length (a .bytes .now) = omega (arith, state-len, s .pre .0, s .pre .1) in
+    c .wide .ensures ∙ leOf-part-one (62 + a .i) (a .bytes .now) h ∙ filled-read (a .bytes .now) (a .i) (s .pre .1)
 
 loop-holds : tie.Need-loop-holds Inv-loop μ-loop
 unfolding heldIn

@@ -16,15 +16,20 @@ use Rattle.recover_compact.proofs.entries.Tie as tie
 abbrev Inv-loop : tie.InvT-loop
 Inv-loop p image compact₀ full drive zone row n base₀ o₀ compact base o =
     (o ≤ n) × (base ≤ o) × (base % p .G ≡ 0) × (length compact ≡ length compact₀)
-    × ((ps : List ℕ) → length ps ≡ pointersLen p → compact ≡ splice compact₀ row (map (entrySaid p full (zoneAt (viewOf p image ps) drive zone)) (below o)))
+    × ((off ps : List ℕ) → length ps ≡ pointersLen p → compact ≡ splice compact₀ row (map (entrySaid p full (zoneAt (viewOf p off image ps) drive zone)) (below o)))
 
 abbrev μ-loop : tie.MeasureT-loop
 μ-loop p image compact₀ full drive zone row n base₀ o₀ compact base o = n - o
 
 loop-holds : tie.Need-loop-holds Inv-loop μ-loop
 loop-holds c =
-    let a = c .before .before .args in
-    (omega arith, omega arith, zero-base (a .p .G), refl, λ ps h. entries-none (a .p) (a .full) (zoneAt (viewOf (a .p) (a .image .now) ps) (a .drive) (a .zone)) (a .compact .now) (a .row))
+    let a = c .before .before .args in (
+      omega arith,
+      omega arith,
+      zero-base (a .p .G),
+      refl,
+      λ off ps h. entries-none (a .p) (a .full) (zoneAt (viewOf (a .p) off (a .image .now) ps) (a .drive) (a .zone)) (a .compact .now) (a .row),
+    )
 
 record-in-requires : tie.Need-record-in-requires Inv-loop μ-loop
 record-in-requires c κs =
@@ -71,16 +76,16 @@ loop-again c =
     let base-at = c .before .before .base-at in
     let record-in = c .before .before .before .record-in in
     let loop-test = c .before .before .before .before .loop-test in
-    let v : List ℕ → Zone = λ ps. zoneAt (viewOf (a .p) (a .image .now) ps) (a .drive) (a .zone) in
-    let e : (ps : List ℕ) → length ps ≡ pointersLen (a .p) → c .entry-near .result ≡ entrySaid (a .p) (a .full) (v ps) (l .o) =
-    λ ps h. c .entry-near .ensures ∙ entry-of (a .p) (a .full) (v ps) (l .o) (record-in .result .stripe) (ap (λ (x : Rec). x .stripe) (record-in .ensures ps h)) in (
+    let v : List ℕ → List ℕ → Zone = λ off ps. zoneAt (viewOf (a .p) off (a .image .now) ps) (a .drive) (a .zone) in
+    let e : (off ps : List ℕ) → length ps ≡ pointersLen (a .p) → c .entry-near .result ≡ entrySaid (a .p) (a .full) (v off ps) (l .o) =
+    λ off ps h. c .entry-near .ensures ∙ entry-of (a .p) (a .full) (v off ps) (l .o) (record-in .result .stripe) (ap (λ (x : Rec). x .stripe) (record-in .ensures off ps h)) in (
       omega arith,
       omega (arith, base-at .ensures .0),
       base-at .ensures .1,
       simp length-set (l .inv .3),
-      λ ps h. ap (set (l .compact) (a .row + l .o)) (e ps h)
-          ∙ entries-turn (a .p) (a .full) (v ps) (a .compact .now) (l .compact) (a .row) (l .o) (omega (arith, loop-test .taken, q .1 .3, q .1 .4))
-          (l .inv .4 ps h),
+      λ off ps h. ap (set (l .compact) (a .row + l .o)) (e off ps h)
+          ∙ entries-turn (a .p) (a .full) (v off ps) (a .compact .now) (l .compact) (a .row) (l .o) (omega (arith, loop-test .taken, q .1 .3, q .1 .4))
+          (l .inv .4 off ps h),
     )
 
 same-length : tie.Need-same-length Inv-loop μ-loop
@@ -91,7 +96,8 @@ returns c =
     let l = c .before .loop in
     let a = c .before .before .before .before .args in
     let e : l .o ≡ a .n = omega (arith, c .loop-test .left) in
-    λ ps h. l .inv .4 ps h ∙ ap (λ (x : ℕ). splice (a .compact .now) (a .row) (map (entrySaid (a .p) (a .full) (zoneAt (viewOf (a .p) (a .image .now) ps) (a .drive) (a .zone))) (below x))) e
+    λ off ps h. l .inv .4 off ps h
+    ∙ ap (λ (x : ℕ). splice (a .compact .now) (a .row) (map (entrySaid (a .p) (a .full) (zoneAt (viewOf (a .p) off (a .image .now) ps) (a .drive) (a .zone))) (below x))) e
 
 pub entries-spec : {M : Type 1} → statement M
 entries-spec =

@@ -1,39 +1,39 @@
 -- `rows`: the rows of the drives below d are said (`RowsSaid`); one turn puts the row of drive d in its place. Assumes nothing.
 use mathlib.Core.Path.{_≡_, refl, ap, _∙_}
-use Prim.Native.Nat.{_-_, _≤_}
+use mathlib.Core.List.{List, []}
+use mathlib.Core.Bool.{Bool, cond}
+use Prim.Native.Nat.{ℕ, _-_, _≤_}
 use native.Mathlib.Omega.{arith}
 use lib.ListN.{length}
 use Rattle.spec.specs.Bytes.{splice}
-use Rattle.spec.specs.Drives.{View, viewOf, seg, zoneOn}
+use Rattle.spec.specs.Drives.{viewOf, zoneAt, zoneOn}
+use Rattle.spec.specs.Lists.{isIn}
 use Rattle.spec.specs.Memory.{compactAt}
-use Rattle.law_drives.specs.Tables.{remains}
-use Rattle.recover_compact.specs.Compacts.{row-said, RowsSaid, rows-start, rows-shown, rows-turn}
+use Rattle.spec.specs.Segments.{recordsIn, compactRow}
+use Rattle.recover_compact.specs.Compacts.{RowsSaid, rows-start, rows-turn}
 use Rattle.recover_compact.proofs.rows.Statement.{statement}
 use Rattle.recover_compact.proofs.rows.Tie as tie
-use Rattle.law_basic.specs.Segs.{named-zones-low, zone-on-lt}
 
 abbrev Inv-loop : tie.InvT-loop
-Inv-loop p image pointers compact₀ gone kept seg d₀ compact d =
-    (d ≤ p .N) × (length compact ≡ length compact₀)
-    × (kept ≡ remains p (viewOf p image pointers) gone seg → RowsSaid p (viewOf p image pointers) gone seg d compact₀ compact)
+Inv-loop p image pointers compact₀ gone segment full d₀ compact d =
+    (d ≤ p .N) × (length compact ≡ length compact₀) × ((off : List ℕ) → RowsSaid p (viewOf p off image pointers) gone segment d compact₀ compact)
 
 abbrev μ-loop : tie.MeasureT-loop
-μ-loop p image pointers compact₀ gone kept seg d₀ compact d = p .N - d
+μ-loop p image pointers compact₀ gone segment full d₀ compact d = p .N - d
+
+is-sealed-requires : tie.Need-is-sealed-requires Inv-loop μ-loop
+is-sealed-requires c κs = let e = c .before .before .before in (e .pre .0, (e .pre .1 .0 .pointers-long, e .pre .1 .1 .1))
 
 loop-holds : tie.Need-loop-holds Inv-loop μ-loop
 loop-holds c =
-    let args = c .before .before .before .args in
-    let a = args in
-    (omega arith, refl, λ e. rows-start (a .p) (viewOf (a .p) (a .image .now) (a .pointers .now)) (a .gone) (a .seg) (a .compact .now))
+    let a = c .before .before .before .before .args in
+    (omega arith, refl, λ off. rows-start (a .p) (viewOf (a .p) off (a .image .now) (a .pointers .now)) (a .gone) (a .segment) (a .compact .now))
 
-row-requires : tie.Need-row-requires Inv-loop μ-loop
-row-requires c κs =
-    let a = c .before .before .before .before .before .before .before .args in
-    let q = c .before .before .before .before .before .before .before .pre in
+row-any-requires : tie.Need-row-any-requires Inv-loop μ-loop
+row-any-requires c κs =
+    let entry = c .before .before .before .before .before .before .before .before in
     let loop = c .before .before .before .loop in
-    let if1 = c .before .if1 in
-    let g = q .1 .1 .1 in
-    (q .0, (q .1 .0, (loop .inv .1 ∙ q .1 .1 .0, if1 .taken, named-zones-low (a .p) (a .gone) (a .seg) g, zone-on-lt (a .p) (a .seg) (loop .d) g)))
+    let e = entry in (e .pre .0, (e .pre .1 .0, (loop .inv .1 ∙ e .pre .1 .1 .0, c .before .if1 .taken, e .pre .1 .1 .1)))
 
 add-d : tie.Need-add-d Inv-loop μ-loop
 add-d c = omega arith
@@ -43,37 +43,33 @@ loop-less c = omega arith
 
 loop-again : tie.Need-loop-again Inv-loop μ-loop
 loop-again c =
-    let args = c .before .before .before .before .before .before .before .before .before .before .args in
-    let pre = c .before .before .before .before .before .before .before .before .before .before .pre in
-    let loop = c .before .before .before .before .before .before .loop in
-    let row = c .before .before .row in
+    let x = c .before .before .row-any in
+    let l = c .before .before .before .before .before .before .loop in
+    let e = c .before .before .before .before .before .before .before .before .before .before .before in
+    let is-sealed = c .before .before .before .before .before .before .before .is-sealed in
     let if1 = c .before .before .before .before .if1 in
-    let a = args in
-    let q = pre in
-    let l = loop in
-    let x = row in
-    let v : View = viewOf (a .p) (a .image .now) (a .pointers .now) in (
+    let a = e .args in
+    let p = a .p in
+    let s = is-sealed .ensures in (
       omega (arith, if1 .taken),
       x .kept .1 .1 .1 .0 ∙ l .inv .1,
-      λ e. rows-turn (a .p) v (a .gone) (a .seg) (l .d) (a .compact .now) (l .compact) (x .last .1 .1 .1 .0) (if1 .taken) (q .1 .1 .1) (q .1 .1 .0) (l .inv .2 e)
-          (x .ensures
-          ∙ ap (splice (l .compact) (compactAt (a .p) (l .d) (zoneOn (a .seg) (l .d)) 0)) (row-said (a .p) v (a .gone) (l .d) (a .seg) (a .kept) (if1 .taken) (q .1 .1 .1) e))
-          (x .kept .1 .1 .1 .0),
+      λ off. let v = viewOf p off (a .image .now) (a .pointers .now) in
+          rows-turn p v (a .gone) (a .segment) (l .d) (a .compact .now) (l .compact) (x .last .1 .1 .1 .0) (if1 .taken) (e .pre .1 .1 .1) (l .inv .1 ∙ e .pre .1 .1 .0) (l .inv .2 off)
+          (x .ensures off
+          ∙ ap (λ (w : Bool). cond (isIn (a .gone) (l .d)) (l .compact)
+          (splice (l .compact) (compactAt p (l .d) (zoneOn (a .segment) (l .d)) 0) (compactRow p (recordsIn p w (zoneAt v (l .d) (zoneOn (a .segment) (l .d)))))))
+          (s off (a .image .now) (e .pre .1 .0 .image-long))),
     )
 
 same-length : tie.Need-same-length Inv-loop μ-loop
-same-length c =
-    let loop = c .before .before .loop in
-    loop .inv .1
+same-length c = c .before .before .loop .inv .1
 
 returns : tie.Need-returns Inv-loop μ-loop
 returns c =
-    let args = c .before .before .before .before .before .before .args in
-    let loop = c .before .before .loop in
-    let if1 = c .if1 in
-    let a = args in
-    let l = loop in
-    λ e. rows-shown (a .p) (viewOf (a .p) (a .image .now) (a .pointers .now)) (a .gone) (a .seg) (l .d) (a .compact .now) (l .compact) (omega (arith, if1 .left)) (l .inv .2 e)
+    let l = c .before .before .loop in (
+      (λ off d o hd hp ho. l .inv .2 off .said d o (omega (arith, hd, c .if1 .left)) hd hp ho),
+      l .inv .2 [] .others,
+    )
 
 pub rows-spec : {M : Type 1} → statement M
 rows-spec =
@@ -81,8 +77,9 @@ rows-spec =
     (tie.spec
     Inv-loop
     μ-loop
+    is-sealed-requires
     loop-holds
-    row-requires
+    row-any-requires
     add-d
     loop-less
     loop-again

@@ -1,6 +1,7 @@
 -- `put_group`: what is owed are the lost chunks of the stripes from base + k on; the present drives stay, and with them the index. Assumes nothing.
 use mathlib.Core.Path.{sym, _∙_}
-use Prim.Native.Nat.{_-_, _<_}
+use mathlib.Core.List.{List, []}
+use Prim.Native.Nat.{ℕ, _-_, _<_}
 use native.Mathlib.Omega.{arith}
 use Rattle.spec.specs.Drives.{mkDisk}
 use Rattle.spec.specs.Engine.Call.{close}
@@ -10,20 +11,19 @@ use Rattle.recover_groups.specs.Groups.{groupLen, GroupReads}
 use Rattle.recover_decode.specs.Group.{Stripes, stripes-start, stripes-done, stripes-fit, stripes-read, stripes-cut, stripes-turn}
 use Rattle.recover_decode.proofs.put_group.Statement.{statement}
 use Rattle.recover_decode.proofs.put_group.Tie as tie
-use Rattle.law_basic.specs.Segs.{named-zones-low}
 
 abbrev Inv-loop : tie.InvT-loop
-Inv-loop p image₀ pointers₀ w at drive count len left₀ k₀ image pointers left k = Stripes p w drive count (mkDisk image₀ pointers₀) k left (mkDisk image pointers)
+Inv-loop p image₀ pointers₀ w at drive count len left₀ k₀ image pointers left k =
+    (off : List ℕ) → Stripes p off w drive count (mkDisk image₀ pointers₀) k left (mkDisk image pointers)
 
 abbrev μ-loop : tie.MeasureT-loop
 μ-loop p image₀ pointers₀ w at drive count len left₀ k₀ image pointers left k = len - k
 
 index-group-requires : tie.Need-index-group-requires Inv-loop μ-loop
 index-group-requires c κs =
-    let a = c .before .before .before .before .before .before .args in
     let q = c .before .before .before .before .before .before .pre in
     let h = q .1 .1 .1 .0 in
-    (q .0, (q .1 .0, ((h .0, named-zones-low (a .p) (a .w .gone) (a .w .seg) (h .1), h .2, h .3), q .1 .1 .1 .1 .0)))
+    (q .0, (q .1 .0, (h .0, h .1, h .2, h .3)))
 
 group-len-requires : tie.Need-group-len-requires Inv-loop μ-loop
 group-len-requires c κs =
@@ -34,7 +34,7 @@ loop-holds : tie.Need-loop-holds Inv-loop μ-loop
 loop-holds c =
     let a = c .before .before .before .before .before .before .before .before .before .before .args in
     let q = c .before .before .before .before .before .before .before .before .before .before .pre in
-    stripes-start (a .p) (a .w) (a .drive) (a .count) (mkDisk (a .image .now) (a .pointers .now)) (q .1 .0) (q .1 .1 .1 .1 .1 .1)
+    λ off. stripes-start (a .p) off (a .w) (a .drive) (a .count) (mkDisk (a .image .now) (a .pointers .now)) (q .1 .0) (q .1 .1 .1 .1 .1 .1 off)
 
 put-if-requires : tie.Need-put-if-requires Inv-loop μ-loop
 put-if-requires c κs =
@@ -49,18 +49,22 @@ put-if-requires c κs =
     let x = mkDisk (l .image) (l .pointers) in
     let r = ranged (a .p) (q .0) in
     let k : l .k < groupLen (a .p) (a .w .base) = omega (arith, loop-test .taken, group-len .ensures .0) in
-    let rd : GroupReads (a .p) (a .image .now) (a .pointers .now) (a .w) (index-group .last .1 .1 .1 .1 .0) =
-    record { long = q .1 .0 .pointers-long; full-right = q .1 .1 .1 .1 .0; indexed = index-group .ensures .1 (q .1 .1 .1 .1 .1 .0) } in (
+    let rd : (off : List ℕ) → GroupReads (a .p) off (a .image .now) (a .pointers .now) (a .w) (index-group .last .1 .1 .1 .1 .0) =
+    λ off. record {
+      long = q .1 .0 .pointers-long;
+      full-right = q .1 .1 .1 .1 .0 off;
+      indexed = index-group .ensures .1 off (q .1 .1 .1 .1 .0 off) (q .1 .1 .1 .1 .1 .0 off);
+    } in (
       q .0,
       (
-        l .inv .moving .going .whole,
+        l .inv [] .moving .going .whole,
         (
           q .1 .1 .0,
           (
-            (index-group .kept .1 .1 .1 .1 .0 ∙ h .0, named-zones-low (a .p) (a .w .gone) (a .w .seg) (h .1), h .2, k, h .4),
+            (index-group .kept .1 .1 .1 .1 .0 ∙ h .0, h .1, h .2, k, h .4),
             (
-              stripes-read (a .p) r (a .w) (a .drive) (a .count) d (q .1 .1 .0) (h .1) (l .k) (l .left) x (l .inv) k (index-group .last .1 .1 .1 .1 .0) rd,
-              stripes-fit (a .p) r (a .w) (a .drive) (a .count) d (q .1 .1 .0) (h .1) (l .k) (l .left) x (l .inv) k,
+              λ off. stripes-read (a .p) r off (a .w) (a .drive) (a .count) d (q .1 .1 .0) (h .1) (l .k) (l .left) x (l .inv off) k (index-group .last .1 .1 .1 .1 .0) (rd off),
+              λ off. stripes-fit (a .p) r off (a .w) (a .drive) (a .count) d (q .1 .1 .0) (h .1) (l .k) (l .left) x (l .inv off) k,
             ),
           ),
         ),
@@ -72,14 +76,14 @@ same-length c =
     let put-if = c .before .before .before .before .before .put-if in
     let loop = c .before .before .before .before .before .before .before .before .before .before .loop in
     let pre = c .before .before .before .before .before .before .before .before .before .before .before .before .before .before .before .before .before .before .before .before .before .pre in
-    put-if .kept .1 .0 ∙ loop .inv .moving .going .whole .image-long ∙ sym (pre .1 .0 .image-long)
+    put-if .kept .1 .0 ∙ loop .inv [] .moving .going .whole .image-long ∙ sym (pre .1 .0 .image-long)
 
 same-length-2 : tie.Need-same-length-2 Inv-loop μ-loop
 same-length-2 c =
     let put-if = c .before .before .before .before .before .put-if in
     let loop = c .before .before .before .before .before .before .before .before .before .before .loop in
     let pre = c .before .before .before .before .before .before .before .before .before .before .before .before .before .before .before .before .before .before .before .before .before .pre in
-    put-if .kept .1 .1 .0 ∙ loop .inv .moving .going .whole .pointers-long ∙ sym (pre .1 .0 .pointers-long)
+    put-if .kept .1 .1 .0 ∙ loop .inv [] .moving .going .whole .pointers-long ∙ sym (pre .1 .0 .pointers-long)
 
 same-length-3 : tie.Need-same-length-3 Inv-loop μ-loop
 same-length-3 c =
@@ -95,9 +99,9 @@ returns c =
     let loop-test = c .before .before .before .before .before .before .before .before .before .loop-test in
     let group-len = c .before .before .before .before .before .before .before .before .before .before .before .group-len in
     let k : l .k < groupLen (a .p) (a .w .base) = omega (arith, loop-test .taken, group-len .ensures .0) in
-    stripes-cut (a .p) (ranged (a .p) (q .0)) (a .w) (a .drive) (a .count) (mkDisk (a .image .now) (a .pointers .now)) (q .1 .1 .0) (q .1 .1 .1 .0 .1)
-    (l .k) (l .left) (mkDisk (l .image) (l .pointers)) (l .inv) k
-    (put-if .result) (mkDisk (put-if .last .1 .0) (put-if .last .1 .1 .0)) (put-if .ensures) (c .if1 .taken)
+    λ off. stripes-cut (a .p) (ranged (a .p) (q .0)) off (a .w) (a .drive) (a .count) (mkDisk (a .image .now) (a .pointers .now)) (q .1 .1 .0) (q .1 .1 .1 .0 .1)
+    (l .k) (l .left) (mkDisk (l .image) (l .pointers)) (l .inv off) k
+    (put-if .result) (mkDisk (put-if .last .1 .0) (put-if .last .1 .1 .0)) (put-if .ensures off) (c .if1 .taken)
 
 add-k : tie.Need-add-k Inv-loop μ-loop
 add-k c = omega arith
@@ -114,19 +118,19 @@ loop-again c =
     let loop-test = c .before .before .before .before .before .before .before .before .before .loop-test in
     let group-len = c .before .before .before .before .before .before .before .before .before .before .before .group-len in
     let k : l .k < groupLen (a .p) (a .w .base) = omega (arith, loop-test .taken, group-len .ensures .0) in
-    stripes-turn (a .p) (ranged (a .p) (q .0)) (a .w) (a .drive) (a .count) (mkDisk (a .image .now) (a .pointers .now)) (q .1 .1 .0)
-    (q .1 .1 .1 .0 .1) (l .k) (l .left) (mkDisk (l .image) (l .pointers)) (l .inv) k
-    (put-if .result) (mkDisk (put-if .last .1 .0) (put-if .last .1 .1 .0)) (put-if .ensures) (c .if1 .left)
+    λ off. stripes-turn (a .p) (ranged (a .p) (q .0)) off (a .w) (a .drive) (a .count) (mkDisk (a .image .now) (a .pointers .now)) (q .1 .1 .0)
+    (q .1 .1 .1 .0 .1) (l .k) (l .left) (mkDisk (l .image) (l .pointers)) (l .inv off) k
+    (put-if .result) (mkDisk (put-if .last .1 .0) (put-if .last .1 .1 .0)) (put-if .ensures off) (c .if1 .left)
 
 same-length-4 : tie.Need-same-length-4 Inv-loop μ-loop
 same-length-4 c =
     let pre = c .before .before .before .before .before .before .before .before .before .before .before .before .pre in
-    c .before .loop .inv .moving .going .whole .image-long ∙ sym (pre .1 .0 .image-long)
+    c .before .loop .inv [] .moving .going .whole .image-long ∙ sym (pre .1 .0 .image-long)
 
 same-length-5 : tie.Need-same-length-5 Inv-loop μ-loop
 same-length-5 c =
     let pre = c .before .before .before .before .before .before .before .before .before .before .before .before .pre in
-    c .before .loop .inv .moving .going .whole .pointers-long ∙ sym (pre .1 .0 .pointers-long)
+    c .before .loop .inv [] .moving .going .whole .pointers-long ∙ sym (pre .1 .0 .pointers-long)
 
 same-length-6 : tie.Need-same-length-6 Inv-loop μ-loop
 same-length-6 c =
@@ -137,8 +141,8 @@ returns-2 : tie.Need-returns-2 Inv-loop μ-loop
 returns-2 c =
     let a = c .before .before .before .before .before .before .before .before .before .before .before .before .args in
     let l = c .before .loop in
-    stripes-done (a .p) (a .w) (a .drive) (a .count) (mkDisk (a .image .now) (a .pointers .now)) (l .k) (l .left) (mkDisk (l .image) (l .pointers))
-    (l .inv) (omega (arith, c .loop-test .left, c .before .before .group-len .ensures .0))
+    λ off. stripes-done (a .p) off (a .w) (a .drive) (a .count) (mkDisk (a .image .now) (a .pointers .now)) (l .k) (l .left) (mkDisk (l .image) (l .pointers))
+    (l .inv off) (omega (arith, c .loop-test .left, c .before .before .group-len .ensures .0))
 
 pub put-group-spec : {M : Type 1} → statement M
 put-group-spec =

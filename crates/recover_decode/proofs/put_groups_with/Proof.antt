@@ -1,6 +1,7 @@
 -- `put_groups_with`: what is owed are the lost chunks from stripe base on; one turn pays a group, or is cut, and at S nothing is owed. Assumes nothing.
 use mathlib.Core.Path.{_≡_, refl, sym, _∙_}
-use Prim.Native.Nat.{_-_}
+use mathlib.Core.List.{List, []}
+use Prim.Native.Nat.{ℕ, _-_}
 use native.Mathlib.Omega.{arith}
 use lib.ListN.{length}
 use Rattle.spec.specs.Drives.{mkDisk}
@@ -13,7 +14,7 @@ use Rattle.recover_decode.proofs.put_groups_with.Tie as tie
 
 abbrev Inv-loop : tie.InvT-loop
 Inv-loop p image₀ pointers₀ at₀ gone sn full drive count left₀ base₀ image pointers at left base =
-    (length at ≡ length at₀) × Groups p gone sn drive count (mkDisk image₀ pointers₀) base left (mkDisk image pointers)
+    (length at ≡ length at₀) × ((off : List ℕ) → Groups p off gone sn drive count (mkDisk image₀ pointers₀) base left (mkDisk image pointers))
 
 abbrev μ-loop : tie.MeasureT-loop
 μ-loop p image₀ pointers₀ at₀ gone sn full drive count left₀ base₀ image pointers at left base = p .S - base
@@ -22,7 +23,7 @@ loop-holds : tie.Need-loop-holds Inv-loop μ-loop
 loop-holds c =
     let a = c .before .before .before .args in
     let q = c .before .before .before .pre in
-    (refl, groups-start (a .p) (a .gone) (a .seg) (a .drive) (a .count) (mkDisk (a .image .now) (a .pointers .now)) (ranged (a .p) (q .0)) (q .1 .0) (q .1 .1 .1 .1 .1 .1))
+    (refl, λ off. groups-start (a .p) off (a .gone) (a .seg) (a .drive) (a .count) (mkDisk (a .image .now) (a .pointers .now)) (ranged (a .p) (q .0)) (q .1 .0) (q .1 .1 .1 .1 .1 .1 off))
 
 put-group-requires : tie.Need-put-group-requires Inv-loop μ-loop
 put-group-requires c κs =
@@ -33,19 +34,19 @@ put-group-requires c κs =
     let h = if1 .taken in (
       q .0,
       (
-        l .inv .1 .moving .going .whole,
+        l .inv .1 [] .moving .going .whole,
         (
           q .1 .1 .0,
           (
-            (l .inv .0 ∙ q .1 .1 .1 .0 .0, q .1 .1 .1 .0 .1, h, l .inv .1 .first, q .1 .1 .1 .0 .2),
+            (l .inv .0 ∙ q .1 .1 .1 .0 .0, q .1 .1 .1 .0 .1, h, l .inv .1 [] .first, q .1 .1 .1 .0 .2),
             (
-              groups-full (a .p) (ranged (a .p) (q .0)) (a .gone) (a .seg) (a .drive) (a .count) (mkDisk (a .image .now) (a .pointers .now))
-                  (q .1 .1 .0) (q .1 .1 .1 .0 .1) (l .base) (l .left) (mkDisk (l .image) (l .pointers)) (l .inv .1) h (a .full) (q .1 .1 .1 .1 .0),
+              λ off. groups-full (a .p) (ranged (a .p) (q .0)) off (a .gone) (a .seg) (a .drive) (a .count) (mkDisk (a .image .now) (a .pointers .now))
+                  (q .1 .1 .0) (q .1 .1 .1 .0 .1) (l .base) (l .left) (mkDisk (l .image) (l .pointers)) (l .inv .1 off) h (a .full) (q .1 .1 .1 .1 .0 off),
               (
-                groups-sound (a .p) (ranged (a .p) (q .0)) (a .gone) (a .seg) (a .drive) (a .count) (mkDisk (a .image .now) (a .pointers .now))
-                    (q .1 .1 .0) (q .1 .1 .1 .0 .1) (l .base) (l .left) (mkDisk (l .image) (l .pointers)) (l .inv .1) h (q .1 .1 .1 .1 .1 .0),
-                groups-fit (a .p) (ranged (a .p) (q .0)) (a .gone) (a .seg) (a .drive) (a .count) (mkDisk (a .image .now) (a .pointers .now))
-                    (q .1 .1 .0) (q .1 .1 .1 .0 .1) (l .base) (l .left) (mkDisk (l .image) (l .pointers)) (l .inv .1) h,
+                λ off. groups-sound (a .p) (ranged (a .p) (q .0)) off (a .gone) (a .seg) (a .drive) (a .count) (mkDisk (a .image .now) (a .pointers .now))
+                    (q .1 .1 .0) (q .1 .1 .1 .0 .1) (l .base) (l .left) (mkDisk (l .image) (l .pointers)) (l .inv .1 off) h (q .1 .1 .1 .1 .1 .0 off),
+                λ off. groups-fit (a .p) (ranged (a .p) (q .0)) off (a .gone) (a .seg) (a .drive) (a .count) (mkDisk (a .image .now) (a .pointers .now))
+                    (q .1 .1 .0) (q .1 .1 .1 .0 .1) (l .base) (l .left) (mkDisk (l .image) (l .pointers)) (l .inv .1 off) h,
               ),
             ),
           ),
@@ -58,14 +59,14 @@ same-length c =
     let put-group = c .before .before .before .before .before .before .before .put-group in
     let loop = c .before .before .before .before .before .before .before .before .before .before .before .before .before .loop in
     let pre = c .before .before .before .before .before .before .before .before .before .before .before .before .before .before .before .before .before .pre in
-    put-group .kept .1 .0 ∙ loop .inv .1 .moving .going .whole .image-long ∙ sym (pre .1 .0 .image-long)
+    put-group .kept .1 .0 ∙ loop .inv .1 [] .moving .going .whole .image-long ∙ sym (pre .1 .0 .image-long)
 
 same-length-2 : tie.Need-same-length-2 Inv-loop μ-loop
 same-length-2 c =
     let put-group = c .before .before .before .before .before .before .before .put-group in
     let loop = c .before .before .before .before .before .before .before .before .before .before .before .before .before .loop in
     let pre = c .before .before .before .before .before .before .before .before .before .before .before .before .before .before .before .before .before .pre in
-    put-group .kept .1 .1 .0 ∙ loop .inv .1 .moving .going .whole .pointers-long ∙ sym (pre .1 .0 .pointers-long)
+    put-group .kept .1 .1 .0 ∙ loop .inv .1 [] .moving .going .whole .pointers-long ∙ sym (pre .1 .0 .pointers-long)
 
 same-length-3 : tie.Need-same-length-3 Inv-loop μ-loop
 same-length-3 c =
@@ -80,9 +81,9 @@ returns c =
     let l = c .before .before .before .before .before .before .before .before .before .before .before .before .before .loop in
     let put-group = c .before .before .before .before .before .before .before .put-group in
     let if1 = c .before .before .before .before .before .before .before .before .before .before .before .if1 in
-    groups-cut (a .p) (ranged (a .p) (q .0)) (a .gone) (a .seg) (a .drive) (a .count) (mkDisk (a .image .now) (a .pointers .now)) (q .1 .1 .0)
-    (q .1 .1 .1 .0 .1) (l .base) (l .left) (mkDisk (l .image) (l .pointers)) (l .inv .1) (if1 .taken) (put-group .result)
-    (mkDisk (put-group .last .1 .0) (put-group .last .1 .1 .0)) (put-group .ensures) (c .if2 .taken)
+    λ off. groups-cut (a .p) (ranged (a .p) (q .0)) off (a .gone) (a .seg) (a .drive) (a .count) (mkDisk (a .image .now) (a .pointers .now)) (q .1 .1 .0)
+    (q .1 .1 .1 .0 .1) (l .base) (l .left) (mkDisk (l .image) (l .pointers)) (l .inv .1 off) (if1 .taken) (put-group .result)
+    (mkDisk (put-group .last .1 .0) (put-group .last .1 .1 .0)) (put-group .ensures off) (c .if2 .taken)
 
 add-base : tie.Need-add-base Inv-loop μ-loop
 add-base c =
@@ -109,20 +110,20 @@ loop-again c =
     let if1 = c .before .before .before .before .before .before .before .before .before .before .before .before .if1 in (
       put-group .kept .1 .1 .1 .1 .0
           ∙ l .inv .0,
-      groups-turn (a .p) (ranged (a .p) (q .0)) (a .gone) (a .seg) (a .drive) (a .count) (mkDisk (a .image .now) (a .pointers .now))
-          (q .1 .1 .0) (q .1 .1 .1 .0 .1) (l .base) (l .left) (mkDisk (l .image) (l .pointers)) (l .inv .1) (if1 .taken) (put-group .result)
-          (mkDisk (put-group .last .1 .0) (put-group .last .1 .1 .0)) (put-group .ensures) (c .before .if2 .left),
+      λ off. groups-turn (a .p) (ranged (a .p) (q .0)) off (a .gone) (a .seg) (a .drive) (a .count) (mkDisk (a .image .now) (a .pointers .now))
+          (q .1 .1 .0) (q .1 .1 .1 .0 .1) (l .base) (l .left) (mkDisk (l .image) (l .pointers)) (l .inv .1 off) (if1 .taken) (put-group .result)
+          (mkDisk (put-group .last .1 .0) (put-group .last .1 .1 .0)) (put-group .ensures off) (c .before .if2 .left),
     )
 
 same-length-4 : tie.Need-same-length-4 Inv-loop μ-loop
 same-length-4 c =
     let pre = c .before .before .before .before .before .before .pre in
-    c .before .before .loop .inv .1 .moving .going .whole .image-long ∙ sym (pre .1 .0 .image-long)
+    c .before .before .loop .inv .1 [] .moving .going .whole .image-long ∙ sym (pre .1 .0 .image-long)
 
 same-length-5 : tie.Need-same-length-5 Inv-loop μ-loop
 same-length-5 c =
     let pre = c .before .before .before .before .before .before .pre in
-    c .before .before .loop .inv .1 .moving .going .whole .pointers-long ∙ sym (pre .1 .0 .pointers-long)
+    c .before .before .loop .inv .1 [] .moving .going .whole .pointers-long ∙ sym (pre .1 .0 .pointers-long)
 
 same-length-6 : tie.Need-same-length-6 Inv-loop μ-loop
 same-length-6 c = c .before .before .loop .inv .0
@@ -131,8 +132,8 @@ returns-2 : tie.Need-returns-2 Inv-loop μ-loop
 returns-2 c =
     let a = c .before .before .before .before .before .before .args in
     let l = c .before .before .loop in
-    groups-done (a .p) (a .gone) (a .seg) (a .drive) (a .count) (mkDisk (a .image .now) (a .pointers .now)) (l .base) (l .left)
-    (mkDisk (l .image) (l .pointers)) (l .inv .1) (omega (arith, c .if1 .left))
+    λ off. groups-done (a .p) off (a .gone) (a .seg) (a .drive) (a .count) (mkDisk (a .image .now) (a .pointers .now)) (l .base) (l .left)
+    (mkDisk (l .image) (l .pointers)) (l .inv .1 off) (omega (arith, c .if1 .left))
 
 pub put-groups-with-spec : {M : Type 1} → statement M
 put-groups-with-spec =

@@ -1,8 +1,8 @@
 -- `put_if`: a stripe that does not count gives no store and the count stays; one that counts gives its lost chunk, for which there is room. Assumes nothing.
 use mathlib.Core.Path.{_≡_, sym, _∙_, subst}
-use mathlib.Core.List.{List}
+use mathlib.Core.List.{List, []}
 use mathlib.Core.Bool.{true, false}
-use Prim.Native.Nat.{_+_, _<_}
+use Prim.Native.Nat.{ℕ, _+_, _<_}
 use borrow.Author.Tests.{not-true, not-false}
 use borrow.Author.Needs.{needs}
 use native.Mathlib.Omega.{arith}
@@ -37,29 +37,30 @@ returns c =
     let a = c .before .before .before .before .before .args in
     let q = c .before .before .before .before .before .pre in
     let k = mkDisk (a .image .now) (a .pointers .now) in
-    let g = segmentIn (a .p) (a .image .now) (a .pointers .now) (a .w) in
-    let e = c .before .counts .ensures g (a .w .base) (q .1 .1 .1 .1 .0 .indexed) (q .1 .1 .1 .0 .3) in
+    λ off.
+    let g = segmentIn (a .p) off (a .image .now) (a .pointers .now) (a .w) in
+    let e = c .before .counts .ensures g (a .w .base) (q .1 .1 .1 .1 .0 off .indexed) (q .1 .1 .1 .0 .3) in
     subst (λ (l : List Store). Storing (a .p) (a .count) l k (record { left = a .count; cut = false }) k)
     (sym (lost-miss (a .p) (a .w .gone) (a .drive) g (a .w .base + a .k) (sym e ∙ not-true (c .before .counts .result) (c .if1 .taken)))) (storing-none (a .p) (a .count) k)
 
 -- the stripe counts
 it-counts :
-    (c : tie.After-put-lost-arg2)
+    (c : tie.After-put-lost-arg2) (off : List ℕ)
     → counts (c .before .before .before .before .before .before .before .args .p)
     (c .before .before .before .before .before .before .before .args .w .gone)
-    (segmentIn (c .before .before .before .before .before .before .before .args .p)
+    (segmentIn (c .before .before .before .before .before .before .before .args .p) off
     (c .before .before .before .before .before .before .before .args .image .now)
     (c .before .before .before .before .before .before .before .args .pointers .now)
     (c .before .before .before .before .before .before .before .args .w))
     (c .before .before .before .before .before .before .before .args .w .base + c .before .before .before .before .before .before .before .args .k)
     ≡ true
-it-counts c =
+it-counts c off =
     let a = c .before .before .before .before .before .before .before .args in
     let q = c .before .before .before .before .before .before .before .pre in
     let if1 = c .before .before .if1 in
     let counts′ = c .before .before .before .counts in
-    let g = segmentIn (a .p) (a .image .now) (a .pointers .now) (a .w) in
-    sym (counts′ .ensures g (a .w .base) (q .1 .1 .1 .1 .0 .indexed) (q .1 .1 .1 .0 .3)) ∙ not-false (counts′ .result) (if1 .left)
+    let g = segmentIn (a .p) off (a .image .now) (a .pointers .now) (a .w) in
+    sym (counts′ .ensures g (a .w .base) (q .1 .1 .1 .1 .0 off .indexed) (q .1 .1 .1 .0 .3)) ∙ not-false (counts′ .result) (if1 .left)
 
 put-lost-requires : tie.Need-put-lost-requires
 put-lost-requires c κs =
@@ -78,8 +79,8 @@ put-lost-requires c κs =
               h .1,
               h .2,
               h .3,
-              lost-room (a .p) (a .w .gone) (a .drive) k (a .w .seg) (a .w .base + a .k) (q .1 .0) (q .1 .1 .0 .drive-low)
-                  (h .4) (it-counts c) (q .1 .1 .1 .1 .1),
+              lost-room (a .p) [] (a .w .gone) (a .drive) k (a .w .seg) (a .w .base + a .k) (q .1 .0) (q .1 .1 .0 .drive-low)
+                  (h .4) (it-counts c []) (q .1 .1 .1 .1 .1 []),
               h .4,
             ),
             (q .1 .1 .1 .1 .0, it-counts c),
@@ -101,8 +102,9 @@ returns-2 c =
     let at = c .before .before .before .before .before in
     let k = mkDisk (a .image .now) (a .pointers .now) in
     let k′ = mkDisk (put-lost .last .1 .0) (put-lost .last .1 .1 .0) in
-    let g = segmentIn (a .p) (a .image .now) (a .pointers .now) (a .w) in
-    subst (λ (l : List Store). Storing (a .p) (a .count) l k (put-lost .result) k′) (sym (lost-hit (a .p) (a .w .gone) (a .drive) g (a .w .base + a .k) (it-counts (at)))) (put-lost .ensures)
+    λ off.
+    let g = segmentIn (a .p) off (a .image .now) (a .pointers .now) (a .w) in
+    subst (λ (l : List Store). Storing (a .p) (a .count) l k (put-lost .result) k′) (sym (lost-hit (a .p) (a .w .gone) (a .drive) g (a .w .base + a .k) (it-counts at off))) (put-lost .ensures off)
 
 pub put-if-spec : {M : Type 1} → statement M
 put-if-spec = tie.close (tie.spec counts-requires returns put-lost-requires same-length same-length-2 returns-2)

@@ -28,7 +28,7 @@ entered c =
     let a = c .before .before .before .before .before .before .args in
     let pre = c .before .before .before .before .before .before .pre in
     let q = pre .1 .1 .1 in
-    counts-entered (a .p) (a .w .gone) (segmentIn (a .p) (a .image .now) (a .pointers .now) (a .w)) (a .w .base) (a .at .now) (a .k) (q .1 .0 .indexed) (q .0 .4) (q .1 .1)
+    counts-entered (a .p) (a .w .gone) (segmentIn (a .p) [] (a .image .now) (a .pointers .now) (a .w)) (a .w .base) (a .at .now) (a .k) (q .1 .0 [] .indexed) (q .0 .4) (q .1 .1 [])
 
 lost-block-requires : tie.Need-lost-block-requires
 lost-block-requires c κs =
@@ -106,11 +106,12 @@ returns c =
     let k = mkDisk (a .image .now) (a .pointers .now) in
     let k′ = mkDisk (put-limited .last .1 .0) (put-limited .last .1 .1 .0) in
     let m = put-limited .result in
-    let rd = q .1 .1 .1 .1 .0 in
-    let b = lost-block .ensures (a .pointers .now) rd in
-    let x = lost-rec .ensures (a .pointers .now) rd in
+    λ off.
+    let rd = q .1 .1 .1 .1 .0 off in
+    let b = lost-block .ensures off (a .pointers .now) rd in
+    let x = lost-rec .ensures off (a .pointers .now) rd in
     let e =
-    lost-store-is (a .p) (viewOf (a .p) (a .image .now) (a .pointers .now)) (a .w .gone) (a .w .seg) (a .drive) (a .w .base + a .k)
+    lost-store-is (a .p) (viewOf (a .p) off (a .image .now) (a .pointers .now)) (a .w .gone) (a .w .seg) (a .drive) (a .w .base + a .k)
     (lost-block .last .1 .1 .1 .1 .1 .1 .0) (recVal (lost-rec .result)) (q .1 .1 .0 .lost) b x in
     subst (λ (s : Store). Storing (a .p) (a .count) (s ∷ []) k m k′) e
     (subst (λ (z : ℕ). Storing (a .p) (a .count) (put (a .drive) z (lost-block .last .1 .1 .1 .1 .1 .1 .0) (recordBytes (recVal (lost-rec .result))) ∷ []) k m k′) (zone-on .ensures)

@@ -1,95 +1,133 @@
--- `drop_stores`: what is owed are the resets of the segments from g on; one turn pays those of g, a cut ends it, and at Z nothing is owed. Assumes nothing.
-use Prim.Native.Nat.{ℕ, _+_, _-_, _≤_}
-use Rattle.spec.specs.Drives.{Store, mkDisk}
-use Rattle.spec.specs.Engine.Call.{close}
-use Rattle.spec.specs.Lists.{upFrom, flat}
-use Rattle.recover_drop.specs.Dropped.{droppedOne, droppedBy}
-use Rattle.recover_drop.specs.Going.{Owes, owes-turn, owes-cut, owes-done, flat-step, flat-end, flat-start}
-use lib.ListN.{length}
+-- `drop_stores`: what is owed are the resets that the drives still ask for; a turn pays those of the lowest serial, and fewer zones wait. Assumes nothing.
+use mathlib.Core.Path.{sym, _∙_, subst}
 use mathlib.Core.List.{List}
-use mathlib.Core.Path.{_≡_, refl, _∙_, subst}
+use mathlib.Core.Bool.{false}
+use Prim.Native.Nat.{_*_, _<_}
 use native.Mathlib.Omega.{arith}
+use Rattle.spec.specs.Drives.{Store, mkDisk, viewOf}
+use Rattle.spec.specs.Lists.{below, tally}
+use Rattle.spec.specs.Params.{offlineLen}
+use Rattle.law_basic.specs.Geometry.{ranged}
+use Rattle.disk_zones.specs.Made.{Storing}
+use Rattle.recover_drop.specs.Dropped.{serialNo, untakenNo, drops-are, SerialsLeft, serials-start, serials-done, serials-cut, serials-turn, serials-fewer}
+use Rattle.recover_drop.specs.Rising.{LeastKey}
 use Rattle.recover_drop.proofs.drop_stores.Statement.{statement}
 use Rattle.recover_drop.proofs.drop_stores.Tie as tie
 
 abbrev Inv-loop : tie.InvT-loop
-Inv-loop p pointers₀ kept count left₀ g₀ pointers left g =
-    (g ≤ p .Z)
-    × (length pointers ≡ length pointers₀)
-    × ((im : List ℕ)
-    → Owes p count (droppedBy p kept) (mkDisk im pointers₀) (flat (droppedOne p kept) (upFrom g (p .Z - g))) left (mkDisk im pointers))
+Inv-loop p image pointers₀ offline taken count n left₀ at₀ pointers left at =
+    SerialsLeft p offline image taken count pointers₀ left pointers
+    × LeastKey (untakenNo p (viewOf p offline image pointers) taken) (serialNo p (viewOf p offline image pointers)) (p .N * p .Z) at
 
 abbrev μ-loop : tie.MeasureT-loop
-μ-loop p pointers₀ kept count left₀ g₀ pointers left g = p .Z - g
+μ-loop p image pointers₀ offline taken count n left₀ at₀ pointers left at = tally (untakenNo p (viewOf p offline image pointers) taken) (below (p .N * p .Z))
+
+offline-len-requires : tie.Need-offline-len-requires Inv-loop μ-loop
+offline-len-requires c κs = c .before .before .before .before .pre .0
+
+lowest-untaken-requires : tie.Need-lowest-untaken-requires Inv-loop μ-loop
+lowest-untaken-requires c κs = let q = c .before .before .before .before .before .before .pre in (q .0, (q .1 .0 .0, q .1 .0 .1, q .1 .1 .0))
 
 loop-holds : tie.Need-loop-holds Inv-loop μ-loop
-unfolding droppedBy
 loop-holds c =
-    let args = c .before .before .args in (
-      omega arith,
-      refl,
-      λ im. subst (λ (l : List Store). Owes (args .p) (args .count) (droppedBy (args .p) (args .kept .now)) (mkDisk im (args .pointers .now)) l
-          (args .count) (mkDisk im (args .pointers .now))) (flat-start (droppedOne (args .p) (args .kept .now)) (args .p .Z)) (λ m k′ h. h),
+    let a = c .before .before .before .before .before .before .before .args in
+    let q = c .before .before .before .before .before .before .before .pre in (
+      serials-start (a .p) (ranged (a .p) (q .0)) (a .offline .now) (a .image .now) (q .1 .0 .0 .image-long) (a .taken .now) (a .count) (a .pointers .now)
+          (q .1 .0 .0 .pointers-long),
+      c .lowest-untaken .ensures,
     )
 
-drop-one-requires : tie.Need-drop-one-requires Inv-loop μ-loop
-drop-one-requires c κs =
-    let loop = c .before .before .before .loop in
-    let pre = c .before .before .before .before .before .before .pre in
-    (pre .0, (loop .inv .1 ∙ pre .1 .0, pre .1 .1, c .before .if1 .taken))
+serial-no-requires : tie.Need-serial-no-requires Inv-loop μ-loop
+unfolding offlineLen
+serial-no-requires c κs =
+    let q = c .before .before .before .before .before .before .before .before .before .pre in
+    (q .0, (q .1 .0 .0 .image-long, omega (arith, c .loop-test .taken, c .before .before .before .before .offline-len .ensures .0)))
+
+drop-serial-requires : tie.Need-drop-serial-requires Inv-loop μ-loop
+drop-serial-requires c κs =
+    let q = c .before .before .before .before .before .before .before .before .before .before .before .pre in
+    (q .0, (record { image-long = q .1 .0 .0 .image-long; pointers-long = c .before .before .before .loop .inv .0 .serials-long }, q .1 .0 .1, q .1 .1 .0))
 
 same-length : tie.Need-same-length Inv-loop μ-loop
-same-length c =
-    let loop = c .before .before .before .before .before .before .before .loop in
-    c .before .before .before .drop-one .kept .1 .0 ∙ loop .inv .1
+same-length c = c .before .before .before .drop-serial .kept .1 .1 .0 ∙ c .before .before .before .before .before .before .before .loop .inv .0 .serials-long ∙ sym
+    (c .before .before .before .before .before .before .before .before .before .before .before .before .before .before .before .pre .1 .0 .0 .pointers-long)
+
+-- a zone was found
+found : (c : tie.After-drop-serial Inv-loop μ-loop)
+    → c .before .before .before .before .loop .at < c .before .before .before .before .before .before .before .before .before .before .before .before .args .p .N
+    * c .before .before .before .before .before .before .before .before .before .before .before .before .args .p .Z
+unfolding offlineLen
+found c = omega (arith, c .before .before .before .loop-test .taken, c .before .before .before .before .before .before .before .offline-len .ensures .0)
 
 returns : tie.Need-returns Inv-loop μ-loop
 returns c =
-    let a = c .before .before .before .before .before .before .before .before .before .before .args in
+    let a = c .before .before .before .before .before .before .before .before .before .before .before .before .before .before .before .args in
+    let q = c .before .before .before .before .before .before .before .before .before .before .before .before .before .before .before .pre in
+    let r = ranged (a .p) (q .0) in
     let l = c .before .before .before .before .before .before .before .loop in
-    let drop-one = c .before .before .before .drop-one in
-    let if1 = c .before .before .before .before .before .if1 in
-    λ im.
-    let o =
-    subst (λ (x : List Store). Owes (a .p) (a .count) (droppedBy (a .p) (a .kept .now)) (mkDisk im (a .pointers .now)) x (l .left)
-    (mkDisk im (l .pointers))) (flat-step (droppedOne (a .p) (a .kept .now)) (l .g) (a .p .Z) (if1 .taken)) (l .inv .2 im) in
-    owes-cut (a .p) (a .count) (droppedBy (a .p) (a .kept .now)) (mkDisk im (a .pointers .now)) (droppedOne (a .p) (a .kept .now) (l .g))
-    (flat (droppedOne (a .p) (a .kept .now)) (upFrom (l .g + 1) (a .p .Z - (l .g + 1)))) (l .left) (mkDisk im (l .pointers)) (drop-one .result)
-    (mkDisk im (drop-one .last .1 .0)) o (drop-one .ensures im) (c .if2 .taken)
+    let m = c .before .before .before .drop-serial in
+    let s = c .before .before .before .before .before .serial-no in
+    let k = mkDisk (a .image .now) (a .pointers .now) in
+    let v = viewOf (a .p) (a .offline .now) (a .image .now) (a .pointers .now) in
+    subst (λ (x : List Store). Storing (a .p) (a .count) x k (m .result) (mkDisk (a .image .now) (m .last .1 .1 .0))) (sym (drops-are (a .p) r v (a .taken .now) (q .1 .1)))
+    (serials-cut (a .p) r (a .offline .now) (a .image .now) (q .1 .0 .0 .image-long) (a .taken .now) (a .count) (a .pointers .now) (q .1 .0 .0 .pointers-long) (l .left) (l .pointers) (l .inv .0)
+    (l .at) (l .inv .1) (found (c .before .before .before)) (m .result) (m .last .1 .1 .0) (s .result .0) (s .ensures (a .offline .now) (l .pointers) (l .inv .0 .serials-long)) (m .ensures)
+    (c .if1 .taken))
 
-add-g : tie.Need-add-g Inv-loop μ-loop
-add-g c = omega arith
+lowest-untaken-requires-2 : tie.Need-lowest-untaken-requires-2 Inv-loop μ-loop
+lowest-untaken-requires-2 c κs =
+    let q = c .before .before .before .before .before .before .before .before .before .before .before .before .before .before .before .before .pre in (
+      q .0,
+      (
+        record {
+          image-long = q .1 .0 .0 .image-long;
+          pointers-long = c .before .before .before .before .drop-serial .kept .1 .1 .0
+              ∙ c .before .before .before .before .before .before .before .before .loop .inv .0 .serials-long;
+        },
+        q .1 .0 .1,
+        q .1 .1 .0,
+      ),
+    )
 
 loop-less : tie.Need-loop-less Inv-loop μ-loop
-loop-less c = omega arith
+loop-less c =
+    let a = c .before .before .before .before .before .before .before .before .before .before .before .before .before .before .before .before .before .args in
+    let q = c .before .before .before .before .before .before .before .before .before .before .before .before .before .before .before .before .before .pre in
+    let l = c .before .before .before .before .before .before .before .before .before .loop in
+    let m = c .before .before .before .before .before .drop-serial in
+    let s = c .before .before .before .before .before .before .before .serial-no in
+    serials-fewer (a .p) (ranged (a .p) (q .0)) (a .offline .now) (a .image .now) (q .1 .0 .0 .image-long) (a .taken .now) (a .count) (a .pointers .now) (q .1 .0 .0 .pointers-long)
+    (l .left) (l .pointers) (l .inv .0) (l .at) (l .inv .1) (found (c .before .before .before .before .before)) (m .result) (m .last .1 .1 .0) (s .result .0)
+    (s .ensures (a .offline .now) (l .pointers) (l .inv .0 .serials-long)) (m .ensures) (c .before .before .if1 .left)
 
 loop-again : tie.Need-loop-again Inv-loop μ-loop
 loop-again c =
-    let a = c .before .before .before .before .before .before .before .before .before .before .args in
-    let l = c .before .before .before .before .before .before .before .loop in
-    let drop-one = c .before .before .before .drop-one in
-    let if1 = c .before .before .before .before .before .if1 in (
-      omega arith,
-      drop-one .kept .1 .0 ∙ l .inv .1,
-      λ im.
-          let o =
-          subst (λ (x : List Store). Owes (a .p) (a .count) (droppedBy (a .p) (a .kept .now)) (mkDisk im (a .pointers .now)) x (l .left)
-          (mkDisk im (l .pointers))) (flat-step (droppedOne (a .p) (a .kept .now)) (l .g) (a .p .Z) (if1 .taken)) (l .inv .2 im) in
-          owes-turn (a .p) (a .count) (droppedBy (a .p) (a .kept .now)) (mkDisk im (a .pointers .now)) (droppedOne (a .p) (a .kept .now) (l .g))
-          (flat (droppedOne (a .p) (a .kept .now)) (upFrom (l .g + 1) (a .p .Z - (l .g + 1)))) (l .left) (mkDisk im (l .pointers))
-          (drop-one .result) (mkDisk im (drop-one .last .1 .0)) o (drop-one .ensures im) (c .if2 .left),
+    let a = c .before .before .before .before .before .before .before .before .before .before .before .before .before .before .before .before .before .args in
+    let q = c .before .before .before .before .before .before .before .before .before .before .before .before .before .before .before .before .before .pre in
+    let l = c .before .before .before .before .before .before .before .before .before .loop in
+    let m = c .before .before .before .before .before .drop-serial in
+    let s = c .before .before .before .before .before .before .before .serial-no in (
+      serials-turn (a .p) (ranged (a .p) (q .0)) (a .offline .now) (a .image .now) (q .1 .0 .0 .image-long) (a .taken .now) (a .count) (a .pointers .now) (q .1 .0 .0 .pointers-long)
+          (l .left) (l .pointers) (l .inv .0) (l .at) (l .inv .1) (found (c .before .before .before .before .before)) (m .result) (m .last .1 .1 .0) (s .result .0)
+          (s .ensures (a .offline .now) (l .pointers) (l .inv .0 .serials-long)) (m .ensures) (c .before .before .if1 .left) (m .kept .1 .1 .0),
+      c .lowest-untaken2 .ensures,
     )
 
 same-length-2 : tie.Need-same-length-2 Inv-loop μ-loop
-same-length-2 c = c .before .before .loop .inv .1
+same-length-2 c = c .before .loop .inv .0 .serials-long ∙ sym (c .before .before .before .before .before .before .before .before .before .pre .1 .0 .0 .pointers-long)
 
 returns-2 : tie.Need-returns-2 Inv-loop μ-loop
+unfolding offlineLen
 returns-2 c =
-    let a = c .before .before .before .before .before .args in
-    let l = c .before .before .loop in
-    λ im. owes-done (a .p) (a .count) (droppedBy (a .p) (a .kept .now)) (mkDisk im (a .pointers .now)) (l .left) (mkDisk im (l .pointers))
-    (subst (λ (x : List Store). Owes (a .p) (a .count) (droppedBy (a .p) (a .kept .now)) (mkDisk im (a .pointers .now)) x (l .left)
-    (mkDisk im (l .pointers))) (flat-end (droppedOne (a .p) (a .kept .now)) (l .g) (a .p .Z) (omega (arith, c .if1 .left))) (l .inv .2 im))
+    let a = c .before .before .before .before .before .before .before .before .before .args in
+    let q = c .before .before .before .before .before .before .before .before .before .pre in
+    let r = ranged (a .p) (q .0) in
+    let l = c .before .loop in
+    let k = mkDisk (a .image .now) (a .pointers .now) in
+    let v = viewOf (a .p) (a .offline .now) (a .image .now) (a .pointers .now) in
+    subst (λ (x : List Store). Storing (a .p) (a .count) x k (record { left = l .left; cut = false }) (mkDisk (a .image .now) (l .pointers))) (sym (drops-are (a .p) r v (a .taken .now) (q .1 .1)))
+    (serials-done (a .p) r (a .offline .now) (a .image .now) (q .1 .0 .0 .image-long) (a .taken .now) (a .count) (a .pointers .now) (q .1 .0 .0 .pointers-long) (l .left) (l .pointers) (l .inv .0)
+    (l .at) (l .inv .1) (omega (arith, c .loop-test .left, c .before .before .before .before .offline-len .ensures .0)))
 
 pub drop-stores-spec : {M : Type 1} → statement M
 drop-stores-spec =
@@ -97,11 +135,14 @@ drop-stores-spec =
     (tie.spec
     Inv-loop
     μ-loop
+    offline-len-requires
+    lowest-untaken-requires
     loop-holds
-    drop-one-requires
+    serial-no-requires
+    drop-serial-requires
     same-length
     returns
-    add-g
+    lowest-untaken-requires-2
     loop-less
     loop-again
     same-length-2

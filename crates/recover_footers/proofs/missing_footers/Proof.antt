@@ -1,9 +1,10 @@
 -- `missing_footers`: what is owed are the footers of the drives from d on, whose zones are as found; a turn pays those of d, or is cut. Assumes nothing.
-use Prim.Native.Nat.{_-_}
+use Prim.Native.Nat.{ℕ, _-_}
 use Rattle.spec.specs.Drives.{mkDisk}
 use Rattle.law_basic.specs.Geometry.{ranged}
 use Rattle.recover_footers.specs.Feet.{FeetUpto, feet-start, feet-pointer, feet-done, feet-cut, feet-turn}
 use lib.ListN.{length}
+use mathlib.Core.List.{List, []}
 use mathlib.Core.Path.{_≡_, refl, _∙_}
 use native.Mathlib.Omega.{arith}
 use Rattle.recover_footers.proofs.missing_footers.Statement.{statement}
@@ -12,7 +13,7 @@ use Rattle.law_basic.specs.Segs.{low-here}
 
 abbrev Inv-loop : tie.InvT-loop
 Inv-loop p image₀ pointers₀ segment count left₀ d₀ image pointers left d =
-    (length image ≡ length image₀) × (length pointers ≡ length pointers₀) × FeetUpto p count segment (mkDisk image₀ pointers₀) d left (mkDisk image pointers)
+    (length image ≡ length image₀) × (length pointers ≡ length pointers₀) × ((off : List ℕ) → FeetUpto p off count segment (mkDisk image₀ pointers₀) d left (mkDisk image pointers))
 
 abbrev μ-loop : tie.MeasureT-loop
 μ-loop p image₀ pointers₀ segment count left₀ d₀ image pointers left d = p .N - d
@@ -23,8 +24,8 @@ loop-holds c =
     let pre = c .before .before .pre in (
       refl,
       refl,
-      feet-start (args .p) (ranged (args .p) (pre .0)) (args .count) (args .segment) (pre .1 .1 .0 .0)
-          (mkDisk (args .image .now) (args .pointers .now)) (pre .1 .0) (pre .1 .1 .1),
+      λ off. feet-start (args .p) (ranged (args .p) (pre .0)) off (args .count) (args .segment) (pre .1 .1 .0 .0)
+          (mkDisk (args .image .now) (args .pointers .now)) (pre .1 .0) (pre .1 .1 .1 off),
     )
 
 zone-on-requires : tie.Need-zone-on-requires Inv-loop μ-loop
@@ -38,11 +39,11 @@ missing-on-requires c κs =
     let pre = c .before .before .before .before .before .before .before .before .pre in
     let k = (mkDisk (a .image .now) (a .pointers .now)) in
     let hz = pre .1 .1 .0 .0 in
-    let e = feet-pointer (a .p) (ranged (a .p) (pre .0)) (a .count) (a .segment) hz k (l .d) (l .left) (mkDisk (l .image) (l .pointers)) (l .inv .2) (l .d)
+    let e = feet-pointer (a .p) (ranged (a .p) (pre .0)) [] (a .count) (a .segment) hz k (l .d) (l .left) (mkDisk (l .image) (l .pointers)) (l .inv .2 []) (l .d)
     (omega arith) (if1 .taken) (pre .1 .0) in
     let z = c .zone-on .ensures in
     let b = pre .1 .1 .0 .1 (l .d) (if1 .taken) in
-    (pre .0, (l .inv .2 .going .whole, (if1 .taken, rw z (low-here (a .p) (a .segment) (l .d) hz (if1 .taken)), rw (z, e) (b .0), rw (z, e) (b .1))))
+    (pre .0, (l .inv .2 [] .going .whole, (if1 .taken, rw z (low-here (a .p) (a .segment) (l .d) hz (if1 .taken)), rw (z, e) (b .0), rw (z, e) (b .1))))
 
 same-length : tie.Need-same-length Inv-loop μ-loop
 same-length c =
@@ -64,9 +65,9 @@ returns c =
     let zone-on = c .before .before .before .before .before .before .zone-on in
     let if1 = c .before .before .before .before .before .before .before .before .before .if1 in
     let pre = c .before .before .before .before .before .before .before .before .before .before .before .before .before .before .pre in
-    feet-cut (a .p) (ranged (a .p) (pre .0)) (a .count) (a .segment) (pre .1 .1 .0 .0) (mkDisk (a .image .now) (a .pointers .now)) (l .d) (l .left)
-    (mkDisk (l .image) (l .pointers)) (l .inv .2) (if1 .taken) (zone-on .result) (zone-on .ensures) (missing-on .result)
-    (mkDisk (missing-on .last .1 .0) (missing-on .last .1 .1 .0)) (missing-on .ensures) (c .if2 .taken)
+    λ off. feet-cut (a .p) (ranged (a .p) (pre .0)) off (a .count) (a .segment) (pre .1 .1 .0 .0) (mkDisk (a .image .now) (a .pointers .now)) (l .d) (l .left)
+    (mkDisk (l .image) (l .pointers)) (l .inv .2 off) (if1 .taken) (zone-on .result) (zone-on .ensures) (missing-on .result)
+    (mkDisk (missing-on .last .1 .0) (missing-on .last .1 .1 .0)) (missing-on .ensures off) (c .if2 .taken)
 
 add-d : tie.Need-add-d Inv-loop μ-loop
 add-d c = omega arith
@@ -84,9 +85,9 @@ loop-again c =
     let pre = c .before .before .before .before .before .before .before .before .before .before .before .before .before .before .pre in (
       missing-on .kept .1 .0 ∙ l .inv .0,
       missing-on .kept .1 .1 .0 ∙ l .inv .1,
-      feet-turn (a .p) (ranged (a .p) (pre .0)) (a .count) (a .segment) (pre .1 .1 .0 .0) (mkDisk (a .image .now) (a .pointers .now)) (l .d) (l .left)
-          (mkDisk (l .image) (l .pointers)) (l .inv .2) (if1 .taken) (zone-on .result) (zone-on .ensures) (missing-on .result)
-          (mkDisk (missing-on .last .1 .0) (missing-on .last .1 .1 .0)) (missing-on .ensures) (c .if2 .left),
+      λ off. feet-turn (a .p) (ranged (a .p) (pre .0)) off (a .count) (a .segment) (pre .1 .1 .0 .0) (mkDisk (a .image .now) (a .pointers .now)) (l .d) (l .left)
+          (mkDisk (l .image) (l .pointers)) (l .inv .2 off) (if1 .taken) (zone-on .result) (zone-on .ensures) (missing-on .result)
+          (mkDisk (missing-on .last .1 .0) (missing-on .last .1 .1 .0)) (missing-on .ensures off) (c .if2 .left),
     )
 
 same-length-3 : tie.Need-same-length-3 Inv-loop μ-loop
@@ -100,8 +101,8 @@ returns-2 c =
     let a = c .before .before .before .before .before .args in
     let l = c .before .before .loop in
     let pre = c .before .before .before .before .before .pre in
-    feet-done (a .p) (ranged (a .p) (pre .0)) (a .count) (a .segment) (pre .1 .1 .0 .0) (mkDisk (a .image .now) (a .pointers .now)) (l .d) (l .left)
-    (mkDisk (l .image) (l .pointers)) (l .inv .2) (omega (arith, c .if1 .left))
+    λ off. feet-done (a .p) (ranged (a .p) (pre .0)) off (a .count) (a .segment) (pre .1 .1 .0 .0) (mkDisk (a .image .now) (a .pointers .now)) (l .d) (l .left)
+    (mkDisk (l .image) (l .pointers)) (l .inv .2 off) (omega (arith, c .if1 .left))
 
 pub missing-footers-spec : {M : Type 1} → statement M
 missing-footers-spec =

@@ -4,6 +4,7 @@ use Rattle.law_basic.specs.Geometry.{ranged}
 use Rattle.recover_footers.specs.Feet.{lack-fits, lack-stores}
 use Rattle.law_views.specs.Views.{seen}
 use borrow.Author.Needs.{needs}
+use mathlib.Core.List.{[]}
 use native.Mathlib.Omega.{arith}
 use Rattle.recover_footers.proofs.missing_on.Statement.{statement}
 use Rattle.recover_footers.proofs.missing_on.Tie as tie
@@ -34,8 +35,8 @@ footer-stores-requires c κs =
           omega (
             arith,
             footers .ensures .0,
-            lack-fits (args .p) (ranged (args .p) (pre .0)) (mkDisk (args .image .now) (args .pointers .now)) (args .drive) (args .zone)
-                (footers-stored .result) (pre .1 .1 .0) (pre .1 .1 .1) (pre .1 .0) (footers-stored .ensures .0 (args .image .now) (pre .1 .0 .image-long))
+            lack-fits (args .p) (ranged (args .p) (pre .0)) [] (mkDisk (args .image .now) (args .pointers .now)) (args .drive) (args .zone)
+                (footers-stored .result) (pre .1 .1 .0) (pre .1 .1 .1) (pre .1 .0) (footers-stored .ensures .0 [] (args .image .now) (pre .1 .0 .image-long))
                 (pre .1 .1 .2) (pre .1 .1 .3),
           ),
         ),
@@ -56,9 +57,9 @@ returns c =
     let footers-stored = c .before .before .before .before .before .before .before .before .footers-stored in
     let pre = c .before .before .before .before .before .before .before .before .before .before .before .before .pre in
     let k = (mkDisk (a .image .now) (a .pointers .now)) in
-    lack-stores (a .p) (a .count) (a .drive) (a .zone) (zoneAt (seen (a .p) k) (a .drive) (a .zone)) (footers-stored .result) (footers .result) k
+    λ off. lack-stores (a .p) (a .count) (a .drive) (a .zone) (zoneAt (seen (a .p) off k) (a .drive) (a .zone)) (footers-stored .result) (footers .result) k
     (footer-stores .result) (mkDisk (footer-stores .last .1 .0) (footer-stores .last .1 .1 .0))
-    (footers-stored .ensures .0 (a .image .now) (pre .1 .0 .image-long)) (footers .ensures .0) (footer-stores .ensures)
+    (footers-stored .ensures .0 off (a .image .now) (pre .1 .0 .image-long)) (footers .ensures .0) (footer-stores .ensures off)
 
 pub missing-on-spec : {M : Type 1} → statement M
 missing-on-spec =

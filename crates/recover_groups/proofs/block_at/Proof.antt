@@ -56,8 +56,8 @@ returns c =
     let offset-on = c .before .offset-on in
     let p = a .p in (
       omega (arith, c .block-byte .ensures .1),
-      λ im ps h x.
-          block-read p im ps (a .w) (a .at .now) (ranged p (pre .0)) h x (pre .1 .0 .2) (a .k) (pre .1 .0 .4) (a .drive) (pre .1 .0 .3) (pre .1 .0 .1) (pre .1 .1 .0)
+      λ off im ps h x.
+          block-read p off im ps (a .w) (a .at .now) (ranged p (pre .0)) h x (pre .1 .0 .2) (a .k) (pre .1 .0 .4) (a .drive) (pre .1 .0 .3) (pre .1 .0 .1) (pre .1 .1 .0)
           ∙ sym (ap (λ (t : ℕ). part t (p .B) im) (c .block-byte .ensures .0 ∙ (λ j. placeByte p (placeOf p (a .drive) (zone-on .ensures j) (1 + offset-on .ensures .0 j))))),
     )
 

@@ -30,9 +30,9 @@ returns c =
     let pre = c .before .before .before .before .before .before .pre in
     let p = a .p in
     let w = a .w in (
-      (λ im h q. let e =
-          (data-stored .ensures .0 im h ∙ ap (λ (z : ℕ). dataStored p (zoneAt (viewOf p im (a .pointers .now)) (a .drive) z)) (zone-on .ensures)) in
-          let f = group-stored-is p (viewOf p im (a .pointers .now)) (w .gone) (w .seg) (w .base) (a .drive) (pre .1 .1) q in omega
+      (λ off im h q. let e =
+          (data-stored .ensures .0 off im h ∙ ap (λ (z : ℕ). dataStored p (zoneAt (viewOf p off im (a .pointers .now)) (a .drive) z)) (zone-on .ensures)) in
+          let f = group-stored-is p (viewOf p off im (a .pointers .now)) (w .gone) (w .seg) (w .base) (a .drive) (pre .1 .1) q in omega
           (arith, e, f, c .if1 .taken)),
       omega arith,
     )
@@ -47,9 +47,9 @@ returns-2 c =
     let pre = c .before .before .before .before .before .before .before .before .pre in
     let p = a .p in
     let w = a .w in (
-      (λ im h q. let e =
-          (data-stored .ensures .0 im h ∙ ap (λ (z : ℕ). dataStored p (zoneAt (viewOf p im (a .pointers .now)) (a .drive) z)) (zone-on .ensures)) in
-          let f = group-stored-is p (viewOf p im (a .pointers .now)) (w .gone) (w .seg) (w .base) (a .drive) (pre .1 .1) q in omega
+      (λ off im h q. let e =
+          (data-stored .ensures .0 off im h ∙ ap (λ (z : ℕ). dataStored p (zoneAt (viewOf p off im (a .pointers .now)) (a .drive) z)) (zone-on .ensures)) in
+          let f = group-stored-is p (viewOf p off im (a .pointers .now)) (w .gone) (w .seg) (w .base) (a .drive) (pre .1 .1) q in omega
           (arith, e, f, if1 .left, c .if2 .taken, group-len .ensures .0)),
       omega (arith, group-len .ensures .0),
     )
@@ -64,9 +64,9 @@ returns-3 c =
     let pre = c .before .before .before .before .before .before .before .before .pre in
     let p = a .p in
     let w = a .w in (
-      (λ im h q. let e =
-          (data-stored .ensures .0 im h ∙ ap (λ (z : ℕ). dataStored p (zoneAt (viewOf p im (a .pointers .now)) (a .drive) z)) (zone-on .ensures)) in
-          let f = group-stored-is p (viewOf p im (a .pointers .now)) (w .gone) (w .seg) (w .base) (a .drive) (pre .1 .1) q in omega
+      (λ off im h q. let e =
+          (data-stored .ensures .0 off im h ∙ ap (λ (z : ℕ). dataStored p (zoneAt (viewOf p off im (a .pointers .now)) (a .drive) z)) (zone-on .ensures)) in
+          let f = group-stored-is p (viewOf p off im (a .pointers .now)) (w .gone) (w .seg) (w .base) (a .drive) (pre .1 .1) q in omega
           (arith, e, f, if1 .left, c .if2 .left, group-len .ensures .0)),
       omega (arith, group-len .ensures .0, c .if2 .left),
     )

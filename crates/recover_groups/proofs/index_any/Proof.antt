@@ -1,7 +1,8 @@
 -- `index_any`: the row is clear; that is the row of a missing drive, which has no chunks, and a present drive's row is made from its records. Assumes nothing.
 use mathlib.Core.Path.{sym, ap, _∙_}
+use mathlib.Core.List.{List}
 use mathlib.Core.Bool.{Bool, not, _||_}
-use Prim.Native.Nat.{_+_}
+use Prim.Native.Nat.{ℕ, _+_}
 use native.Mathlib.Omega.{arith}
 use Rattle.spec.specs.Drives.{viewOf}
 use Rattle.spec.specs.History.{before}
@@ -17,7 +18,7 @@ use Rattle.recover_groups.proofs.index_any.Tie as tie
 clear-row-requires : tie.Need-clear-row-requires
 clear-row-requires c κs =
     let pre = c .before .before .before .before .pre in
-    (pre .0, (pre .1 .1 .0 .0, pre .1 .1 .0 .1))
+    (pre .0, (pre .1 .1 .0, pre .1 .1 .1))
 
 has-drive-requires : tie.Need-has-drive-requires
 has-drive-requires c κs = search needs
@@ -36,16 +37,15 @@ returns c =
     let w = a .w in
     let im = a .image .now in
     let ps = a .pointers .now in
-    let v = viewOf p im ps in
     let d = a .drive in
-    let q = pre .1 .1 .0 in
-    let bad = recsBad p d (w .base) (groupRecs p (w .base) (recsOn (segmentIn p im ps w) d)) in
+    let q = pre .1 .1 in
+    let bad : List ℕ → Bool = λ off. recsBad p d (w .base) (groupRecs p (w .base) (recsOn (segmentIn p off im ps w) d)) in
     let f = group-len-le p (w .base) in (
-      sym (ap (λ (b : Bool). b || not bad) (sym (c .before .has-drive .ensures) ∙ c .if1 .taken)),
+      (λ off full. sym (ap (λ (b : Bool). b || not (bad off)) (sym (c .before .has-drive .ensures) ∙ c .if1 .taken))),
       (
         clear-row .ensures .1,
-        λ t k hk. clear-row .ensures .0 k (omega (arith, f, hk))
-            ∙ sym (missing-entry p v (w .gone) (w .seg) (w .base) d (w .base + k) (q .1) (sym (c .before .has-drive .ensures) ∙ c .if1 .taken)),
+        λ off full t k hk. clear-row .ensures .0 k (omega (arith, f, hk))
+            ∙ sym (missing-entry p (viewOf p off im ps) (w .gone) (w .seg) (w .base) d (w .base + k) (q .1) (sym (c .before .has-drive .ensures) ∙ c .if1 .taken)),
       ),
     )
 
@@ -63,15 +63,15 @@ index-drive-requires c κs =
         (
           (
             clear-row .kept .1 .0
-                ∙ pre .1 .1 .0 .0,
-            pre .1 .1 .0 .1,
-            pre .1 .1 .0 .2,
-            pre .1 .1 .0 .3,
-            pre .1 .1 .0 .4,
+                ∙ pre .1 .1 .0,
+            pre .1 .1 .1,
+            pre .1 .1 .2,
+            pre .1 .1 .3,
+            pre .1 .1 .4,
             sym (has-drive .ensures)
                 ∙ c .before .if1 .left,
           ),
-          (pre .1 .1 .1, λ k hk. clear-row .ensures .0 k (omega (arith, f, hk))),
+          (λ k hk. clear-row .ensures .0 k (omega (arith, f, hk))),
         ),
       ),
     )
@@ -93,13 +93,12 @@ returns-2 c =
     let w = a .w in
     let im = a .image .now in
     let ps = a .pointers .now in
-    let v = viewOf p im ps in
     let d = a .drive in
-    let q = pre .1 .1 .0 in
-    let bad = recsBad p d (w .base) (groupRecs p (w .base) (recsOn (segmentIn p im ps w) d)) in
+    let q = pre .1 .1 in
+    let bad : List ℕ → Bool = λ off. recsBad p d (w .base) (groupRecs p (w .base) (recsOn (segmentIn p off im ps w) d)) in
     let f = group-len-le p (w .base) in (
-      index-drive′ .ensures .0
-          ∙ sym (ap (λ (b : Bool). b || not bad) (sym (has-drive .ensures) ∙ if1 .left)),
+      (λ off full. index-drive′ .ensures .0 off full
+          ∙ sym (ap (λ (b : Bool). b || not (bad off)) (sym (has-drive .ensures) ∙ if1 .left))),
       ((λ j h. index-drive′ .ensures .1 .0 j h ∙ clear-row .ensures .1 j h), index-drive′ .ensures .1 .1),
     )
 

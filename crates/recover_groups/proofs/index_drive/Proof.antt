@@ -7,24 +7,27 @@ use borrow.Author.Tests.{not-true, not-false}
 use native.Mathlib.Omega.{arith}
 use lib.ListN.{length, getD, set}
 use borrow.Author.Needs.{needs}
-use Rattle.spec.specs.Drives.{zoneAt, viewOf, recordIn}
+use Rattle.spec.specs.Drives.{zoneAt, viewOf, recordIn, sealedIn}
 use Rattle.spec.specs.History.{before}
-use Rattle.spec.specs.Layout.{mkRec}
+use Rattle.spec.specs.Layout.{Rec, mkRec}
 use Rattle.spec.specs.Segments.{recsOn}
 use Rattle.law_basic.specs.Geometry.{ranged}
 use Rattle.law_basic.specs.Ranges.{not-both}
 use Rattle.law_drives.specs.Tests.{cond-true, cond-false}
 use Rattle.recover_groups.specs.Bases.{group-len-le, group-len-fits}
 use Rattle.recover_groups.specs.Chunks.{group-record}
-use Rattle.recover_groups.specs.Entering.{Entering, entering-start, entering-end, entering-bad-data, entering-bad, entering-next}
-use Rattle.recover_groups.specs.Groups.{groupLen, groupRecs, segmentIn}
+use Rattle.recover_groups.specs.Entering.{Entering, entering-start, entering-end, entering-bad-data, entering-bad, entering-next, below-set}
+use Rattle.recover_groups.specs.Groups.{groupLen, groupRecs, recsBad, segmentIn, Row, SameBelow}
 use Rattle.disk_records.specs.Record.{recVal}
 use Rattle.recover_groups.proofs.index_drive.Statement.{statement}
 use Rattle.recover_groups.proofs.index_drive.Tie as tie
 use Rattle.law_basic.specs.Segs.{low-zone}
 
 abbrev Inv-loop : tie.InvT-loop
-Inv-loop p image pointers w drive at₀ n base zone i₀ at i = (i ≤ n) × Entering p drive (w .base) (groupRecs p (w .base) (recsOn (segmentIn p image pointers w) drive)) at₀ at i
+Inv-loop p image pointers w drive at₀ n base zone i₀ at i =
+    (i ≤ n) × (length at ≡ 2048) × SameBelow drive at₀ at
+    × ((off : List ℕ) → w .full ≡ sealedIn p (viewOf p off image pointers) (w .gone) (w .seg)
+    → Entering p drive (w .base) (groupRecs p (w .base) (recsOn (segmentIn p off image pointers w) drive)) at₀ at i)
 
 abbrev μ-loop : tie.MeasureT-loop
 μ-loop p image pointers w drive at₀ n base zone i₀ at i = n - i
@@ -49,12 +52,9 @@ loop-holds c =
     let w = a .w in
     let im = a .image .now in
     let ps = a .pointers .now in
-    let v = viewOf p im ps in
     let d = a .drive in
     let q = pre .1 .1 .0 in
-    let rs = groupRecs p (w .base) (recsOn (segmentIn p im ps w) d) in
-    let n : c .before .group-stored .result ≡ length rs = c .before .group-stored .ensures .0 im (pre .1 .0 .image-long) (q .5) in
-    (omega arith, entering-start p d (w .base) rs (a .at .now) (q .0) (pre .1 .1 .1 .1))
+    (omega arith, q .0, (λ j k. refl), λ off full. entering-start p d (w .base) (groupRecs p (w .base) (recsOn (segmentIn p off im ps w) d)) (a .at .now) (q .0) (pre .1 .1 .1))
 
 add-record-of : tie.Need-add-record-of Inv-loop μ-loop
 add-record-of c =
@@ -98,7 +98,7 @@ same-length : tie.Need-same-length Inv-loop μ-loop
 same-length c =
     let loop = c .before .before .before .before .loop in
     let pre = c .before .before .before .before .before .before .before .before .before .before .pre in
-    loop .inv .1 .long ∙ sym (pre .1 .1 .0 .0)
+    loop .inv .1 ∙ sym (pre .1 .1 .0 .0)
 
 returns : tie.Need-returns Inv-loop μ-loop
 returns c =
@@ -113,21 +113,22 @@ returns c =
     let w = a .w in
     let im = a .image .now in
     let ps = a .pointers .now in
-    let v = viewOf p im ps in
     let d = a .drive in
     let q = pre .1 .1 .0 in
-    let rs = groupRecs p (w .base) (recsOn (segmentIn p im ps w) d) in
-    let n : group-stored .result ≡ length rs = group-stored .ensures .0 im (pre .1 .0 .image-long) (q .5) in
     let i = loop .i in
-    let h : i < length rs = omega (arith, n, loop-test .taken) in
-    let l : length rs ≤ groupLen p (w .base) = omega (arith, n, group-stored .ensures .1) in
     let r = recVal (record-of .result) in
-    let e : r ≡ getD rs i (mkRec 0 0 0) = record-of .ensures ps (pre .1 .0 .pointers-long)
-    ∙ (λ j. recordIn p (pre .1 .1 .1 .0 j) (zoneAt v d (zone-on .ensures j)) (w .base + i))
-    ∙ group-record p v (w .gone) (w .seg) (w .base) d i (q .1) (q .5) h in
-    let g : 0 < p .G = omega (arith, ranged (a .p) (pre .0) .group-low) in
-    let b = entering-bad-data p d (w .base) rs (a .at .now) (loop .at) i (loop .inv .1) h g (q .3) (q .4) l r e (sym (c .before .stored-bad .ensures) ∙ c .if1 .taken) in
-    (sym (ap not b), (loop .inv .1 .lower, λ t. absurd (not-both false t refl)))
+    let g : 0 < p .G = omega (arith, ranged (a .p) (pre .0) .group-low) in (
+      (λ off full. let rs = groupRecs p (w .base) (recsOn (segmentIn p off im ps w) d) in
+          let n : group-stored .result ≡ length rs = group-stored .ensures .0 off im (pre .1 .0 .image-long) (q .5) in
+          let h : i < length rs = omega (arith, n, loop-test .taken) in
+          let l : length rs ≤ groupLen p (w .base) = omega (arith, n, group-stored .ensures .1) in
+          let e : r ≡ getD rs i (mkRec 0 0 0) = record-of .ensures off ps (pre .1 .0 .pointers-long)
+          ∙ (λ j. recordIn p (full j) (zoneAt (viewOf p off im ps) d (zone-on .ensures j)) (w .base + i))
+          ∙ group-record p (viewOf p off im ps) (w .gone) (w .seg) (w .base) d i (q .1) (q .5) h in
+          sym (ap not
+          (entering-bad-data p d (w .base) rs (a .at .now) (loop .at) i (loop .inv .3 off full) h g (q .3) (q .4) l r e (sym (c .before .stored-bad .ensures) ∙ c .if1 .taken)))),
+      (loop .inv .2, λ off full t. absurd (not-both false t refl)),
+    )
 
 cast-enter : tie.Need-cast-enter Inv-loop μ-loop
 cast-enter c = search needs
@@ -150,13 +151,13 @@ enter-requires c κs =
     let args = entry .args in
     let pre = entry .pre in
     let f = group-len-le (args .p) (args .w .base) in
-    (pre .0, (loop .inv .1 .long, pre .1 .1 .0 .1, pre .1 .1 .0 .3, omega (arith, f, group-stored .ensures .1, loop-test .taken, ranged (args .p) (pre .0) .group-high)))
+    (pre .0, (loop .inv .1, pre .1 .1 .0 .1, pre .1 .1 .0 .3, omega (arith, f, group-stored .ensures .1, loop-test .taken, ranged (args .p) (pre .0) .group-high)))
 
 same-length-2 : tie.Need-same-length-2 Inv-loop μ-loop
 same-length-2 c =
     let loop = c .before .before .before .before .before .before .before .before .before .before .loop in
     let pre = c .before .before .before .before .before .before .before .before .before .before .before .before .before .before .before .before .pre in
-    c .before .before .before .enter .kept .1 .0 ∙ loop .inv .1 .long ∙ sym (pre .1 .1 .0 .0)
+    c .before .before .before .enter .kept .1 .0 ∙ loop .inv .1 ∙ sym (pre .1 .1 .0 .0)
 
 returns-2 : tie.Need-returns-2 Inv-loop μ-loop
 returns-2 c =
@@ -172,23 +173,23 @@ returns-2 c =
     let w = a .w in
     let im = a .image .now in
     let ps = a .pointers .now in
-    let v = viewOf p im ps in
     let d = a .drive in
     let q = pre .1 .1 .0 in
-    let rs = groupRecs p (w .base) (recsOn (segmentIn p im ps w) d) in
-    let n : group-stored .result ≡ length rs = group-stored .ensures .0 im (pre .1 .0 .image-long) (q .5) in
     let i = loop .i in
-    let h : i < length rs = omega (arith, n, loop-test .taken) in
-    let l : length rs ≤ groupLen p (w .base) = omega (arith, n, group-stored .ensures .1) in
     let r = recVal (record-of .result) in
-    let e : r ≡ getD rs i (mkRec 0 0 0) = record-of .ensures ps (pre .1 .0 .pointers-long)
-    ∙ (λ j. recordIn p (pre .1 .1 .1 .0 j) (zoneAt v d (zone-on .ensures j)) (w .base + i))
-    ∙ group-record p v (w .gone) (w .seg) (w .base) d i (q .1) (q .5) h in
     let g : 0 < p .G = omega (arith, ranged (a .p) (pre .0) .group-low) in
     let t : enter .result ≡ false = not-true (enter .result) (c .if2 .taken) in
-    let b = entering-bad p d (w .base) rs (a .at .now) (loop .at) i (loop .inv .1) h g (q .3) (q .4) l r e (sym (enter .ensures .0) ∙ t) in
-    let z : enter .last .1 .0 ≡ loop .at = enter .ensures .1 ∙ cond-false (enter .result) (set (loop .at) (256 * d + (record-of .result .stripe - w .base)) (i + 1)) (loop .at) t in
-    (sym (ap not b), ((λ j k. ap (λ (x : List ℕ). getD x j 0) z ∙ loop .inv .1 .lower j k), λ t. absurd (not-both false t refl)))
+    let z : enter .last .1 .0 ≡ loop .at = enter .ensures .1 ∙ cond-false (enter .result) (set (loop .at) (256 * d + (record-of .result .stripe - w .base)) (i + 1)) (loop .at) t in (
+      (λ off full. let rs = groupRecs p (w .base) (recsOn (segmentIn p off im ps w) d) in
+          let n : group-stored .result ≡ length rs = group-stored .ensures .0 off im (pre .1 .0 .image-long) (q .5) in
+          let h : i < length rs = omega (arith, n, loop-test .taken) in
+          let l : length rs ≤ groupLen p (w .base) = omega (arith, n, group-stored .ensures .1) in
+          let e : r ≡ getD rs i (mkRec 0 0 0) = record-of .ensures off ps (pre .1 .0 .pointers-long)
+          ∙ (λ j. recordIn p (full j) (zoneAt (viewOf p off im ps) d (zone-on .ensures j)) (w .base + i))
+          ∙ group-record p (viewOf p off im ps) (w .gone) (w .seg) (w .base) d i (q .1) (q .5) h in
+          sym (ap not (entering-bad p d (w .base) rs (a .at .now) (loop .at) i (loop .inv .3 off full) h g (q .3) (q .4) l r e (sym (enter .ensures .0) ∙ t)))),
+      ((λ j k. ap (λ (x : List ℕ). getD x j 0) z ∙ loop .inv .2 j k), λ off full t. absurd (not-both false t refl)),
+    )
 
 add-i : tie.Need-add-i Inv-loop μ-loop
 add-i c = omega arith
@@ -212,33 +213,35 @@ loop-again c =
     let w = a .w in
     let im = a .image .now in
     let ps = a .pointers .now in
-    let v = viewOf p im ps in
     let d = a .drive in
     let q = pre .1 .1 .0 in
-    let rs = groupRecs p (w .base) (recsOn (segmentIn p im ps w) d) in
-    let n : group-stored .result ≡ length rs = group-stored .ensures .0 im (pre .1 .0 .image-long) (q .5) in
     let i = loop .i in
-    let h : i < length rs = omega (arith, n, loop-test .taken) in
-    let l : length rs ≤ groupLen p (w .base) = omega (arith, n, group-stored .ensures .1) in
     let r = recVal (record-of .result) in
-    let e : r ≡ getD rs i (mkRec 0 0 0) = record-of .ensures ps (pre .1 .0 .pointers-long)
-    ∙ (λ j. recordIn p (pre .1 .1 .1 .0 j) (zoneAt v d (zone-on .ensures j)) (w .base + i))
-    ∙ group-record p v (w .gone) (w .seg) (w .base) d i (q .1) (q .5) h in
     let g : 0 < p .G = omega (arith, ranged (a .p) (pre .0) .group-low) in
     let t : enter .result ≡ true = not-false (enter .result) (c .if2 .left) in
     let f = group-len-le p (w .base) in
-    let y =
-    entering-next p d (w .base) rs (a .at .now) (loop .at) i (loop .inv .1) h g (q .3) (q .4) l r e
-    (omega (arith, q .1, ranged (a .p) (pre .0) .drives-high)) (omega (arith, f, ranged (a .p) (pre .0) .group-high))
-    (sym (stored-bad .ensures) ∙ if1 .left) (sym (enter .ensures .0) ∙ t) in
     let z : enter .last .1 .0 ≡ set (loop .at) (256 * d + (record-of .result .stripe - w .base)) (i + 1) =
-    enter .ensures .1 ∙ cond-true (enter .result) (set (loop .at) (256 * d + (record-of .result .stripe - w .base)) (i + 1)) (loop .at) t in
-    (omega (arith, loop-test .taken), subst (λ (x : List ℕ). Entering p d (w .base) rs (a .at .now) x (i + 1)) (sym z) y)
+    enter .ensures .1 ∙ cond-true (enter .result) (set (loop .at) (256 * d + (record-of .result .stripe - w .base)) (i + 1)) (loop .at) t in (
+      omega (arith, loop-test .taken),
+      enter .kept .1 .0 ∙ loop .inv .1,
+      subst (SameBelow d (a .at .now)) (sym z) (below-set d (a .at .now) (loop .at) (256 * d + (record-of .result .stripe - w .base)) (i + 1) (loop .inv .2) (omega arith)),
+      λ off full. let rs = groupRecs p (w .base) (recsOn (segmentIn p off im ps w) d) in
+          let n : group-stored .result ≡ length rs = group-stored .ensures .0 off im (pre .1 .0 .image-long) (q .5) in
+          let h : i < length rs = omega (arith, n, loop-test .taken) in
+          let l : length rs ≤ groupLen p (w .base) = omega (arith, n, group-stored .ensures .1) in
+          let e : r ≡ getD rs i (mkRec 0 0 0) = record-of .ensures off ps (pre .1 .0 .pointers-long)
+          ∙ (λ j. recordIn p (full j) (zoneAt (viewOf p off im ps) d (zone-on .ensures j)) (w .base + i))
+          ∙ group-record p (viewOf p off im ps) (w .gone) (w .seg) (w .base) d i (q .1) (q .5) h in
+          subst (λ (x : List ℕ). Entering p d (w .base) rs (a .at .now) x (i + 1)) (sym z)
+          (entering-next p d (w .base) rs (a .at .now) (loop .at) i (loop .inv .3 off full) h g (q .3) (q .4) l r e
+          (omega (arith, q .1, ranged (a .p) (pre .0) .drives-high)) (omega (arith, f, ranged (a .p) (pre .0) .group-high))
+          (sym (stored-bad .ensures) ∙ if1 .left) (sym (enter .ensures .0) ∙ t)),
+    )
 
 same-length-3 : tie.Need-same-length-3 Inv-loop μ-loop
 same-length-3 c =
     let pre = c .before .before .before .before .before .before .before .pre in
-    c .before .loop .inv .1 .long ∙ sym (pre .1 .1 .0 .0)
+    c .before .loop .inv .1 ∙ sym (pre .1 .1 .0 .0)
 
 returns-3 : tie.Need-returns-3 Inv-loop μ-loop
 returns-3 c =
@@ -249,13 +252,13 @@ returns-3 c =
     let w = a .w in
     let im = a .image .now in
     let ps = a .pointers .now in
-    let v = viewOf p im ps in
     let d = a .drive in
     let q = pre .1 .1 .0 in
-    let rs = groupRecs p (w .base) (recsOn (segmentIn p im ps w) d) in
-    let n : group-stored .result ≡ length rs = group-stored .ensures .0 im (pre .1 .0 .image-long) (q .5) in
-    let y = entering-end p d (w .base) rs (a .at .now) (c .before .loop .at) (c .before .loop .i) (c .before .loop .inv .1) (omega (arith, n, c .loop-test .left)) in
-    (sym (ap not (y .0)), (c .before .loop .inv .1 .lower, λ t. y .1))
+    let rs : List ℕ → List Rec = λ off. groupRecs p (w .base) (recsOn (segmentIn p off im ps w) d) in
+    let y : (off : List ℕ) → w .full ≡ sealedIn p (viewOf p off im ps) (w .gone) (w .seg) → (recsBad p d (w .base) (rs off) ≡ false) × Row p (w .base) (rs off) d (c .before .loop .at) =
+    λ off full. let n : group-stored .result ≡ length (rs off) = group-stored .ensures .0 off im (pre .1 .0 .image-long) (q .5) in
+    entering-end p d (w .base) (rs off) (a .at .now) (c .before .loop .at) (c .before .loop .i) (c .before .loop .inv .3 off full) (omega (arith, n, c .loop-test .left)) in
+    ((λ off full. sym (ap not (y off full .0))), (c .before .loop .inv .2, λ off full t. y off full .1))
 
 pub index-drive-spec : {M : Type 1} → statement M
 index-drive-spec =

@@ -22,8 +22,8 @@ abbrev Inv-loop : tie.InvT-loop
 Inv-loop p image w at drive k block from₀ d₀ from d =
     (d ≤ p .N)
     × (length from ≡ 8)
-    × ((e : ℕ) → e < d → isIn (w .gone) e ≡ false → (getD from e 0 + p .B ≤ imageLen p) × ((ps : List ℕ) → GroupReads p image ps w at
-    → storedPiece (segmentIn p image ps w) (w .base + k) e .block ≡ part (getD from e 0) (p .B) image))
+    × ((e : ℕ) → e < d → isIn (w .gone) e ≡ false → (getD from e 0 + p .B ≤ imageLen p) × ((off ps : List ℕ) → GroupReads p off image ps w at
+    → storedPiece (segmentIn p off image ps w) (w .base + k) e .block ≡ part (getD from e 0) (p .B) image))
 
 abbrev μ-loop : tie.MeasureT-loop
 μ-loop p image w at drive k block from₀ d₀ from d = p .N - d
@@ -65,10 +65,10 @@ loop-again c =
       omega (arith, t),
       length-set (l .from) (l .d) (c .present-block .result) ∙ l .inv .1,
       set-next
-          (λ e y. isIn (w .gone) e ≡ false → (y + p .B ≤ imageLen p) × ((ps : List ℕ) → GroupReads p im ps w (a .at .now)
-          → storedPiece (segmentIn p im ps w) (w .base + a .k) e .block ≡ part y (p .B) im))
+          (λ e y. isIn (w .gone) e ≡ false → (y + p .B ≤ imageLen p) × ((off ps : List ℕ) → GroupReads p off im ps w (a .at .now)
+          → storedPiece (segmentIn p off im ps w) (w .base + a .k) e .block ≡ part y (p .B) im))
           (l .from) (l .d) (c .present-block .result) (omega (arith, t, d, l .inv .1)) (l .inv .2)
-          (λ n. (c .present-block .ensures .0 n, λ ps x. c .present-block .ensures .1 im ps (pre .1 .0 .0) x n)),
+          (λ n. (c .present-block .ensures .0 n, λ off ps x. c .present-block .ensures .1 off im ps (pre .1 .0 .0) x n)),
     )
 
 add-s : tie.Need-add-s Inv-loop μ-loop
@@ -99,9 +99,9 @@ returns c =
     let w = a .w in
     let im = a .image .now in
     let e : l .d ≡ p .N = omega (arith, c .before .before .before .before .before .before .if1 .left, l .inv .0) in
-    λ ps x. c .before .before .decode-block .ensures
-    ∙ decode-block-same p (w .gone) (w .base + a .k) (a .drive) (λ k. part (getD (l .from) k 0) (p .B) im) (λ k. storedPiece (segmentIn p im ps w) (w .base + a .k) k .block)
-    (λ k h n. sym (l .inv .2 k (omega (arith, h, e)) n .1 ps x))
+    λ off ps x. c .before .before .decode-block .ensures
+    ∙ decode-block-same p (w .gone) (w .base + a .k) (a .drive) (λ k. part (getD (l .from) k 0) (p .B) im) (λ k. storedPiece (segmentIn p off im ps w) (w .base + a .k) k .block)
+    (λ k h n. sym (l .inv .2 k (omega (arith, h, e)) n .1 off ps x))
 
 pub lost-block-spec : {M : Type 1} → statement M
 lost-block-spec =

@@ -22,8 +22,10 @@ Inv-loop p image w at drive k addresses₀ stamps₀ d₀ addresses stamps d =
     (d ≤ p .N)
     × (length addresses ≡ 8)
     × (length stamps ≡ 8)
-    × ((e : ℕ) → e < d → isIn (w .gone) e ≡ false → (ps : List ℕ) → GroupReads p image ps w at → storedRec (segmentIn p image ps w) (w .base + k) e .address ≡ getD addresses e 0)
-    × ((e : ℕ) → e < d → isIn (w .gone) e ≡ false → (ps : List ℕ) → GroupReads p image ps w at → storedRec (segmentIn p image ps w) (w .base + k) e .stamp ≡ getD stamps e 0)
+    × ((e : ℕ) → e < d → isIn (w .gone) e ≡ false → (off ps : List ℕ) → GroupReads p off image ps w at
+    → storedRec (segmentIn p off image ps w) (w .base + k) e .address ≡ getD addresses e 0)
+    × ((e : ℕ) → e < d → isIn (w .gone) e ≡ false → (off ps : List ℕ) → GroupReads p off image ps w at
+    → storedRec (segmentIn p off image ps w) (w .base + k) e .stamp ≡ getD stamps e 0)
 
 abbrev μ-loop : tie.MeasureT-loop
 μ-loop p image w at drive k addresses₀ stamps₀ d₀ addresses stamps d = p .N - d
@@ -71,10 +73,10 @@ loop-again c =
       omega (arith, t),
       length-set (l .addresses) (l .d) (r .result .address .0) ∙ l .inv .1,
       length-set (l .stamps) (l .d) (r .result .stamp .0) ∙ l .inv .2,
-      set-next (λ e y. isIn (w .gone) e ≡ false → (ps : List ℕ) → GroupReads p im ps w (a .at .now) → storedRec (segmentIn p im ps w) (w .base + a .k) e .address ≡ y)
-          (l .addresses) (l .d) (r .result .address .0) (omega (arith, t, d, l .inv .1)) (l .inv .3) (λ n ps x. sym (ap (λ (q : Rec). q .address) (r .ensures ps x n))),
-      set-next (λ e y. isIn (w .gone) e ≡ false → (ps : List ℕ) → GroupReads p im ps w (a .at .now) → storedRec (segmentIn p im ps w) (w .base + a .k) e .stamp ≡ y)
-          (l .stamps) (l .d) (r .result .stamp .0) (omega (arith, t, d, l .inv .2)) (l .inv .4) (λ n ps x. sym (ap (λ (q : Rec). q .stamp) (r .ensures ps x n))),
+      set-next (λ e y. isIn (w .gone) e ≡ false → (off ps : List ℕ) → GroupReads p off im ps w (a .at .now) → storedRec (segmentIn p off im ps w) (w .base + a .k) e .address ≡ y)
+          (l .addresses) (l .d) (r .result .address .0) (omega (arith, t, d, l .inv .1)) (l .inv .3) (λ n off ps x. sym (ap (λ (q : Rec). q .address) (r .ensures off ps x n))),
+      set-next (λ e y. isIn (w .gone) e ≡ false → (off ps : List ℕ) → GroupReads p off im ps w (a .at .now) → storedRec (segmentIn p off im ps w) (w .base + a .k) e .stamp ≡ y)
+          (l .stamps) (l .d) (r .result .stamp .0) (omega (arith, t, d, l .inv .2)) (l .inv .4) (λ n off ps x. sym (ap (λ (q : Rec). q .stamp) (r .ensures off ps x n))),
     )
 
 add-s : tie.Need-add-s Inv-loop μ-loop
@@ -110,10 +112,10 @@ returns c =
     let p = a .p in
     let w = a .w in
     let e : l .d ≡ p .N = omega (arith, c .before .before .before .before .if1 .left, l .inv .0) in
-    λ ps x. c .decode-record .ensures
+    λ off ps x. c .decode-record .ensures
     ∙ decode-rec-same p (w .gone) (w .base + a .k) (a .drive) (λ i. mkRec (getD (l .addresses) i 0) (getD (l .stamps) i 0) (w .base + a .k))
-    (storedRec (segmentIn p (a .image .now) ps w) (w .base + a .k))
-    (λ i h n. (sym (l .inv .3 i (omega (arith, h, e)) n ps x), sym (l .inv .4 i (omega (arith, h, e)) n ps x)))
+    (storedRec (segmentIn p off (a .image .now) ps w) (w .base + a .k))
+    (λ i h n. (sym (l .inv .3 i (omega (arith, h, e)) n off ps x), sym (l .inv .4 i (omega (arith, h, e)) n off ps x)))
 
 pub lost-rec-spec : {M : Type 1} → statement M
 lost-rec-spec =

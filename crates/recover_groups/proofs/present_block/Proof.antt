@@ -15,7 +15,7 @@ returns : tie.Need-returns
 returns c =
     let a = c .before .before .before .args in
     let t : isIn (a .w .gone) (a .drive) ≡ true = sym (c .before .has-drive .ensures) ∙ c .if1 .taken in
-    (λ e. absurd (not-both (isIn (a .w .gone) (a .drive)) t e), λ im ps h x e. absurd (not-both (isIn (a .w .gone) (a .drive)) t e))
+    (λ e. absurd (not-both (isIn (a .w .gone) (a .drive)) t e), λ off im ps h x e. absurd (not-both (isIn (a .w .gone) (a .drive)) t e))
 
 block-at-requires : tie.Need-block-at-requires
 block-at-requires c κs =
@@ -26,7 +26,7 @@ block-at-requires c κs =
     (pre .0, ((q .0, low-zone (a .p) (a .w .gone) (a .w .seg) (a .drive) (q .1) (q .3) here, q .2, q .3, q .4), pre .1 .1 (a .drive) (q .3) here))
 
 returns-2 : tie.Need-returns-2
-returns-2 c = (λ e. c .block-at .ensures .0, λ im ps h x e. c .block-at .ensures .1 im ps h x)
+returns-2 c = (λ e. c .block-at .ensures .0, λ off im ps h x e. c .block-at .ensures .1 off im ps h x)
 
 pub present-block-spec : {M : Type 1} → statement M
 present-block-spec = tie.close (tie.spec has-drive-requires returns block-at-requires returns-2)

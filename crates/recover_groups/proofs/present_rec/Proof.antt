@@ -15,7 +15,7 @@ returns : tie.Need-returns
 returns c =
     let a = c .before .before .before .before .args in
     let t : isIn (a .w .gone) (a .drive) ≡ true = sym (c .before .has-drive .ensures) ∙ c .if1 .taken in
-    λ ps x e. absurd (not-both (isIn (a .w .gone) (a .drive)) t e)
+    λ off ps x e. absurd (not-both (isIn (a .w .gone) (a .drive)) t e)
 
 stored-rec-requires : tie.Need-stored-rec-requires
 stored-rec-requires c κs =
@@ -26,7 +26,7 @@ stored-rec-requires c κs =
     (pre .0, ((q .0, q .1, low-zone (a .p) (a .w .gone) (a .w .seg) (a .drive) (q .2) (q .4) here, q .3, q .4, q .5), pre .1 .1 (a .drive) (q .4) here))
 
 returns-2 : tie.Need-returns-2
-returns-2 c = λ ps x e. c .stored-rec .ensures ps x
+returns-2 c = λ off ps x e. c .stored-rec .ensures off ps x
 
 pub present-rec-spec : {M : Type 1} → statement M
 present-rec-spec = tie.close (tie.spec has-drive-requires returns stored-rec-requires returns-2)

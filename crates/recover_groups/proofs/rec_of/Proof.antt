@@ -22,8 +22,8 @@ returns c =
     let a = c .before .before .before .before .before .args in
     let p = a .p in
     let w = a .w in
-    λ ps x. c .lost-rec .ensures ps x
-    ∙ sym (rec-lost p (w .gone) (segmentIn p (a .image .now) ps w) (w .base + a .k) (a .drive) (sym (c .before .before .has-drive .ensures) ∙ c .before .if1 .taken))
+    λ off ps x. c .lost-rec .ensures off ps x
+    ∙ sym (rec-lost p (w .gone) (segmentIn p off (a .image .now) ps w) (w .base + a .k) (a .drive) (sym (c .before .before .has-drive .ensures) ∙ c .before .if1 .taken))
 
 stored-rec-requires : tie.Need-stored-rec-requires
 stored-rec-requires c κs =
@@ -39,8 +39,8 @@ returns-2 c =
     let a = c .before .before .before .before .before .args in
     let p = a .p in
     let w = a .w in
-    λ ps x. c .stored-rec .ensures ps x
-    ∙ sym (rec-here p (w .gone) (segmentIn p (a .image .now) ps w) (w .base + a .k) (a .drive) (sym (c .before .before .has-drive .ensures) ∙ c .before .if1 .left))
+    λ off ps x. c .stored-rec .ensures off ps x
+    ∙ sym (rec-here p (w .gone) (segmentIn p off (a .image .now) ps w) (w .base + a .k) (a .drive) (sym (c .before .before .has-drive .ensures) ∙ c .before .if1 .left))
 
 pub rec-of-spec : {M : Type 1} → statement M
 rec-of-spec =

@@ -50,9 +50,9 @@ returns c =
     let p = a .p in
     let w = a .w in
     let im = a .image .now in
-    λ ps x. c .record-in .ensures ps (x .long)
-    ∙ (λ j. recordIn p (w .full) (zoneAt (viewOf p im ps) (a .drive) (zone-on .ensures j)) (c .before .offset-on .ensures .0 j))
-    ∙ record-read p im ps w (a .at .now) (ranged (a .p) (pre .0)) (pre .1 .0 .0) x (pre .1 .0 .3) (a .k) (pre .1 .0 .5) (a .drive) (pre .1 .0 .4) (pre .1 .1 .0)
+    λ off ps x. c .record-in .ensures off ps (x .long)
+    ∙ (λ j. recordIn p (w .full) (zoneAt (viewOf p off im ps) (a .drive) (zone-on .ensures j)) (c .before .offset-on .ensures .0 j))
+    ∙ record-read p off im ps w (a .at .now) (ranged (a .p) (pre .0)) (pre .1 .0 .0) x (pre .1 .0 .3) (a .k) (pre .1 .0 .5) (a .drive) (pre .1 .0 .4) (pre .1 .1 .0)
 
 pub stored-rec-spec : {M : Type 1} → statement M
 stored-rec-spec =

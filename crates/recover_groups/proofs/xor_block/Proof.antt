@@ -85,9 +85,9 @@ returns c =
     let p = a .p in
     let w = a .w in
     let im = a .image .now in
-    λ ps x. xor-into .ensures ∙ ap (xors (a .block .now)) (part-lent (block-byte .result) (p .B) im
+    λ off ps x. xor-into .ensures ∙ ap (xors (a .block .now)) (part-lent (block-byte .result) (p .B) im
     ∙ ap (λ (t : ℕ). part t (p .B) im) (block-byte .ensures .0 ∙ (λ j. placeByte p (placeOf p (a .drive) (zone-on .ensures j) (1 + offset-on .ensures .0 j))))
-    ∙ sym (block-read p im ps w (a .at .now) (ranged (a .p) (pre .0)) (pre .1 .0 .0) x (pre .1 .0 .3) (a .k) (pre .1 .0 .5) (a .drive) (pre .1 .0 .4) (pre .1 .0 .2) (pre .1 .1 .0)))
+    ∙ sym (block-read p off im ps w (a .at .now) (ranged (a .p) (pre .0)) (pre .1 .0 .0) x (pre .1 .0 .3) (a .k) (pre .1 .0 .5) (a .drive) (pre .1 .0 .4) (pre .1 .0 .2) (pre .1 .1 .0)))
 
 pub xor-block-spec : {M : Type 1} → statement M
 xor-block-spec =

@@ -15,7 +15,8 @@ has-drive-requires c κs = search needs
 returns : tie.Need-returns
 returns c =
     let a = c .before .before .before .before .args in
-    let v = viewOf (a .p) (a .image .now) (a .pointers .now) in
+    λ off.
+    let v = viewOf (a .p) off (a .image .now) (a .pointers .now) in
     sym (ap (λ (x : Bool). not x && footerFaultIn (a .p) (zoneAt v (a .drive) (zoneOn (a .segment) (a .drive)))) (sym (c .before .has-drive .ensures) ∙ c .if1 .taken))
 
 zone-on-requires : tie.Need-zone-on-requires
@@ -31,8 +32,9 @@ zone-footer-fault-requires c κs =
 returns-2 : tie.Need-returns-2
 returns-2 c =
     let a = c .before .before .before .before .before .before .args in
-    let v = viewOf (a .p) (a .image .now) (a .pointers .now) in
-    c .zone-footer-fault .ensures ∙ ap (λ (z : ℕ). footerFaultIn (a .p) (zoneAt v (a .drive) z)) (c .before .zone-on .ensures)
+    λ off.
+    let v = viewOf (a .p) off (a .image .now) (a .pointers .now) in
+    c .zone-footer-fault .ensures off ∙ ap (λ (z : ℕ). footerFaultIn (a .p) (zoneAt v (a .drive) z)) (c .before .zone-on .ensures)
     ∙ sym (ap (λ (x : Bool). not x && footerFaultIn (a .p) (zoneAt v (a .drive) (zoneOn (a .segment) (a .drive))))
     (sym (c .before .before .before .has-drive .ensures) ∙ c .before .before .if1 .left))
 

@@ -111,12 +111,12 @@ returns c =
     let k : length w ≡ p .B = make-footer .kept .1 .1 .1 .1 .1 .0 ∙ t in
     let e : take (p .B) (w ++ drop (p .B) s) ≡ w = take-at w (drop (p .B) s) (p .B) k in
     let im = a .image .now in
-    λ ps long.
+    λ off ps long.
     let x = 1 + p .S + a .i in
-    let f : take (y .result + p .B - y .result) (drop (y .result) im) ≡ chunkAt (viewOf p im ps) (a .drive) (a .zone) x .block =
+    let f : take (y .result + p .B - y .result) (drop (y .result) im) ≡ chunkAt (viewOf p off im ps) (a .drive) (a .zone) x .block =
     part-lent (y .result) (p .B) im ∙ ap (λ (o : ℕ). part o (p .B) im) (y .ensures .0)
-    ∙ sym (block-view p (mkDisk im ps) (a .drive) (a .zone) (h .1 .2) (h .1 .3) (record { image-long = h .1 .0; pointers-long = long }) x (omega (arith, h .1 .4))) in
-    ap not (c .same .ensures ∙ ap₂ sameList f (e ∙ make-footer .ensures ps long))
+    ∙ sym (block-view p off (mkDisk im ps) (a .drive) (a .zone) (h .1 .2) (h .1 .3) (record { image-long = h .1 .0; pointers-long = long }) x (omega (arith, h .1 .4))) in
+    ap not (c .same .ensures ∙ ap₂ sameList f (e ∙ make-footer .ensures off ps long))
 
 pub footer-unlike-spec : {M : Type 1} → statement M
 footer-unlike-spec =

@@ -23,7 +23,7 @@ has-drive-requires c κs = search needs
 returns : tie.Need-returns
 returns c =
     let a = c .before .before .before .args in
-    sym (ap (λ (b : Bool). not b && headerOff (a .p) (a .image .now) (a .segment) (a .serial .0) (a .copied .0) (a .drive)) (sym (c .before .has-drive .ensures) ∙ c .if1 .taken))
+    sym (ap (λ (b : Bool). not b && headerOff (a .p) (a .image .now) (a .segment) (a .names) (a .serial .0) (a .copied .0) (a .drive)) (sym (c .before .has-drive .ensures) ∙ c .if1 .taken))
 
 zone-on-requires : tie.Need-zone-on-requires
 zone-on-requires c κs = search needs
@@ -67,8 +67,8 @@ returns-2 c =
     let e : take (k .result + u .result - k .result) (drop (k .result) im) ≡ part (placeByte p (placeOf p (a .drive) (zoneOn (a .segment) (a .drive)) 0)) (unitLen p) im =
     part-lent (k .result) (u .result) im
     ∙ ap₂ (λ (x y : ℕ). part x y im) (k .ensures .0 ∙ ap (λ (x : ℕ). placeByte p (placeOf p (a .drive) x 0)) (z .ensures)) (u .ensures .0) in
-    ap not (c .is-header .ensures ∙ (λ j. sameChunk (chunkOf p (e j)) (headerBlock p (a .drive) (zonesIn p (a .segment)) (a .serial .0) (a .copied .0)) zeroSpare))
-    ∙ sym (ap (λ (b : Bool). not b && headerOff p im (a .segment) (a .serial .0) (a .copied .0) (a .drive))
+    ap not (c .is-header .ensures ∙ (λ j. sameChunk (chunkOf p (e j)) (headerBlock p (a .drive) (zonesIn p (a .names)) (a .serial .0) (a .copied .0)) zeroSpare))
+    ∙ sym (ap (λ (b : Bool). not b && headerOff p im (a .segment) (a .names) (a .serial .0) (a .copied .0) (a .drive))
     (sym (has-drive .ensures) ∙ if1 .left))
 
 pub header-differs-spec : {M : Type 1} → statement M

@@ -10,18 +10,18 @@ use Rattle.recover_headers.proofs.header_fault.Statement.{statement}
 use Rattle.recover_headers.proofs.header_fault.Tie as tie
 
 abbrev Inv-loop : tie.InvT-loop
-Inv-loop p image gone segment serial copied d₀ d =
+Inv-loop p image gone segment names serial copied d₀ d =
     (d ≤ p .N)
-    × (any (λ e. not (isIn gone e) && headerOff p image segment (serial .0) (copied .0) e) (upFrom d (p .N - d))
-    ≡ any (λ e. not (isIn gone e) && headerOff p image segment (serial .0) (copied .0) e) (below (p .N)))
+    × (any (λ e. not (isIn gone e) && headerOff p image segment names (serial .0) (copied .0) e) (upFrom d (p .N - d))
+    ≡ any (λ e. not (isIn gone e) && headerOff p image segment names (serial .0) (copied .0) e) (below (p .N)))
 
 abbrev μ-loop : tie.MeasureT-loop
-μ-loop p image gone segment serial copied d₀ d = p .N - d
+μ-loop p image gone segment names serial copied d₀ d = p .N - d
 
 loop-holds : tie.Need-loop-holds Inv-loop μ-loop
 loop-holds c =
     let a = c .before .args in
-    (omega arith, any-start (λ e. not (isIn (a .gone) e) && headerOff (a .p) (a .image .now) (a .segment) ((a .serial) .0) ((a .copied) .0) e) (a .p .N))
+    (omega arith, any-start (λ e. not (isIn (a .gone) e) && headerOff (a .p) (a .image .now) (a .segment) (a .names) (a .serial .0) (a .copied .0) e) (a .p .N))
 
 header-differs-requires : tie.Need-header-differs-requires Inv-loop μ-loop
 header-differs-requires c κs =
@@ -35,9 +35,9 @@ returns c =
     let l = c .before .before .before .before .loop in
     let if1 = c .before .before .if1 in
     let pre = c .before .before .before .before .before .before .pre in
-    let f : ℕ → Bool = λ e. not (isIn (a .gone) e) && headerOff (a .p) (a .image .now) (a .segment) ((a .serial) .0) ((a .copied) .0) e in
-    λ ps long es ec. (sym (any-found f (l .d) (a .p .N) (if1 .taken) (sym (c .before .header-differs .ensures) ∙ c .if2 .taken)) ∙ l .inv .1)
-    ∙ sym (header-list (a .p) (a .image .now) ps (pre .1 .0) long (a .gone) (a .segment) (a .serial .0) (a .copied .0) (pre .0) (pre .1 .1) es ec)
+    let f : ℕ → Bool = λ e. not (isIn (a .gone) e) && headerOff (a .p) (a .image .now) (a .segment) (a .names) (a .serial .0) (a .copied .0) e in
+    λ off ps long en es ec. (sym (any-found f (l .d) (a .p .N) (if1 .taken) (sym (c .before .header-differs .ensures) ∙ c .if2 .taken)) ∙ l .inv .1)
+    ∙ sym (header-list (a .p) off (a .image .now) ps (pre .1 .0) long (a .gone) (a .segment) (a .names) (a .serial .0) (a .copied .0) (pre .0) (pre .1 .1) en es ec)
 
 add-d : tie.Need-add-d Inv-loop μ-loop
 add-d c = omega arith
@@ -50,7 +50,7 @@ loop-again c =
     let a = c .before .before .before .before .before .before .args in
     let l = c .before .before .before .before .loop in
     let if1 = c .before .before .if1 in
-    let f : ℕ → Bool = λ e. not (isIn (a .gone) e) && headerOff (a .p) (a .image .now) (a .segment) ((a .serial) .0) ((a .copied) .0) e in
+    let f : ℕ → Bool = λ e. not (isIn (a .gone) e) && headerOff (a .p) (a .image .now) (a .segment) (a .names) (a .serial .0) (a .copied .0) e in
     (omega (arith, if1 .taken), sym (any-passed f (l .d) (a .p .N) (if1 .taken) (sym (c .before .header-differs .ensures) ∙ c .if2 .left)) ∙ l .inv .1)
 
 returns-2 : tie.Need-returns-2 Inv-loop μ-loop
@@ -58,9 +58,9 @@ returns-2 c =
     let a = c .before .before .before .before .args in
     let l = c .before .before .loop in
     let pre = c .before .before .before .before .pre in
-    let f : ℕ → Bool = λ e. not (isIn (a .gone) e) && headerOff (a .p) (a .image .now) (a .segment) ((a .serial) .0) ((a .copied) .0) e in
-    λ ps long es ec. (sym (any-ended f (l .d) (a .p .N) (omega (arith, c .if1 .left))) ∙ l .inv .1)
-    ∙ sym (header-list (a .p) (a .image .now) ps (pre .1 .0) long (a .gone) (a .segment) (a .serial .0) (a .copied .0) (pre .0) (pre .1 .1) es ec)
+    let f : ℕ → Bool = λ e. not (isIn (a .gone) e) && headerOff (a .p) (a .image .now) (a .segment) (a .names) (a .serial .0) (a .copied .0) e in
+    λ off ps long en es ec. (sym (any-ended f (l .d) (a .p .N) (omega (arith, c .if1 .left))) ∙ l .inv .1)
+    ∙ sym (header-list (a .p) off (a .image .now) ps (pre .1 .0) long (a .gone) (a .segment) (a .names) (a .serial .0) (a .copied .0) (pre .0) (pre .1 .1) en es ec)
 
 pub header-fault-spec : {M : Type 1} → statement M
 header-fault-spec =

@@ -1,8 +1,10 @@
 -- `zone_footer_fault`: some footer from i on is unlike just if one of the stored n is; one found ends it, and `footer-any` makes it the fault. Assumes nothing.
 use mathlib.Core.Path.{_≡_, sym, ap, _∙_}
+use mathlib.Core.List.{List}
+use mathlib.Core.Bool.{Bool}
 use Prim.Native.Nat.{ℕ, _-_, _≤_}
 use native.Mathlib.Omega.{arith}
-use Rattle.spec.specs.Drives.{viewOf, mkDisk, zoneAt}
+use Rattle.spec.specs.Drives.{Zone, viewOf, mkDisk, zoneAt}
 use Rattle.spec.specs.Lists.{upFrom, below, any}
 use Rattle.law_scans.specs.Scans.{any-found, any-passed, any-ended, any-start}
 use Rattle.law_views.specs.Views.{blocks-long}
@@ -12,7 +14,8 @@ use Rattle.recover_headers.proofs.zone_footer_fault.Tie as tie
 
 abbrev Inv-loop : tie.InvT-loop
 Inv-loop p image pointers drive zone n i₀ i =
-    (i ≤ n) × (any (footerOff p (zoneAt (viewOf p image pointers) drive zone)) (upFrom i (n - i)) ≡ any (footerOff p (zoneAt (viewOf p image pointers) drive zone)) (below n))
+    (i ≤ n) × ((off : List ℕ)
+    → any (footerOff p (zoneAt (viewOf p off image pointers) drive zone)) (upFrom i (n - i)) ≡ any (footerOff p (zoneAt (viewOf p off image pointers) drive zone)) (below n))
 
 abbrev μ-loop : tie.MeasureT-loop
 μ-loop p image pointers drive zone n i₀ i = n - i
@@ -25,7 +28,7 @@ footers-stored-requires c κs =
 loop-holds : tie.Need-loop-holds Inv-loop μ-loop
 loop-holds c =
     let a = c .before .before .before .args in
-    (omega arith, any-start (footerOff (a .p) (zoneAt (viewOf (a .p) (a .image .now) (a .pointers .now)) (a .drive) (a .zone))) (c .footers-stored .result))
+    (omega arith, λ off. any-start (footerOff (a .p) (zoneAt (viewOf (a .p) off (a .image .now) (a .pointers .now)) (a .drive) (a .zone))) (c .footers-stored .result))
 
 footer-differs-requires : tie.Need-footer-differs-requires Inv-loop μ-loop
 footer-differs-requires c κs =
@@ -39,11 +42,12 @@ returns c =
     let loop-test = c .before .before .loop-test in
     let l = c .before .before .before .loop in
     let footers-stored = c .before .before .before .before .footers-stored in
-    let q = zoneAt (viewOf (a .p) (a .image .now) (a .pointers .now)) (a .drive) (a .zone) in
-    let f = footerOff (a .p) q in
-    sym (any-found f (l .i) (footers-stored .result) (loop-test .taken) (sym (c .before .footer-differs .ensures (a .pointers .now) (h .1 .0 .pointers-long)) ∙ c .if1 .taken)) ∙ l .inv .1
-    ∙ ap (λ (x : ℕ). any f (below x)) (footers-stored .ensures .0 (a .image .now) (h .1 .0 .image-long))
-    ∙ sym (footer-any (a .p) q (blocks-long (a .p) (mkDisk (a .image .now) (a .pointers .now)) (a .drive) (a .zone) (h .1 .1 .0) (h .1 .1 .1) (h .1 .0)))
+    let q : List ℕ → Zone = λ off. zoneAt (viewOf (a .p) off (a .image .now) (a .pointers .now)) (a .drive) (a .zone) in
+    let f : List ℕ → ℕ → Bool = λ off. footerOff (a .p) (q off) in
+    λ off. sym (any-found (f off) (l .i) (footers-stored .result) (loop-test .taken)
+    (sym (c .before .footer-differs .ensures off (a .pointers .now) (h .1 .0 .pointers-long)) ∙ c .if1 .taken)) ∙ l .inv .1 off
+    ∙ ap (λ (x : ℕ). any (f off) (below x)) (footers-stored .ensures .0 off (a .image .now) (h .1 .0 .image-long))
+    ∙ sym (footer-any (a .p) (q off) (blocks-long (a .p) off (mkDisk (a .image .now) (a .pointers .now)) (a .drive) (a .zone) (h .1 .1 .0) (h .1 .1 .1) (h .1 .0)))
 
 add-i : tie.Need-add-i Inv-loop μ-loop
 add-i c = omega arith
@@ -58,13 +62,13 @@ loop-again c =
     let loop-test = c .before .before .loop-test in
     let loop = c .before .before .before .loop in
     let footers-stored = c .before .before .before .before .footers-stored in
-    let q = zoneAt (viewOf (a .p) (a .image .now) (a .pointers .now)) (a .drive) (a .zone) in
-    let f = footerOff (a .p) q in
+    let q : List ℕ → Zone = λ off. zoneAt (viewOf (a .p) off (a .image .now) (a .pointers .now)) (a .drive) (a .zone) in
+    let f : List ℕ → ℕ → Bool = λ off. footerOff (a .p) (q off) in
     let l = loop in (
       omega (arith, loop-test .taken),
-      sym (any-passed f (l .i) (footers-stored .result) (loop-test .taken)
-          (sym (c .before .footer-differs .ensures (a .pointers .now) (h .1 .0 .pointers-long)) ∙ c .if1 .left))
-          ∙ l .inv .1,
+      λ off. sym (any-passed (f off) (l .i) (footers-stored .result) (loop-test .taken)
+          (sym (c .before .footer-differs .ensures off (a .pointers .now) (h .1 .0 .pointers-long)) ∙ c .if1 .left))
+          ∙ l .inv .1 off,
     )
 
 returns-2 : tie.Need-returns-2 Inv-loop μ-loop
@@ -72,12 +76,12 @@ returns-2 c =
     let a = c .before .before .before .before .before .args in
     let h = c .before .before .before .before .before .pre in
     let footers-stored = c .before .before .footers-stored in
-    let q = zoneAt (viewOf (a .p) (a .image .now) (a .pointers .now)) (a .drive) (a .zone) in
-    let f = footerOff (a .p) q in
+    let q : List ℕ → Zone = λ off. zoneAt (viewOf (a .p) off (a .image .now) (a .pointers .now)) (a .drive) (a .zone) in
+    let f : List ℕ → ℕ → Bool = λ off. footerOff (a .p) (q off) in
     let l = c .before .loop in
-    sym (any-ended f (l .i) (footers-stored .result) (omega (arith, c .loop-test .left))) ∙ l .inv .1
-    ∙ ap (λ (x : ℕ). any f (below x)) (footers-stored .ensures .0 (a .image .now) (h .1 .0 .image-long))
-    ∙ sym (footer-any (a .p) q (blocks-long (a .p) (mkDisk (a .image .now) (a .pointers .now)) (a .drive) (a .zone) (h .1 .1 .0) (h .1 .1 .1) (h .1 .0)))
+    λ off. sym (any-ended (f off) (l .i) (footers-stored .result) (omega (arith, c .loop-test .left))) ∙ l .inv .1 off
+    ∙ ap (λ (x : ℕ). any (f off) (below x)) (footers-stored .ensures .0 off (a .image .now) (h .1 .0 .image-long))
+    ∙ sym (footer-any (a .p) (q off) (blocks-long (a .p) off (mkDisk (a .image .now) (a .pointers .now)) (a .drive) (a .zone) (h .1 .1 .0) (h .1 .1 .1) (h .1 .0)))
 
 pub zone-footer-fault-spec : {M : Type 1} → statement M
 zone-footer-fault-spec =

@@ -1,5 +1,5 @@
 -- `move_stripe`: what is owed are the chunks of the drives from d on; to is not the segment, which stays as it is; one turn pays d, or is cut. Assumes nothing.
-use Prim.Native.Nat.{_+_, _-_}
+use Prim.Native.Nat.{ℕ, _+_, _-_}
 use Rattle.spec.specs.Drives.{mkDisk}
 use Rattle.spec.specs.Lists.{upFrom}
 use Rattle.spec.specs.Restart.{movedStripe}
@@ -7,7 +7,7 @@ use Rattle.recover_groups.specs.Groups.{segmentIn}
 use Rattle.law_basic.specs.Geometry.{ranged}
 use Rattle.recover_move.specs.Moves.{movedTo, Moves, moves-reads, row-moves-start, row-done, row-room, row-cut, row-turn}
 use lib.ListN.{length}
-use mathlib.Core.List.{map}
+use mathlib.Core.List.{List, [], map}
 use mathlib.Core.Path.{_≡_, refl, _∙_}
 use native.Mathlib.Omega.{arith}
 use Rattle.recover_move.proofs.move_stripe.Statement.{statement}
@@ -18,8 +18,9 @@ abbrev Inv-loop : tie.InvT-loop
 Inv-loop p image₀ pointers₀ w at k to s count left₀ d₀ image pointers left d =
     (length image ≡ length image₀)
     × (length pointers ≡ length pointers₀)
-    × Moves p count (movedStripe p (segmentIn p image₀ pointers₀ w) to (w .base + k) s) (mkDisk image₀ pointers₀) (w .seg)
-    (map (movedTo p (segmentIn p image₀ pointers₀ w) to (w .base + k) s) (upFrom d (p .N - d))) left (mkDisk image pointers)
+    × ((off : List ℕ)
+    → Moves p off count (movedStripe p (segmentIn p off image₀ pointers₀ w) to (w .base + k) s) (mkDisk image₀ pointers₀) (w .seg)
+    (map (movedTo p (segmentIn p off image₀ pointers₀ w) to (w .base + k) s) (upFrom d (p .N - d))) left (mkDisk image pointers))
 
 abbrev μ-loop : tie.MeasureT-loop
 μ-loop p image₀ pointers₀ w at k to s count left₀ d₀ image pointers left d = p .N - d
@@ -31,9 +32,9 @@ loop-holds c =
     let pre = entry .pre in (
       refl,
       refl,
-      row-moves-start (args .p) (ranged (args .p) (pre .0)) (args .count) (mkDisk (args .image .now) (args .pointers .now)) (args .w)
+      λ off. row-moves-start (args .p) (ranged (args .p) (pre .0)) off (args .count) (mkDisk (args .image .now) (args .pointers .now)) (args .w)
           (pre .1 .1 .0 .seg-low) (pre .1 .1 .0 .none-gone) (args .to) (args .w .base + args .k) (args .s) (pre .1 .1 .1 .1 .1 .0 .2) (pre .1 .0)
-          (pre .1 .1 .1 .1 .1 .1),
+          (pre .1 .1 .1 .1 .1 .1 off),
     )
 
 move-chunk-requires : tie.Need-move-chunk-requires Inv-loop μ-loop
@@ -44,25 +45,25 @@ move-chunk-requires c κs =
     let pre = c .before .before .before .before .before .before .before .before .pre in (
       pre .0,
       (
-        loop .inv .2 .going .whole,
+        loop .inv .2 [] .going .whole,
         (
           pre .1 .1 .0,
           (
             pre .1 .1 .1 .0,
             (
-              moves-reads (a .p) (ranged (a .p) (pre .0)) (a .count)
-                  (movedStripe (a .p) (segmentIn (a .p) (a .image .now) (a .pointers .now) (a .w)) (a .to) (a .w .base + a .k) (a .s))
+              λ off. moves-reads (a .p) (ranged (a .p) (pre .0)) off (a .count)
+                  (movedStripe (a .p) (segmentIn (a .p) off (a .image .now) (a .pointers .now) (a .w)) (a .to) (a .w .base + a .k) (a .s))
                   (mkDisk (a .image .now) (a .pointers .now)) (a .w .seg)
-                  (map (movedTo (a .p) (segmentIn (a .p) (a .image .now) (a .pointers .now) (a .w)) (a .to) (a .w .base + a .k) (a .s))
-                  (upFrom (loop .d) (a .p .N - loop .d))) (loop .left) (mkDisk (loop .image) (loop .pointers)) (loop .inv .2) (a .w)
-                  (pre .1 .1 .0 .none-gone) refl (a .at .now) (pre .1 .1 .1 .1 .0),
+                  (map (movedTo (a .p) (segmentIn (a .p) off (a .image .now) (a .pointers .now) (a .w)) (a .to) (a .w .base + a .k) (a .s))
+                  (upFrom (loop .d) (a .p .N - loop .d))) (loop .left) (mkDisk (loop .image) (loop .pointers)) (loop .inv .2 off) (a .w)
+                  (pre .1 .1 .0 .none-gone) refl (a .at .now) (pre .1 .1 .1 .1 .0 off),
               (
                 if1 .taken,
                 low-here (a .p) (a .to) (loop .d) (pre .1 .1 .1 .1 .1 .0 .0) (if1 .taken),
                 pre .1 .1 .1 .1 .1 .0 .1,
-                row-room (a .p) (ranged (a .p) (pre .0)) (a .count) (mkDisk (a .image .now) (a .pointers .now)) (a .w) (pre .1 .1 .0 .seg-low)
+                row-room (a .p) (ranged (a .p) (pre .0)) [] (a .count) (mkDisk (a .image .now) (a .pointers .now)) (a .w) (pre .1 .1 .0 .seg-low)
                     (pre .1 .1 .0 .none-gone) (a .to) (a .w .base + a .k) (a .s) (pre .1 .1 .1 .1 .1 .0 .2) (loop .d) (loop .left)
-                    (mkDisk (loop .image) (loop .pointers)) (loop .inv .2) (if1 .taken),
+                    (mkDisk (loop .image) (loop .pointers)) (loop .inv .2 []) (if1 .taken),
               ),
             ),
           ),
@@ -90,10 +91,10 @@ returns c =
     let entry = c .before .before .before .before .before .before .before .before .before .before .before .before .before .before in
     let args = entry .args in
     let pre = entry .pre in
-    row-cut (args .p) (ranged (args .p) (pre .0)) (args .count) (mkDisk (args .image .now) (args .pointers .now)) (args .w) (pre .1 .1 .0 .seg-low)
+    λ off. row-cut (args .p) (ranged (args .p) (pre .0)) off (args .count) (mkDisk (args .image .now) (args .pointers .now)) (args .w) (pre .1 .1 .0 .seg-low)
     (pre .1 .1 .0 .none-gone) (args .to) (args .w .base + args .k) (args .s) (pre .1 .1 .1 .1 .1 .0 .2) (loop .d) (loop .left)
-    (mkDisk (loop .image) (loop .pointers)) (loop .inv .2) (if1 .taken) (move-chunk .result)
-    (mkDisk (move-chunk .last .1 .0) (move-chunk .last .1 .1 .0)) (move-chunk .ensures) (c .if2 .taken)
+    (mkDisk (loop .image) (loop .pointers)) (loop .inv .2 off) (if1 .taken) (move-chunk .result)
+    (mkDisk (move-chunk .last .1 .0) (move-chunk .last .1 .1 .0)) (move-chunk .ensures off) (c .if2 .taken)
 
 add-d : tie.Need-add-d Inv-loop μ-loop
 add-d c = omega arith
@@ -113,10 +114,10 @@ loop-again c =
           ∙ loop .inv .0,
       move-chunk .kept .1 .1 .0
           ∙ loop .inv .1,
-      row-turn (args .p) (ranged (args .p) (pre .0)) (args .count) (mkDisk (args .image .now) (args .pointers .now)) (args .w)
+      λ off. row-turn (args .p) (ranged (args .p) (pre .0)) off (args .count) (mkDisk (args .image .now) (args .pointers .now)) (args .w)
           (pre .1 .1 .0 .seg-low) (pre .1 .1 .0 .none-gone) (args .to) (args .w .base + args .k) (args .s) (pre .1 .1 .1 .1 .1 .0 .2) (loop .d)
-          (loop .left) (mkDisk (loop .image) (loop .pointers)) (loop .inv .2) (if1 .taken) (move-chunk .result)
-          (mkDisk (move-chunk .last .1 .0) (move-chunk .last .1 .1 .0)) (move-chunk .ensures) (c .if2 .left),
+          (loop .left) (mkDisk (loop .image) (loop .pointers)) (loop .inv .2 off) (if1 .taken) (move-chunk .result)
+          (mkDisk (move-chunk .last .1 .0) (move-chunk .last .1 .1 .0)) (move-chunk .ensures off) (c .if2 .left),
     )
 
 same-length-3 : tie.Need-same-length-3 Inv-loop μ-loop
@@ -131,9 +132,9 @@ returns-2 c =
     let entry = c .before .before .before .before .before .before in
     let args = entry .args in
     let pre = entry .pre in
-    row-done (args .p) (ranged (args .p) (pre .0)) (args .count) (mkDisk (args .image .now) (args .pointers .now)) (args .w) (pre .1 .1 .0 .seg-low)
+    λ off. row-done (args .p) (ranged (args .p) (pre .0)) off (args .count) (mkDisk (args .image .now) (args .pointers .now)) (args .w) (pre .1 .1 .0 .seg-low)
     (pre .1 .1 .0 .none-gone) (args .to) (args .w .base + args .k) (args .s) (pre .1 .1 .1 .1 .1 .0 .2) (loop .d) (loop .left)
-    (mkDisk (loop .image) (loop .pointers)) (loop .inv .2) (omega (arith, c .if1 .left))
+    (mkDisk (loop .image) (loop .pointers)) (loop .inv .2 off) (omega (arith, c .if1 .left))
 
 pub move-stripe-spec : {M : Type 1} → statement M
 move-stripe-spec =

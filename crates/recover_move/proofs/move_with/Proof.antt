@@ -72,10 +72,10 @@ returns c =
     let write-record = c .before .before .before .before .before .before .before .before .before .before .before .write-record in
     let moved-chunk = c .before .before .before .before .before .before .before .before .before .before .before .before .before .before .before .moved-chunk in
     let pre = c .before .before .before .before .before .before .before .before .before .before .before .before .before .before .before .before .before .before .before .before .before .before .pre in
-    put-moved (a .p) (a .count) (segmentIn (a .p) (a .image .now) (a .pointers .now) (a .w)) (a .to) (a .w .base + a .k) (a .s) (a .drive)
+    λ off. put-moved (a .p) (a .count) (segmentIn (a .p) off (a .image .now) (a .pointers .now) (a .w)) (a .to) (a .w .base + a .k) (a .s) (a .drive)
     (zone-on .result) (moved-chunk .last .1 .1 .1 .1 .1 .1 .1 .0) (write-record .last .0) (recVal (moved-chunk .result))
     (mkDisk (a .image .now) (a .pointers .now)) (put-limited .result) (mkDisk (put-limited .last .1 .0) (put-limited .last .1 .1 .0))
-    (zone-on .ensures) (moved-chunk .ensures (a .pointers .now) (pre .1 .1 .1 .1 .0)) (write-record .ensures) (put-limited .ensures)
+    (zone-on .ensures) (moved-chunk .ensures off (a .pointers .now) (pre .1 .1 .1 .1 .0 off)) (write-record .ensures) (put-limited .ensures)
 
 pub move-with-spec : {M : Type 1} → statement M
 move-with-spec =

@@ -53,10 +53,10 @@ returns c =
     let entry = c .before .before .before .before .before .before .before .before .before .before in
     let args = entry .args in
     let pre = entry .pre in
-    λ ps x.
-    let g = segmentIn (args .p) (args .image .now) ps (args .w) in
+    λ off ps x.
+    let g = segmentIn (args .p) off (args .image .now) ps (args .w) in
     let s = args .w .base + args .k in
-    moved-data′ .ensures ps x
+    moved-data′ .ensures off ps x
     ∙ ap (λ (i : ℕ). renumbered (args .s) (storedPiece g s (dataDrive (args .p) s i))) (data-position .ensures .0)
     ∙ renumbered-data (args .p) g s (args .s) (args .drive) (pre .1 .1 .1 .2) (sym (is-data .ensures) ∙ if1 .taken)
 
@@ -74,8 +74,8 @@ returns-2 c =
     let if1 = c .before .before .before .before .if1 in
     let is-data = c .before .before .before .before .before .is-data in
     let args = c .before .before .before .before .before .before .before .before .before .args in
-    λ ps x. moved-parity′ .ensures ps x
-    ∙ parity-moved (args .p) (segmentIn (args .p) (args .image .now) ps (args .w)) (args .w .base + args .k) (args .s) (args .drive)
+    λ off ps x. moved-parity′ .ensures off ps x
+    ∙ parity-moved (args .p) (segmentIn (args .p) off (args .image .now) ps (args .w)) (args .w .base + args .k) (args .s) (args .drive)
     (sym (is-data .ensures) ∙ if1 .left)
 
 pub moved-chunk-spec : {M : Type 1} → statement M

@@ -10,7 +10,7 @@ use mathlib.Core.Path.{refl}
 use native.Mathlib.Omega.{arith}
 use Rattle.recover_move.proofs.moved_data.Statement.{statement}
 use Rattle.recover_move.proofs.moved_data.Tie as tie
-use Rattle.law_basic.specs.Segs.{zone-on-lt}
+use Rattle.law_basic.specs.Segs.{low-here}
 
 add-data-drive : tie.Need-add-data-drive
 add-data-drive c =
@@ -31,7 +31,7 @@ copy-block-requires c κs =
         (
           pre .1 .1 .1 .0,
           pre .1 .0 .at-long,
-          zone-on-lt (args .p) (args .w .seg) (c .before .data-drive .result) (pre .1 .0 .seg-low),
+          low-here (args .p) (args .w .seg) (c .before .data-drive .result) (pre .1 .0 .seg-low) (c .before .data-drive .ensures .1),
           pre .1 .0 .base-low,
           c .before .data-drive .ensures .1,
           pre .1 .0 .in-group,
@@ -51,7 +51,7 @@ stored-rec-requires c κs =
         (
           pre .1 .1 .1 .0,
           pre .1 .0 .at-long,
-          zone-on-lt (args .p) (args .w .seg) (data-drive .result) (pre .1 .0 .seg-low),
+          low-here (args .p) (args .w .seg) (data-drive .result) (pre .1 .0 .seg-low) (data-drive .ensures .1),
           pre .1 .0 .base-low,
           data-drive .ensures .1,
           pre .1 .0 .in-group,
@@ -74,12 +74,12 @@ returns c =
     let entry = c .before .before .before .before .before .before .before .before .before .before .before .before in
     let args = entry .args in
     let pre = entry .pre in
-    λ ps x.
-    data-moved (args .p) (ranged (args .p) (pre .0)) (args .image .now) ps (args .w) (args .at .now) (args .k) (args .s) (pre .1 .1 .1 .0)
+    λ off ps x.
+    data-moved (args .p) (ranged (args .p) (pre .0)) off (args .image .now) ps (args .w) (args .at .now) (args .k) (args .s) (pre .1 .1 .1 .0)
     (pre .1 .0 .seg-low) (pre .1 .0 .base-low) (pre .1 .0 .in-group) (pre .1 .1 .0) x (args .i) (data-drive .result)
     (copy-block .last .1 .1 .1 .1 .1 .1 .0) (recVal (stored-rec .result))
-    (mkRec (stored-rec .result .address .0) (stored-rec .result .stamp .0) (args .s)) (data-drive .ensures .0) (copy-block .ensures ps x)
-    (stored-rec .ensures ps x) refl refl refl
+    (mkRec (stored-rec .result .address .0) (stored-rec .result .stamp .0) (args .s)) (data-drive .ensures .0) (copy-block .ensures off ps x)
+    (stored-rec .ensures off ps x) refl refl refl
 
 pub moved-data-spec : {M : Type 1} → statement M
 moved-data-spec =

@@ -14,11 +14,12 @@ use mathlib.Core.Path.{_≡_, refl, ap, _∙_, subst}
 use native.Mathlib.Omega.{arith}
 use Rattle.recover_move.proofs.moved_parity.Statement.{statement}
 use Rattle.recover_move.proofs.moved_parity.Tie as tie
-use Rattle.law_basic.specs.Segs.{zone-on-lt}
+use Rattle.law_basic.specs.Segs.{low-here}
 
 abbrev Inv-loop : tie.InvT-loop
 Inv-loop p image w at k s block₀ r₀ i₀ block r i =
-    (i ≤ dataCount p) × (length block ≡ length block₀) × ((ps : List ℕ) → GroupReads p image ps w at → Xored p (segmentIn p image ps w) (w .base + k) s i block (recVal r))
+    (i ≤ dataCount p) × (length block ≡ length block₀) ×
+    ((off : List ℕ) (ps : List ℕ) → GroupReads p off image ps w at → Xored p (segmentIn p off image ps w) (w .base + k) s i block (recVal r))
 
 abbrev μ-loop : tie.MeasureT-loop
 μ-loop p image w at k s block₀ r₀ i₀ block r i = dataCount p - i
@@ -37,7 +38,7 @@ loop-holds c =
     let pre = entry .pre in (
       omega arith,
       refl,
-      λ ps x. xored-start (args .p) (segmentIn (args .p) (args .image .now) ps (args .w)) (args .w .base + args .k) (args .s) (clear .last .0)
+      λ off ps x. xored-start (args .p) (segmentIn (args .p) off (args .image .now) ps (args .w)) (args .w .base + args .k) (args .s) (clear .last .0)
           (mkRec 0 0 (args .s)) (clear .ensures ∙ ap (λ (n : ℕ). replicate n 0) (pre .1 .1 .1 .1)) refl refl refl,
     )
 
@@ -73,7 +74,7 @@ xor-block-requires c κs =
         (
           pre .1 .1 .1 .0,
           pre .1 .0 .at-long,
-          zone-on-lt (args .p) (args .w .seg) (c .before .data-drive .result) (pre .1 .0 .seg-low),
+          low-here (args .p) (args .w .seg) (c .before .data-drive .result) (pre .1 .0 .seg-low) (c .before .data-drive .ensures .1),
           pre .1 .0 .base-low,
           c .before .data-drive .ensures .1,
           pre .1 .0 .in-group,
@@ -95,7 +96,7 @@ stored-rec-requires c κs =
         (
           pre .1 .1 .1 .0,
           pre .1 .0 .at-long,
-          zone-on-lt (args .p) (args .w .seg) (data-drive .result) (pre .1 .0 .seg-low),
+          low-here (args .p) (args .w .seg) (data-drive .result) (pre .1 .0 .seg-low) (data-drive .ensures .1),
           pre .1 .0 .base-low,
           data-drive .ensures .1,
           pre .1 .0 .in-group,
@@ -127,12 +128,12 @@ loop-again c =
     let pre = entry .pre in (
       omega (arith, data-count-minus (args .p), if1 .taken),
       xor-block .kept .1 .1 .1 .1 .1 .1 .0 ∙ loop .inv .1,
-      λ ps x.
-          xored-step (args .p) (ranged (args .p) (pre .0)) (args .image .now) ps (args .w) (args .at .now) (args .k) (args .s) (pre .1 .1 .1 .0)
+      λ off ps x.
+          xored-step (args .p) (ranged (args .p) (pre .0)) off (args .image .now) ps (args .w) (args .at .now) (args .k) (args .s) (pre .1 .1 .1 .0)
           (pre .1 .0 .seg-low) (pre .1 .0 .base-low) (pre .1 .0 .in-group) (pre .1 .1 .0) x (loop .i) (data-drive .result) (loop .block)
           (xor-block .last .1 .1 .1 .1 .1 .1 .0) (recVal (loop .r)) (recVal (c .xor-rec .result)) (recVal (c .before .stored-rec .result))
-          (omega (arith, data-count-minus (args .p), if1 .taken)) (data-drive .ensures .0) (loop .inv .2 ps x) (xor-block .ensures ps x)
-          (c .before .stored-rec .ensures ps x) (c .xor-rec .ensures .0) (c .xor-rec .ensures .1) (c .xor-rec .ensures .2),
+          (omega (arith, data-count-minus (args .p), if1 .taken)) (data-drive .ensures .0) (loop .inv .2 off ps x) (xor-block .ensures off ps x)
+          (c .before .stored-rec .ensures off ps x) (c .xor-rec .ensures .0) (c .xor-rec .ensures .1) (c .xor-rec .ensures .2),
     )
 
 same-length : tie.Need-same-length Inv-loop μ-loop
@@ -144,10 +145,10 @@ returns : tie.Need-returns Inv-loop μ-loop
 returns c =
     let loop = c .before .before .loop in
     let args = c .before .before .before .before .before .before .before .before .before .before .args in
-    λ ps x.
+    λ off ps x.
     let e : loop .i ≡ dataCount (args .p) = omega (arith, loop .inv .0, data-count-minus (args .p), c .if1 .left) in
-    xored-done (args .p) (segmentIn (args .p) (args .image .now) ps (args .w)) (args .w .base + args .k) (args .s) (loop .block) (recVal (loop .r))
-    (subst (λ (n : ℕ). Xored (args .p) (segmentIn (args .p) (args .image .now) ps (args .w)) (args .w .base + args .k) (args .s) n (loop .block) (recVal (loop .r))) e (loop .inv .2 ps x))
+    xored-done (args .p) (segmentIn (args .p) off (args .image .now) ps (args .w)) (args .w .base + args .k) (args .s) (loop .block) (recVal (loop .r))
+    (subst (λ (n : ℕ). Xored (args .p) (segmentIn (args .p) off (args .image .now) ps (args .w)) (args .w .base + args .k) (args .s) n (loop .block) (recVal (loop .r))) e (loop .inv .2 off ps x))
 
 pub moved-parity-spec : {M : Type 1} → statement M
 moved-parity-spec =

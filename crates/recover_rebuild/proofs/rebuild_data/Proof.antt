@@ -1,18 +1,20 @@
 -- `rebuild_data`: the chunks are cut or made; not sealed, they are all; sealed, S of them count, so the footers fit and come of their spares. Assumes nothing.
 use mathlib.Core.Path.{_≡_, sym, ap, _∙_, subst}
+use mathlib.Core.List.{List, []}
 use mathlib.Core.Bool.{true}
 use Prim.Native.Nat.{ℕ, _+_, _≤_, _<_}
 use borrow.Author.Tests.{not-true, not-false}
 use borrow.Author.Needs.{needs}
 use native.Mathlib.Omega.{arith}
-use Rattle.spec.specs.Drives.{zoneAt, viewOf, mkDisk, pointerOf, sealedIn, footerStores}
+use Rattle.spec.specs.Drives.{zoneAt, mkDisk, pointerOf, sealedIn, footerStores}
 use Rattle.spec.specs.Engine.Call.{close}
 use Rattle.spec.specs.History.{before}
 use Rattle.spec.specs.Lists.{below}
 use Rattle.spec.specs.Params.{footers, capacity, named}
 use Rattle.spec.specs.Segments.{segmentOf}
 use Rattle.law_basic.specs.Geometry.{ranged}
-use Rattle.law_views.specs.Views.{AllFit}
+use Rattle.law_basic.specs.Segs.{ZonesLow}
+use Rattle.law_views.specs.Views.{AllFit, seen}
 use Rattle.disk_zones.specs.Made.{Storing}
 use Rattle.recover_groups.specs.Groups.{recsFault}
 use Rattle.recover_reset.specs.Lost.{lostStores}
@@ -29,7 +31,7 @@ put-groups-requires c κs =
     let r = ranged p (q .0) in
     let h = q .1 .1 .0 in
     let d = a .drive in
-    let v = viewOf p (a .image .now) (a .pointers .now) in
+    let k₀ = mkDisk (a .image .now) (a .pointers .now) in
     let e = sym (h .0) in (
       q .0,
       (
@@ -37,13 +39,13 @@ put-groups-requires c κs =
         (
           subst (λ (x : ℕ). Lacks p x d) e (lacks-named p r d (h .1)),
           (
-            (h .2, h .4),
+            (subst (λ (x : ℕ). ZonesLow p x (a .seg)) e (h .2), h .4),
             (
-              q .1 .1 .1 .0 ∙ ap (λ (x : ℕ). sealedIn p v x (a .seg)) e,
+              λ off. q .1 .1 .1 .0 off ∙ ap (λ (x : ℕ). sealedIn p (seen p off k₀) x (a .seg)) e,
               (
-                ap (λ (x : ℕ). recsFault p x (segmentOf p v x (a .seg))) (h .0) ∙ q .1 .1 .1 .1 .0,
-                subst (λ (x : ℕ). AllFit p v (lostStores p x d (segmentOf p v x (a .seg)) (below (p .S)))) e
-                    (chunks-fit p r d (a .seg) (a .count) (h .1) (h .2) (mkDisk (a .image .now) (a .pointers .now)) (q .1 .0) (q .1 .1 .1 .1 .1)),
+                λ off. ap (λ (x : ℕ). recsFault p x (segmentOf p (seen p off k₀) x (a .seg))) (h .0) ∙ q .1 .1 .1 .1 .0 off,
+                λ off. subst (λ (x : ℕ). AllFit p (seen p off k₀) (lostStores p x d (segmentOf p (seen p off k₀) x (a .seg)) (below (p .S)))) e
+                    (chunks-fit p r off d (a .seg) (a .count) (h .1) (h .2) (h .4) k₀ (q .1 .0) (q .1 .1 .1 .1 .1 off)),
               ),
             ),
           ),
@@ -66,13 +68,12 @@ returns c =
     let r = ranged p (q .0) in
     let h = q .1 .1 .0 in
     let d = a .drive in
-    let v = viewOf p (a .image .now) (a .pointers .now) in
     let k₀ = mkDisk (a .image .now) (a .pointers .now) in
     let m = put-groups .result in
     let k = mkDisk (put-groups .last .1 .0) (put-groups .last .1 .1 .0) in
-    let s : Storing p (a .count) (lostStores p (named d) d (segmentOf p v (named d) (a .seg)) (below (p .S))) k₀ m k =
-    subst (λ (x : ℕ). Storing p (a .count) (lostStores p x d (segmentOf p v x (a .seg)) (below (p .S))) k₀ m k) (h .0) (put-groups .ensures) in
-    chunks-cut p r d (a .seg) (a .count) (h .1) (h .2) k₀ (q .1 .0) (q .1 .1 .1 .1 .1) m k s (c .if1 .taken)
+    let s : (off : List ℕ) → Storing p (a .count) (lostStores p (named d) d (segmentOf p (seen p off k₀) (named d) (a .seg)) (below (p .S))) k₀ m k =
+    λ off. subst (λ (x : ℕ). Storing p (a .count) (lostStores p x d (segmentOf p (seen p off k₀) x (a .seg)) (below (p .S))) k₀ m k) (h .0) (put-groups .ensures off) in
+    λ off. chunks-cut p r off d (a .seg) (a .count) (h .1) (h .2) (h .4) k₀ (q .1 .0) (q .1 .1 .1 .1 .1 off) m k (s off) (c .if1 .taken)
 
 same-length-3 : tie.Need-same-length-3
 same-length-3 c = search needs
@@ -89,14 +90,13 @@ returns-2 c =
     let r = ranged p (q .0) in
     let h = q .1 .1 .0 in
     let d = a .drive in
-    let v = viewOf p (a .image .now) (a .pointers .now) in
     let k₀ = mkDisk (a .image .now) (a .pointers .now) in
     let m = put-groups .result in
     let k = mkDisk (put-groups .last .1 .0) (put-groups .last .1 .1 .0) in
-    let s : Storing p (a .count) (lostStores p (named d) d (segmentOf p v (named d) (a .seg)) (below (p .S))) k₀ m k =
-    subst (λ (x : ℕ). Storing p (a .count) (lostStores p x d (segmentOf p v x (a .seg)) (below (p .S))) k₀ m k) (h .0) (put-groups .ensures) in
-    chunks-only p r d (a .seg) (a .count) (h .1) (h .2) k₀ (q .1 .0) (q .1 .1 .1 .1 .1) m k s (c .before .if1 .left)
-    (sym (q .1 .1 .1 .0) ∙ not-true (a .full) (c .if2 .taken))
+    let s : (off : List ℕ) → Storing p (a .count) (lostStores p (named d) d (segmentOf p (seen p off k₀) (named d) (a .seg)) (below (p .S))) k₀ m k =
+    λ off. subst (λ (x : ℕ). Storing p (a .count) (lostStores p x d (segmentOf p (seen p off k₀) x (a .seg)) (below (p .S))) k₀ m k) (h .0) (put-groups .ensures off) in
+    λ off. chunks-only p r off d (a .seg) (a .count) (h .1) (h .2) (h .4) k₀ (q .1 .0) (q .1 .1 .1 .1 .1 off) m k (s off) (c .before .if1 .left)
+    (sym (q .1 .1 .1 .0 off) ∙ not-true (a .full) (c .if2 .taken))
 
 zone-on-requires : tie.Need-zone-on-requires
 zone-on-requires c κs =
@@ -121,19 +121,18 @@ footer-stores-requires c κs =
     let r = ranged p (q .0) in
     let h = q .1 .1 .0 in
     let d = a .drive in
-    let v = viewOf p (a .image .now) (a .pointers .now) in
     let k₀ = mkDisk (a .image .now) (a .pointers .now) in
     let m = put-groups .result in
     let k = mkDisk (put-groups .last .1 .0) (put-groups .last .1 .1 .0) in
-    let s : Storing p (a .count) (lostStores p (named d) d (segmentOf p v (named d) (a .seg)) (below (p .S))) k₀ m k =
-    subst (λ (x : ℕ). Storing p (a .count) (lostStores p x d (segmentOf p v x (a .seg)) (below (p .S))) k₀ m k) (h .0) (put-groups .ensures) in
-    let f : sealedIn p v (named d) (a .seg) ≡ true = sym (q .1 .1 .1 .0) ∙ not-false (a .full) (if2 .left) in
+    let s : (off : List ℕ) → Storing p (a .count) (lostStores p (named d) d (segmentOf p (seen p off k₀) (named d) (a .seg)) (below (p .S))) k₀ m k =
+    λ off. subst (λ (x : ℕ). Storing p (a .count) (lostStores p x d (segmentOf p (seen p off k₀) x (a .seg)) (below (p .S))) k₀ m k) (h .0) (put-groups .ensures off) in
+    let f : (off : List ℕ) → sealedIn p (seen p off k₀) (named d) (a .seg) ≡ true = λ off. sym (q .1 .1 .1 .0 off) ∙ not-false (a .full) (if2 .left) in
     let n = footers′ .ensures .0 in
     let z = zone-on .ensures in
-    let t = room-now p r d (a .seg) (a .count) (h .1) (h .2) k₀ (q .1 .0) (q .1 .1 .1 .1 .1) m k s (if1 .left) f (q .1 .1 .1 .1 .0) (q .0) (h .3) in (
+    let t = room-now p r [] d (a .seg) (a .count) (h .1) (h .2) (h .4) k₀ (q .1 .0) (q .1 .1 .1 .1 .1 []) m k (s []) (if1 .left) (f []) (q .1 .1 .1 .1 .0 []) (q .0) (h .3) in (
       q .0,
       (
-        whole-now p r d (a .seg) (a .count) (h .1) (h .2) k₀ (q .1 .0) (q .1 .1 .1 .1 .1) m k s (if1 .left) f (q .1 .1 .1 .1 .0) (q .0) (h .3),
+        whole-now p r [] d (a .seg) (a .count) (h .1) (h .2) (h .4) k₀ (q .1 .0) (q .1 .1 .1 .1 .1 []) m k (s []) (if1 .left) (f []) (q .1 .1 .1 .1 .0 []) (q .0) (h .3),
         (
           h .1,
           subst (λ (x : ℕ). x < p .Z) (sym z) (h .4),
@@ -163,19 +162,18 @@ returns-3 c =
     let r = ranged p (q .0) in
     let h = q .1 .1 .0 in
     let d = a .drive in
-    let v = viewOf p (a .image .now) (a .pointers .now) in
     let k₀ = mkDisk (a .image .now) (a .pointers .now) in
     let m = put-groups .result in
     let k = mkDisk (put-groups .last .1 .0) (put-groups .last .1 .1 .0) in
-    let s : Storing p (a .count) (lostStores p (named d) d (segmentOf p v (named d) (a .seg)) (below (p .S))) k₀ m k =
-    subst (λ (x : ℕ). Storing p (a .count) (lostStores p x d (segmentOf p v x (a .seg)) (below (p .S))) k₀ m k) (h .0) (put-groups .ensures) in
-    let f : sealedIn p v (named d) (a .seg) ≡ true = sym (q .1 .1 .1 .0) ∙ not-false (a .full) (if2 .left) in
+    let s : (off : List ℕ) → Storing p (a .count) (lostStores p (named d) d (segmentOf p (seen p off k₀) (named d) (a .seg)) (below (p .S))) k₀ m k =
+    λ off. subst (λ (x : ℕ). Storing p (a .count) (lostStores p x d (segmentOf p (seen p off k₀) x (a .seg)) (below (p .S))) k₀ m k) (h .0) (put-groups .ensures off) in
+    let f : (off : List ℕ) → sealedIn p (seen p off k₀) (named d) (a .seg) ≡ true = λ off. sym (q .1 .1 .1 .0 off) ∙ not-false (a .full) (if2 .left) in
     let k′ = mkDisk (footer-stores .last .1 .0) (footer-stores .last .1 .1 .0) in
     let m′ = footer-stores .result in
-    feet-made p r d (a .seg) (a .count) (h .1) (h .2) k₀ (q .1 .0) (q .1 .1 .1 .1 .1) m k s (if1 .left) f (q .1 .1 .1 .1 .0) (q .0) (h .3) m′ k′
-    (subst (λ (x : ℕ). Storing p (m .left) (footerStores p d x (zoneAt (viewOf p (k .image) (k .pointers)) d x) 0 (footers p)) k m′ k′) (zone-on .ensures)
-    (subst (λ (x : ℕ). Storing p (m .left) (footerStores p d (zone-on .result) (zoneAt (viewOf p (k .image) (k .pointers)) d (zone-on .result)) 0 x) k
-    m′ k′) (footers′ .ensures .0) (footer-stores .ensures)))
+    λ off. feet-made p r off d (a .seg) (a .count) (h .1) (h .2) (h .4) k₀ (q .1 .0) (q .1 .1 .1 .1 .1 off) m k (s off) (if1 .left) (f off) (q .1 .1 .1 .1 .0 off) (q .0) (h .3) m′ k′
+    (subst (λ (x : ℕ). Storing p (m .left) (footerStores p d x (zoneAt (seen p off k) d x) 0 (footers p)) k m′ k′) (zone-on .ensures)
+    (subst (λ (x : ℕ). Storing p (m .left) (footerStores p d (zone-on .result) (zoneAt (seen p off k) d (zone-on .result)) 0 x) k
+    m′ k′) (footers′ .ensures .0) (footer-stores .ensures off)))
 
 pub rebuild-data-spec : {M : Type 1} → statement M
 rebuild-data-spec =

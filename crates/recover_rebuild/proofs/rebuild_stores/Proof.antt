@@ -10,8 +10,8 @@ use Rattle.recover_rebuild.proofs.rebuild_stores.Tie as tie
 
 reset-drive-requires : tie.Need-reset-drive-requires
 reset-drive-requires c κs =
-    let pre = c .before .before .before .before .pre in
-    (pre .0, (pre .1 .0 .pointers-long, pre .1 .1 .0 .1))
+    let pre = c .before .before .before .before .before .before .before .pre in
+    (pre .0, (pre .1 .0 .0 .pointers-long, pre .1 .0 .1, pre .1 .1 .0 .1))
 
 same-length : tie.Need-same-length
 same-length c = search needs
@@ -19,26 +19,28 @@ same-length c = search needs
 returns : tie.Need-returns
 unfolding driveResets
 returns c =
-    let a = c .before .before .before .before .before .before .before .before .args in
-    let q = c .before .before .before .before .before .before .before .before .pre in
+    let a = c .before .before .before .before .before .before .before .before .before .before .before .args in
+    let q = c .before .before .before .before .before .before .before .before .before .before .before .pre in
     let reset-drive = c .before .before .before .reset-drive in
     let p = a .p in
     let r = ranged p (q .0) in
+    let h = q .1 .1 .0 in
     let k₀ = mkDisk (a .image .now) (a .pointers .now) in
     let m = reset-drive .result in
     let k = mkDisk (a .image .now) (reset-drive .last .1 .0) in
     let t = reset-drive .ensures (a .image .now) in
-    resets-cut p r (a .drive) (a .count) (q .1 .1 .0 .1) (a .kept .now) k₀ (q .1 .0) (q .1 .1 .1 .1) m k t (c .if1 .taken)
+    resets-cut p r (a .offline .now) (a .drive) (a .count) (h .1) (a .kept .now) (a .serials .now) (a .rows .now) (h .2) k₀ (q .1 .0 .0) (q .1 .1 .1 .1) m k t (c .if1 .taken)
 
 rebuild-zones-requires : tie.Need-rebuild-zones-requires
 unfolding driveResets
 rebuild-zones-requires c κs =
-    let a = c .before .before .before .before .before .before .before .before .before .before .args in
-    let q = c .before .before .before .before .before .before .before .before .before .before .pre in
+    let a = c .before .before .before .before .before .before .before .before .before .before .before .before .before .args in
+    let q = c .before .before .before .before .before .before .before .before .before .before .before .before .before .pre in
     let if1 = c .before .before .if1 in
     let reset-drive = c .before .before .before .before .before .reset-drive in
     let p = a .p in
     let r = ranged p (q .0) in
+    let h = q .1 .1 .0 in
     let k₀ = mkDisk (a .image .now) (a .pointers .now) in
     let m = reset-drive .result in
     let k = mkDisk (a .image .now) (reset-drive .last .1 .0) in
@@ -46,14 +48,14 @@ rebuild-zones-requires c κs =
     let n = if1 .left in (
       q .0,
       (
-        resets-whole p r (a .drive) (a .count) (q .1 .1 .0 .1) (a .kept .now) k₀ (q .1 .0) (q .1 .1 .1 .1) m k t n,
+        resets-whole p r (a .offline .now) (a .drive) (a .count) (h .1) (a .kept .now) (a .serials .now) (a .rows .now) (h .2) k₀ (q .1 .0 .0) (q .1 .1 .1 .1) m k t n,
         (
-          q .1 .1 .0,
+          (h .0, h .1, h .2),
           (
-            drive-resets-empty p r (a .drive) (a .count) (q .1 .1 .0 .1) (a .kept .now) k₀ (q .1 .0) (q .1 .1 .1 .1) m k t n,
+            drive-resets-empty p r (a .offline .now) (a .drive) (a .count) (h .1) (a .kept .now) (a .serials .now) (a .rows .now) (h .2) k₀ (q .1 .0 .0) (q .1 .1 .1 .1) m k t n (h .3),
             (
-              resets-good p r (a .drive) (a .count) (q .1 .1 .0 .1) (a .kept .now) k₀ (q .1 .0) (q .1 .1 .1 .1) m k t n (q .1 .1 .1 .0),
-              resets-fit p r (a .drive) (a .count) (q .1 .1 .0 .1) (a .kept .now) k₀ (q .1 .0) (q .1 .1 .1 .1) m k t n,
+              resets-good p r (a .offline .now) (a .drive) (a .count) (h .1) (a .kept .now) (a .serials .now) (a .rows .now) (h .2) k₀ (q .1 .0 .0) (q .1 .1 .1 .1) m k t n (q .1 .1 .1 .0),
+              resets-fit p r (a .offline .now) (a .drive) (a .count) (h .1) (a .kept .now) (a .serials .now) (a .rows .now) (h .2) k₀ (q .1 .0 .0) (q .1 .1 .1 .1) m k t n,
             ),
           ),
         ),
@@ -69,19 +71,20 @@ same-length-3 c = search needs
 returns-2 : tie.Need-returns-2
 unfolding driveResets
 returns-2 c =
-    let a = c .before .before .before .before .before .before .before .before .before .before .before .before .before .before .before .args in
-    let q = c .before .before .before .before .before .before .before .before .before .before .before .before .before .before .before .pre in
+    let a = c .before .before .before .before .before .before .before .before .before .before .before .before .before .before .before .before .before .before .args in
+    let q = c .before .before .before .before .before .before .before .before .before .before .before .before .before .before .before .before .before .before .pre in
     let rebuild-zones = c .before .before .before .before .rebuild-zones in
     let if1 = c .before .before .before .before .before .before .before .if1 in
     let reset-drive = c .before .before .before .before .before .before .before .before .before .before .reset-drive in
     let p = a .p in
     let r = ranged p (q .0) in
+    let h = q .1 .1 .0 in
     let k₀ = mkDisk (a .image .now) (a .pointers .now) in
     let m = reset-drive .result in
     let k = mkDisk (a .image .now) (reset-drive .last .1 .0) in
     let t = reset-drive .ensures (a .image .now) in
-    resets-made p r (a .drive) (a .count) (q .1 .1 .0 .1) (a .kept .now) k₀ (q .1 .0) (q .1 .1 .1 .1) m k t (if1 .left) (rebuild-zones .result)
-    (mkDisk (rebuild-zones .last .1 .0) (rebuild-zones .last .1 .1 .0)) (rebuild-zones .ensures)
+    resets-made p r (a .offline .now) (a .drive) (a .count) (h .1) (a .kept .now) (a .serials .now) (a .rows .now) (h .2) k₀ (q .1 .0 .0) (q .1 .1 .1 .1) m k t (if1 .left)
+    (rebuild-zones .result) (mkDisk (rebuild-zones .last .1 .0) (rebuild-zones .last .1 .1 .0)) (rebuild-zones .ensures (a .offline .now))
 
 pub rebuild-stores-spec : {M : Type 1} → statement M
 rebuild-stores-spec = tie.close (tie.spec reset-drive-requires same-length returns rebuild-zones-requires same-length-2 same-length-3 returns-2)

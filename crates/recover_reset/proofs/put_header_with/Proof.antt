@@ -14,6 +14,7 @@ use Rattle.spec.specs.Layout.{headerBlock}
 use Rattle.spec.specs.Params.{unitLen}
 use Rattle.law_basic.specs.Fields.{length-zeroSpare, header-block-long}
 use Rattle.law_basic.specs.Geometry.{ranged}
+use Rattle.law_basic.specs.Segs.{zones-in-long}
 use Rattle.disk_zones.specs.Made.{Storing}
 use Rattle.recover_reset.proofs.put_header_with.Statement.{statement}
 use Rattle.recover_reset.proofs.put_header_with.Tie as tie
@@ -40,7 +41,8 @@ block-is c =
     let pre = c .before .before .before .before .before .before .before .before .before .before .pre in
     let r = ranged (a .p) (pre .0) in
     let h = headerBlock (a .p) (a .drive) (zonesIn (a .p) (a .segment)) (a .serial .0) (a .copied .0) in
-    ap (take (a .p .B)) (write-header .ensures) ∙ take-at h zeroSpare (a .p .B) (header-block-long (a .p) r (a .drive) (zonesIn (a .p) (a .segment)) (a .serial .0) (a .copied .0))
+    ap (take (a .p .B)) (write-header .ensures) ∙ take-at h zeroSpare (a .p .B)
+    (header-block-long (a .p) r (a .drive) (zonesIn (a .p) (a .segment)) (a .serial .0) (a .copied .0) (zones-in-long (a .p) (a .segment)))
 
 block-long :
     (c : tie.After-put-limited-arg2)
@@ -51,7 +53,7 @@ block-long c =
     let a = c .before .before .before .before .before .before .before .before .before .before .args in
     let pre = c .before .before .before .before .before .before .before .before .before .before .pre in
     let r = ranged (a .p) (pre .0) in
-    ap length (block-is c) ∙ header-block-long (a .p) r (a .drive) (zonesIn (a .p) (a .segment)) (a .serial .0) (a .copied .0)
+    ap length (block-is c) ∙ header-block-long (a .p) r (a .drive) (zonesIn (a .p) (a .segment)) (a .serial .0) (a .copied .0) (zones-in-long (a .p) (a .segment))
 
 slice-reshare-prefix-put-limited : tie.Need-slice-reshare-prefix-put-limited
 unfolding unitLen

@@ -12,6 +12,7 @@ use Rattle.law_views.specs.Views.{seen}
 use borrow.Author.Needs.{needs}
 use borrow.Author.Tests.{not-true, not-false}
 use mathlib.Core.Bool.{true}
+use mathlib.Core.List.{List, []}
 use mathlib.Core.Path.{_≡_, sym, ap, _∙_}
 use native.Mathlib.Omega.{arith}
 use Rattle.recover_rewrite.proofs.move_if.Statement.{statement}
@@ -29,14 +30,14 @@ returns c =
     let entry = c .before .before .before .before .before in
     let args = entry .args in
     let pre = entry .pre in
-    step-none (args .p) (segmentIn (args .p) (args .image .now) (args .pointers .now) (args .w)) (args .to)
-    (itself (args .p) (segmentIn (args .p) (args .image .now) (args .pointers .now) (args .w)) (args .w .base + args .k)) (args .m)
+    λ off. step-none (args .p) (segmentIn (args .p) off (args .image .now) (args .pointers .now) (args .w)) (args .to)
+    (itself (args .p) (segmentIn (args .p) off (args .image .now) (args .pointers .now) (args .w)) (args .w .base + args .k)) (args .m)
     (mkDisk (args .image .now) (args .pointers .now))
-    (itself-none (args .p) (segmentIn (args .p) (args .image .now) (args .pointers .now) (args .w)) (args .w .base + args .k)
-    (ap (λ (y : ℕ). counts (args .p) y (segmentIn (args .p) (args .image .now) (args .pointers .now) (args .w)) (args .w .base + args .k))
+    (itself-none (args .p) (segmentIn (args .p) off (args .image .now) (args .pointers .now) (args .w)) (args .w .base + args .k)
+    (ap (λ (y : ℕ). counts (args .p) y (segmentIn (args .p) off (args .image .now) (args .pointers .now) (args .w)) (args .w .base + args .k))
     (sym (pre .1 .1 .0 .none-gone))
-    ∙ sym (c .before .counts .ensures (segmentIn (args .p) (args .image .now) (args .pointers .now) (args .w)) (args .w .base)
-    (pre .1 .1 .1 .0 .indexed) (pre .1 .1 .0 .in-group))
+    ∙ sym (c .before .counts .ensures (segmentIn (args .p) off (args .image .now) (args .pointers .now) (args .w)) (args .w .base)
+    (pre .1 .1 .1 .0 off .indexed) (pre .1 .1 .0 .in-group))
     ∙ not-true (c .before .counts .result) (c .if1 .taken))) (pre .1 .1 .1 .1 .0 .2)
 
 move-stripe-requires : tie.Need-move-stripe-requires
@@ -46,11 +47,11 @@ move-stripe-requires c κs =
     let entry = c .before .before .before .before .before .before .before in
     let args = entry .args in
     let pre = entry .pre in
-    let cnt : counts (args .p) 0 (segmentIn (args .p) (args .image .now) (args .pointers .now) (args .w)) (args .w .base + args .k) ≡ true =
-    (ap (λ (y : ℕ). counts (args .p) y (segmentIn (args .p) (args .image .now) (args .pointers .now) (args .w)) (args .w .base + args .k))
+    let cnt : (off : List ℕ) → counts (args .p) 0 (segmentIn (args .p) off (args .image .now) (args .pointers .now) (args .w)) (args .w .base + args .k) ≡ true =
+    λ off. (ap (λ (y : ℕ). counts (args .p) y (segmentIn (args .p) off (args .image .now) (args .pointers .now) (args .w)) (args .w .base + args .k))
     (sym (pre .1 .1 .0 .none-gone))
-    ∙ sym (counts′ .ensures (segmentIn (args .p) (args .image .now) (args .pointers .now) (args .w)) (args .w .base)
-    (pre .1 .1 .1 .0 .indexed) (pre .1 .1 .0 .in-group))
+    ∙ sym (counts′ .ensures (segmentIn (args .p) off (args .image .now) (args .pointers .now) (args .w)) (args .w .base)
+    (pre .1 .1 .1 .0 off .indexed) (pre .1 .1 .0 .in-group))
     ∙ not-false (counts′ .result) (if1 .left)) in (
       pre .0,
       (
@@ -58,8 +59,8 @@ move-stripe-requires c κs =
         (
           pre .1 .1 .0,
           (
-            counts-entered (args .p) 0 (segmentIn (args .p) (args .image .now) (args .pointers .now) (args .w)) (args .w .base) (args .at .now)
-                (args .k) (pre .1 .1 .1 .0 .indexed) (pre .1 .1 .0 .in-group) cnt,
+            counts-entered (args .p) 0 (segmentIn (args .p) [] (args .image .now) (args .pointers .now) (args .w)) (args .w .base) (args .at .now)
+                (args .k) (pre .1 .1 .1 .0 [] .indexed) (pre .1 .1 .0 .in-group) (cnt []),
             (
               pre .1 .1 .1 .0,
               (
@@ -73,9 +74,9 @@ move-stripe-requires c κs =
                   ),
                   pre .1 .1 .1 .1 .0 .3,
                 ),
-                fit-one (args .p) (seen (args .p) (mkDisk (args .image .now) (args .pointers .now)))
-                    (segmentIn (args .p) (args .image .now) (args .pointers .now) (args .w)) (args .to) (args .w .base + args .k)
-                    (args .m .next) cnt (pre .1 .1 .1 .1 .1),
+                λ off. fit-one (args .p) (seen (args .p) off (mkDisk (args .image .now) (args .pointers .now)))
+                    (segmentIn (args .p) off (args .image .now) (args .pointers .now) (args .w)) (args .to) (args .w .base + args .k)
+                    (args .m .next) (cnt off) (pre .1 .1 .1 .1 .1 off),
               ),
             ),
           ),
@@ -104,17 +105,18 @@ returns-2 c =
     let entry = c .before .before .before .before .before .before .before .before .before .before .before .before .before in
     let args = entry .args in
     let pre = entry .pre in
-    let cnt : counts (args .p) 0 (segmentIn (args .p) (args .image .now) (args .pointers .now) (args .w)) (args .w .base + args .k) ≡ true =
-    (ap (λ (y : ℕ). counts (args .p) y (segmentIn (args .p) (args .image .now) (args .pointers .now) (args .w)) (args .w .base + args .k))
+    λ off.
+    let cnt : counts (args .p) 0 (segmentIn (args .p) off (args .image .now) (args .pointers .now) (args .w)) (args .w .base + args .k) ≡ true =
+    (ap (λ (y : ℕ). counts (args .p) y (segmentIn (args .p) off (args .image .now) (args .pointers .now) (args .w)) (args .w .base + args .k))
     (sym (pre .1 .1 .0 .none-gone))
-    ∙ sym (counts′ .ensures (segmentIn (args .p) (args .image .now) (args .pointers .now) (args .w)) (args .w .base)
-    (pre .1 .1 .1 .0 .indexed) (pre .1 .1 .0 .in-group))
+    ∙ sym (counts′ .ensures (segmentIn (args .p) off (args .image .now) (args .pointers .now) (args .w)) (args .w .base)
+    (pre .1 .1 .1 .0 off .indexed) (pre .1 .1 .0 .in-group))
     ∙ not-false (counts′ .result) (if1 .left)) in
-    step-one (args .p) (segmentIn (args .p) (args .image .now) (args .pointers .now) (args .w)) (args .to) (args .w .base + args .k)
-    (itself (args .p) (segmentIn (args .p) (args .image .now) (args .pointers .now) (args .w)) (args .w .base + args .k)) (args .m)
+    step-one (args .p) (segmentIn (args .p) off (args .image .now) (args .pointers .now) (args .w)) (args .to) (args .w .base + args .k)
+    (itself (args .p) (segmentIn (args .p) off (args .image .now) (args .pointers .now) (args .w)) (args .w .base + args .k)) (args .m)
     (mkDisk (args .image .now) (args .pointers .now)) (move-stripe .result) (mkDisk (move-stripe .last .1 .0) (move-stripe .last .1 .1 .0))
-    (itself-counts (args .p) (segmentIn (args .p) (args .image .now) (args .pointers .now) (args .w)) (args .w .base + args .k) cnt)
-    (move-stripe .ensures)
+    (itself-counts (args .p) (segmentIn (args .p) off (args .image .now) (args .pointers .now) (args .w)) (args .w .base + args .k) cnt)
+    (move-stripe .ensures off)
 
 pub move-if-spec : {M : Type 1} → statement M
 move-if-spec =

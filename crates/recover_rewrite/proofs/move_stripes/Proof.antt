@@ -1,5 +1,5 @@
 -- `move_stripes`: what is left to move are the counted stripes from base on, and next is at most base; one turn moves a group, or is cut. Assumes nothing.
-use Prim.Native.Nat.{_+_, _-_, _%_, _≤_}
+use Prim.Native.Nat.{ℕ, _+_, _-_, _%_, _≤_}
 use Rattle.spec.specs.Drives.{viewOf, mkDisk}
 use Rattle.spec.specs.Segments.{Segment, segmentOf, counted}
 use Rattle.recover_groups.specs.Bases.{group-len-le}
@@ -10,7 +10,7 @@ use Rattle.recover_rewrite.specs.Due.{upto-turn, upto-in, upto-sealed, u
 use Rattle.law_views.specs.Views.{seen}
 use lib.ListN.{length}
 use mathlib.Core.Bool.{false}
-use mathlib.Core.List.{[], _++_}
+use mathlib.Core.List.{List, [], _++_}
 use mathlib.Core.Path.{_≡_, refl, sym, _∙_, subst}
 use native.Mathlib.Omega.{arith}
 use Rattle.recover_rewrite.proofs.move_stripes.Statement.{statement}
@@ -23,9 +23,10 @@ Inv-loop p image₀ pointers₀ sn to count at₀ m₀ base₀ image pointers at
     × (length image ≡ length image₀)
     × (length pointers ≡ length pointers₀)
     × (m .next ≤ base)
-    × MovedUpto p (segmentOf p (viewOf p image₀ pointers₀) 0 sn) to sn (unmoved count) (mkDisk image₀ pointers₀)
-    (counted p 0 (segmentOf p (viewOf p image₀ pointers₀) 0 sn))
-    (countedFrom p (segmentOf p (viewOf p image₀ pointers₀) 0 sn) base (p .S - base)) m (mkDisk image pointers)
+    × ((off : List ℕ)
+    → MovedUpto p off (segmentOf p (viewOf p off image₀ pointers₀) 0 sn) to sn (unmoved count) (mkDisk image₀ pointers₀)
+    (counted p 0 (segmentOf p (viewOf p off image₀ pointers₀) 0 sn))
+    (countedFrom p (segmentOf p (viewOf p off image₀ pointers₀) 0 sn) base (p .S - base)) m (mkDisk image pointers))
 
 abbrev μ-loop : tie.MeasureT-loop
 μ-loop p image₀ pointers₀ sn to count at₀ m₀ base₀ image pointers at m base = p .S - base
@@ -39,19 +40,19 @@ loop-holds c =
       refl,
       refl,
       omega arith,
-      upto-as (args .p) (ranged (args .p) (pre .0))
-          (segmentOf (args .p) (seen (args .p) (mkDisk (args .image .now) (args .pointers .now))) 0 (args .seg)) (args .to) (args .seg)
-          (pre .1 .1 .0 .0) (pre .1 .1 .0 .4) (unmoved (args .count)) (mkDisk (args .image .now) (args .pointers .now))
-          (counted (args .p) 0 (segmentOf (args .p) (seen (args .p) (mkDisk (args .image .now) (args .pointers .now))) 0 (args .seg)))
-          (counted (args .p) 0 (segmentOf (args .p) (seen (args .p) (mkDisk (args .image .now) (args .pointers .now))) 0 (args .seg)))
-          (countedFrom (args .p) (segmentOf (args .p) (seen (args .p) (mkDisk (args .image .now) (args .pointers .now))) 0 (args .seg)) 0
+      λ off. upto-as (args .p) (ranged (args .p) (pre .0)) off
+          (segmentOf (args .p) (seen (args .p) off (mkDisk (args .image .now) (args .pointers .now))) 0 (args .seg)) (args .to) (args .seg)
+          (pre .1 .1 .0 .0) (pre .1 .1 .0 .2) (unmoved (args .count)) (mkDisk (args .image .now) (args .pointers .now))
+          (counted (args .p) 0 (segmentOf (args .p) (seen (args .p) off (mkDisk (args .image .now) (args .pointers .now))) 0 (args .seg)))
+          (counted (args .p) 0 (segmentOf (args .p) (seen (args .p) off (mkDisk (args .image .now) (args .pointers .now))) 0 (args .seg)))
+          (countedFrom (args .p) (segmentOf (args .p) (seen (args .p) off (mkDisk (args .image .now) (args .pointers .now))) 0 (args .seg)) 0
           (args .p .S - 0)) (unmoved (args .count)) (mkDisk (args .image .now) (args .pointers .now))
-          (from-all (args .p) (segmentOf (args .p) (seen (args .p) (mkDisk (args .image .now) (args .pointers .now))) 0 (args .seg)))
-          (upto-start (args .p) (ranged (args .p) (pre .0))
-          (segmentOf (args .p) (seen (args .p) (mkDisk (args .image .now) (args .pointers .now))) 0 (args .seg)) (args .to) (args .seg)
-          (pre .1 .1 .0 .0) (pre .1 .1 .0 .4) (unmoved (args .count)) (mkDisk (args .image .now) (args .pointers .now))
-          (counted (args .p) 0 (segmentOf (args .p) (seen (args .p) (mkDisk (args .image .now) (args .pointers .now))) 0 (args .seg))) (pre .1 .0)
-          (pre .1 .1 .1) refl),
+          (from-all (args .p) (segmentOf (args .p) (seen (args .p) off (mkDisk (args .image .now) (args .pointers .now))) 0 (args .seg)))
+          (upto-start (args .p) (ranged (args .p) (pre .0)) off
+          (segmentOf (args .p) (seen (args .p) off (mkDisk (args .image .now) (args .pointers .now))) 0 (args .seg)) (args .to) (args .seg)
+          (pre .1 .1 .0 .0) (pre .1 .1 .0 .2) (unmoved (args .count)) (mkDisk (args .image .now) (args .pointers .now))
+          (counted (args .p) 0 (segmentOf (args .p) (seen (args .p) off (mkDisk (args .image .now) (args .pointers .now))) 0 (args .seg))) (pre .1 .0)
+          (pre .1 .1 .1 .1 off) refl),
     )
 
 slice-aggregate-move-group : tie.Need-slice-aggregate-move-group Inv-loop μ-loop
@@ -68,53 +69,53 @@ move-group-requires c κs =
     let pre = entry .pre in (
       pre .0,
       (
-        loop .inv .5 .moves .going .whole,
+        loop .inv .5 [] .moves .going .whole,
         (
           (loop .inv .1, pre .1 .1 .0 .0, if1 .taken, loop .inv .0, refl),
           (
-            (
-              sym (pre .1 .1 .0 .2)
-                  ∙ upto-sealed (args .p) (ranged (args .p) (pre .0)) (groupAt (args .seg) (loop .base)) refl (args .to) (unmoved (args .count))
+            λ off. (
+              sym (pre .1 .1 .1 .0 off .0)
+                  ∙ upto-sealed (args .p) (ranged (args .p) (pre .0)) off (groupAt (args .seg) (loop .base)) refl (args .to) (unmoved (args .count))
                   (mkDisk (args .image .now) (args .pointers .now))
-                  (counted (args .p) 0 (segmentOf (args .p) (seen (args .p) (mkDisk (args .image .now) (args .pointers .now))) 0 (args .seg)))
-                  (countedFrom (args .p) (segmentOf (args .p) (seen (args .p) (mkDisk (args .image .now) (args .pointers .now))) 0 (args .seg))
-                  (loop .base) (args .p .S - loop .base)) (loop .m) (mkDisk (loop .image) (loop .pointers)) (loop .inv .5),
+                  (counted (args .p) 0 (segmentOf (args .p) (seen (args .p) off (mkDisk (args .image .now) (args .pointers .now))) 0 (args .seg)))
+                  (countedFrom (args .p) (segmentOf (args .p) (seen (args .p) off (mkDisk (args .image .now) (args .pointers .now))) 0 (args .seg))
+                  (loop .base) (args .p .S - loop .base)) (loop .m) (mkDisk (loop .image) (loop .pointers)) (loop .inv .5 off),
               subst
                   (λ (y : Segment). recsFault (args .p) 0 y ≡ false)
-                  (upto-in (args .p) (ranged (args .p) (pre .0)) (groupAt (args .seg) (loop .base)) refl (args .to) (unmoved (args .count))
+                  (upto-in (args .p) (ranged (args .p) (pre .0)) off (groupAt (args .seg) (loop .base)) refl (args .to) (unmoved (args .count))
                   (mkDisk (args .image .now) (args .pointers .now))
-                  (counted (args .p) 0 (segmentOf (args .p) (seen (args .p) (mkDisk (args .image .now) (args .pointers .now))) 0 (args .seg)))
-                  (countedFrom (args .p) (segmentOf (args .p) (seen (args .p) (mkDisk (args .image .now) (args .pointers .now))) 0 (args .seg))
-                  (loop .base) (args .p .S - loop .base)) (loop .m) (mkDisk (loop .image) (loop .pointers)) (loop .inv .5)) (pre .1 .1 .0 .3),
+                  (counted (args .p) 0 (segmentOf (args .p) (seen (args .p) off (mkDisk (args .image .now) (args .pointers .now))) 0 (args .seg)))
+                  (countedFrom (args .p) (segmentOf (args .p) (seen (args .p) off (mkDisk (args .image .now) (args .pointers .now))) 0 (args .seg))
+                  (loop .base) (args .p .S - loop .base)) (loop .m) (mkDisk (loop .image) (loop .pointers)) (loop .inv .5 off)) (pre .1 .1 .1 .0 off .1),
             ),
             (
-              (pre .1 .1 .0 .1, loop .inv .4, loop .inv .5 .uncut, pre .1 .1 .0 .4),
-              upto-fits (args .p) (ranged (args .p) (pre .0)) (groupAt (args .seg) (loop .base)) refl (args .to) (unmoved (args .count))
+              (pre .1 .1 .0 .1, loop .inv .4, loop .inv .5 [] .uncut, pre .1 .1 .0 .2),
+              λ off. upto-fits (args .p) (ranged (args .p) (pre .0)) off (groupAt (args .seg) (loop .base)) refl (args .to) (unmoved (args .count))
                   (mkDisk (args .image .now) (args .pointers .now))
-                  (counted (args .p) 0 (segmentOf (args .p) (seen (args .p) (mkDisk (args .image .now) (args .pointers .now))) 0 (args .seg)))
-                  (countedFrom (args .p) (segmentOf (args .p) (seen (args .p) (mkDisk (args .image .now) (args .pointers .now))) 0 (args .seg))
-                  (loop .base) (args .p .S - loop .base)) (loop .m) (mkDisk (loop .image) (loop .pointers)) (loop .inv .5)
+                  (counted (args .p) 0 (segmentOf (args .p) (seen (args .p) off (mkDisk (args .image .now) (args .pointers .now))) 0 (args .seg)))
+                  (countedFrom (args .p) (segmentOf (args .p) (seen (args .p) off (mkDisk (args .image .now) (args .pointers .now))) 0 (args .seg))
+                  (loop .base) (args .p .S - loop .base)) (loop .m) (mkDisk (loop .image) (loop .pointers)) (loop .inv .5 off)
                   (λ (y : Segment). countedFrom (args .p) y (loop .base) (groupLen (args .p) (loop .base))) (loop .m .next)
-                  (upto-first (args .p) (ranged (args .p) (pre .0))
-                  (segmentOf (args .p) (seen (args .p) (mkDisk (args .image .now) (args .pointers .now))) 0 (args .seg)) (args .to) (args .seg)
-                  (pre .1 .1 .0 .0) (pre .1 .1 .0 .4) (unmoved (args .count)) (mkDisk (args .image .now) (args .pointers .now))
-                  (counted (args .p) 0 (segmentOf (args .p) (seen (args .p) (mkDisk (args .image .now) (args .pointers .now))) 0 (args .seg)))
-                  (countedFrom (args .p) (segmentOf (args .p) (seen (args .p) (mkDisk (args .image .now) (args .pointers .now))) 0 (args .seg))
+                  (upto-first (args .p) (ranged (args .p) (pre .0)) off
+                  (segmentOf (args .p) (seen (args .p) off (mkDisk (args .image .now) (args .pointers .now))) 0 (args .seg)) (args .to) (args .seg)
+                  (pre .1 .1 .0 .0) (pre .1 .1 .0 .2) (unmoved (args .count)) (mkDisk (args .image .now) (args .pointers .now))
+                  (counted (args .p) 0 (segmentOf (args .p) (seen (args .p) off (mkDisk (args .image .now) (args .pointers .now))) 0 (args .seg)))
+                  (countedFrom (args .p) (segmentOf (args .p) (seen (args .p) off (mkDisk (args .image .now) (args .pointers .now))) 0 (args .seg))
                   (loop .base) (groupLen (args .p) (loop .base)))
-                  (countedFrom (args .p) (segmentOf (args .p) (seen (args .p) (mkDisk (args .image .now) (args .pointers .now))) 0 (args .seg))
+                  (countedFrom (args .p) (segmentOf (args .p) (seen (args .p) off (mkDisk (args .image .now) (args .pointers .now))) 0 (args .seg))
                   (loop .base + args .p .G) (args .p .S - (loop .base + args .p .G))) (loop .m) (mkDisk (loop .image) (loop .pointers))
-                  (upto-as (args .p) (ranged (args .p) (pre .0))
-                  (segmentOf (args .p) (seen (args .p) (mkDisk (args .image .now) (args .pointers .now))) 0 (args .seg)) (args .to) (args .seg)
-                  (pre .1 .1 .0 .0) (pre .1 .1 .0 .4) (unmoved (args .count)) (mkDisk (args .image .now) (args .pointers .now))
-                  (counted (args .p) 0 (segmentOf (args .p) (seen (args .p) (mkDisk (args .image .now) (args .pointers .now))) 0 (args .seg)))
-                  (countedFrom (args .p) (segmentOf (args .p) (seen (args .p) (mkDisk (args .image .now) (args .pointers .now))) 0 (args .seg))
+                  (upto-as (args .p) (ranged (args .p) (pre .0)) off
+                  (segmentOf (args .p) (seen (args .p) off (mkDisk (args .image .now) (args .pointers .now))) 0 (args .seg)) (args .to) (args .seg)
+                  (pre .1 .1 .0 .0) (pre .1 .1 .0 .2) (unmoved (args .count)) (mkDisk (args .image .now) (args .pointers .now))
+                  (counted (args .p) 0 (segmentOf (args .p) (seen (args .p) off (mkDisk (args .image .now) (args .pointers .now))) 0 (args .seg)))
+                  (countedFrom (args .p) (segmentOf (args .p) (seen (args .p) off (mkDisk (args .image .now) (args .pointers .now))) 0 (args .seg))
                   (loop .base) (args .p .S - loop .base))
-                  ((countedFrom (args .p) (segmentOf (args .p) (seen (args .p) (mkDisk (args .image .now) (args .pointers .now))) 0 (args .seg))
+                  ((countedFrom (args .p) (segmentOf (args .p) (seen (args .p) off (mkDisk (args .image .now) (args .pointers .now))) 0 (args .seg))
                   (loop .base) (groupLen (args .p) (loop .base))) ++
-                  (countedFrom (args .p) (segmentOf (args .p) (seen (args .p) (mkDisk (args .image .now) (args .pointers .now))) 0 (args .seg))
+                  (countedFrom (args .p) (segmentOf (args .p) (seen (args .p) off (mkDisk (args .image .now) (args .pointers .now))) 0 (args .seg))
                   (loop .base + args .p .G) (args .p .S - (loop .base + args .p .G)))) (loop .m) (mkDisk (loop .image) (loop .pointers))
-                  (from-group (args .p) (segmentOf (args .p) (seen (args .p) (mkDisk (args .image .now) (args .pointers .now))) 0 (args .seg))
-                  (loop .base) (if1 .taken)) (loop .inv .5))),
+                  (from-group (args .p) (segmentOf (args .p) (seen (args .p) off (mkDisk (args .image .now) (args .pointers .now))) 0 (args .seg))
+                  (loop .base) (if1 .taken)) (loop .inv .5 off))),
             ),
           ),
         ),
@@ -141,33 +142,33 @@ returns c =
     let entry = c .before .before .before .before .before .before .before .before .before .before .before .before .before .before .before in
     let args = entry .args in
     let pre = entry .pre in
-    upto-cut (args .p) (ranged (args .p) (pre .0))
-    (segmentOf (args .p) (seen (args .p) (mkDisk (args .image .now) (args .pointers .now))) 0 (args .seg)) (args .to) (args .seg) (pre .1 .1 .0 .0)
-    (pre .1 .1 .0 .4) (unmoved (args .count)) (mkDisk (args .image .now) (args .pointers .now))
-    (counted (args .p) 0 (segmentOf (args .p) (seen (args .p) (mkDisk (args .image .now) (args .pointers .now))) 0 (args .seg)))
-    (countedFrom (args .p) (segmentOf (args .p) (seen (args .p) (mkDisk (args .image .now) (args .pointers .now))) 0 (args .seg)) (loop .base)
+    λ off. upto-cut (args .p) (ranged (args .p) (pre .0)) off
+    (segmentOf (args .p) (seen (args .p) off (mkDisk (args .image .now) (args .pointers .now))) 0 (args .seg)) (args .to) (args .seg) (pre .1 .1 .0 .0)
+    (pre .1 .1 .0 .2) (unmoved (args .count)) (mkDisk (args .image .now) (args .pointers .now))
+    (counted (args .p) 0 (segmentOf (args .p) (seen (args .p) off (mkDisk (args .image .now) (args .pointers .now))) 0 (args .seg)))
+    (countedFrom (args .p) (segmentOf (args .p) (seen (args .p) off (mkDisk (args .image .now) (args .pointers .now))) 0 (args .seg)) (loop .base)
     (groupLen (args .p) (loop .base))) (countedFrom (args .p)
-    (segmentOf (args .p) (seen (args .p) (mkDisk (args .image .now) (args .pointers .now))) 0 (args .seg)) (loop .base + args .p .G)
+    (segmentOf (args .p) (seen (args .p) off (mkDisk (args .image .now) (args .pointers .now))) 0 (args .seg)) (loop .base + args .p .G)
     (args .p .S - (loop .base + args .p .G))) (loop .m) (mkDisk (loop .image) (loop .pointers))
-    (upto-as (args .p) (ranged (args .p) (pre .0))
-    (segmentOf (args .p) (seen (args .p) (mkDisk (args .image .now) (args .pointers .now))) 0 (args .seg)) (args .to) (args .seg)
-    (pre .1 .1 .0 .0) (pre .1 .1 .0 .4) (unmoved (args .count)) (mkDisk (args .image .now) (args .pointers .now))
-    (counted (args .p) 0 (segmentOf (args .p) (seen (args .p) (mkDisk (args .image .now) (args .pointers .now))) 0 (args .seg)))
-    (countedFrom (args .p) (segmentOf (args .p) (seen (args .p) (mkDisk (args .image .now) (args .pointers .now))) 0 (args .seg)) (loop .base)
+    (upto-as (args .p) (ranged (args .p) (pre .0)) off
+    (segmentOf (args .p) (seen (args .p) off (mkDisk (args .image .now) (args .pointers .now))) 0 (args .seg)) (args .to) (args .seg)
+    (pre .1 .1 .0 .0) (pre .1 .1 .0 .2) (unmoved (args .count)) (mkDisk (args .image .now) (args .pointers .now))
+    (counted (args .p) 0 (segmentOf (args .p) (seen (args .p) off (mkDisk (args .image .now) (args .pointers .now))) 0 (args .seg)))
+    (countedFrom (args .p) (segmentOf (args .p) (seen (args .p) off (mkDisk (args .image .now) (args .pointers .now))) 0 (args .seg)) (loop .base)
     (args .p .S - loop .base)) ((countedFrom (args .p)
-    (segmentOf (args .p) (seen (args .p) (mkDisk (args .image .now) (args .pointers .now))) 0 (args .seg)) (loop .base)
+    (segmentOf (args .p) (seen (args .p) off (mkDisk (args .image .now) (args .pointers .now))) 0 (args .seg)) (loop .base)
     (groupLen (args .p) (loop .base))) ++ (countedFrom (args .p)
-    (segmentOf (args .p) (seen (args .p) (mkDisk (args .image .now) (args .pointers .now))) 0 (args .seg)) (loop .base + args .p .G)
+    (segmentOf (args .p) (seen (args .p) off (mkDisk (args .image .now) (args .pointers .now))) 0 (args .seg)) (loop .base + args .p .G)
     (args .p .S - (loop .base + args .p .G)))) (loop .m) (mkDisk (loop .image) (loop .pointers))
-    (from-group (args .p) (segmentOf (args .p) (seen (args .p) (mkDisk (args .image .now) (args .pointers .now))) 0 (args .seg)) (loop .base)
-    (if1 .taken)) (loop .inv .5)) (move-group .result) (mkDisk (move-group .last .1 .0) (move-group .last .1 .1 .0))
-    (upto-step (args .p) (ranged (args .p) (pre .0)) (groupAt (args .seg) (loop .base)) refl (args .to) (unmoved (args .count))
+    (from-group (args .p) (segmentOf (args .p) (seen (args .p) off (mkDisk (args .image .now) (args .pointers .now))) 0 (args .seg)) (loop .base)
+    (if1 .taken)) (loop .inv .5 off)) (move-group .result) (mkDisk (move-group .last .1 .0) (move-group .last .1 .1 .0))
+    (upto-step (args .p) (ranged (args .p) (pre .0)) off (groupAt (args .seg) (loop .base)) refl (args .to) (unmoved (args .count))
     (mkDisk (args .image .now) (args .pointers .now))
-    (counted (args .p) 0 (segmentOf (args .p) (seen (args .p) (mkDisk (args .image .now) (args .pointers .now))) 0 (args .seg)))
-    (countedFrom (args .p) (segmentOf (args .p) (seen (args .p) (mkDisk (args .image .now) (args .pointers .now))) 0 (args .seg)) (loop .base)
-    (args .p .S - loop .base)) (loop .m) (mkDisk (loop .image) (loop .pointers)) (loop .inv .5)
+    (counted (args .p) 0 (segmentOf (args .p) (seen (args .p) off (mkDisk (args .image .now) (args .pointers .now))) 0 (args .seg)))
+    (countedFrom (args .p) (segmentOf (args .p) (seen (args .p) off (mkDisk (args .image .now) (args .pointers .now))) 0 (args .seg)) (loop .base)
+    (args .p .S - loop .base)) (loop .m) (mkDisk (loop .image) (loop .pointers)) (loop .inv .5 off)
     (λ (y : Segment). countedFrom (args .p) y (loop .base) (groupLen (args .p) (loop .base))) (move-group .result)
-    (mkDisk (move-group .last .1 .0) (move-group .last .1 .1 .0)) (move-group .ensures)) (c .if2 .taken) .stored
+    (mkDisk (move-group .last .1 .0) (move-group .last .1 .1 .0)) (move-group .ensures off)) (c .if2 .taken) .stored
 
 add-base : tie.Need-add-base Inv-loop μ-loop
 add-base c =
@@ -200,46 +201,46 @@ loop-again c =
       omega (
         arith,
         loop .inv .4,
-        (upto-step (args .p) (ranged (args .p) (pre .0)) (groupAt (args .seg) (loop .base)) refl (args .to) (unmoved (args .count))
+        (upto-step (args .p) (ranged (args .p) (pre .0)) [] (groupAt (args .seg) (loop .base)) refl (args .to) (unmoved (args .count))
             (mkDisk (args .image .now) (args .pointers .now))
-            (counted (args .p) 0 (segmentOf (args .p) (seen (args .p) (mkDisk (args .image .now) (args .pointers .now))) 0 (args .seg)))
-            (countedFrom (args .p) (segmentOf (args .p) (seen (args .p) (mkDisk (args .image .now) (args .pointers .now))) 0 (args .seg)) (loop .base)
-            (args .p .S - loop .base)) (loop .m) (mkDisk (loop .image) (loop .pointers)) (loop .inv .5)
+            (counted (args .p) 0 (segmentOf (args .p) (seen (args .p) [] (mkDisk (args .image .now) (args .pointers .now))) 0 (args .seg)))
+            (countedFrom (args .p) (segmentOf (args .p) (seen (args .p) [] (mkDisk (args .image .now) (args .pointers .now))) 0 (args .seg)) (loop .base)
+            (args .p .S - loop .base)) (loop .m) (mkDisk (loop .image) (loop .pointers)) (loop .inv .5 [])
             (λ (y : Segment). countedFrom (args .p) y (loop .base) (groupLen (args .p) (loop .base))) (move-group .result)
-            (mkDisk (move-group .last .1 .0) (move-group .last .1 .1 .0)) (move-group .ensures)) .number (c .before .if2 .left),
-        from-few (args .p) (segmentOf (args .p) (seen (args .p) (mkDisk (args .image .now) (args .pointers .now))) 0 (args .seg)) (loop .base)
+            (mkDisk (move-group .last .1 .0) (move-group .last .1 .1 .0)) (move-group .ensures [])) .number (c .before .if2 .left),
+        from-few (args .p) (segmentOf (args .p) (seen (args .p) [] (mkDisk (args .image .now) (args .pointers .now))) 0 (args .seg)) (loop .base)
             (groupLen (args .p) (loop .base)),
         group-len-le (args .p) (loop .base),
       ),
-      upto-turn (args .p) (ranged (args .p) (pre .0))
-          (segmentOf (args .p) (seen (args .p) (mkDisk (args .image .now) (args .pointers .now))) 0 (args .seg)) (args .to)
+      λ off. upto-turn (args .p) (ranged (args .p) (pre .0)) off
+          (segmentOf (args .p) (seen (args .p) off (mkDisk (args .image .now) (args .pointers .now))) 0 (args .seg)) (args .to)
           (args .seg) (pre .1 .1 .0 .0)
-          (pre .1 .1 .0 .4) (unmoved (args .count)) (mkDisk (args .image .now) (args .pointers .now))
-          (counted (args .p) 0 (segmentOf (args .p) (seen (args .p) (mkDisk (args .image .now) (args .pointers .now))) 0 (args .seg)))
-          (countedFrom (args .p) (segmentOf (args .p) (seen (args .p) (mkDisk (args .image .now) (args .pointers .now))) 0 (args .seg)) (loop .base)
+          (pre .1 .1 .0 .2) (unmoved (args .count)) (mkDisk (args .image .now) (args .pointers .now))
+          (counted (args .p) 0 (segmentOf (args .p) (seen (args .p) off (mkDisk (args .image .now) (args .pointers .now))) 0 (args .seg)))
+          (countedFrom (args .p) (segmentOf (args .p) (seen (args .p) off (mkDisk (args .image .now) (args .pointers .now))) 0 (args .seg)) (loop .base)
           (groupLen (args .p) (loop .base))) (countedFrom (args .p)
-          (segmentOf (args .p) (seen (args .p) (mkDisk (args .image .now) (args .pointers .now))) 0 (args .seg)) (loop .base + args .p .G)
+          (segmentOf (args .p) (seen (args .p) off (mkDisk (args .image .now) (args .pointers .now))) 0 (args .seg)) (loop .base + args .p .G)
           (args .p .S - (loop .base + args .p .G))) (loop .m) (mkDisk (loop .image) (loop .pointers))
-          (upto-as (args .p) (ranged (args .p) (pre .0))
-          (segmentOf (args .p) (seen (args .p) (mkDisk (args .image .now) (args .pointers .now))) 0 (args .seg)) (args .to)
+          (upto-as (args .p) (ranged (args .p) (pre .0)) off
+          (segmentOf (args .p) (seen (args .p) off (mkDisk (args .image .now) (args .pointers .now))) 0 (args .seg)) (args .to)
           (args .seg) (pre .1 .1 .0 .0)
-          (pre .1 .1 .0 .4) (unmoved (args .count)) (mkDisk (args .image .now) (args .pointers .now))
-          (counted (args .p) 0 (segmentOf (args .p) (seen (args .p) (mkDisk (args .image .now) (args .pointers .now))) 0 (args .seg)))
-          (countedFrom (args .p) (segmentOf (args .p) (seen (args .p) (mkDisk (args .image .now) (args .pointers .now))) 0 (args .seg)) (loop .base)
+          (pre .1 .1 .0 .2) (unmoved (args .count)) (mkDisk (args .image .now) (args .pointers .now))
+          (counted (args .p) 0 (segmentOf (args .p) (seen (args .p) off (mkDisk (args .image .now) (args .pointers .now))) 0 (args .seg)))
+          (countedFrom (args .p) (segmentOf (args .p) (seen (args .p) off (mkDisk (args .image .now) (args .pointers .now))) 0 (args .seg)) (loop .base)
           (args .p .S - loop .base)) ((countedFrom (args .p)
-          (segmentOf (args .p) (seen (args .p) (mkDisk (args .image .now) (args .pointers .now))) 0 (args .seg)) (loop .base)
+          (segmentOf (args .p) (seen (args .p) off (mkDisk (args .image .now) (args .pointers .now))) 0 (args .seg)) (loop .base)
           (groupLen (args .p) (loop .base))) ++ (countedFrom (args .p)
-          (segmentOf (args .p) (seen (args .p) (mkDisk (args .image .now) (args .pointers .now))) 0 (args .seg)) (loop .base + args .p .G)
+          (segmentOf (args .p) (seen (args .p) off (mkDisk (args .image .now) (args .pointers .now))) 0 (args .seg)) (loop .base + args .p .G)
           (args .p .S - (loop .base + args .p .G)))) (loop .m) (mkDisk (loop .image) (loop .pointers))
-          (from-group (args .p) (segmentOf (args .p) (seen (args .p) (mkDisk (args .image .now) (args .pointers .now))) 0 (args .seg)) (loop .base)
-          (if1 .taken)) (loop .inv .5)) (move-group .result) (mkDisk (move-group .last .1 .0) (move-group .last .1 .1 .0))
-          (upto-step (args .p) (ranged (args .p) (pre .0)) (groupAt (args .seg) (loop .base)) refl (args .to) (unmoved (args .count))
+          (from-group (args .p) (segmentOf (args .p) (seen (args .p) off (mkDisk (args .image .now) (args .pointers .now))) 0 (args .seg)) (loop .base)
+          (if1 .taken)) (loop .inv .5 off)) (move-group .result) (mkDisk (move-group .last .1 .0) (move-group .last .1 .1 .0))
+          (upto-step (args .p) (ranged (args .p) (pre .0)) off (groupAt (args .seg) (loop .base)) refl (args .to) (unmoved (args .count))
           (mkDisk (args .image .now) (args .pointers .now))
-          (counted (args .p) 0 (segmentOf (args .p) (seen (args .p) (mkDisk (args .image .now) (args .pointers .now))) 0 (args .seg)))
-          (countedFrom (args .p) (segmentOf (args .p) (seen (args .p) (mkDisk (args .image .now) (args .pointers .now))) 0 (args .seg)) (loop .base)
-          (args .p .S - loop .base)) (loop .m) (mkDisk (loop .image) (loop .pointers)) (loop .inv .5)
+          (counted (args .p) 0 (segmentOf (args .p) (seen (args .p) off (mkDisk (args .image .now) (args .pointers .now))) 0 (args .seg)))
+          (countedFrom (args .p) (segmentOf (args .p) (seen (args .p) off (mkDisk (args .image .now) (args .pointers .now))) 0 (args .seg)) (loop .base)
+          (args .p .S - loop .base)) (loop .m) (mkDisk (loop .image) (loop .pointers)) (loop .inv .5 off)
           (λ (y : Segment). countedFrom (args .p) y (loop .base) (groupLen (args .p) (loop .base))) (move-group .result)
-          (mkDisk (move-group .last .1 .0) (move-group .last .1 .1 .0)) (move-group .ensures)) (c .before .if2 .left),
+          (mkDisk (move-group .last .1 .0) (move-group .last .1 .1 .0)) (move-group .ensures off)) (c .before .if2 .left),
     )
 
 same-length-3 : tie.Need-same-length-3 Inv-loop μ-loop
@@ -254,18 +255,18 @@ returns-2 c =
     let entry = c .before .before .before .before .before in
     let args = entry .args in
     let pre = entry .pre in
-    upto-done (args .p) (ranged (args .p) (pre .0))
-    (segmentOf (args .p) (seen (args .p) (mkDisk (args .image .now) (args .pointers .now))) 0 (args .seg)) (args .to) (args .seg) (pre .1 .1 .0 .0)
-    (pre .1 .1 .0 .4) (unmoved (args .count)) (mkDisk (args .image .now) (args .pointers .now))
-    (counted (args .p) 0 (segmentOf (args .p) (seen (args .p) (mkDisk (args .image .now) (args .pointers .now))) 0 (args .seg))) (loop .m)
-    (mkDisk (loop .image) (loop .pointers)) (upto-as (args .p) (ranged (args .p) (pre .0))
-    (segmentOf (args .p) (seen (args .p) (mkDisk (args .image .now) (args .pointers .now))) 0 (args .seg)) (args .to) (args .seg)
-    (pre .1 .1 .0 .0) (pre .1 .1 .0 .4) (unmoved (args .count)) (mkDisk (args .image .now) (args .pointers .now))
-    (counted (args .p) 0 (segmentOf (args .p) (seen (args .p) (mkDisk (args .image .now) (args .pointers .now))) 0 (args .seg)))
-    (countedFrom (args .p) (segmentOf (args .p) (seen (args .p) (mkDisk (args .image .now) (args .pointers .now))) 0 (args .seg)) (loop .base)
+    λ off. upto-done (args .p) (ranged (args .p) (pre .0)) off
+    (segmentOf (args .p) (seen (args .p) off (mkDisk (args .image .now) (args .pointers .now))) 0 (args .seg)) (args .to) (args .seg) (pre .1 .1 .0 .0)
+    (pre .1 .1 .0 .2) (unmoved (args .count)) (mkDisk (args .image .now) (args .pointers .now))
+    (counted (args .p) 0 (segmentOf (args .p) (seen (args .p) off (mkDisk (args .image .now) (args .pointers .now))) 0 (args .seg))) (loop .m)
+    (mkDisk (loop .image) (loop .pointers)) (upto-as (args .p) (ranged (args .p) (pre .0)) off
+    (segmentOf (args .p) (seen (args .p) off (mkDisk (args .image .now) (args .pointers .now))) 0 (args .seg)) (args .to) (args .seg)
+    (pre .1 .1 .0 .0) (pre .1 .1 .0 .2) (unmoved (args .count)) (mkDisk (args .image .now) (args .pointers .now))
+    (counted (args .p) 0 (segmentOf (args .p) (seen (args .p) off (mkDisk (args .image .now) (args .pointers .now))) 0 (args .seg)))
+    (countedFrom (args .p) (segmentOf (args .p) (seen (args .p) off (mkDisk (args .image .now) (args .pointers .now))) 0 (args .seg)) (loop .base)
     (args .p .S - loop .base)) [] (loop .m) (mkDisk (loop .image) (loop .pointers))
-    (from-none (args .p) (segmentOf (args .p) (seen (args .p) (mkDisk (args .image .now) (args .pointers .now))) 0 (args .seg)) (loop .base)
-    (args .p .S - loop .base) (omega (arith, c .if1 .left))) (loop .inv .5)) .stored
+    (from-none (args .p) (segmentOf (args .p) (seen (args .p) off (mkDisk (args .image .now) (args .pointers .now))) 0 (args .seg)) (loop .base)
+    (args .p .S - loop .base) (omega (arith, c .if1 .left))) (loop .inv .5 off)) .stored
 
 pub move-stripes-spec : {M : Type 1} → statement M
 move-stripes-spec =

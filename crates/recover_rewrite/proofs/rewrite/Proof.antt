@@ -3,17 +3,17 @@ use Rattle.spec.specs.Drives.{mkDisk}
 use Rattle.law_basic.specs.Geometry.{ranged}
 use Rattle.recover_rewrite.specs.Rewrite.{rewrite-heads, rewrite-whole, rewrite-sealed, rewrite-good, rewrite-fits, rewrite-moves, rewrite-resets, new-head-room}
 use borrow.Author.Needs.{needs}
+use mathlib.Core.List.{[]}
 use mathlib.Core.Path.{_∙_}
 use Rattle.recover_rewrite.proofs.rewrite.Statement.{statement}
 use Rattle.recover_rewrite.proofs.rewrite.Tie as tie
-use Rattle.law_basic.specs.Segs.{named-zones-low}
 
 header-stores-requires : tie.Need-header-stores-requires
 header-stores-requires c κs =
     let entry = c .before .before .before .before in
     let args = entry .args in
     let pre = entry .pre in
-    (pre .0, (pre .1 .0, (pre .1 .1 .0 .1, λ d hd. new-head-room (args .p) (ranged (args .p) (pre .0)) (args .pointers .now) (args .to) d (pre .1 .1 .1 .0 .1 d hd))))
+    (pre .0, (pre .1 .0, (pre .1 .1 .0 .1, λ d hd. new-head-room (args .p) (ranged (args .p) (pre .0)) (args .pointers .now) (args .to) d (pre .1 .1 .1 .1 .0 .1 d hd))))
 
 same-length : tie.Need-same-length
 same-length c = search needs
@@ -27,8 +27,8 @@ returns c =
     let entry = c .before .before .before .before .before .before .before .before .before .before in
     let args = entry .args in
     let pre = entry .pre in
-    rewrite-heads (args .p) (ranged (args .p) (pre .0)) (args .count) (args .seg) (pre .1 .1 .0 .0) (args .to) (pre .1 .1 .0 .4) (args .serial .0)
-    (mkDisk (args .image .now) (args .pointers .now)) (pre .1 .0) (pre .1 .1 .1 .1) (args .copied .0) (pre .1 .1 .1 .0 .0) (header-stores .result)
+    λ off. rewrite-heads (args .p) (ranged (args .p) (pre .0)) off (args .count) (args .seg) (pre .1 .1 .0 .0) (args .to) (pre .1 .1 .0 .2) (args .serial .0)
+    (mkDisk (args .image .now) (args .pointers .now)) (pre .1 .0) (pre .1 .1 .1 .1 .1 off) (args .copied .0) (pre .1 .1 .1 .1 .0 .0 off) (header-stores .result)
     (mkDisk (header-stores .last .1 .0) (header-stores .last .1 .1 .0)) (header-stores .ensures) (c .if1 .taken)
 
 move-stripes-requires : tie.Need-move-stripes-requires
@@ -40,27 +40,31 @@ move-stripes-requires c κs =
     let pre = entry .pre in (
       pre .0,
       (
-        rewrite-whole (args .p) (ranged (args .p) (pre .0)) (args .count) (args .seg) (pre .1 .1 .0 .0) (args .to) (pre .1 .1 .0 .4)
-            (args .serial .0) (mkDisk (args .image .now) (args .pointers .now)) (pre .1 .0) (pre .1 .1 .1 .1) (args .copied .0) (pre .1 .1 .1 .0 .0)
+        rewrite-whole (args .p) (ranged (args .p) (pre .0)) [] (args .count) (args .seg) (pre .1 .1 .0 .0) (args .to) (pre .1 .1 .0 .2)
+            (args .serial .0) (mkDisk (args .image .now) (args .pointers .now)) (pre .1 .0) (pre .1 .1 .1 .1 .1 []) (args .copied .0) (pre .1 .1 .1 .1 .0 .0 [])
             (header-stores .result) (mkDisk (header-stores .last .1 .0) (header-stores .last .1 .1 .0)) (header-stores .ensures) (if1 .left),
         (
           (
             pre .1 .1 .0 .0,
             pre .1 .1 .0 .1,
-            rewrite-sealed (args .p) (ranged (args .p) (pre .0)) (args .count) (args .seg) (pre .1 .1 .0 .0) (args .to) (pre .1 .1 .0 .4)
-                (args .serial .0) (mkDisk (args .image .now) (args .pointers .now)) (pre .1 .0) (pre .1 .1 .1 .1) (args .copied .0)
-                (pre .1 .1 .1 .0 .0) (header-stores .result) (mkDisk (header-stores .last .1 .0) (header-stores .last .1 .1 .0))
-                (header-stores .ensures) (if1 .left) (pre .1 .1 .0 .2),
-            rewrite-good (args .p) (ranged (args .p) (pre .0)) (args .count) (args .seg) (pre .1 .1 .0 .0) (args .to) (pre .1 .1 .0 .4)
-                (args .serial .0) (mkDisk (args .image .now) (args .pointers .now)) (pre .1 .0) (pre .1 .1 .1 .1) (args .copied .0)
-                (pre .1 .1 .1 .0 .0) (header-stores .result) (mkDisk (header-stores .last .1 .0) (header-stores .last .1 .1 .0))
-                (header-stores .ensures) (if1 .left) (pre .1 .1 .0 .3),
-            pre .1 .1 .0 .4,
+            pre .1 .1 .0 .2,
           ),
-          rewrite-fits (args .p) (ranged (args .p) (pre .0)) (args .count) (args .seg) (pre .1 .1 .0 .0) (args .to) (pre .1 .1 .0 .4)
-              (args .serial .0) (mkDisk (args .image .now) (args .pointers .now)) (pre .1 .0) (pre .1 .1 .1 .1) (args .copied .0)
-              (pre .1 .1 .1 .0 .0) (header-stores .result) (mkDisk (header-stores .last .1 .0) (header-stores .last .1 .1 .0))
-              (header-stores .ensures) (if1 .left),
+          (
+            λ off. (
+              rewrite-sealed (args .p) (ranged (args .p) (pre .0)) off (args .count) (args .seg) (pre .1 .1 .0 .0) (args .to) (pre .1 .1 .0 .2)
+                  (args .serial .0) (mkDisk (args .image .now) (args .pointers .now)) (pre .1 .0) (pre .1 .1 .1 .1 .1 off) (args .copied .0)
+                  (pre .1 .1 .1 .1 .0 .0 off) (header-stores .result) (mkDisk (header-stores .last .1 .0) (header-stores .last .1 .1 .0))
+                  (header-stores .ensures) (if1 .left) (pre .1 .1 .1 .0 off .0),
+              rewrite-good (args .p) (ranged (args .p) (pre .0)) off (args .count) (args .seg) (pre .1 .1 .0 .0) (args .to) (pre .1 .1 .0 .2)
+                  (args .serial .0) (mkDisk (args .image .now) (args .pointers .now)) (pre .1 .0) (pre .1 .1 .1 .1 .1 off) (args .copied .0)
+                  (pre .1 .1 .1 .1 .0 .0 off) (header-stores .result) (mkDisk (header-stores .last .1 .0) (header-stores .last .1 .1 .0))
+                  (header-stores .ensures) (if1 .left) (pre .1 .1 .1 .0 off .1),
+            ),
+            λ off. rewrite-fits (args .p) (ranged (args .p) (pre .0)) off (args .count) (args .seg) (pre .1 .1 .0 .0) (args .to) (pre .1 .1 .0 .2)
+                (args .serial .0) (mkDisk (args .image .now) (args .pointers .now)) (pre .1 .0) (pre .1 .1 .1 .1 .1 off) (args .copied .0)
+                (pre .1 .1 .1 .1 .0 .0 off) (header-stores .result) (mkDisk (header-stores .last .1 .0) (header-stores .last .1 .1 .0))
+                (header-stores .ensures) (if1 .left),
+          ),
         ),
       ),
     )
@@ -79,10 +83,10 @@ returns-2 c =
     let entry = c .before .before .before .before .before .before .before .before .before .before .before .before .before .before .before .before .before .before in
     let args = entry .args in
     let pre = entry .pre in
-    rewrite-moves (args .p) (ranged (args .p) (pre .0)) (args .count) (args .seg) (pre .1 .1 .0 .0) (args .to) (pre .1 .1 .0 .4) (args .serial .0)
-    (mkDisk (args .image .now) (args .pointers .now)) (pre .1 .0) (pre .1 .1 .1 .1) (args .copied .0) (pre .1 .1 .1 .0 .0) (header-stores .result)
+    λ off. rewrite-moves (args .p) (ranged (args .p) (pre .0)) off (args .count) (args .seg) (pre .1 .1 .0 .0) (args .to) (pre .1 .1 .0 .2) (args .serial .0)
+    (mkDisk (args .image .now) (args .pointers .now)) (pre .1 .0) (pre .1 .1 .1 .1 .1 off) (args .copied .0) (pre .1 .1 .1 .1 .0 .0 off) (header-stores .result)
     (mkDisk (header-stores .last .1 .0) (header-stores .last .1 .1 .0)) (header-stores .ensures) (if1 .left) (move-stripes .result)
-    (mkDisk (move-stripes .last .1 .0) (move-stripes .last .1 .1 .0)) (move-stripes .ensures) (c .if2 .taken)
+    (mkDisk (move-stripes .last .1 .0) (move-stripes .last .1 .1 .0)) (move-stripes .ensures off) (c .if2 .taken)
 
 reset-stores-requires : tie.Need-reset-stores-requires
 reset-stores-requires c κs =
@@ -93,7 +97,7 @@ reset-stores-requires c κs =
       pre .0,
       (
         move-stripes .kept .1 .1 .0 ∙ header-stores .kept .1 .1 .0 ∙ pre .1 .0 .pointers-long,
-        named-zones-low (entry .args .p) 0 (entry .args .seg) (pre .1 .1 .0 .0),
+        pre .1 .1 .0 .0,
       ),
     )
 
@@ -113,10 +117,10 @@ returns-3 c =
     let entry = c .before .before .before .before .before .before .before .before .before .before .before .before .before .before .before .before .before .before .before .before .before .before in
     let args = entry .args in
     let pre = entry .pre in
-    rewrite-resets (args .p) (ranged (args .p) (pre .0)) (args .count) (args .seg) (pre .1 .1 .0 .0) (args .to) (pre .1 .1 .0 .4) (args .serial .0)
-    (mkDisk (args .image .now) (args .pointers .now)) (pre .1 .0) (pre .1 .1 .1 .1) (args .copied .0) (pre .1 .1 .1 .0 .0) (header-stores .result)
+    λ off. rewrite-resets (args .p) (ranged (args .p) (pre .0)) off (args .count) (args .seg) (pre .1 .1 .0 .0) (args .to) (pre .1 .1 .0 .2) (args .serial .0)
+    (mkDisk (args .image .now) (args .pointers .now)) (pre .1 .0) (pre .1 .1 .1 .1 .1 off) (args .copied .0) (pre .1 .1 .1 .1 .0 .0 off) (header-stores .result)
     (mkDisk (header-stores .last .1 .0) (header-stores .last .1 .1 .0)) (header-stores .ensures) (if1 .left) (move-stripes .result)
-    (mkDisk (move-stripes .last .1 .0) (move-stripes .last .1 .1 .0)) (move-stripes .ensures) (if2 .left) (reset-stores .result)
+    (mkDisk (move-stripes .last .1 .0) (move-stripes .last .1 .1 .0)) (move-stripes .ensures off) (if2 .left) (reset-stores .result)
     (mkDisk (move-stripes .last .1 .0) (reset-stores .last .1 .0)) (reset-stores .ensures (move-stripes .last .1 .0))
 
 pub rewrite-spec : {M : Type 1} → statement M

@@ -1,40 +1,34 @@
--- `lowest_free`: the first zone not kept from z on is the first of all; with Z where there is none, it is the first of the free zones. Assumes nothing.
-use mathlib.Core.Path.{_≡_, sym, ap, _∙_}
-use mathlib.Core.Bool.{Bool, false, not}
+-- `lowest_free`: the first free zone from z on is the first of all; a free zone z is it, another passes on; at Z there is none. Assumes nothing.
+use mathlib.Core.Path.{_≡_, sym, _∙_}
+use mathlib.Core.Bool.{Bool}
 use Prim.Native.Nat.{ℕ, _-_, _≤_}
 use native.Mathlib.Omega.{arith}
-use lib.ListN.{getD}
-use Rattle.spec.specs.History.{before}
-use Rattle.spec.specs.Lists.{upFrom, below, keep, firstOr}
-use Rattle.recover_segments.specs.Kept.{lowest-turn, lowest-pass, lowest-end, lowest-start, free-first}
+use Rattle.spec.specs.Lists.{below, upFrom, keep, firstOr}
+use Rattle.disk_gather.specs.Found.{lowest-turn, lowest-pass, lowest-end, lowest-start}
+use Rattle.recover_segments.specs.Taken.{freeIn}
 use Rattle.recover_segments.proofs.lowest_free.Statement.{statement}
 use Rattle.recover_segments.proofs.lowest_free.Tie as tie
-use Rattle.spec.specs.Drives.{across}
 
 abbrev Inv-loop : tie.InvT-loop
-Inv-loop p kept z₀ z = (z ≤ p .Z) × (firstOr (p .Z) (keep (λ x. not (getD kept x false)) (upFrom z (p .Z - z))) ≡ firstOr (p .Z) (keep (λ x. not (getD kept x false)) (below (p .Z))))
+Inv-loop p offline marks drive z₀ z =
+    (z ≤ p .Z) × (firstOr (p .Z) (keep (freeIn p offline marks drive) (upFrom z (p .Z - z))) ≡ firstOr (p .Z) (keep (freeIn p offline marks drive) (below (p .Z))))
 
 abbrev μ-loop : tie.MeasureT-loop
-μ-loop p kept z₀ z = p .Z - z
+μ-loop p offline marks drive z₀ z = p .Z - z
 
 loop-holds : tie.Need-loop-holds Inv-loop μ-loop
-loop-holds c =
-    let a = c .args in
-    let f : ℕ → Bool = λ x. not (getD (a .kept .now) x false) in
-    (omega arith, lowest-start f (a .p .Z) (a .p .Z))
+loop-holds c = let a = c .before .before .args in (omega arith, lowest-start (freeIn (a .p) (a .offline .now) (a .marks .now) (a .drive)) (a .p .Z) (a .p .Z))
 
-shared-slice-read-if2 : tie.Need-shared-slice-read-if2 Inv-loop μ-loop
-shared-slice-read-if2 c = omega arith
+is-free-requires : tie.Need-is-free-requires Inv-loop μ-loop
+is-free-requires c κs = let e = c .before .before .before .before .before in (e .pre .0, (e .pre .1 .0, e .pre .1 .1, e .pre .1 .2, c .if1 .taken))
 
 returns : tie.Need-returns Inv-loop μ-loop
 returns c =
-    let a = c .before .before .before .before .before .args in
-    let if1 = c .before .before .if1 in
-    let loop = c .before .before .before .before .loop in
-    let f : ℕ → Bool = λ x. not (getD (a .kept .now) x false) in (
-      omega (arith, if1 .taken),
-      λ v gone k. ap (across (a .p)) (sym (lowest-turn f (a .p .Z) (loop .z) (a .p .Z) (if1 .taken) (c .if2 .taken)) ∙ loop .inv .1)
-          ∙ sym (free-first (a .p) v gone (a .p .Z) (a .kept .now) k),
+    let a = c .before .before .before .before .before .before .before .args in
+    let l = c .before .before .before .before .loop in
+    let f : ℕ → Bool = freeIn (a .p) (a .offline .now) (a .marks .now) (a .drive) in (
+      sym (lowest-turn f (a .p .Z) (l .z) (a .p .Z) (c .before .before .if1 .taken) (sym (c .before .is-free .ensures) ∙ c .if2 .taken)) ∙ l .inv .1,
+      omega (arith, c .before .before .if1 .taken),
     )
 
 add-z : tie.Need-add-z Inv-loop μ-loop
@@ -45,19 +39,16 @@ loop-less c = omega arith
 
 loop-again : tie.Need-loop-again Inv-loop μ-loop
 loop-again c =
-    let a = c .before .before .before .before .before .args in
-    let if1 = c .before .before .if1 in
-    let loop = c .before .before .before .before .loop in
-    let f : ℕ → Bool = λ x. not (getD (a .kept .now) x false) in
-    (omega (arith, if1 .taken), sym (lowest-pass f (a .p .Z) (loop .z) (a .p .Z) (if1 .taken) (c .if2 .left)) ∙ loop .inv .1)
+    let a = c .before .before .before .before .before .before .before .args in
+    let l = c .before .before .before .before .loop in
+    let f : ℕ → Bool = freeIn (a .p) (a .offline .now) (a .marks .now) (a .drive) in
+    (omega (arith, c .before .before .if1 .taken), sym (lowest-pass f (a .p .Z) (l .z) (a .p .Z) (c .before .before .if1 .taken) (sym (c .before .is-free .ensures) ∙ c .if2 .left)) ∙ l .inv .1)
 
 returns-2 : tie.Need-returns-2 Inv-loop μ-loop
 returns-2 c =
-    let a = c .before .before .before .args in
-    let loop = c .before .before .loop in
-    let f : ℕ → Bool = λ x. not (getD (a .kept .now) x false) in
-    let e = sym (lowest-end f (a .p .Z) (loop .z) (a .p .Z) (omega (arith, c .if1 .left))) ∙ loop .inv .1 in
-    (omega arith, λ v gone k. ap (across (a .p)) e ∙ sym (free-first (a .p) v gone (a .p .Z) (a .kept .now) k))
+    let a = c .before .before .before .before .before .args in
+    let l = c .before .before .loop in
+    (sym (lowest-end (freeIn (a .p) (a .offline .now) (a .marks .now) (a .drive)) (a .p .Z) (l .z) (a .p .Z) (omega (arith, c .if1 .left))) ∙ l .inv .1, omega arith)
 
 pub lowest-free-spec : {M : Type 1} → statement M
 lowest-free-spec =
@@ -66,7 +57,7 @@ lowest-free-spec =
     Inv-loop
     μ-loop
     loop-holds
-    shared-slice-read-if2
+    is-free-requires
     returns
     add-z
     loop-less

@@ -1,86 +1,22 @@
--- `serial_on`: the segment's header block lies at that byte of the image, within its length, and the serial read there is the header's. Assumes nothing.
-use mathlib.Core.Path.{sym, ap, _∙_}
-use Prim.Native.Nat.{ℕ}
-use native.Mathlib.Omega.{arith}
-use Rattle.spec.specs.Bytes.{part}
-use Rattle.spec.specs.History.{before}
-use Rattle.spec.specs.Layout.{headerSerial}
-use Rattle.spec.specs.Params.{placeOf, placeByte}
-use Rattle.law_basic.specs.Fields.{header-fits}
-use Rattle.law_basic.specs.Geometry.{ranged, capacity-low}
-use Rattle.law_basic.specs.Splice.{length-part, part-lent}
-use Rattle.recover_segments.specs.Kept.{block-in-unit, header-bytes}
+-- `serial_on`: the header's serial at the segment's zone on the drive. Assumes nothing.
+use mathlib.Core.Path.{ap, _∙_}
 use borrow.Author.Needs.{needs}
+use Rattle.spec.specs.Drives.{viewOf}
+use Rattle.spec.specs.Segments.{headerAt, serialIn}
 use Rattle.recover_segments.proofs.serial_on.Statement.{statement}
 use Rattle.recover_segments.proofs.serial_on.Tie as tie
 
 zone-on-requires : tie.Need-zone-on-requires
 zone-on-requires c κs = search needs
 
-block-byte-requires : tie.Need-block-byte-requires
-block-byte-requires c κs =
-    let args = c .before .before .args in
-    let pre = c .before .before .pre in (
-      pre .0,
-      (
-        pre .1 .1,
-        rw (c .zone-on .ensures) (pre .1 .2),
-        (let x = capacity-low (args .p) (ranged (args .p) (pre .0)) in omega (arith, x)),
-      ),
-    )
-
-add-e : tie.Need-add-e
-add-e c =
-    let entry = c .before .before .before .before in
-    let args = entry .args in
-    let pre = entry .pre in
-    omega (arith, c .before .block-byte .ensures .2, ranged (args .p) (pre .0) .block-high)
-
-sub-header-serial : tie.Need-sub-header-serial
-sub-header-serial c = search needs
-
-part-header-serial-start : tie.Need-part-header-serial-start
-part-header-serial-start c = search needs
-
-part-header-serial-end : tie.Need-part-header-serial-end
-part-header-serial-end c =
-    let entry = c .before .before .before .before in
-    let args = entry .args in
-    let pre = entry .pre in
-    omega (arith, c .before .block-byte .ensures .1, pre .1 .0, block-in-unit (args .p))
-
-header-serial-requires : tie.Need-header-serial-requires
-header-serial-requires c κs =
-    let block-byte = c .before .before .block-byte in
-    let entry = c .before .before .before .before .before in
-    let args = entry .args in
-    let pre = entry .pre in
-    let l = length-part (block-byte .result) (args .p .B) (args .image .now) (omega (arith, block-byte .ensures .1, pre .1 .0, block-in-unit (args .p))) in
-    rw (part-lent (block-byte .result) (args .p .B) (args .image .now)) (omega (arith, l, header-fits (args .p) (ranged (args .p) (pre .0))))
+serial-in-requires : tie.Need-serial-in-requires
+serial-in-requires c κs = search needs
 
 returns : tie.Need-returns
+unfolding headerAt serialIn
 returns c =
-    let block-byte = c .before .before .before .block-byte in
-    let zone-on = c .before .before .before .before .zone-on in
-    let entry = c .before .before .before .before .before .before in
-    let args = entry .args in
-    let pre = entry .pre in
-    let p = args .p in
-    let im = args .image .now in
-    λ ps h. c .header-serial .ensures
-    ∙ ap (headerSerial p) (part-lent (block-byte .result) (p .B) im
-    ∙ ap (λ (x : ℕ). part x (p .B) im) (block-byte .ensures .0 ∙ ap (λ (x : ℕ). placeByte p (placeOf p (args .drive) x 0)) (zone-on .ensures))
-    ∙ sym (header-bytes p im ps (pre .1 .0) h (ranged p (pre .0)) (args .drive) (args .segment) (pre .1 .1) (pre .1 .2)))
+    let a = c .before .before .before .args in
+    λ off ps h. c .serial-in .ensures off ps h ∙ ap (serialIn (a .p) (viewOf (a .p) off (a .image .now) ps) (a .drive)) (c .before .zone-on .ensures)
 
 pub serial-on-spec : {M : Type 1} → statement M
-serial-on-spec =
-    tie.close
-    (tie.spec
-    zone-on-requires
-    block-byte-requires
-    add-e
-    sub-header-serial
-    part-header-serial-start
-    part-header-serial-end
-    header-serial-requires
-    returns)
+serial-on-spec = tie.close (tie.spec zone-on-requires serial-in-requires returns)

@@ -32,7 +32,7 @@ returns c =
     let h = c .before .before .before .before .before .pre in
     let p = a .p in
     let w = a .w in
-    λ ps sh rf ct. no-lost-bad p (w .gone) (segmentIn p (a .image .now) ps w) (w .base + a .k)
+    λ off ps sh rf ct. no-lost-bad p (w .gone) (segmentIn p off (a .image .now) ps w) (w .base + a .k)
     (sym (c .before .any-lost-data .ensures) ∙ not-true (c .before .any-lost-data .result) (c .if1 .taken))
 
 is-all-entered-requires : tie.Need-is-all-entered-requires
@@ -50,8 +50,8 @@ returns-2 c =
     let p = a .p in
     let w = a .w in
     let i = c .before .is-all-entered in
-    λ ps sh rf ct. absurd (not-both (i .result)
-    (i .ensures .1 (counts-entered p (w .gone) (segmentIn p (a .image .now) ps w) (w .base) (a .at .now) (a .k) (sh .2 rf) (h .1 .4) ct))
+    λ off ps sh rf ct. absurd (not-both (i .result)
+    (i .ensures .1 (counts-entered p (w .gone) (segmentIn p off (a .image .now) ps w) (w .base) (a .at .now) (a .k) (sh .2 rf) (h .1 .4) ct))
     (not-true (i .result) (c .if2 .taken)))
 
 lost-rec-requires : tie.Need-lost-rec-requires
@@ -75,10 +75,10 @@ returns-3 c =
     let h = c .before .before .before .before .before .before .before .before .before .pre in
     let p = a .p in
     let w = a .w in
-    λ ps sh rf ct.
-    let g = segmentIn p (a .image .now) ps w in
+    λ off ps sh rf ct.
+    let g = segmentIn p off (a .image .now) ps w in
     c .bad-rec .ensures ∙ lost-some p (w .gone) g (w .base + a .k) (recVal (c .before .lost-rec .result)) (sym (y .ensures) ∙ not-false (y .result) (if1 .left))
-    (c .before .lost-rec .ensures ps (record { long = sh .0; full-right = sh .1; indexed = sh .2 rf }))
+    (c .before .lost-rec .ensures off ps (record { long = sh .0; full-right = sh .1; indexed = sh .2 rf }))
 
 pub lost-bad-spec : {M : Type 1} → statement M
 lost-bad-spec =

@@ -1,9 +1,12 @@
 -- `survey_group`: a group whose index fails makes the segment bad, as its fault says; else the tally of its stripes holds. Assumes nothing.
 use mathlib.Core.Path.{_≡_, refl, sym, _∙_, subst}
+use mathlib.Core.List.{List}
 use mathlib.Core.Bool.{true, false}
-use Prim.Native.Nat.{_+_, _≤_}
+use Prim.Native.Nat.{ℕ, _+_, _≤_}
 use native.Mathlib.Omega.{arith}
 use borrow.Author.Tests.{not-true, not-false}
+use Rattle.spec.specs.Drives.{viewOf, sealedIn}
+use Rattle.spec.specs.Segments.{Segment}
 use Rattle.law_basic.specs.Ranges.{not-both}
 use Rattle.recover_survey.specs.declared.Tally.{Tally}
 use Rattle.recover_groups.specs.Groups.{groupLen, groupFault, segmentIn}
@@ -29,15 +32,20 @@ returns c =
     let p = a .p in
     let w = a .w in
     let t = a .t in
-    let g = segmentIn p (a .image .now) (a .pointers .now) w in
+    let g : List ℕ → Segment = λ off. segmentIn p off (a .image .now) (a .pointers .now) w in
+    let Full : List ℕ → Type 0 = λ off. w .full ≡ sealedIn p (viewOf p off (a .image .now) (a .pointers .now)) (w .gone) (w .seg) in
     let n = w .base + groupLen p (w .base) in
-    let f : groupFault p (w .gone) g (w .base) ≡ true = not-false (groupFault p (w .gone) g (w .base)) (sym (i .ensures .0) ∙ not-true (i .result) (c .before .if1 .taken)) in
+    let f : (off : List ℕ) → Full off → groupFault p (w .gone) (g off) (w .base) ≡ true = λ off full.
+    not-false (groupFault p (w .gone) (g off) (w .base)) (sym (i .ensures .0 off full) ∙ not-true (i .result) (c .before .if1 .taken)) in
     subst (λ (r : Tally). ((r .counted ≤ n) × (r .loose ≤ n))
-    × ((r .bad ≡ false → (t .bad ≡ false) × (groupFault p (w .gone) g (w .base) ≡ false))
-    × (Tallied p (w .gone) g (w .base) t → Tallied p (w .gone) g n r)))
+    × (((off : List ℕ) → Full off → r .bad ≡ false → (t .bad ≡ false) × (groupFault p (w .gone) (g off) (w .base) ≡ false))
+    × ((off : List ℕ) → Full off → Tallied p (w .gone) (g off) (w .base) t → Tallied p (w .gone) (g off) n r)))
     (sym (c .bad-tally .ensures)) (
-      (omega (arith, h .1 .1 .1 .1 .0), omega (arith, h .1 .1 .1 .1 .1)),
-      ((λ q. absurd (not-both true refl q)), (λ T. bad-says p (w .gone) g n (worse t) (group-fault p (w .gone) g (w .base) f))),
+      (omega (arith, h .1 .1 .1 .0), omega (arith, h .1 .1 .1 .1)),
+      (
+        (λ off full q. absurd (not-both true refl q)),
+        (λ off full T. bad-says p (w .gone) (g off) n (worse t) (group-fault p (w .gone) (g off) (w .base) (f off full))),
+      ),
     )
 
 survey-stripes-requires : tie.Need-survey-stripes-requires
@@ -48,9 +56,7 @@ survey-stripes-requires c κs =
     let p = a .p in
     let w = a .w in
     let t = a .t in
-    let g = segmentIn p (a .image .now) (a .pointers .now) w in
-    let n = w .base + groupLen p (w .base) in
-    (h .0, ((h .1 .0 .image-long, i .kept .1 .1 .1 .1 .0 ∙ h .1 .1 .0 .0, h .1 .1 .0 .1, h .1 .1 .0 .2), h .1 .1 .1 .1))
+    (h .0, ((h .1 .0 .image-long, i .kept .1 .1 .1 .1 .0 ∙ h .1 .1 .0 .0, h .1 .1 .0 .1, h .1 .1 .0 .2), h .1 .1 .1))
 
 same-length-2 : tie.Need-same-length-2
 same-length-2 c = search needs
@@ -64,12 +70,14 @@ returns-2 c =
     let p = a .p in
     let w = a .w in
     let t = a .t in
-    let g = segmentIn p (a .image .now) (a .pointers .now) w in
+    let g : List ℕ → Segment = λ off. segmentIn p off (a .image .now) (a .pointers .now) w in
+    let Full : List ℕ → Type 0 = λ off. w .full ≡ sealedIn p (viewOf p off (a .image .now) (a .pointers .now)) (w .gone) (w .seg) in
     let n = w .base + groupLen p (w .base) in
     let y = c .survey-stripes in
-    let f : groupFault p (w .gone) g (w .base) ≡ false = not-true (groupFault p (w .gone) g (w .base)) (sym (i .ensures .0) ∙ not-false (i .result) (if1 .left)) in (
+    let f : (off : List ℕ) → Full off → groupFault p (w .gone) (g off) (w .base) ≡ false = λ off full.
+    not-true (groupFault p (w .gone) (g off) (w .base)) (sym (i .ensures .0 off full) ∙ not-false (i .result) (if1 .left)) in (
       (y .ensures .0 .0, y .ensures .0 .1),
-      ((λ q. (y .ensures .0 .2 q, f)), (λ T. y .ensures .1 (a .pointers .now) (h .1 .0 .pointers-long, h .1 .1 .1 .0, i .ensures .1) T)),
+      ((λ off full q. (y .ensures .0 .2 q, f off full)), (λ off full T. y .ensures .1 off (a .pointers .now) (h .1 .0 .pointers-long, full, i .ensures .1 off full) T)),
     )
 
 pub survey-group-spec : {M : Type 1} → statement M

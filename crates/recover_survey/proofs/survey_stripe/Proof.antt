@@ -51,13 +51,14 @@ returns c =
     let t = a .t in
     let s = w .base + a .k in
     subst (λ (r : Tally). ((r .counted ≤ s + 1) × (r .loose ≤ s + 1) × (r .bad ≡ false → t .bad ≡ false))
-    × ((ps : List ℕ) → Shown p (a .image .now) ps w (a .at .now) → Tallied p (w .gone) (segmentIn p (a .image .now) ps w) s t
-    → Tallied p (w .gone) (segmentIn p (a .image .now) ps w) (s + 1) r))
+    × ((off ps : List ℕ) → Shown p off (a .image .now) ps w (a .at .now) → Tallied p (w .gone) (segmentIn p off (a .image .now) ps w) s t
+    → Tallied p (w .gone) (segmentIn p off (a .image .now) ps w) (s + 1) r))
     (sym (c .bad-tally .ensures)) (
       (omega (arith, h .1 .1 .0), omega (arith, h .1 .1 .1), λ q. absurd (not-both true refl q)),
-      λ ps sh T. passes-bad p (w .gone) (segmentIn p (a .image .now) ps w) s t T (λ rf.
-          let ct : counts p (w .gone) (segmentIn p (a .image .now) ps w) s ≡ true = sym (counts′ .ensures (segmentIn p (a .image .now) ps w) (w .base) (sh .2 rf) (h .1 .0 .4)) ∙ if1 .taken in
-          (ct, sym (z .ensures ps sh rf ct) ∙ c .before .if2 .taken)),
+      λ off ps sh T. passes-bad p (w .gone) (segmentIn p off (a .image .now) ps w) s t T (λ rf.
+          let ct : counts p (w .gone) (segmentIn p off (a .image .now) ps w) s ≡ true =
+          sym (counts′ .ensures (segmentIn p off (a .image .now) ps w) (w .base) (sh .2 rf) (h .1 .0 .4)) ∙ if1 .taken in
+          (ct, sym (z .ensures off ps sh rf ct) ∙ c .before .if2 .taken)),
     )
 
 add-t9 : tie.Need-add-t9
@@ -104,9 +105,10 @@ returns-2 c =
     let s = w .base + a .k in
     let z = lost-bad in (
       (omega (arith, h .1 .1 .0), omega (arith, h .1 .1 .1), λ q. q),
-      λ ps sh T. passes-counted p (w .gone) (segmentIn p (a .image .now) ps w) s t T (λ rf.
-          let ct : counts p (w .gone) (segmentIn p (a .image .now) ps w) s ≡ true = sym (counts′ .ensures (segmentIn p (a .image .now) ps w) (w .base) (sh .2 rf) (h .1 .0 .4)) ∙ if1 .taken in
-          (ct, sym (z .ensures ps sh rf ct) ∙ if2 .left)),
+      λ off ps sh T. passes-counted p (w .gone) (segmentIn p off (a .image .now) ps w) s t T (λ rf.
+          let ct : counts p (w .gone) (segmentIn p off (a .image .now) ps w) s ≡ true =
+          sym (counts′ .ensures (segmentIn p off (a .image .now) ps w) (w .base) (sh .2 rf) (h .1 .0 .4)) ∙ if1 .taken in
+          (ct, sym (z .ensures off ps sh rf ct) ∙ if2 .left)),
     )
 
 chunks-requires : tie.Need-chunks-requires
@@ -130,11 +132,12 @@ returns-3 c =
     let s = w .base + a .k in
     let x = c .before .chunks in (
       (omega (arith, h .1 .1 .0), omega (arith, h .1 .1 .1), λ q. q),
-      λ ps sh T. passes-none p (w .gone) (segmentIn p (a .image .now) ps w) s t T (λ rf.
-          let ct : counts p (w .gone) (segmentIn p (a .image .now) ps w) s ≡ false = sym (counts′ .ensures (segmentIn p (a .image .now) ps w) (w .base) (sh .2 rf) (h .1 .0 .4)) ∙ if1 .left in (
+      λ off ps sh T. passes-none p (w .gone) (segmentIn p off (a .image .now) ps w) s t T (λ rf.
+          let ct : counts p (w .gone) (segmentIn p off (a .image .now) ps w) s ≡ false =
+          sym (counts′ .ensures (segmentIn p off (a .image .now) ps w) (w .base) (sh .2 rf) (h .1 .0 .4)) ∙ if1 .left in (
             ct,
-            loose-none p (viewOf p (a .image .now) ps) (w .gone) (w .seg) s (x .result) (length (present p (w .gone)))
-                (x .ensures .1 (segmentIn p (a .image .now) ps w) (w .base) (sh .2 rf) (h .1 .0 .4)) refl (c .if3 .taken),
+            loose-none p (viewOf p off (a .image .now) ps) (w .gone) (w .seg) s (x .result) (length (present p (w .gone)))
+                (x .ensures .1 (segmentIn p off (a .image .now) ps w) (w .base) (sh .2 rf) (h .1 .0 .4)) refl (c .if3 .taken),
           )),
     )
 
@@ -161,11 +164,12 @@ returns-4 c =
     let s = w .base + a .k in
     let x = chunks in (
       (omega (arith, h .1 .1 .0), omega (arith, h .1 .1 .1), λ q. q),
-      λ ps sh T. passes-loose p (w .gone) (segmentIn p (a .image .now) ps w) s t T (λ rf.
-          let ct : counts p (w .gone) (segmentIn p (a .image .now) ps w) s ≡ false = sym (counts′ .ensures (segmentIn p (a .image .now) ps w) (w .base) (sh .2 rf) (h .1 .0 .4)) ∙ if1 .left in (
+      λ off ps sh T. passes-loose p (w .gone) (segmentIn p off (a .image .now) ps w) s t T (λ rf.
+          let ct : counts p (w .gone) (segmentIn p off (a .image .now) ps w) s ≡ false =
+          sym (counts′ .ensures (segmentIn p off (a .image .now) ps w) (w .base) (sh .2 rf) (h .1 .0 .4)) ∙ if1 .left in (
             ct,
-            loose-counts p (viewOf p (a .image .now) ps) (w .gone) (w .seg) s (x .result) (length (present p (w .gone)))
-                (x .ensures .1 (segmentIn p (a .image .now) ps w) (w .base) (sh .2 rf) (h .1 .0 .4)) refl ct (c .before .if3 .left),
+            loose-counts p (viewOf p off (a .image .now) ps) (w .gone) (w .seg) s (x .result) (length (present p (w .gone)))
+                (x .ensures .1 (segmentIn p off (a .image .now) ps w) (w .base) (sh .2 rf) (h .1 .0 .4)) refl ct (c .before .if3 .left),
           )),
     )
 

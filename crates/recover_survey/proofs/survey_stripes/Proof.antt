@@ -13,7 +13,8 @@ use Rattle.recover_survey.proofs.survey_stripes.Tie as tie
 abbrev Inv-loop : tie.InvT-loop
 Inv-loop p image w at len next₀ k₀ next k =
     (k ≤ len) × (next .counted ≤ w .base + k) × (next .loose ≤ w .base + k) × (next .bad ≡ false → next₀ .bad ≡ false)
-    × ((ps : List ℕ) → Shown p image ps w at → Tallied p (w .gone) (segmentIn p image ps w) (w .base) next₀ → Tallied p (w .gone) (segmentIn p image ps w) (w .base + k) next)
+    × ((off ps : List ℕ) → Shown p off image ps w at → Tallied p (w .gone) (segmentIn p off image ps w) (w .base) next₀
+    → Tallied p (w .gone) (segmentIn p off image ps w) (w .base + k) next)
 
 abbrev μ-loop : tie.MeasureT-loop
 μ-loop p image w at len next₀ k₀ next k = len - k
@@ -36,7 +37,7 @@ loop-holds c =
       omega (arith, h .1 .1 .0),
       omega (arith, h .1 .1 .1),
       (λ q. q),
-      λ ps sh T. subst (λ (x : ℕ). Tallied p (w .gone) (segmentIn p (a .image .now) ps w) x (a .t)) (sym (add-zero (w .base))) T,
+      λ off ps sh T. subst (λ (x : ℕ). Tallied p (w .gone) (segmentIn p off (a .image .now) ps w) x (a .t)) (sym (add-zero (w .base))) T,
     )
 
 survey-stripe-requires : tie.Need-survey-stripe-requires Inv-loop μ-loop
@@ -70,7 +71,7 @@ loop-again c =
       omega (arith, y .ensures .0 .0),
       omega (arith, y .ensures .0 .1),
       (λ q. l .inv .3 (y .ensures .0 .2 q)),
-      λ ps sh T. subst (λ (x : ℕ). Tallied p (w .gone) (segmentIn p (a .image .now) ps w) x (y .result)) e (y .ensures .1 ps sh (l .inv .4 ps sh T)),
+      λ off ps sh T. subst (λ (x : ℕ). Tallied p (w .gone) (segmentIn p off (a .image .now) ps w) x (y .result)) e (y .ensures .1 off ps sh (l .inv .4 off ps sh T)),
     )
 
 returns : tie.Need-returns Inv-loop μ-loop
@@ -83,7 +84,7 @@ returns c =
     let l = c .before .loop in
     let e : l .k ≡ groupLen p (w .base) = let f : l .k ≤ group-len .result = l .inv .0 in omega (arith, f, c .loop-test .left, group-len .ensures .0) in (
       (subst (λ (x : ℕ). l .next .counted ≤ w .base + x) e (l .inv .1), subst (λ (x : ℕ). l .next .loose ≤ w .base + x) e (l .inv .2), l .inv .3),
-      λ ps sh T. subst (λ (x : ℕ). Tallied p (w .gone) (segmentIn p (a .image .now) ps w) (w .base + x) (l .next)) e (l .inv .4 ps sh T),
+      λ off ps sh T. subst (λ (x : ℕ). Tallied p (w .gone) (segmentIn p off (a .image .now) ps w) (w .base + x) (l .next)) e (l .inv .4 off ps sh T),
     )
 
 pub survey-stripes-spec : {M : Type 1} → statement M

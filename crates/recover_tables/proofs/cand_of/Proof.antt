@@ -15,18 +15,18 @@ rec-of-requires : tie.Need-rec-of-requires
 rec-of-requires c κs =
     let a = c .before .before .args in
     let q = c .before .before .pre in
-    let (ps, rd, cn) = q .1 .1 in
+    let (off, ps, rd, cn) = q .1 .1 in
     let h = q .1 .0 in
-    (q .0, ((h .0, h .1, h .2, h .3, h .4, h .5), reading-entered (a .p) (a .image .now) ps (a .w) (a .at .now) (a .k) rd (q .1 .0 .5) cn))
+    (q .0, ((h .0, h .1, h .2, h .3, h .4, h .5), reading-entered (a .p) off (a .image .now) ps (a .w) (a .at .now) (a .k) rd (q .1 .0 .5) cn))
 
 offset-of-requires : tie.Need-offset-of-requires
 offset-of-requires c κs =
     let a = c .before .before .before .args in
     let q = c .before .before .before .pre in
     let r : Ranged (a .p) = ranged (a .p) (q .0) in
-    let (ps, rd, cn) = q .1 .1 in (
-      (q .1 .0 .1, omega (arith, q .1 .0 .4, r .drives-high), stripe-byte (a .p) (a .image .now) ps (a .w) (a .at .now) (a .k) r (q .1 .0 .5), omega (arith, q .1 .0 .3, r .stripes-high)),
-      λ e. reading-entered (a .p) (a .image .now) ps (a .w) (a .at .now) (a .k) rd (q .1 .0 .5) cn (a .drive) (q .1 .0 .4) e .0,
+    let (off, ps, rd, cn) = q .1 .1 in (
+      (q .1 .0 .1, omega (arith, q .1 .0 .4, r .drives-high), stripe-byte (a .p) off (a .image .now) ps (a .w) (a .at .now) (a .k) r (q .1 .0 .5), omega (arith, q .1 .0 .3, r .stripes-high)),
+      λ e. reading-entered (a .p) off (a .image .now) ps (a .w) (a .at .now) (a .k) rd (q .1 .0 .5) cn (a .drive) (q .1 .0 .4) e .0,
     )
 
 zone-on-requires : tie.Need-zone-on-requires
@@ -39,11 +39,11 @@ add-place-of c =
     let a = c .before .before .before .before .before .args in
     let q = c .before .before .before .before .before .pre in
     let r : Ranged (a .p) = ranged (a .p) (q .0) in
-    let (ps, rd, cn) = q .1 .1 in
-    let e = c .before .offset-of .ensures (a .p) (segmentIn (a .p) (a .image .now) ps (a .w)) (rd .indexed) (q .1 .0 .4) (q .1 .0 .5) in
+    let (off, ps, rd, cn) = q .1 .1 in
+    let e = c .before .offset-of .ensures (a .p) (segmentIn (a .p) off (a .image .now) ps (a .w)) (rd .indexed) (q .1 .0 .4) (q .1 .0 .5) in
     let l : c .before .offset-of .result < a .p .S =
     subst (λ (x : ℕ). x < a .p .S) (sym e)
-    (offset-fits (a .p) (a .image .now) ps (a .w) (a .at .now) (a .k) (a .drive) (q .1 .0 .3) (q .1 .0 .5) (q .1 .0 .4) rd cn) in
+    (offset-fits (a .p) off (a .image .now) ps (a .w) (a .at .now) (a .k) (a .drive) (q .1 .0 .3) (q .1 .0 .5) (q .1 .0 .4) rd cn) in
     omega (arith, l, r .stripes-high)
 
 place-of-requires : tie.Need-place-of-requires
@@ -51,11 +51,11 @@ place-of-requires c κs =
     let a = c .before .before .before .before .before .args in
     let q = c .before .before .before .before .before .pre in
     let r : Ranged (a .p) = ranged (a .p) (q .0) in
-    let (ps, rd, cn) = q .1 .1 in
-    let e = c .before .offset-of .ensures (a .p) (segmentIn (a .p) (a .image .now) ps (a .w)) (rd .indexed) (q .1 .0 .4) (q .1 .0 .5) in
+    let (off, ps, rd, cn) = q .1 .1 in
+    let e = c .before .offset-of .ensures (a .p) (segmentIn (a .p) off (a .image .now) ps (a .w)) (rd .indexed) (q .1 .0 .4) (q .1 .0 .5) in
     let l : c .before .offset-of .result < a .p .S =
     subst (λ (x : ℕ). x < a .p .S) (sym e)
-    (offset-fits (a .p) (a .image .now) ps (a .w) (a .at .now) (a .k) (a .drive) (q .1 .0 .3) (q .1 .0 .5) (q .1 .0 .4) rd cn) in
+    (offset-fits (a .p) off (a .image .now) ps (a .w) (a .at .now) (a .k) (a .drive) (q .1 .0 .3) (q .1 .0 .5) (q .1 .0 .4) rd cn) in
     let hz : c .zone-on .result < a .p .Z = subst (λ (x : ℕ). x < a .p .Z) (sym (c .zone-on .ensures)) (q .1 .0 .6) in
     (q .0, (q .1 .0 .4, hz, data-below (a .p) r (1 + c .before .offset-of .result) (omega (arith, l))))
 
@@ -69,8 +69,8 @@ returns c =
     let rec-of = c .before .before .before .before .before .rec-of in
     let p = a .p in
     let o = offset-of .result in
-    λ ps rd es. cand-is p (viewOf p (a .image .now) ps) (a .w .gone) (a .w .seg) (a .w .base + a .k) (a .drive) (recVal (rec-of .result)) (a .serial .0) o (place-of .result .0)
-    (rec-of .ensures ps rd) (offset-of .ensures p (segmentIn p (a .image .now) ps (a .w)) (rd .indexed) (q .1 .0 .4) (q .1 .0 .5)) es
+    λ off ps rd es. cand-is p (viewOf p off (a .image .now) ps) (a .w .gone) (a .w .seg) (a .w .base + a .k) (a .drive) (recVal (rec-of .result)) (a .serial .0) o (place-of .result .0)
+    (rec-of .ensures off ps rd) (offset-of .ensures p (segmentIn p off (a .image .now) ps (a .w)) (rd .indexed) (q .1 .0 .4) (q .1 .0 .5)) es
     (place-of .ensures .0 ∙ ap (λ (z : ℕ). placeOf p (a .drive) z (1 + o)) (zone-on .ensures))
 
 pub cand-of-spec : {M : Type 1} → statement M

@@ -27,10 +27,10 @@ returns c =
     let w = a .w in
     let q = e .pre in
     let f = group-len-le p (w .base) in
-    λ im G m sh. (
+    λ off im G m sh. (
       clear-row .ensures .1,
       λ k hk. clear-row .ensures .0 k (omega (arith, f, hk))
-          ∙ sym (missing-entry p (viewOf p im (a .pointers .now)) (w .gone) (w .seg) (w .base) (a .drive) (w .base + k) (q .1 .1 .0) (sym (c .before .has-drive .ensures) ∙ c .if1 .taken)),
+          ∙ sym (missing-entry p (viewOf p off im (a .pointers .now)) (w .gone) (w .seg) (w .base) (a .drive) (w .base + k) (q .1 .1 .0) (sym (c .before .has-drive .ensures) ∙ c .if1 .taken)),
     )
 
 index-drive-requires : tie.Need-index-drive-requires
@@ -56,8 +56,8 @@ same-length-2 c = search needs
 returns-2 : tie.Need-returns-2
 returns-2 c =
     let clear-row = c .before .before .before .before .before .before .before .before .clear-row in
-    λ im G m sh.
-    let z = c .before .before .index-drive .ensures im G m sh in
+    λ off im G m sh.
+    let z = c .before .before .index-drive .ensures off im G m sh in
     ((λ j h. z .0 j h ∙ clear-row .ensures .1 j h), z .1)
 
 pub index-any-spec : {M : Type 1} → statement M

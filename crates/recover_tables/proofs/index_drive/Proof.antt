@@ -21,9 +21,9 @@ use Rattle.law_basic.specs.Segs.{low-zone}
 abbrev Inv-loop : tie.InvT-loop
 Inv-loop p pointers compact w drive at₀ n i₀ at i =
     (i ≤ n) × (length at ≡ 2048)
-    × ((im : List ℕ) → Ground p im pointers (w .gone) compact → In (w .seg) (remaining p (viewOf p im pointers) (w .gone))
-    → SegmentShown p (viewOf p im pointers) (w .gone) (w .seg) compact
-    → Entering p drive (w .base) (groupRecs p (w .base) (recsOn (segmentIn p im pointers w) drive)) at₀ at i)
+    × ((off im : List ℕ) → Ground p off im pointers (w .gone) compact → In (w .seg) (remaining p (viewOf p off im pointers) (w .gone))
+    → SegmentShown p (viewOf p off im pointers) (w .gone) (w .seg) compact
+    → Entering p drive (w .base) (groupRecs p (w .base) (recsOn (segmentIn p off im pointers w) drive)) at₀ at i)
 
 abbrev μ-loop : tie.MeasureT-loop
 μ-loop p pointers compact w drive at₀ n i₀ at i = n - i
@@ -45,7 +45,7 @@ loop-holds c =
     let ps = a .pointers .now in (
       omega arith,
       q .1 .0 .2,
-      λ im G m sh. entering-start p (a .drive) (w .base) (groupRecs p (w .base) (recsOn (segmentIn p im ps w) (a .drive))) (a .at .now) (q .1 .0 .2) (q .1 .1 .1),
+      λ off im G m sh. entering-start p (a .drive) (w .base) (groupRecs p (w .base) (recsOn (segmentIn p off im ps w) (a .drive))) (a .at .now) (q .1 .0 .2) (q .1 .1 .1),
     )
 
 mul-j : tie.Need-mul-j Inv-loop μ-loop
@@ -108,11 +108,11 @@ loop-again c =
     let r = ranged p (q .0) in (
       omega (arith, c .before .loop-test .taken),
       length-set (l .at) (256 * a .drive + c .entry-at .result) (l .i + 1) ∙ l .inv .1,
-      λ im G m sh.
-          let rs = groupRecs p (w .base) (recsOn (segmentIn p im ps w) (a .drive)) in
-          let n : group-stored .result ≡ length rs = group-stored .ensures .0 im (G .whole .image-long) (h .4) in
+      λ off im G m sh.
+          let rs = groupRecs p (w .base) (recsOn (segmentIn p off im ps w) (a .drive)) in
+          let n : group-stored .result ≡ length rs = group-stored .ensures .0 off im (G .whole .image-long) (h .4) in
           subst (λ (x : ℕ). Entering p (a .drive) (w .base) rs (a .at .now) (set (l .at) (256 * a .drive + x) (l .i + 1)) (l .i + 1)) (sym (c .entry-at .ensures .0))
-          (index-entered p r im ps (w .gone) (a .compact .now) G (w .seg) (w .base) (a .drive) m sh (h .0) (h .4) (h .2) (h .3) (a .at .now) (l .at) (l .i) (l .inv .2 im G m sh)
+          (index-entered p r off im ps (w .gone) (a .compact .now) G (w .seg) (w .base) (a .drive) m sh (h .0) (h .4) (h .2) (h .3) (a .at .now) (l .at) (l .i) (l .inv .2 off im G m sh)
           (omega (arith, n, c .before .loop-test .taken))),
     )
 
@@ -133,10 +133,10 @@ returns c =
     let w = a .w in
     let ps = a .pointers .now in
     let r = ranged p (q .0) in
-    λ im G m sh.
-    let rs = groupRecs p (w .base) (recsOn (segmentIn p im ps w) (a .drive)) in
-    let n : group-stored .result ≡ length rs = group-stored .ensures .0 im (G .whole .image-long) (h .4) in
-    all-entered p r im ps (w .gone) (a .compact .now) G (w .seg) (w .base) (a .drive) m sh (h .0) (h .4) (h .2) (h .3) (a .at .now) (l .at) (l .i) (l .inv .2 im G m sh)
+    λ off im G m sh.
+    let rs = groupRecs p (w .base) (recsOn (segmentIn p off im ps w) (a .drive)) in
+    let n : group-stored .result ≡ length rs = group-stored .ensures .0 off im (G .whole .image-long) (h .4) in
+    all-entered p r off im ps (w .gone) (a .compact .now) G (w .seg) (w .base) (a .drive) m sh (h .0) (h .4) (h .2) (h .3) (a .at .now) (l .at) (l .i) (l .inv .2 off im G m sh)
     (omega (arith, n, c .loop-test .left))
 
 pub index-drive-spec : {M : Type 1} → statement M

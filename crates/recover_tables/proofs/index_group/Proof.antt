@@ -20,15 +20,15 @@ use Rattle.recover_tables.proofs.index_group.Tie as tie
 abbrev Inv-loop : tie.InvT-loop
 Inv-loop p pointers compact w at₀ d₀ at d =
     (d ≤ p .N) × (length at ≡ 2048)
-    × ((im : List ℕ) → Ground p im pointers (w .gone) compact → In (w .seg) (remaining p (viewOf p im pointers) (w .gone))
-    → SegmentShown p (viewOf p im pointers) (w .gone) (w .seg) compact
-    → (e : ℕ) → e < d → Row p (w .base) (groupRecs p (w .base) (recsOn (segmentIn p im pointers w) e)) e at)
+    × ((off im : List ℕ) → Ground p off im pointers (w .gone) compact → In (w .seg) (remaining p (viewOf p off im pointers) (w .gone))
+    → SegmentShown p (viewOf p off im pointers) (w .gone) (w .seg) compact
+    → (e : ℕ) → e < d → Row p (w .base) (groupRecs p (w .base) (recsOn (segmentIn p off im pointers w) e)) e at)
 
 abbrev μ-loop : tie.MeasureT-loop
 μ-loop p pointers compact w at₀ d₀ at d = p .N - d
 
 loop-holds : tie.Need-loop-holds Inv-loop μ-loop
-loop-holds c = (omega arith, c .before .before .before .pre .1 .0 .2, λ im G m sh e h. absurd (let z : ⊥ = omega (arith, h) in z))
+loop-holds c = (omega arith, c .before .before .before .pre .1 .0 .2, λ off im G m sh e h. absurd (let z : ⊥ = omega (arith, h) in z))
 
 index-any-requires : tie.Need-index-any-requires Inv-loop μ-loop
 index-any-requires c κs =
@@ -53,10 +53,10 @@ loop-again c =
     let x = index-any in (
       omega (arith, if1 .taken),
       x .kept .1 .1 .1 .1 .1 .0 ∙ l .inv .1,
-      λ im G m sh.
-          let z = x .ensures im G m sh in
-          rows-next p (w .base) (l .d) (λ e. groupRecs p (w .base) (recsOn (segmentIn p im (a .pointers .now) w) e)) (l .at) (x .last .1 .1 .1 .1 .1 .0)
-          (omega (arith, group-len-le p (w .base), ranged p (q .0) .group-high)) (l .inv .2 im G m sh) (z .0) (z .1),
+      λ off im G m sh.
+          let z = x .ensures off im G m sh in
+          rows-next p (w .base) (l .d) (λ e. groupRecs p (w .base) (recsOn (segmentIn p off im (a .pointers .now) w) e)) (l .at) (x .last .1 .1 .1 .1 .1 .0)
+          (omega (arith, group-len-le p (w .base), ranged p (q .0) .group-high)) (l .inv .2 off im G m sh) (z .0) (z .1),
     )
 
 same-length : tie.Need-same-length Inv-loop μ-loop
@@ -71,11 +71,11 @@ returns c =
     let l = c .before .before .loop in
     let p = a .p in
     let w = a .w in
-    λ im G m sh.
-    let v = viewOf p im (a .pointers .now) in
+    λ off im G m sh.
+    let v = viewOf p off im (a .pointers .now) in
     indexed-of p v (w .gone) (w .seg) (w .base) (l .at) (omega (arith, ranged p (q .0) .group-low)) (q .1 .1 .1) (q .1 .1 .2)
     (seg-clean p v (w .gone) (w .seg) (G .clean) m)
-    (λ e he. l .inv .2 im G m sh e (omega (arith, he, c .if1 .left)))
+    (λ e he. l .inv .2 off im G m sh e (omega (arith, he, c .if1 .left)))
 
 pub index-group-spec : {M : Type 1} → statement M
 index-group-spec =

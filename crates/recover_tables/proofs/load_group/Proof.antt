@@ -11,48 +11,47 @@ use Rattle.law_drives.specs.Segs.{remaining-low}
 use Rattle.recover_tables.specs.Walk.{Walked, walkCands, walked-turn, walked-low, walked-start, tells-known}
 use Rattle.recover_tables.proofs.load_group.Statement.{statement}
 use Rattle.recover_tables.proofs.load_group.Tie as tie
-use Rattle.law_basic.specs.Segs.{named-zones-low}
 
 abbrev Inv-loop : tie.InvT-loop
-Inv-loop p image pointers addresses₀ compact w serials serial at len next₀ k₀ addresses next k =
+Inv-loop p image pointers offline addresses₀ compact w rows serials owners serial at len next₀ k₀ addresses next k =
     (k ≤ len) × (length addresses ≡ length addresses₀)
-    × Walked p (viewOf p image pointers) (w .gone) compact (w .seg) (upFrom (w .base) k) addresses₀ addresses (next₀ .stamp .0) (next .stamp .0) (next₀ .counted) (next .counted)
+    × Walked p (viewOf p offline image pointers) (w .gone) compact (w .seg) (upFrom (w .base) k) addresses₀ addresses (next₀ .stamp .0) (next .stamp .0) (next₀ .counted) (next .counted)
 
 abbrev μ-loop : tie.MeasureT-loop
-μ-loop p image pointers addresses₀ compact w serials serial at len next₀ k₀ addresses next k = len - k
+μ-loop p image pointers offline addresses₀ compact w rows serials owners serial at len next₀ k₀ addresses next k = len - k
 
 index-group-requires : tie.Need-index-group-requires Inv-loop μ-loop
 index-group-requires c κs =
-    let a = c .before .before .before .before .before .before .before .args in
-    let q = c .before .before .before .before .before .before .before .pre in
+    let a = c .before .before .before .before .before .before .before .before .before .before .args in
+    let q = c .before .before .before .before .before .before .before .before .before .before .pre in
     let x = q .1 .1 .0 in
-    let v : View = viewOf (a .p) (a .image .now) (a .pointers .now) in
-    let low = named-zones-low (a .p) (a .w .gone) (a .w .seg) (remaining-low (a .p) v (a .w .gone) (a .w .seg) (x .4)) in
+    let v : View = viewOf (a .p) (a .offline .now) (a .image .now) (a .pointers .now) in
+    let low = remaining-low (a .p) v (a .w .gone) (q .0 .here) (a .w .seg) (x .4) in
     (q .0 .in-range, ((q .0 .whole .pointers-long, q .0 .compact-long, x .0), (low, x .1, x .2)))
 
 group-len-requires : tie.Need-group-len-requires Inv-loop μ-loop
 group-len-requires c κs =
-    let q = c .before .before .before .before .before .before .before .before .before .before .pre in
+    let q = c .before .before .before .before .before .before .before .before .before .before .before .before .before .pre in
     (q .0 .in-range, q .1 .1 .0 .1)
 
 loop-holds : tie.Need-loop-holds Inv-loop μ-loop
 loop-holds c =
-    let a = c .before .before .before .before .before .before .before .before .before .before .before .args in
-    let v : View = viewOf (a .p) (a .image .now) (a .pointers .now) in
+    let a = c .before .before .before .before .before .before .before .before .before .before .before .before .before .before .args in
+    let v : View = viewOf (a .p) (a .offline .now) (a .image .now) (a .pointers .now) in
     (omega arith, refl, walked-start (a .p) v (a .w .gone) (a .compact .now) (a .w .seg) (a .w .base) (a .addresses .now) (a .t .stamp .0) (a .t .counted))
 
 load-if-requires : tie.Need-load-if-requires Inv-loop μ-loop
 load-if-requires c κs =
-    let a = c .before .before .before .before .before .before .before .before .before .before .before .before .before .before .before .args in
-    let q = c .before .before .before .before .before .before .before .before .before .before .before .before .before .before .before .pre in
+    let a = c .before .before .before .before .before .before .before .before .before .before .before .before .before .before .before .before .before .before .args in
+    let q = c .before .before .before .before .before .before .before .before .before .before .before .before .before .before .before .before .before .before .pre in
     let loop-test = c .before .before .loop-test in
     let l = c .before .before .before .loop in
     let group-len = c .before .before .before .before .group-len in
     let i = c .before .before .before .before .before .before .before .index-group in
     let x = q .1 .1 .0 in
-    let v : View = viewOf (a .p) (a .image .now) (a .pointers .now) in
-    let rd : GroupReads (a .p) (a .image .now) (a .pointers .now) (a .w) (i .last .1 .1 .1 .1 .0) =
-    record { long = q .0 .whole .pointers-long; full-right = x .3; indexed = i .ensures (a .image .now) (q .0) (x .4) (x .5) } in (
+    let v : View = viewOf (a .p) (a .offline .now) (a .image .now) (a .pointers .now) in
+    let rd : GroupReads (a .p) (a .offline .now) (a .image .now) (a .pointers .now) (a .w) (i .last .1 .1 .1 .1 .0) =
+    record { long = q .0 .whole .pointers-long; full-right = x .3; indexed = i .ensures (a .offline .now) (a .image .now) (q .0) (x .4) (x .5) } in (
       q .0,
       (
         q .1 .0,
@@ -76,7 +75,7 @@ load-if-requires c κs =
                 ),
           ),
           tells-known (a .p) v (a .w .gone) (a .compact .now) (a .addresses .now) (l .addresses)
-              (walkCands (a .p) (a .w .gone) (segmentIn (a .p) (a .image .now) (a .pointers .now) (a .w)) (upFrom (a .w .base) (l .k))) (l .inv .2 .tells) (q .1 .1 .1),
+              (walkCands (a .p) (a .w .gone) (segmentIn (a .p) (a .offline .now) (a .image .now) (a .pointers .now) (a .w)) (upFrom (a .w .base) (l .k))) (l .inv .2 .tells) (q .1 .1 .1),
         ),
       ),
     )
@@ -89,16 +88,16 @@ loop-less c = omega arith
 
 loop-again : tie.Need-loop-again Inv-loop μ-loop
 loop-again c =
-    let a = c .before .before .before .before .before .before .before .before .before .before .before .before .before .before .before .before .before .before .args in
+    let a = c .before .before .before .before .before .before .before .before .before .before .before .before .before .before .before .before .before .before .before .before .before .args in
     let l = c .before .before .before .before .before .before .loop in
     let f = c .before .before .load-if in
     let loop-test = c .before .before .before .before .before .loop-test in
     let r = f .result in
     let w = a .w in
-    let v : View = viewOf (a .p) (a .image .now) (a .pointers .now) in (
+    let v : View = viewOf (a .p) (a .offline .now) (a .image .now) (a .pointers .now) in (
       omega (arith, loop-test .taken),
-      f .kept .1 .1 .1 .0 ∙ l .inv .1,
-      walked-turn (a .p) v (w .gone) (a .compact .now) (w .seg) (w .base) (l .k) (a .addresses .now) (l .addresses) (f .last .1 .1 .1 .0)
+      f .kept .1 .1 .1 .1 .0 ∙ l .inv .1,
+      walked-turn (a .p) v (w .gone) (a .compact .now) (w .seg) (w .base) (l .k) (a .addresses .now) (l .addresses) (f .last .1 .1 .1 .1 .0)
           (a .t .stamp .0) (l .next .stamp .0) (r .stamp .0) (a .t .counted) (l .next .counted) (r .counted) (l .inv .2) (f .ensures),
     )
 
@@ -112,9 +111,9 @@ same-length-2 c =
 
 returns : tie.Need-returns Inv-loop μ-loop
 returns c =
-    let a = c .before .before .before .before .before .before .before .before .before .before .before .before .before .args in
+    let a = c .before .before .before .before .before .before .before .before .before .before .before .before .before .before .before .before .args in
     let l = c .before .loop in
-    let v : View = viewOf (a .p) (a .image .now) (a .pointers .now) in
+    let v : View = viewOf (a .p) (a .offline .now) (a .image .now) (a .pointers .now) in
     let e : l .k ≡ groupLen (a .p) (a .w .base) = omega (arith, c .loop-test .left, c .before .before .group-len .ensures .0, l .inv .0) in
     let w = a .w in
     let t = a .t in

@@ -18,34 +18,33 @@ use Rattle.recover_tables.specs.Ready.{lastBase}
 use Rattle.recover_tables.specs.Walk.{Walked, walkCands, walked-none, walked-join, walked-low, tells-known}
 use Rattle.recover_tables.proofs.load_groups.Statement.{statement}
 use Rattle.recover_tables.proofs.load_groups.Tie as tie
-use Rattle.law_basic.specs.Segs.{named-zones-low}
 
 abbrev Inv-loop : tie.InvT-loop
-Inv-loop p image pointers addresses₀ compact gone serials serial seg at₀ full t₀ base₀ addresses at t base =
+Inv-loop p image pointers offline addresses₀ compact gone rows serials owners serial seg at₀ full t₀ base₀ addresses at t base =
     (length addresses ≡ length addresses₀) × (length at ≡ length at₀) × (base % p .G ≡ 0) × (base ≤ lastBase) × (t .counted ≤ base)
-    × Known p (viewOf p image pointers) gone compact addresses
-    × ((tb : List ℕ) (m n : ℕ) → Walked p (viewOf p image pointers) gone compact seg (upFrom base (p .S - base)) addresses tb (t .stamp .0) m (t .counted) n
-    → Walked p (viewOf p image pointers) gone compact seg (below (p .S)) addresses₀ tb (t₀ .stamp .0) m (t₀ .counted) n)
+    × Known p (viewOf p offline image pointers) gone compact addresses
+    × ((tb : List ℕ) (m n : ℕ) → Walked p (viewOf p offline image pointers) gone compact seg (upFrom base (p .S - base)) addresses tb (t .stamp .0) m (t .counted) n
+    → Walked p (viewOf p offline image pointers) gone compact seg (below (p .S)) addresses₀ tb (t₀ .stamp .0) m (t₀ .counted) n)
 
 abbrev μ-loop : tie.MeasureT-loop
-μ-loop p image pointers addresses₀ compact gone serials serial seg at₀ full t₀ base₀ addresses at t base = p .S - base
+μ-loop p image pointers offline addresses₀ compact gone rows serials owners serial seg at₀ full t₀ base₀ addresses at t base = p .S - base
 
 is-sealed-requires : tie.Need-is-sealed-requires Inv-loop μ-loop
 is-sealed-requires c κs =
-    let args = c .before .before .before .before .before .before .args in
-    let pre = c .before .before .before .before .before .before .pre in
+    let args = c .before .before .before .before .before .before .before .before .before .args in
+    let pre = c .before .before .before .before .before .before .before .before .before .pre in
     let a = args in
     let q = pre in
-    let v : View = viewOf (a .p) (a .image .now) (a .pointers .now) in
-    (q .0 .in-range, (q .0 .whole .pointers-long, named-zones-low (a .p) (a .gone) (a .seg) (remaining-low (a .p) v (a .gone) (a .seg) (q .1 .1 .0 .0))))
+    let v : View = viewOf (a .p) (a .offline .now) (a .image .now) (a .pointers .now) in
+    (q .0 .in-range, (q .0 .whole .pointers-long, remaining-low (a .p) v (a .gone) (q .0 .here) (a .seg) (q .1 .1 .0 .0)))
 
 loop-holds : tie.Need-loop-holds Inv-loop μ-loop
 loop-holds c =
-    let args = c .before .before .before .before .before .before .before .args in
-    let pre = c .before .before .before .before .before .before .before .pre in
+    let args = c .before .before .before .before .before .before .before .before .before .before .args in
+    let pre = c .before .before .before .before .before .before .before .before .before .before .pre in
     let a = args in
     let q = pre in
-    let v : View = viewOf (a .p) (a .image .now) (a .pointers .now) in (
+    let v : View = viewOf (a .p) (a .offline .now) (a .image .now) (a .pointers .now) in (
       refl,
       refl,
       zero-mod (a .p .G),
@@ -57,8 +56,8 @@ loop-holds c =
 
 load-group-requires : tie.Need-load-group-requires Inv-loop μ-loop
 load-group-requires c κs =
-    let args = c .before .before .before .before .before .before .before .before .before .before .before .before .args in
-    let pre = c .before .before .before .before .before .before .before .before .before .before .before .before .pre in
+    let args = c .before .before .before .before .before .before .before .before .before .before .before .before .before .before .before .args in
+    let pre = c .before .before .before .before .before .before .before .before .before .before .before .before .before .before .before .pre in
     let loop = c .before .before .before .before .loop in
     let if1 = c .before .before .if1 in
     let is-sealed = c .before .before .before .before .before .is-sealed in
@@ -73,7 +72,7 @@ load-group-requires c κs =
             l .inv .1 ∙ q .1 .1 .1 .1,
             if1 .taken,
             l .inv .2,
-            is-sealed .ensures (a .image .now) (q .0 .whole .image-long),
+            is-sealed .ensures (a .offline .now) (a .image .now) (q .0 .whole .image-long),
             q .1 .1 .0 .0,
             q .1 .1 .0 .1,
             l .inv .4,
@@ -87,23 +86,23 @@ add-base : tie.Need-add-base Inv-loop μ-loop
 add-base c =
     let c1 = c .before .before .before .before .before .before .before .before .before .before .before .before .before .before .before .before in
     let loop = c .before .before .before .before .before .before .before .before .before .before .loop in
-    let args = c1 .before .before .args in
-    let pre = c1 .before .before .pre in
+    let args = c1 .before .before .before .before .before .args in
+    let pre = c1 .before .before .before .before .before .pre in
     omega (arith, loop .inv .3, ranged (args .p) (pre .0 .in-range) .group-high)
 
 loop-less : tie.Need-loop-less Inv-loop μ-loop
 loop-less c =
     let c1 = c .before .before .before .before .before .before .before .before .before .before .before .before .before .before .before .before in
     let if1 = c .before .before .before .before .before .before .before .before .if1 in
-    let args = c1 .before .before .args in
-    let pre = c1 .before .before .pre in
+    let args = c1 .before .before .before .before .before .args in
+    let pre = c1 .before .before .before .before .before .pre in
     omega (arith, if1 .taken, ranged (args .p) (pre .0 .in-range) .group-low)
 
 loop-again : tie.Need-loop-again Inv-loop μ-loop
 loop-again c =
     let c1 = c .before .before .before .before .before .before .before .before .before .before .before .before .before .before .before .before in
-    let args = c1 .before .before .args in
-    let pre = c1 .before .before .pre in
+    let args = c1 .before .before .before .before .before .args in
+    let pre = c1 .before .before .before .before .before .pre in
     let loop = c .before .before .before .before .before .before .before .before .before .before .loop in
     let load-group = c .before .before .before .before .before .load-group in
     let if1 = c .before .before .before .before .before .before .before .before .if1 in
@@ -113,13 +112,13 @@ loop-again c =
     let x = load-group in
     let i = if1 .taken in
     let r : Ranged (a .p) = ranged (a .p) (q .0 .in-range) in
-    let v : View = viewOf (a .p) (a .image .now) (a .pointers .now) in
+    let v : View = viewOf (a .p) (a .offline .now) (a .image .now) (a .pointers .now) in
     let gs : List ℕ = upFrom (l .base) (groupLen (a .p) (l .base)) in
     let w = x .ensures in
-    let tb = x .last .1 .1 .1 .0 in
+    let tb = x .last .1 .1 .1 .1 .0 in
     let n = walked-low (a .p) v (a .gone) (a .compact .now) (a .seg) gs (l .addresses) tb (l .t .stamp .0) (x .result .stamp .0) (l .t .counted) (x .result .counted) w in (
-      x .kept .1 .1 .1 .0 ∙ l .inv .0,
-      x .kept .1 .1 .1 .1 .1 .1 .1 .1 .0 ∙ l .inv .1,
+      x .kept .1 .1 .1 .1 .0 ∙ l .inv .0,
+      x .kept .1 .1 .1 .1 .1 .1 .1 .1 .1 .1 .1 .0 ∙ l .inv .1,
       base-next (l .base) (a .p .G) (l .inv .2),
       omega (arith, i, r .stripes-high, r .group-high),
       omega (arith, n, length-upFrom (l .base) (groupLen (a .p) (l .base)), group-len-le (a .p) (l .base), l .inv .4),
@@ -143,12 +142,12 @@ same-length-2 c =
 
 returns : tie.Need-returns Inv-loop μ-loop
 returns c =
-    let args = c .before .before .before .before .before .before .before .before .before .before .args in
+    let args = c .before .before .before .before .before .before .before .before .before .before .before .before .before .args in
     let loop = c .before .before .loop in
     let if1 = c .if1 in
     let a = args in
     let l = loop in
-    let v : View = viewOf (a .p) (a .image .now) (a .pointers .now) in
+    let v : View = viewOf (a .p) (a .offline .now) (a .image .now) (a .pointers .now) in
     l .inv .6 (l .addresses) (l .t .stamp .0) (l .t .counted)
     (subst (λ (y : List ℕ). Walked (a .p) v (a .gone) (a .compact .now) (a .seg) y (l .addresses) (l .addresses) (l .t .stamp .0) (l .t .stamp .0) (l .t .counted)
     (l .t .counted)) (sym (upFrom-end (l .base) (a .p .S) (omega (arith, if1 .left))))

@@ -1,69 +1,68 @@
--- `load_segments`: the segments below g are toured, and next is the open one's count where it is below g and remains; one turn tours g. Assumes nothing.
+-- `load_segments`: the segments below z are toured, and next is the open one's count where it is below z and remains; one turn tours z. Assumes nothing.
 use mathlib.Core.Path.{_≡_, refl, sym, ap, _∙_, subst}
 use mathlib.Core.Bool.{Bool, true, false}
 use Prim.Native.Nat.{ℕ, _-_, _≤_, _<_}
 use native.Mathlib.Omega.{arith}
 use lib.ListN.{length, getD}
-use Rattle.spec.specs.Drives.{View, viewOf, across}
+use Rattle.spec.specs.Drives.{View, viewOf}
 use Rattle.spec.specs.Segments.{segmentOf, counted}
 use Rattle.law_basic.specs.Geometry.{ranged}
 use Rattle.law_drives.specs.Rebuilding.{counted-low}
-use Rattle.law_drives.specs.Tables.{remains}
-use Rattle.recover_tables.specs.Ready.{kept-is, next-turn, next-now}
+use Rattle.law_drives.specs.Tables.{segAt, remainsAt}
+use Rattle.recover_tables.specs.Ready.{next-turn, next-now}
 use Rattle.recover_tables.specs.Walk.{Toured, toured-none}
 use Rattle.recover_tables.proofs.load_segments.Statement.{statement}
 use Rattle.recover_tables.proofs.load_segments.Tie as tie
 
 abbrev Inv-loop : tie.InvT-loop
-Inv-loop p image pointers addresses₀ compact₀ gone serials kept opened at₀ h₀ g₀ addresses compact at h g =
-    (g ≤ p .Z) × (length addresses ≡ length addresses₀) × (length compact ≡ length compact₀) × (length at ≡ length at₀)
-    × Toured p (viewOf p image pointers) gone g compact addresses (h .stamp .0) × (h .next ≤ p .S)
-    × (opened < g → remains p (viewOf p image pointers) gone (across p opened) ≡ true → h .next ≡ length (counted p gone (segmentOf p (viewOf p image pointers) gone (across p opened))))
+Inv-loop p image pointers offline addresses₀ compact₀ gone rows serials owners kept opened at₀ h₀ z₀ addresses compact at h z =
+    (z ≤ p .Z) × (length addresses ≡ length addresses₀) × (length compact ≡ length compact₀) × (length at ≡ length at₀)
+    × Toured p (viewOf p offline image pointers) gone z compact addresses (h .stamp .0) × (h .next ≤ p .S)
+    × (opened < z → remainsAt p (viewOf p offline image pointers) gone opened ≡ true
+    → h .next ≡ length (counted p gone (segmentOf p (viewOf p offline image pointers) gone (segAt p (viewOf p offline image pointers) gone opened))))
 
 abbrev μ-loop : tie.MeasureT-loop
-μ-loop p image pointers addresses₀ compact₀ gone serials kept opened at₀ h₀ g₀ addresses compact at h g = p .Z - g
+μ-loop p image pointers offline addresses₀ compact₀ gone rows serials owners kept opened at₀ h₀ z₀ addresses compact at h z = p .Z - z
 
 loop-holds : tie.Need-loop-holds Inv-loop μ-loop
 loop-holds c =
-    let args = c .before .before .before .before .before .before .before .args in
-    let pre = c .before .before .before .before .before .before .before .pre in
-    let a = args in
-    let q = pre in (
+    let a = c .before .before .before .before .before .before .before .before .before .before .args in
+    let q = c .before .before .before .before .before .before .before .before .before .before .pre in
+    let e = q .1 .1 .1 in (
       omega arith,
       refl,
       refl,
       refl,
-      toured-none (a .p) (viewOf (a .p) (a .image .now) (a .pointers .now)) (a .gone) (a .compact .now) (a .addresses .now) (q .0 .compact-long) (q .1 .1 .1 .0),
+      toured-none (a .p) (viewOf (a .p) (a .offline .now) (a .image .now) (a .pointers .now)) (a .gone) (q .0 .here) (a .compact .now) (a .addresses .now) (e .1) (e .0),
       omega arith,
-      λ l. absurd (let z : ⊥ = omega arith in z),
+      λ l. absurd (let bad : ⊥ = omega arith in bad),
     )
 
 shared-slice-read-load-segment : tie.Need-shared-slice-read-load-segment Inv-loop μ-loop
 shared-slice-read-load-segment c =
-    let args = c .before .before .before .before .before .before .before .before .before .before .before .before .before .args in
-    let pre = c .before .before .before .before .before .before .before .before .before .before .before .before .before .pre in
-    let if1 = c .before .before .before .if1 in
-    let a = args in
-    let q = pre in
-    omega (arith, if1 .taken, q .1 .1 .0 .0, ranged (a .p) (q .0 .in-range) .zones-high)
+    let a = c .before .before .before .before .before .before .before .before .before .before .before .before .before .before .before .before .args in
+    let q = c .before .before .before .before .before .before .before .before .before .before .before .before .before .before .before .before .pre in
+    omega (arith, c .before .before .before .if1 .taken, q .1 .1 .0 .0, ranged (a .p) (q .0 .in-range) .zones-high)
 
 load-segment-requires : tie.Need-load-segment-requires Inv-loop μ-loop
 load-segment-requires c κs =
-    let args = c .before .before .before .before .before .before .before .before .before .before .before .before .before .before .args in
-    let pre = c .before .before .before .before .before .before .before .before .before .before .before .before .before .before .pre in
-    let loop = c .before .before .before .before .before .before .loop in
-    let if1 = c .before .before .before .before .if1 in
-    let a = args in
-    let q = pre in
-    let l = loop in
-    let i = if1 .taken in
-    let v : View = viewOf (a .p) (a .image .now) (a .pointers .now) in (
-      record { in-range = q .0 .in-range; whole = q .0 .whole; clean = q .0 .clean; compact-long = l .inv .2 ∙ q .0 .compact-long },
-      (q .1 .0, ((i, kept-is (a .p) v (a .gone) (across (a .p) (l .g)) (getD (a .kept .now) (l .g) false) (q .1 .1 .0 .1 (l .g) i)), (l .inv .4, l .inv .3 ∙ q .1 .1 .1 .1))),
+    let a = c .before .before .before .before .before .before .before .before .before .before .before .before .before .before .before .before .before .args in
+    let q = c .before .before .before .before .before .before .before .before .before .before .before .before .before .before .before .before .before .pre in
+    let l = c .before .before .before .before .before .before .loop in
+    let i = c .before .before .before .before .if1 .taken in (
+      record {
+        in-range = q .0 .in-range;
+        whole = q .0 .whole;
+        here = q .0 .here;
+        apart = q .0 .apart;
+        clean = q .0 .clean;
+        compact-long = l .inv .2 ∙ q .0 .compact-long;
+      },
+      (q .1 .0, ((i, q .1 .1 .0 .1 (l .z) i), (l .inv .4, l .inv .3 ∙ q .1 .1 .1 .2))),
     )
 
-add-g : tie.Need-add-g Inv-loop μ-loop
-add-g c = omega arith
+add-z : tie.Need-add-z Inv-loop μ-loop
+add-z c = omega arith
 
 loop-less : tie.Need-loop-less Inv-loop μ-loop
 loop-less c = omega arith
@@ -71,29 +70,24 @@ loop-less c = omega arith
 loop-again : tie.Need-loop-again Inv-loop μ-loop
 loop-again c =
     let c1 = c .before .before .before .before .before .before .before .before .before .before .before .before .before .before .before .before in
-    let args = c1 .before .before .before .before .before .args in
-    let pre = c1 .before .before .before .before .before .pre in
-    let loop = c .before .before .before .before .before .before .before .before .before .before .before .before .before .loop in
-    let load-segment = c .before .before .before .before .before .before .load-segment in
-    let if1 = c .before .before .before .before .before .before .before .before .before .before .before .if1 in
-    let a = args in
-    let q = pre in
-    let l = loop in
-    let x = load-segment in
-    let i = if1 .taken in
-    let v : View = viewOf (a .p) (a .image .now) (a .pointers .now) in
-    let b : Bool = getD (a .kept .now) (l .g) false in
-    let eb : b ≡ remains (a .p) v (a .gone) (across (a .p) (l .g)) = kept-is (a .p) v (a .gone) (across (a .p) (l .g)) b (q .1 .1 .0 .1 (l .g) i) in
-    let f : ℕ → ℕ = λ n. length (counted (a .p) (a .gone) (segmentOf (a .p) v (a .gone) (across (a .p) n))) in
+    let a = c1 .before .before .before .before .before .before .before .before .args in
+    let q = c1 .before .before .before .before .before .before .before .before .pre in
+    let l = c .before .before .before .before .before .before .before .before .before .before .before .before .before .loop in
+    let x = c .before .before .before .before .before .before .load-segment in
+    let i = c .before .before .before .before .before .before .before .before .before .before .before .if1 .taken in
+    let v : View = viewOf (a .p) (a .offline .now) (a .image .now) (a .pointers .now) in
+    let b : Bool = getD (a .kept .now) (l .z) false in
+    let eb : b ≡ remainsAt (a .p) v (a .gone) (l .z) = q .1 .1 .0 .1 (l .z) i in
+    let f : ℕ → ℕ = λ n. length (counted (a .p) (a .gone) (segmentOf (a .p) v (a .gone) (segAt (a .p) v (a .gone) n))) in
     let r = x .result in
     let e = x .ensures in (
       omega (arith, i),
-      x .kept .1 .1 .1 .0 ∙ l .inv .1,
-      x .kept .1 .1 .1 .1 .0 ∙ l .inv .2,
-      x .kept .1 .1 .1 .1 .1 .1 .1 .1 .1 .1 .0 ∙ l .inv .3,
+      x .kept .1 .1 .1 .1 .0 ∙ l .inv .1,
+      x .kept .1 .1 .1 .1 .1 .0 ∙ l .inv .2,
+      x .kept .1 .1 .1 .1 .1 .1 .1 .1 .1 .1 .1 .1 .1 .0 ∙ l .inv .3,
       e .0,
-      next-turn (a .p .S) (a .opened) (l .g) (f (l .g)) (l .h .next) (r .next) b (e .1) (l .inv .5) (counted-low (a .p) (a .gone) (segmentOf (a .p) v (a .gone) (across (a .p) (l .g)))),
-      λ u y. next-now (a .opened) (l .g) (l .h .next) (r .next) f b (e .1) (λ z. l .inv .6 z y) (λ z. eb ∙ ap (λ (n : ℕ). remains (a .p) v (a .gone) (across (a .p) n)) z ∙ y) u,
+      next-turn (a .p .S) (a .opened) (l .z) (f (l .z)) (l .h .next) (r .next) b (e .1) (l .inv .5) (counted-low (a .p) (a .gone) (segmentOf (a .p) v (a .gone) (segAt (a .p) v (a .gone) (l .z)))),
+      λ u y. next-now (a .opened) (l .z) (l .h .next) (r .next) f b (e .1) (λ w. l .inv .6 w y) (λ w. eb ∙ ap (remainsAt (a .p) v (a .gone)) w ∙ y) u,
     )
 
 same-length : tie.Need-same-length Inv-loop μ-loop
@@ -113,13 +107,10 @@ same-length-3 c =
 
 returns : tie.Need-returns Inv-loop μ-loop
 returns c =
-    let args = c .before .before .before .before .before .before .before .before .before .before .args in
-    let loop = c .before .before .loop in
-    let if1 = c .if1 in
-    let a = args in
-    let l = loop in
-    let v : View = viewOf (a .p) (a .image .now) (a .pointers .now) in
-    let e : l .g ≡ a .p .Z = omega (arith, if1 .left, l .inv .0) in (
+    let a = c .before .before .before .before .before .before .before .before .before .before .before .before .before .args in
+    let l = c .before .before .loop in
+    let v : View = viewOf (a .p) (a .offline .now) (a .image .now) (a .pointers .now) in
+    let e : l .z ≡ a .p .Z = omega (arith, c .if1 .left, l .inv .0) in (
       subst (λ (n : ℕ). Toured (a .p) v (a .gone) n (l .compact) (l .addresses) (l .h .stamp .0)) e (l .inv .4),
       (l .inv .5, λ x y. l .inv .6 (subst (λ (n : ℕ). a .opened < n) (sym e) x) y),
     )
@@ -133,7 +124,7 @@ load-segments-spec =
     loop-holds
     shared-slice-read-load-segment
     load-segment-requires
-    add-g
+    add-z
     loop-less
     loop-again
     same-length

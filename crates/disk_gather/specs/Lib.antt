@@ -1,0 +1,4 @@
+pub mod Flags
+pub mod Index
+pub mod Found
+pub mod Owners
