@@ -1,6 +1,7 @@
 //! Counts of what random scripts meet: calls with their answers, faults of refusal 9, and what gathering finds.
 
 use crate::array::Answer;
+use crate::faults::IN_RESTART;
 use crate::generate::generate;
 use crate::rng::Rng;
 use crate::script::Command;
@@ -19,25 +20,6 @@ pub struct Cover {
 
 /// The calls, each with the answers that it can give and what it can meet in each.
 type Row = (&'static str, &'static [(&'static str, &'static [&'static str])]);
-
-/// Faults of refusal 9 in restart and rebuild.
-const FAULTS: &[&str] = &[
-    "pointer",
-    "header",
-    "unequal",
-    "serial",
-    "names offline",
-    "names beyond",
-    "names another",
-    "names a clash",
-    "twice",
-    "group",
-    "repeated",
-    "address",
-    "decoded",
-    "footer",
-    "unsealed",
-];
 
 const LANDING: &[&str] = &[
     "no segment",
@@ -154,8 +136,8 @@ const CALLS: [Row; 9] = [
             ("2", &["buffer", "list"]),
             ("6", &[""]),
             ("8", &[""]),
-            ("9", FAULTS),
-            ("9 alone", FAULTS),
+            ("9", IN_RESTART),
+            ("9 alone", IN_RESTART),
             ("10", &[""]),
         ],
     ),
@@ -166,8 +148,8 @@ const CALLS: [Row; 9] = [
             ("cut", &[""]),
             ("1", &["", "narrow"]),
             ("2", &["buffer", "list"]),
-            ("9", FAULTS),
-            ("9 alone", FAULTS),
+            ("9", IN_RESTART),
+            ("9 alone", IN_RESTART),
             ("10", &[""]),
         ],
     ),

@@ -35,6 +35,9 @@ pub const WORDS: [&str; 26] = [
     "decode",
 ];
 
+/// Those of restart and rebuild.
+pub const IN_RESTART: &[&str] = WORDS.split_at(16).0.split_at(1).1;
+
 /// A set of such words.
 #[derive(Clone, Copy, PartialEq, Eq, Debug, Default)]
 pub struct Words(u32);
