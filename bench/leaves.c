@@ -8,6 +8,8 @@
 #include <string.h>
 #include <time.h>
 
+#include "sorgizhed.h"
+
 // The exports of the crate bench_leaves. They test the lengths, and so do the functions in C.
 extern void leaf_xor(uint8_t *dst, size_t dst_len, const uint8_t *src, size_t src_len);
 extern void leaf_xor_part(uint8_t *dst, size_t dst_len, size_t at, const uint8_t *src, size_t src_len);
@@ -140,29 +142,30 @@ static void own_put64(uint8_t *p, uint64_t v) { memcpy(p, &v, 8); }
 typedef struct {
     uint8_t live, missing;
     uint64_t stamp, serial;
-    uint32_t opened, next;
+    uint64_t opened;
+    uint32_t next;
     uint32_t numbers[8];
     uint8_t filled[8], writes[8], landed[8];
     uint64_t addresses[64], stamps[64];
     uint32_t offsets[64];
 } state;
 
-enum { STATE_LEN = 1362 };
+enum { STATE_LEN = SORGIZHED_STATE_LENGTH };
 
 static void c_decode(state *st, const uint8_t *p) {
     st->live = p[0];
     st->missing = p[1];
     st->stamp = own_get64(p + 2);
     st->serial = own_get64(p + 10);
-    st->opened = own_get32(p + 18);
-    st->next = own_get32(p + 22);
-    for (int i = 0; i < 8; i++) st->numbers[i] = own_get32(p + 26 + 4 * i);
-    memcpy(st->filled, p + 58, 8);
-    memcpy(st->writes, p + 66, 8);
-    memcpy(st->landed, p + 74, 8);
-    for (int i = 0; i < 64; i++) st->addresses[i] = own_get64(p + 82 + 8 * i);
-    for (int i = 0; i < 64; i++) st->stamps[i] = own_get64(p + 594 + 8 * i);
-    for (int i = 0; i < 64; i++) st->offsets[i] = own_get32(p + 1106 + 4 * i);
+    st->opened = own_get64(p + 18);
+    st->next = own_get32(p + 26);
+    for (int i = 0; i < 8; i++) st->numbers[i] = own_get32(p + 30 + 4 * i);
+    memcpy(st->filled, p + 62, 8);
+    memcpy(st->writes, p + 70, 8);
+    memcpy(st->landed, p + 78, 8);
+    for (int i = 0; i < 64; i++) st->addresses[i] = own_get64(p + 86 + 8 * i);
+    for (int i = 0; i < 64; i++) st->stamps[i] = own_get64(p + 598 + 8 * i);
+    for (int i = 0; i < 64; i++) st->offsets[i] = own_get32(p + 1110 + 4 * i);
 }
 
 static void c_encode(uint8_t *p, const state *st) {
@@ -170,15 +173,15 @@ static void c_encode(uint8_t *p, const state *st) {
     p[1] = st->missing;
     own_put64(p + 2, st->stamp);
     own_put64(p + 10, st->serial);
-    own_put32(p + 18, st->opened);
-    own_put32(p + 22, st->next);
-    for (int i = 0; i < 8; i++) own_put32(p + 26 + 4 * i, st->numbers[i]);
-    memcpy(p + 58, st->filled, 8);
-    memcpy(p + 66, st->writes, 8);
-    memcpy(p + 74, st->landed, 8);
-    for (int i = 0; i < 64; i++) own_put64(p + 82 + 8 * i, st->addresses[i]);
-    for (int i = 0; i < 64; i++) own_put64(p + 594 + 8 * i, st->stamps[i]);
-    for (int i = 0; i < 64; i++) own_put32(p + 1106 + 4 * i, st->offsets[i]);
+    own_put64(p + 18, st->opened);
+    own_put32(p + 26, st->next);
+    for (int i = 0; i < 8; i++) own_put32(p + 30 + 4 * i, st->numbers[i]);
+    memcpy(p + 62, st->filled, 8);
+    memcpy(p + 70, st->writes, 8);
+    memcpy(p + 78, st->landed, 8);
+    for (int i = 0; i < 64; i++) own_put64(p + 86 + 8 * i, st->addresses[i]);
+    for (int i = 0; i < 64; i++) own_put64(p + 598 + 8 * i, st->stamps[i]);
+    for (int i = 0; i < 64; i++) own_put32(p + 1110 + 4 * i, st->offsets[i]);
 }
 
 PLAIN void c_state(uint8_t *dst, size_t dst_len, const uint8_t *src, size_t src_len, size_t k, uint32_t v) {
