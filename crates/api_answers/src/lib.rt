@@ -1,4 +1,6 @@
 // What the host hears of a call, in C: an answer as numbers, the state as bytes (01, The array; Store count; Refusals).
+#![tactic(auto)]
+
 ghost use Rattle.std.specs.Prelude.{◌≡◌, cond, ◌&&◌, length};
 ghost use Rattle.spec.specs.Host.{told_of};
 ghost use Rattle.law_lent.specs.Shorts.{short_answer};

@@ -1,6 +1,8 @@
 // The calls of the host, in C: numbers and byte buffers, the state as bytes (01, The array). Reads look at the state's bytes where they lie. Write,
 // closing, landing and reclaim take the state by value with its bytes, and what they change is written there. Restart and rebuild make a whole state,
 // and encode it. A refusal leaves the bytes.
+#![tactic(auto)]
+
 ghost use Rattle.std.specs.Prelude.{◌≡◌, cond, [], ℕ};
 ghost use Rattle.spec.specs.Host.{heard, hears, lending};
 ghost use Rattle.spec.specs.Engine.{call_bytes};

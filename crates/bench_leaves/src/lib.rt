@@ -1,4 +1,6 @@
 // The leaves for bench/leaves: exports for C that test the lengths which the leaves require, and change nothing where they differ.
+#![tactic(auto)]
+
 ghost use Rattle.std.specs.Prelude.{◌≡◌, cond, ◌&&◌, ◌+◌, ◌*◌, ◌/◌, ◌≤◌, leb, eqb, length, replicate};
 ghost use Rattle.spec.specs.Bytes.{to_be, part, splice, xors, xor_all};
 ghost use Rattle.spec.specs.Lists.{up_from, flat};

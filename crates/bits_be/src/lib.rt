@@ -1,4 +1,6 @@
 // Big-endian numbers in bytes (01, The array).
+#![tactic(auto)]
+
 ghost use Rattle.std.specs.Prelude.{◌≡◌, ◌+◌, ◌≤◌, ◌<◌, length};
 ghost use Rattle.spec.specs.Bytes.{be_of, to_be, part, splice};
 

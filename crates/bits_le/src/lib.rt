@@ -1,4 +1,6 @@
 // Little-endian numbers in bytes (01, The array: the state).
+#![tactic(auto)]
+
 ghost use Rattle.std.specs.Prelude.{◌≡◌, ◌+◌, ◌≤◌, length};
 ghost use Rattle.spec.specs.Bytes.{le_of, to_le, part, splice};
 

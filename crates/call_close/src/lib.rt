@@ -1,4 +1,6 @@
 // Closing (01, Closing). It makes no store, so it is never cut.
+#![tactic(auto)]
+
 ghost use Rattle.std.specs.Prelude.{◌≡◌, true, not, [], ℕ, ◌-◌, ◌≤◌, ◌<◌, ltb, length};
 ghost use Rattle.mem_calls.specs.Left.{checked};
 ghost use Rattle.call_close.specs.Order.{close_refusal, lasts};

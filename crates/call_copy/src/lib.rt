@@ -1,4 +1,6 @@
 // A live block copied into the filling stripe (01, Reclaim).
+#![tactic(auto)]
+
 ghost use Rattle.std.specs.Prelude.{◌≡◌, true, false, [], ◌*◌, ◌≤◌, ◌<◌, length};
 ghost use Rattle.call_copy.specs.Copying.{sent_plan, CopyReady};
 ghost use Rattle.spec.specs.Bytes.{part};

@@ -1,4 +1,6 @@
 // The write call with the write of no bytes, which ends a scan (02, item 1). A write of no bytes makes no store, so it is never cut.
+#![tactic(auto)]
+
 ghost use Rattle.std.specs.Prelude.{◌≡◌, [], ℕ, length};
 ghost use Rattle.mem_calls.specs.Left.{checked};
 ghost use Rattle.spec.specs.Drives.{mk_disk};

@@ -1,5 +1,7 @@
 // What write, copy and closing share: which stripe takes a block, opening a segment, a data position filled (01, Write; Refusals, 6 to 8). Each question to the state is asked
 // once, of its front; a stripe goes by value.
+#![tactic(auto)]
+
 ghost use Rattle.std.specs.Prelude.{◌≡◌, true, false, cond, not, ◌&&◌, List, ℕ, ◌*◌, ◌<◌, leb, eqb, length, replicate};
 ghost use Rattle.std.specs.Int.Bits.{bit_or};
 ghost use Rattle.spec.specs.declared.Answer.TheVariants.{Cut};
@@ -99,7 +101,7 @@ fn must_open(p: Params, f: Front) -> bool
 }
 
 // Where a block goes: whether a stripe begins, whether a segment is opened for it, and the eighth that takes it.
-#[derive(Drop)]
+#[derive(Clone, Copy)]
 pub struct Aim {
     pub begins: bool,
     pub opens: bool,
@@ -226,7 +228,7 @@ pub fn scarce(p: Params, pointers: &[u8], offline: &[u8], n: usize) -> bool
 // ---- a segment opened
 
 // Whether the store count was too small, and the numbers in front with the segment open.
-#[derive(Drop)]
+#[derive(Clone, Copy)]
 pub struct Opened {
     pub cut: bool,
     pub serial: Serial,
@@ -345,7 +347,7 @@ pub fn next_drive(p: Params, row: Row) -> usize
 }
 
 // What filling a data position gives beside the in-flight buffer.
-#[derive(Drop)]
+#[derive(Clone, Copy)]
 pub struct Put {
     pub row: Row,
     pub drive: usize,
@@ -388,7 +390,7 @@ fn begun(row: Row, number: u32) -> Row
 }
 
 // What sending a block gives beside the in-flight buffer.
-#[derive(Drop)]
+#[derive(Clone, Copy)]
 pub struct Taken {
     pub row: Row,
     pub next: u32,

@@ -1,4 +1,6 @@
 // The landing call (01, Landing).
+#![tactic(auto)]
+
 ghost use Rattle.std.specs.Prelude.{◌≡◌, true, List, [], ◌∷◌, ℕ, ◌+◌, ◌-◌, ◌≤◌, ◌<◌, eqb, length, set, replicate};
 ghost use Rattle.mem_calls.specs.Left.{checked};
 ghost use Rattle.spec.specs.Calls.{first_refusal};
@@ -34,7 +36,7 @@ use spec::{Answer, Params, Seg, Serial, State};
 
 // What a landing asks of the state, once: the stripe's eighth (8: not in flight) and its row, whether the chunk completes the stripe, and whether it seals
 // the segment.
-#[derive(Drop)]
+#[derive(Clone, Copy)]
 pub struct Look {
     pub slot: usize,
     pub done: bool,
@@ -44,14 +46,14 @@ pub struct Look {
 
 // 02, item 4: the open segment: its zone on the landing's drive, Z where no remaining segment has the open serial; and, where the stripe completes, all of
 // its zones.
-#[derive(Drop)]
+#[derive(Clone, Copy)]
 pub struct Target {
     pub zone: usize,
     pub segment: Seg,
 }
 
 // What the checks of a landing come to: the first refusal, if there is one; else the open segment.
-#[derive(Drop)]
+#[derive(Clone, Copy)]
 pub struct Sight {
     pub check: Check,
     pub target: Target,

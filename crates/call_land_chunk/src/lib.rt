@@ -1,4 +1,6 @@
 // A stripe in flight as a landing asks about it: whether a chunk waits, whether it completes the stripe, its record (01, Landing).
+#![tactic(auto)]
+
 ghost use Rattle.std.specs.Prelude.{◌≡◌, true, ◌&&◌, ◌≤◌, ◌<◌, ltb, eqb};
 ghost use Rattle.spec.specs.Landing.{ready, completes, flight_rec, writes_in};
 ghost use Rattle.spec.specs.Memory.{slot_count, stripe_in, filled_in_of, entry_in_of, entries_in, offset_in};

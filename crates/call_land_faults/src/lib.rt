@@ -1,4 +1,6 @@
 // What is wrong with a landing on the drives and in the address table: its bad zones, the lowest of them (01, Refusals, 9).
+#![tactic(auto)]
+
 ghost use Rattle.std.specs.Prelude.{◌≡◌, true, cond, List, [], ℕ, ◌≤◌, ◌<◌, ltb, length};
 ghost use Rattle.spec.specs.Drives.{view_of, mk_disk, zone_on};
 ghost use Rattle.spec.specs.Landing.{misplaced, overfull, entry_faults};

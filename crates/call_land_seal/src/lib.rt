@@ -1,4 +1,6 @@
 // Footers on every drive of a segment (01, Landing: the landing after which all stripes are complete also stores the footers).
+#![tactic(auto)]
+
 ghost use Rattle.std.specs.Prelude.{◌≡◌, true, List, ℕ, ◌+◌, ◌≤◌, ◌<◌};
 ghost use Rattle.spec.specs.Drives.{view_of, mk_disk, pointer_of, zone_on};
 ghost use Rattle.spec.specs.Landing.{seal_stores};

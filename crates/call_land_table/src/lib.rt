@@ -1,4 +1,6 @@
 // The address table when a stripe completes: what it holds and all of the stripe's records compete at once (01, The calls, last paragraph; Landing).
+#![tactic(auto)]
+
 ghost use Rattle.std.specs.Prelude.{◌≡◌, true, List, ◌∷◌, ℕ, ◌≤◌, ◌<◌, length, get_or};
 ghost use Rattle.spec.specs.Drives.{View, view_of, mk_disk, zone_on};
 ghost use Rattle.spec.specs.Landing.{held_cand, held, landed_cand, landed_cands, pointed};

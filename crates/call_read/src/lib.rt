@@ -1,4 +1,6 @@
 // The two read calls (01, Read). They change neither drives nor memory, and take the state as its bytes: what they ask of it, they read there.
+#![tactic(auto)]
+
 ghost use Rattle.std.specs.Prelude.{◌≡◌, true, false, List, [], ℕ, ◌+◌, ◌<◌, length, get_or};
 ghost use Rattle.spec.specs.Bytes.{part};
 ghost use Rattle.spec.specs.Calls.{mk_after};
@@ -31,7 +33,7 @@ use mem_lookup::Found;
 use spec::{Address, Answer, Params, Place, Seg, Serial, Stamp};
 
 // 01, Refusals; Read: a refusal, or where the address lies, with the stamp.
-#[derive(Drop)]
+#[derive(Clone, Copy)]
 pub enum Sought {
     Bad(Answer),
     Never,

@@ -1,4 +1,6 @@
 // The rebuild call (01, Rebuild).
+#![tactic(auto)]
+
 ghost use Rattle.std.specs.Prelude.{◌≡◌, true, ◌&&◌, [], ltb, eqb};
 ghost use Rattle.mem_calls.specs.Left.{checked};
 ghost use Rattle.spec.specs.Host.{after};

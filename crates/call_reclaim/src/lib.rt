@@ -1,4 +1,6 @@
 // Reclaim (01, Reclaim).
+#![tactic(auto)]
+
 ghost use Rattle.std.specs.Prelude.{◌≡◌, true, cond, ◌&&◌, List, [], ◌∷◌, ◌++◌, ℕ, ◌<◌, length};
 ghost use Rattle.mem_calls.specs.Left.{checked};
 ghost use Rattle.spec.specs.declared.Answer.TheVariants.{BadZone};
@@ -82,7 +84,7 @@ fn has_fault(p: Params, bytes: &[u8], outside: bool) -> bool
 }
 
 // What reclaim does: refuse, reset a segment, or copy the block at a place of a segment.
-#[derive(Drop)]
+#[derive(Clone, Copy)]
 pub enum Choice {
     Refuse(Answer),
     Clear,
@@ -90,7 +92,7 @@ pub enum Choice {
 }
 
 // The same with the segment.
-#[derive(Drop)]
+#[derive(Clone, Copy)]
 pub struct Picked {
     pub choice: Choice,
     pub segment: Seg,

@@ -1,5 +1,7 @@
 // Entries of the address table, counted by segment (01, Reclaim): no segment has more live blocks than entries. A segment goes by its zone on
 // drive 0, and 1024 stands for the zones that none has (02, item 4).
+#![tactic(auto)]
+
 ghost use Rattle.std.specs.Prelude.{◌≡◌, true, ◌+◌, ◌*◌, ◌/◌, ◌≤◌, ◌<◌, length, get_or};
 ghost use mir.Val.{bool_byte};
 ghost use Rattle.spec.specs.Params.{in_range, capacity, addresses_len};

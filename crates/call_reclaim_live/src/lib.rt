@@ -1,5 +1,7 @@
 // How many live blocks each segment has, and the sealed segment with fewest (01, Reclaim; 02, item 4). A segment that remains goes by its zone on
 // drive 0; 1024 stands for none.
+#![tactic(auto)]
+
 ghost use Rattle.std.specs.Prelude.{◌≡◌, true, false, cond, List, ℕ, ◌+◌, ◌*◌, min, max, ◌≤◌, ◌<◌, length, get_or};
 ghost use Rattle.call_reclaim_live.specs.Fewest.{pick_of};
 ghost use Rattle.call_reclaim_live.specs.Least.{Least};

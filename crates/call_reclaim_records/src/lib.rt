@@ -1,5 +1,7 @@
 // Live blocks counted by their records (01, Reclaim): a data block is live where the table has its place at the address of its record. Others may
 // be live too, so a count is no more than the live blocks.
+#![tactic(auto)]
+
 ghost use Rattle.std.specs.Prelude.{◌≡◌, true, ℕ, ◌+◌, ◌-◌, ◌*◌, min, ◌≤◌, ◌<◌, eqb, length};
 ghost use mir.Val.{bool_byte};
 ghost use Rattle.call_reclaim_live.specs.Live.{in_seg, live_below};

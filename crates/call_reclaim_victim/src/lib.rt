@@ -1,4 +1,6 @@
 // Live blocks and the segment that reclaim takes (01, Reclaim). The segments are gathered once, and go by their zone on drive 0 (02, item 4).
+#![tactic(auto)]
+
 ghost use Rattle.std.specs.Prelude.{◌≡◌, true, false, cond, List, [], ℕ, ◌+◌, ◌-◌, ◌*◌, min, ◌≤◌, ◌<◌, length, get_or};
 ghost use Rattle.spec.specs.Counts.{never_place};
 ghost use Rattle.spec.specs.Drives.{view_of, mk_disk, zone_on};
@@ -22,7 +24,7 @@ use spec::{Params, Place, Seg};
 
 // 01, Reclaim: the first live block that is not in flight, NEVER if there is none, and the lowest zone with a live block that is no data block,
 // 1024 if there is none.
-#[derive(Drop)]
+#[derive(Clone, Copy)]
 pub struct Idle {
     pub first: Place,
     pub odd: usize,
@@ -289,7 +291,7 @@ fn idle_of(
 // The segment that reclaim takes: its zone on drive 0, Z if there is none, and all its zones; how many live blocks it has; the first of them that
 // is not in flight, NEVER if there is none; the lowest zone with a live block that is no data block, 1024 if there is none; whether some place of
 // the table is no place of the image, where there is a segment.
-#[derive(Drop)]
+#[derive(Clone, Copy)]
 pub struct Chosen {
     pub zone: usize,
     pub segment: Seg,
@@ -357,7 +359,7 @@ fn look_with(
 // ---- the segment by its records
 
 // Live blocks of a segment that its records tell: how many, and the first of them that is not in flight, NEVER if there is none.
-#[derive(Drop)]
+#[derive(Clone, Copy)]
 pub struct Seen {
     pub live: usize,
     pub first: Place,
@@ -489,7 +491,7 @@ fn see_segment(
 
 // A segment by its zone on drive 0, the count of its live blocks and the first not in flight; whether it is sure that reclaim takes it, and that
 // none of them is a header or footer block; whether some place of the table is no place of the image.
-#[derive(Drop)]
+#[derive(Clone, Copy)]
 pub struct Told {
     pub sure: bool,
     pub zone: usize,

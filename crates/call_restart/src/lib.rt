@@ -1,4 +1,6 @@
 // The restart call (01, Restart and rebuild; 02, item 4).
+#![tactic(auto)]
+
 ghost use Rattle.std.specs.Prelude.{◌≡◌, true, false, not, ◌||◌, List, [], ℕ, ◌*◌, ◌≤◌, length};
 ghost use Rattle.mem_calls.specs.Left.{checked};
 ghost use Rattle.spec.specs.Host.{after};
@@ -33,7 +35,7 @@ const ZONES: usize = 8 * 1024;
 const OF_DRIVE: usize = 1024;
 
 // What the checks behind the pointers of 9 say, whether the stores were cut, and the uncounted stripes as found before them.
-#[derive(Drop)]
+#[derive(Clone, Copy)]
 pub struct Ended {
     pub check: Check,
     pub cut: bool,

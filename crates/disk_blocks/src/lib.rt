@@ -1,4 +1,6 @@
 // Blocks of bytes and parts of buffers: copied, cleared, compared, exclusive-ored (01, What a zone holds).
+#![tactic(auto)]
+
 ghost use Rattle.std.specs.Prelude.{◌≡◌, ◌+◌, ◌≤◌, length, replicate};
 ghost use Rattle.spec.specs.Bytes.{part, splice, xors};
 ghost use Rattle.spec.specs.Lists.{same_list};

@@ -1,5 +1,7 @@
 // The code of a stripe: its parities from its data, and what is lost of it from what is there (01, What a zone holds; Write; Read; Restart; Rebuild). What two parities
 // change (02, item 5) is here, in its definitions (spec, Parity) and in its laws (law_code).
+#![tactic(auto)]
+
 ghost use Rattle.std.specs.Prelude.{◌≡◌, true, false, cond, map, ◌+◌, ◌≤◌, ◌<◌, length, get_or};
 ghost use Rattle.std.specs.Int.Bits.{bit_xor};
 ghost use Rattle.spec.specs.Bytes.{part, xors, parity, xor_all};

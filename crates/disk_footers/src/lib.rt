@@ -1,4 +1,6 @@
 // Footer blocks: made from a zone's spares, and stored (01, What a zone holds; Landing; Restart, 4).
+#![tactic(auto)]
+
 ghost use Rattle.std.specs.Prelude.{◌≡◌, true, List, map, ℕ, ◌+◌, ◌-◌, ◌*◌, min, ◌≤◌, ◌<◌, length, take, drop};
 ghost use Rattle.spec.specs.Drives.{view_of, mk_disk, zone_at, pointer_of, store_disk, store_all, spares_of, footer_stores};
 ghost use Rattle.spec.specs.Layout.{footer_block};

@@ -1,4 +1,6 @@
 // Segments gathered by serial from the headers of used zones, and whose a zone is (02, item 4; 01, Restart, 1 and 2).
+#![tactic(auto)]
+
 ghost use Rattle.std.specs.Prelude.{◌≡◌, true, false, cond, not, ◌&&◌, ◌||◌, List, ℕ, ◌+◌, ◌*◌, ◌≤◌, ◌<◌, leb, ltb, eqb, length, get_or};
 ghost use Rattle.std.specs.Int.Bits.{bit_and};
 ghost use Rattle.spec.specs.Bytes.{splice, part};

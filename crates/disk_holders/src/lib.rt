@@ -1,4 +1,6 @@
 // The segment of a place, and the segment of a serial, with no more headers looked at than the answer needs (02, item 4; 01, Restart, 1 to 3).
+#![tactic(auto)]
+
 ghost use Rattle.std.specs.Prelude.{◌≡◌, true, false, ◌&&◌, ◌||◌, ◌≤◌, ◌<◌, eqb, ltb, length};
 ghost use Rattle.spec.specs.Drives.{view_of, mk_disk, is_good, zone_on, sealed_in};
 ghost use Rattle.spec.specs.Lists.{is_nil, is_in};
@@ -17,7 +19,7 @@ use disk_records::Record;
 use spec::{Params, Place, Seg, Serial};
 
 // 02, item 4: the one remaining segment with a place, by its serial; nothing where it is not in just one, or in an offline zone.
-#[derive(Drop)]
+#[derive(Clone, Copy)]
 pub enum Held {
     Nothing,
     One(Serial),

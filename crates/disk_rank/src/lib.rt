@@ -1,4 +1,6 @@
 // Which record of an address holds (01, The calls, last paragraph).
+#![tactic(auto)]
+
 ghost use Rattle.std.specs.Prelude.{◌≡◌};
 ghost use Rattle.spec.specs.Rank.{beats, better, place_or};
 ghost use Rattle.disk_rank.specs.Ranked.{ranked, ranked_best};
@@ -6,7 +8,7 @@ ghost use Rattle.disk_rank.specs.Ranked.{ranked, ranked_best};
 use spec::{Address, Place, Serial, Stamp};
 
 // 01, The calls: a completed record of an address.
-#[derive(Drop)]
+#[derive(Clone, Copy)]
 pub struct Cand {
     pub address: Address,
     pub stamp: Stamp,
@@ -17,7 +19,7 @@ pub struct Cand {
 }
 
 // The record that holds so far, or none.
-#[derive(Drop)]
+#[derive(Clone, Copy)]
 pub enum Best {
     Nothing,
     Holds(Cand),

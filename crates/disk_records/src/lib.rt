@@ -1,4 +1,6 @@
 // Headers and records, to and from bytes (01, What a zone holds).
+#![tactic(auto)]
+
 ghost use Rattle.std.specs.Prelude.{◌≡◌, true, ◌++◌, map, ◌+◌, ◌≤◌, ◌<◌, length};
 ghost use Rattle.spec.specs.Bytes.{field, bytes_of, splice};
 ghost use Rattle.spec.specs.Drives.{chunk_of, zones_in, zero_spare};
@@ -12,7 +14,7 @@ ghost use Rattle.spec.specs.declared.Seg.{Seg};
 use spec::{Address, Params, Seg, Serial, Stamp};
 
 // 01, What a zone holds: the record of a data block.
-#[derive(Drop)]
+#[derive(Clone, Copy)]
 pub struct Record {
     pub address: Address,
     pub stamp: Stamp,

@@ -1,4 +1,6 @@
 // Sizes, places and offsets from the parameters (01, The array; What a zone holds).
+#![tactic(auto)]
+
 ghost use Rattle.std.specs.Prelude.{◌≡◌, true, ◌+◌, ◌*◌, ◌≤◌, ◌<◌};
 ghost use Rattle.spec.specs.Lists.{is_member_of};
 ghost use Rattle.spec.specs.Params.{between, block_sizes, in_range, parity_count, data_count, most_with, spare_len, per_footer, footers, capacity, unit_len, image_len, pointers_len};

@@ -1,4 +1,6 @@
 // What a zone holds: how much is stored, and its records by footer or spare (01, What a zone holds; Restart, 3).
+#![tactic(auto)]
+
 ghost use Rattle.std.specs.Prelude.{◌≡◌, true, List, ℕ, ◌+◌, ◌-◌, ◌≤◌, ◌<◌, length};
 ghost use Rattle.spec.specs.Drives.{view_of, mk_disk, zone_at, data_stored, record_in, record_at, zone_on};
 ghost use Rattle.spec.specs.Faults.{footers_stored};

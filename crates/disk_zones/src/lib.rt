@@ -1,4 +1,6 @@
 // Write pointers and stores (01, The array; Store count).
+#![tactic(auto)]
+
 ghost use Rattle.std.specs.Prelude.{◌≡◌, true, ◌||◌, List, [], ◌∷◌, ℕ, ◌+◌, ◌≤◌, ◌<◌, min, eqb, length};
 ghost use Rattle.spec.specs.Drives.{view_of, mk_disk, pointer_of, set_pointer, store_disk, is_good, good_count, empty_count, new_seg, zone_on, sealed_in, zero_spare, header_stores, reset_stores, zones_in};
 ghost use Rattle.spec.specs.Drives.Store.{put};
@@ -14,7 +16,7 @@ ghost use Rattle.law_basic.specs.Segs.{ZonesLow};
 use spec::{Params, Seg, Serial};
 
 // 01, Store count: what is left of the number, and whether it was too small.
-#[derive(Drop)]
+#[derive(Clone, Copy)]
 pub struct Made {
     pub left: u64,
     pub cut: bool,

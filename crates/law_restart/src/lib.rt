@@ -1,4 +1,6 @@
 // What the drives say once a restart's stores are made, proved of the definitions (specs/): the laws that the restart call rests on (01, Restart, 4).
+#![tactic(auto)]
+
 ghost use Rattle.std.specs.Prelude.{◌≡◌, true, false, ◌&&◌, eqb};
 ghost use Rattle.spec.specs.declared.Params.{Params};
 ghost use Rattle.spec.specs.Counts.{last_count};

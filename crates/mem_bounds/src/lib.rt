@@ -1,5 +1,7 @@
 // The ranges of the state's numbers, looked at in its bytes (01, Refusals, 9): numbers out of range are counted section by section, with no
 // early end, and none is out of range where the sum is 0.
+#![tactic(auto)]
+
 ghost use Rattle.std.specs.Prelude.{◌≡◌, true, ◌+◌, ◌*◌, ◌^◌, ◌≤◌, length};
 ghost use Rattle.spec.specs.Memory.{state_len, state_of, state_ok};
 ghost use Rattle.spec.specs.Params.{in_range};

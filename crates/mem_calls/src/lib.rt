@@ -1,4 +1,6 @@
 // What every public call shares: its result, its checks, its cut (01, Store count; Refusals).
+#![tactic(auto)]
+
 ghost use Rattle.std.specs.Prelude.{◌≡◌, true, ◌≤◌, length, replicate};
 ghost use Rattle.spec.specs.declared.State.{State as StateOf};
 ghost use Rattle.spec.specs.declared.Answer.TheVariants.{Cut};
@@ -11,7 +13,7 @@ ghost use Rattle.mem_calls.specs.Listed.{list_rule_of};
 use spec::{Answer, Done, Params, State};
 
 // 01, Refusals: no check holds, or the refusal of the first that does.
-#[derive(Drop)]
+#[derive(Clone, Copy)]
 pub enum Check {
     Pass,
     Fail(Answer),

@@ -1,4 +1,6 @@
 // The state as bytes (01, The array): sections of numbers of one width, in the order of the fields.
+#![tactic(auto)]
+
 ghost use Rattle.std.specs.Prelude.{◌≡◌, ◌+◌, ◌*◌, ◌≤◌, ◌<◌, length, take};
 ghost use Rattle.spec.specs.Bytes.{to_le, splice};
 ghost use Rattle.spec.specs.Lists.{flat};

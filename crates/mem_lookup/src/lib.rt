@@ -1,4 +1,6 @@
 // Where an address lies, what is wrong with a place to be read, and where the compact table shows a stripe (01, Read; What a zone holds; Refusals, 9).
+#![tactic(auto)]
+
 ghost use Rattle.std.specs.Prelude.{◌≡◌, true, ◌&&◌, List, [], ◌∷◌, ℕ, ◌+◌, ◌≤◌, ◌<◌, ltb, eqb, length};
 ghost use Rattle.mem_calls.specs.Left.{checked};
 ghost use Rattle.spec.specs.Calls.{first_refusal};
@@ -20,7 +22,7 @@ use mem_calls::Check;
 use spec::{Answer, Params, Place};
 
 // 01, Read: where an address lies: nowhere, on a present drive, on the missing one.
-#[derive(Drop)]
+#[derive(Clone, Copy)]
 pub enum Found {
     Nowhere,
     Here(Place),

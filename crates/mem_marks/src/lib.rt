@@ -1,4 +1,6 @@
 // A set of numbers as marks: number k is bit k % 8 of byte k / 8 (01, Reclaim: a block that the table holds at several addresses is one block).
+#![tactic(auto)]
+
 ghost use Rattle.std.specs.Prelude.{◌≡◌, true, false, cond, ◌||◌, ℕ, ◌+◌, ◌-◌, ◌*◌, ◌/◌, ◌≤◌, ◌<◌, length};
 ghost use mir.Val.{bool_byte};
 ghost use Rattle.spec.specs.Lists.{up_from, keep};

@@ -1,4 +1,6 @@
 // A stripe in flight by value, and what a call changes in the state: the numbers in front of its arrays, and one eighth of them (01, Write; Landing).
+#![tactic(auto)]
+
 ghost use Rattle.std.specs.Prelude.{◌≡◌};
 ghost use Rattle.mem_rows.specs.Rows.{no_row, front_of, kept_as};
 
@@ -6,7 +8,7 @@ use spec::{Answer, Serial, Stamp, State};
 
 // One eighth of the state's arrays: the stripe's number, how many data positions are filled, which are writes, which drives have it; addresses and
 // stamps by data position, offsets by drive.
-#[derive(Drop)]
+#[derive(Clone, Copy)]
 pub struct Row {
     pub number: u32,
     pub filled: u8,
@@ -18,7 +20,7 @@ pub struct Row {
 }
 
 // What a call answers and changes in the state; slot 8: no eighth changes.
-#[derive(Drop)]
+#[derive(Clone, Copy)]
 pub struct Change {
     pub answer: Answer,
     pub stamp: Stamp,
@@ -30,7 +32,7 @@ pub struct Change {
 }
 
 // What a call asks of the state before it looks at one eighth: the numbers in front, and of each eighth the stripe's number and how many data positions are filled.
-#[derive(Drop)]
+#[derive(Clone, Copy)]
 pub struct Front {
     pub stamp: Stamp,
     pub serial: Serial,

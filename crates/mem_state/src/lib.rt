@@ -1,5 +1,7 @@
 // The state between calls: questions to it and to its bytes, and states with nothing in flight (01, Write; Landing; Reclaim). Each function
 // equals the definition that its contract names.
+#![tactic(auto)]
+
 ghost use Rattle.std.specs.Prelude.{◌≡◌, not, ◌&&◌, ◌<◌, eqb, length};
 ghost use Rattle.mem_state.specs.Flights.{has_at, held_in_of};
 ghost use Rattle.spec.specs.Memory.{stripe_in, is_free, in_flight, holds, idle_state, zero_state, state_len, state_of};

@@ -1,4 +1,6 @@
 // The address table: places of 4 bytes (01, The array), and scans of it (01, Reclaim).
+#![tactic(auto)]
+
 ghost use Rattle.std.specs.Prelude.{◌≡◌, ◌+◌, ◌-◌, ◌*◌, ◌≤◌, length};
 ghost use mir.Val.{bool_byte};
 ghost use Rattle.spec.specs.Memory.{place_at_of, set_place};

@@ -1,4 +1,6 @@
 // Demand 1, the NVMe zone rules and that offline zones take no part (02, item 4), proved of the definitions for all parameters, lent bytes and calls (specs/). There is no code here.
+#![tactic(auto)]
+
 ghost use Rattle.spec_demands.specs.Answering.{Demand1};
 ghost use Rattle.spec_demands.specs.Rules.{ZoneRules, OfflineApart};
 

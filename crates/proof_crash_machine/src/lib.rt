@@ -1,4 +1,6 @@
 // Demand 3 over a machine of stored items (no bytes), as a contract: it cannot be dropped unseen.
+#![tactic(auto)]
+
 ghost use Rattle.proof_crash_machine.specs.Facts.{Par};
 ghost use Rattle.proof_crash_machine.specs.Theorem.{MachineDemand};
 

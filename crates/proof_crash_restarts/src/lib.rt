@@ -1,1 +1,2 @@
 // The stores of a restart are the machine's steps: definitions and laws are in specs/.
+#![tactic(auto)]

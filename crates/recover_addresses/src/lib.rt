@@ -1,5 +1,7 @@
 // One completed record more in the address table: the record that the table holds is found again by its place, and the better of the two stays (01, The calls, last paragraph).
 // 02, item 4: whose segment a place's zone is stands in a table by drive and zone.
+#![tactic(auto)]
+
 ghost use Rattle.std.specs.Prelude.{◌≡◌, cond, [], ◌∷◌, map, ℕ, ◌<◌};
 ghost use Rattle.std.specs.Int.Bits.{bit_xor};
 ghost use Rattle.spec.specs.Bytes.{xor_all};

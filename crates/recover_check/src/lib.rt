@@ -1,4 +1,6 @@
 // Refusal 9 of restart and rebuild, and what is counted on the way (01, Refusals; Restart, 4; 02, item 4).
+#![tactic(auto)]
+
 ghost use Rattle.std.specs.Prelude.{◌≡◌, true, false, ◌+◌, ◌<◌, leb, length};
 ghost use Rattle.spec.specs.Drives.{view_of, mk_disk, sealed_in};
 ghost use Rattle.spec.specs.Faults.{serial_twice};
@@ -21,7 +23,7 @@ const MOST: usize = 1024;
 
 // zone: the lowest bad one, or Z; loose: uncounted stripes of all segments; and of the unsealed segment, if there is one, else 0:
 // counted: how many stripes count; top: the last of them + 1; part: its uncounted ones.
-#[derive(Drop)]
+#[derive(Clone, Copy)]
 pub struct Exam {
     pub zone: usize,
     pub loose: u64,

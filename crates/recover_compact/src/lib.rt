@@ -1,4 +1,6 @@
 // The rows of a segment in the compact table, as the drives say them (01, What a zone holds; Restart, 3).
+#![tactic(auto)]
+
 ghost use Rattle.std.specs.Prelude.{◌≡◌, true, cond, List, map, ℕ, ◌+◌, ◌%◌, ◌≤◌, ◌<◌, length};
 ghost use Rattle.spec.specs.Bytes.{splice};
 ghost use Rattle.spec.specs.Drives.{view_of, mk_disk, zone_at, zone_on};

@@ -1,4 +1,6 @@
 // The lost chunks of a drive, decoded and stored (01, Rebuild).
+#![tactic(auto)]
+
 ghost use Rattle.std.specs.Prelude.{◌≡◌, true, false, List, [], ◌∷◌, ℕ, ◌+◌, ◌%◌, ◌<◌, length};
 ghost use Rattle.recover_decode.specs.Moving.{Lacks};
 ghost use Rattle.spec.specs.Drives.{view_of, mk_disk, pointer_of, zone_on, sealed_in};

@@ -1,4 +1,6 @@
 // The zones of dropped segments are reset; and how stores in parts go on (specs/Going.antt) (01, Restart, 4; Store count; 02, item 4).
+#![tactic(auto)]
+
 ghost use Rattle.std.specs.Prelude.{◌≡◌, true, cond, ◌||◌, List, [], ◌∷◌, ℕ, ◌*◌, ◌≤◌, ◌<◌, leb, ltb, length};
 ghost use Rattle.spec.specs.Drives.{view_of, mk_disk};
 ghost use Rattle.spec.specs.Drives.Store.{reset};

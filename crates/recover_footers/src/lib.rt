@@ -1,4 +1,6 @@
 // Missing footers are stored (01, Restart, 4).
+#![tactic(auto)]
+
 ghost use Rattle.std.specs.Prelude.{◌≡◌, true, List, ℕ, ◌+◌, ◌-◌, ◌≤◌, ◌<◌};
 ghost use Rattle.spec.specs.Drives.{view_of, zone_at, mk_disk, pointer_of, footer_stores, zone_on};
 ghost use Rattle.spec.specs.Faults.{footers_stored};

@@ -1,4 +1,6 @@
 // Groups of a segment: the index of a group's chunks, its records and blocks, stored and lost (01, What a zone holds; Restart, 3; Refusals, 9).
+#![tactic(auto)]
+
 ghost use Rattle.std.specs.Prelude.{◌≡◌, true, false, cond, not, ◌||◌, List, ℕ, ◌+◌, ◌-◌, ◌*◌, ◌%◌, ◌≤◌, ◌<◌, eqb, length, get_or, set};
 ghost use Rattle.std.specs.Int.Bits.{bit_xor};
 ghost use Rattle.spec.specs.Bytes.{part, xors};
@@ -19,7 +21,7 @@ use disk_records::Record;
 use spec::{Address, Params, Seg, Stamp};
 
 // A group of a segment as read: the missing drives, the segment, sealed or not, the group's first stripe.
-#[derive(Drop)]
+#[derive(Clone, Copy)]
 pub struct Group {
     pub gone: u8,
     pub seg: Seg,

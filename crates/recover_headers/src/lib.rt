@@ -1,4 +1,6 @@
 // Refusal 9 of restart and rebuild but for the records: write pointers, headers, serials, the zones that headers name, footers (01, Refusals; 02, item 4).
+#![tactic(auto)]
+
 ghost use Rattle.std.specs.Prelude.{◌≡◌, true, false, cond, not, ◌&&◌, List, ℕ, ◌+◌, ◌*◌, ◌≤◌, ◌<◌, min, eqb, ltb, length, get_or};
 ghost use Rattle.spec.specs.Drives.{no_zone, view_of, zone_at, chunk_at, mk_disk, pointer_of, is_good, zone_on, zones_in, seg_with};
 ghost use Rattle.spec.specs.Faults.{pointer_faults, header_fault, footer_fault_in};

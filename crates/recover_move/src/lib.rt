@@ -1,4 +1,6 @@
 // The chunks of a stripe that a restart moves, and their stores (01, Restart, 4).
+#![tactic(auto)]
+
 ghost use Rattle.std.specs.Prelude.{◌≡◌, true, List, [], ◌∷◌, ℕ, ◌+◌, ◌<◌, length};
 ghost use Rattle.spec.specs.Drives.{view_of, mk_disk, pointer_of, zone_on};
 ghost use Rattle.spec.specs.Layout.{data_drive};

@@ -1,4 +1,6 @@
 // The stores of a rebuild: resets, then each remaining segment by rising serial (01, Rebuild; 02, item 4).
+#![tactic(auto)]
+
 ghost use Rattle.std.specs.Prelude.{◌≡◌, true, false, List, ℕ, ◌+◌, ◌≤◌, ◌<◌, length};
 ghost use Rattle.spec.specs.Drives.{view_of, mk_disk, pointer_of, zone_on, sealed_in};
 ghost use Rattle.spec.specs.Params.{in_range, named, offline_len};

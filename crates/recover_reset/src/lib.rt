@@ -1,4 +1,6 @@
 // The stores of a rebuild that decode nothing: the resets of the drive, and headers (01, Rebuild).
+#![tactic(auto)]
+
 ghost use Rattle.std.specs.Prelude.{◌≡◌, true, cond, List, [], ◌∷◌, map, ℕ, ◌<◌, length};
 ghost use Rattle.spec.specs.Drives.{mk_disk, pointer_of, is_good, good_zones, zero_spare, zones_in, zone_on};
 ghost use Rattle.spec.specs.Drives.Store.{put, reset};

@@ -1,4 +1,6 @@
 // The rewrite of a restart: the counted stripes of a segment in rising order, numbered from 0, into another (01, Restart, 4).
+#![tactic(auto)]
+
 ghost use Rattle.std.specs.Prelude.{◌≡◌, true, false, List, ℕ, ◌+◌, ◌%◌, ◌≤◌, ◌<◌, length};
 ghost use Rattle.spec.specs.Drives.{view_of, mk_disk, pointer_of, sealed_in, zone_on};
 ghost use Rattle.spec.specs.Params.{in_range};
@@ -16,7 +18,7 @@ use recover_groups::Group;
 use spec::{Params, Seg, Serial};
 
 // The number that the next stripe takes, and what is left of the store count.
-#[derive(Drop)]
+#[derive(Clone, Copy)]
 pub struct Moved {
     pub next: usize,
     pub left: u64,

@@ -1,4 +1,6 @@
 // Questions about the segments that remain, by what was gathered of them (01, Restart, 2 and 4; 02, item 4).
+#![tactic(auto)]
+
 ghost use Rattle.std.specs.Prelude.{◌≡◌, true, false, cond, not, ◌&&◌, ◌||◌, List, ℕ, ◌+◌, ◌*◌, ◌≤◌, ◌<◌, max, eqb, length, get_or};
 ghost use Rattle.spec.specs.Bytes.{part};
 ghost use Rattle.spec.specs.Drives.{View, view_of, zone_on, sealed_in, seg};

@@ -1,4 +1,6 @@
 // The stores of a restart that names no drive: resets, then missing footers or the rewrite (01, Restart, 4; 02, item 4).
+#![tactic(auto)]
+
 ghost use Rattle.std.specs.Prelude.{◌≡◌, true, length};
 ghost use Rattle.spec.specs.Drives.{view_of, mk_disk};
 ghost use Rattle.spec.specs.Params.{in_range, offline_len};

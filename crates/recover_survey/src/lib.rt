@@ -1,4 +1,6 @@
 // What the records of a segment say: refusal 9, and how many stripes count (01, Refusals; Restart, 3).
+#![tactic(auto)]
+
 ghost use Rattle.std.specs.Prelude.{◌≡◌, true, false, ◌&&◌, List, ℕ, ◌+◌, ◌%◌, ◌≤◌, ◌<◌, length};
 ghost use Rattle.spec.specs.Drives.{view_of, mk_disk, sealed_in};
 ghost use Rattle.spec.specs.Layout.{is_data};
@@ -15,7 +17,7 @@ use recover_groups::Group;
 use spec::{Params, Seg};
 
 // bad: a stripe number or an address is bad; counted: how many stripes count; top: the last of them + 1; loose: stripes with some chunk that don't count.
-#[derive(Drop)]
+#[derive(Clone, Copy)]
 pub struct Tally {
     pub bad: bool,
     pub counted: usize,

@@ -1,4 +1,6 @@
 // The memory that the drives say: restart's tables and state (01, Restart).
+#![tactic(auto)]
+
 ghost use Rattle.std.specs.Prelude.{◌≡◌, true, false, cond, ◌&&◌, List, [], ◌∷◌, ℕ, ◌+◌, ◌*◌, ◌%◌, max, ◌≤◌, ◌<◌, ltb, eqb, length, get_or, replicate};
 ghost use Rattle.spec.specs.Drives.{view_of, mk_disk, sealed_in, zone_on};
 ghost use Rattle.spec.specs.Lists.{up_from, below, is_in};
@@ -29,14 +31,14 @@ use spec::{Params, Seg, Serial, Stamp, State};
 const OWNERS: usize = 8 * 1024;
 
 // The greatest counted stamp so far, and how many stripes of the segment count so far.
-#[derive(Drop)]
+#[derive(Clone, Copy)]
 pub struct Loaded {
     pub stamp: Stamp,
     pub counted: usize,
 }
 
 // The greatest counted stamp so far, and how many stripes of the open segment count.
-#[derive(Drop)]
+#[derive(Clone, Copy)]
 pub struct Head {
     pub stamp: Stamp,
     pub next: usize,

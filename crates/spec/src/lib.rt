@@ -1,11 +1,13 @@
 // The definitions of document 01 are in specs/. Here are the types that definitions and code share, and the worked examples as a contract.
+#![tactic(auto)]
+
 ghost use Rattle.std.specs.Prelude.{◌≡◌};
 ghost use Rattle.spec.specs.Examples.{Examples};
 ghost use Rattle.spec.specs.Counts.{padding_address, never_place, first_count, last_count};
 ghost use Rattle.spec.specs.declared.Seg.{Seg};
 
 // 01, The array: N drives, blocks of B bytes, Z zones a drive, S stripes a segment, groups of G stripes, L addresses.
-#[derive(Drop)]
+#[derive(Clone, Copy)]
 pub struct Params {
     pub N: usize,
     pub B: usize,
@@ -16,16 +18,16 @@ pub struct Params {
 }
 
 // 01, The array: four counts that never meet in one sum.
-#[derive(Drop)]
+#[derive(Clone, Copy)]
 pub struct Address(pub u64);
 
-#[derive(Drop)]
+#[derive(Clone, Copy)]
 pub struct Place(pub u32);
 
-#[derive(Drop)]
+#[derive(Clone, Copy)]
 pub struct Stamp(pub u64);
 
-#[derive(Drop)]
+#[derive(Clone, Copy)]
 pub struct Serial(pub u64);
 
 impl Address {
@@ -111,7 +113,7 @@ impl Serial {
 }
 
 // 01, What a zone holds: a segment, by the zone that it has on each drive; 0 where there is no such drive.
-#[derive(Drop)]
+#[derive(Clone, Copy)]
 pub struct Seg {
     pub zones: [u32; 8],
 }
@@ -121,7 +123,7 @@ pub struct Seg {
 // many data positions are filled
 // (0: the eighth is free), which of them are writes (a mask), which drives have it (a mask), and, eight to a stripe, the addresses and
 // stamps by data position and the offsets at which it landed by drive.
-#[derive(Drop)]
+#[derive(Clone, Copy)]
 pub struct State {
     pub live: u8,
     pub missing: u8,
@@ -139,13 +141,13 @@ pub struct State {
 }
 
 // 01, Restart: what a restart did; today the number of uncounted stripes.
-#[derive(Drop)]
+#[derive(Clone, Copy)]
 pub struct Report {
     pub uncounted: u64,
 }
 
 // 01, The calls: what a call answers. specs/Answers.antt gives 01's number and values for every case.
-#[derive(Drop)]
+#[derive(Clone, Copy)]
 pub enum Answer {
     Refused(u64),
     BadZone(u64),
@@ -170,7 +172,7 @@ pub fn examples()
 {}
 
 // What a call leaves beside the lent buffers.
-#[derive(Drop)]
+#[derive(Clone, Copy)]
 pub struct Done {
     pub answer: Answer,
     pub state: State,
@@ -178,7 +180,7 @@ pub struct Done {
 
 // An answer as numbers: its kind, and up to three values.
 #[repr(C)]
-#[derive(Drop)]
+#[derive(Clone, Copy)]
 pub struct Told {
     pub kind: u64,
     pub first: u64,

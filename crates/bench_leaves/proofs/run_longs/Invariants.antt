@@ -1,0 +1,18 @@
+-- `run_longs`: after i turns the bytes of the first i numbers stand in front; one turn appends the 8 bytes of first + i. Assumes nothing.
+use mathlib.Core.Path.{◌≡◌, refl, ◌∙◌}
+use Prim.Native.Nat.{◌-◌, ◌≤◌}
+use native.Mathlib.Omega.{arith}
+use lib.ListN.{length, take}
+use Rattle.spec.specs.Bytes.{to_be, splice}
+use Rattle.spec.specs.Lists.{up_from, flat}
+use Rattle.mem_codec.specs.Codec.{written_none, written_all}
+use Rattle.law_basic.specs.Be.{length-to_be}
+use Rattle.law_basic.specs.Ranges.{length_up_from}
+use Rattle.bench_leaves.specs.Bench.{run_one}
+use Rattle.bench_leaves.proofs.run_longs.Given as goal
+
+abbrev pub invariant-loop-i : goal.invariant-loop-i
+invariant-loop-i l = (l.i ≤ l.n) × (length l.dst ≡ length l.initial.dst) × (l.dst ≡ splice l.initial.dst 0 (flat (to_be 8) (take l.i (up_from l.first l.n))))
+
+abbrev pub decreases-loop-i : goal.decreases-loop-i
+decreases-loop-i l = l.n - l.i

@@ -1,0 +1,15 @@
+-- `filling_slot`: i plus the index of the first filling eighth from i on is the answer; a hit has index 0, a miss goes one on, 8 ends it. Assumes nothing.
+use Rattle.mem_rows.specs.Rows.{behind}
+use Prim.Native.Nat.{◌+◌, ◌-◌, ◌≤◌}
+use Rattle.spec.specs.Lists.{up_from, index_of}
+use Rattle.spec.specs.Memory.{slot_count, slots, is_filling, filling_slot}
+use Rattle.law_basic.specs.Ranges.{found_hit, found_miss, found_end, found-start}
+use mathlib.Core.Path.{◌≡◌, sym, ◌∙◌}
+use native.Mathlib.Omega.{arith}
+use Rattle.call_filling.proofs.filling_slot.Given as goal
+
+abbrev pub invariant-loop-i : goal.invariant-loop-i
+invariant-loop-i l = (l.i ≤ 8) × (l.i + index_of (is_filling l.p (behind l.f)) (up_from l.i (8 - l.i)) ≡ filling_slot l.p (behind l.f))
+
+abbrev pub decreases-loop-i : goal.decreases-loop-i
+decreases-loop-i l = 8 - l.i

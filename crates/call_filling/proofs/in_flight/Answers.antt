@@ -1,0 +1,49 @@
+-- `in_flight`: n plus the number of eighths in flight from i on is the number of all; n is at most i, and a turn counts eighth i or passes it. Assumes nothing.
+use Rattle.mem_rows.specs.Rows.{behind}
+use Prim.Native.Nat.{ℕ, ◌+◌, ◌-◌, ◌≤◌}
+use Rattle.spec.specs.Lists.{up_from, keep}
+use Rattle.spec.specs.Memory.{slot_count, slots, is_free, in_flight}
+use Rattle.law_scans.specs.Scans.{kept-one, kept_none, kept-ended, kept-start}
+use lib.ListN.{length}
+use mathlib.Core.Bool.{Bool, not}
+use mathlib.Core.Logic.{⊎_elim}
+use mathlib.Core.Path.{◌≡◌, sym, ap, ◌∙◌}
+use native.Mathlib.Omega.{arith}
+use Rattle.call_filling.proofs.in_flight.Goals as goal
+
+pub loop-i-init : goal.loop-i-init
+unfolding in_flight slots slot_count
+loop-i-init c = (omega arith, omega arith, kept-start (λ k. not (is_free (behind c.args.f) k)) 8)
+
+pub is_free-requires : goal.is_free-requires
+is_free-requires c = omega arith
+
+pub overflow_add-n : goal.overflow_add-n
+overflow_add-n c = omega arith
+
+pub overflow_add-i : goal.overflow_add-i
+overflow_add-i c = omega arith
+
+pub loop-i-smaller : goal.loop-i-smaller
+loop-i-smaller c = omega arith
+
+pub loop-i-preserved : goal.loop-i-preserved
+loop-i-preserved c =
+    let args = c.args in
+    let s = behind args.f in
+    let l = c.loop-i in
+    let f : ℕ → Bool = λ k. not (is_free s k) in
+    let r : c.if-not-is_free.n + length (keep f (up_from (l.i + 1) (8 - (l.i + 1)))) ≡ l.n + length (keep f (up_from l.i (8 - l.i))) =
+    ⊎_elim
+    (λ w. ap (λ (x : ℕ). x + length (keep f (up_from (l.i + 1) (8 - (l.i + 1))))) w.1
+    ∙ sym (kept-one f l.i 8 l.n (omega arith) (ap not (sym c.is_free.ensures) ∙ w.0.taken)))
+    (λ w. ap (λ (x : ℕ). x + length (keep f (up_from (l.i + 1) (8 - (l.i + 1))))) w.1
+    ∙ sym (kept_none f l.i 8 l.n (omega arith) (ap not (sym c.is_free.ensures) ∙ w.0.left))) c.if-not-is_free.branch in
+    let b : c.if-not-is_free.n ≤ l.i + 1 = ⊎_elim (λ w. omega (arith, w.1)) (λ w. omega (arith, w.1)) c.if-not-is_free.branch in
+    (omega arith, b, r ∙ l.invariant.2)
+
+pub returns : goal.returns
+returns c =
+    let s = behind c.args.f in
+    let l = c.loop-i in
+    sym (kept-ended (λ k. not (is_free s k)) l.i 8 l.n (omega arith)) ∙ l.invariant.2

@@ -1,0 +1,22 @@
+-- `vouched_zone`: c is at most those pointed at of the first o data blocks, and footer block f begins at byte at; a turn adds its run. Assumes nothing.
+-- the o data blocks whose records lie in footer blocks before f, which begins at byte at
+use Prim.Native.Nat.{ℕ, ◌+◌, ◌-◌, ◌*◌, ◌≤◌}
+use Rattle.call_reclaim_live.specs.Live.{places_high}
+use Rattle.spec.specs.Params.{per_footer, capacity, unit_len, addresses_len, place_of, place_byte}
+use Rattle.spec.specs.declared.Params.{Params}
+use Rattle.law_basic.specs.Geometry.{ranged, spare_len_lem, per_footer_fits, data_below, footers-low, place_lt, block_within, image_high}
+use Rattle.mem_marks.specs.Marks.{is_pointed}
+use Rattle.call_reclaim_records.specs.Vouch.{pointed_from, run_add, run_le, run_longer, next_byte}
+use lib.ListN.{length}
+use mathlib.Core.List.{List}
+use mathlib.Core.Path.{◌≡◌, sym, ap, ◌∙◌, subst}
+use native.Mathlib.Nat.{add-zero}
+use native.Mathlib.Omega.{arith}
+use Rattle.call_reclaim_records.proofs.vouched_zone.Given as goal
+
+abbrev pub invariant-loop-f : goal.invariant-loop-f
+invariant-loop-f l =
+    (l.f ≤ l.feet) × (l.o ≤ l.p.S) × (l.c ≤ length (pointed_from l.addresses l.p.L l.first l.o)) × (l.at ≡ place_byte l.p (place_of l.p l.drive l.zone (1 + l.p.S + l.f)))
+
+abbrev pub decreases-loop-f : goal.decreases-loop-f
+decreases-loop-f l = l.feet - l.f

@@ -1,0 +1,13 @@
+-- `look_huge`: the marks are 262144 bytes: as many as `look_with` asks (`marks_long`). Assumes nothing.
+use borrow.Author.Rules.{rules}
+use native.Mathlib.Omega.{arith}
+use Rattle.call_reclaim_victim.specs.Looked.{marks_long}
+use Rattle.call_reclaim_victim.proofs.look_huge.Goals as goal
+
+pub look_with-requires : goal.look_with-requires
+look_with-requires c =
+    let pre = c.requires in
+    let m = marks_long 262144 (omega arith) (omega arith) in record { p_value = pre.p_value; whole = pre.whole; addresses_len = (pre.addresses_len.0, m.0, m.1, pre.addresses_len.1) }
+
+pub returns : goal.returns
+returns c = c.look_with.ensures

@@ -1,0 +1,19 @@
+-- `gather_small`: the arrays have room, and their buckets are empty. Assumes nothing.
+use mathlib.Core.Path.{sym, subst}
+use Prim.Native.Nat.{ℕ, ◌+◌, ◌*◌, ◌≤◌}
+use native.Mathlib.Omega.{arith}
+use borrow.Author.Rules.{rules}
+use lib.ListN.{length-replicate}
+use Rattle.law_basic.specs.Geometry.{ranged}
+use Rattle.disk_gather.specs.Index.{links_few, blank_new}
+use Rattle.disk_gather.proofs.gather_small.Goals as goal
+
+pub gather_with-requires : goal.gather_with-requires
+gather_with-requires c =
+    let me = c in
+    let p = me.args.p in
+    let q = me.requires in
+    let r = ranged p q.p_value in
+    let l = links_few p r q.whole.3 in
+    let h = subst (λ (n : ℕ). p.N * p.Z ≤ n) (sym (length-replicate {A = ℕ} 256 0)) q.whole.3 in
+    let m = subst (λ (n : ℕ). p.N * (63 + 1 + p.Z) ≤ n) (sym (length-replicate {A = ℕ} 768 65535)) l in record { p_value = q.p_value; whole = (q.whole.0, q.whole.1, q.whole.2); mask_bound = (omega arith, h, m, blank_new p 63 768 l); z_in_bounds = q.z_in_bounds }

@@ -1,0 +1,21 @@
+-- `lowest_bearing`: the first from z on is the first of all; such a zone z is it, another passes on; at Z there is none. The header's byte goes along. Assumes nothing.
+use mathlib.Core.Path.{◌≡◌, sym, ◌∙◌}
+use Prim.Native.Nat.{◌+◌, ◌-◌, ◌≤◌, ◌<◌}
+use native.Mathlib.Omega.{arith}
+use Rattle.spec.specs.Drives.{view_of}
+use Rattle.spec.specs.Lists.{below, up_from, keep, first_or}
+use Rattle.spec.specs.Params.{capacity, place_of, place_byte}
+use Rattle.spec.specs.Segments.{bearing, lowest_bearing}
+use Rattle.law_basic.specs.Geometry.{ranged, capacity-low}
+use Rattle.disk_gather.specs.Found.{lowest_start, lowest_turn, lowest_pass, lowest_end, head_step, found_header_room}
+use Rattle.disk_gather.specs.Index.{bears_at}
+use Rattle.disk_gather.proofs.lowest_bearing.Given as goal
+
+abbrev pub invariant-loop-z : goal.invariant-loop-z
+invariant-loop-z l =
+    (l.z ≤ l.p.Z) × (l.at ≡ place_byte l.p (place_of l.p l.drive l.z 0))
+    × (first_or l.p.Z (keep (bears_at l.p (view_of l.p l.offline l.image l.pointers) l.drive l.serial.0) (up_from l.z (l.p.Z - l.z)))
+    ≡ first_or l.p.Z (keep (bears_at l.p (view_of l.p l.offline l.image l.pointers) l.drive l.serial.0) (below l.p.Z)))
+
+abbrev pub decreases-loop-z : goal.decreases-loop-z
+decreases-loop-z l = l.p.Z - l.z

@@ -1,0 +1,63 @@
+-- `seg_in`: after d turns the first d zones are the segment's and the others 0; after N it is the segment. Assumes nothing.
+use mathlib.Core.Path.{◌≡◌, ap, ◌∙◌}
+use mathlib.Core.List.{List}
+use Prim.Native.Nat.{ℕ, ◌-◌, ◌≤◌, ◌<◌}
+use native.Mathlib.Omega.{arith}
+use lib.ListN.{length, set}
+use Rattle.spec.specs.Drives.{view_of, seg}
+use Rattle.spec.specs.Params.{pointers_len}
+use Rattle.spec.specs.Segments.{lowest_bearing, zone_for, seg_for}
+use Rattle.law_basic.specs.Geometry.{ranged}
+use Rattle.disk_gather.specs.Index.{ChainedTo}
+use Rattle.law_basic.specs.Segs.{filled_to, filled_none, filled_more, filled_with}
+use Rattle.disk_gather.proofs.seg_in.Goals as goal
+
+pub loop-d-init : goal.loop-d-init
+loop-d-init c =
+    let me = c in
+    let a = me.args in
+    (omega arith, λ off ps h t q. filled_none (zone_for a.p (view_of a.p off a.image.now ps) a.gone a.serial.0))
+
+pub zone_in-requires : goal.zone_in-requires
+zone_in-requires c =
+    let me = c in
+    let h = me.requires.low_lt_n in record { p_value = me.requires.p_value; image_len = me.requires.image_len; drive_lt_n = (c.loop-d-test.true, h.0, h.1, h.2) }
+
+pub offset_bounds-zones-d : goal.offset_bounds-zones-d
+offset_bounds-zones-d c =
+    let me = c in
+    omega (arith, (ranged me.args.p me.requires.p_value).drives_high)
+
+pub bounds-zones-d : goal.bounds-zones-d
+bounds-zones-d c =
+    let me = c in
+    omega (arith, (ranged me.args.p me.requires.p_value).drives_high)
+
+pub overflow_add-d : goal.overflow_add-d
+overflow_add-d c = omega arith
+
+pub loop-d-smaller : goal.loop-d-smaller
+loop-d-smaller c = omega arith
+
+pub loop-d-preserved : goal.loop-d-preserved
+loop-d-preserved c =
+    let me = c in
+    let a = me.args in
+    let l = c.loop-d in
+    let n : l.d < 8 = omega (arith, (ranged a.p me.requires.p_value).drives_high, c.loop-d-test.true) in (
+      omega arith,
+      λ off ps h t q.
+          let f : ℕ → ℕ = zone_for a.p (view_of a.p off a.image.now ps) a.gone a.serial.0 in
+          ap (λ (x : List ℕ). set x l.d c.zone_in.result) (l.invariant.1 off ps h t q) ∙ ap (set (filled_to f l.d) l.d) (c.zone_in.ensures off ps h t q) ∙ filled_more f l.d n,
+    )
+
+pub returns : goal.returns
+unfolding seg_for
+returns c =
+    let me = c in
+    let a = me.args in
+    let l = c.loop-d in
+    let n : l.d ≡ a.p.N = omega (arith, l.invariant.0, c.loop-d-test.false) in
+    λ off ps h t q.
+    let f : ℕ → ℕ = zone_for a.p (view_of a.p off a.image.now ps) a.gone a.serial.0 in
+    ap (λ (x : List ℕ). seg x) (l.invariant.1 off ps h t q ∙ ap (filled_to f) n) ∙ filled_with a.p f

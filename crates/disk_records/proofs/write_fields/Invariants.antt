@@ -1,0 +1,17 @@
+-- `write_fields`: what remains to be written makes at each turn what all fields make of the buffer at the start (`FieldsLeft`). Assumes nothing.
+use mathlib.Core.Path.{◌≡◌, refl, sym, ap, ◌∙◌, subst}
+use Prim.Native.Nat.{ℕ, suc, ◌+◌, ◌-◌, ◌≤◌, ◌<◌}
+use native.Mathlib.Nat.{add-zero, add_assoc}
+use native.Mathlib.Omega.{arith}
+use lib.ListN.{length, get_or, take}
+use Rattle.spec.specs.Lists.{total}
+use borrow.Author.Rules.{rules}
+use Rattle.disk_records.specs.Header.{FieldsLeft, rest_none, rest_more, rest_all, total-more, total_within}
+use Rattle.disk_records.proofs.write_fields.Given as goal
+
+abbrev pub invariant-loop-i : goal.invariant-loop-i
+invariant-loop-i l = (l.i ≤ length l.widths) × (length l.dst ≡ length l.initial.dst) × (l.at ≡ l.from + total (take l.i l.widths))
+    × FieldsLeft l.widths l.values l.from l.initial.dst l.dst l.at l.i
+
+abbrev pub decreases-loop-i : goal.decreases-loop-i
+decreases-loop-i l = length l.widths - l.i

@@ -1,0 +1,23 @@
+-- `is_sealed`: all drives are missing or full iff those from d on are; one that is not ends it; `sealed-list` says this of the view. Assumes nothing.
+use mathlib.Core.Path.{◌≡◌, sym, ◌∙◌}
+use mathlib.Core.Bool.{Bool, ◌||◌}
+use Prim.Native.Nat.{ℕ, ◌-◌, ◌≤◌}
+use native.Mathlib.Omega.{arith}
+use lib.Dec.{eqb}
+use borrow.Author.Tests.{not-true, not-false}
+use Rattle.spec.specs.Drives.{pointer_of, zone_on}
+use Rattle.spec.specs.Engine.Call.{close}
+use Rattle.spec.specs.Lists.{up_from, below, all, is_in}
+use Rattle.spec.specs.Params.{capacity}
+use Rattle.law_scans.specs.Scans.{all_broken, all_passed, all-ended, all_start}
+use Rattle.disk_zones.specs.Empty.{sealed-list}
+use Rattle.disk_zones.proofs.is_sealed.Given as goal
+
+abbrev pub invariant-loop-d : goal.invariant-loop-d
+invariant-loop-d l =
+    (l.d ≤ l.p.N)
+    × (all (λ e. is_in l.gone e || eqb (pointer_of l.p l.pointers e (zone_on l.segment e)) (capacity l.p)) (up_from l.d (l.p.N - l.d))
+    ≡ all (λ e. is_in l.gone e || eqb (pointer_of l.p l.pointers e (zone_on l.segment e)) (capacity l.p)) (below l.p.N))
+
+abbrev pub decreases-loop-d : goal.decreases-loop-d
+decreases-loop-d l = l.p.N - l.d

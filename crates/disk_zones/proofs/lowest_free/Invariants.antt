@@ -1,0 +1,18 @@
+-- `lowest_free`: the first from z on is the first of all; such a zone z is it, another passes on; at Z there is none. Assumes nothing.
+use mathlib.Core.Path.{◌≡◌, sym, ap, ◌∙◌}
+use mathlib.Core.Bool.{Bool}
+use mathlib.Core.List.{List}
+use Prim.Native.Nat.{ℕ, ◌-◌, ◌≤◌}
+use native.Mathlib.Omega.{arith}
+use Rattle.spec.specs.Lists.{below, up_from, keep, first_or}
+use Rattle.law_basic.specs.Geometry.{ranged}
+use Rattle.law_basic.specs.Ranges.{below-start, first_turn, first_pass, first_end}
+use Rattle.disk_zones.specs.Empty.{free_by}
+use Rattle.disk_zones.proofs.lowest_free.Given as goal
+
+abbrev pub invariant-loop-z : goal.invariant-loop-z
+invariant-loop-z l =
+    (l.z ≤ l.p.Z) × (first_or 0 (keep (free_by l.p l.pointers l.offline l.drive) (up_from l.z (l.p.Z - l.z))) ≡ first_or 0 (keep (free_by l.p l.pointers l.offline l.drive) (below l.p.Z)))
+
+abbrev pub decreases-loop-z : goal.decreases-loop-z
+decreases-loop-z l = l.p.Z - l.z

@@ -1,0 +1,79 @@
+-- `front_past`: the bytes 0 and 1 are their own numbers, the numbers at 10, 18 and 26 as read; the five tests are the five terms of the definition. Assumes nothing.
+use mathlib.Core.Path.{◌≡◌, ap, ap₂, ◌∙◌}
+use native.Mathlib.Omega.{arith}
+use Prim.Native.Nat.{◌+◌, ◌<◌}
+use lib.Count.{ones}
+use lib.ListN.{length, get_or}
+use Rattle.mem_codec.specs.Codec.{state_len_lem}
+use Rattle.spec.specs.Bytes.{le_of, part}
+use Rattle.law_basic.specs.Geometry.{ranged}
+use Rattle.law_basic.specs.Le.{le_of_part-one}
+use Rattle.mem_bounds.specs.Bounds.{other, past, bounds_above, front_past}
+use borrow.Author.Rules.{rules}
+use Rattle.mem_bounds.proofs.front_past.Goals as goal
+
+pub bounds-bytes-0 : goal.bounds-bytes-0
+bounds-bytes-0 c = omega (arith, state_len_lem, c.requires.bytes_len)
+
+pub bounds-bytes-1 : goal.bounds-bytes-1
+bounds-bytes-1 c =
+    let pre = c.requires in
+    omega (arith, state_len_lem, pre.bytes_len)
+
+pub power-requires : goal.power-requires
+power-requires c =
+    let s = c in
+    omega (arith, (ranged s.args.p s.requires.p_value).drives_high)
+
+pub bounds-bytes-1-2 : goal.bounds-bytes-1-2
+bounds-bytes-1-2 c =
+    let pre = c.requires in
+    omega (arith, state_len_lem, pre.bytes_len)
+
+pub read_le64-serial-requires : goal.read_le64-serial-requires
+read_le64-serial-requires c =
+    let pre = c.requires in
+    omega (arith, state_len_lem, pre.bytes_len)
+
+pub read_le64-requires : goal.read_le64-requires
+read_le64-requires c =
+    let pre = c.requires in
+    omega (arith, state_len_lem, pre.bytes_len)
+
+pub read_le32-requires : goal.read_le32-requires
+read_le32-requires c =
+    let pre = c.requires in
+    omega (arith, state_len_lem, pre.bytes_len)
+
+pub overflow_cast-p : goal.overflow_cast-p
+overflow_cast-p c =
+    let s = c in
+    omega (arith, (ranged s.args.p s.requires.p_value).stripes_high)
+
+pub overflow_add-p : goal.overflow_add-p
+overflow_add-p c =
+    let s = c in
+    omega (arith, (ranged s.args.p s.requires.p_value).stripes_high)
+
+pub returns : goal.returns
+unfolding front_past
+returns c =
+    let next = c in
+    let opened = c in
+    let lost = opened in
+    let gone = lost in
+    let live = gone in
+    let s = live in
+    let p = s.args.p in
+    let bs = s.args.bytes.now in
+    let h : 1 < length bs = omega (arith, state_len_lem, s.requires.bytes_len) in
+    let e0 : get_or bs 0 0 ≡ le_of (part 0 1 bs) = le_of_part-one 0 bs (omega arith) in
+    let e1 : get_or bs 1 0 ≡ le_of (part 1 1 bs) = le_of_part-one 1 bs h in
+    let f0 = live.other.ensures.0 ∙ ap other e0 in
+    let f1 = gone.past.ensures.0 ∙ ap₂ past gone.power.ensures (gone.wide32.ensures.0 ∙ e1) in
+    let f2 = lost.past2.ensures.0 ∙ ap (past 2) (lost.count.ensures.0 ∙ ap ones e1) in
+    let f3 = opened.above-opened.ensures.0 ∙ ap₂ bounds_above opened.read_le64-serial.ensures opened.read_le64.ensures in
+    let f4 = next.past-next.ensures.0 ∙ ap (past (p.S + 1)) next.read_le32.ensures in (
+      λ j. f0 j + f1 j + f2 j + f3 j + f4 j,
+      omega (arith, live.other.ensures.1, gone.past.ensures.1, lost.past2.ensures.1, opened.above-opened.ensures.1, next.past-next.ensures.1),
+    )

@@ -1,0 +1,72 @@
+-- `slots_past`: the four sections at 30, 62, 70 and 78, each with its limit, are the four terms; `power` is the limit of the masks. Assumes nothing.
+use mathlib.Core.Path.{◌≡◌, refl, ap, ◌∙◌}
+use native.Mathlib.Omega.{arith}
+use Prim.Native.Nat.{ℕ, ◌+◌, ◌-◌, ◌^◌}
+use Rattle.mem_codec.specs.Codec.{state_len_lem}
+use Rattle.spec.specs.Params.{data_count}
+use Rattle.law_basic.specs.Geometry.{ranged}
+use Rattle.mem_bounds.specs.Bounds.{past_in, slots_past}
+use borrow.Author.Rules.{rules}
+use Rattle.mem_bounds.proofs.slots_past.Goals as goal
+
+pub overflow_cast-p : goal.overflow_cast-p
+overflow_cast-p c =
+    let s = c in
+    omega (arith, (ranged s.args.p s.requires.p_value).stripes_high)
+
+pub words_past-numbers-requires : goal.words_past-numbers-requires
+words_past-numbers-requires c = (omega (arith, state_len_lem, c.requires.bytes_len), omega arith)
+
+pub overflow_cast-p-2 : goal.overflow_cast-p-2
+overflow_cast-p-2 c =
+    let s = c in
+    omega (arith, (ranged s.args.p s.requires.p_value).drives_high)
+
+pub bytes_past-filled-requires : goal.bytes_past-filled-requires
+bytes_past-filled-requires c =
+    let pre = c.requires in
+    omega (arith, state_len_lem, pre.bytes_len)
+
+pub overflow_sub-p : goal.overflow_sub-p
+overflow_sub-p c =
+    let s = c in
+    omega (arith, (ranged s.args.p s.requires.p_value).drives_low)
+
+pub power-requires : goal.power-requires
+power-requires c =
+    let s = c in
+    omega (arith, (ranged s.args.p s.requires.p_value).drives_high)
+
+pub bytes_past-writes-requires : goal.bytes_past-writes-requires
+bytes_past-writes-requires c =
+    let pre = c.requires in
+    omega (arith, state_len_lem, pre.bytes_len)
+
+pub power-requires-2 : goal.power-requires-2
+power-requires-2 c =
+    let s = c in
+    omega (arith, (ranged s.args.p s.requires.p_value).drives_high)
+
+pub bytes_past-landed-requires : goal.bytes_past-landed-requires
+bytes_past-landed-requires c =
+    let pre = c.requires in
+    omega (arith, state_len_lem, pre.bytes_len)
+
+pub returns : goal.returns
+unfolding slots_past data_count
+returns c =
+    let landed = c in
+    let writes = c in
+    let filled = writes in
+    let numbers = filled in
+    let s = numbers in
+    let p = s.args.p in
+    let bs = s.args.bytes.now in
+    let d : p.N - 1 ≡ data_count p = refl in
+    let f0 = numbers.words-past.ensures.0 in
+    let f1 = filled.bytes_past.ensures.0 in
+    let f2 = writes.bytes_past-writes.ensures.0 ∙ ap (λ (x : ℕ). past_in 1 8 70 x bs) (writes.power.ensures ∙ ap (λ (x : ℕ). 2 ^ x) d) in
+    let f3 = landed.bytes_past-landed.ensures.0 ∙ ap (λ (x : ℕ). past_in 1 8 78 x bs) landed.power-2.ensures in (
+      λ j. f0 j + f1 j + f2 j + f3 j,
+      omega (arith, numbers.words-past.ensures.1, filled.bytes_past.ensures.1, writes.bytes_past-writes.ensures.1, landed.bytes_past-landed.ensures.1),
+    )

@@ -1,0 +1,34 @@
+-- `state_ok`: the sum of the three counts is 0 iff each number is in its range (`state_in_holds`). Assumes nothing.
+use mathlib.Core.Path.{◌∙◌}
+use native.Mathlib.Omega.{arith}
+use Prim.Native.Nat.{◌+◌}
+use lib.Dec.{eqb}
+use Rattle.mem_codec.specs.Codec.{state_len_lem}
+use Rattle.law_basic.specs.Geometry.{ranged}
+use Rattle.mem_bounds.specs.Bounds.{state_in_holds}
+use borrow.Author.Rules.{rules}
+use Rattle.mem_bounds.proofs.state_ok.Goals as goal
+
+pub overflow_cast-p : goal.overflow_cast-p
+overflow_cast-p c =
+    let entry = c in
+    let args = entry.args in
+    let pre = entry.requires in
+    let r = ranged args.p pre.p_value in omega (arith, r.stripes_high)
+
+pub words_past-offsets-requires : goal.words_past-offsets-requires
+words_past-offsets-requires c =
+    let pre = c.requires in
+    (omega (arith, state_len_lem, pre.bytes_len), omega arith)
+
+pub returns : goal.returns
+returns c =
+    let slots = c in
+    let front = slots in
+    let s = front in
+    let p = s.args.p in
+    let bs = s.args.bytes.now in
+    let e0 = front.front_past_holds.ensures.0 in
+    let e1 = slots.slots_past-slots.ensures.0 in
+    let e2 = c.words_past-offsets.ensures.0 in
+    (λ j. eqb (e0 j + e1 j + e2 j) 0) ∙ state_in_holds p bs s.requires.p_value

@@ -1,0 +1,45 @@
+-- `list_rule`: the two tests, on a count of good zones that stops where they are enough, are the definition's (`few_by`, `narrow_by`), in its order. Assumes nothing.
+use Prim.Native.Nat.{ℕ}
+use Rattle.spec.specs.Drives.{few_good, above_narrow}
+use Rattle.mem_calls.specs.Listed.{few_by, narrow_by, list_few, list_narrow, list_fits}
+use borrow.Author.Rules.{rules}
+use lib.Dec.{ltb}
+use mathlib.Core.Path.{◌≡◌, sym, ap, ◌∙◌}
+use Rattle.mem_calls.proofs.list_rule.Goals as goal
+use Rattle.mem_calls.proofs.list_rule.Goals.{After-most_with, Start}
+
+module _ (c : After-most_with) where
+  abbrev begun : Start
+  begun = c
+
+  few-is : few_good begun.args.p begun.args.offline.now ≡ ltb c.good_count-n.result 4
+  few-is =
+      let a = begun.args in
+      let n = c.good_count-n in
+      let m = c.enough in
+      sym (few_by a.p a.offline.now m.result n.result m.ensures.0 m.ensures.2 n.ensures.0)
+
+  narrow-is : above_narrow begun.args.p begun.args.offline.now ≡ ltb c.most_with.result begun.args.p.L
+  narrow-is =
+      let a = begun.args in
+      let n = c.good_count-n in
+      let m = c.enough in
+      sym (ap (λ (x : ℕ). ltb x a.p.L) c.most_with.ensures.0 ∙ narrow_by a.p a.offline.now m.result n.result m.ensures.0 m.ensures.2 n.ensures.0)
+
+pub returns-then-few : goal.returns-then-few
+returns-then-few c =
+    let m = c in
+    let a = (begun m).args in
+    sym (list_few a.p a.offline.now (few-is m ∙ c.if-few.true-raw))
+
+pub returns-then-narrow : goal.returns-then-narrow
+returns-then-narrow c =
+    let m = c in
+    let a = (begun m).args in
+    sym (list_narrow a.p a.offline.now (few-is m ∙ c.if-few.false-raw) (narrow-is m ∙ c.if-narrow.true-raw))
+
+pub returns : goal.returns
+returns c =
+    let m = c in
+    let a = (begun m).args in
+    sym (list_fits a.p a.offline.now (few-is m ∙ c.if-few.false-raw) (narrow-is m ∙ c.if-narrow.false-raw))

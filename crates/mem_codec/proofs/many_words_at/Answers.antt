@@ -1,0 +1,45 @@
+-- `many_words_at`: out is the first i numbers, then zeros; one turn puts number i as `read_le32` reads it; at 64 no zero is left. Assumes nothing.
+use mathlib.Core.Path.{◌≡◌, refl}
+use mathlib.Core.List.{◌++◌}
+use Prim.Native.Nat.{◌-◌, ◌≤◌}
+use native.Mathlib.Omega.{arith}
+use lib.ListN.{drop, replicate}
+use Rattle.spec.specs.Memory.{numbers_at}
+use Rattle.mem_codec.specs.Codec.{read_none, read_one, read_all}
+use Rattle.mem_codec.proofs.many_words_at.Goals as goal
+
+pub loop-i-init : goal.loop-i-init
+loop-i-init c = (omega arith, read_none 4 c.args.at c.args.src.now (replicate 64 0))
+
+pub overflow_mul-i : goal.overflow_mul-i
+overflow_mul-i c = omega arith
+
+pub overflow_add-at : goal.overflow_add-at
+overflow_add-at c = omega arith
+
+pub read_le32-requires : goal.read_le32-requires
+read_le32-requires c = omega arith
+
+pub offset_bounds-out-i : goal.offset_bounds-out-i
+offset_bounds-out-i c = omega arith
+
+pub bounds-out-i : goal.bounds-out-i
+bounds-out-i c = omega arith
+
+pub overflow_add-i : goal.overflow_add-i
+overflow_add-i c = omega arith
+
+pub loop-i-smaller : goal.loop-i-smaller
+loop-i-smaller c = omega arith
+
+pub loop-i-preserved : goal.loop-i-preserved
+loop-i-preserved c =
+    let a = c.args in
+    let l = c.loop-i in
+    (omega arith, read_one 4 a.at l.i a.src.now (replicate 64 0) l.out c.read_le32.result (omega arith) l.invariant.1 c.read_le32.ensures)
+
+pub returns : goal.returns
+returns c =
+    let a = c.args in
+    let l = c.loop-i in
+    read_all 4 a.at l.i 64 a.src.now (replicate 64 0) l.out (omega arith) refl l.invariant.1

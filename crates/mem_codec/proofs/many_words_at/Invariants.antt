@@ -1,0 +1,15 @@
+-- `many_words_at`: out is the first i numbers, then zeros; one turn puts number i as `read_le32` reads it; at 64 no zero is left. Assumes nothing.
+use mathlib.Core.Path.{◌≡◌, refl}
+use mathlib.Core.List.{◌++◌}
+use Prim.Native.Nat.{◌-◌, ◌≤◌}
+use native.Mathlib.Omega.{arith}
+use lib.ListN.{drop, replicate}
+use Rattle.spec.specs.Memory.{numbers_at}
+use Rattle.mem_codec.specs.Codec.{read_none, read_one, read_all}
+use Rattle.mem_codec.proofs.many_words_at.Given as goal
+
+abbrev pub invariant-loop-i : goal.invariant-loop-i
+invariant-loop-i l = (l.i ≤ 64) × (l.out ≡ numbers_at 4 l.i l.at l.src ++ drop l.i (replicate 64 0))
+
+abbrev pub decreases-loop-i : goal.decreases-loop-i
+decreases-loop-i l = 64 - l.i

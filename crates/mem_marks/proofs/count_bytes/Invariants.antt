@@ -1,0 +1,14 @@
+-- `count_bytes`: n is how many numbers of the bytes a to i - 1 are marked; one turn adds the ones of byte i (`byte_more`). Assumes nothing.
+use Prim.Native.Nat.{ℕ, ◌+◌, ◌-◌, ◌*◌, ◌≤◌}
+use Rattle.spec.specs.Lists.{up_from, keep}
+use Rattle.mem_marks.specs.Marks.{is_marked, kept_nothing, byte_more}
+use lib.ListN.{length}
+use mathlib.Core.Path.{◌≡◌, sym, ap, ◌∙◌}
+use native.Mathlib.Omega.{arith}
+use Rattle.mem_marks.proofs.count_bytes.Given as goal
+
+abbrev pub invariant-loop-i : goal.invariant-loop-i
+invariant-loop-i l = (l.a ≤ l.i) × (l.i ≤ l.b) × (l.n ≡ length (keep (is_marked l.marks) (up_from (8 * l.a) (8 * l.i - 8 * l.a)))) × (l.n ≤ 8 * l.i - 8 * l.a)
+
+abbrev pub decreases-loop-i : goal.decreases-loop-i
+decreases-loop-i l = l.b - l.i

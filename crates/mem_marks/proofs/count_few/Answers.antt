@@ -1,0 +1,46 @@
+-- `count_few`: n plus those marked from k on is all that are marked from lo on; a marked k moves to n in its turn. Assumes nothing.
+use Prim.Native.Nat.{ℕ, ◌+◌, ◌-◌, ◌≤◌}
+use Rattle.spec.specs.Lists.{up_from, keep}
+use Rattle.mem_marks.specs.Marks.{is_marked}
+use Rattle.law_scans.specs.Scans.{kept-one, kept_none, kept-ended}
+use lib.ListN.{length}
+use mathlib.Core.Bool.{Bool}
+use mathlib.Core.Logic.{⊎_elim}
+use mathlib.Core.Path.{◌≡◌, sym, ◌∙◌}
+use native.Mathlib.Nat.{zero-add}
+use native.Mathlib.Omega.{arith}
+use Rattle.mem_marks.proofs.count_few.Goals as goal
+
+pub loop-k-init : goal.loop-k-init
+loop-k-init c =
+    let a = c.args in
+    (omega arith, omega arith, zero-add (length (keep (is_marked a.marks.now) (up_from a.lo (a.hi - a.lo)))), omega arith)
+
+pub is_marked-requires : goal.is_marked-requires
+is_marked-requires c = omega arith
+
+pub overflow_add-n : goal.overflow_add-n
+overflow_add-n c = omega arith
+
+pub overflow_add-k : goal.overflow_add-k
+overflow_add-k c = omega arith
+
+pub loop-k-smaller : goal.loop-k-smaller
+loop-k-smaller c = omega arith
+
+pub loop-k-preserved : goal.loop-k-preserved
+loop-k-preserved c =
+    let a = c.args in
+    let l = c.loop-k in
+    let t = c.loop-k-test.true in
+    let f : ℕ → Bool = is_marked a.marks.now in
+    let e = c.is_marked.ensures in
+    ⊎_elim (λ w. (omega arith, omega arith, omega (arith, kept-one f l.k a.hi l.n t (sym e ∙ w.0.taken), l.invariant.2), omega arith))
+    (λ w. (omega arith, omega arith, omega (arith, kept_none f l.k a.hi l.n t (sym e ∙ w.0.left), l.invariant.2), omega arith))
+    c.if-is_marked.branch
+
+pub returns : goal.returns
+returns c =
+    let a = c.args in
+    let l = c.loop-k in
+    (sym (kept-ended (is_marked a.marks.now) l.k a.hi l.n (omega arith)) ∙ l.invariant.2, omega arith)

@@ -1,0 +1,19 @@
+-- `mark_places`: after a turns a place within is marked iff it was or one of the first a addresses has it; one turn adds that of address a. Assumes nothing.
+use Prim.Native.Nat.{ℕ, ◌+◌, ◌-◌, ◌≤◌, ◌<◌}
+use Rattle.mem_marks.specs.Marks.{is_marked, with_mark, is_pointed, no_pointed, turned}
+use Rattle.mem_tables.specs.Tables.{is_within, count_places, bit_le, count_no_places, count-one, count-le}
+use lib.ListN.{length}
+use mathlib.Core.Bool.{Bool, cond, ◌||◌}
+use mathlib.Core.Path.{◌≡◌, refl, sym, ap, ap₂, ◌∙◌}
+use mir.Val.{bool_byte}
+use native.Mathlib.Omega.{arith}
+use Rattle.mem_marks.proofs.mark_places.Given as goal
+
+abbrev pub invariant-loop-a : goal.invariant-loop-a
+invariant-loop-a l =
+    (l.a ≤ l.n) × (length l.marks ≡ length l.initial.marks)
+    × ((q : ℕ) → l.first ≤ q → q < l.end → is_marked l.marks (q - l.first) ≡ (is_pointed l.addresses l.a q || is_marked l.initial.marks (q - l.first)))
+    × (l.k ≡ count_places l.addresses l.a l.end 4294967295) × (l.k ≤ l.a)
+
+abbrev pub decreases-loop-a : goal.decreases-loop-a
+decreases-loop-a l = l.n - l.a

@@ -1,0 +1,11 @@
+-- `find_place`: the search from a on finds what the search of all finds; a hit is the lowest, a miss passes on, at n there is none. Assumes nothing.
+use Rattle.std.proofs.Common.{◌≡◌, ◌-◌, ◌≤◌, sym, ◌∙◌, arith}
+use Rattle.spec.specs.Memory.{place_at_of}
+use Rattle.mem_tables.specs.Tables.{find_place, find_from, find_start, find_hit, find_miss, find_end}
+use Rattle.mem_tables.proofs.find_place.Given as goal
+
+abbrev pub invariant-loop-a : goal.invariant-loop-a
+invariant-loop-a l = (l.a ≤ l.n) × (find_from l.table l.n l.wanted l.a ≡ find_place l.table l.n l.wanted)
+
+abbrev pub decreases-loop-a : goal.decreases-loop-a
+decreases-loop-a l = l.n - l.a

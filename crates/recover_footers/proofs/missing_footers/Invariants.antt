@@ -1,0 +1,18 @@
+-- `missing_footers`: what is owed are the footers of the drives from d on, whose zones are as found; a turn pays those of d, or is cut. Assumes nothing.
+use Prim.Native.Nat.{ℕ, ◌-◌}
+use Rattle.spec.specs.Drives.{mk_disk}
+use Rattle.law_basic.specs.Geometry.{ranged}
+use Rattle.recover_footers.specs.Feet.{FeetUpto, feet_start, feet_pointer, feet_done, feet_cut, feet_turn}
+use lib.ListN.{length}
+use mathlib.Core.List.{List, []}
+use mathlib.Core.Path.{◌≡◌, refl, ◌∙◌}
+use native.Mathlib.Omega.{arith}
+use Rattle.law_basic.specs.Segs.{low_here}
+use Rattle.recover_footers.proofs.missing_footers.Given as goal
+
+abbrev pub invariant-loop-d : goal.invariant-loop-d
+invariant-loop-d l =
+    (length l.image ≡ length l.initial.image) × (length l.pointers ≡ length l.initial.pointers) × ((off : List ℕ) → FeetUpto l.p off l.count l.segment (mk_disk l.initial.image l.initial.pointers) l.d l.left (mk_disk l.image l.pointers))
+
+abbrev pub decreases-loop-d : goal.decreases-loop-d
+decreases-loop-d l = l.p.N - l.d

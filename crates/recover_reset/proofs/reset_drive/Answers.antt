@@ -1,0 +1,81 @@
+-- `reset_drive`: what is owed are the resets of the good zones from z on; one turn pays that of z, a cut ends it, at Z nothing is owed. Assumes nothing.
+use mathlib.Core.Path.{◌≡◌, refl, ◌∙◌, subst}
+use mathlib.Core.List.{List, [], ◌∷◌, map}
+use mathlib.Core.Bool.{cond}
+use Prim.Native.Nat.{ℕ, ◌+◌, ◌-◌, ◌≤◌}
+use native.Mathlib.Omega.{arith}
+use lib.ListN.{length}
+use Rattle.spec.specs.Drives.{Store, mk_disk, is_good, good_zones}
+use Rattle.spec.specs.Drives.Store.{reset}
+use Rattle.recover_drop.specs.Going.{Owes, owes_turn, owes_cut, owes_done}
+use Rattle.recover_reset.specs.Good.{good_from, good_start, good_step, good_end}
+use Rattle.recover_reset.proofs.reset_drive.Goals as goal
+
+pub loop-z-init : goal.loop-z-init
+loop-z-init c =
+    let a = c.args in
+    let ss = map (reset a.drive) (good_zones a.p a.offline.now a.drive) in (
+      omega arith,
+      refl,
+      λ im. subst (λ (l : List Store). Owes a.p a.count ss (mk_disk im a.pointers.now) l a.count (mk_disk im a.pointers.now))
+          (good_start a.p a.offline.now a.drive) (λ m k' h. h),
+    )
+
+pub reset_good-made-requires : goal.reset_good-made-requires
+reset_good-made-requires c =
+    let q = c.requires in
+    let l = c.loop-z in record { p_value = q.p_value; pointers_len = (l.invariant.1 ∙ q.pointers_len.0, q.pointers_len.1, q.pointers_len.2, c.loop-z-test.true) }
+
+pub shape_of-pointers-then-made : goal.shape_of-pointers-then-made
+shape_of-pointers-then-made c = c.reset_good-made.auto.pointers ∙ c.loop-z.invariant.1
+
+pub returns-then-made : goal.returns-then-made
+returns-then-made c =
+    let a = c.args in
+    let l = c.loop-z in
+    let m = c.reset_good-made in
+    let ss = map (reset a.drive) (good_zones a.p a.offline.now a.drive) in
+    let one = cond (is_good a.p a.offline.now a.drive l.z) (reset a.drive l.z ∷ []) [] in
+    λ im.
+    let k = mk_disk im a.pointers.now in
+    owes_cut a.p a.count ss k one (good_from a.p a.offline.now a.drive (l.z + 1)) l.left (mk_disk im l.pointers) m.result (mk_disk im m.new.pointers)
+    (subst (λ (x : List Store). Owes a.p a.count ss k x l.left (mk_disk im l.pointers))
+    (good_step a.p a.offline.now a.drive l.z c.loop-z-test.true) (l.invariant.2 im))
+    (m.ensures im) c.if-made.true
+
+pub overflow_add-z : goal.overflow_add-z
+overflow_add-z c = omega arith
+
+pub loop-z-smaller : goal.loop-z-smaller
+loop-z-smaller c = omega arith
+
+pub loop-z-preserved : goal.loop-z-preserved
+loop-z-preserved c =
+    let a = c.args in
+    let l = c.loop-z in
+    let m = c.reset_good-made in
+    let ss = map (reset a.drive) (good_zones a.p a.offline.now a.drive) in
+    let one = cond (is_good a.p a.offline.now a.drive l.z) (reset a.drive l.z ∷ []) [] in (
+      omega arith,
+      m.auto.pointers ∙ l.invariant.1,
+      λ im.
+          let k = mk_disk im a.pointers.now in
+          owes_turn a.p a.count ss k one (good_from a.p a.offline.now a.drive (l.z + 1)) l.left (mk_disk im l.pointers) m.result (mk_disk im m.new.pointers)
+          (subst (λ (x : List Store). Owes a.p a.count ss k x l.left (mk_disk im l.pointers))
+          (good_step a.p a.offline.now a.drive l.z c.loop-z-test.true) (l.invariant.2 im))
+          (m.ensures im) c.if-made.false,
+    )
+
+pub shape_of-pointers : goal.shape_of-pointers
+shape_of-pointers c = c.loop-z.invariant.1
+
+pub returns : goal.returns
+returns c =
+    let a = c.args in
+    let l = c.loop-z in
+    let ss = map (reset a.drive) (good_zones a.p a.offline.now a.drive) in
+    λ im.
+    let k = mk_disk im a.pointers.now in
+    owes_done a.p a.count ss k l.left (mk_disk im l.pointers)
+    (subst (λ (x : List Store). Owes a.p a.count ss k x l.left (mk_disk im l.pointers))
+    (good_end a.p a.offline.now a.drive l.z (omega (arith, c.loop-z-test.false))) (l.invariant.2 im))

@@ -1,0 +1,421 @@
+#!/usr/bin/env python3
+"""Turns proofs/F/Proof.antt of an older kit (invariants and answers handed to `tie.spec`) to Invariants.antt and Answers.antt.
+
+usage: port_proofs.py ROOT NAMES [CRATE..]    NAMES: the folder that `rt names` wrote
+"""
+import collections
+import json
+import os
+import re
+import sys
+
+ID = r"[A-Za-z_\u03b1-\u03c9\u0391-\u03a9\u2080-\u2089][\w'\u2080-\u2089!]*(?:-[\w'\u2080-\u2089!]+)*"
+
+
+def norm(n):
+    return n.replace("-", "_")
+
+
+def read(p):
+    with open(p, encoding="utf-8") as f:
+        return f.read()
+
+
+def contracts(root):
+    """crate::f (and crate::Type::f) -> (requires names, ensures names)"""
+    out = {}
+    for c in os.listdir(os.path.join(root, "crates")):
+        src = os.path.join(root, "crates", c, "src")
+        for d, _, fs in os.walk(src):
+            for f in fs:
+                if not f.endswith(".rt"):
+                    continue
+                text = read(os.path.join(d, f))
+                owner = None
+                for m in re.finditer(r"^impl (\w+)|\bfn (\w+)(.*?)\n?\s*\{\n|\bfn (\w+)([^\n]*)\n\{\}", text, re.M | re.S):
+                    if m.group(1):
+                        owner = m.group(1)
+                        continue
+                    name = m.group(2) or m.group(4)
+                    body = m.group(3) or m.group(5) or ""
+                    req = re.findall(r"^\s*requires (\w*) ?\{", body, re.M)
+                    ens = re.findall(r"^\s*ensures (\w*) ?\{", body, re.M)
+                    out[f"{c}::{name}"] = (req, ens)
+                    if owner:
+                        out[f"{c}::{owner}::{name}"] = (req, ens)
+    return out
+
+
+def split_top(s):
+    """the parts of `(a, b, ..)` at the top, or None"""
+    s = s.strip()
+    if not (s.startswith("(") and s.endswith(")")):
+        return None
+    depth, parts, at = 0, [], 1
+    for i, ch in enumerate(s):
+        if ch in "([{":
+            depth += 1
+        elif ch in ")]}":
+            depth -= 1
+            if depth == 0 and i != len(s) - 1:
+                return None
+        elif ch == "," and depth == 1:
+            parts.append(s[at:i])
+            at = i + 1
+    last = s[at:-1]
+    if last.strip():
+        parts.append(last)
+    return [p.strip() for p in parts]
+
+
+def tuple_of(s, n):
+    """n parts of a right-nested tuple, or None"""
+    parts = split_top(s)
+    if not parts or len(parts) < 2:
+        return None
+    while len(parts) < n:
+        more = split_top(parts[-1])
+        if not more or len(more) < 2:
+            return None
+        parts = parts[:-1] + more
+    if len(parts) > n:
+        parts = parts[: n - 1] + ["(" + ", ".join(parts[n - 1 :]) + ")"]
+    return parts
+
+
+def fields_of(term, last, names, own, body):
+    """a record of clauses from a term that is no tuple: the function's own requires, or any pair"""
+    e = last.strip()
+    for m in re.finditer(r"let (%s) = (\S+) in" % ID, body):
+        if m.group(1) == e and m.group(2).endswith(".requires"):
+            e = m.group(2)
+    if e.endswith(".requires") and len(own) == len(names):
+        return [f"{last.strip()}.{o}" for o in own]
+    e = last.strip()
+    if " " in e and not (e.startswith("(") and split_top(e) and len(split_top(e)) == 1):
+        e = f"({e})"
+    out, path = [], ""
+    for k in range(len(names)):
+        out.append(e + path + (".0" if k < len(names) - 1 else ""))
+        path += ".1"
+    return out
+
+
+def final(body):
+    """where the last expression of a chain of `let .. in` begins"""
+    depth, at, i = 0, 0, 0
+    # the `in` of a let at depth 0
+    for m in re.finditer(r"[(\[{]|[)\]}]|\blet\b|\bin\b", body):
+        t = m.group(0)
+        if t in "([{":
+            depth += 1
+        elif t in ")]}":
+            depth -= 1
+        elif t == "in" and depth == 0:
+            at = m.end()
+    return at
+
+
+class Fn:
+    def __init__(self, crate, name, entry, known):
+        self.crate, self.name, self.entry, self.known = crate, name, entry, known
+        self.steps, self.callee, self.fields, self.placenames = {}, {}, {}, {}
+        for old, new in zip([p[0] for p in entry["places"]], entry["places_by_name"]):
+            self.placenames[norm(old)] = new
+        for p in entry["places"]:
+            old, new = p[2]
+            if old:
+                self.steps[norm(old)] = new
+                if p[3]:
+                    self.callee[norm(old)] = p[3]
+                for a, b in p[4]:
+                    self.fields.setdefault(norm(old), {})[a] = b
+        self.own = known.get(f"{crate}::{name.replace('.', '::')}", ([], []))
+        self.pre = (entry["pre"] or {}).get("fields") or []
+
+    def clause(self, names, path):
+        """`.1.0.rest` over right-nested clauses, by name"""
+        k, n = 0, len(names)
+        while True:
+            if k == n - 1:
+                return "." + names[k] + path
+            m = re.match(r"\.([01])(?!\d)", path)
+            if not m:
+                return None
+            path = path[2:]
+            if m.group(1) == "0":
+                return "." + names[k] + path
+            k += 1
+
+    def turn(self, body):
+        body = re.sub(r"(?:\.before)+(?![\w'-])", "", body)
+        alias, pres = {}, set()
+
+        def step(m):
+            old = norm(m.group(1))
+            return "." + self.steps[old] if old in self.steps else m.group(0)
+
+        # names bound to steps and to requires
+        for m in re.finditer(r"let (%s)(?: : [^=]*?)? = ([\w']+)\.(%s) in" % (ID, ID), body):
+            if norm(m.group(3)) in self.steps:
+                alias[m.group(1)] = norm(m.group(3))
+            if m.group(3) == "requires":
+                pres.add(m.group(1))
+        # fields of a step: c.STEP.field, or alias.field
+        newsteps = {}
+
+        ctx = {"c"} | set(re.findall(r"let (%s)(?: : [^=]*?)? = c in" % ID, body)) | set(re.findall(r"\((%s) : tie\." % ID, body))
+
+        def chain(m):
+            head, dot, name, rest = m.group(1), m.group(2), m.group(3), m.group(4)
+            old = norm(name)
+            if old not in self.steps or (head not in ctx and head != ")"):
+                return m.group(0)
+            return head + "." + self.steps[old] + self.rest(old, rest)
+
+        body = re.sub(r"(\b[\w']+|\))(\.)(%s)((?:\.[\w'-]+)*)" % ID, chain, body)
+        for a, old in alias.items():
+            body = re.sub(r"(?<![\w'.-])%s((?:\.[\w'-]+)+)" % re.escape(a), lambda m: a + self.rest(old, m.group(1)), body)
+        if len(self.pre) > 1:
+            def pre(m):
+                c = self.clause(self.pre, m.group(2))
+                return m.group(1) + (c if c else m.group(2))
+
+            body = re.sub(r"(\.requires)((?:\.[\w'-]+)+)", pre, body)
+            for a in pres:
+                body = re.sub(r"(?<![\w'.-])(%s)((?:\.[\w'-]+)+)" % re.escape(a), pre, body)
+        return body
+
+    def rest(self, old, rest):
+        """the fields behind a step"""
+        if old in self.fields:
+            m = re.match(r"\.([\w'-]+)(.*)", rest)
+            if m and m.group(1) in self.fields[old]:
+                rest = "." + self.fields[old][m.group(1)] + m.group(2)
+        callee = self.callee.get(old)
+        m = re.match(r"\.(auto|new)((?:\.1)*)\.0(?!\d)(.*)", rest, re.S)
+        if m and callee and callee in self.entry["params"]:
+            k = len(m.group(2)) // 2
+            params = self.entry["params"][callee]
+            if k < len(params):
+                rest = f".{m.group(1)}.{params[k]}{m.group(3)}"
+        m = re.match(r"\.ensures((?:\.[\w'-]+)*)$", rest)
+        if m and callee in self.known:
+            ens = self.known[callee][1]
+            if len(ens) > 1:
+                c = self.clause(ens, m.group(1))
+                if c:
+                    rest = ".ensures" + c
+        return rest
+
+
+def blocks(text):
+    """the comment, the imports, and the declarations: (name, lines)"""
+    lines = text.split("\n")
+    head, uses, decls, cur = [], [], [], None
+    for line in lines:
+        if line.startswith("use "):
+            uses.append(line)
+            continue
+        if cur is None and (line.startswith("--") or not line.strip()) and not decls:
+            head.append(line)
+            continue
+        if not line.strip():
+            if cur:
+                decls.append(cur)
+                cur = None
+            continue
+        if cur is None:
+            cur = []
+        cur.append(line)
+    if cur:
+        decls.append(cur)
+    # a new declaration begins at a signature at the margin, also without a blank line
+    out = []
+    for d in decls:
+        part = []
+        for line in d:
+            if part and re.match(r"^(?:pub |abbrev |unfoldable |module |data |record )*\S+(?: [^=]*)? : ", line) and not line.startswith(" ") and not part[-1].startswith("--") and not re.match(r"^\S+ .*=", line):
+                out.append(part)
+                part = []
+            part.append(line)
+        out.append(part)
+    return "\n".join(h for h in head if h.strip()), uses, out
+
+
+def convert(fn, text):
+    head, uses, decls = blocks(text)
+    said = []
+    m = re.search(r"tie\.spec\b(.*)", text, re.S)
+    args = re.findall(ID, m.group(1)) if m else []
+    kinds = {}
+    for d in decls:
+        for line in d:
+            s = re.match(r"^(?:pub |abbrev )*(%s) : tie\.(\S+)(.*)$" % ID, line)
+            if s:
+                kinds[s.group(1)] = s.group(2)
+    needs = [a for a in args if a in kinds and kinds[a].startswith("Need-")]
+    news = fn.entry["needs"]
+    goal = {}
+    if len(needs) == len(news):
+        for a, (o, n) in zip(needs, news):
+            goal[a] = (o, n)
+    else:
+        said.append(f"needs {len(needs)} now {len(news)}")
+        by = {norm(o): (o, n) for o, n in news}
+        for a in needs:
+            k = norm(kinds[a][5:])
+            for c in (k, re.sub(r"^(overflow|nonzero|bounds)_", "", k)):
+                if c in by:
+                    goal[a] = by[c]
+                    break
+            else:
+                said.append(f"no goal for {a}")
+    loops = {norm(l[0][0]): (l[0][1], l[1], ch) for l, ch in zip(fn.entry["loops"], fn.entry["changed"])}
+    inv, ans = [], []
+    places = set()
+    dropped = []
+    for d in decls:
+        text_d = "\n".join(d)
+        sig = next((l for l in d if not l.startswith("--")), "")
+        s = re.match(r"^(?:pub |abbrev |unfoldable )*(%s)" % ID, sig)
+        name = s.group(1) if s else ""
+        if "tie.close" in text_d and "statement M" in text_d:
+            continue
+        kind = kinds.get(name, "")
+        if kind.startswith(("invariant-", "decreases-")):
+            word, loop = kind.split("-", 1)
+            if norm(loop) not in loops:
+                said.append(f"no loop {loop}")
+                continue
+            new, vars_, changed = loops[norm(loop)]
+            i = next(i for i, l in enumerate(d) if l.startswith(name + " ") and "=" in l and " : tie." not in l)
+            body = "\n".join(d[i:])
+            m = re.match(r"%s((?: [^\s=]+)*) =(.*)" % re.escape(name), body, re.S)
+            params = m.group(1).split()
+            terms = [v for v, c in zip(vars_, changed)]
+            first = [f"l.{v}" if not c else f"l.initial.{v}" for v, c in zip(vars_, changed)]
+            want = first + [f"l.{v}" for v, c in zip(vars_, changed) if c]
+            extra = len(params) - len(want)
+            if extra != 0:
+                said.append(f"{name}: {len(params)} arguments, {len(want)} wanted: {params} {want}")
+            sub = dict(zip(params, want))
+            sub.pop("_", None)
+            rest = re.sub(r"(?<![\w'\u2080-\u2089.-])(%s)(?![\w'\u2080-\u2089-])" % "|".join(re.escape(p) for p in sorted(sub, key=len, reverse=True)), lambda k: sub[k.group(1)], m.group(2)) if sub else m.group(2)
+            target = f"{word}-{new}"
+            pre = [l for l in d[:i] if l.startswith("--") or l.startswith("unfolding")]
+            com = [l for l in pre if l.startswith("--")]
+            unf = [l for l in pre if l.startswith("unfolding")]
+            inv.append("\n".join(com + [f"abbrev pub {target} : goal.{target}"] + unf) + f"\n{target} l =" + rest)
+            continue
+        body = fn.turn(text_d)
+        if name in goal:
+            old, new = goal[name]
+            i = next(i for i, l in enumerate(d) if re.match(r"^%s(?: [^=]*)? =" % re.escape(name), l))
+            lines = body.split("\n")
+            com = [l for l in lines[:i] if l.startswith("--")]
+            unf = [l for l in lines[:i] if l.startswith("unfolding")]
+            rest = "\n".join(lines[i:])
+            m = re.match(r"%s([^=]*) =(.*)" % re.escape(name), rest, re.S)
+            params = [p for p in m.group(1).split() if not p.startswith("κ")]
+            term = m.group(2)
+            at = final(term)
+            last = term[at:].strip()
+            if at == 0 and last in ("tt", "search rules", "omega arith", "_"):
+                if last != "omega arith":
+                    dropped.append(new)
+                    continue
+            if old in fn.entry["asked"] and len(fn.entry["asked"][old]) > 1:
+                names = fn.entry["asked"][old]
+                parts = tuple_of(last, len(names))
+                if parts:
+                    term = term[:at] + " record { " + "; ".join(f"{a} = {b}" for a, b in zip(names, parts)) + " }"
+                else:
+                    said.append(f"{new}: clauses {names}")
+                    parts = fields_of(term, last, names, fn.pre, term)
+                    term = term[:at] + " record { " + "; ".join(f"{a} = {b}" for a, b in zip(names, parts)) + " }"
+            if re.match(r"returns(-\d+)?$", old) and len(fn.own[1]) > 1:
+                parts = tuple_of(last, len(fn.own[1]))
+                if parts:
+                    term = term[:at] + " record { " + "; ".join(f"{a} = {b}" for a, b in zip(fn.own[1], parts)) + " }"
+                else:
+                    said.append(f"{new}: clauses {fn.own[1]}")
+                    parts = fields_of(term, last, fn.own[1], [], term)
+                    term = term[:at] + " record { " + "; ".join(f"{a} = {b}" for a, b in zip(fn.own[1], parts)) + " }"
+            ans.append("\n".join(com + [f"pub {new} : goal.{new}"] + unf) + f"\n{new} {' '.join(params)} =" + term)
+            continue
+        # a helper
+        def place(m):
+            p = norm(m.group(1))
+            if p in fn.placenames:
+                places.add(fn.placenames[p])
+                return fn.placenames[p]
+            return m.group(0)
+
+        body = re.sub(r"\btie\.((?:Start|After|Else|Then|In|At|Joined)[\w-]*)(?: invariant-\S+ decreases-[^\s)]+)*", place, body)
+        if "tie." in body:
+            said.append(f"helper {name}: tie.")
+        if places:
+            said.append(f"helper {name}: over {sorted(places)}")
+        ans.append(body)
+    # a helper over a place is handed that place of the goal
+    over = {}
+    for a in ans:
+        m = re.search(r"^(?:pub |abbrev |unfoldable )*(%s) :\s*(?:\(%s : )?((?:Start|After|Else|Then|In|At|Joined)[\w-]*)\b" % (ID, ID), a, re.M)
+        if m and m.group(2) in set(fn.placenames.values()):
+            over[m.group(1)] = m.group(2)
+    for k, a in enumerate(ans):
+        m = re.search(r"^pub (%s) : goal\.(\S+)$" % ID, a, re.M)
+        if not m or m.group(1) != m.group(2):
+            continue
+        for h, place_ in over.items():
+            a = re.sub(r"(?<![\w'.-])%s c(?![\w'-])" % re.escape(h), f"{h} (goal.at.{m.group(1)} c).{place_}", a)
+        ans[k] = a
+    keep = [u for u in uses if ".Statement.{" not in u and ".Tie" not in u]
+    base = f"Rattle.{fn.crate}.proofs.{fn.name}"
+    out = {}
+    if inv:
+        out["Invariants.antt"] = (head + "\n" if head else "") + "\n".join(keep + [f"use {base}.Given as goal"]) + "\n\n" + "\n\n".join(inv) + "\n"
+    if ans:
+        more = [f"use {base}.Goals.{{{', '.join(sorted(places))}}}"] if places else []
+        out["Answers.antt"] = (head + "\n" if head else "") + "\n".join(keep + [f"use {base}.Goals as goal"] + more) + "\n\n" + "\n\n".join(ans) + "\n"
+    for k in out:
+        if "tie." in out[k]:
+            said.append(f"{k}: tie. is left")
+        if "⊎_elim" in out[k] and ".branch" in out[k]:
+            said.append(f"{k}: branch")
+    return out, said
+
+
+def main():
+    root, names = sys.argv[1], sys.argv[2]
+    known = contracts(root)
+    for c in sys.argv[3:] or sorted(os.listdir(os.path.join(root, "crates"))):
+        p = os.path.join(names, "crates", c, "names.json")
+        if not os.path.exists(p):
+            continue
+        with open(p) as f:
+            j = json.load(f)
+        for d, _, fs in sorted(os.walk(os.path.join(root, "crates", c, "proofs"))):
+            if "Proof.antt" not in fs:
+                continue
+            name = os.path.relpath(d, os.path.join(root, "crates", c, "proofs")).replace(os.sep, ".")
+            key = f"Rattle-{c}-proofs.{name}.Lts"
+            if key not in j:
+                print(f"{c}: {name}: not in names")
+                continue
+            try:
+                out, said = convert(Fn(c, name, j[key], known), read(os.path.join(d, "Proof.antt")))
+            except Exception as e:
+                print(f"{c}: {name}: {type(e).__name__} {e}")
+                continue
+            for k, v in out.items():
+                with open(os.path.join(d, k), "w", encoding="utf-8") as f:
+                    f.write(v)
+            os.remove(os.path.join(d, "Proof.antt"))
+            for s in said:
+                print(f"{c}: {name}: {s}")
+
+
+if __name__ == "__main__":
+    main()
