@@ -149,6 +149,15 @@ class Fn:
 
     def turn(self, body):
         body = re.sub(r"(?:\.before)+(?![\w'-])", "", body)
+        # a name for an earlier place is the place itself
+        while True:
+            m = re.search(r"let (%s)(?: : [^=\n]*?)? = c in[ \n]*" % ID, body)
+            if not m:
+                break
+            rest = body[m.end() :]
+            if m.group(1) != "c":
+                rest = re.sub(r"(?<![\w'\u2080-\u2089.-])%s(?![\w'\u2080-\u2089-])" % re.escape(m.group(1)), "c", rest)
+            body = body[: m.start()] + rest
         alias, pres = {}, set()
 
         def step(m):

@@ -16,14 +16,13 @@ returns-then-r-le1 c =
 
 pub returns-then-r-eq2 : goal.returns-then-r-eq2
 returns-then-r-eq2 c =
-    let s = c in
     let clear = c.clear in
     let if2 = c.if-r-eq2 in
     let if1 = c.if-r-le1 in
     let t = c.told_of-r in
-    let a = s.args in
+    let a = c.args in
     let k : t.result.kind ≡ kind a.change.answer = ap (λ (x : Told). x.kind) t.ensures in
-    (t.ensures, applied_cut a.state.now a.change (omega (arith, if1.false, k)) clear.new.dst (sym k ∙ if2.true) s.requires clear.ensures)
+    (t.ensures, applied_cut a.state.now a.change (omega (arith, if1.false, k)) clear.new.dst (sym k ∙ if2.true) c.requires clear.ensures)
 
 pub put_change-requires : goal.put_change-requires
 put_change-requires c =
@@ -32,11 +31,10 @@ put_change-requires c =
 
 pub returns : goal.returns
 returns c =
-    let s = c in
     let put-change = c.put_change in
     let if2 = c.if-r-eq2 in
     let if1 = c.if-r-le1 in
     let t = c.told_of-r in
-    let a = s.args in
+    let a = c.args in
     let k : t.result.kind ≡ kind a.change.answer = ap (λ (x : Told). x.kind) t.ensures in
     (t.ensures, applied_done a.state.now a.change (omega (arith, if1.false, k)) put-change.new.dst (λ e. if2.false (k ∙ e)) put-change.ensures)

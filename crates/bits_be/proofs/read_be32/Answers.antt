@@ -48,7 +48,6 @@ returns c =
     let wide323 = c.wide32-3 in
     let wide322 = c.wide32-2 in
     let wide32 = c.wide32 in
-    let entry = c in
-    let args = entry.args in
-    let pre = entry.requires in
+    let args = c.args in
+    let pre = c.requires in
     rw (wide32.ensures.0, wide322.ensures.0, wide323.ensures.0, c.wide32-4.ensures.0) (be_of-part_four args.at args.src.now (pre))

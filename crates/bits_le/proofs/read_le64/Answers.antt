@@ -23,6 +23,5 @@ overflow_add-result c = omega arith
 
 pub returns : goal.returns
 returns c =
-    let s = c in
     ap₂ (λ (x y : ℕ). x * 4294967296 + y) c.read_le32-high.ensures c.read_le32-low.ensures
-    ∙ sym (le_of_part-add s.args.at 4 4 s.args.src.now (omega (arith, s.requires)))
+    ∙ sym (le_of_part-add c.args.at 4 4 c.args.src.now (omega (arith, c.requires)))

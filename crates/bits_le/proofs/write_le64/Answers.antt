@@ -12,15 +12,14 @@ use Rattle.bits_le.proofs.write_le64.Goals as goal
 
 pub returns : goal.returns
 returns c =
-    let s = c in
     let write-le32 = c.write_le32 in
-    let l = s.args.dst.now in
-    let a = s.args.at in
-    let n = s.args.n in
+    let l = c.args.dst.now in
+    let a = c.args.at in
+    let n = c.args.n in
     let h : List ℕ = to_le 4 (n / 4294967296) in
     let e : length (to_le 4 n) ≡ 4 = length-to_le 4 n in
     let f : length h ≡ 4 = length-to_le 4 (n / 4294967296) in
     c.write_le32-2.ensures
     ∙ ap (λ (x : List ℕ). splice x (a + 4) h) (write-le32.ensures ∙ ap (splice l a) (to_le-mod 4 n))
     ∙ ap (λ (x : ℕ). splice (splice l a (to_le 4 n)) (a + x) h) (sym e)
-    ∙ splice_next l a (to_le 4 n) h (omega (arith, s.requires)) ∙ ap (splice l a) (sym (to_le-add 4 4 n))
+    ∙ splice_next l a (to_le 4 n) h (omega (arith, c.requires)) ∙ ap (splice l a) (sym (to_le-add 4 4 n))

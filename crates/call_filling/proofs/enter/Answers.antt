@@ -15,8 +15,7 @@ use Rattle.call_filling.proofs.enter.Goals as goal
 
 pub added-next-requires : goal.added-next-requires
 added-next-requires c =
-    let s = c in
-    omega (arith, s.requires.i_bound.1, data_count_high s.args.p (ranged s.args.p s.requires.p_value))
+    omega (arith, c.requires.i_bound.1, data_count_high c.args.p (ranged c.args.p c.requires.p_value))
 
 pub returns-then-not-has_room : goal.returns-then-not-has_room
 unfolding entered added_row

@@ -16,42 +16,37 @@ use Rattle.call_filling.proofs.open.Goals as goal
 
 pub returns-then-not-a : goal.returns-then-not-a
 returns-then-not-a c =
-    let s = c in
-    let a = s.args in
-    opening_none a.p a.offline.now (behind a.f) a.count (mk_disk a.image.now a.pointers.now) (sym s.requires.opens_value ∙ not-true a.a.opens c.if-not-a.true)
+    let a = c.args in
+    opening_none a.p a.offline.now (behind a.f) a.count (mk_disk a.image.now a.pointers.now) (sym c.requires.opens_value ∙ not-true a.a.opens c.if-not-a.true)
 
 pub new_segment-g-requires : goal.new_segment-g-requires
-new_segment-g-requires c =
-    let s = c in record { p_value = s.requires.p_value; pointers_len = (s.requires.whole.0.pointers_long, s.requires.whole.1) }
+new_segment-g-requires c = record { p_value = c.requires.p_value; pointers_len = (c.requires.whole.0.pointers_long, c.requires.whole.1) }
 
 pub overflow_add-serial : goal.overflow_add-serial
 overflow_add-serial c =
-    let s = c in
-    omega (arith, s.requires.serial_lt_last_count (not-false s.args.a.opens c.if-not-a.false))
+    omega (arith, c.requires.serial_lt_last_count (not-false c.args.a.opens c.if-not-a.false))
 
 pub header_stores-made-requires : goal.header_stores-made-requires
 header_stores-made-requires c =
-    let s = c in
     let if1 = c.if-not-a in
-    let a = s.args in
+    let a = c.args in
     let e : a.a.opens ≡ true = not-false a.a.opens if1.false in
-    let w = s.requires.whole.0 in
+    let w = c.requires.whole.0 in
     let l = c.new_segment-g in
-    let g : l.result ≡ new_seg a.p (view_of a.p a.offline.now a.image.now a.pointers.now) = l.ensures.by_index a.image.now w.image_long in record { p_value = s.requires.p_value; whole = w; zones_low = (
+    let g : l.result ≡ new_seg a.p (view_of a.p a.offline.now a.image.now a.pointers.now) = l.ensures.by_index a.image.now w.image_long in record { p_value = c.requires.p_value; whole = w; zones_low = (
           l.ensures.zones_low,
           λ d h.
               subst (λ (x : Seg). pointer_of a.p a.pointers.now d (zone_on x d) < capacity a.p) (sym g)
-              (new_room a.p a.offline.now a.image.now a.pointers.now s.requires.p_value w.image_long w.pointers_long (s.requires.nonzero e) d h),
+              (new_room a.p a.offline.now a.image.now a.pointers.now c.requires.p_value w.image_long w.pointers_long (c.requires.nonzero e) d h),
         ) }
 
 pub returns : goal.returns
 returns c =
-    let s = c in
     let m = c.header_stores-made in
     let l = c.new_segment-g in
     let if1 = c.if-not-a in
-    let a = s.args in
+    let a = c.args in
     let k = mk_disk a.image.now a.pointers.now in
-    let g : l.result ≡ new_seg a.p (seen a.p a.offline.now k) = l.ensures.by_index a.image.now s.requires.whole.0.image_long in
-    opening_made a.p a.offline.now (behind a.f) a.count k (sym s.requires.opens_value ∙ not-false a.a.opens if1.false) l.result (a.f.serial.0 + 1) g (add-one a.f.serial.0)
+    let g : l.result ≡ new_seg a.p (seen a.p a.offline.now k) = l.ensures.by_index a.image.now c.requires.whole.0.image_long in
+    opening_made a.p a.offline.now (behind a.f) a.count k (sym c.requires.opens_value ∙ not-false a.a.opens if1.false) l.result (a.f.serial.0 + 1) g (add-one a.f.serial.0)
     m.result (mk_disk m.new.image m.new.pointers) m.ensures

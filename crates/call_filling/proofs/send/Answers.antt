@@ -13,8 +13,7 @@ use Rattle.call_filling.proofs.send.Goals as goal
 pub place-q-requires : goal.place-q-requires
 unfolding begun_row
 place-q-requires c =
-    let s = c in
-    let z : c.begun-first.result.filled ≡ 0 = ap (λ (x : Row). x.filled) c.begun-first.ensures in record { p_value = s.requires.p_value; i_bound = (s.requires.slot_bound.0, omega (arith, z, data_count-low s.args.p (ranged s.args.p s.requires.p_value)), s.requires.slot_bound.3, s.requires.slot_bound.4) }
+    let z : c.begun-first.result.filled ≡ 0 = ap (λ (x : Row). x.filled) c.begun-first.ensures in record { p_value = c.requires.p_value; i_bound = (c.requires.slot_bound.0, omega (arith, z, data_count-low c.args.p (ranged c.args.p c.requires.p_value)), c.requires.slot_bound.3, c.requires.slot_bound.4) }
 
 pub returns-then-a : goal.returns-then-a
 unfolding sent_row
@@ -31,8 +30,7 @@ returns-then-a c =
     a.block.now)) (sym if1.true)
 
 pub place-q-requires-2 : goal.place-q-requires-2
-place-q-requires-2 c =
-    let s = c in record { p_value = s.requires.p_value; i_bound = (s.requires.slot_bound.0, s.requires.slot_bound.1 c.if-a.false, s.requires.slot_bound.3, s.requires.slot_bound.4) }
+place-q-requires-2 c = record { p_value = c.requires.p_value; i_bound = (c.requires.slot_bound.0, c.requires.slot_bound.1 c.if-a.false, c.requires.slot_bound.3, c.requires.slot_bound.4) }
 
 pub returns : goal.returns
 unfolding sent_row

@@ -125,14 +125,13 @@ loop-d-preserved c =
     let a = c.args in
     let l = c.loop-d in
     let footer-stores = c.footer_stores-made in
-    let at = c in
     let if1 = c.loop-d-test in
     let pre = c.requires in
     let q = pre.1 in (
       l.invariant.0,
       λ off. sealing_turn a.p off (mk_disk a.image.now a.pointers.now) a.segment a.count l.d l.left (mk_disk l.image l.pointers)
           (l.invariant.1 off) if1.true q.1.0 footer-stores.result (mk_disk footer-stores.new.image footer-stores.new.pointers)
-          (left_by (goal.at.loop-d-preserved c).After-slice_known-in-loop-d-2-1 off) (ranged a.p pre.p_value) (room (at)) c.if-made.false,
+          (left_by (goal.at.loop-d-preserved c).After-slice_known-in-loop-d-2-1 off) (ranged a.p pre.p_value) (room (c)) c.if-made.false,
     )
 
 pub shape_of-image : goal.shape_of-image

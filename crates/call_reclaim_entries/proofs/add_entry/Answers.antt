@@ -14,22 +14,19 @@ use Rattle.call_reclaim_entries.proofs.add_entry.Goals.{After-wide-g, After-zone
 
 pub returns-then-all-q : goal.returns-then-all-q
 returns-then-all-q c =
-    let o = c in
-    let a = o.args in
+    let a = c.args in
     let u = a.used.now in
     let g = get_or a.segments.now (a.q / a.cap) 0 in record { used_after = ap (λ (b : Bool). cond b (set u g (get_or u g 0 + 1)) u) (sym (le-ltb a.q a.all c.if-all-q.true)); value = ap (λ (b : Bool). bool_byte (b && ltb a.q 4294967295)) (sym (le-leb a.all a.q c.if-all-q.true)) }
 
 pub zone_number-t-requires : goal.zone_number-t-requires
 zone_number-t-requires c =
-    let o = c in
-    let h = o.requires.le_cap in (h.0, h.1, omega (arith, h.2, c.if-all-q.false), h.3)
+    let h = c.requires.le_cap in (h.0, h.1, omega (arith, h.2, c.if-all-q.false), h.3)
 
 -- the zone is one of those numbered
 in-zones : (c : After-zone_number-t) → c.zone_number-t.result < length c.args.segments.now
 in-zones c =
-    let o = c in
-    let a = o.args in
-    let h = o.requires.le_cap in
+    let a = c.args in
+    let h = c.requires.le_cap in
     let n = length a.segments.now in
     let k : a.q < n * a.cap = omega (arith, h.4, c.if-all-q.false) in
     subst (λ (x : ℕ). x < n) (sym c.zone_number-t.ensures) ((div-lt_iff_lt-mul {k = a.cap} {x = a.q} {y = n} (omega (arith, h.0))).1 k)
@@ -46,15 +43,12 @@ its_segment : (c : After-wide-g)
     ≡ get_or c.args.segments.now
     (c.args.q / c.args.cap) 0
 its_segment c =
-    let o = c in
-    c.wide-g.ensures ∙ ap (λ (x : ℕ). get_or o.args.segments.now x 0) c.zone_number-t.ensures
+    c.wide-g.ensures ∙ ap (λ (x : ℕ). get_or c.args.segments.now x 0) c.zone_number-t.ensures
 
 -- it has a count
 counted : (c : After-wide-g) → c.wide-g.result < length c.args.used.now
 counted c =
-    let c3 = c in
-    let o = c in
-    subst (λ (x : ℕ). x < length o.args.used.now) (sym (its_segment c)) (o.requires.cap_in_bounds (omega (arith, c3.if-all-q.false)))
+    subst (λ (x : ℕ). x < length c.args.used.now) (sym (its_segment c)) (c.requires.cap_in_bounds (omega (arith, c.if-all-q.false)))
 
 pub offset_bounds-used-g : goal.offset_bounds-used-g
 offset_bounds-used-g c = omega (arith, counted (goal.at.offset_bounds-used-g c).After-wide-g)
@@ -64,10 +58,8 @@ bounds-used-g c = counted (goal.at.bounds-used-g c).After-wide-g
 
 pub overflow_add-used : goal.overflow_add-used
 overflow_add-used c =
-    let c4 = c in
-    let o = c in
-    let a = o.args in
-    let h = o.requires.cap_bound (omega (arith, c4.if-all-q.false)) in
+    let a = c.args in
+    let h = c.requires.cap_bound (omega (arith, c.if-all-q.false)) in
     let k : get_or a.used.now c.wide-g.result 0 < 18446744073709551615 = subst (λ (x : ℕ). get_or a.used.now x 0 < 18446744073709551615) (sym (its_segment (goal.at.overflow_add-used c).After-wide-g)) h in
     omega (arith, k)
 
@@ -79,9 +71,7 @@ bounds-used-g-2 c = counted (goal.at.bounds-used-g-2 c).After-wide-g
 
 pub returns : goal.returns
 returns c =
-    let c4 = c in
-    let o = c in
-    let a = o.args in
+    let a = c.args in
     let u = a.used.now in
     let g = get_or a.segments.now (a.q / a.cap) 0 in
-    let h : a.q < a.all = omega (arith, c4.if-all-q.false) in record { used_after = ap (λ (x : ℕ). set u x (get_or u x 0 + 1)) (its_segment (goal.at.returns c).After-wide-g) ∙ ap (λ (b : Bool). cond b (set u g (get_or u g 0 + 1)) u) (sym (lt-ltb a.q a.all h)); value = ap (λ (b : Bool). bool_byte (b && ltb a.q 4294967295)) (sym (lt-leb a.all a.q h)) }
+    let h : a.q < a.all = omega (arith, c.if-all-q.false) in record { used_after = ap (λ (x : ℕ). set u x (get_or u x 0 + 1)) (its_segment (goal.at.returns c).After-wide-g) ∙ ap (λ (b : Bool). cond b (set u g (get_or u g 0 + 1)) u) (sym (lt-ltb a.q a.all h)); value = ap (λ (b : Bool). bool_byte (b && ltb a.q 4294967295)) (sym (lt-leb a.all a.q h)) }

@@ -21,16 +21,12 @@ returns-then-p-best c =
 
 pub returns-then-live-g : goal.returns-then-live-g
 returns-then-live-g c =
-    let c5 = c in
-    let c7 = c in
-    let a = c7.args in
+    let a = c.args in
     sym (pick_less a.p a.live.now a.best a.g (omega (arith, c.if-p-best.false)) c.if-live-g.true)
-    ∙ ap (λ (x : Bool). cond x (pick_of a.p a.live.now a.best a.g) a.best) (sym (not-false (get_or a.sealed.now a.g false) c5.if-not-sealed-g.false-raw))
+    ∙ ap (λ (x : Bool). cond x (pick_of a.p a.live.now a.best a.g) a.best) (sym (not-false (get_or a.sealed.now a.g false) c.if-not-sealed-g.false-raw))
 
 pub returns : goal.returns
 returns c =
-    let c5 = c in
-    let c7 = c in
-    let a = c7.args in
+    let a = c.args in
     sym (pick_old a.p a.live.now a.best a.g (omega (arith, c.if-p-best.false)) (omega (arith, c.if-live-g.false)))
-    ∙ ap (λ (x : Bool). cond x (pick_of a.p a.live.now a.best a.g) a.best) (sym (not-false (get_or a.sealed.now a.g false) c5.if-not-sealed-g.false-raw))
+    ∙ ap (λ (x : Bool). cond x (pick_of a.p a.live.now a.best a.g) a.best) (sym (not-false (get_or a.sealed.now a.g false) c.if-not-sealed-g.false-raw))

@@ -45,35 +45,25 @@ count_zones-requires c =
 
 pub loop-first-smaller : goal.loop-first-smaller
 loop-first-smaller c =
-    let c9 = c in
-    let c10 = c in
-    let c11 = c in
-    let c12 = c in
-    let c17 = c in
-    window_nearer c11.loop-first.first c9.clip-end.result c12.places-all.result (8 * length c17.args.marks.now) c10.loop-first-test.true (omega (arith, c17.requires.addresses_len.1)) c9.clip-end.ensures
+    window_nearer c.loop-first.first c.clip-end.result c.places-all.result (8 * length c.args.marks.now) c.loop-first-test.true (omega (arith, c.requires.addresses_len.1)) c.clip-end.ensures
 
 pub loop-first-preserved : goal.loop-first-preserved
 loop-first-preserved c =
-    let c9 = c in
-    let c10 = c in
-    let c11 = c in
-    let c12 = c in
-    let c17 = c in
-    let a = c17.args in
+    let a = c.args in
     let w = c.mark_window-outside in
     let z = c.count_zones in
-    let l = c11.loop-first in
+    let l = c.loop-first in
     let i = l.invariant in
     let tb = a.addresses.now in
-    let e = c9.clip-end.ensures in
-    let all! = c12.places-all.result in
+    let e = c.clip-end.ensures in
+    let all! = c.places-all.result in
     let told = w.ensures.marks in
-    let t = c10.loop-first-test.true in (
+    let t = c.loop-first-test.true in (
       omega (arith, e),
       w.auto.marks ∙ i.1,
       z.auto.live ∙ i.2,
       z.ensures tb told i.3,
-      (λ h m. only_window tb w.new.marks a.p.L l.first c9.clip-end.result all! (8 * length a.marks.now) told (λ y. (i.4 y m).0) t e m),
+      (λ h m. only_window tb w.new.marks a.p.L l.first c.clip-end.result all! (8 * length a.marks.now) told (λ y. (i.4 y m).0) t e m),
       λ _. w.ensures.value,
     )
 
@@ -85,15 +75,14 @@ shape_of-live c = c.loop-first.invariant.2
 
 pub returns : goal.returns
 returns c =
-    let o = c in
     let places = c.places-all in
-    let a = o.args in
+    let a = c.args in
     let tb = a.addresses.now in
     let l = c.loop-first in
     let i = l.invariant in
     let all! = places.result in
     let s = places.ensures.0 in
     let f : l.first ≡ all! = omega (arith, i.0, c.loop-first-test.false) in
-    let r = ranged a.p o.requires.p_value in
+    let r = ranged a.p c.requires.p_value in
     let low = place_lt a.p 0 0 0 (omega (arith, r.drives_low)) (omega (arith, r.zones_low)) (omega (arith, capacity-low a.p r)) in
     let some : 0 < l.first = omega (arith, f, s, low) in record { live_counted = (λ g h. i.3 g h ∙ ap (λ (x : ℕ). length (live_below a.p tb (numbered a.p a.segments.now g) x)) (f ∙ s)); marks = (λ h q x y. left_marks tb l.marks a.p.L l.first all! (8 * length a.marks.now) i.4 f (omega (arith, h, s)) q x (omega (arith, y, s))); value = i.5 some ∙ ap (λ (x : ℕ). count_places tb a.p.L x 4294967295) (f ∙ s) }

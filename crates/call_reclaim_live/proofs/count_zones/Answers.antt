@@ -24,8 +24,7 @@ loop-at-init c =
 -- the window ends with the places
 end_low : (c : After-capacity-cap) → c.args.end ≤ 715825152
 end_low c =
-    let c4 = c in
-    omega (arith, c4.requires.first_le_end.1, places_high c4.args.p (ranged c4.args.p c4.requires.p_value))
+    omega (arith, c.requires.first_le_end.1, places_high c.args.p (ranged c.args.p c.requires.p_value))
 
 pub overflow_add-at : goal.overflow_add-at
 overflow_add-at c = omega (arith, c.capacity-cap.ensures.2, end_low (goal.at.overflow_add-at c).After-capacity-cap)
@@ -41,8 +40,7 @@ overflow_sub-to c = omega arith
 
 pub count_marks-n-requires : goal.count_marks-n-requires
 count_marks-n-requires c =
-    let c7 = c in
-    omega (arith, c.clip-to.ensures, c.loop-at.invariant.0, c7.requires.first_le_end, end_low (goal.at.count_marks-n-requires c).After-capacity-cap)
+    omega (arith, c.clip-to.ensures, c.loop-at.invariant.0, c.requires.first_le_end, end_low (goal.at.count_marks-n-requires c).After-capacity-cap)
 
 -- zone t is one of the zones, and has a number
 zone-in : (c : After-count_marks-n) → let a = c.args in
@@ -57,8 +55,7 @@ zone-in c =
 
 pub offset_bounds-segments-t : goal.offset_bounds-segments-t
 offset_bounds-segments-t c =
-    let c8 = c in
-    omega (arith, (zone-in (goal.at.offset_bounds-segments-t c).After-count_marks-n).0, zones_all c8.args.p (ranged c8.args.p c8.requires.p_value))
+    omega (arith, (zone-in (goal.at.offset_bounds-segments-t c).After-count_marks-n).0, zones_all c.args.p (ranged c.args.p c.requires.p_value))
 
 pub bounds-segments-t : goal.bounds-segments-t
 bounds-segments-t c = omega (arith, (zone-in (goal.at.bounds-segments-t c).After-count_marks-n).0, c.requires.first_le_end.4.0)
@@ -72,88 +69,68 @@ offset_bounds-live-g c = omega (arith, number_low (goal.at.offset_bounds-live-g 
 
 pub bounds-live-g : goal.bounds-live-g
 bounds-live-g c =
-    let c11 = c in
-    omega (arith, number_low (goal.at.bounds-live-g c).After-wide-g, c.loop-at.invariant.2, c11.requires.first_le_end.3)
+    omega (arith, number_low (goal.at.bounds-live-g c).After-wide-g, c.loop-at.invariant.2, c.requires.first_le_end.3)
 
 pub overflow_add-live : goal.overflow_add-live
 overflow_add-live c =
-    let c3 = c in
-    let c4 = c in
-    let c6 = c in
-    let c7 = c in
-    let c11 = c in
-    let a = c11.args in
-    let l = c6.loop-at in
-    let clip = c4.clip-to in
+    let a = c.args in
+    let l = c.loop-at in
+    let clip = c.clip-to in
     let i = l.invariant in
     let g = c.wide-g.result in
     let h : l.from ≤ a.end = omega (arith, i.0) in
     let k : clip.result - a.first ≤ a.end = omega (arith, clip.ensures) in
-    let m : c3.count_marks-n.result ≤ clip.result - a.first = omega (arith, c3.count_marks-n.ensures.1) in
-    record { fits = sum_fits (get_or l.live g 0) c3.count_marks-n.result l.from (clip.result - a.first) a.end (i.3 g (number_low (goal.at.overflow_add-live c).After-wide-g)) h m k (end_low (c7)) }
+    let m : c.count_marks-n.result ≤ clip.result - a.first = omega (arith, c.count_marks-n.ensures.1) in
+    record { fits = sum_fits (get_or l.live g 0) c.count_marks-n.result l.from (clip.result - a.first) a.end (i.3 g (number_low (goal.at.overflow_add-live c).After-wide-g)) h m k (end_low (c)) }
 
 pub offset_bounds-live-g-in-loop-at : goal.offset_bounds-live-g-in-loop-at
 offset_bounds-live-g-in-loop-at c = omega (arith, number_low (goal.at.offset_bounds-live-g-in-loop-at c).After-wide-g)
 
 pub bounds-live-g-in-loop-at : goal.bounds-live-g-in-loop-at
 bounds-live-g-in-loop-at c =
-    let c11 = c in
-    omega (arith, number_low (goal.at.bounds-live-g-in-loop-at c).After-wide-g, c.loop-at.invariant.2, c11.requires.first_le_end.3)
+    omega (arith, number_low (goal.at.bounds-live-g-in-loop-at c).After-wide-g, c.loop-at.invariant.2, c.requires.first_le_end.3)
 
 pub overflow_add-at-in-loop-at : goal.overflow_add-at-in-loop-at
 overflow_add-at-in-loop-at c =
-    let c6 = c in
-    let c7 = c in
-    omega (arith, c7.capacity-cap.ensures.2, c6.loop-at.invariant.5, end_low (c7))
+    omega (arith, c.capacity-cap.ensures.2, c.loop-at.invariant.5, end_low (c))
 
 pub overflow_add-t : goal.overflow_add-t
 overflow_add-t c =
-    let c11 = c in
-    omega (arith, (zone-in (goal.at.overflow_add-t c).After-count_marks-n).0, zones_all c11.args.p (ranged c11.args.p c11.requires.p_value))
+    omega (arith, (zone-in (goal.at.overflow_add-t c).After-count_marks-n).0, zones_all c.args.p (ranged c.args.p c.requires.p_value))
 
 pub loop-at-smaller : goal.loop-at-smaller
 loop-at-smaller c =
-    let c6 = c in
-    let c7 = c in
-    let c11 = c in
-    nearer c6.loop-at.at c11.args.end c7.capacity-cap.result c.loop-at-test.true (omega (arith, c7.capacity-cap.ensures.1))
+    nearer c.loop-at.at c.args.end c.capacity-cap.result c.loop-at-test.true (omega (arith, c.capacity-cap.ensures.1))
 
 pub loop-at-preserved : goal.loop-at-preserved
 loop-at-preserved c =
-    let c1 = c in
-    let c3 = c in
-    let c4 = c in
-    let c5 = c in
-    let c6 = c in
-    let c7 = c in
-    let c11 = c in
-    let a = c11.args in
-    let pre = c11.requires.first_le_end in
-    let l = c6.loop-at in
+    let a = c.args in
+    let pre = c.requires.first_le_end in
+    let l = c.loop-at in
     let i = l.invariant in
-    let cap! = c7.capacity-cap in
-    let r = ranged a.p c11.requires.p_value in
-    let g = c1.wide-g.result in
-    let to = c4.clip-to.result in
-    let et = c4.clip-to.ensures in
-    let n = c3.count_marks-n.result in
-    let en = c3.count_marks-n.ensures in
+    let cap! = c.capacity-cap in
+    let r = ranged a.p c.requires.p_value in
+    let g = c.wide-g.result in
+    let to = c.clip-to.result in
+    let et = c.clip-to.ensures in
+    let n = c.count_marks-n.result in
+    let en = c.count_marks-n.ensures in
     let ec = cap!.ensures.0 in
     let at : l.at ≡ l.t * capacity a.p = i.1 ∙ ap (λ (x : ℕ). l.t * x) ec in
-    let fits : g < length l.live = omega (arith, number_low (c1), i.2, pre.3) in
+    let fits : g < length l.live = omega (arith, number_low (c), i.2, pre.3) in
     let low : a.first ≤ l.from = omega (arith, i.0, pre.0) in
     let mid : l.from ≤ to = omega (arith, i.0, et, pre.0) in
     let high : to ≤ a.end = omega (arith, et) in (
       et,
       ap (λ (x : ℕ). l.at + x) ec ∙ ap (λ (x : ℕ). x + capacity a.p) at ∙ sym (live_zone_begins a.p r l.t) ∙ ap (λ (x : ℕ). (l.t + 1) * x) (sym ec),
       omega (arith, length-set l.live g (get_or l.live g 0 + n), i.2),
-      bounded_more 1024 l.live g (get_or l.live g 0 + n) l.from to i.3 fits (omega (arith, i.3 g (number_low (c1)), en.1, mid, low)) mid,
+      bounded_more 1024 l.live g (get_or l.live g 0 + n) l.from to i.3 fits (omega (arith, i.3 g (number_low (c)), en.1, mid, low)) mid,
       (λ p e tb told so. counted-more p a.segments.now tb a.marks.now a.first a.end told l.live g l.from to n low mid high fits
           (λ q x y.
           let w : q / capacity p ≡ l.t = ap (λ (k : ℕ). q / k) (sym e ∙ ec)
           ∙ live_zone_at a.p r l.t q (omega (arith, i.0, et, pre.0, at, x, y)) (omega (arith, i.0, et, pre.0, at, ec, x, y)) in
-          ap (λ (k : ℕ). get_or a.segments.now k 0) w ∙ sym c1.wide-g.ensures) en.0 (i.4 p e tb told so)),
-      omega (arith, cap!.ensures.2, c5.loop-at-test.true),
+          ap (λ (k : ℕ). get_or a.segments.now k 0) w ∙ sym c.wide-g.ensures) en.0 (i.4 p e tb told so)),
+      omega (arith, cap!.ensures.2, c.loop-at-test.true),
     )
 
 pub shape_of-live : goal.shape_of-live

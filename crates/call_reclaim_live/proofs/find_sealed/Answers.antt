@@ -16,8 +16,7 @@ loop-g-init c = (omega arith, refl, λ off im h k l. absurd (let q : ⊥ = omega
 
 pub is_sealed_at-requires : goal.is_sealed_at-requires
 is_sealed_at-requires c =
-    let e = c in
-    let pre = e.requires.pointers_len in record { p_value = e.requires.p_value; pointers_len = (pre.0, pre.1, pre.2, pre.3, c.loop-g-test.true) }
+    let pre = c.requires.pointers_len in record { p_value = c.requires.p_value; pointers_len = (pre.0, pre.1, pre.2, pre.3, c.loop-g-test.true) }
 
 pub bounds-sealed-g : goal.bounds-sealed-g
 bounds-sealed-g c = omega (arith, c.loop-g.invariant.1, c.loop-g-test.true, c.requires.z_in_bounds)

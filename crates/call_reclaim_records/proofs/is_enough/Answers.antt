@@ -21,22 +21,16 @@ returns-then-not-sealed-g c =
 
 pub row-segment-requires : goal.row-segment-requires
 row-segment-requires c =
-    let e = c in
-    (omega (arith, e.requires.1), omega (arith, e.requires.1, (ranged e.args.p e.requires.p_value).zones_high))
+    (omega (arith, c.requires.1), omega (arith, c.requires.1, (ranged c.args.p c.requires.p_value).zones_high))
 
 pub vouched-requires : goal.vouched-requires
 vouched-requires c =
-    let c1 = c in
-    let c2 = c in
-    let c9 = c in
-    let o = c9 in
-    let a = o.args in
-    let h = o.requires.1 in record { p_value = o.requires.p_value; image_len = (h.0.0, h.0.1, subst (λ (s : Seg). ZonesLow a.p 0 s) (sym c1.row-segment.ensures) (h.1.2 a.g h.0.2 (not-false (get_or a.sealed.now a.g false) c2.if-not-sealed-g.false-raw))) }
+    let a = c.args in
+    let h = c.requires.1 in record { p_value = c.requires.p_value; image_len = (h.0.0, h.0.1, subst (λ (s : Seg). ZonesLow a.p 0 s) (sym c.row-segment.ensures) (h.1.2 a.g h.0.2 (not-false (get_or a.sealed.now a.g false) c.if-not-sealed-g.false-raw))) }
 
 pub returns : goal.returns
 returns c =
-    let o = c in
-    let a = o.args in
+    let a = c.args in
     let p = a.p in
     let row = c.row-segment in
     let e = subst (λ (s : Seg). c.vouched.result ≤ length (live_below p a.addresses.now (in_seg p s) (p.N * p.Z * capacity p))) row.ensures c.vouched.ensures in

@@ -13,8 +13,7 @@ loop-g-init c = (omega arith, λ k h. absurd (let q : ⊥ = omega arith in q))
 
 pub is_enough-requires : goal.is_enough-requires
 is_enough-requires c =
-    let o = c in
-    let h = o.requires.1 in record { p_value = o.requires.p_value; image_len = (h.0.0, h.0.1, c.loop-g-test.true, h.0.2); z_in_bounds = h.1 }
+    let h = c.requires.1 in record { p_value = c.requires.p_value; image_len = (h.0.0, h.0.1, c.loop-g-test.true, h.0.2); z_in_bounds = h.1 }
 
 pub returns-then-not-is_enough : goal.returns-then-not-is_enough
 returns-then-not-is_enough c = λ t. absurd (not_both false t refl)
@@ -27,8 +26,7 @@ loop-g-smaller c = omega (arith, c.loop-g-test.true)
 
 pub loop-g-preserved : goal.loop-g-preserved
 loop-g-preserved c =
-    let o = c in
-    let a = o.args in
+    let a = c.args in
     let l = c.loop-g in
     let this = c.is_enough.ensures (not-false c.is_enough.result c.if-not-is_enough.false-raw) in
     (omega (arith, c.loop-g-test.true), below_more (Enough a.p a.rows.now a.sealed.now a.addresses.now a.best a.n) l.g l.invariant.1 this)

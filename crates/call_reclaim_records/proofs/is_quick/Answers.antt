@@ -29,43 +29,34 @@ bounds-used-g c = omega arith
 
 pub asked-t-requires : goal.asked-t-requires
 asked-t-requires c =
-    let o = c in
-    (few (o), o.requires.z_in_bounds.1)
+    (few (c), c.requires.z_in_bounds.1)
 
 pub overflow_add-t : goal.overflow_add-t
 overflow_add-t c =
-    let c4 = c in
-    let o = c in
-    omega (arith, c.asked-t.ensures, c4.loop-g.invariant.1, c.loop-g-test.true, (ranged o.args.p o.requires.p_value).zones_high)
+    omega (arith, c.asked-t.ensures, c.loop-g.invariant.1, c.loop-g-test.true, (ranged c.args.p c.requires.p_value).zones_high)
 
 pub overflow_add-g : goal.overflow_add-g
 overflow_add-g c =
-    let o = c in
-    omega (arith, c.loop-g-test.true, (ranged o.args.p o.requires.p_value).zones_high)
+    omega (arith, c.loop-g-test.true, (ranged c.args.p c.requires.p_value).zones_high)
 
 pub loop-g-smaller : goal.loop-g-smaller
 loop-g-smaller c = omega (arith, c.loop-g-test.true)
 
 pub loop-g-preserved : goal.loop-g-preserved
 loop-g-preserved c =
-    let o = c in
-    (omega (arith, c.loop-g-test.true), omega (arith, c.asked-t.ensures, o.loop-g.invariant.1))
+    (omega (arith, c.loop-g-test.true), omega (arith, c.asked-t.ensures, c.loop-g.invariant.1))
 
 pub overflow_mul-result : goal.overflow_mul-result
 overflow_mul-result c =
-    let o = c in
     let loop = c.loop-g in
-    omega (arith, loop.invariant.0, loop.invariant.1, (ranged o.args.p o.requires.p_value).zones_high)
+    omega (arith, loop.invariant.0, loop.invariant.1, (ranged c.args.p c.requires.p_value).zones_high)
 
 pub overflow_mul-result-2 : goal.overflow_mul-result-2
 overflow_mul-result-2 c =
-    let o = c in
-    omega (arith, o.places.ensures.1)
+    omega (arith, c.places.ensures.1)
 
 pub overflow_mul-result-3 : goal.overflow_mul-result-3
 overflow_mul-result-3 c =
-    let c4 = c in
-    let o = c in
-    let p = o.args.p in
-    let k : 2 * (c4.places.result / 2097152 + 1) ≤ 684 = omega (arith, c4.places.ensures.1) in
-    record { fits = omega (arith, prod_le (2 * (c4.places.result / 2097152 + 1)) p.L 684 468378645 320370993180 k (addresses_all p (ranged p o.requires.p_value)) (omega arith)) }
+    let p = c.args.p in
+    let k : 2 * (c.places.result / 2097152 + 1) ≤ 684 = omega (arith, c.places.ensures.1) in
+    record { fits = omega (arith, prod_le (2 * (c.places.result / 2097152 + 1)) p.L 684 468378645 320370993180 k (addresses_all p (ranged p c.requires.p_value)) (omega arith)) }

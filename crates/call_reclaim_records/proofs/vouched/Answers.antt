@@ -17,8 +17,7 @@ loop-d-init c = (omega arith, omega arith, omega arith)
 
 pub returns-then-most-c : goal.returns-then-most-c
 returns-then-most-c c =
-    let o = c in
-    let a = o.args in
+    let a = c.args in
     let l = c.loop-d in
     omega (arith, l.invariant.1, live_below_drive a.p a.addresses.now a.segment l.d l.invariant.0)
 
@@ -32,52 +31,41 @@ overflow_sub-most c = omega (arith, c.if-most-c.false)
 its_zone : (c : After-zone_on-zone) → let a = c.args in
     zone_on a.segment c.loop-d.d < a.p.Z
 its_zone c =
-    let c7 = c in
-    low_here c7.args.p c7.args.segment c.loop-d.d c7.requires.image_len.2 c.loop-d-test.true
+    low_here c.args.p c.args.segment c.loop-d.d c.requires.image_len.2 c.loop-d-test.true
 
 pub vouched_zone-c-requires : goal.vouched_zone-c-requires
 vouched_zone-c-requires c =
-    let c7 = c in
-    let h = c7.requires.image_len in record { p_value = c7.requires.p_value; image_len = (h.0, h.1, c.loop-d-test.true, subst (λ (x : ℕ). x < c7.args.p.Z) (sym c.zone_on-zone.ensures) (its_zone (goal.at.vouched_zone-c-requires c).After-zone_on-zone)) }
+    let h = c.requires.image_len in record { p_value = c.requires.p_value; image_len = (h.0, h.1, c.loop-d-test.true, subst (λ (x : ℕ). x < c.args.p.Z) (sym c.zone_on-zone.ensures) (its_zone (goal.at.vouched_zone-c-requires c).After-zone_on-zone)) }
 
 -- a drive more
 more : (c : After-vouched_zone-c) → let l = c.loop-d in
     l.c + c.vouched_zone-c.result ≤ 65535 * (l.d + 1)
 more c =
-    let o = c in
-    omega (arith, o.loop-d.invariant.2, c.vouched_zone-c.ensures.1)
+    omega (arith, c.loop-d.invariant.2, c.vouched_zone-c.ensures.1)
 
 pub overflow_add-c : goal.overflow_add-c
 overflow_add-c c =
-    let c8 = c in
-    omega (arith, more (goal.at.overflow_add-c c).After-vouched_zone-c, c.loop-d-test.true, (ranged c8.args.p c8.requires.p_value).drives_high)
+    omega (arith, more (goal.at.overflow_add-c c).After-vouched_zone-c, c.loop-d-test.true, (ranged c.args.p c.requires.p_value).drives_high)
 
 pub overflow_add-d : goal.overflow_add-d
 overflow_add-d c =
-    let c8 = c in
-    omega (arith, c.loop-d-test.true, (ranged c8.args.p c8.requires.p_value).drives_high)
+    omega (arith, c.loop-d-test.true, (ranged c.args.p c.requires.p_value).drives_high)
 
 pub loop-d-smaller : goal.loop-d-smaller
 loop-d-smaller c = omega (arith, c.loop-d-test.true)
 
 pub loop-d-preserved : goal.loop-d-preserved
 loop-d-preserved c =
-    let c1 = c in
-    let c3 = c in
-    let c5 = c in
-    let c8 = c in
-    let o = c8 in
-    let a = o.args in
-    let l = c5.loop-d in
-    let r = ranged a.p o.requires.p_value in
+    let a = c.args in
+    let l = c.loop-d in
+    let r = ranged a.p c.requires.p_value in
     let n : c.vouched_zone-c.result ≤ length (pointed_from a.addresses.now a.p.L (place_of a.p l.d (zone_on a.segment l.d) 1) a.p.S) =
-    subst (λ (x : ℕ). c.vouched_zone-c.result ≤ length (pointed_from a.addresses.now a.p.L (place_of a.p l.d x 1) a.p.S)) c1.zone_on_holds.ensures c.vouched_zone-c.ensures.0 in
-    let w = drive_more a.p a.addresses.now a.segment r l.d (its_zone (c1)) l.c c.vouched_zone-c.result l.invariant.1 n in
-    (omega (arith, c3.loop-d-test.true), w, more (goal.at.loop-d-preserved c).After-vouched_zone-c)
+    subst (λ (x : ℕ). c.vouched_zone-c.result ≤ length (pointed_from a.addresses.now a.p.L (place_of a.p l.d x 1) a.p.S)) c.zone_on_holds.ensures c.vouched_zone-c.ensures.0 in
+    let w = drive_more a.p a.addresses.now a.segment r l.d (its_zone (c)) l.c c.vouched_zone-c.result l.invariant.1 n in
+    (omega (arith, c.loop-d-test.true), w, more (goal.at.loop-d-preserved c).After-vouched_zone-c)
 
 pub returns : goal.returns
 returns c =
-    let o = c in
-    let a = o.args in
+    let a = c.args in
     let l = c.loop-d in
     omega (arith, l.invariant.1, live_below_drive a.p a.addresses.now a.segment l.d l.invariant.0)

@@ -34,8 +34,7 @@ read_be64-requires c = omega (arith, room _ c (sym spare_len_lem))
 
 pub clipped-a-requires : goal.clipped-a-requires
 clipped-a-requires c =
-    let o = c in
-    o.requires.0
+    c.requires.0
 
 pub place_at-requires : goal.place_at-requires
 place_at-requires c = omega (arith, c.clipped-a.ensures)
@@ -51,11 +50,9 @@ one_more : (c : After-same-c)
     c.args.l c.args.q
     (c.loop-i.i + 1))
 one_more c =
-    let c5 = c in
-    let o = c in
     let clipped = c.clipped-a in
-    let s = o.args in
-    let l = c5.loop-i in
+    let s = c.args in
+    let l = c.loop-i in
     let tb = s.addresses.now in
     let e = c.same-c.ensures ∙ ap (λ (x : ℕ). bool_byte (eqb x (s.q + l.i))) c.place_at.ensures in
     let w = pointed-bit tb s.l clipped.result (s.q + l.i) clipped.ensures in
@@ -64,10 +61,8 @@ one_more c =
 -- which is no more than the places
 within : (c : After-same-c) → c.loop-i.c + c.same-c.result ≤ c.loop-i.i + 1
 within c =
-    let c5 = c in
-    let o = c in
-    let s = o.args in
-    omega (arith, one_more c, run_le (is_pointed s.addresses.now s.l) s.q (c5.loop-i.i + 1))
+    let s = c.args in
+    omega (arith, one_more c, run_le (is_pointed s.addresses.now s.l) s.q (c.loop-i.i + 1))
 
 pub overflow_add-c : goal.overflow_add-c
 overflow_add-c c = omega (arith, within (goal.at.overflow_add-c c).After-same-c)
@@ -83,8 +78,7 @@ loop-i-preserved c = (omega arith, one_more (goal.at.loop-i-preserved c).After-s
 
 pub returns : goal.returns
 returns c =
-    let o = c in
-    let s = o.args in
+    let s = c.args in
     let l = c.loop-i in
     let e : l.i ≡ s.n = omega arith in
     omega (arith, l.invariant.1, ap (λ (x : ℕ). length (pointed_from s.addresses.now s.l s.q x)) e)

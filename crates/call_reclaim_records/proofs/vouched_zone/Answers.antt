@@ -20,39 +20,33 @@ per_footer-per-requires c = c.requires.p_value
 
 pub footers-feet-requires : goal.footers-feet-requires
 footers-feet-requires c =
-    let o = c in
-    o.requires.p_value
+    c.requires.p_value
 
 pub unit_len-unit-requires : goal.unit_len-unit-requires
 unit_len-unit-requires c =
-    let o = c in
-    o.requires.p_value
+    c.requires.p_value
 
 pub place_of-first-requires : goal.place_of-first-requires
 place_of-first-requires c =
-    let o = c in
-    let p = o.args.p in
-    let r = ranged p o.requires.p_value in record { p_value = o.requires.p_value; drive_lt_n = (o.requires.image_len.2, o.requires.image_len.3, data_below p r 1 r.stripes_low) }
+    let p = c.args.p in
+    let r = ranged p c.requires.p_value in record { p_value = c.requires.p_value; drive_lt_n = (c.requires.image_len.2, c.requires.image_len.3, data_below p r 1 r.stripes_low) }
 
 pub overflow_cast-first : goal.overflow_cast-first
 overflow_cast-first c = omega arith
 
 pub overflow_add-p : goal.overflow_add-p
 overflow_add-p c =
-    let o = c in
-    omega (arith, (ranged o.args.p o.requires.p_value).stripes_high)
+    omega (arith, (ranged c.args.p c.requires.p_value).stripes_high)
 
 pub block_byte-at-requires : goal.block_byte-at-requires
 unfolding capacity
 block_byte-at-requires c =
-    let o = c in
-    let p = o.args.p in
-    let r = ranged p o.requires.p_value in record { p_value = o.requires.p_value; drive_lt_n = (o.requires.image_len.2, o.requires.image_len.3, omega (arith, footers-low p r)) }
+    let p = c.args.p in
+    let r = ranged p c.requires.p_value in record { p_value = c.requires.p_value; drive_lt_n = (c.requires.image_len.2, c.requires.image_len.3, omega (arith, footers-low p r)) }
 
 pub loop-f-init : goal.loop-f-init
 loop-f-init c =
-    let o = c in
-    let a = o.args in
+    let a = c.args in
     (omega arith, omega arith, omega arith, c.block_byte-at.ensures.0 ∙ ap (λ (x : ℕ). place_byte a.p (place_of a.p a.drive a.zone x)) (sym (add-zero (1 + a.p.S))))
 
 -- what is counted, of all data blocks of the zone
@@ -65,44 +59,34 @@ of-all p addresses first first' c o e h k =
 
 pub returns-then-most-c : goal.returns-then-most-c
 returns-then-most-c c =
-    let c6 = c in
-    let o = c in
     let loop = c.loop-f in
-    let a = o.args in
+    let a = c.args in
     let i = loop.invariant in
-    let first = c6.place_of-first.result.0 in
-    let w = of-all a.p a.addresses.now first (place_of a.p a.drive a.zone 1) loop.c loop.o c6.place_of-first.ensures.0 i.1 i.2 in
-    (w.0, omega (arith, w.1, (ranged a.p o.requires.p_value).stripes_high))
+    let first = c.place_of-first.result.0 in
+    let w = of-all a.p a.addresses.now first (place_of a.p a.drive a.zone 1) loop.c loop.o c.place_of-first.ensures.0 i.1 i.2 in
+    (w.0, omega (arith, w.1, (ranged a.p c.requires.p_value).stripes_high))
 
 pub overflow_add-first : goal.overflow_add-first
 overflow_add-first c =
-    let c3 = c in
-    let c7 = c in
-    let o = c in
-    omega (arith, c7.place_of-first.ensures.1, c3.loop-f.invariant.1, (ranged o.args.p o.requires.p_value).stripes_high)
+    omega (arith, c.place_of-first.ensures.1, c.loop-f.invariant.1, (ranged c.args.p c.requires.p_value).stripes_high)
 
 pub vouched_run-c-requires : goal.vouched_run-c-requires
 unfolding capacity unit_len addresses_len place_of
 vouched_run-c-requires c =
-    let c3 = c in
-    let c7 = c in
-    let c9 = c in
-    let c10 = c in
-    let o = c in
     let loop-test = c.loop-f-test in
-    let a = o.args in
+    let a = c.args in
     let p = a.p in
-    let r = ranged p o.requires.p_value in
-    let h = o.requires.image_len in
-    let i = c3.loop-f.invariant in
+    let r = ranged p c.requires.p_value in
+    let h = c.requires.image_len in
+    let i = c.loop-f.invariant in
     let per = subst (λ (x : ℕ). per_footer p * x ≤ p.B) spare_len_lem (per_footer_fits p r) in
-    let inside = block_within p a.drive a.zone (1 + p.S + c3.loop-f.f) h.2 h.3 (omega (arith, loop-test.true, c9.footers-feet.ensures.0)) in
+    let inside = block_within p a.drive a.zone (1 + p.S + c.loop-f.f) h.2 h.3 (omega (arith, loop-test.true, c.footers-feet.ensures.0)) in
     let last = place_lt p a.drive a.zone p.S h.2 h.3 (data_below p r p.S (omega arith)) in
     let n = c.run_len-n.ensures in (
       omega (arith, r.addresses_low),
       omega (arith, h.1),
-      subst (λ (x : ℕ). c3.loop-f.at + x * c.run_len-n.result ≤ length a.image.now) (sym spare_len_lem) (omega (arith, n, c10.per_footer-per.ensures.0, per, inside, i.3, h.0, spare_len_lem)),
-      omega (arith, n, c7.place_of-first.ensures.0, last, places_high p r, i.1),
+      subst (λ (x : ℕ). c.loop-f.at + x * c.run_len-n.result ≤ length a.image.now) (sym spare_len_lem) (omega (arith, n, c.per_footer-per.ensures.0, per, inside, i.3, h.0, spare_len_lem)),
+      omega (arith, n, c.place_of-first.ensures.0, last, places_high p r, i.1),
     )
 
 -- one footer block more
@@ -114,11 +98,8 @@ block_more : (c : After-vouched_run-c)
     c.place_of-first.result.0
     (c.loop-f.o + c.run_len-n.result))
 block_more c =
-    let c4 = c in
-    let c8 = c in
-    let o = c in
-    let a = o.args in
-    omega (arith, c.vouched_run-c.ensures, c4.loop-f.invariant.2, run_add (is_pointed a.addresses.now a.p.L) c8.place_of-first.result.0 c4.loop-f.o c.run_len-n.result)
+    let a = c.args in
+    omega (arith, c.vouched_run-c.ensures, c.loop-f.invariant.2, run_add (is_pointed a.addresses.now a.p.L) c.place_of-first.result.0 c.loop-f.o c.run_len-n.result)
 
 within : (c : After-vouched_run-c)
     → (c.loop-f.o + c.run_len-n.result
@@ -126,74 +107,55 @@ within : (c : After-vouched_run-c)
     × (c.loop-f.c + c.vouched_run-c.result
     ≤ c.args.p.S)
 within c =
-    let c4 = c in
-    let c8 = c in
-    let o = c in
-    let a = o.args in
-    let e : c4.loop-f.o + c.run_len-n.result ≤ a.p.S = omega (arith, c.run_len-n.ensures, c4.loop-f.invariant.1) in
-    (e, omega (arith, e, block_more c, run_le (is_pointed a.addresses.now a.p.L) c8.place_of-first.result.0 (c4.loop-f.o + c.run_len-n.result)))
+    let a = c.args in
+    let e : c.loop-f.o + c.run_len-n.result ≤ a.p.S = omega (arith, c.run_len-n.ensures, c.loop-f.invariant.1) in
+    (e, omega (arith, e, block_more c, run_le (is_pointed a.addresses.now a.p.L) c.place_of-first.result.0 (c.loop-f.o + c.run_len-n.result)))
 
 pub overflow_add-c : goal.overflow_add-c
 overflow_add-c c =
-    let o = c in
-    omega (arith, (within (goal.at.overflow_add-c c).After-vouched_run-c).1, (ranged o.args.p o.requires.p_value).stripes_high)
+    omega (arith, (within (goal.at.overflow_add-c c).After-vouched_run-c).1, (ranged c.args.p c.requires.p_value).stripes_high)
 
 pub overflow_add-o : goal.overflow_add-o
 overflow_add-o c =
-    let o = c in
-    omega (arith, (within (goal.at.overflow_add-o c).After-vouched_run-c).0, (ranged o.args.p o.requires.p_value).stripes_high)
+    omega (arith, (within (goal.at.overflow_add-o c).After-vouched_run-c).0, (ranged c.args.p c.requires.p_value).stripes_high)
 
 -- the footer block lies in the image
 in_image : (c : After-vouched_run-c) → c.loop-f.at ≤ 2946336325632
 unfolding capacity
 in_image c =
-    let c3 = c in
-    let c4 = c in
-    let c10 = c in
-    let o = c in
-    let a = o.args in
+    let a = c.args in
     let p = a.p in
-    let r = ranged p o.requires.p_value in
-    let h = o.requires.image_len in
-    omega (arith, c4.loop-f.invariant.3, image_high p r, block_within p a.drive a.zone (1 + p.S + c4.loop-f.f) h.2 h.3 (omega (arith, c3.loop-f-test.true, c10.footers-feet.ensures.0)))
+    let r = ranged p c.requires.p_value in
+    let h = c.requires.image_len in
+    omega (arith, c.loop-f.invariant.3, image_high p r, block_within p a.drive a.zone (1 + p.S + c.loop-f.f) h.2 h.3 (omega (arith, c.loop-f-test.true, c.footers-feet.ensures.0)))
 
 pub overflow_add-at : goal.overflow_add-at
 overflow_add-at c =
-    let o = c in
-    omega (arith, in_image (goal.at.overflow_add-at c).After-vouched_run-c, o.unit_len-unit.ensures.2, spare_len_lem)
+    omega (arith, in_image (goal.at.overflow_add-at c).After-vouched_run-c, c.unit_len-unit.ensures.2, spare_len_lem)
 
 pub overflow_add-f : goal.overflow_add-f
 overflow_add-f c =
-    let c3 = c in
-    let o = c in
-    omega (arith, c3.loop-f-test.true, o.footers-feet.ensures.2)
+    omega (arith, c.loop-f-test.true, c.footers-feet.ensures.2)
 
 pub loop-f-smaller : goal.loop-f-smaller
 loop-f-smaller c =
-    let o = c in
-    omega (arith, o.loop-f-test.true)
+    omega (arith, c.loop-f-test.true)
 
 pub loop-f-preserved : goal.loop-f-preserved
 loop-f-preserved c =
-    let c3 = c in
-    let c4 = c in
-    let c9 = c in
-    let o = c in
-    let a = o.args in
+    let a = c.args in
     let p = a.p in
-    let l = c4.loop-f in
+    let l = c.loop-f in
     let b : ℕ = 1 + p.S + l.f in
     let e : b + 1 ≡ 1 + p.S + (l.f + 1) = omega arith in
-    let w : l.at + c9.unit_len-unit.result ≡ place_byte p (place_of p a.drive a.zone (1 + p.S + (l.f + 1))) =
-    (λ j. l.invariant.3 j + c9.unit_len-unit.ensures.0 j) ∙ sym (next_byte p a.drive a.zone b) ∙ ap (λ (x : ℕ). place_byte p (place_of p a.drive a.zone x)) e in
-    (omega (arith, c3.loop-f-test.true), (within (goal.at.loop-f-preserved c).After-vouched_run-c).0, block_more (goal.at.loop-f-preserved c).After-vouched_run-c, w)
+    let w : l.at + c.unit_len-unit.result ≡ place_byte p (place_of p a.drive a.zone (1 + p.S + (l.f + 1))) =
+    (λ j. l.invariant.3 j + c.unit_len-unit.ensures.0 j) ∙ sym (next_byte p a.drive a.zone b) ∙ ap (λ (x : ℕ). place_byte p (place_of p a.drive a.zone x)) e in
+    (omega (arith, c.loop-f-test.true), (within (goal.at.loop-f-preserved c).After-vouched_run-c).0, block_more (goal.at.loop-f-preserved c).After-vouched_run-c, w)
 
 pub returns : goal.returns
 returns c =
-    let c5 = c in
-    let o = c in
-    let a = o.args in
+    let a = c.args in
     let i = c.loop-f.invariant in
-    let first = c5.place_of-first.result.0 in
-    let w = of-all a.p a.addresses.now first (place_of a.p a.drive a.zone 1) c.loop-f.c c.loop-f.o c5.place_of-first.ensures.0 i.1 i.2 in
-    (w.0, omega (arith, w.1, (ranged a.p o.requires.p_value).stripes_high))
+    let first = c.place_of-first.result.0 in
+    let w = of-all a.p a.addresses.now first (place_of a.p a.drive a.zone 1) c.loop-f.c c.loop-f.o c.place_of-first.ensures.0 i.1 i.2 in
+    (w.0, omega (arith, w.1, (ranged a.p c.requires.p_value).stripes_high))

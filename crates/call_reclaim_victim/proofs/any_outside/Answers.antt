@@ -17,51 +17,43 @@ use Rattle.call_reclaim_victim.proofs.any_outside.Goals as goal
 
 pub find_kept-requires : goal.find_kept-requires
 find_kept-requires c =
-    let o = c in
-    let high = (ranged o.args.p o.requires.p_value).zones_high in record { p_value = o.requires.p_value; whole = o.requires.whole; z_in_bounds = (omega (arith, high), high) }
+    let high = (ranged c.args.p c.requires.p_value).zones_high in record { p_value = c.requires.p_value; whole = c.requires.whole; z_in_bounds = (omega (arith, high), high) }
 
 pub find_owners-requires : goal.find_owners-requires
 find_owners-requires c =
-    let o = c in
-    let a = o.args in
-    let r = ranged a.p o.requires.p_value in
+    let a = c.args in
+    let r = ranged a.p c.requires.p_value in
     let k = c.find_kept in
     let v = view_of a.p a.offline.now a.image.now a.pointers.now in
-    let few = zones_all a.p r in record { p_value = o.requires.p_value; z_in_bounds = (k.ensures.flags_rows.0, k.ensures.keeps.0, few, owners_rows-low a.p r v k.new.rows k.new.kept k.ensures.flags_rows k.ensures.keeps); by_index = λ t l. get_or-replicate 8192 t 1024 0 (omega (arith, l, few)) }
+    let few = zones_all a.p r in record { p_value = c.requires.p_value; z_in_bounds = (k.ensures.flags_rows.0, k.ensures.keeps.0, few, owners_rows-low a.p r v k.new.rows k.new.kept k.ensures.flags_rows k.ensures.keeps); by_index = λ t l. get_or-replicate 8192 t 1024 0 (omega (arith, l, few)) }
 
 pub count_entries-beyond-requires : goal.count_entries-beyond-requires
 count_entries-beyond-requires c =
-    let o = c in
-    let a = o.args in
+    let a = c.args in
     let p = a.p in
-    let r = ranged p o.requires.p_value in
+    let r = ranged p c.requires.p_value in
     let k = c.find_kept in
     let f = c.find_owners in
     let v = view_of p a.offline.now a.image.now a.pointers.now in
     let ss = f.new.owners in
     let all! = subst (λ (x : ℕ). p.N * p.Z ≤ x) (sym (f.auto.owners ∙ length-replicate {A = ℕ} 8192 1024)) (zones_all p r) in
-    let low = owners_low p r v k.new.rows k.new.kept k.ensures.flags_rows k.ensures.keeps ss f.ensures in record { p_value = o.requires.p_value; addresses_len = (o.requires.addresses_len, (all!, low), omega arith); taken_counted = entered_none p ss a.addresses.now (replicate 1025 0) (λ g l. get_or-replicate 1025 g 0 0 (omega (arith, l))) }
+    let low = owners_low p r v k.new.rows k.new.kept k.ensures.flags_rows k.ensures.keeps ss f.ensures in record { p_value = c.requires.p_value; addresses_len = (c.requires.addresses_len, (all!, low), omega arith); taken_counted = entered_none p ss a.addresses.now (replicate 1025 0) (λ g l. get_or-replicate 1025 g 0 0 (omega (arith, l))) }
 
 pub overflow_add-result : goal.overflow_add-result
 overflow_add-result c =
-    let o = c in
-    let p = o.args.p in
+    let p = c.args.p in
     let n = c.count_entries-beyond in
-    let few = addresses_all p (ranged p o.requires.p_value) in
-    omega (arith, n.ensures.value, count-le o.args.addresses.now p.L (p.N * p.Z * capacity p) 4294967295, n.ensures.taken_counted_2.low 1024 (omega arith), few)
+    let few = addresses_all p (ranged p c.requires.p_value) in
+    omega (arith, n.ensures.value, count-le c.args.addresses.now p.L (p.N * p.Z * capacity p) 4294967295, n.ensures.taken_counted_2.low 1024 (omega arith), few)
 
 pub returns : goal.returns
 unfolding addresses_len
 returns c =
-    let c11 = c in
-    let c14 = c in
-    let c18 = c in
-    let o = c18 in
-    let a = o.args in
+    let a = c.args in
     let p = a.p in
-    let r = ranged p o.requires.p_value in
+    let r = ranged p c.requires.p_value in
     let tb = a.addresses.now in
-    let k = c11.find_kept in
+    let k = c.find_kept in
     let f = c.find_owners in
     let n = c.count_entries-beyond in
     let used = n.new.used in
@@ -69,6 +61,6 @@ returns c =
     let v = view_of p a.offline.now a.image.now a.pointers.now in
     let t = ap length (taken_live p ss tb 1024) in
     outside_told p v tb (not (eqb (n.result + get_or used 1024 0) 0))
-    (outside-count p r v tb ss (omega (arith, o.requires.addresses_len)) (λ x. omega (arith, c14.shared_slice_known-4-1.given x))
+    (outside-count p r v tb ss (omega (arith, c.requires.addresses_len)) (λ x. omega (arith, c.shared_slice_known-4-1.given x))
     (place_told p r v k.new.rows k.new.kept k.ensures.flags_rows k.ensures.keeps ss f.ensures) n.result (get_or used 1024 0) n.ensures.value
     (omega (arith, t, n.ensures.taken_counted_2.most 1024 (omega arith))) (λ x. omega (arith, t, n.ensures.taken_counted_2.least 1024 (omega arith) x)))

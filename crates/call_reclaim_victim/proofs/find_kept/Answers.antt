@@ -10,9 +10,8 @@ use Rattle.call_reclaim_victim.proofs.find_kept.Goals as goal
 
 pub gather-requires : goal.gather-requires
 gather-requires c =
-    let o = c in
-    let p = o.args.p in
-    let r = ranged p o.requires.p_value in
-    let h = o.requires.1 in
+    let p = c.args.p in
+    let r = ranged p c.requires.p_value in
+    let h = c.requires.1 in
     let serials = subst (λ (x : ℕ). p.Z ≤ x) (sym (length-replicate {A = ℕ} 1024 0)) r.zones_high in
-    let left = subst (λ (x : ℕ). p.Z ≤ x) (sym (length-replicate {A = Bool} 1024 false)) r.zones_high in record { p_value = o.requires.p_value; whole = (h.0.0, h.0.1, zero_here p r); z_in_bounds = (h.1.0, serials, left, h.1.1) }
+    let left = subst (λ (x : ℕ). p.Z ≤ x) (sym (length-replicate {A = Bool} 1024 false)) r.zones_high in record { p_value = c.requires.p_value; whole = (h.0.0, h.0.1, zero_here p r); z_in_bounds = (h.1.0, serials, left, h.1.1) }

@@ -37,9 +37,8 @@ next_marked-requires c =
 
 pub overflow_add-next : goal.overflow_add-next
 overflow_add-next c =
-    let c8 = c in
-    let a = c8.args in
-    omega (arith, c.next_marked.ensures.1, c8.requires.first_le_lo.3, places_high a.p (ranged a.p c8.requires.p_value))
+    let a = c.args in
+    omega (arith, c.next_marked.ensures.1, c.requires.first_le_lo.3, places_high a.p (ranged a.p c.requires.p_value))
 
 pub returns-then-hi-next : goal.returns-then-hi-next
 returns-then-hi-next c =
@@ -53,9 +52,8 @@ returns-then-hi-next c =
 
 pub overflow_cast-next : goal.overflow_cast-next
 overflow_cast-next c =
-    let c9 = c in
-    let a = c9.args in
-    omega (arith, c.if-hi-next.false, c9.requires.first_le_lo.3, places_high a.p (ranged a.p c9.requires.p_value))
+    let a = c.args in
+    omega (arith, c.if-hi-next.false, c.requires.first_le_lo.3, places_high a.p (ranged a.p c.requires.p_value))
 
 pub idle_step-found-requires : goal.idle_step-found-requires
 idle_step-found-requires c =
@@ -69,26 +67,21 @@ loop-q-smaller c = omega (arith, c.if-hi-next.false, c.next_marked.ensures.0)
 
 pub loop-q-preserved : goal.loop-q-preserved
 loop-q-preserved c =
-    let c1 = c in
-    let c2 = c in
-    let c4 = c in
-    let c5 = c in
-    let c10 = c in
-    let a = c10.args in
-    let pre = c10.requires in
-    let l = c4.loop-q in
+    let a = c.args in
+    let pre = c.requires in
+    let l = c.loop-q in
     let v : List ℕ → View = λ off. view_of a.p off a.image.now a.pointers.now in
     let h = pre.first_le_lo in
-    let n = c2.next_marked.ensures in
-    let k = c2.next_marked.result in
-    let f = c1.if-hi-next.false in
+    let n = c.next_marked.ensures in
+    let k = c.next_marked.result in
+    let f = c.if-hi-next.false in
     let low : l.q ≤ a.first + k = omega (arith, n.0, h.0, l.invariant.0) in
     let s : a.first + k - a.first ≡ k = omega arith in (
       omega (arith, low, l.invariant.0),
       omega (arith, f),
       λ off tb told same w.
           idle-step a.p (v off) (state_of a.bytes.now) a.segment tb a.marks.now a.first a.hi told (a.first + k) l.found c.idle_step-found.result (omega arith) (omega (arith, f))
-          (same (a.first + k) (omega (arith, low, l.invariant.0)) (omega (arith, f)) ∙ not-false a.mine c5.if-not-mine.false-raw)
+          (same (a.first + k) (omega (arith, low, l.invariant.0)) (omega (arith, f)) ∙ not-false a.mine c.if-not-mine.false-raw)
           (ap (is_marked a.marks.now) s ∙ n.3 (omega (arith, f))) (omega (arith, f, h.3, places_high a.p (ranged a.p pre.p_value)))
           (run_skip a.p (v off) (state_of a.bytes.now) a.segment tb a.marks.now a.first a.hi told l.q (a.first + k) l.found (omega (arith, h.0, l.invariant.0)) low
           (omega (arith, f)) (λ j x y. n.2 j x (omega (arith, y, s))) (l.invariant.2 off tb told same w)) (c.idle_step-found.ensures off),
@@ -96,9 +89,7 @@ loop-q-preserved c =
 
 pub returns : goal.returns
 returns c =
-    let c1 = c in
-    let c7 = c in
-    let a = c7.args in
+    let a = c.args in
     let v : List ℕ → View = λ off. view_of a.p off a.image.now a.pointers.now in
-    let l = c1.loop-q in
+    let l = c.loop-q in
     λ off tb told same w. waiting-at a.p (v off) (state_of a.bytes.now) a.segment tb l.q a.hi l.found (omega (arith, l.invariant.1, c.loop-q-test.false)) (l.invariant.2 off tb told same w)

@@ -13,22 +13,16 @@ place_zone-zone-requires c = c.requires.p_value
 
 pub returns-then-is_odd : goal.returns-then-is_odd
 returns-then-is_odd c =
-    let c2 = c in
-    let c3 = c in
-    let c4 = c in
-    let c9 = c in
-    let a = c9.args in
+    let a = c.args in
     let v : List ℕ → View = λ off. view_of a.p off a.image.now a.pointers.now in
-    λ off. step_odd a.p (v off) (state_of a.bytes.now) a.segment a.idle a.place.0 (sym c4.is_odd.ensures ∙ c3.if-is_odd.true)
-    (record { first = c2.or_else-next.result; odd = c.lower-odd.result }) c2.or_else-next.ensures (c.lower-odd.ensures ∙ ap (min a.idle.odd) c.place_zone-zone.ensures.0)
+    λ off. step_odd a.p (v off) (state_of a.bytes.now) a.segment a.idle a.place.0 (sym c.is_odd.ensures ∙ c.if-is_odd.true)
+    (record { first = c.or_else-next.result; odd = c.lower-odd.result }) c.or_else-next.ensures (c.lower-odd.ensures ∙ ap (min a.idle.odd) c.place_zone-zone.ensures.0)
 
 pub returns-then-first-none : goal.returns-then-first-none
 returns-then-first-none c =
-    let c4 = c in
-    let c9 = c in
-    let a = c9.args in
+    let a = c.args in
     let v : List ℕ → View = λ off. view_of a.p off a.image.now a.pointers.now in
-    λ off. step_kept a.p (v off) (state_of a.bytes.now) a.segment a.idle a.place.0 (sym c4.is_odd.ensures ∙ c.if-is_odd.false) c.if-first-none.true
+    λ off. step_kept a.p (v off) (state_of a.bytes.now) a.segment a.idle a.place.0 (sym c.is_odd.ensures ∙ c.if-is_odd.false) c.if-first-none.true
 
 pub is_flying-requires : goal.is_flying-requires
 is_flying-requires c =
@@ -36,20 +30,14 @@ is_flying-requires c =
 
 pub returns-then-is_flying : goal.returns-then-is_flying
 returns-then-is_flying c =
-    let c5 = c in
-    let c6 = c in
-    let c11 = c in
-    let a = c11.args in
+    let a = c.args in
     let v : List ℕ → View = λ off. view_of a.p off a.image.now a.pointers.now in
-    λ off. step-flying a.p (v off) (state_of a.bytes.now) a.segment a.idle a.place.0 (sym c6.is_odd.ensures ∙ c5.if-is_odd.false) c.if-first-none.false
+    λ off. step-flying a.p (v off) (state_of a.bytes.now) a.segment a.idle a.place.0 (sym c.is_odd.ensures ∙ c.if-is_odd.false) c.if-first-none.false
     (sym (c.is_flying.ensures off) ∙ c.if-is_flying.true)
 
 pub returns : goal.returns
 returns c =
-    let c5 = c in
-    let c6 = c in
-    let c11 = c in
-    let a = c11.args in
+    let a = c.args in
     let v : List ℕ → View = λ off. view_of a.p off a.image.now a.pointers.now in
-    λ off. step_new a.p (v off) (state_of a.bytes.now) a.segment a.idle a.place.0 (sym c6.is_odd.ensures ∙ c5.if-is_odd.false) c.if-first-none.false
+    λ off. step_new a.p (v off) (state_of a.bytes.now) a.segment a.idle a.place.0 (sym c.is_odd.ensures ∙ c.if-is_odd.false) c.if-first-none.false
     (sym (c.is_flying.ensures off) ∙ c.if-is_flying.false) (record { first = a.place; odd = a.idle.odd }) refl refl

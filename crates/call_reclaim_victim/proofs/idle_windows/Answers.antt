@@ -49,14 +49,9 @@ idle_zones-found-requires c =
 
 pub loop-first-smaller : goal.loop-first-smaller
 loop-first-smaller c =
-    let c6 = c in
-    let c7 = c in
-    let c8 = c in
-    let c9 = c in
-    let c16 = c in
-    let l = c8.loop-first in
-    let clip = c6.clip-end in
-    window_nearer l.first clip.result c9.places-all.result (8 * length c16.args.marks.now) c7.loop-first-test.true (omega (arith, c16.requires.addresses_len.1)) clip.ensures
+    let l = c.loop-first in
+    let clip = c.clip-end in
+    window_nearer l.first clip.result c.places-all.result (8 * length c.args.marks.now) c.loop-first-test.true (omega (arith, c.requires.addresses_len.1)) clip.ensures
 
 pub loop-first-preserved : goal.loop-first-preserved
 loop-first-preserved c =

@@ -25,8 +25,7 @@ loop-at-init c = (omega (arith, c.requires.first_le_end.0), sym (zero-mul c.capa
 -- the window ends with the places
 end_low : (c : After-capacity-cap) → c.args.end ≤ 715825152
 end_low c =
-    let o = c in
-    omega (arith, o.requires.first_le_end.2, places_high o.args.p (ranged o.args.p o.requires.p_value))
+    omega (arith, c.requires.first_le_end.2, places_high c.args.p (ranged c.args.p c.requires.p_value))
 
 pub overflow_add-at : goal.overflow_add-at
 overflow_add-at c = omega (arith, c.capacity-cap.ensures.2, end_low (goal.at.overflow_add-at c).After-capacity-cap)
@@ -37,16 +36,14 @@ clip-to-requires c = omega arith
 -- zone t is one of the zones
 zone-in : (c : After-clip-to) → let a = c.args in c.loop-at.t < a.p.N * a.p.Z
 zone-in c =
-    let o = c in
-    let a = o.args in
+    let a = c.args in
     let l = c.loop-at in
     let e : l.at ≡ l.t * capacity a.p = l.invariant.1 ∙ ap (λ (x : ℕ). l.t * x) c.capacity-cap.ensures.0 in
-    zone_within a.p (ranged a.p o.requires.p_value) l.t (omega (arith, e, c.loop-at-test.true, o.requires.first_le_end.2))
+    zone_within a.p (ranged a.p c.requires.p_value) l.t (omega (arith, e, c.loop-at-test.true, c.requires.first_le_end.2))
 
 pub offset_bounds-segments-t : goal.offset_bounds-segments-t
 offset_bounds-segments-t c =
-    let c9 = c in
-    omega (arith, zone-in (goal.at.offset_bounds-segments-t c).After-clip-to, zones_all c9.args.p (ranged c9.args.p c9.requires.p_value))
+    omega (arith, zone-in (goal.at.offset_bounds-segments-t c).After-clip-to, zones_all c.args.p (ranged c.args.p c.requires.p_value))
 
 pub bounds-segments-t : goal.bounds-segments-t
 bounds-segments-t c = omega (arith, zone-in (goal.at.bounds-segments-t c).After-clip-to, c.requires.whole.2)
@@ -60,21 +57,15 @@ idle_run-found-requires c =
 
 pub overflow_add-at-in-loop-at : goal.overflow_add-at-in-loop-at
 overflow_add-at-in-loop-at c =
-    let c6 = c in
-    omega (arith, c6.capacity-cap.ensures.2, c.loop-at.invariant.3, end_low (c6))
+    omega (arith, c.capacity-cap.ensures.2, c.loop-at.invariant.3, end_low (c))
 
 pub overflow_add-t : goal.overflow_add-t
 overflow_add-t c =
-    let c12 = c in
-    omega (arith, zone-in (goal.at.overflow_add-t c).After-clip-to, zones_all c12.args.p (ranged c12.args.p c12.requires.p_value))
+    omega (arith, zone-in (goal.at.overflow_add-t c).After-clip-to, zones_all c.args.p (ranged c.args.p c.requires.p_value))
 
 pub loop-at-smaller : goal.loop-at-smaller
 loop-at-smaller c =
-    let c4 = c in
-    let c5 = c in
-    let c6 = c in
-    let c12 = c in
-    nearer c5.loop-at.at c12.args.end c6.capacity-cap.result c4.loop-at-test.true (omega (arith, c6.capacity-cap.ensures.1))
+    nearer c.loop-at.at c.args.end c.capacity-cap.result c.loop-at-test.true (omega (arith, c.capacity-cap.ensures.1))
 
 pub loop-at-preserved : goal.loop-at-preserved
 unfolding numbered

@@ -17,10 +17,8 @@ place_record-r-requires c =
 
 pub returns : goal.returns
 returns c =
-    let c3 = c in
-    let c7 = c in
-    let a = c7.args in
-    let record! = c3.place_record-r in
+    let a = c.args in
+    let record! = c.place_record-r in
     λ off. c.holds.ensures
     ∙ flying_is a.p (view_of a.p off a.image.now a.pointers.now) (state_of a.bytes.now) a.segment a.place.0 (rec_val record!.result)
-    c7.requires.place_bound.1 (record!.ensures off)
+    c.requires.place_bound.1 (record!.ensures off)

@@ -18,19 +18,15 @@ use Rattle.call_reclaim_victim.proofs.look.Goals as goal
 
 pub find_kept-requires : goal.find_kept-requires
 find_kept-requires c =
-    let o = c in
-    let high = (ranged o.args.p o.requires.p_value).zones_high in record { p_value = o.requires.p_value; whole = o.requires.whole; z_in_bounds = (omega (arith, high), high) }
+    let high = (ranged c.args.p c.requires.p_value).zones_high in record { p_value = c.requires.p_value; whole = c.requires.whole; z_in_bounds = (omega (arith, high), high) }
 
 pub find_sealed-requires : goal.find_sealed-requires
 find_sealed-requires c =
-    let c5 = c in
-    let c13 = c in
-    let o = c13 in
-    let a = o.args in
-    let r = ranged a.p o.requires.p_value in
-    let k = c5.find_kept in
-    let v = view_of a.p a.offline.now a.image.now a.pointers.now in record { p_value = o.requires.p_value; pointers_len = (
-          o.requires.whole.0.pointers_long,
+    let a = c.args in
+    let r = ranged a.p c.requires.p_value in
+    let k = c.find_kept in
+    let v = view_of a.p a.offline.now a.image.now a.pointers.now in record { p_value = c.requires.p_value; pointers_len = (
+          c.requires.whole.0.pointers_long,
           k.ensures.flags_rows.0,
           k.ensures.keeps.0,
           owners_rows-low a.p r v k.new.rows k.new.kept k.ensures.flags_rows k.ensures.keeps,
@@ -38,23 +34,21 @@ find_sealed-requires c =
 
 pub any_sealed-requires : goal.any_sealed-requires
 any_sealed-requires c =
-    let o = c in
-    subst (λ (x : ℕ). o.args.p.Z ≤ x) (sym (c.find_sealed.auto.sealed ∙ length-replicate {A = Bool} 1024 false)) (ranged o.args.p o.requires.p_value).zones_high
+    subst (λ (x : ℕ). c.args.p.Z ≤ x) (sym (c.find_sealed.auto.sealed ∙ length-replicate {A = Bool} 1024 false)) (ranged c.args.p c.requires.p_value).zones_high
 
 pub returns-then-not-any_sealed : goal.returns-then-not-any_sealed
 returns-then-not-any_sealed c =
-    let o = c in
-    let a = o.args in
+    let a = c.args in
     let p = a.p in
     let tb = a.addresses.now in
-    let w = o.requires.whole.0 in
+    let w = c.requires.whole.0 in
     let v = view_of p a.offline.now a.image.now a.pointers.now in
     let k = c.find_kept in
     let s = c.find_sealed in
     let sealed = s.new.sealed in
     let any! = c.any_sealed in
     let no = sym any!.ensures ∙ not-true any!.result c.if-not-any_sealed.true-raw in
-    let flagged = flags_told p (ranged p o.requires.p_value) v k.new.rows k.new.kept k.ensures.flags_rows k.ensures.keeps sealed
+    let flagged = flags_told p (ranged p c.requires.p_value) v k.new.rows k.new.kept k.ensures.flags_rows k.ensures.keeps sealed
     (s.ensures a.offline.now a.image.now w.image_long) in
     let e = c.nobody.ensures in
     looked_none p v tb (state_of a.bytes.now) p.Z
@@ -63,50 +57,37 @@ returns-then-not-any_sealed c =
 
 pub find_owners-requires : goal.find_owners-requires
 find_owners-requires c =
-    let o = c in
-    let a = o.args in
-    let r = ranged a.p o.requires.p_value in
+    let a = c.args in
+    let r = ranged a.p c.requires.p_value in
     let k = c.find_kept in
     let v = view_of a.p a.offline.now a.image.now a.pointers.now in
-    let few = zones_all a.p r in record { p_value = o.requires.p_value; z_in_bounds = (k.ensures.flags_rows.0, k.ensures.keeps.0, few, owners_rows-low a.p r v k.new.rows k.new.kept k.ensures.flags_rows k.ensures.keeps); by_index = λ t l. get_or-replicate 8192 t 1024 0 (omega (arith, l, few)) }
+    let few = zones_all a.p r in record { p_value = c.requires.p_value; z_in_bounds = (k.ensures.flags_rows.0, k.ensures.keeps.0, few, owners_rows-low a.p r v k.new.rows k.new.kept k.ensures.flags_rows k.ensures.keeps); by_index = λ t l. get_or-replicate 8192 t 1024 0 (omega (arith, l, few)) }
 
 pub look_in-requires : goal.look_in-requires
 look_in-requires c =
-    let c4 = c in
-    let c12 = c in
-    let c18 = c in
-    let far = c in
-    let c26 = far in
-    let o = c26 in
-    let a = o.args in
+    let a = c.args in
     let p = a.p in
-    let r = ranged p o.requires.p_value in
-    let k = c18.find_kept in
-    let s = c12.find_sealed in
-    let f = c4.find_owners in
-    let w = o.requires.whole.0 in
+    let r = ranged p c.requires.p_value in
+    let k = c.find_kept in
+    let s = c.find_sealed in
+    let f = c.find_owners in
+    let w = c.requires.whole.0 in
     let v = view_of p a.offline.now a.image.now a.pointers.now in
     let long = subst (λ (x : ℕ). p.Z ≤ x) (sym (s.auto.sealed ∙ length-replicate {A = Bool} 1024 false)) r.zones_high in
-    let all! = subst (λ (x : ℕ). p.N * p.Z ≤ x) (sym (f.auto.owners ∙ length-replicate {A = ℕ} 8192 1024)) (zones_all p r) in record { p_value = o.requires.p_value; whole = (
+    let all! = subst (λ (x : ℕ). p.N * p.Z ≤ x) (sym (f.auto.owners ∙ length-replicate {A = ℕ} 8192 1024)) (zones_all p r) in record { p_value = c.requires.p_value; whole = (
           w,
           fitted p r v k.new.rows k.new.kept k.ensures.flags_rows k.ensures.keeps f.new.owners f.ensures s.new.sealed long all!
               (s.ensures a.offline.now a.image.now w.image_long),
-        ); addresses_len = o.requires.addresses_len }
+        ); addresses_len = c.requires.addresses_len }
 
 pub returns : goal.returns
 returns c =
-    let c5 = c in
-    let c13 = c in
-    let c19 = c in
-    let far = c in
-    let c27 = far in
-    let o = c27 in
-    let a = o.args in
+    let a = c.args in
     let p = a.p in
-    let k = c19.find_kept in
-    let s = c13.find_sealed in
-    let f = c5.find_owners in
+    let k = c.find_kept in
+    let s = c.find_sealed in
+    let f = c.find_owners in
     let v = view_of p a.offline.now a.image.now a.pointers.now in
     c.look_in.ensures a.offline.now
-    (owners_shown p (ranged p o.requires.p_value) v k.new.rows k.new.kept k.ensures.flags_rows k.ensures.keeps f.new.owners f.ensures s.new.sealed
-    (s.ensures a.offline.now a.image.now o.requires.whole.0.image_long))
+    (owners_shown p (ranged p c.requires.p_value) v k.new.rows k.new.kept k.ensures.flags_rows k.ensures.keeps f.new.owners f.ensures s.new.sealed
+    (s.ensures a.offline.now a.image.now c.requires.whole.0.image_long))

@@ -25,24 +25,21 @@ use Rattle.call_reclaim_victim.proofs.look_by_records.Goals.{After-count_entries
 
 pub count_entries-beyond-requires : goal.count_entries-beyond-requires
 count_entries-beyond-requires c =
-    let o = c in
-    let a = o.args in
-    let n : length {A = ℕ} (replicate 1025 0) ≡ 1025 = length-replicate {A = ℕ} 1025 0 in record { p_value = o.requires.p_value; addresses_len = (o.requires.addresses_len.0, o.requires.whole.1.owners, subst (λ (x : ℕ). 1024 < x) (sym n) (omega arith)); taken_counted = entered_none a.p a.segments.now a.addresses.now (replicate 1025 0) (λ g l. get_or-replicate 1025 g 0 0 (omega (arith, l))) }
+    let a = c.args in
+    let n : length {A = ℕ} (replicate 1025 0) ≡ 1025 = length-replicate {A = ℕ} 1025 0 in record { p_value = c.requires.p_value; addresses_len = (c.requires.addresses_len.0, c.requires.whole.1.owners, subst (λ (x : ℕ). 1024 < x) (sym n) (omega arith)); taken_counted = entered_none a.p a.segments.now a.addresses.now (replicate 1025 0) (λ g l. get_or-replicate 1025 g 0 0 (omega (arith, l))) }
 
 pub overflow_add-outside : goal.overflow_add-outside
 overflow_add-outside c =
-    let o = c in
-    let p = o.args.p in
+    let p = c.args.p in
     let n = c.count_entries-beyond in
-    let few = addresses_all p (ranged p o.requires.p_value) in
-    omega (arith, n.ensures.value, count-le o.args.addresses.now p.L (p.N * p.Z * capacity p) 4294967295, n.ensures.taken_counted_2.low 1024 (omega arith), few)
+    let few = addresses_all p (ranged p c.requires.p_value) in
+    omega (arith, n.ensures.value, count-le c.args.addresses.now p.L (p.N * p.Z * capacity p) 4294967295, n.ensures.taken_counted_2.low 1024 (omega arith), few)
 
 -- as many counts as before
 long-used : (c : After-count_entries-beyond) → c.args.p.Z ≤ length c.count_entries-beyond.new.used
 long-used c =
-    let o = c in
     let n : length {A = ℕ} (replicate 1025 0) ≡ 1025 = length-replicate {A = ℕ} 1025 0 in
-    subst (λ (x : ℕ). o.args.p.Z ≤ x) (sym (c.count_entries-beyond.auto.used ∙ n)) (omega (arith, (ranged o.args.p o.requires.p_value).zones_high))
+    subst (λ (x : ℕ). c.args.p.Z ≤ x) (sym (c.count_entries-beyond.auto.used ∙ n)) (omega (arith, (ranged c.args.p c.requires.p_value).zones_high))
 
 pub fewest-g-requires : goal.fewest-g-requires
 fewest-g-requires c = (c.requires.whole.1.sealed_long, long-used (goal.at.fewest-g-requires c).After-count_entries-beyond)
@@ -55,14 +52,13 @@ told-outside : (c : After-count_entries-beyond) (off : List ℕ) →
     → not (eqb (c.count_entries-beyond.result + get_or c.count_entries-beyond.new.used 1024 0) 0) ≡ is_outside a.p v a.addresses.now
 unfolding addresses_len
 told-outside c off sh =
-    let o = c in
-    let a = o.args in
+    let a = c.args in
     let p = a.p in
     let tb = a.addresses.now in
     let n = c.count_entries-beyond in
     let used = n.new.used in
     let t = ap length (taken_live p a.segments.now tb 1024) in
-    outside-count p (ranged p o.requires.p_value) (view_of p off a.image.now a.pointers.now) tb a.segments.now (omega (arith, o.requires.addresses_len.0))
+    outside-count p (ranged p c.requires.p_value) (view_of p off a.image.now a.pointers.now) tb a.segments.now (omega (arith, c.requires.addresses_len.0))
     (λ x. omega (arith, c.shared_slice_known-6-1.given x))
     sh.placed n.result (get_or used 1024 0) n.ensures.value (omega (arith, t, n.ensures.taken_counted_2.most 1024 (omega arith))) (λ x. omega (arith, t, n.ensures.taken_counted_2.least 1024 (omega arith) x))
 
@@ -71,94 +67,66 @@ returns-then-p-g c = record { zone_lt_z = (λ t. absurd (not_both false t refl))
 
 pub bounds-used-g : goal.bounds-used-g
 bounds-used-g c =
-    let c14 = c in
-    omega (arith, c.if-p-g.false, (ranged c14.args.p c14.requires.p_value).zones_high)
+    omega (arith, c.if-p-g.false, (ranged c.args.p c.requires.p_value).zones_high)
 
 pub returns-then-n-eq0 : goal.returns-then-n-eq0
 returns-then-n-eq0 c =
-    let c1 = c in
-    let c3 = c in
-    let c6 = c in
-    let c15 = c in
-    let o = c15 in
-    let a = o.args in
+    let a = c.args in
     let p = a.p in
     let v : List ℕ → View = λ off. view_of p off a.image.now a.pointers.now in
-    let n = c6.count_entries-beyond in
+    let n = c.count_entries-beyond in
     let used = n.new.used in
-    let g = c3.fewest-g.result in
-    let le = c3.fewest-g.ensures in
-    let h : g < p.Z = omega (arith, c1.if-p-g.false) in
+    let g = c.fewest-g.result in
+    let le = c.fewest-g.ensures in
+    let h : g < p.Z = omega (arith, c.if-p-g.false) in
     let t : Told = record { sure = true; zone = g; live = 0; first = record { 0 = 4294967295 }; outside = not (eqb (n.result + get_or used 1024 0) 0) } in record { zone_lt_z = (λ _. h); by_index = λ off sh _.
-          looked_empty p (ranged p o.requires.p_value) (v off) a.addresses.now a.rows.now a.segments.now a.sealed.now sh (state_of a.bytes.now) g h (le.taken h) used n.ensures.taken_counted_2 le
-          c.if-n-eq0.true (chosen_of a.rows.now t) refl refl refl refl refl (told-outside (c6) off sh) }
+          looked_empty p (ranged p c.requires.p_value) (v off) a.addresses.now a.rows.now a.segments.now a.sealed.now sh (state_of a.bytes.now) g h (le.taken h) used n.ensures.taken_counted_2 le
+          c.if-n-eq0.true (chosen_of a.rows.now t) refl refl refl refl refl (told-outside (c) off sh) }
 
 pub is_quick-requires : goal.is_quick-requires
 is_quick-requires c =
-    let c7 = c in
-    let c16 = c in
-    let o = c16 in
-    let p = o.args.p in
-    let r = ranged p o.requires.p_value in
-    let low = c7.count_entries-beyond.ensures.taken_counted_2.low c.fewest-g.result (omega (arith, c.if-p-g.false, r.zones_high)) in record { p_value = o.requires.p_value; z_in_bounds = (long-used (c7), omega (arith, low, addresses_all p r)) }
+    let p = c.args.p in
+    let r = ranged p c.requires.p_value in
+    let low = c.count_entries-beyond.ensures.taken_counted_2.low c.fewest-g.result (omega (arith, c.if-p-g.false, r.zones_high)) in record { p_value = c.requires.p_value; z_in_bounds = (long-used (c), omega (arith, low, addresses_all p r)) }
 
 pub returns-then-not-is_quick : goal.returns-then-not-is_quick
 returns-then-not-is_quick c = record { zone_lt_z = (λ t. absurd (not_both false t refl)); by_index = λ off sh t. absurd (not_both false t refl) }
 
 pub row-segment-requires : goal.row-segment-requires
 row-segment-requires c =
-    let o = c in
     let l = c.if-p-g.false in
-    (omega (arith, l, o.requires.whole.1.rows_long), omega (arith, l, (ranged o.args.p o.requires.p_value).zones_high))
+    (omega (arith, l, c.requires.whole.1.rows_long), omega (arith, l, (ranged c.args.p c.requires.p_value).zones_high))
 
 pub see_segment-seen-requires : goal.see_segment-seen-requires
 see_segment-seen-requires c =
-    let c7 = c in
-    let c19 = c in
-    let o = c19 in
-    let nu = o.requires.whole.1 in
-    let g = c7.fewest-g.result in
-    let l : g < o.args.p.Z = omega (arith, c.if-p-g.false) in record { p_value = o.requires.p_value; whole = (o.requires.whole.0, subst (λ (s : Seg). ZonesLow o.args.p 0 s) (sym c.row-segment.ensures) (nu.zones_low g l (c7.fewest-g.ensures.taken l))); addresses_len = o.requires.addresses_len }
+    let nu = c.requires.whole.1 in
+    let g = c.fewest-g.result in
+    let l : g < c.args.p.Z = omega (arith, c.if-p-g.false) in record { p_value = c.requires.p_value; whole = (c.requires.whole.0, subst (λ (s : Seg). ZonesLow c.args.p 0 s) (sym c.row-segment.ensures) (nu.zones_low g l (c.fewest-g.ensures.taken l))); addresses_len = c.requires.addresses_len }
 
 pub returns-then-seen-n : goal.returns-then-seen-n
 returns-then-seen-n c = record { zone_lt_z = (λ t. absurd (not_both false t refl)); by_index = λ off sh t. absurd (not_both false t refl) }
 
 pub is_fewest-sure-requires : goal.is_fewest-sure-requires
 is_fewest-sure-requires c =
-    let c9 = c in
-    let c11 = c in
-    let c14 = c in
-    let far = c in
-    let c23 = far in
-    let o = c23 in
-    let p = o.args.p in
-    let r = ranged p o.requires.p_value in
-    let nu = o.requires.whole.1 in
-    let low = c14.count_entries-beyond.ensures.taken_counted_2.low c11.fewest-g.result (omega (arith, c9.if-p-g.false, r.zones_high)) in record { p_value = o.requires.p_value; image_len = (o.requires.whole.0.image_long, o.requires.addresses_len.0, omega (arith, low, addresses_all p r)); z_in_bounds = (nu.rows_long, nu.sealed_long, nu.zones_low) }
+    let p = c.args.p in
+    let r = ranged p c.requires.p_value in
+    let nu = c.requires.whole.1 in
+    let low = c.count_entries-beyond.ensures.taken_counted_2.low c.fewest-g.result (omega (arith, c.if-p-g.false, r.zones_high)) in record { p_value = c.requires.p_value; image_len = (c.requires.whole.0.image_long, c.requires.addresses_len.0, omega (arith, low, addresses_all p r)); z_in_bounds = (nu.rows_long, nu.sealed_long, nu.zones_low) }
 
 pub returns : goal.returns
 returns c =
-    let c1 = c in
-    let c4 = c in
-    let c5 = c in
-    let c10 = c in
-    let c12 = c in
-    let c15 = c in
-    let far = c in
-    let c24 = far in
-    let o = c24 in
-    let a = o.args in
+    let a = c.args in
     let p = a.p in
     let tb = a.addresses.now in
     let st = state_of a.bytes.now in
     let v : List ℕ → View = λ off. view_of p off a.image.now a.pointers.now in
-    let n = c15.count_entries-beyond in
+    let n = c.count_entries-beyond in
     let used = n.new.used in
-    let g = c12.fewest-g.result in
-    let le = c12.fewest-g.ensures in
-    let s = c4.see_segment-seen.result in
-    let h : g < p.Z = omega (arith, c10.if-p-g.false) in
+    let g = c.fewest-g.result in
+    let le = c.fewest-g.ensures in
+    let s = c.see_segment-seen.result in
+    let h : g < p.Z = omega (arith, c.if-p-g.false) in
     let t : Told = record { sure = c.is_fewest-sure.result; zone = g; live = get_or used g 0; first = s.first; outside = not (eqb (n.result + get_or used 1024 0) 0) } in record { zone_lt_z = (λ _. h); by_index = λ off sh sure.
-          let w = subst (λ (x : Seg). Vouched p (v off) st x tb (p.N * p.Z * capacity p) s) c5.row-segment.ensures (c4.see_segment-seen.ensures off) in
-          looked_seen p (ranged p o.requires.p_value) (v off) tb a.rows.now a.segments.now a.sealed.now sh st g h (le.taken h) used n.ensures.taken_counted_2 le s w c1.if-seen-n.false
-          (c.is_fewest-sure.ensures sure) (chosen_of a.rows.now t) refl refl refl refl refl (told-outside (c15) off sh) }
+          let w = subst (λ (x : Seg). Vouched p (v off) st x tb (p.N * p.Z * capacity p) s) c.row-segment.ensures (c.see_segment-seen.ensures off) in
+          looked_seen p (ranged p c.requires.p_value) (v off) tb a.rows.now a.segments.now a.sealed.now sh st g h (le.taken h) used n.ensures.taken_counted_2 le s w c.if-seen-n.false
+          (c.is_fewest-sure.ensures sure) (chosen_of a.rows.now t) refl refl refl refl refl (told-outside (c) off sh) }

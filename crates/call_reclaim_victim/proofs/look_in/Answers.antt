@@ -41,19 +41,15 @@ returns-then-not-told c = c.look_huge-then-not-told.ensures
 
 pub row-segment-requires : goal.row-segment-requires
 row-segment-requires c =
-    let o = c in
     let t = c.look_by_records-told in
     let l = t.ensures.zone_lt_z (not-false t.result.sure c.if-not-told.false) in
-    (omega (arith, l, o.requires.whole.1.rows_long), omega (arith, l, (ranged o.args.p o.requires.p_value).zones_high))
+    (omega (arith, l, c.requires.whole.1.rows_long), omega (arith, l, (ranged c.args.p c.requires.p_value).zones_high))
 
 pub returns : goal.returns
 returns c =
-    let c2 = c in
-    let c4 = c in
-    let c16 = c in
-    let a = c16.args in
-    let t = c4.look_by_records-told in
+    let a = c.args in
+    let t = c.look_by_records-told in
     let r = t.result in
     λ off sh. subst (λ (s : Seg).
     Looked a.p (view_of a.p off a.image.now a.pointers.now) a.addresses.now (state_of a.bytes.now)
-    (record { zone = r.zone; segment = s; live = r.live; first = r.first; odd = 1024; outside = r.outside })) (sym c.row-segment.ensures) (t.ensures.by_index off sh (not-false r.sure c2.if-not-told.false))
+    (record { zone = r.zone; segment = s; live = r.live; first = r.first; odd = 1024; outside = r.outside })) (sym c.row-segment.ensures) (t.ensures.by_index off sh (not-false r.sure c.if-not-told.false))

@@ -35,8 +35,7 @@ in_image c =
 
 pub record_in-record-requires : goal.record_in-record-requires
 record_in-record-requires c =
-    let o = c in
-    let h = o.requires.addresses_len in record { p_value = o.requires.p_value; image_len = (o.requires.whole.0.image_long, h.1, subst (λ (z : ℕ). z < o.args.p.Z) (sym h.2) (zone_there (o)), h.4) }
+    let h = c.requires.addresses_len in record { p_value = c.requires.p_value; image_len = (c.requires.whole.0.image_long, h.1, subst (λ (z : ℕ). z < c.args.p.Z) (sym h.2) (zone_there (c)), h.4) }
 
 pub clipped-a-requires : goal.clipped-a-requires
 clipped-a-requires c = omega (arith, (ranged c.args.p c.requires.p_value).addresses_low)
@@ -58,14 +57,13 @@ returns-then-there-q c =
 
 pub next_idle-first-requires : goal.next_idle-first-requires
 next_idle-first-requires c =
-    let o = c in
-    let a = o.args in
+    let a = c.args in
     let p = a.p in
-    let r = ranged p o.requires.p_value in
-    let h = o.requires.addresses_len in
-    let q : ℕ = a.at + a.o in record { p_value = o.requires.p_value; whole = o.requires.whole; place_bound = (
-          vouched_low p r a.segment a.drive a.o q h.1 (zone_there (o)) h.4 (place-there (o)),
-          data_even p r a.segment a.drive a.o q h.1 (zone_there (o)) h.4 (place-there (o)),
+    let r = ranged p c.requires.p_value in
+    let h = c.requires.addresses_len in
+    let q : ℕ = a.at + a.o in record { p_value = c.requires.p_value; whole = c.requires.whole; place_bound = (
+          vouched_low p r a.segment a.drive a.o q h.1 (zone_there (c)) h.4 (place-there (c)),
+          data_even p r a.segment a.drive a.o q h.1 (zone_there (c)) h.4 (place-there (c)),
           h.6,
         ) }
 
@@ -74,20 +72,17 @@ overflow_add-result c = omega (arith, c.requires.addresses_len.5)
 
 pub returns : goal.returns
 returns c =
-    let c6 = c in
-    let c13 = c in
-    let o = c13 in
-    let a = o.args in
+    let a = c.args in
     let p = a.p in
     let tb = a.addresses.now in
     let v : List ℕ → View = λ off. view_of p off a.image.now a.pointers.now in
     let st = state_of a.bytes.now in
-    let r = ranged p o.requires.p_value in
-    let h = o.requires.addresses_len in
+    let r = ranged p c.requires.p_value in
+    let h = c.requires.addresses_len in
     let q : ℕ = a.at + a.o in
-    let live = data_live p r a.segment a.drive a.o q h.1 (zone_there (o)) h.4 (place-there (o)) tb c6.clipped-a.result c6.clipped-a.ensures
+    let live = data_live p r a.segment a.drive a.o q h.1 (zone_there (c)) h.4 (place-there (c)) tb c.clipped-a.result c.clipped-a.ensures
     (sym c.place_at-there.ensures ∙ c.if-there-q.false) in
-    let even = data_even p r a.segment a.drive a.o q h.1 (zone_there (o)) h.4 (place-there (o)) in
+    let even = data_even p r a.segment a.drive a.o q h.1 (zone_there (c)) h.4 (place-there (c)) in
     let s : Idle = record { first = c.next_idle-first.result; odd = 1024 } in
-    let low : q < 4294967295 = omega (arith, in_image (o)) in record { live_bound = omega arith; by_index = λ off. vouched_step p (v off) st a.segment tb q a.seen (record { live = a.seen.live + 1; first = s.first }) s live even low
+    let low : q < 4294967295 = omega (arith, in_image (c)) in record { live_bound = omega arith; by_index = λ off. vouched_step p (v off) st a.segment tb q a.seen (record { live = a.seen.live + 1; first = s.first }) s live even low
           (step-seen p (v off) st a.segment q a.seen s even refl (c.next_idle-first.ensures off)) refl refl }

@@ -28,28 +28,25 @@ loop-d-init c =
 
 pub see_zone-found-requires : goal.see_zone-found-requires
 see_zone-found-requires c =
-    let o = c in
-    let h = o.requires.addresses_len in record { p_value = o.requires.p_value; whole = o.requires.whole; addresses_len = (h.0, c.loop-d-test.true, c.loop-d.invariant.1, h.1) }
+    let h = c.requires.addresses_len in record { p_value = c.requires.p_value; whole = c.requires.whole; addresses_len = (h.0, c.loop-d-test.true, c.loop-d.invariant.1, h.1) }
 
 pub overflow_add-d : goal.overflow_add-d
 overflow_add-d c =
-    let c8 = c in
-    omega (arith, c.loop-d-test.true, (ranged c8.args.p c8.requires.p_value).drives_high)
+    omega (arith, c.loop-d-test.true, (ranged c.args.p c.requires.p_value).drives_high)
 
 pub loop-d-smaller : goal.loop-d-smaller
 loop-d-smaller c = omega (arith, c.loop-d-test.true)
 
 pub loop-d-preserved : goal.loop-d-preserved
 loop-d-preserved c =
-    let o = c in
-    let a = o.args in
+    let a = c.args in
     let p = a.p in
     let tb = a.addresses.now in
     let st = state_of a.bytes.now in
-    let r = ranged p o.requires.p_value in
+    let r = ranged p c.requires.p_value in
     let l = c.loop-d in
     let g = a.segment in
-    let hz = low_here p g l.d o.requires.whole.1 c.loop-d-test.true in
+    let hz = low_here p g l.d c.requires.whole.1 c.loop-d-test.true in
     let v : List ℕ → View = λ off. view_of p off a.image.now a.pointers.now in
     let e = c.see_zone-found.ensures in
     let q : ℕ = place_of p l.d (zone_on g l.d) 1 in (

@@ -17,38 +17,30 @@ zone_on-zone-requires c = record { p_value = c.requires.p_value; drive_lt_n = c.
 
 pub place_of-at-requires : goal.place_of-at-requires
 place_of-at-requires c =
-    let o = c in
-    let p = o.args.p in
-    let r = ranged p o.requires.p_value in
-    let h = o.requires.addresses_len in
-    let z = subst (λ (x : ℕ). x < p.Z) (sym c.zone_on-zone.ensures) (low_here p o.args.segment o.args.drive o.requires.whole.1 h.1) in record { p_value = o.requires.p_value; drive_lt_n = (h.1, z, data_below p r 1 r.stripes_low) }
+    let p = c.args.p in
+    let r = ranged p c.requires.p_value in
+    let h = c.requires.addresses_len in
+    let z = subst (λ (x : ℕ). x < p.Z) (sym c.zone_on-zone.ensures) (low_here p c.args.segment c.args.drive c.requires.whole.1 h.1) in record { p_value = c.requires.p_value; drive_lt_n = (h.1, z, data_below p r 1 r.stripes_low) }
 
 pub overflow_cast-at : goal.overflow_cast-at
 overflow_cast-at c = omega arith
 
 pub loop-o-init : goal.loop-o-init
 loop-o-init c =
-    let c1 = c in
-    let c7 = c in
-    let a = c7.args in
+    let a = c.args in
     let v : List ℕ → View = λ off. view_of a.p off a.image.now a.pointers.now in
-    (omega arith, omega arith, λ off. subst (λ (x : ℕ). Vouched a.p (v off) (state_of a.bytes.now) a.segment a.addresses.now x a.seen) (sym (add-zero c1.place_of-at.result.0)))
+    (omega arith, omega arith, λ off. subst (λ (x : ℕ). Vouched a.p (v off) (state_of a.bytes.now) a.segment a.addresses.now x a.seen) (sym (add-zero c.place_of-at.result.0)))
 
 pub see_block-found-requires : goal.see_block-found-requires
 see_block-found-requires c =
-    let c4 = c in
-    let c5 = c in
-    let c10 = c in
-    let o = c10 in
-    let a = o.args in
-    let r = ranged a.p o.requires.p_value in
-    let h = o.requires.addresses_len in
-    let i = c.loop-o.invariant in record { p_value = o.requires.p_value; whole = o.requires.whole; addresses_len = (h.0, h.1, c5.zone_on_holds.ensures, c4.place_of-at.ensures.0, c.loop-o-test.true, omega (arith, i.1, i.0, h.2, h.1, r.drives_high, r.stripes_high), h.3) }
+    let a = c.args in
+    let r = ranged a.p c.requires.p_value in
+    let h = c.requires.addresses_len in
+    let i = c.loop-o.invariant in record { p_value = c.requires.p_value; whole = c.requires.whole; addresses_len = (h.0, h.1, c.zone_on_holds.ensures, c.place_of-at.ensures.0, c.loop-o-test.true, omega (arith, i.1, i.0, h.2, h.1, r.drives_high, r.stripes_high), h.3) }
 
 pub overflow_add-o : goal.overflow_add-o
 overflow_add-o c =
-    let c11 = c in
-    omega (arith, c.loop-o-test.true, (ranged c11.args.p c11.requires.p_value).stripes_high)
+    omega (arith, c.loop-o-test.true, (ranged c.args.p c.requires.p_value).stripes_high)
 
 pub loop-o-smaller : goal.loop-o-smaller
 loop-o-smaller c = omega (arith, c.loop-o-test.true)
@@ -66,17 +58,13 @@ loop-o-preserved c =
 
 pub returns : goal.returns
 returns c =
-    let c4 = c in
-    let c5 = c in
-    let c10 = c in
-    let o = c10 in
-    let a = o.args in
+    let a = c.args in
     let p = a.p in
-    let r = ranged p o.requires.p_value in
+    let r = ranged p c.requires.p_value in
     let l = c.loop-o in
     let v : List ℕ → View = λ off. view_of p off a.image.now a.pointers.now in
-    let at = c4.place_of-at.result.0 in
-    let ea : at ≡ place_of p a.drive (zone_on a.segment a.drive) 1 = c4.place_of-at.ensures.0 ∙ ap (λ (z : ℕ). place_of p a.drive z 1) c5.zone_on_holds.ensures in
+    let at = c.place_of-at.result.0 in
+    let ea : at ≡ place_of p a.drive (zone_on a.segment a.drive) 1 = c.place_of-at.ensures.0 ∙ ap (λ (z : ℕ). place_of p a.drive z 1) c.zone_on_holds.ensures in
     let eo : l.o ≡ p.S = omega (arith, c.loop-o-test.false, l.invariant.0) in
     let from : List ℕ → ℕ → Type 0 = λ off x. Vouched p (v off) (state_of a.bytes.now) a.segment a.addresses.now x a.seen in
-    let to : List ℕ → ℕ → Type 0 = λ off x. Vouched p (v off) (state_of a.bytes.now) a.segment a.addresses.now x l.found in record { live_bound = omega (arith, l.invariant.1, l.invariant.0, o.requires.addresses_len.2, r.stripes_high); by_index = λ off z. subst (to off) (ap₂ ◌+◌ ea eo) (l.invariant.2 off (subst (from off) (sym ea) z)) }
+    let to : List ℕ → ℕ → Type 0 = λ off x. Vouched p (v off) (state_of a.bytes.now) a.segment a.addresses.now x l.found in record { live_bound = omega (arith, l.invariant.1, l.invariant.0, c.requires.addresses_len.2, r.stripes_high); by_index = λ off z. subst (to off) (ap₂ ◌+◌ ea eo) (l.invariant.2 off (subst (from off) (sym ea) z)) }

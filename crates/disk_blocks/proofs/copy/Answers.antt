@@ -8,7 +8,6 @@ use Rattle.disk_blocks.proofs.copy.Goals as goal
 pub returns : goal.returns
 returns c =
     let copy-part = c.copy_part in
-    let entry = c in
-    let args = entry.args in
-    let pre = entry.requires in
+    let args = c.args in
+    let pre = c.requires in
     copy-part.ensures ∙ splice_all args.dst.now args.src.now (pre)

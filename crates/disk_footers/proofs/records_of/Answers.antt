@@ -35,9 +35,8 @@ overflow_sub-rest c =
 pub returns-then-rest-per : goal.returns-then-rest-per
 returns-then-rest-per c =
     let per-footer = c.per_footer-per in
-    let entry = c in
-    let args = entry.args in
-    let pre = entry.requires in
+    let args = c.args in
+    let pre = c.requires in
     let p = args.p in
     let i = args.i in
     let r = ranged p pre.p_value in
@@ -50,9 +49,8 @@ returns-then-rest-per c =
 pub returns : goal.returns
 returns c =
     let per-footer = c.per_footer-per in
-    let entry = c in
-    let args = entry.args in
-    let pre = entry.requires in
+    let args = c.args in
+    let pre = c.requires in
     let p = args.p in
     let i = args.i in
     let r = ranged p pre.p_value in

@@ -25,9 +25,8 @@ slice_bounds-write_with-end c =
 
 pub write_with-requires : goal.write_with-requires
 write_with-requires c =
-    let entry = c in
-    let args = entry.args in
-    let pre = entry.requires in
+    let args = c.args in
+    let pre = c.requires in
     let p = args.p in
     let r = ranged p pre.p_value in
     let h = pre.image_len in

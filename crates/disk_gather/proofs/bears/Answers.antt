@@ -13,30 +13,26 @@ use Rattle.disk_gather.proofs.bears.Goals as goal
 
 pub is_used-requires : goal.is_used-requires
 is_used-requires c =
-    let me = c in
-    let q = me.requires in record { p_value = q.p_value; pointers_len = (q.whole.0.pointers_long, q.whole.1); drive_lt_n = (q.drive_lt_n.0, q.drive_lt_n.1) }
+    let q = c.requires in record { p_value = q.p_value; pointers_len = (q.whole.0.pointers_long, q.whole.1); drive_lt_n = (q.drive_lt_n.0, q.drive_lt_n.1) }
 
 pub returns-then-not-is_used : goal.returns-then-not-is_used
 unfolding bears_at
 returns-then-not-is_used c =
-    let me = c in
-    let a = me.args in
+    let a = c.args in
     let v = view_of a.p a.offline.now a.image.now a.pointers.now in
     sym (ap (λ (b : Bool). b && eqb (serial_in a.p v a.drive a.zone) a.serial.0)
-    (sym (c.is_used.ensures a.image.now me.requires.whole.0.image_long) ∙ not-true c.is_used.result c.if-not-is_used.true-raw))
+    (sym (c.is_used.ensures a.image.now c.requires.whole.0.image_long) ∙ not-true c.is_used.result c.if-not-is_used.true-raw))
 
 pub serial_here-s-requires : goal.serial_here-s-requires
 serial_here-s-requires c =
-    let me = c in
-    let a = me.args in
-    let q = me.requires in record { p_value = q.p_value; p_in_bounds = found_header_room a.p a.drive a.zone a.at a.image.now (ranged a.p q.p_value) q.drive_lt_n.0 q.drive_lt_n.1 q.drive_lt_n.2 q.whole.0.image_long }
+    let a = c.args in
+    let q = c.requires in record { p_value = q.p_value; p_in_bounds = found_header_room a.p a.drive a.zone a.at a.image.now (ranged a.p q.p_value) q.drive_lt_n.0 q.drive_lt_n.1 q.drive_lt_n.2 q.whole.0.image_long }
 
 pub returns : goal.returns
 unfolding bears_at
 returns c =
-    let me = c in
-    let a = me.args in
-    let q = me.requires in
+    let a = c.args in
+    let q = c.requires in
     let v = view_of a.p a.offline.now a.image.now a.pointers.now in
     let u = c.is_used in
     ap (λ (n : ℕ). eqb n a.serial.0)

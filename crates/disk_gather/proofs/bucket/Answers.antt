@@ -5,5 +5,4 @@ use Rattle.disk_gather.proofs.bucket.Goals as goal
 
 pub returns : goal.returns
 returns c =
-    let me = c in
-    (refl, and_le_r me.args.serial.0 me.args.mask)
+    (refl, and_le_r c.args.serial.0 c.args.mask)

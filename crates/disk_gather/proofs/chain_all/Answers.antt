@@ -9,13 +9,11 @@ use Rattle.disk_gather.proofs.chain_all.Goals as goal
 
 pub loop-d-init : goal.loop-d-init
 loop-d-init c =
-    let me = c in
-    (omega arith, refl, refl, me.requires.mask_bound.3, λ d l q. absurd (let x : ⊥ = omega (arith, l) in x))
+    (omega arith, refl, refl, c.requires.mask_bound.3, λ d l q. absurd (let x : ⊥ = omega (arith, l) in x))
 
 pub chain_present-requires : goal.chain_present-requires
 chain_present-requires c =
-    let me = c in
-    let q = me.requires in
+    let q = c.requires in
     let l = c.loop-d in
     let h = q.mask_bound in record { p_value = q.p_value; whole = q.whole; drive_lt_n = (c.loop-d-test.true, h.0, omega (arith, l.invariant.1, h.1), omega (arith, l.invariant.2, h.2)); blank = (l.invariant.3, l.invariant.4) }
 
@@ -44,8 +42,7 @@ shape_of-links c = c.loop-d.invariant.2
 
 pub returns : goal.returns
 returns c =
-    let me = c in
-    let a = me.args in
+    let a = c.args in
     let l = c.loop-d in
     let e : l.d ≡ a.p.N = omega (arith, l.invariant.0, c.loop-d-test.false) in
     subst (λ (n : ℕ). ChainedTo a.p (view_of a.p a.offline.now a.image.now a.pointers.now) a.gone a.mask n l.heads l.links) e l.invariant.4

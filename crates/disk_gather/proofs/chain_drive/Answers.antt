@@ -12,35 +12,31 @@ use Rattle.disk_gather.proofs.chain_drive.Goals as goal
 
 pub zone_len-step-requires : goal.zone_len-step-requires
 zone_len-step-requires c =
-    let me = c in
-    me.requires.p_value
+    c.requires.p_value
 
 pub overflow_sub-z : goal.overflow_sub-z
 overflow_sub-z c =
-    let me = c in
-    omega (arith, (ranged me.args.p me.requires.p_value).zones_low)
+    omega (arith, (ranged c.args.p c.requires.p_value).zones_low)
 
 pub block_byte-requires : goal.block_byte-requires
 block_byte-requires c =
-    let me = c in
-    let r = ranged me.args.p me.requires.p_value in
-    let k : 0 < capacity me.args.p = let x = capacity-low me.args.p r in omega (arith, x) in record { p_value = me.requires.p_value; drive_lt_n = (me.requires.drive_lt_n.0, omega (arith, r.zones_low), k) }
+    let r = ranged c.args.p c.requires.p_value in
+    let k : 0 < capacity c.args.p = let x = capacity-low c.args.p r in omega (arith, x) in record { p_value = c.requires.p_value; drive_lt_n = (c.requires.drive_lt_n.0, omega (arith, r.zones_low), k) }
 
 pub overflow_add-at : goal.overflow_add-at
 overflow_add-at c = omega (arith, c.block_byte.ensures.2, c.zone_len-step.ensures.1)
 
 pub loop-z-init : goal.loop-z-init
 loop-z-init c =
-    let me = c in
-    let a = me.args in
+    let a = c.args in
     let p = a.p in
-    let r = ranged p me.requires.p_value in
+    let r = ranged p c.requires.p_value in
     let v = view_of p a.offline.now a.image.now a.pointers.now in (
       omega arith,
       refl,
       refl,
       (λ j. c.block_byte.ensures.0 j + c.zone_len-step.ensures.0 j) ∙ sym (head_back p a.drive p.Z (omega (arith, r.zones_low))),
-      chain_none p v a.mask a.drive a.heads.now a.links.now (λ b h. let x = me.requires.by_index b h in omega (arith, x, r.zones_high)),
+      chain_none p v a.mask a.drive a.heads.now a.links.now (λ b h. let x = c.requires.by_index b h in omega (arith, x, r.zones_high)),
     )
 
 pub overflow_sub-z-in-loop-z : goal.overflow_sub-z-in-loop-z
@@ -48,14 +44,12 @@ overflow_sub-z-in-loop-z c = omega (arith, c.loop-z-test.true)
 
 pub overflow_sub-at : goal.overflow_sub-at
 overflow_sub-at c =
-    let me = c in
-    omega (arith, c.loop-z.invariant.3, head_back me.args.p me.args.drive c.loop-z.z c.loop-z-test.true, c.zone_len-step.ensures.0)
+    omega (arith, c.loop-z.invariant.3, head_back c.args.p c.args.drive c.loop-z.z c.loop-z-test.true, c.zone_len-step.ensures.0)
 
 pub chain_zone-requires : goal.chain_zone-requires
 chain_zone-requires c =
-    let me = c in
-    let a = me.args in
-    let q = me.requires in
+    let a = c.args in
+    let q = c.requires in
     let l = c.loop-z in
     let k = q.drive_lt_n in
     let h = c.loop-z-test.true in
@@ -67,8 +61,7 @@ loop-z-smaller c = omega (arith, c.loop-z-test.true)
 
 pub loop-z-preserved : goal.loop-z-preserved
 loop-z-preserved c =
-    let me = c in
-    let a = me.args in
+    let a = c.args in
     let l = c.loop-z in
     let h = c.loop-z-test.true in (
       omega (arith, h, l.invariant.0),
@@ -86,8 +79,7 @@ shape_of-links c = c.loop-z.invariant.2
 
 pub returns : goal.returns
 returns c =
-    let me = c in
-    let a = me.args in
+    let a = c.args in
     let l = c.loop-z in
     let v = view_of a.p a.offline.now a.image.now a.pointers.now in
     let e : l.z ≡ 0 = omega (arith, c.loop-z-test.false) in

@@ -14,76 +14,64 @@ use Rattle.disk_gather.proofs.chain_present.Goals as goal
 
 pub returns-then-has_drive : goal.returns-then-has_drive
 returns-then-has_drive c =
-    let me = c in
-    let a = me.args in
+    let a = c.args in
     let p = a.p in
-    let h = me.requires.blank in
+    let h = c.requires.blank in
     let v = view_of p a.offline.now a.image.now a.pointers.now in record { blank_2 = blank_next p v a.gone a.mask a.drive a.heads.now a.links.now h.0; chained_to = chain_gone p v a.gone a.mask a.drive a.heads.now a.links.now (sym c.has_drive.ensures ∙ c.if-has_drive.true) h.1 }
 
 pub overflow_add-n : goal.overflow_add-n
 overflow_add-n c =
-    let me = c in
-    omega (arith, me.requires.drive_lt_n.1)
+    omega (arith, c.requires.drive_lt_n.1)
 
 pub overflow_add-n-2 : goal.overflow_add-n-2
 overflow_add-n-2 c =
-    let me = c in
-    omega (arith, me.requires.drive_lt_n.1, (ranged me.args.p me.requires.p_value).zones_high)
+    omega (arith, c.requires.drive_lt_n.1, (ranged c.args.p c.requires.p_value).zones_high)
 
 pub overflow_mul-a : goal.overflow_mul-a
 overflow_mul-a c =
-    let me = c in
-    let k = chain_room me.args.p me.args.mask me.args.drive (ranged me.args.p me.requires.p_value) me.requires.drive_lt_n.0 me.requires.drive_lt_n.1 in
+    let k = chain_room c.args.p c.args.mask c.args.drive (ranged c.args.p c.requires.p_value) c.requires.drive_lt_n.0 c.requires.drive_lt_n.1 in
     omega (arith, k.0, k.1, k.2, k.3)
 
 pub overflow_mul-b : goal.overflow_mul-b
 overflow_mul-b c =
-    let me = c in
-    let k = chain_room me.args.p me.args.mask me.args.drive (ranged me.args.p me.requires.p_value) me.requires.drive_lt_n.0 me.requires.drive_lt_n.1 in
+    let k = chain_room c.args.p c.args.mask c.args.drive (ranged c.args.p c.requires.p_value) c.requires.drive_lt_n.0 c.requires.drive_lt_n.1 in
     omega (arith, k.0, k.1, k.2, k.3)
 
 pub overflow_add-a : goal.overflow_add-a
 overflow_add-a c =
-    let me = c in
-    let k = chain_room me.args.p me.args.mask me.args.drive (ranged me.args.p me.requires.p_value) me.requires.drive_lt_n.0 me.requires.drive_lt_n.1 in
+    let k = chain_room c.args.p c.args.mask c.args.drive (ranged c.args.p c.requires.p_value) c.requires.drive_lt_n.0 c.requires.drive_lt_n.1 in
     omega (arith, k.0, k.1, k.2, k.3)
 
 pub offset_bounds-heads-a : goal.offset_bounds-heads-a
 offset_bounds-heads-a c =
-    let me = c in
-    let k = chain_room me.args.p me.args.mask me.args.drive (ranged me.args.p me.requires.p_value) me.requires.drive_lt_n.0 me.requires.drive_lt_n.1 in
+    let k = chain_room c.args.p c.args.mask c.args.drive (ranged c.args.p c.requires.p_value) c.requires.drive_lt_n.0 c.requires.drive_lt_n.1 in
     omega (arith, k.0, k.1, k.2, k.3)
 
 pub slice_bounds-chain_drive-end : goal.slice_bounds-chain_drive-end
 slice_bounds-chain_drive-end c =
-    let me = c in
-    let k = chain_room me.args.p me.args.mask me.args.drive (ranged me.args.p me.requires.p_value) me.requires.drive_lt_n.0 me.requires.drive_lt_n.1 in
-    omega (arith, k.0, k.1, k.2, k.3, me.requires.drive_lt_n.2)
+    let k = chain_room c.args.p c.args.mask c.args.drive (ranged c.args.p c.requires.p_value) c.requires.drive_lt_n.0 c.requires.drive_lt_n.1 in
+    omega (arith, k.0, k.1, k.2, k.3, c.requires.drive_lt_n.2)
 
 pub overflow_add-b : goal.overflow_add-b
 overflow_add-b c =
-    let me = c in
-    let k = chain_room me.args.p me.args.mask me.args.drive (ranged me.args.p me.requires.p_value) me.requires.drive_lt_n.0 me.requires.drive_lt_n.1 in
+    let k = chain_room c.args.p c.args.mask c.args.drive (ranged c.args.p c.requires.p_value) c.requires.drive_lt_n.0 c.requires.drive_lt_n.1 in
     omega (arith, k.0, k.1, k.2, k.3)
 
 pub offset_bounds-links-b : goal.offset_bounds-links-b
 offset_bounds-links-b c =
-    let me = c in
-    let k = chain_room me.args.p me.args.mask me.args.drive (ranged me.args.p me.requires.p_value) me.requires.drive_lt_n.0 me.requires.drive_lt_n.1 in
+    let k = chain_room c.args.p c.args.mask c.args.drive (ranged c.args.p c.requires.p_value) c.requires.drive_lt_n.0 c.requires.drive_lt_n.1 in
     omega (arith, k.0, k.1, k.2, k.3)
 
 pub slice_bounds-chain_drive-end-2 : goal.slice_bounds-chain_drive-end-2
 slice_bounds-chain_drive-end-2 c =
-    let me = c in
-    let k = chain_room me.args.p me.args.mask me.args.drive (ranged me.args.p me.requires.p_value) me.requires.drive_lt_n.0 me.requires.drive_lt_n.1 in
-    omega (arith, k.0, k.1, k.2, k.3, me.requires.drive_lt_n.3)
+    let k = chain_room c.args.p c.args.mask c.args.drive (ranged c.args.p c.requires.p_value) c.requires.drive_lt_n.0 c.requires.drive_lt_n.1 in
+    omega (arith, k.0, k.1, k.2, k.3, c.requires.drive_lt_n.3)
 
 pub chain_drive-requires : goal.chain_drive-requires
 chain_drive-requires c =
-    let me = c in
-    let a = me.args in
+    let a = c.args in
     let p = a.p in
-    let q = me.requires in
+    let q = c.requires in
     let w = a.mask + 1 + p.Z in
     let v = view_of p a.offline.now a.image.now a.pointers.now in
     let k = chain_room p a.mask a.drive (ranged p q.p_value) q.drive_lt_n.0 q.drive_lt_n.1 in
@@ -93,10 +81,9 @@ chain_drive-requires c =
 
 pub shape_of-heads : goal.shape_of-heads
 shape_of-heads c =
-    let me = c in
-    let a = me.args in
+    let a = c.args in
     let p = a.p in
-    let q = me.requires in
+    let q = c.requires in
     let w = a.mask + 1 + p.Z in
     let v = view_of p a.offline.now a.image.now a.pointers.now in
     let k = chain_room p a.mask a.drive (ranged p q.p_value) q.drive_lt_n.0 q.drive_lt_n.1 in
@@ -111,10 +98,9 @@ shape_of-heads c =
 
 pub shape_of-links : goal.shape_of-links
 shape_of-links c =
-    let me = c in
-    let a = me.args in
+    let a = c.args in
     let p = a.p in
-    let q = me.requires in
+    let q = c.requires in
     let w = a.mask + 1 + p.Z in
     let v = view_of p a.offline.now a.image.now a.pointers.now in
     let k = chain_room p a.mask a.drive (ranged p q.p_value) q.drive_lt_n.0 q.drive_lt_n.1 in
@@ -129,10 +115,9 @@ shape_of-links c =
 
 pub returns : goal.returns
 returns c =
-    let me = c in
-    let a = me.args in
+    let a = c.args in
     let p = a.p in
-    let q = me.requires in
+    let q = c.requires in
     let w = a.mask + 1 + p.Z in
     let v = view_of p a.offline.now a.image.now a.pointers.now in
     let k = chain_room p a.mask a.drive (ranged p q.p_value) q.drive_lt_n.0 q.drive_lt_n.1 in

@@ -12,34 +12,29 @@ use Rattle.disk_gather.specs.Found.{block_in_unit, head_bytes}
 use Rattle.disk_gather.proofs.copied_in.Goals as goal
 
 pub block_byte-a-requires : goal.block_byte-a-requires
-block_byte-a-requires c =
-    let e = c in record { p_value = e.requires.p_value; drive_lt_n = (e.requires.image_len.1, e.requires.image_len.2, (let x = capacity-low e.args.p (ranged e.args.p e.requires.p_value) in omega (arith, x))) }
+block_byte-a-requires c = record { p_value = c.requires.p_value; drive_lt_n = (c.requires.image_len.1, c.requires.image_len.2, (let x = capacity-low c.args.p (ranged c.args.p c.requires.p_value) in omega (arith, x))) }
 
 pub overflow_add-e : goal.overflow_add-e
 overflow_add-e c =
-    let e = c in
-    omega (arith, c.block_byte-a.ensures.2, (ranged e.args.p e.requires.p_value).block_high)
+    omega (arith, c.block_byte-a.ensures.2, (ranged c.args.p c.requires.p_value).block_high)
 
 pub slice_bounds-header_copied-end : goal.slice_bounds-header_copied-end
 slice_bounds-header_copied-end c =
-    let e = c in
-    omega (arith, c.block_byte-a.ensures.1, e.requires.image_len.0, block_in_unit e.args.p)
+    omega (arith, c.block_byte-a.ensures.1, c.requires.image_len.0, block_in_unit c.args.p)
 
 pub header_copied-requires : goal.header_copied-requires
 header_copied-requires c =
     let b = c.block_byte-a in
-    let e = c in
-    let a = e.args in
-    let l = length_part b.result a.p.B a.image.now (omega (arith, b.ensures.1, e.requires.image_len.0, block_in_unit a.p)) in
-    rw (part_lent b.result a.p.B a.image.now) (omega (arith, l, header_fits a.p (ranged a.p e.requires.p_value)))
+    let a = c.args in
+    let l = length_part b.result a.p.B a.image.now (omega (arith, b.ensures.1, c.requires.image_len.0, block_in_unit a.p)) in
+    rw (part_lent b.result a.p.B a.image.now) (omega (arith, l, header_fits a.p (ranged a.p c.requires.p_value)))
 
 pub returns : goal.returns
 returns c =
     let b = c.block_byte-a in
-    let e = c in
-    let a = e.args in
+    let a = c.args in
     let p = a.p in
     let im = a.image.now in
     λ off ps h. c.header_copied.ensures
     ∙ ap (header_copied p) (part_lent b.result p.B im ∙ ap (λ (x : ℕ). part x p.B im) b.ensures.0
-    ∙ sym (head_bytes p off im ps e.requires.image_len.0 h a.drive a.zone e.requires.image_len.1 e.requires.image_len.2 (ranged p e.requires.p_value)))
+    ∙ sym (head_bytes p off im ps c.requires.image_len.0 h a.drive a.zone c.requires.image_len.1 c.requires.image_len.2 (ranged p c.requires.p_value)))

@@ -17,8 +17,7 @@ loop-g-init c =
 
 pub own_kept-requires : goal.own_kept-requires
 own_kept-requires c =
-    let e = c in
-    let pre = e.requires.z_in_bounds in record { p_value = e.requires.p_value; z_in_bounds = (pre.0, pre.1, omega (arith, c.loop-g.invariant.1, pre.2), pre.3, c.loop-g-test.true) }
+    let pre = c.requires.z_in_bounds in record { p_value = c.requires.p_value; z_in_bounds = (pre.0, pre.1, omega (arith, c.loop-g.invariant.1, pre.2), pre.3, c.loop-g-test.true) }
 
 pub overflow_add-g : goal.overflow_add-g
 overflow_add-g c = omega arith

@@ -17,47 +17,40 @@ use Rattle.disk_gather.proofs.flag_repeats.Goals as goal
 
 pub low_drive-low-requires : goal.low_drive-low-requires
 low_drive-low-requires c =
-    let me = c in
-    me.requires.p_value
+    c.requires.p_value
 
 pub zone_len-step-requires : goal.zone_len-step-requires
 zone_len-step-requires c =
-    let me = c in
-    me.requires.p_value
+    c.requires.p_value
 
 pub block_byte-at-requires : goal.block_byte-at-requires
 block_byte-at-requires c =
-    let me = c in
-    let r = ranged me.args.p me.requires.p_value in
-    let k : 0 < capacity me.args.p = let x = capacity-low me.args.p r in omega (arith, x) in record { p_value = me.requires.p_value; drive_lt_n = (c.low_drive-low.ensures.1, omega (arith, r.zones_low), k) }
+    let r = ranged c.args.p c.requires.p_value in
+    let k : 0 < capacity c.args.p = let x = capacity-low c.args.p r in omega (arith, x) in record { p_value = c.requires.p_value; drive_lt_n = (c.low_drive-low.ensures.1, omega (arith, r.zones_low), k) }
 
 pub loop-z-init : goal.loop-z-init
 loop-z-init c = (omega arith, refl, c.block_byte-at.ensures.0, λ off ps h x j l. absurd (let q : ⊥ = omega (arith, l) in q))
 
 pub serial_here-s-requires : goal.serial_here-s-requires
 serial_here-s-requires c =
-    let me = c in
-    let a = me.args in
+    let a = c.args in
     let l = c.loop-z in
-    let low = c.low_drive-low in record { p_value = me.requires.p_value; p_in_bounds = found_header_room a.p low.result l.z l.at a.image.now (ranged a.p me.requires.p_value) low.ensures.1 c.loop-z-test.true l.invariant.2 me.requires.image_len.0 }
+    let low = c.low_drive-low in record { p_value = c.requires.p_value; p_in_bounds = found_header_room a.p low.result l.z l.at a.image.now (ranged a.p c.requires.p_value) low.ensures.1 c.loop-z-test.true l.invariant.2 c.requires.image_len.0 }
 
 pub is_repeated-requires : goal.is_repeated-requires
 is_repeated-requires c =
-    let me = c in
-    let q = me.requires in record { p_value = q.p_value; mask_bound = (q.image_len.1, q.image_len.2, q.image_len.3) }
+    let q = c.requires in record { p_value = q.p_value; mask_bound = (q.image_len.1, q.image_len.2, q.image_len.3) }
 
 pub bounds-out-z : goal.bounds-out-z
 bounds-out-z c =
-    let me = c in
-    omega (arith, c.loop-z.invariant.1, c.loop-z-test.true, me.requires.z_in_bounds)
+    omega (arith, c.loop-z.invariant.1, c.loop-z-test.true, c.requires.z_in_bounds)
 
 pub overflow_add-at : goal.overflow_add-at
 overflow_add-at c =
-    let me = c in
-    let a = me.args in
+    let a = c.args in
     let l = c.loop-z in
     let low = c.low_drive-low in
-    let k = found_header_room a.p low.result l.z l.at a.image.now (ranged a.p me.requires.p_value) low.ensures.1 c.loop-z-test.true l.invariant.2 me.requires.image_len.0 in
+    let k = found_header_room a.p low.result l.z l.at a.image.now (ranged a.p c.requires.p_value) low.ensures.1 c.loop-z-test.true l.invariant.2 c.requires.image_len.0 in
     omega (arith, k.1, c.zone_len-step.ensures.1)
 
 pub overflow_add-z : goal.overflow_add-z
@@ -68,8 +61,7 @@ loop-z-smaller c = omega arith
 
 pub loop-z-preserved : goal.loop-z-preserved
 loop-z-preserved c =
-    let me = c in
-    let a = me.args in
+    let a = c.args in
     let p = a.p in
     let im = a.image.now in
     let l = c.loop-z in
@@ -83,9 +75,9 @@ loop-z-preserved c =
       λ off ps k x.
           let v = view_of p off im ps in
           let f : ℕ → Bool = λ s. any (λ d. leb 2 (length (bearing p v d s))) (present p a.gone) in
-          let e = c.serial_here-s.ensures ∙ serial_bytes p off im ps me.requires.image_len.0 k low.result l.z low.ensures.1 h (ranged p me.requires.p_value) l.at l.invariant.2
+          let e = c.serial_here-s.ensures ∙ serial_bytes p off im ps c.requires.image_len.0 k low.result l.z low.ensures.1 h (ranged p c.requires.p_value) l.at l.invariant.2
           ∙ ap (λ (d : ℕ). serial_in p v d l.z) low.ensures.0 in
-          set_more l.out l.z r.result false (λ j. f (serial_in p v (low_drive p a.gone) j)) (omega (arith, l.invariant.1, h, me.requires.z_in_bounds)) (l.invariant.3 off ps k x) (r.ensures v x ∙ ap f e),
+          set_more l.out l.z r.result false (λ j. f (serial_in p v (low_drive p a.gone) j)) (omega (arith, l.invariant.1, h, c.requires.z_in_bounds)) (l.invariant.3 off ps k x) (r.ensures v x ∙ ap f e),
     )
 
 pub shape_of-out : goal.shape_of-out

@@ -10,9 +10,8 @@ use Rattle.disk_gather.proofs.gather_large.Goals as goal
 
 pub gather_with-requires : goal.gather_with-requires
 gather_with-requires c =
-    let me = c in
-    let p = me.args.p in
-    let q = me.requires in
+    let p = c.args.p in
+    let q = c.requires in
     let r = ranged p q.p_value in
     let l = (chain_room p 2047 0 r (omega (arith, r.drives_low)) (omega arith)).3 in
     let h = subst (λ (n : ℕ). p.N * p.Z ≤ n) (sym (length-replicate {A = ℕ} 8192 0)) (zones_all p r) in

@@ -18,32 +18,27 @@ use Rattle.disk_gather.proofs.gather_left.Goals as goal
 
 pub low_drive-low-requires : goal.low_drive-low-requires
 low_drive-low-requires c =
-    let me = c in
-    me.requires.p_value
+    c.requires.p_value
 
 pub loop-z-init : goal.loop-z-init
 loop-z-init c = (omega arith, refl, refl, (λ off ps h t s j l. absurd (let q : ⊥ = omega (arith, l) in q)), (λ off ps h t s j l. absurd (let q : ⊥ = omega (arith, l) in q)))
 
 pub offset_bounds-serials-z : goal.offset_bounds-serials-z
 offset_bounds-serials-z c =
-    let me = c in
-    omega (arith, c.loop-z-test.true, (ranged me.args.p me.requires.p_value).zones_high)
+    omega (arith, c.loop-z-test.true, (ranged c.args.p c.requires.p_value).zones_high)
 
 pub bounds-serials-z : goal.bounds-serials-z
 bounds-serials-z c =
-    let me = c in
-    omega (arith, c.loop-z-test.true, me.requires.here.1)
+    omega (arith, c.loop-z-test.true, c.requires.here.1)
 
 pub gather_zone-requires : goal.gather_zone-requires
 gather_zone-requires c =
-    let me = c in
-    let q = me.requires in
+    let q = c.requires in
     let low = c.low_drive-low.ensures in record { p_value = q.p_value; image_len = q.image_len; here = (q.here.0, low.1, low.0, c.loop-z-test.true, omega (arith, c.loop-z.invariant.1, q.here.2)) }
 
 pub bounds-left-z : goal.bounds-left-z
 bounds-left-z c =
-    let me = c in
-    omega (arith, c.loop-z.invariant.2, c.loop-z-test.true, me.requires.here.3)
+    omega (arith, c.loop-z.invariant.2, c.loop-z-test.true, c.requires.here.3)
 
 pub overflow_add-z : goal.overflow_add-z
 overflow_add-z c = omega (arith, c.loop-z-test.true)
@@ -53,9 +48,8 @@ loop-z-smaller c = omega (arith, c.loop-z-test.true)
 
 pub loop-z-preserved : goal.loop-z-preserved
 loop-z-preserved c =
-    let me = c in
-    let a = me.args in
-    let q = me.requires in
+    let a = c.args in
+    let q = c.requires in
     let l = c.loop-z in
     let g = c.gather_zone in
     let rows = g.new.rows in
@@ -81,6 +75,5 @@ shape_of-left c = c.loop-z.invariant.2
 
 pub returns : goal.returns
 returns c =
-    let me = c in
-    let q = me.requires in
+    let q = c.requires in
     let l = c.loop-z in record { by_index = (λ off ps long t s. (omega (arith, l.invariant.1, q.here.2), λ j x y. l.invariant.3 off ps long t s j (omega (arith, x, c.loop-z-test.false)) y)); by_index_2 = (λ off ps long t s. (omega (arith, l.invariant.2, q.here.3), λ j x. l.invariant.4 off ps long t s j (omega (arith, x, c.loop-z-test.false)))) }

@@ -10,9 +10,8 @@ use Rattle.disk_gather.proofs.gather_small.Goals as goal
 
 pub gather_with-requires : goal.gather_with-requires
 gather_with-requires c =
-    let me = c in
-    let p = me.args.p in
-    let q = me.requires in
+    let p = c.args.p in
+    let q = c.requires in
     let r = ranged p q.p_value in
     let l = links_few p r q.whole.3 in
     let h = subst (λ (n : ℕ). p.N * p.Z ≤ n) (sym (length-replicate {A = ℕ} 256 0)) q.whole.3 in

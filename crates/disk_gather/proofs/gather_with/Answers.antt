@@ -5,19 +5,15 @@ use Rattle.disk_gather.proofs.gather_with.Goals as goal
 
 pub chain_all-requires : goal.chain_all-requires
 chain_all-requires c =
-    let me = c in
-    let q = me.requires in record { p_value = q.p_value; whole = (q.whole.0, q.whole.1); mask_bound = q.mask_bound }
+    let q = c.requires in record { p_value = q.p_value; whole = (q.whole.0, q.whole.1); mask_bound = q.mask_bound }
 
 pub read_serials-requires : goal.read_serials-requires
 read_serials-requires c =
-    let me = c in
-    let q = me.requires in record { p_value = q.p_value; image_len = (q.whole.0.image_long, q.z_in_bounds.1) }
+    let q = c.requires in record { p_value = q.p_value; image_len = (q.whole.0.image_long, q.z_in_bounds.1) }
 
 pub gather_left-requires : goal.gather_left-requires
 gather_left-requires c =
-    let far = c in
-    let me = far in
-    let q = me.requires in
+    let q = c.requires in
     let h = c.chain_all.auto.heads in
     let l = c.chain_all.auto.links in
     let s = c.read_serials.auto.out in
@@ -26,25 +22,21 @@ gather_left-requires c =
 
 pub keep_flags-requires : goal.keep_flags-requires
 keep_flags-requires c =
-    let far = c in
-    let me = far in
-    let q = me.requires in
-    let h = far.chain_all.auto.heads in
-    let l = far.chain_all.auto.links in
+    let q = c.requires in
+    let h = c.chain_all.auto.heads in
+    let l = c.chain_all.auto.links in
     let s = c.gather_left.auto.left in
     let k = q.mask_bound in
     let m = q.z_in_bounds in record { p_value = q.p_value; image_len = (q.whole.0.image_long, k.0, omega (arith, h, k.1), omega (arith, l, k.2)); z_in_bounds = (omega (arith, s, m.2), m.3) }
 
 pub returns : goal.returns
 returns c =
-    let far = c in
-    let me = far in
-    let a = me.args in
-    let q = me.requires in
+    let a = c.args in
+    let q = c.requires in
     let off = a.offline.now in
     let ps = a.pointers.now in
     let long = q.whole.0.pointers_long in
-    let t = far.chain_all.ensures in
-    let s = far.read_serials.ensures off ps long in
+    let t = c.chain_all.ensures in
+    let s = c.read_serials.ensures off ps long in
     let g = c.gather_left.ensures in
     let l = g.1 off ps long t s in record { serials = s; flags_rows = g.0 off ps long t s; left_flags = l; keeps = c.keep_flags.ensures off ps long q.whole.2 t l }

@@ -25,16 +25,14 @@ seg_is p v gone z s e = ap (seg_for p v gone) e
 
 pub lowest_on-requires : goal.lowest_on-requires
 lowest_on-requires c =
-    let me = c in
-    let q = me.requires in record { p_value = q.p_value; drive_lt_n = (q.here.1, q.image_len.1, q.image_len.2, q.image_len.3) }
+    let q = c.requires in record { p_value = q.p_value; drive_lt_n = (q.here.1, q.image_len.1, q.image_len.2, q.image_len.3) }
 
 pub returns-then-lowest_on-z : goal.returns-then-lowest_on-z
 unfolding left_at
 returns-then-lowest_on-z c =
-    let me = c in
-    let a = me.args in
+    let a = c.args in
     let p = a.p in
-    let h = me.requires.here in
+    let h = c.requires.here in
     let low = low_drive p a.gone in
     let n = c.lowest_on in
     let here = ap (is_in a.gone) h.2 ∙ h.0.1 in record { by_index = (λ off ps long x e.
@@ -47,20 +45,17 @@ returns-then-lowest_on-z c =
 
 pub seg_in-segment-requires : goal.seg_in-segment-requires
 seg_in-segment-requires c =
-    let me = c in
-    let q = me.requires in
+    let q = c.requires in
     let h = q.here in record { p_value = q.p_value; image_len = q.image_len; low_lt_n = (h.1, h.2, h.3) }
 
 pub put_row-requires : goal.put_row-requires
 put_row-requires c =
-    let me = c in
-    let q = me.requires in
-    (omega (arith, q.here.3, q.here.4), omega (arith, q.here.3, (ranged me.args.p q.p_value).zones_high))
+    let q = c.requires in
+    (omega (arith, q.here.3, q.here.4), omega (arith, q.here.3, (ranged c.args.p q.p_value).zones_high))
 
 pub on_all-requires : goal.on_all-requires
 on_all-requires c =
-    let me = c in
-    me.requires.p_value
+    c.requires.p_value
 
 pub shape_of-rows : goal.shape_of-rows
 shape_of-rows c = c.put_row.auto.rows
@@ -68,10 +63,9 @@ shape_of-rows c = c.put_row.auto.rows
 pub returns : goal.returns
 unfolding left_at
 returns c =
-    let me = c in
-    let a = me.args in
+    let a = c.args in
     let p = a.p in
-    let h = me.requires.here in
+    let h = c.requires.here in
     let low = low_drive p a.gone in
     let n = c.lowest_on in
     let yes = c.if-lowest_on-z.false in

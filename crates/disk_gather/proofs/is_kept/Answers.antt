@@ -15,29 +15,25 @@ use Rattle.disk_gather.proofs.is_kept.Goals as goal
 
 pub bounds-flags-z : goal.bounds-flags-z
 bounds-flags-z c =
-    let me = c in
-    omega (arith, me.requires.low_lt_n.1, me.requires.low_lt_n.2)
+    omega (arith, c.requires.low_lt_n.1, c.requires.low_lt_n.2)
 
 pub returns-then-not-flags-z : goal.returns-then-not-flags-z
 returns-then-not-flags-z c =
-    let me = c in
-    let a = me.args in
+    let a = c.args in
     let fl = a.flags.now in
-    let h = me.requires.low_lt_n in
+    let h = c.requires.low_lt_n in
     λ off ps gone long el here x k. sym (remains_not a.p (view_of a.p off a.image.now ps) gone here fl a.z h.1 k (not-true (get_or fl a.z false) c.if-not-flags-z.true-raw))
 
 pub copied_in-c-requires : goal.copied_in-c-requires
 copied_in-c-requires c =
-    let me = c in
-    let q = me.requires in record { p_value = q.p_value; image_len = (q.image_len.0, q.low_lt_n.0, q.low_lt_n.1) }
+    let q = c.requires in record { p_value = q.p_value; image_len = (q.image_len.0, q.low_lt_n.0, q.low_lt_n.1) }
 
 pub returns-then-c-eq0 : goal.returns-then-c-eq0
 returns-then-c-eq0 c =
-    let me = c in
-    let a = me.args in
+    let a = c.args in
     let p = a.p in
     let fl = a.flags.now in
-    let h = me.requires.low_lt_n in
+    let h = c.requires.low_lt_n in
     let copied = c.copied_in-c in
     let n = copied.result.0 in
     λ off ps gone long el here x k.
@@ -48,16 +44,14 @@ returns-then-c-eq0 c =
 
 pub is_other_left-requires : goal.is_other_left-requires
 is_other_left-requires c =
-    let me = c in
-    let q = me.requires in record { p_value = q.p_value; low_lt_n = (q.low_lt_n.0, q.image_len.1, q.image_len.2, q.image_len.3, q.low_lt_n.2) }
+    let q = c.requires in record { p_value = q.p_value; low_lt_n = (q.low_lt_n.0, q.image_len.1, q.image_len.2, q.image_len.3, q.low_lt_n.2) }
 
 pub returns : goal.returns
 returns c =
-    let me = c in
-    let a = me.args in
+    let a = c.args in
     let p = a.p in
     let fl = a.flags.now in
-    let h = me.requires.low_lt_n in
+    let h = c.requires.low_lt_n in
     let copied = c.copied_in-c in
     let n = copied.result.0 in
     λ off ps gone long el here x k.

@@ -15,20 +15,17 @@ use Rattle.disk_gather.proofs.is_repeated.Goals as goal
 
 pub loop-d-init : goal.loop-d-init
 loop-d-init c =
-    let me = c in
-    let a = me.args in
+    let a = c.args in
     (omega arith, λ v x. any-start (λ e. not (is_in a.gone e) && leb 2 (length (bearing a.p v e a.serial.0))) a.p.N)
 
 pub twice_on-requires : goal.twice_on-requires
 twice_on-requires c =
-    let me = c in
-    let q = me.requires in record { p_value = q.p_value; drive_lt_n = (c.loop-d-test.true, q.mask_bound.0, q.mask_bound.1, q.mask_bound.2) }
+    let q = c.requires in record { p_value = q.p_value; drive_lt_n = (c.loop-d-test.true, q.mask_bound.0, q.mask_bound.1, q.mask_bound.2) }
 
 pub returns-then-twice_on : goal.returns-then-twice_on
 unfolding present drives_of
 returns-then-twice_on c =
-    let me = c in
-    let a = me.args in
+    let a = c.args in
     let l = c.loop-d in
     λ v x.
     let f : ℕ → Bool = λ e. not (is_in a.gone e) && leb 2 (length (bearing a.p v e a.serial.0)) in
@@ -43,8 +40,7 @@ loop-d-smaller c = omega arith
 
 pub loop-d-preserved : goal.loop-d-preserved
 loop-d-preserved c =
-    let me = c in
-    let a = me.args in
+    let a = c.args in
     let l = c.loop-d in (
       omega (arith, c.loop-d-test.true),
       λ v x.
@@ -55,8 +51,7 @@ loop-d-preserved c =
 pub returns : goal.returns
 unfolding present drives_of
 returns c =
-    let me = c in
-    let a = me.args in
+    let a = c.args in
     let l = c.loop-d in
     λ v x.
     let f : ℕ → Bool = λ e. not (is_in a.gone e) && leb 2 (length (bearing a.p v e a.serial.0)) in

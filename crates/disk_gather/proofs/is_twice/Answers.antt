@@ -7,13 +7,11 @@ use Rattle.disk_gather.specs.Index.{in_bucket, Nearest, once_none, twice_is, nex
 use Rattle.disk_gather.proofs.is_twice.Goals as goal
 
 pub lowest_in-z-requires : goal.lowest_in-z-requires
-lowest_in-z-requires c =
-    let me = c in record { p_value = me.requires.p_value; mask_bound = me.requires.mask_bound }
+lowest_in-z-requires c = record { p_value = c.requires.p_value; mask_bound = c.requires.mask_bound }
 
 pub returns-then-p-z : goal.returns-then-p-z
 returns-then-p-z c =
-    let me = c in
-    let a = me.args in
+    let a = c.args in
     λ v d x. sym (once_none a.p v d a.serial.0 c.lowest_in-z.result (c.lowest_in-z.ensures.nearest v d x) c.if-p-z.true)
 
 pub overflow_add-next : goal.overflow_add-next
@@ -21,35 +19,29 @@ overflow_add-next c = omega (arith, c.lowest_in-z.ensures.upper_bound)
 
 pub overflow_add-mask : goal.overflow_add-mask
 overflow_add-mask c =
-    let me = c in
-    omega (arith, me.requires.mask_bound.0)
+    omega (arith, c.requires.mask_bound.0)
 
 pub overflow_add-mask-2 : goal.overflow_add-mask-2
 overflow_add-mask-2 c =
-    let me = c in
-    omega (arith, me.requires.mask_bound.0, c.if-p-z.false)
+    omega (arith, c.requires.mask_bound.0, c.if-p-z.false)
 
 pub offset_bounds-links-mask : goal.offset_bounds-links-mask
 offset_bounds-links-mask c =
-    let me = c in
-    omega (arith, me.requires.mask_bound.2, c.if-p-z.false)
+    omega (arith, c.requires.mask_bound.2, c.if-p-z.false)
 
 pub bounds-links-mask : goal.bounds-links-mask
 bounds-links-mask c =
-    let me = c in
-    omega (arith, me.requires.mask_bound.2, c.if-p-z.false)
+    omega (arith, c.requires.mask_bound.2, c.if-p-z.false)
 
 pub overflow_add-next-2 : goal.overflow_add-next-2
 overflow_add-next-2 c = omega (arith, c.if-p-z.false, c.wide16.ensures.1)
 
 pub walk-requires : goal.walk-requires
-walk-requires c =
-    let me = c in record { p_value = me.requires.p_value; mask_bound = me.requires.mask_bound }
+walk-requires c = record { p_value = c.requires.p_value; mask_bound = c.requires.mask_bound }
 
 pub returns : goal.returns
 returns c =
-    let me = c in
-    let a = me.args in
+    let a = c.args in
     let p = a.p in
     let r = a.serial.0 in
     let z = c.lowest_in-z.result in

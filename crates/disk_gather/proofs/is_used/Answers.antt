@@ -11,16 +11,14 @@ use Rattle.disk_gather.proofs.is_used.Goals as goal
 
 pub returns-then-not-is_good : goal.returns-then-not-is_good
 returns-then-not-is_good c =
-    let e = c in
-    let a = e.args in
-    λ im h. sym (used_bytes a.p a.offline.now im a.pointers.now h e.requires.pointers_len.0 a.drive a.zone e.requires.drive_lt_n.0 e.requires.drive_lt_n.1
+    let a = c.args in
+    λ im h. sym (used_bytes a.p a.offline.now im a.pointers.now h c.requires.pointers_len.0 a.drive a.zone c.requires.drive_lt_n.0 c.requires.drive_lt_n.1
     ∙ ap (λ (b : Bool). b && not (eqb (pointer_of a.p a.pointers.now a.drive a.zone) 0)) (sym c.is_good.ensures ∙ not-true c.is_good.result c.if-not-is_good.true-raw))
 
 pub returns : goal.returns
 returns c =
-    let e = c in
-    let a = e.args in
+    let a = c.args in
     λ im h. ap (λ (n : ℕ). not (eqb n 0)) c.pointer.ensures
-    ∙ sym (used_bytes a.p a.offline.now im a.pointers.now h e.requires.pointers_len.0 a.drive a.zone e.requires.drive_lt_n.0 e.requires.drive_lt_n.1
+    ∙ sym (used_bytes a.p a.offline.now im a.pointers.now h c.requires.pointers_len.0 a.drive a.zone c.requires.drive_lt_n.0 c.requires.drive_lt_n.1
     ∙ ap (λ (b : Bool). b && not (eqb (pointer_of a.p a.pointers.now a.drive a.zone) 0)) (sym c.is_good.ensures
     ∙ not-false c.is_good.result c.if-not-is_good.false-raw))

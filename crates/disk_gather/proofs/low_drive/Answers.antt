@@ -38,7 +38,6 @@ pub returns : goal.returns
 unfolding low_drive present drives_of
 returns c =
     let loop = c.loop-d in
-    let entry = c in
-    let args = entry.args in
-    let pre = entry.requires in
+    let args = c.args in
+    let pre = c.requires in
     (sym (first_end (λ x. not (is_in args.gone x)) loop.d args.p.N (omega (arith, c.loop-d-test.false))) ∙ loop.invariant.1, omega (arith, (ranged args.p (pre)).drives_low))

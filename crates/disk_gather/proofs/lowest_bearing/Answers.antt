@@ -13,31 +13,26 @@ use Rattle.disk_gather.proofs.lowest_bearing.Goals as goal
 
 pub zone_len-step-requires : goal.zone_len-step-requires
 zone_len-step-requires c =
-    let me = c in
-    me.requires.p_value
+    c.requires.p_value
 
 pub block_byte-at-requires : goal.block_byte-at-requires
 block_byte-at-requires c =
-    let me = c in
-    let r = ranged me.args.p me.requires.p_value in
-    let k : 0 < capacity me.args.p = let x = capacity-low me.args.p r in omega (arith, x) in record { p_value = me.requires.p_value; drive_lt_n = (me.requires.drive_lt_n, omega (arith, r.zones_low), k) }
+    let r = ranged c.args.p c.requires.p_value in
+    let k : 0 < capacity c.args.p = let x = capacity-low c.args.p r in omega (arith, x) in record { p_value = c.requires.p_value; drive_lt_n = (c.requires.drive_lt_n, omega (arith, r.zones_low), k) }
 
 pub loop-z-init : goal.loop-z-init
 loop-z-init c =
-    let me = c in
-    let a = me.args in
+    let a = c.args in
     let v = view_of a.p a.offline.now a.image.now a.pointers.now in
     (omega arith, c.block_byte-at.ensures.0, lowest_start (bears_at a.p v a.drive a.serial.0) a.p.Z a.p.Z)
 
 pub bears-requires : goal.bears-requires
-bears-requires c =
-    let me = c in record { p_value = me.requires.p_value; whole = me.requires.whole; drive_lt_n = (me.requires.drive_lt_n, c.loop-z-test.true, c.loop-z.invariant.1) }
+bears-requires c = record { p_value = c.requires.p_value; whole = c.requires.whole; drive_lt_n = (c.requires.drive_lt_n, c.loop-z-test.true, c.loop-z.invariant.1) }
 
 pub returns-then-bears : goal.returns-then-bears
 unfolding lowest_bearing bearing bears_at
 returns-then-bears c =
-    let me = c in
-    let a = me.args in
+    let a = c.args in
     let l = c.loop-z in
     let v = view_of a.p a.offline.now a.image.now a.pointers.now in
     let h = c.loop-z-test.true in
@@ -45,11 +40,10 @@ returns-then-bears c =
 
 pub overflow_add-at : goal.overflow_add-at
 overflow_add-at c =
-    let me = c in
-    let a = me.args in
-    let r = ranged a.p me.requires.p_value in
+    let a = c.args in
+    let r = ranged a.p c.requires.p_value in
     let l = c.loop-z in
-    let k = found_header_room a.p a.drive l.z l.at a.image.now r me.requires.drive_lt_n c.loop-z-test.true l.invariant.1 me.requires.whole.0.image_long in
+    let k = found_header_room a.p a.drive l.z l.at a.image.now r c.requires.drive_lt_n c.loop-z-test.true l.invariant.1 c.requires.whole.0.image_long in
     omega (arith, k.1, c.zone_len-step.ensures.1)
 
 pub overflow_add-z : goal.overflow_add-z
@@ -60,8 +54,7 @@ loop-z-smaller c = omega arith
 
 pub loop-z-preserved : goal.loop-z-preserved
 loop-z-preserved c =
-    let me = c in
-    let a = me.args in
+    let a = c.args in
     let l = c.loop-z in
     let v = view_of a.p a.offline.now a.image.now a.pointers.now in
     let h = c.loop-z-test.true in (
@@ -73,8 +66,7 @@ loop-z-preserved c =
 pub returns : goal.returns
 unfolding lowest_bearing bearing bears_at
 returns c =
-    let me = c in
-    let a = me.args in
+    let a = c.args in
     let l = c.loop-z in
     let v = view_of a.p a.offline.now a.image.now a.pointers.now in
     (sym (lowest_end (bears_at a.p v a.drive a.serial.0) a.p.Z l.z a.p.Z (omega (arith, c.loop-z-test.false))) ∙ l.invariant.2, omega arith)

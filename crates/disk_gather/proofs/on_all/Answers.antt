@@ -18,8 +18,7 @@ loop-d-init c =
     (omega arith, all_start (λ e. is_in a.gone e || ltb (zone_on a.segment e) a.p.Z) a.p.N)
 
 pub is_on-requires : goal.is_on-requires
-is_on-requires c =
-    let e = c in record { p_value = e.requires; drive_lt_n = c.loop-d-test.true }
+is_on-requires c = record { p_value = c.requires; drive_lt_n = c.loop-d-test.true }
 
 pub returns-then-not-is_on : goal.returns-then-not-is_on
 unfolding present drives_of

@@ -19,34 +19,24 @@ bounds-kept-g c = omega (arith, c.requires.z_in_bounds)
 
 pub returns-then-not-kept-g : goal.returns-then-not-kept-g
 returns-then-not-kept-g c =
-    let c5 = c in
-    let a = c5.args in
+    let a = c.args in
     λ d z x y. sym (ap (λ (b : Bool). cond (b && eqb z (zone_on (row_seg a.rows.now a.g) d)) a.g (get_or a.owners.now (d * a.p.Z + z) 0))
     (not-true (get_or a.kept.now a.g false) c.if-not-kept-g.true-raw))
 
 pub row-segment-requires : goal.row-segment-requires
 row-segment-requires c =
-    let e = c in
-    (omega (arith, e.requires.z_in_bounds), omega (arith, e.requires.z_in_bounds, (ranged e.args.p e.requires.p_value).zones_high))
+    (omega (arith, c.requires.z_in_bounds), omega (arith, c.requires.z_in_bounds, (ranged c.args.p c.requires.p_value).zones_high))
 
 pub own_zones-requires : goal.own_zones-requires
-own_zones-requires c =
-    let c1 = c in
-    let c2 = c in
-    let c7 = c in
-    let e = c7 in record { p_value = e.requires.p_value; z_in_bounds = (
-        e.requires.z_in_bounds.2,
-        subst (λ (s : Seg). ZonesLow e.args.p 0 s) (sym c1.row-segment.ensures) (e.requires.z_in_bounds.3 e.args.g e.requires.z_in_bounds.4 (not-false (get_or e.args.kept.now e.args.g false) c2.if-not-kept-g.false-raw)),
-        omega (arith, e.requires.z_in_bounds, (ranged e.args.p e.requires.p_value).zones_high),
+own_zones-requires c = record { p_value = c.requires.p_value; z_in_bounds = (
+        c.requires.z_in_bounds.2,
+        subst (λ (s : Seg). ZonesLow c.args.p 0 s) (sym c.row-segment.ensures) (c.requires.z_in_bounds.3 c.args.g c.requires.z_in_bounds.4 (not-false (get_or c.args.kept.now c.args.g false) c.if-not-kept-g.false-raw)),
+        omega (arith, c.requires.z_in_bounds, (ranged c.args.p c.requires.p_value).zones_high),
       ) }
 
 pub returns : goal.returns
 returns c =
-    let c2 = c in
-    let c4 = c in
-    let c5 = c in
-    let c10 = c in
-    let a = c10.args in
-    λ d z x y. c2.own_zones.ensures d z x y
+    let a = c.args in
+    λ d z x y. c.own_zones.ensures d z x y
     ∙ ap₂ (λ (b : Bool) (s : Seg). cond (b && eqb z (zone_on s d)) a.g (get_or a.owners.now (d * a.p.Z + z) 0))
-    (sym (not-false (get_or a.kept.now a.g false) c5.if-not-kept-g.false-raw)) c4.row-segment.ensures
+    (sym (not-false (get_or a.kept.now a.g false) c.if-not-kept-g.false-raw)) c.row-segment.ensures

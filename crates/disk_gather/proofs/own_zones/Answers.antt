@@ -29,9 +29,8 @@ zone_on-zone-requires c = record { p_value = c.requires.p_value; drive_lt_n = c.
 
 pub offline_at-at-requires : goal.offline_at-at-requires
 offline_at-at-requires c =
-    let c5 = c in
-    let a = c5.args in
-    let t = c.loop-d-test.true in record { p_value = c5.requires.p_value; drive_lt_n = (t, rw c.zone_on-zone.ensures (low_here a.p a.segment c.loop-d.d c5.requires.z_in_bounds.1 t)) }
+    let a = c.args in
+    let t = c.loop-d-test.true in record { p_value = c.requires.p_value; drive_lt_n = (t, rw c.zone_on-zone.ensures (low_here a.p a.segment c.loop-d.d c.requires.z_in_bounds.1 t)) }
 
 pub offset_bounds-owners-at : goal.offset_bounds-owners-at
 offset_bounds-owners-at c = omega arith

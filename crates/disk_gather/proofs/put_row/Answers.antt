@@ -40,15 +40,14 @@ loop-d-smaller c = omega arith
 
 pub loop-d-preserved : goal.loop-d-preserved
 loop-d-preserved c =
-    let e = c in
-    let a = e.args in
+    let a = c.args in
     let l = c.loop-d in
     let zs = a.segment.zones in
     let n : l.d + 1 ≡ suc l.d = omega arith in
     let t : l.d < length zs = omega (arith, l.invariant.3, c.loop-d-test.true) in (
       omega arith,
       length-set l.rows (8 * a.z + l.d) (get_or zs l.d 0) ∙ l.invariant.1,
-      wrote_one a.rows.now l.rows (8 * a.z) l.d (take l.d zs) (get_or zs l.d 0) l.invariant.2 (length-take-le l.d zs (omega arith)) (omega (arith, e.requires.0, c.loop-d-test.true))
+      wrote_one a.rows.now l.rows (8 * a.z) l.d (take l.d zs) (get_or zs l.d 0) l.invariant.2 (length-take-le l.d zs (omega arith)) (omega (arith, c.requires.0, c.loop-d-test.true))
           ∙ ap (splice a.rows.now (8 * a.z)) (sym (take-suc zs l.d 0 t) ∙ ap (λ (k : ℕ). take k zs) (sym n)),
       l.invariant.3,
     )

@@ -6,16 +6,13 @@ use Rattle.disk_gather.proofs.repeats.Goals as goal
 
 pub offline_len-requires : goal.offline_len-requires
 offline_len-requires c =
-    let me = c in
-    me.requires.p_value
+    c.requires.p_value
 
 pub repeats_small-requires : goal.repeats_small-requires
 unfolding offline_len
 repeats_small-requires c =
-    let me = c in
-    let q = me.requires in record { p_value = q.p_value; whole = (q.whole.0, q.whole.1, omega (arith, c.if-offline_len-le-FEW_ZONES.true, c.offline_len.ensures.0)); z_in_bounds = q.z_in_bounds }
+    let q = c.requires in record { p_value = q.p_value; whole = (q.whole.0, q.whole.1, omega (arith, c.if-offline_len-le-FEW_ZONES.true, c.offline_len.ensures.0)); z_in_bounds = q.z_in_bounds }
 
 pub repeats_large-requires : goal.repeats_large-requires
 repeats_large-requires c =
-    let me = c in
-    let q = me.requires in record { p_value = q.p_value; whole = (q.whole.0, q.whole.1); z_in_bounds = q.z_in_bounds }
+    let q = c.requires in record { p_value = q.p_value; whole = (q.whole.0, q.whole.1); z_in_bounds = q.z_in_bounds }

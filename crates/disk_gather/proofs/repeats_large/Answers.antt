@@ -10,9 +10,8 @@ use Rattle.disk_gather.proofs.repeats_large.Goals as goal
 
 pub chain_all-requires : goal.chain_all-requires
 chain_all-requires c =
-    let me = c in
-    let p = me.args.p in
-    let q = me.requires in
+    let p = c.args.p in
+    let q = c.requires in
     let r = ranged p q.p_value in
     let l = (chain_room p 2047 0 r (omega (arith, r.drives_low)) (omega arith)).3 in
     let h = subst (λ (n : ℕ). p.N * p.Z ≤ n) (sym (length-replicate {A = ℕ} 8192 0)) (zones_all p r) in
@@ -20,9 +19,8 @@ chain_all-requires c =
 
 pub flag_repeats-requires : goal.flag_repeats-requires
 flag_repeats-requires c =
-    let me = c in
-    let p = me.args.p in
-    let q = me.requires in
+    let p = c.args.p in
+    let q = c.requires in
     let r = ranged p q.p_value in
     let l = (chain_room p 2047 0 r (omega (arith, r.drives_low)) (omega arith)).3 in
     let h = subst (λ (n : ℕ). p.N * p.Z ≤ n) (sym (length-replicate {A = ℕ} 8192 0)) (zones_all p r) in
@@ -32,7 +30,6 @@ flag_repeats-requires c =
 
 pub returns : goal.returns
 returns c =
-    let me = c in
-    let a = me.args in
+    let a = c.args in
     let x = c.chain_all.ensures in
-    c.flag_repeats.ensures a.offline.now a.pointers.now me.requires.whole.0.pointers_long x
+    c.flag_repeats.ensures a.offline.now a.pointers.now c.requires.whole.0.pointers_long x

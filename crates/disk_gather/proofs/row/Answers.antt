@@ -45,8 +45,7 @@ loop-d-preserved c =
 
 pub returns : goal.returns
 returns c =
-    let e = c in
-    let a = e.args in
+    let a = c.args in
     let l = c.loop-d in
     let n : l.d ≡ 8 = omega (arith, l.invariant.0, c.loop-d-test.false) in
-    ap (λ (x : List ℕ). seg x) (l.invariant.1 ∙ ap (filled_to (λ i. get_or a.rows.now (8 * a.z + i) 0)) n ∙ row_is a.rows.now a.z e.requires.0)
+    ap (λ (x : List ℕ). seg x) (l.invariant.1 ∙ ap (filled_to (λ i. get_or a.rows.now (8 * a.z + i) 0)) n ∙ row_is a.rows.now a.z c.requires.0)

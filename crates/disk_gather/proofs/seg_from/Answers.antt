@@ -18,18 +18,15 @@ loop-d-init c =
 
 pub zone_for-requires : goal.zone_for-requires
 zone_for-requires c =
-    let e = c in
-    let h = e.requires.low_lt_n in record { p_value = e.requires.p_value; whole = e.requires.whole; drive_lt_n = (c.loop-d-test.true, h.0, h.1, h.2, h.3) }
+    let h = c.requires.low_lt_n in record { p_value = c.requires.p_value; whole = c.requires.whole; drive_lt_n = (c.loop-d-test.true, h.0, h.1, h.2, h.3) }
 
 pub offset_bounds-zones-d : goal.offset_bounds-zones-d
 offset_bounds-zones-d c =
-    let e = c in
-    omega (arith, (ranged e.args.p e.requires.p_value).drives_high)
+    omega (arith, (ranged c.args.p c.requires.p_value).drives_high)
 
 pub bounds-zones-d : goal.bounds-zones-d
 bounds-zones-d c =
-    let e = c in
-    omega (arith, (ranged e.args.p e.requires.p_value).drives_high)
+    omega (arith, (ranged c.args.p c.requires.p_value).drives_high)
 
 pub overflow_add-d : goal.overflow_add-d
 overflow_add-d c = omega arith
@@ -39,11 +36,10 @@ loop-d-smaller c = omega arith
 
 pub loop-d-preserved : goal.loop-d-preserved
 loop-d-preserved c =
-    let e = c in
-    let a = e.args in
+    let a = c.args in
     let l = c.loop-d in
     let f : ℕ → ℕ = zone_for a.p (view_of a.p a.offline.now a.image.now a.pointers.now) a.gone a.serial.0 in
-    let t : l.d < 8 = omega (arith, (ranged a.p e.requires.p_value).drives_high, c.loop-d-test.true) in
+    let t : l.d < 8 = omega (arith, (ranged a.p c.requires.p_value).drives_high, c.loop-d-test.true) in
     (omega arith, ap (λ (x : List ℕ). set x l.d c.zone_for.result) l.invariant.1 ∙ ap (set (filled_to f l.d) l.d) c.zone_for.ensures ∙ filled_more f l.d t)
 
 pub returns : goal.returns

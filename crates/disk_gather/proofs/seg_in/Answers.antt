@@ -14,24 +14,20 @@ use Rattle.disk_gather.proofs.seg_in.Goals as goal
 
 pub loop-d-init : goal.loop-d-init
 loop-d-init c =
-    let me = c in
-    let a = me.args in
+    let a = c.args in
     (omega arith, λ off ps h t q. filled_none (zone_for a.p (view_of a.p off a.image.now ps) a.gone a.serial.0))
 
 pub zone_in-requires : goal.zone_in-requires
 zone_in-requires c =
-    let me = c in
-    let h = me.requires.low_lt_n in record { p_value = me.requires.p_value; image_len = me.requires.image_len; drive_lt_n = (c.loop-d-test.true, h.0, h.1, h.2) }
+    let h = c.requires.low_lt_n in record { p_value = c.requires.p_value; image_len = c.requires.image_len; drive_lt_n = (c.loop-d-test.true, h.0, h.1, h.2) }
 
 pub offset_bounds-zones-d : goal.offset_bounds-zones-d
 offset_bounds-zones-d c =
-    let me = c in
-    omega (arith, (ranged me.args.p me.requires.p_value).drives_high)
+    omega (arith, (ranged c.args.p c.requires.p_value).drives_high)
 
 pub bounds-zones-d : goal.bounds-zones-d
 bounds-zones-d c =
-    let me = c in
-    omega (arith, (ranged me.args.p me.requires.p_value).drives_high)
+    omega (arith, (ranged c.args.p c.requires.p_value).drives_high)
 
 pub overflow_add-d : goal.overflow_add-d
 overflow_add-d c = omega arith
@@ -41,10 +37,9 @@ loop-d-smaller c = omega arith
 
 pub loop-d-preserved : goal.loop-d-preserved
 loop-d-preserved c =
-    let me = c in
-    let a = me.args in
+    let a = c.args in
     let l = c.loop-d in
-    let n : l.d < 8 = omega (arith, (ranged a.p me.requires.p_value).drives_high, c.loop-d-test.true) in (
+    let n : l.d < 8 = omega (arith, (ranged a.p c.requires.p_value).drives_high, c.loop-d-test.true) in (
       omega arith,
       λ off ps h t q.
           let f : ℕ → ℕ = zone_for a.p (view_of a.p off a.image.now ps) a.gone a.serial.0 in
@@ -54,8 +49,7 @@ loop-d-preserved c =
 pub returns : goal.returns
 unfolding seg_for
 returns c =
-    let me = c in
-    let a = me.args in
+    let a = c.args in
     let l = c.loop-d in
     let n : l.d ≡ a.p.N = omega (arith, l.invariant.0, c.loop-d-test.false) in
     λ off ps h t q.

@@ -11,23 +11,19 @@ use Rattle.disk_gather.proofs.serial_here.Goals as goal
 
 pub overflow_add-e : goal.overflow_add-e
 overflow_add-e c =
-    let me = c in
-    omega (arith, me.requires.p_in_bounds.1, (ranged me.args.p me.requires.p_value).block_high)
+    omega (arith, c.requires.p_in_bounds.1, (ranged c.args.p c.requires.p_value).block_high)
 
 pub slice_bounds-header_serial-end : goal.slice_bounds-header_serial-end
 slice_bounds-header_serial-end c =
-    let me = c in
-    omega (arith, me.requires.p_in_bounds.0, block_in_unit me.args.p)
+    omega (arith, c.requires.p_in_bounds.0, block_in_unit c.args.p)
 
 pub header_serial-requires : goal.header_serial-requires
 header_serial-requires c =
-    let me = c in
-    let a = me.args in
-    let l = length_part a.at a.p.B a.image.now (omega (arith, me.requires.p_in_bounds.0, block_in_unit a.p)) in
-    rw (part_lent a.at a.p.B a.image.now) (omega (arith, l, header_fits a.p (ranged a.p me.requires.p_value)))
+    let a = c.args in
+    let l = length_part a.at a.p.B a.image.now (omega (arith, c.requires.p_in_bounds.0, block_in_unit a.p)) in
+    rw (part_lent a.at a.p.B a.image.now) (omega (arith, l, header_fits a.p (ranged a.p c.requires.p_value)))
 
 pub returns : goal.returns
 returns c =
-    let me = c in
-    let a = me.args in
+    let a = c.args in
     c.header_serial.ensures ∙ ap (header_serial a.p) (part_lent a.at a.p.B a.image.now)

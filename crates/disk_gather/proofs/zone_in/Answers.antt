@@ -14,16 +14,14 @@ use Rattle.disk_gather.proofs.zone_in.Goals as goal
 
 pub zone_named-requires : goal.zone_named-requires
 zone_named-requires c =
-    let me = c in
-    let h = me.requires.drive_lt_n in record { p_value = me.requires.p_value; image_len = (me.requires.image_len.0, h.1, h.3, h.0) }
+    let h = c.requires.drive_lt_n in record { p_value = c.requires.p_value; image_len = (c.requires.image_len.0, h.1, h.3, h.0) }
 
 pub returns-then-has_drive : goal.returns-then-has_drive
 unfolding zone_for
 returns-then-has_drive c =
-    let me = c in
-    let a = me.args in
+    let a = c.args in
     let p = a.p in
-    let h = me.requires.drive_lt_n in
+    let h = c.requires.drive_lt_n in
     let low = low_drive p a.gone in
     λ off ps long t q.
     let v = view_of p off a.image.now ps in
@@ -35,16 +33,14 @@ returns-then-has_drive c =
 
 pub overflow_cast-result : goal.overflow_cast-result
 overflow_cast-result c =
-    let me = c in
-    omega (arith, (ranged me.args.p me.requires.p_value).zones_high, me.requires.drive_lt_n.3)
+    omega (arith, (ranged c.args.p c.requires.p_value).zones_high, c.requires.drive_lt_n.3)
 
 pub returns-then-drive-low : goal.returns-then-drive-low
 unfolding zone_for
 returns-then-drive-low c =
-    let me = c in
-    let a = me.args in
+    let a = c.args in
     let p = a.p in
-    let h = me.requires.drive_lt_n in
+    let h = c.requires.drive_lt_n in
     let low = low_drive p a.gone in
     λ off ps long t q.
     let v = view_of p off a.image.now ps in
@@ -54,21 +50,18 @@ returns-then-drive-low c =
     ∙ sym (cond_false (is_in a.gone a.drive) named lowest (sym c.has_drive.ensures ∙ c.if-has_drive.false))
 
 pub lowest_on-requires : goal.lowest_on-requires
-lowest_on-requires c =
-    let me = c in record { p_value = me.requires.p_value; drive_lt_n = (me.requires.drive_lt_n.0, me.requires.image_len.1, me.requires.image_len.2, me.requires.image_len.3) }
+lowest_on-requires c = record { p_value = c.requires.p_value; drive_lt_n = (c.requires.drive_lt_n.0, c.requires.image_len.1, c.requires.image_len.2, c.requires.image_len.3) }
 
 pub overflow_cast-result-2 : goal.overflow_cast-result-2
 overflow_cast-result-2 c =
-    let me = c in
-    omega (arith, (ranged me.args.p me.requires.p_value).zones_high, c.lowest_on.ensures.upper_bound)
+    omega (arith, (ranged c.args.p c.requires.p_value).zones_high, c.lowest_on.ensures.upper_bound)
 
 pub returns : goal.returns
 unfolding zone_for
 returns c =
-    let me = c in
-    let a = me.args in
+    let a = c.args in
     let p = a.p in
-    let h = me.requires.drive_lt_n in
+    let h = c.requires.drive_lt_n in
     let low = low_drive p a.gone in
     λ off ps long t q.
     let v = view_of p off a.image.now ps in

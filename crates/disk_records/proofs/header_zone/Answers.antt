@@ -15,5 +15,4 @@ read_be32-requires c = omega (arith, header_length c.args.p)
 
 pub returns : goal.returns
 returns c =
-    let e = c in
-    c.read_be32.ensures ∙ sym (zone_read e.args.p e.args.src.now e.args.drive e.requires.1)
+    c.read_be32.ensures ∙ sym (zone_read c.args.p c.args.src.now c.args.drive c.requires.1)

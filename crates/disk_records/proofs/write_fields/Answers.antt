@@ -22,34 +22,31 @@ bounds-values-i c =
 pub write_be-requires : goal.write_be-requires
 write_be-requires c =
     let l = c.loop-i in
-    let e = c in
-    let ws = e.args.widths.now in
+    let ws = c.args.widths.now in
     let t : l.i < length ws = omega arith in
-    omega (arith, total-more ws l.i t, total_within ws (suc l.i), l.invariant.1, l.invariant.2, e.requires.1)
+    omega (arith, total-more ws l.i t, total_within ws (suc l.i), l.invariant.1, l.invariant.2, c.requires.1)
 
 pub overflow_add-at : goal.overflow_add-at
 overflow_add-at c =
     let l = c.loop-i in
-    let e = c in
-    let ws = e.args.widths.now in
+    let ws = c.args.widths.now in
     let t : l.i < length ws = omega arith in
-    let m : l.at + get_or ws l.i 0 ≤ length e.args.dst.now = omega (arith, total-more ws l.i t, total_within ws (suc l.i), l.invariant.2, e.requires.1) in
+    let m : l.at + get_or ws l.i 0 ≤ length c.args.dst.now = omega (arith, total-more ws l.i t, total_within ws (suc l.i), l.invariant.2, c.requires.1) in
     search rules
 
 pub loop-i-preserved : goal.loop-i-preserved
 loop-i-preserved c =
     let l = c.loop-i in
-    let e = c in
     let w = c.write_be in
-    let ws = e.args.widths.now in
+    let ws = c.args.widths.now in
     let t : l.i < length ws = omega arith in
     let s : l.i + 1 ≡ suc l.i = omega arith in (
       omega (arith, t),
       w.auto.dst ∙ l.invariant.1,
-      ap (λ (n : ℕ). n + get_or ws l.i 0) l.invariant.2 ∙ add_assoc e.args.from (total (take l.i ws)) (get_or ws l.i 0)
-          ∙ ap (λ (n : ℕ). e.args.from + n) (sym (total-more ws l.i t) ∙ ap (λ (n : ℕ). total (take n ws)) (sym s)),
-      subst (FieldsLeft ws e.args.values.now e.args.from e.args.dst.now w.new.dst (l.at + get_or ws l.i 0)) (sym s)
-          (rest_more ws e.args.values.now e.args.from e.args.dst.now e.requires.0 l.dst w.new.dst l.at l.i t l.invariant.3 w.ensures),
+      ap (λ (n : ℕ). n + get_or ws l.i 0) l.invariant.2 ∙ add_assoc c.args.from (total (take l.i ws)) (get_or ws l.i 0)
+          ∙ ap (λ (n : ℕ). c.args.from + n) (sym (total-more ws l.i t) ∙ ap (λ (n : ℕ). total (take n ws)) (sym s)),
+      subst (FieldsLeft ws c.args.values.now c.args.from c.args.dst.now w.new.dst (l.at + get_or ws l.i 0)) (sym s)
+          (rest_more ws c.args.values.now c.args.from c.args.dst.now c.requires.0 l.dst w.new.dst l.at l.i t l.invariant.3 w.ensures),
     )
 
 pub shape_of-dst : goal.shape_of-dst
@@ -58,7 +55,6 @@ shape_of-dst c = c.loop-i.invariant.1
 pub returns : goal.returns
 returns c =
     let l = c.loop-i in
-    let e = c in
-    let ws = e.args.widths.now in
+    let ws = c.args.widths.now in
     let d : l.i ≡ length ws = omega (arith, l.invariant.0) in
-    rest_all ws e.args.values.now e.args.from e.args.dst.now e.requires.0 l.dst l.at l.i d e.requires.1 l.invariant.3
+    rest_all ws c.args.values.now c.args.from c.args.dst.now c.requires.0 l.dst l.at l.i d c.requires.1 l.invariant.3

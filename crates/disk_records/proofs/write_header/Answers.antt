@@ -18,46 +18,40 @@ use Rattle.disk_records.proofs.write_header.Goals as goal
 
 mul-t11 : tie.Need-overflow-mul-t11
 mul-t11 c =
-    let e = c in
-    omega (arith, (ranged e.args.p e.requires.0).drives_high)
+    omega (arith, (ranged c.args.p c.requires.0).drives_high)
 
 add-t12 : tie.Need-overflow-add-t12
 add-t12 c =
-    let e = c in
-    omega (arith, (ranged e.args.p e.requires.0).drives_high)
+    omega (arith, (ranged c.args.p c.requires.0).drives_high)
 
 pub write_fields-requires : goal.write_fields-requires
 unfolding total unit_len
 write_fields-requires c =
-    let e = c in
-    let p = e.args.p in
-    (refl, omega (arith, c.clear.auto.dst, (ranged p e.requires.0).block_low, e.requires.1))
+    let p = c.args.p in
+    (refl, omega (arith, c.clear.auto.dst, (ranged p c.requires.0).block_low, c.requires.1))
 
 pub write_zones-requires : goal.write_zones-requires
 unfolding unit_len
 write_zones-requires c =
-    let e = c in
-    let p = e.args.p in (
-      e.requires.0,
+    let p = c.args.p in (
+      c.requires.0,
       omega (
         arith,
         c.write_fields.auto.dst,
         c.clear.auto.dst,
         header_fits p (ranged p
-            e.requires.0),
-        e.requires.1,
+            c.requires.0),
+        c.requires.1,
       ),
     )
 
 pub overflow_mul-p : goal.overflow_mul-p
 overflow_mul-p c =
-    let e = c in
-    omega (arith, (ranged e.args.p e.requires.0).drives_high)
+    omega (arith, (ranged c.args.p c.requires.0).drives_high)
 
 pub overflow_add-p : goal.overflow_add-p
 overflow_add-p c =
-    let e = c in
-    omega (arith, (ranged e.args.p e.requires.0).drives_high)
+    omega (arith, (ranged c.args.p c.requires.0).drives_high)
 
 slice-aggregate-write-fields-3 : tie.Need-slice-aggregate-write-fields-3
 slice-aggregate-write-fields-3 c = search rules
@@ -68,8 +62,7 @@ slice-aggregate-write-fields-4 c = search rules
 pub write_fields-requires-2 : goal.write_fields-requires-2
 unfolding total unit_len
 write_fields-requires-2 c =
-    let e = c in
-    let p = e.args.p in (
+    let p = c.args.p in (
       refl,
       omega (
         arith,
@@ -78,26 +71,25 @@ write_fields-requires-2 c =
         c.clear.auto.dst,
         header_length p,
         header_fits p (ranged p
-            e.requires.0),
-        e.requires.1,
+            c.requires.0),
+        c.requires.1,
       ),
     )
 
 pub returns : goal.returns
 unfolding header_version zipped unit_len
 returns c =
-    let e = c in
-    let a = e.args in
+    let a = c.args in
     let p = a.p in
     let clear = c.clear in
     let first = c.write_fields in
     let zones = c.write_zones in
     let last = c.write_fields-2 in
-    let z : clear.new.dst ≡ replicate (unit_len p) 0 = clear.ensures ∙ ap (λ (x : ℕ). replicate x 0) e.requires.1 in
+    let z : clear.new.dst ≡ replicate (unit_len p) 0 = clear.ensures ∙ ap (λ (x : ℕ). replicate x 0) c.requires.1 in
     let zs = zones_in p a.segment in
     let many : length zs ≡ p.N = zones_in_long p a.segment in
-    let long : header_len p ≤ length clear.new.dst = omega (arith, clear.auto.dst, header_fits p (ranged p e.requires.0), e.requires.1) in
-    header_written p (ranged p e.requires.0) a.drive zs a.serial.0 a.copied.0 last.new.dst many
+    let long : header_len p ≤ length clear.new.dst = omega (arith, clear.auto.dst, header_fits p (ranged p c.requires.0), c.requires.1) in
+    header_written p (ranged p c.requires.0) a.drive zs a.serial.0 a.copied.0 last.new.dst many
     (three_written p a.drive zs a.serial.0 a.copied.0 many clear.new.dst first.new.dst zones.new.dst last.new.dst long
     (first.ensures ∙ ap (λ (n : ℕ). splice clear.new.dst 0 (bytes_of (head_fields n p a.drive))) (sym (header_length p))) zones.ensures last.ensures
     ∙ ap (λ (x : List ℕ). splice x 0 (bytes_of (header_fields p a.drive zs a.serial.0 a.copied.0))) z)

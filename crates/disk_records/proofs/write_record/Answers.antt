@@ -20,7 +20,6 @@ returns c =
     let write-be32 = c.write_be32 in
     let write-be642 = c.write_be64-2 in
     let write-be64 = c.write_be64 in
-    let entry = c in
-    let args = entry.args in
-    let pre = entry.requires in
+    let args = c.args in
+    let pre = c.requires in
     record_written args.dst.now write-be64.new.dst write-be642.new.dst write-be32.new.dst (rec_val args.r) (pre) write-be64.ensures write-be642.ensures write-be32.ensures

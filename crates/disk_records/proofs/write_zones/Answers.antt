@@ -13,34 +13,28 @@ use Rattle.disk_records.proofs.write_zones.Goals as goal
 
 pub loop-d-init : goal.loop-d-init
 loop-d-init c =
-    let e = c in
-    (omega arith, refl, zones_none e.args.p e.args.segment e.args.dst.now)
+    (omega arith, refl, zones_none c.args.p c.args.segment c.args.dst.now)
 
 pub overflow_mul-d : goal.overflow_mul-d
 overflow_mul-d c =
-    let e = c in
-    omega (arith, (ranged e.args.p e.requires.0).drives_high)
+    omega (arith, (ranged c.args.p c.requires.0).drives_high)
 
 pub overflow_add-d : goal.overflow_add-d
 overflow_add-d c =
-    let e = c in
-    omega (arith, (ranged e.args.p e.requires.0).drives_high)
+    omega (arith, (ranged c.args.p c.requires.0).drives_high)
 
 pub offset_bounds-zones-d : goal.offset_bounds-zones-d
 offset_bounds-zones-d c =
-    let e = c in
-    omega (arith, (ranged e.args.p e.requires.0).drives_high)
+    omega (arith, (ranged c.args.p c.requires.0).drives_high)
 
 pub bounds-zones-d : goal.bounds-zones-d
 bounds-zones-d c =
-    let e = c in
-    omega (arith, (ranged e.args.p e.requires.0).drives_high)
+    omega (arith, (ranged c.args.p c.requires.0).drives_high)
 
 pub write_be32-requires : goal.write_be32-requires
 write_be32-requires c =
-    let e = c in
     let l = c.loop-d in
-    omega (arith, header_length e.args.p, e.requires.1, l.invariant.1)
+    omega (arith, header_length c.args.p, c.requires.1, l.invariant.1)
 
 pub overflow_add-d-in-loop-d : goal.overflow_add-d-in-loop-d
 overflow_add-d-in-loop-d c = omega arith
@@ -50,14 +44,13 @@ loop-d-smaller c = omega arith
 
 pub loop-d-preserved : goal.loop-d-preserved
 loop-d-preserved c =
-    let e = c in
     let l = c.loop-d in
     let w = c.write_be32 in
-    let g = e.args.segment in
-    let t : l.d < e.args.p.N = omega arith in (
+    let g = c.args.segment in
+    let t : l.d < c.args.p.N = omega arith in (
       omega arith,
       w.auto.dst ∙ l.invariant.1,
-      zones_more e.args.p g e.args.dst.now l.dst w.new.dst l.d t l.invariant.2
+      zones_more c.args.p g c.args.dst.now l.dst w.new.dst l.d t l.invariant.2
           (w.ensures ∙ ap (λ (z : ℕ). splice l.dst (13 + 4 * l.d) (to_be 4 z)) (sym (zone_is g l.d))),
     )
 
@@ -66,6 +59,5 @@ shape_of-dst c = c.loop-d.invariant.1
 
 pub returns : goal.returns
 returns c =
-    let e = c in
     let l = c.loop-d in
-    header_zones_all e.args.p e.args.segment e.args.dst.now l.dst l.d (omega arith) e.requires.1 l.invariant.2
+    header_zones_all c.args.p c.args.segment c.args.dst.now l.dst l.d (omega arith) c.requires.1 l.invariant.2

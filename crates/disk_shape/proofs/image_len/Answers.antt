@@ -23,9 +23,8 @@ overflow_mul-result c =
 pub overflow_mul-result-2 : goal.overflow_mul-result-2
 overflow_mul-result-2 c =
     let capacity = c.capacity in
-    let entry = c in
-    let args = entry.args in
-    let pre = entry.requires in
+    let args = c.args in
+    let pre = c.requires in
     let p = args.p in
     let r = ranged p (pre) in
     let h : capacity.result * c.unit_len.result ≤ 359660196 = zone-few capacity.result c.unit_len.result (omega arith) (omega arith) in
@@ -37,9 +36,8 @@ pub overflow_mul-result-3 : goal.overflow_mul-result-3
 overflow_mul-result-3 c =
     let unit-len = c.unit_len in
     let capacity = c.capacity in
-    let entry = c in
-    let args = entry.args in
-    let pre = entry.requires in
+    let args = c.args in
+    let pre = c.requires in
     let p = args.p in
     let r = ranged p (pre) in
     let h : capacity.result * unit-len.result ≤ 359660196 = zone-few capacity.result unit-len.result (omega arith) (omega arith) in
@@ -53,9 +51,8 @@ unfolding image_len drive_len zone_len
 returns c =
     let unit-len = c.unit_len in
     let capacity = c.capacity in
-    let entry = c in
-    let args = entry.args in
-    let pre = entry.requires in
+    let args = c.args in
+    let pre = c.requires in
     let p = args.p in
     let r = ranged p (pre) in
     let h : capacity.result * unit-len.result ≤ 359660196 = zone-few capacity.result unit-len.result (omega arith) (omega arith) in

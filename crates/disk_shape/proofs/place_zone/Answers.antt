@@ -16,9 +16,8 @@ pub returns : goal.returns
 unfolding place_zone
 returns c =
     let capacity = c.capacity-c in
-    let entry = c in
-    let args = entry.args in
-    let pre = entry.requires in
+    let args = c.args in
+    let pre = c.requires in
     let p = args.p in
     let r = ranged p (pre) in
     let q = args.place.0 in

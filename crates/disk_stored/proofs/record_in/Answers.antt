@@ -22,9 +22,8 @@ read_record-requires c = omega (arith, spare_len_lem)
 pub returns : goal.returns
 returns c =
     let record-byte = c.record_byte-at in
-    let entry = c in
-    let a = entry.args in
-    let pre = entry.requires in
+    let a = c.args in
+    let pre = c.requires in
     λ off ps hp.
     let p = a.p in
     let r = ranged p pre.p_value in

@@ -16,8 +16,7 @@ loop-d-init c =
     (omega arith, ap (λ (k : ℕ). least k (map f (up_from 0 (a.p.N - 0)))) e ∙ least_start f a.p.N (min a.most a.p.Z))
 
 pub free_on-n-requires : goal.free_on-n-requires
-free_on-n-requires c =
-    let e = c in record { p_value = e.requires.p_value; pointers_len = e.requires.pointers_len; drive_lt_n = c.loop-d-test.true }
+free_on-n-requires c = record { p_value = c.requires.p_value; pointers_len = c.requires.pointers_len; drive_lt_n = c.loop-d-test.true }
 
 pub overflow_add-d : goal.overflow_add-d
 overflow_add-d c = omega arith
@@ -35,9 +34,8 @@ loop-d-preserved c =
 
 pub returns : goal.returns
 returns c =
-    let e = c in
-    let a = e.args in
+    let a = c.args in
     let l = c.loop-d in
-    let f : ℕ → ℕ = λ e. tally (free_by a.p a.pointers.now a.offline.now e) (below a.p.Z) in
+    let f : ℕ → ℕ = λ c. tally (free_by a.p a.pointers.now a.offline.now c) (below a.p.Z) in
     λ im h. sym (least_end f a.p.N l.n l.d (omega (arith, c.loop-d-test.false))) ∙ l.invariant.1 ∙ sym (min_least a.most a.p.Z (map f (below a.p.N)))
-    ∙ ap (min a.most) (sym (empty_count_holds a.p a.offline.now im a.pointers.now h e.requires.pointers_len.0))
+    ∙ ap (min a.most) (sym (empty_count_holds a.p a.offline.now im a.pointers.now h c.requires.pointers_len.0))

@@ -25,8 +25,7 @@ pub overflow_sub-z : goal.overflow_sub-z
 overflow_sub-z c = omega arith
 
 pub is_free-requires : goal.is_free-requires
-is_free-requires c =
-    let e = c in record { p_value = e.requires.p_value; pointers_len = e.requires.pointers_len; drive_lt_n = (e.requires.drive_lt_n, omega arith) }
+is_free-requires c = record { p_value = c.requires.p_value; pointers_len = c.requires.pointers_len; drive_lt_n = (c.requires.drive_lt_n, omega arith) }
 
 pub overflow_add-n : goal.overflow_add-n
 overflow_add-n c = omega arith

@@ -11,36 +11,30 @@ use Rattle.disk_zones.specs.Empty.{zero_at, zero_good}
 use Rattle.disk_zones.proofs.good_among.Goals as goal
 
 pub offline_at-first-requires : goal.offline_at-first-requires
-offline_at-first-requires c =
-    let s = c in record { p_value = s.requires.p_value; drive_lt_n = (s.requires.offline_len.1, omega (arith, (ranged s.args.p s.requires.p_value).zones_low)) }
+offline_at-first-requires c = record { p_value = c.requires.p_value; drive_lt_n = (c.requires.offline_len.1, omega (arith, (ranged c.args.p c.requires.p_value).zones_low)) }
 
 pub loop-z-init : goal.loop-z-init
 loop-z-init c =
-    let s = c in
-    let a = s.args in
-    (omega arith, omega (arith, s.requires.offline_len.2), omega arith, add-zero (tally (zero_at a.offline.now c.offline_at-first.result) (below a.lo)))
+    let a = c.args in
+    (omega arith, omega (arith, c.requires.offline_len.2), omega arith, add-zero (tally (zero_at a.offline.now c.offline_at-first.result) (below a.lo)))
 
 pub overflow_add-good : goal.overflow_add-good
 overflow_add-good c =
-    let s = c in
-    omega (arith, c.offline_at-first.ensures.2, s.requires.offline_len.3, (ranged s.args.p s.requires.p_value).zones_high)
+    omega (arith, c.offline_at-first.ensures.2, c.requires.offline_len.3, (ranged c.args.p c.requires.p_value).zones_high)
 
 pub bounds-offline-first : goal.bounds-offline-first
 bounds-offline-first c =
-    let s = c in
     let l = c.loop-z in
-    let a = s.args in
-    omega (arith, c.offline_at-first.ensures.0, s.requires.offline_len.0, offline_within a.p a.drive l.z s.requires.offline_len.1 (omega (arith, s.requires.offline_len.3, c.loop-z-test.true)))
+    let a = c.args in
+    omega (arith, c.offline_at-first.ensures.0, c.requires.offline_len.0, offline_within a.p a.drive l.z c.requires.offline_len.1 (omega (arith, c.requires.offline_len.3, c.loop-z-test.true)))
 
 pub overflow_add-z : goal.overflow_add-z
 overflow_add-z c =
-    let s = c in
-    omega (arith, s.requires.offline_len.3, (ranged s.args.p s.requires.p_value).zones_high)
+    omega (arith, c.requires.offline_len.3, (ranged c.args.p c.requires.p_value).zones_high)
 
 pub overflow_add-n : goal.overflow_add-n
 overflow_add-n c =
-    let s = c in
-    omega (arith, s.requires.offline_len.4)
+    omega (arith, c.requires.offline_len.4)
 
 pub loop-z-smaller-then-good : goal.loop-z-smaller-then-good
 loop-z-smaller-then-good c = omega arith
@@ -48,9 +42,8 @@ loop-z-smaller-then-good c = omega arith
 pub loop-z-preserved-then-good : goal.loop-z-preserved-then-good
 unfolding zero_at
 loop-z-preserved-then-good c =
-    let s = c in
     let l = c.loop-z in
-    let f : ℕ → Bool = zero_at s.args.offline.now c.offline_at-first.result in
+    let f : ℕ → Bool = zero_at c.args.offline.now c.offline_at-first.result in
     (omega arith, omega arith, omega arith, omega (arith, l.invariant.3, tally-below_hit f l.z c.if-good.true-raw))
 
 pub loop-z-smaller : goal.loop-z-smaller
@@ -59,9 +52,8 @@ loop-z-smaller c = omega arith
 pub loop-z-preserved : goal.loop-z-preserved
 unfolding zero_at
 loop-z-preserved c =
-    let s = c in
     let l = c.loop-z in
-    let f : ℕ → Bool = zero_at s.args.offline.now c.offline_at-first.result in
+    let f : ℕ → Bool = zero_at c.args.offline.now c.offline_at-first.result in
     (omega arith, omega arith, omega arith, omega (arith, l.invariant.3, tally-below_miss f l.z c.if-good.false-raw))
 
 pub overflow_cast-result : goal.overflow_cast-result
@@ -69,8 +61,7 @@ overflow_cast-result c = omega arith
 
 pub returns : goal.returns
 returns c =
-    let s = c in
-    let a = s.args in
+    let a = c.args in
     let l = c.loop-z in
     let n : l.z ≡ a.hi = omega (arith, c.loop-z-test.false) in
     subst (λ (f : ℕ → Bool). tally f (below a.lo) + l.n ≡ tally f (below a.hi))

@@ -18,8 +18,7 @@ loop-d-init c =
     (omega arith, omega arith, least_start f a.p.N a.most ∙ sym (min_least a.most a.p.Z (map f (below a.p.N)) ∙ ap (λ (k : ℕ). least k (map f (below a.p.N))) e))
 
 pub good_on-n-requires : goal.good_on-n-requires
-good_on-n-requires c =
-    let e = c in record { p_value = e.requires.p_value; offline_len = (e.requires.offline_len.0, c.loop-d-test.true) }
+good_on-n-requires c = record { p_value = c.requires.p_value; offline_len = (c.requires.offline_len.0, c.loop-d-test.true) }
 
 pub overflow_add-d : goal.overflow_add-d
 overflow_add-d c = omega arith

@@ -23,23 +23,20 @@ returns-then-most-n c =
 
 pub overflow_add-z : goal.overflow_add-z
 overflow_add-z c =
-    let s = c in
-    omega (arith, c.loop-z.invariant.0, (ranged s.args.p s.requires.p_value).zones_high)
+    omega (arith, c.loop-z.invariant.0, (ranged c.args.p c.requires.p_value).zones_high)
 
 pub good_among-n-requires : goal.good_among-n-requires
 good_among-n-requires c =
-    let s = c in
     let l = c.loop-z in
-    let e = c.lower-end.ensures in record { p_value = s.requires.p_value; offline_len = (s.requires.offline_len.0, s.requires.offline_len.1, omega (arith, e, l.invariant.0), omega (arith, e), omega (arith, e)) }
+    let e = c.lower-end.ensures in record { p_value = c.requires.p_value; offline_len = (c.requires.offline_len.0, c.requires.offline_len.1, omega (arith, e, l.invariant.0), omega (arith, e), omega (arith, e)) }
 
 -- at most Z are counted
 pub overflow_add-n : goal.overflow_add-n
 overflow_add-n c =
-    let s = c in
-    let a = s.args in
+    let a = c.args in
     let l = c.loop-z in
     let f : ℕ → Bool = is_good a.p a.offline.now a.drive in
-    omega (arith, l.invariant.1, c.good_among-n.ensures, tally-le f c.lower-end.result, c.lower-end.ensures, (ranged a.p s.requires.p_value).zones_high)
+    omega (arith, l.invariant.1, c.good_among-n.ensures, tally-le f c.lower-end.result, c.lower-end.ensures, (ranged a.p c.requires.p_value).zones_high)
 
 pub loop-z-smaller : goal.loop-z-smaller
 loop-z-smaller c = omega (arith, c.lower-end.ensures)

@@ -17,8 +17,7 @@ loop-z-init c =
     (omega arith, ap (λ (l : List ℕ). first_or 0 (keep f l)) (sym (below-start a.p.Z)))
 
 pub is_free-requires : goal.is_free-requires
-is_free-requires c =
-    let e = c in record { p_value = e.requires.p_value; pointers_len = e.requires.pointers_len; drive_lt_n = (e.requires.drive_lt_n, c.loop-z-test.true) }
+is_free-requires c = record { p_value = c.requires.p_value; pointers_len = c.requires.pointers_len; drive_lt_n = (c.requires.drive_lt_n, c.loop-z-test.true) }
 
 pub returns-then-is_free : goal.returns-then-is_free
 returns-then-is_free c =
@@ -42,8 +41,7 @@ loop-z-preserved c =
 
 pub returns : goal.returns
 returns c =
-    let e = c in
-    let a = e.args in
+    let a = c.args in
     let l = c.loop-z in
     let f : ℕ → Bool = free_by a.p a.pointers.now a.offline.now a.drive in
-    (sym (first_end f l.z a.p.Z (omega (arith, c.loop-z-test.false))) ∙ l.invariant.1, omega (arith, (ranged a.p e.requires.p_value).zones_low))
+    (sym (first_end f l.z a.p.Z (omega (arith, c.loop-z-test.false))) ∙ l.invariant.1, omega (arith, (ranged a.p c.requires.p_value).zones_low))

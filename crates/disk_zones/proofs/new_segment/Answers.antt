@@ -27,23 +27,19 @@ loop-d-init c =
     (omega arith, filled_none f, λ e h. absurd (let q : ⊥ = omega arith in q))
 
 pub lowest_free-requires : goal.lowest_free-requires
-lowest_free-requires c =
-    let e = c in record { p_value = e.requires.p_value; pointers_len = e.requires.pointers_len; drive_lt_n = c.loop-d-test.true }
+lowest_free-requires c = record { p_value = c.requires.p_value; pointers_len = c.requires.pointers_len; drive_lt_n = c.loop-d-test.true }
 
 pub overflow_cast-zones : goal.overflow_cast-zones
 overflow_cast-zones c =
-    let e = c in
-    omega (arith, (ranged e.args.p e.requires.p_value).zones_high, c.lowest_free.ensures.1)
+    omega (arith, (ranged c.args.p c.requires.p_value).zones_high, c.lowest_free.ensures.1)
 
 pub offset_bounds-zones-d : goal.offset_bounds-zones-d
 offset_bounds-zones-d c =
-    let e = c in
-    omega (arith, (ranged e.args.p e.requires.p_value).drives_high)
+    omega (arith, (ranged c.args.p c.requires.p_value).drives_high)
 
 pub bounds-zones-d : goal.bounds-zones-d
 bounds-zones-d c =
-    let e = c in
-    omega (arith, (ranged e.args.p e.requires.p_value).drives_high)
+    omega (arith, (ranged c.args.p c.requires.p_value).drives_high)
 
 pub overflow_add-d : goal.overflow_add-d
 overflow_add-d c = omega arith
@@ -53,12 +49,11 @@ loop-d-smaller c = omega arith
 
 pub loop-d-preserved : goal.loop-d-preserved
 loop-d-preserved c =
-    let e = c in
-    let a = e.args in
+    let a = c.args in
     let l = c.loop-d in
-    let f : ℕ → ℕ = λ e. first_or 0 (keep (free_by a.p a.pointers.now a.offline.now e) (below a.p.Z)) in
+    let f : ℕ → ℕ = λ c. first_or 0 (keep (free_by a.p a.pointers.now a.offline.now c) (below a.p.Z)) in
     let r = c.lowest_free.ensures in
-    let t : l.d < 8 = omega (arith, (ranged a.p e.requires.p_value).drives_high, c.loop-d-test.true) in (
+    let t : l.d < 8 = omega (arith, (ranged a.p c.requires.p_value).drives_high, c.loop-d-test.true) in (
       omega arith,
       ap (λ (x : List ℕ). set x l.d c.lowest_free.result) l.invariant.1 ∙ ap (set (filled_to f l.d) l.d) r.0 ∙ filled_more f l.d t,
       one_more f a.p.Z l.d c.lowest_free.result l.invariant.2 r.0 r.1,
@@ -66,9 +61,8 @@ loop-d-preserved c =
 
 pub returns : goal.returns
 returns c =
-    let e = c in
-    let a = e.args in
+    let a = c.args in
     let l = c.loop-d in
-    let f : ℕ → ℕ = λ e. first_or 0 (keep (free_by a.p a.pointers.now a.offline.now e) (below a.p.Z)) in
+    let f : ℕ → ℕ = λ c. first_or 0 (keep (free_by a.p a.pointers.now a.offline.now c) (below a.p.Z)) in
     let n : l.d ≡ a.p.N = omega (arith, l.invariant.0, c.loop-d-test.false) in
-    let s = ap (λ (x : List ℕ). seg x) (l.invariant.1 ∙ ap (filled_to f) n) ∙ filled_with a.p f in record { by_index = (λ im h. s ∙ sym (new_seg_holds a.p a.offline.now im a.pointers.now h e.requires.pointers_len.0)); zones_low = with_low a.p f 0 (seg l.zones) s (λ x hx q. l.invariant.2 x (subst (λ (m : ℕ). x < m) (sym n) hx)) }
+    let s = ap (λ (x : List ℕ). seg x) (l.invariant.1 ∙ ap (filled_to f) n) ∙ filled_with a.p f in record { by_index = (λ im h. s ∙ sym (new_seg_holds a.p a.offline.now im a.pointers.now h c.requires.pointers_len.0)); zones_low = with_low a.p f 0 (seg l.zones) s (λ x hx q. l.invariant.2 x (subst (λ (m : ℕ). x < m) (sym n) hx)) }

@@ -22,8 +22,7 @@ bounds-bytes-1 c =
 
 pub power-requires : goal.power-requires
 power-requires c =
-    let s = c in
-    omega (arith, (ranged s.args.p s.requires.p_value).drives_high)
+    omega (arith, (ranged c.args.p c.requires.p_value).drives_high)
 
 pub bounds-bytes-1-2 : goal.bounds-bytes-1-2
 bounds-bytes-1-2 c =
@@ -47,33 +46,25 @@ read_le32-requires c =
 
 pub overflow_cast-p : goal.overflow_cast-p
 overflow_cast-p c =
-    let s = c in
-    omega (arith, (ranged s.args.p s.requires.p_value).stripes_high)
+    omega (arith, (ranged c.args.p c.requires.p_value).stripes_high)
 
 pub overflow_add-p : goal.overflow_add-p
 overflow_add-p c =
-    let s = c in
-    omega (arith, (ranged s.args.p s.requires.p_value).stripes_high)
+    omega (arith, (ranged c.args.p c.requires.p_value).stripes_high)
 
 pub returns : goal.returns
 unfolding front_past
 returns c =
-    let next = c in
-    let opened = c in
-    let lost = opened in
-    let gone = lost in
-    let live = gone in
-    let s = live in
-    let p = s.args.p in
-    let bs = s.args.bytes.now in
-    let h : 1 < length bs = omega (arith, state_len_lem, s.requires.bytes_len) in
+    let p = c.args.p in
+    let bs = c.args.bytes.now in
+    let h : 1 < length bs = omega (arith, state_len_lem, c.requires.bytes_len) in
     let e0 : get_or bs 0 0 ≡ le_of (part 0 1 bs) = le_of_part-one 0 bs (omega arith) in
     let e1 : get_or bs 1 0 ≡ le_of (part 1 1 bs) = le_of_part-one 1 bs h in
-    let f0 = live.other.ensures.0 ∙ ap other e0 in
-    let f1 = gone.past.ensures.0 ∙ ap₂ past gone.power.ensures (gone.wide32.ensures.0 ∙ e1) in
-    let f2 = lost.past2.ensures.0 ∙ ap (past 2) (lost.count.ensures.0 ∙ ap ones e1) in
-    let f3 = opened.above-opened.ensures.0 ∙ ap₂ bounds_above opened.read_le64-serial.ensures opened.read_le64.ensures in
-    let f4 = next.past-next.ensures.0 ∙ ap (past (p.S + 1)) next.read_le32.ensures in (
+    let f0 = c.other-live.ensures.0 ∙ ap other e0 in
+    let f1 = c.past-gone.ensures.0 ∙ ap₂ past c.power.ensures (c.wide32.ensures.0 ∙ e1) in
+    let f2 = c.past-lost.ensures.0 ∙ ap (past 2) (c.count.ensures.0 ∙ ap ones e1) in
+    let f3 = c.above-opened.ensures.0 ∙ ap₂ bounds_above c.read_le64-serial.ensures c.read_le64.ensures in
+    let f4 = c.past-next.ensures.0 ∙ ap (past (p.S + 1)) c.read_le32.ensures in (
       λ j. f0 j + f1 j + f2 j + f3 j + f4 j,
-      omega (arith, live.other.ensures.1, gone.past.ensures.1, lost.past2.ensures.1, opened.above-opened.ensures.1, next.past-next.ensures.1),
+      omega (arith, c.other-live.ensures.1, c.past-gone.ensures.1, c.past-lost.ensures.1, c.above-opened.ensures.1, c.past-next.ensures.1),
     )

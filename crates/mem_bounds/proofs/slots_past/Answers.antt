@@ -11,16 +11,14 @@ use Rattle.mem_bounds.proofs.slots_past.Goals as goal
 
 pub overflow_cast-p : goal.overflow_cast-p
 overflow_cast-p c =
-    let s = c in
-    omega (arith, (ranged s.args.p s.requires.p_value).stripes_high)
+    omega (arith, (ranged c.args.p c.requires.p_value).stripes_high)
 
 pub words_past-numbers-requires : goal.words_past-numbers-requires
 words_past-numbers-requires c = (omega (arith, state_len_lem, c.requires.bytes_len), omega arith)
 
 pub overflow_cast-p-2 : goal.overflow_cast-p-2
 overflow_cast-p-2 c =
-    let s = c in
-    omega (arith, (ranged s.args.p s.requires.p_value).drives_high)
+    omega (arith, (ranged c.args.p c.requires.p_value).drives_high)
 
 pub bytes_past-filled-requires : goal.bytes_past-filled-requires
 bytes_past-filled-requires c =
@@ -29,13 +27,11 @@ bytes_past-filled-requires c =
 
 pub overflow_sub-p : goal.overflow_sub-p
 overflow_sub-p c =
-    let s = c in
-    omega (arith, (ranged s.args.p s.requires.p_value).drives_low)
+    omega (arith, (ranged c.args.p c.requires.p_value).drives_low)
 
 pub power-requires : goal.power-requires
 power-requires c =
-    let s = c in
-    omega (arith, (ranged s.args.p s.requires.p_value).drives_high)
+    omega (arith, (ranged c.args.p c.requires.p_value).drives_high)
 
 pub bytes_past-writes-requires : goal.bytes_past-writes-requires
 bytes_past-writes-requires c =
@@ -44,8 +40,7 @@ bytes_past-writes-requires c =
 
 pub power-requires-2 : goal.power-requires-2
 power-requires-2 c =
-    let s = c in
-    omega (arith, (ranged s.args.p s.requires.p_value).drives_high)
+    omega (arith, (ranged c.args.p c.requires.p_value).drives_high)
 
 pub bytes_past-landed-requires : goal.bytes_past-landed-requires
 bytes_past-landed-requires c =
@@ -55,18 +50,13 @@ bytes_past-landed-requires c =
 pub returns : goal.returns
 unfolding slots_past data_count
 returns c =
-    let landed = c in
-    let writes = c in
-    let filled = writes in
-    let numbers = filled in
-    let s = numbers in
-    let p = s.args.p in
-    let bs = s.args.bytes.now in
+    let p = c.args.p in
+    let bs = c.args.bytes.now in
     let d : p.N - 1 ≡ data_count p = refl in
-    let f0 = numbers.words-past.ensures.0 in
-    let f1 = filled.bytes_past.ensures.0 in
-    let f2 = writes.bytes_past-writes.ensures.0 ∙ ap (λ (x : ℕ). past_in 1 8 70 x bs) (writes.power.ensures ∙ ap (λ (x : ℕ). 2 ^ x) d) in
-    let f3 = landed.bytes_past-landed.ensures.0 ∙ ap (λ (x : ℕ). past_in 1 8 78 x bs) landed.power-2.ensures in (
+    let f0 = c.words_past-numbers.ensures.0 in
+    let f1 = c.bytes_past-filled.ensures.0 in
+    let f2 = c.bytes_past-writes.ensures.0 ∙ ap (λ (x : ℕ). past_in 1 8 70 x bs) (c.power.ensures ∙ ap (λ (x : ℕ). 2 ^ x) d) in
+    let f3 = c.bytes_past-landed.ensures.0 ∙ ap (λ (x : ℕ). past_in 1 8 78 x bs) c.power-2.ensures in (
       λ j. f0 j + f1 j + f2 j + f3 j,
-      omega (arith, numbers.words-past.ensures.1, filled.bytes_past.ensures.1, writes.bytes_past-writes.ensures.1, landed.bytes_past-landed.ensures.1),
+      omega (arith, c.words_past-numbers.ensures.1, c.bytes_past-filled.ensures.1, c.bytes_past-writes.ensures.1, c.bytes_past-landed.ensures.1),
     )

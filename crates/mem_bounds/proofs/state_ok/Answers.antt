@@ -11,9 +11,8 @@ use Rattle.mem_bounds.proofs.state_ok.Goals as goal
 
 pub overflow_cast-p : goal.overflow_cast-p
 overflow_cast-p c =
-    let entry = c in
-    let args = entry.args in
-    let pre = entry.requires in
+    let args = c.args in
+    let pre = c.requires in
     let r = ranged args.p pre.p_value in omega (arith, r.stripes_high)
 
 pub words_past-offsets-requires : goal.words_past-offsets-requires
@@ -23,12 +22,9 @@ words_past-offsets-requires c =
 
 pub returns : goal.returns
 returns c =
-    let slots = c in
-    let front = slots in
-    let s = front in
-    let p = s.args.p in
-    let bs = s.args.bytes.now in
-    let e0 = front.front_past_holds.ensures.0 in
-    let e1 = slots.slots_past-slots.ensures.0 in
+    let p = c.args.p in
+    let bs = c.args.bytes.now in
+    let e0 = c.front_past_holds.ensures.0 in
+    let e1 = c.slots_past-slots.ensures.0 in
     let e2 = c.words_past-offsets.ensures.0 in
-    (λ j. eqb (e0 j + e1 j + e2 j) 0) ∙ state_in_holds p bs s.requires.p_value
+    (λ j. eqb (e0 j + e1 j + e2 j) 0) ∙ state_in_holds p bs c.requires.p_value

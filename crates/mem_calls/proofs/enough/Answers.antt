@@ -11,38 +11,32 @@ use Rattle.mem_calls.proofs.enough.Goals as goal
 pub returns-then-p-le224 : goal.returns-then-p-le224
 unfolding most_addresses
 returns-then-p-le224 c =
-    let s = c in
-    let r = ranged s.args.p s.requires in
+    let r = ranged c.args.p c.requires in
     (r.zones_low, omega arith, r.addresses_high)
 
 pub overflow_mul-segment : goal.overflow_mul-segment
 overflow_mul-segment c =
-    let s = c in
     let d = c.data_count in
-    omega (arith, prod_le s.args.p.S d.result 65535 7 458745 (ranged s.args.p s.requires).stripes_high d.ensures.2 (omega arith))
+    omega (arith, prod_le c.args.p.S d.result 65535 7 458745 (ranged c.args.p c.requires).stripes_high d.ensures.2 (omega arith))
 
 pub overflow_sub-result : goal.overflow_sub-result
 overflow_sub-result c =
-    let s = c in
-    omega (arith, (ranged s.args.p s.requires).addresses_low)
+    omega (arith, (ranged c.args.p c.requires).addresses_low)
 
 pub nonzero_div-result : goal.nonzero_div-result
 nonzero_div-result c =
-    let s = c in
-    let p = s.args.p in
-    subst (λ (x : ℕ). 0 < p.S * x) (sym c.data_count.ensures.0) (segment_low p (ranged p s.requires))
+    let p = c.args.p in
+    subst (λ (x : ℕ). 0 < p.S * x) (sym c.data_count.ensures.0) (segment_low p (ranged p c.requires))
 
 pub overflow_add-result : goal.overflow_add-result
 overflow_add-result c =
-    let s = c in
-    let p = s.args.p in
-    let r = ranged p s.requires in
+    let p = c.args.p in
+    let r = ranged p c.requires in
     omega (arith, subst (λ (x : ℕ). 4 + (p.L - 1) / (p.S * x) ≤ p.Z) (sym c.data_count.ensures.0) (stops_high p r), r.zones_high)
 
 pub returns : goal.returns
 returns c =
-    let s = c in
-    let p = s.args.p in
-    let r = ranged p s.requires in
+    let p = c.args.p in
+    let r = ranged p c.requires in
     subst (λ (x : ℕ). (4 ≤ 4 + (p.L - 1) / (p.S * x)) × (4 + (p.L - 1) / (p.S * x) ≤ p.Z) × (p.L ≤ most_with p (4 + (p.L - 1) / (p.S * x))))
     (sym c.data_count.ensures.0) (omega arith, stops_high p r, stops_enough p r)

@@ -28,18 +28,15 @@ module _ (c : After-most_with) where
 
 pub returns-then-few : goal.returns-then-few
 returns-then-few c =
-    let m = c in
-    let a = (begun m).args in
-    sym (list_few a.p a.offline.now (few-is m ∙ c.if-few.true-raw))
+    let a = (begun c).args in
+    sym (list_few a.p a.offline.now (few-is c ∙ c.if-few.true-raw))
 
 pub returns-then-narrow : goal.returns-then-narrow
 returns-then-narrow c =
-    let m = c in
-    let a = (begun m).args in
-    sym (list_narrow a.p a.offline.now (few-is m ∙ c.if-few.false-raw) (narrow-is m ∙ c.if-narrow.true-raw))
+    let a = (begun c).args in
+    sym (list_narrow a.p a.offline.now (few-is c ∙ c.if-few.false-raw) (narrow-is c ∙ c.if-narrow.true-raw))
 
 pub returns : goal.returns
 returns c =
-    let m = c in
-    let a = (begun m).args in
-    sym (list_fits a.p a.offline.now (few-is m ∙ c.if-few.false-raw) (narrow-is m ∙ c.if-narrow.false-raw))
+    let a = (begun c).args in
+    sym (list_fits a.p a.offline.now (few-is c ∙ c.if-few.false-raw) (narrow-is c ∙ c.if-narrow.false-raw))

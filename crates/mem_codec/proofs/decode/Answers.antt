@@ -57,9 +57,8 @@ returns c =
     let bytes-at2 = c.bytes_at-writes in
     let bytes-at = c.bytes_at-filled in
     let words-at' = c.words_at-numbers in
-    let entry = c in
-    let args = entry.args in
-    let pre = entry.requires in
+    let args = c.args in
+    let pre = c.requires in
     let bs = args.bytes.now in
     let h : 1 < length bs = omega (arith, state_len_lem, pre) in
     rw (state_read bs)

@@ -37,43 +37,35 @@ long-offsets c = search rules
 -- the entry, seen from after call k
 abbrev entry-0 : After-put_front → Start
 entry-0 c =
-    let at = c in
-    at
+    c
 
 abbrev entry-1 : After-put_words → Start
 entry-1 c =
-    let at = c in
-    entry-0 (at)
+    entry-0 (c)
 
 abbrev entry-2 : After-put_bytes → Start
 entry-2 c =
-    let at = c in
-    entry-1 (at)
+    entry-1 (c)
 
 abbrev entry-3 : After-put_bytes-2 → Start
 entry-3 c =
-    let at = c in
-    entry-2 (at)
+    entry-2 (c)
 
 abbrev entry-4 : After-put_bytes-3 → Start
 entry-4 c =
-    let at = c in
-    entry-3 (at)
+    entry-3 (c)
 
 abbrev entry-5 : After-put_longs → Start
 entry-5 c =
-    let at = c in
-    entry-4 (at)
+    entry-4 (c)
 
 abbrev entry-6 : After-put_longs-2 → Start
 entry-6 c =
-    let at = c in
-    entry-5 (at)
+    entry-5 (c)
 
 abbrev entry-7 : After-put_words-2 → Start
 entry-7 c =
-    let at = c in
-    entry-6 (at)
+    entry-6 (c)
 
 -- the buffer keeps its length
 kept-0 : (c : After-put_front) → length c.put_front.new.dst ≡ 1366
@@ -81,38 +73,31 @@ kept-0 c = c.put_front.auto.dst ∙ (entry-0 c).requires ∙ state_len_lem
 
 kept-1 : (c : After-put_words) → length c.put_words.new.dst ≡ 1366
 kept-1 c =
-    let at = c in
-    c.put_words.auto.dst ∙ kept-0 (at)
+    c.put_words.auto.dst ∙ kept-0 (c)
 
 kept-2 : (c : After-put_bytes) → length c.put_bytes.new.dst ≡ 1366
 kept-2 c =
-    let at = c in
-    c.put_bytes.auto.dst ∙ kept-1 (at)
+    c.put_bytes.auto.dst ∙ kept-1 (c)
 
 kept-3 : (c : After-put_bytes-2) → length c.put_bytes-2.new.dst ≡ 1366
 kept-3 c =
-    let at = c in
-    c.put_bytes-2.auto.dst ∙ kept-2 (at)
+    c.put_bytes-2.auto.dst ∙ kept-2 (c)
 
 kept-4 : (c : After-put_bytes-3) → length c.put_bytes-3.new.dst ≡ 1366
 kept-4 c =
-    let at = c in
-    c.put_bytes-3.auto.dst ∙ kept-3 (at)
+    c.put_bytes-3.auto.dst ∙ kept-3 (c)
 
 kept-5 : (c : After-put_longs) → length c.put_longs.new.dst ≡ 1366
 kept-5 c =
-    let at = c in
-    c.put_longs.auto.dst ∙ kept-4 (at)
+    c.put_longs.auto.dst ∙ kept-4 (c)
 
 kept-6 : (c : After-put_longs-2) → length c.put_longs-2.new.dst ≡ 1366
 kept-6 c =
-    let at = c in
-    c.put_longs-2.auto.dst ∙ kept-5 (at)
+    c.put_longs-2.auto.dst ∙ kept-5 (c)
 
 kept-7 : (c : After-put_words-2) → length c.put_words-2.new.dst ≡ 1366
 kept-7 c =
-    let at = c in
-    c.put_words-2.auto.dst ∙ kept-6 (at)
+    c.put_words-2.auto.dst ∙ kept-6 (c)
 
 -- and holds the first sections
 wrote-0 : (c : After-put_front) → c.put_front.new.dst ≡ put_sections (entry-0 c).args.dst.now 0 (take 6 state_sections) (take 6 (state_numbers (entry-0 c).args.st))
@@ -122,127 +107,104 @@ wrote-0 c = c.put_front.ensures
 wrote-1 : (c : After-put_words) → c.put_words.new.dst ≡ put_sections (entry-1 c).args.dst.now 0 (take 7 state_sections) (take 7 (state_numbers (entry-1 c).args.st))
 unfolding state_sections state_numbers section_len section_bytes put_sections
 wrote-1 c =
-    let at = c in
-    c.put_words.ensures ∙ ap (λ (x : List ℕ). splice x 30 (flat (to_le 4) (entry-1 c).args.st.numbers)) (wrote-0 (at))
+    c.put_words.ensures ∙ ap (λ (x : List ℕ). splice x 30 (flat (to_le 4) (entry-1 c).args.st.numbers)) (wrote-0 (c))
 
 wrote-2 : (c : After-put_bytes) → c.put_bytes.new.dst ≡ put_sections (entry-2 c).args.dst.now 0 (take 8 state_sections) (take 8 (state_numbers (entry-2 c).args.st))
 unfolding state_sections state_numbers section_len section_bytes put_sections
 wrote-2 c =
-    let at = c in
-    c.put_bytes.ensures ∙ ap (λ (x : List ℕ). splice x 62 (flat (to_le 1) (entry-2 c).args.st.filled)) (wrote-1 (at))
+    c.put_bytes.ensures ∙ ap (λ (x : List ℕ). splice x 62 (flat (to_le 1) (entry-2 c).args.st.filled)) (wrote-1 (c))
 
 wrote-3 : (c : After-put_bytes-2) → c.put_bytes-2.new.dst ≡ put_sections (entry-3 c).args.dst.now 0 (take 9 state_sections) (take 9 (state_numbers (entry-3 c).args.st))
 unfolding state_sections state_numbers section_len section_bytes put_sections
 wrote-3 c =
-    let at = c in
-    c.put_bytes-2.ensures ∙ ap (λ (x : List ℕ). splice x 70 (flat (to_le 1) (entry-3 c).args.st.writes)) (wrote-2 (at))
+    c.put_bytes-2.ensures ∙ ap (λ (x : List ℕ). splice x 70 (flat (to_le 1) (entry-3 c).args.st.writes)) (wrote-2 (c))
 
 wrote-4 : (c : After-put_bytes-3) → c.put_bytes-3.new.dst ≡ put_sections (entry-4 c).args.dst.now 0 (take 10 state_sections) (take 10 (state_numbers (entry-4 c).args.st))
 unfolding state_sections state_numbers section_len section_bytes put_sections
 wrote-4 c =
-    let at = c in
-    c.put_bytes-3.ensures ∙ ap (λ (x : List ℕ). splice x 78 (flat (to_le 1) (entry-4 c).args.st.landed)) (wrote-3 (at))
+    c.put_bytes-3.ensures ∙ ap (λ (x : List ℕ). splice x 78 (flat (to_le 1) (entry-4 c).args.st.landed)) (wrote-3 (c))
 
 wrote-5 : (c : After-put_longs) → c.put_longs.new.dst ≡ put_sections (entry-5 c).args.dst.now 0 (take 11 state_sections) (take 11 (state_numbers (entry-5 c).args.st))
 unfolding state_sections state_numbers section_len section_bytes put_sections
 wrote-5 c =
-    let at = c in
-    c.put_longs.ensures ∙ ap (λ (x : List ℕ). splice x 86 (flat (to_le 8) (entry-5 c).args.st.addresses)) (wrote-4 (at))
+    c.put_longs.ensures ∙ ap (λ (x : List ℕ). splice x 86 (flat (to_le 8) (entry-5 c).args.st.addresses)) (wrote-4 (c))
 
 wrote-6 : (c : After-put_longs-2) → c.put_longs-2.new.dst ≡ put_sections (entry-6 c).args.dst.now 0 (take 12 state_sections) (take 12 (state_numbers (entry-6 c).args.st))
 unfolding state_sections state_numbers section_len section_bytes put_sections
 wrote-6 c =
-    let at = c in
-    c.put_longs-2.ensures ∙ ap (λ (x : List ℕ). splice x 598 (flat (to_le 8) (entry-6 c).args.st.stamps)) (wrote-5 (at))
+    c.put_longs-2.ensures ∙ ap (λ (x : List ℕ). splice x 598 (flat (to_le 8) (entry-6 c).args.st.stamps)) (wrote-5 (c))
 
 wrote-7 : (c : After-put_words-2) → c.put_words-2.new.dst ≡ put_sections (entry-7 c).args.dst.now 0 (take 13 state_sections) (take 13 (state_numbers (entry-7 c).args.st))
 unfolding state_sections state_numbers section_len section_bytes put_sections
 wrote-7 c =
-    let at = c in
-    c.put_words-2.ensures ∙ ap (λ (x : List ℕ). splice x 1110 (flat (to_le 4) (entry-7 c).args.st.offsets)) (wrote-6 (at))
+    c.put_words-2.ensures ∙ ap (λ (x : List ℕ). splice x 1110 (flat (to_le 4) (entry-7 c).args.st.offsets)) (wrote-6 (c))
 
 pub put_front-requires : goal.put_front-requires
 put_front-requires c = omega (arith, state_len_lem)
 
 pub slice_bounds-put_words-end : goal.slice_bounds-put_words-end
 slice_bounds-put_words-end c =
-    let at = c in
-    sym (long-numbers (entry-0 (at)))
+    sym (long-numbers (entry-0 (c)))
 
 pub put_words-requires : goal.put_words-requires
 put_words-requires c =
-    let at = c in
-    omega (arith, kept-0 (at), long-numbers (entry-0 (at)))
+    omega (arith, kept-0 (c), long-numbers (entry-0 (c)))
 
 pub slice_bounds-put_bytes-end : goal.slice_bounds-put_bytes-end
 slice_bounds-put_bytes-end c =
-    let at = c in
-    sym (long_filled (entry-1 (at)))
+    sym (long_filled (entry-1 (c)))
 
 pub put_bytes-requires : goal.put_bytes-requires
 put_bytes-requires c =
-    let at = c in
-    omega (arith, kept-1 (at), long_filled (entry-1 (at)))
+    omega (arith, kept-1 (c), long_filled (entry-1 (c)))
 
 pub slice_bounds-put_bytes-end-2 : goal.slice_bounds-put_bytes-end-2
 slice_bounds-put_bytes-end-2 c =
-    let at = c in
-    sym (long-writes (entry-2 (at)))
+    sym (long-writes (entry-2 (c)))
 
 pub put_bytes-requires-2 : goal.put_bytes-requires-2
 put_bytes-requires-2 c =
-    let at = c in
-    omega (arith, kept-2 (at), long-writes (entry-2 (at)))
+    omega (arith, kept-2 (c), long-writes (entry-2 (c)))
 
 pub slice_bounds-put_bytes-end-3 : goal.slice_bounds-put_bytes-end-3
 slice_bounds-put_bytes-end-3 c =
-    let at = c in
-    sym (long-landed (entry-3 (at)))
+    sym (long-landed (entry-3 (c)))
 
 pub put_bytes-requires-3 : goal.put_bytes-requires-3
 put_bytes-requires-3 c =
-    let at = c in
-    omega (arith, kept-3 (at), long-landed (entry-3 (at)))
+    omega (arith, kept-3 (c), long-landed (entry-3 (c)))
 
 pub slice_bounds-put_longs-end : goal.slice_bounds-put_longs-end
 slice_bounds-put_longs-end c =
-    let at = c in
-    sym (long-addresses (entry-4 (at)))
+    sym (long-addresses (entry-4 (c)))
 
 pub put_longs-requires : goal.put_longs-requires
 put_longs-requires c =
-    let at = c in
-    omega (arith, kept-4 (at), long-addresses (entry-4 (at)))
+    omega (arith, kept-4 (c), long-addresses (entry-4 (c)))
 
 pub slice_bounds-put_longs-end-2 : goal.slice_bounds-put_longs-end-2
 slice_bounds-put_longs-end-2 c =
-    let at = c in
-    sym (long-stamps (entry-5 (at)))
+    sym (long-stamps (entry-5 (c)))
 
 pub put_longs-requires-2 : goal.put_longs-requires-2
 put_longs-requires-2 c =
-    let at = c in
-    omega (arith, kept-5 (at), long-stamps (entry-5 (at)))
+    omega (arith, kept-5 (c), long-stamps (entry-5 (c)))
 
 pub slice_bounds-put_words-end-2 : goal.slice_bounds-put_words-end-2
 slice_bounds-put_words-end-2 c =
-    let at = c in
-    sym (long-offsets (entry-6 (at)))
+    sym (long-offsets (entry-6 (c)))
 
 pub put_words-requires-2 : goal.put_words-requires-2
 put_words-requires-2 c =
-    let at = c in
-    omega (arith, kept-6 (at), long-offsets (entry-6 (at)))
+    omega (arith, kept-6 (c), long-offsets (entry-6 (c)))
 
 pub shape_of-dst : goal.shape_of-dst
 shape_of-dst c =
-    let at = c in
-    kept-7 (at) ∙ sym ((entry-7 (at)).requires ∙ state_len_lem)
+    kept-7 (c) ∙ sym ((entry-7 (c)).requires ∙ state_len_lem)
 
 pub returns : goal.returns
 unfolding state_sections state_numbers
 returns c =
-    let at = c in
-    let s = entry-7 (at) in
-    wrote-7 (at) ∙ state_written s.args.dst.now s.args.st s.pre
+    let s = entry-7 (c) in
+    wrote-7 (c) ∙ state_written s.args.dst.now s.args.st s.pre
     (refl, (refl, (refl, (refl, (refl, (refl, (long-numbers s, (long_filled s, (long-writes s, (long-landed s, (long-addresses s, (long-stamps s, (long-offsets s, tt)))))))))))))

@@ -15,10 +15,9 @@ put_counts-requires c = omega (arith, state_len_lem)
 
 pub returns-then-i-ge8 : goal.returns-then-i-ge8
 returns-then-i-ge8 c =
-    let s = c in
     let put-counts = c.put_counts in
     let slice-known = c.slice_known-1 in
-    change_front s.args.dst.now s.requires (λ k h. omega (arith, slice-known.given k)) s.args.c put-counts.new.dst put-counts.ensures c.if-i-ge8.true
+    change_front c.args.dst.now c.requires (λ k h. omega (arith, slice-known.given k)) c.args.c put-counts.new.dst put-counts.ensures c.if-i-ge8.true
 
 pub put_marks-requires : goal.put_marks-requires
 put_marks-requires c =
@@ -37,11 +36,10 @@ put_cells-requires c =
 
 pub returns : goal.returns
 returns c =
-    let s = c in
     let put-cells = c.put_cells in
     let put-marks = c.put_marks in
     let if1 = c.if-i-ge8 in
     let put-counts = c.put_counts in
     let slice-known = c.slice_known-1 in
-    change_row s.args.dst.now s.requires (λ k h. omega (arith, slice-known.given k)) s.args.c put-counts.new.dst put-counts.ensures
-    (omega (arith, if1.false)) (row_sized s) put-marks.new.dst put-cells.new.dst put-marks.ensures put-cells.ensures
+    change_row c.args.dst.now c.requires (λ k h. omega (arith, slice-known.given k)) c.args.c put-counts.new.dst put-counts.ensures
+    (omega (arith, if1.false)) (row_sized (goal.at.returns c).Start) put-marks.new.dst put-cells.new.dst put-marks.ensures put-cells.ensures

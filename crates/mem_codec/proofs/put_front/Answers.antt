@@ -21,13 +21,11 @@ long-1 c = c.write_le64.auto.dst ∙ simp length-set
 
 long-2 : (c : After-write_le64-2) → length c.write_le64-2.new.dst ≡ length c.args.dst.now
 long-2 c =
-    let at = c in
-    c.write_le64-2.auto.dst ∙ long-1 (at)
+    c.write_le64-2.auto.dst ∙ long-1 (c)
 
 long-3 : (c : After-write_le64-3) → length c.write_le64-3.new.dst ≡ length c.args.dst.now
 long-3 c =
-    let at = c in
-    c.write_le64-3.auto.dst ∙ long-2 (at)
+    c.write_le64-3.auto.dst ∙ long-2 (c)
 
 pub bounds-dst-1 : goal.bounds-dst-1
 bounds-dst-1 c = simp length-set (omega arith)
@@ -52,8 +50,7 @@ write_le32-requires c =
 
 pub shape_of-dst : goal.shape_of-dst
 shape_of-dst c =
-    let at = c in
-    c.write_le32.auto.dst ∙ long-3 (at)
+    c.write_le32.auto.dst ∙ long-3 (c)
 
 pub returns : goal.returns
 returns c =
@@ -62,10 +59,9 @@ returns c =
     let write-le643 = c.write_le64-3 in
     let write-le642 = c.write_le64-2 in
     let write-le64 = c.write_le64 in
-    let at = c in
     let pre = c.requires in
     write-le32.ensures
     ∙ ap (λ (x : List ℕ). splice x 26 (to_le 4 a.next)) (write-le643.ensures
     ∙ ap (λ (x : List ℕ). splice x 18 (to_le 8 a.opened)) (write-le642.ensures
     ∙ ap (λ (x : List ℕ). splice x 10 (to_le 8 a.serial)) write-le64.ensures))
-    ∙ state_front_written a.dst.now a.live a.missing a.stamp a.serial a.opened a.next (live_fits (at)) (missing_fits (at)) (pre)
+    ∙ state_front_written a.dst.now a.live a.missing a.stamp a.serial a.opened a.next (live_fits (c)) (missing_fits (c)) (pre)

@@ -25,11 +25,10 @@ bounds-dst-i-3 c = simp length-set (omega arith)
 pub returns : goal.returns
 unfolding written_all_of edit_written state_sections section_len total
 returns c =
-    let s = c in
-    let a = s.args in
-    let b = byte_fits s in
+    let a = c.args in
+    let b = byte_fits (goal.at.returns c).Start in
     let w = c.write_le32 in
     let e : w.new.dst ≡ splice a.dst.now (30 + 4 * a.i) (flat (to_le 4) (a.number ∷ [])) = w.ensures ∙ ap (splice a.dst.now (30 + 4 * a.i)) (number_written 4 a.number) in
-    marks_written w.new.dst a.i a.filled a.writes a.landed b.0 b.1 b.2 (omega (arith, s.requires.0, s.requires.1, w.auto.dst))
+    marks_written w.new.dst a.i a.filled a.writes a.landed b.0 b.1 b.2 (omega (arith, c.requires.0, c.requires.1, w.auto.dst))
     ∙ ap (λ (x : List ℕ). splice (splice (splice x (62 + 1 * a.i) (flat (to_le 1) (a.filled ∷ []))) (70 + 1 * a.i) (flat (to_le 1) (a.writes ∷ [])))
     (78 + 1 * a.i) (flat (to_le 1) (a.landed ∷ []))) e

@@ -31,12 +31,10 @@ bounds-bytes-i-3 c = omega (arith, state_len_lem)
 
 pub returns : goal.returns
 returns c =
-    let r = c in
-    let s = r in
-    let a = s.args in
+    let a = c.args in
     let bs = a.bytes.now in
-    let f : 62 + a.i < length bs = omega (arith, state_len_lem, s.requires.0, s.requires.1) in
-    let w : 70 + a.i < length bs = omega (arith, state_len_lem, s.requires.0, s.requires.1) in
-    let l : 78 + a.i < length bs = omega (arith, state_len_lem, s.requires.0, s.requires.1) in
-    row_read bs a.i _ s.requires.1 r.read_le32-number.ensures (le_of_part-one (62 + a.i) bs f) (le_of_part-one (70 + a.i) bs w) (le_of_part-one (78 + a.i) bs l)
-    r.longs_at-addresses.ensures r.longs_at-stamps.ensures r.words_at-offsets.ensures
+    let f : 62 + a.i < length bs = omega (arith, state_len_lem, c.requires.0, c.requires.1) in
+    let w : 70 + a.i < length bs = omega (arith, state_len_lem, c.requires.0, c.requires.1) in
+    let l : 78 + a.i < length bs = omega (arith, state_len_lem, c.requires.0, c.requires.1) in
+    row_read bs a.i _ c.requires.1 c.read_le32-number.ensures (le_of_part-one (62 + a.i) bs f) (le_of_part-one (70 + a.i) bs w) (le_of_part-one (78 + a.i) bs l)
+    c.longs_at-addresses.ensures c.longs_at-stamps.ensures c.words_at-offsets.ensures

@@ -44,19 +44,18 @@ loop-a-smaller c = omega arith
 
 pub loop-a-preserved : goal.loop-a-preserved
 loop-a-preserved c =
-    let o = c in
     let m = c.mark_place-k in
     let whole = c.whole-q in
     let place_at = c.place_at in
     let l = c.loop-a in
-    let s = o.args in
+    let s = c.args in
     let tb = s.addresses.now in
     let e = whole.ensures ∙ place_at.ensures in
     let n : l.k + m.result ≡ count_places tb (l.a + 1) s.end 4294967295 =
     ap₂ ◌+◌ l.invariant.3 (m.ensures.value ∙ ap (λ (x : ℕ). bool_byte (is_within s.end 4294967295 x)) e) ∙ count-one tb l.a s.end 4294967295 in (
       omega arith,
       m.auto.marks ∙ l.invariant.1,
-      turned tb l.a s.marks.now l.marks m.new.marks s.first s.end (omega (arith, o.requires.2, l.invariant.1)) l.invariant.2
+      turned tb l.a s.marks.now l.marks m.new.marks s.first s.end (omega (arith, c.requires.2, l.invariant.1)) l.invariant.2
           (m.ensures.marks_after ∙ ap (λ (x : ℕ). cond (is_within s.first s.end x) (with_mark l.marks (x - s.first)) l.marks) e),
       n,
       omega (arith, n, count-le tb (l.a + 1) s.end 4294967295),

@@ -10,18 +10,16 @@ read_le64-a-requires c = omega (arith, state_len_lem)
 
 pub returns-then-a-address : goal.returns-then-a-address
 returns-then-a-address c =
-    let s = c in
-    let a = s.args in
+    let a = c.args in
     let r = c.read_le64-a in
-    flight_other_address a.bytes.now a.j a.address.0 a.stamp.0 r.result s.requires.1 r.ensures c.if-a-address.true
+    flight_other_address a.bytes.now a.j a.address.0 a.stamp.0 r.result c.requires.1 r.ensures c.if-a-address.true
 
 pub read_le64-t-requires : goal.read_le64-t-requires
 read_le64-t-requires c = omega (arith, state_len_lem)
 
 pub returns : goal.returns
 returns c =
-    let s = c in
-    let a = s.args in
+    let a = c.args in
     let r = c.read_le64-a in
     let w = c.read_le64-t in
-    flight_same_address a.bytes.now a.j a.address.0 a.stamp.0 r.result s.requires.1 r.ensures c.if-a-address.false w.result w.ensures
+    flight_same_address a.bytes.now a.j a.address.0 a.stamp.0 r.result c.requires.1 r.ensures c.if-a-address.false w.result w.ensures

@@ -22,10 +22,9 @@ bounds-bytes-i c = omega (arith, state_len_lem)
 -- the positions filled
 filled_is : (c : After-wide-f) → c.wide-f.result ≡ filled_in_of (state_of c.args.bytes.now) c.args.i
 filled_is c =
-    let s = c in
-    let a = s.args in
-    let h : 62 + a.i < length a.bytes.now = omega (arith, state_len_lem, s.requires.0, s.requires.1) in
-    c.wide-f.ensures ∙ le_of_part-one (62 + a.i) a.bytes.now h ∙ filled_read a.bytes.now a.i s.requires.1
+    let a = c.args in
+    let h : 62 + a.i < length a.bytes.now = omega (arith, state_len_lem, c.requires.0, c.requires.1) in
+    c.wide-f.ensures ∙ le_of_part-one (62 + a.i) a.bytes.now h ∙ filled_read a.bytes.now a.i c.requires.1
 
 pub loop-k-init : goal.loop-k-init
 unfolding held_in_of

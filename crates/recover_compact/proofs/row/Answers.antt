@@ -14,33 +14,29 @@ use Rattle.recover_compact.specs.Compacts.{entry_said, row_stored, row_both}
 use Rattle.recover_compact.proofs.row.Goals as goal
 
 pub compact_at-at-requires : goal.compact_at-at-requires
-compact_at-at-requires c =
-    let e = c in record { p_value = e.requires.p_value; drive_lt_n = (e.requires.compact_len.1, e.requires.compact_len.2, (ranged e.args.p e.requires.p_value).stripes_low) }
+compact_at-at-requires c = record { p_value = c.requires.p_value; drive_lt_n = (c.requires.compact_len.1, c.requires.compact_len.2, (ranged c.args.p c.requires.p_value).stripes_low) }
 
 pub entries-requires : goal.entries-requires
 entries-requires c =
-    let e = c in
-    let q = e.requires.compact_len in
-    let f = row_fits e.args.p e.args.drive e.args.zone q.1 q.2 in record { p_value = e.requires.p_value; image_len = (e.requires.whole.image_long, q.1, q.2, c.data_stored-n.ensures.upper_bound, omega (arith, c.compact_at-at.ensures.0, q.0, f)) }
+    let q = c.requires.compact_len in
+    let f = row_fits c.args.p c.args.drive c.args.zone q.1 q.2 in record { p_value = c.requires.p_value; image_len = (c.requires.whole.image_long, q.1, q.2, c.data_stored-n.ensures.upper_bound, omega (arith, c.compact_at-at.ensures.0, q.0, f)) }
 
 pub overflow_add-at : goal.overflow_add-at
 overflow_add-at c =
-    let e = c in
     let compact_at_holds = c.compact_at-at in
     let data-stored = c.data_stored-n in
-    omega (arith, compact_at_holds.ensures.2, data-stored.ensures.upper_bound, (ranged e.args.p e.requires.p_value).stripes_high)
+    omega (arith, compact_at_holds.ensures.2, data-stored.ensures.upper_bound, (ranged c.args.p c.requires.p_value).stripes_high)
 
 pub overflow_sub-p : goal.overflow_sub-p
 overflow_sub-p c = c.data_stored-n.ensures.upper_bound
 
 pub clear_part-requires : goal.clear_part-requires
 clear_part-requires c =
-    let e = c in
     let compact_at_holds = c.compact_at-at in
     let data-stored = c.data_stored-n in
     let entries = c.entries in
-    let q = e.requires.compact_len in
-    let f = row_fits e.args.p e.args.drive e.args.zone q.1 q.2 in
+    let q = c.requires.compact_len in
+    let f = row_fits c.args.p c.args.drive c.args.zone q.1 q.2 in
     omega (arith, compact_at_holds.ensures.0, q.0, data-stored.ensures.upper_bound, entries.auto.compact, f)
 
 pub shape_of-compact : goal.shape_of-compact
@@ -48,24 +44,23 @@ shape_of-compact c = c.clear_part.auto.dst ∙ c.entries.auto.compact
 
 pub returns : goal.returns
 returns c =
-    let e = c in
     let data-stored = c.data_stored-n in
     let compact_at_holds = c.compact_at-at in
     let entries = c.entries in
     let clear-part = c.clear_part in
-    let a = e.args in
+    let a = c.args in
     let p = a.p in
-    let q = e.requires.compact_len in
+    let q = c.requires.compact_len in
     let n = data-stored.result in
     let at = compact_at_holds.ensures.0 in
     let f = row_fits p a.drive a.zone q.1 q.2 in
     λ off.
     let z : Zone = zone_at (view_of p off a.image.now a.pointers.now) a.drive a.zone in
     let s : List ℕ = map (entry_said p a.full z) (below n) in
-    let d : n ≡ data_stored p z = data-stored.ensures.by_index off a.image.now e.requires.whole.image_long in
+    let d : n ≡ data_stored p z = data-stored.ensures.by_index off a.image.now c.requires.whole.image_long in
     row_both a.compact.now entries.new.compact clear-part.new.dst compact_at_holds.result n (p.S - n) s
     (omega (arith, at, q.0, data-stored.ensures.upper_bound, f))
     (length-map (below n) (entry_said p a.full z) ∙ length-below n)
-    (entries.ensures off a.pointers.now e.requires.whole.pointers_long) clear-part.ensures
+    (entries.ensures off a.pointers.now c.requires.whole.pointers_long) clear-part.ensures
     ∙ ap₂ (splice a.compact.now) at
     (ap (λ (m : ℕ). map (entry_said p a.full z) (below m) ++ replicate (p.S - m) 0) d ∙ sym (row_stored p a.full z))

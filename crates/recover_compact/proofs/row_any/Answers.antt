@@ -23,19 +23,17 @@ returns-then-has_drive c =
 
 pub row-requires : goal.row-requires
 row-requires c =
-    let e = c in
-    let a = e.args in
-    let q = e.requires.compact_len in
-    let low = low_zone a.p a.gone a.segment a.drive q.2 q.1 (sym c.has_drive.ensures ∙ c.if-has_drive.false) in record { p_value = e.requires.p_value; whole = e.requires.whole; compact_len = (q.0, q.1, subst (λ (n : ℕ). n < a.p.Z) (sym c.zone_on.ensures) low) }
+    let a = c.args in
+    let q = c.requires.compact_len in
+    let low = low_zone a.p a.gone a.segment a.drive q.2 q.1 (sym c.has_drive.ensures ∙ c.if-has_drive.false) in record { p_value = c.requires.p_value; whole = c.requires.whole; compact_len = (q.0, q.1, subst (λ (n : ℕ). n < a.p.Z) (sym c.zone_on.ensures) low) }
 
 pub returns : goal.returns
 returns c =
-    let entry = c in
     let row = c.row in
     let zone_on_holds = c.zone_on in
     let has-drive = c.has_drive in
     let if1 = c.if-has_drive in
-    let a = entry.args in
+    let a = c.args in
     let p = a.p in
     λ off.
     let put : ℕ → List ℕ = λ z. splice a.compact.now (compact_at p a.drive z 0)

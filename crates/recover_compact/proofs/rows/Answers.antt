@@ -14,7 +14,7 @@ use Rattle.recover_compact.specs.Compacts.{RowsSaid, rows_start, rows_turn}
 use Rattle.recover_compact.proofs.rows.Goals as goal
 
 pub is_sealed-full-requires : goal.is_sealed-full-requires
-is_sealed-full-requires c = let e = c in record { p_value = e.requires.p_value; pointers_len = (e.requires.whole.pointers_long, e.requires.compact_len.1) }
+is_sealed-full-requires c = record { p_value = c.requires.p_value; pointers_len = (c.requires.whole.pointers_long, c.requires.compact_len.1) }
 
 pub loop-d-init : goal.loop-d-init
 loop-d-init c =
@@ -23,9 +23,7 @@ loop-d-init c =
 
 pub row_any-requires : goal.row_any-requires
 row_any-requires c =
-    let entry = c in
-    let loop = c.loop-d in
-    let e = entry in record { p_value = e.requires.p_value; whole = e.requires.whole; compact_len = (loop.invariant.1 ∙ e.requires.compact_len.0, c.loop-d-test.true, e.requires.compact_len.1) }
+    let loop = c.loop-d in record { p_value = c.requires.p_value; whole = c.requires.whole; compact_len = (loop.invariant.1 ∙ c.requires.compact_len.0, c.loop-d-test.true, c.requires.compact_len.1) }
 
 pub overflow_add-d : goal.overflow_add-d
 overflow_add-d c = omega arith
@@ -37,20 +35,19 @@ pub loop-d-preserved : goal.loop-d-preserved
 loop-d-preserved c =
     let x = c.row_any in
     let l = c.loop-d in
-    let e = c in
     let is-sealed = c.is_sealed-full in
     let if1 = c.loop-d-test in
-    let a = e.args in
+    let a = c.args in
     let p = a.p in
     let s = is-sealed.ensures in (
       omega (arith, if1.true),
       x.auto.compact ∙ l.invariant.1,
       λ off. let v = view_of p off a.image.now a.pointers.now in
-          rows_turn p v a.gone a.segment l.d a.compact.now l.compact x.new.compact if1.true e.requires.compact_len.1 (l.invariant.1 ∙ e.requires.compact_len.0) (l.invariant.2 off)
+          rows_turn p v a.gone a.segment l.d a.compact.now l.compact x.new.compact if1.true c.requires.compact_len.1 (l.invariant.1 ∙ c.requires.compact_len.0) (l.invariant.2 off)
           (x.ensures off
           ∙ ap (λ (w : Bool). cond (is_in a.gone l.d) l.compact
           (splice l.compact (compact_at p l.d (zone_on a.segment l.d) 0) (compact_row p (records_in p w (zone_at v l.d (zone_on a.segment l.d))))))
-          (s off a.image.now e.requires.whole.image_long)),
+          (s off a.image.now c.requires.whole.image_long)),
     )
 
 pub shape_of-compact : goal.shape_of-compact

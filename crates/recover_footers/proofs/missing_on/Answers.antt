@@ -12,9 +12,8 @@ pub footer_stores-requires : goal.footer_stores-requires
 footer_stores-requires c =
     let footers = c.footers in
     let footers-stored = c.footers_stored-first in
-    let entry = c in
-    let args = entry.args in
-    let pre = entry.requires in record { p_value = pre.p_value; whole = pre.whole; drive_lt_n = (
+    let args = c.args in
+    let pre = c.requires in record { p_value = pre.p_value; whole = pre.whole; drive_lt_n = (
           pre.drive_lt_n.0,
           pre.drive_lt_n.1,
           omega (arith, footers.ensures.0, footers-stored.ensures.upper_bound),

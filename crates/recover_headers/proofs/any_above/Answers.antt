@@ -17,7 +17,7 @@ loop-d-init c =
     (omega arith, any-start (λ e. not (is_in a.gone e) && (is_good a.p a.offline.now e a.zone && ltb (capacity a.p) (pointer_of a.p a.pointers.now e a.zone))) a.p.N)
 
 pub is_above-requires : goal.is_above-requires
-is_above-requires c = let e = c in record { p_value = e.requires.p_value; pointers_len = (e.requires.pointers_len.0, e.requires.pointers_len.1, c.loop-d-test.true, e.requires.pointers_len.2) }
+is_above-requires c = record { p_value = c.requires.p_value; pointers_len = (c.requires.pointers_len.0, c.requires.pointers_len.1, c.loop-d-test.true, c.requires.pointers_len.2) }
 
 pub returns-then-is_above : goal.returns-then-is_above
 returns-then-is_above c =

@@ -19,11 +19,10 @@ returns-then-not-flag c =
 
 pub returns : goal.returns
 returns c =
-    let entry = c in
     let count-names = c.count_names in
     let if1 = c.if-not-flag in
     let names_in = c.names_in in
-    let a = entry.args in
+    let a = c.args in
     λ off ps h d y hd hy.
     let b = (chunk_at (view_of a.p off a.image.now ps) a.drive a.zone 0).block in
     count-names.ensures d y hd hy

@@ -23,14 +23,13 @@ bounds-counts-at-then-counts-at-eq0 c = omega (arith, c.offline_at-at.ensures.1,
 
 pub returns-then-counts-at-eq0 : goal.returns-then-counts-at-eq0
 returns-then-counts-at-eq0 c =
-    let e = c in
-    let a = e.args in
+    let a = c.args in
     let i = a.drive * a.p.Z + a.zone in
     let o = c.offline_at-at.ensures.0 in
     let q : get_or a.counts.now i 0 ≡ 0 = ap (λ (j : ℕ). get_or a.counts.now j 0) (sym o) ∙ c.if-counts-at-eq0.true in
     let n : 1 ≡ min 2 (get_or a.counts.now i 0 + 1) = omega (arith, q) in
     λ d z hd hz. ap (λ (j : ℕ). get_or (set a.counts.now j 1) (d * a.p.Z + z) 0) o
-    ∙ count_set a.p a.counts.now a.drive a.zone 1 d z e.requires.z_in_bounds.0 e.requires.z_in_bounds.1 (omega (arith, c.if-p-zone.false)) n hd hz
+    ∙ count_set a.p a.counts.now a.drive a.zone 1 d z c.requires.z_in_bounds.0 c.requires.z_in_bounds.1 (omega (arith, c.if-p-zone.false)) n hd hz
 
 pub bounds-counts-at-2 : goal.bounds-counts-at-2
 unfolding offline_len
@@ -38,11 +37,10 @@ bounds-counts-at-2 c = omega (arith, c.offline_at-at.ensures.1, c.requires.z_in_
 
 pub returns : goal.returns
 returns c =
-    let e = c in
-    let a = e.args in
+    let a = c.args in
     let i = a.drive * a.p.Z + a.zone in
     let o = c.offline_at-at.ensures.0 in
     let q : get_or a.counts.now i 0 ≡ 0 → ⊥ = λ z. c.if-counts-at-eq0.false (ap (λ (j : ℕ). get_or a.counts.now j 0) o ∙ z) in
     let n : 2 ≡ min 2 (get_or a.counts.now i 0 + 1) = omega (arith, q) in
     λ d z hd hz. ap (λ (j : ℕ). get_or (set a.counts.now j 2) (d * a.p.Z + z) 0) o
-    ∙ count_set a.p a.counts.now a.drive a.zone 2 d z e.requires.z_in_bounds.0 e.requires.z_in_bounds.1 (omega (arith, c.if-p-zone.false)) n hd hz
+    ∙ count_set a.p a.counts.now a.drive a.zone 2 d z c.requires.z_in_bounds.0 c.requires.z_in_bounds.1 (omega (arith, c.if-p-zone.false)) n hd hz

@@ -15,8 +15,7 @@ pub zone_on-requires : goal.zone_on-requires
 zone_on-requires c = record { p_value = c.requires.p_value; drive_lt_n = c.loop-d-test.true }
 
 pub count_name-requires : goal.count_name-requires
-count_name-requires c =
-    let e = c in record { p_value = e.requires.p_value; z_in_bounds = (omega (arith, e.requires.z_in_bounds, c.loop-d.invariant.1), c.loop-d-test.true) }
+count_name-requires c = record { p_value = c.requires.p_value; z_in_bounds = (omega (arith, c.requires.z_in_bounds, c.loop-d.invariant.1), c.loop-d-test.true) }
 
 pub overflow_add-d : goal.overflow_add-d
 overflow_add-d c = omega arith

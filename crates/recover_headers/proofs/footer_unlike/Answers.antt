@@ -36,16 +36,14 @@ make_footer-requires c =
 
 pub overflow_add-p : goal.overflow_add-p
 overflow_add-p c =
-    let entry = c in
-    let args = entry.args in
-    let pre = entry.requires in
+    let args = c.args in
+    let pre = c.requires in
     omega (arith, (ranged args.p pre.p_value).stripes_high)
 
 pub overflow_add-p-2 : goal.overflow_add-p-2
 overflow_add-p-2 c =
-    let entry = c in
-    let args = entry.args in
-    let pre = entry.requires in
+    let args = c.args in
+    let pre = c.requires in
     let r = ranged args.p pre.p_value in
     omega (arith, r.stripes_high, footers_high args.p r, pre.image_len.4)
 

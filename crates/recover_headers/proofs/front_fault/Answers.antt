@@ -21,20 +21,19 @@ zone_on-zone-requires c = record { p_value = c.requires.p_value; drive_lt_n = c.
 -- the zone is one
 low_there : (c : After-zone_on-zone) → c.zone_on-zone.result < c.args.p.Z
 low_there c =
-    let e = c in
-    let a = e.args in
+    let a = c.args in
     let i = c.low_drive-low.ensures.0 in
     subst (λ (n : ℕ). n < a.p.Z) (sym (c.zone_on-zone.ensures ∙ ap (zone_on a.segment) i))
-    (low_zone a.p a.gone a.segment (low_drive a.p a.gone) e.requires.here.1 e.requires.here.0.0 e.requires.here.0.1)
+    (low_zone a.p a.gone a.segment (low_drive a.p a.gone) c.requires.here.1 c.requires.here.0.0 c.requires.here.0.1)
 
 pub names_in-names-requires : goal.names_in-names-requires
-names_in-names-requires c = let e = c in record { p_value = e.requires.p_value; image_len = (e.requires.image_len.0, c.low_drive-low.ensures.1, low_there (goal.at.names_in-names-requires c).After-zone_on-zone) }
+names_in-names-requires c = record { p_value = c.requires.p_value; image_len = (c.requires.image_len.0, c.low_drive-low.ensures.1, low_there (goal.at.names_in-names-requires c).After-zone_on-zone) }
 
 pub copied_in-copied-requires : goal.copied_in-copied-requires
-copied_in-copied-requires c = let e = c in record { p_value = e.requires.p_value; image_len = (e.requires.image_len.0, c.low_drive-low.ensures.1, low_there (goal.at.copied_in-copied-requires c).After-zone_on-zone) }
+copied_in-copied-requires c = record { p_value = c.requires.p_value; image_len = (c.requires.image_len.0, c.low_drive-low.ensures.1, low_there (goal.at.copied_in-copied-requires c).After-zone_on-zone) }
 
 pub header_fault-requires : goal.header_fault-requires
-header_fault-requires c = let e = c in record { p_value = e.requires.p_value; image_len = (e.requires.image_len.0, e.requires.here.1) }
+header_fault-requires c = record { p_value = c.requires.p_value; image_len = (c.requires.image_len.0, c.requires.here.1) }
 
 -- all tests in order
 front : (c : After-header_fault)
@@ -45,12 +44,11 @@ front : (c : After-header_fault)
     || any (λ d. name_bad a.p a.offline.now a.counts.now d (zone_on names d)) (below a.p.N) || a.repeated || leb a.serial.0 c.copied_in-copied.result.0))
 unfolding header_at view_of
 front c =
-    let e = c in
     let low_drive_holds = c.low_drive-low in
     let zone_on_holds = c.zone_on-zone in
     let names_in = c.names_in-names in
     let copied-in = c.copied_in-copied in
-    let a = e.args in
+    let a = c.args in
     let p = a.p in
     let off = a.offline.now in
     let g = a.segment in
@@ -62,7 +60,7 @@ front c =
     let en : names_in.result ≡ seg_with p (header_zone p (chunk_at v (low_drive p gone) (zone_on g (low_drive p gone)) 0).block) =
     names_in.ensures off ps h ∙ (λ j. seg_with p (header_zone p (chunk_at v (lo j) (zo j) 0).block)) in
     let ec : copied-in.result.0 ≡ (segment_of p v gone g).copied = copied-in.ensures off ps h ∙ (λ j. header_copied p (chunk_at v (lo j) (zo j) 0).block) ∙ sym (copied_is p v gone g) in
-    front_by p v gone e.requires.here.0 a.counts.now k g m names_in.result a.serial.0 copied-in.result.0 c.header_fault.result a.repeated en
+    front_by p v gone c.requires.here.0 a.counts.now k g m names_in.result a.serial.0 copied-in.result.0 c.header_fault.result a.repeated en
     (c.header_fault.ensures off ps h (names_read p v gone g names_in.result en) s ec) s ec t
 
 pub returns-then-header_fault : goal.returns-then-header_fault
@@ -88,7 +86,7 @@ returns-then-own_fault c =
     λ ps h k m s t. sym (λ j. i j || o j || bad || a.repeated || le) ∙ f ps h k m s t
 
 pub name_fault-requires : goal.name_fault-requires
-name_fault-requires c = let e = c in record { p_value = e.requires.p_value; offline_len = (e.requires.image_len.1, e.requires.image_len.2) }
+name_fault-requires c = record { p_value = c.requires.p_value; offline_len = (c.requires.image_len.1, c.requires.image_len.2) }
 
 pub returns-then-name_fault : goal.returns-then-name_fault
 returns-then-name_fault c =

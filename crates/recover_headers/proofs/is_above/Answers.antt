@@ -22,13 +22,12 @@ returns-then-not-is_good c =
 
 pub returns : goal.returns
 returns c =
-    let entry = c in
     let capacity' = c.capacity in
     let has-drive = c.has_drive in
     let if1 = c.if-has_drive in
     let is-good = c.is_good in
     let if2 = c.if-not-is_good in
-    let a = entry.args in
+    let a = c.args in
     ap₂ ltb capacity'.ensures.0 c.pointer.ensures
     ∙ sym (ap₂ (λ (b g : Bool). not b && (g && ltb (capacity a.p) (pointer_of a.p a.pointers.now a.drive a.zone)))
     (sym has-drive.ensures ∙ if1.false) (sym is-good.ensures ∙ not-false is-good.result if2.false-raw))

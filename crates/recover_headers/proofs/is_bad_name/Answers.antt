@@ -19,7 +19,7 @@ returns-then-p-zone c =
     (le-ltb a.zone a.p.Z c.if-p-zone.true))
 
 pub is_good-requires : goal.is_good-requires
-is_good-requires c = let e = c in record { p_value = e.requires.p_value; offline_len = (e.requires.offline_len.0, e.requires.offline_len.2, omega (arith, c.if-p-zone.false)) }
+is_good-requires c = record { p_value = c.requires.p_value; offline_len = (c.requires.offline_len.0, c.requires.offline_len.2, omega (arith, c.if-p-zone.false)) }
 
 pub returns-then-not-is_good : goal.returns-then-not-is_good
 unfolding name_bad
@@ -29,7 +29,7 @@ returns-then-not-is_good c =
     (lt-ltb a.zone a.p.Z (omega (arith, c.if-p-zone.false))) (sym c.is_good.ensures ∙ not-true c.is_good.result c.if-not-is_good.true-raw))
 
 pub offline_at-requires : goal.offline_at-requires
-offline_at-requires c = let e = c in record { p_value = e.requires.p_value; drive_lt_n = (e.requires.offline_len.2, omega (arith, c.if-p-zone.false)) }
+offline_at-requires c = record { p_value = c.requires.p_value; drive_lt_n = (c.requires.offline_len.2, omega (arith, c.if-p-zone.false)) }
 
 pub bounds-counts-offline_at : goal.bounds-counts-offline_at
 unfolding offline_len
@@ -38,12 +38,11 @@ bounds-counts-offline_at c = omega (arith, c.offline_at.ensures.1, c.requires.of
 pub returns : goal.returns
 unfolding name_bad
 returns c =
-    let entry = c in
     let offline-at = c.offline_at in
     let if1 = c.if-p-zone in
     let is-good = c.is_good in
     let if2 = c.if-not-is_good in
-    let a = entry.args in
+    let a = c.args in
     ap (λ (j : ℕ). leb 2 (get_or a.counts.now j 0)) offline-at.ensures.0
     ∙ sym (ap₂ (λ (b g : Bool). not (b && g) || leb 2 (get_or a.counts.now (a.drive * a.p.Z + a.zone) 0))
     (lt-ltb a.zone a.p.Z (omega (arith, if1.false))) (sym is-good.ensures ∙ not-false is-good.result if2.false-raw))

@@ -30,11 +30,10 @@ bounds-kept-z c = omega (arith, c.requires.image_len.1, c.loop-z-test.true)
 
 pub count_if-requires : goal.count_if-requires
 count_if-requires c =
-    let e = c in
     let loop = c.loop-z in
     let clear = c.clear in
     let low_drive_holds = c.low_drive-low in
-    let if1 = c.loop-z-test in record { p_value = e.requires.p_value; image_len = (e.requires.image_len.0, omega (arith, e.requires.image_len.2, loop.invariant.1, clear.auto.dst), low_drive_holds.ensures.1, if1.true) }
+    let if1 = c.loop-z-test in record { p_value = c.requires.p_value; image_len = (c.requires.image_len.0, omega (arith, c.requires.image_len.2, loop.invariant.1, clear.auto.dst), low_drive_holds.ensures.1, if1.true) }
 
 pub overflow_add-z : goal.overflow_add-z
 overflow_add-z c = omega arith
@@ -64,11 +63,10 @@ shape_of-counts c = c.loop-z.invariant.1 ∙ c.clear.auto.dst
 
 pub returns : goal.returns
 returns c =
-    let e = c in
-    let a = e.args in
+    let a = c.args in
     let l = c.loop-z in
     let n : l.z ≡ a.p.Z = omega (arith, l.invariant.0, c.loop-z-test.false) in
     λ off ps h k. (
-      omega (arith, e.requires.image_len.2, l.invariant.1, c.clear.auto.dst),
+      omega (arith, c.requires.image_len.2, l.invariant.1, c.clear.auto.dst),
       subst (λ (x : ℕ). CountedBy a.p (view_of a.p off a.image.now ps) a.gone x l.counts) n (l.invariant.2 off ps h k),
     )

@@ -16,16 +16,15 @@ pub zone_on-requires : goal.zone_on-requires
 zone_on-requires c = record { p_value = c.requires.p_value; drive_lt_n = c.loop-d-test.true }
 
 pub is_bad_name-requires : goal.is_bad_name-requires
-is_bad_name-requires c = let e = c in record { p_value = e.requires.p_value; offline_len = (e.requires.offline_len.0, e.requires.offline_len.1, c.loop-d-test.true) }
+is_bad_name-requires c = record { p_value = c.requires.p_value; offline_len = (c.requires.offline_len.0, c.requires.offline_len.1, c.loop-d-test.true) }
 
 pub returns-then-is_bad_name : goal.returns-then-is_bad_name
 returns-then-is_bad_name c =
     let l = c.loop-d in
-    let entry = c in
     let if1 = c.loop-d-test in
     let zone_on_holds = c.zone_on in
     let is-bad-name = c.is_bad_name in
-    let a = entry.args in
+    let a = c.args in
     let f : ℕ → ℕ → Bool = λ e. name_bad a.p a.offline.now a.counts.now e in
     sym (any_found (λ e. f e (zone_on a.names e)) l.d a.p.N if1.true (ap (f l.d) (sym zone_on_holds.ensures) ∙ sym is-bad-name.ensures ∙ c.if-is_bad_name.true)) ∙ l.invariant.1
 
@@ -38,11 +37,10 @@ loop-d-smaller c = omega arith
 pub loop-d-preserved : goal.loop-d-preserved
 loop-d-preserved c =
     let l = c.loop-d in
-    let entry = c in
     let if1 = c.loop-d-test in
     let zone_on_holds = c.zone_on in
     let is-bad-name = c.is_bad_name in
-    let a = entry.args in
+    let a = c.args in
     let f : ℕ → ℕ → Bool = λ e. name_bad a.p a.offline.now a.counts.now e in (
       omega (arith, if1.true),
       sym (any_passed (λ e. f e (zone_on a.names e)) l.d a.p.N if1.true (ap (f l.d) (sym zone_on_holds.ensures) ∙ sym is-bad-name.ensures ∙ c.if-is_bad_name.false)) ∙ l.invariant.1,

@@ -17,13 +17,13 @@ loop-d-init c =
     (omega arith, λ off ps h. filled_none (header_zone a.p (chunk_at (view_of a.p off a.image.now ps) a.drive a.zone 0).block))
 
 pub zone_named-requires : goal.zone_named-requires
-zone_named-requires c = let e = c in record { p_value = e.requires.p_value; image_len = (e.requires.image_len.0, e.requires.image_len.1, e.requires.image_len.2, c.loop-d-test.true) }
+zone_named-requires c = record { p_value = c.requires.p_value; image_len = (c.requires.image_len.0, c.requires.image_len.1, c.requires.image_len.2, c.loop-d-test.true) }
 
 pub offset_bounds-zones-d : goal.offset_bounds-zones-d
-offset_bounds-zones-d c = let e = c in omega (arith, (ranged e.args.p e.requires.p_value).drives_high)
+offset_bounds-zones-d c = omega (arith, (ranged c.args.p c.requires.p_value).drives_high)
 
 pub bounds-zones-d : goal.bounds-zones-d
-bounds-zones-d c = let e = c in omega (arith, (ranged e.args.p e.requires.p_value).drives_high)
+bounds-zones-d c = omega (arith, (ranged c.args.p c.requires.p_value).drives_high)
 
 pub overflow_add-d : goal.overflow_add-d
 overflow_add-d c = omega arith
@@ -33,10 +33,9 @@ loop-d-smaller c = omega arith
 
 pub loop-d-preserved : goal.loop-d-preserved
 loop-d-preserved c =
-    let e = c in
-    let a = e.args in
+    let a = c.args in
     let l = c.loop-d in
-    let t : l.d < 8 = omega (arith, (ranged a.p e.requires.p_value).drives_high, c.loop-d-test.true) in (
+    let t : l.d < 8 = omega (arith, (ranged a.p c.requires.p_value).drives_high, c.loop-d-test.true) in (
       omega arith,
       λ off ps h. let f : ℕ → ℕ = header_zone a.p (chunk_at (view_of a.p off a.image.now ps) a.drive a.zone 0).block in
           ap (λ (x : List ℕ). set x l.d c.zone_named.result) (l.invariant.1 off ps h) ∙ ap (set (filled_to f l.d) l.d) (c.zone_named.ensures off ps h) ∙ filled_more f l.d t,

@@ -13,9 +13,8 @@ returns-then-has_drive c =
 
 pub returns : goal.returns
 returns c =
-    let entry = c in
     let has-drive = c.has_drive in
     let if1 = c.if-has_drive in
-    let a = entry.args in
+    let a = c.args in
     ap not (ap₂ eqb c.zone_on.ensures c.zone_on-2.ensures)
     ∙ sym (ap (λ (b : Bool). not b && not (eqb (zone_on a.names a.drive) (zone_on a.segment a.drive))) (sym has-drive.ensures ∙ if1.false))

@@ -11,17 +11,16 @@ pub loop-z-init : goal.loop-z-init
 loop-z-init c = let a = c.args in (omega arith, lowest_start (above_by a.p a.pointers.now a.offline.now a.gone) a.p.Z a.p.Z)
 
 pub any_above-requires : goal.any_above-requires
-any_above-requires c = let e = c in record { p_value = e.requires.p_value; pointers_len = (e.requires.pointers_len.0, e.requires.pointers_len.1, c.loop-z-test.true) }
+any_above-requires c = record { p_value = c.requires.p_value; pointers_len = (c.requires.pointers_len.0, c.requires.pointers_len.1, c.loop-z-test.true) }
 
 pub returns-then-any_above : goal.returns-then-any_above
 returns-then-any_above c =
-    let e = c in
-    let a = e.args in
+    let a = c.args in
     let p = a.p in
     let l = c.loop-z in
     let f = above_by p a.pointers.now a.offline.now a.gone in record { upper_bound = omega (arith, c.loop-z-test.true); by_index = λ im h.
           (sym (lowest_turn f p.Z l.z p.Z c.loop-z-test.true (sym c.any_above.ensures ∙ c.if-any_above.true)) ∙ l.invariant.1)
-          ∙ ap (first_or p.Z) (sym (pointer_list p a.offline.now im a.pointers.now h e.requires.pointers_len.0 a.gone)) }
+          ∙ ap (first_or p.Z) (sym (pointer_list p a.offline.now im a.pointers.now h c.requires.pointers_len.0 a.gone)) }
 
 pub overflow_add-z : goal.overflow_add-z
 overflow_add-z c = omega arith
@@ -39,9 +38,8 @@ loop-z-preserved c =
 
 pub returns : goal.returns
 returns c =
-    let e = c in
-    let a = e.args in
+    let a = c.args in
     let p = a.p in
     let l = c.loop-z in
     let f = above_by p a.pointers.now a.offline.now a.gone in record { upper_bound = omega arith; by_index = λ im h. (sym (lowest_end f p.Z l.z p.Z (omega (arith, c.loop-z-test.false))) ∙ l.invariant.1)
-          ∙ ap (first_or p.Z) (sym (pointer_list p a.offline.now im a.pointers.now h e.requires.pointers_len.0 a.gone)) }
+          ∙ ap (first_or p.Z) (sym (pointer_list p a.offline.now im a.pointers.now h c.requires.pointers_len.0 a.gone)) }

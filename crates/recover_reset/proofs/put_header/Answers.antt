@@ -26,9 +26,8 @@ slice_bounds-unit-end c = omega (arith, spare_len_lem)
 pub slice_bounds-put_header_with-end : goal.slice_bounds-put_header_with-end
 slice_bounds-put_header_with-end c =
     let unit-len = c.unit_len-n in
-    let entry = c in
-    let args = entry.args in
-    let pre = entry.requires in
+    let args = c.args in
+    let pre = c.requires in
     let p = args.p in
     sym (length-take-le unit-len.result _ (omega (arith, unit-len.ensures.0, unit_high p (ranged p pre.p_value), spare_len_lem)))
 
@@ -36,9 +35,8 @@ pub put_header_with-requires : goal.put_header_with-requires
 unfolding zero_spare
 put_header_with-requires c =
     let unit-len = c.unit_len-n in
-    let entry = c in
-    let args = entry.args in
-    let q = entry.requires in
+    let args = c.args in
+    let q = c.requires in
     let p = args.p in
     let z = c.zone_on-zone.ensures in
     let f : unit-len.result ≤ 4096 + spare_len = omega (arith, unit-len.ensures.0, unit_high p (ranged p q.p_value)) in record { p_value = q.p_value; whole = q.whole; drive_lt_n = (

@@ -73,11 +73,10 @@ pub returns : goal.returns
 returns c =
     let a = c.args in
     let put-limited = c.put_limited in
-    let at = c in
     let write-header = c.write_header in
     let pre = c.requires in
     let k = mk_disk a.image.now a.pointers.now in
     let k' = mk_disk put-limited.new.image put-limited.new.pointers in
     let m = put-limited.result in
-    subst (λ (x : List ℕ). Storing a.p a.count (put a.drive a.zone x zero_spare ∷ []) k m k') (block_is (at))
+    subst (λ (x : List ℕ). Storing a.p a.count (put a.drive a.zone x zero_spare ∷ []) k m k') (block_is (c))
     (subst (λ (x : List ℕ). Storing a.p a.count (put a.drive a.zone (take a.p.B write-header.new.dst) x ∷ []) k m k') pre.drive_lt_n.4 put-limited.ensures)

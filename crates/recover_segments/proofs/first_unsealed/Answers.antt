@@ -18,7 +18,7 @@ loop-z-init c =
     (omega arith, λ off im h k r. lowest_start (unsealed_at a.p (view_of a.p off im a.pointers.now) a.gone) a.p.Z a.p.Z)
 
 pub is_unsealed-requires : goal.is_unsealed-requires
-is_unsealed-requires c = let e = c in record { p_value = e.requires.p_value; pointers_len = (e.requires.pointers_len.0, e.requires.pointers_len.1, c.loop-z-test.true) }
+is_unsealed-requires c = record { p_value = c.requires.p_value; pointers_len = (c.requires.pointers_len.0, c.requires.pointers_len.1, c.loop-z-test.true) }
 
 pub returns-then-is_unsealed : goal.returns-then-is_unsealed
 returns-then-is_unsealed c =

@@ -17,16 +17,16 @@ loop-d-init c =
     (omega arith, filled_none (λ e. first_or 0 (keep (free_in a.p a.offline.now a.marks.now e) (below a.p.Z))))
 
 pub free_zone-requires : goal.free_zone-requires
-free_zone-requires c = let e = c in record { p_value = e.requires.p_value; offline_len = (e.requires.offline_len.0, e.requires.offline_len.1, c.loop-d-test.true) }
+free_zone-requires c = record { p_value = c.requires.p_value; offline_len = (c.requires.offline_len.0, c.requires.offline_len.1, c.loop-d-test.true) }
 
 pub overflow_cast-zones : goal.overflow_cast-zones
-overflow_cast-zones c = let e = c in omega (arith, (ranged e.args.p e.requires.p_value).zones_high, c.free_zone.ensures.1)
+overflow_cast-zones c = omega (arith, (ranged c.args.p c.requires.p_value).zones_high, c.free_zone.ensures.1)
 
 pub offset_bounds-zones-d : goal.offset_bounds-zones-d
-offset_bounds-zones-d c = let e = c in omega (arith, (ranged e.args.p e.requires.p_value).drives_high)
+offset_bounds-zones-d c = omega (arith, (ranged c.args.p c.requires.p_value).drives_high)
 
 pub bounds-zones-d : goal.bounds-zones-d
-bounds-zones-d c = let e = c in omega (arith, (ranged e.args.p e.requires.p_value).drives_high)
+bounds-zones-d c = omega (arith, (ranged c.args.p c.requires.p_value).drives_high)
 
 pub overflow_add-d : goal.overflow_add-d
 overflow_add-d c = omega arith
@@ -36,21 +36,19 @@ loop-d-smaller c = omega arith
 
 pub loop-d-preserved : goal.loop-d-preserved
 loop-d-preserved c =
-    let e = c in
-    let a = e.args in
+    let a = c.args in
     let l = c.loop-d in
-    let f : ℕ → ℕ = λ e. first_or 0 (keep (free_in a.p a.offline.now a.marks.now e) (below a.p.Z)) in
-    let t : l.d < 8 = omega (arith, (ranged a.p e.requires.p_value).drives_high, c.loop-d-test.true) in (
+    let f : ℕ → ℕ = λ c. first_or 0 (keep (free_in a.p a.offline.now a.marks.now c) (below a.p.Z)) in
+    let t : l.d < 8 = omega (arith, (ranged a.p c.requires.p_value).drives_high, c.loop-d-test.true) in (
       omega arith,
       ap (λ (x : List ℕ). set x l.d c.free_zone.result) l.invariant.1 ∙ ap (set (filled_to f l.d) l.d) c.free_zone.ensures.0 ∙ filled_more f l.d t,
     )
 
 pub returns : goal.returns
 returns c =
-    let e = c in
-    let a = e.args in
+    let a = c.args in
     let p = a.p in
     let l = c.loop-d in
-    let f : ℕ → ℕ = λ e. first_or 0 (keep (free_in p a.offline.now a.marks.now e) (below p.Z)) in
+    let f : ℕ → ℕ = λ c. first_or 0 (keep (free_in p a.offline.now a.marks.now c) (below p.Z)) in
     let n : l.d ≡ p.N = omega (arith, l.invariant.0, c.loop-d-test.false) in
-    let s = ap (λ (x : List ℕ). seg x) (l.invariant.1 ∙ ap (filled_to f) n) ∙ filled_with p f in record { by_index = (λ im ps gone t. s ∙ sym (free_seg_by p a.offline.now im ps gone a.marks.now t)); zones_low = with_low p f 0 (seg l.zones) s (λ d hd q. first_low (free_in p a.offline.now a.marks.now d) p.Z (omega (arith, (ranged p e.requires.p_value).zones_low))) }
+    let s = ap (λ (x : List ℕ). seg x) (l.invariant.1 ∙ ap (filled_to f) n) ∙ filled_with p f in record { by_index = (λ im ps gone t. s ∙ sym (free_seg_by p a.offline.now im ps gone a.marks.now t)); zones_low = with_low p f 0 (seg l.zones) s (λ d hd q. first_low (free_in p a.offline.now a.marks.now d) p.Z (omega (arith, (ranged p c.requires.p_value).zones_low))) }

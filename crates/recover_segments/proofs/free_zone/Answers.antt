@@ -15,8 +15,7 @@ returns-then-z-p c =
 
 pub returns : goal.returns
 returns c =
-    let e = c in
-    let a = e.args in
+    let a = c.args in
     let q = c.lowest_free-z.ensures in
     let z : c.lowest_free-z.result ≡ a.p.Z = omega (arith, q.1, c.if-z-p.false) in
-    (sym (first_nil (free_in a.p a.offline.now a.marks.now a.drive) a.p.Z (sym q.0 ∙ z)), omega (arith, (ranged a.p e.requires.p_value).zones_low))
+    (sym (first_nil (free_in a.p a.offline.now a.marks.now a.drive) a.p.Z (sym q.0 ∙ z)), omega (arith, (ranged a.p c.requires.p_value).zones_low))

@@ -20,16 +20,14 @@ returns-then-not-kept-z c =
 
 pub row-requires : goal.row-requires
 row-requires c =
-    let e = c in
-    (omega (arith, e.requires.pointers_len.1.1, e.requires.pointers_len.2), omega (arith, e.requires.pointers_len.2, (ranged e.args.p e.requires.p_value).zones_high))
+    (omega (arith, c.requires.pointers_len.1.1, c.requires.pointers_len.2), omega (arith, c.requires.pointers_len.2, (ranged c.args.p c.requires.p_value).zones_high))
 
 pub is_sealed-requires : goal.is_sealed-requires
 is_sealed-requires c =
-    let e = c in
-    let a = e.args in record { p_value = e.requires.p_value; pointers_len = (
-        e.requires.pointers_len.0,
+    let a = c.args in record { p_value = c.requires.p_value; pointers_len = (
+        c.requires.pointers_len.0,
         subst (ZonesLow a.p a.gone) (sym c.row.ensures)
-            (e.requires.pointers_len.1.2 a.z e.requires.pointers_len.2 (not-false (get_or a.kept.now a.z false) c.if-not-kept-z.false-raw)),
+            (c.requires.pointers_len.1.2 a.z c.requires.pointers_len.2 (not-false (get_or a.kept.now a.z false) c.if-not-kept-z.false-raw)),
       ) }
 
 pub returns : goal.returns

@@ -12,7 +12,7 @@ pub loop-z-init : goal.loop-z-init
 loop-z-init c = let a = c.args in (omega arith, lowest_start (free_in a.p a.offline.now a.marks.now a.drive) a.p.Z a.p.Z)
 
 pub is_free-requires : goal.is_free-requires
-is_free-requires c = let e = c in record { p_value = e.requires.p_value; offline_len = (e.requires.offline_len.0, e.requires.offline_len.1, e.requires.offline_len.2, c.loop-z-test.true) }
+is_free-requires c = record { p_value = c.requires.p_value; offline_len = (c.requires.offline_len.0, c.requires.offline_len.1, c.requires.offline_len.2, c.loop-z-test.true) }
 
 pub returns-then-is_free : goal.returns-then-is_free
 returns-then-is_free c =

@@ -20,7 +20,6 @@ bounds-marks-at c = omega (arith, c.offline_at-at.ensures.1, c.requires.z_in_bou
 
 pub returns : goal.returns
 returns c =
-    let e = c in
-    let a = e.args in
+    let a = c.args in
     λ d z hd hz. ap (λ (j : ℕ). get_or (set a.marks.now j true) (d * a.p.Z + z) false) c.offline_at-at.ensures.0
-    ∙ mark_set a.p a.marks.now a.drive a.zone d z e.requires.z_in_bounds.0 e.requires.z_in_bounds.1 (omega (arith, c.if-p-zone.false)) hd hz
+    ∙ mark_set a.p a.marks.now a.drive a.zone d z c.requires.z_in_bounds.0 c.requires.z_in_bounds.1 (omega (arith, c.if-p-zone.false)) hd hz

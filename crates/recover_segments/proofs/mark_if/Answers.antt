@@ -22,8 +22,7 @@ returns-then-not-flag c =
 
 pub row-requires : goal.row-requires
 row-requires c =
-    let e = c in
-    (omega (arith, e.requires.z_in_bounds.1, e.requires.z_in_bounds.2), omega (arith, e.requires.z_in_bounds.2, (ranged e.args.p e.requires.p_value).zones_high))
+    (omega (arith, c.requires.z_in_bounds.1, c.requires.z_in_bounds.2), omega (arith, c.requires.z_in_bounds.2, (ranged c.args.p c.requires.p_value).zones_high))
 
 pub returns : goal.returns
 returns c =

@@ -12,7 +12,7 @@ pub loop-d-init : goal.loop-d-init
 loop-d-init c = let a = c.args in (omega arith, any-start (λ e. is_nil (keep (free_in a.p a.offline.now a.marks.now e) (below a.p.Z))) a.p.N)
 
 pub lowest_free-requires : goal.lowest_free-requires
-lowest_free-requires c = let e = c in record { p_value = e.requires.p_value; offline_len = (e.requires.offline_len.0, e.requires.offline_len.1, c.loop-d-test.true) }
+lowest_free-requires c = record { p_value = c.requires.p_value; offline_len = (c.requires.offline_len.0, c.requires.offline_len.1, c.loop-d-test.true) }
 
 pub returns-then-p-lowest_free : goal.returns-then-p-lowest_free
 returns-then-p-lowest_free c =

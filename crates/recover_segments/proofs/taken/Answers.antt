@@ -7,7 +7,7 @@ use Rattle.recover_segments.specs.Taken.{MarkedBy, marks_start, marks_next, mark
 use Rattle.recover_segments.proofs.taken.Goals as goal
 
 pub clear_marks-requires : goal.clear_marks-requires
-clear_marks-requires c = let e = c in record { p_value = e.requires.p_value; z_in_bounds = e.requires.z_in_bounds.2 }
+clear_marks-requires c = record { p_value = c.requires.p_value; z_in_bounds = c.requires.z_in_bounds.2 }
 
 pub loop-z-init : goal.loop-z-init
 loop-z-init c =
@@ -19,8 +19,7 @@ bounds-kept-z c = omega (arith, c.requires.z_in_bounds.0, c.loop-z-test.true)
 
 pub mark_if-requires : goal.mark_if-requires
 mark_if-requires c =
-    let e = c in
-    let k = c.clear_marks.auto.marks in record { p_value = e.requires.p_value; z_in_bounds = (omega (arith, e.requires.z_in_bounds.2, c.loop-z.invariant.1, k), e.requires.z_in_bounds.1, c.loop-z-test.true) }
+    let k = c.clear_marks.auto.marks in record { p_value = c.requires.p_value; z_in_bounds = (omega (arith, c.requires.z_in_bounds.2, c.loop-z.invariant.1, k), c.requires.z_in_bounds.1, c.loop-z-test.true) }
 
 pub overflow_add-z : goal.overflow_add-z
 overflow_add-z c = omega arith
@@ -42,9 +41,8 @@ shape_of-marks c = c.loop-z.invariant.1 ∙ c.clear_marks.auto.marks
 
 pub returns : goal.returns
 returns c =
-    let e = c in
-    let a = e.args in
+    let a = c.args in
     let l = c.loop-z in
     let n : l.z ≡ a.p.Z = omega (arith, l.invariant.0, c.loop-z-test.false) in
-    λ v gone k r. marks_taken a.p v gone a.kept.now a.rows.now l.marks k r (omega (arith, e.requires.z_in_bounds.2, l.invariant.1, c.clear_marks.auto.marks))
+    λ v gone k r. marks_taken a.p v gone a.kept.now a.rows.now l.marks k r (omega (arith, c.requires.z_in_bounds.2, l.invariant.1, c.clear_marks.auto.marks))
     (subst (λ (x : ℕ). MarkedBy a.p a.kept.now a.rows.now x l.marks) n l.invariant.2)

@@ -20,7 +20,7 @@ loop-z-init c =
     (omega arith, omega arith, λ off im h k r. kept-start (unsealed_at a.p (view_of a.p off im a.pointers.now) a.gone) a.p.Z)
 
 pub is_unsealed-requires : goal.is_unsealed-requires
-is_unsealed-requires c = let e = c in record { p_value = e.requires.p_value; pointers_len = (e.requires.pointers_len.0, e.requires.pointers_len.1, c.loop-z-test.true) }
+is_unsealed-requires c = record { p_value = c.requires.p_value; pointers_len = (c.requires.pointers_len.0, c.requires.pointers_len.1, c.loop-z-test.true) }
 
 pub overflow_add-n : goal.overflow_add-n
 overflow_add-n c = omega arith
