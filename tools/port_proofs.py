@@ -13,7 +13,7 @@ ID = r"[A-Za-z_\u03b1-\u03c9\u0391-\u03a9\u2080-\u2089][\w'\u2080-\u2089!]*(?:-[
 
 
 def norm(n):
-    return n.replace("-", "_")
+    return n.replace("-", "_").lower()
 
 
 def read(p):
@@ -130,6 +130,12 @@ class Fn:
                     self.callee[norm(old)] = p[3]
                 for a, b in p[4]:
                     self.fields.setdefault(norm(old), {})[a] = b
+        # what an arm of a match says, by the step and the path that said it
+        self.arms = {}
+        for a in entry["arms"]:
+            for field, step, path in a[2] if a else []:
+                if path:
+                    self.arms.setdefault(norm(step), {})["." + ".".join(path)] = f"{a[0]}.{field}"
         self.own = known.get(f"{crate}::{name.replace('.', '::')}", ([], []))
         self.pre = (entry["pre"] or {}).get("fields") or []
 
@@ -158,6 +164,12 @@ class Fn:
             if m.group(1) != "c":
                 rest = re.sub(r"(?<![\w'\u2080-\u2089.-])%s(?![\w'\u2080-\u2089-])" % re.escape(m.group(1)), "c", rest)
             body = body[: m.start()] + rest
+        body = re.sub(r"(?<=[\w'])\.pre(?![\w'-])", ".requires", body)
+        # a name for the step of an arm is the step itself
+        for a in list(re.finditer(r"let (%s)(?: : [^=\n]*?)? = c\.(%s) in[ \n]*" % (ID, ID), body)):
+            if norm(a.group(2)) in self.arms and norm(a.group(2)) not in self.callee:
+                body = body.replace(a.group(0), "", 1)
+                body = re.sub(r"(?<![\w'\u2080-\u2089.-])%s(?![\w'\u2080-\u2089-])" % re.escape(a.group(1)), "c." + a.group(2), body)
         alias, pres = {}, set()
 
         def step(m):
@@ -180,6 +192,9 @@ class Fn:
             old = norm(name)
             if old not in self.steps or (head not in ctx and head != ")"):
                 return m.group(0)
+            for path in sorted(self.arms.get(old, {}), key=len, reverse=True):
+                if rest == path or rest.startswith(path + "."):
+                    return head + "." + self.arms[old][path] + rest[len(path) :]
             return head + "." + self.steps[old] + self.rest(old, rest)
 
         body = re.sub(r"(\b[\w']+|\))(\.)(%s)((?:\.[\w'-]+)*)" % ID, chain, body)

@@ -92,7 +92,7 @@ module _ (p : Par) (g : Ghost) (w o : ℕ) (π : MovePlan p) where
   at-step v k d a b e l = (low (ℕ_discrete e d), high)
     where
       low : Dec (e ≡ d) → e < suc d → with_item v d w (item k d) e w ≡ col e (suc k)
-      low (yes q) h = rw q (Rattle.proof_crash_machine.specs.View.upd_same v d w (v d w ++ (item k d ∷ []))
+      low (yes q) h = subst (λ (x : ℕ). with_item v d w (item k d) x w ≡ col x (suc k)) (sym q) (Rattle.proof_crash_machine.specs.View.upd_same v d w (v d w ++ (item k d ∷ []))
           ∙ ap (λ (l : List Item). l ++ (item k d ∷ [])) ((a d b).1 (omega arith)))
       low (no q) h = Put.drive_other v d w (item k d) e w q ∙ (a e l).0 (omega arith)
 

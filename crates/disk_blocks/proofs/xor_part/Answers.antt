@@ -70,7 +70,7 @@ xor_bytes-requires c =
 pub shape_of-dst : goal.shape_of-dst
 shape_of-dst c =
     let loop = c.loop-i in
-    c.xor_Bytes.auto.0 ∙ loop.invariant.1
+    c.xor_bytes.auto.dst ∙ loop.invariant.1
 
 pub returns : goal.returns
 unfolding part
@@ -82,7 +82,7 @@ returns c =
     let n = length m - l.i in
     let e : l.i + n ≡ length m = omega arith in
     let s = part l.i n m in
-    c.xor_Bytes.ensures ∙ ap (λ (k : ℕ). splice l.dst (a.at + l.i) (xors (part (a.at + l.i) k l.dst) s)) (length_part l.i n m (omega arith))
+    c.xor_bytes.ensures ∙ ap (λ (k : ℕ). splice l.dst (a.at + l.i) (xors (part (a.at + l.i) k l.dst) s)) (length_part l.i n m (omega arith))
     ∙ piece_more d l.dst m a.at 0 l.i n l.invariant.2 (omega arith) (part (a.at + l.i) n l.dst) s (omega arith)
     (still_ahead d l.dst m a.at 0 l.i n l.invariant.2 (omega arith)) (ap (λ (k : ℕ). part k n m) (sym (zero-add l.i)))
     ∙ ap (λ (k : ℕ). splice d a.at (xors (part a.at k d) (part 0 k m))) e

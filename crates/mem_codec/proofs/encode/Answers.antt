@@ -206,5 +206,5 @@ pub returns : goal.returns
 unfolding state_sections state_numbers
 returns c =
     let s = entry-7 (c) in
-    wrote-7 (c) ∙ state_written s.args.dst.now s.args.st s.pre
+    wrote-7 (c) ∙ state_written s.args.dst.now s.args.st s.requires
     (refl, (refl, (refl, (refl, (refl, (refl, (long-numbers s, (long_filled s, (long-writes s, (long-landed s, (long-addresses s, (long-stamps s, (long-offsets s, tt)))))))))))))

@@ -17,7 +17,7 @@ pub read_be32-requires : goal.read_be32-requires
 read_be32-requires c = omega arith
 
 pub is_near-k-requires : goal.is_near-k-requires
-is_near-k-requires c = c.Span-of.ensures
+is_near-k-requires c = c.span_of-span.ensures
 
 pub overflow_add-k : goal.overflow_add-k
 overflow_add-k c =

@@ -1,0 +1,100 @@
+-- `close`: the front and the filling stripe's eighth are the state's, which the bytes say; then refused or done. Assumes nothing.
+-- the arrays have their lengths
+use Prim.Native.Nat.{◌≤◌}
+use Rattle.mem_calls.specs.Left.{checked}
+use Rattle.mem_codec.specs.Changes.{read_sized}
+use Rattle.call_close.specs.Ends.{close_refused, close_done}
+use Rattle.call_close.specs.Order.{close_refusal}
+use Rattle.call_close.specs.Ready.{close_ready, slot_low, slot_open}
+use Rattle.spec.specs.Drives.{Disk, mk_disk}
+use Rattle.spec.specs.Lists.Opt.{none, some}
+use Rattle.spec.specs.Memory.{Memory, mk_memory, filled_in_of, filling_slot}
+use Rattle.spec.specs.Params.{data_count}
+use Rattle.spec.specs.declared.State.{State}
+use Rattle.call_filling.specs.Aims.{front_filling}
+use Rattle.call_filling.specs.Entries.{row_filled}
+use Rattle.law_basic.specs.Geometry.{ranged, data_count_high}
+use Rattle.mem_rows.specs.Rows.{RowsSized, slot_row}
+use Rattle.mem_rows.specs.declared.Change.{Change}
+use Rattle.mem_rows.specs.declared.Row.{Row}
+use borrow.Author.Rules.{rules}
+use mathlib.Core.Path.{◌≡◌, refl, sym, ap, ◌∙◌, subst}
+use native.Mathlib.Omega.{arith}
+use Rattle.call_close.proofs.close.Goals as goal
+use Rattle.call_close.proofs.close.Goals.{After-checks-c, After-filling_slot-i, After-row_at-row, In_default, Start}
+
+sized : (c : Start) → RowsSized c.args.state
+sized c = subst RowsSized (sym c.requires.0) (read_sized c.args.bytes.now)
+
+abbrev disk : (c : Start) → Disk
+disk c = mk_disk c.args.image.now c.args.pointers.now
+
+abbrev memory : (c : Start) → Memory
+memory c = mk_memory c.args.state c.args.addresses.now c.args.compact.now c.args.inflight.now
+
+-- the eighth is the state's
+slot_of_lem :
+    (c : After-filling_slot-i)
+    → c.filling_slot-i.result ≡ filling_slot c.args.p
+    c.args.state
+slot_of_lem c =
+    let args = c.args in
+    c.filling_slot-i.ensures ∙ front_filling args.p args.state c.front_of-f.result c.front_of-f.ensures
+
+pub checks-c-requires : goal.checks-c-requires
+checks-c-requires c =
+    let e = c.requires.0 in
+    (slot_of_lem (goal.at.checks-c-requires c).After-filling_slot-i ∙ ap (filling_slot c.args.p) e, ap (λ (x : State). x.missing) e, c.requires.1)
+
+-- the refusal is that of the state
+abbrev start : After-checks-c → Start
+start c =
+    c
+
+checked-is : (c : After-checks-c) → checked c.checks-c.result ≡ close_refusal (start c).args.p (start c).args.offline.now (disk (start c)) (memory (start c))
+checked-is c =
+    let s = start c in
+    let a = s.args in
+    subst (λ (x : State). checked c.checks-c.result ≡ close_refusal a.p a.offline.now (disk s) (mk_memory x a.addresses.now a.compact.now a.inflight.now))
+    (sym s.requires.0) c.checks-c.ensures
+
+pub returns-in-Fail : goal.returns-in-Fail
+returns-in-Fail c =
+    let q = c.c-1.given in
+    λ n. close_refused c.args.p c.args.offline.now (disk (goal.at.returns-in-Fail c).Start) (memory (goal.at.returns-in-Fail c).Start) c.kept.result
+    (sym (checked-is (c)) ∙ ap checked q.1 ∙ ap (λ (x : Change). some x.answer) (sym c.kept.ensures)) n
+
+-- no check holds
+passed : (c : In_default)
+    → close_refusal (start c).args.p (start c).args.offline.now (disk (start c)) (memory (start c)) ≡ none
+passed c =
+    sym (checked-is (c)) ∙ ap checked c.in_default.is
+
+pub row_at-row-requires : goal.row_at-row-requires
+row_at-row-requires c =
+    (c.requires.1, slot_low c.args.p c.args.state c.filling_slot_lem.result (slot_of_lem (c)) (close_ready c.args.p c.args.offline.now (disk (goal.at.row_at-row-requires c).Start) (memory (goal.at.row_at-row-requires c).Start) (passed (goal.at.row_at-row-requires c).In_default)).filling)
+
+-- the row is the state's
+row_is : (c : After-row_at-row) → c.row_at-row.result ≡ slot_row (start c).args.state c.filling_slot-i.result
+row_is c =
+    let i = c.filling_slot-i.result in
+    c.row_at-row.ensures ∙ ap (λ (x : State). slot_row x i) (sym c.requires.0)
+
+pub pad_all-next-requires : goal.pad_all-next-requires
+pad_all-next-requires c =
+    let r = close_ready c.args.p c.args.offline.now (disk (goal.at.pad_all-next-requires c).Start) (memory (goal.at.pad_all-next-requires c).Start) (passed (goal.at.pad_all-next-requires c).In_default) in
+    let i = c.filling_slot_lem.result in
+    let e : c.row_at-row.result.filled ≡ filled_in_of c.args.state i = ap (λ (x : Row). x.filled) (row_is (goal.at.pad_all-next-requires c).After-row_at-row) ∙ row_filled c.args.state i in record { p_value = r.ranged; i_bound = (slot_low c.args.p c.args.state i (slot_of_lem (c)) r.filling, omega (arith, e, slot_open c.args.p c.args.state i (slot_of_lem (c)) r.filling), r.inflight_long) }
+
+pub returns : goal.returns
+returns c =
+    let q = c.pad_all-next in
+    let f = c.front_of-f in
+    let a = c.args in
+    let none! = passed (c) in
+    let r = close_ready a.p a.offline.now (disk (goal.at.returns c).Start) (memory (goal.at.returns c).Start) none! in
+    let at = filling_slot a.p a.state in
+    let few : data_count a.p ≤ 8 = omega (arith, data_count_high a.p (ranged a.p r.ranged)) in
+    λ n. close_done a.p a.offline.now (disk (goal.at.returns c).Start) (memory (goal.at.returns c).Start) none! (sized (goal.at.returns c).Start) (slot_low a.p a.state at refl r.filling) few (slot_open a.p a.state at refl r.filling)
+    f.result f.ensures
+    c.filling_slot_lem.result (slot_of_lem (c)) c.row_at-row.result (row_is (c)) q.result q.new.inflight q.ensures.value q.ensures.inflight_after n

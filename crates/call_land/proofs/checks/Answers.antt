@@ -1,0 +1,173 @@
+-- `checks`: each return is the refusal of its check behind those that pass; the state is what the bytes say. Assumes nothing.
+-- image and pointers, and the rest with the state that the bytes say
+use Rattle.spec.specs.Drives.{Disk, mk_disk}
+use Rattle.spec.specs.Engine.{lent_ok_of}
+use Rattle.spec.specs.Landing.{slot_of, waiting}
+use Rattle.spec.specs.Lists.{Opt}
+use Rattle.spec.specs.Memory.{Memory, mk_memory, state_of, state_ok}
+use Rattle.spec.specs.Params.{in_range}
+use Rattle.spec.specs.declared.Answer.{Answer}
+use Rattle.law_checks.specs.Passed.{some_none}
+use Rattle.call_land.specs.Order.{land_from, land_range_fails, land_range_passes, land_lengths_fail, land_lengths_pass, land_list_fails, land_list_passes, land_missing_fails}
+use Rattle.call_land.specs.Order.{land_missing_passes, waiting_fails, waiting_passes, land_state_fails, land_state_passes, waits_row}
+use Rattle.call_land.specs.Plan.{LookedAt}
+use Rattle.call_land.specs.Ready.{waits_low, filled-low}
+use Rattle.call_write.specs.Ready.{lent_long_lem}
+use borrow.Author.Rules.{rules}
+use borrow.Author.Tests.{not-true, not-false}
+use Prim.Native.Nat.{ℕ}
+use mathlib.Core.Bool.{true}
+use mathlib.Core.Path.{◌≡◌, refl, sym, ◌∙◌}
+use Rattle.call_land.proofs.checks.Goals as goal
+use Rattle.call_land.proofs.checks.Goals.{After-waiting, Else-missing-ne0, Else-not-lent_ok, Else-not-state_ok, Else-not-waiting, Else-rule-ne0, Start}
+
+abbrev diskIn : Start → Disk
+diskIn s = mk_disk s.args.image.now s.args.pointers.now
+
+abbrev memoryIn : Start → Memory
+memoryIn s = mk_memory (state_of s.args.bytes.now) s.args.addresses.now s.args.compact.now s.args.inflight.now
+
+-- the first refusal from the i-th check on
+abbrev from : Start → ℕ → Opt Answer
+from s i = land_from s.args.p s.args.offline.now (diskIn s) (memoryIn s) s.args.drive s.args.stripe i
+
+pub returns-then-not-in_range : goal.returns-then-not-in_range
+returns-then-not-in_range c =
+    let in_range_holds = c.in_range in record { check_value = c.refused.ensures
+          ∙ land_range_fails c.args.p c.args.offline.now (diskIn (goal.at.returns-then-not-in_range c).Start) (memoryIn (goal.at.returns-then-not-in_range c).Start) c.args.drive c.args.stripe
+          (sym in_range_holds.ensures ∙ not-true in_range_holds.result c.if-not-in_range.true-raw); target_at = λ e. some_none (sym c.refused.ensures ∙ e) }
+
+pub lent_ok-requires : goal.lent_ok-requires
+lent_ok-requires c = sym c.in_range.ensures ∙ not-false c.in_range.result c.if-not-in_range.false-raw
+
+pub returns-then-not-lent_ok : goal.returns-then-not-lent_ok
+returns-then-not-lent_ok c =
+    let lent_ok = c.lent_ok in
+    let in_range_holds = c.in_range in record { check_value = c.refused-then-not-lent_ok.ensures
+          ∙ land_lengths_fail c.args.p c.args.offline.now (diskIn (goal.at.returns-then-not-lent_ok c).Start) (memoryIn (goal.at.returns-then-not-lent_ok c).Start) c.args.drive c.args.stripe
+          (sym (lent_ok.ensures (memoryIn (goal.at.returns-then-not-lent_ok c).Start).state) ∙ not-true lent_ok.result c.if-not-lent_ok.true-raw)
+          ∙ land_range_passes c.args.p c.args.offline.now (diskIn (goal.at.returns-then-not-lent_ok c).Start) (memoryIn (goal.at.returns-then-not-lent_ok c).Start) c.args.drive c.args.stripe
+          (sym in_range_holds.ensures ∙ not-false in_range_holds.result c.if-not-in_range.false-raw); target_at = λ e. some_none (sym c.refused-then-not-lent_ok.ensures ∙ e) }
+
+module _ (c : Else-not-lent_ok) where
+  abbrev begun : Start
+  begun = c
+
+  -- 1 and 2 do not hold
+  ranged : in_range begun.args.p ≡ true
+  ranged = let in_range_holds = c.in_range in sym in_range_holds.ensures ∙ not-false in_range_holds.result c.if-not-in_range.false-raw
+
+  lent : lent_ok_of begun.args.p begun.args.offline.now (diskIn begun) (memoryIn begun) ≡ true
+  lent = sym (c.lent_ok.ensures (memoryIn begun).state) ∙ not-false c.lent_ok.result c.if-not-lent_ok.false-raw
+
+  fitting : from begun 2 ≡ from begun 0
+  fitting =
+      let s = begun in
+      land_lengths_pass s.args.p s.args.offline.now (diskIn s) (memoryIn s) s.args.drive s.args.stripe lent
+      ∙ land_range_passes s.args.p s.args.offline.now (diskIn s) (memoryIn s) s.args.drive s.args.stripe ranged
+
+pub list_rule-rule-requires : goal.list_rule-rule-requires
+list_rule-rule-requires c =
+    let s = begun c in record { p_value = ranged c; offline_len = (lent_long_lem s.args.p s.args.offline.now (diskIn s) (memoryIn s) (lent c)).5 }
+
+pub returns-then-rule-ne0 : goal.returns-then-rule-ne0
+returns-then-rule-ne0 c =
+    let s = begun c in
+    let list-rule = c.list_rule-rule in record { check_value = c.refused-then-rule-ne0.ensures
+          ∙ land_list_fails s.args.p s.args.offline.now (diskIn s) (memoryIn s) s.args.drive s.args.stripe
+          list-rule.result list-rule.ensures c.if-rule-ne0.true ∙ fitting c; target_at = λ e. some_none (sym c.refused-then-rule-ne0.ensures ∙ e) }
+
+module _ (c : Else-rule-ne0) where
+  abbrev listed : Start
+  listed = begun c
+
+  -- nor do 10 and the narrow 1
+  enough : from listed 4 ≡ from listed 0
+  enough =
+      let s = listed in
+      land_list_passes s.args.p s.args.offline.now (diskIn s) (memoryIn s) s.args.drive s.args.stripe c.list_rule-rule.result c.list_rule-rule.ensures c.if-rule-ne0.false
+      ∙ fitting c
+
+pub returns-then-missing-ne0 : goal.returns-then-missing-ne0
+returns-then-missing-ne0 c =
+    let s = listed c in record { check_value = c.refused-then-missing-ne0.ensures
+          ∙ land_missing_fails s.args.p s.args.offline.now (diskIn s) (memoryIn s) s.args.drive s.args.stripe
+          (λ e. c.if-missing-ne0.true (s.requires.missing_value.0 ∙ e)) ∙ enough c; target_at = λ e. some_none (sym c.refused-then-missing-ne0.ensures ∙ e) }
+
+module _ (c : Else-missing-ne0) where
+  -- nor does 3
+  healthy : from (listed c) 5 ≡ from (listed c) 0
+  healthy =
+      let s = listed c in
+      land_missing_passes s.args.p s.args.offline.now (diskIn s) (memoryIn s) s.args.drive s.args.stripe (sym s.requires.missing_value.0 ∙ c.if-missing-ne0.false) ∙ enough c
+
+pub waiting-requires : goal.waiting-requires
+waiting-requires c = ranged c
+
+module _ (c : After-waiting) where
+  abbrev asked : Start
+  asked = listed c
+
+  -- what the row says is what the definition says
+  waits-is : c.waiting.result ≡ waiting asked.args.p (memoryIn asked).state asked.args.drive asked.args.stripe
+  waits-is =
+      let a = asked.args in
+      c.waiting.ensures ∙ waits_row a.p (state_of a.bytes.now) a.drive a.stripe a.seen asked.requires.looks
+
+pub returns-then-not-waiting : goal.returns-then-not-waiting
+returns-then-not-waiting c =
+    let s = asked c in record { check_value = c.refused-then-not-waiting.ensures
+          ∙ waiting_fails s.args.p s.args.offline.now (diskIn s) (memoryIn s) s.args.drive s.args.stripe
+          (sym (waits-is c) ∙ not-true c.waiting.result c.if-not-waiting.true-raw) ∙ healthy c; target_at = λ e. some_none (sym c.refused-then-not-waiting.ensures ∙ e) }
+
+module _ (c : Else-not-waiting) where
+  -- nor does 5
+  waits : waiting (asked c).args.p (memoryIn (asked c)).state (asked c).args.drive (asked c).args.stripe ≡ true
+  waits = sym (waits-is c) ∙ not-false c.waiting.result c.if-not-waiting.false-raw
+
+  waited : from (asked c) 6 ≡ from (asked c) 0
+  waited =
+      let s = asked c in
+      waiting_passes s.args.p s.args.offline.now (diskIn s) (memoryIn s) s.args.drive s.args.stripe waits ∙ healthy c
+
+pub state_ok-requires : goal.state_ok-requires
+state_ok-requires c = record { p_value = ranged c; bytes_len = (asked c).pre.1.1 }
+
+pub returns-then-not-state_ok : goal.returns-then-not-state_ok
+returns-then-not-state_ok c =
+    let s = asked c in
+    let state_ok_holds = c.state_ok in record { check_value = c.refused-then-not-state_ok.ensures
+          ∙ land_state_fails s.args.p s.args.offline.now (diskIn s) (memoryIn s) s.args.drive s.args.stripe
+          (sym state_ok_holds.ensures ∙ not-true state_ok_holds.result c.if-not-state_ok.true-raw) ∙ waited c; target_at = λ e. some_none (sym c.refused-then-not-state_ok.ensures ∙ e) }
+
+module _ (c : Else-not-state_ok) where
+  abbrev done : Start
+  done = asked c
+
+  -- nor does 9, as far as the state's numbers go
+  fine : state_ok done.args.p (memoryIn done).state ≡ true
+  fine = sym c.state_ok.ensures ∙ not-false c.state_ok.result c.if-not-state_ok.false-raw
+
+  looked : LookedAt done.args.p (memoryIn done) done.args.addresses.now done.args.opened done.args.drive done.args.stripe done.args.seen
+  looked =
+      let s = done in
+      let st = (memoryIn s).state in
+      let w = waits_low s.args.p st s.args.drive s.args.stripe (waits c) in
+      record {
+        addresses = refl;
+        opened_is = sym s.requires.missing_value.2;
+        looks = s.requires.looks;
+        slot_low = w.1;
+        filled-low = filled-low s.args.p st fine (slot_of st s.args.stripe) w.1;
+      }
+
+pub zone_checks-requires : goal.zone_checks-requires
+zone_checks-requires c =
+    let s = begun c in
+    let l = lent_long_lem s.args.p s.args.offline.now (diskIn s) (memoryIn s) (lent c) in
+    let w = waits_low s.args.p (memoryIn s).state s.args.drive s.args.stripe (waits c) in record { p_value = ranged c; whole = (record { image_long = l.0; pointers_long = l.1 }, l.5, l.2); drive_lt_n = (w.0, (memoryIn s, looked c)) }
+
+pub returns : goal.returns
+returns c =
+    let s = done c in record { check_value = c.zone_checks.ensures.check_value (memoryIn s) (looked c)
+          ∙ land_state_passes s.args.p s.args.offline.now (diskIn s) (memoryIn s) s.args.drive s.args.stripe (fine c) ∙ waited c; target_at = c.zone_checks.ensures.target_at (memoryIn s) (looked c) }

@@ -1,0 +1,24 @@
+-- `winner`: the best of b and positions k on is the best of the table's and all; a turn lets position k compete (`winner_turn`). Assumes nothing.
+use Prim.Native.Nat.{◌-◌, ◌≤◌}
+use Rattle.spec.specs.Drives.{View, view_of}
+use Rattle.spec.specs.Landing.{held, landed_cand, landed_cands}
+use Rattle.spec.specs.Lists.{up_from, Opt}
+use Rattle.spec.specs.Memory.{filled_in_of}
+use Rattle.spec.specs.Rank.{Cand, best, place_or, cands_of}
+use Rattle.call_land_table.specs.Winners.{rest_first, winner_turn, rest_last}
+use Rattle.disk_rank.specs.Ranked.{ranked_best}
+use Rattle.call_land_chunk.specs.Alone.{alone}
+use borrow.Author.Rules.{rules}
+use mathlib.Core.List.{map}
+use mathlib.Core.Path.{◌≡◌, sym, ap, ◌∙◌}
+use native.Mathlib.Omega.{arith}
+use Rattle.call_land_table.proofs.winner.Given as goal
+
+abbrev pub invariant-loop-k : goal.invariant-loop-k
+invariant-loop-k l =
+    (l.n ≡ filled_in_of (alone l.row) 0) × (l.k ≤ l.n)
+    × (best (ranked_best l.b) (cands_of l.address.0 (map (landed_cand l.p (view_of l.p l.offline l.image l.pointers) l.segment (alone l.row) 0) (up_from l.k (l.n - l.k))))
+    ≡ best (held l.p (view_of l.p l.offline l.image l.pointers) l.addresses l.address.0) (cands_of l.address.0 (landed_cands l.p (view_of l.p l.offline l.image l.pointers) l.segment (alone l.row) 0)))
+
+abbrev pub decreases-loop-k : goal.decreases-loop-k
+decreases-loop-k l = l.n - l.k

@@ -1,0 +1,83 @@
+-- `winners`: the first k places are the winners of addresses below L; a turn sets the next one (`set_winner`) or leaves one not below L. Assumes nothing.
+use Rattle.call_land_chunk.specs.Alone.{alone}
+use Prim.Native.Nat.{ℕ, ◌+◌, ◌-◌, ◌≤◌, ◌<◌}
+use Rattle.spec.specs.Drives.{View, view_of}
+use Rattle.spec.specs.Landing.{landed_cands}
+use Rattle.spec.specs.Layout.{Rec}
+use Rattle.spec.specs.Memory.{filled_in_of, entry_in_of, place_at_of}
+use Rattle.law_basic.specs.Geometry.{ranged, data_count_high}
+use Rattle.call_land_table.specs.Winners.{Sane, winner_of, set_winner, keep_winner}
+use lib.ListN.{length, get_or, length-set}
+use mathlib.Core.List.{List}
+use mathlib.Core.Logic.{⊎_elim}
+use mathlib.Core.Path.{◌≡◌, refl, sym, ap, ◌∙◌, subst}
+use native.Mathlib.Omega.{arith}
+use Rattle.call_land_table.proofs.winners.Goals as goal
+use Rattle.call_land_table.proofs.winners.Goals.{In-loop-k}
+
+pub loop-k-init : goal.loop-k-init
+loop-k-init c = (c.filled_in-n.ensures, omega arith, refl, λ h l. absurd (let q : ⊥ = omega arith in q))
+
+-- a filled position
+low : (c : In-loop-k) → c.loop-k.k < 8
+low c =
+    let filled_in = c.filled_in-n in
+    let args = c.args in
+    let pre = c.requires in
+    let p = args.p in
+    omega (arith, c.loop-k-test.true, filled_in.ensures, pre.zones_low.1, data_count_high p (ranged p pre.p_value))
+
+pub entry-e-requires : goal.entry-e-requires
+entry-e-requires c = low (goal.at.entry-e-requires c).In-loop-k
+
+pub winner-q-requires : goal.winner-q-requires
+winner-q-requires c =
+    let a = c.args in
+    let q = c.requires in
+    let entry = c.entry-e in
+    let loop-test = c.loop-k-test in
+    let loop = c.loop-k in
+    let filled_in = c.filled_in-n in
+    let k = loop.k in
+    let e : entry.result.address.0 ≡ (entry_in_of (alone a.row) 0 k).address-1 = ap (λ (r : Rec). r.address) entry.ensures in
+    let s = q.addresses_len.1 k (omega (arith, loop-test.true, filled_in.ensures)) (omega (arith, c.if-address-p.true, e)) in
+    let v : View = view_of a.p a.offline.now a.image.now a.pointers.now in record { p_value = ((q.p_value, (q.whole, ((q.addresses_len.0, omega (arith, c.if-address-p.true), subst (λ (x : ℕ). Sane a.p v (place_at_of a.addresses.now x)) (sym e) s), q.1.1.1)))).0; whole = ((q.p_value, (q.whole, ((q.addresses_len.0, omega (arith, c.if-address-p.true), subst (λ (x : ℕ). Sane a.p v (place_at_of a.addresses.now x)) (sym e) s), q.1.1.1)))).1.0; addresses_len = ((q.p_value, (q.whole, ((q.addresses_len.0, omega (arith, c.if-address-p.true), subst (λ (x : ℕ). Sane a.p v (place_at_of a.addresses.now x)) (sym e) s), q.1.1.1)))).1.1.0; zones_low = ((q.p_value, (q.whole, ((q.addresses_len.0, omega (arith, c.if-address-p.true), subst (λ (x : ℕ). Sane a.p v (place_at_of a.addresses.now x)) (sym e) s), q.1.1.1)))).1.1.1.0; serial_value = ((q.p_value, (q.whole, ((q.addresses_len.0, omega (arith, c.if-address-p.true), subst (λ (x : ℕ). Sane a.p v (place_at_of a.addresses.now x)) (sym e) s), q.1.1.1)))).1.1.1.1 }
+
+pub offset_bounds-out-k : goal.offset_bounds-out-k
+offset_bounds-out-k c =
+    omega (arith, low (c))
+
+pub bounds-out-k : goal.bounds-out-k
+bounds-out-k c =
+    omega (arith, low (c))
+
+pub overflow_add-k : goal.overflow_add-k
+overflow_add-k c = omega arith
+
+pub loop-k-smaller : goal.loop-k-smaller
+loop-k-smaller c = omega arith
+
+pub loop-k-preserved : goal.loop-k-preserved
+loop-k-preserved c =
+    let a = c.args in
+    let entry = c.entry-e in
+    let loop-test = c.loop-k-test in
+    let l = c.loop-k in
+    let p = a.p in
+    let st = alone a.row in
+    let i : ℕ = 0 in
+    let k = l.k in
+    let v : View = view_of p a.offline.now a.image.now a.pointers.now in
+    let f : ℕ → ℕ = winner_of p v a.addresses.now (landed_cands p v a.segment st i) in
+    let m : k < 8 = low (c) in
+    let e : entry.result.address.0 ≡ (entry_in_of st i k).address-1 = ap (λ (r : Rec). r.address) entry.ensures in
+    let g : length c.if-address-p.out ≡ 8 = ⊎_elim (λ w. ap length w.2 ∙ length-set l.out k w.1.result.0 ∙ l.invariant.2) (λ w. ap length w.1 ∙ l.invariant.2) c.if-address-p.branch in
+    let T : List ℕ → Type 0 = λ x. (h : ℕ) → h < k + 1 → (entry_in_of st i h).address-1 < p.L → get_or x h 0 ≡ f (entry_in_of st i h).address-1 in
+    let b : T c.if-address-p.out =
+    ⊎_elim
+    (λ w. subst T (sym w.2) (set_winner p st i f l.out k l.invariant.3 w.1.result.0 (omega (arith, m, l.invariant.2)) (w.1.ensures ∙ ap f e)))
+    (λ w. subst T (sym w.1) (keep_winner p st i f l.out k l.invariant.3 (omega (arith, w.0.left, e)))) c.if-address-p.branch in
+    (l.invariant.0, omega (arith, loop-test.true), g, b)
+
+pub returns : goal.returns
+returns c k h = c.loop-k.invariant.3 k (omega (arith, c.loop-k-test.false, c.filled_in-n.ensures))

@@ -1,0 +1,24 @@
+-- `winners`: the first k places are the winners of addresses below L; a turn sets the next one (`set_winner`) or leaves one not below L. Assumes nothing.
+use Rattle.call_land_chunk.specs.Alone.{alone}
+use Prim.Native.Nat.{ℕ, ◌+◌, ◌-◌, ◌≤◌, ◌<◌}
+use Rattle.spec.specs.Drives.{View, view_of}
+use Rattle.spec.specs.Landing.{landed_cands}
+use Rattle.spec.specs.Layout.{Rec}
+use Rattle.spec.specs.Memory.{filled_in_of, entry_in_of, place_at_of}
+use Rattle.law_basic.specs.Geometry.{ranged, data_count_high}
+use Rattle.call_land_table.specs.Winners.{Sane, winner_of, set_winner, keep_winner}
+use lib.ListN.{length, get_or, length-set}
+use mathlib.Core.List.{List}
+use mathlib.Core.Logic.{⊎_elim}
+use mathlib.Core.Path.{◌≡◌, refl, sym, ap, ◌∙◌, subst}
+use native.Mathlib.Omega.{arith}
+use Rattle.call_land_table.proofs.winners.Given as goal
+
+abbrev pub invariant-loop-k : goal.invariant-loop-k
+invariant-loop-k l =
+    (l.n ≡ filled_in_of (alone l.row) 0) × (l.k ≤ l.n) × (length l.out ≡ 8)
+    × ((h : ℕ) → h < l.k → (entry_in_of (alone l.row) 0 h).address < l.p.L
+    → get_or l.out h 0 ≡ winner_of l.p (view_of l.p l.offline l.image l.pointers) l.addresses (landed_cands l.p (view_of l.p l.offline l.image l.pointers) l.segment (alone l.row) 0) (entry_in_of (alone l.row) 0 h).address)
+
+abbrev pub decreases-loop-k : goal.decreases-loop-k
+decreases-loop-k l = l.n - l.k

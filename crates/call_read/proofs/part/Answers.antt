@@ -1,0 +1,120 @@
+-- `part`: an answer of kind 8 names a block within the image (`part_within`); any other has length 0 (`part_none`), by its variants. Assumes nothing.
+use Prim.Native.Nat.{ℕ, ◌+◌, ◌≤◌}
+use Rattle.spec.specs.Answers.{kind}
+use Rattle.spec.specs.Bytes.{part}
+use Rattle.spec.specs.Calls.{After}
+use Rattle.spec.specs.Drives.{Disk, mk_disk}
+use Rattle.spec.specs.Engine.{call_disk}
+use Rattle.spec.specs.Engine.Call.{read}
+use Rattle.spec.specs.Lists.{any, is_member_of}
+use Rattle.spec.specs.Memory.{mk_memory, state_of}
+use Rattle.spec.specs.declared.Answer.{Answer}
+use Rattle.spec.specs.declared.Answer.TheVariants.{Refused, BadZone, Cut, Sent, Landed, Closed, Copied, Reset, Part, Never, Lost, Filled, Restarted, Rebuilt, Nothing}
+use Rattle.spec.specs.contracts.Answer.{the_type}
+use Rattle.law_basic.specs.Ranges.{not_both}
+use Rattle.law_basic.specs.Splice.{part-zero, part_lent}
+use Rattle.call_read.specs.Ends.{part_within}
+use Rattle.call_read.specs.Part.{part_here, part_none}
+use Rattle.spec.specs.Host.{part_at, part_len}
+use borrow.Author.Rules.{rules}
+use borrow.Author.Tests.{eq-eqb}
+use denote.Enum.Declared.{tag_of}
+use lib.Dec.{eqb}
+use lib.ListN.{length}
+use mathlib.Core.Bool.{Bool, true, false, ◌||◌}
+use mathlib.Core.List.{List, [], ◌∷◌}
+use mathlib.Core.Logic.{inl, inr}
+use mathlib.Core.Path.{◌≡◌, refl, sym, ap, ◌∙◌}
+use native.Mathlib.Nat.{add-zero, add_comm}
+use native.Mathlib.Omega.{arith}
+use types.Run.{OneOf}
+use Rattle.call_read.proofs.part.Goals as goal
+use Rattle.call_read.proofs.part.Goals.{After-find-answer, In-Part-2}
+
+answered :
+    (c : After-find-answer)
+    → c.find-answer.result ≡ (call_disk c.args.p
+    c.args.offline.now
+    (mk_disk c.args.image.now
+    c.args.pointers.now)
+    (mk_memory (state_of c.args.state.now)
+    c.args.addresses.now
+    c.args.compact.now
+    c.args.inflight.now)
+    (read c.args.address.0)).answer-1
+answered c = ap (λ (x : After Disk). x.answer) c.find-answer.ensures
+
+within :
+    (c : In-Part-2)
+    → c.in-Part.at + c.args.p.B ≤ length
+    c.args.image.now
+within c =
+    let a = c.args in
+    part_within a.p a.offline.now (mk_disk a.image.now a.pointers.now)
+    (mk_memory (state_of a.state.now) a.addresses.now a.compact.now a.inflight.now) a.address.0 c.in-Part.at c.in-Part.field-1
+    (sym (answered c) ∙ c.in-Part.is)
+
+pub overflow_add-e : goal.overflow_add-e
+overflow_add-e c = omega (arith, within (goal.at.overflow_add-e c).In-Part-2)
+
+pub slice_bounds-result-end : goal.slice_bounds-result-end
+slice_bounds-result-end c = within (goal.at.slice_bounds-result-end c).In-Part-2
+
+pub returns-in-Part : goal.returns-in-Part
+returns-in-Part c =
+    let a = c.args in
+    let at = c.in-Part.at in
+    let e = sym (answered (c)) ∙ c.in-Part.is in
+    let e₁ = ap part_at e ∙ (part_here a.p at c.in-Part.field-1).0 in
+    let e₂ = ap (part_len a.p) e ∙ (part_here a.p at c.in-Part.field-1).1 in
+    record {
+      bytes = part_lent at a.p.B a.image.now ∙ (λ j. part (sym e₁ j) (sym e₂ j) a.image.now);
+      object = refl;
+      offset = add_comm at a.image.ptr.1 ∙ ap (λ (x : ℕ). a.image.ptr.1 + x) (sym e₁);
+    }
+
+or_true : (a b : Bool) → b ≡ true → (a || b) ≡ true
+or_true true b e = refl
+or_true false b e = e
+
+one_of : (ks : List ℕ) (x : ℕ) → OneOf ks x → is_member_of x ks ≡ true
+unfolding is_member_of any
+one_of [] x h = absurd h
+one_of (k ∷ []) x e = ap (λ (b : Bool). b || is_member_of x []) (eq-eqb x k e)
+one_of (k ∷ l ∷ ks) x (inl e) = ap (λ (b : Bool). b || is_member_of x (l ∷ ks)) (eq-eqb x k e)
+one_of (k ∷ l ∷ ks) x (inr h) = or_true (eqb x k) (is_member_of x (l ∷ ks)) (one_of (l ∷ ks) x h)
+
+-- an answer of another kind
+abbrev others : List ℕ
+others = 0 ∷ 1 ∷ 2 ∷ 3 ∷ 4 ∷ 5 ∷ 6 ∷ 7 ∷ 9 ∷ 10 ∷ 11 ∷ 12 ∷ 13 ∷ 14 ∷ []
+
+no_part : (r : Answer) → OneOf others (tag_of the_type r) → eqb (kind r) 8 ≡ false
+unfolding kind is_member_of any
+no_part (Refused n) h = refl
+no_part (BadZone z) h = refl
+no_part Cut h = refl
+no_part (Sent t s d) h = refl
+no_part (Landed n) h = refl
+no_part (Closed s) h = refl
+no_part (Copied t s d) h = refl
+no_part (Reset z) h = refl
+no_part (Part n t) h = absurd (not_both (is_member_of 8 others) (one_of others 8 h) refl)
+no_part Never h = refl
+no_part (Lost t) h = refl
+no_part (Filled t) h = refl
+no_part (Restarted n) h = refl
+no_part Rebuilt h = refl
+no_part Nothing h = refl
+
+pub returns : goal.returns
+returns c =
+    let a = c.args in
+    let find = c.find-answer in
+    let e = part_none a.p find.result (no_part find.result c.in_default.keys2) in
+    let e₁ = e.0 ∙ ap part_at (answered (c)) in
+    let e₂ = e.1 ∙ ap (part_len a.p) (answered (c)) in
+    record {
+      bytes = sym (part-zero 0 a.image.now) ∙ (λ j. part (e₁ j) (e₂ j) a.image.now);
+      object = refl;
+      offset = sym (add-zero a.image.ptr.1) ∙ ap (λ (x : ℕ). a.image.ptr.1 + x) e₁;
+    }

@@ -1,0 +1,21 @@
+-- `shown_offsets`: the first d entries say where the drives show the stripe; each turn sets the next. Assumes nothing.
+use mathlib.Core.Path.{◌≡◌, refl, ◌∙◌}
+use Prim.Native.Nat.{ℕ, ◌-◌, ◌≤◌, ◌<◌}
+use mathlib.Core.List.{List}
+use native.Mathlib.Omega.{arith}
+use lib.ListN.{length, get_or, length-set}
+use Rattle.spec.specs.Drives.{view_of}
+use Rattle.spec.specs.Params.{image_len}
+use Rattle.law_basic.specs.Each.{set_next}
+use Rattle.law_basic.specs.Geometry.{ranged}
+use Rattle.call_read.specs.Decode.{ShownOn}
+use Rattle.call_read.proofs.shown_offsets.Given as goal
+
+abbrev pub invariant-loop-d : goal.invariant-loop-d
+invariant-loop-d l =
+    (l.d ≤ l.p.N)
+    × (length l.at ≡ length l.initial.at)
+    × ((e : ℕ) → e < l.d → (off im : List ℕ) → length im ≡ image_len l.p → ShownOn l.p (view_of l.p off im l.pointers) l.gone l.compact l.segment l.s e (get_or l.at e 0))
+
+abbrev pub decreases-loop-d : goal.decreases-loop-d
+decreases-loop-d l = l.p.N - l.d

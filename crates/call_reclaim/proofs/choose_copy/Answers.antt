@@ -1,0 +1,118 @@
+-- `choose_copy`: no idle block is `idle_fails`; else the rules of a copy, then the
+-- zones at fault (`zones_odd`); none left, the first idle one is it. Assumes nothing.
+use Prim.Native.Nat.{ℕ, ◌<◌}
+use Rattle.mem_calls.specs.Left.{checked}
+use Rattle.spec.specs.Calls.{first_refusal}
+use Rattle.spec.specs.Calls.Check.{zones}
+use Rattle.spec.specs.Counts.{never_place}
+use Rattle.spec.specs.Drives.{View, view_of}
+use Rattle.spec.specs.Lists.{Opt, is_nil}
+use Rattle.spec.specs.Lists.Opt.{none, some}
+use Rattle.spec.specs.Memory.{state_of}
+use Rattle.spec.specs.Reclaim.{Victim, victim, is_none, victim_live, idle}
+use Rattle.spec.specs.declared.Answer.{Answer}
+use Rattle.spec.specs.declared.Answer.TheVariants.{BadZone}
+use Rattle.spec.specs.declared.State.{State}
+use Rattle.call_reclaim.specs.Choosing.{copy_rules, bad_zones, later_checks, zones_odd, length_some, first_found, idle_fails, idle_passes}
+use Rattle.law_basic.specs.Geometry.{ranged}
+use Rattle.law_calls.specs.Refusals.{or_next}
+use Rattle.call_filling.specs.Aims.{front_aim}
+use borrow.Author.Rules.{rules}
+use borrow.Author.Tests.{lt-leb, eq-eqb, ne_eqb}
+use lib.Dec.{eqb}
+use mathlib.Core.Bool.{Bool, false, cond}
+use mathlib.Core.List.{[], ◌∷◌}
+use mathlib.Core.Path.{◌≡◌, sym, ap, ◌∙◌, subst}
+use Rattle.call_reclaim.proofs.choose_copy.Goals as goal
+use Rattle.call_reclaim.proofs.choose_copy.Goals.{After-copy_rules-c, After-has_fault, Start}
+
+abbrev view : (c : Start) → View
+view c = view_of c.args.p c.args.offline.now c.args.image.now c.args.pointers.now
+
+abbrev state : (c : Start) → State
+state c = state_of c.args.bytes.now
+
+abbrev taken : (c : Start) → Opt Victim
+taken c = victim c.args.p (view c) c.args.addresses.now
+
+-- there is a segment, with live blocks
+some-taken : (c : Start) → is_none (taken c) ≡ false
+some-taken c =
+    let l = c.requires.looked in
+    l.0.nobody ∙ lt-leb c.args.p.Z c.args.seen.zone l.1
+
+some-live : (c : Start) → is_nil (victim_live (taken c)) ≡ false
+some-live c =
+    let l = c.requires.looked in
+    length_some (victim_live (taken c)) (subst (λ (x : ℕ). 0 < x) (sym l.0.live) l.2)
+
+-- all checks, where there is an idle block
+abbrev later : (c : Start) → Opt Answer
+later c = first_refusal (later_checks c.args.p (view c) (state c) c.args.addresses.now (taken c))
+
+from-rules : (c : Start) → (c.args.seen.first.0 ≡ never_place → ⊥)
+    → later c ≡ or_next (first_refusal (copy_rules c.args.p (view c) (state c))) (first_refusal (zones (bad_zones c.args.p (view c) (state c) c.args.addresses.now (taken c)) ∷ []))
+from-rules c n =
+    let a = c.args in
+    idle_passes a.p (view c) (state c) a.addresses.now (taken c) (some-taken c) (some-live c) (c.requires.looked.0.none_idle ∙ ne_eqb a.seen.first.0 never_place n)
+
+pub returns-then-first-none : goal.returns-then-first-none
+returns-then-first-none c =
+    let a = c.args in
+    idle_fails a.p (view (goal.at.returns-then-first-none c).Start) (state (goal.at.returns-then-first-none c).Start) a.addresses.now (taken (goal.at.returns-then-first-none c).Start) (some-taken (goal.at.returns-then-first-none c).Start) (some-live (goal.at.returns-then-first-none c).Start) (c.requires.looked.0.none_idle ∙ eq-eqb a.seen.first.0 never_place c.if-first-none.true)
+
+pub copy_rules-c-requires : goal.copy_rules-c-requires
+copy_rules-c-requires c =
+    let a = c.args in
+    let q = c.requires.f_value in record { p_value = c.requires.p_value; pointers_len = (c.requires.whole.0.pointers_long, c.requires.whole.1, q.1 ∙ sym (front_aim a.p (state (goal.at.copy_rules-c-requires c).Start) a.f q.0)) }
+
+-- the rules of a copy, as they come out
+rules-are : (c : After-copy_rules-c) → checked c.copy_rules-c.result ≡ first_refusal (copy_rules c.args.p (view c) (state c))
+rules-are c =
+    c.copy_rules-c.ensures (state c) c.args.image.now c.requires.f_value.0 c.requires.whole.0.image_long
+
+pub returns-in-Fail : goal.returns-in-Fail
+returns-in-Fail c =
+    let a = c.args in
+    let q = c.c-1.given in
+    let e : first_refusal (copy_rules a.p (view (goal.at.returns-in-Fail c).Start) (state (goal.at.returns-in-Fail c).Start)) ≡ some q.0.0 = sym (rules-are (goal.at.returns-in-Fail c).After-copy_rules-c) ∙ ap checked q.1 in
+    from-rules (goal.at.returns-in-Fail c).Start c.if-first-none.false ∙ ap (λ (x : Opt Answer). or_next x (first_refusal (zones (bad_zones a.p (view (goal.at.returns-in-Fail c).Start) (state (goal.at.returns-in-Fail c).Start) a.addresses.now (taken (goal.at.returns-in-Fail c).Start)) ∷ []))) e
+
+pub has_fault-requires : goal.has_fault-requires
+has_fault-requires c = record { p_value = c.requires.p_value; bytes_len = c.requires.f_value.2 }
+
+-- the zones at fault, once the rules pass
+from_zones : (c : After-has_fault) → let o = c.args.seen.odd in later c ≡ cond c.has_fault.result (some (BadZone 0)) (cond (eqb o 1024) none (some (BadZone o)))
+from_zones c =
+    let a = c.args in
+    let k = c.requires.looked in
+    let e : first_refusal (copy_rules a.p (view c) (state c)) ≡ none = sym (rules-are c) ∙ ap checked c.in_default.is in
+    from-rules c c.if-first-none.false ∙ ap (λ (x : Opt Answer). or_next x (first_refusal (zones (bad_zones a.p (view c) (state c) a.addresses.now (taken c)) ∷ []))) e
+    ∙ zones_odd a.p (ranged a.p c.requires.p_value) (view c) (state c) a.addresses.now (taken c) c.has_fault.result a.seen.odd
+    (λ zs. c.has_fault.ensures (view c) a.addresses.now zs (k.0.outside k.1)) k.0.odd
+
+pub returns-then-has_fault : goal.returns-then-has_fault
+returns-then-has_fault c =
+    let o = c.args.seen.odd in
+    from_zones (goal.at.returns-then-has_fault c).After-has_fault ∙ ap (λ (x : Bool). cond x (some (BadZone 0)) (cond (eqb o 1024) none (some (BadZone o)))) c.if-has_fault.true
+
+pub returns-then-seen-ne1024 : goal.returns-then-seen-ne1024
+returns-then-seen-ne1024 c =
+    let o = c.args.seen.odd in
+    from_zones (c) ∙ (let f = c.if-has_fault.false in let n = ne_eqb o 1024 c.if-seen-ne1024.true in λ j. cond (f j) (some (BadZone 0)) (cond (n j) none (some (BadZone o))))
+
+pub returns : goal.returns
+returns c =
+    let a = c.args in
+    let k = c.requires.looked in
+    let o = a.seen.odd in
+    let n = c.if-first-none.false in
+    let g = k.0.found n in (
+      from_zones (c) ∙ (let f = c.if-has_fault.false in let z = eq-eqb o 1024 c.if-seen-ne1024.false in λ j. cond (f j) (some (BadZone 0)) (cond (z j) none (some (BadZone o)))),
+      some-live (goal.at.returns c).Start,
+      first_found (idle a.p (view (goal.at.returns c).Start) (state (goal.at.returns c).Start) (taken (goal.at.returns c).Start)) never_place a.seen.first.0 k.0.first n,
+      g.1,
+      g.3 c.if-seen-ne1024.false,
+      g.2,
+      k.0.zones_low k.1,
+    )

@@ -1,0 +1,10 @@
+-- `put_groups`: an index has 2048 numbers, for which there is room. Assumes nothing.
+use mathlib.Core.Path.{refl}
+use borrow.Author.Rules.{rules}
+use Rattle.spec.specs.Engine.Call.{close}
+use Rattle.spec.specs.History.{before}
+use Rattle.recover_decode.proofs.put_groups.Goals as goal
+
+pub put_groups_with-requires : goal.put_groups_with-requires
+put_groups_with-requires c =
+    let q = c.requires in record { p_value = ((q.p_value, (q.whole, (q.lacks, ((refl, q.zones_low.0, q.zones_low.1), q.1.1.1.1))))).0; whole = ((q.p_value, (q.whole, (q.lacks, ((refl, q.zones_low.0, q.zones_low.1), q.1.1.1.1))))).1.0; lacks = ((q.p_value, (q.whole, (q.lacks, ((refl, q.zones_low.0, q.zones_low.1), q.1.1.1.1))))).1.1.0; at_len = ((q.p_value, (q.whole, (q.lacks, ((refl, q.zones_low.0, q.zones_low.1), q.1.1.1.1))))).1.1.1.0; by_index = ((q.p_value, (q.whole, (q.lacks, ((refl, q.zones_low.0, q.zones_low.1), q.1.1.1.1))))).1.1.1.1.0; by_index_2 = ((q.p_value, (q.whole, (q.lacks, ((refl, q.zones_low.0, q.zones_low.1), q.1.1.1.1))))).1.1.1.1.1.0; by_index_3 = ((q.p_value, (q.whole, (q.lacks, ((refl, q.zones_low.0, q.zones_low.1), q.1.1.1.1))))).1.1.1.1.1.1 }

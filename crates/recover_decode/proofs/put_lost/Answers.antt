@@ -1,0 +1,42 @@
+-- `put_lost`: a block is at most 4096 bytes, so there is room for it. Assumes nothing.
+use mathlib.Core.Path.{sym}
+use mathlib.Core.List.{List}
+use Prim.Native.Nat.{ℕ}
+use borrow.Author.Rules.{rules}
+use native.Mathlib.Omega.{arith}
+use lib.ListN.{replicate}
+use lib.Seq.{length-take-le}
+use Rattle.spec.specs.Engine.Call.{close}
+use Rattle.spec.specs.History.{before}
+use Rattle.law_basic.specs.Geometry.{ranged}
+use Rattle.recover_decode.proofs.put_lost.Goals as goal
+
+pub slice_bounds-block-end : goal.slice_bounds-block-end
+slice_bounds-block-end c =
+    let args = c.args in
+    let pre = c.requires in
+    let r = ranged args.p pre.p_value in
+    omega (arith, r.block_high)
+
+pub slice_bounds-put_lost_with-end : goal.slice_bounds-put_lost_with-end
+slice_bounds-put_lost_with-end c =
+    let args = c.args in
+    let pre = c.requires in
+    let p = args.p in
+    let r = ranged p pre.p_value in
+    let s : List ℕ = replicate 4096 0 in
+    sym (length-take-le p.B s r.block_high)
+
+pub put_lost_with-requires : goal.put_lost_with-requires
+put_lost_with-requires c =
+    let args = c.args in
+    let q = c.requires in
+    let p = args.p in
+    let r = ranged p q.p_value in
+    let h = q.at_len in
+    let s : List ℕ = replicate 4096 0 in record { p_value = ((q.p_value, (q.whole, (q.lacks, ((length-take-le p.B s r.block_high, h.0, h.1, h.2, h.3, h.4, h.5), q.1.1.1.1))))).0; whole = ((q.p_value, (q.whole, (q.lacks, ((length-take-le p.B s r.block_high, h.0, h.1, h.2, h.3, h.4, h.5), q.1.1.1.1))))).1.0; lacks = ((q.p_value, (q.whole, (q.lacks, ((length-take-le p.B s r.block_high, h.0, h.1, h.2, h.3, h.4, h.5), q.1.1.1.1))))).1.1.0; block_len = ((q.p_value, (q.whole, (q.lacks, ((length-take-le p.B s r.block_high, h.0, h.1, h.2, h.3, h.4, h.5), q.1.1.1.1))))).1.1.1.0; by_index = ((q.p_value, (q.whole, (q.lacks, ((length-take-le p.B s r.block_high, h.0, h.1, h.2, h.3, h.4, h.5), q.1.1.1.1))))).1.1.1.1.0; by_index_2 = ((q.p_value, (q.whole, (q.lacks, ((length-take-le p.B s r.block_high, h.0, h.1, h.2, h.3, h.4, h.5), q.1.1.1.1))))).1.1.1.1.1 }
+
+pub returns : goal.returns
+returns c =
+    let put-lost-with = c.put_lost_with in
+    put-lost-with.ensures

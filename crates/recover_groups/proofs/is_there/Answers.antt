@@ -1,0 +1,20 @@
+-- `is_there`: a missing drive makes the first part true; else it is false, and the index decides. Assumes nothing.
+use mathlib.Core.Path.{sym, ap, ◌∙◌}
+use mathlib.Core.Bool.{Bool, not, ◌||◌}
+use Prim.Native.Nat.{◌+◌, ◌*◌}
+use lib.Dec.{eqb}
+use lib.ListN.{get_or}
+use Rattle.spec.specs.History.{before}
+use borrow.Author.Rules.{rules}
+use Rattle.recover_groups.proofs.is_there.Goals as goal
+
+pub returns-then-has_drive : goal.returns-then-has_drive
+returns-then-has_drive c =
+    let args = c.args in
+    sym (ap (λ (b : Bool). b || not (eqb (get_or args.at.now (256 * args.drive + args.k) 0) 0)) (sym c.has_drive.ensures ∙ c.if-has_drive.true))
+
+pub returns : goal.returns
+returns c =
+    let has-drive = c.has_drive in
+    let args = c.args in
+    c.has_chunk.ensures.value ∙ sym (ap (λ (b : Bool). b || not (eqb (get_or args.at.now (256 * args.drive + args.k) 0) 0)) (sym has-drive.ensures ∙ c.if-has_drive.false))

@@ -1,0 +1,460 @@
+-- `healthy_stores`: the resets are cut or made, and leave the kept segments; then none is unsealed, or one: whole (footers), plain (nothing)
+-- or ragged: rewritten into each drive's lowest free zone, empty by then, under the greatest serial + 1, which is not the last. Assumes nothing.
+use Prim.Native.Nat.{suc, ◌+◌, ◌*◌, ◌<◌}
+use Rattle.spec.specs.Bytes.{part}
+use Rattle.spec.specs.Counts.{last_count}
+use Rattle.spec.specs.Drives.{mk_disk, seg}
+use Rattle.spec.specs.Segments.{segment_of}
+use Rattle.law_basic.specs.Geometry.{ranged}
+use Rattle.law_drives.specs.Settled.{zero_here}
+use Rattle.recover_drop.specs.Dropped.{taken_drops}
+use Rattle.recover_segments.specs.Kept.{kept-rows-low}
+use Rattle.recover_stores.specs.Refit.{none_open, row_open, row_serial, refit_cut, refit_whole, refit_none, unsealed-low, refit_plain, feet_fit, feet_pointers, refit_feet}
+use Rattle.recover_stores.specs.Refit.{serial_left, to_apart, to_empty, still_open, still_good, old_serial, moves_fit, refit-rewrite}
+use Rattle.law_views.specs.Views.{seen}
+use borrow.Author.Rules.{rules}
+use borrow.Author.Tests.{not-true, not-false}
+use lib.Arith.{lt_of_le-ne}
+use lib.ListN.{get_or}
+use mathlib.Core.Path.{sym, ap, ◌∙◌}
+use native.Mathlib.Numerals.{add-one}
+use native.Mathlib.Omega.{arith}
+use Rattle.recover_stores.proofs.healthy_stores.Goals as goal
+
+pub first_unsealed-z-requires : goal.first_unsealed-z-requires
+first_unsealed-z-requires c =
+    let a = c.args in
+    let q = c.requires in
+    let v = seen a.p a.offline.now (mk_disk a.image.now a.pointers.now) in record { p_value = q.p_value; pointers_len = (q.whole.0.pointers_long, kept-rows-low a.p v 0 a.rows.now a.kept.now q.keeps.1 q.keeps.0 (zero_here a.p (ranged a.p q.p_value))) }
+
+pub drop_stores-made-requires : goal.drop_stores-made-requires
+drop_stores-made-requires c =
+    let a = c.args in
+    let q = c.requires in
+    let v = seen a.p a.offline.now (mk_disk a.image.now a.pointers.now) in record { p_value = q.p_value; whole = q.whole; drops = taken_drops a.p (ranged a.p q.p_value) v q.refit_ready.accepted a.taken.now q.serials.1.0 q.serials.1.1 }
+
+pub returns-then-made : goal.returns-then-made
+returns-then-made c =
+    let a = c.args in
+    let q = c.requires in
+    let p = a.p in
+    let drop = c.drop_stores-made in
+    let r = ranged p q.p_value in
+    let w = q.whole.0 in
+    let sn = q.refit_ready in
+    let k = mk_disk a.image.now a.pointers.now in
+    let k₁ = mk_disk a.image.now drop.new.pointers in
+    refit_cut p r a.offline.now a.count k w sn drop.result k₁ drop.ensures c.if-made.true
+
+pub returns-then-p-z : goal.returns-then-p-z
+returns-then-p-z c =
+    let a = c.args in
+    let q = c.requires in
+    let p = a.p in
+    let first = c.first_unsealed-z in
+    let drop = c.drop_stores-made in
+    let c₁ = c.if-made.false in
+    let r = ranged p q.p_value in
+    let w = q.whole.0 in
+    let sn = q.refit_ready in
+    let k = mk_disk a.image.now a.pointers.now in
+    let k₁ = mk_disk a.image.now drop.new.pointers in
+    let v = seen p a.offline.now k in
+    refit_none p r a.offline.now a.count k w sn drop.result k₁ drop.ensures c₁
+    (none_open p r v a.rows.now a.kept.now q.keeps.1 q.keeps.0 first.result
+    (first.ensures.by_index a.offline.now a.image.now w.image_long q.keeps.0 q.keeps.1) first.ensures.upper_bound c.if-p-z.true)
+
+pub row-segment-requires : goal.row-segment-requires
+row-segment-requires c =
+    let z = (ranged c.args.p c.requires.p_value).zones_high in
+    (omega (arith, c.requires.keeps.1.0, c.if-p-z.false), omega (arith, z, c.if-p-z.false))
+
+pub missing_footers-requires : goal.missing_footers-requires
+missing_footers-requires c =
+    let a = c.args in
+    let q = c.requires in
+    let p = a.p in
+    let first = c.first_unsealed-z in
+    let drop = c.drop_stores-made in
+    let c₁ = c.if-made.false in
+    let r = ranged p q.p_value in
+    let w = q.whole.0 in
+    let sn = q.refit_ready in
+    let k = mk_disk a.image.now a.pointers.now in
+    let k₁ = mk_disk a.image.now drop.new.pointers in
+    let v = seen p a.offline.now k in
+    let low : first.result < p.Z = omega (arith, c.if-p-z.false) in
+    let sg = seg (part (8 * first.result) 8 a.rows.now) in
+    let found = first.ensures.by_index a.offline.now a.image.now w.image_long q.keeps.0 q.keeps.1 in
+    let o = row_open p r v a.rows.now a.kept.now q.keeps.1 q.keeps.0 first.result found low sn.shaped sn.accepted in
+    let said = q.mend_marks (segment_of p v 0 sg) o.open_is in
+    let wh = sym said.0 ∙ c.if-whole.true in record { p_value = (rw c.row-segment.ensures (
+      q.p_value,
+      (
+        refit_whole p r a.offline.now a.count k w sn drop.result k₁ drop.ensures c₁,
+        (
+          (
+            unsealed-low p r a.offline.now a.count k w sn drop.result k₁ drop.ensures c₁ sg o,
+            feet_pointers p r a.offline.now a.count k w sn drop.result k₁ drop.ensures
+                c₁ sg o wh,
+          ),
+          feet_fit p r a.offline.now a.count k w sn drop.result k₁ drop.ensures c₁ sg o wh,
+        ),
+      ),
+    )).0; whole = (rw c.row-segment.ensures (
+      q.p_value,
+      (
+        refit_whole p r a.offline.now a.count k w sn drop.result k₁ drop.ensures c₁,
+        (
+          (
+            unsealed-low p r a.offline.now a.count k w sn drop.result k₁ drop.ensures c₁ sg o,
+            feet_pointers p r a.offline.now a.count k w sn drop.result k₁ drop.ensures
+                c₁ sg o wh,
+          ),
+          feet_fit p r a.offline.now a.count k w sn drop.result k₁ drop.ensures c₁ sg o wh,
+        ),
+      ),
+    )).1.0; zones_low = (rw c.row-segment.ensures (
+      q.p_value,
+      (
+        refit_whole p r a.offline.now a.count k w sn drop.result k₁ drop.ensures c₁,
+        (
+          (
+            unsealed-low p r a.offline.now a.count k w sn drop.result k₁ drop.ensures c₁ sg o,
+            feet_pointers p r a.offline.now a.count k w sn drop.result k₁ drop.ensures
+                c₁ sg o wh,
+          ),
+          feet_fit p r a.offline.now a.count k w sn drop.result k₁ drop.ensures c₁ sg o wh,
+        ),
+      ),
+    )).1.1.0; by_index = (rw c.row-segment.ensures (
+      q.p_value,
+      (
+        refit_whole p r a.offline.now a.count k w sn drop.result k₁ drop.ensures c₁,
+        (
+          (
+            unsealed-low p r a.offline.now a.count k w sn drop.result k₁ drop.ensures c₁ sg o,
+            feet_pointers p r a.offline.now a.count k w sn drop.result k₁ drop.ensures
+                c₁ sg o wh,
+          ),
+          feet_fit p r a.offline.now a.count k w sn drop.result k₁ drop.ensures c₁ sg o wh,
+        ),
+      ),
+    )).1.1.1 }
+
+pub returns-then-whole : goal.returns-then-whole
+returns-then-whole c =
+    let a = c.args in
+    let q = c.requires in
+    let p = a.p in
+    let first = c.first_unsealed-z in
+    let drop = c.drop_stores-made in
+    let c₁ = c.if-made.false in
+    let r = ranged p q.p_value in
+    let w = q.whole.0 in
+    let sn = q.refit_ready in
+    let k = mk_disk a.image.now a.pointers.now in
+    let k₁ = mk_disk a.image.now drop.new.pointers in
+    let v = seen p a.offline.now k in
+    let low : first.result < p.Z = omega (arith, c.if-p-z.false) in
+    let sg = seg (part (8 * first.result) 8 a.rows.now) in
+    let found = first.ensures.by_index a.offline.now a.image.now w.image_long q.keeps.0 q.keeps.1 in
+    let o = row_open p r v a.rows.now a.kept.now q.keeps.1 q.keeps.0 first.result found low sn.shaped sn.accepted in
+    let said = q.mend_marks (segment_of p v 0 sg) o.open_is in
+    let wh = sym said.0 ∙ c.if-whole.true in
+    let feet = c.missing_footers in
+    refit_feet p r a.offline.now a.count k w sn drop.result k₁ drop.ensures c₁ sg o wh feet.result (mk_disk feet.new.image feet.new.pointers)
+    (rw c.row-segment.ensures c (feet.ensures a.offline.now))
+
+pub returns-then-not-ragged : goal.returns-then-not-ragged
+returns-then-not-ragged c =
+    let a = c.args in
+    let q = c.requires in
+    let p = a.p in
+    let first = c.first_unsealed-z in
+    let drop = c.drop_stores-made in
+    let c₁ = c.if-made.false in
+    let r = ranged p q.p_value in
+    let w = q.whole.0 in
+    let sn = q.refit_ready in
+    let k = mk_disk a.image.now a.pointers.now in
+    let k₁ = mk_disk a.image.now drop.new.pointers in
+    let v = seen p a.offline.now k in
+    let low : first.result < p.Z = omega (arith, c.if-p-z.false) in
+    let sg = seg (part (8 * first.result) 8 a.rows.now) in
+    let found = first.ensures.by_index a.offline.now a.image.now w.image_long q.keeps.0 q.keeps.1 in
+    let o = row_open p r v a.rows.now a.kept.now q.keeps.1 q.keeps.0 first.result found low sn.shaped sn.accepted in
+    let said = q.mend_marks (segment_of p v 0 sg) o.open_is in
+    refit_plain p r a.offline.now a.count k w sn drop.result k₁ drop.ensures c₁ sg o (sym said.0 ∙ c.if-whole.false) (sym said.1 ∙ not-true a.ragged c.if-not-ragged.true-raw)
+
+pub free_segment-to-requires : goal.free_segment-to-requires
+free_segment-to-requires c =
+    let q = c.requires in record { p_value = q.p_value; offline_len = (q.whole.1, q.serials.1.0) }
+
+pub greatest_serial-most-requires : goal.greatest_serial-most-requires
+greatest_serial-most-requires c =
+    let q = c.requires in
+    (q.keeps.0.0, q.serials.0.0)
+
+pub overflow_add-serial : goal.overflow_add-serial
+overflow_add-serial c =
+    let a = c.args in
+    let q = c.requires in
+    let p = a.p in
+    let first = c.first_unsealed-z in
+    let drop = c.drop_stores-made in
+    let c₁ = c.if-made.false in
+    let r = ranged p q.p_value in
+    let w = q.whole.0 in
+    let sn = q.refit_ready in
+    let k = mk_disk a.image.now a.pointers.now in
+    let k₁ = mk_disk a.image.now drop.new.pointers in
+    let v = seen p a.offline.now k in
+    let low : first.result < p.Z = omega (arith, c.if-p-z.false) in
+    let sg = seg (part (8 * first.result) 8 a.rows.now) in
+    let found = first.ensures.by_index a.offline.now a.image.now w.image_long q.keeps.0 q.keeps.1 in
+    let o = row_open p r v a.rows.now a.kept.now q.keeps.1 q.keeps.0 first.result found low sn.shaped sn.accepted in
+    let said = q.mend_marks (segment_of p v 0 sg) o.open_is in
+    let nw = sym said.0 ∙ c.if-whole.false in
+    let rg = sym said.1 ∙ not-false a.ragged c.if-not-ragged.false-raw in
+    let most = c.greatest_serial-most in
+    let h : most.result.0 < last_count = lt_of_le-ne (omega (arith, c.struct_known-2-1.given))
+    (λ x. serial_left p r a.offline.now a.count k w sn drop.result k₁ drop.ensures c₁ sg o nw rg
+    (sym (most.ensures v 0 (zero_here p r) q.keeps.0 q.serials.0) ∙ x)) in
+    omega arith
+
+pub offset_bounds-serials-z : goal.offset_bounds-serials-z
+offset_bounds-serials-z c =
+    omega (arith, (ranged c.args.p c.requires.p_value).zones_high, c.if-p-z.false)
+
+pub bounds-serials-z : goal.bounds-serials-z
+bounds-serials-z c =
+    omega (arith, c.requires.serials.0.0, c.if-p-z.false)
+
+pub rewrite-requires : goal.rewrite-requires
+rewrite-requires c =
+    let a = c.args in
+    let q = c.requires in
+    let p = a.p in
+    let first = c.first_unsealed-z in
+    let drop = c.drop_stores-made in
+    let c₁ = c.if-made.false in
+    let r = ranged p q.p_value in
+    let w = q.whole.0 in
+    let sn = q.refit_ready in
+    let k = mk_disk a.image.now a.pointers.now in
+    let k₁ = mk_disk a.image.now drop.new.pointers in
+    let v = seen p a.offline.now k in
+    let low : first.result < p.Z = omega (arith, c.if-p-z.false) in
+    let sg = seg (part (8 * first.result) 8 a.rows.now) in
+    let found = first.ensures.by_index a.offline.now a.image.now w.image_long q.keeps.0 q.keeps.1 in
+    let o = row_open p r v a.rows.now a.kept.now q.keeps.1 q.keeps.0 first.result found low sn.shaped sn.accepted in
+    let said = q.mend_marks (segment_of p v 0 sg) o.open_is in
+    let nw = sym said.0 ∙ c.if-whole.false in
+    let rg = sym said.1 ∙ not-false a.ragged c.if-not-ragged.false-raw in
+    let free = c.free_segment-to in
+    let to = free.result in
+    let et = free.ensures.by_index a.image.now a.pointers.now 0 q.serials.1 in
+    let most = c.greatest_serial-most in
+    let serial = most.result.0 + 1 in
+    let es = add-one most.result.0 ∙ ap suc (most.ensures v 0 (zero_here p r) q.keeps.0 q.serials.0) in
+    let old = row_serial p r v a.rows.now a.kept.now q.keeps.1 q.keeps.0 first.result found low a.serials.now q.serials.0 in record { p_value = (rw c.row-segment.ensures (
+      q.p_value,
+      (
+        refit_whole p r a.offline.now a.count k w sn drop.result k₁ drop.ensures c₁,
+        (
+          (
+            unsealed-low p r a.offline.now a.count k w sn drop.result k₁ drop.ensures c₁ sg o,
+            free.ensures.zones_low,
+            to_apart p r a.offline.now a.count k w sn drop.result k₁
+                drop.ensures c₁ sg o nw rg to et,
+          ),
+          (
+            λ list. (
+              still_open p r a.offline.now a.count k w sn drop.result k₁ drop.ensures c₁ sg o nw rg to et list,
+              still_good p r a.offline.now a.count k w sn
+                  drop.result k₁ drop.ensures c₁ sg o nw rg to et list,
+            ),
+            (
+              (
+                old_serial p r a.offline.now a.count k w sn drop.result k₁ drop.ensures c₁ sg o nw rg to et (get_or a.serials.now first.result 0) old,
+                to_empty p r
+                    a.offline.now a.count k w sn drop.result k₁ drop.ensures c₁ sg o nw rg to et,
+              ),
+              moves_fit p r a.offline.now a.count k w sn drop.result k₁ drop.ensures c₁ sg o nw rg to et serial es,
+            ),
+          ),
+        ),
+      ),
+    )).0; whole = (rw c.row-segment.ensures (
+      q.p_value,
+      (
+        refit_whole p r a.offline.now a.count k w sn drop.result k₁ drop.ensures c₁,
+        (
+          (
+            unsealed-low p r a.offline.now a.count k w sn drop.result k₁ drop.ensures c₁ sg o,
+            free.ensures.zones_low,
+            to_apart p r a.offline.now a.count k w sn drop.result k₁
+                drop.ensures c₁ sg o nw rg to et,
+          ),
+          (
+            λ list. (
+              still_open p r a.offline.now a.count k w sn drop.result k₁ drop.ensures c₁ sg o nw rg to et list,
+              still_good p r a.offline.now a.count k w sn
+                  drop.result k₁ drop.ensures c₁ sg o nw rg to et list,
+            ),
+            (
+              (
+                old_serial p r a.offline.now a.count k w sn drop.result k₁ drop.ensures c₁ sg o nw rg to et (get_or a.serials.now first.result 0) old,
+                to_empty p r
+                    a.offline.now a.count k w sn drop.result k₁ drop.ensures c₁ sg o nw rg to et,
+              ),
+              moves_fit p r a.offline.now a.count k w sn drop.result k₁ drop.ensures c₁ sg o nw rg to et serial es,
+            ),
+          ),
+        ),
+      ),
+    )).1.0; zones_low = (rw c.row-segment.ensures (
+      q.p_value,
+      (
+        refit_whole p r a.offline.now a.count k w sn drop.result k₁ drop.ensures c₁,
+        (
+          (
+            unsealed-low p r a.offline.now a.count k w sn drop.result k₁ drop.ensures c₁ sg o,
+            free.ensures.zones_low,
+            to_apart p r a.offline.now a.count k w sn drop.result k₁
+                drop.ensures c₁ sg o nw rg to et,
+          ),
+          (
+            λ list. (
+              still_open p r a.offline.now a.count k w sn drop.result k₁ drop.ensures c₁ sg o nw rg to et list,
+              still_good p r a.offline.now a.count k w sn
+                  drop.result k₁ drop.ensures c₁ sg o nw rg to et list,
+            ),
+            (
+              (
+                old_serial p r a.offline.now a.count k w sn drop.result k₁ drop.ensures c₁ sg o nw rg to et (get_or a.serials.now first.result 0) old,
+                to_empty p r
+                    a.offline.now a.count k w sn drop.result k₁ drop.ensures c₁ sg o nw rg to et,
+              ),
+              moves_fit p r a.offline.now a.count k w sn drop.result k₁ drop.ensures c₁ sg o nw rg to et serial es,
+            ),
+          ),
+        ),
+      ),
+    )).1.1.0; by_index = (rw c.row-segment.ensures (
+      q.p_value,
+      (
+        refit_whole p r a.offline.now a.count k w sn drop.result k₁ drop.ensures c₁,
+        (
+          (
+            unsealed-low p r a.offline.now a.count k w sn drop.result k₁ drop.ensures c₁ sg o,
+            free.ensures.zones_low,
+            to_apart p r a.offline.now a.count k w sn drop.result k₁
+                drop.ensures c₁ sg o nw rg to et,
+          ),
+          (
+            λ list. (
+              still_open p r a.offline.now a.count k w sn drop.result k₁ drop.ensures c₁ sg o nw rg to et list,
+              still_good p r a.offline.now a.count k w sn
+                  drop.result k₁ drop.ensures c₁ sg o nw rg to et list,
+            ),
+            (
+              (
+                old_serial p r a.offline.now a.count k w sn drop.result k₁ drop.ensures c₁ sg o nw rg to et (get_or a.serials.now first.result 0) old,
+                to_empty p r
+                    a.offline.now a.count k w sn drop.result k₁ drop.ensures c₁ sg o nw rg to et,
+              ),
+              moves_fit p r a.offline.now a.count k w sn drop.result k₁ drop.ensures c₁ sg o nw rg to et serial es,
+            ),
+          ),
+        ),
+      ),
+    )).1.1.1.0; by_index_2 = (rw c.row-segment.ensures (
+      q.p_value,
+      (
+        refit_whole p r a.offline.now a.count k w sn drop.result k₁ drop.ensures c₁,
+        (
+          (
+            unsealed-low p r a.offline.now a.count k w sn drop.result k₁ drop.ensures c₁ sg o,
+            free.ensures.zones_low,
+            to_apart p r a.offline.now a.count k w sn drop.result k₁
+                drop.ensures c₁ sg o nw rg to et,
+          ),
+          (
+            λ list. (
+              still_open p r a.offline.now a.count k w sn drop.result k₁ drop.ensures c₁ sg o nw rg to et list,
+              still_good p r a.offline.now a.count k w sn
+                  drop.result k₁ drop.ensures c₁ sg o nw rg to et list,
+            ),
+            (
+              (
+                old_serial p r a.offline.now a.count k w sn drop.result k₁ drop.ensures c₁ sg o nw rg to et (get_or a.serials.now first.result 0) old,
+                to_empty p r
+                    a.offline.now a.count k w sn drop.result k₁ drop.ensures c₁ sg o nw rg to et,
+              ),
+              moves_fit p r a.offline.now a.count k w sn drop.result k₁ drop.ensures c₁ sg o nw rg to et serial es,
+            ),
+          ),
+        ),
+      ),
+    )).1.1.1.1.0; by_index_3 = (rw c.row-segment.ensures (
+      q.p_value,
+      (
+        refit_whole p r a.offline.now a.count k w sn drop.result k₁ drop.ensures c₁,
+        (
+          (
+            unsealed-low p r a.offline.now a.count k w sn drop.result k₁ drop.ensures c₁ sg o,
+            free.ensures.zones_low,
+            to_apart p r a.offline.now a.count k w sn drop.result k₁
+                drop.ensures c₁ sg o nw rg to et,
+          ),
+          (
+            λ list. (
+              still_open p r a.offline.now a.count k w sn drop.result k₁ drop.ensures c₁ sg o nw rg to et list,
+              still_good p r a.offline.now a.count k w sn
+                  drop.result k₁ drop.ensures c₁ sg o nw rg to et list,
+            ),
+            (
+              (
+                old_serial p r a.offline.now a.count k w sn drop.result k₁ drop.ensures c₁ sg o nw rg to et (get_or a.serials.now first.result 0) old,
+                to_empty p r
+                    a.offline.now a.count k w sn drop.result k₁ drop.ensures c₁ sg o nw rg to et,
+              ),
+              moves_fit p r a.offline.now a.count k w sn drop.result k₁ drop.ensures c₁ sg o nw rg to et serial es,
+            ),
+          ),
+        ),
+      ),
+    )).1.1.1.1.1 }
+
+pub returns : goal.returns
+returns c =
+    let a = c.args in
+    let q = c.requires in
+    let p = a.p in
+    let first = c.first_unsealed-z in
+    let drop = c.drop_stores-made in
+    let c₁ = c.if-made.false in
+    let r = ranged p q.p_value in
+    let w = q.whole.0 in
+    let sn = q.refit_ready in
+    let k = mk_disk a.image.now a.pointers.now in
+    let k₁ = mk_disk a.image.now drop.new.pointers in
+    let v = seen p a.offline.now k in
+    let low : first.result < p.Z = omega (arith, c.if-p-z.false) in
+    let sg = seg (part (8 * first.result) 8 a.rows.now) in
+    let found = first.ensures.by_index a.offline.now a.image.now w.image_long q.keeps.0 q.keeps.1 in
+    let o = row_open p r v a.rows.now a.kept.now q.keeps.1 q.keeps.0 first.result found low sn.shaped sn.accepted in
+    let said = q.mend_marks (segment_of p v 0 sg) o.open_is in
+    let nw = sym said.0 ∙ c.if-whole.false in
+    let rg = sym said.1 ∙ not-false a.ragged c.if-not-ragged.false-raw in
+    let free = c.free_segment-to in
+    let to = free.result in
+    let et = free.ensures.by_index a.image.now a.pointers.now 0 q.serials.1 in
+    let most = c.greatest_serial-most in
+    let serial = most.result.0 + 1 in
+    let es = add-one most.result.0 ∙ ap suc (most.ensures v 0 (zero_here p r) q.keeps.0 q.serials.0) in
+    let moved = c.rewrite in
+    refit-rewrite p r a.offline.now a.count k w sn drop.result k₁ drop.ensures c₁ sg o nw rg to et serial es moved.result (mk_disk moved.new.image moved.new.pointers)
+    (rw c.row-segment.ensures c (moved.ensures a.offline.now))

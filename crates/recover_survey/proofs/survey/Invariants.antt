@@ -1,0 +1,25 @@
+-- `survey`: the tally is of the stripes below base and, unless bad, no group there has a fault; one turn adds a group, at S all are in. Assumes nothing.
+use mathlib.Core.Path.{◌≡◌, sym, ◌∙◌, subst}
+use mathlib.Core.List.{List}
+use mathlib.Core.Bool.{false}
+use Prim.Native.Nat.{ℕ, ◌+◌, ◌-◌, ◌%◌, min, ◌≤◌, ◌<◌}
+use native.Mathlib.Omega.{arith}
+use lib.ListN.{length}
+use Rattle.spec.specs.Drives.{View, view_of, sealed_in}
+use Rattle.spec.specs.Lists.{any}
+use Rattle.spec.specs.Segments.{Segment, segment_of}
+use Rattle.law_basic.specs.Geometry.{ranged, base_next}
+use Rattle.recover_groups.specs.Groups.{group_len, group_fault, recs_fault, bases_from}
+use Rattle.recover_survey.specs.Stripes.{Tallied, tallied_none, surveyed, group_next, groups_left_lem, faults_start, groups_ended}
+use native.Mathlib.Nat.{zero-mod, zero-min}
+use Rattle.recover_survey.proofs.survey.Given as goal
+
+abbrev pub invariant-loop-base : goal.invariant-loop-base
+invariant-loop-base l =
+    (length l.at ≡ 2048) × (l.base < l.p.S + l.p.G) × (l.base % l.p.G ≡ 0) × (l.t.counted ≤ min l.base l.p.S) × (l.t.loose ≤ min l.base l.p.S)
+    × ((off : List ℕ) → l.full ≡ sealed_in l.p (view_of l.p off l.image l.pointers) l.gone l.seg → l.t.bad ≡ false
+    → any (group_fault l.p l.gone (segment_of l.p (view_of l.p off l.image l.pointers) l.gone l.seg)) (bases_from l.p l.base) ≡ recs_fault l.p l.gone (segment_of l.p (view_of l.p off l.image l.pointers) l.gone l.seg))
+    × ((off : List ℕ) → l.full ≡ sealed_in l.p (view_of l.p off l.image l.pointers) l.gone l.seg → Tallied l.p l.gone (segment_of l.p (view_of l.p off l.image l.pointers) l.gone l.seg) (min l.base l.p.S) l.t)
+
+abbrev pub decreases-loop-base : goal.decreases-loop-base
+decreases-loop-base l = l.p.S - l.base

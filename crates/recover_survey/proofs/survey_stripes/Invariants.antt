@@ -1,0 +1,19 @@
+-- `survey_stripes`: the tally is of the stripes below base + k; one turn adds stripe k, and counted and loose are at most base + k. Assumes nothing.
+use mathlib.Core.Path.{◌≡◌, sym, subst}
+use mathlib.Core.Bool.{false}
+use mathlib.Core.List.{List}
+use Prim.Native.Nat.{ℕ, ◌+◌, ◌-◌, ◌≤◌, ◌<◌}
+use native.Mathlib.Omega.{arith}
+use Rattle.recover_groups.specs.Groups.{group_len, segment_in}
+use Rattle.recover_survey.specs.Stripes.{Shown, Tallied}
+use native.Mathlib.Nat.{add-zero, add_assoc}
+use Rattle.recover_survey.proofs.survey_stripes.Given as goal
+
+abbrev pub invariant-loop-k : goal.invariant-loop-k
+invariant-loop-k l =
+    (l.k ≤ l.len) × (l.next.counted ≤ l.w.base + l.k) × (l.next.loose ≤ l.w.base + l.k) × (l.next.bad ≡ false → l.initial.next.bad ≡ false)
+    × ((off ps : List ℕ) → Shown l.p off l.image ps l.w l.at → Tallied l.p l.w.gone (segment_in l.p off l.image ps l.w) l.w.base l.initial.next
+    → Tallied l.p l.w.gone (segment_in l.p off l.image ps l.w) (l.w.base + l.k) l.next)
+
+abbrev pub decreases-loop-k : goal.decreases-loop-k
+decreases-loop-k l = l.len - l.k

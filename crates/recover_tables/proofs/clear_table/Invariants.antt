@@ -1,0 +1,14 @@
+-- `clear_table`: the first i bytes are 255; one turn sets byte i, and at n they are all. Assumes nothing.
+use mathlib.Core.Path.{◌≡◌, refl}
+use Prim.Native.Nat.{◌-◌, ◌≤◌}
+use native.Mathlib.Omega.{arith}
+use lib.ListN.{length, replicate, length-set}
+use Rattle.spec.specs.Bytes.{splice}
+use Rattle.recover_tables.specs.Ready.{fill_none, fill_turn, fill_all}
+use Rattle.recover_tables.proofs.clear_table.Given as goal
+
+abbrev pub invariant-loop-i : goal.invariant-loop-i
+invariant-loop-i l = (l.i ≤ l.n) × (l.n ≡ length l.initial.addresses) × (length l.addresses ≡ length l.initial.addresses) × (l.addresses ≡ splice l.initial.addresses 0 (replicate l.i 255))
+
+abbrev pub decreases-loop-i : goal.decreases-loop-i
+decreases-loop-i l = l.n - l.i
