@@ -12,4 +12,4 @@ returns c =
     let lo< : a.lo < 4294967296 = search rules in
     let hi< : a.hi < 4294967296 = search rules in
     let d< : d < 4294967296 = search rules in
-    ap (λ (x : ℕ). bool_byte (ltb d x)) c.requires ∙ ap bool_byte (within_near a.q a.lo a.hi d q< lo< hi< d< c.wrapping_sub_u32.ensures)
+    ap (λ (x : ℕ). bool_byte (ltb d x)) c.requires ∙ ap bool_byte (within_near a.q a.lo a.hi d q< lo< hi< d< c.wrapping_sub_u32.ensures.value)

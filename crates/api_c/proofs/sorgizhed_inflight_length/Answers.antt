@@ -1,0 +1,24 @@
+-- `sorgizhed_inflight_length`: in range it is `inflight_len`, else 0: the two sides of the contract's cond. Assumes nothing.
+use Rattle.spec.specs.Params.{mk_params, in_range, inflight_len}
+use Rattle.spec.specs.declared.Params.{Params}
+use borrow.Author.Rules.{rules}
+use mathlib.Core.Bool.{Bool, true, false, cond}
+use mathlib.Core.Path.{◌≡◌, sym, ap, ◌∙◌}
+use Rattle.api_c.proofs.sorgizhed_inflight_length.Goals as goal
+
+pub inflight_len-requires : goal.inflight_len-requires
+inflight_len-requires c = sym c.in_range.ensures ∙ c.if-in_range.true
+
+pub returns-then-in_range : goal.returns-then-in_range
+returns-then-in_range c =
+    let a = c.args in
+    let p : Params = mk_params a.n a.b a.z a.s a.g a.l in
+    let e : in_range p ≡ true = sym c.in_range.ensures ∙ c.if-in_range.true in
+    c.inflight_len.ensures.0 ∙ sym (ap (λ (x : Bool). cond x (inflight_len p) 0) e)
+
+pub returns : goal.returns
+returns c =
+    let a = c.args in
+    let p : Params = mk_params a.n a.b a.z a.s a.g a.l in
+    let e : in_range p ≡ false = sym c.in_range.ensures ∙ c.if-in_range.false in
+    sym (ap (λ (x : Bool). cond x (inflight_len p) 0) e)

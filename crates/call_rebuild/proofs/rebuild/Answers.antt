@@ -1,0 +1,32 @@
+-- `rebuild`: a check that fails refuses the whole call (`rebuild_front_refused`); with none `examined` gives the rest. Assumes nothing.
+use mathlib.Core.Path.{sym, ap, ◌∙◌}
+use borrow.Author.Rules.{rules}
+use Rattle.spec.specs.Drives.{mk_disk}
+use Rattle.spec.specs.Engine.Call.{close}
+use Rattle.spec.specs.History.{before}
+use Rattle.spec.specs.Memory.{mk_memory}
+use Rattle.mem_calls.specs.Left.{checked}
+use Rattle.call_rebuild.specs.Ends.{ends_rebuild_refused}
+use Rattle.call_rebuild.specs.Order.{rebuild_front_refused}
+use Rattle.call_rebuild.proofs.rebuild.Goals as goal
+
+pub returns-in-Fail : goal.returns-in-Fail
+returns-in-Fail c =
+    let a = c.args in
+    let p = a.p in
+    let d = a.drive in
+    let off = a.offline.now in
+    let k = mk_disk a.image.now a.pointers.now in
+    let m = mk_memory a.state a.addresses.now a.compact.now a.inflight.now in
+    let q = c.c-1.given in
+    ends_rebuild_refused p off k m d a.count q.0.0 (rebuild_front_refused p off k m d q.0.0 (sym c.checks-c.ensures ∙ ap checked q.1))
+
+pub examined-requires : goal.examined-requires
+examined-requires c =
+    let checks = c.checks-c in
+    sym checks.ensures ∙ ap checked c.in_default.is
+
+pub returns : goal.returns
+returns c =
+    let examined = c.examined in
+    examined.ensures
