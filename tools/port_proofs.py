@@ -136,6 +136,11 @@ class Fn:
             for field, step, path in a[2] if a else []:
                 if path:
                     self.arms.setdefault(norm(step), {})["." + ".".join(path)] = f"{a[0]}.{field}"
+        self.parent = {norm(p[0]): norm(p[1]) if p[1] else None for p in entry["places"]}
+        self.oldplace = {norm(p[0]): p[0] for p in entry["places"]}
+        self.stepof = {norm(p[0]): p[2][1] for p in entry["places"]}
+        self.askedat = {n[1]: norm(a[0]) for n, a in zip(entry["needs"], entry["asked_at"])}
+        self.raw = False
         self.own = known.get(f"{crate}::{name.replace('.', '::')}", ([], []))
         self.pre = (entry["pre"] or {}).get("fields") or []
 
@@ -153,6 +158,28 @@ class Fn:
                 return "." + names[k] + path
             k += 1
 
+    def up(self, frm, to):
+        """the way from a place to one above it"""
+        n = 0
+        while frm is not None:
+            if frm == to:
+                return ".before" * n
+            frm, n = self.parent[frm], n + 1
+        return None
+
+    def way(self, frm, field):
+        """the way from a place to what has a field"""
+        n = 0
+        while frm is not None:
+            if self.stepof[frm] == field or frm == "start" and field in ("args", "requires", "ranges", "lifetimes", "utf8"):
+                return ".before" * n
+            frm, n = self.parent[frm], n + 1
+        return None
+
+    def lts(self, place):
+        claims = "Tie.the-claims Reads.Pre Reads.Post" + "".join(f" goal.the-invariant-{l[0][1]} goal.the-decreases-{l[0][1]}" for l in self.entry["loops"])
+        return f"Lts.{self.oldplace[place]} {claims}"
+
     def turn(self, body):
         body = re.sub(r"(?:\.before)+(?![\w'-])", "", body)
         # a name for an earlier place is the place itself
@@ -167,7 +194,7 @@ class Fn:
         body = re.sub(r"(?<=[\w'])\.pre(?![\w'-])", ".requires", body)
         # a name for the step of an arm is the step itself
         for a in list(re.finditer(r"let (%s)(?: : [^=\n]*?)? = c\.(%s) in[ \n]*" % (ID, ID), body)):
-            if norm(a.group(2)) in self.arms and norm(a.group(2)) not in self.callee:
+            if not self.raw and norm(a.group(2)) in self.arms and norm(a.group(2)) not in self.callee:
                 body = body.replace(a.group(0), "", 1)
                 body = re.sub(r"(?<![\w'\u2080-\u2089.-])%s(?![\w'\u2080-\u2089-])" % re.escape(a.group(1)), "c." + a.group(2), body)
         alias, pres = {}, set()
@@ -192,7 +219,7 @@ class Fn:
             old = norm(name)
             if old not in self.steps or (head not in ctx and head != ")"):
                 return m.group(0)
-            for path in sorted(self.arms.get(old, {}), key=len, reverse=True):
+            for path in [] if self.raw else sorted(self.arms.get(old, {}), key=len, reverse=True):
                 if rest == path or rest.startswith(path + "."):
                     return head + "." + self.arms[old][path] + rest[len(path) :]
             return head + "." + self.steps[old] + self.rest(old, rest)
@@ -254,11 +281,21 @@ def blocks(text):
         cur.append(line)
     if cur:
         decls.append(cur)
+    merged = []
+    for d in decls:
+        if merged and d[0].startswith(" ") and any(l.startswith("module ") for l in merged[-1]):
+            merged[-1] += [""] + d
+        else:
+            merged.append(d)
+    decls = merged
     # a new declaration begins at a signature at the margin, also without a blank line
     out = []
     for d in decls:
         part = []
         for line in d:
+            if any(l.startswith("module ") for l in part):
+                part.append(line)
+                continue
             if part and re.match(r"^(?:pub |abbrev |unfoldable |module |data |record )*\S+(?: [^=]*)? : ", line) and not line.startswith(" ") and not part[-1].startswith("--") and not re.match(r"^\S+ .*=", line):
                 out.append(part)
                 part = []
@@ -276,7 +313,7 @@ def convert(fn, text):
     for d in decls:
         for line in d:
             s = re.match(r"^(?:pub |abbrev )*(%s) : tie\.(\S+)(.*)$" % ID, line)
-            if s:
+            if s and s.group(2).startswith(("Need-", "invariant-", "decreases-")):
                 kinds[s.group(1)] = s.group(2)
     needs = [a for a in args if a in kinds and kinds[a].startswith("Need-")]
     news = fn.entry["needs"]
@@ -295,12 +332,99 @@ def convert(fn, text):
                     break
             else:
                 said.append(f"no goal for {a}")
+    # helpers over a place, and the places that they give
+    PL = r"tie\.((?:Start|After|Else|Then|In|At|Joined)[\w-]*)(?: invariant-\S+ decreases-[^\s)]+)*"
+    over, gives = {}, {}
+    for d in decls:
+        sig = " ".join(l.strip() for l in d if not l.startswith("--"))
+        h = re.match(r"(?:pub |abbrev |unfoldable )*(%s)\s*:\s*(?:\(%s : )?%s" % (ID, ID, PL), sig)
+        if h and norm(h.group(2)) in fn.parent and h.group(1) not in kinds:
+            over[h.group(1)] = norm(h.group(2))
+            g = re.match(r"(?:pub |abbrev )*%s\s*:\s*%s → %s(?= %s )" % (re.escape(h.group(1)), PL, PL, re.escape(h.group(1))), sig) or re.match(r"(?:pub |abbrev )*%s\s*:\s*\(%s : %s\)\s*→ %s(?= %s )" % (re.escape(h.group(1)), ID, PL, PL, re.escape(h.group(1))), sig)
+            if g and norm(g.group(2)) in fn.parent:
+                gives[h.group(1)] = norm(g.group(2))
+    chained = False
+    modules = {}
+    for k, d in enumerate(decls):
+        sig = " ".join(l.strip() for l in d if not l.startswith("--"))
+        h = re.match(r"module _ \((%s) : %s\) where" % (ID, PL), sig)
+        if h and norm(h.group(2)) in fn.parent:
+            chained = True
+            modules[k] = (h.group(1), norm(h.group(2)))
+            for m_ in re.finditer(r"^  (?:abbrev |pub |unfoldable )*(%s)\s*:\s*(.*)" % ID, "\n".join(d), re.M):
+                over[m_.group(1)] = norm(h.group(2))
+                g = re.match(PL + "$", m_.group(2))
+                if g and norm(g.group(1)) in fn.parent:
+                    gives[m_.group(1)] = norm(g.group(1))
+    for d in decls:
+        sig = next((l for l in d if not l.startswith("--")), "")
+        s = re.match(r"^(?:pub |abbrev |unfoldable )*(%s)" % ID, sig)
+        if s and s.group(1) in over and any(re.search(r"(?<![\w'.-])%s(?![\w'-])" % re.escape(h), "\n".join(d)) for h in over if h != s.group(1)):
+            chained = True
+        if re.match(r"module _ \(\S+ : tie\.", sig):
+            said.append("module over a place")
+    if chained:
+        said.append("chained")
+
+    def expand(text_, env, goal_):
+        """what stands at a place, said by the way to it"""
+        for m in re.finditer(r"let (%s)(?: : [^=\n]*?)? = (%s) \(?c\)? in" % (ID, ID), text_):
+            if m.group(2) in gives:
+                env[m.group(1)] = gives[m.group(2)]
+
+        def call(m):
+            h, v = m.group(1), m.group(2) or m.group(3)
+            way = fn.up(env[v], over[h])
+            if way is None:
+                said.append(f"no way from {env[v]} to {over[h]} for {h}")
+                return m.group(0)
+            return f"{h} {v}{'.before' if goal_ and v == 'c' else ''}{way}"
+
+        if over:
+            every = "|".join(map(re.escape, env))
+            text_ = re.sub(r"(?<![\w'.-])(%s) (?:\((%s)\)|(%s))(?![\w'.-])" % ("|".join(re.escape(h) for h in sorted(over, key=len, reverse=True)), every, every), call, text_)
+
+        def field(m):
+            v, f = m.group(1), m.group(2)
+            way = fn.way(env[v], f)
+            return m.group(0) if way is None or (goal_ and v == "c") else f"{v}{way}.{f}"
+
+        text_ = re.sub(r"(?<![\w'.-])(%s)\.(%s)" % ("|".join(map(re.escape, env)), ID), field, text_)
+
+        def given(m):
+            way = fn.way(gives[m.group(2)], m.group(3))
+            return m.group(0) if way is None else f"{m.group(1)}{way}.{m.group(3)}"
+
+        if gives:
+            text_ = re.sub(r"(\((%s) [^()\s]+\))\.(%s)" % ("|".join(map(re.escape, gives)), ID), given, text_)
+        return text_
+
     loops = {norm(l[0][0]): (l[0][1], l[1], ch) for l, ch in zip(fn.entry["loops"], fn.entry["changed"])}
     inv, ans = [], []
     places = set()
     dropped = []
-    for d in decls:
+    for k, d in enumerate(decls):
         text_d = "\n".join(d)
+        if k in modules:
+            v, place_ = modules[k]
+            fn.raw = True
+            body = expand(fn.turn(text_d), {v: place_}, False)
+            fn.raw = False
+            # a member that is a place above
+            for m_ in re.finditer(r"^  (%s) =\s*%s$" % (ID, re.escape(v)), body, re.M):
+                if m_.group(1) in gives:
+                    body = body.replace(m_.group(0), m_.group(0) + fn.up(place_, gives[m_.group(1)]))
+            # fields of a member that is a place
+            for g_, q_ in gives.items():
+                def memb(m):
+                    way = fn.way(q_, m.group(1))
+                    return m.group(0) if way is None else f"{g_}{way}.{m.group(1)}"
+                body = re.sub(r"(?<![\w'.-])%s\.(%s)" % (re.escape(g_), ID), memb, body)
+            body = re.sub(PL, lambda m: fn.lts(norm(m.group(1))) if norm(m.group(1)) in fn.oldplace else m.group(0), body)
+            ans.append(body)
+            if "tie." in body:
+                said.append("module: tie.")
+            continue
         sig = next((l for l in d if not l.startswith("--")), "")
         s = re.match(r"^(?:pub |abbrev |unfoldable )*(%s)" % ID, sig)
         name = s.group(1) if s else ""
@@ -332,7 +456,27 @@ def convert(fn, text):
             unf = [l for l in pre if l.startswith("unfolding")]
             inv.append("\n".join(com + [f"abbrev pub {target} : goal.{target}"] + unf) + f"\n{target} l =" + rest)
             continue
+        fn.raw = chained and name in over
         body = fn.turn(text_d)
+        fn.raw = False
+        if chained and name in goal:
+            body = expand(body, {"c": fn.askedat[goal[name][1]]}, True)
+        if chained and name in over:
+            i = body.index("\n" + name + " ") if "\n" + name + " " in body else 0
+            par = re.search(r"\n%s (%s)" % (re.escape(name), ID), body)
+            v = par.group(1) if par else "c"
+            head_, tail_ = body[:i], body[i:]
+            sv = re.search(r":\s*\((%s) : tie" % ID, head_)
+            head_ = expand(head_, {sv.group(1): over[name]}, False) if sv else head_
+            tail_ = expand(tail_, {v: over[name]}, False)
+            if name in gives:
+                tail_ = re.sub(r"=(\s*)%s\s*$" % re.escape(v), lambda m: f"={m.group(1)}{v}{fn.up(over[name], gives[name])}", tail_)
+            body = re.sub(PL, lambda m: fn.lts(norm(m.group(1))) if norm(m.group(1)) in fn.oldplace else m.group(0), head_ + tail_)
+            # the name binds a value: in an arrow a type of several words needs no brackets, under `:` neither
+            ans.append(body)
+            if "tie." in body:
+                said.append(f"helper {name}: tie.")
+            continue
         if name in goal:
             old, new = goal[name]
             i = next(i for i, l in enumerate(d) if re.match(r"^%s(?: [^=]*)? =" % re.escape(name), l))
@@ -384,7 +528,7 @@ def convert(fn, text):
         ans.append(body)
     # a helper over a place is handed that place of the goal
     over = {}
-    for a in ans:
+    for a in [] if chained else ans:
         m = re.search(r"^(?:pub |abbrev |unfoldable )*(%s) :\s*(?:\(%s : )?((?:Start|After|Else|Then|In|At|Joined)[\w-]*)\b" % (ID, ID), a, re.M)
         if m and m.group(2) in set(fn.placenames.values()):
             over[m.group(1)] = m.group(2)
@@ -402,6 +546,8 @@ def convert(fn, text):
         out["Invariants.antt"] = (head + "\n" if head else "") + "\n".join(keep + [f"use {base}.Given as goal"]) + "\n\n" + "\n\n".join(inv) + "\n"
     if ans:
         more = [f"use {base}.Goals.{{{', '.join(sorted(places))}}}"] if places else []
+        if chained:
+            more += [f"use {base}.{m}" for m in ("Lts", "Reads", "Tie")]
         out["Answers.antt"] = (head + "\n" if head else "") + "\n".join(keep + [f"use {base}.Goals as goal"] + more) + "\n\n" + "\n\n".join(ans) + "\n"
     for k in out:
         if "tie." in out[k]:
@@ -414,7 +560,8 @@ def convert(fn, text):
 def main():
     root, names = sys.argv[1], sys.argv[2]
     known = contracts(root)
-    for c in sys.argv[3:] or sorted(os.listdir(os.path.join(root, "crates"))):
+    only = [w.split("/") for w in sys.argv[3:] if "/" in w]
+    for c in sorted({w.split("/")[0] for w in sys.argv[3:]}) or sorted(os.listdir(os.path.join(root, "crates"))):
         p = os.path.join(names, "crates", c, "names.json")
         if not os.path.exists(p):
             continue
@@ -422,6 +569,8 @@ def main():
             j = json.load(f)
         for d, _, fs in sorted(os.walk(os.path.join(root, "crates", c, "proofs"))):
             if "Proof.antt" not in fs:
+                continue
+            if only and c in {o[0] for o in only} and not any(o[0] == c and os.path.relpath(d, os.path.join(root, "crates", c, "proofs")) == o[1] for o in only):
                 continue
             name = os.path.relpath(d, os.path.join(root, "crates", c, "proofs")).replace(os.sep, ".")
             key = f"Rattle-{c}-proofs.{name}.Lts"

@@ -20,42 +20,44 @@ use mathlib.Core.Bool.{true}
 use mathlib.Core.Path.{◌≡◌, sym, ◌∙◌}
 use native.Mathlib.Omega.{arith}
 use Rattle.call_close.proofs.checks.Goals as goal
-use Rattle.call_close.proofs.checks.Goals.{After-is_slot, After-scarce, Else-missing-ne0, Else-not-is_slot, Else-not-lent_ok, Else-rule-ne0, Start}
+use Rattle.call_close.proofs.checks.Lts
+use Rattle.call_close.proofs.checks.Reads
+use Rattle.call_close.proofs.checks.Tie
 
-abbrev diskIn : Start → Disk
+abbrev diskIn : Lts.Start Tie.the-claims Reads.Pre Reads.Post → Disk
 diskIn s = mk_disk s.args.image.now s.args.pointers.now
 
-abbrev memoryIn : Start → Memory
+abbrev memoryIn : Lts.Start Tie.the-claims Reads.Pre Reads.Post → Memory
 memoryIn s = mk_memory (state_of s.args.bytes.now) s.args.addresses.now s.args.compact.now s.args.inflight.now
 
 -- the first refusal from the i-th check on
-abbrev from : Start → ℕ → Opt Answer
+abbrev from : Lts.Start Tie.the-claims Reads.Pre Reads.Post → ℕ → Opt Answer
 from s i = close_from s.args.p s.args.offline.now (diskIn s) (memoryIn s) i
 
 pub returns-then-not-in_range : goal.returns-then-not-in_range
 returns-then-not-in_range c =
-    close_range_fails c.args.p c.args.offline.now (diskIn (goal.at.returns-then-not-in_range c).Start) (memoryIn (goal.at.returns-then-not-in_range c).Start) (sym c.in_range.ensures ∙ not-true c.in_range.result c.if-not-in_range.true-raw)
+    close_range_fails c.args.p c.args.offline.now (diskIn c.before.before.before.before.before.before.before.before.before.before) (memoryIn c.before.before.before.before.before.before.before.before.before.before) (sym c.in_range.ensures ∙ not-true c.in_range.result c.if-not-in_range.true-raw)
 
 pub lent_ok-requires : goal.lent_ok-requires
 lent_ok-requires c = sym c.in_range.ensures ∙ not-false c.in_range.result c.if-not-in_range.false-raw
 
 pub returns-then-not-lent_ok : goal.returns-then-not-lent_ok
 returns-then-not-lent_ok c =
-    close_lengths_fail c.args.p c.args.offline.now (diskIn (goal.at.returns-then-not-lent_ok c).Start) (memoryIn (goal.at.returns-then-not-lent_ok c).Start)
-    (sym (c.lent_ok.ensures (memoryIn (goal.at.returns-then-not-lent_ok c).Start).state) ∙ not-true c.lent_ok.result c.if-not-lent_ok.true-raw)
-    ∙ close_range_passes c.args.p c.args.offline.now (diskIn (goal.at.returns-then-not-lent_ok c).Start) (memoryIn (goal.at.returns-then-not-lent_ok c).Start)
+    close_lengths_fail c.args.p c.args.offline.now (diskIn c.before.before.before.before.before.before.before.before.before.before.before.before) (memoryIn c.before.before.before.before.before.before.before.before.before.before.before.before)
+    (sym (c.lent_ok.ensures (memoryIn c.before.before.before.before.before.before.before.before.before.before.before.before).state) ∙ not-true c.lent_ok.result c.if-not-lent_ok.true-raw)
+    ∙ close_range_passes c.args.p c.args.offline.now (diskIn c.before.before.before.before.before.before.before.before.before.before.before.before) (memoryIn c.before.before.before.before.before.before.before.before.before.before.before.before)
     (sym c.in_range.ensures ∙ not-false c.in_range.result c.if-not-in_range.false-raw)
 
-module _ (c : Else-not-lent_ok) where
-  abbrev begun : Start
-  begun = c
+module _ (c : Lts.Else2 Tie.the-claims Reads.Pre Reads.Post) where
+  abbrev begun : Lts.Start Tie.the-claims Reads.Pre Reads.Post
+  begun = c.before.before.before.before.before.before.before.before.before.before.before
 
   ranged : in_range begun.args.p ≡ true
   ranged =
-      sym c.in_range.ensures ∙ not-false c.in_range.result c.if-not-in_range.false-raw
+      sym c.before.before.before.in_range.ensures ∙ not-false c.before.before.before.in_range.result c.before.before.if-not-in_range.false-raw
 
   lent : lent_ok_of begun.args.p begun.args.offline.now (diskIn begun) (memoryIn begun) ≡ true
-  lent = sym (c.lent_ok.ensures (memoryIn begun).state) ∙ not-false c.lent_ok.result c.if-not-lent_ok.false-raw
+  lent = sym (c.before.lent_ok.ensures (memoryIn begun).state) ∙ not-false c.before.lent_ok.result c.if-not-lent_ok.false-raw
 
   -- 1 and 2 do not hold
   fitting : from begun 2 ≡ from begun 0
@@ -65,89 +67,89 @@ module _ (c : Else-not-lent_ok) where
 
 pub list_rule-rule-requires : goal.list_rule-rule-requires
 list_rule-rule-requires c =
-    let s = begun c in record { p_value = ranged c; offline_len = (lent_long_lem s.args.p s.args.offline.now (diskIn s) (memoryIn s) (lent c)).5 }
+    let s = begun c.before in record { p_value = ranged c.before; offline_len = (lent_long_lem s.args.p s.args.offline.now (diskIn s) (memoryIn s) (lent c.before)).5 }
 
 pub returns-then-rule-ne0 : goal.returns-then-rule-ne0
 returns-then-rule-ne0 c =
-    let s = begun c in
-    close_list_fails s.args.p s.args.offline.now (diskIn s) (memoryIn s) c.list_rule-rule.result c.list_rule-rule.ensures c.if-rule-ne0.true ∙ fitting c
+    let s = begun c.before.before.before in
+    close_list_fails s.args.p s.args.offline.now (diskIn s) (memoryIn s) c.list_rule-rule.result c.list_rule-rule.ensures c.if-rule-ne0.true ∙ fitting c.before.before.before
 
-module _ (c : Else-rule-ne0) where
-  abbrev listed : Start
-  listed = begun c
+module _ (c : Lts.Else3 Tie.the-claims Reads.Pre Reads.Post) where
+  abbrev listed : Lts.Start Tie.the-claims Reads.Pre Reads.Post
+  listed = begun c.before.before
 
   -- nor do 10 and the narrow 1
   enough : from listed 4 ≡ from listed 0
   enough =
       let s = listed in
-      close_list_passes s.args.p s.args.offline.now (diskIn s) (memoryIn s) c.list_rule-rule.result c.list_rule-rule.ensures c.if-rule-ne0.false
-      ∙ fitting c
+      close_list_passes s.args.p s.args.offline.now (diskIn s) (memoryIn s) c.before.list_rule-rule.result c.before.list_rule-rule.ensures c.if-rule-ne0.false
+      ∙ fitting c.before.before
 
 pub returns-then-missing-ne0 : goal.returns-then-missing-ne0
 returns-then-missing-ne0 c =
-    let s = listed c in
-    close_missing_fails s.args.p s.args.offline.now (diskIn s) (memoryIn s) (λ e. c.if-missing-ne0.true (s.requires.1 ∙ e)) ∙ enough c
+    let s = listed c.before.before in
+    close_missing_fails s.args.p s.args.offline.now (diskIn s) (memoryIn s) (λ e. c.if-missing-ne0.true (s.requires.1 ∙ e)) ∙ enough c.before.before
 
 -- nor does 3
-healthy : (c : Else-missing-ne0) → from (listed c) 5 ≡ from (listed c) 0
+healthy : (c : Lts.Else4 Tie.the-claims Reads.Pre Reads.Post) → from (listed c.before) 5 ≡ from (listed c.before) 0
 healthy c =
-    let s = listed c in
-    close_missing_passes s.args.p s.args.offline.now (diskIn s) (memoryIn s) (sym s.requires.1 ∙ c.if-missing-ne0.false) ∙ enough c
+    let s = listed c.before in
+    close_missing_passes s.args.p s.args.offline.now (diskIn s) (memoryIn s) (sym s.requires.1 ∙ c.if-missing-ne0.false) ∙ enough c.before
 
 -- whether a stripe is filling
-filling_is : (c : After-is_slot) → has_filling (listed c).args.p (memoryIn (listed c)).state ≡ c.is_slot.result
+filling_is : (c : Lts.After-is_slot Tie.the-claims Reads.Pre Reads.Post) → has_filling (listed c.before.before).args.p (memoryIn (listed c.before.before)).state ≡ c.is_slot.result
 filling_is c =
-    let s = listed c in
+    let s = listed c.before.before in
     sym (slot_is s.args.p (memoryIn s).state s.args.slot s.requires.0) ∙ sym c.is_slot.ensures
 
 pub returns-then-not-is_slot : goal.returns-then-not-is_slot
 returns-then-not-is_slot c =
-    let s = listed c in
-    filling_fails s.args.p s.args.offline.now (diskIn s) (memoryIn s) (filling_is (goal.at.returns-then-not-is_slot c).After-is_slot ∙ not-true c.is_slot.result c.if-not-is_slot.true-raw) ∙ healthy (goal.at.returns-then-not-is_slot c).Else-missing-ne0
+    let s = listed c.before.before.before.before in
+    filling_fails s.args.p s.args.offline.now (diskIn s) (memoryIn s) (filling_is c.before.before ∙ not-true c.is_slot.result c.if-not-is_slot.true-raw) ∙ healthy c.before.before.before
 
-module _ (c : Else-not-is_slot) where
-  abbrev two : Else-not-lent_ok
-  two = c
+module _ (c : Lts.Else5 Tie.the-claims Reads.Pre Reads.Post) where
+  abbrev two : Lts.Else2 Tie.the-claims Reads.Pre Reads.Post
+  two = c.before.before.before.before.before
 
   filling : has_filling (begun two).args.p (memoryIn (begun two)).state ≡ true
-  filling = filling_is c ∙ not-false c.is_slot.result c.if-not-is_slot.false-raw
+  filling = filling_is c.before ∙ not-false c.before.is_slot.result c.if-not-is_slot.false-raw
 
 pub scarce-requires : goal.scarce-requires
 scarce-requires c =
-    let s = begun (two c) in
-    let l = lent_long_lem s.args.p s.args.offline.now (diskIn s) (memoryIn s) (lent (two c)) in record { p_value = ranged (two c); pointers_len = (l.1, l.5, omega arith) }
+    let s = begun (two c.before) in
+    let l = lent_long_lem s.args.p s.args.offline.now (diskIn s) (memoryIn s) (lent (two c.before)) in record { p_value = ranged (two c.before); pointers_len = (l.1, l.5, omega arith) }
 
-scarce-is : (c : After-scarce)
-    → scarce (begun (two c)).args.p (seen (begun (two c)).args.p (begun (two c)).args.offline.now (diskIn (begun (two c)))) 1
+scarce-is : (c : Lts.After-scarce Tie.the-claims Reads.Pre Reads.Post)
+    → scarce (begun (two c.before)).args.p (seen (begun (two c.before)).args.p (begun (two c.before)).args.offline.now (diskIn (begun (two c.before)))) 1
     ≡ c.scarce.result
 scarce-is c =
-    let s = begun (two c) in
-    sym (c.scarce.ensures s.args.image.now (lent_long_lem s.args.p s.args.offline.now (diskIn s) (memoryIn s) (lent (two c))).0)
+    let s = begun (two c.before) in
+    sym (c.scarce.ensures s.args.image.now (lent_long_lem s.args.p s.args.offline.now (diskIn s) (memoryIn s) (lent (two c.before))).0)
 
 pub scarce_checks-requires : goal.scarce_checks-requires
 scarce_checks-requires c =
-    let w = two c in
+    let w = two c.before.before.before in
     let s = begun w in
     let l = lent_long_lem s.args.p s.args.offline.now (diskIn s) (memoryIn s) (lent w) in record { p_value = ranged w; whole = (record { image_long = l.0; pointers_long = l.1 }, l.5); addresses_len = (l.2, s.requires.2) }
 
 pub returns-then-scarce : goal.returns-then-scarce
 returns-then-scarce c =
-    let s = begun (two c) in
-    c.scarce_checks.ensures ∙ scarce_last s.args.p s.args.offline.now (diskIn s) (memoryIn s) (filling c) (scarce-is (goal.at.returns-then-scarce c).After-scarce ∙ c.if-scarce.true)
-    ∙ healthy (goal.at.returns-then-scarce c).Else-missing-ne0
+    let s = begun (two c.before.before.before.before) in
+    c.scarce_checks.ensures ∙ scarce_last s.args.p s.args.offline.now (diskIn s) (memoryIn s) (filling c.before.before.before.before) (scarce-is c.before.before.before ∙ c.if-scarce.true)
+    ∙ healthy c.before.before.before.before.before.before
 
 pub state_ok-requires : goal.state_ok-requires
 state_ok-requires c =
-    let w = two c in record { p_value = ranged w; bytes_len = (begun w).pre.2 }
+    let w = two c.before.before.before in record { p_value = ranged w; bytes_len = (begun w).pre.2 }
 
 pub returns-then-not-state_ok : goal.returns-then-not-state_ok
 returns-then-not-state_ok c =
-    let s = begun (two c) in
-    close_state_fails s.args.p s.args.offline.now (diskIn s) (memoryIn s) (filling c) (scarce-is (goal.at.returns-then-not-state_ok c).After-scarce ∙ c.if-scarce.false)
-    (sym c.state_ok.ensures ∙ not-true c.state_ok.result c.if-not-state_ok.true-raw) ∙ healthy (goal.at.returns-then-not-state_ok c).Else-missing-ne0
+    let s = begun (two c.before.before.before.before.before) in
+    close_state_fails s.args.p s.args.offline.now (diskIn s) (memoryIn s) (filling c.before.before.before.before.before) (scarce-is c.before.before.before.before ∙ c.if-scarce.false)
+    (sym c.state_ok.ensures ∙ not-true c.state_ok.result c.if-not-state_ok.true-raw) ∙ healthy c.before.before.before.before.before.before.before
 
 pub returns : goal.returns
 returns c =
-    let s = begun (two c) in
-    close_state_passes s.args.p s.args.offline.now (diskIn s) (memoryIn s) (filling c) (scarce-is (goal.at.returns c).After-scarce ∙ c.if-scarce.false)
-    (sym c.state_ok.ensures ∙ not-false c.state_ok.result c.if-not-state_ok.false-raw) ∙ healthy (goal.at.returns c).Else-missing-ne0
+    let s = begun (two c.before.before.before.before.before) in
+    close_state_passes s.args.p s.args.offline.now (diskIn s) (memoryIn s) (filling c.before.before.before.before.before) (scarce-is c.before.before.before.before ∙ c.if-scarce.false)
+    (sym c.state_ok.ensures ∙ not-false c.state_ok.result c.if-not-state_ok.false-raw) ∙ healthy c.before.before.before.before.before.before.before

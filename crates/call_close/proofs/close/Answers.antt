@@ -21,37 +21,39 @@ use borrow.Author.Rules.{rules}
 use mathlib.Core.Path.{◌≡◌, refl, sym, ap, ◌∙◌, subst}
 use native.Mathlib.Omega.{arith}
 use Rattle.call_close.proofs.close.Goals as goal
-use Rattle.call_close.proofs.close.Goals.{After-checks-c, After-filling_slot-i, After-row_at-row, In_default, Start}
+use Rattle.call_close.proofs.close.Lts
+use Rattle.call_close.proofs.close.Reads
+use Rattle.call_close.proofs.close.Tie
 
-sized : (c : Start) → RowsSized c.args.state
+sized : (c : Lts.Start Tie.the-claims Reads.Pre Reads.Post) → RowsSized c.args.state
 sized c = subst RowsSized (sym c.requires.0) (read_sized c.args.bytes.now)
 
-abbrev disk : (c : Start) → Disk
+abbrev disk : (c : Lts.Start Tie.the-claims Reads.Pre Reads.Post) → Disk
 disk c = mk_disk c.args.image.now c.args.pointers.now
 
-abbrev memory : (c : Start) → Memory
+abbrev memory : (c : Lts.Start Tie.the-claims Reads.Pre Reads.Post) → Memory
 memory c = mk_memory c.args.state c.args.addresses.now c.args.compact.now c.args.inflight.now
 
 -- the eighth is the state's
 slot_of_lem :
-    (c : After-filling_slot-i)
-    → c.filling_slot-i.result ≡ filling_slot c.args.p
-    c.args.state
+    (c : Lts.After-filling_slot Tie.the-claims Reads.Pre Reads.Post)
+    → c.filling_slot-i.result ≡ filling_slot c.before.before.before.before.before.before.before.before.before.args.p
+    c.before.before.before.before.before.before.before.before.before.args.state
 slot_of_lem c =
-    let args = c.args in
-    c.filling_slot-i.ensures ∙ front_filling args.p args.state c.front_of-f.result c.front_of-f.ensures
+    let args = c.before.before.before.before.before.before.before.before.before.args in
+    c.filling_slot-i.ensures ∙ front_filling args.p args.state c.before.front_of-f.result c.before.front_of-f.ensures
 
 pub checks-c-requires : goal.checks-c-requires
 checks-c-requires c =
     let e = c.requires.0 in
-    (slot_of_lem (goal.at.checks-c-requires c).After-filling_slot-i ∙ ap (filling_slot c.args.p) e, ap (λ (x : State). x.missing) e, c.requires.1)
+    (slot_of_lem c.before ∙ ap (filling_slot c.args.p) e, ap (λ (x : State). x.missing) e, c.requires.1)
 
 -- the refusal is that of the state
-abbrev start : After-checks-c → Start
+abbrev start : Lts.After-checks Tie.the-claims Reads.Pre Reads.Post → Lts.Start Tie.the-claims Reads.Pre Reads.Post
 start c =
-    c
+    c.before.before.before.before.before.before.before.before.before.before
 
-checked-is : (c : After-checks-c) → checked c.checks-c.result ≡ close_refusal (start c).args.p (start c).args.offline.now (disk (start c)) (memory (start c))
+checked-is : (c : Lts.After-checks Tie.the-claims Reads.Pre Reads.Post) → checked c.checks-c.result ≡ close_refusal (start c).args.p (start c).args.offline.now (disk (start c)) (memory (start c))
 checked-is c =
     let s = start c in
     let a = s.args in
@@ -61,40 +63,40 @@ checked-is c =
 pub returns-in-Fail : goal.returns-in-Fail
 returns-in-Fail c =
     let q = c.c-1.given in
-    λ n. close_refused c.args.p c.args.offline.now (disk (goal.at.returns-in-Fail c).Start) (memory (goal.at.returns-in-Fail c).Start) c.kept.result
-    (sym (checked-is (c)) ∙ ap checked q.1 ∙ ap (λ (x : Change). some x.answer) (sym c.kept.ensures)) n
+    λ n. close_refused c.args.p c.args.offline.now (disk c.before.before.before.before.before.before.before.before.before.before.before.before.before.before.before) (memory c.before.before.before.before.before.before.before.before.before.before.before.before.before.before.before) c.kept.result
+    (sym (checked-is c.before.before.before.before.before) ∙ ap checked q.1 ∙ ap (λ (x : Change). some x.answer) (sym c.kept.ensures)) n
 
 -- no check holds
-passed : (c : In_default)
-    → close_refusal (start c).args.p (start c).args.offline.now (disk (start c)) (memory (start c)) ≡ none
+passed : (c : Lts.After-enum_told Tie.the-claims Reads.Pre Reads.Post)
+    → close_refusal (start c.before.before).args.p (start c.before.before).args.offline.now (disk (start c.before.before)) (memory (start c.before.before)) ≡ none
 passed c =
-    sym (checked-is (c)) ∙ ap checked c.in_default.is
+    sym (checked-is c.before.before) ∙ ap checked c.enum_told-1.given.1
 
 pub row_at-row-requires : goal.row_at-row-requires
 row_at-row-requires c =
-    (c.requires.1, slot_low c.args.p c.args.state c.filling_slot_lem.result (slot_of_lem (c)) (close_ready c.args.p c.args.offline.now (disk (goal.at.row_at-row-requires c).Start) (memory (goal.at.row_at-row-requires c).Start) (passed (goal.at.row_at-row-requires c).In_default)).filling)
+    (c.requires.1, slot_low c.args.p c.args.state c.filling_slot_lem.result (slot_of_lem c.before.before.before.before) (close_ready c.args.p c.args.offline.now (disk c.before.before.before.before.before.before.before.before.before.before.before.before.before) (memory c.before.before.before.before.before.before.before.before.before.before.before.before.before) (passed c.before)).filling)
 
 -- the row is the state's
-row_is : (c : After-row_at-row) → c.row_at-row.result ≡ slot_row (start c).args.state c.filling_slot-i.result
+row_is : (c : Lts.After-row_at Tie.the-claims Reads.Pre Reads.Post) → c.row_at-row.result ≡ slot_row (start c.before.before.before).args.state c.before.before.before.before.filling_slot-i.result
 row_is c =
-    let i = c.filling_slot-i.result in
-    c.row_at-row.ensures ∙ ap (λ (x : State). slot_row x i) (sym c.requires.0)
+    let i = c.before.before.before.before.filling_slot-i.result in
+    c.row_at-row.ensures ∙ ap (λ (x : State). slot_row x i) (sym c.before.before.before.before.before.before.before.before.before.before.before.before.before.requires.0)
 
 pub pad_all-next-requires : goal.pad_all-next-requires
 pad_all-next-requires c =
-    let r = close_ready c.args.p c.args.offline.now (disk (goal.at.pad_all-next-requires c).Start) (memory (goal.at.pad_all-next-requires c).Start) (passed (goal.at.pad_all-next-requires c).In_default) in
+    let r = close_ready c.args.p c.args.offline.now (disk c.before.before.before.before.before.before.before.before.before.before.before.before.before.before.before) (memory c.before.before.before.before.before.before.before.before.before.before.before.before.before.before.before) (passed c.before.before.before) in
     let i = c.filling_slot_lem.result in
-    let e : c.row_at-row.result.filled ≡ filled_in_of c.args.state i = ap (λ (x : Row). x.filled) (row_is (goal.at.pad_all-next-requires c).After-row_at-row) ∙ row_filled c.args.state i in record { p_value = r.ranged; i_bound = (slot_low c.args.p c.args.state i (slot_of_lem (c)) r.filling, omega (arith, e, slot_open c.args.p c.args.state i (slot_of_lem (c)) r.filling), r.inflight_long) }
+    let e : c.row_at-row.result.filled ≡ filled_in_of c.args.state i = ap (λ (x : Row). x.filled) (row_is c.before.before) ∙ row_filled c.args.state i in record { p_value = r.ranged; i_bound = (slot_low c.args.p c.args.state i (slot_of_lem c.before.before.before.before.before.before) r.filling, omega (arith, e, slot_open c.args.p c.args.state i (slot_of_lem c.before.before.before.before.before.before) r.filling), r.inflight_long) }
 
 pub returns : goal.returns
 returns c =
     let q = c.pad_all-next in
     let f = c.front_of-f in
     let a = c.args in
-    let none! = passed (c) in
-    let r = close_ready a.p a.offline.now (disk (goal.at.returns c).Start) (memory (goal.at.returns c).Start) none! in
+    let none! = passed c.before.before.before.before.before.before.before.before.before in
+    let r = close_ready a.p a.offline.now (disk c.before.before.before.before.before.before.before.before.before.before.before.before.before.before.before.before.before.before.before.before.before) (memory c.before.before.before.before.before.before.before.before.before.before.before.before.before.before.before.before.before.before.before.before.before) none! in
     let at = filling_slot a.p a.state in
     let few : data_count a.p ≤ 8 = omega (arith, data_count_high a.p (ranged a.p r.ranged)) in
-    λ n. close_done a.p a.offline.now (disk (goal.at.returns c).Start) (memory (goal.at.returns c).Start) none! (sized (goal.at.returns c).Start) (slot_low a.p a.state at refl r.filling) few (slot_open a.p a.state at refl r.filling)
+    λ n. close_done a.p a.offline.now (disk c.before.before.before.before.before.before.before.before.before.before.before.before.before.before.before.before.before.before.before.before.before) (memory c.before.before.before.before.before.before.before.before.before.before.before.before.before.before.before.before.before.before.before.before.before) none! (sized c.before.before.before.before.before.before.before.before.before.before.before.before.before.before.before.before.before.before.before.before.before) (slot_low a.p a.state at refl r.filling) few (slot_open a.p a.state at refl r.filling)
     f.result f.ensures
-    c.filling_slot_lem.result (slot_of_lem (c)) c.row_at-row.result (row_is (c)) q.result q.new.inflight q.ensures.value q.ensures.inflight_after n
+    c.filling_slot_lem.result (slot_of_lem c.before.before.before.before.before.before.before.before.before.before.before.before) c.row_at-row.result (row_is c.before.before.before.before.before.before.before.before) q.result q.new.inflight q.ensures.value q.ensures.inflight_after n

@@ -12,13 +12,15 @@ use mathlib.Core.Bool.{Bool, true, false, not}
 use mathlib.Core.List.{[]}
 use mathlib.Core.Path.{◌≡◌, sym, ap, ◌∙◌}
 use Rattle.call_close.proofs.scarce_checks.Goals as goal
-use Rattle.call_close.proofs.scarce_checks.Goals.{Else-seen, Start}
+use Rattle.call_close.proofs.scarce_checks.Lts
+use Rattle.call_close.proofs.scarce_checks.Reads
+use Rattle.call_close.proofs.scarce_checks.Tie
 
-abbrev view : (c : Start) → View
+abbrev view : (c : Lts.Start Tie.the-claims Reads.Pre Reads.Post) → View
 view c = view_of c.args.p c.args.offline.now c.args.image.now c.args.pointers.now
 
 -- a block of the segment is left
-abbrev left : (c : Start) → Bool
+abbrev left : (c : Lts.Start Tie.the-claims Reads.Pre Reads.Post) → Bool
 left c =
     let a = c.args in
     not (is_nil (idle a.p (view c) (state_of a.bytes.now) (victim a.p (view c) a.addresses.now)))
@@ -27,31 +29,31 @@ pub returns-then-seen : goal.returns-then-seen
 returns-then-seen c =
     let a = c.args in
     let look = c.look-seen in
-    let e : left (goal.at.returns-then-seen c).Start ≡ true = ap not (look.ensures.none_idle ∙ ne_eqb look.result.first.0 never_place c.if-seen.true) in
-    left_fails a.p (view (goal.at.returns-then-seen c).Start) (state_of a.bytes.now) a.addresses.now (left (goal.at.returns-then-seen c).Start) e
+    let e : left c.before.before.before.before.before.before.before.before.before.before ≡ true = ap not (look.ensures.none_idle ∙ ne_eqb look.result.first.0 never_place c.if-seen.true) in
+    left_fails a.p (view c.before.before.before.before.before.before.before.before.before.before) (state_of a.bytes.now) a.addresses.now (left c.before.before.before.before.before.before.before.before.before.before) e
 
 -- none is
-nothing_left : (c : Else-seen) → left c ≡ false
+nothing_left : (c : Lts.Else1 Tie.the-claims Reads.Pre Reads.Post) → left c.before.before.before.before.before.before.before.before.before ≡ false
 nothing_left c =
-    let look = c.look-seen in
+    let look = c.before.before.before.look-seen in
     ap not (look.ensures.none_idle ∙ eq-eqb look.result.first.0 never_place c.if-seen.false)
 
 pub returns-then-not-state_ok : goal.returns-then-not-state_ok
 returns-then-not-state_ok c =
     let a = c.args in
     let state_ok_holds = c.state_ok in
-    close_numbers_fail a.p (view (goal.at.returns-then-not-state_ok c).Start) (state_of a.bytes.now) a.addresses.now (left (goal.at.returns-then-not-state_ok c).Start) (nothing_left (goal.at.returns-then-not-state_ok c).Else-seen)
+    close_numbers_fail a.p (view c.before.before.before.before.before.before.before.before.before.before.before.before) (state_of a.bytes.now) a.addresses.now (left c.before.before.before.before.before.before.before.before.before.before.before.before) (nothing_left c.before.before.before)
     (sym state_ok_holds.ensures ∙ not-true state_ok_holds.result c.if-not-state_ok.true-raw)
 
 pub is_outside-requires : goal.is_outside-requires
 is_outside-requires c =
-    let look = c.look-seen in record { p_value = c.requires.p_value; whole = (c.requires.whole.0, c.requires.whole.1, c.requires.addresses_len.0); addresses_value = λ h. outside_told c.args.p (view (goal.at.is_outside-requires c).Start) c.args.addresses.now look.result.outside (look.ensures.outside h) }
+    let look = c.look-seen in record { p_value = c.requires.p_value; whole = (c.requires.whole.0, c.requires.whole.1, c.requires.addresses_len.0); addresses_value = λ h. outside_told c.args.p (view c.before.before.before.before.before.before.before.before.before.before.before.before) c.args.addresses.now look.result.outside (look.ensures.outside h) }
 
 pub returns-then-is_outside : goal.returns-then-is_outside
 returns-then-is_outside c =
     let a = c.args in
     let state_ok_holds = c.state_ok in
-    table_fails a.p (view (goal.at.returns-then-is_outside c).Start) (state_of a.bytes.now) a.addresses.now (left (goal.at.returns-then-is_outside c).Start) (nothing_left (goal.at.returns-then-is_outside c).Else-seen)
+    table_fails a.p (view c.before.before.before.before.before.before.before.before.before.before.before.before.before.before) (state_of a.bytes.now) a.addresses.now (left c.before.before.before.before.before.before.before.before.before.before.before.before.before.before) (nothing_left c.before.before.before.before.before)
     (sym state_ok_holds.ensures ∙ not-false state_ok_holds.result c.if-not-state_ok.false-raw)
     (c.is_outside.ensures ∙ ap (λ (x : Bool). cons_if x 0 []) c.if-is_outside.true)
 
@@ -59,6 +61,6 @@ pub returns : goal.returns
 returns c =
     let a = c.args in
     let state_ok_holds = c.state_ok in
-    table_passes a.p (view (goal.at.returns c).Start) (state_of a.bytes.now) a.addresses.now (left (goal.at.returns c).Start) (nothing_left (goal.at.returns c).Else-seen)
+    table_passes a.p (view c.before.before.before.before.before.before.before.before.before.before.before.before.before.before) (state_of a.bytes.now) a.addresses.now (left c.before.before.before.before.before.before.before.before.before.before.before.before.before.before) (nothing_left c.before.before.before.before.before)
     (sym state_ok_holds.ensures ∙ not-false state_ok_holds.result c.if-not-state_ok.false-raw)
     (c.is_outside.ensures ∙ ap (λ (x : Bool). cons_if x 0 []) c.if-is_outside.false)

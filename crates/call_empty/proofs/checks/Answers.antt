@@ -11,31 +11,33 @@ use borrow.Author.Rules.{rules}
 use borrow.Author.Tests.{not-true, not-false}
 use mathlib.Core.Path.{◌≡◌, sym, ap, ◌∙◌}
 use Rattle.call_empty.proofs.checks.Goals as goal
-use Rattle.call_empty.proofs.checks.Goals.{Else-not-in_range, Else-not-lent_ok, Else-rule-ne0, Start}
+use Rattle.call_empty.proofs.checks.Lts
+use Rattle.call_empty.proofs.checks.Reads
+use Rattle.call_empty.proofs.checks.Tie
 
-abbrev disk : (c : Start) → Disk
+abbrev disk : (c : Lts.Start Tie.the-claims Reads.Pre Reads.Post) → Disk
 disk c = mk_disk c.args.image.now c.args.pointers.now
 
-abbrev memory : (c : Start) → State → Memory
+abbrev memory : (c : Lts.Start Tie.the-claims Reads.Pre Reads.Post) → State → Memory
 memory c st = mk_memory st c.args.addresses.now c.args.compact.now c.args.inflight.now
 
 -- the first refusal from the i-th check on
-abbrev from : (c : Start) → State → ℕ → Opt Answer
+abbrev from : (c : Lts.Start Tie.the-claims Reads.Pre Reads.Post) → State → ℕ → Opt Answer
 from c st i = empty_first c.args.p c.args.offline.now (disk c) (memory c st) c.args.address.0 i
 
 pub returns-then-not-in_range : goal.returns-then-not-in_range
 returns-then-not-in_range c =
     let in_range_holds = c.in_range in
-    λ st e. empty_range_fails c.args.p c.args.offline.now (disk (goal.at.returns-then-not-in_range c).Start) (memory (goal.at.returns-then-not-in_range c).Start st) c.args.address.0 (sym in_range_holds.ensures ∙ not-true in_range_holds.result c.if-not-in_range.true-raw)
+    λ st e. empty_range_fails c.args.p c.args.offline.now (disk c.before.before.before.before.before.before.before.before.before) (memory c.before.before.before.before.before.before.before.before.before st) c.args.address.0 (sym in_range_holds.ensures ∙ not-true in_range_holds.result c.if-not-in_range.true-raw)
 
 -- 1 passed
-abbrev start-1 : Else-not-in_range → Start
-start-1 c = c
+abbrev start-1 : Lts.Else1 Tie.the-claims Reads.Pre Reads.Post → Lts.Start Tie.the-claims Reads.Pre Reads.Post
+start-1 c = c.before.before.before.before.before.before.before.before
 
-ranged : (c : Else-not-in_range) (st : State) → from (start-1 c) st 1 ≡ from (start-1 c) st 0
+ranged : (c : Lts.Else1 Tie.the-claims Reads.Pre Reads.Post) (st : State) → from (start-1 c) st 1 ≡ from (start-1 c) st 0
 ranged c st =
     let s = start-1 c in
-    let in_range_holds = c.in_range in
+    let in_range_holds = c.before.in_range in
     empty_range_passes s.args.p s.args.offline.now (disk s) (memory s st) s.args.address.0 (sym in_range_holds.ensures ∙ not-false in_range_holds.result c.if-not-in_range.false-raw)
 
 pub lent_ok-requires : goal.lent_ok-requires
@@ -44,42 +46,42 @@ lent_ok-requires c = sym c.in_range.ensures ∙ not-false c.in_range.result c.if
 pub returns-then-not-lent_ok : goal.returns-then-not-lent_ok
 returns-then-not-lent_ok c =
     let lent_ok = c.lent_ok in
-    λ st e. empty_lengths_fail c.args.p c.args.offline.now (disk (goal.at.returns-then-not-lent_ok c).Start) (memory (goal.at.returns-then-not-lent_ok c).Start st) c.args.address.0 (sym (lent_ok.ensures st) ∙ not-true lent_ok.result c.if-not-lent_ok.true-raw)
-    ∙ ranged (goal.at.returns-then-not-lent_ok c).Else-not-in_range st
+    λ st e. empty_lengths_fail c.args.p c.args.offline.now (disk c.before.before.before.before.before.before.before.before.before.before.before) (memory c.before.before.before.before.before.before.before.before.before.before.before st) c.args.address.0 (sym (lent_ok.ensures st) ∙ not-true lent_ok.result c.if-not-lent_ok.true-raw)
+    ∙ ranged c.before.before.before st
 
 -- 1 and 2 passed
-abbrev start-2 : Else-not-lent_ok → Start
-start-2 c = start-1 c
+abbrev start-2 : Lts.Else2 Tie.the-claims Reads.Pre Reads.Post → Lts.Start Tie.the-claims Reads.Pre Reads.Post
+start-2 c = start-1 c.before.before
 
-lent : (c : Else-not-lent_ok) (st : State) → from (start-2 c) st 2 ≡ from (start-2 c) st 0
+lent : (c : Lts.Else2 Tie.the-claims Reads.Pre Reads.Post) (st : State) → from (start-2 c) st 2 ≡ from (start-2 c) st 0
 lent c st =
     let s = start-2 c in
-    let lent_ok = c.lent_ok in
+    let lent_ok = c.before.lent_ok in
     empty_lengths_pass s.args.p s.args.offline.now (disk s) (memory s st) s.args.address.0 (sym (lent_ok.ensures st) ∙ not-false lent_ok.result c.if-not-lent_ok.false-raw)
-    ∙ ranged c st
+    ∙ ranged c.before.before st
 
 pub list_rule-rule-requires : goal.list_rule-rule-requires
 list_rule-rule-requires c =
-    let s = start-2 (goal.at.list_rule-rule-requires c).Else-not-lent_ok in
+    let s = start-2 c.before in
     let in_range_holds = c.in_range in
     let whole = sym (c.lent_ok.ensures zero_state) ∙ not-false c.lent_ok.result c.if-not-lent_ok.false-raw in record { p_value = sym in_range_holds.ensures ∙ not-false in_range_holds.result c.if-not-in_range.false-raw; offline_len = (lent_long_lem s.args.p s.args.offline.now (disk s) (memory s zero_state) whole).5 }
 
 pub returns-then-rule-ne0 : goal.returns-then-rule-ne0
 returns-then-rule-ne0 c =
-    let s = start-2 (goal.at.returns-then-rule-ne0 c).Else-not-lent_ok in
+    let s = start-2 c.before.before.before in
     let rule = c.list_rule-rule in
-    λ st e. empty_list_fails s.args.p s.args.offline.now (disk s) (memory s st) s.args.address.0 rule.result rule.ensures c.if-rule-ne0.true ∙ lent (goal.at.returns-then-rule-ne0 c).Else-not-lent_ok st
+    λ st e. empty_list_fails s.args.p s.args.offline.now (disk s) (memory s st) s.args.address.0 rule.result rule.ensures c.if-rule-ne0.true ∙ lent c.before.before.before st
 
 -- so are 10 and the narrow 1
-listed : (c : Else-rule-ne0) (st : State) → from (start-2 c) st 4 ≡ from (start-2 c) st 0
+listed : (c : Lts.Else3 Tie.the-claims Reads.Pre Reads.Post) (st : State) → from (start-2 c.before.before) st 4 ≡ from (start-2 c.before.before) st 0
 listed c st =
-    let s = start-2 c in
-    let rule = c.list_rule-rule in
-    empty_list_passes s.args.p s.args.offline.now (disk s) (memory s st) s.args.address.0 rule.result rule.ensures c.if-rule-ne0.false ∙ lent c st
+    let s = start-2 c.before.before in
+    let rule = c.before.list_rule-rule in
+    empty_list_passes s.args.p s.args.offline.now (disk s) (memory s st) s.args.address.0 rule.result rule.ensures c.if-rule-ne0.false ∙ lent c.before.before st
 
 pub returns : goal.returns
 returns c =
-    let s = start-2 (goal.at.returns c).Else-not-lent_ok in
+    let s = start-2 c.before.before.before.before in
     let a = s.args in
     λ st e. c.later_checks.ensures ∙ ap (λ (x : ℕ). empty_third_holds x a.p.L a.address.0) (sym e)
-    ∙ empty_third a.p a.offline.now (disk s) (memory s st) a.address.0 ∙ listed (goal.at.returns c).Else-rule-ne0 st
+    ∙ empty_third a.p a.offline.now (disk s) (memory s st) a.address.0 ∙ listed c.before.before st

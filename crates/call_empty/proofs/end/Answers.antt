@@ -18,79 +18,81 @@ use borrow.Author.Tests.{lt-ltb, le-ltb, not-true, not-false}
 use mathlib.Core.Bool.{true, false}
 use mathlib.Core.Path.{◌≡◌, refl, sym, ap, ◌∙◌}
 use Rattle.call_empty.proofs.end.Goals as goal
-use Rattle.call_empty.proofs.end.Goals.{After-checks-c, After-filling_slot, After-state_ok, Else-filling_slot-lt8, In_default, Start}
+use Rattle.call_empty.proofs.end.Lts
+use Rattle.call_empty.proofs.end.Reads
+use Rattle.call_empty.proofs.end.Tie
 
-abbrev disk : (c : Start) → Disk
+abbrev disk : (c : Lts.Start Tie.the-claims Reads.Pre Reads.Post) → Disk
 disk c = mk_disk c.args.image.now c.args.pointers.now
 
-abbrev memory : (c : Start) → Memory
+abbrev memory : (c : Lts.Start Tie.the-claims Reads.Pre Reads.Post) → Memory
 memory c = mk_memory c.args.state c.args.addresses.now c.args.compact.now c.args.inflight.now
 
-abbrev start : After-checks-c → Start
-start c = c
+abbrev start : Lts.After-checks Tie.the-claims Reads.Pre Reads.Post → Lts.Start Tie.the-claims Reads.Pre Reads.Post
+start c = c.before.before.before.before.before.before.before.before.before
 
 -- the first refusal among the first six checks
-checked-is : (c : After-checks-c) → checked c.checks-c.result ≡ empty_first (start c).args.p (start c).args.offline.now (disk (start c)) (memory (start c)) (start c).args.address.0 0
+checked-is : (c : Lts.After-checks Tie.the-claims Reads.Pre Reads.Post) → checked c.checks-c.result ≡ empty_first (start c).args.p (start c).args.offline.now (disk (start c)) (memory (start c)) (start c).args.address.0 0
 checked-is c = c.checks-c.ensures (start c).args.state refl
 
 pub returns-in-Fail : goal.returns-in-Fail
 returns-in-Fail c =
     let a = c.args in
     let q = c.c-1.given in
-    let e = sym (checked-is (goal.at.returns-in-Fail c).After-checks-c) ∙ ap checked q.1 ∙ ap (λ (x : Change). some x.answer) (sym c.kept.ensures) in
-    λ n. empty_refused a.p a.offline.now (disk (goal.at.returns-in-Fail c).Start) (memory (goal.at.returns-in-Fail c).Start) a.address.0 n c.kept.result
-    (first_refuses 6 (empty_checks a.p (lent_ok_of a.p a.offline.now (disk (goal.at.returns-in-Fail c).Start) (memory (goal.at.returns-in-Fail c).Start)) (seen a.p a.offline.now (disk (goal.at.returns-in-Fail c).Start)) (memory (goal.at.returns-in-Fail c).Start) a.address.0) c.kept.result.answer e)
+    let e = sym (checked-is c.before.before.before.before.before) ∙ ap checked q.1 ∙ ap (λ (x : Change). some x.answer) (sym c.kept.ensures) in
+    λ n. empty_refused a.p a.offline.now (disk c.before.before.before.before.before.before.before.before.before.before.before.before.before.before) (memory c.before.before.before.before.before.before.before.before.before.before.before.before.before.before) a.address.0 n c.kept.result
+    (first_refuses 6 (empty_checks a.p (lent_ok_of a.p a.offline.now (disk c.before.before.before.before.before.before.before.before.before.before.before.before.before.before) (memory c.before.before.before.before.before.before.before.before.before.before.before.before.before.before)) (seen a.p a.offline.now (disk c.before.before.before.before.before.before.before.before.before.before.before.before.before.before)) (memory c.before.before.before.before.before.before.before.before.before.before.before.before.before.before) a.address.0) c.kept.result.answer e)
 
 -- none of the first six refuses
 passed :
-    (c : In_default)
-    → empty_first (start c).args.p (start c).args.offline.now (disk (start c)) (memory (start c))
-    (start c).args.address.0 0 ≡ none
-passed c = sym (checked-is c) ∙ ap checked c.in_default.is
+    (c : Lts.After-enum_told Tie.the-claims Reads.Pre Reads.Post)
+    → empty_first (start c.before.before).args.p (start c.before.before).args.offline.now (disk (start c.before.before)) (memory (start c.before.before))
+    (start c.before.before).args.address.0 0 ≡ none
+passed c = sym (checked-is c.before.before) ∙ ap checked c.enum_told-1.given.1
 
 -- the eighth is the state's
-slot_of_lem : (c : After-filling_slot) → c.filling_slot.result ≡ filling_slot (start c).args.p (start c).args.state
+slot_of_lem : (c : Lts.After-filling_slot Tie.the-claims Reads.Pre Reads.Post) → c.filling_slot.result ≡ filling_slot (start c.before.before.before).args.p (start c.before.before.before).args.state
 slot_of_lem c =
-    let a = (start c).args in
-    let f = c.front_of-f in
+    let a = (start c.before.before.before).args in
+    let f = c.before.before.before.before.front_of-f in
     c.filling_slot.ensures ∙ front_filling a.p a.state f.result f.ensures
 
 pub returns-then-filling_slot-lt8 : goal.returns-then-filling_slot-lt8
 returns-then-filling_slot-lt8 c =
     let a = c.args in
     let i = c.filling_slot_lem.result in
-    let h : has_filling a.p a.state ≡ true = sym (slot_is a.p a.state i (slot_of_lem (goal.at.returns-then-filling_slot-lt8 c).After-filling_slot)) ∙ lt-ltb i 8 c.if-filling_slot-lt8.true in
-    let low = (first_passed a.p a.offline.now (disk (goal.at.returns-then-filling_slot-lt8 c).Start) (memory (goal.at.returns-then-filling_slot-lt8 c).Start) a.address.0 (passed (goal.at.returns-then-filling_slot-lt8 c).In_default)).1 in
-    λ n. c.close.ensures n ∙ empty_as_close a.p a.offline.now (disk (goal.at.returns-then-filling_slot-lt8 c).Start) (memory (goal.at.returns-then-filling_slot-lt8 c).Start) a.address.0 n h low
+    let h : has_filling a.p a.state ≡ true = sym (slot_is a.p a.state i (slot_of_lem c.before.before.before.before.before.before)) ∙ lt-ltb i 8 c.if-filling_slot-lt8.true in
+    let low = (first_passed a.p a.offline.now (disk c.before.before.before.before.before.before.before.before.before.before.before.before.before.before.before.before.before.before) (memory c.before.before.before.before.before.before.before.before.before.before.before.before.before.before.before.before.before.before) a.address.0 (passed c.before.before.before.before.before.before.before)).1 in
+    λ n. c.close.ensures n ∙ empty_as_close a.p a.offline.now (disk c.before.before.before.before.before.before.before.before.before.before.before.before.before.before.before.before.before.before) (memory c.before.before.before.before.before.before.before.before.before.before.before.before.before.before.before.before.before.before) a.address.0 n h low
 
 pub state_ok-requires : goal.state_ok-requires
-state_ok-requires c = record { p_value = (first_passed c.args.p c.args.offline.now (disk (goal.at.state_ok-requires c).Start) (memory (goal.at.state_ok-requires c).Start) c.args.address.0 (passed (goal.at.state_ok-requires c).In_default)).0; bytes_len = c.requires.1 }
+state_ok-requires c = record { p_value = (first_passed c.args.p c.args.offline.now (disk c.before.before.before.before.before.before.before.before.before.before.before.before.before.before) (memory c.before.before.before.before.before.before.before.before.before.before.before.before.before.before) c.args.address.0 (passed c.before.before.before)).0; bytes_len = c.requires.1 }
 
 -- no stripe is filling
-idle-is : (c : Else-filling_slot-lt8) → has_filling (start c).args.p (start c).args.state ≡ false
+idle-is : (c : Lts.Else1 Tie.the-claims Reads.Pre Reads.Post) → has_filling (start c.before.before.before.before).args.p (start c.before.before.before.before).args.state ≡ false
 idle-is c =
-    let a = (start c).args in
-    let i = c.filling_slot.result in
-    sym (slot_is a.p a.state i (slot_of_lem c)) ∙ le-ltb i 8 c.if-filling_slot-lt8.false
+    let a = (start c.before.before.before.before).args in
+    let i = c.before.filling_slot.result in
+    sym (slot_is a.p a.state i (slot_of_lem c.before)) ∙ le-ltb i 8 c.if-filling_slot-lt8.false
 
 -- the state's numbers
-state_is : (c : After-state_ok) → c.state_ok.result ≡ state_ok (start c).args.p (start c).args.state
+state_is : (c : Lts.After-state_ok Tie.the-claims Reads.Pre Reads.Post) → c.state_ok.result ≡ state_ok (start c.before.before.before.before.before).args.p (start c.before.before.before.before.before).args.state
 state_is c =
-    let s = start c in
+    let s = start c.before.before.before.before.before in
     c.state_ok.ensures ∙ ap (state_ok s.args.p) (sym s.requires.0)
 
 pub returns-then-not-state_ok : goal.returns-then-not-state_ok
 returns-then-not-state_ok c =
     let a = c.args in
-    let bad : state_ok a.p a.state ≡ false = sym (state_is (goal.at.returns-then-not-state_ok c).After-state_ok) ∙ not-true c.state_ok_holds.result c.if-not-state_ok.true-raw in
-    let e = sym (empty_state_fails a.p a.offline.now (disk (goal.at.returns-then-not-state_ok c).Start) (memory (goal.at.returns-then-not-state_ok c).Start) a.address.0 (passed (goal.at.returns-then-not-state_ok c).In_default) (idle-is (goal.at.returns-then-not-state_ok c).Else-filling_slot-lt8) bad) in
-    λ n. empty_refused a.p a.offline.now (disk (goal.at.returns-then-not-state_ok c).Start) (memory (goal.at.returns-then-not-state_ok c).Start) a.address.0 n c.kept-then-not-state_ok.result (e ∙ ap (λ (x : Change). some x.answer) (sym c.kept-then-not-state_ok.ensures))
+    let bad : state_ok a.p a.state ≡ false = sym (state_is c.before.before.before) ∙ not-true c.state_ok_holds.result c.if-not-state_ok.true-raw in
+    let e = sym (empty_state_fails a.p a.offline.now (disk c.before.before.before.before.before.before.before.before.before.before.before.before.before.before.before.before.before) (memory c.before.before.before.before.before.before.before.before.before.before.before.before.before.before.before.before.before) a.address.0 (passed c.before.before.before.before.before.before) (idle-is c.before.before.before.before) bad) in
+    λ n. empty_refused a.p a.offline.now (disk c.before.before.before.before.before.before.before.before.before.before.before.before.before.before.before.before.before) (memory c.before.before.before.before.before.before.before.before.before.before.before.before.before.before.before.before.before) a.address.0 n c.kept-then-not-state_ok.result (e ∙ ap (λ (x : Change). some x.answer) (sym c.kept-then-not-state_ok.ensures))
 
 pub returns : goal.returns
 returns c =
     let a = c.args in
-    let good : state_ok a.p a.state ≡ true = sym (state_is (goal.at.returns c).After-state_ok) ∙ not-false c.state_ok_holds.result c.if-not-state_ok.false-raw in
-    let idle = idle-is (goal.at.returns c).Else-filling_slot-lt8 in
-    let e = sym (empty_state_passes a.p a.offline.now (disk (goal.at.returns c).Start) (memory (goal.at.returns c).Start) a.address.0 (passed (goal.at.returns c).In_default) idle good) in
+    let good : state_ok a.p a.state ≡ true = sym (state_is c.before.before.before) ∙ not-false c.state_ok_holds.result c.if-not-state_ok.false-raw in
+    let idle = idle-is c.before.before.before.before in
+    let e = sym (empty_state_passes a.p a.offline.now (disk c.before.before.before.before.before.before.before.before.before.before.before.before.before.before.before.before.before) (memory c.before.before.before.before.before.before.before.before.before.before.before.before.before.before.before.before.before) a.address.0 (passed c.before.before.before.before.before.before) idle good) in
     let f = c.front_of-f in
-    λ n. empty_nothing a.p a.offline.now (disk (goal.at.returns c).Start) (memory (goal.at.returns c).Start) a.address.0 n e idle c.nothing.result (c.nothing.ensures ∙ ap (kept_as Nothing) f.ensures)
+    λ n. empty_nothing a.p a.offline.now (disk c.before.before.before.before.before.before.before.before.before.before.before.before.before.before.before.before.before) (memory c.before.before.before.before.before.before.before.before.before.before.before.before.before.before.before.before.before) a.address.0 n e idle c.nothing.result (c.nothing.ensures ∙ ap (kept_as Nothing) f.ensures)

@@ -19,22 +19,24 @@ use Prim.Native.Nat.{ℕ}
 use mathlib.Core.Bool.{true}
 use mathlib.Core.Path.{◌≡◌, refl, sym, ◌∙◌}
 use Rattle.call_land.proofs.checks.Goals as goal
-use Rattle.call_land.proofs.checks.Goals.{After-waiting, Else-missing-ne0, Else-not-lent_ok, Else-not-state_ok, Else-not-waiting, Else-rule-ne0, Start}
+use Rattle.call_land.proofs.checks.Lts
+use Rattle.call_land.proofs.checks.Reads
+use Rattle.call_land.proofs.checks.Tie
 
-abbrev diskIn : Start → Disk
+abbrev diskIn : Lts.Start Tie.the-claims Reads.Pre Reads.Post → Disk
 diskIn s = mk_disk s.args.image.now s.args.pointers.now
 
-abbrev memoryIn : Start → Memory
+abbrev memoryIn : Lts.Start Tie.the-claims Reads.Pre Reads.Post → Memory
 memoryIn s = mk_memory (state_of s.args.bytes.now) s.args.addresses.now s.args.compact.now s.args.inflight.now
 
 -- the first refusal from the i-th check on
-abbrev from : Start → ℕ → Opt Answer
+abbrev from : Lts.Start Tie.the-claims Reads.Pre Reads.Post → ℕ → Opt Answer
 from s i = land_from s.args.p s.args.offline.now (diskIn s) (memoryIn s) s.args.drive s.args.stripe i
 
 pub returns-then-not-in_range : goal.returns-then-not-in_range
 returns-then-not-in_range c =
     let in_range_holds = c.in_range in record { check_value = c.refused.ensures
-          ∙ land_range_fails c.args.p c.args.offline.now (diskIn (goal.at.returns-then-not-in_range c).Start) (memoryIn (goal.at.returns-then-not-in_range c).Start) c.args.drive c.args.stripe
+          ∙ land_range_fails c.args.p c.args.offline.now (diskIn c.before.before.before.before.before.before.before.before.before.before.before) (memoryIn c.before.before.before.before.before.before.before.before.before.before.before) c.args.drive c.args.stripe
           (sym in_range_holds.ensures ∙ not-true in_range_holds.result c.if-not-in_range.true-raw); target_at = λ e. some_none (sym c.refused.ensures ∙ e) }
 
 pub lent_ok-requires : goal.lent_ok-requires
@@ -44,21 +46,21 @@ pub returns-then-not-lent_ok : goal.returns-then-not-lent_ok
 returns-then-not-lent_ok c =
     let lent_ok = c.lent_ok in
     let in_range_holds = c.in_range in record { check_value = c.refused-then-not-lent_ok.ensures
-          ∙ land_lengths_fail c.args.p c.args.offline.now (diskIn (goal.at.returns-then-not-lent_ok c).Start) (memoryIn (goal.at.returns-then-not-lent_ok c).Start) c.args.drive c.args.stripe
-          (sym (lent_ok.ensures (memoryIn (goal.at.returns-then-not-lent_ok c).Start).state) ∙ not-true lent_ok.result c.if-not-lent_ok.true-raw)
-          ∙ land_range_passes c.args.p c.args.offline.now (diskIn (goal.at.returns-then-not-lent_ok c).Start) (memoryIn (goal.at.returns-then-not-lent_ok c).Start) c.args.drive c.args.stripe
+          ∙ land_lengths_fail c.args.p c.args.offline.now (diskIn c.before.before.before.before.before.before.before.before.before.before.before.before.before) (memoryIn c.before.before.before.before.before.before.before.before.before.before.before.before.before) c.args.drive c.args.stripe
+          (sym (lent_ok.ensures (memoryIn c.before.before.before.before.before.before.before.before.before.before.before.before.before).state) ∙ not-true lent_ok.result c.if-not-lent_ok.true-raw)
+          ∙ land_range_passes c.args.p c.args.offline.now (diskIn c.before.before.before.before.before.before.before.before.before.before.before.before.before) (memoryIn c.before.before.before.before.before.before.before.before.before.before.before.before.before) c.args.drive c.args.stripe
           (sym in_range_holds.ensures ∙ not-false in_range_holds.result c.if-not-in_range.false-raw); target_at = λ e. some_none (sym c.refused-then-not-lent_ok.ensures ∙ e) }
 
-module _ (c : Else-not-lent_ok) where
-  abbrev begun : Start
-  begun = c
+module _ (c : Lts.Else2 Tie.the-claims Reads.Pre Reads.Post) where
+  abbrev begun : Lts.Start Tie.the-claims Reads.Pre Reads.Post
+  begun = c.before.before.before.before.before.before.before.before.before.before.before
 
   -- 1 and 2 do not hold
   ranged : in_range begun.args.p ≡ true
-  ranged = let in_range_holds = c.in_range in sym in_range_holds.ensures ∙ not-false in_range_holds.result c.if-not-in_range.false-raw
+  ranged = let in_range_holds = c.before.before.before.in_range in sym in_range_holds.ensures ∙ not-false in_range_holds.result c.before.before.if-not-in_range.false-raw
 
   lent : lent_ok_of begun.args.p begun.args.offline.now (diskIn begun) (memoryIn begun) ≡ true
-  lent = sym (c.lent_ok.ensures (memoryIn begun).state) ∙ not-false c.lent_ok.result c.if-not-lent_ok.false-raw
+  lent = sym (c.before.lent_ok.ensures (memoryIn begun).state) ∙ not-false c.before.lent_ok.result c.if-not-lent_ok.false-raw
 
   fitting : from begun 2 ≡ from begun 0
   fitting =
@@ -68,45 +70,45 @@ module _ (c : Else-not-lent_ok) where
 
 pub list_rule-rule-requires : goal.list_rule-rule-requires
 list_rule-rule-requires c =
-    let s = begun c in record { p_value = ranged c; offline_len = (lent_long_lem s.args.p s.args.offline.now (diskIn s) (memoryIn s) (lent c)).5 }
+    let s = begun c.before in record { p_value = ranged c.before; offline_len = (lent_long_lem s.args.p s.args.offline.now (diskIn s) (memoryIn s) (lent c.before)).5 }
 
 pub returns-then-rule-ne0 : goal.returns-then-rule-ne0
 returns-then-rule-ne0 c =
-    let s = begun c in
+    let s = begun c.before.before.before.before in
     let list-rule = c.list_rule-rule in record { check_value = c.refused-then-rule-ne0.ensures
           ∙ land_list_fails s.args.p s.args.offline.now (diskIn s) (memoryIn s) s.args.drive s.args.stripe
-          list-rule.result list-rule.ensures c.if-rule-ne0.true ∙ fitting c; target_at = λ e. some_none (sym c.refused-then-rule-ne0.ensures ∙ e) }
+          list-rule.result list-rule.ensures c.if-rule-ne0.true ∙ fitting c.before.before.before.before; target_at = λ e. some_none (sym c.refused-then-rule-ne0.ensures ∙ e) }
 
-module _ (c : Else-rule-ne0) where
-  abbrev listed : Start
-  listed = begun c
+module _ (c : Lts.Else3 Tie.the-claims Reads.Pre Reads.Post) where
+  abbrev listed : Lts.Start Tie.the-claims Reads.Pre Reads.Post
+  listed = begun c.before.before
 
   -- nor do 10 and the narrow 1
   enough : from listed 4 ≡ from listed 0
   enough =
       let s = listed in
-      land_list_passes s.args.p s.args.offline.now (diskIn s) (memoryIn s) s.args.drive s.args.stripe c.list_rule-rule.result c.list_rule-rule.ensures c.if-rule-ne0.false
-      ∙ fitting c
+      land_list_passes s.args.p s.args.offline.now (diskIn s) (memoryIn s) s.args.drive s.args.stripe c.before.list_rule-rule.result c.before.list_rule-rule.ensures c.if-rule-ne0.false
+      ∙ fitting c.before.before
 
 pub returns-then-missing-ne0 : goal.returns-then-missing-ne0
 returns-then-missing-ne0 c =
-    let s = listed c in record { check_value = c.refused-then-missing-ne0.ensures
+    let s = listed c.before.before.before in record { check_value = c.refused-then-missing-ne0.ensures
           ∙ land_missing_fails s.args.p s.args.offline.now (diskIn s) (memoryIn s) s.args.drive s.args.stripe
-          (λ e. c.if-missing-ne0.true (s.requires.missing_value.0 ∙ e)) ∙ enough c; target_at = λ e. some_none (sym c.refused-then-missing-ne0.ensures ∙ e) }
+          (λ e. c.if-missing-ne0.true (s.requires.missing_value.0 ∙ e)) ∙ enough c.before.before.before; target_at = λ e. some_none (sym c.refused-then-missing-ne0.ensures ∙ e) }
 
-module _ (c : Else-missing-ne0) where
+module _ (c : Lts.Else4 Tie.the-claims Reads.Pre Reads.Post) where
   -- nor does 3
-  healthy : from (listed c) 5 ≡ from (listed c) 0
+  healthy : from (listed c.before) 5 ≡ from (listed c.before) 0
   healthy =
-      let s = listed c in
-      land_missing_passes s.args.p s.args.offline.now (diskIn s) (memoryIn s) s.args.drive s.args.stripe (sym s.requires.missing_value.0 ∙ c.if-missing-ne0.false) ∙ enough c
+      let s = listed c.before in
+      land_missing_passes s.args.p s.args.offline.now (diskIn s) (memoryIn s) s.args.drive s.args.stripe (sym s.requires.missing_value.0 ∙ c.if-missing-ne0.false) ∙ enough c.before
 
 pub waiting-requires : goal.waiting-requires
-waiting-requires c = ranged c
+waiting-requires c = ranged c.before.before.before.before.before
 
-module _ (c : After-waiting) where
-  abbrev asked : Start
-  asked = listed c
+module _ (c : Lts.After-waiting Tie.the-claims Reads.Pre Reads.Post) where
+  abbrev asked : Lts.Start Tie.the-claims Reads.Pre Reads.Post
+  asked = listed c.before.before.before
 
   -- what the row says is what the definition says
   waits-is : c.waiting.result ≡ waiting asked.args.p (memoryIn asked).state asked.args.drive asked.args.stripe
@@ -116,43 +118,43 @@ module _ (c : After-waiting) where
 
 pub returns-then-not-waiting : goal.returns-then-not-waiting
 returns-then-not-waiting c =
-    let s = asked c in record { check_value = c.refused-then-not-waiting.ensures
+    let s = asked c.before.before.before in record { check_value = c.refused-then-not-waiting.ensures
           ∙ waiting_fails s.args.p s.args.offline.now (diskIn s) (memoryIn s) s.args.drive s.args.stripe
-          (sym (waits-is c) ∙ not-true c.waiting.result c.if-not-waiting.true-raw) ∙ healthy c; target_at = λ e. some_none (sym c.refused-then-not-waiting.ensures ∙ e) }
+          (sym (waits-is c.before.before.before) ∙ not-true c.waiting.result c.if-not-waiting.true-raw) ∙ healthy c.before.before.before.before.before; target_at = λ e. some_none (sym c.refused-then-not-waiting.ensures ∙ e) }
 
-module _ (c : Else-not-waiting) where
+module _ (c : Lts.Else5 Tie.the-claims Reads.Pre Reads.Post) where
   -- nor does 5
-  waits : waiting (asked c).args.p (memoryIn (asked c)).state (asked c).args.drive (asked c).args.stripe ≡ true
-  waits = sym (waits-is c) ∙ not-false c.waiting.result c.if-not-waiting.false-raw
+  waits : waiting (asked c.before).args.p (memoryIn (asked c.before)).state (asked c.before).args.drive (asked c.before).args.stripe ≡ true
+  waits = sym (waits-is c.before) ∙ not-false c.before.waiting.result c.if-not-waiting.false-raw
 
-  waited : from (asked c) 6 ≡ from (asked c) 0
+  waited : from (asked c.before) 6 ≡ from (asked c.before) 0
   waited =
-      let s = asked c in
-      waiting_passes s.args.p s.args.offline.now (diskIn s) (memoryIn s) s.args.drive s.args.stripe waits ∙ healthy c
+      let s = asked c.before in
+      waiting_passes s.args.p s.args.offline.now (diskIn s) (memoryIn s) s.args.drive s.args.stripe waits ∙ healthy c.before.before.before
 
 pub state_ok-requires : goal.state_ok-requires
-state_ok-requires c = record { p_value = ranged c; bytes_len = (asked c).pre.1.1 }
+state_ok-requires c = record { p_value = ranged c.before.before.before.before.before.before.before; bytes_len = (asked c.before.before).pre.1.1 }
 
 pub returns-then-not-state_ok : goal.returns-then-not-state_ok
 returns-then-not-state_ok c =
-    let s = asked c in
+    let s = asked c.before.before.before.before.before in
     let state_ok_holds = c.state_ok in record { check_value = c.refused-then-not-state_ok.ensures
           ∙ land_state_fails s.args.p s.args.offline.now (diskIn s) (memoryIn s) s.args.drive s.args.stripe
-          (sym state_ok_holds.ensures ∙ not-true state_ok_holds.result c.if-not-state_ok.true-raw) ∙ waited c; target_at = λ e. some_none (sym c.refused-then-not-state_ok.ensures ∙ e) }
+          (sym state_ok_holds.ensures ∙ not-true state_ok_holds.result c.if-not-state_ok.true-raw) ∙ waited c.before.before.before.before; target_at = λ e. some_none (sym c.refused-then-not-state_ok.ensures ∙ e) }
 
-module _ (c : Else-not-state_ok) where
-  abbrev done : Start
-  done = asked c
+module _ (c : Lts.Else6 Tie.the-claims Reads.Pre Reads.Post) where
+  abbrev done : Lts.Start Tie.the-claims Reads.Pre Reads.Post
+  done = asked c.before.before.before
 
   -- nor does 9, as far as the state's numbers go
   fine : state_ok done.args.p (memoryIn done).state ≡ true
-  fine = sym c.state_ok.ensures ∙ not-false c.state_ok.result c.if-not-state_ok.false-raw
+  fine = sym c.before.state_ok.ensures ∙ not-false c.before.state_ok.result c.if-not-state_ok.false-raw
 
   looked : LookedAt done.args.p (memoryIn done) done.args.addresses.now done.args.opened done.args.drive done.args.stripe done.args.seen
   looked =
       let s = done in
       let st = (memoryIn s).state in
-      let w = waits_low s.args.p st s.args.drive s.args.stripe (waits c) in
+      let w = waits_low s.args.p st s.args.drive s.args.stripe (waits c.before.before) in
       record {
         addresses = refl;
         opened_is = sym s.requires.missing_value.2;
@@ -163,11 +165,11 @@ module _ (c : Else-not-state_ok) where
 
 pub zone_checks-requires : goal.zone_checks-requires
 zone_checks-requires c =
-    let s = begun c in
-    let l = lent_long_lem s.args.p s.args.offline.now (diskIn s) (memoryIn s) (lent c) in
-    let w = waits_low s.args.p (memoryIn s).state s.args.drive s.args.stripe (waits c) in record { p_value = ranged c; whole = (record { image_long = l.0; pointers_long = l.1 }, l.5, l.2); drive_lt_n = (w.0, (memoryIn s, looked c)) }
+    let s = begun c.before.before.before.before.before.before.before.before.before in
+    let l = lent_long_lem s.args.p s.args.offline.now (diskIn s) (memoryIn s) (lent c.before.before.before.before.before.before.before.before.before) in
+    let w = waits_low s.args.p (memoryIn s).state s.args.drive s.args.stripe (waits c.before.before.before) in record { p_value = ranged c.before.before.before.before.before.before.before.before.before; whole = (record { image_long = l.0; pointers_long = l.1 }, l.5, l.2); drive_lt_n = (w.0, (memoryIn s, looked c.before)) }
 
 pub returns : goal.returns
 returns c =
-    let s = done c in record { check_value = c.zone_checks.ensures.check_value (memoryIn s) (looked c)
-          ∙ land_state_passes s.args.p s.args.offline.now (diskIn s) (memoryIn s) s.args.drive s.args.stripe (fine c) ∙ waited c; target_at = c.zone_checks.ensures.target_at (memoryIn s) (looked c) }
+    let s = done c.before.before in record { check_value = c.zone_checks.ensures.check_value (memoryIn s) (looked c.before.before)
+          ∙ land_state_passes s.args.p s.args.offline.now (diskIn s) (memoryIn s) s.args.drive s.args.stripe (fine c.before.before) ∙ waited c.before.before.before.before; target_at = c.zone_checks.ensures.target_at (memoryIn s) (looked c.before.before) }

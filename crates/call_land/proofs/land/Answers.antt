@@ -16,7 +16,9 @@ use Rattle.law_views.specs.Views.{seen}
 use borrow.Author.Rules.{rules}
 use mathlib.Core.Path.{◌≡◌, sym, ap, ◌∙◌, subst}
 use Rattle.call_land.proofs.land.Goals as goal
-use Rattle.call_land.proofs.land.Goals.{After-checks-sight, In_default, Start}
+use Rattle.call_land.proofs.land.Lts
+use Rattle.call_land.proofs.land.Reads
+use Rattle.call_land.proofs.land.Tie
 
 pub look_at-seen-requires : goal.look_at-seen-requires
 look_at-seen-requires c = c.requires
@@ -28,20 +30,20 @@ checks-sight-requires c =
     let e = c.requires.0 in record { looks = subst (λ (x : State). Looks a.p x a.drive a.stripe l.result) e l.ensures; missing_value = (ap (λ (x : State). x.missing) e, c.requires.1, ap (λ (x : State). x.opened) e) }
 
 -- the refusal is that of the state
-abbrev start : After-checks-sight → Start
+abbrev start : Lts.After-checks Tie.the-claims Reads.Pre Reads.Post → Lts.Start Tie.the-claims Reads.Pre Reads.Post
 start c =
-    c
+    c.before.before.before.before.before.before.before.before.before.before
 
-abbrev disk : Start → Disk
+abbrev disk : Lts.Start Tie.the-claims Reads.Pre Reads.Post → Disk
 disk s = mk_disk s.args.image.now s.args.pointers.now
 
-abbrev memory : Start → State → Memory
+abbrev memory : Lts.Start Tie.the-claims Reads.Pre Reads.Post → State → Memory
 memory s x = mk_memory x s.args.addresses.now s.args.compact.now s.args.inflight.now
 
-abbrev refuses : Start → State → Opt Answer
+abbrev refuses : Lts.Start Tie.the-claims Reads.Pre Reads.Post → State → Opt Answer
 refuses s x = land_refusal s.args.p s.args.offline.now (disk s) (memory s x) s.args.drive s.args.stripe
 
-checked-is : (c : After-checks-sight) → checked c.checks-sight.result.check ≡ refuses (start c) (start c).args.state
+checked-is : (c : Lts.After-checks Tie.the-claims Reads.Pre Reads.Post) → checked c.checks-sight.result.check ≡ refuses (start c) (start c).args.state
 checked-is c = subst (λ (x : State). checked c.checks-sight.result.check ≡ refuses (start c) x) (sym (start c).requires.0) c.checks-sight.ensures.check_value
 
 pub returns-in-Fail : goal.returns-in-Fail
@@ -49,38 +51,38 @@ returns-in-Fail c =
     let a = c.args in
     let q = c.c-1.given in
     let e = sym (ap (λ (x : Change). x.answer) c.kept.ensures) in
-    land_refused a.p a.offline.now (disk (goal.at.returns-in-Fail c).Start) (memory (goal.at.returns-in-Fail c).Start a.state) a.drive a.stripe a.count c.kept.result
-    (sym (checked-is (goal.at.returns-in-Fail c).After-checks-sight) ∙ ap checked q.1 ∙ ap some e)
+    land_refused a.p a.offline.now (disk c.before.before.before.before.before.before.before.before.before.before.before.before.before.before.before) (memory c.before.before.before.before.before.before.before.before.before.before.before.before.before.before.before a.state) a.drive a.stripe a.count c.kept.result
+    (sym (checked-is c.before.before.before.before.before) ∙ ap checked q.1 ∙ ap some e)
 
 -- the arrays have their lengths
-sized : (c : Start) → RowsSized c.args.state
+sized : (c : Lts.Start Tie.the-claims Reads.Pre Reads.Post) → RowsSized c.args.state
 sized c = subst RowsSized (sym c.requires.0) (read_sized c.args.bytes.now)
 
-module _ (c : In_default) where
-  abbrev begun : Start
-  begun = start c
+module _ (c : Lts.After-enum_told Tie.the-claims Reads.Pre Reads.Post) where
+  abbrev begun : Lts.Start Tie.the-claims Reads.Pre Reads.Post
+  begun = start c.before.before
 
   -- the state, looked at and not refused
   chosen : Chosen begun.args.p begun.args.offline.now (disk begun) begun.args.addresses.now begun.args.compact.now begun.args.inflight.now begun.args.drive
-      begun.args.stripe c.look_at-seen.result c.checks-sight.result.target
-      c.front_of-front.result begun.args.state
+      begun.args.stripe c.before.before.before.before.look_at-seen.result c.before.before.checks-sight.result.target
+      c.before.before.before.front_of-front.result begun.args.state
   chosen =
-      let checks = c.checks-sight in
-      let look = c.look_at-seen in
+      let checks = c.before.before.checks-sight in
+      let look = c.before.before.before.before.look_at-seen in
       let s = begun in
-      let e : checked checks.result.check ≡ none = ap checked c.in_default.is in
+      let e : checked checks.result.check ≡ none = ap checked c.enum_told-1.given.1 in
       record {
         sized = sized s;
-        front = c.front_of-front.ensures;
+        front = c.before.before.before.front_of-front.ensures;
         looks = look.ensures;
         target = subst (λ (x : State). TargetAt s.args.p (seen s.args.p s.args.offline.now (disk s)) x s.args.drive look.result.done checks.result.target)
             (sym s.requires.0) (checks.ensures.target_at e);
-        none! = sym (checked-is c) ∙ e;
+        none! = sym (checked-is c.before.before) ∙ e;
       }
 
 pub plan-requires : goal.plan-requires
-plan-requires c = ((begun c).args.state, chosen c)
+plan-requires c = ((begun c.before.before.before.before.before.before).args.state, chosen c.before.before.before.before.before.before)
 
 pub returns : goal.returns
 returns c =
-    c.plan.ensures (begun c).args.state (chosen c)
+    c.plan.ensures (begun c.before.before.before.before.before.before.before.before.before.before.before.before.before.before.before).args.state (chosen c.before.before.before.before.before.before.before.before.before.before.before.before.before.before.before)

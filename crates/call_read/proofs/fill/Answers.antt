@@ -21,37 +21,39 @@ use mathlib.Core.List.{List}
 use mathlib.Core.Path.{◌≡◌, refl, sym, ap, ◌∙◌, subst}
 use borrow.Author.Rules.{rules}
 use Rattle.call_read.proofs.fill.Goals as goal
-use Rattle.call_read.proofs.fill.Goals.{After-seek-sought, Start}
+use Rattle.call_read.proofs.fill.Lts
+use Rattle.call_read.proofs.fill.Reads
+use Rattle.call_read.proofs.fill.Tie
 
-abbrev disk : Start → Disk
+abbrev disk : Lts.Start Tie.the-claims Reads.Pre Reads.Post → Disk
 disk s = mk_disk s.args.image.now s.args.pointers.now
 
-abbrev memory : Start → Memory
+abbrev memory : Lts.Start Tie.the-claims Reads.Pre Reads.Post → Memory
 memory s = mk_memory (state_of s.args.state.now) s.args.addresses.now s.args.compact.now s.args.inflight.now
 
-abbrev start : After-seek-sought → Start
-start c = c
+abbrev start : Lts.After-seek Tie.the-claims Reads.Pre Reads.Post → Lts.Start Tie.the-claims Reads.Pre Reads.Post
+start c = c.before.before.before.before.before.before.before.before.before.before
 
 -- the bytes that `seek` leaves
-abbrev starts : After-seek-sought → List ℕ
+abbrev starts : Lts.After-seek Tie.the-claims Reads.Pre Reads.Post → List ℕ
 starts c = c.seek-sought.new.bytes
 
 -- what was sought, by its variant
-told : (c : After-seek-sought) (x : Sought) → c.seek-sought.result ≡ x
+told : (c : Lts.After-seek Tie.the-claims Reads.Pre Reads.Post) (x : Sought) → c.seek-sought.result ≡ x
     → SoughtBy (start c).args.p (start c).args.offline.now (disk (start c)) (memory (start c)) (start c).args.address.0 (length (start c).args.block.now) x (starts c)
 told c x e =
     let s = start c in
     subst (λ (y : Sought). SoughtBy s.args.p s.args.offline.now (disk s) (memory s) s.args.address.0 (length s.args.block.now) y (starts c)) e c.seek-sought.ensures
 
 -- no check refuses it
-ready : (c : After-seek-sought) (x : Sought) → c.seek-sought.result ≡ x → refused_by x ≡ none
+ready : (c : Lts.After-seek Tie.the-claims Reads.Pre Reads.Post) (x : Sought) → c.seek-sought.result ≡ x → refused_by x ≡ none
     → ReadReady (start c).args.p (start c).args.offline.now (disk (start c)) (memory (start c)) (start c).args.address.0 (length (start c).args.block.now)
 ready c x e n =
     let s = start c in
     read_ready s.args.p s.args.offline.now (disk s) (memory s) s.args.address.0 (length s.args.block.now) (sym (told c x e).0 ∙ n)
 
 -- what the call leaves, by the variant and the block
-left : (c : After-seek-sought) (x : Sought) (b : List ℕ) → c.seek-sought.result ≡ x
+left : (c : Lts.After-seek Tie.the-claims Reads.Pre Reads.Post) (x : Sought) (b : List ℕ) → c.seek-sought.result ≡ x
     → Fills (start c).args.p (start c).args.offline.now (disk (start c)) (memory (start c)) (start c).args.address.0 (start c).args.block.now x (starts c) b
     → mk_after (fill_answer x) (disk (start c)) (memory (start c)) b
     ≡ call_disk (start c).args.p (start c).args.offline.now (disk (start c)) (memory (start c)) (fill (start c).args.address.0 (start c).args.block.now)
@@ -63,37 +65,37 @@ pub fill_here-requires : goal.fill_here-requires
 fill_here-requires c =
     let p = c.args.p in
     let n = length c.args.block.now in
-    let t = told (goal.at.fill_here-requires c).After-seek-sought _ c.in-Here.is in
-    let r = ready (goal.at.fill_here-requires c).After-seek-sought _ c.in-Here.is refl in
-    let f = found_at p c.args.offline.now (disk (goal.at.fill_here-requires c).Start) (memory (goal.at.fill_here-requires c).Start) c.args.address.0 n in record { p_value = r.ranged; image_len = (r.whole.image_long, r.block_long, subst (placed_at p) t.1.0 (found-placed p (seen p c.args.offline.now (disk (goal.at.fill_here-requires c).Start)) (memory (goal.at.fill_here-requires c).Start).state.missing f r.faultless)) }
+    let t = told c.before.before.before.before.before.before _ c.in-Here.is in
+    let r = ready c.before.before.before.before.before.before _ c.in-Here.is refl in
+    let f = found_at p c.args.offline.now (disk c.before.before.before.before.before.before.before.before.before.before.before.before.before.before.before.before) (memory c.before.before.before.before.before.before.before.before.before.before.before.before.before.before.before.before) c.args.address.0 n in record { p_value = r.ranged; image_len = (r.whole.image_long, r.block_long, subst (placed_at p) t.1.0 (found-placed p (seen p c.args.offline.now (disk c.before.before.before.before.before.before.before.before.before.before.before.before.before.before.before.before)) (memory c.before.before.before.before.before.before.before.before.before.before.before.before.before.before.before.before).state.missing f r.faultless)) }
 
 pub fill_lost-requires : goal.fill_lost-requires
 fill_lost-requires c =
     let p = c.args.p in
     let off = c.args.offline.now in
-    let t = told (goal.at.fill_lost-requires c).After-seek-sought _ c.in-Away.is in
-    let r = ready (goal.at.fill_lost-requires c).After-seek-sought _ c.in-Away.is refl in
-    let f = found_at p off (disk (goal.at.fill_lost-requires c).Start) (memory (goal.at.fill_lost-requires c).Start) c.args.address.0 (length c.args.block.now) in
-    let placed = subst (placed_at p) t.1.0 (found-placed p (seen p off (disk (goal.at.fill_lost-requires c).Start)) (memory (goal.at.fill_lost-requires c).Start).state.missing f r.faultless) in
+    let t = told c.before.before.before.before.before.before.before.before _ c.in-Away.is in
+    let r = ready c.before.before.before.before.before.before.before.before _ c.in-Away.is refl in
+    let f = found_at p off (disk c.before.before.before.before.before.before.before.before.before.before.before.before.before.before.before.before.before.before) (memory c.before.before.before.before.before.before.before.before.before.before.before.before.before.before.before.before.before.before) c.args.address.0 (length c.args.block.now) in
+    let placed = subst (placed_at p) t.1.0 (found-placed p (seen p off (disk c.before.before.before.before.before.before.before.before.before.before.before.before.before.before.before.before.before.before)) (memory c.before.before.before.before.before.before.before.before.before.before.before.before.before.before.before.before.before.before).state.missing f r.faultless) in
     let lost = t.1.2 in record { p_value = r.ranged; image_len = (r.whole.image_long, r.block_long, placed); bytes_len = (lost.long, λ k h n. lost.within k h (subst (λ (x : ℕ). is_in x k ≡ false) c.missing-gone.ensures n)) }
 
 pub returns-in-Bad : goal.returns-in-Bad
 returns-in-Bad c =
-    left (goal.at.returns-in-Bad c).After-seek-sought _ (start (goal.at.returns-in-Bad c).After-seek-sought).args.block.now c.in-Bad.is refl
+    left c.before.before.before.before.before _ (start c.before.before.before.before.before).args.block.now c.in-Bad.is refl
 
 pub returns-in-Never : goal.returns-in-Never
 returns-in-Never c =
     let clear = c.clear in
-    left (goal.at.returns-in-Never c).After-seek-sought _ clear.new.dst c.in-Never.is clear.ensures
+    left c.before.before.before.before.before.before.before.before _ clear.new.dst c.in-Never.is clear.ensures
 
 pub returns-in-Here : goal.returns-in-Here
 returns-in-Here c =
     let here = c.fill_here in
-    left (goal.at.returns-in-Here c).After-seek-sought _ here.new.block c.in-Here.is here.ensures
+    left c.before.before.before.before.before.before.before.before.before _ here.new.block c.in-Here.is here.ensures
 
 pub returns-in-Away : goal.returns-in-Away
 returns-in-Away c =
-    let s = start (goal.at.returns-in-Away c).After-seek-sought in
+    let s = start c.before.before.before.before.before.before.before.before.before.before.before in
     let lost = c.fill_lost in
-    left (goal.at.returns-in-Away c).After-seek-sought _ lost.new.block c.in-Away.is
-    (lost.ensures ∙ ap (λ (x : ℕ). lost_block s.args.p s.args.image.now x c.in-Away.q.0 (starts (goal.at.returns-in-Away c).After-seek-sought)) c.missing-gone.ensures)
+    left c.before.before.before.before.before.before.before.before.before.before.before _ lost.new.block c.in-Away.is
+    (lost.ensures ∙ ap (λ (x : ℕ). lost_block s.args.p s.args.image.now x c.in-Away.q.0 (starts c.before.before.before.before.before.before.before.before.before.before.before)) c.missing-gone.ensures)

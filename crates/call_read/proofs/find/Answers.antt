@@ -16,19 +16,21 @@ use mathlib.Core.List.{[]}
 use mathlib.Core.Path.{◌≡◌, sym, ap, ◌∙◌}
 use borrow.Author.Rules.{rules}
 use Rattle.call_read.proofs.find.Goals as goal
-use Rattle.call_read.proofs.find.Goals.{After-seek-sought, Start}
+use Rattle.call_read.proofs.find.Lts
+use Rattle.call_read.proofs.find.Reads
+use Rattle.call_read.proofs.find.Tie
 
-abbrev disk : Start → Disk
+abbrev disk : Lts.Start Tie.the-claims Reads.Pre Reads.Post → Disk
 disk s = mk_disk s.args.image.now s.args.pointers.now
 
-abbrev memory : Start → Memory
+abbrev memory : Lts.Start Tie.the-claims Reads.Pre Reads.Post → Memory
 memory s = mk_memory (state_of s.args.state.now) s.args.addresses.now s.args.compact.now s.args.inflight.now
 
-abbrev start : After-seek-sought → Start
-start c = c
+abbrev start : Lts.After-seek Tie.the-claims Reads.Pre Reads.Post → Lts.Start Tie.the-claims Reads.Pre Reads.Post
+start c = c.before.before.before.before.before.before.before.before.before
 
 -- the answer of what was sought
-left : (c : After-seek-sought) (x : Sought) → c.seek-sought.result ≡ x
+left : (c : Lts.After-seek Tie.the-claims Reads.Pre Reads.Post) (x : Sought) → c.seek-sought.result ≡ x
     → mk_after (find_answer (start c).args.p x) (disk (start c)) (memory (start c)) []
     ≡ call_disk (start c).args.p (start c).args.offline.now (disk (start c)) (memory (start c)) (read (start c).args.address.0)
 left c x e =
@@ -39,19 +41,19 @@ left c x e =
 pub place_byte-requires : goal.place_byte-requires
 place_byte-requires c =
     let p = c.args.p in
-    let none! : read_refusal p c.args.offline.now (disk (goal.at.place_byte-requires c).Start) (memory (goal.at.place_byte-requires c).Start) c.args.address.0 p.B ≡ none =
+    let none! : read_refusal p c.args.offline.now (disk c.before.before.before.before.before.before.before.before.before.before.before.before.before.before) (memory c.before.before.before.before.before.before.before.before.before.before.before.before.before.before) c.args.address.0 p.B ≡ none =
     sym c.seek-sought.ensures.result_value ∙ ap refused_by c.in-Here.is in
-    (read_ready p c.args.offline.now (disk (goal.at.place_byte-requires c).Start) (memory (goal.at.place_byte-requires c).Start) c.args.address.0 p.B none!).ranged
+    (read_ready p c.args.offline.now (disk c.before.before.before.before.before.before.before.before.before.before.before.before.before.before) (memory c.before.before.before.before.before.before.before.before.before.before.before.before.before.before) c.args.address.0 p.B none!).ranged
 
 pub returns-in-Bad : goal.returns-in-Bad
-returns-in-Bad c = left (goal.at.returns-in-Bad c).After-seek-sought _ c.in-Bad.is
+returns-in-Bad c = left c.before.before.before.before.before _ c.in-Bad.is
 
 pub returns-in-Never : goal.returns-in-Never
-returns-in-Never c = left (goal.at.returns-in-Never c).After-seek-sought _ c.in-Never.is
+returns-in-Never c = left c.before.before.before.before _ c.in-Never.is
 
 pub returns-in-Here : goal.returns-in-Here
 returns-in-Here c =
-    ap (λ (n : ℕ). mk_after (Part n c.in-Here.t) (disk (goal.at.returns-in-Here c).Start) (memory (goal.at.returns-in-Here c).Start) []) c.place_byte.ensures.0 ∙ left (goal.at.returns-in-Here c).After-seek-sought _ c.in-Here.is
+    ap (λ (n : ℕ). mk_after (Part n c.in-Here.t) (disk c.before.before.before.before.before.before.before.before.before.before.before.before.before.before.before) (memory c.before.before.before.before.before.before.before.before.before.before.before.before.before.before.before) []) c.place_byte.ensures.0 ∙ left c.before.before.before.before.before.before _ c.in-Here.is
 
 pub returns-in-Away : goal.returns-in-Away
-returns-in-Away c = left (goal.at.returns-in-Away c).After-seek-sought _ c.in-Away.is
+returns-in-Away c = left c.before.before.before.before.before _ c.in-Away.is

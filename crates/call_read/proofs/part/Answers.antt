@@ -29,42 +29,44 @@ use native.Mathlib.Nat.{add-zero, add_comm}
 use native.Mathlib.Omega.{arith}
 use types.Run.{OneOf}
 use Rattle.call_read.proofs.part.Goals as goal
-use Rattle.call_read.proofs.part.Goals.{After-find-answer, In-Part-2}
+use Rattle.call_read.proofs.part.Lts
+use Rattle.call_read.proofs.part.Reads
+use Rattle.call_read.proofs.part.Tie
 
 answered :
-    (c : After-find-answer)
-    → c.find-answer.result ≡ (call_disk c.args.p
-    c.args.offline.now
-    (mk_disk c.args.image.now
-    c.args.pointers.now)
-    (mk_memory (state_of c.args.state.now)
-    c.args.addresses.now
-    c.args.compact.now
-    c.args.inflight.now)
-    (read c.args.address.0)).answer-1
+    (c : Lts.After-find Tie.the-claims Reads.Pre Reads.Post)
+    → c.find-answer.result ≡ (call_disk c.before.before.before.before.before.before.before.before.args.p
+    c.before.before.before.before.before.before.before.before.args.offline.now
+    (mk_disk c.before.before.before.before.before.before.before.before.args.image.now
+    c.before.before.before.before.before.before.before.before.args.pointers.now)
+    (mk_memory (state_of c.before.before.before.before.before.before.before.before.args.state.now)
+    c.before.before.before.before.before.before.before.before.args.addresses.now
+    c.before.before.before.before.before.before.before.before.args.compact.now
+    c.before.before.before.before.before.before.before.before.args.inflight.now)
+    (read c.before.before.before.before.before.before.before.before.args.address.0)).answer-1
 answered c = ap (λ (x : After Disk). x.answer) c.find-answer.ensures
 
 within :
-    (c : In-Part-2)
-    → c.in-Part.at + c.args.p.B ≤ length
-    c.args.image.now
+    (c : Lts.After-answer Tie.the-claims Reads.Pre Reads.Post)
+    → c.answer-1.given.0.0 + c.before.before.before.before.before.before.before.before.before.before.args.p.B ≤ length
+    c.before.before.before.before.before.before.before.before.before.before.args.image.now
 within c =
-    let a = c.args in
+    let a = c.before.before.before.before.before.before.before.before.before.before.args in
     part_within a.p a.offline.now (mk_disk a.image.now a.pointers.now)
-    (mk_memory (state_of a.state.now) a.addresses.now a.compact.now a.inflight.now) a.address.0 c.in-Part.at c.in-Part.field-1
-    (sym (answered c) ∙ c.in-Part.is)
+    (mk_memory (state_of a.state.now) a.addresses.now a.compact.now a.inflight.now) a.address.0 c.answer-1.given.0.0 c.answer-1.given.0.1.0
+    (sym (answered c.before.before) ∙ c.answer-1.given.1)
 
 pub overflow_add-e : goal.overflow_add-e
-overflow_add-e c = omega (arith, within (goal.at.overflow_add-e c).In-Part-2)
+overflow_add-e c = omega (arith, within c.before.before.before)
 
 pub slice_bounds-result-end : goal.slice_bounds-result-end
-slice_bounds-result-end c = within (goal.at.slice_bounds-result-end c).In-Part-2
+slice_bounds-result-end c = within c.before.before.before
 
 pub returns-in-Part : goal.returns-in-Part
 returns-in-Part c =
     let a = c.args in
     let at = c.in-Part.at in
-    let e = sym (answered (c)) ∙ c.in-Part.is in
+    let e = sym (answered c.before.before.before.before.before.before) ∙ c.in-Part.is in
     let e₁ = ap part_at e ∙ (part_here a.p at c.in-Part.field-1).0 in
     let e₂ = ap (part_len a.p) e ∙ (part_here a.p at c.in-Part.field-1).1 in
     record {
@@ -111,8 +113,8 @@ returns c =
     let a = c.args in
     let find = c.find-answer in
     let e = part_none a.p find.result (no_part find.result c.in_default.keys2) in
-    let e₁ = e.0 ∙ ap part_at (answered (c)) in
-    let e₂ = e.1 ∙ ap (part_len a.p) (answered (c)) in
+    let e₁ = e.0 ∙ ap part_at (answered c.before.before) in
+    let e₂ = e.1 ∙ ap (part_len a.p) (answered c.before.before) in
     record {
       bytes = sym (part-zero 0 a.image.now) ∙ (λ j. part (e₁ j) (e₂ j) a.image.now);
       object = refl;

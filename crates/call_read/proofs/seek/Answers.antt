@@ -23,29 +23,31 @@ use mathlib.Core.Path.{◌≡◌, sym, ap, ◌∙◌, subst, transport}
 use native.Mathlib.Omega.{arith}
 use Rattle.law_drives.specs.Masks.{few_here}
 use Rattle.call_read.proofs.seek.Goals as goal
-use Rattle.call_read.proofs.seek.Goals.{Else-len-p, Else-not-in_range, Else-not-lent_ok, Else-not-state_ok, Else-p-address, Else-rule-ne0, Start}
+use Rattle.call_read.proofs.seek.Lts
+use Rattle.call_read.proofs.seek.Reads
+use Rattle.call_read.proofs.seek.Tie
 
-abbrev diskIn : Start → Disk
+abbrev diskIn : Lts.Start Tie.the-claims Reads.Pre Reads.Post → Disk
 diskIn s = mk_disk s.args.image.now s.args.pointers.now
 
-abbrev memoryIn : Start → Memory
+abbrev memoryIn : Lts.Start Tie.the-claims Reads.Pre Reads.Post → Memory
 memoryIn s = mk_memory (state_of s.args.state.now) s.args.addresses.now s.args.compact.now s.args.inflight.now
 
 -- the first refusal among the checks from the i-th on
-abbrev from : Start → ℕ → Opt Answer
+abbrev from : Lts.Start Tie.the-claims Reads.Pre Reads.Post → ℕ → Opt Answer
 from s i = read_from s.args.p s.args.offline.now (diskIn s) (memoryIn s) s.args.address.0 s.args.len i
 
 pub returns-then-not-in_range : goal.returns-then-not-in_range
 returns-then-not-in_range c =
-    let range = c.in_range in record { result_value = read_range_fails c.args.p c.args.offline.now (diskIn (goal.at.returns-then-not-in_range c).Start) (memoryIn (goal.at.returns-then-not-in_range c).Start) c.args.address.0 c.args.len (sym range.ensures ∙ not-true range.result c.if-not-in_range.true-raw); gives = tt }
+    let range = c.in_range in record { result_value = read_range_fails c.args.p c.args.offline.now (diskIn c.before.before.before.before.before.before.before.before.before.before.before) (memoryIn c.before.before.before.before.before.before.before.before.before.before.before) c.args.address.0 c.args.len (sym range.ensures ∙ not-true range.result c.if-not-in_range.true-raw); gives = tt }
 
-module _ (c : Else-not-in_range) where
-  abbrev started : Start
-  started = c
+module _ (c : Lts.Else1 Tie.the-claims Reads.Pre Reads.Post) where
+  abbrev started : Lts.Start Tie.the-claims Reads.Pre Reads.Post
+  started = c.before.before.before.before.before.before.before.before.before.before
 
   -- the first check passes
   in_range_holds : in_range started.args.p ≡ true
-  in_range_holds = sym c.in_range.ensures ∙ not-false c.in_range.result c.if-not-in_range.false-raw
+  in_range_holds = sym c.before.in_range.ensures ∙ not-false c.before.in_range.result c.if-not-in_range.false-raw
 
   ranging : from started 1 ≡ from started 0
   ranging =
@@ -53,92 +55,92 @@ module _ (c : Else-not-in_range) where
       read_range_passes s.args.p s.args.offline.now (diskIn s) (memoryIn s) s.args.address.0 s.args.len in_range_holds
 
 pub lent_ok-requires : goal.lent_ok-requires
-lent_ok-requires c = in_range_holds c
+lent_ok-requires c = in_range_holds c.before
 
 pub returns-then-not-lent_ok : goal.returns-then-not-lent_ok
 returns-then-not-lent_ok c =
-    let lent = c.lent_ok in record { result_value = read_lengths_fail c.args.p c.args.offline.now (diskIn (goal.at.returns-then-not-lent_ok c).Start) (memoryIn (goal.at.returns-then-not-lent_ok c).Start) c.args.address.0 c.args.len
-          (sym (lent.ensures (memoryIn (goal.at.returns-then-not-lent_ok c).Start).state) ∙ not-true lent.result c.if-not-lent_ok.true-raw) ∙ ranging c; gives = tt }
+    let lent = c.lent_ok in record { result_value = read_lengths_fail c.args.p c.args.offline.now (diskIn c.before.before.before.before.before.before.before.before.before.before.before.before.before) (memoryIn c.before.before.before.before.before.before.before.before.before.before.before.before.before) c.args.address.0 c.args.len
+          (sym (lent.ensures (memoryIn c.before.before.before.before.before.before.before.before.before.before.before.before.before).state) ∙ not-true lent.result c.if-not-lent_ok.true-raw) ∙ ranging c.before.before.before; gives = tt }
 
-module _ (c : Else-not-lent_ok) where
-  abbrev looked-at : Start
-  looked-at = c
+module _ (c : Lts.Else2 Tie.the-claims Reads.Pre Reads.Post) where
+  abbrev looked-at : Lts.Start Tie.the-claims Reads.Pre Reads.Post
+  looked-at = c.before.before.before.before.before.before.before.before.before.before.before.before
 
   -- the lent buffers have their lengths
   lent : lent_ok_of looked-at.args.p looked-at.args.offline.now (diskIn looked-at) (memoryIn looked-at) ≡ true
-  lent = sym (c.lent_ok.ensures (memoryIn looked-at).state) ∙ not-false c.lent_ok.result c.if-not-lent_ok.false-raw
+  lent = sym (c.before.lent_ok.ensures (memoryIn looked-at).state) ∙ not-false c.before.lent_ok.result c.if-not-lent_ok.false-raw
 
 pub returns-then-len-p : goal.returns-then-len-p
-returns-then-len-p c = record { result_value = read_block_fails c.args.p c.args.offline.now (diskIn (goal.at.returns-then-len-p c).Start) (memoryIn (goal.at.returns-then-len-p c).Start) c.args.address.0 c.args.len
-          (lent c) c.if-len-p.true ∙ ranging c; gives = tt }
+returns-then-len-p c = record { result_value = read_block_fails c.args.p c.args.offline.now (diskIn c.before.before.before.before.before.before.before.before.before.before.before.before.before.before.before) (memoryIn c.before.before.before.before.before.before.before.before.before.before.before.before.before.before.before) c.args.address.0 c.args.len
+          (lent c.before.before.before) c.if-len-p.true ∙ ranging c.before.before.before.before.before; gives = tt }
 
-module _ (c : Else-len-p) where
-  abbrev lengths : Start
-  lengths = c
+module _ (c : Lts.Else3 Tie.the-claims Reads.Pre Reads.Post) where
+  abbrev lengths : Lts.Start Tie.the-claims Reads.Pre Reads.Post
+  lengths = c.before.before.before.before.before.before.before.before.before.before.before.before.before.before
 
   longs : from lengths 2 ≡ from lengths 0
   longs =
       let s = lengths in
       read_lengths_pass s.args.p s.args.offline.now (diskIn s) (memoryIn s) s.args.address.0 s.args.len
-      (lent c) c.if-len-p.false ∙ ranging c
+      (lent c.before.before) c.if-len-p.false ∙ ranging c.before.before.before.before
 
 pub list_rule-rule-requires : goal.list_rule-rule-requires
 list_rule-rule-requires c =
-    let s = lengths c in record { p_value = in_range_holds c; offline_len = (lent_long_lem s.args.p s.args.offline.now (diskIn s) (memoryIn s) (lent c)).5 }
+    let s = lengths c.before in record { p_value = in_range_holds c.before.before.before.before.before; offline_len = (lent_long_lem s.args.p s.args.offline.now (diskIn s) (memoryIn s) (lent c.before.before.before)).5 }
 
 pub returns-then-rule-ne0 : goal.returns-then-rule-ne0
 returns-then-rule-ne0 c =
-    let s = lengths c in record { result_value = read_list_fails s.args.p s.args.offline.now (diskIn s) (memoryIn s) s.args.address.0 s.args.len
-          c.list_rule-rule.result c.list_rule-rule.ensures c.if-rule-ne0.true ∙ longs c; gives = tt }
+    let s = lengths c.before.before.before in record { result_value = read_list_fails s.args.p s.args.offline.now (diskIn s) (memoryIn s) s.args.address.0 s.args.len
+          c.list_rule-rule.result c.list_rule-rule.ensures c.if-rule-ne0.true ∙ longs c.before.before.before; gives = tt }
 
-module _ (c : Else-rule-ne0) where
-  abbrev listed : Start
-  listed = lengths c
+module _ (c : Lts.Else4 Tie.the-claims Reads.Pre Reads.Post) where
+  abbrev listed : Lts.Start Tie.the-claims Reads.Pre Reads.Post
+  listed = lengths c.before.before
 
   enough : from listed 4 ≡ from listed 0
   enough =
       let s = listed in
       read_list_passes s.args.p s.args.offline.now (diskIn s) (memoryIn s) s.args.address.0 s.args.len
-      c.list_rule-rule.result c.list_rule-rule.ensures c.if-rule-ne0.false ∙ longs c
+      c.before.list_rule-rule.result c.before.list_rule-rule.ensures c.if-rule-ne0.false ∙ longs c.before.before
 
 pub returns-then-p-address : goal.returns-then-p-address
 returns-then-p-address c =
-    let s = listed c in record { result_value = read_address_fails s.args.p s.args.offline.now (diskIn s) (memoryIn s) s.args.address.0 s.args.len (omega (arith, c.if-p-address.true)) ∙ enough c; gives = tt }
+    let s = listed c.before.before.before in record { result_value = read_address_fails s.args.p s.args.offline.now (diskIn s) (memoryIn s) s.args.address.0 s.args.len (omega (arith, c.if-p-address.true)) ∙ enough c.before.before.before; gives = tt }
 
-module _ (c : Else-p-address) where
-  abbrev addressed : Start
-  addressed = listed c
+module _ (c : Lts.Else5 Tie.the-claims Reads.Pre Reads.Post) where
+  abbrev addressed : Lts.Start Tie.the-claims Reads.Pre Reads.Post
+  addressed = listed c.before.before
 
   lows : from addressed 5 ≡ from addressed 0
   lows =
       let s = addressed in
-      read_address_passes s.args.p s.args.offline.now (diskIn s) (memoryIn s) s.args.address.0 s.args.len (omega (arith, c.if-p-address.false)) ∙ enough c
+      read_address_passes s.args.p s.args.offline.now (diskIn s) (memoryIn s) s.args.address.0 s.args.len (omega (arith, c.if-p-address.false)) ∙ enough c.before.before
 
 pub state_ok-requires : goal.state_ok-requires
-state_ok-requires c = record { p_value = in_range_holds c; bytes_len = (addressed c).requires.0 }
+state_ok-requires c = record { p_value = in_range_holds c.before.before.before.before.before.before.before.before.before; bytes_len = (addressed c.before).requires.0 }
 
 pub returns-then-not-state_ok : goal.returns-then-not-state_ok
 returns-then-not-state_ok c =
-    let s = addressed c in
+    let s = addressed c.before.before.before in
     let state = c.state_ok in record { result_value = read_state_fails s.args.p s.args.offline.now (diskIn s) (memoryIn s) s.args.address.0 s.args.len
-          (sym state.ensures ∙ not-true state.result c.if-not-state_ok.true-raw) ∙ lows c; gives = tt }
+          (sym state.ensures ∙ not-true state.result c.if-not-state_ok.true-raw) ∙ lows c.before.before.before; gives = tt }
 
 pub missing-gone-requires : goal.missing-gone-requires
-missing-gone-requires c = (addressed c).pre.0
+missing-gone-requires c = (addressed c.before.before.before).pre.0
 
 -- what is so before the lookup
-module _ (c : Else-not-state_ok) where
-  abbrev sound : Start
-  sound = addressed c
+module _ (c : Lts.Else6 Tie.the-claims Reads.Pre Reads.Post) where
+  abbrev sound : Lts.Start Tie.the-claims Reads.Pre Reads.Post
+  sound = addressed c.before.before
 
   ok : in_range sound.args.p ≡ true
-  ok = in_range_holds c
+  ok = in_range_holds c.before.before.before.before.before.before.before.before.before.before
 
   long : lent_ok_of sound.args.p sound.args.offline.now (diskIn sound) (memoryIn sound) ≡ true
-  long = lent c
+  long = lent c.before.before.before.before.before.before.before.before
 
   state_fine : state_ok sound.args.p (memoryIn sound).state ≡ true
-  state_fine = sym c.state_ok.ensures ∙ not-false c.state_ok.result c.if-not-state_ok.false-raw
+  state_fine = sym c.before.state_ok.ensures ∙ not-false c.before.state_ok.result c.if-not-state_ok.false-raw
 
   present-one : Here sound.args.p (memoryIn sound).state.missing
   present-one =
@@ -148,19 +150,19 @@ module _ (c : Else-not-state_ok) where
 
 pub lies-f-requires : goal.lies-f-requires
 lies-f-requires c =
-    let s = sound c in record { p_value = ok c; addresses_len = ((lent_long_lem s.args.p s.args.offline.now (diskIn s) (memoryIn s) (long c)).2, omega (arith, c.if-p-address.false)) }
+    let s = sound c.before.before in record { p_value = ok c.before.before; addresses_len = ((lent_long_lem s.args.p s.args.offline.now (diskIn s) (memoryIn s) (long c.before.before)).2, omega (arith, c.if-p-address.false)) }
 
 pub seek_found-requires : goal.seek_found-requires
 seek_found-requires c =
-    let s = sound c in
+    let s = sound c.before.before.before.before in
     let p = s.args.p in
-    let l = lent_long_lem p s.args.offline.now (diskIn s) (memoryIn s) (long c) in
+    let l = lent_long_lem p s.args.offline.now (diskIn s) (memoryIn s) (long c.before.before.before.before) in
     let gone = c.missing-gone in
-    let looked = c.lies-f in record { p_value = ok c; whole = (record { image_long = l.0; pointers_long = l.1 }, l.5, subst (Here p) (sym gone.ensures) (present-one c)); compact_len = (l.3, s.requires.1, subst (Sorted p gone.result) (sym looked.ensures) (lies_sorted p gone.result s.args.addresses.now s.args.address.0)) }
+    let looked = c.lies-f in record { p_value = ok c.before.before.before.before; whole = (record { image_long = l.0; pointers_long = l.1 }, l.5, subst (Here p) (sym gone.ensures) (present-one c.before.before.before.before)); compact_len = (l.3, s.requires.1, subst (Sorted p gone.result) (sym looked.ensures) (lies_sorted p gone.result s.args.addresses.now s.args.address.0)) }
 
 pub returns : goal.returns
 returns c =
-    let s = sound c in
+    let s = sound c.before.before.before.before.before.before.before in
     let p = s.args.p in
     let m = memoryIn s in
     let found = c.seek_found in
@@ -170,4 +172,4 @@ returns c =
     let g : gone.result ≡ m.state.missing = gone.ensures in
     let f : found_of looked.result ≡ found_at s.args.p s.args.offline.now (diskIn s) (memoryIn s) s.args.address.0 s.args.len
     = looked.ensures ∙ ap (λ (x : ℕ). lies p x m.addresses s.args.address.0) g in
-    let q = transport (λ j. SeeksAll p s.args.image.now v (g j) m.compact (f j) found.result found.new.bytes) found.ensures in record { result_value = q.0 ∙ read_state_passes s.args.p s.args.offline.now (diskIn s) (memoryIn s) s.args.address.0 s.args.len (state_fine c) ∙ lows c; gives = q.1 }
+    let q = transport (λ j. SeeksAll p s.args.image.now v (g j) m.compact (f j) found.result found.new.bytes) found.ensures in record { result_value = q.0 ∙ read_state_passes s.args.p s.args.offline.now (diskIn s) (memoryIn s) s.args.address.0 s.args.len (state_fine c.before.before.before.before.before.before.before) ∙ lows c.before.before.before.before.before.before.before.before.before; gives = q.1 }

@@ -18,17 +18,19 @@ use Rattle.law_views.specs.Views.{seen}
 use Rattle.call_rebuild.specs.Order.{bad_numbers, rebuild_lengths_fail, numbers_good, rebuild_numbers_fail, rebuild_list_fails, rebuild_pointers_fail, rebuild_pointers_pass}
 use Rattle.law_drives.specs.Masks.{only-named}
 use Rattle.call_rebuild.proofs.checks.Goals as goal
-use Rattle.call_rebuild.proofs.checks.Goals.{After-pointer_fault-z, Else-not-lent_ok, Start}
+use Rattle.call_rebuild.proofs.checks.Lts
+use Rattle.call_rebuild.proofs.checks.Reads
+use Rattle.call_rebuild.proofs.checks.Tie
 
-abbrev diskIn : Start → Disk
+abbrev diskIn : Lts.Start Tie.the-claims Reads.Pre Reads.Post → Disk
 diskIn s = mk_disk s.args.image.now s.args.pointers.now
 
-abbrev memoryIn : Start → Memory
+abbrev memoryIn : Lts.Start Tie.the-claims Reads.Pre Reads.Post → Memory
 memoryIn s = mk_memory s.args.state s.args.addresses.now s.args.compact.now s.args.inflight.now
 
 pub returns-then-bad_numbers : goal.returns-then-bad_numbers
 returns-then-bad_numbers c =
-    rebuild_numbers_fail c.args.p c.args.offline.now (diskIn (goal.at.returns-then-bad_numbers c).Start) (memoryIn (goal.at.returns-then-bad_numbers c).Start) c.args.drive (sym c.bad_numbers.ensures ∙ c.if-bad_numbers.true)
+    rebuild_numbers_fail c.args.p c.args.offline.now (diskIn c.before.before.before.before.before.before.before.before.before) (memoryIn c.before.before.before.before.before.before.before.before.before) c.args.drive (sym c.bad_numbers.ensures ∙ c.if-bad_numbers.true)
 
 pub lent_ok-requires : goal.lent_ok-requires
 lent_ok-requires c =
@@ -37,62 +39,62 @@ lent_ok-requires c =
 
 pub returns-then-not-lent_ok : goal.returns-then-not-lent_ok
 returns-then-not-lent_ok c =
-    rebuild_lengths_fail c.args.p c.args.offline.now (diskIn (goal.at.returns-then-not-lent_ok c).Start) (memoryIn (goal.at.returns-then-not-lent_ok c).Start) c.args.drive
+    rebuild_lengths_fail c.args.p c.args.offline.now (diskIn c.before.before.before.before.before.before.before.before.before.before.before) (memoryIn c.before.before.before.before.before.before.before.before.before.before.before) c.args.drive
     (sym c.bad_numbers.ensures ∙ c.if-bad_numbers.false)
     (sym (c.lent_ok.ensures c.args.state) ∙ not-true c.lent_ok.result c.if-not-lent_ok.true-raw)
 
 -- 1 and 2 do not hold
-module _ (c : Else-not-lent_ok) where
-  abbrev begun : Start
-  begun = c
+module _ (c : Lts.Else2 Tie.the-claims Reads.Pre Reads.Post) where
+  abbrev begun : Lts.Start Tie.the-claims Reads.Pre Reads.Post
+  begun = c.before.before.before.before.before.before.before.before.before.before
 
   numbered : bad_numbers begun.args.p begun.args.state.missing begun.args.drive ≡ false
-  numbered = sym c.bad_numbers.ensures ∙ c.if-bad_numbers.false
+  numbered = sym c.before.before.before.bad_numbers.ensures ∙ c.before.before.if-bad_numbers.false
 
   lent : lent_ok_of begun.args.p begun.args.offline.now (diskIn begun) (memoryIn begun) ≡ true
-  lent = sym (c.lent_ok.ensures begun.args.state) ∙ not-false c.lent_ok.result c.if-not-lent_ok.false-raw
+  lent = sym (c.before.lent_ok.ensures begun.args.state) ∙ not-false c.before.lent_ok.result c.if-not-lent_ok.false-raw
 
 pub list_rule-rule-requires : goal.list_rule-rule-requires
 list_rule-rule-requires c =
-    let s = begun c in record { p_value = (numbers_good s.args.p s.args.state.missing s.args.drive (numbered c)).0; offline_len = (lengths_of s.args.p s.args.offline.now (diskIn s) (memoryIn s) (lent c)).offline_ok }
+    let s = begun c.before in record { p_value = (numbers_good s.args.p s.args.state.missing s.args.drive (numbered c.before)).0; offline_len = (lengths_of s.args.p s.args.offline.now (diskIn s) (memoryIn s) (lent c.before)).offline_ok }
 
 pub returns-then-rule-ne0 : goal.returns-then-rule-ne0
 returns-then-rule-ne0 c =
-    let s = begun c in
-    rebuild_list_fails s.args.p s.args.offline.now (diskIn s) (memoryIn s) s.args.drive (numbered c) (lent c)
+    let s = begun c.before.before.before in
+    rebuild_list_fails s.args.p s.args.offline.now (diskIn s) (memoryIn s) s.args.drive (numbered c.before.before.before) (lent c.before.before.before)
     c.list_rule-rule.result c.list_rule-rule.ensures c.if-rule-ne0.true
 
 pub pointer_fault-z-requires : goal.pointer_fault-z-requires
 pointer_fault-z-requires c =
-    let s = begun c in
-    let w = lengths_of s.args.p s.args.offline.now (diskIn s) (memoryIn s) (lent c) in record { p_value = (numbers_good s.args.p s.args.state.missing s.args.drive (numbered c)).0; pointers_len = (w.pointers_ok, w.offline_ok) }
+    let s = begun c.before.before.before.before in
+    let w = lengths_of s.args.p s.args.offline.now (diskIn s) (memoryIn s) (lent c.before.before.before.before) in record { p_value = (numbers_good s.args.p s.args.state.missing s.args.drive (numbered c.before.before.before.before)).0; pointers_len = (w.pointers_ok, w.offline_ok) }
 
 -- the zone that is found is the first of those above
 found :
-    (c : After-pointer_fault-z)
-    → let s = begun c in
+    (c : Lts.After-pointer_fault Tie.the-claims Reads.Pre Reads.Post)
+    → let s = begun c.before.before.before.before in
     c.pointer_fault-z.result ≡ first_or s.args.p.Z (pointer_faults s.args.p (seen s.args.p s.args.offline.now (diskIn s)) (named s.args.drive))
 found c =
-    let s = begun c in
+    let s = begun c.before.before.before.before in
     let p = s.args.p in
-    let w = lengths_of p s.args.offline.now (diskIn s) (memoryIn s) (lent c) in
+    let w = lengths_of p s.args.offline.now (diskIn s) (memoryIn s) (lent c.before.before.before.before) in
     c.pointer_fault-z.ensures.by_index s.args.image.now w.image_ok
-    ∙ ap (λ (x : ℕ). first_or p.Z (pointer_faults p (seen p s.args.offline.now (diskIn s)) x)) (c.only_drive.ensures ∙ only-named s.args.drive)
+    ∙ ap (λ (x : ℕ). first_or p.Z (pointer_faults p (seen p s.args.offline.now (diskIn s)) x)) (c.before.only_drive.ensures ∙ only-named s.args.drive)
 
 pub returns-then-z-p : goal.returns-then-z-p
 returns-then-z-p c =
-    let s = begun c in
+    let s = begun c.before.before.before.before.before.before.before in
     let list-rule = c.list_rule-rule in
     let if3 = c.if-rule-ne0 in
-    rebuild_pointers_fail s.args.p s.args.offline.now (diskIn s) (memoryIn s) s.args.drive (numbered c) (lent c) list-rule.result list-rule.ensures if3.false
-    c.pointer_fault-z.result (found (goal.at.returns-then-z-p c).After-pointer_fault-z) c.if-z-p.true
+    rebuild_pointers_fail s.args.p s.args.offline.now (diskIn s) (memoryIn s) s.args.drive (numbered c.before.before.before.before.before.before.before) (lent c.before.before.before.before.before.before.before) list-rule.result list-rule.ensures if3.false
+    c.pointer_fault-z.result (found c.before.before.before) c.if-z-p.true
 
 pub returns : goal.returns
 returns c =
-    let s = begun c in
+    let s = begun c.before.before.before.before.before.before.before in
     let list-rule = c.list_rule-rule in
     let if3 = c.if-rule-ne0 in
     let pointer-fault = c.pointer_fault-z in
     let z : pointer-fault.result ≡ s.args.p.Z = omega (arith, c.if-z-p.false, pointer-fault.ensures.upper_bound) in
-    rebuild_pointers_pass s.args.p s.args.offline.now (diskIn s) (memoryIn s) s.args.drive (numbered c) (lent c) list-rule.result list-rule.ensures if3.false
-    (sym (found (goal.at.returns c).After-pointer_fault-z) ∙ z)
+    rebuild_pointers_pass s.args.p s.args.offline.now (diskIn s) (memoryIn s) s.args.drive (numbered c.before.before.before.before.before.before.before) (lent c.before.before.before.before.before.before.before) list-rule.result list-rule.ensures if3.false
+    (sym (found c.before.before.before) ∙ z)

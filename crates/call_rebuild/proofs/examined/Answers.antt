@@ -23,50 +23,52 @@ use Rattle.call_rebuild.specs.Ends.{ends_rebuild_refused, EndsGathered}
 use Rattle.call_rebuild.specs.Order.{RebuildReady, rebuild_ready, rebuild_front_passed}
 use Rattle.law_drives.specs.Masks.{only-named}
 use Rattle.call_rebuild.proofs.examined.Goals as goal
-use Rattle.call_rebuild.proofs.examined.Goals.{After-examine-e, Start}
+use Rattle.call_rebuild.proofs.examined.Lts
+use Rattle.call_rebuild.proofs.examined.Reads
+use Rattle.call_rebuild.proofs.examined.Tie
 
-abbrev diskIn : Start → Disk
+abbrev diskIn : Lts.Start Tie.the-claims Reads.Pre Reads.Post → Disk
 diskIn s = mk_disk s.args.image.now s.args.pointers.now
 
-abbrev memoryIn : Start → Memory
+abbrev memoryIn : Lts.Start Tie.the-claims Reads.Pre Reads.Post → Memory
 memoryIn s = mk_memory s.args.state s.args.addresses.now s.args.compact.now s.args.inflight.now
 
-ready : (s : Start) → RebuildReady s.args.p s.args.offline.now (diskIn s) (memoryIn s) s.args.drive
+ready : (s : Lts.Start Tie.the-claims Reads.Pre Reads.Post) → RebuildReady s.args.p s.args.offline.now (diskIn s) (memoryIn s) s.args.drive
 ready s = rebuild_ready s.args.p s.args.offline.now (diskIn s) (memoryIn s) s.args.drive s.requires
 
 -- some drive is present
-some-here : (s : Start) (gone : ℕ) → gone ≡ named s.args.drive → Here s.args.p gone
+some-here : (s : Lts.Start Tie.the-claims Reads.Pre Reads.Post) (gone : ℕ) → gone ≡ named s.args.drive → Here s.args.p gone
 some-here s gone e = subst (Here s.args.p) (sym e) (named_here s.args.p (ranged s.args.p (ready s).in_range_holds) s.args.drive (ready s).drive_low)
 
 pub gather-requires : goal.gather-requires
 gather-requires c =
     let only-drive = c.only_drive-gone in
-    let rd = ready (goal.at.gather-requires c).Start in
+    let rd = ready c.before.before.before.before.before.before.before.before.before.before.before.before in
     let z = (ranged c.args.p rd.in_range_holds).zones_high in record { p_value = rd.in_range_holds; whole = (
-          whole_of c.args.p c.args.offline.now (diskIn (goal.at.gather-requires c).Start) (memoryIn (goal.at.gather-requires c).Start) rd.lent,
-          (lengths_of c.args.p c.args.offline.now (diskIn (goal.at.gather-requires c).Start) (memoryIn (goal.at.gather-requires c).Start) rd.lent).offline_ok,
-          some-here (goal.at.gather-requires c).Start only-drive.result (only-drive.ensures ∙ only-named c.args.drive),
+          whole_of c.args.p c.args.offline.now (diskIn c.before.before.before.before.before.before.before.before.before.before.before.before) (memoryIn c.before.before.before.before.before.before.before.before.before.before.before.before) rd.lent,
+          (lengths_of c.args.p c.args.offline.now (diskIn c.before.before.before.before.before.before.before.before.before.before.before.before) (memoryIn c.before.before.before.before.before.before.before.before.before.before.before.before) rd.lent).offline_ok,
+          some-here c.before.before.before.before.before.before.before.before.before.before.before.before only-drive.result (only-drive.ensures ∙ only-named c.args.drive),
         ); z_in_bounds = (omega (arith, z), z, z, z) }
 
 pub examine-e-requires : goal.examine-e-requires
 examine-e-requires c =
     let g = c.gather.ensures in
     let only-drive = c.only_drive-gone in
-    let rd = ready (goal.at.examine-e-requires c).Start in record { p_value = rd.in_range_holds; whole = (
-          whole_of c.args.p c.args.offline.now (diskIn (goal.at.examine-e-requires c).Start) (memoryIn (goal.at.examine-e-requires c).Start) rd.lent,
-          (lengths_of c.args.p c.args.offline.now (diskIn (goal.at.examine-e-requires c).Start) (memoryIn (goal.at.examine-e-requires c).Start) rd.lent).offline_ok,
-          some-here (goal.at.examine-e-requires c).Start only-drive.result (only-drive.ensures ∙ only-named c.args.drive),
+    let rd = ready c.before.before.before.before.before.before.before.before.before.before.before.before.before.before.before.before.before.before.before.before in record { p_value = rd.in_range_holds; whole = (
+          whole_of c.args.p c.args.offline.now (diskIn c.before.before.before.before.before.before.before.before.before.before.before.before.before.before.before.before.before.before.before.before) (memoryIn c.before.before.before.before.before.before.before.before.before.before.before.before.before.before.before.before.before.before.before.before) rd.lent,
+          (lengths_of c.args.p c.args.offline.now (diskIn c.before.before.before.before.before.before.before.before.before.before.before.before.before.before.before.before.before.before.before.before) (memoryIn c.before.before.before.before.before.before.before.before.before.before.before.before.before.before.before.before.before.before.before.before) rd.lent).offline_ok,
+          some-here c.before.before.before.before.before.before.before.before.before.before.before.before.before.before.before.before.before.before.before.before only-drive.result (only-drive.ensures ∙ only-named c.args.drive),
         ); keeps = (g.1.1.1, g.0, g.1.0) }
 
 -- what the examination says, of the named drive
-said : (c : After-examine-e)
-    → let v = seen c.args.p c.args.offline.now (diskIn c) in
-    Examined c.args.p v (named c.args.drive) (segments c.args.p v (named c.args.drive)) c.examine-e.result
+said : (c : Lts.After-examine Tie.the-claims Reads.Pre Reads.Post)
+    → let v = seen c.before.before.before.before.before.before.before.before.before.before.before.before.before.before.before.before.before.before.before.before.args.p c.before.before.before.before.before.before.before.before.before.before.before.before.before.before.before.before.before.before.before.before.args.offline.now (diskIn c.before.before.before.before.before.before.before.before.before.before.before.before.before.before.before.before.before.before.before.before) in
+    Examined c.before.before.before.before.before.before.before.before.before.before.before.before.before.before.before.before.before.before.before.before.args.p v (named c.before.before.before.before.before.before.before.before.before.before.before.before.before.before.before.before.before.before.before.before.args.drive) (segments c.before.before.before.before.before.before.before.before.before.before.before.before.before.before.before.before.before.before.before.before.args.p v (named c.before.before.before.before.before.before.before.before.before.before.before.before.before.before.before.before.before.before.before.before.args.drive)) c.examine-e.result
 said c =
-    let only-drive = c.only_drive-gone in
-    let p = c.args.p in
-    let v = seen p c.args.offline.now (diskIn c) in
-    subst (λ (g : ℕ). Examined p v g (segments p v g) c.examine-e.result) (only-drive.ensures ∙ only-named c.args.drive) c.examine-e.ensures
+    let only-drive = c.before.before.before.before.before.before.before.before.before.before.before.before.before.only_drive-gone in
+    let p = c.before.before.before.before.before.before.before.before.before.before.before.before.before.before.before.before.before.before.before.before.args.p in
+    let v = seen p c.before.before.before.before.before.before.before.before.before.before.before.before.before.before.before.before.before.before.before.before.args.offline.now (diskIn c.before.before.before.before.before.before.before.before.before.before.before.before.before.before.before.before.before.before.before.before) in
+    subst (λ (g : ℕ). Examined p v g (segments p v g) c.examine-e.result) (only-drive.ensures ∙ only-named c.before.before.before.before.before.before.before.before.before.before.before.before.before.before.before.before.before.before.before.before.args.drive) c.examine-e.ensures
 
 pub returns-then-e-p : goal.returns-then-e-p
 returns-then-e-p c =
@@ -74,8 +76,8 @@ returns-then-e-p c =
     let d = c.args.drive in
     let off = c.args.offline.now in
     let x = c.examine-e in
-    ends_rebuild_refused p off (diskIn (goal.at.returns-then-e-p c).Start) (memoryIn (goal.at.returns-then-e-p c).Start) d c.args.count (BadZone x.result.zone)
-    (rebuild_front_passed p off (diskIn (goal.at.returns-then-e-p c).Start) (memoryIn (goal.at.returns-then-e-p c).Start) d c.requires ∙ names_zone_lem p (seen p off (diskIn (goal.at.returns-then-e-p c).Start)) (named d) x.result [] (said (goal.at.returns-then-e-p c).After-examine-e) c.if-e-p.true)
+    ends_rebuild_refused p off (diskIn c.before.before.before.before.before.before.before.before.before.before.before.before.before.before.before.before.before.before.before.before.before.before.before.before) (memoryIn c.before.before.before.before.before.before.before.before.before.before.before.before.before.before.before.before.before.before.before.before.before.before.before.before) d c.args.count (BadZone x.result.zone)
+    (rebuild_front_passed p off (diskIn c.before.before.before.before.before.before.before.before.before.before.before.before.before.before.before.before.before.before.before.before.before.before.before.before) (memoryIn c.before.before.before.before.before.before.before.before.before.before.before.before.before.before.before.before.before.before.before.before.before.before.before.before) d c.requires ∙ names_zone_lem p (seen p off (diskIn c.before.before.before.before.before.before.before.before.before.before.before.before.before.before.before.before.before.before.before.before.before.before.before.before)) (named d) x.result [] (said c.before.before.before.before) c.if-e-p.true)
 
 pub restore-requires : goal.restore-requires
 restore-requires c =
@@ -85,8 +87,8 @@ restore-requires c =
     let only-drive = c.only_drive-gone in
     let p = c.args.p in
     let d = c.args.drive in
-    let v = seen p c.args.offline.now (diskIn (goal.at.restore-requires c).Start) in
-    let ex = said (goal.at.restore-requires c).After-examine-e in
+    let v = seen p c.args.offline.now (diskIn c.before.before.before.before.before.before.before.before.before.before.before.before.before.before.before.before.before.before.before.before.before.before.before.before.before.before.before.before.before.before.before) in
+    let ex = said c.before.before.before.before.before.before.before.before.before.before.before in
     let z : x.result.zone ≡ p.Z = omega (arith, if1.false, zone_le p v (named d) x.result ex) in
     let rows = l.new.rows in
     let serials = l.new.serials in

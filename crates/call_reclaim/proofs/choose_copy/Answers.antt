@@ -24,33 +24,35 @@ use mathlib.Core.Bool.{Bool, false, cond}
 use mathlib.Core.List.{[], ◌∷◌}
 use mathlib.Core.Path.{◌≡◌, sym, ap, ◌∙◌, subst}
 use Rattle.call_reclaim.proofs.choose_copy.Goals as goal
-use Rattle.call_reclaim.proofs.choose_copy.Goals.{After-copy_rules-c, After-has_fault, Start}
+use Rattle.call_reclaim.proofs.choose_copy.Lts
+use Rattle.call_reclaim.proofs.choose_copy.Reads
+use Rattle.call_reclaim.proofs.choose_copy.Tie
 
-abbrev view : (c : Start) → View
+abbrev view : (c : Lts.Start Tie.the-claims Reads.Pre Reads.Post) → View
 view c = view_of c.args.p c.args.offline.now c.args.image.now c.args.pointers.now
 
-abbrev state : (c : Start) → State
+abbrev state : (c : Lts.Start Tie.the-claims Reads.Pre Reads.Post) → State
 state c = state_of c.args.bytes.now
 
-abbrev taken : (c : Start) → Opt Victim
+abbrev taken : (c : Lts.Start Tie.the-claims Reads.Pre Reads.Post) → Opt Victim
 taken c = victim c.args.p (view c) c.args.addresses.now
 
 -- there is a segment, with live blocks
-some-taken : (c : Start) → is_none (taken c) ≡ false
+some-taken : (c : Lts.Start Tie.the-claims Reads.Pre Reads.Post) → is_none (taken c) ≡ false
 some-taken c =
     let l = c.requires.looked in
     l.0.nobody ∙ lt-leb c.args.p.Z c.args.seen.zone l.1
 
-some-live : (c : Start) → is_nil (victim_live (taken c)) ≡ false
+some-live : (c : Lts.Start Tie.the-claims Reads.Pre Reads.Post) → is_nil (victim_live (taken c)) ≡ false
 some-live c =
     let l = c.requires.looked in
     length_some (victim_live (taken c)) (subst (λ (x : ℕ). 0 < x) (sym l.0.live) l.2)
 
 -- all checks, where there is an idle block
-abbrev later : (c : Start) → Opt Answer
+abbrev later : (c : Lts.Start Tie.the-claims Reads.Pre Reads.Post) → Opt Answer
 later c = first_refusal (later_checks c.args.p (view c) (state c) c.args.addresses.now (taken c))
 
-from-rules : (c : Start) → (c.args.seen.first.0 ≡ never_place → ⊥)
+from-rules : (c : Lts.Start Tie.the-claims Reads.Pre Reads.Post) → (c.args.seen.first.0 ≡ never_place → ⊥)
     → later c ≡ or_next (first_refusal (copy_rules c.args.p (view c) (state c))) (first_refusal (zones (bad_zones c.args.p (view c) (state c) c.args.addresses.now (taken c)) ∷ []))
 from-rules c n =
     let a = c.args in
@@ -59,47 +61,47 @@ from-rules c n =
 pub returns-then-first-none : goal.returns-then-first-none
 returns-then-first-none c =
     let a = c.args in
-    idle_fails a.p (view (goal.at.returns-then-first-none c).Start) (state (goal.at.returns-then-first-none c).Start) a.addresses.now (taken (goal.at.returns-then-first-none c).Start) (some-taken (goal.at.returns-then-first-none c).Start) (some-live (goal.at.returns-then-first-none c).Start) (c.requires.looked.0.none_idle ∙ eq-eqb a.seen.first.0 never_place c.if-first-none.true)
+    idle_fails a.p (view c.before.before.before.before.before.before.before.before.before.before) (state c.before.before.before.before.before.before.before.before.before.before) a.addresses.now (taken c.before.before.before.before.before.before.before.before.before.before) (some-taken c.before.before.before.before.before.before.before.before.before.before) (some-live c.before.before.before.before.before.before.before.before.before.before) (c.requires.looked.0.none_idle ∙ eq-eqb a.seen.first.0 never_place c.if-first-none.true)
 
 pub copy_rules-c-requires : goal.copy_rules-c-requires
 copy_rules-c-requires c =
     let a = c.args in
-    let q = c.requires.f_value in record { p_value = c.requires.p_value; pointers_len = (c.requires.whole.0.pointers_long, c.requires.whole.1, q.1 ∙ sym (front_aim a.p (state (goal.at.copy_rules-c-requires c).Start) a.f q.0)) }
+    let q = c.requires.f_value in record { p_value = c.requires.p_value; pointers_len = (c.requires.whole.0.pointers_long, c.requires.whole.1, q.1 ∙ sym (front_aim a.p (state c.before.before.before.before.before.before.before.before.before.before) a.f q.0)) }
 
 -- the rules of a copy, as they come out
-rules-are : (c : After-copy_rules-c) → checked c.copy_rules-c.result ≡ first_refusal (copy_rules c.args.p (view c) (state c))
+rules-are : (c : Lts.After-copy_rules Tie.the-claims Reads.Pre Reads.Post) → checked c.copy_rules-c.result ≡ first_refusal (copy_rules c.before.before.before.before.before.before.before.before.before.before.args.p (view c.before.before.before.before.before.before.before.before.before.before) (state c.before.before.before.before.before.before.before.before.before.before))
 rules-are c =
-    c.copy_rules-c.ensures (state c) c.args.image.now c.requires.f_value.0 c.requires.whole.0.image_long
+    c.copy_rules-c.ensures (state c.before.before.before.before.before.before.before.before.before.before) c.before.before.before.before.before.before.before.before.before.before.args.image.now c.before.before.before.before.before.before.before.before.before.before.requires.f_value.0 c.before.before.before.before.before.before.before.before.before.before.requires.whole.0.image_long
 
 pub returns-in-Fail : goal.returns-in-Fail
 returns-in-Fail c =
     let a = c.args in
     let q = c.c-1.given in
-    let e : first_refusal (copy_rules a.p (view (goal.at.returns-in-Fail c).Start) (state (goal.at.returns-in-Fail c).Start)) ≡ some q.0.0 = sym (rules-are (goal.at.returns-in-Fail c).After-copy_rules-c) ∙ ap checked q.1 in
-    from-rules (goal.at.returns-in-Fail c).Start c.if-first-none.false ∙ ap (λ (x : Opt Answer). or_next x (first_refusal (zones (bad_zones a.p (view (goal.at.returns-in-Fail c).Start) (state (goal.at.returns-in-Fail c).Start) a.addresses.now (taken (goal.at.returns-in-Fail c).Start)) ∷ []))) e
+    let e : first_refusal (copy_rules a.p (view c.before.before.before.before.before.before.before.before.before.before.before.before.before.before) (state c.before.before.before.before.before.before.before.before.before.before.before.before.before.before)) ≡ some q.0.0 = sym (rules-are c.before.before.before.before) ∙ ap checked q.1 in
+    from-rules c.before.before.before.before.before.before.before.before.before.before.before.before.before.before c.if-first-none.false ∙ ap (λ (x : Opt Answer). or_next x (first_refusal (zones (bad_zones a.p (view c.before.before.before.before.before.before.before.before.before.before.before.before.before.before) (state c.before.before.before.before.before.before.before.before.before.before.before.before.before.before) a.addresses.now (taken c.before.before.before.before.before.before.before.before.before.before.before.before.before.before)) ∷ []))) e
 
 pub has_fault-requires : goal.has_fault-requires
 has_fault-requires c = record { p_value = c.requires.p_value; bytes_len = c.requires.f_value.2 }
 
 -- the zones at fault, once the rules pass
-from_zones : (c : After-has_fault) → let o = c.args.seen.odd in later c ≡ cond c.has_fault.result (some (BadZone 0)) (cond (eqb o 1024) none (some (BadZone o)))
+from_zones : (c : Lts.After-has_fault Tie.the-claims Reads.Pre Reads.Post) → let o = c.before.before.before.before.before.before.before.before.before.before.before.before.before.args.seen.odd in later c.before.before.before.before.before.before.before.before.before.before.before.before.before ≡ cond c.has_fault.result (some (BadZone 0)) (cond (eqb o 1024) none (some (BadZone o)))
 from_zones c =
-    let a = c.args in
-    let k = c.requires.looked in
-    let e : first_refusal (copy_rules a.p (view c) (state c)) ≡ none = sym (rules-are c) ∙ ap checked c.in_default.is in
-    from-rules c c.if-first-none.false ∙ ap (λ (x : Opt Answer). or_next x (first_refusal (zones (bad_zones a.p (view c) (state c) a.addresses.now (taken c)) ∷ []))) e
-    ∙ zones_odd a.p (ranged a.p c.requires.p_value) (view c) (state c) a.addresses.now (taken c) c.has_fault.result a.seen.odd
-    (λ zs. c.has_fault.ensures (view c) a.addresses.now zs (k.0.outside k.1)) k.0.odd
+    let a = c.before.before.before.before.before.before.before.before.before.before.before.before.before.args in
+    let k = c.before.before.before.before.before.before.before.before.before.before.before.before.before.requires.looked in
+    let e : first_refusal (copy_rules a.p (view c.before.before.before.before.before.before.before.before.before.before.before.before.before) (state c.before.before.before.before.before.before.before.before.before.before.before.before.before)) ≡ none = sym (rules-are c.before.before.before) ∙ ap checked c.before.enum_told-1.given.1 in
+    from-rules c.before.before.before.before.before.before.before.before.before.before.before.before.before c.before.before.before.before.if-first-none.false ∙ ap (λ (x : Opt Answer). or_next x (first_refusal (zones (bad_zones a.p (view c.before.before.before.before.before.before.before.before.before.before.before.before.before) (state c.before.before.before.before.before.before.before.before.before.before.before.before.before) a.addresses.now (taken c.before.before.before.before.before.before.before.before.before.before.before.before.before)) ∷ []))) e
+    ∙ zones_odd a.p (ranged a.p c.before.before.before.before.before.before.before.before.before.before.before.before.before.requires.p_value) (view c.before.before.before.before.before.before.before.before.before.before.before.before.before) (state c.before.before.before.before.before.before.before.before.before.before.before.before.before) a.addresses.now (taken c.before.before.before.before.before.before.before.before.before.before.before.before.before) c.has_fault.result a.seen.odd
+    (λ zs. c.has_fault.ensures (view c.before.before.before.before.before.before.before.before.before.before.before.before.before) a.addresses.now zs (k.0.outside k.1)) k.0.odd
 
 pub returns-then-has_fault : goal.returns-then-has_fault
 returns-then-has_fault c =
     let o = c.args.seen.odd in
-    from_zones (goal.at.returns-then-has_fault c).After-has_fault ∙ ap (λ (x : Bool). cond x (some (BadZone 0)) (cond (eqb o 1024) none (some (BadZone o)))) c.if-has_fault.true
+    from_zones c.before.before ∙ ap (λ (x : Bool). cond x (some (BadZone 0)) (cond (eqb o 1024) none (some (BadZone o)))) c.if-has_fault.true
 
 pub returns-then-seen-ne1024 : goal.returns-then-seen-ne1024
 returns-then-seen-ne1024 c =
     let o = c.args.seen.odd in
-    from_zones (c) ∙ (let f = c.if-has_fault.false in let n = ne_eqb o 1024 c.if-seen-ne1024.true in λ j. cond (f j) (some (BadZone 0)) (cond (n j) none (some (BadZone o))))
+    from_zones c.before.before.before.before ∙ (let f = c.if-has_fault.false in let n = ne_eqb o 1024 c.if-seen-ne1024.true in λ j. cond (f j) (some (BadZone 0)) (cond (n j) none (some (BadZone o))))
 
 pub returns : goal.returns
 returns c =
@@ -108,9 +110,9 @@ returns c =
     let o = a.seen.odd in
     let n = c.if-first-none.false in
     let g = k.0.found n in (
-      from_zones (c) ∙ (let f = c.if-has_fault.false in let z = eq-eqb o 1024 c.if-seen-ne1024.false in λ j. cond (f j) (some (BadZone 0)) (cond (z j) none (some (BadZone o)))),
-      some-live (goal.at.returns c).Start,
-      first_found (idle a.p (view (goal.at.returns c).Start) (state (goal.at.returns c).Start) (taken (goal.at.returns c).Start)) never_place a.seen.first.0 k.0.first n,
+      from_zones c.before.before.before.before ∙ (let f = c.if-has_fault.false in let z = eq-eqb o 1024 c.if-seen-ne1024.false in λ j. cond (f j) (some (BadZone 0)) (cond (z j) none (some (BadZone o)))),
+      some-live c.before.before.before.before.before.before.before.before.before.before.before.before.before.before.before.before.before,
+      first_found (idle a.p (view c.before.before.before.before.before.before.before.before.before.before.before.before.before.before.before.before.before) (state c.before.before.before.before.before.before.before.before.before.before.before.before.before.before.before.before.before) (taken c.before.before.before.before.before.before.before.before.before.before.before.before.before.before.before.before.before)) never_place a.seen.first.0 k.0.first n,
       g.1,
       g.3 c.if-seen-ne1024.false,
       g.2,

@@ -18,34 +18,36 @@ use mathlib.Core.List.{[]}
 use mathlib.Core.Path.{◌≡◌, sym, ap, ◌∙◌, subst}
 use borrow.Author.Rules.{rules}
 use Rattle.call_reclaim.proofs.reclaim.Goals as goal
-use Rattle.call_reclaim.proofs.reclaim.Goals.{After-aim_of-a, After-choose-c, Start}
+use Rattle.call_reclaim.proofs.reclaim.Lts
+use Rattle.call_reclaim.proofs.reclaim.Reads
+use Rattle.call_reclaim.proofs.reclaim.Tie
 
-abbrev disk : (c : Start) → Disk
+abbrev disk : (c : Lts.Start Tie.the-claims Reads.Pre Reads.Post) → Disk
 disk c = mk_disk c.args.image.now c.args.pointers.now
 
-abbrev view : (c : Start) → View
+abbrev view : (c : Lts.Start Tie.the-claims Reads.Pre Reads.Post) → View
 view c = view_of c.args.p c.args.offline.now c.args.image.now c.args.pointers.now
 
 -- the memory with a state in it
-abbrev memory : (c : Start) → State → Memory
+abbrev memory : (c : Lts.Start Tie.the-claims Reads.Pre Reads.Post) → State → Memory
 memory c st = mk_memory st c.args.addresses.now c.args.compact.now c.args.inflight.now
 
 -- the aim is the state's
-aimed : (c : After-aim_of-a) → let a = c.args in c.aim_of-a.result ≡ aim_of a.p a.state
+aimed : (c : Lts.After-aim_of Tie.the-claims Reads.Pre Reads.Post) → let a = c.before.before.before.before.before.before.before.before.before.args in c.aim_of-a.result ≡ aim_of a.p a.state
 aimed c =
-    let a = c.args in
-    c.aim_of-a.ensures ∙ front_aim a.p a.state c.front_of-f.result c.front_of-f.ensures
+    let a = c.before.before.before.before.before.before.before.before.before.args in
+    c.aim_of-a.ensures ∙ front_aim a.p a.state c.before.front_of-f.result c.before.front_of-f.ensures
 
 pub choose-c-requires : goal.choose-c-requires
 choose-c-requires c =
     let e = c.requires.0 in
-    (c.front_of-f.ensures ∙ ap front_of e, aimed (c) ∙ ap (aim_of c.args.p) e, ap (λ (x : State). x.missing) e, c.requires.1)
+    (c.front_of-f.ensures ∙ ap front_of e, aimed c.before ∙ ap (aim_of c.args.p) e, ap (λ (x : State). x.missing) e, c.requires.1)
 
 -- what is chosen, of the state
-abbrev start : After-choose-c → Start
-start c = c
+abbrev start : Lts.After-choose Tie.the-claims Reads.Pre Reads.Post → Lts.Start Tie.the-claims Reads.Pre Reads.Post
+start c = c.before.before.before.before.before.before.before.before.before.before
 
-chosen : (c : After-choose-c) (x : Choice) → c.choose-c.result.choice ≡ x → let s = start c in let a = s.args in
+chosen : (c : Lts.After-choose Tie.the-claims Reads.Pre Reads.Post) (x : Choice) → c.choose-c.result.choice ≡ x → let s = start c in let a = s.args in
     Chose a.p (view s) a.state (victim a.p (view s) a.addresses.now) (reclaim_refusal a.p a.offline.now (disk s) (memory s a.state)) c.choose-c.result.segment x
 chosen c x q =
     let s = start c in
@@ -57,29 +59,29 @@ chosen c x q =
 
 pub reset_segment-requires : goal.reset_segment-requires
 reset_segment-requires c =
-    let h = chosen (goal.at.reset_segment-requires c).After-choose-c _ c.in-Clear.is in
-    let l = lent c.args.p c.args.offline.now (disk (goal.at.reset_segment-requires c).Start) (memory (goal.at.reset_segment-requires c).Start c.args.state) h.0 in record { p_value = l.in_range_holds; pointers_len = (l.whole.pointers_long, l.addresses_long, l.compact_long, h.3) }
+    let h = chosen c.before.before.before.before.before.before.before _ c.in-Clear.is in
+    let l = lent c.args.p c.args.offline.now (disk c.before.before.before.before.before.before.before.before.before.before.before.before.before.before.before.before.before) (memory c.before.before.before.before.before.before.before.before.before.before.before.before.before.before.before.before.before c.args.state) h.0 in record { p_value = l.in_range_holds; pointers_len = (l.whole.pointers_long, l.addresses_long, l.compact_long, h.3) }
 
 pub copy_block-requires : goal.copy_block-requires
 copy_block-requires c =
     let q = c.choice-in-Copy-1.given in
     let a = c.args in
     let e = c.requires.0 in
-    let h = chosen (c) _ q.1 in
-    let r = subst (λ (x : State). CopyReady a.p a.offline.now (disk (goal.at.copy_block-requires c).Start) (memory (goal.at.copy_block-requires c).Start x)) e (copy_ready a.p a.offline.now (disk (goal.at.copy_block-requires c).Start) (memory (goal.at.copy_block-requires c).Start a.state) h.0 h.1) in record { copy_ready = r; f_value = (c.front_of-f.ensures ∙ ap front_of e, aimed (c) ∙ ap (aim_of a.p) e, c.requires.1); q_bound = (h.3, h.4); q_value = (h.5, h.6) }
+    let h = chosen c.before.before.before.before.before.before.before.before.before.before _ q.1 in
+    let r = subst (λ (x : State). CopyReady a.p a.offline.now (disk c.before.before.before.before.before.before.before.before.before.before.before.before.before.before.before.before.before.before.before.before) (memory c.before.before.before.before.before.before.before.before.before.before.before.before.before.before.before.before.before.before.before.before x)) e (copy_ready a.p a.offline.now (disk c.before.before.before.before.before.before.before.before.before.before.before.before.before.before.before.before.before.before.before.before) (memory c.before.before.before.before.before.before.before.before.before.before.before.before.before.before.before.before.before.before.before.before a.state) h.0 h.1) in record { copy_ready = r; f_value = (c.front_of-f.ensures ∙ ap front_of e, aimed c.before.before.before.before.before.before.before.before.before.before.before ∙ ap (aim_of a.p) e, c.requires.1); q_bound = (h.3, h.4); q_value = (h.5, h.6) }
 
 pub returns-in-Refuse : goal.returns-in-Refuse
 returns-in-Refuse c =
     let a = c.args in
     let q = c.choice-1.given in
-    reclaim_refused a.p a.offline.now (disk (goal.at.returns-in-Refuse c).Start) (memory (goal.at.returns-in-Refuse c).Start a.state) a.count c.kept.result (chosen (c) _ q.1 ∙ ap (λ (x : Change). some x.answer) (sym c.kept.ensures))
+    reclaim_refused a.p a.offline.now (disk c.before.before.before.before.before.before.before.before.before.before.before.before.before.before.before.before) (memory c.before.before.before.before.before.before.before.before.before.before.before.before.before.before.before.before a.state) a.count c.kept.result (chosen c.before.before.before.before.before.before _ q.1 ∙ ap (λ (x : Change). some x.answer) (sym c.kept.ensures))
 
 pub returns-in-Clear : goal.returns-in-Clear
 returns-in-Clear c =
     let r = c.reset_segment in
-    let s = start (goal.at.returns-in-Clear c).After-choose-c in
+    let s = start c.before.before.before.before.before.before.before.before.before.before.before.before.before.before in
     let a = s.args in
-    let h = chosen (goal.at.returns-in-Clear c).After-choose-c _ c.in-Clear.is in
+    let h = chosen c.before.before.before.before.before.before.before.before.before.before.before.before.before.before _ c.in-Clear.is in
     r.ensures a.state a.image.now a.inflight.now c.front_of-f.ensures
     ∙ reclaim_clear a.p a.offline.now (disk s) (memory s a.state) a.count c.choose-c.result.segment h.0 h.1 h.2
 
@@ -87,9 +89,9 @@ pub returns-in-Copy : goal.returns-in-Copy
 returns-in-Copy c =
     let r = c.copy_block in
     let q = c.choice-in-Copy-1.given in
-    let s = start (goal.at.returns-in-Copy c).After-choose-c in
+    let s = start c.before.before.before.before.before.before.before.before.before.before.before.before.before.before.before.before.before.before.before.before.before in
     let a = s.args in
-    let h = chosen (goal.at.returns-in-Copy c).After-choose-c _ q.1 in
+    let h = chosen c.before.before.before.before.before.before.before.before.before.before.before.before.before.before.before.before.before.before.before.before.before _ q.1 in
     let l = r.new in
     let place = q.0.0.0 in
     subst (λ (st : State).

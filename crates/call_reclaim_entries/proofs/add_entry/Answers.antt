@@ -10,7 +10,9 @@ use mathlib.Core.Path.{◌≡◌, sym, ap, ◌∙◌, subst}
 use native.Mathlib.Nat.{div-lt_iff_lt-mul}
 use native.Mathlib.Omega.{arith}
 use Rattle.call_reclaim_entries.proofs.add_entry.Goals as goal
-use Rattle.call_reclaim_entries.proofs.add_entry.Goals.{After-wide-g, After-zone_number-t}
+use Rattle.call_reclaim_entries.proofs.add_entry.Lts
+use Rattle.call_reclaim_entries.proofs.add_entry.Reads
+use Rattle.call_reclaim_entries.proofs.add_entry.Tie
 
 pub returns-then-all-q : goal.returns-then-all-q
 returns-then-all-q c =
@@ -23,55 +25,55 @@ zone_number-t-requires c =
     let h = c.requires.le_cap in (h.0, h.1, omega (arith, h.2, c.if-all-q.false), h.3)
 
 -- the zone is one of those numbered
-in-zones : (c : After-zone_number-t) → c.zone_number-t.result < length c.args.segments.now
+in-zones : (c : Lts.After-zone_number Tie.the-claims Reads.Pre Reads.Post) → c.zone_number-t.result < length c.before.before.before.before.args.segments.now
 in-zones c =
-    let a = c.args in
-    let h = c.requires.le_cap in
+    let a = c.before.before.before.before.args in
+    let h = c.before.before.before.before.requires.le_cap in
     let n = length a.segments.now in
-    let k : a.q < n * a.cap = omega (arith, h.4, c.if-all-q.false) in
+    let k : a.q < n * a.cap = omega (arith, h.4, c.before.if-all-q.false) in
     subst (λ (x : ℕ). x < n) (sym c.zone_number-t.ensures) ((div-lt_iff_lt-mul {k = a.cap} {x = a.q} {y = n} (omega (arith, h.0))).1 k)
 
 pub offset_bounds-segments-t : goal.offset_bounds-segments-t
-offset_bounds-segments-t c = omega (arith, in-zones (goal.at.offset_bounds-segments-t c).After-zone_number-t)
+offset_bounds-segments-t c = omega (arith, in-zones c.before)
 
 pub bounds-segments-t : goal.bounds-segments-t
-bounds-segments-t c = in-zones (goal.at.bounds-segments-t c).After-zone_number-t
+bounds-segments-t c = in-zones c.before.before
 
 -- the segment, as it is read
-its_segment : (c : After-wide-g)
+its_segment : (c : Lts.After-wide Tie.the-claims Reads.Pre Reads.Post)
     → c.wide-g.result
-    ≡ get_or c.args.segments.now
-    (c.args.q / c.args.cap) 0
+    ≡ get_or c.before.before.before.before.before.before.args.segments.now
+    (c.before.before.before.before.before.before.args.q / c.before.before.before.before.before.before.args.cap) 0
 its_segment c =
-    c.wide-g.ensures ∙ ap (λ (x : ℕ). get_or c.args.segments.now x 0) c.zone_number-t.ensures
+    c.wide-g.ensures ∙ ap (λ (x : ℕ). get_or c.before.before.before.before.before.before.args.segments.now x 0) c.before.before.zone_number-t.ensures
 
 -- it has a count
-counted : (c : After-wide-g) → c.wide-g.result < length c.args.used.now
+counted : (c : Lts.After-wide Tie.the-claims Reads.Pre Reads.Post) → c.wide-g.result < length c.before.before.before.before.before.before.args.used.now
 counted c =
-    subst (λ (x : ℕ). x < length c.args.used.now) (sym (its_segment c)) (c.requires.cap_in_bounds (omega (arith, c.if-all-q.false)))
+    subst (λ (x : ℕ). x < length c.before.before.before.before.before.before.args.used.now) (sym (its_segment c)) (c.before.before.before.before.before.before.requires.cap_in_bounds (omega (arith, c.before.before.before.if-all-q.false)))
 
 pub offset_bounds-used-g : goal.offset_bounds-used-g
-offset_bounds-used-g c = omega (arith, counted (goal.at.offset_bounds-used-g c).After-wide-g)
+offset_bounds-used-g c = omega (arith, counted c.before)
 
 pub bounds-used-g : goal.bounds-used-g
-bounds-used-g c = counted (goal.at.bounds-used-g c).After-wide-g
+bounds-used-g c = counted c.before.before
 
 pub overflow_add-used : goal.overflow_add-used
 overflow_add-used c =
     let a = c.args in
     let h = c.requires.cap_bound (omega (arith, c.if-all-q.false)) in
-    let k : get_or a.used.now c.wide-g.result 0 < 18446744073709551615 = subst (λ (x : ℕ). get_or a.used.now x 0 < 18446744073709551615) (sym (its_segment (goal.at.overflow_add-used c).After-wide-g)) h in
+    let k : get_or a.used.now c.wide-g.result 0 < 18446744073709551615 = subst (λ (x : ℕ). get_or a.used.now x 0 < 18446744073709551615) (sym (its_segment c.before.before)) h in
     omega (arith, k)
 
 pub offset_bounds-used-g-2 : goal.offset_bounds-used-g-2
-offset_bounds-used-g-2 c = omega (arith, counted (goal.at.offset_bounds-used-g-2 c).After-wide-g)
+offset_bounds-used-g-2 c = omega (arith, counted c.before.before)
 
 pub bounds-used-g-2 : goal.bounds-used-g-2
-bounds-used-g-2 c = counted (goal.at.bounds-used-g-2 c).After-wide-g
+bounds-used-g-2 c = counted c.before.before
 
 pub returns : goal.returns
 returns c =
     let a = c.args in
     let u = a.used.now in
     let g = get_or a.segments.now (a.q / a.cap) 0 in
-    let h : a.q < a.all = omega (arith, c.if-all-q.false) in record { used_after = ap (λ (x : ℕ). set u x (get_or u x 0 + 1)) (its_segment (goal.at.returns c).After-wide-g) ∙ ap (λ (b : Bool). cond b (set u g (get_or u g 0 + 1)) u) (sym (lt-ltb a.q a.all h)); value = ap (λ (b : Bool). bool_byte (b && ltb a.q 4294967295)) (sym (lt-leb a.all a.q h)) }
+    let h : a.q < a.all = omega (arith, c.if-all-q.false) in record { used_after = ap (λ (x : ℕ). set u x (get_or u x 0 + 1)) (its_segment c.before.before) ∙ ap (λ (b : Bool). cond b (set u g (get_or u g 0 + 1)) u) (sym (lt-ltb a.q a.all h)); value = ap (λ (b : Bool). bool_byte (b && ltb a.q 4294967295)) (sym (lt-leb a.all a.q h)) }

@@ -11,7 +11,9 @@ use mathlib.Core.Path.{◌≡◌, refl, sym, ap, ◌∙◌}
 use native.Mathlib.Nat.{zero-mul}
 use native.Mathlib.Omega.{arith}
 use Rattle.call_reclaim_live.proofs.count_zones.Goals as goal
-use Rattle.call_reclaim_live.proofs.count_zones.Goals.{After-capacity-cap, After-count_marks-n, After-wide-g}
+use Rattle.call_reclaim_live.proofs.count_zones.Lts
+use Rattle.call_reclaim_live.proofs.count_zones.Reads
+use Rattle.call_reclaim_live.proofs.count_zones.Tie
 
 pub capacity-cap-requires : goal.capacity-cap-requires
 capacity-cap-requires c = c.requires.p_value
@@ -22,12 +24,12 @@ loop-at-init c =
     (omega arith, sym (zero-mul c.capacity-cap.result), refl, pre.by_index, (λ p e tb t s. s), omega arith)
 
 -- the window ends with the places
-end_low : (c : After-capacity-cap) → c.args.end ≤ 715825152
+end_low : (c : Lts.After-capacity Tie.the-claims Reads.Pre Reads.Post goal.the-invariant-loop-at goal.the-decreases-loop-at) → c.before.before.before.before.args.end ≤ 715825152
 end_low c =
-    omega (arith, c.requires.first_le_end.1, places_high c.args.p (ranged c.args.p c.requires.p_value))
+    omega (arith, c.before.before.before.before.requires.first_le_end.1, places_high c.before.before.before.before.args.p (ranged c.before.before.before.before.args.p c.before.before.before.before.requires.p_value))
 
 pub overflow_add-at : goal.overflow_add-at
-overflow_add-at c = omega (arith, c.capacity-cap.ensures.2, end_low (goal.at.overflow_add-at c).After-capacity-cap)
+overflow_add-at c = omega (arith, c.capacity-cap.ensures.2, end_low c.before.before.before)
 
 pub clip-to-requires : goal.clip-to-requires
 clip-to-requires c = omega arith
@@ -40,36 +42,36 @@ overflow_sub-to c = omega arith
 
 pub count_marks-n-requires : goal.count_marks-n-requires
 count_marks-n-requires c =
-    omega (arith, c.clip-to.ensures, c.loop-at.invariant.0, c.requires.first_le_end, end_low (goal.at.count_marks-n-requires c).After-capacity-cap)
+    omega (arith, c.clip-to.ensures, c.loop-at.invariant.0, c.requires.first_le_end, end_low c.before.before.before.before)
 
 -- zone t is one of the zones, and has a number
-zone-in : (c : After-count_marks-n) → let a = c.args in
-    let t = c.loop-at.t in (t < a.p.N * a.p.Z) × (get_or a.segments.now t 0 ≤ 1024)
+zone-in : (c : Lts.After-count_marks Tie.the-claims Reads.Pre Reads.Post goal.the-invariant-loop-at goal.the-decreases-loop-at) → let a = c.before.before.before.before.before.before.before.before.args in
+    let t = c.before.before.before.loop-at.t in (t < a.p.N * a.p.Z) × (get_or a.segments.now t 0 ≤ 1024)
 zone-in c =
-    let a = c.args in
-    let l = c.loop-at in
-    let pre = c.requires in
-    let e : l.at ≡ l.t * capacity a.p = l.invariant.1 ∙ ap (λ (x : ℕ). l.t * x) c.capacity-cap.ensures.0 in
-    let h : l.t < a.p.N * a.p.Z = zone_within a.p (ranged a.p pre.p_value) l.t (omega (arith, e, c.loop-at-test.true, pre.first_le_end.1)) in
+    let a = c.before.before.before.before.before.before.before.before.args in
+    let l = c.before.before.before.loop-at in
+    let pre = c.before.before.before.before.before.before.before.before.requires in
+    let e : l.at ≡ l.t * capacity a.p = l.invariant.1 ∙ ap (λ (x : ℕ). l.t * x) c.before.before.before.before.capacity-cap.ensures.0 in
+    let h : l.t < a.p.N * a.p.Z = zone_within a.p (ranged a.p pre.p_value) l.t (omega (arith, e, c.before.before.loop-at-test.true, pre.first_le_end.1)) in
     (h, pre.first_le_end.4.1 l.t h)
 
 pub offset_bounds-segments-t : goal.offset_bounds-segments-t
 offset_bounds-segments-t c =
-    omega (arith, (zone-in (goal.at.offset_bounds-segments-t c).After-count_marks-n).0, zones_all c.args.p (ranged c.args.p c.requires.p_value))
+    omega (arith, (zone-in c.before).0, zones_all c.args.p (ranged c.args.p c.requires.p_value))
 
 pub bounds-segments-t : goal.bounds-segments-t
-bounds-segments-t c = omega (arith, (zone-in (goal.at.bounds-segments-t c).After-count_marks-n).0, c.requires.first_le_end.4.0)
+bounds-segments-t c = omega (arith, (zone-in c.before.before).0, c.requires.first_le_end.4.0)
 
 -- the number of its segment
-number_low : (c : After-wide-g) → c.wide-g.result ≤ 1024
-number_low c = omega (arith, c.wide-g.ensures, (zone-in c).1)
+number_low : (c : Lts.After-wide Tie.the-claims Reads.Pre Reads.Post goal.the-invariant-loop-at goal.the-decreases-loop-at) → c.wide-g.result ≤ 1024
+number_low c = omega (arith, c.wide-g.ensures, (zone-in c.before.before).1)
 
 pub offset_bounds-live-g : goal.offset_bounds-live-g
-offset_bounds-live-g c = omega (arith, number_low (goal.at.offset_bounds-live-g c).After-wide-g)
+offset_bounds-live-g c = omega (arith, number_low c.before)
 
 pub bounds-live-g : goal.bounds-live-g
 bounds-live-g c =
-    omega (arith, number_low (goal.at.bounds-live-g c).After-wide-g, c.loop-at.invariant.2, c.requires.first_le_end.3)
+    omega (arith, number_low c.before.before, c.loop-at.invariant.2, c.requires.first_le_end.3)
 
 pub overflow_add-live : goal.overflow_add-live
 overflow_add-live c =
@@ -81,22 +83,22 @@ overflow_add-live c =
     let h : l.from ≤ a.end = omega (arith, i.0) in
     let k : clip.result - a.first ≤ a.end = omega (arith, clip.ensures) in
     let m : c.count_marks-n.result ≤ clip.result - a.first = omega (arith, c.count_marks-n.ensures.1) in
-    record { fits = sum_fits (get_or l.live g 0) c.count_marks-n.result l.from (clip.result - a.first) a.end (i.3 g (number_low (goal.at.overflow_add-live c).After-wide-g)) h m k (end_low (c)) }
+    record { fits = sum_fits (get_or l.live g 0) c.count_marks-n.result l.from (clip.result - a.first) a.end (i.3 g (number_low c.before.before)) h m k (end_low c.before.before.before.before.before.before.before.before) }
 
 pub offset_bounds-live-g-in-loop-at : goal.offset_bounds-live-g-in-loop-at
-offset_bounds-live-g-in-loop-at c = omega (arith, number_low (goal.at.offset_bounds-live-g-in-loop-at c).After-wide-g)
+offset_bounds-live-g-in-loop-at c = omega (arith, number_low c.before.before)
 
 pub bounds-live-g-in-loop-at : goal.bounds-live-g-in-loop-at
 bounds-live-g-in-loop-at c =
-    omega (arith, number_low (goal.at.bounds-live-g-in-loop-at c).After-wide-g, c.loop-at.invariant.2, c.requires.first_le_end.3)
+    omega (arith, number_low c.before.before, c.loop-at.invariant.2, c.requires.first_le_end.3)
 
 pub overflow_add-at-in-loop-at : goal.overflow_add-at-in-loop-at
 overflow_add-at-in-loop-at c =
-    omega (arith, c.capacity-cap.ensures.2, c.loop-at.invariant.5, end_low (c))
+    omega (arith, c.capacity-cap.ensures.2, c.loop-at.invariant.5, end_low c.before.before.before.before.before.before.before.before)
 
 pub overflow_add-t : goal.overflow_add-t
 overflow_add-t c =
-    omega (arith, (zone-in (goal.at.overflow_add-t c).After-count_marks-n).0, zones_all c.args.p (ranged c.args.p c.requires.p_value))
+    omega (arith, (zone-in c.before.before.before.before).0, zones_all c.args.p (ranged c.args.p c.requires.p_value))
 
 pub loop-at-smaller : goal.loop-at-smaller
 loop-at-smaller c =
@@ -117,14 +119,14 @@ loop-at-preserved c =
     let en = c.count_marks-n.ensures in
     let ec = cap!.ensures.0 in
     let at : l.at ≡ l.t * capacity a.p = i.1 ∙ ap (λ (x : ℕ). l.t * x) ec in
-    let fits : g < length l.live = omega (arith, number_low (c), i.2, pre.3) in
+    let fits : g < length l.live = omega (arith, number_low c.before.before, i.2, pre.3) in
     let low : a.first ≤ l.from = omega (arith, i.0, pre.0) in
     let mid : l.from ≤ to = omega (arith, i.0, et, pre.0) in
     let high : to ≤ a.end = omega (arith, et) in (
       et,
       ap (λ (x : ℕ). l.at + x) ec ∙ ap (λ (x : ℕ). x + capacity a.p) at ∙ sym (live_zone_begins a.p r l.t) ∙ ap (λ (x : ℕ). (l.t + 1) * x) (sym ec),
       omega (arith, length-set l.live g (get_or l.live g 0 + n), i.2),
-      bounded_more 1024 l.live g (get_or l.live g 0 + n) l.from to i.3 fits (omega (arith, i.3 g (number_low (c)), en.1, mid, low)) mid,
+      bounded_more 1024 l.live g (get_or l.live g 0 + n) l.from to i.3 fits (omega (arith, i.3 g (number_low c.before.before), en.1, mid, low)) mid,
       (λ p e tb told so. counted-more p a.segments.now tb a.marks.now a.first a.end told l.live g l.from to n low mid high fits
           (λ q x y.
           let w : q / capacity p ≡ l.t = ap (λ (k : ℕ). q / k) (sym e ∙ ec)

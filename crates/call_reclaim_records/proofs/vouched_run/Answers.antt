@@ -10,7 +10,10 @@ use mathlib.Core.Path.{◌≡◌, sym, ap, ◌∙◌}
 use mir.Val.{bool_byte}
 use native.Mathlib.Omega.{arith}
 use Rattle.call_reclaim_records.proofs.vouched_run.Goals as goal
-use Rattle.call_reclaim_records.proofs.vouched_run.Goals.{After-same-c, In-loop-i}
+use Rattle.call_reclaim_records.proofs.vouched_run.Goals.{In-loop-i}
+use Rattle.call_reclaim_records.proofs.vouched_run.Lts
+use Rattle.call_reclaim_records.proofs.vouched_run.Reads
+use Rattle.call_reclaim_records.proofs.vouched_run.Tie
 
 pub loop-i-init : goal.loop-i-init
 loop-i-init c = (omega arith, omega arith, omega arith)
@@ -43,29 +46,29 @@ pub overflow_add-q : goal.overflow_add-q
 overflow_add-q c = omega arith
 
 -- one place more
-one_more : (c : After-same-c)
-    → c.loop-i.c + c.same-c.result
+one_more : (c : Lts.After-same Tie.the-claims Reads.Pre Reads.Post goal.the-invariant-loop-i goal.the-decreases-loop-i)
+    → c.before.before.before.before.before.loop-i.c + c.same-c.result
     ≤ length
-    (pointed_from c.args.addresses.now
-    c.args.l c.args.q
-    (c.loop-i.i + 1))
+    (pointed_from c.before.before.before.before.before.before.before.before.args.addresses.now
+    c.before.before.before.before.before.before.before.before.args.l c.before.before.before.before.before.before.before.before.args.q
+    (c.before.before.before.before.before.loop-i.i + 1))
 one_more c =
-    let clipped = c.clipped-a in
-    let s = c.args in
-    let l = c.loop-i in
+    let clipped = c.before.before.clipped-a in
+    let s = c.before.before.before.before.before.before.before.before.args in
+    let l = c.before.before.before.before.before.loop-i in
     let tb = s.addresses.now in
-    let e = c.same-c.ensures ∙ ap (λ (x : ℕ). bool_byte (eqb x (s.q + l.i))) c.place_at.ensures in
+    let e = c.same-c.ensures ∙ ap (λ (x : ℕ). bool_byte (eqb x (s.q + l.i))) c.before.place_at.ensures in
     let w = pointed-bit tb s.l clipped.result (s.q + l.i) clipped.ensures in
     omega (arith, l.invariant.1, e, w, run_snoc (is_pointed tb s.l) s.q l.i)
 
 -- which is no more than the places
-within : (c : After-same-c) → c.loop-i.c + c.same-c.result ≤ c.loop-i.i + 1
+within : (c : Lts.After-same Tie.the-claims Reads.Pre Reads.Post goal.the-invariant-loop-i goal.the-decreases-loop-i) → c.before.before.before.before.before.loop-i.c + c.same-c.result ≤ c.before.before.before.before.before.loop-i.i + 1
 within c =
-    let s = c.args in
-    omega (arith, one_more c, run_le (is_pointed s.addresses.now s.l) s.q (c.loop-i.i + 1))
+    let s = c.before.before.before.before.before.before.before.before.args in
+    omega (arith, one_more c, run_le (is_pointed s.addresses.now s.l) s.q (c.before.before.before.before.before.loop-i.i + 1))
 
 pub overflow_add-c : goal.overflow_add-c
-overflow_add-c c = omega (arith, within (goal.at.overflow_add-c c).After-same-c)
+overflow_add-c c = omega (arith, within c.before)
 
 pub overflow_add-i : goal.overflow_add-i
 overflow_add-i c = omega arith
@@ -74,7 +77,7 @@ pub loop-i-smaller : goal.loop-i-smaller
 loop-i-smaller c = omega arith
 
 pub loop-i-preserved : goal.loop-i-preserved
-loop-i-preserved c = (omega arith, one_more (goal.at.loop-i-preserved c).After-same-c, within (goal.at.loop-i-preserved c).After-same-c)
+loop-i-preserved c = (omega arith, one_more c.before, within c.before)
 
 pub returns : goal.returns
 returns c =

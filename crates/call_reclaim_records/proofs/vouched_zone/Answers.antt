@@ -13,7 +13,9 @@ use mathlib.Core.Path.{◌≡◌, sym, ap, ◌∙◌, subst}
 use native.Mathlib.Nat.{add-zero}
 use native.Mathlib.Omega.{arith}
 use Rattle.call_reclaim_records.proofs.vouched_zone.Goals as goal
-use Rattle.call_reclaim_records.proofs.vouched_zone.Goals.{After-vouched_run-c}
+use Rattle.call_reclaim_records.proofs.vouched_zone.Lts
+use Rattle.call_reclaim_records.proofs.vouched_zone.Reads
+use Rattle.call_reclaim_records.proofs.vouched_zone.Tie
 
 pub per_footer-per-requires : goal.per_footer-per-requires
 per_footer-per-requires c = c.requires.p_value
@@ -90,48 +92,48 @@ vouched_run-c-requires c =
     )
 
 -- one footer block more
-block_more : (c : After-vouched_run-c)
-    → c.loop-f.c + c.vouched_run-c.result
+block_more : (c : Lts.After-vouched_run Tie.the-claims Reads.Pre Reads.Post goal.the-invariant-loop-f goal.the-decreases-loop-f)
+    → c.before.before.before.before.loop-f.c + c.vouched_run-c.result
     ≤ length
-    (pointed_from c.args.addresses.now
-    c.args.p.L
-    c.place_of-first.result.0
-    (c.loop-f.o + c.run_len-n.result))
+    (pointed_from c.before.before.before.before.before.before.before.before.before.before.before.before.before.before.args.addresses.now
+    c.before.before.before.before.before.before.before.before.before.before.before.before.before.before.args.p.L
+    c.before.before.before.before.before.before.before.before.place_of-first.result.0
+    (c.before.before.before.before.loop-f.o + c.before.run_len-n.result))
 block_more c =
-    let a = c.args in
-    omega (arith, c.vouched_run-c.ensures, c.loop-f.invariant.2, run_add (is_pointed a.addresses.now a.p.L) c.place_of-first.result.0 c.loop-f.o c.run_len-n.result)
+    let a = c.before.before.before.before.before.before.before.before.before.before.before.before.before.before.args in
+    omega (arith, c.vouched_run-c.ensures, c.before.before.before.before.loop-f.invariant.2, run_add (is_pointed a.addresses.now a.p.L) c.before.before.before.before.before.before.before.before.place_of-first.result.0 c.before.before.before.before.loop-f.o c.before.run_len-n.result)
 
-within : (c : After-vouched_run-c)
-    → (c.loop-f.o + c.run_len-n.result
-    ≤ c.args.p.S)
-    × (c.loop-f.c + c.vouched_run-c.result
-    ≤ c.args.p.S)
+within : (c : Lts.After-vouched_run Tie.the-claims Reads.Pre Reads.Post goal.the-invariant-loop-f goal.the-decreases-loop-f)
+    → (c.before.before.before.before.loop-f.o + c.before.run_len-n.result
+    ≤ c.before.before.before.before.before.before.before.before.before.before.before.before.before.before.args.p.S)
+    × (c.before.before.before.before.loop-f.c + c.vouched_run-c.result
+    ≤ c.before.before.before.before.before.before.before.before.before.before.before.before.before.before.args.p.S)
 within c =
-    let a = c.args in
-    let e : c.loop-f.o + c.run_len-n.result ≤ a.p.S = omega (arith, c.run_len-n.ensures, c.loop-f.invariant.1) in
-    (e, omega (arith, e, block_more c, run_le (is_pointed a.addresses.now a.p.L) c.place_of-first.result.0 (c.loop-f.o + c.run_len-n.result)))
+    let a = c.before.before.before.before.before.before.before.before.before.before.before.before.before.before.args in
+    let e : c.before.before.before.before.loop-f.o + c.before.run_len-n.result ≤ a.p.S = omega (arith, c.before.run_len-n.ensures, c.before.before.before.before.loop-f.invariant.1) in
+    (e, omega (arith, e, block_more c, run_le (is_pointed a.addresses.now a.p.L) c.before.before.before.before.before.before.before.before.place_of-first.result.0 (c.before.before.before.before.loop-f.o + c.before.run_len-n.result)))
 
 pub overflow_add-c : goal.overflow_add-c
 overflow_add-c c =
-    omega (arith, (within (goal.at.overflow_add-c c).After-vouched_run-c).1, (ranged c.args.p c.requires.p_value).stripes_high)
+    omega (arith, (within c.before).1, (ranged c.args.p c.requires.p_value).stripes_high)
 
 pub overflow_add-o : goal.overflow_add-o
 overflow_add-o c =
-    omega (arith, (within (goal.at.overflow_add-o c).After-vouched_run-c).0, (ranged c.args.p c.requires.p_value).stripes_high)
+    omega (arith, (within c.before).0, (ranged c.args.p c.requires.p_value).stripes_high)
 
 -- the footer block lies in the image
-in_image : (c : After-vouched_run-c) → c.loop-f.at ≤ 2946336325632
+in_image : (c : Lts.After-vouched_run Tie.the-claims Reads.Pre Reads.Post goal.the-invariant-loop-f goal.the-decreases-loop-f) → c.before.before.before.before.loop-f.at ≤ 2946336325632
 unfolding capacity
 in_image c =
-    let a = c.args in
+    let a = c.before.before.before.before.before.before.before.before.before.before.before.before.before.before.args in
     let p = a.p in
-    let r = ranged p c.requires.p_value in
-    let h = c.requires.image_len in
-    omega (arith, c.loop-f.invariant.3, image_high p r, block_within p a.drive a.zone (1 + p.S + c.loop-f.f) h.2 h.3 (omega (arith, c.loop-f-test.true, c.footers-feet.ensures.0)))
+    let r = ranged p c.before.before.before.before.before.before.before.before.before.before.before.before.before.before.requires.p_value in
+    let h = c.before.before.before.before.before.before.before.before.before.before.before.before.before.before.requires.image_len in
+    omega (arith, c.before.before.before.before.loop-f.invariant.3, image_high p r, block_within p a.drive a.zone (1 + p.S + c.before.before.before.before.loop-f.f) h.2 h.3 (omega (arith, c.before.before.before.loop-f-test.true, c.before.before.before.before.before.before.before.before.before.before.footers-feet.ensures.0)))
 
 pub overflow_add-at : goal.overflow_add-at
 overflow_add-at c =
-    omega (arith, in_image (goal.at.overflow_add-at c).After-vouched_run-c, c.unit_len-unit.ensures.2, spare_len_lem)
+    omega (arith, in_image c.before, c.unit_len-unit.ensures.2, spare_len_lem)
 
 pub overflow_add-f : goal.overflow_add-f
 overflow_add-f c =
@@ -150,7 +152,7 @@ loop-f-preserved c =
     let e : b + 1 ≡ 1 + p.S + (l.f + 1) = omega arith in
     let w : l.at + c.unit_len-unit.result ≡ place_byte p (place_of p a.drive a.zone (1 + p.S + (l.f + 1))) =
     (λ j. l.invariant.3 j + c.unit_len-unit.ensures.0 j) ∙ sym (next_byte p a.drive a.zone b) ∙ ap (λ (x : ℕ). place_byte p (place_of p a.drive a.zone x)) e in
-    (omega (arith, c.loop-f-test.true), (within (goal.at.loop-f-preserved c).After-vouched_run-c).0, block_more (goal.at.loop-f-preserved c).After-vouched_run-c, w)
+    (omega (arith, c.loop-f-test.true), (within c.before).0, block_more c.before, w)
 
 pub returns : goal.returns
 returns c =

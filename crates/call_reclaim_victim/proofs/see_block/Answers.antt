@@ -13,20 +13,22 @@ use mathlib.Core.List.{List}
 use mathlib.Core.Path.{◌≡◌, refl, sym, ap, ◌∙◌, subst}
 use native.Mathlib.Omega.{arith}
 use Rattle.call_reclaim_victim.proofs.see_block.Goals as goal
-use Rattle.call_reclaim_victim.proofs.see_block.Goals.{Start}
+use Rattle.call_reclaim_victim.proofs.see_block.Lts
+use Rattle.call_reclaim_victim.proofs.see_block.Reads
+use Rattle.call_reclaim_victim.proofs.see_block.Tie
 
-zone_there : (c : Start) → zone_on c.args.segment c.args.drive < c.args.p.Z
+zone_there : (c : Lts.Start Tie.the-claims Reads.Pre Reads.Post) → zone_on c.args.segment c.args.drive < c.args.p.Z
 zone_there c = low_here c.args.p c.args.segment c.args.drive c.requires.whole.1 c.requires.addresses_len.1
 
 -- the place is that of its data block
-place-there : (c : Start) → c.args.at + c.args.o ≡ place_of c.args.p c.args.drive (zone_on c.args.segment c.args.drive) 1 + c.args.o
+place-there : (c : Lts.Start Tie.the-claims Reads.Pre Reads.Post) → c.args.at + c.args.o ≡ place_of c.args.p c.args.drive (zone_on c.args.segment c.args.drive) 1 + c.args.o
 place-there c =
     let a = c.args in
     let h = c.requires.addresses_len in
     ap (λ (x : ℕ). x + a.o) (h.3 ∙ ap (λ (z : ℕ). place_of a.p a.drive z 1) h.2)
 
 -- the place lies in the image
-in_image : (c : Start) → c.args.at + c.args.o < 715825152
+in_image : (c : Lts.Start Tie.the-claims Reads.Pre Reads.Post) → c.args.at + c.args.o < 715825152
 in_image c =
     let a = c.args in
     let r = ranged a.p c.requires.p_value in
@@ -35,16 +37,16 @@ in_image c =
 
 pub record_in-record-requires : goal.record_in-record-requires
 record_in-record-requires c =
-    let h = c.requires.addresses_len in record { p_value = c.requires.p_value; image_len = (c.requires.whole.0.image_long, h.1, subst (λ (z : ℕ). z < c.args.p.Z) (sym h.2) (zone_there (c)), h.4) }
+    let h = c.requires.addresses_len in record { p_value = c.requires.p_value; image_len = (c.requires.whole.0.image_long, h.1, subst (λ (z : ℕ). z < c.args.p.Z) (sym h.2) (zone_there c.before.before.before.before.before), h.4) }
 
 pub clipped-a-requires : goal.clipped-a-requires
 clipped-a-requires c = omega (arith, (ranged c.args.p c.requires.p_value).addresses_low)
 
 pub overflow_add-q : goal.overflow_add-q
-overflow_add-q c = omega (arith, in_image (goal.at.overflow_add-q c).Start)
+overflow_add-q c = omega (arith, in_image c.before.before.before.before.before.before.before.before)
 
 pub overflow_cast-q : goal.overflow_cast-q
-overflow_cast-q c = omega (arith, in_image (goal.at.overflow_cast-q c).Start)
+overflow_cast-q c = omega (arith, in_image c.before.before.before.before.before.before.before.before)
 
 pub place_at-there-requires : goal.place_at-there-requires
 unfolding addresses_len
@@ -62,8 +64,8 @@ next_idle-first-requires c =
     let r = ranged p c.requires.p_value in
     let h = c.requires.addresses_len in
     let q : ℕ = a.at + a.o in record { p_value = c.requires.p_value; whole = c.requires.whole; place_bound = (
-          vouched_low p r a.segment a.drive a.o q h.1 (zone_there (c)) h.4 (place-there (c)),
-          data_even p r a.segment a.drive a.o q h.1 (zone_there (c)) h.4 (place-there (c)),
+          vouched_low p r a.segment a.drive a.o q h.1 (zone_there c.before.before.before.before.before.before.before.before.before.before.before.before.before) h.4 (place-there c.before.before.before.before.before.before.before.before.before.before.before.before.before),
+          data_even p r a.segment a.drive a.o q h.1 (zone_there c.before.before.before.before.before.before.before.before.before.before.before.before.before) h.4 (place-there c.before.before.before.before.before.before.before.before.before.before.before.before.before),
           h.6,
         ) }
 
@@ -80,9 +82,9 @@ returns c =
     let r = ranged p c.requires.p_value in
     let h = c.requires.addresses_len in
     let q : ℕ = a.at + a.o in
-    let live = data_live p r a.segment a.drive a.o q h.1 (zone_there (c)) h.4 (place-there (c)) tb c.clipped-a.result c.clipped-a.ensures
+    let live = data_live p r a.segment a.drive a.o q h.1 (zone_there c.before.before.before.before.before.before.before.before.before.before.before.before.before.before.before) h.4 (place-there c.before.before.before.before.before.before.before.before.before.before.before.before.before.before.before) tb c.clipped-a.result c.clipped-a.ensures
     (sym c.place_at-there.ensures ∙ c.if-there-q.false) in
-    let even = data_even p r a.segment a.drive a.o q h.1 (zone_there (c)) h.4 (place-there (c)) in
+    let even = data_even p r a.segment a.drive a.o q h.1 (zone_there c.before.before.before.before.before.before.before.before.before.before.before.before.before.before.before) h.4 (place-there c.before.before.before.before.before.before.before.before.before.before.before.before.before.before.before) in
     let s : Idle = record { first = c.next_idle-first.result; odd = 1024 } in
-    let low : q < 4294967295 = omega (arith, in_image (c)) in record { live_bound = omega arith; by_index = λ off. vouched_step p (v off) st a.segment tb q a.seen (record { live = a.seen.live + 1; first = s.first }) s live even low
+    let low : q < 4294967295 = omega (arith, in_image c.before.before.before.before.before.before.before.before.before.before.before.before.before.before.before) in record { live_bound = omega arith; by_index = λ off. vouched_step p (v off) st a.segment tb q a.seen (record { live = a.seen.live + 1; first = s.first }) s live even low
           (step-seen p (v off) st a.segment q a.seen s even refl (c.next_idle-first.ensures off)) refl refl }

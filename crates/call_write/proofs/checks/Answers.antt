@@ -16,33 +16,35 @@ use mathlib.Core.Bool.{true}
 use mathlib.Core.Path.{◌≡◌, sym, ◌∙◌}
 use native.Mathlib.Omega.{arith}
 use Rattle.call_write.proofs.checks.Goals as goal
-use Rattle.call_write.proofs.checks.Goals.{Else-block-p, Else-missing-ne0, Else-not-lent_ok, Else-rule-ne0, Start}
+use Rattle.call_write.proofs.checks.Lts
+use Rattle.call_write.proofs.checks.Reads
+use Rattle.call_write.proofs.checks.Tie
 
-abbrev diskIn : Start → Disk
+abbrev diskIn : Lts.Start Tie.the-claims Reads.Pre Reads.Post → Disk
 diskIn s = mk_disk s.args.image.now s.args.pointers.now
 
-abbrev memoryIn : Start → Memory
+abbrev memoryIn : Lts.Start Tie.the-claims Reads.Pre Reads.Post → Memory
 memoryIn s = mk_memory (state_of s.args.bytes.now) s.args.addresses.now s.args.compact.now s.args.inflight.now
 
 -- the first refusal from the i-th check on
-abbrev from : Start → ℕ → Opt Answer
+abbrev from : Lts.Start Tie.the-claims Reads.Pre Reads.Post → ℕ → Opt Answer
 from s i = write_from s.args.p s.args.offline.now (diskIn s) (memoryIn s) s.args.address.0 s.args.block.now i
 
-module _ (c : Else-not-lent_ok) where
-  abbrev begun : Start
-  begun = c
+module _ (c : Lts.Else2 Tie.the-claims Reads.Pre Reads.Post) where
+  abbrev begun : Lts.Start Tie.the-claims Reads.Pre Reads.Post
+  begun = c.before.before.before.before.before.before.before.before.before.before.before.before
 
   -- 1 and 2 do not hold, as far as the lent buffers go
   ranged : in_range begun.args.p ≡ true
   ranged =
-      sym c.in_range.ensures ∙ not-false c.in_range.result c.if-not-in_range.false-raw
+      sym c.before.before.before.in_range.ensures ∙ not-false c.before.before.before.in_range.result c.before.before.if-not-in_range.false-raw
 
   lent : lent_ok_of begun.args.p begun.args.offline.now (diskIn begun) (memoryIn begun) ≡ true
-  lent = sym (c.lent_ok.ensures (memoryIn begun).state) ∙ not-false c.lent_ok.result c.if-not-lent_ok.false-raw
+  lent = sym (c.before.lent_ok.ensures (memoryIn begun).state) ∙ not-false c.before.lent_ok.result c.if-not-lent_ok.false-raw
 
 pub returns-then-not-in_range : goal.returns-then-not-in_range
 returns-then-not-in_range c =
-    write_range_fails c.args.p c.args.offline.now (diskIn (goal.at.returns-then-not-in_range c).Start) (memoryIn (goal.at.returns-then-not-in_range c).Start) c.args.address.0 c.args.block.now
+    write_range_fails c.args.p c.args.offline.now (diskIn c.before.before.before.before.before.before.before.before.before.before.before) (memoryIn c.before.before.before.before.before.before.before.before.before.before.before) c.args.address.0 c.args.block.now
     (sym c.in_range.ensures ∙ not-true c.in_range.result c.if-not-in_range.true-raw)
 
 pub lent_ok-requires : goal.lent_ok-requires
@@ -50,77 +52,77 @@ lent_ok-requires c = sym c.in_range.ensures ∙ not-false c.in_range.result c.if
 
 pub returns-then-not-lent_ok : goal.returns-then-not-lent_ok
 returns-then-not-lent_ok c =
-    write_lengths_fail c.args.p c.args.offline.now (diskIn (goal.at.returns-then-not-lent_ok c).Start) (memoryIn (goal.at.returns-then-not-lent_ok c).Start) c.args.address.0 c.args.block.now
-    (sym (c.lent_ok.ensures (memoryIn (goal.at.returns-then-not-lent_ok c).Start).state) ∙ not-true c.lent_ok.result c.if-not-lent_ok.true-raw)
-    ∙ write_range_passes c.args.p c.args.offline.now (diskIn (goal.at.returns-then-not-lent_ok c).Start) (memoryIn (goal.at.returns-then-not-lent_ok c).Start) c.args.address.0 c.args.block.now
+    write_lengths_fail c.args.p c.args.offline.now (diskIn c.before.before.before.before.before.before.before.before.before.before.before.before.before) (memoryIn c.before.before.before.before.before.before.before.before.before.before.before.before.before) c.args.address.0 c.args.block.now
+    (sym (c.lent_ok.ensures (memoryIn c.before.before.before.before.before.before.before.before.before.before.before.before.before).state) ∙ not-true c.lent_ok.result c.if-not-lent_ok.true-raw)
+    ∙ write_range_passes c.args.p c.args.offline.now (diskIn c.before.before.before.before.before.before.before.before.before.before.before.before.before) (memoryIn c.before.before.before.before.before.before.before.before.before.before.before.before.before) c.args.address.0 c.args.block.now
     (sym c.in_range.ensures ∙ not-false c.in_range.result c.if-not-in_range.false-raw)
 
 pub returns-then-block-p : goal.returns-then-block-p
 returns-then-block-p c =
-    let s = begun c in
-    write_block_fails s.args.p s.args.offline.now (diskIn s) (memoryIn s) s.args.address.0 s.args.block.now (lent c) c.if-block-p.true
-    ∙ write_range_passes s.args.p s.args.offline.now (diskIn s) (memoryIn s) s.args.address.0 s.args.block.now (ranged c)
+    let s = begun c.before.before.before in
+    write_block_fails s.args.p s.args.offline.now (diskIn s) (memoryIn s) s.args.address.0 s.args.block.now (lent c.before.before.before) c.if-block-p.true
+    ∙ write_range_passes s.args.p s.args.offline.now (diskIn s) (memoryIn s) s.args.address.0 s.args.block.now (ranged c.before.before.before)
 
-module _ (c : Else-block-p) where
-  abbrev entered : Start
-  entered = begun c
+module _ (c : Lts.Else3 Tie.the-claims Reads.Pre Reads.Post) where
+  abbrev entered : Lts.Start Tie.the-claims Reads.Pre Reads.Post
+  entered = begun c.before.before
 
   -- 1 and 2 do not hold
   fitting : from entered 2 ≡ from entered 0
   fitting =
       let s = entered in
-      write_lengths_pass s.args.p s.args.offline.now (diskIn s) (memoryIn s) s.args.address.0 s.args.block.now (lent c) c.if-block-p.false
-      ∙ write_range_passes s.args.p s.args.offline.now (diskIn s) (memoryIn s) s.args.address.0 s.args.block.now (ranged c)
+      write_lengths_pass s.args.p s.args.offline.now (diskIn s) (memoryIn s) s.args.address.0 s.args.block.now (lent c.before.before) c.if-block-p.false
+      ∙ write_range_passes s.args.p s.args.offline.now (diskIn s) (memoryIn s) s.args.address.0 s.args.block.now (ranged c.before.before)
 
 pub list_rule-rule-requires : goal.list_rule-rule-requires
 list_rule-rule-requires c =
-    let s = begun c in record { p_value = ranged c; offline_len = (lent_long_lem s.args.p s.args.offline.now (diskIn s) (memoryIn s) (lent c)).5 }
+    let s = begun c.before.before.before in record { p_value = ranged c.before.before.before; offline_len = (lent_long_lem s.args.p s.args.offline.now (diskIn s) (memoryIn s) (lent c.before.before.before)).5 }
 
 pub returns-then-rule-ne0 : goal.returns-then-rule-ne0
 returns-then-rule-ne0 c =
-    let s = entered c in
+    let s = entered c.before.before.before in
     write_list_fails s.args.p s.args.offline.now (diskIn s) (memoryIn s) s.args.address.0 s.args.block.now
     c.list_rule-rule.result c.list_rule-rule.ensures c.if-rule-ne0.true
-    ∙ fitting c
+    ∙ fitting c.before.before.before
 
-module _ (c : Else-rule-ne0) where
+module _ (c : Lts.Else4 Tie.the-claims Reads.Pre Reads.Post) where
   -- nor do 10 and the narrow 1
-  abbrev listed : Start
-  listed = entered c
+  abbrev listed : Lts.Start Tie.the-claims Reads.Pre Reads.Post
+  listed = entered c.before.before
 
   enough : from listed 4 ≡ from listed 0
   enough =
       let s = listed in
       write_list_passes s.args.p s.args.offline.now (diskIn s) (memoryIn s) s.args.address.0 s.args.block.now
-      c.list_rule-rule.result c.list_rule-rule.ensures c.if-rule-ne0.false
-      ∙ fitting c
+      c.before.list_rule-rule.result c.before.list_rule-rule.ensures c.if-rule-ne0.false
+      ∙ fitting c.before.before
 
 pub returns-then-missing-ne0 : goal.returns-then-missing-ne0
 returns-then-missing-ne0 c =
-    let s = listed c in
-    write_missing_fails s.args.p s.args.offline.now (diskIn s) (memoryIn s) s.args.address.0 s.args.block.now (λ e. c.if-missing-ne0.true (s.requires.2 ∙ e)) ∙ enough c
+    let s = listed c.before.before in
+    write_missing_fails s.args.p s.args.offline.now (diskIn s) (memoryIn s) s.args.address.0 s.args.block.now (λ e. c.if-missing-ne0.true (s.requires.2 ∙ e)) ∙ enough c.before.before
 
-module _ (c : Else-missing-ne0) where
+module _ (c : Lts.Else5 Tie.the-claims Reads.Pre Reads.Post) where
   -- nor does 3
-  healthy : from (listed c) 5 ≡ from (listed c) 0
+  healthy : from (listed c.before) 5 ≡ from (listed c.before) 0
   healthy =
-      let s = listed c in
-      write_missing_passes s.args.p s.args.offline.now (diskIn s) (memoryIn s) s.args.address.0 s.args.block.now (sym s.requires.2 ∙ c.if-missing-ne0.false) ∙ enough c
+      let s = listed c.before in
+      write_missing_passes s.args.p s.args.offline.now (diskIn s) (memoryIn s) s.args.address.0 s.args.block.now (sym s.requires.2 ∙ c.if-missing-ne0.false) ∙ enough c.before
 
 pub returns-then-p-address : goal.returns-then-p-address
 returns-then-p-address c =
-    let s = listed c in
-    write_address_fails s.args.p s.args.offline.now (diskIn s) (memoryIn s) s.args.address.0 s.args.block.now (omega (arith, c.if-p-address.true)) ∙ healthy c
+    let s = listed c.before.before.before.before in
+    write_address_fails s.args.p s.args.offline.now (diskIn s) (memoryIn s) s.args.address.0 s.args.block.now (omega (arith, c.if-p-address.true)) ∙ healthy c.before.before.before
 
 pub room_checks-requires : goal.room_checks-requires
 room_checks-requires c =
-    let s = begun c in
-    let l = lent_long_lem s.args.p s.args.offline.now (diskIn s) (memoryIn s) (lent c) in record { p_value = ranged c; pointers_len = (l.1, l.5); f_value = (s.requires.0, s.requires.1, s.requires.3) }
+    let s = begun c.before.before.before.before.before.before.before.before in
+    let l = lent_long_lem s.args.p s.args.offline.now (diskIn s) (memoryIn s) (lent c.before.before.before.before.before.before.before.before) in record { p_value = ranged c.before.before.before.before.before.before.before.before; pointers_len = (l.1, l.5); f_value = (s.requires.0, s.requires.1, s.requires.3) }
 
 pub returns : goal.returns
 returns c =
-    let s = begun c in
+    let s = begun c.before.before.before.before.before.before.before.before.before in
     let a = s.args in
     c.room_checks.ensures a.image.now a.addresses.now a.compact.now a.inflight.now a.block.now a.address.0
-    (lent_long_lem a.p a.offline.now (diskIn s) (memoryIn s) (lent c)).0
-    ∙ write_address_passes a.p a.offline.now (diskIn s) (memoryIn s) a.address.0 a.block.now (omega (arith, c.if-p-address.false)) ∙ healthy c
+    (lent_long_lem a.p a.offline.now (diskIn s) (memoryIn s) (lent c.before.before.before.before.before.before.before.before.before)).0
+    ∙ write_address_passes a.p a.offline.now (diskIn s) (memoryIn s) a.address.0 a.block.now (omega (arith, c.if-p-address.false)) ∙ healthy c.before.before.before.before

@@ -20,98 +20,100 @@ use mathlib.Core.List.{List}
 use mathlib.Core.Path.{◌≡◌, sym, ap, ◌∙◌}
 use Prim.Native.Nat.{ℕ}
 use Rattle.call_write.proofs.room_checks.Goals as goal
-use Rattle.call_write.proofs.room_checks.Goals.{After-must_wait-wait, After-no_serial, After-no_stamp, After-state_ok, Start}
+use Rattle.call_write.proofs.room_checks.Lts
+use Rattle.call_write.proofs.room_checks.Reads
+use Rattle.call_write.proofs.room_checks.Tie
 
-abbrev said : Start → State
+abbrev said : Lts.Start Tie.the-claims Reads.Pre Reads.Post → State
 said s = state_of s.args.bytes.now
 
 -- the first refusal from the i-th check on, of a write that has this state and these pointers
-abbrev from : Start → List ℕ → List ℕ → List ℕ → List ℕ → List ℕ → ℕ → ℕ → Opt Answer
+abbrev from : Lts.Start Tie.the-claims Reads.Pre Reads.Post → List ℕ → List ℕ → List ℕ → List ℕ → List ℕ → ℕ → ℕ → Opt Answer
 from s im ad co fl b x i = write_from s.args.p s.args.offline.now (mk_disk im s.args.pointers.now) (mk_memory (said s) ad co fl) x b i
 
 -- what the tests say of it
-stamp_is : (c : After-no_stamp) → no_stamp (said c) ≡ c.no_stamp.result
+stamp_is : (c : Lts.After-no_stamp Tie.the-claims Reads.Pre Reads.Post) → no_stamp (said c.before.before.before.before) ≡ c.no_stamp.result
 stamp_is c =
-    sym (front_stamp c.args.p (said c) c.args.f c.requires.f_value.0) ∙ sym c.no_stamp.ensures
+    sym (front_stamp c.before.before.before.before.args.p (said c.before.before.before.before) c.before.before.before.before.args.f c.before.before.before.before.requires.f_value.0) ∙ sym c.no_stamp.ensures
 
-serial_is : (c : After-no_serial) → no_serial c.args.p (said c) ≡ c.no_serial.result
+serial_is : (c : Lts.After-no_serial Tie.the-claims Reads.Pre Reads.Post) → no_serial c.before.before.before.before.before.before.args.p (said c.before.before.before.before.before.before) ≡ c.no_serial.result
 serial_is c =
-    sym (front_serial c.args.p (said c) c.args.f c.requires.f_value.0 c.args.a c.requires.f_value.1) ∙ sym c.no_serial.ensures
+    sym (front_serial c.before.before.before.before.before.before.args.p (said c.before.before.before.before.before.before) c.before.before.before.before.before.before.args.f c.before.before.before.before.before.before.requires.f_value.0 c.before.before.before.before.before.before.args.a c.before.before.before.before.before.before.requires.f_value.1) ∙ sym c.no_serial.ensures
 
-module _ (c : After-must_wait-wait) where
-  abbrev begun : Start
-  begun = c
+module _ (c : Lts.After-must_wait Tie.the-claims Reads.Pre Reads.Post) where
+  abbrev begun : Lts.Start Tie.the-claims Reads.Pre Reads.Post
+  begun = c.before.before.before.before.before.before.before.before.before.before
 
   -- 6 does not hold, and the checks go on with 8
   counted : (im ad co fl b : List ℕ) (x : ℕ) → from begun im ad co fl b x 7 ≡ from begun im ad co fl b x 6
   counted im ad co fl b x =
       counts_pass begun.args.p begun.args.offline.now (mk_disk im begun.args.pointers.now) (mk_memory (said begun) ad co fl) x b
-      (stamp_is c ∙ c.if-no_stamp.false) (serial_is c ∙ c.if-no_serial.false)
+      (stamp_is c.before.before.before.before.before.before ∙ c.before.before.before.before.before.if-no_stamp.false) (serial_is c.before.before.before.before ∙ c.before.before.before.if-no_serial.false)
 
   full_is : (im : List ℕ) → length im ≡ image_len begun.args.p
-      → write_full begun.args.p (seen begun.args.p begun.args.offline.now (mk_disk im begun.args.pointers.now)) (said begun) ≡ c.scarce-full.result
+      → write_full begun.args.p (seen begun.args.p begun.args.offline.now (mk_disk im begun.args.pointers.now)) (said begun) ≡ c.before.scarce-full.result
   full_is im h =
       let a = begun.args in
       ap (scarce a.p (seen a.p a.offline.now (mk_disk im a.pointers.now)))
-      (ap (λ (x : Aim). cond x.opens 2 1) (sym begun.requires.f_value.1) ∙ sym c.reserve-n.ensures.0)
-      ∙ sym (c.scarce-full.ensures im h)
+      (ap (λ (x : Aim). cond x.opens 2 1) (sym begun.requires.f_value.1) ∙ sym c.before.before.reserve-n.ensures.0)
+      ∙ sym (c.before.scarce-full.ensures im h)
 
   wait-is : must_wait begun.args.p (said begun) ≡ c.must_wait-wait.result
   wait-is = sym (front_wait begun.args.p (said begun) begun.args.f begun.requires.f_value.0) ∙ sym c.must_wait-wait.ensures
 
 pub returns-then-no_stamp : goal.returns-then-no_stamp
 returns-then-no_stamp c = λ im ad co fl b x h.
-    stamp_fails c.args.p c.args.offline.now (mk_disk im c.args.pointers.now) (mk_memory (said (goal.at.returns-then-no_stamp c).Start) ad co fl) x b (stamp_is (goal.at.returns-then-no_stamp c).After-no_stamp ∙ c.if-no_stamp.true)
+    stamp_fails c.args.p c.args.offline.now (mk_disk im c.args.pointers.now) (mk_memory (said c.before.before.before.before.before.before) ad co fl) x b (stamp_is c.before.before ∙ c.if-no_stamp.true)
 
 pub returns-then-no_serial : goal.returns-then-no_serial
 returns-then-no_serial c = λ im ad co fl b x h.
-    write_serial_fails c.args.p c.args.offline.now (mk_disk im c.args.pointers.now) (mk_memory (said (goal.at.returns-then-no_serial c).Start) ad co fl) x b
-    (stamp_is (goal.at.returns-then-no_serial c).After-no_stamp ∙ c.if-no_stamp.false) (serial_is (goal.at.returns-then-no_serial c).After-no_serial ∙ c.if-no_serial.true)
+    write_serial_fails c.args.p c.args.offline.now (mk_disk im c.args.pointers.now) (mk_memory (said c.before.before.before.before.before.before.before.before) ad co fl) x b
+    (stamp_is c.before.before.before.before ∙ c.if-no_stamp.false) (serial_is c.before.before ∙ c.if-no_serial.true)
 
 pub scarce-full-requires : goal.scarce-full-requires
 scarce-full-requires c = record { p_value = c.requires.p_value; pointers_len = (c.requires.pointers_len.0, c.requires.pointers_len.1, c.reserve-n.ensures.1) }
 
 pub must_wait-wait-requires : goal.must_wait-wait-requires
-must_wait-wait-requires c = record { p_value = c.requires.p_value; a_value = c.requires.f_value.1 ∙ sym (front_aim c.args.p (said (goal.at.must_wait-wait-requires c).Start) c.args.f c.requires.f_value.0) }
+must_wait-wait-requires c = record { p_value = c.requires.p_value; a_value = c.requires.f_value.1 ∙ sym (front_aim c.args.p (said c.before.before.before.before.before.before.before.before.before.before) c.args.f c.requires.f_value.0) }
 
 pub returns-then-full : goal.returns-then-full
 returns-then-full c = λ im ad co fl b x h.
-    let s = begun c in
+    let s = begun c.before.before in
     let k = mk_disk im s.args.pointers.now in
-    write_zones_fail s.args.p s.args.offline.now k (mk_memory (said s) ad co fl) x b (full_is c im h ∙ c.if-full.true) ∙ counted c im ad co fl b x
+    write_zones_fail s.args.p s.args.offline.now k (mk_memory (said s) ad co fl) x b (full_is c.before.before im h ∙ c.if-full.true) ∙ counted c.before.before im ad co fl b x
 
 pub returns-then-wait : goal.returns-then-wait
 returns-then-wait c = λ im ad co fl b x h.
-    let s = begun c in
+    let s = begun c.before.before.before in
     let k = mk_disk im s.args.pointers.now in
     let m = mk_memory (said s) ad co fl in
-    wait_fails s.args.p s.args.offline.now k m x b (wait-is c ∙ c.if-wait.true)
-    ∙ write_zones_suffice s.args.p s.args.offline.now k m x b (full_is c im h ∙ c.if-full.false) ∙ counted c im ad co fl b x
+    wait_fails s.args.p s.args.offline.now k m x b (wait-is c.before.before.before ∙ c.if-wait.true)
+    ∙ write_zones_suffice s.args.p s.args.offline.now k m x b (full_is c.before.before.before im h ∙ c.if-full.false) ∙ counted c.before.before.before im ad co fl b x
 
 pub state_ok-requires : goal.state_ok-requires
 state_ok-requires c =
-    let s = begun c in record { p_value = s.requires.p_value; bytes_len = s.requires.f_value.2 }
+    let s = begun c.before.before.before in record { p_value = s.requires.p_value; bytes_len = s.requires.f_value.2 }
 
 -- neither 8 nor 7 holds, and the checks go on with 9
-roomy : (c : After-state_ok) (im ad co fl b : List ℕ) (x : ℕ) → length im ≡ image_len (begun c).args.p
-    → from (begun c) im ad co fl b x 9 ≡ from (begun c) im ad co fl b x 6
+roomy : (c : Lts.After-state_ok Tie.the-claims Reads.Pre Reads.Post) (im ad co fl b : List ℕ) (x : ℕ) → length im ≡ image_len (begun c.before.before.before).args.p
+    → from (begun c.before.before.before) im ad co fl b x 9 ≡ from (begun c.before.before.before) im ad co fl b x 6
 roomy c im ad co fl b x h =
-    let s = begun c in
+    let s = begun c.before.before.before in
     let k = mk_disk im s.args.pointers.now in
     let m = mk_memory (said s) ad co fl in
-    wait_passes s.args.p s.args.offline.now k m x b (wait-is c ∙ c.if-wait.false)
-    ∙ write_zones_suffice s.args.p s.args.offline.now k m x b (full_is c im h ∙ c.if-full.false) ∙ counted c im ad co fl b x
+    wait_passes s.args.p s.args.offline.now k m x b (wait-is c.before.before.before ∙ c.before.if-wait.false)
+    ∙ write_zones_suffice s.args.p s.args.offline.now k m x b (full_is c.before.before.before im h ∙ c.before.before.if-full.false) ∙ counted c.before.before.before im ad co fl b x
 
 pub returns-then-not-state_ok : goal.returns-then-not-state_ok
 returns-then-not-state_ok c = λ im ad co fl b x h.
-    let s = begun c in
+    let s = begun c.before.before.before.before.before in
     write_state_fails s.args.p s.args.offline.now (mk_disk im s.args.pointers.now) (mk_memory (said s) ad co fl) x b
     (sym c.state_ok.ensures ∙ not-true c.state_ok.result c.if-not-state_ok.true-raw)
-    ∙ roomy (goal.at.returns-then-not-state_ok c).After-state_ok im ad co fl b x h
+    ∙ roomy c.before.before im ad co fl b x h
 
 pub returns : goal.returns
 returns c = λ im ad co fl b x h.
-    let s = begun c in
+    let s = begun c.before.before.before.before.before in
     write_state_passes s.args.p s.args.offline.now (mk_disk im s.args.pointers.now) (mk_memory (said s) ad co fl) x b
     (sym c.state_ok.ensures ∙ not-false c.state_ok.result c.if-not-state_ok.false-raw)
-    ∙ roomy (goal.at.returns c).After-state_ok im ad co fl b x h
+    ∙ roomy c.before.before im ad co fl b x h

@@ -22,43 +22,45 @@ use mathlib.Core.Path.{◌≡◌, sym, ap, ◌∙◌, subst}
 use native.Mathlib.Omega.{arith}
 use borrow.Author.Rules.{rules}
 use Rattle.call_write.proofs.write.Goals as goal
-use Rattle.call_write.proofs.write.Goals.{After-aim_of-a, After-checks-c, After-row_at-row, Start}
+use Rattle.call_write.proofs.write.Lts
+use Rattle.call_write.proofs.write.Reads
+use Rattle.call_write.proofs.write.Tie
 
-serial_fits : (c : Start) → c.args.state.serial.0 ≤ last_count
+serial_fits : (c : Lts.Start Tie.the-claims Reads.Pre Reads.Post) → c.args.state.serial.0 ≤ last_count
 serial_fits c = omega arith
 
-stamp_fits : (c : Start) → c.args.state.stamp.0 < 18446744073709551616
+stamp_fits : (c : Lts.Start Tie.the-claims Reads.Pre Reads.Post) → c.args.state.stamp.0 < 18446744073709551616
 stamp_fits c = omega arith
 
-sized : (c : Start) → RowsSized c.args.state
+sized : (c : Lts.Start Tie.the-claims Reads.Pre Reads.Post) → RowsSized c.args.state
 sized c = subst RowsSized (sym c.requires.0) (read_sized c.args.bytes.now)
 
-abbrev disk : (c : Start) → Disk
+abbrev disk : (c : Lts.Start Tie.the-claims Reads.Pre Reads.Post) → Disk
 disk c = mk_disk c.args.image.now c.args.pointers.now
 
-abbrev memory : (c : Start) → Memory
+abbrev memory : (c : Lts.Start Tie.the-claims Reads.Pre Reads.Post) → Memory
 memory c = mk_memory c.args.state c.args.addresses.now c.args.compact.now c.args.inflight.now
 
 -- the aim is the state's
 aimed :
-    (c : After-aim_of-a)
-    → c.aim_of-a.result ≡ aim_of c.args.p
-    c.args.state
+    (c : Lts.After-aim_of Tie.the-claims Reads.Pre Reads.Post)
+    → c.aim_of-a.result ≡ aim_of c.before.before.before.before.before.before.before.before.before.before.args.p
+    c.before.before.before.before.before.before.before.before.before.before.args.state
 aimed c =
-    let args = c.args in
-    c.aim_of-a.ensures ∙ front_aim args.p args.state c.front_of-f.result c.front_of-f.ensures
+    let args = c.before.before.before.before.before.before.before.before.before.before.args in
+    c.aim_of-a.ensures ∙ front_aim args.p args.state c.before.front_of-f.result c.before.front_of-f.ensures
 
 pub checks-c-requires : goal.checks-c-requires
 checks-c-requires c =
     let e = c.requires.0 in
-    (c.front_of-f.ensures ∙ ap front_of e, aimed (goal.at.checks-c-requires c).After-aim_of-a ∙ ap (aim_of c.args.p) e, ap (λ (x : State). x.missing) e, c.requires.1)
+    (c.front_of-f.ensures ∙ ap front_of e, aimed c.before ∙ ap (aim_of c.args.p) e, ap (λ (x : State). x.missing) e, c.requires.1)
 
 -- the refusal is that of the state
-abbrev start : After-checks-c → Start
+abbrev start : Lts.After-checks Tie.the-claims Reads.Pre Reads.Post → Lts.Start Tie.the-claims Reads.Pre Reads.Post
 start c =
-    c
+    c.before.before.before.before.before.before.before.before.before.before.before
 
-checked-is : (c : After-checks-c)
+checked-is : (c : Lts.After-checks Tie.the-claims Reads.Pre Reads.Post)
     → checked c.checks-c.result ≡ write_refusal (start c).args.p (start c).args.offline.now (disk (start c)) (memory (start c)) (start c).args.address.0 (start c).args.block.now
 checked-is c =
     let s = start c in
@@ -72,18 +74,18 @@ pub returns-in-Fail : goal.returns-in-Fail
 returns-in-Fail c =
     let a = c.args in
     let q = c.c-1.given in
-    write_refused a.p a.offline.now (disk (goal.at.returns-in-Fail c).Start) (memory (goal.at.returns-in-Fail c).Start) a.address.0 a.block.now a.count c.requires.2 c.kept.result
-    (sym (checked-is (c)) ∙ ap checked q.1 ∙ ap (λ (x : Change). some x.answer) (sym c.kept.ensures))
+    write_refused a.p a.offline.now (disk c.before.before.before.before.before.before.before.before.before.before.before.before.before.before.before.before) (memory c.before.before.before.before.before.before.before.before.before.before.before.before.before.before.before.before) a.address.0 a.block.now a.count c.requires.2 c.kept.result
+    (sym (checked-is c.before.before.before.before.before) ∙ ap checked q.1 ∙ ap (λ (x : Change). some x.answer) (sym c.kept.ensures))
 
 pub open-o-requires : goal.open-o-requires
 open-o-requires c =
     let g = c.aim_of-a in
     let f = c.front_of-f in
     let a = c.args in
-    let none! : write_refusal a.p a.offline.now (disk (goal.at.open-o-requires c).Start) (memory (goal.at.open-o-requires c).Start) a.address.0 a.block.now ≡ none = sym (checked-is (c)) ∙ ap checked c.in_default.is in
-    let r = write_ready a.p a.offline.now (disk (goal.at.open-o-requires c).Start) (memory (goal.at.open-o-requires c).Start) a.address.0 a.block.now none! in record { p_value = r.ranged; whole = (r.whole, r.offline_long); opens_value = ap (λ (x : Aim). x.opens) g.ensures; serial_lt_last_count = λ e.
+    let none! : write_refusal a.p a.offline.now (disk c.before.before.before.before.before.before.before.before.before.before.before.before.before.before.before.before) (memory c.before.before.before.before.before.before.before.before.before.before.before.before.before.before.before.before) a.address.0 a.block.now ≡ none = sym (checked-is c.before.before.before.before.before) ∙ ap checked c.in_default.is in
+    let r = write_ready a.p a.offline.now (disk c.before.before.before.before.before.before.before.before.before.before.before.before.before.before.before.before) (memory c.before.before.before.before.before.before.before.before.before.before.before.before.before.before.before.before) a.address.0 a.block.now none! in record { p_value = r.ranged; whole = (r.whole, r.offline_long); opens_value = ap (λ (x : Aim). x.opens) g.ensures; serial_lt_last_count = λ e.
                 subst (λ (x : Front). x.serial.0 < last_count) (sym f.ensures)
-                (lt_of_le-ne (serial_fits (goal.at.open-o-requires c).Start) (r.serial_left (ap (λ (x : Aim). x.opens) (sym (aimed (c))) ∙ e))); nonzero = λ e. r.empties }
+                (lt_of_le-ne (serial_fits c.before.before.before.before.before.before.before.before.before.before.before.before.before.before.before.before) (r.serial_left (ap (λ (x : Aim). x.opens) (sym (aimed c.before.before.before.before.before.before)) ∙ e))); nonzero = λ e. r.empties }
 
 pub returns-then-o : goal.returns-then-o
 returns-then-o c =
@@ -94,7 +96,7 @@ returns-then-o c =
     let front_of =
     c.front_of-f in
     let a = s.args in
-    let none! : write_refusal a.p a.offline.now (disk s) (memory s) a.address.0 a.block.now ≡ none = sym (checked-is (c)) ∙ ap checked c.in_default.is in
+    let none! : write_refusal a.p a.offline.now (disk s) (memory s) a.address.0 a.block.now ≡ none = sym (checked-is c.before.before.before.before.before.before.before.before.before.before.before.before.before.before.before.before.before.before) ∙ ap checked c.in_default.is in
     let o = c.«open» in
     let k' : Disk = mk_disk o.new.1.0 o.new.1.1.0 in
     let h : OpeningStores a.p a.offline.now a.state a.count (disk s) o.result k' =
@@ -108,19 +110,19 @@ row_at-row-requires c =
     let s =
     c in
     let a = s.args in
-    let none! : write_refusal a.p a.offline.now (disk s) (memory s) a.address.0 a.block.now ≡ none = sym (checked-is (c)) ∙ ap checked c.in_default.is in (
+    let none! : write_refusal a.p a.offline.now (disk s) (memory s) a.address.0 a.block.now ≡ none = sym (checked-is c.before.before.before.before.before.before.before.before.before.before.before) ∙ ap checked c.in_default.is in (
       s.requires.1,
-      subst (λ (x : Aim). x.slot < 8) (sym (aimed (c)))
+      subst (λ (x : Aim). x.slot < 8) (sym (aimed c.before.before.before.before.before.before.before.before.before.before.before.before))
           (slot_lt a.p a.state (write_ready a.p a.offline.now (disk s) (memory s) a.address.0 a.block.now none!).waits),
     )
 
 -- the row is the state's
 row_is :
-    (c : After-row_at-row)
-    → c.row_at-row.result ≡ slot_row c.args.state
-    c.aim_of-a.result.slot
+    (c : Lts.After-row_at Tie.the-claims Reads.Pre Reads.Post)
+    → c.row_at-row.result ≡ slot_row c.before.before.before.before.before.before.before.before.before.before.before.before.before.before.before.before.before.before.before.before.before.before.args.state
+    c.before.before.before.before.before.before.before.before.before.before.before.before.aim_of-a.result.slot
 row_is c =
-    let aim-of = c.aim_of-a in
+    let aim-of = c.before.before.before.before.before.before.before.before.before.before.before.before.aim_of-a in
     let s =
     c in
     subst (λ (x : State). c.row_at-row.result ≡ slot_row x aim-of.result.slot) (sym s.requires.0) c.row_at-row.ensures
@@ -132,14 +134,14 @@ plan-requires c =
     let s =
     c in
     let a = s.args in
-    let none! : write_refusal a.p a.offline.now (disk s) (memory s) a.address.0 a.block.now ≡ none = sym (checked-is (c)) ∙ ap checked c.in_default.is in
+    let none! : write_refusal a.p a.offline.now (disk s) (memory s) a.address.0 a.block.now ≡ none = sym (checked-is c.before.before.before.before.before.before.before.before.before.before.before.before.before) ∙ ap checked c.in_default.is in
     let r = write_ready a.p a.offline.now (disk s) (memory s) a.address.0 a.block.now none! in
     let o = c.«open» in
     let k' : Disk = mk_disk o.new.1.0 o.new.1.1.0 in
     let h : OpeningStores a.p a.offline.now a.state a.count (disk s) o.result k' =
     opening_front a.p a.offline.now a.state a.count (disk s) o.result k'
-    (subst (λ (x : Front). OpeningStores a.p a.offline.now (behind x) a.count (disk s) o.result k') f.ensures o.ensures) in record { p_value = r.ranged; slot_bound = plan_asks a.p a.offline.now (disk s) (memory s) a.address.0 a.block.now a.count s.requires.2 none! o.result k' h f.result f.ensures aim-of.result (aimed (c))
-            c.row_at-row.result (row_is (goal.at.plan-requires c).After-row_at-row) (stamp_fits s); inflight_len = (r.inflight_long, r.block_long) }
+    (subst (λ (x : Front). OpeningStores a.p a.offline.now (behind x) a.count (disk s) o.result k') f.ensures o.ensures) in record { p_value = r.ranged; slot_bound = plan_asks a.p a.offline.now (disk s) (memory s) a.address.0 a.block.now a.count s.requires.2 none! o.result k' h f.result f.ensures aim-of.result (aimed c.before.before.before.before.before.before.before.before.before.before.before.before.before.before)
+            c.row_at-row.result (row_is c.before.before) (stamp_fits s); inflight_len = (r.inflight_long, r.block_long) }
 
 pub returns : goal.returns
 returns c =
@@ -152,11 +154,11 @@ returns c =
     let s =
     c in
     let a = s.args in
-    let none! : write_refusal a.p a.offline.now (disk s) (memory s) a.address.0 a.block.now ≡ none = sym (checked-is (c)) ∙ ap checked c.in_default.is in
+    let none! : write_refusal a.p a.offline.now (disk s) (memory s) a.address.0 a.block.now ≡ none = sym (checked-is c.before.before.before.before.before.before.before.before.before.before.before.before.before.before.before.before) ∙ ap checked c.in_default.is in
     let o = c.«open» in
     let k' : Disk = mk_disk o.new.1.0 o.new.1.1.0 in
     let h : OpeningStores a.p a.offline.now a.state a.count (disk s) o.result k' =
     opening_front a.p a.offline.now a.state a.count (disk s) o.result k'
     (subst (λ (x : Front). OpeningStores a.p a.offline.now (behind x) a.count (disk s) o.result k') f.ensures o.ensures) in
-    ends_plan a.p a.offline.now (disk s) (memory s) a.address.0 a.block.now a.count s.requires.2 none! o.result k' h f.result f.ensures aim-of.result (aimed (c))
-    row_at.result (row_is (c)) (sized s) if1.false q.result q.new.inflight q.ensures.value q.ensures.inflight_after
+    ends_plan a.p a.offline.now (disk s) (memory s) a.address.0 a.block.now a.count s.requires.2 none! o.result k' h f.result f.ensures aim-of.result (aimed c.before.before.before.before.before.before.before.before.before.before.before.before.before.before.before.before.before)
+    row_at.result (row_is c.before.before.before.before.before) (sized s) if1.false q.result q.new.inflight q.ensures.value q.ensures.inflight_after

@@ -6,37 +6,39 @@ use borrow.Author.Rules.{rules}
 use lib.Dec.{ltb}
 use mathlib.Core.Path.{◌≡◌, sym, ap, ◌∙◌}
 use Rattle.mem_calls.proofs.list_rule.Goals as goal
-use Rattle.mem_calls.proofs.list_rule.Goals.{After-most_with, Start}
+use Rattle.mem_calls.proofs.list_rule.Lts
+use Rattle.mem_calls.proofs.list_rule.Reads
+use Rattle.mem_calls.proofs.list_rule.Tie
 
-module _ (c : After-most_with) where
-  abbrev begun : Start
-  begun = c
+module _ (c : Lts.After-most_with Tie.the-claims Reads.Pre Reads.Post) where
+  abbrev begun : Lts.Start Tie.the-claims Reads.Pre Reads.Post
+  begun = c.before.before.before.before
 
-  few-is : few_good begun.args.p begun.args.offline.now ≡ ltb c.good_count-n.result 4
+  few-is : few_good begun.args.p begun.args.offline.now ≡ ltb c.before.good_count-n.result 4
   few-is =
       let a = begun.args in
-      let n = c.good_count-n in
-      let m = c.enough in
+      let n = c.before.good_count-n in
+      let m = c.before.before.enough in
       sym (few_by a.p a.offline.now m.result n.result m.ensures.0 m.ensures.2 n.ensures.0)
 
   narrow-is : above_narrow begun.args.p begun.args.offline.now ≡ ltb c.most_with.result begun.args.p.L
   narrow-is =
       let a = begun.args in
-      let n = c.good_count-n in
-      let m = c.enough in
+      let n = c.before.good_count-n in
+      let m = c.before.before.enough in
       sym (ap (λ (x : ℕ). ltb x a.p.L) c.most_with.ensures.0 ∙ narrow_by a.p a.offline.now m.result n.result m.ensures.0 m.ensures.2 n.ensures.0)
 
 pub returns-then-few : goal.returns-then-few
 returns-then-few c =
-    let a = (begun c).args in
-    sym (list_few a.p a.offline.now (few-is c ∙ c.if-few.true-raw))
+    let a = (begun c.before.before.before).args in
+    sym (list_few a.p a.offline.now (few-is c.before.before.before ∙ c.if-few.true-raw))
 
 pub returns-then-narrow : goal.returns-then-narrow
 returns-then-narrow c =
-    let a = (begun c).args in
-    sym (list_narrow a.p a.offline.now (few-is c ∙ c.if-few.false-raw) (narrow-is c ∙ c.if-narrow.true-raw))
+    let a = (begun c.before.before.before.before).args in
+    sym (list_narrow a.p a.offline.now (few-is c.before.before.before.before ∙ c.if-few.false-raw) (narrow-is c.before.before.before.before ∙ c.if-narrow.true-raw))
 
 pub returns : goal.returns
 returns c =
-    let a = (begun c).args in
-    sym (list_fits a.p a.offline.now (few-is c ∙ c.if-few.false-raw) (narrow-is c ∙ c.if-narrow.false-raw))
+    let a = (begun c.before.before.before.before).args in
+    sym (list_fits a.p a.offline.now (few-is c.before.before.before.before ∙ c.if-few.false-raw) (narrow-is c.before.before.before.before ∙ c.if-narrow.false-raw))

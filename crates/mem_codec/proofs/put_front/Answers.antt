@@ -8,24 +8,26 @@ use Rattle.spec.specs.Bytes.{to_le, splice}
 use Rattle.mem_codec.specs.Codec.{state_front_written}
 use borrow.Author.Rules.{rules}
 use Rattle.mem_codec.proofs.put_front.Goals as goal
-use Rattle.mem_codec.proofs.put_front.Goals.{After-write_le64, After-write_le64-2, After-write_le64-3, Start}
+use Rattle.mem_codec.proofs.put_front.Lts
+use Rattle.mem_codec.proofs.put_front.Reads
+use Rattle.mem_codec.proofs.put_front.Tie
 
-live_fits : (c : Start) → c.args.live < 256
+live_fits : (c : Lts.Start Tie.the-claims Reads.Pre Reads.Post) → c.args.live < 256
 live_fits c = search rules
 
-missing_fits : (c : Start) → c.args.missing < 256
+missing_fits : (c : Lts.Start Tie.the-claims Reads.Pre Reads.Post) → c.args.missing < 256
 missing_fits c = search rules
 
-long-1 : (c : After-write_le64) → length c.write_le64.new.dst ≡ length c.args.dst.now
+long-1 : (c : Lts.After-write_le64 Tie.the-claims Reads.Pre Reads.Post) → length c.write_le64.new.dst ≡ length c.before.before.before.args.dst.now
 long-1 c = c.write_le64.auto.dst ∙ simp length-set
 
-long-2 : (c : After-write_le64-2) → length c.write_le64-2.new.dst ≡ length c.args.dst.now
+long-2 : (c : Lts.After-write_le642 Tie.the-claims Reads.Pre Reads.Post) → length c.write_le64-2.new.dst ≡ length c.before.before.before.before.before.before.before.args.dst.now
 long-2 c =
-    c.write_le64-2.auto.dst ∙ long-1 (c)
+    c.write_le64-2.auto.dst ∙ long-1 c.before.before.before.before
 
-long-3 : (c : After-write_le64-3) → length c.write_le64-3.new.dst ≡ length c.args.dst.now
+long-3 : (c : Lts.After-write_le643 Tie.the-claims Reads.Pre Reads.Post) → length c.write_le64-3.new.dst ≡ length c.before.before.before.before.before.before.before.before.before.before.before.args.dst.now
 long-3 c =
-    c.write_le64-3.auto.dst ∙ long-2 (c)
+    c.write_le64-3.auto.dst ∙ long-2 c.before.before.before.before
 
 pub bounds-dst-1 : goal.bounds-dst-1
 bounds-dst-1 c = simp length-set (omega arith)
@@ -36,21 +38,21 @@ write_le64-requires c = simp length-set (omega arith)
 pub write_le64-requires-2 : goal.write_le64-requires-2
 write_le64-requires-2 c =
     let pre = c.requires in
-    omega (arith, long-1 (goal.at.write_le64-requires-2 c).After-write_le64, pre)
+    omega (arith, long-1 c.before.before.before.before, pre)
 
 pub write_le64-requires-3 : goal.write_le64-requires-3
 write_le64-requires-3 c =
     let pre = c.requires in
-    omega (arith, long-2 (goal.at.write_le64-requires-3 c).After-write_le64-2, pre)
+    omega (arith, long-2 c.before.before.before.before, pre)
 
 pub write_le32-requires : goal.write_le32-requires
 write_le32-requires c =
     let pre = c.requires in
-    omega (arith, long-3 (goal.at.write_le32-requires c).After-write_le64-3, pre)
+    omega (arith, long-3 c.before.before.before.before, pre)
 
 pub shape_of-dst : goal.shape_of-dst
 shape_of-dst c =
-    c.write_le32.auto.dst ∙ long-3 (c)
+    c.write_le32.auto.dst ∙ long-3 c.before.before.before.before.before.before.before
 
 pub returns : goal.returns
 returns c =
@@ -64,4 +66,4 @@ returns c =
     ∙ ap (λ (x : List ℕ). splice x 26 (to_le 4 a.next)) (write-le643.ensures
     ∙ ap (λ (x : List ℕ). splice x 18 (to_le 8 a.opened)) (write-le642.ensures
     ∙ ap (λ (x : List ℕ). splice x 10 (to_le 8 a.serial)) write-le64.ensures))
-    ∙ state_front_written a.dst.now a.live a.missing a.stamp a.serial a.opened a.next (live_fits (c)) (missing_fits (c)) (pre)
+    ∙ state_front_written a.dst.now a.live a.missing a.stamp a.serial a.opened a.next (live_fits c.before.before.before.before.before.before.before.before.before.before.before.before.before.before.before.before.before.before) (missing_fits c.before.before.before.before.before.before.before.before.before.before.before.before.before.before.before.before.before.before) (pre)

@@ -11,7 +11,9 @@ use lib.ListN.{length}
 use mathlib.Core.Path.{◌≡◌, sym, ap, ap₂, ◌∙◌}
 use native.Mathlib.Omega.{arith}
 use Rattle.mem_state.proofs.is_held.Goals as goal
-use Rattle.mem_state.proofs.is_held.Goals.{After-is_cell, After-wide-f}
+use Rattle.mem_state.proofs.is_held.Lts
+use Rattle.mem_state.proofs.is_held.Reads
+use Rattle.mem_state.proofs.is_held.Tie
 
 pub overflow_add-i : goal.overflow_add-i
 overflow_add-i c = omega arith
@@ -20,11 +22,11 @@ pub bounds-bytes-i : goal.bounds-bytes-i
 bounds-bytes-i c = omega (arith, state_len_lem)
 
 -- the positions filled
-filled_is : (c : After-wide-f) → c.wide-f.result ≡ filled_in_of (state_of c.args.bytes.now) c.args.i
+filled_is : (c : Lts.After-wide Tie.the-claims Reads.Pre Reads.Post goal.the-invariant-loop-k goal.the-decreases-loop-k) → c.wide-f.result ≡ filled_in_of (state_of c.before.before.before.args.bytes.now) c.before.before.before.args.i
 filled_is c =
-    let a = c.args in
-    let h : 62 + a.i < length a.bytes.now = omega (arith, state_len_lem, c.requires.0, c.requires.1) in
-    c.wide-f.ensures ∙ le_of_part-one (62 + a.i) a.bytes.now h ∙ filled_read a.bytes.now a.i c.requires.1
+    let a = c.before.before.before.args in
+    let h : 62 + a.i < length a.bytes.now = omega (arith, state_len_lem, c.before.before.before.requires.0, c.before.before.before.requires.1) in
+    c.wide-f.ensures ∙ le_of_part-one (62 + a.i) a.bytes.now h ∙ filled_read a.bytes.now a.i c.before.before.before.requires.1
 
 pub loop-k-init : goal.loop-k-init
 unfolding held_in_of
@@ -40,7 +42,7 @@ returns-then-f-k c =
     let a = c.args in
     let l = c.loop-k in
     let st = state_of a.bytes.now in
-    sym (empty_rest st a.address.0 a.stamp.0 a.i l.k l.invariant.0 (omega (arith, c.if-f-k.true, filled_is (goal.at.returns-then-f-k c).After-wide-f))) ∙ l.invariant.1
+    sym (empty_rest st a.address.0 a.stamp.0 a.i l.k l.invariant.0 (omega (arith, c.if-f-k.true, filled_is c.before.before.before.before))) ∙ l.invariant.1
 
 pub overflow_mul-i : goal.overflow_mul-i
 overflow_mul-i c = omega arith
@@ -50,23 +52,23 @@ overflow_add-i-in-loop-k c = omega arith
 
 -- a filled position
 cell_is :
-    (c : After-is_cell)
-    → c.is_cell.result ≡ holds_at (state_of c.args.bytes.now)
-    c.args.address.0 c.args.stamp.0
-    (8 * c.args.i + c.loop-k.k)
+    (c : Lts.After-is_cell Tie.the-claims Reads.Pre Reads.Post goal.the-invariant-loop-k goal.the-decreases-loop-k)
+    → c.is_cell.result ≡ holds_at (state_of c.before.before.before.before.before.before.before.args.bytes.now)
+    c.before.before.before.before.before.before.before.args.address.0 c.before.before.before.before.before.before.before.args.stamp.0
+    (8 * c.before.before.before.before.before.before.before.args.i + c.before.before.before.loop-k.k)
 cell_is c =
-    let a = c.args in
-    let l = c.loop-k in
-    let g = filled_is c in
+    let a = c.before.before.before.before.before.before.before.args in
+    let l = c.before.before.before.loop-k in
+    let g = filled_is c.before.before.before.before in
     c.is_cell.ensures
-    ∙ filled-cell (state_of a.bytes.now) a.address.0 a.stamp.0 a.i l.k (omega (arith, c.loop-k-test.true)) (omega (arith, c.if-f-k.false, g))
+    ∙ filled-cell (state_of a.bytes.now) a.address.0 a.stamp.0 a.i l.k (omega (arith, c.before.before.loop-k-test.true)) (omega (arith, c.before.if-f-k.false, g))
 
 pub returns-then-is_cell : goal.returns-then-is_cell
 returns-then-is_cell c =
     let a = c.args in
     let l = c.loop-k in
     sym (any_found (holds_at (state_of a.bytes.now) a.address.0 a.stamp.0) (8 * a.i + l.k) (8 * a.i + 8) (omega arith)
-    (sym (cell_is (goal.at.returns-then-is_cell c).After-is_cell) ∙ c.if-is_cell.true)) ∙ l.invariant.1
+    (sym (cell_is c.before.before) ∙ c.if-is_cell.true)) ∙ l.invariant.1
 
 pub overflow_add-k : goal.overflow_add-k
 overflow_add-k c = omega arith
@@ -82,7 +84,7 @@ loop-k-preserved c =
     let e : 8 * a.i + l.k + 1 ≡ 8 * a.i + (l.k + 1) = omega arith in (
       omega arith,
       ap (λ (x : ℕ). any h (up_from x (8 * a.i + 8 - x))) (sym e)
-          ∙ sym (any_passed h (8 * a.i + l.k) (8 * a.i + 8) (omega arith) (sym (cell_is (goal.at.loop-k-preserved c).After-is_cell) ∙ c.if-is_cell.false)) ∙ l.invariant.1,
+          ∙ sym (any_passed h (8 * a.i + l.k) (8 * a.i + 8) (omega arith) (sym (cell_is c.before.before) ∙ c.if-is_cell.false)) ∙ l.invariant.1,
     )
 
 pub returns : goal.returns

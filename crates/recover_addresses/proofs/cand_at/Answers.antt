@@ -10,7 +10,9 @@ use Rattle.spec.specs.Segments.{segment_of, rec_of}
 use Rattle.law_basic.specs.Geometry.{Ranged, ranged}
 use Rattle.recover_addresses.specs.Lies.{LiesIn, block_low, lies_place_drive_low, place_lies, owner_row, it_is_found, lies_same}
 use Rattle.recover_addresses.proofs.cand_at.Goals as goal
-use Rattle.recover_addresses.proofs.cand_at.Goals.{After-shared_slice_known-8-1}
+use Rattle.recover_addresses.proofs.cand_at.Lts
+use Rattle.recover_addresses.proofs.cand_at.Reads
+use Rattle.recover_addresses.proofs.cand_at.Tie
 
 pub place_drive-drive-requires : goal.place_drive-drive-requires
 place_drive-drive-requires c = c.requires.ground.in_range_holds
@@ -42,30 +44,30 @@ offline_at-requires c =
 
 -- the index is that of the place's zone
 index :
-    (c : After-shared_slice_known-8-1)
-    → c.offline_at.result
-    ≡ place_drive c.args.p
-    c.args.place.0
-    * c.args.p.Z
-    + place_zone c.args.p
-    c.args.place.0
+    (c : Lts.After-shared_slice_known8 Tie.the-claims Reads.Pre Reads.Post)
+    → c.before.offline_at.result
+    ≡ place_drive c.before.before.before.before.before.before.before.before.before.before.before.before.args.p
+    c.before.before.before.before.before.before.before.before.before.before.before.before.args.place.0
+    * c.before.before.before.before.before.before.before.before.before.before.before.before.args.p.Z
+    + place_zone c.before.before.before.before.before.before.before.before.before.before.before.before.args.p
+    c.before.before.before.before.before.before.before.before.before.before.before.before.args.place.0
 index c =
-    let a = c.args in
-    c.offline_at.ensures.0
-    ∙ ap₂ (λ (d z : ℕ). d * a.p.Z + z) c.place_drive-drive.ensures.0 c.place_zone-zone.ensures.0
+    let a = c.before.before.before.before.before.before.before.before.before.before.before.before.args in
+    c.before.offline_at.ensures.0
+    ∙ ap₂ (λ (d z : ℕ). d * a.p.Z + z) c.before.before.before.before.place_drive-drive.ensures.0 c.before.before.before.place_zone-zone.ensures.0
 
 -- the row is one
 low :
-    (c : After-shared_slice_known-8-1)
-    → get_or c.args.owners.now c.offline_at.result 0
-    < c.args.p.Z
+    (c : Lts.After-shared_slice_known8 Tie.the-claims Reads.Pre Reads.Post)
+    → get_or c.before.before.before.before.before.before.before.before.before.before.before.before.args.owners.now c.before.offline_at.result 0
+    < c.before.before.before.before.before.before.before.before.before.before.before.before.args.p.Z
 low c =
-    let a = c.args in
-    let q = c.requires in
+    let a = c.before.before.before.before.before.before.before.before.before.before.before.before.args in
+    let q = c.before.before.before.before.before.before.before.before.before.before.before.before.requires in
     let v : View = view_of a.p a.offline.now a.image.now a.pointers.now in
     let (h, k, e, x) = q.has_cand in
     (owner_row a.p (ranged a.p q.ground.in_range_holds) v a.gone q.ground.here q.ground.apart h k.0 a.owners.now q.gathered.owners_are a.place.0
-    (get_or a.owners.now c.offline_at.result 0) e (ap (λ (i : ℕ). get_or a.owners.now i 0) (index c))).row_low
+    (get_or a.owners.now c.before.offline_at.result 0) e (ap (λ (i : ℕ). get_or a.owners.now i 0) (index c))).row_low
 
 pub offset_bounds-owners-offline_at : goal.offset_bounds-owners-offline_at
 offset_bounds-owners-offline_at c = omega (arith, c.offline_at.ensures)
@@ -79,13 +81,13 @@ pub overflow_cast-z : goal.overflow_cast-z
 overflow_cast-z c =
     let a = c.args in
     let q = c.requires in
-    omega (arith, low (goal.at.overflow_cast-z c).After-shared_slice_known-8-1, (ranged a.p q.ground.in_range_holds).zones_high)
+    omega (arith, low c.before, (ranged a.p q.ground.in_range_holds).zones_high)
 
 pub row-segment-requires : goal.row-segment-requires
 row-segment-requires c =
     let a = c.args in
     let q = c.requires in
-    let l = low (goal.at.row-segment-requires c).After-shared_slice_known-8-1 in
+    let l = low c.before in
     (omega (arith, l, q.gathered.rows_are.0), omega (arith, l, (ranged a.p q.ground.in_range_holds).zones_high))
 
 pub stamp_at-stamp-requires : goal.stamp_at-stamp-requires
@@ -97,7 +99,7 @@ stamp_at-stamp-requires c =
     let r : Ranged a.p = ranged a.p q.ground.in_range_holds in
     let (h, k, e, x) = q.has_cand in
     let o = owner_row a.p r v a.gone q.ground.here q.ground.apart h k.0 a.owners.now q.gathered.owners_are a.place.0
-    (get_or a.owners.now c.offline_at.result 0) e (ap (λ (i : ℕ). get_or a.owners.now i 0) (index (goal.at.stamp_at-stamp-requires c).After-shared_slice_known-8-1)) in record { ground = q.ground; somewhere = (
+    (get_or a.owners.now c.offline_at.result 0) e (ap (λ (i : ℕ). get_or a.owners.now i 0) (index c.before.before)) in record { ground = q.ground; somewhere = (
         k.0.stripe,
         lies_same a.p v a.gone a.compact.now (place_drive a.p a.place.0) k.0.of (place_block a.p a.place.0 - 1) k.0.stripe
             c.place_drive-drive.result row.result (c.place_block-offset.result - 1)
@@ -111,12 +113,12 @@ pub offset_bounds-serials-z : goal.offset_bounds-serials-z
 offset_bounds-serials-z c =
     let a = c.args in
     let q = c.requires in
-    omega (arith, low (goal.at.offset_bounds-serials-z c).After-shared_slice_known-8-1, (ranged a.p q.ground.in_range_holds).zones_high)
+    omega (arith, low c.before.before.before, (ranged a.p q.ground.in_range_holds).zones_high)
 
 pub bounds-serials-z : goal.bounds-serials-z
 bounds-serials-z c =
     let q = c.requires in
-    omega (arith, low (goal.at.bounds-serials-z c).After-shared_slice_known-8-1, q.gathered.serials_are.0)
+    omega (arith, low c.before.before.before.before, q.gathered.serials_are.0)
 
 pub returns : goal.returns
 returns c =
@@ -132,7 +134,7 @@ returns c =
     let ed = place_drive_lem.ensures.0 in
     let eo : place_block_lem.result - 1 ≡ place_block a.p a.place.0 - 1 = ap (λ (y : ℕ). y - 1) place_block_lem.ensures.0 in
     λ h k e x.
-    let o = owner_row a.p r v a.gone q.ground.here q.ground.apart h k.0 a.owners.now q.gathered.owners_are a.place.0 z e (ap (λ (i : ℕ). get_or a.owners.now i 0) (index (goal.at.returns c).After-shared_slice_known-8-1)) in
+    let o = owner_row a.p r v a.gone q.ground.here q.ground.apart h k.0 a.owners.now q.gathered.owners_are a.place.0 z e (ap (λ (i : ℕ). get_or a.owners.now i 0) (index c.before.before.before.before)) in
     let es : row.result ≡ k.0.of = row.ensures ∙ o.row_is a.rows.now q.gathered.rows_are in
     let l : LiesIn a.p v a.gone a.compact.now place_drive_lem.result row.result (place_block_lem.result - 1) k.0.stripe =
     lies_same a.p v a.gone a.compact.now (place_drive a.p a.place.0) k.0.of (place_block a.p a.place.0 - 1) k.0.stripe

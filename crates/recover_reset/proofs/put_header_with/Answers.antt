@@ -17,7 +17,9 @@ use Rattle.law_basic.specs.Geometry.{ranged}
 use Rattle.law_basic.specs.Segs.{zones_in_long}
 use Rattle.disk_zones.specs.Made.{Storing}
 use Rattle.recover_reset.proofs.put_header_with.Goals as goal
-use Rattle.recover_reset.proofs.put_header_with.Goals.{After-put_limited-arg-2-1}
+use Rattle.recover_reset.proofs.put_header_with.Lts
+use Rattle.recover_reset.proofs.put_header_with.Reads
+use Rattle.recover_reset.proofs.put_header_with.Tie
 
 pub write_header-requires : goal.write_header-requires
 write_header-requires c =
@@ -26,32 +28,32 @@ write_header-requires c =
 
 -- the block and its length
 block_is :
-    (c : After-put_limited-arg-2-1)
-    → take c.args.p.B
-    c.write_header.new.dst ≡ header_block
-    c.args.p
-    c.args.drive
-    (zones_in c.args.p
-    c.args.segment)
-    c.args.serial.0
-    c.args.copied.0
+    (c : Lts.After-put_limited-arg2 Tie.the-claims Reads.Pre Reads.Post)
+    → take c.before.before.before.before.before.before.before.before.before.before.args.p.B
+    c.before.before.before.before.write_header.new.dst ≡ header_block
+    c.before.before.before.before.before.before.before.before.before.before.args.p
+    c.before.before.before.before.before.before.before.before.before.before.args.drive
+    (zones_in c.before.before.before.before.before.before.before.before.before.before.args.p
+    c.before.before.before.before.before.before.before.before.before.before.args.segment)
+    c.before.before.before.before.before.before.before.before.before.before.args.serial.0
+    c.before.before.before.before.before.before.before.before.before.before.args.copied.0
 block_is c =
-    let a = c.args in
-    let write-header = c.write_header in
-    let pre = c.requires in
+    let a = c.before.before.before.before.before.before.before.before.before.before.args in
+    let write-header = c.before.before.before.before.write_header in
+    let pre = c.before.before.before.before.before.before.before.before.before.before.requires in
     let r = ranged a.p pre.p_value in
     let h = header_block a.p a.drive (zones_in a.p a.segment) a.serial.0 a.copied.0 in
     ap (take a.p.B) write-header.ensures ∙ take_at h zero_spare a.p.B
     (header_block_long a.p r a.drive (zones_in a.p a.segment) a.serial.0 a.copied.0 (zones_in_long a.p a.segment))
 
 block_long :
-    (c : After-put_limited-arg-2-1)
-    → length (take c.args.p.B
-    c.write_header.new.dst) ≡
-    c.args.p.B
+    (c : Lts.After-put_limited-arg2 Tie.the-claims Reads.Pre Reads.Post)
+    → length (take c.before.before.before.before.before.before.before.before.before.before.args.p.B
+    c.before.before.before.before.write_header.new.dst) ≡
+    c.before.before.before.before.before.before.before.before.before.before.args.p.B
 block_long c =
-    let a = c.args in
-    let pre = c.requires in
+    let a = c.before.before.before.before.before.before.before.before.before.before.args in
+    let pre = c.before.before.before.before.before.before.before.before.before.before.requires in
     let r = ranged a.p pre.p_value in
     ap length (block_is c) ∙ header_block_long a.p r a.drive (zones_in a.p a.segment) a.serial.0 a.copied.0 (zones_in_long a.p a.segment)
 
@@ -63,11 +65,11 @@ slice_bounds-put_limited-end c =
     omega (arith, write-header.auto.dst, pre.drive_lt_n.3)
 
 pub slice_bounds-put_limited-end-2 : goal.slice_bounds-put_limited-end-2
-slice_bounds-put_limited-end-2 c = sym (block_long (goal.at.slice_bounds-put_limited-end-2 c).After-put_limited-arg-2-1)
+slice_bounds-put_limited-end-2 c = sym (block_long c.before)
 
 pub put_limited-requires : goal.put_limited-requires
 put_limited-requires c =
-    let q = c.requires in record { p_value = q.p_value; whole = q.whole; drive_lt_n = (q.drive_lt_n.0, q.drive_lt_n.1, q.drive_lt_n.2); block_len = (block_long (goal.at.put_limited-requires c).After-put_limited-arg-2-1, ap length q.drive_lt_n.4 ∙ length-zero_spare) }
+    let q = c.requires in record { p_value = q.p_value; whole = q.whole; drive_lt_n = (q.drive_lt_n.0, q.drive_lt_n.1, q.drive_lt_n.2); block_len = (block_long c.before, ap length q.drive_lt_n.4 ∙ length-zero_spare) }
 
 pub returns : goal.returns
 returns c =
@@ -78,5 +80,5 @@ returns c =
     let k = mk_disk a.image.now a.pointers.now in
     let k' = mk_disk put-limited.new.image put-limited.new.pointers in
     let m = put-limited.result in
-    subst (λ (x : List ℕ). Storing a.p a.count (put a.drive a.zone x zero_spare ∷ []) k m k') (block_is (c))
+    subst (λ (x : List ℕ). Storing a.p a.count (put a.drive a.zone x zero_spare ∷ []) k m k') (block_is c.before.before.before.before.before.before)
     (subst (λ (x : List ℕ). Storing a.p a.count (put a.drive a.zone (take a.p.B write-header.new.dst) x ∷ []) k m k') pre.drive_lt_n.4 put-limited.ensures)

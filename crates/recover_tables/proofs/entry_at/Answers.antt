@@ -10,7 +10,9 @@ use Rattle.recover_groups.specs.Bases.{group_len_fits}
 use Rattle.law_basic.specs.Geometry.{ranged}
 use Rattle.recover_tables.specs.Index.{compact_entry_within}
 use Rattle.recover_tables.proofs.entry_at.Goals as goal
-use Rattle.recover_tables.proofs.entry_at.Goals.{After-shared_slice_known-2-1}
+use Rattle.recover_tables.proofs.entry_at.Lts
+use Rattle.recover_tables.proofs.entry_at.Reads
+use Rattle.recover_tables.proofs.entry_at.Tie
 
 pub zone_on-zone-requires : goal.zone_on-zone-requires
 zone_on-zone-requires c =
@@ -28,16 +30,16 @@ overflow_add-result c =
     let h = pre.compact_len in
     omega (arith, c.compact_at-from.ensures.2, group_len_fits a.p a.w.base (omega (arith, h.3)), h.3, h.4, (ranged a.p pre.p_value).stripes_high)
 
-at-is : (c : After-shared_slice_known-2-1)
-    → let a = c.args in c.compact_at-from.result ≡ compact_at a.p a.drive (zone_on a.w.seg a.drive) a.w.base
+at-is : (c : Lts.After-shared_slice_known2 Tie.the-claims Reads.Pre Reads.Post)
+    → let a = c.before.before.before.before.before.args in c.before.compact_at-from.result ≡ compact_at a.p a.drive (zone_on a.w.seg a.drive) a.w.base
 at-is c =
-    let a = c.args in
-    c.compact_at-from.ensures.0 ∙ ap (λ (z : ℕ). compact_at a.p a.drive z a.w.base) c.zone_on-zone.ensures
+    let a = c.before.before.before.before.before.args in
+    c.before.compact_at-from.ensures.0 ∙ ap (λ (z : ℕ). compact_at a.p a.drive z a.w.base) c.before.before.zone_on-zone.ensures
 
-within : (c : After-shared_slice_known-2-1) → let a = c.args in c.compact_at-from.result + a.i < compact_len a.p
+within : (c : Lts.After-shared_slice_known2 Tie.the-claims Reads.Pre Reads.Post) → let a = c.before.before.before.before.before.args in c.before.compact_at-from.result + a.i < compact_len a.p
 within c =
-    let a = c.args in
-    let pre = c.requires in
+    let a = c.before.before.before.before.before.args in
+    let pre = c.before.before.before.before.before.requires in
     let h = pre.compact_len in
     let e = at-is c in
     omega (
@@ -50,7 +52,7 @@ within c =
 pub bounds-compact-from : goal.bounds-compact-from
 bounds-compact-from c =
     let pre = c.requires in
-    omega (arith, within (goal.at.bounds-compact-from c).After-shared_slice_known-2-1, pre.compact_len.0)
+    omega (arith, within c, pre.compact_len.0)
 
 pub overflow_cast-result : goal.overflow_cast-result
 overflow_cast-result c =
@@ -61,4 +63,4 @@ pub returns : goal.returns
 returns c =
     let a = c.args in
     let k = c.shared_slice_known-2-1.given (c.compact_at-from.result + a.i) in
-    (ap (λ (x : ℕ). get_or a.compact.now (x + a.i) 0) (at-is (goal.at.returns c).After-shared_slice_known-2-1), omega (arith, k))
+    (ap (λ (x : ℕ). get_or a.compact.now (x + a.i) 0) (at-is c.before), omega (arith, k))
