@@ -141,6 +141,8 @@ class Fn:
         self.stepof = {norm(p[0]): p[2][1] for p in entry["places"]}
         self.askedat = {n[1]: norm(a[0]) for n, a in zip(entry["needs"], entry["asked_at"])}
         self.raw = False
+        # a place of which nothing more is said is no record of its own
+        self.plain = {norm(p[0]) for p, ty, a in zip(entry["places"], entry["typed"], entry["arms"]) if not ty and not a}
         self.own = known.get(f"{crate}::{name.replace('.', '::')}", ([], []))
         self.pre = (entry["pre"] or {}).get("fields") or []
 
@@ -378,7 +380,7 @@ def convert(fn, text):
             if way is None:
                 said.append(f"no way from {env[v]} to {over[h]} for {h}")
                 return m.group(0)
-            return f"{h} {v}{'.before' if goal_ and v == 'c' else ''}{way}"
+            return f"{h} {v}{'.before' if goal_ and v == 'c' and env[v] not in fn.plain else ''}{way}"
 
         if over:
             every = "|".join(map(re.escape, env))

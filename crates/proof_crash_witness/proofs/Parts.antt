@@ -8,7 +8,7 @@ use Rattle.proof_crash_witness.specs.Table.{worn, dead, Line, disk, events_in, a
 use Rattle.proof_crash_witness.specs.Table.{moved_again, table, history}
 use Rattle.proof_crash_witness.specs.Witness.{Witness}
 use Rattle.proof_crash_witness.proofs.Evaluation.{evaluated}
-use Rattle.proof_crash_witness.proofs.Told.{Told, tell, start, tell_answers, tell_reads, tell-allowed}
+use Rattle.proof_crash_witness.proofs.Told.{Told, heard, tell, start, tell_answers, tell_reads, tell-allowed}
 use Rattle.proof_crash_witness.proofs.Numbers.{told_numbers, told_from, told_from-told_numbers}
 
 -- ---- parts of the history, each from what the one before came to
@@ -35,7 +35,7 @@ came t ls c = sym (ap told_from c.same ∙ told_from-told_numbers (tell worn dea
 tell_lines : (t : Told) (ls ms : List Line) → tell worn dead t (events_in (ls ++ ms)) ≡ tell worn dead (tell worn dead t (events_in ls)) (events_in ms)
 unfolding events_in tell
 tell_lines t [] ms = refl
-tell_lines t (l ∷ ls) ms = tell_lines _ ls ms
+tell_lines t (l ∷ ls) ms = tell_lines (heard worn dead t l.event) ls ms
 
 -- some lines come to c, and others from there to u
 then : (t : Told) (ls ms : List Line) (c : Part t ls) (u : Told) → tell worn dead (told_from c.value) (events_in ms) ≡ u → tell worn dead t (events_in (ls ++ ms)) ≡ u

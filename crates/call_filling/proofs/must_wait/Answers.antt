@@ -34,7 +34,7 @@ unfolding must_wait slot_count
 returns-then-not-a c =
     let a = c.args in
     let st = behind a.f in
-    let h = filling_is c.before.before.before c.if-not-a.true in
+    let h = filling_is c.before.before c.if-not-a.true in
     λ j. not (sym h j)
     && (leb 8 (length (in_flight st)) || (must_open a.p st && not (is_nil (in_flight st))) || (not (must_open a.p st) && any (other_group a.p st) (in_flight st)))
 
@@ -43,7 +43,7 @@ unfolding must_wait slot_count
 returns-then-n-ge8 c =
     let a = c.args in
     let st = behind a.f in
-    let h = filling-not c.before.before.before.before.before c.if-not-a.false in
+    let h = filling-not c.before.before.before.before c.if-not-a.false in
     let e : leb 8 (length (in_flight st)) ≡ true = le-leb 8 (length (in_flight st)) (omega (arith, c.if-n-ge8.true, c.in_flight-n.ensures)) in
     λ j. not (sym h j) && (sym e j || (must_open a.p st && not (is_nil (in_flight st))) || (not (must_open a.p st) && any (other_group a.p st) (in_flight st)))
 
@@ -54,9 +54,9 @@ returns-then-a c =
     let if1 = c.if-not-a in
     let a = c.args in
     let st = behind a.f in
-    let h = filling-not c.before.before.before.before.before.before if1.false in
+    let h = filling-not c.before.before.before.before.before if1.false in
     let e : leb 8 (length (in_flight st)) ≡ false = lt-leb 8 (length (in_flight st)) (omega (arith, c.if-n-ge8.false, in_flight_lem.ensures)) in
-    let m : must_open a.p st ≡ true = opens_is c.before.before.before.before.before.before if1.false ∙ c.if-a.true in
+    let m : must_open a.p st ≡ true = opens_is c.before.before.before.before.before if1.false ∙ c.if-a.true in
     let n : eqb in_flight_lem.result 0 ≡ is_nil (in_flight st) = ap (λ (x : ℕ). eqb x 0) in_flight_lem.ensures ∙ sym (is_nil-length (in_flight st)) in
     sym (or-false (not (eqb in_flight_lem.result 0)))
     ∙ (λ j. not (sym h j) && (sym e j || (sym m j && not (n j)) || (not (sym m j) && any (other_group a.p st) (in_flight st))))
@@ -69,7 +69,7 @@ returns c =
     let if1 = c.if-not-a in
     let a = c.args in
     let st = behind a.f in
-    let h = filling-not c.before.before.before.before.before.before.before if1.false in
+    let h = filling-not c.before.before.before.before.before.before if1.false in
     let e : leb 8 (length (in_flight st)) ≡ false = lt-leb 8 (length (in_flight st)) (omega (arith, if2.false, in_flight_lem.ensures)) in
-    let m : must_open a.p st ≡ false = opens_is c.before.before.before.before.before.before.before if1.false ∙ c.if-a.false in
+    let m : must_open a.p st ≡ false = opens_is c.before.before.before.before.before.before if1.false ∙ c.if-a.false in
     λ j. not (sym h j) && (sym e j || (sym m j && not (is_nil (in_flight st))) || (not (sym m j) && c.any_elsewhere.ensures j))

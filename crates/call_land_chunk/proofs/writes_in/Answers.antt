@@ -12,6 +12,7 @@ use mathlib.Core.Logic.{⊎_elim}
 use mathlib.Core.Path.{◌≡◌, sym, ap, ◌∙◌}
 use native.Mathlib.Omega.{arith}
 use Rattle.call_land_chunk.proofs.writes_in.Goals as goal
+use Rattle.call_land_chunk.proofs.writes_in.Goals.{else-has_drive, then-has_drive}
 
 pub loop-k-init : goal.loop-k-init
 unfolding writes_in tally
@@ -40,10 +41,8 @@ loop-k-preserved c =
     let f : ℕ → Bool = is_write (alone r) 0 in
     let t : List ℕ = up_from (l.k + 1) (m - (l.k + 1)) in
     let b : c.if-has_drive.n + length (keep f t) ≡ l.n + length (keep f (up_from l.k (m - l.k))) =
-    ⊎_elim
-    (λ w. ap (λ (x : ℕ). x + length (keep f t)) w.1 ∙ sym (kept-one f l.k m l.n (omega arith) (sym c.has_drive.ensures ∙ w.0.taken)))
-    (λ w. ap (λ (x : ℕ). x + length (keep f t)) w.1 ∙ sym (kept_none f l.k m l.n (omega arith) (sym c.has_drive.ensures ∙ w.0.left))) c.if-has_drive.branch in
-    let h : c.if-has_drive.n ≤ l.k + 1 = ⊎_elim (λ w. omega (arith, w.1)) (λ w. omega (arith, w.1)) c.if-has_drive.branch in
+    elim c.if-has_drive.branch [ then-has_drive w ↦ ap (λ (x : ℕ). x + length (keep f t)) w.n-is ∙ sym (kept-one f l.k m l.n (omega arith) (sym c.has_drive.ensures ∙ w.if-has_drive.true)) | else-has_drive w ↦ ap (λ (x : ℕ). x + length (keep f t)) w.n-is ∙ sym (kept_none f l.k m l.n (omega arith) (sym c.has_drive.ensures ∙ w.if-has_drive.false)) ] in
+    let h : c.if-has_drive.n ≤ l.k + 1 = elim c.if-has_drive.branch [ then-has_drive w ↦ omega (arith, w.n-is) | else-has_drive w ↦ omega (arith, w.n-is) ] in
     (l.invariant.0, omega arith, h, b ∙ l.invariant.3)
 
 pub returns : goal.returns

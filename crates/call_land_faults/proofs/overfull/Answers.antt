@@ -8,6 +8,7 @@ use mathlib.Core.Logic.{⊎_elim}
 use mathlib.Core.Path.{◌≡◌, sym, ap, ◌∙◌}
 use native.Mathlib.Omega.{arith}
 use Rattle.call_land_faults.proofs.overfull.Goals as goal
+use Rattle.call_land_faults.proofs.overfull.Goals.{else-z-worst, then-z-worst}
 
 pub loop-e-init : goal.loop-e-init
 loop-e-init c =
@@ -37,10 +38,8 @@ loop-e-preserved c =
     let w : l.worst ≤ p.Z = l.invariant.1 in
     let q = c.full_zone-z.ensures in
     let g : least c.if-z-worst.worst (faults_from p.Z f (e + 1) p.N) ≡ least l.worst (faults_from p.Z f e p.N) =
-    ⊎_elim
-    (λ x. ap (λ (y : ℕ). least y (faults_from p.Z f (e + 1) p.N)) x.1 ∙ faults_lower p.Z f l.worst z e p.N m q (omega (arith, x.0.taken)) w)
-    (λ x. ap (λ (y : ℕ). least y (faults_from p.Z f (e + 1) p.N)) x.1 ∙ faults_same p.Z f l.worst z e p.N m q (omega (arith, x.0.left))) c.if-z-worst.branch in
-    let b : c.if-z-worst.worst ≤ p.Z = ⊎_elim (λ x. omega (arith, x.1, x.0.taken, w)) (λ x. omega (arith, x.1, w)) c.if-z-worst.branch in
+    elim c.if-z-worst.branch [ then-z-worst x ↦ ap (λ (y : ℕ). least y (faults_from p.Z f (e + 1) p.N)) x.worst-is ∙ faults_lower p.Z f l.worst z e p.N m q (omega (arith, x.if-z-worst.true)) w | else-z-worst x ↦ ap (λ (y : ℕ). least y (faults_from p.Z f (e + 1) p.N)) x.worst-is ∙ faults_same p.Z f l.worst z e p.N m q (omega (arith, x.if-z-worst.false)) ] in
+    let b : c.if-z-worst.worst ≤ p.Z = elim c.if-z-worst.branch [ then-z-worst x ↦ omega (arith, x.worst-is, x.if-z-worst.true, w) | else-z-worst x ↦ omega (arith, x.worst-is, w) ] in
     (omega arith, b, g ∙ l.invariant.2)
 
 pub returns : goal.returns

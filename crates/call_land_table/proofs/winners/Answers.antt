@@ -13,6 +13,7 @@ use mathlib.Core.Logic.{⊎_elim}
 use mathlib.Core.Path.{◌≡◌, refl, sym, ap, ◌∙◌, subst}
 use native.Mathlib.Omega.{arith}
 use Rattle.call_land_table.proofs.winners.Goals as goal
+use Rattle.call_land_table.proofs.winners.Goals.{else-address-p, then-address-p}
 use Rattle.call_land_table.proofs.winners.Goals.{In-loop-k}
 
 pub loop-k-init : goal.loop-k-init
@@ -71,12 +72,10 @@ loop-k-preserved c =
     let f : ℕ → ℕ = winner_of p v a.addresses.now (landed_cands p v a.segment st i) in
     let m : k < 8 = low (c) in
     let e : entry.result.address.0 ≡ (entry_in_of st i k).address-1 = ap (λ (r : Rec). r.address) entry.ensures in
-    let g : length c.if-address-p.out ≡ 8 = ⊎_elim (λ w. ap length w.2 ∙ length-set l.out k w.1.result.0 ∙ l.invariant.2) (λ w. ap length w.1 ∙ l.invariant.2) c.if-address-p.branch in
+    let g : length c.if-address-p.out ≡ 8 = elim c.if-address-p.branch [ then-address-p w ↦ ap length w.true-is ∙ length-set l.out k w.1.result.0 ∙ l.invariant.2 | else-address-p w ↦ ap length w.true-is ∙ l.invariant.2 ] in
     let T : List ℕ → Type 0 = λ x. (h : ℕ) → h < k + 1 → (entry_in_of st i h).address-1 < p.L → get_or x h 0 ≡ f (entry_in_of st i h).address-1 in
     let b : T c.if-address-p.out =
-    ⊎_elim
-    (λ w. subst T (sym w.2) (set_winner p st i f l.out k l.invariant.3 w.1.result.0 (omega (arith, m, l.invariant.2)) (w.1.ensures ∙ ap f e)))
-    (λ w. subst T (sym w.1) (keep_winner p st i f l.out k l.invariant.3 (omega (arith, w.0.left, e)))) c.if-address-p.branch in
+    elim c.if-address-p.branch [ then-address-p w ↦ subst T (sym w.true-is) (set_winner p st i f l.out k l.invariant.3 w.1.result.0 (omega (arith, m, l.invariant.2)) (w.1.ensures ∙ ap f e)) | else-address-p w ↦ subst T (sym w.true-is) (keep_winner p st i f l.out k l.invariant.3 (omega (arith, w.if-address-p.false, e))) ] in
     (l.invariant.0, omega (arith, loop-test.true), g, b)
 
 pub returns : goal.returns

@@ -16,12 +16,12 @@ use Rattle.law_basic.specs.Segs.{zones_in_long}
 use Rattle.disk_records.specs.Header.{three_written, header_written}
 use Rattle.disk_records.proofs.write_header.Goals as goal
 
-mul-t11 : tie.Need-overflow-mul-t11
-mul-t11 c =
+pub overflow_mul-head : goal.overflow_mul-head
+overflow_mul-head c =
     omega (arith, (ranged c.args.p c.requires.0).drives_high)
 
-add-t12 : tie.Need-overflow-add-t12
-add-t12 c =
+pub overflow_add-head : goal.overflow_add-head
+overflow_add-head c =
     omega (arith, (ranged c.args.p c.requires.0).drives_high)
 
 pub write_fields-requires : goal.write_fields-requires
@@ -52,12 +52,6 @@ overflow_mul-p c =
 pub overflow_add-p : goal.overflow_add-p
 overflow_add-p c =
     omega (arith, (ranged c.args.p c.requires.0).drives_high)
-
-slice-aggregate-write-fields-3 : tie.Need-slice-aggregate-write-fields-3
-slice-aggregate-write-fields-3 c = search rules
-
-slice-aggregate-write-fields-4 : tie.Need-slice-aggregate-write-fields-4
-slice-aggregate-write-fields-4 c = search rules
 
 pub write_fields-requires-2 : goal.write_fields-requires-2
 unfolding total unit_len

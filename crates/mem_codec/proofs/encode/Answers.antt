@@ -146,59 +146,59 @@ put_front-requires c = omega (arith, state_len_lem)
 
 pub slice_bounds-put_words-end : goal.slice_bounds-put_words-end
 slice_bounds-put_words-end c =
-    sym (long-numbers (entry-0 c.before.before.before.before.before))
+    sym (long-numbers (entry-0 c.before.before.before.before))
 
 pub put_words-requires : goal.put_words-requires
 put_words-requires c =
-    omega (arith, kept-0 c.before.before.before.before.before, long-numbers (entry-0 c.before.before.before.before.before))
+    omega (arith, kept-0 c.before.before.before.before, long-numbers (entry-0 c.before.before.before.before))
 
 pub slice_bounds-put_bytes-end : goal.slice_bounds-put_bytes-end
 slice_bounds-put_bytes-end c =
-    sym (long_filled (entry-1 c.before.before.before.before.before))
+    sym (long_filled (entry-1 c.before.before.before.before))
 
 pub put_bytes-requires : goal.put_bytes-requires
 put_bytes-requires c =
-    omega (arith, kept-1 c.before.before.before.before.before, long_filled (entry-1 c.before.before.before.before.before))
+    omega (arith, kept-1 c.before.before.before.before, long_filled (entry-1 c.before.before.before.before))
 
 pub slice_bounds-put_bytes-end-2 : goal.slice_bounds-put_bytes-end-2
 slice_bounds-put_bytes-end-2 c =
-    sym (long-writes (entry-2 c.before.before.before.before.before))
+    sym (long-writes (entry-2 c.before.before.before.before))
 
 pub put_bytes-requires-2 : goal.put_bytes-requires-2
 put_bytes-requires-2 c =
-    omega (arith, kept-2 c.before.before.before.before.before, long-writes (entry-2 c.before.before.before.before.before))
+    omega (arith, kept-2 c.before.before.before.before, long-writes (entry-2 c.before.before.before.before))
 
 pub slice_bounds-put_bytes-end-3 : goal.slice_bounds-put_bytes-end-3
 slice_bounds-put_bytes-end-3 c =
-    sym (long-landed (entry-3 c.before.before.before.before.before))
+    sym (long-landed (entry-3 c.before.before.before.before))
 
 pub put_bytes-requires-3 : goal.put_bytes-requires-3
 put_bytes-requires-3 c =
-    omega (arith, kept-3 c.before.before.before.before.before, long-landed (entry-3 c.before.before.before.before.before))
+    omega (arith, kept-3 c.before.before.before.before, long-landed (entry-3 c.before.before.before.before))
 
 pub slice_bounds-put_longs-end : goal.slice_bounds-put_longs-end
 slice_bounds-put_longs-end c =
-    sym (long-addresses (entry-4 c.before.before.before.before.before))
+    sym (long-addresses (entry-4 c.before.before.before.before))
 
 pub put_longs-requires : goal.put_longs-requires
 put_longs-requires c =
-    omega (arith, kept-4 c.before.before.before.before.before, long-addresses (entry-4 c.before.before.before.before.before))
+    omega (arith, kept-4 c.before.before.before.before, long-addresses (entry-4 c.before.before.before.before))
 
 pub slice_bounds-put_longs-end-2 : goal.slice_bounds-put_longs-end-2
 slice_bounds-put_longs-end-2 c =
-    sym (long-stamps (entry-5 c.before.before.before.before.before))
+    sym (long-stamps (entry-5 c.before.before.before.before))
 
 pub put_longs-requires-2 : goal.put_longs-requires-2
 put_longs-requires-2 c =
-    omega (arith, kept-5 c.before.before.before.before.before, long-stamps (entry-5 c.before.before.before.before.before))
+    omega (arith, kept-5 c.before.before.before.before, long-stamps (entry-5 c.before.before.before.before))
 
 pub slice_bounds-put_words-end-2 : goal.slice_bounds-put_words-end-2
 slice_bounds-put_words-end-2 c =
-    sym (long-offsets (entry-6 c.before.before.before.before.before))
+    sym (long-offsets (entry-6 c.before.before.before.before))
 
 pub put_words-requires-2 : goal.put_words-requires-2
 put_words-requires-2 c =
-    omega (arith, kept-6 c.before.before.before.before.before, long-offsets (entry-6 c.before.before.before.before.before))
+    omega (arith, kept-6 c.before.before.before.before, long-offsets (entry-6 c.before.before.before.before))
 
 pub shape_of-dst : goal.shape_of-dst
 shape_of-dst c =

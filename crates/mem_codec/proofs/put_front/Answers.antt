@@ -38,17 +38,17 @@ write_le64-requires c = simp length-set (omega arith)
 pub write_le64-requires-2 : goal.write_le64-requires-2
 write_le64-requires-2 c =
     let pre = c.requires in
-    omega (arith, long-1 c.before.before.before.before, pre)
+    omega (arith, long-1 c.before.before.before, pre)
 
 pub write_le64-requires-3 : goal.write_le64-requires-3
 write_le64-requires-3 c =
     let pre = c.requires in
-    omega (arith, long-2 c.before.before.before.before, pre)
+    omega (arith, long-2 c.before.before.before, pre)
 
 pub write_le32-requires : goal.write_le32-requires
 write_le32-requires c =
     let pre = c.requires in
-    omega (arith, long-3 c.before.before.before.before, pre)
+    omega (arith, long-3 c.before.before.before, pre)
 
 pub shape_of-dst : goal.shape_of-dst
 shape_of-dst c =

@@ -10,6 +10,7 @@ use mathlib.Core.Path.{◌≡◌, sym, ◌∙◌}
 use native.Mathlib.Nat.{zero-add}
 use native.Mathlib.Omega.{arith}
 use Rattle.mem_marks.proofs.count_few.Goals as goal
+use Rattle.mem_marks.proofs.count_few.Goals.{then-is_marked, else-is_marked}
 
 pub loop-k-init : goal.loop-k-init
 loop-k-init c =
@@ -35,9 +36,8 @@ loop-k-preserved c =
     let t = c.loop-k-test.true in
     let f : ℕ → Bool = is_marked a.marks.now in
     let e = c.is_marked.ensures in
-    ⊎_elim (λ w. (omega arith, omega arith, omega (arith, kept-one f l.k a.hi l.n t (sym e ∙ w.0.taken), l.invariant.2), omega arith))
-    (λ w. (omega arith, omega arith, omega (arith, kept_none f l.k a.hi l.n t (sym e ∙ w.0.left), l.invariant.2), omega arith))
-    c.if-is_marked.branch
+    elim c.if-is_marked.branch [ then-is_marked w ↦ (omega arith, omega arith, omega (arith, kept-one f l.k a.hi l.n t (sym e ∙ w.if-is_marked.true), l.invariant.2), omega arith)
+    | else-is_marked w ↦ (omega arith, omega arith, omega (arith, kept_none f l.k a.hi l.n t (sym e ∙ w.if-is_marked.false), l.invariant.2), omega arith) ]
 
 pub returns : goal.returns
 returns c =

@@ -8,6 +8,7 @@ use Rattle.spec.specs.Params.{offline_len}
 use Rattle.recover_drop.specs.Dropped.{serial_no, untaken_no}
 use Rattle.recover_drop.specs.Rising.{LeastKey, LeastSo, least_begin, least-all, least_miss, least_hit}
 use Rattle.recover_drop.proofs.lowest_untaken.Goals as goal
+use Rattle.recover_drop.proofs.lowest_untaken.Goals.{else-is_untaken, then-is_untaken}
 
 pub offline_len-n-requires : goal.offline_len-n-requires
 offline_len-n-requires c = c.requires.p_value
@@ -45,11 +46,8 @@ loop-i-preserved c =
     let n = c.offline_len-n.result in
     let f = untaken_no a.p v a.taken.now in
     let g = serial_no a.p v in
-    ⊎_elim
-    (λ w. subst (λ (b : ℕ). LeastSo f g n (l.i + 1) b) (sym w.2)
-    (least_hit f g n l.i l.best l.invariant t w.1.result (sym e ∙ w.0.taken) (w.1.ensures a.offline.now a.pointers.now q.whole.0.pointers_long)))
-    (λ w. subst (λ (b : ℕ). LeastSo f g n (l.i + 1) b) (sym w.1) (least_miss f g n l.i l.best l.invariant t (sym e ∙ w.0.left)))
-    c.if-is_untaken.branch
+    elim c.if-is_untaken.branch [ then-is_untaken w ↦ subst (λ (b : ℕ). LeastSo f g n (l.i + 1) b) (sym w.2)
+    (least_hit f g n l.i l.best l.invariant t w.1.result (sym e ∙ w.if-is_untaken.true) (w.1.ensures a.offline.now a.pointers.now q.whole.0.pointers_long)) | else-is_untaken w ↦ subst (λ (b : ℕ). LeastSo f g n (l.i + 1) b) (sym w.1) (least_miss f g n l.i l.best l.invariant t (sym e ∙ w.if-is_untaken.false)) ]
 
 pub returns : goal.returns
 unfolding offline_len

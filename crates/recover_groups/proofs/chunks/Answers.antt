@@ -12,6 +12,7 @@ use Rattle.law_basic.specs.Geometry.{ranged}
 use Rattle.law_scans.specs.Scans.{kept-one, kept_none, kept-ended, kept-start}
 use Rattle.recover_groups.specs.Groups.{group_len, Indexed}
 use Rattle.recover_groups.proofs.chunks.Goals as goal
+use Rattle.recover_groups.proofs.chunks.Goals.{else-has_chunk, then-has_chunk}
 
 pub loop-d-init : goal.loop-d-init
 loop-d-init c =
@@ -47,26 +48,23 @@ loop-d-preserved c =
     → a.k < group_len p base
     → c.if-has_chunk.n + length (keep (has_chunk g (base + a.k)) (up_from (loop.d + 1) (p.N - (loop.d + 1)))) ≡ length
     (keep (has_chunk g (base + a.k)) (below p.N))) =
-    ⊎_elim
-    (λ w. (
+    elim c.if-has_chunk.branch [ then-has_chunk w ↦ (
       omega (arith, if1.true),
-      omega (arith, w.1),
+      omega (arith, w.n-is),
       λ g base x hk. ap
-          (λ (y : ℕ). y + length (keep (has_chunk g (base + a.k)) (up_from (loop.d + 1) (p.N - (loop.d + 1))))) w.1
+          (λ (y : ℕ). y + length (keep (has_chunk g (base + a.k)) (up_from (loop.d + 1) (p.N - (loop.d + 1))))) w.n-is
           ∙ sym (kept-one (has_chunk g (base + a.k)) loop.d p.N loop.n if1.true
-          (sym (c.has_chunk.ensures.value_2 p g base x if1.true hk) ∙ w.0.taken))
+          (sym (c.has_chunk.ensures.value_2 p g base x if1.true hk) ∙ w.if-has_chunk.true))
           ∙ loop.invariant.2 g base x hk,
-    ))
-    (λ w. (
+    ) | else-has_chunk w ↦ (
       omega (arith, if1.true),
-      omega (arith, w.1),
+      omega (arith, w.n-is),
       λ g base x hk. ap
-          (λ (y : ℕ). y + length (keep (has_chunk g (base + a.k)) (up_from (loop.d + 1) (p.N - (loop.d + 1))))) w.1
+          (λ (y : ℕ). y + length (keep (has_chunk g (base + a.k)) (up_from (loop.d + 1) (p.N - (loop.d + 1))))) w.n-is
           ∙ sym (kept_none (has_chunk g (base + a.k)) loop.d p.N loop.n if1.true
-          (sym (c.has_chunk.ensures.value_2 p g base x if1.true hk) ∙ w.0.left))
+          (sym (c.has_chunk.ensures.value_2 p g base x if1.true hk) ∙ w.if-has_chunk.false))
           ∙ loop.invariant.2 g base x hk,
-    ))
-    c.if-has_chunk.branch in
+    ) ] in
     b
 
 pub returns : goal.returns

@@ -13,6 +13,7 @@ use Rattle.law_scans.specs.Scans.{kept-one, kept_none, kept-ended, kept-start}
 use Rattle.disk_gather.specs.Flags.{Keeps, FlagsRows}
 use Rattle.recover_segments.specs.Kept.{unsealed_at, unsealed_is, unsealed-length}
 use Rattle.recover_segments.proofs.unsealed_count.Goals as goal
+use Rattle.recover_segments.proofs.unsealed_count.Goals.{else-is_unsealed, then-is_unsealed}
 
 pub loop-z-init : goal.loop-z-init
 loop-z-init c =
@@ -43,26 +44,23 @@ loop-z-preserved c =
     × ((off im : List ℕ) → length im ≡ image_len p → Keeps p (view_of p off im a.pointers.now) a.gone a.kept.now
     → FlagsRows p (view_of p off im a.pointers.now) a.gone a.rows.now
     → c.if-is_unsealed.n + length (keep (f off im) (up_from (l.z + 1) (p.Z - (l.z + 1)))) ≡ length (keep (f off im) (below p.Z))) =
-    ⊎_elim
-    (λ w. (
+    elim c.if-is_unsealed.branch [ then-is_unsealed w ↦ (
       omega (arith, if1.true),
-      omega (arith, w.1),
-      λ off im h k r. ap (λ (x : ℕ). x + length (keep (f off im) (up_from (l.z + 1) (p.Z - (l.z + 1))))) w.1
+      omega (arith, w.n-is),
+      λ off im h k r. ap (λ (x : ℕ). x + length (keep (f off im) (up_from (l.z + 1) (p.Z - (l.z + 1))))) w.n-is
           ∙ sym (kept-one (f off im) l.z p.Z l.n if1.true
           (sym (unsealed_is p (view_of p off im a.pointers.now) a.gone a.rows.now a.kept.now r k l.z if1.true)
-          ∙ sym (c.is_unsealed.ensures off im h) ∙ w.0.taken))
+          ∙ sym (c.is_unsealed.ensures off im h) ∙ w.if-is_unsealed.true))
           ∙ l.invariant.2 off im h k r,
-    ))
-    (λ w. (
+    ) | else-is_unsealed w ↦ (
       omega (arith, if1.true),
-      omega (arith, w.1),
-      λ off im h k r. ap (λ (x : ℕ). x + length (keep (f off im) (up_from (l.z + 1) (p.Z - (l.z + 1))))) w.1
+      omega (arith, w.n-is),
+      λ off im h k r. ap (λ (x : ℕ). x + length (keep (f off im) (up_from (l.z + 1) (p.Z - (l.z + 1))))) w.n-is
           ∙ sym (kept_none (f off im) l.z p.Z l.n if1.true
           (sym (unsealed_is p (view_of p off im a.pointers.now) a.gone a.rows.now a.kept.now r k l.z if1.true)
-          ∙ sym (c.is_unsealed.ensures off im h) ∙ w.0.left))
+          ∙ sym (c.is_unsealed.ensures off im h) ∙ w.if-is_unsealed.false))
           ∙ l.invariant.2 off im h k r,
-    ))
-    c.if-is_unsealed.branch in
+    ) ] in
     b
 
 pub returns : goal.returns
