@@ -140,7 +140,7 @@ class Fn:
         self.oldplace = {norm(p[0]): p[0] for p in entry["places"]}
         self.stepof = {norm(p[0]): p[2][1] for p in entry["places"]}
         self.askedat = {n[1]: norm(a[0]) for n, a in zip(entry["needs"], entry["asked_at"])}
-        self.raw = False
+        self.raw, self.givers = False, set()
         # a place of which nothing more is said is no record of its own
         self.plain = {norm(p[0]) for p, ty, a in zip(entry["places"], entry["typed"], entry["arms"]) if not ty and not a}
         self.own = known.get(f"{crate}::{name.replace('.', '::')}", ([], []))
@@ -219,7 +219,7 @@ class Fn:
         def chain(m):
             head, dot, name, rest = m.group(1), m.group(2), m.group(3), m.group(4)
             old = norm(name)
-            if old not in self.steps or (head not in ctx and head != ")"):
+            if old not in self.steps or (head not in ctx and not (head == ")" and re.search(r"\((\S+) [^()\s]+$", m.string[: m.start()]) and re.search(r"\((\S+) [^()\s]+$", m.string[: m.start()]).group(1) in self.givers)):
                 return m.group(0)
             for path in [] if self.raw else sorted(self.arms.get(old, {}), key=len, reverse=True):
                 if rest == path or rest.startswith(path + "."):
@@ -345,6 +345,7 @@ def convert(fn, text):
             g = re.match(r"(?:pub |abbrev )*%s\s*:\s*%s → %s(?= %s )" % (re.escape(h.group(1)), PL, PL, re.escape(h.group(1))), sig) or re.match(r"(?:pub |abbrev )*%s\s*:\s*\(%s : %s\)\s*→ %s(?= %s )" % (re.escape(h.group(1)), ID, PL, PL, re.escape(h.group(1))), sig)
             if g and norm(g.group(2)) in fn.parent:
                 gives[h.group(1)] = norm(g.group(2))
+    fn.givers = set(gives)
     chained = False
     modules = {}
     for k, d in enumerate(decls):

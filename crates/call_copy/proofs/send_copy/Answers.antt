@@ -92,4 +92,4 @@ returns c =
     let a = s.args in
     sent_done a.p a.offline.now (disk s) (memory s) a.address.0 a.stamp.0 a.block.now a.count s.requires.copy_ready c.«open».result (after c.before.before.before.before.before.before.before.before.before.before.before.before.before.before.before)
     (opened c.before.before.before.before.before.before.before.before.before.before.before.before.before.before.before) a.f s.requires.f_value.0 a.a s.requires.f_value.1 row.result row.ensures (sized s) if1.false _ q.new.inflight
-    (λ j. copied_as a.f a.a c.«open».result a.stamp.0 (q.ensures j)) (λ j. (q.ensures j).inflight-1)
+    (λ j. copied_as a.f a.a c.«open».result a.stamp.0 (q.ensures j)) (λ j. (q.ensures j).inflight)

@@ -67,4 +67,4 @@ returns c v h =
     let z : c.zone_on-zone.result ≡ zone_on a.segment (data_drive p s a.k) = c.zone_on-zone.ensures ∙ ap (zone_on a.segment) d in
     let w : c.place_of-place.result.0 ≡ place_of p (data_drive p s a.k) (zone_on a.segment (data_drive p s a.k)) (1 + offset_in st i (data_drive p s a.k)) =
     c.place_of-place.ensures.0 ∙ (λ j. place_of p (d j) (z j) (1 + o j)) in
-    λ j. record { address = (e j).address-1; stamp = (e j).stamp-1; serial = h j; drive = d j; offset = o j; place = w j }
+    λ j. record { address = (e j).address; stamp = (e j).stamp; serial = h j; drive = d j; offset = o j; place = w j }

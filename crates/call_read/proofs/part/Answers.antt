@@ -43,7 +43,7 @@ answered :
     c.before.before.before.before.before.before.before.before.args.addresses.now
     c.before.before.before.before.before.before.before.before.args.compact.now
     c.before.before.before.before.before.before.before.before.args.inflight.now)
-    (read c.before.before.before.before.before.before.before.before.args.address.0)).answer-1
+    (read c.before.before.before.before.before.before.before.before.args.address.0)).answer
 answered c = ap (λ (x : After Disk). x.answer) c.find-answer.ensures
 
 within :

@@ -24,4 +24,4 @@ returns c =
         next = (q j).next;
         slot = a.a.slot;
         row = (q j).row;
-      }; inflight_after = λ j. (q j).inflight-1 }
+      }; inflight_after = λ j. (q j).inflight }

@@ -52,7 +52,7 @@ loop-d-preserved c =
       length-set l.from l.d c.present_block.result ∙ l.invariant.1,
       set_next
           (λ e y. is_in w.gone e ≡ false → (y + p.B ≤ image_len p) × ((off ps : List ℕ) → GroupReads p off im ps w a.at.now
-          → (stored_piece (segment_in p off im ps w) (w.base + a.k) e).block-1 ≡ part y p.B im))
+          → (stored_piece (segment_in p off im ps w) (w.base + a.k) e).block ≡ part y p.B im))
           l.from l.d c.present_block.result (omega (arith, t, d, l.invariant.1)) l.invariant.2
           (λ n. (c.present_block.ensures.b_bound n, λ off ps x. c.present_block.ensures.by_index off im ps pre.image_len.0 x n)),
     )
@@ -79,5 +79,5 @@ returns c =
     let im = a.image.now in
     let e : l.d ≡ p.N = omega (arith, c.loop-d-test.false, l.invariant.0) in
     λ off ps x. c.decode_block.ensures
-    ∙ decode_block_same p w.gone (w.base + a.k) a.drive (λ k. part (get_or l.from k 0) p.B im) (λ k. (stored_piece (segment_in p off im ps w) (w.base + a.k) k).block-1)
+    ∙ decode_block_same p w.gone (w.base + a.k) a.drive (λ k. part (get_or l.from k 0) p.B im) (λ k. (stored_piece (segment_in p off im ps w) (w.base + a.k) k).block)
     (λ k h n. sym ((l.invariant.2 k (omega (arith, h, e)) n).1 off ps x))
