@@ -160,6 +160,15 @@ class Fn:
                 return "." + names[k] + path
             k += 1
 
+    def step(self, name):
+        """a step by its older name, which port_names.py may have taken for a definition"""
+        n = norm(name)
+        if n not in self.steps:
+            m = re.match(r"(.*)_(?:holds|lem|of)$", n)
+            if m and m.group(1) in self.steps:
+                return m.group(1)
+        return n
+
     def up(self, frm, to):
         """the way from a place to one above it"""
         n = 0
@@ -207,8 +216,8 @@ class Fn:
 
         # names bound to steps and to requires
         for m in re.finditer(r"let (%s)(?: : [^=]*?)? = ([\w']+)\.(%s) in" % (ID, ID), body):
-            if norm(m.group(3)) in self.steps:
-                alias[m.group(1)] = norm(m.group(3))
+            if self.step(m.group(3)) in self.steps:
+                alias[m.group(1)] = self.step(m.group(3))
             if m.group(3) == "requires":
                 pres.add(m.group(1))
         # fields of a step: c.STEP.field, or alias.field
@@ -218,7 +227,7 @@ class Fn:
 
         def chain(m):
             head, dot, name, rest = m.group(1), m.group(2), m.group(3), m.group(4)
-            old = norm(name)
+            old = self.step(name)
             if old not in self.steps or (head not in ctx and not (head == ")" and re.search(r"\((\S+) [^()\s]+$", m.string[: m.start()]) and re.search(r"\((\S+) [^()\s]+$", m.string[: m.start()]).group(1) in self.givers)):
                 return m.group(0)
             for path in [] if self.raw else sorted(self.arms.get(old, {}), key=len, reverse=True):

@@ -74,7 +74,7 @@ passed c =
 
 pub row_at-row-requires : goal.row_at-row-requires
 row_at-row-requires c =
-    (c.requires.1, slot_low c.args.p c.args.state c.filling_slot_lem.result (slot_of_lem c.before.before.before.before) (close_ready c.args.p c.args.offline.now (disk c.before.before.before.before.before.before.before.before.before.before.before.before.before) (memory c.before.before.before.before.before.before.before.before.before.before.before.before.before) (passed c.before)).filling)
+    (c.requires.1, slot_low c.args.p c.args.state c.filling_slot-i.result (slot_of_lem c.before.before.before.before) (close_ready c.args.p c.args.offline.now (disk c.before.before.before.before.before.before.before.before.before.before.before.before.before) (memory c.before.before.before.before.before.before.before.before.before.before.before.before.before) (passed c.before)).filling)
 
 -- the row is the state's
 row_is : (c : Lts.After-row_at Tie.the-claims Reads.Pre Reads.Post) → c.row_at-row.result ≡ slot_row (start c.before.before.before).args.state c.before.before.before.before.filling_slot-i.result
@@ -85,7 +85,7 @@ row_is c =
 pub pad_all-next-requires : goal.pad_all-next-requires
 pad_all-next-requires c =
     let r = close_ready c.args.p c.args.offline.now (disk c.before.before.before.before.before.before.before.before.before.before.before.before.before.before.before) (memory c.before.before.before.before.before.before.before.before.before.before.before.before.before.before.before) (passed c.before.before.before) in
-    let i = c.filling_slot_lem.result in
+    let i = c.filling_slot-i.result in
     let e : c.row_at-row.result.filled ≡ filled_in_of c.args.state i = ap (λ (x : Row). x.filled) (row_is c.before.before) ∙ row_filled c.args.state i in record { p_value = r.ranged; i_bound = (slot_low c.args.p c.args.state i (slot_of_lem c.before.before.before.before.before.before) r.filling, omega (arith, e, slot_open c.args.p c.args.state i (slot_of_lem c.before.before.before.before.before.before) r.filling), r.inflight_long) }
 
 pub returns : goal.returns
@@ -99,4 +99,4 @@ returns c =
     let few : data_count a.p ≤ 8 = omega (arith, data_count_high a.p (ranged a.p r.ranged)) in
     λ n. close_done a.p a.offline.now (disk c.before.before.before.before.before.before.before.before.before.before.before.before.before.before.before.before.before.before.before.before.before) (memory c.before.before.before.before.before.before.before.before.before.before.before.before.before.before.before.before.before.before.before.before.before) none! (sized c.before.before.before.before.before.before.before.before.before.before.before.before.before.before.before.before.before.before.before.before.before) (slot_low a.p a.state at refl r.filling) few (slot_open a.p a.state at refl r.filling)
     f.result f.ensures
-    c.filling_slot_lem.result (slot_of_lem c.before.before.before.before.before.before.before.before.before.before.before.before) c.row_at-row.result (row_is c.before.before.before.before.before.before.before.before) q.result q.new.inflight q.ensures.value q.ensures.inflight_after n
+    c.filling_slot-i.result (slot_of_lem c.before.before.before.before.before.before.before.before.before.before.before.before) c.row_at-row.result (row_is c.before.before.before.before.before.before.before.before) q.result q.new.inflight q.ensures.value q.ensures.inflight_after n

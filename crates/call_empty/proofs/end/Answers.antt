@@ -60,7 +60,7 @@ slot_of_lem c =
 pub returns-then-filling_slot-lt8 : goal.returns-then-filling_slot-lt8
 returns-then-filling_slot-lt8 c =
     let a = c.args in
-    let i = c.filling_slot_lem.result in
+    let i = c.filling_slot.result in
     let h : has_filling a.p a.state ≡ true = sym (slot_is a.p a.state i (slot_of_lem c.before.before.before.before.before.before)) ∙ lt-ltb i 8 c.if-filling_slot-lt8.true in
     let low = (first_passed a.p a.offline.now (disk c.before.before.before.before.before.before.before.before.before.before.before.before.before.before.before.before.before.before) (memory c.before.before.before.before.before.before.before.before.before.before.before.before.before.before.before.before.before.before) a.address.0 (passed c.before.before.before.before.before.before.before)).1 in
     λ n. c.close.ensures n ∙ empty_as_close a.p a.offline.now (disk c.before.before.before.before.before.before.before.before.before.before.before.before.before.before.before.before.before.before) (memory c.before.before.before.before.before.before.before.before.before.before.before.before.before.before.before.before.before.before) a.address.0 n h low
@@ -84,14 +84,14 @@ state_is c =
 pub returns-then-not-state_ok : goal.returns-then-not-state_ok
 returns-then-not-state_ok c =
     let a = c.args in
-    let bad : state_ok a.p a.state ≡ false = sym (state_is c.before.before.before) ∙ not-true c.state_ok_holds.result c.if-not-state_ok.true-raw in
+    let bad : state_ok a.p a.state ≡ false = sym (state_is c.before.before.before) ∙ not-true c.state_ok.result c.if-not-state_ok.true-raw in
     let e = sym (empty_state_fails a.p a.offline.now (disk c.before.before.before.before.before.before.before.before.before.before.before.before.before.before.before.before.before) (memory c.before.before.before.before.before.before.before.before.before.before.before.before.before.before.before.before.before) a.address.0 (passed c.before.before.before.before.before.before) (idle-is c.before.before.before.before) bad) in
     λ n. empty_refused a.p a.offline.now (disk c.before.before.before.before.before.before.before.before.before.before.before.before.before.before.before.before.before) (memory c.before.before.before.before.before.before.before.before.before.before.before.before.before.before.before.before.before) a.address.0 n c.kept-then-not-state_ok.result (e ∙ ap (λ (x : Change). some x.answer) (sym c.kept-then-not-state_ok.ensures))
 
 pub returns : goal.returns
 returns c =
     let a = c.args in
-    let good : state_ok a.p a.state ≡ true = sym (state_is c.before.before.before) ∙ not-false c.state_ok_holds.result c.if-not-state_ok.false-raw in
+    let good : state_ok a.p a.state ≡ true = sym (state_is c.before.before.before) ∙ not-false c.state_ok.result c.if-not-state_ok.false-raw in
     let idle = idle-is c.before.before.before.before in
     let e = sym (empty_state_passes a.p a.offline.now (disk c.before.before.before.before.before.before.before.before.before.before.before.before.before.before.before.before.before) (memory c.before.before.before.before.before.before.before.before.before.before.before.before.before.before.before.before.before) a.address.0 (passed c.before.before.before.before.before.before) idle good) in
     let f = c.front_of-f in

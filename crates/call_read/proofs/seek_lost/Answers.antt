@@ -63,7 +63,7 @@ returns-then-any_hidden c =
     let offsets = c.shown_offsets in
     let zone = c.place_zone-zone in
     let block = c.place_block-s in
-    seeks_hidden a.p a.offline.now a.image.now a.pointers.now a.gone a.compact.now a.q _ c.seg_for_holds.result (block.result - 1)
+    seeks_hidden a.p a.offline.now a.image.now a.pointers.now a.gone a.compact.now a.q _ c.seg_for-segment.result (block.result - 1)
     refl (segment-is (goal.at.returns-then-any_hidden c).After-seg_for-segment) (ap (λ (x : ℕ). x - 1) block.ensures.0) offsets.new.at (offsets.ensures a.offline.now a.image.now w.image_long)
     zone.result zone.ensures.0 (sym c.any_hidden.ensures ∙ c.if-any_hidden.true) a.bytes.now
 
@@ -99,7 +99,7 @@ returns c =
     let bytes = c.block_bytes in
     let offsets = c.shown_offsets in
     let block = c.place_block-s in
-    seeks_shown a.p a.offline.now a.image.now a.pointers.now a.gone a.compact.now a.q drive.result c.seg_for_holds.result (block.result - 1)
+    seeks_shown a.p a.offline.now a.image.now a.pointers.now a.gone a.compact.now a.q drive.result c.seg_for-segment.result (block.result - 1)
     drive.ensures.0 (segment-is (goal.at.returns c).After-seg_for-segment) (ap (λ (x : ℕ). x - 1) block.ensures.0) offsets.new.at (offsets.ensures a.offline.now a.image.now w.image_long)
     w.pointers_long (sym c.any_hidden.ensures ∙ c.if-any_hidden.false) bytes.new.bytes (bytes.ensures a.image.now w.image_long)
     c.decode_record-r.result (c.decode_record-r.ensures a.offline.now)

@@ -24,7 +24,7 @@ pub returns : goal.returns
 returns c =
     let p = c.args.p in
     let bs = c.args.bytes.now in
-    let e0 = c.front_past_holds.ensures.0 in
+    let e0 = c.front_past-front.ensures.0 in
     let e1 = c.slots_past-slots.ensures.0 in
     let e2 = c.words_past-offsets.ensures.0 in
     (λ j. eqb (e0 j + e1 j + e2 j) 0) ∙ state_in_holds p bs c.requires.p_value

@@ -20,7 +20,7 @@ returns-then-is_held c =
     let l = c.loop-i in
     let st = state_of a.bytes.now in
     let rest = any (holds_at st a.address.0 a.stamp.0) (up_from (8 * (l.i + 1)) (64 - 8 * (l.i + 1))) in
-    sym (eighth_next st a.address.0 a.stamp.0 l.i (omega arith) ∙ ap (λ (x : Bool). x || rest) (sym c.is_held_lem.ensures ∙ c.if-is_held.true)) ∙ l.invariant.1
+    sym (eighth_next st a.address.0 a.stamp.0 l.i (omega arith) ∙ ap (λ (x : Bool). x || rest) (sym c.is_held.ensures ∙ c.if-is_held.true)) ∙ l.invariant.1
 
 pub overflow_add-i : goal.overflow_add-i
 overflow_add-i c = omega arith
@@ -34,7 +34,7 @@ loop-i-preserved c =
     let l = c.loop-i in
     let st = state_of a.bytes.now in
     let rest = any (holds_at st a.address.0 a.stamp.0) (up_from (8 * (l.i + 1)) (64 - 8 * (l.i + 1))) in
-    (omega arith, sym (eighth_next st a.address.0 a.stamp.0 l.i (omega arith) ∙ ap (λ (x : Bool). x || rest) (sym c.is_held_lem.ensures ∙ c.if-is_held.false)) ∙ l.invariant.1)
+    (omega arith, sym (eighth_next st a.address.0 a.stamp.0 l.i (omega arith) ∙ ap (λ (x : Bool). x || rest) (sym c.is_held.ensures ∙ c.if-is_held.false)) ∙ l.invariant.1)
 
 pub returns : goal.returns
 returns c =
