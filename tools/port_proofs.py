@@ -188,7 +188,8 @@ class Fn:
         return None
 
     def lts(self, place):
-        claims = "Tie.the-claims Reads.Pre Reads.Post" + "".join(f" goal.the-invariant-{l[0][1]} goal.the-decreases-{l[0][1]}" for l in self.entry["loops"])
+        several = " Tie.handed_clauses" if self.entry["pre"] or any(self.entry["clauses"]) else ""
+        claims = "Tie.the-claims Reads.Pre Reads.Post" + several + "".join(f" goal.the-invariant-{l[0][1]} goal.the-decreases-{l[0][1]}" for l in self.entry["loops"])
         return f"Lts.{self.oldplace[place]} {claims}"
 
     def turn(self, body):
@@ -238,6 +239,26 @@ class Fn:
         body = re.sub(r"(\b[\w']+|\))(\.)(%s)((?:\.[\w'-]+)*)" % ID, chain, body)
         for a, old in alias.items():
             body = re.sub(r"(?<![\w'.-])%s((?:\.[\w'-]+)+)" % re.escape(a), lambda m: a + self.rest(old, m.group(1)), body)
+        for old, new in self.entry["args"]:
+            o, n = old.split(), new.split()
+            if len(o) == 2 and o[0] == n[0]:
+                names_ = {m.group(1) for m in re.finditer(r"let (%s) = \S+%s in" % (ID, re.escape(o[0])), body)}
+                for v in names_:
+                    body = re.sub(r"(?<![\w'.-])%s\%s(?![\w'-])" % (re.escape(v), o[1]), v + n[1], body)
+                body = body.replace(o[0] + o[1] + ".", n[0] + n[1] + ".")
+                body = re.sub(re.escape(o[0] + o[1]) + r"(?![\w'-])", n[0] + n[1], body)
+            elif len(o) == 1:
+                body = re.sub(re.escape(o[0]) + r"(?![\w'-])", n[0], body)
+        # names for what a call ensures
+        for m in list(re.finditer(r"let (%s)(?: : [^=]*?)? = ([\w']+)\.(%s)\.ensures in" % (ID, ID), body)):
+            callee = self.callee.get(next((o for o, n in self.steps.items() if n == m.group(3)), ""))
+            ens = self.known.get(callee, ([], []))[1]
+            if len(ens) > 1:
+                def named(k, ens=ens):
+                    c = self.clause(ens, k.group(2))
+                    return k.group(1) + (c if c else k.group(2))
+
+                body = re.sub(r"(?<![\w'.-])(%s)((?:\.[\w'-]+)+)" % re.escape(m.group(1)), named, body)
         if len(self.pre) > 1:
             def pre(m):
                 c = self.clause(self.pre, m.group(2))
@@ -549,7 +570,7 @@ def convert(fn, text):
         if not m or m.group(1) != m.group(2):
             continue
         for h, place_ in over.items():
-            a = re.sub(r"(?<![\w'.-])%s c(?![\w'-])" % re.escape(h), f"{h} (goal.at.{m.group(1)} c).{place_}", a)
+            a = re.sub(r"(?<![\w'.-])%s (?:\(c\)|c(?![\w'.-]))" % re.escape(h), f"{h} (goal.at.{m.group(1)} c).{place_}", a)
         ans[k] = a
     keep = [u for u in uses if ".Statement.{" not in u and ".Tie" not in u]
     base = f"Rattle.{fn.crate}.proofs.{fn.name}"

@@ -27,11 +27,11 @@ pub overflow_add-k : goal.overflow_add-k
 overflow_add-k c =
     let args = c.args in
     let pre = c.requires in
-    omega (arith, low (c), data_count_high args.p (ranged args.p pre.p_value))
+    omega (arith, low (goal.at.overflow_add-k c).In-loop-k, data_count_high args.p (ranged args.p pre.p_value))
 
 pub loop-k-smaller : goal.loop-k-smaller
 loop-k-smaller c =
-    omega (arith, low (c))
+    omega (arith, low (goal.at.loop-k-smaller c).In-loop-k)
 
 pub loop-k-preserved : goal.loop-k-preserved
 loop-k-preserved c =
@@ -39,10 +39,10 @@ loop-k-preserved c =
     let l = c.loop-k in
     let pad = c.pad-next in
     let r = pad.ensures in (
-      omega (arith, low (c)),
+      omega (arith, low (goal.at.loop-k-preserved c).In-loop-k),
       pad_filled a.p a.i l.next l.inflight l.k l.invariant.1 ∙ ap (λ (x : Row). x.filled) (sym r.0),
       pad.auto.inflight ∙ l.invariant.2,
-      (λ j. padded_row a.p a.i (data_count a.p - (l.k + 1)) (r.0 j) (r.1 j)) ∙ pads_turn a.p a.i l.next l.inflight l.k (low (c)) ∙ l.invariant.3,
+      (λ j. padded_row a.p a.i (data_count a.p - (l.k + 1)) (r.0 j) (r.1 j)) ∙ pads_turn a.p a.i l.next l.inflight l.k (low (goal.at.loop-k-preserved c).In-loop-k) ∙ l.invariant.3,
     )
 
 pub shape_of-inflight : goal.shape_of-inflight

@@ -7,4 +7,4 @@ use Rattle.call_land_chunk.proofs.entry.Goals as goal
 pub returns : goal.returns
 returns c =
     let args = c.args in
-    sym (alone_entry args.t1 args.k)
+    sym (alone_entry args.row args.k)

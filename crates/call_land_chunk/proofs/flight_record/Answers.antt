@@ -31,7 +31,7 @@ returns-then-is_data c =
     let whole = c.whole-s in
     let m = alone a.row in
     let s = stripe_in m 0 in
-    let q : whole.result ≡ s = stripe_is (c) in
+    let q : whole.result ≡ s = stripe_is (goal.at.returns-then-is_data c).After-whole-s in
     let f : is_data a.p s a.d ≡ true = sym (is_data_holds.ensures ∙ ap (λ (x : ℕ). is_data a.p x a.d) q) ∙ if1.true in
     c.entry.ensures ∙ ap (entry_in_of m 0) (c.data_position.ensures.0 ∙ ap (λ (x : ℕ). data_position a.p x a.d) q)
     ∙ sym (flight_data a.p m 0 a.d f)
@@ -47,7 +47,7 @@ returns c =
     let whole = c.whole-s in
     let m = alone a.row in
     let s = stripe_in m 0 in
-    let q : whole.result ≡ s = stripe_is (c) in
+    let q : whole.result ≡ s = stripe_is (goal.at.returns c).After-whole-s in
     let f : is_data a.p s a.d ≡ false = sym (is_data_holds.ensures ∙ ap (λ (x : ℕ). is_data a.p x a.d) q) ∙ c.if-is_data.false in
     c.parity_entry.ensures
     ∙ sym (flight_parity a.p m 0 a.d f)

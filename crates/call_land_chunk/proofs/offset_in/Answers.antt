@@ -7,4 +7,4 @@ use Rattle.call_land_chunk.proofs.offset_in.Goals as goal
 pub returns : goal.returns
 returns c =
     let args = c.args in
-    c.whole.ensures ∙ sym (alone_offset args.t1 args.drive)
+    c.whole.ensures ∙ sym (alone_offset args.row args.drive)

@@ -131,7 +131,7 @@ loop-d-preserved c =
       l.invariant.0,
       λ off. sealing_turn a.p off (mk_disk a.image.now a.pointers.now) a.segment a.count l.d l.left (mk_disk l.image l.pointers)
           (l.invariant.1 off) if1.true q.1.0 footer-stores.result (mk_disk footer-stores.new.image footer-stores.new.pointers)
-          (left_by (goal.at.loop-d-preserved c).After-slice_known-in-loop-d-2-1 off) (ranged a.p pre.p_value) (room (c)) c.if-made.false,
+          (left_by (goal.at.loop-d-preserved c).After-slice_known-in-loop-d-2-1 off) (ranged a.p pre.p_value) (room (goal.at.loop-d-preserved c).After-footer_stores-arg-in-loop-d-1) c.if-made.false,
     )
 
 pub shape_of-image : goal.shape_of-image

@@ -46,11 +46,11 @@ winner-q-requires c =
 
 pub offset_bounds-out-k : goal.offset_bounds-out-k
 offset_bounds-out-k c =
-    omega (arith, low (c))
+    omega (arith, low (goal.at.offset_bounds-out-k c).In-loop-k)
 
 pub bounds-out-k : goal.bounds-out-k
 bounds-out-k c =
-    omega (arith, low (c))
+    omega (arith, low (goal.at.bounds-out-k c).In-loop-k)
 
 pub overflow_add-k : goal.overflow_add-k
 overflow_add-k c = omega arith
@@ -70,7 +70,7 @@ loop-k-preserved c =
     let k = l.k in
     let v : View = view_of p a.offline.now a.image.now a.pointers.now in
     let f : ℕ → ℕ = winner_of p v a.addresses.now (landed_cands p v a.segment st i) in
-    let m : k < 8 = low (c) in
+    let m : k < 8 = low (goal.at.loop-k-preserved c).In-loop-k in
     let e : entry.result.address.0 ≡ (entry_in_of st i k).address = ap (λ (r : Rec). r.address) entry.ensures in
     let g : length c.if-address-p.out ≡ 8 = elim c.if-address-p.branch [ then-address-p w ↦ ap length w.out-is ∙ length-set l.out k w.winner-q.result.0 ∙ l.invariant.2 | else-address-p w ↦ ap length w.out-is ∙ l.invariant.2 ] in
     let T : List ℕ → Type 0 = λ x. (h : ℕ) → h < k + 1 → (entry_in_of st i h).address < p.L → get_or x h 0 ≡ f (entry_in_of st i h).address in

@@ -29,7 +29,7 @@ bounds-used-g c = omega arith
 
 pub asked-t-requires : goal.asked-t-requires
 asked-t-requires c =
-    (few (c), c.requires.z_in_bounds.1)
+    (few (goal.at.asked-t-requires c).Start, c.requires.z_in_bounds.1)
 
 pub overflow_add-t : goal.overflow_add-t
 overflow_add-t c =

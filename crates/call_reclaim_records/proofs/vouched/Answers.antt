@@ -61,7 +61,7 @@ loop-d-preserved c =
     let r = ranged a.p c.requires.p_value in
     let n : c.vouched_zone-c.result ≤ length (pointed_from a.addresses.now a.p.L (place_of a.p l.d (zone_on a.segment l.d) 1) a.p.S) =
     subst (λ (x : ℕ). c.vouched_zone-c.result ≤ length (pointed_from a.addresses.now a.p.L (place_of a.p l.d x 1) a.p.S)) c.zone_on-zone.ensures c.vouched_zone-c.ensures.0 in
-    let w = drive_more a.p a.addresses.now a.segment r l.d (its_zone (c)) l.c c.vouched_zone-c.result l.invariant.1 n in
+    let w = drive_more a.p a.addresses.now a.segment r l.d (its_zone (goal.at.loop-d-preserved c).After-zone_on-zone) l.c c.vouched_zone-c.result l.invariant.1 n in
     (omega (arith, c.loop-d-test.true), w, more (goal.at.loop-d-preserved c).After-vouched_zone-c)
 
 pub returns : goal.returns

@@ -57,7 +57,7 @@ idle_run-found-requires c =
 
 pub overflow_add-at-in-loop-at : goal.overflow_add-at-in-loop-at
 overflow_add-at-in-loop-at c =
-    omega (arith, c.capacity-cap.ensures.2, c.loop-at.invariant.3, end_low (c))
+    omega (arith, c.capacity-cap.ensures.2, c.loop-at.invariant.3, end_low (goal.at.overflow_add-at-in-loop-at c).After-capacity-cap)
 
 pub overflow_add-t : goal.overflow_add-t
 overflow_add-t c =

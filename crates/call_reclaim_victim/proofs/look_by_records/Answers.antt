@@ -81,13 +81,13 @@ returns-then-n-eq0 c =
     let h : g < p.Z = omega (arith, c.if-p-g.false) in
     let t : Told = record { sure = true; zone = g; live = 0; first = record { 0 = 4294967295 }; outside = not (eqb (n.result + get_or used 1024 0) 0) } in record { zone_lt_z = (λ _. h); by_index = λ off sh _.
           looked_empty p (ranged p c.requires.p_value) (v off) a.addresses.now a.rows.now a.segments.now a.sealed.now sh (state_of a.bytes.now) g h (le.taken h) used n.ensures.taken_counted_2 le
-          c.if-n-eq0.true (chosen_of a.rows.now t) refl refl refl refl refl (told-outside (c) off sh) }
+          c.if-n-eq0.true (chosen_of a.rows.now t) refl refl refl refl refl (told-outside (goal.at.returns-then-n-eq0 c).After-count_entries-beyond off sh) }
 
 pub is_quick-requires : goal.is_quick-requires
 is_quick-requires c =
     let p = c.args.p in
     let r = ranged p c.requires.p_value in
-    let low = c.count_entries-beyond.ensures.taken_counted_2.low c.fewest-g.result (omega (arith, c.if-p-g.false, r.zones_high)) in record { p_value = c.requires.p_value; z_in_bounds = (long-used (c), omega (arith, low, addresses_all p r)) }
+    let low = c.count_entries-beyond.ensures.taken_counted_2.low c.fewest-g.result (omega (arith, c.if-p-g.false, r.zones_high)) in record { p_value = c.requires.p_value; z_in_bounds = (long-used (goal.at.is_quick-requires c).After-count_entries-beyond, omega (arith, low, addresses_all p r)) }
 
 pub returns-then-not-is_quick : goal.returns-then-not-is_quick
 returns-then-not-is_quick c = record { zone_lt_z = (λ t. absurd (not_both false t refl)); by_index = λ off sh t. absurd (not_both false t refl) }
@@ -129,4 +129,4 @@ returns c =
     let t : Told = record { sure = c.is_fewest-sure.result; zone = g; live = get_or used g 0; first = s.first; outside = not (eqb (n.result + get_or used 1024 0) 0) } in record { zone_lt_z = (λ _. h); by_index = λ off sh sure.
           let w = subst (λ (x : Seg). Vouched p (v off) st x tb (p.N * p.Z * capacity p) s) c.row-segment.ensures (c.see_segment-seen.ensures off) in
           looked_seen p (ranged p c.requires.p_value) (v off) tb a.rows.now a.segments.now a.sealed.now sh st g h (le.taken h) used n.ensures.taken_counted_2 le s w c.if-seen-n.false
-          (c.is_fewest-sure.ensures sure) (chosen_of a.rows.now t) refl refl refl refl refl (told-outside (c) off sh) }
+          (c.is_fewest-sure.ensures sure) (chosen_of a.rows.now t) refl refl refl refl refl (told-outside (goal.at.returns c).After-count_entries-beyond off sh) }
