@@ -25,18 +25,18 @@ use Rattle.call_close.proofs.close.Lts
 use Rattle.call_close.proofs.close.Reads
 use Rattle.call_close.proofs.close.Tie
 
-sized : (c : Lts.Start Tie.the-claims Reads.Pre Reads.Post) → RowsSized c.args.state
+sized : (c : Lts.Start Tie.the-claims Reads.Pre Reads.Post Tie.handed_clauses) → RowsSized c.args.state
 sized c = subst RowsSized (sym c.requires.0) (read_sized c.args.bytes.now)
 
-abbrev disk : (c : Lts.Start Tie.the-claims Reads.Pre Reads.Post) → Disk
+abbrev disk : (c : Lts.Start Tie.the-claims Reads.Pre Reads.Post Tie.handed_clauses) → Disk
 disk c = mk_disk c.args.image.now c.args.pointers.now
 
-abbrev memory : (c : Lts.Start Tie.the-claims Reads.Pre Reads.Post) → Memory
+abbrev memory : (c : Lts.Start Tie.the-claims Reads.Pre Reads.Post Tie.handed_clauses) → Memory
 memory c = mk_memory c.args.state c.args.addresses.now c.args.compact.now c.args.inflight.now
 
 -- the eighth is the state's
 slot_of_lem :
-    (c : Lts.After-filling_slot Tie.the-claims Reads.Pre Reads.Post)
+    (c : Lts.After-filling_slot Tie.the-claims Reads.Pre Reads.Post Tie.handed_clauses)
     → c.filling_slot-i.result ≡ filling_slot c.before.before.before.before.before.before.before.before.before.args.p
     c.before.before.before.before.before.before.before.before.before.args.state
 slot_of_lem c =
@@ -49,11 +49,11 @@ checks-c-requires c =
     (slot_of_lem c.before ∙ ap (filling_slot c.args.p) e, ap (λ (x : State). x.missing) e, c.requires.1)
 
 -- the refusal is that of the state
-abbrev start : Lts.After-checks Tie.the-claims Reads.Pre Reads.Post → Lts.Start Tie.the-claims Reads.Pre Reads.Post
+abbrev start : Lts.After-checks Tie.the-claims Reads.Pre Reads.Post Tie.handed_clauses → Lts.Start Tie.the-claims Reads.Pre Reads.Post Tie.handed_clauses
 start c =
     c.before.before.before.before.before.before.before.before.before.before
 
-checked-is : (c : Lts.After-checks Tie.the-claims Reads.Pre Reads.Post) → checked c.checks-c.result ≡ close_refusal (start c).args.p (start c).args.offline.now (disk (start c)) (memory (start c))
+checked-is : (c : Lts.After-checks Tie.the-claims Reads.Pre Reads.Post Tie.handed_clauses) → checked c.checks-c.result ≡ close_refusal (start c).args.p (start c).args.offline.now (disk (start c)) (memory (start c))
 checked-is c =
     let s = start c in
     let a = s.args in
@@ -67,7 +67,7 @@ returns-in-Fail c =
     (sym (checked-is c.before.before.before.before.before) ∙ ap checked q.1 ∙ ap (λ (x : Change). some x.answer) (sym c.kept.ensures)) n
 
 -- no check holds
-passed : (c : Lts.After-enum_told Tie.the-claims Reads.Pre Reads.Post)
+passed : (c : Lts.After-enum_told Tie.the-claims Reads.Pre Reads.Post Tie.handed_clauses)
     → close_refusal (start c.before.before).args.p (start c.before.before).args.offline.now (disk (start c.before.before)) (memory (start c.before.before)) ≡ none
 passed c =
     sym (checked-is c.before.before) ∙ ap checked c.enum_told-1.given.1
@@ -77,7 +77,7 @@ row_at-row-requires c =
     (c.requires.1, slot_low c.args.p c.args.state c.filling_slot-i.result (slot_of_lem c.before.before.before.before) (close_ready c.args.p c.args.offline.now (disk c.before.before.before.before.before.before.before.before.before.before.before.before.before) (memory c.before.before.before.before.before.before.before.before.before.before.before.before.before) (passed c.before)).filling)
 
 -- the row is the state's
-row_is : (c : Lts.After-row_at Tie.the-claims Reads.Pre Reads.Post) → c.row_at-row.result ≡ slot_row (start c.before.before.before).args.state c.before.before.before.before.filling_slot-i.result
+row_is : (c : Lts.After-row_at Tie.the-claims Reads.Pre Reads.Post Tie.handed_clauses) → c.row_at-row.result ≡ slot_row (start c.before.before.before).args.state c.before.before.before.before.filling_slot-i.result
 row_is c =
     let i = c.before.before.before.before.filling_slot-i.result in
     c.row_at-row.ensures ∙ ap (λ (x : State). slot_row x i) (sym c.before.before.before.before.before.before.before.before.before.before.before.before.before.requires.0)

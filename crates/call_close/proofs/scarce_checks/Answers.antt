@@ -16,11 +16,11 @@ use Rattle.call_close.proofs.scarce_checks.Lts
 use Rattle.call_close.proofs.scarce_checks.Reads
 use Rattle.call_close.proofs.scarce_checks.Tie
 
-abbrev view : (c : Lts.Start Tie.the-claims Reads.Pre Reads.Post) → View
+abbrev view : (c : Lts.Start Tie.the-claims Reads.Pre Reads.Post Tie.handed_clauses) → View
 view c = view_of c.args.p c.args.offline.now c.args.image.now c.args.pointers.now
 
 -- a block of the segment is left
-abbrev left : (c : Lts.Start Tie.the-claims Reads.Pre Reads.Post) → Bool
+abbrev left : (c : Lts.Start Tie.the-claims Reads.Pre Reads.Post Tie.handed_clauses) → Bool
 left c =
     let a = c.args in
     not (is_nil (idle a.p (view c) (state_of a.bytes.now) (victim a.p (view c) a.addresses.now)))
@@ -33,7 +33,7 @@ returns-then-seen c =
     left_fails a.p (view c.before.before.before.before.before.before.before.before.before.before) (state_of a.bytes.now) a.addresses.now (left c.before.before.before.before.before.before.before.before.before.before) e
 
 -- none is
-nothing_left : (c : Lts.Else1 Tie.the-claims Reads.Pre Reads.Post) → left c.before.before.before.before.before.before.before.before.before ≡ false
+nothing_left : (c : Lts.Else1 Tie.the-claims Reads.Pre Reads.Post Tie.handed_clauses) → left c.before.before.before.before.before.before.before.before.before ≡ false
 nothing_left c =
     let look = c.before.before.before.look-seen in
     ap not (look.ensures.none_idle ∙ eq-eqb look.result.first.0 never_place c.if-seen.false)

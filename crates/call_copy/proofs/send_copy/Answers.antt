@@ -23,19 +23,19 @@ use Rattle.call_copy.proofs.send_copy.Lts
 use Rattle.call_copy.proofs.send_copy.Reads
 use Rattle.call_copy.proofs.send_copy.Tie
 
-serial_fits : (c : Lts.Start Tie.the-claims Reads.Pre Reads.Post) → c.args.f.serial.0 ≤ last_count
+serial_fits : (c : Lts.Start Tie.the-claims Reads.Pre Reads.Post Tie.handed_clauses) → c.args.f.serial.0 ≤ last_count
 serial_fits c = omega arith
 
-abbrev state : (c : Lts.Start Tie.the-claims Reads.Pre Reads.Post) → State
+abbrev state : (c : Lts.Start Tie.the-claims Reads.Pre Reads.Post Tie.handed_clauses) → State
 state c = state_of c.args.bytes.now
 
-sized : (c : Lts.Start Tie.the-claims Reads.Pre Reads.Post) → RowsSized (state c)
+sized : (c : Lts.Start Tie.the-claims Reads.Pre Reads.Post Tie.handed_clauses) → RowsSized (state c)
 sized c = read_sized c.args.bytes.now
 
-abbrev disk : (c : Lts.Start Tie.the-claims Reads.Pre Reads.Post) → Disk
+abbrev disk : (c : Lts.Start Tie.the-claims Reads.Pre Reads.Post Tie.handed_clauses) → Disk
 disk c = mk_disk c.args.image.now c.args.pointers.now
 
-abbrev memory : (c : Lts.Start Tie.the-claims Reads.Pre Reads.Post) → Memory
+abbrev memory : (c : Lts.Start Tie.the-claims Reads.Pre Reads.Post Tie.handed_clauses) → Memory
 memory c = mk_memory (state c) c.args.addresses.now c.args.compact.now c.args.inflight.now
 
 pub open-o-requires : goal.open-o-requires
@@ -46,15 +46,15 @@ open-o-requires c =
                 lt_of_le-ne (serial_fits c.before.before.before.before.before.before.before.before.before.before.before) (λ q. r.serial_left (ap (λ (x : Aim). x.opens) (sym aimed) ∙ e) (ap (λ (x : Front). x.serial.0) (sym c.requires.f_value.0) ∙ q)); nonzero = λ e. r.empties (ap (λ (x : Aim). x.opens) (sym aimed) ∙ e) }
 
 -- the drives with the segment open
-abbrev after : (c : Lts.After-open Tie.the-claims Reads.Pre Reads.Post) → Disk
+abbrev after : (c : Lts.After-open Tie.the-claims Reads.Pre Reads.Post Tie.handed_clauses) → Disk
 after c = mk_disk c.«open».new.1.0 c.«open».new.1.1.0
 
-abbrev start : (c : Lts.After-open Tie.the-claims Reads.Pre Reads.Post) → Lts.Start Tie.the-claims Reads.Pre Reads.Post
+abbrev start : (c : Lts.After-open Tie.the-claims Reads.Pre Reads.Post Tie.handed_clauses) → Lts.Start Tie.the-claims Reads.Pre Reads.Post Tie.handed_clauses
 start c =
     c.before.before.before.before.before.before.before.before.before.before.before
 
 -- and the opening is one of the state
-opened : (c : Lts.After-open Tie.the-claims Reads.Pre Reads.Post) → OpeningStores (start c).args.p (start c).args.offline.now (state (start c)) (start c).args.count (disk (start c)) c.«open».result (after c)
+opened : (c : Lts.After-open Tie.the-claims Reads.Pre Reads.Post Tie.handed_clauses) → OpeningStores (start c).args.p (start c).args.offline.now (state (start c)) (start c).args.count (disk (start c)) c.«open».result (after c)
 opened c =
     let s = start c in
     let a = s.args in

@@ -19,13 +19,13 @@ use Rattle.call_filling.proofs.must_wait.Lts
 use Rattle.call_filling.proofs.must_wait.Reads
 use Rattle.call_filling.proofs.must_wait.Tie
 
-filling_is : (c : Lts.Start Tie.the-claims Reads.Pre Reads.Post) → not c.args.a.begins ≡ true → has_filling c.args.p (behind c.args.f) ≡ true
+filling_is : (c : Lts.Start Tie.the-claims Reads.Pre Reads.Post Tie.handed_clauses) → not c.args.a.begins ≡ true → has_filling c.args.p (behind c.args.f) ≡ true
 filling_is c e = not-false (has_filling c.args.p (behind c.args.f)) (ap (λ (x : Aim). x.begins) (sym c.requires.a_value) ∙ not-true c.args.a.begins e)
 
-filling-not : (c : Lts.Start Tie.the-claims Reads.Pre Reads.Post) → not c.args.a.begins ≡ false → has_filling c.args.p (behind c.args.f) ≡ false
+filling-not : (c : Lts.Start Tie.the-claims Reads.Pre Reads.Post Tie.handed_clauses) → not c.args.a.begins ≡ false → has_filling c.args.p (behind c.args.f) ≡ false
 filling-not c e = not-true (has_filling c.args.p (behind c.args.f)) (ap (λ (x : Aim). x.begins) (sym c.requires.a_value) ∙ not-false c.args.a.begins e)
 
-opens_is : (c : Lts.Start Tie.the-claims Reads.Pre Reads.Post) → not c.args.a.begins ≡ false → must_open c.args.p (behind c.args.f) ≡ c.args.a.opens
+opens_is : (c : Lts.Start Tie.the-claims Reads.Pre Reads.Post Tie.handed_clauses) → not c.args.a.begins ≡ false → must_open c.args.p (behind c.args.f) ≡ c.args.a.opens
 unfolding opens
 opens_is c e = ap (λ (x : Bool). not x && must_open c.args.p (behind c.args.f)) (sym (filling-not c e)) ∙ ap (λ (x : Aim). x.opens) (sym c.requires.a_value)
 

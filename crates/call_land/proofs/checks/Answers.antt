@@ -23,14 +23,14 @@ use Rattle.call_land.proofs.checks.Lts
 use Rattle.call_land.proofs.checks.Reads
 use Rattle.call_land.proofs.checks.Tie
 
-abbrev diskIn : Lts.Start Tie.the-claims Reads.Pre Reads.Post → Disk
+abbrev diskIn : Lts.Start Tie.the-claims Reads.Pre Reads.Post Tie.handed_clauses → Disk
 diskIn s = mk_disk s.args.image.now s.args.pointers.now
 
-abbrev memoryIn : Lts.Start Tie.the-claims Reads.Pre Reads.Post → Memory
+abbrev memoryIn : Lts.Start Tie.the-claims Reads.Pre Reads.Post Tie.handed_clauses → Memory
 memoryIn s = mk_memory (state_of s.args.bytes.now) s.args.addresses.now s.args.compact.now s.args.inflight.now
 
 -- the first refusal from the i-th check on
-abbrev from : Lts.Start Tie.the-claims Reads.Pre Reads.Post → ℕ → Opt Answer
+abbrev from : Lts.Start Tie.the-claims Reads.Pre Reads.Post Tie.handed_clauses → ℕ → Opt Answer
 from s i = land_from s.args.p s.args.offline.now (diskIn s) (memoryIn s) s.args.drive s.args.stripe i
 
 pub returns-then-not-in_range : goal.returns-then-not-in_range
@@ -51,8 +51,8 @@ returns-then-not-lent_ok c =
           ∙ land_range_passes c.args.p c.args.offline.now (diskIn c.before.before.before.before.before.before.before.before.before.before.before.before.before) (memoryIn c.before.before.before.before.before.before.before.before.before.before.before.before.before) c.args.drive c.args.stripe
           (sym in_range_holds.ensures ∙ not-false in_range_holds.result c.if-not-in_range.false-raw); target_at = λ e. some_none (sym c.refused-then-not-lent_ok.ensures ∙ e) }
 
-module _ (c : Lts.Else2 Tie.the-claims Reads.Pre Reads.Post) where
-  abbrev begun : Lts.Start Tie.the-claims Reads.Pre Reads.Post
+module _ (c : Lts.Else2 Tie.the-claims Reads.Pre Reads.Post Tie.handed_clauses) where
+  abbrev begun : Lts.Start Tie.the-claims Reads.Pre Reads.Post Tie.handed_clauses
   begun = c.before.before.before.before.before.before.before.before.before.before.before
 
   -- 1 and 2 do not hold
@@ -79,8 +79,8 @@ returns-then-rule-ne0 c =
           ∙ land_list_fails s.args.p s.args.offline.now (diskIn s) (memoryIn s) s.args.drive s.args.stripe
           list-rule.result list-rule.ensures c.if-rule-ne0.true ∙ fitting c.before.before.before.before; target_at = λ e. some_none (sym c.refused-then-rule-ne0.ensures ∙ e) }
 
-module _ (c : Lts.Else3 Tie.the-claims Reads.Pre Reads.Post) where
-  abbrev listed : Lts.Start Tie.the-claims Reads.Pre Reads.Post
+module _ (c : Lts.Else3 Tie.the-claims Reads.Pre Reads.Post Tie.handed_clauses) where
+  abbrev listed : Lts.Start Tie.the-claims Reads.Pre Reads.Post Tie.handed_clauses
   listed = begun c.before.before
 
   -- nor do 10 and the narrow 1
@@ -96,7 +96,7 @@ returns-then-missing-ne0 c =
           ∙ land_missing_fails s.args.p s.args.offline.now (diskIn s) (memoryIn s) s.args.drive s.args.stripe
           (λ e. c.if-missing-ne0.true (s.requires.missing_value.0 ∙ e)) ∙ enough c.before.before.before; target_at = λ e. some_none (sym c.refused-then-missing-ne0.ensures ∙ e) }
 
-module _ (c : Lts.Else4 Tie.the-claims Reads.Pre Reads.Post) where
+module _ (c : Lts.Else4 Tie.the-claims Reads.Pre Reads.Post Tie.handed_clauses) where
   -- nor does 3
   healthy : from (listed c.before) 5 ≡ from (listed c.before) 0
   healthy =
@@ -106,8 +106,8 @@ module _ (c : Lts.Else4 Tie.the-claims Reads.Pre Reads.Post) where
 pub waiting-requires : goal.waiting-requires
 waiting-requires c = ranged c.before.before.before.before.before
 
-module _ (c : Lts.After-waiting Tie.the-claims Reads.Pre Reads.Post) where
-  abbrev asked : Lts.Start Tie.the-claims Reads.Pre Reads.Post
+module _ (c : Lts.After-waiting Tie.the-claims Reads.Pre Reads.Post Tie.handed_clauses) where
+  abbrev asked : Lts.Start Tie.the-claims Reads.Pre Reads.Post Tie.handed_clauses
   asked = listed c.before.before.before
 
   -- what the row says is what the definition says
@@ -122,7 +122,7 @@ returns-then-not-waiting c =
           ∙ waiting_fails s.args.p s.args.offline.now (diskIn s) (memoryIn s) s.args.drive s.args.stripe
           (sym (waits-is c.before.before.before) ∙ not-true c.waiting.result c.if-not-waiting.true-raw) ∙ healthy c.before.before.before.before.before; target_at = λ e. some_none (sym c.refused-then-not-waiting.ensures ∙ e) }
 
-module _ (c : Lts.Else5 Tie.the-claims Reads.Pre Reads.Post) where
+module _ (c : Lts.Else5 Tie.the-claims Reads.Pre Reads.Post Tie.handed_clauses) where
   -- nor does 5
   waits : waiting (asked c.before).args.p (memoryIn (asked c.before)).state (asked c.before).args.drive (asked c.before).args.stripe ≡ true
   waits = sym (waits-is c.before) ∙ not-false c.before.waiting.result c.if-not-waiting.false-raw
@@ -142,8 +142,8 @@ returns-then-not-state_ok c =
           ∙ land_state_fails s.args.p s.args.offline.now (diskIn s) (memoryIn s) s.args.drive s.args.stripe
           (sym state_ok_holds.ensures ∙ not-true state_ok_holds.result c.if-not-state_ok.true-raw) ∙ waited c.before.before.before.before; target_at = λ e. some_none (sym c.refused-then-not-state_ok.ensures ∙ e) }
 
-module _ (c : Lts.Else6 Tie.the-claims Reads.Pre Reads.Post) where
-  abbrev done : Lts.Start Tie.the-claims Reads.Pre Reads.Post
+module _ (c : Lts.Else6 Tie.the-claims Reads.Pre Reads.Post Tie.handed_clauses) where
+  abbrev done : Lts.Start Tie.the-claims Reads.Pre Reads.Post Tie.handed_clauses
   done = asked c.before.before.before
 
   -- nor does 9, as far as the state's numbers go

@@ -30,20 +30,20 @@ checks-sight-requires c =
     let e = c.requires.0 in record { looks = subst (λ (x : State). Looks a.p x a.drive a.stripe l.result) e l.ensures; missing_value = (ap (λ (x : State). x.missing) e, c.requires.1, ap (λ (x : State). x.opened) e) }
 
 -- the refusal is that of the state
-abbrev start : Lts.After-checks Tie.the-claims Reads.Pre Reads.Post → Lts.Start Tie.the-claims Reads.Pre Reads.Post
+abbrev start : Lts.After-checks Tie.the-claims Reads.Pre Reads.Post Tie.handed_clauses → Lts.Start Tie.the-claims Reads.Pre Reads.Post Tie.handed_clauses
 start c =
     c.before.before.before.before.before.before.before.before.before.before
 
-abbrev disk : Lts.Start Tie.the-claims Reads.Pre Reads.Post → Disk
+abbrev disk : Lts.Start Tie.the-claims Reads.Pre Reads.Post Tie.handed_clauses → Disk
 disk s = mk_disk s.args.image.now s.args.pointers.now
 
-abbrev memory : Lts.Start Tie.the-claims Reads.Pre Reads.Post → State → Memory
+abbrev memory : Lts.Start Tie.the-claims Reads.Pre Reads.Post Tie.handed_clauses → State → Memory
 memory s x = mk_memory x s.args.addresses.now s.args.compact.now s.args.inflight.now
 
-abbrev refuses : Lts.Start Tie.the-claims Reads.Pre Reads.Post → State → Opt Answer
+abbrev refuses : Lts.Start Tie.the-claims Reads.Pre Reads.Post Tie.handed_clauses → State → Opt Answer
 refuses s x = land_refusal s.args.p s.args.offline.now (disk s) (memory s x) s.args.drive s.args.stripe
 
-checked-is : (c : Lts.After-checks Tie.the-claims Reads.Pre Reads.Post) → checked c.checks-sight.result.check ≡ refuses (start c) (start c).args.state
+checked-is : (c : Lts.After-checks Tie.the-claims Reads.Pre Reads.Post Tie.handed_clauses) → checked c.checks-sight.result.check ≡ refuses (start c) (start c).args.state
 checked-is c = subst (λ (x : State). checked c.checks-sight.result.check ≡ refuses (start c) x) (sym (start c).requires.0) c.checks-sight.ensures.check_value
 
 pub returns-in-Fail : goal.returns-in-Fail
@@ -55,11 +55,11 @@ returns-in-Fail c =
     (sym (checked-is c.before.before.before.before.before) ∙ ap checked q.1 ∙ ap some e)
 
 -- the arrays have their lengths
-sized : (c : Lts.Start Tie.the-claims Reads.Pre Reads.Post) → RowsSized c.args.state
+sized : (c : Lts.Start Tie.the-claims Reads.Pre Reads.Post Tie.handed_clauses) → RowsSized c.args.state
 sized c = subst RowsSized (sym c.requires.0) (read_sized c.args.bytes.now)
 
-module _ (c : Lts.After-enum_told Tie.the-claims Reads.Pre Reads.Post) where
-  abbrev begun : Lts.Start Tie.the-claims Reads.Pre Reads.Post
+module _ (c : Lts.After-enum_told Tie.the-claims Reads.Pre Reads.Post Tie.handed_clauses) where
+  abbrev begun : Lts.Start Tie.the-claims Reads.Pre Reads.Post Tie.handed_clauses
   begun = start c.before.before
 
   -- the state, looked at and not refused

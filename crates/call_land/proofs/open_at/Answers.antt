@@ -22,7 +22,7 @@ returns c =
     let a = c.args in
     let v : View = view_of a.p a.offline.now a.image.now a.pointers.now in
     let y = c.open_zone-zone.ensures in
-    let z : OpenedOn a.p v a.drive a.opened c.open_zone-zone.result = (y.0, y.1.0, y.1.1) in record { st_value = z.0; target_at = λ st e x. record {
+    let z : OpenedOn a.p v a.drive a.opened c.open_zone-zone.result = (y.st_value, y.value, y.upper_bound) in record { st_value = z.0; target_at = λ st e x. record {
           some = z.0 st e ∙ ne_eqb c.open_zone-zone.result a.p.Z x;
           zone = z.1 st e (lt_of_le-ne z.2 x);
           whole = λ b. clash b c.if-done.false;

@@ -20,8 +20,8 @@ pub open_zone-first-requires : goal.open_zone-first-requires
 open_zone-first-requires c =
     let q = c.requires in record { p_value = q.p_value; whole = (q.whole.0, q.whole.1, omega (arith, (ranged c.args.p q.p_value).drives_low)) }
 
-module _ (c : Lts.After-open_zone Tie.the-claims Reads.Pre Reads.Post) where
-  abbrev begun : Lts.Start Tie.the-claims Reads.Pre Reads.Post
+module _ (c : Lts.After-open_zone Tie.the-claims Reads.Pre Reads.Post Tie.handed_clauses) where
+  abbrev begun : Lts.Start Tie.the-claims Reads.Pre Reads.Post Tie.handed_clauses
   begun = c.before.before.before.before
 
   abbrev view : View
@@ -29,7 +29,7 @@ module _ (c : Lts.After-open_zone Tie.the-claims Reads.Pre Reads.Post) where
 
   -- the zone on drive 0, or Z
   said : OpenedOn begun.args.p view 0 begun.args.opened c.open_zone-first.result
-  said = let z = c.open_zone-first.ensures in (z.0, z.1.0, z.1.1)
+  said = let z = c.open_zone-first.ensures in (z.st_value, z.value, z.upper_bound)
 
   module _ (some : c.open_zone-first.result ≡ begun.args.p.Z → ⊥) where
     remains : serial_remains begun.args.p view 0 begun.args.opened ≡ true

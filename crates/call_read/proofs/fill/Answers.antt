@@ -25,35 +25,35 @@ use Rattle.call_read.proofs.fill.Lts
 use Rattle.call_read.proofs.fill.Reads
 use Rattle.call_read.proofs.fill.Tie
 
-abbrev disk : Lts.Start Tie.the-claims Reads.Pre Reads.Post → Disk
+abbrev disk : Lts.Start Tie.the-claims Reads.Pre Reads.Post Tie.handed_clauses → Disk
 disk s = mk_disk s.args.image.now s.args.pointers.now
 
-abbrev memory : Lts.Start Tie.the-claims Reads.Pre Reads.Post → Memory
+abbrev memory : Lts.Start Tie.the-claims Reads.Pre Reads.Post Tie.handed_clauses → Memory
 memory s = mk_memory (state_of s.args.state.now) s.args.addresses.now s.args.compact.now s.args.inflight.now
 
-abbrev start : Lts.After-seek Tie.the-claims Reads.Pre Reads.Post → Lts.Start Tie.the-claims Reads.Pre Reads.Post
+abbrev start : Lts.After-seek Tie.the-claims Reads.Pre Reads.Post Tie.handed_clauses → Lts.Start Tie.the-claims Reads.Pre Reads.Post Tie.handed_clauses
 start c = c.before.before.before.before.before.before.before.before.before.before
 
 -- the bytes that `seek` leaves
-abbrev starts : Lts.After-seek Tie.the-claims Reads.Pre Reads.Post → List ℕ
+abbrev starts : Lts.After-seek Tie.the-claims Reads.Pre Reads.Post Tie.handed_clauses → List ℕ
 starts c = c.seek-sought.new.bytes
 
 -- what was sought, by its variant
-told : (c : Lts.After-seek Tie.the-claims Reads.Pre Reads.Post) (x : Sought) → c.seek-sought.result ≡ x
+told : (c : Lts.After-seek Tie.the-claims Reads.Pre Reads.Post Tie.handed_clauses) (x : Sought) → c.seek-sought.result ≡ x
     → SoughtBy (start c).args.p (start c).args.offline.now (disk (start c)) (memory (start c)) (start c).args.address.0 (length (start c).args.block.now) x (starts c)
 told c x e =
     let s = start c in
     subst (λ (y : Sought). SoughtBy s.args.p s.args.offline.now (disk s) (memory s) s.args.address.0 (length s.args.block.now) y (starts c)) e c.seek-sought.ensures
 
 -- no check refuses it
-ready : (c : Lts.After-seek Tie.the-claims Reads.Pre Reads.Post) (x : Sought) → c.seek-sought.result ≡ x → refused_by x ≡ none
+ready : (c : Lts.After-seek Tie.the-claims Reads.Pre Reads.Post Tie.handed_clauses) (x : Sought) → c.seek-sought.result ≡ x → refused_by x ≡ none
     → ReadReady (start c).args.p (start c).args.offline.now (disk (start c)) (memory (start c)) (start c).args.address.0 (length (start c).args.block.now)
 ready c x e n =
     let s = start c in
     read_ready s.args.p s.args.offline.now (disk s) (memory s) s.args.address.0 (length s.args.block.now) (sym (told c x e).0 ∙ n)
 
 -- what the call leaves, by the variant and the block
-left : (c : Lts.After-seek Tie.the-claims Reads.Pre Reads.Post) (x : Sought) (b : List ℕ) → c.seek-sought.result ≡ x
+left : (c : Lts.After-seek Tie.the-claims Reads.Pre Reads.Post Tie.handed_clauses) (x : Sought) (b : List ℕ) → c.seek-sought.result ≡ x
     → Fills (start c).args.p (start c).args.offline.now (disk (start c)) (memory (start c)) (start c).args.address.0 (start c).args.block.now x (starts c) b
     → mk_after (fill_answer x) (disk (start c)) (memory (start c)) b
     ≡ call_disk (start c).args.p (start c).args.offline.now (disk (start c)) (memory (start c)) (fill (start c).args.address.0 (start c).args.block.now)

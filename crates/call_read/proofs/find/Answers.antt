@@ -20,17 +20,17 @@ use Rattle.call_read.proofs.find.Lts
 use Rattle.call_read.proofs.find.Reads
 use Rattle.call_read.proofs.find.Tie
 
-abbrev disk : Lts.Start Tie.the-claims Reads.Pre Reads.Post → Disk
+abbrev disk : Lts.Start Tie.the-claims Reads.Pre Reads.Post Tie.handed_clauses → Disk
 disk s = mk_disk s.args.image.now s.args.pointers.now
 
-abbrev memory : Lts.Start Tie.the-claims Reads.Pre Reads.Post → Memory
+abbrev memory : Lts.Start Tie.the-claims Reads.Pre Reads.Post Tie.handed_clauses → Memory
 memory s = mk_memory (state_of s.args.state.now) s.args.addresses.now s.args.compact.now s.args.inflight.now
 
-abbrev start : Lts.After-seek Tie.the-claims Reads.Pre Reads.Post → Lts.Start Tie.the-claims Reads.Pre Reads.Post
+abbrev start : Lts.After-seek Tie.the-claims Reads.Pre Reads.Post Tie.handed_clauses → Lts.Start Tie.the-claims Reads.Pre Reads.Post Tie.handed_clauses
 start c = c.before.before.before.before.before.before.before.before.before
 
 -- the answer of what was sought
-left : (c : Lts.After-seek Tie.the-claims Reads.Pre Reads.Post) (x : Sought) → c.seek-sought.result ≡ x
+left : (c : Lts.After-seek Tie.the-claims Reads.Pre Reads.Post Tie.handed_clauses) (x : Sought) → c.seek-sought.result ≡ x
     → mk_after (find_answer (start c).args.p x) (disk (start c)) (memory (start c)) []
     ≡ call_disk (start c).args.p (start c).args.offline.now (disk (start c)) (memory (start c)) (read (start c).args.address.0)
 left c x e =

@@ -22,10 +22,10 @@ use Rattle.call_rebuild.proofs.checks.Lts
 use Rattle.call_rebuild.proofs.checks.Reads
 use Rattle.call_rebuild.proofs.checks.Tie
 
-abbrev diskIn : Lts.Start Tie.the-claims Reads.Pre Reads.Post → Disk
+abbrev diskIn : Lts.Start Tie.the-claims Reads.Pre Reads.Post Tie.handed_clauses → Disk
 diskIn s = mk_disk s.args.image.now s.args.pointers.now
 
-abbrev memoryIn : Lts.Start Tie.the-claims Reads.Pre Reads.Post → Memory
+abbrev memoryIn : Lts.Start Tie.the-claims Reads.Pre Reads.Post Tie.handed_clauses → Memory
 memoryIn s = mk_memory s.args.state s.args.addresses.now s.args.compact.now s.args.inflight.now
 
 pub returns-then-bad_numbers : goal.returns-then-bad_numbers
@@ -44,8 +44,8 @@ returns-then-not-lent_ok c =
     (sym (c.lent_ok.ensures c.args.state) ∙ not-true c.lent_ok.result c.if-not-lent_ok.true-raw)
 
 -- 1 and 2 do not hold
-module _ (c : Lts.Else2 Tie.the-claims Reads.Pre Reads.Post) where
-  abbrev begun : Lts.Start Tie.the-claims Reads.Pre Reads.Post
+module _ (c : Lts.Else2 Tie.the-claims Reads.Pre Reads.Post Tie.handed_clauses) where
+  abbrev begun : Lts.Start Tie.the-claims Reads.Pre Reads.Post Tie.handed_clauses
   begun = c.before.before.before.before.before.before.before.before.before.before
 
   numbered : bad_numbers begun.args.p begun.args.state.missing begun.args.drive ≡ false
@@ -71,7 +71,7 @@ pointer_fault-z-requires c =
 
 -- the zone that is found is the first of those above
 found :
-    (c : Lts.After-pointer_fault Tie.the-claims Reads.Pre Reads.Post)
+    (c : Lts.After-pointer_fault Tie.the-claims Reads.Pre Reads.Post Tie.handed_clauses)
     → let s = begun c.before.before.before.before in
     c.pointer_fault-z.result ≡ first_or s.args.p.Z (pointer_faults s.args.p (seen s.args.p s.args.offline.now (diskIn s)) (named s.args.drive))
 found c =

@@ -27,17 +27,17 @@ use Rattle.call_rebuild.proofs.examined.Lts
 use Rattle.call_rebuild.proofs.examined.Reads
 use Rattle.call_rebuild.proofs.examined.Tie
 
-abbrev diskIn : Lts.Start Tie.the-claims Reads.Pre Reads.Post → Disk
+abbrev diskIn : Lts.Start Tie.the-claims Reads.Pre Reads.Post Tie.handed_clauses → Disk
 diskIn s = mk_disk s.args.image.now s.args.pointers.now
 
-abbrev memoryIn : Lts.Start Tie.the-claims Reads.Pre Reads.Post → Memory
+abbrev memoryIn : Lts.Start Tie.the-claims Reads.Pre Reads.Post Tie.handed_clauses → Memory
 memoryIn s = mk_memory s.args.state s.args.addresses.now s.args.compact.now s.args.inflight.now
 
-ready : (s : Lts.Start Tie.the-claims Reads.Pre Reads.Post) → RebuildReady s.args.p s.args.offline.now (diskIn s) (memoryIn s) s.args.drive
+ready : (s : Lts.Start Tie.the-claims Reads.Pre Reads.Post Tie.handed_clauses) → RebuildReady s.args.p s.args.offline.now (diskIn s) (memoryIn s) s.args.drive
 ready s = rebuild_ready s.args.p s.args.offline.now (diskIn s) (memoryIn s) s.args.drive s.requires
 
 -- some drive is present
-some-here : (s : Lts.Start Tie.the-claims Reads.Pre Reads.Post) (gone : ℕ) → gone ≡ named s.args.drive → Here s.args.p gone
+some-here : (s : Lts.Start Tie.the-claims Reads.Pre Reads.Post Tie.handed_clauses) (gone : ℕ) → gone ≡ named s.args.drive → Here s.args.p gone
 some-here s gone e = subst (Here s.args.p) (sym e) (named_here s.args.p (ranged s.args.p (ready s).in_range_holds) s.args.drive (ready s).drive_low)
 
 pub gather-requires : goal.gather-requires
@@ -58,10 +58,10 @@ examine-e-requires c =
           whole_of c.args.p c.args.offline.now (diskIn c.before.before.before.before.before.before.before.before.before.before.before.before.before.before.before.before.before.before.before.before) (memoryIn c.before.before.before.before.before.before.before.before.before.before.before.before.before.before.before.before.before.before.before.before) rd.lent,
           (lengths_of c.args.p c.args.offline.now (diskIn c.before.before.before.before.before.before.before.before.before.before.before.before.before.before.before.before.before.before.before.before) (memoryIn c.before.before.before.before.before.before.before.before.before.before.before.before.before.before.before.before.before.before.before.before) rd.lent).offline_ok,
           some-here c.before.before.before.before.before.before.before.before.before.before.before.before.before.before.before.before.before.before.before.before only-drive.result (only-drive.ensures ∙ only-named c.args.drive),
-        ); keeps = (g.1.1.1, g.0, g.1.0) }
+        ); keeps = (g.keeps, g.serials, g.flags_rows) }
 
 -- what the examination says, of the named drive
-said : (c : Lts.After-examine Tie.the-claims Reads.Pre Reads.Post)
+said : (c : Lts.After-examine Tie.the-claims Reads.Pre Reads.Post Tie.handed_clauses)
     → let v = seen c.before.before.before.before.before.before.before.before.before.before.before.before.before.before.before.before.before.before.before.before.args.p c.before.before.before.before.before.before.before.before.before.before.before.before.before.before.before.before.before.before.before.before.args.offline.now (diskIn c.before.before.before.before.before.before.before.before.before.before.before.before.before.before.before.before.before.before.before.before) in
     Examined c.before.before.before.before.before.before.before.before.before.before.before.before.before.before.before.before.before.before.before.before.args.p v (named c.before.before.before.before.before.before.before.before.before.before.before.before.before.before.before.before.before.before.before.before.args.drive) (segments c.before.before.before.before.before.before.before.before.before.before.before.before.before.before.before.before.before.before.before.before.args.p v (named c.before.before.before.before.before.before.before.before.before.before.before.before.before.before.before.before.before.before.before.before.args.drive)) c.examine-e.result
 said c =

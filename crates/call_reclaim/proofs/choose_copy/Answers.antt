@@ -28,31 +28,31 @@ use Rattle.call_reclaim.proofs.choose_copy.Lts
 use Rattle.call_reclaim.proofs.choose_copy.Reads
 use Rattle.call_reclaim.proofs.choose_copy.Tie
 
-abbrev view : (c : Lts.Start Tie.the-claims Reads.Pre Reads.Post) → View
+abbrev view : (c : Lts.Start Tie.the-claims Reads.Pre Reads.Post Tie.handed_clauses) → View
 view c = view_of c.args.p c.args.offline.now c.args.image.now c.args.pointers.now
 
-abbrev state : (c : Lts.Start Tie.the-claims Reads.Pre Reads.Post) → State
+abbrev state : (c : Lts.Start Tie.the-claims Reads.Pre Reads.Post Tie.handed_clauses) → State
 state c = state_of c.args.bytes.now
 
-abbrev taken : (c : Lts.Start Tie.the-claims Reads.Pre Reads.Post) → Opt Victim
+abbrev taken : (c : Lts.Start Tie.the-claims Reads.Pre Reads.Post Tie.handed_clauses) → Opt Victim
 taken c = victim c.args.p (view c) c.args.addresses.now
 
 -- there is a segment, with live blocks
-some-taken : (c : Lts.Start Tie.the-claims Reads.Pre Reads.Post) → is_none (taken c) ≡ false
+some-taken : (c : Lts.Start Tie.the-claims Reads.Pre Reads.Post Tie.handed_clauses) → is_none (taken c) ≡ false
 some-taken c =
     let l = c.requires.looked in
     l.0.nobody ∙ lt-leb c.args.p.Z c.args.seen.zone l.1
 
-some-live : (c : Lts.Start Tie.the-claims Reads.Pre Reads.Post) → is_nil (victim_live (taken c)) ≡ false
+some-live : (c : Lts.Start Tie.the-claims Reads.Pre Reads.Post Tie.handed_clauses) → is_nil (victim_live (taken c)) ≡ false
 some-live c =
     let l = c.requires.looked in
     length_some (victim_live (taken c)) (subst (λ (x : ℕ). 0 < x) (sym l.0.live) l.2)
 
 -- all checks, where there is an idle block
-abbrev later : (c : Lts.Start Tie.the-claims Reads.Pre Reads.Post) → Opt Answer
+abbrev later : (c : Lts.Start Tie.the-claims Reads.Pre Reads.Post Tie.handed_clauses) → Opt Answer
 later c = first_refusal (later_checks c.args.p (view c) (state c) c.args.addresses.now (taken c))
 
-from-rules : (c : Lts.Start Tie.the-claims Reads.Pre Reads.Post) → (c.args.seen.first.0 ≡ never_place → ⊥)
+from-rules : (c : Lts.Start Tie.the-claims Reads.Pre Reads.Post Tie.handed_clauses) → (c.args.seen.first.0 ≡ never_place → ⊥)
     → later c ≡ or_next (first_refusal (copy_rules c.args.p (view c) (state c))) (first_refusal (zones (bad_zones c.args.p (view c) (state c) c.args.addresses.now (taken c)) ∷ []))
 from-rules c n =
     let a = c.args in
@@ -69,7 +69,7 @@ copy_rules-c-requires c =
     let q = c.requires.f_value in record { p_value = c.requires.p_value; pointers_len = (c.requires.whole.0.pointers_long, c.requires.whole.1, q.1 ∙ sym (front_aim a.p (state c.before.before.before.before.before.before.before.before.before.before) a.f q.0)) }
 
 -- the rules of a copy, as they come out
-rules-are : (c : Lts.After-copy_rules Tie.the-claims Reads.Pre Reads.Post) → checked c.copy_rules-c.result ≡ first_refusal (copy_rules c.before.before.before.before.before.before.before.before.before.before.args.p (view c.before.before.before.before.before.before.before.before.before.before) (state c.before.before.before.before.before.before.before.before.before.before))
+rules-are : (c : Lts.After-copy_rules Tie.the-claims Reads.Pre Reads.Post Tie.handed_clauses) → checked c.copy_rules-c.result ≡ first_refusal (copy_rules c.before.before.before.before.before.before.before.before.before.before.args.p (view c.before.before.before.before.before.before.before.before.before.before) (state c.before.before.before.before.before.before.before.before.before.before))
 rules-are c =
     c.copy_rules-c.ensures (state c.before.before.before.before.before.before.before.before.before.before) c.before.before.before.before.before.before.before.before.before.before.args.image.now c.before.before.before.before.before.before.before.before.before.before.requires.f_value.0 c.before.before.before.before.before.before.before.before.before.before.requires.whole.0.image_long
 
@@ -84,7 +84,7 @@ pub has_fault-requires : goal.has_fault-requires
 has_fault-requires c = record { p_value = c.requires.p_value; bytes_len = c.requires.f_value.2 }
 
 -- the zones at fault, once the rules pass
-from_zones : (c : Lts.After-has_fault Tie.the-claims Reads.Pre Reads.Post) → let o = c.before.before.before.before.before.before.before.before.before.before.before.before.before.args.seen.odd in later c.before.before.before.before.before.before.before.before.before.before.before.before.before ≡ cond c.has_fault.result (some (BadZone 0)) (cond (eqb o 1024) none (some (BadZone o)))
+from_zones : (c : Lts.After-has_fault Tie.the-claims Reads.Pre Reads.Post Tie.handed_clauses) → let o = c.before.before.before.before.before.before.before.before.before.before.before.before.before.args.seen.odd in later c.before.before.before.before.before.before.before.before.before.before.before.before.before ≡ cond c.has_fault.result (some (BadZone 0)) (cond (eqb o 1024) none (some (BadZone o)))
 from_zones c =
     let a = c.before.before.before.before.before.before.before.before.before.before.before.before.before.args in
     let k = c.before.before.before.before.before.before.before.before.before.before.before.before.before.requires.looked in

@@ -25,7 +25,7 @@ zone_number-t-requires c =
     let h = c.requires.le_cap in (h.0, h.1, omega (arith, h.2, c.if-all-q.false), h.3)
 
 -- the zone is one of those numbered
-in-zones : (c : Lts.After-zone_number Tie.the-claims Reads.Pre Reads.Post) → c.zone_number-t.result < length c.before.before.before.before.args.segments.now
+in-zones : (c : Lts.After-zone_number Tie.the-claims Reads.Pre Reads.Post Tie.handed_clauses) → c.zone_number-t.result < length c.before.before.before.before.args.segments.now
 in-zones c =
     let a = c.before.before.before.before.args in
     let h = c.before.before.before.before.requires.le_cap in
@@ -40,7 +40,7 @@ pub bounds-segments-t : goal.bounds-segments-t
 bounds-segments-t c = in-zones c.before.before
 
 -- the segment, as it is read
-its_segment : (c : Lts.After-wide Tie.the-claims Reads.Pre Reads.Post)
+its_segment : (c : Lts.After-wide Tie.the-claims Reads.Pre Reads.Post Tie.handed_clauses)
     → c.wide-g.result
     ≡ get_or c.before.before.before.before.before.before.args.segments.now
     (c.before.before.before.before.before.before.args.q / c.before.before.before.before.before.before.args.cap) 0
@@ -48,7 +48,7 @@ its_segment c =
     c.wide-g.ensures ∙ ap (λ (x : ℕ). get_or c.before.before.before.before.before.before.args.segments.now x 0) c.before.before.zone_number-t.ensures
 
 -- it has a count
-counted : (c : Lts.After-wide Tie.the-claims Reads.Pre Reads.Post) → c.wide-g.result < length c.before.before.before.before.before.before.args.used.now
+counted : (c : Lts.After-wide Tie.the-claims Reads.Pre Reads.Post Tie.handed_clauses) → c.wide-g.result < length c.before.before.before.before.before.before.args.used.now
 counted c =
     subst (λ (x : ℕ). x < length c.before.before.before.before.before.before.args.used.now) (sym (its_segment c)) (c.before.before.before.before.before.before.requires.cap_in_bounds (omega (arith, c.before.before.before.if-all-q.false)))
 

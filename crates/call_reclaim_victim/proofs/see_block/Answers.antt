@@ -17,18 +17,18 @@ use Rattle.call_reclaim_victim.proofs.see_block.Lts
 use Rattle.call_reclaim_victim.proofs.see_block.Reads
 use Rattle.call_reclaim_victim.proofs.see_block.Tie
 
-zone_there : (c : Lts.Start Tie.the-claims Reads.Pre Reads.Post) → zone_on c.args.segment c.args.drive < c.args.p.Z
+zone_there : (c : Lts.Start Tie.the-claims Reads.Pre Reads.Post Tie.handed_clauses) → zone_on c.args.segment c.args.drive < c.args.p.Z
 zone_there c = low_here c.args.p c.args.segment c.args.drive c.requires.whole.1 c.requires.addresses_len.1
 
 -- the place is that of its data block
-place-there : (c : Lts.Start Tie.the-claims Reads.Pre Reads.Post) → c.args.at + c.args.o ≡ place_of c.args.p c.args.drive (zone_on c.args.segment c.args.drive) 1 + c.args.o
+place-there : (c : Lts.Start Tie.the-claims Reads.Pre Reads.Post Tie.handed_clauses) → c.args.at + c.args.o ≡ place_of c.args.p c.args.drive (zone_on c.args.segment c.args.drive) 1 + c.args.o
 place-there c =
     let a = c.args in
     let h = c.requires.addresses_len in
     ap (λ (x : ℕ). x + a.o) (h.3 ∙ ap (λ (z : ℕ). place_of a.p a.drive z 1) h.2)
 
 -- the place lies in the image
-in_image : (c : Lts.Start Tie.the-claims Reads.Pre Reads.Post) → c.args.at + c.args.o < 715825152
+in_image : (c : Lts.Start Tie.the-claims Reads.Pre Reads.Post Tie.handed_clauses) → c.args.at + c.args.o < 715825152
 in_image c =
     let a = c.args in
     let r = ranged a.p c.requires.p_value in

@@ -51,10 +51,10 @@ loop-d-preserved c =
     let e = c.see_zone-found.ensures in
     let q : ℕ = place_of p l.d (zone_on g l.d) 1 in (
       omega (arith, c.loop-d-test.true),
-      e.0,
+      e.live_bound,
       λ off.
           let one = vouched_skip p (v off) st g tb (place_of p l.d 0 0) q l.found (drive_place_low p tb g r l.d hz) (l.invariant.2 off) in
-          vouched_skip p (v off) st g tb (q + p.S) (place_of p (l.d + 1) 0 0) c.see_zone-found.result (next_drive_place p tb g r l.d hz) (e.1 off one),
+          vouched_skip p (v off) st g tb (q + p.S) (place_of p (l.d + 1) 0 0) c.see_zone-found.result (next_drive_place p tb g r l.d hz) (e.by_index off one),
     )
 
 pub returns : goal.returns

@@ -54,7 +54,7 @@ loop-o-preserved c =
     let at = c.place_of-at.result.0 in
     let w : at + l.o + 1 ≡ at + (l.o + 1) = omega arith in
     let to : List ℕ → ℕ → Type 0 = λ off x. Vouched a.p (v off) (state_of a.bytes.now) a.segment a.addresses.now x c.see_block-found.result in
-    (omega (arith, c.loop-o-test.true), omega (arith, e.0, l.invariant.1), λ off z. subst (to off) w (e.1 off (l.invariant.2 off z)))
+    (omega (arith, c.loop-o-test.true), omega (arith, e.live_bound, l.invariant.1), λ off z. subst (to off) w (e.by_index off (l.invariant.2 off z)))
 
 pub returns : goal.returns
 returns c =

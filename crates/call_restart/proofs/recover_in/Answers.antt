@@ -15,7 +15,7 @@ gather-requires c =
 pub settle-t-requires : goal.settle-t-requires
 settle-t-requires c =
     let q = c.requires in
-    let g = c.gather.ensures in record { p_value = q.p_value; whole = q.whole; gone_value = q.gone_value; keeps = (g.1.1.1, g.1.0); serials = (g.0, q.z_in_bounds.4) }
+    let g = c.gather.ensures in record { p_value = q.p_value; whole = q.whole; gone_value = q.gone_value; keeps = (g.keeps, g.flags_rows); serials = (g.serials, q.z_in_bounds.4) }
 
 pub returns-in-Fail : goal.returns-in-Fail
 returns-in-Fail c =
@@ -63,7 +63,7 @@ gather-requires-2 c =
           t.whole_is (ap checked c.in_default.is) c.if-t.false,
           q.whole.1,
           q.whole.2,
-        ); z_in_bounds = (g.1.0.0, g.0.0, g.1.1.0.0, g.1.1.1.0) }
+        ); z_in_bounds = (g.flags_rows.0, g.serials.0, g.left_flags.0, g.keeps.0) }
 
 pub load-next-requires : goal.load-next-requires
 load-next-requires c =
@@ -71,7 +71,7 @@ load-next-requires c =
     let g = c.gather-2.ensures in
     let t = c.settle-t.ensures in
     let o = ap checked c.in_default.is in
-    let l = c.if-t.false in record { p_value = q.p_value; whole = t.whole_is o l; addresses_len = q.addresses_len; loading = record { here = q.whole.2; apart = t.apart_is o l; clean = t.good o l; rows_are = g.1.0; serials_are = g.0; kept_are = g.1.1.1 } }
+    let l = c.if-t.false in record { p_value = q.p_value; whole = t.whole_is o l; addresses_len = q.addresses_len; loading = record { here = q.whole.2; apart = t.apart_is o l; clean = t.good o l; rows_are = g.flags_rows; serials_are = g.serials; kept_are = g.keeps } }
 
 pub shape_of-image : goal.shape_of-image
 shape_of-image c =

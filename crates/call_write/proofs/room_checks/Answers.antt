@@ -24,24 +24,24 @@ use Rattle.call_write.proofs.room_checks.Lts
 use Rattle.call_write.proofs.room_checks.Reads
 use Rattle.call_write.proofs.room_checks.Tie
 
-abbrev said : Lts.Start Tie.the-claims Reads.Pre Reads.Post → State
+abbrev said : Lts.Start Tie.the-claims Reads.Pre Reads.Post Tie.handed_clauses → State
 said s = state_of s.args.bytes.now
 
 -- the first refusal from the i-th check on, of a write that has this state and these pointers
-abbrev from : Lts.Start Tie.the-claims Reads.Pre Reads.Post → List ℕ → List ℕ → List ℕ → List ℕ → List ℕ → ℕ → ℕ → Opt Answer
+abbrev from : Lts.Start Tie.the-claims Reads.Pre Reads.Post Tie.handed_clauses → List ℕ → List ℕ → List ℕ → List ℕ → List ℕ → ℕ → ℕ → Opt Answer
 from s im ad co fl b x i = write_from s.args.p s.args.offline.now (mk_disk im s.args.pointers.now) (mk_memory (said s) ad co fl) x b i
 
 -- what the tests say of it
-stamp_is : (c : Lts.After-no_stamp Tie.the-claims Reads.Pre Reads.Post) → no_stamp (said c.before.before.before.before) ≡ c.no_stamp.result
+stamp_is : (c : Lts.After-no_stamp Tie.the-claims Reads.Pre Reads.Post Tie.handed_clauses) → no_stamp (said c.before.before.before.before) ≡ c.no_stamp.result
 stamp_is c =
     sym (front_stamp c.before.before.before.before.args.p (said c.before.before.before.before) c.before.before.before.before.args.f c.before.before.before.before.requires.f_value.0) ∙ sym c.no_stamp.ensures
 
-serial_is : (c : Lts.After-no_serial Tie.the-claims Reads.Pre Reads.Post) → no_serial c.before.before.before.before.before.before.args.p (said c.before.before.before.before.before.before) ≡ c.no_serial.result
+serial_is : (c : Lts.After-no_serial Tie.the-claims Reads.Pre Reads.Post Tie.handed_clauses) → no_serial c.before.before.before.before.before.before.args.p (said c.before.before.before.before.before.before) ≡ c.no_serial.result
 serial_is c =
     sym (front_serial c.before.before.before.before.before.before.args.p (said c.before.before.before.before.before.before) c.before.before.before.before.before.before.args.f c.before.before.before.before.before.before.requires.f_value.0 c.before.before.before.before.before.before.args.a c.before.before.before.before.before.before.requires.f_value.1) ∙ sym c.no_serial.ensures
 
-module _ (c : Lts.After-must_wait Tie.the-claims Reads.Pre Reads.Post) where
-  abbrev begun : Lts.Start Tie.the-claims Reads.Pre Reads.Post
+module _ (c : Lts.After-must_wait Tie.the-claims Reads.Pre Reads.Post Tie.handed_clauses) where
+  abbrev begun : Lts.Start Tie.the-claims Reads.Pre Reads.Post Tie.handed_clauses
   begun = c.before.before.before.before.before.before.before.before.before.before
 
   -- 6 does not hold, and the checks go on with 8
@@ -95,7 +95,7 @@ state_ok-requires c =
     let s = begun c.before.before.before in record { p_value = s.requires.p_value; bytes_len = s.requires.f_value.2 }
 
 -- neither 8 nor 7 holds, and the checks go on with 9
-roomy : (c : Lts.After-state_ok Tie.the-claims Reads.Pre Reads.Post) (im ad co fl b : List ℕ) (x : ℕ) → length im ≡ image_len (begun c.before.before.before).args.p
+roomy : (c : Lts.After-state_ok Tie.the-claims Reads.Pre Reads.Post Tie.handed_clauses) (im ad co fl b : List ℕ) (x : ℕ) → length im ≡ image_len (begun c.before.before.before).args.p
     → from (begun c.before.before.before) im ad co fl b x 9 ≡ from (begun c.before.before.before) im ad co fl b x 6
 roomy c im ad co fl b x h =
     let s = begun c.before.before.before in

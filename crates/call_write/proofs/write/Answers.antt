@@ -26,24 +26,24 @@ use Rattle.call_write.proofs.write.Lts
 use Rattle.call_write.proofs.write.Reads
 use Rattle.call_write.proofs.write.Tie
 
-serial_fits : (c : Lts.Start Tie.the-claims Reads.Pre Reads.Post) → c.args.state.serial.0 ≤ last_count
+serial_fits : (c : Lts.Start Tie.the-claims Reads.Pre Reads.Post Tie.handed_clauses) → c.args.state.serial.0 ≤ last_count
 serial_fits c = omega arith
 
-stamp_fits : (c : Lts.Start Tie.the-claims Reads.Pre Reads.Post) → c.args.state.stamp.0 < 18446744073709551616
+stamp_fits : (c : Lts.Start Tie.the-claims Reads.Pre Reads.Post Tie.handed_clauses) → c.args.state.stamp.0 < 18446744073709551616
 stamp_fits c = omega arith
 
-sized : (c : Lts.Start Tie.the-claims Reads.Pre Reads.Post) → RowsSized c.args.state
+sized : (c : Lts.Start Tie.the-claims Reads.Pre Reads.Post Tie.handed_clauses) → RowsSized c.args.state
 sized c = subst RowsSized (sym c.requires.0) (read_sized c.args.bytes.now)
 
-abbrev disk : (c : Lts.Start Tie.the-claims Reads.Pre Reads.Post) → Disk
+abbrev disk : (c : Lts.Start Tie.the-claims Reads.Pre Reads.Post Tie.handed_clauses) → Disk
 disk c = mk_disk c.args.image.now c.args.pointers.now
 
-abbrev memory : (c : Lts.Start Tie.the-claims Reads.Pre Reads.Post) → Memory
+abbrev memory : (c : Lts.Start Tie.the-claims Reads.Pre Reads.Post Tie.handed_clauses) → Memory
 memory c = mk_memory c.args.state c.args.addresses.now c.args.compact.now c.args.inflight.now
 
 -- the aim is the state's
 aimed :
-    (c : Lts.After-aim_of Tie.the-claims Reads.Pre Reads.Post)
+    (c : Lts.After-aim_of Tie.the-claims Reads.Pre Reads.Post Tie.handed_clauses)
     → c.aim_of-a.result ≡ aim_of c.before.before.before.before.before.before.before.before.before.before.args.p
     c.before.before.before.before.before.before.before.before.before.before.args.state
 aimed c =
@@ -56,11 +56,11 @@ checks-c-requires c =
     (c.front_of-f.ensures ∙ ap front_of e, aimed c.before ∙ ap (aim_of c.args.p) e, ap (λ (x : State). x.missing) e, c.requires.1)
 
 -- the refusal is that of the state
-abbrev start : Lts.After-checks Tie.the-claims Reads.Pre Reads.Post → Lts.Start Tie.the-claims Reads.Pre Reads.Post
+abbrev start : Lts.After-checks Tie.the-claims Reads.Pre Reads.Post Tie.handed_clauses → Lts.Start Tie.the-claims Reads.Pre Reads.Post Tie.handed_clauses
 start c =
     c.before.before.before.before.before.before.before.before.before.before.before
 
-checked-is : (c : Lts.After-checks Tie.the-claims Reads.Pre Reads.Post)
+checked-is : (c : Lts.After-checks Tie.the-claims Reads.Pre Reads.Post Tie.handed_clauses)
     → checked c.checks-c.result ≡ write_refusal (start c).args.p (start c).args.offline.now (disk (start c)) (memory (start c)) (start c).args.address.0 (start c).args.block.now
 checked-is c =
     let s = start c in
@@ -118,7 +118,7 @@ row_at-row-requires c =
 
 -- the row is the state's
 row_is :
-    (c : Lts.After-row_at Tie.the-claims Reads.Pre Reads.Post)
+    (c : Lts.After-row_at Tie.the-claims Reads.Pre Reads.Post Tie.handed_clauses)
     → c.row_at-row.result ≡ slot_row c.before.before.before.before.before.before.before.before.before.before.before.before.before.before.before.before.before.before.before.before.before.before.args.state
     c.before.before.before.before.before.before.before.before.before.before.before.before.aim_of-a.result.slot
 row_is c =

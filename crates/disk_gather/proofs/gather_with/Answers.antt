@@ -39,4 +39,4 @@ returns c =
     let t = c.chain_all.ensures in
     let s = c.read_serials.ensures off ps long in
     let g = c.gather_left.ensures in
-    let l = g.1 off ps long t s in record { serials = s; flags_rows = g.0 off ps long t s; left_flags = l; keeps = c.keep_flags.ensures off ps long q.whole.2 t l }
+    let l = g.by_index_2 off ps long t s in record { serials = s; flags_rows = g.by_index off ps long t s; left_flags = l; keeps = c.keep_flags.ensures off ps long q.whole.2 t l }

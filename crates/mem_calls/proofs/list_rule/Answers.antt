@@ -10,8 +10,8 @@ use Rattle.mem_calls.proofs.list_rule.Lts
 use Rattle.mem_calls.proofs.list_rule.Reads
 use Rattle.mem_calls.proofs.list_rule.Tie
 
-module _ (c : Lts.After-most_with Tie.the-claims Reads.Pre Reads.Post) where
-  abbrev begun : Lts.Start Tie.the-claims Reads.Pre Reads.Post
+module _ (c : Lts.After-most_with Tie.the-claims Reads.Pre Reads.Post Tie.handed_clauses) where
+  abbrev begun : Lts.Start Tie.the-claims Reads.Pre Reads.Post Tie.handed_clauses
   begun = c.before.before.before.before
 
   few-is : few_good begun.args.p begun.args.offline.now ≡ ltb c.before.good_count-n.result 4

@@ -44,7 +44,7 @@ offline_at-requires c =
 
 -- the index is that of the place's zone
 index :
-    (c : Lts.After-shared_slice_known8 Tie.the-claims Reads.Pre Reads.Post)
+    (c : Lts.After-shared_slice_known8 Tie.the-claims Reads.Pre Reads.Post Tie.handed_clauses)
     → c.before.offline_at.result
     ≡ place_drive c.before.before.before.before.before.before.before.before.before.before.before.before.args.p
     c.before.before.before.before.before.before.before.before.before.before.before.before.args.place.0
@@ -58,7 +58,7 @@ index c =
 
 -- the row is one
 low :
-    (c : Lts.After-shared_slice_known8 Tie.the-claims Reads.Pre Reads.Post)
+    (c : Lts.After-shared_slice_known8 Tie.the-claims Reads.Pre Reads.Post Tie.handed_clauses)
     → get_or c.before.before.before.before.before.before.before.before.before.before.before.before.args.owners.now c.before.offline_at.result 0
     < c.before.before.before.before.before.before.before.before.before.before.before.before.args.p.Z
 low c =

@@ -28,7 +28,7 @@ write_header-requires c =
 
 -- the block and its length
 block_is :
-    (c : Lts.After-put_limited-arg2 Tie.the-claims Reads.Pre Reads.Post)
+    (c : Lts.After-put_limited-arg2 Tie.the-claims Reads.Pre Reads.Post Tie.handed_clauses)
     → take c.before.before.before.before.before.before.before.before.before.before.args.p.B
     c.before.before.before.before.write_header.new.dst ≡ header_block
     c.before.before.before.before.before.before.before.before.before.before.args.p
@@ -47,7 +47,7 @@ block_is c =
     (header_block_long a.p r a.drive (zones_in a.p a.segment) a.serial.0 a.copied.0 (zones_in_long a.p a.segment))
 
 block_long :
-    (c : Lts.After-put_limited-arg2 Tie.the-claims Reads.Pre Reads.Post)
+    (c : Lts.After-put_limited-arg2 Tie.the-claims Reads.Pre Reads.Post Tie.handed_clauses)
     → length (take c.before.before.before.before.before.before.before.before.before.before.args.p.B
     c.before.before.before.before.write_header.new.dst) ≡
     c.before.before.before.before.before.before.before.before.before.before.args.p.B

@@ -30,13 +30,13 @@ overflow_add-result c =
     let h = pre.compact_len in
     omega (arith, c.compact_at-from.ensures.2, group_len_fits a.p a.w.base (omega (arith, h.3)), h.3, h.4, (ranged a.p pre.p_value).stripes_high)
 
-at-is : (c : Lts.After-shared_slice_known2 Tie.the-claims Reads.Pre Reads.Post)
+at-is : (c : Lts.After-shared_slice_known2 Tie.the-claims Reads.Pre Reads.Post Tie.handed_clauses)
     → let a = c.before.before.before.before.before.args in c.before.compact_at-from.result ≡ compact_at a.p a.drive (zone_on a.w.seg a.drive) a.w.base
 at-is c =
     let a = c.before.before.before.before.before.args in
     c.before.compact_at-from.ensures.0 ∙ ap (λ (z : ℕ). compact_at a.p a.drive z a.w.base) c.before.before.zone_on-zone.ensures
 
-within : (c : Lts.After-shared_slice_known2 Tie.the-claims Reads.Pre Reads.Post) → let a = c.before.before.before.before.before.args in c.before.compact_at-from.result + a.i < compact_len a.p
+within : (c : Lts.After-shared_slice_known2 Tie.the-claims Reads.Pre Reads.Post Tie.handed_clauses) → let a = c.before.before.before.before.before.args in c.before.compact_at-from.result + a.i < compact_len a.p
 within c =
     let a = c.before.before.before.before.before.args in
     let pre = c.before.before.before.before.before.requires in
