@@ -265,6 +265,11 @@ class Fn:
                 return m.group(1) + (c if c else m.group(2))
 
             body = re.sub(r"(\.requires)((?:\.[\w'-]+)+)", pre, body)
+            for a in list(re.finditer(r"let (%s)(?: : [^=\n]*?)? = ((?:%s)(?:\.1)+) in[ \n]*" % (ID, "|".join(map(re.escape, sorted(pres) + ["c.requires"]))), body)):
+                if self.clause(self.pre, a.group(2)[a.group(2).index(".1") :]) is None:
+                    body = body.replace(a.group(0), "", 1)
+                    body = re.sub(r"(?<![\w'\u2080-\u2089.-])%s(?![\w'\u2080-\u2089-])" % re.escape(a.group(1)), a.group(2), body)
+            body = re.sub(r"(c\.requires)((?:\.[\w'-]+)+)", pre, body)
             for a in pres:
                 body = re.sub(r"(?<![\w'.-])(%s)((?:\.[\w'-]+)+)" % re.escape(a), pre, body)
         return body

@@ -10,8 +10,7 @@ use Rattle.call_land.proofs.complete.Goals as goal
 
 pub point-requires : goal.point-requires
 point-requires c =
-    let q = c.requires in
-    let h = q.1.1.1 in record { p_value = q.p_value; whole = q.whole; addresses_len = q.addresses_len; zones_low = (h.1.0, h.0.0, h.0.1) }
+    let q = c.requires in record { p_value = q.p_value; whole = q.whole; addresses_len = q.addresses_len; zones_low = (q.zones_low.0, q.row_bound.0, q.row_bound.1) }
 
 pub seal-made-requires : goal.seal-made-requires
 seal-made-requires c =

@@ -38,9 +38,8 @@ room c =
     let l = c.loop-d in
     let if1 = c.loop-d-test in
     let pre = c.requires in
-    let q = pre.1 in
     sealing_room a.p [] (mk_disk a.image.now a.pointers.now) a.segment a.count l.d l.left (mk_disk l.image l.pointers)
-    (l.invariant.1 []) if1.true q.1.0 q.0 (q.1.1 l.d if1.true)
+    (l.invariant.1 []) if1.true pre.zones_low.0 pre.whole (pre.zones_low.1 l.d if1.true)
 
 pub footer_stores-made-requires : goal.footer_stores-made-requires
 footer_stores-made-requires c =
@@ -109,9 +108,8 @@ returns-then-made c =
     let footer-stores = c.footer_stores-made in
     let if1 = c.loop-d-test in
     let pre = c.requires in
-    let q = pre.1 in
     λ off. sealing_cut a.p off (mk_disk a.image.now a.pointers.now) a.segment a.count l.d l.left (mk_disk l.image l.pointers)
-    (l.invariant.1 off) if1.true q.1.0 footer-stores.result (mk_disk footer-stores.new.image footer-stores.new.pointers)
+    (l.invariant.1 off) if1.true pre.zones_low.0 footer-stores.result (mk_disk footer-stores.new.image footer-stores.new.pointers)
     (left_by (goal.at.returns-then-made c).After-slice_known-in-loop-d-2-1 off) c.if-made.true
 
 pub overflow_add-d : goal.overflow_add-d
@@ -127,10 +125,10 @@ loop-d-preserved c =
     let footer-stores = c.footer_stores-made in
     let if1 = c.loop-d-test in
     let pre = c.requires in
-    let q = pre.1 in (
+    (
       l.invariant.0,
       λ off. sealing_turn a.p off (mk_disk a.image.now a.pointers.now) a.segment a.count l.d l.left (mk_disk l.image l.pointers)
-          (l.invariant.1 off) if1.true q.1.0 footer-stores.result (mk_disk footer-stores.new.image footer-stores.new.pointers)
+          (l.invariant.1 off) if1.true pre.zones_low.0 footer-stores.result (mk_disk footer-stores.new.image footer-stores.new.pointers)
           (left_by (goal.at.loop-d-preserved c).After-slice_known-in-loop-d-2-1 off) (ranged a.p pre.p_value) (room (goal.at.loop-d-preserved c).After-footer_stores-arg-in-loop-d-1) c.if-made.false,
     )
 

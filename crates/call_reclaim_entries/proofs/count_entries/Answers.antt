@@ -52,7 +52,6 @@ add_entry-k-requires c =
     let a = c.args in
     let p = a.p in
     let r = ranged p c.requires.p_value in
-    let h = c.requires.1 in
     let q = place_at.result.0 in
     let ec = c.capacity-cap.ensures in
     let ea = c.places-all.ensures.0 in
@@ -60,9 +59,9 @@ add_entry-k-requires c =
     let all! = c.places-all.result in
     let ep : p.N * p.Z * capacity p ≡ p.N * p.Z * cap = ap (λ (x : ℕ). p.N * p.Z * x) (sym ec.0) in
     let many : p.N * p.Z * cap ≤ 8192 * cap = mul-le-mul_right cap (zones_all p r) in
-    let long : p.N * p.Z * cap ≤ length a.segments.now * cap = mul-le-mul_right cap h.0.1.0 in
+    let long : p.N * p.Z * cap ≤ length a.segments.now * cap = mul-le-mul_right cap c.requires.addresses_len.1.0 in
     let seg : q < all! → get_or a.segments.now (q / cap) 0 ≤ 1024 = λ l.
-    h.0.1.1 (q / cap) (subst (λ (x : ℕ). q / x < p.N * p.Z) (sym ec.0) (zone_number_low p r q (omega (arith, l, ea)))) in record { le_cap = (ec.1, ec.2, omega (arith, ea, ep, many), refl, omega (arith, ea, ep, long)); cap_in_bounds = (λ l. omega (arith, seg l, c.loop-a.invariant.1, h.0.2)); cap_bound = λ l.
+    c.requires.addresses_len.1.1 (q / cap) (subst (λ (x : ℕ). q / x < p.N * p.Z) (sym ec.0) (zone_number_low p r q (omega (arith, l, ea)))) in record { le_cap = (ec.1, ec.2, omega (arith, ea, ep, many), refl, omega (arith, ea, ep, long)); cap_in_bounds = (λ l. omega (arith, seg l, c.loop-a.invariant.1, c.requires.addresses_len.2)); cap_bound = λ l.
             omega (arith, c.loop-a.invariant.2.low (get_or a.segments.now (q / cap) 0) (seg l), c.loop-a.invariant.0, addresses_all p r) }
 
 pub overflow_add-k : goal.overflow_add-k
@@ -87,7 +86,6 @@ loop-a-preserved c =
     let a = c.args in
     let p = a.p in
     let r = ranged p c.requires.p_value in
-    let h = c.requires.1 in
     let l = c.loop-a in
     let i = l.invariant in
     let u = l.used in
@@ -100,7 +98,7 @@ loop-a-preserved c =
     let told = add_entry_holds.ensures.used_after ∙ (λ j. cond (ltb (eq j) (ea j)) (set u (get_or sg (eq j / ec j) 0) (get_or u (get_or sg (eq j / ec j) 0) 0 + 1)) u) in
     let now' = add_entry_holds.new.used in
     let more = entered-more p sg a.addresses.now l.a u i.2
-    (λ x. omega (arith, i.1, h.0.2, h.0.1.1 (place_at_of tb l.a / capacity p) (zone_number_low p r (place_at_of tb l.a) x))) now' told in
+    (λ x. omega (arith, i.1, c.requires.addresses_len.2, c.requires.addresses_len.1.1 (place_at_of tb l.a / capacity p) (zone_number_low p r (place_at_of tb l.a) x))) now' told in
     let all! = c.places-all.result in
     let n : l.k + add_entry_holds.result ≡ count_places tb (l.a + 1) all! 4294967295 =
     ap₂ ◌+◌ i.3 (add_entry_holds.ensures.value ∙ ap (λ (x : ℕ). bool_byte (is_within all! 4294967295 x)) eq) ∙ count-one tb l.a all! 4294967295 in

@@ -26,8 +26,7 @@ entered :
 entered c =
     let a = c.args in
     let pre = c.requires in
-    let q = pre.1.1.1 in
-    counts-entered a.p a.w.gone (segment_in a.p [] a.image.now a.pointers.now a.w) a.w.base a.at.now a.k (q.1.0 []).indexed q.0.4 (q.1.1 [])
+    counts-entered a.p a.w.gone (segment_in a.p [] a.image.now a.pointers.now a.w) a.w.base a.at.now a.k (pre.by_index []).indexed pre.block_len.4 (pre.by_index_2 [])
 
 pub lost_block-requires : goal.lost_block-requires
 lost_block-requires c =
