@@ -189,7 +189,7 @@ class Fn:
 
     def lts(self, place):
         several = " Tie.handed_clauses" if self.entry["pre"] or any(self.entry["clauses"]) else ""
-        claims = "Tie.the-claims Reads.Pre Reads.Post" + several + "".join(f" goal.the-invariant-{l[0][1]} goal.the-decreases-{l[0][1]}" for l in self.entry["loops"])
+        claims = "Tie.the-claims Reads.Pre Reads.Post" + "".join(f" goal.the-invariant-{l[0][1]} goal.the-decreases-{l[0][1]}" for l in self.entry["loops"]) + several
         return f"Lts.{self.oldplace[place]} {claims}"
 
     def turn(self, body):

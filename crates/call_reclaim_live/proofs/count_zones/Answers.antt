@@ -24,7 +24,7 @@ loop-at-init c =
     (omega arith, sym (zero-mul c.capacity-cap.result), refl, pre.by_index, (λ p e tb t s. s), omega arith)
 
 -- the window ends with the places
-end_low : (c : Lts.After-capacity Tie.the-claims Reads.Pre Reads.Post Tie.handed_clauses goal.the-invariant-loop-at goal.the-decreases-loop-at) → c.before.before.before.before.args.end ≤ 715825152
+end_low : (c : Lts.After-capacity Tie.the-claims Reads.Pre Reads.Post goal.the-invariant-loop-at goal.the-decreases-loop-at Tie.handed_clauses) → c.before.before.before.before.args.end ≤ 715825152
 end_low c =
     omega (arith, c.before.before.before.before.requires.first_le_end.1, places_high c.before.before.before.before.args.p (ranged c.before.before.before.before.args.p c.before.before.before.before.requires.p_value))
 
@@ -45,7 +45,7 @@ count_marks-n-requires c =
     omega (arith, c.clip-to.ensures, c.loop-at.invariant.0, c.requires.first_le_end, end_low c.before.before.before.before)
 
 -- zone t is one of the zones, and has a number
-zone-in : (c : Lts.After-count_marks Tie.the-claims Reads.Pre Reads.Post Tie.handed_clauses goal.the-invariant-loop-at goal.the-decreases-loop-at) → let a = c.before.before.before.before.before.before.before.before.args in
+zone-in : (c : Lts.After-count_marks Tie.the-claims Reads.Pre Reads.Post goal.the-invariant-loop-at goal.the-decreases-loop-at Tie.handed_clauses) → let a = c.before.before.before.before.before.before.before.before.args in
     let t = c.before.before.before.loop-at.t in (t < a.p.N * a.p.Z) × (get_or a.segments.now t 0 ≤ 1024)
 zone-in c =
     let a = c.before.before.before.before.before.before.before.before.args in
@@ -63,7 +63,7 @@ pub bounds-segments-t : goal.bounds-segments-t
 bounds-segments-t c = omega (arith, (zone-in c.before.before).0, c.requires.first_le_end.4.0)
 
 -- the number of its segment
-number_low : (c : Lts.After-wide Tie.the-claims Reads.Pre Reads.Post Tie.handed_clauses goal.the-invariant-loop-at goal.the-decreases-loop-at) → c.wide-g.result ≤ 1024
+number_low : (c : Lts.After-wide Tie.the-claims Reads.Pre Reads.Post goal.the-invariant-loop-at goal.the-decreases-loop-at Tie.handed_clauses) → c.wide-g.result ≤ 1024
 number_low c = omega (arith, c.wide-g.ensures, (zone-in c.before.before).1)
 
 pub offset_bounds-live-g : goal.offset_bounds-live-g

@@ -92,7 +92,7 @@ vouched_run-c-requires c =
     )
 
 -- one footer block more
-block_more : (c : Lts.After-vouched_run Tie.the-claims Reads.Pre Reads.Post Tie.handed_clauses goal.the-invariant-loop-f goal.the-decreases-loop-f)
+block_more : (c : Lts.After-vouched_run Tie.the-claims Reads.Pre Reads.Post goal.the-invariant-loop-f goal.the-decreases-loop-f Tie.handed_clauses)
     → c.before.before.before.before.loop-f.c + c.vouched_run-c.result
     ≤ length
     (pointed_from c.before.before.before.before.before.before.before.before.before.before.before.before.before.before.args.addresses.now
@@ -103,7 +103,7 @@ block_more c =
     let a = c.before.before.before.before.before.before.before.before.before.before.before.before.before.before.args in
     omega (arith, c.vouched_run-c.ensures, c.before.before.before.before.loop-f.invariant.2, run_add (is_pointed a.addresses.now a.p.L) c.before.before.before.before.before.before.before.before.place_of-first.result.0 c.before.before.before.before.loop-f.o c.before.run_len-n.result)
 
-within : (c : Lts.After-vouched_run Tie.the-claims Reads.Pre Reads.Post Tie.handed_clauses goal.the-invariant-loop-f goal.the-decreases-loop-f)
+within : (c : Lts.After-vouched_run Tie.the-claims Reads.Pre Reads.Post goal.the-invariant-loop-f goal.the-decreases-loop-f Tie.handed_clauses)
     → (c.before.before.before.before.loop-f.o + c.before.run_len-n.result
     ≤ c.before.before.before.before.before.before.before.before.before.before.before.before.before.before.args.p.S)
     × (c.before.before.before.before.loop-f.c + c.vouched_run-c.result
@@ -122,7 +122,7 @@ overflow_add-o c =
     omega (arith, (within c.before).0, (ranged c.args.p c.requires.p_value).stripes_high)
 
 -- the footer block lies in the image
-in_image : (c : Lts.After-vouched_run Tie.the-claims Reads.Pre Reads.Post Tie.handed_clauses goal.the-invariant-loop-f goal.the-decreases-loop-f) → c.before.before.before.before.loop-f.at ≤ 2946336325632
+in_image : (c : Lts.After-vouched_run Tie.the-claims Reads.Pre Reads.Post goal.the-invariant-loop-f goal.the-decreases-loop-f Tie.handed_clauses) → c.before.before.before.before.loop-f.at ≤ 2946336325632
 unfolding capacity
 in_image c =
     let a = c.before.before.before.before.before.before.before.before.before.before.before.before.before.before.args in
