@@ -83,6 +83,29 @@ def tuple_of(s, n):
     return parts
 
 
+def partial(last, names, own, body):
+    """the parts of a tuple whose end is the end of the function's own requires, or any pair"""
+    parts = split_top(last)
+    if not parts or len(parts) < 2:
+        return None
+    while len(parts) < len(names):
+        more = split_top(parts[-1])
+        if not more or len(more) < 2:
+            break
+        parts = parts[:-1] + more
+    m = re.match(r"(%s(?:\.requires)?)((?:\.1)+)$" % ID, parts[-1])
+    left = len(names) - len(parts) + 1
+    if left < 2:
+        return None
+    if m and (m.group(1) == "c.requires" or re.search(r"let %s\s*=\s*c\.requires\s+in" % re.escape(m.group(1)), body)):
+        rest = own[len(m.group(2)) // 2 :]
+        if len(rest) == left:
+            return parts[:-1] + [f"{m.group(1)}.{n}" for n in rest]
+    if " " in parts[-1]:
+        return None
+    return parts[:-1] + [parts[-1] + ".1" * k + (".0" if k < left - 1 else "") for k in range(left)]
+
+
 def fields_of(term, last, names, own, body):
     """a record of clauses from a term that is no tuple: the function's own requires, or any pair"""
     e = last.strip()
@@ -160,6 +183,11 @@ class Fn:
                 return "." + names[k] + path
             k += 1
 
+    def place(self, name):
+        """a place by its older name; one that is gone is the one before it"""
+        n = norm(name)
+        return n if n in self.parent else re.sub(r"\d+$", "", n)
+
     def step(self, name):
         """a step by its older name, which port_names.py may have taken for a definition"""
         n = norm(name)
@@ -188,7 +216,9 @@ class Fn:
         return None
 
     def lts(self, place):
-        several = " Tie.handed_clauses" if self.entry["pre"] or any(self.entry["clauses"]) else ""
+        called = [self.known.get(c, ([], [])) for c in self.entry["params"]]
+        many = self.entry["pre"] or any(self.entry["clauses"]) or any(len(k) > 1 for c in called + [self.own] for k in c)
+        several = " Tie.handed_clauses" if many else ""
         claims = "Tie.the-claims Reads.Pre Reads.Post" + "".join(f" goal.the-invariant-{l[0][1]} goal.the-decreases-{l[0][1]}" for l in self.entry["loops"]) + several
         return f"Lts.{self.oldplace[place]} {claims}"
 
@@ -196,7 +226,7 @@ class Fn:
         body = re.sub(r"(?:\.before)+(?![\w'-])", "", body)
         # a name for an earlier place is the place itself
         while True:
-            m = re.search(r"let (%s)(?: : [^=\n]*?)? = c in[ \n]*" % ID, body)
+            m = re.search(r"let (%s)(?: : [^=\n]*?)?\s*=\s*c\s+in\s*" % ID, body)
             if not m:
                 break
             rest = body[m.end() :]
@@ -205,7 +235,7 @@ class Fn:
             body = body[: m.start()] + rest
         body = re.sub(r"(?<=[\w'])\.pre(?![\w'-])", ".requires", body)
         # a name for the step of an arm is the step itself
-        for a in list(re.finditer(r"let (%s)(?: : [^=\n]*?)? = c\.(%s) in[ \n]*" % (ID, ID), body)):
+        for a in list(re.finditer(r"let (%s)(?: : [^=\n]*?)?\s*=\s*c\.(%s)\s+in\s*" % (ID, ID), body)):
             if not self.raw and norm(a.group(2)) in self.arms and norm(a.group(2)) not in self.callee:
                 body = body.replace(a.group(0), "", 1)
                 body = re.sub(r"(?<![\w'\u2080-\u2089.-])%s(?![\w'\u2080-\u2089-])" % re.escape(a.group(1)), "c." + a.group(2), body)
@@ -216,7 +246,7 @@ class Fn:
             return "." + self.steps[old] if old in self.steps else m.group(0)
 
         # names bound to steps and to requires
-        for m in re.finditer(r"let (%s)(?: : [^=]*?)? = ([\w']+)\.(%s) in" % (ID, ID), body):
+        for m in re.finditer(r"let (%s)(?: : [^=]*?)?\s*=\s*([\w']+)\.(%s)\s+in" % (ID, ID), body):
             if self.step(m.group(3)) in self.steps:
                 alias[m.group(1)] = self.step(m.group(3))
             if m.group(3) == "requires":
@@ -242,7 +272,7 @@ class Fn:
         for old, new in self.entry["args"]:
             o, n = old.split(), new.split()
             if len(o) == 2 and o[0] == n[0]:
-                names_ = {m.group(1) for m in re.finditer(r"let (%s) = \S+%s in" % (ID, re.escape(o[0])), body)}
+                names_ = {m.group(1) for m in re.finditer(r"let (%s)\s*=\s*\S+%s\s+in" % (ID, re.escape(o[0])), body)}
                 for v in names_:
                     body = re.sub(r"(?<![\w'.-])%s\%s(?![\w'-])" % (re.escape(v), o[1]), v + n[1], body)
                 body = body.replace(o[0] + o[1] + ".", n[0] + n[1] + ".")
@@ -250,7 +280,7 @@ class Fn:
             elif len(o) == 1:
                 body = re.sub(re.escape(o[0]) + r"(?![\w'-])", n[0], body)
         # names for what a call ensures
-        for m in list(re.finditer(r"let (%s)(?: : [^=]*?)? = ([\w']+)\.(%s)\.ensures in" % (ID, ID), body)):
+        for m in list(re.finditer(r"let (%s)(?: : [^=]*?)?\s*=\s*([\w']+)\.(%s)\.ensures\s+in" % (ID, ID), body)):
             callee = self.callee.get(next((o for o, n in self.steps.items() if n == m.group(3)), ""))
             ens = self.known.get(callee, ([], []))[1]
             if len(ens) > 1:
@@ -265,7 +295,7 @@ class Fn:
                 return m.group(1) + (c if c else m.group(2))
 
             body = re.sub(r"(\.requires)((?:\.[\w'-]+)+)", pre, body)
-            for a in list(re.finditer(r"let (%s)(?: : [^=\n]*?)? = ((?:%s)(?:\.1)+) in[ \n]*" % (ID, "|".join(map(re.escape, sorted(pres) + ["c.requires"]))), body)):
+            for a in list(re.finditer(r"let (%s)(?: : [^=\n]*?)?\s*=\s*((?:%s)(?:\.1)+)\s+in\s*" % (ID, "|".join(map(re.escape, sorted(pres) + ["c.requires"]))), body)):
                 if self.clause(self.pre, a.group(2)[a.group(2).index(".1") :]) is None:
                     body = body.replace(a.group(0), "", 1)
                     body = re.sub(r"(?<![\w'\u2080-\u2089.-])%s(?![\w'\u2080-\u2089-])" % re.escape(a.group(1)), a.group(2), body)
@@ -375,25 +405,25 @@ def convert(fn, text):
     for d in decls:
         sig = " ".join(l.strip() for l in d if not l.startswith("--"))
         h = re.match(r"(?:pub |abbrev |unfoldable )*(%s)\s*:\s*(?:\(%s : )?%s" % (ID, ID, PL), sig)
-        if h and norm(h.group(2)) in fn.parent and h.group(1) not in kinds:
-            over[h.group(1)] = norm(h.group(2))
+        if h and fn.place(h.group(2)) in fn.parent and h.group(1) not in kinds:
+            over[h.group(1)] = fn.place(h.group(2))
             g = re.match(r"(?:pub |abbrev )*%s\s*:\s*%s → %s(?= %s )" % (re.escape(h.group(1)), PL, PL, re.escape(h.group(1))), sig) or re.match(r"(?:pub |abbrev )*%s\s*:\s*\(%s : %s\)\s*→ %s(?= %s )" % (re.escape(h.group(1)), ID, PL, PL, re.escape(h.group(1))), sig)
-            if g and norm(g.group(2)) in fn.parent:
-                gives[h.group(1)] = norm(g.group(2))
+            if g and fn.place(g.group(2)) in fn.parent:
+                gives[h.group(1)] = fn.place(g.group(2))
     fn.givers = set(gives)
     chained = False
     modules = {}
     for k, d in enumerate(decls):
         sig = " ".join(l.strip() for l in d if not l.startswith("--"))
         h = re.match(r"module _ \((%s) : %s\) where" % (ID, PL), sig)
-        if h and norm(h.group(2)) in fn.parent:
+        if h and fn.place(h.group(2)) in fn.parent:
             chained = True
-            modules[k] = (h.group(1), norm(h.group(2)))
+            modules[k] = (h.group(1), fn.place(h.group(2)))
             for m_ in re.finditer(r"^  (?:abbrev |pub |unfoldable )*(%s)\s*:\s*(.*)" % ID, "\n".join(d), re.M):
-                over[m_.group(1)] = norm(h.group(2))
+                over[m_.group(1)] = fn.place(h.group(2))
                 g = re.match(PL + "$", m_.group(2))
-                if g and norm(g.group(1)) in fn.parent:
-                    gives[m_.group(1)] = norm(g.group(1))
+                if g and fn.place(g.group(1)) in fn.parent:
+                    gives[m_.group(1)] = fn.place(g.group(1))
     for d in decls:
         sig = next((l for l in d if not l.startswith("--")), "")
         s = re.match(r"^(?:pub |abbrev |unfoldable )*(%s)" % ID, sig)
@@ -406,7 +436,7 @@ def convert(fn, text):
 
     def expand(text_, env, goal_):
         """what stands at a place, said by the way to it"""
-        for m in re.finditer(r"let (%s)(?: : [^=\n]*?)? = (%s) \(?c\)? in" % (ID, ID), text_):
+        for m in re.finditer(r"let (%s)(?: : [^=\n]*?)?\s*=\s*(%s)\s+\(?c\)?\s+in" % (ID, ID), text_):
             if m.group(2) in gives:
                 env[m.group(1)] = gives[m.group(2)]
 
@@ -458,7 +488,7 @@ def convert(fn, text):
                     way = fn.way(q_, m.group(1))
                     return m.group(0) if way is None else f"{g_}{way}.{m.group(1)}"
                 body = re.sub(r"(?<![\w'.-])%s\.(%s)" % (re.escape(g_), ID), memb, body)
-            body = re.sub(PL, lambda m: fn.lts(norm(m.group(1))) if norm(m.group(1)) in fn.oldplace else m.group(0), body)
+            body = re.sub(PL, lambda m: fn.lts(fn.place(m.group(1))) if fn.place(m.group(1)) in fn.oldplace else m.group(0), body)
             ans.append(body)
             if "tie." in body:
                 said.append("module: tie.")
@@ -509,7 +539,7 @@ def convert(fn, text):
             tail_ = expand(tail_, {v: over[name]}, False)
             if name in gives:
                 tail_ = re.sub(r"=(\s*)%s\s*$" % re.escape(v), lambda m: f"={m.group(1)}{v}{fn.up(over[name], gives[name])}", tail_)
-            body = re.sub(PL, lambda m: fn.lts(norm(m.group(1))) if norm(m.group(1)) in fn.oldplace else m.group(0), head_ + tail_)
+            body = re.sub(PL, lambda m: fn.lts(fn.place(m.group(1))) if fn.place(m.group(1)) in fn.oldplace else m.group(0), head_ + tail_)
             # the name binds a value: in an arrow a type of several words needs no brackets, under `:` neither
             ans.append(body)
             if "tie." in body:
@@ -538,7 +568,7 @@ def convert(fn, text):
                     term = term[:at] + " record { " + "; ".join(f"{a} = {b}" for a, b in zip(names, parts)) + " }"
                 else:
                     said.append(f"{new}: clauses {names}")
-                    parts = fields_of(term, last, names, fn.pre, term)
+                    parts = partial(last, names, fn.pre, term) or fields_of(term, last, names, fn.pre, term)
                     term = term[:at] + " record { " + "; ".join(f"{a} = {b}" for a, b in zip(names, parts)) + " }"
             if re.match(r"returns(-\d+)?$", old) and len(fn.own[1]) > 1:
                 parts = tuple_of(last, len(fn.own[1]))
@@ -552,7 +582,7 @@ def convert(fn, text):
             continue
         # a helper
         def place(m):
-            p = norm(m.group(1))
+            p = fn.place(m.group(1))
             if p in fn.placenames:
                 places.add(fn.placenames[p])
                 return fn.placenames[p]

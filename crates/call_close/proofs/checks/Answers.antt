@@ -24,14 +24,14 @@ use Rattle.call_close.proofs.checks.Lts
 use Rattle.call_close.proofs.checks.Reads
 use Rattle.call_close.proofs.checks.Tie
 
-abbrev diskIn : Lts.Start Tie.the-claims Reads.Pre Reads.Post → Disk
+abbrev diskIn : Lts.Start Tie.the-claims Reads.Pre Reads.Post Tie.handed_clauses → Disk
 diskIn s = mk_disk s.args.image.now s.args.pointers.now
 
-abbrev memoryIn : Lts.Start Tie.the-claims Reads.Pre Reads.Post → Memory
+abbrev memoryIn : Lts.Start Tie.the-claims Reads.Pre Reads.Post Tie.handed_clauses → Memory
 memoryIn s = mk_memory (state_of s.args.bytes.now) s.args.addresses.now s.args.compact.now s.args.inflight.now
 
 -- the first refusal from the i-th check on
-abbrev from : Lts.Start Tie.the-claims Reads.Pre Reads.Post → ℕ → Opt Answer
+abbrev from : Lts.Start Tie.the-claims Reads.Pre Reads.Post Tie.handed_clauses → ℕ → Opt Answer
 from s i = close_from s.args.p s.args.offline.now (diskIn s) (memoryIn s) i
 
 pub returns-then-not-in_range : goal.returns-then-not-in_range
@@ -48,8 +48,8 @@ returns-then-not-lent_ok c =
     ∙ close_range_passes c.args.p c.args.offline.now (diskIn c.before.before.before.before.before.before.before.before.before.before.before.before) (memoryIn c.before.before.before.before.before.before.before.before.before.before.before.before)
     (sym c.in_range.ensures ∙ not-false c.in_range.result c.if-not-in_range.false-raw)
 
-module _ (c : Lts.Else2 Tie.the-claims Reads.Pre Reads.Post) where
-  abbrev begun : Lts.Start Tie.the-claims Reads.Pre Reads.Post
+module _ (c : Lts.Else2 Tie.the-claims Reads.Pre Reads.Post Tie.handed_clauses) where
+  abbrev begun : Lts.Start Tie.the-claims Reads.Pre Reads.Post Tie.handed_clauses
   begun = c.before.before.before.before.before.before.before.before.before.before.before
 
   ranged : in_range begun.args.p ≡ true
@@ -74,8 +74,8 @@ returns-then-rule-ne0 c =
     let s = begun c.before.before.before in
     close_list_fails s.args.p s.args.offline.now (diskIn s) (memoryIn s) c.list_rule-rule.result c.list_rule-rule.ensures c.if-rule-ne0.true ∙ fitting c.before.before.before
 
-module _ (c : Lts.Else3 Tie.the-claims Reads.Pre Reads.Post) where
-  abbrev listed : Lts.Start Tie.the-claims Reads.Pre Reads.Post
+module _ (c : Lts.Else3 Tie.the-claims Reads.Pre Reads.Post Tie.handed_clauses) where
+  abbrev listed : Lts.Start Tie.the-claims Reads.Pre Reads.Post Tie.handed_clauses
   listed = begun c.before.before
 
   -- nor do 10 and the narrow 1
@@ -91,13 +91,13 @@ returns-then-missing-ne0 c =
     close_missing_fails s.args.p s.args.offline.now (diskIn s) (memoryIn s) (λ e. c.if-missing-ne0.true (s.requires.1 ∙ e)) ∙ enough c.before.before
 
 -- nor does 3
-healthy : (c : Lts.Else4 Tie.the-claims Reads.Pre Reads.Post) → from (listed c.before) 5 ≡ from (listed c.before) 0
+healthy : (c : Lts.Else4 Tie.the-claims Reads.Pre Reads.Post Tie.handed_clauses) → from (listed c.before) 5 ≡ from (listed c.before) 0
 healthy c =
     let s = listed c.before in
     close_missing_passes s.args.p s.args.offline.now (diskIn s) (memoryIn s) (sym s.requires.1 ∙ c.if-missing-ne0.false) ∙ enough c.before
 
 -- whether a stripe is filling
-filling_is : (c : Lts.After-is_slot Tie.the-claims Reads.Pre Reads.Post) → has_filling (listed c.before.before).args.p (memoryIn (listed c.before.before)).state ≡ c.is_slot.result
+filling_is : (c : Lts.After-is_slot Tie.the-claims Reads.Pre Reads.Post Tie.handed_clauses) → has_filling (listed c.before.before).args.p (memoryIn (listed c.before.before)).state ≡ c.is_slot.result
 filling_is c =
     let s = listed c.before.before in
     sym (slot_is s.args.p (memoryIn s).state s.args.slot s.requires.0) ∙ sym c.is_slot.ensures
@@ -107,8 +107,8 @@ returns-then-not-is_slot c =
     let s = listed c.before.before.before.before in
     filling_fails s.args.p s.args.offline.now (diskIn s) (memoryIn s) (filling_is c.before.before ∙ not-true c.is_slot.result c.if-not-is_slot.true-raw) ∙ healthy c.before.before.before
 
-module _ (c : Lts.Else5 Tie.the-claims Reads.Pre Reads.Post) where
-  abbrev two : Lts.Else2 Tie.the-claims Reads.Pre Reads.Post
+module _ (c : Lts.Else5 Tie.the-claims Reads.Pre Reads.Post Tie.handed_clauses) where
+  abbrev two : Lts.Else2 Tie.the-claims Reads.Pre Reads.Post Tie.handed_clauses
   two = c.before.before.before.before.before
 
   filling : has_filling (begun two).args.p (memoryIn (begun two)).state ≡ true
@@ -119,7 +119,7 @@ scarce-requires c =
     let s = begun (two c.before) in
     let l = lent_long_lem s.args.p s.args.offline.now (diskIn s) (memoryIn s) (lent (two c.before)) in record { p_value = ranged (two c.before); pointers_len = (l.1, l.5, omega arith) }
 
-scarce-is : (c : Lts.After-scarce Tie.the-claims Reads.Pre Reads.Post)
+scarce-is : (c : Lts.After-scarce Tie.the-claims Reads.Pre Reads.Post Tie.handed_clauses)
     → scarce (begun (two c.before)).args.p (seen (begun (two c.before)).args.p (begun (two c.before)).args.offline.now (diskIn (begun (two c.before)))) 1
     ≡ c.scarce.result
 scarce-is c =

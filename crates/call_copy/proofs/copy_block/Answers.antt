@@ -71,8 +71,8 @@ returns c =
     let k : Disk = mk_disk a.image.now a.pointers.now in
     let m : Memory = mk_memory (state_of a.bytes.now) a.addresses.now a.compact.now a.inflight.now in
     let v = view_of a.p a.offline.now a.image.now a.pointers.now in
-    let w = pre.0 in
+    let w = pre.copy_ready in
     let e =
-    copy_sent a.p v m a.q.0 a.segment (rec_val r.result) (take a.p.B t.new.block) pre.1.1.1.0 (r.ensures a.offline.now)
-    (t.ensures ∙ sym (block_at a.p (ranged a.p w.in_range_holds) a.offline.now k w.whole a.q.0 pre.1.1.0.0)) in
+    copy_sent a.p v m a.q.0 a.segment (rec_val r.result) (take a.p.B t.new.block) pre.q_value.0 (r.ensures a.offline.now)
+    (t.ensures ∙ sym (block_at a.p (ranged a.p w.in_range_holds) a.offline.now k w.whole a.q.0 pre.q_bound.0)) in
     send-copy.ensures ∙ ap (λ (x : Plan). outcome a.p (store_disk a.p) a.count k m [] (due x)) e

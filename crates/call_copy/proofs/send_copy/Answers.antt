@@ -87,9 +87,7 @@ returns c =
     let q = c.send-w in
     let row = c.row_at-row in
     let if1 = c.if-o in
-    let s =
-    c in
-    let a = s.args in
-    sent_done a.p a.offline.now (disk s) (memory s) a.address.0 a.stamp.0 a.block.now a.count s.requires.copy_ready c.«open».result (after c.before.before.before.before.before.before.before.before.before.before.before.before.before.before.before)
-    (opened c.before.before.before.before.before.before.before.before.before.before.before.before.before.before.before) a.f s.requires.f_value.0 a.a s.requires.f_value.1 row.result row.ensures (sized s) if1.false _ q.new.inflight
+    let a = c.args in
+    sent_done a.p a.offline.now (disk c.before.before.before.before.before.before.before.before.before.before.before.before.before.before.before.before.before.before.before.before.before.before.before.before.before.before) (memory c.before.before.before.before.before.before.before.before.before.before.before.before.before.before.before.before.before.before.before.before.before.before.before.before.before.before) a.address.0 a.stamp.0 a.block.now a.count c.requires.copy_ready c.«open».result (after c.before.before.before.before.before.before.before.before.before.before.before.before.before.before.before)
+    (opened c.before.before.before.before.before.before.before.before.before.before.before.before.before.before.before) a.f c.requires.f_value.0 a.a c.requires.f_value.1 row.result row.ensures (sized c.before.before.before.before.before.before.before.before.before.before.before.before.before.before.before.before.before.before.before.before.before.before.before.before.before.before) if1.false _ q.new.inflight
     (λ j. copied_as a.f a.a c.«open».result a.stamp.0 (q.ensures j)) (λ j. (q.ensures j).inflight)

@@ -15,14 +15,14 @@ use Rattle.call_empty.proofs.checks.Lts
 use Rattle.call_empty.proofs.checks.Reads
 use Rattle.call_empty.proofs.checks.Tie
 
-abbrev disk : (c : Lts.Start Tie.the-claims Reads.Pre Reads.Post) → Disk
+abbrev disk : (c : Lts.Start Tie.the-claims Reads.Pre Reads.Post Tie.handed_clauses) → Disk
 disk c = mk_disk c.args.image.now c.args.pointers.now
 
-abbrev memory : (c : Lts.Start Tie.the-claims Reads.Pre Reads.Post) → State → Memory
+abbrev memory : (c : Lts.Start Tie.the-claims Reads.Pre Reads.Post Tie.handed_clauses) → State → Memory
 memory c st = mk_memory st c.args.addresses.now c.args.compact.now c.args.inflight.now
 
 -- the first refusal from the i-th check on
-abbrev from : (c : Lts.Start Tie.the-claims Reads.Pre Reads.Post) → State → ℕ → Opt Answer
+abbrev from : (c : Lts.Start Tie.the-claims Reads.Pre Reads.Post Tie.handed_clauses) → State → ℕ → Opt Answer
 from c st i = empty_first c.args.p c.args.offline.now (disk c) (memory c st) c.args.address.0 i
 
 pub returns-then-not-in_range : goal.returns-then-not-in_range
@@ -31,10 +31,10 @@ returns-then-not-in_range c =
     λ st e. empty_range_fails c.args.p c.args.offline.now (disk c.before.before.before.before.before.before.before.before.before) (memory c.before.before.before.before.before.before.before.before.before st) c.args.address.0 (sym in_range_holds.ensures ∙ not-true in_range_holds.result c.if-not-in_range.true-raw)
 
 -- 1 passed
-abbrev start-1 : Lts.Else1 Tie.the-claims Reads.Pre Reads.Post → Lts.Start Tie.the-claims Reads.Pre Reads.Post
+abbrev start-1 : Lts.Else1 Tie.the-claims Reads.Pre Reads.Post Tie.handed_clauses → Lts.Start Tie.the-claims Reads.Pre Reads.Post Tie.handed_clauses
 start-1 c = c.before.before.before.before.before.before.before.before
 
-ranged : (c : Lts.Else1 Tie.the-claims Reads.Pre Reads.Post) (st : State) → from (start-1 c) st 1 ≡ from (start-1 c) st 0
+ranged : (c : Lts.Else1 Tie.the-claims Reads.Pre Reads.Post Tie.handed_clauses) (st : State) → from (start-1 c) st 1 ≡ from (start-1 c) st 0
 ranged c st =
     let s = start-1 c in
     let in_range_holds = c.before.in_range in
@@ -50,10 +50,10 @@ returns-then-not-lent_ok c =
     ∙ ranged c.before.before.before st
 
 -- 1 and 2 passed
-abbrev start-2 : Lts.Else2 Tie.the-claims Reads.Pre Reads.Post → Lts.Start Tie.the-claims Reads.Pre Reads.Post
+abbrev start-2 : Lts.Else2 Tie.the-claims Reads.Pre Reads.Post Tie.handed_clauses → Lts.Start Tie.the-claims Reads.Pre Reads.Post Tie.handed_clauses
 start-2 c = start-1 c.before.before
 
-lent : (c : Lts.Else2 Tie.the-claims Reads.Pre Reads.Post) (st : State) → from (start-2 c) st 2 ≡ from (start-2 c) st 0
+lent : (c : Lts.Else2 Tie.the-claims Reads.Pre Reads.Post Tie.handed_clauses) (st : State) → from (start-2 c) st 2 ≡ from (start-2 c) st 0
 lent c st =
     let s = start-2 c in
     let lent_ok = c.before.lent_ok in
@@ -73,7 +73,7 @@ returns-then-rule-ne0 c =
     λ st e. empty_list_fails s.args.p s.args.offline.now (disk s) (memory s st) s.args.address.0 rule.result rule.ensures c.if-rule-ne0.true ∙ lent c.before.before.before st
 
 -- so are 10 and the narrow 1
-listed : (c : Lts.Else3 Tie.the-claims Reads.Pre Reads.Post) (st : State) → from (start-2 c.before.before) st 4 ≡ from (start-2 c.before.before) st 0
+listed : (c : Lts.Else3 Tie.the-claims Reads.Pre Reads.Post Tie.handed_clauses) (st : State) → from (start-2 c.before.before) st 4 ≡ from (start-2 c.before.before) st 0
 listed c st =
     let s = start-2 c.before.before in
     let rule = c.before.list_rule-rule in

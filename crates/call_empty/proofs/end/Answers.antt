@@ -22,17 +22,17 @@ use Rattle.call_empty.proofs.end.Lts
 use Rattle.call_empty.proofs.end.Reads
 use Rattle.call_empty.proofs.end.Tie
 
-abbrev disk : (c : Lts.Start Tie.the-claims Reads.Pre Reads.Post) → Disk
+abbrev disk : (c : Lts.Start Tie.the-claims Reads.Pre Reads.Post Tie.handed_clauses) → Disk
 disk c = mk_disk c.args.image.now c.args.pointers.now
 
-abbrev memory : (c : Lts.Start Tie.the-claims Reads.Pre Reads.Post) → Memory
+abbrev memory : (c : Lts.Start Tie.the-claims Reads.Pre Reads.Post Tie.handed_clauses) → Memory
 memory c = mk_memory c.args.state c.args.addresses.now c.args.compact.now c.args.inflight.now
 
-abbrev start : Lts.After-checks Tie.the-claims Reads.Pre Reads.Post → Lts.Start Tie.the-claims Reads.Pre Reads.Post
+abbrev start : Lts.After-checks Tie.the-claims Reads.Pre Reads.Post Tie.handed_clauses → Lts.Start Tie.the-claims Reads.Pre Reads.Post Tie.handed_clauses
 start c = c.before.before.before.before.before.before.before.before.before
 
 -- the first refusal among the first six checks
-checked-is : (c : Lts.After-checks Tie.the-claims Reads.Pre Reads.Post) → checked c.checks-c.result ≡ empty_first (start c).args.p (start c).args.offline.now (disk (start c)) (memory (start c)) (start c).args.address.0 0
+checked-is : (c : Lts.After-checks Tie.the-claims Reads.Pre Reads.Post Tie.handed_clauses) → checked c.checks-c.result ≡ empty_first (start c).args.p (start c).args.offline.now (disk (start c)) (memory (start c)) (start c).args.address.0 0
 checked-is c = c.checks-c.ensures (start c).args.state refl
 
 pub returns-in-Fail : goal.returns-in-Fail
@@ -45,13 +45,13 @@ returns-in-Fail c =
 
 -- none of the first six refuses
 passed :
-    (c : Lts.After-enum_told Tie.the-claims Reads.Pre Reads.Post)
+    (c : Lts.After-enum_told Tie.the-claims Reads.Pre Reads.Post Tie.handed_clauses)
     → empty_first (start c.before.before).args.p (start c.before.before).args.offline.now (disk (start c.before.before)) (memory (start c.before.before))
     (start c.before.before).args.address.0 0 ≡ none
 passed c = sym (checked-is c.before.before) ∙ ap checked c.enum_told-1.given.1
 
 -- the eighth is the state's
-slot_of_lem : (c : Lts.After-filling_slot Tie.the-claims Reads.Pre Reads.Post) → c.filling_slot.result ≡ filling_slot (start c.before.before.before).args.p (start c.before.before.before).args.state
+slot_of_lem : (c : Lts.After-filling_slot Tie.the-claims Reads.Pre Reads.Post Tie.handed_clauses) → c.filling_slot.result ≡ filling_slot (start c.before.before.before).args.p (start c.before.before.before).args.state
 slot_of_lem c =
     let a = (start c.before.before.before).args in
     let f = c.before.before.before.before.front_of-f in
@@ -69,14 +69,14 @@ pub state_ok-requires : goal.state_ok-requires
 state_ok-requires c = record { p_value = (first_passed c.args.p c.args.offline.now (disk c.before.before.before.before.before.before.before.before.before.before.before.before.before.before) (memory c.before.before.before.before.before.before.before.before.before.before.before.before.before.before) c.args.address.0 (passed c.before.before.before)).0; bytes_len = c.requires.1 }
 
 -- no stripe is filling
-idle-is : (c : Lts.Else1 Tie.the-claims Reads.Pre Reads.Post) → has_filling (start c.before.before.before.before).args.p (start c.before.before.before.before).args.state ≡ false
+idle-is : (c : Lts.Else1 Tie.the-claims Reads.Pre Reads.Post Tie.handed_clauses) → has_filling (start c.before.before.before.before).args.p (start c.before.before.before.before).args.state ≡ false
 idle-is c =
     let a = (start c.before.before.before.before).args in
     let i = c.before.filling_slot.result in
     sym (slot_is a.p a.state i (slot_of_lem c.before)) ∙ le-ltb i 8 c.if-filling_slot-lt8.false
 
 -- the state's numbers
-state_is : (c : Lts.After-state_ok Tie.the-claims Reads.Pre Reads.Post) → c.state_ok.result ≡ state_ok (start c.before.before.before.before.before).args.p (start c.before.before.before.before.before).args.state
+state_is : (c : Lts.After-state_ok Tie.the-claims Reads.Pre Reads.Post Tie.handed_clauses) → c.state_ok.result ≡ state_ok (start c.before.before.before.before.before).args.p (start c.before.before.before.before.before).args.state
 state_is c =
     let s = start c.before.before.before.before.before in
     c.state_ok.ensures ∙ ap (state_ok s.args.p) (sym s.requires.0)

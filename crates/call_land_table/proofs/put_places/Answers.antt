@@ -21,7 +21,7 @@ pub loop-k-init : goal.loop-k-init
 loop-k-init c =
     let a = c.args in
     let e = c.filled_in-n.ensures in
-    (e, omega arith, refl, ap (λ (x : List ℕ). put_winners a.p (alone a.row) 0 a.t4 x a.addresses.now) (sym (below-start c.filled_in-n.result) ∙ ap below e))
+    (e, omega arith, refl, ap (λ (x : List ℕ). put_winners a.p (alone a.row) 0 a.places x a.addresses.now) (sym (below-start c.filled_in-n.result) ∙ ap below e))
 
 -- a filled position
 low : (c : In-loop-k) → c.loop-k.k < 8
@@ -65,7 +65,7 @@ loop-k-preserved c =
     let i : ℕ = 0 in
     let n = filled_in.result in
     let k = l.k in
-    let qs = a.t4 in
+    let qs = a.places in
     let e : c.entry-e.result.address.0 ≡ (entry_in_of st i k).address = ap (λ (r : Rec). r.address) c.entry-e.ensures in
     let t : List ℕ = up_from (k + 1) (n - (k + 1)) in
     let f : put_winners p st i qs t c.if-a-p.addresses ≡ put_winners p st i qs (up_from k (n - k)) l.addresses =
@@ -81,4 +81,4 @@ pub returns : goal.returns
 returns c =
     let a = c.args in
     let l = c.loop-k in
-    sym (put_end a.p (alone a.row) 0 a.t4 l.k c.filled_in-n.result l.addresses (omega (arith, c.loop-k-test.false))) ∙ l.invariant.3
+    sym (put_end a.p (alone a.row) 0 a.places l.k c.filled_in-n.result l.addresses (omega (arith, c.loop-k-test.false))) ∙ l.invariant.3

@@ -42,7 +42,7 @@ winner-q-requires c =
     let k = loop.k in
     let e : entry.result.address.0 ≡ (entry_in_of (alone a.row) 0 k).address = ap (λ (r : Rec). r.address) entry.ensures in
     let s = q.addresses_len.1 k (omega (arith, loop-test.true, filled_in.ensures)) (omega (arith, c.if-address-p.true, e)) in
-    let v : View = view_of a.p a.offline.now a.image.now a.pointers.now in record { p_value = ((q.p_value, (q.whole, ((q.addresses_len.0, omega (arith, c.if-address-p.true), subst (λ (x : ℕ). Sane a.p v (place_at_of a.addresses.now x)) (sym e) s), q.1.1.1)))).0; whole = ((q.p_value, (q.whole, ((q.addresses_len.0, omega (arith, c.if-address-p.true), subst (λ (x : ℕ). Sane a.p v (place_at_of a.addresses.now x)) (sym e) s), q.1.1.1)))).1.0; addresses_len = ((q.p_value, (q.whole, ((q.addresses_len.0, omega (arith, c.if-address-p.true), subst (λ (x : ℕ). Sane a.p v (place_at_of a.addresses.now x)) (sym e) s), q.1.1.1)))).1.1.0; zones_low = ((q.p_value, (q.whole, ((q.addresses_len.0, omega (arith, c.if-address-p.true), subst (λ (x : ℕ). Sane a.p v (place_at_of a.addresses.now x)) (sym e) s), q.1.1.1)))).1.1.1.0; serial_value = ((q.p_value, (q.whole, ((q.addresses_len.0, omega (arith, c.if-address-p.true), subst (λ (x : ℕ). Sane a.p v (place_at_of a.addresses.now x)) (sym e) s), q.1.1.1)))).1.1.1.1 }
+    let v : View = view_of a.p a.offline.now a.image.now a.pointers.now in record { p_value = q.p_value; whole = q.whole; addresses_len = (q.addresses_len.0, omega (arith, c.if-address-p.true), subst (λ (x : ℕ). Sane a.p v (place_at_of a.addresses.now x)) (sym e) s); zones_low = q.zones_low; serial_value = q.serial_value }
 
 pub offset_bounds-out-k : goal.offset_bounds-out-k
 offset_bounds-out-k c =

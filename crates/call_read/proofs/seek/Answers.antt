@@ -27,22 +27,22 @@ use Rattle.call_read.proofs.seek.Lts
 use Rattle.call_read.proofs.seek.Reads
 use Rattle.call_read.proofs.seek.Tie
 
-abbrev diskIn : Lts.Start Tie.the-claims Reads.Pre Reads.Post → Disk
+abbrev diskIn : Lts.Start Tie.the-claims Reads.Pre Reads.Post Tie.handed_clauses → Disk
 diskIn s = mk_disk s.args.image.now s.args.pointers.now
 
-abbrev memoryIn : Lts.Start Tie.the-claims Reads.Pre Reads.Post → Memory
+abbrev memoryIn : Lts.Start Tie.the-claims Reads.Pre Reads.Post Tie.handed_clauses → Memory
 memoryIn s = mk_memory (state_of s.args.state.now) s.args.addresses.now s.args.compact.now s.args.inflight.now
 
 -- the first refusal among the checks from the i-th on
-abbrev from : Lts.Start Tie.the-claims Reads.Pre Reads.Post → ℕ → Opt Answer
+abbrev from : Lts.Start Tie.the-claims Reads.Pre Reads.Post Tie.handed_clauses → ℕ → Opt Answer
 from s i = read_from s.args.p s.args.offline.now (diskIn s) (memoryIn s) s.args.address.0 s.args.len i
 
 pub returns-then-not-in_range : goal.returns-then-not-in_range
 returns-then-not-in_range c =
     let range = c.in_range in record { result_value = read_range_fails c.args.p c.args.offline.now (diskIn c.before.before.before.before.before.before.before.before.before.before.before) (memoryIn c.before.before.before.before.before.before.before.before.before.before.before) c.args.address.0 c.args.len (sym range.ensures ∙ not-true range.result c.if-not-in_range.true-raw); gives = tt }
 
-module _ (c : Lts.Else1 Tie.the-claims Reads.Pre Reads.Post) where
-  abbrev started : Lts.Start Tie.the-claims Reads.Pre Reads.Post
+module _ (c : Lts.Else1 Tie.the-claims Reads.Pre Reads.Post Tie.handed_clauses) where
+  abbrev started : Lts.Start Tie.the-claims Reads.Pre Reads.Post Tie.handed_clauses
   started = c.before.before.before.before.before.before.before.before.before.before
 
   -- the first check passes
@@ -62,8 +62,8 @@ returns-then-not-lent_ok c =
     let lent = c.lent_ok in record { result_value = read_lengths_fail c.args.p c.args.offline.now (diskIn c.before.before.before.before.before.before.before.before.before.before.before.before.before) (memoryIn c.before.before.before.before.before.before.before.before.before.before.before.before.before) c.args.address.0 c.args.len
           (sym (lent.ensures (memoryIn c.before.before.before.before.before.before.before.before.before.before.before.before.before).state) ∙ not-true lent.result c.if-not-lent_ok.true-raw) ∙ ranging c.before.before.before; gives = tt }
 
-module _ (c : Lts.Else2 Tie.the-claims Reads.Pre Reads.Post) where
-  abbrev looked-at : Lts.Start Tie.the-claims Reads.Pre Reads.Post
+module _ (c : Lts.Else2 Tie.the-claims Reads.Pre Reads.Post Tie.handed_clauses) where
+  abbrev looked-at : Lts.Start Tie.the-claims Reads.Pre Reads.Post Tie.handed_clauses
   looked-at = c.before.before.before.before.before.before.before.before.before.before.before.before
 
   -- the lent buffers have their lengths
@@ -74,8 +74,8 @@ pub returns-then-len-p : goal.returns-then-len-p
 returns-then-len-p c = record { result_value = read_block_fails c.args.p c.args.offline.now (diskIn c.before.before.before.before.before.before.before.before.before.before.before.before.before.before.before) (memoryIn c.before.before.before.before.before.before.before.before.before.before.before.before.before.before.before) c.args.address.0 c.args.len
           (lent c.before.before.before) c.if-len-p.true ∙ ranging c.before.before.before.before.before; gives = tt }
 
-module _ (c : Lts.Else3 Tie.the-claims Reads.Pre Reads.Post) where
-  abbrev lengths : Lts.Start Tie.the-claims Reads.Pre Reads.Post
+module _ (c : Lts.Else3 Tie.the-claims Reads.Pre Reads.Post Tie.handed_clauses) where
+  abbrev lengths : Lts.Start Tie.the-claims Reads.Pre Reads.Post Tie.handed_clauses
   lengths = c.before.before.before.before.before.before.before.before.before.before.before.before.before.before
 
   longs : from lengths 2 ≡ from lengths 0
@@ -93,8 +93,8 @@ returns-then-rule-ne0 c =
     let s = lengths c.before.before.before in record { result_value = read_list_fails s.args.p s.args.offline.now (diskIn s) (memoryIn s) s.args.address.0 s.args.len
           c.list_rule-rule.result c.list_rule-rule.ensures c.if-rule-ne0.true ∙ longs c.before.before.before; gives = tt }
 
-module _ (c : Lts.Else4 Tie.the-claims Reads.Pre Reads.Post) where
-  abbrev listed : Lts.Start Tie.the-claims Reads.Pre Reads.Post
+module _ (c : Lts.Else4 Tie.the-claims Reads.Pre Reads.Post Tie.handed_clauses) where
+  abbrev listed : Lts.Start Tie.the-claims Reads.Pre Reads.Post Tie.handed_clauses
   listed = lengths c.before.before
 
   enough : from listed 4 ≡ from listed 0
@@ -107,8 +107,8 @@ pub returns-then-p-address : goal.returns-then-p-address
 returns-then-p-address c =
     let s = listed c.before.before.before in record { result_value = read_address_fails s.args.p s.args.offline.now (diskIn s) (memoryIn s) s.args.address.0 s.args.len (omega (arith, c.if-p-address.true)) ∙ enough c.before.before.before; gives = tt }
 
-module _ (c : Lts.Else5 Tie.the-claims Reads.Pre Reads.Post) where
-  abbrev addressed : Lts.Start Tie.the-claims Reads.Pre Reads.Post
+module _ (c : Lts.Else5 Tie.the-claims Reads.Pre Reads.Post Tie.handed_clauses) where
+  abbrev addressed : Lts.Start Tie.the-claims Reads.Pre Reads.Post Tie.handed_clauses
   addressed = listed c.before.before
 
   lows : from addressed 5 ≡ from addressed 0
@@ -129,8 +129,8 @@ pub missing-gone-requires : goal.missing-gone-requires
 missing-gone-requires c = (addressed c.before.before.before).pre.0
 
 -- what is so before the lookup
-module _ (c : Lts.Else6 Tie.the-claims Reads.Pre Reads.Post) where
-  abbrev sound : Lts.Start Tie.the-claims Reads.Pre Reads.Post
+module _ (c : Lts.Else6 Tie.the-claims Reads.Pre Reads.Post Tie.handed_clauses) where
+  abbrev sound : Lts.Start Tie.the-claims Reads.Pre Reads.Post Tie.handed_clauses
   sound = addressed c.before.before
 
   ok : in_range sound.args.p ≡ true

@@ -29,23 +29,23 @@ use Rattle.call_reclaim.proofs.choose.Lts
 use Rattle.call_reclaim.proofs.choose.Reads
 use Rattle.call_reclaim.proofs.choose.Tie
 
-abbrev disk : Lts.Start Tie.the-claims Reads.Pre Reads.Post → Disk
+abbrev disk : Lts.Start Tie.the-claims Reads.Pre Reads.Post Tie.handed_clauses → Disk
 disk s = mk_disk s.args.image.now s.args.pointers.now
 
-abbrev memory : Lts.Start Tie.the-claims Reads.Pre Reads.Post → Memory
+abbrev memory : Lts.Start Tie.the-claims Reads.Pre Reads.Post Tie.handed_clauses → Memory
 memory s = mk_memory (state_of s.args.bytes.now) s.args.addresses.now s.args.compact.now s.args.inflight.now
 
-abbrev view : Lts.Start Tie.the-claims Reads.Pre Reads.Post → View
+abbrev view : Lts.Start Tie.the-claims Reads.Pre Reads.Post Tie.handed_clauses → View
 view s = view_of s.args.p s.args.offline.now s.args.image.now s.args.pointers.now
 
-abbrev taken : Lts.Start Tie.the-claims Reads.Pre Reads.Post → Opt Victim
+abbrev taken : Lts.Start Tie.the-claims Reads.Pre Reads.Post Tie.handed_clauses → Opt Victim
 taken s = victim s.args.p (view s) s.args.addresses.now
 
-abbrev refusal : Lts.Start Tie.the-claims Reads.Pre Reads.Post → Opt Answer
+abbrev refusal : Lts.Start Tie.the-claims Reads.Pre Reads.Post Tie.handed_clauses → Opt Answer
 refusal s = reclaim_refusal s.args.p s.args.offline.now (disk s) (memory s)
 
 -- a refusal, as it is given
-said : (s : Lts.Start Tie.the-claims Reads.Pre Reads.Post) (g : Seg) (x : Choice) (a : Answer) → x ≡ Refuse a → refusal s ≡ some a → Chose s.args.p (view s) (state_of s.args.bytes.now) (taken s) (refusal s) g x
+said : (s : Lts.Start Tie.the-claims Reads.Pre Reads.Post Tie.handed_clauses) (g : Seg) (x : Choice) (a : Answer) → x ≡ Refuse a → refusal s ≡ some a → Chose s.args.p (view s) (state_of s.args.bytes.now) (taken s) (refusal s) g x
 said s g x a e h = refused_so s.args.p (view s) (state_of s.args.bytes.now) (taken s) (refusal s) g x a e h
 
 pub returns-then-not-in_range : goal.returns-then-not-in_range
@@ -65,8 +65,8 @@ returns-then-not-lent_ok c =
     (reclaim_range_passes c.args.p c.args.offline.now (disk c.before.before.before.before.before.before.before.before.before.before.before.before.before) (memory c.before.before.before.before.before.before.before.before.before.before.before.before.before) (sym r.ensures ∙ not-false r.result c.if-not-in_range.false-raw)
     ∙ reclaim_lengths_fail c.args.p c.args.offline.now (disk c.before.before.before.before.before.before.before.before.before.before.before.before.before) (memory c.before.before.before.before.before.before.before.before.before.before.before.before.before) (sym (l.ensures (memory c.before.before.before.before.before.before.before.before.before.before.before.before.before).state) ∙ not-true l.result c.if-not-lent_ok.true-raw))
 
-module _ (c : Lts.Else2 Tie.the-claims Reads.Pre Reads.Post) where
-  abbrev begun : Lts.Start Tie.the-claims Reads.Pre Reads.Post
+module _ (c : Lts.Else2 Tie.the-claims Reads.Pre Reads.Post Tie.handed_clauses) where
+  abbrev begun : Lts.Start Tie.the-claims Reads.Pre Reads.Post Tie.handed_clauses
   begun = c.before.before.before.before.before.before.before.before.before.before.before
 
   -- 1 and 2 do not hold
@@ -97,8 +97,8 @@ returns-then-missing-ne0 c =
     (list_done s.args.p s.args.offline.now (disk s) (memory s) (fits c.before.before.before.before.before) (lent c.before.before.before.before.before) l.result l.ensures c.if-rule-ne0.false
     ∙ reclaim_missing_fails s.args.p s.args.offline.now (disk s) (memory s) (λ e. c.if-missing-ne0.true (s.requires.2 ∙ e)))
 
-module _ (c : Lts.Else4 Tie.the-claims Reads.Pre Reads.Post) where
-  abbrev entered : Lts.Start Tie.the-claims Reads.Pre Reads.Post
+module _ (c : Lts.Else4 Tie.the-claims Reads.Pre Reads.Post Tie.handed_clauses) where
+  abbrev entered : Lts.Start Tie.the-claims Reads.Pre Reads.Post Tie.handed_clauses
   entered = begun c.before.before.before
 
   -- nor do 10, the narrow 1 and 3
@@ -137,7 +137,7 @@ pub has_fault-requires : goal.has_fault-requires
 has_fault-requires c = record { p_value = fits c.before.before.before.before.before.before.before.before.before.before.before; bytes_len = (entered c.before.before.before.before.before.before.before.before).requires.3 }
 
 -- where none is live, the table and the state are left
-dead : (c : Lts.After-has_fault Tie.the-claims Reads.Pre Reads.Post) → let s = entered c.before.before.before.before.before.before.before.before in
+dead : (c : Lts.After-has_fault Tie.the-claims Reads.Pre Reads.Post Tie.handed_clauses) → let s = entered c.before.before.before.before.before.before.before.before in
     refusal s ≡ cond c.has_fault.result (some (BadZone 0)) (first_refusal (zones [] ∷ []))
 dead c =
     let s = entered c.before.before.before.before.before.before.before.before in

@@ -22,18 +22,18 @@ use Rattle.call_reclaim.proofs.reclaim.Lts
 use Rattle.call_reclaim.proofs.reclaim.Reads
 use Rattle.call_reclaim.proofs.reclaim.Tie
 
-abbrev disk : (c : Lts.Start Tie.the-claims Reads.Pre Reads.Post) → Disk
+abbrev disk : (c : Lts.Start Tie.the-claims Reads.Pre Reads.Post Tie.handed_clauses) → Disk
 disk c = mk_disk c.args.image.now c.args.pointers.now
 
-abbrev view : (c : Lts.Start Tie.the-claims Reads.Pre Reads.Post) → View
+abbrev view : (c : Lts.Start Tie.the-claims Reads.Pre Reads.Post Tie.handed_clauses) → View
 view c = view_of c.args.p c.args.offline.now c.args.image.now c.args.pointers.now
 
 -- the memory with a state in it
-abbrev memory : (c : Lts.Start Tie.the-claims Reads.Pre Reads.Post) → State → Memory
+abbrev memory : (c : Lts.Start Tie.the-claims Reads.Pre Reads.Post Tie.handed_clauses) → State → Memory
 memory c st = mk_memory st c.args.addresses.now c.args.compact.now c.args.inflight.now
 
 -- the aim is the state's
-aimed : (c : Lts.After-aim_of Tie.the-claims Reads.Pre Reads.Post) → let a = c.before.before.before.before.before.before.before.before.before.args in c.aim_of-a.result ≡ aim_of a.p a.state
+aimed : (c : Lts.After-aim_of Tie.the-claims Reads.Pre Reads.Post Tie.handed_clauses) → let a = c.before.before.before.before.before.before.before.before.before.args in c.aim_of-a.result ≡ aim_of a.p a.state
 aimed c =
     let a = c.before.before.before.before.before.before.before.before.before.args in
     c.aim_of-a.ensures ∙ front_aim a.p a.state c.before.front_of-f.result c.before.front_of-f.ensures
@@ -44,10 +44,10 @@ choose-c-requires c =
     (c.front_of-f.ensures ∙ ap front_of e, aimed c.before ∙ ap (aim_of c.args.p) e, ap (λ (x : State). x.missing) e, c.requires.1)
 
 -- what is chosen, of the state
-abbrev start : Lts.After-choose Tie.the-claims Reads.Pre Reads.Post → Lts.Start Tie.the-claims Reads.Pre Reads.Post
+abbrev start : Lts.After-choose Tie.the-claims Reads.Pre Reads.Post Tie.handed_clauses → Lts.Start Tie.the-claims Reads.Pre Reads.Post Tie.handed_clauses
 start c = c.before.before.before.before.before.before.before.before.before.before
 
-chosen : (c : Lts.After-choose Tie.the-claims Reads.Pre Reads.Post) (x : Choice) → c.choose-c.result.choice ≡ x → let s = start c in let a = s.args in
+chosen : (c : Lts.After-choose Tie.the-claims Reads.Pre Reads.Post Tie.handed_clauses) (x : Choice) → c.choose-c.result.choice ≡ x → let s = start c in let a = s.args in
     Chose a.p (view s) a.state (victim a.p (view s) a.addresses.now) (reclaim_refusal a.p a.offline.now (disk s) (memory s a.state)) c.choose-c.result.segment x
 chosen c x q =
     let s = start c in

@@ -20,18 +20,18 @@ use Rattle.call_write.proofs.checks.Lts
 use Rattle.call_write.proofs.checks.Reads
 use Rattle.call_write.proofs.checks.Tie
 
-abbrev diskIn : Lts.Start Tie.the-claims Reads.Pre Reads.Post → Disk
+abbrev diskIn : Lts.Start Tie.the-claims Reads.Pre Reads.Post Tie.handed_clauses → Disk
 diskIn s = mk_disk s.args.image.now s.args.pointers.now
 
-abbrev memoryIn : Lts.Start Tie.the-claims Reads.Pre Reads.Post → Memory
+abbrev memoryIn : Lts.Start Tie.the-claims Reads.Pre Reads.Post Tie.handed_clauses → Memory
 memoryIn s = mk_memory (state_of s.args.bytes.now) s.args.addresses.now s.args.compact.now s.args.inflight.now
 
 -- the first refusal from the i-th check on
-abbrev from : Lts.Start Tie.the-claims Reads.Pre Reads.Post → ℕ → Opt Answer
+abbrev from : Lts.Start Tie.the-claims Reads.Pre Reads.Post Tie.handed_clauses → ℕ → Opt Answer
 from s i = write_from s.args.p s.args.offline.now (diskIn s) (memoryIn s) s.args.address.0 s.args.block.now i
 
-module _ (c : Lts.Else2 Tie.the-claims Reads.Pre Reads.Post) where
-  abbrev begun : Lts.Start Tie.the-claims Reads.Pre Reads.Post
+module _ (c : Lts.Else2 Tie.the-claims Reads.Pre Reads.Post Tie.handed_clauses) where
+  abbrev begun : Lts.Start Tie.the-claims Reads.Pre Reads.Post Tie.handed_clauses
   begun = c.before.before.before.before.before.before.before.before.before.before.before.before
 
   -- 1 and 2 do not hold, as far as the lent buffers go
@@ -63,8 +63,8 @@ returns-then-block-p c =
     write_block_fails s.args.p s.args.offline.now (diskIn s) (memoryIn s) s.args.address.0 s.args.block.now (lent c.before.before.before) c.if-block-p.true
     ∙ write_range_passes s.args.p s.args.offline.now (diskIn s) (memoryIn s) s.args.address.0 s.args.block.now (ranged c.before.before.before)
 
-module _ (c : Lts.Else3 Tie.the-claims Reads.Pre Reads.Post) where
-  abbrev entered : Lts.Start Tie.the-claims Reads.Pre Reads.Post
+module _ (c : Lts.Else3 Tie.the-claims Reads.Pre Reads.Post Tie.handed_clauses) where
+  abbrev entered : Lts.Start Tie.the-claims Reads.Pre Reads.Post Tie.handed_clauses
   entered = begun c.before.before
 
   -- 1 and 2 do not hold
@@ -85,9 +85,9 @@ returns-then-rule-ne0 c =
     c.list_rule-rule.result c.list_rule-rule.ensures c.if-rule-ne0.true
     ∙ fitting c.before.before.before
 
-module _ (c : Lts.Else4 Tie.the-claims Reads.Pre Reads.Post) where
+module _ (c : Lts.Else4 Tie.the-claims Reads.Pre Reads.Post Tie.handed_clauses) where
   -- nor do 10 and the narrow 1
-  abbrev listed : Lts.Start Tie.the-claims Reads.Pre Reads.Post
+  abbrev listed : Lts.Start Tie.the-claims Reads.Pre Reads.Post Tie.handed_clauses
   listed = entered c.before.before
 
   enough : from listed 4 ≡ from listed 0
@@ -102,7 +102,7 @@ returns-then-missing-ne0 c =
     let s = listed c.before.before in
     write_missing_fails s.args.p s.args.offline.now (diskIn s) (memoryIn s) s.args.address.0 s.args.block.now (λ e. c.if-missing-ne0.true (s.requires.2 ∙ e)) ∙ enough c.before.before
 
-module _ (c : Lts.Else5 Tie.the-claims Reads.Pre Reads.Post) where
+module _ (c : Lts.Else5 Tie.the-claims Reads.Pre Reads.Post Tie.handed_clauses) where
   -- nor does 3
   healthy : from (listed c.before) 5 ≡ from (listed c.before) 0
   healthy =

@@ -91,29 +91,25 @@ pub returns-then-o : goal.returns-then-o
 returns-then-o c =
     let q = c.cut in
     let if1 = c.if-o in
-    let s =
-    c in
     let front_of =
     c.front_of-f in
-    let a = s.args in
-    let none! : write_refusal a.p a.offline.now (disk s) (memory s) a.address.0 a.block.now ≡ none = sym (checked-is c.before.before.before.before.before.before.before.before.before.before.before.before.before.before.before.before.before.before) ∙ ap checked c.in_default.is in
+    let a = c.args in
+    let none! : write_refusal a.p a.offline.now (disk c.before.before.before.before.before.before.before.before.before.before.before.before.before.before.before.before.before.before.before.before.before.before.before.before.before.before.before.before.before) (memory c.before.before.before.before.before.before.before.before.before.before.before.before.before.before.before.before.before.before.before.before.before.before.before.before.before.before.before.before.before) a.address.0 a.block.now ≡ none = sym (checked-is c.before.before.before.before.before.before.before.before.before.before.before.before.before.before.before.before.before.before) ∙ ap checked c.in_default.is in
     let o = c.«open» in
     let k' : Disk = mk_disk o.new.1.0 o.new.1.1.0 in
-    let h : OpeningStores a.p a.offline.now a.state a.count (disk s) o.result k' =
-    opening_front a.p a.offline.now a.state a.count (disk s) o.result k'
-    (subst (λ (x : Front). OpeningStores a.p a.offline.now (behind x) a.count (disk s) o.result k') front_of.ensures o.ensures) in
-    ends_write_cut a.p a.offline.now (disk s) (memory s) a.address.0 a.block.now a.count s.requires.2 none! o.result k' h if1.true q.result q.new.addresses q.new.compact
+    let h : OpeningStores a.p a.offline.now a.state a.count (disk c.before.before.before.before.before.before.before.before.before.before.before.before.before.before.before.before.before.before.before.before.before.before.before.before.before.before.before.before.before) o.result k' =
+    opening_front a.p a.offline.now a.state a.count (disk c.before.before.before.before.before.before.before.before.before.before.before.before.before.before.before.before.before.before.before.before.before.before.before.before.before.before.before.before.before) o.result k'
+    (subst (λ (x : Front). OpeningStores a.p a.offline.now (behind x) a.count (disk c.before.before.before.before.before.before.before.before.before.before.before.before.before.before.before.before.before.before.before.before.before.before.before.before.before.before.before.before.before) o.result k') front_of.ensures o.ensures) in
+    ends_write_cut a.p a.offline.now (disk c.before.before.before.before.before.before.before.before.before.before.before.before.before.before.before.before.before.before.before.before.before.before.before.before.before.before.before.before.before) (memory c.before.before.before.before.before.before.before.before.before.before.before.before.before.before.before.before.before.before.before.before.before.before.before.before.before.before.before.before.before) a.address.0 a.block.now a.count c.requires.2 none! o.result k' h if1.true q.result q.new.addresses q.new.compact
     (ap (λ (x : Change). x.answer) q.ensures.value) q.ensures.addresses_after.0 q.ensures.addresses_after.1
 
 pub row_at-row-requires : goal.row_at-row-requires
 row_at-row-requires c =
-    let s =
-    c in
-    let a = s.args in
-    let none! : write_refusal a.p a.offline.now (disk s) (memory s) a.address.0 a.block.now ≡ none = sym (checked-is c.before.before.before.before.before.before.before.before.before.before.before) ∙ ap checked c.in_default.is in (
-      s.requires.1,
+    let a = c.args in
+    let none! : write_refusal a.p a.offline.now (disk c.before.before.before.before.before.before.before.before.before.before.before.before.before.before.before.before.before.before.before.before.before.before) (memory c.before.before.before.before.before.before.before.before.before.before.before.before.before.before.before.before.before.before.before.before.before.before) a.address.0 a.block.now ≡ none = sym (checked-is c.before.before.before.before.before.before.before.before.before.before.before) ∙ ap checked c.in_default.is in (
+      c.requires.1,
       subst (λ (x : Aim). x.slot < 8) (sym (aimed c.before.before.before.before.before.before.before.before.before.before.before.before))
-          (slot_lt a.p a.state (write_ready a.p a.offline.now (disk s) (memory s) a.address.0 a.block.now none!).waits),
+          (slot_lt a.p a.state (write_ready a.p a.offline.now (disk c.before.before.before.before.before.before.before.before.before.before.before.before.before.before.before.before.before.before.before.before.before.before) (memory c.before.before.before.before.before.before.before.before.before.before.before.before.before.before.before.before.before.before.before.before.before.before) a.address.0 a.block.now none!).waits),
     )
 
 -- the row is the state's
@@ -123,25 +119,21 @@ row_is :
     c.before.before.before.before.before.before.before.before.before.before.before.before.aim_of-a.result.slot
 row_is c =
     let aim-of = c.before.before.before.before.before.before.before.before.before.before.before.before.aim_of-a in
-    let s =
-    c in
-    subst (λ (x : State). c.row_at-row.result ≡ slot_row x aim-of.result.slot) (sym s.requires.0) c.row_at-row.ensures
+    subst (λ (x : State). c.row_at-row.result ≡ slot_row x aim-of.result.slot) (sym c.before.before.before.before.before.before.before.before.before.before.before.before.before.before.before.before.before.before.before.before.before.before.requires.0) c.row_at-row.ensures
 
 pub plan-requires : goal.plan-requires
 plan-requires c =
     let aim-of = c.aim_of-a in
     let f = c.front_of-f in
-    let s =
-    c in
-    let a = s.args in
-    let none! : write_refusal a.p a.offline.now (disk s) (memory s) a.address.0 a.block.now ≡ none = sym (checked-is c.before.before.before.before.before.before.before.before.before.before.before.before.before) ∙ ap checked c.in_default.is in
-    let r = write_ready a.p a.offline.now (disk s) (memory s) a.address.0 a.block.now none! in
+    let a = c.args in
+    let none! : write_refusal a.p a.offline.now (disk c.before.before.before.before.before.before.before.before.before.before.before.before.before.before.before.before.before.before.before.before.before.before.before.before) (memory c.before.before.before.before.before.before.before.before.before.before.before.before.before.before.before.before.before.before.before.before.before.before.before.before) a.address.0 a.block.now ≡ none = sym (checked-is c.before.before.before.before.before.before.before.before.before.before.before.before.before) ∙ ap checked c.in_default.is in
+    let r = write_ready a.p a.offline.now (disk c.before.before.before.before.before.before.before.before.before.before.before.before.before.before.before.before.before.before.before.before.before.before.before.before) (memory c.before.before.before.before.before.before.before.before.before.before.before.before.before.before.before.before.before.before.before.before.before.before.before.before) a.address.0 a.block.now none! in
     let o = c.«open» in
     let k' : Disk = mk_disk o.new.1.0 o.new.1.1.0 in
-    let h : OpeningStores a.p a.offline.now a.state a.count (disk s) o.result k' =
-    opening_front a.p a.offline.now a.state a.count (disk s) o.result k'
-    (subst (λ (x : Front). OpeningStores a.p a.offline.now (behind x) a.count (disk s) o.result k') f.ensures o.ensures) in record { p_value = r.ranged; slot_bound = plan_asks a.p a.offline.now (disk s) (memory s) a.address.0 a.block.now a.count s.requires.2 none! o.result k' h f.result f.ensures aim-of.result (aimed c.before.before.before.before.before.before.before.before.before.before.before.before.before.before)
-            c.row_at-row.result (row_is c.before.before) (stamp_fits s); inflight_len = (r.inflight_long, r.block_long) }
+    let h : OpeningStores a.p a.offline.now a.state a.count (disk c.before.before.before.before.before.before.before.before.before.before.before.before.before.before.before.before.before.before.before.before.before.before.before.before) o.result k' =
+    opening_front a.p a.offline.now a.state a.count (disk c.before.before.before.before.before.before.before.before.before.before.before.before.before.before.before.before.before.before.before.before.before.before.before.before) o.result k'
+    (subst (λ (x : Front). OpeningStores a.p a.offline.now (behind x) a.count (disk c.before.before.before.before.before.before.before.before.before.before.before.before.before.before.before.before.before.before.before.before.before.before.before.before) o.result k') f.ensures o.ensures) in record { p_value = r.ranged; slot_bound = plan_asks a.p a.offline.now (disk c.before.before.before.before.before.before.before.before.before.before.before.before.before.before.before.before.before.before.before.before.before.before.before.before) (memory c.before.before.before.before.before.before.before.before.before.before.before.before.before.before.before.before.before.before.before.before.before.before.before.before) a.address.0 a.block.now a.count c.requires.2 none! o.result k' h f.result f.ensures aim-of.result (aimed c.before.before.before.before.before.before.before.before.before.before.before.before.before.before)
+            c.row_at-row.result (row_is c.before.before) (stamp_fits c.before.before.before.before.before.before.before.before.before.before.before.before.before.before.before.before.before.before.before.before.before.before.before.before); inflight_len = (r.inflight_long, r.block_long) }
 
 pub returns : goal.returns
 returns c =
@@ -151,14 +143,12 @@ returns c =
     let aim-of = c.aim_of-a in
     let f =
     c.front_of-f in
-    let s =
-    c in
-    let a = s.args in
-    let none! : write_refusal a.p a.offline.now (disk s) (memory s) a.address.0 a.block.now ≡ none = sym (checked-is c.before.before.before.before.before.before.before.before.before.before.before.before.before.before.before.before) ∙ ap checked c.in_default.is in
+    let a = c.args in
+    let none! : write_refusal a.p a.offline.now (disk c.before.before.before.before.before.before.before.before.before.before.before.before.before.before.before.before.before.before.before.before.before.before.before.before.before.before.before) (memory c.before.before.before.before.before.before.before.before.before.before.before.before.before.before.before.before.before.before.before.before.before.before.before.before.before.before.before) a.address.0 a.block.now ≡ none = sym (checked-is c.before.before.before.before.before.before.before.before.before.before.before.before.before.before.before.before) ∙ ap checked c.in_default.is in
     let o = c.«open» in
     let k' : Disk = mk_disk o.new.1.0 o.new.1.1.0 in
-    let h : OpeningStores a.p a.offline.now a.state a.count (disk s) o.result k' =
-    opening_front a.p a.offline.now a.state a.count (disk s) o.result k'
-    (subst (λ (x : Front). OpeningStores a.p a.offline.now (behind x) a.count (disk s) o.result k') f.ensures o.ensures) in
-    ends_plan a.p a.offline.now (disk s) (memory s) a.address.0 a.block.now a.count s.requires.2 none! o.result k' h f.result f.ensures aim-of.result (aimed c.before.before.before.before.before.before.before.before.before.before.before.before.before.before.before.before.before)
-    row_at.result (row_is c.before.before.before.before.before) (sized s) if1.false q.result q.new.inflight q.ensures.value q.ensures.inflight_after
+    let h : OpeningStores a.p a.offline.now a.state a.count (disk c.before.before.before.before.before.before.before.before.before.before.before.before.before.before.before.before.before.before.before.before.before.before.before.before.before.before.before) o.result k' =
+    opening_front a.p a.offline.now a.state a.count (disk c.before.before.before.before.before.before.before.before.before.before.before.before.before.before.before.before.before.before.before.before.before.before.before.before.before.before.before) o.result k'
+    (subst (λ (x : Front). OpeningStores a.p a.offline.now (behind x) a.count (disk c.before.before.before.before.before.before.before.before.before.before.before.before.before.before.before.before.before.before.before.before.before.before.before.before.before.before.before) o.result k') f.ensures o.ensures) in
+    ends_plan a.p a.offline.now (disk c.before.before.before.before.before.before.before.before.before.before.before.before.before.before.before.before.before.before.before.before.before.before.before.before.before.before.before) (memory c.before.before.before.before.before.before.before.before.before.before.before.before.before.before.before.before.before.before.before.before.before.before.before.before.before.before.before) a.address.0 a.block.now a.count c.requires.2 none! o.result k' h f.result f.ensures aim-of.result (aimed c.before.before.before.before.before.before.before.before.before.before.before.before.before.before.before.before.before)
+    row_at.result (row_is c.before.before.before.before.before) (sized c.before.before.before.before.before.before.before.before.before.before.before.before.before.before.before.before.before.before.before.before.before.before.before.before.before.before.before) if1.false q.result q.new.inflight q.ensures.value q.ensures.inflight_after

@@ -7,4 +7,4 @@ use Rattle.recover_decode.proofs.put_groups.Goals as goal
 
 pub put_groups_with-requires : goal.put_groups_with-requires
 put_groups_with-requires c =
-    let q = c.requires in record { p_value = ((q.p_value, (q.whole, (q.lacks, ((refl, q.zones_low.0, q.zones_low.1), q.1.1.1.1))))).0; whole = ((q.p_value, (q.whole, (q.lacks, ((refl, q.zones_low.0, q.zones_low.1), q.1.1.1.1))))).1.0; lacks = ((q.p_value, (q.whole, (q.lacks, ((refl, q.zones_low.0, q.zones_low.1), q.1.1.1.1))))).1.1.0; at_len = ((q.p_value, (q.whole, (q.lacks, ((refl, q.zones_low.0, q.zones_low.1), q.1.1.1.1))))).1.1.1.0; by_index = ((q.p_value, (q.whole, (q.lacks, ((refl, q.zones_low.0, q.zones_low.1), q.1.1.1.1))))).1.1.1.1.0; by_index_2 = ((q.p_value, (q.whole, (q.lacks, ((refl, q.zones_low.0, q.zones_low.1), q.1.1.1.1))))).1.1.1.1.1.0; by_index_3 = ((q.p_value, (q.whole, (q.lacks, ((refl, q.zones_low.0, q.zones_low.1), q.1.1.1.1))))).1.1.1.1.1.1 }
+    let q = c.requires in record { p_value = q.p_value; whole = q.whole; lacks = q.lacks; at_len = (refl, q.zones_low.0, q.zones_low.1); by_index = q.by_index; by_index_2 = q.by_index_2; by_index_3 = q.by_index_3 }

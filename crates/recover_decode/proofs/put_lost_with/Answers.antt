@@ -17,9 +17,10 @@ use Rattle.recover_groups.specs.Chunks.{counts-entered}
 use Rattle.recover_groups.specs.Groups.{AllEntered, segment_in}
 use Rattle.recover_decode.specs.Group.{lost_store_is}
 use Rattle.recover_decode.proofs.put_lost_with.Goals as goal
+use Rattle.recover_decode.proofs.put_lost_with.Goals.{After-lost_block-arg-1}
 
 entered :
-    (c : tie.After-lost-block-arg2)
+    (c : After-lost_block-arg-1)
     → AllEntered c.args.p c.args.w.gone
     c.args.w.base c.args.at.now
     c.args.k
@@ -31,12 +32,12 @@ entered c =
 pub lost_block-requires : goal.lost_block-requires
 lost_block-requires c =
     let q = c.requires in
-    let h = q.block_len in record { p_value = q.p_value; image_len = (q.whole.image_long, h.1, h.2, h.3, q.lacks.drive_low, h.4, h.0); all_entered = entered c }
+    let h = q.block_len in record { p_value = q.p_value; image_len = (q.whole.image_long, h.1, h.2, h.3, q.lacks.drive_low, h.4, h.0); all_entered = entered (goal.at.lost_block-requires c).After-lost_block-arg-1 }
 
 pub lost_rec-q-requires : goal.lost_rec-q-requires
 lost_rec-q-requires c =
     let q = c.requires in
-    let h = q.block_len in record { p_value = q.p_value; image_len = (q.whole.image_long, h.1, h.2, h.3, q.lacks.drive_low, h.4); all_entered = entered (c) }
+    let h = q.block_len in record { p_value = q.p_value; image_len = (q.whole.image_long, h.1, h.2, h.3, q.lacks.drive_low, h.4); all_entered = entered (goal.at.lost_rec-q-requires c).After-lost_block-arg-1 }
 
 pub write_record-requires : goal.write_record-requires
 write_record-requires c = sym spare_len_lem
@@ -74,12 +75,12 @@ returns c =
     let k' = mk_disk put-limited.new.image put-limited.new.pointers in
     let m = put-limited.result in
     λ off.
-    let rd = q.1.1.1.1.0 off in
+    let rd = q.by_index off in
     let b = lost-block.ensures off a.pointers.now rd in
     let x = lost-rec.ensures off a.pointers.now rd in
     let e =
     lost_store_is a.p (view_of a.p off a.image.now a.pointers.now) a.w.gone a.w.seg a.drive (a.w.base + a.k)
-    lost-block.new.block (rec_val lost-rec.result) q.1.1.0.lost b x in
+    lost-block.new.block (rec_val lost-rec.result) q.lacks.lost b x in
     subst (λ (s : Store). Storing a.p a.count (s ∷ []) k m k') e
     (subst (λ (z : ℕ). Storing a.p a.count (put a.drive z lost-block.new.block (record_bytes (rec_val lost-rec.result)) ∷ []) k m k') zone_on_holds.ensures
     (subst (λ (y : List ℕ). Storing a.p a.count (put a.drive zone_on_holds.result lost-block.new.block y ∷ []) k m k') write-record.ensures put-limited.ensures))

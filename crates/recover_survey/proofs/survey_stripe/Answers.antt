@@ -162,5 +162,5 @@ returns c =
           sym (counts'.ensures (segment_in p off a.image.now ps w) w.base (sh.2 rf) h.image_len.4) ∙ if1.false in (
             ct,
             loose_counts p (view_of p off a.image.now ps) w.gone w.seg s x.result (length (present p w.gone))
-                (x.ensures.1 (segment_in p off a.image.now ps w) w.base (sh.2 rf) h.image_len.4) refl ct c.if-chunks-eq0.false,
+                (x.ensures.value (segment_in p off a.image.now ps w) w.base (sh.2 rf) h.image_len.4) refl ct c.if-chunks-eq0.false,
           )) }
