@@ -234,6 +234,18 @@ class Fn:
                 rest = re.sub(r"(?<![\w'\u2080-\u2089.-])%s(?![\w'\u2080-\u2089-])" % re.escape(m.group(1)), "c", rest)
             body = body[: m.start()] + rest
         body = re.sub(r"(?<=[\w'])\.pre(?![\w'-])", ".requires", body)
+        # a second name for a name is the first
+        while True:
+            m = re.search(r"let (%s)(?: : [^=\n]*?)?\s*=\s*(%s)\s+in\s*" % (ID, ID), body)
+            if not m or m.group(2) in ("refl", "tt", "cc"):
+                break
+            rest = re.sub(r"(?<![\w'\u2080-\u2089.-])%s(?![\w'\u2080-\u2089-])" % re.escape(m.group(1)), m.group(2), body[m.end() :])
+            body = body[: m.start()] + rest
+        # a name for a step that hides a word is another name
+        for m in list(re.finditer(r"let (%s)(\s*=\s*c\.(%s)\s+in)" % (ID, ID), body)):
+            x = m.group(1)
+            if self.step(m.group(3)) in self.steps and re.search(r"(?<![\w'\u2080-\u2089.-])%s(?![\w'\u2080-\u2089.-])(?!\s*=\s*c\.)" % re.escape(x), body) and len(x) > 2:
+                body = re.sub(r"(?<![\w'\u2080-\u2089.-])%s(?=\.[\w'])" % re.escape(x), x + "_call", body).replace(m.group(0), f"let {x}_call{m.group(2)}")
         # a name for the step of an arm is the step itself
         for a in list(re.finditer(r"let (%s)(?: : [^=\n]*?)?\s*=\s*c\.(%s)\s+in\s*" % (ID, ID), body)):
             if not self.raw and norm(a.group(2)) in self.arms and norm(a.group(2)) not in self.callee:
@@ -280,15 +292,17 @@ class Fn:
             elif len(o) == 1:
                 body = re.sub(re.escape(o[0]) + r"(?![\w'-])", n[0], body)
         # names for what a call ensures
-        for m in list(re.finditer(r"let (%s)(?: : [^=]*?)?\s*=\s*([\w']+)\.(%s)\.ensures\s+in" % (ID, ID), body)):
-            callee = self.callee.get(next((o for o, n in self.steps.items() if n == m.group(3)), ""))
+        ens_of = [(m.group(1), next((o for o, n in self.steps.items() if n == m.group(3)), "")) for m in re.finditer(r"let (%s)(?: : [^=]*?)?\s*=\s*([\w']+)\.(%s)\.ensures\s+in" % (ID, ID), body)]
+        ens_of += [(m.group(1), alias[m.group(2)]) for m in re.finditer(r"let (%s)(?: : [^=]*?)?\s*=\s*(%s)\.ensures\s+in" % (ID, ID), body) if m.group(2) in alias]
+        for name_, old_ in ens_of:
+            callee = self.callee.get(old_)
             ens = self.known.get(callee, ([], []))[1]
             if len(ens) > 1:
                 def named(k, ens=ens):
                     c = self.clause(ens, k.group(2))
                     return k.group(1) + (c if c else k.group(2))
 
-                body = re.sub(r"(?<![\w'.-])(%s)((?:\.[\w'-]+)+)" % re.escape(m.group(1)), named, body)
+                body = re.sub(r"(?<![\w'.-])(%s)((?:\.[\w'-]+)+)" % re.escape(name_), named, body)
         if len(self.pre) > 1:
             def pre(m):
                 c = self.clause(self.pre, m.group(2))
@@ -564,7 +578,19 @@ def convert(fn, text):
             if old in fn.entry["asked"] and len(fn.entry["asked"][old]) > 1:
                 names = fn.entry["asked"][old]
                 parts = tuple_of(last, len(names))
-                if parts:
+                front = ""
+                if not parts and last.startswith("rw ") and last.endswith(")"):
+                    i_, d_ = len(last) - 1, 0
+                    while True:
+                        d_ += (last[i_] in ")]}") - (last[i_] in "([{")
+                        if d_ == 0:
+                            break
+                        i_ -= 1
+                    parts = tuple_of(last[i_:], len(names))
+                    front = last[:i_] if parts else ""
+                if front:
+                    term = term[:at] + " " + front + "(record { " + "; ".join(f"{a} = {b}" for a, b in zip(names, parts)) + " })"
+                elif parts:
                     term = term[:at] + " record { " + "; ".join(f"{a} = {b}" for a, b in zip(names, parts)) + " }"
                 else:
                     said.append(f"{new}: clauses {names}")

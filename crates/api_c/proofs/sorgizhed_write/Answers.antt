@@ -53,9 +53,6 @@ returns c =
     in
     let a =
     c.args in
-    let if1 =
-    if1'
-    in
     let state_len_lem =
     c.state_len in
     let p : Params = mk_params a.n a.b a.z a.s a.g a.l in
@@ -69,6 +66,6 @@ returns c =
     ∙ write'.ensures
     ∙ ap (λ (x : State). call_disk p a.offline.now (lent_disk l) (mk_memory x a.addresses.now a.compact.now a.inflight.now)
     (write a.address a.block.now a.count)) decode.ensures in
-    hears_change p l (write a.address a.block.now a.count) a.block.now (if1.left ∙ state_len_lem.ensures)
+    hears_change p l (write a.address a.block.now a.count) a.block.now (if1'.left ∙ state_len_lem.ensures)
     (write_keeps p a.offline.now (lent_disk l) (lent_memory l) a.address a.block.now a.count)
     write'.result w.1.0 w.1.1.0 w.1.1.1.0 w.1.1.1.1.0 w.1.1.1.1.1.0 apply.new.state a.block.now apply.result e apply.ensures.0 apply.ensures.1

@@ -62,8 +62,7 @@ module _ (c : Lts.Else2 Tie.the-claims Reads.Pre Reads.Post Tie.handed_clauses) 
   -- 1 and 2 do not hold
   fitting : from begun 2 ≡ from begun 0
   fitting =
-      let s = begun in
-      close_lengths_pass s.args.p s.args.offline.now (diskIn s) (memoryIn s) lent ∙ close_range_passes s.args.p s.args.offline.now (diskIn s) (memoryIn s) ranged
+      close_lengths_pass begun.args.p begun.args.offline.now (diskIn begun) (memoryIn begun) lent ∙ close_range_passes begun.args.p begun.args.offline.now (diskIn begun) (memoryIn begun) ranged
 
 pub list_rule-rule-requires : goal.list_rule-rule-requires
 list_rule-rule-requires c =
@@ -81,8 +80,7 @@ module _ (c : Lts.Else3 Tie.the-claims Reads.Pre Reads.Post Tie.handed_clauses) 
   -- nor do 10 and the narrow 1
   enough : from listed 4 ≡ from listed 0
   enough =
-      let s = listed in
-      close_list_passes s.args.p s.args.offline.now (diskIn s) (memoryIn s) c.before.list_rule-rule.result c.before.list_rule-rule.ensures c.if-rule-ne0.false
+      close_list_passes listed.args.p listed.args.offline.now (diskIn listed) (memoryIn listed) c.before.list_rule-rule.result c.before.list_rule-rule.ensures c.if-rule-ne0.false
       ∙ fitting c.before.before
 
 pub returns-then-missing-ne0 : goal.returns-then-missing-ne0

@@ -40,9 +40,9 @@ loop-k-preserved c =
     let pad = c.pad-next in
     let r = pad.ensures in (
       omega (arith, low (goal.at.loop-k-preserved c).In-loop-k),
-      pad_filled a.p a.i l.next l.inflight l.k l.invariant.1 ∙ ap (λ (x : Row). x.filled) (sym r.0),
+      pad_filled a.p a.i l.next l.inflight l.k l.invariant.1 ∙ ap (λ (x : Row). x.filled) (sym r.value),
       pad.auto.inflight ∙ l.invariant.2,
-      (λ j. padded_row a.p a.i (data_count a.p - (l.k + 1)) (r.0 j) (r.1 j)) ∙ pads_turn a.p a.i l.next l.inflight l.k (low (goal.at.loop-k-preserved c).In-loop-k) ∙ l.invariant.3,
+      (λ j. padded_row a.p a.i (data_count a.p - (l.k + 1)) (r.value j) (r.inflight_after j)) ∙ pads_turn a.p a.i l.next l.inflight l.k (low (goal.at.loop-k-preserved c).In-loop-k) ∙ l.invariant.3,
     )
 
 pub shape_of-inflight : goal.shape_of-inflight

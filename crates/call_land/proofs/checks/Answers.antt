@@ -64,9 +64,8 @@ module _ (c : Lts.Else2 Tie.the-claims Reads.Pre Reads.Post Tie.handed_clauses) 
 
   fitting : from begun 2 ≡ from begun 0
   fitting =
-      let s = begun in
-      land_lengths_pass s.args.p s.args.offline.now (diskIn s) (memoryIn s) s.args.drive s.args.stripe lent
-      ∙ land_range_passes s.args.p s.args.offline.now (diskIn s) (memoryIn s) s.args.drive s.args.stripe ranged
+      land_lengths_pass begun.args.p begun.args.offline.now (diskIn begun) (memoryIn begun) begun.args.drive begun.args.stripe lent
+      ∙ land_range_passes begun.args.p begun.args.offline.now (diskIn begun) (memoryIn begun) begun.args.drive begun.args.stripe ranged
 
 pub list_rule-rule-requires : goal.list_rule-rule-requires
 list_rule-rule-requires c =
@@ -86,8 +85,7 @@ module _ (c : Lts.Else3 Tie.the-claims Reads.Pre Reads.Post Tie.handed_clauses) 
   -- nor do 10 and the narrow 1
   enough : from listed 4 ≡ from listed 0
   enough =
-      let s = listed in
-      land_list_passes s.args.p s.args.offline.now (diskIn s) (memoryIn s) s.args.drive s.args.stripe c.before.list_rule-rule.result c.before.list_rule-rule.ensures c.if-rule-ne0.false
+      land_list_passes listed.args.p listed.args.offline.now (diskIn listed) (memoryIn listed) listed.args.drive listed.args.stripe c.before.list_rule-rule.result c.before.list_rule-rule.ensures c.if-rule-ne0.false
       ∙ fitting c.before.before
 
 pub returns-then-missing-ne0 : goal.returns-then-missing-ne0
@@ -152,15 +150,14 @@ module _ (c : Lts.Else6 Tie.the-claims Reads.Pre Reads.Post Tie.handed_clauses) 
 
   looked : LookedAt done.args.p (memoryIn done) done.args.addresses.now done.args.opened done.args.drive done.args.stripe done.args.seen
   looked =
-      let s = done in
-      let st = (memoryIn s).state in
-      let w = waits_low s.args.p st s.args.drive s.args.stripe (waits c.before.before) in
+      let st = (memoryIn done).state in
+      let w = waits_low done.args.p st done.args.drive done.args.stripe (waits c.before.before) in
       record {
         addresses = refl;
-        opened_is = sym s.requires.missing_value.2;
-        looks = s.requires.looks;
+        opened_is = sym done.requires.missing_value.2;
+        looks = done.requires.looks;
         slot_low = w.1;
-        filled-low = filled-low s.args.p st fine (slot_of st s.args.stripe) w.1;
+        filled-low = filled-low done.args.p st fine (slot_of st done.args.stripe) w.1;
       }
 
 pub zone_checks-requires : goal.zone_checks-requires

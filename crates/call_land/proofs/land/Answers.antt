@@ -69,14 +69,13 @@ module _ (c : Lts.After-enum_told Tie.the-claims Reads.Pre Reads.Post Tie.handed
   chosen =
       let checks = c.before.before.checks-sight in
       let look = c.before.before.before.before.look_at-seen in
-      let s = begun in
       let e : checked checks.result.check ≡ none = ap checked c.enum_told-1.given.1 in
       record {
-        sized = sized s;
+        sized = sized begun;
         front = c.before.before.before.front_of-front.ensures;
         looks = look.ensures;
-        target = subst (λ (x : State). TargetAt s.args.p (seen s.args.p s.args.offline.now (disk s)) x s.args.drive look.result.done checks.result.target)
-            (sym s.requires.0) (checks.ensures.target_at e);
+        target = subst (λ (x : State). TargetAt begun.args.p (seen begun.args.p begun.args.offline.now (disk begun)) x begun.args.drive look.result.done checks.result.target)
+            (sym begun.requires.0) (checks.ensures.target_at e);
         none! = sym (checked-is c.before.before) ∙ e;
       }
 

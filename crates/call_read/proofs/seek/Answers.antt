@@ -51,8 +51,7 @@ module _ (c : Lts.Else1 Tie.the-claims Reads.Pre Reads.Post Tie.handed_clauses) 
 
   ranging : from started 1 ≡ from started 0
   ranging =
-      let s = started in
-      read_range_passes s.args.p s.args.offline.now (diskIn s) (memoryIn s) s.args.address.0 s.args.len in_range_holds
+      read_range_passes started.args.p started.args.offline.now (diskIn started) (memoryIn started) started.args.address.0 started.args.len in_range_holds
 
 pub lent_ok-requires : goal.lent_ok-requires
 lent_ok-requires c = in_range_holds c.before
@@ -80,8 +79,7 @@ module _ (c : Lts.Else3 Tie.the-claims Reads.Pre Reads.Post Tie.handed_clauses) 
 
   longs : from lengths 2 ≡ from lengths 0
   longs =
-      let s = lengths in
-      read_lengths_pass s.args.p s.args.offline.now (diskIn s) (memoryIn s) s.args.address.0 s.args.len
+      read_lengths_pass lengths.args.p lengths.args.offline.now (diskIn lengths) (memoryIn lengths) lengths.args.address.0 lengths.args.len
       (lent c.before.before) c.if-len-p.false ∙ ranging c.before.before.before.before
 
 pub list_rule-rule-requires : goal.list_rule-rule-requires
@@ -99,8 +97,7 @@ module _ (c : Lts.Else4 Tie.the-claims Reads.Pre Reads.Post Tie.handed_clauses) 
 
   enough : from listed 4 ≡ from listed 0
   enough =
-      let s = listed in
-      read_list_passes s.args.p s.args.offline.now (diskIn s) (memoryIn s) s.args.address.0 s.args.len
+      read_list_passes listed.args.p listed.args.offline.now (diskIn listed) (memoryIn listed) listed.args.address.0 listed.args.len
       c.before.list_rule-rule.result c.before.list_rule-rule.ensures c.if-rule-ne0.false ∙ longs c.before.before
 
 pub returns-then-p-address : goal.returns-then-p-address
@@ -113,8 +110,7 @@ module _ (c : Lts.Else5 Tie.the-claims Reads.Pre Reads.Post Tie.handed_clauses) 
 
   lows : from addressed 5 ≡ from addressed 0
   lows =
-      let s = addressed in
-      read_address_passes s.args.p s.args.offline.now (diskIn s) (memoryIn s) s.args.address.0 s.args.len (omega (arith, c.if-p-address.false)) ∙ enough c.before.before
+      read_address_passes addressed.args.p addressed.args.offline.now (diskIn addressed) (memoryIn addressed) addressed.args.address.0 addressed.args.len (omega (arith, c.if-p-address.false)) ∙ enough c.before.before
 
 pub state_ok-requires : goal.state_ok-requires
 state_ok-requires c = record { p_value = in_range_holds c.before.before.before.before.before.before.before.before.before; bytes_len = (addressed c.before).requires.0 }

@@ -104,9 +104,8 @@ module _ (c : Lts.Else4 Tie.the-claims Reads.Pre Reads.Post Tie.handed_clauses) 
   -- nor do 10, the narrow 1 and 3
   passed : refusal entered ≡ first_refusal (later_checks entered.args.p (view entered) (state_of entered.args.bytes.now) entered.args.addresses.now (taken entered))
   passed =
-      let s = entered in
       let l = c.before.before.list_rule-rule in
-      front_passes s.args.p s.args.offline.now (disk s) (memory s) (fits c.before.before.before) (lent c.before.before.before) l.result l.ensures c.before.if-rule-ne0.false (sym s.requires.2 ∙ c.if-missing-ne0.false)
+      front_passes entered.args.p entered.args.offline.now (disk entered) (memory entered) (fits c.before.before.before) (lent c.before.before.before) l.result l.ensures c.before.if-rule-ne0.false (sym entered.requires.2 ∙ c.if-missing-ne0.false)
 
 pub look-seen-requires : goal.look-seen-requires
 look-seen-requires c =

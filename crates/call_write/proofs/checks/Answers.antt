@@ -70,9 +70,8 @@ module _ (c : Lts.Else3 Tie.the-claims Reads.Pre Reads.Post Tie.handed_clauses) 
   -- 1 and 2 do not hold
   fitting : from entered 2 ≡ from entered 0
   fitting =
-      let s = entered in
-      write_lengths_pass s.args.p s.args.offline.now (diskIn s) (memoryIn s) s.args.address.0 s.args.block.now (lent c.before.before) c.if-block-p.false
-      ∙ write_range_passes s.args.p s.args.offline.now (diskIn s) (memoryIn s) s.args.address.0 s.args.block.now (ranged c.before.before)
+      write_lengths_pass entered.args.p entered.args.offline.now (diskIn entered) (memoryIn entered) entered.args.address.0 entered.args.block.now (lent c.before.before) c.if-block-p.false
+      ∙ write_range_passes entered.args.p entered.args.offline.now (diskIn entered) (memoryIn entered) entered.args.address.0 entered.args.block.now (ranged c.before.before)
 
 pub list_rule-rule-requires : goal.list_rule-rule-requires
 list_rule-rule-requires c =
@@ -92,8 +91,7 @@ module _ (c : Lts.Else4 Tie.the-claims Reads.Pre Reads.Post Tie.handed_clauses) 
 
   enough : from listed 4 ≡ from listed 0
   enough =
-      let s = listed in
-      write_list_passes s.args.p s.args.offline.now (diskIn s) (memoryIn s) s.args.address.0 s.args.block.now
+      write_list_passes listed.args.p listed.args.offline.now (diskIn listed) (memoryIn listed) listed.args.address.0 listed.args.block.now
       c.before.list_rule-rule.result c.before.list_rule-rule.ensures c.if-rule-ne0.false
       ∙ fitting c.before.before
 

@@ -53,11 +53,11 @@ loop-i-preserved c =
     let footers-stored = c.footers_stored-n in
     let q : List ℕ → Zone = λ off. zone_at (view_of a.p off a.image.now a.pointers.now) a.drive a.zone in
     let f : List ℕ → ℕ → Bool = λ off. footer_off a.p (q off) in
-    let l = loop in (
+    (
       omega (arith, loop-test.true),
-      λ off. sym (any_passed (f off) l.i footers-stored.result loop-test.true
+      λ off. sym (any_passed (f off) loop.i footers-stored.result loop-test.true
           (sym (c.footer_differs.ensures off a.pointers.now h.whole.pointers_long) ∙ c.if-footer_differs.false))
-          ∙ l.invariant.1 off,
+          ∙ loop.invariant.1 off,
     )
 
 pub returns : goal.returns

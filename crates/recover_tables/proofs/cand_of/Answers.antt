@@ -56,12 +56,12 @@ pub returns : goal.returns
 returns c =
     let a = c.args in
     let q = c.requires in
-    let place_of = c.place_of-place in
+    let place_of_call = c.place_of-place in
     let zone_on_holds = c.zone_on-zone in
     let offset-of = c.offset_of-offset in
     let rec_of_holds = c.rec_of-r in
     let p = a.p in
     let o = offset-of.result in
-    λ off ps rd es. cand_is p (view_of p off a.image.now ps) a.w.gone a.w.seg (a.w.base + a.k) a.drive (rec_val rec_of_holds.result) a.serial.0 o place_of.result.0
+    λ off ps rd es. cand_is p (view_of p off a.image.now ps) a.w.gone a.w.seg (a.w.base + a.k) a.drive (rec_val rec_of_holds.result) a.serial.0 o place_of_call.result.0
     (rec_of_holds.ensures off ps rd) (offset-of.ensures p (segment_in p off a.image.now ps a.w) rd.indexed q.image_len.4 q.image_len.5) es
-    (place_of.ensures.0 ∙ ap (λ (z : ℕ). place_of p a.drive z (1 + o)) zone_on_holds.ensures)
+    (place_of_call.ensures.0 ∙ ap (λ (z : ℕ). place_of p a.drive z (1 + o)) zone_on_holds.ensures)

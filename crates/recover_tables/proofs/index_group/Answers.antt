@@ -38,12 +38,12 @@ loop-d-preserved c =
     let if1 = c.loop-d-test in
     let p = a.p in
     let w = a.w in
-    let x = index-any in (
+    (
       omega (arith, if1.true),
-      x.auto.1.1.1.1.1.0 ∙ l.invariant.1,
+      index-any.auto.at ∙ l.invariant.1,
       λ off im G m sh.
-          let z = x.ensures off im G m sh in
-          rows_next p w.base l.d (λ e. group_recs p w.base (recs_on (segment_in p off im a.pointers.now w) e)) l.at x.new.1.1.1.1.1.0
+          let z = index-any.ensures off im G m sh in
+          rows_next p w.base l.d (λ e. group_recs p w.base (recs_on (segment_in p off im a.pointers.now w) e)) l.at index-any.new.at
           (omega (arith, group_len_le p w.base, (ranged p q.p_value).group_high)) (l.invariant.2 off im G m sh) z.0 z.1,
     )
 

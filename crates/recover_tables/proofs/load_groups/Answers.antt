@@ -22,24 +22,20 @@ pub is_sealed-full-requires : goal.is_sealed-full-requires
 is_sealed-full-requires c =
     let args = c.args in
     let pre = c.requires in
-    let a = args in
-    let q = pre in
-    let v : View = view_of a.p a.offline.now a.image.now a.pointers.now in record { p_value = q.0.in_range_holds; pointers_len = (q.0.whole.pointers_long, remaining-low a.p v a.gone q.0.here a.seg q.1.1.0.0) }
+    let v : View = view_of args.p args.offline.now args.image.now args.pointers.now in record { p_value = pre.ground.in_range_holds; pointers_len = (pre.ground.whole.pointers_long, remaining-low args.p v args.gone pre.ground.here args.seg pre.fact.0) }
 
 pub loop-base-init : goal.loop-base-init
 loop-base-init c =
     let args = c.args in
     let pre = c.requires in
-    let a = args in
-    let q = pre in
-    let v : View = view_of a.p a.offline.now a.image.now a.pointers.now in (
+    let v : View = view_of args.p args.offline.now args.image.now args.pointers.now in (
       refl,
       refl,
-      zero-mod a.p.G,
+      zero-mod args.p.G,
       omega arith,
       omega arith,
-      q.1.1.1.0,
-      λ tb m n w. subst (λ (x : List ℕ). Walked a.p v a.gone a.compact.now a.seg x a.addresses.now tb a.stamp.0 m 0 n) (sym (below-start a.p.S)) w,
+      pre.known.0,
+      λ tb m n w. subst (λ (x : List ℕ). Walked args.p v args.gone args.compact.now args.seg x args.addresses.now tb args.stamp.0 m 0 n) (sym (below-start args.p.S)) w,
     )
 
 pub load_group-t-requires : goal.load_group-t-requires
@@ -48,18 +44,15 @@ load_group-t-requires c =
     let pre = c.requires in
     let loop = c.loop-base in
     let if1 = c.loop-base-test in
-    let is-sealed = c.is_sealed-full in
-    let a = args in
-    let q = pre in
-    let l = loop in record { ground = q.0; gathered = q.1.0; at_len = (
-            l.invariant.1 ∙ q.1.1.1.1,
+    let is-sealed = c.is_sealed-full in record { ground = pre.ground; gathered = pre.gathered; at_len = (
+            loop.invariant.1 ∙ pre.known.1,
             if1.true,
-            l.invariant.2,
-            is-sealed.ensures a.offline.now a.image.now q.0.whole.image_long,
-            q.1.1.0.0,
-            q.1.1.0.1,
-            l.invariant.4,
-          ); known = l.invariant.5 }
+            loop.invariant.2,
+            is-sealed.ensures args.offline.now args.image.now pre.ground.whole.image_long,
+            pre.fact.0,
+            pre.fact.1,
+            loop.invariant.4,
+          ); known = loop.invariant.5 }
 
 pub overflow_add-base : goal.overflow_add-base
 overflow_add-base c =
@@ -82,28 +75,24 @@ loop-base-preserved c =
     let loop = c.loop-base in
     let load-group = c.load_group-t in
     let if1 = c.loop-base-test in
-    let a = args in
-    let q = pre in
-    let l = loop in
-    let x = load-group in
     let i = if1.true in
-    let r : Ranged a.p = ranged a.p q.0.in_range_holds in
-    let v : View = view_of a.p a.offline.now a.image.now a.pointers.now in
-    let gs : List ℕ = up_from l.base (group_len a.p l.base) in
-    let w = x.ensures in
-    let tb = x.new.1.1.1.1.0 in
-    let n = walked_low a.p v a.gone a.compact.now a.seg gs l.addresses tb l.t.stamp.0 x.result.stamp.0 l.t.counted x.result.counted w in (
-      x.auto.1.1.1.1.0 ∙ l.invariant.0,
-      x.auto.1.1.1.1.1.1.1.1.1.1.1.0 ∙ l.invariant.1,
-      base_next l.base a.p.G l.invariant.2,
+    let r : Ranged args.p = ranged args.p pre.ground.in_range_holds in
+    let v : View = view_of args.p args.offline.now args.image.now args.pointers.now in
+    let gs : List ℕ = up_from loop.base (group_len args.p loop.base) in
+    let w = load-group.ensures in
+    let tb = load-group.new.addresses in
+    let n = walked_low args.p v args.gone args.compact.now args.seg gs loop.addresses tb loop.t.stamp.0 load-group.result.stamp.0 loop.t.counted load-group.result.counted w in (
+      load-group.auto.addresses ∙ loop.invariant.0,
+      load-group.auto.at ∙ loop.invariant.1,
+      base_next loop.base args.p.G loop.invariant.2,
       omega (arith, i, r.stripes_high, r.group_high),
-      omega (arith, n, length_up_from l.base (group_len a.p l.base), group_len_le a.p l.base, l.invariant.4),
-      tells_known a.p v a.gone a.compact.now l.addresses tb (walk_cands a.p a.gone (segment_of a.p v a.gone a.seg) gs) w.tells l.invariant.5,
-      λ tb'' m'' n'' y. l.invariant.6 tb'' m'' n'' (subst
-          (λ (z : List ℕ). Walked a.p v a.gone a.compact.now a.seg z l.addresses tb'' l.t.stamp.0 m'' l.t.counted n'')
-          (sym (stripes_step a.p l.base i))
-          (walked_join a.p v a.gone a.compact.now a.seg gs (up_from (l.base + a.p.G) (a.p.S - (l.base + a.p.G))) l.addresses tb tb''
-          l.t.stamp.0 x.result.stamp.0 m'' l.t.counted x.result.counted n'' w y)),
+      omega (arith, n, length_up_from loop.base (group_len args.p loop.base), group_len_le args.p loop.base, loop.invariant.4),
+      tells_known args.p v args.gone args.compact.now loop.addresses tb (walk_cands args.p args.gone (segment_of args.p v args.gone args.seg) gs) w.tells loop.invariant.5,
+      λ tb'' m'' n'' y. loop.invariant.6 tb'' m'' n'' (subst
+          (λ (z : List ℕ). Walked args.p v args.gone args.compact.now args.seg z loop.addresses tb'' loop.t.stamp.0 m'' loop.t.counted n'')
+          (sym (stripes_step args.p loop.base i))
+          (walked_join args.p v args.gone args.compact.now args.seg gs (up_from (loop.base + args.p.G) (args.p.S - (loop.base + args.p.G))) loop.addresses tb tb''
+          loop.t.stamp.0 load-group.result.stamp.0 m'' loop.t.counted load-group.result.counted n'' w y)),
     )
 
 pub shape_of-addresses : goal.shape_of-addresses
@@ -121,10 +110,8 @@ returns c =
     let args = c.args in
     let loop = c.loop-base in
     let if1 = c.loop-base-test in
-    let a = args in
-    let l = loop in
-    let v : View = view_of a.p a.offline.now a.image.now a.pointers.now in
-    l.invariant.6 l.addresses l.t.stamp.0 l.t.counted
-    (subst (λ (y : List ℕ). Walked a.p v a.gone a.compact.now a.seg y l.addresses l.addresses l.t.stamp.0 l.t.stamp.0 l.t.counted
-    l.t.counted) (sym (up_from_end l.base a.p.S (omega (arith, if1.false))))
-    (walked_none a.p v a.gone a.compact.now a.seg l.addresses l.t.stamp.0 l.t.counted))
+    let v : View = view_of args.p args.offline.now args.image.now args.pointers.now in
+    loop.invariant.6 loop.addresses loop.t.stamp.0 loop.t.counted
+    (subst (λ (y : List ℕ). Walked args.p v args.gone args.compact.now args.seg y loop.addresses loop.addresses loop.t.stamp.0 loop.t.stamp.0 loop.t.counted
+    loop.t.counted) (sym (up_from_end loop.base args.p.S (omega (arith, if1.false))))
+    (walked_none args.p v args.gone args.compact.now args.seg loop.addresses loop.t.stamp.0 loop.t.counted))

@@ -70,9 +70,9 @@ loop-z-preserved c =
       x.auto.addresses ∙ l.invariant.1,
       x.auto.compact ∙ l.invariant.2,
       x.auto.at ∙ l.invariant.3,
-      e.0,
-      next_turn a.p.S a.opened l.z (f l.z) l.h.next r.next b e.1 l.invariant.5 (counted-low a.p a.gone (segment_of a.p v a.gone (seg_at a.p v a.gone l.z))),
-      λ u y. next_now a.opened l.z l.h.next r.next f b e.1 (λ w. l.invariant.6 w y) (λ w. eb ∙ ap (remains_at a.p v a.gone) w ∙ y) u,
+      e.toured_2,
+      next_turn a.p.S a.opened l.z (f l.z) l.h.next r.next b e.next_value l.invariant.5 (counted-low a.p a.gone (segment_of a.p v a.gone (seg_at a.p v a.gone l.z))),
+      λ u y. next_now a.opened l.z l.h.next r.next f b e.next_value (λ w. l.invariant.6 w y) (λ w. eb ∙ ap (remains_at a.p v a.gone) w ∙ y) u,
     )
 
 pub shape_of-addresses : goal.shape_of-addresses
