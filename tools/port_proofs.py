@@ -97,7 +97,7 @@ def partial(last, names, own, body):
     left = len(names) - len(parts) + 1
     if left < 2:
         return None
-    if m and (m.group(1) == "c.requires" or re.search(r"let %s\s*=\s*c\.requires\s+in" % re.escape(m.group(1)), body)):
+    if m and (m.group(1) == "c.requires" or re.search(r"let %s\s*=\s*c\.requires\s+in(?![\w'-])" % re.escape(m.group(1)), body)):
         rest = own[len(m.group(2)) // 2 :]
         if len(rest) == left:
             return parts[:-1] + [f"{m.group(1)}.{n}" for n in rest]
@@ -163,7 +163,7 @@ class Fn:
         self.oldplace = {norm(p[0]): p[0] for p in entry["places"]}
         self.stepof = {norm(p[0]): p[2][1] for p in entry["places"]}
         self.askedat = {n[1]: norm(a[0]) for n, a in zip(entry["needs"], entry["asked_at"])}
-        self.raw, self.givers = False, set()
+        self.raw, self.givers, self.imported = False, set(), set()
         # a place of which nothing more is said is no record of its own
         self.plain = {norm(p[0]) for p, ty, a in zip(entry["places"], entry["typed"], entry["arms"]) if not ty and not a}
         self.own = known.get(f"{crate}::{name.replace('.', '::')}", ([], []))
@@ -226,7 +226,7 @@ class Fn:
         body = re.sub(r"(?:\.before)+(?![\w'-])", "", body)
         # a name for an earlier place is the place itself
         while True:
-            m = re.search(r"let (%s)(?: : [^=\n]*?)?\s*=\s*c\s+in\s*" % ID, body)
+            m = re.search(r"let (%s)(?: : [^=\n]*?)?\s*=\s*c\s+in(?![\w'-])\s*" % ID, body)
             if not m:
                 break
             rest = body[m.end() :]
@@ -236,18 +236,18 @@ class Fn:
         body = re.sub(r"(?<=[\w'])\.pre(?![\w'-])", ".requires", body)
         # a second name for a name is the first
         while True:
-            m = re.search(r"let (%s)(?: : [^=\n]*?)?\s*=\s*(%s)\s+in\s*" % (ID, ID), body)
+            m = re.search(r"let (%s)(?: : [^=\n]*?)?\s*=\s*(%s)\s+in(?![\w'-])\s*" % (ID, ID), body)
             if not m or m.group(2) in ("refl", "tt", "cc"):
                 break
             rest = re.sub(r"(?<![\w'\u2080-\u2089.-])%s(?![\w'\u2080-\u2089-])" % re.escape(m.group(1)), m.group(2), body[m.end() :])
             body = body[: m.start()] + rest
         # a name for a step that hides a word is another name
-        for m in list(re.finditer(r"let (%s)(\s*=\s*c\.(%s)\s+in)" % (ID, ID), body)):
+        for m in list(re.finditer(r"let (%s)(\s*=\s*c\.(%s)\s+in)(?![\w'-])" % (ID, ID), body)):
             x = m.group(1)
-            if self.step(m.group(3)) in self.steps and re.search(r"(?<![\w'\u2080-\u2089.-])%s(?![\w'\u2080-\u2089.-])(?!\s*=\s*c\.)" % re.escape(x), body) and len(x) > 2:
+            if x in self.imported and self.step(m.group(3)) in self.steps and re.search(r"(?<![\w'\u2080-\u2089.-])%s(?![\w'\u2080-\u2089.-])(?!\s*=\s*c\.)" % re.escape(x), body) and len(x) > 2:
                 body = re.sub(r"(?<![\w'\u2080-\u2089.-])%s(?=\.[\w'])" % re.escape(x), x + "_call", body).replace(m.group(0), f"let {x}_call{m.group(2)}")
         # a name for the step of an arm is the step itself
-        for a in list(re.finditer(r"let (%s)(?: : [^=\n]*?)?\s*=\s*c\.(%s)\s+in\s*" % (ID, ID), body)):
+        for a in list(re.finditer(r"let (%s)(?: : [^=\n]*?)?\s*=\s*c\.(%s)\s+in(?![\w'-])\s*" % (ID, ID), body)):
             if not self.raw and norm(a.group(2)) in self.arms and norm(a.group(2)) not in self.callee:
                 body = body.replace(a.group(0), "", 1)
                 body = re.sub(r"(?<![\w'\u2080-\u2089.-])%s(?![\w'\u2080-\u2089-])" % re.escape(a.group(1)), "c." + a.group(2), body)
@@ -258,7 +258,7 @@ class Fn:
             return "." + self.steps[old] if old in self.steps else m.group(0)
 
         # names bound to steps and to requires
-        for m in re.finditer(r"let (%s)(?: : [^=]*?)?\s*=\s*([\w']+)\.(%s)\s+in" % (ID, ID), body):
+        for m in re.finditer(r"let (%s)(?: : [^=]*?)?\s*=\s*([\w']+)\.(%s)\s+in(?![\w'-])" % (ID, ID), body):
             if self.step(m.group(3)) in self.steps:
                 alias[m.group(1)] = self.step(m.group(3))
             if m.group(3) == "requires":
@@ -284,7 +284,7 @@ class Fn:
         for old, new in self.entry["args"]:
             o, n = old.split(), new.split()
             if len(o) == 2 and o[0] == n[0]:
-                names_ = {m.group(1) for m in re.finditer(r"let (%s)\s*=\s*\S+%s\s+in" % (ID, re.escape(o[0])), body)}
+                names_ = {m.group(1) for m in re.finditer(r"let (%s)\s*=\s*\S+%s\s+in(?![\w'-])" % (ID, re.escape(o[0])), body)}
                 for v in names_:
                     body = re.sub(r"(?<![\w'.-])%s\%s(?![\w'-])" % (re.escape(v), o[1]), v + n[1], body)
                 body = body.replace(o[0] + o[1] + ".", n[0] + n[1] + ".")
@@ -292,8 +292,8 @@ class Fn:
             elif len(o) == 1:
                 body = re.sub(re.escape(o[0]) + r"(?![\w'-])", n[0], body)
         # names for what a call ensures
-        ens_of = [(m.group(1), next((o for o, n in self.steps.items() if n == m.group(3)), "")) for m in re.finditer(r"let (%s)(?: : [^=]*?)?\s*=\s*([\w']+)\.(%s)\.ensures\s+in" % (ID, ID), body)]
-        ens_of += [(m.group(1), alias[m.group(2)]) for m in re.finditer(r"let (%s)(?: : [^=]*?)?\s*=\s*(%s)\.ensures\s+in" % (ID, ID), body) if m.group(2) in alias]
+        ens_of = [(m.group(1), next((o for o, n in self.steps.items() if n == m.group(3)), "")) for m in re.finditer(r"let (%s)(?: : [^=]*?)?\s*=\s*([\w']+)\.(%s)\.ensures\s+in(?![\w'-])" % (ID, ID), body)]
+        ens_of += [(m.group(1), alias[m.group(2)]) for m in re.finditer(r"let (%s)(?: : [^=]*?)?\s*=\s*(%s)\.ensures\s+in(?![\w'-])" % (ID, ID), body) if m.group(2) in alias]
         for name_, old_ in ens_of:
             callee = self.callee.get(old_)
             ens = self.known.get(callee, ([], []))[1]
@@ -309,7 +309,7 @@ class Fn:
                 return m.group(1) + (c if c else m.group(2))
 
             body = re.sub(r"(\.requires)((?:\.[\w'-]+)+)", pre, body)
-            for a in list(re.finditer(r"let (%s)(?: : [^=\n]*?)?\s*=\s*((?:%s)(?:\.1)+)\s+in\s*" % (ID, "|".join(map(re.escape, sorted(pres) + ["c.requires"]))), body)):
+            for a in list(re.finditer(r"let (%s)(?: : [^=\n]*?)?\s*=\s*((?:%s)(?:\.1)+)\s+in(?![\w'-])\s*" % (ID, "|".join(map(re.escape, sorted(pres) + ["c.requires"]))), body)):
                 if self.clause(self.pre, a.group(2)[a.group(2).index(".1") :]) is None:
                     body = body.replace(a.group(0), "", 1)
                     body = re.sub(r"(?<![\w'\u2080-\u2089.-])%s(?![\w'\u2080-\u2089-])" % re.escape(a.group(1)), a.group(2), body)
@@ -388,6 +388,7 @@ def blocks(text):
 def convert(fn, text):
     head, uses, decls = blocks(text)
     said = []
+    fn.imported = {w.strip() for u in uses for l in re.findall(r"\{(.*?)\}", u) for w in l.split(",")}
     m = re.search(r"tie\.spec\b(.*)", text, re.S)
     args = re.findall(ID, m.group(1)) if m else []
     kinds = {}
@@ -450,7 +451,7 @@ def convert(fn, text):
 
     def expand(text_, env, goal_):
         """what stands at a place, said by the way to it"""
-        for m in re.finditer(r"let (%s)(?: : [^=\n]*?)?\s*=\s*(%s)\s+\(?c\)?\s+in" % (ID, ID), text_):
+        for m in re.finditer(r"let (%s)(?: : [^=\n]*?)?\s*=\s*(%s)\s+\(?c\)?\s+in(?![\w'-])" % (ID, ID), text_):
             if m.group(2) in gives:
                 env[m.group(1)] = gives[m.group(2)]
 

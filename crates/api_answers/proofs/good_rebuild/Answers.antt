@@ -21,8 +21,8 @@ returns-then-p-drive c =
     let a = c.args in
     let if1 = c.if-not-in_range in
     let in_range_holds = c.in_range in
-    _range_holds.ensures ∙ not-false in_range_holds.result if1.false-raw in
-    names_beyond a.p (state_of a.state.now) a.drive sym c.if-p-drive.true
+    let e : in_range a.p ≡ true = sym in_range_holds.ensures ∙ not-false in_range_holds.result if1.false-raw in
+    names_beyond a.p (state_of a.state.now) a.drive e c.if-p-drive.true
 
 pub returns : goal.returns
 returns c =
@@ -30,6 +30,6 @@ returns c =
     let if2 = c.if-p-drive in
     let if1 = c.if-not-in_range in
     let in_range_holds = c.in_range in
-    _range_holds.ensures ∙ not-false in_range_holds.result if1.false-raw in
-    names_it a.p (state_of a.state.now) a.drive sym (omega (arith, if2.false)) c.missing_in.result c.only_drive.result
+    let e : in_range a.p ≡ true = sym in_range_holds.ensures ∙ not-false in_range_holds.result if1.false-raw in
+    names_it a.p (state_of a.state.now) a.drive e (omega (arith, if2.false)) c.missing_in.result c.only_drive.result
     (eqb c.missing_in.result c.only_drive.result) c.missing_in.ensures c.only_drive.ensures refl

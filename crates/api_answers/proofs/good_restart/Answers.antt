@@ -20,13 +20,13 @@ returns-then-missing-p c =
     let a = c.args in
     let if1 = c.if-not-in_range in
     let in_range_holds = c.in_range in
-    _range_holds.ensures ∙ not-false in_range_holds.result if1.false-raw in
-    names_one a.p a.missing sym c.if-missing-p.true
+    let e : in_range a.p ≡ true = sym in_range_holds.ensures ∙ not-false in_range_holds.result if1.false-raw in
+    names_one a.p a.missing e c.if-missing-p.true
 
 pub returns : goal.returns
 returns c =
     let a = c.args in
     let if1 = c.if-not-in_range in
     let in_range_holds = c.in_range in
-    _range_holds.ensures ∙ not-false in_range_holds.result if1.false-raw in
-    names_none a.p a.missing sym (omega (arith, c.if-missing-p.false)) (eqb a.missing 255) refl
+    let e : in_range a.p ≡ true = sym in_range_holds.ensures ∙ not-false in_range_holds.result if1.false-raw in
+    names_none a.p a.missing e (omega (arith, c.if-missing-p.false)) (eqb a.missing 255) refl

@@ -75,9 +75,9 @@ offsets_low :
 offsets_low c =
     let a = c.args in
     let w = c.requires.whole.0 in
-    let offsets_call = c.shown_offsets in
-    data_offsets a.p (view_of a.p a.offline.now a.image.now a.pointers.now) a.gone a.compact.now _ _ offsets_call.new.at
-    (offsets_call.ensures a.offline.now a.image.now w.image_long) (sym c.any_hidden.ensures ∙ c.if-any_hidden.false) offsets_call.auto.at
+    let offsets = c.shown_offsets in
+    data_offsets a.p (view_of a.p a.offline.now a.image.now a.pointers.now) a.gone a.compact.now _ _ offsets.new.at
+    (offsets.ensures a.offline.now a.image.now w.image_long) (sym c.any_hidden.ensures ∙ c.if-any_hidden.false) offsets.auto.at
 
 pub block_bytes-requires : goal.block_bytes-requires
 block_bytes-requires c =

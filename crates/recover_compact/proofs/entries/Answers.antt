@@ -40,13 +40,13 @@ entry_near-requires c =
 
 pub overflow_add-compact : goal.overflow_add-compact
 overflow_add-compact c =
-    let loop-test_call = c.loop-o-test in
+    let loop-test = c.loop-o-test in
     let pre = c.requires in
     omega (arith, pre, loop-test)
 
 pub bounds-compact-row : goal.bounds-compact-row
 bounds-compact-row c =
-    let loop-test_call = c.loop-o-test in
+    let loop-test = c.loop-o-test in
     let pre = c.requires in
     omega (arith, pre, loop-test)
 
