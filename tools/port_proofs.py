@@ -162,6 +162,14 @@ class Fn:
         self.parent = {norm(p[0]): norm(p[1]) if p[1] else None for p in entry["places"]}
         self.oldplace = {norm(p[0]): p[0] for p in entry["places"]}
         self.stepof = {norm(p[0]): p[2][1] for p in entry["places"]}
+        # the places of an arm are one, behind what is matched
+        armed = {norm(p[0]): a[0] for p, a in zip(entry["places"], entry["arms"]) if a}
+        for k in armed:
+            top = self.parent[k]
+            while top in armed and armed[top] == armed[k]:
+                top = next(norm(p[1]) for p in entry["places"] if norm(p[0]) == top)
+            self.parent[k] = top
+            self.stepof[k] = armed[k]
         self.askedat = {n[1]: norm(a[0]) for n, a in zip(entry["needs"], entry["asked_at"])}
         self.raw, self.givers, self.imported = False, set(), set()
         # a place of which nothing more is said is no record of its own
@@ -248,9 +256,13 @@ class Fn:
                 body = re.sub(r"(?<![\w'\u2080-\u2089.-])%s(?=\.[\w'])" % re.escape(x), x + "_call", body).replace(m.group(0), f"let {x}_call{m.group(2)}")
         # a name for the step of an arm is the step itself
         for a in list(re.finditer(r"let (%s)(?: : [^=\n]*?)?\s*=\s*c\.(%s)\s+in(?![\w'-])\s*" % (ID, ID), body)):
-            if not self.raw and norm(a.group(2)) in self.arms and norm(a.group(2)) not in self.callee:
+            if norm(a.group(2)) in self.arms and norm(a.group(2)) not in self.callee:
                 body = body.replace(a.group(0), "", 1)
                 body = re.sub(r"(?<![\w'\u2080-\u2089.-])%s(?![\w'\u2080-\u2089-])" % re.escape(a.group(1)), "c." + a.group(2), body)
+        for a in list(re.finditer(r"let (%s)(?: : [^=\n]*?)?\s*=\s*(c\.(%s)\.given)\s+in(?![\w'-])\s*" % (ID, ID), body)):
+            if norm(a.group(3)) in self.arms:
+                body = body.replace(a.group(0), "", 1)
+                body = re.sub(r"(?<![\w'\u2080-\u2089.-])%s(?![\w'\u2080-\u2089-])" % re.escape(a.group(1)), a.group(2), body)
         alias, pres = {}, set()
 
         def step(m):
@@ -273,7 +285,7 @@ class Fn:
             old = self.step(name)
             if old not in self.steps or (head not in ctx and not (head == ")" and re.search(r"\((\S+) [^()\s]+$", m.string[: m.start()]) and re.search(r"\((\S+) [^()\s]+$", m.string[: m.start()]).group(1) in self.givers)):
                 return m.group(0)
-            for path in [] if self.raw else sorted(self.arms.get(old, {}), key=len, reverse=True):
+            for path in sorted(self.arms.get(old, {}), key=len, reverse=True):
                 if rest == path or rest.startswith(path + "."):
                     return head + "." + self.arms[old][path] + rest[len(path) :]
             return head + "." + self.steps[old] + self.rest(old, rest)

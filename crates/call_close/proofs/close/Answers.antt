@@ -62,31 +62,30 @@ checked-is c =
 
 pub returns-in-Fail : goal.returns-in-Fail
 returns-in-Fail c =
-    let q = c.c-1.given in
-    λ n. close_refused c.args.p c.args.offline.now (disk c.before.before.before.before.before.before.before.before.before.before.before.before.before.before.before) (memory c.before.before.before.before.before.before.before.before.before.before.before.before.before.before.before) c.kept.result
-    (sym (checked-is c.before.before.before.before.before) ∙ ap checked q.1 ∙ ap (λ (x : Change). some x.answer) (sym c.kept.ensures)) n
+    λ n. close_refused c.args.p c.args.offline.now (disk c.before.before.before.before.before.before.before.before.before.before.before.before.before) (memory c.before.before.before.before.before.before.before.before.before.before.before.before.before) c.kept.result
+    (sym (checked-is c.before.before.before) ∙ ap checked c.in-Fail.is ∙ ap (λ (x : Change). some x.answer) (sym c.kept.ensures)) n
 
 -- no check holds
 passed : (c : Lts.After-enum_told Tie.the-claims Reads.Pre Reads.Post Tie.handed_clauses)
-    → close_refusal (start c.before.before).args.p (start c.before.before).args.offline.now (disk (start c.before.before)) (memory (start c.before.before)) ≡ none
+    → close_refusal (start c.before).args.p (start c.before).args.offline.now (disk (start c.before)) (memory (start c.before)) ≡ none
 passed c =
-    sym (checked-is c.before.before) ∙ ap checked c.enum_told-1.given.1
+    sym (checked-is c.before) ∙ ap checked c.in_default.is
 
 pub row_at-row-requires : goal.row_at-row-requires
 row_at-row-requires c =
-    (c.requires.1, slot_low c.args.p c.args.state c.filling_slot-i.result (slot_of_lem c.before.before.before.before) (close_ready c.args.p c.args.offline.now (disk c.before.before.before.before.before.before.before.before.before.before.before.before.before) (memory c.before.before.before.before.before.before.before.before.before.before.before.before.before) (passed c.before)).filling)
+    (c.requires.1, slot_low c.args.p c.args.state c.filling_slot-i.result (slot_of_lem c.before.before.before) (close_ready c.args.p c.args.offline.now (disk c.before.before.before.before.before.before.before.before.before.before.before.before) (memory c.before.before.before.before.before.before.before.before.before.before.before.before) (passed c.before)).filling)
 
 -- the row is the state's
-row_is : (c : Lts.After-row_at Tie.the-claims Reads.Pre Reads.Post Tie.handed_clauses) → c.row_at-row.result ≡ slot_row (start c.before.before.before).args.state c.before.before.before.before.filling_slot-i.result
+row_is : (c : Lts.After-row_at Tie.the-claims Reads.Pre Reads.Post Tie.handed_clauses) → c.row_at-row.result ≡ slot_row (start c.before.before).args.state c.before.before.before.filling_slot-i.result
 row_is c =
-    let i = c.before.before.before.before.filling_slot-i.result in
-    c.row_at-row.ensures ∙ ap (λ (x : State). slot_row x i) (sym c.before.before.before.before.before.before.before.before.before.before.before.before.before.requires.0)
+    let i = c.before.before.before.filling_slot-i.result in
+    c.row_at-row.ensures ∙ ap (λ (x : State). slot_row x i) (sym c.before.before.before.before.before.before.before.before.before.before.before.before.requires.0)
 
 pub pad_all-next-requires : goal.pad_all-next-requires
 pad_all-next-requires c =
-    let r = close_ready c.args.p c.args.offline.now (disk c.before.before.before.before.before.before.before.before.before.before.before.before.before.before.before) (memory c.before.before.before.before.before.before.before.before.before.before.before.before.before.before.before) (passed c.before.before.before) in
+    let r = close_ready c.args.p c.args.offline.now (disk c.before.before.before.before.before.before.before.before.before.before.before.before.before.before) (memory c.before.before.before.before.before.before.before.before.before.before.before.before.before.before) (passed c.before.before.before) in
     let i = c.filling_slot-i.result in
-    let e : c.row_at-row.result.filled ≡ filled_in_of c.args.state i = ap (λ (x : Row). x.filled) (row_is c.before.before) ∙ row_filled c.args.state i in record { p_value = r.ranged; i_bound = (slot_low c.args.p c.args.state i (slot_of_lem c.before.before.before.before.before.before) r.filling, omega (arith, e, slot_open c.args.p c.args.state i (slot_of_lem c.before.before.before.before.before.before) r.filling), r.inflight_long) }
+    let e : c.row_at-row.result.filled ≡ filled_in_of c.args.state i = ap (λ (x : Row). x.filled) (row_is c.before.before) ∙ row_filled c.args.state i in record { p_value = r.ranged; i_bound = (slot_low c.args.p c.args.state i (slot_of_lem c.before.before.before.before.before) r.filling, omega (arith, e, slot_open c.args.p c.args.state i (slot_of_lem c.before.before.before.before.before) r.filling), r.inflight_long) }
 
 pub returns : goal.returns
 returns c =
@@ -94,9 +93,9 @@ returns c =
     let f = c.front_of-f in
     let a = c.args in
     let none! = passed c.before.before.before.before.before.before.before.before.before in
-    let r = close_ready a.p a.offline.now (disk c.before.before.before.before.before.before.before.before.before.before.before.before.before.before.before.before.before.before.before.before.before) (memory c.before.before.before.before.before.before.before.before.before.before.before.before.before.before.before.before.before.before.before.before.before) none! in
+    let r = close_ready a.p a.offline.now (disk c.before.before.before.before.before.before.before.before.before.before.before.before.before.before.before.before.before.before.before.before) (memory c.before.before.before.before.before.before.before.before.before.before.before.before.before.before.before.before.before.before.before.before) none! in
     let at = filling_slot a.p a.state in
     let few : data_count a.p ≤ 8 = omega (arith, data_count_high a.p (ranged a.p r.ranged)) in
-    λ n. close_done a.p a.offline.now (disk c.before.before.before.before.before.before.before.before.before.before.before.before.before.before.before.before.before.before.before.before.before) (memory c.before.before.before.before.before.before.before.before.before.before.before.before.before.before.before.before.before.before.before.before.before) none! (sized c.before.before.before.before.before.before.before.before.before.before.before.before.before.before.before.before.before.before.before.before.before) (slot_low a.p a.state at refl r.filling) few (slot_open a.p a.state at refl r.filling)
+    λ n. close_done a.p a.offline.now (disk c.before.before.before.before.before.before.before.before.before.before.before.before.before.before.before.before.before.before.before.before) (memory c.before.before.before.before.before.before.before.before.before.before.before.before.before.before.before.before.before.before.before.before) none! (sized c.before.before.before.before.before.before.before.before.before.before.before.before.before.before.before.before.before.before.before.before) (slot_low a.p a.state at refl r.filling) few (slot_open a.p a.state at refl r.filling)
     f.result f.ensures
-    c.filling_slot-i.result (slot_of_lem c.before.before.before.before.before.before.before.before.before.before.before.before) c.row_at-row.result (row_is c.before.before.before.before.before.before.before.before) q.result q.new.inflight q.ensures.value q.ensures.inflight_after n
+    c.filling_slot-i.result (slot_of_lem c.before.before.before.before.before.before.before.before.before.before.before) c.row_at-row.result (row_is c.before.before.before.before.before.before.before.before) q.result q.new.inflight q.ensures.value q.ensures.inflight_after n

@@ -38,23 +38,22 @@ checked-is c = c.checks-c.ensures (start c).args.state refl
 pub returns-in-Fail : goal.returns-in-Fail
 returns-in-Fail c =
     let a = c.args in
-    let q = c.c-1.given in
-    let e = sym (checked-is c.before.before.before.before.before) ∙ ap checked q.1 ∙ ap (λ (x : Change). some x.answer) (sym c.kept.ensures) in
-    λ n. empty_refused a.p a.offline.now (disk c.before.before.before.before.before.before.before.before.before.before.before.before.before.before) (memory c.before.before.before.before.before.before.before.before.before.before.before.before.before.before) a.address.0 n c.kept.result
-    (first_refuses 6 (empty_checks a.p (lent_ok_of a.p a.offline.now (disk c.before.before.before.before.before.before.before.before.before.before.before.before.before.before) (memory c.before.before.before.before.before.before.before.before.before.before.before.before.before.before)) (seen a.p a.offline.now (disk c.before.before.before.before.before.before.before.before.before.before.before.before.before.before)) (memory c.before.before.before.before.before.before.before.before.before.before.before.before.before.before) a.address.0) c.kept.result.answer e)
+    let e = sym (checked-is c.before.before.before) ∙ ap checked c.in-Fail.is ∙ ap (λ (x : Change). some x.answer) (sym c.kept.ensures) in
+    λ n. empty_refused a.p a.offline.now (disk c.before.before.before.before.before.before.before.before.before.before.before.before) (memory c.before.before.before.before.before.before.before.before.before.before.before.before) a.address.0 n c.kept.result
+    (first_refuses 6 (empty_checks a.p (lent_ok_of a.p a.offline.now (disk c.before.before.before.before.before.before.before.before.before.before.before.before) (memory c.before.before.before.before.before.before.before.before.before.before.before.before)) (seen a.p a.offline.now (disk c.before.before.before.before.before.before.before.before.before.before.before.before)) (memory c.before.before.before.before.before.before.before.before.before.before.before.before) a.address.0) c.kept.result.answer e)
 
 -- none of the first six refuses
 passed :
     (c : Lts.After-enum_told Tie.the-claims Reads.Pre Reads.Post Tie.handed_clauses)
-    → empty_first (start c.before.before).args.p (start c.before.before).args.offline.now (disk (start c.before.before)) (memory (start c.before.before))
-    (start c.before.before).args.address.0 0 ≡ none
-passed c = sym (checked-is c.before.before) ∙ ap checked c.enum_told-1.given.1
+    → empty_first (start c.before).args.p (start c.before).args.offline.now (disk (start c.before)) (memory (start c.before))
+    (start c.before).args.address.0 0 ≡ none
+passed c = sym (checked-is c.before) ∙ ap checked c.in_default.is
 
 -- the eighth is the state's
-slot_of_lem : (c : Lts.After-filling_slot Tie.the-claims Reads.Pre Reads.Post Tie.handed_clauses) → c.filling_slot.result ≡ filling_slot (start c.before.before.before).args.p (start c.before.before.before).args.state
+slot_of_lem : (c : Lts.After-filling_slot Tie.the-claims Reads.Pre Reads.Post Tie.handed_clauses) → c.filling_slot.result ≡ filling_slot (start c.before.before).args.p (start c.before.before).args.state
 slot_of_lem c =
-    let a = (start c.before.before.before).args in
-    let f = c.before.before.before.before.front_of-f in
+    let a = (start c.before.before).args in
+    let f = c.before.before.before.front_of-f in
     c.filling_slot.ensures ∙ front_filling a.p a.state f.result f.ensures
 
 pub returns-then-filling_slot-lt8 : goal.returns-then-filling_slot-lt8
@@ -62,37 +61,37 @@ returns-then-filling_slot-lt8 c =
     let a = c.args in
     let i = c.filling_slot.result in
     let h : has_filling a.p a.state ≡ true = sym (slot_is a.p a.state i (slot_of_lem c.before.before.before.before.before.before)) ∙ lt-ltb i 8 c.if-filling_slot-lt8.true in
-    let low = (first_passed a.p a.offline.now (disk c.before.before.before.before.before.before.before.before.before.before.before.before.before.before.before.before.before.before) (memory c.before.before.before.before.before.before.before.before.before.before.before.before.before.before.before.before.before.before) a.address.0 (passed c.before.before.before.before.before.before.before)).1 in
-    λ n. c.close.ensures n ∙ empty_as_close a.p a.offline.now (disk c.before.before.before.before.before.before.before.before.before.before.before.before.before.before.before.before.before.before) (memory c.before.before.before.before.before.before.before.before.before.before.before.before.before.before.before.before.before.before) a.address.0 n h low
+    let low = (first_passed a.p a.offline.now (disk c.before.before.before.before.before.before.before.before.before.before.before.before.before.before.before.before.before) (memory c.before.before.before.before.before.before.before.before.before.before.before.before.before.before.before.before.before) a.address.0 (passed c.before.before.before.before.before.before.before)).1 in
+    λ n. c.close.ensures n ∙ empty_as_close a.p a.offline.now (disk c.before.before.before.before.before.before.before.before.before.before.before.before.before.before.before.before.before) (memory c.before.before.before.before.before.before.before.before.before.before.before.before.before.before.before.before.before) a.address.0 n h low
 
 pub state_ok-requires : goal.state_ok-requires
-state_ok-requires c = record { p_value = (first_passed c.args.p c.args.offline.now (disk c.before.before.before.before.before.before.before.before.before.before.before.before.before.before) (memory c.before.before.before.before.before.before.before.before.before.before.before.before.before.before) c.args.address.0 (passed c.before.before.before)).0; bytes_len = c.requires.1 }
+state_ok-requires c = record { p_value = (first_passed c.args.p c.args.offline.now (disk c.before.before.before.before.before.before.before.before.before.before.before.before.before) (memory c.before.before.before.before.before.before.before.before.before.before.before.before.before) c.args.address.0 (passed c.before.before.before)).0; bytes_len = c.requires.1 }
 
 -- no stripe is filling
-idle-is : (c : Lts.Else1 Tie.the-claims Reads.Pre Reads.Post Tie.handed_clauses) → has_filling (start c.before.before.before.before).args.p (start c.before.before.before.before).args.state ≡ false
+idle-is : (c : Lts.Else1 Tie.the-claims Reads.Pre Reads.Post Tie.handed_clauses) → has_filling (start c.before.before.before).args.p (start c.before.before.before).args.state ≡ false
 idle-is c =
-    let a = (start c.before.before.before.before).args in
+    let a = (start c.before.before.before).args in
     let i = c.before.filling_slot.result in
     sym (slot_is a.p a.state i (slot_of_lem c.before)) ∙ le-ltb i 8 c.if-filling_slot-lt8.false
 
 -- the state's numbers
-state_is : (c : Lts.After-state_ok Tie.the-claims Reads.Pre Reads.Post Tie.handed_clauses) → c.state_ok.result ≡ state_ok (start c.before.before.before.before.before).args.p (start c.before.before.before.before.before).args.state
+state_is : (c : Lts.After-state_ok Tie.the-claims Reads.Pre Reads.Post Tie.handed_clauses) → c.state_ok.result ≡ state_ok (start c.before.before.before.before).args.p (start c.before.before.before.before).args.state
 state_is c =
-    let s = start c.before.before.before.before.before in
+    let s = start c.before.before.before.before in
     c.state_ok.ensures ∙ ap (state_ok s.args.p) (sym s.requires.0)
 
 pub returns-then-not-state_ok : goal.returns-then-not-state_ok
 returns-then-not-state_ok c =
     let a = c.args in
     let bad : state_ok a.p a.state ≡ false = sym (state_is c.before.before.before) ∙ not-true c.state_ok.result c.if-not-state_ok.true-raw in
-    let e = sym (empty_state_fails a.p a.offline.now (disk c.before.before.before.before.before.before.before.before.before.before.before.before.before.before.before.before.before) (memory c.before.before.before.before.before.before.before.before.before.before.before.before.before.before.before.before.before) a.address.0 (passed c.before.before.before.before.before.before) (idle-is c.before.before.before.before) bad) in
-    λ n. empty_refused a.p a.offline.now (disk c.before.before.before.before.before.before.before.before.before.before.before.before.before.before.before.before.before) (memory c.before.before.before.before.before.before.before.before.before.before.before.before.before.before.before.before.before) a.address.0 n c.kept-then-not-state_ok.result (e ∙ ap (λ (x : Change). some x.answer) (sym c.kept-then-not-state_ok.ensures))
+    let e = sym (empty_state_fails a.p a.offline.now (disk c.before.before.before.before.before.before.before.before.before.before.before.before.before.before.before.before) (memory c.before.before.before.before.before.before.before.before.before.before.before.before.before.before.before.before) a.address.0 (passed c.before.before.before.before.before.before) (idle-is c.before.before.before.before) bad) in
+    λ n. empty_refused a.p a.offline.now (disk c.before.before.before.before.before.before.before.before.before.before.before.before.before.before.before.before) (memory c.before.before.before.before.before.before.before.before.before.before.before.before.before.before.before.before) a.address.0 n c.kept-then-not-state_ok.result (e ∙ ap (λ (x : Change). some x.answer) (sym c.kept-then-not-state_ok.ensures))
 
 pub returns : goal.returns
 returns c =
     let a = c.args in
     let good : state_ok a.p a.state ≡ true = sym (state_is c.before.before.before) ∙ not-false c.state_ok.result c.if-not-state_ok.false-raw in
     let idle = idle-is c.before.before.before.before in
-    let e = sym (empty_state_passes a.p a.offline.now (disk c.before.before.before.before.before.before.before.before.before.before.before.before.before.before.before.before.before) (memory c.before.before.before.before.before.before.before.before.before.before.before.before.before.before.before.before.before) a.address.0 (passed c.before.before.before.before.before.before) idle good) in
+    let e = sym (empty_state_passes a.p a.offline.now (disk c.before.before.before.before.before.before.before.before.before.before.before.before.before.before.before.before) (memory c.before.before.before.before.before.before.before.before.before.before.before.before.before.before.before.before) a.address.0 (passed c.before.before.before.before.before.before) idle good) in
     let f = c.front_of-f in
-    λ n. empty_nothing a.p a.offline.now (disk c.before.before.before.before.before.before.before.before.before.before.before.before.before.before.before.before.before) (memory c.before.before.before.before.before.before.before.before.before.before.before.before.before.before.before.before.before) a.address.0 n e idle c.nothing.result (c.nothing.ensures ∙ ap (kept_as Nothing) f.ensures)
+    λ n. empty_nothing a.p a.offline.now (disk c.before.before.before.before.before.before.before.before.before.before.before.before.before.before.before.before) (memory c.before.before.before.before.before.before.before.before.before.before.before.before.before.before.before.before) a.address.0 n e idle c.nothing.result (c.nothing.ensures ∙ ap (kept_as Nothing) f.ensures)

@@ -49,10 +49,9 @@ checked-is c = subst (λ (x : State). checked c.checks-sight.result.check ≡ re
 pub returns-in-Fail : goal.returns-in-Fail
 returns-in-Fail c =
     let a = c.args in
-    let q = c.c-1.given in
     let e = sym (ap (λ (x : Change). x.answer) c.kept.ensures) in
-    land_refused a.p a.offline.now (disk c.before.before.before.before.before.before.before.before.before.before.before.before.before.before.before) (memory c.before.before.before.before.before.before.before.before.before.before.before.before.before.before.before a.state) a.drive a.stripe a.count c.kept.result
-    (sym (checked-is c.before.before.before.before.before) ∙ ap checked q.1 ∙ ap some e)
+    land_refused a.p a.offline.now (disk c.before.before.before.before.before.before.before.before.before.before.before.before.before) (memory c.before.before.before.before.before.before.before.before.before.before.before.before.before a.state) a.drive a.stripe a.count c.kept.result
+    (sym (checked-is c.before.before.before) ∙ ap checked c.in-Fail.is ∙ ap some e)
 
 -- the arrays have their lengths
 sized : (c : Lts.Start Tie.the-claims Reads.Pre Reads.Post Tie.handed_clauses) → RowsSized c.args.state
@@ -60,23 +59,23 @@ sized c = subst RowsSized (sym c.requires.0) (read_sized c.args.bytes.now)
 
 module _ (c : Lts.After-enum_told Tie.the-claims Reads.Pre Reads.Post Tie.handed_clauses) where
   abbrev begun : Lts.Start Tie.the-claims Reads.Pre Reads.Post Tie.handed_clauses
-  begun = start c.before.before
+  begun = start c.before
 
   -- the state, looked at and not refused
   chosen : Chosen begun.args.p begun.args.offline.now (disk begun) begun.args.addresses.now begun.args.compact.now begun.args.inflight.now begun.args.drive
-      begun.args.stripe c.before.before.before.before.look_at-seen.result c.before.before.checks-sight.result.target
-      c.before.before.before.front_of-front.result begun.args.state
+      begun.args.stripe c.before.before.before.look_at-seen.result c.before.checks-sight.result.target
+      c.before.before.front_of-front.result begun.args.state
   chosen =
-      let checks = c.before.before.checks-sight in
-      let look = c.before.before.before.before.look_at-seen in
-      let e : checked checks.result.check ≡ none = ap checked c.enum_told-1.given.1 in
+      let checks = c.before.checks-sight in
+      let look = c.before.before.before.look_at-seen in
+      let e : checked checks.result.check ≡ none = ap checked c.in_default.is in
       record {
         sized = sized begun;
-        front = c.before.before.before.front_of-front.ensures;
+        front = c.before.before.front_of-front.ensures;
         looks = look.ensures;
         target = subst (λ (x : State). TargetAt begun.args.p (seen begun.args.p begun.args.offline.now (disk begun)) x begun.args.drive look.result.done checks.result.target)
             (sym begun.requires.0) (checks.ensures.target_at e);
-        none! = sym (checked-is c.before.before) ∙ e;
+        none! = sym (checked-is c.before) ∙ e;
       }
 
 pub plan-requires : goal.plan-requires

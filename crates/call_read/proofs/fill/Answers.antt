@@ -65,37 +65,37 @@ pub fill_here-requires : goal.fill_here-requires
 fill_here-requires c =
     let p = c.args.p in
     let n = length c.args.block.now in
-    let t = told c.before.before.before.before.before.before _ c.in-Here.is in
-    let r = ready c.before.before.before.before.before.before _ c.in-Here.is refl in
-    let f = found_at p c.args.offline.now (disk c.before.before.before.before.before.before.before.before.before.before.before.before.before.before.before.before) (memory c.before.before.before.before.before.before.before.before.before.before.before.before.before.before.before.before) c.args.address.0 n in record { p_value = r.ranged; image_len = (r.whole.image_long, r.block_long, subst (placed_at p) t.1.0 (found-placed p (seen p c.args.offline.now (disk c.before.before.before.before.before.before.before.before.before.before.before.before.before.before.before.before)) (memory c.before.before.before.before.before.before.before.before.before.before.before.before.before.before.before.before).state.missing f r.faultless)) }
+    let t = told c.before.before.before.before _ c.in-Here.is in
+    let r = ready c.before.before.before.before _ c.in-Here.is refl in
+    let f = found_at p c.args.offline.now (disk c.before.before.before.before.before.before.before.before.before.before.before.before.before.before) (memory c.before.before.before.before.before.before.before.before.before.before.before.before.before.before) c.args.address.0 n in record { p_value = r.ranged; image_len = (r.whole.image_long, r.block_long, subst (placed_at p) t.1.0 (found-placed p (seen p c.args.offline.now (disk c.before.before.before.before.before.before.before.before.before.before.before.before.before.before)) (memory c.before.before.before.before.before.before.before.before.before.before.before.before.before.before).state.missing f r.faultless)) }
 
 pub fill_lost-requires : goal.fill_lost-requires
 fill_lost-requires c =
     let p = c.args.p in
     let off = c.args.offline.now in
-    let t = told c.before.before.before.before.before.before.before.before _ c.in-Away.is in
-    let r = ready c.before.before.before.before.before.before.before.before _ c.in-Away.is refl in
-    let f = found_at p off (disk c.before.before.before.before.before.before.before.before.before.before.before.before.before.before.before.before.before.before) (memory c.before.before.before.before.before.before.before.before.before.before.before.before.before.before.before.before.before.before) c.args.address.0 (length c.args.block.now) in
-    let placed = subst (placed_at p) t.1.0 (found-placed p (seen p off (disk c.before.before.before.before.before.before.before.before.before.before.before.before.before.before.before.before.before.before)) (memory c.before.before.before.before.before.before.before.before.before.before.before.before.before.before.before.before.before.before).state.missing f r.faultless) in
+    let t = told c.before.before.before.before.before.before _ c.in-Away.is in
+    let r = ready c.before.before.before.before.before.before _ c.in-Away.is refl in
+    let f = found_at p off (disk c.before.before.before.before.before.before.before.before.before.before.before.before.before.before.before.before) (memory c.before.before.before.before.before.before.before.before.before.before.before.before.before.before.before.before) c.args.address.0 (length c.args.block.now) in
+    let placed = subst (placed_at p) t.1.0 (found-placed p (seen p off (disk c.before.before.before.before.before.before.before.before.before.before.before.before.before.before.before.before)) (memory c.before.before.before.before.before.before.before.before.before.before.before.before.before.before.before.before).state.missing f r.faultless) in
     let lost = t.1.2 in record { p_value = r.ranged; image_len = (r.whole.image_long, r.block_long, placed); bytes_len = (lost.long, λ k h n. lost.within k h (subst (λ (x : ℕ). is_in x k ≡ false) c.missing-gone.ensures n)) }
 
 pub returns-in-Bad : goal.returns-in-Bad
 returns-in-Bad c =
-    left c.before.before.before.before.before _ (start c.before.before.before.before.before).args.block.now c.in-Bad.is refl
+    left c.before.before.before _ (start c.before.before.before).args.block.now c.in-Bad.is refl
 
 pub returns-in-Never : goal.returns-in-Never
 returns-in-Never c =
     let clear = c.clear in
-    left c.before.before.before.before.before.before.before.before _ clear.new.dst c.in-Never.is clear.ensures
+    left c.before.before.before.before.before.before.before _ clear.new.dst c.in-Never.is clear.ensures
 
 pub returns-in-Here : goal.returns-in-Here
 returns-in-Here c =
     let here = c.fill_here in
-    left c.before.before.before.before.before.before.before.before.before _ here.new.block c.in-Here.is here.ensures
+    left c.before.before.before.before.before.before.before _ here.new.block c.in-Here.is here.ensures
 
 pub returns-in-Away : goal.returns-in-Away
 returns-in-Away c =
-    let s = start c.before.before.before.before.before.before.before.before.before.before.before in
+    let s = start c.before.before.before.before.before.before.before.before.before in
     let lost = c.fill_lost in
-    left c.before.before.before.before.before.before.before.before.before.before.before _ lost.new.block c.in-Away.is
-    (lost.ensures ∙ ap (λ (x : ℕ). lost_block s.args.p s.args.image.now x c.in-Away.q.0 (starts c.before.before.before.before.before.before.before.before.before.before.before)) c.missing-gone.ensures)
+    left c.before.before.before.before.before.before.before.before.before _ lost.new.block c.in-Away.is
+    (lost.ensures ∙ ap (λ (x : ℕ). lost_block s.args.p s.args.image.now x c.in-Away.q.0 (starts c.before.before.before.before.before.before.before.before.before)) c.missing-gone.ensures)

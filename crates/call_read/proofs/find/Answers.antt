@@ -41,19 +41,19 @@ left c x e =
 pub place_byte-requires : goal.place_byte-requires
 place_byte-requires c =
     let p = c.args.p in
-    let none! : read_refusal p c.args.offline.now (disk c.before.before.before.before.before.before.before.before.before.before.before.before.before.before) (memory c.before.before.before.before.before.before.before.before.before.before.before.before.before.before) c.args.address.0 p.B ≡ none =
+    let none! : read_refusal p c.args.offline.now (disk c.before.before.before.before.before.before.before.before.before.before.before.before) (memory c.before.before.before.before.before.before.before.before.before.before.before.before) c.args.address.0 p.B ≡ none =
     sym c.seek-sought.ensures.result_value ∙ ap refused_by c.in-Here.is in
-    (read_ready p c.args.offline.now (disk c.before.before.before.before.before.before.before.before.before.before.before.before.before.before) (memory c.before.before.before.before.before.before.before.before.before.before.before.before.before.before) c.args.address.0 p.B none!).ranged
+    (read_ready p c.args.offline.now (disk c.before.before.before.before.before.before.before.before.before.before.before.before) (memory c.before.before.before.before.before.before.before.before.before.before.before.before) c.args.address.0 p.B none!).ranged
 
 pub returns-in-Bad : goal.returns-in-Bad
-returns-in-Bad c = left c.before.before.before.before.before _ c.in-Bad.is
+returns-in-Bad c = left c.before.before.before _ c.in-Bad.is
 
 pub returns-in-Never : goal.returns-in-Never
-returns-in-Never c = left c.before.before.before.before _ c.in-Never.is
+returns-in-Never c = left c.before.before.before _ c.in-Never.is
 
 pub returns-in-Here : goal.returns-in-Here
 returns-in-Here c =
-    ap (λ (n : ℕ). mk_after (Part n c.in-Here.t) (disk c.before.before.before.before.before.before.before.before.before.before.before.before.before.before.before) (memory c.before.before.before.before.before.before.before.before.before.before.before.before.before.before.before) []) c.place_byte.ensures.0 ∙ left c.before.before.before.before.before.before _ c.in-Here.is
+    ap (λ (n : ℕ). mk_after (Part n c.in-Here.t) (disk c.before.before.before.before.before.before.before.before.before.before.before.before.before) (memory c.before.before.before.before.before.before.before.before.before.before.before.before.before) []) c.place_byte.ensures.0 ∙ left c.before.before.before.before _ c.in-Here.is
 
 pub returns-in-Away : goal.returns-in-Away
-returns-in-Away c = left c.before.before.before.before.before _ c.in-Away.is
+returns-in-Away c = left c.before.before.before _ c.in-Away.is

@@ -48,25 +48,25 @@ answered c = ap (λ (x : After Disk). x.answer) c.find-answer.ensures
 
 within :
     (c : Lts.After-answer Tie.the-claims Reads.Pre Reads.Post)
-    → c.answer-1.given.0.0 + c.before.before.before.before.before.before.before.before.before.before.args.p.B ≤ length
-    c.before.before.before.before.before.before.before.before.before.before.args.image.now
+    → c.in-Part.at + c.before.before.before.before.before.before.before.before.before.args.p.B ≤ length
+    c.before.before.before.before.before.before.before.before.before.args.image.now
 within c =
-    let a = c.before.before.before.before.before.before.before.before.before.before.args in
+    let a = c.before.before.before.before.before.before.before.before.before.args in
     part_within a.p a.offline.now (mk_disk a.image.now a.pointers.now)
-    (mk_memory (state_of a.state.now) a.addresses.now a.compact.now a.inflight.now) a.address.0 c.answer-1.given.0.0 c.answer-1.given.0.1.0
-    (sym (answered c.before.before) ∙ c.answer-1.given.1)
+    (mk_memory (state_of a.state.now) a.addresses.now a.compact.now a.inflight.now) a.address.0 c.in-Part.at c.in-Part.field-1
+    (sym (answered c.before) ∙ c.in-Part.is)
 
 pub overflow_add-e : goal.overflow_add-e
-overflow_add-e c = omega (arith, within c.before.before.before)
+overflow_add-e c = omega (arith, within c)
 
 pub slice_bounds-result-end : goal.slice_bounds-result-end
-slice_bounds-result-end c = within c.before.before.before
+slice_bounds-result-end c = within c
 
 pub returns-in-Part : goal.returns-in-Part
 returns-in-Part c =
     let a = c.args in
     let at = c.in-Part.at in
-    let e = sym (answered c.before.before.before.before.before.before) ∙ c.in-Part.is in
+    let e = sym (answered c.before.before.before.before) ∙ c.in-Part.is in
     let e₁ = ap part_at e ∙ (part_here a.p at c.in-Part.field-1).0 in
     let e₂ = ap (part_len a.p) e ∙ (part_here a.p at c.in-Part.field-1).1 in
     record {

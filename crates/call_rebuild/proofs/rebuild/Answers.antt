@@ -18,8 +18,7 @@ returns-in-Fail c =
     let off = a.offline.now in
     let k = mk_disk a.image.now a.pointers.now in
     let m = mk_memory a.state a.addresses.now a.compact.now a.inflight.now in
-    let q = c.c-1.given in
-    ends_rebuild_refused p off k m d a.count q.0.0 (rebuild_front_refused p off k m d q.0.0 (sym c.checks-c.ensures ∙ ap checked q.1))
+    ends_rebuild_refused p off k m d a.count c.in-Fail.answer (rebuild_front_refused p off k m d c.in-Fail.answer (sym c.checks-c.ensures ∙ ap checked c.in-Fail.is))
 
 pub examined-requires : goal.examined-requires
 examined-requires c =

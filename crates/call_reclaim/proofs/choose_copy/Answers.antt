@@ -76,22 +76,21 @@ rules-are c =
 pub returns-in-Fail : goal.returns-in-Fail
 returns-in-Fail c =
     let a = c.args in
-    let q = c.c-1.given in
-    let e : first_refusal (copy_rules a.p (view c.before.before.before.before.before.before.before.before.before.before.before.before.before.before) (state c.before.before.before.before.before.before.before.before.before.before.before.before.before.before)) ≡ some q.0.0 = sym (rules-are c.before.before.before.before) ∙ ap checked q.1 in
-    from-rules c.before.before.before.before.before.before.before.before.before.before.before.before.before.before c.if-first-none.false ∙ ap (λ (x : Opt Answer). or_next x (first_refusal (zones (bad_zones a.p (view c.before.before.before.before.before.before.before.before.before.before.before.before.before.before) (state c.before.before.before.before.before.before.before.before.before.before.before.before.before.before) a.addresses.now (taken c.before.before.before.before.before.before.before.before.before.before.before.before.before.before)) ∷ []))) e
+    let e : first_refusal (copy_rules a.p (view c.before.before.before.before.before.before.before.before.before.before.before.before) (state c.before.before.before.before.before.before.before.before.before.before.before.before)) ≡ some c.in-Fail.answer = sym (rules-are c.before.before) ∙ ap checked c.in-Fail.is in
+    from-rules c.before.before.before.before.before.before.before.before.before.before.before.before c.if-first-none.false ∙ ap (λ (x : Opt Answer). or_next x (first_refusal (zones (bad_zones a.p (view c.before.before.before.before.before.before.before.before.before.before.before.before) (state c.before.before.before.before.before.before.before.before.before.before.before.before) a.addresses.now (taken c.before.before.before.before.before.before.before.before.before.before.before.before)) ∷ []))) e
 
 pub has_fault-requires : goal.has_fault-requires
 has_fault-requires c = record { p_value = c.requires.p_value; bytes_len = c.requires.f_value.2 }
 
 -- the zones at fault, once the rules pass
-from_zones : (c : Lts.After-has_fault Tie.the-claims Reads.Pre Reads.Post Tie.handed_clauses) → let o = c.before.before.before.before.before.before.before.before.before.before.before.before.before.args.seen.odd in later c.before.before.before.before.before.before.before.before.before.before.before.before.before ≡ cond c.has_fault.result (some (BadZone 0)) (cond (eqb o 1024) none (some (BadZone o)))
+from_zones : (c : Lts.After-has_fault Tie.the-claims Reads.Pre Reads.Post Tie.handed_clauses) → let o = c.before.before.before.before.before.before.before.before.before.before.before.before.args.seen.odd in later c.before.before.before.before.before.before.before.before.before.before.before.before ≡ cond c.has_fault.result (some (BadZone 0)) (cond (eqb o 1024) none (some (BadZone o)))
 from_zones c =
-    let a = c.before.before.before.before.before.before.before.before.before.before.before.before.before.args in
-    let k = c.before.before.before.before.before.before.before.before.before.before.before.before.before.requires.looked in
-    let e : first_refusal (copy_rules a.p (view c.before.before.before.before.before.before.before.before.before.before.before.before.before) (state c.before.before.before.before.before.before.before.before.before.before.before.before.before)) ≡ none = sym (rules-are c.before.before.before) ∙ ap checked c.before.enum_told-1.given.1 in
-    from-rules c.before.before.before.before.before.before.before.before.before.before.before.before.before c.before.before.before.before.if-first-none.false ∙ ap (λ (x : Opt Answer). or_next x (first_refusal (zones (bad_zones a.p (view c.before.before.before.before.before.before.before.before.before.before.before.before.before) (state c.before.before.before.before.before.before.before.before.before.before.before.before.before) a.addresses.now (taken c.before.before.before.before.before.before.before.before.before.before.before.before.before)) ∷ []))) e
-    ∙ zones_odd a.p (ranged a.p c.before.before.before.before.before.before.before.before.before.before.before.before.before.requires.p_value) (view c.before.before.before.before.before.before.before.before.before.before.before.before.before) (state c.before.before.before.before.before.before.before.before.before.before.before.before.before) a.addresses.now (taken c.before.before.before.before.before.before.before.before.before.before.before.before.before) c.has_fault.result a.seen.odd
-    (λ zs. c.has_fault.ensures (view c.before.before.before.before.before.before.before.before.before.before.before.before.before) a.addresses.now zs (k.0.outside k.1)) k.0.odd
+    let a = c.before.before.before.before.before.before.before.before.before.before.before.before.args in
+    let k = c.before.before.before.before.before.before.before.before.before.before.before.before.requires.looked in
+    let e : first_refusal (copy_rules a.p (view c.before.before.before.before.before.before.before.before.before.before.before.before) (state c.before.before.before.before.before.before.before.before.before.before.before.before)) ≡ none = sym (rules-are c.before.before) ∙ ap checked c.before.in_default.is in
+    from-rules c.before.before.before.before.before.before.before.before.before.before.before.before c.before.before.before.if-first-none.false ∙ ap (λ (x : Opt Answer). or_next x (first_refusal (zones (bad_zones a.p (view c.before.before.before.before.before.before.before.before.before.before.before.before) (state c.before.before.before.before.before.before.before.before.before.before.before.before) a.addresses.now (taken c.before.before.before.before.before.before.before.before.before.before.before.before)) ∷ []))) e
+    ∙ zones_odd a.p (ranged a.p c.before.before.before.before.before.before.before.before.before.before.before.before.requires.p_value) (view c.before.before.before.before.before.before.before.before.before.before.before.before) (state c.before.before.before.before.before.before.before.before.before.before.before.before) a.addresses.now (taken c.before.before.before.before.before.before.before.before.before.before.before.before) c.has_fault.result a.seen.odd
+    (λ zs. c.has_fault.ensures (view c.before.before.before.before.before.before.before.before.before.before.before.before) a.addresses.now zs (k.0.outside k.1)) k.0.odd
 
 pub returns-then-has_fault : goal.returns-then-has_fault
 returns-then-has_fault c =
@@ -111,8 +110,8 @@ returns c =
     let n = c.if-first-none.false in
     let g = k.0.found n in (
       from_zones c.before.before.before.before ∙ (let f = c.if-has_fault.false in let z = eq-eqb o 1024 c.if-seen-ne1024.false in λ j. cond (f j) (some (BadZone 0)) (cond (z j) none (some (BadZone o)))),
-      some-live c.before.before.before.before.before.before.before.before.before.before.before.before.before.before.before.before.before,
-      first_found (idle a.p (view c.before.before.before.before.before.before.before.before.before.before.before.before.before.before.before.before.before) (state c.before.before.before.before.before.before.before.before.before.before.before.before.before.before.before.before.before) (taken c.before.before.before.before.before.before.before.before.before.before.before.before.before.before.before.before.before)) never_place a.seen.first.0 k.0.first n,
+      some-live c.before.before.before.before.before.before.before.before.before.before.before.before.before.before.before.before,
+      first_found (idle a.p (view c.before.before.before.before.before.before.before.before.before.before.before.before.before.before.before.before) (state c.before.before.before.before.before.before.before.before.before.before.before.before.before.before.before.before) (taken c.before.before.before.before.before.before.before.before.before.before.before.before.before.before.before.before)) never_place a.seen.first.0 k.0.first n,
       g.1,
       g.3 c.if-seen-ne1024.false,
       g.2,

@@ -59,41 +59,38 @@ chosen c x q =
 
 pub reset_segment-requires : goal.reset_segment-requires
 reset_segment-requires c =
-    let h = chosen c.before.before.before.before.before.before.before _ c.in-Clear.is in
-    let l = lent c.args.p c.args.offline.now (disk c.before.before.before.before.before.before.before.before.before.before.before.before.before.before.before.before.before) (memory c.before.before.before.before.before.before.before.before.before.before.before.before.before.before.before.before.before c.args.state) h.0 in record { p_value = l.in_range_holds; pointers_len = (l.whole.pointers_long, l.addresses_long, l.compact_long, h.3) }
+    let h = chosen c.before.before.before.before.before.before _ c.in-Clear.is in
+    let l = lent c.args.p c.args.offline.now (disk c.before.before.before.before.before.before.before.before.before.before.before.before.before.before.before.before) (memory c.before.before.before.before.before.before.before.before.before.before.before.before.before.before.before.before c.args.state) h.0 in record { p_value = l.in_range_holds; pointers_len = (l.whole.pointers_long, l.addresses_long, l.compact_long, h.3) }
 
 pub copy_block-requires : goal.copy_block-requires
 copy_block-requires c =
-    let q = c.choice-in-Copy-1.given in
     let a = c.args in
     let e = c.requires.0 in
-    let h = chosen c.before.before.before.before.before.before.before.before.before.before _ q.1 in
-    let r = subst (λ (x : State). CopyReady a.p a.offline.now (disk c.before.before.before.before.before.before.before.before.before.before.before.before.before.before.before.before.before.before.before.before) (memory c.before.before.before.before.before.before.before.before.before.before.before.before.before.before.before.before.before.before.before.before x)) e (copy_ready a.p a.offline.now (disk c.before.before.before.before.before.before.before.before.before.before.before.before.before.before.before.before.before.before.before.before) (memory c.before.before.before.before.before.before.before.before.before.before.before.before.before.before.before.before.before.before.before.before a.state) h.0 h.1) in record { copy_ready = r; f_value = (c.front_of-f.ensures ∙ ap front_of e, aimed c.before.before.before.before.before.before.before.before.before.before.before ∙ ap (aim_of a.p) e, c.requires.1); q_bound = (h.3, h.4); q_value = (h.5, h.6) }
+    let h = chosen c.before.before.before.before.before.before.before.before _ c.in-Copy.is in
+    let r = subst (λ (x : State). CopyReady a.p a.offline.now (disk c.before.before.before.before.before.before.before.before.before.before.before.before.before.before.before.before.before.before) (memory c.before.before.before.before.before.before.before.before.before.before.before.before.before.before.before.before.before.before x)) e (copy_ready a.p a.offline.now (disk c.before.before.before.before.before.before.before.before.before.before.before.before.before.before.before.before.before.before) (memory c.before.before.before.before.before.before.before.before.before.before.before.before.before.before.before.before.before.before a.state) h.0 h.1) in record { copy_ready = r; f_value = (c.front_of-f.ensures ∙ ap front_of e, aimed c.before.before.before.before.before.before.before.before.before ∙ ap (aim_of a.p) e, c.requires.1); q_bound = (h.3, h.4); q_value = (h.5, h.6) }
 
 pub returns-in-Refuse : goal.returns-in-Refuse
 returns-in-Refuse c =
     let a = c.args in
-    let q = c.choice-1.given in
-    reclaim_refused a.p a.offline.now (disk c.before.before.before.before.before.before.before.before.before.before.before.before.before.before.before.before) (memory c.before.before.before.before.before.before.before.before.before.before.before.before.before.before.before.before a.state) a.count c.kept.result (chosen c.before.before.before.before.before.before _ q.1 ∙ ap (λ (x : Change). some x.answer) (sym c.kept.ensures))
+    reclaim_refused a.p a.offline.now (disk c.before.before.before.before.before.before.before.before.before.before.before.before.before.before) (memory c.before.before.before.before.before.before.before.before.before.before.before.before.before.before a.state) a.count c.kept.result (chosen c.before.before.before.before _ c.in-Refuse.is ∙ ap (λ (x : Change). some x.answer) (sym c.kept.ensures))
 
 pub returns-in-Clear : goal.returns-in-Clear
 returns-in-Clear c =
     let r = c.reset_segment in
-    let s = start c.before.before.before.before.before.before.before.before.before.before.before.before.before.before in
+    let s = start c.before.before.before.before.before.before.before.before.before.before.before.before.before in
     let a = s.args in
-    let h = chosen c.before.before.before.before.before.before.before.before.before.before.before.before.before.before _ c.in-Clear.is in
+    let h = chosen c.before.before.before.before.before.before.before.before.before.before.before.before.before _ c.in-Clear.is in
     r.ensures a.state a.image.now a.inflight.now c.front_of-f.ensures
     ∙ reclaim_clear a.p a.offline.now (disk s) (memory s a.state) a.count c.choose-c.result.segment h.0 h.1 h.2
 
 pub returns-in-Copy : goal.returns-in-Copy
 returns-in-Copy c =
     let r = c.copy_block in
-    let q = c.choice-in-Copy-1.given in
-    let s = start c.before.before.before.before.before.before.before.before.before.before.before.before.before.before.before.before.before.before.before.before.before in
+    let s = start c.before.before.before.before.before.before.before.before.before.before.before.before.before.before.before.before.before.before.before in
     let a = s.args in
-    let h = chosen c.before.before.before.before.before.before.before.before.before.before.before.before.before.before.before.before.before.before.before.before.before _ q.1 in
+    let h = chosen c.before.before.before.before.before.before.before.before.before.before.before.before.before.before.before.before.before.before.before _ c.in-Copy.is in
     let l = r.new in
-    let place = q.0.0.0 in
+    let place = c.in-Copy.q.0 in
     subst (λ (st : State).
     after_change st r.result l.1.0 l.1.1.0 l.1.1.1.1.0 l.1.1.1.1.1.0 l.1.1.1.1.1.1.0 []
     ≡ outcome a.p (store_disk a.p) a.count (disk s) (memory s st) [] (due (copy_plan a.p (view s) (memory s st) place))) (sym s.requires.0) r.ensures

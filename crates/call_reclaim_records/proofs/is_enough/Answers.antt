@@ -21,7 +21,7 @@ returns-then-not-sealed-g c =
 
 pub row-segment-requires : goal.row-segment-requires
 row-segment-requires c =
-    (omega (arith, c.requires.1), omega (arith, c.requires.1, (ranged c.args.p c.requires.p_value).zones_high))
+    (omega (arith, c.requires), omega (arith, c.requires, (ranged c.args.p c.requires.p_value).zones_high))
 
 pub vouched-requires : goal.vouched-requires
 vouched-requires c =

@@ -73,19 +73,18 @@ checked-is c =
 pub returns-in-Fail : goal.returns-in-Fail
 returns-in-Fail c =
     let a = c.args in
-    let q = c.c-1.given in
-    write_refused a.p a.offline.now (disk c.before.before.before.before.before.before.before.before.before.before.before.before.before.before.before.before) (memory c.before.before.before.before.before.before.before.before.before.before.before.before.before.before.before.before) a.address.0 a.block.now a.count c.requires.2 c.kept.result
-    (sym (checked-is c.before.before.before.before.before) ∙ ap checked q.1 ∙ ap (λ (x : Change). some x.answer) (sym c.kept.ensures))
+    write_refused a.p a.offline.now (disk c.before.before.before.before.before.before.before.before.before.before.before.before.before.before) (memory c.before.before.before.before.before.before.before.before.before.before.before.before.before.before) a.address.0 a.block.now a.count c.requires.2 c.kept.result
+    (sym (checked-is c.before.before.before) ∙ ap checked c.in-Fail.is ∙ ap (λ (x : Change). some x.answer) (sym c.kept.ensures))
 
 pub open-o-requires : goal.open-o-requires
 open-o-requires c =
     let g = c.aim_of-a in
     let f = c.front_of-f in
     let a = c.args in
-    let none! : write_refusal a.p a.offline.now (disk c.before.before.before.before.before.before.before.before.before.before.before.before.before.before.before.before) (memory c.before.before.before.before.before.before.before.before.before.before.before.before.before.before.before.before) a.address.0 a.block.now ≡ none = sym (checked-is c.before.before.before.before.before) ∙ ap checked c.in_default.is in
-    let r = write_ready a.p a.offline.now (disk c.before.before.before.before.before.before.before.before.before.before.before.before.before.before.before.before) (memory c.before.before.before.before.before.before.before.before.before.before.before.before.before.before.before.before) a.address.0 a.block.now none! in record { p_value = r.ranged; whole = (r.whole, r.offline_long); opens_value = ap (λ (x : Aim). x.opens) g.ensures; serial_lt_last_count = λ e.
+    let none! : write_refusal a.p a.offline.now (disk c.before.before.before.before.before.before.before.before.before.before.before.before.before.before.before) (memory c.before.before.before.before.before.before.before.before.before.before.before.before.before.before.before) a.address.0 a.block.now ≡ none = sym (checked-is c.before.before.before.before) ∙ ap checked c.in_default.is in
+    let r = write_ready a.p a.offline.now (disk c.before.before.before.before.before.before.before.before.before.before.before.before.before.before.before) (memory c.before.before.before.before.before.before.before.before.before.before.before.before.before.before.before) a.address.0 a.block.now none! in record { p_value = r.ranged; whole = (r.whole, r.offline_long); opens_value = ap (λ (x : Aim). x.opens) g.ensures; serial_lt_last_count = λ e.
                 subst (λ (x : Front). x.serial.0 < last_count) (sym f.ensures)
-                (lt_of_le-ne (serial_fits c.before.before.before.before.before.before.before.before.before.before.before.before.before.before.before.before) (r.serial_left (ap (λ (x : Aim). x.opens) (sym (aimed c.before.before.before.before.before.before)) ∙ e))); nonzero = λ e. r.empties }
+                (lt_of_le-ne (serial_fits c.before.before.before.before.before.before.before.before.before.before.before.before.before.before.before) (r.serial_left (ap (λ (x : Aim). x.opens) (sym (aimed c.before.before.before.before.before)) ∙ e))); nonzero = λ e. r.empties }
 
 pub returns-then-o : goal.returns-then-o
 returns-then-o c =
@@ -94,46 +93,46 @@ returns-then-o c =
     let front_of =
     c.front_of-f in
     let a = c.args in
-    let none! : write_refusal a.p a.offline.now (disk c.before.before.before.before.before.before.before.before.before.before.before.before.before.before.before.before.before.before.before.before.before.before.before.before.before.before.before.before.before) (memory c.before.before.before.before.before.before.before.before.before.before.before.before.before.before.before.before.before.before.before.before.before.before.before.before.before.before.before.before.before) a.address.0 a.block.now ≡ none = sym (checked-is c.before.before.before.before.before.before.before.before.before.before.before.before.before.before.before.before.before.before) ∙ ap checked c.in_default.is in
+    let none! : write_refusal a.p a.offline.now (disk c.before.before.before.before.before.before.before.before.before.before.before.before.before.before.before.before.before.before.before.before.before.before.before.before.before.before.before.before) (memory c.before.before.before.before.before.before.before.before.before.before.before.before.before.before.before.before.before.before.before.before.before.before.before.before.before.before.before.before) a.address.0 a.block.now ≡ none = sym (checked-is c.before.before.before.before.before.before.before.before.before.before.before.before.before.before.before.before.before) ∙ ap checked c.in_default.is in
     let o = c.«open» in
     let k' : Disk = mk_disk o.new.1.0 o.new.1.1.0 in
-    let h : OpeningStores a.p a.offline.now a.state a.count (disk c.before.before.before.before.before.before.before.before.before.before.before.before.before.before.before.before.before.before.before.before.before.before.before.before.before.before.before.before.before) o.result k' =
-    opening_front a.p a.offline.now a.state a.count (disk c.before.before.before.before.before.before.before.before.before.before.before.before.before.before.before.before.before.before.before.before.before.before.before.before.before.before.before.before.before) o.result k'
-    (subst (λ (x : Front). OpeningStores a.p a.offline.now (behind x) a.count (disk c.before.before.before.before.before.before.before.before.before.before.before.before.before.before.before.before.before.before.before.before.before.before.before.before.before.before.before.before.before) o.result k') front_of.ensures o.ensures) in
-    ends_write_cut a.p a.offline.now (disk c.before.before.before.before.before.before.before.before.before.before.before.before.before.before.before.before.before.before.before.before.before.before.before.before.before.before.before.before.before) (memory c.before.before.before.before.before.before.before.before.before.before.before.before.before.before.before.before.before.before.before.before.before.before.before.before.before.before.before.before.before) a.address.0 a.block.now a.count c.requires.2 none! o.result k' h if1.true q.result q.new.addresses q.new.compact
+    let h : OpeningStores a.p a.offline.now a.state a.count (disk c.before.before.before.before.before.before.before.before.before.before.before.before.before.before.before.before.before.before.before.before.before.before.before.before.before.before.before.before) o.result k' =
+    opening_front a.p a.offline.now a.state a.count (disk c.before.before.before.before.before.before.before.before.before.before.before.before.before.before.before.before.before.before.before.before.before.before.before.before.before.before.before.before) o.result k'
+    (subst (λ (x : Front). OpeningStores a.p a.offline.now (behind x) a.count (disk c.before.before.before.before.before.before.before.before.before.before.before.before.before.before.before.before.before.before.before.before.before.before.before.before.before.before.before.before) o.result k') front_of.ensures o.ensures) in
+    ends_write_cut a.p a.offline.now (disk c.before.before.before.before.before.before.before.before.before.before.before.before.before.before.before.before.before.before.before.before.before.before.before.before.before.before.before.before) (memory c.before.before.before.before.before.before.before.before.before.before.before.before.before.before.before.before.before.before.before.before.before.before.before.before.before.before.before.before) a.address.0 a.block.now a.count c.requires.2 none! o.result k' h if1.true q.result q.new.addresses q.new.compact
     (ap (λ (x : Change). x.answer) q.ensures.value) q.ensures.addresses_after.0 q.ensures.addresses_after.1
 
 pub row_at-row-requires : goal.row_at-row-requires
 row_at-row-requires c =
     let a = c.args in
-    let none! : write_refusal a.p a.offline.now (disk c.before.before.before.before.before.before.before.before.before.before.before.before.before.before.before.before.before.before.before.before.before.before) (memory c.before.before.before.before.before.before.before.before.before.before.before.before.before.before.before.before.before.before.before.before.before.before) a.address.0 a.block.now ≡ none = sym (checked-is c.before.before.before.before.before.before.before.before.before.before.before) ∙ ap checked c.in_default.is in (
+    let none! : write_refusal a.p a.offline.now (disk c.before.before.before.before.before.before.before.before.before.before.before.before.before.before.before.before.before.before.before.before.before) (memory c.before.before.before.before.before.before.before.before.before.before.before.before.before.before.before.before.before.before.before.before.before) a.address.0 a.block.now ≡ none = sym (checked-is c.before.before.before.before.before.before.before.before.before.before) ∙ ap checked c.in_default.is in (
       c.requires.1,
-      subst (λ (x : Aim). x.slot < 8) (sym (aimed c.before.before.before.before.before.before.before.before.before.before.before.before))
-          (slot_lt a.p a.state (write_ready a.p a.offline.now (disk c.before.before.before.before.before.before.before.before.before.before.before.before.before.before.before.before.before.before.before.before.before.before) (memory c.before.before.before.before.before.before.before.before.before.before.before.before.before.before.before.before.before.before.before.before.before.before) a.address.0 a.block.now none!).waits),
+      subst (λ (x : Aim). x.slot < 8) (sym (aimed c.before.before.before.before.before.before.before.before.before.before.before))
+          (slot_lt a.p a.state (write_ready a.p a.offline.now (disk c.before.before.before.before.before.before.before.before.before.before.before.before.before.before.before.before.before.before.before.before.before) (memory c.before.before.before.before.before.before.before.before.before.before.before.before.before.before.before.before.before.before.before.before.before) a.address.0 a.block.now none!).waits),
     )
 
 -- the row is the state's
 row_is :
     (c : Lts.After-row_at Tie.the-claims Reads.Pre Reads.Post Tie.handed_clauses)
-    → c.row_at-row.result ≡ slot_row c.before.before.before.before.before.before.before.before.before.before.before.before.before.before.before.before.before.before.before.before.before.before.args.state
-    c.before.before.before.before.before.before.before.before.before.before.before.before.aim_of-a.result.slot
+    → c.row_at-row.result ≡ slot_row c.before.before.before.before.before.before.before.before.before.before.before.before.before.before.before.before.before.before.before.before.before.args.state
+    c.before.before.before.before.before.before.before.before.before.before.before.aim_of-a.result.slot
 row_is c =
-    let aim-of = c.before.before.before.before.before.before.before.before.before.before.before.before.aim_of-a in
-    subst (λ (x : State). c.row_at-row.result ≡ slot_row x aim-of.result.slot) (sym c.before.before.before.before.before.before.before.before.before.before.before.before.before.before.before.before.before.before.before.before.before.before.requires.0) c.row_at-row.ensures
+    let aim-of = c.before.before.before.before.before.before.before.before.before.before.before.aim_of-a in
+    subst (λ (x : State). c.row_at-row.result ≡ slot_row x aim-of.result.slot) (sym c.before.before.before.before.before.before.before.before.before.before.before.before.before.before.before.before.before.before.before.before.before.requires.0) c.row_at-row.ensures
 
 pub plan-requires : goal.plan-requires
 plan-requires c =
     let aim-of = c.aim_of-a in
     let f = c.front_of-f in
     let a = c.args in
-    let none! : write_refusal a.p a.offline.now (disk c.before.before.before.before.before.before.before.before.before.before.before.before.before.before.before.before.before.before.before.before.before.before.before.before) (memory c.before.before.before.before.before.before.before.before.before.before.before.before.before.before.before.before.before.before.before.before.before.before.before.before) a.address.0 a.block.now ≡ none = sym (checked-is c.before.before.before.before.before.before.before.before.before.before.before.before.before) ∙ ap checked c.in_default.is in
-    let r = write_ready a.p a.offline.now (disk c.before.before.before.before.before.before.before.before.before.before.before.before.before.before.before.before.before.before.before.before.before.before.before.before) (memory c.before.before.before.before.before.before.before.before.before.before.before.before.before.before.before.before.before.before.before.before.before.before.before.before) a.address.0 a.block.now none! in
+    let none! : write_refusal a.p a.offline.now (disk c.before.before.before.before.before.before.before.before.before.before.before.before.before.before.before.before.before.before.before.before.before.before.before) (memory c.before.before.before.before.before.before.before.before.before.before.before.before.before.before.before.before.before.before.before.before.before.before.before) a.address.0 a.block.now ≡ none = sym (checked-is c.before.before.before.before.before.before.before.before.before.before.before.before) ∙ ap checked c.in_default.is in
+    let r = write_ready a.p a.offline.now (disk c.before.before.before.before.before.before.before.before.before.before.before.before.before.before.before.before.before.before.before.before.before.before.before) (memory c.before.before.before.before.before.before.before.before.before.before.before.before.before.before.before.before.before.before.before.before.before.before.before) a.address.0 a.block.now none! in
     let o = c.«open» in
     let k' : Disk = mk_disk o.new.1.0 o.new.1.1.0 in
-    let h : OpeningStores a.p a.offline.now a.state a.count (disk c.before.before.before.before.before.before.before.before.before.before.before.before.before.before.before.before.before.before.before.before.before.before.before.before) o.result k' =
-    opening_front a.p a.offline.now a.state a.count (disk c.before.before.before.before.before.before.before.before.before.before.before.before.before.before.before.before.before.before.before.before.before.before.before.before) o.result k'
-    (subst (λ (x : Front). OpeningStores a.p a.offline.now (behind x) a.count (disk c.before.before.before.before.before.before.before.before.before.before.before.before.before.before.before.before.before.before.before.before.before.before.before.before) o.result k') f.ensures o.ensures) in record { p_value = r.ranged; slot_bound = plan_asks a.p a.offline.now (disk c.before.before.before.before.before.before.before.before.before.before.before.before.before.before.before.before.before.before.before.before.before.before.before.before) (memory c.before.before.before.before.before.before.before.before.before.before.before.before.before.before.before.before.before.before.before.before.before.before.before.before) a.address.0 a.block.now a.count c.requires.2 none! o.result k' h f.result f.ensures aim-of.result (aimed c.before.before.before.before.before.before.before.before.before.before.before.before.before.before)
-            c.row_at-row.result (row_is c.before.before) (stamp_fits c.before.before.before.before.before.before.before.before.before.before.before.before.before.before.before.before.before.before.before.before.before.before.before.before); inflight_len = (r.inflight_long, r.block_long) }
+    let h : OpeningStores a.p a.offline.now a.state a.count (disk c.before.before.before.before.before.before.before.before.before.before.before.before.before.before.before.before.before.before.before.before.before.before.before) o.result k' =
+    opening_front a.p a.offline.now a.state a.count (disk c.before.before.before.before.before.before.before.before.before.before.before.before.before.before.before.before.before.before.before.before.before.before.before) o.result k'
+    (subst (λ (x : Front). OpeningStores a.p a.offline.now (behind x) a.count (disk c.before.before.before.before.before.before.before.before.before.before.before.before.before.before.before.before.before.before.before.before.before.before.before) o.result k') f.ensures o.ensures) in record { p_value = r.ranged; slot_bound = plan_asks a.p a.offline.now (disk c.before.before.before.before.before.before.before.before.before.before.before.before.before.before.before.before.before.before.before.before.before.before.before) (memory c.before.before.before.before.before.before.before.before.before.before.before.before.before.before.before.before.before.before.before.before.before.before.before) a.address.0 a.block.now a.count c.requires.2 none! o.result k' h f.result f.ensures aim-of.result (aimed c.before.before.before.before.before.before.before.before.before.before.before.before.before)
+            c.row_at-row.result (row_is c.before.before) (stamp_fits c.before.before.before.before.before.before.before.before.before.before.before.before.before.before.before.before.before.before.before.before.before.before.before); inflight_len = (r.inflight_long, r.block_long) }
 
 pub returns : goal.returns
 returns c =
@@ -144,11 +143,11 @@ returns c =
     let f =
     c.front_of-f in
     let a = c.args in
-    let none! : write_refusal a.p a.offline.now (disk c.before.before.before.before.before.before.before.before.before.before.before.before.before.before.before.before.before.before.before.before.before.before.before.before.before.before.before) (memory c.before.before.before.before.before.before.before.before.before.before.before.before.before.before.before.before.before.before.before.before.before.before.before.before.before.before.before) a.address.0 a.block.now ≡ none = sym (checked-is c.before.before.before.before.before.before.before.before.before.before.before.before.before.before.before.before) ∙ ap checked c.in_default.is in
+    let none! : write_refusal a.p a.offline.now (disk c.before.before.before.before.before.before.before.before.before.before.before.before.before.before.before.before.before.before.before.before.before.before.before.before.before.before) (memory c.before.before.before.before.before.before.before.before.before.before.before.before.before.before.before.before.before.before.before.before.before.before.before.before.before.before) a.address.0 a.block.now ≡ none = sym (checked-is c.before.before.before.before.before.before.before.before.before.before.before.before.before.before.before) ∙ ap checked c.in_default.is in
     let o = c.«open» in
     let k' : Disk = mk_disk o.new.1.0 o.new.1.1.0 in
-    let h : OpeningStores a.p a.offline.now a.state a.count (disk c.before.before.before.before.before.before.before.before.before.before.before.before.before.before.before.before.before.before.before.before.before.before.before.before.before.before.before) o.result k' =
-    opening_front a.p a.offline.now a.state a.count (disk c.before.before.before.before.before.before.before.before.before.before.before.before.before.before.before.before.before.before.before.before.before.before.before.before.before.before.before) o.result k'
-    (subst (λ (x : Front). OpeningStores a.p a.offline.now (behind x) a.count (disk c.before.before.before.before.before.before.before.before.before.before.before.before.before.before.before.before.before.before.before.before.before.before.before.before.before.before.before) o.result k') f.ensures o.ensures) in
-    ends_plan a.p a.offline.now (disk c.before.before.before.before.before.before.before.before.before.before.before.before.before.before.before.before.before.before.before.before.before.before.before.before.before.before.before) (memory c.before.before.before.before.before.before.before.before.before.before.before.before.before.before.before.before.before.before.before.before.before.before.before.before.before.before.before) a.address.0 a.block.now a.count c.requires.2 none! o.result k' h f.result f.ensures aim-of.result (aimed c.before.before.before.before.before.before.before.before.before.before.before.before.before.before.before.before.before)
-    row_at.result (row_is c.before.before.before.before.before) (sized c.before.before.before.before.before.before.before.before.before.before.before.before.before.before.before.before.before.before.before.before.before.before.before.before.before.before.before) if1.false q.result q.new.inflight q.ensures.value q.ensures.inflight_after
+    let h : OpeningStores a.p a.offline.now a.state a.count (disk c.before.before.before.before.before.before.before.before.before.before.before.before.before.before.before.before.before.before.before.before.before.before.before.before.before.before) o.result k' =
+    opening_front a.p a.offline.now a.state a.count (disk c.before.before.before.before.before.before.before.before.before.before.before.before.before.before.before.before.before.before.before.before.before.before.before.before.before.before) o.result k'
+    (subst (λ (x : Front). OpeningStores a.p a.offline.now (behind x) a.count (disk c.before.before.before.before.before.before.before.before.before.before.before.before.before.before.before.before.before.before.before.before.before.before.before.before.before.before) o.result k') f.ensures o.ensures) in
+    ends_plan a.p a.offline.now (disk c.before.before.before.before.before.before.before.before.before.before.before.before.before.before.before.before.before.before.before.before.before.before.before.before.before.before) (memory c.before.before.before.before.before.before.before.before.before.before.before.before.before.before.before.before.before.before.before.before.before.before.before.before.before.before) a.address.0 a.block.now a.count c.requires.2 none! o.result k' h f.result f.ensures aim-of.result (aimed c.before.before.before.before.before.before.before.before.before.before.before.before.before.before.before.before)
+    row_at.result (row_is c.before.before.before.before.before) (sized c.before.before.before.before.before.before.before.before.before.before.before.before.before.before.before.before.before.before.before.before.before.before.before.before.before.before) if1.false q.result q.new.inflight q.ensures.value q.ensures.inflight_after
