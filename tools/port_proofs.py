@@ -239,7 +239,13 @@ class Fn:
                 break
             rest = body[m.end() :]
             if m.group(1) != "c":
-                rest = re.sub(r"(?<![\w'\u2080-\u2089.-])%s(?![\w'\u2080-\u2089-])" % re.escape(m.group(1)), "c", rest)
+                tail_ = body[m.end() :]
+
+                def here(k, tail_=tail_, x=m.group(1)):
+                    # `at` is a word of `rw`, too
+                    return x if x == "at" and re.search(r"\brw [^()\n]*$", tail_[: k.start()]) else "c"
+
+                rest = re.sub(r"(?<![\w'\u2080-\u2089.-])%s(?![\w'\u2080-\u2089-])" % re.escape(m.group(1)), here, tail_)
             body = body[: m.start()] + rest
         body = re.sub(r"(?<=[\w'])\.pre(?![\w'-])", ".requires", body)
         # a second name for a name is the first

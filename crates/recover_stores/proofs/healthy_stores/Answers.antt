@@ -116,7 +116,7 @@ returns-then-whole c =
     let wh = sym said.0 ∙ c.if-whole.true in
     let feet = c.missing_footers in
     refit_feet p r a.offline.now a.count k w sn drop.result k₁ drop.ensures c₁ sg o wh feet.result (mk_disk feet.new.image feet.new.pointers)
-    (rw c.row-segment.ensures c (feet.ensures a.offline.now))
+    (rw c.row-segment.ensures at (feet.ensures a.offline.now))
 
 pub returns-then-not-ragged : goal.returns-then-not-ragged
 returns-then-not-ragged c =
@@ -254,4 +254,4 @@ returns c =
     let es = add-one most.result.0 ∙ ap suc (most.ensures v 0 (zero_here p r) q.keeps.0 q.serials.0) in
     let moved = c.rewrite in
     refit-rewrite p r a.offline.now a.count k w sn drop.result k₁ drop.ensures c₁ sg o nw rg to et serial es moved.result (mk_disk moved.new.image moved.new.pointers)
-    (rw c.row-segment.ensures c (moved.ensures a.offline.now))
+    (rw c.row-segment.ensures at (moved.ensures a.offline.now))

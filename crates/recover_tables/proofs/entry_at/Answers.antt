@@ -30,16 +30,16 @@ overflow_add-result c =
     let h = pre.compact_len in
     omega (arith, c.compact_at-from.ensures.2, group_len_fits a.p a.w.base (omega (arith, h.3)), h.3, h.4, (ranged a.p pre.p_value).stripes_high)
 
-at-is : (c : Lts.After-shared_slice_known2 Tie.the-claims Reads.Pre Reads.Post Tie.handed_clauses)
-    → let a = c.before.before.before.before.before.args in c.before.compact_at-from.result ≡ compact_at a.p a.drive (zone_on a.w.seg a.drive) a.w.base
+at-is : (c : Lts.After-compact_at Tie.the-claims Reads.Pre Reads.Post Tie.handed_clauses)
+    → let a = c.before.before.before.before.args in c.compact_at-from.result ≡ compact_at a.p a.drive (zone_on a.w.seg a.drive) a.w.base
 at-is c =
-    let a = c.before.before.before.before.before.args in
-    c.before.compact_at-from.ensures.0 ∙ ap (λ (z : ℕ). compact_at a.p a.drive z a.w.base) c.before.before.zone_on-zone.ensures
+    let a = c.before.before.before.before.args in
+    c.compact_at-from.ensures.0 ∙ ap (λ (z : ℕ). compact_at a.p a.drive z a.w.base) c.before.zone_on-zone.ensures
 
-within : (c : Lts.After-shared_slice_known2 Tie.the-claims Reads.Pre Reads.Post Tie.handed_clauses) → let a = c.before.before.before.before.before.args in c.before.compact_at-from.result + a.i < compact_len a.p
+within : (c : Lts.After-compact_at Tie.the-claims Reads.Pre Reads.Post Tie.handed_clauses) → let a = c.before.before.before.before.args in c.compact_at-from.result + a.i < compact_len a.p
 within c =
-    let a = c.before.before.before.before.before.args in
-    let pre = c.before.before.before.before.before.requires in
+    let a = c.before.before.before.before.args in
+    let pre = c.before.before.before.before.requires in
     let h = pre.compact_len in
     let e = at-is c in
     omega (
@@ -52,7 +52,7 @@ within c =
 pub bounds-compact-from : goal.bounds-compact-from
 bounds-compact-from c =
     let pre = c.requires in
-    omega (arith, within c, pre.compact_len.0)
+    omega (arith, within c.before.before, pre.compact_len.0)
 
 pub overflow_cast-result : goal.overflow_cast-result
 overflow_cast-result c =
@@ -63,4 +63,4 @@ pub returns : goal.returns
 returns c =
     let a = c.args in
     let k = c.shared_slice_known-2-1.given (c.compact_at-from.result + a.i) in
-    (ap (λ (x : ℕ). get_or a.compact.now (x + a.i) 0) (at-is c.before), omega (arith, k))
+    (ap (λ (x : ℕ). get_or a.compact.now (x + a.i) 0) (at-is c.before.before), omega (arith, k))
