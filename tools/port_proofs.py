@@ -248,6 +248,7 @@ class Fn:
                 rest = re.sub(r"(?<![\w'\u2080-\u2089.-])%s(?![\w'\u2080-\u2089-])" % re.escape(m.group(1)), here, tail_)
             body = body[: m.start()] + rest
         body = re.sub(r"(?<=[\w'])\.pre(?![\w'-])", ".requires", body)
+        body = re.sub(r"\.\u00ab([^\u00bb]+)\u00bb", r".\1", body)
         # a second name for a name is the first
         while True:
             m = re.search(r"let (%s)(?: : [^=\n]*?)?\s*=\s*(%s)\s+in(?![\w'-])\s*" % (ID, ID), body)

@@ -47,18 +47,18 @@ open-o-requires c =
 
 -- the drives with the segment open
 abbrev after : (c : Lts.After-open Tie.the-claims Reads.Pre Reads.Post Tie.handed_clauses) → Disk
-after c = mk_disk c.«open».new.1.0 c.«open».new.1.1.0
+after c = mk_disk c.open-o.new.image c.open-o.new.pointers
 
 abbrev start : (c : Lts.After-open Tie.the-claims Reads.Pre Reads.Post Tie.handed_clauses) → Lts.Start Tie.the-claims Reads.Pre Reads.Post Tie.handed_clauses
 start c =
     c.before.before.before.before.before.before.before.before.before.before.before
 
 -- and the opening is one of the state
-opened : (c : Lts.After-open Tie.the-claims Reads.Pre Reads.Post Tie.handed_clauses) → OpeningStores (start c).args.p (start c).args.offline.now (state (start c)) (start c).args.count (disk (start c)) c.«open».result (after c)
+opened : (c : Lts.After-open Tie.the-claims Reads.Pre Reads.Post Tie.handed_clauses) → OpeningStores (start c).args.p (start c).args.offline.now (state (start c)) (start c).args.count (disk (start c)) c.open-o.result (after c)
 opened c =
     let s = start c in
     let a = s.args in
-    let o = c.«open» in
+    let o = c.open-o in
     opening_front a.p a.offline.now (state s) a.count (disk s) o.result (after c)
     (subst (λ (x : Front). OpeningStores a.p a.offline.now (behind x) a.count (disk s) o.result (after c)) s.requires.f_value.0 o.ensures)
 
@@ -67,7 +67,7 @@ returns-then-o c =
     let u = c.cut in
     let if1 = c.if-o in
     let a = c.args in
-    copy_cut a.p a.offline.now (disk c.before.before.before.before.before.before.before.before.before.before.before.before.before.before.before.before.before.before.before.before.before.before.before.before) (memory c.before.before.before.before.before.before.before.before.before.before.before.before.before.before.before.before.before.before.before.before.before.before.before.before) a.address.0 a.stamp.0 a.block.now a.count c.requires.copy_ready c.«open».result (after c.before.before.before.before.before.before.before.before.before.before.before.before.before)
+    copy_cut a.p a.offline.now (disk c.before.before.before.before.before.before.before.before.before.before.before.before.before.before.before.before.before.before.before.before.before.before.before.before) (memory c.before.before.before.before.before.before.before.before.before.before.before.before.before.before.before.before.before.before.before.before.before.before.before.before) a.address.0 a.stamp.0 a.block.now a.count c.requires.copy_ready c.open-o.result (after c.before.before.before.before.before.before.before.before.before.before.before.before.before)
     (opened c.before.before.before.before.before.before.before.before.before.before.before.before.before) if1.true u.result u.new.addresses u.new.compact (ap (λ (x : Change). x.answer) u.ensures.value) u.ensures.addresses_after.0 u.ensures.addresses_after.1
 
 pub row_at-row-requires : goal.row_at-row-requires
@@ -79,7 +79,7 @@ send-w-requires c =
     let a = c.args in
     let r = c.requires.copy_ready in
     let row = c.row_at-row in
-    let q = sent_asks a.p a.offline.now (disk c.before.before.before.before.before.before.before.before.before.before.before.before.before.before.before.before.before.before.before) (memory c.before.before.before.before.before.before.before.before.before.before.before.before.before.before.before.before.before.before.before) a.address.0 a.stamp.0 a.block.now a.count r c.«open».result (after c.before.before.before.before.before.before.before.before)
+    let q = sent_asks a.p a.offline.now (disk c.before.before.before.before.before.before.before.before.before.before.before.before.before.before.before.before.before.before.before) (memory c.before.before.before.before.before.before.before.before.before.before.before.before.before.before.before.before.before.before.before) a.address.0 a.stamp.0 a.block.now a.count r c.open-o.result (after c.before.before.before.before.before.before.before.before)
     (opened c.before.before.before.before.before.before.before.before) a.f c.requires.f_value.0 a.a c.requires.f_value.1 row.result row.ensures in record { p_value = r.in_range_holds; slot_bound = (q.0, q.1, q.2, r.inflight_long, c.requires.f_value.3) }
 
 pub returns : goal.returns
@@ -88,6 +88,6 @@ returns c =
     let row = c.row_at-row in
     let if1 = c.if-o in
     let a = c.args in
-    sent_done a.p a.offline.now (disk c.before.before.before.before.before.before.before.before.before.before.before.before.before.before.before.before.before.before.before.before.before.before.before.before.before.before) (memory c.before.before.before.before.before.before.before.before.before.before.before.before.before.before.before.before.before.before.before.before.before.before.before.before.before.before) a.address.0 a.stamp.0 a.block.now a.count c.requires.copy_ready c.«open».result (after c.before.before.before.before.before.before.before.before.before.before.before.before.before.before.before)
+    sent_done a.p a.offline.now (disk c.before.before.before.before.before.before.before.before.before.before.before.before.before.before.before.before.before.before.before.before.before.before.before.before.before.before) (memory c.before.before.before.before.before.before.before.before.before.before.before.before.before.before.before.before.before.before.before.before.before.before.before.before.before.before) a.address.0 a.stamp.0 a.block.now a.count c.requires.copy_ready c.open-o.result (after c.before.before.before.before.before.before.before.before.before.before.before.before.before.before.before)
     (opened c.before.before.before.before.before.before.before.before.before.before.before.before.before.before.before) a.f c.requires.f_value.0 a.a c.requires.f_value.1 row.result row.ensures (sized c.before.before.before.before.before.before.before.before.before.before.before.before.before.before.before.before.before.before.before.before.before.before.before.before.before.before) if1.false _ q.new.inflight
-    (λ j. copied_as a.f a.a c.«open».result a.stamp.0 (q.ensures j)) (λ j. (q.ensures j).inflight)
+    (λ j. copied_as a.f a.a c.open-o.result a.stamp.0 (q.ensures j)) (λ j. (q.ensures j).inflight)

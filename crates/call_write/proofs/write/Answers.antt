@@ -94,8 +94,8 @@ returns-then-o c =
     c.front_of-f in
     let a = c.args in
     let none! : write_refusal a.p a.offline.now (disk c.before.before.before.before.before.before.before.before.before.before.before.before.before.before.before.before.before.before.before.before.before.before.before.before.before.before.before.before) (memory c.before.before.before.before.before.before.before.before.before.before.before.before.before.before.before.before.before.before.before.before.before.before.before.before.before.before.before.before) a.address.0 a.block.now ≡ none = sym (checked-is c.before.before.before.before.before.before.before.before.before.before.before.before.before.before.before.before.before) ∙ ap checked c.in_default.is in
-    let o = c.«open» in
-    let k' : Disk = mk_disk o.new.1.0 o.new.1.1.0 in
+    let o = c.open-o in
+    let k' : Disk = mk_disk o.new.image o.new.pointers in
     let h : OpeningStores a.p a.offline.now a.state a.count (disk c.before.before.before.before.before.before.before.before.before.before.before.before.before.before.before.before.before.before.before.before.before.before.before.before.before.before.before.before) o.result k' =
     opening_front a.p a.offline.now a.state a.count (disk c.before.before.before.before.before.before.before.before.before.before.before.before.before.before.before.before.before.before.before.before.before.before.before.before.before.before.before.before) o.result k'
     (subst (λ (x : Front). OpeningStores a.p a.offline.now (behind x) a.count (disk c.before.before.before.before.before.before.before.before.before.before.before.before.before.before.before.before.before.before.before.before.before.before.before.before.before.before.before.before) o.result k') front_of.ensures o.ensures) in
@@ -127,8 +127,8 @@ plan-requires c =
     let a = c.args in
     let none! : write_refusal a.p a.offline.now (disk c.before.before.before.before.before.before.before.before.before.before.before.before.before.before.before.before.before.before.before.before.before.before.before) (memory c.before.before.before.before.before.before.before.before.before.before.before.before.before.before.before.before.before.before.before.before.before.before.before) a.address.0 a.block.now ≡ none = sym (checked-is c.before.before.before.before.before.before.before.before.before.before.before.before) ∙ ap checked c.in_default.is in
     let r = write_ready a.p a.offline.now (disk c.before.before.before.before.before.before.before.before.before.before.before.before.before.before.before.before.before.before.before.before.before.before.before) (memory c.before.before.before.before.before.before.before.before.before.before.before.before.before.before.before.before.before.before.before.before.before.before.before) a.address.0 a.block.now none! in
-    let o = c.«open» in
-    let k' : Disk = mk_disk o.new.1.0 o.new.1.1.0 in
+    let o = c.open-o in
+    let k' : Disk = mk_disk o.new.image o.new.pointers in
     let h : OpeningStores a.p a.offline.now a.state a.count (disk c.before.before.before.before.before.before.before.before.before.before.before.before.before.before.before.before.before.before.before.before.before.before.before) o.result k' =
     opening_front a.p a.offline.now a.state a.count (disk c.before.before.before.before.before.before.before.before.before.before.before.before.before.before.before.before.before.before.before.before.before.before.before) o.result k'
     (subst (λ (x : Front). OpeningStores a.p a.offline.now (behind x) a.count (disk c.before.before.before.before.before.before.before.before.before.before.before.before.before.before.before.before.before.before.before.before.before.before.before) o.result k') f.ensures o.ensures) in record { p_value = r.ranged; slot_bound = plan_asks a.p a.offline.now (disk c.before.before.before.before.before.before.before.before.before.before.before.before.before.before.before.before.before.before.before.before.before.before.before) (memory c.before.before.before.before.before.before.before.before.before.before.before.before.before.before.before.before.before.before.before.before.before.before.before) a.address.0 a.block.now a.count c.requires.2 none! o.result k' h f.result f.ensures aim-of.result (aimed c.before.before.before.before.before.before.before.before.before.before.before.before.before)
@@ -144,8 +144,8 @@ returns c =
     c.front_of-f in
     let a = c.args in
     let none! : write_refusal a.p a.offline.now (disk c.before.before.before.before.before.before.before.before.before.before.before.before.before.before.before.before.before.before.before.before.before.before.before.before.before.before) (memory c.before.before.before.before.before.before.before.before.before.before.before.before.before.before.before.before.before.before.before.before.before.before.before.before.before.before) a.address.0 a.block.now ≡ none = sym (checked-is c.before.before.before.before.before.before.before.before.before.before.before.before.before.before.before) ∙ ap checked c.in_default.is in
-    let o = c.«open» in
-    let k' : Disk = mk_disk o.new.1.0 o.new.1.1.0 in
+    let o = c.open-o in
+    let k' : Disk = mk_disk o.new.image o.new.pointers in
     let h : OpeningStores a.p a.offline.now a.state a.count (disk c.before.before.before.before.before.before.before.before.before.before.before.before.before.before.before.before.before.before.before.before.before.before.before.before.before.before) o.result k' =
     opening_front a.p a.offline.now a.state a.count (disk c.before.before.before.before.before.before.before.before.before.before.before.before.before.before.before.before.before.before.before.before.before.before.before.before.before.before) o.result k'
     (subst (λ (x : Front). OpeningStores a.p a.offline.now (behind x) a.count (disk c.before.before.before.before.before.before.before.before.before.before.before.before.before.before.before.before.before.before.before.before.before.before.before.before.before.before) o.result k') f.ensures o.ensures) in
