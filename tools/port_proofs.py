@@ -468,11 +468,33 @@ def convert(fn, text):
     if chained:
         said.append("chained")
 
-    def expand(text_, env, goal_):
+    typed_ = {}
+
+    def short(m):
+        """a place by a name of the file's own"""
+        q = fn.place(m.group(1))
+        if q not in fn.oldplace:
+            return m.group(0)
+        typed_[fn.oldplace[q]] = fn.lts(q)
+        return fn.oldplace[q]
+
+    def expand(text_, env, goal_, clause_=None):
         """what stands at a place, said by the way to it"""
         for m in re.finditer(r"let (%s)(?: : [^=\n]*?)?\s*=\s*(%s)\s+\(?c\)?\s+in(?![\w'-])" % (ID, ID), text_):
             if m.group(2) in gives:
                 env[m.group(1)] = gives[m.group(2)]
+
+        lets_ = {}
+
+        def bound(way_, place_):
+            """a long way has a name"""
+            if clause_ is None or way_.count(".before") < 3:
+                return way_
+            n = "start" if place_ == "start" else "at_" + re.sub(r"^(after|then|else|in|at|joined)_", "", place_).rstrip("_0123456789")
+            while (n in over or re.search(r"(?<![\w'.-])%s(?![\w'-])" % re.escape(n), text_)) and n not in lets_ or lets_.get(n, way_) != way_:
+                n += "'"
+            lets_[n] = way_
+            return n
 
         def call(m):
             h, v = m.group(1), m.group(2) or m.group(3)
@@ -480,7 +502,7 @@ def convert(fn, text):
             if way is None:
                 said.append(f"no way from {env[v]} to {over[h]} for {h}")
                 return m.group(0)
-            return f"{h} {v}{'.before' if goal_ and v == 'c' and env[v] not in fn.plain else ''}{way}"
+            return f"{h} " + bound(f"{v}{'.before' if goal_ and v == 'c' and env[v] not in fn.plain else ''}{way}", over[h])
 
         if over:
             every = "|".join(map(re.escape, env))
@@ -489,7 +511,9 @@ def convert(fn, text):
         def field(m):
             v, f = m.group(1), m.group(2)
             way = fn.way(env[v], f)
-            return m.group(0) if way is None or (goal_ and v == "c") else f"{v}{way}.{f}"
+            if way is None or (goal_ and v == "c"):
+                return m.group(0)
+            return bound(f"{v}{way}", "start" if f in ("args", "requires", "ranges") else norm(f)) + "." + f
 
         text_ = re.sub(r"(?<![\w'.-])(%s)\.(%s)" % ("|".join(map(re.escape, env)), ID), field, text_)
 
@@ -499,6 +523,13 @@ def convert(fn, text):
 
         if gives:
             text_ = re.sub(r"(\((%s) [^()\s]+\))\.(%s)" % ("|".join(map(re.escape, gives)), ID), given, text_)
+        if lets_:
+            m = re.search(r"(?m)^%s(?: [^=\n:]*)? =[ \n]*" % re.escape(clause_), text_)
+            if m:
+                text_ = text_[: m.end()].rstrip() + "\n    " + "\n    ".join(f"let {n} = {w} in" for n, w in lets_.items()) + "\n    " + text_[m.end() :]
+            else:
+                for n, w in lets_.items():
+                    text_ = re.sub(r"(?<![\w'.-])%s(?![\w'-])" % re.escape(n), w, text_)
         return text_
 
     loops = {norm(l[0][0]): (l[0][1], l[1], ch) for l, ch in zip(fn.entry["loops"], fn.entry["changed"])}
@@ -522,7 +553,7 @@ def convert(fn, text):
                     way = fn.way(q_, m.group(1))
                     return m.group(0) if way is None else f"{g_}{way}.{m.group(1)}"
                 body = re.sub(r"(?<![\w'.-])%s\.(%s)" % (re.escape(g_), ID), memb, body)
-            body = re.sub(PL, lambda m: fn.lts(fn.place(m.group(1))) if fn.place(m.group(1)) in fn.oldplace else m.group(0), body)
+            body = re.sub(PL, short, body)
             ans.append(body)
             if "tie." in body:
                 said.append("module: tie.")
@@ -562,18 +593,19 @@ def convert(fn, text):
         body = fn.turn(text_d)
         fn.raw = False
         if chained and name in goal:
-            body = expand(body, {"c": fn.askedat[goal[name][1]]}, True)
+            body = expand(body, {"c": fn.askedat[goal[name][1]]}, True, name)
         if chained and name in over:
-            i = body.index("\n" + name + " ") if "\n" + name + " " in body else 0
-            par = re.search(r"\n%s (%s)" % (re.escape(name), ID), body)
+            at_ = re.search(r"\n%s(?! *:)[^:\n]*=" % re.escape(name), body)
+            i = at_.start() if at_ else 0
+            par = re.search(r"\n%s (%s)" % (re.escape(name), ID), body[i:])
             v = par.group(1) if par else "c"
             head_, tail_ = body[:i], body[i:]
             sv = re.search(r":\s*\((%s) : tie" % ID, head_)
             head_ = expand(head_, {sv.group(1): over[name]}, False) if sv else head_
-            tail_ = expand(tail_, {v: over[name]}, False)
+            tail_ = expand(tail_, {v: over[name]}, False, name)
             if name in gives:
                 tail_ = re.sub(r"=(\s*)%s\s*$" % re.escape(v), lambda m: f"={m.group(1)}{v}{fn.up(over[name], gives[name])}", tail_)
-            body = re.sub(PL, lambda m: fn.lts(fn.place(m.group(1))) if fn.place(m.group(1)) in fn.oldplace else m.group(0), head_ + tail_)
+            body = re.sub(PL, short, head_ + tail_)
             # the name binds a value: in an arrow a type of several words needs no brackets, under `:` neither
             ans.append(body)
             if "tie." in body:
@@ -653,6 +685,7 @@ def convert(fn, text):
         for h, place_ in over.items():
             a = re.sub(r"(?<![\w'.-])%s (?:\(c\)|c(?![\w'.-]))" % re.escape(h), f"{h} (goal.at.{m.group(1)} c).{place_}", a)
         ans[k] = a
+    ans = [f"abbrev {n} : Type 0\n{n} = {v}" for n, v in typed_.items()] + ans
     keep = [u for u in uses if ".Statement.{" not in u and ".Tie" not in u]
     base = f"Rattle.{fn.crate}.proofs.{fn.name}"
     out = {}

@@ -24,32 +24,55 @@ use Rattle.call_close.proofs.checks.Lts
 use Rattle.call_close.proofs.checks.Reads
 use Rattle.call_close.proofs.checks.Tie
 
-abbrev diskIn : Lts.Start Tie.the-claims Reads.Pre Reads.Post Tie.handed_clauses → Disk
+abbrev Start : Type 0
+Start = Lts.Start Tie.the-claims Reads.Pre Reads.Post Tie.handed_clauses
+
+abbrev Else2 : Type 0
+Else2 = Lts.Else2 Tie.the-claims Reads.Pre Reads.Post Tie.handed_clauses
+
+abbrev Else3 : Type 0
+Else3 = Lts.Else3 Tie.the-claims Reads.Pre Reads.Post Tie.handed_clauses
+
+abbrev Else4 : Type 0
+Else4 = Lts.Else4 Tie.the-claims Reads.Pre Reads.Post Tie.handed_clauses
+
+abbrev After-is_slot : Type 0
+After-is_slot = Lts.After-is_slot Tie.the-claims Reads.Pre Reads.Post Tie.handed_clauses
+
+abbrev Else5 : Type 0
+Else5 = Lts.Else5 Tie.the-claims Reads.Pre Reads.Post Tie.handed_clauses
+
+abbrev After-scarce : Type 0
+After-scarce = Lts.After-scarce Tie.the-claims Reads.Pre Reads.Post Tie.handed_clauses
+
+abbrev diskIn : Start → Disk
 diskIn s = mk_disk s.args.image.now s.args.pointers.now
 
-abbrev memoryIn : Lts.Start Tie.the-claims Reads.Pre Reads.Post Tie.handed_clauses → Memory
+abbrev memoryIn : Start → Memory
 memoryIn s = mk_memory (state_of s.args.bytes.now) s.args.addresses.now s.args.compact.now s.args.inflight.now
 
 -- the first refusal from the i-th check on
-abbrev from : Lts.Start Tie.the-claims Reads.Pre Reads.Post Tie.handed_clauses → ℕ → Opt Answer
+abbrev from : Start → ℕ → Opt Answer
 from s i = close_from s.args.p s.args.offline.now (diskIn s) (memoryIn s) i
 
 pub returns-then-not-in_range : goal.returns-then-not-in_range
 returns-then-not-in_range c =
-    close_range_fails c.args.p c.args.offline.now (diskIn c.before.before.before.before.before.before.before.before.before.before) (memoryIn c.before.before.before.before.before.before.before.before.before.before) (sym c.in_range.ensures ∙ not-true c.in_range.result c.if-not-in_range.true-raw)
+    let start = c.before.before.before.before.before.before.before.before.before.before in
+    close_range_fails c.args.p c.args.offline.now (diskIn start) (memoryIn start) (sym c.in_range.ensures ∙ not-true c.in_range.result c.if-not-in_range.true-raw)
 
 pub lent_ok-requires : goal.lent_ok-requires
 lent_ok-requires c = sym c.in_range.ensures ∙ not-false c.in_range.result c.if-not-in_range.false-raw
 
 pub returns-then-not-lent_ok : goal.returns-then-not-lent_ok
 returns-then-not-lent_ok c =
-    close_lengths_fail c.args.p c.args.offline.now (diskIn c.before.before.before.before.before.before.before.before.before.before.before.before) (memoryIn c.before.before.before.before.before.before.before.before.before.before.before.before)
-    (sym (c.lent_ok.ensures (memoryIn c.before.before.before.before.before.before.before.before.before.before.before.before).state) ∙ not-true c.lent_ok.result c.if-not-lent_ok.true-raw)
-    ∙ close_range_passes c.args.p c.args.offline.now (diskIn c.before.before.before.before.before.before.before.before.before.before.before.before) (memoryIn c.before.before.before.before.before.before.before.before.before.before.before.before)
+    let start = c.before.before.before.before.before.before.before.before.before.before.before.before in
+    close_lengths_fail c.args.p c.args.offline.now (diskIn start) (memoryIn start)
+    (sym (c.lent_ok.ensures (memoryIn start).state) ∙ not-true c.lent_ok.result c.if-not-lent_ok.true-raw)
+    ∙ close_range_passes c.args.p c.args.offline.now (diskIn start) (memoryIn start)
     (sym c.in_range.ensures ∙ not-false c.in_range.result c.if-not-in_range.false-raw)
 
-module _ (c : Lts.Else2 Tie.the-claims Reads.Pre Reads.Post Tie.handed_clauses) where
-  abbrev begun : Lts.Start Tie.the-claims Reads.Pre Reads.Post Tie.handed_clauses
+module _ (c : Else2) where
+  abbrev begun : Start
   begun = c.before.before.before.before.before.before.before.before.before.before.before
 
   ranged : in_range begun.args.p ≡ true
@@ -70,11 +93,12 @@ list_rule-rule-requires c =
 
 pub returns-then-rule-ne0 : goal.returns-then-rule-ne0
 returns-then-rule-ne0 c =
-    let s = begun c.before.before.before in
-    close_list_fails s.args.p s.args.offline.now (diskIn s) (memoryIn s) c.list_rule-rule.result c.list_rule-rule.ensures c.if-rule-ne0.true ∙ fitting c.before.before.before
+    let at_else = c.before.before.before in
+    let s = begun at_else in
+    close_list_fails s.args.p s.args.offline.now (diskIn s) (memoryIn s) c.list_rule-rule.result c.list_rule-rule.ensures c.if-rule-ne0.true ∙ fitting at_else
 
-module _ (c : Lts.Else3 Tie.the-claims Reads.Pre Reads.Post Tie.handed_clauses) where
-  abbrev listed : Lts.Start Tie.the-claims Reads.Pre Reads.Post Tie.handed_clauses
+module _ (c : Else3) where
+  abbrev listed : Start
   listed = begun c.before.before
 
   -- nor do 10 and the narrow 1
@@ -89,24 +113,26 @@ returns-then-missing-ne0 c =
     close_missing_fails s.args.p s.args.offline.now (diskIn s) (memoryIn s) (λ e. c.if-missing-ne0.true (s.requires.1 ∙ e)) ∙ enough c.before.before
 
 -- nor does 3
-healthy : (c : Lts.Else4 Tie.the-claims Reads.Pre Reads.Post Tie.handed_clauses) → from (listed c.before) 5 ≡ from (listed c.before) 0
+healthy : (c : Else4) → from (listed c.before) 5 ≡ from (listed c.before) 0
 healthy c =
     let s = listed c.before in
     close_missing_passes s.args.p s.args.offline.now (diskIn s) (memoryIn s) (sym s.requires.1 ∙ c.if-missing-ne0.false) ∙ enough c.before
 
 -- whether a stripe is filling
-filling_is : (c : Lts.After-is_slot Tie.the-claims Reads.Pre Reads.Post Tie.handed_clauses) → has_filling (listed c.before.before).args.p (memoryIn (listed c.before.before)).state ≡ c.is_slot.result
+filling_is : (c : After-is_slot) → has_filling (listed c.before.before).args.p (memoryIn (listed c.before.before)).state ≡ c.is_slot.result
 filling_is c =
     let s = listed c.before.before in
     sym (slot_is s.args.p (memoryIn s).state s.args.slot s.requires.0) ∙ sym c.is_slot.ensures
 
 pub returns-then-not-is_slot : goal.returns-then-not-is_slot
 returns-then-not-is_slot c =
-    let s = listed c.before.before.before.before in
-    filling_fails s.args.p s.args.offline.now (diskIn s) (memoryIn s) (filling_is c.before.before ∙ not-true c.is_slot.result c.if-not-is_slot.true-raw) ∙ healthy c.before.before.before
+    let at_else = c.before.before.before.before in
+    let at_else' = c.before.before.before in
+    let s = listed at_else in
+    filling_fails s.args.p s.args.offline.now (diskIn s) (memoryIn s) (filling_is c.before.before ∙ not-true c.is_slot.result c.if-not-is_slot.true-raw) ∙ healthy at_else'
 
-module _ (c : Lts.Else5 Tie.the-claims Reads.Pre Reads.Post Tie.handed_clauses) where
-  abbrev two : Lts.Else2 Tie.the-claims Reads.Pre Reads.Post Tie.handed_clauses
+module _ (c : Else5) where
+  abbrev two : Else2
   two = c.before.before.before.before.before
 
   filling : has_filling (begun two).args.p (memoryIn (begun two)).state ≡ true
@@ -117,7 +143,7 @@ scarce-requires c =
     let s = begun (two c.before) in
     let l = lent_long_lem s.args.p s.args.offline.now (diskIn s) (memoryIn s) (lent (two c.before)) in record { p_value = ranged (two c.before); pointers_len = (l.1, l.5, omega arith) }
 
-scarce-is : (c : Lts.After-scarce Tie.the-claims Reads.Pre Reads.Post Tie.handed_clauses)
+scarce-is : (c : After-scarce)
     → scarce (begun (two c.before)).args.p (seen (begun (two c.before)).args.p (begun (two c.before)).args.offline.now (diskIn (begun (two c.before)))) 1
     ≡ c.scarce.result
 scarce-is c =
@@ -126,28 +152,39 @@ scarce-is c =
 
 pub scarce_checks-requires : goal.scarce_checks-requires
 scarce_checks-requires c =
-    let w = two c.before.before.before in
+    let at_else = c.before.before.before in
+    let w = two at_else in
     let s = begun w in
     let l = lent_long_lem s.args.p s.args.offline.now (diskIn s) (memoryIn s) (lent w) in record { p_value = ranged w; whole = (record { image_long = l.0; pointers_long = l.1 }, l.5); addresses_len = (l.2, s.requires.2) }
 
 pub returns-then-scarce : goal.returns-then-scarce
 returns-then-scarce c =
-    let s = begun (two c.before.before.before.before) in
-    c.scarce_checks.ensures ∙ scarce_last s.args.p s.args.offline.now (diskIn s) (memoryIn s) (filling c.before.before.before.before) (scarce-is c.before.before.before ∙ c.if-scarce.true)
-    ∙ healthy c.before.before.before.before.before.before
+    let at_else = c.before.before.before.before in
+    let at_scarce = c.before.before.before in
+    let at_else' = c.before.before.before.before.before.before in
+    let s = begun (two at_else) in
+    c.scarce_checks.ensures ∙ scarce_last s.args.p s.args.offline.now (diskIn s) (memoryIn s) (filling at_else) (scarce-is at_scarce ∙ c.if-scarce.true)
+    ∙ healthy at_else'
 
 pub state_ok-requires : goal.state_ok-requires
 state_ok-requires c =
-    let w = two c.before.before.before in record { p_value = ranged w; bytes_len = (begun w).pre.2 }
+    let at_else = c.before.before.before in
+    let w = two at_else in record { p_value = ranged w; bytes_len = (begun w).pre.2 }
 
 pub returns-then-not-state_ok : goal.returns-then-not-state_ok
 returns-then-not-state_ok c =
-    let s = begun (two c.before.before.before.before.before) in
-    close_state_fails s.args.p s.args.offline.now (diskIn s) (memoryIn s) (filling c.before.before.before.before.before) (scarce-is c.before.before.before.before ∙ c.if-scarce.false)
-    (sym c.state_ok.ensures ∙ not-true c.state_ok.result c.if-not-state_ok.true-raw) ∙ healthy c.before.before.before.before.before.before.before
+    let at_else = c.before.before.before.before.before in
+    let at_scarce = c.before.before.before.before in
+    let at_else' = c.before.before.before.before.before.before.before in
+    let s = begun (two at_else) in
+    close_state_fails s.args.p s.args.offline.now (diskIn s) (memoryIn s) (filling at_else) (scarce-is at_scarce ∙ c.if-scarce.false)
+    (sym c.state_ok.ensures ∙ not-true c.state_ok.result c.if-not-state_ok.true-raw) ∙ healthy at_else'
 
 pub returns : goal.returns
 returns c =
-    let s = begun (two c.before.before.before.before.before) in
-    close_state_passes s.args.p s.args.offline.now (diskIn s) (memoryIn s) (filling c.before.before.before.before.before) (scarce-is c.before.before.before.before ∙ c.if-scarce.false)
-    (sym c.state_ok.ensures ∙ not-false c.state_ok.result c.if-not-state_ok.false-raw) ∙ healthy c.before.before.before.before.before.before.before
+    let at_else = c.before.before.before.before.before in
+    let at_scarce = c.before.before.before.before in
+    let at_else' = c.before.before.before.before.before.before.before in
+    let s = begun (two at_else) in
+    close_state_passes s.args.p s.args.offline.now (diskIn s) (memoryIn s) (filling at_else) (scarce-is at_scarce ∙ c.if-scarce.false)
+    (sym c.state_ok.ensures ∙ not-false c.state_ok.result c.if-not-state_ok.false-raw) ∙ healthy at_else'

@@ -25,22 +25,38 @@ use Rattle.call_close.proofs.close.Lts
 use Rattle.call_close.proofs.close.Reads
 use Rattle.call_close.proofs.close.Tie
 
-sized : (c : Lts.Start Tie.the-claims Reads.Pre Reads.Post Tie.handed_clauses) → RowsSized c.args.state
+abbrev Start : Type 0
+Start = Lts.Start Tie.the-claims Reads.Pre Reads.Post Tie.handed_clauses
+
+abbrev After-filling_slot : Type 0
+After-filling_slot = Lts.After-filling_slot Tie.the-claims Reads.Pre Reads.Post Tie.handed_clauses
+
+abbrev After-checks : Type 0
+After-checks = Lts.After-checks Tie.the-claims Reads.Pre Reads.Post Tie.handed_clauses
+
+abbrev After-enum_told : Type 0
+After-enum_told = Lts.After-enum_told Tie.the-claims Reads.Pre Reads.Post Tie.handed_clauses
+
+abbrev After-row_at : Type 0
+After-row_at = Lts.After-row_at Tie.the-claims Reads.Pre Reads.Post Tie.handed_clauses
+
+sized : (c : Start) → RowsSized c.args.state
 sized c = subst RowsSized (sym c.requires.0) (read_sized c.args.bytes.now)
 
-abbrev disk : (c : Lts.Start Tie.the-claims Reads.Pre Reads.Post Tie.handed_clauses) → Disk
+abbrev disk : (c : Start) → Disk
 disk c = mk_disk c.args.image.now c.args.pointers.now
 
-abbrev memory : (c : Lts.Start Tie.the-claims Reads.Pre Reads.Post Tie.handed_clauses) → Memory
+abbrev memory : (c : Start) → Memory
 memory c = mk_memory c.args.state c.args.addresses.now c.args.compact.now c.args.inflight.now
 
 -- the eighth is the state's
 slot_of_lem :
-    (c : Lts.After-filling_slot Tie.the-claims Reads.Pre Reads.Post Tie.handed_clauses)
+    (c : After-filling_slot)
     → c.filling_slot-i.result ≡ filling_slot c.before.before.before.before.before.before.before.before.before.args.p
     c.before.before.before.before.before.before.before.before.before.args.state
 slot_of_lem c =
-    let args = c.before.before.before.before.before.before.before.before.before.args in
+    let start' = c.before.before.before.before.before.before.before.before.before in
+    let args = start'.args in
     c.filling_slot-i.ensures ∙ front_filling args.p args.state c.before.front_of-f.result c.before.front_of-f.ensures
 
 pub checks-c-requires : goal.checks-c-requires
@@ -49,11 +65,11 @@ checks-c-requires c =
     (slot_of_lem c.before ∙ ap (filling_slot c.args.p) e, ap (λ (x : State). x.missing) e, c.requires.1)
 
 -- the refusal is that of the state
-abbrev start : Lts.After-checks Tie.the-claims Reads.Pre Reads.Post Tie.handed_clauses → Lts.Start Tie.the-claims Reads.Pre Reads.Post Tie.handed_clauses
+abbrev start : After-checks → Start
 start c =
     c.before.before.before.before.before.before.before.before.before.before
 
-checked-is : (c : Lts.After-checks Tie.the-claims Reads.Pre Reads.Post Tie.handed_clauses) → checked c.checks-c.result ≡ close_refusal (start c).args.p (start c).args.offline.now (disk (start c)) (memory (start c))
+checked-is : (c : After-checks) → checked c.checks-c.result ≡ close_refusal (start c).args.p (start c).args.offline.now (disk (start c)) (memory (start c))
 checked-is c =
     let s = start c in
     let a = s.args in
@@ -62,40 +78,53 @@ checked-is c =
 
 pub returns-in-Fail : goal.returns-in-Fail
 returns-in-Fail c =
-    λ n. close_refused c.args.p c.args.offline.now (disk c.before.before.before.before.before.before.before.before.before.before.before.before.before) (memory c.before.before.before.before.before.before.before.before.before.before.before.before.before) c.kept.result
-    (sym (checked-is c.before.before.before) ∙ ap checked c.in-Fail.is ∙ ap (λ (x : Change). some x.answer) (sym c.kept.ensures)) n
+    let start' = c.before.before.before.before.before.before.before.before.before.before.before.before.before in
+    let at_checks = c.before.before.before in
+    λ n. close_refused c.args.p c.args.offline.now (disk start') (memory start') c.kept.result
+    (sym (checked-is at_checks) ∙ ap checked c.in-Fail.is ∙ ap (λ (x : Change). some x.answer) (sym c.kept.ensures)) n
 
 -- no check holds
-passed : (c : Lts.After-enum_told Tie.the-claims Reads.Pre Reads.Post Tie.handed_clauses)
+passed : (c : After-enum_told)
     → close_refusal (start c.before).args.p (start c.before).args.offline.now (disk (start c.before)) (memory (start c.before)) ≡ none
 passed c =
     sym (checked-is c.before) ∙ ap checked c.in_default.is
 
 pub row_at-row-requires : goal.row_at-row-requires
 row_at-row-requires c =
-    (c.requires.1, slot_low c.args.p c.args.state c.filling_slot-i.result (slot_of_lem c.before.before.before) (close_ready c.args.p c.args.offline.now (disk c.before.before.before.before.before.before.before.before.before.before.before.before) (memory c.before.before.before.before.before.before.before.before.before.before.before.before) (passed c.before)).filling)
+    let at_filling_slot = c.before.before.before in
+    let start' = c.before.before.before.before.before.before.before.before.before.before.before.before in
+    (c.requires.1, slot_low c.args.p c.args.state c.filling_slot-i.result (slot_of_lem at_filling_slot) (close_ready c.args.p c.args.offline.now (disk start') (memory start') (passed c.before)).filling)
 
 -- the row is the state's
-row_is : (c : Lts.After-row_at Tie.the-claims Reads.Pre Reads.Post Tie.handed_clauses) → c.row_at-row.result ≡ slot_row (start c.before.before).args.state c.before.before.before.filling_slot-i.result
+row_is : (c : After-row_at) → c.row_at-row.result ≡ slot_row (start c.before.before).args.state c.before.before.before.filling_slot-i.result
 row_is c =
-    let i = c.before.before.before.filling_slot-i.result in
-    c.row_at-row.ensures ∙ ap (λ (x : State). slot_row x i) (sym c.before.before.before.before.before.before.before.before.before.before.before.before.requires.0)
+    let at_filling_slot_i = c.before.before.before in
+    let start' = c.before.before.before.before.before.before.before.before.before.before.before.before in
+    let i = at_filling_slot_i.filling_slot-i.result in
+    c.row_at-row.ensures ∙ ap (λ (x : State). slot_row x i) (sym start'.requires.0)
 
 pub pad_all-next-requires : goal.pad_all-next-requires
 pad_all-next-requires c =
-    let r = close_ready c.args.p c.args.offline.now (disk c.before.before.before.before.before.before.before.before.before.before.before.before.before.before) (memory c.before.before.before.before.before.before.before.before.before.before.before.before.before.before) (passed c.before.before.before) in
+    let start' = c.before.before.before.before.before.before.before.before.before.before.before.before.before.before in
+    let at_enum_told = c.before.before.before in
+    let at_filling_slot = c.before.before.before.before.before in
+    let r = close_ready c.args.p c.args.offline.now (disk start') (memory start') (passed at_enum_told) in
     let i = c.filling_slot-i.result in
-    let e : c.row_at-row.result.filled ≡ filled_in_of c.args.state i = ap (λ (x : Row). x.filled) (row_is c.before.before) ∙ row_filled c.args.state i in record { p_value = r.ranged; i_bound = (slot_low c.args.p c.args.state i (slot_of_lem c.before.before.before.before.before) r.filling, omega (arith, e, slot_open c.args.p c.args.state i (slot_of_lem c.before.before.before.before.before) r.filling), r.inflight_long) }
+    let e : c.row_at-row.result.filled ≡ filled_in_of c.args.state i = ap (λ (x : Row). x.filled) (row_is c.before.before) ∙ row_filled c.args.state i in record { p_value = r.ranged; i_bound = (slot_low c.args.p c.args.state i (slot_of_lem at_filling_slot) r.filling, omega (arith, e, slot_open c.args.p c.args.state i (slot_of_lem at_filling_slot) r.filling), r.inflight_long) }
 
 pub returns : goal.returns
 returns c =
+    let at_enum_told = c.before.before.before.before.before.before.before.before.before in
+    let start' = c.before.before.before.before.before.before.before.before.before.before.before.before.before.before.before.before.before.before.before.before in
+    let at_filling_slot = c.before.before.before.before.before.before.before.before.before.before.before in
+    let at_row_at = c.before.before.before.before.before.before.before.before in
     let q = c.pad_all-next in
     let f = c.front_of-f in
     let a = c.args in
-    let none! = passed c.before.before.before.before.before.before.before.before.before in
-    let r = close_ready a.p a.offline.now (disk c.before.before.before.before.before.before.before.before.before.before.before.before.before.before.before.before.before.before.before.before) (memory c.before.before.before.before.before.before.before.before.before.before.before.before.before.before.before.before.before.before.before.before) none! in
+    let none! = passed at_enum_told in
+    let r = close_ready a.p a.offline.now (disk start') (memory start') none! in
     let at = filling_slot a.p a.state in
     let few : data_count a.p ≤ 8 = omega (arith, data_count_high a.p (ranged a.p r.ranged)) in
-    λ n. close_done a.p a.offline.now (disk c.before.before.before.before.before.before.before.before.before.before.before.before.before.before.before.before.before.before.before.before) (memory c.before.before.before.before.before.before.before.before.before.before.before.before.before.before.before.before.before.before.before.before) none! (sized c.before.before.before.before.before.before.before.before.before.before.before.before.before.before.before.before.before.before.before.before) (slot_low a.p a.state at refl r.filling) few (slot_open a.p a.state at refl r.filling)
+    λ n. close_done a.p a.offline.now (disk start') (memory start') none! (sized start') (slot_low a.p a.state at refl r.filling) few (slot_open a.p a.state at refl r.filling)
     f.result f.ensures
-    c.filling_slot-i.result (slot_of_lem c.before.before.before.before.before.before.before.before.before.before.before) c.row_at-row.result (row_is c.before.before.before.before.before.before.before.before) q.result q.new.inflight q.ensures.value q.ensures.inflight_after n
+    c.filling_slot-i.result (slot_of_lem at_filling_slot) c.row_at-row.result (row_is at_row_at) q.result q.new.inflight q.ensures.value q.ensures.inflight_after n

@@ -23,38 +23,45 @@ use Rattle.call_copy.proofs.send_copy.Lts
 use Rattle.call_copy.proofs.send_copy.Reads
 use Rattle.call_copy.proofs.send_copy.Tie
 
-serial_fits : (c : Lts.Start Tie.the-claims Reads.Pre Reads.Post Tie.handed_clauses) → c.args.f.serial.0 ≤ last_count
+abbrev Start : Type 0
+Start = Lts.Start Tie.the-claims Reads.Pre Reads.Post Tie.handed_clauses
+
+abbrev After-open : Type 0
+After-open = Lts.After-open Tie.the-claims Reads.Pre Reads.Post Tie.handed_clauses
+
+serial_fits : (c : Start) → c.args.f.serial.0 ≤ last_count
 serial_fits c = omega arith
 
-abbrev state : (c : Lts.Start Tie.the-claims Reads.Pre Reads.Post Tie.handed_clauses) → State
+abbrev state : (c : Start) → State
 state c = state_of c.args.bytes.now
 
-sized : (c : Lts.Start Tie.the-claims Reads.Pre Reads.Post Tie.handed_clauses) → RowsSized (state c)
+sized : (c : Start) → RowsSized (state c)
 sized c = read_sized c.args.bytes.now
 
-abbrev disk : (c : Lts.Start Tie.the-claims Reads.Pre Reads.Post Tie.handed_clauses) → Disk
+abbrev disk : (c : Start) → Disk
 disk c = mk_disk c.args.image.now c.args.pointers.now
 
-abbrev memory : (c : Lts.Start Tie.the-claims Reads.Pre Reads.Post Tie.handed_clauses) → Memory
+abbrev memory : (c : Start) → Memory
 memory c = mk_memory (state c) c.args.addresses.now c.args.compact.now c.args.inflight.now
 
 pub open-o-requires : goal.open-o-requires
 open-o-requires c =
+    let start' = c.before.before.before.before.before.before.before.before.before.before.before in
     let a = c.args in
     let r = c.requires.copy_ready in
-    let aimed = c.requires.f_value.1 in record { p_value = r.in_range_holds; whole = (r.whole, r.offline_long); opens_value = ap (λ (x : Aim). x.opens) (aimed ∙ sym (front_aim a.p (state c.before.before.before.before.before.before.before.before.before.before.before) a.f c.requires.f_value.0)); serial_lt_last_count = λ e.
-                lt_of_le-ne (serial_fits c.before.before.before.before.before.before.before.before.before.before.before) (λ q. r.serial_left (ap (λ (x : Aim). x.opens) (sym aimed) ∙ e) (ap (λ (x : Front). x.serial.0) (sym c.requires.f_value.0) ∙ q)); nonzero = λ e. r.empties (ap (λ (x : Aim). x.opens) (sym aimed) ∙ e) }
+    let aimed = c.requires.f_value.1 in record { p_value = r.in_range_holds; whole = (r.whole, r.offline_long); opens_value = ap (λ (x : Aim). x.opens) (aimed ∙ sym (front_aim a.p (state start') a.f c.requires.f_value.0)); serial_lt_last_count = λ e.
+                lt_of_le-ne (serial_fits start') (λ q. r.serial_left (ap (λ (x : Aim). x.opens) (sym aimed) ∙ e) (ap (λ (x : Front). x.serial.0) (sym c.requires.f_value.0) ∙ q)); nonzero = λ e. r.empties (ap (λ (x : Aim). x.opens) (sym aimed) ∙ e) }
 
 -- the drives with the segment open
-abbrev after : (c : Lts.After-open Tie.the-claims Reads.Pre Reads.Post Tie.handed_clauses) → Disk
+abbrev after : (c : After-open) → Disk
 after c = mk_disk c.open-o.new.image c.open-o.new.pointers
 
-abbrev start : (c : Lts.After-open Tie.the-claims Reads.Pre Reads.Post Tie.handed_clauses) → Lts.Start Tie.the-claims Reads.Pre Reads.Post Tie.handed_clauses
+abbrev start : (c : After-open) → Start
 start c =
     c.before.before.before.before.before.before.before.before.before.before.before
 
 -- and the opening is one of the state
-opened : (c : Lts.After-open Tie.the-claims Reads.Pre Reads.Post Tie.handed_clauses) → OpeningStores (start c).args.p (start c).args.offline.now (state (start c)) (start c).args.count (disk (start c)) c.open-o.result (after c)
+opened : (c : After-open) → OpeningStores (start c).args.p (start c).args.offline.now (state (start c)) (start c).args.count (disk (start c)) c.open-o.result (after c)
 opened c =
     let s = start c in
     let a = s.args in
@@ -64,30 +71,37 @@ opened c =
 
 pub returns-then-o : goal.returns-then-o
 returns-then-o c =
+    let start' = c.before.before.before.before.before.before.before.before.before.before.before.before.before.before.before.before.before.before.before.before.before.before.before.before in
+    let at_open = c.before.before.before.before.before.before.before.before.before.before.before.before.before in
     let u = c.cut in
     let if1 = c.if-o in
     let a = c.args in
-    copy_cut a.p a.offline.now (disk c.before.before.before.before.before.before.before.before.before.before.before.before.before.before.before.before.before.before.before.before.before.before.before.before) (memory c.before.before.before.before.before.before.before.before.before.before.before.before.before.before.before.before.before.before.before.before.before.before.before.before) a.address.0 a.stamp.0 a.block.now a.count c.requires.copy_ready c.open-o.result (after c.before.before.before.before.before.before.before.before.before.before.before.before.before)
-    (opened c.before.before.before.before.before.before.before.before.before.before.before.before.before) if1.true u.result u.new.addresses u.new.compact (ap (λ (x : Change). x.answer) u.ensures.value) u.ensures.addresses_after.0 u.ensures.addresses_after.1
+    copy_cut a.p a.offline.now (disk start') (memory start') a.address.0 a.stamp.0 a.block.now a.count c.requires.copy_ready c.open-o.result (after at_open)
+    (opened at_open) if1.true u.result u.new.addresses u.new.compact (ap (λ (x : Change). x.answer) u.ensures.value) u.ensures.addresses_after.0 u.ensures.addresses_after.1
 
 pub row_at-row-requires : goal.row_at-row-requires
 row_at-row-requires c =
-    (c.requires.f_value.2, subst (λ (x : Aim). x.slot < 8) (sym c.requires.f_value.1) (slot_lt c.args.p (state c.before.before.before.before.before.before.before.before.before.before.before.before.before.before.before.before.before) c.requires.copy_ready.waits))
+    let start' = c.before.before.before.before.before.before.before.before.before.before.before.before.before.before.before.before.before in
+    (c.requires.f_value.2, subst (λ (x : Aim). x.slot < 8) (sym c.requires.f_value.1) (slot_lt c.args.p (state start') c.requires.copy_ready.waits))
 
 pub send-w-requires : goal.send-w-requires
 send-w-requires c =
+    let start' = c.before.before.before.before.before.before.before.before.before.before.before.before.before.before.before.before.before.before.before in
+    let at_open = c.before.before.before.before.before.before.before.before in
     let a = c.args in
     let r = c.requires.copy_ready in
     let row = c.row_at-row in
-    let q = sent_asks a.p a.offline.now (disk c.before.before.before.before.before.before.before.before.before.before.before.before.before.before.before.before.before.before.before) (memory c.before.before.before.before.before.before.before.before.before.before.before.before.before.before.before.before.before.before.before) a.address.0 a.stamp.0 a.block.now a.count r c.open-o.result (after c.before.before.before.before.before.before.before.before)
-    (opened c.before.before.before.before.before.before.before.before) a.f c.requires.f_value.0 a.a c.requires.f_value.1 row.result row.ensures in record { p_value = r.in_range_holds; slot_bound = (q.0, q.1, q.2, r.inflight_long, c.requires.f_value.3) }
+    let q = sent_asks a.p a.offline.now (disk start') (memory start') a.address.0 a.stamp.0 a.block.now a.count r c.open-o.result (after at_open)
+    (opened at_open) a.f c.requires.f_value.0 a.a c.requires.f_value.1 row.result row.ensures in record { p_value = r.in_range_holds; slot_bound = (q.0, q.1, q.2, r.inflight_long, c.requires.f_value.3) }
 
 pub returns : goal.returns
 returns c =
+    let start' = c.before.before.before.before.before.before.before.before.before.before.before.before.before.before.before.before.before.before.before.before.before.before.before.before.before.before in
+    let at_open = c.before.before.before.before.before.before.before.before.before.before.before.before.before.before.before in
     let q = c.send-w in
     let row = c.row_at-row in
     let if1 = c.if-o in
     let a = c.args in
-    sent_done a.p a.offline.now (disk c.before.before.before.before.before.before.before.before.before.before.before.before.before.before.before.before.before.before.before.before.before.before.before.before.before.before) (memory c.before.before.before.before.before.before.before.before.before.before.before.before.before.before.before.before.before.before.before.before.before.before.before.before.before.before) a.address.0 a.stamp.0 a.block.now a.count c.requires.copy_ready c.open-o.result (after c.before.before.before.before.before.before.before.before.before.before.before.before.before.before.before)
-    (opened c.before.before.before.before.before.before.before.before.before.before.before.before.before.before.before) a.f c.requires.f_value.0 a.a c.requires.f_value.1 row.result row.ensures (sized c.before.before.before.before.before.before.before.before.before.before.before.before.before.before.before.before.before.before.before.before.before.before.before.before.before.before) if1.false _ q.new.inflight
+    sent_done a.p a.offline.now (disk start') (memory start') a.address.0 a.stamp.0 a.block.now a.count c.requires.copy_ready c.open-o.result (after at_open)
+    (opened at_open) a.f c.requires.f_value.0 a.a c.requires.f_value.1 row.result row.ensures (sized start') if1.false _ q.new.inflight
     (λ j. copied_as a.f a.a c.open-o.result a.stamp.0 (q.ensures j)) (λ j. (q.ensures j).inflight)

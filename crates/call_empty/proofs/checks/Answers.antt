@@ -15,26 +15,39 @@ use Rattle.call_empty.proofs.checks.Lts
 use Rattle.call_empty.proofs.checks.Reads
 use Rattle.call_empty.proofs.checks.Tie
 
-abbrev disk : (c : Lts.Start Tie.the-claims Reads.Pre Reads.Post Tie.handed_clauses) → Disk
+abbrev Start : Type 0
+Start = Lts.Start Tie.the-claims Reads.Pre Reads.Post Tie.handed_clauses
+
+abbrev Else1 : Type 0
+Else1 = Lts.Else1 Tie.the-claims Reads.Pre Reads.Post Tie.handed_clauses
+
+abbrev Else2 : Type 0
+Else2 = Lts.Else2 Tie.the-claims Reads.Pre Reads.Post Tie.handed_clauses
+
+abbrev Else3 : Type 0
+Else3 = Lts.Else3 Tie.the-claims Reads.Pre Reads.Post Tie.handed_clauses
+
+abbrev disk : (c : Start) → Disk
 disk c = mk_disk c.args.image.now c.args.pointers.now
 
-abbrev memory : (c : Lts.Start Tie.the-claims Reads.Pre Reads.Post Tie.handed_clauses) → State → Memory
+abbrev memory : (c : Start) → State → Memory
 memory c st = mk_memory st c.args.addresses.now c.args.compact.now c.args.inflight.now
 
 -- the first refusal from the i-th check on
-abbrev from : (c : Lts.Start Tie.the-claims Reads.Pre Reads.Post Tie.handed_clauses) → State → ℕ → Opt Answer
+abbrev from : (c : Start) → State → ℕ → Opt Answer
 from c st i = empty_first c.args.p c.args.offline.now (disk c) (memory c st) c.args.address.0 i
 
 pub returns-then-not-in_range : goal.returns-then-not-in_range
 returns-then-not-in_range c =
+    let start = c.before.before.before.before.before.before.before.before.before in
     let in_range_holds = c.in_range in
-    λ st e. empty_range_fails c.args.p c.args.offline.now (disk c.before.before.before.before.before.before.before.before.before) (memory c.before.before.before.before.before.before.before.before.before st) c.args.address.0 (sym in_range_holds.ensures ∙ not-true in_range_holds.result c.if-not-in_range.true-raw)
+    λ st e. empty_range_fails c.args.p c.args.offline.now (disk start) (memory start st) c.args.address.0 (sym in_range_holds.ensures ∙ not-true in_range_holds.result c.if-not-in_range.true-raw)
 
 -- 1 passed
-abbrev start-1 : Lts.Else1 Tie.the-claims Reads.Pre Reads.Post Tie.handed_clauses → Lts.Start Tie.the-claims Reads.Pre Reads.Post Tie.handed_clauses
+abbrev start-1 : Else1 → Start
 start-1 c = c.before.before.before.before.before.before.before.before
 
-ranged : (c : Lts.Else1 Tie.the-claims Reads.Pre Reads.Post Tie.handed_clauses) (st : State) → from (start-1 c) st 1 ≡ from (start-1 c) st 0
+ranged : (c : Else1) (st : State) → from (start-1 c) st 1 ≡ from (start-1 c) st 0
 ranged c st =
     let s = start-1 c in
     let in_range_holds = c.before.in_range in
@@ -45,15 +58,17 @@ lent_ok-requires c = sym c.in_range.ensures ∙ not-false c.in_range.result c.if
 
 pub returns-then-not-lent_ok : goal.returns-then-not-lent_ok
 returns-then-not-lent_ok c =
+    let start = c.before.before.before.before.before.before.before.before.before.before.before in
+    let at_else = c.before.before.before in
     let lent_ok = c.lent_ok in
-    λ st e. empty_lengths_fail c.args.p c.args.offline.now (disk c.before.before.before.before.before.before.before.before.before.before.before) (memory c.before.before.before.before.before.before.before.before.before.before.before st) c.args.address.0 (sym (lent_ok.ensures st) ∙ not-true lent_ok.result c.if-not-lent_ok.true-raw)
-    ∙ ranged c.before.before.before st
+    λ st e. empty_lengths_fail c.args.p c.args.offline.now (disk start) (memory start st) c.args.address.0 (sym (lent_ok.ensures st) ∙ not-true lent_ok.result c.if-not-lent_ok.true-raw)
+    ∙ ranged at_else st
 
 -- 1 and 2 passed
-abbrev start-2 : Lts.Else2 Tie.the-claims Reads.Pre Reads.Post Tie.handed_clauses → Lts.Start Tie.the-claims Reads.Pre Reads.Post Tie.handed_clauses
+abbrev start-2 : Else2 → Start
 start-2 c = start-1 c.before.before
 
-lent : (c : Lts.Else2 Tie.the-claims Reads.Pre Reads.Post Tie.handed_clauses) (st : State) → from (start-2 c) st 2 ≡ from (start-2 c) st 0
+lent : (c : Else2) (st : State) → from (start-2 c) st 2 ≡ from (start-2 c) st 0
 lent c st =
     let s = start-2 c in
     let lent_ok = c.before.lent_ok in
@@ -68,12 +83,13 @@ list_rule-rule-requires c =
 
 pub returns-then-rule-ne0 : goal.returns-then-rule-ne0
 returns-then-rule-ne0 c =
-    let s = start-2 c.before.before.before in
+    let at_else = c.before.before.before in
+    let s = start-2 at_else in
     let rule = c.list_rule-rule in
-    λ st e. empty_list_fails s.args.p s.args.offline.now (disk s) (memory s st) s.args.address.0 rule.result rule.ensures c.if-rule-ne0.true ∙ lent c.before.before.before st
+    λ st e. empty_list_fails s.args.p s.args.offline.now (disk s) (memory s st) s.args.address.0 rule.result rule.ensures c.if-rule-ne0.true ∙ lent at_else st
 
 -- so are 10 and the narrow 1
-listed : (c : Lts.Else3 Tie.the-claims Reads.Pre Reads.Post Tie.handed_clauses) (st : State) → from (start-2 c.before.before) st 4 ≡ from (start-2 c.before.before) st 0
+listed : (c : Else3) (st : State) → from (start-2 c.before.before) st 4 ≡ from (start-2 c.before.before) st 0
 listed c st =
     let s = start-2 c.before.before in
     let rule = c.before.list_rule-rule in
@@ -81,7 +97,8 @@ listed c st =
 
 pub returns : goal.returns
 returns c =
-    let s = start-2 c.before.before.before.before in
+    let at_else = c.before.before.before.before in
+    let s = start-2 at_else in
     let a = s.args in
     λ st e. c.later_checks.ensures ∙ ap (λ (x : ℕ). empty_third_holds x a.p.L a.address.0) (sym e)
     ∙ empty_third a.p a.offline.now (disk s) (memory s st) a.address.0 ∙ listed c.before.before st

@@ -23,20 +23,42 @@ use Rattle.call_land.proofs.checks.Lts
 use Rattle.call_land.proofs.checks.Reads
 use Rattle.call_land.proofs.checks.Tie
 
-abbrev diskIn : Lts.Start Tie.the-claims Reads.Pre Reads.Post Tie.handed_clauses → Disk
+abbrev Start : Type 0
+Start = Lts.Start Tie.the-claims Reads.Pre Reads.Post Tie.handed_clauses
+
+abbrev Else2 : Type 0
+Else2 = Lts.Else2 Tie.the-claims Reads.Pre Reads.Post Tie.handed_clauses
+
+abbrev Else3 : Type 0
+Else3 = Lts.Else3 Tie.the-claims Reads.Pre Reads.Post Tie.handed_clauses
+
+abbrev Else4 : Type 0
+Else4 = Lts.Else4 Tie.the-claims Reads.Pre Reads.Post Tie.handed_clauses
+
+abbrev After-waiting : Type 0
+After-waiting = Lts.After-waiting Tie.the-claims Reads.Pre Reads.Post Tie.handed_clauses
+
+abbrev Else5 : Type 0
+Else5 = Lts.Else5 Tie.the-claims Reads.Pre Reads.Post Tie.handed_clauses
+
+abbrev Else6 : Type 0
+Else6 = Lts.Else6 Tie.the-claims Reads.Pre Reads.Post Tie.handed_clauses
+
+abbrev diskIn : Start → Disk
 diskIn s = mk_disk s.args.image.now s.args.pointers.now
 
-abbrev memoryIn : Lts.Start Tie.the-claims Reads.Pre Reads.Post Tie.handed_clauses → Memory
+abbrev memoryIn : Start → Memory
 memoryIn s = mk_memory (state_of s.args.bytes.now) s.args.addresses.now s.args.compact.now s.args.inflight.now
 
 -- the first refusal from the i-th check on
-abbrev from : Lts.Start Tie.the-claims Reads.Pre Reads.Post Tie.handed_clauses → ℕ → Opt Answer
+abbrev from : Start → ℕ → Opt Answer
 from s i = land_from s.args.p s.args.offline.now (diskIn s) (memoryIn s) s.args.drive s.args.stripe i
 
 pub returns-then-not-in_range : goal.returns-then-not-in_range
 returns-then-not-in_range c =
+    let start = c.before.before.before.before.before.before.before.before.before.before.before in
     let in_range_holds = c.in_range in record { check_value = c.refused.ensures
-          ∙ land_range_fails c.args.p c.args.offline.now (diskIn c.before.before.before.before.before.before.before.before.before.before.before) (memoryIn c.before.before.before.before.before.before.before.before.before.before.before) c.args.drive c.args.stripe
+          ∙ land_range_fails c.args.p c.args.offline.now (diskIn start) (memoryIn start) c.args.drive c.args.stripe
           (sym in_range_holds.ensures ∙ not-true in_range_holds.result c.if-not-in_range.true-raw); target_at = λ e. some_none (sym c.refused.ensures ∙ e) }
 
 pub lent_ok-requires : goal.lent_ok-requires
@@ -44,15 +66,16 @@ lent_ok-requires c = sym c.in_range.ensures ∙ not-false c.in_range.result c.if
 
 pub returns-then-not-lent_ok : goal.returns-then-not-lent_ok
 returns-then-not-lent_ok c =
+    let start = c.before.before.before.before.before.before.before.before.before.before.before.before.before in
     let lent_ok = c.lent_ok in
     let in_range_holds = c.in_range in record { check_value = c.refused-then-not-lent_ok.ensures
-          ∙ land_lengths_fail c.args.p c.args.offline.now (diskIn c.before.before.before.before.before.before.before.before.before.before.before.before.before) (memoryIn c.before.before.before.before.before.before.before.before.before.before.before.before.before) c.args.drive c.args.stripe
-          (sym (lent_ok.ensures (memoryIn c.before.before.before.before.before.before.before.before.before.before.before.before.before).state) ∙ not-true lent_ok.result c.if-not-lent_ok.true-raw)
-          ∙ land_range_passes c.args.p c.args.offline.now (diskIn c.before.before.before.before.before.before.before.before.before.before.before.before.before) (memoryIn c.before.before.before.before.before.before.before.before.before.before.before.before.before) c.args.drive c.args.stripe
+          ∙ land_lengths_fail c.args.p c.args.offline.now (diskIn start) (memoryIn start) c.args.drive c.args.stripe
+          (sym (lent_ok.ensures (memoryIn start).state) ∙ not-true lent_ok.result c.if-not-lent_ok.true-raw)
+          ∙ land_range_passes c.args.p c.args.offline.now (diskIn start) (memoryIn start) c.args.drive c.args.stripe
           (sym in_range_holds.ensures ∙ not-false in_range_holds.result c.if-not-in_range.false-raw); target_at = λ e. some_none (sym c.refused-then-not-lent_ok.ensures ∙ e) }
 
-module _ (c : Lts.Else2 Tie.the-claims Reads.Pre Reads.Post Tie.handed_clauses) where
-  abbrev begun : Lts.Start Tie.the-claims Reads.Pre Reads.Post Tie.handed_clauses
+module _ (c : Else2) where
+  abbrev begun : Start
   begun = c.before.before.before.before.before.before.before.before.before.before.before
 
   -- 1 and 2 do not hold
@@ -73,13 +96,14 @@ list_rule-rule-requires c =
 
 pub returns-then-rule-ne0 : goal.returns-then-rule-ne0
 returns-then-rule-ne0 c =
-    let s = begun c.before.before.before.before in
+    let at_else = c.before.before.before.before in
+    let s = begun at_else in
     let list-rule = c.list_rule-rule in record { check_value = c.refused-then-rule-ne0.ensures
           ∙ land_list_fails s.args.p s.args.offline.now (diskIn s) (memoryIn s) s.args.drive s.args.stripe
-          list-rule.result list-rule.ensures c.if-rule-ne0.true ∙ fitting c.before.before.before.before; target_at = λ e. some_none (sym c.refused-then-rule-ne0.ensures ∙ e) }
+          list-rule.result list-rule.ensures c.if-rule-ne0.true ∙ fitting at_else; target_at = λ e. some_none (sym c.refused-then-rule-ne0.ensures ∙ e) }
 
-module _ (c : Lts.Else3 Tie.the-claims Reads.Pre Reads.Post Tie.handed_clauses) where
-  abbrev listed : Lts.Start Tie.the-claims Reads.Pre Reads.Post Tie.handed_clauses
+module _ (c : Else3) where
+  abbrev listed : Start
   listed = begun c.before.before
 
   -- nor do 10 and the narrow 1
@@ -90,11 +114,12 @@ module _ (c : Lts.Else3 Tie.the-claims Reads.Pre Reads.Post Tie.handed_clauses) 
 
 pub returns-then-missing-ne0 : goal.returns-then-missing-ne0
 returns-then-missing-ne0 c =
-    let s = listed c.before.before.before in record { check_value = c.refused-then-missing-ne0.ensures
+    let at_else = c.before.before.before in
+    let s = listed at_else in record { check_value = c.refused-then-missing-ne0.ensures
           ∙ land_missing_fails s.args.p s.args.offline.now (diskIn s) (memoryIn s) s.args.drive s.args.stripe
-          (λ e. c.if-missing-ne0.true (s.requires.missing_value.0 ∙ e)) ∙ enough c.before.before.before; target_at = λ e. some_none (sym c.refused-then-missing-ne0.ensures ∙ e) }
+          (λ e. c.if-missing-ne0.true (s.requires.missing_value.0 ∙ e)) ∙ enough at_else; target_at = λ e. some_none (sym c.refused-then-missing-ne0.ensures ∙ e) }
 
-module _ (c : Lts.Else4 Tie.the-claims Reads.Pre Reads.Post Tie.handed_clauses) where
+module _ (c : Else4) where
   -- nor does 3
   healthy : from (listed c.before) 5 ≡ from (listed c.before) 0
   healthy =
@@ -102,10 +127,12 @@ module _ (c : Lts.Else4 Tie.the-claims Reads.Pre Reads.Post Tie.handed_clauses) 
       land_missing_passes s.args.p s.args.offline.now (diskIn s) (memoryIn s) s.args.drive s.args.stripe (sym s.requires.missing_value.0 ∙ c.if-missing-ne0.false) ∙ enough c.before
 
 pub waiting-requires : goal.waiting-requires
-waiting-requires c = ranged c.before.before.before.before.before
+waiting-requires c =
+    let at_else = c.before.before.before.before.before in
+    ranged at_else
 
-module _ (c : Lts.After-waiting Tie.the-claims Reads.Pre Reads.Post Tie.handed_clauses) where
-  abbrev asked : Lts.Start Tie.the-claims Reads.Pre Reads.Post Tie.handed_clauses
+module _ (c : After-waiting) where
+  abbrev asked : Start
   asked = listed c.before.before.before
 
   -- what the row says is what the definition says
@@ -116,11 +143,13 @@ module _ (c : Lts.After-waiting Tie.the-claims Reads.Pre Reads.Post Tie.handed_c
 
 pub returns-then-not-waiting : goal.returns-then-not-waiting
 returns-then-not-waiting c =
-    let s = asked c.before.before.before in record { check_value = c.refused-then-not-waiting.ensures
+    let at_waiting = c.before.before.before in
+    let at_else = c.before.before.before.before.before in
+    let s = asked at_waiting in record { check_value = c.refused-then-not-waiting.ensures
           ∙ waiting_fails s.args.p s.args.offline.now (diskIn s) (memoryIn s) s.args.drive s.args.stripe
-          (sym (waits-is c.before.before.before) ∙ not-true c.waiting.result c.if-not-waiting.true-raw) ∙ healthy c.before.before.before.before.before; target_at = λ e. some_none (sym c.refused-then-not-waiting.ensures ∙ e) }
+          (sym (waits-is at_waiting) ∙ not-true c.waiting.result c.if-not-waiting.true-raw) ∙ healthy at_else; target_at = λ e. some_none (sym c.refused-then-not-waiting.ensures ∙ e) }
 
-module _ (c : Lts.Else5 Tie.the-claims Reads.Pre Reads.Post Tie.handed_clauses) where
+module _ (c : Else5) where
   -- nor does 5
   waits : waiting (asked c.before).args.p (memoryIn (asked c.before)).state (asked c.before).args.drive (asked c.before).args.stripe ≡ true
   waits = sym (waits-is c.before) ∙ not-false c.before.waiting.result c.if-not-waiting.false-raw
@@ -131,17 +160,20 @@ module _ (c : Lts.Else5 Tie.the-claims Reads.Pre Reads.Post Tie.handed_clauses) 
       waiting_passes s.args.p s.args.offline.now (diskIn s) (memoryIn s) s.args.drive s.args.stripe waits ∙ healthy c.before.before.before
 
 pub state_ok-requires : goal.state_ok-requires
-state_ok-requires c = record { p_value = ranged c.before.before.before.before.before.before.before; bytes_len = (asked c.before.before).pre.1.1 }
+state_ok-requires c =
+    let at_else = c.before.before.before.before.before.before.before in record { p_value = ranged at_else; bytes_len = (asked c.before.before).pre.1.1 }
 
 pub returns-then-not-state_ok : goal.returns-then-not-state_ok
 returns-then-not-state_ok c =
-    let s = asked c.before.before.before.before.before in
+    let at_waiting = c.before.before.before.before.before in
+    let at_else = c.before.before.before.before in
+    let s = asked at_waiting in
     let state_ok_holds = c.state_ok in record { check_value = c.refused-then-not-state_ok.ensures
           ∙ land_state_fails s.args.p s.args.offline.now (diskIn s) (memoryIn s) s.args.drive s.args.stripe
-          (sym state_ok_holds.ensures ∙ not-true state_ok_holds.result c.if-not-state_ok.true-raw) ∙ waited c.before.before.before.before; target_at = λ e. some_none (sym c.refused-then-not-state_ok.ensures ∙ e) }
+          (sym state_ok_holds.ensures ∙ not-true state_ok_holds.result c.if-not-state_ok.true-raw) ∙ waited at_else; target_at = λ e. some_none (sym c.refused-then-not-state_ok.ensures ∙ e) }
 
-module _ (c : Lts.Else6 Tie.the-claims Reads.Pre Reads.Post Tie.handed_clauses) where
-  abbrev done : Lts.Start Tie.the-claims Reads.Pre Reads.Post Tie.handed_clauses
+module _ (c : Else6) where
+  abbrev done : Start
   done = asked c.before.before.before
 
   -- nor does 9, as far as the state's numbers go
@@ -162,11 +194,14 @@ module _ (c : Lts.Else6 Tie.the-claims Reads.Pre Reads.Post Tie.handed_clauses) 
 
 pub zone_checks-requires : goal.zone_checks-requires
 zone_checks-requires c =
-    let s = begun c.before.before.before.before.before.before.before.before.before in
-    let l = lent_long_lem s.args.p s.args.offline.now (diskIn s) (memoryIn s) (lent c.before.before.before.before.before.before.before.before.before) in
-    let w = waits_low s.args.p (memoryIn s).state s.args.drive s.args.stripe (waits c.before.before.before) in record { p_value = ranged c.before.before.before.before.before.before.before.before.before; whole = (record { image_long = l.0; pointers_long = l.1 }, l.5, l.2); drive_lt_n = (w.0, (memoryIn s, looked c.before)) }
+    let at_else = c.before.before.before.before.before.before.before.before.before in
+    let at_else' = c.before.before.before in
+    let s = begun at_else in
+    let l = lent_long_lem s.args.p s.args.offline.now (diskIn s) (memoryIn s) (lent at_else) in
+    let w = waits_low s.args.p (memoryIn s).state s.args.drive s.args.stripe (waits at_else') in record { p_value = ranged at_else; whole = (record { image_long = l.0; pointers_long = l.1 }, l.5, l.2); drive_lt_n = (w.0, (memoryIn s, looked c.before)) }
 
 pub returns : goal.returns
 returns c =
+    let at_else = c.before.before.before.before in
     let s = done c.before.before in record { check_value = c.zone_checks.ensures.check_value (memoryIn s) (looked c.before.before)
-          ∙ land_state_passes s.args.p s.args.offline.now (diskIn s) (memoryIn s) s.args.drive s.args.stripe (fine c.before.before) ∙ waited c.before.before.before.before; target_at = c.zone_checks.ensures.target_at (memoryIn s) (looked c.before.before) }
+          ∙ land_state_passes s.args.p s.args.offline.now (diskIn s) (memoryIn s) s.args.drive s.args.stripe (fine c.before.before) ∙ waited at_else; target_at = c.zone_checks.ensures.target_at (memoryIn s) (looked c.before.before) }

@@ -20,6 +20,15 @@ use Rattle.call_land.proofs.land.Lts
 use Rattle.call_land.proofs.land.Reads
 use Rattle.call_land.proofs.land.Tie
 
+abbrev After-checks : Type 0
+After-checks = Lts.After-checks Tie.the-claims Reads.Pre Reads.Post Tie.handed_clauses
+
+abbrev Start : Type 0
+Start = Lts.Start Tie.the-claims Reads.Pre Reads.Post Tie.handed_clauses
+
+abbrev After-enum_told : Type 0
+After-enum_told = Lts.After-enum_told Tie.the-claims Reads.Pre Reads.Post Tie.handed_clauses
+
 pub look_at-seen-requires : goal.look_at-seen-requires
 look_at-seen-requires c = c.requires
 
@@ -30,35 +39,37 @@ checks-sight-requires c =
     let e = c.requires.0 in record { looks = subst (λ (x : State). Looks a.p x a.drive a.stripe l.result) e l.ensures; missing_value = (ap (λ (x : State). x.missing) e, c.requires.1, ap (λ (x : State). x.opened) e) }
 
 -- the refusal is that of the state
-abbrev start : Lts.After-checks Tie.the-claims Reads.Pre Reads.Post Tie.handed_clauses → Lts.Start Tie.the-claims Reads.Pre Reads.Post Tie.handed_clauses
+abbrev start : After-checks → Start
 start c =
     c.before.before.before.before.before.before.before.before.before.before
 
-abbrev disk : Lts.Start Tie.the-claims Reads.Pre Reads.Post Tie.handed_clauses → Disk
+abbrev disk : Start → Disk
 disk s = mk_disk s.args.image.now s.args.pointers.now
 
-abbrev memory : Lts.Start Tie.the-claims Reads.Pre Reads.Post Tie.handed_clauses → State → Memory
+abbrev memory : Start → State → Memory
 memory s x = mk_memory x s.args.addresses.now s.args.compact.now s.args.inflight.now
 
-abbrev refuses : Lts.Start Tie.the-claims Reads.Pre Reads.Post Tie.handed_clauses → State → Opt Answer
+abbrev refuses : Start → State → Opt Answer
 refuses s x = land_refusal s.args.p s.args.offline.now (disk s) (memory s x) s.args.drive s.args.stripe
 
-checked-is : (c : Lts.After-checks Tie.the-claims Reads.Pre Reads.Post Tie.handed_clauses) → checked c.checks-sight.result.check ≡ refuses (start c) (start c).args.state
+checked-is : (c : After-checks) → checked c.checks-sight.result.check ≡ refuses (start c) (start c).args.state
 checked-is c = subst (λ (x : State). checked c.checks-sight.result.check ≡ refuses (start c) x) (sym (start c).requires.0) c.checks-sight.ensures.check_value
 
 pub returns-in-Fail : goal.returns-in-Fail
 returns-in-Fail c =
+    let start' = c.before.before.before.before.before.before.before.before.before.before.before.before.before in
+    let at_checks = c.before.before.before in
     let a = c.args in
     let e = sym (ap (λ (x : Change). x.answer) c.kept.ensures) in
-    land_refused a.p a.offline.now (disk c.before.before.before.before.before.before.before.before.before.before.before.before.before) (memory c.before.before.before.before.before.before.before.before.before.before.before.before.before a.state) a.drive a.stripe a.count c.kept.result
-    (sym (checked-is c.before.before.before) ∙ ap checked c.in-Fail.is ∙ ap some e)
+    land_refused a.p a.offline.now (disk start') (memory start' a.state) a.drive a.stripe a.count c.kept.result
+    (sym (checked-is at_checks) ∙ ap checked c.in-Fail.is ∙ ap some e)
 
 -- the arrays have their lengths
-sized : (c : Lts.Start Tie.the-claims Reads.Pre Reads.Post Tie.handed_clauses) → RowsSized c.args.state
+sized : (c : Start) → RowsSized c.args.state
 sized c = subst RowsSized (sym c.requires.0) (read_sized c.args.bytes.now)
 
-module _ (c : Lts.After-enum_told Tie.the-claims Reads.Pre Reads.Post Tie.handed_clauses) where
-  abbrev begun : Lts.Start Tie.the-claims Reads.Pre Reads.Post Tie.handed_clauses
+module _ (c : After-enum_told) where
+  abbrev begun : Start
   begun = start c.before
 
   -- the state, looked at and not refused
@@ -79,8 +90,11 @@ module _ (c : Lts.After-enum_told Tie.the-claims Reads.Pre Reads.Post Tie.handed
       }
 
 pub plan-requires : goal.plan-requires
-plan-requires c = ((begun c.before.before.before.before.before.before).args.state, chosen c.before.before.before.before.before.before)
+plan-requires c =
+    let at_enum_told = c.before.before.before.before.before.before in
+    ((begun at_enum_told).args.state, chosen at_enum_told)
 
 pub returns : goal.returns
 returns c =
-    c.plan.ensures (begun c.before.before.before.before.before.before.before.before.before.before.before.before.before.before.before).args.state (chosen c.before.before.before.before.before.before.before.before.before.before.before.before.before.before.before)
+    let at_enum_told = c.before.before.before.before.before.before.before.before.before.before.before.before.before.before.before in
+    c.plan.ensures (begun at_enum_told).args.state (chosen at_enum_told)

@@ -16,12 +16,18 @@ use Rattle.call_land.proofs.open_whole.Lts
 use Rattle.call_land.proofs.open_whole.Reads
 use Rattle.call_land.proofs.open_whole.Tie
 
+abbrev After-open_zone : Type 0
+After-open_zone = Lts.After-open_zone Tie.the-claims Reads.Pre Reads.Post Tie.handed_clauses
+
+abbrev Start : Type 0
+Start = Lts.Start Tie.the-claims Reads.Pre Reads.Post Tie.handed_clauses
+
 pub open_zone-first-requires : goal.open_zone-first-requires
 open_zone-first-requires c =
     let q = c.requires in record { p_value = q.p_value; whole = (q.whole.0, q.whole.1, omega (arith, (ranged c.args.p q.p_value).drives_low)) }
 
-module _ (c : Lts.After-open_zone Tie.the-claims Reads.Pre Reads.Post Tie.handed_clauses) where
-  abbrev begun : Lts.Start Tie.the-claims Reads.Pre Reads.Post Tie.handed_clauses
+module _ (c : After-open_zone) where
+  abbrev begun : Start
   begun = c.before.before.before.before
 
   abbrev view : View
@@ -41,27 +47,32 @@ module _ (c : Lts.After-open_zone Tie.the-claims Reads.Pre Reads.Post Tie.handed
 
 pub returns-then-first-p : goal.returns-then-first-p
 returns-then-first-p c =
-    let z = said c.before.before.before in record { st_value = z.0; target_at = (λ st e n. absurd (n c.if-first-p.true)); zone_le_z = z.2 }
+    let at_open_zone = c.before.before.before in
+    let z = said at_open_zone in record { st_value = z.0; target_at = (λ st e n. absurd (n c.if-first-p.true)); zone_le_z = z.2 }
 
 pub open_segment-segment-requires : goal.open_segment-segment-requires
 open_segment-segment-requires c =
-    let b = begun c.before.before.before in
+    let at_open_zone = c.before.before.before in
+    let b = begun at_open_zone in
     let r = ranged b.args.p b.requires.p_value in
     let q = remains c c.if-first-p.false in
-    let l = low c c.if-first-p.false in record { p_value = b.requires.p_value; whole = (b.requires.whole.0, b.requires.whole.1); serial_value = (q, l, found_zone b.args.p r (view c.before.before.before) b.args.opened 0 c.open_zone-first.result q (omega (arith, r.drives_low)) (λ st e. (said c.before.before.before).1 st e l)) }
+    let l = low c c.if-first-p.false in record { p_value = b.requires.p_value; whole = (b.requires.whole.0, b.requires.whole.1); serial_value = (q, l, found_zone b.args.p r (view at_open_zone) b.args.opened 0 c.open_zone-first.result q (omega (arith, r.drives_low)) (λ st e. (said at_open_zone).1 st e l)) }
 
 pub zone_on-zone-requires : goal.zone_on-zone-requires
-zone_on-zone-requires c = let b = begun c.before.before.before.before in record { p_value = b.requires.p_value; drive_lt_n = b.requires.whole.2 }
+zone_on-zone-requires c =
+    let at_open_zone = c.before.before.before.before in
+    let b = begun at_open_zone in record { p_value = b.requires.p_value; drive_lt_n = b.requires.whole.2 }
 
 pub returns : goal.returns
 returns c =
-    let b = begun c.before.before.before.before.before in
+    let at_open_zone = c.before.before.before.before.before in
+    let b = begun at_open_zone in
     let r = ranged b.args.p b.requires.p_value in
     let q = remains c c.if-first-p.false in
     let g = c.open_segment-segment in
-    let o : OpenedOn b.args.p (view c.before.before.before.before.before) b.args.drive b.args.opened c.zone_on-zone.result =
-    opened_at b.args.p r (view c.before.before.before.before.before) b.args.drive b.args.opened c.zone_on-zone.result q b.requires.whole.2
-    (found_zone b.args.p r (view c.before.before.before.before.before) b.args.opened b.args.drive c.zone_on-zone.result q b.requires.whole.2
+    let o : OpenedOn b.args.p (view at_open_zone) b.args.drive b.args.opened c.zone_on-zone.result =
+    opened_at b.args.p r (view at_open_zone) b.args.drive b.args.opened c.zone_on-zone.result q b.requires.whole.2
+    (found_zone b.args.p r (view at_open_zone) b.args.opened b.args.drive c.zone_on-zone.result q b.requires.whole.2
     (λ st e. c.zone_on-zone.ensures ∙ ap (λ (x : Seg). zone_on x b.args.drive) (g.ensures st e))) in record { st_value = o.0; target_at = λ st e x. record {
           some = o.0 st e ∙ ne_eqb c.zone_on-zone.result b.args.p.Z x;
           zone = o.1 st e (lt_of_le-ne o.2 x);

@@ -20,17 +20,23 @@ use Rattle.call_read.proofs.find.Lts
 use Rattle.call_read.proofs.find.Reads
 use Rattle.call_read.proofs.find.Tie
 
-abbrev disk : Lts.Start Tie.the-claims Reads.Pre Reads.Post Tie.handed_clauses → Disk
+abbrev Start : Type 0
+Start = Lts.Start Tie.the-claims Reads.Pre Reads.Post Tie.handed_clauses
+
+abbrev After-seek : Type 0
+After-seek = Lts.After-seek Tie.the-claims Reads.Pre Reads.Post Tie.handed_clauses
+
+abbrev disk : Start → Disk
 disk s = mk_disk s.args.image.now s.args.pointers.now
 
-abbrev memory : Lts.Start Tie.the-claims Reads.Pre Reads.Post Tie.handed_clauses → Memory
+abbrev memory : Start → Memory
 memory s = mk_memory (state_of s.args.state.now) s.args.addresses.now s.args.compact.now s.args.inflight.now
 
-abbrev start : Lts.After-seek Tie.the-claims Reads.Pre Reads.Post Tie.handed_clauses → Lts.Start Tie.the-claims Reads.Pre Reads.Post Tie.handed_clauses
+abbrev start : After-seek → Start
 start c = c.before.before.before.before.before.before.before.before.before
 
 -- the answer of what was sought
-left : (c : Lts.After-seek Tie.the-claims Reads.Pre Reads.Post Tie.handed_clauses) (x : Sought) → c.seek-sought.result ≡ x
+left : (c : After-seek) (x : Sought) → c.seek-sought.result ≡ x
     → mk_after (find_answer (start c).args.p x) (disk (start c)) (memory (start c)) []
     ≡ call_disk (start c).args.p (start c).args.offline.now (disk (start c)) (memory (start c)) (read (start c).args.address.0)
 left c x e =
@@ -40,20 +46,29 @@ left c x e =
 
 pub place_byte-requires : goal.place_byte-requires
 place_byte-requires c =
+    let start' = c.before.before.before.before.before.before.before.before.before.before.before.before in
     let p = c.args.p in
-    let none! : read_refusal p c.args.offline.now (disk c.before.before.before.before.before.before.before.before.before.before.before.before) (memory c.before.before.before.before.before.before.before.before.before.before.before.before) c.args.address.0 p.B ≡ none =
+    let none! : read_refusal p c.args.offline.now (disk start') (memory start') c.args.address.0 p.B ≡ none =
     sym c.seek-sought.ensures.result_value ∙ ap refused_by c.in-Here.is in
-    (read_ready p c.args.offline.now (disk c.before.before.before.before.before.before.before.before.before.before.before.before) (memory c.before.before.before.before.before.before.before.before.before.before.before.before) c.args.address.0 p.B none!).ranged
+    (read_ready p c.args.offline.now (disk start') (memory start') c.args.address.0 p.B none!).ranged
 
 pub returns-in-Bad : goal.returns-in-Bad
-returns-in-Bad c = left c.before.before.before _ c.in-Bad.is
+returns-in-Bad c =
+    let at_seek = c.before.before.before in
+    left at_seek _ c.in-Bad.is
 
 pub returns-in-Never : goal.returns-in-Never
-returns-in-Never c = left c.before.before.before _ c.in-Never.is
+returns-in-Never c =
+    let at_seek = c.before.before.before in
+    left at_seek _ c.in-Never.is
 
 pub returns-in-Here : goal.returns-in-Here
 returns-in-Here c =
-    ap (λ (n : ℕ). mk_after (Part n c.in-Here.t) (disk c.before.before.before.before.before.before.before.before.before.before.before.before.before) (memory c.before.before.before.before.before.before.before.before.before.before.before.before.before) []) c.place_byte.ensures.0 ∙ left c.before.before.before.before _ c.in-Here.is
+    let start' = c.before.before.before.before.before.before.before.before.before.before.before.before.before in
+    let at_seek = c.before.before.before.before in
+    ap (λ (n : ℕ). mk_after (Part n c.in-Here.t) (disk start') (memory start') []) c.place_byte.ensures.0 ∙ left at_seek _ c.in-Here.is
 
 pub returns-in-Away : goal.returns-in-Away
-returns-in-Away c = left c.before.before.before _ c.in-Away.is
+returns-in-Away c =
+    let at_seek = c.before.before.before in
+    left at_seek _ c.in-Away.is

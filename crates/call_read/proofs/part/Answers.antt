@@ -33,8 +33,14 @@ use Rattle.call_read.proofs.part.Lts
 use Rattle.call_read.proofs.part.Reads
 use Rattle.call_read.proofs.part.Tie
 
+abbrev After-find : Type 0
+After-find = Lts.After-find Tie.the-claims Reads.Pre Reads.Post
+
+abbrev After-answer : Type 0
+After-answer = Lts.After-answer Tie.the-claims Reads.Pre Reads.Post
+
 answered :
-    (c : Lts.After-find Tie.the-claims Reads.Pre Reads.Post)
+    (c : After-find)
     → c.find-answer.result ≡ (call_disk c.before.before.before.before.before.before.before.before.args.p
     c.before.before.before.before.before.before.before.before.args.offline.now
     (mk_disk c.before.before.before.before.before.before.before.before.args.image.now
@@ -47,11 +53,12 @@ answered :
 answered c = ap (λ (x : After Disk). x.answer) c.find-answer.ensures
 
 within :
-    (c : Lts.After-answer Tie.the-claims Reads.Pre Reads.Post)
+    (c : After-answer)
     → c.in-Part.at + c.before.before.before.before.before.before.before.before.before.args.p.B ≤ length
     c.before.before.before.before.before.before.before.before.before.args.image.now
 within c =
-    let a = c.before.before.before.before.before.before.before.before.before.args in
+    let start = c.before.before.before.before.before.before.before.before.before in
+    let a = start.args in
     part_within a.p a.offline.now (mk_disk a.image.now a.pointers.now)
     (mk_memory (state_of a.state.now) a.addresses.now a.compact.now a.inflight.now) a.address.0 c.in-Part.at c.in-Part.field-1
     (sym (answered c.before) ∙ c.in-Part.is)
@@ -64,9 +71,10 @@ slice_bounds-result-end c = within c
 
 pub returns-in-Part : goal.returns-in-Part
 returns-in-Part c =
+    let at_find = c.before.before.before.before in
     let a = c.args in
     let at = c.in-Part.at in
-    let e = sym (answered c.before.before.before.before) ∙ c.in-Part.is in
+    let e = sym (answered at_find) ∙ c.in-Part.is in
     let e₁ = ap part_at e ∙ (part_here a.p at c.in-Part.field-1).0 in
     let e₂ = ap (part_len a.p) e ∙ (part_here a.p at c.in-Part.field-1).1 in
     record {

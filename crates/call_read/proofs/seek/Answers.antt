@@ -27,22 +27,44 @@ use Rattle.call_read.proofs.seek.Lts
 use Rattle.call_read.proofs.seek.Reads
 use Rattle.call_read.proofs.seek.Tie
 
-abbrev diskIn : Lts.Start Tie.the-claims Reads.Pre Reads.Post Tie.handed_clauses → Disk
+abbrev Start : Type 0
+Start = Lts.Start Tie.the-claims Reads.Pre Reads.Post Tie.handed_clauses
+
+abbrev Else1 : Type 0
+Else1 = Lts.Else1 Tie.the-claims Reads.Pre Reads.Post Tie.handed_clauses
+
+abbrev Else2 : Type 0
+Else2 = Lts.Else2 Tie.the-claims Reads.Pre Reads.Post Tie.handed_clauses
+
+abbrev Else3 : Type 0
+Else3 = Lts.Else3 Tie.the-claims Reads.Pre Reads.Post Tie.handed_clauses
+
+abbrev Else4 : Type 0
+Else4 = Lts.Else4 Tie.the-claims Reads.Pre Reads.Post Tie.handed_clauses
+
+abbrev Else5 : Type 0
+Else5 = Lts.Else5 Tie.the-claims Reads.Pre Reads.Post Tie.handed_clauses
+
+abbrev Else6 : Type 0
+Else6 = Lts.Else6 Tie.the-claims Reads.Pre Reads.Post Tie.handed_clauses
+
+abbrev diskIn : Start → Disk
 diskIn s = mk_disk s.args.image.now s.args.pointers.now
 
-abbrev memoryIn : Lts.Start Tie.the-claims Reads.Pre Reads.Post Tie.handed_clauses → Memory
+abbrev memoryIn : Start → Memory
 memoryIn s = mk_memory (state_of s.args.state.now) s.args.addresses.now s.args.compact.now s.args.inflight.now
 
 -- the first refusal among the checks from the i-th on
-abbrev from : Lts.Start Tie.the-claims Reads.Pre Reads.Post Tie.handed_clauses → ℕ → Opt Answer
+abbrev from : Start → ℕ → Opt Answer
 from s i = read_from s.args.p s.args.offline.now (diskIn s) (memoryIn s) s.args.address.0 s.args.len i
 
 pub returns-then-not-in_range : goal.returns-then-not-in_range
 returns-then-not-in_range c =
-    let range = c.in_range in record { result_value = read_range_fails c.args.p c.args.offline.now (diskIn c.before.before.before.before.before.before.before.before.before.before.before) (memoryIn c.before.before.before.before.before.before.before.before.before.before.before) c.args.address.0 c.args.len (sym range.ensures ∙ not-true range.result c.if-not-in_range.true-raw); gives = tt }
+    let start = c.before.before.before.before.before.before.before.before.before.before.before in
+    let range = c.in_range in record { result_value = read_range_fails c.args.p c.args.offline.now (diskIn start) (memoryIn start) c.args.address.0 c.args.len (sym range.ensures ∙ not-true range.result c.if-not-in_range.true-raw); gives = tt }
 
-module _ (c : Lts.Else1 Tie.the-claims Reads.Pre Reads.Post Tie.handed_clauses) where
-  abbrev started : Lts.Start Tie.the-claims Reads.Pre Reads.Post Tie.handed_clauses
+module _ (c : Else1) where
+  abbrev started : Start
   started = c.before.before.before.before.before.before.before.before.before.before
 
   -- the first check passes
@@ -58,11 +80,13 @@ lent_ok-requires c = in_range_holds c.before
 
 pub returns-then-not-lent_ok : goal.returns-then-not-lent_ok
 returns-then-not-lent_ok c =
-    let lent = c.lent_ok in record { result_value = read_lengths_fail c.args.p c.args.offline.now (diskIn c.before.before.before.before.before.before.before.before.before.before.before.before.before) (memoryIn c.before.before.before.before.before.before.before.before.before.before.before.before.before) c.args.address.0 c.args.len
-          (sym (lent.ensures (memoryIn c.before.before.before.before.before.before.before.before.before.before.before.before.before).state) ∙ not-true lent.result c.if-not-lent_ok.true-raw) ∙ ranging c.before.before.before; gives = tt }
+    let start = c.before.before.before.before.before.before.before.before.before.before.before.before.before in
+    let at_else = c.before.before.before in
+    let lent = c.lent_ok in record { result_value = read_lengths_fail c.args.p c.args.offline.now (diskIn start) (memoryIn start) c.args.address.0 c.args.len
+          (sym (lent.ensures (memoryIn start).state) ∙ not-true lent.result c.if-not-lent_ok.true-raw) ∙ ranging at_else; gives = tt }
 
-module _ (c : Lts.Else2 Tie.the-claims Reads.Pre Reads.Post Tie.handed_clauses) where
-  abbrev looked-at : Lts.Start Tie.the-claims Reads.Pre Reads.Post Tie.handed_clauses
+module _ (c : Else2) where
+  abbrev looked-at : Start
   looked-at = c.before.before.before.before.before.before.before.before.before.before.before.before
 
   -- the lent buffers have their lengths
@@ -70,11 +94,14 @@ module _ (c : Lts.Else2 Tie.the-claims Reads.Pre Reads.Post Tie.handed_clauses) 
   lent = sym (c.before.lent_ok.ensures (memoryIn looked-at).state) ∙ not-false c.before.lent_ok.result c.if-not-lent_ok.false-raw
 
 pub returns-then-len-p : goal.returns-then-len-p
-returns-then-len-p c = record { result_value = read_block_fails c.args.p c.args.offline.now (diskIn c.before.before.before.before.before.before.before.before.before.before.before.before.before.before.before) (memoryIn c.before.before.before.before.before.before.before.before.before.before.before.before.before.before.before) c.args.address.0 c.args.len
-          (lent c.before.before.before) c.if-len-p.true ∙ ranging c.before.before.before.before.before; gives = tt }
+returns-then-len-p c =
+    let start = c.before.before.before.before.before.before.before.before.before.before.before.before.before.before.before in
+    let at_else = c.before.before.before in
+    let at_else' = c.before.before.before.before.before in record { result_value = read_block_fails c.args.p c.args.offline.now (diskIn start) (memoryIn start) c.args.address.0 c.args.len
+          (lent at_else) c.if-len-p.true ∙ ranging at_else'; gives = tt }
 
-module _ (c : Lts.Else3 Tie.the-claims Reads.Pre Reads.Post Tie.handed_clauses) where
-  abbrev lengths : Lts.Start Tie.the-claims Reads.Pre Reads.Post Tie.handed_clauses
+module _ (c : Else3) where
+  abbrev lengths : Start
   lengths = c.before.before.before.before.before.before.before.before.before.before.before.before.before.before
 
   longs : from lengths 2 ≡ from lengths 0
@@ -84,15 +111,18 @@ module _ (c : Lts.Else3 Tie.the-claims Reads.Pre Reads.Post Tie.handed_clauses) 
 
 pub list_rule-rule-requires : goal.list_rule-rule-requires
 list_rule-rule-requires c =
-    let s = lengths c.before in record { p_value = in_range_holds c.before.before.before.before.before; offline_len = (lent_long_lem s.args.p s.args.offline.now (diskIn s) (memoryIn s) (lent c.before.before.before)).5 }
+    let at_else = c.before.before.before.before.before in
+    let at_else' = c.before.before.before in
+    let s = lengths c.before in record { p_value = in_range_holds at_else; offline_len = (lent_long_lem s.args.p s.args.offline.now (diskIn s) (memoryIn s) (lent at_else')).5 }
 
 pub returns-then-rule-ne0 : goal.returns-then-rule-ne0
 returns-then-rule-ne0 c =
-    let s = lengths c.before.before.before in record { result_value = read_list_fails s.args.p s.args.offline.now (diskIn s) (memoryIn s) s.args.address.0 s.args.len
-          c.list_rule-rule.result c.list_rule-rule.ensures c.if-rule-ne0.true ∙ longs c.before.before.before; gives = tt }
+    let at_else = c.before.before.before in
+    let s = lengths at_else in record { result_value = read_list_fails s.args.p s.args.offline.now (diskIn s) (memoryIn s) s.args.address.0 s.args.len
+          c.list_rule-rule.result c.list_rule-rule.ensures c.if-rule-ne0.true ∙ longs at_else; gives = tt }
 
-module _ (c : Lts.Else4 Tie.the-claims Reads.Pre Reads.Post Tie.handed_clauses) where
-  abbrev listed : Lts.Start Tie.the-claims Reads.Pre Reads.Post Tie.handed_clauses
+module _ (c : Else4) where
+  abbrev listed : Start
   listed = lengths c.before.before
 
   enough : from listed 4 ≡ from listed 0
@@ -102,10 +132,11 @@ module _ (c : Lts.Else4 Tie.the-claims Reads.Pre Reads.Post Tie.handed_clauses) 
 
 pub returns-then-p-address : goal.returns-then-p-address
 returns-then-p-address c =
-    let s = listed c.before.before.before in record { result_value = read_address_fails s.args.p s.args.offline.now (diskIn s) (memoryIn s) s.args.address.0 s.args.len (omega (arith, c.if-p-address.true)) ∙ enough c.before.before.before; gives = tt }
+    let at_else = c.before.before.before in
+    let s = listed at_else in record { result_value = read_address_fails s.args.p s.args.offline.now (diskIn s) (memoryIn s) s.args.address.0 s.args.len (omega (arith, c.if-p-address.true)) ∙ enough at_else; gives = tt }
 
-module _ (c : Lts.Else5 Tie.the-claims Reads.Pre Reads.Post Tie.handed_clauses) where
-  abbrev addressed : Lts.Start Tie.the-claims Reads.Pre Reads.Post Tie.handed_clauses
+module _ (c : Else5) where
+  abbrev addressed : Start
   addressed = listed c.before.before
 
   lows : from addressed 5 ≡ from addressed 0
@@ -113,20 +144,24 @@ module _ (c : Lts.Else5 Tie.the-claims Reads.Pre Reads.Post Tie.handed_clauses) 
       read_address_passes addressed.args.p addressed.args.offline.now (diskIn addressed) (memoryIn addressed) addressed.args.address.0 addressed.args.len (omega (arith, c.if-p-address.false)) ∙ enough c.before.before
 
 pub state_ok-requires : goal.state_ok-requires
-state_ok-requires c = record { p_value = in_range_holds c.before.before.before.before.before.before.before.before.before; bytes_len = (addressed c.before).requires.0 }
+state_ok-requires c =
+    let at_else = c.before.before.before.before.before.before.before.before.before in record { p_value = in_range_holds at_else; bytes_len = (addressed c.before).requires.0 }
 
 pub returns-then-not-state_ok : goal.returns-then-not-state_ok
 returns-then-not-state_ok c =
-    let s = addressed c.before.before.before in
+    let at_else = c.before.before.before in
+    let s = addressed at_else in
     let state = c.state_ok in record { result_value = read_state_fails s.args.p s.args.offline.now (diskIn s) (memoryIn s) s.args.address.0 s.args.len
-          (sym state.ensures ∙ not-true state.result c.if-not-state_ok.true-raw) ∙ lows c.before.before.before; gives = tt }
+          (sym state.ensures ∙ not-true state.result c.if-not-state_ok.true-raw) ∙ lows at_else; gives = tt }
 
 pub missing-gone-requires : goal.missing-gone-requires
-missing-gone-requires c = (addressed c.before.before.before).pre.0
+missing-gone-requires c =
+    let at_else = c.before.before.before in
+    (addressed at_else).pre.0
 
 -- what is so before the lookup
-module _ (c : Lts.Else6 Tie.the-claims Reads.Pre Reads.Post Tie.handed_clauses) where
-  abbrev sound : Lts.Start Tie.the-claims Reads.Pre Reads.Post Tie.handed_clauses
+module _ (c : Else6) where
+  abbrev sound : Start
   sound = addressed c.before.before
 
   ok : in_range sound.args.p ≡ true
@@ -150,15 +185,18 @@ lies-f-requires c =
 
 pub seek_found-requires : goal.seek_found-requires
 seek_found-requires c =
-    let s = sound c.before.before.before.before in
+    let at_else = c.before.before.before.before in
+    let s = sound at_else in
     let p = s.args.p in
-    let l = lent_long_lem p s.args.offline.now (diskIn s) (memoryIn s) (long c.before.before.before.before) in
+    let l = lent_long_lem p s.args.offline.now (diskIn s) (memoryIn s) (long at_else) in
     let gone = c.missing-gone in
-    let looked = c.lies-f in record { p_value = ok c.before.before.before.before; whole = (record { image_long = l.0; pointers_long = l.1 }, l.5, subst (Here p) (sym gone.ensures) (present-one c.before.before.before.before)); compact_len = (l.3, s.requires.1, subst (Sorted p gone.result) (sym looked.ensures) (lies_sorted p gone.result s.args.addresses.now s.args.address.0)) }
+    let looked = c.lies-f in record { p_value = ok at_else; whole = (record { image_long = l.0; pointers_long = l.1 }, l.5, subst (Here p) (sym gone.ensures) (present-one at_else)); compact_len = (l.3, s.requires.1, subst (Sorted p gone.result) (sym looked.ensures) (lies_sorted p gone.result s.args.addresses.now s.args.address.0)) }
 
 pub returns : goal.returns
 returns c =
-    let s = sound c.before.before.before.before.before.before.before in
+    let at_else = c.before.before.before.before.before.before.before in
+    let at_else' = c.before.before.before.before.before.before.before.before.before in
+    let s = sound at_else in
     let p = s.args.p in
     let m = memoryIn s in
     let found = c.seek_found in
@@ -168,4 +206,4 @@ returns c =
     let g : gone.result ≡ m.state.missing = gone.ensures in
     let f : found_of looked.result ≡ found_at s.args.p s.args.offline.now (diskIn s) (memoryIn s) s.args.address.0 s.args.len
     = looked.ensures ∙ ap (λ (x : ℕ). lies p x m.addresses s.args.address.0) g in
-    let q = transport (λ j. SeeksAll p s.args.image.now v (g j) m.compact (f j) found.result found.new.bytes) found.ensures in record { result_value = q.0 ∙ read_state_passes s.args.p s.args.offline.now (diskIn s) (memoryIn s) s.args.address.0 s.args.len (state_fine c.before.before.before.before.before.before.before) ∙ lows c.before.before.before.before.before.before.before.before.before; gives = q.1 }
+    let q = transport (λ j. SeeksAll p s.args.image.now v (g j) m.compact (f j) found.result found.new.bytes) found.ensures in record { result_value = q.0 ∙ read_state_passes s.args.p s.args.offline.now (diskIn s) (memoryIn s) s.args.address.0 s.args.len (state_fine at_else) ∙ lows at_else'; gives = q.1 }

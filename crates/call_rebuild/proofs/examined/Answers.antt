@@ -27,68 +27,82 @@ use Rattle.call_rebuild.proofs.examined.Lts
 use Rattle.call_rebuild.proofs.examined.Reads
 use Rattle.call_rebuild.proofs.examined.Tie
 
-abbrev diskIn : Lts.Start Tie.the-claims Reads.Pre Reads.Post Tie.handed_clauses → Disk
+abbrev Start : Type 0
+Start = Lts.Start Tie.the-claims Reads.Pre Reads.Post Tie.handed_clauses
+
+abbrev After-examine : Type 0
+After-examine = Lts.After-examine Tie.the-claims Reads.Pre Reads.Post Tie.handed_clauses
+
+abbrev diskIn : Start → Disk
 diskIn s = mk_disk s.args.image.now s.args.pointers.now
 
-abbrev memoryIn : Lts.Start Tie.the-claims Reads.Pre Reads.Post Tie.handed_clauses → Memory
+abbrev memoryIn : Start → Memory
 memoryIn s = mk_memory s.args.state s.args.addresses.now s.args.compact.now s.args.inflight.now
 
-ready : (s : Lts.Start Tie.the-claims Reads.Pre Reads.Post Tie.handed_clauses) → RebuildReady s.args.p s.args.offline.now (diskIn s) (memoryIn s) s.args.drive
+ready : (s : Start) → RebuildReady s.args.p s.args.offline.now (diskIn s) (memoryIn s) s.args.drive
 ready s = rebuild_ready s.args.p s.args.offline.now (diskIn s) (memoryIn s) s.args.drive s.requires
 
 -- some drive is present
-some-here : (s : Lts.Start Tie.the-claims Reads.Pre Reads.Post Tie.handed_clauses) (gone : ℕ) → gone ≡ named s.args.drive → Here s.args.p gone
+some-here : (s : Start) (gone : ℕ) → gone ≡ named s.args.drive → Here s.args.p gone
 some-here s gone e = subst (Here s.args.p) (sym e) (named_here s.args.p (ranged s.args.p (ready s).in_range_holds) s.args.drive (ready s).drive_low)
 
 pub gather-requires : goal.gather-requires
 gather-requires c =
+    let start = c.before.before.before.before.before.before.before.before.before.before.before.before in
     let only-drive = c.only_drive-gone in
-    let rd = ready c.before.before.before.before.before.before.before.before.before.before.before.before in
+    let rd = ready start in
     let z = (ranged c.args.p rd.in_range_holds).zones_high in record { p_value = rd.in_range_holds; whole = (
-          whole_of c.args.p c.args.offline.now (diskIn c.before.before.before.before.before.before.before.before.before.before.before.before) (memoryIn c.before.before.before.before.before.before.before.before.before.before.before.before) rd.lent,
-          (lengths_of c.args.p c.args.offline.now (diskIn c.before.before.before.before.before.before.before.before.before.before.before.before) (memoryIn c.before.before.before.before.before.before.before.before.before.before.before.before) rd.lent).offline_ok,
-          some-here c.before.before.before.before.before.before.before.before.before.before.before.before only-drive.result (only-drive.ensures ∙ only-named c.args.drive),
+          whole_of c.args.p c.args.offline.now (diskIn start) (memoryIn start) rd.lent,
+          (lengths_of c.args.p c.args.offline.now (diskIn start) (memoryIn start) rd.lent).offline_ok,
+          some-here start only-drive.result (only-drive.ensures ∙ only-named c.args.drive),
         ); z_in_bounds = (omega (arith, z), z, z, z) }
 
 pub examine-e-requires : goal.examine-e-requires
 examine-e-requires c =
+    let start = c.before.before.before.before.before.before.before.before.before.before.before.before.before.before.before.before.before.before.before.before in
     let g = c.gather.ensures in
     let only-drive = c.only_drive-gone in
-    let rd = ready c.before.before.before.before.before.before.before.before.before.before.before.before.before.before.before.before.before.before.before.before in record { p_value = rd.in_range_holds; whole = (
-          whole_of c.args.p c.args.offline.now (diskIn c.before.before.before.before.before.before.before.before.before.before.before.before.before.before.before.before.before.before.before.before) (memoryIn c.before.before.before.before.before.before.before.before.before.before.before.before.before.before.before.before.before.before.before.before) rd.lent,
-          (lengths_of c.args.p c.args.offline.now (diskIn c.before.before.before.before.before.before.before.before.before.before.before.before.before.before.before.before.before.before.before.before) (memoryIn c.before.before.before.before.before.before.before.before.before.before.before.before.before.before.before.before.before.before.before.before) rd.lent).offline_ok,
-          some-here c.before.before.before.before.before.before.before.before.before.before.before.before.before.before.before.before.before.before.before.before only-drive.result (only-drive.ensures ∙ only-named c.args.drive),
+    let rd = ready start in record { p_value = rd.in_range_holds; whole = (
+          whole_of c.args.p c.args.offline.now (diskIn start) (memoryIn start) rd.lent,
+          (lengths_of c.args.p c.args.offline.now (diskIn start) (memoryIn start) rd.lent).offline_ok,
+          some-here start only-drive.result (only-drive.ensures ∙ only-named c.args.drive),
         ); keeps = (g.keeps, g.serials, g.flags_rows) }
 
 -- what the examination says, of the named drive
-said : (c : Lts.After-examine Tie.the-claims Reads.Pre Reads.Post Tie.handed_clauses)
+said : (c : After-examine)
     → let v = seen c.before.before.before.before.before.before.before.before.before.before.before.before.before.before.before.before.before.before.before.before.args.p c.before.before.before.before.before.before.before.before.before.before.before.before.before.before.before.before.before.before.before.before.args.offline.now (diskIn c.before.before.before.before.before.before.before.before.before.before.before.before.before.before.before.before.before.before.before.before) in
     Examined c.before.before.before.before.before.before.before.before.before.before.before.before.before.before.before.before.before.before.before.before.args.p v (named c.before.before.before.before.before.before.before.before.before.before.before.before.before.before.before.before.before.before.before.before.args.drive) (segments c.before.before.before.before.before.before.before.before.before.before.before.before.before.before.before.before.before.before.before.before.args.p v (named c.before.before.before.before.before.before.before.before.before.before.before.before.before.before.before.before.before.before.before.before.args.drive)) c.examine-e.result
 said c =
-    let only-drive = c.before.before.before.before.before.before.before.before.before.before.before.before.before.only_drive-gone in
-    let p = c.before.before.before.before.before.before.before.before.before.before.before.before.before.before.before.before.before.before.before.before.args.p in
-    let v = seen p c.before.before.before.before.before.before.before.before.before.before.before.before.before.before.before.before.before.before.before.before.args.offline.now (diskIn c.before.before.before.before.before.before.before.before.before.before.before.before.before.before.before.before.before.before.before.before) in
-    subst (λ (g : ℕ). Examined p v g (segments p v g) c.examine-e.result) (only-drive.ensures ∙ only-named c.before.before.before.before.before.before.before.before.before.before.before.before.before.before.before.before.before.before.before.before.args.drive) c.examine-e.ensures
+    let start = c.before.before.before.before.before.before.before.before.before.before.before.before.before.before.before.before.before.before.before.before in
+    let at_only_drive_gone = c.before.before.before.before.before.before.before.before.before.before.before.before.before in
+    let only-drive = at_only_drive_gone.only_drive-gone in
+    let p = start.args.p in
+    let v = seen p start.args.offline.now (diskIn start) in
+    subst (λ (g : ℕ). Examined p v g (segments p v g) c.examine-e.result) (only-drive.ensures ∙ only-named start.args.drive) c.examine-e.ensures
 
 pub returns-then-e-p : goal.returns-then-e-p
 returns-then-e-p c =
+    let start = c.before.before.before.before.before.before.before.before.before.before.before.before.before.before.before.before.before.before.before.before.before.before.before.before in
+    let at_examine = c.before.before.before.before in
     let p = c.args.p in
     let d = c.args.drive in
     let off = c.args.offline.now in
     let x = c.examine-e in
-    ends_rebuild_refused p off (diskIn c.before.before.before.before.before.before.before.before.before.before.before.before.before.before.before.before.before.before.before.before.before.before.before.before) (memoryIn c.before.before.before.before.before.before.before.before.before.before.before.before.before.before.before.before.before.before.before.before.before.before.before.before) d c.args.count (BadZone x.result.zone)
-    (rebuild_front_passed p off (diskIn c.before.before.before.before.before.before.before.before.before.before.before.before.before.before.before.before.before.before.before.before.before.before.before.before) (memoryIn c.before.before.before.before.before.before.before.before.before.before.before.before.before.before.before.before.before.before.before.before.before.before.before.before) d c.requires ∙ names_zone_lem p (seen p off (diskIn c.before.before.before.before.before.before.before.before.before.before.before.before.before.before.before.before.before.before.before.before.before.before.before.before)) (named d) x.result [] (said c.before.before.before.before) c.if-e-p.true)
+    ends_rebuild_refused p off (diskIn start) (memoryIn start) d c.args.count (BadZone x.result.zone)
+    (rebuild_front_passed p off (diskIn start) (memoryIn start) d c.requires ∙ names_zone_lem p (seen p off (diskIn start)) (named d) x.result [] (said at_examine) c.if-e-p.true)
 
 pub restore-requires : goal.restore-requires
 restore-requires c =
+    let start = c.before.before.before.before.before.before.before.before.before.before.before.before.before.before.before.before.before.before.before.before.before.before.before.before.before.before.before.before.before.before.before in
+    let at_examine = c.before.before.before.before.before.before.before.before.before.before.before in
     let if1 = c.if-e-p in
     let x = c.examine-e in
     let l = c.gather in
     let only-drive = c.only_drive-gone in
     let p = c.args.p in
     let d = c.args.drive in
-    let v = seen p c.args.offline.now (diskIn c.before.before.before.before.before.before.before.before.before.before.before.before.before.before.before.before.before.before.before.before.before.before.before.before.before.before.before.before.before.before.before) in
-    let ex = said c.before.before.before.before.before.before.before.before.before.before.before in
+    let v = seen p c.args.offline.now (diskIn start) in
+    let ex = said at_examine in
     let z : x.result.zone ≡ p.Z = omega (arith, if1.false, zone_le p v (named d) x.result ex) in
     let rows = l.new.rows in
     let serials = l.new.serials in

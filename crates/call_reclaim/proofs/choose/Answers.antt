@@ -29,44 +29,58 @@ use Rattle.call_reclaim.proofs.choose.Lts
 use Rattle.call_reclaim.proofs.choose.Reads
 use Rattle.call_reclaim.proofs.choose.Tie
 
-abbrev disk : Lts.Start Tie.the-claims Reads.Pre Reads.Post Tie.handed_clauses → Disk
+abbrev Start : Type 0
+Start = Lts.Start Tie.the-claims Reads.Pre Reads.Post Tie.handed_clauses
+
+abbrev Else2 : Type 0
+Else2 = Lts.Else2 Tie.the-claims Reads.Pre Reads.Post Tie.handed_clauses
+
+abbrev Else4 : Type 0
+Else4 = Lts.Else4 Tie.the-claims Reads.Pre Reads.Post Tie.handed_clauses
+
+abbrev After-has_fault : Type 0
+After-has_fault = Lts.After-has_fault Tie.the-claims Reads.Pre Reads.Post Tie.handed_clauses
+
+abbrev disk : Start → Disk
 disk s = mk_disk s.args.image.now s.args.pointers.now
 
-abbrev memory : Lts.Start Tie.the-claims Reads.Pre Reads.Post Tie.handed_clauses → Memory
+abbrev memory : Start → Memory
 memory s = mk_memory (state_of s.args.bytes.now) s.args.addresses.now s.args.compact.now s.args.inflight.now
 
-abbrev view : Lts.Start Tie.the-claims Reads.Pre Reads.Post Tie.handed_clauses → View
+abbrev view : Start → View
 view s = view_of s.args.p s.args.offline.now s.args.image.now s.args.pointers.now
 
-abbrev taken : Lts.Start Tie.the-claims Reads.Pre Reads.Post Tie.handed_clauses → Opt Victim
+abbrev taken : Start → Opt Victim
 taken s = victim s.args.p (view s) s.args.addresses.now
 
-abbrev refusal : Lts.Start Tie.the-claims Reads.Pre Reads.Post Tie.handed_clauses → Opt Answer
+abbrev refusal : Start → Opt Answer
 refusal s = reclaim_refusal s.args.p s.args.offline.now (disk s) (memory s)
 
 -- a refusal, as it is given
-said : (s : Lts.Start Tie.the-claims Reads.Pre Reads.Post Tie.handed_clauses) (g : Seg) (x : Choice) (a : Answer) → x ≡ Refuse a → refusal s ≡ some a → Chose s.args.p (view s) (state_of s.args.bytes.now) (taken s) (refusal s) g x
+said : (s : Start) (g : Seg) (x : Choice) (a : Answer) → x ≡ Refuse a → refusal s ≡ some a → Chose s.args.p (view s) (state_of s.args.bytes.now) (taken s) (refusal s) g x
 said s g x a e h = refused_so s.args.p (view s) (state_of s.args.bytes.now) (taken s) (refusal s) g x a e h
 
 pub returns-then-not-in_range : goal.returns-then-not-in_range
 returns-then-not-in_range c =
+    let start = c.before.before.before.before.before.before.before.before.before.before.before in
     let r = c.in_range in
-    said c.before.before.before.before.before.before.before.before.before.before.before c.refuse.result.segment c.refuse.result.choice (Refused 1) c.refuse.ensures
-    (reclaim_range_fails c.args.p c.args.offline.now (disk c.before.before.before.before.before.before.before.before.before.before.before) (memory c.before.before.before.before.before.before.before.before.before.before.before) (sym r.ensures ∙ not-true r.result c.if-not-in_range.true-raw))
+    said start c.refuse.result.segment c.refuse.result.choice (Refused 1) c.refuse.ensures
+    (reclaim_range_fails c.args.p c.args.offline.now (disk start) (memory start) (sym r.ensures ∙ not-true r.result c.if-not-in_range.true-raw))
 
 pub lent_ok-requires : goal.lent_ok-requires
 lent_ok-requires c = sym c.in_range.ensures ∙ not-false c.in_range.result c.if-not-in_range.false-raw
 
 pub returns-then-not-lent_ok : goal.returns-then-not-lent_ok
 returns-then-not-lent_ok c =
+    let start = c.before.before.before.before.before.before.before.before.before.before.before.before.before in
     let r = c.in_range in
     let l = c.lent_ok in
-    said c.before.before.before.before.before.before.before.before.before.before.before.before.before c.refuse-then-not-lent_ok.result.segment c.refuse-then-not-lent_ok.result.choice (Refused 2) c.refuse-then-not-lent_ok.ensures
-    (reclaim_range_passes c.args.p c.args.offline.now (disk c.before.before.before.before.before.before.before.before.before.before.before.before.before) (memory c.before.before.before.before.before.before.before.before.before.before.before.before.before) (sym r.ensures ∙ not-false r.result c.if-not-in_range.false-raw)
-    ∙ reclaim_lengths_fail c.args.p c.args.offline.now (disk c.before.before.before.before.before.before.before.before.before.before.before.before.before) (memory c.before.before.before.before.before.before.before.before.before.before.before.before.before) (sym (l.ensures (memory c.before.before.before.before.before.before.before.before.before.before.before.before.before).state) ∙ not-true l.result c.if-not-lent_ok.true-raw))
+    said start c.refuse-then-not-lent_ok.result.segment c.refuse-then-not-lent_ok.result.choice (Refused 2) c.refuse-then-not-lent_ok.ensures
+    (reclaim_range_passes c.args.p c.args.offline.now (disk start) (memory start) (sym r.ensures ∙ not-false r.result c.if-not-in_range.false-raw)
+    ∙ reclaim_lengths_fail c.args.p c.args.offline.now (disk start) (memory start) (sym (l.ensures (memory start).state) ∙ not-true l.result c.if-not-lent_ok.true-raw))
 
-module _ (c : Lts.Else2 Tie.the-claims Reads.Pre Reads.Post Tie.handed_clauses) where
-  abbrev begun : Lts.Start Tie.the-claims Reads.Pre Reads.Post Tie.handed_clauses
+module _ (c : Else2) where
+  abbrev begun : Start
   begun = c.before.before.before.before.before.before.before.before.before.before.before
 
   -- 1 and 2 do not hold
@@ -82,23 +96,25 @@ list_rule-rule-requires c =
 
 pub returns-then-rule-ne0 : goal.returns-then-rule-ne0
 returns-then-rule-ne0 c =
-    let s = begun c.before.before.before.before in
+    let at_else = c.before.before.before.before in
+    let s = begun at_else in
     let l = c.list_rule-rule in
     said s c.refuse-then-rule-ne0.result.segment c.refuse-then-rule-ne0.result.choice (Refused l.result) c.refuse-then-rule-ne0.ensures
-    (reclaim_range_passes s.args.p s.args.offline.now (disk s) (memory s) (fits c.before.before.before.before)
-    ∙ reclaim_lengths_pass s.args.p s.args.offline.now (disk s) (memory s) (lent c.before.before.before.before)
+    (reclaim_range_passes s.args.p s.args.offline.now (disk s) (memory s) (fits at_else)
+    ∙ reclaim_lengths_pass s.args.p s.args.offline.now (disk s) (memory s) (lent at_else)
     ∙ reclaim_list_fails s.args.p s.args.offline.now (disk s) (memory s) l.result l.ensures c.if-rule-ne0.true)
 
 pub returns-then-missing-ne0 : goal.returns-then-missing-ne0
 returns-then-missing-ne0 c =
-    let s = begun c.before.before.before.before.before in
+    let at_else = c.before.before.before.before.before in
+    let s = begun at_else in
     let l = c.list_rule-rule in
     said s c.refuse-then-missing-ne0.result.segment c.refuse-then-missing-ne0.result.choice (Refused 3) c.refuse-then-missing-ne0.ensures
-    (list_done s.args.p s.args.offline.now (disk s) (memory s) (fits c.before.before.before.before.before) (lent c.before.before.before.before.before) l.result l.ensures c.if-rule-ne0.false
+    (list_done s.args.p s.args.offline.now (disk s) (memory s) (fits at_else) (lent at_else) l.result l.ensures c.if-rule-ne0.false
     ∙ reclaim_missing_fails s.args.p s.args.offline.now (disk s) (memory s) (λ e. c.if-missing-ne0.true (s.requires.2 ∙ e)))
 
-module _ (c : Lts.Else4 Tie.the-claims Reads.Pre Reads.Post Tie.handed_clauses) where
-  abbrev entered : Lts.Start Tie.the-claims Reads.Pre Reads.Post Tie.handed_clauses
+module _ (c : Else4) where
+  abbrev entered : Start
   entered = begun c.before.before.before
 
   -- nor do 10, the narrow 1 and 3
@@ -109,53 +125,66 @@ module _ (c : Lts.Else4 Tie.the-claims Reads.Pre Reads.Post Tie.handed_clauses) 
 
 pub look-seen-requires : goal.look-seen-requires
 look-seen-requires c =
+    let at_else = c.before.before.before.before in
     let s = entered c.before in
-    let l = lent_long_lem s.args.p s.args.offline.now (disk s) (memory s) (lent c.before.before.before.before) in record { p_value = fits c.before.before.before.before; whole = (record { image_long = l.0; pointers_long = l.1 }, l.5); addresses_len = (l.2, s.requires.3) }
+    let l = lent_long_lem s.args.p s.args.offline.now (disk s) (memory s) (lent at_else) in record { p_value = fits at_else; whole = (record { image_long = l.0; pointers_long = l.1 }, l.5); addresses_len = (l.2, s.requires.3) }
 
 pub returns-then-p-seen : goal.returns-then-p-seen
 returns-then-p-seen c =
-    let s = entered c.before.before.before.before.before.before.before in
+    let at_else = c.before.before.before.before.before.before.before in
+    let s = entered at_else in
     let a = s.args in
     let k = c.look-seen in
     said s c.refuse-then-p-seen.result.segment c.refuse-then-p-seen.result.choice (Refused 5) c.refuse-then-p-seen.ensures
-    (passed c.before.before.before.before.before.before.before ∙ nobody_fails a.p (view s) (state_of a.bytes.now) a.addresses.now (taken s) (k.ensures.nobody ∙ le-leb a.p.Z k.result.zone c.if-p-seen.true))
+    (passed at_else ∙ nobody_fails a.p (view s) (state_of a.bytes.now) a.addresses.now (taken s) (k.ensures.nobody ∙ le-leb a.p.Z k.result.zone c.if-p-seen.true))
 
 pub choose_copy-choice-requires : goal.choose_copy-choice-requires
 choose_copy-choice-requires c =
-    let s = entered c.before.before.before.before.before.before.before.before in
+    let at_else = c.before.before.before.before.before.before.before.before in
+    let at_else' = c.before.before.before.before.before.before.before.before.before.before.before in
+    let s = entered at_else in
     let k = c.look-seen in
-    let l = lent_long_lem s.args.p s.args.offline.now (disk s) (memory s) (lent c.before.before.before.before.before.before.before.before.before.before.before) in record { p_value = fits c.before.before.before.before.before.before.before.before.before.before.before; whole = (record { image_long = l.0; pointers_long = l.1 }, l.5); f_value = (s.requires.0, s.requires.1, s.requires.3); looked = (k.ensures, omega (arith, c.if-p-seen.false), omega (arith, c.if-seen-gt0.true)) }
+    let l = lent_long_lem s.args.p s.args.offline.now (disk s) (memory s) (lent at_else') in record { p_value = fits at_else'; whole = (record { image_long = l.0; pointers_long = l.1 }, l.5); f_value = (s.requires.0, s.requires.1, s.requires.3); looked = (k.ensures, omega (arith, c.if-p-seen.false), omega (arith, c.if-seen-gt0.true)) }
 
 pub returns-then-seen-gt0 : goal.returns-then-seen-gt0
 returns-then-seen-gt0 c =
-    let s = entered c.before.before.before.before.before.before.before.before.before in
+    let at_else = c.before.before.before.before.before.before.before.before.before in
+    let s = entered at_else in
     let a = s.args in
-    subst (λ (x : Opt Answer). Chose a.p (view s) (state_of a.bytes.now) (taken s) x c.look-seen.result.segment c.choose_copy-choice.result) (sym (passed c.before.before.before.before.before.before.before.before.before)) c.choose_copy-choice.ensures
+    subst (λ (x : Opt Answer). Chose a.p (view s) (state_of a.bytes.now) (taken s) x c.look-seen.result.segment c.choose_copy-choice.result) (sym (passed at_else)) c.choose_copy-choice.ensures
 
 pub has_fault-requires : goal.has_fault-requires
-has_fault-requires c = record { p_value = fits c.before.before.before.before.before.before.before.before.before.before.before; bytes_len = (entered c.before.before.before.before.before.before.before.before).requires.3 }
+has_fault-requires c =
+    let at_else = c.before.before.before.before.before.before.before.before.before.before.before in
+    let at_else' = c.before.before.before.before.before.before.before.before in record { p_value = fits at_else; bytes_len = (entered at_else').requires.3 }
 
 -- where none is live, the table and the state are left
-dead : (c : Lts.After-has_fault Tie.the-claims Reads.Pre Reads.Post Tie.handed_clauses) → let s = entered c.before.before.before.before.before.before.before.before in
+dead : (c : After-has_fault) → let s = entered c.before.before.before.before.before.before.before.before in
     refusal s ≡ cond c.has_fault.result (some (BadZone 0)) (first_refusal (zones [] ∷ []))
 dead c =
-    let s = entered c.before.before.before.before.before.before.before.before in
+    let at_else = c.before.before.before.before.before.before.before.before in
+    let at_look_seen = c.before.before.before.before.before.before.before in
+    let at_if_p_seen = c.before.before.before in
+    let s = entered at_else in
     let a = s.args in
-    let k = c.before.before.before.before.before.before.before.look-seen in
+    let k = at_look_seen.look-seen in
     let g = k.ensures in
-    let h : k.result.zone < a.p.Z = omega (arith, c.before.before.before.if-p-seen.false) in
-    passed c.before.before.before.before.before.before.before.before ∙ dead_checks a.p (view s) (state_of a.bytes.now) a.addresses.now (taken s) (g.nobody ∙ lt-leb a.p.Z k.result.zone h)
+    let h : k.result.zone < a.p.Z = omega (arith, at_if_p_seen.if-p-seen.false) in
+    passed at_else ∙ dead_checks a.p (view s) (state_of a.bytes.now) a.addresses.now (taken s) (g.nobody ∙ lt-leb a.p.Z k.result.zone h)
     (length-nil (victim_live (taken s)) (omega (arith, g.live, c.before.if-seen-gt0.false)))
     ∙ c.has_fault.ensures (view s) a.addresses.now [] (g.outside h)
 
 pub returns-then-has_fault : goal.returns-then-has_fault
 returns-then-has_fault c =
-    said (entered c.before.before.before.before.before.before.before.before.before.before.before) c.refuse-then-has_fault.result.segment c.refuse-then-has_fault.result.choice (BadZone 0) c.refuse-then-has_fault.ensures
-    (dead c.before.before.before ∙ ap (λ (x : Bool). cond x (some (BadZone 0)) (first_refusal (zones [] ∷ []))) c.if-has_fault.true)
+    let at_else = c.before.before.before.before.before.before.before.before.before.before.before in
+    let at_has_fault = c.before.before.before in
+    said (entered at_else) c.refuse-then-has_fault.result.segment c.refuse-then-has_fault.result.choice (BadZone 0) c.refuse-then-has_fault.ensures
+    (dead at_has_fault ∙ ap (λ (x : Bool). cond x (some (BadZone 0)) (first_refusal (zones [] ∷ []))) c.if-has_fault.true)
 
 pub returns : goal.returns
 returns c =
-    let s = entered c.before.before.before.before.before.before.before.before.before.before in
+    let at_else = c.before.before.before.before.before.before.before.before.before.before in
+    let s = entered at_else in
     let k = c.look-seen in
     let g = k.ensures in
     let h : k.result.zone < s.args.p.Z = omega (arith, c.if-p-seen.false) in (

@@ -28,31 +28,40 @@ use Rattle.call_reclaim.proofs.choose_copy.Lts
 use Rattle.call_reclaim.proofs.choose_copy.Reads
 use Rattle.call_reclaim.proofs.choose_copy.Tie
 
-abbrev view : (c : Lts.Start Tie.the-claims Reads.Pre Reads.Post Tie.handed_clauses) → View
+abbrev Start : Type 0
+Start = Lts.Start Tie.the-claims Reads.Pre Reads.Post Tie.handed_clauses
+
+abbrev After-copy_rules : Type 0
+After-copy_rules = Lts.After-copy_rules Tie.the-claims Reads.Pre Reads.Post Tie.handed_clauses
+
+abbrev After-has_fault : Type 0
+After-has_fault = Lts.After-has_fault Tie.the-claims Reads.Pre Reads.Post Tie.handed_clauses
+
+abbrev view : (c : Start) → View
 view c = view_of c.args.p c.args.offline.now c.args.image.now c.args.pointers.now
 
-abbrev state : (c : Lts.Start Tie.the-claims Reads.Pre Reads.Post Tie.handed_clauses) → State
+abbrev state : (c : Start) → State
 state c = state_of c.args.bytes.now
 
-abbrev taken : (c : Lts.Start Tie.the-claims Reads.Pre Reads.Post Tie.handed_clauses) → Opt Victim
+abbrev taken : (c : Start) → Opt Victim
 taken c = victim c.args.p (view c) c.args.addresses.now
 
 -- there is a segment, with live blocks
-some-taken : (c : Lts.Start Tie.the-claims Reads.Pre Reads.Post Tie.handed_clauses) → is_none (taken c) ≡ false
+some-taken : (c : Start) → is_none (taken c) ≡ false
 some-taken c =
     let l = c.requires.looked in
     l.0.nobody ∙ lt-leb c.args.p.Z c.args.seen.zone l.1
 
-some-live : (c : Lts.Start Tie.the-claims Reads.Pre Reads.Post Tie.handed_clauses) → is_nil (victim_live (taken c)) ≡ false
+some-live : (c : Start) → is_nil (victim_live (taken c)) ≡ false
 some-live c =
     let l = c.requires.looked in
     length_some (victim_live (taken c)) (subst (λ (x : ℕ). 0 < x) (sym l.0.live) l.2)
 
 -- all checks, where there is an idle block
-abbrev later : (c : Lts.Start Tie.the-claims Reads.Pre Reads.Post Tie.handed_clauses) → Opt Answer
+abbrev later : (c : Start) → Opt Answer
 later c = first_refusal (later_checks c.args.p (view c) (state c) c.args.addresses.now (taken c))
 
-from-rules : (c : Lts.Start Tie.the-claims Reads.Pre Reads.Post Tie.handed_clauses) → (c.args.seen.first.0 ≡ never_place → ⊥)
+from-rules : (c : Start) → (c.args.seen.first.0 ≡ never_place → ⊥)
     → later c ≡ or_next (first_refusal (copy_rules c.args.p (view c) (state c))) (first_refusal (zones (bad_zones c.args.p (view c) (state c) c.args.addresses.now (taken c)) ∷ []))
 from-rules c n =
     let a = c.args in
@@ -60,37 +69,43 @@ from-rules c n =
 
 pub returns-then-first-none : goal.returns-then-first-none
 returns-then-first-none c =
+    let start = c.before.before.before.before.before.before.before.before.before.before in
     let a = c.args in
-    idle_fails a.p (view c.before.before.before.before.before.before.before.before.before.before) (state c.before.before.before.before.before.before.before.before.before.before) a.addresses.now (taken c.before.before.before.before.before.before.before.before.before.before) (some-taken c.before.before.before.before.before.before.before.before.before.before) (some-live c.before.before.before.before.before.before.before.before.before.before) (c.requires.looked.0.none_idle ∙ eq-eqb a.seen.first.0 never_place c.if-first-none.true)
+    idle_fails a.p (view start) (state start) a.addresses.now (taken start) (some-taken start) (some-live start) (c.requires.looked.0.none_idle ∙ eq-eqb a.seen.first.0 never_place c.if-first-none.true)
 
 pub copy_rules-c-requires : goal.copy_rules-c-requires
 copy_rules-c-requires c =
+    let start = c.before.before.before.before.before.before.before.before.before.before in
     let a = c.args in
-    let q = c.requires.f_value in record { p_value = c.requires.p_value; pointers_len = (c.requires.whole.0.pointers_long, c.requires.whole.1, q.1 ∙ sym (front_aim a.p (state c.before.before.before.before.before.before.before.before.before.before) a.f q.0)) }
+    let q = c.requires.f_value in record { p_value = c.requires.p_value; pointers_len = (c.requires.whole.0.pointers_long, c.requires.whole.1, q.1 ∙ sym (front_aim a.p (state start) a.f q.0)) }
 
 -- the rules of a copy, as they come out
-rules-are : (c : Lts.After-copy_rules Tie.the-claims Reads.Pre Reads.Post Tie.handed_clauses) → checked c.copy_rules-c.result ≡ first_refusal (copy_rules c.before.before.before.before.before.before.before.before.before.before.args.p (view c.before.before.before.before.before.before.before.before.before.before) (state c.before.before.before.before.before.before.before.before.before.before))
+rules-are : (c : After-copy_rules) → checked c.copy_rules-c.result ≡ first_refusal (copy_rules c.before.before.before.before.before.before.before.before.before.before.args.p (view c.before.before.before.before.before.before.before.before.before.before) (state c.before.before.before.before.before.before.before.before.before.before))
 rules-are c =
-    c.copy_rules-c.ensures (state c.before.before.before.before.before.before.before.before.before.before) c.before.before.before.before.before.before.before.before.before.before.args.image.now c.before.before.before.before.before.before.before.before.before.before.requires.f_value.0 c.before.before.before.before.before.before.before.before.before.before.requires.whole.0.image_long
+    let start = c.before.before.before.before.before.before.before.before.before.before in
+    c.copy_rules-c.ensures (state start) start.args.image.now start.requires.f_value.0 start.requires.whole.0.image_long
 
 pub returns-in-Fail : goal.returns-in-Fail
 returns-in-Fail c =
+    let start = c.before.before.before.before.before.before.before.before.before.before.before.before in
     let a = c.args in
-    let e : first_refusal (copy_rules a.p (view c.before.before.before.before.before.before.before.before.before.before.before.before) (state c.before.before.before.before.before.before.before.before.before.before.before.before)) ≡ some c.in-Fail.answer = sym (rules-are c.before.before) ∙ ap checked c.in-Fail.is in
-    from-rules c.before.before.before.before.before.before.before.before.before.before.before.before c.if-first-none.false ∙ ap (λ (x : Opt Answer). or_next x (first_refusal (zones (bad_zones a.p (view c.before.before.before.before.before.before.before.before.before.before.before.before) (state c.before.before.before.before.before.before.before.before.before.before.before.before) a.addresses.now (taken c.before.before.before.before.before.before.before.before.before.before.before.before)) ∷ []))) e
+    let e : first_refusal (copy_rules a.p (view start) (state start)) ≡ some c.in-Fail.answer = sym (rules-are c.before.before) ∙ ap checked c.in-Fail.is in
+    from-rules start c.if-first-none.false ∙ ap (λ (x : Opt Answer). or_next x (first_refusal (zones (bad_zones a.p (view start) (state start) a.addresses.now (taken start)) ∷ []))) e
 
 pub has_fault-requires : goal.has_fault-requires
 has_fault-requires c = record { p_value = c.requires.p_value; bytes_len = c.requires.f_value.2 }
 
 -- the zones at fault, once the rules pass
-from_zones : (c : Lts.After-has_fault Tie.the-claims Reads.Pre Reads.Post Tie.handed_clauses) → let o = c.before.before.before.before.before.before.before.before.before.before.before.before.args.seen.odd in later c.before.before.before.before.before.before.before.before.before.before.before.before ≡ cond c.has_fault.result (some (BadZone 0)) (cond (eqb o 1024) none (some (BadZone o)))
+from_zones : (c : After-has_fault) → let o = c.before.before.before.before.before.before.before.before.before.before.before.before.args.seen.odd in later c.before.before.before.before.before.before.before.before.before.before.before.before ≡ cond c.has_fault.result (some (BadZone 0)) (cond (eqb o 1024) none (some (BadZone o)))
 from_zones c =
-    let a = c.before.before.before.before.before.before.before.before.before.before.before.before.args in
-    let k = c.before.before.before.before.before.before.before.before.before.before.before.before.requires.looked in
-    let e : first_refusal (copy_rules a.p (view c.before.before.before.before.before.before.before.before.before.before.before.before) (state c.before.before.before.before.before.before.before.before.before.before.before.before)) ≡ none = sym (rules-are c.before.before) ∙ ap checked c.before.in_default.is in
-    from-rules c.before.before.before.before.before.before.before.before.before.before.before.before c.before.before.before.if-first-none.false ∙ ap (λ (x : Opt Answer). or_next x (first_refusal (zones (bad_zones a.p (view c.before.before.before.before.before.before.before.before.before.before.before.before) (state c.before.before.before.before.before.before.before.before.before.before.before.before) a.addresses.now (taken c.before.before.before.before.before.before.before.before.before.before.before.before)) ∷ []))) e
-    ∙ zones_odd a.p (ranged a.p c.before.before.before.before.before.before.before.before.before.before.before.before.requires.p_value) (view c.before.before.before.before.before.before.before.before.before.before.before.before) (state c.before.before.before.before.before.before.before.before.before.before.before.before) a.addresses.now (taken c.before.before.before.before.before.before.before.before.before.before.before.before) c.has_fault.result a.seen.odd
-    (λ zs. c.has_fault.ensures (view c.before.before.before.before.before.before.before.before.before.before.before.before) a.addresses.now zs (k.0.outside k.1)) k.0.odd
+    let start = c.before.before.before.before.before.before.before.before.before.before.before.before in
+    let at_if_first_none = c.before.before.before in
+    let a = start.args in
+    let k = start.requires.looked in
+    let e : first_refusal (copy_rules a.p (view start) (state start)) ≡ none = sym (rules-are c.before.before) ∙ ap checked c.before.in_default.is in
+    from-rules start at_if_first_none.if-first-none.false ∙ ap (λ (x : Opt Answer). or_next x (first_refusal (zones (bad_zones a.p (view start) (state start) a.addresses.now (taken start)) ∷ []))) e
+    ∙ zones_odd a.p (ranged a.p start.requires.p_value) (view start) (state start) a.addresses.now (taken start) c.has_fault.result a.seen.odd
+    (λ zs. c.has_fault.ensures (view start) a.addresses.now zs (k.0.outside k.1)) k.0.odd
 
 pub returns-then-has_fault : goal.returns-then-has_fault
 returns-then-has_fault c =
@@ -99,19 +114,22 @@ returns-then-has_fault c =
 
 pub returns-then-seen-ne1024 : goal.returns-then-seen-ne1024
 returns-then-seen-ne1024 c =
+    let at_has_fault = c.before.before.before.before in
     let o = c.args.seen.odd in
-    from_zones c.before.before.before.before ∙ (let f = c.if-has_fault.false in let n = ne_eqb o 1024 c.if-seen-ne1024.true in λ j. cond (f j) (some (BadZone 0)) (cond (n j) none (some (BadZone o))))
+    from_zones at_has_fault ∙ (let f = c.if-has_fault.false in let n = ne_eqb o 1024 c.if-seen-ne1024.true in λ j. cond (f j) (some (BadZone 0)) (cond (n j) none (some (BadZone o))))
 
 pub returns : goal.returns
 returns c =
+    let at_has_fault = c.before.before.before.before in
+    let start = c.before.before.before.before.before.before.before.before.before.before.before.before.before.before.before.before in
     let a = c.args in
     let k = c.requires.looked in
     let o = a.seen.odd in
     let n = c.if-first-none.false in
     let g = k.0.found n in (
-      from_zones c.before.before.before.before ∙ (let f = c.if-has_fault.false in let z = eq-eqb o 1024 c.if-seen-ne1024.false in λ j. cond (f j) (some (BadZone 0)) (cond (z j) none (some (BadZone o)))),
-      some-live c.before.before.before.before.before.before.before.before.before.before.before.before.before.before.before.before,
-      first_found (idle a.p (view c.before.before.before.before.before.before.before.before.before.before.before.before.before.before.before.before) (state c.before.before.before.before.before.before.before.before.before.before.before.before.before.before.before.before) (taken c.before.before.before.before.before.before.before.before.before.before.before.before.before.before.before.before)) never_place a.seen.first.0 k.0.first n,
+      from_zones at_has_fault ∙ (let f = c.if-has_fault.false in let z = eq-eqb o 1024 c.if-seen-ne1024.false in λ j. cond (f j) (some (BadZone 0)) (cond (z j) none (some (BadZone o)))),
+      some-live start,
+      first_found (idle a.p (view start) (state start) (taken start)) never_place a.seen.first.0 k.0.first n,
       g.1,
       g.3 c.if-seen-ne1024.false,
       g.2,

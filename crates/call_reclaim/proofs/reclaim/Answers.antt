@@ -22,20 +22,30 @@ use Rattle.call_reclaim.proofs.reclaim.Lts
 use Rattle.call_reclaim.proofs.reclaim.Reads
 use Rattle.call_reclaim.proofs.reclaim.Tie
 
-abbrev disk : (c : Lts.Start Tie.the-claims Reads.Pre Reads.Post Tie.handed_clauses) → Disk
+abbrev Start : Type 0
+Start = Lts.Start Tie.the-claims Reads.Pre Reads.Post Tie.handed_clauses
+
+abbrev After-aim_of : Type 0
+After-aim_of = Lts.After-aim_of Tie.the-claims Reads.Pre Reads.Post Tie.handed_clauses
+
+abbrev After-choose : Type 0
+After-choose = Lts.After-choose Tie.the-claims Reads.Pre Reads.Post Tie.handed_clauses
+
+abbrev disk : (c : Start) → Disk
 disk c = mk_disk c.args.image.now c.args.pointers.now
 
-abbrev view : (c : Lts.Start Tie.the-claims Reads.Pre Reads.Post Tie.handed_clauses) → View
+abbrev view : (c : Start) → View
 view c = view_of c.args.p c.args.offline.now c.args.image.now c.args.pointers.now
 
 -- the memory with a state in it
-abbrev memory : (c : Lts.Start Tie.the-claims Reads.Pre Reads.Post Tie.handed_clauses) → State → Memory
+abbrev memory : (c : Start) → State → Memory
 memory c st = mk_memory st c.args.addresses.now c.args.compact.now c.args.inflight.now
 
 -- the aim is the state's
-aimed : (c : Lts.After-aim_of Tie.the-claims Reads.Pre Reads.Post Tie.handed_clauses) → let a = c.before.before.before.before.before.before.before.before.before.args in c.aim_of-a.result ≡ aim_of a.p a.state
+aimed : (c : After-aim_of) → let a = c.before.before.before.before.before.before.before.before.before.args in c.aim_of-a.result ≡ aim_of a.p a.state
 aimed c =
-    let a = c.before.before.before.before.before.before.before.before.before.args in
+    let start' = c.before.before.before.before.before.before.before.before.before in
+    let a = start'.args in
     c.aim_of-a.ensures ∙ front_aim a.p a.state c.before.front_of-f.result c.before.front_of-f.ensures
 
 pub choose-c-requires : goal.choose-c-requires
@@ -44,10 +54,10 @@ choose-c-requires c =
     (c.front_of-f.ensures ∙ ap front_of e, aimed c.before ∙ ap (aim_of c.args.p) e, ap (λ (x : State). x.missing) e, c.requires.1)
 
 -- what is chosen, of the state
-abbrev start : Lts.After-choose Tie.the-claims Reads.Pre Reads.Post Tie.handed_clauses → Lts.Start Tie.the-claims Reads.Pre Reads.Post Tie.handed_clauses
+abbrev start : After-choose → Start
 start c = c.before.before.before.before.before.before.before.before.before.before
 
-chosen : (c : Lts.After-choose Tie.the-claims Reads.Pre Reads.Post Tie.handed_clauses) (x : Choice) → c.choose-c.result.choice ≡ x → let s = start c in let a = s.args in
+chosen : (c : After-choose) (x : Choice) → c.choose-c.result.choice ≡ x → let s = start c in let a = s.args in
     Chose a.p (view s) a.state (victim a.p (view s) a.addresses.now) (reclaim_refusal a.p a.offline.now (disk s) (memory s a.state)) c.choose-c.result.segment x
 chosen c x q =
     let s = start c in
@@ -59,36 +69,45 @@ chosen c x q =
 
 pub reset_segment-requires : goal.reset_segment-requires
 reset_segment-requires c =
-    let h = chosen c.before.before.before.before.before.before _ c.in-Clear.is in
-    let l = lent c.args.p c.args.offline.now (disk c.before.before.before.before.before.before.before.before.before.before.before.before.before.before.before.before) (memory c.before.before.before.before.before.before.before.before.before.before.before.before.before.before.before.before c.args.state) h.0 in record { p_value = l.in_range_holds; pointers_len = (l.whole.pointers_long, l.addresses_long, l.compact_long, h.3) }
+    let at_choose = c.before.before.before.before.before.before in
+    let start' = c.before.before.before.before.before.before.before.before.before.before.before.before.before.before.before.before in
+    let h = chosen at_choose _ c.in-Clear.is in
+    let l = lent c.args.p c.args.offline.now (disk start') (memory start' c.args.state) h.0 in record { p_value = l.in_range_holds; pointers_len = (l.whole.pointers_long, l.addresses_long, l.compact_long, h.3) }
 
 pub copy_block-requires : goal.copy_block-requires
 copy_block-requires c =
+    let at_choose = c.before.before.before.before.before.before.before.before in
+    let start' = c.before.before.before.before.before.before.before.before.before.before.before.before.before.before.before.before.before.before in
+    let at_aim_of = c.before.before.before.before.before.before.before.before.before in
     let a = c.args in
     let e = c.requires.0 in
-    let h = chosen c.before.before.before.before.before.before.before.before _ c.in-Copy.is in
-    let r = subst (λ (x : State). CopyReady a.p a.offline.now (disk c.before.before.before.before.before.before.before.before.before.before.before.before.before.before.before.before.before.before) (memory c.before.before.before.before.before.before.before.before.before.before.before.before.before.before.before.before.before.before x)) e (copy_ready a.p a.offline.now (disk c.before.before.before.before.before.before.before.before.before.before.before.before.before.before.before.before.before.before) (memory c.before.before.before.before.before.before.before.before.before.before.before.before.before.before.before.before.before.before a.state) h.0 h.1) in record { copy_ready = r; f_value = (c.front_of-f.ensures ∙ ap front_of e, aimed c.before.before.before.before.before.before.before.before.before ∙ ap (aim_of a.p) e, c.requires.1); q_bound = (h.3, h.4); q_value = (h.5, h.6) }
+    let h = chosen at_choose _ c.in-Copy.is in
+    let r = subst (λ (x : State). CopyReady a.p a.offline.now (disk start') (memory start' x)) e (copy_ready a.p a.offline.now (disk start') (memory start' a.state) h.0 h.1) in record { copy_ready = r; f_value = (c.front_of-f.ensures ∙ ap front_of e, aimed at_aim_of ∙ ap (aim_of a.p) e, c.requires.1); q_bound = (h.3, h.4); q_value = (h.5, h.6) }
 
 pub returns-in-Refuse : goal.returns-in-Refuse
 returns-in-Refuse c =
+    let start' = c.before.before.before.before.before.before.before.before.before.before.before.before.before.before in
+    let at_choose = c.before.before.before.before in
     let a = c.args in
-    reclaim_refused a.p a.offline.now (disk c.before.before.before.before.before.before.before.before.before.before.before.before.before.before) (memory c.before.before.before.before.before.before.before.before.before.before.before.before.before.before a.state) a.count c.kept.result (chosen c.before.before.before.before _ c.in-Refuse.is ∙ ap (λ (x : Change). some x.answer) (sym c.kept.ensures))
+    reclaim_refused a.p a.offline.now (disk start') (memory start' a.state) a.count c.kept.result (chosen at_choose _ c.in-Refuse.is ∙ ap (λ (x : Change). some x.answer) (sym c.kept.ensures))
 
 pub returns-in-Clear : goal.returns-in-Clear
 returns-in-Clear c =
+    let at_choose = c.before.before.before.before.before.before.before.before.before.before.before.before.before in
     let r = c.reset_segment in
-    let s = start c.before.before.before.before.before.before.before.before.before.before.before.before.before in
+    let s = start at_choose in
     let a = s.args in
-    let h = chosen c.before.before.before.before.before.before.before.before.before.before.before.before.before _ c.in-Clear.is in
+    let h = chosen at_choose _ c.in-Clear.is in
     r.ensures a.state a.image.now a.inflight.now c.front_of-f.ensures
     ∙ reclaim_clear a.p a.offline.now (disk s) (memory s a.state) a.count c.choose-c.result.segment h.0 h.1 h.2
 
 pub returns-in-Copy : goal.returns-in-Copy
 returns-in-Copy c =
+    let at_choose = c.before.before.before.before.before.before.before.before.before.before.before.before.before.before.before.before.before.before.before in
     let r = c.copy_block in
-    let s = start c.before.before.before.before.before.before.before.before.before.before.before.before.before.before.before.before.before.before.before in
+    let s = start at_choose in
     let a = s.args in
-    let h = chosen c.before.before.before.before.before.before.before.before.before.before.before.before.before.before.before.before.before.before.before _ c.in-Copy.is in
+    let h = chosen at_choose _ c.in-Copy.is in
     let l = r.new in
     let place = c.in-Copy.q.0 in
     subst (λ (st : State).

@@ -14,6 +14,12 @@ use Rattle.call_reclaim_entries.proofs.add_entry.Lts
 use Rattle.call_reclaim_entries.proofs.add_entry.Reads
 use Rattle.call_reclaim_entries.proofs.add_entry.Tie
 
+abbrev After-zone_number : Type 0
+After-zone_number = Lts.After-zone_number Tie.the-claims Reads.Pre Reads.Post Tie.handed_clauses
+
+abbrev After-wide : Type 0
+After-wide = Lts.After-wide Tie.the-claims Reads.Pre Reads.Post Tie.handed_clauses
+
 pub returns-then-all-q : goal.returns-then-all-q
 returns-then-all-q c =
     let a = c.args in
@@ -25,10 +31,11 @@ zone_number-t-requires c =
     let h = c.requires.le_cap in (h.0, h.1, omega (arith, h.2, c.if-all-q.false), h.3)
 
 -- the zone is one of those numbered
-in-zones : (c : Lts.After-zone_number Tie.the-claims Reads.Pre Reads.Post Tie.handed_clauses) → c.zone_number-t.result < length c.before.before.before.before.args.segments.now
+in-zones : (c : After-zone_number) → c.zone_number-t.result < length c.before.before.before.before.args.segments.now
 in-zones c =
-    let a = c.before.before.before.before.args in
-    let h = c.before.before.before.before.requires.le_cap in
+    let start = c.before.before.before.before in
+    let a = start.args in
+    let h = start.requires.le_cap in
     let n = length a.segments.now in
     let k : a.q < n * a.cap = omega (arith, h.4, c.before.if-all-q.false) in
     subst (λ (x : ℕ). x < n) (sym c.zone_number-t.ensures) ((div-lt_iff_lt-mul {k = a.cap} {x = a.q} {y = n} (omega (arith, h.0))).1 k)
@@ -40,17 +47,20 @@ pub bounds-segments-t : goal.bounds-segments-t
 bounds-segments-t c = in-zones c.before.before
 
 -- the segment, as it is read
-its_segment : (c : Lts.After-wide Tie.the-claims Reads.Pre Reads.Post Tie.handed_clauses)
+its_segment : (c : After-wide)
     → c.wide-g.result
     ≡ get_or c.before.before.before.before.before.before.args.segments.now
     (c.before.before.before.before.before.before.args.q / c.before.before.before.before.before.before.args.cap) 0
 its_segment c =
-    c.wide-g.ensures ∙ ap (λ (x : ℕ). get_or c.before.before.before.before.before.before.args.segments.now x 0) c.before.before.zone_number-t.ensures
+    let start = c.before.before.before.before.before.before in
+    c.wide-g.ensures ∙ ap (λ (x : ℕ). get_or start.args.segments.now x 0) c.before.before.zone_number-t.ensures
 
 -- it has a count
-counted : (c : Lts.After-wide Tie.the-claims Reads.Pre Reads.Post Tie.handed_clauses) → c.wide-g.result < length c.before.before.before.before.before.before.args.used.now
+counted : (c : After-wide) → c.wide-g.result < length c.before.before.before.before.before.before.args.used.now
 counted c =
-    subst (λ (x : ℕ). x < length c.before.before.before.before.before.before.args.used.now) (sym (its_segment c)) (c.before.before.before.before.before.before.requires.cap_in_bounds (omega (arith, c.before.before.before.if-all-q.false)))
+    let start = c.before.before.before.before.before.before in
+    let at_if_all_q = c.before.before.before in
+    subst (λ (x : ℕ). x < length start.args.used.now) (sym (its_segment c)) (start.requires.cap_in_bounds (omega (arith, at_if_all_q.if-all-q.false)))
 
 pub offset_bounds-used-g : goal.offset_bounds-used-g
 offset_bounds-used-g c = omega (arith, counted c.before)

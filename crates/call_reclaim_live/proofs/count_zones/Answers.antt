@@ -15,6 +15,15 @@ use Rattle.call_reclaim_live.proofs.count_zones.Lts
 use Rattle.call_reclaim_live.proofs.count_zones.Reads
 use Rattle.call_reclaim_live.proofs.count_zones.Tie
 
+abbrev After-capacity : Type 0
+After-capacity = Lts.After-capacity Tie.the-claims Reads.Pre Reads.Post goal.the-invariant-loop-at goal.the-decreases-loop-at Tie.handed_clauses
+
+abbrev After-count_marks : Type 0
+After-count_marks = Lts.After-count_marks Tie.the-claims Reads.Pre Reads.Post goal.the-invariant-loop-at goal.the-decreases-loop-at Tie.handed_clauses
+
+abbrev After-wide : Type 0
+After-wide = Lts.After-wide Tie.the-claims Reads.Pre Reads.Post goal.the-invariant-loop-at goal.the-decreases-loop-at Tie.handed_clauses
+
 pub capacity-cap-requires : goal.capacity-cap-requires
 capacity-cap-requires c = c.requires.p_value
 
@@ -24,12 +33,15 @@ loop-at-init c =
     (omega arith, sym (zero-mul c.capacity-cap.result), refl, pre.by_index, (λ p e tb t s. s), omega arith)
 
 -- the window ends with the places
-end_low : (c : Lts.After-capacity Tie.the-claims Reads.Pre Reads.Post goal.the-invariant-loop-at goal.the-decreases-loop-at Tie.handed_clauses) → c.before.before.before.before.args.end ≤ 715825152
+end_low : (c : After-capacity) → c.before.before.before.before.args.end ≤ 715825152
 end_low c =
-    omega (arith, c.before.before.before.before.requires.first_le_end.1, places_high c.before.before.before.before.args.p (ranged c.before.before.before.before.args.p c.before.before.before.before.requires.p_value))
+    let start = c.before.before.before.before in
+    omega (arith, start.requires.first_le_end.1, places_high start.args.p (ranged start.args.p start.requires.p_value))
 
 pub overflow_add-at : goal.overflow_add-at
-overflow_add-at c = omega (arith, c.capacity-cap.ensures.2, end_low c.before.before.before)
+overflow_add-at c =
+    let at_capacity = c.before.before.before in
+    omega (arith, c.capacity-cap.ensures.2, end_low at_capacity)
 
 pub clip-to-requires : goal.clip-to-requires
 clip-to-requires c = omega arith
@@ -42,16 +54,20 @@ overflow_sub-to c = omega arith
 
 pub count_marks-n-requires : goal.count_marks-n-requires
 count_marks-n-requires c =
-    omega (arith, c.clip-to.ensures, c.loop-at.invariant.0, c.requires.first_le_end, end_low c.before.before.before.before)
+    let at_capacity = c.before.before.before.before in
+    omega (arith, c.clip-to.ensures, c.loop-at.invariant.0, c.requires.first_le_end, end_low at_capacity)
 
 -- zone t is one of the zones, and has a number
-zone-in : (c : Lts.After-count_marks Tie.the-claims Reads.Pre Reads.Post goal.the-invariant-loop-at goal.the-decreases-loop-at Tie.handed_clauses) → let a = c.before.before.before.before.before.before.before.before.args in
+zone-in : (c : After-count_marks) → let a = c.before.before.before.before.before.before.before.before.args in
     let t = c.before.before.before.loop-at.t in (t < a.p.N * a.p.Z) × (get_or a.segments.now t 0 ≤ 1024)
 zone-in c =
-    let a = c.before.before.before.before.before.before.before.before.args in
-    let l = c.before.before.before.loop-at in
-    let pre = c.before.before.before.before.before.before.before.before.requires in
-    let e : l.at ≡ l.t * capacity a.p = l.invariant.1 ∙ ap (λ (x : ℕ). l.t * x) c.before.before.before.before.capacity-cap.ensures.0 in
+    let start = c.before.before.before.before.before.before.before.before in
+    let at_loop_at = c.before.before.before in
+    let at_capacity_cap = c.before.before.before.before in
+    let a = start.args in
+    let l = at_loop_at.loop-at in
+    let pre = start.requires in
+    let e : l.at ≡ l.t * capacity a.p = l.invariant.1 ∙ ap (λ (x : ℕ). l.t * x) at_capacity_cap.capacity-cap.ensures.0 in
     let h : l.t < a.p.N * a.p.Z = zone_within a.p (ranged a.p pre.p_value) l.t (omega (arith, e, c.before.before.loop-at-test.true, pre.first_le_end.1)) in
     (h, pre.first_le_end.4.1 l.t h)
 
@@ -63,7 +79,7 @@ pub bounds-segments-t : goal.bounds-segments-t
 bounds-segments-t c = omega (arith, (zone-in c.before.before).0, c.requires.first_le_end.4.0)
 
 -- the number of its segment
-number_low : (c : Lts.After-wide Tie.the-claims Reads.Pre Reads.Post goal.the-invariant-loop-at goal.the-decreases-loop-at Tie.handed_clauses) → c.wide-g.result ≤ 1024
+number_low : (c : After-wide) → c.wide-g.result ≤ 1024
 number_low c = omega (arith, c.wide-g.ensures, (zone-in c.before.before).1)
 
 pub offset_bounds-live-g : goal.offset_bounds-live-g
@@ -75,6 +91,7 @@ bounds-live-g c =
 
 pub overflow_add-live : goal.overflow_add-live
 overflow_add-live c =
+    let at_capacity = c.before.before.before.before.before.before.before.before in
     let a = c.args in
     let l = c.loop-at in
     let clip = c.clip-to in
@@ -83,7 +100,7 @@ overflow_add-live c =
     let h : l.from ≤ a.end = omega (arith, i.0) in
     let k : clip.result - a.first ≤ a.end = omega (arith, clip.ensures) in
     let m : c.count_marks-n.result ≤ clip.result - a.first = omega (arith, c.count_marks-n.ensures.1) in
-    record { fits = sum_fits (get_or l.live g 0) c.count_marks-n.result l.from (clip.result - a.first) a.end (i.3 g (number_low c.before.before)) h m k (end_low c.before.before.before.before.before.before.before.before) }
+    record { fits = sum_fits (get_or l.live g 0) c.count_marks-n.result l.from (clip.result - a.first) a.end (i.3 g (number_low c.before.before)) h m k (end_low at_capacity) }
 
 pub offset_bounds-live-g-in-loop-at : goal.offset_bounds-live-g-in-loop-at
 offset_bounds-live-g-in-loop-at c = omega (arith, number_low c.before.before)
@@ -94,11 +111,13 @@ bounds-live-g-in-loop-at c =
 
 pub overflow_add-at-in-loop-at : goal.overflow_add-at-in-loop-at
 overflow_add-at-in-loop-at c =
-    omega (arith, c.capacity-cap.ensures.2, c.loop-at.invariant.5, end_low c.before.before.before.before.before.before.before.before)
+    let at_capacity = c.before.before.before.before.before.before.before.before in
+    omega (arith, c.capacity-cap.ensures.2, c.loop-at.invariant.5, end_low at_capacity)
 
 pub overflow_add-t : goal.overflow_add-t
 overflow_add-t c =
-    omega (arith, (zone-in c.before.before.before.before).0, zones_all c.args.p (ranged c.args.p c.requires.p_value))
+    let at_count_marks = c.before.before.before.before in
+    omega (arith, (zone-in at_count_marks).0, zones_all c.args.p (ranged c.args.p c.requires.p_value))
 
 pub loop-at-smaller : goal.loop-at-smaller
 loop-at-smaller c =

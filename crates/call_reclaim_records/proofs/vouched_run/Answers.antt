@@ -15,6 +15,9 @@ use Rattle.call_reclaim_records.proofs.vouched_run.Lts
 use Rattle.call_reclaim_records.proofs.vouched_run.Reads
 use Rattle.call_reclaim_records.proofs.vouched_run.Tie
 
+abbrev After-same : Type 0
+After-same = Lts.After-same Tie.the-claims Reads.Pre Reads.Post goal.the-invariant-loop-i goal.the-decreases-loop-i
+
 pub loop-i-init : goal.loop-i-init
 loop-i-init c = (omega arith, omega arith, omega arith)
 
@@ -46,26 +49,30 @@ pub overflow_add-q : goal.overflow_add-q
 overflow_add-q c = omega arith
 
 -- one place more
-one_more : (c : Lts.After-same Tie.the-claims Reads.Pre Reads.Post goal.the-invariant-loop-i goal.the-decreases-loop-i)
+one_more : (c : After-same)
     → c.before.before.before.before.before.loop-i.c + c.same-c.result
     ≤ length
     (pointed_from c.before.before.before.before.before.before.before.before.args.addresses.now
     c.before.before.before.before.before.before.before.before.args.l c.before.before.before.before.before.before.before.before.args.q
     (c.before.before.before.before.before.loop-i.i + 1))
 one_more c =
+    let start = c.before.before.before.before.before.before.before.before in
+    let at_loop_i = c.before.before.before.before.before in
     let clipped = c.before.before.clipped-a in
-    let s = c.before.before.before.before.before.before.before.before.args in
-    let l = c.before.before.before.before.before.loop-i in
+    let s = start.args in
+    let l = at_loop_i.loop-i in
     let tb = s.addresses.now in
     let e = c.same-c.ensures ∙ ap (λ (x : ℕ). bool_byte (eqb x (s.q + l.i))) c.before.place_at.ensures in
     let w = pointed-bit tb s.l clipped.result (s.q + l.i) clipped.ensures in
     omega (arith, l.invariant.1, e, w, run_snoc (is_pointed tb s.l) s.q l.i)
 
 -- which is no more than the places
-within : (c : Lts.After-same Tie.the-claims Reads.Pre Reads.Post goal.the-invariant-loop-i goal.the-decreases-loop-i) → c.before.before.before.before.before.loop-i.c + c.same-c.result ≤ c.before.before.before.before.before.loop-i.i + 1
+within : (c : After-same) → c.before.before.before.before.before.loop-i.c + c.same-c.result ≤ c.before.before.before.before.before.loop-i.i + 1
 within c =
-    let s = c.before.before.before.before.before.before.before.before.args in
-    omega (arith, one_more c, run_le (is_pointed s.addresses.now s.l) s.q (c.before.before.before.before.before.loop-i.i + 1))
+    let start = c.before.before.before.before.before.before.before.before in
+    let at_loop_i = c.before.before.before.before.before in
+    let s = start.args in
+    omega (arith, one_more c, run_le (is_pointed s.addresses.now s.l) s.q (at_loop_i.loop-i.i + 1))
 
 pub overflow_add-c : goal.overflow_add-c
 overflow_add-c c = omega (arith, within c.before)

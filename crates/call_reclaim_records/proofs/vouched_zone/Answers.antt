@@ -17,6 +17,9 @@ use Rattle.call_reclaim_records.proofs.vouched_zone.Lts
 use Rattle.call_reclaim_records.proofs.vouched_zone.Reads
 use Rattle.call_reclaim_records.proofs.vouched_zone.Tie
 
+abbrev After-vouched_run : Type 0
+After-vouched_run = Lts.After-vouched_run Tie.the-claims Reads.Pre Reads.Post goal.the-invariant-loop-f goal.the-decreases-loop-f Tie.handed_clauses
+
 pub per_footer-per-requires : goal.per_footer-per-requires
 per_footer-per-requires c = c.requires.p_value
 
@@ -92,7 +95,7 @@ vouched_run-c-requires c =
     )
 
 -- one footer block more
-block_more : (c : Lts.After-vouched_run Tie.the-claims Reads.Pre Reads.Post goal.the-invariant-loop-f goal.the-decreases-loop-f Tie.handed_clauses)
+block_more : (c : After-vouched_run)
     → c.before.before.before.before.loop-f.c + c.vouched_run-c.result
     ≤ length
     (pointed_from c.before.before.before.before.before.before.before.before.before.before.before.before.before.before.args.addresses.now
@@ -100,18 +103,24 @@ block_more : (c : Lts.After-vouched_run Tie.the-claims Reads.Pre Reads.Post goal
     c.before.before.before.before.before.before.before.before.place_of-first.result.0
     (c.before.before.before.before.loop-f.o + c.before.run_len-n.result))
 block_more c =
-    let a = c.before.before.before.before.before.before.before.before.before.before.before.before.before.before.args in
-    omega (arith, c.vouched_run-c.ensures, c.before.before.before.before.loop-f.invariant.2, run_add (is_pointed a.addresses.now a.p.L) c.before.before.before.before.before.before.before.before.place_of-first.result.0 c.before.before.before.before.loop-f.o c.before.run_len-n.result)
+    let start = c.before.before.before.before.before.before.before.before.before.before.before.before.before.before in
+    let at_loop_f = c.before.before.before.before in
+    let at_place_of_first = c.before.before.before.before.before.before.before.before in
+    let a = start.args in
+    omega (arith, c.vouched_run-c.ensures, at_loop_f.loop-f.invariant.2, run_add (is_pointed a.addresses.now a.p.L) at_place_of_first.place_of-first.result.0 at_loop_f.loop-f.o c.before.run_len-n.result)
 
-within : (c : Lts.After-vouched_run Tie.the-claims Reads.Pre Reads.Post goal.the-invariant-loop-f goal.the-decreases-loop-f Tie.handed_clauses)
+within : (c : After-vouched_run)
     → (c.before.before.before.before.loop-f.o + c.before.run_len-n.result
     ≤ c.before.before.before.before.before.before.before.before.before.before.before.before.before.before.args.p.S)
     × (c.before.before.before.before.loop-f.c + c.vouched_run-c.result
     ≤ c.before.before.before.before.before.before.before.before.before.before.before.before.before.before.args.p.S)
 within c =
-    let a = c.before.before.before.before.before.before.before.before.before.before.before.before.before.before.args in
-    let e : c.before.before.before.before.loop-f.o + c.before.run_len-n.result ≤ a.p.S = omega (arith, c.before.run_len-n.ensures, c.before.before.before.before.loop-f.invariant.1) in
-    (e, omega (arith, e, block_more c, run_le (is_pointed a.addresses.now a.p.L) c.before.before.before.before.before.before.before.before.place_of-first.result.0 (c.before.before.before.before.loop-f.o + c.before.run_len-n.result)))
+    let start = c.before.before.before.before.before.before.before.before.before.before.before.before.before.before in
+    let at_loop_f = c.before.before.before.before in
+    let at_place_of_first = c.before.before.before.before.before.before.before.before in
+    let a = start.args in
+    let e : at_loop_f.loop-f.o + c.before.run_len-n.result ≤ a.p.S = omega (arith, c.before.run_len-n.ensures, at_loop_f.loop-f.invariant.1) in
+    (e, omega (arith, e, block_more c, run_le (is_pointed a.addresses.now a.p.L) at_place_of_first.place_of-first.result.0 (at_loop_f.loop-f.o + c.before.run_len-n.result)))
 
 pub overflow_add-c : goal.overflow_add-c
 overflow_add-c c =
@@ -122,14 +131,18 @@ overflow_add-o c =
     omega (arith, (within c.before).0, (ranged c.args.p c.requires.p_value).stripes_high)
 
 -- the footer block lies in the image
-in_image : (c : Lts.After-vouched_run Tie.the-claims Reads.Pre Reads.Post goal.the-invariant-loop-f goal.the-decreases-loop-f Tie.handed_clauses) → c.before.before.before.before.loop-f.at ≤ 2946336325632
+in_image : (c : After-vouched_run) → c.before.before.before.before.loop-f.at ≤ 2946336325632
 unfolding capacity
 in_image c =
-    let a = c.before.before.before.before.before.before.before.before.before.before.before.before.before.before.args in
+    let start = c.before.before.before.before.before.before.before.before.before.before.before.before.before.before in
+    let at_loop_f = c.before.before.before.before in
+    let at_loop_f_test = c.before.before.before in
+    let at_footers_feet = c.before.before.before.before.before.before.before.before.before.before in
+    let a = start.args in
     let p = a.p in
-    let r = ranged p c.before.before.before.before.before.before.before.before.before.before.before.before.before.before.requires.p_value in
-    let h = c.before.before.before.before.before.before.before.before.before.before.before.before.before.before.requires.image_len in
-    omega (arith, c.before.before.before.before.loop-f.invariant.3, image_high p r, block_within p a.drive a.zone (1 + p.S + c.before.before.before.before.loop-f.f) h.2 h.3 (omega (arith, c.before.before.before.loop-f-test.true, c.before.before.before.before.before.before.before.before.before.before.footers-feet.ensures.0)))
+    let r = ranged p start.requires.p_value in
+    let h = start.requires.image_len in
+    omega (arith, at_loop_f.loop-f.invariant.3, image_high p r, block_within p a.drive a.zone (1 + p.S + at_loop_f.loop-f.f) h.2 h.3 (omega (arith, at_loop_f_test.loop-f-test.true, at_footers_feet.footers-feet.ensures.0)))
 
 pub overflow_add-at : goal.overflow_add-at
 overflow_add-at c =

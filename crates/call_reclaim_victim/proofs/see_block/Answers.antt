@@ -17,18 +17,21 @@ use Rattle.call_reclaim_victim.proofs.see_block.Lts
 use Rattle.call_reclaim_victim.proofs.see_block.Reads
 use Rattle.call_reclaim_victim.proofs.see_block.Tie
 
-zone_there : (c : Lts.Start Tie.the-claims Reads.Pre Reads.Post Tie.handed_clauses) → zone_on c.args.segment c.args.drive < c.args.p.Z
+abbrev Start : Type 0
+Start = Lts.Start Tie.the-claims Reads.Pre Reads.Post Tie.handed_clauses
+
+zone_there : (c : Start) → zone_on c.args.segment c.args.drive < c.args.p.Z
 zone_there c = low_here c.args.p c.args.segment c.args.drive c.requires.whole.1 c.requires.addresses_len.1
 
 -- the place is that of its data block
-place-there : (c : Lts.Start Tie.the-claims Reads.Pre Reads.Post Tie.handed_clauses) → c.args.at + c.args.o ≡ place_of c.args.p c.args.drive (zone_on c.args.segment c.args.drive) 1 + c.args.o
+place-there : (c : Start) → c.args.at + c.args.o ≡ place_of c.args.p c.args.drive (zone_on c.args.segment c.args.drive) 1 + c.args.o
 place-there c =
     let a = c.args in
     let h = c.requires.addresses_len in
     ap (λ (x : ℕ). x + a.o) (h.3 ∙ ap (λ (z : ℕ). place_of a.p a.drive z 1) h.2)
 
 -- the place lies in the image
-in_image : (c : Lts.Start Tie.the-claims Reads.Pre Reads.Post Tie.handed_clauses) → c.args.at + c.args.o < 715825152
+in_image : (c : Start) → c.args.at + c.args.o < 715825152
 in_image c =
     let a = c.args in
     let r = ranged a.p c.requires.p_value in
@@ -37,16 +40,21 @@ in_image c =
 
 pub record_in-record-requires : goal.record_in-record-requires
 record_in-record-requires c =
-    let h = c.requires.addresses_len in record { p_value = c.requires.p_value; image_len = (c.requires.whole.0.image_long, h.1, subst (λ (z : ℕ). z < c.args.p.Z) (sym h.2) (zone_there c.before.before.before.before.before), h.4) }
+    let start = c.before.before.before.before.before in
+    let h = c.requires.addresses_len in record { p_value = c.requires.p_value; image_len = (c.requires.whole.0.image_long, h.1, subst (λ (z : ℕ). z < c.args.p.Z) (sym h.2) (zone_there start), h.4) }
 
 pub clipped-a-requires : goal.clipped-a-requires
 clipped-a-requires c = omega (arith, (ranged c.args.p c.requires.p_value).addresses_low)
 
 pub overflow_add-q : goal.overflow_add-q
-overflow_add-q c = omega (arith, in_image c.before.before.before.before.before.before.before.before)
+overflow_add-q c =
+    let start = c.before.before.before.before.before.before.before.before in
+    omega (arith, in_image start)
 
 pub overflow_cast-q : goal.overflow_cast-q
-overflow_cast-q c = omega (arith, in_image c.before.before.before.before.before.before.before.before)
+overflow_cast-q c =
+    let start = c.before.before.before.before.before.before.before.before in
+    omega (arith, in_image start)
 
 pub place_at-there-requires : goal.place_at-there-requires
 unfolding addresses_len
@@ -59,13 +67,14 @@ returns-then-there-q c =
 
 pub next_idle-first-requires : goal.next_idle-first-requires
 next_idle-first-requires c =
+    let start = c.before.before.before.before.before.before.before.before.before.before.before.before.before in
     let a = c.args in
     let p = a.p in
     let r = ranged p c.requires.p_value in
     let h = c.requires.addresses_len in
     let q : ℕ = a.at + a.o in record { p_value = c.requires.p_value; whole = c.requires.whole; place_bound = (
-          vouched_low p r a.segment a.drive a.o q h.1 (zone_there c.before.before.before.before.before.before.before.before.before.before.before.before.before) h.4 (place-there c.before.before.before.before.before.before.before.before.before.before.before.before.before),
-          data_even p r a.segment a.drive a.o q h.1 (zone_there c.before.before.before.before.before.before.before.before.before.before.before.before.before) h.4 (place-there c.before.before.before.before.before.before.before.before.before.before.before.before.before),
+          vouched_low p r a.segment a.drive a.o q h.1 (zone_there start) h.4 (place-there start),
+          data_even p r a.segment a.drive a.o q h.1 (zone_there start) h.4 (place-there start),
           h.6,
         ) }
 
@@ -74,6 +83,7 @@ overflow_add-result c = omega (arith, c.requires.addresses_len.5)
 
 pub returns : goal.returns
 returns c =
+    let start = c.before.before.before.before.before.before.before.before.before.before.before.before.before.before.before in
     let a = c.args in
     let p = a.p in
     let tb = a.addresses.now in
@@ -82,9 +92,9 @@ returns c =
     let r = ranged p c.requires.p_value in
     let h = c.requires.addresses_len in
     let q : ℕ = a.at + a.o in
-    let live = data_live p r a.segment a.drive a.o q h.1 (zone_there c.before.before.before.before.before.before.before.before.before.before.before.before.before.before.before) h.4 (place-there c.before.before.before.before.before.before.before.before.before.before.before.before.before.before.before) tb c.clipped-a.result c.clipped-a.ensures
+    let live = data_live p r a.segment a.drive a.o q h.1 (zone_there start) h.4 (place-there start) tb c.clipped-a.result c.clipped-a.ensures
     (sym c.place_at-there.ensures ∙ c.if-there-q.false) in
-    let even = data_even p r a.segment a.drive a.o q h.1 (zone_there c.before.before.before.before.before.before.before.before.before.before.before.before.before.before.before) h.4 (place-there c.before.before.before.before.before.before.before.before.before.before.before.before.before.before.before) in
+    let even = data_even p r a.segment a.drive a.o q h.1 (zone_there start) h.4 (place-there start) in
     let s : Idle = record { first = c.next_idle-first.result; odd = 1024 } in
-    let low : q < 4294967295 = omega (arith, in_image c.before.before.before.before.before.before.before.before.before.before.before.before.before.before.before) in record { live_bound = omega arith; by_index = λ off. vouched_step p (v off) st a.segment tb q a.seen (record { live = a.seen.live + 1; first = s.first }) s live even low
+    let low : q < 4294967295 = omega (arith, in_image start) in record { live_bound = omega arith; by_index = λ off. vouched_step p (v off) st a.segment tb q a.seen (record { live = a.seen.live + 1; first = s.first }) s live even low
           (step-seen p (v off) st a.segment q a.seen s even refl (c.next_idle-first.ensures off)) refl refl }

@@ -20,18 +20,33 @@ use Rattle.call_write.proofs.checks.Lts
 use Rattle.call_write.proofs.checks.Reads
 use Rattle.call_write.proofs.checks.Tie
 
-abbrev diskIn : Lts.Start Tie.the-claims Reads.Pre Reads.Post Tie.handed_clauses → Disk
+abbrev Start : Type 0
+Start = Lts.Start Tie.the-claims Reads.Pre Reads.Post Tie.handed_clauses
+
+abbrev Else2 : Type 0
+Else2 = Lts.Else2 Tie.the-claims Reads.Pre Reads.Post Tie.handed_clauses
+
+abbrev Else3 : Type 0
+Else3 = Lts.Else3 Tie.the-claims Reads.Pre Reads.Post Tie.handed_clauses
+
+abbrev Else4 : Type 0
+Else4 = Lts.Else4 Tie.the-claims Reads.Pre Reads.Post Tie.handed_clauses
+
+abbrev Else5 : Type 0
+Else5 = Lts.Else5 Tie.the-claims Reads.Pre Reads.Post Tie.handed_clauses
+
+abbrev diskIn : Start → Disk
 diskIn s = mk_disk s.args.image.now s.args.pointers.now
 
-abbrev memoryIn : Lts.Start Tie.the-claims Reads.Pre Reads.Post Tie.handed_clauses → Memory
+abbrev memoryIn : Start → Memory
 memoryIn s = mk_memory (state_of s.args.bytes.now) s.args.addresses.now s.args.compact.now s.args.inflight.now
 
 -- the first refusal from the i-th check on
-abbrev from : Lts.Start Tie.the-claims Reads.Pre Reads.Post Tie.handed_clauses → ℕ → Opt Answer
+abbrev from : Start → ℕ → Opt Answer
 from s i = write_from s.args.p s.args.offline.now (diskIn s) (memoryIn s) s.args.address.0 s.args.block.now i
 
-module _ (c : Lts.Else2 Tie.the-claims Reads.Pre Reads.Post Tie.handed_clauses) where
-  abbrev begun : Lts.Start Tie.the-claims Reads.Pre Reads.Post Tie.handed_clauses
+module _ (c : Else2) where
+  abbrev begun : Start
   begun = c.before.before.before.before.before.before.before.before.before.before.before.before
 
   -- 1 and 2 do not hold, as far as the lent buffers go
@@ -44,7 +59,8 @@ module _ (c : Lts.Else2 Tie.the-claims Reads.Pre Reads.Post Tie.handed_clauses) 
 
 pub returns-then-not-in_range : goal.returns-then-not-in_range
 returns-then-not-in_range c =
-    write_range_fails c.args.p c.args.offline.now (diskIn c.before.before.before.before.before.before.before.before.before.before.before) (memoryIn c.before.before.before.before.before.before.before.before.before.before.before) c.args.address.0 c.args.block.now
+    let start = c.before.before.before.before.before.before.before.before.before.before.before in
+    write_range_fails c.args.p c.args.offline.now (diskIn start) (memoryIn start) c.args.address.0 c.args.block.now
     (sym c.in_range.ensures ∙ not-true c.in_range.result c.if-not-in_range.true-raw)
 
 pub lent_ok-requires : goal.lent_ok-requires
@@ -52,19 +68,21 @@ lent_ok-requires c = sym c.in_range.ensures ∙ not-false c.in_range.result c.if
 
 pub returns-then-not-lent_ok : goal.returns-then-not-lent_ok
 returns-then-not-lent_ok c =
-    write_lengths_fail c.args.p c.args.offline.now (diskIn c.before.before.before.before.before.before.before.before.before.before.before.before.before) (memoryIn c.before.before.before.before.before.before.before.before.before.before.before.before.before) c.args.address.0 c.args.block.now
-    (sym (c.lent_ok.ensures (memoryIn c.before.before.before.before.before.before.before.before.before.before.before.before.before).state) ∙ not-true c.lent_ok.result c.if-not-lent_ok.true-raw)
-    ∙ write_range_passes c.args.p c.args.offline.now (diskIn c.before.before.before.before.before.before.before.before.before.before.before.before.before) (memoryIn c.before.before.before.before.before.before.before.before.before.before.before.before.before) c.args.address.0 c.args.block.now
+    let start = c.before.before.before.before.before.before.before.before.before.before.before.before.before in
+    write_lengths_fail c.args.p c.args.offline.now (diskIn start) (memoryIn start) c.args.address.0 c.args.block.now
+    (sym (c.lent_ok.ensures (memoryIn start).state) ∙ not-true c.lent_ok.result c.if-not-lent_ok.true-raw)
+    ∙ write_range_passes c.args.p c.args.offline.now (diskIn start) (memoryIn start) c.args.address.0 c.args.block.now
     (sym c.in_range.ensures ∙ not-false c.in_range.result c.if-not-in_range.false-raw)
 
 pub returns-then-block-p : goal.returns-then-block-p
 returns-then-block-p c =
-    let s = begun c.before.before.before in
-    write_block_fails s.args.p s.args.offline.now (diskIn s) (memoryIn s) s.args.address.0 s.args.block.now (lent c.before.before.before) c.if-block-p.true
-    ∙ write_range_passes s.args.p s.args.offline.now (diskIn s) (memoryIn s) s.args.address.0 s.args.block.now (ranged c.before.before.before)
+    let at_else = c.before.before.before in
+    let s = begun at_else in
+    write_block_fails s.args.p s.args.offline.now (diskIn s) (memoryIn s) s.args.address.0 s.args.block.now (lent at_else) c.if-block-p.true
+    ∙ write_range_passes s.args.p s.args.offline.now (diskIn s) (memoryIn s) s.args.address.0 s.args.block.now (ranged at_else)
 
-module _ (c : Lts.Else3 Tie.the-claims Reads.Pre Reads.Post Tie.handed_clauses) where
-  abbrev entered : Lts.Start Tie.the-claims Reads.Pre Reads.Post Tie.handed_clauses
+module _ (c : Else3) where
+  abbrev entered : Start
   entered = begun c.before.before
 
   -- 1 and 2 do not hold
@@ -75,18 +93,20 @@ module _ (c : Lts.Else3 Tie.the-claims Reads.Pre Reads.Post Tie.handed_clauses) 
 
 pub list_rule-rule-requires : goal.list_rule-rule-requires
 list_rule-rule-requires c =
-    let s = begun c.before.before.before in record { p_value = ranged c.before.before.before; offline_len = (lent_long_lem s.args.p s.args.offline.now (diskIn s) (memoryIn s) (lent c.before.before.before)).5 }
+    let at_else = c.before.before.before in
+    let s = begun at_else in record { p_value = ranged at_else; offline_len = (lent_long_lem s.args.p s.args.offline.now (diskIn s) (memoryIn s) (lent at_else)).5 }
 
 pub returns-then-rule-ne0 : goal.returns-then-rule-ne0
 returns-then-rule-ne0 c =
-    let s = entered c.before.before.before in
+    let at_else = c.before.before.before in
+    let s = entered at_else in
     write_list_fails s.args.p s.args.offline.now (diskIn s) (memoryIn s) s.args.address.0 s.args.block.now
     c.list_rule-rule.result c.list_rule-rule.ensures c.if-rule-ne0.true
-    ∙ fitting c.before.before.before
+    ∙ fitting at_else
 
-module _ (c : Lts.Else4 Tie.the-claims Reads.Pre Reads.Post Tie.handed_clauses) where
+module _ (c : Else4) where
   -- nor do 10 and the narrow 1
-  abbrev listed : Lts.Start Tie.the-claims Reads.Pre Reads.Post Tie.handed_clauses
+  abbrev listed : Start
   listed = entered c.before.before
 
   enough : from listed 4 ≡ from listed 0
@@ -100,7 +120,7 @@ returns-then-missing-ne0 c =
     let s = listed c.before.before in
     write_missing_fails s.args.p s.args.offline.now (diskIn s) (memoryIn s) s.args.address.0 s.args.block.now (λ e. c.if-missing-ne0.true (s.requires.2 ∙ e)) ∙ enough c.before.before
 
-module _ (c : Lts.Else5 Tie.the-claims Reads.Pre Reads.Post Tie.handed_clauses) where
+module _ (c : Else5) where
   -- nor does 3
   healthy : from (listed c.before) 5 ≡ from (listed c.before) 0
   healthy =
@@ -109,18 +129,23 @@ module _ (c : Lts.Else5 Tie.the-claims Reads.Pre Reads.Post Tie.handed_clauses) 
 
 pub returns-then-p-address : goal.returns-then-p-address
 returns-then-p-address c =
-    let s = listed c.before.before.before.before in
-    write_address_fails s.args.p s.args.offline.now (diskIn s) (memoryIn s) s.args.address.0 s.args.block.now (omega (arith, c.if-p-address.true)) ∙ healthy c.before.before.before
+    let at_else = c.before.before.before.before in
+    let at_else' = c.before.before.before in
+    let s = listed at_else in
+    write_address_fails s.args.p s.args.offline.now (diskIn s) (memoryIn s) s.args.address.0 s.args.block.now (omega (arith, c.if-p-address.true)) ∙ healthy at_else'
 
 pub room_checks-requires : goal.room_checks-requires
 room_checks-requires c =
-    let s = begun c.before.before.before.before.before.before.before.before in
-    let l = lent_long_lem s.args.p s.args.offline.now (diskIn s) (memoryIn s) (lent c.before.before.before.before.before.before.before.before) in record { p_value = ranged c.before.before.before.before.before.before.before.before; pointers_len = (l.1, l.5); f_value = (s.requires.0, s.requires.1, s.requires.3) }
+    let at_else = c.before.before.before.before.before.before.before.before in
+    let s = begun at_else in
+    let l = lent_long_lem s.args.p s.args.offline.now (diskIn s) (memoryIn s) (lent at_else) in record { p_value = ranged at_else; pointers_len = (l.1, l.5); f_value = (s.requires.0, s.requires.1, s.requires.3) }
 
 pub returns : goal.returns
 returns c =
-    let s = begun c.before.before.before.before.before.before.before.before.before in
+    let at_else = c.before.before.before.before.before.before.before.before.before in
+    let at_else' = c.before.before.before.before in
+    let s = begun at_else in
     let a = s.args in
     c.room_checks.ensures a.image.now a.addresses.now a.compact.now a.inflight.now a.block.now a.address.0
-    (lent_long_lem a.p a.offline.now (diskIn s) (memoryIn s) (lent c.before.before.before.before.before.before.before.before.before)).0
-    ∙ write_address_passes a.p a.offline.now (diskIn s) (memoryIn s) a.address.0 a.block.now (omega (arith, c.if-p-address.false)) ∙ healthy c.before.before.before.before
+    (lent_long_lem a.p a.offline.now (diskIn s) (memoryIn s) (lent at_else)).0
+    ∙ write_address_passes a.p a.offline.now (diskIn s) (memoryIn s) a.address.0 a.block.now (omega (arith, c.if-p-address.false)) ∙ healthy at_else'

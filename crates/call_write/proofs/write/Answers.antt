@@ -26,28 +26,41 @@ use Rattle.call_write.proofs.write.Lts
 use Rattle.call_write.proofs.write.Reads
 use Rattle.call_write.proofs.write.Tie
 
-serial_fits : (c : Lts.Start Tie.the-claims Reads.Pre Reads.Post Tie.handed_clauses) → c.args.state.serial.0 ≤ last_count
+abbrev Start : Type 0
+Start = Lts.Start Tie.the-claims Reads.Pre Reads.Post Tie.handed_clauses
+
+abbrev After-aim_of : Type 0
+After-aim_of = Lts.After-aim_of Tie.the-claims Reads.Pre Reads.Post Tie.handed_clauses
+
+abbrev After-checks : Type 0
+After-checks = Lts.After-checks Tie.the-claims Reads.Pre Reads.Post Tie.handed_clauses
+
+abbrev After-row_at : Type 0
+After-row_at = Lts.After-row_at Tie.the-claims Reads.Pre Reads.Post Tie.handed_clauses
+
+serial_fits : (c : Start) → c.args.state.serial.0 ≤ last_count
 serial_fits c = omega arith
 
-stamp_fits : (c : Lts.Start Tie.the-claims Reads.Pre Reads.Post Tie.handed_clauses) → c.args.state.stamp.0 < 18446744073709551616
+stamp_fits : (c : Start) → c.args.state.stamp.0 < 18446744073709551616
 stamp_fits c = omega arith
 
-sized : (c : Lts.Start Tie.the-claims Reads.Pre Reads.Post Tie.handed_clauses) → RowsSized c.args.state
+sized : (c : Start) → RowsSized c.args.state
 sized c = subst RowsSized (sym c.requires.0) (read_sized c.args.bytes.now)
 
-abbrev disk : (c : Lts.Start Tie.the-claims Reads.Pre Reads.Post Tie.handed_clauses) → Disk
+abbrev disk : (c : Start) → Disk
 disk c = mk_disk c.args.image.now c.args.pointers.now
 
-abbrev memory : (c : Lts.Start Tie.the-claims Reads.Pre Reads.Post Tie.handed_clauses) → Memory
+abbrev memory : (c : Start) → Memory
 memory c = mk_memory c.args.state c.args.addresses.now c.args.compact.now c.args.inflight.now
 
 -- the aim is the state's
 aimed :
-    (c : Lts.After-aim_of Tie.the-claims Reads.Pre Reads.Post Tie.handed_clauses)
+    (c : After-aim_of)
     → c.aim_of-a.result ≡ aim_of c.before.before.before.before.before.before.before.before.before.before.args.p
     c.before.before.before.before.before.before.before.before.before.before.args.state
 aimed c =
-    let args = c.before.before.before.before.before.before.before.before.before.before.args in
+    let start' = c.before.before.before.before.before.before.before.before.before.before in
+    let args = start'.args in
     c.aim_of-a.ensures ∙ front_aim args.p args.state c.before.front_of-f.result c.before.front_of-f.ensures
 
 pub checks-c-requires : goal.checks-c-requires
@@ -56,11 +69,11 @@ checks-c-requires c =
     (c.front_of-f.ensures ∙ ap front_of e, aimed c.before ∙ ap (aim_of c.args.p) e, ap (λ (x : State). x.missing) e, c.requires.1)
 
 -- the refusal is that of the state
-abbrev start : Lts.After-checks Tie.the-claims Reads.Pre Reads.Post Tie.handed_clauses → Lts.Start Tie.the-claims Reads.Pre Reads.Post Tie.handed_clauses
+abbrev start : After-checks → Start
 start c =
     c.before.before.before.before.before.before.before.before.before.before.before
 
-checked-is : (c : Lts.After-checks Tie.the-claims Reads.Pre Reads.Post Tie.handed_clauses)
+checked-is : (c : After-checks)
     → checked c.checks-c.result ≡ write_refusal (start c).args.p (start c).args.offline.now (disk (start c)) (memory (start c)) (start c).args.address.0 (start c).args.block.now
 checked-is c =
     let s = start c in
@@ -72,70 +85,89 @@ checked-is c =
 
 pub returns-in-Fail : goal.returns-in-Fail
 returns-in-Fail c =
+    let start' = c.before.before.before.before.before.before.before.before.before.before.before.before.before.before in
+    let at_checks = c.before.before.before in
     let a = c.args in
-    write_refused a.p a.offline.now (disk c.before.before.before.before.before.before.before.before.before.before.before.before.before.before) (memory c.before.before.before.before.before.before.before.before.before.before.before.before.before.before) a.address.0 a.block.now a.count c.requires.2 c.kept.result
-    (sym (checked-is c.before.before.before) ∙ ap checked c.in-Fail.is ∙ ap (λ (x : Change). some x.answer) (sym c.kept.ensures))
+    write_refused a.p a.offline.now (disk start') (memory start') a.address.0 a.block.now a.count c.requires.2 c.kept.result
+    (sym (checked-is at_checks) ∙ ap checked c.in-Fail.is ∙ ap (λ (x : Change). some x.answer) (sym c.kept.ensures))
 
 pub open-o-requires : goal.open-o-requires
 open-o-requires c =
+    let start' = c.before.before.before.before.before.before.before.before.before.before.before.before.before.before.before in
+    let at_checks = c.before.before.before.before in
+    let at_aim_of = c.before.before.before.before.before in
     let g = c.aim_of-a in
     let f = c.front_of-f in
     let a = c.args in
-    let none! : write_refusal a.p a.offline.now (disk c.before.before.before.before.before.before.before.before.before.before.before.before.before.before.before) (memory c.before.before.before.before.before.before.before.before.before.before.before.before.before.before.before) a.address.0 a.block.now ≡ none = sym (checked-is c.before.before.before.before) ∙ ap checked c.in_default.is in
-    let r = write_ready a.p a.offline.now (disk c.before.before.before.before.before.before.before.before.before.before.before.before.before.before.before) (memory c.before.before.before.before.before.before.before.before.before.before.before.before.before.before.before) a.address.0 a.block.now none! in record { p_value = r.ranged; whole = (r.whole, r.offline_long); opens_value = ap (λ (x : Aim). x.opens) g.ensures; serial_lt_last_count = λ e.
+    let none! : write_refusal a.p a.offline.now (disk start') (memory start') a.address.0 a.block.now ≡ none = sym (checked-is at_checks) ∙ ap checked c.in_default.is in
+    let r = write_ready a.p a.offline.now (disk start') (memory start') a.address.0 a.block.now none! in record { p_value = r.ranged; whole = (r.whole, r.offline_long); opens_value = ap (λ (x : Aim). x.opens) g.ensures; serial_lt_last_count = λ e.
                 subst (λ (x : Front). x.serial.0 < last_count) (sym f.ensures)
-                (lt_of_le-ne (serial_fits c.before.before.before.before.before.before.before.before.before.before.before.before.before.before.before) (r.serial_left (ap (λ (x : Aim). x.opens) (sym (aimed c.before.before.before.before.before)) ∙ e))); nonzero = λ e. r.empties }
+                (lt_of_le-ne (serial_fits start') (r.serial_left (ap (λ (x : Aim). x.opens) (sym (aimed at_aim_of)) ∙ e))); nonzero = λ e. r.empties }
 
 pub returns-then-o : goal.returns-then-o
 returns-then-o c =
+    let start' = c.before.before.before.before.before.before.before.before.before.before.before.before.before.before.before.before.before.before.before.before.before.before.before.before.before.before.before.before in
+    let at_checks = c.before.before.before.before.before.before.before.before.before.before.before.before.before.before.before.before.before in
     let q = c.cut in
     let if1 = c.if-o in
     let front_of =
     c.front_of-f in
     let a = c.args in
-    let none! : write_refusal a.p a.offline.now (disk c.before.before.before.before.before.before.before.before.before.before.before.before.before.before.before.before.before.before.before.before.before.before.before.before.before.before.before.before) (memory c.before.before.before.before.before.before.before.before.before.before.before.before.before.before.before.before.before.before.before.before.before.before.before.before.before.before.before.before) a.address.0 a.block.now ≡ none = sym (checked-is c.before.before.before.before.before.before.before.before.before.before.before.before.before.before.before.before.before) ∙ ap checked c.in_default.is in
+    let none! : write_refusal a.p a.offline.now (disk start') (memory start') a.address.0 a.block.now ≡ none = sym (checked-is at_checks) ∙ ap checked c.in_default.is in
     let o = c.open-o in
     let k' : Disk = mk_disk o.new.image o.new.pointers in
-    let h : OpeningStores a.p a.offline.now a.state a.count (disk c.before.before.before.before.before.before.before.before.before.before.before.before.before.before.before.before.before.before.before.before.before.before.before.before.before.before.before.before) o.result k' =
-    opening_front a.p a.offline.now a.state a.count (disk c.before.before.before.before.before.before.before.before.before.before.before.before.before.before.before.before.before.before.before.before.before.before.before.before.before.before.before.before) o.result k'
-    (subst (λ (x : Front). OpeningStores a.p a.offline.now (behind x) a.count (disk c.before.before.before.before.before.before.before.before.before.before.before.before.before.before.before.before.before.before.before.before.before.before.before.before.before.before.before.before) o.result k') front_of.ensures o.ensures) in
-    ends_write_cut a.p a.offline.now (disk c.before.before.before.before.before.before.before.before.before.before.before.before.before.before.before.before.before.before.before.before.before.before.before.before.before.before.before.before) (memory c.before.before.before.before.before.before.before.before.before.before.before.before.before.before.before.before.before.before.before.before.before.before.before.before.before.before.before.before) a.address.0 a.block.now a.count c.requires.2 none! o.result k' h if1.true q.result q.new.addresses q.new.compact
+    let h : OpeningStores a.p a.offline.now a.state a.count (disk start') o.result k' =
+    opening_front a.p a.offline.now a.state a.count (disk start') o.result k'
+    (subst (λ (x : Front). OpeningStores a.p a.offline.now (behind x) a.count (disk start') o.result k') front_of.ensures o.ensures) in
+    ends_write_cut a.p a.offline.now (disk start') (memory start') a.address.0 a.block.now a.count c.requires.2 none! o.result k' h if1.true q.result q.new.addresses q.new.compact
     (ap (λ (x : Change). x.answer) q.ensures.value) q.ensures.addresses_after.0 q.ensures.addresses_after.1
 
 pub row_at-row-requires : goal.row_at-row-requires
 row_at-row-requires c =
+    let start' = c.before.before.before.before.before.before.before.before.before.before.before.before.before.before.before.before.before.before.before.before.before in
+    let at_checks = c.before.before.before.before.before.before.before.before.before.before in
+    let at_aim_of = c.before.before.before.before.before.before.before.before.before.before.before in
     let a = c.args in
-    let none! : write_refusal a.p a.offline.now (disk c.before.before.before.before.before.before.before.before.before.before.before.before.before.before.before.before.before.before.before.before.before) (memory c.before.before.before.before.before.before.before.before.before.before.before.before.before.before.before.before.before.before.before.before.before) a.address.0 a.block.now ≡ none = sym (checked-is c.before.before.before.before.before.before.before.before.before.before) ∙ ap checked c.in_default.is in (
+    let none! : write_refusal a.p a.offline.now (disk start') (memory start') a.address.0 a.block.now ≡ none = sym (checked-is at_checks) ∙ ap checked c.in_default.is in (
       c.requires.1,
-      subst (λ (x : Aim). x.slot < 8) (sym (aimed c.before.before.before.before.before.before.before.before.before.before.before))
-          (slot_lt a.p a.state (write_ready a.p a.offline.now (disk c.before.before.before.before.before.before.before.before.before.before.before.before.before.before.before.before.before.before.before.before.before) (memory c.before.before.before.before.before.before.before.before.before.before.before.before.before.before.before.before.before.before.before.before.before) a.address.0 a.block.now none!).waits),
+      subst (λ (x : Aim). x.slot < 8) (sym (aimed at_aim_of))
+          (slot_lt a.p a.state (write_ready a.p a.offline.now (disk start') (memory start') a.address.0 a.block.now none!).waits),
     )
 
 -- the row is the state's
 row_is :
-    (c : Lts.After-row_at Tie.the-claims Reads.Pre Reads.Post Tie.handed_clauses)
+    (c : After-row_at)
     → c.row_at-row.result ≡ slot_row c.before.before.before.before.before.before.before.before.before.before.before.before.before.before.before.before.before.before.before.before.before.args.state
     c.before.before.before.before.before.before.before.before.before.before.before.aim_of-a.result.slot
 row_is c =
-    let aim-of = c.before.before.before.before.before.before.before.before.before.before.before.aim_of-a in
-    subst (λ (x : State). c.row_at-row.result ≡ slot_row x aim-of.result.slot) (sym c.before.before.before.before.before.before.before.before.before.before.before.before.before.before.before.before.before.before.before.before.before.requires.0) c.row_at-row.ensures
+    let at_aim_of_a = c.before.before.before.before.before.before.before.before.before.before.before in
+    let start' = c.before.before.before.before.before.before.before.before.before.before.before.before.before.before.before.before.before.before.before.before.before in
+    let aim-of = at_aim_of_a.aim_of-a in
+    subst (λ (x : State). c.row_at-row.result ≡ slot_row x aim-of.result.slot) (sym start'.requires.0) c.row_at-row.ensures
 
 pub plan-requires : goal.plan-requires
 plan-requires c =
+    let start' = c.before.before.before.before.before.before.before.before.before.before.before.before.before.before.before.before.before.before.before.before.before.before.before in
+    let at_checks = c.before.before.before.before.before.before.before.before.before.before.before.before in
+    let at_aim_of = c.before.before.before.before.before.before.before.before.before.before.before.before.before in
     let aim-of = c.aim_of-a in
     let f = c.front_of-f in
     let a = c.args in
-    let none! : write_refusal a.p a.offline.now (disk c.before.before.before.before.before.before.before.before.before.before.before.before.before.before.before.before.before.before.before.before.before.before.before) (memory c.before.before.before.before.before.before.before.before.before.before.before.before.before.before.before.before.before.before.before.before.before.before.before) a.address.0 a.block.now ≡ none = sym (checked-is c.before.before.before.before.before.before.before.before.before.before.before.before) ∙ ap checked c.in_default.is in
-    let r = write_ready a.p a.offline.now (disk c.before.before.before.before.before.before.before.before.before.before.before.before.before.before.before.before.before.before.before.before.before.before.before) (memory c.before.before.before.before.before.before.before.before.before.before.before.before.before.before.before.before.before.before.before.before.before.before.before) a.address.0 a.block.now none! in
+    let none! : write_refusal a.p a.offline.now (disk start') (memory start') a.address.0 a.block.now ≡ none = sym (checked-is at_checks) ∙ ap checked c.in_default.is in
+    let r = write_ready a.p a.offline.now (disk start') (memory start') a.address.0 a.block.now none! in
     let o = c.open-o in
     let k' : Disk = mk_disk o.new.image o.new.pointers in
-    let h : OpeningStores a.p a.offline.now a.state a.count (disk c.before.before.before.before.before.before.before.before.before.before.before.before.before.before.before.before.before.before.before.before.before.before.before) o.result k' =
-    opening_front a.p a.offline.now a.state a.count (disk c.before.before.before.before.before.before.before.before.before.before.before.before.before.before.before.before.before.before.before.before.before.before.before) o.result k'
-    (subst (λ (x : Front). OpeningStores a.p a.offline.now (behind x) a.count (disk c.before.before.before.before.before.before.before.before.before.before.before.before.before.before.before.before.before.before.before.before.before.before.before) o.result k') f.ensures o.ensures) in record { p_value = r.ranged; slot_bound = plan_asks a.p a.offline.now (disk c.before.before.before.before.before.before.before.before.before.before.before.before.before.before.before.before.before.before.before.before.before.before.before) (memory c.before.before.before.before.before.before.before.before.before.before.before.before.before.before.before.before.before.before.before.before.before.before.before) a.address.0 a.block.now a.count c.requires.2 none! o.result k' h f.result f.ensures aim-of.result (aimed c.before.before.before.before.before.before.before.before.before.before.before.before.before)
-            c.row_at-row.result (row_is c.before.before) (stamp_fits c.before.before.before.before.before.before.before.before.before.before.before.before.before.before.before.before.before.before.before.before.before.before.before); inflight_len = (r.inflight_long, r.block_long) }
+    let h : OpeningStores a.p a.offline.now a.state a.count (disk start') o.result k' =
+    opening_front a.p a.offline.now a.state a.count (disk start') o.result k'
+    (subst (λ (x : Front). OpeningStores a.p a.offline.now (behind x) a.count (disk start') o.result k') f.ensures o.ensures) in record { p_value = r.ranged; slot_bound = plan_asks a.p a.offline.now (disk start') (memory start') a.address.0 a.block.now a.count c.requires.2 none! o.result k' h f.result f.ensures aim-of.result (aimed at_aim_of)
+            c.row_at-row.result (row_is c.before.before) (stamp_fits start'); inflight_len = (r.inflight_long, r.block_long) }
 
 pub returns : goal.returns
 returns c =
+    let start' = c.before.before.before.before.before.before.before.before.before.before.before.before.before.before.before.before.before.before.before.before.before.before.before.before.before.before in
+    let at_checks = c.before.before.before.before.before.before.before.before.before.before.before.before.before.before.before in
+    let at_aim_of = c.before.before.before.before.before.before.before.before.before.before.before.before.before.before.before.before in
+    let at_row_at = c.before.before.before.before.before in
     let q = c.plan in
     let row_at = c.row_at-row in
     let if1 = c.if-o in
@@ -143,11 +175,11 @@ returns c =
     let f =
     c.front_of-f in
     let a = c.args in
-    let none! : write_refusal a.p a.offline.now (disk c.before.before.before.before.before.before.before.before.before.before.before.before.before.before.before.before.before.before.before.before.before.before.before.before.before.before) (memory c.before.before.before.before.before.before.before.before.before.before.before.before.before.before.before.before.before.before.before.before.before.before.before.before.before.before) a.address.0 a.block.now ≡ none = sym (checked-is c.before.before.before.before.before.before.before.before.before.before.before.before.before.before.before) ∙ ap checked c.in_default.is in
+    let none! : write_refusal a.p a.offline.now (disk start') (memory start') a.address.0 a.block.now ≡ none = sym (checked-is at_checks) ∙ ap checked c.in_default.is in
     let o = c.open-o in
     let k' : Disk = mk_disk o.new.image o.new.pointers in
-    let h : OpeningStores a.p a.offline.now a.state a.count (disk c.before.before.before.before.before.before.before.before.before.before.before.before.before.before.before.before.before.before.before.before.before.before.before.before.before.before) o.result k' =
-    opening_front a.p a.offline.now a.state a.count (disk c.before.before.before.before.before.before.before.before.before.before.before.before.before.before.before.before.before.before.before.before.before.before.before.before.before.before) o.result k'
-    (subst (λ (x : Front). OpeningStores a.p a.offline.now (behind x) a.count (disk c.before.before.before.before.before.before.before.before.before.before.before.before.before.before.before.before.before.before.before.before.before.before.before.before.before.before) o.result k') f.ensures o.ensures) in
-    ends_plan a.p a.offline.now (disk c.before.before.before.before.before.before.before.before.before.before.before.before.before.before.before.before.before.before.before.before.before.before.before.before.before.before) (memory c.before.before.before.before.before.before.before.before.before.before.before.before.before.before.before.before.before.before.before.before.before.before.before.before.before.before) a.address.0 a.block.now a.count c.requires.2 none! o.result k' h f.result f.ensures aim-of.result (aimed c.before.before.before.before.before.before.before.before.before.before.before.before.before.before.before.before)
-    row_at.result (row_is c.before.before.before.before.before) (sized c.before.before.before.before.before.before.before.before.before.before.before.before.before.before.before.before.before.before.before.before.before.before.before.before.before.before) if1.false q.result q.new.inflight q.ensures.value q.ensures.inflight_after
+    let h : OpeningStores a.p a.offline.now a.state a.count (disk start') o.result k' =
+    opening_front a.p a.offline.now a.state a.count (disk start') o.result k'
+    (subst (λ (x : Front). OpeningStores a.p a.offline.now (behind x) a.count (disk start') o.result k') f.ensures o.ensures) in
+    ends_plan a.p a.offline.now (disk start') (memory start') a.address.0 a.block.now a.count c.requires.2 none! o.result k' h f.result f.ensures aim-of.result (aimed at_aim_of)
+    row_at.result (row_is at_row_at) (sized start') if1.false q.result q.new.inflight q.ensures.value q.ensures.inflight_after

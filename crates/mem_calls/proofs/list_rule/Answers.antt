@@ -10,8 +10,14 @@ use Rattle.mem_calls.proofs.list_rule.Lts
 use Rattle.mem_calls.proofs.list_rule.Reads
 use Rattle.mem_calls.proofs.list_rule.Tie
 
-module _ (c : Lts.After-most_with Tie.the-claims Reads.Pre Reads.Post Tie.handed_clauses) where
-  abbrev begun : Lts.Start Tie.the-claims Reads.Pre Reads.Post Tie.handed_clauses
+abbrev After-most_with : Type 0
+After-most_with = Lts.After-most_with Tie.the-claims Reads.Pre Reads.Post Tie.handed_clauses
+
+abbrev Start : Type 0
+Start = Lts.Start Tie.the-claims Reads.Pre Reads.Post Tie.handed_clauses
+
+module _ (c : After-most_with) where
+  abbrev begun : Start
   begun = c.before.before.before.before
 
   few-is : few_good begun.args.p begun.args.offline.now ≡ ltb c.before.good_count-n.result 4
@@ -30,15 +36,18 @@ module _ (c : Lts.After-most_with Tie.the-claims Reads.Pre Reads.Post Tie.handed
 
 pub returns-then-few : goal.returns-then-few
 returns-then-few c =
-    let a = (begun c.before.before.before).args in
-    sym (list_few a.p a.offline.now (few-is c.before.before.before ∙ c.if-few.true-raw))
+    let at_most_with = c.before.before.before in
+    let a = (begun at_most_with).args in
+    sym (list_few a.p a.offline.now (few-is at_most_with ∙ c.if-few.true-raw))
 
 pub returns-then-narrow : goal.returns-then-narrow
 returns-then-narrow c =
-    let a = (begun c.before.before.before.before).args in
-    sym (list_narrow a.p a.offline.now (few-is c.before.before.before.before ∙ c.if-few.false-raw) (narrow-is c.before.before.before.before ∙ c.if-narrow.true-raw))
+    let at_most_with = c.before.before.before.before in
+    let a = (begun at_most_with).args in
+    sym (list_narrow a.p a.offline.now (few-is at_most_with ∙ c.if-few.false-raw) (narrow-is at_most_with ∙ c.if-narrow.true-raw))
 
 pub returns : goal.returns
 returns c =
-    let a = (begun c.before.before.before.before).args in
-    sym (list_fits a.p a.offline.now (few-is c.before.before.before.before ∙ c.if-few.false-raw) (narrow-is c.before.before.before.before ∙ c.if-narrow.false-raw))
+    let at_most_with = c.before.before.before.before in
+    let a = (begun at_most_with).args in
+    sym (list_fits a.p a.offline.now (few-is at_most_with ∙ c.if-few.false-raw) (narrow-is at_most_with ∙ c.if-narrow.false-raw))

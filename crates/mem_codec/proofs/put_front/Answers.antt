@@ -12,22 +12,36 @@ use Rattle.mem_codec.proofs.put_front.Lts
 use Rattle.mem_codec.proofs.put_front.Reads
 use Rattle.mem_codec.proofs.put_front.Tie
 
-live_fits : (c : Lts.Start Tie.the-claims Reads.Pre Reads.Post) → c.args.live < 256
+abbrev Start : Type 0
+Start = Lts.Start Tie.the-claims Reads.Pre Reads.Post
+
+abbrev After-write_le64 : Type 0
+After-write_le64 = Lts.After-write_le64 Tie.the-claims Reads.Pre Reads.Post
+
+abbrev After-write_le642 : Type 0
+After-write_le642 = Lts.After-write_le642 Tie.the-claims Reads.Pre Reads.Post
+
+abbrev After-write_le643 : Type 0
+After-write_le643 = Lts.After-write_le643 Tie.the-claims Reads.Pre Reads.Post
+
+live_fits : (c : Start) → c.args.live < 256
 live_fits c = search rules
 
-missing_fits : (c : Lts.Start Tie.the-claims Reads.Pre Reads.Post) → c.args.missing < 256
+missing_fits : (c : Start) → c.args.missing < 256
 missing_fits c = search rules
 
-long-1 : (c : Lts.After-write_le64 Tie.the-claims Reads.Pre Reads.Post) → length c.write_le64.new.dst ≡ length c.before.before.before.args.dst.now
+long-1 : (c : After-write_le64) → length c.write_le64.new.dst ≡ length c.before.before.before.args.dst.now
 long-1 c = c.write_le64.auto.dst ∙ simp length-set
 
-long-2 : (c : Lts.After-write_le642 Tie.the-claims Reads.Pre Reads.Post) → length c.write_le64-2.new.dst ≡ length c.before.before.before.before.before.before.before.args.dst.now
+long-2 : (c : After-write_le642) → length c.write_le64-2.new.dst ≡ length c.before.before.before.before.before.before.before.args.dst.now
 long-2 c =
-    c.write_le64-2.auto.dst ∙ long-1 c.before.before.before.before
+    let at_write_le = c.before.before.before.before in
+    c.write_le64-2.auto.dst ∙ long-1 at_write_le
 
-long-3 : (c : Lts.After-write_le643 Tie.the-claims Reads.Pre Reads.Post) → length c.write_le64-3.new.dst ≡ length c.before.before.before.before.before.before.before.before.before.before.before.args.dst.now
+long-3 : (c : After-write_le643) → length c.write_le64-3.new.dst ≡ length c.before.before.before.before.before.before.before.before.before.before.before.args.dst.now
 long-3 c =
-    c.write_le64-3.auto.dst ∙ long-2 c.before.before.before.before
+    let at_write_le = c.before.before.before.before in
+    c.write_le64-3.auto.dst ∙ long-2 at_write_le
 
 pub bounds-dst-1 : goal.bounds-dst-1
 bounds-dst-1 c = simp length-set (omega arith)
@@ -37,25 +51,30 @@ write_le64-requires c = simp length-set (omega arith)
 
 pub write_le64-requires-2 : goal.write_le64-requires-2
 write_le64-requires-2 c =
+    let at_write_le = c.before.before.before in
     let pre = c.requires in
-    omega (arith, long-1 c.before.before.before, pre)
+    omega (arith, long-1 at_write_le, pre)
 
 pub write_le64-requires-3 : goal.write_le64-requires-3
 write_le64-requires-3 c =
+    let at_write_le = c.before.before.before in
     let pre = c.requires in
-    omega (arith, long-2 c.before.before.before, pre)
+    omega (arith, long-2 at_write_le, pre)
 
 pub write_le32-requires : goal.write_le32-requires
 write_le32-requires c =
+    let at_write_le = c.before.before.before in
     let pre = c.requires in
-    omega (arith, long-3 c.before.before.before, pre)
+    omega (arith, long-3 at_write_le, pre)
 
 pub shape_of-dst : goal.shape_of-dst
 shape_of-dst c =
-    c.write_le32.auto.dst ∙ long-3 c.before.before.before.before.before.before.before
+    let at_write_le = c.before.before.before.before.before.before.before in
+    c.write_le32.auto.dst ∙ long-3 at_write_le
 
 pub returns : goal.returns
 returns c =
+    let start = c.before.before.before.before.before.before.before.before.before.before.before.before.before.before.before.before.before.before in
     let a = c.args in
     let write-le32 = c.write_le32 in
     let write-le643 = c.write_le64-3 in
@@ -66,4 +85,4 @@ returns c =
     ∙ ap (λ (x : List ℕ). splice x 26 (to_le 4 a.next)) (write-le643.ensures
     ∙ ap (λ (x : List ℕ). splice x 18 (to_le 8 a.opened)) (write-le642.ensures
     ∙ ap (λ (x : List ℕ). splice x 10 (to_le 8 a.serial)) write-le64.ensures))
-    ∙ state_front_written a.dst.now a.live a.missing a.stamp a.serial a.opened a.next (live_fits c.before.before.before.before.before.before.before.before.before.before.before.before.before.before.before.before.before.before) (missing_fits c.before.before.before.before.before.before.before.before.before.before.before.before.before.before.before.before.before.before) (pre)
+    ∙ state_front_written a.dst.now a.live a.missing a.stamp a.serial a.opened a.next (live_fits start) (missing_fits start) (pre)

@@ -15,6 +15,12 @@ use Rattle.mem_state.proofs.is_held.Lts
 use Rattle.mem_state.proofs.is_held.Reads
 use Rattle.mem_state.proofs.is_held.Tie
 
+abbrev After-wide : Type 0
+After-wide = Lts.After-wide Tie.the-claims Reads.Pre Reads.Post goal.the-invariant-loop-k goal.the-decreases-loop-k
+
+abbrev After-is_cell : Type 0
+After-is_cell = Lts.After-is_cell Tie.the-claims Reads.Pre Reads.Post goal.the-invariant-loop-k goal.the-decreases-loop-k
+
 pub overflow_add-i : goal.overflow_add-i
 overflow_add-i c = omega arith
 
@@ -22,11 +28,12 @@ pub bounds-bytes-i : goal.bounds-bytes-i
 bounds-bytes-i c = omega (arith, state_len_lem)
 
 -- the positions filled
-filled_is : (c : Lts.After-wide Tie.the-claims Reads.Pre Reads.Post goal.the-invariant-loop-k goal.the-decreases-loop-k) → c.wide-f.result ≡ filled_in_of (state_of c.before.before.before.args.bytes.now) c.before.before.before.args.i
+filled_is : (c : After-wide) → c.wide-f.result ≡ filled_in_of (state_of c.before.before.before.args.bytes.now) c.before.before.before.args.i
 filled_is c =
-    let a = c.before.before.before.args in
-    let h : 62 + a.i < length a.bytes.now = omega (arith, state_len_lem, c.before.before.before.requires.0, c.before.before.before.requires.1) in
-    c.wide-f.ensures ∙ le_of_part-one (62 + a.i) a.bytes.now h ∙ filled_read a.bytes.now a.i c.before.before.before.requires.1
+    let start = c.before.before.before in
+    let a = start.args in
+    let h : 62 + a.i < length a.bytes.now = omega (arith, state_len_lem, start.requires.0, start.requires.1) in
+    c.wide-f.ensures ∙ le_of_part-one (62 + a.i) a.bytes.now h ∙ filled_read a.bytes.now a.i start.requires.1
 
 pub loop-k-init : goal.loop-k-init
 unfolding held_in_of
@@ -39,10 +46,11 @@ loop-k-init c =
 
 pub returns-then-f-k : goal.returns-then-f-k
 returns-then-f-k c =
+    let at_wide = c.before.before.before.before in
     let a = c.args in
     let l = c.loop-k in
     let st = state_of a.bytes.now in
-    sym (empty_rest st a.address.0 a.stamp.0 a.i l.k l.invariant.0 (omega (arith, c.if-f-k.true, filled_is c.before.before.before.before))) ∙ l.invariant.1
+    sym (empty_rest st a.address.0 a.stamp.0 a.i l.k l.invariant.0 (omega (arith, c.if-f-k.true, filled_is at_wide))) ∙ l.invariant.1
 
 pub overflow_mul-i : goal.overflow_mul-i
 overflow_mul-i c = omega arith
@@ -52,14 +60,17 @@ overflow_add-i-in-loop-k c = omega arith
 
 -- a filled position
 cell_is :
-    (c : Lts.After-is_cell Tie.the-claims Reads.Pre Reads.Post goal.the-invariant-loop-k goal.the-decreases-loop-k)
+    (c : After-is_cell)
     → c.is_cell.result ≡ holds_at (state_of c.before.before.before.before.before.before.before.args.bytes.now)
     c.before.before.before.before.before.before.before.args.address.0 c.before.before.before.before.before.before.before.args.stamp.0
     (8 * c.before.before.before.before.before.before.before.args.i + c.before.before.before.loop-k.k)
 cell_is c =
-    let a = c.before.before.before.before.before.before.before.args in
-    let l = c.before.before.before.loop-k in
-    let g = filled_is c.before.before.before.before in
+    let at_wide = c.before.before.before.before in
+    let start = c.before.before.before.before.before.before.before in
+    let at_loop_k = c.before.before.before in
+    let a = start.args in
+    let l = at_loop_k.loop-k in
+    let g = filled_is at_wide in
     c.is_cell.ensures
     ∙ filled-cell (state_of a.bytes.now) a.address.0 a.stamp.0 a.i l.k (omega (arith, c.before.before.loop-k-test.true)) (omega (arith, c.before.if-f-k.false, g))
 

@@ -14,6 +14,9 @@ use Rattle.recover_addresses.proofs.cand_at.Lts
 use Rattle.recover_addresses.proofs.cand_at.Reads
 use Rattle.recover_addresses.proofs.cand_at.Tie
 
+abbrev After-shared_slice_known8 : Type 0
+After-shared_slice_known8 = Lts.After-shared_slice_known8 Tie.the-claims Reads.Pre Reads.Post Tie.handed_clauses
+
 pub place_drive-drive-requires : goal.place_drive-drive-requires
 place_drive-drive-requires c = c.requires.ground.in_range_holds
 
@@ -44,7 +47,7 @@ offline_at-requires c =
 
 -- the index is that of the place's zone
 index :
-    (c : Lts.After-shared_slice_known8 Tie.the-claims Reads.Pre Reads.Post Tie.handed_clauses)
+    (c : After-shared_slice_known8)
     → c.before.offline_at.result
     ≡ place_drive c.before.before.before.before.before.before.before.before.before.before.before.before.args.p
     c.before.before.before.before.before.before.before.before.before.before.before.before.args.place.0
@@ -52,18 +55,22 @@ index :
     + place_zone c.before.before.before.before.before.before.before.before.before.before.before.before.args.p
     c.before.before.before.before.before.before.before.before.before.before.before.before.args.place.0
 index c =
-    let a = c.before.before.before.before.before.before.before.before.before.before.before.before.args in
+    let start = c.before.before.before.before.before.before.before.before.before.before.before.before in
+    let at_place_drive_drive = c.before.before.before.before in
+    let at_place_zone_zone = c.before.before.before in
+    let a = start.args in
     c.before.offline_at.ensures.0
-    ∙ ap₂ (λ (d z : ℕ). d * a.p.Z + z) c.before.before.before.before.place_drive-drive.ensures.0 c.before.before.before.place_zone-zone.ensures.0
+    ∙ ap₂ (λ (d z : ℕ). d * a.p.Z + z) at_place_drive_drive.place_drive-drive.ensures.0 at_place_zone_zone.place_zone-zone.ensures.0
 
 -- the row is one
 low :
-    (c : Lts.After-shared_slice_known8 Tie.the-claims Reads.Pre Reads.Post Tie.handed_clauses)
+    (c : After-shared_slice_known8)
     → get_or c.before.before.before.before.before.before.before.before.before.before.before.before.args.owners.now c.before.offline_at.result 0
     < c.before.before.before.before.before.before.before.before.before.before.before.before.args.p.Z
 low c =
-    let a = c.before.before.before.before.before.before.before.before.before.before.before.before.args in
-    let q = c.before.before.before.before.before.before.before.before.before.before.before.before.requires in
+    let start = c.before.before.before.before.before.before.before.before.before.before.before.before in
+    let a = start.args in
+    let q = start.requires in
     let v : View = view_of a.p a.offline.now a.image.now a.pointers.now in
     let (h, k, e, x) = q.has_cand in
     (owner_row a.p (ranged a.p q.ground.in_range_holds) v a.gone q.ground.here q.ground.apart h k.0 a.owners.now q.gathered.owners_are a.place.0
@@ -111,17 +118,20 @@ stamp_at-stamp-requires c =
 
 pub offset_bounds-serials-z : goal.offset_bounds-serials-z
 offset_bounds-serials-z c =
+    let at_shared_slice_known = c.before.before.before in
     let a = c.args in
     let q = c.requires in
-    omega (arith, low c.before.before.before, (ranged a.p q.ground.in_range_holds).zones_high)
+    omega (arith, low at_shared_slice_known, (ranged a.p q.ground.in_range_holds).zones_high)
 
 pub bounds-serials-z : goal.bounds-serials-z
 bounds-serials-z c =
+    let at_shared_slice_known = c.before.before.before.before in
     let q = c.requires in
-    omega (arith, low c.before.before.before.before, q.gathered.serials_are.0)
+    omega (arith, low at_shared_slice_known, q.gathered.serials_are.0)
 
 pub returns : goal.returns
 returns c =
+    let at_shared_slice_known = c.before.before.before.before in
     let a = c.args in
     let q = c.requires in
     let stamp-at = c.stamp_at-stamp in
@@ -134,7 +144,7 @@ returns c =
     let ed = place_drive_lem.ensures.0 in
     let eo : place_block_lem.result - 1 ≡ place_block a.p a.place.0 - 1 = ap (λ (y : ℕ). y - 1) place_block_lem.ensures.0 in
     λ h k e x.
-    let o = owner_row a.p r v a.gone q.ground.here q.ground.apart h k.0 a.owners.now q.gathered.owners_are a.place.0 z e (ap (λ (i : ℕ). get_or a.owners.now i 0) (index c.before.before.before.before)) in
+    let o = owner_row a.p r v a.gone q.ground.here q.ground.apart h k.0 a.owners.now q.gathered.owners_are a.place.0 z e (ap (λ (i : ℕ). get_or a.owners.now i 0) (index at_shared_slice_known)) in
     let es : row.result ≡ k.0.of = row.ensures ∙ o.row_is a.rows.now q.gathered.rows_are in
     let l : LiesIn a.p v a.gone a.compact.now place_drive_lem.result row.result (place_block_lem.result - 1) k.0.stripe =
     lies_same a.p v a.gone a.compact.now (place_drive a.p a.place.0) k.0.of (place_block a.p a.place.0 - 1) k.0.stripe

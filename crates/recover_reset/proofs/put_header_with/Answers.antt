@@ -21,6 +21,9 @@ use Rattle.recover_reset.proofs.put_header_with.Lts
 use Rattle.recover_reset.proofs.put_header_with.Reads
 use Rattle.recover_reset.proofs.put_header_with.Tie
 
+abbrev After-put_limited-arg2 : Type 0
+After-put_limited-arg2 = Lts.After-put_limited-arg2 Tie.the-claims Reads.Pre Reads.Post Tie.handed_clauses
+
 pub write_header-requires : goal.write_header-requires
 write_header-requires c =
     let pre = c.requires in
@@ -28,7 +31,7 @@ write_header-requires c =
 
 -- the block and its length
 block_is :
-    (c : Lts.After-put_limited-arg2 Tie.the-claims Reads.Pre Reads.Post Tie.handed_clauses)
+    (c : After-put_limited-arg2)
     → take c.before.before.before.before.before.before.before.before.before.before.args.p.B
     c.before.before.before.before.write_header.new.dst ≡ header_block
     c.before.before.before.before.before.before.before.before.before.before.args.p
@@ -38,22 +41,25 @@ block_is :
     c.before.before.before.before.before.before.before.before.before.before.args.serial.0
     c.before.before.before.before.before.before.before.before.before.before.args.copied.0
 block_is c =
-    let a = c.before.before.before.before.before.before.before.before.before.before.args in
-    let write-header = c.before.before.before.before.write_header in
-    let pre = c.before.before.before.before.before.before.before.before.before.before.requires in
+    let start = c.before.before.before.before.before.before.before.before.before.before in
+    let at_write_header = c.before.before.before.before in
+    let a = start.args in
+    let write-header = at_write_header.write_header in
+    let pre = start.requires in
     let r = ranged a.p pre.p_value in
     let h = header_block a.p a.drive (zones_in a.p a.segment) a.serial.0 a.copied.0 in
     ap (take a.p.B) write-header.ensures ∙ take_at h zero_spare a.p.B
     (header_block_long a.p r a.drive (zones_in a.p a.segment) a.serial.0 a.copied.0 (zones_in_long a.p a.segment))
 
 block_long :
-    (c : Lts.After-put_limited-arg2 Tie.the-claims Reads.Pre Reads.Post Tie.handed_clauses)
+    (c : After-put_limited-arg2)
     → length (take c.before.before.before.before.before.before.before.before.before.before.args.p.B
     c.before.before.before.before.write_header.new.dst) ≡
     c.before.before.before.before.before.before.before.before.before.before.args.p.B
 block_long c =
-    let a = c.before.before.before.before.before.before.before.before.before.before.args in
-    let pre = c.before.before.before.before.before.before.before.before.before.before.requires in
+    let start = c.before.before.before.before.before.before.before.before.before.before in
+    let a = start.args in
+    let pre = start.requires in
     let r = ranged a.p pre.p_value in
     ap length (block_is c) ∙ header_block_long a.p r a.drive (zones_in a.p a.segment) a.serial.0 a.copied.0 (zones_in_long a.p a.segment)
 
@@ -73,6 +79,7 @@ put_limited-requires c =
 
 pub returns : goal.returns
 returns c =
+    let at_put_limited_arg = c.before.before.before.before.before.before in
     let a = c.args in
     let put-limited = c.put_limited in
     let write-header = c.write_header in
@@ -80,5 +87,5 @@ returns c =
     let k = mk_disk a.image.now a.pointers.now in
     let k' = mk_disk put-limited.new.image put-limited.new.pointers in
     let m = put-limited.result in
-    subst (λ (x : List ℕ). Storing a.p a.count (put a.drive a.zone x zero_spare ∷ []) k m k') (block_is c.before.before.before.before.before.before)
+    subst (λ (x : List ℕ). Storing a.p a.count (put a.drive a.zone x zero_spare ∷ []) k m k') (block_is at_put_limited_arg)
     (subst (λ (x : List ℕ). Storing a.p a.count (put a.drive a.zone (take a.p.B write-header.new.dst) x ∷ []) k m k') pre.drive_lt_n.4 put-limited.ensures)
