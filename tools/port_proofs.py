@@ -163,7 +163,7 @@ class Fn:
         self.oldplace = {norm(p[0]): p[0] for p in entry["places"]}
         self.stepof = {norm(p[0]): p[2][1] for p in entry["places"]}
         # the places of an arm are one, behind what is matched
-        armed = {norm(p[0]): a[0] for p, a in zip(entry["places"], entry["arms"]) if a}
+        armed = self.armed = {norm(p[0]): a[0] for p, a in zip(entry["places"], entry["arms"]) if a}
         for k in armed:
             top = self.parent[k]
             while top in armed and armed[top] == armed[k]:
@@ -228,7 +228,7 @@ class Fn:
         many = self.entry["pre"] or any(self.entry["clauses"]) or any(len(k) > 1 for c in called + [self.own] for k in c)
         several = " Tie.handed_clauses" if many else ""
         claims = "Tie.the-claims Reads.Pre Reads.Post" + "".join(f" goal.the-invariant-{l[0][1]} goal.the-decreases-{l[0][1]}" for l in self.entry["loops"]) + several
-        return f"Lts.{self.oldplace[place]} {claims}"
+        return f"Lts.{'Past-' if place in self.armed else ''}{self.oldplace[place]} {claims}"
 
     def turn(self, body):
         body = re.sub(r"(?:\.before)+(?![\w'-])", "", body)

@@ -169,7 +169,7 @@ returns-then-scarce c =
 pub state_ok-requires : goal.state_ok-requires
 state_ok-requires c =
     let at_else = c.before.before.before in
-    let w = two at_else in record { p_value = ranged w; bytes_len = (begun w).pre.2 }
+    let w = two at_else in record { p_value = ranged w; bytes_len = (begun w).requires.2 }
 
 pub returns-then-not-state_ok : goal.returns-then-not-state_ok
 returns-then-not-state_ok c =

@@ -35,7 +35,7 @@ abbrev After-checks : Type 0
 After-checks = Lts.After-checks Tie.the-claims Reads.Pre Reads.Post Tie.handed_clauses
 
 abbrev After-enum_told : Type 0
-After-enum_told = Lts.After-enum_told Tie.the-claims Reads.Pre Reads.Post Tie.handed_clauses
+After-enum_told = Lts.Past-After-enum_told Tie.the-claims Reads.Pre Reads.Post Tie.handed_clauses
 
 abbrev After-row_at : Type 0
 After-row_at = Lts.After-row_at Tie.the-claims Reads.Pre Reads.Post Tie.handed_clauses

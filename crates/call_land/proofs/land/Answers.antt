@@ -27,7 +27,7 @@ abbrev Start : Type 0
 Start = Lts.Start Tie.the-claims Reads.Pre Reads.Post Tie.handed_clauses
 
 abbrev After-enum_told : Type 0
-After-enum_told = Lts.After-enum_told Tie.the-claims Reads.Pre Reads.Post Tie.handed_clauses
+After-enum_told = Lts.Past-After-enum_told Tie.the-claims Reads.Pre Reads.Post Tie.handed_clauses
 
 pub look_at-seen-requires : goal.look_at-seen-requires
 look_at-seen-requires c = c.requires

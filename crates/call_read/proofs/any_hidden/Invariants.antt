@@ -16,7 +16,7 @@ use Rattle.call_read.proofs.any_hidden.Given as goal
 
 -- some drive from d on just if any
 abbrev pub invariant-loop-d : goal.invariant-loop-d
-invariant-loop-d l = (l.d ≤ l.p.N) × (any (hidden l.p l.at) (up_from l.d (l.p.N - l.d)) ≡ any_hidden l.p l.at)
+invariant-loop-d l = (l.d ≤ l.p.N) × (any (λ e. eqb (get_or l.at e 0) l.p.S) (up_from l.d (l.p.N - l.d)) ≡ any_hidden l.p l.at)
 
 abbrev pub decreases-loop-d : goal.decreases-loop-d
 decreases-loop-d l = l.p.N - l.d

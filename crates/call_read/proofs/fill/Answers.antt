@@ -49,7 +49,7 @@ told : (c : After-seek) (x : Sought) → c.seek-sought.result ≡ x
     → SoughtBy (start c).args.p (start c).args.offline.now (disk (start c)) (memory (start c)) (start c).args.address.0 (length (start c).args.block.now) x (starts c)
 told c x e =
     let s = start c in
-    subst (λ (y : Sought). SoughtBy s.args.p s.args.offline.now (disk s) (memory s) s.args.address.0 (length s.args.block.now) y (starts c)) e c.seek-sought.ensures
+    subst (λ (y : Sought). SoughtBy s.args.p s.args.offline.now (disk s) (memory s) s.args.address.0 (length s.args.block.now) y (starts c)) e (c.seek-sought.ensures.result_value, c.seek-sought.ensures.gives)
 
 -- no check refuses it
 ready : (c : After-seek) (x : Sought) → c.seek-sought.result ≡ x → refused_by x ≡ none

@@ -42,7 +42,7 @@ left : (c : After-seek) (x : Sought) → c.seek-sought.result ≡ x
 left c x e =
     let s = start c in
     ap (λ (y : Sought). mk_after (find_answer s.args.p y) (disk s) (memory s) []) (sym e)
-    ∙ find_left s.args.p s.args.offline.now (disk s) (memory s) s.args.address.0 c.seek-sought.result c.seek-sought.new.bytes c.seek-sought.ensures
+    ∙ find_left s.args.p s.args.offline.now (disk s) (memory s) s.args.address.0 c.seek-sought.result c.seek-sought.new.bytes (c.seek-sought.ensures.result_value, c.seek-sought.ensures.gives)
 
 pub place_byte-requires : goal.place_byte-requires
 place_byte-requires c =

@@ -29,58 +29,34 @@ use native.Mathlib.Nat.{add-zero, add_comm}
 use native.Mathlib.Omega.{arith}
 use types.Run.{OneOf}
 use Rattle.call_read.proofs.part.Goals as goal
-use Rattle.call_read.proofs.part.Lts
-use Rattle.call_read.proofs.part.Reads
-use Rattle.call_read.proofs.part.Tie
-
-abbrev After-find : Type 0
-After-find = Lts.After-find Tie.the-claims Reads.Pre Reads.Post
-
-abbrev After-answer : Type 0
-After-answer = Lts.After-answer Tie.the-claims Reads.Pre Reads.Post
-
-answered :
-    (c : After-find)
-    → c.find-answer.result ≡ (call_disk c.before.before.before.before.before.before.before.before.args.p
-    c.before.before.before.before.before.before.before.before.args.offline.now
-    (mk_disk c.before.before.before.before.before.before.before.before.args.image.now
-    c.before.before.before.before.before.before.before.before.args.pointers.now)
-    (mk_memory (state_of c.before.before.before.before.before.before.before.before.args.state.now)
-    c.before.before.before.before.before.before.before.before.args.addresses.now
-    c.before.before.before.before.before.before.before.before.args.compact.now
-    c.before.before.before.before.before.before.before.before.args.inflight.now)
-    (read c.before.before.before.before.before.before.before.before.args.address.0)).answer
-answered c = ap (λ (x : After Disk). x.answer) c.find-answer.ensures
-
-within :
-    (c : After-answer)
-    → c.in-Part.at + c.before.before.before.before.before.before.before.before.before.args.p.B ≤ length
-    c.before.before.before.before.before.before.before.before.before.args.image.now
-within c =
-    let start = c.before.before.before.before.before.before.before.before.before in
-    let a = start.args in
-    part_within a.p a.offline.now (mk_disk a.image.now a.pointers.now)
-    (mk_memory (state_of a.state.now) a.addresses.now a.compact.now a.inflight.now) a.address.0 c.in-Part.at c.in-Part.field-1
-    (sym (answered c.before) ∙ c.in-Part.is)
 
 pub overflow_add-e : goal.overflow_add-e
-overflow_add-e c = omega (arith, within c)
+overflow_add-e c =
+    let a = c.args in
+    let h : c.in-Part.at + a.p.B ≤ length a.image.now =
+        part_within a.p a.offline.now (mk_disk a.image.now a.pointers.now)
+        (mk_memory (state_of a.state.now) a.addresses.now a.compact.now a.inflight.now) a.address.0 c.in-Part.at c.in-Part.field-1
+        (sym (ap (λ (x : After Disk). x.answer) c.find-answer.ensures) ∙ c.in-Part.is) in
+    omega (arith, h)
 
 pub slice_bounds-result-end : goal.slice_bounds-result-end
-slice_bounds-result-end c = within c
+slice_bounds-result-end c =
+    let a = c.args in
+    part_within a.p a.offline.now (mk_disk a.image.now a.pointers.now)
+    (mk_memory (state_of a.state.now) a.addresses.now a.compact.now a.inflight.now) a.address.0 c.in-Part.at c.in-Part.field-1
+    (sym (ap (λ (x : After Disk). x.answer) c.find-answer.ensures) ∙ c.in-Part.is)
 
 pub returns-in-Part : goal.returns-in-Part
 returns-in-Part c =
-    let at_find = c.before.before.before.before in
     let a = c.args in
     let at = c.in-Part.at in
-    let e = sym (answered at_find) ∙ c.in-Part.is in
+    let e = sym (ap (λ (x : After Disk). x.answer) c.find-answer.ensures) ∙ c.in-Part.is in
     let e₁ = ap part_at e ∙ (part_here a.p at c.in-Part.field-1).0 in
     let e₂ = ap (part_len a.p) e ∙ (part_here a.p at c.in-Part.field-1).1 in
     record {
       bytes = part_lent at a.p.B a.image.now ∙ (λ j. part (sym e₁ j) (sym e₂ j) a.image.now);
       object = refl;
-      offset = add_comm at a.image.ptr.1 ∙ ap (λ (x : ℕ). a.image.ptr.1 + x) (sym e₁);
+      offset = add_comm at a.image.ref_ptr.1 ∙ ap (λ (x : ℕ). a.image.ref_ptr.1 + x) (sym e₁);
     }
 
 or_true : (a b : Bool) → b ≡ true → (a || b) ≡ true
@@ -120,11 +96,11 @@ pub returns : goal.returns
 returns c =
     let a = c.args in
     let find = c.find-answer in
-    let e = part_none a.p find.result (no_part find.result c.in_default.keys2) in
-    let e₁ = e.0 ∙ ap part_at (answered c.before.before) in
-    let e₂ = e.1 ∙ ap (part_len a.p) (answered c.before.before) in
+    let e = part_none a.p find.result (no_part find.result c.in_default.in_default-own.keys2) in
+    let e₁ = e.0 ∙ ap part_at (ap (λ (x : After Disk). x.answer) c.find-answer.ensures) in
+    let e₂ = e.1 ∙ ap (part_len a.p) (ap (λ (x : After Disk). x.answer) c.find-answer.ensures) in
     record {
       bytes = sym (part-zero 0 a.image.now) ∙ (λ j. part (e₁ j) (e₂ j) a.image.now);
       object = refl;
-      offset = sym (add-zero a.image.ptr.1) ∙ ap (λ (x : ℕ). a.image.ptr.1 + x) e₁;
+      offset = sym (add-zero a.image.ref_ptr.1) ∙ ap (λ (x : ℕ). a.image.ref_ptr.1 + x) e₁;
     }

@@ -157,7 +157,7 @@ returns-then-not-state_ok c =
 pub missing-gone-requires : goal.missing-gone-requires
 missing-gone-requires c =
     let at_else = c.before.before.before in
-    (addressed at_else).pre.0
+    (addressed at_else).requires.0
 
 -- what is so before the lookup
 module _ (c : Else6) where
