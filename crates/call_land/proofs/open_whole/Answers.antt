@@ -55,8 +55,8 @@ open_segment-segment-requires c =
     let at_open_zone = c.before.before.before in
     let b = begun at_open_zone in
     let r = ranged b.args.p b.requires.p_value in
-    let q = remains c c.if-first-p.false in
-    let l = low c c.if-first-p.false in record { p_value = b.requires.p_value; whole = (b.requires.whole.0, b.requires.whole.1); serial_value = (q, l, found_zone b.args.p r (view at_open_zone) b.args.opened 0 c.open_zone-first.result q (omega (arith, r.drives_low)) (λ st e. (said at_open_zone).1 st e l)) }
+    let q = remains at_open_zone c.if-first-p.false in
+    let l = low at_open_zone c.if-first-p.false in record { p_value = b.requires.p_value; whole = (b.requires.whole.0, b.requires.whole.1); serial_value = (q, l, found_zone b.args.p r (view at_open_zone) b.args.opened 0 c.open_zone-first.result q (omega (arith, r.drives_low)) (λ st e. (said at_open_zone).1 st e l)) }
 
 pub zone_on-zone-requires : goal.zone_on-zone-requires
 zone_on-zone-requires c =
@@ -68,7 +68,7 @@ returns c =
     let at_open_zone = c.before.before.before.before.before in
     let b = begun at_open_zone in
     let r = ranged b.args.p b.requires.p_value in
-    let q = remains c c.if-first-p.false in
+    let q = remains at_open_zone c.if-first-p.false in
     let g = c.open_segment-segment in
     let o : OpenedOn b.args.p (view at_open_zone) b.args.drive b.args.opened c.zone_on-zone.result =
     opened_at b.args.p r (view at_open_zone) b.args.drive b.args.opened c.zone_on-zone.result q b.requires.whole.2

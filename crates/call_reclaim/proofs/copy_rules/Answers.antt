@@ -15,7 +15,7 @@ use mathlib.Core.Bool.{false, ◌&&◌}
 use mathlib.Core.List.{List}
 use mathlib.Core.Path.{◌≡◌, sym, ap, ◌∙◌}
 use Rattle.call_reclaim.proofs.copy_rules.Goals as goal
-use Rattle.call_reclaim.proofs.copy_rules.Goals.{After-must_wait-wait, After-no_serial, Start}
+use Rattle.call_reclaim.proofs.copy_rules.Goals.{After-must_wait-wait, After-no_serial}
 
 serial_is : (c : After-no_serial) (st : State) → c.args.f ≡ front_of st → no_serial c.args.p st ≡ c.no_serial.result
 serial_is c st e =
@@ -23,24 +23,22 @@ serial_is c st e =
     sym (front_serial a.p st a.f e a.a (c.requires.pointers_len.2 ∙ front_aim a.p st a.f e)) ∙ sym c.no_serial.ensures
 
 module _ (c : After-must_wait-wait) (st : State) where
-  abbrev begun : Start
-  begun = c
-
-  module _ (e : begun.args.f ≡ front_of st) where
+  module _ (e : c.args.f ≡ front_of st) where
     -- 6 does not hold
-    counted : no_serial begun.args.p st ≡ false
+    counted : no_serial c.args.p st ≡ false
     counted =
-        serial_is c st e ∙ c.if-no_serial.false
+        let a = c.args in
+        sym (front_serial a.p st a.f e a.a (c.requires.pointers_len.2 ∙ front_aim a.p st a.f e)) ∙ sym c.no_serial.ensures ∙ c.if-no_serial.false
 
-    full_is : (im : List ℕ) → length im ≡ image_len begun.args.p
-        → (opens begun.args.p st && scarce begun.args.p (view_of begun.args.p begun.args.offline.now im begun.args.pointers.now) 1) ≡ c.copy_full-full.result
+    full_is : (im : List ℕ) → length im ≡ image_len c.args.p
+        → (opens c.args.p st && scarce c.args.p (view_of c.args.p c.args.offline.now im c.args.pointers.now) 1) ≡ c.copy_full-full.result
     full_is im h =
-        let a = begun.args in
-        ap (λ (x : Aim). x.opens && scarce a.p (view_of a.p a.offline.now im a.pointers.now) 1) (sym (begun.requires.pointers_len.2 ∙ front_aim a.p st a.f e))
+        let a = c.args in
+        ap (λ (x : Aim). x.opens && scarce a.p (view_of a.p a.offline.now im a.pointers.now) 1) (sym (c.requires.pointers_len.2 ∙ front_aim a.p st a.f e))
         ∙ sym (c.copy_full-full.ensures im h)
 
-    wait-is : must_wait begun.args.p st ≡ c.must_wait-wait.result
-    wait-is = sym (front_wait begun.args.p st begun.args.f e) ∙ sym c.must_wait-wait.ensures
+    wait-is : must_wait c.args.p st ≡ c.must_wait-wait.result
+    wait-is = sym (front_wait c.args.p st c.args.f e) ∙ sym c.must_wait-wait.ensures
 
 pub returns-then-no_serial : goal.returns-then-no_serial
 returns-then-no_serial c =
@@ -57,15 +55,18 @@ must_wait-wait-requires c =
 
 pub returns-then-full : goal.returns-then-full
 returns-then-full c = λ st im e h.
-    let a = (begun c st).args in
-    rules_full a.p (view_of a.p a.offline.now im a.pointers.now) st (counted c st e) (full_is c st e im h ∙ c.if-full.true)
+    let w = (goal.at.returns-then-full c).After-must_wait-wait in
+    let a = c.args in
+    rules_full a.p (view_of a.p a.offline.now im a.pointers.now) st (counted w st e) (full_is w st e im h ∙ c.if-full.true)
 
 pub returns-then-wait : goal.returns-then-wait
 returns-then-wait c = λ st im e h.
-    let a = (begun c st).args in
-    rules_wait a.p (view_of a.p a.offline.now im a.pointers.now) st (counted c st e) (full_is c st e im h ∙ c.if-full.false) (wait-is c st e ∙ c.if-wait.true)
+    let w = (goal.at.returns-then-wait c).After-must_wait-wait in
+    let a = c.args in
+    rules_wait a.p (view_of a.p a.offline.now im a.pointers.now) st (counted w st e) (full_is w st e im h ∙ c.if-full.false) (wait-is w st e ∙ c.if-wait.true)
 
 pub returns : goal.returns
 returns c = λ st im e h.
-    let a = (begun c st).args in
-    rules_pass a.p (view_of a.p a.offline.now im a.pointers.now) st (counted c st e) (full_is c st e im h ∙ c.if-full.false) (wait-is c st e ∙ c.if-wait.false)
+    let w = (goal.at.returns c).After-must_wait-wait in
+    let a = c.args in
+    rules_pass a.p (view_of a.p a.offline.now im a.pointers.now) st (counted w st e) (full_is w st e im h ∙ c.if-full.false) (wait-is w st e ∙ c.if-wait.false)

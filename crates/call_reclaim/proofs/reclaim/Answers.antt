@@ -111,6 +111,6 @@ returns-in-Copy c =
     let l = r.new in
     let place = c.in-Copy.q.0 in
     subst (λ (st : State).
-    after_change st r.result l.1.0 l.1.1.0 l.1.1.1.1.0 l.1.1.1.1.1.0 l.1.1.1.1.1.1.0 []
+    after_change st r.result l.image l.pointers l.addresses l.compact l.inflight []
     ≡ outcome a.p (store_disk a.p) a.count (disk s) (memory s st) [] (due (copy_plan a.p (view s) (memory s st) place))) (sym s.requires.0) r.ensures
     ∙ reclaim_copy a.p a.offline.now (disk s) (memory s a.state) a.count place h.0 h.1 h.2
