@@ -161,7 +161,7 @@ module _ (c : Else5) where
 
 pub state_ok-requires : goal.state_ok-requires
 state_ok-requires c =
-    let at_else = c.before.before.before.before.before.before.before in record { p_value = ranged at_else; bytes_len = (asked c.before.before).requires.1.1 }
+    let at_else = c.before.before.before.before.before.before.before in record { p_value = ranged at_else; bytes_len = (asked c.before.before).requires.missing_value.1 }
 
 pub returns-then-not-state_ok : goal.returns-then-not-state_ok
 returns-then-not-state_ok c =

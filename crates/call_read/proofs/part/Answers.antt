@@ -9,6 +9,7 @@ use Rattle.spec.specs.Engine.Call.{read}
 use Rattle.spec.specs.Lists.{any, is_member_of}
 use Rattle.spec.specs.Memory.{mk_memory, state_of}
 use Rattle.spec.specs.declared.Answer.{Answer}
+use Rattle.spec.specs.declared.Stamp.{Stamp}
 use Rattle.spec.specs.declared.Answer.TheVariants.{Refused, BadZone, Cut, Sent, Landed, Closed, Copied, Reset, Part, Never, Lost, Filled, Restarted, Rebuilt, Nothing}
 use Rattle.spec.specs.contracts.Answer.{the_type}
 use Rattle.law_basic.specs.Ranges.{not_both}
@@ -59,23 +60,9 @@ returns-in-Part c =
       offset = add_comm at a.image.ref_ptr.1 ∙ ap (λ (x : ℕ). a.image.ref_ptr.1 + x) (sym e₁);
     }
 
-or_true : (a b : Bool) → b ≡ true → (a || b) ≡ true
-or_true true b e = refl
-or_true false b e = e
-
-one_of : (ks : List ℕ) (x : ℕ) → OneOf ks x → is_member_of x ks ≡ true
-unfolding is_member_of any
-one_of [] x h = absurd h
-one_of (k ∷ []) x e = ap (λ (b : Bool). b || is_member_of x []) (eq-eqb x k e)
-one_of (k ∷ l ∷ ks) x (inl e) = ap (λ (b : Bool). b || is_member_of x (l ∷ ks)) (eq-eqb x k e)
-one_of (k ∷ l ∷ ks) x (inr h) = or_true (eqb x k) (is_member_of x (l ∷ ks)) (one_of (l ∷ ks) x h)
-
 -- an answer of another kind
-abbrev others : List ℕ
-others = 0 ∷ 1 ∷ 2 ∷ 3 ∷ 4 ∷ 5 ∷ 6 ∷ 7 ∷ 9 ∷ 10 ∷ 11 ∷ 12 ∷ 13 ∷ 14 ∷ []
-
-no_part : (r : Answer) → OneOf others (tag_of the_type r) → eqb (kind r) 8 ≡ false
-unfolding kind is_member_of any
+no_part : (r : Answer) → ((n : ℕ) (t : Stamp) → r ≡ Part n t → ⊥) → eqb (kind r) 8 ≡ false
+unfolding kind
 no_part (Refused n) h = refl
 no_part (BadZone z) h = refl
 no_part Cut h = refl
@@ -84,7 +71,7 @@ no_part (Landed n) h = refl
 no_part (Closed s) h = refl
 no_part (Copied t s d) h = refl
 no_part (Reset z) h = refl
-no_part (Part n t) h = absurd (not_both (is_member_of 8 others) (one_of others 8 h) refl)
+no_part (Part n t) h = absurd (h n t refl)
 no_part Never h = refl
 no_part (Lost t) h = refl
 no_part (Filled t) h = refl
@@ -96,7 +83,7 @@ pub returns : goal.returns
 returns c =
     let a = c.args in
     let find = c.find-answer in
-    let e = part_none a.p find.result (no_part find.result c.in_default.in_default-own.keys2) in
+    let e = part_none a.p find.result (no_part find.result c.in_default.not-Part) in
     let e₁ = e.0 ∙ ap part_at (ap (λ (x : After Disk). x.answer) c.find-answer.ensures) in
     let e₂ = e.1 ∙ ap (part_len a.p) (ap (λ (x : After Disk). x.answer) c.find-answer.ensures) in
     record {
