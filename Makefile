@@ -4,7 +4,7 @@
 # make test       all tests (the same as .ci/run)
 # make install    headers, archives and pkg-config file under PREFIX (DESTDIR is put before it)
 # make uninstall  takes them away
-# make clean      removes what was made of C; make distclean the proofs too
+# make clean      removes what was made of C; make distclean the proofs too (crates/*/out)
 PREFIX ?= /usr/local
 DESTDIR ?=
 VERSION = $(shell sed -n 's/^\#define SORGIZHED_VERSION "\(.*\)"/\1/p' include/sorgizhed.h)
@@ -30,12 +30,13 @@ kit:
 	@rt version >/dev/null 2>&1 || { echo "rt, the command of the Rattle kit, is not there: this text is proved and compiled with one of: $$(tr '\n' ';' <kit.txt)" >&2; exit 1; }
 	@logic=$$(rt version | awk '{ print $$NF }'); awk '{ print $$NF }' kit.txt | grep -qxF "$$logic" || { echo "this machine has $$(rt version), whose logic is none of those in kit.txt ($$(tr '\n' ';' <kit.txt)), so the proofs may not hold here. Install one of these kits, or add yours to kit.txt and run make test" >&2; exit 1; }
 
-$(OUT)/libsorgizhed.a: crates.txt $(shell find crates -type f -not -path '*/wrong/*' -not -path '*/must-fail/*') | kit
+# rt lib proves the crates that api_c is made of, where that is still to be done, and compiles them; it keeps its work in crates/*/out
+$(OUT)/libsorgizhed.a: crates.txt $(shell find crates -name out -prune -o -type f -not -path '*/wrong/*' -not -path '*/must-fail/*' -print) | kit
 	@mkdir -p $(OUT)
-	@echo "proving and compiling the engine: about ten minutes from nothing on two cores"
-	@{ rt staticlib api_c 2>&1; echo $$? >$(OUT)/status; } | tee $(OUT)/staticlib.log | grep --line-buffered '^rt:' | grep --line-buffered -v unchanged; \
-	test "$$(cat $(OUT)/status)" = 0 || { tail -40 $(OUT)/staticlib.log; exit 1; }
-	@cp target/staticlib/libapi_c.a $@
+	@echo "proving and compiling the engine: long from nothing, later only what changed"
+	@{ (cd crates/api_c && rt lib) 2>&1; echo $$? >$(OUT)/status; } | tee $(OUT)/lib.log | grep --line-buffered -E '^(rt|crate)\b' | grep --line-buffered -vE 'begins with|fix-imports' | sed -u 's/^crate \([a-z0-9_]*\):.*/checked: \1/'; \
+	test "$$(cat $(OUT)/status)" = 0 || { tail -40 $(OUT)/lib.log; exit 1; }
+	@cp crates/api_c/out/libapi_c.a $@
 
 # the helper between calls and drives, and the example host over it
 $(OUT)/host/%.o: host/%.c $(HOST_HEADERS)
@@ -92,6 +93,6 @@ clean:
 	for f in tests/c/*.c; do p=$(OUT)/$$(basename "$$f" .c); rm -f "$$p" "$$p-sane"; done
 
 distclean:
-	rm -rf target
+	rm -rf target crates/*/out
 
 .PHONY: all demo test install uninstall clean distclean kit
