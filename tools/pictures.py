@@ -155,9 +155,9 @@ def listed():
     floors = {}
     with open(os.path.join(ROOT, "crates.txt")) as f:
         for line in f:
-            name = line.split("#")[0].split(":")[0].strip()
+            name = line.split("#")[0].split(":")[0].split()[:1]
             if name:
-                floors.setdefault(name.split("_")[0], []).append(name)
+                floors.setdefault(name[0].split("_")[0], []).append(name[0])
     return floors
 
 

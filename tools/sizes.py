@@ -40,8 +40,8 @@ if len(sys.argv) > 1:
     seconds = {m.group(1): int(m.group(2)) for m in re.finditer(r"^rt: (\w+) proved \((\d+) s\)", Path(sys.argv[1]).read_text(), re.M)}
 sizes = {}
 for entry in Path("crates.txt").read_text().splitlines():
-    name = entry.split(":")[0].strip()
-    if name and not name.startswith("#"):
+    name = next(iter(entry.split("#")[0].split(":")[0].split()), None)
+    if name:
         c = "crates/" + name
         parts = [lines(c + "/src", ".rt", "//"), lines(c + "/specs", ".antt", "--"), lines(c + "/proofs", ".antt", "--")]
         sizes[name] = [p[0] for p in parts] + [sum(p[1] for p in parts) // 1000] + ([seconds.get(name, 0)] if seconds else [])
