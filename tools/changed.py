@@ -1,9 +1,10 @@
 #!/usr/bin/env python3
 """What changed between two commits, by crate: tools/changed.py OLD NEW prints a table of lines changed (added and removed) of the lines that NEW has, without blanks, comments and
 `use` lines. Definitions are the text of crates/spec; promises that of crates/spec_demands and every contract (`requires`, `ensures`); laws the specs of the other crates but the
-theorems'; proofs the proofs/ folders and the specs of the theorems' crates; code what src/lib.rt has beside its contracts. Crates with no change are left out; wrong programs and
-must-fail edits do not count. A line that moves to another file counts twice."""
+theorems'; proofs the proofs/ folders, the specs of the theorems' crates and the tactics that src/lib.rt asks for; code what src/lib.rt has beside these and its contracts. Crates with
+no change are left out; wrong programs and must-fail edits do not count. A line that moves to another file counts twice."""
 import io
+import re
 import subprocess
 import sys
 import tarfile
@@ -13,6 +14,8 @@ from pathlib import Path
 
 KINDS = ["definitions", "promises", "laws", "proofs", "code"]
 OWN = {"spec": "definitions", "spec_demands": "promises"}
+CLAUSE = re.compile(r"(?:requires|ensures)(?: [^\s{]+)? \{")
+TACTIC = re.compile(r"#!?\[tactic\b")
 
 
 def kind_of(crate, folder):
@@ -23,12 +26,12 @@ def kind_of(crate, folder):
 
 def sorted_lines(crate, folder, text):
     """the lines that count, each with its kind"""
-    contract = False
+    depth = 0  # of the brackets of a clause, which may run over several lines
     for line in (x.strip() for x in text.splitlines()):
         if line and not line.startswith(("--", "//", "use ", "pub use ", "ghost use ")):
-            contract = contract or folder == "src" and line.startswith(("requires {", "ensures {"))
-            yield ("promises" if contract else kind_of(crate, folder)), line
-            contract = contract and not line.endswith("⌝ }")
+            contract = depth > 0 or folder == "src" and CLAUSE.match(line) is not None
+            yield ("promises" if contract else "proofs" if folder == "src" and TACTIC.match(line) else kind_of(crate, folder)), line
+            depth += line.count("{") - line.count("}") if contract else 0
 
 
 def tree(commit, root):

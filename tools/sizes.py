@@ -1,7 +1,6 @@
 #!/usr/bin/env python3
 """Lines of each listed crate, without blanks, comments and `use` lines, and thousands of characters of these lines: code, definitions and laws, proofs; then the same for what each call has of its own.
-With the file of what `rt ci` printed, also the seconds of each proof: tools/sizes.py [LOG]"""
-import re
+With a file of lines `NAME SECONDS`, also the seconds that each crate's proof took: tools/sizes.py [TIMES]. (rt tells no times: `rt ci --anew NAME`, once what NAME lists is kept, takes those of one crate.)"""
 import sys
 from pathlib import Path
 
@@ -37,7 +36,7 @@ def row(name, figures):
 
 seconds = {}
 if len(sys.argv) > 1:
-    seconds = {m.group(1): int(m.group(2)) for m in re.finditer(r"^rt: (\w+) proved \((\d+) s\)", Path(sys.argv[1]).read_text(), re.M)}
+    seconds = {name: round(float(took)) for name, took in (line.split() for line in Path(sys.argv[1]).read_text().splitlines())}
 sizes = {}
 for entry in Path("crates.txt").read_text().splitlines():
     name = next(iter(entry.split("#")[0].split(":")[0].split()), None)

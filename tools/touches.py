@@ -1,6 +1,6 @@
 #!/usr/bin/env python3
 """Which crates cite some definitions: tools/touches.py NAME .. prints each crate but the definitions' own with the number of its files that name one of them, and
-those whose files open one (`unfolding`, `unfold .. in`): what is proved from a definition's text, and so moves with it."""
+those whose files open one (`unfolding`, `unfold .. in`, `unfolding(..)` of an attribute): what is proved from a definition's text, and so moves with it."""
 import re
 import sys
 from pathlib import Path
@@ -13,9 +13,10 @@ def words(text):
 
 
 def opened(text):
-    """the names behind each `unfolding`, which may run over deeper lines, and each `unfold .. in`"""
+    """the names behind each `unfolding`, which may run over deeper lines, each `unfold .. in`, and each `unfolding(..)` of an attribute"""
     found = re.findall(r"^( *)unfolding\b(.*(?:\n\1 +[^\n]*)*)", text, re.M)
-    return set(" ".join([n for _, n in found] + re.findall(r"\bunfold ((?:[^\s(){};,]+ )+?)in\b", text)).split())
+    asked = [path.strip().split("::")[-1] for paths in re.findall(r"\bunfolding\(([^)]*)\)", text) for path in paths.split(",")]
+    return set(" ".join([n for _, n in found] + re.findall(r"\bunfold ((?:[^\s(){};,]+ )+?)in\b", text) + asked).split())
 
 
 def citing(names, files):
@@ -31,7 +32,8 @@ def said(found):
     return "%d crates, %d files: %s" % (len(found), sum(n for _, n in found), crates) if found else "none"
 
 
-texts = [(f.parts[1], f.read_text()) for f in sorted(Path("crates").rglob("*")) if f.suffix in (".antt", ".rt")]
+folders = [d for part in ("src", "specs", "proofs") for d in Path("crates").glob("*/" + part)]
+texts = [(f.parts[1], f.read_text()) for d in folders for f in sorted(d.rglob("*")) if f.suffix in (".antt", ".rt")]
 names = set(sys.argv[1:])
 print("cited: " + said(citing(names, [(c, words(t)) for c, t in texts])))
 print("opened: " + said(citing(names, [(c, opened(t)) for c, t in texts])))

@@ -1,5 +1,5 @@
 #!/usr/bin/env python3
-"""Fill the `unfolding` lines of `examples-hold` in crates/spec/specs/Examples.antt with every unfoldable name of the definitions that its `use` lines bring, and say which they do not bring."""
+"""Fill the `unfolding` lines of `examples_hold` in crates/spec/specs/Examples.antt with every unfoldable name of the definitions that its `use` lines bring, and say which they do not bring."""
 import re
 import textwrap
 from pathlib import Path
@@ -7,7 +7,7 @@ SKIP = ("Demands", "History", "Examples", "Lib")
 x = Path("crates/spec/specs/Examples.antt")
 text = x.read_text()
 brought = set(n.strip() for names in re.findall(r"^use [^{\n]*\{([^}]*)\}", text, re.M) for n in names.split(","))
-names = ["ones", "onesIn"]
+names = ["ones", "ones_in"]
 for f in sorted(Path("crates/spec/specs").glob("*.antt")):
     if f.stem not in SKIP:
         names += re.findall(r"^unfoldable pub (\S+)", f.read_text(), re.M)
@@ -16,4 +16,4 @@ for name in names:
         print("not brought: " + name)
 names = [n for n in names if n in brought] + re.findall(r"^unfoldable pub (\S+)", text, re.M)
 lines = textwrap.wrap("unfolding " + " ".join(names), 150, subsequent_indent="    ")
-x.write_text(re.sub(r"(?<=pub examples-hold : Examples\n)unfolding .*\n(?:    .*\n)*", "\n".join(lines) + "\n", text))
+x.write_text(re.sub(r"(?<=pub examples_hold : Examples\n)unfolding .*\n(?:    .*\n)*", "\n".join(lines) + "\n", text))

@@ -1,50 +1,42 @@
 #!/usr/bin/env python3
 """Write the `use` lines of every module of crates/NAME/specs: names are found by their spelling.
 
-    tools/uses.py CRATE [DEP ..]     the bodies stay; lines that begin with `use ` are replaced
+    tools/uses.py CRATE [DEP ..]     the bodies stay, and lines with ` as `; other lines that begin with `use ` are replaced
+
+A name of the library comes from where the module brings it now, or else from where most modules of the repository do; one that none brings
+is left out (`rt lemma NAME` prints where it is).
 """
 import re
 import sys
+import textwrap
+from collections import Counter, defaultdict
 from pathlib import Path
 
-LIB = {
-    "mathlib.Core.Path": "_≡_ refl sym ap ap₂ _∙_ subst",
-    "mathlib.Core.List": "List [] _∷_ _++_ map append-nil append-assoc reverse",
-    "mathlib.Core.Bool": "Bool true false cond not _&&_ _||_",
-    "mathlib.Core.Logic": "_⊎_ inl inr ⊎-elim _≢_",
-    "Prim.Native.Nat": "ℕ zero suc _+_ _-_ _*_ _/_ _%_ _^_ min max _≤_ _<_",
-    "native.Mathlib.Nat": "mod-lt add-comm add-assoc add-zero zero-add suc-add add-suc mul-comm mul-assoc suc-mul mul-suc zero-mul mul-add add-mul mul-le-mul-right le-trans le-of-eq sub-zero",
-    "native.Mathlib.Decide": "decLt decLe",
-    "borrow.Author.Tests": "le-leb lt-leb lt-ltb le-ltb eq-eqb ne-eqb leb-true leb-false ltb-true ltb-false eqb-true eqb-false",
-    "native.Mathlib.Omega": "arith",
-    "lib.Dec": "leb ltb eqb lit<",
-    "lib.ListN": "length getD take drop set replicate length-append length-take length-drop length-set take-append-drop length-replicate drop-of-length-le",
-    "lib.Seq": "getD-take getD-drop ext-getD drop-drop take-take take-length set-split take-suc take-set-le set-at getD-set-same getD-set-other take-suc-set take-append-seam drop-append-seam",
-    "lib.Bits": "bitXor bitOr bitAnd",
-    "lib.Count": "ones onesIn",
-    "lib.Arith": "digits-div digits-mod digits-lt",
-}
 # types that a crate's src/lib.rt declares: a struct by its name, an enum with its variants
 STRUCT = re.compile(r"^pub struct (\w+)", re.M)
 ENUM = re.compile(r"^pub enum (\w+) \{(.*?)^\}", re.M | re.S)
 SPLIT = re.compile(r"[\s(){}.;,@\"]+")
-DECL = re.compile(r"^(?:  )?((?:unfoldable |abbrev |pub )*)(data |record )?(\S+)(?: \{[^}]*\})?(?: \([^)]*\))* :( |$)")
+USE = re.compile(r"^use ([^\s{]+)\.\{([^}]*)\}", re.M)
+DECL = re.compile(r"^ *((?:unfoldable |abbrev |pub )*)(data |record )?(\S+)(?: \{[^}]*\})?(?: \([^)]*\))* :( |$)")
 
 
 def declared(text):
     """name -> path below the module ('' or type name); only pub ones, constructors of pub data."""
-    out, kind = {}, None
+    out, kind, record = {}, None, None
     for line in text.split("\n"):
         if line.startswith("--") or not line.strip():
             continue
-        top = not line.startswith(" ")
+        top, deep = not line.startswith(" "), len(line) - len(line.lstrip(" "))
+        if record is not None and deep > record:
+            continue  # a field stands behind its record
         mt = DECL.match(line)
-        if top and not line.startswith("use ") and mt:
+        record = deep if re.match(r" *(?:pub )?record ", line) else None
+        if not line.startswith("use ") and mt and (top or "pub" in mt.group(1)):
             marks, what, name = mt.group(1), mt.group(2), mt.group(3)
             kind = None
             if "pub" in marks:
                 out[name] = ""
-                if what and what.startswith("data"):
+                if top and what and what.startswith("data"):
                     kind = name
             continue
         if top:
@@ -64,7 +56,7 @@ def types(crate):
     for n, body in ENUM.findall(text):
         out[n] = "declared." + n
         for v in re.findall(r"^    (\w+)", body, re.M):
-            out[v] = "declared.%s.the-variants" % n
+            out[v] = "declared.%s.TheVariants" % n
     return out
 
 
@@ -77,53 +69,68 @@ def tokens(text):
     return out
 
 
-def operators(toks):
-    return {t for t in toks}
+def brought(text, crates):
+    """the names of the library that `use` lines bring, each with its module"""
+    for module, ns in USE.findall(text):
+        if not module.startswith(crates):
+            for n in ns.split(","):
+                if " as " not in n and n.strip():
+                    yield n.strip(), module
+
+
+def library(crates):
+    """name -> module, as most modules of the repository bring it"""
+    votes = defaultdict(Counter)
+    for part in ("specs", "proofs"):
+        for folder in Path("crates").glob("*/" + part):
+            for f in folder.rglob("*.antt"):
+                for n, module in brought(f.read_text(), crates):
+                    votes[n][module] += 1
+    return {n: v.most_common(1)[0][0] for n, v in votes.items()}
 
 
 def main():
     crate, deps = sys.argv[1], sys.argv[2:]
     root = Path("crates") / crate / "specs"
-    names = {}
-    for lib, ns in LIB.items():
-        for n in ns.split():
-            names[n] = (lib, "")
+    crates = tuple("Rattle.%s." % d.name for d in Path("crates").iterdir())
+    names = {n: (module, "") for n, module in library(crates).items()}
     for d in deps:
         for n, m in types(d).items():
-            names[n] = ("Rattle·%s.specs.%s" % (d, m), "")
+            names[n] = ("Rattle.%s.specs.%s" % (d, m), "")
         for f in sorted((Path("crates") / d / "specs").glob("*.antt")):
             if f.stem != "Lib":
                 for n, t in declared(f.read_text()).items():
-                    names[n] = ("Rattle·%s.specs.%s" % (d, f.stem), t)
+                    names[n] = ("Rattle.%s.specs.%s" % (d, f.stem), t)
     for n, m in types(crate).items():
-        names[n] = ("Rattle·%s·specs.specs.%s" % (crate, m), "")
+        names[n] = ("Rattle.%s.specs.%s" % (crate, m), "")
     own = {}
     for f in sorted(root.glob("*.antt")):
         if f.stem != "Lib":
             own[f.stem] = declared(f.read_text())
     for stem, ds in own.items():
         for n, t in ds.items():
-            names[n] = ("Rattle·%s·specs.specs.%s" % (crate, stem), t)
+            names[n] = ("Rattle.%s.specs.%s" % (crate, stem), t)
     for stem in own:
         f = root / (stem + ".antt")
         text = f.read_text()
         toks = tokens(text)
-        # an operator is used by its parts
+        here = {**names, **{n: (module, "") for n, module in brought(text, crates)}}
         need = {}
         private = set(re.findall(r"^(?:unfoldable |abbrev |pub )*(\S+) :", text, re.M))
-        for n, (mod, ty) in names.items():
+        for n, (mod, ty) in here.items():
             if n in own[stem] or n in private:
                 continue
-            core = n.strip("_")
-            if n in toks or ("_" in n and core in toks):
+            # an operator is used by its parts
+            if n in toks or ("◌" in n and toks.issuperset(filter(None, n.split("◌")))):
                 need.setdefault(mod + ("." + ty if ty else ""), []).append(n)
         lines = text.split("\n")
         head = [l for l in lines[:1]]
+        kept = [l for l in lines[1:] if l.startswith("use ") and " as " in l]
         body = [l for l in lines[1:] if not l.startswith("use ")]
         while body and not body[0].strip():
             body.pop(0)
-        uses = ["use %s.{%s}" % (m, ", ".join(ns)) for m, ns in need.items()]
-        f.write_text("\n".join(head + uses + [""] + body))
+        uses = ["use %s.{%s}" % (m, part.rstrip(",")) for m, ns in need.items() for part in textwrap.wrap(", ".join(ns), 140, break_on_hyphens=False)]
+        f.write_text("\n".join(head + uses + kept + [""] + body))
 
 
 main()
