@@ -51,14 +51,13 @@ returns c n =
     let state_len_lem = c.state_len in
     let p : Params = mk_params a.n a.b a.z a.s a.g a.l in
     let l : Lent = lending a.offline.now a.image.now a.pointers.now a.addresses.now a.compact.now a.inflight.now a.state.now in
-    let w = close'.new.1 in
     let e : after_change (state_of a.state.now) close'.result a.image.now a.pointers.now a.addresses.now a.compact.now
-    w.1.1.1.1.1.0 []
+    close'.new.inflight []
     ≡ call_disk p a.offline.now (lent_disk l) (lent_memory l) (close n) =
-    ap (λ (x : State). after_change x close'.result a.image.now a.pointers.now a.addresses.now a.compact.now w.1.1.1.1.1.0
+    ap (λ (x : State). after_change x close'.result a.image.now a.pointers.now a.addresses.now a.compact.now close'.new.inflight
     []) (sym decode.ensures)
     ∙ close'.ensures n
     ∙ ap (λ (x : State). call_disk p a.offline.now (lent_disk l) (mk_memory x a.addresses.now a.compact.now a.inflight.now) (close n)) decode.ensures
     in
     hears_change p l (close n) [] (if1.false ∙ state_len_lem.ensures) (close_keeps p a.offline.now (lent_disk l) (lent_memory l) n)
-    close'.result a.image.now a.pointers.now a.addresses.now a.compact.now w.1.1.1.1.1.0 apply.new.state [] apply.result e apply.ensures.0 apply.ensures.1
+    close'.result a.image.now a.pointers.now a.addresses.now a.compact.now close'.new.inflight apply.new.state [] apply.result e apply.ensures.0 apply.ensures.1

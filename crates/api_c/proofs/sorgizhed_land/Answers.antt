@@ -55,14 +55,13 @@ returns c =
     c.args in
     let p : Params = mk_params a.n a.b a.z a.s a.g a.l in
     let l : Lent = lending a.offline.now a.image.now a.pointers.now a.addresses.now a.compact.now a.inflight.now a.state.now in
-    let w = land'.new.1 in
     let call = land a.drive a.stripe a.count in
     let r = land'.result in
-    let e : after_change (state_of a.state.now) r w.1.0 w.1.1.0 w.1.1.1.0 w.1.1.1.1.0 a.inflight.now []
+    let e : after_change (state_of a.state.now) r land'.new.image land'.new.pointers land'.new.addresses land'.new.compact a.inflight.now []
     ≡ call_disk p a.offline.now (lent_disk l) (lent_memory l) call =
-    subst (λ (x : State). after_change x r w.1.0 w.1.1.0 w.1.1.1.0 w.1.1.1.1.0 a.inflight.now []
+    subst (λ (x : State). after_change x r land'.new.image land'.new.pointers land'.new.addresses land'.new.compact a.inflight.now []
     ≡ call_disk p a.offline.now (lent_disk l) (mk_memory x a.addresses.now a.compact.now a.inflight.now) call)
     decode.ensures land'.ensures in
     hears_change p l call [] (if1.false ∙ state_len_lem.ensures) (land_keeps p a.offline.now (lent_disk l) (lent_memory l) a.drive a.stripe a.count)
-    r w.1.0 w.1.1.0 w.1.1.1.0 w.1.1.1.1.0
+    r land'.new.image land'.new.pointers land'.new.addresses land'.new.compact
     a.inflight.now apply.new.state [] apply.result e apply.ensures.0 apply.ensures.1

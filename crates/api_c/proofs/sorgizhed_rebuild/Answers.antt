@@ -52,10 +52,9 @@ returns c =
     c.args in
     let p : Params = mk_params a.n a.b a.z a.s a.g a.l in
     let l : Lent = lending a.offline.now a.image.now a.pointers.now a.addresses.now a.compact.now a.inflight.now a.state.now in
-    let w = rebuild'.new.1 in
-    let e : after rebuild'.result w.1.0 w.1.1.0 w.1.1.1.0 w.1.1.1.1.0 a.inflight.now []
+    let e : after rebuild'.result rebuild'.new.image rebuild'.new.pointers rebuild'.new.addresses rebuild'.new.compact a.inflight.now []
     ≡ call_disk p a.offline.now (lent_disk l) (lent_memory l) (rebuild a.drive a.count) =
     rebuild'.ensures
     ∙ ap (λ (x : State). call_disk p a.offline.now (lent_disk l) (mk_memory x a.addresses.now a.compact.now a.inflight.now) (rebuild a.drive a.count)) decode.ensures in
     hears_call p l (rebuild a.drive a.count) [] (if1.false ∙ state_len_lem.ensures) (rebuild_keeps p a.offline.now (lent_disk l) (lent_memory l) a.drive a.count)
-    rebuild'.result w.1.0 w.1.1.0 w.1.1.1.0 w.1.1.1.1.0 a.inflight.now finish.new.state [] finish.result e finish.ensures.0 finish.ensures.1
+    rebuild'.result rebuild'.new.image rebuild'.new.pointers rebuild'.new.addresses rebuild'.new.compact a.inflight.now finish.new.state [] finish.result e finish.ensures.0 finish.ensures.1

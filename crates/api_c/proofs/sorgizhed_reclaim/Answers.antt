@@ -56,14 +56,13 @@ returns c =
     c.state_len in
     let p : Params = mk_params a.n a.b a.z a.s a.g a.l in
     let l : Lent = lending a.offline.now a.image.now a.pointers.now a.addresses.now a.compact.now a.inflight.now a.state.now in
-    let w = reclaim'.new.1 in
-    let e : after_change (state_of a.state.now) reclaim'.result w.1.0 w.1.1.0 w.1.1.1.0 w.1.1.1.1.0 w.1.1.1.1.1.0
+    let e : after_change (state_of a.state.now) reclaim'.result reclaim'.new.image reclaim'.new.pointers reclaim'.new.addresses reclaim'.new.compact reclaim'.new.inflight
     []
     ≡ call_disk p a.offline.now (lent_disk l) (lent_memory l) (reclaim a.count) =
-    ap (λ (x : State). after_change x reclaim'.result w.1.0 w.1.1.0 w.1.1.1.0 w.1.1.1.1.0 w.1.1.1.1.1.0 [])
+    ap (λ (x : State). after_change x reclaim'.result reclaim'.new.image reclaim'.new.pointers reclaim'.new.addresses reclaim'.new.compact reclaim'.new.inflight [])
     (sym decode.ensures)
     ∙ reclaim'.ensures
     ∙ ap (λ (x : State). call_disk p a.offline.now (lent_disk l) (mk_memory x a.addresses.now a.compact.now a.inflight.now) (reclaim a.count))
     decode.ensures in
-    hears_change p l (reclaim a.count) [] (if1.left ∙ state_len_lem.ensures) (reclaim_keeps p a.offline.now (lent_disk l) (lent_memory l) a.count)
-    reclaim'.result w.1.0 w.1.1.0 w.1.1.1.0 w.1.1.1.1.0 w.1.1.1.1.1.0 apply.new.state [] apply.result e apply.ensures.0 apply.ensures.1
+    hears_change p l (reclaim a.count) [] (if1.false ∙ state_len_lem.ensures) (reclaim_keeps p a.offline.now (lent_disk l) (lent_memory l) a.count)
+    reclaim'.result reclaim'.new.image reclaim'.new.pointers reclaim'.new.addresses reclaim'.new.compact reclaim'.new.inflight apply.new.state [] apply.result e apply.ensures.0 apply.ensures.1

@@ -36,8 +36,7 @@ returns c =
     let r = c.restart-done in
     let p : Params = mk_params a.n a.b a.z a.s a.g a.l in
     let l : Lent = lending a.offline.now a.image.now a.pointers.now a.addresses.now a.compact.now a.inflight.now a.state.now in
-    let w = r.new.1 in
     let f = c.finish in
     hears_restart p l a.missing a.count (c.if-state-state_len.false ∙ c.state_len.ensures) c.zero_state-before.result
-    r.result w.1.0 w.1.1.0 w.1.1.1.0 w.1.1.1.1.0
+    r.result r.new.image r.new.pointers r.new.addresses r.new.compact
     f.new.state f.result r.ensures f.ensures.0 f.ensures.1

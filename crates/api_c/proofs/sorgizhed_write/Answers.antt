@@ -57,15 +57,14 @@ returns c =
     c.state_len in
     let p : Params = mk_params a.n a.b a.z a.s a.g a.l in
     let l : Lent = lending a.offline.now a.image.now a.pointers.now a.addresses.now a.compact.now a.inflight.now a.state.now in
-    let w = write'.new.1 in
-    let e : after_change (state_of a.state.now) write'.result w.1.0 w.1.1.0 w.1.1.1.0 w.1.1.1.1.0 w.1.1.1.1.1.0
+    let e : after_change (state_of a.state.now) write'.result write'.new.image write'.new.pointers write'.new.addresses write'.new.compact write'.new.inflight
     a.block.now
     ≡ call_disk p a.offline.now (lent_disk l) (lent_memory l) (write a.address a.block.now a.count) =
-    ap (λ (x : State). after_change x write'.result w.1.0 w.1.1.0 w.1.1.1.0 w.1.1.1.1.0 w.1.1.1.1.1.0 a.block.now)
+    ap (λ (x : State). after_change x write'.result write'.new.image write'.new.pointers write'.new.addresses write'.new.compact write'.new.inflight a.block.now)
     (sym decode.ensures)
     ∙ write'.ensures
     ∙ ap (λ (x : State). call_disk p a.offline.now (lent_disk l) (mk_memory x a.addresses.now a.compact.now a.inflight.now)
     (write a.address a.block.now a.count)) decode.ensures in
-    hears_change p l (write a.address a.block.now a.count) a.block.now (if1'.left ∙ state_len_lem.ensures)
+    hears_change p l (write a.address a.block.now a.count) a.block.now (if1'.false ∙ state_len_lem.ensures)
     (write_keeps p a.offline.now (lent_disk l) (lent_memory l) a.address a.block.now a.count)
-    write'.result w.1.0 w.1.1.0 w.1.1.1.0 w.1.1.1.1.0 w.1.1.1.1.1.0 apply.new.state a.block.now apply.result e apply.ensures.0 apply.ensures.1
+    write'.result write'.new.image write'.new.pointers write'.new.addresses write'.new.compact write'.new.inflight apply.new.state a.block.now apply.result e apply.ensures.0 apply.ensures.1
