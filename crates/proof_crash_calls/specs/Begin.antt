@@ -19,7 +19,8 @@ use Rattle.law_basic.specs.Mask.{is_in_empty}
 use Rattle.law_drives.specs.Tests.{clash}
 use Rattle.proof_crash_machine.specs.Exec.{or_either, or_1}
 use Rattle.proof_crash_machine.specs.Facts.{Par, Ghost}
-use Rattle.proof_crash_machine.specs.Filling.{unfilled, unfilled_data}
+use Rattle.proof_crash_machine.specs.Filling.{unfilled}
+use Rattle.proof_crash_machine.proofs.Filling.{unfilled_data}
 use Rattle.proof_crash_machine.specs.Memory.{set_at, set_at_elim, Mem, MemOk, flown}
 use Rattle.proof_crash_machine.specs.Val.{Val}
 use Rattle.proof_crash_machine.specs.View.Item.{chunk}

@@ -6,11 +6,13 @@ use Rattle.spec.specs.declared.Params.{Params}
 use Rattle.spec.specs.Drives.{View, Store, store_view_of, store_all}
 use Rattle.law_basic.specs.Geometry.{Ranged}
 use Rattle.proof_crash_machine.specs.Facts.{Par, Ghost, InV}
-use Rattle.proof_crash_machine.specs.History.{Mode, State as m-State, Inv, Step, StepsTo, kept-all, start, inv_start, step_inv}
+use Rattle.proof_crash_machine.specs.History.{Mode, State as m-State, Inv, Step, StepsTo, start}
+use Rattle.proof_crash_machine.proofs.History.{kept-all, inv_start, step_inv}
 use Rattle.proof_crash_machine.specs.History.Mode.{off as m-off}
 use Rattle.proof_crash_machine.specs.History.Step.{lose}
 use Rattle.proof_crash_machine.specs.History.StepsTo.{stop, then}
-use Rattle.proof_crash_machine.specs.Order.{Track, Tracked, track, run_track, no_track, tracked}
+use Rattle.proof_crash_machine.specs.Order.{Track, Tracked, track, run_track, no_track}
+use Rattle.proof_crash_machine.proofs.Order.{tracked}
 use Rattle.proof_crash_machine.specs.Val.{Val}
 use Rattle.proof_crash_machine.specs.View.{ItemView, ItemStore, apply, apply_all}
 use Rattle.proof_crash_items.specs.Items.{store_item}

@@ -14,7 +14,8 @@ use Rattle.law_basic.specs.Geometry.{Ranged, addresses_all}
 use Rattle.law_views.specs.Views.{Whole, seen}
 use Rattle.proof_crash_machine.specs.Facts.{Ghost, InV, Choice, Counted}
 use Rattle.proof_crash_machine.specs.History.{Mode, Inv}
-use Rattle.proof_crash_machine.specs.Order.{Track, less}
+use Rattle.proof_crash_machine.specs.Order.{Track}
+use Rattle.proof_crash_machine.proofs.Order.{less}
 use Rattle.proof_crash_machine.specs.Val.{Val, pads}
 use Rattle.proof_crash_items.specs.Cands.{stamp_read_holds}
 use Rattle.proof_crash_items.specs.Carry.{Tie}

@@ -12,7 +12,8 @@ use Rattle.spec.specs.Params.{data_count, inflight_len}
 use Rattle.spec.specs.Write.{placed}
 use Rattle.law_basic.specs.Geometry.{Ranged, data_count_high, data_drive_lt, drive_is_data}
 use Rattle.proof_crash_machine.specs.Facts.{Ghost, Counted}
-use Rattle.proof_crash_machine.specs.Filling.{filled_word, at_d, at_else}
+use Rattle.proof_crash_machine.specs.Filling.{filled_word}
+use Rattle.proof_crash_machine.proofs.Filling.{at_d, at_else}
 use Rattle.proof_crash_machine.specs.Ghosts.{with_sent}
 use Rattle.proof_crash_machine.specs.History.{Inv, Into}
 use Rattle.proof_crash_machine.specs.History.Mode.{run}

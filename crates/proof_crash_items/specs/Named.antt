@@ -13,7 +13,7 @@ use Rattle.law_basic.specs.Mask.{only_none, is_in_empty, is_in-only}
 use Rattle.law_drives.specs.Tests.{clash}
 use Rattle.proof_crash_machine.specs.Mask.{count, count_none, count-only, mask_outside, Mask, tf}
 use Rattle.proof_crash_machine.specs.Facts.{None, Choice, Beyond}
-use Rattle.proof_crash_machine.specs.Theorem.{never}
+use Rattle.proof_crash_machine.proofs.Theorem.{never}
 use Rattle.proof_crash_items.specs.Member.{Has, keep_has, has_keep, below_has, has_below, all_has, has_all, none_any, is_nil_has, first_or_has}
 use Rattle.proof_crash_items.specs.Ranges.{parities, parities_few, par_of}
 

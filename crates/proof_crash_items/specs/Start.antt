@@ -18,7 +18,8 @@ use Rattle.law_basic.specs.Ranges.{and_left, and_right, Test, test}
 use Rattle.law_drives.specs.Members.{all_in, in_keep, in_below}
 use Rattle.law_basic.specs.Ranges.Test.{yes!, no! }
 use Rattle.law_views.specs.Views.{Whole, pointer_view, seen}
-use Rattle.proof_crash_machine.specs.History.{start, inv_start}
+use Rattle.proof_crash_machine.specs.History.{start}
+use Rattle.proof_crash_machine.proofs.History.{inv_start}
 use Rattle.proof_crash_machine.specs.View.{Item}
 use Rattle.proof_crash_items.specs.Items.{items_from, items_of, items_in}
 use Rattle.proof_crash_items.specs.Ranges.{par_of, fine_is}

@@ -4,7 +4,7 @@ use Rattle.std.proofs.Common.{sym, ◌∙◌, subst, inl, inr, arith}
 use Rattle.std.proofs.Math.Decide.{ℕ_discrete}
 use Rattle.proof_crash_machine.specs.Val.{Val}
 use Rattle.proof_crash_machine.specs.View.{ItemView}
-use Rattle.proof_crash_machine.specs.Mask.{Mask, count, two}
+use Rattle.proof_crash_machine.specs.Mask.{Mask, count}
 use Rattle.proof_crash_machine.specs.Facts.{Par, self, Pair, Ghost, Choice, L, R, Stripe, Datum, Counted, Used, WholeZone, Moved, Swap, dec_l, L-more, Stripe-more, used, whole_L}
 use Rattle.proof_crash_machine.specs.Facts.Pair.{alone, pair}
 

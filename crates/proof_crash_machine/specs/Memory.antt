@@ -7,11 +7,10 @@ use Rattle.proof_crash_machine.specs.Facts.Pair.{alone, pair}
 use Rattle.proof_crash_machine.specs.Lemma.{pair_alone}
 use Rattle.proof_crash_machine.specs.View.{Item, ItemView, InI, with_item, chunk_num, chunk_val}
 use Rattle.proof_crash_machine.specs.View.Item.{chunk}
-use Rattle.proof_crash_machine.specs.Facts.{Par, None, Word, self_none, Ghost, InV, Good, R, Datum, Counted, Used, WholeZone, Ragged, Facts, used}
+use Rattle.proof_crash_machine.specs.Facts.{Par, None, Word, self_none, Ghost, InV, Good, Datum, Counted, Used, WholeZone, Ragged, Facts, used}
 use Rattle.proof_crash_machine.specs.Put
 use Rattle.proof_crash_machine.specs.Land.{Landing, landing_facts}
 use Rattle.proof_crash_machine.specs.Ghosts.{with_base, with_sent}
-use Rattle.proof_crash_machine.specs.Reset as Reset
 
 -- ---- functions changed at one place
 abbrev pub choose : {A P : Type 0} → Dec P → A → A → A

@@ -11,7 +11,7 @@ use Rattle.proof_crash_machine.specs.Lemma.{pair_alone, pair_o, pair_w}
 use Rattle.proof_crash_machine.specs.View.{Item, ItemView, ItemStore, InI, apply, apply_all, AllS}
 use Rattle.proof_crash_machine.specs.View.Item.{chunk}
 use Rattle.proof_crash_machine.specs.View.ItemStore.{reset}
-use Rattle.proof_crash_machine.specs.Mask.{Mask, two}
+use Rattle.proof_crash_machine.specs.Mask.{Mask}
 use Rattle.proof_crash_machine.specs.Facts.{Par, None, self_none, Pair, Ghost, Choice, L, R, Stripe, Used, Swap, Facts, used, dec_l, dec_all}
 use Rattle.proof_crash_machine.specs.Reset.{gone, reset_zone_kept, each_reset, len_reset}
 use Rattle.proof_crash_machine.specs.Drop.{DropOf}

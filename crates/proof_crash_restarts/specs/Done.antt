@@ -10,7 +10,8 @@ use Rattle.proof_crash_machine.specs.Facts.{Ghost, InV, Counted, Used, None, non
 use Rattle.proof_crash_machine.specs.Facts.Pair.{alone}
 use Rattle.proof_crash_machine.specs.Finish.{Reads, up_to, finishing}
 use Rattle.proof_crash_machine.specs.Ghosts.{with_pr}
-use Rattle.proof_crash_machine.specs.History.{Mode, Dropping, Step, Claim, claim}
+use Rattle.proof_crash_machine.specs.History.{Mode, Dropping, Step, Claim}
+use Rattle.proof_crash_machine.proofs.History.{claim}
 use Rattle.proof_crash_machine.specs.History.Mode.{run}
 use Rattle.proof_crash_machine.specs.History.Step.{restart_plain}
 use Rattle.proof_crash_machine.specs.Memory2.{rest_mem}

@@ -5,7 +5,8 @@ use Rattle.spec.specs.declared.Params.{Params}
 use Rattle.spec.specs.Drives.{View}
 use Rattle.law_basic.specs.Geometry.{Ranged}
 use Rattle.proof_crash_machine.specs.Facts.{Ghost}
-use Rattle.proof_crash_machine.specs.History.{Mode, State as m-State, Inv, Step, step_inv}
+use Rattle.proof_crash_machine.specs.History.{Mode, State as m-State, Inv, Step}
+use Rattle.proof_crash_machine.proofs.History.{step_inv}
 use Rattle.proof_crash_machine.specs.History.Mode.{off as stopped}
 use Rattle.proof_crash_machine.specs.Val.{Val}
 use Rattle.proof_crash_machine.specs.View.{ItemView}

@@ -8,7 +8,8 @@ use Rattle.law_basic.specs.Geometry.{Ranged}
 use Rattle.proof_crash_machine.specs.Distrust.{distrust}
 use Rattle.proof_crash_machine.specs.Facts.{Ghost, InV, Choice, self}
 use Rattle.proof_crash_machine.specs.Finish.{Reads, finishing}
-use Rattle.proof_crash_machine.specs.History.{Mode, Step, Claim, claim}
+use Rattle.proof_crash_machine.specs.History.{Mode, Step, Claim}
+use Rattle.proof_crash_machine.proofs.History.{claim}
 use Rattle.proof_crash_machine.specs.History.Step.{missing}
 use Rattle.proof_crash_machine.specs.History.Mode.{ro}
 use Rattle.proof_crash_machine.specs.Rebuild.{with_un}

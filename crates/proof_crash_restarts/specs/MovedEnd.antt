@@ -16,7 +16,8 @@ use Rattle.proof_crash_machine.specs.Facts.Pair.{alone, pair}
 use Rattle.proof_crash_machine.specs.Facts.{Ghost, Choice, R, Counted, Used, WholeZone, Ragged, Facts, used, None, none_fair, self_none}
 use Rattle.proof_crash_machine.specs.Finish.{Reads, up_to, finishing, Clean}
 use Rattle.proof_crash_machine.specs.Ghosts.{with_pr}
-use Rattle.proof_crash_machine.specs.History.{Mode, Step, Claim, claim}
+use Rattle.proof_crash_machine.specs.History.{Mode, Step, Claim}
+use Rattle.proof_crash_machine.proofs.History.{claim}
 use Rattle.proof_crash_machine.specs.History.Mode.{off as stopped, run}
 use Rattle.proof_crash_machine.specs.History.Step.{restart_cut₁, restart_cut₂, restart as m-restart}
 use Rattle.proof_crash_machine.specs.Lemma.{pair_alone}

@@ -18,8 +18,10 @@ use Rattle.proof_crash_machine.specs.Name.{naming}
 use Rattle.proof_crash_machine.specs.OpenSeg.{headers, Fresh, open_facts}
 use Rattle.proof_crash_machine.specs.Memory.{Mem, set_at_elim, flown}
 use Rattle.proof_crash_machine.specs.Memory2.{rest_mem, open_mem}
-use Rattle.proof_crash_machine.specs.Filling.{filled_word, unfilled, unfilled_data}
-use Rattle.proof_crash_machine.specs.History.{State, Step, Inv, at, start, inv_start, kept-all}
+use Rattle.proof_crash_machine.specs.Filling.{filled_word, unfilled}
+use Rattle.proof_crash_machine.proofs.Filling.{unfilled_data}
+use Rattle.proof_crash_machine.specs.History.{State, Step, Inv, at, start}
+use Rattle.proof_crash_machine.proofs.History.{inv_start, kept-all}
 use Rattle.proof_crash_machine.specs.History.Mode.{run}
 use Rattle.proof_crash_machine.specs.History.Step.{restart_plain, open_done, begin, send, land, missing}
 use Rattle.proof_crash_machine.specs.History.StepsTo.{stop, then}

@@ -1,0 +1,5 @@
+pub mod History
+pub mod Filling
+pub mod Example
+pub mod Order
+pub mod Theorem
