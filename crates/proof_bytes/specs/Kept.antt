@@ -28,7 +28,7 @@ use Rattle.law_views.specs.Views.{seen}
 use Rattle.law_calls.specs.Refusals.{refusal_kind, refused_unfinished}
 use Rattle.law_lent.specs.Hosts.{bytes_long}
 use Rattle.law_lent.specs.Shorts.{write_keeps, land_keeps, close_keeps, reclaim_keeps, read_keeps, fill_keeps, restart_keeps, rebuild_keeps}
-use Rattle.proof_crash_calls.specs.Refusals.{Decides, decides}
+use Rattle.proof_crash_calls.proofs.Refusals.{Decides, decides}
 use Rattle.law_checks.specs.Checks.{Decided, decide}
 use Rattle.law_checks.specs.Checks.Decided.{stops, goes}
 use Rattle.law_drives.specs.Laid.{in_take}

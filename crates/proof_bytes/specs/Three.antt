@@ -28,7 +28,7 @@ use Rattle.law_basic.specs.Ranges.{and_left, and_right, and_both}
 use Rattle.law_calls.specs.Refusals.{refused_unfinished}
 use Rattle.proof_crash.specs.Demand.{demand_3}
 use Rattle.law_lent.specs.Shorts.{short_refused}
-use Rattle.proof_crash_calls.specs.Join.{sent-refused}
+use Rattle.proof_crash_calls.proofs.Join.{sent-refused}
 use Rattle.spec_demands.specs.Engines.{on_bytes, call_lent, reads_as}
 use Rattle.spec_demands.specs.Histories.{LentEvent, lent_call, with_disk, lent_in_order, lent_before, lent_happens, lent_orderly, lent_restart, lent_after, LentMark, LentHist, lent_marked, lent_step, lent_began}
 use Rattle.spec_demands.specs.Histories.{lent_bytes, event_bytes, lent_allowed, LentAllowed, LentSame, LentClaim, LentClaims, Demand3}

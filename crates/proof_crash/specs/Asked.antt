@@ -33,7 +33,7 @@ use Rattle.proof_crash_machine.specs.Val.{Val}
 use Rattle.proof_crash_items.specs.Ranges.{par_of}
 use Rattle.proof_crash_items.specs.Refuse.{pointers_fine, segments_fine, not_refused}
 use Rattle.proof_crash_items.specs.Segs.{OnDrives}
-use Rattle.proof_crash_calls.specs.Refusals.{decides, refused-after}
+use Rattle.proof_crash_calls.proofs.Refusals.{decides, refused-after}
 use Rattle.proof_crash_machine.specs.View.{ItemView}
 
 first_of : (a b c d e f : Bool) → (a && b && c && d && e && f) ≡ true → a ≡ true

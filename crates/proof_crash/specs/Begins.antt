@@ -24,12 +24,12 @@ use Rattle.proof_crash_restarts.specs.Done.{stamp_top, serial_top, read_on, Rest
 use Rattle.proof_crash_restarts.specs.Ends.{Opened}
 use Rattle.proof_crash_calls.specs.Held.{TableOk}
 use Rattle.proof_crash_calls.specs.Live.{Reached, Live}
-use Rattle.proof_crash_calls.specs.Places.{table_said}
+use Rattle.proof_crash_calls.proofs.Places.{table_said}
 use Rattle.proof_crash_calls.specs.Rel.{Rel}
-use Rattle.proof_crash_calls.specs.Restarted.{stamps_fit, serials_fit, Finds}
+use Rattle.proof_crash_calls.proofs.Restarted.{stamps_fit, serials_fit, Finds}
 use Rattle.proof_crash_calls.specs.Rested.{rest_rel}
-use Rattle.proof_crash_calls.specs.Resumed.{reached_to, reached_forget}
-use Rattle.proof_crash_calls.specs.Sends.{length-forget, forget_waits}
+use Rattle.proof_crash_calls.proofs.Resumed.{reached_to, reached_forget}
+use Rattle.proof_crash_calls.proofs.Sends.{length-forget, forget_waits}
 use Rattle.proof_crash_items.specs.Carry.{tie_on}
 use Rattle.proof_crash_machine.specs.View.{ItemView}
 

@@ -32,7 +32,7 @@ use Rattle.proof_crash_items.specs.Named.{never_beyond}
 use Rattle.proof_crash_restarts.specs.Link.{Linked}
 use Rattle.proof_crash_calls.specs.Go.{mst}
 use Rattle.proof_crash_calls.specs.Readings.{Shows, read_ok, same_reads}
-use Rattle.proof_crash_calls.specs.Sends.{length-forget, forget_logged}
+use Rattle.proof_crash_calls.proofs.Sends.{length-forget, forget_logged}
 use Rattle.proof_crash.specs.Stand.{MarkOk, Stands, Holds, leaves, hist, leaves-finished, leaves-cut}
 
 -- ---- what is claimed of it

@@ -35,8 +35,8 @@ use Rattle.proof_crash_items.specs.RestMem.{names_cases}
 use Rattle.proof_crash_items.specs.Start.{empty_whole, start_on}
 use Rattle.proof_crash_items.specs.Named.{named_out}
 use Rattle.proof_crash_calls.specs.Go.{mst, Go, go_none, go_start}
-use Rattle.proof_crash_calls.specs.Others.{refused-any}
-use Rattle.proof_crash_calls.specs.Refusals.{decides, boot-step}
+use Rattle.proof_crash_calls.proofs.Others.{refused-any}
+use Rattle.proof_crash_calls.proofs.Refusals.{decides, boot-step}
 use Rattle.proof_crash.specs.Boot.{Booted}
 use Rattle.proof_crash.specs.Fresh.{boot_healthy}
 use Rattle.proof_crash.specs.Mend.{call_leaves, call_step}

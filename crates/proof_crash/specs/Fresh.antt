@@ -41,8 +41,8 @@ use Rattle.proof_crash_restarts.specs.Link.{linked_on, CutTo}
 use Rattle.proof_crash_restarts.specs.Runs.{Always}
 use Rattle.proof_crash_calls.specs.Live.{Reached, Live}
 use Rattle.proof_crash_calls.specs.Readings.{ShowsBlock, Shows, MarkShows, shows_more}
-use Rattle.proof_crash_calls.specs.Resumed.{reached_to, reached_forget, shows_read}
-use Rattle.proof_crash_calls.specs.Sends.{length-forget}
+use Rattle.proof_crash_calls.proofs.Resumed.{reached_to, reached_forget, shows_read}
+use Rattle.proof_crash_calls.proofs.Sends.{length-forget}
 use Rattle.proof_crash.specs.Stand.Holds.{goes, rests}
 use Rattle.proof_crash.specs.Asked.{asked_parts, boot_six, boot-is, boot_lent, boot_listed}
 use Rattle.proof_crash.specs.Begins.{done_ghost, begins}

@@ -33,10 +33,11 @@ use Rattle.proof_crash_items.specs.Ranges.{par_of}
 use Rattle.proof_crash_restarts.specs.Link.{Linked}
 use Rattle.proof_crash_rebuilds.specs.Drive.{rebuild_cut, rebuild_end, rebuild_sound}
 use Rattle.proof_crash_calls.specs.Live.{Reached}
-use Rattle.proof_crash_calls.specs.Others.{off_step, missing_step}
-use Rattle.proof_crash_calls.specs.Refusals.{decides, refused-step}
-use Rattle.proof_crash_calls.specs.Resumed.{reached_to, reached_forget}
-use Rattle.proof_crash_calls.specs.Steps.{Stepped, run_step}
+use Rattle.proof_crash_calls.proofs.Others.{off_step, missing_step}
+use Rattle.proof_crash_calls.proofs.Refusals.{decides, refused-step}
+use Rattle.proof_crash_calls.proofs.Resumed.{reached_to, reached_forget}
+use Rattle.proof_crash_calls.specs.Steps.{Stepped}
+use Rattle.proof_crash_calls.proofs.Steps.{run_step}
 use Rattle.proof_crash_calls.specs.Steps.Stepped.{goes_on, is_over}
 use Rattle.proof_crash.specs.Stand.{StateQuiet, MarkOk, Stands, Holds, mark_moves, named_same, named_not, leaves, hist, rebuild_leaves-cut, rebuild_leaves, none_trust}
 use Rattle.proof_crash.specs.Stand.Holds.{goes, rests}

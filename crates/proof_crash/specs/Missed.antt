@@ -34,7 +34,7 @@ use Rattle.proof_crash_items.specs.Shape.{Shape}
 use Rattle.proof_crash_restarts.specs.Link.{Linked}
 use Rattle.proof_crash_restarts.specs.Missing.{stamps_top_lem, missing_on_holds, missing_read, missing_linked, missing_claim}
 use Rattle.proof_crash_calls.specs.Readings.{Shows}
-use Rattle.proof_crash_calls.specs.Resumed.{reached_to, reached_forget, shows_read}
+use Rattle.proof_crash_calls.proofs.Resumed.{reached_to, reached_forget, shows_read}
 use Rattle.proof_crash.specs.Asked.{asked_parts, boot-is, boot_lent, boot_listed}
 use Rattle.proof_crash.specs.Boot.{Booted, stands_linked, stands_known, boot_done}
 use Rattle.proof_crash.specs.Stand.{Stands, Holds, hist, named_choice}

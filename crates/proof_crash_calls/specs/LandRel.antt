@@ -11,7 +11,6 @@ use Rattle.std.specs.Int.Count.{ones}
 use Rattle.spec.specs.declared.Params.{Params}
 use Rattle.spec.specs.declared.State.{State}
 use Rattle.spec.specs.Layout.{data_drive}
-use Rattle.spec.specs.Lists.Opt.{none}
 use Rattle.spec.specs.Lists.{only, is_in}
 use Rattle.spec.specs.Memory.{stripe_in, filled_in_of, landed_in, entry_in_of, offset_in, is_free, set_closed, landed_mask, mark_landed, free_stripe, slot_block}
 use Rattle.law_basic.specs.Geometry.{Ranged}
@@ -19,7 +18,7 @@ use Rattle.law_basic.specs.Mask.{is_in_with, with_lt, ones_all}
 use Rattle.law_basic.specs.Ranges.{all_in_below, or_left}
 use Rattle.law_drives.specs.Tests.{clash, not_so}
 use Rattle.proof_crash_machine.specs.Exec.{true≢false}
-use Rattle.proof_crash_machine.specs.Facts.{Off, R}
+use Rattle.proof_crash_machine.specs.Facts.{Off}
 use Rattle.proof_crash_machine.specs.Memory.{set_at, Mem, ended}
 use Rattle.proof_crash_machine.specs.Put.{length-snoc, off_in, off_left, in_fwd, in_back as Put·in_back, drive_other, each_put}
 use Rattle.proof_crash_machine.specs.Val.{Val}

@@ -15,7 +15,7 @@ use Rattle.law_basic.specs.Geometry.{Ranged}
 use Rattle.law_drives.specs.Tests.{clash}
 use Rattle.proof_crash_machine.specs.Exec.{true≢false}
 use Rattle.proof_crash_machine.specs.Facts.Pair.{alone}
-use Rattle.proof_crash_machine.specs.Facts.{Ghost, Used, R}
+use Rattle.proof_crash_machine.specs.Facts.{Ghost, Used}
 use Rattle.proof_crash_machine.specs.History.Mode.{off as m-off, run}
 use Rattle.proof_crash_machine.specs.History.{Inv, Opens}
 use Rattle.proof_crash_machine.specs.History.Step.{open_cut, open_done}

@@ -8,7 +8,7 @@ use Rattle.spec.specs.History.{World, Send, Seen, seen_at}
 use Rattle.spec.specs.History.Seen.{unwritten, got}
 use Rattle.law_basic.specs.Geometry.{Ranged}
 use Rattle.law_drives.specs.Tests.{not_so}
-use Rattle.proof_crash_machine.specs.Facts.{Ghost, InV, Beyond, L}
+use Rattle.proof_crash_machine.specs.Facts.{Ghost, InV, Beyond}
 use Rattle.proof_crash_machine.specs.History.{State as m-State, Inv, Claim}
 use Rattle.proof_crash_machine.specs.Order.{Track, Tracked}
 use Rattle.proof_crash_machine.specs.Val.{Val}

@@ -1,2 +1,2 @@
-// The calls of a healthy run as steps of the machine: relation, laws and the lemma that joins them are in specs/.
+// The calls of a healthy run as steps of the machine: the relation is in specs/, its laws and the lemma that joins them in specs/ and proofs/.
 #![tactic(auto)]

@@ -23,7 +23,7 @@ use Rattle.law_basic.specs.Mask.{is_in_with}
 use Rattle.law_basic.specs.Ranges.{Test, test, map-append, keep_append, keep-below_same, keep-below-snoc}
 use Rattle.law_basic.specs.Ranges.Test.{yes!, no! }
 use Rattle.proof_crash_calls.specs.Cells.{SameSlot, add_entry_holds, add_entry_old}
-use Rattle.proof_crash_calls.specs.Placed.{data_drive_once, placed_here, placed-other, placed-parity}
+use Rattle.proof_crash_calls.proofs.Placed.{data_drive_once, placed_here, placed-other, placed-parity}
 use Rattle.proof_crash_calls.specs.Rel.{RowsLong}
 use Rattle.proof_crash_calls.specs.Slots.{data_blocks_same}
 use Rattle.spec_demands.specs.Tables.{Pending}

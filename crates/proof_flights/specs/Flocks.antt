@@ -20,7 +20,7 @@ use Rattle.law_basic.specs.Geometry.{Ranged, data_count-low, data_count_high}
 use Rattle.law_basic.specs.Mask.{is_in_empty}
 use Rattle.law_basic.specs.Ranges.{keep_append}
 use Rattle.proof_crash_calls.specs.Cells.{SameSlot, add_same, begin_same}
-use Rattle.proof_crash_calls.specs.Placed.{placed-other}
+use Rattle.proof_crash_calls.proofs.Placed.{placed-other}
 use Rattle.spec_demands.specs.Tables.{Pending, no_pending}
 use Rattle.law_drives.specs.Members.{keep_nothing, get_d_in}
 use Rattle.law_drives.specs.States.{StateOk}

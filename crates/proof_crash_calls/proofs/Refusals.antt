@@ -31,7 +31,7 @@ use Rattle.law_views.specs.Views.{seen}
 use Rattle.law_calls.specs.Refusals.{refusal_kind, refused_unfinished}
 use Rattle.law_checks.specs.Passed.{restart_passed}
 use Rattle.proof_crash_machine.specs.Exec.{true≢false}
-use Rattle.proof_crash_calls.specs.Join.{sent-refused}
+use Rattle.proof_crash_calls.proofs.Join.{sent-refused}
 
 -- ---- every verdict is decided by checks
 

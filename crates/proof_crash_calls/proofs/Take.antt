@@ -26,9 +26,9 @@ use Rattle.proof_crash_items.specs.Items.{value_of}
 use Rattle.proof_crash_items.specs.Ranges.{parity_on, par_of, data_code, code_of, code_lone}
 use Rattle.proof_crash_calls.specs.Base.{set_at_here}
 use Rattle.proof_crash_calls.specs.Cells.{same_used, add-filled, add_number, add_write_new, stamp_same}
-use Rattle.proof_crash_calls.specs.Fill.{risen, risen-more, risen_is, landed_may}
+use Rattle.proof_crash_calls.proofs.Fill.{risen, risen-more, risen_is, landed_may}
 use Rattle.proof_crash_calls.specs.Go.{mst, Go, go_step}
-use Rattle.proof_crash_calls.specs.Placed.{ready_data, ready-parity, data_drive_once, placed_state, placed_rel, placed_waits, placed_used}
+use Rattle.proof_crash_calls.proofs.Placed.{ready_data, ready-parity, data_drive_once, placed_state, placed_rel, placed_waits, placed_used}
 use Rattle.proof_crash_calls.specs.Rel.{ready_at, RowsLong, in_use_of, filled_used, RelOn, Rel, rel_on, Waiting}
 
 -- ---- the stamp set

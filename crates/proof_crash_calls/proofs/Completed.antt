@@ -29,10 +29,11 @@ use Rattle.proof_crash_items.specs.Member.{Has, keep_has, has_keep, below_has, h
 use Rattle.proof_crash_items.specs.Ranges.{par_of}
 use Rattle.proof_crash_items.specs.Segs.{OnDrives, On, is_on, zone_bytes, zone_len_holds}
 use Rattle.proof_crash_items.specs.Stripes.{pointer_is}
-use Rattle.proof_crash_calls.specs.Ack.{raise_to, raise_low, raise_is}
-use Rattle.proof_crash_calls.specs.Entries.{entry_low, entry_stamp}
-use Rattle.proof_crash_calls.specs.Held.{Grown, Entry, TableOk, entry_to, table_grown}
-use Rattle.proof_crash_calls.specs.Placed.{drive_cases}
+use Rattle.proof_crash_calls.proofs.Ack.{raise_to, raise_low, raise_is}
+use Rattle.proof_crash_calls.proofs.Entries.{entry_low, entry_stamp}
+use Rattle.proof_crash_calls.specs.Held.{Grown, Entry, TableOk}
+use Rattle.proof_crash_calls.proofs.Held.{entry_to, table_grown}
+use Rattle.proof_crash_calls.proofs.Placed.{drive_cases}
 use Rattle.proof_crash_calls.specs.Pointed.{point_to, pointed_none, pointed_some, best_some}
 use Rattle.spec.specs.declared.Seg.{Seg}
 use Rattle.spec.specs.Segments.{place_record}

@@ -47,13 +47,14 @@ use Rattle.proof_crash_items.specs.Codec.{Wide}
 use Rattle.proof_crash_items.specs.Ranges.{par_of, data_code, code_word}
 use Rattle.proof_crash_items.specs.ZoneBytes.{Kind, kind_item}
 use Rattle.proof_crash_items.specs.ZoneBytes.Kind.{datum}
-use Rattle.proof_crash_calls.specs.Live.{Live, live_inv, live_opened, live_seg-low, live_seg_len, live_tie}
-use Rattle.proof_crash_calls.specs.Sending.{slots_ok}
+use Rattle.proof_crash_calls.specs.Live.{Live}
+use Rattle.proof_crash_calls.proofs.Live.{live_inv, live_opened, live_seg-low, live_seg_len, live_tie}
+use Rattle.proof_crash_calls.proofs.Sending.{slots_ok}
 use Rattle.proof_crash_calls.specs.Base.{eqb_self, slot_any}
 use Rattle.proof_crash_calls.specs.Go.{mst, Go, go_step}
-use Rattle.proof_crash_calls.specs.Placed.{ready_data, ready-parity, drive_cases}
+use Rattle.proof_crash_calls.proofs.Placed.{ready_data, ready-parity, drive_cases}
 use Rattle.proof_crash_calls.specs.Rel.{ready_at, SlotOf, in_use_of}
-use Rattle.proof_crash_calls.specs.Sends.{value_addr, value_stamp}
+use Rattle.proof_crash_calls.proofs.Sends.{value_addr, value_stamp}
 use Rattle.proof_crash_calls.specs.Slots.{inflight_block_long}
 use Rattle.proof_crash_calls.specs.Xored.{parity_is, Fits8, good_fits, parity-wide}
 use Rattle.spec.specs.declared.Seg.{Seg}

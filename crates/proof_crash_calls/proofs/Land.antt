@@ -43,26 +43,29 @@ use Rattle.proof_crash_items.specs.Carry.{Tie, tie_on}
 use Rattle.proof_crash_items.specs.Places.{store_seg}
 use Rattle.proof_crash_items.specs.Segs.{OnDrives, On, is_on, zone_len_holds, named_seg, named_zone}
 use Rattle.proof_crash_calls.specs.Go.{mst, Later, later_same, Go, go_then, go_more, go_inv, Chain, chain_follows, chain_go, chain_cut}
-use Rattle.proof_crash_calls.specs.Landed.{LandAsked, land_view, land_items, land_item, land_put, landed_zone_low, zone_used, land_zone}
-use Rattle.proof_crash_calls.specs.Landed.{land_sound, landed_item, land_tie, land_step, land_flies, land_flight, land_open, land_held, land_store_is}
-use Rattle.proof_crash_calls.specs.Live.{Live, Stopped, CallOk, live_inv, live_none, live_trust, live_seg_len, live_tie, live_tie_cut, live_after, live_cut}
-use Rattle.proof_crash_calls.specs.Seal.{seal_items, seal_segs, all_stripes, Footed, seal_chain}
+use Rattle.proof_crash_calls.proofs.Landed.{LandAsked, land_view, land_items, land_item, land_put, landed_zone_low, zone_used, land_zone}
+use Rattle.proof_crash_calls.proofs.Landed.{land_sound, landed_item, land_tie, land_step, land_flies, land_flight, land_open, land_held, land_store_is}
+use Rattle.proof_crash_calls.specs.Live.{Live, Stopped, CallOk}
+use Rattle.proof_crash_calls.proofs.Live.{live_inv, live_none, live_trust, live_seg_len, live_tie, live_tie_cut, live_after, live_cut}
+use Rattle.proof_crash_calls.proofs.Seal.{seal_items, seal_segs, all_stripes, Footed, seal_chain}
 use Rattle.proof_crash_items.specs.Items.{value_of}
 use Rattle.proof_crash_items.specs.Member.{Has, has_keep, has_up_from, has_below}
 use Rattle.proof_crash_items.specs.Ranges.{parity_on, par_of, apart_code}
 use Rattle.proof_crash_items.specs.Shape.{Shape, zone_set_at, zone_set_else}
 use Rattle.proof_crash_items.specs.Sound.{AllSound, Follows}
-use Rattle.proof_crash_calls.specs.Ack.{ack_base, ack_go}
+use Rattle.proof_crash_calls.proofs.Ack.{ack_base, ack_go}
 use Rattle.proof_crash_calls.specs.Base.{has_slot, another_kept, lone_pass, set_at_else}
 use Rattle.proof_crash_calls.specs.Cells.{land_number, land_filled, land_entry}
-use Rattle.proof_crash_calls.specs.Completed.{table_done}
-use Rattle.proof_crash_calls.specs.Fill.{landed_may}
-use Rattle.proof_crash_calls.specs.Held.{Grown, grown_put, TableOk, table_grown}
+use Rattle.proof_crash_calls.proofs.Completed.{table_done}
+use Rattle.proof_crash_calls.proofs.Fill.{landed_may}
+use Rattle.proof_crash_calls.specs.Held.{Grown, TableOk}
+use Rattle.proof_crash_calls.proofs.Held.{grown_put, table_grown}
 use Rattle.proof_crash_calls.specs.LandRel.{mask_bit, bit_on, landed_rel, landed_waits, mask_full, all_on, ended_rel, ended_waits, sealed_rel, sealed-idle}
-use Rattle.proof_crash_calls.specs.Placed.{ready-parity}
+use Rattle.proof_crash_calls.proofs.Placed.{ready-parity}
 use Rattle.proof_crash_calls.specs.Rel.{ready_at, in_use_of, Waiting}
-use Rattle.proof_crash_calls.specs.Sending.{slots_ok}
-use Rattle.proof_crash_calls.specs.Sends.{value_addr, value_stamp, Logged, length_ack, acked_to, acked_old, ack_logged, ack_waits}
+use Rattle.proof_crash_calls.proofs.Sending.{slots_ok}
+use Rattle.proof_crash_calls.proofs.Sends.{value_addr, value_stamp, length_ack, acked_old, ack_logged, ack_waits}
+use Rattle.proof_crash_calls.specs.Sends.{Logged, acked_to}
 use Rattle.spec.specs.declared.Seg.{Seg}
 use Rattle.spec.specs.Segments.{open_segment}
 

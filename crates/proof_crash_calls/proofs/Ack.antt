@@ -30,7 +30,8 @@ use Rattle.proof_crash_machine.specs.View.{ItemView, InI}
 use Rattle.proof_crash_items.specs.Ranges.{par_of, apart_code}
 use Rattle.proof_crash_calls.specs.Go.{mst, Go, go_step}
 use Rattle.proof_crash_calls.specs.Rel.{in_use_of, Waiting}
-use Rattle.proof_crash_calls.specs.Sends.{acked_to, acked_from}
+use Rattle.proof_crash_calls.specs.Sends.{acked_to}
+use Rattle.proof_crash_calls.proofs.Sends.{acked_from}
 
 -- the greatest stamp at address x among the data of drives below n, or the old floor
 unfoldable pub raise_to : ℕ → (ℕ → Val) → (ℕ → ℕ) → ℕ → ℕ → ℕ

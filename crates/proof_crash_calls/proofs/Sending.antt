@@ -23,7 +23,7 @@ use Rattle.law_drives.specs.Slots.{slot_found}
 use Rattle.law_drives.specs.Tests.{cond_true, cond_false, clash, not_so}
 use Rattle.proof_crash_machine.specs.Exec.{or_either}
 use Rattle.proof_crash_machine.specs.Facts.Pair.{alone}
-use Rattle.proof_crash_machine.specs.Facts.{Ghost, Counted, Off, R}
+use Rattle.proof_crash_machine.specs.Facts.{Ghost, Counted, Off}
 use Rattle.proof_crash_machine.specs.History.Step.{begin as History·begin, lose}
 use Rattle.proof_crash_machine.specs.History.Mode.{off as m-off, run}
 use Rattle.proof_crash_machine.specs.History.{State as m-State, Inv}
@@ -39,10 +39,11 @@ use Rattle.proof_crash_items.specs.Ranges.{par_of}
 use Rattle.proof_crash_items.specs.Sound.{AllSound}
 use Rattle.proof_crash_items.specs.Segs.{OnDrives}
 use Rattle.proof_crash_calls.specs.Base.{or_r, has_slot, keep_rest}
-use Rattle.proof_crash_calls.specs.Begin.{begun_mem, with_slot, with_here, begin_rel, begin_waits, begin_cover}
+use Rattle.proof_crash_calls.proofs.Begin.{begun_mem, with_slot, with_here, begin_rel, begin_waits, begin_cover}
 use Rattle.proof_crash_calls.specs.Cells.{same_used, begin_filled, open_same}
 use Rattle.proof_crash_calls.specs.Go.{mst, Later, later_same, Go, go_none, go_step, go_more, go_inv}
-use Rattle.proof_crash_calls.specs.Held.{counted-kept, Entry, entry_to}
+use Rattle.proof_crash_calls.proofs.Held.{counted-kept, entry_to}
+use Rattle.proof_crash_calls.specs.Held.{Entry}
 use Rattle.proof_crash_calls.specs.Opened.{open_view_holds, open_cut_view, open_none, open_tie, open_cut_tie, open_sound, open_go, open_cut_go, open_other, open_rel, open_waits}
 use Rattle.proof_crash_items.specs.Carry.{Tie, on_tie, names_of}
 use Rattle.proof_crash_calls.specs.Rel.{in_use_of, free_unused, RelOn, Rel, Waiting}

@@ -31,15 +31,17 @@ use Rattle.proof_crash_machine.specs.View.{Item, ItemView, InI}
 use Rattle.proof_crash_machine.specs.View.Item.{chunk}
 use Rattle.spec.specs.Segments.{remaining}
 use Rattle.proof_crash_items.specs.Segs.{OnDrives, named_seg}
-use Rattle.proof_crash_calls.specs.Entries.{entry_within, entry_low, entry_zone}
-use Rattle.proof_crash_calls.specs.Live.{Live, live_inv, live_none, live_drives, live_trust, live_seg_len}
+use Rattle.proof_crash_calls.proofs.Entries.{entry_within, entry_low, entry_zone}
+use Rattle.proof_crash_calls.specs.Live.{Live}
+use Rattle.proof_crash_calls.proofs.Live.{live_inv, live_none, live_drives, live_trust, live_seg_len}
 use Rattle.proof_crash_items.specs.Member.{Has, keep_has, has_keep, below_has, has_below, all_has, has_all, any_has, has_any, any_false_in, has_flat, map_has, has_map}
 use Rattle.proof_crash_items.specs.Ranges.{capacity_few, par_of}
 use Rattle.proof_crash_calls.specs.Base.{eqb_self}
 use Rattle.proof_crash_calls.specs.Go.{mst}
-use Rattle.proof_crash_calls.specs.Held.{counted-kept, Entry, TableOk, entry_to}
+use Rattle.proof_crash_calls.proofs.Held.{counted-kept, entry_to}
+use Rattle.proof_crash_calls.specs.Held.{Entry, TableOk}
 use Rattle.proof_crash_calls.specs.Rel.{SlotOf, in_use_of}
-use Rattle.proof_crash_calls.specs.Sending.{slots_ok}
+use Rattle.proof_crash_calls.proofs.Sending.{slots_ok}
 use Rattle.spec.specs.declared.Seg.{Seg}
 
 -- ---- which segment

@@ -40,7 +40,8 @@ use Rattle.proof_crash_items.specs.Sound.{Sound, sound_fits, sound_put}
 use Rattle.proof_crash_items.specs.ZoneBytes.{spares_in, Kind}
 use Rattle.proof_crash_items.specs.ZoneBytes.Kind.{footer}
 use Rattle.proof_crash_calls.specs.Go.{mst, Go, go_step, Chain, chain_append}
-use Rattle.proof_crash_calls.specs.Held.{Grown, grown_same, grown_then, grown_put}
+use Rattle.proof_crash_calls.specs.Held.{Grown}
+use Rattle.proof_crash_calls.proofs.Held.{grown_same, grown_then, grown_put}
 use Rattle.spec.specs.declared.Seg.{Seg}
 
 -- a footer changes no spare

@@ -19,13 +19,13 @@ use Rattle.proof_crash_items.specs.Named.{zero_choice, none_out}
 use Rattle.proof_crash_items.specs.Member.{Has}
 use Rattle.proof_crash_items.specs.Segs.{OnDrives, SegAt, named_seg, named_zone, has_remaining, seg-at, drive_here, apart_there, seg_pointer_low}
 use Rattle.proof_crash_items.specs.Stripes.{seg_items}
-use Rattle.proof_crash_calls.specs.Places.{counted_none, record_of_spare}
+use Rattle.proof_crash_calls.proofs.Places.{counted_none, record_of_spare}
 use Rattle.spec.specs.Lists.{is_in}
 use Rattle.spec.specs.Segments.{remaining, place_segment, place_record}
 use Rattle.proof_crash_items.specs.Ranges.{capacity_few, par_of}
 use Rattle.proof_crash_items.specs.Reading.{places_many}
 use Rattle.proof_crash_calls.specs.Held.{Entry}
-use Rattle.proof_crash_calls.specs.Sends.{value_stamp}
+use Rattle.proof_crash_calls.proofs.Sends.{value_stamp}
 use Rattle.spec.specs.declared.Seg.{Seg}
 
 module _ (p : Params) (h : Ranged p) (off : List ℕ) (g : Ghost) (v : View) (u : ItemView) (k : OnDrives p h off g v u) (none? : None (par_of p h off) g.un) (q a : ℕ)

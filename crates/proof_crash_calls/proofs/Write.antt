@@ -33,14 +33,17 @@ use Rattle.proof_crash_machine.specs.Order.{sent_to, no_track}
 use Rattle.proof_crash_machine.specs.Val.{Val}
 use Rattle.proof_crash_items.specs.Items.{value_of}
 use Rattle.proof_crash_items.specs.Ranges.{par_of}
-use Rattle.proof_crash_calls.specs.Fill.{pad-all}
+use Rattle.proof_crash_calls.proofs.Fill.{pad-all}
 use Rattle.proof_crash_calls.specs.Go.{mst, Later, later_same, Go, go_step, go_then, go_inv}
-use Rattle.proof_crash_calls.specs.Held.{TableOk, entry_sent, table_to}
-use Rattle.proof_crash_calls.specs.Live.{Live, Stopped, CallOk, live_inv, live_after, live_cut, live_stamps, live_acks, live_within, live_drives}
+use Rattle.proof_crash_calls.specs.Held.{TableOk}
+use Rattle.proof_crash_calls.proofs.Held.{entry_sent, table_to}
+use Rattle.proof_crash_calls.specs.Live.{Live, Stopped, CallOk}
+use Rattle.proof_crash_calls.proofs.Live.{live_inv, live_after, live_cut, live_stamps, live_acks, live_within, live_drives}
 use Rattle.proof_crash_calls.specs.Rel.{in_use_of, Rel, Waiting}
-use Rattle.proof_crash_calls.specs.Sending.{Asked, filling_slot_lem, Target, send_stores, target, target-entries}
-use Rattle.proof_crash_calls.specs.Sends.{value_addr, value_stamp, value_blk, SameSend, Logged, Waits, length-sent, old_send, new_send, old_log, new_log, old_pos, new_pos, sent_logged}
-use Rattle.proof_crash_calls.specs.Take.{stamped_mem, stamp_rel, stamp_waits, taken_mem, taken_rel, taken_waits, taken_new, sent_go}
+use Rattle.proof_crash_calls.proofs.Sending.{Asked, filling_slot_lem, Target, send_stores, target, target-entries}
+use Rattle.proof_crash_calls.proofs.Sends.{value_addr, value_stamp, value_blk, length-sent, old_send, new_send, old_log, new_log, old_pos, new_pos, sent_logged}
+use Rattle.proof_crash_calls.specs.Sends.{SameSend, Logged, Waits}
+use Rattle.proof_crash_calls.proofs.Take.{stamped_mem, stamp_rel, stamp_waits, taken_mem, taken_rel, taken_waits, taken_new, sent_go}
 
 -- ---- closing
 

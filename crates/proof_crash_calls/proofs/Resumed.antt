@@ -26,7 +26,7 @@ use Rattle.proof_crash_items.specs.Segs.{OnDrives}
 use Rattle.proof_crash_calls.specs.Go.{mst}
 use Rattle.proof_crash_calls.specs.Live.{Reached}
 use Rattle.proof_crash_calls.specs.Readings.{Shows}
-use Rattle.proof_crash_calls.specs.Sends.{length-forget, forget_logged}
+use Rattle.proof_crash_calls.proofs.Sends.{length-forget, forget_logged}
 
 module _ (p : Params) (h : Ranged p) (off : List ℕ) (v : View) (u : ItemView) (ss : List Send) (n : ℕ) (g : Ghost) (a : List Val) (c : Bool) (m : Mode) (T : Track)
     (r : Reached p h off v u ss n g a c m T) where

@@ -32,7 +32,7 @@ use Rattle.proof_crash_items.specs.Items.{value_of}
 use Rattle.proof_crash_items.specs.Ranges.{par_of}
 use Rattle.proof_crash_calls.specs.Cells.{add-filled}
 use Rattle.proof_crash_calls.specs.Go.{mst, Go, go_none, go_step, go_then, go_inv}
-use Rattle.proof_crash_calls.specs.Placed.{ready-more, placed_state, placed_long, placed_rel, placed_waits, placed_used}
+use Rattle.proof_crash_calls.proofs.Placed.{ready-more, placed_state, placed_long, placed_rel, placed_waits, placed_used}
 use Rattle.proof_crash_calls.specs.Rel.{ready_at, in_use_of, filled_used, RelOn, Rel, rel_on, Waiting}
 
 -- ---- values

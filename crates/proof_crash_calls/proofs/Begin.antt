@@ -28,7 +28,7 @@ use Rattle.proof_crash_machine.specs.View.{ItemView, InI}
 use Rattle.proof_crash_items.specs.Ranges.{par_of, data_code}
 use Rattle.proof_crash_calls.specs.Base.{eqb_self, set_at_here, set_at_else}
 use Rattle.proof_crash_calls.specs.Cells.{SameSlot, same_used, begin_long, begin_number, begin_filled, begin_landed, begin_same}
-use Rattle.proof_crash_calls.specs.Placed.{ready_data, ready-parity, drive_cases}
+use Rattle.proof_crash_calls.proofs.Placed.{ready_data, ready-parity, drive_cases}
 use Rattle.proof_crash_calls.specs.Rel.{ready_at, SlotRel, SlotOf, slot_keep, in_use_of, RelOn, Rel, Waiting}
 
 abbrev pub begun_mem : Par → Mem → Mem

@@ -22,7 +22,7 @@ use Rattle.proof_crash_items.specs.Named.{zero_choice}
 use Rattle.proof_crash_items.specs.Stripes.{pointer_is}
 use Rattle.proof_crash_items.specs.ZoneBytes.{block_in_of}
 use Rattle.proof_crash_items.specs.Ranges.{par_of}
-use Rattle.proof_crash_calls.specs.Places.{cand_stamp_low}
+use Rattle.proof_crash_calls.proofs.Places.{cand_stamp_low}
 use Rattle.spec.specs.declared.Seg.{Seg}
 
 module _ (p : Params) (h : Ranged p) (off : List ℕ) (g : Ghost) (v : View) (u : ItemView) (k : OnDrives p h off g v u) (none? : None (par_of p h off) g.un) where

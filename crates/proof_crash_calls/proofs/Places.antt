@@ -39,8 +39,7 @@ use Rattle.proof_crash_items.specs.Values.{piece_value, value_same}
 use Rattle.proof_crash_items.specs.ZoneBytes.{block_in_of}
 use Rattle.proof_crash_calls.specs.Go.{mst}
 use Rattle.proof_crash_calls.specs.Held.{Entry, TableOk}
-use Rattle.proof_crash_calls.specs.LandRel.{off_here}
-use Rattle.proof_crash_calls.specs.Sends.{value_stamp}
+use Rattle.proof_crash_calls.proofs.Sends.{value_stamp}
 use Rattle.spec.specs.declared.Seg.{Seg}
 
 -- counted with none missing, by any two masks without a drive

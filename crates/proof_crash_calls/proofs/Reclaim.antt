@@ -39,17 +39,19 @@ use Rattle.proof_crash_machine.specs.View.ItemStore.{reset as m-reset}
 use Rattle.proof_crash_items.specs.Places.{store_seg}
 use Rattle.proof_crash_items.specs.Segs.{OnDrives, named_seg, named_zone, name_of, remaining_has}
 use Rattle.proof_crash_items.specs.Sound.{Follows, follows_nil, follows-cons, store_reset}
-use Rattle.proof_crash_calls.specs.Live.{Live, CallOk, live_inv, live_none, live_drives, live_choice, live_seg-low, live_tie, live_tie_cut, live_after, live_cut}
+use Rattle.proof_crash_calls.specs.Live.{Live, CallOk}
+use Rattle.proof_crash_calls.proofs.Live.{live_inv, live_none, live_drives, live_choice, live_seg-low, live_tie, live_tie_cut, live_after, live_cut}
 use Rattle.proof_crash_items.specs.Items.{value_of}
 use Rattle.proof_crash_items.specs.Member.{Has, keep_has, first_or_has}
 use Rattle.proof_crash_items.specs.Ranges.{par_of}
-use Rattle.proof_crash_calls.specs.Entries.{entry_value, entry_long}
+use Rattle.proof_crash_calls.proofs.Entries.{entry_value, entry_long}
 use Rattle.proof_crash_calls.specs.Go.{mst, later_same, go_step, go_then, go_inv}
-use Rattle.proof_crash_calls.specs.Held.{Entry, table_to}
+use Rattle.proof_crash_calls.specs.Held.{Entry}
+use Rattle.proof_crash_calls.proofs.Held.{table_to}
 use Rattle.proof_crash_calls.specs.Rel.{slot_keep, Rel, Waiting}
-use Rattle.proof_crash_calls.specs.Sending.{Asked, Target, send_stores, target, target-entries}
-use Rattle.proof_crash_calls.specs.Take.{taken_mem, taken_rel, taken_waits, copied_go}
-use Rattle.proof_crash_calls.specs.Victim.{VictimIs, victim_is, place_has, live_has, open_unsealed, quiet, table_left}
+use Rattle.proof_crash_calls.proofs.Sending.{Asked, Target, send_stores, target, target-entries}
+use Rattle.proof_crash_calls.proofs.Take.{taken_mem, taken_rel, taken_waits, copied_go}
+use Rattle.proof_crash_calls.proofs.Victim.{VictimIs, victim_is, place_has, live_has, open_unsealed, quiet, table_left}
 use Rattle.spec.specs.declared.Seg.{Seg}
 use Rattle.spec.specs.Segments.{place_record}
 

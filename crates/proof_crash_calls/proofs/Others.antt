@@ -31,8 +31,9 @@ use Rattle.law_views.specs.Views.{seen}
 use Rattle.law_checks.specs.Passed.{write_passed, land_passed, close_passed, reclaim_passed, read_passed, rebuild_passed, empty_passed}
 use Rattle.proof_crash_machine.specs.Exec.{true≢false}
 use Rattle.proof_crash_items.specs.Named.{named_not_zero}
-use Rattle.proof_crash_calls.specs.Join.{GoesOn, read_goes_on, fill_goes_on}
-use Rattle.proof_crash_calls.specs.Refusals.{Decides, decides, refused-step}
+use Rattle.proof_crash_calls.specs.Join.{GoesOn}
+use Rattle.proof_crash_calls.proofs.Join.{read_goes_on, fill_goes_on}
+use Rattle.proof_crash_calls.proofs.Refusals.{Decides, decides, refused-step}
 
 -- ---- refused calls, whatever their answer
 
