@@ -26,7 +26,7 @@ use Rattle.spec.specs.Params.{in_range, drive_len, addresses_len, compact_len, i
 use Rattle.spec.specs.Restart.{names_drive}
 use Rattle.law_basic.specs.Ranges.{and_left, and_right, and_both}
 use Rattle.law_calls.specs.Refusals.{refused_unfinished}
-use Rattle.proof_crash.specs.Demand.{demand_3}
+use Rattle.proof_crash.proofs.Demand.{demand_3}
 use Rattle.law_lent.specs.Shorts.{short_refused}
 use Rattle.proof_crash_calls.proofs.Join.{sent-refused}
 use Rattle.spec_demands.specs.Engines.{on_bytes, call_lent, reads_as}

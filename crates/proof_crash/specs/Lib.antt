@@ -2,8 +2,3 @@ pub mod Swap
 pub mod Stand
 pub mod Begins
 pub mod Asked
-pub mod Boot
-pub mod Missed
-pub mod Fresh
-pub mod Mend
-pub mod Demand

@@ -37,11 +37,12 @@ use Rattle.proof_crash_items.specs.Named.{named_out}
 use Rattle.proof_crash_calls.specs.Go.{mst, Go, go_none, go_start}
 use Rattle.proof_crash_calls.proofs.Others.{refused-any}
 use Rattle.proof_crash_calls.proofs.Refusals.{decides, boot-step}
-use Rattle.proof_crash.specs.Boot.{Booted}
-use Rattle.proof_crash.specs.Fresh.{boot_healthy}
-use Rattle.proof_crash.specs.Mend.{call_leaves, call_step}
-use Rattle.proof_crash.specs.Missed.{boot_missing}
-use Rattle.proof_crash.specs.Stand.{Stands, Holds, stands_of, leaves, hist}
+use Rattle.proof_crash.proofs.Boot.{Booted}
+use Rattle.proof_crash.proofs.Fresh.{boot_healthy}
+use Rattle.proof_crash.proofs.Calls.{call_leaves, call_step}
+use Rattle.proof_crash.proofs.Missed.{boot_missing}
+use Rattle.proof_crash.specs.Stand.{Stands, Holds, leaves, hist}
+use Rattle.proof_crash.proofs.Stand.{stands_of}
 use Rattle.proof_crash.specs.Stand.Holds.{rests}
 use Rattle.proof_crash.specs.Swap.{swapped_none, swapped_ok, swapped_whole, swapped_lent}
 use Rattle.proof_crash_items.specs.Carry.{on_tie}

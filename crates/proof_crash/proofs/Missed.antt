@@ -36,8 +36,9 @@ use Rattle.proof_crash_restarts.specs.Missing.{stamps_top_lem, missing_on_holds,
 use Rattle.proof_crash_calls.specs.Readings.{Shows}
 use Rattle.proof_crash_calls.proofs.Resumed.{reached_to, reached_forget, shows_read}
 use Rattle.proof_crash.specs.Asked.{asked_parts, boot-is, boot_lent, boot_listed}
-use Rattle.proof_crash.specs.Boot.{Booted, stands_linked, stands_known, boot_done}
-use Rattle.proof_crash.specs.Stand.{Stands, Holds, hist, named_choice}
+use Rattle.proof_crash.proofs.Boot.{Booted, stands_linked, stands_known, boot_done}
+use Rattle.proof_crash.specs.Stand.{Stands, Holds, hist}
+use Rattle.proof_crash.proofs.Stand.{named_choice}
 use Rattle.proof_crash.specs.Stand.Holds.{rests}
 
 module _ (p : Params) (h : Ranged p) (off : List ℕ) (s : Hist) (n : ℕ) (x : Stands p h off s n) where

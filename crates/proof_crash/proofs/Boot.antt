@@ -25,15 +25,14 @@ use Rattle.proof_crash_machine.specs.Facts.{InV}
 use Rattle.proof_crash_machine.specs.History.{State as m-State, Claim}
 use Rattle.proof_crash_machine.specs.Val.{Val}
 use Rattle.proof_crash_machine.specs.Mask.{Mask, count}
-use Rattle.proof_crash_items.specs.Cands.{reads}
-use Rattle.proof_crash_items.specs.Refuse.{not_refused}
 use Rattle.proof_crash_items.specs.Ranges.{parities, par_of}
 use Rattle.proof_crash_items.specs.Named.{never_beyond}
 use Rattle.proof_crash_restarts.specs.Link.{Linked}
 use Rattle.proof_crash_calls.specs.Go.{mst}
 use Rattle.proof_crash_calls.specs.Readings.{Shows, read_ok, same_reads}
 use Rattle.proof_crash_calls.proofs.Sends.{length-forget, forget_logged}
-use Rattle.proof_crash.specs.Stand.{MarkOk, Stands, Holds, leaves, hist, leaves-finished, leaves-cut}
+use Rattle.proof_crash.specs.Stand.{MarkOk, Stands, Holds, leaves, hist}
+use Rattle.proof_crash.proofs.Stand.{leaves-finished, leaves-cut}
 
 -- ---- what is claimed of it
 

@@ -32,7 +32,7 @@ use Rattle.proof_crash_items.specs.Named.{none_named, zero_few}
 use Rattle.proof_crash_items.specs.Ranges.{par_of}
 use Rattle.proof_crash_items.specs.RestMem.{restart_tabled, restart_lent, named_mask_low, ones_named}
 use Rattle.proof_crash_items.specs.Seen.{seen_stores, seen-cut, whole_all, whole_cut}
-use Rattle.proof_crash_items.specs.Segs.{OnDrives, trusted}
+use Rattle.proof_crash_items.specs.Segs.{OnDrives}
 use Rattle.proof_crash_items.specs.Sound.{AllSound}
 use Rattle.proof_crash_restarts.specs.Done.{stamp_top, read_on, RestartDone}
 use Rattle.proof_crash_restarts.specs.Ends.{none_choice, ends_reads, ends_stamps}
@@ -46,8 +46,9 @@ use Rattle.proof_crash_calls.proofs.Sends.{length-forget}
 use Rattle.proof_crash.specs.Stand.Holds.{goes, rests}
 use Rattle.proof_crash.specs.Asked.{asked_parts, boot_six, boot-is, boot_lent, boot_listed}
 use Rattle.proof_crash.specs.Begins.{done_ghost, begins}
-use Rattle.proof_crash.specs.Boot.{Booted, stands_linked, stands_known, boot_done, boot-cut}
-use Rattle.proof_crash.specs.Stand.{Stands, Holds, mark_moves, hist, none_trust, named_choice, none_choice_none}
+use Rattle.proof_crash.proofs.Boot.{Booted, stands_linked, stands_known, boot_done, boot-cut}
+use Rattle.proof_crash.specs.Stand.{Stands, Holds, hist}
+use Rattle.proof_crash.proofs.Stand.{mark_moves, none_trust, named_choice, none_choice_none}
 
 module _ (p : Params) (h : Ranged p) (off : List ℕ) (s : Hist) (n : ℕ) (x : Stands p h off s n) where
   abbrev v₀ : View
